@@ -1,0 +1,41 @@
+-- What texts in memory hold.
+use Rattle.std.specs.Prelude.{ℕ, List, [], ◌∷◌, Option, Some, None, if◌then◌else◌, drop, slice_get, string_bytes, vec_capacity}
+use Rattle.std.specs.Str.{bytes_eq}
+use Rattle.cweb_files.specs.declared.memory.Entry.{Entry}
+use Rattle.cweb_files.specs.declared.memory.MemoryShelf.{MemoryShelf}
+use Rattle.cweb_files.specs.declared.memory.MemoryReader.{MemoryReader}
+use Rattle.cweb_files.specs.declared.memory.MemorySink.{MemorySink}
+
+-- the first of two that is there
+abbrev pub first_of : {A : Type 0} → Option A → Option A → Option A
+first_of (Some x) other = Some x
+first_of None other = other
+
+-- the text of an entry under its name
+abbrev pub text_at : Entry → List ℕ → Option (List ℕ)
+text_at entry name = if bytes_eq (string_bytes entry.name) name then Some entry.text.items else None
+
+-- the last entry of a name counts
+abbrev pub text_in : List Entry → List ℕ → Option (List ℕ)
+text_in [] name = None
+text_in (entry ∷ entries) name = first_of (text_in entries name) (text_at entry name)
+
+abbrev pub texts_of : MemoryShelf → List ℕ → Option (List ℕ)
+texts_of shelf name = text_in shelf.entries.items name
+
+-- what stands in an entry from a place on
+abbrev pub from_place : Option Entry → ℕ → List ℕ
+from_place (Some entry) at = drop at entry.text.items
+from_place None at = []
+
+abbrev pub rest_of : MemoryShelf → MemoryReader → List ℕ
+rest_of shelf reader = from_place (slice_get shelf.entries.items reader.entry) reader.at
+
+abbrev pub sink_bytes : MemorySink → List ℕ
+sink_bytes sink = sink.bytes.items
+
+abbrev pub sink_room : MemorySink → ℕ
+sink_room sink = vec_capacity sink.bytes
+
+abbrev pub sink_failed : MemorySink → ℕ
+sink_failed sink = sink.failed

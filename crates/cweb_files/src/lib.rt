@@ -1,0 +1,13 @@
+//! Files as the tools see them: texts that are read under names, sinks that bytes are written to, and places in files.
+#![tactic(auto)]
+
+mod device;
+mod memory;
+mod place;
+
+pub use device::{Shelf, ShelfFault, Sink, SinkFault};
+pub use memory::{MemoryReader, MemoryShelf, MemorySink};
+pub use place::{FileId, Place};
+
+#[cfg(test)]
+mod tests;

@@ -1,0 +1,158 @@
+// Texts and sinks in memory, which tell their bytes.
+ghost use Rattle.std.specs.Prelude.{◌≡◌, ◌≤◌, ◌+◌, ◌^◌, ◌<◌, ◌-◌, [], ◌++◌, length, true, Some, vec_len, vec_capacity, string_bytes, IfOk, IfSome, OnOk, OnErr, IsOk, None, if◌then◌else◌};
+ghost use Rattle.std.specs.Str.{bytes_eq};
+ghost use Rattle.cweb_files.specs.Device.{Counts, Finds};
+
+use crate::{Shelf, ShelfFault, Sink, SinkFault};
+use std::alloc::{AllocError, Global};
+
+#[derive(Drop)]
+pub struct Entry {
+    pub name: String,
+    pub text: Vec<u8>,
+}
+
+/// Texts under names. Of two texts under one name the later one counts.
+#[derive(Drop)]
+pub struct MemoryShelf {
+    alloc: Global,
+    entries: Vec<Entry>,
+}
+
+/// A place in a text of a shelf.
+#[derive(Clone, Copy, Debug)]
+pub struct MemoryReader {
+    entry: usize,
+    at: usize,
+}
+
+impl MemoryShelf {
+    ghost use Rattle.cweb_files.specs.Memory.{texts_of};
+
+    pub fn new(alloc: Global) -> Self
+        ensures { texts_of result ≡ (λ _. None) }
+    {
+        MemoryShelf {
+            alloc,
+            entries: Vec::new(alloc),
+        }
+    }
+
+    /// Puts a text under a name, in the place of an earlier one.
+    pub fn put(&mut self, name: &str, text: &[u8]) -> Result<(), AllocError>
+        ensures ok { OnOk result (texts_of self.new ≡ (λ asked. if bytes_eq name.now asked then Some text.now else texts_of self.old asked)) }
+        ensures err { OnErr result (texts_of self.new ≡ texts_of self.old) }
+    {
+        let name = String::from_str(self.alloc, name)?;
+        let text = Vec::from_slice(self.alloc, text)?;
+        self.entries.push(Entry { name, text })?;
+        Ok(())
+    }
+}
+
+impl Shelf for MemoryShelf {
+    ghost use Rattle.cweb_files.specs.Memory.{texts_of, rest_of};
+
+    type R = MemoryReader;
+
+    ghost tells = { λ _. true };
+
+    ghost texts = { texts_of };
+
+    ghost left = { rest_of };
+
+    ghost failed = { λ _. 0 };
+
+    fn fetch(&mut self, name: &str) -> Result<Option<MemoryReader>, AllocError>
+        // It takes no memory.
+        ensures ok { IsOk result }
+        ensures found { IfOk result (Finds (rest_of self.new) (texts_of self.old name.now)) }
+        ensures same { self.new ≡ self.old }
+    {
+        let mut found = None;
+        for (i, entry) in self.entries.iter().enumerate() {
+            if entry.name.as_str() == name {
+                found = Some(MemoryReader { entry: i, at: 0 });
+            }
+        }
+        Ok(found)
+    }
+
+    fn read(&mut self, reader: &mut MemoryReader, piece: &mut [u8]) -> Result<usize, ShelfFault> {
+        let Some(entry) = self.entries.get(reader.entry) else {
+            return Ok(0);
+        };
+        let text = entry.text.as_slice();
+        if text.len() <= reader.at {
+            return Ok(0);
+        }
+        let n = (text.len() - reader.at).min(piece.len());
+        piece[..n].copy_from_slice(&text[reader.at..reader.at + n]);
+        reader.at += n;
+        Ok(n)
+    }
+
+    fn failures(&self) -> u64 {
+        0
+    }
+}
+
+/// Bytes written one after another, with room that is set aside beforehand.
+#[derive(Drop)]
+pub struct MemorySink {
+    bytes: Vec<u8>,
+    failed: u64,
+}
+
+impl MemorySink {
+    ghost use Rattle.cweb_files.specs.Memory.{sink_bytes, sink_room, sink_failed};
+
+    pub fn with_room(alloc: Global, bytes: usize) -> Result<Self, AllocError>
+        ensures empty { IfOk result (λ sink. sink_bytes sink ≡ []) }
+        ensures room { IfOk result (λ sink. bytes ≤ sink_room sink) }
+        ensures failed { IfOk result (λ sink. sink_failed sink ≡ 0) }
+    {
+        Ok(MemorySink {
+            bytes: Vec::with_capacity(alloc, bytes)?,
+            failed: 0,
+        })
+    }
+
+    pub fn bytes(&self) -> &[u8]
+        ensures { result.now ≡ sink_bytes self.now }
+    {
+        &self.bytes
+    }
+}
+
+impl Sink for MemorySink {
+    ghost use Rattle.cweb_files.specs.Memory.{sink_bytes, sink_room, sink_failed};
+    ghost use Rattle.std.specs.Prelude.{take};
+
+    ghost tells = { λ _. true };
+
+    ghost written = { sink_bytes };
+
+    ghost failed = { sink_failed };
+
+    fn write(&mut self, piece: &[u8]) -> Result<usize, SinkFault>
+        requires { sink_failed self.old + 1 < 2 ^ 64 }
+        ensures failed { Counts (sink_failed self.old) (sink_failed self.new) result }
+        ensures whole { IfOk result (λ n. n ≡ length piece.now) }
+        ensures bytes { OnOk result (sink_bytes self.new ≡ sink_bytes self.old ++ piece.now) }
+        ensures err { OnErr result (sink_bytes self.new ≡ sink_bytes self.old) }
+        ensures room { sink_room self.old ≤ sink_room self.new }
+        // Within the room it never fails.
+        ensures within_room { length (sink_bytes self.old) + length piece.now ≤ sink_room self.old → IsOk result }
+    {
+        if self.bytes.extend_from_slice(piece).is_err() {
+            self.failed += 1;
+            return Err(SinkFault);
+        }
+        Ok(piece.len())
+    }
+
+    fn failures(&self) -> u64 {
+        self.failed
+    }
+}
