@@ -1,0 +1,6 @@
+use Rattle.std.proofs.Common.{sym}
+use Rattle.cweb_lines.specs.Total.{halts, merge-run}
+use Rattle.cweb_lines.proofs.laws.merge_has_one_answer.Goals as goal
+
+pub returns : goal.returns
+returns c = λ world s. record { enough = halts world s; same = λ n events is. sym (merge-run n world s events is) }

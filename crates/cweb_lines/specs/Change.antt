@@ -1,0 +1,100 @@
+-- The entries of a change file: the code lines @x, @y and @z, and the old and new lines between them.
+use Rattle.std.specs.Prelude.{ℕ, Bool, true, false, ◌||◌, ◌==◌, List, [], ◌∷◌, Option, None, Some, if◌then◌else◌}
+use Rattle.cweb_files.specs.declared.place.Place.{Place}
+use Rattle.cweb_lines.specs.Lines.{Line, SourceLine}
+use Rattle.cweb_lines.specs.declared.fault.SourceKind.{SourceKind}
+use Rattle.cweb_lines.specs.declared.fault.SourceKind.TheVariants.{MissingX, NoOldLines, WantsY, EndedBeforeY}
+use Rattle.cweb_lines.specs.declared.fault.SourceFault.{SourceFault}
+
+-- the codes, by the part of an entry that each begins or ends
+pub data Code : Type 0 where
+  old_side : Code
+  new_side : Code
+  end_side : Code
+
+-- x, y and z, in either case
+abbrev pub letter_code : ℕ → Option Code
+letter_code b =
+    if b == 120 || b == 88 then Some old_side
+    else (if b == 121 || b == 89 then Some new_side else (if b == 122 || b == 90 then Some end_side else None))
+
+-- the code of a line that begins with @ and such a letter
+abbrev pub code_of : List ℕ → Option Code
+code_of [] = None
+code_of (a ∷ []) = None
+code_of (a ∷ b ∷ rest) = if a == 64 then letter_code b else None
+
+abbrev pub at_place : SourceKind → Place → SourceFault
+at_place kind place = record { kind = kind; place = place; count = 0 }
+
+-- an entry that waits for its first old line: where its @x stands, and that line
+pub record Entry : Type 0 where
+  pub begin : Place
+  pub first : List ℕ
+
+-- a search for an entry: the faults met and the lines taken on the way, the entry, and the lines that follow
+pub record Sought : Type 0 where
+  pub faults : List SourceFault
+  pub taken : List SourceLine
+  pub entry : Option Entry
+  pub rest : List SourceLine
+
+abbrev pub met : SourceFault → Sought → Sought
+met f sought = record { faults = f ∷ sought.faults; taken = sought.taken; entry = sought.entry; rest = sought.rest }
+
+abbrev pub passing : SourceLine → Sought → Sought
+passing line sought = record { faults = sought.faults; taken = line ∷ sought.taken; entry = sought.entry; rest = sought.rest }
+
+-- Outside an entry, at a line with this code. What follows is a function of the @x line that waits, so that only one of the two ways is computed.
+abbrev pub outside : Option Code → Place → (Option Place → Sought) → Sought
+outside None place later = later None
+outside (Some old_side) place later = later (Some place)
+outside (Some new_side) place later = met (at_place MissingX place) (later None)
+outside (Some end_side) place later = met (at_place MissingX place) (later None)
+
+-- behind an @x line: empty lines are skipped, a code line begins the search anew, any other line is the first old line
+abbrev pub behind_x : List ℕ → Option Code → Place → SourceLine → List SourceLine → (Option Place → Sought) → Sought
+behind_x [] code begin line lines later = passing line (later (Some begin))
+behind_x (b ∷ bs) None begin line lines later =
+    record { faults = []; taken = line ∷ []; entry = Some (record { begin = begin; first = b ∷ bs }); rest = lines }
+behind_x (b ∷ bs) (Some code) begin line lines later =
+    met (at_place NoOldLines begin) (passing line (outside (Some code) line.line.place later))
+
+-- the next entry; behind an @x line, where that stands
+abbrev pub sought : List SourceLine → Option Place → Sought
+sought [] None = record { faults = []; taken = []; entry = None; rest = [] }
+sought [] (Some begin) = record { faults = at_place NoOldLines begin ∷ []; taken = []; entry = None; rest = [] }
+sought (line ∷ lines) None =
+    passing line (outside (code_of line.line.bytes) line.line.place (λ begin. sought lines begin))
+sought (line ∷ lines) (Some begin) =
+    behind_x line.line.bytes (code_of line.line.bytes) begin line lines (λ next. sought lines next)
+
+-- the further old lines of an entry, up to its @y
+pub record OldSide : Type 0 where
+  pub faults : List SourceFault
+  pub lines : List (List ℕ)
+  pub taken : List SourceLine
+  -- the change file ended before @y
+  pub ended : Bool
+  pub rest : List SourceLine
+
+abbrev pub old_line : SourceLine → OldSide → OldSide
+old_line line side = record {
+  faults = side.faults; lines = line.line.bytes ∷ side.lines; taken = line ∷ side.taken; ended = side.ended; rest = side.rest
+}
+
+-- an @x or @z among the old lines is a fault, and skipped
+abbrev pub old_code : SourceLine → OldSide → OldSide
+old_code line side = record {
+  faults = at_place WantsY line.line.place ∷ side.faults; lines = side.lines; taken = line ∷ side.taken; ended = side.ended; rest = side.rest
+}
+
+abbrev pub old_at : Option Code → SourceLine → List SourceLine → OldSide → OldSide
+old_at None line lines later = old_line line later
+old_at (Some old_side) line lines later = old_code line later
+old_at (Some new_side) line lines later = record { faults = []; lines = []; taken = line ∷ []; ended = false; rest = lines }
+old_at (Some end_side) line lines later = old_code line later
+
+abbrev pub old_lines : List SourceLine → OldSide
+old_lines [] = record { faults = []; lines = []; taken = []; ended = true; rest = [] }
+old_lines (line ∷ lines) = old_at (code_of line.line.bytes) line lines (old_lines lines)

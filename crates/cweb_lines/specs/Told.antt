@@ -1,0 +1,48 @@
+-- What comes out of a merge, sorted: lines that are given out, faults, names of opened files, and lines taken from files.
+use Rattle.std.specs.Prelude.{◌≡◌, ℕ, ◌+◌, ◌≤◌, List, [], ◌∷◌, ◌++◌, length, sum_by, All}
+use Rattle.cweb_lines.specs.Lines.{Line, SourceLine}
+use Rattle.cweb_lines.specs.Merge.{Event, took, given, fault, opening}
+use Rattle.cweb_lines.specs.declared.fault.SourceFault.{SourceFault}
+use Rattle.cweb_lines.specs.declared.limits.TheConstants.{LINE_LENGTH, LINES, BYTES}
+
+abbrev pub given_lines : List Event → List Line
+given_lines [] = []
+given_lines (took line ∷ events) = given_lines events
+given_lines (given line ∷ events) = line ∷ given_lines events
+given_lines (fault f ∷ events) = given_lines events
+given_lines (opening name ∷ events) = given_lines events
+
+abbrev pub told_faults : List Event → List SourceFault
+told_faults [] = []
+told_faults (took line ∷ events) = told_faults events
+told_faults (given line ∷ events) = told_faults events
+told_faults (fault f ∷ events) = f ∷ told_faults events
+told_faults (opening name ∷ events) = told_faults events
+
+abbrev pub openings : List Event → List (List ℕ)
+openings [] = []
+openings (took line ∷ events) = openings events
+openings (given line ∷ events) = openings events
+openings (fault f ∷ events) = openings events
+openings (opening name ∷ events) = name ∷ openings events
+
+abbrev pub taken_lines : List Event → List SourceLine
+taken_lines [] = []
+taken_lines (took line ∷ events) = line ∷ taken_lines events
+taken_lines (given line ∷ events) = taken_lines events
+taken_lines (fault f ∷ events) = taken_lines events
+taken_lines (opening name ∷ events) = taken_lines events
+
+-- how many bytes lines take, with their newlines
+abbrev pub size_of : List SourceLine → ℕ
+size_of lines = sum_by (λ line. line.size) lines
+
+-- no line is too long
+abbrev pub AreShort : List SourceLine → Type 0
+AreShort lines = All (λ line. line.length ≤ LINE_LENGTH) lines
+
+-- the lines that are taken stay within the limits
+pub record IsWithinLimits (lines : List SourceLine) : Type 0 where
+  pub short : AreShort lines
+  pub few : length lines ≤ LINES
+  pub small : size_of lines ≤ BYTES

@@ -1,0 +1,15 @@
+//! The merged lines of a web: the lines of its files, with included files put in and a change file's entries made.
+#![tactic(auto)]
+
+mod fault;
+mod laws;
+mod limits;
+mod names;
+mod stop;
+
+pub use cweb_files::{FileId, MemoryReader, MemoryShelf, MemorySink, Place, Shelf, ShelfFault, Sink, SinkFault};
+pub use fault::{SourceFault, SourceKind};
+pub use laws::merge_has_one_answer;
+pub use limits::{BYTES, LINE_LENGTH, LINES};
+pub use names::FileNames;
+pub use stop::Stop;
