@@ -1,0 +1,4 @@
+pub mod Devices
+pub mod Log
+pub mod Words
+pub mod Writing
