@@ -1,7 +1,10 @@
 pub mod Change
+pub mod Counts
 pub mod Include
 pub mod Lines
 pub mod Merge
 pub mod Names
+pub mod Source
+pub mod Texts
 pub mod Told
 pub mod Total

@@ -5,7 +5,12 @@ mod fault;
 mod laws;
 mod limits;
 mod names;
+mod reading;
+mod source;
+mod stack;
 mod stop;
+mod taking;
+mod text;
 
 pub use cweb_files::{FileId, MemoryReader, MemoryShelf, MemorySink, Place, Shelf, ShelfFault, Sink, SinkFault};
 pub use fault::{SourceFault, SourceKind};
