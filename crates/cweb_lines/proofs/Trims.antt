@@ -4,7 +4,7 @@ use Rattle.std.proofs.lemmas.List.{take_more, take_all}
 use Rattle.cweb_files.specs.declared.place.FileId.{FileId}
 use Rattle.cweb_lines.specs.Lines.{SourceLine, trimmed, before_blanks, is_blank, text_lines, numbered}
 use Rattle.cweb_lines.specs.Source.{Takes, IsLongerThan}
-use Rattle.cweb_lines.specs.Texts.{Count, TakesLine, FirstStops, StopsFor, newline_bytes, stop_for}
+use Rattle.cweb_lines.specs.Texts.{Count, TakesLine, FirstStops, StopsFor, StopsReading, newline_bytes, stop_for}
 use Rattle.cweb_lines.specs.declared.limits.TheConstants.{LINE_LENGTH, LINES, BYTES}
 use Rattle.cweb_lines.specs.declared.source.LineFault.{LineFault}
 use Rattle.cweb_lines.specs.declared.source.LineFault.TheVariants.{Read, TooLong, Memory as NoMemory}
@@ -70,6 +70,11 @@ line_stops Read stop text file number count is long = subst (λ s. StopsFor (Fir
 line_stops TooLong stop text file number count is long =
     subst (λ s. StopsFor (FirstStops s count (numbered file.0 number (text_lines text))) s) (sym is) (first_too_long text file number count (long refl))
 line_stops NoMemory stop text file number count is long = subst (λ s. StopsFor (FirstStops s count (numbered file.0 number (text_lines text))) s) (sym is) tt
+
+pub line_reads : (fault : LineFault) (stop : Stop) (file : FileId) → stop ≡ stop_for fault file → StopsReading stop
+line_reads Read stop file is = subst StopsReading (sym is) tt
+line_reads TooLong stop file is = subst StopsReading (sym is) tt
+line_reads NoMemory stop file is = subst StopsReading (sym is) tt
 
 pub first_passes : (stop : Stop) (taken : Taken) (old new bytes : List ℕ) (file number : ℕ) (count : Count) → taken ≢ Ended → Takes old taken bytes new
     → stop ≡ TooMuchText → (count.lines ≡ LINES) ⊎ (BYTES < count.bytes + (length bytes + newline_bytes taken))

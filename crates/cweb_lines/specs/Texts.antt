@@ -91,6 +91,23 @@ StopsFor Why OutNotOpened = ⊥
 StopsFor Why WriteFault = ⊥
 StopsFor Why LogFault = ⊥
 
+-- the stops that taking lines can come to
+abbrev pub StopsReading : Stop → Type 0
+StopsReading stop = StopsFor (Unit {0}) stop
+
+-- the stops that a merge can begin with
+abbrev pub StartStops : Stop → Type 0
+StartStops Usage = ⊥
+StartStops WebNotOpened = Unit {0}
+StartStops ChangeNotOpened = ⊥
+StartStops (ReadFault file) = ⊥
+StartStops (LineTooLong file) = ⊥
+StartStops TooMuchText = ⊥
+StartStops Memory = Unit {0}
+StartStops OutNotOpened = ⊥
+StartStops WriteFault = ⊥
+StartStops LogFault = ⊥
+
 -- the first line is the one that stops
 pub record FirstStops (stop : Stop) (count : Count) (lines : List SourceLine) : Type 0 where
   pub line : SourceLine

@@ -1,7 +1,7 @@
 // The texts that are open, the deepest last.
 ghost use Rattle.std.specs.Prelude.{◌≡◌, ◌≤◌, ◌<◌, ◌+◌, ◌^◌, ℕ, List, [], ◌∷◌, length, IsTrue, IfOk, IfErr, OnOk, OnErr, None, Some, slice_set};
 ghost use Rattle.cweb_lines.specs.Counts.{count_of};
-ghost use Rattle.cweb_lines.specs.Texts.{most, line_number, files_up_to, ReadBlames, Counted, NamesFiles, things_of, TakesTop, StopsFor, TopStops, DepthAfter, Pushes};
+ghost use Rattle.cweb_lines.specs.Texts.{most, line_number, files_up_to, ReadBlames, Counted, NamesFiles, things_of, TakesTop, StopsFor, StopsReading, TopStops, DepthAfter, Pushes};
 
 use crate::limits::Limits;
 use crate::stop::Stop;
@@ -54,9 +54,12 @@ pub fn take_top<S: Shelf>(shelf: &mut S, stack: &mut Stack<S::R>, limits: &mut L
         (count_of limits.old) (count_of limits.new)) }
     ensures stops { IsTrue (S.tells shelf.old) → IfErr result (λ stop. StopsFor (TopStops stop (count_of limits.old) stack.old.depth (things_of (S.left shelf.old) stack.old)) stop) }
     ensures numbers { most line_number stack.new.texts ≤ limits.new.lines }
+    ensures reading { IfErr result (λ stop. StopsReading stop) }
+    ensures more { limits.old.lines ≤ limits.new.lines }
     ensures counted { Counted (count_of limits.old) (count_of limits.new) result }
     ensures files { most files_up_to stack.new.texts ≤ most files_up_to stack.old.texts }
     ensures known { NamesFiles (most files_up_to stack.old.texts) result }
+    ensures shallow { stack.new.depth ≤ stack.old.depth }
     ensures depth { DepthAfter stack.old.depth stack.new.depth result }
 {
     let top = stack.depth - 1;

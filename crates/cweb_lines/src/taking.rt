@@ -2,7 +2,7 @@
 ghost use Rattle.std.specs.Prelude.{◌≡◌, ◌≤◌, ◌<◌, ◌+◌, ◌^◌, ℕ, List, length, IsTrue, IfOk, IfErr, OnOk, OnErr, IsErrOf};
 ghost use Rattle.cweb_lines.specs.Lines.{trimmed, is_blank as blank};
 ghost use Rattle.cweb_lines.specs.Counts.{count_of};
-ghost use Rattle.cweb_lines.specs.Texts.{lines_left, lines_at, number_of, line_number, files_up_to, TakesLine, StopsFor, FirstStops, ReadBlames, Counted, NamesFiles, stop_for, newline_bytes};
+ghost use Rattle.cweb_lines.specs.Texts.{lines_left, lines_at, number_of, line_number, files_up_to, TakesLine, StopsFor, StopsReading, FirstStops, ReadBlames, Counted, NamesFiles, stop_for, newline_bytes};
 
 use crate::limits::Limits;
 use crate::reading::next_line;
@@ -59,6 +59,8 @@ fn take_line<S: Shelf>(shelf: &mut S, text: &mut OpenText<S::R>, limits: &mut Li
         (count_of limits.old) (count_of limits.new)) }
     ensures stops { IsTrue (S.tells shelf.old) → IfErr result (λ stop. StopsFor (FirstStops stop (count_of limits.old) (lines_left (S.left shelf.old) text.old)) stop) }
     ensures number { text.new.line ≤ limits.new.lines }
+    ensures reading { IfErr result (λ stop. StopsReading stop) }
+    ensures more { limits.old.lines ≤ limits.new.lines }
     ensures counted { Counted (count_of limits.old) (count_of limits.new) result }
     ensures file { text.new.file ≡ text.old.file }
     ensures known { NamesFiles (text.old.file.0 + 1) result }
@@ -93,6 +95,8 @@ pub fn take_from<S: Shelf>(shelf: &mut S, slot: &mut Option<OpenText<S::R>>, lim
         (count_of limits.old) (count_of limits.new)) }
     ensures stops { IsTrue (S.tells shelf.old) → IfErr result (λ stop. StopsFor (FirstStops stop (count_of limits.old) (lines_at (S.left shelf.old) slot.old)) stop) }
     ensures number { number_of line_number slot.new ≤ limits.new.lines }
+    ensures reading { IfErr result (λ stop. StopsReading stop) }
+    ensures more { limits.old.lines ≤ limits.new.lines }
     ensures counted { Counted (count_of limits.old) (count_of limits.new) result }
     ensures file { number_of files_up_to slot.new ≡ number_of files_up_to slot.old }
     ensures known { NamesFiles (number_of files_up_to slot.old) result }

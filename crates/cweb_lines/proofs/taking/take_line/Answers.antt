@@ -3,12 +3,15 @@ use Rattle.cweb_lines.specs.Counts.{count_of}
 use Rattle.cweb_lines.specs.Source.{left_of}
 use Rattle.cweb_lines.specs.Texts.{newline_bytes}
 use Rattle.cweb_lines.specs.declared.limits.TheConstants.{LINES, BYTES}
-use Rattle.cweb_lines.proofs.Trims.{takes_first, line_stops, first_passes}
+use Rattle.cweb_lines.proofs.Trims.{takes_first, line_stops, line_reads, first_passes}
 use Rattle.cweb_lines.proofs.taking.take_line.Goals as goal
 
 pub returns-in-Err-clause-stops : goal.returns-in-Err-clause-stops
 returns-in-Err-clause-stops g c = λ tells.
     line_stops c.in-Err.fault _ (left_of g.S.Shelf.left c.args.shelf.now c.args.text.now.source) c.args.text.now.file (c.args.text.now.line + 1) _ c.stop_of.ensures (λ is. c.in-Err.ensures.too_long tells (ap Err is))
+
+pub returns-in-Err-clause-reading : goal.returns-in-Err-clause-reading
+returns-in-Err-clause-reading g c = line_reads c.in-Err.fault _ c.args.text.now.file c.stop_of.ensures
 
 pub returns-in-Err-add-clause-stops : goal.returns-in-Err-add-clause-stops
 returns-in-Err-add-clause-stops g c = λ tells.
