@@ -1,7 +1,14 @@
 pub mod Change
+pub mod Counts
+pub mod Faults
+pub mod Finding
 pub mod Include
 pub mod Lines
 pub mod Merge
+pub mod Merging
 pub mod Names
+pub mod Source
+pub mod Texts
 pub mod Told
 pub mod Total
+pub mod Whole

@@ -1,5 +1,5 @@
 -- What comes out of a merge, sorted: lines that are given out, faults, names of opened files, and lines taken from files.
-use Rattle.std.specs.Prelude.{◌≡◌, ℕ, ◌+◌, ◌≤◌, List, [], ◌∷◌, ◌++◌, length, sum_by, All}
+use Rattle.std.specs.Prelude.{◌≡◌, ℕ, ◌+◌, ◌≤◌, List, [], ◌∷◌, length}
 use Rattle.cweb_lines.specs.Lines.{Line, SourceLine}
 use Rattle.cweb_lines.specs.Merge.{Event, took, given, fault, opening}
 use Rattle.cweb_lines.specs.declared.fault.SourceFault.{SourceFault}
@@ -35,11 +35,13 @@ taken_lines (opening name ∷ events) = taken_lines events
 
 -- how many bytes lines take, with their newlines
 abbrev pub size_of : List SourceLine → ℕ
-size_of lines = sum_by (λ line. line.size) lines
+size_of [] = 0
+size_of (line ∷ lines) = line.size + size_of lines
 
 -- no line is too long
 abbrev pub AreShort : List SourceLine → Type 0
-AreShort lines = All (λ line. line.length ≤ LINE_LENGTH) lines
+AreShort [] = Unit {0}
+AreShort (line ∷ lines) = (line.length ≤ LINE_LENGTH) × AreShort lines
 
 -- the lines that are taken stay within the limits
 pub record IsWithinLimits (lines : List SourceLine) : Type 0 where

@@ -2,14 +2,25 @@
 #![tactic(auto)]
 
 mod fault;
+mod finding;
+mod include;
 mod laws;
 mod limits;
 mod names;
+mod merger;
+mod reading;
+mod run;
+mod source;
+mod stack;
 mod stop;
+mod taking;
+mod text;
+mod turning;
 
 pub use cweb_files::{FileId, MemoryReader, MemoryShelf, MemorySink, Place, Shelf, ShelfFault, Sink, SinkFault};
 pub use fault::{SourceFault, SourceKind};
 pub use laws::merge_has_one_answer;
 pub use limits::{BYTES, LINE_LENGTH, LINES};
+pub use merger::Merger;
 pub use names::FileNames;
 pub use stop::Stop;

@@ -1,4 +1,7 @@
 // How much may be taken from all files.
+ghost use Rattle.std.specs.Prelude.{◌≡◌, ◌≤◌, ◌<◌, ◌+◌, ◌⊎◌, IfErr, OnOk, OnErr};
+
+use crate::stop::Stop;
 
 /// The bytes that a line may have, without its newline.
 pub const LINE_LENGTH: usize = 1_048_575;
@@ -8,3 +11,40 @@ pub const LINES: u32 = 16_777_216;
 
 /// The bytes that the lines taken from all files may have, with their newlines.
 pub const BYTES: u64 = 1_073_741_824;
+
+/// How many lines and bytes were taken so far.
+#[derive(Drop)]
+pub struct Limits {
+    pub lines: u32,
+    pub bytes: u64,
+    ghost few: { lines ≤ 16777216 },
+    ghost small: { bytes ≤ 1073741824 },
+}
+
+impl Limits {
+    pub fn new() -> Self
+        ensures lines { result.lines ≡ 0 }
+        ensures bytes { result.bytes ≡ 0 }
+    {
+        Limits { lines: 0, bytes: 0 }
+    }
+
+    /// Counts a line that takes so many bytes, where it does not pass a limit.
+    pub fn add(&mut self, size: usize) -> Result<(), Stop>
+        ensures lines { OnOk result (self.new.lines ≡ self.old.lines + 1) }
+        ensures bytes { OnOk result (self.new.bytes ≡ self.old.bytes + size) }
+        ensures err { OnErr result (self.new ≡ self.old) }
+        ensures stop { IfErr result (λ stop. stop ≡ Stop.TooMuchText) }
+        ensures passed { OnErr result ((self.old.lines ≡ LINES) ⊎ (BYTES < self.old.bytes + size)) }
+    {
+        if size as u64 > BYTES - self.bytes {
+            return Err(Stop::TooMuchText);
+        }
+        if self.lines == LINES {
+            return Err(Stop::TooMuchText);
+        }
+        self.lines += 1;
+        self.bytes += size as u64;
+        Ok(())
+    }
+}

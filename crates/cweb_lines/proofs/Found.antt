@@ -1,0 +1,41 @@
+-- What the two searches for a name find.
+use Rattle.std.proofs.Common.{◌≡◌, ℕ, Bool, true, false, List, [], ◌∷◌, ◌++◌, Option, Some, None, Result, Ok, Err, refl, sym, ◌∙◌, ap}
+use Rattle.std.specs.Prelude.{IfOk}
+use Rattle.std.specs.Str.{IsUtf8, is_utf8}
+use Rattle.std.proofs.lemmas.Str.{IsUtf8-from_is_utf8, is_utf8-from_IsUtf8}
+use Rattle.cweb_lines.specs.Include.{World, Found, under, first_found, in_folder, found_if, found_at}
+use Rattle.cweb_lines.specs.Include.{web_at}
+
+pub found_nothing : (world : World) (name : List ℕ) → (IsUtf8 name → ⊥) → None ≡ found_at world name
+found_nothing world name not = by (is_utf8 name) refl
+  where
+    by : (b : Bool) → is_utf8 name ≡ b → None ≡ found_if b world name
+    by false is = refl
+    by true is = absurd (not (IsUtf8-from_is_utf8 name is))
+
+module _ (texts : List ℕ → Option (List ℕ)) (inputs : Option (List ℕ)) (name bytes : List ℕ) (text : IsUtf8 name) (same : bytes ≡ name) where
+  abbrev world : World
+  world = record { texts = texts; inputs = inputs }
+
+  pub found_first : (found : Found) → Some found ≡ under bytes (texts bytes) → Some found ≡ found_at world name
+  found_first found is =
+      ap (λ f. first_found f (in_folder inputs texts name)) (is ∙ ap (λ n. under n (texts n)) same) ∙ ap (λ b. found_if b world name) (sym (is_utf8-from_IsUtf8 name text))
+
+  pub found_second : (found : Option (Found)) → None ≡ under bytes (texts bytes) → found ≡ in_folder inputs texts name → found ≡ found_at world name
+  found_second found none is =
+      is ∙ ap (λ f. first_found f (in_folder inputs texts name)) (none ∙ ap (λ n. under n (texts n)) same) ∙ ap (λ b. found_if b world name) (sym (is_utf8-from_IsUtf8 name text))
+
+pub IfOk-map : {A E : Type 0} {P Q : A → Type 0} (r : Result A E) → ((x : A) → P x → Q x) → IfOk r P → IfOk r Q
+IfOk-map (Ok x) f p = f x p
+IfOk-map (Err e) f p = p
+
+module _ (texts : List ℕ → Option (List ℕ)) (web bytes : List ℕ) (same : bytes ≡ web) where
+  pub web_first : (second : Option (List ℕ)) (found : Found) → Some found ≡ under bytes (texts bytes) → Some found ≡ web_at texts web second
+  web_first None found is = is ∙ ap (λ n. under n (texts n)) same
+  web_first (Some second) found is = ap (λ f. first_found f (under second (texts second))) (is ∙ ap (λ n. under n (texts n)) same)
+
+  pub web_none : (second : Option (List ℕ)) → second ≡ None → None ≡ under bytes (texts bytes) → None ≡ web_at texts web second
+  web_none second gone none = none ∙ ap (λ n. under n (texts n)) same ∙ ap (web_at texts web) (sym gone)
+
+  pub web_second : (second : Option (List ℕ)) (name : List ℕ) → second ≡ Some name → None ≡ under bytes (texts bytes) → under name (texts name) ≡ web_at texts web second
+  web_second second name there none = ap (λ f. first_found f (under name (texts name))) (none ∙ ap (λ n. under n (texts n)) same) ∙ ap (web_at texts web) (sym there)

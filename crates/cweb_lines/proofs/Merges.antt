@@ -1,0 +1,269 @@
+-- What comes of a line that was taken, and how what came adds up.
+use Rattle.std.proofs.Common.{◌≡◌, ◌≤◌, ◌<◌, ◌+◌, ◌-◌, ◌⊎◌, ◌==◌, ℕ, zero, suc, max, Bool, true, false, List, [], ◌∷◌, ◌++◌, Option, Some, None, refl, sym, ◌∙◌, ap, subst, arith, length, length-append}
+use Rattle.std.proofs.lemmas.List.{append-nil, append_assoc}
+use Rattle.std.specs.Prelude.{nat_lt}
+use Rattle.std.proofs.lemmas.Bool.Decides.{nat_tests}
+use Rattle.cweb_files.specs.declared.place.FileId.{FileId}
+use Rattle.cweb_files.specs.declared.place.Place.{Place}
+use Rattle.cweb_lines.specs.Change.{at_place}
+use Rattle.cweb_lines.specs.Include.{World, is_include, include_name, found_at}
+use Rattle.cweb_lines.specs.Lines.{Line, SourceLine, lines_in}
+use Rattle.cweb_lines.specs.Merge.{State, RawLine, Thing, raw, Event, took, given, fault, opening, Next, included, opened, obeyed, plain, taking, raws}
+use Rattle.cweb_lines.specs.Merging.{SoFar, Gives, GivesBehind, LongAhead, TooMuchAhead, Stopped}
+use Rattle.cweb_lines.specs.Texts.{Count, Took, TopStops, Refuses, StopsFor, raw_at, IsTooLong}
+use Rattle.cweb_lines.specs.Told.{given_lines, told_faults, openings, taken_lines, size_of, AreShort}
+use Rattle.cweb_lines.specs.Total.{merge, merge_next, merge_end}
+use Rattle.cweb_lines.specs.declared.fault.SourceFault.{SourceFault}
+use Rattle.cweb_lines.specs.declared.fault.SourceKind.TheVariants.{NoName, TooDeep, NotThere}
+use Rattle.cweb_lines.specs.declared.limits.TheConstants.{LINE_LENGTH, LINES, BYTES}
+use Rattle.cweb_lines.specs.declared.stop.Stop.{Stop}
+use Rattle.cweb_lines.specs.declared.stop.Stop.TheVariants.{Usage, WebNotOpened, ChangeNotOpened, ReadFault, LineTooLong, TooMuchText, Memory, OutNotOpened, WriteFault, LogFault}
+
+abbrev pub with_things : List Thing → ℕ → State
+with_things things files = record { things = things; pending = None; change = []; files = files }
+
+pub merge_none : (world : World) (files : ℕ) → merge world (with_things [] files) ≡ []
+merge_none world files = merge_end world (with_things [] files) refl
+
+-- a line that was taken, and comes first
+module _ (world : World) (source : SourceLine) (bytes : List ℕ) (place : Place) (is : source.line ≡ record { bytes = bytes; place = place }) (depth : ℕ) (things : List Thing) (files : ℕ) where
+  abbrev r : RawLine
+  r = record { source = source; depth = depth; may_match = true }
+
+  abbrev before : State
+  before = with_things (raw r ∷ things) files
+
+  abbrev after : State
+  after = with_things things files
+
+  as_read : (f : List ℕ → Bool) (b : Bool) → f bytes ≡ b → f source.line.bytes ≡ b
+  as_read f b test = ap (λ (l : Line). f l.bytes) is ∙ test
+
+  pub merge_given : is_include bytes ≡ false → merge world before ≡ took source ∷ given (record { bytes = bytes; place = place }) ∷ merge world after
+  merge_given test =
+      merge_next world before (took source ∷ given source.line ∷ [], after) (ap (λ b. Some (taking source (plain b world before r things))) (as_read is_include false test))
+      ∙ ap (λ (l : Line). took source ∷ given l ∷ merge world after) is
+
+  pub merge_no_name : is_include bytes ≡ true → include_name bytes ≡ [] → merge world before ≡ took source ∷ fault (at_place NoName place) ∷ merge world after
+  merge_no_name test none =
+      merge_next world before (took source ∷ fault (at_place NoName source.line.place) ∷ [], after)
+        (ap (λ b. Some (taking source (plain b world before r things))) (as_read is_include true test)
+         ∙ ap (λ n. Some (taking source (included n world before r things))) (ap (λ (l : Line). include_name l.bytes) is ∙ none))
+      ∙ ap (λ (l : Line). took source ∷ fault (at_place NoName l.place) ∷ merge world after) is
+
+  merge_named : (name : List ℕ) (next : Next) → is_include bytes ≡ true → include_name bytes ≡ name → 0 < length name → opened (nat_lt depth 10) world name before r things ≡ next
+      → merge world before ≡ took source ∷ next.0 ++ merge world next.1
+  merge_named [] next test named some opens = absurd (omega arith)
+  merge_named (b ∷ bs) next test named some opens =
+      merge_next world before (took source ∷ next.0, next.1)
+        (ap (λ b. Some (taking source (plain b world before r things))) (as_read is_include true test)
+         ∙ ap (λ n. Some (taking source (included n world before r things))) (ap (λ (l : Line). include_name l.bytes) is ∙ named)
+         ∙ ap (λ (n : Next). Some (taking source n)) opens)
+
+  pub merge_too_deep : is_include bytes ≡ true → 0 < length (include_name bytes) → depth ≡ 10 → merge world before ≡ took source ∷ fault (at_place TooDeep place) ∷ merge world after
+  merge_too_deep test some deep =
+      let room : nat_lt depth 10 ≡ false = grind (arith, nat_tests) in
+      merge_named (include_name bytes) (fault (at_place TooDeep source.line.place) ∷ [], after) test refl some (ap (λ t. opened t world (include_name bytes) before r things) room)
+      ∙ ap (λ (l : Line). took source ∷ fault (at_place TooDeep l.place) ∷ merge world after) is
+
+  pub merge_not_there : is_include bytes ≡ true → 0 < length (include_name bytes) → depth < 10 → None ≡ found_at world (include_name bytes)
+      → merge world before ≡ took source ∷ fault (at_place NotThere place) ∷ merge world after
+  merge_not_there test some deep none =
+      let room : nat_lt depth 10 ≡ true = grind (arith, nat_tests) in
+      merge_named (include_name bytes) (fault (at_place NotThere source.line.place) ∷ [], after) test refl some
+        (ap (λ t. opened t world (include_name bytes) before r things) room ∙ ap (λ o. obeyed o before r things) (sym none))
+      ∙ ap (λ (l : Line). took source ∷ fault (at_place NotThere l.place) ∷ merge world after) is
+
+  pub merge_opens : (name text : List ℕ) → is_include bytes ≡ true → 0 < length (include_name bytes) → depth < 10 → Some (name, text) ≡ found_at world (include_name bytes)
+      → merge world before ≡ took source ∷ opening name ∷ merge world (with_things (raws (depth + 1) true (lines_in files text) ++ things) (files + 1))
+  merge_opens name text test some deep there =
+      let room : nat_lt depth 10 ≡ true = grind (arith, nat_tests) in
+      merge_named (include_name bytes) (opening name ∷ [], with_things (raws (depth + 1) true (lines_in files text) ++ things) (files + 1)) test refl some
+        (ap (λ t. opened t world (include_name bytes) before r things) room ∙ ap (λ o. obeyed o before r things) (sym there))
+
+-- whatever comes of a raw line, it is taken first
+pub merge_takes : (world : World) (r : RawLine) (things : List Thing) (files : ℕ) → (rest : List Event) × (merge world (with_things (raw r ∷ things) files) ≡ took r.source ∷ rest)
+merge_takes world r things files =
+    let next = plain (is_include r.source.line.bytes) world (with_things (raw r ∷ things) files) r things in
+    (next.0 ++ merge world next.1, merge_next world (with_things (raw r ∷ things) files) (taking r.source next) refl)
+
+plus_none : (n : ℕ) → n ≡ n + 0
+plus_none n = omega arith
+
+-- one event came, or none
+module _ (old new : SoFar) (all later : List Event) (count : new.count ≡ old.count) where
+  same_lines : new.count.lines ≡ old.count.lines + 0
+  same_lines = ap (λ (c : Count). c.lines) count ∙ plus_none old.count.lines
+
+  same_bytes : new.count.bytes ≡ old.count.bytes + 0
+  same_bytes = ap (λ (c : Count). c.bytes) count ∙ plus_none old.count.bytes
+
+  pub gives_fault : (f : SourceFault) → all ≡ fault f ∷ later → new.faults ≡ old.faults ++ f ∷ [] → new.names ≡ old.names → Gives [] old new all later
+  gives_fault f whole faults names = record {
+    events = fault f ∷ []; whole = whole; given = refl; faults = faults; names = names ∙ sym (append-nil old.names);
+    lines_are = same_lines; bytes_are = same_bytes; short = tt
+  }
+
+  pub gives_opening : (name : List ℕ) → all ≡ opening name ∷ later → new.faults ≡ old.faults → new.names ≡ old.names ++ name ∷ [] → Gives [] old new all later
+  gives_opening name whole faults names = record {
+    events = opening name ∷ []; whole = whole; given = refl; faults = faults ∙ sym (append-nil old.faults); names = names;
+    lines_are = same_lines; bytes_are = same_bytes; short = tt
+  }
+
+  pub gives_line : (line : Line) → all ≡ given line ∷ later → new.faults ≡ old.faults → new.names ≡ old.names → Gives (line ∷ []) old new all later
+  gives_line line whole faults names = record {
+    events = given line ∷ []; whole = whole; given = refl; faults = faults ∙ sym (append-nil old.faults); names = names ∙ sym (append-nil old.names);
+    lines_are = same_lines; bytes_are = same_bytes; short = tt
+  }
+
+  pub gives_nothing : all ≡ later → new.faults ≡ old.faults → new.names ≡ old.names → Gives [] old new all later
+  gives_nothing whole faults names = record {
+    events = []; whole = whole; given = refl; faults = faults ∙ sym (append-nil old.faults); names = names ∙ sym (append-nil old.names);
+    lines_are = same_lines; bytes_are = same_bytes; short = tt
+  }
+
+-- a line was taken before
+pub gives_took : (lines : List Line) (old mid new : SoFar) (bytes : List ℕ) (place : Place) (t : Took bytes place old.count mid.count) (first all later : List Event)
+    → mid.faults ≡ old.faults → mid.names ≡ old.names → first ≡ all → GivesBehind t.line lines mid new all later → Gives lines old new first later
+gives_took lines old mid new bytes place t first all later faults names is g = record {
+  events = took t.line ∷ g.gives.events;
+  whole = is ∙ g.first ∙ ap (λ (es : List Event). took t.line ∷ es) g.gives.whole;
+  given = g.gives.given;
+  faults = g.gives.faults ∙ ap (λ (fs : List SourceFault). fs ++ told_faults g.gives.events) faults;
+  names = g.gives.names ∙ ap (λ (ns : List (List ℕ)). ns ++ openings g.gives.events) names;
+  lines_are = omega (arith, g.gives.lines_are, t.lines);
+  bytes_are = omega (arith, g.gives.bytes_are, t.bytes_are);
+  short = (t.short, g.gives.short);
+}
+
+pub given-append : (a b : List Event) → given_lines (a ++ b) ≡ given_lines a ++ given_lines b
+given-append [] b = refl
+given-append (took l ∷ a) b = given-append a b
+given-append (given l ∷ a) b = ap (λ (ls : List Line). l ∷ ls) (given-append a b)
+given-append (fault f ∷ a) b = given-append a b
+given-append (opening n ∷ a) b = given-append a b
+
+pub told-append : (a b : List Event) → told_faults (a ++ b) ≡ told_faults a ++ told_faults b
+told-append [] b = refl
+told-append (took l ∷ a) b = told-append a b
+told-append (given l ∷ a) b = told-append a b
+told-append (fault f ∷ a) b = ap (λ (fs : List SourceFault). f ∷ fs) (told-append a b)
+told-append (opening n ∷ a) b = told-append a b
+
+pub openings-append : (a b : List Event) → openings (a ++ b) ≡ openings a ++ openings b
+openings-append [] b = refl
+openings-append (took l ∷ a) b = openings-append a b
+openings-append (given l ∷ a) b = openings-append a b
+openings-append (fault f ∷ a) b = openings-append a b
+openings-append (opening n ∷ a) b = ap (λ (ns : List (List ℕ)). n ∷ ns) (openings-append a b)
+
+pub taken-append : (a b : List Event) → taken_lines (a ++ b) ≡ taken_lines a ++ taken_lines b
+taken-append [] b = refl
+taken-append (took l ∷ a) b = ap (λ (ls : List SourceLine). l ∷ ls) (taken-append a b)
+taken-append (given l ∷ a) b = taken-append a b
+taken-append (fault f ∷ a) b = taken-append a b
+taken-append (opening n ∷ a) b = taken-append a b
+
+pub size-append : (a b : List SourceLine) → size_of (a ++ b) ≡ size_of a + size_of b
+size-append [] b = omega arith
+size-append (l ∷ a) b = omega (arith, size-append a b)
+
+pub short-append : (a b : List SourceLine) → AreShort a → AreShort b → AreShort (a ++ b)
+short-append [] b none short = short
+short-append (l ∷ a) b short short' = (short.0, short-append a b short.1 short')
+
+pub lines_taken-append : (a b : List Event) → length (taken_lines (a ++ b)) ≡ length (taken_lines a) + length (taken_lines b)
+lines_taken-append a b = ap (λ (ls : List SourceLine). length ls) (taken-append a b) ∙ length-append (taken_lines a) (taken_lines b)
+
+pub bytes_taken-append : (a b : List Event) → size_of (taken_lines (a ++ b)) ≡ size_of (taken_lines a) + size_of (taken_lines b)
+bytes_taken-append a b = ap size_of (taken-append a b) ∙ size-append (taken_lines a) (taken_lines b)
+
+pub gives_both : (lines more : List Line) (old mid new : SoFar) (all now later : List Event) → Gives lines old mid all now → Gives more mid new now later → Gives (lines ++ more) old new all later
+gives_both lines more old mid new all now later a b = record {
+  events = a.events ++ b.events;
+  whole = a.whole ∙ ap (λ (es : List Event). a.events ++ es) b.whole ∙ sym (append_assoc a.events b.events later);
+  given = given-append a.events b.events ∙ ap (λ (ls : List Line). ls ++ given_lines b.events) a.given ∙ ap (λ (ls : List Line). lines ++ ls) b.given;
+  faults = b.faults ∙ ap (λ (fs : List SourceFault). fs ++ told_faults b.events) a.faults ∙ append_assoc old.faults (told_faults a.events) (told_faults b.events)
+    ∙ ap (λ (fs : List SourceFault). old.faults ++ fs) (sym (told-append a.events b.events));
+  names = b.names ∙ ap (λ (ns : List (List ℕ)). ns ++ openings b.events) a.names ∙ append_assoc old.names (openings a.events) (openings b.events)
+    ∙ ap (λ (ns : List (List ℕ)). old.names ++ ns) (sym (openings-append a.events b.events));
+  lines_are = omega (arith, a.lines_are, b.lines_are, lines_taken-append a.events b.events);
+  bytes_are = omega (arith, a.bytes_are, b.bytes_are, bytes_taken-append a.events b.events);
+  short = subst AreShort (sym (taken-append a.events b.events)) (short-append (taken_lines a.events) (taken_lines b.events) a.short b.short);
+}
+
+-- a stop behind what came
+pub stopped_after : (stop : Stop) (old mid : SoFar) (now : Count) (all rest : List Event) → Gives [] old mid all rest → Stopped stop mid.count now rest → Stopped stop old.count now all
+stopped_after Usage old mid now all rest gives stops = stops
+stopped_after WebNotOpened old mid now all rest gives stops = stops
+stopped_after ChangeNotOpened old mid now all rest gives stops = stops
+stopped_after (ReadFault file) old mid now all rest gives stops = stops
+stopped_after (LineTooLong file) old mid now all rest gives stops = record {
+  events = gives.events ++ stops.events;
+  line = stops.line;
+  later = stops.later;
+  whole = gives.whole ∙ ap (λ (es : List Event). gives.events ++ es) stops.whole ∙ sym (append_assoc gives.events stops.events (took stops.line ∷ stops.later));
+  given = given-append gives.events stops.events ∙ ap (λ (ls : List Line). ls ++ given_lines stops.events) gives.given ∙ stops.given;
+  why = stops.why;
+}
+stopped_after TooMuchText old mid now all rest gives stops =
+    let lines = ap (λ (es : List Event). length (taken_lines es)) gives.whole in
+    let bytes = ap (λ (es : List Event). size_of (taken_lines es)) gives.whole in
+    record {
+      size = stops.size;
+      passes = stops.passes;
+      few = omega (arith, lines, gives.lines_are, lines_taken-append gives.events rest, stops.few);
+      small = omega (arith, bytes, gives.bytes_are, bytes_taken-append gives.events rest, stops.small);
+    }
+stopped_after Memory old mid now all rest gives stops = stops
+stopped_after OutNotOpened old mid now all rest gives stops = stops
+stopped_after WriteFault old mid now all rest gives stops = stops
+stopped_after LogFault old mid now all rest gives stops = stops
+
+-- the first thing is a raw line that stops
+pub stopped_by : (stop : Stop) (count now : Count) (world : World) (depth : ℕ) (things : List Thing) (files : ℕ) → now ≡ count → StopsFor (TopStops stop count depth things) stop
+    → Stopped stop count now (merge world (with_things things files))
+stopped_by Usage count now world depth things files same stops = stops
+stopped_by WebNotOpened count now world depth things files same stops = stops
+stopped_by ChangeNotOpened count now world depth things files same stops = stops
+stopped_by (ReadFault file) count now world depth things files same stops = stops
+stopped_by (LineTooLong file) count now world depth things files same stops =
+    let taken = merge_takes world (record { source = stops.line; depth = depth; may_match = true }) stops.rest files in
+    record {
+      events = [];
+      line = stops.line;
+      later = taken.0;
+      whole = ap (λ (ts : List Thing). merge world (with_things ts files)) stops.first ∙ taken.1;
+      given = refl;
+      why = stops.why;
+    }
+stopped_by TooMuchText count now world depth things files same stops =
+    let taken = merge_takes world (record { source = stops.line; depth = depth; may_match = true }) stops.rest files in
+    let whole : merge world (with_things things files) ≡ took stops.line ∷ taken.0 = ap (λ (ts : List Thing). merge world (with_things ts files)) stops.first ∙ taken.1 in
+    let lines = ap (λ (es : List Event). length (taken_lines es)) whole in
+    let bytes = ap (λ (es : List Event). size_of (taken_lines es)) whole in
+    let now_lines = ap (λ (c : Count). c.lines) same in
+    let now_bytes = ap (λ (c : Count). c.bytes) same in
+    record {
+      size = stops.line.size;
+      passes = subst (λ (c : Count). (c.lines ≡ LINES) ⊎ (BYTES < c.bytes + stops.line.size)) (sym same) stops.why;
+      few = omega (arith, lines, now_lines);
+      small = omega (arith, bytes, now_bytes);
+    }
+stopped_by Memory count now world depth things files same stops = stops
+stopped_by OutNotOpened count now world depth things files same stops = stops
+stopped_by WriteFault count now world depth things files same stops = stops
+stopped_by LogFault count now world depth things files same stops = stops
+
+pub include_long : (line : List ℕ) → is_include line ≡ true → 2 ≤ length line
+include_long [] is = absurd (cc)
+include_long (a ∷ []) is = absurd (cc)
+include_long (a ∷ b ∷ rest) is = omega arith
+
+pub empty_is : (xs : List ℕ) → (length xs == 0) ≡ true → xs ≡ []
+empty_is [] is = refl
+empty_is (x ∷ xs) is = absurd (grind (arith, nat_tests))
+
+pub some_are : (xs : List ℕ) → (length xs == 0) ≡ false → 0 < length xs
+some_are [] is = absurd (cc)
+some_are (x ∷ xs) is = omega arith

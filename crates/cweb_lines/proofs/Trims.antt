@@ -1,0 +1,102 @@
+-- Lines without the blanks at their ends, and what taking a line leaves.
+use Rattle.std.proofs.Common.{◌≡◌, ◌≢◌, ◌+◌, ◌≤◌, ℕ, Bool, true, false, cond, List, [], ◌∷◌, ◌++◌, refl, sym, ◌∙◌, ap, subst, arith, ◌<◌, ◌-◌, length, get_or, take, ◌⊎◌, Some}
+use Rattle.std.proofs.lemmas.List.{take_more, take_all}
+use Rattle.cweb_files.specs.declared.place.FileId.{FileId}
+use Rattle.cweb_lines.specs.Lines.{SourceLine, trimmed, before_blanks, is_blank, text_lines, numbered}
+use Rattle.cweb_lines.specs.Source.{Takes, IsLongerThan}
+use Rattle.cweb_lines.specs.Texts.{Count, TakesLine, FirstStops, StopsFor, StopsReading, newline_bytes, stop_for}
+use Rattle.cweb_lines.specs.declared.limits.TheConstants.{LINE_LENGTH, LINES, BYTES}
+use Rattle.cweb_lines.specs.declared.source.LineFault.{LineFault}
+use Rattle.cweb_lines.specs.declared.source.LineFault.TheVariants.{Read, TooLong, Memory as NoMemory}
+use Rattle.cweb_lines.specs.declared.source.Taken.{Taken}
+use Rattle.cweb_lines.specs.declared.source.Taken.TheVariants.{Ended, Last, Full}
+use Rattle.cweb_lines.specs.declared.stop.Stop.{Stop}
+use Rattle.cweb_lines.specs.declared.stop.Stop.TheVariants.{LineTooLong, TooMuchText}
+use Rattle.cweb_lines.proofs.Newlines.{text_lines-full, text_lines-last, longer_first}
+
+pub trimmed-blank : (xs : List ℕ) (b : ℕ) → is_blank b ≡ true → trimmed (xs ++ b ∷ []) ≡ trimmed xs
+trimmed-blank [] b blank = ap (λ t. cond t [] (b ∷ [])) blank
+trimmed-blank (x ∷ xs) b blank = ap (before_blanks x) (trimmed-blank xs b blank)
+
+pub trimmed-byte : (xs : List ℕ) (b : ℕ) → is_blank b ≡ false → trimmed (xs ++ b ∷ []) ≡ xs ++ b ∷ []
+trimmed-byte [] b other = ap (λ t. cond t [] (b ∷ [])) other
+trimmed-byte (x ∷ []) b other = ap (before_blanks x) (trimmed-byte [] b other)
+trimmed-byte (x ∷ y ∷ xs) b other = ap (before_blanks x) (trimmed-byte (y ∷ xs) b other)
+
+-- the first line of a text, where it took these bytes and a newline or none
+abbrev pub source_line : ℕ → ℕ → List ℕ → Taken → SourceLine
+source_line file number bytes taken = record {
+  line = record { bytes = trimmed bytes; place = record { file = record { 0 = file }; line = number } };
+  length = length bytes;
+  size = length bytes + newline_bytes taken;
+}
+
+takes_line : (taken : Taken) (old new bytes : List ℕ) (file number : ℕ) → taken ≢ Ended → Takes old taken bytes new
+    → numbered file number (text_lines old) ≡ source_line file number bytes taken ∷ numbered file (number + 1) (text_lines new)
+takes_line Ended old new bytes file number not takes = absurd (not refl)
+takes_line Last old new bytes file number not takes =
+    let none : length bytes ≡ length bytes + 0 = omega arith in
+    ap (λ (t : List ℕ). numbered file number (text_lines t)) takes.0 ∙ ap (numbered file number) (text_lines-last bytes takes.1 takes.2)
+    ∙ ap (λ n. record { line = record { bytes = trimmed bytes; place = record { file = record { 0 = file }; line = number } }; length = length bytes; size = n } ∷ []) none
+    ∙ ap (λ (t : List ℕ). source_line file number bytes Last ∷ numbered file (number + 1) (text_lines t)) (sym takes.3)
+takes_line Full old new bytes file number not takes =
+    ap (λ (t : List ℕ). numbered file number (text_lines t)) takes.0 ∙ ap (numbered file number) (text_lines-full bytes new takes.1)
+
+pub takes_first : (bytes raw old new : List ℕ) (file number : ℕ) (taken : Taken) (before after : Count) → taken ≢ Ended → Takes old taken raw new → bytes ≡ trimmed raw → length raw ≤ LINE_LENGTH
+    → after.lines ≡ before.lines + 1 → after.bytes ≡ before.bytes + (length raw + newline_bytes taken)
+    → TakesLine (numbered file number (text_lines old)) (Some (record { file = record { 0 = file }; line = number })) bytes (numbered file (number + 1) (text_lines new)) before after
+takes_first bytes raw old new file number taken before after not takes is short lines size = (record {
+  line = source_line file number raw taken;
+  is = ap (λ (b : List ℕ). record { bytes = b; place = record { file = record { 0 = file }; line = number } }) (sym is);
+  short = short;
+  lines = lines;
+  bytes_are = size;
+}, takes_line taken old new raw file number not takes)
+
+pub first_too_long : (text : List ℕ) (file : FileId) (number : ℕ) (count : Count) → IsLongerThan LINE_LENGTH text
+    → FirstStops (LineTooLong file) count (numbered file.0 number (text_lines text))
+first_too_long text file number count long =
+    let first = longer_first long.0 long.1 long.3 (omega (arith, long.4)) in
+    record {
+      line = record { line = record { bytes = trimmed first.0.bytes; place = record { file = file; line = number } }; length = length first.0.bytes; size = first.0.size };
+      rest = numbered file.0 (number + 1) first.1;
+      first = ap (λ (t : List ℕ). numbered file.0 number (text_lines t)) long.2 ∙ ap (numbered file.0 number) first.2;
+      why = (refl, omega (arith, long.4, first.3));
+    }
+
+pub line_stops : (fault : LineFault) (stop : Stop) (text : List ℕ) (file : FileId) (number : ℕ) (count : Count) → stop ≡ stop_for fault file
+    → (fault ≡ TooLong → IsLongerThan LINE_LENGTH text) → StopsFor (FirstStops stop count (numbered file.0 number (text_lines text))) stop
+line_stops Read stop text file number count is long = subst (λ s. StopsFor (FirstStops s count (numbered file.0 number (text_lines text))) s) (sym is) tt
+line_stops TooLong stop text file number count is long =
+    subst (λ s. StopsFor (FirstStops s count (numbered file.0 number (text_lines text))) s) (sym is) (first_too_long text file number count (long refl))
+line_stops NoMemory stop text file number count is long = subst (λ s. StopsFor (FirstStops s count (numbered file.0 number (text_lines text))) s) (sym is) tt
+
+pub line_reads : (fault : LineFault) (stop : Stop) (file : FileId) → stop ≡ stop_for fault file → StopsReading stop
+line_reads Read stop file is = subst StopsReading (sym is) tt
+line_reads TooLong stop file is = subst StopsReading (sym is) tt
+line_reads NoMemory stop file is = subst StopsReading (sym is) tt
+
+pub first_passes : (stop : Stop) (taken : Taken) (old new bytes : List ℕ) (file number : ℕ) (count : Count) → taken ≢ Ended → Takes old taken bytes new
+    → stop ≡ TooMuchText → (count.lines ≡ LINES) ⊎ (BYTES < count.bytes + (length bytes + newline_bytes taken))
+    → StopsFor (FirstStops stop count (numbered file number (text_lines old))) stop
+first_passes stop taken old new bytes file number count not takes is passes =
+    subst (λ s. StopsFor (FirstStops s count (numbered file number (text_lines old))) s) (sym is) (record {
+      line = source_line file number bytes taken;
+      rest = numbered file (number + 1) (text_lines new);
+      first = takes_line taken old new bytes file number not takes;
+      why = passes;
+    })
+
+pub takes_none : (old new bytes : List ℕ) (file number : ℕ) → Takes old Ended bytes new
+    → (numbered file number (text_lines old) ≡ []) × (numbered file number (text_lines new) ≡ [])
+takes_none old new bytes file number takes = (ap (λ (t : List ℕ). numbered file number (text_lines t)) takes.0, ap (λ (t : List ℕ). numbered file number (text_lines t)) takes.2)
+
+last_split : (xs : List ℕ) (b : ℕ) → 0 < length xs → b ≡ get_or xs (length xs - 1) b → xs ≡ take (length xs - 1) xs ++ b ∷ []
+last_split xs b some is =
+    sym (take_all (length xs) xs (omega arith)) ∙ ap (λ n. take n xs) (omega arith) ∙ take_more xs (length xs - 1) b (omega arith) ∙ ap (λ x. take (length xs - 1) xs ++ x ∷ []) (sym is)
+
+pub trims_more : (xs : List ℕ) (b : ℕ) → 0 < length xs → b ≡ get_or xs (length xs - 1) b → is_blank b ≡ true → trimmed (take (length xs - 1) xs) ≡ trimmed xs
+trims_more xs b some is blank = sym (ap trimmed (last_split xs b some is) ∙ trimmed-blank (take (length xs - 1) xs) b blank)
+
+pub trims_all : (xs : List ℕ) (b : ℕ) → 0 < length xs → b ≡ get_or xs (length xs - 1) b → is_blank b ≡ false → xs ≡ trimmed xs
+trims_all xs b some is other = sym (ap trimmed (last_split xs b some is) ∙ trimmed-byte (take (length xs - 1) xs) b other ∙ sym (last_split xs b some is))

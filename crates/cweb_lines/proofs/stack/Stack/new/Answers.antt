@@ -1,0 +1,11 @@
+use Rattle.std.proofs.Common.{arith}
+use Rattle.cweb_lines.specs.Texts.{most}
+use Rattle.cweb_lines.proofs.stack.Stack.new.Goals as goal
+
+pub returns-clause-numbers : goal.returns-clause-numbers
+unfolding most
+returns-clause-numbers g c = omega arith
+
+pub returns-clause-files : goal.returns-clause-files
+unfolding most
+returns-clause-files g c = omega arith

@@ -1,0 +1,81 @@
+use Rattle.std.proofs.Common.{◌≡◌, ◌≤◌, ◌<◌, ◌+◌, ◌-◌, length, ap, sym, refl, arith, set, None, Some}
+use Rattle.std.proofs.lemmas.List.{set-set}
+use Rattle.cweb_lines.specs.Counts.{count_of}
+use Rattle.cweb_lines.specs.Texts.{line_number, files_up_to, most, number_of}
+use Rattle.cweb_lines.proofs.Stacks.{most_read, most_set, top_taken, top_closed, top_stops, stops_map}
+use Rattle.cweb_lines.proofs.stack.take_top.Goals as goal
+
+pub take_from-requires-clause-number : goal.take_from-requires-clause-number
+take_from-requires-clause-number g c =
+    let within : c.args.stack.now.depth - 1 < length c.args.stack.now.texts = omega arith in
+    omega (arith, most_read line_number c.args.stack.now.texts (c.args.stack.now.depth - 1) c.index-stack-top.result within, c.requires.numbers)
+
+pub returns-in-Err-clause-stops : goal.returns-in-Err-clause-stops
+returns-in-Err-clause-stops g c = λ tells.
+    let some : 0 < c.args.stack.now.depth = omega arith in
+    let within : c.args.stack.now.depth - 1 < length c.args.stack.now.texts = omega arith in
+    stops_map c.in-Err.stop
+      (λ first. top_stops (g.S.Shelf.left c.args.shelf.now) (g.S.Shelf.left c.args.shelf.now) refl c.args.stack.now.texts c.index-stack-top.result c.take_from.new.slot c.args.stack.now.depth
+        some within (count_of c.args.limits.now) (count_of c.take_from.new.limits) c.take_from.new.line.items c.in-Err.stop first)
+      (c.in-Err.ensures.stops tells)
+
+pub returns-in-Err-clause-numbers : goal.returns-in-Err-clause-numbers
+returns-in-Err-clause-numbers g c =
+    most_set line_number c.args.stack.now.texts (c.args.stack.now.depth - 1) c.take_from.new.slot c.take_from.new.limits.lines
+      (omega (arith, c.requires.numbers, c.in-Err.ensures.counted.0)) c.in-Err.ensures.number
+
+pub returns-in-Err-clause-files : goal.returns-in-Err-clause-files
+returns-in-Err-clause-files g c =
+    let within : c.args.stack.now.depth - 1 < length c.args.stack.now.texts = omega arith in
+    most_set files_up_to c.args.stack.now.texts (c.args.stack.now.depth - 1) c.take_from.new.slot (most files_up_to c.args.stack.now.texts)
+      (omega arith) (omega (arith, c.in-Err.ensures.file, most_read files_up_to c.args.stack.now.texts (c.args.stack.now.depth - 1) c.index-stack-top.result within))
+
+pub returns-in-Err-clause-known : goal.returns-in-Err-clause-known
+returns-in-Err-clause-known g c =
+    let within : c.args.stack.now.depth - 1 < length c.args.stack.now.texts = omega arith in
+    omega (arith, c.in-Err.ensures.known, most_read files_up_to c.args.stack.now.texts (c.args.stack.now.depth - 1) c.index-stack-top.result within)
+
+pub returns-in_default-clause-taken : goal.returns-in_default-clause-taken
+returns-in_default-clause-taken g c = λ tells.
+    let some : 0 < c.args.stack.now.depth = omega arith in
+    let within : c.args.stack.now.depth - 1 < length c.args.stack.now.texts = omega arith in
+    top_closed (g.S.Shelf.left c.args.shelf.now) (g.S.Shelf.left c.take_from.new.shelf) (c.in-Ok.ensures.others tells) c.args.stack.now.texts c.index-stack-top.result c.take_from.new.slot c.args.stack.now.depth
+      some within (count_of c.args.limits.now) (count_of c.take_from.new.limits) c.take_from.new.line.items _ (set-set c.args.stack.now.texts (c.args.stack.now.depth - 1) c.take_from.new.slot None)
+      (rw c.in_default.is at (c.in-Ok.ensures.taken tells))
+
+pub returns-in_default-clause-numbers : goal.returns-in_default-clause-numbers
+returns-in_default-clause-numbers g c =
+    let counted = rw c.in_default.is at c.in-Ok.ensures.counted in
+    most_set line_number (set c.args.stack.now.texts (c.args.stack.now.depth - 1) c.take_from.new.slot) (c.args.stack.now.depth - 1) None c.take_from.new.limits.lines
+      (most_set line_number c.args.stack.now.texts (c.args.stack.now.depth - 1) c.take_from.new.slot c.take_from.new.limits.lines (omega (arith, c.requires.numbers, counted.0)) c.in-Ok.ensures.number) (omega arith)
+
+pub returns-in_default-clause-files : goal.returns-in_default-clause-files
+returns-in_default-clause-files g c =
+    let within : c.args.stack.now.depth - 1 < length c.args.stack.now.texts = omega arith in
+    most_set files_up_to (set c.args.stack.now.texts (c.args.stack.now.depth - 1) c.take_from.new.slot) (c.args.stack.now.depth - 1) None (most files_up_to c.args.stack.now.texts)
+      (most_set files_up_to c.args.stack.now.texts (c.args.stack.now.depth - 1) c.take_from.new.slot (most files_up_to c.args.stack.now.texts)
+        (omega arith) (omega (arith, c.in-Ok.ensures.file, most_read files_up_to c.args.stack.now.texts (c.args.stack.now.depth - 1) c.index-stack-top.result within))) (omega arith)
+
+pub returns-clause-taken : goal.returns-clause-taken
+returns-clause-taken g c = λ tells.
+    let some : 0 < c.args.stack.now.depth = omega arith in
+    let within : c.args.stack.now.depth - 1 < length c.args.stack.now.texts = omega arith in
+    top_taken (g.S.Shelf.left c.args.shelf.now) (g.S.Shelf.left c.take_from.new.shelf) (c.in-Ok.ensures.others tells) c.args.stack.now.texts c.index-stack-top.result c.take_from.new.slot c.args.stack.now.depth
+      some within (count_of c.args.limits.now) (count_of c.take_from.new.limits) c.take_from.new.line.items c.in-Some.place (rw c.in-Some.is at (c.in-Ok.ensures.taken tells))
+
+pub returns-clause-numbers : goal.returns-clause-numbers
+returns-clause-numbers g c =
+    let counted = rw c.in-Some.is at c.in-Ok.ensures.counted in
+    most_set line_number c.args.stack.now.texts (c.args.stack.now.depth - 1) c.take_from.new.slot c.take_from.new.limits.lines (omega (arith, c.requires.numbers, counted)) c.in-Ok.ensures.number
+
+pub returns-clause-files : goal.returns-clause-files
+returns-clause-files g c =
+    let within : c.args.stack.now.depth - 1 < length c.args.stack.now.texts = omega arith in
+    most_set files_up_to c.args.stack.now.texts (c.args.stack.now.depth - 1) c.take_from.new.slot (most files_up_to c.args.stack.now.texts)
+      (omega arith) (omega (arith, c.in-Ok.ensures.file, most_read files_up_to c.args.stack.now.texts (c.args.stack.now.depth - 1) c.index-stack-top.result within))
+
+pub returns-clause-known : goal.returns-clause-known
+returns-clause-known g c =
+    let within : c.args.stack.now.depth - 1 < length c.args.stack.now.texts = omega arith in
+    let known = rw c.in-Some.is at c.in-Ok.ensures.known in
+    omega (arith, known, most_read files_up_to c.args.stack.now.texts (c.args.stack.now.depth - 1) c.index-stack-top.result within)

@@ -1,0 +1,156 @@
+// The merged lines of a web, one after another.
+ghost use Rattle.std.specs.Prelude.{◌≡◌, ◌≤◌, ◌<◌, ◌+◌, ◌^◌, ℕ, List, [], length, IsTrue, IfOk, Ok, Err, IfErr, IfSome, IsNone, OnOk, OnErr, OnSome, None, Some, All};
+ghost use Rattle.std.specs.Option.{option_copied};
+ghost use Rattle.cweb_lines.specs.Include.{web_at};
+ghost use Rattle.cweb_lines.specs.Names.{names_of};
+ghost use Rattle.cweb_lines.specs.Finding.{text_of_name};
+ghost use Rattle.cweb_lines.specs.Texts.{ReadBlames, StopsReading, StartStops, files_named};
+ghost use Rattle.cweb_lines.specs.declared.limits.TheConstants.{LINES, BYTES};
+
+use crate::fault::SourceFault;
+use crate::finding::{Opening, find_web};
+use crate::limits::Limits;
+use crate::names::FileNames;
+use crate::run::Run;
+use crate::source::Source;
+use crate::stack::Stack;
+use crate::stop::Stop;
+use crate::text::OpenText;
+use crate::turning::{Turn, take_turn};
+use cweb_files::{FileId, Place, Shelf};
+use std::alloc::{AllocError, Global};
+
+/// A web whose lines are being merged with those of the files that it includes. The shelf is handed to each call, as the
+/// call before left it.
+#[derive(Drop)]
+pub struct Merger<S: Shelf> {
+    run: Run<S::R>,
+}
+
+fn owned(alloc: Global, name: Option<&str>) -> Result<Option<String>, AllocError>
+    ensures { IfOk result (λ owned. text_of_name owned ≡ option_copied name.entry) }
+{
+    match name {
+        Some(name) => Ok(Some(String::from_str(alloc, name)?)),
+        None => Ok(None),
+    }
+}
+
+impl<S: Shelf> Merger<S> {
+    ghost use Rattle.cweb_lines.specs.Merging.{Stopped};
+    ghost use Rattle.cweb_lines.specs.Whole.{to_come, so_far, stop_in, HasEnded, NextLine, Begins, StopsAtStart};
+
+    /// Opens the web under its name, or under the second where the first isn't there, and reads nothing. Included files
+    /// are sought as they are named and then in the folder `inputs`.
+    pub fn start(alloc: Global, shelf: &mut S, web: &str, second: Option<&str>, change: Option<&str>, inputs: Option<&str>) -> Result<Self, Stop>
+        requires { IsNone change }
+        ensures tells { S.tells shelf.new ≡ S.tells shelf.old }
+        ensures failed { S.failed shelf.new ≡ S.failed shelf.old }
+        ensures texts { IsTrue (S.tells shelf.old) → S.texts shelf.new ≡ S.texts shelf.old }
+        ensures others { IsTrue (S.tells shelf.old) → S.left shelf.new ≡ S.left shelf.old }
+        ensures running { IfOk result (λ merger. stop_in merger ≡ None) }
+        ensures begins { IsTrue (S.tells shelf.old) → IfOk result (λ merger. Begins (record { texts = S.texts shelf.old; inputs = option_copied inputs.entry })
+            (web_at (S.texts shelf.old) web.now (option_copied second.entry)) (so_far merger) (to_come (S.texts shelf.new) (S.left shelf.new) merger)) }
+        ensures stops { IsTrue (S.tells shelf.old) → IfErr result (λ stop. StopsAtStart stop (web_at (S.texts shelf.old) web.now (option_copied second.entry))) }
+        ensures only { IfErr result (λ stop. StartStops stop) }
+    {
+        let inputs = owned(alloc, inputs)?;
+        let Some(opening) = find_web(alloc, shelf, web, second)? else {
+            return Err(Stop::WebNotOpened);
+        };
+        let Opening { name, reader } = opening;
+        let source = Source::new(alloc, reader)?;
+        let mut names = FileNames::new(alloc);
+        if let Err(stop) = names.push(name) {
+            return Err(stop);
+        }
+        let first = OpenText {
+            source,
+            file: FileId(0),
+            line: 0,
+        };
+        Ok(Merger {
+            run: Run {
+                alloc,
+                inputs,
+                stack: Stack::new(first),
+                limits: Limits::new(),
+                faults: Vec::new(alloc),
+                names,
+                stopped: None,
+            },
+        })
+    }
+
+    /// The next merged line without its newline, and the place where it stands; at the end none, from then on always.
+    /// After a stop the merger answers the same one to each further call, and `line` is empty.
+    pub fn next_line(&mut self, shelf: &mut S, line: &mut Vec<u8>) -> Result<Option<Place>, Stop>
+        requires { S.failed shelf.old + 1 < 2 ^ 64 }
+        ensures tells { S.tells shelf.new ≡ S.tells shelf.old }
+        ensures texts { IsTrue (S.tells shelf.old) → S.texts shelf.new ≡ S.texts shelf.old }
+        ensures others { IsTrue (S.tells shelf.old) → S.left shelf.new ≡ S.left shelf.old }
+
+        // the next line that is to come, or none
+        ensures next { IsTrue (S.tells shelf.old) → IfOk result (λ place. NextLine place line.new.items (so_far self.old) (so_far self.new)
+            (to_come (S.texts shelf.old) (S.left shelf.old) self.old) (to_come (S.texts shelf.new) (S.left shelf.new) self.new)) }
+        ensures known { IfOk result (λ place. IfSome place (λ p. p.file.0 < length (so_far self.new).names)) }
+        ensures fewer { IfOk result (λ place. OnSome place ((so_far self.old).count.lines < (so_far self.new).count.lines)) }
+        ensures within { ((so_far self.new).count.lines ≤ LINES) × ((so_far self.new).count.bytes ≤ BYTES) }
+        ensures end { result ≡ Ok None → (line.new.items ≡ []) × HasEnded self.new }
+        ensures ended { stop_in self.old ≡ None → HasEnded self.old → (result ≡ Ok None) × (self.new ≡ self.old) × (shelf.new ≡ shelf.old) }
+
+        // why there is no answer
+        ensures blames { stop_in self.old ≡ None → ReadBlames (S.failed shelf.old) (S.failed shelf.new) result }
+        ensures stops { IsTrue (S.tells shelf.old) → stop_in self.old ≡ None → IfErr result (λ stop. Stopped stop (so_far self.old).count (so_far self.new).count
+            (to_come (S.texts shelf.old) (S.left shelf.old) self.old)) }
+        ensures reading { stop_in self.old ≡ None → IfErr result (λ stop. StopsReading stop) }
+        ensures named { IfErr result (λ stop. files_named stop ≤ length (so_far self.new).names) }
+        ensures again { IfSome (stop_in self.old) (λ stop. (result ≡ Err stop) × (self.new ≡ self.old) × (shelf.new ≡ shelf.old)) }
+        ensures kept { IfErr result (λ stop. stop_in self.new ≡ Some stop) }
+        ensures runs { OnOk result (stop_in self.new ≡ None) }
+        ensures empty { OnErr result (line.new.items ≡ []) }
+    {
+        if let Some(stop) = self.run.stopped {
+            line.clear();
+            return Err(stop);
+        }
+        'turns: loop {
+            let turn = match take_turn(shelf, &mut self.run, line) {
+                Ok(turn) => turn,
+                Err(stop) => {
+                    line.clear();
+                    self.run.stopped = Some(stop);
+                    return Err(stop);
+                }
+            };
+            match turn {
+                Turn::Given(place) => return Ok(Some(place)),
+                Turn::On => {}
+                Turn::Ended => {
+                    line.clear();
+                    return Ok(None);
+                }
+            }
+        }
+    }
+
+    /// The faults met so far, in the order in which they came.
+    pub fn faults(&self) -> &[SourceFault]
+        ensures value { result.now ≡ (so_far self.now).faults }
+        ensures known { All (λ fault. fault.place.file.0 < length (so_far self.now).names) result.now }
+    {
+        &self.run.faults
+    }
+
+    /// The files opened so far.
+    pub fn names(&self) -> &FileNames
+        ensures { names_of result.now ≡ (so_far self.now).names }
+    {
+        &self.run.names
+    }
+
+    /// The allocator that the merger keeps.
+    pub fn alloc(&self) -> Global {
+        self.run.alloc
+    }
+}

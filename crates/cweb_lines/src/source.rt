@@ -1,0 +1,65 @@
+// A text that is being read, and how a line of it ended.
+ghost use Rattle.std.specs.Prelude.{◌≡◌, ◌≤◌, ◌<◌, length, IfOk};
+ghost use Rattle.cweb_lines.specs.declared.source.LineFault.TheVariants.{Memory};
+
+use std::alloc::{AllocError, Global};
+
+/// How many bytes a reader is asked for at once.
+pub const PIECE: usize = 65536;
+
+/// Why a line could not be taken.
+#[derive(Clone, Copy, Debug, PartialEq, Eq)]
+pub enum LineFault {
+    Read,
+    TooLong,
+    Memory,
+}
+
+impl From<AllocError> for LineFault {
+    ghost from_gives = { λ _ e. e ≡ Memory };
+
+    fn from(_: AllocError) -> Self {
+        LineFault::Memory
+    }
+}
+
+/// How a line ended.
+#[derive(Clone, Copy, Debug, PartialEq, Eq)]
+pub enum Taken {
+    /// There is no line.
+    Ended,
+    /// It is the last one, without a newline.
+    Last,
+    /// Its newline came.
+    Full,
+}
+
+/// A reader, and the bytes that were read and not yet taken: those of the piece from `start` to `end`.
+#[derive(Drop)]
+pub struct Source<R: Drop> {
+    pub reader: R,
+    pub piece: Vec<u8>,
+    pub start: usize,
+    pub end: usize,
+    ghost ordered: { start ≤ end },
+    ghost within: { end ≤ length piece.items },
+    ghost some: { 0 < length piece.items },
+}
+
+impl<R: Drop> Source<R> {
+    ghost use Rattle.cweb_lines.specs.Source.{pending};
+    ghost use Rattle.std.specs.Prelude.{[]};
+
+    /// A reader of which nothing was read.
+    pub fn new(alloc: Global, reader: R) -> Result<Self, AllocError>
+        ensures reader { IfOk result (λ source. source.reader ≡ reader) }
+        ensures pending { IfOk result (λ source. pending source ≡ []) }
+    {
+        Ok(Source {
+            reader,
+            piece: vec![in alloc; 0; PIECE]?,
+            start: 0,
+            end: 0,
+        })
+    }
+}

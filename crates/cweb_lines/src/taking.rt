@@ -1,0 +1,108 @@
+// The next line of an open text, without the blanks at its end.
+ghost use Rattle.std.specs.Prelude.{◌≡◌, ◌≤◌, ◌<◌, ◌+◌, ◌^◌, ℕ, List, length, IsTrue, IfOk, IfErr, OnOk, OnErr, IsErrOf};
+ghost use Rattle.cweb_lines.specs.Lines.{trimmed, is_blank as blank};
+ghost use Rattle.cweb_lines.specs.Counts.{count_of};
+ghost use Rattle.cweb_lines.specs.Texts.{lines_left, lines_at, number_of, line_number, files_up_to, TakesLine, StopsFor, StopsReading, FirstStops, ReadBlames, Counted, NamesFiles, stop_for, newline_bytes};
+
+use crate::limits::Limits;
+use crate::reading::next_line;
+use crate::source::{LineFault, Taken};
+use crate::stop::Stop;
+use crate::text::OpenText;
+use cweb_files::{FileId, Place, Shelf};
+
+fn is_blank(b: u8) -> bool
+    ensures { result ≡ blank b }
+{
+    matches!(b, b' ' | b'\t' | b'\r' | 11 | 12)
+}
+
+fn trim(line: &mut Vec<u8>)
+    ensures { line.new.items ≡ trimmed line.old.items }
+{
+    while let Some(b) = line.last() {
+        if !is_blank(*b) {
+            break;
+        }
+        line.pop();
+    }
+}
+
+fn stop_of(fault: LineFault, file: FileId) -> Stop
+    ensures { result ≡ stop_for fault file }
+{
+    match fault {
+        LineFault::Read => Stop::ReadFault(file),
+        LineFault::TooLong => Stop::LineTooLong(file),
+        LineFault::Memory => Stop::Memory,
+    }
+}
+
+fn newline_size(taken: Taken) -> usize
+    ensures value { result ≡ newline_bytes taken }
+    ensures small { result ≤ 1 }
+{
+    match taken {
+        Taken::Full => 1,
+        Taken::Last | Taken::Ended => 0,
+    }
+}
+
+fn take_line<S: Shelf>(shelf: &mut S, text: &mut OpenText<S::R>, limits: &mut Limits, line: &mut Vec<u8>) -> Result<Option<Place>, Stop>
+    requires count { S.failed shelf.old + 1 < 2 ^ 64 }
+    requires number { text.old.line ≤ limits.old.lines }
+    ensures tells { S.tells shelf.new ≡ S.tells shelf.old }
+    ensures failed { ReadBlames (S.failed shelf.old) (S.failed shelf.new) result }
+    ensures texts { IsTrue (S.tells shelf.old) → S.texts shelf.new ≡ S.texts shelf.old }
+    ensures others { IsTrue (S.tells shelf.old) → S.left shelf.new ≡ S.left shelf.old }
+    ensures taken { IsTrue (S.tells shelf.old) → IfOk result (λ place. TakesLine (lines_left (S.left shelf.old) text.old) place line.new.items (lines_left (S.left shelf.new) text.new)
+        (count_of limits.old) (count_of limits.new)) }
+    ensures stops { IsTrue (S.tells shelf.old) → IfErr result (λ stop. StopsFor (FirstStops stop (count_of limits.old) (lines_left (S.left shelf.old) text.old)) stop) }
+    ensures number { text.new.line ≤ limits.new.lines }
+    ensures reading { IfErr result (λ stop. StopsReading stop) }
+    ensures more { limits.old.lines ≤ limits.new.lines }
+    ensures counted { Counted (count_of limits.old) (count_of limits.new) result }
+    ensures file { text.new.file ≡ text.old.file }
+    ensures known { NamesFiles (text.old.file.0 + 1) result }
+{
+    let taken = match next_line(shelf, &mut text.source, line) {
+        Ok(taken) => taken,
+        Err(fault) => return Err(stop_of(fault, text.file)),
+    };
+    if let Taken::Ended = taken {
+        return Ok(None);
+    }
+    if let Err(stop) = limits.add(line.len() + newline_size(taken)) {
+        return Err(stop);
+    }
+    trim(line);
+    text.line += 1;
+    Ok(Some(Place {
+        file: text.file,
+        line: text.line,
+    }))
+}
+
+// Takes a line of a text, where one is open.
+pub fn take_from<S: Shelf>(shelf: &mut S, slot: &mut Option<OpenText<S::R>>, limits: &mut Limits, line: &mut Vec<u8>) -> Result<Option<Place>, Stop>
+    requires count { S.failed shelf.old + 1 < 2 ^ 64 }
+    requires number { number_of line_number slot.old ≤ limits.old.lines }
+    ensures tells { S.tells shelf.new ≡ S.tells shelf.old }
+    ensures failed { ReadBlames (S.failed shelf.old) (S.failed shelf.new) result }
+    ensures texts { IsTrue (S.tells shelf.old) → S.texts shelf.new ≡ S.texts shelf.old }
+    ensures others { IsTrue (S.tells shelf.old) → S.left shelf.new ≡ S.left shelf.old }
+    ensures taken { IsTrue (S.tells shelf.old) → IfOk result (λ place. TakesLine (lines_at (S.left shelf.old) slot.old) place line.new.items (lines_at (S.left shelf.new) slot.new)
+        (count_of limits.old) (count_of limits.new)) }
+    ensures stops { IsTrue (S.tells shelf.old) → IfErr result (λ stop. StopsFor (FirstStops stop (count_of limits.old) (lines_at (S.left shelf.old) slot.old)) stop) }
+    ensures number { number_of line_number slot.new ≤ limits.new.lines }
+    ensures reading { IfErr result (λ stop. StopsReading stop) }
+    ensures more { limits.old.lines ≤ limits.new.lines }
+    ensures counted { Counted (count_of limits.old) (count_of limits.new) result }
+    ensures file { number_of files_up_to slot.new ≡ number_of files_up_to slot.old }
+    ensures known { NamesFiles (number_of files_up_to slot.old) result }
+{
+    match slot {
+        Some(text) => take_line(shelf, text, limits, line),
+        None => Ok(None),
+    }
+}
