@@ -16,6 +16,7 @@ mod stop;
 mod taking;
 mod text;
 mod turning;
+mod writing;
 
 pub use cweb_files::{FileId, MemoryReader, MemoryShelf, MemorySink, Place, Shelf, ShelfFault, Sink, SinkFault};
 pub use fault::{SourceFault, SourceKind};
@@ -24,3 +25,4 @@ pub use limits::{BYTES, LINE_LENGTH, LINES};
 pub use merger::Merger;
 pub use names::FileNames;
 pub use stop::Stop;
+pub use writing::{write_all, write_merged, write_merged_in_pieces};
