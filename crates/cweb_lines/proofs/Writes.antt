@@ -6,11 +6,11 @@ use Rattle.cweb_lines.specs.Merge.{Event, took}
 use Rattle.cweb_lines.specs.Merging.{SoFar, Gives, Stopped}
 use Rattle.cweb_lines.specs.Texts.{Count, StopsReading, read_blame, files_named}
 use Rattle.cweb_lines.specs.Told.{given_lines, taken_lines, size_of, AreShort, IsWithinLimits}
-use Rattle.cweb_lines.specs.Writing.{text_of, WritesFront, Gathered, FailsIn, PassesOn, LongIn, StopsWriting, WritingStops, StopAfter, write_blame}
+use Rattle.cweb_lines.specs.Writing.{text_of, WritesFront, Gathered, FailsIn, PassesOn, StopsWriting, WritingStops, StopAfter, write_blame}
 use Rattle.cweb_lines.specs.declared.limits.TheConstants.{LINE_LENGTH, LINES, BYTES}
 use Rattle.cweb_lines.specs.declared.stop.Stop.{Stop}
 use Rattle.cweb_lines.specs.declared.stop.Stop.TheVariants.{Usage, WebNotOpened, ChangeNotOpened, ReadFault, LineTooLong, TooMuchText, Memory, OutNotOpened, WriteFault, LogFault}
-use Rattle.cweb_lines.proofs.Merges.{given-append, lines_taken-append, bytes_taken-append, taken-append, short-append}
+use Rattle.cweb_lines.proofs.Merges.{given-append, lines_taken-append, bytes_taken-append, taken-append}
 
 pub given_front : (lines : List Line) (old new : SoFar) (all later : List Event) → Gives lines old new all later → given_lines all ≡ lines ++ given_lines later
 given_front lines old new all later gives = ap given_lines gives.whole ∙ given-append gives.events later ∙ ap (λ (ls : List Line). ls ++ given_lines later) gives.given
@@ -21,7 +21,11 @@ gives_all lines old new all later gives none = record {
   events = gives.events;
   whole = gives.whole ∙ ap (λ (es : List Event). gives.events ++ es) none;
   given = gives.given ∙ sym (given_front lines old new all later gives ∙ ap (λ (es : List Event). lines ++ given_lines es) none ∙ append-nil lines);
-  faults = gives.faults; names = gives.names; lines_are = gives.lines_are; bytes_are = gives.bytes_are; short = gives.short;
+  faults = gives.faults;
+  names = gives.names;
+  lines_are = gives.lines_are;
+  bytes_are = gives.bytes_are;
+  short = gives.short;
 }
 
 pub text_of-append : (a b : List Line) → text_of (a ++ b) ≡ text_of a ++ text_of b
@@ -43,14 +47,14 @@ front_of_all all done gathered now old mid new piece whole written is front = re
   rest = front.rest ++ text_of now;
   written = front.written ∙ ap (λ (t : List ℕ). t ++ front.front) written ∙ append_assoc old (text_of done) front.front;
   whole = ap text_of whole ∙ text_of-append done (gathered ++ now) ∙ ap (λ (t : List ℕ). text_of done ++ t) (text_of-append gathered now ∙ ap (λ (t : List ℕ). t ++ text_of now) (sym is ∙ front.whole) ∙ append_assoc front.front front.rest (text_of now))
-    ∙ sym (append_assoc (text_of done) front.front (front.rest ++ text_of now));
+      ∙ sym (append_assoc (text_of done) front.front (front.rest ++ text_of now));
 }
 
 module _ (room : ℕ) (all now : List Line) (old mid piece : List ℕ) (so_far : Gathered room all now old mid piece) where
   -- nothing more was written
   pub stays_front : WritesFront old mid (text_of all)
   stays_front = front_of_all all so_far.done so_far.gathered now old mid mid piece so_far.whole so_far.written so_far.piece_is
-    (record { front = []; rest = piece; written = sym (append-nil mid); whole = refl })
+      (record { front = []; rest = piece; written = sym (append-nil mid); whole = refl })
 
   -- the rest was written, or a front of it
   pub ends_front : (new : List ℕ) → WritesFront mid new piece → WritesFront old new (text_of all)
@@ -230,6 +234,7 @@ module _ (first stop : Stop) (after : StopAfter first stop) where
       reads OutNotOpened h = h
       reads WriteFault h = tt
       reads LogFault h = h
+
       by : (stop ≡ first) ⊎ (stop ≡ WriteFault) → WritingStops stop
       by (inl same) = subst WritingStops (sym same) (reads first reading)
       by (inr fault) = subst WritingStops (sym fault) tt
@@ -266,11 +271,13 @@ not_within stop old now all no_lines no_bytes within stops = (long, much)
         let short = subst AreShort (ap taken_lines there.whole ∙ taken-append there.events (took there.line ∷ there.later)) within.short in
         let fits = short_at (taken_lines there.events) there.line (taken_lines there.later) short in
         omega (arith, fits, there.why.1)
+
     much : stop ≡ TooMuchText → ⊥
     much is = by (subst (λ s. StopsWriting s old now all) is stops).passes
       where
         there : StopsWriting TooMuchText old now all
         there = subst (λ s. StopsWriting s old now all) is stops
+
         by : (now.lines ≡ LINES) ⊎ (BYTES < now.bytes + there.size) → ⊥
         by (inl full) = omega (arith, full, there.few, within.few, no_lines)
         by (inr over) = omega (arith, over, there.small, within.small, no_bytes)

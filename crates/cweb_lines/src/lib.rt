@@ -6,8 +6,8 @@ mod finding;
 mod include;
 mod laws;
 mod limits;
-mod names;
 mod merger;
+mod names;
 mod reading;
 mod run;
 mod source;
@@ -18,7 +18,9 @@ mod text;
 mod turning;
 mod writing;
 
-pub use cweb_files::{FileId, MemoryReader, MemoryShelf, MemorySink, Place, Shelf, ShelfFault, Sink, SinkFault};
+pub use cweb_files::{
+    FileId, MemoryReader, MemoryShelf, MemorySink, Place, Shelf, ShelfFault, Sink, SinkFault,
+};
 pub use fault::{SourceFault, SourceKind};
 pub use laws::merge_has_one_answer;
 pub use limits::{BYTES, LINE_LENGTH, LINES};

@@ -42,7 +42,14 @@ impl<S: Shelf> Merger<S> {
 
     /// Opens the web under its name, or under the second where the first isn't there, and reads nothing. Included files
     /// are sought as they are named and then in the folder `inputs`.
-    pub fn start(alloc: Global, shelf: &mut S, web: &str, second: Option<&str>, change: Option<&str>, inputs: Option<&str>) -> Result<Self, Stop>
+    pub fn start(
+        alloc: Global,
+        shelf: &mut S,
+        web: &str,
+        second: Option<&str>,
+        change: Option<&str>,
+        inputs: Option<&str>,
+    ) -> Result<Self, Stop>
         requires { IsNone change }
         ensures tells { S.tells shelf.new ≡ S.tells shelf.old }
         ensures failed { S.failed shelf.new ≡ S.failed shelf.old }

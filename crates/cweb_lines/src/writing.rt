@@ -95,7 +95,11 @@ fn write_rest<W: Sink>(out: &mut W, piece: &[u8], stop: Stop) -> Stop
 
 /// Writes each line that is to come and a newline, a line at a time. After a write fault the next line to come is the one
 /// after the line that was being written.
-pub fn write_merged<S: Shelf, W: Sink>(merger: &mut Merger<S>, shelf: &mut S, out: &mut W) -> Result<(), Stop>
+pub fn write_merged<S: Shelf, W: Sink>(
+    merger: &mut Merger<S>,
+    shelf: &mut S,
+    out: &mut W,
+) -> Result<(), Stop>
     requires count { S.failed shelf.old + 1 < 2 ^ 64 }
     requires sink { W.failed out.old + 1 < 2 ^ 64 }
     ensures tells { S.tells shelf.new ≡ S.tells shelf.old }
@@ -128,7 +132,12 @@ pub fn write_merged<S: Shelf, W: Sink>(merger: &mut Merger<S>, shelf: &mut S, ou
 
 /// Writes each line that is to come and a newline. Lines are gathered until they have `room` bytes, and then written at
 /// once. After a write fault the next line to come is the one after those that were gathered.
-pub fn write_merged_in_pieces<S: Shelf, W: Sink>(merger: &mut Merger<S>, shelf: &mut S, out: &mut W, room: usize) -> Result<(), Stop>
+pub fn write_merged_in_pieces<S: Shelf, W: Sink>(
+    merger: &mut Merger<S>,
+    shelf: &mut S,
+    out: &mut W,
+    room: usize,
+) -> Result<(), Stop>
     requires count { S.failed shelf.old + 1 < 2 ^ 64 }
     requires sink { W.failed out.old + 1 < 2 ^ 64 }
     ensures tells { S.tells shelf.new ≡ S.tells shelf.old }

@@ -17,10 +17,10 @@ invariant-lines g l = record {
   running : stop_in l.merger ≡ None;
   before : stop_in l.fn.merger ≡ None;
   gives : IsTrue (g.S.Shelf.tells l.fn.shelf) → (given : List Line) × Gives given (so_far l.fn.merger) (so_far l.merger)
-    (to_come (g.S.Shelf.texts l.fn.shelf) (g.S.Shelf.left l.fn.shelf) l.fn.merger) (to_come (g.S.Shelf.texts l.shelf) (g.S.Shelf.left l.shelf) l.merger);
+      (to_come (g.S.Shelf.texts l.fn.shelf) (g.S.Shelf.left l.fn.shelf) l.fn.merger) (to_come (g.S.Shelf.texts l.shelf) (g.S.Shelf.left l.shelf) l.merger);
   written : IsTrue (g.S.Shelf.tells l.fn.shelf) → IsTrue (g.W.Sink.tells l.fn.out) → Gathered l.room
-    (given_lines (to_come (g.S.Shelf.texts l.fn.shelf) (g.S.Shelf.left l.fn.shelf) l.fn.merger)) (given_lines (to_come (g.S.Shelf.texts l.shelf) (g.S.Shelf.left l.shelf) l.merger))
-    (g.W.Sink.written l.fn.out) (g.W.Sink.written l.out) l.piece.items;
+      (given_lines (to_come (g.S.Shelf.texts l.fn.shelf) (g.S.Shelf.left l.fn.shelf) l.fn.merger)) (given_lines (to_come (g.S.Shelf.texts l.shelf) (g.S.Shelf.left l.shelf) l.merger))
+      (g.W.Sink.written l.fn.out) (g.W.Sink.written l.out) l.piece.items;
 }
 
 abbrev pub decreases-lines : goal.decreases-lines

@@ -1,7 +1,6 @@
-use Rattle.std.proofs.Common.{◌≡◌, ◌+◌, [], refl, sym, ◌∙◌, ap, arith}
+use Rattle.std.proofs.Common.{[], sym, arith}
 use Rattle.std.proofs.lemmas.List.{append-nil}
-use Rattle.cweb_lines.specs.Writing.{write_blame}
-use Rattle.cweb_lines.proofs.Writes.{same_stop, fault_after, no_write_blame}
+use Rattle.cweb_lines.proofs.Writes.{same_stop, no_write_blame}
 use Rattle.cweb_lines.proofs.writing.write_rest.Goals as goal
 
 pub returns-in-Ok-clause-after : goal.returns-in-Ok-clause-after
