@@ -1,21 +1,20 @@
 -- What comes of a line that was taken, and how what came adds up.
-use Rattle.std.proofs.Common.{◌≡◌, ◌≤◌, ◌<◌, ◌+◌, ◌-◌, ◌⊎◌, ◌==◌, ℕ, zero, suc, max, Bool, true, false, List, [], ◌∷◌, ◌++◌, Option, Some, None, refl, sym, ◌∙◌, ap, subst, arith, length, length-append}
+use Rattle.std.proofs.Common.{◌≡◌, ◌≤◌, ◌<◌, ◌+◌, ◌⊎◌, ◌==◌, ℕ, Bool, true, false, List, [], ◌∷◌, ◌++◌, Some, None, refl, sym, ◌∙◌, ap, subst, arith, length, length-append}
 use Rattle.std.proofs.lemmas.List.{append-nil, append_assoc}
 use Rattle.std.specs.Prelude.{nat_lt}
 use Rattle.std.proofs.lemmas.Bool.Decides.{nat_tests}
-use Rattle.cweb_files.specs.declared.place.FileId.{FileId}
 use Rattle.cweb_files.specs.declared.place.Place.{Place}
 use Rattle.cweb_lines.specs.Change.{at_place}
 use Rattle.cweb_lines.specs.Include.{World, is_include, include_name, found_at}
 use Rattle.cweb_lines.specs.Lines.{Line, SourceLine, lines_in}
 use Rattle.cweb_lines.specs.Merge.{State, RawLine, Thing, raw, Event, took, given, fault, opening, Next, included, opened, obeyed, plain, taking, raws}
-use Rattle.cweb_lines.specs.Merging.{SoFar, Gives, GivesBehind, LongAhead, TooMuchAhead, Stopped}
-use Rattle.cweb_lines.specs.Texts.{Count, Took, TopStops, Refuses, StopsFor, raw_at, IsTooLong}
+use Rattle.cweb_lines.specs.Merging.{SoFar, Gives, GivesBehind, Stopped}
+use Rattle.cweb_lines.specs.Texts.{Count, Took, TopStops, StopsFor}
 use Rattle.cweb_lines.specs.Told.{given_lines, told_faults, openings, taken_lines, size_of, AreShort}
 use Rattle.cweb_lines.specs.Total.{merge, merge_next, merge_end}
 use Rattle.cweb_lines.specs.declared.fault.SourceFault.{SourceFault}
 use Rattle.cweb_lines.specs.declared.fault.SourceKind.TheVariants.{NoName, TooDeep, NotThere}
-use Rattle.cweb_lines.specs.declared.limits.TheConstants.{LINE_LENGTH, LINES, BYTES}
+use Rattle.cweb_lines.specs.declared.limits.TheConstants.{LINES, BYTES}
 use Rattle.cweb_lines.specs.declared.stop.Stop.{Stop}
 use Rattle.cweb_lines.specs.declared.stop.Stop.TheVariants.{Usage, WebNotOpened, ChangeNotOpened, ReadFault, LineTooLong, TooMuchText, Memory, OutNotOpened, WriteFault, LogFault}
 
@@ -47,8 +46,8 @@ module _ (world : World) (source : SourceLine) (bytes : List ℕ) (place : Place
   pub merge_no_name : is_include bytes ≡ true → include_name bytes ≡ [] → merge world before ≡ took source ∷ fault (at_place NoName place) ∷ merge world after
   merge_no_name test none =
       merge_next world before (took source ∷ fault (at_place NoName source.line.place) ∷ [], after)
-        (ap (λ b. Some (taking source (plain b world before r things))) (as_read is_include true test)
-         ∙ ap (λ n. Some (taking source (included n world before r things))) (ap (λ (l : Line). include_name l.bytes) is ∙ none))
+      (ap (λ b. Some (taking source (plain b world before r things))) (as_read is_include true test)
+      ∙ ap (λ n. Some (taking source (included n world before r things))) (ap (λ (l : Line). include_name l.bytes) is ∙ none))
       ∙ ap (λ (l : Line). took source ∷ fault (at_place NoName l.place) ∷ merge world after) is
 
   merge_named : (name : List ℕ) (next : Next) → is_include bytes ≡ true → include_name bytes ≡ name → 0 < length name → opened (nat_lt depth 10) world name before r things ≡ next
@@ -56,9 +55,9 @@ module _ (world : World) (source : SourceLine) (bytes : List ℕ) (place : Place
   merge_named [] next test named some opens = absurd (omega arith)
   merge_named (b ∷ bs) next test named some opens =
       merge_next world before (took source ∷ next.0, next.1)
-        (ap (λ b. Some (taking source (plain b world before r things))) (as_read is_include true test)
-         ∙ ap (λ n. Some (taking source (included n world before r things))) (ap (λ (l : Line). include_name l.bytes) is ∙ named)
-         ∙ ap (λ (n : Next). Some (taking source n)) opens)
+      (ap (λ b. Some (taking source (plain b world before r things))) (as_read is_include true test)
+      ∙ ap (λ n. Some (taking source (included n world before r things))) (ap (λ (l : Line). include_name l.bytes) is ∙ named)
+      ∙ ap (λ (n : Next). Some (taking source n)) opens)
 
   pub merge_too_deep : is_include bytes ≡ true → 0 < length (include_name bytes) → depth ≡ 10 → merge world before ≡ took source ∷ fault (at_place TooDeep place) ∷ merge world after
   merge_too_deep test some deep =
@@ -71,7 +70,7 @@ module _ (world : World) (source : SourceLine) (bytes : List ℕ) (place : Place
   merge_not_there test some deep none =
       let room : nat_lt depth 10 ≡ true = grind (arith, nat_tests) in
       merge_named (include_name bytes) (fault (at_place NotThere source.line.place) ∷ [], after) test refl some
-        (ap (λ t. opened t world (include_name bytes) before r things) room ∙ ap (λ o. obeyed o before r things) (sym none))
+      (ap (λ t. opened t world (include_name bytes) before r things) room ∙ ap (λ o. obeyed o before r things) (sym none))
       ∙ ap (λ (l : Line). took source ∷ fault (at_place NotThere l.place) ∷ merge world after) is
 
   pub merge_opens : (name text : List ℕ) → is_include bytes ≡ true → 0 < length (include_name bytes) → depth < 10 → Some (name, text) ≡ found_at world (include_name bytes)
@@ -79,7 +78,7 @@ module _ (world : World) (source : SourceLine) (bytes : List ℕ) (place : Place
   merge_opens name text test some deep there =
       let room : nat_lt depth 10 ≡ true = grind (arith, nat_tests) in
       merge_named (include_name bytes) (opening name ∷ [], with_things (raws (depth + 1) true (lines_in files text) ++ things) (files + 1)) test refl some
-        (ap (λ t. opened t world (include_name bytes) before r things) room ∙ ap (λ o. obeyed o before r things) (sym there))
+      (ap (λ t. opened t world (include_name bytes) before r things) room ∙ ap (λ o. obeyed o before r things) (sym there))
 
 -- whatever comes of a raw line, it is taken first
 pub merge_takes : (world : World) (r : RawLine) (things : List Thing) (files : ℕ) → (rest : List Event) × (merge world (with_things (raw r ∷ things) files) ≡ took r.source ∷ rest)
@@ -100,26 +99,50 @@ module _ (old new : SoFar) (all later : List Event) (count : new.count ≡ old.c
 
   pub gives_fault : (f : SourceFault) → all ≡ fault f ∷ later → new.faults ≡ old.faults ++ f ∷ [] → new.names ≡ old.names → Gives [] old new all later
   gives_fault f whole faults names = record {
-    events = fault f ∷ []; whole = whole; given = refl; faults = faults; names = names ∙ sym (append-nil old.names);
-    lines_are = same_lines; bytes_are = same_bytes; short = tt
+    events = fault f ∷ [];
+    whole = whole;
+    given = refl;
+    faults = faults;
+    names = names ∙ sym (append-nil old.names);
+    lines_are = same_lines;
+    bytes_are = same_bytes;
+    short = tt;
   }
 
   pub gives_opening : (name : List ℕ) → all ≡ opening name ∷ later → new.faults ≡ old.faults → new.names ≡ old.names ++ name ∷ [] → Gives [] old new all later
   gives_opening name whole faults names = record {
-    events = opening name ∷ []; whole = whole; given = refl; faults = faults ∙ sym (append-nil old.faults); names = names;
-    lines_are = same_lines; bytes_are = same_bytes; short = tt
+    events = opening name ∷ [];
+    whole = whole;
+    given = refl;
+    faults = faults ∙ sym (append-nil old.faults);
+    names = names;
+    lines_are = same_lines;
+    bytes_are = same_bytes;
+    short = tt;
   }
 
   pub gives_line : (line : Line) → all ≡ given line ∷ later → new.faults ≡ old.faults → new.names ≡ old.names → Gives (line ∷ []) old new all later
   gives_line line whole faults names = record {
-    events = given line ∷ []; whole = whole; given = refl; faults = faults ∙ sym (append-nil old.faults); names = names ∙ sym (append-nil old.names);
-    lines_are = same_lines; bytes_are = same_bytes; short = tt
+    events = given line ∷ [];
+    whole = whole;
+    given = refl;
+    faults = faults ∙ sym (append-nil old.faults);
+    names = names ∙ sym (append-nil old.names);
+    lines_are = same_lines;
+    bytes_are = same_bytes;
+    short = tt;
   }
 
   pub gives_nothing : all ≡ later → new.faults ≡ old.faults → new.names ≡ old.names → Gives [] old new all later
   gives_nothing whole faults names = record {
-    events = []; whole = whole; given = refl; faults = faults ∙ sym (append-nil old.faults); names = names ∙ sym (append-nil old.names);
-    lines_are = same_lines; bytes_are = same_bytes; short = tt
+    events = [];
+    whole = whole;
+    given = refl;
+    faults = faults ∙ sym (append-nil old.faults);
+    names = names ∙ sym (append-nil old.names);
+    lines_are = same_lines;
+    bytes_are = same_bytes;
+    short = tt;
   }
 
 -- a line was taken before
@@ -184,9 +207,9 @@ gives_both lines more old mid new all now later a b = record {
   whole = a.whole ∙ ap (λ (es : List Event). a.events ++ es) b.whole ∙ sym (append_assoc a.events b.events later);
   given = given-append a.events b.events ∙ ap (λ (ls : List Line). ls ++ given_lines b.events) a.given ∙ ap (λ (ls : List Line). lines ++ ls) b.given;
   faults = b.faults ∙ ap (λ (fs : List SourceFault). fs ++ told_faults b.events) a.faults ∙ append_assoc old.faults (told_faults a.events) (told_faults b.events)
-    ∙ ap (λ (fs : List SourceFault). old.faults ++ fs) (sym (told-append a.events b.events));
+      ∙ ap (λ (fs : List SourceFault). old.faults ++ fs) (sym (told-append a.events b.events));
   names = b.names ∙ ap (λ (ns : List (List ℕ)). ns ++ openings b.events) a.names ∙ append_assoc old.names (openings a.events) (openings b.events)
-    ∙ ap (λ (ns : List (List ℕ)). old.names ++ ns) (sym (openings-append a.events b.events));
+      ∙ ap (λ (ns : List (List ℕ)). old.names ++ ns) (sym (openings-append a.events b.events));
   lines_are = omega (arith, a.lines_are, b.lines_are, lines_taken-append a.events b.events);
   bytes_are = omega (arith, a.bytes_are, b.bytes_are, bytes_taken-append a.events b.events);
   short = subst AreShort (sym (taken-append a.events b.events)) (short-append (taken_lines a.events) (taken_lines b.events) a.short b.short);

@@ -1,9 +1,8 @@
 -- The first newline of a text.
-use Rattle.std.proofs.Common.{◌≡◌, ◌≢◌, ◌≤◌, ◌<◌, ◌+◌, ◌-◌, ℕ, zero, suc, Bool, true, false, cond, List, [], ◌∷◌, ◌++◌, Option, Some, None, refl, sym, ◌∙◌, ap, inl, inr, take, drop, get_or, length, subst, arith, rules, take-append-drop, append_assoc, length-append}
-use Rattle.std.proofs.lemmas.List.{drop_more, get_or-take, length-take, drop-take, drop-drop, append-nil}
+use Rattle.std.proofs.Common.{◌≡◌, ◌≢◌, ◌≤◌, ◌<◌, ◌+◌, ◌-◌, ℕ, suc, true, false, List, [], ◌∷◌, ◌++◌, Option, Some, None, sym, ◌∙◌, ap, take, drop, get_or, length, subst, arith, take-append-drop, append_assoc, length-append}
+use Rattle.std.proofs.lemmas.List.{drop_more, get_or-take, length-take, drop-take, drop-drop}
 use Rattle.std.proofs.lemmas.Bool.Decides.{nat_tests}
-use Rattle.std.proofs.Math.Dec.{eqb}
-use Rattle.memchr.specs.Find.{IsFirstByte, is_byte, Nowhere, Passes}
+use Rattle.memchr.specs.Find.{IsFirstByte, is_byte}
 use Rattle.cweb_lines.specs.Lines.{HasNoNewline, SplitsAt, IsNewlineAt, TextLine, text_lines, onto_first}
 use Rattle.cweb_lines.specs.Source.{IsLongerThan, Takes, TakesOf}
 use Rattle.cweb_lines.specs.declared.source.Taken.TheVariants.{Full}
@@ -20,8 +19,8 @@ newline_at-memchr xs (Some at) first =
       within = first.0.high;
       split = sym (take-append-drop at xs) ∙ ap (λ (l : List ℕ). take at xs ++ l) (drop_more xs at 0 first.0.high ∙ ap (λ n. n ∷ drop (at + 1) xs) is);
       before = no_newline (take at xs) (λ k lt ten.
-        let near : k < at = omega (arith, length-take at xs) in
-        first.0.before k (omega arith) near (ap (is_byte 10) (sym (get_or-take at xs k 0 near) ∙ ten)));
+          let near : k < at = omega (arith, length-take at xs) in
+          first.0.before k (omega arith) near (ap (is_byte 10) (sym (get_or-take at xs k 0 near) ∙ ten)));
     }
 
 no_more : (b : ℕ) → b ≢ 10 → (text rest : List ℕ) → text_lines (b ∷ text) ≡ onto_first b (text_lines text)
@@ -59,28 +58,32 @@ behind piece start end at splits le =
   where
     near : at < end - start
     near = omega (arith, splits.within, length-take (end - start) (drop start piece))
+
     count : end - start ≡ (at + 1) + (end - (start + (at + 1)))
     count = omega (arith, near)
+
     rest : drop (at + 1) (take (end - start) (drop start piece)) ≡ take (end - (start + (at + 1))) (drop (start + (at + 1)) piece)
     rest = ap (λ n. drop (at + 1) (take n (drop start piece))) count ∙ drop-take (at + 1) (end - (start + (at + 1))) (drop start piece)
-      ∙ ap (λ (l : List ℕ). take (end - (start + (at + 1))) l) (drop-drop (at + 1) start piece)
+        ∙ ap (λ (l : List ℕ). take (end - (start + (at + 1))) l) (drop-drop (at + 1) start piece)
 
 pub longer_more : (limit : ℕ) (text rest : List ℕ) → IsLongerThan limit text → IsLongerThan limit (text ++ rest)
 longer_more limit text rest long =
     (long.0, long.1 ++ rest, ap (λ (l : List ℕ). l ++ rest) long.2 ∙ append_assoc long.0 long.1 rest, long.3, long.4)
 
 pub taken_full : (all line old rest after new : List ℕ) → all ≡ line ++ (old ++ rest) → HasNoNewline line → TakesOf old line true after new → Takes all Full after (new ++ rest)
-taken_full all line old rest after new is none takes =
-    (is ∙ ap (λ (l : List ℕ). line ++ (l ++ rest)) takes.2
+taken_full all line old rest after new is none takes = (
+  is ∙ ap (λ (l : List ℕ). line ++ (l ++ rest)) takes.2
       ∙ (simp append_assoc)
       ∙ ap (λ (l : List ℕ). l ++ 10 ∷ (new ++ rest)) (sym takes.3),
-     subst HasNoNewline (sym takes.3) (no_newline-append line takes.0 none takes.1))
+  subst HasNoNewline (sym takes.3) (no_newline-append line takes.0 none takes.1),
+)
 
 pub taken_more : (all line old rest after new : List ℕ) → all ≡ line ++ (old ++ rest) → HasNoNewline line → TakesOf old line false after new
     → (all ≡ after ++ (new ++ rest)) × HasNoNewline after
-taken_more all line old rest after new is none takes =
-    (is ∙ sym (append_assoc line old rest) ∙ (λ i. sym takes.1 i ++ (sym takes.2 i ++ rest)),
-     subst HasNoNewline (sym takes.1) (no_newline-append line old none takes.0))
+taken_more all line old rest after new is none takes = (
+  is ∙ sym (append_assoc line old rest) ∙ (λ i. sym takes.1 i ++ (sym takes.2 i ++ rest)),
+  subst HasNoNewline (sym takes.1) (no_newline-append line old none takes.0),
+)
 
 -- the first line of a text that begins with bytes other than newlines has those bytes at least
 pub longer_first : (front rest : List ℕ) → HasNoNewline front → 0 < length front
@@ -93,6 +96,9 @@ longer_first (b ∷ []) rest none some = by (text_lines rest) (no_more b none.0 
     by [] is = (record { bytes = b ∷ []; size = 1 }, [], is, omega arith)
     by (line ∷ lines) is = (record { bytes = b ∷ line.bytes; size = line.size + 1 }, lines, is, omega arith)
 longer_first (b ∷ c ∷ front) rest none some =
-    let later = longer_first (c ∷ front) rest none.1 (omega arith) in
-    (record { bytes = b ∷ later.0.bytes; size = later.0.size + 1 }, later.1,
-     no_more b none.0 (c ∷ front ++ rest) [] ∙ ap (onto_first b) later.2, omega (arith, later.3))
+    let later = longer_first (c ∷ front) rest none.1 (omega arith) in (
+      record { bytes = b ∷ later.0.bytes; size = later.0.size + 1 },
+      later.1,
+      no_more b none.0 (c ∷ front ++ rest) [] ∙ ap (onto_first b) later.2,
+      omega (arith, later.3),
+    )

@@ -107,7 +107,7 @@ stray_codes : outcome_of (run 30 no_texts (started (codes "A\nB\n") (Some (codes
     ≡ Some (record {
       lines = line (codes "N") 1 7 ∷ line (codes "M") 1 9 ∷ [];
       faults = fault MissingX 1 1 ∷ fault WantsY 1 4 ∷ unequal 1 2 1 ∷ fault WantsZ 1 8 ∷ [];
-      names = []
+      names = [];
     })
 stray_codes = refl
 
@@ -121,7 +121,7 @@ change_file_ends_among_new_lines = refl
 
 -- lines that a new line includes do not match
 new_lines_do_not_match : outcome_of (run 30 (one_text (codes "inc.w") (codes "B\n"))
-      (started (codes "A\nB\n") (Some (codes "@x\nA\n@y\n@i inc.w\n@z\n@x\nB\n@y\nC\n@z\n"))))
+    (started (codes "A\nB\n") (Some (codes "@x\nA\n@y\n@i inc.w\n@z\n@x\nB\n@y\nC\n@z\n"))))
     ≡ Some (record { lines = line (codes "B") 2 1 ∷ line (codes "C") 1 9 ∷ []; faults = []; names = codes "inc.w" ∷ [] })
 unfolding is_utf8 chars encode
 new_lines_do_not_match = refl

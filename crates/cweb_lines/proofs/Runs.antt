@@ -1,14 +1,14 @@
 -- What is to come of a merger's run, for its stack, its files and its faults.
-use Rattle.std.proofs.Common.{◌≡◌, ◌≤◌, ◌<◌, ◌+◌, ◌-◌, ℕ, zero, suc, max, get_or, true, List, [], ◌∷◌, ◌++◌, Option, Some, None, refl, sym, ◌∙◌, ap, arith, length, length-append}
+use Rattle.std.proofs.Common.{◌≡◌, ◌≤◌, ◌<◌, ◌+◌, ℕ, zero, suc, get_or, true, List, [], ◌∷◌, ◌++◌, Option, Some, sym, ◌∙◌, ap, arith, length, length-append}
 use Rattle.std.proofs.Math.Nat.{le-max_left, le-max_right, max-le}
 use Rattle.std.proofs.lemmas.List.{append-nil}
 use Rattle.cweb_lines.specs.Faults.{files_in}
 use Rattle.cweb_lines.specs.Finding.{world_in}
-use Rattle.cweb_lines.specs.Lines.{SourceLine, lines_in}
+use Rattle.cweb_lines.specs.Lines.{lines_in}
 use Rattle.cweb_lines.specs.Merge.{Thing, raws}
 use Rattle.cweb_lines.specs.Merging.{coming, Opens}
 use Rattle.cweb_lines.specs.Names.{names_of}
-use Rattle.cweb_lines.specs.Texts.{lines_left, things_to, things_of, raw_at}
+use Rattle.cweb_lines.specs.Texts.{lines_left, things_to, things_of}
 use Rattle.cweb_lines.specs.Total.{merge}
 use Rattle.cweb_lines.specs.declared.fault.SourceFault.{SourceFault}
 use Rattle.cweb_lines.specs.declared.finding.Opening.{Opening}
@@ -22,7 +22,7 @@ unfolding files_in
 files_in-push [] fault files each one = max-le (omega arith) (omega arith)
 files_in-push (f ∷ faults) fault files each one =
     max-le (omega (arith, le-max_left (f.place.file.0 + 1) (files_in faults)))
-      (files_in-push faults fault files (omega (arith, le-max_right (f.place.file.0 + 1) (files_in faults))) one)
+    (files_in-push faults fault files (omega (arith, le-max_right (f.place.file.0 + 1) (files_in faults))) one)
 
 pub files_in-at : (faults : List SourceFault) (k : ℕ) (d : SourceFault) → k < length faults → (get_or faults k d).place.file.0 < files_in faults
 unfolding files_in

@@ -1,5 +1,5 @@
 -- Open texts in an array.
-use Rattle.std.proofs.Common.{◌≡◌, ◌≢◌, ◌≤◌, ◌<◌, ◌+◌, ◌-◌, ℕ, zero, suc, max, true, List, [], ◌∷◌, ◌++◌, Option, Some, None, refl, sym, ◌∙◌, ap, arith, length, get_or, set, get_or-set_same, get_or-set_other}
+use Rattle.std.proofs.Common.{◌≡◌, ◌≢◌, ◌≤◌, ◌<◌, ◌+◌, ◌-◌, ℕ, zero, suc, true, List, [], ◌∷◌, ◌++◌, Option, Some, None, refl, sym, ◌∙◌, ap, arith, length, get_or, set, get_or-set_same, get_or-set_other}
 use Rattle.std.proofs.Math.Nat.{le-max_left, le-max_right, max-le}
 use Rattle.std.proofs.lemmas.List.{get_or_default}
 use Rattle.cweb_files.specs.declared.place.Place.{Place}
@@ -64,11 +64,13 @@ module _ {R : Type 0} (left left' : R → List ℕ) (same : left' ≡ left) (tex
 
   pub top_taken : (place : Place) → TakesLine (lines_at left slot) (Some place) bytes (lines_at left' slot') before after
       → TakesTop (things_to left depth texts) depth (Some place) bytes (things_to left' depth (set texts (depth - 1) slot')) before after
-  top_taken place takes = (takes.0,
-      with_lines (takes.0.line ∷ lines_at left' slot') takes.1
-      ∙ ap (λ l. raw_at (suc (depth - 1)) takes.0.line ∷ raws (suc (depth - 1)) true (lines_at left' slot') ++ things_to l (depth - 1) texts) (sym same)
-      ∙ ap (λ (ts : List Thing). raw_at (suc (depth - 1)) takes.0.line ∷ ts) (sym (things_to-top left' texts (depth - 1) slot' within))
-      ∙ ap (λ n. raw_at n takes.0.line ∷ things_to left' n (set texts (depth - 1) slot')) (sym deep))
+  top_taken place takes = (
+    takes.0,
+    with_lines (takes.0.line ∷ lines_at left' slot') takes.1
+        ∙ ap (λ l. raw_at (suc (depth - 1)) takes.0.line ∷ raws (suc (depth - 1)) true (lines_at left' slot') ++ things_to l (depth - 1) texts) (sym same)
+        ∙ ap (λ (ts : List Thing). raw_at (suc (depth - 1)) takes.0.line ∷ ts) (sym (things_to-top left' texts (depth - 1) slot' within))
+        ∙ ap (λ n. raw_at n takes.0.line ∷ things_to left' n (set texts (depth - 1) slot')) (sym deep),
+  )
 
   pub top_closed : (texts' : List (Option (OpenText R))) → texts' ≡ set texts (depth - 1) None → TakesLine (lines_at left slot) None bytes (lines_at left' slot') before after
       → TakesTop (things_to left depth texts) depth None bytes (things_to left' (depth - 1) texts') before after
@@ -83,7 +85,7 @@ module _ {R : Type 0} (left left' : R → List ℕ) (same : left' ≡ left) (tex
     line = stops.line;
     rest = raws (suc (depth - 1)) true stops.rest ++ things_to left (depth - 1) texts;
     first = with_lines (stops.line ∷ stops.rest) stops.first
-      ∙ ap (λ n. raw_at n stops.line ∷ raws (suc (depth - 1)) true stops.rest ++ things_to left (depth - 1) texts) (sym deep);
+        ∙ ap (λ n. raw_at n stops.line ∷ raws (suc (depth - 1)) true stops.rest ++ things_to left (depth - 1) texts) (sym deep);
     why = stops.why;
   }
 

@@ -1,9 +1,9 @@
 -- The entries of a change file: the code lines @x, @y and @z, and the old and new lines between them.
 use Rattle.std.specs.Prelude.{ℕ, Bool, true, false, ◌||◌, ◌==◌, List, [], ◌∷◌, Option, None, Some, if◌then◌else◌}
 use Rattle.cweb_files.specs.declared.place.Place.{Place}
-use Rattle.cweb_lines.specs.Lines.{Line, SourceLine}
+use Rattle.cweb_lines.specs.Lines.{SourceLine}
 use Rattle.cweb_lines.specs.declared.fault.SourceKind.{SourceKind}
-use Rattle.cweb_lines.specs.declared.fault.SourceKind.TheVariants.{MissingX, NoOldLines, WantsY, EndedBeforeY}
+use Rattle.cweb_lines.specs.declared.fault.SourceKind.TheVariants.{MissingX, NoOldLines, WantsY}
 use Rattle.cweb_lines.specs.declared.fault.SourceFault.{SourceFault}
 
 -- the codes, by the part of an entry that each begins or ends
@@ -80,13 +80,21 @@ pub record OldSide : Type 0 where
 
 abbrev pub old_line : SourceLine → OldSide → OldSide
 old_line line side = record {
-  faults = side.faults; lines = line.line.bytes ∷ side.lines; taken = line ∷ side.taken; ended = side.ended; rest = side.rest
+  faults = side.faults;
+  lines = line.line.bytes ∷ side.lines;
+  taken = line ∷ side.taken;
+  ended = side.ended;
+  rest = side.rest;
 }
 
 -- an @x or @z among the old lines is a fault, and skipped
 abbrev pub old_code : SourceLine → OldSide → OldSide
 old_code line side = record {
-  faults = at_place WantsY line.line.place ∷ side.faults; lines = side.lines; taken = line ∷ side.taken; ended = side.ended; rest = side.rest
+  faults = at_place WantsY line.line.place ∷ side.faults;
+  lines = side.lines;
+  taken = line ∷ side.taken;
+  ended = side.ended;
+  rest = side.rest;
 }
 
 abbrev pub old_at : Option Code → SourceLine → List SourceLine → OldSide → OldSide

@@ -12,3 +12,4 @@ pub mod Texts
 pub mod Told
 pub mod Total
 pub mod Whole
+pub mod Writing

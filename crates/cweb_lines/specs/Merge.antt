@@ -1,5 +1,5 @@
 -- The merged lines of a web: one list of things still to come, of which the first decides what happens.
-use Rattle.std.specs.Prelude.{◌≡◌, ℕ, zero, suc, ◌+◌, Bool, true, false, ◌&&◌, nat_lt, List, [], ◌∷◌, ◌++◌, map, Option, None, Some, if◌then◌else◌}
+use Rattle.std.specs.Prelude.{ℕ, zero, suc, ◌+◌, Bool, true, false, ◌&&◌, nat_lt, List, [], ◌∷◌, ◌++◌, map, Option, None, Some, if◌then◌else◌}
 use Rattle.std.specs.Str.{bytes_eq}
 use Rattle.cweb_files.specs.declared.place.Place.{Place}
 use Rattle.cweb_lines.specs.Lines.{Line, SourceLine, lines_in}
@@ -73,7 +73,10 @@ pub record Compared : Type 0 where
 
 abbrev pub one_more : Bool → SourceLine → Compared → Compared
 one_more equal line by = record {
-  unequal = if equal then by.unequal else by.unequal + 1; taken = line ∷ by.taken; ran_out = by.ran_out; rest = by.rest
+  unequal = if equal then by.unequal else by.unequal + 1;
+  taken = line ∷ by.taken;
+  ran_out = by.ran_out;
+  rest = by.rest;
 }
 
 -- each further old line takes the next raw line, whatever that holds
@@ -119,10 +122,15 @@ past s things = record { things = things; pending = s.pending; change = s.change
 -- an include line whose text was sought: the lines of the text come in front, one deeper, and may match where the include line may
 abbrev pub obeyed : Option Found → State → RawLine → List Thing → Next
 obeyed None s r things = (fault (at_place NotThere r.source.line.place) ∷ [], past s things)
-obeyed (Some found) s r things = (opening found.0 ∷ [], record {
-  things = raws (r.depth + 1) r.may_match (lines_in s.files found.1) ++ things;
-  pending = s.pending; change = s.change; files = s.files + 1
-})
+obeyed (Some found) s r things = (
+  opening found.0 ∷ [],
+  record {
+    things = raws (r.depth + 1) r.may_match (lines_in s.files found.1) ++ things;
+    pending = s.pending;
+    change = s.change;
+    files = s.files + 1;
+  },
+)
 
 abbrev pub opened : Bool → World → List ℕ → State → RawLine → List Thing → Next
 opened false world name s r things = (fault (at_place TooDeep r.source.line.place) ∷ [], past s things)

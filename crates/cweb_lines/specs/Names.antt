@@ -1,5 +1,5 @@
 -- What callers see of the names of opened files.
-use Rattle.std.specs.Prelude.{ℕ, List, map, String, string_bytes}
+use Rattle.std.specs.Prelude.{ℕ, List, map, string_bytes}
 use Rattle.cweb_lines.specs.declared.names.FileNames.{FileNames}
 
 abbrev pub names_of : FileNames → List (List ℕ)

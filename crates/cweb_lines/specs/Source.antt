@@ -1,5 +1,5 @@
 -- What an open text has left, and what a line takes of it.
-use Rattle.std.specs.Prelude.{◌≡◌, ◌≢◌, ℕ, ◌+◌, ◌<◌, List, [], ◌∷◌, ◌++◌, length, slice_range, Bool, true, false, Option, None, Some, Result, Ok, Err}
+use Rattle.std.specs.Prelude.{◌≡◌, ℕ, ◌+◌, ◌<◌, List, [], ◌∷◌, ◌++◌, length, slice_range, Bool, true, false, Option, None, Some, Result, Ok, Err}
 use Rattle.cweb_lines.specs.Lines.{HasNoNewline}
 use Rattle.cweb_lines.specs.declared.source.Source.{Source}
 use Rattle.cweb_lines.specs.declared.source.LineFault.{LineFault}

@@ -1,9 +1,9 @@
 -- What open texts have still to come, and what taking a line does to them.
-use Rattle.std.specs.Prelude.{◌≡◌, ℕ, zero, suc, ◌+◌, ◌≤◌, ◌<◌, ◌⊎◌, max, Bool, true, List, [], ◌∷◌, ◌++◌, Option, None, Some, Result, Ok, Err, slice_index_or}
+use Rattle.std.specs.Prelude.{◌≡◌, ℕ, zero, suc, ◌+◌, ◌≤◌, ◌<◌, ◌⊎◌, max, true, List, [], ◌∷◌, ◌++◌, Option, None, Some, Result, Ok, Err, slice_index_or}
 use Rattle.cweb_files.specs.declared.place.FileId.{FileId}
 use Rattle.cweb_files.specs.declared.place.Place.{Place}
 use Rattle.cweb_lines.specs.Lines.{SourceLine, numbered, text_lines}
-use Rattle.cweb_lines.specs.Merge.{RawLine, Thing, raw, raws}
+use Rattle.cweb_lines.specs.Merge.{Thing, raw, raws}
 use Rattle.cweb_lines.specs.Source.{pending}
 use Rattle.cweb_lines.specs.declared.limits.TheConstants.{LINE_LENGTH, LINES, BYTES}
 use Rattle.cweb_lines.specs.declared.source.LineFault.{LineFault}

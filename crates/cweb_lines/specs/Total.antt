@@ -1,5 +1,5 @@
 -- Every web has its merged lines, and has them once: the steps of the merge end, for every shelf, web and change file.
-use Rattle.std.proofs.Common.{◌≡◌, ◌≤◌, ◌<◌, ◌+◌, ◌-◌, ℕ, zero, suc, Bool, true, false, List, [], ◌∷◌, ◌++◌, Option, Some, None, refl, sym, ◌∙◌, ap, length, arith, ◌&&◌}
+use Rattle.std.proofs.Common.{◌≡◌, ◌≤◌, ◌<◌, ◌+◌, ℕ, zero, suc, Bool, true, false, List, [], ◌∷◌, ◌++◌, Option, Some, None, refl, sym, ◌∙◌, ap, length, arith, ◌&&◌}
 use Rattle.std.specs.Prelude.{nat_lt}
 use Rattle.std.specs.Str.{bytes_eq}
 use Rattle.std.proofs.lemmas.Bool.Decides.{nat_tests}
@@ -144,7 +144,7 @@ module _ (world : World) (most : ℕ) (fewer : (things : List Thing) (change : L
   unfolding left_by
   thing_good seek rest good pending change files within =
       halts_next world (record { things = seek ∷ rest; pending = pending; change = change; files = files }) _ refl
-        (good (sought change None).entry (sought change None).rest files (omega (arith, sought_less change None)))
+      (good (sought change None).entry (sought change None).rest files (omega (arith, sought_less change None)))
   thing_good (raw r) rest good pending change files within = raw_good 11 r rest (omega arith) good pending change files within
   thing_good (told f) rest good pending change files within =
       halts_next world (record { things = told f ∷ rest; pending = pending; change = change; files = files }) _ refl (good pending change files within)

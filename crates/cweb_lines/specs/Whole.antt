@@ -1,8 +1,7 @@
 -- What callers see of a merger.
-use Rattle.std.specs.Prelude.{◌≡◌, ◌<◌, ℕ, List, [], ◌∷◌, Option, None, Some}
+use Rattle.std.specs.Prelude.{◌≡◌, ℕ, List, [], ◌∷◌, Option, None, Some}
 use Rattle.cweb_files.specs.declared.place.Place.{Place}
 use Rattle.cweb_lines.specs.Include.{World, Found}
-use Rattle.cweb_lines.specs.Lines.{Line}
 use Rattle.cweb_lines.specs.Merge.{Event, started}
 use Rattle.cweb_lines.specs.Merging.{SoFar, Gives, told_by, coming}
 use Rattle.cweb_lines.specs.Total.{merge}

@@ -37,7 +37,12 @@ fn in_folder(alloc: Global, folder: &str, name: &str) -> Result<String, AllocErr
 }
 
 /// The text that an include line names: as it is named, else in the folder.
-pub fn find<S: Shelf>(alloc: Global, shelf: &mut S, inputs: &Option<String>, name: &[u8]) -> Result<Option<Opening<S::R>>, AllocError>
+pub fn find<S: Shelf>(
+    alloc: Global,
+    shelf: &mut S,
+    inputs: &Option<String>,
+    name: &[u8],
+) -> Result<Option<Opening<S::R>>, AllocError>
     ensures tells { S.tells shelf.new ≡ S.tells shelf.old }
     ensures failed { S.failed shelf.new ≡ S.failed shelf.old }
     ensures texts { IsTrue (S.tells shelf.old) → S.texts shelf.new ≡ S.texts shelf.old }
@@ -57,7 +62,12 @@ pub fn find<S: Shelf>(alloc: Global, shelf: &mut S, inputs: &Option<String>, nam
 }
 
 /// The web, under its name, else under the second.
-pub fn find_web<S: Shelf>(alloc: Global, shelf: &mut S, web: &str, second: Option<&str>) -> Result<Option<Opening<S::R>>, AllocError>
+pub fn find_web<S: Shelf>(
+    alloc: Global,
+    shelf: &mut S,
+    web: &str,
+    second: Option<&str>,
+) -> Result<Option<Opening<S::R>>, AllocError>
     ensures tells { S.tells shelf.new ≡ S.tells shelf.old }
     ensures failed { S.failed shelf.new ≡ S.failed shelf.old }
     ensures texts { IsTrue (S.tells shelf.old) → S.texts shelf.new ≡ S.texts shelf.old }

@@ -18,7 +18,11 @@ fn is_space(b: u8) -> bool
 fn ends_name(quoted: bool, b: u8) -> bool
     ensures { result ≡ ends quoted b }
 {
-    if quoted { b == b'"' } else { is_space(b) || b == b'"' }
+    if quoted {
+        b == b'"'
+    } else {
+        is_space(b) || b == b'"'
+    }
 }
 
 fn up_to(quoted: bool, bytes: &[u8]) -> &[u8]

@@ -5,5 +5,4 @@ ghost use Rattle.cweb_lines.specs.Total.{HasOneAnswer};
 /// however many steps are allowed, those that are enough give the same.
 pub fn merge_has_one_answer()
     ensures { HasOneAnswer }
-{
-}
+{}

@@ -6,8 +6,8 @@ mod finding;
 mod include;
 mod laws;
 mod limits;
-mod names;
 mod merger;
+mod names;
 mod reading;
 mod run;
 mod source;
@@ -16,11 +16,15 @@ mod stop;
 mod taking;
 mod text;
 mod turning;
+mod writing;
 
-pub use cweb_files::{FileId, MemoryReader, MemoryShelf, MemorySink, Place, Shelf, ShelfFault, Sink, SinkFault};
+pub use cweb_files::{
+    FileId, MemoryReader, MemoryShelf, MemorySink, Place, Shelf, ShelfFault, Sink, SinkFault,
+};
 pub use fault::{SourceFault, SourceKind};
 pub use laws::merge_has_one_answer;
 pub use limits::{BYTES, LINE_LENGTH, LINES};
 pub use merger::Merger;
 pub use names::FileNames;
 pub use stop::Stop;
+pub use writing::{write_all, write_merged, write_merged_in_pieces};

@@ -42,7 +42,14 @@ impl<S: Shelf> Merger<S> {
 
     /// Opens the web under its name, or under the second where the first isn't there, and reads nothing. Included files
     /// are sought as they are named and then in the folder `inputs`.
-    pub fn start(alloc: Global, shelf: &mut S, web: &str, second: Option<&str>, change: Option<&str>, inputs: Option<&str>) -> Result<Self, Stop>
+    pub fn start(
+        alloc: Global,
+        shelf: &mut S,
+        web: &str,
+        second: Option<&str>,
+        change: Option<&str>,
+        inputs: Option<&str>,
+    ) -> Result<Self, Stop>
         requires { IsNone change }
         ensures tells { S.tells shelf.new ≡ S.tells shelf.old }
         ensures failed { S.failed shelf.new ≡ S.failed shelf.old }
@@ -149,8 +156,24 @@ impl<S: Shelf> Merger<S> {
         &self.run.names
     }
 
-    /// The allocator that the merger keeps.
-    pub fn alloc(&self) -> Global {
+    /// The stop that each further call answers.
+    pub fn stopped(&self) -> Option<Stop>
+        ensures { result ≡ stop_in self.now }
+    {
+        self.run.stopped
+    }
+
+    pub(crate) fn alloc(&self) -> Global {
         self.run.alloc
+    }
+
+    // Memory was refused to a caller that has taken a line.
+    pub(crate) fn halt(&mut self) -> Stop
+        ensures stop { result ≡ Stop.Memory }
+        ensures kept { stop_in self.new ≡ Some Stop.Memory }
+        ensures so_far { so_far self.new ≡ so_far self.old }
+    {
+        self.run.stopped = Some(Stop::Memory);
+        Stop::Memory
     }
 }

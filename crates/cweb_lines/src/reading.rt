@@ -5,8 +5,8 @@ ghost use Rattle.cweb_lines.specs.Source.{left_of, pending, Takes, IsLongerThan,
 
 use crate::limits::LINE_LENGTH;
 use crate::source::{LineFault, Source, Taken};
-use memchr::memchr;
 use cweb_files::Shelf;
+use memchr::memchr;
 
 fn newline_at(bytes: &[u8]) -> Option<usize>
     ensures { IsNewlineAt bytes.now result }
@@ -78,7 +78,11 @@ fn refill<S: Shelf>(shelf: &mut S, source: &mut Source<S::R>) -> Result<(), Line
 }
 
 /// Takes the next line, without its newline.
-pub fn next_line<S: Shelf>(shelf: &mut S, source: &mut Source<S::R>, line: &mut Vec<u8>) -> Result<Taken, LineFault>
+pub fn next_line<S: Shelf>(
+    shelf: &mut S,
+    source: &mut Source<S::R>,
+    line: &mut Vec<u8>,
+) -> Result<Taken, LineFault>
     requires { S.failed shelf.old + 1 < 2 ^ 64 }
     ensures tells { S.tells shelf.new ≡ S.tells shelf.old }
     ensures failed { Blames (S.failed shelf.old) (S.failed shelf.new) result }
@@ -92,7 +96,11 @@ pub fn next_line<S: Shelf>(shelf: &mut S, source: &mut Source<S::R>, line: &mut 
     'pieces: loop {
         refill(shelf, source)?;
         if source.start == source.end {
-            return Ok(if line.is_empty() { Taken::Ended } else { Taken::Last });
+            return Ok(if line.is_empty() {
+                Taken::Ended
+            } else {
+                Taken::Last
+            });
         }
         if take_pending(source, line)? {
             return Ok(Taken::Full);

@@ -24,7 +24,18 @@ impl<R: Drop> Stack<R> {
         ensures texts { result.texts ≡ Some text ∷ None ∷ None ∷ None ∷ None ∷ None ∷ None ∷ None ∷ None ∷ None ∷ [] }
     {
         Stack {
-            texts: [Some(text), None, None, None, None, None, None, None, None, None],
+            texts: [
+                Some(text),
+                None,
+                None,
+                None,
+                None,
+                None,
+                None,
+                None,
+                None,
+                None,
+            ],
             depth: 1,
         }
     }
@@ -41,7 +52,12 @@ impl<R: Drop> Stack<R> {
 }
 
 /// Takes a line of the deepest text, or closes it where it has no more.
-pub fn take_top<S: Shelf>(shelf: &mut S, stack: &mut Stack<S::R>, limits: &mut Limits, line: &mut Vec<u8>) -> Result<Option<Place>, Stop>
+pub fn take_top<S: Shelf>(
+    shelf: &mut S,
+    stack: &mut Stack<S::R>,
+    limits: &mut Limits,
+    line: &mut Vec<u8>,
+) -> Result<Option<Place>, Stop>
     requires count { S.failed shelf.old + 1 < 2 ^ 64 }
     requires some { 0 < stack.old.depth }
     requires shallow { stack.old.depth ≤ 10 }

@@ -48,7 +48,12 @@ fn newline_size(taken: Taken) -> usize
     }
 }
 
-fn take_line<S: Shelf>(shelf: &mut S, text: &mut OpenText<S::R>, limits: &mut Limits, line: &mut Vec<u8>) -> Result<Option<Place>, Stop>
+fn take_line<S: Shelf>(
+    shelf: &mut S,
+    text: &mut OpenText<S::R>,
+    limits: &mut Limits,
+    line: &mut Vec<u8>,
+) -> Result<Option<Place>, Stop>
     requires count { S.failed shelf.old + 1 < 2 ^ 64 }
     requires number { text.old.line ≤ limits.old.lines }
     ensures tells { S.tells shelf.new ≡ S.tells shelf.old }
@@ -84,7 +89,12 @@ fn take_line<S: Shelf>(shelf: &mut S, text: &mut OpenText<S::R>, limits: &mut Li
 }
 
 // Takes a line of a text, where one is open.
-pub fn take_from<S: Shelf>(shelf: &mut S, slot: &mut Option<OpenText<S::R>>, limits: &mut Limits, line: &mut Vec<u8>) -> Result<Option<Place>, Stop>
+pub fn take_from<S: Shelf>(
+    shelf: &mut S,
+    slot: &mut Option<OpenText<S::R>>,
+    limits: &mut Limits,
+    line: &mut Vec<u8>,
+) -> Result<Option<Place>, Stop>
     requires count { S.failed shelf.old + 1 < 2 ^ 64 }
     requires number { number_of line_number slot.old ≤ limits.old.lines }
     ensures tells { S.tells shelf.new ≡ S.tells shelf.old }

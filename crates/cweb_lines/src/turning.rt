@@ -117,7 +117,11 @@ fn obey<S: Shelf>(shelf: &mut S, run: &mut Run<S::R>, line: &[u8], place: Place)
 }
 
 /// A line is given out, an include line is obeyed, a text ends, or nothing is left.
-pub fn take_turn<S: Shelf>(shelf: &mut S, run: &mut Run<S::R>, line: &mut Vec<u8>) -> Result<Turn, Stop>
+pub fn take_turn<S: Shelf>(
+    shelf: &mut S,
+    run: &mut Run<S::R>,
+    line: &mut Vec<u8>,
+) -> Result<Turn, Stop>
     requires count { S.failed shelf.old + 1 < 2 ^ 64 }
     ensures tells { S.tells shelf.new ≡ S.tells shelf.old }
     ensures failed { ReadBlames (S.failed shelf.old) (S.failed shelf.new) result }

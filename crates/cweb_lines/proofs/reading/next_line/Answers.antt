@@ -1,11 +1,9 @@
-use Rattle.std.proofs.Common.{◌≡◌, ◌≤◌, ◌<◌, ◌++◌, ◌∷◌, [], ℕ, List, length, Bool, true, false, sym, ◌∙◌, ap, subst, arith, rules, refl, Err}
+use Rattle.std.proofs.Common.{◌≡◌, ◌++◌, [], ℕ, List, sym, ◌∙◌, ap, subst, rules, refl, Err}
 use Rattle.std.specs.Prelude.{IsTrue}
 use Rattle.std.proofs.lemmas.List.{append_assoc}
 use Rattle.std.proofs.lemmas.Result.{err_from_is_err_and}
-use Rattle.cweb_lines.specs.Lines.{HasNoNewline}
-use Rattle.cweb_lines.specs.Source.{left_of, pending, Takes, IsLongerThan, TakesOf}
+use Rattle.cweb_lines.specs.Source.{left_of, pending, IsLongerThan, TakesOf}
 use Rattle.cweb_lines.specs.declared.source.LineFault.TheVariants.{TooLong}
-use Rattle.cweb_lines.specs.declared.source.Taken.TheVariants.{Full}
 use Rattle.cweb_lines.specs.declared.limits.TheConstants.{LINE_LENGTH}
 use Rattle.cweb_lines.proofs.Newlines.{longer_more, taken_full, taken_more}
 use Rattle.cweb_lines.proofs.reading.next_line.Given as given
@@ -26,14 +24,14 @@ returns-in_err-take_pending-clause-too_long g c = λ tells is.
     let long = c.in_err-take_pending.ensures.too_long c.pieces.invariant.none (ap Err fault) in
     let rest = g.S.Shelf.left c.refill.new.shelf c.refill.new.source.reader in
     subst (λ (l : List ℕ). IsLongerThan LINE_LENGTH l)
-      (append_assoc c.pieces.line.items (pending c.refill.new.source) rest ∙ sym (so_far g (goal.at.returns-in_err-take_pending-clause-too_long g c).In_ok-refill tells))
-      (longer_more LINE_LENGTH (c.pieces.line.items ++ pending c.refill.new.source) rest long)
+    (append_assoc c.pieces.line.items (pending c.refill.new.source) rest ∙ sym (so_far g (goal.at.returns-in_err-take_pending-clause-too_long g c).In_ok-refill tells))
+    (longer_more LINE_LENGTH (c.pieces.line.items ++ pending c.refill.new.source) rest long)
 
 pub returns-then-branch-clause-taken : goal.returns-then-branch-clause-taken
 returns-then-branch-clause-taken g c = λ tells.
     let takes = subst (λ b. TakesOf (pending c.refill.new.source) c.pieces.line.items b c.take_pending.new.line.items (pending c.take_pending.new.source)) c.if-branch.true c.in_ok-take_pending.ensures.taken in
     rw c.in_ok-take_pending.ensures.reader (taken_full _ c.pieces.line.items (pending c.refill.new.source) (g.S.Shelf.left c.refill.new.shelf c.refill.new.source.reader) c.take_pending.new.line.items (pending c.take_pending.new.source)
-      (so_far g (goal.at.returns-then-branch-clause-taken g c).In_ok-refill tells) c.pieces.invariant.none takes)
+    (so_far g (goal.at.returns-then-branch-clause-taken g c).In_ok-refill tells) c.pieces.invariant.none takes)
 
 pub pieces-preserved : goal.pieces-preserved
 pieces-preserved g c =
@@ -44,7 +42,7 @@ pieces-preserved g c =
       texts = search rules;
       others = search rules;
       bytes = λ tells. rw c.in_ok-take_pending.ensures.reader ((taken_more _ c.pieces.line.items (pending c.refill.new.source) (g.S.Shelf.left c.refill.new.shelf c.refill.new.source.reader) c.take_pending.new.line.items (pending c.take_pending.new.source)
-        (so_far g (goal.at.pieces-preserved g c).In_ok-refill tells) c.pieces.invariant.none takes).0);
+          (so_far g (goal.at.pieces-preserved g c).In_ok-refill tells) c.pieces.invariant.none takes).0);
       none = (taken_more _ c.pieces.line.items (pending c.refill.new.source) [] c.take_pending.new.line.items (pending c.take_pending.new.source) refl c.pieces.invariant.none takes).1;
       within = c.in_ok-take_pending.ensures.within;
     }

@@ -1,9 +1,8 @@
-use Rattle.std.proofs.Common.{◌≡◌, ◌≤◌, ◌<◌, ◌+◌, ◌-◌, ◌++◌, ◌∷◌, [], ℕ, List, length, take, drop, sym, ◌∙◌, ap, subst, arith, take-append-drop, Err}
+use Rattle.std.proofs.Common.{◌≡◌, ◌++◌, [], ℕ, List, take, drop, ◌∙◌, ap, subst, take-append-drop, Err}
 use Rattle.std.proofs.lemmas.List.{append-nil}
 use Rattle.std.proofs.lemmas.Result.{err_from_is_err_and}
 use Rattle.std.specs.Prelude.{slice_range}
-use Rattle.cweb_lines.specs.Lines.{HasNoNewline, IsNewlineAt}
-use Rattle.cweb_lines.specs.Source.{left_of, pending, Takes, IsLongerThan, Blames, TakesOf}
+use Rattle.cweb_lines.specs.Source.{IsLongerThan}
 use Rattle.cweb_lines.specs.declared.source.LineFault.TheVariants.{TooLong}
 use Rattle.cweb_lines.specs.declared.limits.TheConstants.{LINE_LENGTH}
 use Rattle.cweb_lines.proofs.Newlines.{longer, behind}
@@ -17,8 +16,8 @@ returns-in_err-extend-in-Some-clause-too_long g c = λ none is.
     let more = c.in_err-extend-in-Some.ensures.too_long (ap Err fault) in
     let bytes = slice_range c.deref.result.now c.args.source.now.start c.args.source.now.end in
     subst (λ (l : List ℕ). IsLongerThan LINE_LENGTH (c.args.line.now.items ++ l))
-      (take-append-drop c.in-Some.at bytes ∙ ap (λ (l : List ℕ). slice_range l c.args.source.now.start c.args.source.now.end) c.deref.ensures.value)
-      (longer LINE_LENGTH c.args.line.now.items (take c.in-Some.at bytes) (drop c.in-Some.at bytes) none c.in-Some.ensures.before more)
+    (take-append-drop c.in-Some.at bytes ∙ ap (λ (l : List ℕ). slice_range l c.args.source.now.start c.args.source.now.end) c.deref.ensures.value)
+    (longer LINE_LENGTH c.args.line.now.items (take c.in-Some.at bytes) (drop c.in-Some.at bytes) none c.in-Some.ensures.before more)
 
 pub returns-in_err-extend-in-None-clause-too_long :
     goal.returns-in_err-extend-in-None-clause-too_long
@@ -28,12 +27,14 @@ returns-in_err-extend-in-None-clause-too_long g c = λ none is.
     let more = c.in_err-extend-in-None.ensures.too_long (ap Err fault) in
     let bytes = slice_range c.deref.result.now c.args.source.now.start c.args.source.now.end in
     subst (λ (l : List ℕ). IsLongerThan LINE_LENGTH (c.args.line.now.items ++ l))
-      (append-nil bytes ∙ ap (λ (l : List ℕ). slice_range l c.args.source.now.start c.args.source.now.end) c.deref.ensures.value)
-      (longer LINE_LENGTH c.args.line.now.items bytes [] none c.in-None.ensures more)
+    (append-nil bytes ∙ ap (λ (l : List ℕ). slice_range l c.args.source.now.start c.args.source.now.end) c.deref.ensures.value)
+    (longer LINE_LENGTH c.args.line.now.items bytes [] none c.in-None.ensures more)
 
 pub returns-in_ok-extend-in-Some-clause-taken : goal.returns-in_ok-extend-in-Some-clause-taken
 returns-in_ok-extend-in-Some-clause-taken g c =
-    let bytes = slice_range c.deref.result.now c.args.source.now.start c.args.source.now.end in
-    (take c.in-Some.at bytes, c.in-Some.ensures.before,
+    let bytes = slice_range c.deref.result.now c.args.source.now.start c.args.source.now.end in (
+      take c.in-Some.at bytes,
+      c.in-Some.ensures.before,
       rw (← c.deref.ensures.value) (behind c.deref.result.now c.args.source.now.start c.args.source.now.end c.in-Some.at c.in-Some.ensures c.args.source.now.ordered),
-      c.in_ok-extend-in-Some.ensures.ok)
+      c.in_ok-extend-in-Some.ensures.ok,
+    )

@@ -1,7 +1,7 @@
-use Rattle.std.proofs.Common.{◌≡◌, ◌≤◌, ◌<◌, ◌+◌, ◌-◌, length, ap, sym, refl, arith, set, None, Some}
+use Rattle.std.proofs.Common.{◌<◌, ◌-◌, length, refl, arith, set, None}
 use Rattle.std.proofs.lemmas.List.{set-set}
 use Rattle.cweb_lines.specs.Counts.{count_of}
-use Rattle.cweb_lines.specs.Texts.{line_number, files_up_to, most, number_of}
+use Rattle.cweb_lines.specs.Texts.{line_number, files_up_to, most}
 use Rattle.cweb_lines.proofs.Stacks.{most_read, most_set, top_taken, top_closed, top_stops, stops_map}
 use Rattle.cweb_lines.proofs.stack.take_top.Goals as goal
 
@@ -15,20 +15,20 @@ returns-in-Err-clause-stops g c = λ tells.
     let some : 0 < c.args.stack.now.depth = omega arith in
     let within : c.args.stack.now.depth - 1 < length c.args.stack.now.texts = omega arith in
     stops_map c.in-Err.stop
-      (λ first. top_stops (g.S.Shelf.left c.args.shelf.now) (g.S.Shelf.left c.args.shelf.now) refl c.args.stack.now.texts c.index-stack-top.result c.take_from.new.slot c.args.stack.now.depth
-        some within (count_of c.args.limits.now) (count_of c.take_from.new.limits) c.take_from.new.line.items c.in-Err.stop first)
-      (c.in-Err.ensures.stops tells)
+    (λ first. top_stops (g.S.Shelf.left c.args.shelf.now) (g.S.Shelf.left c.args.shelf.now) refl c.args.stack.now.texts c.index-stack-top.result c.take_from.new.slot c.args.stack.now.depth
+    some within (count_of c.args.limits.now) (count_of c.take_from.new.limits) c.take_from.new.line.items c.in-Err.stop first)
+    (c.in-Err.ensures.stops tells)
 
 pub returns-in-Err-clause-numbers : goal.returns-in-Err-clause-numbers
 returns-in-Err-clause-numbers g c =
     most_set line_number c.args.stack.now.texts (c.args.stack.now.depth - 1) c.take_from.new.slot c.take_from.new.limits.lines
-      (omega (arith, c.requires.numbers, c.in-Err.ensures.counted.0)) c.in-Err.ensures.number
+    (omega (arith, c.requires.numbers, c.in-Err.ensures.counted.0)) c.in-Err.ensures.number
 
 pub returns-in-Err-clause-files : goal.returns-in-Err-clause-files
 returns-in-Err-clause-files g c =
     let within : c.args.stack.now.depth - 1 < length c.args.stack.now.texts = omega arith in
     most_set files_up_to c.args.stack.now.texts (c.args.stack.now.depth - 1) c.take_from.new.slot (most files_up_to c.args.stack.now.texts)
-      (omega arith) (omega (arith, c.in-Err.ensures.file, most_read files_up_to c.args.stack.now.texts (c.args.stack.now.depth - 1) c.index-stack-top.result within))
+    (omega arith) (omega (arith, c.in-Err.ensures.file, most_read files_up_to c.args.stack.now.texts (c.args.stack.now.depth - 1) c.index-stack-top.result within))
 
 pub returns-in-Err-clause-known : goal.returns-in-Err-clause-known
 returns-in-Err-clause-known g c =
@@ -40,28 +40,28 @@ returns-in_default-clause-taken g c = λ tells.
     let some : 0 < c.args.stack.now.depth = omega arith in
     let within : c.args.stack.now.depth - 1 < length c.args.stack.now.texts = omega arith in
     top_closed (g.S.Shelf.left c.args.shelf.now) (g.S.Shelf.left c.take_from.new.shelf) (c.in-Ok.ensures.others tells) c.args.stack.now.texts c.index-stack-top.result c.take_from.new.slot c.args.stack.now.depth
-      some within (count_of c.args.limits.now) (count_of c.take_from.new.limits) c.take_from.new.line.items _ (set-set c.args.stack.now.texts (c.args.stack.now.depth - 1) c.take_from.new.slot None)
-      (rw c.in_default.is at (c.in-Ok.ensures.taken tells))
+    some within (count_of c.args.limits.now) (count_of c.take_from.new.limits) c.take_from.new.line.items _ (set-set c.args.stack.now.texts (c.args.stack.now.depth - 1) c.take_from.new.slot None)
+    (rw c.in_default.is at (c.in-Ok.ensures.taken tells))
 
 pub returns-in_default-clause-numbers : goal.returns-in_default-clause-numbers
 returns-in_default-clause-numbers g c =
     let counted = rw c.in_default.is at c.in-Ok.ensures.counted in
     most_set line_number (set c.args.stack.now.texts (c.args.stack.now.depth - 1) c.take_from.new.slot) (c.args.stack.now.depth - 1) None c.take_from.new.limits.lines
-      (most_set line_number c.args.stack.now.texts (c.args.stack.now.depth - 1) c.take_from.new.slot c.take_from.new.limits.lines (omega (arith, c.requires.numbers, counted.0)) c.in-Ok.ensures.number) (omega arith)
+    (most_set line_number c.args.stack.now.texts (c.args.stack.now.depth - 1) c.take_from.new.slot c.take_from.new.limits.lines (omega (arith, c.requires.numbers, counted.0)) c.in-Ok.ensures.number) (omega arith)
 
 pub returns-in_default-clause-files : goal.returns-in_default-clause-files
 returns-in_default-clause-files g c =
     let within : c.args.stack.now.depth - 1 < length c.args.stack.now.texts = omega arith in
     most_set files_up_to (set c.args.stack.now.texts (c.args.stack.now.depth - 1) c.take_from.new.slot) (c.args.stack.now.depth - 1) None (most files_up_to c.args.stack.now.texts)
-      (most_set files_up_to c.args.stack.now.texts (c.args.stack.now.depth - 1) c.take_from.new.slot (most files_up_to c.args.stack.now.texts)
-        (omega arith) (omega (arith, c.in-Ok.ensures.file, most_read files_up_to c.args.stack.now.texts (c.args.stack.now.depth - 1) c.index-stack-top.result within))) (omega arith)
+    (most_set files_up_to c.args.stack.now.texts (c.args.stack.now.depth - 1) c.take_from.new.slot (most files_up_to c.args.stack.now.texts)
+    (omega arith) (omega (arith, c.in-Ok.ensures.file, most_read files_up_to c.args.stack.now.texts (c.args.stack.now.depth - 1) c.index-stack-top.result within))) (omega arith)
 
 pub returns-clause-taken : goal.returns-clause-taken
 returns-clause-taken g c = λ tells.
     let some : 0 < c.args.stack.now.depth = omega arith in
     let within : c.args.stack.now.depth - 1 < length c.args.stack.now.texts = omega arith in
     top_taken (g.S.Shelf.left c.args.shelf.now) (g.S.Shelf.left c.take_from.new.shelf) (c.in-Ok.ensures.others tells) c.args.stack.now.texts c.index-stack-top.result c.take_from.new.slot c.args.stack.now.depth
-      some within (count_of c.args.limits.now) (count_of c.take_from.new.limits) c.take_from.new.line.items c.in-Some.place (rw c.in-Some.is at (c.in-Ok.ensures.taken tells))
+    some within (count_of c.args.limits.now) (count_of c.take_from.new.limits) c.take_from.new.line.items c.in-Some.place (rw c.in-Some.is at (c.in-Ok.ensures.taken tells))
 
 pub returns-clause-numbers : goal.returns-clause-numbers
 returns-clause-numbers g c =
@@ -72,7 +72,7 @@ pub returns-clause-files : goal.returns-clause-files
 returns-clause-files g c =
     let within : c.args.stack.now.depth - 1 < length c.args.stack.now.texts = omega arith in
     most_set files_up_to c.args.stack.now.texts (c.args.stack.now.depth - 1) c.take_from.new.slot (most files_up_to c.args.stack.now.texts)
-      (omega arith) (omega (arith, c.in-Ok.ensures.file, most_read files_up_to c.args.stack.now.texts (c.args.stack.now.depth - 1) c.index-stack-top.result within))
+    (omega arith) (omega (arith, c.in-Ok.ensures.file, most_read files_up_to c.args.stack.now.texts (c.args.stack.now.depth - 1) c.index-stack-top.result within))
 
 pub returns-clause-known : goal.returns-clause-known
 returns-clause-known g c =

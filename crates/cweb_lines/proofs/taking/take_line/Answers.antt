@@ -1,8 +1,6 @@
-use Rattle.std.proofs.Common.{◌≡◌, ◌+◌, ◌<◌, ◌⊎◌, length, ap, sym, subst, Err, arith}
+use Rattle.std.proofs.Common.{◌+◌, ap, Err}
 use Rattle.cweb_lines.specs.Counts.{count_of}
 use Rattle.cweb_lines.specs.Source.{left_of}
-use Rattle.cweb_lines.specs.Texts.{newline_bytes}
-use Rattle.cweb_lines.specs.declared.limits.TheConstants.{LINES, BYTES}
 use Rattle.cweb_lines.proofs.Trims.{takes_first, line_stops, line_reads, first_passes}
 use Rattle.cweb_lines.proofs.taking.take_line.Goals as goal
 
@@ -16,12 +14,12 @@ returns-in-Err-clause-reading g c = line_reads c.in-Err.fault _ c.args.text.now.
 pub returns-in-Err-add-clause-stops : goal.returns-in-Err-add-clause-stops
 returns-in-Err-add-clause-stops g c = λ tells.
     first_passes c.in-Err-add.stop c.in-Ok.taken (left_of g.S.Shelf.left c.args.shelf.now c.args.text.now.source) (left_of g.S.Shelf.left c.next_line.new.shelf c.next_line.new.source) c.next_line.new.line.items
-      c.args.text.now.file.0 (c.args.text.now.line + 1) (count_of c.args.limits.now) c.in_default.not-Ended (c.in-Ok.ensures.taken tells) c.in-Err-add.ensures.stop
-      (rw (c.len.ensures, c.next_line.new.line.ok.0, c.newline_size.ensures.value) at c.in-Err-add.ensures.passed)
+    c.args.text.now.file.0 (c.args.text.now.line + 1) (count_of c.args.limits.now) c.in_default.not-Ended (c.in-Ok.ensures.taken tells) c.in-Err-add.ensures.stop
+    (rw (c.len.ensures, c.next_line.new.line.ok.0, c.newline_size.ensures.value) at c.in-Err-add.ensures.passed)
 
 pub returns-clause-taken : goal.returns-clause-taken
 returns-clause-taken g c = λ tells.
     takes_first c.trim.new.line.items c.next_line.new.line.items (left_of g.S.Shelf.left c.args.shelf.now c.args.text.now.source) (left_of g.S.Shelf.left c.next_line.new.shelf c.next_line.new.source)
-      c.args.text.now.file.0 (c.args.text.now.line + 1) c.in-Ok.taken (count_of c.args.limits.now) (count_of c.add.new.self)
-      c.in_default.not-Ended (c.in-Ok.ensures.taken tells) c.trim.ensures c.in-Ok.ensures.within c.in_default-add.ensures.lines
-      (rw (c.len.ensures, c.next_line.new.line.ok.0, c.newline_size.ensures.value) at c.in_default-add.ensures.bytes)
+    c.args.text.now.file.0 (c.args.text.now.line + 1) c.in-Ok.taken (count_of c.args.limits.now) (count_of c.add.new.self)
+    c.in_default.not-Ended (c.in-Ok.ensures.taken tells) c.trim.ensures c.in-Ok.ensures.within c.in_default-add.ensures.lines
+    (rw (c.len.ensures, c.next_line.new.line.ok.0, c.newline_size.ensures.value) at c.in_default-add.ensures.bytes)

@@ -1,4 +1,4 @@
-use Rattle.std.proofs.Common.{◌≡◌, ◌<◌, ◌-◌, ℕ, List, length, take, get_or, sym, ◌∙◌, ap, subst}
+use Rattle.std.proofs.Common.{◌-◌, take, sym, ◌∙◌, ap}
 use Rattle.cweb_lines.specs.Lines.{trimmed}
 use Rattle.cweb_lines.proofs.Trims.{trims_more, trims_all}
 use Rattle.cweb_lines.proofs.taking.trim.Goals as goal

@@ -1,21 +1,19 @@
-use Rattle.std.proofs.Common.{◌≡◌, ◌≤◌, ◌<◌, ◌+◌, ◌++◌, ◌∷◌, [], ℕ, List, length, Some, arith, ap, ◌∙◌, length-append, string_bytes}
-use Rattle.cweb_lines.specs.Lines.{lines_in}
-use Rattle.cweb_lines.specs.Merge.{raws}
+use Rattle.std.proofs.Common.{◌≡◌, ◌+◌, ◌∷◌, [], ℕ, List, length, arith, ap, ◌∙◌, length-append, string_bytes}
 use Rattle.cweb_lines.specs.Names.{names_of}
-use Rattle.cweb_lines.specs.Texts.{line_number, files_up_to, things_of, lines_left}
+use Rattle.cweb_lines.specs.Texts.{line_number, files_up_to}
 use Rattle.cweb_lines.proofs.Stacks.{most_set}
 use Rattle.cweb_lines.proofs.turning.open.Goals as goal
 
 pub invariant_of-run-2 : goal.invariant_of-run-2
 invariant_of-run-2 g c =
     let count : length (names_of c.push.new.self) ≡ length (names_of c.args.run.now.names) + 1 =
-      ap (λ (ns : List (List ℕ)). length ns) c.in_default.ensures.ok ∙ length-append (names_of c.args.run.now.names) (string_bytes c.args.opening.name ∷ []) in
+    ap (λ (ns : List (List ℕ)). length ns) c.in_default.ensures.ok ∙ length-append (names_of c.args.run.now.names) (string_bytes c.args.opening.name ∷ []) in
     record {
       shallow = omega (arith, c.push-2.ensures.depth, c.requires.room);
       numbers = rw c.push-2.ensures.texts (most_set line_number c.args.run.now.stack.texts c.args.run.now.stack.depth _ c.args.run.now.limits.lines c.args.run.now.numbers (omega arith));
       named = omega (arith, count, c.requires.names);
       open_known = rw c.push-2.ensures.texts (most_set files_up_to c.args.run.now.stack.texts c.args.run.now.stack.depth _ (length (names_of c.push.new.self))
-        (omega (arith, count, c.args.run.now.open_known)) (omega (arith, count, c.count.ensures)));
+          (omega (arith, count, c.args.run.now.open_known)) (omega (arith, count, c.count.ensures)));
       faults_known = omega (arith, count, c.args.run.now.faults_known);
       stop_known = omega (arith, count, c.args.run.now.stop_known);
     }

@@ -1,6 +1,3 @@
-use Rattle.std.proofs.Common.{◌≤◌, List, ap, subst, sym}
-use Rattle.cweb_lines.specs.Faults.{files_in}
-use Rattle.cweb_lines.specs.declared.fault.SourceFault.{SourceFault}
 use Rattle.cweb_lines.proofs.Runs.{files_in-push}
 use Rattle.cweb_lines.proofs.turning.tell.Goals as goal
 

@@ -1,5 +1,4 @@
-use Rattle.std.proofs.Common.{◌<◌, arith}
-use Rattle.cweb_lines.specs.Faults.{files_in}
+use Rattle.std.proofs.Common.{arith}
 use Rattle.cweb_lines.proofs.Runs.{files_in-at}
 use Rattle.cweb_lines.proofs.merger.Merger.faults.Goals as goal
 

@@ -1,9 +1,8 @@
-use Rattle.std.proofs.Common.{rules, ◌≡◌, ◌≤◌, ◌+◌, ◌∷◌, [], ℕ, List, None, refl, ap, sym, subst, ◌∙◌, arith}
+use Rattle.std.proofs.Common.{rules, ◌+◌, [], refl, ap, sym, subst, ◌∙◌, arith}
 use Rattle.std.specs.Prelude.{IsTrue}
 use Rattle.cweb_lines.specs.Counts.{count_of}
 use Rattle.cweb_lines.specs.Merging.{SoFar, told_by}
 use Rattle.cweb_lines.specs.Texts.{read_blame}
-use Rattle.cweb_lines.specs.declared.run.Run.{Run}
 use Rattle.cweb_lines.proofs.Merges.{gives_nothing, gives_both, stopped_after}
 use Rattle.cweb_lines.proofs.merger.Merger.next_line.Goals as goal
 
@@ -42,7 +41,7 @@ returns-in-Err-clause-blames g c = λ running. c.in-Err.ensures.failed ∙ ap (�
 pub returns-in-Err-clause-stops : goal.returns-in-Err-clause-stops
 returns-in-Err-clause-stops g c = λ tells running.
     stopped_after c.in-Err.stop (told_by c.args.self.now.run) (told_by c.turns.self.run) (count_of c.take_turn.new.run.limits) _ _ (c.turns.invariant.gives tells)
-      (c.in-Err.ensures.stops (subst IsTrue (sym c.turns.invariant.tells) tells))
+    (c.in-Err.ensures.stops (subst IsTrue (sym c.turns.invariant.tells) tells))
 
 pub returns-in-Given-clause-texts : goal.returns-in-Given-clause-texts
 returns-in-Given-clause-texts g c = λ tells. c.in-Ok.ensures.texts (subst IsTrue (sym c.turns.invariant.tells) tells) ∙ c.turns.invariant.texts tells
@@ -85,10 +84,10 @@ turns-preserved g c =
       before = search rules;
       more = omega (arith, counts, c.turns.invariant.more);
       still = λ ended.
-        let same = c.turns.invariant.still ended in
-        let empty = ap (λ m. m.run.stack.depth) same.0 ∙ ended in
-        let done = c.take_turn.ensures.ended empty in
-        absurd (cc (done.0, c.in-Ok.is, c.in-On.is));
+          let same = c.turns.invariant.still ended in
+          let empty = ap (λ m. m.run.stack.depth) same.0 ∙ ended in
+          let done = c.take_turn.ensures.ended empty in
+          absurd (cc (done.0, c.in-Ok.is, c.in-On.is));
       gives = λ tells. gives_both [] [] _ _ _ _ _ _ (c.turns.invariant.gives tells) (rw c.in-On.is at (c.in-Ok.ensures.turned (subst IsTrue (sym c.turns.invariant.tells) tells)));
     }
 
@@ -100,9 +99,11 @@ returns-in-Ended-clause-others g c = λ tells. c.in-Ok.ensures.others (subst IsT
 
 pub returns-in-Ended-clause-next : goal.returns-in-Ended-clause-next
 returns-in-Ended-clause-next g c = λ tells.
-    let turned = rw c.in-Ended.is at (c.in-Ok.ensures.turned (subst IsTrue (sym c.turns.invariant.tells) tells)) in
-    (gives_both [] [] _ _ _ _ _ _ (c.turns.invariant.gives tells)
-      (gives_nothing _ _ _ _ (ap (λ (t : SoFar). t.count) turned.2) (turned.0 ∙ sym turned.1) (ap (λ (t : SoFar). t.faults) turned.2) (ap (λ (t : SoFar). t.names) turned.2)), turned.1)
+    let turned = rw c.in-Ended.is at (c.in-Ok.ensures.turned (subst IsTrue (sym c.turns.invariant.tells) tells)) in (
+      gives_both [] [] _ _ _ _ _ _ (c.turns.invariant.gives tells)
+          (gives_nothing _ _ _ _ (ap (λ (t : SoFar). t.count) turned.2) (turned.0 ∙ sym turned.1) (ap (λ (t : SoFar). t.faults) turned.2) (ap (λ (t : SoFar). t.names) turned.2)),
+      turned.1,
+    )
 
 pub returns-in-Ended-clause-within : goal.returns-in-Ended-clause-within
 returns-in-Ended-clause-within g c = (c.take_turn.new.run.limits.few, c.take_turn.new.run.limits.small)

@@ -1,4 +1,4 @@
-use Rattle.std.proofs.Common.{◌≡◌, ◌+◌, ◌≤◌, ◌∷◌, ◌++◌, [], ℕ, List, None, length, string_bytes, refl, ap, sym, ◌∙◌, arith}
+use Rattle.std.proofs.Common.{◌≡◌, ◌∷◌, ◌++◌, [], ℕ, List, None, length, string_bytes, ap, sym, ◌∙◌, arith}
 use Rattle.cweb_lines.specs.Faults.{files_in}
 use Rattle.cweb_lines.specs.Names.{names_of}
 use Rattle.cweb_lines.specs.Total.{merge}
@@ -9,7 +9,7 @@ pub invariant_of-result : goal.invariant_of-result
 unfolding files_in
 invariant_of-result g c =
     let names : names_of c.push.new.self ≡ string_bytes c.in-Some.opening.name ∷ [] =
-      c.in_default-push.ensures.ok ∙ ap (λ (ns : List (List ℕ)). ns ++ string_bytes c.in-Some.opening.name ∷ []) c.new-names.ensures in
+    c.in_default-push.ensures.ok ∙ ap (λ (ns : List (List ℕ)). ns ++ string_bytes c.in-Some.opening.name ∷ []) c.new-names.ensures in
     let one : length (names_of c.push.new.self) ≡ 1 = ap (λ (ns : List (List ℕ)). length ns) names in
     record {
       shallow = omega (arith, c.new-2.ensures.depth);
@@ -23,7 +23,7 @@ invariant_of-result g c =
 pub returns-clause-begins : goal.returns-clause-begins
 returns-clause-begins g c = λ tells.
     let names : names_of c.push.new.self ≡ string_bytes c.in-Some.opening.name ∷ [] =
-      c.in_default-push.ensures.ok ∙ ap (λ (ns : List (List ℕ)). ns ++ string_bytes c.in-Some.opening.name ∷ []) c.new-names.ensures in
+    c.in_default-push.ensures.ok ∙ ap (λ (ns : List (List ℕ)). ns ++ string_bytes c.in-Some.opening.name ∷ []) c.new-names.ensures in
     let one : length (names_of c.push.new.self) ≡ 1 = ap (λ (ns : List (List ℕ)). length ns) names in
     let things = rw (c.in_ok-source.ensures.pending, c.in_ok-source.ensures.reader) at (begun (g.S.Shelf.left c.find_web.new.shelf) c.new-2.result _ _ c.new-2.ensures.depth c.new-2.ensures.texts) in
     record {
@@ -32,5 +32,5 @@ returns-clause-begins g c = λ tells.
       there = sym (rw c.in-Some.is at (c.in_ok-opening.ensures.found tells));
       so_far_is = λ i. record { faults = c.new-4.ensures.items i; names = names i; count = record { lines = c.new-3.ensures.lines i; bytes = c.new-3.ensures.bytes i } };
       whole = λ i. merge (record { texts = c.in_ok-opening.ensures.texts tells i; inputs = c.in_ok-inputs.ensures i })
-        (record { things = things i; pending = None; change = []; files = one i });
+          (record { things = things i; pending = None; change = []; files = one i });
     }
