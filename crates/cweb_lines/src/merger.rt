@@ -167,6 +167,11 @@ impl<S: Shelf> Merger<S> {
         self.run.alloc
     }
 
+    /// Whether the next line can be given without a read.
+    pub(crate) fn has_line(&self) -> bool {
+        self.run.stack.has_line()
+    }
+
     // Memory was refused to a caller that has taken a line.
     pub(crate) fn halt(&mut self) -> Stop
         ensures stop { result ≡ Stop.Memory }

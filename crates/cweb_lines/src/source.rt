@@ -2,6 +2,8 @@
 ghost use Rattle.std.specs.Prelude.{◌≡◌, ◌≤◌, ◌<◌, length, IfOk};
 ghost use Rattle.cweb_lines.specs.declared.source.LineFault.TheVariants.{Memory};
 
+use crate::include::is_include;
+use memchr::memrchr;
 use std::alloc::{AllocError, Global};
 
 /// How many bytes a reader is asked for at once.
@@ -61,5 +63,12 @@ impl<R: Drop> Source<R> {
             start: 0,
             end: 0,
         })
+    }
+
+    /// Whether the next line was read already and is no include line, so that it can be taken without a read. Only the
+    /// time of a write depends on it, never what is written.
+    pub fn has_line(&self) -> bool {
+        let pending = &self.piece[self.start..self.end];
+        !is_include(pending) && memrchr(b'\n', pending).is_some()
     }
 }

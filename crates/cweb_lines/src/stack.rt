@@ -40,6 +40,19 @@ impl<R: Drop> Stack<R> {
         }
     }
 
+    /// Whether the next line of the deepest text can be taken without a read.
+    pub fn has_line(&self) -> bool
+        requires { self.now.depth ≤ 10 }
+    {
+        if self.depth == 0 {
+            return false;
+        }
+        match &self.texts[self.depth - 1] {
+            Some(text) => text.source.has_line(),
+            None => false,
+        }
+    }
+
     pub fn push(&mut self, text: OpenText<R>)
         requires { self.old.depth < 10 }
         ensures depth { self.new.depth ≡ self.old.depth + 1 }

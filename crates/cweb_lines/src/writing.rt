@@ -56,8 +56,13 @@ fn write_piece<W: Sink>(out: &mut W, piece: &[u8]) -> Result<(), Stop>
     }
 }
 
-// What was gathered is written where it has so many bytes.
-fn pass_on<W: Sink>(out: &mut W, piece: &mut Vec<u8>, room: usize) -> Result<(), Stop>
+// What was gathered is written where it has so many bytes, and before more is read.
+fn pass_on<W: Sink>(
+    out: &mut W,
+    piece: &mut Vec<u8>,
+    room: usize,
+    has_line: bool,
+) -> Result<(), Stop>
     requires { W.failed out.old + 1 < 2 ^ 64 }
     ensures tells { W.tells out.new ≡ W.tells out.old }
     ensures failed { WriteBlames (W.failed out.old) (W.failed out.new) result }
@@ -65,7 +70,7 @@ fn pass_on<W: Sink>(out: &mut W, piece: &mut Vec<u8>, room: usize) -> Result<(),
     ensures err { IsTrue (W.tells out.old) → OnErr result (WritesFront (W.written out.old) (W.written out.new) piece.old.items) }
     ensures stop { IfErr result (λ stop. stop ≡ Stop.WriteFault) }
 {
-    if piece.len() < room {
+    if has_line && piece.len() < room {
         return Ok(());
     }
     if let Err(stop) = write_piece(out, piece) {
@@ -130,8 +135,9 @@ pub fn write_merged<S: Shelf, W: Sink>(
     write_merged_in_pieces(merger, shelf, out, 0)
 }
 
-/// Writes each line that is to come and a newline. Lines are gathered until they have `room` bytes, and then written at
-/// once. After a write fault the next line to come is the one after those that were gathered.
+/// Writes each line that is to come and a newline. Lines are gathered until they have `room` bytes or more has to be read,
+/// and then written at once: so output is never held back by a slow reader, and a read fault loses nothing that came
+/// before. After a write fault the next line to come is the one after those that were gathered.
 pub fn write_merged_in_pieces<S: Shelf, W: Sink>(
     merger: &mut Merger<S>,
     shelf: &mut S,
@@ -184,7 +190,7 @@ pub fn write_merged_in_pieces<S: Shelf, W: Sink>(
         if let Err(_) = gather(&mut piece, &line) {
             return Err(merger.halt());
         }
-        if let Err(stop) = pass_on(out, &mut piece, room) {
+        if let Err(stop) = pass_on(out, &mut piece, room, merger.has_line()) {
             return Err(stop);
         }
     }

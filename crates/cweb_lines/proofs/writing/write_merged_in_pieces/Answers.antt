@@ -63,6 +63,9 @@ returns-in_default-next-clause-gives g c = λ tells.
 pub halt-requires : goal.halt-requires
 halt-requires g c = search rules
 
+pub has_line-requires : goal.has_line-requires
+has_line-requires g c = search rules
+
 pub returns-in-Err-gather-clause-err : goal.returns-in-Err-gather-clause-err
 returns-in-Err-gather-clause-err g c = λ tells out. stays_front c.args.room _ _ _ _ _ (c.lines.invariant.written tells out)
 
