@@ -12,7 +12,7 @@ abbrev pub pending : {R : Type 0} → Source R → List ℕ
 pending source = slice_range source.piece.items source.start source.end
 
 abbrev pub left_of : {S R : Type 0} → (S → R → List ℕ) → S → Source R → List ℕ
-left_of left shelf source = pending source ++ left shelf source.reader
+left_of left shelf source = pending source ++ left shelf source.reader.value
 
 -- what a line takes of a text
 abbrev pub Takes : List ℕ → Taken → List ℕ → List ℕ → Type 0

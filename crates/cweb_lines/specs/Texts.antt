@@ -17,7 +17,7 @@ use Rattle.cweb_lines.specs.declared.text.OpenText.{OpenText}
 
 -- the lines that an open text has left
 abbrev pub lines_left : {R : Type 0} → (R → List ℕ) → OpenText R → List SourceLine
-lines_left left text = numbered text.file.0 (text.line + 1) (text_lines (pending text.source ++ left text.source.reader))
+lines_left left text = numbered text.file.0 (text.line + 1) (text_lines (pending text.source ++ left text.source.reader.value))
 
 abbrev pub lines_at : {R : Type 0} → (R → List ℕ) → Option (OpenText R) → List SourceLine
 lines_at left None = []

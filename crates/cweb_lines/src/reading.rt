@@ -32,7 +32,7 @@ fn extend(line: &mut Vec<u8>, front: &[u8]) -> Result<(), LineFault>
 // Takes what belongs to a line, and answers whether its newline came.
 fn take_pending<R: Drop>(source: &mut Source<R>, line: &mut Vec<u8>) -> Result<bool, LineFault>
     requires { length line.old.items ≤ LINE_LENGTH }
-    ensures reader { source.new.reader ≡ source.old.reader }
+    ensures reader { source.new.reader.value ≡ source.old.reader.value }
     ensures taken { IfOk result (λ full. TakesOf (pending source.old) line.old.items full line.new.items (pending source.new)) }
     ensures within { length line.new.items ≤ LINE_LENGTH }
     ensures read { IsErrOf result LineFault.Read → ⊥ }

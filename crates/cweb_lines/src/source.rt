@@ -39,7 +39,8 @@ pub enum Taken {
 /// A reader, and the bytes that were read and not yet taken: those of the piece from `start` to `end`.
 #[derive(Drop)]
 pub struct Source<R: Drop> {
-    pub reader: R,
+    // On the heap: so the size of what holds it, and of ten such in an array, doesn't depend on the reader's type.
+    pub reader: Box<R>,
     pub piece: Vec<u8>,
     pub start: usize,
     pub end: usize,
@@ -54,11 +55,11 @@ impl<R: Drop> Source<R> {
 
     /// A reader of which nothing was read.
     pub fn new(alloc: Global, reader: R) -> Result<Self, AllocError>
-        ensures reader { IfOk result (λ source. source.reader ≡ reader) }
+        ensures reader { IfOk result (λ source. source.reader.value ≡ reader) }
         ensures pending { IfOk result (λ source. pending source ≡ []) }
     {
         Ok(Source {
-            reader,
+            reader: Box::new(alloc, reader)?,
             piece: vec![in alloc; 0; PIECE]?,
             start: 0,
             end: 0,

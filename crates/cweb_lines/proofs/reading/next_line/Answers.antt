@@ -22,7 +22,7 @@ returns-in_err-take_pending-clause-too_long g c = λ tells is.
     let p = err_from_is_err_and c.from_residual-in_err-take_pending.result c.from_residual-in_err-take_pending.ensures.1 in
     let fault : c.in_err-take_pending.field-0.0 ≡ TooLong = cc (p.1, p.2, is) in
     let long = c.in_err-take_pending.ensures.too_long c.pieces.invariant.none (ap Err fault) in
-    let rest = g.S.Shelf.left c.refill.new.shelf c.refill.new.source.reader in
+    let rest = g.S.Shelf.left c.refill.new.shelf c.refill.new.source.reader.value in
     subst (λ (l : List ℕ). IsLongerThan LINE_LENGTH l)
     (append_assoc c.pieces.line.items (pending c.refill.new.source) rest ∙ sym (so_far g (goal.at.returns-in_err-take_pending-clause-too_long g c).In_ok-refill tells))
     (longer_more LINE_LENGTH (c.pieces.line.items ++ pending c.refill.new.source) rest long)
@@ -30,7 +30,7 @@ returns-in_err-take_pending-clause-too_long g c = λ tells is.
 pub returns-then-branch-clause-taken : goal.returns-then-branch-clause-taken
 returns-then-branch-clause-taken g c = λ tells.
     let takes = subst (λ b. TakesOf (pending c.refill.new.source) c.pieces.line.items b c.take_pending.new.line.items (pending c.take_pending.new.source)) c.if-branch.true c.in_ok-take_pending.ensures.taken in
-    rw c.in_ok-take_pending.ensures.reader (taken_full _ c.pieces.line.items (pending c.refill.new.source) (g.S.Shelf.left c.refill.new.shelf c.refill.new.source.reader) c.take_pending.new.line.items (pending c.take_pending.new.source)
+    rw c.in_ok-take_pending.ensures.reader (taken_full _ c.pieces.line.items (pending c.refill.new.source) (g.S.Shelf.left c.refill.new.shelf c.refill.new.source.reader.value) c.take_pending.new.line.items (pending c.take_pending.new.source)
     (so_far g (goal.at.returns-then-branch-clause-taken g c).In_ok-refill tells) c.pieces.invariant.none takes)
 
 pub pieces-preserved : goal.pieces-preserved
@@ -41,7 +41,7 @@ pieces-preserved g c =
       failed = search rules;
       texts = search rules;
       others = search rules;
-      bytes = λ tells. rw c.in_ok-take_pending.ensures.reader ((taken_more _ c.pieces.line.items (pending c.refill.new.source) (g.S.Shelf.left c.refill.new.shelf c.refill.new.source.reader) c.take_pending.new.line.items (pending c.take_pending.new.source)
+      bytes = λ tells. rw c.in_ok-take_pending.ensures.reader ((taken_more _ c.pieces.line.items (pending c.refill.new.source) (g.S.Shelf.left c.refill.new.shelf c.refill.new.source.reader.value) c.take_pending.new.line.items (pending c.take_pending.new.source)
           (so_far g (goal.at.pieces-preserved g c).In_ok-refill tells) c.pieces.invariant.none takes).0);
       none = (taken_more _ c.pieces.line.items (pending c.refill.new.source) [] c.take_pending.new.line.items (pending c.take_pending.new.source) refl c.pieces.invariant.none takes).1;
       within = c.in_ok-take_pending.ensures.within;
