@@ -1,7 +1,7 @@
 -- A line of which some pieces were written.
 use Rattle.std.proofs.Common.{◌≡◌, ℕ, List, [], ◌∷◌, ◌++◌, refl, sym, ◌∙◌, ap, append_assoc}
 use Rattle.std.specs.Prelude.{Result, Ok, Err, OnErr}
-use Rattle.cweb_tools.specs.Writing.{WritesFront}
+use Rattle.cweb_lines.specs.Writing.{WritesFront}
 
 -- the pieces before this one were written, of this one a front
 pub stopped_in : (old mid new before piece rest line : List ℕ) → line ≡ before ++ (piece ++ rest) → mid ≡ old ++ before → WritesFront mid new piece → WritesFront old new line

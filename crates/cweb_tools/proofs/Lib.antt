@@ -1,2 +1,3 @@
-mod Rows
+pub mod Endings
 pub mod Fronts
+mod Rows

@@ -1,4 +1,4 @@
 pub mod Devices
 pub mod Log
+pub mod Run
 pub mod Words
-pub mod Writing

@@ -1,9 +1,9 @@
 // The lines of the log for the faults of webs and change files.
-ghost use Rattle.std.specs.Prelude.{◌≡◌, ◌++◌, decimal, codes, IfOk, OnOk};
+ghost use Rattle.std.specs.Prelude.{◌≡◌, ◌<◌, ◌++◌, length, decimal, All, IfOk, OnOk};
 ghost use Rattle.cweb_lines.specs.Names.{names_of};
-ghost use Rattle.cweb_tools.specs.Log.{name_at, kind_text, count_text, fault_line, fault_lines};
+ghost use Rattle.cweb_tools.specs.Log.{kind_text, count_text, fault_line, fault_lines};
 
-use cweb_lines::{FileId, FileNames, SourceFault, SourceKind};
+use cweb_lines::{FileNames, SourceFault, SourceKind};
 use itoa::Buffer;
 use std::alloc::{AllocError, Global};
 
@@ -13,6 +13,7 @@ pub fn fault_lines(
     names: &FileNames,
     faults: &[SourceFault],
 ) -> Result<Vec<u8>, AllocError>
+    requires { All (λ fault. fault.place.file.0 < length (names_of names.now)) faults.now }
     ensures { IfOk result (λ lines. lines.items ≡ fault_lines (names_of names.now) faults.now) }
 {
     let mut lines = Vec::new(alloc);
@@ -27,10 +28,10 @@ fn push_fault_line(
     names: &FileNames,
     fault: &SourceFault,
 ) -> Result<(), AllocError>
+    requires { fault.now.place.file.0 < length (names_of names.now) }
     ensures { OnOk result (lines.new.items ≡ lines.old.items ++ fault_line (names_of names.now) fault.now) }
 {
-    let name = file_name(names, fault.place.file);
-    lines.extend_from_slice(name.as_bytes())?;
+    lines.extend_from_slice(names.get(fault.place.file).as_bytes())?;
     lines.extend_from_slice(b":")?;
     push_number(lines, fault.place.line)?;
     lines.extend_from_slice(b": ! ")?;
@@ -54,17 +55,6 @@ fn push_count(lines: &mut Vec<u8>, kind: SourceKind, count: u32) -> Result<(), A
         push_number(lines, count)?;
     }
     Ok(())
-}
-
-/// The name of a file by its number; empty where there is no such file.
-pub fn file_name(names: &FileNames, file: FileId) -> &str
-    ensures { result.now ≡ name_at (names_of names.now) file.0 }
-{
-    if file.0 < names.count() {
-        names.get(file)
-    } else {
-        ""
-    }
 }
 
 fn kind_text(kind: SourceKind) -> &'static str

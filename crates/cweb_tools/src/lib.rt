@@ -5,10 +5,14 @@
 mod devices;
 mod faults;
 mod stops;
+mod wmerge;
 mod words;
-mod writing;
 
 pub use devices::{FolderShelf, StdSink};
-pub use faults::{fault_lines, file_name};
+pub use faults::fault_lines;
 pub use stops::write_stop;
+pub use wmerge::run_wmerge;
 pub use words::MergeWords;
+
+#[cfg(test)]
+mod tests;

@@ -2,10 +2,9 @@
 ghost use Rattle.std.specs.Prelude.{◌≡◌, ◌<◌, ◌+◌, ◌^◌, ◌++◌, IsTrue, OnOk, OnErr};
 ghost use Rattle.cweb_files.specs.Device.{Counts};
 ghost use Rattle.cweb_tools.specs.Log.{message_line, stop_line};
-ghost use Rattle.cweb_tools.specs.Writing.{WritesFront};
+ghost use Rattle.cweb_lines.specs.Writing.{WritesFront};
 
-use crate::writing::write_all;
-use cweb_lines::{Sink, SinkFault, Stop};
+use cweb_lines::{Sink, SinkFault, Stop, write_all};
 
 /// Writes the line of a stop, which ends in a name, to the log. It takes no memory.
 pub fn write_stop<L: Sink>(log: &mut L, stop: Stop, name: &str) -> Result<(), SinkFault>

@@ -1,5 +1,6 @@
 // The words of a command line of `wmerge`.
 ghost use Rattle.std.specs.Prelude.{◌≡◌, ◌↔◌, ◌⊎◌, ◌++◌, Some, None, map, codes, string_bytes, IfOk, IfErr, IsErrOf};
+ghost use Rattle.std.specs.Option.{option_copied};
 ghost use Rattle.cweb_tools.specs.Words.{asked_by, is_control, is_sign_word, has_control, can_name_web, has_extension};
 
 use cweb_lines::Stop;
@@ -38,6 +39,16 @@ impl MergeWords {
             web,
             second: Some(second),
         })
+    }
+
+    /// The second name, where there is one.
+    pub fn second(&self) -> Option<&str>
+        ensures { option_copied result ≡ (names_of self.now).second }
+    {
+        match &self.second {
+            Some(name) => Some(name.as_str()),
+            None => None,
+        }
     }
 }
 

@@ -1,6 +1,6 @@
 use Rattle.std.proofs.Common.{◌≡◌, ◌++◌, ◌∷◌, [], refl, sym, ◌∙◌, ap, subst, append_assoc, append-nil, ℕ, List}
 use Rattle.std.specs.Prelude.{IsTrue, codes}
-use Rattle.cweb_tools.specs.Writing.{WritesFront}
+use Rattle.cweb_lines.specs.Writing.{WritesFront}
 use Rattle.cweb_tools.specs.Log.{message_line}
 use Rattle.cweb_tools.proofs.Fronts.{stopped_in, on_err}
 use Rattle.cweb_tools.proofs.stops.write_message.Goals as goal
@@ -17,9 +17,9 @@ returns-clause-err g c = λ tells.
     let tells-3 = subst IsTrue (sym c.in_default-write_all.ensures.tells) tells-2 in
     let tells-4 = subst IsTrue (sym c.in_default-write_all-2.ensures.tells) tells-3 in
     let written : g.L.Sink.written c.write_all-3.new.out ≡ g.L.Sink.written c.args.log.now ++ (codes "! " ++ (text ++ name)) =
-        c.in_default-write_all-2.ensures.ok tells-3
-        ∙ ap (λ (t : List ℕ). t ++ c.as_bytes-2.result.now) (c.in_default-write_all.ensures.ok tells-2 ∙ ap (λ (t : List ℕ). t ++ c.as_bytes.result.now) (c.in_default.ensures.ok tells))
-        ∙ rw (c.as_bytes.ensures.value, c.as_bytes-2.ensures.value) (simp append_assoc)
+    c.in_default-write_all-2.ensures.ok tells-3
+    ∙ ap (λ (t : List ℕ). t ++ c.as_bytes-2.result.now) (c.in_default-write_all.ensures.ok tells-2 ∙ ap (λ (t : List ℕ). t ++ c.as_bytes.result.now) (c.in_default.ensures.ok tells))
+    ∙ rw (c.as_bytes.ensures.value, c.as_bytes-2.ensures.value) (simp append_assoc)
     in on_err c.write_all-4.result _ _
-        (stopped_in (g.L.Sink.written c.args.log.now) (g.L.Sink.written c.write_all-3.new.out) (g.L.Sink.written c.write_all-4.new.out) (codes "! " ++ (text ++ name)) (codes "\n") [] _ refl written)
-        (c.write_all-4.ensures.err tells-4)
+    (stopped_in (g.L.Sink.written c.args.log.now) (g.L.Sink.written c.write_all-3.new.out) (g.L.Sink.written c.write_all-4.new.out) (codes "! " ++ (text ++ name)) (codes "\n") [] _ refl written)
+    (c.write_all-4.ensures.err tells-4)

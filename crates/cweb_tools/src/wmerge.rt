@@ -1,0 +1,148 @@
+// A run of `wmerge`.
+ghost use Rattle.std.specs.Prelude.{◌≡◌, ◌≢◌, ◌<◌, ◌≤◌, ◌+◌, ◌^◌, length, map, All, IsTrue, None, Some};
+ghost use Rattle.std.specs.Option.{option_copied};
+ghost use Rattle.cweb_lines.specs.Names.{names_of as file_names};
+ghost use Rattle.cweb_lines.specs.Texts.{files_named};
+ghost use Rattle.cweb_tools.specs.Log.{fault_lines, stop_line};
+ghost use Rattle.cweb_tools.specs.Run.{devices, Logs, LogsFaults, Ends, IsMerge, RanFreely, Refuses, StaysWithin, course_of, asked_course, folder_of, fault_status, usage};
+ghost use Rattle.cweb_tools.specs.Words.{asked_by, names_of};
+
+use crate::faults::fault_lines;
+use crate::stops::write_stop;
+use crate::words::MergeWords;
+use cweb_lines::{
+    FileNames, Merger, Shelf, Sink, SourceFault, Stop, write_all, write_merged_in_pieces,
+};
+use std::alloc::Global;
+
+/// The bytes that are gathered before they are written.
+const PIECE: usize = 65536;
+
+const USAGE: &str = "wmerge webfile[.w] [{changefile[.ch]|-}]";
+
+/// Writes the merged lines of the web that the words name to the output, then the faults to the log, and answers the
+/// program's status.
+pub fn run_wmerge<S: Shelf, W: Sink, L: Sink>(
+    alloc: Global,
+    words: &[&str],
+    inputs: Option<&str>,
+    shelf: &mut S,
+    out: &mut W,
+    log: &mut L,
+) -> u8
+    requires shelf_count { S.failed shelf.old + 1 < 2 ^ 64 }
+    requires out_count { W.failed out.old + 1 < 2 ^ 64 }
+    requires log_count { L.failed log.old + 1 < 2 ^ 64 }
+    ensures ends { IsTrue (S.tells shelf.old) → IsTrue (W.tells out.old) → IsTrue (L.tells log.old) →
+        Ends (course_of (S.texts shelf.old) (map (λ word. word.now) words.now) (option_copied inputs.entry))
+        (devices (S.failed shelf.old) (W.failed out.old) (L.failed log.old) (W.written out.old) (L.written log.old))
+        (devices (S.failed shelf.new) (W.failed out.new) (L.failed log.new) (W.written out.new) (L.written log.new))
+        result }
+    ensures freely { IsTrue (S.tells shelf.old) → IsTrue (W.tells out.old) → IsTrue (L.tells log.old) →
+        RanFreely (course_of (S.texts shelf.old) (map (λ word. word.now) words.now) (option_copied inputs.entry))
+        (devices (S.failed shelf.old) (W.failed out.old) (L.failed log.old) (W.written out.old) (L.written log.old))
+        (devices (S.failed shelf.new) (W.failed out.new) (L.failed log.new) (W.written out.new) (L.written log.new))
+        → IsMerge (course_of (S.texts shelf.old) (map (λ word. word.now) words.now) (option_copied inputs.entry))
+        (devices (S.failed shelf.old) (W.failed out.old) (L.failed log.old) (W.written out.old) (L.written log.old))
+        (devices (S.failed shelf.new) (W.failed out.new) (L.failed log.new) (W.written out.new) (L.written log.new))
+        result }
+    ensures limits { IsTrue (S.tells shelf.old) → IsTrue (W.tells out.old) → IsTrue (L.tells log.old) →
+        ¬ StaysWithin (course_of (S.texts shelf.old) (map (λ word. word.now) words.now) (option_copied inputs.entry)) → result ≡ 1 }
+    ensures refuses { asked_by (map (λ word. word.now) words.now) ≡ None → IsTrue (L.tells log.old) →
+        Refuses (L.failed log.old) (L.failed log.new) (L.written log.old) (L.written log.new) result }
+    ensures untouched { asked_by (map (λ word. word.now) words.now) ≡ None → (shelf.new ≡ shelf.old) × (out.new ≡ out.old) }
+    ensures shelf_failed { S.failed shelf.new ≢ S.failed shelf.old → result ≡ 1 }
+    ensures out_failed { W.failed out.new ≢ W.failed out.old → result ≡ 1 }
+    ensures log_failed { L.failed log.new ≢ L.failed log.old → result ≡ 1 }
+{
+    let asked = match MergeWords::read(alloc, words) {
+        Ok(asked) => asked,
+        Err(stop) => return log_stop(log, stop, USAGE),
+    };
+    merge_web(alloc, &asked, inputs, shelf, out, log)
+}
+
+fn merge_web<S: Shelf, W: Sink, L: Sink>(
+    alloc: Global,
+    asked: &MergeWords,
+    inputs: Option<&str>,
+    shelf: &mut S,
+    out: &mut W,
+    log: &mut L,
+) -> u8
+    requires shelf_count { S.failed shelf.old + 1 < 2 ^ 64 }
+    requires out_count { W.failed out.old + 1 < 2 ^ 64 }
+    requires log_count { L.failed log.old + 1 < 2 ^ 64 }
+    ensures ends { IsTrue (S.tells shelf.old) → IsTrue (W.tells out.old) → IsTrue (L.tells log.old) →
+        Ends (asked_course (record { texts = S.texts shelf.old; inputs = folder_of (option_copied inputs.entry) }) (Some (names_of asked.now)))
+        (devices (S.failed shelf.old) (W.failed out.old) (L.failed log.old) (W.written out.old) (L.written log.old))
+        (devices (S.failed shelf.new) (W.failed out.new) (L.failed log.new) (W.written out.new) (L.written log.new))
+        result }
+    ensures shelf_failed { S.failed shelf.new ≢ S.failed shelf.old → result ≡ 1 }
+    ensures out_failed { W.failed out.new ≢ W.failed out.old → result ≡ 1 }
+    ensures log_failed { L.failed log.new ≢ L.failed log.old → result ≡ 1 }
+{
+    let started = Merger::start(
+        alloc,
+        shelf,
+        asked.web.as_str(),
+        asked.second(),
+        None,
+        folder(inputs),
+    );
+    let mut merger = match started {
+        Ok(merger) => merger,
+        Err(stop) => return log_stop(log, stop, asked.web.as_str()),
+    };
+    match write_merged_in_pieces(&mut merger, shelf, out, PIECE) {
+        Ok(()) => log_faults(alloc, log, merger.names(), merger.faults()),
+        Err(stop) => log_stop(log, stop, subject(merger.names(), stop)),
+    }
+}
+
+/// The folder in which included files are sought too. An empty one counts as none.
+fn folder(inputs: Option<&str>) -> Option<&str>
+    ensures { option_copied result ≡ folder_of (option_copied inputs.entry) }
+{
+    match inputs {
+        Some(folder) if folder.is_empty() => None,
+        inputs => inputs,
+    }
+}
+
+/// What a stop within a merge is about.
+fn subject(names: &FileNames, stop: Stop) -> &str
+    requires { files_named stop ≤ length (file_names names.now) }
+{
+    match stop {
+        Stop::ReadFault(file) | Stop::LineTooLong(file) => names.get(file),
+        Stop::WriteFault => "standard output",
+        _ => "",
+    }
+}
+
+/// Logs what stopped a run, and answers the status of such a run.
+fn log_stop<L: Sink>(log: &mut L, stop: Stop, name: &str) -> u8
+    requires { L.failed log.old + 1 < 2 ^ 64 }
+    ensures status { result ≡ 1 }
+    ensures logs { IsTrue (L.tells log.old) → Logs (stop_line stop name.now) (L.failed log.old) (L.failed log.new) (L.written log.old) (L.written log.new) }
+{
+    let _ = write_stop(log, stop, name);
+    1
+}
+
+/// Logs the faults of a merge, and answers the status of a run that ends so.
+fn log_faults<L: Sink>(alloc: Global, log: &mut L, names: &FileNames, faults: &[SourceFault]) -> u8
+    requires count { L.failed log.old + 1 < 2 ^ 64 }
+    requires known { All (λ fault. fault.place.file.0 < length (file_names names.now)) faults.now }
+    ensures logs { IsTrue (L.tells log.old) → LogsFaults (file_names names.now) faults.now (L.failed log.old) (L.failed log.new) (L.written log.old) (L.written log.new) result }
+    ensures failed { L.failed log.new ≢ L.failed log.old → result ≡ 1 }
+{
+    let Ok(lines) = fault_lines(alloc, names, faults) else {
+        return log_stop(log, Stop::Memory, "");
+    };
+    if write_all(log, &lines).is_err() {
+        return 1;
+    }
+    u8::from(!faults.is_empty())
+}

@@ -1,0 +1,3 @@
+one
+@i b.w
+three
