@@ -16,7 +16,7 @@ use Rattle.cweb_lines.specs.Lines.{SourceLine}
 use Rattle.cweb_lines.specs.Whole.{Begins, StopsAtStart}
 use Rattle.cweb_lines.specs.declared.limits.TheConstants.{LINE_LENGTH, LINES, BYTES}
 use Rattle.cweb_lines.specs.Writing.{text_of, StopsWriting, LongIn, WritingStops, WriteBlames}
-use Rattle.cweb_tools.specs.Log.{stop_line}
+use Rattle.cweb_tools.specs.Log.{stop_line, subject}
 use Rattle.cweb_tools.specs.Run.{Course, unread, not_there, merging, Devices, Logs, LogsFaults, Completes, Stops, Ends, completes, stops, Explains, StaysWithin, merged, asked_course, found_course, usage, IsMerge, RanFreely}
 use Rattle.cweb_tools.specs.Words.{WebNames}
 use Rattle.cweb_lines.specs.Writing.{WritesFront}
@@ -34,7 +34,7 @@ all_written old new text written = record { front = text; rest = []; written = w
 pub wants_memory : (course : Course) (before after : Devices) (status : ℕ) (name : List ℕ) → after.shelf_failed ≡ before.shelf_failed → after.out_failed ≡ before.out_failed → after.out ≡ before.out
     → Logs (stop_line Memory name) before.log_failed after.log_failed before.log after.log → status ≡ 1 → Ends course before after status
 wants_memory course before after status name shelf out same logs one =
-    stops (record { stop = Memory; name = name; cause = (shelf, out); front = none_written before.out after.out (merged course) same; logged = logs; answered = one })
+    stops (record { stop = Memory; names = []; cause = (shelf, out); front = none_written before.out after.out (merged course) same; logged = logs; answered = one })
 
 unread_ends : (world : World) (asked : Option WebNames) (before after : Devices) (status : ℕ) → asked ≡ None
     → after.shelf_failed ≡ before.shelf_failed → after.out_failed ≡ before.out_failed → after.out ≡ before.out
@@ -78,7 +78,7 @@ module _ (world : World) (web name text : List ℕ) (events : List Event) (is : 
       → after.shelf_failed ≡ before.shelf_failed → after.out_failed ≡ before.out_failed → after.out ≡ before.out ++ text_of (given_lines events) → Ends run_course before after status
   logged_whole kept (inl (logs, answered)) shelf out written = completes (record { kept = kept; read = shelf; printed = out; written = written; logged = logs; answered = answered })
   logged_whole kept (inr (logs, one)) shelf out written =
-      stops (record { stop = Memory; name = []; cause = (shelf, out); front = all_written before.out after.out (merged run_course) written; logged = logs; answered = one })
+      stops (record { stop = Memory; names = []; cause = (shelf, out); front = all_written before.out after.out (merged run_course) written; logged = logs; answered = one })
 
   pub completed : (found : Option Found) (names : List (List ℕ)) (faults : List SourceFault) → IsWithinLimits (taken_lines events) → found ≡ Some (name, text) → names ≡ name ∷ openings events → faults ≡ told_faults events
       → after.shelf_failed ≡ before.shelf_failed → after.out_failed ≡ before.out_failed → after.out ≡ before.out ++ text_of (given_lines events)
@@ -90,12 +90,12 @@ module _ (world : World) (web name text : List ℕ) (events : List Event) (is : 
       (subst (λ (ns : List (List ℕ)). LogsFaults ns faults before.log_failed after.log_failed before.log after.log status) names_are logs))
       shelf out written)
 
-  pub stopped : (found : Option Found) (stop : Stop) (about : List ℕ) → found ≡ Some (name, text) → Explains stop (IsWithinLimits (taken_lines events)) before after
-      → WritesFront before.out after.out (text_of (given_lines events)) → Logs (stop_line stop about) before.log_failed after.log_failed before.log after.log → status ≡ 1
+  pub stopped : (found : Option Found) (stop : Stop) (names : List (List ℕ)) → found ≡ Some (name, text) → Explains stop (IsWithinLimits (taken_lines events)) before after
+      → WritesFront before.out after.out (text_of (given_lines events)) → Logs (stop_line stop (subject names stop)) before.log_failed after.log_failed before.log after.log → status ≡ 1
       → Ends (found_course world web found) before after status
-  stopped found stop about there cause front logs one =
+  stopped found stop names there cause front logs one =
       subst (λ (c : Course). Ends c before after status) (course_is found there)
-      (stops (record { stop = stop; name = about; cause = cause; front = front; logged = logs; answered = one }))
+      (stops (record { stop = stop; names = names; cause = cause; front = front; logged = logs; answered = one }))
 
 -- what a merge told, where it began with this web and all of it came
 module _ (name : List ℕ) (all : List Event) (old new : SoFar) (first : old ≡ record { faults = []; names = name ∷ []; count = record { lines = 0; bytes = 0 } }) (gives : Gives (given_lines all) old new all []) where
@@ -161,4 +161,4 @@ not_free stop name course before after cause logs free = cause
 
 pub ran_freely : (course : Course) (before after : Devices) (status : ℕ) → Ends course before after status → RanFreely course before after → IsMerge course before after status
 ran_freely course before after status (completes whole) free = record { written = whole.written; logged = whole.logged.whole free.told; answered = whole.answered free.told }
-ran_freely course before after status (stops stop) free = absurd (not_free stop.stop stop.name course before after stop.cause stop.logged free)
+ran_freely course before after status (stops stop) free = absurd (not_free stop.stop (subject stop.names stop.stop) course before after stop.cause stop.logged free)

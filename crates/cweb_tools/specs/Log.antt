@@ -39,6 +39,13 @@ fault_line names fault =
 abbrev pub fault_lines : List (List ℕ) → List SourceFault → List ℕ
 fault_lines names faults = flat_map (λ fault. fault_line names fault) faults
 
+-- what a stop within a merge is about, by the names of the files that were opened
+abbrev pub subject : List (List ℕ) → Stop → List ℕ
+subject names (ReadFault file) = name_at names file.0
+subject names (LineTooLong file) = name_at names file.0
+subject names WriteFault = codes "standard output"
+subject names _ = []
+
 -- ! TEXT, which ends in a name where the text is about one
 abbrev pub message_line : List ℕ → List ℕ → List ℕ
 message_line text name = codes "! " ++ text ++ name ++ codes "\n"

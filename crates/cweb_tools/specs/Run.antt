@@ -7,7 +7,7 @@ use Rattle.cweb_lines.specs.Told.{given_lines, told_faults, openings, taken_line
 use Rattle.cweb_lines.specs.declared.fault.SourceFault.{SourceFault}
 use Rattle.cweb_lines.specs.declared.stop.Stop.{Stop}
 use Rattle.cweb_lines.specs.declared.stop.Stop.TheVariants.{Usage, WebNotOpened, ReadFault, LineTooLong, TooMuchText, Memory, WriteFault}
-use Rattle.cweb_tools.specs.Log.{fault_lines, stop_line}
+use Rattle.cweb_tools.specs.Log.{fault_lines, stop_line, subject}
 use Rattle.cweb_tools.specs.Words.{WebNames, asked_by}
 use Rattle.cweb_lines.specs.Writing.{text_of, WritesFront}
 
@@ -109,10 +109,11 @@ Explains _ within before after = ⊥
 -- something stopped the run: a front of the merged lines is written, and the log has the stop's line alone
 pub record Stops (course : Course) (before after : Devices) (status : ℕ) : Type 0 where
   pub stop : Stop
-  pub name : List ℕ
+  -- the files that were opened by then
+  pub names : List (List ℕ)
   pub cause : Explains stop (StaysWithin course) before after
   pub front : WritesFront before.out after.out (merged course)
-  pub logged : Logs (stop_line stop name) before.log_failed after.log_failed before.log after.log
+  pub logged : Logs (stop_line stop (subject names stop)) before.log_failed after.log_failed before.log after.log
   pub answered : status ≡ 1
 
 -- how a run ends

@@ -3,7 +3,7 @@ ghost use Rattle.std.specs.Prelude.{◌≡◌, ◌≢◌, ◌<◌, ◌≤◌, �
 ghost use Rattle.std.specs.Option.{option_copied};
 ghost use Rattle.cweb_lines.specs.Names.{names_of as file_names};
 ghost use Rattle.cweb_lines.specs.Texts.{files_named};
-ghost use Rattle.cweb_tools.specs.Log.{fault_lines, stop_line};
+ghost use Rattle.cweb_tools.specs.Log.{fault_lines, stop_line, subject};
 ghost use Rattle.cweb_tools.specs.Run.{devices, Logs, LogsFaults, Ends, IsMerge, RanFreely, Refuses, StaysWithin, course_of, asked_course, folder_of, fault_status, usage};
 ghost use Rattle.cweb_tools.specs.Words.{asked_by, names_of};
 
@@ -113,6 +113,7 @@ fn folder(inputs: Option<&str>) -> Option<&str>
 /// What a stop within a merge is about.
 fn subject(names: &FileNames, stop: Stop) -> &str
     requires { files_named stop ≤ length (file_names names.now) }
+    ensures { result.now ≡ subject (file_names names.now) stop }
 {
     match stop {
         Stop::ReadFault(file) | Stop::LineTooLong(file) => names.get(file),

@@ -44,5 +44,5 @@ returns-clause-ends g c = λ shelf out log.
     stopped _ _ begins.name begins.text _ begins.whole _ _ _ _ stop _ begins.there
     (explains stop begins.name _ _ _ _ _ begins.so_far_is (wrote.writing running) (wrote.stops shelf-2 running) failed (wrote.out_blames running))
     (wrote.err shelf-2 out)
-    (c.log_stop-in-Err-write_merged_in_pieces.ensures.logs log)
+    (rw c.subject.ensures at (c.log_stop-in-Err-write_merged_in_pieces.ensures.logs log))
     c.log_stop-in-Err-write_merged_in_pieces.ensures.status
