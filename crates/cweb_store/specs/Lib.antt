@@ -1,0 +1,4 @@
+pub mod Names
+pub mod Parts
+pub mod Faults
+pub mod Calls

@@ -1,0 +1,8 @@
+//! The names, parts and tokens of a web: a builder that is given them one after another, and the store that it makes of them.
+#![tactic(auto)]
+
+mod name;
+mod part;
+
+pub use name::{How, NameFault, NameId, NameKind, NameRef};
+pub use part::{Part, PartKind};
