@@ -2,3 +2,5 @@ pub mod Names
 pub mod Parts
 pub mod Faults
 pub mod Calls
+pub mod Seen
+pub mod Runs

@@ -1,5 +1,5 @@
 -- Parts and their tokens, and what the parts of a name join to.
-use Rattle.std.specs.Prelude.{ℕ, ◌+◌, Bool, true, false, List, [], ◌∷◌, Option, Some, None, map, filter, flat_map, length, slice_range}
+use Rattle.std.specs.Prelude.{◌++◌, option_map, option_to_list, ℕ, ◌+◌, Bool, true, false, List, [], ◌∷◌, Option, Some, None, map, filter, flat_map, length, slice_range}
 use Rattle.cweb_files.specs.declared.place.Place.{Place}
 use Rattle.cweb_store.specs.declared.name.NameRef.{NameRef}
 use Rattle.cweb_store.specs.declared.name.NameId.{NameId}
@@ -55,3 +55,32 @@ numbers_where test parts = map (λ (r : Run). r.part) (filter (λ (r : Run). tes
 -- the tokens at the numbers of parts, joined
 abbrev pub tokens_at : List Token → List declared.Part → List Token
 tokens_at tokens numbers = flat_map (λ (p : declared.Part). slice_range tokens p.first p.after) numbers
+
+-- the parts so far: those that are closed, and the one that is open
+pub record PartsSoFar : Type 0 where
+  pub closed : List Part
+  pub current : Option Part
+
+abbrev pub no_parts : PartsSoFar
+no_parts = record { closed = []; current = None }
+
+-- all parts, where one that is open counts as it stands
+abbrev pub all_parts : PartsSoFar → List Part
+all_parts v = v.closed ++ option_to_list v.current
+
+abbrev pub opened : PartKind → PartsSoFar → PartsSoFar
+opened kind v = record v { current = Some (record { kind = kind; tokens = [] }) }
+
+abbrev pub longer : Token → Part → Part
+longer t p = record p { tokens = p.tokens ++ t ∷ [] }
+
+-- one more token in the part that is open
+abbrev pub pushed : Token → PartsSoFar → PartsSoFar
+pushed t v = record v { current = option_map (longer t) v.current }
+
+abbrev pub all_closed : PartsSoFar → PartsSoFar
+all_closed v = record { closed = all_parts v; current = None }
+
+-- how many tokens there are
+abbrev pub token_count : PartsSoFar → ℕ
+token_count v = length (all_tokens (all_parts v))

@@ -3,6 +3,11 @@
 
 mod name;
 mod part;
+mod part_list;
+mod reserved;
+mod token;
+mod token_list;
 
 pub use name::{How, NameFault, NameId, NameKind, NameRef};
 pub use part::{Part, PartKind};
+pub use token::Token;
