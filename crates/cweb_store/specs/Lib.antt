@@ -4,3 +4,5 @@ pub mod Faults
 pub mod Calls
 pub mod Seen
 pub mod Runs
+pub mod Found
+pub mod Known

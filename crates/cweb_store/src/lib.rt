@@ -1,6 +1,8 @@
 //! The names, parts and tokens of a web: a builder that is given them one after another, and the store that it makes of them.
 #![tactic(auto)]
 
+mod found;
+mod known_names;
 mod name;
 mod part;
 mod part_list;
