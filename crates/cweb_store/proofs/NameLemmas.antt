@@ -43,7 +43,7 @@ insert-names (e ∷ es) key first h =
       | false ↦ λ g. ap (λ ns. name_in e ∷ ns) (insert-names es key first g)
     ]) h
 
-bytes_eq-same : (a : List ℕ) → bytes_eq a a ≡ true
+pub bytes_eq-same : (a : List ℕ) → bytes_eq a a ≡ true
 bytes_eq-same a = (bytes_eq-Decides a a).1 refl
 
 pub bytes_eq-sym : (a b : List ℕ) → bytes_eq a b ≡ bytes_eq b a

@@ -1,4 +1,4 @@
--- What is kept of the occurrences of names.
+-- Names in a map, and what is found of an occurrence when it is given.
 use Rattle.std.specs.Prelude.{ℕ, ◌+◌, List, [], ◌∷◌, Ok, Err, map, bytes_eq, Vec}
 use Rattle.std.specs.List.{position_or_len}
 use Rattle.std.specs.declared.alloc.Global.{Global}

@@ -6,3 +6,4 @@ pub mod Seen
 pub mod Runs
 pub mod Found
 pub mod Known
+pub mod Given

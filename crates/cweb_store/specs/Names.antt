@@ -86,16 +86,14 @@ is_id n m = nat_eq n.0 m.0
 abbrev pub with_id : List NameId → NameId → List NameId
 with_id files n = if list_any (is_id n) files then files else files ++ n ∷ []
 
--- the file names after one more occurrence, which stands for r
-abbrev pub with_file : List NameId → Occurrence → Standing → List NameId
-with_file files o (Ok n) = if o.is_file then with_id files n else files
-with_file files o (Err kind) = files
+-- the file names after occurrence i
+abbrev pub with_file : List Standing → List NameId → ℕ → Occurrence → List NameId
+with_file rs files i o = if o.is_file then (elim (stands rs i) [ Some n ↦ with_id files n | None ↦ files ]) else files
 
-abbrev pub files_from : List NameId → List Occurrence → List Standing → List NameId
-files_from files [] rs = files
-files_from files (o ∷ os) [] = files
-files_from files (o ∷ os) (r ∷ rs) = files_from (with_file files o r) os rs
+abbrev pub files_from : List Standing → List NameId → ℕ → List Occurrence → List NameId
+files_from rs files i [] = files
+files_from rs files i (o ∷ os) = files_from rs (with_file rs files i o) (i + 1) os
 
 -- the file names, in order of the first occurrence as a file's
 abbrev pub files : List Occurrence → List NameId
-files os = files_from [] os (standings os)
+files os = files_from (standings os) [] 0 os

@@ -4,9 +4,11 @@
 mod found;
 mod known_names;
 mod name;
+mod name_table;
 mod part;
 mod part_list;
 mod reserved;
+mod standing;
 mod token;
 mod token_list;
 
