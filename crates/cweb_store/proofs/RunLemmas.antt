@@ -9,7 +9,7 @@ use Rattle.cweb_store.specs.declared.part.PartKind.{PartKind}
 use Rattle.cweb_store.specs.declared.part.Run.{Run}
 use Rattle.cweb_store.specs.declared.part.Open.{Open}
 use Rattle.cweb_store.specs.Parts.{Token, Part, all_parts, all_tokens, all_closed, pushed, runs_from}
-use Rattle.cweb_store.specs.Runs.{closed_in, open_in, parts_in, Follow, AreRuns}
+use Rattle.cweb_store.specs.Runs.{IsWhole, last_run, closed_in, open_in, parts_in, Follow, AreRuns}
 
 -- a range that ends within the first n tokens is a range of these
 slice_range-take : (ts : List Token) (n i j : ℕ) → j ≤ n → slice_range (take n ts) i j ≡ slice_range ts i j
@@ -85,10 +85,6 @@ Follow-push : (n end after : ℕ) (runs : List Run) (kind : PartKind) → Follow
 Follow-push n end after [] kind h le = (sym h, omega arith, refl)
 Follow-push n end after (r ∷ runs) kind h le = (h.0, h.1, Follow-push r.part.after end after runs kind h.2 le)
 
--- the run of the open part
-abbrev pub last_run : Open → ℕ → Run
-last_run o after = record { kind = o.kind; part = record { first = o.first; after = after } }
-
 pub close-parts : (ts : List Token) (runs : List Run) (o : Open) (places : ℕ) → AreRuns ts runs (Some o) places → parts_in ts (runs ++ last_run o (length ts) ∷ []) None ≡ all_closed (parts_in ts runs (Some o))
 close-parts ts runs o places tied =
     let last : slice_range ts o.first (length ts) ≡ drop o.first ts = take_all (length ts - o.first) (drop o.first ts) (omega (arith, length-drop o.first ts)) in
@@ -100,3 +96,8 @@ close-are ts runs o places more tied = record {
   within = omega arith;
   room = λ h. cc;
 }
+
+-- all tokens of parts that are all closed
+pub whole-tokens : (ts : List Token) (runs : List Run) → IsWhole ts runs → all_tokens (map (closed_in ts) runs) ≡ ts
+whole-tokens ts runs tied =
+    sym (append-nil (all_tokens (map (closed_in ts) runs))) ∙ ap (λ us. all_tokens (map (closed_in ts) runs) ++ us) (sym (drop-length ts)) ∙ closed-whole runs ts 0 (length ts) tied.follow (omega arith)

@@ -51,6 +51,9 @@ pub record Stored : Type 0 where
   pub occurrences : List Occurrence
   pub parts : List Part
 
+abbrev pub stored : List Occurrence → List Part → Stored
+stored occurrences parts = record { occurrences = occurrences; parts = parts }
+
 -- the store of what a builder holds
 abbrev pub finished : Contents → Stored
-finished c = record { occurrences = c.occurrences; parts = all_parts c.parts }
+finished c = stored c.occurrences (all_parts c.parts)

@@ -1,5 +1,5 @@
 -- The faults of names, and their order.
-use Rattle.std.specs.Prelude.{ℕ, Bool, false, not, ◌&&◌, ◌||◌, List, ◌++◌, Option, Some, None, Ok, Err, map, filter, filter_map, bytes_eq, nat_eq}
+use Rattle.std.specs.Prelude.{◌∷◌, [], ℕ, Bool, false, not, ◌&&◌, ◌||◌, List, ◌++◌, Option, Some, None, Ok, Err, map, filter, filter_map, bytes_eq, nat_eq, if◌then◌else◌}
 use Rattle.std.specs.List.{starts_with, list_any, enumerate_from}
 use Rattle.cweb_store.specs.declared.name.NameId.{NameId}
 use Rattle.cweb_store.specs.declared.name.NameKind.{NameKind}
@@ -12,18 +12,28 @@ use Rattle.cweb_store.specs.Parts.{Token, Name, Part, all_tokens, is_some_id, is
 abbrev pub fault : NameKind → ℕ → NameFault
 fault kind i = record { kind = kind; occurrence = record { 0 = i } }
 
+abbrev pub fault_if : Bool → NameKind → ℕ → List NameFault
+fault_if fails kind i = if fails then fault kind i ∷ [] else []
+
 -- the fault of occurrence i, if it stands for no name
 abbrev pub standing_fault : ℕ → Standing → Option NameFault
 standing_fault i (Ok n) = None
 standing_fault i (Err kind) = Some (fault kind i)
 
+-- the same of a list of occurrences, where the first is occurrence i
+abbrev pub standing_faults_from : ℕ → List Standing → List NameFault
+standing_faults_from i rs = filter_map (λ (p : ℕ × Standing). standing_fault p.0 p.1) (enumerate_from i rs)
+
 -- the faults of occurrences that stand for no name, in order of occurrences
 abbrev pub standing_faults : List Standing → List NameFault
-standing_faults rs = filter_map (λ (p : ℕ × Standing). standing_fault p.0 p.1) (enumerate_from 0 rs)
+standing_faults rs = standing_faults_from 0 rs
 
--- a fault for each name that fails, at its first occurrence in full
+-- a fault for each name that fails, at its first occurrence in full, where the first name has number n
+abbrev pub faults_from : ℕ → NameKind → (NameId → List ℕ → Bool) → List spec.Name → List NameFault
+faults_from n kind fails names = map (λ (p : ℕ × spec.Name). fault kind p.1.first) (filter (λ (p : ℕ × spec.Name). fails (id p.0) p.1.text) (enumerate_from n names))
+
 abbrev pub faults_where : NameKind → (NameId → List ℕ → Bool) → List spec.Name → List NameFault
-faults_where kind fails all = map (λ (p : ℕ × spec.Name). fault kind p.1.first) (filter (λ (p : ℕ × spec.Name). fails (id p.0) p.1.text) (enumerate_from 0 all))
+faults_where kind fails names = faults_from 0 kind fails names
 
 -- a text is a proper prefix of a name
 abbrev pub is_prefix_of_another : List spec.Name → List ℕ → Bool

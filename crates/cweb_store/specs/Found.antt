@@ -1,5 +1,5 @@
 -- What there is of the names that begin with a prefix: in a sorted map, and in a list of names.
-use Rattle.std.specs.Prelude.{◌≡◌, ℕ, Bool, false, List, [], ◌∷◌, None, map, filter, nat_eq, bytes_eq, Vec}
+use Rattle.std.specs.Prelude.{◌≡◌, ℕ, Bool, true, false, List, [], ◌∷◌, None, map, filter, nat_eq, bytes_eq, Vec}
 use Rattle.std.specs.List.{starts_with, list_any}
 use Rattle.std.specs.Map.{lookup}
 use Rattle.std.specs.BTreeMap.{is_at}
@@ -16,6 +16,11 @@ abbrev pub found_of : List NameId → Found
 found_of [] = Nothing
 found_of (n ∷ []) = One n
 found_of (n ∷ m ∷ ns) = Several
+
+abbrev pub is_several : Found → Bool
+is_several Nothing = false
+is_several (One n) = false
+is_several Several = true
 
 -- a name in a map, and its number
 abbrev pub Entry : Type 0

@@ -7,3 +7,6 @@ pub mod Runs
 pub mod Found
 pub mod Known
 pub mod Given
+pub mod Gathered
+pub mod Wanted
+pub mod Answers

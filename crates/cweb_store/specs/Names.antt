@@ -82,13 +82,17 @@ stands rs i = elim (slice_get rs i) [ Some r ↦ elim r [ Ok n ↦ Some n | Err 
 abbrev pub is_id : NameId → NameId → Bool
 is_id n m = nat_eq n.0 m.0
 
--- the file names with one more name
+-- distinct names with one more name
 abbrev pub with_id : List NameId → NameId → List NameId
-with_id files n = if list_any (is_id n) files then files else files ++ n ∷ []
+with_id ns n = if list_any (is_id n) ns then ns else ns ++ n ∷ []
+
+abbrev pub with_some : List NameId → Option NameId → List NameId
+with_some ns None = ns
+with_some ns (Some n) = with_id ns n
 
 -- the file names after occurrence i
 abbrev pub with_file : List Standing → List NameId → ℕ → Occurrence → List NameId
-with_file rs files i o = if o.is_file then (elim (stands rs i) [ Some n ↦ with_id files n | None ↦ files ]) else files
+with_file rs files i o = if o.is_file then with_some files (stands rs i) else files
 
 abbrev pub files_from : List Standing → List NameId → ℕ → List Occurrence → List NameId
 files_from rs files i [] = files

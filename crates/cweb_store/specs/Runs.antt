@@ -28,3 +28,11 @@ pub record AreRuns (ts : List Token) (runs : List Run) (current : Option Open) (
   pub follow : Follow 0 runs (floor ts current)
   pub within : floor ts current ≤ length ts
   pub room : IsSome current → length runs < places
+
+-- closed parts that follow one another through all tokens
+pub record IsWhole (ts : List Token) (runs : List Run) : Type 0 where
+  pub follow : Follow 0 runs (length ts)
+
+-- the run of the open part, where its tokens end
+abbrev pub last_run : Open → ℕ → Run
+last_run o after = record { kind = o.kind; part = record { first = o.first; after = after } }

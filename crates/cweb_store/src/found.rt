@@ -14,6 +14,19 @@ pub enum Found {
     Several,
 }
 
+impl Found {
+    ghost use Rattle.cweb_store.specs.Found.{is_several};
+
+    pub fn is_several(self) -> bool
+        ensures { result ≡ is_several self }
+    {
+        match self {
+            Found::Several => true,
+            _ => false,
+        }
+    }
+}
+
 /// The names that begin with a prefix. They stand together in the map, from the prefix on, so two looks decide.
 /// `from` is the prefix once more.
 pub fn find_one(sorted: &BTreeMap<Vec<u8>, NameId>, from: Vec<u8>, prefix: &[u8]) -> Found

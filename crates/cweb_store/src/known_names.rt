@@ -4,6 +4,7 @@ ghost use Rattle.std.specs.Prelude.{false, ◌≡◌, ◌<◌, ◌^◌, [], leng
 ghost use Rattle.std.specs.List.{position_or_len};
 ghost use Rattle.indexmap.specs.IndexMap.{spare, insert_entry};
 ghost use Rattle.cweb_store.specs.Names.{beginning, texts, with_name, with_text};
+ghost use Rattle.cweb_store.specs.Faults.{is_prefix_of_another};
 ghost use Rattle.cweb_store.specs.Found.{found_of};
 ghost use Rattle.cweb_store.specs.Calls.{occurrence_of};
 ghost use Rattle.cweb_store.specs.Known.{early};
@@ -117,6 +118,17 @@ impl KnownNames {
             Some((_, first)) => *first,
             None => unreachable!(),
         }
+    }
+
+    /// Whether a name is a proper prefix of another. Two names begin with one that is, itself and the other.
+    pub fn is_prefix(&self, id: NameId) -> Result<bool, AllocError>
+        requires { id.0 < length self.now }
+        ensures { IfOk result (λ is. option_map (λ n. is_prefix_of_another self.now n.text) (slice_get self.now id.0) ≡ Some is) }
+    {
+        let text = self.text(id);
+        let from = Vec::from_slice(self.alloc, text)?;
+        let found = find_one(&self.sorted, from, text);
+        Ok(found.is_several())
     }
 }
 

@@ -8,7 +8,7 @@ use crate::found::Found;
 use crate::known_names::KnownNames;
 use crate::name::{How, NameId, NameKind, NameRef};
 use crate::reserved::put;
-use crate::standing::{name_at, settled};
+use crate::standing::{add_name_at, settled};
 use indexmap::IndexSet;
 use std::alloc::{AllocError, Global};
 use std::marker::Model;
@@ -77,7 +77,8 @@ impl NameTable {
 
     /// The names.
     pub fn names(&self) -> &KnownNames
-        ensures { result.now ≡ names self.now }
+        ensures names { result.now ≡ names self.now }
+        ensures few { length (names self.now) < 2 ^ 32 }
     {
         &self.known
     }
@@ -92,7 +93,8 @@ impl NameTable {
 
     /// What each occurrence stands for.
     pub fn standings(&self) -> Result<Vec<Result<NameId, NameKind>>, AllocError>
-        ensures { IfOk result (λ all. all.items ≡ standings self.now) }
+        ensures standings { IfOk result (λ all. all.items ≡ standings self.now) }
+        ensures few { IfOk result (λ all. length all.items < 2 ^ 32) }
     {
         let mut all = Vec::with_capacity(self.alloc, self.given.len())?;
         for given in &self.given {
@@ -111,9 +113,7 @@ impl NameTable {
         let mut files = IndexSet::new(self.alloc);
         for (i, given) in self.given.iter().enumerate() {
             if given.is_file {
-                if let Some(id) = name_at(standings, i) {
-                    files.insert(id)?;
-                }
+                add_name_at(&mut files, standings, i)?;
             }
         }
         Ok(files)

@@ -1,6 +1,10 @@
-ghost use Rattle.std.specs.Prelude.{◌≡◌, ◌<◌, ◌^◌, length, is_some, Some, IsSome, IsNone, OnOk, OnErr, slice_get};
-ghost use Rattle.cweb_store.specs.Parts.{all_closed, all_parts, all_tokens, no_parts, opened, pushed, runs_from, token_count};
+// Parts while they are given.
 
+ghost use Rattle.std.specs.Prelude.{◌≡◌, ◌<◌, ◌^◌, IsSome, IsNone, OnOk, OnErr};
+ghost use Rattle.cweb_store.specs.Parts.{all_closed, all_parts, no_parts, opened, pushed, token_count};
+ghost use Rattle.cweb_store.specs.Runs.{last_run};
+
+use crate::closed_parts::ClosedParts;
 use crate::part::{Open, Part, PartKind, Run};
 use crate::reserved::put;
 use crate::token::Token;
@@ -66,46 +70,49 @@ impl PartList {
         Ok(())
     }
 
-    pub fn is_open(&self) -> bool
-        ensures { result ≡ is_some self.now.current }
-    {
-        self.current.is_some()
-    }
-
     /// Ends the open part.
     pub fn close(&mut self)
         requires open { IsSome self.old.current }
         requires few { token_count self.old < 2 ^ 32 }
         ensures { self.new ≡ all_closed self.old }
     {
-        let Some(open) = self.current else {
+        let Some(current) = self.current else {
             return;
         };
-        let after = self.tokens.len() as u32;
-        let part = Part {
-            first: open.first,
-            after,
-        };
-        let run = Run {
-            kind: open.kind,
-            part,
-        };
+        let run = closed_run(current, self.tokens.len() as u32);
         self.current = None;
         put(&mut self.runs, run);
     }
 
-    /// The token with a number.
-    pub fn token(&self, number: usize) -> Token<'_>
-        requires { number < token_count self.now }
-        ensures { slice_get (all_tokens (all_parts self.now)) number ≡ Some (seen result) }
+    /// The parts, where one that is open counts as it stands.
+    pub fn finish(self) -> ClosedParts
+        requires { token_count self < 2 ^ 32 }
+        ensures { result ≡ all_parts self }
     {
-        self.tokens.token(number)
+        let PartList {
+            tokens,
+            mut runs,
+            current,
+        } = self;
+        let Some(current) = current else {
+            return ClosedParts { tokens, runs };
+        };
+        let run = closed_run(current, tokens.len() as u32);
+        put(&mut runs, run);
+        ClosedParts { tokens, runs }
     }
+}
 
-    /// The parts that are closed.
-    pub fn runs(&self) -> &[Run]
-        ensures { result.now ≡ runs_from 0 self.now.closed }
-    {
-        self.runs.as_slice()
+// The run of a part whose tokens end before a number.
+fn closed_run(current: Open, after: u32) -> Run
+    ensures { result ≡ last_run current after }
+{
+    let part = Part {
+        first: current.first,
+        after,
+    };
+    Run {
+        kind: current.kind,
+        part,
     }
 }

@@ -1,6 +1,10 @@
-ghost use Rattle.std.specs.Prelude.{◌≡◌, ◌<◌, ◌++◌, ◌∷◌, [], length, Some, slice_get, OnOk, OnErr};
+ghost use Rattle.std.specs.Prelude.{◌≡◌, ◌<◌, ◌++◌, ◌∷◌, [], length, Some, slice_get, IfOk, OnOk, OnErr};
+ghost use Rattle.cweb_store.specs.Gathered.{used_from};
 
+use crate::name::{NameId, NameKind};
+use crate::standing::add_name_at;
 use crate::token::{Kept, Token};
+use indexmap::IndexSet;
 use std::alloc::{AllocError, Global};
 use std::marker::Model;
 
@@ -55,5 +59,21 @@ impl TokenList {
         ensures { slice_get self.now number ≡ Some (seen result) }
     {
         self.kept[number].lent()
+    }
+
+    /// The names that the tokens use.
+    pub fn uses(
+        &self,
+        standings: &[Result<NameId, NameKind>],
+    ) -> Result<IndexSet<NameId>, AllocError>
+        ensures { IfOk result (λ used. used.keys ≡ used_from standings.now [] self.now) }
+    {
+        let mut used = IndexSet::new(self.alloc);
+        for kept in &self.kept {
+            if let Kept::Name(name) = kept {
+                add_name_at(&mut used, standings, name.0 as usize)?;
+            }
+        }
+        Ok(used)
     }
 }
