@@ -23,3 +23,6 @@ pub use part::{Part, PartKind};
 pub use parts::Parts;
 pub use store::Store;
 pub use token::Token;
+
+#[cfg(test)]
+mod tests;
