@@ -10,3 +10,4 @@ pub mod Given
 pub mod Gathered
 pub mod Wanted
 pub mod Answers
+pub mod Laws

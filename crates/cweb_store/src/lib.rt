@@ -6,6 +6,7 @@ mod closed_parts;
 mod faults;
 mod found;
 mod known_names;
+pub mod laws;
 mod name;
 mod name_table;
 mod part;
