@@ -4,7 +4,6 @@ ghost use Rattle.std.specs.Prelude.{◌≡◌, ◌≤◌, length, is_some, All};
 ghost use Rattle.cweb_store.specs.Parts.{all_tokens, token_count};
 
 use super::*;
-use cweb_files::{FileId, Place};
 use std::alloc::{AllocError, Global};
 use std::process::Abort;
 use std::test::Fail;
