@@ -1,0 +1,73 @@
+-- Which names are among those that are gathered from tokens and parts.
+use Rattle.std.proofs.Common.{◌≡◌, ℕ, ◌+◌, Bool, true, false, ◌||◌, List, [], ◌∷◌, ◌++◌, Some, None, Option, length, refl, sym, ◌∙◌, ap}
+use Rattle.std.specs.Prelude.{if◌then◌else◌, nat_eq}
+use Rattle.std.specs.List.{list_any}
+use Rattle.std.proofs.lemmas.Bool.{eqb-true}
+use Rattle.std.proofs.lemmas.List.Folds.{list_any-append}
+use Rattle.cweb_store.specs.declared.name.NameId.{NameId}
+use Rattle.cweb_store.specs.declared.part.PartKind.{PartKind}
+use Rattle.cweb_store.specs.declared.part.PartKind.TheVariants.{Unnamed, Named}
+use Rattle.cweb_store.specs.Names.{Standing, stands, is_id, with_id, with_some}
+use Rattle.cweb_store.specs.Parts as spec
+use Rattle.cweb_store.specs.Parts.{Token, Part, is_some_id, is_of, runs_from}
+use Rattle.cweb_store.specs.Faults.{is_use, has_part}
+use Rattle.cweb_store.specs.Gathered.{with_use, used_from, with_part, present_from}
+
+or-none : (b : Bool) → (b || false) ≡ b
+or-none true = refl
+or-none false = refl
+
+or-assoc : (a b c : Bool) → ((a || b) || c) ≡ (a || (b || c))
+or-assoc true b c = refl
+or-assoc false b c = refl
+
+any-with_id : (n m : NameId) (ns : List NameId) → list_any (is_id n) (with_id ns m) ≡ (list_any (is_id n) ns || is_id n m)
+any-with_id n m ns =
+    (elim (list_any (is_id m) ns) as (λ b. list_any (is_id m) ns ≡ b → list_any (is_id n) (if b then ns else ns ++ m ∷ []) ≡ (list_any (is_id n) ns || is_id n m)) [
+      | true ↦ λ h. (elim (is_id n m) as (λ e. is_id n m ≡ e → list_any (is_id n) ns ≡ (list_any (is_id n) ns || e)) [
+        | true ↦ λ e. let there : list_any (is_id n) ns ≡ true = ap (λ k. list_any (λ (x : NameId). nat_eq k x.0) ns) (eqb-true n.0 m.0 e) ∙ h in there ∙ ap (λ b. b || true) (sym there)
+        | false ↦ λ e. sym (or-none (list_any (is_id n) ns))
+      ]) refl
+      | false ↦ λ h. list_any-append (is_id n) ns (m ∷ []) ∙ ap (λ b. list_any (is_id n) ns || b) (or-none (is_id n m))
+    ]) refl
+
+any-with_some : (n : NameId) (o : Option NameId) (ns : List NameId) → list_any (is_id n) (with_some ns o) ≡ (list_any (is_id n) ns || is_some_id n o)
+any-with_some n None ns = sym (or-none (list_any (is_id n) ns))
+any-with_some n (Some m) ns = any-with_id n m ns
+
+any-with_use : (rs : List Standing) (n : NameId) (t : Token) (ns : List NameId) → list_any (is_id n) (with_use rs ns t) ≡ (list_any (is_id n) ns || is_use rs n t)
+any-with_use rs n (spec.Name name) ns = any-with_some n (stands rs name.0) ns
+any-with_use rs n (spec.Word bytes) ns = sym (or-none (list_any (is_id n) ns))
+any-with_use rs n (spec.Number bytes) ns = sym (or-none (list_any (is_id n) ns))
+any-with_use rs n (spec.Literal bytes) ns = sym (or-none (list_any (is_id n) ns))
+any-with_use rs n (spec.Verbatim bytes) ns = sym (or-none (list_any (is_id n) ns))
+any-with_use rs n (spec.Punct bytes) ns = sym (or-none (list_any (is_id n) ns))
+any-with_use rs n spec.Blank ns = sym (or-none (list_any (is_id n) ns))
+any-with_use rs n spec.Newline ns = sym (or-none (list_any (is_id n) ns))
+any-with_use rs n spec.Join ns = sym (or-none (list_any (is_id n) ns))
+any-with_use rs n spec.Defs ns = sym (or-none (list_any (is_id n) ns))
+any-with_use rs n (spec.Head section) ns = sym (or-none (list_any (is_id n) ns))
+any-with_use rs n (spec.Tail section) ns = sym (or-none (list_any (is_id n) ns))
+any-with_use rs n (spec.Mark place) ns = sym (or-none (list_any (is_id n) ns))
+
+any-used_from : (rs : List Standing) (n : NameId) (ns : List NameId) (ts : List Token) → list_any (is_id n) (used_from rs ns ts) ≡ (list_any (is_id n) ns || list_any (is_use rs n) ts)
+any-used_from rs n ns [] = sym (or-none (list_any (is_id n) ns))
+any-used_from rs n ns (t ∷ ts) =
+    any-used_from rs n (with_use rs ns t) ts ∙ ap (λ b. b || list_any (is_use rs n) ts) (any-with_use rs n t ns) ∙ or-assoc (list_any (is_id n) ns) (is_use rs n t) (list_any (is_use rs n) ts)
+
+-- a name is among those that tokens use where a token uses it
+pub any-used : (rs : List Standing) (n : NameId) (ts : List Token) → list_any (is_id n) (used_from rs [] ts) ≡ list_any (is_use rs n) ts
+any-used rs n ts = any-used_from rs n [] ts
+
+any-with_part : (rs : List Standing) (n : NameId) (kind : PartKind) (ns : List NameId) → list_any (is_id n) (with_part rs ns kind) ≡ (list_any (is_id n) ns || is_of rs n kind)
+any-with_part rs n Unnamed ns = sym (or-none (list_any (is_id n) ns))
+any-with_part rs n (Named name) ns = any-with_some n (stands rs name.0) ns
+
+any-present_from : (rs : List Standing) (n : NameId) (ns : List NameId) (k : ℕ) (ps : List Part) → list_any (is_id n) (present_from rs ns (runs_from k ps)) ≡ (list_any (is_id n) ns || has_part rs ps n)
+any-present_from rs n ns k [] = sym (or-none (list_any (is_id n) ns))
+any-present_from rs n ns k (p ∷ ps) =
+    any-present_from rs n (with_part rs ns p.kind) (k + length p.tokens) ps ∙ ap (λ b. b || has_part rs ps n) (any-with_part rs n p.kind ns) ∙ or-assoc (list_any (is_id n) ns) (is_of rs n p.kind) (has_part rs ps n)
+
+-- a name is among those that have a part where a part belongs to it
+pub any-present : (rs : List Standing) (n : NameId) (ps : List Part) → list_any (is_id n) (present_from rs [] (runs_from 0 ps)) ≡ has_part rs ps n
+any-present rs n ps = any-present_from rs n [] 0 ps

@@ -1,0 +1,58 @@
+-- How the one name of a prefix changes with one more name in the sorted map.
+use Rattle.std.proofs.Common.{◌≡◌, ℕ, Bool, true, false, cond, List, [], ◌∷◌, map, filter, Some, None, refl, sym, ◌∙◌, ap}
+use Rattle.std.specs.Prelude.{nat_eq, Vec}
+use Rattle.std.specs.List.{starts_with}
+use Rattle.std.specs.Map.{lookup}
+use Rattle.std.specs.BTreeMap.{insert_entry, is_at}
+use Rattle.std.specs.Ordering.{match_ordering, is_eq}
+use Rattle.std.specs.declared.cmp.Ordering.TheVariants.{Less, Equal, Greater}
+use Rattle.std.specs.declared.alloc.Global.{Global}
+use Rattle.cweb_store.specs.declared.name.NameId.{NameId}
+use Rattle.cweb_store.specs.declared.found.Found.{Found}
+use Rattle.cweb_store.specs.declared.found.Found.TheVariants.{Nothing, One, Several}
+use Rattle.cweb_store.specs.Found.{Entry, order, begins, found_of}
+
+-- the one that there is, with one more number that counts or not
+abbrev pub grown : Bool → NameId → Found → Found
+grown false v f = f
+grown true v Nothing = One v
+grown true v (One n) = Several
+grown true v Several = Several
+
+pub found-first : (n : NameId) (ns : List NameId) → found_of (n ∷ ns) ≡ grown true n (found_of ns)
+found-first n [] = refl
+found-first n (m ∷ []) = refl
+found-first n (m ∷ k ∷ ns) = refl
+
+abbrev found : List Entry → Found
+found es = found_of (map (λ e. e.1) es)
+
+found-cons : (e : Entry) (es : List Entry) → found (e ∷ es) ≡ grown true e.1 (found es)
+found-cons e [] = refl
+found-cons e (f ∷ []) = refl
+found-cons e (f ∷ g ∷ es) = refl
+
+pub grown-swap : (a v : NameId) (b : Bool) (f : Found) → grown true a (grown b v f) ≡ grown b v (grown true a f)
+grown-swap a v false f = refl
+grown-swap a v true Nothing = refl
+grown-swap a v true (One n) = refl
+grown-swap a v true Several = refl
+
+found-one : (b : Bool) (e : Entry) (es : List Entry) → found (cond b (e ∷ es) es) ≡ grown b e.1 (found es)
+found-one true e es = found-cons e es
+found-one false e es = refl
+
+pub found-insert : (p : List ℕ) (es : List Entry) (k : Vec ℕ Global) (v : NameId) → lookup (is_at (order k)) es ≡ None →
+    found (filter (begins p) (insert_entry order es k v)) ≡ grown (starts_with nat_eq k.items p) v (found (filter (begins p) es))
+found-insert p [] k v absent = found-one (starts_with nat_eq k.items p) (k, v) []
+found-insert p (e ∷ es) k v absent =
+    (elim (order k e.0) as (λ o. order k e.0 ≡ o → cond (is_eq o) (Some e.1) (lookup (is_at (order k)) es) ≡ None →
+    found (filter (begins p) (match_ordering o ((k, v) ∷ e ∷ es) ((e.0, v) ∷ es) (e ∷ insert_entry order es k v))) ≡ grown (starts_with nat_eq k.items p) v (found (filter (begins p) (e ∷ es)))) [
+      | Less ↦ λ is h. found-one (starts_with nat_eq k.items p) (k, v) (filter (begins p) (e ∷ es))
+      | Equal ↦ λ is h. cc
+      | Greater ↦ λ is h. (elim (starts_with nat_eq e.0.items p) as (λ b. found (cond b (e ∷ filter (begins p) (insert_entry order es k v)) (filter (begins p) (insert_entry order es k v))) ≡ grown (starts_with nat_eq k.items p) v (found (cond b (e ∷ filter (begins p) es) (filter (begins p) es)))) [
+        | true ↦ found-cons e (filter (begins p) (insert_entry order es k v)) ∙ ap (grown true e.1) (found-insert p es k v h) ∙ grown-swap e.1 v (starts_with nat_eq k.items p) (found (filter (begins p) es))
+            ∙ ap (grown (starts_with nat_eq k.items p) v) (sym (found-cons e (filter (begins p) es)))
+        | false ↦ found-insert p es k v h
+      ])
+    ]) refl absent

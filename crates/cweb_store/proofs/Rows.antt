@@ -1,0 +1,108 @@
+-- The definitions, computed on small lists of calls.
+use Rattle.std.proofs.Common.{◌≡◌, ℕ, List, [], ◌∷◌, refl, true, false}
+use Rattle.std.specs.Prelude.{codes, Ok, Err}
+use Rattle.cweb_store.specs.declared.name.How.{How}
+use Rattle.cweb_store.specs.declared.name.How.TheVariants.{Full, Prefix}
+use Rattle.cweb_store.specs.declared.name.NameFault.{NameFault}
+use Rattle.cweb_store.specs.declared.name.NameKind.TheVariants.{Ambiguous, NeverFull, PrefixOfAnother, NotPresent}
+use Rattle.cweb_store.specs.declared.name.NameRef.{NameRef}
+use Rattle.cweb_store.specs.declared.part.PartKind.{PartKind}
+use Rattle.cweb_store.specs.declared.part.PartKind.TheVariants.{Unnamed, Named}
+use Rattle.cweb_store.specs.Names.{Occurrence, id, names, texts, standings, files}
+use Rattle.cweb_store.specs.Parts.{Token, Word, Name, Blank, joined, is_of, is_unnamed, numbers_where}
+use Rattle.cweb_store.specs.Faults.{fault, faults}
+use Rattle.cweb_store.specs.Calls.{Call, Occurs, Opens, Pushes, Closes, Stored, contents, finished, occurrence_of}
+
+abbrev stored : List Call → Stored
+stored calls = finished (contents calls)
+
+abbrev faults_of : List Call → List NameFault
+faults_of calls = faults (stored calls).occurrences (stored calls).parts
+
+abbrev joined_of : List Call → ℕ → List Token
+joined_of calls n = joined (is_of (standings (stored calls).occurrences) (id n)) (stored calls).parts
+
+abbrev ref : ℕ → NameRef
+ref i = record { 0 = i }
+
+abbrev named : ℕ → PartKind
+named i = Named (ref i)
+
+abbrev glob : Occurrence
+glob = occurrence_of (codes "Glob") Prefix false
+
+abbrev variables : Occurrence
+variables = occurrence_of (codes "Global variables") Full false
+
+abbrev types : Occurrence
+types = occurrence_of (codes "Global types") Full false
+
+abbrev zz : Occurrence
+zz = occurrence_of (codes "Zz") Prefix false
+
+abbrev header : How → List ℕ → Occurrence
+header how text = occurrence_of text how true
+
+-- an abbreviation before the only name that it fits stands for it
+before_the_only_name : standings (glob ∷ variables ∷ []) ≡ Ok (id 0) ∷ Ok (id 0) ∷ []
+before_the_only_name = refl
+
+before_two_names : standings (glob ∷ variables ∷ types ∷ []) ≡ Err Ambiguous ∷ Ok (id 0) ∷ Ok (id 1) ∷ []
+before_two_names = refl
+
+-- what comes later doesn't count where an earlier name fits
+between_two_names : standings (variables ∷ glob ∷ types ∷ []) ≡ Ok (id 0) ∷ Ok (id 0) ∷ Ok (id 1) ∷ []
+between_two_names = refl
+
+after_two_names : standings (variables ∷ types ∷ glob ∷ []) ≡ Ok (id 0) ∷ Ok (id 1) ∷ Err Ambiguous ∷ []
+after_two_names = refl
+
+never_in_full : standings (zz ∷ []) ≡ Err NeverFull ∷ []
+never_in_full = refl
+
+given_twice : texts (names (variables ∷ types ∷ variables ∷ [])) ≡ codes "Global variables" ∷ codes "Global types" ∷ []
+given_twice = refl
+
+-- a file name may be given in full elsewhere, and as a file's by an abbreviation
+by_abbreviation : files (occurrence_of (codes "a.h") Full false ∷ header Full (codes "b.h") ∷ header Prefix (codes "a") ∷ header Full (codes "b.h") ∷ []) ≡ id 1 ∷ id 0 ∷ []
+by_abbreviation = refl
+
+abbrev prefixed : List Call
+prefixed = Occurs (occurrence_of (codes "ab") Full false) ∷ Opens (named 0) ∷ Pushes (Word (codes "x")) ∷ Closes
+    ∷ Occurs (occurrence_of (codes "abc") Full false) ∷ Opens (named 1) ∷ Pushes (Word (codes "y")) ∷ Closes ∷ []
+
+a_prefix_of_another : faults_of prefixed ≡ fault PrefixOfAnother 0 ∷ []
+a_prefix_of_another = refl
+
+a_file_without_part : faults_of (Occurs (header Full (codes "a.h")) ∷ []) ≡ fault NotPresent 0 ∷ []
+a_file_without_part = refl
+
+-- B is used by a part that belongs to no name
+abbrev of_no_name : List Call
+of_no_name = Occurs zz ∷ Opens (named 0) ∷ Occurs (occurrence_of (codes "B") Full false) ∷ Pushes (Name (ref 1)) ∷ Closes ∷ []
+
+used_by_a_part_of_no_name : faults_of of_no_name ≡ fault NeverFull 0 ∷ fault NotPresent 1 ∷ []
+used_by_a_part_of_no_name = refl
+
+-- first what stands for nothing, then prefixes of others, then what is missed, each in order
+abbrev in_order : List Call
+in_order = Occurs (header Full (codes "Glob")) ∷ Occurs (header Full (codes "Global")) ∷ Occurs zz ∷ Occurs glob ∷ []
+
+order_of_faults : faults_of in_order ≡ fault NeverFull 2 ∷ fault Ambiguous 3 ∷ fault PrefixOfAnother 0 ∷ fault NotPresent 0 ∷ fault NotPresent 1 ∷ []
+order_of_faults = refl
+
+-- a part of A, a part of the program, and a part of A that is still open
+abbrev joins : List Call
+joins = Occurs (occurrence_of (codes "A") Full false) ∷ Opens (named 0) ∷ Pushes (Word (codes "a")) ∷ Pushes Blank ∷ Closes
+    ∷ Opens Unnamed ∷ Occurs (occurrence_of (codes "A") Full false) ∷ Pushes (Name (ref 1)) ∷ Closes
+    ∷ Occurs (occurrence_of (codes "A") Full false) ∷ Opens (named 2) ∷ Pushes (Word (codes "b")) ∷ []
+
+joined_in_order : joined_of joins 0 ≡ Word (codes "a") ∷ Blank ∷ Word (codes "b") ∷ []
+joined_in_order = refl
+
+the_program : joined is_unnamed (stored joins).parts ≡ Name (ref 1) ∷ []
+the_program = refl
+
+numbers_of_parts : numbers_where (is_of (standings (stored joins).occurrences) (id 0)) (stored joins).parts
+    ≡ (record { first = 0; after = 2 }) ∷ (record { first = 3; after = 4 }) ∷ []
+numbers_of_parts = refl

@@ -1,0 +1,59 @@
+-- What a builder holds, and what each call makes of it.
+use Rattle.std.specs.Prelude.{ℕ, Bool, List, [], ◌∷◌, ◌++◌, fold}
+use Rattle.cweb_store.specs.declared.name.How.{How}
+use Rattle.cweb_store.specs.declared.part.PartKind.{PartKind}
+use Rattle.cweb_store.specs.Names.{Occurrence}
+use Rattle.cweb_store.specs.Parts.{Token, Part, PartsSoFar, no_parts, all_parts, opened, pushed, all_closed}
+
+-- the occurrences of names and the parts so far
+pub record Contents : Type 0 where
+  pub occurrences : List Occurrence
+  pub parts : PartsSoFar
+
+abbrev pub empty : Contents
+empty = record { occurrences = []; parts = no_parts }
+
+abbrev pub occurrence_of : List ℕ → How → Bool → Occurrence
+occurrence_of text how is_file = record { text = text; how = how; is_file = is_file }
+
+abbrev pub with_occurrence : Occurrence → Contents → Contents
+with_occurrence o c = record c { occurrences = c.occurrences ++ o ∷ [] }
+
+abbrev pub with_open : PartKind → Contents → Contents
+with_open kind c = record c { parts = opened kind c.parts }
+
+abbrev pub with_token : Token → Contents → Contents
+with_token t c = record c { parts = pushed t c.parts }
+
+abbrev pub with_closed : Contents → Contents
+with_closed c = record c { parts = all_closed c.parts }
+
+-- a call that was not refused
+pub data Call : Type 0 where
+  Occurs : (occurrence : Occurrence) → Call
+  Opens : (kind : PartKind) → Call
+  Pushes : (token : Token) → Call
+  Closes : Call
+
+-- the contents after a call
+abbrev pub after : Contents → Call → Contents
+after c (Occurs o) = with_occurrence o c
+after c (Opens kind) = with_open kind c
+after c (Pushes token) = with_token token c
+after c Closes = with_closed c
+
+-- the contents after a list of calls
+abbrev pub contents : List Call → Contents
+contents calls = fold after empty calls
+
+-- what a store holds for good
+pub record Stored : Type 0 where
+  pub occurrences : List Occurrence
+  pub parts : List Part
+
+abbrev pub stored : List Occurrence → List Part → Stored
+stored occurrences parts = record { occurrences = occurrences; parts = parts }
+
+-- the store of what a builder holds
+abbrev pub finished : Contents → Stored
+finished c = stored c.occurrences (all_parts c.parts)

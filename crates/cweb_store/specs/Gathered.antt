@@ -1,0 +1,25 @@
+-- The names that tokens use, and those that have a part.
+use Rattle.std.specs.Prelude.{List, [], ◌∷◌}
+use Rattle.cweb_store.specs.declared.name.NameId.{NameId}
+use Rattle.cweb_store.specs.declared.part.PartKind.{PartKind}
+use Rattle.cweb_store.specs.declared.part.PartKind.TheVariants.{Unnamed, Named}
+use Rattle.cweb_store.specs.declared.part.Run.{Run}
+use Rattle.cweb_store.specs.Names.{Standing, stands, with_some}
+use Rattle.cweb_store.specs.Parts.{Token, Name}
+
+abbrev pub with_use : List Standing → List NameId → Token → List NameId
+with_use rs ns (Name name) = with_some ns (stands rs name.0)
+with_use rs ns token = ns
+
+-- the names that tokens use, after others
+abbrev pub used_from : List Standing → List NameId → List Token → List NameId
+used_from rs ns [] = ns
+used_from rs ns (t ∷ ts) = used_from rs (with_use rs ns t) ts
+
+abbrev pub with_part : List Standing → List NameId → PartKind → List NameId
+with_part rs ns kind = elim kind [ Unnamed ↦ ns | Named name ↦ with_some ns (stands rs name.0) ]
+
+-- the names that have one of the parts, after others
+abbrev pub present_from : List Standing → List NameId → List Run → List NameId
+present_from rs ns [] = ns
+present_from rs ns (r ∷ rest) = present_from rs (with_part rs ns r.kind) rest

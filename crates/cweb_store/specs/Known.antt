@@ -1,0 +1,34 @@
+-- Names in a map, and what is found of an occurrence when it is given.
+use Rattle.std.specs.Prelude.{ℕ, ◌+◌, List, [], ◌∷◌, Ok, Err, map, bytes_eq, Vec}
+use Rattle.std.specs.List.{position_or_len}
+use Rattle.std.specs.declared.alloc.Global.{Global}
+use Rattle.cweb_store.specs.declared.name.How.TheVariants.{Full, Prefix}
+use Rattle.cweb_store.specs.declared.name.NameKind.TheVariants.{Ambiguous}
+use Rattle.cweb_store.specs.declared.found.Found.{Found}
+use Rattle.cweb_store.specs.declared.found.Found.TheVariants.{Nothing, One, Several}
+use Rattle.cweb_store.specs.Names.{Occurrence, Name, Standing, id, texts, beginning, with_name}
+use Rattle.cweb_store.specs.Found.{found_of}
+
+abbrev pub name_in : (Vec ℕ Global × ℕ) → Name
+name_in e = record { text = e.0.items; first = e.1 }
+
+-- the names that a map keeps as its keys
+abbrev pub names_in : List (Vec ℕ Global × ℕ) → List Name
+names_in es = map name_in es
+
+-- what the names before an occurrence, and its own where it gives one, say of it
+abbrev pub early : List Name → Occurrence → Found
+early before o = elim o.how [
+  | Full ↦ One (id (position_or_len (bytes_eq o.text) (texts before)))
+  | Prefix ↦ found_of (beginning o.text before)
+]
+
+abbrev pub earlies_from : ℕ → List Name → List Occurrence → List Found
+earlies_from i before [] = []
+earlies_from i before (o ∷ os) = early before o ∷ earlies_from (i + 1) (with_name i before o) os
+
+-- what an occurrence stands for by what is found; where nothing is, something else decides
+abbrev pub by_found : Found → Standing → Standing
+by_found Nothing otherwise = otherwise
+by_found (One n) otherwise = Ok n
+by_found Several otherwise = Err Ambiguous

@@ -1,0 +1,13 @@
+pub mod Names
+pub mod Parts
+pub mod Faults
+pub mod Calls
+pub mod Seen
+pub mod Runs
+pub mod Found
+pub mod Known
+pub mod Given
+pub mod Gathered
+pub mod Wanted
+pub mod Answers
+pub mod Laws

@@ -1,0 +1,17 @@
+-- Which parts are wanted.
+use Rattle.std.specs.Prelude.{Bool, List, map, filter}
+use Rattle.cweb_store.specs.declared.part.PartKind.{PartKind}
+use Rattle.cweb_store.specs.declared.part.Part.{Part}
+use Rattle.cweb_store.specs.declared.part.Run.{Run}
+use Rattle.cweb_store.specs.declared.parts.Wanted.{Wanted}
+use Rattle.cweb_store.specs.declared.parts.Wanted.TheVariants.{Program, OfName}
+use Rattle.cweb_store.specs.Names.{Standing}
+use Rattle.cweb_store.specs.Parts.{is_unnamed, is_of}
+
+abbrev pub is_wanted : List Standing → Wanted → PartKind → Bool
+is_wanted rs Program kind = is_unnamed kind
+is_wanted rs (OfName n) kind = is_of rs n kind
+
+-- the parts that are wanted, in order
+abbrev pub wanted_in : List Standing → Wanted → List Run → List Part
+wanted_in rs wanted runs = map (λ (r : Run). r.part) (filter (λ (r : Run). is_wanted rs wanted r.kind) runs)

@@ -1,0 +1,62 @@
+// Parts that are all given.
+
+ghost use Rattle.std.specs.Prelude.{◌≡◌, ◌<◌, [], length, Some, IfOk, slice_get};
+ghost use Rattle.cweb_store.specs.Parts.{all_tokens, runs_from};
+ghost use Rattle.cweb_store.specs.Gathered.{used_from};
+
+use crate::name::{NameId, NameKind};
+use crate::part::Run;
+use crate::token::Token;
+use crate::token_list::TokenList;
+use indexmap::IndexSet;
+use std::alloc::AllocError;
+use std::marker::Model;
+
+/// Parts: the tokens of all of them in one list, and where each part begins and ends in it.
+#[derive(Drop)]
+pub struct ClosedParts {
+    pub tokens: TokenList,
+    pub runs: Vec<Run>,
+}
+
+impl Model for ClosedParts {
+    ghost use Rattle.std.specs.Prelude.{List, map};
+    ghost use Rattle.cweb_store.specs.Parts.{Part};
+
+    ghost Value = { List Part };
+
+    ghost use Rattle.cweb_store.specs.Runs.{closed_in, IsWhole};
+
+    ghost view = { λ s. map (closed_in s.tokens) s.runs.items };
+
+    ghost invariant = { λ s. IsWhole s.tokens s.runs.items };
+}
+
+impl ClosedParts {
+    ghost use Rattle.cweb_store.specs.Seen.{seen};
+
+    /// The token with a number.
+    pub fn token(&self, number: usize) -> Token<'_>
+        requires { number < length (all_tokens self.now) }
+        ensures { slice_get (all_tokens self.now) number ≡ Some (seen result) }
+    {
+        self.tokens.token(number)
+    }
+
+    /// The parts in order, as runs of token numbers.
+    pub fn runs(&self) -> &[Run]
+        ensures { result.now ≡ runs_from 0 self.now }
+    {
+        self.runs.as_slice()
+    }
+
+    /// The names that the parts use.
+    pub fn uses(
+        &self,
+        standings: &[Result<NameId, NameKind>],
+    ) -> Result<IndexSet<NameId>, AllocError>
+        ensures { IfOk result (λ used. used.keys ≡ used_from standings.now [] (all_tokens self.now)) }
+    {
+        self.tokens.uses(standings)
+    }
+}

@@ -1,0 +1,29 @@
+//! The names, parts and tokens of a web: a builder that is given them one after another, and the store that it makes of them.
+#![tactic(auto)]
+
+mod builder;
+mod closed_parts;
+mod faults;
+mod found;
+mod known_names;
+pub mod laws;
+mod name;
+mod name_table;
+mod part;
+mod part_list;
+mod parts;
+mod reserved;
+mod standing;
+mod store;
+mod token;
+mod token_list;
+
+pub use builder::Builder;
+pub use name::{How, NameFault, NameId, NameKind, NameRef};
+pub use part::{Part, PartKind};
+pub use parts::Parts;
+pub use store::Store;
+pub use token::Token;
+
+#[cfg(test)]
+mod tests;

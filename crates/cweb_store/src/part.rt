@@ -1,0 +1,33 @@
+// Parts of a program, as runs of token numbers.
+
+use crate::name::NameRef;
+
+/// What a part belongs to.
+#[derive(Clone, Copy, Debug, PartialEq, Eq, Hash)]
+pub enum PartKind {
+    /// The program itself.
+    Unnamed,
+    /// The name that this occurrence stands for.
+    Named(NameRef),
+}
+
+/// A part: the numbers of its tokens, from the first up to the one after its last.
+#[derive(Clone, Copy, Debug, PartialEq, Eq, Hash)]
+pub struct Part {
+    pub first: u32,
+    pub after: u32,
+}
+
+/// A part that is closed, and what it belongs to.
+#[derive(Clone, Copy)]
+pub struct Run {
+    pub kind: PartKind,
+    pub part: Part,
+}
+
+/// The part that is open, and the number of its first token.
+#[derive(Clone, Copy)]
+pub struct Open {
+    pub kind: PartKind,
+    pub first: u32,
+}

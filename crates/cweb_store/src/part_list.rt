@@ -1,0 +1,118 @@
+// Parts while they are given.
+
+ghost use Rattle.std.specs.Prelude.{◌≡◌, ◌<◌, ◌^◌, IsSome, IsNone, OnOk, OnErr};
+ghost use Rattle.cweb_store.specs.Parts.{all_closed, all_parts, no_parts, opened, pushed, token_count};
+ghost use Rattle.cweb_store.specs.Runs.{last_run};
+
+use crate::closed_parts::ClosedParts;
+use crate::part::{Open, Part, PartKind, Run};
+use crate::reserved::put;
+use crate::token::Token;
+use crate::token_list::TokenList;
+use std::alloc::{AllocError, Global};
+use std::marker::Model;
+
+/// Parts: the tokens of all of them in one list, and where each part begins and ends in it.
+#[derive(Drop)]
+pub struct PartList {
+    tokens: TokenList,
+    runs: Vec<Run>,
+    current: Option<Open>,
+}
+
+impl Model for PartList {
+    ghost use Rattle.std.specs.Prelude.{vec_capacity};
+    ghost use Rattle.cweb_store.specs.Parts.{PartsSoFar};
+
+    ghost Value = { PartsSoFar };
+
+    ghost use Rattle.cweb_store.specs.Runs.{parts_in, AreRuns};
+
+    ghost view = { λ s. parts_in s.tokens s.runs.items s.current };
+
+    ghost invariant = { λ s. AreRuns s.tokens s.runs.items s.current (vec_capacity s.runs) };
+}
+
+impl PartList {
+    ghost use Rattle.cweb_store.specs.Seen.{seen};
+
+    pub fn new(alloc: Global) -> PartList
+        ensures { result ≡ no_parts }
+    {
+        PartList {
+            tokens: TokenList::new(alloc),
+            runs: Vec::new(alloc),
+            current: None,
+        }
+    }
+
+    /// Begins a part. A refused call changes nothing.
+    pub fn open(&mut self, kind: PartKind) -> Result<(), AllocError>
+        requires closed { IsNone self.old.current }
+        requires few { token_count self.old < 2 ^ 32 }
+        ensures ok { OnOk result (self.new ≡ opened kind self.old) }
+        ensures err { OnErr result (self.new ≡ self.old) }
+    {
+        // room for the part, so that `close` cannot fail
+        self.runs.reserve(1)?;
+        let first = self.tokens.len() as u32;
+        self.current = Some(Open { kind, first });
+        Ok(())
+    }
+
+    /// Adds a token to the open part. A refused call changes nothing.
+    pub fn push(&mut self, token: Token<'_>) -> Result<(), AllocError>
+        requires { IsSome self.old.current }
+        ensures ok { OnOk result (self.new ≡ pushed (seen token.entry) self.old) }
+        ensures err { OnErr result (self.new ≡ self.old) }
+    {
+        self.tokens.push(token)?;
+        Ok(())
+    }
+
+    /// Ends the open part.
+    pub fn close(&mut self)
+        requires open { IsSome self.old.current }
+        requires few { token_count self.old < 2 ^ 32 }
+        ensures { self.new ≡ all_closed self.old }
+    {
+        let Some(current) = self.current else {
+            return;
+        };
+        let run = closed_run(current, self.tokens.len() as u32);
+        self.current = None;
+        put(&mut self.runs, run);
+    }
+
+    /// The parts, where one that is open counts as it stands.
+    pub fn finish(self) -> ClosedParts
+        requires { token_count self < 2 ^ 32 }
+        ensures { result ≡ all_parts self }
+    {
+        let PartList {
+            tokens,
+            mut runs,
+            current,
+        } = self;
+        let Some(current) = current else {
+            return ClosedParts { tokens, runs };
+        };
+        let run = closed_run(current, tokens.len() as u32);
+        put(&mut runs, run);
+        ClosedParts { tokens, runs }
+    }
+}
+
+// The run of a part whose tokens end before a number.
+fn closed_run(current: Open, after: u32) -> Run
+    ensures { result ≡ last_run current after }
+{
+    let part = Part {
+        first: current.first,
+        after,
+    };
+    Run {
+        kind: current.kind,
+        part,
+    }
+}
