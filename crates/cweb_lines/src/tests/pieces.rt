@@ -1,0 +1,35 @@
+// The same text however lines are gathered and however little is taken at once.
+use super::devices::SmallSink;
+use super::*;
+
+#[test]
+fn pieces(rt: HostRuntime) -> Result<(), Fail> {
+    let alloc = rt.alloc();
+    let web = b"one\n@i b.w\nthree, which is longer\n\nfive".as_slice();
+    let files = [("a.w", web), ("b.w", b"two \n")];
+    // the room for lines that are gathered, the bytes taken at once, and the writes that it takes
+    for (room, most, writes) in [
+        (0, usize::MAX, 5),
+        (1, usize::MAX, 5),
+        (5, usize::MAX, 3),
+        (10, usize::MAX, 2),
+        (65536, usize::MAX, 1),
+        (0, 1, 37),
+        (10, 1, 37),
+        (65536, 16, 3),
+    ] {
+        let mut shelf = shelf_of(alloc, &files)?;
+        let mut merger = Merger::start(alloc, &mut shelf, "a.w", None, None, None)?;
+        let mut sink = SmallSink::new(alloc);
+        sink.most = most;
+        write_merged_in_pieces(&mut merger, &mut shelf, &mut sink, room)?;
+        let want = b"one\ntwo\nthree, which is longer\n\nfive\n".as_slice();
+        assert_eq!(rt;
+            sink.bytes.as_slice(),
+            want,
+            "with room {room}, {most} at once"
+        );
+        assert_eq!(rt; sink.writes, writes, "with room {room}, {most} at once");
+    }
+    Ok(())
+}
