@@ -1,16 +1,16 @@
 -- How lines that were given out, gathered and written add up.
 use Rattle.std.proofs.Common.{◌≡◌, ◌≤◌, ◌<◌, ◌+◌, ◌⊎◌, ℕ, List, [], ◌∷◌, ◌++◌, length, refl, sym, ◌∙◌, ap, subst, inl, inr, arith, length-append}
 use Rattle.std.proofs.lemmas.List.{append-nil, append_assoc}
-use Rattle.cweb_lines.specs.Lines.{Line, SourceLine}
+use Rattle.cweb_lines.specs.Lines.{Line}
 use Rattle.cweb_lines.specs.Merge.{Event, took}
-use Rattle.cweb_lines.specs.Merging.{SoFar, Gives, Stopped}
+use Rattle.cweb_lines.specs.Merging.{SoFar, Gives, Stopped, TellsFront}
 use Rattle.cweb_lines.specs.Texts.{Count, StopsReading, read_blame, files_named}
-use Rattle.cweb_lines.specs.Told.{given_lines, taken_lines, size_of, AreShort, IsWithinLimits}
+use Rattle.cweb_lines.specs.Told.{given_lines, told_faults, openings, taken_lines, size_of}
 use Rattle.cweb_lines.specs.Writing.{text_of, WritesFront, Gathered, FailsIn, PassesOn, StopsWriting, WritingStops, StopAfter, write_blame}
-use Rattle.cweb_lines.specs.declared.limits.TheConstants.{LINE_LENGTH, LINES, BYTES}
+use Rattle.cweb_lines.specs.declared.fault.SourceFault.{SourceFault}
 use Rattle.cweb_lines.specs.declared.stop.Stop.{Stop}
 use Rattle.cweb_lines.specs.declared.stop.Stop.TheVariants.{Usage, WebNotOpened, ChangeNotOpened, ReadFault, LineTooLong, TooMuchText, Memory, OutNotOpened, WriteFault, LogFault}
-use Rattle.cweb_lines.proofs.Merges.{given-append, lines_taken-append, bytes_taken-append, taken-append}
+use Rattle.cweb_lines.proofs.Merges.{given-append, told-append, openings-append, lines_taken-append, bytes_taken-append}
 
 pub given_front : (lines : List Line) (old new : SoFar) (all later : List Event) → Gives lines old new all later → given_lines all ≡ lines ++ given_lines later
 given_front lines old new all later gives = ap given_lines gives.whole ∙ given-append gives.events later ∙ ap (λ (ls : List Line). ls ++ given_lines later) gives.given
@@ -246,38 +246,26 @@ module _ (first stop : Stop) (after : StopAfter first stop) where
       by (inl same) = omega (arith, ap files_named same, named)
       by (inr fault) = omega (arith, ap files_named fault)
 
--- for callers: a merge from the start that ends is within the limits, and one that stops for a limit isn't
-pub within_limits : (lines : List Line) (old new : SoFar) (all : List Event) → Gives lines old new all [] → old.count.lines ≡ 0 → old.count.bytes ≡ 0
-    → new.count.lines ≤ LINES → new.count.bytes ≤ BYTES → IsWithinLimits (taken_lines all)
-within_limits lines old new all gives no_lines no_bytes few small =
-    let same : gives.events ≡ all = sym (gives.whole ∙ append-nil gives.events) in
-    subst (λ (es : List Event). IsWithinLimits (taken_lines es)) same (record {
-      short = gives.short;
-      few = omega (arith, gives.lines_are, no_lines, few);
-      small = omega (arith, gives.bytes_are, no_bytes, small);
-    })
+-- what was told is a front of all that is to be told
+pub tells_some : (lines : List Line) (old new : SoFar) (all later : List Event) → Gives lines old new all later → TellsFront old new all
+tells_some lines old new all later gives = record { events = gives.events; later = later; whole = gives.whole; faults = gives.faults; names = gives.names }
 
-short_at : (a : List SourceLine) (line : SourceLine) (b : List SourceLine) → AreShort (a ++ line ∷ b) → line.length ≤ LINE_LENGTH
-short_at [] line b short = short.0
-short_at (l ∷ a) line b short = short_at a line b short.1
+pub tells_more : (lines : List Line) (old mid new : SoFar) (all now : List Event) → Gives lines old mid all now → TellsFront mid new now → TellsFront old new all
+tells_more lines old mid new all now gives front = record {
+  events = gives.events ++ front.events;
+  later = front.later;
+  whole = gives.whole ∙ ap (λ (es : List Event). gives.events ++ es) front.whole ∙ sym (append_assoc gives.events front.events front.later);
+  faults = front.faults ∙ ap (λ (fs : List SourceFault). fs ++ told_faults front.events) gives.faults ∙ append_assoc old.faults (told_faults gives.events) (told_faults front.events)
+      ∙ ap (λ (fs : List SourceFault). old.faults ++ fs) (sym (told-append gives.events front.events));
+  names = front.names ∙ ap (λ (ns : List (List ℕ)). ns ++ openings front.events) gives.names ∙ append_assoc old.names (openings gives.events) (openings front.events)
+      ∙ ap (λ (ns : List (List ℕ)). old.names ++ ns) (sym (openings-append gives.events front.events));
+}
 
-pub not_within : (stop : Stop) (old now : Count) (all : List Event) → old.lines ≡ 0 → old.bytes ≡ 0 → IsWithinLimits (taken_lines all) → StopsWriting stop old now all
-    → ((file : _) → stop ≡ LineTooLong file → ⊥) × (stop ≡ TooMuchText → ⊥)
-not_within stop old now all no_lines no_bytes within stops = (long, much)
-  where
-    long : (file : _) → stop ≡ LineTooLong file → ⊥
-    long file is =
-        let there = subst (λ s. StopsWriting s old now all) is stops in
-        let short = subst AreShort (ap taken_lines there.whole ∙ taken-append there.events (took there.line ∷ there.later)) within.short in
-        let fits = short_at (taken_lines there.events) there.line (taken_lines there.later) short in
-        omega (arith, fits, there.why.1)
-
-    much : stop ≡ TooMuchText → ⊥
-    much is = by (subst (λ s. StopsWriting s old now all) is stops).passes
-      where
-        there : StopsWriting TooMuchText old now all
-        there = subst (λ s. StopsWriting s old now all) is stops
-
-        by : (now.lines ≡ LINES) ⊎ (BYTES < now.bytes + there.size) → ⊥
-        by (inl full) = omega (arith, full, there.few, within.few, no_lines)
-        by (inr over) = omega (arith, over, there.small, within.small, no_bytes)
+pub tells_same : (old mid new : SoFar) (all : List Event) → new ≡ mid → TellsFront old mid all → TellsFront old new all
+tells_same old mid new all is front = record {
+  events = front.events;
+  later = front.later;
+  whole = front.whole;
+  faults = ap (λ (s : SoFar). s.faults) is ∙ front.faults;
+  names = ap (λ (s : SoFar). s.names) is ∙ front.names;
+}

@@ -37,6 +37,14 @@ pub record Gives (lines : List Line) (old new : SoFar) (all later : List Event) 
   pub bytes_are : new.count.bytes ≡ old.count.bytes + size_of (taken_lines events)
   pub short : AreShort (taken_lines events)
 
+-- the faults and openings that were told are a front of all that are to come
+pub record TellsFront (old new : SoFar) (all : List Event) : Type 0 where
+  pub events : List Event
+  pub later : List Event
+  pub whole : all ≡ events ++ later
+  pub faults : new.faults ≡ old.faults ++ told_faults events
+  pub names : new.names ≡ old.names ++ openings events
+
 -- the same behind a line that is counted already
 pub record GivesBehind (source : SourceLine) (lines : List Line) (old new : SoFar) (all later : List Event) : Type 0 where
   pub rest : List Event

@@ -37,7 +37,7 @@ fn owned(alloc: Global, name: Option<&str>) -> Result<Option<String>, AllocError
 }
 
 impl<S: Shelf> Merger<S> {
-    ghost use Rattle.cweb_lines.specs.Merging.{Stopped};
+    ghost use Rattle.cweb_lines.specs.Merging.{Stopped, TellsFront};
     ghost use Rattle.cweb_lines.specs.Whole.{to_come, so_far, stop_in, HasEnded, NextLine, Begins, StopsAtStart};
 
     /// Opens the web under its name, or under the second where the first isn't there, and reads nothing. Included files
@@ -110,6 +110,7 @@ impl<S: Shelf> Merger<S> {
         ensures blames { stop_in self.old ≡ None → ReadBlames (S.failed shelf.old) (S.failed shelf.new) result }
         ensures stops { IsTrue (S.tells shelf.old) → stop_in self.old ≡ None → IfErr result (λ stop. Stopped stop (so_far self.old).count (so_far self.new).count
             (to_come (S.texts shelf.old) (S.left shelf.old) self.old)) }
+        ensures told { IsTrue (S.tells shelf.old) → stop_in self.old ≡ None → OnErr result (TellsFront (so_far self.old) (so_far self.new) (to_come (S.texts shelf.old) (S.left shelf.old) self.old)) }
         ensures reading { stop_in self.old ≡ None → IfErr result (λ stop. StopsReading stop) }
         ensures named { IfErr result (λ stop. files_named stop ≤ length (so_far self.new).names) }
         ensures again { IfSome (stop_in self.old) (λ stop. (result ≡ Err stop) × (self.new ≡ self.old) × (shelf.new ≡ shelf.old)) }

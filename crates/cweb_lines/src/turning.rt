@@ -57,6 +57,7 @@ fn open<R: Drop>(run: &mut Run<R>, opening: Opening<R>) -> Result<(), Stop>
     ensures depth { run.new.stack.depth ≤ run.old.stack.depth + 1 }
     ensures names { OnOk result (names_of run.new.names ≡ names_of run.old.names ++ string_bytes opening.name ∷ []) }
     ensures more { length (names_of run.old.names) ≤ length (names_of run.new.names) }
+    ensures same { OnErr result (names_of run.new.names ≡ names_of run.old.names) }
     ensures memory { IfErr result (λ stop. stop ≡ Stop.Memory) }
     ensures opens { OnOk result (Opens run.old.stack run.new.stack opening (length (names_of run.old.names))) }
 {
@@ -87,6 +88,7 @@ fn obey<S: Shelf>(shelf: &mut S, run: &mut Run<S::R>, line: &[u8], place: Place)
     ensures stopped { run.new.stopped ≡ run.old.stopped }
     ensures depth { run.new.stack.depth ≤ run.old.stack.depth + 1 }
     ensures more { length (names_of run.old.names) ≤ length (names_of run.new.names) }
+    ensures same { OnErr result ((run.new.faults.items ≡ run.old.faults.items) × (names_of run.new.names ≡ names_of run.old.names)) }
     ensures memory { IfErr result (λ stop. stop ≡ Stop.Memory) }
     ensures obeys { IsTrue (S.tells shelf.old) → OnOk result ((source : SourceLine) → source.line ≡ record { bytes = line.now; place = place } → GivesBehind source [] (told_by run.old) (told_by run.new)
         (coming_after (S.texts shelf.old) (S.left shelf.old) run.old source) (coming (S.texts shelf.new) (S.left shelf.new) run.new)) }
@@ -136,6 +138,7 @@ pub fn take_turn<S: Shelf>(
     ensures reading { IfErr result (λ stop. StopsReading stop) }
     ensures turned { IsTrue (S.tells shelf.old) → IfOk result (λ turn. Turned turn line.new.items (told_by run.old) (told_by run.new)
         (coming (S.texts shelf.old) (S.left shelf.old) run.old) (coming (S.texts shelf.new) (S.left shelf.new) run.new)) }
+    ensures same { OnErr result ((run.new.faults.items ≡ run.old.faults.items) × (names_of run.new.names ≡ names_of run.old.names)) }
     ensures stops { IsTrue (S.tells shelf.old) → IfErr result (λ stop. Stopped stop (count_of run.old.limits) (count_of run.new.limits) (coming (S.texts shelf.old) (S.left shelf.old) run.old)) }
 {
     if run.stack.depth == 0 {

@@ -1,7 +1,7 @@
 // The merged lines that are still to come, each with a newline.
 ghost use Rattle.std.specs.Prelude.{◌≡◌, ◌≤◌, ◌<◌, ◌+◌, ◌^◌, ◌++◌, ◌∷◌, [], ℕ, List, IsTrue, Ok, Err, IfErr, IfSome, OnOk, OnErr, IsOk, None, Some, length};
 ghost use Rattle.cweb_files.specs.Device.{Counts};
-ghost use Rattle.cweb_lines.specs.Merging.{Gives};
+ghost use Rattle.cweb_lines.specs.Merging.{Gives, TellsFront};
 ghost use Rattle.cweb_lines.specs.Texts.{ReadBlames, StopsReading, files_named};
 ghost use Rattle.cweb_lines.specs.Told.{given_lines};
 ghost use Rattle.cweb_lines.specs.Whole.{to_come, so_far, stop_in};
@@ -126,6 +126,7 @@ pub fn write_merged<S: Shelf, W: Sink>(
         (W.written out.old) (W.written out.new)) }
     ensures stops { IsTrue (S.tells shelf.old) → stop_in merger.old ≡ None → IfErr result (λ stop. StopsWriting stop (so_far merger.old).count (so_far merger.new).count
         (to_come (S.texts shelf.old) (S.left shelf.old) merger.old)) }
+    ensures told { IsTrue (S.tells shelf.old) → stop_in merger.old ≡ None → OnErr result (TellsFront (so_far merger.old) (so_far merger.new) (to_come (S.texts shelf.old) (S.left shelf.old) merger.old)) }
     ensures writing { stop_in merger.old ≡ None → IfErr result (λ stop. WritingStops stop) }
     ensures blames { stop_in merger.old ≡ None → ReadBlames (S.failed shelf.old) (S.failed shelf.new) result }
     ensures out_blames { stop_in merger.old ≡ None → WriteBlames (W.failed out.old) (W.failed out.new) result }
@@ -165,6 +166,7 @@ pub fn write_merged_in_pieces<S: Shelf, W: Sink>(
         (W.written out.old) (W.written out.new)) }
     ensures stops { IsTrue (S.tells shelf.old) → stop_in merger.old ≡ None → IfErr result (λ stop. StopsWriting stop (so_far merger.old).count (so_far merger.new).count
         (to_come (S.texts shelf.old) (S.left shelf.old) merger.old)) }
+    ensures told { IsTrue (S.tells shelf.old) → stop_in merger.old ≡ None → OnErr result (TellsFront (so_far merger.old) (so_far merger.new) (to_come (S.texts shelf.old) (S.left shelf.old) merger.old)) }
     ensures writing { stop_in merger.old ≡ None → IfErr result (λ stop. WritingStops stop) }
     ensures blames { stop_in merger.old ≡ None → ReadBlames (S.failed shelf.old) (S.failed shelf.new) result }
     ensures out_blames { stop_in merger.old ≡ None → WriteBlames (W.failed out.old) (W.failed out.new) result }

@@ -1,5 +1,5 @@
 -- How the exits of a run are its ends.
-use Rattle.std.proofs.Common.{◌≤◌, ◌<◌, length, ◌≡◌, ◌≢◌, ◌⊎◌, inl, inr, ℕ, ◌+◌, List, [], ◌∷◌, ◌++◌, refl, sym, ◌∙◌, ap, subst, append-nil, arith}
+use Rattle.std.proofs.Common.{◌≤◌, ◌≡◌, ◌⊎◌, inl, inr, ℕ, List, [], ◌∷◌, ◌++◌, refl, sym, ◌∙◌, ap, subst, append-nil, arith}
 use Rattle.std.specs.Prelude.{Option, Some, None, Err}
 use Rattle.cweb_lines.specs.Include.{World, Found}
 use Rattle.cweb_lines.specs.Merge.{Event, started}
@@ -7,19 +7,20 @@ use Rattle.cweb_lines.specs.Total.{merge}
 use Rattle.cweb_lines.specs.Told.{given_lines, told_faults, openings, taken_lines, IsWithinLimits}
 use Rattle.cweb_lines.specs.declared.fault.SourceFault.{SourceFault}
 use Rattle.cweb_lines.specs.declared.stop.Stop.{Stop}
-use Rattle.cweb_lines.specs.declared.stop.Stop.TheVariants.{Usage, WebNotOpened, ChangeNotOpened, ReadFault, LineTooLong, TooMuchText, Memory, OutNotOpened, WriteFault, LogFault}
+use Rattle.cweb_lines.specs.declared.stop.Stop.TheVariants.{Usage, WebNotOpened, ReadFault, LineTooLong, TooMuchText, Memory, WriteFault}
 use Rattle.cweb_lines.specs.Merge.{took, given, fault, opening}
-use Rattle.cweb_lines.specs.Merging.{SoFar, Gives, TooMuchAhead}
+use Rattle.cweb_lines.specs.Merging.{SoFar, Gives, TellsFront, TooMuchAhead}
 use Rattle.cweb_lines.specs.Texts.{Count, ReadBlames}
-use Rattle.cweb_lines.specs.Told.{AreShort, size_of}
+use Rattle.cweb_lines.specs.Told.{AreShort}
 use Rattle.cweb_lines.specs.Lines.{SourceLine}
-use Rattle.cweb_lines.specs.Whole.{Begins, StopsAtStart}
+use Rattle.cweb_lines.specs.Whole.{StopsAtStart}
 use Rattle.cweb_lines.specs.declared.limits.TheConstants.{LINE_LENGTH, LINES, BYTES}
-use Rattle.cweb_lines.specs.Writing.{text_of, StopsWriting, LongIn, WritingStops, WriteBlames}
+use Rattle.cweb_lines.specs.Writing.{text_of, StopsWriting, WritingStops, WriteBlames}
 use Rattle.cweb_tools.specs.Log.{stop_line, subject}
-use Rattle.cweb_tools.specs.Run.{Course, unread, not_there, merging, Devices, Logs, LogsFaults, Completes, Stops, Ends, completes, stops, Explains, StaysWithin, merged, asked_course, found_course, usage, IsMerge, RanFreely}
+use Rattle.cweb_tools.specs.Run.{Course, unread, not_there, merging, Devices, Logs, LogsFaults, AreOpened, Ends, completes, stops, Explains, StaysWithin, merged, asked_course, found_course, usage, IsMerge, RanFreely}
 use Rattle.cweb_tools.specs.Words.{WebNames}
 use Rattle.cweb_lines.specs.Writing.{WritesFront}
+use Rattle.cweb_lines.proofs.Merges.{openings-append}
 
 nothing_written : (old text : List ℕ) → WritesFront old old text
 nothing_written old text = record { front = []; rest = text; written = sym (append-nil old); whole = refl }
@@ -30,11 +31,25 @@ none_written old new text same = record { front = []; rest = text; written = sam
 all_written : (old new text : List ℕ) → new ≡ old ++ text → WritesFront old new text
 all_written old new text written = record { front = text; rest = []; written = written; whole = sym (append-nil text) }
 
+none_opened : (course : Course) → AreOpened [] course
+none_opened unread = refl
+none_opened (not_there web) = refl
+none_opened (merging name events) = (name ∷ openings events, refl)
+
+-- the names that a merge has told when it stops are among those that it opens in all
+pub opened_by : (name : List ℕ) (old new : SoFar) (events : List Event) → old ≡ record { faults = []; names = name ∷ []; count = record { lines = 0; bytes = 0 } } → TellsFront old new events
+    → (names : List (List ℕ)) → names ≡ new.names → (rest : List (List ℕ)) × (name ∷ openings events ≡ names ++ rest)
+opened_by name old new events first front names is = (
+  openings front.later,
+  ap (λ (es : List Event). name ∷ openings es) front.whole ∙ ap (λ (ns : List (List ℕ)). name ∷ ns) (openings-append front.events front.later)
+      ∙ ap (λ (ns : List (List ℕ)). ns ++ openings front.later) (sym (is ∙ front.names ∙ ap (λ (s : SoFar). s.names ++ openings front.events) first)),
+)
+
 -- want of memory before anything was written
 pub wants_memory : (course : Course) (before after : Devices) (status : ℕ) (name : List ℕ) → after.shelf_failed ≡ before.shelf_failed → after.out_failed ≡ before.out_failed → after.out ≡ before.out
     → Logs (stop_line Memory name) before.log_failed after.log_failed before.log after.log → status ≡ 1 → Ends course before after status
 wants_memory course before after status name shelf out same logs one =
-    stops (record { stop = Memory; names = []; cause = (shelf, out); front = none_written before.out after.out (merged course) same; logged = logs; answered = one })
+    stops (record { stop = Memory; names = []; opened = none_opened course; cause = (shelf, out); front = none_written before.out after.out (merged course) same; logged = logs; answered = one })
 
 unread_ends : (world : World) (asked : Option WebNames) (before after : Devices) (status : ℕ) → asked ≡ None
     → after.shelf_failed ≡ before.shelf_failed → after.out_failed ≡ before.out_failed → after.out ≡ before.out
@@ -78,7 +93,7 @@ module _ (world : World) (web name text : List ℕ) (events : List Event) (is : 
       → after.shelf_failed ≡ before.shelf_failed → after.out_failed ≡ before.out_failed → after.out ≡ before.out ++ text_of (given_lines events) → Ends run_course before after status
   logged_whole kept (inl (logs, answered)) shelf out written = completes (record { kept = kept; read = shelf; printed = out; written = written; logged = logs; answered = answered })
   logged_whole kept (inr (logs, one)) shelf out written =
-      stops (record { stop = Memory; names = []; cause = (shelf, out); front = all_written before.out after.out (merged run_course) written; logged = logs; answered = one })
+      stops (record { stop = Memory; names = []; opened = none_opened run_course; cause = (shelf, out); front = all_written before.out after.out (merged run_course) written; logged = logs; answered = one })
 
   pub completed : (found : Option Found) (names : List (List ℕ)) (faults : List SourceFault) → IsWithinLimits (taken_lines events) → found ≡ Some (name, text) → names ≡ name ∷ openings events → faults ≡ told_faults events
       → after.shelf_failed ≡ before.shelf_failed → after.out_failed ≡ before.out_failed → after.out ≡ before.out ++ text_of (given_lines events)
@@ -90,12 +105,12 @@ module _ (world : World) (web name text : List ℕ) (events : List Event) (is : 
       (subst (λ (ns : List (List ℕ)). LogsFaults ns faults before.log_failed after.log_failed before.log after.log status) names_are logs))
       shelf out written)
 
-  pub stopped : (found : Option Found) (stop : Stop) (names : List (List ℕ)) → found ≡ Some (name, text) → Explains stop (IsWithinLimits (taken_lines events)) before after
+  pub stopped : (found : Option Found) (stop : Stop) (names : List (List ℕ)) → found ≡ Some (name, text) → AreOpened names run_course → Explains stop (IsWithinLimits (taken_lines events)) before after
       → WritesFront before.out after.out (text_of (given_lines events)) → Logs (stop_line stop (subject names stop)) before.log_failed after.log_failed before.log after.log → status ≡ 1
       → Ends (found_course world web found) before after status
-  stopped found stop names there cause front logs one =
+  stopped found stop names there opened cause front logs one =
       subst (λ (c : Course). Ends c before after status) (course_is found there)
-      (stops (record { stop = stop; names = names; cause = cause; front = front; logged = logs; answered = one }))
+      (stops (record { stop = stop; names = names; opened = opened; cause = cause; front = front; logged = logs; answered = one }))
 
 -- what a merge told, where it began with this web and all of it came
 module _ (name : List ℕ) (all : List Event) (old new : SoFar) (first : old ≡ record { faults = []; names = name ∷ []; count = record { lines = 0; bytes = 0 } }) (gives : Gives (given_lines all) old new all []) where

@@ -106,11 +106,18 @@ Explains TooMuchText within before after = (¬ within) × (after.shelf_failed �
 Explains Memory within before after = (after.shelf_failed ≡ before.shelf_failed) × (after.out_failed ≡ before.out_failed)
 Explains _ within before after = ⊥
 
+-- names of files that a course opens, in their order, as far as it went
+abbrev pub AreOpened : List (List ℕ) → Course → Type 0
+AreOpened names unread = names ≡ []
+AreOpened names (not_there web) = names ≡ []
+AreOpened names (merging name events) = (rest : List (List ℕ)) × (name ∷ openings events ≡ names ++ rest)
+
 -- something stopped the run: a front of the merged lines is written, and the log has the stop's line alone
 pub record Stops (course : Course) (before after : Devices) (status : ℕ) : Type 0 where
   pub stop : Stop
   -- the files that were opened by then
   pub names : List (List ℕ)
+  pub opened : AreOpened names course
   pub cause : Explains stop (StaysWithin course) before after
   pub front : WritesFront before.out after.out (merged course)
   pub logged : Logs (stop_line stop (subject names stop)) before.log_failed after.log_failed before.log after.log

@@ -1,5 +1,5 @@
 -- The words of a command line of `wmerge`, and the names that they stand for.
-use Rattle.std.specs.Prelude.{ℕ, Bool, true, false, not, ◌&&◌, ◌||◌, ◌==◌, nat_lt, length, List, [], ◌∷◌, ◌++◌, codes, Option, None, Some, map, option_map, string_bytes, if◌then◌else◌}
+use Rattle.std.specs.Prelude.{ℕ, Bool, false, not, ◌&&◌, ◌||◌, ◌==◌, nat_lt, length, List, [], ◌∷◌, ◌++◌, codes, Option, None, Some, option_map, string_bytes, if◌then◌else◌}
 use Rattle.std.specs.List.{list_any, after_last}
 use Rattle.cweb_tools.specs.declared.words.MergeWords.{MergeWords}
 

@@ -2,7 +2,7 @@ use Rattle.std.proofs.Common.{rules, ◌++◌, ◌∷◌, [], refl, ap, sym, sub
 use Rattle.std.specs.Prelude.{IsTrue}
 use Rattle.cweb_lines.specs.Told.{given_lines}
 use Rattle.cweb_lines.proofs.Merges.{gives_nothing, gives_both}
-use Rattle.cweb_lines.proofs.Writes.{given_front, gives_all, nothing_yet, stays_front, ends_front, ends_whole, ends_failing, passed_on, fails_front, fails_in, stopped_writing, read_blame_after, stops_after, writing_after, named_after}
+use Rattle.cweb_lines.proofs.Writes.{given_front, gives_all, nothing_yet, stays_front, ends_front, ends_whole, ends_failing, passed_on, fails_front, fails_in, stopped_writing, read_blame_after, stops_after, writing_after, named_after, tells_some, tells_more, tells_same}
 use Rattle.cweb_lines.proofs.writing.write_merged_in_pieces.Goals as goal
 
 pub lines-init : goal.lines-init
@@ -27,6 +27,29 @@ returns-in-Err-clause-stops g c = λ tells before.
     let given = c.lines.invariant.gives tells in
     stops_after c.in-Err.stop c.write_rest.result c.write_rest.ensures.after _ _ _
     (stopped_writing c.in-Err.stop given.0 _ _ _ _ _ given.1 (c.in-Err.ensures.stops (subst IsTrue (sym c.lines.invariant.tells) tells) c.lines.invariant.running))
+
+pub returns-in-Err-clause-told : goal.returns-in-Err-clause-told
+returns-in-Err-clause-told g c = λ tells before.
+    let given = c.lines.invariant.gives tells in
+    tells_more given.0 _ _ _ _ _ given.1 (c.in-Err.ensures.told (subst IsTrue (sym c.lines.invariant.tells) tells) c.lines.invariant.running)
+
+pub returns-in-Err-write_piece-clause-told : goal.returns-in-Err-write_piece-clause-told
+returns-in-Err-write_piece-clause-told g c = λ tells before.
+    let given = c.lines.invariant.gives tells in
+    let next = rw c.in_default-next.is at (c.in-Ok.ensures.next (subst IsTrue (sym c.lines.invariant.tells) tells)) in
+    tells_more given.0 _ _ _ _ _ given.1 (tells_some [] _ _ _ _ next.0)
+
+pub returns-in-Err-gather-clause-told : goal.returns-in-Err-gather-clause-told
+returns-in-Err-gather-clause-told g c = λ tells before.
+    let given = c.lines.invariant.gives tells in
+    let next = rw c.in-Some-next.is at (c.in-Ok.ensures.next (subst IsTrue (sym c.lines.invariant.tells) tells)) in
+    tells_same _ _ _ _ c.halt.ensures.so_far (tells_more given.0 _ _ _ _ _ given.1 (tells_some _ _ _ _ _ next))
+
+pub returns-in-Err-pass_on-clause-told : goal.returns-in-Err-pass_on-clause-told
+returns-in-Err-pass_on-clause-told g c = λ tells before.
+    let given = c.lines.invariant.gives tells in
+    let next = rw c.in-Some-next.is at (c.in-Ok.ensures.next (subst IsTrue (sym c.lines.invariant.tells) tells)) in
+    tells_more given.0 _ _ _ _ _ given.1 (tells_some _ _ _ _ _ next)
 
 pub returns-in-Err-clause-writing : goal.returns-in-Err-clause-writing
 returns-in-Err-clause-writing g c = λ before. writing_after c.in-Err.stop c.write_rest.result c.write_rest.ensures.after (c.in-Err.ensures.reading c.lines.invariant.running)

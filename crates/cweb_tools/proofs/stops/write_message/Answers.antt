@@ -1,7 +1,5 @@
-use Rattle.std.proofs.Common.{◌≡◌, ◌++◌, ◌∷◌, [], refl, sym, ◌∙◌, ap, subst, append_assoc, append-nil, ℕ, List}
+use Rattle.std.proofs.Common.{◌≡◌, ◌++◌, [], refl, sym, ◌∙◌, ap, subst, append_assoc, append-nil, ℕ, List}
 use Rattle.std.specs.Prelude.{IsTrue, codes}
-use Rattle.cweb_lines.specs.Writing.{WritesFront}
-use Rattle.cweb_tools.specs.Log.{message_line}
 use Rattle.cweb_tools.proofs.Fronts.{stopped_in, on_err}
 use Rattle.cweb_tools.proofs.stops.write_message.Goals as goal
 

@@ -1,14 +1,7 @@
-use Rattle.std.proofs.Common.{◌≡◌, ◌++◌, refl, sym, ◌∙◌, ap, subst, List, ℕ}
-use Rattle.std.specs.Prelude.{IsTrue, Err, string_bytes, Option, Some, None}
-use Rattle.std.specs.Option.{option_copied}
-use Rattle.cweb_lines.specs.Include.{World, web_at}
-use Rattle.cweb_lines.specs.Merge.{Event, started}
-use Rattle.cweb_lines.specs.Total.{merge}
-use Rattle.cweb_lines.specs.declared.fault.SourceFault.{SourceFault}
+use Rattle.std.proofs.Common.{refl, sym, ◌∙◌, subst, ℕ}
+use Rattle.std.specs.Prelude.{IsTrue, Err}
 use Rattle.cweb_lines.specs.Texts.{ReadBlames}
-use Rattle.cweb_tools.specs.Run.{folder_of, Ends}
-use Rattle.cweb_tools.specs.Words.{names_of}
-use Rattle.cweb_tools.proofs.Endings.{explains, start_stopped, completed, stopped, names_told, faults_told, limits_kept}
+use Rattle.cweb_tools.proofs.Endings.{explains, start_stopped, completed, stopped, names_told, faults_told, limits_kept, opened_by}
 use Rattle.cweb_tools.proofs.wmerge.merge_web.Goals as goal
 
 pub returns-in-Err-clause-ends : goal.returns-in-Err-clause-ends
@@ -42,6 +35,7 @@ returns-clause-ends g c = λ shelf out log.
     let running = c.in-Ok.ensures.running in
     let failed = subst (λ (n : ℕ). ReadBlames {A = Unit {0}} n (g.S.Shelf.failed c.write_merged_in_pieces.new.shelf) (Err stop)) c.in-Ok.ensures.failed (wrote.blames running) in
     stopped _ _ begins.name begins.text _ begins.whole _ _ _ _ stop _ begins.there
+    (opened_by begins.name _ _ _ begins.so_far_is (wrote.told shelf-2 running) _ c.names-in-Err-write_merged_in_pieces.ensures)
     (explains stop begins.name _ _ _ _ _ begins.so_far_is (wrote.writing running) (wrote.stops shelf-2 running) failed (wrote.out_blames running))
     (wrote.err shelf-2 out)
     (rw c.subject.ensures at (c.log_stop-in-Err-write_merged_in_pieces.ensures.logs log))

@@ -1,5 +1,5 @@
-use Rattle.std.proofs.Common.{◌≡◌, refl, ap}
-use Rattle.std.specs.Prelude.{IsTrue, Err}
+use Rattle.std.proofs.Common.{refl, ap}
+use Rattle.std.specs.Prelude.{Err}
 use Rattle.cweb_tools.proofs.Endings.{words_stopped}
 use Rattle.cweb_tools.proofs.wmerge.run_wmerge.Goals as goal
 

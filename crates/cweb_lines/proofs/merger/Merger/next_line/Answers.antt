@@ -43,6 +43,11 @@ returns-in-Err-clause-stops g c = λ tells running.
     stopped_after c.in-Err.stop (told_by c.args.self.now.run) (told_by c.turns.self.run) (count_of c.take_turn.new.run.limits) _ _ (c.turns.invariant.gives tells)
     (c.in-Err.ensures.stops (subst IsTrue (sym c.turns.invariant.tells) tells))
 
+pub returns-in-Err-clause-told : goal.returns-in-Err-clause-told
+returns-in-Err-clause-told g c = λ tells running.
+    let gives = c.turns.invariant.gives tells in
+    record { events = gives.events; later = _; whole = gives.whole; faults = c.in-Err.ensures.same.0 ∙ gives.faults; names = c.in-Err.ensures.same.1 ∙ gives.names }
+
 pub returns-in-Given-clause-texts : goal.returns-in-Given-clause-texts
 returns-in-Given-clause-texts g c = λ tells. c.in-Ok.ensures.texts (subst IsTrue (sym c.turns.invariant.tells) tells) ∙ c.turns.invariant.texts tells
 
