@@ -7,16 +7,17 @@ fn pieces(rt: HostRuntime) -> Result<(), Fail> {
     let alloc = rt.alloc();
     let web = b"one\n@i b.w\nthree, which is longer\n\nfive".as_slice();
     let files = [("a.w", web), ("b.w", b"two \n")];
-    // the room for lines that are gathered, the bytes taken at once, and the writes that it takes
+    // The room for lines that are gathered, the bytes taken at once, and the writes that it takes. Whatever the room, lines
+    // are written before the include line, before the end of its file, and before the last line, whose end must be read.
     for (room, most, writes) in [
         (0, usize::MAX, 5),
         (1, usize::MAX, 5),
-        (5, usize::MAX, 3),
-        (10, usize::MAX, 2),
-        (65536, usize::MAX, 1),
+        (23, usize::MAX, 5),
+        (24, usize::MAX, 4),
+        (65536, usize::MAX, 4),
         (0, 1, 37),
         (10, 1, 37),
-        (65536, 16, 3),
+        (65536, 16, 5),
     ] {
         let mut shelf = shelf_of(alloc, &files)?;
         let mut merger = Merger::start(alloc, &mut shelf, "a.w", None, None, None)?;
