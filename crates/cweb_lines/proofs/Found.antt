@@ -1,6 +1,6 @@
 -- What the two searches for a name find.
 use Rattle.std.proofs.Common.{◌≡◌, ℕ, Bool, true, false, List, Option, Some, None, Result, Ok, Err, refl, sym, ◌∙◌, ap}
-use Rattle.std.specs.Prelude.{IfOk}
+use Rattle.std.specs.Prelude.{IfOk, OnOk, OnErr}
 use Rattle.std.specs.Str.{IsUtf8, is_utf8}
 use Rattle.std.proofs.lemmas.Str.{IsUtf8-from_is_utf8, is_utf8-from_IsUtf8}
 use Rattle.cweb_lines.specs.Include.{World, Found, under, first_found, in_folder, found_if, found_at}
@@ -39,3 +39,11 @@ module _ (texts : List ℕ → Option (List ℕ)) (web bytes : List ℕ) (same :
 
   pub web_second : (second : Option (List ℕ)) (name : List ℕ) → second ≡ Some name → None ≡ under bytes (texts bytes) → under name (texts name) ≡ web_at texts web second
   web_second second name there none = ap (λ f. first_found f (under name (texts name))) (none ∙ ap (λ n. under n (texts n)) same) ∙ ap (web_at texts web) (sym there)
+
+pub OnOk-map : {A E P Q : Type 0} (r : Result A E) → (P → Q) → OnOk r P → OnOk r Q
+OnOk-map (Ok x) f p = f p
+OnOk-map (Err e) f p = p
+
+pub OnErr-map : {A E P Q : Type 0} (r : Result A E) → (P → Q) → OnErr r P → OnErr r Q
+OnErr-map (Ok x) f p = p
+OnErr-map (Err e) f p = f p

@@ -1,90 +1,102 @@
 -- What comes of a line that was taken, and how what came adds up.
-use Rattle.std.proofs.Common.{◌≡◌, ◌≤◌, ◌<◌, ◌+◌, ◌⊎◌, ◌==◌, ℕ, Bool, true, false, List, [], ◌∷◌, ◌++◌, Some, None, refl, sym, ◌∙◌, ap, subst, arith, length, length-append}
+use Rattle.std.proofs.Common.{Option, if◌then◌else◌, ◌&&◌, ◌≡◌, ◌≤◌, ◌<◌, ◌+◌, ◌⊎◌, ◌==◌, ℕ, Bool, true, false, List, [], ◌∷◌, ◌++◌, Some, None, refl, sym, ◌∙◌, ap, subst, arith, length, length-append}
 use Rattle.std.proofs.lemmas.List.{append-nil, append_assoc}
 use Rattle.std.specs.Prelude.{nat_lt}
 use Rattle.std.proofs.lemmas.Bool.Decides.{nat_tests}
 use Rattle.cweb_files.specs.declared.place.Place.{Place}
-use Rattle.cweb_lines.specs.Change.{at_place}
+use Rattle.std.specs.Str.{bytes_eq}
+use Rattle.cweb_lines.specs.Change.{Entry, at_place}
 use Rattle.cweb_lines.specs.Include.{World, is_include, include_name, found_at}
 use Rattle.cweb_lines.specs.Lines.{Line, SourceLine, lines_in}
-use Rattle.cweb_lines.specs.Merge.{State, RawLine, Thing, raw, Event, took, given, fault, opening, Next, included, opened, obeyed, plain, taking, raws}
+use Rattle.cweb_lines.specs.Merge.{State, RawLine, Thing, raw, Event, took, given, fault, opening, Next, at_entry, at_raw, included, opened, obeyed, plain, taking, raws}
+use Rattle.cweb_lines.specs.Stages.{begun_by}
+use Rattle.cweb_lines.specs.declared.text.LineAt.{LineAt}
 use Rattle.cweb_lines.specs.Merging.{SoFar, Gives, GivesBehind, Stopped}
-use Rattle.cweb_lines.specs.Texts.{Count, Took, TopStops, StopsFor}
+use Rattle.cweb_lines.specs.Texts.{Count, Refuses, Took, TopStops, StopsFor}
 use Rattle.cweb_lines.specs.Told.{given_lines, told_faults, openings, taken_lines, size_of, AreShort}
-use Rattle.cweb_lines.specs.Total.{merge, merge_next, merge_end}
+use Rattle.cweb_lines.specs.Total.{merge, merge_next}
 use Rattle.cweb_lines.specs.declared.fault.SourceFault.{SourceFault}
 use Rattle.cweb_lines.specs.declared.fault.SourceKind.TheVariants.{NoName, TooDeep, NotThere}
 use Rattle.cweb_lines.specs.declared.limits.TheConstants.{LINES, BYTES}
 use Rattle.cweb_lines.specs.declared.stop.Stop.{Stop}
 use Rattle.cweb_lines.specs.declared.stop.Stop.TheVariants.{Usage, WebNotOpened, ChangeNotOpened, ReadFault, LineTooLong, TooMuchText, Memory, OutNotOpened, WriteFault, LogFault}
 
-abbrev pub with_things : List Thing → ℕ → State
-with_things things files = record { things = things; pending = None; change = []; files = files }
+abbrev pub state : List Thing → Option Entry → List SourceLine → ℕ → State
+state things pending change files = record { things = things; pending = pending; change = change; files = files }
 
-pub merge_none : (world : World) (files : ℕ) → merge world (with_things [] files) ≡ []
-merge_none world files = merge_end world (with_things [] files) refl
-
--- a line that was taken, and comes first
-module _ (world : World) (source : SourceLine) (bytes : List ℕ) (place : Place) (is : source.line ≡ record { bytes = bytes; place = place }) (depth : ℕ) (things : List Thing) (files : ℕ) where
+-- a line that was taken, comes first, and begins no change
+module _ (world : World) (source : SourceLine) (bytes : List ℕ) (at : LineAt) (is : source.line ≡ record { bytes = bytes; place = at.place }) (things : List Thing) (pending : Option Entry) (change : List SourceLine) (files : ℕ)
+    (none : begun_by pending at.may_match bytes ≡ None) where
   abbrev r : RawLine
-  r = record { source = source; depth = depth; may_match = true }
+  r = record { source = source; depth = at.depth; may_match = at.may_match }
 
   abbrev before : State
-  before = with_things (raw r ∷ things) files
+  before = state (raw r ∷ things) pending change files
 
   abbrev after : State
-  after = with_things things files
+  after = state things pending change files
 
-  as_read : (f : List ℕ → Bool) (b : Bool) → f bytes ≡ b → f source.line.bytes ≡ b
-  as_read f b test = ap (λ (l : Line). f l.bytes) is ∙ test
+  as_read : {A : Type 0} (f : List ℕ → A) (a : A) → f bytes ≡ a → f source.line.bytes ≡ a
+  as_read f a test = ap (λ (l : Line). f l.bytes) is ∙ test
 
-  pub merge_given : is_include bytes ≡ false → merge world before ≡ took source ∷ given (record { bytes = bytes; place = place }) ∷ merge world after
+  not_begun : (b : Bool) (place : Place) → (if b then Some place else None) ≡ None → b ≡ false
+  not_begun true place unbegun = absurd (cc)
+  not_begun false place unbegun = refl
+
+  passes : (p : Option Entry) → begun_by p at.may_match bytes ≡ None → at_raw p world before r things ≡ plain (is_include source.line.bytes) world before r things
+  passes None unbegun = refl
+  passes (Some entry) unbegun =
+      ap (λ b. at_entry b entry world before r things)
+      (as_read (λ b. at.may_match && bytes_eq b entry.first) false (not_begun (at.may_match && bytes_eq bytes entry.first) entry.begin unbegun))
+
+  merge_plain : (next : Next) → plain (is_include source.line.bytes) world before r things ≡ next → merge world before ≡ took source ∷ next.0 ++ merge world next.1
+  merge_plain next goes = merge_next world before (took source ∷ next.0, next.1) (ap (λ (n : Next). Some (taking source n)) (passes pending none ∙ goes))
+
+  pub merge_given : is_include bytes ≡ false → merge world before ≡ took source ∷ given (record { bytes = bytes; place = at.place }) ∷ merge world after
   merge_given test =
-      merge_next world before (took source ∷ given source.line ∷ [], after) (ap (λ b. Some (taking source (plain b world before r things))) (as_read is_include false test))
+      merge_plain (given source.line ∷ [], after) (ap (λ b. plain b world before r things) (as_read is_include false test))
       ∙ ap (λ (l : Line). took source ∷ given l ∷ merge world after) is
 
-  pub merge_no_name : is_include bytes ≡ true → include_name bytes ≡ [] → merge world before ≡ took source ∷ fault (at_place NoName place) ∷ merge world after
-  merge_no_name test none =
-      merge_next world before (took source ∷ fault (at_place NoName source.line.place) ∷ [], after)
-      (ap (λ b. Some (taking source (plain b world before r things))) (as_read is_include true test)
-      ∙ ap (λ n. Some (taking source (included n world before r things))) (ap (λ (l : Line). include_name l.bytes) is ∙ none))
+  pub merge_no_name : is_include bytes ≡ true → include_name bytes ≡ [] → merge world before ≡ took source ∷ fault (at_place NoName at.place) ∷ merge world after
+  merge_no_name test empty =
+      merge_plain (fault (at_place NoName source.line.place) ∷ [], after)
+      (ap (λ b. plain b world before r things) (as_read is_include true test) ∙ ap (λ n. included n world before r things) (as_read include_name [] empty))
       ∙ ap (λ (l : Line). took source ∷ fault (at_place NoName l.place) ∷ merge world after) is
 
-  merge_named : (name : List ℕ) (next : Next) → is_include bytes ≡ true → include_name bytes ≡ name → 0 < length name → opened (nat_lt depth 10) world name before r things ≡ next
+  merge_named : (name : List ℕ) (next : Next) → is_include bytes ≡ true → include_name bytes ≡ name → 0 < length name → opened (nat_lt at.depth 10) world name before r things ≡ next
       → merge world before ≡ took source ∷ next.0 ++ merge world next.1
   merge_named [] next test named some opens = absurd (omega arith)
   merge_named (b ∷ bs) next test named some opens =
-      merge_next world before (took source ∷ next.0, next.1)
-      (ap (λ b. Some (taking source (plain b world before r things))) (as_read is_include true test)
-      ∙ ap (λ n. Some (taking source (included n world before r things))) (ap (λ (l : Line). include_name l.bytes) is ∙ named)
-      ∙ ap (λ (n : Next). Some (taking source n)) opens)
+      merge_plain next
+      (ap (λ b. plain b world before r things) (as_read is_include true test) ∙ ap (λ n. included n world before r things) (as_read include_name (b ∷ bs) named) ∙ opens)
 
-  pub merge_too_deep : is_include bytes ≡ true → 0 < length (include_name bytes) → depth ≡ 10 → merge world before ≡ took source ∷ fault (at_place TooDeep place) ∷ merge world after
+  pub merge_too_deep : is_include bytes ≡ true → 0 < length (include_name bytes) → 10 ≤ at.depth → merge world before ≡ took source ∷ fault (at_place TooDeep at.place) ∷ merge world after
   merge_too_deep test some deep =
-      let room : nat_lt depth 10 ≡ false = grind (arith, nat_tests) in
+      let room : nat_lt at.depth 10 ≡ false = grind (arith, nat_tests) in
       merge_named (include_name bytes) (fault (at_place TooDeep source.line.place) ∷ [], after) test refl some (ap (λ t. opened t world (include_name bytes) before r things) room)
       ∙ ap (λ (l : Line). took source ∷ fault (at_place TooDeep l.place) ∷ merge world after) is
 
-  pub merge_not_there : is_include bytes ≡ true → 0 < length (include_name bytes) → depth < 10 → None ≡ found_at world (include_name bytes)
-      → merge world before ≡ took source ∷ fault (at_place NotThere place) ∷ merge world after
-  merge_not_there test some deep none =
-      let room : nat_lt depth 10 ≡ true = grind (arith, nat_tests) in
+  pub merge_not_there : is_include bytes ≡ true → 0 < length (include_name bytes) → at.depth < 10 → None ≡ found_at world (include_name bytes)
+      → merge world before ≡ took source ∷ fault (at_place NotThere at.place) ∷ merge world after
+  merge_not_there test some deep gone =
+      let room : nat_lt at.depth 10 ≡ true = grind (arith, nat_tests) in
       merge_named (include_name bytes) (fault (at_place NotThere source.line.place) ∷ [], after) test refl some
-      (ap (λ t. opened t world (include_name bytes) before r things) room ∙ ap (λ o. obeyed o before r things) (sym none))
+      (ap (λ t. opened t world (include_name bytes) before r things) room ∙ ap (λ o. obeyed o before r things) (sym gone))
       ∙ ap (λ (l : Line). took source ∷ fault (at_place NotThere l.place) ∷ merge world after) is
 
-  pub merge_opens : (name text : List ℕ) → is_include bytes ≡ true → 0 < length (include_name bytes) → depth < 10 → Some (name, text) ≡ found_at world (include_name bytes)
-      → merge world before ≡ took source ∷ opening name ∷ merge world (with_things (raws (depth + 1) true (lines_in files text) ++ things) (files + 1))
+  pub merge_opens : (name text : List ℕ) → is_include bytes ≡ true → 0 < length (include_name bytes) → at.depth < 10 → Some (name, text) ≡ found_at world (include_name bytes)
+      → merge world before ≡ took source ∷ opening name ∷ merge world (state (raws (at.depth + 1) at.may_match (lines_in files text) ++ things) pending change (files + 1))
   merge_opens name text test some deep there =
-      let room : nat_lt depth 10 ≡ true = grind (arith, nat_tests) in
-      merge_named (include_name bytes) (opening name ∷ [], with_things (raws (depth + 1) true (lines_in files text) ++ things) (files + 1)) test refl some
+      let room : nat_lt at.depth 10 ≡ true = grind (arith, nat_tests) in
+      merge_named (include_name bytes) (opening name ∷ [], state (raws (at.depth + 1) at.may_match (lines_in files text) ++ things) pending change (files + 1)) test refl some
       (ap (λ t. opened t world (include_name bytes) before r things) room ∙ ap (λ o. obeyed o before r things) (sym there))
 
 -- whatever comes of a raw line, it is taken first
-pub merge_takes : (world : World) (r : RawLine) (things : List Thing) (files : ℕ) → (rest : List Event) × (merge world (with_things (raw r ∷ things) files) ≡ took r.source ∷ rest)
-merge_takes world r things files =
-    let next = plain (is_include r.source.line.bytes) world (with_things (raw r ∷ things) files) r things in
-    (next.0 ++ merge world next.1, merge_next world (with_things (raw r ∷ things) files) (taking r.source next) refl)
+pub merge_takes : (world : World) (r : RawLine) (things : List Thing) (pending : Option Entry) (change : List SourceLine) (files : ℕ)
+    → (rest : List Event) × (merge world (state (raw r ∷ things) pending change files) ≡ took r.source ∷ rest)
+merge_takes world r things pending change files =
+    let next = at_raw pending world (state (raw r ∷ things) pending change files) r things in
+    (next.0 ++ merge world next.1, merge_next world (state (raw r ∷ things) pending change files) (taking r.source next) refl)
 
 plus_none : (n : ℕ) → n ≡ n + 0
 plus_none n = omega arith
@@ -243,40 +255,42 @@ stopped_after OutNotOpened old mid now all rest gives stops = stops
 stopped_after WriteFault old mid now all rest gives stops = stops
 stopped_after LogFault old mid now all rest gives stops = stops
 
--- the first thing is a raw line that stops
-pub stopped_by : (stop : Stop) (count now : Count) (world : World) (depth : ℕ) (things : List Thing) (files : ℕ) → now ≡ count → StopsFor (TopStops stop count depth things) stop
-    → Stopped stop count now (merge world (with_things things files))
-stopped_by Usage count now world depth things files same stops = stops
-stopped_by WebNotOpened count now world depth things files same stops = stops
-stopped_by ChangeNotOpened count now world depth things files same stops = stops
-stopped_by (ReadFault file) count now world depth things files same stops = stops
-stopped_by (LineTooLong file) count now world depth things files same stops =
-    let taken = merge_takes world (record { source = stops.line; depth = depth; may_match = true }) stops.rest files in
-    record {
-      events = [];
-      line = stops.line;
-      later = taken.0;
-      whole = ap (λ (ts : List Thing). merge world (with_things ts files)) stops.first ∙ taken.1;
-      given = refl;
-      why = stops.why;
-    }
-stopped_by TooMuchText count now world depth things files same stops =
-    let taken = merge_takes world (record { source = stops.line; depth = depth; may_match = true }) stops.rest files in
-    let whole : merge world (with_things things files) ≡ took stops.line ∷ taken.0 = ap (λ (ts : List Thing). merge world (with_things ts files)) stops.first ∙ taken.1 in
-    let lines = ap (λ (es : List Event). length (taken_lines es)) whole in
-    let bytes = ap (λ (es : List Event). size_of (taken_lines es)) whole in
+-- the line that comes first is the one that stops
+pub stopped_first : (stop : Stop) (Why : Type 0) (count now : Count) (all : List Event) → now ≡ count
+    → (Why → (line : SourceLine) × ((later : List Event) × (all ≡ took line ∷ later)) × Refuses stop count line) → StopsFor Why stop → Stopped stop count now all
+stopped_first Usage Why count now all same first stops = stops
+stopped_first WebNotOpened Why count now all same first stops = stops
+stopped_first ChangeNotOpened Why count now all same first stops = stops
+stopped_first (ReadFault file) Why count now all same first stops = stops
+stopped_first (LineTooLong file) Why count now all same first stops =
+    let line = first stops in
+    record { events = []; line = line.0; later = line.1.0; whole = line.1.1; given = refl; why = line.2 }
+stopped_first TooMuchText Why count now all same first stops =
+    let line = first stops in
+    let lines = ap (λ (es : List Event). length (taken_lines es)) line.1.1 in
+    let bytes = ap (λ (es : List Event). size_of (taken_lines es)) line.1.1 in
     let now_lines = ap (λ (c : Count). c.lines) same in
     let now_bytes = ap (λ (c : Count). c.bytes) same in
     record {
-      size = stops.line.size;
-      passes = subst (λ (c : Count). (c.lines ≡ LINES) ⊎ (BYTES < c.bytes + stops.line.size)) (sym same) stops.why;
+      size = line.0.size;
+      passes = subst (λ (c : Count). (c.lines ≡ LINES) ⊎ (BYTES < c.bytes + line.0.size)) (sym same) line.2;
       few = omega (arith, lines, now_lines);
       small = omega (arith, bytes, now_bytes);
     }
-stopped_by Memory count now world depth things files same stops = stops
-stopped_by OutNotOpened count now world depth things files same stops = stops
-stopped_by WriteFault count now world depth things files same stops = stops
-stopped_by LogFault count now world depth things files same stops = stops
+stopped_first Memory Why count now all same first stops = stops
+stopped_first OutNotOpened Why count now all same first stops = stops
+stopped_first WriteFault Why count now all same first stops = stops
+stopped_first LogFault Why count now all same first stops = stops
+
+-- the first thing is a raw line that stops
+pub stopped_by : (stop : Stop) (count now : Count) (world : World) (things : List Thing) (pending : Option Entry) (change : List SourceLine) (files : ℕ) → now ≡ count → StopsFor (TopStops stop count things) stop
+    → Stopped stop count now (merge world (state things pending change files))
+stopped_by stop count now world things pending change files same stops =
+    stopped_first stop (TopStops stop count things) count now _ same
+    (λ top.
+    let taken = merge_takes world top.raw_line top.rest pending change files in
+    (top.raw_line.source, (taken.0, ap (λ (ts : List Thing). merge world (state ts pending change files)) top.first ∙ taken.1), top.why))
+    stops
 
 pub include_long : (line : List ℕ) → is_include line ≡ true → 2 ≤ length line
 include_long [] is = absurd (cc)

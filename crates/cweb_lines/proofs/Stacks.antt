@@ -1,14 +1,14 @@
 -- Open texts in an array.
-use Rattle.std.proofs.Common.{◌≡◌, ◌≢◌, ◌≤◌, ◌<◌, ◌+◌, ◌-◌, ℕ, zero, suc, true, List, [], ◌∷◌, ◌++◌, Option, Some, None, refl, sym, ◌∙◌, ap, arith, length, get_or, set, get_or-set_same, get_or-set_other}
+use Rattle.std.proofs.Common.{◌≡◌, ◌≢◌, ◌≤◌, ◌<◌, ◌+◌, ◌-◌, ℕ, zero, suc, List, [], ◌∷◌, ◌++◌, Option, Some, None, refl, sym, ◌∙◌, ap, subst, arith, length, get_or, set, get_or-set_same, get_or-set_other}
 use Rattle.std.proofs.Math.Nat.{le-max_left, le-max_right, max-le}
 use Rattle.std.proofs.lemmas.List.{get_or_default}
-use Rattle.cweb_files.specs.declared.place.Place.{Place}
 use Rattle.cweb_lines.specs.Lines.{SourceLine}
-use Rattle.cweb_lines.specs.Merge.{Thing, raws}
-use Rattle.cweb_lines.specs.Texts.{Count, lines_left, things_to, things_of, lines_at, number_of, most, TakesLine, TakesTop, raw_at, StopsFor, FirstStops, TopStops}
+use Rattle.cweb_lines.specs.Merge.{Thing, raw, raws}
+use Rattle.cweb_lines.specs.Texts.{Count, things_at, things_over, matches_at, text_depth, lines_at, number_of, most, DeepAt, gap_at, gaps_from, StaysBelow, Pushes, TakesLine, TakesFirst, raw_at, StopsFor, FirstStops, TopStops}
 use Rattle.cweb_lines.specs.declared.stack.Stack.{Stack}
 use Rattle.cweb_lines.specs.declared.stop.Stop.{Stop}
 use Rattle.cweb_lines.specs.declared.stop.Stop.TheVariants.{Usage, WebNotOpened, ChangeNotOpened, ReadFault, LineTooLong, TooMuchText, Memory, OutNotOpened, WriteFault, LogFault}
+use Rattle.cweb_lines.specs.declared.text.LineAt.{LineAt}
 use Rattle.cweb_lines.specs.declared.text.OpenText.{OpenText}
 
 pub most_at : {R : Type 0} (number : OpenText R → ℕ) (texts : List (Option (OpenText R))) (at : ℕ) → number_of number (get_or texts at None) ≤ most number texts
@@ -32,69 +32,106 @@ most_set number (text ∷ texts) (suc at) slot bound each top =
     max-le (omega (arith, le-max_left (number_of number text) (most number texts))) (most_set number texts at slot bound (omega (arith, le-max_right (number_of number text) (most number texts))) top)
 
 module _ {R : Type 0} (left : R → List ℕ) where
-  pub things_to-set : (texts : List (Option (OpenText R))) (depth at : ℕ) (slot : Option (OpenText R)) → depth ≤ at → things_to left depth (set texts at slot) ≡ things_to left depth texts
-  things_to-set texts zero at slot le = refl
-  things_to-set texts (suc depth) at slot le =
-      let other : depth ≢ at = omega arith in
-      ap (λ t. raws (suc depth) true (lines_at left t) ++ things_to left depth (set texts at slot)) (get_or-set_other texts at depth slot None other)
-      ∙ ap (λ (ts : List Thing). raws (suc depth) true (lines_at left (get_or texts depth None)) ++ ts) (things_to-set texts depth at slot (omega arith))
+  pub over-set : (low n : ℕ) (texts : List (Option (OpenText R))) (at : ℕ) (slot : Option (OpenText R)) (rest : List Thing) → low + n ≤ at
+      → things_over left low n (set texts at slot) rest ≡ things_over left low n texts rest
+  over-set low zero texts at slot rest le = refl
+  over-set low (suc n) texts at slot rest le =
+      let other : low + n ≢ at = omega arith in
+      ap (λ t. things_at left t ++ things_over left low n (set texts at slot) rest) (get_or-set_other texts at (low + n) slot None other)
+      ∙ ap (λ (ts : List Thing). things_at left (get_or texts (low + n) None) ++ ts) (over-set low n texts at slot rest (omega arith))
 
-  pub things_to-top : (texts : List (Option (OpenText R))) (top : ℕ) (slot : Option (OpenText R)) → top < length texts
-      → things_to left (suc top) (set texts top slot) ≡ raws (suc top) true (lines_at left slot) ++ things_to left top texts
-  things_to-top texts top slot within =
-      ap (λ t. raws (suc top) true (lines_at left t) ++ things_to left top (set texts top slot)) (get_or-set_same texts top slot None within)
-      ∙ ap (λ (ts : List Thing). raws (suc top) true (lines_at left slot) ++ ts) (things_to-set texts top top slot (omega arith))
+  pub over-top : (low n : ℕ) (texts : List (Option (OpenText R))) (slot : Option (OpenText R)) (rest : List Thing) → low + n < length texts
+      → things_over left low (suc n) (set texts (low + n) slot) rest ≡ things_at left slot ++ things_over left low n texts rest
+  over-top low n texts slot rest within =
+      ap (λ t. things_at left t ++ things_over left low n (set texts (low + n) slot) rest) (get_or-set_same texts (low + n) slot None within)
+      ∙ ap (λ (ts : List Thing). things_at left slot ++ ts) (over-set low n texts (low + n) slot rest (omega arith))
+
+-- no place above a low one, so nothing stands over the rest
+pub over-none : {R : Type 0} (left : R → List ℕ) (low n : ℕ) (texts : List (Option (OpenText R))) (rest : List Thing) → n ≡ 0 → things_over left low n texts rest ≡ rest
+over-none left low n texts rest none = ap (λ k. things_over left low k texts rest) none
 
 -- the deepest text, of which a line was taken, or which was at its end, or whose line stops
 module _ {R : Type 0} (left left' : R → List ℕ) (same : left' ≡ left) (texts : List (Option (OpenText R))) (d slot' : Option (OpenText R)) (depth : ℕ)
-    (some : 0 < depth) (within : depth - 1 < length texts) (before after : Count) (bytes : List ℕ) where
+    (within : depth - 1 < length texts) (before after : Count) (bytes : List ℕ) (low : ℕ) (above : low < depth) (rest : List Thing) where
   abbrev slot : Option (OpenText R)
   slot = get_or texts (depth - 1) d
 
-  deep : depth ≡ suc (depth - 1)
+  abbrev under : List Thing
+  under = things_over left low (depth - 1 - low) texts rest
+
+  deep : depth - low ≡ suc (depth - 1 - low)
   deep = omega arith
 
-  open_now : things_to left depth texts ≡ raws (suc (depth - 1)) true (lines_at left slot) ++ things_to left (depth - 1) texts
+  top : low + (depth - 1 - low) ≡ depth - 1
+  top = omega arith
+
+  open_now : things_over left low (depth - low) texts rest ≡ things_at left slot ++ under
   open_now =
-      ap (λ n. things_to left n texts) deep
-      ∙ ap (λ t. raws (suc (depth - 1)) true (lines_at left t) ++ things_to left (depth - 1) texts) (get_or_default texts (depth - 1) None d within)
+      ap (λ n. things_over left low n texts rest) deep
+      ∙ ap (λ t. things_at left t ++ under) (ap (λ p. get_or texts p None) top ∙ get_or_default texts (depth - 1) None d within)
 
-  with_lines : (lines : List SourceLine) → lines_at left slot ≡ lines → things_to left depth texts ≡ raws (suc (depth - 1)) true lines ++ things_to left (depth - 1) texts
-  with_lines lines are = open_now ∙ ap (λ (ls : List SourceLine). raws (suc (depth - 1)) true ls ++ things_to left (depth - 1) texts) are
+  with_lines : (lines : List SourceLine) → lines_at left slot ≡ lines → things_over left low (depth - low) texts rest ≡ raws (number_of text_depth slot) (matches_at slot) lines ++ under
+  with_lines lines are = open_now ∙ ap (λ (ls : List SourceLine). raws (number_of text_depth slot) (matches_at slot) ls ++ under) are
 
-  pub top_taken : (place : Place) → TakesLine (lines_at left slot) (Some place) bytes (lines_at left' slot') before after
-      → TakesTop (things_to left depth texts) depth (Some place) bytes (things_to left' depth (set texts (depth - 1) slot')) before after
-  top_taken place takes = (
+  pub top_taken : (at : LineAt) → at.depth ≡ number_of text_depth slot → at.may_match ≡ matches_at slot → number_of text_depth slot' ≡ number_of text_depth slot → matches_at slot' ≡ matches_at slot
+      → TakesLine (lines_at left slot) (Some at) bytes (lines_at left' slot') before after
+      → TakesFirst (things_over left low (depth - low) texts rest) (Some at) bytes (things_over left' low (depth - low) (set texts (depth - 1) slot') rest) before after
+  top_taken at deep_at matches deep' matches' takes = (
     takes.0,
     with_lines (takes.0.line ∷ lines_at left' slot') takes.1
-        ∙ ap (λ l. raw_at (suc (depth - 1)) takes.0.line ∷ raws (suc (depth - 1)) true (lines_at left' slot') ++ things_to l (depth - 1) texts) (sym same)
-        ∙ ap (λ (ts : List Thing). raw_at (suc (depth - 1)) takes.0.line ∷ ts) (sym (things_to-top left' texts (depth - 1) slot' within))
-        ∙ ap (λ n. raw_at n takes.0.line ∷ things_to left' n (set texts (depth - 1) slot')) (sym deep),
+        ∙ (λ i. raw (record { source = takes.0.line; depth = sym deep_at i; may_match = sym matches i }) ∷ raws (sym deep' i) (sym matches' i) (lines_at left' slot') ++ things_over (sym same i) low (depth - 1 - low) texts rest)
+        ∙ ap (λ (ts : List Thing). raw_at at takes.0.line ∷ ts) (sym (over-top left' low (depth - 1 - low) texts slot' rest (omega (arith, within))))
+        ∙ ap (λ p. raw_at at takes.0.line ∷ things_over left' low (suc (depth - 1 - low)) (set texts p slot') rest) top
+        ∙ ap (λ n. raw_at at takes.0.line ∷ things_over left' low n (set texts (depth - 1) slot') rest) (sym deep),
   )
 
   pub top_closed : (texts' : List (Option (OpenText R))) → texts' ≡ set texts (depth - 1) None → TakesLine (lines_at left slot) None bytes (lines_at left' slot') before after
-      → TakesTop (things_to left depth texts) depth None bytes (things_to left' (depth - 1) texts') before after
+      → TakesFirst (things_over left low (depth - low) texts rest) None bytes (things_over left' low (depth - 1 - low) texts' rest) before after
   top_closed texts' are takes =
       with_lines [] takes.0
-      ∙ ap (λ l. things_to l (depth - 1) texts) (sym same)
-      ∙ sym (things_to-set left' texts (depth - 1) (depth - 1) None (omega arith))
-      ∙ ap (things_to left' (depth - 1)) (sym are)
+      ∙ ap (λ l. things_over l low (depth - 1 - low) texts rest) (sym same)
+      ∙ sym (over-set left' low (depth - 1 - low) texts (depth - 1) None rest (omega arith))
+      ∙ ap (λ (ts : List (Option (OpenText R))). things_over left' low (depth - 1 - low) ts rest) (sym are)
 
-  pub top_stops : (stop : Stop) → FirstStops stop before (lines_at left slot) → TopStops stop before depth (things_to left depth texts)
+  pub top_stops : (stop : Stop) → FirstStops stop before (lines_at left slot) → TopStops stop before (things_over left low (depth - low) texts rest)
   top_stops stop stops = record {
-    line = stops.line;
-    rest = raws (suc (depth - 1)) true stops.rest ++ things_to left (depth - 1) texts;
-    first = with_lines (stops.line ∷ stops.rest) stops.first
-        ∙ ap (λ n. raw_at n stops.line ∷ raws (suc (depth - 1)) true stops.rest ++ things_to left (depth - 1) texts) (sym deep);
+    raw_line = record { source = stops.line; depth = number_of text_depth slot; may_match = matches_at slot };
+    rest = raws (number_of text_depth slot) (matches_at slot) stops.rest ++ under;
+    first = with_lines (stops.line ∷ stops.rest) stops.first;
     why = stops.why;
   }
 
-pub pushed : {R : Type 0} (left : R → List ℕ) (old new : Stack R) (text : OpenText R) → old.depth < length old.texts → new.depth ≡ old.depth + 1 → new.texts ≡ set old.texts old.depth (Some text)
-    → things_of left new ≡ raws (old.depth + 1) true (lines_left left text) ++ things_of left old
-pushed left old new text within depth texts =
-    let next : old.depth + 1 ≡ suc old.depth = omega arith in
-    (λ i. things_to left (depth i) (texts i)) ∙ ap (λ n. things_to left n (set old.texts old.depth (Some text))) next ∙ things_to-top left old.texts old.depth (Some text) within
-    ∙ ap (λ n. raws n true (lines_left left text) ++ things_to left old.depth old.texts) (sym next)
+pub pushed : {R : Type 0} (old new : Stack R) (text : OpenText R) → old.depth < length old.texts → new.depth ≡ old.depth + 1 → new.texts ≡ set old.texts old.depth (Some text) → Pushes old new text
+pushed old new text within depth texts = λ left low le rest.
+    let next : old.depth + 1 - low ≡ suc (old.depth - low) = omega arith in
+    let top : old.depth ≡ low + (old.depth - low) = omega arith in
+    (λ i. things_over left low (depth i - low) (texts i) rest)
+    ∙ ap (λ n. things_over left low n (set old.texts old.depth (Some text)) rest) next
+    ∙ ap (λ p. things_over left low (suc (old.depth - low)) (set old.texts p (Some text)) rest) top
+    ∙ over-top left low (old.depth - low) old.texts (Some text) rest (omega (arith, within))
+
+pub stays_below : {R : Type 0} (old new : List (Option (OpenText R))) (at low : ℕ) (slot : Option (OpenText R)) → low ≤ at → new ≡ set old at slot → StaysBelow low old new
+stays_below old new at low slot le texts = λ left n le' rest. ap (λ ts. things_over left 0 n ts rest) texts ∙ over-set left 0 n old at slot rest (omega (arith, le, le'))
+
+-- the texts lie deeper than their places
+pub deep-at : {R : Type 0} (place at p : ℕ) (texts : List (Option (OpenText R))) (d : Option (OpenText R)) → p ≡ place + at → at < length texts → gaps_from place texts ≡ 0 → DeepAt p (get_or texts at d)
+unfolding gaps_from
+deep-at place at p [] d is within deep = absurd (omega arith)
+deep-at place zero p (slot ∷ texts) d is within deep =
+    let same : place ≡ p = omega (arith, is) in
+    subst (λ k. DeepAt k slot) same (omega (arith, deep))
+deep-at place (suc at) p (slot ∷ texts) d is within deep = deep-at (suc place) at p texts d (omega (arith, is)) (omega arith) (omega (arith, deep))
+
+pub deep-set : {R : Type 0} (place at p : ℕ) (texts : List (Option (OpenText R))) (slot : Option (OpenText R)) → p ≡ place + at → gaps_from place texts ≡ 0 → DeepAt p slot → gaps_from place (set texts at slot) ≡ 0
+unfolding gaps_from
+deep-set place at p [] slot is deep top = deep
+deep-set place zero p (text ∷ texts) slot is deep top =
+    let same : p ≡ place = omega (arith, is) in
+    let here : gap_at place slot ≡ 0 = subst (λ k. DeepAt k slot) same top in
+    omega (arith, here, deep)
+deep-set place (suc at) p (text ∷ texts) slot is deep top =
+    let later = deep-set (suc place) at p texts slot (omega (arith, is)) (omega (arith, deep)) top in
+    omega (arith, later, deep)
 
 -- the same stop for another reason
 pub stops_map : {A B : Type 0} (stop : Stop) → (A → B) → StopsFor A stop → StopsFor B stop
@@ -108,3 +145,16 @@ stops_map Memory map stops = stops
 stops_map OutNotOpened map stops = stops
 stops_map WriteFault map stops = stops
 stops_map LogFault map stops = stops
+
+pub stays-both : {R : Type 0} (low : ℕ) (a b c : List (Option (OpenText R))) → StaysBelow low a b → StaysBelow low b c → StaysBelow low a c
+stays-both low a b c first second = λ left n le rest. second left n le rest ∙ first left n le rest
+
+-- things that are the same as others, at the same count
+pub takes_same : (at : Option LineAt) (old mid new : List Thing) (bytes : List ℕ) (before before' after : Count) → old ≡ mid → before' ≡ before → TakesFirst mid at bytes new before' after → TakesFirst old at bytes new before after
+takes_same None old mid new bytes before before' after things count takes = things ∙ takes
+takes_same (Some at) old mid new bytes before before' after things count takes =
+    subst (λ (b : Count). TakesFirst old (Some at) bytes new b after) count (takes.0, things ∙ takes.1)
+
+pub stops_same : (stop : Stop) (old mid : List Thing) (before before' : Count) → old ≡ mid → before' ≡ before → TopStops stop before' mid → TopStops stop before old
+stops_same stop old mid before before' things count stops =
+    subst (λ (b : Count). TopStops stop b old) count (record { raw_line = stops.raw_line; rest = stops.rest; first = things ∙ stops.first; why = stops.why })

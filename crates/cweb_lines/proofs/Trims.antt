@@ -1,5 +1,5 @@
 -- Lines without the blanks at their ends, and what taking a line leaves.
-use Rattle.std.proofs.Common.{◌≡◌, ◌≢◌, ◌+◌, ◌≤◌, ℕ, true, false, cond, List, [], ◌∷◌, ◌++◌, refl, sym, ◌∙◌, ap, subst, arith, ◌<◌, ◌-◌, length, get_or, take, ◌⊎◌, Some}
+use Rattle.std.proofs.Common.{Bool, ◌≡◌, ◌≢◌, ◌+◌, ◌≤◌, ℕ, true, false, cond, List, [], ◌∷◌, ◌++◌, refl, sym, ◌∙◌, ap, subst, arith, ◌<◌, ◌-◌, length, get_or, take, ◌⊎◌, Some}
 use Rattle.std.proofs.lemmas.List.{take_more, take_all}
 use Rattle.cweb_files.specs.declared.place.FileId.{FileId}
 use Rattle.cweb_lines.specs.Lines.{SourceLine, trimmed, before_blanks, is_blank, text_lines, numbered}
@@ -42,10 +42,11 @@ takes_line Last old new bytes file number not takes =
 takes_line Full old new bytes file number not takes =
     ap (λ (t : List ℕ). numbered file number (text_lines t)) takes.0 ∙ ap (numbered file number) (text_lines-full bytes new takes.1)
 
-pub takes_first : (bytes raw old new : List ℕ) (file number : ℕ) (taken : Taken) (before after : Count) → taken ≢ Ended → Takes old taken raw new → bytes ≡ trimmed raw → length raw ≤ LINE_LENGTH
+pub takes_first : (bytes raw old new : List ℕ) (file number depth : ℕ) (may_match : Bool) (taken : Taken) (before after : Count) → taken ≢ Ended → Takes old taken raw new → bytes ≡ trimmed raw → length raw ≤ LINE_LENGTH
     → after.lines ≡ before.lines + 1 → after.bytes ≡ before.bytes + (length raw + newline_bytes taken)
-    → TakesLine (numbered file number (text_lines old)) (Some (record { file = record { 0 = file }; line = number })) bytes (numbered file (number + 1) (text_lines new)) before after
-takes_first bytes raw old new file number taken before after not takes is short lines size = (
+    → TakesLine (numbered file number (text_lines old)) (Some (record { place = record { file = record { 0 = file }; line = number }; depth = depth; may_match = may_match })) bytes
+    (numbered file (number + 1) (text_lines new)) before after
+takes_first bytes raw old new file number depth may_match taken before after not takes is short lines size = (
   record {
     line = source_line file number raw taken;
     is = ap (λ (b : List ℕ). record { bytes = b; place = record { file = record { 0 = file }; line = number } }) (sym is);

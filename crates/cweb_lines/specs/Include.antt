@@ -1,5 +1,5 @@
 -- Include lines, and the texts that they name.
-use Rattle.std.specs.Prelude.{ℕ, ◌||◌, ◌&&◌, Bool, true, false, ◌==◌, List, [], ◌∷◌, ◌++◌, Option, None, Some, if◌then◌else◌}
+use Rattle.std.specs.Prelude.{ℕ, ◌||◌, ◌&&◌, Bool, true, false, ◌==◌, List, [], ◌∷◌, ◌++◌, Option, None, Some, option_map, if◌then◌else◌}
 use Rattle.std.specs.Str.{is_utf8}
 
 -- the texts under their names, and the folder in which included files are sought too
@@ -69,3 +69,8 @@ found_at world name = found_if (is_utf8 name) world name
 abbrev pub web_at : (List ℕ → Option (List ℕ)) → List ℕ → Option (List ℕ) → Option Found
 web_at texts web None = under web (texts web)
 web_at texts web (Some second) = first_found (under web (texts web)) (under second (texts second))
+
+-- the change file: none where none is named, else the text under its name; nothing where that text is not there
+abbrev pub change_at : (List ℕ → Option (List ℕ)) → Option (List ℕ) → Option (Option Found)
+change_at texts None = Some None
+change_at texts (Some name) = option_map (λ found. Some found) (under name (texts name))

@@ -7,7 +7,10 @@ pub mod Lines
 pub mod Merge
 pub mod Merging
 pub mod Names
+pub mod Replacing
+pub mod Seeking
 pub mod Source
+pub mod Stages
 pub mod Texts
 pub mod Told
 pub mod Total

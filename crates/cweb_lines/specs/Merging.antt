@@ -1,23 +1,26 @@
 -- What a merger has still to give, and what a call gives of it.
-use Rattle.std.specs.Prelude.{true, ◌≡◌, ◌<◌, ◌≤◌, ◌⊎◌, ◌+◌, ◌*◌, ◌-◌, ℕ, length, List, [], ◌∷◌, ◌++◌, Option, None}
+use Rattle.std.specs.Prelude.{◌≡◌, ◌<◌, ◌≤◌, ◌⊎◌, ◌+◌, ◌*◌, ◌-◌, ℕ, length, List, [], ◌∷◌, ◌++◌, Option}
 use Rattle.cweb_files.specs.declared.place.FileId.{FileId}
-use Rattle.cweb_lines.specs.Lines.{Line, SourceLine, lines_in}
-use Rattle.cweb_lines.specs.Merge.{State, Event, took, Thing, raws}
+use Rattle.cweb_lines.specs.Change.{Entry}
+use Rattle.cweb_lines.specs.Lines.{Line, SourceLine}
+use Rattle.cweb_lines.specs.Merge.{State, Event, took, Thing}
 use Rattle.cweb_lines.specs.Told.{given_lines, told_faults, openings, taken_lines, size_of, AreShort}
 use Rattle.cweb_lines.specs.Total.{merge}
 use Rattle.cweb_lines.specs.Counts.{count_of}
 use Rattle.cweb_lines.specs.Finding.{world_in}
 use Rattle.cweb_lines.specs.Names.{names_of}
-use Rattle.cweb_lines.specs.Texts.{Count, IsTooLong, things_of, raw_at}
+use Rattle.cweb_lines.specs.Stages.{pending_in, change_in, things_in, weight_of}
+use Rattle.cweb_lines.specs.Texts.{Count, IsTooLong, Refuses, lines_at, raw_at}
 use Rattle.cweb_lines.specs.declared.fault.SourceFault.{SourceFault}
-use Rattle.cweb_lines.specs.declared.finding.Opening.{Opening}
 use Rattle.cweb_lines.specs.declared.limits.TheConstants.{LINES, BYTES}
 use Rattle.cweb_lines.specs.declared.run.Run.{Run}
-use Rattle.cweb_lines.specs.declared.stack.Stack.{Stack}
+use Rattle.cweb_lines.specs.declared.stage.Stage.{Stage}
+use Rattle.cweb_lines.specs.declared.stage.Stage.TheVariants.{Done}
 use Rattle.cweb_lines.specs.declared.stop.Stop.{Stop}
 use Rattle.cweb_lines.specs.declared.stop.Stop.TheVariants.{Usage, WebNotOpened, ChangeNotOpened, ReadFault, LineTooLong, TooMuchText, Memory, OutNotOpened, WriteFault, LogFault}
-use Rattle.cweb_lines.specs.declared.turning.Turn.{Turn}
-use Rattle.cweb_lines.specs.declared.turning.Turn.TheVariants.{Given, On, Ended}
+use Rattle.cweb_lines.specs.declared.text.LineAt.{LineAt}
+use Rattle.cweb_lines.specs.declared.turn.Turn.{Turn}
+use Rattle.cweb_lines.specs.declared.turn.Turn.TheVariants.{Given, On, Ended}
 
 -- what was told and taken so far
 pub record SoFar : Type 0 where
@@ -83,36 +86,89 @@ Stopped LogFault old now all = ⊥
 abbrev pub told_by : {R : Type 0} → Run R → SoFar
 told_by run = record { faults = run.faults.items; names = names_of run.names; count = count_of run.limits }
 
+-- the lines that the change file has left
+abbrev pub change_lines : {R : Type 0} → (R → List ℕ) → Run R → List SourceLine
+change_lines left run = lines_at left run.change
+
+abbrev pub pending_of : {R : Type 0} → Run R → Option Entry
+pending_of run = pending_in run.stage run.first.items
+
 -- all that is to come, by what the shelf holds and what its readers have left
 abbrev pub state_of : {R : Type 0} → (R → List ℕ) → Run R → List Thing → State
-state_of left run things = record { things = things; pending = None; change = []; files = length (names_of run.names) }
+state_of left run things = record {
+  things = things;
+  pending = pending_of run;
+  change = change_in run.stage (change_lines left run);
+  files = length (names_of run.names);
+}
+
+abbrev pub things_of : {R : Type 0} → (R → List ℕ) → Run R → List Thing
+things_of left run = things_in left run.stage (change_lines left run) run.stack
 
 abbrev pub coming : {R : Type 0} → (List ℕ → Option (List ℕ)) → (R → List ℕ) → Run R → List Event
-coming texts left run = merge (world_in texts run.inputs) (state_of left run (things_of left run.stack))
+coming texts left run = merge (world_in texts run.inputs) (state_of left run (things_of left run))
 
--- the same with a line in front, which was taken from the deepest text
-abbrev pub coming_after : {R : Type 0} → (List ℕ → Option (List ℕ)) → (R → List ℕ) → Run R → SourceLine → List Event
-coming_after texts left run source = merge (world_in texts run.inputs) (state_of left run (raw_at run.stack.depth source ∷ things_of left run.stack))
+-- the same with a line in front, which was taken
+abbrev pub coming_after : {R : Type 0} → (List ℕ → Option (List ℕ)) → (R → List ℕ) → Run R → LineAt → SourceLine → List Event
+coming_after texts left run at source = merge (world_in texts run.inputs) (state_of left run (raw_at at source ∷ things_of left run))
 
--- the lines of a text that was opened come in front, one deeper
-abbrev pub Opens : {R : Type 0} → Stack R → Stack R → Opening R → ℕ → Type 0
-Opens {R = R} old new opening file = (left : R → List ℕ) → things_of left new ≡ raws (old.depth + 1) true (lines_in file (left opening.reader)) ++ things_of left old
+-- faults that were told and lines that were taken are counted
+pub record Adds (faults : List SourceFault) (lines : List SourceLine) (old new : SoFar) : Type 0 where
+  pub told : new.faults ≡ old.faults ++ faults
+  pub names : new.names ≡ old.names
+  pub lines_are : new.count.lines ≡ old.count.lines + length lines
+  pub bytes_are : new.count.bytes ≡ old.count.bytes + size_of lines
+  pub short : AreShort lines
+
+-- some of these faults were told
+pub record TellsSome (faults : List SourceFault) (old new : SoFar) : Type 0 where
+  pub front : List SourceFault
+  pub rest : List SourceFault
+  pub whole : faults ≡ front ++ rest
+  pub told : new.faults ≡ old.faults ++ front
+  pub names : new.names ≡ old.names
+
+-- one of these lines can't be taken, and those that were taken before it are among them
+pub record StopsAmong (stop : Stop) (old now : Count) (lines : List SourceLine) : Type 0 where
+  pub front : List SourceLine
+  pub line : SourceLine
+  pub rest : List SourceLine
+  pub among : lines ≡ front ++ line ∷ rest
+  pub why : Refuses stop now line
+  pub few : now.lines + 1 ≤ old.lines + length lines
+  pub small : now.bytes + line.size ≤ old.bytes + size_of lines
 
 -- a bound on the turns that are left
-abbrev pub turns_left : ℕ → ℕ → ℕ
-turns_left taken depth = 11 * (16777216 - taken) + depth
+abbrev pub turns_left : ℕ → Stage → ℕ
+turns_left taken stage = 4 * (16777216 - taken) + weight_of stage
 
--- what a turn gives of all that is to come
-abbrev pub Turned : Turn → List ℕ → SoFar → SoFar → List Event → List Event → Type 0
-Turned (Given place) bytes old new all later = Gives (record { bytes = bytes; place = place } ∷ []) old new all later
-Turned On bytes old new all later = Gives [] old new all later
-Turned Ended bytes old new all later = (all ≡ []) × (later ≡ []) × (new ≡ old)
+-- the line that a turn gives out
+abbrev pub lines_given : Turn → List ℕ → List Line
+lines_given (Given place) bytes = record { bytes = bytes; place = place } ∷ []
+lines_given On bytes = []
+lines_given Ended bytes = []
+
+-- a turn found a line
+abbrev pub IsTaken : Turn → Type 0
+IsTaken (Given place) = Unit {0}
+IsTaken On = Unit {0}
+IsTaken Ended = ⊥
 
 -- a turn takes a line, or fewer turns are left
-abbrev pub TurnCounts : Turn → ℕ → ℕ → ℕ → ℕ → Type 0
-TurnCounts (Given place) lines depth lines' depth' = lines' ≡ lines + 1
-TurnCounts On lines depth lines' depth' = (lines ≤ lines') × (turns_left lines' depth' < turns_left lines depth)
-TurnCounts Ended lines depth lines' depth' = (lines' ≡ lines) × (depth ≡ 0) × (depth' ≡ 0)
+abbrev pub TurnCounts : Turn → ℕ → Stage → ℕ → Stage → Type 0
+TurnCounts (Given place) lines stage lines' stage' = lines < lines'
+TurnCounts On lines stage lines' stage' = (lines ≤ lines') × (turns_left lines' stage' < turns_left lines stage)
+TurnCounts Ended lines stage lines' stage' = lines' ≡ lines
+
+-- no text is open any more, and no entry is left
+abbrev pub NothingLeft : {R : Type 0} → Run R → Type 0
+NothingLeft run = (run.stack.depth ≡ 0) × (run.stage ≡ Done)
+
+-- where a turn found nothing, nothing is left
+abbrev pub TurnEnds : {R : Type 0} → Turn → Run R → Type 0
+TurnEnds (Given place) run = Unit {0}
+TurnEnds On run = Unit {0}
+TurnEnds Ended run = NothingLeft run
 
 -- the file of a line that a turn gives out is among those opened
 abbrev pub TurnKnown : ℕ → Turn → Type 0

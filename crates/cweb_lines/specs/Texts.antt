@@ -1,9 +1,9 @@
 -- What open texts have still to come, and what taking a line does to them.
-use Rattle.std.specs.Prelude.{◌≡◌, ℕ, zero, suc, ◌+◌, ◌≤◌, ◌<◌, ◌⊎◌, max, true, List, [], ◌∷◌, ◌++◌, Option, None, Some, Result, Ok, Err, slice_index_or}
+use Rattle.std.specs.Prelude.{◌≡◌, ℕ, zero, suc, ◌+◌, ◌-◌, ◌≤◌, ◌<◌, ◌⊎◌, max, Bool, false, List, [], ◌∷◌, ◌++◌, Option, None, Some, Result, Ok, Err, slice_index_or}
 use Rattle.cweb_files.specs.declared.place.FileId.{FileId}
 use Rattle.cweb_files.specs.declared.place.Place.{Place}
-use Rattle.cweb_lines.specs.Lines.{SourceLine, numbered, text_lines}
-use Rattle.cweb_lines.specs.Merge.{Thing, raw, raws}
+use Rattle.cweb_lines.specs.Lines.{SourceLine, numbered, text_lines, lines_in}
+use Rattle.cweb_lines.specs.Merge.{RawLine, Thing, raw, raws}
 use Rattle.cweb_lines.specs.Source.{pending}
 use Rattle.cweb_lines.specs.declared.limits.TheConstants.{LINE_LENGTH, LINES, BYTES}
 use Rattle.cweb_lines.specs.declared.source.LineFault.{LineFault}
@@ -13,6 +13,7 @@ use Rattle.cweb_lines.specs.declared.source.Taken.TheVariants.{Ended, Last, Full
 use Rattle.cweb_lines.specs.declared.stack.Stack.{Stack}
 use Rattle.cweb_lines.specs.declared.stop.Stop.{Stop}
 use Rattle.cweb_lines.specs.declared.stop.Stop.TheVariants.{Usage, WebNotOpened, ChangeNotOpened, ReadFault, LineTooLong, TooMuchText, Memory, OutNotOpened, WriteFault, LogFault}
+use Rattle.cweb_lines.specs.declared.text.LineAt.{LineAt}
 use Rattle.cweb_lines.specs.declared.text.OpenText.{OpenText}
 
 -- the lines that an open text has left
@@ -55,9 +56,9 @@ pub record Took (bytes : List ℕ) (place : Place) (before after : Count) : Type
   pub bytes_are : after.bytes ≡ before.bytes + line.size
 
 -- what taking a line does to the lines that are left
-abbrev pub TakesLine : List SourceLine → Option Place → List ℕ → List SourceLine → Count → Count → Type 0
+abbrev pub TakesLine : List SourceLine → Option LineAt → List ℕ → List SourceLine → Count → Count → Type 0
 TakesLine old None bytes new before after = (old ≡ []) × (new ≡ [])
-TakesLine old (Some place) bytes new before after = (took : Took bytes place before after) × (old ≡ took.line ∷ new)
+TakesLine old (Some at) bytes new before after = (took : Took bytes at.place before after) × (old ≡ took.line ∷ new)
 
 abbrev pub IsTooLong : FileId → SourceLine → Type 0
 IsTooLong file line = (line.line.place.file ≡ file) × (LINE_LENGTH < line.length)
@@ -99,7 +100,7 @@ StopsReading stop = StopsFor (Unit {0}) stop
 abbrev pub StartStops : Stop → Type 0
 StartStops Usage = ⊥
 StartStops WebNotOpened = Unit {0}
-StartStops ChangeNotOpened = ⊥
+StartStops ChangeNotOpened = Unit {0}
 StartStops (ReadFault file) = ⊥
 StartStops (LineTooLong file) = ⊥
 StartStops TooMuchText = ⊥
@@ -115,42 +116,96 @@ pub record FirstStops (stop : Stop) (count : Count) (lines : List SourceLine) : 
   pub first : lines ≡ line ∷ rest
   pub why : Refuses stop count line
 
--- the lines of the open texts as things to come, the deepest text first
-abbrev pub things_to : {R : Type 0} → (R → List ℕ) → ℕ → List (Option (OpenText R)) → List Thing
-things_to left zero texts = []
-things_to left (suc depth) texts = raws (suc depth) true (lines_at left (slice_index_or texts depth None)) ++ things_to left depth texts
+-- whether the lines of an open text may match a change entry
+abbrev pub matches_at : {R : Type 0} → Option (OpenText R) → Bool
+matches_at None = false
+matches_at (Some text) = text.may_match
 
-abbrev pub things_of : {R : Type 0} → (R → List ℕ) → Stack R → List Thing
-things_of left stack = things_to left stack.depth stack.texts
+-- how deep the lines of an open text lie
+abbrev pub text_depth : {R : Type 0} → OpenText R → ℕ
+text_depth text = text.depth
 
--- the lines of a text come in front, one deeper
-abbrev pub Pushes : {R : Type 0} → Stack R → Stack R → OpenText R → Type 0
-Pushes {R = R} old new text = (left : R → List ℕ) → things_of left new ≡ raws (old.depth + 1) true (lines_left left text) ++ things_of left old
+-- the lines of an open text as things to come
+abbrev pub things_at : {R : Type 0} → (R → List ℕ) → Option (OpenText R) → List Thing
+things_at left slot = raws (number_of text_depth slot) (matches_at slot) (lines_at left slot)
 
-abbrev pub raw_at : ℕ → SourceLine → Thing
-raw_at depth line = raw (record { source = line; depth = depth; may_match = true })
+-- the lines of the texts at so many places from a low one on, the deepest text first, in front of other things
+abbrev pub things_over : {R : Type 0} → (R → List ℕ) → ℕ → ℕ → List (Option (OpenText R)) → List Thing → List Thing
+things_over left low zero texts rest = rest
+things_over left low (suc n) texts rest = things_at left (slice_index_or texts (low + n) None) ++ things_over left low n texts rest
 
--- the first thing is taken, or a text without lines is closed
-abbrev pub TakesTop : List Thing → ℕ → Option Place → List ℕ → List Thing → Count → Count → Type 0
-TakesTop old depth None bytes new before after = old ≡ new
-TakesTop old depth (Some place) bytes new before after = (took : Took bytes place before after) × (old ≡ raw_at depth took.line ∷ new)
+-- the lines of all open texts above a low place
+abbrev pub things_above : {R : Type 0} → (R → List ℕ) → ℕ → Stack R → List Thing → List Thing
+things_above left low stack rest = things_over left low (stack.depth - low) stack.texts rest
+
+-- by how much the lines of an open text lie less deep than texts at its place in the stack do at least
+abbrev pub gap_at : {R : Type 0} → ℕ → Option (OpenText R) → ℕ
+gap_at place None = 0
+gap_at place (Some text) = place + 1 - text.depth
+
+unfoldable pub gaps_from : {R : Type 0} → ℕ → List (Option (OpenText R)) → ℕ
+gaps_from place [] = 0
+gaps_from place (slot ∷ texts) = gap_at place slot + gaps_from (suc place) texts
+
+abbrev pub DeepAt : {R : Type 0} → ℕ → Option (OpenText R) → Type 0
+DeepAt place slot = gap_at place slot ≡ 0
+
+-- no open text lies less deep than its place
+abbrev pub AreDeep : {R : Type 0} → List (Option (OpenText R)) → Type 0
+AreDeep texts = gaps_from 0 texts ≡ 0
+
+abbrev pub raw_at : LineAt → SourceLine → Thing
+raw_at at line = raw (record { source = line; depth = at.depth; may_match = at.may_match })
+
+-- the first thing is taken, or what is left stays
+abbrev pub TakesFirst : List Thing → Option LineAt → List ℕ → List Thing → Count → Count → Type 0
+TakesFirst old None bytes new before after = old ≡ new
+TakesFirst old (Some at) bytes new before after = (took : Took bytes at.place before after) × (old ≡ raw_at at took.line ∷ new)
+
+-- a line of the deepest text is taken, or that text, which has no more lines, is closed
+abbrev pub TakesTop : {R : Type 0} → (R → List ℕ) → (R → List ℕ) → Stack R → Stack R → Option LineAt → List ℕ → Count → Count → Type 0
+TakesTop left left' old new at bytes before after = (low : ℕ) → low < old.depth → (rest : List Thing) → TakesFirst (things_above left low old rest) at bytes (things_above left' low new rest) before after
+
+-- the next line of the texts above a low place is taken, or all of these have ended
+abbrev pub TakesAbove : {R : Type 0} → (R → List ℕ) → (R → List ℕ) → ℕ → Stack R → Stack R → Option LineAt → List ℕ → Count → Count → Type 0
+TakesAbove left left' low old new at bytes before after = (rest : List Thing) → TakesFirst (things_above left low old rest) at bytes (things_above left' low new rest) before after
+
+-- the texts below a place stay as they are
+abbrev pub StaysBelow : {R : Type 0} → ℕ → List (Option (OpenText R)) → List (Option (OpenText R)) → Type 0
+StaysBelow {R = R} low old new = (left : R → List ℕ) (n : ℕ) → n ≤ low → (rest : List Thing) → things_over left 0 n new rest ≡ things_over left 0 n old rest
 
 -- the first thing is the line that stops
-pub record TopStops (stop : Stop) (count : Count) (depth : ℕ) (things : List Thing) : Type 0 where
-  pub line : SourceLine
+pub record TopStops (stop : Stop) (count : Count) (things : List Thing) : Type 0 where
+  pub raw_line : RawLine
   pub rest : List Thing
-  pub first : things ≡ raw_at depth line ∷ rest
-  pub why : Refuses stop count line
+  pub first : things ≡ raw raw_line ∷ rest
+  pub why : Refuses stop count raw_line.source
 
-abbrev pub DepthAfter : ℕ → ℕ → Result (Option Place) Stop → Type 0
+-- the first line of the texts above a low place is the one that stops
+abbrev pub StopsAbove : {R : Type 0} → (R → List ℕ) → ℕ → Stack R → Stop → Count → Type 0
+StopsAbove left low stack stop count = (rest : List Thing) → TopStops stop count (things_above left low stack rest)
+
+abbrev pub StopsTop : {R : Type 0} → (R → List ℕ) → Stack R → Stop → Count → Type 0
+StopsTop left stack stop count = (low : ℕ) → low < stack.depth → StopsAbove left low stack stop count
+
+-- the lines of a text come in front
+abbrev pub Pushes : {R : Type 0} → Stack R → Stack R → OpenText R → Type 0
+Pushes {R = R} old new text = (left : R → List ℕ) (low : ℕ) → low ≤ old.depth → (rest : List Thing) → things_above left low new rest ≡ things_at left (Some text) ++ things_above left low old rest
+
+-- the lines of a text that was opened come in front, one deeper than the line that names it, and match where that line does
+abbrev pub Opens : {R : Type 0} → Stack R → Stack R → R → ℕ → LineAt → Type 0
+Opens {R = R} old new reader file at = (left : R → List ℕ) (low : ℕ) → low ≤ old.depth → (rest : List Thing)
+    → things_above left low new rest ≡ raws (at.depth + 1) at.may_match (lines_in file (left reader)) ++ things_above left low old rest
+
+abbrev pub DepthAfter : ℕ → ℕ → Result (Option LineAt) Stop → Type 0
 DepthAfter old new (Ok None) = new + 1 ≡ old
-DepthAfter old new (Ok (Some place)) = new ≡ old
+DepthAfter old new (Ok (Some at)) = new ≡ old
 DepthAfter old new (Err stop) = new ≡ old
 
 -- a line that was taken is counted
-abbrev pub Counted : Count → Count → Result (Option Place) Stop → Type 0
+abbrev pub Counted : Count → Count → Result (Option LineAt) Stop → Type 0
 Counted old new (Ok None) = (new.lines ≡ old.lines) × (new.bytes ≡ old.bytes)
-Counted old new (Ok (Some place)) = new.lines ≡ old.lines + 1
+Counted old new (Ok (Some at)) = new.lines ≡ old.lines + 1
 Counted old new (Err stop) = (new.lines ≡ old.lines) × (new.bytes ≡ old.bytes)
 
 abbrev pub stop_for : LineFault → FileId → Stop
@@ -195,7 +250,7 @@ files_named WriteFault = 0
 files_named LogFault = 0
 
 -- the files that an answer names are among so many
-abbrev pub NamesFiles : ℕ → Result (Option Place) Stop → Type 0
+abbrev pub NamesFiles : ℕ → Result (Option LineAt) Stop → Type 0
 NamesFiles files (Ok None) = Unit {0}
-NamesFiles files (Ok (Some place)) = place.file.0 < files
+NamesFiles files (Ok (Some at)) = at.place.file.0 < files
 NamesFiles files (Err stop) = files_named stop ≤ files

@@ -1,8 +1,8 @@
 // The texts that a web and its include lines name.
 ghost use Rattle.std.specs.Prelude.{◌≡◌, ◌∷◌, ◌++◌, ℕ, List, IsTrue, IfOk, string_bytes};
 ghost use Rattle.std.specs.Option.{option_copied};
-ghost use Rattle.cweb_lines.specs.Include.{found_at, under, web_at};
-ghost use Rattle.cweb_lines.specs.Finding.{found_as, world_in};
+ghost use Rattle.cweb_lines.specs.Include.{found_at, under, web_at, change_at};
+ghost use Rattle.cweb_lines.specs.Finding.{found_as, changes_found, world_in};
 
 use cweb_files::Shelf;
 use std::alloc::{AllocError, Global};
@@ -81,4 +81,25 @@ pub fn find_web<S: Shelf>(
         return fetch_named(shelf, String::from_str(alloc, second)?);
     };
     Ok(Some(opening))
+}
+
+/// The change file, where one is named, under its name; nothing where that file is not there.
+pub fn find_change<S: Shelf>(
+    alloc: Global,
+    shelf: &mut S,
+    change: Option<&str>,
+) -> Result<Option<Option<Opening<S::R>>>, AllocError>
+    ensures tells { S.tells shelf.new ≡ S.tells shelf.old }
+    ensures failed { S.failed shelf.new ≡ S.failed shelf.old }
+    ensures texts { IsTrue (S.tells shelf.old) → S.texts shelf.new ≡ S.texts shelf.old }
+    ensures others { IsTrue (S.tells shelf.old) → S.left shelf.new ≡ S.left shelf.old }
+    ensures found { IsTrue (S.tells shelf.old) → IfOk result (λ opened. changes_found (S.left shelf.new) opened ≡ change_at (S.texts shelf.old) (option_copied change.entry)) }
+{
+    let Some(name) = change else {
+        return Ok(Some(None));
+    };
+    match fetch_named(shelf, String::from_str(alloc, name)?)? {
+        Some(opening) => Ok(Some(Some(opening))),
+        None => Ok(None),
+    }
 }

@@ -1,6 +1,7 @@
 //! The merged lines of a web: the lines of its files, with included files put in and a change file's entries made.
 #![tactic(auto)]
 
+mod code;
 mod fault;
 mod finding;
 mod include;
@@ -8,13 +9,19 @@ mod laws;
 mod limits;
 mod merger;
 mod names;
+mod obeying;
+mod progress;
 mod reading;
+mod replacing;
 mod run;
+mod seeking;
 mod source;
 mod stack;
+mod stage;
 mod stop;
 mod taking;
 mod text;
+mod turn;
 mod turning;
 mod writing;
 

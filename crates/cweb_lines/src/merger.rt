@@ -1,22 +1,26 @@
 // The merged lines of a web, one after another.
-ghost use Rattle.std.specs.Prelude.{◌≡◌, ◌≤◌, ◌<◌, ◌+◌, ◌^◌, ℕ, List, [], length, IsTrue, IfOk, Ok, Err, IfErr, IfSome, IsNone, OnOk, OnErr, OnSome, None, Some, All};
+ghost use Rattle.std.specs.Prelude.{◌≡◌, ◌≤◌, ◌<◌, ◌+◌, ◌^◌, ℕ, List, [], length, IsTrue, true, string_bytes, ◌∷◌, ◌++◌, IfOk, Ok, Err, IfErr, IfSome, OnOk, OnErr, OnSome, None, Some, All};
 ghost use Rattle.std.specs.Option.{option_copied};
-ghost use Rattle.cweb_lines.specs.Include.{web_at};
+ghost use Rattle.cweb_lines.specs.Include.{web_at, change_at};
 ghost use Rattle.cweb_lines.specs.Names.{names_of};
-ghost use Rattle.cweb_lines.specs.Finding.{text_of_name};
-ghost use Rattle.cweb_lines.specs.Texts.{ReadBlames, StopsReading, StartStops, files_named};
+ghost use Rattle.cweb_lines.specs.Finding.{text_of_name, found_as, names_found, lines_found};
+ghost use Rattle.cweb_lines.specs.Texts.{ReadBlames, StopsReading, StartStops, files_named, lines_left, lines_at, number_of, line_number, files_up_to};
+ghost use Rattle.cweb_lines.specs.Stages.{stage_for, begun_stage};
+ghost use Rattle.cweb_lines.specs.Lines.{lines_in};
 ghost use Rattle.cweb_lines.specs.declared.limits.TheConstants.{LINES, BYTES};
 
 use crate::fault::SourceFault;
-use crate::finding::{Opening, find_web};
+use crate::finding::{Opening, find_change, find_web};
 use crate::limits::Limits;
 use crate::names::FileNames;
 use crate::run::Run;
 use crate::source::Source;
 use crate::stack::Stack;
+use crate::stage::Stage;
 use crate::stop::Stop;
 use crate::text::OpenText;
-use crate::turning::{Turn, take_turn};
+use crate::turn::Turn;
+use crate::turning::take_turn;
 use cweb_files::{FileId, Place, Shelf};
 use std::alloc::{AllocError, Global};
 
@@ -36,12 +40,80 @@ fn owned(alloc: Global, name: Option<&str>) -> Result<Option<String>, AllocError
     }
 }
 
+// The web is the first file.
+fn open_web<R: Drop>(
+    alloc: Global,
+    names: &mut FileNames,
+    opening: Opening<R>,
+) -> Result<OpenText<R>, Stop>
+    requires { names_of names.old ≡ [] }
+    ensures names { OnOk result (names_of names.new ≡ string_bytes opening.name ∷ []) }
+    ensures lines { IfOk result (λ text. (left : R → List ℕ) → lines_left left text ≡ lines_in 0 (left opening.reader)) }
+    ensures level { IfOk result (λ text. (text.file.0 ≡ 0) × (text.line ≡ 0) × (text.depth ≡ 1) × (text.may_match ≡ true)) }
+    ensures memory { IfErr result (λ stop. stop ≡ Stop.Memory) }
+{
+    let Opening { name, reader } = opening;
+    let source = Source::new(alloc, reader)?;
+    if let Err(stop) = names.push(name) {
+        return Err(stop);
+    }
+    Ok(OpenText {
+        source,
+        file: FileId(0),
+        line: 0,
+        depth: 1,
+        may_match: true,
+    })
+}
+
+// The change file, where there is one, is the second file. Its lines match nothing.
+fn open_change<R: Drop>(
+    alloc: Global,
+    names: &mut FileNames,
+    change: Option<Opening<R>>,
+) -> Result<Option<OpenText<R>>, Stop>
+    requires { length (names_of names.old) ≡ 1 }
+    ensures names { OnOk result ((left : R → List ℕ) → names_of names.new ≡ names_of names.old ++ names_found (found_as left change)) }
+    ensures lines { IfOk result (λ text. (left : R → List ℕ) → lines_at left text ≡ lines_found (found_as left change)) }
+    ensures number { IfOk result (λ text. number_of line_number text ≡ 0) }
+    ensures file { IfOk result (λ text. number_of files_up_to text ≤ length (names_of names.new)) }
+    ensures few { length (names_of names.new) ≤ 2 }
+    ensures stage { IfOk result (λ text. (left : R → List ℕ) → stage_for text ≡ begun_stage (found_as left change)) }
+    ensures memory { IfErr result (λ stop. stop ≡ Stop.Memory) }
+{
+    let Some(opening) = change else {
+        return Ok(None);
+    };
+    let Opening { name, reader } = opening;
+    let source = Source::new(alloc, reader)?;
+    if let Err(stop) = names.push(name) {
+        return Err(stop);
+    }
+    Ok(Some(OpenText {
+        source,
+        file: FileId(1),
+        line: 0,
+        depth: 1,
+        may_match: false,
+    }))
+}
+
+// The first entry is sought before the first line of the web.
+fn first_stage<R: Drop>(change: &Option<OpenText<R>>) -> Stage
+    ensures { result ≡ stage_for change.now }
+{
+    match change {
+        Some(_) => Stage::Seeking,
+        None => Stage::Done,
+    }
+}
+
 impl<S: Shelf> Merger<S> {
     ghost use Rattle.cweb_lines.specs.Merging.{Stopped, TellsFront};
     ghost use Rattle.cweb_lines.specs.Whole.{to_come, so_far, stop_in, HasEnded, NextLine, Begins, StopsAtStart};
 
-    /// Opens the web under its name, or under the second where the first isn't there, and reads nothing. Included files
-    /// are sought as they are named and then in the folder `inputs`.
+    /// Opens the web under its name, or under the second where the first isn't there, then the change file if one is
+    /// named, and reads nothing. Included files are sought as they are named and then in the folder `inputs`.
     pub fn start(
         alloc: Global,
         shelf: &mut S,
@@ -50,37 +122,40 @@ impl<S: Shelf> Merger<S> {
         change: Option<&str>,
         inputs: Option<&str>,
     ) -> Result<Self, Stop>
-        requires { IsNone change }
         ensures tells { S.tells shelf.new ≡ S.tells shelf.old }
         ensures failed { S.failed shelf.new ≡ S.failed shelf.old }
         ensures texts { IsTrue (S.tells shelf.old) → S.texts shelf.new ≡ S.texts shelf.old }
         ensures others { IsTrue (S.tells shelf.old) → S.left shelf.new ≡ S.left shelf.old }
         ensures running { IfOk result (λ merger. stop_in merger ≡ None) }
         ensures begins { IsTrue (S.tells shelf.old) → IfOk result (λ merger. Begins (record { texts = S.texts shelf.old; inputs = option_copied inputs.entry })
-            (web_at (S.texts shelf.old) web.now (option_copied second.entry)) (so_far merger) (to_come (S.texts shelf.new) (S.left shelf.new) merger)) }
-        ensures stops { IsTrue (S.tells shelf.old) → IfErr result (λ stop. StopsAtStart stop (web_at (S.texts shelf.old) web.now (option_copied second.entry))) }
+            (web_at (S.texts shelf.old) web.now (option_copied second.entry)) (change_at (S.texts shelf.old) (option_copied change.entry)) (so_far merger) (to_come (S.texts shelf.new) (S.left shelf.new) merger)) }
+        ensures stops { IsTrue (S.tells shelf.old) → IfErr result (λ stop. StopsAtStart stop (web_at (S.texts shelf.old) web.now (option_copied second.entry)) (change_at (S.texts shelf.old) (option_copied change.entry))) }
         ensures only { IfErr result (λ stop. StartStops stop) }
     {
         let inputs = owned(alloc, inputs)?;
-        let Some(opening) = find_web(alloc, shelf, web, second)? else {
+        let Some(web) = find_web(alloc, shelf, web, second)? else {
             return Err(Stop::WebNotOpened);
         };
-        let Opening { name, reader } = opening;
-        let source = Source::new(alloc, reader)?;
+        let Some(change) = find_change(alloc, shelf, change)? else {
+            return Err(Stop::ChangeNotOpened);
+        };
         let mut names = FileNames::new(alloc);
-        if let Err(stop) = names.push(name) {
-            return Err(stop);
-        }
-        let first = OpenText {
-            source,
-            file: FileId(0),
-            line: 0,
+        let web = match open_web(alloc, &mut names, web) {
+            Ok(web) => web,
+            Err(stop) => return Err(stop),
+        };
+        let change = match open_change(alloc, &mut names, change) {
+            Ok(change) => change,
+            Err(stop) => return Err(stop),
         };
         Ok(Merger {
             run: Run {
                 alloc,
                 inputs,
-                stack: Stack::new(first),
+                stack: Stack::new(web),
+                stage: first_stage(&change),
+                change,
+                first: Vec::new(alloc),
                 limits: Limits::new(),
                 faults: Vec::new(alloc),
                 names,
@@ -170,7 +245,7 @@ impl<S: Shelf> Merger<S> {
 
     /// Whether the next line can be given without a read.
     pub(crate) fn has_line(&self) -> bool {
-        self.run.stack.has_line()
+        self.run.has_line()
     }
 
     // Memory was refused to a caller that has taken a line.

@@ -72,4 +72,9 @@ impl<R: Drop> Source<R> {
         let pending = &self.piece[self.start..self.end];
         !is_include(pending) && memrchr(b'\n', pending).is_some()
     }
+
+    /// Whether what was read of the next line begins so. Only the time of a write depends on it.
+    pub fn may_begin_with(&self, front: &[u8]) -> bool {
+        self.piece[self.start..self.end].starts_with(front)
+    }
 }

@@ -1,14 +1,14 @@
 // The next line of an open text, without the blanks at its end.
-ghost use Rattle.std.specs.Prelude.{◌≡◌, ◌≤◌, ◌<◌, ◌+◌, ◌^◌, ℕ, List, length, IsTrue, IfOk, IfErr, OnOk, OnErr, IsErrOf};
+ghost use Rattle.std.specs.Prelude.{◌≡◌, ◌≤◌, ◌<◌, ◌+◌, ◌^◌, ℕ, List, length, IsTrue, IfOk, IfErr, IfSome, OnOk, OnErr, IsErrOf};
 ghost use Rattle.cweb_lines.specs.Lines.{trimmed, is_blank as blank};
 ghost use Rattle.cweb_lines.specs.Counts.{count_of};
-ghost use Rattle.cweb_lines.specs.Texts.{lines_left, lines_at, number_of, line_number, files_up_to, TakesLine, StopsFor, StopsReading, FirstStops, ReadBlames, Counted, NamesFiles, stop_for, newline_bytes};
+ghost use Rattle.cweb_lines.specs.Texts.{lines_left, lines_at, number_of, line_number, text_depth, matches_at, DeepAt, files_up_to, TakesLine, StopsFor, StopsReading, FirstStops, ReadBlames, Counted, NamesFiles, stop_for, newline_bytes};
 
 use crate::limits::Limits;
 use crate::reading::next_line;
 use crate::source::{LineFault, Taken};
 use crate::stop::Stop;
-use crate::text::OpenText;
+use crate::text::{LineAt, OpenText};
 use cweb_files::{FileId, Place, Shelf};
 
 fn is_blank(b: u8) -> bool
@@ -53,14 +53,14 @@ fn take_line<S: Shelf>(
     text: &mut OpenText<S::R>,
     limits: &mut Limits,
     line: &mut Vec<u8>,
-) -> Result<Option<Place>, Stop>
+) -> Result<Option<LineAt>, Stop>
     requires count { S.failed shelf.old + 1 < 2 ^ 64 }
     requires number { text.old.line ≤ limits.old.lines }
     ensures tells { S.tells shelf.new ≡ S.tells shelf.old }
     ensures failed { ReadBlames (S.failed shelf.old) (S.failed shelf.new) result }
     ensures texts { IsTrue (S.tells shelf.old) → S.texts shelf.new ≡ S.texts shelf.old }
     ensures others { IsTrue (S.tells shelf.old) → S.left shelf.new ≡ S.left shelf.old }
-    ensures taken { IsTrue (S.tells shelf.old) → IfOk result (λ place. TakesLine (lines_left (S.left shelf.old) text.old) place line.new.items (lines_left (S.left shelf.new) text.new)
+    ensures taken { IsTrue (S.tells shelf.old) → IfOk result (λ at. TakesLine (lines_left (S.left shelf.old) text.old) at line.new.items (lines_left (S.left shelf.new) text.new)
         (count_of limits.old) (count_of limits.new)) }
     ensures stops { IsTrue (S.tells shelf.old) → IfErr result (λ stop. StopsFor (FirstStops stop (count_of limits.old) (lines_left (S.left shelf.old) text.old)) stop) }
     ensures number { text.new.line ≤ limits.new.lines }
@@ -69,6 +69,9 @@ fn take_line<S: Shelf>(
     ensures counted { Counted (count_of limits.old) (count_of limits.new) result }
     ensures file { text.new.file ≡ text.old.file }
     ensures known { NamesFiles (text.old.file.0 + 1) result }
+    ensures depth { text.new.depth ≡ text.old.depth }
+    ensures may_match { text.new.may_match ≡ text.old.may_match }
+    ensures level { IfOk result (λ at. IfSome at (λ a. (a.depth ≡ text.old.depth) × (a.may_match ≡ text.old.may_match))) }
 {
     let taken = match next_line(shelf, &mut text.source, line) {
         Ok(taken) => taken,
@@ -82,9 +85,13 @@ fn take_line<S: Shelf>(
     }
     trim(line);
     text.line += 1;
-    Ok(Some(Place {
-        file: text.file,
-        line: text.line,
+    Ok(Some(LineAt {
+        place: Place {
+            file: text.file,
+            line: text.line,
+        },
+        depth: text.depth,
+        may_match: text.may_match,
     }))
 }
 
@@ -94,14 +101,14 @@ pub fn take_from<S: Shelf>(
     slot: &mut Option<OpenText<S::R>>,
     limits: &mut Limits,
     line: &mut Vec<u8>,
-) -> Result<Option<Place>, Stop>
+) -> Result<Option<LineAt>, Stop>
     requires count { S.failed shelf.old + 1 < 2 ^ 64 }
     requires number { number_of line_number slot.old ≤ limits.old.lines }
     ensures tells { S.tells shelf.new ≡ S.tells shelf.old }
     ensures failed { ReadBlames (S.failed shelf.old) (S.failed shelf.new) result }
     ensures texts { IsTrue (S.tells shelf.old) → S.texts shelf.new ≡ S.texts shelf.old }
     ensures others { IsTrue (S.tells shelf.old) → S.left shelf.new ≡ S.left shelf.old }
-    ensures taken { IsTrue (S.tells shelf.old) → IfOk result (λ place. TakesLine (lines_at (S.left shelf.old) slot.old) place line.new.items (lines_at (S.left shelf.new) slot.new)
+    ensures taken { IsTrue (S.tells shelf.old) → IfOk result (λ at. TakesLine (lines_at (S.left shelf.old) slot.old) at line.new.items (lines_at (S.left shelf.new) slot.new)
         (count_of limits.old) (count_of limits.new)) }
     ensures stops { IsTrue (S.tells shelf.old) → IfErr result (λ stop. StopsFor (FirstStops stop (count_of limits.old) (lines_at (S.left shelf.old) slot.old)) stop) }
     ensures number { number_of line_number slot.new ≤ limits.new.lines }
@@ -110,6 +117,10 @@ pub fn take_from<S: Shelf>(
     ensures counted { Counted (count_of limits.old) (count_of limits.new) result }
     ensures file { number_of files_up_to slot.new ≡ number_of files_up_to slot.old }
     ensures known { NamesFiles (number_of files_up_to slot.old) result }
+    ensures depth { number_of text_depth slot.new ≡ number_of text_depth slot.old }
+    ensures may_match { matches_at slot.new ≡ matches_at slot.old }
+    ensures level { IfOk result (λ at. IfSome at (λ a. (a.depth ≡ number_of text_depth slot.old) × (a.may_match ≡ matches_at slot.old))) }
+    ensures deep { (place : ℕ) → DeepAt place slot.old → DeepAt place slot.new × IfOk result (λ at. IfSome at (λ a. place < a.depth)) }
 {
     match slot {
         Some(text) => take_line(shelf, text, limits, line),

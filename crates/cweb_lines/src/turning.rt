@@ -1,124 +1,126 @@
 // One step of a merger.
-ghost use Rattle.std.specs.Prelude.{◌≡◌, ◌≤◌, ◌<◌, ◌+◌, ◌^◌, ◌++◌, ◌∷◌, ℕ, List, [], length, IsTrue, IfOk, IfErr, Ok, OnOk, OnErr, string_bytes, true};
+ghost use Rattle.std.specs.Prelude.{◌≡◌, ◌≤◌, ◌<◌, ◌+◌, ◌^◌, length, IsTrue, IfOk, IfErr, Ok, OnOk, OnErr};
 ghost use Rattle.cweb_lines.specs.Counts.{count_of};
-ghost use Rattle.cweb_lines.specs.Faults.{files_in};
-ghost use Rattle.cweb_lines.specs.Include.{is_include as includes};
-ghost use Rattle.cweb_lines.specs.Lines.{SourceLine};
-ghost use Rattle.cweb_lines.specs.Merging.{Gives, GivesBehind, told_by, coming, coming_after, turns_left, Opens, Turned, TurnCounts, TurnKnown, Stopped};
+ghost use Rattle.cweb_lines.specs.Merging.{Gives, Stopped, TellsFront, NothingLeft, TurnCounts, TurnEnds, TurnKnown, coming, lines_given, told_by};
 ghost use Rattle.cweb_lines.specs.Names.{names_of};
+ghost use Rattle.cweb_lines.specs.Stages.{IsSettled, begun_by, floor_of, pending_in};
 ghost use Rattle.cweb_lines.specs.Texts.{ReadBlames, StopsReading, files_named};
 
-use crate::fault::{SourceFault, SourceKind};
-use crate::finding::{Opening, find};
-use crate::include::{include_name, is_include};
+use crate::code::{Code, code_of};
+use crate::fault::SourceKind;
+use crate::obeying::give;
+use crate::progress::{take_change, take_raw};
+use crate::replacing::begin_change;
 use crate::run::Run;
-use crate::source::Source;
-use crate::stack::take_top;
+use crate::seeking::seek;
+use crate::stage::{Change, Stage};
 use crate::stop::Stop;
-use crate::text::OpenText;
-use cweb_files::{FileId, Place, Shelf};
-use std::alloc::AllocError;
+use crate::text::LineAt;
+use crate::turn::Turn;
+use cweb_files::{Place, Shelf};
 
-#[derive(Clone, Copy, Debug, PartialEq, Eq)]
-pub enum Turn {
-    /// The line at this place is given out.
-    Given(Place),
-    /// An include line was obeyed, or a text has ended.
-    On,
-    /// Nothing is left.
-    Ended,
-}
-
-fn tell(faults: &mut Vec<SourceFault>, kind: SourceKind, place: Place) -> Result<(), Stop>
-    ensures told { OnOk result (faults.new.items ≡ faults.old.items ++ record { kind = kind; place = place; count = 0 } ∷ []) }
-    ensures err { OnErr result (faults.new.items ≡ faults.old.items) }
-    ensures memory { IfErr result (λ stop. stop ≡ Stop.Memory) }
-    ensures known { (files : ℕ) → files_in faults.old.items ≤ files → place.file.0 < files → files_in faults.new.items ≤ files }
-{
-    let fault = SourceFault {
-        kind,
-        place,
-        count: 0,
-    };
-    match faults.push(fault) {
-        Ok(()) => Ok(()),
-        Err(e) => Err(AllocError::from(e).into()),
-    }
-}
-
-// The lines of a text that was found come next.
-fn open<R: Drop>(run: &mut Run<R>, opening: Opening<R>) -> Result<(), Stop>
-    requires room { run.old.stack.depth < 10 }
-    requires names { length (names_of run.old.names) < run.old.limits.lines + 2 }
-    ensures limits { run.new.limits ≡ run.old.limits }
-    ensures inputs { run.new.inputs ≡ run.old.inputs }
-    ensures faults { run.new.faults ≡ run.old.faults }
-    ensures stopped { run.new.stopped ≡ run.old.stopped }
-    ensures depth { run.new.stack.depth ≤ run.old.stack.depth + 1 }
-    ensures names { OnOk result (names_of run.new.names ≡ names_of run.old.names ++ string_bytes opening.name ∷ []) }
-    ensures more { length (names_of run.old.names) ≤ length (names_of run.new.names) }
-    ensures same { OnErr result (names_of run.new.names ≡ names_of run.old.names) }
-    ensures memory { IfErr result (λ stop. stop ≡ Stop.Memory) }
-    ensures opens { OnOk result (Opens run.old.stack run.new.stack opening (length (names_of run.old.names))) }
-{
-    let Opening { name, reader } = opening;
-    let source = Source::new(run.alloc, reader)?;
-    let file = FileId(run.names.count());
-    if let Err(stop) = run.names.push(name) {
-        return Err(stop);
-    }
-    run.stack.push(OpenText {
-        source,
-        file,
-        line: 0,
-    });
-    Ok(())
-}
-
-// An include line is obeyed: a text is opened, or a fault is told.
-fn obey<S: Shelf>(shelf: &mut S, run: &mut Run<S::R>, line: &[u8], place: Place) -> Result<(), Stop>
-    requires include { includes line.now ≡ true }
-    requires names { length (names_of run.old.names) < run.old.limits.lines + 2 }
-    requires known { place.file.0 < length (names_of run.old.names) }
+// One line of a change's new side: an include line is obeyed, a code line ends the side or is a fault.
+fn take_new<S: Shelf>(
+    shelf: &mut S,
+    run: &mut Run<S::R>,
+    change: Change,
+    line: &mut Vec<u8>,
+) -> Result<Turn, Stop>
+    requires count { S.failed shelf.old + 1 < 2 ^ 64 }
+    requires changing { run.old.stage ≡ Stage.Changing change }
+    requires below { run.old.stack.depth ≡ change.below }
     ensures tells { S.tells shelf.new ≡ S.tells shelf.old }
-    ensures failed { S.failed shelf.new ≡ S.failed shelf.old }
+    ensures failed { ReadBlames (S.failed shelf.old) (S.failed shelf.new) result }
     ensures texts { IsTrue (S.tells shelf.old) → S.texts shelf.new ≡ S.texts shelf.old }
     ensures others { IsTrue (S.tells shelf.old) → S.left shelf.new ≡ S.left shelf.old }
-    ensures limits { run.new.limits ≡ run.old.limits }
     ensures stopped { run.new.stopped ≡ run.old.stopped }
-    ensures depth { run.new.stack.depth ≤ run.old.stack.depth + 1 }
-    ensures more { length (names_of run.old.names) ≤ length (names_of run.new.names) }
-    ensures same { OnErr result ((run.new.faults.items ≡ run.old.faults.items) × (names_of run.new.names ≡ names_of run.old.names)) }
-    ensures memory { IfErr result (λ stop. stop ≡ Stop.Memory) }
-    ensures obeys { IsTrue (S.tells shelf.old) → OnOk result ((source : SourceLine) → source.line ≡ record { bytes = line.now; place = place } → GivesBehind source [] (told_by run.old) (told_by run.new)
-        (coming_after (S.texts shelf.old) (S.left shelf.old) run.old source) (coming (S.texts shelf.new) (S.left shelf.new) run.new)) }
+    ensures counts { IfOk result (λ turn. TurnCounts turn run.old.limits.lines run.old.stage run.new.limits.lines run.new.stage) }
+    ensures ends { IfOk result (λ turn. TurnEnds turn run.new) }
+    ensures known { IfOk result (λ turn. TurnKnown (length (names_of run.new.names)) turn) }
+    ensures named { IfErr result (λ stop. files_named stop ≤ length (names_of run.new.names)) }
+    ensures reading { IfErr result (λ stop. StopsReading stop) }
+    ensures gives { IsTrue (S.tells shelf.old) → IfOk result (λ turn. Gives (lines_given turn line.new.items) (told_by run.old) (told_by run.new)
+        (coming (S.texts shelf.old) (S.left shelf.old) run.old) (coming (S.texts shelf.new) (S.left shelf.new) run.new)) }
+    ensures told { IsTrue (S.tells shelf.old) → OnErr result (TellsFront (told_by run.old) (told_by run.new) (coming (S.texts shelf.old) (S.left shelf.old) run.old)) }
+    ensures stops { IsTrue (S.tells shelf.old) → IfErr result (λ stop. Stopped stop (count_of run.old.limits) (count_of run.new.limits) (coming (S.texts shelf.old) (S.left shelf.old) run.old)) }
 {
-    let name = include_name(line);
-    if name.is_empty() {
-        if let Err(stop) = tell(&mut run.faults, SourceKind::NoName, place) {
-            return Err(stop);
-        }
-        return Ok(());
-    }
-    if run.stack.depth == 10 {
-        if let Err(stop) = tell(&mut run.faults, SourceKind::TooDeep, place) {
-            return Err(stop);
-        }
-        return Ok(());
-    }
-    let Some(opening) = find(run.alloc, shelf, &run.inputs, name)? else {
-        if let Err(stop) = tell(&mut run.faults, SourceKind::NotThere, place) {
-            return Err(stop);
-        }
-        return Ok(());
+    let taken = match take_change(shelf, run, line) {
+        Ok(taken) => taken,
+        Err(stop) => return Err(stop),
     };
-    if let Err(stop) = open(run, opening) {
-        return Err(stop);
+    let Some(at) = taken else {
+        if let Err(stop) = run.tell(SourceKind::EndedBeforeZ, change.begin, 0) {
+            return Err(stop);
+        }
+        run.stage = Stage::Done;
+        return Ok(Turn::On);
+    };
+    match code_of(line) {
+        None => {
+            let at = LineAt {
+                place: at.place,
+                depth: change.depth,
+                may_match: false,
+            };
+            give(shelf, run, line, at)
+        }
+        Some(code) => {
+            if code == Code::EndSide {
+                run.stage = Stage::Seeking;
+                return Ok(Turn::On);
+            }
+            if let Err(stop) = run.tell(SourceKind::WantsZ, at.place, 0) {
+                return Err(stop);
+            }
+            Ok(Turn::On)
+        }
     }
-    Ok(())
 }
 
-/// A line is given out, an include line is obeyed, a text ends, or nothing is left.
+// No raw line is left, but for those below a change.
+fn take_end<S: Shelf>(shelf: &mut S, run: &mut Run<S::R>, line: &mut Vec<u8>) -> Result<Turn, Stop>
+    requires count { S.failed shelf.old + 1 < 2 ^ 64 }
+    requires settled { IsSettled run.old.stage }
+    requires floor { run.old.stack.depth ≡ floor_of run.old.stage }
+    ensures tells { S.tells shelf.new ≡ S.tells shelf.old }
+    ensures failed { ReadBlames (S.failed shelf.old) (S.failed shelf.new) result }
+    ensures texts { IsTrue (S.tells shelf.old) → S.texts shelf.new ≡ S.texts shelf.old }
+    ensures others { IsTrue (S.tells shelf.old) → S.left shelf.new ≡ S.left shelf.old }
+    ensures stopped { run.new.stopped ≡ run.old.stopped }
+    ensures counts { IfOk result (λ turn. TurnCounts turn run.old.limits.lines run.old.stage run.new.limits.lines run.new.stage) }
+    ensures ends { IfOk result (λ turn. TurnEnds turn run.new) }
+    ensures known { IfOk result (λ turn. TurnKnown (length (names_of run.new.names)) turn) }
+    ensures named { IfErr result (λ stop. files_named stop ≤ length (names_of run.new.names)) }
+    ensures reading { IfErr result (λ stop. StopsReading stop) }
+    ensures gives { IsTrue (S.tells shelf.old) → IfOk result (λ turn. Gives (lines_given turn line.new.items) (told_by run.old) (told_by run.new)
+        (coming (S.texts shelf.old) (S.left shelf.old) run.old) (coming (S.texts shelf.new) (S.left shelf.new) run.new)) }
+    ensures told { IsTrue (S.tells shelf.old) → OnErr result (TellsFront (told_by run.old) (told_by run.new) (coming (S.texts shelf.old) (S.left shelf.old) run.old)) }
+    ensures stops { IsTrue (S.tells shelf.old) → IfErr result (λ stop. Stopped stop (count_of run.old.limits) (count_of run.new.limits) (coming (S.texts shelf.old) (S.left shelf.old) run.old)) }
+{
+    match run.stage {
+        Stage::Done | Stage::Seeking => Ok(Turn::Ended),
+        Stage::Waiting(begin) => {
+            if let Err(stop) = run.tell(SourceKind::NoMatch, begin, 0) {
+                return Err(stop);
+            }
+            run.stage = Stage::Done;
+            Ok(Turn::On)
+        }
+        Stage::Changing(change) => take_new(shelf, run, change, line),
+    }
+}
+
+// Where the entry has its @x line that a line begins.
+fn begun_at(stage: Stage, first: &[u8], may_match: bool, line: &[u8]) -> Option<Place>
+    ensures { result ≡ begun_by (pending_in stage first.now) may_match line.now }
+{
+    match stage {
+        Stage::Waiting(begin) if may_match && line == first => Some(begin),
+        _ => None,
+    }
+}
+
+/// An entry is sought, or a line is taken: it begins a change, is obeyed or given out, or none is left.
 pub fn take_turn<S: Shelf>(
     shelf: &mut S,
     run: &mut Run<S::R>,
@@ -130,31 +132,37 @@ pub fn take_turn<S: Shelf>(
     ensures texts { IsTrue (S.tells shelf.old) → S.texts shelf.new ≡ S.texts shelf.old }
     ensures others { IsTrue (S.tells shelf.old) → S.left shelf.new ≡ S.left shelf.old }
     ensures stopped { run.new.stopped ≡ run.old.stopped }
-    ensures more { length (names_of run.old.names) ≤ length (names_of run.new.names) }
-    ensures counts { IfOk result (λ turn. TurnCounts turn run.old.limits.lines run.old.stack.depth run.new.limits.lines run.new.stack.depth) }
-    ensures ended { run.old.stack.depth ≡ 0 → (result ≡ Ok Turn.Ended) × (run.new ≡ run.old) × (shelf.new ≡ shelf.old) }
+    ensures counts { IfOk result (λ turn. TurnCounts turn run.old.limits.lines run.old.stage run.new.limits.lines run.new.stage) }
+    ensures ends { IfOk result (λ turn. TurnEnds turn run.new) }
+    ensures ended { NothingLeft run.old → (result ≡ Ok Turn.Ended) × (run.new ≡ run.old) × (shelf.new ≡ shelf.old) }
     ensures known { IfOk result (λ turn. TurnKnown (length (names_of run.new.names)) turn) }
     ensures named { IfErr result (λ stop. files_named stop ≤ length (names_of run.new.names)) }
     ensures reading { IfErr result (λ stop. StopsReading stop) }
-    ensures turned { IsTrue (S.tells shelf.old) → IfOk result (λ turn. Turned turn line.new.items (told_by run.old) (told_by run.new)
+    ensures gives { IsTrue (S.tells shelf.old) → IfOk result (λ turn. Gives (lines_given turn line.new.items) (told_by run.old) (told_by run.new)
         (coming (S.texts shelf.old) (S.left shelf.old) run.old) (coming (S.texts shelf.new) (S.left shelf.new) run.new)) }
-    ensures same { OnErr result ((run.new.faults.items ≡ run.old.faults.items) × (names_of run.new.names ≡ names_of run.old.names)) }
+    ensures told { IsTrue (S.tells shelf.old) → OnErr result (TellsFront (told_by run.old) (told_by run.new) (coming (S.texts shelf.old) (S.left shelf.old) run.old)) }
     ensures stops { IsTrue (S.tells shelf.old) → IfErr result (λ stop. Stopped stop (count_of run.old.limits) (count_of run.new.limits) (coming (S.texts shelf.old) (S.left shelf.old) run.old)) }
 {
-    if run.stack.depth == 0 {
+    if run.has_ended() {
         return Ok(Turn::Ended);
     }
-    let taken = match take_top(shelf, &mut run.stack, &mut run.limits, line) {
+    if let Stage::Seeking = run.stage {
+        if let Err(stop) = seek(shelf, run, line) {
+            return Err(stop);
+        }
+        return Ok(Turn::On);
+    }
+    let taken = match take_raw(shelf, run, line) {
         Ok(taken) => taken,
         Err(stop) => return Err(stop),
     };
-    let Some(place) = taken else {
-        return Ok(Turn::On);
+    let Some(at) = taken else {
+        return take_end(shelf, run, line);
     };
-    if !is_include(line) {
-        return Ok(Turn::Given(place));
-    }
-    if let Err(stop) = obey(shelf, run, line, place) {
+    let Some(begin) = begun_at(run.stage, &run.first, at.may_match, line) else {
+        return give(shelf, run, line, at);
+    };
+    if let Err(stop) = begin_change(shelf, run, line, begin, at.depth) {
         return Err(stop);
     }
     Ok(Turn::On)

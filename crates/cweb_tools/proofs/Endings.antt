@@ -1,5 +1,5 @@
 -- How the exits of a run are its ends.
-use Rattle.std.proofs.Common.{◌≤◌, ◌≡◌, ◌⊎◌, inl, inr, ℕ, List, [], ◌∷◌, ◌++◌, refl, sym, ◌∙◌, ap, subst, append-nil, arith}
+use Rattle.std.proofs.Common.{◌≤◌, ◌≡◌, ◌⊎◌, inl, inr, ℕ, List, [], ◌∷◌, ◌++◌, refl, sym, ◌∙◌, ap, subst, append-nil, append_assoc, arith}
 use Rattle.std.specs.Prelude.{Option, Some, None, Err}
 use Rattle.cweb_lines.specs.Include.{World, Found}
 use Rattle.cweb_lines.specs.Merge.{Event, started}
@@ -7,17 +7,18 @@ use Rattle.cweb_lines.specs.Total.{merge}
 use Rattle.cweb_lines.specs.Told.{given_lines, told_faults, openings, taken_lines, IsWithinLimits}
 use Rattle.cweb_lines.specs.declared.fault.SourceFault.{SourceFault}
 use Rattle.cweb_lines.specs.declared.stop.Stop.{Stop}
-use Rattle.cweb_lines.specs.declared.stop.Stop.TheVariants.{Usage, WebNotOpened, ReadFault, LineTooLong, TooMuchText, Memory, WriteFault}
+use Rattle.cweb_lines.specs.declared.stop.Stop.TheVariants.{Usage, WebNotOpened, ChangeNotOpened, ReadFault, LineTooLong, TooMuchText, Memory, WriteFault}
 use Rattle.cweb_lines.specs.Merge.{took, given, fault, opening}
 use Rattle.cweb_lines.specs.Merging.{SoFar, Gives, TellsFront, TooMuchAhead}
 use Rattle.cweb_lines.specs.Texts.{Count, ReadBlames}
 use Rattle.cweb_lines.specs.Told.{AreShort}
 use Rattle.cweb_lines.specs.Lines.{SourceLine}
 use Rattle.cweb_lines.specs.Whole.{StopsAtStart}
+use Rattle.cweb_lines.specs.Finding.{names_found, text_found}
 use Rattle.cweb_lines.specs.declared.limits.TheConstants.{LINE_LENGTH, LINES, BYTES}
 use Rattle.cweb_lines.specs.Writing.{text_of, StopsWriting, WritingStops, WriteBlames}
 use Rattle.cweb_tools.specs.Log.{stop_line, subject}
-use Rattle.cweb_tools.specs.Run.{Course, unread, not_there, merging, Devices, Logs, LogsFaults, AreOpened, Ends, completes, stops, Explains, StaysWithin, merged, asked_course, found_course, usage, IsMerge, RanFreely}
+use Rattle.cweb_tools.specs.Run.{Course, unread, not_there, change_not_there, merging, change_name, start_subject, merge_log, merge_status, Devices, Logs, LogsFaults, AreOpened, Ends, completes, stops, Explains, StaysWithin, merged, asked_course, found_course, usage, IsMerge, RanFreely}
 use Rattle.cweb_tools.specs.Words.{WebNames}
 use Rattle.cweb_lines.specs.Writing.{WritesFront}
 use Rattle.cweb_lines.proofs.Merges.{openings-append}
@@ -34,15 +35,21 @@ all_written old new text written = record { front = text; rest = []; written = w
 none_opened : (course : Course) → AreOpened [] course
 none_opened unread = refl
 none_opened (not_there web) = refl
-none_opened (merging name events) = (name ∷ openings events, refl)
+none_opened (change_not_there change) = refl
+none_opened (merging first events) = (first ++ openings events, refl)
+
+-- what a merge has told and taken that begins with these files open
+abbrev pub begun_with : List (List ℕ) → SoFar
+begun_with first = record { faults = []; names = first; count = record { lines = 0; bytes = 0 } }
 
 -- the names that a merge has told when it stops are among those that it opens in all
-pub opened_by : (name : List ℕ) (old new : SoFar) (events : List Event) → old ≡ record { faults = []; names = name ∷ []; count = record { lines = 0; bytes = 0 } } → TellsFront old new events
-    → (names : List (List ℕ)) → names ≡ new.names → (rest : List (List ℕ)) × (name ∷ openings events ≡ names ++ rest)
-opened_by name old new events first front names is = (
+pub opened_by : (first : List (List ℕ)) (old new : SoFar) (events : List Event) → old ≡ begun_with first → TellsFront old new events
+    → (names : List (List ℕ)) → names ≡ new.names → (rest : List (List ℕ)) × (first ++ openings events ≡ names ++ rest)
+opened_by first old new events began front names is = (
   openings front.later,
-  ap (λ (es : List Event). name ∷ openings es) front.whole ∙ ap (λ (ns : List (List ℕ)). name ∷ ns) (openings-append front.events front.later)
-      ∙ ap (λ (ns : List (List ℕ)). ns ++ openings front.later) (sym (is ∙ front.names ∙ ap (λ (s : SoFar). s.names ++ openings front.events) first)),
+  ap (λ (es : List Event). first ++ openings es) front.whole ∙ ap (λ (ns : List (List ℕ)). first ++ ns) (openings-append front.events front.later)
+      ∙ sym (append_assoc first (openings front.events) (openings front.later))
+      ∙ ap (λ (ns : List (List ℕ)). ns ++ openings front.later) (sym (is ∙ front.names ∙ ap (λ (s : SoFar). s.names ++ openings front.events) began)),
 )
 
 -- want of memory before anything was written
@@ -66,62 +73,85 @@ words_stopped stop world asked before after status (inl is) none shelf out same 
 words_stopped stop world asked before after status (inr is) none shelf out same logs one =
     wants_memory (asked_course world asked) before after status usage shelf out same (subst (λ (s : Stop). Logs (stop_line s usage) before.log_failed after.log_failed before.log after.log) is logs) one
 
-not_there_ends : (world : World) (web : List ℕ) (found : Option Found) (before after : Devices) (status : ℕ) → found ≡ None
+-- a run that opens nothing, since a file is not there
+nothing_opened : (course : Course) (line : List ℕ) (before after : Devices) (status : ℕ) → StaysWithin course → merged course ≡ [] → merge_log course ≡ line → merge_status course ≡ 1
     → after.shelf_failed ≡ before.shelf_failed → after.out_failed ≡ before.out_failed → after.out ≡ before.out
-    → Logs (stop_line WebNotOpened web) before.log_failed after.log_failed before.log after.log → status ≡ 1 → Ends (found_course world web found) before after status
-not_there_ends world web None before after status none shelf out same logs one =
-    completes (record { kept = tt; read = shelf; printed = out; written = same ∙ sym (append-nil before.out); logged = logs; answered = λ told. one })
-not_there_ends world web (Some found) before after status none shelf out same logs one = absurd (cc)
+    → Logs line before.log_failed after.log_failed before.log after.log → status ≡ 1 → Ends course before after status
+nothing_opened course line before after status kept empty line_is one_is shelf out same logs one =
+    completes (record {
+      kept = kept;
+      read = shelf;
+      printed = out;
+      written = same ∙ sym (append-nil before.out) ∙ ap (λ (t : List ℕ). before.out ++ t) (sym empty);
+      logged = subst (λ (t : List ℕ). Logs t before.log_failed after.log_failed before.log after.log) (sym line_is) logs;
+      answered = λ told. one ∙ sym one_is;
+    })
 
-pub start_stopped : (stop : Stop) (world : World) (web : List ℕ) (found : Option Found) (before after : Devices) (status : ℕ) → StopsAtStart stop found
+not_there_ends : (world : World) (names : WebNames) (found : Option Found) (changes : Option (Option Found)) (before after : Devices) (status : ℕ) → found ≡ None
     → after.shelf_failed ≡ before.shelf_failed → after.out_failed ≡ before.out_failed → after.out ≡ before.out
-    → Logs (stop_line stop web) before.log_failed after.log_failed before.log after.log → status ≡ 1 → Ends (found_course world web found) before after status
-start_stopped WebNotOpened world web found before after status why shelf out same logs one = not_there_ends world web found before after status why shelf out same logs one
-start_stopped Memory world web found before after status why shelf out same logs one = wants_memory (found_course world web found) before after status web shelf out same logs one
-start_stopped stop world web found before after status why shelf out same logs one = absurd why
+    → Logs (stop_line WebNotOpened names.web) before.log_failed after.log_failed before.log after.log → status ≡ 1 → Ends (found_course world names found changes) before after status
+not_there_ends world names None changes before after status none shelf out same logs one =
+    nothing_opened (not_there names.web) _ before after status tt refl refl refl shelf out same logs one
+not_there_ends world names (Some web) changes before after status none shelf out same logs one = absurd (cc)
 
--- the run of a web that is there
-module _ (world : World) (web name text : List ℕ) (events : List Event) (is : events ≡ merge world (started text None)) (before after : Devices) (status : ℕ) where
-  abbrev run_course : Course
-  run_course = merging name events
+change_not_there_ends : (world : World) (names : WebNames) (found : Option Found) (changes : Option (Option Found)) (web : Found) (before after : Devices) (status : ℕ) → found ≡ Some web → changes ≡ None
+    → after.shelf_failed ≡ before.shelf_failed → after.out_failed ≡ before.out_failed → after.out ≡ before.out
+    → Logs (stop_line ChangeNotOpened (change_name names.change)) before.log_failed after.log_failed before.log after.log → status ≡ 1 → Ends (found_course world names found changes) before after status
+change_not_there_ends world names None changes web before after status there none shelf out same logs one = absurd (cc)
+change_not_there_ends world names (Some found) (Some change) web before after status there none shelf out same logs one = absurd (cc)
+change_not_there_ends world names (Some found) None web before after status there none shelf out same logs one =
+    nothing_opened (change_not_there (change_name names.change)) _ before after status tt refl refl refl shelf out same logs one
 
-  course_is : (found : Option Found) → found ≡ Some (name, text) → run_course ≡ found_course world web found
-  course_is None there = absurd (cc)
-  course_is (Some found) there = let same : found ≡ (name, text) = cc in (λ i. merging name (is i)) ∙ ap (λ (f : Found). merging f.0 (merge world (started f.1 None))) (sym same)
+pub start_stopped : (stop : Stop) (world : World) (names : WebNames) (found : Option Found) (changes : Option (Option Found)) (before after : Devices) (status : ℕ) → StopsAtStart stop found changes
+    → after.shelf_failed ≡ before.shelf_failed → after.out_failed ≡ before.out_failed → after.out ≡ before.out
+    → Logs (stop_line stop (start_subject names stop)) before.log_failed after.log_failed before.log after.log → status ≡ 1 → Ends (found_course world names found changes) before after status
+start_stopped WebNotOpened world names found changes before after status why shelf out same logs one = not_there_ends world names found changes before after status why shelf out same logs one
+start_stopped ChangeNotOpened world names found changes before after status why shelf out same logs one =
+    change_not_there_ends world names found changes why.0.0 before after status why.0.1 why.1 shelf out same logs one
+start_stopped Memory world names found changes before after status why shelf out same logs one = wants_memory (found_course world names found changes) before after status names.web shelf out same logs one
+start_stopped stop world names found changes before after status why shelf out same logs one = absurd why
 
-  logged_whole : IsWithinLimits (taken_lines events) → LogsFaults (name ∷ openings events) (told_faults events) before.log_failed after.log_failed before.log after.log status
-      → after.shelf_failed ≡ before.shelf_failed → after.out_failed ≡ before.out_failed → after.out ≡ before.out ++ text_of (given_lines events) → Ends run_course before after status
+-- the course of a run that begins a merge
+pub begins_course : (world : World) (names : WebNames) (found : Option Found) (changes : Option (Option Found)) (name text : List ℕ) (change : Option Found) (events : List Event)
+    → found ≡ Some (name, text) → changes ≡ Some change → events ≡ merge world (started text (text_found change))
+    → found_course world names found changes ≡ merging (name ∷ names_found change) events
+begins_course world names found changes name text change events there changes_there is = rw (there, changes_there, is) refl
+
+-- a run that begins a merge
+module _ (first : List (List ℕ)) (events : List Event) (course : Course) (is : course ≡ merging first events) (before after : Devices) (status : ℕ) where
+  logged_whole : IsWithinLimits (taken_lines events) → LogsFaults (first ++ openings events) (told_faults events) before.log_failed after.log_failed before.log after.log status
+      → after.shelf_failed ≡ before.shelf_failed → after.out_failed ≡ before.out_failed → after.out ≡ before.out ++ text_of (given_lines events) → Ends (merging first events) before after status
   logged_whole kept (inl (logs, answered)) shelf out written = completes (record { kept = kept; read = shelf; printed = out; written = written; logged = logs; answered = answered })
   logged_whole kept (inr (logs, one)) shelf out written =
-      stops (record { stop = Memory; names = []; opened = none_opened run_course; cause = (shelf, out); front = all_written before.out after.out (merged run_course) written; logged = logs; answered = one })
+      stops (record { stop = Memory; names = []; opened = none_opened (merging first events); cause = (shelf, out); front = all_written before.out after.out (text_of (given_lines events)) written; logged = logs; answered = one })
 
-  pub completed : (found : Option Found) (names : List (List ℕ)) (faults : List SourceFault) → IsWithinLimits (taken_lines events) → found ≡ Some (name, text) → names ≡ name ∷ openings events → faults ≡ told_faults events
+  pub completed : (names : List (List ℕ)) (faults : List SourceFault) → IsWithinLimits (taken_lines events) → names ≡ first ++ openings events → faults ≡ told_faults events
       → after.shelf_failed ≡ before.shelf_failed → after.out_failed ≡ before.out_failed → after.out ≡ before.out ++ text_of (given_lines events)
-      → LogsFaults names faults before.log_failed after.log_failed before.log after.log status → Ends (found_course world web found) before after status
-  completed found names faults kept there names_are faults_are shelf out written logs =
-      subst (λ (c : Course). Ends c before after status) (course_is found there)
+      → LogsFaults names faults before.log_failed after.log_failed before.log after.log status → Ends course before after status
+  completed names faults kept names_are faults_are shelf out written logs =
+      subst (λ (c : Course). Ends c before after status) (sym is)
       (logged_whole kept
-      (subst (λ (fs : List SourceFault). LogsFaults (name ∷ openings events) fs before.log_failed after.log_failed before.log after.log status) faults_are
+      (subst (λ (fs : List SourceFault). LogsFaults (first ++ openings events) fs before.log_failed after.log_failed before.log after.log status) faults_are
       (subst (λ (ns : List (List ℕ)). LogsFaults ns faults before.log_failed after.log_failed before.log after.log status) names_are logs))
       shelf out written)
 
-  pub stopped : (found : Option Found) (stop : Stop) (names : List (List ℕ)) → found ≡ Some (name, text) → AreOpened names run_course → Explains stop (IsWithinLimits (taken_lines events)) before after
+  pub stopped : (stop : Stop) (names : List (List ℕ)) → AreOpened names (merging first events) → Explains stop (IsWithinLimits (taken_lines events)) before after
       → WritesFront before.out after.out (text_of (given_lines events)) → Logs (stop_line stop (subject names stop)) before.log_failed after.log_failed before.log after.log → status ≡ 1
-      → Ends (found_course world web found) before after status
-  stopped found stop names there opened cause front logs one =
-      subst (λ (c : Course). Ends c before after status) (course_is found there)
+      → Ends course before after status
+  stopped stop names opened cause front logs one =
+      subst (λ (c : Course). Ends c before after status) (sym is)
       (stops (record { stop = stop; names = names; opened = opened; cause = cause; front = front; logged = logs; answered = one }))
 
--- what a merge told, where it began with this web and all of it came
-module _ (name : List ℕ) (all : List Event) (old new : SoFar) (first : old ≡ record { faults = []; names = name ∷ []; count = record { lines = 0; bytes = 0 } }) (gives : Gives (given_lines all) old new all []) where
+-- what a merge told, where it began with these files and all of it came
+module _ (first : List (List ℕ)) (all : List Event) (old new : SoFar) (began : old ≡ begun_with first) (gives : Gives (given_lines all) old new all []) where
   came : gives.events ≡ all
   came = sym (append-nil gives.events) ∙ sym gives.whole
 
-  pub names_told : new.names ≡ name ∷ openings all
-  names_told = gives.names ∙ (λ i. (first i).names ++ openings (came i))
+  pub names_told : new.names ≡ first ++ openings all
+  names_told = gives.names ∙ (λ i. (began i).names ++ openings (came i))
 
   pub faults_told : new.faults ≡ told_faults all
-  faults_told = gives.faults ∙ (λ i. (first i).faults ++ told_faults (came i))
+  faults_told = gives.faults ∙ (λ i. (began i).faults ++ told_faults (came i))
 
   pub limits_kept : new.count.lines ≤ LINES → new.count.bytes ≤ BYTES → IsWithinLimits (taken_lines all)
   limits_kept few small =
@@ -140,25 +170,25 @@ short_at (fault f ∷ events) line later short = short_at events line later shor
 short_at (opening n ∷ events) line later short = short_at events line later short
 
 -- with one more line than was taken a sum would pass its limit, and that line is among all
-too_much : (name : List ℕ) (old : SoFar) (now : Count) (events : List Event) → old ≡ record { faults = []; names = name ∷ []; count = record { lines = 0; bytes = 0 } }
+too_much : (first : List (List ℕ)) (old : SoFar) (now : Count) (events : List Event) → old ≡ begun_with first
     → TooMuchAhead old.count now events → IsWithinLimits (taken_lines events) → ⊥
-too_much name old now events first why within =
-    let no_lines : old.count.lines ≡ 0 = ap (λ (s : SoFar). s.count.lines) first in
-    let no_bytes : old.count.bytes ≡ 0 = ap (λ (s : SoFar). s.count.bytes) first in
+too_much first old now events began why within =
+    let no_lines : old.count.lines ≡ 0 = ap (λ (s : SoFar). s.count.lines) began in
+    let no_bytes : old.count.bytes ≡ 0 = ap (λ (s : SoFar). s.count.bytes) began in
     elim why.passes [ inl lines ↦ omega (arith, lines, why.few, within.few) | inr bytes ↦ omega (arith, bytes, why.small, within.small) ]
 
 -- why the writing of a merge stopped
-pub explains : (stop : Stop) (name : List ℕ) (old : SoFar) (now : Count) (events : List Event) (before after : Devices)
-    → old ≡ record { faults = []; names = name ∷ []; count = record { lines = 0; bytes = 0 } } → WritingStops stop → StopsWriting stop old.count now events
+pub explains : (stop : Stop) (first : List (List ℕ)) (old : SoFar) (now : Count) (events : List Event) (before after : Devices)
+    → old ≡ begun_with first → WritingStops stop → StopsWriting stop old.count now events
     → ReadBlames {A = Unit {0}} before.shelf_failed after.shelf_failed (Err stop) → WriteBlames {A = Unit {0}} before.out_failed after.out_failed (Err stop)
     → Explains stop (IsWithinLimits (taken_lines events)) before after
-explains (ReadFault file) name old now events before after first kind why shelf out = (shelf, omega (arith, out))
-explains (LineTooLong file) name old now events before after first kind why shelf out =
+explains (ReadFault file) first old now events before after began kind why shelf out = (shelf, omega (arith, out))
+explains (LineTooLong file) first old now events before after began kind why shelf out =
     ((λ within. omega (arith, short_at why.events why.line why.later (subst (λ (es : List Event). AreShort (taken_lines es)) why.whole within.short), why.why.1)), omega (arith, shelf), omega (arith, out))
-explains TooMuchText name old now events before after first kind why shelf out = ((λ within. too_much name old now events first why within), omega (arith, shelf), omega (arith, out))
-explains Memory name old now events before after first kind why shelf out = (omega (arith, shelf), omega (arith, out))
-explains WriteFault name old now events before after first kind why shelf out = (omega (arith, shelf), out)
-explains stop name old now events before after first kind why shelf out = absurd kind
+explains TooMuchText first old now events before after began kind why shelf out = ((λ within. too_much first old now events began why within), omega (arith, shelf), omega (arith, out))
+explains Memory first old now events before after began kind why shelf out = (omega (arith, shelf), omega (arith, out))
+explains WriteFault first old now events before after began kind why shelf out = (omega (arith, shelf), out)
+explains stop first old now events before after began kind why shelf out = absurd kind
 
 pub beyond_limits : (course : Course) (before after : Devices) (status : ℕ) → Ends course before after status → ¬ StaysWithin course → status ≡ 1
 beyond_limits course before after status (completes whole) beyond = absurd (beyond whole.kept)

@@ -1,3 +1,4 @@
+pub mod Counted
 pub mod Endings
 pub mod Fronts
 mod Rows

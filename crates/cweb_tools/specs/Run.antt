@@ -1,12 +1,13 @@
 -- What a run of `wmerge` writes and answers, as functions of the texts, the words and the folder of included files.
 use Rattle.std.specs.Prelude.{◌≡◌, ◌≢◌, ◌⊎◌, ℕ, ◌+◌, List, [], ◌∷◌, ◌++◌, codes, Option, None, Some}
-use Rattle.cweb_lines.specs.Include.{World, Found, web_at}
+use Rattle.cweb_lines.specs.Include.{World, Found, web_at, change_at}
 use Rattle.cweb_lines.specs.Merge.{Event, started}
 use Rattle.cweb_lines.specs.Total.{merge}
 use Rattle.cweb_lines.specs.Told.{given_lines, told_faults, openings, taken_lines, IsWithinLimits}
 use Rattle.cweb_lines.specs.declared.fault.SourceFault.{SourceFault}
 use Rattle.cweb_lines.specs.declared.stop.Stop.{Stop}
-use Rattle.cweb_lines.specs.declared.stop.Stop.TheVariants.{Usage, WebNotOpened, ReadFault, LineTooLong, TooMuchText, Memory, WriteFault}
+use Rattle.cweb_lines.specs.Finding.{names_found, text_found}
+use Rattle.cweb_lines.specs.declared.stop.Stop.TheVariants.{Usage, WebNotOpened, ChangeNotOpened, ReadFault, LineTooLong, TooMuchText, Memory, WriteFault}
 use Rattle.cweb_tools.specs.Log.{fault_lines, stop_line, subject}
 use Rattle.cweb_tools.specs.Words.{WebNames, asked_by}
 use Rattle.cweb_lines.specs.Writing.{text_of, WritesFront}
@@ -20,19 +21,35 @@ folder_of None = None
 folder_of (Some []) = None
 folder_of (Some (b ∷ bs)) = Some (b ∷ bs)
 
--- how a run goes: its words can't be read, its web is not there under its name, or the web of this name is merged and all this comes
+-- how a run goes: its words can't be read, its web is not there under its name, its web is there and its change file isn't, or a merge begins with these files open and all this comes
 pub data Course : Type 0 where
   unread : Course
   not_there : List ℕ → Course
-  merging : List ℕ → List Event → Course
+  change_not_there : List ℕ → Course
+  merging : List (List ℕ) → List Event → Course
 
-abbrev pub found_course : World → List ℕ → Option Found → Course
-found_course world web None = not_there web
-found_course world web (Some found) = merging found.0 (merge world (started found.1 None))
+abbrev pub begun_course : World → Found → Option Found → Course
+begun_course world web change = merging (web.0 ∷ names_found change) (merge world (started web.1 (text_found change)))
+
+-- the change file's name, and no bytes where none is named
+abbrev pub change_name : Option (List ℕ) → List ℕ
+change_name None = []
+change_name (Some name) = name
+
+-- what a stop at the start of a merge is about
+abbrev pub start_subject : WebNames → Stop → List ℕ
+start_subject names ChangeNotOpened = change_name names.change
+start_subject names _ = names.web
+
+-- by the web and the change file that were found
+abbrev pub found_course : World → WebNames → Option Found → Option (Option Found) → Course
+found_course world names None changes = not_there names.web
+found_course world names (Some web) None = change_not_there (change_name names.change)
+found_course world names (Some web) (Some change) = begun_course world web change
 
 abbrev pub asked_course : World → Option WebNames → Course
 asked_course world None = unread
-asked_course world (Some names) = found_course world names.web (web_at world.texts names.web names.second)
+asked_course world (Some names) = found_course world names (web_at world.texts names.web names.second) (change_at world.texts names.change)
 
 abbrev pub course_of : (List ℕ → Option (List ℕ)) → List (List ℕ) → Option (List ℕ) → Course
 course_of texts words inputs = asked_course (record { texts = texts; inputs = folder_of inputs }) (asked_by words)
@@ -41,13 +58,15 @@ course_of texts words inputs = asked_course (record { texts = texts; inputs = fo
 abbrev pub merged : Course → List ℕ
 merged unread = []
 merged (not_there web) = []
-merged (merging name events) = text_of (given_lines events)
+merged (change_not_there change) = []
+merged (merging names events) = text_of (given_lines events)
 
 -- the faults in their order, or the line of what stopped the run
 abbrev pub merge_log : Course → List ℕ
 merge_log unread = stop_line Usage usage
 merge_log (not_there web) = stop_line WebNotOpened web
-merge_log (merging name events) = fault_lines (name ∷ openings events) (told_faults events)
+merge_log (change_not_there change) = stop_line ChangeNotOpened change
+merge_log (merging names events) = fault_lines (names ++ openings events) (told_faults events)
 
 -- 0 where there is no fault
 abbrev pub fault_status : List SourceFault → ℕ
@@ -57,13 +76,15 @@ fault_status (fault ∷ faults) = 1
 abbrev pub merge_status : Course → ℕ
 merge_status unread = 1
 merge_status (not_there web) = 1
-merge_status (merging name events) = fault_status (told_faults events)
+merge_status (change_not_there change) = 1
+merge_status (merging names events) = fault_status (told_faults events)
 
 -- no line that the merge takes breaks the limits
 abbrev pub StaysWithin : Course → Type 0
 StaysWithin unread = Unit {0}
 StaysWithin (not_there web) = Unit {0}
-StaysWithin (merging name events) = IsWithinLimits (taken_lines events)
+StaysWithin (change_not_there change) = Unit {0}
+StaysWithin (merging names events) = IsWithinLimits (taken_lines events)
 
 -- what the devices of a run show: how often the shelf, the output and the log have failed, and what the output and the log hold
 pub record Devices : Type 0 where
@@ -110,7 +131,8 @@ Explains _ within before after = ⊥
 abbrev pub AreOpened : List (List ℕ) → Course → Type 0
 AreOpened names unread = names ≡ []
 AreOpened names (not_there web) = names ≡ []
-AreOpened names (merging name events) = (rest : List (List ℕ)) × (name ∷ openings events ≡ names ++ rest)
+AreOpened names (change_not_there change) = names ≡ []
+AreOpened names (merging first events) = (rest : List (List ℕ)) × (first ++ openings events ≡ names ++ rest)
 
 -- something stopped the run: a front of the merged lines is written, and the log has the stop's line alone
 pub record Stops (course : Course) (before after : Devices) (status : ℕ) : Type 0 where

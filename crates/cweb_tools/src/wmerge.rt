@@ -4,7 +4,7 @@ ghost use Rattle.std.specs.Option.{option_copied};
 ghost use Rattle.cweb_lines.specs.Names.{names_of as file_names};
 ghost use Rattle.cweb_lines.specs.Texts.{files_named};
 ghost use Rattle.cweb_tools.specs.Log.{fault_lines, stop_line, subject};
-ghost use Rattle.cweb_tools.specs.Run.{devices, Logs, LogsFaults, Ends, IsMerge, RanFreely, Refuses, StaysWithin, course_of, asked_course, folder_of, fault_status, usage};
+ghost use Rattle.cweb_tools.specs.Run.{devices, Logs, LogsFaults, Ends, IsMerge, RanFreely, Refuses, StaysWithin, course_of, asked_course, start_subject, folder_of, fault_status, usage};
 ghost use Rattle.cweb_tools.specs.Words.{asked_by, names_of};
 
 use crate::faults::fault_lines;
@@ -87,12 +87,12 @@ fn merge_web<S: Shelf, W: Sink, L: Sink>(
         shelf,
         asked.web.as_str(),
         asked.second(),
-        None,
+        asked.change(),
         folder(inputs),
     );
     let mut merger = match started {
         Ok(merger) => merger,
-        Err(stop) => return log_stop(log, stop, asked.web.as_str()),
+        Err(stop) => return log_stop(log, stop, start_subject(asked, stop)),
     };
     match write_merged_in_pieces(&mut merger, shelf, out, PIECE) {
         Ok(()) => log_faults(alloc, log, merger.names(), merger.faults()),
@@ -107,6 +107,16 @@ fn folder(inputs: Option<&str>) -> Option<&str>
     match inputs {
         Some(folder) if folder.is_empty() => None,
         inputs => inputs,
+    }
+}
+
+/// What a stop at the start of a merge is about.
+fn start_subject(asked: &MergeWords, stop: Stop) -> &str
+    ensures { result.now ≡ start_subject (names_of asked.now) stop }
+{
+    match stop {
+        Stop::ChangeNotOpened => asked.change().unwrap_or(""),
+        _ => asked.web.as_str(),
     }
 }
 

@@ -1,17 +1,18 @@
 // The words of a command line of `wmerge`.
-ghost use Rattle.std.specs.Prelude.{◌≡◌, ◌↔◌, ◌⊎◌, ◌++◌, Some, None, map, codes, string_bytes, IfOk, IfErr, IsErrOf};
+ghost use Rattle.std.specs.Prelude.{◌≡◌, ◌↔◌, ◌⊎◌, ◌++◌, Some, None, map, codes, string_bytes, option_map, IfOk, IfErr, IsErrOf};
 ghost use Rattle.std.specs.Option.{option_copied};
-ghost use Rattle.cweb_tools.specs.Words.{asked_by, is_control, is_sign_word, has_control, can_name_web, has_extension};
+ghost use Rattle.cweb_tools.specs.Words.{asked_by, asked_with, asked_for, is_control, is_dash, is_option, has_control, can_name_file, has_extension, extended, second_try};
 
 use cweb_lines::Stop;
 use std::alloc::{AllocError, Global};
 
-/// The names that a command line of `wmerge` gives: the web's, and the one under which the web is sought where it is
-/// not there under the first.
+/// The names that a command line of `wmerge` gives: the web's, the one under which the web is sought where it is not
+/// there under the first, and the change file's.
 #[derive(Debug, Drop)]
 pub struct MergeWords {
     pub web: String,
     pub second: Option<String>,
+    pub change: Option<String>,
 }
 
 impl MergeWords {
@@ -23,39 +24,67 @@ impl MergeWords {
         ensures usage { IsErrOf result Stop.Usage ↔ (asked_by (map (λ word. word.now) words.now) ≡ None) }
         ensures stops { IfErr result (λ stop. (stop ≡ Stop.Usage) ⊎ (stop ≡ Stop.Memory)) }
     {
-        let [word] = words else {
-            return Err(Stop::Usage);
-        };
-        if !can_name_web(word) {
+        match words {
+            [web] => MergeWords::named(alloc, web, None),
+            [web, change] => MergeWords::with_change(alloc, web, change),
+            _ => Err(Stop::Usage),
+        }
+    }
+
+    /// The names by two words. A lone `-` in the second place stands for no change file.
+    fn with_change(alloc: Global, web: &str, change: &str) -> Result<MergeWords, Stop>
+        ensures ok { IfOk result (λ read. asked_with web.now change.now ≡ Some (names_of read)) }
+        ensures usage { IsErrOf result Stop.Usage ↔ (asked_with web.now change.now ≡ None) }
+        ensures stops { IfErr result (λ stop. (stop ≡ Stop.Usage) ⊎ (stop ≡ Stop.Memory)) }
+    {
+        if is_dash(change.as_bytes()) {
+            return MergeWords::named(alloc, web, None);
+        }
+        if !can_name_file(change) {
             return Err(Stop::Usage);
         }
-        if has_extension(word) {
-            let web = String::from_str(alloc, word)?;
-            return Ok(MergeWords { web, second: None });
+        MergeWords::named(alloc, web, Some(change))
+    }
+
+    /// The names by the web's word, which is judged here, and the change file's.
+    fn named(alloc: Global, web: &str, change: Option<&str>) -> Result<MergeWords, Stop>
+        ensures ok { IfOk result (λ read. asked_for web.now (option_copied change.entry) ≡ Some (names_of read)) }
+        ensures usage { IsErrOf result Stop.Usage ↔ (asked_for web.now (option_copied change.entry) ≡ None) }
+        ensures stops { IfErr result (λ stop. (stop ≡ Stop.Usage) ⊎ (stop ≡ Stop.Memory)) }
+    {
+        if !can_name_file(web) {
+            return Err(Stop::Usage);
         }
-        let web = with_extension(alloc, word, ".w")?;
-        let second = with_extension(alloc, word, ".web")?;
+        let second = second_try(alloc, web)?;
+        let change = change_file(alloc, change)?;
+        let web = extended(alloc, web, ".w")?;
         Ok(MergeWords {
             web,
-            second: Some(second),
+            second,
+            change,
         })
     }
 
-    /// The second name, where there is one.
+    /// The second name of the web, where there is one.
     pub fn second(&self) -> Option<&str>
         ensures { option_copied result ≡ (names_of self.now).second }
     {
-        match &self.second {
-            Some(name) => Some(name.as_str()),
-            None => None,
-        }
+        self.second.as_ref().map(|name| name.as_str())
+    }
+
+    /// The name of the change file, where one is named.
+    pub fn change(&self) -> Option<&str>
+        ensures { option_copied result ≡ (names_of self.now).change }
+    {
+        self.change.as_ref().map(|name| name.as_str())
     }
 }
 
-fn can_name_web(word: &str) -> bool
-    ensures { result ≡ can_name_web word.now }
+fn can_name_file(word: &str) -> bool
+    ensures { result ≡ can_name_file word.now }
 {
-    !word.is_empty() && !has_control(word.as_bytes()) && !is_sign_word(word.as_bytes())
+    let bytes = word.as_bytes();
+    !bytes.is_empty() && !has_control(bytes) && !is_dash(bytes) && !is_option(bytes)
 }
 
 fn has_control(word: &[u8]) -> bool
@@ -70,14 +99,23 @@ fn is_control(byte: u8) -> bool
     byte < 32 || byte == 127
 }
 
-/// A lone `-`, or a longer word that begins as an option does.
-fn is_sign_word(word: &[u8]) -> bool
-    ensures { result ≡ is_sign_word word.now }
+/// A lone `-`, which stands for no change file.
+fn is_dash(word: &[u8]) -> bool
+    ensures { result ≡ is_dash word.now }
 {
     match word {
-        [] => false,
         [only] => *only == b'-',
-        [first, ..] => *first == b'-' || *first == b'+',
+        _ => false,
+    }
+}
+
+/// A word of two bytes or more that begins as an option does.
+fn is_option(word: &[u8]) -> bool
+    ensures { result ≡ is_option word.now }
+{
+    match word {
+        [first, _, ..] => *first == b'-' || *first == b'+',
+        _ => false,
     }
 }
 
@@ -94,6 +132,32 @@ fn has_extension(word: &str) -> bool
         }
     }
     has_dot
+}
+
+fn change_file(alloc: Global, word: Option<&str>) -> Result<Option<String>, AllocError>
+    ensures { IfOk result (λ name. option_map (λ s. string_bytes s) name ≡ option_map (λ w. extended w (codes ".ch")) (option_copied word.entry)) }
+{
+    match word {
+        Some(word) => Ok(Some(extended(alloc, word, ".ch")?)),
+        None => Ok(None),
+    }
+}
+
+fn second_try(alloc: Global, word: &str) -> Result<Option<String>, AllocError>
+    ensures { IfOk result (λ name. option_map (λ s. string_bytes s) name ≡ second_try word.now) }
+{
+    if has_extension(word) {
+        return Ok(None);
+    }
+    Ok(Some(with_extension(alloc, word, ".web")?))
+}
+
+/// The name that a word gives: the word itself where it has an extension, else with this one.
+fn extended(alloc: Global, word: &str, extension: &str) -> Result<String, AllocError>
+    ensures { IfOk result (λ name. string_bytes name ≡ extended word.now extension.now) }
+{
+    let appended = if has_extension(word) { "" } else { extension };
+    with_extension(alloc, word, appended)
 }
 
 fn with_extension(alloc: Global, word: &str, extension: &str) -> Result<String, AllocError>

@@ -1,8 +1,8 @@
-use Rattle.std.proofs.Common.{◌<◌, ◌-◌, length, refl, arith, set, None}
+use Rattle.std.proofs.Common.{◌<◌, ◌≡◌, ◌-◌, ◌+◌, length, refl, arith, set, None}
 use Rattle.std.proofs.lemmas.List.{set-set}
 use Rattle.cweb_lines.specs.Counts.{count_of}
 use Rattle.cweb_lines.specs.Texts.{line_number, files_up_to, most}
-use Rattle.cweb_lines.proofs.Stacks.{most_read, most_set, top_taken, top_closed, top_stops, stops_map}
+use Rattle.cweb_lines.proofs.Stacks.{most_read, most_set, top_taken, top_closed, top_stops, stops_map, stays_below, deep-at, deep-set}
 use Rattle.cweb_lines.proofs.stack.take_top.Goals as goal
 
 pub take_from-requires-clause-number : goal.take_from-requires-clause-number
@@ -12,12 +12,14 @@ take_from-requires-clause-number g c =
 
 pub returns-in-Err-clause-stops : goal.returns-in-Err-clause-stops
 returns-in-Err-clause-stops g c = λ tells.
-    let some : 0 < c.args.stack.now.depth = omega arith in
     let within : c.args.stack.now.depth - 1 < length c.args.stack.now.texts = omega arith in
     stops_map c.in-Err.stop
-    (λ first. top_stops (g.S.Shelf.left c.args.shelf.now) (g.S.Shelf.left c.args.shelf.now) refl c.args.stack.now.texts c.index-stack-top.result c.take_from.new.slot c.args.stack.now.depth
-    some within (count_of c.args.limits.now) (count_of c.take_from.new.limits) c.take_from.new.line.items c.in-Err.stop first)
+    (λ first low above rest. top_stops (g.S.Shelf.left c.args.shelf.now) (g.S.Shelf.left c.args.shelf.now) refl c.args.stack.now.texts c.index-stack-top.result c.take_from.new.slot c.args.stack.now.depth
+    within (count_of c.args.limits.now) (count_of c.take_from.new.limits) c.take_from.new.line.items low above rest c.in-Err.stop first)
     (c.in-Err.ensures.stops tells)
+
+pub returns-in-Err-clause-below : goal.returns-in-Err-clause-below
+returns-in-Err-clause-below g c = λ low above. stays_below c.args.stack.now.texts _ (c.args.stack.now.depth - 1) low c.take_from.new.slot (omega arith) refl
 
 pub returns-in-Err-clause-numbers : goal.returns-in-Err-clause-numbers
 returns-in-Err-clause-numbers g c =
@@ -35,13 +37,23 @@ returns-in-Err-clause-known g c =
     let within : c.args.stack.now.depth - 1 < length c.args.stack.now.texts = omega arith in
     omega (arith, c.in-Err.ensures.known, most_read files_up_to c.args.stack.now.texts (c.args.stack.now.depth - 1) c.index-stack-top.result within)
 
+pub returns-in-Err-clause-deep : goal.returns-in-Err-clause-deep
+returns-in-Err-clause-deep g c =
+    let within : c.args.stack.now.depth - 1 < length c.args.stack.now.texts = omega arith in
+    let top : c.args.stack.now.depth - 1 ≡ 0 + (c.args.stack.now.depth - 1) = omega arith in
+    deep-set 0 (c.args.stack.now.depth - 1) (c.args.stack.now.depth - 1) c.args.stack.now.texts _ top c.requires.deep
+    (c.in-Err.ensures.deep (c.args.stack.now.depth - 1) (deep-at 0 (c.args.stack.now.depth - 1) (c.args.stack.now.depth - 1) c.args.stack.now.texts c.index-stack-top.result top within c.requires.deep)).0
+
 pub returns-in_default-clause-taken : goal.returns-in_default-clause-taken
-returns-in_default-clause-taken g c = λ tells.
-    let some : 0 < c.args.stack.now.depth = omega arith in
+returns-in_default-clause-taken g c = λ tells low above rest.
     let within : c.args.stack.now.depth - 1 < length c.args.stack.now.texts = omega arith in
     top_closed (g.S.Shelf.left c.args.shelf.now) (g.S.Shelf.left c.take_from.new.shelf) (c.in-Ok.ensures.others tells) c.args.stack.now.texts c.index-stack-top.result c.take_from.new.slot c.args.stack.now.depth
-    some within (count_of c.args.limits.now) (count_of c.take_from.new.limits) c.take_from.new.line.items _ (set-set c.args.stack.now.texts (c.args.stack.now.depth - 1) c.take_from.new.slot None)
+    within (count_of c.args.limits.now) (count_of c.take_from.new.limits) c.take_from.new.line.items low above rest _ (set-set c.args.stack.now.texts (c.args.stack.now.depth - 1) c.take_from.new.slot None)
     (rw c.in_default.is at (c.in-Ok.ensures.taken tells))
+
+pub returns-in_default-clause-below : goal.returns-in_default-clause-below
+returns-in_default-clause-below g c = λ low above.
+    stays_below c.args.stack.now.texts _ (c.args.stack.now.depth - 1) low None (omega arith) (set-set c.args.stack.now.texts (c.args.stack.now.depth - 1) c.take_from.new.slot None)
 
 pub returns-in_default-clause-numbers : goal.returns-in_default-clause-numbers
 returns-in_default-clause-numbers g c =
@@ -56,12 +68,24 @@ returns-in_default-clause-files g c =
     (most_set files_up_to c.args.stack.now.texts (c.args.stack.now.depth - 1) c.take_from.new.slot (most files_up_to c.args.stack.now.texts)
     (omega arith) (omega (arith, c.in-Ok.ensures.file, most_read files_up_to c.args.stack.now.texts (c.args.stack.now.depth - 1) c.index-stack-top.result within))) (omega arith)
 
-pub returns-clause-taken : goal.returns-clause-taken
-returns-clause-taken g c = λ tells.
-    let some : 0 < c.args.stack.now.depth = omega arith in
+pub returns-in_default-clause-deep : goal.returns-in_default-clause-deep
+returns-in_default-clause-deep g c =
     let within : c.args.stack.now.depth - 1 < length c.args.stack.now.texts = omega arith in
+    let top : c.args.stack.now.depth - 1 ≡ 0 + (c.args.stack.now.depth - 1) = omega arith in
+    deep-set 0 (c.args.stack.now.depth - 1) (c.args.stack.now.depth - 1) _ None top
+    (deep-set 0 (c.args.stack.now.depth - 1) (c.args.stack.now.depth - 1) c.args.stack.now.texts _ top c.requires.deep
+    (c.in-Ok.ensures.deep (c.args.stack.now.depth - 1) (deep-at 0 (c.args.stack.now.depth - 1) (c.args.stack.now.depth - 1) c.args.stack.now.texts c.index-stack-top.result top within c.requires.deep)).0) refl
+
+pub returns-clause-taken : goal.returns-clause-taken
+returns-clause-taken g c = λ tells low above rest.
+    let within : c.args.stack.now.depth - 1 < length c.args.stack.now.texts = omega arith in
+    let level = rw c.in-Some.is at c.in-Ok.ensures.level in
     top_taken (g.S.Shelf.left c.args.shelf.now) (g.S.Shelf.left c.take_from.new.shelf) (c.in-Ok.ensures.others tells) c.args.stack.now.texts c.index-stack-top.result c.take_from.new.slot c.args.stack.now.depth
-    some within (count_of c.args.limits.now) (count_of c.take_from.new.limits) c.take_from.new.line.items c.in-Some.place (rw c.in-Some.is at (c.in-Ok.ensures.taken tells))
+    within (count_of c.args.limits.now) (count_of c.take_from.new.limits) c.take_from.new.line.items low above rest c.in-Some.at level.0 level.1 c.in-Ok.ensures.depth c.in-Ok.ensures.may_match
+    (rw c.in-Some.is at (c.in-Ok.ensures.taken tells))
+
+pub returns-clause-below : goal.returns-clause-below
+returns-clause-below g c = λ low above. stays_below c.args.stack.now.texts _ (c.args.stack.now.depth - 1) low c.take_from.new.slot (omega arith) refl
 
 pub returns-clause-numbers : goal.returns-clause-numbers
 returns-clause-numbers g c =
@@ -79,3 +103,17 @@ returns-clause-known g c =
     let within : c.args.stack.now.depth - 1 < length c.args.stack.now.texts = omega arith in
     let known = rw c.in-Some.is at c.in-Ok.ensures.known in
     omega (arith, known, most_read files_up_to c.args.stack.now.texts (c.args.stack.now.depth - 1) c.index-stack-top.result within)
+
+pub returns-clause-deep : goal.returns-clause-deep
+returns-clause-deep g c =
+    let within : c.args.stack.now.depth - 1 < length c.args.stack.now.texts = omega arith in
+    let top : c.args.stack.now.depth - 1 ≡ 0 + (c.args.stack.now.depth - 1) = omega arith in
+    deep-set 0 (c.args.stack.now.depth - 1) (c.args.stack.now.depth - 1) c.args.stack.now.texts _ top c.requires.deep
+    (c.in-Ok.ensures.deep (c.args.stack.now.depth - 1) (deep-at 0 (c.args.stack.now.depth - 1) (c.args.stack.now.depth - 1) c.args.stack.now.texts c.index-stack-top.result top within c.requires.deep)).0
+
+pub returns-clause-deeper : goal.returns-clause-deeper
+returns-clause-deeper g c =
+    let within : c.args.stack.now.depth - 1 < length c.args.stack.now.texts = omega arith in
+    let top : c.args.stack.now.depth - 1 ≡ 0 + (c.args.stack.now.depth - 1) = omega arith in
+    let deep = rw c.in-Some.is at (c.in-Ok.ensures.deep (c.args.stack.now.depth - 1) (deep-at 0 (c.args.stack.now.depth - 1) (c.args.stack.now.depth - 1) c.args.stack.now.texts c.index-stack-top.result top within c.requires.deep)).1 in
+    omega (arith, deep)

@@ -20,6 +20,6 @@ returns-in-Err-add-clause-stops g c = λ tells.
 pub returns-clause-taken : goal.returns-clause-taken
 returns-clause-taken g c = λ tells.
     takes_first c.trim.new.line.items c.next_line.new.line.items (left_of g.S.Shelf.left c.args.shelf.now c.args.text.now.source) (left_of g.S.Shelf.left c.next_line.new.shelf c.next_line.new.source)
-    c.args.text.now.file.0 (c.args.text.now.line + 1) c.in-Ok.taken (count_of c.args.limits.now) (count_of c.add.new.self)
+    c.args.text.now.file.0 (c.args.text.now.line + 1) c.args.text.now.depth c.args.text.now.may_match c.in-Ok.taken (count_of c.args.limits.now) (count_of c.add.new.self)
     c.in_default.not-Ended (c.in-Ok.ensures.taken tells) c.trim.ensures c.in-Ok.ensures.within c.in_default-add.ensures.lines
     (rw (c.len.ensures, c.next_line.new.line.ok.0, c.newline_size.ensures.value) at c.in_default-add.ensures.bytes)

@@ -1,80 +1,108 @@
-use Rattle.std.proofs.Common.{rules, ◌≡◌, ◌∷◌, [], length, false, refl, ap, sym, subst, ◌∙◌, arith}
+use Rattle.std.proofs.Common.{◌∷◌, ◌++◌, [], map, Vec, Global, List, Some, None, ap, sym, subst, ◌∙◌}
 use Rattle.std.specs.Prelude.{IsTrue}
+use Rattle.cweb_lines.specs.Change.{sought}
 use Rattle.cweb_lines.specs.Counts.{count_of}
-use Rattle.cweb_lines.specs.Finding.{text_of_name}
-use Rattle.cweb_lines.specs.Include.{is_include}
-use Rattle.cweb_lines.specs.Merging.{told_by}
+use Rattle.cweb_lines.specs.Merge.{Event, fault, took}
+use Rattle.cweb_lines.specs.Merging.{change_lines, pending_of, things_of, told_by}
+use Rattle.cweb_lines.specs.Replacing.{faults_replaced, lines_replaced}
+use Rattle.cweb_lines.specs.Texts.{things_above}
 use Rattle.cweb_lines.specs.Names.{names_of}
-use Rattle.cweb_lines.specs.Texts.{things_of, raw_at}
-use Rattle.cweb_lines.proofs.Merges.{gives_line, gives_nothing, gives_took, merge_given, stopped_by}
-use Rattle.cweb_lines.proofs.Runs.{coming_none, stack_same}
+use Rattle.cweb_lines.specs.Stages.{begun_by, pending_in}
+use Rattle.cweb_lines.specs.declared.fault.SourceFault.{SourceFault}
+use Rattle.cweb_lines.proofs.Adds.{adds_both, adds_one, among_after, gives_adds, stopped_among, tells_after, tells_some}
+use Rattle.cweb_lines.proofs.Found.{IfOk-map}
+use Rattle.cweb_lines.proofs.Merges.{gives_took, stopped_by}
+use Rattle.cweb_lines.proofs.Runs.{stops_in, takes_in}
+use Rattle.cweb_lines.proofs.Stacks.{stops_map}
+use Rattle.cweb_lines.proofs.Turns.{begins_here, begun_later, searched_later, sought_first, taken_first}
 use Rattle.cweb_lines.proofs.turning.take_turn.Goals as goal
 
-pub returns-then-run-eq0-clause-turned : goal.returns-then-run-eq0-clause-turned
-returns-then-run-eq0-clause-turned g c = λ tells.
-    let none = coming_none (g.S.Shelf.texts c.args.shelf.now) (g.S.Shelf.left c.args.shelf.now) c.args.run.now c.if-run-eq0.true in
-    (none, none, refl)
-
-pub invariant_of-run : goal.invariant_of-run
-invariant_of-run g c = record {
-  shallow = omega (arith, c.take_top.ensures.shallow, c.args.run.now.shallow);
-  numbers = c.take_top.ensures.numbers;
-  named = omega (arith, c.take_top.ensures.more, c.args.run.now.named);
-  open_known = omega (arith, c.take_top.ensures.files, c.args.run.now.open_known);
-  faults_known = c.args.run.now.faults_known;
-  stop_known = c.args.run.now.stop_known;
-}
-
-pub returns-in-Err-clause-reading : goal.returns-in-Err-clause-reading
-returns-in-Err-clause-reading g c = c.in-Err.ensures.reading
+pub returns-in-Err-clause-told : goal.returns-in-Err-clause-told
+returns-in-Err-clause-told g c = λ tells.
+    tells_some (sought (change_lines (g.S.Shelf.left c.args.shelf.now) c.args.run.now) None).taken _ _ _ _ _ (sought_first (g.S.Shelf.texts c.args.shelf.now) (g.S.Shelf.left c.args.shelf.now) c.args.run.now c.in-Seeking.is) (c.in-Err.ensures.told tells)
 
 pub returns-in-Err-clause-stops : goal.returns-in-Err-clause-stops
 returns-in-Err-clause-stops g c = λ tells.
-    stopped_by c.in-Err.stop (count_of c.args.run.now.limits) (count_of c.take_top.new.limits) _ c.args.run.now.stack.depth (things_of (g.S.Shelf.left c.args.shelf.now) c.args.run.now.stack) (length (names_of c.args.run.now.names))
-    (λ i. record { lines = c.in-Err.ensures.counted.0 i; bytes = c.in-Err.ensures.counted.1 i }) (c.in-Err.ensures.stops tells)
+    stopped_among c.in-Err.stop (sought (change_lines (g.S.Shelf.left c.args.shelf.now) c.args.run.now) None).taken _ _ _ _ (sought_first (g.S.Shelf.texts c.args.shelf.now) (g.S.Shelf.left c.args.shelf.now) c.args.run.now c.in-Seeking.is) (c.in-Err.ensures.stops tells)
 
-pub returns-in_default-clause-turned : goal.returns-in_default-clause-turned
-returns-in_default-clause-turned g c = λ tells.
-    let counted = rw c.in_default.is at c.in-Ok.ensures.counted in
-    gives_nothing _ _ _ _ (λ i. record { lines = counted.0 i; bytes = counted.1 i })
-    (stack_same (g.S.Shelf.texts c.args.shelf.now) (g.S.Shelf.texts c.take_top.new.shelf) (g.S.Shelf.left c.args.shelf.now) (g.S.Shelf.left c.take_top.new.shelf) (c.in-Ok.ensures.texts tells)
-    (text_of_name c.args.run.now.inputs) (length (names_of c.args.run.now.names)) _ _ (rw c.in_default.is at (c.in-Ok.ensures.taken tells)))
-    refl refl
+pub returns-in-Seeking-clause-gives : goal.returns-in-Seeking-clause-gives
+returns-in-Seeking-clause-gives g c = λ tells.
+    let found = c.in_default-seek.ensures.searched tells in
+    gives_adds (sought (change_lines (g.S.Shelf.left c.args.shelf.now) c.args.run.now) None).taken (sought (change_lines (g.S.Shelf.left c.args.shelf.now) c.args.run.now) None).faults (told_by c.args.run.now) (told_by c.seek.new.run) _ _
+    (sought_first (g.S.Shelf.texts c.args.shelf.now) (g.S.Shelf.left c.args.shelf.now) c.args.run.now c.in-Seeking.is
+    ∙ ap (λ (es : List Event). map took (sought (change_lines (g.S.Shelf.left c.args.shelf.now) c.args.run.now) None).taken ++ (map fault (sought (change_lines (g.S.Shelf.left c.args.shelf.now) c.args.run.now) None).faults ++ es))
+    (searched_later (g.S.Shelf.texts c.args.shelf.now) (g.S.Shelf.texts c.seek.new.shelf) (g.S.Shelf.left c.args.shelf.now) (g.S.Shelf.left c.seek.new.shelf) c.args.run.now c.seek.new.run (told_by c.args.run.now) (told_by c.seek.new.run)
+    (c.in_default-seek.ensures.texts tells) (c.in_default-seek.ensures.others tells) c.in_default-seek.ensures.inputs c.in_default-seek.ensures.stack c.in_default-seek.ensures.names found))
+    found.adds
 
-pub returns-then-not-is_include-clause-turned : goal.returns-then-not-is_include-clause-turned
-returns-then-not-is_include-clause-turned g c = λ tells.
-    let depth = rw c.in-Some.is at c.in-Ok.ensures.depth in
-    let taken = rw c.in-Some.is at (c.in-Ok.ensures.taken tells) in
-    let test : is_include c.take_top.new.line.items ≡ false = ap is_include (sym c.deref.ensures.value) ∙ sym c.is_include.ensures ∙ c.if-not-is_include.true in
-    gives_took (record { bytes = c.take_top.new.line.items; place = c.in-Some.place } ∷ []) (told_by c.args.run.now) _ _ c.take_top.new.line.items c.in-Some.place taken.0 _ _ _ refl refl
-    (stack_same (g.S.Shelf.texts c.args.shelf.now) (g.S.Shelf.texts c.take_top.new.shelf) (g.S.Shelf.left c.args.shelf.now) (g.S.Shelf.left c.take_top.new.shelf) (c.in-Ok.ensures.texts tells)
-    (text_of_name c.args.run.now.inputs) (length (names_of c.args.run.now.names)) _ (raw_at c.take_top.new.stack.depth taken.0.line ∷ things_of (g.S.Shelf.left c.take_top.new.shelf) c.take_top.new.stack)
-    (taken.1 ∙ ap (λ d. raw_at d taken.0.line ∷ things_of (g.S.Shelf.left c.take_top.new.shelf) c.take_top.new.stack) (sym depth)))
-    (record {
-      rest = _;
-      first = merge_given _ taken.0.line c.take_top.new.line.items c.in-Some.place taken.0.is _ _ _ test;
-      gives = gives_line _ _ _ _ refl (record { bytes = c.take_top.new.line.items; place = c.in-Some.place }) refl refl refl;
-    })
+pub returns-in-Err-take_raw-clause-stops : goal.returns-in-Err-take_raw-clause-stops
+returns-in-Err-take_raw-clause-stops g c = λ tells.
+    stopped_by c.in-Err-take_raw.stop (count_of c.args.run.now.limits) (count_of c.take_raw.new.run.limits) _ (things_of (g.S.Shelf.left c.args.shelf.now) c.args.run.now) (pending_of c.args.run.now) _ _
+    (λ i. record { lines = c.in-Err-take_raw.ensures.counted.0 i; bytes = c.in-Err-take_raw.ensures.counted.1 i })
+    (stops_map c.in-Err-take_raw.stop
+    (stops_in (g.S.Shelf.left c.args.shelf.now) c.args.run.now.stage (change_lines (g.S.Shelf.left c.args.shelf.now) c.args.run.now) c.args.run.now.stack c.in-Err-take_raw.stop (count_of c.args.run.now.limits) c.in_default.not-Seeking)
+    (c.in-Err-take_raw.ensures.stops tells))
 
-pub obey-requires : goal.obey-requires
-obey-requires g c =
-    let counted = rw c.in-Some.is at c.in-Ok.ensures.counted in
-    let known = rw c.in-Some.is at c.in-Ok.ensures.known in (
-      search rules,
-      (
-        ap is_include c.deref-2.ensures.value ∙ ap is_include (sym c.deref.ensures.value) ∙ sym c.is_include.ensures ∙ c.if-not-is_include.false,
-        (omega (arith, counted, c.args.run.now.named), omega (arith, known, c.args.run.now.open_known)),
-      ),
-    )
+pub returns-in_default-begun_at-clause-gives : goal.returns-in_default-begun_at-clause-gives
+returns-in_default-begun_at-clause-gives g c = λ tells.
+    let taken = takes_in (g.S.Shelf.left c.args.shelf.now) (g.S.Shelf.left c.take_raw.new.shelf) (c.in-Ok.ensures.others tells) c.args.run.now.stage (change_lines (g.S.Shelf.left c.args.shelf.now) c.args.run.now) c.args.run.now.stack c.take_raw.new.run.stack
+    (Some c.in-Some.at) c.take_raw.new.line.items _ _ c.in_default.not-Seeking (rw c.in-Some.is at (c.in-Ok.ensures.taken tells)) c.in-Ok.ensures.below in
+    IfOk-map c.give.result
+    (λ turn gives. gives_took _ (told_by c.args.run.now) (told_by c.take_raw.new.run) _ c.take_raw.new.line.items c.in-Some.at.place taken.0 _ _ _ (ap (λ (v : Vec SourceFault Global). v.items) c.in-Ok.ensures.faults) (ap names_of c.in-Ok.ensures.names)
+    (taken_first (g.S.Shelf.texts c.args.shelf.now) (g.S.Shelf.texts c.take_raw.new.shelf) (g.S.Shelf.left c.args.shelf.now) (g.S.Shelf.left c.take_raw.new.shelf) c.args.run.now c.take_raw.new.run c.in-Some.at taken.0.line
+    (c.in-Ok.ensures.texts tells) (c.in-Ok.ensures.others tells) c.in-Ok.ensures.inputs c.in-Ok.ensures.change c.in-Ok.ensures.stage c.in-Ok.ensures.first c.in-Ok.ensures.names taken.1)
+    (gives taken.0.line taken.0.is))
+    (rw c.deref-in_default-begun_at.ensures.value at (c.give.ensures.gives (subst IsTrue (sym c.in-Ok.ensures.tells) tells)))
 
-pub returns-clause-turned : goal.returns-clause-turned
-returns-clause-turned g c = λ tells.
-    let depth = rw c.in-Some.is at c.in-Ok.ensures.depth in
-    let taken = rw c.in-Some.is at (c.in-Ok.ensures.taken tells) in
+pub returns-in-Err-begin_change-clause-told : goal.returns-in-Err-begin_change-clause-told
+returns-in-Err-begin_change-clause-told g c = λ tells.
+    let taken = takes_in (g.S.Shelf.left c.args.shelf.now) (g.S.Shelf.left c.take_raw.new.shelf) (c.in-Ok.ensures.others tells) c.args.run.now.stage (change_lines (g.S.Shelf.left c.args.shelf.now) c.args.run.now) c.args.run.now.stack c.take_raw.new.run.stack
+    (Some c.in-Some.at) c.take_raw.new.line.items _ _ c.in_default.not-Seeking (rw c.in-Some.is at (c.in-Ok.ensures.taken tells)) c.in-Ok.ensures.below in
     let tells' = subst IsTrue (sym c.in-Ok.ensures.tells) tells in
-    let obeyed = rw c.deref-2.ensures.value at (c.in_default-obey.ensures.obeys tells') in
-    gives_took [] (told_by c.args.run.now) _ _ c.take_top.new.line.items c.in-Some.place taken.0 _ _ _ refl refl
-    (stack_same (g.S.Shelf.texts c.args.shelf.now) (g.S.Shelf.texts c.take_top.new.shelf) (g.S.Shelf.left c.args.shelf.now) (g.S.Shelf.left c.take_top.new.shelf) (c.in-Ok.ensures.texts tells)
-    (text_of_name c.args.run.now.inputs) (length (names_of c.args.run.now.names)) _ (raw_at c.take_top.new.stack.depth taken.0.line ∷ things_of (g.S.Shelf.left c.take_top.new.shelf) c.take_top.new.stack)
-    (taken.1 ∙ ap (λ d. raw_at d taken.0.line ∷ things_of (g.S.Shelf.left c.take_top.new.shelf) c.take_top.new.stack) (sym depth)))
-    (obeyed taken.0.line taken.0.is)
+    let faults = ap (λ (v : Vec SourceFault Global). v.items) c.in-Ok.ensures.faults in
+    let names = ap names_of c.in-Ok.ensures.names in
+    let first = taken_first (g.S.Shelf.texts c.args.shelf.now) (g.S.Shelf.texts c.take_raw.new.shelf) (g.S.Shelf.left c.args.shelf.now) (g.S.Shelf.left c.take_raw.new.shelf) c.args.run.now c.take_raw.new.run c.in-Some.at taken.0.line
+    (c.in-Ok.ensures.texts tells) (c.in-Ok.ensures.others tells) c.in-Ok.ensures.inputs c.in-Ok.ensures.change c.in-Ok.ensures.stage c.in-Ok.ensures.first c.in-Ok.ensures.names taken.1 in
+    let here = begins_here (g.S.Shelf.texts c.take_raw.new.shelf) (g.S.Shelf.left c.take_raw.new.shelf) c.take_raw.new.run c.in-Some.at taken.0.line c.take_raw.new.line.items c.in-Some-begun_at.begin taken.0.is
+    ((λ i. begun_by (pending_in c.take_raw.new.run.stage (sym c.deref.ensures.value i)) c.in-Some.at.may_match (sym c.deref-2.ensures.value i)) ∙ sym c.begun_at.ensures ∙ c.in-Some-begun_at.is) in
+    let lines = lines_replaced (change_lines (g.S.Shelf.left c.take_raw.new.shelf) c.take_raw.new.run) (things_above (g.S.Shelf.left c.take_raw.new.shelf) 0 c.take_raw.new.run.stack []) in
+    tells_some (taken.0.line ∷ lines) (faults_replaced c.in-Some-begun_at.begin (change_lines (g.S.Shelf.left c.take_raw.new.shelf) c.take_raw.new.run) (things_above (g.S.Shelf.left c.take_raw.new.shelf) 0 c.take_raw.new.run.stack [])) (told_by c.args.run.now) (told_by c.begin_change.new.run) _ _ (first ∙ here.2)
+    (tells_after (told_by c.args.run.now) (told_by c.take_raw.new.run) c.take_raw.new.line.items c.in-Some.at.place taken.0 faults names (faults_replaced c.in-Some-begun_at.begin (change_lines (g.S.Shelf.left c.take_raw.new.shelf) c.take_raw.new.run) (things_above (g.S.Shelf.left c.take_raw.new.shelf) 0 c.take_raw.new.run.stack [])) (told_by c.begin_change.new.run) (c.in-Err-begin_change.ensures.told tells'))
+
+pub returns-in-Err-begin_change-clause-stops : goal.returns-in-Err-begin_change-clause-stops
+returns-in-Err-begin_change-clause-stops g c = λ tells.
+    let taken = takes_in (g.S.Shelf.left c.args.shelf.now) (g.S.Shelf.left c.take_raw.new.shelf) (c.in-Ok.ensures.others tells) c.args.run.now.stage (change_lines (g.S.Shelf.left c.args.shelf.now) c.args.run.now) c.args.run.now.stack c.take_raw.new.run.stack
+    (Some c.in-Some.at) c.take_raw.new.line.items _ _ c.in_default.not-Seeking (rw c.in-Some.is at (c.in-Ok.ensures.taken tells)) c.in-Ok.ensures.below in
+    let tells' = subst IsTrue (sym c.in-Ok.ensures.tells) tells in
+    let faults = ap (λ (v : Vec SourceFault Global). v.items) c.in-Ok.ensures.faults in
+    let names = ap names_of c.in-Ok.ensures.names in
+    let first = taken_first (g.S.Shelf.texts c.args.shelf.now) (g.S.Shelf.texts c.take_raw.new.shelf) (g.S.Shelf.left c.args.shelf.now) (g.S.Shelf.left c.take_raw.new.shelf) c.args.run.now c.take_raw.new.run c.in-Some.at taken.0.line
+    (c.in-Ok.ensures.texts tells) (c.in-Ok.ensures.others tells) c.in-Ok.ensures.inputs c.in-Ok.ensures.change c.in-Ok.ensures.stage c.in-Ok.ensures.first c.in-Ok.ensures.names taken.1 in
+    let here = begins_here (g.S.Shelf.texts c.take_raw.new.shelf) (g.S.Shelf.left c.take_raw.new.shelf) c.take_raw.new.run c.in-Some.at taken.0.line c.take_raw.new.line.items c.in-Some-begun_at.begin taken.0.is
+    ((λ i. begun_by (pending_in c.take_raw.new.run.stage (sym c.deref.ensures.value i)) c.in-Some.at.may_match (sym c.deref-2.ensures.value i)) ∙ sym c.begun_at.ensures ∙ c.in-Some-begun_at.is) in
+    let lines = lines_replaced (change_lines (g.S.Shelf.left c.take_raw.new.shelf) c.take_raw.new.run) (things_above (g.S.Shelf.left c.take_raw.new.shelf) 0 c.take_raw.new.run.stack []) in
+    stopped_among c.in-Err-begin_change.stop (taken.0.line ∷ lines) _ _ _ _ (first ∙ here.2)
+    (stops_map c.in-Err-begin_change.stop
+    (among_after (told_by c.args.run.now) (told_by c.take_raw.new.run) c.take_raw.new.line.items c.in-Some.at.place taken.0 faults names c.in-Err-begin_change.stop (count_of c.begin_change.new.run.limits) lines)
+    (c.in-Err-begin_change.ensures.stops tells'))
+
+pub returns-clause-gives : goal.returns-clause-gives
+returns-clause-gives g c = λ tells.
+    let taken = takes_in (g.S.Shelf.left c.args.shelf.now) (g.S.Shelf.left c.take_raw.new.shelf) (c.in-Ok.ensures.others tells) c.args.run.now.stage (change_lines (g.S.Shelf.left c.args.shelf.now) c.args.run.now) c.args.run.now.stack c.take_raw.new.run.stack
+    (Some c.in-Some.at) c.take_raw.new.line.items _ _ c.in_default.not-Seeking (rw c.in-Some.is at (c.in-Ok.ensures.taken tells)) c.in-Ok.ensures.below in
+    let tells' = subst IsTrue (sym c.in-Ok.ensures.tells) tells in
+    let faults = ap (λ (v : Vec SourceFault Global). v.items) c.in-Ok.ensures.faults in
+    let names = ap names_of c.in-Ok.ensures.names in
+    let first = taken_first (g.S.Shelf.texts c.args.shelf.now) (g.S.Shelf.texts c.take_raw.new.shelf) (g.S.Shelf.left c.args.shelf.now) (g.S.Shelf.left c.take_raw.new.shelf) c.args.run.now c.take_raw.new.run c.in-Some.at taken.0.line
+    (c.in-Ok.ensures.texts tells) (c.in-Ok.ensures.others tells) c.in-Ok.ensures.inputs c.in-Ok.ensures.change c.in-Ok.ensures.stage c.in-Ok.ensures.first c.in-Ok.ensures.names taken.1 in
+    let here = begins_here (g.S.Shelf.texts c.take_raw.new.shelf) (g.S.Shelf.left c.take_raw.new.shelf) c.take_raw.new.run c.in-Some.at taken.0.line c.take_raw.new.line.items c.in-Some-begun_at.begin taken.0.is
+    ((λ i. begun_by (pending_in c.take_raw.new.run.stage (sym c.deref.ensures.value i)) c.in-Some.at.may_match (sym c.deref-2.ensures.value i)) ∙ sym c.begun_at.ensures ∙ c.in-Some-begun_at.is) in
+    let lines = lines_replaced (change_lines (g.S.Shelf.left c.take_raw.new.shelf) c.take_raw.new.run) (things_above (g.S.Shelf.left c.take_raw.new.shelf) 0 c.take_raw.new.run.stack []) in
+    let changed = c.in_default-begin_change.ensures.changed tells' in
+    gives_adds (taken.0.line ∷ lines) (faults_replaced c.in-Some-begun_at.begin (change_lines (g.S.Shelf.left c.take_raw.new.shelf) c.take_raw.new.run) (things_above (g.S.Shelf.left c.take_raw.new.shelf) 0 c.take_raw.new.run.stack [])) (told_by c.args.run.now) (told_by c.begin_change.new.run) _ _
+    (first ∙ here.2
+    ∙ ap (λ (es : List Event). map took (taken.0.line ∷ lines) ++ (map fault (faults_replaced c.in-Some-begun_at.begin (change_lines (g.S.Shelf.left c.take_raw.new.shelf) c.take_raw.new.run) (things_above (g.S.Shelf.left c.take_raw.new.shelf) 0 c.take_raw.new.run.stack [])) ++ es))
+    (begun_later (g.S.Shelf.texts c.take_raw.new.shelf) (g.S.Shelf.texts c.begin_change.new.shelf) (g.S.Shelf.left c.take_raw.new.shelf) (g.S.Shelf.left c.begin_change.new.shelf) c.take_raw.new.run c.begin_change.new.run c.in-Some.at.depth c.in-Some-begun_at.begin here.0 _ _
+    (c.in_default-begin_change.ensures.texts tells') c.in_default-begin_change.ensures.inputs c.in_default-begin_change.ensures.names here.1 changed))
+    (adds_both [] (faults_replaced c.in-Some-begun_at.begin (change_lines (g.S.Shelf.left c.take_raw.new.shelf) c.take_raw.new.run) (things_above (g.S.Shelf.left c.take_raw.new.shelf) 0 c.take_raw.new.run.stack [])) (taken.0.line ∷ []) lines (told_by c.args.run.now) (told_by c.take_raw.new.run) (told_by c.begin_change.new.run)
+    (adds_one (told_by c.args.run.now) (told_by c.take_raw.new.run) c.take_raw.new.line.items c.in-Some.at.place taken.0 faults names) changed.adds)

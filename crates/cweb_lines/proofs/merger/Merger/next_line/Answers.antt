@@ -1,9 +1,11 @@
 use Rattle.std.proofs.Common.{rules, ◌+◌, [], refl, ap, sym, subst, ◌∙◌, arith}
 use Rattle.std.specs.Prelude.{IsTrue}
 use Rattle.cweb_lines.specs.Counts.{count_of}
-use Rattle.cweb_lines.specs.Merging.{SoFar, told_by}
+use Rattle.cweb_lines.specs.Merging.{NothingLeft, told_by}
 use Rattle.cweb_lines.specs.Texts.{read_blame}
 use Rattle.cweb_lines.proofs.Merges.{gives_nothing, gives_both, stopped_after}
+use Rattle.cweb_lines.proofs.Runs.{coming_none}
+use Rattle.cweb_lines.proofs.Writes.{tells_more}
 use Rattle.cweb_lines.proofs.merger.Merger.next_line.Goals as goal
 
 pub turns-init : goal.turns-init
@@ -31,7 +33,7 @@ returns-in-Err-clause-within g c = (c.take_turn.new.run.limits.few, c.take_turn.
 pub returns-in-Err-clause-ended : goal.returns-in-Err-clause-ended
 returns-in-Err-clause-ended g c = λ running ended.
     let same = c.turns.invariant.still ended in
-    let empty = ap (λ m. m.run.stack.depth) same.0 ∙ ended in
+    let empty = subst (λ m. NothingLeft m.run) (sym same.0) ended in
     let done = c.take_turn.ensures.ended empty in
     absurd (cc (done.0, c.in-Err.is))
 
@@ -45,8 +47,7 @@ returns-in-Err-clause-stops g c = λ tells running.
 
 pub returns-in-Err-clause-told : goal.returns-in-Err-clause-told
 returns-in-Err-clause-told g c = λ tells running.
-    let gives = c.turns.invariant.gives tells in
-    record { events = gives.events; later = _; whole = gives.whole; faults = c.in-Err.ensures.same.0 ∙ gives.faults; names = c.in-Err.ensures.same.1 ∙ gives.names }
+    tells_more [] _ _ _ _ _ (c.turns.invariant.gives tells) (c.in-Err.ensures.told (subst IsTrue (sym c.turns.invariant.tells) tells))
 
 pub returns-in-Given-clause-texts : goal.returns-in-Given-clause-texts
 returns-in-Given-clause-texts g c = λ tells. c.in-Ok.ensures.texts (subst IsTrue (sym c.turns.invariant.tells) tells) ∙ c.turns.invariant.texts tells
@@ -56,7 +57,7 @@ returns-in-Given-clause-others g c = λ tells. c.in-Ok.ensures.others (subst IsT
 
 pub returns-in-Given-clause-next : goal.returns-in-Given-clause-next
 returns-in-Given-clause-next g c = λ tells.
-    let turned = rw c.in-Given.is at (c.in-Ok.ensures.turned (subst IsTrue (sym c.turns.invariant.tells) tells)) in
+    let turned = rw c.in-Given.is at (c.in-Ok.ensures.gives (subst IsTrue (sym c.turns.invariant.tells) tells)) in
     gives_both [] _ _ _ _ _ _ _ (c.turns.invariant.gives tells) turned
 
 pub returns-in-Given-clause-known : goal.returns-in-Given-clause-known
@@ -73,7 +74,7 @@ returns-in-Given-clause-within g c = (c.take_turn.new.run.limits.few, c.take_tur
 pub returns-in-Given-clause-ended : goal.returns-in-Given-clause-ended
 returns-in-Given-clause-ended g c = λ running ended.
     let same = c.turns.invariant.still ended in
-    let empty = ap (λ m. m.run.stack.depth) same.0 ∙ ended in
+    let empty = subst (λ m. NothingLeft m.run) (sym same.0) ended in
     let done = c.take_turn.ensures.ended empty in
     absurd (cc (done.0, c.in-Ok.is, c.in-Given.is))
 
@@ -90,10 +91,10 @@ turns-preserved g c =
       more = omega (arith, counts, c.turns.invariant.more);
       still = λ ended.
           let same = c.turns.invariant.still ended in
-          let empty = ap (λ m. m.run.stack.depth) same.0 ∙ ended in
+          let empty = subst (λ m. NothingLeft m.run) (sym same.0) ended in
           let done = c.take_turn.ensures.ended empty in
           absurd (cc (done.0, c.in-Ok.is, c.in-On.is));
-      gives = λ tells. gives_both [] [] _ _ _ _ _ _ (c.turns.invariant.gives tells) (rw c.in-On.is at (c.in-Ok.ensures.turned (subst IsTrue (sym c.turns.invariant.tells) tells)));
+      gives = λ tells. gives_both [] [] _ _ _ _ _ _ (c.turns.invariant.gives tells) (rw c.in-On.is at (c.in-Ok.ensures.gives (subst IsTrue (sym c.turns.invariant.tells) tells)));
     }
 
 pub returns-in-Ended-clause-texts : goal.returns-in-Ended-clause-texts
@@ -103,24 +104,20 @@ pub returns-in-Ended-clause-others : goal.returns-in-Ended-clause-others
 returns-in-Ended-clause-others g c = λ tells. c.in-Ok.ensures.others (subst IsTrue (sym c.turns.invariant.tells) tells) ∙ c.turns.invariant.others tells
 
 pub returns-in-Ended-clause-next : goal.returns-in-Ended-clause-next
-returns-in-Ended-clause-next g c = λ tells.
-    let turned = rw c.in-Ended.is at (c.in-Ok.ensures.turned (subst IsTrue (sym c.turns.invariant.tells) tells)) in (
-      gives_both [] [] _ _ _ _ _ _ (c.turns.invariant.gives tells)
-          (gives_nothing _ _ _ _ (ap (λ (t : SoFar). t.count) turned.2) (turned.0 ∙ sym turned.1) (ap (λ (t : SoFar). t.faults) turned.2) (ap (λ (t : SoFar). t.names) turned.2)),
-      turned.1,
-    )
+returns-in-Ended-clause-next g c = λ tells. (
+  gives_both [] [] _ _ _ _ _ _ (c.turns.invariant.gives tells) (rw c.in-Ended.is at (c.in-Ok.ensures.gives (subst IsTrue (sym c.turns.invariant.tells) tells))),
+  coming_none (g.S.Shelf.texts c.take_turn.new.shelf) (g.S.Shelf.left c.take_turn.new.shelf) c.take_turn.new.run (rw c.in-Ended.is at c.in-Ok.ensures.ends),
+)
 
 pub returns-in-Ended-clause-within : goal.returns-in-Ended-clause-within
 returns-in-Ended-clause-within g c = (c.take_turn.new.run.limits.few, c.take_turn.new.run.limits.small)
 
 pub returns-in-Ended-clause-end : goal.returns-in-Ended-clause-end
-returns-in-Ended-clause-end g c = λ is.
-    let counts = rw c.in-Ended.is at c.in-Ok.ensures.counts in
-    (c.clear-in-Ended.ensures.items, counts.2)
+returns-in-Ended-clause-end g c = λ is. (c.clear-in-Ended.ensures.items, rw c.in-Ended.is at c.in-Ok.ensures.ends)
 
 pub returns-in-Ended-clause-ended : goal.returns-in-Ended-clause-ended
 returns-in-Ended-clause-ended g c = λ running ended.
     let same = c.turns.invariant.still ended in
-    let empty = ap (λ m. m.run.stack.depth) same.0 ∙ ended in
+    let empty = subst (λ m. NothingLeft m.run) (sym same.0) ended in
     let done = c.take_turn.ensures.ended empty in
     (refl, (λ i. record { run = done.1 i }) ∙ same.0, done.2 ∙ same.1)

@@ -1,36 +1,61 @@
-use Rattle.std.proofs.Common.{◌≡◌, ◌∷◌, ◌++◌, [], ℕ, List, None, length, string_bytes, ap, sym, ◌∙◌, arith}
+use Rattle.std.proofs.Common.{◌≡◌, ◌+◌, ◌∷◌, ◌++◌, ℕ, List, Some, true, subst, length, length-append, string_bytes, ap, sym, ◌∙◌, arith}
 use Rattle.cweb_lines.specs.Faults.{files_in}
+use Rattle.cweb_lines.specs.Finding.{found_as, names_found}
+use Rattle.std.specs.Prelude.{IsTrue}
+use Rattle.std.specs.Option.{option_copied}
+use Rattle.cweb_lines.specs.Include.{change_at}
+use Rattle.cweb_lines.specs.Lines.{SourceLine}
+use Rattle.cweb_lines.specs.Merge.{raws}
 use Rattle.cweb_lines.specs.Names.{names_of}
+use Rattle.cweb_lines.specs.Stages.{change_in, pending_in, things_in}
+use Rattle.cweb_lines.specs.Texts.{lines_at}
 use Rattle.cweb_lines.specs.Total.{merge}
-use Rattle.cweb_lines.proofs.Runs.{begun}
+use Rattle.cweb_lines.proofs.Merges.{state}
+use Rattle.cweb_lines.proofs.Runs.{begins_low, begun, begun_coming}
 use Rattle.cweb_lines.proofs.merger.Merger.start.Goals as goal
 
 pub invariant_of-result : goal.invariant_of-result
 unfolding files_in
 invariant_of-result g c =
-    let names : names_of c.push.new.self ≡ string_bytes c.in-Some.opening.name ∷ [] =
-    c.in_default-push.ensures.ok ∙ ap (λ (ns : List (List ℕ)). ns ++ string_bytes c.in-Some.opening.name ∷ []) c.new-names.ensures in
-    let one : length (names_of c.push.new.self) ≡ 1 = ap (λ (ns : List (List ℕ)). length ns) names in
+    let one : length (names_of c.open_web.new.names) ≡ 1 = ap (λ (ns : List (List ℕ)). length ns) c.in-Ok.ensures.names in
+    let left = g.S.Shelf.left c.find_change.new.shelf in
+    let found = names_found (found_as left c.in-Some-2.change) in
+    let all : length (names_of c.open_change.new.names) ≡ 1 + length found =
+    ap (λ (ns : List (List ℕ)). length ns) (c.in-Ok-open_change.ensures.names left) ∙ length-append (names_of c.open_web.new.names) found ∙ ap (λ n. n + length found) one in
+    let low = begins_low c.in-Ok-open_change.change c.first_stage.result c.first_stage.ensures in
     record {
-      shallow = omega (arith, c.new-2.ensures.depth);
-      numbers = omega (arith, c.new-2.ensures.numbers);
-      named = omega (arith, one);
-      open_known = omega (arith, one, c.new-2.ensures.files);
+      shallow = omega (arith, c.new.ensures.depth);
+      deep = c.new.ensures.deep (omega (arith, c.in-Ok.ensures.level.2));
+      numbers = omega (arith, c.new.ensures.numbers, c.in-Ok.ensures.level.1);
+      change_number = omega (arith, c.in-Ok-open_change.ensures.number);
+      floor = omega (arith, low.0);
+      floor_deep = omega (arith, low.0);
+      named = omega (arith, c.in-Ok-open_change.ensures.few);
+      open_known = omega (arith, c.new.ensures.files, c.in-Ok.ensures.level.0, all);
+      change_known = c.in-Ok-open_change.ensures.file;
+      begun_known = omega (arith, low.1);
       faults_known = rw c.new-4.ensures.items (omega arith);
       stop_known = omega arith;
     }
 
 pub returns-clause-begins : goal.returns-clause-begins
 returns-clause-begins g c = λ tells.
-    let names : names_of c.push.new.self ≡ string_bytes c.in-Some.opening.name ∷ [] =
-    c.in_default-push.ensures.ok ∙ ap (λ (ns : List (List ℕ)). ns ++ string_bytes c.in-Some.opening.name ∷ []) c.new-names.ensures in
-    let one : length (names_of c.push.new.self) ≡ 1 = ap (λ (ns : List (List ℕ)). length ns) names in
-    let things = rw (c.in_ok-source.ensures.pending, c.in_ok-source.ensures.reader) at (begun (g.S.Shelf.left c.find_web.new.shelf) c.new-2.result _ _ c.new-2.ensures.depth c.new-2.ensures.texts) in
+    let later = subst IsTrue (sym c.in_ok-web.ensures.tells) tells in
+    let left = g.S.Shelf.left c.find_change.new.shelf in
+    let change = found_as left c.in-Some-2.change in
+    let names : names_of c.open_change.new.names ≡ string_bytes c.in-Some.web.name ∷ names_found change =
+    c.in-Ok-open_change.ensures.names left ∙ ap (λ (ns : List (List ℕ)). ns ++ names_found change) c.in-Ok.ensures.names in
+    let texts = c.in_ok-change.ensures.texts later ∙ c.in_ok-web.ensures.texts tells in
     record {
-      name = string_bytes c.in-Some.opening.name;
-      text = g.S.Shelf.left c.find_web.new.shelf c.in-Some.opening.reader;
-      there = sym (rw c.in-Some.is at (c.in_ok-opening.ensures.found tells));
+      name = string_bytes c.in-Some.web.name;
+      text = left c.in-Some.web.reader;
+      change = change;
+      there = sym (rw c.in-Some.is at (c.in_ok-web.ensures.found tells)) ∙ ap (λ l. Some (string_bytes c.in-Some.web.name, l c.in-Some.web.reader)) (sym (c.in_ok-change.ensures.others later));
+      changes_there = ap (λ t. change_at t (option_copied c.args.change)) (sym (c.in_ok-web.ensures.texts tells)) ∙ sym (rw c.in-Some-2.is at (c.in_ok-change.ensures.found later));
       so_far_is = λ i. record { faults = c.new-4.ensures.items i; names = names i; count = record { lines = c.new-3.ensures.lines i; bytes = c.new-3.ensures.bytes i } };
-      whole = λ i. merge (record { texts = c.in_ok-opening.ensures.texts tells i; inputs = c.in_ok-inputs.ensures i })
-          (record { things = things i; pending = None; change = []; files = one i });
+      whole = (λ i. merge (record { texts = texts i; inputs = c.in_ok-inputs.ensures i }) (state (things_in left c.first_stage.result (lines_at left c.in-Ok-open_change.change) c.new.result) (pending_in c.first_stage.result c.new-2.result.items)
+          (change_in c.first_stage.result (lines_at left c.in-Ok-open_change.change)) (length (names_of c.open_change.new.names))))
+          ∙ begun_coming _ left c.new.result change c.first_stage.result (lines_at left c.in-Ok-open_change.change) c.new-2.result.items (length (names_of c.open_change.new.names)) (left c.in-Some.web.reader)
+          (c.first_stage.ensures ∙ c.in-Ok-open_change.ensures.stage left) (c.in-Ok-open_change.ensures.lines left) (ap (λ (ns : List (List ℕ)). length ns) names)
+          (begun left c.new.result c.in-Ok.web _ c.new.ensures.depth c.new.ensures.texts c.in-Ok.ensures.level.2 c.in-Ok.ensures.level.3 ∙ ap (λ (ls : List SourceLine). raws 1 true ls) (c.in-Ok.ensures.lines left));
     }

@@ -1,8 +1,16 @@
-use Rattle.std.proofs.Common.{◌<◌, length, refl, arith}
-use Rattle.cweb_lines.proofs.Stacks.{pushed}
+use Rattle.std.proofs.Common.{◌<◌, ◌≡◌, ◌+◌, Some, length, refl, arith}
+use Rattle.cweb_lines.proofs.Stacks.{pushed, stays_below, deep-set}
 use Rattle.cweb_lines.proofs.stack.Stack.push.Goals as goal
 
 pub returns-clause-pushes : goal.returns-clause-pushes
-returns-clause-pushes g c = λ left.
+returns-clause-pushes g c =
     let within : c.args.self.now.depth < length c.args.self.now.texts = omega arith in
-    pushed left c.args.self.now _ c.args.text within refl refl
+    pushed c.args.self.now _ c.args.text within refl refl
+
+pub returns-clause-below : goal.returns-clause-below
+returns-clause-below g c = stays_below c.args.self.now.texts _ c.args.self.now.depth c.args.self.now.depth (Some c.args.text) (omega arith) refl
+
+pub returns-clause-deep : goal.returns-clause-deep
+returns-clause-deep g c =
+    let top : c.args.self.now.depth ≡ 0 + c.args.self.now.depth = omega arith in
+    deep-set 0 c.args.self.now.depth c.args.self.now.depth c.args.self.now.texts (Some c.args.text) top c.requires.deep (omega (arith, c.requires.deeper))

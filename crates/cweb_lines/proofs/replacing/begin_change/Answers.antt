@@ -1,0 +1,10 @@
+use Rattle.std.proofs.Common.{ap}
+use Rattle.cweb_lines.specs.Names.{names_of}
+use Rattle.cweb_lines.proofs.Replaces.{tells_front, closes_some}
+use Rattle.cweb_lines.proofs.replacing.begin_change.Goals as goal
+
+pub returns-in-Err-clause-told : goal.returns-in-Err-clause-told
+returns-in-Err-clause-told g c = λ tells. tells_front _ _ _ _ (c.in-Err.ensures.told tells)
+
+pub returns-in-Err-close-clause-told : goal.returns-in-Err-close-clause-told
+returns-in-Err-close-clause-told g c = λ tells. closes_some c.args.begin _ _ _ _ _ _ _ _ (c.in-Ok.ensures.replaced tells) c.in-Err-close.ensures.err (ap names_of c.in-Err-close.ensures.names)

@@ -1,0 +1,131 @@
+// What a merger does at once: it takes a line, or tells a fault.
+ghost use Rattle.std.specs.Prelude.{◌≡◌, ◌≤◌, ◌<◌, ◌+◌, ◌^◌, ◌++◌, ◌∷◌, [], length, IsTrue, IfOk, IfErr, IfSome, Ok, OnOk, OnErr, None};
+ghost use Rattle.cweb_lines.specs.Counts.{count_of};
+ghost use Rattle.cweb_lines.specs.Merging.{NothingLeft, change_lines};
+ghost use Rattle.cweb_lines.specs.Names.{names_of};
+ghost use Rattle.cweb_lines.specs.Stages.{floor_of};
+ghost use Rattle.cweb_lines.specs.Texts.{ReadBlames, Counted, NamesFiles, TakesLine, TakesAbove, StopsFor, StopsReading, FirstStops, StopsAbove, StaysBelow};
+
+use crate::fault::{SourceFault, SourceKind};
+use crate::run::Run;
+use crate::stack::take_above;
+use crate::stage::Stage;
+use crate::stop::Stop;
+use crate::taking::take_from;
+use crate::text::LineAt;
+use cweb_files::{Place, Shelf};
+use std::alloc::AllocError;
+
+impl<R: Drop> Run<R> {
+    /// How many texts stay open while lines are taken.
+    pub fn floor(&self) -> usize
+        ensures { result ≡ floor_of self.now.stage }
+    {
+        match self.stage {
+            Stage::Changing(change) => change.below,
+            Stage::Done | Stage::Seeking | Stage::Waiting(_) => 0,
+        }
+    }
+
+    /// Whether nothing is left.
+    pub fn has_ended(&self) -> bool
+        ensures yes { IsTrue result → NothingLeft self.now }
+        ensures no { NothingLeft self.now → IsTrue result }
+    {
+        self.stack.depth == 0 && self.stage == Stage::Done
+    }
+
+    /// Whether the next line can be given without a read. It is not said where more may have to be read, as where a line
+    /// may begin a change.
+    pub fn has_line(&self) -> bool {
+        match self.stage {
+            Stage::Done => self.stack.has_line(),
+            Stage::Seeking => false,
+            Stage::Waiting(_) => self.stack.has_line() && !self.stack.may_begin_with(&self.first),
+            Stage::Changing(change) => self.stack.depth > change.below && self.stack.has_line(),
+        }
+    }
+
+    /// Tells a fault.
+    pub fn tell(&mut self, kind: SourceKind, place: Place, count: u32) -> Result<(), Stop>
+        requires known { place.file.0 < length (names_of self.old.names) }
+        ensures told { OnOk result (self.new.faults.items ≡ self.old.faults.items ++ record { kind = kind; place = place; count = count } ∷ []) }
+        ensures err { OnErr result (self.new.faults.items ≡ self.old.faults.items) }
+        ensures memory { IfErr result (λ stop. stop ≡ Stop.Memory) }
+        ensures inputs { self.new.inputs ≡ self.old.inputs }
+        ensures stack { self.new.stack ≡ self.old.stack }
+        ensures change { self.new.change ≡ self.old.change }
+        ensures stage { self.new.stage ≡ self.old.stage }
+        ensures first { self.new.first ≡ self.old.first }
+        ensures limits { self.new.limits ≡ self.old.limits }
+        ensures names { self.new.names ≡ self.old.names }
+        ensures stopped { self.new.stopped ≡ self.old.stopped }
+    {
+        let fault = SourceFault { kind, place, count };
+        match self.faults.push(fault) {
+            Ok(()) => Ok(()),
+            Err(e) => Err(AllocError::from(e).into()),
+        }
+    }
+}
+
+/// Takes the next line of the change file.
+pub fn take_change<S: Shelf>(
+    shelf: &mut S,
+    run: &mut Run<S::R>,
+    line: &mut Vec<u8>,
+) -> Result<Option<LineAt>, Stop>
+    requires { S.failed shelf.old + 1 < 2 ^ 64 }
+    ensures tells { S.tells shelf.new ≡ S.tells shelf.old }
+    ensures failed { ReadBlames (S.failed shelf.old) (S.failed shelf.new) result }
+    ensures texts { IsTrue (S.tells shelf.old) → S.texts shelf.new ≡ S.texts shelf.old }
+    ensures others { IsTrue (S.tells shelf.old) → S.left shelf.new ≡ S.left shelf.old }
+    ensures taken { IsTrue (S.tells shelf.old) → IfOk result (λ at. TakesLine (change_lines (S.left shelf.old) run.old) at line.new.items (change_lines (S.left shelf.new) run.new)
+        (count_of run.old.limits) (count_of run.new.limits)) }
+    ensures stops { IsTrue (S.tells shelf.old) → IfErr result (λ stop. StopsFor (FirstStops stop (count_of run.old.limits) (change_lines (S.left shelf.old) run.old)) stop) }
+    ensures counted { Counted (count_of run.old.limits) (count_of run.new.limits) result }
+    ensures known { NamesFiles (length (names_of run.old.names)) result }
+    ensures reading { IfErr result (λ stop. StopsReading stop) }
+    ensures inputs { run.new.inputs ≡ run.old.inputs }
+    ensures stack { run.new.stack ≡ run.old.stack }
+    ensures stage { run.new.stage ≡ run.old.stage }
+    ensures first { run.new.first ≡ run.old.first }
+    ensures faults { run.new.faults ≡ run.old.faults }
+    ensures names { run.new.names ≡ run.old.names }
+    ensures stopped { run.new.stopped ≡ run.old.stopped }
+{
+    take_from(shelf, &mut run.change, &mut run.limits, line)
+}
+
+/// Takes the next line of the open texts, but for those that stay open.
+pub fn take_raw<S: Shelf>(
+    shelf: &mut S,
+    run: &mut Run<S::R>,
+    line: &mut Vec<u8>,
+) -> Result<Option<LineAt>, Stop>
+    requires { S.failed shelf.old + 1 < 2 ^ 64 }
+    ensures tells { S.tells shelf.new ≡ S.tells shelf.old }
+    ensures failed { ReadBlames (S.failed shelf.old) (S.failed shelf.new) result }
+    ensures texts { IsTrue (S.tells shelf.old) → S.texts shelf.new ≡ S.texts shelf.old }
+    ensures others { IsTrue (S.tells shelf.old) → S.left shelf.new ≡ S.left shelf.old }
+    ensures taken { IsTrue (S.tells shelf.old) → IfOk result (λ at. TakesAbove (S.left shelf.old) (S.left shelf.new) (floor_of run.old.stage) run.old.stack run.new.stack at line.new.items
+        (count_of run.old.limits) (count_of run.new.limits)) }
+    ensures stops { IsTrue (S.tells shelf.old) → IfErr result (λ stop. StopsFor (StopsAbove (S.left shelf.old) (floor_of run.old.stage) run.old.stack stop (count_of run.old.limits)) stop) }
+    ensures below { StaysBelow (floor_of run.old.stage) run.old.stack.texts run.new.stack.texts }
+    ensures ended { result ≡ Ok None → run.new.stack.depth ≡ floor_of run.old.stage }
+    ensures deeper { IfOk result (λ at. IfSome at (λ a. run.new.stack.depth ≤ a.depth)) }
+    ensures counted { Counted (count_of run.old.limits) (count_of run.new.limits) result }
+    ensures known { NamesFiles (length (names_of run.old.names)) result }
+    ensures reading { IfErr result (λ stop. StopsReading stop) }
+    ensures shallow { run.new.stack.depth ≤ run.old.stack.depth }
+    ensures inputs { run.new.inputs ≡ run.old.inputs }
+    ensures change { run.new.change ≡ run.old.change }
+    ensures stage { run.new.stage ≡ run.old.stage }
+    ensures first { run.new.first ≡ run.old.first }
+    ensures faults { run.new.faults ≡ run.old.faults }
+    ensures names { run.new.names ≡ run.old.names }
+    ensures stopped { run.new.stopped ≡ run.old.stopped }
+{
+    let low = run.floor();
+    take_above(shelf, &mut run.stack, low, &mut run.limits, line)
+}
