@@ -1,6 +1,14 @@
 -- Worked examples, computed from the definitions.
-use Rattle.std.proofs.Common.{◌≡◌, [], ◌∷◌, Some, None, refl}
+use Rattle.std.proofs.Common.{◌≡◌, ℕ, List, [], ◌∷◌, ◌++◌, Option, Some, None, refl, cond}
 use Rattle.std.specs.Prelude.{codes}
+use Rattle.std.specs.Fmt.{digits}
+use Rattle.std.specs.Str.{bytes_eq}
+use Rattle.cweb_files.specs.declared.place.Place.{Place}
+use Rattle.cweb_lines.specs.declared.fault.SourceFault.{SourceFault}
+use Rattle.cweb_lines.specs.declared.fault.SourceKind.TheVariants.{NotThere, Unequal}
+use Rattle.cweb_lines.specs.declared.stop.Stop.TheVariants.{Usage, WebNotOpened, ChangeNotOpened, LineTooLong, WriteFault, Memory}
+use Rattle.cweb_tools.specs.Log.{fault_line, fault_lines, stop_line, subject}
+use Rattle.cweb_tools.specs.Run.{Course, unread, not_there, change_not_there, course_of, merge_log, usage}
 use Rattle.cweb_tools.specs.Words.{asked_by}
 
 -- a word without a dot in its last path part is given `.w`, and `.web` as a second try
@@ -29,6 +37,80 @@ option_word = refl
 control_byte : asked_by ((97 ∷ 127 ∷ []) ∷ []) ≡ None
 control_byte = refl
 
+-- a change file is given `.ch`, and there is no second try
+change_without_extension : asked_by (codes "m.w" ∷ codes "d.d/c" ∷ []) ≡ Some (record { web = codes "m.w"; second = None; change = Some (codes "d.d/c.ch") })
+change_without_extension = refl
+
+change_with_extension : asked_by (codes "m" ∷ codes "d/c.x" ∷ []) ≡ Some (record { web = codes "m.w"; second = Some (codes "m.web"); change = Some (codes "d/c.x") })
+change_with_extension = refl
+
+change_of_plus : asked_by (codes "m.w" ∷ codes "+" ∷ []) ≡ Some (record { web = codes "m.w"; second = None; change = Some (codes "+.ch") })
+change_of_plus = refl
+
 -- a lone `-` as second word means no change file
 dash_second : asked_by (codes "a" ∷ codes "-" ∷ []) ≡ asked_by (codes "a" ∷ [])
 dash_second = refl
+
+dash_first : asked_by (codes "-" ∷ codes "c" ∷ []) ≡ None
+dash_first = refl
+
+option_second : asked_by (codes "m" ∷ codes "-b" ∷ []) ≡ None
+option_second = refl
+
+empty_second : asked_by (codes "m" ∷ [] ∷ []) ≡ None
+empty_second = refl
+
+control_byte_second : asked_by (codes "m" ∷ (99 ∷ 31 ∷ []) ∷ []) ≡ None
+control_byte_second = refl
+
+three_words : asked_by (codes "m" ∷ codes "c" ∷ codes "x" ∷ []) ≡ None
+three_words = refl
+
+-- lines of the log
+abbrev place : ℕ → ℕ → Place
+place file line = record { file = record { 0 = file }; line = line }
+
+include_not_there : fault_line (codes "a.w" ∷ []) (record { kind = NotThere; place = place 0 2; count = 0 }) ≡ codes "a.w:2: ! Cannot open include file\n"
+unfolding digits
+include_not_there = refl
+
+unequal_lines : fault_line (codes "m.w" ∷ codes "c.ch" ∷ []) (record { kind = Unequal; place = place 1 1; count = 12 }) ≡ codes "c.ch:1: ! Lines that failed to match: 12\n"
+unfolding digits
+unequal_lines = refl
+
+two_faults : fault_lines (codes "m.w" ∷ codes "c.ch" ∷ []) (record { kind = Unequal; place = place 1 10; count = 1 } ∷ record { kind = NotThere; place = place 0 3; count = 0 } ∷ [])
+    ≡ codes "c.ch:10: ! Lines that failed to match: 1\nm.w:3: ! Cannot open include file\n"
+unfolding digits
+two_faults = refl
+
+usage_line : stop_line Usage usage ≡ codes "! Usage: wmerge webfile[.w] [{changefile[.ch]|-}]\n"
+usage_line = refl
+
+web_line : stop_line WebNotOpened (codes "gone.w") ≡ codes "! Cannot open web file gone.w\n"
+web_line = refl
+
+change_line : stop_line ChangeNotOpened (codes "gone.ch") ≡ codes "! Cannot open change file gone.ch\n"
+change_line = refl
+
+memory_line : stop_line Memory (codes "gone.ch") ≡ codes "! Out of memory\n"
+memory_line = refl
+
+long_line : stop_line (LineTooLong (record { 0 = 1 })) (subject (codes "m.w" ∷ codes "c.ch" ∷ []) (LineTooLong (record { 0 = 1 }))) ≡ codes "! Line too long in c.ch\n"
+long_line = refl
+
+write_line : stop_line WriteFault (subject [] WriteFault) ≡ codes "! Write fault on standard output\n"
+write_line = refl
+
+-- a folder that holds one web alone
+abbrev one_web : List ℕ → Option (List ℕ)
+one_web name = cond (bytes_eq name (codes "m.web")) (Some (codes "A\n")) None
+
+change_missing : course_of one_web (codes "m" ∷ codes "gone" ∷ []) None ≡ change_not_there (codes "gone.ch")
+change_missing = refl
+
+-- where both are missing the line is about the web, by the name that was tried first
+both_missing : merge_log (course_of one_web (codes "n" ∷ codes "gone" ∷ []) None) ≡ codes "! Cannot open web file n.w\n"
+both_missing = refl
+
+misread : course_of one_web (codes "-" ∷ codes "m" ∷ []) None ≡ unread
+misread = refl

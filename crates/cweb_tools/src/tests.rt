@@ -6,6 +6,7 @@ use std::io::Write;
 use std::process::Abort;
 use std::test::Fail;
 
+mod command_line;
 mod failing;
 
 use failing::{FailingShelf, FailingSink};
@@ -83,7 +84,6 @@ fn merged_lines_and_their_log(rt: HostRuntime) -> Result<(), Fail> {
     check_run(&rt, &[], None, &[], "", usage, 1)?;
     check_run(&rt, &["-"], None, &[("-.w", b"x\n")], "", usage, 1)?;
     check_run(&rt, &["-h"], None, &[], "", usage, 1)?;
-    check_run(&rt, &["a", "-"], None, &[("a.w", b"x\n")], "", usage, 1)?;
     check_run(&rt, &["+"], None, &[("+.w", b"x\n")], "x\n", "", 0)?;
     Ok(())
 }

@@ -6,7 +6,7 @@ use Rattle.cweb_tools.proofs.words.MergeWords.read.Goals as goal
 pub returns-in_default-clause-usage : goal.returns-in_default-clause-usage
 returns-in_default-clause-usage c = (
   λ is. elim c.in_default.branch [
-    in_default-via-then-words-lt1 w ↦ no_words c.args.words.now (grind arith)
+    | in_default-via-then-words-lt1 w ↦ no_words c.args.words.now (grind arith)
     | in_default-via-else-words-lt1+else-words-lt2+else-words-lt3 w ↦ too_many_words c.args.words.now (grind arith)
   ],
   λ none. refl,
