@@ -6,7 +6,7 @@ WMERGE := crates/wmerge/out/wmerge
 .PHONY: help demo check build install bench clean
 
 help:
-	@echo 'make demo              builds wmerge and prints the merged lines of the example web'
+	@echo 'make demo              builds wmerge and prints the merged lines of the example web, then with its change file'
 	@echo 'make check             the gate: proves every crate from nothing, and runs all tests and programs'
 	@echo 'make build             proves and builds wmerge'
 	@echo 'make install PREFIX=.. builds wmerge and copies it to PREFIX/bin (PREFIX is $(PREFIX))'
@@ -21,6 +21,8 @@ build:
 demo: build
 	@echo '--- wmerge tally, in the folder examples: tally.w with counting.w in place of its @i line'
 	@cd examples && ../$(WMERGE) tally
+	@echo '--- wmerge tally tally: the same, with the changes of tally.ch'
+	@cd examples && ../$(WMERGE) tally tally
 
 check:
 	@.ci/run

@@ -1,4 +1,4 @@
-//! `wmerge` prints the merged lines of a web: `wmerge webfile[.w]`.
+//! `wmerge` prints the merged lines of a web, with a change file's changes: `wmerge webfile[.w] [{changefile[.ch]|-}]`.
 #![tactic(auto)]
 
 use cweb_lines::Stop;
