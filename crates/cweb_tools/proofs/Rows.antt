@@ -1,14 +1,16 @@
 -- Worked examples, computed from the definitions.
-use Rattle.std.proofs.Common.{◌≡◌, ℕ, List, [], ◌∷◌, ◌++◌, Option, Some, None, refl, cond}
+use Rattle.std.proofs.Common.{◌≡◌, ℕ, List, [], ◌∷◌, Option, Some, None, refl, ap, cond}
 use Rattle.std.specs.Prelude.{codes}
 use Rattle.std.specs.Fmt.{digits}
 use Rattle.std.specs.Str.{bytes_eq}
 use Rattle.cweb_files.specs.declared.place.Place.{Place}
-use Rattle.cweb_lines.specs.declared.fault.SourceFault.{SourceFault}
 use Rattle.cweb_lines.specs.declared.fault.SourceKind.TheVariants.{NotThere, Unequal}
 use Rattle.cweb_lines.specs.declared.stop.Stop.TheVariants.{Usage, WebNotOpened, ChangeNotOpened, LineTooLong, WriteFault, Memory}
+use Rattle.cweb_lines.specs.Include.{World}
+use Rattle.cweb_lines.specs.Merge.{Event, State, run, started}
+use Rattle.cweb_lines.specs.Total.{merge-run}
 use Rattle.cweb_tools.specs.Log.{fault_line, fault_lines, stop_line, subject}
-use Rattle.cweb_tools.specs.Run.{Course, unread, not_there, change_not_there, course_of, merge_log, usage}
+use Rattle.cweb_tools.specs.Run.{Course, unread, change_not_there, merging, course_of, merged, merge_log, merge_status, usage}
 use Rattle.cweb_tools.specs.Words.{asked_by}
 
 -- a word without a dot in its last path part is given `.w`, and `.web` as a second try
@@ -48,8 +50,8 @@ change_of_plus : asked_by (codes "m.w" ∷ codes "+" ∷ []) ≡ Some (record { 
 change_of_plus = refl
 
 -- a lone `-` as second word means no change file
-dash_second : asked_by (codes "a" ∷ codes "-" ∷ []) ≡ asked_by (codes "a" ∷ [])
-dash_second = refl
+dash_second : (web : List ℕ) → asked_by (web ∷ codes "-" ∷ []) ≡ asked_by (web ∷ [])
+dash_second web = refl
 
 dash_first : asked_by (codes "-" ∷ codes "c" ∷ []) ≡ None
 dash_first = refl
@@ -114,3 +116,39 @@ both_missing = refl
 
 misread : course_of one_web (codes "-" ∷ codes "m" ∷ []) None ≡ unread
 misread = refl
+
+-- a folder with a web and a change file, of whose entries the first replaces a line and the second matches none
+abbrev web_and_change : List ℕ → Option (List ℕ)
+web_and_change name =
+    cond (bytes_eq name (codes "m.w")) (Some (codes "A\nB\n"))
+    (cond (bytes_eq name (codes "c.ch")) (Some (codes "@x\nA\n@y\nN\n@z\n@x\nZ\n@y\n@z\n")) None)
+
+abbrev there : World
+there = record { texts = web_and_change; inputs = None }
+
+abbrev begun : State
+begun = started (codes "A\nB\n") (Some (codes "@x\nA\n@y\nN\n@z\n@x\nZ\n@y\n@z\n"))
+
+abbrev events_of : Option (List Event) → List Event
+events_of None = []
+events_of (Some events) = events
+
+abbrev changed_course : Course
+changed_course = merging (codes "m.w" ∷ codes "c.ch" ∷ []) (events_of (run 20 there begun))
+
+changed_run : course_of web_and_change (codes "m" ∷ codes "c" ∷ []) None ≡ changed_course
+changed_run = ap (λ (events : List Event). merging (codes "m.w" ∷ codes "c.ch" ∷ []) events) (merge-run 20 there begun (events_of (run 20 there begun)) refl)
+
+changed_text : merged changed_course ≡ codes "N\nB\n"
+changed_text = refl
+
+changed_log : merge_log changed_course ≡ codes "c.ch:6: ! Change entry did not match\n"
+unfolding digits
+changed_log = refl
+
+changed_status : merge_status changed_course ≡ 1
+changed_status = refl
+
+-- with a lone `-` the change file is left alone
+unchanged_run : course_of web_and_change (codes "m" ∷ codes "-" ∷ []) None ≡ course_of web_and_change (codes "m" ∷ []) None
+unchanged_run = refl
