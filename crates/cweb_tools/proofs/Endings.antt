@@ -58,11 +58,24 @@ pub wants_memory : (course : Course) (before after : Devices) (status : ℕ) (na
 wants_memory course before after status name shelf out same logs one =
     stops (record { stop = Memory; names = []; opened = none_opened course; cause = (shelf, out); front = none_written before.out after.out (merged course) same; logged = logs; answered = one })
 
+-- a run that opens nothing: its words can't be read, or a file is not there
+opens_nothing : (course : Course) (line : List ℕ) (before after : Devices) (status : ℕ) → StaysWithin course → merged course ≡ [] → merge_log course ≡ line → merge_status course ≡ 1
+    → after.shelf_failed ≡ before.shelf_failed → after.out_failed ≡ before.out_failed → after.out ≡ before.out
+    → Logs line before.log_failed after.log_failed before.log after.log → status ≡ 1 → Ends course before after status
+opens_nothing course line before after status kept empty line_is one_is shelf out same logs one =
+    completes (record {
+      kept = kept;
+      read = shelf;
+      printed = out;
+      written = same ∙ sym (append-nil before.out) ∙ ap (λ (t : List ℕ). before.out ++ t) (sym empty);
+      logged = subst (λ (t : List ℕ). Logs t before.log_failed after.log_failed before.log after.log) (sym line_is) logs;
+      answered = λ told. one ∙ sym one_is;
+    })
+
 unread_ends : (world : World) (asked : Option WebNames) (before after : Devices) (status : ℕ) → asked ≡ None
     → after.shelf_failed ≡ before.shelf_failed → after.out_failed ≡ before.out_failed → after.out ≡ before.out
     → Logs (stop_line Usage usage) before.log_failed after.log_failed before.log after.log → status ≡ 1 → Ends (asked_course world asked) before after status
-unread_ends world None before after status none shelf out same logs one =
-    completes (record { kept = tt; read = shelf; printed = out; written = same ∙ sym (append-nil before.out); logged = logs; answered = λ told. one })
+unread_ends world None before after status none shelf out same logs one = opens_nothing unread _ before after status tt refl refl refl shelf out same logs one
 unread_ends world (Some names) before after status none shelf out same logs one = absurd (cc)
 
 pub words_stopped : (stop : Stop) (world : World) (asked : Option WebNames) (before after : Devices) (status : ℕ) → (stop ≡ Usage) ⊎ (stop ≡ Memory) → (stop ≡ Usage → asked ≡ None)
@@ -73,25 +86,11 @@ words_stopped stop world asked before after status (inl is) none shelf out same 
 words_stopped stop world asked before after status (inr is) none shelf out same logs one =
     wants_memory (asked_course world asked) before after status usage shelf out same (subst (λ (s : Stop). Logs (stop_line s usage) before.log_failed after.log_failed before.log after.log) is logs) one
 
--- a run that opens nothing, since a file is not there
-nothing_opened : (course : Course) (line : List ℕ) (before after : Devices) (status : ℕ) → StaysWithin course → merged course ≡ [] → merge_log course ≡ line → merge_status course ≡ 1
-    → after.shelf_failed ≡ before.shelf_failed → after.out_failed ≡ before.out_failed → after.out ≡ before.out
-    → Logs line before.log_failed after.log_failed before.log after.log → status ≡ 1 → Ends course before after status
-nothing_opened course line before after status kept empty line_is one_is shelf out same logs one =
-    completes (record {
-      kept = kept;
-      read = shelf;
-      printed = out;
-      written = same ∙ sym (append-nil before.out) ∙ ap (λ (t : List ℕ). before.out ++ t) (sym empty);
-      logged = subst (λ (t : List ℕ). Logs t before.log_failed after.log_failed before.log after.log) (sym line_is) logs;
-      answered = λ told. one ∙ sym one_is;
-    })
-
 not_there_ends : (world : World) (names : WebNames) (found : Option Found) (changes : Option (Option Found)) (before after : Devices) (status : ℕ) → found ≡ None
     → after.shelf_failed ≡ before.shelf_failed → after.out_failed ≡ before.out_failed → after.out ≡ before.out
     → Logs (stop_line WebNotOpened names.web) before.log_failed after.log_failed before.log after.log → status ≡ 1 → Ends (found_course world names found changes) before after status
 not_there_ends world names None changes before after status none shelf out same logs one =
-    nothing_opened (not_there names.web) _ before after status tt refl refl refl shelf out same logs one
+    opens_nothing (not_there names.web) _ before after status tt refl refl refl shelf out same logs one
 not_there_ends world names (Some web) changes before after status none shelf out same logs one = absurd (cc)
 
 change_not_there_ends : (world : World) (names : WebNames) (found : Option Found) (changes : Option (Option Found)) (web : Found) (before after : Devices) (status : ℕ) → found ≡ Some web → changes ≡ None
@@ -100,7 +99,7 @@ change_not_there_ends : (world : World) (names : WebNames) (found : Option Found
 change_not_there_ends world names None changes web before after status there none shelf out same logs one = absurd (cc)
 change_not_there_ends world names (Some found) (Some change) web before after status there none shelf out same logs one = absurd (cc)
 change_not_there_ends world names (Some found) None web before after status there none shelf out same logs one =
-    nothing_opened (change_not_there (change_name names.change)) _ before after status tt refl refl refl shelf out same logs one
+    opens_nothing (change_not_there (change_name names.change)) _ before after status tt refl refl refl shelf out same logs one
 
 pub start_stopped : (stop : Stop) (world : World) (names : WebNames) (found : Option Found) (changes : Option (Option Found)) (before after : Devices) (status : ℕ) → StopsAtStart stop found changes
     → after.shelf_failed ≡ before.shelf_failed → after.out_failed ≡ before.out_failed → after.out ≡ before.out

@@ -28,24 +28,16 @@ pub data Course : Type 0 where
   change_not_there : List ℕ → Course
   merging : List (List ℕ) → List Event → Course
 
-abbrev pub begun_course : World → Found → Option Found → Course
-begun_course world web change = merging (web.0 ∷ names_found change) (merge world (started web.1 (text_found change)))
-
 -- the change file's name, and no bytes where none is named
 abbrev pub change_name : Option (List ℕ) → List ℕ
 change_name None = []
 change_name (Some name) = name
 
--- what a stop at the start of a merge is about
-abbrev pub start_subject : WebNames → Stop → List ℕ
-start_subject names ChangeNotOpened = change_name names.change
-start_subject names _ = names.web
-
 -- by the web and the change file that were found
 abbrev pub found_course : World → WebNames → Option Found → Option (Option Found) → Course
 found_course world names None changes = not_there names.web
 found_course world names (Some web) None = change_not_there (change_name names.change)
-found_course world names (Some web) (Some change) = begun_course world web change
+found_course world names (Some web) (Some change) = merging (web.0 ∷ names_found change) (merge world (started web.1 (text_found change)))
 
 abbrev pub asked_course : World → Option WebNames → Course
 asked_course world None = unread
@@ -53,6 +45,11 @@ asked_course world (Some names) = found_course world names (web_at world.texts n
 
 abbrev pub course_of : (List ℕ → Option (List ℕ)) → List (List ℕ) → Option (List ℕ) → Course
 course_of texts words inputs = asked_course (record { texts = texts; inputs = folder_of inputs }) (asked_by words)
+
+-- what a stop at the start of a merge is about
+abbrev pub start_subject : WebNames → Stop → List ℕ
+start_subject names ChangeNotOpened = change_name names.change
+start_subject names _ = names.web
 
 -- the merged lines, each with a newline
 abbrev pub merged : Course → List ℕ
