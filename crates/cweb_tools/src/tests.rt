@@ -6,6 +6,7 @@ use std::io::Write;
 use std::process::Abort;
 use std::test::Fail;
 
+mod changes;
 mod command_line;
 mod failing;
 
