@@ -1,22 +1,34 @@
 // A read, a write or an allocation that fails in the midst of a run.
 use super::devices::{OneReadFails, SmallSink};
 use super::*;
+use std::process::Abort;
 
 const FILES: [(&str, &[u8]); 2] = [("a.w", b"one\n@i b.w\n@i gone\nthree\n"), ("b.w", b"two\n")];
 
 const MERGED: &[u8] = b"one\ntwo\nthree\n";
+
+// A web with a change file, whose runs tell a fault in each part of it.
+const CHANGED: [(&str, &[u8]); 3] = [
+    ("a.w", b"one\n@i b.w\n@i gone\nthree\nfour\n"),
+    ("b.w", b"two\n"),
+    (
+        "c.ch",
+        b"@z\n@x\n@i gone\n3\n@y\n@i b.w\n@i\nthree\n@z\n@x\nfive\n@y\n@z\n",
+    ),
+];
+
+const MERGED_CHANGED: &[u8] = b"one\ntwo\ntwo\nthree\nfour\n";
+
+const FAULTS_CHANGED: &str =
+    "MissingX in 1 at 1\nUnequal in 1 at 2: 1\nNoName in 1 at 7\nNoMatch in 1 at 10\n";
 
 // Each text is read twice: its bytes, and then none.
 #[test]
 fn a_read_that_fails(rt: HostRuntime) -> Result<(), Fail> {
     let alloc = rt.alloc();
     for (fails_at, file, lines) in [(1, 0, 0), (2, 1, 1), (3, 1, 2), (4, 0, 3)] {
-        let mut shelf = OneReadFails {
-            shelf: shelf_of(alloc, &FILES)?,
-            reads: 0,
-            fails_at,
-            failed: 0,
-        };
+        let mut shelf = OneReadFails::new(shelf_of(alloc, &FILES)?);
+        shelf.fails_at = fails_at;
         let mut merger = Merger::start(alloc, &mut shelf, "a.w", None, None, None)?;
         let mut line = Vec::new(alloc);
         for _ in 0..lines {
@@ -39,6 +51,54 @@ fn a_read_that_fails(rt: HostRuntime) -> Result<(), Fail> {
         let mut sink = SmallSink::new(alloc);
         assert_eq!(rt; write_merged(&mut merger, &mut shelf, &mut sink), Err(stop));
         assert_eq!(rt; sink.writes, 0);
+    }
+    Ok(())
+}
+
+// A merger of which a read has failed: it answers that text's stop, and reads no more.
+fn stays_stopped(
+    rt: &(impl AllocGlobal + Abort),
+    merger: &mut Merger<OneReadFails>,
+    shelf: &mut OneReadFails,
+    ended: Result<(), Stop>,
+) -> Result<(), Fail> {
+    let stop = Stop::ReadFault(FileId(shelf.failed_in));
+    assert_eq!(rt; ended, Err(stop), "at {}", shelf.fails_at);
+    let mut line = Vec::new(rt.alloc());
+    line.push(b'x')?;
+    assert_eq!(rt; shelf.failed, 1);
+    assert!(rt; shelf.failed < 2);
+    assert_eq!(rt; merger.next_line(shelf, &mut line), Err(stop));
+    assert!(rt; line.is_empty());
+    assert_eq!(rt; shelf.reads, shelf.fails_at);
+    Ok(())
+}
+
+// Each read in turn, where a byte is read at once: the texts of the web, twice that of `b.w`, each with its end, and the
+// change file up to the first old line of the entry that waits.
+#[test]
+fn each_read_that_fails(rt: HostRuntime) -> Result<(), Fail> {
+    let alloc = rt.alloc();
+    let mut least = 0;
+    for fails_at in 1..89 {
+        let mut shelf = OneReadFails::new(shelf_of(alloc, &CHANGED)?);
+        shelf.most = 1;
+        shelf.fails_at = fails_at;
+        let mut merger = Merger::start(alloc, &mut shelf, "a.w", None, Some("c.ch"), None)?;
+        let mut sink = SmallSink::new(alloc);
+        let ended = write_merged(&mut merger, &mut shelf, &mut sink);
+        assert!(rt; MERGED_CHANGED.starts_with(&sink.bytes));
+        assert!(rt; least <= sink.bytes.len());
+        least = sink.bytes.len();
+        let told = faults_told(alloc, &merger)?;
+        assert!(rt; FAULTS_CHANGED.starts_with(told.as_str()));
+        if fails_at < 88 {
+            stays_stopped(&rt, &mut merger, &mut shelf, ended)?;
+        } else {
+            assert_eq!(rt; ended, Ok(()));
+            assert_eq!(rt; sink.bytes.as_slice(), MERGED_CHANGED);
+            assert_eq!(rt; told.as_str(), FAULTS_CHANGED);
+        }
     }
     Ok(())
 }
@@ -70,23 +130,31 @@ fn a_write_that_fails(rt: HostRuntime) -> Result<(), Fail> {
 }
 
 // The devices of a run, before anything of it is allocated.
-fn devices(alloc: Global) -> Result<(MemoryShelf, MemorySink, MemorySink), AllocError> {
-    let shelf = shelf_of(alloc, &FILES)?;
+fn devices(
+    alloc: Global,
+    files: &[(&str, &[u8])],
+) -> Result<(MemoryShelf, MemorySink, MemorySink), AllocError> {
+    let shelf = shelf_of(alloc, files)?;
     let sink = MemorySink::with_room(alloc, 100)?;
     let after = MemorySink::with_room(alloc, 100)?;
     Ok((shelf, sink, after))
 }
 
-// Run by `rt try --test --fail-alloc 1..`, which refuses each allocation of the run in turn.
-#[test]
-fn memory_that_is_refused(rt: HostRuntime) -> Result<(), Fail> {
+// A run that gives this text and so many faults where no memory is refused, and else a front of them.
+fn refuse_memory(
+    rt: &(impl AllocGlobal + Abort),
+    files: &[(&str, &[u8])],
+    change: Option<&str>,
+    merged: &[u8],
+    faults: usize,
+) -> Result<(), Fail> {
     let alloc = rt.alloc();
-    let Ok((mut shelf, mut sink, mut after)) = devices(alloc) else {
+    let Ok((mut shelf, mut sink, mut after)) = devices(alloc, files) else {
         return Ok(());
     };
     assert_eq!(rt; sink.failures(), 0);
     assert_eq!(rt; after.failures(), 0);
-    let mut merger = match Merger::start(alloc, &mut shelf, "a.w", None, None, Some("lib")) {
+    let mut merger = match Merger::start(alloc, &mut shelf, "a.w", None, change, Some("lib")) {
         Ok(merger) => merger,
         Err(stop) => {
             assert_eq!(rt; stop, Stop::Memory);
@@ -94,11 +162,12 @@ fn memory_that_is_refused(rt: HostRuntime) -> Result<(), Fail> {
         }
     };
     let Err(stop) = write_merged_in_pieces(&mut merger, &mut shelf, &mut sink, 6) else {
-        assert_eq!(rt; sink.bytes(), MERGED);
+        assert_eq!(rt; sink.bytes(), merged);
+        assert_eq!(rt; merger.faults().len(), faults);
         return Ok(());
     };
     assert_eq!(rt; stop, Stop::Memory);
-    assert!(rt; MERGED.starts_with(sink.bytes()));
+    assert!(rt; merged.starts_with(sink.bytes()));
     let mut line = Vec::new(alloc);
     assert_eq!(rt; merger.next_line(&mut shelf, &mut line), Err(Stop::Memory));
     assert_eq!(rt;
@@ -107,4 +176,15 @@ fn memory_that_is_refused(rt: HostRuntime) -> Result<(), Fail> {
     );
     assert_eq!(rt; after.bytes(), b"".as_slice());
     Ok(())
+}
+
+// Run by `rt try --test --fail-alloc 1..`, which refuses each allocation of the runs in turn.
+#[test]
+fn memory_that_is_refused(rt: HostRuntime) -> Result<(), Fail> {
+    refuse_memory(&rt, &FILES, None, MERGED, 1)
+}
+
+#[test]
+fn memory_that_is_refused_within_changes(rt: HostRuntime) -> Result<(), Fail> {
+    refuse_memory(&rt, &CHANGED, Some("c.ch"), MERGED_CHANGED, 4)
 }

@@ -1,5 +1,5 @@
 // Lines that are too long, and texts that are too long.
-use super::devices::Endless;
+use super::devices::{Endless, EndlessChange};
 use super::*;
 use std::process::Abort;
 
@@ -78,4 +78,54 @@ fn empty_lines_that_never_end(rt: HostRuntime) -> Result<(), Fail> {
 #[test]
 fn long_lines_that_never_end(rt: HostRuntime) -> Result<(), Fail> {
     take_all(&rt, 1_048_575, 1024)
+}
+
+// So many lines of an endless change file, and then a stop.
+fn take_changed(
+    rt: &(impl AllocGlobal + Abort),
+    shelf: &mut EndlessChange,
+    lines: u32,
+) -> Result<(), Fail> {
+    let mut merger = Merger::start(rt.alloc(), shelf, "a.w", None, Some("c.ch"), None)?;
+    let mut line = Vec::new(rt.alloc());
+    for i in 0..lines {
+        let want = Place {
+            file: FileId(1),
+            line: i + 4,
+        };
+        assert_eq!(rt; merger.next_line(shelf, &mut line)?, Some(want));
+    }
+    for _ in 0..2 {
+        let stop = Err(Stop::TooMuchText);
+        assert_eq!(rt; merger.next_line(shelf, &mut line), stop);
+        assert!(rt; line.is_empty());
+    }
+    assert_eq!(rt;
+        told(rt.alloc(), &merger)?.as_str(),
+        "0 is a.w\n1 is c.ch\n"
+    );
+    Ok(())
+}
+
+#[test]
+fn change_files_that_never_end(rt: HostRuntime) -> Result<(), Fail> {
+    // what comes before the lines that never end, how long they are, and how many of them are given out
+    for (front, length, lines) in [
+        // outside an entry
+        ("", 1_048_575, 0),
+        // empty ones behind an @x line
+        ("@x\n", 0, 0),
+        // old lines
+        ("@x\nA\n", 0, 0),
+        // new lines
+        ("@x\nA\n@y\n", 1_048_575, 1023),
+    ] {
+        let files = [("a.w", b"A\n".as_slice()), ("c.ch", front.as_bytes())];
+        let mut shelf = EndlessChange {
+            shelf: shelf_of(rt.alloc(), &files)?,
+            lines: Endless { length },
+        };
+        take_changed(&rt, &mut shelf, lines)?;
+    }
+    Ok(())
 }
