@@ -85,6 +85,7 @@ fn obey<S: Shelf>(shelf: &mut S, run: &mut Run<S::R>, line: &[u8], at: LineAt) -
 }
 
 /// Gives a line out that was taken and begins no change, or obeys it where it is an include line.
+#[inline(always)]
 pub fn give<S: Shelf>(
     shelf: &mut S,
     run: &mut Run<S::R>,

@@ -98,6 +98,7 @@ pub fn take_change<S: Shelf>(
 }
 
 /// Takes the next line of the open texts, but for those that stay open.
+#[inline(always)]
 pub fn take_raw<S: Shelf>(
     shelf: &mut S,
     run: &mut Run<S::R>,

@@ -83,6 +83,7 @@ impl<R: Drop> Stack<R> {
 }
 
 // Takes a line of the deepest text, or closes it where it has no more.
+#[inline(always)]
 fn take_top<S: Shelf>(
     shelf: &mut S,
     stack: &mut Stack<S::R>,
@@ -125,6 +126,7 @@ fn take_top<S: Shelf>(
 
 /// Takes the next line of the texts above a low place, and closes those that have no more. There is none where all of
 /// them have ended.
+#[inline(always)]
 pub fn take_above<S: Shelf>(
     shelf: &mut S,
     stack: &mut Stack<S::R>,

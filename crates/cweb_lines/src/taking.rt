@@ -48,6 +48,7 @@ fn newline_size(taken: Taken) -> usize
     }
 }
 
+#[inline(always)]
 fn take_line<S: Shelf>(
     shelf: &mut S,
     text: &mut OpenText<S::R>,
@@ -96,6 +97,7 @@ fn take_line<S: Shelf>(
 }
 
 // Takes a line of a text, where one is open.
+#[inline(always)]
 pub fn take_from<S: Shelf>(
     shelf: &mut S,
     slot: &mut Option<OpenText<S::R>>,
