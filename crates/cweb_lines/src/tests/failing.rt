@@ -103,6 +103,38 @@ fn each_read_that_fails(rt: HostRuntime) -> Result<(), Fail> {
     Ok(())
 }
 
+// What is written until a read fails, where lines are gathered up to so many bytes.
+fn written(alloc: Global, fails_at: u64, most: usize, room: usize) -> Result<Vec<u8>, Fail> {
+    let mut shelf = OneReadFails::new(shelf_of(alloc, &CHANGED)?);
+    shelf.most = most;
+    shelf.fails_at = fails_at;
+    let mut merger = Merger::start(alloc, &mut shelf, "a.w", None, Some("c.ch"), None)?;
+    let mut sink = SmallSink::new(alloc);
+    if let Err(stop) = write_merged_in_pieces(&mut merger, &mut shelf, &mut sink, room) {
+        if shelf.failed == 0 {
+            return Err(stop.into());
+        }
+    }
+    Ok(sink.bytes)
+}
+
+// A read that fails loses no line that could be given before it.
+#[test]
+fn lines_gathered_before_a_read_that_fails(rt: HostRuntime) -> Result<(), Fail> {
+    for most in [7, 12, 24, usize::MAX] {
+        for fails_at in 1..19 {
+            let at_once = written(rt.alloc(), fails_at, most, 0)?;
+            let gathered = written(rt.alloc(), fails_at, most, 65536)?;
+            assert_eq!(rt;
+                gathered.as_slice(),
+                at_once.as_slice(),
+                "at {fails_at}, {most} at once"
+            );
+        }
+    }
+    Ok(())
+}
+
 #[test]
 fn a_write_that_fails(rt: HostRuntime) -> Result<(), Fail> {
     let alloc = rt.alloc();
