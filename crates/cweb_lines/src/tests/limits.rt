@@ -84,14 +84,14 @@ fn long_lines_that_never_end(rt: HostRuntime) -> Result<(), Fail> {
 fn take_changed(
     rt: &(impl AllocGlobal + Abort),
     shelf: &mut EndlessChange,
-    lines: u32,
+    lines: u16,
 ) -> Result<(), Fail> {
     let mut merger = Merger::start(rt.alloc(), shelf, "a.w", None, Some("c.ch"), None)?;
     let mut line = Vec::new(rt.alloc());
     for i in 0..lines {
         let want = Place {
             file: FileId(1),
-            line: i + 4,
+            line: u32::from(i) + 4,
         };
         assert_eq!(rt; merger.next_line(shelf, &mut line)?, Some(want));
     }
