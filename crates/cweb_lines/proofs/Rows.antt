@@ -11,6 +11,7 @@ use Rattle.cweb_lines.specs.Lines.{Line, lines}
 use Rattle.cweb_lines.specs.Include.{World}
 use Rattle.cweb_lines.specs.Merge.{Event, run, started}
 use Rattle.cweb_lines.specs.Told.{given_lines, told_faults, openings}
+use Rattle.cweb_lines.specs.declared.limits.TheConstants.{LINE_LENGTH, LINES, BYTES}
 
 -- what comes out, without the lines taken
 record Outcome : Type 0 where
@@ -125,3 +126,13 @@ new_lines_do_not_match : outcome_of (run 30 (one_text (codes "inc.w") (codes "B\
     ≡ Some (record { lines = line (codes "B") 2 1 ∷ line (codes "C") 1 9 ∷ []; faults = []; names = codes "inc.w" ∷ [] })
 unfolding is_utf8 chars encode
 new_lines_do_not_match = refl
+
+-- the limits
+longest : LINE_LENGTH ≡ 1048575
+longest = refl
+
+most_lines : LINES ≡ 16777216
+most_lines = refl
+
+most_bytes : BYTES ≡ 1073741824
+most_bytes = refl

@@ -42,7 +42,16 @@ impl<R: Drop> Run<R> {
             Stage::Done => self.stack.has_line(),
             Stage::Seeking => false,
             Stage::Waiting(_) => self.stack.has_line() && !self.stack.may_begin_with(&self.first),
-            Stage::Changing(change) => self.stack.depth > change.below && self.stack.has_line(),
+            Stage::Changing(change) if self.stack.depth > change.below => self.stack.has_line(),
+            Stage::Changing(_) => self.has_new_line(),
+        }
+    }
+
+    // Whether the change file's next line was read already and is no code line.
+    fn has_new_line(&self) -> bool {
+        match &self.change {
+            Some(text) => text.source.has_line() && !text.source.may_begin_with(b"@"),
+            None => false,
         }
     }
 
