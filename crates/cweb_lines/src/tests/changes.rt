@@ -117,6 +117,13 @@ fn seeking_an_entry(rt: HostRuntime) -> Result<(), Fail> {
         // empty lines, and those of blanks, stand before the first old line and are none
         ("\nA\n", "@x\n\n \t\nA\n@y\nN\n@z\n", "0:1 \n1:6 N\n"),
         ("A\n", "@x\n\n  \n", "0:1 A\nNoOldLines in 1 at 1\n"),
+    ];
+    compare_all(&rt, &[], &rows)
+}
+
+#[test]
+fn entries_that_are_passed_over(rt: HostRuntime) -> Result<(), Fail> {
+    let rows = [
         // an entry without old lines, and the next entry right there or later
         (
             "A\n",
@@ -207,6 +214,13 @@ fn old_lines(rt: HostRuntime) -> Result<(), Fail> {
             "@x\nA\nB\n@y\nN\n@z\n@x\nB\n@y\n@z\n",
             "1:5 N\n0:3 A\nNoMatch in 1 at 7\n",
         ),
+    ];
+    compare_all(&rt, &[], &rows)
+}
+
+#[test]
+fn old_lines_that_end_early(rt: HostRuntime) -> Result<(), Fail> {
+    let rows = [
         // the order of the faults of one old side, of which two lines are compared
         (
             "A\nB\nC\n",
@@ -289,6 +303,14 @@ fn included_lines(rt: HostRuntime) -> Result<(), Fail> {
             "@x\nA\n@i none\nB\n@y\n@z\n",
             "WebEnded in 1 at 1\n2 is none\n",
         ),
+    ];
+    compare_all(&rt, &others, &rows)
+}
+
+#[test]
+fn include_lines_taken_away(rt: HostRuntime) -> Result<(), Fail> {
+    let others = [("b", "B1\n@i c\nB3\n"), ("c", "C1\nC2\n")];
+    let rows = [
         // an include line that is an old line is not obeyed, be it the first, a further one or an unequal one
         (
             "@i b\nM2\n",
