@@ -142,10 +142,6 @@ module _ (change : List SourceLine) (things : List Thing) (so_far : Replaced) (l
         small = omega (arith, now_bytes, raw_bytes, all_bytes, r.adds.bytes_are, size-append r.taken r.raw_taken, size-append takes.0 (taken_away change things).taken);
       }
 
-  -- no fault is told behind those so far
-  pub replaces_told : (new : SoFar) → new.faults ≡ mid.faults → new.names ≡ mid.names → TellsSome (old_lines change).faults old new
-  replaces_told new faults names = record { front = r.told; rest = (old_lines lines).faults; whole = r.faults_are; told = faults ∙ r.adds.told; names = names ∙ r.adds.names }
-
   -- the old side ends here, behind these lines
   pub replaces_done : (new : SoFar) (last rest : List SourceLine) (ended : Bool) → old_lines lines ≡ record { faults = []; lines = []; taken = last; ended = ended; rest = rest } → Adds r.told ((r.taken ++ last) ++ r.raw_taken) old new
       → IsReplaced change things (record { unequal = so_far.unequal; ran_out = so_far.ran_out; ended = ended }) rest raws old new

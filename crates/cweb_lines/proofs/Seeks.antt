@@ -1,6 +1,6 @@
 -- A search for an entry, line by line.
 use Rattle.std.proofs.Common.{◌≡◌, ℕ, List, [], ◌∷◌, ◌++◌, Option, Some, None, refl, sym, ◌∙◌, ap, subst, arith, length, length-append}
-use Rattle.std.proofs.lemmas.List.{append-nil, append_assoc}
+use Rattle.std.proofs.lemmas.List.{append_assoc}
 use Rattle.cweb_files.specs.declared.place.Place.{Place}
 use Rattle.cweb_lines.specs.Change.{Sought, behind_x, code_of, sought}
 use Rattle.cweb_lines.specs.Lines.{Line, SourceLine}
@@ -11,7 +11,7 @@ use Rattle.cweb_lines.specs.Told.{size_of}
 use Rattle.cweb_lines.specs.declared.code.Code.{Code}
 use Rattle.cweb_lines.specs.declared.fault.SourceFault.{SourceFault}
 use Rattle.cweb_lines.specs.declared.seeking.Look.TheVariants.{Entry as first_line, On as goes_on}
-use Rattle.cweb_lines.specs.declared.stage.Stage.TheVariants.{Done, Waiting}
+use Rattle.cweb_lines.specs.declared.stage.Stage.TheVariants.{Waiting}
 use Rattle.cweb_lines.specs.declared.stop.Stop.{Stop}
 use Rattle.cweb_lines.proofs.Adds.{adds_none, adds_line, adds_faults}
 use Rattle.cweb_lines.proofs.Merges.{size-append}
@@ -55,16 +55,6 @@ module _ (all : Sought) (lines : List SourceLine) (begin : Option Place) (old mi
         small = omega (arith, now_bytes, all_bytes, seeks.adds.bytes_are);
       }
 
-  -- no fault is told behind those so far
-  pub seeks_told : (new : SoFar) → new.faults ≡ mid.faults → new.names ≡ mid.names → TellsSome all.faults old new
-  seeks_told new faults names = record {
-    front = seeks.told;
-    rest = (sought lines begin).faults;
-    whole = ap (λ (s : Sought). s.faults) seeks.whole;
-    told = faults ∙ seeks.adds.told;
-    names = names ∙ seeks.adds.names;
-  }
-
   -- some faults of a line are told behind those so far
   pub seeks_told_more : (new : SoFar) → ToldFront (sought lines begin).faults mid.faults new.faults → new.names ≡ mid.names → TellsSome all.faults old new
   seeks_told_more new more names = record {
@@ -74,27 +64,6 @@ module _ (all : Sought) (lines : List SourceLine) (begin : Option Place) (old mi
     told = more.told ∙ ap (λ (fs : List SourceFault). fs ++ more.front) seeks.adds.told ∙ append_assoc old.faults seeks.told more.front;
     names = names ∙ seeks.adds.names;
   }
-
-  -- the change file has ended
-  pub seeks_end : (new : SoFar) (first : List ℕ) (later : List SourceLine) → lines ≡ [] → new.faults ≡ mid.faults ++ (sought [] begin).faults → new.names ≡ mid.names → new.count ≡ mid.count → Searched all old new Done first later
-  seeks_end new first later none faults names count = by begin faults (seeks.whole ∙ ap (λ (ls : List SourceLine). behind seeks.told seeks.taken (sought ls begin)) none)
-    where
-      by : (b : Option Place) → new.faults ≡ mid.faults ++ (sought [] b).faults → all ≡ behind seeks.told seeks.taken (sought [] b) → Searched all old new Done first later
-      by None told whole = record {
-        adds = subst (λ (s : Sought). Adds s.faults s.taken old new) (sym whole)
-            (subst (λ (ls : List SourceLine). Adds (seeks.told ++ []) ls old new) (sym (append-nil seeks.taken)) (adds_faults seeks.told [] seeks.taken old mid new seeks.adds told names count));
-        outside = tt;
-        entry = ap (λ (s : Sought). s.entry) (sym whole);
-        rest = ap (λ (s : Sought). s.rest) (sym whole);
-      }
-      by (Some place) told whole = record {
-        adds = subst (λ (s : Sought). Adds s.faults s.taken old new) (sym whole)
-            (subst (λ (ls : List SourceLine). Adds (seeks.told ++ (sought [] (Some place)).faults) ls old new) (sym (append-nil seeks.taken))
-            (adds_faults seeks.told (sought [] (Some place)).faults seeks.taken old mid new seeks.adds told names count));
-        outside = tt;
-        entry = ap (λ (s : Sought). s.entry) (sym whole);
-        rest = ap (λ (s : Sought). s.rest) (sym whole);
-      }
 
   -- a line was taken and looked at
   module _ (now new : SoFar) (bytes : List ℕ) (place : Place) (t : Took bytes place mid.count now.count) (rest : List SourceLine) (is : lines ≡ t.line ∷ rest) (same_faults : now.faults ≡ mid.faults) (same_names : now.names ≡ mid.names)

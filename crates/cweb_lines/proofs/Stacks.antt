@@ -146,15 +146,8 @@ stops_map OutNotOpened map stops = stops
 stops_map WriteFault map stops = stops
 stops_map LogFault map stops = stops
 
-pub stays-both : {R : Type 0} (low : ℕ) (a b c : List (Option (OpenText R))) → StaysBelow low a b → StaysBelow low b c → StaysBelow low a c
-stays-both low a b c first second = λ left n le rest. second left n le rest ∙ first left n le rest
-
 -- things that are the same as others, at the same count
 pub takes_same : (at : Option LineAt) (old mid new : List Thing) (bytes : List ℕ) (before before' after : Count) → old ≡ mid → before' ≡ before → TakesFirst mid at bytes new before' after → TakesFirst old at bytes new before after
 takes_same None old mid new bytes before before' after things count takes = things ∙ takes
 takes_same (Some at) old mid new bytes before before' after things count takes =
     subst (λ (b : Count). TakesFirst old (Some at) bytes new b after) count (takes.0, things ∙ takes.1)
-
-pub stops_same : (stop : Stop) (old mid : List Thing) (before before' : Count) → old ≡ mid → before' ≡ before → TopStops stop before' mid → TopStops stop before old
-stops_same stop old mid before before' things count stops =
-    subst (λ (b : Count). TopStops stop b old) count (record { raw_line = stops.raw_line; rest = stops.rest; first = things ∙ stops.first; why = stops.why })

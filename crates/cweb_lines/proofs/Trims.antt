@@ -91,10 +91,6 @@ first_passes stop taken old new bytes file number count not takes is passes =
       why = passes;
     })
 
-pub takes_none : (old new bytes : List ℕ) (file number : ℕ) → Takes old Ended bytes new
-    → (numbered file number (text_lines old) ≡ []) × (numbered file number (text_lines new) ≡ [])
-takes_none old new bytes file number takes = (ap (λ (t : List ℕ). numbered file number (text_lines t)) takes.0, ap (λ (t : List ℕ). numbered file number (text_lines t)) takes.2)
-
 last_split : (xs : List ℕ) (b : ℕ) → 0 < length xs → b ≡ get_or xs (length xs - 1) b → xs ≡ take (length xs - 1) xs ++ b ∷ []
 last_split xs b some is =
     sym (take_all (length xs) xs (omega arith)) ∙ ap (λ n. take n xs) (omega arith) ∙ take_more xs (length xs - 1) b (omega arith) ∙ ap (λ x. take (length xs - 1) xs ++ x ∷ []) (sym is)

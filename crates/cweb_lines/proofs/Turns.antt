@@ -62,13 +62,6 @@ taken_first t t' l l' run run' at source texts left inputs change stage first na
     ap (λ (ts : List Thing). coming_of t (text_of_name run.inputs) l run.stage run.change run.first.items (length (names_of run.names)) ts) things
     ∙ sym (λ i. coming_of (texts i) (text_of_name (inputs i)) (left i) (stage i) (change i) ((first i).items) (length (names_of (names i))) (raw_at at source ∷ things_in l' (stage i) (lines_at (left i) (change i)) run'.stack))
 
--- the same where nothing was taken
-pub taken_none : {R : Type 0} (t t' : List ℕ → Option (List ℕ)) (l l' : R → List ℕ) (run run' : Run R) → t' ≡ t → l' ≡ l → run'.inputs ≡ run.inputs → run'.change ≡ run.change → run'.stage ≡ run.stage → run'.first ≡ run.first
-    → run'.names ≡ run.names → things_of l run ≡ things_in l' run.stage (change_lines l run) run'.stack → coming t l run ≡ coming t' l' run'
-taken_none t t' l l' run run' texts left inputs change stage first names things =
-    ap (λ (ts : List Thing). coming_of t (text_of_name run.inputs) l run.stage run.change run.first.items (length (names_of run.names)) ts) things
-    ∙ sym (λ i. coming_of (texts i) (text_of_name (inputs i)) (left i) (stage i) (change i) ((first i).items) (length (names_of (names i))) (things_in l' (stage i) (lines_at (left i) (change i)) run'.stack))
-
 fault_list : (b : Bool) (f : SourceFault) → fault_if b f ≡ map fault (list_if b f)
 fault_list true f = refl
 fault_list false f = refl
