@@ -3,6 +3,7 @@ pub mod Counts
 pub mod Faults
 pub mod Finding
 pub mod Include
+pub mod Laws
 pub mod Lines
 pub mod Merge
 pub mod Merging

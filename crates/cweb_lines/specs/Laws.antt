@@ -1,0 +1,42 @@
+-- What holds of merged lines whatever the texts are, in the words of someone who writes webs.
+use Rattle.std.specs.Prelude.{◌≡◌, ℕ, zero, suc, ◌+◌, Bool, true, false, List, [], ◌∷◌, map, Option, None, Some}
+use Rattle.std.specs.List.{list_any}
+use Rattle.cweb_files.specs.declared.place.FileId.{FileId}
+use Rattle.cweb_files.specs.declared.place.Place.{Place}
+use Rattle.cweb_lines.specs.Lines.{Line, lines}
+use Rattle.cweb_lines.specs.Include.{World, is_include}
+use Rattle.cweb_lines.specs.Change.{code_of}
+use Rattle.cweb_lines.specs.Merge.{Event, started}
+use Rattle.cweb_lines.specs.Told.{given_lines, told_faults, openings}
+use Rattle.cweb_lines.specs.Total.{merge}
+use Rattle.cweb_lines.specs.Writing.{text_of}
+use Rattle.cweb_lines.specs.declared.code.Code.{Code}
+use Rattle.cweb_lines.specs.declared.fault.SourceFault.{SourceFault}
+
+-- what an author sees of a merge: the lines with their places, the faults, and the names of the files that were included
+pub record Seen : Type 0 where
+  pub lines : List Line
+  pub faults : List SourceFault
+  pub included : List (List ℕ)
+
+abbrev pub seen : List Event → Seen
+seen events = record { lines = given_lines events; faults = told_faults events; included = openings events }
+
+-- what comes of a web, and of a change file where one is given
+abbrev pub seen_of : World → List ℕ → Option (List ℕ) → Seen
+seen_of world web change = seen (merge world (started web change))
+
+-- the lines of a file, of which the first has this number, with their places
+abbrev pub placed : ℕ → ℕ → List (List ℕ) → List Line
+placed file number [] = []
+placed file number (bytes ∷ rest) =
+    record { bytes = bytes; place = record { file = record { 0 = file }; line = number } } ∷ placed file (number + 1) rest
+
+-- lines and nothing else
+abbrev pub only_lines : List Line → Seen
+only_lines lines = record { lines = lines; faults = []; included = [] }
+
+-- a web without include lines and without a change file is its own lines, in order, with their numbers, without a fault
+abbrev pub WebsWithoutIncludesAreTheirOwnLines : Type 0
+WebsWithoutIncludesAreTheirOwnLines = (world : World) (web : List ℕ) → list_any is_include (lines web) ≡ false
+    → seen_of world web None ≡ only_lines (placed 0 1 (lines web))
