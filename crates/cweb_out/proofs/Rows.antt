@@ -1,0 +1,97 @@
+-- The definitions, computed on small webs.
+use Rattle.std.proofs.Common.{ℕ, ◌≡◌, refl, List, [], ◌∷◌, Some, codes, true, false}
+use Rattle.std.specs.Fmt.{digits}
+use Rattle.cweb_store.specs.declared.name.How.TheVariants.{Full}
+use Rattle.cweb_store.specs.declared.part.PartKind.{PartKind}
+use Rattle.cweb_store.specs.declared.part.PartKind.TheVariants.{Unnamed, Named}
+use Rattle.cweb_store.specs.Names.{Occurrence, id}
+use Rattle.cweb_store.specs.Parts.{Part, Token, Word, Number, Punct, Blank, Newline, Join, Defs, Name, Head, Tail, Mark}
+use Rattle.cweb_store.specs.Calls.{Stored}
+use Rattle.cweb_out.specs.Uses.{program}
+use Rattle.cweb_out.specs.Ranks.{ends_below, list_ends, first_endless}
+use Rattle.cweb_out.specs.Cycles.{cycle_from}
+use Rattle.cweb_out.specs.Expansion.{expand}
+use Rattle.cweb_out.specs.Printing.{Setting, print, file}
+
+abbrev full : List ℕ → Occurrence
+full text = record { text = text; how = Full; is_file = false }
+
+abbrev part : PartKind → List Token → Part
+part kind tokens = record { kind = kind; tokens = tokens }
+
+abbrev of : ℕ → PartKind
+of r = Named (record { 0 = r })
+
+abbrev use_ : ℕ → Token
+use_ r = Name (record { 0 = r })
+
+-- A uses B, B uses A, and the program uses A
+abbrev two : Stored
+two = record {
+  occurrences = full (codes "A") ∷ full (codes "B") ∷ [];
+  parts = part Unnamed (use_ 0 ∷ []) ∷ part (of 0) (use_ 1 ∷ []) ∷ part (of 1) (use_ 0 ∷ []) ∷ [];
+}
+
+two_names_that_use_each_other : cycle_from two (first_endless two (program two)) ≡ id 0 ∷ id 1 ∷ id 0 ∷ []
+two_names_that_use_each_other = refl
+
+from_the_second : cycle_from two (Some (id 1)) ≡ id 1 ∷ id 0 ∷ id 1 ∷ []
+from_the_second = refl
+
+-- A and B use the next name twice, and so does the program; the last occurrence stands for a name without parts
+abbrev twice : Stored
+twice = record {
+  occurrences = full (codes "A") ∷ full (codes "B") ∷ full (codes "C") ∷ full (codes "D") ∷ [];
+  parts = part Unnamed (use_ 0 ∷ use_ 0 ∷ []) ∷ part (of 0) (use_ 1 ∷ use_ 1 ∷ []) ∷ part (of 1) (use_ 2 ∷ use_ 2 ∷ []) ∷ part (of 2) (Punct (codes ";") ∷ use_ 3 ∷ []) ∷ [];
+}
+
+abbrev semicolon : Token
+semicolon = Punct (codes ";")
+
+each_use_is_replaced : expand twice 4 (program twice) ≡ semicolon ∷ semicolon ∷ semicolon ∷ semicolon ∷ semicolon ∷ semicolon ∷ semicolon ∷ semicolon ∷ []
+each_use_is_replaced = refl
+
+a_name_used_twice_is_no_cycle : list_ends twice (program twice) ≡ true
+a_name_used_twice_is_no_cycle = refl
+
+the_rank_of_the_first_is_three : ends_below twice 3 (id 0) ≡ false
+the_rank_of_the_first_is_three = refl
+
+the_rank_of_the_first_is_below_four : ends_below twice 4 (id 0) ≡ true
+the_rank_of_the_first_is_below_four = refl
+
+abbrev plain : Setting
+plain = record { replaced = λ b. b ∷ []; file = λ n. codes "s.w"; macros = [] }
+
+abbrev at : ℕ → Token
+at line = Mark (record { file = record { 0 = 0 }; line = line })
+
+a_section_comment_stays_after_a_join : print plain (Punct (codes "/") ∷ Join ∷ Head 2 ∷ at 3 ∷ Word (codes "b") ∷ []) ≡ codes "/ /*2:*/b"
+unfolding digits
+a_section_comment_stays_after_a_join = refl
+
+operators_and_numbers_stay_apart : file plain (Head 1 ∷ at 1 ∷ Newline ∷ Word (codes "x") ∷ Punct (codes "=") ∷ Blank ∷ Punct (codes "-") ∷ Number (codes "1") ∷ semicolon
+    ∷ Word (codes "a") ∷ Punct (codes "*") ∷ Punct (codes "-") ∷ Word (codes "b") ∷ semicolon
+    ∷ Word (codes "y") ∷ Punct (codes "=") ∷ Number (codes "0xe") ∷ Punct (codes "+") ∷ Number (codes "1") ∷ semicolon
+    ∷ Word (codes "q") ∷ Punct (codes "=") ∷ Word (codes "a") ∷ Punct (codes "/") ∷ Head 2 ∷ at 3 ∷ Word (codes "b") ∷ Tail 2 ∷ at 2 ∷ semicolon ∷ Newline ∷ Tail 1 ∷ [])
+    ≡ codes "/*1:*/\n#line 1 \"s.w\"\n\nx= -1;a* -b;y=0xe +1;q=a/ /*2:*/\n#line 3 \"s.w\"\nb/*:2*/\n#line 2 \"s.w\"\n;\n/*:1*/\n"
+unfolding digits
+operators_and_numbers_stay_apart = refl
+
+-- `f(x) x+1`, `N`, and `two 1+` on two lines
+abbrev with_macros : Setting
+with_macros = record plain {
+  macros = (Word (codes "f") ∷ Punct (codes "(") ∷ Word (codes "x") ∷ Punct (codes ")") ∷ Word (codes "x") ∷ Punct (codes "+") ∷ Number (codes "1") ∷ [])
+      ∷ (Word (codes "N") ∷ [])
+      ∷ (Word (codes "two") ∷ Blank ∷ Number (codes "1") ∷ Punct (codes "+") ∷ Newline ∷ Number (codes "2") ∷ []) ∷ [];
+}
+
+macro_lines_begin_a_line : print with_macros (semicolon ∷ Defs ∷ semicolon ∷ []) ≡ codes ";\n#define f(x)x+1\n#define N\n#define two 1 + \\\n2\n;"
+macro_lines_begin_a_line = refl
+
+file_names_are_quoted : print (record plain { file = λ n. codes "a\"\\b" }) (at 7 ∷ []) ≡ codes "#line 7 \"a\\\"\\\\b\"\n"
+unfolding digits
+file_names_are_quoted = refl
+
+an_empty_list_gives_an_empty_file : file plain [] ≡ []
+an_empty_list_gives_an_empty_file = refl

@@ -1,0 +1,70 @@
+-- Whether a blank comes between two tokens that are printed one after the other.
+use Rattle.std.specs.Prelude.{ℕ, Bool, true, false, ◌||◌, ◌&&◌, ◌==◌, not, List, [], ◌∷◌, codes, if◌then◌else◌, Option, Some, None}
+use Rattle.std.specs.List.{list_any}
+use Rattle.cweb_store.specs.Parts.{Token, Word, Number, Literal, Verbatim, Punct, Join, Head, Tail}
+
+abbrev pub is_one_of : List ℕ → ℕ → Bool
+is_one_of bytes b = list_any (λ x. x == b) bytes
+
+-- bytes that may join with one another to a longer operator
+abbrev pub is_operator : ℕ → Bool
+is_operator b = is_one_of (codes "+-*/%&|^!=<>.:#?") b
+
+abbrev pub first_is : (ℕ → Bool) → List ℕ → Bool
+first_is test [] = false
+first_is test (b ∷ bytes) = test b
+
+abbrev pub last_is : (ℕ → Bool) → List ℕ → Bool
+last_is test [] = false
+last_is test (b ∷ []) = test b
+last_is test (b ∷ c ∷ bytes) = last_is test (c ∷ bytes)
+
+abbrev pub is_wordlike : Token → Bool
+is_wordlike (Word b) = true
+is_wordlike (Number b) = true
+is_wordlike (Literal b) = true
+is_wordlike t = false
+
+abbrev pub is_literal : Token → Bool
+is_literal (Literal b) = true
+is_literal t = false
+
+abbrev pub is_number : Token → Bool
+is_number (Number b) = true
+is_number t = false
+
+-- a section comment
+abbrev pub is_comment : Token → Bool
+is_comment (Head n) = true
+is_comment (Tail n) = true
+is_comment t = false
+
+abbrev pub is_join_or_verbatim : Token → Bool
+is_join_or_verbatim Join = true
+is_join_or_verbatim (Verbatim b) = true
+is_join_or_verbatim t = false
+
+-- a punctuator whose first byte passes, and one whose last byte passes
+abbrev pub begins_with : (ℕ → Bool) → Token → Bool
+begins_with test (Punct b) = first_is test b
+begins_with test t = false
+
+abbrev pub ends_with : (ℕ → Bool) → Token → Bool
+ends_with test (Punct b) = last_is test b
+ends_with test t = false
+
+-- A blank comes between words, numbers and literals, but not between two literals; between a number and what could go on in it;
+-- between a point and a number; between two operators, or an operator and a section comment; before a section comment after a
+-- join or a verbatim text.
+abbrev pub are_apart : Token → Token → Bool
+are_apart left right =
+    (is_wordlike left && is_wordlike right && not (is_literal left && is_literal right))
+    || (is_number left && begins_with (is_one_of (codes ".+-")) right)
+    || (ends_with (λ b. b == 46) left && is_number right)
+    || (ends_with is_operator left && (begins_with is_operator right || is_comment right))
+    || (is_join_or_verbatim left && is_comment right)
+
+-- what is printed between a token and the token to its left, if there is one
+abbrev pub sep : Option Token → Token → List ℕ
+sep None t = []
+sep (Some l) t = if are_apart l t then codes " " else []
