@@ -2,7 +2,7 @@
 use Rattle.std.proofs.Common.{Bool, ◌≡◌, ◌≢◌, ◌+◌, ◌≤◌, ℕ, true, false, cond, List, [], ◌∷◌, ◌++◌, refl, sym, ◌∙◌, ap, subst, arith, ◌<◌, ◌-◌, length, get_or, take, ◌⊎◌, Some}
 use Rattle.std.proofs.lemmas.List.{take_more, take_all}
 use Rattle.cweb_files.specs.declared.place.FileId.{FileId}
-use Rattle.cweb_lines.specs.Lines.{SourceLine, trimmed, before_blanks, is_blank, text_lines, numbered}
+use Rattle.cweb_lines.specs.Lines.{SourceLine, HasNoNewline, IsOneLine, trimmed, before_blanks, is_blank, text_lines, numbered}
 use Rattle.cweb_lines.specs.Source.{Takes, IsLongerThan}
 use Rattle.cweb_lines.specs.Texts.{Count, TakesLine, FirstStops, StopsFor, StopsReading, newline_bytes, stop_for}
 use Rattle.cweb_lines.specs.declared.limits.TheConstants.{LINE_LENGTH, LINES, BYTES}
@@ -100,3 +100,23 @@ trims_more xs b some is blank = sym (ap trimmed (last_split xs b some is) ∙ tr
 
 pub trims_all : (xs : List ℕ) (b : ℕ) → 0 < length xs → b ≡ get_or xs (length xs - 1) b → is_blank b ≡ false → xs ≡ trimmed xs
 trims_all xs b some is other = sym (ap trimmed (last_split xs b some is) ∙ trimmed-byte (take (length xs - 1) xs) b other ∙ sym (last_split xs b some is))
+
+pub before_blanks-clean : (b : ℕ) (xs : List ℕ) → b ≢ 10 → HasNoNewline xs → HasNoNewline (before_blanks b xs)
+before_blanks-clean b [] other clean = elim (is_blank b) as (λ v. HasNoNewline (cond v [] (b ∷ []))) [ true ↦ tt | false ↦ (other, tt) ]
+before_blanks-clean b (x ∷ xs) other clean = (other, clean)
+
+-- a line without its last blanks has no newline either
+pub trimmed-clean : (xs : List ℕ) → HasNoNewline xs → HasNoNewline (trimmed xs)
+trimmed-clean [] clean = tt
+trimmed-clean (b ∷ xs) clean = before_blanks-clean b (trimmed xs) clean.0 (trimmed-clean xs clean.1)
+
+before_blanks-length : (b : ℕ) (xs : List ℕ) → length (before_blanks b xs) ≤ 1 + length xs
+before_blanks-length b [] = elim (is_blank b) as (λ v. length (cond v [] (b ∷ [])) ≤ 1 + 0) [ true ↦ omega arith | false ↦ omega arith ]
+before_blanks-length b (x ∷ xs) = omega arith
+
+pub trimmed-length : (xs : List ℕ) → length (trimmed xs) ≤ length xs
+trimmed-length [] = omega arith
+trimmed-length (b ∷ xs) = omega (arith, before_blanks-length b (trimmed xs), trimmed-length xs)
+
+pub trimmed-line : (xs : List ℕ) → HasNoNewline xs → length xs ≤ LINE_LENGTH → IsOneLine (trimmed xs)
+trimmed-line xs clean short = record { clean = trimmed-clean xs clean; short = omega (arith, short, trimmed-length xs) }

@@ -1,6 +1,7 @@
 -- The lines of a text.
-use Rattle.std.specs.Prelude.{◌≡◌, ◌≢◌, ℕ, ◌+◌, ◌<◌, Bool, ◌||◌, ◌==◌, List, [], ◌∷◌, ◌++◌, length, map, take, drop, Option, None, Some, if◌then◌else◌}
+use Rattle.std.specs.Prelude.{◌≡◌, ◌≢◌, ℕ, ◌+◌, ◌<◌, ◌≤◌, Bool, ◌||◌, ◌==◌, List, [], ◌∷◌, ◌++◌, length, map, take, drop, Option, None, Some, if◌then◌else◌}
 use Rattle.cweb_files.specs.declared.place.Place.{Place}
+use Rattle.cweb_lines.specs.declared.limits.TheConstants.{LINE_LENGTH}
 
 -- a line as it is cut from its text: its bytes without the newline, and how many bytes it takes with the newline that it may have
 pub record TextLine : Type 0 where
@@ -61,6 +62,11 @@ lines_in file text = numbered file 1 (text_lines text)
 abbrev pub HasNoNewline : List ℕ → Type 0
 HasNoNewline [] = Unit {0}
 HasNoNewline (b ∷ bs) = (b ≢ 10) × HasNoNewline bs
+
+-- a line that was taken: it has no newline, and is no longer than a line may be
+pub record IsOneLine (bytes : List ℕ) : Type 0 where
+  pub clean : HasNoNewline bytes
+  pub short : length bytes ≤ LINE_LENGTH
 
 -- a text in two at its first newline
 pub record SplitsAt (text : List ℕ) (at : ℕ) : Type 0 where

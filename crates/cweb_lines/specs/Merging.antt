@@ -2,7 +2,7 @@
 use Rattle.std.specs.Prelude.{◌≡◌, ◌<◌, ◌≤◌, ◌⊎◌, ◌+◌, ◌*◌, ◌-◌, ℕ, length, List, [], ◌∷◌, ◌++◌, Option}
 use Rattle.cweb_files.specs.declared.place.FileId.{FileId}
 use Rattle.cweb_lines.specs.Change.{Entry}
-use Rattle.cweb_lines.specs.Lines.{Line, SourceLine}
+use Rattle.cweb_lines.specs.Lines.{Line, SourceLine, IsOneLine}
 use Rattle.cweb_lines.specs.Merge.{State, Event, took, Thing}
 use Rattle.cweb_lines.specs.Told.{given_lines, told_faults, openings, taken_lines, size_of, AreShort}
 use Rattle.cweb_lines.specs.Total.{merge}
@@ -169,6 +169,18 @@ abbrev pub TurnEnds : {R : Type 0} → Turn → Run R → Type 0
 TurnEnds (Given place) run = Unit {0}
 TurnEnds On run = Unit {0}
 TurnEnds Ended run = NothingLeft run
+
+-- a line that a turn gives out is one, within its limit
+abbrev pub TurnLine : Turn → List ℕ → Type 0
+TurnLine (Given place) bytes = IsOneLine bytes
+TurnLine On bytes = Unit {0}
+TurnLine Ended bytes = Unit {0}
+
+-- the bytes of a line that a turn gives out are counted
+abbrev pub TurnGains : Turn → List ℕ → ℕ → ℕ → Type 0
+TurnGains (Given place) bytes old new = old + length bytes ≤ new
+TurnGains On bytes old new = old ≤ new
+TurnGains Ended bytes old new = old ≤ new
 
 -- the file of a line that a turn gives out is among those opened
 abbrev pub TurnKnown : ℕ → Turn → Type 0

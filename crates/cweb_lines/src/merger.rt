@@ -6,7 +6,7 @@ ghost use Rattle.cweb_lines.specs.Names.{names_of};
 ghost use Rattle.cweb_lines.specs.Finding.{text_of_name, found_as, names_found, lines_found};
 ghost use Rattle.cweb_lines.specs.Texts.{ReadBlames, StopsReading, StartStops, files_named, lines_left, lines_at, number_of, line_number, files_up_to};
 ghost use Rattle.cweb_lines.specs.Stages.{stage_for, begun_stage};
-ghost use Rattle.cweb_lines.specs.Lines.{lines_in};
+ghost use Rattle.cweb_lines.specs.Lines.{lines_in, IsOneLine};
 ghost use Rattle.cweb_lines.specs.declared.limits.TheConstants.{LINES, BYTES};
 
 use crate::fault::SourceFault;
@@ -176,6 +176,9 @@ impl<S: Shelf> Merger<S> {
         ensures next { IsTrue (S.tells shelf.old) → IfOk result (λ place. NextLine place line.new.items (so_far self.old) (so_far self.new)
             (to_come (S.texts shelf.old) (S.left shelf.old) self.old) (to_come (S.texts shelf.new) (S.left shelf.new) self.new)) }
         ensures known { IfOk result (λ place. IfSome place (λ p. p.file.0 < length (so_far self.new).names)) }
+        ensures grows { length (so_far self.old).names ≤ length (so_far self.new).names }
+        ensures line { IfOk result (λ place. OnSome place (IsOneLine line.new.items)) }
+        ensures gains { IfOk result (λ place. OnSome place ((so_far self.old).count.bytes + length line.new.items ≤ (so_far self.new).count.bytes)) }
         ensures fewer { IfOk result (λ place. OnSome place ((so_far self.old).count.lines < (so_far self.new).count.lines)) }
         ensures within { ((so_far self.new).count.lines ≤ LINES) × ((so_far self.new).count.bytes ≤ BYTES) }
         ensures end { result ≡ Ok None → (line.new.items ≡ []) × HasEnded self.new }

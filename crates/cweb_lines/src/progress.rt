@@ -1,6 +1,7 @@
 // What a merger does at once: it takes a line, or tells a fault.
-ghost use Rattle.std.specs.Prelude.{◌≡◌, ◌≤◌, ◌<◌, ◌+◌, ◌^◌, ◌++◌, ◌∷◌, [], length, IsTrue, IfOk, IfErr, IfSome, Ok, OnOk, OnErr, None};
+ghost use Rattle.std.specs.Prelude.{◌≡◌, ◌≤◌, ◌<◌, ◌+◌, ◌^◌, ◌++◌, ◌∷◌, [], length, IsTrue, IfOk, IfErr, IfSome, OnSome, Ok, OnOk, OnErr, None};
 ghost use Rattle.cweb_lines.specs.Counts.{count_of};
+ghost use Rattle.cweb_lines.specs.Lines.{IsOneLine};
 ghost use Rattle.cweb_lines.specs.Merging.{NothingLeft, change_lines};
 ghost use Rattle.cweb_lines.specs.Names.{names_of};
 ghost use Rattle.cweb_lines.specs.Stages.{floor_of};
@@ -93,6 +94,8 @@ pub fn take_change<S: Shelf>(
         (count_of run.old.limits) (count_of run.new.limits)) }
     ensures stops { IsTrue (S.tells shelf.old) → IfErr result (λ stop. StopsFor (FirstStops stop (count_of run.old.limits) (change_lines (S.left shelf.old) run.old)) stop) }
     ensures counted { Counted (count_of run.old.limits) (count_of run.new.limits) result }
+    ensures line { IfOk result (λ at. OnSome at (IsOneLine line.new.items)) }
+    ensures gains { IfOk result (λ at. OnSome at (run.old.limits.bytes + length line.new.items ≤ run.new.limits.bytes)) }
     ensures known { NamesFiles (length (names_of run.old.names)) result }
     ensures reading { IfErr result (λ stop. StopsReading stop) }
     ensures inputs { run.new.inputs ≡ run.old.inputs }
@@ -125,6 +128,8 @@ pub fn take_raw<S: Shelf>(
     ensures ended { result ≡ Ok None → run.new.stack.depth ≡ floor_of run.old.stage }
     ensures deeper { IfOk result (λ at. IfSome at (λ a. run.new.stack.depth ≤ a.depth)) }
     ensures counted { Counted (count_of run.old.limits) (count_of run.new.limits) result }
+    ensures line { IfOk result (λ at. OnSome at (IsOneLine line.new.items)) }
+    ensures gains { IfOk result (λ at. OnSome at (run.old.limits.bytes + length line.new.items ≤ run.new.limits.bytes)) }
     ensures known { NamesFiles (length (names_of run.old.names)) result }
     ensures reading { IfErr result (λ stop. StopsReading stop) }
     ensures shallow { run.new.stack.depth ≤ run.old.stack.depth }

@@ -1,6 +1,7 @@
 // The texts that are open, the deepest last.
-ghost use Rattle.std.specs.Prelude.{◌≡◌, ◌≤◌, ◌<◌, ◌+◌, ◌^◌, ℕ, List, [], ◌∷◌, length, IsTrue, IfOk, IfErr, IfSome, Ok, None, Some, slice_set};
+ghost use Rattle.std.specs.Prelude.{◌≡◌, ◌≤◌, ◌<◌, ◌+◌, ◌^◌, ℕ, List, [], ◌∷◌, length, IsTrue, IfOk, IfErr, IfSome, OnSome, Ok, None, Some, slice_set};
 ghost use Rattle.cweb_lines.specs.Counts.{count_of};
+ghost use Rattle.cweb_lines.specs.Lines.{IsOneLine};
 ghost use Rattle.cweb_lines.specs.Texts.{most, line_number, files_up_to, ReadBlames, Counted, NamesFiles, AreDeep, TakesTop, TakesAbove, StopsFor, StopsReading, StopsTop, StopsAbove, StaysBelow, DepthAfter, Pushes};
 
 use crate::limits::Limits;
@@ -105,6 +106,8 @@ fn take_top<S: Shelf>(
     ensures numbers { most line_number stack.new.texts ≤ limits.new.lines }
     ensures reading { IfErr result (λ stop. StopsReading stop) }
     ensures counted { Counted (count_of limits.old) (count_of limits.new) result }
+    ensures line { IfOk result (λ at. OnSome at (IsOneLine line.new.items)) }
+    ensures gains { IfOk result (λ at. OnSome at (limits.old.bytes + length line.new.items ≤ limits.new.bytes)) }
     ensures files { most files_up_to stack.new.texts ≤ most files_up_to stack.old.texts }
     ensures known { NamesFiles (most files_up_to stack.old.texts) result }
     ensures depth { DepthAfter stack.old.depth stack.new.depth result }
@@ -149,6 +152,8 @@ pub fn take_above<S: Shelf>(
     ensures numbers { most line_number stack.new.texts ≤ limits.new.lines }
     ensures reading { IfErr result (λ stop. StopsReading stop) }
     ensures counted { Counted (count_of limits.old) (count_of limits.new) result }
+    ensures line { IfOk result (λ at. OnSome at (IsOneLine line.new.items)) }
+    ensures gains { IfOk result (λ at. OnSome at (limits.old.bytes + length line.new.items ≤ limits.new.bytes)) }
     ensures files { most files_up_to stack.new.texts ≤ most files_up_to stack.old.texts }
     ensures known { NamesFiles (most files_up_to stack.old.texts) result }
     ensures low { low ≤ stack.new.depth }

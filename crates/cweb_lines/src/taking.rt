@@ -1,6 +1,6 @@
 // The next line of an open text, without the blanks at its end.
-ghost use Rattle.std.specs.Prelude.{◌≡◌, ◌≤◌, ◌<◌, ◌+◌, ◌^◌, ℕ, List, length, IsTrue, IfOk, IfErr, IfSome, OnOk, OnErr, IsErrOf};
-ghost use Rattle.cweb_lines.specs.Lines.{trimmed, is_blank as blank};
+ghost use Rattle.std.specs.Prelude.{◌≡◌, ◌≤◌, ◌<◌, ◌+◌, ◌^◌, ℕ, List, length, IsTrue, IfOk, IfErr, IfSome, OnSome, OnOk, OnErr, IsErrOf};
+ghost use Rattle.cweb_lines.specs.Lines.{trimmed, is_blank as blank, IsOneLine};
 ghost use Rattle.cweb_lines.specs.Counts.{count_of};
 ghost use Rattle.cweb_lines.specs.Texts.{lines_left, lines_at, number_of, line_number, text_depth, matches_at, DeepAt, files_up_to, TakesLine, StopsFor, StopsReading, FirstStops, ReadBlames, Counted, NamesFiles, stop_for, newline_bytes};
 
@@ -68,6 +68,8 @@ fn take_line<S: Shelf>(
     ensures reading { IfErr result (λ stop. StopsReading stop) }
     ensures more { limits.old.lines ≤ limits.new.lines }
     ensures counted { Counted (count_of limits.old) (count_of limits.new) result }
+    ensures line { IfOk result (λ at. OnSome at (IsOneLine line.new.items)) }
+    ensures gains { IfOk result (λ at. OnSome at (limits.old.bytes + length line.new.items ≤ limits.new.bytes)) }
     ensures file { text.new.file ≡ text.old.file }
     ensures known { NamesFiles (text.old.file.0 + 1) result }
     ensures depth { text.new.depth ≡ text.old.depth }
@@ -117,6 +119,8 @@ pub fn take_from<S: Shelf>(
     ensures reading { IfErr result (λ stop. StopsReading stop) }
     ensures more { limits.old.lines ≤ limits.new.lines }
     ensures counted { Counted (count_of limits.old) (count_of limits.new) result }
+    ensures line { IfOk result (λ at. OnSome at (IsOneLine line.new.items)) }
+    ensures gains { IfOk result (λ at. OnSome at (limits.old.bytes + length line.new.items ≤ limits.new.bytes)) }
     ensures file { number_of files_up_to slot.new ≡ number_of files_up_to slot.old }
     ensures known { NamesFiles (number_of files_up_to slot.old) result }
     ensures depth { number_of text_depth slot.new ≡ number_of text_depth slot.old }
