@@ -1,0 +1,147 @@
+-- What the rules name at the front of a line has no line end.
+use Rattle.std.proofs.Common.{◌≡◌, ℕ, zero, suc, ◌+◌, ◌-◌, Bool, true, false, ◌&&◌, List, [], ◌∷◌, ◌++◌, Option, Some, None, length, take, drop, refl, sym, ◌∙◌}
+use Rattle.std.specs.Prelude.{if◌then◌else◌, codes}
+use Rattle.std.specs.List.{prefix_len}
+use Rattle.std.proofs.lemmas.Bool.{ne_eqb}
+use Rattle.cweb_rules.specs.Bytes.{begins, is_blank, is_line_end, is_word_byte, at_line_end, starts_section}
+use Rattle.cweb_rules.specs.declared.effect.Effect.{Effect}
+use Rattle.cweb_rules.specs.declared.effect.Effect.TheVariants.{Nothing, Define, Format, Program, Named, InsertDefs, Joins, GiveAt, Faulty}
+use Rattle.cweb_rules.specs.Codes.{in_limbo, in_text, in_macro, in_c}
+use Rattle.cweb_rules.specs.declared.effect.Effect.TheVariants as effect
+use Rattle.cweb_rules.specs.Constants.{Transliteration, letter}
+use Rattle.cweb_rules.specs.Cut.{Look, Goes, Ends, Reach, reach, reach_in, with_unit, body}
+use Rattle.cweb_rules.specs.declared.end.End.{End}
+use Rattle.cweb_rules.specs.declared.end.End.TheVariants.{Cut}
+use Rattle.cweb_rules.specs.Items.{look_in_literal, look_in_include, look_in_raw}
+use Rattle.cweb_rules.specs.Kinds.{Kind, Skipped, Section, Code, Letter, ControlText, Verbatim, Constant, Occurrence, Blanks, LineEnd, Comment, Quoted, Defined, Identifier, Numeral, Punctuator, Front, front}
+use Rattle.cweb_rules.specs.Fronts.{section_at, letter_is, name_at, code_front, code_at, text_front, comment_at, line_comment_at, literal_prefix, starts_literal, quoted, quote_of, raw_prefix, delimiter, closing_sign, starts_raw, starts_include, c_front, head_as}
+use Rattle.cweb_rules.specs.Lines.{IsLine}
+use Rattle.cweb_rules.specs.Fronts.{front_in}
+use Rattle.cweb_rules.specs.declared.context.Context.{Context}
+use Rattle.cweb_rules.specs.declared.context.Context.TheVariants.{Limbo, TeX, Definition, Macro, CText}
+use Rattle.cweb_rules.specs.Tables.{listed, longest, number_len, starts_number}
+
+-- a piece of one line
+abbrev pub AreLines : List (List ℕ) → Type 0
+AreLines [] = Unit {0}
+AreLines (u ∷ us) = IsLine u × AreLines us
+
+abbrev pub InLine : Kind → List ℕ → Type 0
+InLine LineEnd bytes = ⊥
+InLine (Quoted us how) bytes = AreLines us
+InLine k bytes = IsLine bytes
+
+pub IsLine-take : (n : ℕ) (t : List ℕ) → IsLine t → IsLine (take n t)
+IsLine-take zero t h = tt
+IsLine-take (suc n) [] h = tt
+IsLine-take (suc n) (b ∷ t) h = (h.0, IsLine-take n t h.1)
+
+abbrev at_front : (List ℕ → Look End) → End → Look End → List ℕ → List ℕ → Reach End
+at_front look e v u t = elim v [ Goes n ↦ with_unit (take n u) (reach_in look e (n - 1) t) | Ends n how ↦ record { units = []; close = n; how = how } ]
+
+lines_at : (look : List ℕ → Look End) (e : End) (v : Look End) (u t : List ℕ) → IsLine u → ((k : ℕ) → AreLines (reach_in look e k t).units) → AreLines (at_front look e v u t).units
+lines_at look e (Goes n) u t h f = (IsLine-take n u h, f (n - 1))
+lines_at look e (Ends n how) u t h f = tt
+
+lines_in : (look : List ℕ → Look End) (e : End) (k : ℕ) (t : List ℕ) → IsLine t → AreLines (reach_in look e k t).units
+lines_in look e k [] h = tt
+lines_in look e (suc k) (b ∷ t) h = lines_in look e k t h.1
+lines_in look e zero (b ∷ t) h = lines_at look e (look (b ∷ t)) (b ∷ t) t h (λ k. lines_in look e k t h.1)
+
+-- no unit of a line has a line end
+pub units-lines : (look : List ℕ → Look End) (e : End) (t : List ℕ) → IsLine t → AreLines (reach look e t).units
+units-lines look e t h = lines_in look e 0 t h
+
+abbrev Stands : List ℕ → Front → Type 0
+Stands t f = InLine f.kind (take f.size t)
+
+choose : (t : List ℕ) (v : Bool) (x y : Front) → (v ≡ true → Stands t x) → (v ≡ false → Stands t y) → Stands t (if v then x else y)
+choose t true x y f g = f refl
+choose t false x y f g = g refl
+
+pub IsLine-drop : (n : ℕ) (t : List ℕ) → IsLine t → IsLine (drop n t)
+IsLine-drop zero t h = h
+IsLine-drop (suc n) [] h = tt
+IsLine-drop (suc n) (b ∷ t) h = IsLine-drop n t h.1
+
+section-stands : (t : List ℕ) → IsLine t → Stands t (section_at t)
+section-stands t h = choose t (begins (codes "@*") t) (front (Section true) 2) (front (Section false) 1) (λ v. IsLine-take 2 t h) (λ v. IsLine-take 1 t h)
+
+letter-stands : (o : Option Transliteration) (t : List ℕ) → IsLine t → Stands t (letter_is o t)
+letter-stands None t h = IsLine-take 2 t h
+letter-stands (Some l) t h = IsLine-take (2 + (l.start + l.length)) t h
+
+code-stands : (e : Effect) (takes_sign : Bool) (t : List ℕ) → IsLine t → Stands t (code_front e takes_sign t)
+code-stands Named takes_sign t h = IsLine-take (name_at takes_sign t).size t h
+code-stands effect.Letter takes_sign t h = letter-stands (letter (drop 2 t)) t h
+code-stands effect.ControlText takes_sign t h = IsLine-take (code_front effect.ControlText takes_sign t).size t h
+code-stands effect.Verbatim takes_sign t h = IsLine-take (code_front effect.Verbatim takes_sign t).size t h
+code-stands effect.Constant takes_sign t h = IsLine-take (code_front effect.Constant takes_sign t).size t h
+code-stands Nothing takes_sign t h = IsLine-take 2 t h
+code-stands Define takes_sign t h = IsLine-take 2 t h
+code-stands Format takes_sign t h = IsLine-take 2 t h
+code-stands Program takes_sign t h = IsLine-take 2 t h
+code-stands InsertDefs takes_sign t h = IsLine-take 2 t h
+code-stands Joins takes_sign t h = IsLine-take 2 t h
+code-stands GiveAt takes_sign t h = IsLine-take 2 t h
+code-stands (Faulty k) takes_sign t h = IsLine-take 2 t h
+
+code_at-stands : (effect : ℕ → Effect) (takes_sign : Bool) (t : List ℕ) → IsLine t → Stands t (code_at effect takes_sign t)
+code_at-stands effect takes_sign [] h = tt
+code_at-stands effect takes_sign (a ∷ []) h = h
+code_at-stands effect takes_sign (a ∷ b ∷ t) h = code-stands (effect b) takes_sign (a ∷ b ∷ t) h
+
+text-stands : (effect : ℕ → Effect) (t : List ℕ) → IsLine t → Stands t (text_front effect t)
+text-stands effect t h =
+    choose t (starts_section t) _ _ (λ v. section-stands t h) (λ v. choose t (begins (codes "@") t) _ _ (λ w. code_at-stands effect true t h) (λ w. IsLine-take 1 t h))
+
+lines-append : (us : List (List ℕ)) (u : List ℕ) → AreLines us → IsLine u → AreLines (us ++ u ∷ [])
+lines-append [] u h k = (k, tt)
+lines-append (v ∷ us) u h k = (h.0, lines-append us u h.1 k)
+
+quoted-stands : (look : List ℕ → Look End) (n : ℕ) (t : List ℕ) → IsLine t → Stands t (quoted n (reach look Cut (drop n t)) t)
+quoted-stands look n t h =
+    let r = reach look Cut (drop n t) in
+    let m = n + length (body r) in
+    (IsLine-take n t h, lines-append r.units (take r.close (drop m t)) (units-lines look Cut (drop n t) (IsLine-drop n t h)) (IsLine-take r.close (drop m t) (IsLine-drop m t h)))
+
+c-stands : (effect : ℕ → Effect) (takes_sign includes : Bool) (b : ℕ) (t : List ℕ) → IsLine (b ∷ t) → Stands (b ∷ t) (c_front effect takes_sign includes (b ∷ t))
+c-stands effect takes_sign includes b t h =
+    let u = b ∷ t in
+    choose u (is_blank b) _ _ (λ v. IsLine-take (prefix_len is_blank u) u h)
+    (λ v0. choose u (is_line_end b) _ _ (λ v. let f : true ≡ false = sym v ∙ ne_eqb b 10 h.0 in cc)
+    (λ v1. choose u (begins (codes "/*") u) _ _ (λ v. IsLine-take (comment_at u).size u h)
+    (λ v2. choose u (begins (codes "//") u) _ _ (λ v. IsLine-take (line_comment_at u).size u h)
+    (λ v3. choose u (starts_section u) _ _ (λ v. section-stands u h)
+    (λ v4. choose u (begins (codes "@") u) _ _ (λ v. code_at-stands effect takes_sign u h)
+    (λ v5. choose u (starts_raw u) _ _ (λ v. let m = raw_prefix u + 2 in quoted-stands (look_in_raw (closing_sign (drop m u))) (m + length (delimiter (drop m u)) + 1) u h)
+    (λ v6. choose u (starts_literal u) _ _ (λ v. quoted-stands (look_in_literal (quote_of (drop (literal_prefix u) u))) (literal_prefix u + 1) u h)
+    (λ v7. choose u (includes && starts_include u) _ _ (λ v. quoted-stands look_in_include 1 u h)
+    (λ v8. choose u (starts_number u) _ _ (λ v. IsLine-take (number_len 0 u) u h)
+    (λ v9. choose u (is_word_byte b) _ _ (λ v. IsLine-take (prefix_len is_word_byte u) u h)
+    (λ va. IsLine-take (longest listed u) u h)))))))))))
+
+head-stands : (k : Kind) (f : Front) (t : List ℕ) → IsLine t → f.kind ≡ k → Stands t f → Stands t (head_as k f t)
+head-stands Blanks f t h e s = s
+head-stands LineEnd f t h e s = s
+head-stands (Comment how) f t h e s = s
+head-stands Identifier f t h e s = IsLine-take f.size t h
+head-stands Skipped f t h e s = text-stands in_text t h
+head-stands (Section starred) f t h e s = text-stands in_text t h
+head-stands (Code c) f t h e s = text-stands in_text t h
+head-stands (Letter byte text) f t h e s = text-stands in_text t h
+head-stands (ControlText how) f t h e s = text-stands in_text t h
+head-stands (Verbatim us how) f t h e s = text-stands in_text t h
+head-stands (Constant v) f t h e s = text-stands in_text t h
+head-stands (Occurrence is_file us how opens) f t h e s = text-stands in_text t h
+head-stands (Quoted us how) f t h e s = text-stands in_text t h
+head-stands (Defined tight) f t h e s = text-stands in_text t h
+head-stands Numeral f t h e s = text-stands in_text t h
+head-stands Punctuator f t h e s = text-stands in_text t h
+
+pub stands : (c : Context) (includes : Bool) (b : ℕ) (t : List ℕ) → IsLine (b ∷ t) → Stands (b ∷ t) (front_in c includes (b ∷ t))
+stands Limbo includes b t h = text-stands in_limbo (b ∷ t) h
+stands TeX includes b t h = text-stands in_text (b ∷ t) h
+stands (Definition begun) includes b t h = let f = c_front in_macro true false (b ∷ t) in head-stands f.kind f (b ∷ t) h refl (c-stands in_macro true false b t h)
+stands Macro includes b t h = choose (b ∷ t) (begins (codes "\\") (b ∷ t) && at_line_end t) _ _ (λ v. IsLine-take 1 (b ∷ t) h) (λ v. c-stands in_macro true false b t h)
+stands CText includes b t h = c-stands in_c false includes b t h

@@ -1,0 +1,97 @@
+-- `@'` and `@l`: a character's code, and a letter with its replacement.
+use Rattle.std.specs.Prelude.{ℕ, ◌+◌, ◌*◌, ◌-◌, Bool, ◌||◌, ◌&&◌, ◌==◌, nat_le, nat_lt, min, List, [], ◌∷◌, length, take, drop, codes, if◌then◌else◌, Option, Some, None, not}
+use Rattle.std.specs.List.{fold, prefix_len, position_or_len}
+use Rattle.cweb_rules.specs.Bytes.{begins, is_one_of, is_octal, is_hex, is_digit, is_gap, is_replacing, is_line_end, lower}
+
+-- a character as it is written: its code, and how many bytes it takes
+pub record Character : Type 0 where
+  pub code : ℕ
+  pub size : ℕ
+
+abbrev pub character : ℕ → ℕ → Option Character
+character code size = Some (record { code = code; size = size })
+
+-- the letters after `\` and the codes that they stand for
+abbrev pub escapes : List (ℕ × ℕ)
+escapes = (97, 7) ∷ (98, 8) ∷ (102, 12) ∷ (110, 10) ∷ (114, 13) ∷ (116, 9) ∷ (118, 11) ∷ (92, 92) ∷ (39, 39) ∷ (34, 34) ∷ (63, 63) ∷ []
+
+abbrev pub escaped : List (ℕ × ℕ) → List ℕ → Option Character
+escaped [] t = None
+escaped (e ∷ es) t = if begins (e.0 ∷ []) t then character e.1 2 else escaped es t
+
+abbrev pub octal_value : List ℕ → ℕ
+octal_value digits = fold (λ n b. n * 8 + (b - 48)) 0 digits
+
+-- one to three octal digits, at most 377
+abbrev pub octal : List ℕ → Option Character
+octal digits =
+    let n = octal_value digits in
+    if nat_le n 255 then character n (1 + length digits) else None
+
+abbrev pub after_backslash : List ℕ → Option Character
+after_backslash t =
+    let n = min 3 (prefix_len is_octal t) in
+    if n == 0 then escaped escapes t else octal (take n t)
+
+abbrev pub stands_alone : ℕ → Bool
+stands_alone b = nat_lt b 128 && not (is_one_of (39 ∷ 92 ∷ 64 ∷ 10 ∷ []) b)
+
+-- a byte below 128 that stands for itself, `@@`, or `\` with what it escapes
+abbrev pub character_at : List ℕ → Option Character
+character_at [] = None
+character_at (b ∷ t) =
+    if begins (codes "@@") (b ∷ t) then character 64 2
+    else (if begins (codes "\\") (b ∷ t) then after_backslash t
+    else (if stands_alone b then character b 1 else None))
+
+-- a faulty constant ends with the first `'`, or at the line end
+abbrev pub faulty_size : List ℕ → ℕ
+faulty_size t =
+    let n = position_or_len (λ b. (b == 39) || is_line_end b) t in
+    if begins (codes "'") (drop n t) then n + 1 else n
+
+-- what follows `@'`: its value if it has one, and its size
+pub record Valued : Type 0 where
+  pub value : Option ℕ
+  pub size : ℕ
+
+abbrev pub constant_of : Option Character → List ℕ → Valued
+constant_of None t = record { value = None; size = faulty_size t }
+constant_of (Some c) t =
+    if begins (codes "'") (drop c.size t) then record { value = Some c.code; size = c.size + 1 }
+    else record { value = None; size = faulty_size t }
+
+abbrev pub constant : List ℕ → Valued
+constant t = constant_of (character_at t) t
+
+abbrev pub hex_value : ℕ → ℕ
+hex_value b = if is_digit b then b - 48 else lower b - 87
+
+-- two hexadecimal digits of value 80 or more: the value
+abbrev pub hex_at : List ℕ → Option ℕ
+hex_at [] = None
+hex_at (a ∷ []) = None
+hex_at (a ∷ b ∷ t) =
+    let n = 16 * hex_value a + hex_value b in
+    if is_hex a && is_hex b && nat_le 128 n then Some n else None
+
+-- what follows `@l`: the byte, where its replacement begins and how long it is
+pub record Transliteration : Type 0 where
+  pub byte : ℕ
+  pub start : ℕ
+  pub length : ℕ
+
+abbrev pub letter_with : ℕ → ℕ → ℕ → List ℕ → Option Transliteration
+letter_with byte start gap t =
+    if gap == 0 then None
+    else Some (record { byte = byte; start = start + gap; length = prefix_len is_replacing (drop gap t) })
+
+-- any blanks and tabs, the digits, at least one blank or tab, any more of them, then the longest run of letters, digits and `_`
+abbrev pub letter_after : ℕ → List ℕ → Option Transliteration
+letter_after gap t = elim (hex_at t) [
+  | None ↦ None
+  | Some byte ↦ letter_with byte (gap + 2) (prefix_len is_gap (drop 2 t)) (drop 2 t)
+]
+
+abbrev pub letter : List ℕ → Option Transliteration
+letter t = letter_after (prefix_len is_gap t) (drop (prefix_len is_gap t) t)

@@ -1,0 +1,10 @@
+pub mod Bytes
+pub mod Tables
+pub mod Codes
+pub mod Cut
+pub mod Items
+pub mod Constants
+pub mod Kinds
+pub mod Fronts
+pub mod Pays
+pub mod Lines
