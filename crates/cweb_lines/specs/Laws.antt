@@ -1,6 +1,7 @@
 -- What holds of merged lines whatever the texts are, in the words of someone who writes webs.
 use Rattle.std.specs.Prelude.{◌≡◌, ℕ, zero, suc, ◌+◌, Bool, true, false, List, [], ◌∷◌, map, Option, None, Some}
 use Rattle.std.specs.List.{list_any}
+use Rattle.std.specs.Option.{is_some}
 use Rattle.cweb_files.specs.declared.place.FileId.{FileId}
 use Rattle.cweb_files.specs.declared.place.Place.{Place}
 use Rattle.cweb_lines.specs.Lines.{Line, lines}
@@ -40,3 +41,29 @@ only_lines lines = record { lines = lines; faults = []; included = [] }
 abbrev pub WebsWithoutIncludesAreTheirOwnLines : Type 0
 WebsWithoutIncludesAreTheirOwnLines = (world : World) (web : List ℕ) → list_any is_include (lines web) ≡ false
     → seen_of world web None ≡ only_lines (placed 0 1 (lines web))
+
+-- a line that begins @x, @y or @z
+abbrev pub is_code : List ℕ → Bool
+is_code line = is_some (code_of line)
+
+-- files are numbered as they are opened, from the web's 0 on: with a change file, which is then file 1, each included file has the next number
+abbrev pub file_behind : ℕ → ℕ
+file_behind zero = zero
+file_behind (suc file) = suc (suc file)
+
+abbrev pub place_behind : Place → Place
+place_behind place = record { file = record { 0 = file_behind place.file.0 }; line = place.line }
+
+abbrev pub line_behind : Line → Line
+line_behind line = record { bytes = line.bytes; place = place_behind line.place }
+
+abbrev pub fault_behind : SourceFault → SourceFault
+fault_behind fault = record { kind = fault.kind; place = place_behind fault.place; count = fault.count }
+
+abbrev pub seen_behind : Seen → Seen
+seen_behind all = record { lines = map line_behind all.lines; faults = map fault_behind all.faults; included = all.included }
+
+-- a change file of no entries is no change file: what comes of the web is the same, but for the numbers of the files
+abbrev pub ChangeFilesWithoutEntriesChangeNothing : Type 0
+ChangeFilesWithoutEntriesChangeNothing = (world : World) (web change : List ℕ) → list_any is_code (lines change) ≡ false
+    → seen_of world web (Some change) ≡ seen_behind (seen_of world web None)

@@ -1,6 +1,6 @@
 //! What holds of merged lines whatever the texts are. These functions do nothing: each is there for its contract.
 
-ghost use Rattle.cweb_lines.specs.Laws.{WebsWithoutIncludesAreTheirOwnLines};
+ghost use Rattle.cweb_lines.specs.Laws.{ChangeFilesWithoutEntriesChangeNothing, WebsWithoutIncludesAreTheirOwnLines};
 ghost use Rattle.cweb_lines.specs.Total.{HasOneAnswer};
 
 /// Every shelf, web and change file have their merged lines, and have them once: the steps of the merge end, and
@@ -13,4 +13,11 @@ pub fn merge_has_one_answer()
 /// fault.
 pub fn web_without_includes_is_its_own_lines()
     ensures { WebsWithoutIncludesAreTheirOwnLines }
+{}
+
+/// A change file of no entries, none of whose lines begins `@x`, `@y` or `@z`, is no change file: lines, faults and
+/// included files are the same. Only the numbers of the included files are each one more, since the change file is
+/// file 1.
+pub fn change_file_without_entries_changes_nothing()
+    ensures { ChangeFilesWithoutEntriesChangeNothing }
 {}
