@@ -8,6 +8,7 @@ use Rattle.cweb_lines.specs.Lines.{lines}
 use Rattle.cweb_lines.specs.Include.{World, is_include}
 use Rattle.cweb_lines.specs.Laws.{Seen, is_code, only_lines, placed, seen, seen_behind}
 use Rattle.cweb_lines.specs.Merge.{Event, run, started}
+use Rattle.cweb_lines.specs.Writing.{text_of}
 use Rattle.cweb_lines.specs.declared.fault.SourceKind.TheVariants.{NoName}
 
 abbrev seen_by : Option (List Event) → Option Seen
@@ -42,3 +43,14 @@ it_shows : option_map seen_behind (seen_by (run 20 a_file_included (started (cod
 })
 unfolding is_utf8 chars encode
 it_shows = refl
+
+-- a change that includes a file: what it prints, and what is printed again
+abbrev changed_web : Option Seen
+changed_web = seen_by (run 30 a_file_included (started (codes "A\nC\n") (Some (codes "@x\nA\n@y\n@i b\n@z\n"))))
+
+it_prints : option_map (λ s. text_of s.lines) changed_web ≡ Some (codes "B\nC\n")
+unfolding is_utf8 chars encode
+it_prints = refl
+
+it_prints_again : option_map (λ s. text_of s.lines) (seen_by (run 30 no_texts (started (codes "B\nC\n") None))) ≡ Some (codes "B\nC\n")
+it_prints_again = refl

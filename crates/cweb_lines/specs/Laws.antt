@@ -67,3 +67,16 @@ seen_behind all = record { lines = map line_behind all.lines; faults = map fault
 abbrev pub ChangeFilesWithoutEntriesChangeNothing : Type 0
 ChangeFilesWithoutEntriesChangeNothing = (world : World) (web change : List ℕ) → list_any is_code (lines change) ≡ false
     → seen_of world web (Some change) ≡ seen_behind (seen_of world web None)
+
+-- a text that was printed comes of itself: its lines are what was printed, none of them begins an include, and they are printed again
+pub record ComesAgain (printed : List Line) (again : Seen) : Type 0 where
+  pub same_lines : lines (text_of printed) ≡ map (λ line. line.bytes) printed
+  pub without_includes : list_any is_include (lines (text_of printed)) ≡ false
+  pub same_text : text_of again.lines ≡ text_of printed
+  pub faultless : again.faults ≡ []
+  pub alone : again.included ≡ []
+
+-- what is printed of a merge, merged again without a change file, is itself, whatever texts lie beside it then
+abbrev pub PrintedMergesComeAgain : Type 0
+PrintedMergesComeAgain = (world other : World) (web : List ℕ) (change : Option (List ℕ)) →
+    let printed = (seen_of world web change).lines in ComesAgain printed (seen_of other (text_of printed) None)

@@ -1,6 +1,6 @@
 //! What holds of merged lines whatever the texts are. These functions do nothing: each is there for its contract.
 
-ghost use Rattle.cweb_lines.specs.Laws.{ChangeFilesWithoutEntriesChangeNothing, WebsWithoutIncludesAreTheirOwnLines};
+ghost use Rattle.cweb_lines.specs.Laws.{ChangeFilesWithoutEntriesChangeNothing, PrintedMergesComeAgain, WebsWithoutIncludesAreTheirOwnLines};
 ghost use Rattle.cweb_lines.specs.Total.{HasOneAnswer};
 
 /// Every shelf, web and change file have their merged lines, and have them once: the steps of the merge end, and
@@ -20,4 +20,10 @@ pub fn web_without_includes_is_its_own_lines()
 /// file 1.
 pub fn change_file_without_entries_changes_nothing()
     ensures { ChangeFilesWithoutEntriesChangeNothing }
+{}
+
+/// What is printed of a merge, merged again without a change file, is itself, without a fault: no line that is given
+/// out begins an include.
+pub fn printed_merge_comes_again()
+    ensures { PrintedMergesComeAgain }
 {}

@@ -29,7 +29,10 @@ pub use cweb_files::{
     FileId, MemoryReader, MemoryShelf, MemorySink, Place, Shelf, ShelfFault, Sink, SinkFault,
 };
 pub use fault::{SourceFault, SourceKind};
-pub use laws::{change_file_without_entries_changes_nothing, merge_has_one_answer, web_without_includes_is_its_own_lines};
+pub use laws::{
+    change_file_without_entries_changes_nothing, merge_has_one_answer, printed_merge_comes_again,
+    web_without_includes_is_its_own_lines,
+};
 pub use limits::{BYTES, LINE_LENGTH, LINES};
 pub use merger::Merger;
 pub use names::FileNames;
