@@ -1,0 +1,148 @@
+/* A library to be loaded before the C library (LD_PRELOAD). It makes chosen calls of a program fail, be cut short or
+ * be broken off by a signal. The script `faults` beside it compiles and drives it.
+ *
+ * The variable FAULTS has seven words:
+ *   CALL    alloc, open, read or write: the calls that are counted
+ *   STREAM  the file descriptor whose reads or writes are counted, -1: all
+ *   NTH     the first call that is met, from 1
+ *   EVERY   0: no other one is met; else each EVERY-th from there on
+ *   ERROR   the errno with which a call that is met fails; 0: it is not to fail
+ *   MOST    where it is not to fail, the most bytes that it transfers (a write of 0 bytes takes nothing)
+ *   REPORT  the file descriptor to which the first call that is met is told: `alloc`, a path, or a stream's number
+ */
+#define _GNU_SOURCE
+#include <dlfcn.h>
+#include <errno.h>
+#include <fcntl.h>
+#include <stdarg.h>
+#include <stdio.h>
+#include <stdlib.h>
+#include <string.h>
+#include <sys/syscall.h>
+#include <unistd.h>
+
+enum { FILES = 64, NAME = 256, SECONDS = 20 };
+
+static void *(*next_malloc)(size_t);
+static void *(*next_calloc)(size_t, size_t);
+static void *(*next_realloc)(void *, size_t);
+
+static char call[8];
+static int stream, error, report;
+static long nth, every, most, count;
+
+/* The paths under which files were opened, by their descriptors. */
+static char paths[FILES][NAME];
+
+__attribute__((constructor)) static void begin(void)
+{
+    next_malloc = dlsym(RTLD_NEXT, "malloc");
+    next_calloc = dlsym(RTLD_NEXT, "calloc");
+    next_realloc = dlsym(RTLD_NEXT, "realloc");
+    /* a program that does not end is stopped, and the script sees by which signal */
+    alarm(SECONDS);
+    const char *asked = getenv("FAULTS");
+    if (!asked || sscanf(asked, "%7s %d %ld %ld %d %ld %d", call, &stream, &nth, &every, &error, &most, &report) != 7)
+        call[0] = 0;
+}
+
+static void tell(const char *what)
+{
+    syscall(SYS_write, report, what, strlen(what));
+}
+
+/* Counts a call, and answers whether it is met. */
+static int meets(const char *name, int descriptor, const char *what)
+{
+    if (strcmp(call, name) || (stream >= 0 && descriptor != stream))
+        return 0;
+    count++;
+    if (count < nth || (count > nth && (every == 0 || (count - nth) % every)))
+        return 0;
+    if (count == nth)
+        tell(what);
+    return 1;
+}
+
+static int refuses_memory(void)
+{
+    if (!meets("alloc", -1, "alloc"))
+        return 0;
+    errno = ENOMEM;
+    return 1;
+}
+
+void *malloc(size_t size)
+{
+    if (!next_malloc)
+        next_malloc = dlsym(RTLD_NEXT, "malloc");
+    return refuses_memory() ? NULL : next_malloc(size);
+}
+
+void *calloc(size_t number, size_t size)
+{
+    /* dlsym itself may call it before it is known, and can do without */
+    if (!next_calloc)
+        return NULL;
+    return refuses_memory() ? NULL : next_calloc(number, size);
+}
+
+void *realloc(void *old, size_t size)
+{
+    if (!next_realloc)
+        next_realloc = dlsym(RTLD_NEXT, "realloc");
+    return refuses_memory() ? NULL : next_realloc(old, size);
+}
+
+int open(const char *path, int flags, ...)
+{
+    mode_t mode = 0;
+    if (flags & O_CREAT) {
+        va_list rest;
+        va_start(rest, flags);
+        mode = va_arg(rest, mode_t);
+        va_end(rest);
+    }
+    if (meets("open", -1, path)) {
+        errno = error;
+        return -1;
+    }
+    int descriptor = syscall(SYS_openat, AT_FDCWD, path, flags, mode);
+    if (descriptor >= 0 && descriptor < FILES)
+        snprintf(paths[descriptor], NAME, "%s", path);
+    return descriptor;
+}
+
+static const char *path_of(int descriptor)
+{
+    return descriptor >= 0 && descriptor < FILES ? paths[descriptor] : "?";
+}
+
+ssize_t read(int descriptor, void *piece, size_t size)
+{
+    if (meets("read", descriptor, path_of(descriptor))) {
+        if (error) {
+            errno = error;
+            return -1;
+        }
+        if (size > (size_t)most)
+            size = most;
+    }
+    return syscall(SYS_read, descriptor, piece, size);
+}
+
+ssize_t write(int descriptor, const void *piece, size_t size)
+{
+    const char number[] = { '0' + descriptor % 10, 0 };
+    if (meets("write", descriptor, number)) {
+        if (error) {
+            errno = error;
+            return -1;
+        }
+        if (size > (size_t)most)
+            size = most;
+        if (size == 0)
+            return 0;
+    }
+    return syscall(SYS_write, descriptor, piece, size);
+}
