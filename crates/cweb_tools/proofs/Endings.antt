@@ -1,5 +1,5 @@
 -- How the exits of a run are its ends.
-use Rattle.std.proofs.Common.{◌≤◌, ◌≡◌, ◌⊎◌, inl, inr, ℕ, List, [], ◌∷◌, ◌++◌, refl, sym, ◌∙◌, ap, subst, append-nil, append_assoc, arith}
+use Rattle.std.proofs.Common.{◌≤◌, ◌<◌, ◌+◌, length, ◌≡◌, ◌⊎◌, inl, inr, ℕ, List, [], ◌∷◌, ◌++◌, refl, sym, ◌∙◌, ap, subst, append-nil, append_assoc, arith}
 use Rattle.std.specs.Prelude.{Option, Some, None, Err}
 use Rattle.cweb_lines.specs.Include.{World, Found}
 use Rattle.cweb_lines.specs.Merge.{Event, started}
@@ -10,15 +10,16 @@ use Rattle.cweb_lines.specs.declared.stop.Stop.{Stop}
 use Rattle.cweb_lines.specs.declared.stop.Stop.TheVariants.{Usage, WebNotOpened, ChangeNotOpened, ReadFault, LineTooLong, TooMuchText, Memory, WriteFault}
 use Rattle.cweb_lines.specs.Merge.{took, given, fault, opening}
 use Rattle.cweb_lines.specs.Merging.{SoFar, Gives, TellsFront, TooMuchAhead}
-use Rattle.cweb_lines.specs.Texts.{Count, ReadBlames}
+use Rattle.cweb_lines.specs.Texts.{Count, ReadBlames, files_named}
 use Rattle.cweb_lines.specs.Told.{AreShort}
 use Rattle.cweb_lines.specs.Lines.{SourceLine}
 use Rattle.cweb_lines.specs.Whole.{StopsAtStart}
 use Rattle.cweb_lines.specs.Finding.{names_found, text_found}
 use Rattle.cweb_lines.specs.declared.limits.TheConstants.{LINE_LENGTH, LINES, BYTES}
-use Rattle.cweb_lines.specs.Writing.{text_of, StopsWriting, WritingStops, WriteBlames}
+use Rattle.cweb_lines.specs.Writing.{text_of, LongIn, StopsWriting, WritingStops, WriteBlames}
 use Rattle.cweb_tools.specs.Log.{stop_line, subject}
-use Rattle.cweb_tools.specs.Run.{Course, unread, not_there, change_not_there, merging, change_name, start_subject, merge_log, merge_status, Devices, Logs, LogsFaults, AreOpened, Ends, completes, stops, Explains, StaysWithin, merged, asked_course, found_course, usage, IsMerge, RanFreely}
+use Rattle.cweb_tools.specs.Run.{Breaks, PassesSums, FailsOnce, Promises, Course, unread, not_there, change_not_there, merging, change_name, start_subject, merge_log, merge_status, Logs, LogsFaults, AreOpened, Ends, completes, stops, Explains, StaysWithin, merged, asked_course, found_course, usage, IsMerge, RanFreely}
+use Rattle.cweb_tools.specs.Seen.{Seen}
 use Rattle.cweb_tools.specs.Words.{WebNames}
 use Rattle.cweb_lines.specs.Writing.{WritesFront}
 use Rattle.cweb_lines.proofs.Merges.{openings-append}
@@ -53,57 +54,57 @@ opened_by first old new events began front names is = (
 )
 
 -- want of memory before anything was written
-pub wants_memory : (course : Course) (before after : Devices) (status : ℕ) (name : List ℕ) → after.shelf_failed ≡ before.shelf_failed → after.out_failed ≡ before.out_failed → after.out ≡ before.out
-    → Logs (stop_line Memory name) before.log_failed after.log_failed before.log after.log → status ≡ 1 → Ends course before after status
+pub wants_memory : (course : Course) (before after : Seen) (status : ℕ) (name : List ℕ) → after.shelf.failed ≡ before.shelf.failed → after.out.failed ≡ before.out.failed → after.out.bytes ≡ before.out.bytes
+    → Logs (stop_line Memory name) before.log.failed after.log.failed before.log.bytes after.log.bytes → status ≡ 1 → Ends course before after status
 wants_memory course before after status name shelf out same logs one =
-    stops (record { stop = Memory; names = []; opened = none_opened course; cause = (shelf, out); front = none_written before.out after.out (merged course) same; logged = logs; answered = one })
+    stops (record { stop = Memory; names = []; opened = none_opened course; named = omega arith; cause = (shelf, out); front = none_written before.out.bytes after.out.bytes (merged course) same; logged = logs; answered = one })
 
 -- a run that opens nothing: its words can't be read, or a file is not there
-opens_nothing : (course : Course) (line : List ℕ) (before after : Devices) (status : ℕ) → StaysWithin course → merged course ≡ [] → merge_log course ≡ line → merge_status course ≡ 1
-    → after.shelf_failed ≡ before.shelf_failed → after.out_failed ≡ before.out_failed → after.out ≡ before.out
-    → Logs line before.log_failed after.log_failed before.log after.log → status ≡ 1 → Ends course before after status
+opens_nothing : (course : Course) (line : List ℕ) (before after : Seen) (status : ℕ) → StaysWithin course → merged course ≡ [] → merge_log course ≡ line → merge_status course ≡ 1
+    → after.shelf.failed ≡ before.shelf.failed → after.out.failed ≡ before.out.failed → after.out.bytes ≡ before.out.bytes
+    → Logs line before.log.failed after.log.failed before.log.bytes after.log.bytes → status ≡ 1 → Ends course before after status
 opens_nothing course line before after status kept empty line_is one_is shelf out same logs one =
     completes (record {
       kept = kept;
       read = shelf;
       printed = out;
-      written = same ∙ sym (append-nil before.out) ∙ ap (λ (t : List ℕ). before.out ++ t) (sym empty);
-      logged = subst (λ (t : List ℕ). Logs t before.log_failed after.log_failed before.log after.log) (sym line_is) logs;
+      written = same ∙ sym (append-nil before.out.bytes) ∙ ap (λ (t : List ℕ). before.out.bytes ++ t) (sym empty);
+      logged = subst (λ (t : List ℕ). Logs t before.log.failed after.log.failed before.log.bytes after.log.bytes) (sym line_is) logs;
       answered = λ told. one ∙ sym one_is;
     })
 
-unread_ends : (world : World) (asked : Option WebNames) (before after : Devices) (status : ℕ) → asked ≡ None
-    → after.shelf_failed ≡ before.shelf_failed → after.out_failed ≡ before.out_failed → after.out ≡ before.out
-    → Logs (stop_line Usage usage) before.log_failed after.log_failed before.log after.log → status ≡ 1 → Ends (asked_course world asked) before after status
+unread_ends : (world : World) (asked : Option WebNames) (before after : Seen) (status : ℕ) → asked ≡ None
+    → after.shelf.failed ≡ before.shelf.failed → after.out.failed ≡ before.out.failed → after.out.bytes ≡ before.out.bytes
+    → Logs (stop_line Usage usage) before.log.failed after.log.failed before.log.bytes after.log.bytes → status ≡ 1 → Ends (asked_course world asked) before after status
 unread_ends world None before after status none shelf out same logs one = opens_nothing unread _ before after status tt refl refl refl shelf out same logs one
 unread_ends world (Some names) before after status none shelf out same logs one = absurd (cc)
 
-pub words_stopped : (stop : Stop) (world : World) (asked : Option WebNames) (before after : Devices) (status : ℕ) → (stop ≡ Usage) ⊎ (stop ≡ Memory) → (stop ≡ Usage → asked ≡ None)
-    → after.shelf_failed ≡ before.shelf_failed → after.out_failed ≡ before.out_failed → after.out ≡ before.out
-    → Logs (stop_line stop usage) before.log_failed after.log_failed before.log after.log → status ≡ 1 → Ends (asked_course world asked) before after status
+pub words_stopped : (stop : Stop) (world : World) (asked : Option WebNames) (before after : Seen) (status : ℕ) → (stop ≡ Usage) ⊎ (stop ≡ Memory) → (stop ≡ Usage → asked ≡ None)
+    → after.shelf.failed ≡ before.shelf.failed → after.out.failed ≡ before.out.failed → after.out.bytes ≡ before.out.bytes
+    → Logs (stop_line stop usage) before.log.failed after.log.failed before.log.bytes after.log.bytes → status ≡ 1 → Ends (asked_course world asked) before after status
 words_stopped stop world asked before after status (inl is) none shelf out same logs one =
-    unread_ends world asked before after status (none is) shelf out same (subst (λ (s : Stop). Logs (stop_line s usage) before.log_failed after.log_failed before.log after.log) is logs) one
+    unread_ends world asked before after status (none is) shelf out same (subst (λ (s : Stop). Logs (stop_line s usage) before.log.failed after.log.failed before.log.bytes after.log.bytes) is logs) one
 words_stopped stop world asked before after status (inr is) none shelf out same logs one =
-    wants_memory (asked_course world asked) before after status usage shelf out same (subst (λ (s : Stop). Logs (stop_line s usage) before.log_failed after.log_failed before.log after.log) is logs) one
+    wants_memory (asked_course world asked) before after status usage shelf out same (subst (λ (s : Stop). Logs (stop_line s usage) before.log.failed after.log.failed before.log.bytes after.log.bytes) is logs) one
 
-not_there_ends : (world : World) (names : WebNames) (found : Option Found) (changes : Option (Option Found)) (before after : Devices) (status : ℕ) → found ≡ None
-    → after.shelf_failed ≡ before.shelf_failed → after.out_failed ≡ before.out_failed → after.out ≡ before.out
-    → Logs (stop_line WebNotOpened names.web) before.log_failed after.log_failed before.log after.log → status ≡ 1 → Ends (found_course world names found changes) before after status
+not_there_ends : (world : World) (names : WebNames) (found : Option Found) (changes : Option (Option Found)) (before after : Seen) (status : ℕ) → found ≡ None
+    → after.shelf.failed ≡ before.shelf.failed → after.out.failed ≡ before.out.failed → after.out.bytes ≡ before.out.bytes
+    → Logs (stop_line WebNotOpened names.web) before.log.failed after.log.failed before.log.bytes after.log.bytes → status ≡ 1 → Ends (found_course world names found changes) before after status
 not_there_ends world names None changes before after status none shelf out same logs one =
     opens_nothing (not_there names.web) _ before after status tt refl refl refl shelf out same logs one
 not_there_ends world names (Some web) changes before after status none shelf out same logs one = absurd (cc)
 
-change_not_there_ends : (world : World) (names : WebNames) (found : Option Found) (changes : Option (Option Found)) (web : Found) (before after : Devices) (status : ℕ) → found ≡ Some web → changes ≡ None
-    → after.shelf_failed ≡ before.shelf_failed → after.out_failed ≡ before.out_failed → after.out ≡ before.out
-    → Logs (stop_line ChangeNotOpened (change_name names.change)) before.log_failed after.log_failed before.log after.log → status ≡ 1 → Ends (found_course world names found changes) before after status
+change_not_there_ends : (world : World) (names : WebNames) (found : Option Found) (changes : Option (Option Found)) (web : Found) (before after : Seen) (status : ℕ) → found ≡ Some web → changes ≡ None
+    → after.shelf.failed ≡ before.shelf.failed → after.out.failed ≡ before.out.failed → after.out.bytes ≡ before.out.bytes
+    → Logs (stop_line ChangeNotOpened (change_name names.change)) before.log.failed after.log.failed before.log.bytes after.log.bytes → status ≡ 1 → Ends (found_course world names found changes) before after status
 change_not_there_ends world names None changes web before after status there none shelf out same logs one = absurd (cc)
 change_not_there_ends world names (Some found) (Some change) web before after status there none shelf out same logs one = absurd (cc)
 change_not_there_ends world names (Some found) None web before after status there none shelf out same logs one =
     opens_nothing (change_not_there (change_name names.change)) _ before after status tt refl refl refl shelf out same logs one
 
-pub start_stopped : (stop : Stop) (world : World) (names : WebNames) (found : Option Found) (changes : Option (Option Found)) (before after : Devices) (status : ℕ) → StopsAtStart stop found changes
-    → after.shelf_failed ≡ before.shelf_failed → after.out_failed ≡ before.out_failed → after.out ≡ before.out
-    → Logs (stop_line stop (start_subject names stop)) before.log_failed after.log_failed before.log after.log → status ≡ 1 → Ends (found_course world names found changes) before after status
+pub start_stopped : (stop : Stop) (world : World) (names : WebNames) (found : Option Found) (changes : Option (Option Found)) (before after : Seen) (status : ℕ) → StopsAtStart stop found changes
+    → after.shelf.failed ≡ before.shelf.failed → after.out.failed ≡ before.out.failed → after.out.bytes ≡ before.out.bytes
+    → Logs (stop_line stop (start_subject names stop)) before.log.failed after.log.failed before.log.bytes after.log.bytes → status ≡ 1 → Ends (found_course world names found changes) before after status
 start_stopped WebNotOpened world names found changes before after status why shelf out same logs one = not_there_ends world names found changes before after status why shelf out same logs one
 start_stopped ChangeNotOpened world names found changes before after status why shelf out same logs one =
     change_not_there_ends world names found changes why.0.0 before after status why.0.1 why.1 shelf out same logs one
@@ -117,29 +118,29 @@ pub begins_course : (world : World) (names : WebNames) (found : Option Found) (c
 begins_course world names found changes name text change events there changes_there is = rw (there, changes_there, is) refl
 
 -- a run that begins a merge
-module _ (first : List (List ℕ)) (events : List Event) (course : Course) (is : course ≡ merging first events) (before after : Devices) (status : ℕ) where
-  logged_whole : IsWithinLimits (taken_lines events) → LogsFaults (first ++ openings events) (told_faults events) before.log_failed after.log_failed before.log after.log status
-      → after.shelf_failed ≡ before.shelf_failed → after.out_failed ≡ before.out_failed → after.out ≡ before.out ++ text_of (given_lines events) → Ends (merging first events) before after status
+module _ (first : List (List ℕ)) (events : List Event) (course : Course) (is : course ≡ merging first events) (before after : Seen) (status : ℕ) where
+  logged_whole : IsWithinLimits (taken_lines events) → LogsFaults (first ++ openings events) (told_faults events) before.log.failed after.log.failed before.log.bytes after.log.bytes status
+      → after.shelf.failed ≡ before.shelf.failed → after.out.failed ≡ before.out.failed → after.out.bytes ≡ before.out.bytes ++ text_of (given_lines events) → Ends (merging first events) before after status
   logged_whole kept (inl (logs, answered)) shelf out written = completes (record { kept = kept; read = shelf; printed = out; written = written; logged = logs; answered = answered })
   logged_whole kept (inr (logs, one)) shelf out written =
-      stops (record { stop = Memory; names = []; opened = none_opened (merging first events); cause = (shelf, out); front = all_written before.out after.out (text_of (given_lines events)) written; logged = logs; answered = one })
+      stops (record { stop = Memory; names = []; opened = none_opened (merging first events); named = omega arith; cause = (shelf, out); front = all_written before.out.bytes after.out.bytes (text_of (given_lines events)) written; logged = logs; answered = one })
 
   pub completed : (names : List (List ℕ)) (faults : List SourceFault) → IsWithinLimits (taken_lines events) → names ≡ first ++ openings events → faults ≡ told_faults events
-      → after.shelf_failed ≡ before.shelf_failed → after.out_failed ≡ before.out_failed → after.out ≡ before.out ++ text_of (given_lines events)
-      → LogsFaults names faults before.log_failed after.log_failed before.log after.log status → Ends course before after status
+      → after.shelf.failed ≡ before.shelf.failed → after.out.failed ≡ before.out.failed → after.out.bytes ≡ before.out.bytes ++ text_of (given_lines events)
+      → LogsFaults names faults before.log.failed after.log.failed before.log.bytes after.log.bytes status → Ends course before after status
   completed names faults kept names_are faults_are shelf out written logs =
       subst (λ (c : Course). Ends c before after status) (sym is)
       (logged_whole kept
-      (subst (λ (fs : List SourceFault). LogsFaults (first ++ openings events) fs before.log_failed after.log_failed before.log after.log status) faults_are
-      (subst (λ (ns : List (List ℕ)). LogsFaults ns faults before.log_failed after.log_failed before.log after.log status) names_are logs))
+      (subst (λ (fs : List SourceFault). LogsFaults (first ++ openings events) fs before.log.failed after.log.failed before.log.bytes after.log.bytes status) faults_are
+      (subst (λ (ns : List (List ℕ)). LogsFaults ns faults before.log.failed after.log.failed before.log.bytes after.log.bytes status) names_are logs))
       shelf out written)
 
-  pub stopped : (stop : Stop) (names : List (List ℕ)) → AreOpened names (merging first events) → Explains stop (IsWithinLimits (taken_lines events)) before after
-      → WritesFront before.out after.out (text_of (given_lines events)) → Logs (stop_line stop (subject names stop)) before.log_failed after.log_failed before.log after.log → status ≡ 1
+  pub stopped : (stop : Stop) (names : List (List ℕ)) → AreOpened names (merging first events) → files_named stop ≤ length names → Explains stop (merging first events) before after
+      → WritesFront before.out.bytes after.out.bytes (text_of (given_lines events)) → Logs (stop_line stop (subject names stop)) before.log.failed after.log.failed before.log.bytes after.log.bytes → status ≡ 1
       → Ends course before after status
-  stopped stop names opened cause front logs one =
+  stopped stop names opened named cause front logs one =
       subst (λ (c : Course). Ends c before after status) (sym is)
-      (stops (record { stop = stop; names = names; opened = opened; cause = cause; front = front; logged = logs; answered = one }))
+      (stops (record { stop = stop; names = names; opened = opened; named = named; cause = cause; front = front; logged = logs; answered = one }))
 
 -- what a merge told, where it began with these files and all of it came
 module _ (first : List (List ℕ)) (all : List Event) (old new : SoFar) (began : old ≡ begun_with first) (gives : Gives (given_lines all) old new all []) where
@@ -169,40 +170,67 @@ short_at (fault f ∷ events) line later short = short_at events line later shor
 short_at (opening n ∷ events) line later short = short_at events line later short
 
 -- with one more line than was taken a sum would pass its limit, and that line is among all
-too_much : (first : List (List ℕ)) (old : SoFar) (now : Count) (events : List Event) → old ≡ begun_with first
-    → TooMuchAhead old.count now events → IsWithinLimits (taken_lines events) → ⊥
-too_much first old now events began why within =
+passes_sums : (first : List (List ℕ)) (old : SoFar) (now : Count) (events : List Event) → old ≡ begun_with first
+    → TooMuchAhead old.count now events → PassesSums events
+passes_sums first old now events began why =
     let no_lines : old.count.lines ≡ 0 = ap (λ (s : SoFar). s.count.lines) began in
     let no_bytes : old.count.bytes ≡ 0 = ap (λ (s : SoFar). s.count.bytes) began in
-    elim why.passes [ inl lines ↦ omega (arith, lines, why.few, within.few) | inr bytes ↦ omega (arith, bytes, why.small, within.small) ]
+    elim why.passes [ inl lines ↦ inl (omega (arith, lines, why.few, no_lines)) | inr bytes ↦ inr (omega (arith, bytes, why.small, no_bytes)) ]
+
+-- a course that breaks a limit does not stay within them
+breaks_beyond : (course : Course) (stop : Stop) → Breaks course stop → StaysWithin course → ⊥
+breaks_beyond (merging names events) (LineTooLong file) why within =
+    omega (arith, short_at why.events why.line why.later (subst (λ (es : List Event). AreShort (taken_lines es)) why.whole within.short), why.why.1)
+breaks_beyond (merging names events) TooMuchText why within = elim why [ inl lines ↦ omega (arith, lines, within.few) | inr bytes ↦ omega (arith, bytes, within.small) ]
+breaks_beyond course stop why within = absurd why
 
 -- why the writing of a merge stopped
-pub explains : (stop : Stop) (first : List (List ℕ)) (old : SoFar) (now : Count) (events : List Event) (before after : Devices)
+pub explains : (stop : Stop) (first : List (List ℕ)) (old : SoFar) (now : Count) (events : List Event) (before after : Seen)
     → old ≡ begun_with first → WritingStops stop → StopsWriting stop old.count now events
-    → ReadBlames {A = Unit {0}} before.shelf_failed after.shelf_failed (Err stop) → WriteBlames {A = Unit {0}} before.out_failed after.out_failed (Err stop)
-    → Explains stop (IsWithinLimits (taken_lines events)) before after
+    → ReadBlames {A = Unit {0}} before.shelf.failed after.shelf.failed (Err stop) → WriteBlames {A = Unit {0}} before.out.failed after.out.failed (Err stop)
+    → Explains stop (merging first events) before after
 explains (ReadFault file) first old now events before after began kind why shelf out = (shelf, omega (arith, out))
-explains (LineTooLong file) first old now events before after began kind why shelf out =
-    ((λ within. omega (arith, short_at why.events why.line why.later (subst (λ (es : List Event). AreShort (taken_lines es)) why.whole within.short), why.why.1)), omega (arith, shelf), omega (arith, out))
-explains TooMuchText first old now events before after began kind why shelf out = ((λ within. too_much first old now events began why within), omega (arith, shelf), omega (arith, out))
+explains (LineTooLong file) first old now events before after began kind why shelf out = (why, omega (arith, shelf), omega (arith, out))
+explains TooMuchText first old now events before after began kind why shelf out = (passes_sums first old now events began why, omega (arith, shelf), omega (arith, out))
 explains Memory first old now events before after began kind why shelf out = (omega (arith, shelf), omega (arith, out))
 explains WriteFault first old now events before after began kind why shelf out = (omega (arith, shelf), out)
 explains stop first old now events before after began kind why shelf out = absurd kind
 
-pub beyond_limits : (course : Course) (before after : Devices) (status : ℕ) → Ends course before after status → ¬ StaysWithin course → status ≡ 1
+pub beyond_limits : (course : Course) (before after : Seen) (status : ℕ) → Ends course before after status → ¬ StaysWithin course → status ≡ 1
 beyond_limits course before after status (completes whole) beyond = absurd (beyond whole.kept)
 beyond_limits course before after status (stops stop) beyond = stop.answered
 
 -- a run that something stopped did not run freely
-not_free : (stop : Stop) (name : List ℕ) (course : Course) (before after : Devices) → Explains stop (StaysWithin course) before after
-    → Logs (stop_line stop name) before.log_failed after.log_failed before.log after.log → RanFreely course before after → ⊥
+not_free : (stop : Stop) (name : List ℕ) (course : Course) (before after : Seen) → Explains stop course before after
+    → Logs (stop_line stop name) before.log.failed after.log.failed before.log.bytes after.log.bytes → RanFreely course before after → ⊥
 not_free (ReadFault file) name course before after cause logs free = absurd (omega (arith, cause.0, free.read))
 not_free WriteFault name course before after cause logs free = absurd (omega (arith, cause.1, free.printed))
-not_free (LineTooLong file) name course before after cause logs free = cause.0 free.within
-not_free TooMuchText name course before after cause logs free = cause.0 free.within
+not_free (LineTooLong file) name course before after cause logs free = breaks_beyond course _ cause.0 free.within
+not_free TooMuchText name course before after cause logs free = breaks_beyond course _ cause.0 free.within
 not_free Memory name course before after cause logs free = free.memory (logs.whole free.told)
 not_free stop name course before after cause logs free = cause
 
-pub ran_freely : (course : Course) (before after : Devices) (status : ℕ) → Ends course before after status → RanFreely course before after → IsMerge course before after status
+pub ran_freely : (course : Course) (before after : Seen) (status : ℕ) → Ends course before after status → RanFreely course before after → IsMerge course before after status
 ran_freely course before after status (completes whole) free = record { written = whole.written; logged = whole.logged.whole free.told; answered = whole.answered free.told }
 ran_freely course before after status (stops stop) free = absurd (not_free stop.stop (subject stop.names stop.stop) course before after stop.cause stop.logged free)
+
+one_failed : (stop : Stop) (course : Course) (before after : Seen) → Explains stop course before after
+    → after.shelf.failed + after.out.failed ≤ before.shelf.failed + before.out.failed + 1
+one_failed (ReadFault file) course before after cause = omega (arith, cause.0, cause.1)
+one_failed WriteFault course before after cause = omega (arith, cause.0, cause.1)
+one_failed (LineTooLong file) course before after cause = omega (arith, cause.1, cause.2)
+one_failed TooMuchText course before after cause = omega (arith, cause.1, cause.2)
+one_failed Memory course before after cause = omega (arith, cause.0, cause.1)
+one_failed stop course before after cause = absurd cause
+
+pub fails_once : (course : Course) (before after : Seen) (status : ℕ) → Ends course before after status → FailsOnce before after
+fails_once course before after status (completes whole) = record { one = omega (arith, whole.read, whole.printed); log = whole.logged.once }
+fails_once course before after status (stops stop) = record { one = one_failed stop.stop course before after stop.cause; log = stop.logged.once }
+
+pub promises : (course : Course) (before after : Seen) (status : ℕ) → Ends course before after status → Promises course before after status
+promises course before after status ends = record {
+  freely = ran_freely course before after status ends;
+  ends = ends;
+  limits = beyond_limits course before after status ends;
+  once = fails_once course before after status ends;
+}

@@ -1,4 +1,5 @@
 pub mod Devices
 pub mod Log
 pub mod Run
+pub mod Seen
 pub mod Words

@@ -1,16 +1,21 @@
 -- What a run of `wmerge` writes and answers, as functions of the texts, the words and the folder of included files.
-use Rattle.std.specs.Prelude.{◌≡◌, ◌≢◌, ◌⊎◌, ℕ, ◌+◌, List, [], ◌∷◌, ◌++◌, codes, Option, None, Some}
+use Rattle.std.specs.Prelude.{map, ◌≡◌, ◌≢◌, ◌⊎◌, ◌≤◌, ◌<◌, ℕ, ◌+◌, length, List, [], ◌∷◌, ◌++◌, codes, Option, None, Some}
+use Rattle.std.specs.Option.{option_copied}
+use Rattle.std.specs.Borrow.{Bor}
 use Rattle.cweb_lines.specs.Include.{World, Found, web_at, change_at}
 use Rattle.cweb_lines.specs.Merge.{Event, started}
 use Rattle.cweb_lines.specs.Total.{merge}
-use Rattle.cweb_lines.specs.Told.{given_lines, told_faults, openings, taken_lines, IsWithinLimits}
+use Rattle.cweb_lines.specs.Told.{given_lines, told_faults, openings, taken_lines, size_of, IsWithinLimits}
+use Rattle.cweb_lines.specs.Texts.{files_named}
+use Rattle.cweb_lines.specs.declared.limits.TheConstants.{LINES, BYTES}
 use Rattle.cweb_lines.specs.declared.fault.SourceFault.{SourceFault}
 use Rattle.cweb_lines.specs.declared.stop.Stop.{Stop}
 use Rattle.cweb_lines.specs.Finding.{names_found, text_found}
 use Rattle.cweb_lines.specs.declared.stop.Stop.TheVariants.{Usage, WebNotOpened, ChangeNotOpened, ReadFault, LineTooLong, TooMuchText, Memory, WriteFault}
 use Rattle.cweb_tools.specs.Log.{fault_lines, stop_line, subject}
+use Rattle.cweb_tools.specs.Seen.{Seen, Tell}
 use Rattle.cweb_tools.specs.Words.{WebNames, asked_by}
-use Rattle.cweb_lines.specs.Writing.{text_of, WritesFront}
+use Rattle.cweb_lines.specs.Writing.{text_of, WritesFront, LongIn}
 
 abbrev pub usage : List ℕ
 usage = codes "wmerge webfile[.w] [{changefile[.ch]|-}]"
@@ -83,21 +88,10 @@ StaysWithin (not_there web) = Unit {0}
 StaysWithin (change_not_there change) = Unit {0}
 StaysWithin (merging names events) = IsWithinLimits (taken_lines events)
 
--- what the devices of a run show: how often the shelf, the output and the log have failed, and what the output and the log hold
-pub record Devices : Type 0 where
-  pub shelf_failed : ℕ
-  pub out_failed : ℕ
-  pub log_failed : ℕ
-  pub out : List ℕ
-  pub log : List ℕ
-
-abbrev pub devices : ℕ → ℕ → ℕ → List ℕ → List ℕ → Devices
-devices shelf_failed out_failed log_failed out log =
-    record { shelf_failed = shelf_failed; out_failed = out_failed; log_failed = log_failed; out = out; log = log }
-
 -- a text was logged: a front of it, and all of it where the log did not fail
 pub record Logs (text : List ℕ) (failed failed' : ℕ) (log log' : List ℕ) : Type 0 where
   pub front : WritesFront log log' text
+  pub once : failed' ≤ failed + 1
   pub whole : failed' ≡ failed → log' ≡ log ++ text
 
 -- the lines of all faults were logged, or, where memory was wanting, that line alone; and this is the status
@@ -107,22 +101,32 @@ LogsFaults names faults failed failed' log log' status =
     ⊎ (Logs (stop_line Memory []) failed failed' log log' × (status ≡ 1))
 
 -- the run went its whole course: the limits were kept, and neither shelf nor output failed
-pub record Completes (course : Course) (before after : Devices) (status : ℕ) : Type 0 where
+pub record Completes (course : Course) (before after : Seen) (status : ℕ) : Type 0 where
   pub kept : StaysWithin course
-  pub read : after.shelf_failed ≡ before.shelf_failed
-  pub printed : after.out_failed ≡ before.out_failed
-  pub written : after.out ≡ before.out ++ merged course
-  pub logged : Logs (merge_log course) before.log_failed after.log_failed before.log after.log
-  pub answered : after.log_failed ≡ before.log_failed → status ≡ merge_status course
+  pub read : after.shelf.failed ≡ before.shelf.failed
+  pub printed : after.out.failed ≡ before.out.failed
+  pub written : after.out.bytes ≡ before.out.bytes ++ merged course
+  pub logged : Logs (merge_log course) before.log.failed after.log.failed before.log.bytes after.log.bytes
+  pub answered : after.log.failed ≡ before.log.failed → status ≡ merge_status course
 
--- what stops a run: a read or a write that failed, a line that breaks the limits, or want of memory
-abbrev pub Explains : Stop → Type 0 → Devices → Devices → Type 0
-Explains (ReadFault file) within before after = (after.shelf_failed ≡ before.shelf_failed + 1) × (after.out_failed ≡ before.out_failed)
-Explains WriteFault within before after = (after.shelf_failed ≡ before.shelf_failed) × (after.out_failed ≡ before.out_failed + 1)
-Explains (LineTooLong file) within before after = (¬ within) × (after.shelf_failed ≡ before.shelf_failed) × (after.out_failed ≡ before.out_failed)
-Explains TooMuchText within before after = (¬ within) × (after.shelf_failed ≡ before.shelf_failed) × (after.out_failed ≡ before.out_failed)
-Explains Memory within before after = (after.shelf_failed ≡ before.shelf_failed) × (after.out_failed ≡ before.out_failed)
-Explains _ within before after = ⊥
+-- more lines or more bytes are to be taken than may be
+abbrev pub PassesSums : List Event → Type 0
+PassesSums events = (LINES < length (taken_lines events)) ⊎ (BYTES < size_of (taken_lines events))
+
+-- the limit that a stop names is one that the course breaks: a line of that very file is too long, or a sum is passed
+abbrev pub Breaks : Course → Stop → Type 0
+Breaks (merging names events) (LineTooLong file) = LongIn file events
+Breaks (merging names events) TooMuchText = PassesSums events
+Breaks _ _ = ⊥
+
+-- what stops a run: a read or a write that failed, a limit that the course breaks, or want of memory
+abbrev pub Explains : Stop → Course → Seen → Seen → Type 0
+Explains (ReadFault file) course before after = (after.shelf.failed ≡ before.shelf.failed + 1) × (after.out.failed ≡ before.out.failed)
+Explains WriteFault course before after = (after.shelf.failed ≡ before.shelf.failed) × (after.out.failed ≡ before.out.failed + 1)
+Explains (LineTooLong file) course before after = Breaks course (LineTooLong file) × (after.shelf.failed ≡ before.shelf.failed) × (after.out.failed ≡ before.out.failed)
+Explains TooMuchText course before after = Breaks course TooMuchText × (after.shelf.failed ≡ before.shelf.failed) × (after.out.failed ≡ before.out.failed)
+Explains Memory course before after = (after.shelf.failed ≡ before.shelf.failed) × (after.out.failed ≡ before.out.failed)
+Explains _ course before after = ⊥
 
 -- names of files that a course opens, in their order, as far as it went
 abbrev pub AreOpened : List (List ℕ) → Course → Type 0
@@ -132,36 +136,58 @@ AreOpened names (change_not_there change) = names ≡ []
 AreOpened names (merging first events) = (rest : List (List ℕ)) × (first ++ openings events ≡ names ++ rest)
 
 -- something stopped the run: a front of the merged lines is written, and the log has the stop's line alone
-pub record Stops (course : Course) (before after : Devices) (status : ℕ) : Type 0 where
+pub record Stops (course : Course) (before after : Seen) (status : ℕ) : Type 0 where
   pub stop : Stop
   -- the files that were opened by then
   pub names : List (List ℕ)
   pub opened : AreOpened names course
-  pub cause : Explains stop (StaysWithin course) before after
-  pub front : WritesFront before.out after.out (merged course)
-  pub logged : Logs (stop_line stop (subject names stop)) before.log_failed after.log_failed before.log after.log
+  -- the stop's own file is among them
+  pub named : files_named stop ≤ length names
+  pub cause : Explains stop course before after
+  pub front : WritesFront before.out.bytes after.out.bytes (merged course)
+  pub logged : Logs (stop_line stop (subject names stop)) before.log.failed after.log.failed before.log.bytes after.log.bytes
   pub answered : status ≡ 1
 
 -- how a run ends
-pub data Ends (course : Course) (before after : Devices) (status : ℕ) : Type 0 where
+pub data Ends (course : Course) (before after : Seen) (status : ℕ) : Type 0 where
   completes : Completes course before after status → Ends course before after status
   stops : Stops course before after status → Ends course before after status
 
 -- what a run leaves in which no device failed, the limits were kept and memory sufficed
-pub record IsMerge (course : Course) (before after : Devices) (status : ℕ) : Type 0 where
-  pub written : after.out ≡ before.out ++ merged course
-  pub logged : after.log ≡ before.log ++ merge_log course
+pub record IsMerge (course : Course) (before after : Seen) (status : ℕ) : Type 0 where
+  pub written : after.out.bytes ≡ before.out.bytes ++ merged course
+  pub logged : after.log.bytes ≡ before.log.bytes ++ merge_log course
   pub answered : status ≡ merge_status course
 
 -- no device failed, the limits were kept, and the log's new text is not the line on want of memory alone
-pub record RanFreely (course : Course) (before after : Devices) : Type 0 where
-  pub read : after.shelf_failed ≡ before.shelf_failed
-  pub printed : after.out_failed ≡ before.out_failed
-  pub told : after.log_failed ≡ before.log_failed
+pub record RanFreely (course : Course) (before after : Seen) : Type 0 where
+  pub read : after.shelf.failed ≡ before.shelf.failed
+  pub printed : after.out.failed ≡ before.out.failed
+  pub told : after.log.failed ≡ before.log.failed
   pub within : StaysWithin course
-  pub memory : after.log ≢ before.log ++ stop_line Memory []
+  pub memory : after.log.bytes ≢ before.log.bytes ++ stop_line Memory []
 
 -- the words can't be read: the log alone is written to
 pub record Refuses (failed failed' : ℕ) (log log' : List ℕ) (status : ℕ) : Type 0 where
   pub logged : Logs (stop_line Usage usage) failed failed' log log'
   pub answered : status ≡ 1
+
+-- no device failed more than once, and not both the shelf and the output
+pub record FailsOnce (before after : Seen) : Type 0 where
+  pub one : after.shelf.failed + after.out.failed ≤ before.shelf.failed + before.out.failed + 1
+  pub log : after.log.failed ≤ before.log.failed + 1
+
+-- the course of a run, by what the shelf tells, the words and the folder as they are passed
+abbrev pub course_by : Seen → List (Bor (List ℕ)) → Option (Bor (List ℕ)) → Course
+course_by before words inputs = course_of before.shelf.texts (map (λ (word : Bor (List ℕ)). word.now) words) (option_copied inputs)
+
+-- what is promised of a run whose devices tell what they hold, a sentence a line
+pub record Promises (course : Course) (before after : Seen) (status : ℕ) : Type 0 where
+  -- where no device failed, memory sufficed and the limits are kept, the output, the log and the status are the stated functions
+  pub freely : RanFreely course before after → IsMerge course before after status
+  -- the run goes its whole course, or one thing stops it, whose line is then the log
+  pub ends : Ends course before after status
+  -- a web that breaks the limits is never answered by 0
+  pub limits : ¬ StaysWithin course → status ≡ 1
+  -- no device fails twice
+  pub once : FailsOnce before after

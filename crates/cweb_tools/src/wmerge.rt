@@ -4,7 +4,8 @@ ghost use Rattle.std.specs.Option.{option_copied};
 ghost use Rattle.cweb_lines.specs.Names.{names_of as file_names};
 ghost use Rattle.cweb_lines.specs.Texts.{files_named};
 ghost use Rattle.cweb_tools.specs.Log.{fault_lines, stop_line, subject};
-ghost use Rattle.cweb_tools.specs.Run.{devices, Logs, LogsFaults, Ends, IsMerge, RanFreely, Refuses, StaysWithin, course_of, asked_course, start_subject, folder_of, fault_status, usage};
+ghost use Rattle.cweb_tools.specs.Run.{Logs, LogsFaults, Ends, Promises, Refuses, course_by, asked_course, start_subject, folder_of, fault_status, usage};
+ghost use Rattle.cweb_tools.specs.Seen.{seen, Tell};
 ghost use Rattle.cweb_tools.specs.Words.{asked_by, names_of};
 
 use crate::faults::fault_lines;
@@ -33,21 +34,8 @@ pub fn run_wmerge<S: Shelf, W: Sink, L: Sink>(
     requires shelf_count { S.failed shelf.old + 1 < 2 ^ 64 }
     requires out_count { W.failed out.old + 1 < 2 ^ 64 }
     requires log_count { L.failed log.old + 1 < 2 ^ 64 }
-    ensures ends { IsTrue (S.tells shelf.old) → IsTrue (W.tells out.old) → IsTrue (L.tells log.old) →
-        Ends (course_of (S.texts shelf.old) (map (λ word. word.now) words.now) (option_copied inputs.entry))
-        (devices (S.failed shelf.old) (W.failed out.old) (L.failed log.old) (W.written out.old) (L.written log.old))
-        (devices (S.failed shelf.new) (W.failed out.new) (L.failed log.new) (W.written out.new) (L.written log.new))
-        result }
-    ensures freely { IsTrue (S.tells shelf.old) → IsTrue (W.tells out.old) → IsTrue (L.tells log.old) →
-        RanFreely (course_of (S.texts shelf.old) (map (λ word. word.now) words.now) (option_copied inputs.entry))
-        (devices (S.failed shelf.old) (W.failed out.old) (L.failed log.old) (W.written out.old) (L.written log.old))
-        (devices (S.failed shelf.new) (W.failed out.new) (L.failed log.new) (W.written out.new) (L.written log.new))
-        → IsMerge (course_of (S.texts shelf.old) (map (λ word. word.now) words.now) (option_copied inputs.entry))
-        (devices (S.failed shelf.old) (W.failed out.old) (L.failed log.old) (W.written out.old) (L.written log.old))
-        (devices (S.failed shelf.new) (W.failed out.new) (L.failed log.new) (W.written out.new) (L.written log.new))
-        result }
-    ensures limits { IsTrue (S.tells shelf.old) → IsTrue (W.tells out.old) → IsTrue (L.tells log.old) →
-        ¬ StaysWithin (course_of (S.texts shelf.old) (map (λ word. word.now) words.now) (option_copied inputs.entry)) → result ≡ 1 }
+    ensures promises { let before = seen S.Shelf W.Sink L.Sink shelf.old out.old log.old in let after = seen S.Shelf W.Sink L.Sink shelf.new out.new log.new in
+        Tell before → Promises (course_by before words.now inputs.entry) before after result }
     ensures refuses { asked_by (map (λ word. word.now) words.now) ≡ None → IsTrue (L.tells log.old) →
         Refuses (L.failed log.old) (L.failed log.new) (L.written log.old) (L.written log.new) result }
     ensures untouched { asked_by (map (λ word. word.now) words.now) ≡ None → (shelf.new ≡ shelf.old) × (out.new ≡ out.old) }
@@ -73,11 +61,8 @@ fn merge_web<S: Shelf, W: Sink, L: Sink>(
     requires shelf_count { S.failed shelf.old + 1 < 2 ^ 64 }
     requires out_count { W.failed out.old + 1 < 2 ^ 64 }
     requires log_count { L.failed log.old + 1 < 2 ^ 64 }
-    ensures ends { IsTrue (S.tells shelf.old) → IsTrue (W.tells out.old) → IsTrue (L.tells log.old) →
-        Ends (asked_course (record { texts = S.texts shelf.old; inputs = folder_of (option_copied inputs.entry) }) (Some (names_of asked.now)))
-        (devices (S.failed shelf.old) (W.failed out.old) (L.failed log.old) (W.written out.old) (L.written log.old))
-        (devices (S.failed shelf.new) (W.failed out.new) (L.failed log.new) (W.written out.new) (L.written log.new))
-        result }
+    ensures ends { let before = seen S.Shelf W.Sink L.Sink shelf.old out.old log.old in let after = seen S.Shelf W.Sink L.Sink shelf.new out.new log.new in
+        Tell before → Ends (asked_course (record { texts = before.shelf.texts; inputs = folder_of (option_copied inputs.entry) }) (Some (names_of asked.now))) before after result }
     ensures shelf_failed { S.failed shelf.new ≢ S.failed shelf.old → result ≡ 1 }
     ensures out_failed { W.failed out.new ≢ W.failed out.old → result ≡ 1 }
     ensures log_failed { L.failed log.new ≢ L.failed log.old → result ≡ 1 }

@@ -9,7 +9,7 @@ use Rattle.cweb_tools.specs.Words.{WebNames, names_of}
 use Rattle.cweb_tools.proofs.wmerge.merge_web.Goals as goal
 
 pub returns-in-Err-clause-ends : goal.returns-in-Err-clause-ends
-returns-in-Err-clause-ends g c = λ shelf out log.
+returns-in-Err-clause-ends g c = λ (shelf, out, log).
     let world : World = record { texts = g.S.Shelf.texts c.args.shelf.now; inputs = folder_of (option_copied c.args.inputs) } in
     let names : WebNames = names_of c.args.asked.now in
     let why = rw (c.as_str.ensures.value, c.second.ensures, c.change.ensures) at (c.in-Err.ensures.stops shelf) in
@@ -17,7 +17,7 @@ returns-in-Err-clause-ends g c = λ shelf out log.
     start_stopped c.in-Err.stop world names _ _ _ _ _ why (c.in-Err.ensures.failed) refl refl logs c.log_stop.ensures.status
 
 pub returns-in-Ok-write_merged_in_pieces-clause-ends : goal.returns-in-Ok-write_merged_in_pieces-clause-ends
-returns-in-Ok-write_merged_in_pieces-clause-ends g c = λ shelf out log.
+returns-in-Ok-write_merged_in_pieces-clause-ends g c = λ (shelf, out, log).
     let world : World = record { texts = g.S.Shelf.texts c.args.shelf.now; inputs = folder_of (option_copied c.args.inputs) } in
     let names : WebNames = names_of c.args.asked.now in
     let begins = rw (c.as_str.ensures.value, c.second.ensures, c.change.ensures, c.folder.ensures) at (c.in-Ok.ensures.begins shelf) in
@@ -34,7 +34,7 @@ returns-in-Ok-write_merged_in_pieces-clause-ends g c = λ shelf out log.
     (c.log_faults.ensures.logs log)
 
 pub returns-clause-ends : goal.returns-clause-ends
-returns-clause-ends g c = λ shelf out log.
+returns-clause-ends g c = λ (shelf, out, log).
     let world : World = record { texts = g.S.Shelf.texts c.args.shelf.now; inputs = folder_of (option_copied c.args.inputs) } in
     let names : WebNames = names_of c.args.asked.now in
     let begins = rw (c.as_str.ensures.value, c.second.ensures, c.change.ensures, c.folder.ensures) at (c.in-Ok.ensures.begins shelf) in
@@ -45,6 +45,7 @@ returns-clause-ends g c = λ shelf out log.
     let failed = subst (λ (n : ℕ). ReadBlames {A = Unit {0}} n (g.S.Shelf.failed c.write_merged_in_pieces.new.shelf) (Err stop)) c.in-Ok.ensures.failed (wrote.blames running) in
     stopped _ _ _ (begins_course world names _ _ begins.name begins.text begins.change _ begins.there begins.changes_there begins.whole) _ _ _ stop _
     (opened_by _ _ _ _ begins.so_far_is (wrote.told shelf-2 running) _ c.names-in-Err-write_merged_in_pieces.ensures)
+    (rw c.names-in-Err-write_merged_in_pieces.ensures wrote.named)
     (explains stop _ _ _ _ _ _ begins.so_far_is (wrote.writing running) (wrote.stops shelf-2 running) failed (wrote.out_blames running))
     (wrote.err shelf-2 out)
     (rw c.subject.ensures at (c.log_stop-in-Err-write_merged_in_pieces.ensures.logs log))

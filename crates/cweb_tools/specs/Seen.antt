@@ -1,0 +1,35 @@
+-- What the devices of a run show at one moment.
+use Rattle.std.specs.Prelude.{ℕ, List, Bool, IsTrue, Option}
+use Rattle.cweb_files.specs.declared.device.Shelf.{Ghosts as Shelf}
+use Rattle.cweb_files.specs.declared.device.Sink.{Ghosts as Sink}
+
+-- a shelf: whether it tells its texts, how often it has failed, and the texts
+pub record SeenShelf : Type 0 where
+  pub tells : Bool
+  pub failed : ℕ
+  pub texts : List ℕ → Option (List ℕ)
+
+-- a stream: whether it tells its bytes, how often it has failed, and the bytes
+pub record SeenStream : Type 0 where
+  pub tells : Bool
+  pub failed : ℕ
+  pub bytes : List ℕ
+
+abbrev pub seen_shelf : {S R : Type 0} → Shelf S R → S → SeenShelf
+seen_shelf shelf s = record { tells = shelf.tells s; failed = shelf.failed s; texts = shelf.texts s }
+
+abbrev pub seen_stream : {W : Type 0} → Sink W → W → SeenStream
+seen_stream sink w = record { tells = sink.tells w; failed = sink.failed w; bytes = sink.written w }
+
+-- the devices of `wmerge`
+pub record Seen : Type 0 where
+  pub shelf : SeenShelf
+  pub out : SeenStream
+  pub log : SeenStream
+
+abbrev pub seen : {S R W L : Type 0} → Shelf S R → Sink W → Sink L → S → W → L → Seen
+seen shelf out log s w l = record { shelf = seen_shelf shelf s; out = seen_stream out w; log = seen_stream log l }
+
+-- all of them tell what they hold
+abbrev pub Tell : Seen → Type 0
+Tell seen = IsTrue seen.shelf.tells × IsTrue seen.out.tells × IsTrue seen.log.tells
