@@ -1,5 +1,5 @@
 -- How the exits of a run are its ends.
-use Rattle.std.proofs.Common.{◌≤◌, ◌<◌, ◌+◌, length, ◌≡◌, ◌⊎◌, inl, inr, ℕ, List, [], ◌∷◌, ◌++◌, refl, sym, ◌∙◌, ap, subst, append-nil, append_assoc, arith}
+use Rattle.std.proofs.Common.{◌≤◌, ◌+◌, length, ◌≡◌, ◌⊎◌, inl, inr, ℕ, List, [], ◌∷◌, ◌++◌, refl, sym, ◌∙◌, ap, subst, append-nil, append_assoc, arith}
 use Rattle.std.specs.Prelude.{Option, Some, None, Err}
 use Rattle.cweb_lines.specs.Include.{World, Found}
 use Rattle.cweb_lines.specs.Merge.{Event, started}
@@ -16,7 +16,7 @@ use Rattle.cweb_lines.specs.Lines.{SourceLine}
 use Rattle.cweb_lines.specs.Whole.{StopsAtStart}
 use Rattle.cweb_lines.specs.Finding.{names_found, text_found}
 use Rattle.cweb_lines.specs.declared.limits.TheConstants.{LINE_LENGTH, LINES, BYTES}
-use Rattle.cweb_lines.specs.Writing.{text_of, LongIn, StopsWriting, WritingStops, WriteBlames}
+use Rattle.cweb_lines.specs.Writing.{text_of, StopsWriting, WritingStops, WriteBlames}
 use Rattle.cweb_tools.specs.Log.{stop_line, subject}
 use Rattle.cweb_tools.specs.Run.{Breaks, PassesSums, FailsOnce, Promises, Course, unread, not_there, change_not_there, merging, change_name, start_subject, merge_log, merge_status, Logs, LogsFaults, AreOpened, Ends, completes, stops, Explains, StaysWithin, merged, asked_course, found_course, usage, IsMerge, RanFreely}
 use Rattle.cweb_tools.specs.Seen.{Seen}

@@ -13,7 +13,7 @@ use Rattle.cweb_lines.specs.declared.stop.Stop.{Stop}
 use Rattle.cweb_lines.specs.Finding.{names_found, text_found}
 use Rattle.cweb_lines.specs.declared.stop.Stop.TheVariants.{Usage, WebNotOpened, ChangeNotOpened, ReadFault, LineTooLong, TooMuchText, Memory, WriteFault}
 use Rattle.cweb_tools.specs.Log.{fault_lines, stop_line, subject}
-use Rattle.cweb_tools.specs.Seen.{Seen, Tell}
+use Rattle.cweb_tools.specs.Seen.{Seen}
 use Rattle.cweb_tools.specs.Words.{WebNames, asked_by}
 use Rattle.cweb_lines.specs.Writing.{text_of, WritesFront, LongIn}
 

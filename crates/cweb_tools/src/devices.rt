@@ -1,5 +1,7 @@
 // The files of the system's folders and its standard streams, as a shelf and as sinks. They tell no bytes.
-ghost use Rattle.std.specs.Prelude.{◌≡◌, ◌≤◌, [], None, false, length, IfSome};
+ghost use Rattle.std.specs.Prelude.{◌≡◌, ◌≤◌, ◌<◌, ◌+◌, ◌^◌, [], None, false, length, IfOk};
+ghost use Rattle.std.specs.Io.KnownBytes.{WriteAppends, ReadConsumes};
+ghost use Rattle.cweb_files.specs.Device.{Counts};
 
 use cweb_files::{Shelf, ShelfFault, Sink, SinkFault};
 use std::alloc::AllocError;
@@ -48,12 +50,18 @@ impl<R: Files + Drop> Shelf for FolderShelf<R> {
         }
     }
 
-    fn read(&mut self, reader: &mut R::File, piece: &mut [u8]) -> Result<usize, ShelfFault> {
-        let Some(n) = read_once(reader, piece) else {
+    /// The bytes that it answers are the next ones of the file, as the system gives them: it loses and adds none.
+    fn read(&mut self, reader: &mut R::File, piece: &mut [u8]) -> Result<usize, ShelfFault>
+        requires { shelf_failures self.old + 1 < 2 ^ 64 }
+        ensures failed { Counts (shelf_failures self.old) (shelf_failures self.new) result }
+        ensures within { IfOk result (λ n. n ≤ length piece.new) }
+        ensures passes { ReadConsumes (R.File.remaining reader.old) (R.File.remaining reader.new) result piece.new }
+    {
+        let read = read_once(reader, piece);
+        if read.is_err() {
             self.failed += 1;
-            return Err(ShelfFault);
-        };
-        Ok(n)
+        }
+        read
     }
 
     fn failures(&self) -> u64 {
@@ -61,20 +69,21 @@ impl<R: Files + Drop> Shelf for FolderShelf<R> {
     }
 }
 
-// One read, begun anew where a signal broke it off. None where it failed.
-fn read_once<F: Read>(file: &mut F, piece: &mut [u8]) -> Option<usize>
-    ensures { IfSome result (λ n. n ≤ length piece.new) }
+/// One read, begun anew where a signal broke it off.
+pub(crate) fn read_once<F: Read>(file: &mut F, piece: &mut [u8]) -> Result<usize, ShelfFault>
+    ensures within { IfOk result (λ n. n ≤ length piece.new) }
+    ensures passes { ReadConsumes (F.remaining file.old) (F.remaining file.new) result piece.new }
 {
     for _ in 0..u64::MAX {
         match file.read(piece) {
-            Ok(n) => return Some(n),
+            Ok(n) => return Ok(n),
             Err(error) => match error.kind() {
                 ErrorKind::Interrupted => {}
-                _ => return None,
+                _ => return Err(ShelfFault),
             },
         }
     }
-    None
+    Err(ShelfFault)
 }
 
 /// A stream to write to, as standard output. Each piece goes to the system at once: nothing is kept here.
@@ -95,7 +104,7 @@ impl<W: Write + Drop> StdSink<W> {
 }
 
 impl<W: Write + Drop> Sink for StdSink<W> {
-    ghost use Rattle.cweb_tools.specs.Devices.{sink_failures};
+    ghost use Rattle.cweb_tools.specs.Devices.{sink_failures, stream_of};
 
     ghost tells = { λ _. false };
 
@@ -103,17 +112,19 @@ impl<W: Write + Drop> Sink for StdSink<W> {
 
     ghost failed = { sink_failures };
 
-    /// A stream that takes nothing of a piece that has bytes has failed.
-    fn write(&mut self, piece: &[u8]) -> Result<usize, SinkFault> {
-        let Some(n) = write_once(&mut self.stream, piece) else {
+    /// The bytes that it takes go to the stream, in their order: it loses and adds none.
+    fn write(&mut self, piece: &[u8]) -> Result<usize, SinkFault>
+        requires { sink_failures self.old + 1 < 2 ^ 64 }
+        ensures failed { Counts (sink_failures self.old) (sink_failures self.new) result }
+        ensures within { IfOk result (λ n. n ≤ length piece.now) }
+        ensures some { 0 < length piece.now → IfOk result (λ n. 0 < n) }
+        ensures passes { WriteAppends (W.contents (stream_of self.old)) (W.contents (stream_of self.new)) result piece.now }
+    {
+        let taken = write_once(&mut self.stream, piece);
+        if taken.is_err() {
             self.failed += 1;
-            return Err(SinkFault);
-        };
-        if n == 0 && !piece.is_empty() {
-            self.failed += 1;
-            return Err(SinkFault);
         }
-        Ok(n)
+        taken
     }
 
     fn failures(&self) -> u64 {
@@ -121,18 +132,21 @@ impl<W: Write + Drop> Sink for StdSink<W> {
     }
 }
 
-// One write, begun anew where a signal broke it off. None where it failed.
-fn write_once<W: Write>(stream: &mut W, piece: &[u8]) -> Option<usize>
-    ensures { IfSome result (λ n. n ≤ length piece.now) }
+/// One write, begun anew where a signal broke it off. A stream that takes nothing of a piece that has bytes has failed.
+fn write_once<W: Write>(stream: &mut W, piece: &[u8]) -> Result<usize, SinkFault>
+    ensures within { IfOk result (λ n. n ≤ length piece.now) }
+    ensures some { 0 < length piece.now → IfOk result (λ n. 0 < n) }
+    ensures passes { WriteAppends (W.contents stream.old) (W.contents stream.new) result piece.now }
 {
     for _ in 0..u64::MAX {
         match stream.write(piece) {
-            Ok(n) => return Some(n),
+            Ok(0) if !piece.is_empty() => return Err(SinkFault),
+            Ok(taken) => return Ok(taken),
             Err(error) => match error.kind() {
                 ErrorKind::Interrupted => {}
-                _ => return None,
+                _ => return Err(SinkFault),
             },
         }
     }
-    None
+    Err(SinkFault)
 }

@@ -1,14 +1,13 @@
 use super::*;
 use cweb_lines::{FileId, MemoryShelf, MemorySink, Shelf, Sink, Stop};
 use std::alloc::{AllocError, Global};
-use std::io;
-use std::io::Write;
 use std::process::Abort;
 use std::test::Fail;
 
 mod changes;
 mod command_line;
 mod failing;
+mod streams;
 
 use failing::{FailingShelf, FailingSink};
 
@@ -278,46 +277,5 @@ fn the_log_fails(rt: HostRuntime) -> Result<(), Fail> {
         assert_eq!(rt; out.bytes(), MERGED);
         assert!(rt; FAULTS.starts_with(log.sink.bytes()));
     }
-    Ok(())
-}
-
-/// Takes nothing, and says so.
-#[derive(Drop)]
-struct Full;
-
-impl Write for Full {
-    fn write(&mut self, _: &[u8]) -> io::Result<usize> {
-        Ok(0)
-    }
-
-    fn flush(&mut self) -> io::Result<()> {
-        Ok(())
-    }
-}
-
-#[test]
-fn a_stream_that_takes_nothing_has_failed(rt: HostRuntime) {
-    let mut sink = StdSink::new(Full);
-    assert_eq!(rt; sink.write(b""), Ok(0));
-    assert!(rt; sink.write(b"x").is_err());
-    assert_eq!(rt; sink.failures(), 1);
-}
-
-#[test]
-fn files_of_the_system(rt: HostRuntime) -> Result<(), Fail> {
-    let mut shelf = FolderShelf::new(&rt);
-    assert!(rt; shelf.fetch("/no/such/file")?.is_none());
-    assert!(rt; shelf.fetch("")?.is_none());
-
-    // a folder can be opened, and its first read fails
-    let mut folder = shelf.fetch("/")?.ok_or("no folder")?;
-    let mut piece = [0; 8];
-    assert!(rt; shelf.read(&mut folder, &mut piece).is_err());
-    assert_eq!(rt; shelf.failures(), 1);
-
-    let mut zeros = shelf.fetch("/dev/zero")?.ok_or("no /dev/zero")?;
-    assert_eq!(rt; shelf.read(&mut zeros, &mut piece), Ok(8));
-    let mut nothing = shelf.fetch("/dev/null")?.ok_or("no /dev/null")?;
-    assert_eq!(rt; shelf.read(&mut nothing, &mut piece), Ok(0));
     Ok(())
 }
