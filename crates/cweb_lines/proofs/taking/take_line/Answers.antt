@@ -28,5 +28,9 @@ pub returns-clause-line : goal.returns-clause-line
 returns-clause-line g c = rw c.trim.ensures (trimmed-line c.next_line.new.line.items c.in-Ok.ensures.clean c.in-Ok.ensures.within)
 
 pub returns-clause-gains : goal.returns-clause-gains
-returns-clause-gains g c = omega (arith, ap (λ (l : List ℕ). length l) c.trim.ensures, trimmed-length c.next_line.new.line.items,
-    rw (c.len.ensures, c.next_line.new.line.ok.0, c.newline_size.ensures.value) at c.in_default-add.ensures.bytes)
+returns-clause-gains g c = omega (
+  arith,
+  ap (λ (l : List ℕ). length l) c.trim.ensures,
+  trimmed-length c.next_line.new.line.items,
+  rw (c.len.ensures, c.next_line.new.line.ok.0, c.newline_size.ensures.value) at c.in_default-add.ensures.bytes,
+)
