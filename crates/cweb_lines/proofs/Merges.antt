@@ -10,6 +10,7 @@ use Rattle.cweb_lines.specs.Include.{World, is_include, include_name, found_at}
 use Rattle.cweb_lines.specs.Lines.{Line, SourceLine, lines_in}
 use Rattle.cweb_lines.specs.Merge.{State, RawLine, Thing, raw, Event, took, given, fault, opening, Next, at_entry, at_raw, included, opened, obeyed, plain, taking, raws}
 use Rattle.cweb_lines.specs.Stages.{begun_by}
+use Rattle.cweb_lines.specs.declared.limits.TheConstants.{OPEN_FILES}
 use Rattle.cweb_lines.specs.declared.text.LineAt.{LineAt}
 use Rattle.cweb_lines.specs.Merging.{SoFar, Gives, GivesBehind, Stopped}
 use Rattle.cweb_lines.specs.Texts.{Count, Refuses, Took, TopStops, StopsFor}
@@ -63,31 +64,31 @@ module _ (world : World) (source : SourceLine) (bytes : List ℕ) (at : LineAt) 
       (ap (λ b. plain b world before r things) (as_read is_include true test) ∙ ap (λ n. included n world before r things) (as_read include_name [] empty))
       ∙ ap (λ (l : Line). took source ∷ fault (at_place NoName l.place) ∷ merge world after) is
 
-  merge_named : (name : List ℕ) (next : Next) → is_include bytes ≡ true → include_name bytes ≡ name → 0 < length name → opened (nat_lt at.depth 10) world name before r things ≡ next
+  merge_named : (name : List ℕ) (next : Next) → is_include bytes ≡ true → include_name bytes ≡ name → 0 < length name → opened (nat_lt at.depth OPEN_FILES) world name before r things ≡ next
       → merge world before ≡ took source ∷ next.0 ++ merge world next.1
   merge_named [] next test named some opens = absurd (omega arith)
   merge_named (b ∷ bs) next test named some opens =
       merge_plain next
       (ap (λ b. plain b world before r things) (as_read is_include true test) ∙ ap (λ n. included n world before r things) (as_read include_name (b ∷ bs) named) ∙ opens)
 
-  pub merge_too_deep : is_include bytes ≡ true → 0 < length (include_name bytes) → 10 ≤ at.depth → merge world before ≡ took source ∷ fault (at_place TooDeep at.place) ∷ merge world after
+  pub merge_too_deep : is_include bytes ≡ true → 0 < length (include_name bytes) → OPEN_FILES ≤ at.depth → merge world before ≡ took source ∷ fault (at_place TooDeep at.place) ∷ merge world after
   merge_too_deep test some deep =
-      let room : nat_lt at.depth 10 ≡ false = grind (arith, nat_tests) in
+      let room : nat_lt at.depth OPEN_FILES ≡ false = grind (arith, nat_tests) in
       merge_named (include_name bytes) (fault (at_place TooDeep source.line.place) ∷ [], after) test refl some (ap (λ t. opened t world (include_name bytes) before r things) room)
       ∙ ap (λ (l : Line). took source ∷ fault (at_place TooDeep l.place) ∷ merge world after) is
 
-  pub merge_not_there : is_include bytes ≡ true → 0 < length (include_name bytes) → at.depth < 10 → None ≡ found_at world (include_name bytes)
+  pub merge_not_there : is_include bytes ≡ true → 0 < length (include_name bytes) → at.depth < OPEN_FILES → None ≡ found_at world (include_name bytes)
       → merge world before ≡ took source ∷ fault (at_place NotThere at.place) ∷ merge world after
   merge_not_there test some deep gone =
-      let room : nat_lt at.depth 10 ≡ true = grind (arith, nat_tests) in
+      let room : nat_lt at.depth OPEN_FILES ≡ true = grind (arith, nat_tests) in
       merge_named (include_name bytes) (fault (at_place NotThere source.line.place) ∷ [], after) test refl some
       (ap (λ t. opened t world (include_name bytes) before r things) room ∙ ap (λ o. obeyed o before r things) (sym gone))
       ∙ ap (λ (l : Line). took source ∷ fault (at_place NotThere l.place) ∷ merge world after) is
 
-  pub merge_opens : (name text : List ℕ) → is_include bytes ≡ true → 0 < length (include_name bytes) → at.depth < 10 → Some (name, text) ≡ found_at world (include_name bytes)
+  pub merge_opens : (name text : List ℕ) → is_include bytes ≡ true → 0 < length (include_name bytes) → at.depth < OPEN_FILES → Some (name, text) ≡ found_at world (include_name bytes)
       → merge world before ≡ took source ∷ opening name ∷ merge world (state (raws (at.depth + 1) at.may_match (lines_in files text) ++ things) pending change (files + 1))
   merge_opens name text test some deep there =
-      let room : nat_lt at.depth 10 ≡ true = grind (arith, nat_tests) in
+      let room : nat_lt at.depth OPEN_FILES ≡ true = grind (arith, nat_tests) in
       merge_named (include_name bytes) (opening name ∷ [], state (raws (at.depth + 1) at.may_match (lines_in files text) ++ things) pending change (files + 1)) test refl some
       (ap (λ t. opened t world (include_name bytes) before r things) room ∙ ap (λ o. obeyed o before r things) (sym there))
 

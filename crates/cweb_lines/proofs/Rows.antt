@@ -11,7 +11,7 @@ use Rattle.cweb_lines.specs.Lines.{Line, lines}
 use Rattle.cweb_lines.specs.Include.{World}
 use Rattle.cweb_lines.specs.Merge.{Event, run, started}
 use Rattle.cweb_lines.specs.Told.{given_lines, told_faults, openings}
-use Rattle.cweb_lines.specs.declared.limits.TheConstants.{LINE_LENGTH, LINES, BYTES}
+use Rattle.cweb_lines.specs.declared.limits.TheConstants.{OPEN_FILES, LINE_LENGTH, LINES, BYTES}
 
 -- what comes out, without the lines taken
 record Outcome : Type 0 where
@@ -88,9 +88,9 @@ abbrev copies : ℕ → List (List ℕ)
 copies zero = []
 copies (suc n) = codes "a.w" ∷ copies n
 
--- ten files are open at most: the include line of the tenth is a fault
-file_that_includes_itself : outcome_of (run 60 (one_text (codes "a.w") (codes "P\n@i a.w\nQ\n")) (started (codes "P\n@i a.w\nQ\n") None))
-    ≡ Some (record { lines = firsts 10 0 ++ lasts 10; faults = fault TooDeep 9 2 ∷ []; names = copies 9 })
+-- no more than `OPEN_FILES` are open: the include line of the deepest is a fault
+file_that_includes_itself : outcome_of (run 90 (one_text (codes "a.w") (codes "P\n@i a.w\nQ\n")) (started (codes "P\n@i a.w\nQ\n") None))
+    ≡ Some (record { lines = firsts 20 0 ++ lasts 20; faults = fault TooDeep 19 2 ∷ []; names = copies 19 })
 unfolding is_utf8 chars encode
 file_that_includes_itself = refl
 
@@ -136,3 +136,6 @@ most_lines = refl
 
 most_bytes : BYTES ≡ 1073741824
 most_bytes = refl
+
+most_open_files : OPEN_FILES ≡ 20
+most_open_files = refl

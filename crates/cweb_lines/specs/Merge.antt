@@ -5,6 +5,7 @@ use Rattle.cweb_files.specs.declared.place.Place.{Place}
 use Rattle.cweb_lines.specs.Lines.{Line, SourceLine, lines_in}
 use Rattle.cweb_lines.specs.Include.{World, Found, is_include, include_name, found_at}
 use Rattle.cweb_lines.specs.Change.{code_of, at_place, Entry, sought, OldSide, old_lines}
+use Rattle.cweb_lines.specs.declared.limits.TheConstants.{OPEN_FILES}
 use Rattle.cweb_lines.specs.declared.code.Code.{Code}
 use Rattle.cweb_lines.specs.declared.code.Code.TheVariants.{OldSide as old_side, NewSide as new_side, EndSide as end_side}
 use Rattle.cweb_lines.specs.declared.fault.SourceKind.TheVariants.{NoName, TooDeep, NotThere, EndedBeforeY, WebEnded, Unequal, WantsZ, EndedBeforeZ, NoMatch}
@@ -138,10 +139,10 @@ abbrev pub opened : Bool → World → List ℕ → State → RawLine → List T
 opened false world name s r things = (fault (at_place TooDeep r.source.line.place) ∷ [], past s things)
 opened true world name s r things = obeyed (found_at world name) s r things
 
--- an include line is dropped with a fault where it gives no name, where ten files are open, or where no text is there
+-- an include line is dropped with a fault where it gives no name, where no more files may be open, or where no text is there
 abbrev pub included : List ℕ → World → State → RawLine → List Thing → Next
 included [] world s r things = (fault (at_place NoName r.source.line.place) ∷ [], past s things)
-included (b ∷ bs) world s r things = opened (nat_lt r.depth 10) world (b ∷ bs) s r things
+included (b ∷ bs) world s r things = opened (nat_lt r.depth OPEN_FILES) world (b ∷ bs) s r things
 
 -- a line that begins no change is obeyed or given out
 abbrev pub plain : Bool → World → State → RawLine → List Thing → Next

@@ -7,6 +7,7 @@ use Rattle.cweb_files.specs.declared.place.Place.{Place}
 use Rattle.cweb_lines.specs.Lines.{SourceLine, lines_in}
 use Rattle.cweb_lines.specs.Include.{World, Found, include_name, is_include, found_at}
 use Rattle.cweb_lines.specs.Change.{code_of, Entry, Sought, sought, outside, behind_x, OldSide, old_at, old_lines}
+use Rattle.cweb_lines.specs.declared.limits.TheConstants.{OPEN_FILES}
 use Rattle.cweb_lines.specs.declared.code.Code.{Code}
 use Rattle.cweb_lines.specs.declared.code.Code.TheVariants.{OldSide as old_side, NewSide as new_side, EndSide as end_side}
 use Rattle.cweb_lines.specs.Merge.{RawLine, Thing, seek, raw, told, passed, Event, State, NewSide, new_at, new_lines, compared, after_old, Next, obeyed, opened, included, plain, at_entry, at_raw, step, onto, then_run, run, raws}
@@ -92,16 +93,16 @@ module _ (world : World) (most : ℕ) (fewer : (things : List Thing) (change : L
       fewer ((new_lines depth entry.begin old.rest).things ++ seek ∷ rest) (new_lines depth entry.begin old.rest).rest files (omega (arith, new_less depth entry.begin old.rest))
 
   -- a raw line, where those that it opens are good
-  module _ (r : RawLine) (rest : List Thing) (good : Good rest) (opens : r.depth < 10 → (lines : List SourceLine) → Good (raws (r.depth + 1) r.may_match lines ++ rest)) where
+  module _ (r : RawLine) (rest : List Thing) (good : Good rest) (opens : r.depth < OPEN_FILES → (lines : List SourceLine) → Good (raws (r.depth + 1) r.may_match lines ++ rest)) where
     abbrev before : Option Entry → List SourceLine → ℕ → State
     before pending change files = record { things = raw r ∷ rest; pending = pending; change = change; files = files }
 
-    obeyed_good : (found : Option Found) (pending : Option Entry) (change : List SourceLine) (files : ℕ) → length change + waiting pending ≤ most → r.depth < 10
+    obeyed_good : (found : Option Found) (pending : Option Entry) (change : List SourceLine) (files : ℕ) → length change + waiting pending ≤ most → r.depth < OPEN_FILES
         → Halts world (obeyed found (before pending change files) r rest).1
     obeyed_good None pending change files within shallow = good pending change files within
     obeyed_good (Some found) pending change files within shallow = opens shallow (lines_in files found.1) pending change (files + 1) within
 
-    opened_good : (b : Bool) (name : List ℕ) (pending : Option Entry) (change : List SourceLine) (files : ℕ) → length change + waiting pending ≤ most → b ≡ nat_lt r.depth 10
+    opened_good : (b : Bool) (name : List ℕ) (pending : Option Entry) (change : List SourceLine) (files : ℕ) → length change + waiting pending ≤ most → b ≡ nat_lt r.depth OPEN_FILES
         → Halts world (opened b world name (before pending change files) r rest).1
     opened_good false name pending change files within test = good pending change files within
     opened_good true name pending change files within test = obeyed_good (found_at world name) pending change files within (grind (arith, nat_tests))
@@ -109,7 +110,7 @@ module _ (world : World) (most : ℕ) (fewer : (things : List Thing) (change : L
     included_good : (name : List ℕ) (pending : Option Entry) (change : List SourceLine) (files : ℕ) → length change + waiting pending ≤ most
         → Halts world (included name world (before pending change files) r rest).1
     included_good [] pending change files within = good pending change files within
-    included_good (b ∷ bs) pending change files within = opened_good (nat_lt r.depth 10) (b ∷ bs) pending change files within refl
+    included_good (b ∷ bs) pending change files within = opened_good (nat_lt r.depth OPEN_FILES) (b ∷ bs) pending change files within refl
 
     plain_good : (b : Bool) (pending : Option Entry) (change : List SourceLine) (files : ℕ) → length change + waiting pending ≤ most
         → Halts world (plain b world (before pending change files) r rest).1
@@ -131,13 +132,13 @@ module _ (world : World) (most : ℕ) (fewer : (things : List Thing) (change : L
     one_good pending change files within = halts_next world (before pending change files) _ refl (at_raw_good pending change files within)
 
   -- the room is how much deeper the lines may lie that a line opens
-  raw_good : (room : ℕ) (r : RawLine) (rest : List Thing) → 10 < r.depth + room → Good rest → Good (raw r ∷ rest)
+  raw_good : (room : ℕ) (r : RawLine) (rest : List Thing) → OPEN_FILES < r.depth + room → Good rest → Good (raw r ∷ rest)
   raw_good zero r rest deep good = one_good r rest good (λ shallow. absurd (omega arith))
   raw_good (suc room) r rest deep good =
       one_good r rest good (λ shallow lines. raws_good (λ r' rest' deep' good'. raw_good room r' rest' deep' good') (r.depth + 1) r.may_match lines rest (omega arith) good)
     where
-      raws_good : ((r' : RawLine) (rest' : List Thing) → 10 < r'.depth + room → Good rest' → Good (raw r' ∷ rest')) → (depth : ℕ) (may_match : Bool) (lines : List SourceLine) (rest : List Thing)
-          → 10 < depth + room → Good rest → Good (raws depth may_match lines ++ rest)
+      raws_good : ((r' : RawLine) (rest' : List Thing) → OPEN_FILES < r'.depth + room → Good rest' → Good (raw r' ∷ rest')) → (depth : ℕ) (may_match : Bool) (lines : List SourceLine) (rest : List Thing)
+          → OPEN_FILES < depth + room → Good rest → Good (raws depth may_match lines ++ rest)
       raws_good each depth may_match [] rest deep good = good
       raws_good each depth may_match (line ∷ lines) rest deep good =
           each (record { source = line; depth = depth; may_match = may_match }) (raws depth may_match lines ++ rest) deep (raws_good each depth may_match lines rest deep good)
@@ -147,7 +148,7 @@ module _ (world : World) (most : ℕ) (fewer : (things : List Thing) (change : L
   thing_good seek rest good pending change files within =
       halts_next world (record { things = seek ∷ rest; pending = pending; change = change; files = files }) _ refl
       (good (sought change None).entry (sought change None).rest files (omega (arith, sought_less change None)))
-  thing_good (raw r) rest good pending change files within = raw_good 11 r rest (omega arith) good pending change files within
+  thing_good (raw r) rest good pending change files within = raw_good (OPEN_FILES + 1) r rest (omega arith) good pending change files within
   thing_good (told f) rest good pending change files within =
       halts_next world (record { things = told f ∷ rest; pending = pending; change = change; files = files }) _ refl (good pending change files within)
   thing_good (passed line) rest good pending change files within =

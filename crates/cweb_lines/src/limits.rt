@@ -12,6 +12,9 @@ pub const LINES: u32 = 16_777_216;
 /// The bytes that the lines taken from all files may have, with their newlines.
 pub const BYTES: u64 = 1_073_741_824;
 
+/// The files that may be open within one another, the web counted.
+pub const OPEN_FILES: usize = 20;
+
 /// How many lines and bytes were taken so far.
 #[derive(Drop)]
 pub struct Limits {

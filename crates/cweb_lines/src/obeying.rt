@@ -5,11 +5,13 @@ ghost use Rattle.cweb_lines.specs.Lines.{SourceLine};
 ghost use Rattle.cweb_lines.specs.Merging.{GivesBehind, pending_of, told_by, coming, coming_after, lines_given, IsTaken, TurnKnown};
 ghost use Rattle.cweb_lines.specs.Names.{names_of};
 ghost use Rattle.cweb_lines.specs.Stages.{begun_by, IsSettled};
+ghost use Rattle.cweb_lines.specs.declared.limits.TheConstants.{OPEN_FILES};
 ghost use Rattle.cweb_lines.specs.Texts.{Opens, StaysBelow};
 
 use crate::fault::SourceKind;
 use crate::finding::{Opening, find};
 use crate::include::{include_name, is_include};
+use crate::limits::OPEN_FILES;
 use crate::run::Run;
 use crate::source::Source;
 use crate::stop::Stop;
@@ -19,7 +21,7 @@ use cweb_files::{FileId, Shelf};
 
 // The lines of a text that was found come next, one deeper than the line that names it, and match where that line does.
 fn open<R: Drop>(run: &mut Run<R>, opening: Opening<R>, at: LineAt) -> Result<(), Stop>
-    requires room { at.depth < 10 }
+    requires room { at.depth < OPEN_FILES }
     requires deep { run.old.stack.depth ≤ at.depth }
     requires names { length (names_of run.old.names) < run.old.limits.lines + 2 }
     ensures same { OnErr result (names_of run.new.names ≡ names_of run.old.names) }
@@ -75,7 +77,7 @@ fn obey<S: Shelf>(shelf: &mut S, run: &mut Run<S::R>, line: &[u8], at: LineAt) -
     if name.is_empty() {
         return run.tell(SourceKind::NoName, at.place, 0);
     }
-    if at.depth >= 10 {
+    if at.depth >= OPEN_FILES {
         return run.tell(SourceKind::TooDeep, at.place, 0);
     }
     let Some(opening) = find(run.alloc, shelf, &run.inputs, name)? else {

@@ -1,6 +1,7 @@
 // What a merger holds.
 ghost use Rattle.std.specs.Prelude.{◌≤◌, ◌+◌, length};
 ghost use Rattle.cweb_lines.specs.Names.{names_of};
+ghost use Rattle.cweb_lines.specs.declared.limits.TheConstants.{OPEN_FILES};
 ghost use Rattle.cweb_lines.specs.Texts.{AreDeep, most, number_of, line_number, files_up_to};
 ghost use Rattle.cweb_lines.specs.Faults.{files_in, files_kept};
 ghost use Rattle.cweb_lines.specs.Stages.{floor_of, new_depth, files_begun};
@@ -30,7 +31,7 @@ pub struct Run<R: Drop> {
     pub names: FileNames,
     /// The stop that every further call answers.
     pub stopped: Option<Stop>,
-    ghost shallow: { stack.depth ≤ 10 },
+    ghost shallow: { stack.depth ≤ OPEN_FILES },
     ghost deep: { AreDeep stack.texts },
     ghost numbers: { most line_number stack.texts ≤ limits.lines },
     ghost change_number: { number_of line_number change ≤ limits.lines },

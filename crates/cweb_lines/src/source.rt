@@ -39,7 +39,7 @@ pub enum Taken {
 /// A reader, and the bytes that were read and not yet taken: those of the piece from `start` to `end`.
 #[derive(Drop)]
 pub struct Source<R: Drop> {
-    // On the heap: so the size of what holds it, and of ten such in an array, doesn't depend on the reader's type.
+    // On the heap: so the size of what holds it, and of many such in an array, doesn't depend on the reader's type.
     pub reader: Box<R>,
     pub piece: Vec<u8>,
     pub start: usize,

@@ -1,42 +1,36 @@
 // The texts that are open, the deepest last.
-ghost use Rattle.std.specs.Prelude.{◌≡◌, ◌≤◌, ◌<◌, ◌+◌, ◌^◌, ℕ, List, [], ◌∷◌, length, IsTrue, IfOk, IfErr, IfSome, OnSome, Ok, None, Some, slice_set};
+ghost use Rattle.std.specs.Prelude.{◌≡◌, ◌≤◌, ◌<◌, ◌+◌, ◌-◌, ◌^◌, ℕ, List, ◌∷◌, replicate, length, IsTrue, IfOk, IfErr, IfSome, OnSome, Ok, None, Some, slice_set};
 ghost use Rattle.cweb_lines.specs.Counts.{count_of};
 ghost use Rattle.cweb_lines.specs.Lines.{IsOneLine};
+ghost use Rattle.cweb_lines.specs.declared.limits.TheConstants.{OPEN_FILES};
 ghost use Rattle.cweb_lines.specs.Texts.{most, line_number, files_up_to, ReadBlames, Counted, NamesFiles, AreDeep, TakesTop, TakesAbove, StopsFor, StopsReading, StopsTop, StopsAbove, StaysBelow, DepthAfter, Pushes};
 
-use crate::limits::Limits;
+use crate::limits::{Limits, OPEN_FILES};
 use crate::stop::Stop;
 use crate::taking::take_from;
 use crate::text::{LineAt, OpenText};
 use cweb_files::Shelf;
 
-/// The web and the files that are open within it, in ten places: the text at place `depth - 1` is being read.
+/// The web and the files that are open within it, each in a place of its own: the text at place `depth - 1` is being read.
 #[derive(Drop)]
 pub struct Stack<R: Drop> {
-    pub texts: [Option<OpenText<R>>; 10],
+    pub texts: [Option<OpenText<R>>; OPEN_FILES],
     pub depth: usize,
 }
 
 impl<R: Drop> Stack<R> {
+    #[rattlefmt::skip]
     pub fn new(text: OpenText<R>) -> Self
         ensures depth { result.depth ≡ 1 }
         ensures numbers { most line_number result.texts ≤ text.line }
         ensures files { most files_up_to result.texts ≤ text.file.0 + 1 }
         ensures deep { 0 < text.depth → AreDeep result.texts }
-        ensures texts { result.texts ≡ Some text ∷ None ∷ None ∷ None ∷ None ∷ None ∷ None ∷ None ∷ None ∷ None ∷ [] }
+        ensures texts { result.texts ≡ Some text ∷ replicate (OPEN_FILES - 1) None }
     {
         Stack {
             texts: [
-                Some(text),
-                None,
-                None,
-                None,
-                None,
-                None,
-                None,
-                None,
-                None,
-                None,
+                Some(text), None, None, None, None, None, None, None, None, None,
+                None, None, None, None, None, None, None, None, None, None,
             ],
             depth: 1,
         }
@@ -44,7 +38,7 @@ impl<R: Drop> Stack<R> {
 
     /// Whether the next line of the deepest text can be taken without a read.
     pub fn has_line(&self) -> bool
-        requires { self.now.depth ≤ 10 }
+        requires { self.now.depth ≤ OPEN_FILES }
     {
         if self.depth == 0 {
             return false;
@@ -57,7 +51,7 @@ impl<R: Drop> Stack<R> {
 
     /// Whether the next line of the deepest text begins so.
     pub fn may_begin_with(&self, front: &[u8]) -> bool
-        requires { self.now.depth ≤ 10 }
+        requires { self.now.depth ≤ OPEN_FILES }
     {
         if self.depth == 0 {
             return false;
@@ -69,7 +63,7 @@ impl<R: Drop> Stack<R> {
     }
 
     pub fn push(&mut self, text: OpenText<R>)
-        requires room { self.old.depth < 10 }
+        requires room { self.old.depth < OPEN_FILES }
         requires deep { AreDeep self.old.texts }
         requires deeper { self.old.depth < text.depth }
         ensures depth { self.new.depth ≡ self.old.depth + 1 }
@@ -93,7 +87,7 @@ fn take_top<S: Shelf>(
 ) -> Result<Option<LineAt>, Stop>
     requires count { S.failed shelf.old + 1 < 2 ^ 64 }
     requires some { 0 < stack.old.depth }
-    requires shallow { stack.old.depth ≤ 10 }
+    requires shallow { stack.old.depth ≤ OPEN_FILES }
     requires numbers { most line_number stack.old.texts ≤ limits.old.lines }
     requires deep { AreDeep stack.old.texts }
     ensures tells { S.tells shelf.new ≡ S.tells shelf.old }
@@ -139,7 +133,7 @@ pub fn take_above<S: Shelf>(
 ) -> Result<Option<LineAt>, Stop>
     requires count { S.failed shelf.old + 1 < 2 ^ 64 }
     requires low { low ≤ stack.old.depth }
-    requires shallow { stack.old.depth ≤ 10 }
+    requires shallow { stack.old.depth ≤ OPEN_FILES }
     requires numbers { most line_number stack.old.texts ≤ limits.old.lines }
     requires deep { AreDeep stack.old.texts }
     ensures tells { S.tells shelf.new ≡ S.tells shelf.old }

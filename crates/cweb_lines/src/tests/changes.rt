@@ -333,25 +333,25 @@ fn include_lines_taken_away(rt: HostRuntime) -> Result<(), Fail> {
     compare_all(&rt, &others, &rows)
 }
 
-// The web includes itself until ten files are open, and each gives a line `A`.
+// The web includes itself until twenty files are open, and each gives a line `A`.
 #[test]
 fn changes_at_the_full_depth(rt: HostRuntime) -> Result<(), Fail> {
     let web = "@i m.w\nA\n";
     let names =
-        "2 is m.w\n3 is m.w\n4 is m.w\n5 is m.w\n6 is m.w\n7 is m.w\n8 is m.w\n9 is m.w\n10 is m.w\n";
+        "2 is m.w\n3 is m.w\n4 is m.w\n5 is m.w\n6 is m.w\n7 is m.w\n8 is m.w\n9 is m.w\n10 is m.w\n11 is m.w\n12 is m.w\n13 is m.w\n14 is m.w\n15 is m.w\n16 is m.w\n17 is m.w\n18 is m.w\n19 is m.w\n20 is m.w\n";
     for (change, want) in [
         (
             "@x\nA\n@y\n@i c.ch\nN\n@z\n",
-            "1:5 N\n9:2 A\n8:2 A\n7:2 A\n6:2 A\n5:2 A\n4:2 A\n3:2 A\n2:2 A\n0:2 A\nTooDeep in 10 at 1\nTooDeep in 1 at 4\n",
+            "1:5 N\n19:2 A\n18:2 A\n17:2 A\n16:2 A\n15:2 A\n14:2 A\n13:2 A\n12:2 A\n11:2 A\n10:2 A\n9:2 A\n8:2 A\n7:2 A\n6:2 A\n5:2 A\n4:2 A\n3:2 A\n2:2 A\n0:2 A\nTooDeep in 20 at 1\nTooDeep in 1 at 4\n",
         ),
         // the depth is that of the line that began the change, also where its file and others have ended
         (
             "@x\nA\nA\nA\nA\n@y\n@i c.ch\nN\n@z\n",
-            "1:8 N\n6:2 A\n5:2 A\n4:2 A\n3:2 A\n2:2 A\n0:2 A\nTooDeep in 10 at 1\nTooDeep in 1 at 7\n",
+            "1:8 N\n16:2 A\n15:2 A\n14:2 A\n13:2 A\n12:2 A\n11:2 A\n10:2 A\n9:2 A\n8:2 A\n7:2 A\n6:2 A\n5:2 A\n4:2 A\n3:2 A\n2:2 A\n0:2 A\nTooDeep in 20 at 1\nTooDeep in 1 at 7\n",
         ),
         (
-            "@x\nA\nA\nA\nA\nA\nA\nA\nA\nA\nA\nA\n@y\n@i c.ch\n@i\n@z\n",
-            "TooDeep in 10 at 1\nWebEnded in 1 at 1\nTooDeep in 1 at 14\nNoName in 1 at 15\n",
+            "@x\nA\nA\nA\nA\nA\nA\nA\nA\nA\nA\nA\nA\nA\nA\nA\nA\nA\nA\nA\nA\nA\n@y\n@i c.ch\n@i\n@z\n",
+            "TooDeep in 20 at 1\nWebEnded in 1 at 1\nTooDeep in 1 at 24\nNoName in 1 at 25\n",
         ),
     ] {
         let mut want = String::from_str(rt.alloc(), want)?;
@@ -370,12 +370,12 @@ fn files_within_a_change(rt: HostRuntime) -> Result<(), Fail> {
         (
             "A\n",
             "@x\nA\n@y\n@i b\n@z\n",
-            "2:1 P\n3:1 P\n4:1 P\n5:1 P\n6:1 P\n7:1 P\n8:1 P\n9:1 P\n10:1 P\nTooDeep in 10 at 2\n2 is b\n3 is b\n4 is b\n5 is b\n6 is b\n7 is b\n8 is b\n9 is b\n10 is b\n",
+            "2:1 P\n3:1 P\n4:1 P\n5:1 P\n6:1 P\n7:1 P\n8:1 P\n9:1 P\n10:1 P\n11:1 P\n12:1 P\n13:1 P\n14:1 P\n15:1 P\n16:1 P\n17:1 P\n18:1 P\n19:1 P\n20:1 P\nTooDeep in 20 at 2\n2 is b\n3 is b\n4 is b\n5 is b\n6 is b\n7 is b\n8 is b\n9 is b\n10 is b\n11 is b\n12 is b\n13 is b\n14 is b\n15 is b\n16 is b\n17 is b\n18 is b\n19 is b\n20 is b\n",
         ),
         (
             "@i c\n",
             "@x\nA\nB\n@y\n@i b\n@z\n",
-            "3:1 P\n4:1 P\n5:1 P\n6:1 P\n7:1 P\n8:1 P\n9:1 P\n10:1 P\nWebEnded in 1 at 1\nTooDeep in 10 at 2\n2 is c\n3 is b\n4 is b\n5 is b\n6 is b\n7 is b\n8 is b\n9 is b\n10 is b\n",
+            "3:1 P\n4:1 P\n5:1 P\n6:1 P\n7:1 P\n8:1 P\n9:1 P\n10:1 P\n11:1 P\n12:1 P\n13:1 P\n14:1 P\n15:1 P\n16:1 P\n17:1 P\n18:1 P\n19:1 P\n20:1 P\nWebEnded in 1 at 1\nTooDeep in 20 at 2\n2 is c\n3 is b\n4 is b\n5 is b\n6 is b\n7 is b\n8 is b\n9 is b\n10 is b\n11 is b\n12 is b\n13 is b\n14 is b\n15 is b\n16 is b\n17 is b\n18 is b\n19 is b\n20 is b\n",
         ),
         // the change file as an included file: its lines are the web's
         (

@@ -68,7 +68,7 @@ fn include_lines(rt: HostRuntime) -> Result<(), Fail> {
 fn a_file_that_includes_itself(rt: HostRuntime) -> Result<(), Fail> {
     let got = merged(rt.alloc(), &[("a.w", b"P\n@i a.w\nQ\n")], None, None)?;
     let want =
-        "P\nP\nP\nP\nP\nP\nP\nP\nP\nP\nQ\nQ\nQ\nQ\nQ\nQ\nQ\nQ\nQ\nQ\nTooDeep in 9 at 2\n0 is a.w\n1 is a.w\n2 is a.w\n3 is a.w\n4 is a.w\n5 is a.w\n6 is a.w\n7 is a.w\n8 is a.w\n9 is a.w\n";
+        "P\nP\nP\nP\nP\nP\nP\nP\nP\nP\nP\nP\nP\nP\nP\nP\nP\nP\nP\nP\nQ\nQ\nQ\nQ\nQ\nQ\nQ\nQ\nQ\nQ\nQ\nQ\nQ\nQ\nQ\nQ\nQ\nQ\nQ\nQ\nTooDeep in 19 at 2\n0 is a.w\n1 is a.w\n2 is a.w\n3 is a.w\n4 is a.w\n5 is a.w\n6 is a.w\n7 is a.w\n8 is a.w\n9 is a.w\n10 is a.w\n11 is a.w\n12 is a.w\n13 is a.w\n14 is a.w\n15 is a.w\n16 is a.w\n17 is a.w\n18 is a.w\n19 is a.w\n";
     assert_eq!(rt; got.as_str(), want);
     Ok(())
 }
@@ -83,13 +83,13 @@ fn faults_at_the_full_depth(rt: HostRuntime) -> Result<(), Fail> {
     assert_eq!(rt; merger.next_line(&mut shelf, &mut line)?, None);
     let mut deepest = Vec::new(rt.alloc());
     for fault in merger.faults() {
-        if fault.place.file == FileId(9) {
+        if fault.place.file == FileId(19) {
             deepest.push(fault.kind)?;
         }
     }
     let want = [SourceKind::TooDeep, SourceKind::NoName, SourceKind::TooDeep];
     assert_eq!(rt; deepest.as_slice(), want.as_slice());
-    assert_eq!(rt; merger.faults().len(), 21);
+    assert_eq!(rt; merger.faults().len(), 41);
     Ok(())
 }
 

@@ -22,15 +22,15 @@ returns-then-is_empty-clause-obeys g c = λ tells. OnOk-map c.tell.result (λ to
   gives = gives_told _ _ _ _ c.args.run.now c.tell.new.self (at_place NoName c.args.at.place) refl refl c.tell.ensures.inputs c.tell.ensures.stack c.tell.ensures.change c.tell.ensures.stage c.tell.ensures.first c.tell.ensures.names c.tell.ensures.limits told;
 }) c.tell.ensures.told
 
-pub returns-then-at-ge10-clause-obeys : goal.returns-then-at-ge10-clause-obeys
-returns-then-at-ge10-clause-obeys g c = λ tells. OnOk-map c.tell-then-at-ge10.result (λ told source is.
+pub returns-then-at-ge-OPEN_FILES-clause-obeys : goal.returns-then-at-ge-OPEN_FILES-clause-obeys
+returns-then-at-ge-OPEN_FILES-clause-obeys g c = λ tells. OnOk-map c.tell-then-at-ge-OPEN_FILES.result (λ told source is.
     let some = subst (λ (n : List ℕ). 0 < length n) c.include_name-name.ensures (some_are c.include_name-name.result.now (sym c.is_empty.ensures ∙ c.if-is_empty.false)) in
     record {
       rest = _;
-      first = merge_too_deep _ source c.args.line.now c.args.at is _ _ _ _ c.requires.plain c.requires.include some (omega (arith, c.if-at-ge10.true));
-      gives = gives_told _ _ _ _ c.args.run.now c.tell-then-at-ge10.new.self (at_place TooDeep c.args.at.place) refl refl c.tell-then-at-ge10.ensures.inputs c.tell-then-at-ge10.ensures.stack c.tell-then-at-ge10.ensures.change
-          c.tell-then-at-ge10.ensures.stage c.tell-then-at-ge10.ensures.first c.tell-then-at-ge10.ensures.names c.tell-then-at-ge10.ensures.limits told;
-    }) c.tell-then-at-ge10.ensures.told
+      first = merge_too_deep _ source c.args.line.now c.args.at is _ _ _ _ c.requires.plain c.requires.include some (omega (arith, c.if-at-ge-OPEN_FILES.true));
+      gives = gives_told _ _ _ _ c.args.run.now c.tell-then-at-ge-OPEN_FILES.new.self (at_place TooDeep c.args.at.place) refl refl c.tell-then-at-ge-OPEN_FILES.ensures.inputs c.tell-then-at-ge-OPEN_FILES.ensures.stack c.tell-then-at-ge-OPEN_FILES.ensures.change
+          c.tell-then-at-ge-OPEN_FILES.ensures.stage c.tell-then-at-ge-OPEN_FILES.ensures.first c.tell-then-at-ge-OPEN_FILES.ensures.names c.tell-then-at-ge-OPEN_FILES.ensures.limits told;
+    }) c.tell-then-at-ge-OPEN_FILES.ensures.told
 
 pub returns-in_default-clause-obeys : goal.returns-in_default-clause-obeys
 returns-in_default-clause-obeys g c = λ tells. OnOk-map c.tell-in_default.result (λ told source is.
@@ -38,7 +38,7 @@ returns-in_default-clause-obeys g c = λ tells. OnOk-map c.tell-in_default.resul
     let none = rw c.in_default.is at (c.in_ok-opening.ensures.found tells) in
     record {
       rest = _;
-      first = merge_not_there _ source c.args.line.now c.args.at is _ _ _ _ c.requires.plain c.requires.include some (omega (arith, c.if-at-ge10.false))
+      first = merge_not_there _ source c.args.line.now c.args.at is _ _ _ _ c.requires.plain c.requires.include some (omega (arith, c.if-at-ge-OPEN_FILES.false))
           (none ∙ ap (found_at (world_in (g.S.Shelf.texts c.args.shelf.now) c.args.run.now.inputs)) c.include_name-name.ensures);
       gives = gives_told _ _ _ _ c.args.run.now c.tell-in_default.new.self (at_place NotThere c.args.at.place) (c.in_ok-opening.ensures.texts tells) (c.in_ok-opening.ensures.others tells) c.tell-in_default.ensures.inputs c.tell-in_default.ensures.stack c.tell-in_default.ensures.change
           c.tell-in_default.ensures.stage c.tell-in_default.ensures.first c.tell-in_default.ensures.names c.tell-in_default.ensures.limits told;
@@ -50,7 +50,7 @@ returns-clause-obeys g c = λ tells. OnOk-map c.open.result (λ names source is.
     let there = rw c.in-Some.is at (c.in_ok-opening.ensures.found tells) in
     record {
       rest = _;
-      first = merge_opens _ source c.args.line.now c.args.at is _ _ _ _ c.requires.plain (string_bytes c.in-Some.opening.name) (g.S.Shelf.left c.find.new.shelf c.in-Some.opening.reader) c.requires.include some (omega (arith, c.if-at-ge10.false))
+      first = merge_opens _ source c.args.line.now c.args.at is _ _ _ _ c.requires.plain (string_bytes c.in-Some.opening.name) (g.S.Shelf.left c.find.new.shelf c.in-Some.opening.reader) c.requires.include some (omega (arith, c.if-at-ge-OPEN_FILES.false))
           (there ∙ ap (found_at (world_in (g.S.Shelf.texts c.args.shelf.now) c.args.run.now.inputs)) c.include_name-name.ensures);
       gives = gives_opening _ _ _ _ (ap count_of c.open.ensures.limits) (string_bytes c.in-Some.opening.name)
           (ap (λ (es : List Event). opening (string_bytes c.in-Some.opening.name) ∷ es)
