@@ -12,7 +12,8 @@ use Rattle.cweb_rules.specs.declared.effect.Effect.{Effect}
 use Rattle.cweb_rules.specs.declared.effect.Effect.TheVariants.{Nothing, Define, Format, Program, Named, InsertDefs, Joins, GiveAt, Faulty}
 use Rattle.cweb_rules.specs.Codes.{in_limbo, in_text, in_macro, in_c}
 use Rattle.cweb_rules.specs.declared.effect.Effect.TheVariants as effect
-use Rattle.cweb_rules.specs.Constants.{Transliteration, letter, constant}
+use Rattle.cweb_rules.specs.Constants.{letter, constant}
+use Rattle.cweb_rules.specs.declared.constants.Transliteration.{Transliteration}
 use Rattle.cweb_rules.specs.Cut.{Reach, body, size_of}
 use Rattle.cweb_rules.specs.declared.end.End.{End}
 use Rattle.cweb_rules.specs.declared.end.End.TheVariants.{Closed, Cut}
@@ -78,10 +79,10 @@ module _ (c : Context) (a b : ℕ) (u : List ℕ) where
   letter_is-fair : (o : Option Transliteration) → IsLetter o (length u) → Fair c t (letter_is o t)
   letter_is-fair None h = pair-fair (Faulty ImproperHexNumber)
   letter_is-fair (Some l) h =
-      let n = 2 + (l.start + l.length) in
-      let text = take l.length (drop (2 + l.start) t) in
+      let n = 2 + (l.start + l.size) in
+      let text = take l.size (drop (2 + l.start) t) in
       fair_of c t _ n (omega arith) (omega (arith, h))
-      (λ e. text_pays l.byte (nat_le l.length 31) text (take n t) (omega (arith, e, take-at_most l.length (drop (2 + l.start) t))))
+      (λ e. text_pays l.byte (nat_le l.size 31) text (take n t) (omega (arith, e, take-at_most l.size (drop (2 + l.start) t))))
 
   letter_at-fair : Fair c t (letter_at t)
   letter_at-fair = letter_is-fair (letter u) (letter-size u)
@@ -135,13 +136,13 @@ comment_pays zero b t some h = absurd (omega (arith, some))
 comment_pays (suc n) b t some h =
     omega (arith, ends-size (take n t), ap (λ v. if v then 1 + at_line_ends 1 (take n t) else at_line_ends 1 (take n t)) h)
 
-commented : (c : Context) (how : End) (b : ℕ) (t : List ℕ) (r : Reach End) → is_line_end b ≡ false → 2 ≤ length (b ∷ t) → size_of r ≤ length (drop 2 (b ∷ t)) → Fair c (b ∷ t) (front (Comment how) (2 + size_of r))
+commented : (c : Context) (how : End) (b : ℕ) (t : List ℕ) (r : Reach) → is_line_end b ≡ false → 2 ≤ length (b ∷ t) → size_of r ≤ length (drop 2 (b ∷ t)) → Fair c (b ∷ t) (front (Comment how) (2 + size_of r))
 commented c how b t r h two within =
     fair_of c (b ∷ t) (Comment how) (2 + size_of r) (omega arith) (omega (arith, two, within, length-drop 2 (b ∷ t))) (λ e. comment_pays (2 + size_of r) b t (omega arith) h)
 
 -- LITERALS
 
-quoted-fair : (c : Context) (t : List ℕ) (n : ℕ) (r : Reach End) → 0 < n → n ≤ length t → size_of r ≤ length (drop n t) → Fair c t (quoted n r t)
+quoted-fair : (c : Context) (t : List ℕ) (n : ℕ) (r : Reach) → 0 < n → n ≤ length t → size_of r ≤ length (drop n t) → Fair c t (quoted n r t)
 quoted-fair c t n r some fits within =
     let close = take r.close (drop (n + length (body r)) t) in
     let us = take n t ∷ r.units ++ close ∷ [] in

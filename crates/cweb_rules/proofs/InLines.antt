@@ -8,8 +8,11 @@ use Rattle.cweb_rules.specs.declared.effect.Effect.{Effect}
 use Rattle.cweb_rules.specs.declared.effect.Effect.TheVariants.{Nothing, Define, Format, Program, Named, InsertDefs, Joins, GiveAt, Faulty}
 use Rattle.cweb_rules.specs.Codes.{in_limbo, in_text, in_macro, in_c}
 use Rattle.cweb_rules.specs.declared.effect.Effect.TheVariants as effect
-use Rattle.cweb_rules.specs.Constants.{Transliteration, letter}
-use Rattle.cweb_rules.specs.Cut.{Look, Goes, Ends, Reach, reach, reach_in, with_unit, body}
+use Rattle.cweb_rules.specs.Constants.{letter}
+use Rattle.cweb_rules.specs.declared.constants.Transliteration.{Transliteration}
+use Rattle.cweb_rules.specs.declared.look.Look.{Look}
+use Rattle.cweb_rules.specs.declared.look.Look.TheVariants.{Goes, Ends}
+use Rattle.cweb_rules.specs.Cut.{Reach, reach, reach_in, with_unit, body}
 use Rattle.cweb_rules.specs.declared.end.End.{End}
 use Rattle.cweb_rules.specs.declared.end.End.TheVariants.{Cut}
 use Rattle.cweb_rules.specs.Items.{look_in_literal, look_in_include, look_in_raw}
@@ -36,20 +39,20 @@ IsLine-take zero t h = tt
 IsLine-take (suc n) [] h = tt
 IsLine-take (suc n) (b ∷ t) h = (h.0, IsLine-take n t h.1)
 
-abbrev at_front : (List ℕ → Look End) → End → Look End → List ℕ → List ℕ → Reach End
+abbrev at_front : (List ℕ → Look) → End → Look → List ℕ → List ℕ → Reach
 at_front look e v u t = elim v [ Goes n ↦ with_unit (take n u) (reach_in look e (n - 1) t) | Ends n how ↦ record { units = []; close = n; how = how } ]
 
-lines_at : (look : List ℕ → Look End) (e : End) (v : Look End) (u t : List ℕ) → IsLine u → ((k : ℕ) → AreLines (reach_in look e k t).units) → AreLines (at_front look e v u t).units
+lines_at : (look : List ℕ → Look) (e : End) (v : Look) (u t : List ℕ) → IsLine u → ((k : ℕ) → AreLines (reach_in look e k t).units) → AreLines (at_front look e v u t).units
 lines_at look e (Goes n) u t h f = (IsLine-take n u h, f (n - 1))
 lines_at look e (Ends n how) u t h f = tt
 
-lines_in : (look : List ℕ → Look End) (e : End) (k : ℕ) (t : List ℕ) → IsLine t → AreLines (reach_in look e k t).units
+lines_in : (look : List ℕ → Look) (e : End) (k : ℕ) (t : List ℕ) → IsLine t → AreLines (reach_in look e k t).units
 lines_in look e k [] h = tt
 lines_in look e (suc k) (b ∷ t) h = lines_in look e k t h.1
 lines_in look e zero (b ∷ t) h = lines_at look e (look (b ∷ t)) (b ∷ t) t h (λ k. lines_in look e k t h.1)
 
 -- no unit of a line has a line end
-pub units-lines : (look : List ℕ → Look End) (e : End) (t : List ℕ) → IsLine t → AreLines (reach look e t).units
+pub units-lines : (look : List ℕ → Look) (e : End) (t : List ℕ) → IsLine t → AreLines (reach look e t).units
 units-lines look e t h = lines_in look e 0 t h
 
 abbrev Stands : List ℕ → Front → Type 0
@@ -69,7 +72,7 @@ section-stands t h = choose t (begins (codes "@*") t) (front (Section true) 2) (
 
 letter-stands : (o : Option Transliteration) (t : List ℕ) → IsLine t → Stands t (letter_is o t)
 letter-stands None t h = IsLine-take 2 t h
-letter-stands (Some l) t h = IsLine-take (2 + (l.start + l.length)) t h
+letter-stands (Some l) t h = IsLine-take (2 + (l.start + l.size)) t h
 
 code-stands : (e : Effect) (takes_sign : Bool) (t : List ℕ) → IsLine t → Stands t (code_front e takes_sign t)
 code-stands Named takes_sign t h = IsLine-take (name_at takes_sign t).size t h
@@ -99,7 +102,7 @@ lines-append : (us : List (List ℕ)) (u : List ℕ) → AreLines us → IsLine 
 lines-append [] u h k = (k, tt)
 lines-append (v ∷ us) u h k = (h.0, lines-append us u h.1 k)
 
-quoted-stands : (look : List ℕ → Look End) (n : ℕ) (t : List ℕ) → IsLine t → Stands t (quoted n (reach look Cut (drop n t)) t)
+quoted-stands : (look : List ℕ → Look) (n : ℕ) (t : List ℕ) → IsLine t → Stands t (quoted n (reach look Cut (drop n t)) t)
 quoted-stands look n t h =
     let r = reach look Cut (drop n t) in
     let m = n + length (body r) in

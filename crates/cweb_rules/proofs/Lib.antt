@@ -1,6 +1,9 @@
+pub mod Longest
 pub mod Seams
 pub mod Sizes
+pub mod ByRules
 pub mod Reaches
+pub mod Ranges
 pub mod Fairs
 pub mod LineItems
 pub mod LineFronts

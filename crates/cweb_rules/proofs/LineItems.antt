@@ -8,8 +8,12 @@ use Rattle.cweb_rules.specs.Bytes.{begins, is_blank, is_line_end, is_gap, is_oct
 use Rattle.cweb_rules.specs.declared.effect.Effect.{Effect}
 use Rattle.cweb_rules.specs.declared.effect.Effect.TheVariants.{Nothing, Define, Format, Program, Named, InsertDefs, Joins, GiveAt, Faulty}
 use Rattle.cweb_rules.specs.declared.effect.Effect.TheVariants as effect
-use Rattle.cweb_rules.specs.Constants.{Character, character, escapes, escaped, octal_value, octal, after_backslash, stands_alone, character_at, faulty_size, Valued, constant_of, constant, hex_value, hex_at, Transliteration, letter_with, letter_after, letter}
-use Rattle.cweb_rules.specs.Cut.{Look, Reach, reach, body, size_of}
+use Rattle.cweb_rules.specs.Constants.{character, escapes, escaped, octal_value, octal, after_backslash, stands_alone, character_at, faulty_size, constant_of, constant, hex_value, hex_at, letter_with, letter_after, letter}
+use Rattle.cweb_rules.specs.declared.constants.Transliteration.{Transliteration}
+use Rattle.cweb_rules.specs.declared.constants.Valued.{Valued}
+use Rattle.cweb_rules.specs.declared.constants.Character.{Character}
+use Rattle.cweb_rules.specs.declared.look.Look.{Look}
+use Rattle.cweb_rules.specs.Cut.{Reach, reach, body, size_of}
 use Rattle.cweb_rules.specs.declared.end.End.{End}
 use Rattle.cweb_rules.specs.declared.end.End.TheVariants.{Closed, Cut, Nested, Open}
 use Rattle.cweb_rules.specs.Items.{control_text, name, opener_sign, comment, line_comment, literal, included_name, raw_literal, look_in_control, look_in_name, look_in_comment, look_in_literal, look_in_include, look_in_raw}
@@ -32,7 +36,7 @@ comment_at_line t more e two ends =
     let local : (m : List ℕ) → AtLineEnd m → IsLocal look m = λ m f. comment-local (begins (codes "*/")) 2 m f (λ b u. begins_line (codes "*/") (b ∷ u) m refl f) in
     let same : comment (drop 2 (t ++ more)) ≡ comment (drop 2 t) =
     ap comment (drop-append-le 2 t more two) ∙ reach_ends look Cut (drop 2 t) more (local more e) (local [] tt) (whole look (comment-units (begins (codes "*/")) 2) (drop 2 t)) ends in
-    ap (λ (r : Reach End). front (Comment r.how) (2 + size_of r)) same
+    ap (λ (r : Reach). front (Comment r.how) (2 + size_of r)) same
 
 line_comment-stops : (more : List ℕ) → AtLineEnd more → line_comment more ≡ record { units = []; close = 0; how = Closed }
 line_comment-stops [] e = refl
@@ -44,7 +48,7 @@ line_comment_at_line t more e two =
     let local : (m : List ℕ) → AtLineEnd m → IsLocal look m = λ m f. comment-local at_line_end 0 m f (λ b u. refl) in
     let same : line_comment (drop 2 (t ++ more)) ≡ line_comment (drop 2 t) =
     ap line_comment (drop-append-le 2 t more two) ∙ reach-line look Closed (drop 2 t) more (local more e) (local [] tt) (whole look (comment-units at_line_end 0) (drop 2 t)) (line_comment-stops more e) in
-    ap (λ (r : Reach End). front (Comment r.how) (2 + size_of r)) same
+    ap (λ (r : Reach). front (Comment r.how) (2 + size_of r)) same
 
 -- CODES
 
@@ -128,7 +132,7 @@ and_false false = refl
 letter_with-line : (byte start gap : ℕ) (t more : List ℕ) → AtLineEnd more → gap ≤ length t → letter_with byte start gap (t ++ more) ≡ letter_with byte start gap t
 letter_with-line byte start gap t more e h =
     let same : prefix_len is_replacing (drop gap (t ++ more)) ≡ prefix_len is_replacing (drop gap t) = ap (prefix_len is_replacing) (drop-append-le gap t more h) ∙ run_line is_replacing (drop gap t) more refl e in
-    λ i. if gap == 0 then None else Some (record { byte = byte; start = start + gap; length = same i })
+    λ i. if gap == 0 then None else Some (record { byte = byte; start = start + gap; size = same i })
 
 letter_of-line : (o : Option ℕ) (start : ℕ) (t more : List ℕ) → AtLineEnd more
     → (elim o as (λ w. Option Transliteration) [ None ↦ None | Some byte ↦ letter_with byte start (prefix_len is_gap (t ++ more)) (t ++ more) ]) ≡ (elim o as (λ w. Option Transliteration) [ None ↦ None | Some byte ↦ letter_with byte start (prefix_len is_gap t) t ])
@@ -162,9 +166,9 @@ letter_is-line None a b t more h = refl
 letter_is-line (Some l) a b t more h =
     let m = 2 + l.start in
     let u = a ∷ b ∷ t in
-    let same : take l.length (drop m (u ++ more)) ≡ take l.length (drop m u) =
-    ap (take l.length) (drop-append-le m u more (omega (arith, h))) ∙ take-append-le l.length (drop m u) more (omega (arith, h, length-drop m u)) in
-    λ i. front (Letter l.byte (if nat_le l.length 31 then Some (same i) else None)) (2 + (l.start + l.length))
+    let same : take l.size (drop m (u ++ more)) ≡ take l.size (drop m u) =
+    ap (take l.size) (drop-append-le m u more (omega (arith, h))) ∙ take-append-le l.size (drop m u) more (omega (arith, h, length-drop m u)) in
+    λ i. front (Letter l.byte (if nat_le l.size 31 then Some (same i) else None)) (2 + (l.start + l.size))
 
 abbrev size_in : List ℕ → ℕ
 size_in u = if begins (codes "=") u then 1 else (if begins (codes "+=") u then 2 else 0)
@@ -200,7 +204,7 @@ sign_after-line Cut t more e = refl
 sign_after-line Nested t more e = refl
 sign_after-line Open t more e = refl
 
-abbrev named : Bool → Bool → Reach End → ℕ → Front
+abbrev named : Bool → Bool → Reach → ℕ → Front
 named is_file takes_sign r sign = front (Occurrence is_file r.units r.how (nat_lt 0 sign)) (if takes_sign then (2 + size_of r) + sign else 2 + size_of r)
 
 name_at-line : (takes_sign : Bool) (a b : ℕ) (t more : List ℕ) → AtLineEnd more → opens_name (a ∷ b ∷ t) ≡ false → name_at takes_sign (a ∷ b ∷ t ++ more) ≡ name_at takes_sign (a ∷ b ∷ t)
@@ -209,15 +213,15 @@ name_at-line takes_sign a b t more e ends =
     let u = a ∷ b ∷ t in
     let same : name (t ++ more) ≡ r = reach_ends look_in_name Cut t more (name-local more e) (name-local [] tt) (whole look_in_name name-units t) ends in
     let fits = reach-size look_in_name Cut name-within t in
-    ap (λ (r : Reach End). named (begins (codes "@(") u) takes_sign r (sign_after r.how (drop (2 + size_of r) (u ++ more)))) same
+    ap (λ (r : Reach). named (begins (codes "@(") u) takes_sign r (sign_after r.how (drop (2 + size_of r) (u ++ more)))) same
     ∙ ap (λ w. named (begins (codes "@(") u) takes_sign r (sign_after r.how w)) (drop-append-le (2 + size_of r) u more (omega (arith, fits)))
     ∙ ap (λ n. named (begins (codes "@(") u) takes_sign r n) (sign_after-line r.how (drop (2 + size_of r) u) more e)
 
 code_front-line : (c : Effect) (takes_sign : Bool) (a b : ℕ) (t more : List ℕ) → AtLineEnd more → opens_effect c (a ∷ b ∷ t) ≡ false → code_front c takes_sign (a ∷ b ∷ t ++ more) ≡ code_front c takes_sign (a ∷ b ∷ t)
 code_front-line Named takes_sign a b t more e h = name_at-line takes_sign a b t more e h
 code_front-line effect.Letter takes_sign a b t more e h = ap (λ o. letter_is o (a ∷ b ∷ t ++ more)) (letter-line t more e) ∙ letter_is-line (letter t) a b t more (letter-size t)
-code_front-line effect.ControlText takes_sign a b t more e h = ap (λ (r : Reach End). front (ControlText r.how) (2 + size_of r)) (control_text-line t more e)
-code_front-line effect.Verbatim takes_sign a b t more e h = ap (λ (r : Reach End). front (Verbatim r.units r.how) (2 + size_of r)) (control_text-line t more e)
+code_front-line effect.ControlText takes_sign a b t more e h = ap (λ (r : Reach). front (ControlText r.how) (2 + size_of r)) (control_text-line t more e)
+code_front-line effect.Verbatim takes_sign a b t more e h = ap (λ (r : Reach). front (Verbatim r.units r.how) (2 + size_of r)) (control_text-line t more e)
 code_front-line effect.Constant takes_sign a b t more e h = ap (λ (v : Valued). front (Constant v.value) (2 + v.size)) (constant-line t more e)
 code_front-line Nothing takes_sign a b t more e h = refl
 code_front-line Define takes_sign a b t more e h = refl
@@ -235,7 +239,7 @@ code_at_line effect takes_sign a (b ∷ t) more e two h = code_front-line (effec
 
 -- LITERALS
 
-pub quoted-line : (n : ℕ) (r : Reach End) (t more : List ℕ) → n ≤ length t → size_of r ≤ length (drop n t) → quoted n r (t ++ more) ≡ quoted n r t
+pub quoted-line : (n : ℕ) (r : Reach) (t more : List ℕ) → n ≤ length t → size_of r ≤ length (drop n t) → quoted n r (t ++ more) ≡ quoted n r t
 quoted-line n r t more fits within =
     let m = n + length (body r) in
     let d = length-drop n t in
@@ -245,7 +249,7 @@ quoted-line n r t more fits within =
     λ i. front (Quoted (first i ∷ r.units ++ last i ∷ []) r.how) (n + size_of r)
 
 -- a literal that ends in the line
-quoted_ends : (look : List ℕ → Look End) (n : ℕ) (t more : List ℕ) → n ≤ length t → IsWithin look → IsLocal look more → IsLocal look [] → IsWhole look 0 (drop n t) → is_open (reach look Open (drop n t)).how ≡ false
+quoted_ends : (look : List ℕ → Look) (n : ℕ) (t more : List ℕ) → n ≤ length t → IsWithin look → IsLocal look more → IsLocal look [] → IsWhole look 0 (drop n t) → is_open (reach look Open (drop n t)).how ≡ false
     → quoted n (reach look Cut (drop n (t ++ more))) (t ++ more) ≡ quoted n (reach look Cut (drop n t)) t
 quoted_ends look n t more fits within local local0 h ends =
     ap (λ u. quoted n (reach look Cut u) (t ++ more)) (drop-append-le n t more fits)
@@ -404,7 +408,7 @@ included-line : (t more : List ℕ) → AtLineEnd more → included_name (t ++ m
 included-line t more e = reach-line look_in_include Cut t more (include-local more e) (include-local [] tt) (whole look_in_include include-units t) (include-stops more e)
 
 pub starts_include_line : (b : ℕ) (t more : List ℕ) → AtLineEnd more → starts_include (b ∷ t ++ more) ≡ starts_include (b ∷ t)
-starts_include_line b t more e = λ i. begins_line (codes "<") (b ∷ t) more refl e i && is_closed (ap (λ (r : Reach End). r.how) (included-line t more e) i)
+starts_include_line b t more e = λ i. begins_line (codes "<") (b ∷ t) more refl e i && is_closed (ap (λ (r : Reach). r.how) (included-line t more e) i)
 
 pub include_at_line : (b : ℕ) (t more : List ℕ) → AtLineEnd more → include_at (b ∷ t ++ more) ≡ include_at (b ∷ t)
 include_at_line b t more e =

@@ -5,7 +5,9 @@ use Rattle.std.specs.List.{list_all}
 use Rattle.std.proofs.lemmas.Bool.{eqb-true}
 use Rattle.std.proofs.lemmas.List.{take-append-le, append-nil}
 use Rattle.cweb_rules.specs.Bytes.{begins, first_is, is_line_end, starts_section}
-use Rattle.cweb_rules.specs.Cut.{Look, Goes, Ends, Reach, reach, reach_in, with_unit}
+use Rattle.cweb_rules.specs.declared.look.Look.{Look}
+use Rattle.cweb_rules.specs.declared.look.Look.TheVariants.{Goes, Ends}
+use Rattle.cweb_rules.specs.Cut.{Reach, reach, reach_in, with_unit}
 use Rattle.cweb_rules.specs.declared.end.End.{End}
 use Rattle.cweb_rules.specs.declared.end.End.TheVariants.{Closed, Cut, Nested, Open}
 use Rattle.cweb_rules.specs.Items.{look_in_control, look_in_name, look_in_comment, look_in_literal, look_in_include, look_in_raw}
@@ -14,7 +16,7 @@ use Rattle.cweb_rules.proofs.Seams.{in_line, both, begins_stop, begins_line, sta
 use Rattle.cweb_rules.proofs.Sizes.{begins-size}
 
 -- what is seen before a seam doesn't depend on what comes after it
-abbrev pub IsLocal : (List ℕ → Look End) → List ℕ → Type 0
+abbrev pub IsLocal : (List ℕ → Look) → List ℕ → Type 0
 IsLocal look more = (b : ℕ) (t : List ℕ) → look (b ∷ t ++ more) ≡ look (b ∷ t)
 
 abbrev pub IsEnd : End → Type 0
@@ -24,42 +26,42 @@ IsEnd Cut = Unit {0}
 IsEnd Nested = Unit {0}
 
 -- no unit goes over the seam; `inner` bytes of a unit are still to pass
-abbrev pub IsWhole : (List ℕ → Look End) → ℕ → List ℕ → Type 0
+abbrev pub IsWhole : (List ℕ → Look) → ℕ → List ℕ → Type 0
 IsWhole look inner [] = inner ≡ 0
 IsWhole look (suc inner) (b ∷ t) = IsWhole look inner t
 IsWhole look zero (b ∷ t) = elim (look (b ∷ t)) [ Goes n ↦ (0 < n) × IsWhole look (n - 1) t | Ends n how ↦ IsEnd how ]
 
 -- an item's part before the seam, and its part after it where it is still open
-abbrev pub join : Reach End → Reach End → Reach End
+abbrev pub join : Reach → Reach → Reach
 join r m = elim r.how [
   | Open ↦ record { units = r.units ++ m.units; close = m.close; how = m.how }
   | _ ↦ r
 ]
 
-join-with_unit : (u : List ℕ) (us : List (List ℕ)) (n : ℕ) (how : End) (m : Reach End) → join (with_unit u (record { units = us; close = n; how = how })) m ≡ with_unit u (join (record { units = us; close = n; how = how }) m)
+join-with_unit : (u : List ℕ) (us : List (List ℕ)) (n : ℕ) (how : End) (m : Reach) → join (with_unit u (record { units = us; close = n; how = how })) m ≡ with_unit u (join (record { units = us; close = n; how = how }) m)
 join-with_unit u us n Open m = refl
 join-with_unit u us n Closed m = refl
 join-with_unit u us n Cut m = refl
 join-with_unit u us n Nested m = refl
 
-ended : (n : ℕ) (how : End) (m : Reach End) → IsEnd how → record { units = []; close = n; how = how } ≡ join (record { units = []; close = n; how = how }) m
+ended : (n : ℕ) (how : End) (m : Reach) → IsEnd how → record { units = []; close = n; how = how } ≡ join (record { units = []; close = n; how = how }) m
 ended n Open m h = absurd h
 ended n Closed m h = refl
 ended n Cut m h = refl
 ended n Nested m h = refl
 
-whole_fits : (look : List ℕ → Look End) (k : ℕ) (t : List ℕ) → IsWhole look k t → k ≤ length t
+whole_fits : (look : List ℕ → Look) (k : ℕ) (t : List ℕ) → IsWhole look k t → k ≤ length t
 whole_fits look k [] h = omega (arith, h)
 whole_fits look (suc k) (b ∷ t) h = omega (arith, whole_fits look k t h)
 whole_fits look zero (b ∷ t) h = omega arith
 
-abbrev at_front : (List ℕ → Look End) → Look End → List ℕ → End → List ℕ → Reach End
+abbrev at_front : (List ℕ → Look) → Look → List ℕ → End → List ℕ → Reach
 at_front look v u f w = elim v [ Goes n ↦ with_unit (take n u) (reach_in look f (n - 1) w) | Ends n how ↦ record { units = []; close = n; how = how } ]
 
-abbrev WholeAt : (List ℕ → Look End) → Look End → List ℕ → Type 0
+abbrev WholeAt : (List ℕ → Look) → Look → List ℕ → Type 0
 WholeAt look v t = elim v [ Goes n ↦ (0 < n) × IsWhole look (n - 1) t | Ends n how ↦ IsEnd how ]
 
-one_unit : (look : List ℕ → Look End) (e : End) (b : ℕ) (t more : List ℕ) (w : Look End) → WholeAt look w t
+one_unit : (look : List ℕ → Look) (e : End) (b : ℕ) (t more : List ℕ) (w : Look) → WholeAt look w t
     → ((k : ℕ) → IsWhole look k t → reach_in look e k (t ++ more) ≡ join (reach_in look Open k t) (reach_in look e 0 more))
     → at_front look w (b ∷ t ++ more) e (t ++ more) ≡ join (at_front look w (b ∷ t) Open t) (reach_in look e 0 more)
 one_unit look e b t more (Ends n how) h ih = ended n how (reach_in look e 0 more) h
@@ -70,7 +72,7 @@ one_unit look e b t more (Goes n) h ih =
     ∙ ap (with_unit (take n (b ∷ t))) (ih (n - 1) h.1)
     ∙ sym (join-with_unit (take n (b ∷ t)) r.units r.close r.how m)
 
-seam_in : (look : List ℕ → Look End) (e : End) (more : List ℕ) → IsLocal look more → (k : ℕ) (t : List ℕ) → IsWhole look k t → reach_in look e k (t ++ more) ≡ join (reach_in look Open k t) (reach_in look e 0 more)
+seam_in : (look : List ℕ → Look) (e : End) (more : List ℕ) → IsLocal look more → (k : ℕ) (t : List ℕ) → IsWhole look k t → reach_in look e k (t ++ more) ≡ join (reach_in look Open k t) (reach_in look e 0 more)
 seam_in look e more local k [] h = ap (λ n. reach_in look e n more) h
 seam_in look e more local (suc k) (b ∷ t) h = seam_in look e more local k t h
 seam_in look e more local zero (b ∷ t) h =
@@ -78,46 +80,46 @@ seam_in look e more local zero (b ∷ t) h =
     ∙ one_unit look e b t more (look (b ∷ t)) h (λ k f. seam_in look e more local k t f)
 
 -- the item before the seam, and after it
-pub reach-append : (look : List ℕ → Look End) (e : End) (t more : List ℕ) → IsLocal look more → IsWhole look 0 t → reach look e (t ++ more) ≡ join (reach look Open t) (reach look e more)
+pub reach-append : (look : List ℕ → Look) (e : End) (t more : List ℕ) → IsLocal look more → IsWhole look 0 t → reach look e (t ++ more) ≡ join (reach look Open t) (reach look e more)
 reach-append look e t more local h = seam_in look e more local 0 t h
 
-join-ended : (us : List (List ℕ)) (n : ℕ) (how : End) (m : Reach End) → is_open how ≡ false → join (record { units = us; close = n; how = how }) m ≡ record { units = us; close = n; how = how }
+join-ended : (us : List (List ℕ)) (n : ℕ) (how : End) (m : Reach) → is_open how ≡ false → join (record { units = us; close = n; how = how }) m ≡ record { units = us; close = n; how = how }
 join-ended us n Open m h = cc
 join-ended us n Closed m h = refl
 join-ended us n Cut m h = refl
 join-ended us n Nested m h = refl
 
 -- an item that ends before the seam
-pub reach-ended : (look : List ℕ → Look End) (e : End) (t more : List ℕ) → IsLocal look more → IsWhole look 0 t → is_open (reach look Open t).how ≡ false → reach look e (t ++ more) ≡ reach look Open t
+pub reach-ended : (look : List ℕ → Look) (e : End) (t more : List ℕ) → IsLocal look more → IsWhole look 0 t → is_open (reach look Open t).how ≡ false → reach look e (t ++ more) ≡ reach look Open t
 reach-ended look e t more local h ended = let r = reach look Open t in reach-append look e t more local h ∙ join-ended r.units r.close r.how (reach look e more) ended
 
 -- an item that a line end ends
-pub reach-line : (look : List ℕ → Look End) (e : End) (t more : List ℕ) → IsLocal look more → IsLocal look [] → IsWhole look 0 t → reach look e more ≡ record { units = []; close = 0; how = e } → reach look e (t ++ more) ≡ reach look e t
+pub reach-line : (look : List ℕ → Look) (e : End) (t more : List ℕ) → IsLocal look more → IsLocal look [] → IsWhole look 0 t → reach look e more ≡ record { units = []; close = 0; how = e } → reach look e (t ++ more) ≡ reach look e t
 reach-line look e t more local local0 h stop =
     reach-append look e t more local h ∙ ap (join (reach look Open t)) stop ∙ sym (ap (reach look e) (sym (append-nil t)) ∙ reach-append look e t [] local0 h)
 
 -- THE LOOKS: what they see in a line, and that their units stand in it
 
-abbrev pub IsWithin : Look End → ℕ → Type 0
+abbrev pub IsWithin : Look → ℕ → Type 0
 IsWithin (Goes n) len = (0 < n) × (n ≤ len)
 IsWithin (Ends n how) len = IsEnd how
 
-abbrev pub AllWithin : (List ℕ → Look End) → Type 0
+abbrev pub AllWithin : (List ℕ → Look) → Type 0
 AllWithin look = (b : ℕ) (t : List ℕ) → IsWithin (look (b ∷ t)) (length (b ∷ t))
 
-whole_at : (look : List ℕ → Look End) (v : Look End) (t : List ℕ) → IsWithin v (suc (length t)) → ((k : ℕ) → k ≤ length t → IsWhole look k t) → WholeAt look v t
+whole_at : (look : List ℕ → Look) (v : Look) (t : List ℕ) → IsWithin v (suc (length t)) → ((k : ℕ) → k ≤ length t → IsWhole look k t) → WholeAt look v t
 whole_at look (Goes n) t h f = (h.0, f (n - 1) (omega (arith, h.1)))
 whole_at look (Ends n how) t h f = h
 
-whole_in : (look : List ℕ → Look End) → AllWithin look → (k : ℕ) (t : List ℕ) → k ≤ length t → IsWhole look k t
+whole_in : (look : List ℕ → Look) → AllWithin look → (k : ℕ) (t : List ℕ) → k ≤ length t → IsWhole look k t
 whole_in look within k [] h = omega (arith, h)
 whole_in look within (suc k) (b ∷ t) h = whole_in look within k t (omega (arith, h))
 whole_in look within zero (b ∷ t) h = whole_at look (look (b ∷ t)) t (within b t) (λ k f. whole_in look within k t f)
 
-pub whole : (look : List ℕ → Look End) → AllWithin look → (t : List ℕ) → IsWhole look 0 t
+pub whole : (look : List ℕ → Look) → AllWithin look → (t : List ℕ) → IsWhole look 0 t
 whole look within t = whole_in look within 0 t (omega arith)
 
-within_if : (v : Bool) (x y : Look End) (n : ℕ) → (v ≡ true → IsWithin x n) → (v ≡ false → IsWithin y n) → IsWithin (if v then x else y) n
+within_if : (v : Bool) (x y : Look) (n : ℕ) → (v ≡ true → IsWithin x n) → (v ≡ false → IsWithin y n) → IsWithin (if v then x else y) n
 within_if true x y n f g = f refl
 within_if false x y n f g = g refl
 
@@ -214,26 +216,26 @@ literal-local quote more stop b t = λ i.
 
 -- UNITS THAT ARE NOT EMPTY: what ends before a seam has no unit over it
 
-abbrev pub IsSome : Look End → Type 0
+abbrev pub IsSome : Look → Type 0
 IsSome (Goes n) = 0 < n
 IsSome (Ends n how) = IsEnd how
 
-abbrev pub AllSome : (List ℕ → Look End) → Type 0
+abbrev pub AllSome : (List ℕ → Look) → Type 0
 AllSome look = (b : ℕ) (t : List ℕ) → IsSome (look (b ∷ t))
 
-ended_at : (look : List ℕ → Look End) (b : ℕ) (t : List ℕ) (v : Look End) → IsSome v → ((k : ℕ) → is_open (reach_in look Open k t).how ≡ false → IsWhole look k t) → is_open (at_front look v (b ∷ t) Open t).how ≡ false → WholeAt look v t
+ended_at : (look : List ℕ → Look) (b : ℕ) (t : List ℕ) (v : Look) → IsSome v → ((k : ℕ) → is_open (reach_in look Open k t).how ≡ false → IsWhole look k t) → is_open (at_front look v (b ∷ t) Open t).how ≡ false → WholeAt look v t
 ended_at look b t (Goes n) h f g = (h, f (n - 1) g)
 ended_at look b t (Ends n how) h f g = h
 
-ended_in : (look : List ℕ → Look End) → AllSome look → (k : ℕ) (t : List ℕ) → is_open (reach_in look Open k t).how ≡ false → IsWhole look k t
+ended_in : (look : List ℕ → Look) → AllSome look → (k : ℕ) (t : List ℕ) → is_open (reach_in look Open k t).how ≡ false → IsWhole look k t
 ended_in look some k [] h = cc
 ended_in look some (suc k) (b ∷ t) h = ended_in look some k t h
 ended_in look some zero (b ∷ t) h = ended_at look b t (look (b ∷ t)) (some b t) (λ k f. ended_in look some k t f) h
 
-pub ended_whole : (look : List ℕ → Look End) → AllSome look → (t : List ℕ) → is_open (reach look Open t).how ≡ false → IsWhole look 0 t
+pub ended_whole : (look : List ℕ → Look) → AllSome look → (t : List ℕ) → is_open (reach look Open t).how ≡ false → IsWhole look 0 t
 ended_whole look some t h = ended_in look some 0 t h
 
-some_if : (v : Bool) (x y : Look End) → IsSome x → IsSome y → IsSome (if v then x else y)
+some_if : (v : Bool) (x y : Look) → IsSome x → IsSome y → IsSome (if v then x else y)
 some_if true x y f g = f
 some_if false x y f g = g
 
@@ -243,8 +245,8 @@ literal-some quote b t =
     (some_if (begins (codes "\\") (b ∷ t) || begins (codes "@@") (b ∷ t)) _ _ (omega arith) (omega arith))))
 
 -- what ends in a text ends so, however the text ends
-pub ended_same : (look : List ℕ → Look End) (e : End) (t : List ℕ) → IsLocal look [] → IsWhole look 0 t → is_open (reach look Open t).how ≡ false → reach look e t ≡ reach look Open t
+pub ended_same : (look : List ℕ → Look) (e : End) (t : List ℕ) → IsLocal look [] → IsWhole look 0 t → is_open (reach look Open t).how ≡ false → reach look e t ≡ reach look Open t
 ended_same look e t local h ended = ap (reach look e) (sym (append-nil t)) ∙ reach-ended look e t [] local h ended
 
-pub reach_ends : (look : List ℕ → Look End) (e : End) (t more : List ℕ) → IsLocal look more → IsLocal look [] → IsWhole look 0 t → is_open (reach look Open t).how ≡ false → reach look e (t ++ more) ≡ reach look e t
+pub reach_ends : (look : List ℕ → Look) (e : End) (t more : List ℕ) → IsLocal look more → IsLocal look [] → IsWhole look 0 t → is_open (reach look Open t).how ≡ false → reach look e (t ++ more) ≡ reach look e t
 reach_ends look e t more local local0 h ended = reach-ended look e t more local h ended ∙ sym (ended_same look e t local0 h ended)

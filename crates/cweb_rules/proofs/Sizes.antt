@@ -8,8 +8,13 @@ use Rattle.std.proofs.lemmas.Fmt.{length-decimal-le}
 use Rattle.std.proofs.lemmas.List.{length-drop}
 use Rattle.std.proofs.lemmas.List.Sums.{prefix_len-le-length}
 use Rattle.cweb_rules.specs.Bytes.{begins, starts_section, at_line_end, is_line_end, is_gap, is_octal, is_replacing}
-use Rattle.cweb_rules.specs.Constants.{Character, character, escapes, escaped, octal_value, octal, after_backslash, stands_alone, character_at, faulty_size, Valued, constant_of, constant, hex_at, Transliteration, letter_with, letter_after, letter}
-use Rattle.cweb_rules.specs.Cut.{Look, Goes, Ends, Reach, reach, reach_in, with_unit, body, size_of}
+use Rattle.cweb_rules.specs.Constants.{ends_faulty, character, escapes, escaped, octal_value, octal, after_backslash, stands_alone, character_at, faulty_size, constant_of, constant, hex_at, letter_with, letter_after, letter}
+use Rattle.cweb_rules.specs.declared.constants.Transliteration.{Transliteration}
+use Rattle.cweb_rules.specs.declared.constants.Valued.{Valued}
+use Rattle.cweb_rules.specs.declared.constants.Character.{Character}
+use Rattle.cweb_rules.specs.declared.look.Look.{Look}
+use Rattle.cweb_rules.specs.declared.look.Look.TheVariants.{Goes, Ends}
+use Rattle.cweb_rules.specs.Cut.{Reach, reach, reach_in, with_unit, body, size_of}
 use Rattle.cweb_rules.specs.Fronts.{sign_after}
 use Rattle.cweb_rules.specs.declared.end.End.{End}
 use Rattle.cweb_rules.specs.declared.end.End.TheVariants.{Closed, Cut, Nested, Open}
@@ -47,38 +52,38 @@ units-text (u ∷ us) = omega (arith, unit u, units-text us, length-append (unit
 
 -- ITEMS WITH AN END SIGN
 
-abbrev pub end_size : Look End → ℕ
+abbrev pub end_size : Look → ℕ
 end_size (Goes n) = 0
 end_size (Ends n how) = n
 
 -- an end sign stands in the text
-abbrev pub IsWithin : (List ℕ → Look End) → Type 0
+abbrev pub IsWithin : (List ℕ → Look) → Type 0
 IsWithin look = (t : List ℕ) → end_size (look t) ≤ length t
 
-abbrev at_front : (List ℕ → Look End) → Look End → End → ℕ → List ℕ → Reach End
+abbrev at_front : (List ℕ → Look) → Look → End → ℕ → List ℕ → Reach
 at_front look v how b t = elim v [ Goes n ↦ with_unit (take n (b ∷ t)) (reach_in look how (n - 1) t) | Ends n e ↦ record { units = []; close = n; how = e } ]
 
-at_front-size : (look : List ℕ → Look End) (how : End) (b : ℕ) (t : List ℕ) (v : Look End) → end_size v ≤ length (b ∷ t) → ((k : ℕ) → size_of (reach_in look how k t) ≤ length t - k)
+at_front-size : (look : List ℕ → Look) (how : End) (b : ℕ) (t : List ℕ) (v : Look) → end_size v ≤ length (b ∷ t) → ((k : ℕ) → size_of (reach_in look how k t) ≤ length t - k)
     → size_of (at_front look v how b t) ≤ length (b ∷ t)
 at_front-size look how b t (Ends n e) h rest = omega (arith, h)
 at_front-size look how b t (Goes n) h rest =
     let r = reach_in look how (n - 1) t in
     omega (arith, length-append (take n (b ∷ t)) (body r), take-at_most n (b ∷ t), take-within n (b ∷ t), rest (n - 1))
 
-reach_in-size : (look : List ℕ → Look End) (how : End) → IsWithin look → (k : ℕ) (t : List ℕ) → size_of (reach_in look how k t) ≤ length t - k
+reach_in-size : (look : List ℕ → Look) (how : End) → IsWithin look → (k : ℕ) (t : List ℕ) → size_of (reach_in look how k t) ≤ length t - k
 reach_in-size look how within k [] = omega arith
 reach_in-size look how within (suc k) (b ∷ t) = omega (arith, reach_in-size look how within k t)
 reach_in-size look how within zero (b ∷ t) = omega (arith, at_front-size look how b t (look (b ∷ t)) (within (b ∷ t)) (λ k. reach_in-size look how within k t))
 
-pub reach-size : (look : List ℕ → Look End) (how : End) → IsWithin look → (t : List ℕ) → size_of (reach look how t) ≤ length t
+pub reach-size : (look : List ℕ → Look) (how : End) → IsWithin look → (t : List ℕ) → size_of (reach look how t) ≤ length t
 reach-size look how within t = omega (arith, reach_in-size look how within 0 t)
 
 -- a choice between two looks
-either : (v : Bool) (x y : Look End) (n : ℕ) → (v ≡ true → end_size x ≤ n) → end_size y ≤ n → end_size (if v then x else y) ≤ n
+either : (v : Bool) (x y : Look) (n : ℕ) → (v ≡ true → end_size x ≤ n) → end_size y ≤ n → end_size (if v then x else y) ≤ n
 either true x y n f g = f refl
 either false x y n f g = g
 
-goes : (v : Bool) (x y : Look End) (n : ℕ) → end_size x ≤ n → end_size y ≤ n → end_size (if v then x else y) ≤ n
+goes : (v : Bool) (x y : Look) (n : ℕ) → end_size x ≤ n → end_size y ≤ n → end_size (if v then x else y) ≤ n
 goes true x y n f g = f
 goes false x y n f g = g
 
@@ -184,8 +189,8 @@ position-size p t = prefix_len-le-length (λ x. not (p x)) t
 
 faulty-size : (t : List ℕ) → faulty_size t ≤ length t
 faulty-size t =
-    let n = position_or_len (λ b. (b == 39) || is_line_end b) t in
-    let within = position-size (λ b. (b == 39) || is_line_end b) t in
+    let n = position_or_len ends_faulty t in
+    let within = position-size ends_faulty t in
     (elim (begins (codes "'") (drop n t)) as (λ v. begins (codes "'") (drop n t) ≡ v → (if v then n + 1 else n) ≤ length t) [
       | true ↦ λ h. omega (arith, within, begins-size (codes "'") (drop n t) h, length-drop n t)
       | false ↦ λ h. within
@@ -213,10 +218,10 @@ constant-size t = constant_of-size (character_at t) t (character_at-is t)
 
 abbrev pub IsLetter : Option Transliteration → ℕ → Type 0
 IsLetter None n = Unit {0}
-IsLetter (Some l) n = l.start + l.length ≤ n
+IsLetter (Some l) n = l.start + l.size ≤ n
 
 letter_with-size : (byte start gap : ℕ) (t : List ℕ) → gap ≤ length t → IsLetter (letter_with byte start gap t) (start + length t)
-letter_with-size byte start gap t h = elim (gap == 0) as (λ v. IsLetter (if v then None else Some (record { byte = byte; start = start + gap; length = prefix_len is_replacing (drop gap t) })) (start + length t)) [
+letter_with-size byte start gap t h = elim (gap == 0) as (λ v. IsLetter (if v then None else Some (record { byte = byte; start = start + gap; size = prefix_len is_replacing (drop gap t) })) (start + length t)) [
   | true ↦ tt
   | false ↦ omega (arith, h, length-drop gap t, prefix_len-le-length is_replacing (drop gap t))
 ]

@@ -1,12 +1,10 @@
 -- `@'` and `@l`: a character's code, and a letter with its replacement.
 use Rattle.std.specs.Prelude.{ℕ, ◌+◌, ◌*◌, ◌-◌, Bool, ◌||◌, ◌&&◌, ◌==◌, nat_le, nat_lt, min, List, [], ◌∷◌, length, take, drop, codes, if◌then◌else◌, Option, Some, None, not}
 use Rattle.std.specs.List.{fold, prefix_len, position_or_len}
+use Rattle.cweb_rules.specs.declared.constants.Character.{Character}
+use Rattle.cweb_rules.specs.declared.constants.Valued.{Valued}
+use Rattle.cweb_rules.specs.declared.constants.Transliteration.{Transliteration}
 use Rattle.cweb_rules.specs.Bytes.{begins, is_one_of, is_octal, is_hex, is_digit, is_gap, is_replacing, is_line_end, lower}
-
--- a character as it is written: its code, and how many bytes it takes
-pub record Character : Type 0 where
-  pub code : ℕ
-  pub size : ℕ
 
 abbrev pub character : ℕ → ℕ → Option Character
 character code size = Some (record { code = code; size = size })
@@ -44,17 +42,16 @@ character_at (b ∷ t) =
     else (if begins (codes "\\") (b ∷ t) then after_backslash t
     else (if stands_alone b then character b 1 else None))
 
+abbrev pub ends_faulty : ℕ → Bool
+ends_faulty b = (b == 39) || is_line_end b
+
 -- a faulty constant ends with the first `'`, or at the line end
 abbrev pub faulty_size : List ℕ → ℕ
 faulty_size t =
-    let n = position_or_len (λ b. (b == 39) || is_line_end b) t in
+    let n = position_or_len ends_faulty t in
     if begins (codes "'") (drop n t) then n + 1 else n
 
--- what follows `@'`: its value if it has one, and its size
-pub record Valued : Type 0 where
-  pub value : Option ℕ
-  pub size : ℕ
-
+-- what follows `@'`
 abbrev pub constant_of : Option Character → List ℕ → Valued
 constant_of None t = record { value = None; size = faulty_size t }
 constant_of (Some c) t =
@@ -75,16 +72,10 @@ hex_at (a ∷ b ∷ t) =
     let n = 16 * hex_value a + hex_value b in
     if is_hex a && is_hex b && nat_le 128 n then Some n else None
 
--- what follows `@l`: the byte, where its replacement begins and how long it is
-pub record Transliteration : Type 0 where
-  pub byte : ℕ
-  pub start : ℕ
-  pub length : ℕ
-
 abbrev pub letter_with : ℕ → ℕ → ℕ → List ℕ → Option Transliteration
 letter_with byte start gap t =
     if gap == 0 then None
-    else Some (record { byte = byte; start = start + gap; length = prefix_len is_replacing (drop gap t) })
+    else Some (record { byte = byte; start = start + gap; size = prefix_len is_replacing (drop gap t) })
 
 -- any blanks and tabs, the digits, at least one blank or tab, any more of them, then the longest run of letters, digits and `_`
 abbrev pub letter_after : ℕ → List ℕ → Option Transliteration

@@ -9,7 +9,8 @@ use Rattle.cweb_rules.specs.declared.context.Context.{Context}
 use Rattle.cweb_rules.specs.declared.context.Context.TheVariants.{Limbo, TeX, Definition, Macro, CText}
 use Rattle.cweb_rules.specs.Codes.{in_limbo, in_text, in_macro, in_c}
 use Rattle.cweb_rules.specs.declared.effect.Effect.TheVariants as effect
-use Rattle.cweb_rules.specs.Constants.{Transliteration, constant, letter}
+use Rattle.cweb_rules.specs.Constants.{constant, letter}
+use Rattle.cweb_rules.specs.declared.constants.Transliteration.{Transliteration}
 use Rattle.cweb_rules.specs.Cut.{Reach, body, size_of}
 use Rattle.cweb_rules.specs.declared.end.End.{End}
 use Rattle.cweb_rules.specs.declared.end.End.TheVariants.{Closed, Cut, Nested, Open}
@@ -33,7 +34,7 @@ constant_at t = let v = constant (drop 2 t) in front (Constant v.value) (2 + v.s
 abbrev pub letter_is : Option Transliteration → List ℕ → Front
 letter_is None t = front (Code (Faulty ImproperHexNumber)) 2
 letter_is (Some l) t =
-    front (Letter l.byte (if nat_le l.length 31 then Some (take l.length (drop (2 + l.start) t)) else None)) (2 + (l.start + l.length))
+    front (Letter l.byte (if nat_le l.size 31 then Some (take l.size (drop (2 + l.start) t)) else None)) (2 + (l.start + l.size))
 
 abbrev pub letter_at : List ℕ → Front
 letter_at t = letter_is (letter (drop 2 t)) t
@@ -93,7 +94,7 @@ abbrev pub starts_literal : List ℕ → Bool
 starts_literal t = is_quoted (literal_prefix t) t
 
 -- a literal with its quotes, the first of which ends the first n bytes
-abbrev pub quoted : ℕ → Reach End → List ℕ → Front
+abbrev pub quoted : ℕ → Reach → List ℕ → Front
 quoted n r t = front (Quoted (take n t ∷ r.units ++ take r.close (drop (n + length (body r)) t) ∷ []) r.how) (n + size_of r)
 
 abbrev pub quote_of : List ℕ → ℕ

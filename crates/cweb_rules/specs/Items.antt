@@ -4,7 +4,9 @@ use Rattle.std.specs.List.{flat_map, prefix_len}
 use Rattle.cweb_rules.specs.Bytes.{begins, starts_section, at_line_end, is_gap}
 use Rattle.cweb_rules.specs.declared.end.End.{End}
 use Rattle.cweb_rules.specs.declared.end.End.TheVariants.{Closed, Cut, Nested}
-use Rattle.cweb_rules.specs.Cut.{Look, Goes, Ends, Reach, reach}
+use Rattle.cweb_rules.specs.declared.look.Look.{Look}
+use Rattle.cweb_rules.specs.declared.look.Look.TheVariants.{Goes, Ends}
+use Rattle.cweb_rules.specs.Cut.{Reach, reach}
 
 -- `@@` stands for `@`, any other unit for itself
 abbrev pub unit_bytes : List ℕ → List ℕ
@@ -14,25 +16,25 @@ abbrev pub text_in : List (List ℕ) → List ℕ
 text_in units = flat_map unit_bytes units
 
 -- A control text lasts to the first `@` that isn't part of `@@`, or to the line end. It is closed by `@>` alone.
-abbrev pub look_in_control : List ℕ → Look End
+abbrev pub look_in_control : List ℕ → Look
 look_in_control t =
     if begins (codes "@>") t then Ends 2 Closed
     else (if begins (codes "@@") t then Goes 2
     else (if begins (codes "@") t || at_line_end t then Ends 0 Cut
     else Goes 1))
 
-abbrev pub control_text : List ℕ → Reach End
+abbrev pub control_text : List ℕ → Reach
 control_text t = reach look_in_control Cut t
 
 -- A name lasts to `@>`. `@<`, `@(` and a section start end it before that `@`. Another `@` counts with its next byte.
-abbrev pub look_in_name : List ℕ → Look End
+abbrev pub look_in_name : List ℕ → Look
 look_in_name t =
     if begins (codes "@>") t then Ends 2 Closed
     else (if begins (codes "@<") t || begins (codes "@(") t then Ends 0 Nested
     else (if starts_section t then Ends 0 Cut
     else (if begins (codes "@") t then Goes 2 else Goes 1)))
 
-abbrev pub name : List ℕ → Reach End
+abbrev pub name : List ℕ → Reach
 name t = reach look_in_name Cut t
 
 -- any blanks and tabs, then `=` or `+=`, with no further `=` after it: its size, and 0 where there is none
@@ -44,46 +46,46 @@ opener_sign t =
     if (size == 0) || begins (codes "=") (drop size u) then 0 else gap + size
 
 -- A comment lasts to its end sign. A section start ends it. Another `@` counts with its next byte.
-abbrev pub look_in_comment : (List ℕ → Bool) → ℕ → List ℕ → Look End
+abbrev pub look_in_comment : (List ℕ → Bool) → ℕ → List ℕ → Look
 look_in_comment closes size t =
     if closes t then Ends size Closed
     else (if starts_section t then Ends 0 Cut
     else (if begins (codes "@") t then Goes 2 else Goes 1))
 
 -- what follows `/*`, and what follows `//`, which lasts to the line end
-abbrev pub comment : List ℕ → Reach End
+abbrev pub comment : List ℕ → Reach
 comment t = reach (look_in_comment (begins (codes "*/")) 2) Cut t
 
-abbrev pub line_comment : List ℕ → Reach End
+abbrev pub line_comment : List ℕ → Reach
 line_comment t = reach (look_in_comment at_line_end 0) Closed t
 
 -- A literal lasts to its quote. `\` counts with its next byte unless that is `@`; `@@` counts as one; a line end cuts it.
-abbrev pub look_in_literal : ℕ → List ℕ → Look End
+abbrev pub look_in_literal : ℕ → List ℕ → Look
 look_in_literal quote t =
     if begins (quote ∷ []) t then Ends 1 Closed
     else (if at_line_end t then Ends 0 Cut
     else (if begins (codes "\\@") t then Goes 1
     else (if begins (codes "\\") t || begins (codes "@@") t then Goes 2 else Goes 1)))
 
-abbrev pub literal : ℕ → List ℕ → Reach End
+abbrev pub literal : ℕ → List ℕ → Reach
 literal quote t = reach (look_in_literal quote) Cut t
 
 -- what follows the `<` of an included name, which lasts to its `>`
-abbrev pub look_in_include : List ℕ → Look End
+abbrev pub look_in_include : List ℕ → Look
 look_in_include t =
     if begins (codes ">") t then Ends 1 Closed
     else (if at_line_end t then Ends 0 Cut
     else (if begins (codes "@@") t then Goes 2 else Goes 1))
 
-abbrev pub included_name : List ℕ → Reach End
+abbrev pub included_name : List ℕ → Reach
 included_name t = reach look_in_include Cut t
 
 -- A raw literal lasts to its closing sign. A section start ends it. `@@` counts as one.
-abbrev pub look_in_raw : List ℕ → List ℕ → Look End
+abbrev pub look_in_raw : List ℕ → List ℕ → Look
 look_in_raw sign t =
     if begins sign t then Ends (length sign) Closed
     else (if starts_section t then Ends 0 Cut
     else (if begins (codes "@@") t then Goes 2 else Goes 1))
 
-abbrev pub raw_literal : List ℕ → List ℕ → Reach End
+abbrev pub raw_literal : List ℕ → List ℕ → Reach
 raw_literal sign t = reach (look_in_raw sign) Cut t

@@ -1,10 +1,14 @@
 pub mod Bytes
+pub mod Classes
 pub mod Tables
+pub mod Signs
 pub mod Codes
 pub mod Cut
 pub mod Items
 pub mod Constants
+pub mod Looks
 pub mod Kinds
 pub mod Fronts
+pub mod Rules
 pub mod Pays
 pub mod Lines

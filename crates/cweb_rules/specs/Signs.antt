@@ -1,0 +1,13 @@
+-- The first of some signs that a text begins with.
+use Rattle.std.specs.Prelude.{ℕ, Bool, ◌&&◌, nat_le, List, [], ◌∷◌, length, if◌then◌else◌}
+use Rattle.cweb_rules.specs.Bytes.{begins}
+
+-- its length, and else 1
+abbrev pub first_len : List (List ℕ) → List ℕ → ℕ
+first_len [] t = 1
+first_len (p ∷ ps) t = if begins p t then length p else first_len ps t
+
+-- no sign is longer than the one before, none than m, and none is empty
+abbrev pub descends : ℕ → List (List ℕ) → Bool
+descends m [] = nat_le 1 m
+descends m (p ∷ ps) = nat_le (length p) m && descends (length p) ps

@@ -1,0 +1,144 @@
+// The classes of bytes, and what a text begins with.
+ghost use Rattle.std.specs.Prelude.{◌≡◌, ◌≤◌, IsTrue, length};
+ghost use Rattle.std.specs.List.{prefix_len};
+ghost use Rattle.cweb_rules.specs.Bytes as spec;
+ghost use Rattle.cweb_rules.specs.Classes.{in_class};
+
+/// A class of bytes.
+#[derive(Clone, Copy, Debug, PartialEq, Eq)]
+pub enum Class {
+    /// Blank, tab, CR, VT and FF.
+    Blank,
+    /// Blank and tab alone.
+    Gap,
+    /// Octal digits.
+    Octal,
+    /// Letters, digits, `_`, `$` and bytes from 128.
+    Word,
+    /// Letters, digits and `_`.
+    Replacing,
+    /// What a raw literal's delimiter is made of.
+    Delimiter,
+}
+
+fn is_blank(byte: u8) -> bool
+    ensures { result ≡ spec.is_blank byte }
+{
+    matches!(byte, b' ' | b'\t' | b'\r' | 11 | 12)
+}
+
+fn is_gap(byte: u8) -> bool
+    ensures { result ≡ spec.is_gap byte }
+{
+    matches!(byte, b' ' | b'\t')
+}
+
+/// Whether a byte is a digit.
+pub fn is_digit(byte: u8) -> bool
+    ensures { result ≡ spec.is_digit byte }
+{
+    matches!(byte, b'0'..=b'9')
+}
+
+fn is_octal(byte: u8) -> bool
+    ensures { result ≡ spec.is_octal byte }
+{
+    matches!(byte, b'0'..=b'7')
+}
+
+/// Whether a byte is a hexadecimal digit.
+pub fn is_hex(byte: u8) -> bool
+    ensures { result ≡ spec.is_hex byte }
+{
+    matches!(byte, b'0'..=b'9' | b'A'..=b'F' | b'a'..=b'f')
+}
+
+/// Whether a byte is one of an identifier.
+pub fn is_word_byte(byte: u8) -> bool
+    ensures { result ≡ spec.is_word_byte byte }
+{
+    matches!(byte, b'a'..=b'z' | b'A'..=b'Z' | b'0'..=b'9' | b'_' | b'$' | 128..)
+}
+
+fn is_replacing(byte: u8) -> bool
+    ensures { result ≡ spec.is_replacing byte }
+{
+    matches!(byte, b'a'..=b'z' | b'A'..=b'Z' | b'0'..=b'9' | b'_')
+}
+
+fn is_delimiter(byte: u8) -> bool
+    ensures { result ≡ spec.is_delimiter byte }
+{
+    !matches!(
+        byte,
+        b' ' | b'\t' | b'\r' | 11 | 12 | b'\n' | b'(' | b')' | b'\\' | b'"' | b'@'
+    )
+}
+
+impl Class {
+    /// Whether a byte is of the class.
+    pub fn has(self, byte: u8) -> bool
+        ensures { result ≡ in_class self byte }
+    {
+        match self {
+            Class::Blank => is_blank(byte),
+            Class::Gap => is_gap(byte),
+            Class::Octal => is_octal(byte),
+            Class::Word => is_word_byte(byte),
+            Class::Replacing => is_replacing(byte),
+            Class::Delimiter => is_delimiter(byte),
+        }
+    }
+}
+
+/// Whether a text's first byte is of a class.
+pub fn starts(class: Class, text: &[u8]) -> bool
+    ensures { result ≡ spec.first_is (in_class class) text.now }
+{
+    match text {
+        [first, ..] => class.has(*first),
+        [] => false,
+    }
+}
+
+/// How many bytes at a text's front are of a class.
+pub fn run_len(class: Class, text: &[u8]) -> usize
+    ensures value { result ≡ prefix_len (in_class class) text.now }
+    ensures within { result ≤ length text.now }
+{
+    for (i, byte) in text.iter().enumerate() {
+        if !class.has(*byte) {
+            return i;
+        }
+    }
+    text.len()
+}
+
+/// Whether a text begins with a sign.
+pub fn begins(sign: &[u8], text: &[u8]) -> bool
+    ensures value { result ≡ spec.begins sign.now text.now }
+    ensures within { IsTrue result → length sign.now ≤ length text.now }
+{
+    text.starts_with(sign)
+}
+
+/// Whether a text is at a line end; its own end counts as one.
+pub fn at_line_end(text: &[u8]) -> bool
+    ensures { result ≡ spec.at_line_end text.now }
+{
+    match text {
+        [first, ..] => *first == b'\n',
+        [] => true,
+    }
+}
+
+/// Whether a section starts at a text's front: `@` before a blank, a tab, a line end, the end of the text or `*`.
+pub fn starts_section(text: &[u8]) -> bool
+    ensures { result ≡ spec.starts_section text.now }
+{
+    match text {
+        [first, second, ..] => *first == b'@' && matches!(*second, b' ' | b'\t' | b'\n' | b'*'),
+        [first] => *first == b'@',
+        [] => false,
+    }
+}

@@ -1,0 +1,70 @@
+// What the control codes do, in each context. The CWEB manual, "Control codes".
+ghost use Rattle.std.specs.Prelude.{◌≡◌};
+ghost use Rattle.cweb_rules.specs.Codes as spec;
+
+use crate::effect::Effect;
+use crate::fault::ScanKind;
+
+/// What a code does before the first section.
+pub fn in_limbo(letter: u8) -> Effect
+    ensures { result ≡ spec.in_limbo letter }
+{
+    match letter {
+        b'@' | b'f' | b'F' | b's' | b'S' => Effect::Nothing,
+        b'q' | b'Q' => Effect::ControlText,
+        b'l' | b'L' => Effect::Letter,
+        _ => Effect::Faulty(ScanKind::DoubleAtInLimbo),
+    }
+}
+
+/// What a code does in the TeX and middle parts of a section.
+pub fn in_text(letter: u8) -> Effect
+    ensures { result ≡ spec.in_text letter }
+{
+    match letter {
+        b'd' | b'D' => Effect::Define,
+        b'c' | b'C' | b'p' | b'P' => Effect::Program,
+        b'<' | b'(' => Effect::Named,
+        _ => Effect::Nothing,
+    }
+}
+
+/// What a code does in a macro.
+pub fn in_macro(letter: u8) -> Effect
+    ensures { result ≡ spec.in_macro letter }
+{
+    match letter {
+        b'd' | b'D' => Effect::Define,
+        b'f' | b'F' | b's' | b'S' => Effect::Format,
+        b'c' | b'C' | b'p' | b'P' => Effect::Program,
+        b'<' | b'(' => Effect::Named,
+        b'h' | b'H' => Effect::Faulty(ScanKind::DefsInMacro),
+        b'&' => Effect::Joins,
+        b'=' => Effect::Verbatim,
+        b'\'' => Effect::Constant,
+        b'^' | b'.' | b':' | b't' | b'T' | b'q' | b'Q' => Effect::ControlText,
+        b'l' | b'L' => Effect::Faulty(ScanKind::LetterOutsideLimbo),
+        b'@' => Effect::GiveAt,
+        _ => Effect::Nothing,
+    }
+}
+
+/// What a code does in the C part of a section.
+pub fn in_c(letter: u8) -> Effect
+    ensures { result ≡ spec.in_c letter }
+{
+    match letter {
+        b'd' | b'D' | b'f' | b'F' | b's' | b'S' | b'c' | b'C' | b'p' | b'P' => {
+            Effect::Faulty(ScanKind::IgnoredInCText)
+        }
+        b'<' | b'(' => Effect::Named,
+        b'h' | b'H' => Effect::InsertDefs,
+        b'&' => Effect::Joins,
+        b'=' => Effect::Verbatim,
+        b'\'' => Effect::Constant,
+        b'^' | b'.' | b':' | b't' | b'T' | b'q' | b'Q' => Effect::ControlText,
+        b'l' | b'L' => Effect::Faulty(ScanKind::LetterOutsideLimbo),
+        b'@' => Effect::GiveAt,
+        _ => Effect::Nothing,
+    }
+}

@@ -1,0 +1,218 @@
+// `@'` and `@l`: a character's code, and a letter with its replacement.
+ghost use Rattle.std.specs.Prelude.{◌≡◌, ◌≤◌, ◌<◌, length, IsTrue, IfSome, true};
+ghost use Rattle.std.specs.List.{position_or_len};
+ghost use Rattle.cweb_rules.specs.Bytes.{is_hex as is_hex_digit};
+ghost use Rattle.cweb_rules.specs.Constants as spec;
+
+use crate::bytes::{Class, begins, is_digit, is_hex, run_len};
+
+/// A character as it is written: its code, and how many bytes it takes.
+#[derive(Clone, Copy, Debug, PartialEq, Eq)]
+pub struct Character {
+    pub code: u8,
+    pub size: usize,
+}
+
+/// What follows `@'`: the code of its character, if it has one, and how many bytes it takes.
+#[derive(Clone, Copy, Debug, PartialEq, Eq)]
+pub struct Valued {
+    pub value: Option<u8>,
+    pub size: usize,
+}
+
+/// What follows `@l`: the byte, where its replacement begins, and how many bytes that has.
+#[derive(Clone, Copy, Debug, PartialEq, Eq)]
+pub struct Transliteration {
+    pub byte: u8,
+    pub start: usize,
+    pub size: usize,
+}
+
+// What a letter stands for behind a `\`.
+fn escaped(text: &[u8]) -> Option<Character>
+    ensures { result ≡ spec.escaped spec.escapes text.now }
+{
+    let [letter, ..] = text else {
+        return None;
+    };
+    let code = match *letter {
+        b'a' => 7,
+        b'b' => 8,
+        b'f' => 12,
+        b'n' => 10,
+        b'r' => 13,
+        b't' => 9,
+        b'v' => 11,
+        b'\\' => b'\\',
+        b'\'' => b'\'',
+        b'"' => b'"',
+        b'?' => b'?',
+        _ => return None,
+    };
+    Some(Character { code, size: 2 })
+}
+
+// The number that one to three octal digits give.
+fn octal_value(digits: &[u8]) -> u32
+    requires { length digits.now ≤ 3 }
+    ensures { result ≡ spec.octal_value digits.now }
+{
+    let mut value = 0;
+    for digit in digits {
+        value = value * 8 + (*digit as u32).saturating_sub(48);
+    }
+    value
+}
+
+// What octal digits stand for behind a `\`.
+fn octal(digits: &[u8]) -> Option<Character>
+    requires { length digits.now ≤ 3 }
+    ensures { result ≡ spec.octal digits.now }
+{
+    let value = octal_value(digits);
+    if value > 255 {
+        return None;
+    }
+    Some(Character {
+        code: value as u8,
+        size: 1 + digits.len(),
+    })
+}
+
+// What stands behind a `\`: up to three octal digits, or a letter.
+fn after_backslash(text: &[u8]) -> Option<Character>
+    ensures { result ≡ spec.after_backslash text.now }
+{
+    let size = run_len(Class::Octal, text).min(3);
+    if size == 0 {
+        return escaped(text);
+    }
+    let (digits, _) = text.split_at(size);
+    octal(digits)
+}
+
+fn stands_alone(byte: u8) -> bool
+    ensures { result ≡ spec.stands_alone byte }
+{
+    byte < 128 && !matches!(byte, b'\'' | b'\\' | b'@' | b'\n')
+}
+
+// The character at a text's front.
+fn character_at(text: &[u8]) -> Option<Character>
+    ensures { result ≡ spec.character_at text.now }
+{
+    let Some((first, rest)) = text.split_first() else {
+        return None;
+    };
+    if begins(b"@@", text) {
+        return Some(Character {
+            code: b'@',
+            size: 2,
+        });
+    }
+    if begins(b"\\", text) {
+        return after_backslash(rest);
+    }
+    if stands_alone(*first) {
+        return Some(Character {
+            code: *first,
+            size: 1,
+        });
+    }
+    None
+}
+
+// Where a faulty constant ends: before the first `'` or line end.
+fn faulty_len(text: &[u8]) -> usize
+    ensures value { result ≡ position_or_len spec.ends_faulty text.now }
+    ensures within { result ≤ length text.now }
+{
+    for (i, byte) in text.iter().enumerate() {
+        if matches!(*byte, b'\'' | b'\n') {
+            return i;
+        }
+    }
+    text.len()
+}
+
+// How many bytes a faulty constant takes.
+fn faulty_size(text: &[u8]) -> usize
+    ensures value { result ≡ spec.faulty_size text.now }
+    ensures within { result ≤ length text.now }
+{
+    let size = faulty_len(text);
+    let (_, rest) = text.split_at(size);
+    if begins(b"'", rest) { size + 1 } else { size }
+}
+
+/// What follows `@'`: one character and `'`; else the constant is faulty, and ends with the first `'` or before the line end.
+pub fn constant(text: &[u8]) -> Valued
+    ensures { result ≡ spec.constant text.now }
+{
+    if let Some(character) = character_at(text) {
+        if character.size <= text.len() {
+            let (_, rest) = text.split_at(character.size);
+            if begins(b"'", rest) {
+                return Valued {
+                    value: Some(character.code),
+                    size: character.size + 1,
+                };
+            }
+        }
+    }
+    Valued {
+        value: None,
+        size: faulty_size(text),
+    }
+}
+
+// The value of a hexadecimal digit.
+fn hex_value(byte: u8) -> u8
+    requires { is_hex_digit byte ≡ true }
+    ensures value { result ≡ spec.hex_value byte }
+    ensures small { result < 16 }
+{
+    match byte {
+        b'0'..=b'9' => byte - b'0',
+        b'A'..=b'F' => byte - b'A' + 10,
+        _ => byte - b'a' + 10,
+    }
+}
+
+// Two hexadecimal digits of value 80 or more.
+fn hex_at(text: &[u8]) -> Option<u8>
+    ensures value { result ≡ spec.hex_at text.now }
+    ensures within { IfSome result (λ byte. 2 ≤ length text.now) }
+{
+    let [first, second, ..] = text else {
+        return None;
+    };
+    if !is_hex(*first) || !is_hex(*second) {
+        return None;
+    }
+    let value = 16 * hex_value(*first) + hex_value(*second);
+    if value < 128 {
+        return None;
+    }
+    Some(value)
+}
+
+/// What follows `@l`: two hexadecimal digits between blanks and tabs, and a replacement, which may be empty.
+pub fn letter(text: &[u8]) -> Option<Transliteration>
+    ensures { result ≡ spec.letter text.now }
+{
+    let gap = run_len(Class::Gap, text);
+    let (_, digits) = text.split_at(gap);
+    let byte = hex_at(digits)?;
+    let (_, rest) = digits.split_at(2);
+    let more = run_len(Class::Gap, rest);
+    if more == 0 {
+        return None;
+    }
+    let (_, replacement) = rest.split_at(more);
+    Some(Transliteration {
+        byte,
+        start: gap + 2 + more,
+        size: run_len(Class::Replacing, replacement),
+    })
+}

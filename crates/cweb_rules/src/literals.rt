@@ -1,0 +1,89 @@
+// How literals of C text begin.
+ghost use Rattle.std.specs.Prelude.{◌≡◌, ◌≤◌, ◌<◌, ◌+◌, length, drop, IsTrue};
+ghost use Rattle.cweb_rules.specs.Fronts as spec;
+
+use crate::bytes::{Class, begins, run_len};
+
+// Whether a quote stands behind the first n bytes.
+fn is_quoted(n: usize, text: &[u8]) -> bool
+    requires { n ≤ length text.now }
+    ensures value { result ≡ spec.is_quoted n text.now }
+    ensures within { IsTrue result → n < length text.now }
+{
+    let (_, rest) = text.split_at(n);
+    begins(b"\"", rest) || begins(b"'", rest)
+}
+
+/// How many bytes the `L`, `u`, `U` or `u8` before a quote has.
+pub fn literal_prefix(text: &[u8]) -> usize
+    ensures value { result ≡ spec.literal_prefix text.now }
+    ensures within { result ≤ length text.now }
+{
+    if begins(b"u8", text) && is_quoted(2, text) {
+        return 2;
+    }
+    let has_prefix = begins(b"L", text) || begins(b"u", text) || begins(b"U", text);
+    if has_prefix && is_quoted(1, text) {
+        return 1;
+    }
+    0
+}
+
+/// Whether a literal begins a text: a quote, with a prefix or without.
+pub fn starts_literal(text: &[u8]) -> bool
+    ensures value { result ≡ spec.starts_literal text.now }
+    ensures within { IsTrue result → spec.literal_prefix text.now < length text.now }
+{
+    is_quoted(literal_prefix(text), text)
+}
+
+/// The quote at a text's front.
+pub fn quote_of(text: &[u8]) -> u8
+    ensures { result ≡ spec.quote_of text.now }
+{
+    if begins(b"'", text) { b'\'' } else { b'"' }
+}
+
+/// How many bytes the `L`, `u`, `U` or `u8` before `R"` has.
+pub fn raw_prefix(text: &[u8]) -> usize
+    ensures value { result ≡ spec.raw_prefix text.now }
+    ensures within { result ≤ length text.now }
+{
+    if begins(b"u8R\"", text) {
+        return 2;
+    }
+    if begins(b"LR\"", text) || begins(b"uR\"", text) || begins(b"UR\"", text) {
+        return 1;
+    }
+    0
+}
+
+// Whether a delimiter and `(` stand at a text's front.
+fn has_delimiter(text: &[u8]) -> bool
+    ensures { result ≡ spec.has_delimiter text.now }
+{
+    let size = run_len(Class::Delimiter, text);
+    let (_, rest) = text.split_at(size);
+    size <= 16 && begins(b"(", rest)
+}
+
+/// Whether a raw literal begins a text: `R"`, a delimiter of at most 16 bytes and `(`, with a prefix or without.
+pub fn starts_raw(text: &[u8]) -> bool
+    ensures { result ≡ spec.starts_raw text.now }
+{
+    let prefix = raw_prefix(text);
+    let (_, sign) = text.split_at(prefix);
+    if !begins(b"R\"", sign) {
+        return false;
+    }
+    let (_, rest) = text.split_at(prefix + 2);
+    has_delimiter(rest)
+}
+
+/// The delimiter of a raw literal, which stands behind its `R"`.
+pub fn delimiter(text: &[u8]) -> &[u8]
+    ensures { result.now ≡ spec.delimiter text.now }
+{
+    let (delimiter, _) = text.split_at(run_len(Class::Delimiter, text));
+    delimiter
+}

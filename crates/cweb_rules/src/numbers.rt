@@ -1,0 +1,40 @@
+// Numbers of C text.
+ghost use Rattle.std.specs.Prelude.{◌≡◌, ◌≤◌, length};
+ghost use Rattle.cweb_rules.specs.Tables as spec;
+
+use crate::bytes::{is_digit, is_word_byte};
+
+/// Whether a number begins a text: a digit, or `.` and a digit.
+pub fn starts_number(text: &[u8]) -> bool
+    ensures { result ≡ spec.starts_number text.now }
+{
+    match text {
+        [first, second, ..] => is_digit(*first) || (*first == b'.' && is_digit(*second)),
+        [first] => is_digit(*first),
+        [] => false,
+    }
+}
+
+// Whether a byte goes on with a number whose last byte so far is `last`.
+fn goes_on(last: u8, byte: u8) -> bool
+    ensures { result ≡ spec.goes_on_number last byte }
+{
+    is_word_byte(byte)
+        || byte == b'.'
+        || (matches!(byte, b'+' | b'-') && matches!(last, b'e' | b'E' | b'p' | b'P'))
+}
+
+/// How many bytes the number at a text's front has: the longest run.
+pub fn number_len(text: &[u8]) -> usize
+    ensures value { result ≡ spec.number_len 0 text.now }
+    ensures within { result ≤ length text.now }
+{
+    let mut last = 0;
+    for (i, byte) in text.iter().enumerate() {
+        if !goes_on(last, *byte) {
+            return i;
+        }
+        last = *byte;
+    }
+    text.len()
+}

@@ -1,0 +1,96 @@
+// Which rule of C text fits first.
+ghost use Rattle.std.specs.Prelude.{◌≡◌, ◌<◌, length};
+ghost use Rattle.cweb_rules.specs.Fronts as spec;
+ghost use Rattle.cweb_rules.specs.Rules.{c_rule as first_rule, text_rule as rule_of_text};
+
+use crate::bytes::{Class, begins, starts, starts_section};
+use crate::end::End;
+use crate::items::{Item, reach};
+use crate::literals::{starts_literal, starts_raw};
+use crate::numbers::starts_number;
+
+/// The rules of C text, in the order in which they are tried.
+#[derive(Clone, Copy, Debug, PartialEq, Eq)]
+pub enum Rule {
+    Blanks,
+    LineEnd,
+    Comment,
+    LineComment,
+    Section,
+    Code,
+    RawLiteral,
+    Literal,
+    IncludedName,
+    Number,
+    Identifier,
+    Punctuator,
+}
+
+/// The rules of limbo and of text.
+#[derive(Clone, Copy, Debug, PartialEq, Eq)]
+pub enum TextRule {
+    Section,
+    Code,
+    Skipped,
+}
+
+fn is_closed(how: End) -> bool
+    ensures { result ≡ spec.is_closed how }
+{
+    matches!(how, End::Closed)
+}
+
+// Whether an included name begins a text: a `<` that has a `>` later on its line.
+fn starts_include(text: &[u8]) -> bool
+    ensures { result ≡ spec.starts_include text.now }
+{
+    if !begins(b"<", text) {
+        return false;
+    }
+    let (_, name) = text.split_at(1);
+    is_closed(reach(Item::IncludedName, name).how)
+}
+
+/// The first rule of C text that fits at a text's front; an included name is a rule where `includes` says so.
+pub fn c_rule(includes: bool, text: &[u8]) -> Rule
+    ensures { result ≡ first_rule includes text.now }
+{
+    if starts(Class::Blank, text) {
+        Rule::Blanks
+    } else if begins(b"\n", text) {
+        Rule::LineEnd
+    } else if begins(b"/*", text) {
+        Rule::Comment
+    } else if begins(b"//", text) {
+        Rule::LineComment
+    } else if starts_section(text) {
+        Rule::Section
+    } else if begins(b"@", text) {
+        Rule::Code
+    } else if starts_raw(text) {
+        Rule::RawLiteral
+    } else if starts_literal(text) {
+        Rule::Literal
+    } else if includes && starts_include(text) {
+        Rule::IncludedName
+    } else if starts_number(text) {
+        Rule::Number
+    } else if starts(Class::Word, text) {
+        Rule::Identifier
+    } else {
+        Rule::Punctuator
+    }
+}
+
+/// The rule of limbo and text that fits at a text's front.
+pub fn text_rule(text: &[u8]) -> TextRule
+    ensures { result ≡ rule_of_text text.now }
+{
+    if starts_section(text) {
+        TextRule::Section
+    } else if begins(b"@", text) {
+        TextRule::Code
+    } else {
+        TextRule::Skipped
+    }
+}
