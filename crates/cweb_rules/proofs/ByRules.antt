@@ -1,12 +1,11 @@
 -- What stands at the front of a text is what the first rule that fits names.
-use Rattle.std.proofs.Common.{◌≡◌, ℕ, Bool, true, false, ◌&&◌, List, refl, ap, ◌∙◌}
+use Rattle.std.proofs.Common.{◌≡◌, ℕ, Bool, true, false, ◌&&◌, List, refl}
 use Rattle.std.specs.Prelude.{codes, if◌then◌else◌}
-use Rattle.std.specs.List.{prefix_len}
 use Rattle.cweb_rules.specs.Bytes.{is_blank, is_line_end, is_word_byte, begins, first_is, starts_section}
-use Rattle.cweb_rules.specs.Fronts.{c_front, text_front, comment_at, line_comment_at, section_at, code_at, raw_at, literal_at, include_at, starts_raw, starts_literal, starts_include}
-use Rattle.cweb_rules.specs.Kinds.{Blanks, LineEnd, Identifier, Numeral, Punctuator, Skipped, Front, front}
+use Rattle.cweb_rules.specs.Fronts.{c_front, text_front, starts_raw, starts_literal, starts_include}
+use Rattle.cweb_rules.specs.Kinds.{Front}
 use Rattle.cweb_rules.specs.Rules.{c_rule, c_front_by, text_rule, text_front_by}
-use Rattle.cweb_rules.specs.Tables.{listed, longest, number_len, starts_number}
+use Rattle.cweb_rules.specs.Tables.{starts_number}
 use Rattle.cweb_rules.specs.declared.effect.Effect.{Effect}
 use Rattle.cweb_rules.specs.declared.rule.Rule.{Rule}
 use Rattle.cweb_rules.specs.declared.rule.TextRule.{TextRule}

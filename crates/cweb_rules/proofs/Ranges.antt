@@ -1,6 +1,5 @@
 -- How far an item reaches, unit by unit.
-use Rattle.std.proofs.Common.{◌≡◌, ◌≤◌, ◌<◌, ℕ, zero, suc, ◌+◌, ◌-◌, List, [], ◌∷◌, ◌++◌, length, take, drop, refl, ap, sym, ◌∙◌, arith, length-append, min}
-use Rattle.std.specs.List.{flat_map}
+use Rattle.std.proofs.Common.{◌≡◌, ◌<◌, ℕ, zero, suc, ◌+◌, ◌-◌, List, [], ◌∷◌, length, take, drop, refl, ap, sym, ◌∙◌, arith, length-append, min}
 use Rattle.std.proofs.lemmas.List.{length-take, drop_min}
 use Rattle.cweb_rules.specs.Cut.{Reach, reach, reach_in, with_unit, body}
 use Rattle.cweb_rules.specs.Looks.{reached}

@@ -7,7 +7,7 @@ use Rattle.std.proofs.lemmas.Bool.{ltb-true, leb-true}
 use Rattle.std.proofs.lemmas.Fmt.{length-decimal-le}
 use Rattle.std.proofs.lemmas.List.{length-drop}
 use Rattle.std.proofs.lemmas.List.Sums.{prefix_len-le-length}
-use Rattle.cweb_rules.specs.Bytes.{begins, starts_section, at_line_end, is_line_end, is_gap, is_octal, is_replacing}
+use Rattle.cweb_rules.specs.Bytes.{begins, starts_section, at_line_end, is_gap, is_octal, is_replacing}
 use Rattle.cweb_rules.specs.Constants.{ends_faulty, character, escapes, escaped, octal_value, octal, after_backslash, stands_alone, character_at, faulty_size, constant_of, constant, hex_at, letter_with, letter_after, letter}
 use Rattle.cweb_rules.specs.declared.constants.Transliteration.{Transliteration}
 use Rattle.cweb_rules.specs.declared.constants.Valued.{Valued}

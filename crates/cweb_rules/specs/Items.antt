@@ -2,7 +2,6 @@
 use Rattle.std.specs.Prelude.{ℕ, ◌+◌, Bool, ◌||◌, ◌==◌, List, [], ◌∷◌, length, drop, codes, if◌then◌else◌, bytes_eq}
 use Rattle.std.specs.List.{flat_map, prefix_len}
 use Rattle.cweb_rules.specs.Bytes.{begins, starts_section, at_line_end, is_gap}
-use Rattle.cweb_rules.specs.declared.end.End.{End}
 use Rattle.cweb_rules.specs.declared.end.End.TheVariants.{Closed, Cut, Nested}
 use Rattle.cweb_rules.specs.declared.look.Look.{Look}
 use Rattle.cweb_rules.specs.declared.look.Look.TheVariants.{Goes, Ends}

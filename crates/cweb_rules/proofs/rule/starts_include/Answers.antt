@@ -1,4 +1,4 @@
-use Rattle.std.proofs.Common.{◌≡◌, ℕ, Bool, true, ◌&&◌, List, drop, refl, ap, sym, ◌∙◌}
+use Rattle.std.proofs.Common.{◌&&◌, drop, ap, sym, ◌∙◌}
 use Rattle.cweb_rules.specs.Cut.{reach}
 use Rattle.cweb_rules.specs.Fronts.{is_closed}
 use Rattle.cweb_rules.specs.Items.{look_in_include}
