@@ -61,7 +61,7 @@ the_rank_of_the_first_is_below_four : ends_below twice 4 (id 0) ≡ true
 the_rank_of_the_first_is_below_four = refl
 
 abbrev plain : Setting
-plain = record { replaced = λ b. b ∷ []; file = λ n. codes "s.w"; macros = [] }
+plain = record { replaced = λ b. b ∷ []; files = codes "s.w" ∷ []; macros = [] }
 
 abbrev at : ℕ → Token
 at line = Mark (record { file = record { 0 = 0 }; line = line })
@@ -89,7 +89,7 @@ with_macros = record plain {
 macro_lines_begin_a_line : print with_macros (semicolon ∷ Defs ∷ semicolon ∷ []) ≡ codes ";\n#define f(x)x+1\n#define N\n#define two 1 + \\\n2\n;"
 macro_lines_begin_a_line = refl
 
-file_names_are_quoted : print (record plain { file = λ n. codes "a\"\\b" }) (at 7 ∷ []) ≡ codes "#line 7 \"a\\\"\\\\b\"\n"
+file_names_are_quoted : print (record plain { files = codes "a\"\\b" ∷ [] }) (at 7 ∷ []) ≡ codes "#line 7 \"a\\\"\\\\b\"\n"
 unfolding digits
 file_names_are_quoted = refl
 

@@ -4,3 +4,7 @@ pub mod Expansion
 pub mod Cycles
 pub mod Spacing
 pub mod Printing
+pub mod Writing
+pub mod Classes
+pub mod Bins
+pub mod Memory

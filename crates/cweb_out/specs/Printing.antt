@@ -1,5 +1,6 @@
 -- How a list of tokens is printed.
-use Rattle.std.specs.Prelude.{ℕ, Bool, true, false, ◌&&◌, nat_le, List, [], ◌∷◌, ◌++◌, codes, decimal, if◌then◌else◌, Option, Some, None, flat_map}
+use Rattle.std.specs.Prelude.{slice_index_or, ℕ, Bool, true, false, ◌&&◌, nat_le, List, [], ◌∷◌, ◌++◌, codes, decimal, if◌then◌else◌, Option, Some, None, flat_map}
+use Rattle.cweb_files.specs.declared.place.Place.{Place}
 use Rattle.cweb_store.specs.Parts.{Token, Word, Number, Literal, Verbatim, Punct, Blank, Newline, Join, Defs, Head, Tail, Mark}
 use Rattle.cweb_out.specs.Spacing.{is_one_of, sep}
 
@@ -29,47 +30,49 @@ abbrev pub print_after : (Option Token → Token → List ℕ) → Option Token 
 print_after text left [] = []
 print_after text left (t ∷ ts) = (sep left t ++ text left t) ++ print_after text (Some t) ts
 
--- what printing reads beside the tokens: what stands for a byte from 128 in a word, the names of files, the macros
-pub record Setting : Type 0 where
-  pub replaced : ℕ → List ℕ
-  pub file : ℕ → List ℕ
-  pub macros : List (List Token)
+abbrev pub printed : (Option Token → Token → List ℕ) → List Token → List ℕ
+printed text ts = print_after text None (kept false ts)
 
-abbrev pub word_byte : Setting → ℕ → List ℕ
-word_byte s b = if nat_le 128 b then s.replaced b else b ∷ []
+-- a byte of a word: `replaced` says what stands for a byte from 128
+abbrev pub word_byte : (ℕ → List ℕ) → ℕ → List ℕ
+word_byte replaced b = if nat_le 128 b then replaced b else b ∷ []
 
-abbrev pub word_text : Setting → List ℕ → List ℕ
-word_text s bytes = flat_map (word_byte s) bytes
+abbrev pub word_text : (ℕ → List ℕ) → List ℕ → List ℕ
+word_text replaced bytes = flat_map (word_byte replaced) bytes
 
-abbrev pub head_text : ℕ → List ℕ
-head_text n = codes "/*" ++ (decimal n ++ codes ":*/")
+-- a section's number between two pieces of a comment
+abbrev pub numbered : List ℕ → ℕ → List ℕ → List ℕ
+numbered before n behind = before ++ (decimal n ++ behind)
 
-abbrev pub tail_text : ℕ → List ℕ
-tail_text n = codes "/*:" ++ (decimal n ++ codes "*/")
-
--- the text of a token that looks the same in a file and in a macro, whatever is to its left
-abbrev pub plain_text : Setting → Token → List ℕ
-plain_text s (Word b) = word_text s b
-plain_text s (Number b) = b
-plain_text s (Literal b) = b
-plain_text s (Verbatim b) = b
-plain_text s (Punct b) = b
-plain_text s Blank = codes " "
-plain_text s Newline = codes "\n"
-plain_text s (Head n) = head_text n
-plain_text s (Tail n) = tail_text n
-plain_text s t = []
+-- the text of a token that looks the same whatever is to its left
+abbrev pub plain_text : (ℕ → List ℕ) → Token → List ℕ
+plain_text replaced (Word b) = word_text replaced b
+plain_text replaced (Number b) = b
+plain_text replaced (Literal b) = b
+plain_text replaced (Verbatim b) = b
+plain_text replaced (Punct b) = b
+plain_text replaced Blank = codes " "
+plain_text replaced Newline = codes "\n"
+plain_text replaced (Head n) = numbered (codes "/*") n (codes ":*/")
+plain_text replaced (Tail n) = numbered (codes "/*:") n (codes "*/")
+plain_text replaced t = []
 
 -- in a macro a line goes on after a backslash
-abbrev pub macro_text : Setting → Option Token → Token → List ℕ
-macro_text s left Newline = codes " \\\n"
-macro_text s left t = plain_text s t
+abbrev pub macro_text : (ℕ → List ℕ) → Token → List ℕ
+macro_text replaced Newline = codes " \\\n"
+macro_text replaced t = plain_text replaced t
 
-abbrev pub macro_line : Setting → List Token → List ℕ
-macro_line s ts = codes "#define " ++ (print_after (macro_text s) None (kept false ts) ++ codes "\n")
+abbrev pub macro_line : (ℕ → List ℕ) → List Token → List ℕ
+macro_line replaced ts = codes "#define " ++ (printed (λ left. macro_text replaced) ts ++ codes "\n")
+
+-- what printing reads beside the tokens: what stands for a byte from 128 in a word, the names of the files, the macros
+pub record Setting : Type 0 where
+  pub replaced : ℕ → List ℕ
+  pub files : List (List ℕ)
+  pub macros : List (List Token)
 
 abbrev pub macro_lines : Setting → List ℕ
-macro_lines s = flat_map (macro_line s) s.macros
+macro_lines s = flat_map (macro_line s.replaced) s.macros
 
 -- what comes after this token, or comes first, stands at the start of a line
 abbrev pub starts_line : Option Token → Bool
@@ -83,9 +86,13 @@ starts_line (Some t) = false
 abbrev pub begin_line : Option Token → List ℕ
 begin_line left = if starts_line left then [] else codes "\n"
 
--- in a file name between quotes, a quote or backslash has a backslash before it
+-- a quote or a backslash
+abbrev pub wants_backslash : ℕ → Bool
+wants_backslash b = is_one_of (codes "\"\\") b
+
+-- in a file name between quotes
 abbrev pub quoted_byte : ℕ → List ℕ
-quoted_byte b = if is_one_of (codes "\"\\") b then 92 ∷ b ∷ [] else b ∷ []
+quoted_byte b = if wants_backslash b then 92 ∷ b ∷ [] else b ∷ []
 
 abbrev pub quoted : List ℕ → List ℕ
 quoted name = flat_map quoted_byte name
@@ -94,13 +101,16 @@ quoted name = flat_map quoted_byte name
 abbrev pub mark_line : List ℕ → ℕ → List ℕ
 mark_line name line = codes "#line " ++ (decimal line ++ (codes " \"" ++ (quoted name ++ codes "\"\n")))
 
+abbrev pub file_name : Setting → Place → List ℕ
+file_name s p = slice_index_or s.files p.file.0 []
+
 abbrev pub file_text : Setting → Option Token → Token → List ℕ
-file_text s left (Mark p) = begin_line left ++ mark_line (s.file p.file.0) p.line
+file_text s left (Mark p) = begin_line left ++ mark_line (file_name s p) p.line
 file_text s left Defs = begin_line left ++ macro_lines s
-file_text s left t = plain_text s t
+file_text s left t = plain_text s.replaced t
 
 abbrev pub print : Setting → List Token → List ℕ
-print s ts = print_after (file_text s) None (kept false ts)
+print s ts = printed (file_text s) ts
 
 abbrev pub last_of : Option Token → List Token → Option Token
 last_of left [] = left

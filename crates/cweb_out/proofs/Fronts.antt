@@ -1,0 +1,50 @@
+-- Texts of which a front was written.
+use Rattle.std.proofs.Common.{◌≡◌, ◌<◌, ◌++◌, ◌∙◌, ap, sym, append_assoc, ℕ, List, length, take, drop, suc, get_or, Bor, drop-cons, take-append-drop}
+use Rattle.std.specs.Prelude.{Result, Ok, Err, IsErr, flat_map}
+use Rattle.std.proofs.lemmas.List.Concat.{flat_map-append}
+use Rattle.cweb_out.specs.Writing.{WritesFront, Wrote}
+
+-- a front of a text is a front of a longer text
+pub front_of_more : (old new text rest : List ℕ) → WritesFront old new text → WritesFront old new (text ++ rest)
+front_of_more old new text rest f = record {
+  front = f.front;
+  rest = f.rest ++ rest;
+  written = f.written;
+  whole = ap (λ (t : List ℕ). t ++ rest) f.whole ∙ append_assoc f.front f.rest rest;
+}
+
+-- one text was written, and then another, or a front of it
+pub wrote_more : {A E : Type 0} (old mid new text more : List ℕ) (r : Result A E) → mid ≡ old ++ text → Wrote mid new more r → Wrote old new (text ++ more) r
+wrote_more old mid new text more (Ok x) is wrote = wrote ∙ ap (λ (t : List ℕ). t ++ more) is ∙ append_assoc old text more
+wrote_more old mid new text more (Err e) is wrote = record {
+  front = text ++ wrote.front;
+  rest = wrote.rest;
+  written = wrote.written ∙ ap (λ (t : List ℕ). t ++ wrote.front) is ∙ append_assoc old text wrote.front;
+  whole = ap (λ (t : List ℕ). text ++ t) wrote.whole ∙ sym (append_assoc text wrote.front wrote.rest);
+}
+
+-- the same text under another name
+pub wrote_same : {A E : Type 0} (old new text other : List ℕ) (r : Result A E) → text ≡ other → Wrote old new text r → Wrote old new other r
+wrote_same old new text other (Ok x) same wrote = wrote ∙ ap (λ (t : List ℕ). old ++ t) same
+wrote_same old new text other (Err e) same wrote = record { front = wrote.front; rest = wrote.rest; written = wrote.written; whole = sym same ∙ wrote.whole }
+
+-- the pieces before one, that one, and those behind it
+pub pieces_at : (pieces : List (Bor (List ℕ))) (i : ℕ) (d : Bor (List ℕ)) → i < length pieces
+    → flat_map (λ (p : Bor (List ℕ)). p.now) pieces ≡ (flat_map (λ (p : Bor (List ℕ)). p.now) (take i pieces) ++ (get_or pieces i d).now) ++ flat_map (λ (p : Bor (List ℕ)). p.now) (drop (suc i) pieces)
+pieces_at pieces i d lt =
+    ap (flat_map (λ (p : Bor (List ℕ)). p.now)) (sym (take-append-drop i pieces)) ∙ flat_map-append (λ (p : Bor (List ℕ)). p.now) (take i pieces) (drop i pieces)
+    ∙ ap (λ (ps : List (Bor (List ℕ))). flat_map (λ (p : Bor (List ℕ)). p.now) (take i pieces) ++ flat_map (λ (p : Bor (List ℕ)). p.now) ps) (drop-cons pieces i d lt)
+    ∙ sym (append_assoc (flat_map (λ (p : Bor (List ℕ)). p.now) (take i pieces)) (get_or pieces i d).now (flat_map (λ (p : Bor (List ℕ)). p.now) (drop (suc i) pieces)))
+
+-- a front of one piece of a text was written after those before it
+pub front_in : (old mid new before piece rest text : List ℕ) → text ≡ (before ++ piece) ++ rest → mid ≡ old ++ before → WritesFront mid new piece → WritesFront old new text
+front_in old mid new before piece rest text is written f = record {
+  front = before ++ f.front;
+  rest = f.rest ++ rest;
+  written = f.written ∙ ap (λ (t : List ℕ). t ++ f.front) written ∙ append_assoc old before f.front;
+  whole = is ∙ ap (λ (t : List ℕ). (before ++ t) ++ rest) f.whole ∙ simp append_assoc;
+}
+
+pub wrote_err : {A E : Type 0} (old new text : List ℕ) (r : Result A E) → IsErr r → WritesFront old new text → Wrote old new text r
+wrote_err old new text (Ok x) is front = cc is
+wrote_err old new text (Err e) is front = front

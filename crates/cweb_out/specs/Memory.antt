@@ -1,0 +1,44 @@
+-- What files in memory hold.
+use Rattle.std.specs.Prelude.{ℕ, Bool, List, [], map, Option, Some, None, option_map, string_bytes, vec_capacity}
+use Rattle.std.specs.Option.{is_some}
+use Rattle.cweb_files.specs.Files.{File, Beside}
+use Rattle.cweb_out.specs.declared.memory.BinFile.{BinFile}
+use Rattle.cweb_out.specs.declared.memory.MemoryBins.{MemoryBins}
+
+abbrev pub file_of : BinFile → File
+file_of file = record { name = string_bytes file.name; bytes = file.bytes.items }
+
+abbrev pub name_of : BinFile → List ℕ
+name_of file = string_bytes file.name
+
+abbrev pub bytes_of : Option BinFile → List ℕ
+bytes_of None = []
+bytes_of (Some file) = file.bytes.items
+
+abbrev pub room_of : Option BinFile → ℕ
+room_of None = 0
+room_of (Some file) = vec_capacity file.bytes
+
+abbrev pub files_kept : MemoryBins → List BinFile
+files_kept bins = bins.files.items
+
+-- the bytes of the draft
+abbrev pub bytes_kept : MemoryBins → List ℕ
+bytes_kept bins = bytes_of bins.draft
+
+abbrev pub beside_kept : MemoryBins → Beside
+beside_kept bins = record { files = map file_of bins.files.items; draft = option_map name_of bins.draft }
+
+abbrev pub bins_failed : MemoryBins → ℕ
+bins_failed bins = bins.failed
+
+abbrev pub has_draft : MemoryBins → Bool
+has_draft bins = is_some bins.draft
+
+-- the room of the draft
+abbrev pub draft_room : MemoryBins → ℕ
+draft_room bins = room_of bins.draft
+
+-- the room that a draft gets
+abbrev pub file_room : MemoryBins → ℕ
+file_room bins = bins.room

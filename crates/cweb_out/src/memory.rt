@@ -1,0 +1,173 @@
+// A place in memory that keeps files.
+ghost use Rattle.std.specs.Prelude.{◌≡◌, ◌≤◌, ◌<◌, ◌+◌, ◌^◌, ◌++◌, [], length, true, false, not, filter, vec_len, vec_capacity, string_bytes, IsTrue, IsOk, IsErr, IfOk, IfErr, OnOk, OnErr};
+ghost use Rattle.std.specs.Str.{bytes_eq};
+ghost use Rattle.std.specs.Option.{is_some};
+ghost use Rattle.cweb_files.specs.Device.{Counts};
+
+use crate::bins::{BinFault, Bins};
+use crate::reserved::put;
+use cweb_files::{Sink, SinkFault};
+use std::alloc::{AllocError, Global};
+
+/// A file in memory.
+#[derive(Drop)]
+pub struct BinFile {
+    pub name: String,
+    pub bytes: Vec<u8>,
+}
+
+/// Files in memory, in the order in which they were committed, and at most one draft.
+#[derive(Drop)]
+pub struct MemoryBins {
+    alloc: Global,
+    files: Vec<BinFile>,
+    draft: Option<BinFile>,
+    room: usize,
+    failed: u64,
+    ghost placed: { IsTrue (is_some draft) → vec_len files < vec_capacity files },
+}
+
+impl MemoryBins {
+    ghost use Rattle.cweb_out.specs.Memory.{bins_failed, file_room, files_kept, has_draft};
+
+    /// No file yet: a list with room for so many files, and the room in bytes that each draft gets when it is begun.
+    pub fn with_room(alloc: Global, files: usize, bytes: usize) -> Result<Self, AllocError>
+        ensures empty { IfOk result (λ bins. files_kept bins ≡ []) }
+        ensures no_draft { IfOk result (λ bins. has_draft bins ≡ false) }
+        ensures room { IfOk result (λ bins. file_room bins ≡ bytes) }
+        ensures failed { IfOk result (λ bins. bins_failed bins ≡ 0) }
+    {
+        Ok(MemoryBins {
+            alloc,
+            files: Vec::with_capacity(alloc, files)?,
+            draft: None,
+            room: bytes,
+            failed: 0,
+        })
+    }
+
+    /// The files, without the draft.
+    pub fn files(&self) -> &[BinFile]
+        ensures { result.now ≡ files_kept self.now }
+    {
+        &self.files
+    }
+}
+
+// An empty file, with room set aside.
+fn empty_file(alloc: Global, name: &str, room: usize) -> Result<BinFile, AllocError>
+    ensures name { IfOk result (λ file. string_bytes file.name ≡ name.now) }
+    ensures bytes { IfOk result (λ file. file.bytes.items ≡ []) }
+    ensures room { IfOk result (λ file. room ≤ vec_capacity file.bytes) }
+{
+    Ok(BinFile {
+        name: String::from_str(alloc, name)?,
+        bytes: Vec::with_capacity(alloc, room)?,
+    })
+}
+
+// Takes the file of a name away.
+fn remove_named(files: &mut Vec<BinFile>, name: &str)
+    ensures others { files.new.items ≡ filter (λ file. not (bytes_eq (string_bytes file.name) name.now)) files.old.items }
+    ensures capacity { vec_capacity files.new ≡ vec_capacity files.old }
+    ensures len { vec_len files.new ≤ vec_len files.old }
+{
+    files.retain(|file| file.name.as_str() != name);
+}
+
+impl Sink for MemoryBins {
+    ghost use Rattle.cweb_out.specs.Memory.{beside_kept, bins_failed, bytes_kept, draft_room, file_room, has_draft};
+
+    ghost tells = { λ _. true };
+
+    ghost written = { bytes_kept };
+
+    ghost failed = { bins_failed };
+
+    ghost beside = { beside_kept };
+
+    fn write(&mut self, piece: &[u8]) -> Result<usize, SinkFault>
+        requires { bins_failed self.old + 1 < 2 ^ 64 }
+        ensures failed { Counts (bins_failed self.old) (bins_failed self.new) result }
+        ensures whole { IfOk result (λ n. n ≡ length piece.now) }
+        ensures bytes { OnOk result (bytes_kept self.new ≡ bytes_kept self.old ++ piece.now) }
+        ensures err { OnErr result (bytes_kept self.new ≡ bytes_kept self.old) }
+        ensures beside { beside_kept self.new ≡ beside_kept self.old }
+        ensures room { draft_room self.old ≤ draft_room self.new }
+        ensures set_room { file_room self.new ≡ file_room self.old }
+        // With a draft it never fails within the room, and without one it fails.
+        ensures within_room { has_draft self.old ≡ true → length (bytes_kept self.old) + length piece.now ≤ draft_room self.old → IsOk result }
+        ensures none { has_draft self.old ≡ false → IsErr result }
+    {
+        let Some(mut file) = self.draft.take() else {
+            self.failed += 1;
+            return Err(SinkFault);
+        };
+        let grown = file.bytes.extend_from_slice(piece);
+        self.draft = Some(file);
+        if grown.is_err() {
+            self.failed += 1;
+            return Err(SinkFault);
+        }
+        Ok(piece.len())
+    }
+
+    fn failures(&self) -> u64 {
+        self.failed
+    }
+}
+
+impl Bins for MemoryBins {
+    ghost use Rattle.cweb_out.specs.Memory.{beside_kept, bins_failed, bytes_kept, draft_room, file_room, has_draft};
+    ghost use Rattle.cweb_files.specs.Files.{committed, with_draft, without_draft};
+
+    fn start_file(&mut self, name: &str) -> Result<(), BinFault>
+        requires { bins_failed self.old + 1 < 2 ^ 64 }
+        ensures failed { bins_failed self.new ≡ bins_failed self.old }
+        ensures begun { OnOk result (beside_kept self.new ≡ with_draft name.now (beside_kept self.old)) }
+        ensures empty { OnOk result (bytes_kept self.new ≡ []) }
+        ensures err { OnErr result (beside_kept self.new ≡ without_draft (beside_kept self.old)) }
+        // It answers no Device, and the draft has the room that was set.
+        ensures memory { IfErr result (λ fault. fault ≡ BinFault.Memory) }
+        ensures room { OnOk result (file_room self.old ≤ draft_room self.new) }
+        ensures set_room { file_room self.new ≡ file_room self.old }
+    {
+        self.abandon_file();
+        let Ok(file) = empty_file(self.alloc, name, self.room) else {
+            return Err(BinFault::Memory);
+        };
+        if self.files.reserve(1).is_err() {
+            return Err(BinFault::Memory);
+        }
+        self.draft = Some(file);
+        Ok(())
+    }
+
+    fn commit_file(&mut self) -> Result<(), BinFault>
+        requires { bins_failed self.old + 1 < 2 ^ 64 }
+        ensures failed { Counts (bins_failed self.old) (bins_failed self.new) result }
+        ensures device { IfErr result (λ fault. fault ≡ BinFault.Device) }
+        ensures begun { OnOk result (has_draft self.old ≡ true) }
+        ensures ok { OnOk result (beside_kept self.new ≡ committed (beside_kept self.old) (bytes_kept self.old)) }
+        ensures err { OnErr result (beside_kept self.new ≡ without_draft (beside_kept self.old)) }
+        ensures set_room { file_room self.new ≡ file_room self.old }
+        // With a draft it never fails.
+        ensures never { has_draft self.old ≡ true → IsOk result }
+    {
+        let Some(file) = self.draft.take() else {
+            self.failed += 1;
+            return Err(BinFault::Device);
+        };
+        remove_named(&mut self.files, file.name.as_str());
+        put(&mut self.files, file);
+        Ok(())
+    }
+
+    fn abandon_file(&mut self)
+        ensures failed { bins_failed self.new ≡ bins_failed self.old }
+        ensures gone { beside_kept self.new ≡ without_draft (beside_kept self.old) }
+        ensures set_room { file_room self.new ≡ file_room self.old }
+    {
+        self.draft = None;
+    }
+}
