@@ -14,7 +14,7 @@ use Rattle.cweb_lines.proofs.Alone.{IsNoSearch, event_behind, raws_behind, raws_
 use Rattle.cweb_lines.proofs.Merges.{state}
 use Rattle.cweb_lines.proofs.WebLaws.{line_first, or-false}
 
-no_code : (code : Option Code) → is_some code ≡ false → code ≡ None
+pub no_code : (code : Option Code) → is_some code ≡ false → code ≡ None
 no_code None is = refl
 no_code (Some code) is = absurd (cc)
 
@@ -29,14 +29,14 @@ finds_none file number (text ∷ texts) none =
     ap (λ code. passing source (outside code line.place (λ begin. sought (numbered file (number + 1) texts) begin))) (no_code (code_of (trimmed text.bytes)) parts.0)
     ∙ ap (passing source) (finds_none file (number + 1) texts parts.1)
 
-took_unseen : (lines : List SourceLine) (events : List Event) → seen (map took lines ++ [] ++ events) ≡ seen events
+pub took_unseen : (lines : List SourceLine) (events : List Event) → seen (map took lines ++ [] ++ events) ≡ seen events
 took_unseen [] events = refl
 took_unseen (line ∷ lines) events = took_unseen lines events
 
-abbrev fault_first : SourceFault → Seen → Seen
+abbrev pub fault_first : SourceFault → Seen → Seen
 fault_first f s = record { lines = s.lines; faults = f ∷ s.faults; included = s.included }
 
-abbrev name_first : List ℕ → Seen → Seen
+abbrev pub name_first : List ℕ → Seen → Seen
 name_first name s = record { lines = s.lines; faults = s.faults; included = name ∷ s.included }
 
 seen_events : (events : List Event) → seen (map event_behind events) ≡ seen_behind (seen events)

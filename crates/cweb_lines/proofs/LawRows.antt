@@ -3,10 +3,10 @@ use Rattle.std.proofs.Common.{◌≡◌, ℕ, true, false, List, [], ◌∷◌, 
 use Rattle.std.specs.Prelude.{codes, option_map}
 use Rattle.std.specs.Str.{bytes_eq, is_utf8, chars}
 use lib.Utf8.{encode}
-use Rattle.std.specs.List.{list_any}
+use Rattle.std.specs.List.{AllByRecursion, list_any}
 use Rattle.cweb_lines.specs.Lines.{lines}
 use Rattle.cweb_lines.specs.Include.{World, is_include}
-use Rattle.cweb_lines.specs.Laws.{Seen, is_code, only_lines, placed, seen, seen_behind}
+use Rattle.cweb_lines.specs.Laws.{Includes, IsPlainSplice, Seen, Splice, change_lines, is_code, only_lines, placed, seen, seen_behind, spliced, web_lines}
 use Rattle.cweb_lines.specs.Merge.{Event, run, started}
 use Rattle.cweb_lines.specs.Writing.{text_of}
 use Rattle.cweb_lines.specs.declared.fault.SourceKind.TheVariants.{NoName}
@@ -54,3 +54,79 @@ it_prints = refl
 
 it_prints_again : option_map (λ s. text_of s.lines) (seen_by (run 30 no_texts (started (codes "B\nC\n") None))) ≡ Some (codes "B\nC\n")
 it_prints_again = refl
+
+include_line : Includes a_file_included (codes "@i b") (codes "b") (codes "B\n@i\n")
+unfolding is_utf8 chars encode
+include_line = record { include = refl; named = λ is. cc; found = refl }
+
+-- what stands before and behind the include line, and the text that it names
+abbrev before_and_behind : Seen
+before_and_behind = record {
+  lines = placed 0 1 (codes "A" ∷ []) ++ placed 1 1 (codes "B" ∷ []) ++ placed 0 3 (codes "C" ∷ []);
+  faults = record { kind = NoName; place = record { file = record { 0 = 1 }; line = 2 }; count = 0 } ∷ [];
+  included = codes "b" ∷ [];
+}
+
+it_is_replaced : seen_by (run 20 a_file_included (started (codes "A\n@i b\nC\n") None)) ≡ Some before_and_behind
+unfolding is_utf8 chars encode
+it_is_replaced = refl
+
+-- a change of two lines, the second an include line, and one that only drops a line
+abbrev two_changes : List Splice
+two_changes =
+    record {
+      stays = codes "A" ∷ [];
+      first = codes "B";
+      further = codes "@i gone" ∷ [];
+      comment = codes "why" ∷ [];
+      begin = codes "@x that";
+      middle = codes "@y";
+      new = codes "b" ∷ codes "bb" ∷ [];
+      end = codes "@z";
+    }
+    ∷ record { stays = []; first = codes "C"; further = []; comment = []; begin = codes "@X"; middle = codes "@Y"; new = []; end = codes "@Z" }
+    ∷ []
+
+they_are_plain : AllByRecursion IsPlainSplice two_changes
+they_are_plain = (
+  record {
+    begins = refl;
+    turns = refl;
+    ends = refl;
+    comment = refl;
+    old = refl;
+    new = refl;
+    some = λ is. cc;
+    first_there = refl;
+    stays_plain = refl;
+    new_plain = refl;
+  },
+  (
+    record {
+      begins = refl;
+      turns = refl;
+      ends = refl;
+      comment = refl;
+      old = refl;
+      new = refl;
+      some = λ is. cc;
+      first_there = refl;
+      stays_plain = refl;
+      new_plain = refl;
+    },
+    tt,
+  ),
+)
+
+web_of_two_changes : lines (codes "A\nB\n@i gone\nC\nD\n") ≡ web_lines two_changes (codes "D" ∷ [])
+web_of_two_changes = refl
+
+file_of_two_changes : lines (codes "why\n@x that\nB\n@i gone\n@y\nb\nbb\n@z\n@X\nC\n@Y\n@Z\nend") ≡ change_lines two_changes (codes "end" ∷ [])
+file_of_two_changes = refl
+
+they_splice : seen_by (run 30 no_texts (started (codes "A\nB\n@i gone\nC\nD\n") (Some (codes "why\n@x that\nB\n@i gone\n@y\nb\nbb\n@z\n@X\nC\n@Y\n@Z\nend"))))
+    ≡ Some (only_lines (spliced 1 1 two_changes (codes "D" ∷ [])))
+they_splice = refl
+
+they_show : spliced 1 1 two_changes (codes "D" ∷ []) ≡ placed 0 1 (codes "A" ∷ []) ++ placed 1 6 (codes "b" ∷ codes "bb" ∷ []) ++ placed 0 5 (codes "D" ∷ [])
+they_show = refl

@@ -1,17 +1,18 @@
 -- What holds of merged lines whatever the texts are, in the words of someone who writes webs.
-use Rattle.std.specs.Prelude.{◌≡◌, ℕ, zero, suc, ◌+◌, Bool, true, false, List, [], ◌∷◌, map, Option, None, Some}
-use Rattle.std.specs.List.{list_any}
+use Rattle.std.specs.Prelude.{◌≡◌, ◌≢◌, ◌<◌, ℕ, zero, suc, ◌+◌, Bool, true, false, List, [], ◌∷◌, ◌++◌, length, map, Option, None, Some}
+use Rattle.std.specs.List.{AllByRecursion, list_any}
 use Rattle.std.specs.Option.{is_some}
+use Rattle.std.specs.Str.{bytes_eq}
 use Rattle.cweb_files.specs.declared.place.FileId.{FileId}
 use Rattle.cweb_files.specs.declared.place.Place.{Place}
-use Rattle.cweb_lines.specs.Lines.{Line, lines}
-use Rattle.cweb_lines.specs.Include.{World, is_include}
+use Rattle.cweb_lines.specs.Lines.{Line, SourceLine, lines, lines_in}
+use Rattle.cweb_lines.specs.Include.{World, found_at, include_name, is_include}
 use Rattle.cweb_lines.specs.Change.{code_of}
-use Rattle.cweb_lines.specs.Merge.{Event, started}
+use Rattle.cweb_lines.specs.Merge.{Event, raws, started}
 use Rattle.cweb_lines.specs.Told.{given_lines, told_faults, openings}
 use Rattle.cweb_lines.specs.Total.{merge}
 use Rattle.cweb_lines.specs.Writing.{text_of}
-use Rattle.cweb_lines.specs.declared.code.Code.{Code}
+use Rattle.cweb_lines.specs.declared.code.Code.TheVariants.{EndSide as end_side, NewSide as new_side, OldSide as old_side}
 use Rattle.cweb_lines.specs.declared.fault.SourceFault.{SourceFault}
 
 -- what an author sees of a merge: the lines with their places, the faults, and the names of the files that were included
@@ -80,3 +81,86 @@ pub record ComesAgain (printed : List Line) (again : Seen) : Type 0 where
 abbrev pub PrintedMergesComeAgain : Type 0
 PrintedMergesComeAgain = (world other : World) (web : List ℕ) (change : Option (List ℕ)) →
     let printed = (seen_of world web change).lines in ComesAgain printed (seen_of other (text_of printed) None)
+
+-- what comes of lines that lie at a depth, where no change is pending and so many files have been opened before
+abbrev pub seen_in : World → ℕ → ℕ → List SourceLine → Seen
+seen_in world depth files lines =
+    seen (merge world (record { things = raws depth true lines; pending = None; change = []; files = files }))
+
+abbrev pub followed_by : Seen → Seen → Seen
+followed_by first later = record {
+  lines = first.lines ++ later.lines;
+  faults = first.faults ++ later.faults;
+  included = first.included ++ later.included;
+}
+
+-- a line that includes a text, which is found under a name
+pub record Includes (world : World) (bytes name text : List ℕ) : Type 0 where
+  pub include : is_include bytes ≡ true
+  pub named : include_name bytes ≢ []
+  pub found : found_at world (include_name bytes) ≡ Some (name, text)
+
+-- what stands before an include line, then the name under which its text was found and the merged lines of that text, then what stands behind it
+abbrev pub with_included : World → ℕ → ℕ → List SourceLine → List ℕ → List ℕ → List SourceLine → Seen
+with_included world depth files before name text behind =
+    let first = seen_in world depth files before in
+    let file = files + length first.included in
+    let inside = seen_in world (depth + 1) (file + 1) (lines_in file text) in
+    let last = seen_in world depth (file + 1 + length inside.included) behind in
+    followed_by first (followed_by (record { lines = []; faults = []; included = name ∷ [] }) (followed_by inside last))
+
+-- Where no change file is given, an include line is replaced by the merged lines of its text, one deeper, and what stands before and behind it comes as if alone. A web's own lines lie at depth 1, behind one file.
+abbrev pub IncludeLinesAreReplaced : Type 0
+IncludeLinesAreReplaced = (world : World) (depth files : ℕ) (before behind : List SourceLine) (line : SourceLine) (name text : List ℕ)
+    → Includes world line.line.bytes name text → depth < 10
+    → seen_in world depth files (before ++ line ∷ behind) ≡ with_included world depth files before name text behind
+
+-- One change as its author makes it. In the web: lines that stay, then the first line that is replaced, and further ones. In the change file: a comment, an @x line, the old lines, an @y line, the new lines, an @z line.
+pub record Splice : Type 0 where
+  pub stays : List (List ℕ)
+  pub first : List ℕ
+  pub further : List (List ℕ)
+  pub comment : List (List ℕ)
+  pub begin : List ℕ
+  pub middle : List ℕ
+  pub new : List (List ℕ)
+  pub end : List ℕ
+
+-- The lines between the codes are no codes, the first old line isn't empty, no line that stays equals it, and no line that stays or comes new begins an include.
+pub record IsPlainSplice (splice : Splice) : Type 0 where
+  pub begins : code_of splice.begin ≡ Some old_side
+  pub turns : code_of splice.middle ≡ Some new_side
+  pub ends : code_of splice.end ≡ Some end_side
+  pub comment : list_any is_code splice.comment ≡ false
+  pub old : list_any is_code (splice.first ∷ splice.further) ≡ false
+  pub new : list_any is_code splice.new ≡ false
+  pub some : splice.first ≢ []
+  pub first_there : list_any (λ line. bytes_eq line splice.first) splice.stays ≡ false
+  pub stays_plain : list_any is_include splice.stays ≡ false
+  pub new_plain : list_any is_include splice.new ≡ false
+
+-- the lines of a web and those of a change file by the changes, with what stands behind the last of them
+abbrev pub web_lines : List Splice → List (List ℕ) → List (List ℕ)
+web_lines [] behind = behind
+web_lines (s ∷ splices) behind = s.stays ++ (s.first ∷ (s.further ++ web_lines splices behind))
+
+abbrev pub change_lines : List Splice → List (List ℕ) → List (List ℕ)
+change_lines [] comment = comment
+change_lines (s ∷ splices) comment =
+    s.comment ++ (s.begin ∷ s.first ∷ (s.further ++ (s.middle ∷ (s.new ++ (s.end ∷ change_lines splices comment)))))
+
+-- the lines that stay and the new lines by turns, each with its place: the next line of the web and that of the change file have these numbers
+abbrev pub spliced : ℕ → ℕ → List Splice → List (List ℕ) → List Line
+spliced web change [] behind = placed 0 web behind
+spliced web change (s ∷ splices) behind =
+    let first_new = change + length s.comment + length s.further + 3 in
+    placed 0 web s.stays
+    ++ (placed 1 first_new s.new
+    ++ spliced (web + length s.stays + length s.further + 1) (first_new + length s.new + 1) splices behind)
+
+-- a change file whose entries match, in order, splices: the lines before, the new lines, the lines behind, without a fault
+abbrev pub ChangesSplice : Type 0
+ChangesSplice = (world : World) (web change : List ℕ) (splices : List Splice) (behind comment : List (List ℕ))
+    → AllByRecursion IsPlainSplice splices → list_any is_include behind ≡ false → list_any is_code comment ≡ false
+    → lines web ≡ web_lines splices behind → lines change ≡ change_lines splices comment
+    → seen_of world web (Some change) ≡ only_lines (spliced 1 1 splices behind)

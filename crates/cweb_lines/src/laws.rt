@@ -1,6 +1,6 @@
 //! What holds of merged lines whatever the texts are. These functions do nothing: each is there for its contract.
 
-ghost use Rattle.cweb_lines.specs.Laws.{ChangeFilesWithoutEntriesChangeNothing, PrintedMergesComeAgain, WebsWithoutIncludesAreTheirOwnLines};
+ghost use Rattle.cweb_lines.specs.Laws.{ChangeFilesWithoutEntriesChangeNothing, ChangesSplice, IncludeLinesAreReplaced, PrintedMergesComeAgain, WebsWithoutIncludesAreTheirOwnLines};
 ghost use Rattle.cweb_lines.specs.Total.{HasOneAnswer};
 
 /// Every shelf, web and change file have their merged lines, and have them once: the steps of the merge end, and
@@ -26,4 +26,18 @@ pub fn change_file_without_entries_changes_nothing()
 /// out begins an include.
 pub fn printed_merge_comes_again()
     ensures { PrintedMergesComeAgain }
+{}
+
+/// Where no change file is given, an include line that finds its text is replaced by the merged lines of that text, and
+/// what stands before and behind it comes as if alone: only its depth, which a limit bounds, and the numbers of files
+/// go on from what stands before.
+pub fn include_line_is_replaced()
+    ensures { IncludeLinesAreReplaced }
+{}
+
+/// A change file whose entries match, in order, splices: of the web come the lines before each change and those behind
+/// the last, of the change file the new lines, each with its place, without a fault. Not covered are include lines among
+/// them, empty lines behind an `@x`, codes out of place, and further old lines that differ from the web's.
+pub fn changes_splice()
+    ensures { ChangesSplice }
 {}
