@@ -11,6 +11,7 @@ use Rattle.cweb_lines.specs.Merge.{Event, Next, RawLine, State, Thing, fault, gi
 use Rattle.cweb_lines.specs.Told.{given_lines, openings, told_faults}
 use Rattle.cweb_lines.specs.Total.{halts, merge, merge-run, merge_next}
 use Rattle.cweb_lines.specs.declared.fault.SourceFault.{SourceFault}
+use Rattle.cweb_lines.specs.declared.limits.TheConstants.{OPEN_FILES}
 use Rattle.cweb_lines.proofs.Alone.{IsNoSearch, front, raws_seek_not}
 use Rattle.cweb_lines.proofs.EmptyChanges.{fault_first, name_first}
 use Rattle.cweb_lines.proofs.Merges.{given-append, openings-append, state, told-append}
@@ -42,7 +43,7 @@ in_two world things later change files none =
     ∙ ap (λ (es : List Event). es ++ merge world (state later None change (files + length (openings es)))) (sym (merge-run first.steps world (state things None change files) first.events first.comes))
 
 -- an include line that finds its text opens it
-opens_text : (world : World) (r : RawLine) (things : List Thing) (s : State) (name text : List ℕ) → Includes world r.source.line.bytes name text → r.depth < 10
+opens_text : (world : World) (r : RawLine) (things : List Thing) (s : State) (name text : List ℕ) → Includes world r.source.line.bytes name text → r.depth < OPEN_FILES
     → plain (is_include r.source.line.bytes) world s r things ≡ obeyed (Some (name, text)) s r things
 opens_text world r things s name text includes shallow =
     ap (λ b. plain b world s r things) includes.include ∙ by (include_name r.source.line.bytes) includes.named includes.found
@@ -50,7 +51,7 @@ opens_text world r things s name text includes shallow =
     by : (asked : List ℕ) → asked ≢ [] → found_at world asked ≡ Some (name, text) → included asked world s r things ≡ obeyed (Some (name, text)) s r things
     by [] some found = absurd (some refl)
     by (b ∷ bs) some found =
-        ap (λ t. opened t world (b ∷ bs) s r things) (let room : nat_lt r.depth 10 ≡ true = grind (arith, nat_tests) in room) ∙ ap (λ o. obeyed o s r things) found
+        ap (λ t. opened t world (b ∷ bs) s r things) (let room : nat_lt r.depth OPEN_FILES ≡ true = grind (arith, nat_tests) in room) ∙ ap (λ o. obeyed o s r things) found
 
 pub include_lines : IncludeLinesAreReplaced
 include_lines world depth files before behind line name text includes shallow =

@@ -14,6 +14,7 @@ use Rattle.cweb_lines.specs.Total.{merge}
 use Rattle.cweb_lines.specs.Writing.{text_of}
 use Rattle.cweb_lines.specs.declared.code.Code.TheVariants.{EndSide as end_side, NewSide as new_side, OldSide as old_side}
 use Rattle.cweb_lines.specs.declared.fault.SourceFault.{SourceFault}
+use Rattle.cweb_lines.specs.declared.limits.TheConstants.{OPEN_FILES}
 
 -- what an author sees of a merge: the lines with their places, the faults, and the names of the files that were included
 pub record Seen : Type 0 where
@@ -112,7 +113,7 @@ with_included world depth files before name text behind =
 -- Where no change file is given, an include line is replaced by the merged lines of its text, one deeper, and what stands before and behind it comes as if alone. A web's own lines lie at depth 1, behind one file.
 abbrev pub IncludeLinesAreReplaced : Type 0
 IncludeLinesAreReplaced = (world : World) (depth files : ℕ) (before behind : List SourceLine) (line : SourceLine) (name text : List ℕ)
-    → Includes world line.line.bytes name text → depth < 10
+    → Includes world line.line.bytes name text → depth < OPEN_FILES
     → seen_in world depth files (before ++ line ∷ behind) ≡ with_included world depth files before name text behind
 
 -- One change as its author makes it. In the web: lines that stay, then the first line that is replaced, and further ones. In the change file: a comment, an @x line, the old lines, an @y line, the new lines, an @z line.
