@@ -1,16 +1,15 @@
--- What comes of lines where no change is pending: what stands behind them comes as if alone, and the numbers of files don't matter.
-use Rattle.std.proofs.Common.{◌≡◌, ◌+◌, ◌<◌, ℕ, zero, suc, Bool, true, false, List, [], ◌∷◌, ◌++◌, map, None, Some, Option, refl, sym, ◌∙◌, ap, arith, length}
-use Rattle.std.proofs.lemmas.List.{append_assoc, map-append}
-use Rattle.std.specs.Prelude.{option_map}
+-- What comes of lines where no change is pending: what stands behind them comes as if alone, and the numbers of files
+-- don't matter.
+use Rattle.std.proofs.Common.{◌≡◌, ◌+◌, ℕ, zero, suc, Bool, true, false, List, [], ◌∷◌, ◌++◌, None, Some, Option, refl, sym, ◌∙◌, ap, arith, length}
+use Rattle.std.proofs.lemmas.List.{append_assoc}
 use Rattle.std.specs.List.{AllByRecursion}
-use Rattle.cweb_files.specs.declared.place.Place.{Place}
-use Rattle.cweb_lines.specs.Lines.{Line, SourceLine, TextLine, lines_in, numbered, text_lines, trimmed}
+use Rattle.cweb_lines.specs.Lines.{Line, SourceLine, lines_in}
 use Rattle.cweb_lines.specs.Include.{World, Found, found_at, include_name, is_include}
 use Rattle.cweb_lines.specs.Change.{at_place}
-use Rattle.cweb_lines.specs.Laws.{fault_behind, file_behind, line_behind}
-use Rattle.cweb_lines.specs.Merge.{Event, Next, RawLine, State, Thing, at_raw, fault, given, included, obeyed, onto, opened, opening, passed, past, plain, raw, raws, run, seek, taking, then_run, told, took}
+use Rattle.cweb_lines.specs.Laws.{fault_behind, line_behind}
+use Rattle.cweb_lines.specs.Merge.{Event, Next, RawLine, State, Thing, at_raw, fault, given, included, obeyed, onto, opened, opening, passed, past, plain, raw, raws, run, seek, taking, told, took}
 use Rattle.cweb_lines.specs.Told.{openings}
-use Rattle.cweb_lines.specs.Total.{merge, merge_end, merge_next}
+use Rattle.cweb_lines.specs.Total.{merge, merge_next}
 use Rattle.cweb_lines.specs.declared.fault.SourceFault.{SourceFault}
 use Rattle.cweb_lines.specs.declared.fault.SourceKind.TheVariants.{NoName, NotThere, TooDeep}
 use Rattle.cweb_lines.proofs.Merges.{state}
@@ -41,18 +40,22 @@ kind_behind (opens found) = opens found
 pub record Goes (r : RawLine) (go : State → RawLine → List Thing → Next) : Type 0 where
   pub kind : Kind
   pub is : (s : State) (things : List Thing) → go s r things ≡ becomes kind s r things
-  pub behind : (s : State) (things : List Thing) → go s (raw_behind r) things ≡ becomes (kind_behind kind) s (raw_behind r) things
+  pub behind : (s : State) (things : List Thing) → go s (raw_behind r) things
+      ≡ becomes (kind_behind kind) s (raw_behind r) things
 
 obeyed_goes : (r : RawLine) (found : Option Found) → Goes r (obeyed found)
-obeyed_goes r None = record { kind = faults (at_place NotThere r.source.line.place); is = λ s things. refl; behind = λ s things. refl }
+obeyed_goes r None = record { kind = faults (at_place NotThere r.source.line.place); is = λ s things. refl; behind =
+    λ s things. refl }
 obeyed_goes r (Some found) = record { kind = opens found; is = λ s things. refl; behind = λ s things. refl }
 
 opened_goes : (world : World) (r : RawLine) (b : Bool) (name : List ℕ) → Goes r (opened b world name)
-opened_goes world r false name = record { kind = faults (at_place TooDeep r.source.line.place); is = λ s things. refl; behind = λ s things. refl }
+opened_goes world r false name =
+    record { kind = faults (at_place TooDeep r.source.line.place); is = λ s things. refl; behind = λ s things. refl }
 opened_goes world r true name = obeyed_goes r (found_at world name)
 
 included_goes : (world : World) (r : RawLine) (name : List ℕ) → Goes r (included name world)
-included_goes world r [] = record { kind = faults (at_place NoName r.source.line.place); is = λ s things. refl; behind = λ s things. refl }
+included_goes world r [] = record { kind = faults (at_place NoName r.source.line.place); is =
+    λ s things. refl; behind = λ s things. refl }
 included_goes world r (b ∷ bs) =
     let there = opened_goes world r _ (b ∷ bs) in
     record { kind = there.kind; is = there.is; behind = there.behind }
@@ -75,93 +78,27 @@ IsNoSearch (raw r) = Unit {0}
 IsNoSearch (told f) = Unit {0}
 IsNoSearch (passed line) = Unit {0}
 
-pub raws_seek_not : (depth : ℕ) (may_match : Bool) (lines : List SourceLine) (things : List Thing) → AllByRecursion IsNoSearch things → AllByRecursion IsNoSearch (raws depth may_match lines ++ things)
+pub raws_seek_not : (depth : ℕ) (may_match : Bool) (lines : List SourceLine) (things : List Thing)
+    → AllByRecursion IsNoSearch things → AllByRecursion IsNoSearch (raws depth may_match lines ++ things)
 raws_seek_not depth may_match [] things none = none
 raws_seek_not depth may_match (line ∷ lines) things none = (tt, raws_seek_not depth may_match lines things none)
 
-pub onto_some : (events all : List Event) (later : Option (List Event)) → onto events later ≡ Some all → (rest : List Event) × (later ≡ Some rest) × (events ++ rest ≡ all)
+pub onto_some : (events all : List Event) (later : Option (List Event)) → onto events later ≡ Some all
+    → (rest : List Event) × (later ≡ Some rest) × (events ++ rest ≡ all)
 onto_some events all None is = absurd (cc)
 onto_some events all (Some rest) is = (rest, refl, cc)
 
--- the numbers of the files
-abbrev pub event_behind : Event → Event
-event_behind (took source) = took (source_behind source)
-event_behind (given line) = given (line_behind line)
-event_behind (fault f) = fault (fault_behind f)
-event_behind (opening name) = opening name
-
-abbrev pub thing_behind : Thing → Thing
-thing_behind seek = seek
-thing_behind (raw r) = raw (raw_behind r)
-thing_behind (told f) = told (fault_behind f)
-thing_behind (passed line) = passed (source_behind line)
-
--- a line of a file as a raw line to come
-abbrev raw_of : ℕ → Bool → ℕ → ℕ → TextLine → Thing
-raw_of depth may_match file number text = raw (record {
-  source = record {
-    line = record { bytes = trimmed text.bytes; place = record { file = record { 0 = file }; line = number } };
-    length = length text.bytes;
-    size = text.size;
-  };
-  depth = depth;
-  may_match = may_match;
-})
-
-pub raws_behind : (depth : ℕ) (may_match : Bool) (file file' number : ℕ) (texts : List TextLine) (things : List Thing) → file_behind file ≡ file'
-    → map thing_behind (raws depth may_match (numbered file number texts) ++ things) ≡ raws depth may_match (numbered file' number texts) ++ map thing_behind things
-raws_behind depth may_match file file' number [] things is = refl
-raws_behind depth may_match file file' number (text ∷ texts) things is =
-    ap (λ f. raw_of depth may_match f number text ∷ map thing_behind (raws depth may_match (numbered file (number + 1) texts) ++ things)) is
-    ∙ ap (λ (ts : List Thing). raw_of depth may_match file' number text ∷ ts) (raws_behind depth may_match file file' (number + 1) texts things is)
-
-next_file : (file : ℕ) → 0 < file → file_behind file ≡ file + 1
-next_file zero some = absurd (omega arith)
-next_file (suc file) some = omega arith
-
--- a run in which each file but the web has the next number
-pub run_behind : (n : ℕ) (world : World) (things : List Thing) (files : ℕ) (events : List Event) → 0 < files → AllByRecursion IsNoSearch things
-    → run n world (state things None [] files) ≡ Some events → run n world (state (map thing_behind things) None [] (files + 1)) ≡ Some (map event_behind events)
-run_behind zero world things files events some none is = absurd (cc)
-run_behind (suc n) world [] files events some none is = ap (λ o. option_map (map event_behind) o) is
-run_behind (suc n) world (seek ∷ things) files events some none is = absurd none.0
-run_behind (suc n) world (told f ∷ things) files events some none is =
-    let x = onto_some (fault f ∷ []) events (run n world (state things None [] files)) is in
-    ap (onto (fault (fault_behind f) ∷ [])) (run_behind n world things files x.0 some none.1 x.1) ∙ ap (λ (es : List Event). Some (map event_behind es)) x.2
-run_behind (suc n) world (passed line ∷ things) files events some none is =
-    let x = onto_some (took line ∷ []) events (run n world (state things None [] files)) is in
-    ap (onto (took (source_behind line) ∷ [])) (run_behind n world things files x.0 some none.1 x.1) ∙ ap (λ (es : List Event). Some (map event_behind es)) x.2
-run_behind (suc n) world (raw r ∷ things) files events some none is =
-    let goes = raw_goes world r in
-    ap (λ (next : Next). onto (took (source_behind r.source) ∷ next.0) (run n world next.1)) (goes.behind (state (map thing_behind (raw r ∷ things)) None [] (files + 1)) (map thing_behind things))
-    ∙ by goes.kind (sym (ap (λ (next : Next). onto (took r.source ∷ next.0) (run n world next.1)) (goes.is (state (raw r ∷ things) None [] files) things)) ∙ is) (λ ts f es more no i. run_behind n world ts f es more no i)
-  where
-    by : (kind : Kind) → (let next = becomes kind (state (raw r ∷ things) None [] files) r things in onto (took r.source ∷ next.0) (run n world next.1)) ≡ Some events
-        → ((ts : List Thing) (f : ℕ) (es : List Event) → 0 < f → AllByRecursion IsNoSearch ts → run n world (state ts None [] f) ≡ Some es → run n world (state (map thing_behind ts) None [] (f + 1)) ≡ Some (map event_behind es))
-        → (let next = becomes (kind_behind kind) (state (map thing_behind (raw r ∷ things)) None [] (files + 1)) (raw_behind r) (map thing_behind things) in
-        onto (took (source_behind r.source) ∷ next.0) (run n world next.1)) ≡ Some (map event_behind events)
-    by (gives line) is each =
-        let x = onto_some (took r.source ∷ given line ∷ []) events (run n world (state things None [] files)) is in
-        ap (onto (took (source_behind r.source) ∷ given (line_behind line) ∷ [])) (each things files x.0 some none.1 x.1) ∙ ap (λ (es : List Event). Some (map event_behind es)) x.2
-    by (faults f) is each =
-        let x = onto_some (took r.source ∷ fault f ∷ []) events (run n world (state things None [] files)) is in
-        ap (onto (took (source_behind r.source) ∷ fault (fault_behind f) ∷ [])) (each things files x.0 some none.1 x.1) ∙ ap (λ (es : List Event). Some (map event_behind es)) x.2
-    by (opens found) is each =
-        let inner = raws (r.depth + 1) r.may_match (lines_in files found.1) ++ things in
-        let x = onto_some (took r.source ∷ opening found.0 ∷ []) events (run n world (state inner None [] (files + 1))) is in
-        let later = each inner (files + 1) x.0 (omega arith) (raws_seek_not (r.depth + 1) r.may_match (lines_in files found.1) things none.1) x.1 in
-        ap (λ (ts : List Thing). onto (took (source_behind r.source) ∷ opening found.0 ∷ []) (run n world (state ts None [] (files + 1 + 1))))
-        (sym (raws_behind (r.depth + 1) r.may_match files (files + 1) 1 (text_lines found.1) things (next_file files some)))
-        ∙ ap (onto (took (source_behind r.source) ∷ opening found.0 ∷ [])) later ∙ ap (λ (es : List Event). Some (map event_behind es)) x.2
-
 -- What stands behind some lines comes as if alone.
-pub front : (n : ℕ) (world : World) (things later : List Thing) (change : List SourceLine) (files : ℕ) (events : List Event) → AllByRecursion IsNoSearch things
+pub front : (n : ℕ) (world : World) (things later : List Thing) (change : List SourceLine) (files : ℕ)
+    (events : List Event) → AllByRecursion IsNoSearch things
     → run n world (state things None change files) ≡ Some events
-    → merge world (state (things ++ later) None change files) ≡ events ++ merge world (state later None change (files + length (openings events)))
+    → merge world (state (things ++ later) None change files) ≡ events ++ merge world
+        (state later None change (files + length (openings events)))
 front zero world things later change files events none is = absurd (cc)
 front (suc n) world [] later change files events none is = by events is
   where
-    by : (events : List Event) → Some [] ≡ Some events → merge world (state later None change files) ≡ events ++ merge world (state later None change (files + length (openings events)))
+    by : (events : List Event) → Some [] ≡ Some events → merge world (state later None change files)
+        ≡ events ++ merge world (state later None change (files + length (openings events)))
     by [] is = ap (λ f. merge world (state later None change f)) (omega arith)
     by (e ∷ es) is = absurd (cc)
 front (suc n) world (seek ∷ things) later change files events none is = absurd none.0
@@ -177,14 +114,22 @@ front (suc n) world (passed line ∷ things) later change files events none is =
     ∙ ap (λ (es : List Event). es ++ merge world (state later None change (files + length (openings es)))) x.2
 front (suc n) world (raw r ∷ things) later change files events none is =
     let goes = raw_goes world r in
-    merge_next world (state (raw r ∷ things ++ later) None change files) (taking r.source (becomes goes.kind (state (raw r ∷ things ++ later) None change files) r (things ++ later)))
-    (ap (λ (next : Next). Some (taking r.source next)) (goes.is (state (raw r ∷ things ++ later) None change files) (things ++ later)))
-    ∙ by goes.kind (sym (ap (λ (next : Next). onto (took r.source ∷ next.0) (run n world next.1)) (goes.is (state (raw r ∷ things) None change files) things)) ∙ is) (λ ts f es no i. front n world ts later change f es no i)
+    merge_next world (state (raw r ∷ things ++ later) None change files)
+        (taking r.source (becomes goes.kind (state (raw r ∷ things ++ later) None change files) r (things ++ later)))
+    (ap (λ (next : Next). Some (taking r.source next))
+        (goes.is (state (raw r ∷ things ++ later) None change files) (things ++ later)))
+    ∙ by goes.kind (sym (ap (λ (next : Next). onto (took r.source ∷ next.0) (run n world next.1))
+        (goes.is (state (raw r ∷ things) None change files) things)) ∙ is)
+        (λ ts f es no i. front n world ts later change f es no i)
   where
-    by : (kind : Kind) → (let next = becomes kind (state (raw r ∷ things) None change files) r things in onto (took r.source ∷ next.0) (run n world next.1)) ≡ Some events
-        → ((ts : List Thing) (f : ℕ) (es : List Event) → AllByRecursion IsNoSearch ts → run n world (state ts None change f) ≡ Some es
-        → merge world (state (ts ++ later) None change f) ≡ es ++ merge world (state later None change (f + length (openings es))))
-        → (let next = becomes kind (state (raw r ∷ things ++ later) None change files) r (things ++ later) in took r.source ∷ next.0 ++ merge world next.1)
+    by : (kind : Kind) → (let next = becomes kind (state (raw r ∷ things) None change files) r things in onto
+        (took r.source ∷ next.0) (run n world next.1)) ≡ Some events
+        → ((ts : List Thing) (f : ℕ) (es : List Event) → AllByRecursion IsNoSearch ts
+            → run n world (state ts None change f) ≡ Some es
+        → merge world (state (ts ++ later) None change f) ≡ es ++ merge world
+            (state later None change (f + length (openings es))))
+        → (let next = becomes kind (state (raw r ∷ things ++ later) None change files) r
+            (things ++ later) in took r.source ∷ next.0 ++ merge world next.1)
         ≡ events ++ merge world (state later None change (files + length (openings events)))
     by (gives line) is each =
         let x = onto_some (took r.source ∷ given line ∷ []) events (run n world (state things None change files)) is in
@@ -196,10 +141,13 @@ front (suc n) world (raw r ∷ things) later change files events none is =
         ∙ ap (λ (es : List Event). es ++ merge world (state later None change (files + length (openings es)))) x.2
     by (opens found) is each =
         let lines = raws (r.depth + 1) r.may_match (lines_in files found.1) in
-        let x = onto_some (took r.source ∷ opening found.0 ∷ []) events (run n world (state (lines ++ things) None change (files + 1))) is in
+        let x = onto_some (took r.source ∷ opening found.0 ∷ []) events
+            (run n world (state (lines ++ things) None change (files + 1))) is in
         let number : files + 1 + length (openings x.0) ≡ files + suc (length (openings x.0)) = omega arith in
-        ap (λ (ts : List Thing). took r.source ∷ opening found.0 ∷ merge world (state ts None change (files + 1))) (sym (append_assoc lines things later))
+        ap (λ (ts : List Thing). took r.source ∷ opening found.0 ∷ merge world (state ts None change (files + 1)))
+            (sym (append_assoc lines things later))
         ∙ ap (λ (es : List Event). took r.source ∷ opening found.0 ∷ es)
-        (each (lines ++ things) (files + 1) x.0 (raws_seek_not (r.depth + 1) r.may_match (lines_in files found.1) things none.1) x.1)
+        (each (lines ++ things) (files + 1) x.0
+            (raws_seek_not (r.depth + 1) r.may_match (lines_in files found.1) things none.1) x.1)
         ∙ ap (λ f. took r.source ∷ opening found.0 ∷ x.0 ++ merge world (state later None change f)) number
         ∙ ap (λ (es : List Event). es ++ merge world (state later None change (files + length (openings es)))) x.2

@@ -1,43 +1,31 @@
 -- A change file of no entries is no change file.
-use Rattle.std.proofs.Common.{◌≡◌, ◌+◌, ℕ, Bool, true, false, List, [], ◌∷◌, ◌++◌, map, None, Some, Option, refl, sym, ◌∙◌, ap, append-nil, length, subst, arith}
+use Rattle.std.proofs.Common.{◌≡◌, ◌+◌, ℕ, true, false, List, [], ◌∷◌, ◌++◌, map, None, Some, refl, sym, ◌∙◌, ap, append-nil, length, subst, arith}
 use Rattle.std.specs.List.{AllByRecursion, list_any}
-use Rattle.std.specs.Option.{is_some}
 use Rattle.cweb_lines.specs.Lines.{Line, SourceLine, TextLine, lines_in, numbered, text_lines, trimmed}
-use Rattle.cweb_lines.specs.Include.{World}
 use Rattle.cweb_lines.specs.Change.{Sought, code_of, outside, passing, sought}
-use Rattle.cweb_lines.specs.Laws.{ChangeFilesWithoutEntriesChangeNothing, Seen, fault_behind, is_code, line_behind, seen, seen_behind}
-use Rattle.cweb_lines.specs.Merge.{Event, Thing, fault, given, opening, raw, raws, seek, started, took}
+use Rattle.cweb_lines.specs.Laws.{ChangeFilesWithoutEntriesChangeNothing, fault_behind, is_code, line_behind, seen, seen_behind}
+use Rattle.cweb_lines.specs.Merge.{Event, Thing, fault, given, opening, raws, started, took}
 use Rattle.cweb_lines.specs.Total.{halts, merge, merge-run, merge_next}
-use Rattle.cweb_lines.specs.declared.code.Code.{Code}
-use Rattle.cweb_lines.specs.declared.fault.SourceFault.{SourceFault}
-use Rattle.cweb_lines.proofs.Alone.{IsNoSearch, event_behind, raws_behind, raws_seek_not, run_behind, thing_behind}
+use Rattle.cweb_lines.proofs.Alone.{IsNoSearch, raws_seek_not}
+use Rattle.cweb_lines.proofs.Renumbered.{event_behind, raws_behind, run_behind, thing_behind}
 use Rattle.cweb_lines.proofs.Merges.{state}
-use Rattle.cweb_lines.proofs.WebLaws.{line_first, or-false}
-
-pub no_code : (code : Option Code) → is_some code ≡ false → code ≡ None
-no_code None is = refl
-no_code (Some code) is = absurd (cc)
+use Rattle.cweb_lines.proofs.Seens.{fault_first, line_first, name_first, no_code, or-false, took_unseen}
 
 -- a search among lines that are no code passes over all of them
-finds_none : (file number : ℕ) (texts : List TextLine) → list_any is_code (map (λ line. trimmed line.bytes) texts) ≡ false
-    → sought (numbered file number texts) None ≡ record { faults = []; taken = numbered file number texts; entry = None; rest = [] }
+finds_none : (file number : ℕ) (texts : List TextLine) → list_any is_code (map (λ line. trimmed line.bytes) texts)
+    ≡ false
+    → sought (numbered file number texts) None
+        ≡ record { faults = []; taken = numbered file number texts; entry = None; rest = [] }
 finds_none file number [] none = refl
 finds_none file number (text ∷ texts) none =
-    let parts = or-false (is_code (trimmed text.bytes)) (list_any is_code (map (λ line. trimmed line.bytes) texts)) none in
-    let line : Line = record { bytes = trimmed text.bytes; place = record { file = record { 0 = file }; line = number } } in
+    let parts = or-false (is_code (trimmed text.bytes))
+        (list_any is_code (map (λ line. trimmed line.bytes) texts)) none in
+    let line : Line = record { bytes = trimmed text.bytes; place =
+        record { file = record { 0 = file }; line = number } } in
     let source : SourceLine = record { line = line; length = length text.bytes; size = text.size } in
-    ap (λ code. passing source (outside code line.place (λ begin. sought (numbered file (number + 1) texts) begin))) (no_code (code_of (trimmed text.bytes)) parts.0)
+    ap (λ code. passing source (outside code line.place (λ begin. sought (numbered file (number + 1) texts) begin)))
+        (no_code (code_of (trimmed text.bytes)) parts.0)
     ∙ ap (passing source) (finds_none file (number + 1) texts parts.1)
-
-pub took_unseen : (lines : List SourceLine) (events : List Event) → seen (map took lines ++ [] ++ events) ≡ seen events
-took_unseen [] events = refl
-took_unseen (line ∷ lines) events = took_unseen lines events
-
-abbrev pub fault_first : SourceFault → Seen → Seen
-fault_first f s = record { lines = s.lines; faults = f ∷ s.faults; included = s.included }
-
-abbrev pub name_first : List ℕ → Seen → Seen
-name_first name s = record { lines = s.lines; faults = s.faults; included = name ∷ s.included }
 
 seen_events : (events : List Event) → seen (map event_behind events) ≡ seen_behind (seen events)
 seen_events [] = refl
@@ -49,10 +37,12 @@ seen_events (opening name ∷ events) = ap (name_first name) (seen_events events
 -- the lines of the web are of the file whose number stays
 web_stays : (web : List ℕ) → map thing_behind (raws 1 true (lines_in 0 web)) ≡ raws 1 true (lines_in 0 web)
 web_stays web =
-    ap (map thing_behind) (sym (append-nil (raws 1 true (lines_in 0 web)))) ∙ raws_behind 1 true 0 0 1 (text_lines web) [] refl ∙ append-nil (raws 1 true (lines_in 0 web))
+    ap (map thing_behind) (sym (append-nil (raws 1 true (lines_in 0 web))))
+        ∙ raws_behind 1 true 0 0 1 (text_lines web) [] refl ∙ append-nil (raws 1 true (lines_in 0 web))
 
 web_none : (web : List ℕ) → AllByRecursion IsNoSearch (raws 1 true (lines_in 0 web))
-web_none web = subst (AllByRecursion IsNoSearch) (append-nil (raws 1 true (lines_in 0 web))) (raws_seek_not 1 true (lines_in 0 web) [] tt)
+web_none web = subst (AllByRecursion IsNoSearch) (append-nil (raws 1 true (lines_in 0 web)))
+    (raws_seek_not 1 true (lines_in 0 web) [] tt)
 
 pub change_files_without_entries : ChangeFilesWithoutEntriesChangeNothing
 change_files_without_entries world web change none =
@@ -60,10 +50,12 @@ change_files_without_entries world web change none =
     let lines = lines_in 1 change in
     let alone = halts world (started web None) in
     ap seen (merge_next world (started web (Some change)) (map took lines ++ [], state things None [] 2)
-    (ap (λ (found : Sought). Some (map took found.taken ++ map fault found.faults, state things found.entry found.rest 2)) (finds_none 1 1 (text_lines change) none)))
+    (ap (λ (found : Sought). Some (map took found.taken
+        ++ map fault found.faults, state things found.entry found.rest 2)) (finds_none 1 1 (text_lines change) none)))
     ∙ took_unseen lines (merge world (state things None [] 2))
     ∙ ap (λ (ts : List Thing). seen (merge world (state ts None [] 2))) (sym (web_stays web))
     ∙ ap seen (merge-run alone.steps world (state (map thing_behind things) None [] 2) (map event_behind alone.events)
     (run_behind alone.steps world things 1 alone.events (omega arith) (web_none web) alone.comes))
     ∙ seen_events alone.events
-    ∙ ap (λ (es : List Event). seen_behind (seen es)) (sym (merge-run alone.steps world (started web None) alone.events alone.comes))
+    ∙ ap (λ (es : List Event). seen_behind (seen es))
+        (sym (merge-run alone.steps world (started web None) alone.events alone.comes))

@@ -21,17 +21,20 @@ no_texts = record { texts = λ _. None; inputs = None }
 web_without_includes : list_any is_include (lines (codes "one \n\n@ two")) ≡ false
 web_without_includes = refl
 
-its_own_lines : seen_by (run 10 no_texts (started (codes "one \n\n@ two") None)) ≡ Some (only_lines (placed 0 1 (codes "one" ∷ [] ∷ codes "@ two" ∷ [])))
+its_own_lines : seen_by (run 10 no_texts (started (codes "one \n\n@ two") None))
+    ≡ Some (only_lines (placed 0 1 (codes "one" ∷ [] ∷ codes "@ two" ∷ [])))
 its_own_lines = refl
 
 change_file_without_entries : list_any is_code (lines (codes "a comment\n@ alone\n")) ≡ false
 change_file_without_entries = refl
 
 abbrev a_file_included : World
-a_file_included = record { texts = λ asked. cond (bytes_eq asked (codes "b")) (Some (codes "B\n@i\n")) None; inputs = None }
+a_file_included = record { texts = λ asked. cond (bytes_eq asked (codes "b")) (Some (codes "B\n@i\n")) None; inputs =
+    None }
 
 -- the included file is file 2 in place of 1, with its fault too
-it_changes_nothing : seen_by (run 20 a_file_included (started (codes "A\n@i b\n") (Some (codes "a comment\n@ alone\n"))))
+it_changes_nothing : seen_by (run 20 a_file_included
+    (started (codes "A\n@i b\n") (Some (codes "a comment\n@ alone\n"))))
     ≡ option_map seen_behind (seen_by (run 20 a_file_included (started (codes "A\n@i b\n") None)))
 unfolding is_utf8 chars encode
 it_changes_nothing = refl
@@ -52,7 +55,8 @@ it_prints : option_map (λ s. text_of s.lines) changed_web ≡ Some (codes "B\nC
 unfolding is_utf8 chars encode
 it_prints = refl
 
-it_prints_again : option_map (λ s. text_of s.lines) (seen_by (run 30 no_texts (started (codes "B\nC\n") None))) ≡ Some (codes "B\nC\n")
+it_prints_again : option_map (λ s. text_of s.lines) (seen_by (run 30 no_texts (started (codes "B\nC\n") None)))
+    ≡ Some (codes "B\nC\n")
 it_prints_again = refl
 
 include_line : Includes a_file_included (codes "@i b") (codes "b") (codes "B\n@i\n")
@@ -84,7 +88,8 @@ two_changes =
       new = codes "b" ∷ codes "bb" ∷ [];
       end = codes "@z";
     }
-    ∷ record { stays = []; first = codes "C"; further = []; comment = []; begin = codes "@X"; middle = codes "@Y"; new = []; end = codes "@Z" }
+    ∷ record { stays = []; first = codes "C"; further = []; comment = []; begin = codes "@X"; middle =
+        codes "@Y"; new = []; end = codes "@Z" }
     ∷ []
 
 they_are_plain : AllByRecursion IsPlainSplice two_changes
@@ -121,12 +126,16 @@ they_are_plain = (
 web_of_two_changes : lines (codes "A\nB\n@i gone\nC\nD\n") ≡ web_lines two_changes (codes "D" ∷ [])
 web_of_two_changes = refl
 
-file_of_two_changes : lines (codes "why\n@x that\nB\n@i gone\n@y\nb\nbb\n@z\n@X\nC\n@Y\n@Z\nend") ≡ change_lines two_changes (codes "end" ∷ [])
+file_of_two_changes : lines (codes "why\n@x that\nB\n@i gone\n@y\nb\nbb\n@z\n@X\nC\n@Y\n@Z\nend")
+    ≡ change_lines two_changes (codes "end" ∷ [])
 file_of_two_changes = refl
 
-they_splice : seen_by (run 30 no_texts (started (codes "A\nB\n@i gone\nC\nD\n") (Some (codes "why\n@x that\nB\n@i gone\n@y\nb\nbb\n@z\n@X\nC\n@Y\n@Z\nend"))))
+they_splice : seen_by (run 30 no_texts
+    (started (codes "A\nB\n@i gone\nC\nD\n")
+    (Some (codes "why\n@x that\nB\n@i gone\n@y\nb\nbb\n@z\n@X\nC\n@Y\n@Z\nend"))))
     ≡ Some (only_lines (spliced 1 1 two_changes (codes "D" ∷ [])))
 they_splice = refl
 
-they_show : spliced 1 1 two_changes (codes "D" ∷ []) ≡ placed 0 1 (codes "A" ∷ []) ++ placed 1 6 (codes "b" ∷ codes "bb" ∷ []) ++ placed 0 5 (codes "D" ∷ [])
+they_show : spliced 1 1 two_changes (codes "D" ∷ []) ≡ placed 0 1 (codes "A" ∷ []) ++ placed 1 6
+    (codes "b" ∷ codes "bb" ∷ []) ++ placed 0 5 (codes "D" ∷ [])
 they_show = refl

@@ -1,35 +1,39 @@
 -- Changes that match, in order, splice.
-use Rattle.std.proofs.Common.{◌≡◌, ◌+◌, ℕ, suc, Bool, true, false, List, [], ◌∷◌, ◌++◌, map, None, Some, refl, sym, ◌∙◌, ap, append-nil, subst, arith, length}
+use Rattle.std.proofs.Common.{◌≡◌, ◌+◌, ℕ, suc, true, false, List, [], ◌∷◌, ◌++◌, map, None, Some, refl, sym, ◌∙◌, ap, append-nil, subst, arith, length}
 use Rattle.std.specs.List.{AllByRecursion, list_any}
 use Rattle.std.specs.Str.{bytes_eq}
 use Rattle.cweb_lines.specs.Lines.{Line, SourceLine, TextLine, lines_in, numbered, text_lines, trimmed}
 use Rattle.cweb_lines.specs.Include.{World, is_include}
 use Rattle.cweb_lines.specs.Change.{Sought, code_of, outside, passing, sought}
-use Rattle.cweb_lines.specs.Laws.{ChangesSplice, IsPlainSplice, Seen, Splice, change_lines, followed_by, is_code, only_lines, placed, seen, spliced, web_lines}
+use Rattle.cweb_lines.specs.Laws.{ChangesSplice, IsPlainSplice, Splice, change_lines, followed_by, is_code, only_lines, placed, placed_line, seen, spliced, web_lines}
 use Rattle.cweb_lines.specs.Merge.{Event, Thing, fault, raws, seek, took}
 use Rattle.cweb_lines.specs.Total.{merge, merge_end, merge_next}
-use Rattle.cweb_lines.proofs.EmptyChanges.{no_code, took_unseen}
 use Rattle.cweb_lines.proofs.Merges.{state}
 use Rattle.cweb_lines.proofs.Splices.{bytes_in, gives_out, lines_of, splices_one}
-use Rattle.cweb_lines.proofs.WebLaws.{or-false}
+use Rattle.cweb_lines.proofs.Seens.{no_code, or-false, took_unseen}
 
 -- these lines lie in a file from this number on
 abbrev Lie : ℕ → ℕ → List (List ℕ) → List SourceLine → Type 0
 Lie file number texts lines = lines_of lines ≡ placed file number texts
 
-lie_in : (file number : ℕ) (texts : List TextLine) → Lie file number (map (λ line. trimmed line.bytes) texts) (numbered file number texts)
+lie_in : (file number : ℕ) (texts : List TextLine) → Lie file number (map (λ line. trimmed line.bytes) texts)
+    (numbered file number texts)
 lie_in file number [] = refl
 lie_in file number (text ∷ texts) =
-    ap (λ (ls : List Line). record { bytes = trimmed text.bytes; place = record { file = record { 0 = file }; line = number } } ∷ ls) (lie_in file (number + 1) texts)
+    ap (λ (ls : List Line). record { bytes = trimmed text.bytes; place =
+        record { file = record { 0 = file }; line = number } } ∷ ls) (lie_in file (number + 1) texts)
 
-bytes_of : (file number : ℕ) (texts : List (List ℕ)) (lines : List SourceLine) → Lie file number texts lines → bytes_in lines ≡ texts
+bytes_of : (file number : ℕ) (texts : List (List ℕ)) (lines : List SourceLine) → Lie file number texts lines
+    → bytes_in lines ≡ texts
 bytes_of file number [] [] lie = refl
 bytes_of file number [] (line ∷ lines) lie = absurd (cc)
 bytes_of file number (text ∷ texts) [] lie = absurd (cc)
 bytes_of file number (text ∷ texts) (line ∷ lines) lie =
-    let first : line.line ≡ record { bytes = text; place = record { file = record { 0 = file }; line = number } } = cc in
+    let first : line.line ≡ placed_line file number text =
+        cc in
     let later : Lie file (number + 1) texts lines = cc in
-    ap (λ (bytes : List ℕ). bytes ∷ bytes_in lines) (ap (λ (l : Line). l.bytes) first) ∙ ap (λ (ls : List (List ℕ)). text ∷ ls) (bytes_of file (number + 1) texts lines later)
+    ap (λ (bytes : List ℕ). bytes ∷ bytes_in lines) (ap (λ (l : Line). l.bytes) first)
+        ∙ ap (λ (ls : List (List ℕ)). text ∷ ls) (bytes_of file (number + 1) texts lines later)
 
 -- lines in two
 record Parts (file number : ℕ) (first later : List (List ℕ)) (lines : List SourceLine) : Type 0 where
@@ -39,7 +43,8 @@ record Parts (file number : ℕ) (first later : List (List ℕ)) (lines : List S
   front_lies : Lie file number first front
   rest_lies : Lie file (number + length first) later rest
 
-parts : (file number : ℕ) (first later : List (List ℕ)) (lines : List SourceLine) → Lie file number (first ++ later) lines → Parts file number first later lines
+parts : (file number : ℕ) (first later : List (List ℕ)) (lines : List SourceLine)
+    → Lie file number (first ++ later) lines → Parts file number first later lines
 parts file number [] later lines lie = record {
   front = [];
   rest = lines;
@@ -49,7 +54,7 @@ parts file number [] later lines lie = record {
 }
 parts file number (text ∷ first) later [] lie = absurd (cc)
 parts file number (text ∷ first) later (line ∷ lines) lie =
-    let head : line.line ≡ record { bytes = text; place = record { file = record { 0 = file }; line = number } } = cc in
+    let head : line.line ≡ placed_line file number text = cc in
     let tail : Lie file (number + 1) (first ++ later) lines = cc in
     let p = parts file (number + 1) first later lines tail in
     record {
@@ -57,7 +62,8 @@ parts file number (text ∷ first) later (line ∷ lines) lie =
       rest = p.rest;
       whole = ap (λ (ls : List SourceLine). line ∷ ls) p.whole;
       front_lies = λ i. head i ∷ p.front_lies i;
-      rest_lies = subst (λ n. Lie file n later p.rest) (let same : number + 1 + length first ≡ number + suc (length first) = omega arith in same) p.rest_lies;
+      rest_lies = subst (λ n. Lie file n later p.rest)
+          (let same : number + 1 + length first ≡ number + suc (length first) = omega arith in same) p.rest_lies;
     }
 
 record First (file number : ℕ) (text : List ℕ) (later : List (List ℕ)) (lines : List SourceLine) : Type 0 where
@@ -67,10 +73,11 @@ record First (file number : ℕ) (text : List ℕ) (later : List (List ℕ)) (li
   bytes : line.line.bytes ≡ text
   rest_lies : Lie file (number + 1) later rest
 
-first_of : (file number : ℕ) (text : List ℕ) (later : List (List ℕ)) (lines : List SourceLine) → Lie file number (text ∷ later) lines → First file number text later lines
+first_of : (file number : ℕ) (text : List ℕ) (later : List (List ℕ)) (lines : List SourceLine)
+    → Lie file number (text ∷ later) lines → First file number text later lines
 first_of file number text later [] lie = absurd (cc)
 first_of file number text later (line ∷ lines) lie =
-    let head : line.line ≡ record { bytes = text; place = record { file = record { 0 = file }; line = number } } = cc in
+    let head : line.line ≡ placed_line file number text = cc in
     record { line = line; rest = lines; whole = refl; bytes = ap (λ (l : Line). l.bytes) head; rest_lies = cc }
 
 -- the first line of the web that a change replaces, the further ones, and what stands behind them
@@ -85,7 +92,8 @@ record WebParts (number : ℕ) (s : Splice) (later : List (List ℕ)) (lines : L
   further : bytes_in old ≡ s.further
   behind_lies : Lie 0 (number + length s.stays + length s.further + 1) later behind
 
-web_parts : (number : ℕ) (s : Splice) (later : List (List ℕ)) (lines : List SourceLine) → Lie 0 number (s.stays ++ (s.first ∷ (s.further ++ later))) lines → WebParts number s later lines
+web_parts : (number : ℕ) (s : Splice) (later : List (List ℕ)) (lines : List SourceLine)
+    → Lie 0 number (s.stays ++ (s.first ∷ (s.further ++ later))) lines → WebParts number s later lines
 web_parts number s later lines lie =
     let a = parts 0 number s.stays (s.first ∷ (s.further ++ later)) lines lie in
     let b = first_of 0 (number + length s.stays) s.first (s.further ++ later) a.rest a.rest_lies in
@@ -95,12 +103,15 @@ web_parts number s later lines lie =
       line = b.line;
       old = c.front;
       behind = c.rest;
-      whole = a.whole ∙ ap (λ (ls : List SourceLine). a.front ++ ls) (b.whole ∙ ap (λ (ls : List SourceLine). b.line ∷ ls) c.whole);
+      whole = a.whole ∙ ap (λ (ls : List SourceLine). a.front ++ ls)
+          (b.whole ∙ ap (λ (ls : List SourceLine). b.line ∷ ls) c.whole);
       stays_lie = a.front_lies;
       first = b.bytes;
       further = bytes_of 0 (number + length s.stays + 1) s.further c.front c.front_lies;
       behind_lies =
-        subst (λ n. Lie 0 n later c.rest) (let same : number + length s.stays + 1 + length s.further ≡ number + length s.stays + length s.further + 1 = omega arith in same) c.rest_lies;
+        subst (λ n. Lie 0 n later c.rest)
+            (let same : number + length s.stays + 1 + length s.further
+            ≡ number + length s.stays + length s.further + 1 = omega arith in same) c.rest_lies;
     }
 
 -- the lines of a change file up to the @z of its first entry, and what stands behind it
@@ -124,19 +135,23 @@ record ChangeParts (number : ℕ) (s : Splice) (later : List (List ℕ)) (lines 
   rest_lies : Lie 1 (number + length s.comment + length s.further + 3 + length s.new + 1) later rest
 
 change_parts : (number : ℕ) (s : Splice) (later : List (List ℕ)) (lines : List SourceLine)
-    → Lie 1 number (s.comment ++ (s.begin ∷ s.first ∷ (s.further ++ (s.middle ∷ (s.new ++ (s.end ∷ later)))))) lines → ChangeParts number s later lines
+    → Lie 1 number (s.comment ++ (s.begin ∷ s.first ∷ (s.further ++ (s.middle ∷ (s.new ++ (s.end ∷ later)))))) lines
+        → ChangeParts number s later lines
 change_parts number s later lines lie =
     let at_x = number + length s.comment in
     let at_y = at_x + 1 + 1 + length s.further in
-    let a = parts 1 number s.comment (s.begin ∷ s.first ∷ (s.further ++ (s.middle ∷ (s.new ++ (s.end ∷ later))))) lines lie in
-    let b = first_of 1 at_x s.begin (s.first ∷ (s.further ++ (s.middle ∷ (s.new ++ (s.end ∷ later))))) a.rest a.rest_lies in
+    let a = parts 1 number s.comment
+        (s.begin ∷ s.first ∷ (s.further ++ (s.middle ∷ (s.new ++ (s.end ∷ later))))) lines lie in
+    let b = first_of 1 at_x s.begin
+        (s.first ∷ (s.further ++ (s.middle ∷ (s.new ++ (s.end ∷ later))))) a.rest a.rest_lies in
     let c = first_of 1 (at_x + 1) s.first (s.further ++ (s.middle ∷ (s.new ++ (s.end ∷ later)))) b.rest b.rest_lies in
     let d = parts 1 (at_x + 1 + 1) s.further (s.middle ∷ (s.new ++ (s.end ∷ later))) c.rest c.rest_lies in
     let e = first_of 1 at_y s.middle (s.new ++ (s.end ∷ later)) d.rest d.rest_lies in
     let f = parts 1 (at_y + 1) s.new (s.end ∷ later) e.rest e.rest_lies in
     let g = first_of 1 (at_y + 1 + length s.new) s.end later f.rest f.rest_lies in
     let new_number : at_y + 1 ≡ number + length s.comment + length s.further + 3 = omega arith in
-    let rest_number : at_y + 1 + length s.new + 1 ≡ number + length s.comment + length s.further + 3 + length s.new + 1 = omega arith in
+    let rest_number : at_y + 1 + length s.new + 1
+        ≡ number + length s.comment + length s.further + 3 + length s.new + 1 = omega arith in
     record {
       comment = a.front;
       x = b.line;
@@ -146,9 +161,11 @@ change_parts number s later lines lie =
       new = f.front;
       z = g.line;
       rest = g.rest;
-      whole = a.whole ∙ ap (λ (ls : List SourceLine). a.front ++ ls) (b.whole ∙ ap (λ (ls : List SourceLine). b.line ∷ ls) (c.whole
+      whole = a.whole ∙ ap (λ (ls : List SourceLine). a.front ++ ls)
+          (b.whole ∙ ap (λ (ls : List SourceLine). b.line ∷ ls) (c.whole
           ∙ ap (λ (ls : List SourceLine). c.line ∷ ls) (d.whole ∙ ap (λ (ls : List SourceLine). d.front ++ ls) (e.whole
-          ∙ ap (λ (ls : List SourceLine). e.line ∷ ls) (f.whole ∙ ap (λ (ls : List SourceLine). f.front ++ ls) g.whole)))));
+          ∙ ap (λ (ls : List SourceLine). e.line ∷ ls)
+              (f.whole ∙ ap (λ (ls : List SourceLine). f.front ++ ls) g.whole)))));
       comment_is = bytes_of 1 number s.comment a.front a.front_lies;
       begin_is = b.bytes;
       first_is = c.bytes;
@@ -160,29 +177,38 @@ change_parts number s later lines lie =
     }
 
 -- a comment at the end of a change file holds no entry
-finds_none : (lines : List SourceLine) → list_any is_code (bytes_in lines) ≡ false → sought lines None ≡ record { faults = []; taken = lines; entry = None; rest = [] }
+finds_none : (lines : List SourceLine) → list_any is_code (bytes_in lines) ≡ false
+    → sought lines None ≡ record { faults = []; taken = lines; entry = None; rest = [] }
 finds_none [] none = refl
 finds_none (line ∷ lines) none =
     let both = or-false (is_code line.line.bytes) (list_any is_code (bytes_in lines)) none in
-    ap (λ code. passing line (outside code line.line.place (λ begin. sought lines begin))) (no_code (code_of line.line.bytes) both.0) ∙ ap (passing line) (finds_none lines both.1)
+    ap (λ code. passing line (outside code line.line.place (λ begin. sought lines begin)))
+        (no_code (code_of line.line.bytes) both.0) ∙ ap (passing line) (finds_none lines both.1)
 
-splices_none : (world : World) (web change : ℕ) (behind comment : List (List ℕ)) (lines changes : List SourceLine) → list_any is_include behind ≡ false → list_any is_code comment ≡ false
-    → Lie 0 web behind lines → Lie 1 change comment changes → seen (merge world (state (seek ∷ raws 1 true lines) None changes 2)) ≡ only_lines (placed 0 web behind)
+splices_none : (world : World) (web change : ℕ) (behind comment : List (List ℕ)) (lines changes : List SourceLine)
+    → list_any is_include behind ≡ false → list_any is_code comment ≡ false
+    → Lie 0 web behind lines → Lie 1 change comment changes → seen
+        (merge world (state (seek ∷ raws 1 true lines) None changes 2)) ≡ only_lines (placed 0 web behind)
 splices_none world web change behind comment lines changes plain_behind no_codes lie lie' =
     let plain_lines = ap (list_any is_include) (bytes_of 0 web behind lines lie) ∙ plain_behind in
     let none = ap (list_any is_code) (bytes_of 1 change comment changes lie') ∙ no_codes in
     let things = raws 1 true lines in
     ap seen (merge_next world (state (seek ∷ things) None changes 2) (map took changes ++ [], state things None [] 2)
-    (ap (λ (found : Sought). Some (map took found.taken ++ map fault found.faults, state things found.entry found.rest 2)) (finds_none changes none)))
+    (ap (λ (found : Sought). Some (map took found.taken
+        ++ map fault found.faults, state things found.entry found.rest 2)) (finds_none changes none)))
     ∙ took_unseen changes (merge world (state things None [] 2))
     ∙ ap (λ (ts : List Thing). seen (merge world (state ts None [] 2))) (sym (append-nil things))
     ∙ gives_out world 1 true lines [] [] 2 plain_lines
-    ∙ ap (λ (es : List Event). followed_by (only_lines (lines_of lines)) (seen es)) (merge_end world (state [] None [] 2) refl)
+    ∙ ap (λ (es : List Event). followed_by (only_lines (lines_of lines)) (seen es))
+        (merge_end world (state [] None [] 2) refl)
     ∙ ap only_lines (append-nil (lines_of lines) ∙ lie)
 
-splices_all : (world : World) (splices : List Splice) (web change : ℕ) (behind comment : List (List ℕ)) (lines changes : List SourceLine) → AllByRecursion IsPlainSplice splices
-    → list_any is_include behind ≡ false → list_any is_code comment ≡ false → Lie 0 web (web_lines splices behind) lines → Lie 1 change (change_lines splices comment) changes
-    → seen (merge world (state (seek ∷ raws 1 true lines) None changes 2)) ≡ only_lines (spliced web change splices behind)
+splices_all : (world : World) (splices : List Splice) (web change : ℕ) (behind comment : List (List ℕ))
+    (lines changes : List SourceLine) → AllByRecursion IsPlainSplice splices
+    → list_any is_include behind ≡ false → list_any is_code comment ≡ false
+        → Lie 0 web (web_lines splices behind) lines → Lie 1 change (change_lines splices comment) changes
+    → seen (merge world (state (seek ∷ raws 1 true lines) None changes 2))
+        ≡ only_lines (spliced web change splices behind)
 splices_all world [] web change behind comment lines changes all plain_behind no_codes lie lie' =
     splices_none world web change behind comment lines changes plain_behind no_codes lie lie'
 splices_all world (s ∷ splices) web change behind comment lines changes all plain_behind no_codes lie lie' =
@@ -192,7 +218,8 @@ splices_all world (s ∷ splices) web change behind comment lines changes all pl
     let stays_is = bytes_of 0 web s.stays w.stays w.stays_lie in
     let first_new = change + length s.comment + length s.further + 3 in
     let new_is = bytes_of 1 first_new s.new c.new c.new_lies in
-    let later = splices_all world splices (web + length s.stays + length s.further + 1) (first_new + length s.new + 1) behind comment w.behind c.rest all.1 plain_behind no_codes w.behind_lies c.rest_lies in
+    let later = splices_all world splices (web + length s.stays + length s.further + 1)
+        (first_new + length s.new + 1) behind comment w.behind c.rest all.1 plain_behind no_codes w.behind_lies c.rest_lies in
     (λ i. seen (merge world (state (seek ∷ raws 1 true (w.whole i)) None (c.whole i) 2)))
     ∙ splices_one world 2 c.comment c.x c.first c.further c.y c.new c.z c.rest w.stays w.line w.old w.behind
     (ap (list_any is_code) c.comment_is ∙ all.0.comment)

@@ -3,7 +3,6 @@ use Rattle.std.specs.Prelude.{◌≡◌, ◌≢◌, ◌<◌, ℕ, zero, suc, ◌
 use Rattle.std.specs.List.{AllByRecursion, list_any}
 use Rattle.std.specs.Option.{is_some}
 use Rattle.std.specs.Str.{bytes_eq}
-use Rattle.cweb_files.specs.declared.place.FileId.{FileId}
 use Rattle.cweb_files.specs.declared.place.Place.{Place}
 use Rattle.cweb_lines.specs.Lines.{Line, SourceLine, lines, lines_in}
 use Rattle.cweb_lines.specs.Include.{World, found_at, include_name, is_include}
@@ -16,39 +15,48 @@ use Rattle.cweb_lines.specs.declared.code.Code.TheVariants.{EndSide as end_side,
 use Rattle.cweb_lines.specs.declared.fault.SourceFault.{SourceFault}
 use Rattle.cweb_lines.specs.declared.limits.TheConstants.{OPEN_FILES}
 
--- what an author sees of a merge: the lines with their places, the faults, and the names of the files that were included
+-- what an author sees of a merge: the lines with their places, the faults, and the names of included files
 pub record Seen : Type 0 where
   pub lines : List Line
   pub faults : List SourceFault
   pub included : List (List ℕ)
 
 abbrev pub seen : List Event → Seen
-seen events = record { lines = given_lines events; faults = told_faults events; included = openings events }
+seen events = record {
+  lines = given_lines events;
+  faults = told_faults events;
+  included = openings events;
+}
 
 -- what comes of a web, and of a change file where one is given
 abbrev pub seen_of : World → List ℕ → Option (List ℕ) → Seen
 seen_of world web change = seen (merge world (started web change))
 
+abbrev pub placed_line : ℕ → ℕ → List ℕ → Line
+placed_line file number bytes = record { bytes = bytes; place = record { file = record { 0 = file }; line = number } }
+
 -- the lines of a file, of which the first has this number, with their places
 abbrev pub placed : ℕ → ℕ → List (List ℕ) → List Line
 placed file number [] = []
-placed file number (bytes ∷ rest) =
-    record { bytes = bytes; place = record { file = record { 0 = file }; line = number } } ∷ placed file (number + 1) rest
+placed file number (bytes ∷ rest) = placed_line file number bytes ∷ placed file (number + 1) rest
 
 -- lines and nothing else
 abbrev pub only_lines : List Line → Seen
 only_lines lines = record { lines = lines; faults = []; included = [] }
 
--- a web without include lines and without a change file is its own lines, in order, with their numbers, without a fault
+-- A web without include lines, and without a change file, is its own lines, in order, with their numbers, without a
+-- fault.
 abbrev pub WebsWithoutIncludesAreTheirOwnLines : Type 0
-WebsWithoutIncludesAreTheirOwnLines = (world : World) (web : List ℕ) → list_any is_include (lines web) ≡ false
+WebsWithoutIncludesAreTheirOwnLines = (world : World) (web : List ℕ)
+    → list_any is_include (lines web) ≡ false
     → seen_of world web None ≡ only_lines (placed 0 1 (lines web))
 
 -- a line that begins @x, @y or @z
 abbrev pub is_code : List ℕ → Bool
 is_code line = is_some (code_of line)
 
--- files are numbered as they are opened, from the web's 0 on: with a change file, which is then file 1, each included file has the next number
+-- Files are numbered as they are opened, from the web's 0 on. With a change file, which is then file 1, each included
+-- file has the next number.
 abbrev pub file_behind : ℕ → ℕ
 file_behind zero = zero
 file_behind (suc file) = suc (suc file)
@@ -60,17 +68,27 @@ abbrev pub line_behind : Line → Line
 line_behind line = record { bytes = line.bytes; place = place_behind line.place }
 
 abbrev pub fault_behind : SourceFault → SourceFault
-fault_behind fault = record { kind = fault.kind; place = place_behind fault.place; count = fault.count }
+fault_behind fault = record {
+  kind = fault.kind;
+  place = place_behind fault.place;
+  count = fault.count;
+}
 
 abbrev pub seen_behind : Seen → Seen
-seen_behind all = record { lines = map line_behind all.lines; faults = map fault_behind all.faults; included = all.included }
+seen_behind all = record {
+  lines = map line_behind all.lines;
+  faults = map fault_behind all.faults;
+  included = all.included;
+}
 
--- a change file of no entries is no change file: what comes of the web is the same, but for the numbers of the files
+-- A change file of no entries is no change file: what comes of the web is the same, but for the numbers of the files.
 abbrev pub ChangeFilesWithoutEntriesChangeNothing : Type 0
-ChangeFilesWithoutEntriesChangeNothing = (world : World) (web change : List ℕ) → list_any is_code (lines change) ≡ false
+ChangeFilesWithoutEntriesChangeNothing = (world : World) (web change : List ℕ)
+    → list_any is_code (lines change) ≡ false
     → seen_of world web (Some change) ≡ seen_behind (seen_of world web None)
 
--- a text that was printed comes of itself: its lines are what was printed, none of them begins an include, and they are printed again
+-- A text that was printed comes of itself: its lines are what was printed, none of them begins an include, and they are
+-- printed again.
 pub record ComesAgain (printed : List Line) (again : Seen) : Type 0 where
   pub same_lines : lines (text_of printed) ≡ map (λ line. line.bytes) printed
   pub without_includes : list_any is_include (lines (text_of printed)) ≡ false
@@ -78,10 +96,11 @@ pub record ComesAgain (printed : List Line) (again : Seen) : Type 0 where
   pub faultless : again.faults ≡ []
   pub alone : again.included ≡ []
 
--- what is printed of a merge, merged again without a change file, is itself, whatever texts lie beside it then
+-- What is printed of a merge, merged again without a change file, is itself, whatever texts lie beside it then.
 abbrev pub PrintedMergesComeAgain : Type 0
 PrintedMergesComeAgain = (world other : World) (web : List ℕ) (change : Option (List ℕ)) →
-    let printed = (seen_of world web change).lines in ComesAgain printed (seen_of other (text_of printed) None)
+    let printed = (seen_of world web change).lines in
+    ComesAgain printed (seen_of other (text_of printed) None)
 
 -- what comes of lines that lie at a depth, where no change is pending and so many files have been opened before
 abbrev pub seen_in : World → ℕ → ℕ → List SourceLine → Seen
@@ -95,28 +114,37 @@ followed_by first later = record {
   included = first.included ++ later.included;
 }
 
+abbrev pub only_name : List ℕ → Seen
+only_name name = record { lines = []; faults = []; included = name ∷ [] }
+
 -- a line that includes a text, which is found under a name
 pub record Includes (world : World) (bytes name text : List ℕ) : Type 0 where
   pub include : is_include bytes ≡ true
   pub named : include_name bytes ≢ []
   pub found : found_at world (include_name bytes) ≡ Some (name, text)
 
--- what stands before an include line, then the name under which its text was found and the merged lines of that text, then what stands behind it
+-- What stands before an include line, then the name under which its text was found and the merged lines of that text,
+-- then what stands behind it.
 abbrev pub with_included : World → ℕ → ℕ → List SourceLine → List ℕ → List ℕ → List SourceLine → Seen
 with_included world depth files before name text behind =
     let first = seen_in world depth files before in
     let file = files + length first.included in
     let inside = seen_in world (depth + 1) (file + 1) (lines_in file text) in
     let last = seen_in world depth (file + 1 + length inside.included) behind in
-    followed_by first (followed_by (record { lines = []; faults = []; included = name ∷ [] }) (followed_by inside last))
+    followed_by first (followed_by (only_name name) (followed_by inside last))
 
--- Where no change file is given, an include line is replaced by the merged lines of its text, one deeper, and what stands before and behind it comes as if alone. A web's own lines lie at depth 1, behind one file.
-abbrev pub IncludeLinesAreReplaced : Type 0
-IncludeLinesAreReplaced = (world : World) (depth files : ℕ) (before behind : List SourceLine) (line : SourceLine) (name text : List ℕ)
+-- Where no change file is given, an include line is replaced by the merged lines of its text, one deeper, and what
+-- stands before and behind it comes as if alone.
+pub record IncludeLinesAreReplaced : Type 0 where
+  -- a web's own lines lie at depth 1, behind one file
+  pub whole : (world : World) (web : List ℕ) → seen_of world web None ≡ seen_in world 1 1 (lines_in 0 web)
+  pub replaced : (world : World) (depth files : ℕ) (before behind : List SourceLine)
+    (line : SourceLine) (name text : List ℕ)
     → Includes world line.line.bytes name text → depth < OPEN_FILES
     → seen_in world depth files (before ++ line ∷ behind) ≡ with_included world depth files before name text behind
 
--- One change as its author makes it. In the web: lines that stay, then the first line that is replaced, and further ones. In the change file: a comment, an @x line, the old lines, an @y line, the new lines, an @z line.
+-- One change as its author makes it. In the web: lines that stay, then the first line that is replaced, and further
+-- ones. In the change file: a comment, an @x line, the old lines, an @y line, the new lines, an @z line.
 pub record Splice : Type 0 where
   pub stays : List (List ℕ)
   pub first : List ℕ
@@ -127,7 +155,8 @@ pub record Splice : Type 0 where
   pub new : List (List ℕ)
   pub end : List ℕ
 
--- The lines between the codes are no codes, the first old line isn't empty, no line that stays equals it, and no line that stays or comes new begins an include.
+-- The lines between the codes are no codes, the first old line isn't empty, no line that stays equals it, and no line
+-- that stays or comes new begins an include.
 pub record IsPlainSplice (splice : Splice) : Type 0 where
   pub begins : code_of splice.begin ≡ Some old_side
   pub turns : code_of splice.middle ≡ Some new_side
@@ -140,28 +169,33 @@ pub record IsPlainSplice (splice : Splice) : Type 0 where
   pub stays_plain : list_any is_include splice.stays ≡ false
   pub new_plain : list_any is_include splice.new ≡ false
 
--- the lines of a web and those of a change file by the changes, with what stands behind the last of them
+-- the lines of a web by its changes, and behind the last of them these
 abbrev pub web_lines : List Splice → List (List ℕ) → List (List ℕ)
 web_lines [] behind = behind
 web_lines (s ∷ splices) behind = s.stays ++ (s.first ∷ (s.further ++ web_lines splices behind))
 
+-- the lines of a change file by its entries, and behind the last of them a comment
 abbrev pub change_lines : List Splice → List (List ℕ) → List (List ℕ)
 change_lines [] comment = comment
 change_lines (s ∷ splices) comment =
-    s.comment ++ (s.begin ∷ s.first ∷ (s.further ++ (s.middle ∷ (s.new ++ (s.end ∷ change_lines splices comment)))))
+    s.comment ++ (s.begin ∷ s.first
+    ∷ (s.further ++ (s.middle ∷ (s.new ++ (s.end ∷ change_lines splices comment)))))
 
--- the lines that stay and the new lines by turns, each with its place: the next line of the web and that of the change file have these numbers
+-- The lines that stay and the new lines by turns, each with its place. These are the numbers of the next line of the web
+-- and of the next line of the change file.
 abbrev pub spliced : ℕ → ℕ → List Splice → List (List ℕ) → List Line
 spliced web change [] behind = placed 0 web behind
 spliced web change (s ∷ splices) behind =
     let first_new = change + length s.comment + length s.further + 3 in
+    let next_web = web + length s.stays + length s.further + 1 in
     placed 0 web s.stays
-    ++ (placed 1 first_new s.new
-    ++ spliced (web + length s.stays + length s.further + 1) (first_new + length s.new + 1) splices behind)
+    ++ (placed 1 first_new s.new ++ spliced next_web (first_new + length s.new + 1) splices behind)
 
--- a change file whose entries match, in order, splices: the lines before, the new lines, the lines behind, without a fault
+-- A change file whose entries match, in order, splices: the lines before, the new lines, the lines behind, without a
+-- fault.
 abbrev pub ChangesSplice : Type 0
 ChangesSplice = (world : World) (web change : List ℕ) (splices : List Splice) (behind comment : List (List ℕ))
-    → AllByRecursion IsPlainSplice splices → list_any is_include behind ≡ false → list_any is_code comment ≡ false
+    → AllByRecursion IsPlainSplice splices
+    → list_any is_include behind ≡ false → list_any is_code comment ≡ false
     → lines web ≡ web_lines splices behind → lines change ≡ change_lines splices comment
     → seen_of world web (Some change) ≡ only_lines (spliced 1 1 splices behind)

@@ -1,0 +1,38 @@
+-- What is seen of events, one after another.
+use Rattle.std.proofs.Common.{◌≡◌, Bool, true, false, ◌||◌, ℕ, List, [], ◌∷◌, ◌++◌, map, None, Some, Option, refl, ap}
+use Rattle.std.specs.Option.{is_some}
+use Rattle.cweb_lines.specs.Lines.{Line, SourceLine}
+use Rattle.cweb_lines.specs.Laws.{Seen, followed_by, seen}
+use Rattle.cweb_lines.specs.Merge.{Event, fault, given, opening, took}
+use Rattle.cweb_lines.specs.declared.code.Code.{Code}
+use Rattle.cweb_lines.specs.declared.fault.SourceFault.{SourceFault}
+
+pub or-false : (a b : Bool) → (a || b) ≡ false → (a ≡ false) × (b ≡ false)
+or-false true b is = absurd (cc)
+or-false false b is = (refl, is)
+
+pub no_code : (code : Option Code) → is_some code ≡ false → code ≡ None
+no_code None is = refl
+no_code (Some code) is = absurd (cc)
+
+-- what was seen before all others
+abbrev pub line_first : Line → Seen → Seen
+line_first line s = record { lines = line ∷ s.lines; faults = s.faults; included = s.included }
+
+abbrev pub fault_first : SourceFault → Seen → Seen
+fault_first f s = record { lines = s.lines; faults = f ∷ s.faults; included = s.included }
+
+abbrev pub name_first : List ℕ → Seen → Seen
+name_first name s = record { lines = s.lines; faults = s.faults; included = name ∷ s.included }
+
+-- lines that were taken aren't seen
+pub took_unseen : (lines : List SourceLine) (events : List Event) → seen (map took lines ++ [] ++ events) ≡ seen events
+took_unseen [] events = refl
+took_unseen (line ∷ lines) events = took_unseen lines events
+
+pub seen-append : (a b : List Event) → seen (a ++ b) ≡ followed_by (seen a) (seen b)
+seen-append [] b = refl
+seen-append (took source ∷ a) b = seen-append a b
+seen-append (given line ∷ a) b = ap (line_first line) (seen-append a b)
+seen-append (fault f ∷ a) b = ap (fault_first f) (seen-append a b)
+seen-append (opening name ∷ a) b = ap (name_first name) (seen-append a b)
