@@ -1,9 +1,9 @@
 -- The first newline of a text.
-use Rattle.std.proofs.Common.{◌≡◌, ◌≢◌, ◌≤◌, ◌<◌, ◌+◌, ◌-◌, ℕ, suc, true, false, List, [], ◌∷◌, ◌++◌, Option, Some, None, sym, ◌∙◌, ap, take, drop, get_or, length, subst, arith, take-append-drop, append_assoc, length-append}
-use Rattle.std.proofs.lemmas.List.{drop_more, get_or-take, length-take, drop-take, drop-drop}
+use Rattle.std.proofs.Common.{◌≡◌, ◌≢◌, ◌≤◌, ◌<◌, ◌+◌, ◌-◌, ℕ, suc, true, false, List, [], ◌∷◌, ◌++◌, Option, Some, None, sym, ◌∙◌, ap, take, drop, get_or, length, zero, subst, arith, take-append-drop, append_assoc, length-append}
+use Rattle.std.proofs.lemmas.List.{drop_more, get_or-take, get_or-drop, length-take, length-drop, drop-take, drop-drop}
 use Rattle.std.proofs.lemmas.Bool.Decides.{nat_tests}
 use Rattle.memchr.specs.Find.{IsFirstByte, is_byte}
-use Rattle.cweb_lines.specs.Lines.{HasNoNewline, SplitsAt, IsNewlineAt, TextLine, text_lines, onto_first}
+use Rattle.cweb_lines.specs.Lines.{HasNewline, HasNoNewline, SplitsAt, IsNewlineAt, TextLine, byte_before, text_lines, onto_first}
 use Rattle.cweb_lines.specs.Source.{IsLongerThan, Takes, TakesOf}
 use Rattle.cweb_lines.specs.declared.source.Taken.TheVariants.{Full}
 
@@ -102,3 +102,24 @@ longer_first (b ∷ c ∷ front) rest none some =
       no_more b none.0 (c ∷ front ++ rest) [] ∙ ap (onto_first b) later.2,
       omega (arith, later.3),
     )
+
+-- what stands in a piece behind its start, where a newline comes later in it
+pub whole_line : (piece : List ℕ) (start end at : ℕ) → start < at → at ≤ end → end ≤ length piece → byte_before piece at ≡ 10 → HasNewline (take (end - start) (drop start piece))
+whole_line piece start end zero above whole within is = absurd (omega arith)
+whole_line piece start end (suc at) above whole within is = (
+  take (at - start) bytes,
+  drop (at - start + 1) bytes,
+  sym (take-append-drop (at - start) bytes) ∙ ap (λ (l : List ℕ). take (at - start) bytes ++ l) (drop_more bytes (at - start) 0 near ∙ ap (λ n. n ∷ drop (at - start + 1) bytes) ten),
+)
+  where
+    bytes : List ℕ
+    bytes = take (end - start) (drop start piece)
+
+    near : at - start < length bytes
+    near = omega (arith, length-take (end - start) (drop start piece), length-drop start piece)
+
+    place : start + (at - start) ≡ at
+    place = omega arith
+
+    ten : get_or bytes (at - start) 0 ≡ 10
+    ten = get_or-take (end - start) (drop start piece) (at - start) 0 (omega arith) ∙ get_or-drop start piece (at - start) 0 ∙ ap (λ n. get_or piece n 0) place ∙ is

@@ -1,5 +1,5 @@
 -- The lines of a text.
-use Rattle.std.specs.Prelude.{◌≡◌, ◌≢◌, ℕ, ◌+◌, ◌<◌, ◌≤◌, Bool, ◌||◌, ◌==◌, List, [], ◌∷◌, ◌++◌, length, map, take, drop, Option, None, Some, if◌then◌else◌}
+use Rattle.std.specs.Prelude.{◌≡◌, ◌≢◌, ℕ, zero, suc, ◌+◌, ◌<◌, ◌≤◌, Bool, ◌||◌, ◌==◌, List, [], ◌∷◌, ◌++◌, length, map, take, drop, slice_index, Option, None, Some, if◌then◌else◌}
 use Rattle.cweb_files.specs.declared.place.Place.{Place}
 use Rattle.cweb_lines.specs.declared.limits.TheConstants.{LINE_LENGTH}
 
@@ -78,3 +78,12 @@ pub record SplitsAt (text : List ℕ) (at : ℕ) : Type 0 where
 abbrev pub IsNewlineAt : List ℕ → Option ℕ → Type 0
 IsNewlineAt text None = HasNoNewline text
 IsNewlineAt text (Some at) = SplitsAt text at
+
+-- a whole line stands in a text
+abbrev pub HasNewline : List ℕ → Type 0
+HasNewline text = (line : List ℕ) × (rest : List ℕ) × (text ≡ line ++ 10 ∷ rest)
+
+-- the byte in front of a place, where the first stands as behind a newline
+abbrev pub byte_before : List ℕ → ℕ → ℕ
+byte_before text zero = 10
+byte_before text (suc at) = slice_index text at

@@ -10,6 +10,7 @@ mod limits;
 mod merger;
 mod names;
 mod obeying;
+mod pieces;
 mod progress;
 mod reading;
 mod replacing;

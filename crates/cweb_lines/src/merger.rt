@@ -152,7 +152,7 @@ impl<S: Shelf> Merger<S> {
             run: Run {
                 alloc,
                 inputs,
-                stack: Stack::new(web),
+                stack: Stack::new(alloc, web),
                 stage: first_stage(&change),
                 change,
                 first: Vec::new(alloc),

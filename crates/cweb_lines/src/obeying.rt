@@ -37,7 +37,8 @@ fn open<R: Drop>(run: &mut Run<R>, opening: Opening<R>, at: LineAt) -> Result<()
     ensures stopped { run.new.stopped ≡ run.old.stopped }
 {
     let Opening { name, reader } = opening;
-    let source = Source::new(run.alloc, reader)?;
+    let piece = run.stack.pieces.take(run.alloc)?;
+    let source = Source::with_piece(run.alloc, reader, piece)?;
     let file = FileId(run.names.count());
     if let Err(stop) = run.names.push(name) {
         return Err(stop);

@@ -6,21 +6,25 @@ ghost use Rattle.cweb_lines.specs.declared.limits.TheConstants.{OPEN_FILES};
 ghost use Rattle.cweb_lines.specs.Texts.{most, line_number, files_up_to, ReadBlames, Counted, NamesFiles, AreDeep, TakesTop, TakesAbove, StopsFor, StopsReading, StopsTop, StopsAbove, StaysBelow, DepthAfter, Pushes};
 
 use crate::limits::{Limits, OPEN_FILES};
+use crate::pieces::Pieces;
 use crate::stop::Stop;
 use crate::taking::take_from;
 use crate::text::{LineAt, OpenText};
 use cweb_files::Shelf;
+use std::alloc::Global;
 
 /// The web and the files that are open within it, each in a place of its own: the text at place `depth - 1` is being read.
 #[derive(Drop)]
 pub struct Stack<R: Drop> {
     pub texts: [Option<OpenText<R>>; OPEN_FILES],
     pub depth: usize,
+    /// Those of texts that ended.
+    pub pieces: Pieces,
 }
 
 impl<R: Drop> Stack<R> {
     #[rattlefmt::skip]
-    pub fn new(text: OpenText<R>) -> Self
+    pub fn new(alloc: Global, text: OpenText<R>) -> Self
         ensures depth { result.depth ≡ 1 }
         ensures numbers { most line_number result.texts ≤ text.line }
         ensures files { most files_up_to result.texts ≤ text.file.0 + 1 }
@@ -33,6 +37,7 @@ impl<R: Drop> Stack<R> {
                 None, None, None, None, None, None, None, None, None, None,
             ],
             depth: 1,
+            pieces: Pieces::new(alloc),
         }
     }
 
@@ -75,6 +80,16 @@ impl<R: Drop> Stack<R> {
         self.texts[self.depth] = Some(text);
         self.depth += 1;
     }
+
+    // Closes the text at a place, which has no more lines, and keeps its piece.
+    fn close(&mut self, place: usize)
+        requires { place < OPEN_FILES }
+        ensures texts { self.new.texts ≡ slice_set self.old.texts place None }
+    {
+        if let Some(text) = self.texts[place].take() {
+            self.pieces.keep(text.source.into_piece());
+        }
+    }
 }
 
 // Takes a line of the deepest text, or closes it where it has no more.
@@ -114,7 +129,7 @@ fn take_top<S: Shelf>(
         Err(stop) => return Err(stop),
     };
     let Some(at) = taken else {
-        stack.texts[top] = None;
+        stack.close(top);
         stack.depth = top;
         return Ok(None);
     };

@@ -1,4 +1,4 @@
-use Rattle.std.proofs.Common.{◌<◌, ◌≡◌, ◌-◌, ◌+◌, length, refl, arith, set, None}
+use Rattle.std.proofs.Common.{◌<◌, ◌≡◌, ◌-◌, ◌+◌, length, refl, ◌∙◌, arith, set, None}
 use Rattle.std.proofs.lemmas.List.{set-set}
 use Rattle.cweb_lines.specs.Counts.{count_of}
 use Rattle.cweb_lines.specs.Texts.{line_number, files_up_to, most}
@@ -48,33 +48,33 @@ pub returns-in_default-clause-taken : goal.returns-in_default-clause-taken
 returns-in_default-clause-taken g c = λ tells low above rest.
     let within : c.args.stack.now.depth - 1 < length c.args.stack.now.texts = omega arith in
     top_closed (g.S.Shelf.left c.args.shelf.now) (g.S.Shelf.left c.take_from.new.shelf) (c.in-Ok.ensures.others tells) c.args.stack.now.texts c.index-stack-top.result c.take_from.new.slot c.args.stack.now.depth
-    within (count_of c.args.limits.now) (count_of c.take_from.new.limits) c.take_from.new.line.items low above rest _ (set-set c.args.stack.now.texts (c.args.stack.now.depth - 1) c.take_from.new.slot None)
+    within (count_of c.args.limits.now) (count_of c.take_from.new.limits) c.take_from.new.line.items low above rest _ (c.close.ensures.texts ∙ set-set c.args.stack.now.texts (c.args.stack.now.depth - 1) c.take_from.new.slot None)
     (rw c.in_default.is at (c.in-Ok.ensures.taken tells))
 
 pub returns-in_default-clause-below : goal.returns-in_default-clause-below
 returns-in_default-clause-below g c = λ low above.
-    stays_below c.args.stack.now.texts _ (c.args.stack.now.depth - 1) low None (omega arith) (set-set c.args.stack.now.texts (c.args.stack.now.depth - 1) c.take_from.new.slot None)
+    stays_below c.args.stack.now.texts _ (c.args.stack.now.depth - 1) low None (omega arith) (c.close.ensures.texts ∙ set-set c.args.stack.now.texts (c.args.stack.now.depth - 1) c.take_from.new.slot None)
 
 pub returns-in_default-clause-numbers : goal.returns-in_default-clause-numbers
 returns-in_default-clause-numbers g c =
     let counted = rw c.in_default.is at c.in-Ok.ensures.counted in
-    most_set line_number (set c.args.stack.now.texts (c.args.stack.now.depth - 1) c.take_from.new.slot) (c.args.stack.now.depth - 1) None c.take_from.new.limits.lines
-    (most_set line_number c.args.stack.now.texts (c.args.stack.now.depth - 1) c.take_from.new.slot c.take_from.new.limits.lines (omega (arith, c.requires.numbers, counted.0)) c.in-Ok.ensures.number) (omega arith)
+    rw c.close.ensures.texts (most_set line_number (set c.args.stack.now.texts (c.args.stack.now.depth - 1) c.take_from.new.slot) (c.args.stack.now.depth - 1) None c.take_from.new.limits.lines
+    (most_set line_number c.args.stack.now.texts (c.args.stack.now.depth - 1) c.take_from.new.slot c.take_from.new.limits.lines (omega (arith, c.requires.numbers, counted.0)) c.in-Ok.ensures.number) (omega arith))
 
 pub returns-in_default-clause-files : goal.returns-in_default-clause-files
 returns-in_default-clause-files g c =
     let within : c.args.stack.now.depth - 1 < length c.args.stack.now.texts = omega arith in
-    most_set files_up_to (set c.args.stack.now.texts (c.args.stack.now.depth - 1) c.take_from.new.slot) (c.args.stack.now.depth - 1) None (most files_up_to c.args.stack.now.texts)
+    rw c.close.ensures.texts (most_set files_up_to (set c.args.stack.now.texts (c.args.stack.now.depth - 1) c.take_from.new.slot) (c.args.stack.now.depth - 1) None (most files_up_to c.args.stack.now.texts)
     (most_set files_up_to c.args.stack.now.texts (c.args.stack.now.depth - 1) c.take_from.new.slot (most files_up_to c.args.stack.now.texts)
-    (omega arith) (omega (arith, c.in-Ok.ensures.file, most_read files_up_to c.args.stack.now.texts (c.args.stack.now.depth - 1) c.index-stack-top.result within))) (omega arith)
+    (omega arith) (omega (arith, c.in-Ok.ensures.file, most_read files_up_to c.args.stack.now.texts (c.args.stack.now.depth - 1) c.index-stack-top.result within))) (omega arith))
 
 pub returns-in_default-clause-deep : goal.returns-in_default-clause-deep
 returns-in_default-clause-deep g c =
     let within : c.args.stack.now.depth - 1 < length c.args.stack.now.texts = omega arith in
     let top : c.args.stack.now.depth - 1 ≡ 0 + (c.args.stack.now.depth - 1) = omega arith in
-    deep-set 0 (c.args.stack.now.depth - 1) (c.args.stack.now.depth - 1) _ None top
+    rw c.close.ensures.texts (deep-set 0 (c.args.stack.now.depth - 1) (c.args.stack.now.depth - 1) _ None top
     (deep-set 0 (c.args.stack.now.depth - 1) (c.args.stack.now.depth - 1) c.args.stack.now.texts _ top c.requires.deep
-    (c.in-Ok.ensures.deep (c.args.stack.now.depth - 1) (deep-at 0 (c.args.stack.now.depth - 1) (c.args.stack.now.depth - 1) c.args.stack.now.texts c.index-stack-top.result top within c.requires.deep)).0) refl
+    (c.in-Ok.ensures.deep (c.args.stack.now.depth - 1) (deep-at 0 (c.args.stack.now.depth - 1) (c.args.stack.now.depth - 1) c.args.stack.now.texts c.index-stack-top.result top within c.requires.deep)).0) refl)
 
 pub returns-clause-taken : goal.returns-clause-taken
 returns-clause-taken g c = λ tells low above rest.
