@@ -1,9 +1,10 @@
 -- Lines without the blanks at their ends, and what taking a line leaves.
 use Rattle.std.proofs.Common.{Bool, ◌≡◌, ◌≢◌, ◌+◌, ◌≤◌, ℕ, true, false, cond, List, [], ◌∷◌, ◌++◌, refl, sym, ◌∙◌, ap, subst, arith, ◌<◌, ◌-◌, length, get_or, take, ◌⊎◌, Some}
-use Rattle.std.proofs.lemmas.List.{take_more, take_all}
+use Rattle.std.proofs.lemmas.List.{take_more, append_assoc}
 use Rattle.cweb_files.specs.declared.place.FileId.{FileId}
 use Rattle.cweb_lines.specs.Lines.{SourceLine, HasNoNewline, IsOneLine, trimmed, before_blanks, is_blank, text_lines, numbered}
 use Rattle.cweb_lines.specs.Source.{Takes, IsLongerThan}
+use Rattle.cweb_lines.specs.Taking.{TakesWhole, TakesTrimmed}
 use Rattle.cweb_lines.specs.Texts.{Count, TakesLine, FirstStops, StopsFor, StopsReading, newline_bytes, stop_for}
 use Rattle.cweb_lines.specs.declared.limits.TheConstants.{LINE_LENGTH, LINES, BYTES}
 use Rattle.cweb_lines.specs.declared.source.LineFault.{LineFault}
@@ -91,15 +92,14 @@ first_passes stop taken old new bytes file number count not takes is passes =
       why = passes;
     })
 
-last_split : (xs : List ℕ) (b : ℕ) → 0 < length xs → b ≡ get_or xs (length xs - 1) b → xs ≡ take (length xs - 1) xs ++ b ∷ []
-last_split xs b some is =
-    sym (take_all (length xs) xs (omega arith)) ∙ ap (λ n. take n xs) (omega arith) ∙ take_more xs (length xs - 1) b (omega arith) ∙ ap (λ x. take (length xs - 1) xs ++ x ∷ []) (sym is)
+-- the last byte of a front, where it is a blank, and where it is another
+pub trims_more : (xs : List ℕ) (n : ℕ) → n < length xs → is_blank (get_or xs n 0) ≡ true → trimmed (take n xs) ≡ trimmed (take (n + 1) xs)
+trims_more xs n within blank = sym (ap trimmed (take_more xs n 0 within) ∙ trimmed-blank (take n xs) (get_or xs n 0) blank)
 
-pub trims_more : (xs : List ℕ) (b : ℕ) → 0 < length xs → b ≡ get_or xs (length xs - 1) b → is_blank b ≡ true → trimmed (take (length xs - 1) xs) ≡ trimmed xs
-trims_more xs b some is blank = sym (ap trimmed (last_split xs b some is) ∙ trimmed-blank (take (length xs - 1) xs) b blank)
-
-pub trims_all : (xs : List ℕ) (b : ℕ) → 0 < length xs → b ≡ get_or xs (length xs - 1) b → is_blank b ≡ false → xs ≡ trimmed xs
-trims_all xs b some is other = sym (ap trimmed (last_split xs b some is) ∙ trimmed-byte (take (length xs - 1) xs) b other ∙ sym (last_split xs b some is))
+pub trims_all : (xs : List ℕ) (n : ℕ) → n < length xs → is_blank (get_or xs n 0) ≡ false → trimmed (take (n + 1) xs) ≡ take (n + 1) xs
+trims_all xs n within other =
+    let split = take_more xs n 0 within in
+    ap trimmed split ∙ trimmed-byte (take n xs) (get_or xs n 0) other ∙ sym split
 
 pub before_blanks-clean : (b : ℕ) (xs : List ℕ) → b ≢ 10 → HasNoNewline xs → HasNoNewline (before_blanks b xs)
 before_blanks-clean b [] other clean = elim (is_blank b) as (λ v. HasNoNewline (cond v [] (b ∷ []))) [ true ↦ tt | false ↦ (other, tt) ]
@@ -120,3 +120,26 @@ trimmed-length (b ∷ xs) = omega (arith, before_blanks-length b (trimmed xs), t
 
 pub trimmed-line : (xs : List ℕ) → HasNoNewline xs → length xs ≤ LINE_LENGTH → IsOneLine (trimmed xs)
 trimmed-line xs clean short = record { clean = trimmed-clean xs clean; short = omega (arith, short, trimmed-length xs) }
+
+abbrev IsLine : Taken → Type 0
+IsLine Ended = ⊥
+IsLine Last = Unit {0}
+IsLine Full = Unit {0}
+
+-- a whole line of a piece, in front of what is to be read
+pub whole_takes : (old new rest rest' bytes : List ℕ) (size : ℕ) → TakesWhole old bytes size new → rest ≡ rest' → TakesTrimmed (old ++ rest) (Some size) bytes (new ++ rest')
+whole_takes old new rest rest' bytes size takes same = record {
+  taken = Full;
+  raw = takes.raw;
+  some = λ is. subst IsLine is tt;
+  takes = (ap (λ (l : List ℕ). l ++ rest) takes.whole ∙ append_assoc takes.raw (10 ∷ new) rest ∙ ap (λ (l : List ℕ). takes.raw ++ 10 ∷ (new ++ l)) same, takes.clean);
+  short = takes.short;
+  bytes_are = takes.bytes_are;
+  size_is = takes.size_is;
+}
+
+pub whole_line-one : (old bytes : List ℕ) (size : ℕ) (new : List ℕ) → TakesWhole old bytes size new → IsOneLine bytes
+whole_line-one old bytes size new takes = subst IsOneLine (sym takes.bytes_are) (trimmed-line takes.raw takes.clean takes.short)
+
+pub whole_line-gains : (old bytes : List ℕ) (size : ℕ) (new : List ℕ) → TakesWhole old bytes size new → length bytes ≤ size
+whole_line-gains old bytes size new takes = omega (arith, ap (λ (l : List ℕ). length l) takes.bytes_are, trimmed-length takes.raw, takes.size_is)

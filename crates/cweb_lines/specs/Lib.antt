@@ -12,6 +12,7 @@ pub mod Replacing
 pub mod Seeking
 pub mod Source
 pub mod Stages
+pub mod Taking
 pub mod Texts
 pub mod Told
 pub mod Total

@@ -1,15 +1,18 @@
 // The next line of an open text, without the blanks at its end.
-ghost use Rattle.std.specs.Prelude.{◌≡◌, ◌≤◌, ◌<◌, ◌+◌, ◌^◌, ℕ, List, length, IsTrue, IfOk, IfErr, IfSome, OnSome, OnOk, OnErr, IsErrOf};
+ghost use Rattle.std.specs.Prelude.{◌≡◌, ◌≤◌, ◌<◌, ◌+◌, ◌^◌, ℕ, List, length, take, IsTrue, IfOk, IfErr, IfSome, OnSome, OnOk, OnErr, IsErrOf, Ok, None};
+ghost use Rattle.cweb_lines.specs.Source.{left_of, pending, IsLongerThan, Blames};
+ghost use Rattle.cweb_lines.specs.Taking.{TakesWhole, TakesTrimmed};
 ghost use Rattle.cweb_lines.specs.Lines.{trimmed, is_blank as blank, IsOneLine};
 ghost use Rattle.cweb_lines.specs.Counts.{count_of};
 ghost use Rattle.cweb_lines.specs.Texts.{lines_left, lines_at, number_of, line_number, text_depth, matches_at, DeepAt, files_up_to, TakesLine, StopsFor, StopsReading, FirstStops, ReadBlames, Counted, NamesFiles, stop_for, newline_bytes};
 
-use crate::limits::Limits;
-use crate::reading::next_line;
-use crate::source::{LineFault, Taken};
+use crate::limits::{LINE_LENGTH, Limits};
+use crate::reading::{newline_at, next_line};
+use crate::source::{LineFault, Source, Taken};
 use crate::stop::Stop;
 use crate::text::{LineAt, OpenText};
 use cweb_files::{FileId, Place, Shelf};
+use std::alloc::AllocError;
 
 fn is_blank(b: u8) -> bool
     ensures { result ≡ blank b }
@@ -17,15 +20,26 @@ fn is_blank(b: u8) -> bool
     matches!(b, b' ' | b'\t' | b'\r' | 11 | 12)
 }
 
+// How many bytes of a line stand in front of the blanks at its end.
+fn trimmed_length(line: &[u8]) -> usize
+    ensures within { result ≤ length line.now }
+    ensures trimmed { take result line.now ≡ trimmed line.now }
+{
+    let mut end = line.len();
+    'blanks: while end > 0 {
+        if !is_blank(line[end - 1]) {
+            break 'blanks;
+        }
+        end -= 1;
+    }
+    end
+}
+
 fn trim(line: &mut Vec<u8>)
     ensures { line.new.items ≡ trimmed line.old.items }
 {
-    while let Some(b) = line.last() {
-        if !is_blank(*b) {
-            break;
-        }
-        line.pop();
-    }
+    let length = trimmed_length(line);
+    line.truncate(length);
 }
 
 fn stop_of(fault: LineFault, file: FileId) -> Stop
@@ -46,6 +60,73 @@ fn newline_size(taken: Taken) -> usize
         Taken::Full => 1,
         Taken::Last | Taken::Ended => 0,
     }
+}
+
+// A line in place of what stood in a buffer.
+fn set(line: &mut Vec<u8>, bytes: &[u8]) -> Result<(), AllocError>
+    ensures { OnOk result (line.new.items ≡ bytes.now) }
+{
+    line.clear();
+    line.extend_from_slice(bytes)
+}
+
+// Takes a line that was read whole, and answers how many bytes it takes with its newline. So it is copied once, without
+// the blanks at its end. None where no whole line was read, or where it may be too long.
+#[inline(always)]
+fn take_whole<R: Drop>(
+    source: &mut Source<R>,
+    line: &mut Vec<u8>,
+) -> Result<Option<usize>, AllocError>
+    ensures none { result ≡ Ok None → source.new ≡ source.old }
+    ensures reader { source.new.reader.value ≡ source.old.reader.value }
+    ensures taken { IfOk result (λ size. IfSome size (λ n. TakesWhole (pending source.old) line.new.items n (pending source.new))) }
+{
+    if source.start >= source.lines_end {
+        return Ok(None);
+    }
+    let pending = &source.piece[source.start..source.end];
+    let Some(at) = newline_at(pending) else {
+        return Ok(None);
+    };
+    if at > LINE_LENGTH {
+        return Ok(None);
+    }
+    let raw = &pending[..at];
+    set(line, &raw[..trimmed_length(raw)])?;
+    source.start += at + 1;
+    Ok(Some(at + 1))
+}
+
+// Takes the next line without the blanks at its end, and answers how many bytes it takes, with the newline that it may have.
+#[inline(always)]
+fn take_trimmed<S: Shelf>(
+    shelf: &mut S,
+    source: &mut Source<S::R>,
+    line: &mut Vec<u8>,
+) -> Result<Option<usize>, LineFault>
+    requires count { S.failed shelf.old + 1 < 2 ^ 64 }
+    ensures tells { S.tells shelf.new ≡ S.tells shelf.old }
+    ensures failed { Blames (S.failed shelf.old) (S.failed shelf.new) result }
+    ensures texts { IsTrue (S.tells shelf.old) → S.texts shelf.new ≡ S.texts shelf.old }
+    ensures others { IsTrue (S.tells shelf.old) → S.left shelf.new ≡ S.left shelf.old }
+    ensures taken { IsTrue (S.tells shelf.old) → IfOk result (λ size. TakesTrimmed (left_of S.left shelf.old source.old) size line.new.items (left_of S.left shelf.new source.new)) }
+    ensures too_long { IsTrue (S.tells shelf.old) → IsErrOf result LineFault.TooLong → IsLongerThan LINE_LENGTH (left_of S.left shelf.old source.old) }
+    ensures line { IfOk result (λ size. OnSome size (IsOneLine line.new.items)) }
+    ensures gains { IfOk result (λ size. IfSome size (λ n. length line.new.items ≤ n)) }
+{
+    if let Some(size) = take_whole(source, line)? {
+        return Ok(Some(size));
+    }
+    let taken = match next_line(shelf, source, line) {
+        Ok(taken) => taken,
+        Err(fault) => return Err(fault),
+    };
+    if let Taken::Ended = taken {
+        return Ok(None);
+    }
+    let size = line.len() + newline_size(taken);
+    trim(line);
+    Ok(Some(size))
 }
 
 #[inline(always)]
@@ -76,17 +157,16 @@ fn take_line<S: Shelf>(
     ensures may_match { text.new.may_match ≡ text.old.may_match }
     ensures level { IfOk result (λ at. IfSome at (λ a. (a.depth ≡ text.old.depth) × (a.may_match ≡ text.old.may_match))) }
 {
-    let taken = match next_line(shelf, &mut text.source, line) {
+    let taken = match take_trimmed(shelf, &mut text.source, line) {
         Ok(taken) => taken,
         Err(fault) => return Err(stop_of(fault, text.file)),
     };
-    if let Taken::Ended = taken {
+    let Some(size) = taken else {
         return Ok(None);
-    }
-    if let Err(stop) = limits.add(line.len() + newline_size(taken)) {
+    };
+    if let Err(stop) = limits.add(size) {
         return Err(stop);
     }
-    trim(line);
     text.line += 1;
     Ok(Some(LineAt {
         place: Place {

@@ -1,5 +1,5 @@
 // The same text however lines are gathered and however little is taken at once.
-use super::devices::SmallSink;
+use super::devices::{OneReadFails, SmallSink};
 use super::*;
 
 #[test]
@@ -31,6 +31,24 @@ fn pieces(rt: HostRuntime) -> Result<(), Fail> {
             "with room {room}, {most} at once"
         );
         assert_eq!(rt; sink.writes, writes, "with room {room}, {most} at once");
+    }
+    Ok(())
+}
+
+// Blanks, line ends and an include line stand at each place of a read, and pieces of ended texts come again.
+#[test]
+fn reads_of_all_sizes(rt: HostRuntime) -> Result<(), Fail> {
+    let alloc = rt.alloc();
+    let web = b"a \t\n  \n@i b.w\na longer line  \n@i b.w\n\x0b\nlast \t".as_slice();
+    let files = [("a.w", web), ("b.w", b"two \n\n three")];
+    for most in 1..=40usize {
+        let mut shelf = OneReadFails::new(shelf_of(alloc, &files)?);
+        shelf.most = most;
+        let mut merger = Merger::start(alloc, &mut shelf, "a.w", None, None, None)?;
+        let mut sink = SmallSink::new(alloc);
+        write_merged_in_pieces(&mut merger, &mut shelf, &mut sink, 65536)?;
+        let want = b"a\n\ntwo\n\n three\na longer line\ntwo\n\n three\n\nlast\n".as_slice();
+        assert_eq!(rt; sink.bytes.as_slice(), want, "with reads of {most} bytes");
     }
     Ok(())
 }

@@ -1,7 +1,7 @@
-use Rattle.std.proofs.Common.{◌+◌, ℕ, List, length, ap, Err, arith}
+use Rattle.std.proofs.Common.{◌+◌, ap, Err, arith}
 use Rattle.cweb_lines.specs.Counts.{count_of}
 use Rattle.cweb_lines.specs.Source.{left_of}
-use Rattle.cweb_lines.proofs.Trims.{trimmed-line, trimmed-length, takes_first, line_stops, line_reads, first_passes}
+use Rattle.cweb_lines.proofs.Trims.{takes_first, line_stops, line_reads, first_passes}
 use Rattle.cweb_lines.proofs.taking.take_line.Goals as goal
 
 pub returns-in-Err-clause-stops : goal.returns-in-Err-clause-stops
@@ -13,24 +13,15 @@ returns-in-Err-clause-reading g c = line_reads c.in-Err.fault _ c.args.text.now.
 
 pub returns-in-Err-add-clause-stops : goal.returns-in-Err-add-clause-stops
 returns-in-Err-add-clause-stops g c = λ tells.
-    first_passes c.in-Err-add.stop c.in-Ok.taken (left_of g.S.Shelf.left c.args.shelf.now c.args.text.now.source) (left_of g.S.Shelf.left c.next_line.new.shelf c.next_line.new.source) c.next_line.new.line.items
-    c.args.text.now.file.0 (c.args.text.now.line + 1) (count_of c.args.limits.now) c.in_default.not-Ended (c.in-Ok.ensures.taken tells) c.in-Err-add.ensures.stop
-    (rw (c.len.ensures, c.next_line.new.line.ok.0, c.newline_size.ensures.value) at c.in-Err-add.ensures.passed)
+    let line = rw c.in-Some.is at (c.in-Ok.ensures.taken tells) in
+    first_passes c.in-Err-add.stop line.taken (left_of g.S.Shelf.left c.args.shelf.now c.args.text.now.source) (left_of g.S.Shelf.left c.take_trimmed.new.shelf c.take_trimmed.new.source) line.raw
+    c.args.text.now.file.0 (c.args.text.now.line + 1) (count_of c.args.limits.now) line.some line.takes c.in-Err-add.ensures.stop
+    (rw line.size_is at c.in-Err-add.ensures.passed)
 
 pub returns-clause-taken : goal.returns-clause-taken
 returns-clause-taken g c = λ tells.
-    takes_first c.trim.new.line.items c.next_line.new.line.items (left_of g.S.Shelf.left c.args.shelf.now c.args.text.now.source) (left_of g.S.Shelf.left c.next_line.new.shelf c.next_line.new.source)
-    c.args.text.now.file.0 (c.args.text.now.line + 1) c.args.text.now.depth c.args.text.now.may_match c.in-Ok.taken (count_of c.args.limits.now) (count_of c.add.new.self)
-    c.in_default.not-Ended (c.in-Ok.ensures.taken tells) c.trim.ensures c.in-Ok.ensures.within c.in_default-add.ensures.lines
-    (rw (c.len.ensures, c.next_line.new.line.ok.0, c.newline_size.ensures.value) at c.in_default-add.ensures.bytes)
-
-pub returns-clause-line : goal.returns-clause-line
-returns-clause-line g c = rw c.trim.ensures (trimmed-line c.next_line.new.line.items c.in-Ok.ensures.clean c.in-Ok.ensures.within)
-
-pub returns-clause-gains : goal.returns-clause-gains
-returns-clause-gains g c = omega (
-  arith,
-  ap (λ (l : List ℕ). length l) c.trim.ensures,
-  trimmed-length c.next_line.new.line.items,
-  rw (c.len.ensures, c.next_line.new.line.ok.0, c.newline_size.ensures.value) at c.in_default-add.ensures.bytes,
-)
+    let line = rw c.in-Some.is at (c.in-Ok.ensures.taken tells) in
+    takes_first c.take_trimmed.new.line.items line.raw (left_of g.S.Shelf.left c.args.shelf.now c.args.text.now.source) (left_of g.S.Shelf.left c.take_trimmed.new.shelf c.take_trimmed.new.source)
+    c.args.text.now.file.0 (c.args.text.now.line + 1) c.args.text.now.depth c.args.text.now.may_match line.taken (count_of c.args.limits.now) (count_of c.add.new.self)
+    line.some line.takes line.bytes_are line.short c.in_default-add.ensures.lines
+    (rw line.size_is at c.in_default-add.ensures.bytes)
