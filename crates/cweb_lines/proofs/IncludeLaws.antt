@@ -1,14 +1,16 @@
 -- An include line is replaced by the merged lines of its text.
-use Rattle.std.proofs.Common.{◌≡◌, ◌≢◌, ◌<◌, ◌+◌, ℕ, Bool, true, List, [], ◌∷◌, ◌++◌, None, Some, refl, sym, ◌∙◌, ap, append-nil, subst, arith, length}
+use Rattle.std.proofs.Common.{◌≡◌, ◌≢◌, ◌<◌, ◌+◌, ℕ, Bool, true, false, List, [], ◌∷◌, ◌++◌, None, Some, refl, sym, ◌∙◌, ap, append-nil, subst, arith, length}
 use Rattle.std.proofs.lemmas.Bool.Decides.{nat_tests}
 use Rattle.std.specs.List.{AllByRecursion}
 use Rattle.std.specs.Prelude.{nat_lt}
 use Rattle.cweb_lines.specs.Lines.{SourceLine, lines_in}
-use Rattle.cweb_lines.specs.Include.{World, found_at, include_name, is_include}
-use Rattle.cweb_lines.specs.Laws.{IncludeLinesAreReplaced, Includes, Seen, followed_by, seen, seen_in, with_included}
-use Rattle.cweb_lines.specs.Merge.{Event, Next, RawLine, State, Thing, included, obeyed, opened, opening, plain, raw, raws, taking, took}
+use Rattle.cweb_lines.specs.Include.{World, include_name, is_include}
+use Rattle.cweb_lines.specs.Change.{at_place}
+use Rattle.cweb_lines.specs.Laws.{IncludeLinesAreReplaced, Includes, LinesComeApart, Seen, followed_by, seen, seen_in}
+use Rattle.cweb_lines.specs.Merge.{Event, Next, RawLine, State, Thing, fault, given, included, obeyed, opened, opening, plain, raw, raws, taking, took}
 use Rattle.cweb_lines.specs.Told.{openings}
-use Rattle.cweb_lines.specs.Total.{halts, merge, merge-run, merge_next}
+use Rattle.cweb_lines.specs.Total.{halts, merge, merge-run, merge_end, merge_next}
+use Rattle.cweb_lines.specs.declared.fault.SourceKind.TheVariants.{NoName, NotThere, TooDeep}
 use Rattle.cweb_lines.specs.declared.limits.TheConstants.{OPEN_FILES}
 use Rattle.cweb_lines.proofs.Alone.{IsNoSearch, front, raws_seek_not}
 use Rattle.cweb_lines.proofs.Merges.{state}
@@ -39,26 +41,73 @@ in_two world things later change files none =
     ∙ ap (λ (es : List Event). es ++ merge world (state later None change (files + length (openings es))))
         (sym (merge-run first.steps world (state things None change files) first.events first.comes))
 
+-- an include line that names something
+names_some : (world : World) (r : RawLine) (s : State) (things : List Thing) (next : Next) (b : Bool)
+    → is_include r.source.line.bytes ≡ true → include_name r.source.line.bytes ≢ [] → nat_lt r.depth OPEN_FILES ≡ b
+    → opened b world (include_name r.source.line.bytes) s r things ≡ next
+    → plain (is_include r.source.line.bytes) world s r things ≡ next
+names_some world r s things next b include named room is =
+    ap (λ b. plain b world s r things) include ∙ by (include_name r.source.line.bytes) named is
+  where
+    by : (name : List ℕ) → name ≢ [] → opened b world name s r things ≡ next → included name world s r things ≡ next
+    by [] some is = absurd (some refl)
+    by (c ∷ cs) some is = ap (λ t. opened t world (c ∷ cs) s r things) room ∙ is
+
 -- an include line that finds its text opens it
 opens_text : (world : World) (r : RawLine) (things : List Thing) (s : State) (name text : List ℕ)
     → Includes world r.source.line.bytes name text → r.depth < OPEN_FILES
     → plain (is_include r.source.line.bytes) world s r things ≡ obeyed (Some (name, text)) s r things
 opens_text world r things s name text includes shallow =
-    ap (λ b. plain b world s r things) includes.include ∙ by
-        (include_name r.source.line.bytes) includes.named includes.found
-  where
-    by : (asked : List ℕ) → asked ≢ [] → found_at world asked ≡ Some (name, text)
-        → included asked world s r things ≡ obeyed (Some (name, text)) s r things
-    by [] some found = absurd (some refl)
-    by (b ∷ bs) some found =
-        ap (λ t. opened t world (b ∷ bs) s r things)
-            (let room : nat_lt r.depth OPEN_FILES ≡ true = grind (arith, nat_tests) in room)
-            ∙ ap (λ o. obeyed o s r things) found
+    let room : nat_lt r.depth OPEN_FILES ≡ true = grind (arith, nat_tests) in
+    names_some world r s things (obeyed (Some (name, text)) s r things) true includes.include includes.named room
+    (ap (λ found. obeyed found s r things) includes.found)
 
-replaced : (world : World) (depth files : ℕ) (before behind : List SourceLine) (line : SourceLine) (name text : List ℕ)
-    → Includes world line.line.bytes name text → depth < OPEN_FILES
-    → seen_in world depth files (before ++ line ∷ behind) ≡ with_included world depth files before name text behind
-replaced world depth files before behind line name text includes shallow =
+-- a line by which one event comes
+one_event : (world : World) (depth files : ℕ) (line : SourceLine) (event : Event) →
+    let r : RawLine = record { source = line; depth = depth; may_match = true } in
+    let s = state (raw r ∷ []) None [] files in
+    plain (is_include line.line.bytes) world s r [] ≡ (event ∷ [], state [] None [] files)
+    → seen_in world depth files (line ∷ []) ≡ seen (event ∷ [])
+one_event world depth files line event is =
+    let r : RawLine = record { source = line; depth = depth; may_match = true } in
+    ap seen (merge_next world (state (raw r ∷ []) None [] files) (took line ∷ event ∷ [], state [] None [] files)
+        (ap (λ (next : Next). Some (taking line next)) is))
+    ∙ ap (λ (es : List Event). seen (took line ∷ event ∷ es)) (merge_end world (state [] None [] files) refl)
+
+pub lines_apart : LinesComeApart
+lines_apart = record {
+  whole = λ world web. refl;
+  apart = λ world depth files before behind.
+    let things = raws depth true before in
+    ap (λ (ts : List Thing). seen (merge world (state ts None [] files))) (raws-append depth true before behind)
+    ∙ ap seen (in_two world things (raws depth true behind) [] files (raws_seek_none depth true before))
+    ∙ seen-append (merge world (state things None [] files))
+        (merge world (state (raws depth true behind) None []
+        (files + length (openings (merge world (state things None [] files))))));
+  plain = λ world depth files line plain_line.
+    let r : RawLine = record { source = line; depth = depth; may_match = true } in
+    one_event world depth files line (given line.line)
+    (ap (λ b. plain b world (state (raw r ∷ []) None [] files) r []) plain_line);
+  no_name = λ world depth files line include none.
+    let r : RawLine = record { source = line; depth = depth; may_match = true } in
+    let s = state (raw r ∷ []) None [] files in
+    one_event world depth files line (fault (at_place NoName line.line.place))
+    (ap (λ b. plain b world s r []) include ∙ ap (λ name. included name world s r []) none);
+  too_deep = λ world depth files line include named deep.
+    let r : RawLine = record { source = line; depth = depth; may_match = true } in
+    let full : nat_lt depth OPEN_FILES ≡ false = grind (arith, nat_tests) in
+    one_event world depth files line (fault (at_place TooDeep line.line.place))
+    (names_some world r (state (raw r ∷ []) None [] files) [] _ false include named full refl);
+  not_there = λ world depth files line include named shallow gone.
+    let r : RawLine = record { source = line; depth = depth; may_match = true } in
+    let s = state (raw r ∷ []) None [] files in
+    let room : nat_lt depth OPEN_FILES ≡ true = grind (arith, nat_tests) in
+    one_event world depth files line (fault (at_place NotThere line.line.place))
+    (names_some world r s [] _ true include named room (ap (λ found. obeyed found s r []) gone));
+}
+
+pub include_lines : IncludeLinesAreReplaced
+include_lines world depth files before behind line name text includes shallow =
     let first = merge world (state (raws depth true before) None [] files) in
     let file = files + length (openings first) in
     let r : RawLine = record { source = line; depth = depth; may_match = true } in
@@ -77,6 +126,3 @@ replaced world depth files before behind line name text includes shallow =
         (in_two world lines rest [] (file + 1) (raws_seek_none (depth + 1) true (lines_in file text))))
     ∙ seen-append first (took line ∷ opening name ∷ (inside ++ last))
     ∙ ap (λ (later : Seen). followed_by (seen first) (name_first name later)) (seen-append inside last)
-
-pub include_lines : IncludeLinesAreReplaced
-include_lines = record { whole = λ world web. refl; replaced = replaced }

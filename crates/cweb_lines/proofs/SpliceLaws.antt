@@ -1,86 +1,20 @@
 -- Changes that match, in order, splice.
-use Rattle.std.proofs.Common.{◌≡◌, ◌+◌, ℕ, suc, true, false, List, [], ◌∷◌, ◌++◌, map, None, Some, refl, sym, ◌∙◌, ap, append-nil, subst, arith, length}
+use Rattle.std.proofs.Common.{◌≡◌, ◌+◌, ℕ, true, false, List, [], ◌∷◌, ◌++◌, map, None, Some, refl, sym, ◌∙◌, ap, append-nil, subst, arith, length}
 use Rattle.std.specs.List.{AllByRecursion, list_any}
 use Rattle.std.specs.Str.{bytes_eq}
-use Rattle.cweb_lines.specs.Lines.{Line, SourceLine, TextLine, lines_in, numbered, text_lines, trimmed}
+use Rattle.cweb_lines.specs.Lines.{SourceLine, lines_in, text_lines}
 use Rattle.cweb_lines.specs.Include.{World, is_include}
 use Rattle.cweb_lines.specs.Change.{Sought, code_of, outside, passing, sought}
-use Rattle.cweb_lines.specs.Laws.{ChangesSplice, IsPlainSplice, Splice, change_lines, followed_by, is_code, only_lines, placed, placed_line, seen, spliced, web_lines}
+use Rattle.cweb_lines.specs.Laws.{ChangesSplice, IsPlainSplice, Splice, change_lines, followed_by, is_code, only_lines, placed, seen, spliced, web_lines}
 use Rattle.cweb_lines.specs.Merge.{Event, Thing, fault, raws, seek, took}
 use Rattle.cweb_lines.specs.Total.{merge, merge_end, merge_next}
 use Rattle.cweb_lines.proofs.Merges.{state}
-use Rattle.cweb_lines.proofs.Splices.{bytes_in, gives_out, lines_of, splices_one}
+use Rattle.cweb_lines.proofs.Entries.{bytes_in, gives_out, lines_of}
+use Rattle.cweb_lines.proofs.Lies.{Lie, bytes_of, first_of, lie_in, parts}
+use Rattle.cweb_lines.proofs.Splices.{Edit, IsPlain, splices_one}
 use Rattle.cweb_lines.proofs.Seens.{no_code, or-false, took_unseen}
 
--- these lines lie in a file from this number on
-abbrev Lie : ℕ → ℕ → List (List ℕ) → List SourceLine → Type 0
-Lie file number texts lines = lines_of lines ≡ placed file number texts
-
-lie_in : (file number : ℕ) (texts : List TextLine) → Lie file number (map (λ line. trimmed line.bytes) texts)
-    (numbered file number texts)
-lie_in file number [] = refl
-lie_in file number (text ∷ texts) =
-    ap (λ (ls : List Line). record { bytes = trimmed text.bytes; place =
-        record { file = record { 0 = file }; line = number } } ∷ ls) (lie_in file (number + 1) texts)
-
-bytes_of : (file number : ℕ) (texts : List (List ℕ)) (lines : List SourceLine) → Lie file number texts lines
-    → bytes_in lines ≡ texts
-bytes_of file number [] [] lie = refl
-bytes_of file number [] (line ∷ lines) lie = absurd (cc)
-bytes_of file number (text ∷ texts) [] lie = absurd (cc)
-bytes_of file number (text ∷ texts) (line ∷ lines) lie =
-    let first : line.line ≡ placed_line file number text =
-        cc in
-    let later : Lie file (number + 1) texts lines = cc in
-    ap (λ (bytes : List ℕ). bytes ∷ bytes_in lines) (ap (λ (l : Line). l.bytes) first)
-        ∙ ap (λ (ls : List (List ℕ)). text ∷ ls) (bytes_of file (number + 1) texts lines later)
-
--- lines in two
-record Parts (file number : ℕ) (first later : List (List ℕ)) (lines : List SourceLine) : Type 0 where
-  front : List SourceLine
-  rest : List SourceLine
-  whole : lines ≡ front ++ rest
-  front_lies : Lie file number first front
-  rest_lies : Lie file (number + length first) later rest
-
-parts : (file number : ℕ) (first later : List (List ℕ)) (lines : List SourceLine)
-    → Lie file number (first ++ later) lines → Parts file number first later lines
-parts file number [] later lines lie = record {
-  front = [];
-  rest = lines;
-  whole = refl;
-  front_lies = refl;
-  rest_lies = subst (λ n. Lie file n later lines) (let none : number ≡ number + 0 = omega arith in none) lie;
-}
-parts file number (text ∷ first) later [] lie = absurd (cc)
-parts file number (text ∷ first) later (line ∷ lines) lie =
-    let head : line.line ≡ placed_line file number text = cc in
-    let tail : Lie file (number + 1) (first ++ later) lines = cc in
-    let p = parts file (number + 1) first later lines tail in
-    record {
-      front = line ∷ p.front;
-      rest = p.rest;
-      whole = ap (λ (ls : List SourceLine). line ∷ ls) p.whole;
-      front_lies = λ i. head i ∷ p.front_lies i;
-      rest_lies = subst (λ n. Lie file n later p.rest)
-          (let same : number + 1 + length first ≡ number + suc (length first) = omega arith in same) p.rest_lies;
-    }
-
-record First (file number : ℕ) (text : List ℕ) (later : List (List ℕ)) (lines : List SourceLine) : Type 0 where
-  line : SourceLine
-  rest : List SourceLine
-  whole : lines ≡ line ∷ rest
-  bytes : line.line.bytes ≡ text
-  rest_lies : Lie file (number + 1) later rest
-
-first_of : (file number : ℕ) (text : List ℕ) (later : List (List ℕ)) (lines : List SourceLine)
-    → Lie file number (text ∷ later) lines → First file number text later lines
-first_of file number text later [] lie = absurd (cc)
-first_of file number text later (line ∷ lines) lie =
-    let head : line.line ≡ placed_line file number text = cc in
-    record { line = line; rest = lines; whole = refl; bytes = ap (λ (l : Line). l.bytes) head; rest_lies = cc }
-
--- the first line of the web that a change replaces, the further ones, and what stands behind them
+-- the lines of a web up to the last that a change replaces, and what stands behind them
 record WebParts (number : ℕ) (s : Splice) (later : List (List ℕ)) (lines : List SourceLine) : Type 0 where
   stays : List SourceLine
   line : SourceLine
@@ -203,38 +137,64 @@ splices_none world web change behind comment lines changes plain_behind no_codes
         (merge_end world (state [] None [] 2) refl)
     ∙ ap only_lines (append-nil (lines_of lines) ∙ lie)
 
+-- a change by where its lines lie
+abbrev edit_of : (web change : ℕ) (s : Splice) (later later' : List (List ℕ)) (lines changes : List SourceLine)
+    → WebParts web s later lines → ChangeParts change s later' changes → Edit
+edit_of web change s later later' lines changes w c = record {
+  comment = c.comment;
+  x = c.x;
+  first = c.first;
+  further = c.further;
+  y = c.y;
+  new = c.new;
+  z = c.z;
+  stays = w.stays;
+  line = w.line;
+  old = w.old;
+}
+
+plain_edit : (web change : ℕ) (s : Splice) (later later' : List (List ℕ)) (lines changes : List SourceLine)
+    (w : WebParts web s later lines) (c : ChangeParts change s later' changes)
+    → IsPlainSplice s → IsPlain (edit_of web change s later later' lines changes w c)
+plain_edit web change s later later' lines changes w c is =
+    let old = or-false (is_code s.first) (list_any is_code s.further) is.old in
+    let stays_is = bytes_of 0 web s.stays w.stays w.stays_lie in
+    let new_is = bytes_of 1 (change + length s.comment + length s.further + 3) s.new c.new c.new_lies in
+    record {
+      no_comment = ap (list_any is_code) c.comment_is ∙ is.comment;
+      begins = ap code_of c.begin_is ∙ is.begins;
+      some = λ none. is.some (sym c.first_is ∙ none);
+      no_first = ap code_of c.first_is ∙ no_code (code_of s.first) old.0;
+      no_old = ap (list_any is_code) c.further_is ∙ old.1;
+      turns = ap code_of c.middle_is ∙ is.turns;
+      no_new = ap (list_any is_code) new_is ∙ is.new;
+      ends = ap code_of c.end_is ∙ is.ends;
+      new_plain = ap (list_any is_include) new_is ∙ is.new_plain;
+      same_first = w.first ∙ sym c.first_is;
+      same_old = w.further ∙ sym c.further_is;
+      stays_plain = ap (list_any is_include) stays_is ∙ is.stays_plain;
+      others = (λ i. list_any (λ line. bytes_eq line (c.first_is i)) (stays_is i)) ∙ is.first_there;
+    }
+
 splices_all : (world : World) (splices : List Splice) (web change : ℕ) (behind comment : List (List ℕ))
     (lines changes : List SourceLine) → AllByRecursion IsPlainSplice splices
     → list_any is_include behind ≡ false → list_any is_code comment ≡ false
-        → Lie 0 web (web_lines splices behind) lines → Lie 1 change (change_lines splices comment) changes
-    → seen (merge world (state (seek ∷ raws 1 true lines) None changes 2))
-        ≡ only_lines (spliced web change splices behind)
+    → Lie 0 web (web_lines splices behind) lines → Lie 1 change (change_lines splices comment) changes
+    → seen (merge world (state (seek ∷ raws 1 true lines) None changes 2)) ≡ only_lines (spliced web change splices behind)
 splices_all world [] web change behind comment lines changes all plain_behind no_codes lie lie' =
     splices_none world web change behind comment lines changes plain_behind no_codes lie lie'
 splices_all world (s ∷ splices) web change behind comment lines changes all plain_behind no_codes lie lie' =
-    let w = web_parts web s (web_lines splices behind) lines lie in
-    let c = change_parts change s (change_lines splices comment) changes lie' in
-    let old = or-false (is_code s.first) (list_any is_code s.further) all.0.old in
-    let stays_is = bytes_of 0 web s.stays w.stays w.stays_lie in
+    let rest = web_lines splices behind in
+    let rest' = change_lines splices comment in
+    let w = web_parts web s rest lines lie in
+    let c = change_parts change s rest' changes lie' in
     let first_new = change + length s.comment + length s.further + 3 in
-    let new_is = bytes_of 1 first_new s.new c.new c.new_lies in
-    let later = splices_all world splices (web + length s.stays + length s.further + 1)
-        (first_new + length s.new + 1) behind comment w.behind c.rest all.1 plain_behind no_codes w.behind_lies c.rest_lies in
+    let next_web = web + length s.stays + length s.further + 1 in
+    let later = splices_all world splices next_web (first_new + length s.new + 1) behind comment w.behind c.rest
+        all.1 plain_behind no_codes w.behind_lies c.rest_lies in
     (λ i. seen (merge world (state (seek ∷ raws 1 true (w.whole i)) None (c.whole i) 2)))
-    ∙ splices_one world 2 c.comment c.x c.first c.further c.y c.new c.z c.rest w.stays w.line w.old w.behind
-    (ap (list_any is_code) c.comment_is ∙ all.0.comment)
-    (ap code_of c.begin_is ∙ all.0.begins)
-    (λ is. all.0.some (sym c.first_is ∙ is))
-    (ap code_of c.first_is ∙ no_code (code_of s.first) old.0)
-    (ap (list_any is_code) c.further_is ∙ old.1)
-    (ap code_of c.middle_is ∙ all.0.turns)
-    (ap (list_any is_code) new_is ∙ all.0.new)
-    (ap code_of c.end_is ∙ all.0.ends)
-    (ap (list_any is_include) new_is ∙ all.0.new_plain)
-    (w.first ∙ sym c.first_is)
-    (w.further ∙ sym c.further_is)
-    (ap (list_any is_include) stays_is ∙ all.0.stays_plain)
-    ((λ i. list_any (λ line. bytes_eq line (c.first_is i)) (stays_is i)) ∙ all.0.first_there)
+    ∙ splices_one world 2 (edit_of web change s rest rest' lines changes w c)
+        (plain_edit web change s rest rest' lines changes w c all.0) c.rest w.behind
     ∙ (λ i. followed_by (only_lines (w.stays_lie i)) (followed_by (only_lines (c.new_lies i)) (later i)))
 
 pub changes_splice : ChangesSplice

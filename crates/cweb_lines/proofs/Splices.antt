@@ -1,124 +1,57 @@
 -- What one change makes of the lines that it stands between.
-use Rattle.std.proofs.Common.{◌≡◌, ◌≢◌, ◌&&◌, ℕ, Bool, true, false, List, [], ◌∷◌, ◌++◌, map, None, Some, Option, refl, sym, ◌∙◌, ap}
+use Rattle.std.proofs.Common.{◌≡◌, ◌≢◌, ◌&&◌, ℕ, true, false, List, [], ◌∷◌, ◌++◌, map, None, Some, refl, sym, ◌∙◌, ap}
 use Rattle.std.proofs.lemmas.List.{append_assoc}
 use Rattle.std.proofs.lemmas.Slice.Eq.{bytes_eq-Decides}
 use Rattle.std.specs.List.{list_any}
 use Rattle.std.specs.Str.{bytes_eq}
-use Rattle.cweb_files.specs.declared.place.Place.{Place}
-use Rattle.cweb_lines.specs.Lines.{Line, SourceLine}
+use Rattle.cweb_lines.specs.Lines.{SourceLine}
 use Rattle.cweb_lines.specs.Include.{World, is_include}
-use Rattle.cweb_lines.specs.Change.{Entry, OldSide, Sought, behind_x, code_of, old_at, old_line, old_lines, outside, passing, sought}
+use Rattle.cweb_lines.specs.Change.{Entry, OldSide, Sought, code_of}
 use Rattle.cweb_lines.specs.Laws.{followed_by, is_code, only_lines, seen}
-use Rattle.cweb_lines.specs.Merge.{Compared, Event, NewSide, Next, RawLine, Thing, after_old, at_entry, change_events, compared, fault, given, new_at, new_lines, new_things, one_more, passed, plain, raw, raws, seek, taking, took}
+use Rattle.cweb_lines.specs.Merge.{Compared, Event, NewSide, Next, RawLine, Thing, after_old, at_entry, change_events, compared, fault, passed, raw, raws, seek, taking, took}
 use Rattle.cweb_lines.specs.Total.{merge, merge_next}
-use Rattle.cweb_lines.specs.declared.code.Code.{Code}
 use Rattle.cweb_lines.specs.declared.code.Code.TheVariants.{EndSide as end_side, NewSide as new_side, OldSide as old_side}
 use Rattle.cweb_lines.proofs.IncludeLaws.{raws-append}
 use Rattle.cweb_lines.proofs.Merges.{state}
-use Rattle.cweb_lines.proofs.Seens.{line_first, no_code, or-false, took_unseen}
+use Rattle.cweb_lines.proofs.Seens.{took_unseen}
+use Rattle.cweb_lines.proofs.Entries.{bytes_in, compares, entry_of, finds, gives_out, lines_of, new_splits, old_splits, passes_by}
 
-abbrev pub bytes_in : List SourceLine → List (List ℕ)
-bytes_in lines = map (λ source. source.line.bytes) lines
+-- The lines of one change. Of the change file: a comment, the @x line, the first old line, the further ones, the @y line,
+-- the new lines, the @z line. Of the web: the lines that stay, the first line that is replaced, and the further ones.
+pub record Edit : Type 0 where
+  pub comment : List SourceLine
+  pub x : SourceLine
+  pub first : SourceLine
+  pub further : List SourceLine
+  pub y : SourceLine
+  pub new : List SourceLine
+  pub z : SourceLine
+  pub stays : List SourceLine
+  pub line : SourceLine
+  pub old : List SourceLine
 
-abbrev pub lines_of : List SourceLine → List Line
-lines_of lines = map (λ source. source.line) lines
+-- the change file's lines from the comment on, and the web's from those that stay, with what stands behind them
+abbrev pub change_from : Edit → List SourceLine → List SourceLine
+change_from e change = e.comment ++ (e.x ∷ e.first ∷ (e.further ++ (e.y ∷ (e.new ++ (e.z ∷ change)))))
 
--- the entry that begins with these two lines
-abbrev entry_of : SourceLine → SourceLine → Entry
-entry_of x first = record { begin = x.line.place; first = first.line.bytes }
+abbrev pub web_from : Edit → List SourceLine → List SourceLine
+web_from e behind = e.stays ++ (e.line ∷ (e.old ++ behind))
 
-first_old : (bytes : List ℕ) (code : Option Code) (begin : Place) (first : SourceLine) (rest : List SourceLine)
-    (later : Option Place → Sought) → bytes ≢ [] → code ≡ None
-    → behind_x bytes code begin first rest later
-        ≡ record { faults = []; taken = first ∷ []; entry = Some (record { begin = begin; first = bytes }); rest =
-        rest }
-first_old [] code begin first rest later some none = absurd (some refl)
-first_old (b ∷ bs) code begin first rest later some none = ap (λ c. behind_x (b ∷ bs) c begin first rest later) none
-
--- a search passes over a comment, and finds the entry behind it
-finds : (comment : List SourceLine) (x first : SourceLine) (rest : List SourceLine)
-    → list_any is_code (bytes_in comment) ≡ false → code_of x.line.bytes ≡ Some old_side
-    → first.line.bytes ≢ [] → code_of first.line.bytes ≡ None
-    → sought (comment ++ (x ∷ first ∷ rest)) None
-        ≡ record { faults = []; taken = comment ++ (x ∷ first ∷ []); entry = Some (entry_of x first); rest = rest }
-finds [] x first rest no_codes begins some none =
-    ap (λ code. passing x (outside code x.line.place (λ begin. sought (first ∷ rest) begin))) begins
-    ∙ ap (passing x) (first_old first.line.bytes (code_of first.line.bytes) x.line.place first rest
-        (λ next. sought rest next) some none)
-finds (line ∷ comment) x first rest no_codes begins some none =
-    let parts = or-false (is_code line.line.bytes) (list_any is_code (bytes_in comment)) no_codes in
-    ap (λ code. passing line (outside code line.line.place (λ begin. sought (comment ++ (x ∷ first ∷ rest)) begin)))
-        (no_code (code_of line.line.bytes) parts.0)
-    ∙ ap (passing line) (finds comment x first rest parts.1 begins some none)
-
--- the further old lines go up to the @y line
-old_splits : (further : List SourceLine) (y : SourceLine) (rest : List SourceLine)
-    → list_any is_code (bytes_in further) ≡ false → code_of y.line.bytes ≡ Some new_side
-    → old_lines (further ++ (y ∷ rest))
-        ≡ record { faults = []; lines = bytes_in further; taken = further ++ (y ∷ []); ended = false; rest = rest }
-old_splits [] y rest no_codes turns = ap (λ code. old_at code y rest (old_lines rest)) turns
-old_splits (line ∷ further) y rest no_codes turns =
-    let parts = or-false (is_code line.line.bytes) (list_any is_code (bytes_in further)) no_codes in
-    ap (λ code. old_at code line (further ++ (y ∷ rest)) (old_lines (further ++ (y ∷ rest))))
-        (no_code (code_of line.line.bytes) parts.0)
-    ∙ ap (old_line line) (old_splits further y rest parts.1 turns)
-
--- raw lines that equal the further old lines are taken away
-compares : (depth : ℕ) (may_match : Bool) (lines : List SourceLine) (later : List Thing)
-    → compared (bytes_in lines) (raws depth may_match lines ++ later)
-        ≡ record { unequal = 0; taken = lines; ran_out = false; rest = later }
-compares depth may_match [] later = refl
-compares depth may_match (line ∷ lines) later =
-    ap (λ equal. one_more equal line (compared (bytes_in lines) (raws depth may_match lines ++ later)))
-        ((bytes_eq-Decides line.line.bytes line.line.bytes).1 refl)
-    ∙ ap (one_more true line) (compares depth may_match lines later)
-
--- the new lines go up to the @z line
-new_splits : (depth : ℕ) (begin : Place) (new : List SourceLine) (z : SourceLine) (rest : List SourceLine)
-    → list_any is_code (bytes_in new) ≡ false → code_of z.line.bytes ≡ Some end_side
-    → new_lines depth begin (new ++ (z ∷ rest))
-        ≡ record { things = raws depth false new ++ (passed z ∷ []); rest = rest }
-new_splits depth begin [] z rest no_codes ends = ap (λ code. new_at code depth z rest (new_lines depth begin rest)) ends
-new_splits depth begin (line ∷ new) z rest no_codes ends =
-    let parts = or-false (is_code line.line.bytes) (list_any is_code (bytes_in new)) no_codes in
-    ap (λ code. new_at code depth line (new ++ (z ∷ rest)) (new_lines depth begin (new ++ (z ∷ rest))))
-        (no_code (code_of line.line.bytes) parts.0)
-    ∙ ap (new_things (raw (record { source = line; depth = depth; may_match = false }) ∷ []))
-        (new_splits depth begin new z rest parts.1 ends)
-
--- lines that begin no include and no change are given out
-pub gives_out : (world : World) (depth : ℕ) (may_match : Bool) (lines : List SourceLine) (later : List Thing)
-    (change : List SourceLine) (files : ℕ) → list_any is_include (bytes_in lines) ≡ false
-    → seen (merge world (state (raws depth may_match lines ++ later) None change files))
-        ≡ followed_by (only_lines (lines_of lines)) (seen (merge world (state later None change files)))
-gives_out world depth may_match [] later change files plain_lines = refl
-gives_out world depth may_match (line ∷ lines) later change files plain_lines =
-    let parts = or-false (is_include line.line.bytes) (list_any is_include (bytes_in lines)) plain_lines in
-    let r : RawLine = record { source = line; depth = depth; may_match = may_match } in
-    let rest = raws depth may_match lines ++ later in
-    let s = state (raw r ∷ rest) None change files in
-    ap seen (merge_next world s (took line ∷ given line.line ∷ [], state rest None change files)
-        (ap (λ b. Some (taking line (plain b world s r rest))) parts.0))
-    ∙ ap (line_first line.line) (gives_out world depth may_match lines later change files parts.1)
-
--- and where an entry waits that none of them equals
-passes_by : (world : World) (depth : ℕ) (entry : Entry) (lines : List SourceLine) (later : List Thing)
-    (change : List SourceLine) (files : ℕ) → list_any is_include (bytes_in lines) ≡ false
-    → list_any (λ line. bytes_eq line entry.first) (bytes_in lines) ≡ false
-    → seen (merge world (state (raws depth true lines ++ later) (Some entry) change files))
-        ≡ followed_by (only_lines (lines_of lines)) (seen (merge world (state later (Some entry) change files)))
-passes_by world depth entry [] later change files plain_lines others = refl
-passes_by world depth entry (line ∷ lines) later change files plain_lines others =
-    let parts = or-false (is_include line.line.bytes) (list_any is_include (bytes_in lines)) plain_lines in
-    let differ = or-false (bytes_eq line.line.bytes entry.first)
-        (list_any (λ line. bytes_eq line entry.first) (bytes_in lines)) others in
-    let r : RawLine = record { source = line; depth = depth; may_match = true } in
-    let rest = raws depth true lines ++ later in
-    let s = state (raw r ∷ rest) (Some entry) change files in
-    ap seen (merge_next world s (took line ∷ given line.line ∷ [], state rest (Some entry) change files)
-    (ap (λ b. Some (taking line (at_entry (true && b) entry world s r rest))) differ.0
-        ∙ ap (λ b. Some (taking line (plain b world s r rest))) parts.0))
-    ∙ ap (line_first line.line) (passes_by world depth entry lines later change files parts.1 differ.1)
+-- only the codes of the entry are codes, no line includes, and the entry matches at its place and not before
+pub record IsPlain (e : Edit) : Type 0 where
+  pub no_comment : list_any is_code (bytes_in e.comment) ≡ false
+  pub begins : code_of e.x.line.bytes ≡ Some old_side
+  pub some : e.first.line.bytes ≢ []
+  pub no_first : code_of e.first.line.bytes ≡ None
+  pub no_old : list_any is_code (bytes_in e.further) ≡ false
+  pub turns : code_of e.y.line.bytes ≡ Some new_side
+  pub no_new : list_any is_code (bytes_in e.new) ≡ false
+  pub ends : code_of e.z.line.bytes ≡ Some end_side
+  pub new_plain : list_any is_include (bytes_in e.new) ≡ false
+  pub same_first : e.line.line.bytes ≡ e.first.line.bytes
+  pub same_old : bytes_in e.old ≡ bytes_in e.further
+  pub stays_plain : list_any is_include (bytes_in e.stays) ≡ false
+  pub others : list_any (λ line. bytes_eq line e.first.line.bytes) (bytes_in e.stays) ≡ false
 
 lines_unseen : (a b : List SourceLine) (events : List Event) → seen
     (map took a ++ map took b ++ [] ++ [] ++ [] ++ [] ++ events) ≡ seen events
@@ -127,91 +60,89 @@ lines_unseen [] (line ∷ b) events = lines_unseen [] b events
 lines_unseen (line ∷ a) b events = lines_unseen a b events
 
 -- a change whose old lines equal the web's
-module _ (world : World) (depth files : ℕ) (x first : SourceLine) (further : List SourceLine) (y : SourceLine)
-    (new : List SourceLine) (z : SourceLine) (change : List SourceLine) (line : SourceLine)
-    (old behind : List SourceLine) where
-  abbrev new_side_on : List SourceLine
-  new_side_on = new ++ (z ∷ change)
+module _ (world : World) (files : ℕ) (e : Edit) (plain_edit : IsPlain e) (change behind : List SourceLine) where
+  abbrev entry : Entry
+  entry = entry_of e.x e.first
 
   abbrev rest : List Thing
-  rest = raws depth true behind
+  rest = raws 1 true behind
+
+  -- behind the old lines
+  abbrev new_on : List SourceLine
+  new_on = e.new ++ (e.z ∷ change)
+
+  abbrev old_on : List SourceLine
+  old_on = e.further ++ (e.y ∷ new_on)
+
+  -- the web from the line on that is replaced
+  abbrev replaced_on : List SourceLine
+  replaced_on = e.line ∷ (e.old ++ behind)
 
   -- by its old side, and how that compares
   abbrev next_by : OldSide → Compared → Next
-  next_by side by = (change_events (entry_of x first) side by, after_old side.ended files depth
-      (entry_of x first) side by.rest)
+  next_by side by = (change_events entry side by, after_old side.ended files 1 entry side by.rest)
 
   abbrev side_is : OldSide
-  side_is = record { faults = []; lines = bytes_in further; taken = further ++ (y ∷ []); ended = false; rest =
-      new_side_on }
+  side_is = record {
+    faults = [];
+    lines = bytes_in e.further;
+    taken = e.further ++ (e.y ∷ []);
+    ended = false;
+    rest = new_on;
+  }
 
   abbrev by_is : Compared
-  by_is = record { unequal = 0; taken = old; ran_out = false; rest = rest }
+  by_is = record { unequal = 0; taken = e.old; ran_out = false; rest = rest }
 
-  replaces : list_any is_code (bytes_in further) ≡ false → code_of y.line.bytes ≡ Some new_side
-      → list_any is_code (bytes_in new) ≡ false → code_of z.line.bytes ≡ Some end_side
-      → list_any is_include (bytes_in new) ≡ false → line.line.bytes ≡ first.line.bytes
-          → bytes_in old ≡ bytes_in further
-      → seen (merge world (state (raws depth true (line ∷ (old ++ behind))) (Some (entry_of x first))
-          (further ++ (y ∷ new_side_on)) files))
-      ≡ followed_by (only_lines (lines_of new)) (seen (merge world (state (seek ∷ rest) None change files)))
-  replaces no_old turns no_new ends plain_new same_first same_old =
-      let entry = entry_of x first in
-      let r : RawLine = record { source = line; depth = depth; may_match = true } in
-      let things = raws depth true (old ++ behind) in
-      let s = state (raw r ∷ things) (Some entry) (further ++ (y ∷ new_side_on)) files in
-      let equal = (bytes_eq-Decides line.line.bytes first.line.bytes).1 same_first in
-      let by : compared (bytes_in further) things ≡ by_is =
-          ap (λ (ts : List Thing). compared (bytes_in further) ts) (raws-append depth true old behind)
-          ∙ ap (λ (olds : List (List ℕ)). compared olds (raws depth true old ++ rest)) (sym same_old)
-              ∙ compares depth true old rest in
-      let news = new_lines depth x.line.place new_side_on in
-      let things_in = raws depth false new ++ (passed z ∷ []) in
-      ap seen (merge_next world s (taking line (next_by side_is by_is))
-      (ap (λ b. Some (taking line (at_entry (true && b) entry world s r things))) equal
-      ∙ ap (λ side. Some (taking line (next_by side (compared side.lines things))))
-          (old_splits further y new_side_on no_old turns)
-      ∙ ap (λ by. Some (taking line (next_by side_is by))) by))
-      ∙ lines_unseen (further ++ (y ∷ [])) old (merge world (after_old false files depth entry side_is rest))
-      ∙ ap (λ (side : NewSide). seen (merge world (state (side.things ++ (seek ∷ rest)) None side.rest files)))
-          (new_splits depth x.line.place new z change no_new ends)
+  compares_so : compared (bytes_in e.further) (raws 1 true (e.old ++ behind)) ≡ by_is
+  compares_so =
+      ap (compared (bytes_in e.further)) (raws-append 1 true e.old behind)
+      ∙ ap (λ (olds : List (List ℕ)). compared olds (raws 1 true e.old ++ rest)) (sym plain_edit.same_old)
+      ∙ compares 1 true e.old rest
+
+  -- the new lines come, and then the next entry is sought
+  new_come : seen (merge world (after_old false files 1 entry side_is rest))
+      ≡ followed_by (only_lines (lines_of e.new)) (seen (merge world (state (seek ∷ rest) None change files)))
+  new_come =
+      ap (λ (side : NewSide). seen (merge world (state (side.things ++ (seek ∷ rest)) None side.rest files)))
+          (new_splits 1 e.x.line.place e.new e.z change plain_edit.no_new plain_edit.ends)
       ∙ ap (λ (ts : List Thing). seen (merge world (state ts None change files)))
-          (append_assoc (raws depth false new) (passed z ∷ []) (seek ∷ rest))
-      ∙ gives_out world depth false new (passed z ∷ seek ∷ rest) change files plain_new
-      ∙ ap (λ (events : List Event). followed_by (only_lines (lines_of new)) (seen events))
-          (merge_next world (state (passed z ∷ seek ∷ rest) None change files)
-          (took z ∷ [], state (seek ∷ rest) None change files) refl)
+          (append_assoc (raws 1 false e.new) (passed e.z ∷ []) (seek ∷ rest))
+      ∙ gives_out world 1 false e.new (passed e.z ∷ seek ∷ rest) change files plain_edit.new_plain
+      ∙ ap (λ (events : List Event). followed_by (only_lines (lines_of e.new)) (seen events))
+          (merge_next world (state (passed e.z ∷ seek ∷ rest) None change files)
+          (took e.z ∷ [], state (seek ∷ rest) None change files) refl)
 
--- one change: the search for it, the lines before it, the new lines, and what comes behind
-pub splices_one : (world : World) (files : ℕ) (comment : List SourceLine) (x first : SourceLine)
-    (further : List SourceLine) (y : SourceLine) (new : List SourceLine) (z : SourceLine)
-    (change stays : List SourceLine)
-    (line : SourceLine) (old behind : List SourceLine)
-    → list_any is_code (bytes_in comment) ≡ false → code_of x.line.bytes ≡ Some old_side → first.line.bytes ≢ []
-        → code_of first.line.bytes ≡ None
-    → list_any is_code (bytes_in further) ≡ false → code_of y.line.bytes ≡ Some new_side
-        → list_any is_code (bytes_in new) ≡ false → code_of z.line.bytes ≡ Some end_side
-    → list_any is_include (bytes_in new) ≡ false → line.line.bytes ≡ first.line.bytes → bytes_in old ≡ bytes_in further
-    → list_any is_include (bytes_in stays) ≡ false → list_any (λ line. bytes_eq line first.line.bytes)
-        (bytes_in stays) ≡ false
-    → seen (merge world (state (seek ∷ raws 1 true (stays ++ (line ∷ (old ++ behind)))) None
-        (comment ++ (x ∷ first ∷ (further ++ (y ∷ (new ++ (z ∷ change)))))) files))
-    ≡ followed_by (only_lines (lines_of stays))
-        (followed_by (only_lines (lines_of new))
-        (seen (merge world (state (seek ∷ raws 1 true behind) None change files))))
-splices_one world files comment x first further y new z change stays line old behind no_comment begins some none no_old turns no_new ends plain_new same_first same_old plain_stays others =
-    let entry = entry_of x first in
-    let later = further ++ (y ∷ (new ++ (z ∷ change))) in
-    let things = raws 1 true (stays ++ (line ∷ (old ++ behind))) in
-    let taken = comment ++ (x ∷ first ∷ []) in
-    ap seen (merge_next world (state (seek ∷ things) None (comment ++ (x ∷ first ∷ later)) files)
-        (map took taken ++ [], state things (Some entry) later files)
-    (ap (λ (found : Sought). Some (map took found.taken
-        ++ map fault found.faults, state things found.entry found.rest files))
-        (finds comment x first later no_comment begins some none)))
-    ∙ took_unseen taken (merge world (state things (Some entry) later files))
-    ∙ ap (λ (ts : List Thing). seen (merge world (state ts (Some entry) later files)))
-        (raws-append 1 true stays (line ∷ (old ++ behind)))
-    ∙ passes_by world 1 entry stays (raws 1 true (line ∷ (old ++ behind))) later files plain_stays others
-    ∙ ap (followed_by (only_lines (lines_of stays)))
-    (replaces world 1 files x first further y new z change line old behind no_old turns no_new ends plain_new same_first same_old)
+  replaces : seen (merge world (state (raws 1 true replaced_on) (Some entry) old_on files))
+      ≡ followed_by (only_lines (lines_of e.new)) (seen (merge world (state (seek ∷ rest) None change files)))
+  replaces =
+      let r : RawLine = record { source = e.line; depth = 1; may_match = true } in
+      let things = raws 1 true (e.old ++ behind) in
+      let s = state (raw r ∷ things) (Some entry) old_on files in
+      let equal = (bytes_eq-Decides e.line.line.bytes e.first.line.bytes).1 plain_edit.same_first in
+      ap seen (merge_next world s (taking e.line (next_by side_is by_is))
+          (ap (λ b. Some (taking e.line (at_entry (true && b) entry world s r things))) equal
+          ∙ ap (λ side. Some (taking e.line (next_by side (compared side.lines things))))
+              (old_splits e.further e.y new_on plain_edit.no_old plain_edit.turns)
+          ∙ ap (λ by. Some (taking e.line (next_by side_is by))) compares_so))
+      ∙ lines_unseen (e.further ++ (e.y ∷ [])) e.old (merge world (after_old false files 1 entry side_is rest))
+      ∙ new_come
+
+  -- one change: the search for it, the lines before it, the new lines, and what comes behind
+  pub splices_one : seen (merge world (state (seek ∷ raws 1 true (web_from e behind)) None (change_from e change) files))
+      ≡ followed_by (only_lines (lines_of e.stays)) (followed_by (only_lines (lines_of e.new))
+          (seen (merge world (state (seek ∷ rest) None change files))))
+  splices_one =
+      let things = raws 1 true (web_from e behind) in
+      let taken = e.comment ++ (e.x ∷ e.first ∷ []) in
+      ap seen (merge_next world (state (seek ∷ things) None (change_from e change) files)
+          (map took taken ++ [], state things (Some entry) old_on files)
+          (ap (λ (found : Sought).
+              Some (map took found.taken ++ map fault found.faults, state things found.entry found.rest files))
+              (finds e.comment e.x e.first old_on plain_edit.no_comment plain_edit.begins plain_edit.some
+              plain_edit.no_first)))
+      ∙ took_unseen taken (merge world (state things (Some entry) old_on files))
+      ∙ ap (λ (ts : List Thing). seen (merge world (state ts (Some entry) old_on files)))
+          (raws-append 1 true e.stays replaced_on)
+      ∙ passes_by world 1 entry e.stays (raws 1 true replaced_on) old_on files plain_edit.stays_plain plain_edit.others
+      ∙ ap (followed_by (only_lines (lines_of e.stays))) replaces

@@ -1,18 +1,20 @@
 -- What holds of merged lines whatever the texts are, in the words of someone who writes webs.
-use Rattle.std.specs.Prelude.{◌≡◌, ◌≢◌, ◌<◌, ℕ, zero, suc, ◌+◌, Bool, true, false, List, [], ◌∷◌, ◌++◌, length, map, Option, None, Some}
+use Rattle.std.specs.Prelude.{◌≡◌, ◌≢◌, ◌<◌, ◌≤◌, ℕ, zero, suc, ◌+◌, Bool, true, false, List, [], ◌∷◌, ◌++◌, length, map, Option, None, Some}
 use Rattle.std.specs.List.{AllByRecursion, list_any}
 use Rattle.std.specs.Option.{is_some}
 use Rattle.std.specs.Str.{bytes_eq}
 use Rattle.cweb_files.specs.declared.place.Place.{Place}
 use Rattle.cweb_lines.specs.Lines.{Line, SourceLine, lines, lines_in}
 use Rattle.cweb_lines.specs.Include.{World, found_at, include_name, is_include}
-use Rattle.cweb_lines.specs.Change.{code_of}
+use Rattle.cweb_lines.specs.Change.{at_place, code_of}
 use Rattle.cweb_lines.specs.Merge.{Event, raws, started}
 use Rattle.cweb_lines.specs.Told.{given_lines, told_faults, openings}
 use Rattle.cweb_lines.specs.Total.{merge}
 use Rattle.cweb_lines.specs.Writing.{text_of}
 use Rattle.cweb_lines.specs.declared.code.Code.TheVariants.{EndSide as end_side, NewSide as new_side, OldSide as old_side}
 use Rattle.cweb_lines.specs.declared.fault.SourceFault.{SourceFault}
+use Rattle.cweb_lines.specs.declared.fault.SourceKind.{SourceKind}
+use Rattle.cweb_lines.specs.declared.fault.SourceKind.TheVariants.{NoName, NotThere, TooDeep}
 use Rattle.cweb_lines.specs.declared.limits.TheConstants.{OPEN_FILES}
 
 -- what an author sees of a merge: the lines with their places, the faults, and the names of included files
@@ -117,6 +119,30 @@ followed_by first later = record {
 abbrev pub only_name : List ℕ → Seen
 only_name name = record { lines = []; faults = []; included = name ∷ [] }
 
+abbrev pub only_fault : SourceKind → Place → Seen
+only_fault kind place = record { lines = []; faults = at_place kind place ∷ []; included = [] }
+
+-- Where no change file is given, each line comes alone: what comes of lines is what comes of some of them and then what
+-- comes of the rest, and a line that includes no text is given out, or is a fault.
+pub record LinesComeApart : Type 0 where
+  -- a web's own lines lie at depth 1, behind one file
+  pub whole : (world : World) (web : List ℕ) → seen_of world web None ≡ seen_in world 1 1 (lines_in 0 web)
+  pub apart : (world : World) (depth files : ℕ) (before behind : List SourceLine) →
+    let first = seen_in world depth files before in
+    let rest = seen_in world depth (files + length first.included) behind in
+    seen_in world depth files (before ++ behind) ≡ followed_by first rest
+  pub plain : (world : World) (depth files : ℕ) (line : SourceLine) → is_include line.line.bytes ≡ false
+    → seen_in world depth files (line ∷ []) ≡ only_lines (line.line ∷ [])
+  pub no_name : (world : World) (depth files : ℕ) (line : SourceLine) → is_include line.line.bytes ≡ true
+    → include_name line.line.bytes ≡ []
+    → seen_in world depth files (line ∷ []) ≡ only_fault NoName line.line.place
+  pub too_deep : (world : World) (depth files : ℕ) (line : SourceLine) → is_include line.line.bytes ≡ true
+    → include_name line.line.bytes ≢ [] → OPEN_FILES ≤ depth
+    → seen_in world depth files (line ∷ []) ≡ only_fault TooDeep line.line.place
+  pub not_there : (world : World) (depth files : ℕ) (line : SourceLine) → is_include line.line.bytes ≡ true
+    → include_name line.line.bytes ≢ [] → depth < OPEN_FILES → found_at world (include_name line.line.bytes) ≡ None
+    → seen_in world depth files (line ∷ []) ≡ only_fault NotThere line.line.place
+
 -- a line that includes a text, which is found under a name
 pub record Includes (world : World) (bytes name text : List ℕ) : Type 0 where
   pub include : is_include bytes ≡ true
@@ -135,10 +161,8 @@ with_included world depth files before name text behind =
 
 -- Where no change file is given, an include line is replaced by the merged lines of its text, one deeper, and what
 -- stands before and behind it comes as if alone.
-pub record IncludeLinesAreReplaced : Type 0 where
-  -- a web's own lines lie at depth 1, behind one file
-  pub whole : (world : World) (web : List ℕ) → seen_of world web None ≡ seen_in world 1 1 (lines_in 0 web)
-  pub replaced : (world : World) (depth files : ℕ) (before behind : List SourceLine)
+abbrev pub IncludeLinesAreReplaced : Type 0
+IncludeLinesAreReplaced = (world : World) (depth files : ℕ) (before behind : List SourceLine)
     (line : SourceLine) (name text : List ℕ)
     → Includes world line.line.bytes name text → depth < OPEN_FILES
     → seen_in world depth files (before ++ line ∷ behind) ≡ with_included world depth files before name text behind

@@ -1,6 +1,6 @@
 //! What holds of merged lines whatever the texts are. These functions do nothing: each is there for its contract.
 
-ghost use Rattle.cweb_lines.specs.Laws.{ChangeFilesWithoutEntriesChangeNothing, ChangesSplice, IncludeLinesAreReplaced, PrintedMergesComeAgain, WebsWithoutIncludesAreTheirOwnLines};
+ghost use Rattle.cweb_lines.specs.Laws.{ChangeFilesWithoutEntriesChangeNothing, ChangesSplice, IncludeLinesAreReplaced, LinesComeApart, PrintedMergesComeAgain, WebsWithoutIncludesAreTheirOwnLines};
 ghost use Rattle.cweb_lines.specs.Total.{HasOneAnswer};
 
 /// Every shelf, web and change file have their merged lines, and have them once: the steps of the merge end, and
@@ -26,6 +26,13 @@ pub fn change_file_without_entries_changes_nothing()
 /// out begins an include.
 pub fn printed_merge_comes_again()
     ensures { PrintedMergesComeAgain }
+{}
+
+/// Where no change file is given, each line comes alone: a line that begins no include is given out; an include line that
+/// gives no name, lies too deep or finds no text is a fault; one that finds its text is replaced by it, as
+/// `include_line_is_replaced` says.
+pub fn lines_come_apart()
+    ensures { LinesComeApart }
 {}
 
 /// Where no change file is given, an include line that finds its text is replaced by the merged lines of that text, and

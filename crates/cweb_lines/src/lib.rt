@@ -32,7 +32,8 @@ pub use cweb_files::{
 pub use fault::{SourceFault, SourceKind};
 pub use laws::{
     change_file_without_entries_changes_nothing, changes_splice, include_line_is_replaced,
-    merge_has_one_answer, printed_merge_comes_again, web_without_includes_is_its_own_lines,
+    lines_come_apart, merge_has_one_answer, printed_merge_comes_again,
+    web_without_includes_is_its_own_lines,
 };
 pub use limits::{BYTES, LINE_LENGTH, LINES};
 pub use merger::Merger;
