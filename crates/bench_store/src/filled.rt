@@ -1,7 +1,8 @@
 // A builder that is given many names.
 
-ghost use Rattle.std.specs.Prelude.{◌≡◌, ◌≤◌, ◌<◌, ◌+◌, ◌^◌, length, IfOk, OnOk};
-ghost use Rattle.cweb_store.specs.Parts.{no_parts};
+ghost use Rattle.std.specs.Prelude.{◌≡◌, ◌≤◌, ◌<◌, ◌+◌, length, IfOk, OnOk};
+ghost use Rattle.cweb_store.specs.Growing.{no_parts};
+ghost use Rattle.cweb_store.specs.Calls.{too_many};
 
 use cweb_store::{Builder, How, NameRef, Store};
 use std::alloc::{AllocError, Global};
@@ -28,7 +29,7 @@ pub fn filled(alloc: Global, count: u32) -> Result<Builder, AllocError>
 
 // Gives the name with a number, or its abbreviation.
 fn give(alloc: Global, builder: &mut Builder, number: u32, how: How) -> Result<(), AllocError>
-    requires { length builder.old.occurrences + 1 < 2 ^ 32 }
+    requires { length builder.old.occurrences + 1 < too_many }
     ensures count { OnOk result (length builder.new.occurrences ≡ length builder.old.occurrences + 1) }
     ensures parts { OnOk result (builder.new.parts ≡ builder.old.parts) }
 {

@@ -3,7 +3,8 @@ use Rattle.std.proofs.Common.{◌≡◌, ◌+◌, List, [], ◌∷◌, ◌++◌,
 use Rattle.std.specs.Prelude.{IsSome, IsNone, option_map, option_to_list}
 use Rattle.std.proofs.lemmas.Grind.{flat_map-append}
 use Rattle.cweb_store.specs.declared.part.PartKind.{PartKind}
-use Rattle.cweb_store.specs.Parts.{Token, Part, PartsSoFar, all_tokens, all_parts, all_closed, opened, pushed, longer, token_count}
+use Rattle.cweb_store.specs.Parts.{Token, Part, all_tokens}
+use Rattle.cweb_store.specs.Growing.{PartsSoFar, opened, pushed, longer, token_count}
 
 tokens-last : (ps : List Part) (p : Part) → length (all_tokens (ps ++ p ∷ [])) ≡ length (all_tokens ps) + length p.tokens
 tokens-last ps p = simp (flat_map-append {X = Part} {A = Token}, append-nil, length-append)
@@ -19,6 +20,3 @@ token_count-pushed t v some = (elim v.current as (λ o. IsSome o → length (all
   | None ↦ λ h. cc
   | Some p ↦ λ h. omega (arith, tokens-last v.closed (longer t p), tokens-last v.closed p, length-append p.tokens (t ∷ []))
 ]) some
-
-pub token_count-closed : (v : PartsSoFar) → token_count (all_closed v) ≡ token_count v
-token_count-closed v = ap (λ ps. length (all_tokens ps)) (append-nil (all_parts v))

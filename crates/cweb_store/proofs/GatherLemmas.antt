@@ -1,17 +1,18 @@
 -- Which names are among those that are gathered from tokens and parts.
-use Rattle.std.proofs.Common.{◌≡◌, ℕ, ◌+◌, Bool, true, false, ◌||◌, List, [], ◌∷◌, ◌++◌, Some, None, Option, length, refl, sym, ◌∙◌, ap}
-use Rattle.std.specs.Prelude.{if◌then◌else◌, nat_eq}
+use Rattle.std.proofs.Common.{◌≡◌, ℕ, ◌+◌, Bool, true, false, cond, ◌||◌, List, [], ◌∷◌, ◌++◌, Some, None, Option, length, refl, sym, ◌∙◌, ap}
+use Rattle.std.specs.Prelude.{if◌then◌else◌, nat_eq, filter}
 use Rattle.std.specs.List.{list_any}
 use Rattle.std.proofs.lemmas.Bool.{eqb-true}
 use Rattle.std.proofs.lemmas.List.Folds.{list_any-append}
 use Rattle.cweb_store.specs.declared.name.NameId.{NameId}
 use Rattle.cweb_store.specs.declared.part.PartKind.{PartKind}
-use Rattle.cweb_store.specs.declared.part.PartKind.TheVariants.{Unnamed, Named}
+use Rattle.cweb_store.specs.declared.part.PartKind.TheVariants.{Unnamed, Named, Macro}
 use Rattle.cweb_store.specs.Names.{Standing, stands, is_id, with_id, with_some}
 use Rattle.cweb_store.specs.Parts as spec
-use Rattle.cweb_store.specs.Parts.{Token, Part, is_some_id, is_of, runs_from}
-use Rattle.cweb_store.specs.Faults.{is_use, has_part}
-use Rattle.cweb_store.specs.Gathered.{with_use, used_from, with_part, present_from}
+use Rattle.cweb_store.specs.Parts.{Token, Part, all_tokens, joined, is_code, is_some_id, is_of}
+use Rattle.cweb_store.specs.Runs.{runs_from}
+use Rattle.cweb_store.specs.Faults.{is_use, is_used, has_part}
+use Rattle.cweb_store.specs.Gathered.{with_use, used_from, used_in, with_part, present_from}
 
 or-none : (b : Bool) → (b || false) ≡ b
 or-none true = refl
@@ -55,13 +56,24 @@ any-used_from rs n ns [] = sym (or-none (list_any (is_id n) ns))
 any-used_from rs n ns (t ∷ ts) =
     any-used_from rs n (with_use rs ns t) ts ∙ ap (λ b. b || list_any (is_use rs n) ts) (any-with_use rs n t ns) ∙ or-assoc (list_any (is_id n) ns) (is_use rs n t) (list_any (is_use rs n) ts)
 
--- a name is among those that tokens use where a token uses it
-pub any-used : (rs : List Standing) (n : NameId) (ts : List Token) → list_any (is_id n) (used_from rs [] ts) ≡ list_any (is_use rs n) ts
-any-used rs n ts = any-used_from rs n [] ts
+used-joined : (rs : List Standing) (n : NameId) (ns : List NameId) (ps : List Part) → list_any (is_id n) (used_in rs ns ps) ≡ (list_any (is_id n) ns || is_used rs ps n)
+used-joined rs n ns [] = sym (or-none (list_any (is_id n) ns))
+used-joined rs n ns (p ∷ ps) =
+    elim (is_code p.kind) as (λ b. list_any (is_id n) (used_in rs (if b then used_from rs ns p.tokens else ns) ps) ≡ (list_any (is_id n) ns || list_any (is_use rs n) (all_tokens (cond b (p ∷ filter (λ (q : Part). is_code q.kind) ps) (filter (λ (q : Part). is_code q.kind) ps))))) [
+      | true ↦ used-joined rs n (used_from rs ns p.tokens) ps ∙ ap (λ b. b || is_used rs ps n) (any-used_from rs n ns p.tokens)
+          ∙ or-assoc (list_any (is_id n) ns) (list_any (is_use rs n) p.tokens) (is_used rs ps n)
+          ∙ ap (λ b. list_any (is_id n) ns || b) (sym (list_any-append (is_use rs n) p.tokens (joined is_code ps)))
+      | false ↦ used-joined rs n ns ps
+    ]
+
+-- a name is among those that parts of C text use where such a part uses it
+pub any-used : (rs : List Standing) (n : NameId) (ps : List Part) → list_any (is_id n) (used_in rs [] ps) ≡ is_used rs ps n
+any-used rs n ps = used-joined rs n [] ps
 
 any-with_part : (rs : List Standing) (n : NameId) (kind : PartKind) (ns : List NameId) → list_any (is_id n) (with_part rs ns kind) ≡ (list_any (is_id n) ns || is_of rs n kind)
 any-with_part rs n Unnamed ns = sym (or-none (list_any (is_id n) ns))
 any-with_part rs n (Named name) ns = any-with_some n (stands rs name.0) ns
+any-with_part rs n Macro ns = sym (or-none (list_any (is_id n) ns))
 
 any-present_from : (rs : List Standing) (n : NameId) (ns : List NameId) (k : ℕ) (ps : List Part) → list_any (is_id n) (present_from rs ns (runs_from k ps)) ≡ (list_any (is_id n) ns || has_part rs ps n)
 any-present_from rs n ns k [] = sym (or-none (list_any (is_id n) ns))

@@ -12,7 +12,7 @@ use Rattle.cweb_store.specs.declared.name.NameKind.TheVariants.{NeverFull}
 use Rattle.cweb_store.specs.declared.part.PartKind.{PartKind}
 use Rattle.cweb_store.specs.Names.{Occurrence, Name, Standing, id, texts, with_text, with_name, names_from, names, beginning_from, beginning, the_one, standing_among, standings_from, standings, stands}
 use Rattle.cweb_store.specs.Parts.{Part, all_tokens, joined}
-use Rattle.cweb_store.specs.Calls.{Call, Occurs, Opens, Pushes, Closes, Contents, after, empty}
+use Rattle.cweb_store.specs.Calls.{Call, Occurs, Opens, Pushes, Drops, Closes, Transliterates, Contents, after, empty}
 use Rattle.cweb_store.specs.Laws.{gives_beginning, AbbreviationsStay, EarlierNamesDecide, FullNamesStandForThemselves, JoiningConcatenates, OccurrencesAreThoseOfCalls, occurrence_in}
 use Rattle.cweb_store.proofs.NameLemmas.{or-false}
 use Rattle.cweb_store.proofs.OccurrenceLemmas.{Grows, names_from-grows, with_text-has}
@@ -96,7 +96,7 @@ earlier_names_decide earlier later o n prefix only =
     ∙ ap (λ xs. Some (standing_among (names_from 0 [] xs) (names os) o)) (take-middle earlier (o ∷ later))
     ∙ ap Some (among-prefix (names earlier) (names os) o.text o.how o.is_file prefix ∙ ap (λ ns. the_one ns (the_one (beginning o.text (names os)) (Err NeverFull))) only)
 
-any-grows : (p : List ℕ → Bool) (old new : List Name) → Grows old new → list_any p (texts old) ≡ true → list_any p (texts new) ≡ true
+pub any-grows : (p : List ℕ → Bool) (old new : List Name) → Grows old new → list_any p (texts old) ≡ true → list_any p (texts new) ≡ true
 any-grows p old new g h = ap (λ ns. list_any p (texts ns)) g.grows ∙ ap (list_any p) (map-append (λ (n : Name). n.text) old g.more) ∙ list_any-append p (texts old) (texts g.more) ∙ ap (λ b. b || list_any p (texts g.more)) h
 
 with_name-has : (i : ℕ) (ns : List Name) (text : List ℕ) (how : How) (is_file : Bool) → how ≡ Full →
@@ -150,7 +150,9 @@ occurrences-from c [] = sym (append-nil c.occurrences)
 occurrences-from c (Occurs o ∷ calls) = occurrences-from (after c (Occurs o)) calls ∙ append_assoc c.occurrences (o ∷ []) (filter_map occurrence_in calls)
 occurrences-from c (Opens kind ∷ calls) = occurrences-from (after c (Opens kind)) calls
 occurrences-from c (Pushes token ∷ calls) = occurrences-from (after c (Pushes token)) calls
+occurrences-from c (Drops ∷ calls) = occurrences-from (after c Drops) calls
 occurrences-from c (Closes ∷ calls) = occurrences-from (after c Closes) calls
+occurrences-from c (Transliterates r ∷ calls) = occurrences-from (after c (Transliterates r)) calls
 
 pub occurrences_are_those_of_calls : OccurrencesAreThoseOfCalls
 occurrences_are_those_of_calls calls = occurrences-from empty calls

@@ -1,5 +1,5 @@
 -- What the occurrences give: names, what is found of each, and what each stands for.
-use Rattle.std.proofs.Common.{◌≡◌, ℕ, ◌+◌, ◌≤◌, ◌<◌, ◌^◌, Bool, true, false, cond, not, ◌||◌, List, [], ◌∷◌, ◌++◌, map, length, refl, sym, ◌∙◌, ap, subst, arith, length-append, append_assoc, append-nil}
+use Rattle.std.proofs.Common.{◌≡◌, ℕ, ◌+◌, ◌≤◌, ◌<◌, Bool, true, false, cond, not, ◌||◌, List, [], ◌∷◌, ◌++◌, map, length, refl, sym, ◌∙◌, ap, subst, arith, length-append, append_assoc, append-nil}
 use Rattle.std.specs.Prelude.{Ok, Err, bytes_eq, if◌then◌else◌}
 use Rattle.std.specs.List.{list_any, position_or_len}
 use Rattle.std.proofs.lemmas.List.{map-append, length-map}
@@ -10,6 +10,7 @@ use Rattle.cweb_store.specs.declared.name.NameKind.TheVariants.{NeverFull}
 use Rattle.cweb_store.specs.declared.name_table.Given.{Given}
 use Rattle.cweb_store.specs.Names.{Occurrence, Name, Standing, id, texts, with_text, with_name, names_from, names, beginning, the_one, standing_among, standings_from, standings}
 use Rattle.cweb_store.specs.Found.{found_of}
+use Rattle.cweb_store.specs.Calls.{too_many}
 use Rattle.cweb_store.specs.Known.{early, earlies_from, by_found}
 use Rattle.cweb_store.specs.Given.{occurrence_in, occurrences_in, AreGiven, settled}
 use Rattle.cweb_store.proofs.NameLemmas.{bytes_eq-same}
@@ -39,7 +40,7 @@ earlies_from-push i ns [] o = refl
 earlies_from-push i ns (p ∷ os) o = ap (λ fs. early ns p ∷ fs) (earlies_from-push (i + 1) (with_name i ns p) os o)
 
 -- one more occurrence
-pub given-push : (known more : List Name) (gs : List Given) (g : Given) → AreGiven known gs → length gs + 1 < 2 ^ 32 → g.found ≡ early known (occurrence_in g) → more ≡ with_name (length gs) known (occurrence_in g) → AreGiven more (gs ++ g ∷ [])
+pub given-push : (known more : List Name) (gs : List Given) (g : Given) → AreGiven known gs → length gs + 1 < too_many → g.found ≡ early known (occurrence_in g) → more ≡ with_name (length gs) known (occurrence_in g) → AreGiven more (gs ++ g ∷ [])
 given-push known more gs g tied few found new =
     let count : length gs ≡ 0 + length (occurrences_in gs) = omega (arith, length-map gs occurrence_in) in
     record {
@@ -59,7 +60,7 @@ with_text-grows i ns text =
     let n : Name = record { text = text; first = i } in
     elim (list_any (bytes_eq text) (texts ns)) as (λ b. Grows ns (if b then ns else ns ++ n ∷ [])) [ true ↦ record { more = []; grows = sym (append-nil ns) } | false ↦ record { more = n ∷ []; grows = refl } ]
 
-with_name-grows : (i : ℕ) (ns : List Name) (o : Occurrence) → Grows ns (with_name i ns o)
+pub with_name-grows : (i : ℕ) (ns : List Name) (o : Occurrence) → Grows ns (with_name i ns o)
 with_name-grows i ns o = elim o.how as (λ how. Grows ns (elim how [ Full ↦ with_text i ns o.text | Prefix ↦ ns ])) [ Full ↦ with_text-grows i ns o.text | Prefix ↦ record { more = []; grows = sym (append-nil ns) } ]
 
 pub names_from-grows : (i : ℕ) (ns : List Name) (os : List Occurrence) → Grows ns (names_from i ns os)

@@ -1,5 +1,5 @@
 -- The definitions, computed on small lists of calls.
-use Rattle.std.proofs.Common.{◌≡◌, ℕ, List, [], ◌∷◌, refl, true, false}
+use Rattle.std.proofs.Common.{◌≡◌, ℕ, List, [], ◌∷◌, ◌++◌, Some, None, map, refl, true, false}
 use Rattle.std.specs.Prelude.{codes, Ok, Err}
 use Rattle.cweb_store.specs.declared.name.How.{How}
 use Rattle.cweb_store.specs.declared.name.How.TheVariants.{Full, Prefix}
@@ -7,11 +7,12 @@ use Rattle.cweb_store.specs.declared.name.NameFault.{NameFault}
 use Rattle.cweb_store.specs.declared.name.NameKind.TheVariants.{Ambiguous, NeverFull, PrefixOfAnother, NotPresent}
 use Rattle.cweb_store.specs.declared.name.NameRef.{NameRef}
 use Rattle.cweb_store.specs.declared.part.PartKind.{PartKind}
-use Rattle.cweb_store.specs.declared.part.PartKind.TheVariants.{Unnamed, Named}
+use Rattle.cweb_store.specs.declared.part.PartKind.TheVariants.{Unnamed, Named, Macro}
 use Rattle.cweb_store.specs.Names.{Occurrence, id, names, texts, standings, files}
-use Rattle.cweb_store.specs.Parts.{Token, Word, Name, Blank, joined, is_of, is_unnamed, numbers_where}
+use Rattle.cweb_store.specs.Parts.{Token, Word, Name, Mark, Blank, Newline, Join, Defs, joined, is_of, is_unnamed, is_macro, numbers_where, has_defs_code}
+use Rattle.cweb_store.specs.Replacements.{replacement, replacement_of}
 use Rattle.cweb_store.specs.Faults.{fault, faults}
-use Rattle.cweb_store.specs.Calls.{Call, Occurs, Opens, Pushes, Closes, Stored, contents, finished, occurrence_of}
+use Rattle.cweb_store.specs.Calls.{Call, Occurs, Opens, Pushes, Drops, Closes, Transliterates, Stored, contents, finished, occurrence_of}
 
 abbrev stored : List Call → Stored
 stored calls = finished (contents calls)
@@ -106,3 +107,73 @@ the_program = refl
 numbers_of_parts : numbers_where (is_of (standings (stored joins).occurrences) (id 0)) (stored joins).parts
     ≡ (record { first = 0; after = 2 }) ∷ (record { first = 3; after = 4 }) ∷ []
 numbers_of_parts = refl
+
+-- the tokens of a part of a kind that is given tokens, loses its last layout, and is closed
+abbrev dropped_of : PartKind → List Token → List Token
+dropped_of kind tokens = joined (λ k. true) (stored (Opens kind ∷ map Pushes tokens ++ Drops ∷ [])).parts
+
+abbrev closed_of : PartKind → List Token → List Token
+closed_of kind tokens = joined (λ k. true) (stored (Opens kind ∷ map Pushes tokens ++ Closes ∷ [])).parts
+
+abbrev mark : Token
+mark = Mark (record { file = record { 0 = 0 }; line = 1 })
+
+abbrev x : Token
+x = Word (codes "x")
+
+layout_of_a_part : dropped_of Unnamed (Blank ∷ x ∷ Blank ∷ mark ∷ Newline ∷ []) ≡ Blank ∷ x ∷ []
+layout_of_a_part = refl
+
+layout_alone : dropped_of Unnamed (Blank ∷ Newline ∷ []) ≡ []
+layout_alone = refl
+
+-- layout stays where something else follows it
+layout_before_a_join : dropped_of Unnamed (Newline ∷ Join ∷ []) ≡ Newline ∷ Join ∷ []
+layout_before_a_join = refl
+
+layout_of_a_macro_of_one : dropped_of Macro (Blank ∷ []) ≡ Blank ∷ []
+layout_of_a_macro_of_one = refl
+
+layout_of_a_macro_of_two : dropped_of Macro (x ∷ Blank ∷ []) ≡ x ∷ Blank ∷ []
+layout_of_a_macro_of_two = refl
+
+layout_of_a_macro_of_three : dropped_of Macro (x ∷ Blank ∷ Newline ∷ []) ≡ x ∷ Blank ∷ []
+layout_of_a_macro_of_three = refl
+
+end_of_a_macro : closed_of Macro (x ∷ Blank ∷ x ∷ Blank ∷ Blank ∷ Newline ∷ Newline ∷ []) ≡ x ∷ Blank ∷ x ∷ Blank ∷ []
+end_of_a_macro = refl
+
+-- a Blank is dropped once, and no Newline before it
+blank_of_a_macro : closed_of Macro (x ∷ Newline ∷ Blank ∷ []) ≡ x ∷ Newline ∷ []
+blank_of_a_macro = refl
+
+end_of_a_part : closed_of Unnamed (x ∷ Blank ∷ Newline ∷ []) ≡ x ∷ Blank ∷ Newline ∷ []
+end_of_a_part = refl
+
+-- a macro is no C text: its Defs and its uses don't count
+abbrev in_a_macro : List Call
+in_a_macro = Occurs (occurrence_of (codes "A") Full false) ∷ Opens Macro ∷ Pushes Defs ∷ Pushes (Name (ref 0)) ∷ []
+
+defs_of_a_macro : has_defs_code (stored in_a_macro).parts ≡ false
+defs_of_a_macro = refl
+
+use_in_a_macro : faults_of in_a_macro ≡ []
+use_in_a_macro = refl
+
+defs_of_a_part : has_defs_code (stored (Opens (named 7) ∷ Pushes Defs ∷ [])).parts ≡ true
+defs_of_a_part = refl
+
+macros_in_order : joined is_macro (stored (Opens Macro ∷ Pushes x ∷ Closes ∷ Opens Unnamed ∷ Pushes Join ∷ Closes ∷ Opens Macro ∷ Pushes Blank ∷ [])).parts ≡ x ∷ Blank ∷ []
+macros_in_order = refl
+
+abbrev replaced : List Call
+replaced = Transliterates (replacement_of 196 (codes "Ae")) ∷ Transliterates (replacement_of 228 (codes "ae")) ∷ Transliterates (replacement_of 196 (codes "A")) ∷ []
+
+a_later_replacement_wins : replacement (stored replaced).replacements 196 ≡ Some (codes "A")
+a_later_replacement_wins = refl
+
+a_replacement_of_its_own : replacement (stored replaced).replacements 228 ≡ Some (codes "ae")
+a_replacement_of_its_own = refl
+
+no_replacement : replacement (stored replaced).replacements 214 ≡ None
+no_replacement = refl

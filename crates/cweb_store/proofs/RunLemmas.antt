@@ -1,15 +1,17 @@
 -- What becomes of parts that are runs of a list of tokens.
-use Rattle.std.proofs.Common.{◌≡◌, ℕ, ◌+◌, ◌-◌, ◌≤◌, List, [], ◌∷◌, ◌++◌, Some, None, Option, map, length, take, drop, refl, sym, ◌∙◌, ap, arith, append_assoc, append-nil, length-append, length-drop, inl, inr}
-use Rattle.std.specs.Prelude.{slice_range, option_map, IsSome}
+use Rattle.std.proofs.Common.{◌≡◌, ℕ, ◌+◌, ◌-◌, ◌≤◌, ◌<◌, List, [], ◌∷◌, ◌++◌, Some, None, Option, map, length, take, drop, refl, sym, ◌∙◌, ap, subst, arith, append_assoc, append-nil, length-append, length-drop, inl, inr}
+use Rattle.std.specs.Prelude.{slice_range, option_map, option_to_list, IsSome}
 use Rattle.std.proofs.Math.Seq.{drop-length, length-take-le}
-use Rattle.std.proofs.lemmas.List.{drop-drop, take-append-drop, drop-append-le, take-append-le, drop-take, take-take, take_all, map-append}
+use Rattle.std.proofs.lemmas.List.{length-map, drop-drop, take-append-drop, drop-append-le, take-append-le, drop-take, take-take, take_all, map-append}
 use Rattle.std.proofs.lemmas.Bool.{cases_lt}
 use Rattle.std.proofs.lemmas.Grind.{flat_map-append}
 use Rattle.cweb_store.specs.declared.part.PartKind.{PartKind}
 use Rattle.cweb_store.specs.declared.part.Run.{Run}
 use Rattle.cweb_store.specs.declared.part.Open.{Open}
-use Rattle.cweb_store.specs.Parts.{Token, Part, all_parts, all_tokens, all_closed, pushed, runs_from}
-use Rattle.cweb_store.specs.Runs.{IsWhole, last_run, closed_in, open_in, parts_in, Follow, AreRuns}
+use Rattle.cweb_store.specs.Parts.{Token, Part, all_tokens}
+use Rattle.cweb_store.specs.Growing.{PartsSoFar, all_parts, pushed, part_count}
+use Rattle.cweb_store.specs.Calls.{too_many}
+use Rattle.cweb_store.specs.Runs.{runs_from, IsWhole, last_run, closed_in, open_in, parts_in, Follow, AreRuns}
 
 -- a range that ends within the first n tokens is a range of these
 slice_range-take : (ts : List Token) (n i j : ℕ) → j ≤ n → slice_range (take n ts) i j ≡ slice_range ts i j
@@ -22,7 +24,7 @@ slice_range-take ts n i j h = elim (cases_lt j i) [
       ap (λ k. take (j - i) (drop i (take k ts))) e ∙ ap (take (j - i)) (drop-take i (n - i) ts) ∙ take-take (j - i) (n - i) (drop i ts) (omega arith)
 ]
 
-Follow-le : (n end : ℕ) (runs : List Run) → Follow n runs end → n ≤ end
+pub Follow-le : (n end : ℕ) (runs : List Run) → Follow n runs end → n ≤ end
 Follow-le n end [] h = omega arith
 Follow-le n end (r ∷ runs) h = omega (arith, h.1, Follow-le r.part.after end runs h.2)
 
@@ -73,19 +75,22 @@ push-parts ts t runs (Some o) places some tied =
     let last : drop o.first (ts ++ t ∷ []) ≡ drop o.first ts ++ t ∷ [] = drop-append-le o.first ts (t ∷ []) tied.within in
     λ i. record { closed = closed i; current = Some (record { kind = o.kind; tokens = last i }) }
 
-pub push-are : (ts : List Token) (t : Token) (runs : List Run) (current : Option Open) (places : ℕ) → IsSome (option_map (open_in ts) current) → AreRuns ts runs current places → AreRuns (ts ++ t ∷ []) runs current places
-push-are ts t runs None places some tied = cc
-push-are ts t runs (Some o) places some tied = record {
+pub push-are : (ts : List Token) (t : Token) (runs : List Run) (current : Option Open) (places : ℕ) → length ts + 1 < too_many → IsSome (option_map (open_in ts) current) → AreRuns ts runs current places → AreRuns (ts ++ t ∷ []) runs current places
+push-are ts t runs None places few some tied = cc
+push-are ts t runs (Some o) places few some tied = record {
   follow = tied.follow;
   within = omega (arith, tied.within, length-append ts (t ∷ []));
   room = tied.room;
+  few_tokens = omega (arith, few, length-append ts (t ∷ []));
+  few_parts = tied.few_parts;
 }
 
 Follow-push : (n end after : ℕ) (runs : List Run) (kind : PartKind) → Follow n runs end → end ≤ after → Follow n (runs ++ (record { kind = kind; part = record { first = end; after = after } }) ∷ []) after
 Follow-push n end after [] kind h le = (sym h, omega arith, refl)
 Follow-push n end after (r ∷ runs) kind h le = (h.0, h.1, Follow-push r.part.after end after runs kind h.2 le)
 
-pub close-parts : (ts : List Token) (runs : List Run) (o : Open) (places : ℕ) → AreRuns ts runs (Some o) places → parts_in ts (runs ++ last_run o (length ts) ∷ []) None ≡ all_closed (parts_in ts runs (Some o))
+-- the open part as it stands, closed
+pub close-parts : (ts : List Token) (runs : List Run) (o : Open) (places : ℕ) → AreRuns ts runs (Some o) places → parts_in ts (runs ++ last_run o (length ts) ∷ []) None ≡ record { closed = all_parts (parts_in ts runs (Some o)); current = None }
 close-parts ts runs o places tied =
     let last : slice_range ts o.first (length ts) ≡ drop o.first ts = take_all (length ts - o.first) (drop o.first ts) (omega (arith, length-drop o.first ts)) in
     λ i. record { closed = (map-append (closed_in ts) runs (last_run o (length ts) ∷ []) ∙ ap (λ us. let p : Part = record { kind = o.kind; tokens = us } in map (closed_in ts) runs ++ p ∷ []) last) i; current = None }
@@ -95,7 +100,45 @@ close-are ts runs o places more tied = record {
   follow = Follow-push 0 o.first (length ts) runs o.kind tied.follow tied.within;
   within = omega arith;
   room = λ h. cc;
+  few_tokens = tied.few_tokens;
+  few_parts = omega (arith, tied.few_parts, length-append runs (last_run o (length ts) ∷ []));
 }
+
+-- the open part loses its last tokens
+cut-closed : (ts : List Token) (runs : List Run) (o : Open) (places n : ℕ) → AreRuns ts runs (Some o) places → o.first ≤ n → map (closed_in (take n ts)) runs ≡ map (closed_in ts) runs
+cut-closed ts runs o places n tied le = parts-keep runs (take n ts) ts 0 o.first tied.follow (take-take o.first n ts le)
+
+pub cut-parts : (ts : List Token) (runs : List Run) (o : Open) (places n : ℕ) (p : Part) → AreRuns ts runs (Some o) places → o.first ≤ n → open_in (take n ts) o ≡ p →
+    parts_in (take n ts) runs (Some o) ≡ record { closed = map (closed_in ts) runs; current = Some p }
+cut-parts ts runs o places n p tied le same = λ i. record { closed = cut-closed ts runs o places n tied le i; current = Some (same i) }
+
+pub cut-are : (ts : List Token) (runs : List Run) (o : Open) (places n : ℕ) → AreRuns ts runs (Some o) places → o.first ≤ n → n ≤ length ts → AreRuns (take n ts) runs (Some o) places
+cut-are ts runs o places n tied le within =
+    let size : length (take n ts) ≡ n = length-take-le n ts within in
+    record {
+      follow = tied.follow;
+      within = omega (arith, size, le);
+      room = tied.room;
+      few_tokens = omega (arith, size, within, tied.few_tokens);
+      few_parts = tied.few_parts;
+    }
+
+-- the open part is closed when it has lost its last tokens
+pub close-cut : (ts : List Token) (runs : List Run) (o : Open) (places n : ℕ) (p : Part) → AreRuns ts runs (Some o) places → o.first ≤ n → n ≤ length ts → open_in (take n ts) o ≡ p →
+    parts_in (take n ts) (runs ++ last_run o n ∷ []) None ≡ record { closed = map (closed_in ts) runs ++ p ∷ []; current = None }
+close-cut ts runs o places n p tied le within same =
+    let size : length (take n ts) ≡ n = length-take-le n ts within in
+    ap (λ k. parts_in (take n ts) (runs ++ last_run o k ∷ []) None) (sym size) ∙ close-parts (take n ts) runs o places (cut-are ts runs o places n tied le within)
+    ∙ ap (λ v. let w : PartsSoFar = record { closed = all_parts v; current = None } in w) (cut-parts ts runs o places n p tied le same)
+
+pub close-cut-are : (ts : List Token) (runs : List Run) (o : Open) (places more n : ℕ) → AreRuns ts runs (Some o) places → o.first ≤ n → n ≤ length ts → AreRuns (take n ts) (runs ++ last_run o n ∷ []) None more
+close-cut-are ts runs o places more n tied le within =
+    subst (λ (k : ℕ). AreRuns (take n ts) (runs ++ last_run o k ∷ []) None more) (length-take-le n ts within) (close-are (take n ts) runs o places more (cut-are ts runs o places n tied le within))
+
+-- how many parts there are
+pub parts-count : (ts : List Token) (runs : List Run) (current : Option Open) → part_count (parts_in ts runs current) ≡ length runs + length (option_to_list current)
+parts-count ts runs None = omega (arith, length-append (map (closed_in ts) runs) [], length-map runs (closed_in ts))
+parts-count ts runs (Some o) = omega (arith, length-append (map (closed_in ts) runs) (open_in ts o ∷ []), length-map runs (closed_in ts))
 
 -- all tokens of parts that are all closed
 pub whole-tokens : (ts : List Token) (runs : List Run) → IsWhole ts runs → all_tokens (map (closed_in ts) runs) ≡ ts

@@ -3,15 +3,22 @@ use Rattle.std.specs.Prelude.{ℕ, Bool, List, [], ◌∷◌, ◌++◌, fold}
 use Rattle.cweb_store.specs.declared.name.How.{How}
 use Rattle.cweb_store.specs.declared.part.PartKind.{PartKind}
 use Rattle.cweb_store.specs.Names.{Occurrence}
-use Rattle.cweb_store.specs.Parts.{Token, Part, PartsSoFar, no_parts, all_parts, opened, pushed, all_closed}
+use Rattle.cweb_store.specs.Parts.{Token, Part}
+use Rattle.cweb_store.specs.Growing.{PartsSoFar, no_parts, all_parts, opened, pushed, dropped, all_closed}
+use Rattle.cweb_store.specs.Replacements.{Replacement}
 
--- the occurrences of names and the parts so far
+-- the occurrences of names, the parts and the replacements so far
 pub record Contents : Type 0 where
   pub occurrences : List Occurrence
   pub parts : PartsSoFar
+  pub replacements : List Replacement
+
+-- a builder takes fewer occurrences, fewer parts and fewer tokens than this
+abbrev pub too_many : ℕ
+too_many = 4294967295
 
 abbrev pub empty : Contents
-empty = record { occurrences = []; parts = no_parts }
+empty = record { occurrences = []; parts = no_parts; replacements = [] }
 
 abbrev pub occurrence_of : List ℕ → How → Bool → Occurrence
 occurrence_of text how is_file = record { text = text; how = how; is_file = is_file }
@@ -25,22 +32,31 @@ with_open kind c = record c { parts = opened kind c.parts }
 abbrev pub with_token : Token → Contents → Contents
 with_token t c = record c { parts = pushed t c.parts }
 
+abbrev pub with_dropped : Contents → Contents
+with_dropped c = record c { parts = dropped c.parts }
+
 abbrev pub with_closed : Contents → Contents
 with_closed c = record c { parts = all_closed c.parts }
+
+abbrev pub with_replacement : Replacement → Contents → Contents
+with_replacement r c = record c { replacements = c.replacements ++ r ∷ [] }
 
 -- a call that was not refused
 pub data Call : Type 0 where
   Occurs : (occurrence : Occurrence) → Call
   Opens : (kind : PartKind) → Call
   Pushes : (token : Token) → Call
-  Closes : Call
+  Drops Closes : Call
+  Transliterates : (replacement : Replacement) → Call
 
 -- the contents after a call
 abbrev pub after : Contents → Call → Contents
 after c (Occurs o) = with_occurrence o c
 after c (Opens kind) = with_open kind c
 after c (Pushes token) = with_token token c
+after c Drops = with_dropped c
 after c Closes = with_closed c
+after c (Transliterates r) = with_replacement r c
 
 -- the contents after a list of calls
 abbrev pub contents : List Call → Contents
@@ -50,10 +66,11 @@ contents calls = fold after empty calls
 pub record Stored : Type 0 where
   pub occurrences : List Occurrence
   pub parts : List Part
+  pub replacements : List Replacement
 
-abbrev pub stored : List Occurrence → List Part → Stored
-stored occurrences parts = record { occurrences = occurrences; parts = parts }
+abbrev pub stored : List Occurrence → List Part → List Replacement → Stored
+stored occurrences parts replacements = record { occurrences = occurrences; parts = parts; replacements = replacements }
 
--- the store of what a builder holds
+-- the store of what a builder holds, where a part that is open counts as it stands
 abbrev pub finished : Contents → Stored
-finished c = stored c.occurrences (all_parts c.parts)
+finished c = stored c.occurrences (all_parts c.parts) c.replacements

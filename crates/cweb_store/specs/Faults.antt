@@ -7,7 +7,7 @@ use Rattle.cweb_store.specs.declared.name.NameKind.TheVariants.{PrefixOfAnother,
 use Rattle.cweb_store.specs.declared.name.NameFault.{NameFault}
 use Rattle.cweb_store.specs.Names as spec
 use Rattle.cweb_store.specs.Names.{Occurrence, Standing, id, is_id, texts, names, standings, stands, files}
-use Rattle.cweb_store.specs.Parts.{Token, Name, Part, all_tokens, is_some_id, is_of}
+use Rattle.cweb_store.specs.Parts.{Token, Name, Part, joined, is_code, is_some_id, is_of}
 
 abbrev pub fault : NameKind → ℕ → NameFault
 fault kind i = record { kind = kind; occurrence = record { 0 = i } }
@@ -44,9 +44,9 @@ abbrev pub is_use : List Standing → NameId → Token → Bool
 is_use rs n (Name name) = is_some_id n (stands rs name.0)
 is_use rs n token = false
 
--- some part uses a name: a part counts also where the occurrence before it stands for no name
+-- some part of C text uses a name: a part counts also where the occurrence before it stands for no name
 abbrev pub is_used : List Standing → List Part → NameId → Bool
-is_used rs parts n = list_any (is_use rs n) (all_tokens parts)
+is_used rs parts n = list_any (is_use rs n) (joined is_code parts)
 
 abbrev pub has_part : List Standing → List Part → NameId → Bool
 has_part rs parts n = list_any (λ p. is_of rs n p.kind) parts

@@ -1,9 +1,10 @@
 -- What is kept of the occurrences, and what it says of each when all are known.
-use Rattle.std.specs.Prelude.{◌≡◌, ◌<◌, ◌^◌, List, [], Err, map, length}
+use Rattle.std.specs.Prelude.{◌≡◌, ◌<◌, List, [], Err, map, length}
 use Rattle.cweb_store.specs.declared.name.NameKind.TheVariants.{NeverFull}
 use Rattle.cweb_store.specs.declared.name_table.Given.{Given}
 use Rattle.cweb_store.specs.Names.{Occurrence, Name, Standing, names, beginning}
 use Rattle.cweb_store.specs.Found.{found_of}
+use Rattle.cweb_store.specs.Calls.{too_many}
 use Rattle.cweb_store.specs.Known.{earlies_from, by_found}
 
 abbrev pub occurrence_in : Given → Occurrence
@@ -16,7 +17,7 @@ occurrences_in gs = map occurrence_in gs
 pub record AreGiven (known : List Name) (gs : List Given) : Type 0 where
   pub known_names : known ≡ names (occurrences_in gs)
   pub found_early : map (λ g. g.found) gs ≡ earlies_from 0 [] (occurrences_in gs)
-  pub few : length gs < 2 ^ 32
+  pub few : length gs < too_many
 
 -- what an occurrence stands for, where all names are known
 abbrev pub settled : List Name → Given → Standing

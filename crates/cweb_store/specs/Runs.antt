@@ -1,8 +1,10 @@
 -- Parts as runs of one list of tokens.
-use Rattle.std.specs.Prelude.{◌≡◌, ℕ, ◌≤◌, ◌<◌, List, [], ◌∷◌, Option, Some, None, map, length, drop, slice_range, option_map, IsSome}
+use Rattle.std.specs.Prelude.{◌≡◌, ℕ, ◌+◌, ◌≤◌, ◌<◌, List, [], ◌∷◌, Option, Some, None, map, length, drop, slice_range, option_map, option_to_list, IsSome}
 use Rattle.cweb_store.specs.declared.part.Run.{Run}
 use Rattle.cweb_store.specs.declared.part.Open.{Open}
-use Rattle.cweb_store.specs.Parts.{Token, Part, PartsSoFar}
+use Rattle.cweb_store.specs.Parts.{Token, Part}
+use Rattle.cweb_store.specs.Growing.{PartsSoFar}
+use Rattle.cweb_store.specs.Calls.{too_many}
 
 abbrev pub closed_in : List Token → Run → Part
 closed_in ts r = record { kind = r.kind; tokens = slice_range ts r.part.first r.part.after }
@@ -28,10 +30,21 @@ pub record AreRuns (ts : List Token) (runs : List Run) (current : Option Open) (
   pub follow : Follow 0 runs (floor ts current)
   pub within : floor ts current ≤ length ts
   pub room : IsSome current → length runs < places
+  pub few_tokens : length ts < too_many
+  pub few_parts : length runs + length (option_to_list current) < too_many
 
 -- closed parts that follow one another through all tokens
 pub record IsWhole (ts : List Token) (runs : List Run) : Type 0 where
   pub follow : Follow 0 runs (length ts)
+  pub few_tokens : length ts < too_many
+  pub few_parts : length runs < too_many
+
+-- parts as runs, where the first token has number n
+abbrev pub runs_from : ℕ → List Part → List Run
+runs_from n [] = []
+runs_from n (p ∷ ps) =
+    let after = n + length p.tokens in
+    record { kind = p.kind; part = record { first = n; after = after } } ∷ runs_from after ps
 
 -- the run of the open part, where its tokens end
 abbrev pub last_run : Open → ℕ → Run

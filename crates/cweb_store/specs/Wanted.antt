@@ -4,13 +4,14 @@ use Rattle.cweb_store.specs.declared.part.PartKind.{PartKind}
 use Rattle.cweb_store.specs.declared.part.Part.{Part}
 use Rattle.cweb_store.specs.declared.part.Run.{Run}
 use Rattle.cweb_store.specs.declared.parts.Wanted.{Wanted}
-use Rattle.cweb_store.specs.declared.parts.Wanted.TheVariants.{Program, OfName}
+use Rattle.cweb_store.specs.declared.parts.Wanted.TheVariants.{Program, OfName, Macros}
 use Rattle.cweb_store.specs.Names.{Standing}
-use Rattle.cweb_store.specs.Parts.{is_unnamed, is_of}
+use Rattle.cweb_store.specs.Parts.{is_unnamed, is_of, is_macro}
 
 abbrev pub is_wanted : List Standing → Wanted → PartKind → Bool
 is_wanted rs Program kind = is_unnamed kind
 is_wanted rs (OfName n) kind = is_of rs n kind
+is_wanted rs Macros kind = is_macro kind
 
 -- the parts that are wanted, in order
 abbrev pub wanted_in : List Standing → Wanted → List Run → List Part

@@ -1,25 +1,28 @@
 // The builder.
 
-ghost use Rattle.std.specs.Prelude.{◌≡◌, ◌<◌, ◌+◌, ◌^◌, length, IsSome, IsNone, IfOk, OnOk, OnErr};
-ghost use Rattle.cweb_store.specs.Parts.{token_count};
-ghost use Rattle.cweb_store.specs.Calls.{empty, finished, occurrence_of, with_closed, with_occurrence, with_open, with_token};
+ghost use Rattle.std.specs.Prelude.{◌≡◌, ◌<◌, ◌≤◌, ◌+◌, length, IsSome, IsNone, IfOk, OnOk, OnErr};
+ghost use Rattle.cweb_store.specs.Growing.{part_count, token_count};
+ghost use Rattle.cweb_store.specs.Replacements.{replacement_of};
+ghost use Rattle.cweb_store.specs.Calls.{empty, finished, occurrence_of, too_many, with_closed, with_dropped, with_occurrence, with_open, with_replacement, with_token};
 
 use crate::name::{How, NameRef};
 use crate::name_table::NameTable;
 use crate::part::PartKind;
 use crate::part_list::PartList;
+use crate::replacements::Replacements;
 use crate::store::Store;
 use crate::token::Token;
 use std::alloc::{AllocError, Global};
 use std::marker::Model;
 
-/// What a web has given so far: the occurrences of names, and parts with their tokens. A refused call changes nothing,
-/// and may be made again.
+/// What a web has given so far: the occurrences of names, parts with their tokens, and replacements of bytes. A refused
+/// call changes nothing, and may be made again.
 #[derive(Drop)]
 pub struct Builder {
     alloc: Global,
     names: NameTable,
     parts: PartList,
+    replacements: Replacements,
 }
 
 impl Model for Builder {
@@ -27,7 +30,7 @@ impl Model for Builder {
 
     ghost Value = { Contents };
 
-    ghost view = { λ s. record { occurrences = s.names; parts = s.parts } };
+    ghost view = { λ s. record { occurrences = s.names; parts = s.parts; replacements = s.replacements } };
 }
 
 impl Builder {
@@ -41,6 +44,7 @@ impl Builder {
             alloc,
             names: NameTable::new(alloc),
             parts: PartList::new(alloc),
+            replacements: Replacements::new(alloc),
         }
     }
 
@@ -51,7 +55,7 @@ impl Builder {
         how: How,
         is_file: bool,
     ) -> Result<NameRef, AllocError>
-        requires { length self.old.occurrences + 1 < 2 ^ 32 }
+        requires { length self.old.occurrences + 1 < too_many }
         ensures number { IfOk result (λ name. name.0 ≡ length self.old.occurrences) }
         ensures added { OnOk result (self.new ≡ with_occurrence (occurrence_of name.now how is_file) self.old) }
         ensures err { OnErr result (self.new ≡ self.old) }
@@ -63,7 +67,7 @@ impl Builder {
     /// Begins a part.
     pub fn open_part(&mut self, kind: PartKind) -> Result<(), AllocError>
         requires closed { IsNone self.old.parts.current }
-        requires few { token_count self.old.parts < 2 ^ 32 }
+        requires few { part_count self.old.parts + 1 < too_many }
         ensures ok { OnOk result (self.new ≡ with_open kind self.old) }
         ensures err { OnErr result (self.new ≡ self.old) }
     {
@@ -73,7 +77,8 @@ impl Builder {
 
     /// Adds a token to the open part.
     pub fn push(&mut self, token: Token<'_>) -> Result<(), AllocError>
-        requires { IsSome self.old.parts.current }
+        requires open { IsSome self.old.parts.current }
+        requires few { token_count self.old.parts + 1 < too_many }
         ensures ok { OnOk result (self.new ≡ with_token (seen token.entry) self.old) }
         ensures err { OnErr result (self.new ≡ self.old) }
     {
@@ -81,25 +86,44 @@ impl Builder {
         Ok(())
     }
 
-    /// Ends the open part.
+    /// Drops the Blanks, Newlines and Marks that are last in the open part, but none of a macro's first two tokens. It
+    /// takes no memory.
+    pub fn drop_layout(&mut self)
+        requires { IsSome self.old.parts.current }
+        ensures { self.new ≡ with_dropped self.old }
+    {
+        self.parts.drop_layout();
+    }
+
+    /// Ends the open part. A macro loses its last Newlines, and then a Blank that is last. It takes no memory.
     pub fn close_part(&mut self)
-        requires some { IsSome self.old.parts.current }
-        requires few { token_count self.old.parts < 2 ^ 32 }
+        requires { IsSome self.old.parts.current }
         ensures { self.new ≡ with_closed self.old }
     {
         self.parts.close();
     }
 
+    /// Has a byte from 128 on replaced by a text in Words that are printed. A later call for the byte wins. The rule is
+    /// that of the CWEB manual's transliteration code.
+    pub fn transliterate(&mut self, byte: u8, new: &[u8]) -> Result<(), AllocError>
+        requires { 128 ≤ byte }
+        ensures ok { OnOk result (self.new ≡ with_replacement (replacement_of byte new.now) self.old) }
+        ensures err { OnErr result (self.new ≡ self.old) }
+    {
+        self.replacements.add(byte, new)?;
+        Ok(())
+    }
+
     /// The store of what was given. A part that is open counts as it stands. A refused call gives the builder up.
     pub fn finish(self) -> Result<Store, AllocError>
-        requires { token_count self.parts < 2 ^ 32 }
         ensures { IfOk result (λ store. store ≡ finished self) }
     {
         let Builder {
             alloc,
             names,
             parts,
+            replacements,
         } = self;
-        Store::new(alloc, names, parts.finish())
+        Store::new(alloc, names, parts.finish(), replacements)
     }
 }

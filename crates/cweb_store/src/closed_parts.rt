@@ -1,15 +1,17 @@
 // Parts that are all given.
 
 ghost use Rattle.std.specs.Prelude.{◌≡◌, ◌<◌, [], length, Some, IfOk, slice_get};
-ghost use Rattle.cweb_store.specs.Parts.{all_tokens, runs_from};
-ghost use Rattle.cweb_store.specs.Gathered.{used_from};
+ghost use Rattle.cweb_store.specs.Parts.{all_tokens, has_defs_code};
+ghost use Rattle.cweb_store.specs.Calls.{too_many};
+ghost use Rattle.cweb_store.specs.Runs.{runs_from};
+ghost use Rattle.cweb_store.specs.Gathered.{used_in};
 
 use crate::name::{NameId, NameKind};
 use crate::part::Run;
 use crate::token::Token;
 use crate::token_list::TokenList;
 use indexmap::IndexSet;
-use std::alloc::AllocError;
+use std::alloc::{AllocError, Global};
 use std::marker::Model;
 
 /// Parts: the tokens of all of them in one list, and where each part begins and ends in it.
@@ -50,13 +52,40 @@ impl ClosedParts {
         self.runs.as_slice()
     }
 
-    /// The names that the parts use.
+    /// The names that the parts of C text use.
     pub fn uses(
         &self,
+        alloc: Global,
         standings: &[Result<NameId, NameKind>],
     ) -> Result<IndexSet<NameId>, AllocError>
-        ensures { IfOk result (λ used. used.keys ≡ used_from standings.now [] (all_tokens self.now)) }
+        ensures { IfOk result (λ used. used.keys ≡ used_in standings.now [] self.now) }
     {
-        self.tokens.uses(standings)
+        let mut used = IndexSet::new(alloc);
+        for run in &self.runs {
+            if !run.kind.is_macro() {
+                self.tokens.add_uses(run.part, standings, &mut used)?;
+            }
+        }
+        Ok(used)
+    }
+
+    /// Whether a part of C text has a Defs.
+    pub fn has_defs_code(&self) -> bool
+        ensures { result ≡ has_defs_code self.now }
+    {
+        for run in &self.runs {
+            if !run.kind.is_macro() && self.tokens.has_defs(run.part) {
+                return true;
+            }
+        }
+        false
+    }
+
+    /// How many tokens there are.
+    pub fn token_count(&self) -> usize
+        ensures count { result ≡ length (all_tokens self.now) }
+        ensures few { result < too_many }
+    {
+        self.tokens.len()
     }
 }

@@ -30,7 +30,7 @@ pub fn name_faults(
     requires few { length standings.now < 2 ^ 32 }
     ensures { IfOk result (λ all. all.items ≡ all_faults table.now parts.now) }
 {
-    let used = parts.uses(standings)?;
+    let used = parts.uses(alloc, standings)?;
     let present = names_with_part(alloc, parts.runs(), standings)?;
     let mut faults = Vec::new(alloc);
     add_standing_faults(&mut faults, standings)?;

@@ -2,7 +2,7 @@
 
 ghost use Rattle.std.specs.Prelude.{◌≡◌, ◌<◌, ◌+◌, ◌^◌, ◌++◌, ◌∷◌, [], length, slice_get, option_map, Some, IfOk, OnOk, OnErr};
 ghost use Rattle.cweb_store.specs.Names.{files_from, names, standings};
-ghost use Rattle.cweb_store.specs.Calls.{occurrence_of};
+ghost use Rattle.cweb_store.specs.Calls.{occurrence_of, too_many};
 
 use crate::found::Found;
 use crate::known_names::KnownNames;
@@ -56,7 +56,7 @@ impl NameTable {
 
     /// Adds an occurrence, and answers its number. A refused call changes nothing.
     pub fn add(&mut self, name: &[u8], how: How, is_file: bool) -> Result<NameRef, AllocError>
-        requires { length self.old + 1 < 2 ^ 32 }
+        requires { length self.old + 1 < too_many }
         ensures number { IfOk result (λ name. name.0 ≡ length self.old) }
         ensures added { OnOk result (self.new ≡ self.old ++ occurrence_of name.now how is_file ∷ []) }
         ensures err { OnErr result (self.new ≡ self.old) }
@@ -78,7 +78,7 @@ impl NameTable {
     /// The names.
     pub fn names(&self) -> &KnownNames
         ensures names { result.now ≡ names self.now }
-        ensures few { length (names self.now) < 2 ^ 32 }
+        ensures few { length (names self.now) < too_many }
     {
         &self.known
     }

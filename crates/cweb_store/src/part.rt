@@ -1,4 +1,6 @@
-// Parts of a program, as runs of token numbers.
+// Parts, as runs of token numbers.
+
+ghost use Rattle.std.specs.Prelude.{◌≡◌};
 
 use crate::name::NameRef;
 
@@ -9,6 +11,21 @@ pub enum PartKind {
     Unnamed,
     /// The name that this occurrence stands for.
     Named(NameRef),
+    /// A macro definition. It is no C text.
+    Macro,
+}
+
+impl PartKind {
+    ghost use Rattle.cweb_store.specs.Parts.{is_macro};
+
+    pub fn is_macro(self) -> bool
+        ensures { result ≡ is_macro self }
+    {
+        match self {
+            PartKind::Macro => true,
+            _ => false,
+        }
+    }
 }
 
 /// A part: the numbers of its tokens, from the first up to the one after its last.

@@ -1,10 +1,12 @@
 // Parts while they are given.
 
-ghost use Rattle.std.specs.Prelude.{◌≡◌, ◌<◌, ◌^◌, IsSome, IsNone, OnOk, OnErr};
-ghost use Rattle.cweb_store.specs.Parts.{all_closed, all_parts, no_parts, opened, pushed, token_count};
+ghost use Rattle.std.specs.Prelude.{◌≡◌, ◌<◌, ◌+◌, IsSome, IsNone, OnOk, OnErr};
+ghost use Rattle.cweb_store.specs.Growing.{all_closed, all_parts, dropped, no_parts, opened, part_count, pushed, token_count};
+ghost use Rattle.cweb_store.specs.Calls.{too_many};
 ghost use Rattle.cweb_store.specs.Runs.{last_run};
 
 use crate::closed_parts::ClosedParts;
+use crate::layout::{end_at_close, end_before_layout};
 use crate::part::{Open, Part, PartKind, Run};
 use crate::reserved::put;
 use crate::token::Token;
@@ -22,7 +24,7 @@ pub struct PartList {
 
 impl Model for PartList {
     ghost use Rattle.std.specs.Prelude.{vec_capacity};
-    ghost use Rattle.cweb_store.specs.Parts.{PartsSoFar};
+    ghost use Rattle.cweb_store.specs.Growing.{PartsSoFar};
 
     ghost Value = { PartsSoFar };
 
@@ -49,7 +51,7 @@ impl PartList {
     /// Begins a part. A refused call changes nothing.
     pub fn open(&mut self, kind: PartKind) -> Result<(), AllocError>
         requires closed { IsNone self.old.current }
-        requires few { token_count self.old < 2 ^ 32 }
+        requires few { part_count self.old + 1 < too_many }
         ensures ok { OnOk result (self.new ≡ opened kind self.old) }
         ensures err { OnErr result (self.new ≡ self.old) }
     {
@@ -62,7 +64,8 @@ impl PartList {
 
     /// Adds a token to the open part. A refused call changes nothing.
     pub fn push(&mut self, token: Token<'_>) -> Result<(), AllocError>
-        requires { IsSome self.old.current }
+        requires open { IsSome self.old.current }
+        requires few { token_count self.old + 1 < too_many }
         ensures ok { OnOk result (self.new ≡ pushed (seen token.entry) self.old) }
         ensures err { OnErr result (self.new ≡ self.old) }
     {
@@ -70,23 +73,35 @@ impl PartList {
         Ok(())
     }
 
+    /// Drops the last layout of the open part.
+    pub fn drop_layout(&mut self)
+        requires { IsSome self.old.current }
+        ensures { self.new ≡ dropped self.old }
+    {
+        let Some(current) = self.current else {
+            return;
+        };
+        let end = end_before_layout(&self.tokens, current);
+        self.tokens.truncate(end);
+    }
+
     /// Ends the open part.
     pub fn close(&mut self)
-        requires open { IsSome self.old.current }
-        requires few { token_count self.old < 2 ^ 32 }
+        requires { IsSome self.old.current }
         ensures { self.new ≡ all_closed self.old }
     {
         let Some(current) = self.current else {
             return;
         };
-        let run = closed_run(current, self.tokens.len() as u32);
+        let end = end_at_close(&self.tokens, current);
+        self.tokens.truncate(end);
+        let run = closed_run(current, end as u32);
         self.current = None;
         put(&mut self.runs, run);
     }
 
     /// The parts, where one that is open counts as it stands.
     pub fn finish(self) -> ClosedParts
-        requires { token_count self < 2 ^ 32 }
         ensures { result ≡ all_parts self }
     {
         let PartList {

@@ -1,4 +1,4 @@
-// The parts of a name, or of the program, one after another.
+// The parts of a name, those of the program, or the macros, one after another.
 
 ghost use Rattle.std.specs.Prelude.{◌≡◌};
 ghost use Rattle.cweb_store.specs.Wanted.{is_wanted, wanted_in};
@@ -15,6 +15,8 @@ pub enum Wanted {
     Program,
     /// Those of a name.
     OfName(NameId),
+    /// The macros.
+    Macros,
 }
 
 /// The parts that are still to come, in order of appearance.
@@ -38,7 +40,7 @@ impl<'a> Model for Parts<'a> {
 
 impl<'a> Parts<'a> {
     /// The parts of these that are wanted.
-    pub fn new(
+    pub(crate) fn new(
         runs: &'a [Run],
         standings: &'a [Result<NameId, NameKind>],
         wanted: Wanted,
@@ -78,6 +80,7 @@ fn is_wanted(standings: &[Result<NameId, NameKind>], wanted: Wanted, kind: PartK
 {
     match (wanted, kind) {
         (Wanted::Program, PartKind::Unnamed) => true,
+        (Wanted::Macros, PartKind::Macro) => true,
         (Wanted::OfName(id), PartKind::Named(name)) => {
             match name_at(standings, name.0 as usize) {
                 Some(owner) => id == owner,

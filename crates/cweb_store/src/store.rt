@@ -1,15 +1,18 @@
 // The store.
 
-ghost use Rattle.std.specs.Prelude.{◌≡◌, ◌<◌, ◌≤◌, length, slice_get, option_map, Some, IfOk, All};
+ghost use Rattle.std.specs.Prelude.{◌≡◌, ◌<◌, ◌≤◌, ◌↔◌, length, slice_get, option_map, Some, IfOk, IfSome, IsTrue, All};
 ghost use Rattle.cweb_store.specs.Names as spec;
-ghost use Rattle.cweb_store.specs.Parts.{all_tokens, is_of, is_unnamed, joined, numbers_where, tokens_at};
-ghost use Rattle.cweb_store.specs.Faults.{faults};
+ghost use Rattle.cweb_store.specs.Parts.{all_tokens, has_defs_code, is_macro, is_of, is_unnamed, joined, numbers_where, tokens_at};
+ghost use Rattle.cweb_store.specs.Faults.{faults, has_part};
+ghost use Rattle.cweb_store.specs.Replacements.{replacement};
+ghost use Rattle.cweb_store.specs.Calls.{too_many};
 
 use crate::closed_parts::ClosedParts;
 use crate::faults::name_faults;
 use crate::name::{NameFault, NameId, NameKind, NameRef};
 use crate::name_table::NameTable;
 use crate::parts::{Parts, Wanted};
+use crate::replacements::Replacements;
 use crate::standing::name_at;
 use crate::token::Token;
 use indexmap::IndexSet;
@@ -21,9 +24,11 @@ use std::marker::Model;
 pub struct Store {
     table: NameTable,
     parts: ClosedParts,
+    replacements: Replacements,
     standings: Vec<Result<NameId, NameKind>>,
     files: IndexSet<NameId>,
     faults: Vec<NameFault>,
+    has_defs_code: bool,
 }
 
 impl Model for Store {
@@ -33,28 +38,36 @@ impl Model for Store {
 
     ghost use Rattle.cweb_store.specs.Answers.{AreAnswers};
 
-    ghost view = { λ s. record { occurrences = s.table; parts = s.parts } };
+    ghost view = { λ s. record { occurrences = s.table; parts = s.parts; replacements = s.replacements } };
 
-    ghost invariant = { λ s. AreAnswers s.table s.parts s.standings.items s.files.keys s.faults.items };
+    ghost invariant = { λ s. AreAnswers s.table s.parts s.standings.items s.files.keys s.faults.items s.has_defs_code };
 }
 
 impl Store {
     ghost use Rattle.cweb_store.specs.Calls.{stored};
     ghost use Rattle.cweb_store.specs.Seen.{seen};
 
-    /// The store of occurrences and parts.
-    pub fn new(alloc: Global, table: NameTable, parts: ClosedParts) -> Result<Store, AllocError>
-        ensures { IfOk result (λ store. store ≡ stored table parts) }
+    /// The store of occurrences, parts and replacements.
+    pub(crate) fn new(
+        alloc: Global,
+        table: NameTable,
+        parts: ClosedParts,
+        replacements: Replacements,
+    ) -> Result<Store, AllocError>
+        ensures { IfOk result (λ store. store ≡ stored table parts replacements) }
     {
         let standings = table.standings()?;
         let files = table.files(standings.as_slice())?;
         let faults = name_faults(alloc, &table, &parts, standings.as_slice(), &files)?;
+        let has_defs_code = parts.has_defs_code();
         let store = Store {
             table,
             parts,
+            replacements,
             standings,
             files,
             faults,
+            has_defs_code,
         };
         Ok(store)
     }
@@ -63,6 +76,7 @@ impl Store {
     pub fn unnamed(&self) -> Parts<'_>
         ensures numbers { result ≡ numbers_where is_unnamed self.now.parts }
         ensures text { tokens_at (all_tokens self.now.parts) result ≡ joined is_unnamed self.now.parts }
+        ensures ordered { All (λ p. p.first ≤ p.after) result }
         ensures within { All (λ p. p.after ≤ length (all_tokens self.now.parts)) result }
     {
         Parts::new(
@@ -72,10 +86,12 @@ impl Store {
         )
     }
 
-    /// The parts of a name.
+    /// The parts of a name. There is one exactly where the name has a part.
     pub fn parts(&self, name: NameId) -> Parts<'_>
         ensures numbers { result ≡ numbers_where (is_of (spec.standings self.now.occurrences) name) self.now.parts }
         ensures text { tokens_at (all_tokens self.now.parts) result ≡ joined (is_of (spec.standings self.now.occurrences) name) self.now.parts }
+        ensures some { IsTrue (has_part (spec.standings self.now.occurrences) self.now.parts name) ↔ 0 < length result }
+        ensures ordered { All (λ p. p.first ≤ p.after) result }
         ensures within { All (λ p. p.after ≤ length (all_tokens self.now.parts)) result }
     {
         Parts::new(
@@ -83,6 +99,16 @@ impl Store {
             self.standings.as_slice(),
             Wanted::OfName(name),
         )
+    }
+
+    /// The macros.
+    pub fn macros(&self) -> Parts<'_>
+        ensures numbers { result ≡ numbers_where is_macro self.now.parts }
+        ensures text { tokens_at (all_tokens self.now.parts) result ≡ joined is_macro self.now.parts }
+        ensures ordered { All (λ p. p.first ≤ p.after) result }
+        ensures within { All (λ p. p.after ≤ length (all_tokens self.now.parts)) result }
+    {
+        Parts::new(self.parts.runs(), self.standings.as_slice(), Wanted::Macros)
     }
 
     /// The token with a number.
@@ -95,14 +121,16 @@ impl Store {
 
     /// The name that an occurrence stands for, if any.
     pub fn standing(&self, name: NameRef) -> Option<NameId>
-        ensures { result ≡ spec.stands (spec.standings self.now.occurrences) name.0 }
+        ensures name { result ≡ spec.stands (spec.standings self.now.occurrences) name.0 }
+        ensures within { IfSome result (λ id. id.0 < length (spec.names self.now.occurrences)) }
     {
         name_at(self.standings.as_slice(), name.0 as usize)
     }
 
     /// How many names there are.
     pub fn names(&self) -> u32
-        ensures { result ≡ length (spec.names self.now.occurrences) }
+        ensures count { result ≡ length (spec.names self.now.occurrences) }
+        ensures few { result < too_many }
     {
         self.table.names().len() as u32
     }
@@ -125,15 +153,39 @@ impl Store {
 
     /// The file names, in order of their first occurrence as a file's.
     pub fn files(&self) -> &[NameId]
-        ensures { result.now ≡ spec.files self.now.occurrences }
+        ensures files { result.now ≡ spec.files self.now.occurrences }
+        ensures within { All (λ id. id.0 < length (spec.names self.now.occurrences)) result.now }
     {
         self.files.as_slice()
     }
 
+    /// Whether a part of C text has a Defs.
+    pub fn has_defs_code(&self) -> bool
+        ensures { result ≡ has_defs_code self.now.parts }
+    {
+        self.has_defs_code
+    }
+
+    /// The text that stands for a byte in Words that are printed, if any.
+    pub fn replacement(&self, byte: u8) -> Option<&[u8]>
+        ensures { option_map (λ text. text.now) result ≡ replacement self.now.replacements byte }
+    {
+        self.replacements.text(byte)
+    }
+
     /// The faults of names, in their order.
     pub fn name_faults(&self) -> &[NameFault]
-        ensures { result.now ≡ faults self.now.occurrences self.now.parts }
+        ensures faults { result.now ≡ faults self.now.occurrences self.now.parts }
+        ensures within { All (λ fault. fault.occurrence.0 < length self.now.occurrences) result.now }
     {
         self.faults.as_slice()
+    }
+
+    /// How many tokens there are, of all parts and macros.
+    pub fn tokens(&self) -> u32
+        ensures count { result ≡ length (all_tokens self.now.parts) }
+        ensures few { result < too_many }
+    {
+        self.parts.token_count() as u32
     }
 }

@@ -1,7 +1,8 @@
 // Rows of builder calls. Each call that is refused is made again, so that the rows pass too where an allocation fails.
 
 ghost use Rattle.std.specs.Prelude.{◌≡◌, ◌≤◌, length, is_some, All};
-ghost use Rattle.cweb_store.specs.Parts.{all_tokens, token_count};
+ghost use Rattle.cweb_store.specs.Parts.{all_tokens};
+ghost use Rattle.cweb_store.specs.Growing.{part_count, token_count};
 
 use super::*;
 use std::alloc::{AllocError, Global};
@@ -24,6 +25,7 @@ struct Row {
     calls: u32,
     is_open: bool,
     ghost few_names: { length builder.occurrences ≤ calls },
+    ghost few_parts: { part_count builder.parts ≤ calls },
     ghost few_tokens: { token_count builder.parts ≤ calls },
     ghost open_part: { is_open ≡ is_some builder.parts.current },
 }

@@ -1,7 +1,13 @@
-ghost use Rattle.std.specs.Prelude.{◌≡◌, ◌<◌, ◌++◌, ◌∷◌, [], length, Some, slice_get, IfOk, OnOk, OnErr};
+// Tokens in order.
+
+ghost use Rattle.std.specs.Prelude.{◌≡◌, ◌<◌, ◌≤◌, ◌++◌, ◌∷◌, [], length, map, take, Some, slice_get, slice_range, OnOk, OnErr};
+ghost use Rattle.std.specs.List.{list_any};
+ghost use Rattle.cweb_store.specs.Parts.{is_defs};
 ghost use Rattle.cweb_store.specs.Gathered.{used_from};
+ghost use Rattle.cweb_store.specs.Seen.{kept};
 
 use crate::name::{NameId, NameKind};
+use crate::part::Part;
 use crate::standing::add_name_at;
 use crate::token::{Kept, Token};
 use indexmap::IndexSet;
@@ -61,19 +67,63 @@ impl TokenList {
         self.kept[number].lent()
     }
 
-    /// The names that the tokens use.
-    pub fn uses(
-        &self,
-        standings: &[Result<NameId, NameKind>],
-    ) -> Result<IndexSet<NameId>, AllocError>
-        ensures { IfOk result (λ used. used.keys ≡ used_from standings.now [] self.now) }
+    /// Keeps the first `count` tokens.
+    pub fn truncate(&mut self, count: usize)
+        ensures { self.new ≡ take count self.old }
     {
-        let mut used = IndexSet::new(self.alloc);
-        for kept in &self.kept {
-            if let Kept::Name(name) = kept {
-                add_name_at(&mut used, standings, name.0 as usize)?;
-            }
-        }
-        Ok(used)
+        self.kept.truncate(count);
     }
+
+    /// Adds the names that tokens use, in a range of numbers, to distinct names.
+    pub fn add_uses(
+        &self,
+        part: Part,
+        standings: &[Result<NameId, NameKind>],
+        used: &mut IndexSet<NameId>,
+    ) -> Result<(), AllocError>
+        requires ordered { part.first ≤ part.after }
+        requires within { part.after ≤ length self.now }
+        ensures { OnOk result (used.new.keys ≡ used_from standings.now used.old.keys (slice_range self.now part.first part.after)) }
+    {
+        add_uses_of(
+            &self.kept[part.first as usize..part.after as usize],
+            standings,
+            used,
+        )
+    }
+
+    /// Whether there is a Defs in a range of numbers.
+    pub fn has_defs(&self, part: Part) -> bool
+        requires ordered { part.first ≤ part.after }
+        requires within { part.after ≤ length self.now }
+        ensures { result ≡ list_any is_defs (slice_range self.now part.first part.after) }
+    {
+        has_defs_in(&self.kept[part.first as usize..part.after as usize])
+    }
+}
+
+fn add_uses_of(
+    tokens: &[Kept],
+    standings: &[Result<NameId, NameKind>],
+    used: &mut IndexSet<NameId>,
+) -> Result<(), AllocError>
+    ensures { OnOk result (used.new.keys ≡ used_from standings.now used.old.keys (map kept tokens.now)) }
+{
+    for token in tokens {
+        if let Kept::Name(name) = token {
+            add_name_at(used, standings, name.0 as usize)?;
+        }
+    }
+    Ok(())
+}
+
+fn has_defs_in(tokens: &[Kept]) -> bool
+    ensures { result ≡ list_any is_defs (map kept tokens.now) }
+{
+    for token in tokens {
+        if let Kept::Defs = token {
+            return true;
+        }
+    }
+    false
 }

@@ -1,5 +1,5 @@
 use Rattle.std.proofs.Common.{◌≡◌, ◌+◌, length}
-use Rattle.cweb_store.specs.Parts.{no_parts}
+use Rattle.cweb_store.specs.Growing.{no_parts}
 use Rattle.bench_store.proofs.filled.filled.Given as goal
 
 abbrev pub invariant-loop-number : goal.invariant-loop-number

@@ -4,7 +4,6 @@ use Rattle.cweb_store.specs.declared.name.NameId.{NameId}
 use Rattle.cweb_store.specs.declared.name.NameKind.TheVariants.{PrefixOfAnother, NotPresent}
 use Rattle.cweb_store.specs.Names as spec
 use Rattle.cweb_store.specs.Names.{is_id}
-use Rattle.cweb_store.specs.Parts.{all_tokens}
 use Rattle.cweb_store.specs.Faults.{faults_where, is_prefix_of_another, is_missing, is_used, has_part, standing_faults}
 use Rattle.cweb_store.specs.Gathered.{present_from}
 use Rattle.cweb_store.proofs.GatherLemmas.{any-used, any-present}
@@ -16,7 +15,7 @@ returns c =
     let ps = c.args.parts.now in
     let rs = c.args.standings.now in
     let used : (n : NameId) → list_any (is_id n) c.in_ok-used.used.keys ≡ is_used (spec.standings os) ps n =
-    λ n. ap (list_any (is_id n)) c.in_ok-used.ensures ∙ any-used rs n (all_tokens ps) ∙ ap (λ ss. is_used ss ps n) c.requires.settled in
+    λ n. ap (list_any (is_id n)) c.in_ok-used.ensures ∙ any-used rs n ps ∙ ap (λ ss. is_used ss ps n) c.requires.settled in
     let present : (n : NameId) → list_any (is_id n) c.in_ok-present.present.keys ≡ has_part (spec.standings os) ps n =
     λ n. ap (list_any (is_id n)) (c.in_ok-present.ensures ∙ ap (present_from rs []) c.runs.ensures) ∙ any-present rs n ps ∙ ap (λ ss. has_part ss ps n) c.requires.settled in
     let files : (n : NameId) → list_any (is_id n) c.args.files.now.keys ≡ list_any (is_id n) (spec.files os) = λ n. ap (list_any (is_id n)) c.requires.given in

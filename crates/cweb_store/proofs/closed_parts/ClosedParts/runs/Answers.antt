@@ -1,5 +1,5 @@
 use Rattle.std.proofs.Common.{length, sym, ◌∙◌, ap, arith}
-use Rattle.cweb_store.specs.Parts.{runs_from}
+use Rattle.cweb_store.specs.Runs.{runs_from}
 use Rattle.cweb_store.proofs.RunLemmas.{runs_from-parts}
 use Rattle.cweb_store.proofs.closed_parts.ClosedParts.runs.Goals as goal
 

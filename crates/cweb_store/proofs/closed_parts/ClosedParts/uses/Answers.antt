@@ -1,12 +1,9 @@
-use Rattle.std.proofs.Common.{◌≡◌, [], List, subst, sym, ◌∙◌, ap}
-use Rattle.std.specs.Prelude.{IfOk}
-use Rattle.cweb_store.specs.Parts.{Token, all_tokens}
-use Rattle.cweb_store.specs.Gathered.{used_from}
-use Rattle.cweb_store.proofs.RunLemmas.{whole-tokens}
+use Rattle.std.proofs.Common.{length, ap, arith}
+use Rattle.cweb_store.proofs.RangeLemmas.{Follow-at}
 use Rattle.cweb_store.proofs.closed_parts.ClosedParts.uses.Goals as goal
 
-pub returns : goal.returns
-returns c =
-    let s = c.self.inside in
-    let whole = ap all_tokens (sym c.self.view_is) ∙ whole-tokens s.tokens s.runs.items c.self.invariant in
-    subst (λ (ts : List Token). IfOk c.uses.result (λ used. used.keys ≡ used_from c.args.standings.now [] ts)) (sym whole) c.uses.ensures
+pub add_uses-requires-clause-ordered : goal.add_uses-requires-clause-ordered
+add_uses-requires-clause-ordered c = rw c.deref-run-items.ensures.value (Follow-at c.self.inside.runs.items 0 (length c.self.inside.tokens) c.self.invariant.follow c.loop-run.run-index _ (omega (arith, c.loop-run-test.true, ap length c.deref-run-items.ensures.value))).0
+
+pub add_uses-requires-clause-within : goal.add_uses-requires-clause-within
+add_uses-requires-clause-within c = rw c.deref-run-items.ensures.value (Follow-at c.self.inside.runs.items 0 (length c.self.inside.tokens) c.self.invariant.follow c.loop-run.run-index _ (omega (arith, c.loop-run-test.true, ap length c.deref-run-items.ensures.value))).1

@@ -1,16 +1,9 @@
-use Rattle.std.proofs.Common.{◌≡◌, sym, ◌∙◌, ap, subst, length, arith, [], ◌∷◌, ◌++◌, Option}
+use Rattle.std.proofs.Common.{◌≡◌, ◌∙◌, ap, subst, length, arith, [], ◌∷◌, ◌++◌, Option}
 use Rattle.std.specs.Prelude.{vec_capacity}
 use Rattle.cweb_store.specs.declared.part.Open.{Open}
-use Rattle.cweb_store.specs.Parts.{token_count}
 use Rattle.cweb_store.specs.Runs.{AreRuns, IsWhole, last_run}
-use Rattle.cweb_store.proofs.RunLemmas.{close-are, tokens-whole}
+use Rattle.cweb_store.proofs.RunLemmas.{close-are}
 use Rattle.cweb_store.proofs.part_list.PartList.finish.Goals as goal
-
-pub overflow_cast-len : goal.overflow_cast-len
-overflow_cast-len c =
-    let s = c.self.inside in
-    let count : token_count c.args.self ≡ length s.tokens = ap token_count (sym c.self.view_is) ∙ ap length (tokens-whole s.tokens s.runs.items s.current _ c.self.invariant) in
-    omega (arith, count, c.requires, c.len.ensures)
 
 pub invariant_of-result-2 : goal.invariant_of-result-2
 invariant_of-result-2 c =
@@ -18,5 +11,5 @@ invariant_of-result-2 c =
     let tied = subst (λ (current : Option Open). AreRuns s.tokens s.runs.items current (vec_capacity s.runs)) c.in-Some.is c.self.invariant in
     let run : c.closed_run-run.result ≡ last_run c.in-Some.current (length s.tokens) = c.closed_run-run.ensures ∙ ap (last_run c.in-Some.current) c.len.ensures in
     let after = close-are s.tokens s.runs.items c.in-Some.current _ (length s.runs.items) tied in
-    let whole : IsWhole s.tokens (s.runs.items ++ last_run c.in-Some.current (length s.tokens) ∷ []) = record { follow = after.follow } in
+    let whole : IsWhole s.tokens (s.runs.items ++ last_run c.in-Some.current (length s.tokens) ∷ []) = record { follow = after.follow; few_tokens = after.few_tokens; few_parts = omega (arith, after.few_parts) } in
     rw (c.put.ensures, run) whole

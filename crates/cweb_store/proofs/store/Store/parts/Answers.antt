@@ -1,25 +1,35 @@
-use Rattle.std.proofs.Common.{◌≡◌, ◌≤◌, List, length, sym, ◌∙◌, ap, subst}
-use Rattle.std.specs.Prelude.{All}
+use Rattle.std.proofs.Common.{◌≤◌, ◌<◌, ◌↔◌, List, length, sym, ◌∙◌, ap, subst}
+use Rattle.std.specs.Prelude.{All, IsTrue}
 use Rattle.cweb_store.specs.declared.part.Part.{Part}
 use Rattle.cweb_store.specs.declared.parts.Wanted.TheVariants.{OfName}
 use Rattle.cweb_store.specs.Names as spec
-use Rattle.cweb_store.specs.Parts.{all_tokens, is_of, numbers_where, runs_from, tokens_at}
+use Rattle.cweb_store.specs.Parts.{all_tokens, is_of, tokens_at}
+use Rattle.cweb_store.specs.Runs.{runs_from}
 use Rattle.cweb_store.specs.Wanted.{wanted_in}
-use Rattle.cweb_store.proofs.PartLemmas.{tokens_at-numbers, numbers-within}
+use Rattle.cweb_store.specs.Faults.{has_part}
+use Rattle.cweb_store.proofs.PartLemmas.{part-runs, tokens_at-numbers, numbers-within, numbers-ordered, numbers-some}
 use Rattle.cweb_store.proofs.store.Store.parts.Goals as goal
+
+pub returns-clause-numbers : goal.returns-clause-numbers
+returns-clause-numbers c =
+    let runs = c.runs.ensures ∙ ap (λ v. runs_from 0 v.parts) c.self.view_is in
+    let standings = c.as_slice.ensures.value ∙ c.self.invariant.settled ∙ ap (λ v. spec.standings v.occurrences) c.self.view_is in
+    c.new.ensures ∙ (λ i. wanted_in (standings i) (OfName c.args.name) (runs i)) ∙ part-runs (is_of (spec.standings c.args.self.now.occurrences) c.args.name) 0 c.args.self.now.parts
 
 pub returns-clause-text : goal.returns-clause-text
 returns-clause-text c =
     let ps = c.args.self.now.parts in
-    let runs = c.runs.ensures ∙ ap (λ v. runs_from 0 v.parts) c.self.view_is in
-    let standings = c.as_slice.ensures.value ∙ c.self.invariant.settled ∙ ap (λ v. spec.standings v.occurrences) c.self.view_is in
-    let numbers : c.new.result ≡ numbers_where (is_of (spec.standings c.args.self.now.occurrences) c.args.name) ps = c.new.ensures ∙ (λ i. wanted_in (standings i) (OfName c.args.name) (runs i)) in
-    ap (tokens_at (all_tokens ps)) numbers ∙ tokens_at-numbers (is_of (spec.standings c.args.self.now.occurrences) c.args.name) ps
+    ap (tokens_at (all_tokens ps)) (returns-clause-numbers c) ∙ tokens_at-numbers (is_of (spec.standings c.args.self.now.occurrences) c.args.name) ps
+
+pub returns-clause-ordered : goal.returns-clause-ordered
+returns-clause-ordered c = subst (λ (xs : List Part). All (λ p. p.first ≤ p.after) xs) (sym (returns-clause-numbers c)) (numbers-ordered (is_of (spec.standings c.args.self.now.occurrences) c.args.name) c.args.self.now.parts)
 
 pub returns-clause-within : goal.returns-clause-within
 returns-clause-within c =
     let ps = c.args.self.now.parts in
-    let runs = c.runs.ensures ∙ ap (λ v. runs_from 0 v.parts) c.self.view_is in
-    let standings = c.as_slice.ensures.value ∙ c.self.invariant.settled ∙ ap (λ v. spec.standings v.occurrences) c.self.view_is in
-    let numbers : c.new.result ≡ numbers_where (is_of (spec.standings c.args.self.now.occurrences) c.args.name) ps = c.new.ensures ∙ (λ i. wanted_in (standings i) (OfName c.args.name) (runs i)) in
-    subst (λ (xs : List Part). All (λ p. p.after ≤ length (all_tokens ps)) xs) (sym numbers) (numbers-within (is_of (spec.standings c.args.self.now.occurrences) c.args.name) ps)
+    subst (λ (xs : List Part). All (λ p. p.after ≤ length (all_tokens ps)) xs) (sym (returns-clause-numbers c)) (numbers-within (is_of (spec.standings c.args.self.now.occurrences) c.args.name) ps)
+
+pub returns-clause-some : goal.returns-clause-some
+returns-clause-some c =
+    let ps = c.args.self.now.parts in
+    subst (λ (xs : List Part). IsTrue (has_part (spec.standings c.args.self.now.occurrences) ps c.args.name) ↔ 0 < length xs) (sym (returns-clause-numbers c)) (numbers-some (is_of (spec.standings c.args.self.now.occurrences) c.args.name) ps)

@@ -1,0 +1,29 @@
+use Rattle.std.proofs.Common.{◌≤◌, List, length, sym, ◌∙◌, ap, subst}
+use Rattle.std.specs.Prelude.{All}
+use Rattle.cweb_store.specs.declared.part.Part.{Part}
+use Rattle.cweb_store.specs.declared.parts.Wanted.TheVariants.{Macros}
+use Rattle.cweb_store.specs.Names as spec
+use Rattle.cweb_store.specs.Parts.{all_tokens, is_macro, tokens_at}
+use Rattle.cweb_store.specs.Runs.{runs_from}
+use Rattle.cweb_store.specs.Wanted.{wanted_in}
+use Rattle.cweb_store.proofs.PartLemmas.{part-runs, tokens_at-numbers, numbers-within, numbers-ordered}
+use Rattle.cweb_store.proofs.store.Store.macros.Goals as goal
+
+pub returns-clause-numbers : goal.returns-clause-numbers
+returns-clause-numbers c =
+    let runs = c.runs.ensures ∙ ap (λ v. runs_from 0 v.parts) c.self.view_is in
+    let standings = c.as_slice.ensures.value ∙ c.self.invariant.settled ∙ ap (λ v. spec.standings v.occurrences) c.self.view_is in
+    c.new.ensures ∙ (λ i. wanted_in (standings i) Macros (runs i)) ∙ part-runs is_macro 0 c.args.self.now.parts
+
+pub returns-clause-text : goal.returns-clause-text
+returns-clause-text c =
+    let ps = c.args.self.now.parts in
+    ap (tokens_at (all_tokens ps)) (returns-clause-numbers c) ∙ tokens_at-numbers is_macro ps
+
+pub returns-clause-ordered : goal.returns-clause-ordered
+returns-clause-ordered c = subst (λ (xs : List Part). All (λ p. p.first ≤ p.after) xs) (sym (returns-clause-numbers c)) (numbers-ordered is_macro c.args.self.now.parts)
+
+pub returns-clause-within : goal.returns-clause-within
+returns-clause-within c =
+    let ps = c.args.self.now.parts in
+    subst (λ (xs : List Part). All (λ p. p.after ≤ length (all_tokens ps)) xs) (sym (returns-clause-numbers c)) (numbers-within is_macro ps)

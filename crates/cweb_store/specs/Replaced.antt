@@ -1,0 +1,6 @@
+-- A replacement as it is kept.
+use Rattle.cweb_store.specs.declared.replacements.Replaced.{Replaced}
+use Rattle.cweb_store.specs.Replacements.{Replacement}
+
+abbrev pub replacement_in : Replaced → Replacement
+replacement_in r = record { byte = r.byte; text = r.text.items }
