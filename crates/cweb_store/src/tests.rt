@@ -15,7 +15,9 @@ enum Call<'a> {
     Occurs(&'a str, How, bool),
     Opens(PartKind),
     Pushes(Token<'a>),
+    Drops,
     Closes,
+    Transliterates(u8, &'a str),
 }
 
 // A builder that knows how many calls it had, and whether a part is open.
@@ -39,6 +41,19 @@ impl Row {
         }
     }
 
+    #[tactic(
+        auto,
+        using(
+            crate::proofs::CallerLemmas::token_count_opened,
+            crate::proofs::CallerLemmas::token_count_pushed,
+            crate::proofs::CallerLemmas::token_count_dropped,
+            crate::proofs::CallerLemmas::token_count_closed,
+            crate::proofs::CallerLemmas::part_count_opened,
+            crate::proofs::CallerLemmas::part_count_pushed,
+            crate::proofs::CallerLemmas::part_count_dropped,
+            crate::proofs::CallerLemmas::part_count_closed
+        )
+    )]
     fn make(&mut self, rt: &impl Abort, call: Call<'_>) -> Result<(), AllocError> {
         assert!(rt; self.calls < 1000);
         self.calls += 1;
@@ -55,17 +70,24 @@ impl Row {
                 assert!(rt; self.is_open);
                 self.builder.push(token)?;
             }
+            Call::Drops => {
+                assert!(rt; self.is_open);
+                self.builder.drop_layout();
+            }
             Call::Closes => {
                 assert!(rt; self.is_open);
                 self.builder.close_part();
                 self.is_open = false;
             }
+            Call::Transliterates(byte, text) => {
+                assert!(rt; byte >= 128);
+                self.builder.transliterate(byte, text.as_bytes())?;
+            }
         }
         Ok(())
     }
 
-    fn finish(self, rt: &impl Abort) -> Result<Store, AllocError> {
-        assert!(rt; self.calls < 1000);
+    fn finish(self) -> Result<Store, AllocError> {
         let Row {
             builder,
             calls: _,
@@ -83,7 +105,7 @@ fn store_of(rt: &impl Abort, alloc: Global, calls: &[Call<'_>]) -> Result<Store,
             row.make(rt, *call)?;
         }
     }
-    row.finish(rt)
+    row.finish()
 }
 
 // The same, made once more where `finish` was refused.
