@@ -29,6 +29,11 @@ def out_of_memory(case, left, nth, told):
     return stops(case, left, b"Out of memory")
 
 
+def out_of_memory_or_whole(case, left, nth, told):
+    """A run may do without some memory, as that in which it keeps pieces to be used again."""
+    return left == case.whole or out_of_memory(case, left, nth, told)
+
+
 def unread(case, left, nth, told):
     return stops(case, left, b"Read fault on " + told)
 
@@ -76,7 +81,7 @@ class Failure:
 def failures():
     """All that may happen to the calls of a run."""
     for every in (0, 1):
-        yield Failure(out_of_memory, "alloc", errno.ENOMEM, every)
+        yield Failure(out_of_memory_or_whole, "alloc", errno.ENOMEM, every)
         yield Failure(unread, "read", errno.EIO, every)
         yield Failure(unwritten, "write", errno.ENOSPC, every, stream=1)
         yield Failure(unlogged, "write", errno.ENOSPC, every, stream=2)
