@@ -73,6 +73,12 @@ class Failure:
     # whether a transfer takes nothing at all, where it does not fail
     takes_nothing: bool = False
 
+    def __str__(self):
+        what = errno.errorcode.get(self.error, "takes nothing" if self.takes_nothing else "is short")
+        where = f" to {self.stream}" if self.stream >= 0 else ""
+        behind = ("", ", and so do all behind it", ", and so does each second one behind it")[self.every]
+        return f"{self.call}{where} {what}{behind}: {self.promise.__name__} is promised"
+
     def asked(self, nth, least):
         most = 0 if self.takes_nothing else least
         return f"{self.call} {self.stream} {nth} {self.every} {self.error} {most}"
