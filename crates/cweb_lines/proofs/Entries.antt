@@ -1,5 +1,5 @@
 -- What becomes of the lines of an entry, and of lines that begin no change.
-use Rattle.std.proofs.Common.{◌≡◌, ◌≢◌, ◌&&◌, ℕ, Bool, true, false, List, [], ◌∷◌, ◌++◌, map, None, Some, Option, refl, ◌∙◌, ap}
+use Rattle.std.proofs.Common.{◌≡◌, ◌≢◌, ◌&&◌, ℕ, Bool, true, false, List, [], ◌∷◌, ◌++◌, map, None, Some, Option, refl, sym, ◌∙◌, ap, append-nil}
 use Rattle.std.proofs.lemmas.Slice.Eq.{bytes_eq-Decides}
 use Rattle.std.specs.List.{list_any}
 use Rattle.std.specs.Str.{bytes_eq}
@@ -8,8 +8,8 @@ use Rattle.cweb_lines.specs.Lines.{Line, SourceLine}
 use Rattle.cweb_lines.specs.Include.{World, is_include}
 use Rattle.cweb_lines.specs.Change.{Entry, Sought, behind_x, code_of, old_at, old_line, old_lines, outside, passing, sought}
 use Rattle.cweb_lines.specs.Laws.{followed_by, is_code, only_lines, seen}
-use Rattle.cweb_lines.specs.Merge.{RawLine, Thing, at_entry, compared, given, new_at, new_lines, new_things, one_more, passed, plain, raw, raws, taking, took}
-use Rattle.cweb_lines.specs.Total.{merge, merge_next}
+use Rattle.cweb_lines.specs.Merge.{Event, RawLine, Thing, at_entry, compared, given, new_at, new_lines, new_things, one_more, passed, plain, raw, raws, taking, took}
+use Rattle.cweb_lines.specs.Total.{merge, merge_end, merge_next}
 use Rattle.cweb_lines.specs.declared.code.Code.{Code}
 use Rattle.cweb_lines.specs.declared.code.Code.TheVariants.{EndSide as end_side, NewSide as new_side, OldSide as old_side}
 use Rattle.cweb_lines.proofs.Merges.{state}
@@ -20,6 +20,16 @@ bytes_in lines = map (λ source. source.line.bytes) lines
 
 abbrev pub lines_of : List SourceLine → List Line
 lines_of lines = map (λ source. source.line) lines
+
+-- among lines that are no codes there is no entry
+pub finds_none : (lines : List SourceLine) → list_any is_code (bytes_in lines) ≡ false
+    → sought lines None ≡ record { faults = []; taken = lines; entry = None; rest = [] }
+finds_none [] none = refl
+finds_none (line ∷ lines) none =
+    let parts = or-false (is_code line.line.bytes) (list_any is_code (bytes_in lines)) none in
+    ap (λ code. passing line (outside code line.line.place (λ begin. sought lines begin)))
+        (no_code (code_of line.line.bytes) parts.0)
+    ∙ ap (passing line) (finds_none lines parts.1)
 
 -- the entry that begins with these two lines
 abbrev pub entry_of : SourceLine → SourceLine → Entry
@@ -98,6 +108,16 @@ gives_out world depth may_match (line ∷ lines) later change files plain_lines 
     ap seen (merge_next world s (took line ∷ given line.line ∷ [], state rest None change files)
         (ap (λ b. Some (taking line (plain b world s r rest))) parts.0))
     ∙ ap (line_first line.line) (gives_out world depth may_match lines later change files parts.1)
+
+pub gives_alone : (world : World) (depth : ℕ) (may_match : Bool) (lines : List SourceLine) (change : List SourceLine)
+    (files : ℕ) → list_any is_include (bytes_in lines) ≡ false
+    → seen (merge world (state (raws depth may_match lines) None change files)) ≡ only_lines (lines_of lines)
+gives_alone world depth may_match lines change files plain_lines =
+    ap (λ (ts : List Thing). seen (merge world (state ts None change files))) (sym (append-nil (raws depth may_match lines)))
+    ∙ gives_out world depth may_match lines [] change files plain_lines
+    ∙ ap (λ (es : List Event). followed_by (only_lines (lines_of lines)) (seen es))
+        (merge_end world (state [] None change files) refl)
+    ∙ ap only_lines (append-nil (lines_of lines))
 
 -- and where an entry waits that none of them equals
 pub passes_by : (world : World) (depth : ℕ) (entry : Entry) (lines : List SourceLine) (later : List Thing)

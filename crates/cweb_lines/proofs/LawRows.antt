@@ -9,7 +9,7 @@ use Rattle.cweb_lines.specs.Include.{World, is_include}
 use Rattle.cweb_lines.specs.Laws.{Includes, IsPlainSplice, Seen, Splice, change_lines, is_code, only_lines, placed, seen, seen_behind, spliced, web_lines}
 use Rattle.cweb_lines.specs.Merge.{Event, run, started}
 use Rattle.cweb_lines.specs.Writing.{text_of}
-use Rattle.cweb_lines.specs.declared.fault.SourceKind.TheVariants.{NoName}
+use Rattle.cweb_lines.specs.declared.fault.SourceKind.TheVariants.{NoMatch, NoName}
 
 abbrev seen_by : Option (List Event) → Option Seen
 seen_by None = None
@@ -139,3 +139,11 @@ they_splice = refl
 they_show : spliced 1 1 two_changes (codes "D" ∷ []) ≡ placed 0 1 (codes "A" ∷ []) ++ placed 1 6
     (codes "b" ∷ codes "bb" ∷ []) ++ placed 0 5 (codes "D" ∷ [])
 they_show = refl
+
+-- the second entry is never looked at
+entry_without_match : seen_by (run 30 no_texts (started (codes "A\n") (Some (codes "why\n@x\nZ\n@z\n@x\nA\n@y\n@z\n")))) ≡ Some (record {
+  lines = placed 0 1 (codes "A" ∷ []);
+  faults = record { kind = NoMatch; place = record { file = record { 0 = 1 }; line = 2 }; count = 0 } ∷ [];
+  included = [];
+})
+entry_without_match = refl

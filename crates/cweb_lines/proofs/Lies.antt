@@ -63,6 +63,7 @@ pub record First (file number : ℕ) (text : List ℕ) (later : List (List ℕ))
   pub rest : List SourceLine
   pub whole : lines ≡ line ∷ rest
   pub bytes : line.line.bytes ≡ text
+  pub place : line.line.place ≡ record { file = record { 0 = file }; line = number }
   pub rest_lies : Lie file (number + 1) later rest
 
 pub first_of : (file number : ℕ) (text : List ℕ) (later : List (List ℕ)) (lines : List SourceLine)
@@ -70,4 +71,11 @@ pub first_of : (file number : ℕ) (text : List ℕ) (later : List (List ℕ)) (
 first_of file number text later [] lie = absurd (cc)
 first_of file number text later (line ∷ lines) lie =
     let head : line.line ≡ placed_line file number text = cc in
-    record { line = line; rest = lines; whole = refl; bytes = ap (λ (l : Line). l.bytes) head; rest_lies = cc }
+    record {
+      line = line;
+      rest = lines;
+      whole = refl;
+      bytes = ap (λ (l : Line). l.bytes) head;
+      place = ap (λ (l : Line). l.place) head;
+      rest_lies = cc;
+    }

@@ -1,15 +1,15 @@
 -- Changes that match, in order, splice.
-use Rattle.std.proofs.Common.{◌≡◌, ◌+◌, ℕ, true, false, List, [], ◌∷◌, ◌++◌, map, None, Some, refl, sym, ◌∙◌, ap, append-nil, subst, arith, length}
+use Rattle.std.proofs.Common.{◌≡◌, ◌+◌, ℕ, true, false, List, [], ◌∷◌, ◌++◌, map, None, Some, sym, ◌∙◌, ap, subst, arith, length}
 use Rattle.std.specs.List.{AllByRecursion, list_any}
 use Rattle.std.specs.Str.{bytes_eq}
 use Rattle.cweb_lines.specs.Lines.{SourceLine, lines_in, text_lines}
 use Rattle.cweb_lines.specs.Include.{World, is_include}
-use Rattle.cweb_lines.specs.Change.{Sought, code_of, outside, passing, sought}
+use Rattle.cweb_lines.specs.Change.{Sought, code_of}
 use Rattle.cweb_lines.specs.Laws.{ChangesSplice, IsPlainSplice, Splice, change_lines, followed_by, is_code, only_lines, placed, seen, spliced, web_lines}
-use Rattle.cweb_lines.specs.Merge.{Event, Thing, fault, raws, seek, took}
-use Rattle.cweb_lines.specs.Total.{merge, merge_end, merge_next}
+use Rattle.cweb_lines.specs.Merge.{fault, raws, seek, took}
+use Rattle.cweb_lines.specs.Total.{merge, merge_next}
 use Rattle.cweb_lines.proofs.Merges.{state}
-use Rattle.cweb_lines.proofs.Entries.{bytes_in, gives_out, lines_of}
+use Rattle.cweb_lines.proofs.Entries.{bytes_in, finds_none, gives_alone}
 use Rattle.cweb_lines.proofs.Lies.{Lie, bytes_of, first_of, lie_in, parts}
 use Rattle.cweb_lines.proofs.Splices.{Edit, IsPlain, splices_one}
 use Rattle.cweb_lines.proofs.Seens.{no_code, or-false, took_unseen}
@@ -110,15 +110,7 @@ change_parts number s later lines lie =
       rest_lies = subst (λ n. Lie 1 n later g.rest) rest_number g.rest_lies;
     }
 
--- a comment at the end of a change file holds no entry
-finds_none : (lines : List SourceLine) → list_any is_code (bytes_in lines) ≡ false
-    → sought lines None ≡ record { faults = []; taken = lines; entry = None; rest = [] }
-finds_none [] none = refl
-finds_none (line ∷ lines) none =
-    let both = or-false (is_code line.line.bytes) (list_any is_code (bytes_in lines)) none in
-    ap (λ code. passing line (outside code line.line.place (λ begin. sought lines begin)))
-        (no_code (code_of line.line.bytes) both.0) ∙ ap (passing line) (finds_none lines both.1)
-
+-- behind the last entry
 splices_none : (world : World) (web change : ℕ) (behind comment : List (List ℕ)) (lines changes : List SourceLine)
     → list_any is_include behind ≡ false → list_any is_code comment ≡ false
     → Lie 0 web behind lines → Lie 1 change comment changes → seen
@@ -131,11 +123,8 @@ splices_none world web change behind comment lines changes plain_behind no_codes
     (ap (λ (found : Sought). Some (map took found.taken
         ++ map fault found.faults, state things found.entry found.rest 2)) (finds_none changes none)))
     ∙ took_unseen changes (merge world (state things None [] 2))
-    ∙ ap (λ (ts : List Thing). seen (merge world (state ts None [] 2))) (sym (append-nil things))
-    ∙ gives_out world 1 true lines [] [] 2 plain_lines
-    ∙ ap (λ (es : List Event). followed_by (only_lines (lines_of lines)) (seen es))
-        (merge_end world (state [] None [] 2) refl)
-    ∙ ap only_lines (append-nil (lines_of lines) ∙ lie)
+    ∙ gives_alone world 1 true lines [] 2 plain_lines
+    ∙ ap only_lines lie
 
 -- a change by where its lines lie
 abbrev edit_of : (web change : ℕ) (s : Splice) (later later' : List (List ℕ)) (lines changes : List SourceLine)

@@ -14,7 +14,7 @@ use Rattle.cweb_lines.specs.Writing.{text_of}
 use Rattle.cweb_lines.specs.declared.code.Code.TheVariants.{EndSide as end_side, NewSide as new_side, OldSide as old_side}
 use Rattle.cweb_lines.specs.declared.fault.SourceFault.{SourceFault}
 use Rattle.cweb_lines.specs.declared.fault.SourceKind.{SourceKind}
-use Rattle.cweb_lines.specs.declared.fault.SourceKind.TheVariants.{NoName, NotThere, TooDeep}
+use Rattle.cweb_lines.specs.declared.fault.SourceKind.TheVariants.{NoMatch, NoName, NotThere, TooDeep}
 use Rattle.cweb_lines.specs.declared.limits.TheConstants.{OPEN_FILES}
 
 -- what an author sees of a merge: the lines with their places, the faults, and the names of included files
@@ -223,3 +223,17 @@ ChangesSplice = (world : World) (web change : List ℕ) (splices : List Splice) 
     → list_any is_include behind ≡ false → list_any is_code comment ≡ false
     → lines web ≡ web_lines splices behind → lines change ≡ change_lines splices comment
     → seen_of world web (Some change) ≡ only_lines (spliced 1 1 splices behind)
+
+-- An entry that begins a change file and whose first old line is no line of the web, which includes nothing, is told once,
+-- at its @x line, and changes nothing. What stands behind that old line is never looked at.
+abbrev pub EntriesWithoutMatchAreTold : Type 0
+EntriesWithoutMatchAreTold = (world : World) (web change : List ℕ)
+    (comment : List (List ℕ)) (begin first : List ℕ) (rest : List (List ℕ))
+    → lines change ≡ comment ++ (begin ∷ first ∷ rest)
+    → list_any is_code comment ≡ false → code_of begin ≡ Some old_side → code_of first ≡ None → first ≢ []
+    → list_any is_include (lines web) ≡ false → list_any (λ line. bytes_eq line first) (lines web) ≡ false
+    → seen_of world web (Some change) ≡ record {
+      lines = placed 0 1 (lines web);
+      faults = at_place NoMatch (record { file = record { 0 = 1 }; line = 1 + length comment }) ∷ [];
+      included = [];
+    }

@@ -1,6 +1,6 @@
 //! What holds of merged lines whatever the texts are. These functions do nothing: each is there for its contract.
 
-ghost use Rattle.cweb_lines.specs.Laws.{ChangeFilesWithoutEntriesChangeNothing, ChangesSplice, IncludeLinesAreReplaced, LinesComeApart, PrintedMergesComeAgain, WebsWithoutIncludesAreTheirOwnLines};
+ghost use Rattle.cweb_lines.specs.Laws.{ChangeFilesWithoutEntriesChangeNothing, ChangesSplice, EntriesWithoutMatchAreTold, IncludeLinesAreReplaced, LinesComeApart, PrintedMergesComeAgain, WebsWithoutIncludesAreTheirOwnLines};
 ghost use Rattle.cweb_lines.specs.Total.{HasOneAnswer};
 
 /// Every shelf, web and change file have their merged lines, and have them once: the steps of the merge end, and
@@ -47,4 +47,10 @@ pub fn include_line_is_replaced()
 /// them, empty lines behind an `@x`, codes out of place, and further old lines that differ from the web's.
 pub fn changes_splice()
     ensures { ChangesSplice }
+{}
+
+/// An entry that begins a change file and matches no line of the web is told once, at its `@x` line, and changes nothing.
+/// The web has no include lines here, and no empty line stands between the `@x` and the first old line.
+pub fn entry_without_match_is_told()
+    ensures { EntriesWithoutMatchAreTold }
 {}

@@ -5,7 +5,7 @@ mod code;
 mod fault;
 mod finding;
 mod include;
-mod laws;
+pub mod laws;
 mod limits;
 mod merger;
 mod names;
@@ -30,11 +30,6 @@ pub use cweb_files::{
     FileId, MemoryReader, MemoryShelf, MemorySink, Place, Shelf, ShelfFault, Sink, SinkFault,
 };
 pub use fault::{SourceFault, SourceKind};
-pub use laws::{
-    change_file_without_entries_changes_nothing, changes_splice, include_line_is_replaced,
-    lines_come_apart, merge_has_one_answer, printed_merge_comes_again,
-    web_without_includes_is_its_own_lines,
-};
 pub use limits::{BYTES, LINE_LENGTH, LINES};
 pub use merger::Merger;
 pub use names::FileNames;

@@ -1,0 +1,72 @@
+-- An entry that matches no line is told once, and changes nothing.
+use Rattle.std.proofs.Common.{◌≡◌, ◌≢◌, ◌+◌, true, false, List, [], ◌∷◌, ◌++◌, map, None, Some, refl, sym, ◌∙◌, ap, append-nil, length}
+use Rattle.std.specs.List.{list_any}
+use Rattle.std.specs.Str.{bytes_eq}
+use Rattle.cweb_lines.specs.Lines.{Line, SourceLine, lines, lines_in, text_lines}
+use Rattle.cweb_lines.specs.Include.{World, is_include}
+use Rattle.cweb_lines.specs.Change.{Sought, at_place, code_of}
+use Rattle.cweb_lines.specs.Laws.{EntriesWithoutMatchAreTold, followed_by, is_code, only_fault, only_lines, placed, seen}
+use Rattle.cweb_lines.specs.Merge.{Event, Thing, fault, raws, seek, took}
+use Rattle.cweb_lines.specs.Total.{merge, merge_end, merge_next}
+use Rattle.cweb_lines.specs.declared.code.Code.TheVariants.{OldSide as old_side}
+use Rattle.cweb_lines.specs.declared.fault.SourceFault.{SourceFault}
+use Rattle.cweb_lines.specs.declared.fault.SourceKind.TheVariants.{NoMatch}
+use Rattle.cweb_lines.proofs.Entries.{bytes_in, entry_of, finds, lines_of, passes_by}
+use Rattle.cweb_lines.proofs.Lies.{bytes_of, first_of, lie_in, parts}
+use Rattle.cweb_lines.proofs.Merges.{state}
+use Rattle.cweb_lines.proofs.Seens.{took_unseen}
+
+-- by the lines of the web, and those of the change file
+module _ (world : World) (web comment : List SourceLine) (x first : SourceLine) (rest : List SourceLine)
+    (no_codes : list_any is_code (bytes_in comment) ≡ false) (begins : code_of x.line.bytes ≡ Some old_side)
+    (some : first.line.bytes ≢ []) (no_first : code_of first.line.bytes ≡ None)
+    (plain_web : list_any is_include (bytes_in web) ≡ false)
+    (others : list_any (λ line. bytes_eq line first.line.bytes) (bytes_in web) ≡ false) where
+  -- the entry waits to the end
+  waits : seen (merge world (state [] (Some (entry_of x first)) rest 2)) ≡ only_fault NoMatch x.line.place
+  waits =
+      let told = fault (at_place NoMatch x.line.place) in
+      ap seen (merge_next world (state [] (Some (entry_of x first)) rest 2) (told ∷ [], state [] None rest 2) refl)
+      ∙ ap (λ (es : List Event). seen (told ∷ es)) (merge_end world (state [] None rest 2) refl)
+
+  told_once : seen (merge world (state (seek ∷ raws 1 true web) None (comment ++ (x ∷ first ∷ rest)) 2))
+      ≡ followed_by (only_lines (lines_of web)) (only_fault NoMatch x.line.place)
+  told_once =
+      let entry = entry_of x first in
+      let things = raws 1 true web in
+      let taken = comment ++ (x ∷ first ∷ []) in
+      ap seen (merge_next world (state (seek ∷ things) None (comment ++ (x ∷ first ∷ rest)) 2)
+          (map took taken ++ [], state things (Some entry) rest 2)
+          (ap (λ (found : Sought).
+              Some (map took found.taken ++ map fault found.faults, state things found.entry found.rest 2))
+              (finds comment x first rest no_codes begins some no_first)))
+      ∙ took_unseen taken (merge world (state things (Some entry) rest 2))
+      ∙ ap (λ (ts : List Thing). seen (merge world (state ts (Some entry) rest 2))) (sym (append-nil things))
+      ∙ passes_by world 1 entry web [] rest 2 plain_web others
+      ∙ ap (followed_by (only_lines (lines_of web))) waits
+
+pub entries_without_match : EntriesWithoutMatchAreTold
+entries_without_match world web change comment begin first rest is no_codes begins no_first some plain_web others =
+    let source = lines_in 0 web in
+    let lie = lie_in 0 1 (text_lines web) in
+    let web_is = bytes_of 0 1 (lines web) source lie in
+    let all = lie_in 1 1 (text_lines change) ∙ ap (placed 1 1) is in
+    let a = parts 1 1 comment (begin ∷ first ∷ rest) (lines_in 1 change) all in
+    let b = first_of 1 (1 + length comment) begin (first ∷ rest) a.rest a.rest_lies in
+    let c = first_of 1 (1 + length comment + 1) first rest b.rest b.rest_lies in
+    let comment_is = bytes_of 1 1 comment a.front a.front_lies in
+    let whole = a.whole ∙ ap (λ (ls : List SourceLine). a.front ++ ls)
+        (b.whole ∙ ap (λ (ls : List SourceLine). b.line ∷ ls) c.whole) in
+    ap (λ (changes : List SourceLine). seen (merge world (state (seek ∷ raws 1 true source) None changes 2))) whole
+    ∙ told_once world source a.front b.line c.line c.rest
+        (ap (list_any is_code) comment_is ∙ no_codes)
+        (ap code_of b.bytes ∙ begins)
+        (λ none. some (sym c.bytes ∙ none))
+        (ap code_of c.bytes ∙ no_first)
+        (ap (list_any is_include) web_is ∙ plain_web)
+        ((λ i. list_any (λ line. bytes_eq line (c.bytes i)) (web_is i)) ∙ others)
+    ∙ (λ i. followed_by (only_lines (lie i)) (only_fault NoMatch (b.place i)))
+    ∙ ap (λ (ls : List Line). record { lines = ls; faults = told; included = [] }) (append-nil (placed 0 1 (lines web)))
+  where
+    told : List SourceFault
+    told = at_place NoMatch (record { file = record { 0 = 1 }; line = 1 + length comment }) ∷ []
