@@ -44,8 +44,11 @@ pub record Goes (r : RawLine) (go : State → RawLine → List Thing → Next) :
       ≡ becomes (kind_behind kind) s (raw_behind r) things
 
 obeyed_goes : (r : RawLine) (found : Option Found) → Goes r (obeyed found)
-obeyed_goes r None = record { kind = faults (at_place NotThere r.source.line.place); is = λ s things. refl; behind =
-    λ s things. refl }
+obeyed_goes r None = record {
+  kind = faults (at_place NotThere r.source.line.place);
+  is = λ s things. refl;
+  behind = λ s things. refl;
+}
 obeyed_goes r (Some found) = record { kind = opens found; is = λ s things. refl; behind = λ s things. refl }
 
 opened_goes : (world : World) (r : RawLine) (b : Bool) (name : List ℕ) → Goes r (opened b world name)
@@ -54,8 +57,11 @@ opened_goes world r false name =
 opened_goes world r true name = obeyed_goes r (found_at world name)
 
 included_goes : (world : World) (r : RawLine) (name : List ℕ) → Goes r (included name world)
-included_goes world r [] = record { kind = faults (at_place NoName r.source.line.place); is =
-    λ s things. refl; behind = λ s things. refl }
+included_goes world r [] = record {
+  kind = faults (at_place NoName r.source.line.place);
+  is = λ s things. refl;
+  behind = λ s things. refl;
+}
 included_goes world r (b ∷ bs) =
     let there = opened_goes world r _ (b ∷ bs) in
     record { kind = there.kind; is = there.is; behind = there.behind }
@@ -93,7 +99,7 @@ pub front : (n : ℕ) (world : World) (things later : List Thing) (change : List
     (events : List Event) → AllByRecursion IsNoSearch things
     → run n world (state things None change files) ≡ Some events
     → merge world (state (things ++ later) None change files) ≡ events ++ merge world
-        (state later None change (files + length (openings events)))
+    (state later None change (files + length (openings events)))
 front zero world things later change files events none is = absurd (cc)
 front (suc n) world [] later change files events none is = by events is
   where
@@ -115,21 +121,21 @@ front (suc n) world (passed line ∷ things) later change files events none is =
 front (suc n) world (raw r ∷ things) later change files events none is =
     let goes = raw_goes world r in
     merge_next world (state (raw r ∷ things ++ later) None change files)
-        (taking r.source (becomes goes.kind (state (raw r ∷ things ++ later) None change files) r (things ++ later)))
+    (taking r.source (becomes goes.kind (state (raw r ∷ things ++ later) None change files) r (things ++ later)))
     (ap (λ (next : Next). Some (taking r.source next))
-        (goes.is (state (raw r ∷ things ++ later) None change files) (things ++ later)))
+    (goes.is (state (raw r ∷ things ++ later) None change files) (things ++ later)))
     ∙ by goes.kind (sym (ap (λ (next : Next). onto (took r.source ∷ next.0) (run n world next.1))
-        (goes.is (state (raw r ∷ things) None change files) things)) ∙ is)
-        (λ ts f es no i. front n world ts later change f es no i)
+    (goes.is (state (raw r ∷ things) None change files) things)) ∙ is)
+    (λ ts f es no i. front n world ts later change f es no i)
   where
     by : (kind : Kind) → (let next = becomes kind (state (raw r ∷ things) None change files) r things in onto
         (took r.source ∷ next.0) (run n world next.1)) ≡ Some events
         → ((ts : List Thing) (f : ℕ) (es : List Event) → AllByRecursion IsNoSearch ts
-            → run n world (state ts None change f) ≡ Some es
+        → run n world (state ts None change f) ≡ Some es
         → merge world (state (ts ++ later) None change f) ≡ es ++ merge world
-            (state later None change (f + length (openings es))))
+        (state later None change (f + length (openings es))))
         → (let next = becomes kind (state (raw r ∷ things ++ later) None change files) r
-            (things ++ later) in took r.source ∷ next.0 ++ merge world next.1)
+        (things ++ later) in took r.source ∷ next.0 ++ merge world next.1)
         ≡ events ++ merge world (state later None change (files + length (openings events)))
     by (gives line) is each =
         let x = onto_some (took r.source ∷ given line ∷ []) events (run n world (state things None change files)) is in
@@ -142,12 +148,12 @@ front (suc n) world (raw r ∷ things) later change files events none is =
     by (opens found) is each =
         let lines = raws (r.depth + 1) r.may_match (lines_in files found.1) in
         let x = onto_some (took r.source ∷ opening found.0 ∷ []) events
-            (run n world (state (lines ++ things) None change (files + 1))) is in
+        (run n world (state (lines ++ things) None change (files + 1))) is in
         let number : files + 1 + length (openings x.0) ≡ files + suc (length (openings x.0)) = omega arith in
         ap (λ (ts : List Thing). took r.source ∷ opening found.0 ∷ merge world (state ts None change (files + 1)))
-            (sym (append_assoc lines things later))
+        (sym (append_assoc lines things later))
         ∙ ap (λ (es : List Event). took r.source ∷ opening found.0 ∷ es)
         (each (lines ++ things) (files + 1) x.0
-            (raws_seek_not (r.depth + 1) r.may_match (lines_in files found.1) things none.1) x.1)
+        (raws_seek_not (r.depth + 1) r.may_match (lines_in files found.1) things none.1) x.1)
         ∙ ap (λ f. took r.source ∷ opening found.0 ∷ x.0 ++ merge world (state later None change f)) number
         ∙ ap (λ (es : List Event). es ++ merge world (state later None change (files + length (openings es)))) x.2

@@ -67,7 +67,7 @@ text_lines-clean (b ∷ bs) = by (b == 10) refl (text_lines-clean bs)
   where
     by : (v : Bool) → (b == 10) ≡ v → AllByRecursion (λ line. HasNoNewline line.bytes) (text_lines bs)
         → AllByRecursion (λ line. HasNoNewline line.bytes)
-            (if v then record { bytes = []; size = 1 } ∷ text_lines bs else onto_first b (text_lines bs))
+        (if v then record { bytes = []; size = 1 } ∷ text_lines bs else onto_first b (text_lines bs))
     by true is all = (tt, all)
     by false is all = onto_first-clean b (text_lines bs) (grind (arith, nat_tests)) all
 
@@ -97,7 +97,7 @@ outside-cut (Some end_side) place later all = all None
 behind-cut : (bytes : List ℕ) (code : Option Code) (begin : Place) (line : SourceLine) (lines : List SourceLine)
     (later : Option Place → Sought) → AllByRecursion IsCutLine lines
     → ((p : Option Place) → AllByRecursion IsCutLine (later p).rest) → AllByRecursion IsCutLine
-        (behind_x bytes code begin line lines later).rest
+    (behind_x bytes code begin line lines later).rest
 behind-cut [] code begin line lines later cut all = all (Some begin)
 behind-cut (b ∷ bs) None begin line lines later cut all = cut
 behind-cut (b ∷ bs) (Some code) begin line lines later cut all = outside-cut (Some code) line.line.place later all
@@ -110,7 +110,7 @@ sought-cut (line ∷ lines) None cut = outside-cut (code_of line.line.bytes) lin
     (λ begin. sought lines begin) (λ p. sought-cut lines p cut.1)
 sought-cut (line ∷ lines) (Some begin) cut =
     behind-cut line.line.bytes (code_of line.line.bytes) begin line lines (λ next. sought lines next) cut.1
-        (λ p. sought-cut lines p cut.1)
+    (λ p. sought-cut lines p cut.1)
 
 old_at-cut : (code : Option Code) (line : SourceLine) (lines : List SourceLine) (later : OldSide)
     → AllByRecursion IsCutLine lines → AllByRecursion IsCutLine later.rest
@@ -212,9 +212,14 @@ module _ (world : World) (r : RawLine) (things : List Thing) (s : State) (first 
   obeyed_keeps : (found : Option Found) → Keeps (obeyed found s r things)
   obeyed_keeps None = (tt, (cut, change))
   obeyed_keeps (Some found) =
-      let inner = lines_in s.files found.1 in
-      (tt, (all-append IsCutThing (raws (r.depth + 1) r.may_match inner) things
-          (raws-cut (r.depth + 1) r.may_match inner (lines_in-cut s.files found.1)) cut, change))
+      let inner = lines_in s.files found.1 in (
+        tt,
+        (
+          all-append IsCutThing (raws (r.depth + 1) r.may_match inner) things
+              (raws-cut (r.depth + 1) r.may_match inner (lines_in-cut s.files found.1)) cut,
+          change,
+        ),
+      )
 
   opened_keeps : (b : Bool) (name : List ℕ) → Keeps (opened b world name s r things)
   opened_keeps false name = (tt, (cut, change))
@@ -233,9 +238,9 @@ module _ (world : World) (r : RawLine) (things : List Thing) (s : State) (first 
       let old = old_lines s.change in
       let by = compared old.lines things in
       silent_keeps (change_events entry old by) (after_old old.ended s.files r.depth entry old by.rest)
-          (change-silent entry old by)
+      (change-silent entry old by)
       (after_old-cut old.ended s.files r.depth entry old by.rest (old_lines-cut s.change change)
-          (compared-cut old.lines things cut))
+      (compared-cut old.lines things cut))
   entry_keeps false entry = plain_keeps (is_include r.source.line.bytes) refl
 
   pub raw_keeps : (pending : Option Entry) → Keeps (at_raw pending world s r things)

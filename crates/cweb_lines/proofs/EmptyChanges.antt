@@ -24,7 +24,7 @@ seen_events (opening name ∷ events) = ap (name_first name) (seen_events events
 web_stays : (web : List ℕ) → map thing_behind (raws 1 true (lines_in 0 web)) ≡ raws 1 true (lines_in 0 web)
 web_stays web =
     ap (map thing_behind) (sym (append-nil (raws 1 true (lines_in 0 web))))
-        ∙ raws_behind 1 true 0 0 1 (text_lines web) [] refl ∙ append-nil (raws 1 true (lines_in 0 web))
+    ∙ raws_behind 1 true 0 0 1 (text_lines web) [] refl ∙ append-nil (raws 1 true (lines_in 0 web))
 
 web_none : (web : List ℕ) → AllByRecursion IsNoSearch (raws 1 true (lines_in 0 web))
 web_none web = subst (AllByRecursion IsNoSearch) (append-nil (raws 1 true (lines_in 0 web)))
@@ -37,13 +37,13 @@ change_files_without_entries world web change none =
     let no_codes = ap (list_any is_code) (bytes_of 1 1 (lines change) changes (lie_in 1 1 (text_lines change))) ∙ none in
     let alone = halts world (started web None) in
     ap seen (merge_next world (started web (Some change)) (map took changes ++ [], state things None [] 2)
-        (ap (λ (found : Sought).
-            Some (map took found.taken ++ map fault found.faults, state things found.entry found.rest 2))
-            (finds_none changes no_codes)))
+    (ap (λ (found : Sought).
+    Some (map took found.taken ++ map fault found.faults, state things found.entry found.rest 2))
+    (finds_none changes no_codes)))
     ∙ took_unseen changes (merge world (state things None [] 2))
     ∙ ap (λ (ts : List Thing). seen (merge world (state ts None [] 2))) (sym (web_stays web))
     ∙ ap seen (merge-run alone.steps world (state (map thing_behind things) None [] 2) (map event_behind alone.events)
     (run_behind alone.steps world things 1 alone.events (omega arith) (web_none web) alone.comes))
     ∙ seen_events alone.events
     ∙ ap (λ (es : List Event). seen_behind (seen es))
-        (sym (merge-run alone.steps world (started web None) alone.events alone.comes))
+    (sym (merge-run alone.steps world (started web None) alone.events alone.comes))

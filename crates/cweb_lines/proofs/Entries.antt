@@ -28,7 +28,7 @@ finds_none [] none = refl
 finds_none (line ∷ lines) none =
     let parts = or-false (is_code line.line.bytes) (list_any is_code (bytes_in lines)) none in
     ap (λ code. passing line (outside code line.line.place (λ begin. sought lines begin)))
-        (no_code (code_of line.line.bytes) parts.0)
+    (no_code (code_of line.line.bytes) parts.0)
     ∙ ap (passing line) (finds_none lines parts.1)
 
 -- the entry that begins with these two lines
@@ -38,8 +38,13 @@ entry_of x first = record { begin = x.line.place; first = first.line.bytes }
 first_old : (bytes : List ℕ) (code : Option Code) (begin : Place) (first : SourceLine) (rest : List SourceLine)
     (later : Option Place → Sought) → bytes ≢ [] → code ≡ None
     → behind_x bytes code begin first rest later
-        ≡ record { faults = []; taken = first ∷ []; entry = Some (record { begin = begin; first = bytes }); rest =
-        rest }
+    ≡ record {
+      faults = [];
+      taken = first ∷ [];
+      entry = Some (record { begin = begin; first = bytes });
+      rest =
+          rest;
+    }
 first_old [] code begin first rest later some none = absurd (some refl)
 first_old (b ∷ bs) code begin first rest later some none = ap (λ c. behind_x (b ∷ bs) c begin first rest later) none
 
@@ -48,57 +53,57 @@ pub finds : (comment : List SourceLine) (x first : SourceLine) (rest : List Sour
     → list_any is_code (bytes_in comment) ≡ false → code_of x.line.bytes ≡ Some old_side
     → first.line.bytes ≢ [] → code_of first.line.bytes ≡ None
     → sought (comment ++ (x ∷ first ∷ rest)) None
-        ≡ record { faults = []; taken = comment ++ (x ∷ first ∷ []); entry = Some (entry_of x first); rest = rest }
+    ≡ record { faults = []; taken = comment ++ (x ∷ first ∷ []); entry = Some (entry_of x first); rest = rest }
 finds [] x first rest no_codes begins some none =
     ap (λ code. passing x (outside code x.line.place (λ begin. sought (first ∷ rest) begin))) begins
     ∙ ap (passing x) (first_old first.line.bytes (code_of first.line.bytes) x.line.place first rest
-        (λ next. sought rest next) some none)
+    (λ next. sought rest next) some none)
 finds (line ∷ comment) x first rest no_codes begins some none =
     let parts = or-false (is_code line.line.bytes) (list_any is_code (bytes_in comment)) no_codes in
     ap (λ code. passing line (outside code line.line.place (λ begin. sought (comment ++ (x ∷ first ∷ rest)) begin)))
-        (no_code (code_of line.line.bytes) parts.0)
+    (no_code (code_of line.line.bytes) parts.0)
     ∙ ap (passing line) (finds comment x first rest parts.1 begins some none)
 
 -- the further old lines go up to the @y line
 pub old_splits : (further : List SourceLine) (y : SourceLine) (rest : List SourceLine)
     → list_any is_code (bytes_in further) ≡ false → code_of y.line.bytes ≡ Some new_side
     → old_lines (further ++ (y ∷ rest))
-        ≡ record { faults = []; lines = bytes_in further; taken = further ++ (y ∷ []); ended = false; rest = rest }
+    ≡ record { faults = []; lines = bytes_in further; taken = further ++ (y ∷ []); ended = false; rest = rest }
 old_splits [] y rest no_codes turns = ap (λ code. old_at code y rest (old_lines rest)) turns
 old_splits (line ∷ further) y rest no_codes turns =
     let parts = or-false (is_code line.line.bytes) (list_any is_code (bytes_in further)) no_codes in
     ap (λ code. old_at code line (further ++ (y ∷ rest)) (old_lines (further ++ (y ∷ rest))))
-        (no_code (code_of line.line.bytes) parts.0)
+    (no_code (code_of line.line.bytes) parts.0)
     ∙ ap (old_line line) (old_splits further y rest parts.1 turns)
 
 -- raw lines that equal the further old lines are taken away
 pub compares : (depth : ℕ) (may_match : Bool) (lines : List SourceLine) (later : List Thing)
     → compared (bytes_in lines) (raws depth may_match lines ++ later)
-        ≡ record { unequal = 0; taken = lines; ran_out = false; rest = later }
+    ≡ record { unequal = 0; taken = lines; ran_out = false; rest = later }
 compares depth may_match [] later = refl
 compares depth may_match (line ∷ lines) later =
     ap (λ equal. one_more equal line (compared (bytes_in lines) (raws depth may_match lines ++ later)))
-        ((bytes_eq-Decides line.line.bytes line.line.bytes).1 refl)
+    ((bytes_eq-Decides line.line.bytes line.line.bytes).1 refl)
     ∙ ap (one_more true line) (compares depth may_match lines later)
 
 -- the new lines go up to the @z line
 pub new_splits : (depth : ℕ) (begin : Place) (new : List SourceLine) (z : SourceLine) (rest : List SourceLine)
     → list_any is_code (bytes_in new) ≡ false → code_of z.line.bytes ≡ Some end_side
     → new_lines depth begin (new ++ (z ∷ rest))
-        ≡ record { things = raws depth false new ++ (passed z ∷ []); rest = rest }
+    ≡ record { things = raws depth false new ++ (passed z ∷ []); rest = rest }
 new_splits depth begin [] z rest no_codes ends = ap (λ code. new_at code depth z rest (new_lines depth begin rest)) ends
 new_splits depth begin (line ∷ new) z rest no_codes ends =
     let parts = or-false (is_code line.line.bytes) (list_any is_code (bytes_in new)) no_codes in
     ap (λ code. new_at code depth line (new ++ (z ∷ rest)) (new_lines depth begin (new ++ (z ∷ rest))))
-        (no_code (code_of line.line.bytes) parts.0)
+    (no_code (code_of line.line.bytes) parts.0)
     ∙ ap (new_things (raw (record { source = line; depth = depth; may_match = false }) ∷ []))
-        (new_splits depth begin new z rest parts.1 ends)
+    (new_splits depth begin new z rest parts.1 ends)
 
 -- lines that begin no include and no change are given out
 pub gives_out : (world : World) (depth : ℕ) (may_match : Bool) (lines : List SourceLine) (later : List Thing)
     (change : List SourceLine) (files : ℕ) → list_any is_include (bytes_in lines) ≡ false
     → seen (merge world (state (raws depth may_match lines ++ later) None change files))
-        ≡ followed_by (only_lines (lines_of lines)) (seen (merge world (state later None change files)))
+    ≡ followed_by (only_lines (lines_of lines)) (seen (merge world (state later None change files)))
 gives_out world depth may_match [] later change files plain_lines = refl
 gives_out world depth may_match (line ∷ lines) later change files plain_lines =
     let parts = or-false (is_include line.line.bytes) (list_any is_include (bytes_in lines)) plain_lines in
@@ -106,7 +111,7 @@ gives_out world depth may_match (line ∷ lines) later change files plain_lines 
     let rest = raws depth may_match lines ++ later in
     let s = state (raw r ∷ rest) None change files in
     ap seen (merge_next world s (took line ∷ given line.line ∷ [], state rest None change files)
-        (ap (λ b. Some (taking line (plain b world s r rest))) parts.0))
+    (ap (λ b. Some (taking line (plain b world s r rest))) parts.0))
     ∙ ap (line_first line.line) (gives_out world depth may_match lines later change files parts.1)
 
 pub gives_alone : (world : World) (depth : ℕ) (may_match : Bool) (lines : List SourceLine) (change : List SourceLine)
@@ -116,7 +121,7 @@ gives_alone world depth may_match lines change files plain_lines =
     ap (λ (ts : List Thing). seen (merge world (state ts None change files))) (sym (append-nil (raws depth may_match lines)))
     ∙ gives_out world depth may_match lines [] change files plain_lines
     ∙ ap (λ (es : List Event). followed_by (only_lines (lines_of lines)) (seen es))
-        (merge_end world (state [] None change files) refl)
+    (merge_end world (state [] None change files) refl)
     ∙ ap only_lines (append-nil (lines_of lines))
 
 -- and where an entry waits that none of them equals
@@ -124,16 +129,16 @@ pub passes_by : (world : World) (depth : ℕ) (entry : Entry) (lines : List Sour
     (change : List SourceLine) (files : ℕ) → list_any is_include (bytes_in lines) ≡ false
     → list_any (λ line. bytes_eq line entry.first) (bytes_in lines) ≡ false
     → seen (merge world (state (raws depth true lines ++ later) (Some entry) change files))
-        ≡ followed_by (only_lines (lines_of lines)) (seen (merge world (state later (Some entry) change files)))
+    ≡ followed_by (only_lines (lines_of lines)) (seen (merge world (state later (Some entry) change files)))
 passes_by world depth entry [] later change files plain_lines others = refl
 passes_by world depth entry (line ∷ lines) later change files plain_lines others =
     let parts = or-false (is_include line.line.bytes) (list_any is_include (bytes_in lines)) plain_lines in
     let differ = or-false (bytes_eq line.line.bytes entry.first)
-        (list_any (λ line. bytes_eq line entry.first) (bytes_in lines)) others in
+    (list_any (λ line. bytes_eq line entry.first) (bytes_in lines)) others in
     let r : RawLine = record { source = line; depth = depth; may_match = true } in
     let rest = raws depth true lines ++ later in
     let s = state (raw r ∷ rest) (Some entry) change files in
     ap seen (merge_next world s (took line ∷ given line.line ∷ [], state rest (Some entry) change files)
     (ap (λ b. Some (taking line (at_entry (true && b) entry world s r rest))) differ.0
-        ∙ ap (λ b. Some (taking line (plain b world s r rest))) parts.0))
+    ∙ ap (λ b. Some (taking line (plain b world s r rest))) parts.0))
     ∙ ap (line_first line.line) (passes_by world depth entry lines later change files parts.1 differ.1)

@@ -20,26 +20,26 @@ pub raws_seek_none : (depth : ℕ) (may_match : Bool) (lines : List SourceLine)
     → AllByRecursion IsNoSearch (raws depth may_match lines)
 raws_seek_none depth may_match lines =
     subst (AllByRecursion IsNoSearch) (append-nil (raws depth may_match lines))
-        (raws_seek_not depth may_match lines [] tt)
+    (raws_seek_not depth may_match lines [] tt)
 
 pub raws-append : (depth : ℕ) (may_match : Bool) (before behind : List SourceLine)
     → raws depth may_match (before ++ behind) ≡ raws depth may_match before ++ raws depth may_match behind
 raws-append depth may_match [] behind = refl
 raws-append depth may_match (line ∷ before) behind =
     ap (λ (ts : List Thing). raw (record { source = line; depth = depth; may_match = may_match }) ∷ ts)
-        (raws-append depth may_match before behind)
+    (raws-append depth may_match before behind)
 
 -- what stands behind some things comes as if alone
 pub in_two : (world : World) (things later : List Thing) (change : List SourceLine) (files : ℕ)
     → AllByRecursion IsNoSearch things
     → merge world (state (things ++ later) None change files)
     ≡ merge world (state things None change files) ++ merge world
-        (state later None change (files + length (openings (merge world (state things None change files)))))
+    (state later None change (files + length (openings (merge world (state things None change files)))))
 in_two world things later change files none =
     let first = halts world (state things None change files) in
     front first.steps world things later change files first.events none first.comes
     ∙ ap (λ (es : List Event). es ++ merge world (state later None change (files + length (openings es))))
-        (sym (merge-run first.steps world (state things None change files) first.events first.comes))
+    (sym (merge-run first.steps world (state things None change files) first.events first.comes))
 
 -- an include line that names something
 names_some : (world : World) (r : RawLine) (s : State) (things : List Thing) (next : Next) (b : Bool)
@@ -71,39 +71,39 @@ one_event : (world : World) (depth files : ℕ) (line : SourceLine) (event : Eve
 one_event world depth files line event is =
     let r : RawLine = record { source = line; depth = depth; may_match = true } in
     ap seen (merge_next world (state (raw r ∷ []) None [] files) (took line ∷ event ∷ [], state [] None [] files)
-        (ap (λ (next : Next). Some (taking line next)) is))
+    (ap (λ (next : Next). Some (taking line next)) is))
     ∙ ap (λ (es : List Event). seen (took line ∷ event ∷ es)) (merge_end world (state [] None [] files) refl)
 
 pub lines_apart : LinesComeApart
 lines_apart = record {
   whole = λ world web. refl;
   apart = λ world depth files before behind.
-    let things = raws depth true before in
-    ap (λ (ts : List Thing). seen (merge world (state ts None [] files))) (raws-append depth true before behind)
-    ∙ ap seen (in_two world things (raws depth true behind) [] files (raws_seek_none depth true before))
-    ∙ seen-append (merge world (state things None [] files))
-        (merge world (state (raws depth true behind) None []
-        (files + length (openings (merge world (state things None [] files))))));
+      let things = raws depth true before in
+      ap (λ (ts : List Thing). seen (merge world (state ts None [] files))) (raws-append depth true before behind)
+      ∙ ap seen (in_two world things (raws depth true behind) [] files (raws_seek_none depth true before))
+      ∙ seen-append (merge world (state things None [] files))
+      (merge world (state (raws depth true behind) None []
+      (files + length (openings (merge world (state things None [] files))))));
   plain = λ world depth files line plain_line.
-    let r : RawLine = record { source = line; depth = depth; may_match = true } in
-    one_event world depth files line (given line.line)
-    (ap (λ b. plain b world (state (raw r ∷ []) None [] files) r []) plain_line);
+      let r : RawLine = record { source = line; depth = depth; may_match = true } in
+      one_event world depth files line (given line.line)
+      (ap (λ b. plain b world (state (raw r ∷ []) None [] files) r []) plain_line);
   no_name = λ world depth files line include none.
-    let r : RawLine = record { source = line; depth = depth; may_match = true } in
-    let s = state (raw r ∷ []) None [] files in
-    one_event world depth files line (fault (at_place NoName line.line.place))
-    (ap (λ b. plain b world s r []) include ∙ ap (λ name. included name world s r []) none);
+      let r : RawLine = record { source = line; depth = depth; may_match = true } in
+      let s = state (raw r ∷ []) None [] files in
+      one_event world depth files line (fault (at_place NoName line.line.place))
+      (ap (λ b. plain b world s r []) include ∙ ap (λ name. included name world s r []) none);
   too_deep = λ world depth files line include named deep.
-    let r : RawLine = record { source = line; depth = depth; may_match = true } in
-    let full : nat_lt depth OPEN_FILES ≡ false = grind (arith, nat_tests) in
-    one_event world depth files line (fault (at_place TooDeep line.line.place))
-    (names_some world r (state (raw r ∷ []) None [] files) [] _ false include named full refl);
+      let r : RawLine = record { source = line; depth = depth; may_match = true } in
+      let full : nat_lt depth OPEN_FILES ≡ false = grind (arith, nat_tests) in
+      one_event world depth files line (fault (at_place TooDeep line.line.place))
+      (names_some world r (state (raw r ∷ []) None [] files) [] _ false include named full refl);
   not_there = λ world depth files line include named shallow gone.
-    let r : RawLine = record { source = line; depth = depth; may_match = true } in
-    let s = state (raw r ∷ []) None [] files in
-    let room : nat_lt depth OPEN_FILES ≡ true = grind (arith, nat_tests) in
-    one_event world depth files line (fault (at_place NotThere line.line.place))
-    (names_some world r s [] _ true include named room (ap (λ found. obeyed found s r []) gone));
+      let r : RawLine = record { source = line; depth = depth; may_match = true } in
+      let s = state (raw r ∷ []) None [] files in
+      let room : nat_lt depth OPEN_FILES ≡ true = grind (arith, nat_tests) in
+      one_event world depth files line (fault (at_place NotThere line.line.place))
+      (names_some world r s [] _ true include named room (ap (λ found. obeyed found s r []) gone));
 }
 
 pub include_lines : IncludeLinesAreReplaced
@@ -117,12 +117,12 @@ include_lines world depth files before behind line name text includes shallow =
     let last = merge world (state rest None [] (file + 1 + length (openings inside))) in
     let s = state (raw r ∷ rest) None [] file in
     ap (λ (ts : List Thing). seen (merge world (state ts None [] files)))
-        (raws-append depth true before (line ∷ behind))
+    (raws-append depth true before (line ∷ behind))
     ∙ ap seen (in_two world (raws depth true before) (raw r ∷ rest) [] files (raws_seek_none depth true before))
     ∙ ap (λ (es : List Event). seen (first ++ es))
     (merge_next world s (taking line (obeyed (Some (name, text)) s r rest))
-        (ap (λ (next : Next). Some (taking line next)) (opens_text world r rest s name text includes shallow))
+    (ap (λ (next : Next). Some (taking line next)) (opens_text world r rest s name text includes shallow))
     ∙ ap (λ (es : List Event). took line ∷ opening name ∷ es)
-        (in_two world lines rest [] (file + 1) (raws_seek_none (depth + 1) true (lines_in file text))))
+    (in_two world lines rest [] (file + 1) (raws_seek_none (depth + 1) true (lines_in file text))))
     ∙ seen-append first (took line ∷ opening name ∷ (inside ++ last))
     ∙ ap (λ (later : Seen). followed_by (seen first) (name_first name later)) (seen-append inside last)

@@ -29,8 +29,11 @@ change_file_without_entries : list_any is_code (lines (codes "a comment\n@ alone
 change_file_without_entries = refl
 
 abbrev a_file_included : World
-a_file_included = record { texts = λ asked. cond (bytes_eq asked (codes "b")) (Some (codes "B\n@i\n")) None; inputs =
-    None }
+a_file_included = record {
+  texts = λ asked. cond (bytes_eq asked (codes "b")) (Some (codes "B\n@i\n")) None;
+  inputs =
+      None;
+}
 
 -- the included file is file 2 in place of 1, with its fault too
 it_changes_nothing : seen_by (run 20 a_file_included
@@ -88,8 +91,17 @@ two_changes =
       new = codes "b" ∷ codes "bb" ∷ [];
       end = codes "@z";
     }
-    ∷ record { stays = []; first = codes "C"; further = []; comment = []; begin = codes "@X"; middle =
-        codes "@Y"; new = []; end = codes "@Z" }
+    ∷ record {
+      stays = [];
+      first = codes "C";
+      further = [];
+      comment = [];
+      begin = codes "@X";
+      middle =
+          codes "@Y";
+      new = [];
+      end = codes "@Z";
+    }
     ∷ []
 
 they_are_plain : AllByRecursion IsPlainSplice two_changes

@@ -36,12 +36,12 @@ run_prints (suc n) world things pending change files events cut cut' is =
         let x = onto_some next.0 events (run n world next.1) is in
         subst (λ (es : List Event). AllByRecursion IsPrinted (given_lines es)) x.2
         (subst (AllByRecursion IsPrinted) (sym (given-append next.0 x.0))
-            (all-append IsPrinted (given_lines next.0) (given_lines x.0) keeps.0 (each next.1 x.0 keeps.1 x.1)))
+        (all-append IsPrinted (given_lines next.0) (given_lines x.0) keeps.0 (each next.1 x.0 keeps.1 x.1)))
 
     by : (things : List Thing) (pending : Option Entry) → AllByRecursion IsCutThing things
         → run (suc n) world (state things pending change files) ≡ Some events
         → ((s : State) (es : List Event) → IsCutState s → run n world s ≡ Some es
-            → AllByRecursion IsPrinted (given_lines es)) → AllByRecursion IsPrinted (given_lines events)
+        → AllByRecursion IsPrinted (given_lines es)) → AllByRecursion IsPrinted (given_lines events)
     by [] None cut is each = printed_of events is
     by [] (Some entry) cut is each = next_prints
         (fault (at_place NoMatch entry.begin) ∷ [], state [] None change files) (tt, (tt, cut')) is each
@@ -50,7 +50,7 @@ run_prints (suc n) world things pending change files events cut cut' is =
         next_prints (map took found.taken ++ map fault found.faults, state things found.entry found.rest files)
         (silent_keeps (map took found.taken ++ map fault found.faults) (state things found.entry found.rest files)
         (silent-append (map took found.taken) (map fault found.faults) (took-silent found.taken)
-            (faults-silent found.faults)) (cut.1, sought-cut change None cut')) is each
+        (faults-silent found.faults)) (cut.1, sought-cut change None cut')) is each
     by (told f ∷ things) pending cut is each = next_prints (fault f ∷ [], state things pending change files)
         (tt, (cut.1, cut')) is each
     by (passed line ∷ things) pending cut is each = next_prints (took line ∷ [], state things pending change files)
@@ -71,7 +71,7 @@ merge_prints world web change =
     let all = halts world s in
     let cut = started-cut web change in
     subst (λ (es : List Event). AllByRecursion IsPrinted (given_lines es))
-        (sym (merge-run all.steps world s all.events all.comes))
+    (sym (merge-run all.steps world s all.events all.comes))
     (run_prints all.steps world s.things s.pending s.change s.files all.events cut.0 cut.1 all.comes)
 
 -- what is read again of lines that were printed

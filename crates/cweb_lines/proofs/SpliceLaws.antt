@@ -43,9 +43,9 @@ web_parts number s later lines lie =
       first = b.bytes;
       further = bytes_of 0 (number + length s.stays + 1) s.further c.front c.front_lies;
       behind_lies =
-        subst (λ n. Lie 0 n later c.rest)
-            (let same : number + length s.stays + 1 + length s.further
-            ≡ number + length s.stays + length s.further + 1 = omega arith in same) c.rest_lies;
+          subst (λ n. Lie 0 n later c.rest)
+          (let same : number + length s.stays + 1 + length s.further
+          ≡ number + length s.stays + length s.further + 1 = omega arith in same) c.rest_lies;
     }
 
 -- the lines of a change file up to the @z of its first entry, and what stands behind it
@@ -70,14 +70,14 @@ record ChangeParts (number : ℕ) (s : Splice) (later : List (List ℕ)) (lines 
 
 change_parts : (number : ℕ) (s : Splice) (later : List (List ℕ)) (lines : List SourceLine)
     → Lie 1 number (s.comment ++ (s.begin ∷ s.first ∷ (s.further ++ (s.middle ∷ (s.new ++ (s.end ∷ later)))))) lines
-        → ChangeParts number s later lines
+    → ChangeParts number s later lines
 change_parts number s later lines lie =
     let at_x = number + length s.comment in
     let at_y = at_x + 1 + 1 + length s.further in
     let a = parts 1 number s.comment
-        (s.begin ∷ s.first ∷ (s.further ++ (s.middle ∷ (s.new ++ (s.end ∷ later))))) lines lie in
+    (s.begin ∷ s.first ∷ (s.further ++ (s.middle ∷ (s.new ++ (s.end ∷ later))))) lines lie in
     let b = first_of 1 at_x s.begin
-        (s.first ∷ (s.further ++ (s.middle ∷ (s.new ++ (s.end ∷ later))))) a.rest a.rest_lies in
+    (s.first ∷ (s.further ++ (s.middle ∷ (s.new ++ (s.end ∷ later))))) a.rest a.rest_lies in
     let c = first_of 1 (at_x + 1) s.first (s.further ++ (s.middle ∷ (s.new ++ (s.end ∷ later)))) b.rest b.rest_lies in
     let d = parts 1 (at_x + 1 + 1) s.further (s.middle ∷ (s.new ++ (s.end ∷ later))) c.rest c.rest_lies in
     let e = first_of 1 at_y s.middle (s.new ++ (s.end ∷ later)) d.rest d.rest_lies in
@@ -85,7 +85,7 @@ change_parts number s later lines lie =
     let g = first_of 1 (at_y + 1 + length s.new) s.end later f.rest f.rest_lies in
     let new_number : at_y + 1 ≡ number + length s.comment + length s.further + 3 = omega arith in
     let rest_number : at_y + 1 + length s.new + 1
-        ≡ number + length s.comment + length s.further + 3 + length s.new + 1 = omega arith in
+    ≡ number + length s.comment + length s.further + 3 + length s.new + 1 = omega arith in
     record {
       comment = a.front;
       x = b.line;
@@ -99,7 +99,7 @@ change_parts number s later lines lie =
           (b.whole ∙ ap (λ (ls : List SourceLine). b.line ∷ ls) (c.whole
           ∙ ap (λ (ls : List SourceLine). c.line ∷ ls) (d.whole ∙ ap (λ (ls : List SourceLine). d.front ++ ls) (e.whole
           ∙ ap (λ (ls : List SourceLine). e.line ∷ ls)
-              (f.whole ∙ ap (λ (ls : List SourceLine). f.front ++ ls) g.whole)))));
+          (f.whole ∙ ap (λ (ls : List SourceLine). f.front ++ ls) g.whole)))));
       comment_is = bytes_of 1 number s.comment a.front a.front_lies;
       begin_is = b.bytes;
       first_is = c.bytes;
@@ -114,14 +114,17 @@ change_parts number s later lines lie =
 splices_none : (world : World) (web change : ℕ) (behind comment : List (List ℕ)) (lines changes : List SourceLine)
     → list_any is_include behind ≡ false → list_any is_code comment ≡ false
     → Lie 0 web behind lines → Lie 1 change comment changes → seen
-        (merge world (state (seek ∷ raws 1 true lines) None changes 2)) ≡ only_lines (placed 0 web behind)
+    (merge world (state (seek ∷ raws 1 true lines) None changes 2)) ≡ only_lines (placed 0 web behind)
 splices_none world web change behind comment lines changes plain_behind no_codes lie lie' =
     let plain_lines = ap (list_any is_include) (bytes_of 0 web behind lines lie) ∙ plain_behind in
     let none = ap (list_any is_code) (bytes_of 1 change comment changes lie') ∙ no_codes in
     let things = raws 1 true lines in
     ap seen (merge_next world (state (seek ∷ things) None changes 2) (map took changes ++ [], state things None [] 2)
-    (ap (λ (found : Sought). Some (map took found.taken
-        ++ map fault found.faults, state things found.entry found.rest 2)) (finds_none changes none)))
+    (ap (λ (found : Sought). Some (
+      map took found.taken
+          ++ map fault found.faults,
+      state things found.entry found.rest 2,
+    )) (finds_none changes none)))
     ∙ took_unseen changes (merge world (state things None [] 2))
     ∙ gives_alone world 1 true lines [] 2 plain_lines
     ∙ ap only_lines lie
@@ -180,10 +183,10 @@ splices_all world (s ∷ splices) web change behind comment lines changes all pl
     let first_new = change + length s.comment + length s.further + 3 in
     let next_web = web + length s.stays + length s.further + 1 in
     let later = splices_all world splices next_web (first_new + length s.new + 1) behind comment w.behind c.rest
-        all.1 plain_behind no_codes w.behind_lies c.rest_lies in
+    all.1 plain_behind no_codes w.behind_lies c.rest_lies in
     (λ i. seen (merge world (state (seek ∷ raws 1 true (w.whole i)) None (c.whole i) 2)))
     ∙ splices_one world 2 (edit_of web change s rest rest' lines changes w c)
-        (plain_edit web change s rest rest' lines changes w c all.0) c.rest w.behind
+    (plain_edit web change s rest rest' lines changes w c all.0) c.rest w.behind
     ∙ (λ i. followed_by (only_lines (w.stays_lie i)) (followed_by (only_lines (c.new_lies i)) (later i)))
 
 pub changes_splice : ChangesSplice

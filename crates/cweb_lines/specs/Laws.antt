@@ -128,20 +128,20 @@ pub record LinesComeApart : Type 0 where
   -- a web's own lines lie at depth 1, behind one file
   pub whole : (world : World) (web : List ℕ) → seen_of world web None ≡ seen_in world 1 1 (lines_in 0 web)
   pub apart : (world : World) (depth files : ℕ) (before behind : List SourceLine) →
-    let first = seen_in world depth files before in
-    let rest = seen_in world depth (files + length first.included) behind in
-    seen_in world depth files (before ++ behind) ≡ followed_by first rest
+      let first = seen_in world depth files before in
+      let rest = seen_in world depth (files + length first.included) behind in
+      seen_in world depth files (before ++ behind) ≡ followed_by first rest
   pub plain : (world : World) (depth files : ℕ) (line : SourceLine) → is_include line.line.bytes ≡ false
-    → seen_in world depth files (line ∷ []) ≡ only_lines (line.line ∷ [])
+      → seen_in world depth files (line ∷ []) ≡ only_lines (line.line ∷ [])
   pub no_name : (world : World) (depth files : ℕ) (line : SourceLine) → is_include line.line.bytes ≡ true
-    → include_name line.line.bytes ≡ []
-    → seen_in world depth files (line ∷ []) ≡ only_fault NoName line.line.place
+      → include_name line.line.bytes ≡ []
+      → seen_in world depth files (line ∷ []) ≡ only_fault NoName line.line.place
   pub too_deep : (world : World) (depth files : ℕ) (line : SourceLine) → is_include line.line.bytes ≡ true
-    → include_name line.line.bytes ≢ [] → OPEN_FILES ≤ depth
-    → seen_in world depth files (line ∷ []) ≡ only_fault TooDeep line.line.place
+      → include_name line.line.bytes ≢ [] → OPEN_FILES ≤ depth
+      → seen_in world depth files (line ∷ []) ≡ only_fault TooDeep line.line.place
   pub not_there : (world : World) (depth files : ℕ) (line : SourceLine) → is_include line.line.bytes ≡ true
-    → include_name line.line.bytes ≢ [] → depth < OPEN_FILES → found_at world (include_name line.line.bytes) ≡ None
-    → seen_in world depth files (line ∷ []) ≡ only_fault NotThere line.line.place
+      → include_name line.line.bytes ≢ [] → depth < OPEN_FILES → found_at world (include_name line.line.bytes) ≡ None
+      → seen_in world depth files (line ∷ []) ≡ only_fault NotThere line.line.place
 
 -- a line that includes a text, which is found under a name
 pub record Includes (world : World) (bytes name text : List ℕ) : Type 0 where
