@@ -1,0 +1,22 @@
+pub mod Steps
+pub mod Drops
+pub mod Fairs
+pub mod Measures
+pub mod StateAdds
+pub mod PieceAdds
+pub mod Pieces
+pub mod Bounds
+pub mod OpenItems
+pub mod Openers
+pub mod LineUnits
+pub mod TakenItems
+mod RowWords
+mod RowsWorked
+mod RowsFaulty
+mod RowsNames
+mod RowsDirectives
+mod RowsMacros
+mod RowsItems
+mod RowsCodes
+mod RowsRawLiterals
+mod RowsThousand

@@ -1,0 +1,66 @@
+-- How the calls of a builder change how much it keeps.
+use Rattle.std.proofs.Common.{◌≡◌, ◌≤◌, ℕ, ◌+◌, Bool, true, false, List, [], ◌∷◌, ◌++◌, Option, Some, None, take, drop, ap, arith, take-append-drop}
+use Rattle.std.specs.Prelude.{option_map, option_to_list, if◌then◌else◌}
+use Rattle.cweb_store.specs.declared.part.PartKind.{PartKind}
+use Rattle.cweb_store.specs.Parts.{Token, Blank, Part, is_macro}
+use Rattle.cweb_store.specs.Growing.{PartsSoFar, opened, pushed, longer, dropped, all_closed}
+use Rattle.cweb_store.specs.Layout.{before_last, without_last, without_blank, without_layout, first_kept, is_newline, is_layout, at_close}
+use Rattle.cweb_scan.specs.Bound.{total, part_size, open_size, parts_size}
+
+pub total-append : {A : Type 0} (f : A → ℕ) (xs ys : List A) → total f (xs ++ ys) ≡ total f xs + total f ys
+total-append f [] ys = omega arith
+total-append f (x ∷ xs) ys = omega (arith, total-append f xs ys)
+
+module _ (f : Token → ℕ) where
+  open_pushed : (t : Token) (o : Option Part) → open_size f (option_map (longer t) o) ≤ open_size f o + f t
+  open_pushed t None = omega arith
+  open_pushed t (Some p) = omega (arith, total-append f p.tokens (t ∷ []))
+
+  pub pushed-size : (t : Token) (v : PartsSoFar) → parts_size f (pushed t v) ≤ parts_size f v + f t
+  pushed-size t v = omega (arith, open_pushed t v.current)
+
+  pub opened-size : (kind : PartKind) (v : PartsSoFar) → parts_size f (opened kind v) ≤ parts_size f v
+  opened-size kind v = omega arith
+
+  before_last-size : (test : Token → Bool) (t : Token) (us : List Token) → total f (before_last test t us) ≤ f t + total f us
+  before_last-size test t [] = elim (test t) as (λ v. total f (if v then [] else t ∷ []) ≤ f t + 0) [ true ↦ omega arith | false ↦ omega arith ]
+  before_last-size test t (u ∷ us) = omega arith
+
+  without_last-size : (test : Token → Bool) (ts : List Token) → total f (without_last test ts) ≤ total f ts
+  without_last-size test [] = omega arith
+  without_last-size test (t ∷ ts) = omega (arith, before_last-size test t (without_last test ts), without_last-size test ts)
+
+  without_blank-size : (ts : List Token) → total f (without_blank ts) ≤ total f ts
+  without_blank-size [] = omega arith
+  without_blank-size (t ∷ u ∷ us) = omega (arith, without_blank-size (u ∷ us))
+  without_blank-size (Blank ∷ []) = omega arith
+  without_blank-size (t ∷ []) = omega arith
+
+  at_close-size : (p : Part) → part_size f (at_close p) ≤ part_size f p
+  at_close-size p = elim (is_macro p.kind) as (λ v. part_size f (if v then record p { tokens = without_blank (without_last is_newline p.tokens) } else p) ≤ part_size f p) [
+    | true ↦ omega (arith, without_blank-size (without_last is_newline p.tokens), without_last-size is_newline p.tokens)
+    | false ↦ omega arith
+  ]
+
+  open_closed : (o : Option Part) → total (part_size f) (option_to_list (option_map at_close o)) ≤ open_size f o
+  open_closed None = omega arith
+  open_closed (Some p) = omega (arith, at_close-size p)
+
+  pub closed-size : (v : PartsSoFar) → parts_size f (all_closed v) ≤ parts_size f v
+  closed-size v = omega (arith, total-append (part_size f) v.closed (option_to_list (option_map at_close v.current)), open_closed v.current)
+
+  layout-size : (n : ℕ) (ts : List Token) → total f (take n ts ++ without_last is_layout (drop n ts)) ≤ total f ts
+  layout-size n ts = omega (
+    arith,
+    total-append f (take n ts) (without_last is_layout (drop n ts)),
+    without_last-size is_layout (drop n ts),
+    total-append f (take n ts) (drop n ts),
+    ap (λ us. total f us) (take-append-drop n ts),
+  )
+
+  open_dropped : (o : Option Part) → open_size f (option_map without_layout o) ≤ open_size f o
+  open_dropped None = omega arith
+  open_dropped (Some p) = layout-size (first_kept p.kind) p.tokens
+
+  pub dropped-size : (v : PartsSoFar) → parts_size f (dropped v) ≤ parts_size f v
+  dropped-size v = omega (arith, open_dropped v.current)

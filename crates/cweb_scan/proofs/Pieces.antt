@@ -1,0 +1,56 @@
+-- The pieces of a text are the one list of what the rules name.
+use Rattle.std.proofs.Common.{◌≡◌, ℕ, ◌-◌, ◌<◌, ◌≤◌, suc, zero, List, [], ◌∷◌, ◌++◌, length, take, drop, refl, ap, sym, ◌∙◌, arith, take-append-drop, length-append, subst}
+use Rattle.std.proofs.Math.Seq.{take-append_seam, drop-append_seam}
+use Rattle.std.proofs.lemmas.List.{length-drop, length-take-le}
+use Rattle.cweb_rules.specs.Kinds.{Piece}
+use Rattle.cweb_scan.specs.After.{Reading, after}
+use Rattle.cweb_scan.specs.Run.{front_of, pieces, pieces_in}
+use Rattle.cweb_scan.specs.Law.{ArePieces}
+use Rattle.cweb_scan.proofs.Fairs.{fair}
+
+pieces_in-drop : (k : ℕ) (r : Reading) (t : List ℕ) → pieces_in k r t ≡ pieces_in 0 r (drop k t)
+pieces_in-drop zero r t = refl
+pieces_in-drop (suc k) r [] = refl
+pieces_in-drop (suc k) r (b ∷ t) = pieces_in-drop k r t
+
+abbrev pub first : Reading → List ℕ → Piece
+first r t = record { kind = (front_of r.state t).kind; bytes = take (front_of r.state t).size t }
+
+drop-pred : (n : ℕ) (b : ℕ) (t : List ℕ) → 0 < n → drop (n - 1) t ≡ drop n (b ∷ t)
+drop-pred n b t h = let e : n ≡ suc (n - 1) = omega arith in sym (ap (λ m. drop m (b ∷ t)) e)
+
+-- the pieces of a text are what stands at its front, and the pieces of the rest
+pub pieces_first : (r : Reading) (b : ℕ) (t : List ℕ) → 0 < (front_of r.state (b ∷ t)).size → pieces r (b ∷ t) ≡ first r (b ∷ t) ∷ pieces (after r (first r (b ∷ t))) (drop (front_of r.state (b ∷ t)).size (b ∷ t))
+pieces_first r b t h =
+    let n = (front_of r.state (b ∷ t)).size in
+    let u = after r (first r (b ∷ t)) in
+    ap (λ ps. first r (b ∷ t) ∷ ps) (pieces_in-drop (n - 1) u t ∙ ap (pieces_in 0 u) (drop-pred n b t h))
+
+-- a list of pieces of a text is the pieces of the text
+pub ArePieces-unique : (r : Reading) (t : List ℕ) (ps : List Piece) → ArePieces r t ps → ps ≡ pieces r t
+ArePieces-unique r t [] h = sym (ap (pieces r) h)
+ArePieces-unique r [] (p ∷ ps) h = absurd (omega (arith, ap length h.1, length-append p.bytes h.0, h.2))
+ArePieces-unique r (b ∷ t) (p ∷ ps) h =
+    let n = (front_of r.state (b ∷ t)).size in
+    let bytes : p.bytes ≡ take n (b ∷ t) = sym (take-append_seam p.bytes h.0) ∙ ap (λ k. take k (p.bytes ++ h.0)) h.3.size ∙ ap (take n) (sym h.1) in
+    let rest : h.0 ≡ drop n (b ∷ t) = sym (drop-append_seam p.bytes h.0) ∙ ap (λ k. drop k (p.bytes ++ h.0)) h.3.size ∙ ap (drop n) (sym h.1) in
+    let is_first : p ≡ first r (b ∷ t) = λ i. record { kind = h.3.kind i; bytes = bytes i } in
+    ap (λ qs. p ∷ qs) (ArePieces-unique (after r p) h.0 ps h.4 ∙ ap (pieces (after r p)) rest)
+    ∙ ap (λ q. q ∷ pieces (after r q) (drop n (b ∷ t))) is_first
+    ∙ sym (pieces_first r b t (omega (arith, h.2, h.3.size)))
+
+are_pieces_in : (n : ℕ) (r : Reading) (t : List ℕ) → length t ≤ n → ArePieces r t (pieces r t)
+are_pieces_in n r [] h = refl
+are_pieces_in zero r (b ∷ t) h = absurd (omega arith)
+are_pieces_in (suc n) r (b ∷ t) h =
+    let fits = fair r.state b t in
+    let m = (front_of r.state (b ∷ t)).size in
+    let p = first r (b ∷ t) in
+    let rest = drop m (b ∷ t) in
+    let short = are_pieces_in n (after r p) rest (omega (arith, length-drop m (b ∷ t), fits.some)) in
+    let len = length-take-le m (b ∷ t) fits.within in
+    subst (ArePieces r (b ∷ t)) (sym (pieces_first r b t fits.some))
+    (rest, sym (take-append-drop m (b ∷ t)), omega (arith, len, fits.some), record { kind = refl; size = len }, short)
+
+pub are_pieces : (r : Reading) (t : List ℕ) → ArePieces r t (pieces r t)
+are_pieces r t = are_pieces_in (length t) r t (omega arith)

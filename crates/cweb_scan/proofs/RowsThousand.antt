@@ -1,0 +1,13 @@
+-- A thousand openers of names, one after another: each but the last is ended by the next.
+use Rattle.std.proofs.Common.{◌≡◌, ℕ, zero, suc, List, [], ◌∷◌, ◌++◌, length, refl}
+use Rattle.std.specs.Prelude.{codes}
+use Rattle.cweb_scan.specs.Run.{scanned}
+use Rattle.cweb_scan.proofs.RowWords.{at, line}
+
+openers : ℕ → List ℕ
+openers zero = []
+openers (suc n) = 64 ∷ 60 ∷ openers n
+
+thousand_faults : length (scanned (line (codes "@ @c " ++ openers 1000) (at 0 1) ∷ [])).faults ≡ 1000
+unfolding openers
+thousand_faults = refl

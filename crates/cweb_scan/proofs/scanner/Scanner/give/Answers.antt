@@ -1,0 +1,22 @@
+use Rattle.std.proofs.Common.{◌≡◌, true, sym, ap, ◌∙◌, subst}
+use Rattle.std.specs.Prelude.{if◌then◌else◌}
+use Rattle.cweb_store.specs.Calls.{Contents}
+use Rattle.cweb_store.specs.Layout.{is_layout}
+use Rattle.cweb_store.specs.Seen.{seen}
+use Rattle.cweb_scan.specs.Kept.{IsTied, has_part, step}
+use Rattle.cweb_scan.specs.State.{State}
+use Rattle.cweb_scan.specs.declared.directive.Directive.{Directive}
+use Rattle.cweb_scan.proofs.Steps.{tied_given}
+use Rattle.cweb_scan.proofs.scanner.Scanner.give.Goals as goal
+
+pub invariant_of-self-2 : goal.invariant_of-self-2
+invariant_of-self-2 c =
+    let s = c.self.inside in
+    let t = seen c.args.token in
+    let part = subst (λ (u : State). has_part u.context ≡ true) (sym c.self.view_is) c.requires.part in
+    let tied = tied_given s.directive s.solid s.context s.builder.parts.current t c.self.invariant part in
+    let next = c.step-next.ensures in
+    let solid = c.solid_after-self-inside.ensures ∙ ap (λ (d : Directive). if is_layout t then s.solid else d) next in
+    subst (λ (d : Directive). IsTied d c.solid_after-self-inside.result s.context c.push.new.self.parts.current) (sym next)
+    (subst (λ (d : Directive). IsTied (step s.directive t) d s.context c.push.new.self.parts.current) (sym solid)
+    (subst (λ (v : Contents). IsTied (step s.directive t) (if is_layout t then s.solid else step s.directive t) s.context v.parts.current) (sym c.in_ok-push.ensures.ok) tied))

@@ -1,0 +1,28 @@
+-- What holds of the pieces of each text, and of what is kept of each web.
+use Rattle.std.specs.Prelude.{◌≡◌, ◌<◌, ◌≤◌, ℕ, ◌+◌, List, [], ◌∷◌, ◌++◌, length}
+use Rattle.cweb_store.specs.Parts.{all_tokens}
+use Rattle.cweb_store.specs.Calls.{Stored}
+use Rattle.cweb_scan.specs.Bound.{total, text_size, occurrence_size, replacement_size}
+use Rattle.cweb_rules.specs.Kinds.{Piece}
+use Rattle.cweb_scan.specs.After.{Reading, after}
+use Rattle.cweb_scan.specs.Run.{front_of, PlacedLine}
+
+-- the piece stands at the front of a text, and is what the rules name there
+pub record Fits (r : Reading) (t : List ℕ) (p : Piece) : Type 0 where
+  pub kind : p.kind ≡ (front_of r.state t).kind
+  pub size : length p.bytes ≡ (front_of r.state t).size
+
+-- each piece is what the rules name at the front of the whole remaining text, in the context that the pieces before it left
+abbrev pub ArePieces : Reading → List ℕ → List Piece → Type 0
+ArePieces r t [] = t ≡ []
+ArePieces r t (p ∷ ps) = (rest : List ℕ) × (t ≡ p.bytes ++ rest) × (0 < length p.bytes) × Fits r t p × ArePieces (after r p) rest ps
+
+-- the bytes plus the lines of a web
+abbrev pub web_size : List PlacedLine → ℕ
+web_size [] = 0
+web_size (line ∷ lines) = length line.bytes + 1 + web_size lines
+
+-- the tokens of all parts, and the bytes of all texts
+pub record IsBounded (store : Stored) (n : ℕ) : Type 0 where
+  pub tokens : length (all_tokens store.parts) ≤ n
+  pub bytes : total text_size (all_tokens store.parts) + (total occurrence_size store.occurrences + total replacement_size store.replacements) ≤ n

@@ -1,0 +1,10 @@
+pub mod Names
+pub mod State
+pub mod Directives
+pub mod After
+pub mod Run
+pub mod Law
+pub mod Bound
+pub mod Resume
+pub mod Kept
+pub mod Room

@@ -1,0 +1,33 @@
+-- The name that an occurrence gives, and how it gives it.
+use Rattle.std.specs.Prelude.{ℕ, ◌-◌, Bool, true, false, ◌&&◌, nat_eq, nat_lt, List, [], ◌∷◌, ◌++◌, length, take, codes, if◌then◌else◌}
+use Rattle.std.specs.List.{ends_with}
+use Rattle.cweb_store.specs.declared.name.How.TheVariants.{Full, Prefix}
+use Rattle.cweb_store.specs.Names.{Occurrence}
+use Rattle.cweb_rules.specs.Bytes.{is_white}
+
+-- runs of white bytes are one blank, and none stands at the ends; `gap` stands before the next byte that isn't white
+abbrev pub squeezed_after : Bool → List ℕ → List ℕ → List ℕ
+squeezed_after begun gap [] = []
+squeezed_after begun gap (b ∷ t) = elim (is_white b) [
+  | true ↦ squeezed_after begun (if begun then codes " " else []) t
+  | false ↦ gap ++ b ∷ squeezed_after true [] t
+]
+
+abbrev pub squeezed : List ℕ → List ℕ
+squeezed t = squeezed_after false [] t
+
+abbrev pub is_abbreviation : List ℕ → Bool
+is_abbreviation text = nat_lt 3 (length text) && ends_with nat_eq text (codes "...")
+
+abbrev pub full : Bool → List ℕ → Occurrence
+full is_file text = record { text = text; how = Full; is_file = is_file }
+
+abbrev pub prefix : Bool → List ℕ → Occurrence
+prefix is_file text = record { text = text; how = Prefix; is_file = is_file }
+
+abbrev pub given : Bool → List ℕ → Occurrence
+given is_file text = if is_abbreviation text then prefix is_file (take (length text - 3) text) else full is_file text
+
+-- the occurrence that a name's text gives
+abbrev pub occurrence_in : Bool → List ℕ → Occurrence
+occurrence_in is_file text = given is_file (squeezed text)

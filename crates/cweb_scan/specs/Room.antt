@@ -1,0 +1,12 @@
+-- Room for what an item gives.
+use Rattle.std.specs.Prelude.{◌<◌, ℕ, ◌+◌, length}
+use Rattle.cweb_store.specs.Calls.{too_many}
+use Rattle.cweb_store.specs.Growing.{token_count, part_count}
+use Rattle.cweb_scan.specs.State.{State}
+
+-- the builder takes so many tokens, a part and an occurrence; a section has a number
+pub record HasRoom (tokens : ℕ) (s : State) : Type 0 where
+  pub for_tokens : token_count s.contents.parts + tokens < too_many
+  pub for_a_part : part_count s.contents.parts + 1 < too_many
+  pub for_an_occurrence : length s.contents.occurrences + 1 < too_many
+  pub for_a_section : s.sections + 1 < too_many

@@ -1,0 +1,12 @@
+//! What a scan makes of the merged lines of a web: the parts and names that a store keeps, the faults of the text, its sections.
+//! The CWEB manual, "Control codes".
+#![tactic(auto)]
+
+mod directive;
+mod given;
+pub mod laws;
+mod line_ends;
+mod parts;
+mod scanner;
+
+pub use cweb_rules::{ScanFault, ScanKind};
