@@ -102,3 +102,11 @@ def large_cases():
         refused.append(Result(n * b"P\n" + n * b"Q\n", b"%d.w:2: ! Cannot open include file\n" % (n - 1), 1))
     whole = Result(depth * b"P\n" + b"deepest\n" + depth * b"Q\n", b"", 0)
     yield Case("files within one another", ["0"], files, whole, refused)
+
+    # more files one after the other than may be open at one time: each is closed at its end
+    openings = 40
+    refused = [NO_WEB]
+    for n in range(openings):
+        refused.append(Result((openings - 1) * b"b\n", b"a.w:%d: ! Cannot open include file\n" % (n + 1), 1))
+    files = {"a.w": openings * b"@i b\n", "b": b"b\n"}
+    yield Case("files one after the other", ["a"], files, Result(openings * b"b\n", b"", 0), refused)
