@@ -95,65 +95,70 @@ onto_some events all None is = absurd (cc)
 onto_some events all (Some rest) is = (rest, refl, cc)
 
 -- What stands behind some lines comes as if alone.
-pub front : (n : ℕ) (world : World) (things later : List Thing) (change : List SourceLine) (files : ℕ)
-    (events : List Event) → AllByRecursion IsNoSearch things
-    → run n world (state things None change files) ≡ Some events
-    → merge world (state (things ++ later) None change files) ≡ events ++ merge world
-    (state later None change (files + length (openings events)))
-front zero world things later change files events none is = absurd (cc)
-front (suc n) world [] later change files events none is = by events is
-  where
-    by : (events : List Event) → Some [] ≡ Some events → merge world (state later None change files)
-        ≡ events ++ merge world (state later None change (files + length (openings events)))
-    by [] is = ap (λ f. merge world (state later None change f)) (omega arith)
-    by (e ∷ es) is = absurd (cc)
-front (suc n) world (seek ∷ things) later change files events none is = absurd none.0
-front (suc n) world (told f ∷ things) later change files events none is =
-    let x = onto_some (fault f ∷ []) events (run n world (state things None change files)) is in
-    merge_next world (state (told f ∷ things ++ later) None change files) _ refl
-    ∙ ap (λ (es : List Event). fault f ∷ es) (front n world things later change files x.0 none.1 x.1)
-    ∙ ap (λ (es : List Event). es ++ merge world (state later None change (files + length (openings es)))) x.2
-front (suc n) world (passed line ∷ things) later change files events none is =
-    let x = onto_some (took line ∷ []) events (run n world (state things None change files)) is in
-    merge_next world (state (passed line ∷ things ++ later) None change files) _ refl
-    ∙ ap (λ (es : List Event). took line ∷ es) (front n world things later change files x.0 none.1 x.1)
-    ∙ ap (λ (es : List Event). es ++ merge world (state later None change (files + length (openings es)))) x.2
-front (suc n) world (raw r ∷ things) later change files events none is =
-    let goes = raw_goes world r in
-    merge_next world (state (raw r ∷ things ++ later) None change files)
-    (taking r.source (becomes goes.kind (state (raw r ∷ things ++ later) None change files) r (things ++ later)))
-    (ap (λ (next : Next). Some (taking r.source next))
-    (goes.is (state (raw r ∷ things ++ later) None change files) (things ++ later)))
-    ∙ by goes.kind (sym (ap (λ (next : Next). onto (took r.source ∷ next.0) (run n world next.1))
-    (goes.is (state (raw r ∷ things) None change files) things)) ∙ is)
-    (λ ts f es no i. front n world ts later change f es no i)
-  where
-    by : (kind : Kind) → (let next = becomes kind (state (raw r ∷ things) None change files) r things in onto
-        (took r.source ∷ next.0) (run n world next.1)) ≡ Some events
-        → ((ts : List Thing) (f : ℕ) (es : List Event) → AllByRecursion IsNoSearch ts
-        → run n world (state ts None change f) ≡ Some es
-        → merge world (state (ts ++ later) None change f) ≡ es ++ merge world
-        (state later None change (f + length (openings es))))
-        → (let next = becomes kind (state (raw r ∷ things ++ later) None change files) r
-        (things ++ later) in took r.source ∷ next.0 ++ merge world next.1)
-        ≡ events ++ merge world (state later None change (files + length (openings events)))
-    by (gives line) is each =
-        let x = onto_some (took r.source ∷ given line ∷ []) events (run n world (state things None change files)) is in
-        ap (λ (es : List Event). took r.source ∷ given line ∷ es) (each things files x.0 none.1 x.1)
-        ∙ ap (λ (es : List Event). es ++ merge world (state later None change (files + length (openings es)))) x.2
-    by (faults f) is each =
-        let x = onto_some (took r.source ∷ fault f ∷ []) events (run n world (state things None change files)) is in
-        ap (λ (es : List Event). took r.source ∷ fault f ∷ es) (each things files x.0 none.1 x.1)
-        ∙ ap (λ (es : List Event). es ++ merge world (state later None change (files + length (openings es)))) x.2
-    by (opens found) is each =
-        let lines = raws (r.depth + 1) r.may_match (lines_in files found.1) in
-        let x = onto_some (took r.source ∷ opening found.0 ∷ []) events
-        (run n world (state (lines ++ things) None change (files + 1))) is in
-        let number : files + 1 + length (openings x.0) ≡ files + suc (length (openings x.0)) = omega arith in
-        ap (λ (ts : List Thing). took r.source ∷ opening found.0 ∷ merge world (state ts None change (files + 1)))
-        (sym (append_assoc lines things later))
-        ∙ ap (λ (es : List Event). took r.source ∷ opening found.0 ∷ es)
-        (each (lines ++ things) (files + 1) x.0
-        (raws_seek_not (r.depth + 1) r.may_match (lines_in files found.1) things none.1) x.1)
-        ∙ ap (λ f. took r.source ∷ opening found.0 ∷ x.0 ++ merge world (state later None change f)) number
-        ∙ ap (λ (es : List Event). es ++ merge world (state later None change (files + length (openings es)))) x.2
+module _ (world : World) (later : List Thing) (change : List SourceLine) where
+  abbrev coming_of : ℕ → List Thing → List Event
+  coming_of files things = merge world (state things None change files)
+
+  -- these events come of the things, and then what stands behind them, with the files that they opened counted
+  abbrev Comes : ℕ → List Thing → List Event → Type 0
+  Comes files things events = coming_of files (things ++ later) ≡ events ++ coming_of (files + length (openings events)) later
+
+  -- so many steps are enough for the things alone
+  abbrev Runs : ℕ → ℕ → List Thing → List Event → Type 0
+  Runs n files things events = run n world (state things None change files) ≡ Some events
+
+  front_none : (files : ℕ) (events : List Event) → Some [] ≡ Some events → Comes files [] events
+  front_none files [] is = ap (λ f. coming_of f later) (omega arith)
+  front_none files (e ∷ es) is = absurd (cc)
+
+  -- behind a raw line, where so many steps do for what is behind it
+  front_raw : (n : ℕ) (r : RawLine) (things : List Thing) (files : ℕ) (events : List Event)
+      → AllByRecursion IsNoSearch things
+      → ((f : ℕ) (ts : List Thing) (es : List Event) → AllByRecursion IsNoSearch ts → Runs n f ts es → Comes f ts es)
+      → (kind : Kind) →
+      let next = becomes kind (state (raw r ∷ things) None change files) r things in
+      let next' = becomes kind (state (raw r ∷ things ++ later) None change files) r (things ++ later) in
+      onto (took r.source ∷ next.0) (run n world next.1) ≡ Some events
+      → took r.source ∷ next'.0 ++ merge world next'.1 ≡ events ++ coming_of (files + length (openings events)) later
+  front_raw n r things files events none each (gives line) is =
+      let x = onto_some (took r.source ∷ given line ∷ []) events (run n world (state things None change files)) is in
+      ap (λ (es : List Event). took r.source ∷ given line ∷ es) (each files things x.0 none x.1)
+      ∙ ap (λ (es : List Event). es ++ coming_of (files + length (openings es)) later) x.2
+  front_raw n r things files events none each (faults f) is =
+      let x = onto_some (took r.source ∷ fault f ∷ []) events (run n world (state things None change files)) is in
+      ap (λ (es : List Event). took r.source ∷ fault f ∷ es) (each files things x.0 none x.1)
+      ∙ ap (λ (es : List Event). es ++ coming_of (files + length (openings es)) later) x.2
+  front_raw n r things files events none each (opens found) is =
+      let lines = raws (r.depth + 1) r.may_match (lines_in files found.1) in
+      let opens_it = took r.source ∷ opening found.0 ∷ [] in
+      let x = onto_some opens_it events (run n world (state (lines ++ things) None change (files + 1))) is in
+      let seek_not = raws_seek_not (r.depth + 1) r.may_match (lines_in files found.1) things none in
+      let number : files + 1 + length (openings x.0) ≡ files + suc (length (openings x.0)) = omega arith in
+      ap (λ (ts : List Thing). opens_it ++ coming_of (files + 1) ts) (sym (append_assoc lines things later))
+      ∙ ap (λ (es : List Event). opens_it ++ es) (each (files + 1) (lines ++ things) x.0 seek_not x.1)
+      ∙ ap (λ f. opens_it ++ (x.0 ++ coming_of f later)) number
+      ∙ ap (λ (es : List Event). es ++ coming_of (files + length (openings es)) later) x.2
+
+  pub front : (n files : ℕ) (things : List Thing) (events : List Event) → AllByRecursion IsNoSearch things
+      → Runs n files things events → Comes files things events
+  front zero files things events none is = absurd (cc)
+  front (suc n) files [] events none is = front_none files events is
+  front (suc n) files (seek ∷ things) events none is = absurd none.0
+  front (suc n) files (told f ∷ things) events none is =
+      let x = onto_some (fault f ∷ []) events (run n world (state things None change files)) is in
+      merge_next world (state (told f ∷ things ++ later) None change files) _ refl
+      ∙ ap (λ (es : List Event). fault f ∷ es) (front n files things x.0 none.1 x.1)
+      ∙ ap (λ (es : List Event). es ++ coming_of (files + length (openings es)) later) x.2
+  front (suc n) files (passed line ∷ things) events none is =
+      let x = onto_some (took line ∷ []) events (run n world (state things None change files)) is in
+      merge_next world (state (passed line ∷ things ++ later) None change files) _ refl
+      ∙ ap (λ (es : List Event). took line ∷ es) (front n files things x.0 none.1 x.1)
+      ∙ ap (λ (es : List Event). es ++ coming_of (files + length (openings es)) later) x.2
+  front (suc n) files (raw r ∷ things) events none is =
+      let goes = raw_goes world r in
+      let s = state (raw r ∷ things) None change files in
+      let s' = state (raw r ∷ things ++ later) None change files in
+      let same = ap (λ (next : Next). onto (took r.source ∷ next.0) (run n world next.1)) (goes.is s things) in
+      merge_next world s' (taking r.source (becomes goes.kind s' r (things ++ later)))
+      (ap (λ (next : Next). Some (taking r.source next)) (goes.is s' (things ++ later)))
+      ∙ front_raw n r things files events none.1 (λ f ts es no i. front n f ts es no i) goes.kind (sym same ∙ is)

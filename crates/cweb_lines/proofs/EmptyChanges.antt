@@ -43,7 +43,7 @@ change_files_without_entries world web change none =
     ∙ took_unseen changes (merge world (state things None [] 2))
     ∙ ap (λ (ts : List Thing). seen (merge world (state ts None [] 2))) (sym (web_stays web))
     ∙ ap seen (merge-run alone.steps world (state (map thing_behind things) None [] 2) (map event_behind alone.events)
-    (run_behind alone.steps world things 1 alone.events (omega arith) (web_none web) alone.comes))
+    (run_behind world alone.steps 1 things alone.events (omega arith) (web_none web) alone.comes))
     ∙ seen_events alone.events
     ∙ ap (λ (es : List Event). seen_behind (seen es))
     (sym (merge-run alone.steps world (started web None) alone.events alone.comes))

@@ -42,8 +42,7 @@ first_old : (bytes : List ℕ) (code : Option Code) (begin : Place) (first : Sou
       faults = [];
       taken = first ∷ [];
       entry = Some (record { begin = begin; first = bytes });
-      rest =
-          rest;
+      rest = rest;
     }
 first_old [] code begin first rest later some none = absurd (some refl)
 first_old (b ∷ bs) code begin first rest later some none = ap (λ c. behind_x (b ∷ bs) c begin first rest later) none

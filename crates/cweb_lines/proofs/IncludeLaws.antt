@@ -31,15 +31,16 @@ raws-append depth may_match (line ∷ before) behind =
 
 -- what stands behind some things comes as if alone
 pub in_two : (world : World) (things later : List Thing) (change : List SourceLine) (files : ℕ)
-    → AllByRecursion IsNoSearch things
-    → merge world (state (things ++ later) None change files)
-    ≡ merge world (state things None change files) ++ merge world
-    (state later None change (files + length (openings (merge world (state things None change files)))))
+    → AllByRecursion IsNoSearch things →
+    let first = merge world (state things None change files) in
+    merge world (state (things ++ later) None change files)
+    ≡ first ++ merge world (state later None change (files + length (openings first)))
 in_two world things later change files none =
-    let first = halts world (state things None change files) in
-    front first.steps world things later change files first.events none first.comes
+    let s = state things None change files in
+    let first = halts world s in
+    front world later change first.steps files things first.events none first.comes
     ∙ ap (λ (es : List Event). es ++ merge world (state later None change (files + length (openings es))))
-    (sym (merge-run first.steps world (state things None change files) first.events first.comes))
+    (sym (merge-run first.steps world s first.events first.comes))
 
 -- an include line that names something
 names_some : (world : World) (r : RawLine) (s : State) (things : List Thing) (next : Next) (b : Bool)

@@ -8,15 +8,11 @@ use Rattle.cweb_lines.proofs.Entries.{bytes_in, lines_of}
 abbrev pub Lie : ℕ → ℕ → List (List ℕ) → List SourceLine → Type 0
 Lie file number texts lines = lines_of lines ≡ placed file number texts
 
-pub lie_in : (file number : ℕ) (texts : List TextLine) → Lie file number (map (λ line. trimmed line.bytes) texts)
-    (numbered file number texts)
+pub lie_in : (file number : ℕ) (texts : List TextLine)
+    → Lie file number (map (λ line. trimmed line.bytes) texts) (numbered file number texts)
 lie_in file number [] = refl
 lie_in file number (text ∷ texts) =
-    ap (λ (ls : List Line). record {
-      bytes = trimmed text.bytes;
-      place =
-          record { file = record { 0 = file }; line = number };
-    } ∷ ls) (lie_in file (number + 1) texts)
+    ap (λ (ls : List Line). placed_line file number (trimmed text.bytes) ∷ ls) (lie_in file (number + 1) texts)
 
 pub bytes_of : (file number : ℕ) (texts : List (List ℕ)) (lines : List SourceLine) → Lie file number texts lines
     → bytes_in lines ≡ texts
@@ -24,8 +20,7 @@ bytes_of file number [] [] lie = refl
 bytes_of file number [] (line ∷ lines) lie = absurd (cc)
 bytes_of file number (text ∷ texts) [] lie = absurd (cc)
 bytes_of file number (text ∷ texts) (line ∷ lines) lie =
-    let first : line.line ≡ placed_line file number text =
-    cc in
+    let first : line.line ≡ placed_line file number text = cc in
     let later : Lie file (number + 1) texts lines = cc in
     ap (λ (bytes : List ℕ). bytes ∷ bytes_in lines) (ap (λ (l : Line). l.bytes) first)
     ∙ ap (λ (ls : List (List ℕ)). text ∷ ls) (bytes_of file (number + 1) texts lines later)

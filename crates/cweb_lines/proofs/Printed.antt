@@ -16,63 +16,66 @@ use Rattle.cweb_lines.proofs.Newlines.{text_lines-full}
 use Rattle.cweb_lines.proofs.WebLaws.{webs_without_includes}
 use Rattle.cweb_lines.proofs.Cuts.{IsCutLine, IsCutState, IsCutThing, IsPrinted, Keeps, all-append, faults-silent, lines_in-cut, raw_keeps, raws-cut, silent-append, silent_keeps, sought-cut, took-silent}
 
-printed_of : (events : List Event) → Some [] ≡ Some events → AllByRecursion IsPrinted (given_lines events)
-printed_of [] is = tt
-printed_of (e ∷ es) is = absurd (cc)
+-- all lines that are given out may be printed
+abbrev Prints : List Event → Type 0
+Prints events = AllByRecursion IsPrinted (given_lines events)
 
--- all lines that a run prints
-run_prints : (n : ℕ) (world : World) (things : List Thing) (pending : Option Entry) (change : List SourceLine)
-    (files : ℕ) (events : List Event) → AllByRecursion IsCutThing things → AllByRecursion IsCutLine change
-    → run n world (state things pending change files) ≡ Some events → AllByRecursion IsPrinted (given_lines events)
-run_prints zero world things pending change files events cut cut' is = absurd (cc)
-run_prints (suc n) world things pending change files events cut cut' is =
-    by things pending cut is (λ s es c i. run_prints n world s.things s.pending s.change s.files es c.0 c.1 i)
-  where
-    next_prints : (next : Next) → Keeps next → onto next.0 (run n world next.1) ≡ Some events
-        → ((s : State) (es : List Event) → IsCutState s → run n world s ≡ Some es
-        → AllByRecursion IsPrinted (given_lines es))
-        → AllByRecursion IsPrinted (given_lines events)
-    next_prints next keeps is each =
-        let x = onto_some next.0 events (run n world next.1) is in
-        subst (λ (es : List Event). AllByRecursion IsPrinted (given_lines es)) x.2
-        (subst (AllByRecursion IsPrinted) (sym (given-append next.0 x.0))
-        (all-append IsPrinted (given_lines next.0) (given_lines x.0) keeps.0 (each next.1 x.0 keeps.1 x.1)))
+prints_none : (events : List Event) → Some [] ≡ Some events → Prints events
+prints_none [] is = tt
+prints_none (e ∷ es) is = absurd (cc)
 
-    by : (things : List Thing) (pending : Option Entry) → AllByRecursion IsCutThing things
-        → run (suc n) world (state things pending change files) ≡ Some events
-        → ((s : State) (es : List Event) → IsCutState s → run n world s ≡ Some es
-        → AllByRecursion IsPrinted (given_lines es)) → AllByRecursion IsPrinted (given_lines events)
-    by [] None cut is each = printed_of events is
-    by [] (Some entry) cut is each = next_prints
-        (fault (at_place NoMatch entry.begin) ∷ [], state [] None change files) (tt, (tt, cut')) is each
-    by (seek ∷ things) pending cut is each =
-        let found = sought change None in
-        next_prints (map took found.taken ++ map fault found.faults, state things found.entry found.rest files)
-        (silent_keeps (map took found.taken ++ map fault found.faults) (state things found.entry found.rest files)
-        (silent-append (map took found.taken) (map fault found.faults) (took-silent found.taken)
-        (faults-silent found.faults)) (cut.1, sought-cut change None cut')) is each
-    by (told f ∷ things) pending cut is each = next_prints (fault f ∷ [], state things pending change files)
-        (tt, (cut.1, cut')) is each
-    by (passed line ∷ things) pending cut is each = next_prints (took line ∷ [], state things pending change files)
-        (tt, (cut.1, cut')) is each
-    by (raw r ∷ things) pending cut is each =
-        let s = state (raw r ∷ things) pending change files in
-        let next = at_raw pending world s r things in
-        next_prints (took r.source ∷ next.0, next.1) (raw_keeps world r things s cut.0 cut.1 cut' pending) is each
+module _ (world : World) where
+  abbrev PrintsIn : ℕ → Type 0
+  PrintsIn n = (s : State) (events : List Event) → IsCutState s → run n world s ≡ Some events → Prints events
+
+  -- a step, and then so many more
+  step_prints : (n : ℕ) (next : Next) (events : List Event) → PrintsIn n → Keeps next
+      → onto next.0 (run n world next.1) ≡ Some events → Prints events
+  step_prints n next events each keeps is =
+      let x = onto_some next.0 events (run n world next.1) is in
+      let later = each next.1 x.0 keeps.1 x.1 in
+      let both = all-append IsPrinted (given_lines next.0) (given_lines x.0) keeps.0 later in
+      subst Prints x.2 (subst (AllByRecursion IsPrinted) (sym (given-append next.0 x.0)) both)
+
+  thing_prints : (n : ℕ) (things : List Thing) (pending : Option Entry) (change : List SourceLine) (files : ℕ)
+      (events : List Event) → PrintsIn n → AllByRecursion IsCutThing things → AllByRecursion IsCutLine change
+      → run (suc n) world (state things pending change files) ≡ Some events → Prints events
+  thing_prints n [] None change files events each cut cut' is = prints_none events is
+  thing_prints n [] (Some entry) change files events each cut cut' is =
+      let told = fault (at_place NoMatch entry.begin) in
+      step_prints n (told ∷ [], state [] None change files) events each (tt, (tt, cut')) is
+  thing_prints n (seek ∷ things) pending change files events each cut cut' is =
+      let found = sought change None in
+      let first = map took found.taken ++ map fault found.faults in
+      let next = state things found.entry found.rest files in
+      let silent = silent-append (map took found.taken) (map fault found.faults) (took-silent found.taken)
+      (faults-silent found.faults) in
+      step_prints n (first, next) events each
+      (silent_keeps first next silent (cut.1, sought-cut change None cut')) is
+  thing_prints n (told f ∷ things) pending change files events each cut cut' is =
+      step_prints n (fault f ∷ [], state things pending change files) events each (tt, (cut.1, cut')) is
+  thing_prints n (passed line ∷ things) pending change files events each cut cut' is =
+      step_prints n (took line ∷ [], state things pending change files) events each (tt, (cut.1, cut')) is
+  thing_prints n (raw r ∷ things) pending change files events each cut cut' is =
+      let s = state (raw r ∷ things) pending change files in
+      let next = at_raw pending world s r things in
+      step_prints n (took r.source ∷ next.0, next.1) events each (raw_keeps world r things s cut.0 cut.1 cut' pending) is
+
+  run_prints : (n : ℕ) → PrintsIn n
+  run_prints zero s events cut is = absurd (cc)
+  run_prints (suc n) s events cut is =
+      thing_prints n s.things s.pending s.change s.files events (run_prints n) cut.0 cut.1 is
 
 started-cut : (web : List ℕ) (change : Option (List ℕ)) → IsCutState (started web change)
 started-cut web None = (raws-cut 1 true (lines_in 0 web) (lines_in-cut 0 web), tt)
 started-cut web (Some change) = ((tt, raws-cut 1 true (lines_in 0 web) (lines_in-cut 0 web)), lines_in-cut 1 change)
 
-merge_prints : (world : World) (web : List ℕ) (change : Option (List ℕ))
-    → AllByRecursion IsPrinted (given_lines (merge world (started web change)))
+merge_prints : (world : World) (web : List ℕ) (change : Option (List ℕ)) → Prints (merge world (started web change))
 merge_prints world web change =
     let s = started web change in
     let all = halts world s in
-    let cut = started-cut web change in
-    subst (λ (es : List Event). AllByRecursion IsPrinted (given_lines es))
-    (sym (merge-run all.steps world s all.events all.comes))
-    (run_prints all.steps world s.things s.pending s.change s.files all.events cut.0 cut.1 all.comes)
+    subst Prints (sym (merge-run all.steps world s all.events all.comes))
+    (run_prints world all.steps s all.events (started-cut web change) all.comes)
 
 -- what is read again of lines that were printed
 lines_again : (printed : List Line) → AllByRecursion IsPrinted printed → lines (text_of printed)
