@@ -1,5 +1,5 @@
 -- Texts of which a front was written.
-use Rattle.std.proofs.Common.{◌≡◌, ◌<◌, ◌++◌, ◌∙◌, ap, sym, append_assoc, ℕ, List, length, take, drop, suc, get_or, Bor, drop-cons, take-append-drop}
+use Rattle.std.proofs.Common.{refl, ◌≡◌, ◌<◌, ◌++◌, [], ◌∙◌, ap, sym, append_assoc, ℕ, List, length, take, drop, suc, get_or, Bor, drop-cons, take-append-drop, append-nil}
 use Rattle.std.specs.Prelude.{Result, Ok, Err, IsErr, flat_map}
 use Rattle.std.proofs.lemmas.List.Concat.{flat_map-append}
 use Rattle.cweb_out.specs.Writing.{WritesFront, Wrote}
@@ -48,3 +48,46 @@ front_in old mid new before piece rest text is written f = record {
 pub wrote_err : {A E : Type 0} (old new text : List ℕ) (r : Result A E) → IsErr r → WritesFront old new text → Wrote old new text r
 wrote_err old new text (Ok x) is front = cc is
 wrote_err old new text (Err e) is front = front
+
+-- some of a text was written, and the rest is to come
+pub record Written (old new text rest : List ℕ) : Type 0 where
+  pub front : List ℕ
+  pub written : new ≡ old ++ front
+  pub whole : text ≡ front ++ rest
+
+pub written_none : (old text : List ℕ) → Written old old text text
+written_none old text = record { front = []; written = sym (append-nil old); whole = refl }
+
+pub written_more : (old mid new text piece rest : List ℕ) → Written old mid text (piece ++ rest) → new ≡ mid ++ piece → Written old new text rest
+written_more old mid new text piece rest w is = record {
+  front = w.front ++ piece;
+  written = is ∙ ap (λ (t : List ℕ). t ++ piece) w.written ∙ append_assoc old w.front piece;
+  whole = w.whole ∙ sym (append_assoc w.front piece rest);
+}
+
+pub written_front : (old mid new text piece rest : List ℕ) → Written old mid text (piece ++ rest) → WritesFront mid new piece → WritesFront old new text
+written_front old mid new text piece rest w f = record {
+  front = w.front ++ f.front;
+  rest = f.rest ++ rest;
+  written = f.written ∙ ap (λ (t : List ℕ). t ++ f.front) w.written ∙ append_assoc old w.front f.front;
+  whole = w.whole ∙ ap (λ (t : List ℕ). w.front ++ (t ++ rest)) f.whole ∙ simp append_assoc;
+}
+
+pub written_all : (old new text : List ℕ) → Written old new text [] → new ≡ old ++ text
+written_all old new text w = w.written ∙ ap (λ (t : List ℕ). old ++ t) (sym (append-nil w.front) ∙ sym w.whole)
+
+-- the last piece of a text
+pub written_last : {A E : Type 0} (old mid new text piece : List ℕ) (r : Result A E) → Written old mid text piece → Wrote mid new piece r → Wrote old new text r
+written_last old mid new text piece (Ok x) w wrote = wrote ∙ ap (λ (t : List ℕ). t ++ piece) w.written ∙ append_assoc old w.front piece ∙ ap (λ (t : List ℕ). old ++ t) (sym w.whole)
+written_last old mid new text piece (Err e) w wrote = record {
+  front = w.front ++ wrote.front;
+  rest = wrote.rest;
+  written = wrote.written ∙ ap (λ (t : List ℕ). t ++ wrote.front) w.written ∙ append_assoc old w.front wrote.front;
+  whole = w.whole ∙ ap (λ (t : List ℕ). w.front ++ t) wrote.whole ∙ sym (append_assoc w.front wrote.front wrote.rest);
+}
+
+pub flat_at : {X : Type 0} (f : X → List ℕ) (xs : List X) (i : ℕ) (d : X) → i < length xs → flat_map f xs ≡ (flat_map f (take i xs) ++ f (get_or xs i d)) ++ flat_map f (drop (suc i) xs)
+flat_at f xs i d lt =
+    ap (flat_map f) (sym (take-append-drop i xs)) ∙ flat_map-append f (take i xs) (drop i xs)
+    ∙ ap (λ ys. flat_map f (take i xs) ++ flat_map f ys) (drop-cons xs i d lt)
+    ∙ sym (append_assoc (flat_map f (take i xs)) (f (get_or xs i d)) (flat_map f (drop (suc i) xs)))

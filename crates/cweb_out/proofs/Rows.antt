@@ -30,6 +30,7 @@ abbrev two : Stored
 two = record {
   occurrences = full (codes "A") ∷ full (codes "B") ∷ [];
   parts = part Unnamed (use_ 0 ∷ []) ∷ part (of 0) (use_ 1 ∷ []) ∷ part (of 1) (use_ 0 ∷ []) ∷ [];
+  replacements = [];
 }
 
 two_names_that_use_each_other : cycle_from two (first_endless two (program two)) ≡ id 0 ∷ id 1 ∷ id 0 ∷ []
@@ -43,6 +44,7 @@ abbrev twice : Stored
 twice = record {
   occurrences = full (codes "A") ∷ full (codes "B") ∷ full (codes "C") ∷ full (codes "D") ∷ [];
   parts = part Unnamed (use_ 0 ∷ use_ 0 ∷ []) ∷ part (of 0) (use_ 1 ∷ use_ 1 ∷ []) ∷ part (of 1) (use_ 2 ∷ use_ 2 ∷ []) ∷ part (of 2) (Punct (codes ";") ∷ use_ 3 ∷ []) ∷ [];
+  replacements = [];
 }
 
 abbrev semicolon : Token

@@ -3,11 +3,11 @@ use Rattle.std.proofs.Common.{◌≡◌, ℕ, Bool, true, false, ◌&&◌, ◌||
 use Rattle.std.specs.Prelude.{fold}
 use Rattle.cweb_store.specs.Parts.{Token, Word, Number, Literal, Verbatim, Punct, Blank, Newline, Join, Defs, Name, Head, Tail, Mark}
 use Rattle.cweb_out.specs.Spacing.{is_operator, is_one_of, is_wordlike, is_literal, is_number, is_comment, begins_with, last_is, are_apart, sep}
-use Rattle.cweb_out.specs.Printing.{Setting, stays_joined, is_layout, kept, print_after, print, file, file_text, last_of, left_after, starts_line, begin_line, macro_lines, mark_line, file_name}
+use Rattle.cweb_out.specs.Printing.{macro_text, printed, Setting, stays_joined, is_layout, kept, print_after, print, file, file_text, last_of, left_after, starts_line, begin_line, macro_lines, mark_line, file_name}
 use Rattle.cweb_out.specs.declared.class.Class.{Class}
 use Rattle.cweb_out.specs.declared.class.Class.TheVariants as class
 use Rattle.cweb_out.specs.declared.left.Left.{Left}
-use Rattle.cweb_out.specs.Classes.{class_by, class_of, class_is_line_start, is_apart, separator, left_by, at_start, leaves, added, all_added, begin_by, file_by}
+use Rattle.cweb_out.specs.Classes.{class_by, class_of, class_is_line_start, is_apart, separator, left_by, at_start, leaves, added, all_added, begin_by, file_by, macro_by}
 use Rattle.cweb_out.proofs.Lasts.{point-operator}
 
 -- the tests of a punctuator on the left, by its class
@@ -81,11 +81,26 @@ file_agrees s l (Punct b) = refl
 file_agrees s l Blank = refl
 file_agrees s l Newline = refl
 file_agrees s l Join = refl
-file_agrees s l Defs = ap (λ (t : List ℕ). t ++ macro_lines s) (begin_by_class l)
+file_agrees s l Defs = ap (λ (t : List ℕ). t ++ macro_lines s) (begin_by_class l) ∙ sym (append-nil (begin_by (class_of l) ++ macro_lines s))
 file_agrees s l (Name r) = refl
 file_agrees s l (Head n) = refl
 file_agrees s l (Tail n) = refl
-file_agrees s l (Mark p) = ap (λ (t : List ℕ). t ++ mark_line (file_name s p) p.line) (begin_by_class l)
+file_agrees s l (Mark p) = ap (λ (t : List ℕ). t ++ mark_line (file_name s p) p.line) (begin_by_class l) ∙ sym (append-nil (begin_by (class_of l) ++ mark_line (file_name s p) p.line))
+
+macro_agrees : (replaced : ℕ → List ℕ) → Agrees (λ left. macro_text replaced) (macro_by replaced)
+macro_agrees replaced l (Word b) = refl
+macro_agrees replaced l (Number b) = refl
+macro_agrees replaced l (Literal b) = refl
+macro_agrees replaced l (Verbatim b) = refl
+macro_agrees replaced l (Punct b) = refl
+macro_agrees replaced l Blank = refl
+macro_agrees replaced l Newline = refl
+macro_agrees replaced l Join = refl
+macro_agrees replaced l Defs = refl
+macro_agrees replaced l (Name r) = refl
+macro_agrees replaced l (Head n) = refl
+macro_agrees replaced l (Tail n) = refl
+macro_agrees replaced l (Mark p) = refl
 
 layout_stays : (joined : Bool) (t : Token) → is_layout t ≡ true → stays_joined joined t ≡ joined
 layout_stays joined Blank h = refl
@@ -161,3 +176,10 @@ print-push s left ts t is =
 -- the end of a file
 pub file-end : (s : Setting) (left : Left) (ts : List Token) → leaves ts ≡ left → file s ts ≡ print s ts ++ begin_by left.class
 file-end s left ts is = ap (λ (t : List ℕ). print s ts ++ t) (begin_by_class (left_after ts) ∙ ap begin_by (kept_by None false ts) ∙ ap (λ (l : Left). begin_by l.class) is)
+
+-- the tokens of a macro
+pub macro-printed : (replaced : ℕ → List ℕ) (ts : List Token) → printed (λ left. macro_text replaced) ts ≡ all_added (macro_by replaced) at_start ts
+macro-printed replaced ts = printed_by (λ left. macro_text replaced) (macro_by replaced) (macro_agrees replaced) None false ts
+
+pub added-push : (by : Class → Token → List ℕ) (ts : List Token) (t : Token) → all_added by at_start (ts ++ t ∷ []) ≡ all_added by at_start ts ++ added by (leaves ts) t
+added-push by ts t = added-append by at_start ts (t ∷ []) ∙ ap (λ (u : List ℕ). all_added by at_start ts ++ u) (append-nil (added by (leaves ts) t))

@@ -102,8 +102,20 @@ all_added text left (t ∷ ts) = added text left t ++ all_added text (left_by le
 abbrev pub begin_by : Class → List ℕ
 begin_by left = if class_is_line_start left then [] else codes "\n"
 
+-- a line mark, or the macro lines: what begins a line of its own
+abbrev pub placed_text : Setting → Class → Token → List ℕ
+placed_text s left (Mark p) = begin_by left ++ mark_line (file_name s p) p.line
+placed_text s left Defs = begin_by left ++ macro_lines s
+placed_text s left t = []
+
 -- the text of a token in a file, after one of a class
 abbrev pub file_by : Setting → Class → Token → List ℕ
-file_by s left (Mark p) = begin_by left ++ mark_line (file_name s p) p.line
-file_by s left Defs = begin_by left ++ macro_lines s
-file_by s left t = plain_text s.replaced t
+file_by s left t = placed_text s left t ++ plain_text s.replaced t
+
+-- in a macro a line goes on after a backslash
+abbrev pub continued_text : Token → List ℕ
+continued_text Newline = codes " \\"
+continued_text t = []
+
+abbrev pub macro_by : (ℕ → List ℕ) → Class → Token → List ℕ
+macro_by replaced left t = continued_text t ++ plain_text replaced t

@@ -2,9 +2,13 @@ pub mod Uses
 pub mod Ranks
 pub mod Expansion
 pub mod Cycles
+pub mod Outputs
 pub mod Spacing
 pub mod Printing
 pub mod Writing
 pub mod Classes
+pub mod Printers
+pub mod Plans
+pub mod Frames
 pub mod Bins
 pub mod Memory

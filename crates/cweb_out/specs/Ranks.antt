@@ -11,9 +11,9 @@ abbrev pub ends_below : Stored → ℕ → NameId → Bool
 ends_below w zero n = false
 ends_below w (suc k) n = list_all (ends_below w k) (uses w (joined w n))
 
--- the name's expansion ends: it has a rank that is at most the number of names
+-- the expansion of the name ends: it has a rank, which is below the number of names, since names that use one another so deep are all different
 abbrev pub has_rank : Stored → NameId → Bool
-has_rank w n = ends_below w (suc (names w)) n
+has_rank w n = ends_below w (names w) n
 
 -- each name that a list uses has a rank
 abbrev pub list_ends : Stored → List Token → Bool

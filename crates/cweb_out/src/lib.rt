@@ -3,13 +3,19 @@
 
 mod bins;
 mod class;
+mod expander;
+mod frame;
 mod left;
 mod memory;
 mod pieces;
+mod plan;
 mod reserved;
 
 pub use bins::{BinFault, Bins};
+pub use expander::Expander;
+pub use frame::Frame;
 pub use memory::{BinFile, MemoryBins};
+pub use plan::Plan;
 
 #[cfg(test)]
 mod tests;

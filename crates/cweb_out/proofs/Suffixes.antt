@@ -1,0 +1,47 @@
+-- How a frame's list goes on.
+use Rattle.std.proofs.Common.{◌≡◌, ◌≤◌, ◌<◌, ◌+◌, ◌-◌, ℕ, [], ◌∷◌, ◌++◌, List, Some, length, sym, ◌∙◌, ap, arith, take, drop, slice_range, slice_index_or, false, zero, suc, add-one, subst}
+use Rattle.std.specs.Prelude.{All, slice_get}
+use Rattle.std.proofs.Math.Seq.{drop-cons}
+use Rattle.cweb_store.specs.declared.part.Part.{Part}
+use Rattle.cweb_store.specs.Parts.{Token, all_tokens}
+use Rattle.cweb_store.specs.Calls.{Stored}
+use Rattle.cweb_out.specs.declared.frame.Frame.{Frame}
+use Rattle.cweb_out.specs.Outputs.{defs_first}
+use Rattle.cweb_out.specs.Frames.{suffix, IsRun, IsWithin, run_tokens, runs_tokens}
+
+slice_get-or : (ts : List Token) (i : ℕ) (t : Token) → slice_get ts i ≡ Some t → t ≡ slice_index_or ts i t
+slice_get-or [] i t h = cc
+slice_get-or (x ∷ ts) zero t h = cc
+slice_get-or (x ∷ ts) (suc i) t h = slice_get-or ts i t h
+
+-- a run that is not empty begins with its first token
+pub slice_range-first : (ts : List Token) (a b : ℕ) (t : Token) → a < b → b ≤ length ts → t ≡ slice_index_or ts a t → slice_range ts a b ≡ t ∷ slice_range ts (a + 1) b
+slice_range-first ts a b t h k e =
+    let n : b - a ≡ suc (b - (a + 1)) = omega arith in
+    let m : a < length ts = omega arith in
+    ap (λ n. take n (drop a ts)) n
+    ∙ ap (take (suc (b - (a + 1)))) (drop-cons ts a t m)
+    ∙ ap (λ x. x ∷ take (b - (a + 1)) (drop (suc a) ts)) (sym e)
+    ∙ ap (λ i. t ∷ take (b - (a + 1)) (drop i ts)) (sym (add-one a))
+
+pub slice_range-none : (ts : List Token) (a b : ℕ) → b ≤ a → slice_range ts a b ≡ []
+slice_range-none ts a b e = let n : b - a ≡ 0 = omega arith in ap (λ n. take n (drop a ts)) n
+
+-- a frame that has a run begins with that run's first token
+pub suffix-first : (w : Stored) (f : Frame) (t : Token) → f.defs ≡ false → f.part.first < f.part.after → IsWithin w f → slice_get (all_tokens w.parts) f.part.first ≡ Some t →
+    suffix w f ≡ t ∷ suffix w (record { owner = f.owner; defs = f.defs; part = record { first = f.part.first + 1; after = f.part.after }; rest = f.rest })
+suffix-first w f t d n k e =
+    let h = slice_range-first (all_tokens w.parts) f.part.first f.part.after t n k.part (slice_get-or (all_tokens w.parts) f.part.first t e) in
+    ap (λ b. defs_first b ++ (run_tokens w f.part ++ runs_tokens w f.rest)) d
+    ∙ ap (λ xs. xs ++ runs_tokens w f.rest) h
+    ∙ ap (λ b. t ∷ (defs_first b ++ (slice_range (all_tokens w.parts) (f.part.first + 1) f.part.after ++ runs_tokens w f.rest))) (sym d)
+
+pub suffix-next : (w : Stored) (f : Frame) (q : Part) (more : List Part) → f.part.after ≤ f.part.first → f.rest ≡ q ∷ more → suffix w f ≡ suffix w (record { owner = f.owner; defs = f.defs; part = q; rest = more })
+suffix-next w f q more n e =
+    ap (λ xs. defs_first f.defs ++ (xs ++ runs_tokens w f.rest)) (slice_range-none (all_tokens w.parts) f.part.first f.part.after n)
+    ∙ ap (λ ps. defs_first f.defs ++ runs_tokens w ps) e
+
+pub IsWithin-next : (w : Stored) (f : Frame) (q : Part) (more : List Part) → f.rest ≡ q ∷ more → IsWithin w f → IsRun (length (all_tokens w.parts)) q × All (IsRun (length (all_tokens w.parts))) more
+IsWithin-next w f q more e h =
+    let g : All (IsRun (length (all_tokens w.parts))) (q ∷ more) = subst (All (IsRun (length (all_tokens w.parts)))) e h.rest in
+    (g 0 q (omega arith), λ k d l. g (suc k) d (omega arith))

@@ -1,0 +1,4 @@
+use Rattle.cweb_out.proofs.expander.Expander.next.Goals as goal
+
+pub enter-requires-clause-some : goal.enter-requires-clause-some
+enter-requires-clause-some c = c.in-Some.ensures.some.some

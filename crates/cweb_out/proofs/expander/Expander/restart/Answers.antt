@@ -1,0 +1,20 @@
+use Rattle.std.proofs.Common.{◌≡◌, ◌≤◌, ◌+◌, ◌++◌, ◌∷◌, [], arith, ap, ◌∙◌, vec_capacity}
+use Rattle.std.specs.List.{list_all}
+use Rattle.cweb_store.specs.Calls.{Stored}
+use Rattle.cweb_out.specs.Uses.{names, uses}
+use Rattle.cweb_out.specs.Ranks.{ends_below}
+use Rattle.cweb_out.specs.Frames.{suffix, AreBelow}
+use Rattle.cweb_out.specs.Outputs.{root_list}
+use Rattle.cweb_out.proofs.Stack.{Stands-one}
+use Rattle.cweb_out.proofs.Roots.{root_below}
+use Rattle.cweb_out.proofs.expander.Expander.restart.Goals as goal
+
+pub returns-clause-stands : goal.returns-clause-stands
+returns-clause-stands c =
+    let w : Stored = c.args.self.now.store.now in
+    let frame = c.of_root-frame.result in
+    let e : c.put.new.self.frames.items ≡ frame ∷ [] = c.put.ensures.frames ∙ ap (λ fs. fs ++ frame ∷ []) c.clear.ensures.items in
+    let b : AreBelow w (names w) (uses w (suffix w frame)) =
+    ap (λ ts. list_all (ends_below w (names w)) (uses w ts)) (c.of_root-frame.ensures.list ∙ ap (root_list w) c.root.ensures) ∙ root_below w c.args.self.now.plan.now c.args.root c.requires.made c.requires.root in
+    let r : names w + 1 ≤ vec_capacity c.put.new.self.frames = omega (arith, c.clear.ensures.capacity, c.put.ensures.room, c.requires.stands.room) in
+    rw c.put.ensures.store (Stands-one w c.put.new.self.frames.items frame (vec_capacity c.put.new.self.frames) e c.of_root-frame.ensures.within b r)

@@ -1,0 +1,100 @@
+-- What a stack of frames still has to give.
+use Rattle.std.specs.Prelude.{ℕ, ◌≤◌, ◌<◌, ◌≡◌, ◌+◌, ◌-◌, suc, zero, List, [], ◌∷◌, ◌++◌, true, All, Option, Some, None, length, slice_range, sum_by}
+use Rattle.std.specs.List.{list_all}
+use Rattle.cweb_store.specs.declared.name.NameId.{NameId}
+use Rattle.cweb_store.specs.declared.name.NameRef.{NameRef}
+use Rattle.cweb_store.specs.declared.part.Part.{Part}
+use Rattle.cweb_store.specs.Parts.{Token, Name, all_tokens, tokens_at}
+use Rattle.cweb_store.specs.Calls.{Stored}
+use Rattle.cweb_out.specs.Uses.{names, joined, uses, use_of, stands}
+use Rattle.cweb_out.specs.Ranks.{ends_below}
+use Rattle.cweb_out.specs.Expansion.{expand, name_text, put}
+use Rattle.cweb_out.specs.Outputs.{defs_first}
+use Rattle.cweb_out.specs.declared.frame.Frame.{Frame}
+
+-- the tokens of a run of numbers
+abbrev pub run_tokens : Stored → Part → List Token
+run_tokens w part = slice_range (all_tokens w.parts) part.first part.after
+
+abbrev pub runs_tokens : Stored → List Part → List Token
+runs_tokens w runs = tokens_at (all_tokens w.parts) runs
+
+-- what is still to come of the owner's list
+abbrev pub suffix : Stored → Frame → List Token
+suffix w f = defs_first f.defs ++ (run_tokens w f.part ++ runs_tokens w f.rest)
+
+abbrev pub IsRun : ℕ → Part → Type 0
+IsRun n part = part.after ≤ n
+
+-- the frame's runs lie within the tokens
+pub record IsWithin (w : Stored) (f : Frame) : Type 0 where
+  pub part : IsRun (length (all_tokens w.parts)) f.part
+  pub rest : All (IsRun (length (all_tokens w.parts))) f.rest
+
+-- the suffixes, the top frame's first, each expanded, joined; the bottom frame comes first in the list, and is expanded k deep
+abbrev pub left_of : Stored → ℕ → List Frame → List Token
+left_of w k [] = []
+left_of w zero (f ∷ fs) = left_of w zero fs ++ expand w zero (suffix w f)
+left_of w (suc k) (f ∷ fs) = left_of w k fs ++ expand w (suc k) (suffix w f)
+
+-- each name in the list has a rank that is below k
+abbrev pub AreBelow : Stored → ℕ → List NameId → Type 0
+AreBelow w k ns = list_all (ends_below w k) ns ≡ true
+
+-- each frame lies within the tokens, and uses names alone whose ranks are below its depth, which falls from frame to frame
+abbrev pub AreRanked : Stored → ℕ → List Frame → Type 0
+AreRanked w k [] = Unit {0}
+AreRanked w zero (f ∷ fs) = IsWithin w f × AreBelow w zero (uses w (suffix w f)) × AreRanked w zero fs
+AreRanked w (suc k) (f ∷ fs) = IsWithin w f × AreBelow w (suc k) (uses w (suffix w f)) × AreRanked w k fs
+
+-- a stack that an expander may have
+pub record Stands (w : Stored) (fs : List Frame) (capacity : ℕ) : Type 0 where
+  pub ranked : AreRanked w (names w) fs
+  pub depth : length fs ≤ names w + 1
+  pub room : names w + 1 ≤ capacity
+
+-- what an expander still has to give
+abbrev pub left : Stored → List Frame → List Token
+left w fs = left_of w (names w) fs
+
+-- the first token of what is left, and the rest; none exactly where nothing is left
+abbrev pub Gives : List Token → Option Token → List Token → Type 0
+Gives old None new = (old ≡ []) × (new ≡ [])
+Gives old (Some t) new = old ≡ t ∷ new
+
+-- how many tokens are met in what a name and a token give, k deep, and how many frames are taken away
+abbrev pub work_for : (NameId → ℕ) → Option NameId → ℕ
+work_for f None = 0
+work_for f (Some n) = f n
+
+abbrev pub token_work : Stored → (NameId → ℕ) → Token → ℕ
+token_work w f (Name r) = 1 + work_for f (stands w r)
+token_work w f t = 1
+
+abbrev pub name_work : Stored → ℕ → NameId → ℕ
+name_work w zero n = 0
+name_work w (suc k) n = 1 + sum_by (token_work w (name_work w k)) (joined w n)
+
+abbrev pub list_work : Stored → ℕ → List Token → ℕ
+list_work w k ts = 1 + sum_by (token_work w (name_work w k)) ts
+
+abbrev pub work_of : Stored → ℕ → List Frame → ℕ
+work_of w k [] = 0
+work_of w zero (f ∷ fs) = work_of w zero fs + list_work w zero (suffix w f)
+work_of w (suc k) (f ∷ fs) = work_of w k fs + list_work w (suc k) (suffix w f)
+
+-- the depth that the top frame is expanded to
+abbrev pub level : Stored → List Frame → ℕ
+level w fs = names w + 1 - length fs
+
+-- a token of the top frame was taken
+pub record Advances (w : Stored) (old new : List Frame) (t : Token) : Type 0 where
+  pub left : left w old ≡ put w (name_text w (level w new)) t ++ left w new
+  pub below : AreBelow w (level w new) (use_of w t)
+  pub work : token_work w (name_work w (level w new)) t + work_of w (names w) new ≤ work_of w (names w) old
+  pub some : 0 < length new
+
+-- a frame was put on top for a use, or none where the use gives nothing
+pub record Enters (w : Stored) (old new : List Frame) (r : NameRef) : Type 0 where
+  pub left : left w new ≡ put w (name_text w (level w old)) (Name r) ++ left w old
+  pub work : work_of w (names w) new < token_work w (name_work w (level w old)) (Name r) + work_of w (names w) old

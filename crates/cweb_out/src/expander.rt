@@ -1,0 +1,149 @@
+// The stack machine that gives an output's tokens, with each name replaced by its text.
+ghost use Rattle.std.specs.Prelude.{◌≡◌, ◌≤◌, ◌<◌, ◌+◌, ◌++◌, ◌∷◌, [], None, Some, length, IfOk, IfSome, option_map, vec_capacity};
+ghost use Rattle.cweb_store.specs.Seen.{seen};
+ghost use Rattle.cweb_store.specs.Parts.{Name};
+ghost use Rattle.cweb_out.specs.Uses.{names, use_of};
+ghost use Rattle.cweb_out.specs.Expansion.{expand};
+ghost use Rattle.cweb_out.specs.Outputs.{IsPlanOf, root_at, root_list};
+ghost use Rattle.cweb_out.specs.Frames.{Advances, AreBelow, Enters, Gives, Stands, left, level};
+
+use crate::frame::Frame;
+use crate::plan::Plan;
+use cweb_store::{NameRef, Store, Token};
+use std::alloc::{AllocError, Global};
+
+/// Gives the tokens of an output one after another, each name replaced by its text. Beside the store and the plan it holds
+/// a stack of frames and nothing else; the last one is the top. The fields are for its own calls to write.
+#[derive(Drop)]
+pub struct Expander<'a> {
+    pub store: &'a Store,
+    pub plan: &'a Plan,
+    pub frames: Vec<Frame<'a>>,
+}
+
+impl<'a> Expander<'a> {
+    /// An expander of the output with a number, for a plan that was made for the store. It reserves all frames that it
+    /// will ever have, and takes no memory after that.
+    pub fn new(
+        alloc: Global,
+        store: &'a Store,
+        plan: &'a Plan,
+        root: u32,
+    ) -> Result<Expander<'a>, AllocError>
+        requires root { root < length plan.now.outputs }
+        requires made { IsPlanOf store.now plan.now }
+        ensures stands { IfOk result (λ e. Stands store.now e.frames.items (vec_capacity e.frames)) }
+        ensures store { IfOk result (λ e. e.store ≡ store.entry) }
+        ensures plan { IfOk result (λ e. e.plan ≡ plan.entry) }
+        ensures left { IfOk result (λ e. left store.now e.frames.items
+            ≡ expand store.now (names store.now) (root_list store.now (root_at plan.now.outputs root))) }
+    {
+        let count = store.names();
+        let mut frames = Vec::with_capacity(alloc, count as usize + 1)?;
+        frames.push(Frame::of_root(store, plan.root(root)))?;
+        Ok(Expander {
+            store,
+            plan,
+            frames,
+        })
+    }
+
+    /// Begins the output with a number, whatever was left of another. It takes no memory.
+    pub fn restart(&mut self, root: u32)
+        requires root { root < length self.old.plan.now.outputs }
+        requires made { IsPlanOf self.old.store.now self.old.plan.now }
+        requires stands { Stands self.old.store.now self.old.frames.items (vec_capacity self.old.frames) }
+        ensures stands { Stands self.new.store.now self.new.frames.items (vec_capacity self.new.frames) }
+        ensures store { self.new.store ≡ self.old.store }
+        ensures plan { self.new.plan ≡ self.old.plan }
+        ensures left { left self.old.store.now self.new.frames.items
+            ≡ expand self.old.store.now (names self.old.store.now) (root_list self.old.store.now (root_at self.old.plan.now.outputs root)) }
+    {
+        self.frames.clear();
+        let frame = Frame::of_root(self.store, self.plan.root(root));
+        self.put(frame);
+    }
+
+    /// How many frames there are: one more than names at most.
+    pub fn depth(&self) -> u32
+        requires { Stands self.now.store.now self.now.frames.items (vec_capacity self.now.frames) }
+        ensures count { result ≡ length self.now.frames.items }
+        ensures bound { result ≤ names self.now.store.now + 1 }
+    {
+        let _names = self.store.names();
+        self.frames.len() as u32
+    }
+
+    /// The next token: never a use of a name. Once it is none it stays so. It takes no memory.
+    pub fn next(&mut self) -> Option<Token<'a>>
+        requires { Stands self.old.store.now self.old.frames.items (vec_capacity self.old.frames) }
+        ensures stands { Stands self.new.store.now self.new.frames.items (vec_capacity self.new.frames) }
+        ensures store { self.new.store ≡ self.old.store }
+        ensures plan { self.new.plan ≡ self.old.plan }
+        ensures gives { Gives (left self.old.store.now self.old.frames.items) (option_map seen result) (left self.old.store.now self.new.frames.items) }
+    {
+        'tokens: while let Some(token) = self.advance() {
+            let Token::Name(name) = token else {
+                return Some(token);
+            };
+            self.enter(name);
+        }
+        None
+    }
+
+    // Takes the next token of the lists as they stand, and frames that have ended away.
+    fn advance(&mut self) -> Option<Token<'a>>
+        requires { Stands self.old.store.now self.old.frames.items (vec_capacity self.old.frames) }
+        ensures stands { Stands self.new.store.now self.new.frames.items (vec_capacity self.new.frames) }
+        ensures store { self.new.store ≡ self.old.store }
+        ensures plan { self.new.plan ≡ self.old.plan }
+        ensures some { IfSome result (λ t. Advances self.old.store.now self.old.frames.items self.new.frames.items (seen t)) }
+        ensures none { result ≡ None → (left self.old.store.now self.old.frames.items ≡ []) × (self.new.frames.items ≡ []) }
+    {
+        let store = self.store;
+        'frames: while let Some(mut frame) = self.frames.pop() {
+            if let Some(token) = frame.take(store) {
+                self.put(frame);
+                return Some(token);
+            }
+        }
+        None
+    }
+
+    // Puts the text of a name on top, where the occurrence stands for one that has a part.
+    fn enter(&mut self, name: NameRef)
+        requires stands { Stands self.old.store.now self.old.frames.items (vec_capacity self.old.frames) }
+        requires some { 0 < length self.old.frames.items }
+        requires below { AreBelow self.old.store.now (level self.old.store.now self.old.frames.items) (use_of self.old.store.now (Name name)) }
+        ensures stands { Stands self.new.store.now self.new.frames.items (vec_capacity self.new.frames) }
+        ensures store { self.new.store ≡ self.old.store }
+        ensures plan { self.new.plan ≡ self.old.plan }
+        ensures enters { Enters self.old.store.now self.old.frames.items self.new.frames.items name }
+    {
+        let store = self.store;
+        let Some(id) = store.standing(name) else {
+            return;
+        };
+        let mut rest = store.parts(id);
+        let Some(part) = rest.next() else {
+            return;
+        };
+        self.put(Frame {
+            owner: Some(id),
+            defs: false,
+            part,
+            rest,
+        });
+    }
+
+    // Puts a frame on top. There is room for it.
+    fn put(&mut self, frame: Frame<'a>)
+        requires { length self.old.frames.items < vec_capacity self.old.frames }
+        ensures frames { self.new.frames.items ≡ self.old.frames.items ++ frame.entry ∷ [] }
+        ensures room { vec_capacity self.old.frames ≤ vec_capacity self.new.frames }
+        ensures store { self.new.store ≡ self.old.store }
+        ensures plan { self.new.plan ≡ self.old.plan }
+    {
+        let _ = self.frames.push(frame);
+    }
+}
