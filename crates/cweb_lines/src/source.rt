@@ -92,8 +92,13 @@ impl<R: Drop> Source<R> {
         self.start < self.lines_end && !is_include(&self.piece[self.start..self.end])
     }
 
-    /// Whether what was read of the next line begins so. Only the time of a write depends on it.
+    /// Whether what was read of the next line begins so. Only the time of a write depends on it. Most lines are told by
+    /// their first byte.
     pub fn may_begin_with(&self, front: &[u8]) -> bool {
-        self.piece[self.start..self.end].starts_with(front)
+        let pending = &self.piece[self.start..self.end];
+        match (front.first(), pending.first()) {
+            (Some(wanted), Some(byte)) if wanted != byte => false,
+            _ => pending.starts_with(front),
+        }
     }
 }
