@@ -101,7 +101,8 @@ module _ (world : World) (later : List Thing) (change : List SourceLine) where
 
   -- these events come of the things, and then what stands behind them, with the files that they opened counted
   abbrev Comes : ℕ → List Thing → List Event → Type 0
-  Comes files things events = coming_of files (things ++ later) ≡ events ++ coming_of (files + length (openings events)) later
+  Comes files things events =
+      coming_of files (things ++ later) ≡ events ++ coming_of (files + length (openings events)) later
 
   -- so many steps are enough for the things alone
   abbrev Runs : ℕ → ℕ → List Thing → List Event → Type 0

@@ -34,7 +34,8 @@ pub change_files_without_entries : ChangeFilesWithoutEntriesChangeNothing
 change_files_without_entries world web change none =
     let things = raws 1 true (lines_in 0 web) in
     let changes = lines_in 1 change in
-    let no_codes = ap (list_any is_code) (bytes_of 1 1 (lines change) changes (lie_in 1 1 (text_lines change))) ∙ none in
+    let changes_are = bytes_of 1 1 (lines change) changes (lie_in 1 1 (text_lines change)) in
+    let no_codes = ap (list_any is_code) changes_are ∙ none in
     let alone = halts world (started web None) in
     ap seen (merge_next world (started web (Some change)) (map took changes ++ [], state things None [] 2)
     (ap (λ (found : Sought).

@@ -117,7 +117,8 @@ pub gives_alone : (world : World) (depth : ℕ) (may_match : Bool) (lines : List
     (files : ℕ) → list_any is_include (bytes_in lines) ≡ false
     → seen (merge world (state (raws depth may_match lines) None change files)) ≡ only_lines (lines_of lines)
 gives_alone world depth may_match lines change files plain_lines =
-    ap (λ (ts : List Thing). seen (merge world (state ts None change files))) (sym (append-nil (raws depth may_match lines)))
+    ap (λ (ts : List Thing). seen (merge world (state ts None change files)))
+    (sym (append-nil (raws depth may_match lines)))
     ∙ gives_out world depth may_match lines [] change files plain_lines
     ∙ ap (λ (es : List Event). followed_by (only_lines (lines_of lines)) (seen es))
     (merge_end world (state [] None change files) refl)

@@ -153,9 +153,10 @@ they_show : spliced 1 1 two_changes (codes "D" ∷ []) ≡ placed 0 1 (codes "A"
 they_show = refl
 
 -- the second entry is never looked at
-entry_without_match : seen_by (run 30 no_texts (started (codes "A\n") (Some (codes "why\n@x\nZ\n@z\n@x\nA\n@y\n@z\n")))) ≡ Some (record {
-  lines = placed 0 1 (codes "A" ∷ []);
-  faults = record { kind = NoMatch; place = record { file = record { 0 = 1 }; line = 2 }; count = 0 } ∷ [];
-  included = [];
-})
+entry_without_match : seen_by (run 30 no_texts (started (codes "A\n") (Some (codes "why\n@x\nZ\n@z\n@x\nA\n@y\n@z\n"))))
+    ≡ Some (record {
+      lines = placed 0 1 (codes "A" ∷ []);
+      faults = record { kind = NoMatch; place = record { file = record { 0 = 1 }; line = 2 }; count = 0 } ∷ [];
+      included = [];
+    })
 entry_without_match = refl

@@ -59,7 +59,8 @@ module _ (world : World) where
   thing_prints n (raw r ∷ things) pending change files events each cut cut' is =
       let s = state (raw r ∷ things) pending change files in
       let next = at_raw pending world s r things in
-      step_prints n (took r.source ∷ next.0, next.1) events each (raw_keeps world r things s cut.0 cut.1 cut' pending) is
+      let keeps = raw_keeps world r things s cut.0 cut.1 cut' pending in
+      step_prints n (took r.source ∷ next.0, next.1) events each keeps is
 
   run_prints : (n : ℕ) → PrintsIn n
   run_prints zero s events cut is = absurd (cc)

@@ -111,5 +111,5 @@ module _ (world : World) where
       (goes.is (state (raw r ∷ things) None [] files) things) in
       ap (λ (next : Next). onto (took (source_behind r.source) ∷ next.0) (run n world next.1))
       (goes.behind (state (raw (raw_behind r) ∷ things') None [] (files + 1)) things')
-      ∙ raw_behind_run n r things files events some none.1 (λ f ts es more no i. run_behind n f ts es more no i) goes.kind
-      (sym same ∙ is)
+      ∙ raw_behind_run n r things files events some none.1 (λ f ts es more no i. run_behind n f ts es more no i)
+      goes.kind (sym same ∙ is)

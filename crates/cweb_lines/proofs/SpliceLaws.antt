@@ -172,7 +172,8 @@ splices_all : (world : World) (splices : List Splice) (web change : ℕ) (behind
     (lines changes : List SourceLine) → AllByRecursion IsPlainSplice splices
     → list_any is_include behind ≡ false → list_any is_code comment ≡ false
     → Lie 0 web (web_lines splices behind) lines → Lie 1 change (change_lines splices comment) changes
-    → seen (merge world (state (seek ∷ raws 1 true lines) None changes 2)) ≡ only_lines (spliced web change splices behind)
+    → seen (merge world (state (seek ∷ raws 1 true lines) None changes 2))
+    ≡ only_lines (spliced web change splices behind)
 splices_all world [] web change behind comment lines changes all plain_behind no_codes lie lie' =
     splices_none world web change behind comment lines changes plain_behind no_codes lie lie'
 splices_all world (s ∷ splices) web change behind comment lines changes all plain_behind no_codes lie lie' =

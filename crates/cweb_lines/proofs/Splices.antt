@@ -16,8 +16,8 @@ use Rattle.cweb_lines.proofs.Merges.{state}
 use Rattle.cweb_lines.proofs.Seens.{took_unseen}
 use Rattle.cweb_lines.proofs.Entries.{bytes_in, compares, entry_of, finds, gives_out, lines_of, new_splits, old_splits, passes_by}
 
--- The lines of one change. Of the change file: a comment, the @x line, the first old line, the further ones, the @y line,
--- the new lines, the @z line. Of the web: the lines that stay, the first line that is replaced, and the further ones.
+-- The lines of one change. Of the change file: a comment, the @x line, the first old line, the further ones, the
+-- @y line, the new lines, the @z line. Of the web: the lines that stay, the first line that is replaced, and the further ones.
 pub record Edit : Type 0 where
   pub comment : List SourceLine
   pub x : SourceLine
@@ -129,7 +129,8 @@ module _ (world : World) (files : ℕ) (e : Edit) (plain_edit : IsPlain e) (chan
       ∙ new_come
 
   -- one change: the search for it, the lines before it, the new lines, and what comes behind
-  pub splices_one : seen (merge world (state (seek ∷ raws 1 true (web_from e behind)) None (change_from e change) files))
+  pub splices_one :
+      seen (merge world (state (seek ∷ raws 1 true (web_from e behind)) None (change_from e change) files))
       ≡ followed_by (only_lines (lines_of e.stays)) (followed_by (only_lines (lines_of e.new))
       (seen (merge world (state (seek ∷ rest) None change files))))
   splices_one =

@@ -205,8 +205,8 @@ change_lines (s ∷ splices) comment =
     s.comment ++ (s.begin ∷ s.first
     ∷ (s.further ++ (s.middle ∷ (s.new ++ (s.end ∷ change_lines splices comment)))))
 
--- The lines that stay and the new lines by turns, each with its place. These are the numbers of the next line of the web
--- and of the next line of the change file.
+-- The lines that stay and the new lines by turns, each with its place. The numbers are those of the next line of the
+-- web and of the next line of the change file.
 abbrev pub spliced : ℕ → ℕ → List Splice → List (List ℕ) → List Line
 spliced web change [] behind = placed 0 web behind
 spliced web change (s ∷ splices) behind =
@@ -224,8 +224,8 @@ ChangesSplice = (world : World) (web change : List ℕ) (splices : List Splice) 
     → lines web ≡ web_lines splices behind → lines change ≡ change_lines splices comment
     → seen_of world web (Some change) ≡ only_lines (spliced 1 1 splices behind)
 
--- An entry that begins a change file and whose first old line is no line of the web, which includes nothing, is told once,
--- at its @x line, and changes nothing. What stands behind that old line is never looked at.
+-- An entry that begins a change file and whose first old line is no line of the web, which includes nothing, is told
+-- once, at its @x line, and changes nothing. What stands behind that old line is never looked at.
 abbrev pub EntriesWithoutMatchAreTold : Type 0
 EntriesWithoutMatchAreTold = (world : World) (web change : List ℕ)
     (comment : List (List ℕ)) (begin first : List ℕ) (rest : List (List ℕ))
