@@ -43,8 +43,9 @@ pub fn include_line_is_replaced()
 {}
 
 /// A change file whose entries match, in order, splices: of the web come the lines before each change and those behind
-/// the last, of the change file the new lines, each with its place, without a fault. Not covered are include lines among
-/// them, empty lines behind an `@x`, codes out of place, and further old lines that differ from the web's.
+/// the last, of the change file the new lines, each with its place, without a fault. Old lines may be include lines, which
+/// are not obeyed then. Not covered are include lines among the lines that stay or come new, empty lines behind an `@x`,
+/// codes out of place, and further old lines that differ from the web's.
 pub fn changes_splice()
     ensures { ChangesSplice }
 {}
