@@ -1,4 +1,5 @@
 pub mod Counted
-pub mod Endings
-pub mod Fronts
+pub mod Exits
+pub mod Gathering
+pub mod Promises
 mod Rows

@@ -25,19 +25,26 @@ kind_text WantsZ = codes "Where is @z?"
 kind_text EndedBeforeZ = codes "Change file ended before @z"
 kind_text NoMatch = codes "Change entry did not match"
 
--- the number behind the text, which unequal lines alone have
-abbrev pub count_text : SourceKind → ℕ → List ℕ
-count_text Unequal count = codes ": " ++ decimal count
-count_text _ count = []
+-- what stands behind the text: a number, which unequal lines alone have
+abbrev pub count_end : SourceKind → ℕ → List ℕ
+count_end Unequal count = codes ": " ++ (decimal count ++ codes "\n")
+count_end _ count = codes "\n"
 
 -- FILE:LINE: ! TEXT
+abbrev pub located_line : List ℕ → List ℕ → List ℕ → List ℕ
+located_line file line text = file ++ (codes ":" ++ (line ++ (codes ": ! " ++ text)))
+
 abbrev pub fault_line : List (List ℕ) → SourceFault → List ℕ
-fault_line names fault =
-    name_at names fault.place.file.0 ++ codes ":" ++ decimal fault.place.line ++ codes ": ! "
-    ++ kind_text fault.kind ++ count_text fault.kind fault.count ++ codes "\n"
+fault_line names fault = located_line (name_at names fault.place.file.0) (decimal fault.place.line) (kind_text fault.kind ++ count_end fault.kind fault.count)
 
 abbrev pub fault_lines : List (List ℕ) → List SourceFault → List ℕ
 fault_lines names faults = flat_map (λ fault. fault_line names fault) faults
+
+-- what a stop at the start of a merge is about, by the names of the web and of the change file
+abbrev pub start_subject : List ℕ → List ℕ → Stop → List ℕ
+start_subject web change WebNotOpened = web
+start_subject web change ChangeNotOpened = change
+start_subject web change _ = []
 
 -- what a stop within a merge is about, by the names of the files that were opened
 abbrev pub subject : List (List ℕ) → Stop → List ℕ
@@ -48,7 +55,7 @@ subject names _ = []
 
 -- ! TEXT, which ends in a name where the text is about one
 abbrev pub message_line : List ℕ → List ℕ → List ℕ
-message_line text name = codes "! " ++ text ++ name ++ codes "\n"
+message_line text name = codes "! " ++ (text ++ (name ++ codes "\n"))
 
 -- the line of a stop that is about this name; a log that failed is told nothing
 abbrev pub stop_line : Stop → List ℕ → List ℕ

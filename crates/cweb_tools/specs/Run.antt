@@ -1,157 +1,118 @@
--- What a run of `wmerge` writes and answers, as functions of the texts, the words and the folder of included files.
-use Rattle.std.specs.Prelude.{map, ◌≡◌, ◌≢◌, ◌⊎◌, ◌≤◌, ◌<◌, ℕ, ◌+◌, length, List, [], ◌∷◌, ◌++◌, codes, Option, None, Some}
-use Rattle.std.specs.Option.{option_copied}
-use Rattle.std.specs.Borrow.{Bor}
-use Rattle.cweb_lines.specs.Include.{World, Found, web_at, change_at}
-use Rattle.cweb_lines.specs.Merge.{Event, started}
-use Rattle.cweb_lines.specs.Total.{merge}
-use Rattle.cweb_lines.specs.Told.{given_lines, told_faults, openings, taken_lines, size_of, IsWithinLimits}
-use Rattle.cweb_lines.specs.Texts.{files_named}
-use Rattle.cweb_lines.specs.declared.limits.TheConstants.{LINES, BYTES}
+-- What a run of `wmerge` leaves in its devices. Each sentence asks only of the devices it speaks of that they tell what they hold.
+use Rattle.std.specs.Prelude.{◌≡◌, ◌≢◌, ◌⊎◌, ◌≤◌, ◌<◌, ℕ, ◌+◌, length, List, [], ◌++◌, codes, Option, None, Some, IsTrue}
+use Rattle.cweb_lines.specs.Include.{World}
+use Rattle.cweb_lines.specs.Merge.{Event}
+use Rattle.cweb_lines.specs.Texts.{files_named, read_blame}
+use Rattle.cweb_lines.specs.Told.{told_faults, openings, taken_lines, size_of, IsWithinLimits}
+use Rattle.cweb_lines.specs.Writing.{WritesFront, LongIn, write_blame}
 use Rattle.cweb_lines.specs.declared.fault.SourceFault.{SourceFault}
+use Rattle.cweb_lines.specs.declared.limits.TheConstants.{LINES, BYTES}
 use Rattle.cweb_lines.specs.declared.stop.Stop.{Stop}
-use Rattle.cweb_lines.specs.Finding.{names_found, text_found}
 use Rattle.cweb_lines.specs.declared.stop.Stop.TheVariants.{Usage, WebNotOpened, ChangeNotOpened, ReadFault, LineTooLong, TooMuchText, Memory, WriteFault}
-use Rattle.cweb_tools.specs.Log.{fault_lines, stop_line, subject}
-use Rattle.cweb_tools.specs.Seen.{Seen}
-use Rattle.cweb_tools.specs.Words.{WebNames, asked_by}
-use Rattle.cweb_lines.specs.Writing.{text_of, WritesFront, LongIn}
+use Rattle.cweb_tools.specs.Course.{Course, not_there, change_not_there, merging, asked_course, change_name, fault_status, merge_log, merge_status, merged, usage, StaysWithin}
+use Rattle.cweb_tools.specs.Log.{fault_lines, stop_line, name_at}
+use Rattle.cweb_tools.specs.Seen.{Seen, SeenStream, Tell}
+use Rattle.cweb_tools.specs.Words.{WebNames}
 
-abbrev pub usage : List ℕ
-usage = codes "wmerge webfile[.w] [{changefile[.ch]|-}]"
+-- a text was logged: all of it, or after a fault a front of it
+pub record Logs (text : List ℕ) (before after : SeenStream) : Type 0 where
+  pub once : (after.failed ≡ before.failed) ⊎ (after.failed ≡ before.failed + 1)
+  pub whole : IsTrue before.tells → after.failed ≡ before.failed → after.bytes ≡ before.bytes ++ text
+  pub front : IsTrue before.tells → WritesFront before.bytes after.bytes text
 
--- the folder in which included files are sought too; an empty one counts as none
-abbrev pub folder_of : Option (List ℕ) → Option (List ℕ)
-folder_of None = None
-folder_of (Some []) = None
-folder_of (Some (b ∷ bs)) = Some (b ∷ bs)
-
--- how a run goes: its words can't be read, its web is not there under its name, its web is there and its change file isn't, or a merge begins with these files open and all this comes
-pub data Course : Type 0 where
-  unread : Course
-  not_there : List ℕ → Course
-  change_not_there : List ℕ → Course
-  merging : List (List ℕ) → List Event → Course
-
--- the change file's name, and no bytes where none is named
-abbrev pub change_name : Option (List ℕ) → List ℕ
-change_name None = []
-change_name (Some name) = name
-
--- by the web and the change file that were found
-abbrev pub found_course : World → WebNames → Option Found → Option (Option Found) → Course
-found_course world names None changes = not_there names.web
-found_course world names (Some web) None = change_not_there (change_name names.change)
-found_course world names (Some web) (Some change) = merging (web.0 ∷ names_found change) (merge world (started web.1 (text_found change)))
-
-abbrev pub asked_course : World → Option WebNames → Course
-asked_course world None = unread
-asked_course world (Some names) = found_course world names (web_at world.texts names.web names.second) (change_at world.texts names.change)
-
-abbrev pub course_of : (List ℕ → Option (List ℕ)) → List (List ℕ) → Option (List ℕ) → Course
-course_of texts words inputs = asked_course (record { texts = texts; inputs = folder_of inputs }) (asked_by words)
-
--- what a stop at the start of a merge is about
-abbrev pub start_subject : WebNames → Stop → List ℕ
-start_subject names ChangeNotOpened = change_name names.change
-start_subject names _ = names.web
-
--- the merged lines, each with a newline
-abbrev pub merged : Course → List ℕ
-merged unread = []
-merged (not_there web) = []
-merged (change_not_there change) = []
-merged (merging names events) = text_of (given_lines events)
-
--- the faults in their order, or the line of what stopped the run
-abbrev pub merge_log : Course → List ℕ
-merge_log unread = stop_line Usage usage
-merge_log (not_there web) = stop_line WebNotOpened web
-merge_log (change_not_there change) = stop_line ChangeNotOpened change
-merge_log (merging names events) = fault_lines (names ++ openings events) (told_faults events)
-
--- 0 where there is no fault
-abbrev pub fault_status : List SourceFault → ℕ
-fault_status [] = 0
-fault_status (fault ∷ faults) = 1
-
-abbrev pub merge_status : Course → ℕ
-merge_status unread = 1
-merge_status (not_there web) = 1
-merge_status (change_not_there change) = 1
-merge_status (merging names events) = fault_status (told_faults events)
-
--- no line that the merge takes breaks the limits
-abbrev pub StaysWithin : Course → Type 0
-StaysWithin unread = Unit {0}
-StaysWithin (not_there web) = Unit {0}
-StaysWithin (change_not_there change) = Unit {0}
-StaysWithin (merging names events) = IsWithinLimits (taken_lines events)
-
--- a text was logged: a front of it, and all of it where the log did not fail
-pub record Logs (text : List ℕ) (failed failed' : ℕ) (log log' : List ℕ) : Type 0 where
-  pub front : WritesFront log log' text
-  pub once : failed' ≤ failed + 1
-  pub whole : failed' ≡ failed → log' ≡ log ++ text
-
--- the lines of all faults were logged, or, where memory was wanting, that line alone; and this is the status
-abbrev pub LogsFaults : List (List ℕ) → List SourceFault → ℕ → ℕ → List ℕ → List ℕ → ℕ → Type 0
-LogsFaults names faults failed failed' log log' status =
-    (Logs (fault_lines names faults) failed failed' log log' × (failed' ≡ failed → status ≡ fault_status faults))
-    ⊎ (Logs (stop_line Memory []) failed failed' log log' × (status ≡ 1))
-
--- the run went its whole course: the limits were kept, and neither shelf nor output failed
-pub record Completes (course : Course) (before after : Seen) (status : ℕ) : Type 0 where
-  pub kept : StaysWithin course
+-- the words can't be read: the log alone is written to
+pub record Refuses (before after : Seen) (status : ℕ) : Type 0 where
   pub read : after.shelf.failed ≡ before.shelf.failed
   pub printed : after.out.failed ≡ before.out.failed
-  pub written : after.out.bytes ≡ before.out.bytes ++ merged course
-  pub logged : Logs (merge_log course) before.log.failed after.log.failed before.log.bytes after.log.bytes
-  pub answered : after.log.failed ≡ before.log.failed → status ≡ merge_status course
+  pub written : after.out.bytes ≡ before.out.bytes
+  pub logged : Logs (stop_line Usage usage) before.log after.log
+  pub answered : status ≡ 1
+
+-- all of a course was merged: these files were opened, these faults were met, and the limits were kept
+abbrev pub HasMerged : Course → List (List ℕ) → List SourceFault → Type 0
+HasMerged (merging first events) files faults = (files ≡ first ++ openings events) × (faults ≡ told_faults events) × IsWithinLimits (taken_lines events)
+HasMerged course files faults = ⊥
+
+-- the run went its whole course
+pub record Completes (course : Course) (before after : Seen) (status : ℕ) : Type 0 where
+  pub files : List (List ℕ)
+  pub faults : List SourceFault
+  pub all : IsTrue before.shelf.tells → HasMerged course files faults
+  pub read : after.shelf.failed ≡ before.shelf.failed
+  pub printed : after.out.failed ≡ before.out.failed
+  pub written : IsTrue before.shelf.tells → IsTrue before.out.tells → after.out.bytes ≡ before.out.bytes ++ merged course
+  pub logged : Logs (fault_lines files faults) before.log after.log
+  pub answered : after.log.failed ≡ before.log.failed → status ≡ fault_status faults
+  pub failed : after.log.failed ≢ before.log.failed → status ≡ 1
 
 -- more lines or more bytes are to be taken than may be
 abbrev pub PassesSums : List Event → Type 0
 PassesSums events = (LINES < length (taken_lines events)) ⊎ (BYTES < size_of (taken_lines events))
 
--- the limit that a stop names is one that the course breaks: a line of that very file is too long, or a sum is passed
-abbrev pub Breaks : Course → Stop → Type 0
-Breaks (merging names events) (LineTooLong file) = LongIn file events
-Breaks (merging names events) TooMuchText = PassesSums events
-Breaks _ _ = ⊥
+-- a stop to which a course can come; a limit that it names is one that the course breaks, in a line of that very file
+abbrev pub CanStop : Stop → Course → Type 0
+CanStop WebNotOpened (not_there web) = Unit {0}
+CanStop ChangeNotOpened (change_not_there change) = Unit {0}
+CanStop (ReadFault file) (merging first events) = Unit {0}
+CanStop (LineTooLong file) (merging first events) = LongIn file events
+CanStop TooMuchText (merging first events) = PassesSums events
+CanStop WriteFault (merging first events) = Unit {0}
+CanStop Memory course = Unit {0}
+CanStop stop course = ⊥
 
--- what stops a run: a read or a write that failed, a limit that the course breaks, or want of memory
-abbrev pub Explains : Stop → Course → Seen → Seen → Type 0
-Explains (ReadFault file) course before after = (after.shelf.failed ≡ before.shelf.failed + 1) × (after.out.failed ≡ before.out.failed)
-Explains WriteFault course before after = (after.shelf.failed ≡ before.shelf.failed) × (after.out.failed ≡ before.out.failed + 1)
-Explains (LineTooLong file) course before after = Breaks course (LineTooLong file) × (after.shelf.failed ≡ before.shelf.failed) × (after.out.failed ≡ before.out.failed)
-Explains TooMuchText course before after = Breaks course TooMuchText × (after.shelf.failed ≡ before.shelf.failed) × (after.out.failed ≡ before.out.failed)
-Explains Memory course before after = (after.shelf.failed ≡ before.shelf.failed) × (after.out.failed ≡ before.out.failed)
-Explains _ course before after = ⊥
+-- the stops that come once the words were read
+abbrev pub Comes : Stop → Type 0
+Comes WebNotOpened = Unit {0}
+Comes ChangeNotOpened = Unit {0}
+Comes (ReadFault file) = Unit {0}
+Comes (LineTooLong file) = Unit {0}
+Comes TooMuchText = Unit {0}
+Comes WriteFault = Unit {0}
+Comes Memory = Unit {0}
+Comes stop = ⊥
+
+-- what the line of a stop is about, by the names that the words ask for and those of the files that were opened
+abbrev pub about : WebNames → List (List ℕ) → Stop → List ℕ
+about names files WebNotOpened = names.web
+about names files ChangeNotOpened = change_name names.change
+about names files (ReadFault file) = name_at files file.0
+about names files (LineTooLong file) = name_at files file.0
+about names files WriteFault = codes "standard output"
+about names files stop = []
+
+-- a device failed where the stop is its own, once, and no other did
+pub record Blames (stop : Stop) (before after : Seen) : Type 0 where
+  pub shelf : after.shelf.failed ≡ before.shelf.failed + read_blame stop
+  pub out : after.out.failed ≡ before.out.failed + write_blame stop
 
 -- names of files that a course opens, in their order, as far as it went
 abbrev pub AreOpened : List (List ℕ) → Course → Type 0
-AreOpened names unread = names ≡ []
-AreOpened names (not_there web) = names ≡ []
-AreOpened names (change_not_there change) = names ≡ []
-AreOpened names (merging first events) = (rest : List (List ℕ)) × (first ++ openings events ≡ names ++ rest)
+AreOpened files (merging first events) = (rest : List (List ℕ)) × (first ++ openings events ≡ files ++ rest)
+AreOpened files course = files ≡ []
 
 -- something stopped the run: a front of the merged lines is written, and the log has the stop's line alone
-pub record Stops (course : Course) (before after : Seen) (status : ℕ) : Type 0 where
+pub record Stops (names : WebNames) (course : Course) (before after : Seen) (status : ℕ) : Type 0 where
   pub stop : Stop
-  -- the files that were opened by then
-  pub names : List (List ℕ)
-  pub opened : AreOpened names course
-  -- the stop's own file is among them
-  pub named : files_named stop ≤ length names
-  pub cause : Explains stop course before after
-  pub front : WritesFront before.out.bytes after.out.bytes (merged course)
-  pub logged : Logs (stop_line stop (subject names stop)) before.log.failed after.log.failed before.log.bytes after.log.bytes
+  pub comes : Comes stop
+  pub cause : IsTrue before.shelf.tells → CanStop stop course
+  -- the files that were opened by then, with that of the stop
+  pub files : List (List ℕ)
+  pub named : files_named stop ≤ length files
+  pub opened : IsTrue before.shelf.tells → AreOpened files course
+  pub blames : Blames stop before after
+  pub written : IsTrue before.shelf.tells → IsTrue before.out.tells → WritesFront before.out.bytes after.out.bytes (merged course)
+  pub logged : Logs (stop_line stop (about names files stop)) before.log after.log
   pub answered : status ≡ 1
 
+-- how a run ends whose words could be read
+pub data Merges (names : WebNames) (course : Course) (before after : Seen) (status : ℕ) : Type 0 where
+  completes : Completes course before after status → Merges names course before after status
+  stops : Stops names course before after status → Merges names course before after status
+
 -- how a run ends
-pub data Ends (course : Course) (before after : Seen) (status : ℕ) : Type 0 where
-  completes : Completes course before after status → Ends course before after status
-  stops : Stops course before after status → Ends course before after status
+abbrev pub Ends : World → Option WebNames → Seen → Seen → ℕ → Type 0
+Ends world None before after status = Refuses before after status
+Ends world (Some names) before after status = Merges names (asked_course world (Some names)) before after status
 
 -- what a run leaves in which no device failed, the limits were kept and memory sufficed
 pub record IsMerge (course : Course) (before after : Seen) (status : ℕ) : Type 0 where
@@ -167,27 +128,33 @@ pub record RanFreely (course : Course) (before after : Seen) : Type 0 where
   pub within : StaysWithin course
   pub memory : after.log.bytes ≢ before.log.bytes ++ stop_line Memory []
 
--- the words can't be read: the log alone is written to
-pub record Refuses (failed failed' : ℕ) (log log' : List ℕ) (status : ℕ) : Type 0 where
-  pub logged : Logs (stop_line Usage usage) failed failed' log log'
-  pub answered : status ≡ 1
+-- a front of the merged lines was printed, and all of them where the status is 0
+pub record Prints (course : Course) (before after : Seen) (status : ℕ) : Type 0 where
+  pub front : WritesFront before.out.bytes after.out.bytes (merged course)
+  pub whole : status ≡ 0 → after.out.bytes ≡ before.out.bytes ++ merged course
 
 -- no device failed more than once, and not both the shelf and the output
 pub record FailsOnce (before after : Seen) : Type 0 where
   pub one : after.shelf.failed + after.out.failed ≤ before.shelf.failed + before.out.failed + 1
   pub log : after.log.failed ≤ before.log.failed + 1
 
--- the course of a run, by what the shelf tells, the words and the folder as they are passed
-abbrev pub course_by : Seen → List (Bor (List ℕ)) → Option (Bor (List ℕ)) → Course
-course_by before words inputs = course_of before.shelf.texts (map (λ (word : Bor (List ℕ)). word.now) words) (option_copied inputs)
+-- a device that failed makes the status 1
+pub record TellsFaults (before after : Seen) (status : ℕ) : Type 0 where
+  pub read : after.shelf.failed ≢ before.shelf.failed → status ≡ 1
+  pub printed : after.out.failed ≢ before.out.failed → status ≡ 1
+  pub logged : after.log.failed ≢ before.log.failed → status ≡ 1
 
--- what is promised of a run whose devices tell what they hold, a sentence a line
-pub record Promises (course : Course) (before after : Seen) (status : ℕ) : Type 0 where
+-- what is promised of a run, a sentence a line
+pub record Promises (world : World) (asked : Option WebNames) (before after : Seen) (status : ℕ) : Type 0 where
+  -- the words can't be read, or the run goes its whole course, or one thing stops it, whose line is then the log
+  pub ends : Ends world asked before after status
   -- where no device failed, memory sufficed and the limits are kept, the output, the log and the status are the stated functions
-  pub freely : RanFreely course before after → IsMerge course before after status
-  -- the run goes its whole course, or one thing stops it, whose line is then the log
-  pub ends : Ends course before after status
+  pub freely : Tell before → RanFreely (asked_course world asked) before after → IsMerge (asked_course world asked) before after status
+  -- the output is never anything else than a front of the merged lines, and the status is 0 only where it is all of them
+  pub prints : IsTrue before.shelf.tells → IsTrue before.out.tells → Prints (asked_course world asked) before after status
   -- a web that breaks the limits is never answered by 0
-  pub limits : ¬ StaysWithin course → status ≡ 1
+  pub limits : IsTrue before.shelf.tells → ¬ StaysWithin (asked_course world asked) → status ≡ 1
   -- no device fails twice
   pub once : FailsOnce before after
+  -- no fault of a device is passed over
+  pub faults : TellsFaults before after status

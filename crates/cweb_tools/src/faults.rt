@@ -1,60 +1,89 @@
 // The lines of the log for the faults of webs and change files.
-ghost use Rattle.std.specs.Prelude.{◌≡◌, ◌<◌, ◌++◌, length, decimal, All, IfOk, OnOk};
+ghost use Rattle.std.specs.Prelude.{◌≡◌, ◌<◌, ◌+◌, ◌^◌, ◌++◌, codes, length, All};
 ghost use Rattle.cweb_lines.specs.Names.{names_of};
-ghost use Rattle.cweb_tools.specs.Log.{kind_text, count_text, fault_line, fault_lines};
+ghost use Rattle.cweb_tools.specs.Gathered.{pending};
+ghost use Rattle.cweb_tools.specs.Gathering.{Writes, GathersMore};
+ghost use Rattle.cweb_tools.specs.Log.{fault_line, fault_lines, kind_text, located_line};
+ghost use Rattle.cweb_tools.specs.Seen.{seen_stream};
 
-use cweb_lines::{FileNames, SourceFault, SourceKind};
+use crate::gathered::Gathered;
+use cweb_lines::{FileNames, Sink, SinkFault, SourceFault, SourceKind};
 use itoa::Buffer;
-use std::alloc::{AllocError, Global};
 
-/// The lines of faults in their order, each with the name of its file and its line number.
-pub fn fault_lines(
-    alloc: Global,
+/// Writes the lines of faults to the log in their order, each with the name of its file and its line number. They are
+/// gathered and written in large pieces, and take no memory.
+pub fn write_faults<L: Sink>(
+    log: &mut L,
     names: &FileNames,
     faults: &[SourceFault],
-) -> Result<Vec<u8>, AllocError>
-    requires { All (λ fault. fault.place.file.0 < length (names_of names.now)) faults.now }
-    ensures { IfOk result (λ lines. lines.items ≡ fault_lines (names_of names.now) faults.now) }
+) -> Result<(), SinkFault>
+    requires count { L.failed log.old + 1 < 2 ^ 64 }
+    requires known { All (λ fault. fault.place.file.0 < length (names_of names.now)) faults.now }
+    ensures { Writes (fault_lines (names_of names.now) faults.now) (seen_stream L.Sink log.old) (seen_stream L.Sink log.new) result }
 {
-    let mut lines = Vec::new(alloc);
+    let mut gathered = Gathered::new();
     'faults: for fault in faults {
-        push_fault_line(&mut lines, names, fault)?;
+        add_fault(&mut gathered, log, names, fault)?;
     }
-    Ok(lines)
+    gathered.pass_on(log)
 }
 
-fn push_fault_line(
-    lines: &mut Vec<u8>,
+fn add_fault<L: Sink>(
+    gathered: &mut Gathered,
+    log: &mut L,
     names: &FileNames,
     fault: &SourceFault,
-) -> Result<(), AllocError>
-    requires { fault.now.place.file.0 < length (names_of names.now) }
-    ensures { OnOk result (lines.new.items ≡ lines.old.items ++ fault_line (names_of names.now) fault.now) }
+) -> Result<(), SinkFault>
+    requires count { L.failed log.old + 1 < 2 ^ 64 }
+    requires known { fault.now.place.file.0 < length (names_of names.now) }
+    ensures { GathersMore (fault_line (names_of names.now) fault.now) (seen_stream L.Sink log.old) (seen_stream L.Sink log.new) (pending gathered.old) (pending gathered.new) result }
 {
-    lines.extend_from_slice(names.get(fault.place.file).as_bytes())?;
-    lines.extend_from_slice(b":")?;
-    push_number(lines, fault.place.line)?;
-    lines.extend_from_slice(b": ! ")?;
-    lines.extend_from_slice(kind_text(fault.kind).as_bytes())?;
-    push_count(lines, fault.kind, fault.count)?;
-    lines.extend_from_slice(b"\n")
-}
-
-fn push_number(lines: &mut Vec<u8>, number: u32) -> Result<(), AllocError>
-    ensures { OnOk result (lines.new.items ≡ lines.old.items ++ decimal number) }
-{
-    let mut digits = Buffer::new();
-    lines.extend_from_slice(digits.format(number).as_bytes())
-}
-
-fn push_count(lines: &mut Vec<u8>, kind: SourceKind, count: u32) -> Result<(), AllocError>
-    ensures { OnOk result (lines.new.items ≡ lines.old.items ++ count_text kind count) }
-{
-    if let SourceKind::Unequal = kind {
-        lines.extend_from_slice(b": ")?;
-        push_number(lines, count)?;
+    let file = names.get(fault.place.file);
+    let text = kind_text(fault.kind);
+    let mut line = Buffer::new();
+    let line = line.format(fault.place.line);
+    if let SourceKind::Unequal = fault.kind {
+        let mut count = Buffer::new();
+        return add_located(
+            gathered,
+            log,
+            file,
+            line,
+            text,
+            ": ",
+            count.format(fault.count),
+        );
     }
-    Ok(())
+    add_located(gathered, log, file, line, text, "", "")
+}
+
+/// Adds a line on a place, which ends in a number where the fault has one.
+fn add_located<L: Sink>(
+    gathered: &mut Gathered,
+    log: &mut L,
+    file: &str,
+    line: &str,
+    text: &str,
+    sign: &str,
+    count: &str,
+) -> Result<(), SinkFault>
+    requires { L.failed log.old + 1 < 2 ^ 64 }
+    ensures { GathersMore (located_line file.now line.now (text.now ++ (sign.now ++ (count.now ++ codes "\n"))))
+        (seen_stream L.Sink log.old) (seen_stream L.Sink log.new) (pending gathered.old) (pending gathered.new) result }
+{
+    gathered.add_line(
+        log,
+        &[
+            file.as_bytes(),
+            b":",
+            line.as_bytes(),
+            b": ! ",
+            text.as_bytes(),
+            sign.as_bytes(),
+            count.as_bytes(),
+            b"\n",
+        ],
+    )
 }
 
 fn kind_text(kind: SourceKind) -> &'static str

@@ -4,12 +4,13 @@
 
 mod devices;
 mod faults;
+mod gathered;
 mod stops;
 mod wmerge;
 mod words;
 
 pub use devices::{FolderShelf, StdSink};
-pub use faults::fault_lines;
+pub use faults::write_faults;
 pub use stops::write_stop;
 pub use wmerge::run_wmerge;
 pub use words::MergeWords;

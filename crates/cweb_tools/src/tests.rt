@@ -7,6 +7,7 @@ use std::test::Fail;
 mod changes;
 mod command_line;
 mod failing;
+mod gathering;
 mod streams;
 
 use failing::{FailingShelf, FailingSink};

@@ -1,19 +1,18 @@
 // A run of `wmerge`.
-ghost use Rattle.std.specs.Prelude.{◌≡◌, ◌≢◌, ◌<◌, ◌≤◌, ◌+◌, ◌^◌, length, map, All, IsTrue, None, Some};
+ghost use Rattle.std.specs.Prelude.{◌≡◌, ◌≢◌, ◌<◌, ◌≤◌, ◌+◌, ◌^◌, length, map, All, None, Some};
 ghost use Rattle.std.specs.Option.{option_copied};
 ghost use Rattle.cweb_lines.specs.Names.{names_of as file_names};
 ghost use Rattle.cweb_lines.specs.Texts.{files_named};
-ghost use Rattle.cweb_tools.specs.Log.{fault_lines, stop_line, subject};
-ghost use Rattle.cweb_tools.specs.Run.{Logs, LogsFaults, Ends, Promises, Refuses, course_by, asked_course, start_subject, folder_of, fault_status, usage};
-ghost use Rattle.cweb_tools.specs.Seen.{seen, Tell};
+ghost use Rattle.cweb_tools.specs.Course.{asked_course, change_name, fault_status, folder_of, world_of};
+ghost use Rattle.cweb_tools.specs.Log.{fault_lines, start_subject, stop_line, subject};
+ghost use Rattle.cweb_tools.specs.Run.{Logs, Merges, Promises};
+ghost use Rattle.cweb_tools.specs.Seen.{seen, seen_stream};
 ghost use Rattle.cweb_tools.specs.Words.{asked_by, names_of};
 
-use crate::faults::fault_lines;
+use crate::faults::write_faults;
 use crate::stops::write_stop;
 use crate::words::MergeWords;
-use cweb_lines::{
-    FileNames, Merger, Shelf, Sink, SourceFault, Stop, write_all, write_merged_in_pieces,
-};
+use cweb_lines::{FileNames, Merger, Shelf, Sink, SourceFault, Stop, write_merged_in_pieces};
 use std::alloc::Global;
 
 /// The bytes that are gathered before they are written.
@@ -34,14 +33,10 @@ pub fn run_wmerge<S: Shelf, W: Sink, L: Sink>(
     requires shelf_count { S.failed shelf.old + 1 < 2 ^ 64 }
     requires out_count { W.failed out.old + 1 < 2 ^ 64 }
     requires log_count { L.failed log.old + 1 < 2 ^ 64 }
-    ensures promises { let before = seen S.Shelf W.Sink L.Sink shelf.old out.old log.old in let after = seen S.Shelf W.Sink L.Sink shelf.new out.new log.new in
-        Tell before → Promises (course_by before words.now inputs.entry) before after result }
-    ensures refuses { asked_by (map (λ word. word.now) words.now) ≡ None → IsTrue (L.tells log.old) →
-        Refuses (L.failed log.old) (L.failed log.new) (L.written log.old) (L.written log.new) result }
+    ensures promises { let before = seen S.Shelf W.Sink L.Sink shelf.old out.old log.old in
+        let asked = asked_by (map (λ word. word.now) words.now) in let world = world_of before.shelf.texts (option_copied inputs.entry) in
+        Promises world asked before (seen S.Shelf W.Sink L.Sink shelf.new out.new log.new) result }
     ensures untouched { asked_by (map (λ word. word.now) words.now) ≡ None → (shelf.new ≡ shelf.old) × (out.new ≡ out.old) }
-    ensures shelf_failed { S.failed shelf.new ≢ S.failed shelf.old → result ≡ 1 }
-    ensures out_failed { W.failed out.new ≢ W.failed out.old → result ≡ 1 }
-    ensures log_failed { L.failed log.new ≢ L.failed log.old → result ≡ 1 }
 {
     let asked = match MergeWords::read(alloc, words) {
         Ok(asked) => asked,
@@ -61,11 +56,8 @@ fn merge_web<S: Shelf, W: Sink, L: Sink>(
     requires shelf_count { S.failed shelf.old + 1 < 2 ^ 64 }
     requires out_count { W.failed out.old + 1 < 2 ^ 64 }
     requires log_count { L.failed log.old + 1 < 2 ^ 64 }
-    ensures ends { let before = seen S.Shelf W.Sink L.Sink shelf.old out.old log.old in let after = seen S.Shelf W.Sink L.Sink shelf.new out.new log.new in
-        Tell before → Ends (asked_course (record { texts = before.shelf.texts; inputs = folder_of (option_copied inputs.entry) }) (Some (names_of asked.now))) before after result }
-    ensures shelf_failed { S.failed shelf.new ≢ S.failed shelf.old → result ≡ 1 }
-    ensures out_failed { W.failed out.new ≢ W.failed out.old → result ≡ 1 }
-    ensures log_failed { L.failed log.new ≢ L.failed log.old → result ≡ 1 }
+    ensures { let before = seen S.Shelf W.Sink L.Sink shelf.old out.old log.old in let world = world_of before.shelf.texts (option_copied inputs.entry) in
+        Merges (names_of asked.now) (asked_course world (Some (names_of asked.now))) before (seen S.Shelf W.Sink L.Sink shelf.new out.new log.new) result }
 {
     let started = Merger::start(
         alloc,
@@ -80,7 +72,7 @@ fn merge_web<S: Shelf, W: Sink, L: Sink>(
         Err(stop) => return log_stop(log, stop, start_subject(asked, stop)),
     };
     match write_merged_in_pieces(&mut merger, shelf, out, PIECE) {
-        Ok(()) => log_faults(alloc, log, merger.names(), merger.faults()),
+        Ok(()) => log_faults(log, merger.names(), merger.faults()),
         Err(stop) => log_stop(log, stop, subject(merger.names(), stop)),
     }
 }
@@ -97,11 +89,12 @@ fn folder(inputs: Option<&str>) -> Option<&str>
 
 /// What a stop at the start of a merge is about.
 fn start_subject(asked: &MergeWords, stop: Stop) -> &str
-    ensures { result.now ≡ start_subject (names_of asked.now) stop }
+    ensures { result.now ≡ start_subject (names_of asked.now).web (change_name (names_of asked.now).change) stop }
 {
     match stop {
+        Stop::WebNotOpened => asked.web.as_str(),
         Stop::ChangeNotOpened => asked.change().unwrap_or(""),
-        _ => asked.web.as_str(),
+        _ => "",
     }
 }
 
@@ -121,23 +114,21 @@ fn subject(names: &FileNames, stop: Stop) -> &str
 fn log_stop<L: Sink>(log: &mut L, stop: Stop, name: &str) -> u8
     requires { L.failed log.old + 1 < 2 ^ 64 }
     ensures status { result ≡ 1 }
-    ensures logs { IsTrue (L.tells log.old) → Logs (stop_line stop name.now) (L.failed log.old) (L.failed log.new) (L.written log.old) (L.written log.new) }
+    ensures logs { Logs (stop_line stop name.now) (seen_stream L.Sink log.old) (seen_stream L.Sink log.new) }
 {
     let _ = write_stop(log, stop, name);
     1
 }
 
 /// Logs the faults of a merge, and answers the status of a run that ends so.
-fn log_faults<L: Sink>(alloc: Global, log: &mut L, names: &FileNames, faults: &[SourceFault]) -> u8
+fn log_faults<L: Sink>(log: &mut L, names: &FileNames, faults: &[SourceFault]) -> u8
     requires count { L.failed log.old + 1 < 2 ^ 64 }
     requires known { All (λ fault. fault.place.file.0 < length (file_names names.now)) faults.now }
-    ensures logs { IsTrue (L.tells log.old) → LogsFaults (file_names names.now) faults.now (L.failed log.old) (L.failed log.new) (L.written log.old) (L.written log.new) result }
+    ensures logs { Logs (fault_lines (file_names names.now) faults.now) (seen_stream L.Sink log.old) (seen_stream L.Sink log.new) }
+    ensures answered { L.failed log.new ≡ L.failed log.old → result ≡ fault_status faults.now }
     ensures failed { L.failed log.new ≢ L.failed log.old → result ≡ 1 }
 {
-    let Ok(lines) = fault_lines(alloc, names, faults) else {
-        return log_stop(log, Stop::Memory, "");
-    };
-    if write_all(log, &lines).is_err() {
+    if write_faults(log, names, faults).is_err() {
         return 1;
     }
     u8::from(!faults.is_empty())

@@ -1,11 +1,17 @@
-use Rattle.std.proofs.Common.{refl, ap}
-use Rattle.std.specs.Prelude.{Err}
-use Rattle.cweb_tools.proofs.Endings.{words_stopped, promises}
+use Rattle.std.proofs.Common.{◌≡◌, ap, refl}
+use Rattle.std.specs.Prelude.{Result, Err}
+use Rattle.cweb_lines.specs.declared.stop.Stop.{Stop}
+use Rattle.cweb_tools.proofs.Exits.{words_stopped}
+use Rattle.cweb_tools.proofs.Promises.{promises}
 use Rattle.cweb_tools.proofs.wmerge.run_wmerge.Goals as goal
 
+same_stop : {A : Type 0} (r : Result A Stop) (one other : Stop) → r ≡ Err one → r ≡ Err other → one ≡ other
+same_stop r one other is too = cc
+
 pub returns-in-Err-clause-promises : goal.returns-in-Err-clause-promises
-returns-in-Err-clause-promises g c = λ (shelf, out, log).
-    promises _ _ _ _ (words_stopped c.in-Err.stop _ _ _ _ _ c.in-Err.ensures.stops (λ is. c.in-Err.ensures.usage.0 (ap Err is)) refl refl refl (c.log_stop.ensures.logs log) c.log_stop.ensures.status)
+returns-in-Err-clause-promises g c =
+    promises _ _ _ _ _ (words_stopped _ _ _ refl refl c.log_stop.ensures.status _ _ c.in-Err.stop c.in-Err.ensures.stops
+    (λ is. c.in-Err.ensures.usage.0 (ap Err is)) (λ none. same_stop _ _ _ refl (c.in-Err.ensures.usage.1 none)) c.log_stop.ensures.logs)
 
 pub returns-clause-promises : goal.returns-clause-promises
-returns-clause-promises g c = λ tell. promises _ _ _ _ (rw c.in-Ok.ensures.ok (c.merge_web.ensures.ends tell))
+returns-clause-promises g c = promises _ _ _ _ _ (rw c.in-Ok.ensures.ok c.merge_web.ensures)
