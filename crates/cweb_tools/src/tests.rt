@@ -117,7 +117,8 @@ fn included_files(rt: HostRuntime) -> Result<(), Fail> {
 
     // a file that includes itself, twenty deep
     let deep = "a.w:2: ! Too many nested includes\n";
-    let lines = "P\nP\nP\nP\nP\nP\nP\nP\nP\nP\nP\nP\nP\nP\nP\nP\nP\nP\nP\nP\nQ\nQ\nQ\nQ\nQ\nQ\nQ\nQ\nQ\nQ\nQ\nQ\nQ\nQ\nQ\nQ\nQ\nQ\nQ\nQ\n";
+    let lines =
+        "P\nP\nP\nP\nP\nP\nP\nP\nP\nP\nP\nP\nP\nP\nP\nP\nP\nP\nP\nP\nQ\nQ\nQ\nQ\nQ\nQ\nQ\nQ\nQ\nQ\nQ\nQ\nQ\nQ\nQ\nQ\nQ\nQ\nQ\nQ\n";
     check_run(
         &rt,
         &["a"],

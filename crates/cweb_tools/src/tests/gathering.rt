@@ -1,4 +1,6 @@
 // Many faults: their lines come in large pieces.
+ghost use Rattle.std.specs.Prelude.{[], false};
+
 use super::*;
 use crate::write_faults;
 use cweb_lines::{Merger, SinkFault};
@@ -8,6 +10,7 @@ use cweb_lines::{Merger, SinkFault};
 struct Counting {
     sink: MemorySink,
     writes: u64,
+    failed: u64,
 }
 
 impl Sink for Counting {
@@ -15,15 +18,25 @@ impl Sink for Counting {
 
     ghost written = { λ _. [] };
 
-    ghost failed = { λ sink. sink.sink.failed };
+    ghost failed = { λ sink. sink.failed };
 
     fn write(&mut self, piece: &[u8]) -> Result<usize, SinkFault> {
         self.writes = self.writes.saturating_add(1);
-        self.sink.write(piece)
+        if self.sink.failures() > 0 {
+            self.failed += 1;
+            return Err(SinkFault);
+        }
+        match self.sink.write(piece) {
+            Ok(n) => Ok(n),
+            Err(fault) => {
+                self.failed += 1;
+                Err(fault)
+            }
+        }
     }
 
     fn failures(&self) -> u64 {
-        self.sink.failures()
+        self.failed
     }
 }
 
@@ -44,6 +57,7 @@ fn a_thousand_faults_are_few_writes(rt: HostRuntime) -> Result<(), Fail> {
     let mut log = Counting {
         sink: MemorySink::with_room(alloc, ROOM)?,
         writes: 0,
+        failed: 0,
     };
     assert_eq!(rt;
         run_wmerge(alloc, &["a"], None, &mut shelf, &mut out, &mut log),
