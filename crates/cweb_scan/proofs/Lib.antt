@@ -8,6 +8,7 @@ pub mod Pieces
 pub mod Bounds
 pub mod OpenItems
 pub mod Openers
+pub mod Gaps
 pub mod LineUnits
 pub mod TakenItems
 mod RowWords

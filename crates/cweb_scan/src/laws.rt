@@ -1,10 +1,13 @@
 // What holds of the pieces of each text, and of what is kept of each web.
 
-ghost use Rattle.std.specs.Prelude.{◌≡◌, List, ℕ};
+ghost use Rattle.std.specs.Prelude.{◌≡◌, ◌∷◌, List, ℕ, true, false};
+ghost use Rattle.cweb_rules.specs.Bytes.{is_blank};
 ghost use Rattle.cweb_rules.specs.Kinds.{Piece};
+ghost use Rattle.cweb_rules.specs.declared.context.Context.TheVariants.{CText};
 ghost use Rattle.cweb_scan.specs.After.{Reading};
+ghost use Rattle.cweb_scan.specs.Directives.{in_directive};
 ghost use Rattle.cweb_scan.specs.Law.{ArePieces, IsBounded, web_size};
-ghost use Rattle.cweb_scan.specs.Run.{PlacedLine, pieces, scanned};
+ghost use Rattle.cweb_scan.specs.Run.{PlacedLine, pieces, run, scanned};
 
 /// The pieces of a text are the one list of what the rules name at the front of the rest, again and again.
 pub fn pieces_are_one()
@@ -16,3 +19,10 @@ pub fn pieces_are_one()
 pub fn store_is_bounded()
     ensures { (lines : List PlacedLine) → IsBounded (scanned lines).store (web_size lines) }
 {}
+
+/// Blanks between two pieces of C text outside directives change nothing: what is read after a text with one blank more is what
+/// is read after the text.
+pub fn blanks_change_nothing()
+    ensures { (r : Reading) (b : ℕ) (t : List ℕ) → r.state.context ≡ CText → in_directive r.state ≡ false → is_blank b ≡ true → run r (b ∷ t) ≡ run r t }
+{
+}
