@@ -22,3 +22,6 @@ pub use effect::Effect;
 pub use end::End;
 pub use fault::{ScanFault, ScanKind};
 pub use look::Look;
+
+#[cfg(test)]
+mod tests;

@@ -1,10 +1,10 @@
 -- Blanks between two pieces of C text.
-use Rattle.std.proofs.Common.{◌≡◌, ℕ, suc, ◌+◌, Bool, true, false, ◌&&◌, List, [], ◌∷◌, drop, take, refl, ap, sym, ◌∙◌, arith}
+use Rattle.std.proofs.Common.{◌≡◌, ℕ, suc, Bool, true, false, ◌&&◌, List, [], ◌∷◌, drop, take, refl, ap, sym, ◌∙◌, arith}
 use Rattle.std.specs.Prelude.{if◌then◌else◌, not}
-use Rattle.std.specs.List.{fold, prefix_len}
+use Rattle.std.specs.List.{prefix_len}
 use Rattle.cweb_rules.specs.Bytes.{is_blank}
 use Rattle.cweb_rules.specs.Fronts.{front_in}
-use Rattle.cweb_rules.specs.Kinds.{Blanks, Front, front, Piece}
+use Rattle.cweb_rules.specs.Kinds.{Blanks, Front, front}
 use Rattle.cweb_rules.specs.declared.context.Context.{Context}
 use Rattle.cweb_rules.specs.declared.context.Context.TheVariants.{CText}
 use Rattle.cweb_store.specs.Parts.{Blank}
@@ -41,9 +41,9 @@ passed r b t h d e =
 pub one_more : (r : Reading) (b : ℕ) (t : List ℕ) → r.state.context ≡ CText → in_directive r.state ≡ false → is_blank b ≡ true → run r (b ∷ t) ≡ run r t
 one_more r b [] h d e = passed r b [] h d e
 one_more r b (c ∷ t) h d e = passed r b (c ∷ t) h d e ∙ (elim (is_blank c) as (λ v. is_blank c ≡ v → run r (drop (prefix_len is_blank (c ∷ t)) (c ∷ t)) ≡ run r (c ∷ t)) [
-    true ↦ λ f. ap (λ k. run r (drop k (c ∷ t))) (longer_prefix c t f) ∙ sym (passed r c t h d f)
+  | true ↦ λ f. ap (λ k. run r (drop k (c ∷ t))) (longer_prefix c t f) ∙ sym (passed r c t h d f)
   | false ↦ λ f. ap (λ k. run r (drop k (c ∷ t))) (none_there c t f)
-  ]) refl
+]) refl
   where
     none_there : (b : ℕ) (t : List ℕ) → is_blank b ≡ false → prefix_len is_blank (b ∷ t) ≡ 0
     none_there b t f = grind (arith, f)

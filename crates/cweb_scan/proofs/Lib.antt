@@ -1,4 +1,6 @@
 pub mod Steps
+pub mod Rooms
+pub mod Spelling
 pub mod Drops
 pub mod Fairs
 pub mod Measures

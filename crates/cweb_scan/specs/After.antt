@@ -6,7 +6,7 @@ use Rattle.cweb_files.specs.declared.place.Place.{Place}
 use Rattle.cweb_store.specs.declared.name.NameRef.{NameRef}
 use Rattle.cweb_store.specs.declared.part.PartKind.TheVariants as part
 use Rattle.cweb_store.specs.Parts.{Token, Word, Number, Literal, Verbatim, Punct, Blank, Newline, Join, Defs, Name, Mark}
-use Rattle.cweb_store.specs.Calls.{with_open, with_dropped, with_occurrence, with_replacement}
+use Rattle.cweb_store.specs.Calls.{with_open, with_dropped, with_replacement}
 use Rattle.cweb_rules.specs.declared.fault.ScanKind.TheVariants.{ReplacementTooLong, NameDidNotEnd, NamesDoNotNest, CommentDidNotEnd, StringDidNotEnd, DoubleAtInString, ControlTextDidNotEnd, FaultyConstant, MissingAt}
 use Rattle.cweb_rules.specs.Bytes.{is_line_end}
 use Rattle.cweb_rules.specs.declared.effect.Effect.{Effect}
@@ -19,7 +19,7 @@ use Rattle.cweb_rules.specs.Items.{text_in}
 use Rattle.cweb_rules.specs.Kinds.{Kind, Piece}
 use Rattle.cweb_rules.specs.Kinds as kind
 use Rattle.cweb_scan.specs.Names.{occurrence_in}
-use Rattle.cweb_scan.specs.State.{State, give, fault_at, fault, moved, begin_part, end_macro, drop_definition, begin_section}
+use Rattle.cweb_scan.specs.State.{State, give, with_name, fault_at, fault, moved, begin_part, end_macro, drop_definition, begin_section}
 use Rattle.cweb_rules.specs.declared.context.Context.{Context}
 use Rattle.cweb_rules.specs.declared.context.Context.TheVariants.{Limbo, TeX, Definition, Macro, CText}
 
@@ -134,7 +134,7 @@ name_in CText n opens begun s = use_name n opens begun s
 abbrev pub occurrence : Bool → List ℕ → End → Bool → Place → State → State
 occurrence is_file text how opens begun s =
     let n : NameRef = record { 0 = length s.contents.occurrences } in
-    name_in s.context n opens begun (name_fault how begun (record s { contents = with_occurrence (occurrence_in is_file text) s.contents }))
+    name_in s.context n opens begun (name_fault how begun (with_name (occurrence_in is_file text) s))
 
 abbrev pub literal : List ℕ → End → Place → State → State
 literal text Closed begun s = give (Literal text) s

@@ -10,3 +10,8 @@ pub record HasRoom (tokens : ℕ) (s : State) : Type 0 where
   pub for_a_part : part_count s.contents.parts + 1 < too_many
   pub for_an_occurrence : length s.contents.occurrences + 1 < too_many
   pub for_a_section : s.sections + 1 < too_many
+
+-- it takes a part and two tokens
+pub record HasPartRoom (s : State) : Type 0 where
+  pub for_tokens : token_count s.contents.parts + 2 < too_many
+  pub for_a_part : part_count s.contents.parts + 1 < too_many

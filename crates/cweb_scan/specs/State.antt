@@ -3,7 +3,8 @@ use Rattle.std.specs.Prelude.{ℕ, ◌+◌, Bool, true, false, List, [], ◌∷�
 use Rattle.cweb_files.specs.declared.place.Place.{Place}
 use Rattle.cweb_store.specs.declared.part.PartKind.{PartKind}
 use Rattle.cweb_store.specs.Parts.{Token, Head, Tail, Mark, Part}
-use Rattle.cweb_store.specs.Calls.{Contents, empty, with_token, with_open, with_closed}
+use Rattle.cweb_store.specs.Names.{Occurrence}
+use Rattle.cweb_store.specs.Calls.{Contents, empty, with_token, with_open, with_closed, with_occurrence}
 use Rattle.cweb_rules.specs.declared.context.Context.{Context}
 use Rattle.cweb_rules.specs.declared.context.Context.TheVariants.{Limbo, TeX, Definition, Macro, CText}
 use Rattle.cweb_rules.specs.declared.fault.ScanFault.{ScanFault}
@@ -36,6 +37,9 @@ part_tokens s = tokens_of s.contents.parts.current
 
 abbrev pub give : Token → State → State
 give t s = record s { contents = with_token t s.contents }
+
+abbrev pub with_name : Occurrence → State → State
+with_name o s = record s { contents = with_occurrence o s.contents }
 
 abbrev pub fault_at : ScanKind → Place → State → State
 fault_at kind place s = record s { faults = s.faults ++ record { kind = kind; place = place } ∷ [] }

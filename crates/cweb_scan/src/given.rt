@@ -13,7 +13,7 @@ impl Scanner {
     ghost use Rattle.cweb_scan.specs.After.{code, letter as letter_set, control_text as control_text_passed, verbatim as verbatim_given, constant as constant_given, comment as comment_passed, name_fault as with_name_fault, use_name as name_used, open_name as name_opened, literal as literal_given};
     ghost use Rattle.cweb_rules.specs.declared.effect.Effect.TheVariants as effect;
     ghost use Rattle.cweb_scan.specs.Kept.{has_part};
-    ghost use Rattle.cweb_scan.specs.Room.{HasRoom};
+    ghost use Rattle.cweb_scan.specs.Room.{HasPartRoom, HasRoom};
     ghost use Rattle.cweb_scan.specs.State.{end_macro as macro_ended};
 
     /// `@d`: a definition begins.
@@ -115,7 +115,7 @@ impl Scanner {
     /// In C text a name is a use, and an opener sign behind it is a fault.
     pub fn use_name(&mut self, name: NameRef, opens: bool, begun: Place) -> Result<(), AllocError>
         requires part { has_part self.old.context ≡ true }
-        requires room { HasRoom 2 self.old }
+        requires room { HasPartRoom self.old }
         ensures { OnOk result (self.new ≡ name_used name opens begun self.old) }
     {
         self.give(Token::Name(name))?;
@@ -129,7 +129,7 @@ impl Scanner {
     /// In text a name with an opener sign opens a part.
     pub fn open_name(&mut self, name: NameRef, opens: bool) -> Result<(), AllocError>
         requires closed { has_part (macro_ended self.old).context ≡ false }
-        requires room { HasRoom 2 (macro_ended self.old) }
+        requires room { HasPartRoom (macro_ended self.old) }
         ensures { OnOk result (self.new ≡ name_opened name opens self.old) }
     {
         self.end_macro();

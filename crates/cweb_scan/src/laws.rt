@@ -24,5 +24,4 @@ pub fn store_is_bounded()
 /// is read after the text.
 pub fn blanks_change_nothing()
     ensures { (r : Reading) (b : ℕ) (t : List ℕ) → r.state.context ≡ CText → in_directive r.state ≡ false → is_blank b ≡ true → run r (b ∷ t) ≡ run r t }
-{
-}
+{}

@@ -6,6 +6,8 @@ mod directive;
 mod given;
 pub mod laws;
 mod line_ends;
+mod names;
+mod occurrences;
 mod parts;
 mod scanner;
 

@@ -12,14 +12,14 @@ impl Scanner {
     ghost use Rattle.cweb_store.specs.Parts.{is_macro};
     ghost use Rattle.cweb_scan.specs.After.{define as with_definition};
     ghost use Rattle.cweb_scan.specs.Kept.{has_part};
-    ghost use Rattle.cweb_scan.specs.Room.{HasRoom};
+    ghost use Rattle.cweb_scan.specs.Room.{HasPartRoom, HasRoom};
     ghost use Rattle.cweb_scan.specs.State.{begin_part as part_begun, begin_section as section_begun, drop_definition as definition_dropped, end_part as part_ended, end_macro as macro_ended, leave as left};
 
     /// Begins a part, whose opener ends here.
     pub fn begin_part(&mut self, kind: PartKind) -> Result<(), AllocError>
         requires closed { has_part self.old.context ≡ false }
         requires in_c { is_macro kind ≡ false }
-        requires room { HasRoom 2 self.old }
+        requires room { HasPartRoom self.old }
         ensures { OnOk result (self.new ≡ part_begun kind self.old) }
     {
         self.builder.open_part(kind)?;

@@ -14,6 +14,7 @@ use std::marker::Model;
 /// one that is open once the layout that is last is dropped.
 #[derive(Drop)]
 pub struct Scanner {
+    pub(crate) alloc: Global,
     pub(crate) context: Context,
     pub(crate) builder: Builder,
     pub(crate) faults: Vec<ScanFault>,
@@ -63,6 +64,7 @@ impl Scanner {
         ensures { result ≡ before_text here }
     {
         Scanner {
+            alloc,
             context: Context::Limbo,
             builder: Builder::new(alloc),
             faults: Vec::new(alloc),
