@@ -3,3 +3,4 @@ pub mod Exits
 pub mod Gathering
 pub mod Promises
 mod Rows
+mod TangleRows

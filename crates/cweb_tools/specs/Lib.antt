@@ -3,6 +3,7 @@ pub mod Devices
 pub mod Gathered
 pub mod Gathering
 pub mod Log
+pub mod Options
 pub mod Run
 pub mod Seen
 pub mod Words

@@ -5,12 +5,14 @@
 mod devices;
 mod faults;
 mod gathered;
+mod shown;
 mod stops;
 mod wmerge;
 mod words;
 
 pub use devices::{FolderShelf, StdSink};
 pub use faults::write_faults;
+pub use shown::Shown;
 pub use stops::write_stop;
 pub use wmerge::run_wmerge;
 pub use words::MergeWords;

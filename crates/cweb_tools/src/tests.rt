@@ -8,6 +8,7 @@ mod changes;
 mod command_line;
 mod failing;
 mod gathering;
+mod options;
 mod streams;
 
 use failing::{FailingShelf, FailingSink};

@@ -110,7 +110,7 @@ fn is_dash(word: &[u8]) -> bool
 }
 
 /// A word of two bytes or more that begins as an option does.
-fn is_option(word: &[u8]) -> bool
+pub(crate) fn is_option(word: &[u8]) -> bool
     ensures { result ≡ is_option word.now }
 {
     match word {
