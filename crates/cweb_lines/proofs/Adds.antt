@@ -7,9 +7,9 @@ use Rattle.cweb_lines.specs.Merge.{Event, took, fault}
 use Rattle.cweb_lines.specs.Merging.{SoFar, Gives, TellsFront, Adds, TellsSome, StopsAmong, Stopped}
 use Rattle.cweb_lines.specs.Texts.{Count, Took, StopsFor}
 use Rattle.cweb_lines.specs.Told.{given_lines, told_faults, openings, taken_lines, size_of, AreShort}
+use Rattle.cweb_lines.proofs.Stacks.{stops_map}
 use Rattle.cweb_lines.specs.declared.fault.SourceFault.{SourceFault}
 use Rattle.cweb_lines.specs.declared.stop.Stop.{Stop}
-use Rattle.cweb_lines.specs.declared.stop.Stop.TheVariants.{Usage, WebNotOpened, ChangeNotOpened, ReadFault, LineTooLong, TooMuchText, Memory, OutNotOpened, WriteFault, LogFault}
 use Rattle.cweb_lines.proofs.Merges.{given-append, told-append, openings-append, taken-append, size-append, short-append, lines_taken-append, bytes_taken-append}
 
 pub given-took : (lines : List SourceLine) → given_lines (map took lines) ≡ []
@@ -93,36 +93,24 @@ tells_some lines faults old new all later whole some = record {
 
 -- one of the lines of a step stops
 pub stopped_among : (stop : Stop) (lines : List SourceLine) (old now : Count) (all later : List Event) → all ≡ map took lines ++ later → StopsFor (StopsAmong stop old now lines) stop → Stopped stop old now all
-stopped_among Usage lines old now all later whole stops = stops
-stopped_among WebNotOpened lines old now all later whole stops = stops
-stopped_among ChangeNotOpened lines old now all later whole stops = stops
-stopped_among (ReadFault file) lines old now all later whole stops = stops
-stopped_among (LineTooLong file) lines old now all later whole stops = record {
-  events = map took stops.front;
-  line = stops.line;
-  later = map took stops.rest ++ later;
-  whole = whole
-      ∙ ap (λ (ls : List SourceLine). map took ls ++ later) stops.among
-      ∙ ap (λ (es : List Event). es ++ later) (map-append took stops.front (stops.line ∷ stops.rest))
-      ∙ append_assoc (map took stops.front) (took stops.line ∷ map took stops.rest) later;
-  given = given-took stops.front;
-  why = stops.why;
-}
-stopped_among TooMuchText lines old now all later whole stops =
+stopped_among stop lines old now all later whole = stops_map stop (λ stops.
     let few = ap (λ (es : List Event). length (taken_lines es)) whole ∙ lines_taken-append (map took lines) later in
     let small = ap (λ (es : List Event). size_of (taken_lines es)) whole ∙ bytes_taken-append (map took lines) later in
     let taken_lines_are = ap (λ (ls : List SourceLine). length ls) (taken-took lines) in
     let taken_bytes_are = ap size_of (taken-took lines) in
     record {
-      size = stops.line.size;
-      passes = stops.why;
+      events = map took stops.front;
+      line = stops.line;
+      later = map took stops.rest ++ later;
+      whole = whole
+          ∙ ap (λ (ls : List SourceLine). map took ls ++ later) stops.among
+          ∙ ap (λ (es : List Event). es ++ later) (map-append took stops.front (stops.line ∷ stops.rest))
+          ∙ append_assoc (map took stops.front) (took stops.line ∷ map took stops.rest) later;
+      given = given-took stops.front;
+      why = stops.why;
       few = omega (arith, few, taken_lines_are, stops.few);
       small = omega (arith, small, taken_bytes_are, stops.small);
-    }
-stopped_among Memory lines old now all later whole stops = stops
-stopped_among OutNotOpened lines old now all later whole stops = stops
-stopped_among WriteFault lines old now all later whole stops = stops
-stopped_among LogFault lines old now all later whole stops = stops
+    })
 
 -- nothing was told or taken
 pub adds_none : (old new : SoFar) → new ≡ old → Adds [] [] old new

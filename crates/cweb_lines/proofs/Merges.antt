@@ -12,15 +12,14 @@ use Rattle.cweb_lines.specs.Merge.{State, RawLine, Thing, raw, Event, took, give
 use Rattle.cweb_lines.specs.Stages.{begun_by}
 use Rattle.cweb_lines.specs.declared.limits.TheConstants.{OPEN_FILES}
 use Rattle.cweb_lines.specs.declared.text.LineAt.{LineAt}
-use Rattle.cweb_lines.specs.Merging.{SoFar, Gives, GivesBehind, Stopped}
+use Rattle.cweb_lines.specs.Merging.{SoFar, Gives, GivesBehind, Stopped, StopsBehind}
 use Rattle.cweb_lines.specs.Texts.{Count, Refuses, Took, TopStops, StopsFor}
 use Rattle.cweb_lines.specs.Told.{given_lines, told_faults, openings, taken_lines, size_of, AreShort}
 use Rattle.cweb_lines.specs.Total.{merge, merge_next}
 use Rattle.cweb_lines.specs.declared.fault.SourceFault.{SourceFault}
 use Rattle.cweb_lines.specs.declared.fault.SourceKind.TheVariants.{NoName, TooDeep, NotThere}
-use Rattle.cweb_lines.specs.declared.limits.TheConstants.{LINES, BYTES}
 use Rattle.cweb_lines.specs.declared.stop.Stop.{Stop}
-use Rattle.cweb_lines.specs.declared.stop.Stop.TheVariants.{Usage, WebNotOpened, ChangeNotOpened, ReadFault, LineTooLong, TooMuchText, Memory, OutNotOpened, WriteFault, LogFault}
+use Rattle.cweb_lines.proofs.Stacks.{stops_map}
 
 abbrev pub state : List Thing → Option Entry → List SourceLine → ℕ → State
 state things pending change files = record { things = things; pending = pending; change = change; files = files }
@@ -229,59 +228,44 @@ gives_both lines more old mid new all now later a b = record {
 }
 
 -- a stop behind what came
-pub stopped_after : (stop : Stop) (old mid : SoFar) (now : Count) (all rest : List Event) → Gives [] old mid all rest → Stopped stop mid.count now rest → Stopped stop old.count now all
-stopped_after Usage old mid now all rest gives stops = stops
-stopped_after WebNotOpened old mid now all rest gives stops = stops
-stopped_after ChangeNotOpened old mid now all rest gives stops = stops
-stopped_after (ReadFault file) old mid now all rest gives stops = stops
-stopped_after (LineTooLong file) old mid now all rest gives stops = record {
-  events = gives.events ++ stops.events;
-  line = stops.line;
-  later = stops.later;
-  whole = gives.whole ∙ ap (λ (es : List Event). gives.events ++ es) stops.whole ∙ sym (append_assoc gives.events stops.events (took stops.line ∷ stops.later));
-  given = given-append gives.events stops.events ∙ ap (λ (ls : List Line). ls ++ given_lines stops.events) gives.given ∙ stops.given;
-  why = stops.why;
-}
-stopped_after TooMuchText old mid now all rest gives stops =
-    let lines = ap (λ (es : List Event). length (taken_lines es)) gives.whole in
-    let bytes = ap (λ (es : List Event). size_of (taken_lines es)) gives.whole in
+pub behind_both : (lines more : List Line) (stop : Stop) (old mid : SoFar) (now : Count) (all rest : List Event) → Gives lines old mid all rest → StopsBehind more stop mid.count now rest
+    → StopsBehind (lines ++ more) stop old.count now all
+behind_both lines more stop old mid now all rest gives stops =
+    let lines_are = ap (λ (es : List Event). length (taken_lines es)) gives.whole in
+    let bytes_are = ap (λ (es : List Event). size_of (taken_lines es)) gives.whole in
     record {
-      size = stops.size;
-      passes = stops.passes;
-      few = omega (arith, lines, gives.lines_are, lines_taken-append gives.events rest, stops.few);
-      small = omega (arith, bytes, gives.bytes_are, bytes_taken-append gives.events rest, stops.small);
+      events = gives.events ++ stops.events;
+      line = stops.line;
+      later = stops.later;
+      whole = gives.whole ∙ ap (λ (es : List Event). gives.events ++ es) stops.whole ∙ sym (append_assoc gives.events stops.events (took stops.line ∷ stops.later));
+      given = given-append gives.events stops.events ∙ (λ i. gives.given i ++ stops.given i);
+      why = stops.why;
+      few = omega (arith, lines_are, gives.lines_are, lines_taken-append gives.events rest, stops.few);
+      small = omega (arith, bytes_are, gives.bytes_are, bytes_taken-append gives.events rest, stops.small);
     }
-stopped_after Memory old mid now all rest gives stops = stops
-stopped_after OutNotOpened old mid now all rest gives stops = stops
-stopped_after WriteFault old mid now all rest gives stops = stops
-stopped_after LogFault old mid now all rest gives stops = stops
+
+pub stopped_after : (stop : Stop) (old mid : SoFar) (now : Count) (all rest : List Event) → Gives [] old mid all rest → Stopped stop mid.count now rest → Stopped stop old.count now all
+stopped_after stop old mid now all rest gives = stops_map stop (behind_both [] [] stop old mid now all rest gives)
 
 -- the line that comes first is the one that stops
 pub stopped_first : (stop : Stop) (Why : Type 0) (count now : Count) (all : List Event) → now ≡ count
     → (Why → (line : SourceLine) × ((later : List Event) × (all ≡ took line ∷ later)) × Refuses stop count line) → StopsFor Why stop → Stopped stop count now all
-stopped_first Usage Why count now all same first stops = stops
-stopped_first WebNotOpened Why count now all same first stops = stops
-stopped_first ChangeNotOpened Why count now all same first stops = stops
-stopped_first (ReadFault file) Why count now all same first stops = stops
-stopped_first (LineTooLong file) Why count now all same first stops =
-    let line = first stops in
-    record { events = []; line = line.0; later = line.1.0; whole = line.1.1; given = refl; why = line.2 }
-stopped_first TooMuchText Why count now all same first stops =
-    let line = first stops in
+stopped_first stop Why count now all same first = stops_map stop (λ why.
+    let line = first why in
     let lines = ap (λ (es : List Event). length (taken_lines es)) line.1.1 in
     let bytes = ap (λ (es : List Event). size_of (taken_lines es)) line.1.1 in
     let now_lines = ap (λ (c : Count). c.lines) same in
     let now_bytes = ap (λ (c : Count). c.bytes) same in
     record {
-      size = line.0.size;
-      passes = subst (λ (c : Count). (c.lines ≡ LINES) ⊎ (BYTES < c.bytes + line.0.size)) (sym same) line.2;
+      events = [];
+      line = line.0;
+      later = line.1.0;
+      whole = line.1.1;
+      given = refl;
+      why = subst (λ (c : Count). Refuses stop c line.0) (sym same) line.2;
       few = omega (arith, lines, now_lines);
       small = omega (arith, bytes, now_bytes);
-    }
-stopped_first Memory Why count now all same first stops = stops
-stopped_first OutNotOpened Why count now all same first stops = stops
-stopped_first WriteFault Why count now all same first stops = stops
-stopped_first LogFault Why count now all same first stops = stops
+    })
 
 -- the first thing is a raw line that stops
 pub stopped_by : (stop : Stop) (count now : Count) (world : World) (things : List Thing) (pending : Option Entry) (change : List SourceLine) (files : ℕ) → now ≡ count → StopsFor (TopStops stop count things) stop

@@ -7,7 +7,7 @@ use Rattle.cweb_lines.specs.Merge.{Thing, raw, raws}
 use Rattle.cweb_lines.specs.Texts.{Count, things_at, things_over, matches_at, text_depth, lines_at, number_of, most, DeepAt, gap_at, gaps_from, StaysBelow, Pushes, TakesLine, TakesFirst, raw_at, StopsFor, FirstStops, TopStops}
 use Rattle.cweb_lines.specs.declared.stack.Stack.{Stack}
 use Rattle.cweb_lines.specs.declared.stop.Stop.{Stop}
-use Rattle.cweb_lines.specs.declared.stop.Stop.TheVariants.{Usage, WebNotOpened, ChangeNotOpened, ReadFault, LineTooLong, TooMuchText, Memory, OutNotOpened, WriteFault, LogFault}
+use Rattle.cweb_lines.specs.declared.stop.Stop.TheVariants.{ReadFault, LineTooLong, TooMuchText, Memory}
 use Rattle.cweb_lines.specs.declared.text.LineAt.{LineAt}
 use Rattle.cweb_lines.specs.declared.text.OpenText.{OpenText}
 
@@ -135,16 +135,11 @@ deep-set place (suc at) p (text ∷ texts) slot is deep top =
 
 -- the same stop for another reason
 pub stops_map : {A B : Type 0} (stop : Stop) → (A → B) → StopsFor A stop → StopsFor B stop
-stops_map Usage map stops = stops
-stops_map WebNotOpened map stops = stops
-stops_map ChangeNotOpened map stops = stops
 stops_map (ReadFault file) map stops = stops
 stops_map (LineTooLong file) map stops = map stops
 stops_map TooMuchText map stops = map stops
 stops_map Memory map stops = stops
-stops_map OutNotOpened map stops = stops
-stops_map WriteFault map stops = stops
-stops_map LogFault map stops = stops
+stops_map stop map stops = absurd stops
 
 -- things that are the same as others, at the same count
 pub takes_same : (at : Option LineAt) (old mid new : List Thing) (bytes : List ℕ) (before before' after : Count) → old ≡ mid → before' ≡ before → TakesFirst mid at bytes new before' after → TakesFirst old at bytes new before after

@@ -82,14 +82,14 @@ line_reads TooLong stop file is = subst StopsReading (sym is) tt
 line_reads NoMemory stop file is = subst StopsReading (sym is) tt
 
 pub first_passes : (stop : Stop) (taken : Taken) (old new bytes : List ℕ) (file number : ℕ) (count : Count) → taken ≢ Ended → Takes old taken bytes new
-    → stop ≡ TooMuchText → (count.lines ≡ LINES) ⊎ (BYTES < count.bytes + (length bytes + newline_bytes taken))
+    → length bytes ≤ LINE_LENGTH → stop ≡ TooMuchText → (count.lines ≡ LINES) ⊎ (BYTES < count.bytes + (length bytes + newline_bytes taken))
     → StopsFor (FirstStops stop count (numbered file number (text_lines old))) stop
-first_passes stop taken old new bytes file number count not takes is passes =
+first_passes stop taken old new bytes file number count not takes short is passes =
     subst (λ s. StopsFor (FirstStops s count (numbered file number (text_lines old))) s) (sym is) (record {
       line = source_line file number bytes taken;
       rest = numbered file (number + 1) (text_lines new);
       first = takes_line taken old new bytes file number not takes;
-      why = passes;
+      why = record { passes = passes; short = short };
     })
 
 -- the last byte of a front, where it is a blank, and where it is another

@@ -1,16 +1,21 @@
 -- How lines that were given out, gathered and written add up.
-use Rattle.std.proofs.Common.{◌≡◌, ◌≤◌, ◌<◌, ◌+◌, ◌⊎◌, ℕ, List, [], ◌∷◌, ◌++◌, length, refl, sym, ◌∙◌, ap, subst, inl, inr, arith, length-append}
+use Rattle.std.proofs.Common.{◌≡◌, ◌≤◌, ◌<◌, ◌+◌, ◌⊎◌, ℕ, List, [], ◌∷◌, ◌++◌, length, Option, Some, refl, sym, ◌∙◌, ap, subst, inl, inr, arith, length-append}
+use Rattle.std.specs.Prelude.{IsTrue}
 use Rattle.std.proofs.lemmas.List.{append-nil, append_assoc}
+use Rattle.cweb_files.specs.declared.device.Sink.{Ghosts as Sink}
+use Rattle.cweb_files.specs.Frames.{KeepsPlace, Writes}
 use Rattle.cweb_lines.specs.Lines.{Line}
-use Rattle.cweb_lines.specs.Merge.{Event, took}
-use Rattle.cweb_lines.specs.Merging.{SoFar, Gives, Stopped, TellsFront}
+use Rattle.cweb_lines.specs.Merge.{Event}
+use Rattle.cweb_lines.specs.Merging.{SoFar, Gives, Stopped, StopsBehind, TellsFront}
 use Rattle.cweb_lines.specs.Texts.{Count, StopsReading, read_blame, files_named}
-use Rattle.cweb_lines.specs.Told.{given_lines, told_faults, openings, taken_lines, size_of}
-use Rattle.cweb_lines.specs.Writing.{text_of, WritesFront, Gathered, FailsIn, PassesOn, StopsWriting, WritingStops, StopAfter, write_blame}
+use Rattle.cweb_lines.specs.Told.{given_lines, told_faults, openings}
+use Rattle.cweb_lines.specs.Whole.{KeepsStop}
+use Rattle.cweb_lines.specs.Writing.{text_of, WritesFront, WritesAll, WritesSome, WritesUpTo, Gathered, FailsAmong, LosesLine, PassesOn, StopsWriting, WritingStops, WritesRest, leaves, writes, fails, Failed, Blames, write_blame}
 use Rattle.cweb_lines.specs.declared.fault.SourceFault.{SourceFault}
 use Rattle.cweb_lines.specs.declared.stop.Stop.{Stop}
-use Rattle.cweb_lines.specs.declared.stop.Stop.TheVariants.{Usage, WebNotOpened, ChangeNotOpened, ReadFault, LineTooLong, TooMuchText, Memory, OutNotOpened, WriteFault, LogFault}
-use Rattle.cweb_lines.proofs.Merges.{given-append, told-append, openings-append, lines_taken-append, bytes_taken-append}
+use Rattle.cweb_lines.specs.declared.stop.Stop.TheVariants.{ReadFault, LineTooLong, TooMuchText, Memory, WriteFault}
+use Rattle.cweb_lines.proofs.Keeps.{place_told, writes_then}
+use Rattle.cweb_lines.proofs.Merges.{given-append, told-append, openings-append, gives_nothing, gives_both, behind_both}
 
 pub given_front : (lines : List Line) (old new : SoFar) (all later : List Event) → Gives lines old new all later → given_lines all ≡ lines ++ given_lines later
 given_front lines old new all later gives = ap given_lines gives.whole ∙ given-append gives.events later ∙ ap (λ (ls : List Line). ls ++ given_lines later) gives.given
@@ -32,9 +37,6 @@ pub text_of-append : (a b : List Line) → text_of (a ++ b) ≡ text_of a ++ tex
 text_of-append [] b = refl
 text_of-append (line ∷ a) b = ap (λ (t : List ℕ). line.bytes ++ 10 ∷ t) (text_of-append a b) ∙ sym (append_assoc line.bytes (10 ∷ text_of a) (text_of b))
 
-pub nothing_yet : (room : ℕ) (all : List Line) (old : List ℕ) → Gathered room all all old old []
-nothing_yet room all old = record { done = []; gathered = []; whole = refl; written = sym (append-nil old); piece_is = refl; alone = λ none. refl }
-
 some_lines : (lines : List Line) → 0 < length (text_of lines) → 0 < length lines
 some_lines [] some = some
 some_lines (line ∷ lines) some = omega arith
@@ -50,201 +52,217 @@ front_of_all all done gathered now old mid new piece whole written is front = re
       ∙ sym (append_assoc (text_of done) front.front (front.rest ++ text_of now));
 }
 
-module _ (room : ℕ) (all now : List Line) (old mid piece : List ℕ) (so_far : Gathered room all now old mid piece) where
-  -- nothing more was written
-  pub stays_front : WritesFront old mid (text_of all)
-  stays_front = front_of_all all so_far.done so_far.gathered now old mid mid piece so_far.whole so_far.written so_far.piece_is
-      (record { front = []; rest = piece; written = sym (append-nil mid); whole = refl })
+pub nothing_yet : {W : Type 0} (sink : Sink W) (w : W) (room : ℕ) (so : SoFar) (all : List Event) → Gathered room so so all all (Writes sink w w) []
+nothing_yet sink w room so all = record {
+  done = [];
+  gathered = [];
+  gives = gives_nothing so so all all refl refl refl refl;
+  wrote = λ tells. sym (append-nil (sink.written w));
+  piece_is = refl;
+  alone = λ none. refl;
+}
 
-  -- the rest was written, or a front of it
-  pub ends_front : (new : List ℕ) → WritesFront mid new piece → WritesFront old new (text_of all)
-  ends_front new front = front_of_all all so_far.done so_far.gathered now old mid new piece so_far.whole so_far.written so_far.piece_is front
+pub emptied : (room : ℕ) (piece rest : List ℕ) (Wrote : List ℕ → Type 0) → PassesOn room piece rest Wrote → room ≡ 0 → rest ≡ []
+emptied room piece rest Wrote (inl kept) none = absurd (omega (arith, kept.0, none))
+emptied room piece rest Wrote (inr wrote) none = wrote.0
 
-  pub ends_whole : (new : List ℕ) → now ≡ [] → new ≡ mid ++ piece → new ≡ old ++ text_of all
-  ends_whole new none wrote =
-      wrote ∙ (λ i. so_far.written i ++ so_far.piece_is i) ∙ append_assoc old (text_of so_far.done) (text_of so_far.gathered)
-      ∙ ap (λ (t : List ℕ). old ++ t) (sym (text_of-append so_far.done so_far.gathered))
-      ∙ ap (λ (ls : List Line). old ++ text_of ls) (ap (λ (ls : List Line). so_far.done ++ ls) (sym (append-nil so_far.gathered) ∙ ap (λ (ls : List Line). so_far.gathered ++ ls) (sym none)) ∙ sym so_far.whole)
+module _ {W : Type 0} (sink : Sink W) (first mid : W) (keeps : KeepsPlace sink first mid) (room : ℕ) (old so : SoFar) (all now : List Event) (piece : List ℕ) (g : Gathered room old so all now (Writes sink first mid) piece) where
+  lines_are : given_lines all ≡ g.done ++ (g.gathered ++ given_lines now)
+  lines_are = given_front (g.done ++ g.gathered) old so all now g.gives ∙ append_assoc g.done g.gathered (given_lines now)
 
-  pub ends_failing : (later : List Line) → now ≡ later → (new : List ℕ) → 0 < length piece → WritesFront mid new piece → FailsIn room all later old new
-  ends_failing later same new some front =
-      let more = some_lines so_far.gathered (subst (λ (t : List ℕ). 0 < length t) so_far.piece_is some) in
+  -- all that was gathered was written
+  wrote_all : (new : W) → Writes sink mid new piece → Writes sink first new (text_of (g.done ++ g.gathered))
+  wrote_all new wrote = subst (λ (t : List ℕ). Writes sink first new t) (ap (λ (p : List ℕ). text_of g.done ++ p) g.piece_is ∙ sym (text_of-append g.done g.gathered))
+      (writes_then sink first mid new (text_of g.done) piece keeps g.wrote wrote)
+
+  -- a front of it was
+  pub ends_front : (new : W) → (IsTrue (sink.tells mid) → WritesFront (sink.written mid) (sink.written new) piece) → IsTrue (sink.tells first)
+      → WritesFront (sink.written first) (sink.written new) (text_of (given_lines all))
+  ends_front new front tells =
+      front_of_all (given_lines all) g.done g.gathered (given_lines now) (sink.written first) (sink.written mid) (sink.written new) piece lines_are (g.wrote tells) g.piece_is (front (place_told sink first mid keeps tells))
+
+  pub ends_whole : (new : W) (so' : SoFar) (later : List Event) → Gives [] so so' now later → later ≡ [] → Writes sink mid new piece → WritesAll old so' all (Writes sink first new)
+  ends_whole new so' later next none wrote =
+      let gives = gives_both (g.done ++ g.gathered) [] old so so' all now later g.gives next in
       record {
-        done = so_far.done;
-        gathered = so_far.gathered;
-        whole = so_far.whole ∙ ap (λ (ls : List Line). so_far.done ++ (so_far.gathered ++ ls)) same;
-        front = subst (λ (m : List ℕ). WritesFront m new (text_of so_far.gathered)) so_far.written (subst (λ (p : List ℕ). WritesFront mid new p) so_far.piece_is front);
-        some = more;
-        alone = λ none. absurd (omega (arith, more, ap (λ (ls : List Line). length ls) (so_far.alone none)));
+        gives = gives_all ((g.done ++ g.gathered) ++ []) old so' all later gives none;
+        wrote = subst (λ (ls : List Line). Writes sink first new (text_of ls))
+            (sym (given_front ((g.done ++ g.gathered) ++ []) old so' all later gives ∙ ap (λ (es : List Event). ((g.done ++ g.gathered) ++ []) ++ given_lines es) none ∙ append-nil ((g.done ++ g.gathered) ++ []) ∙ append-nil (g.done ++ g.gathered)))
+            (wrote_all new wrote);
       }
 
--- one more line was gathered
-module _ (room : ℕ) (all : List Line) (line : Line) (later : List Line) (old mid piece more : List ℕ) (so_far : Gathered room all (line ∷ later) old mid piece) (is : more ≡ piece ++ line.bytes ++ 10 ∷ []) where
-  abbrev gathered : List Line
-  gathered = so_far.gathered ++ line ∷ []
-
-  whole : all ≡ so_far.done ++ (gathered ++ later)
-  whole = so_far.whole ∙ ap (λ (ls : List Line). so_far.done ++ ls) (sym (append_assoc so_far.gathered (line ∷ []) later))
-
-  piece_is : more ≡ text_of gathered
-  piece_is = is ∙ append_assoc piece line.bytes (10 ∷ []) ∙ ap (λ (t : List ℕ). t ++ (line.bytes ++ 10 ∷ [])) so_far.piece_is ∙ sym (text_of-append so_far.gathered (line ∷ []))
-
-  pub passed_on : (new rest : List ℕ) → PassesOn room mid new more rest → Gathered room all later old new rest
-  passed_on new rest (inl kept) = record {
-    done = so_far.done;
-    gathered = gathered;
-    whole = whole;
-    written = kept.2 ∙ so_far.written;
-    piece_is = kept.1 ∙ piece_is;
-    alone = λ none. absurd (omega (arith, none, kept.0));
-  }
-  passed_on new rest (inr wrote) = record {
-    done = so_far.done ++ gathered;
-    gathered = [];
-    whole = whole ∙ sym (append_assoc so_far.done gathered later);
-    written = wrote.1 ∙ (λ i. so_far.written i ++ piece_is i) ∙ append_assoc old (text_of so_far.done) (text_of gathered) ∙ ap (λ (t : List ℕ). old ++ t) (sym (text_of-append so_far.done gathered));
-    piece_is = wrote.0;
-    alone = λ none. refl;
+  pub some_written : (new : W) → Writes sink mid new piece → WritesSome all (Writes sink first new)
+  some_written new wrote = record {
+    lines = g.done ++ g.gathered;
+    rest = given_lines now;
+    whole = given_front (g.done ++ g.gathered) old so all now g.gives;
+    wrote = wrote_all new wrote;
   }
 
-  pub fails_front : (new : List ℕ) → WritesFront mid new more → WritesFront old new (text_of all)
-  fails_front new front = front_of_all all so_far.done gathered later old mid new more whole so_far.written piece_is front
-
-  pub fails_in : (new : List ℕ) → WritesFront mid new more → FailsIn room all later old new
-  fails_in new front = record {
-    done = so_far.done;
-    gathered = gathered;
-    whole = whole;
-    front = subst (λ (m : List ℕ). WritesFront m new (text_of gathered)) so_far.written (subst (λ (p : List ℕ). WritesFront mid new p) piece_is front);
-    some = omega (arith, length-append so_far.gathered (line ∷ []));
-    alone = λ none. length-append so_far.gathered (line ∷ []) ∙ ap (λ (ls : List Line). length ls + 1) (so_far.alone none);
+  done_written : (new : W) → Writes sink mid new [] → WritesSome all (Writes sink first new)
+  done_written new wrote = record {
+    lines = g.done;
+    rest = g.gathered ++ given_lines now;
+    whole = lines_are;
+    wrote = subst (λ (t : List ℕ). Writes sink first new t) (append-nil (text_of g.done)) (writes_then sink first mid new (text_of g.done) [] keeps g.wrote wrote);
   }
 
--- why the writing stops, where lines were given out before the merger stopped
-pub stopped_writing : (stop : Stop) (lines : List Line) (old mid : SoFar) (now : Count) (all rest : List Event) → Gives lines old mid all rest → Stopped stop mid.count now rest → StopsWriting stop old.count now all
-stopped_writing Usage lines old mid now all rest gives stops = stops
-stopped_writing WebNotOpened lines old mid now all rest gives stops = stops
-stopped_writing ChangeNotOpened lines old mid now all rest gives stops = stops
-stopped_writing (ReadFault file) lines old mid now all rest gives stops = stops
-stopped_writing (LineTooLong file) lines old mid now all rest gives stops = record {
-  events = gives.events ++ stops.events;
-  line = stops.line;
-  later = stops.later;
-  whole = gives.whole ∙ ap (λ (es : List Event). gives.events ++ es) stops.whole ∙ sym (append_assoc gives.events stops.events (took stops.line ∷ stops.later));
-  why = stops.why;
-}
-stopped_writing TooMuchText lines old mid now all rest gives stops =
-    let more_lines = ap (λ (es : List Event). length (taken_lines es)) gives.whole in
-    let more_bytes = ap (λ (es : List Event). size_of (taken_lines es)) gives.whole in
-    record {
-      size = stops.size;
-      passes = stops.passes;
-      few = omega (arith, more_lines, gives.lines_are, lines_taken-append gives.events rest, stops.few);
-      small = omega (arith, more_bytes, gives.bytes_are, bytes_taken-append gives.events rest, stops.small);
+  up_to : (stop : Stop) (count : Count) (new : W) → StopsBehind [] stop so.count count now → Writes sink mid new piece → WritesUpTo stop old.count count all (Writes sink first new)
+  up_to stop count new stops wrote = record {
+    lines = (g.done ++ g.gathered) ++ [];
+    stops = behind_both (g.done ++ g.gathered) [] stop old so count all now g.gives stops;
+    wrote = subst (λ (ls : List Line). Writes sink first new (text_of ls)) (sym (append-nil (g.done ++ g.gathered))) (wrote_all new wrote);
+  }
+
+  written_by : (stop : Stop) (count : Count) (new : W) → Stopped stop so.count count now → Writes sink mid new piece → StopsWriting stop old.count count all (Writes sink first new)
+  written_by (ReadFault file) count new stopped wrote = some_written new wrote
+  written_by (LineTooLong file) count new stopped wrote = up_to (LineTooLong file) count new stopped wrote
+  written_by TooMuchText count new stopped wrote = up_to TooMuchText count new stopped wrote
+  written_by Memory count new stopped wrote = some_written new wrote
+  written_by stop count new stopped wrote = absurd stopped
+
+  -- the merger stopped
+  pub ended_early : (stop result : Stop) (count : Count) (new : W) → Stopped stop so.count count now → WritesRest stop result piece (Writes sink mid new) → StopsWriting result old.count count all (Writes sink first new)
+  ended_early stop result count new stopped (leaves file was is wrote) = subst (λ s. StopsWriting s old.count count all (Writes sink first new)) (sym (is ∙ was)) (done_written new wrote)
+  ended_early stop result count new stopped (writes is wrote) = subst (λ s. StopsWriting s old.count count all (Writes sink first new)) (sym is) (written_by stop count new stopped wrote)
+  ended_early stop result count new stopped (fails is some blame) = subst (λ s. StopsWriting s old.count count all (Writes sink first new)) (sym is) tt
+
+  -- memory was refused for a line that was given out
+  pub halted : (result : Stop) (count : Count) (new : W) → WritesRest Memory result piece (Writes sink mid new) → StopsWriting result old.count count all (Writes sink first new)
+  halted result count new (leaves file was is wrote) = absurd (cc was)
+  halted result count new (writes is wrote) = subst (λ s. StopsWriting s old.count count all (Writes sink first new)) (sym is) (some_written new wrote)
+  halted result count new (fails is some blame) = subst (λ s. StopsWriting s old.count count all (Writes sink first new)) (sym is) tt
+
+  -- nothing more comes, and a write of what was gathered failed
+  pub fails_last : (new : W) (so' : SoFar) (later : List Event) → Gives [] so so' now later → 0 < length piece → IsTrue (sink.tells first)
+      → (IsTrue (sink.tells mid) → WritesFront (sink.written mid) (sink.written new) piece) → FailsAmong room old so' all later (sink.written first) (sink.written new)
+  fails_last new so' later next some tells front =
+      let more = some_lines g.gathered (subst (λ (t : List ℕ). 0 < length t) g.piece_is some) in
+      record {
+        done = g.done;
+        gathered = g.gathered;
+        gives = subst (λ (ls : List Line). Gives ls old so' all later) (append-nil (g.done ++ g.gathered)) (gives_both (g.done ++ g.gathered) [] old so so' all now later g.gives next);
+        front = subst (λ (m : List ℕ). WritesFront m (sink.written new) (text_of g.gathered)) (g.wrote tells)
+            (subst (λ (p : List ℕ). WritesFront (sink.written mid) (sink.written new) p) g.piece_is (front (place_told sink first mid keeps tells)));
+        some = more;
+        alone = λ none. absurd (omega (arith, more, ap (λ (ls : List Line). length ls) (g.alone none)));
+      }
+
+  -- one more line was gathered
+  module _ (line : Line) (so' : SoFar) (later : List Event) (next : Gives (line ∷ []) so so' now later) (more : List ℕ) (is : more ≡ piece ++ line.bytes ++ 10 ∷ []) where
+    abbrev gathered : List Line
+    gathered = g.gathered ++ line ∷ []
+
+    gives : Gives (g.done ++ gathered) old so' all later
+    gives = subst (λ (ls : List Line). Gives ls old so' all later) (append_assoc g.done g.gathered (line ∷ [])) (gives_both (g.done ++ g.gathered) (line ∷ []) old so so' all now later g.gives next)
+
+    piece_is : more ≡ text_of gathered
+    piece_is = is ∙ append_assoc piece line.bytes (10 ∷ []) ∙ ap (λ (t : List ℕ). t ++ (line.bytes ++ 10 ∷ [])) g.piece_is ∙ sym (text_of-append g.gathered (line ∷ []))
+
+    pub passed_on : (new : W) (rest : List ℕ) → PassesOn room more rest (Writes sink mid new) → Gathered room old so' all later (Writes sink first new) rest
+    passed_on new rest (inl kept) = record {
+      done = g.done;
+      gathered = gathered;
+      gives = gives;
+      wrote = subst (λ (t : List ℕ). Writes sink first new t) (append-nil (text_of g.done)) (writes_then sink first mid new (text_of g.done) [] keeps g.wrote kept.2);
+      piece_is = kept.1 ∙ piece_is;
+      alone = λ none. absurd (omega (arith, none, kept.0));
     }
-stopped_writing Memory lines old mid now all rest gives stops = stops
-stopped_writing OutNotOpened lines old mid now all rest gives stops = stops
-stopped_writing WriteFault lines old mid now all rest gives stops = tt
-stopped_writing LogFault lines old mid now all rest gives stops = stops
+    passed_on new rest (inr wrote) = record {
+      done = g.done ++ gathered;
+      gathered = [];
+      gives = subst (λ (ls : List Line). Gives ls old so' all later) (sym (append-nil (g.done ++ gathered))) gives;
+      wrote = subst (λ (t : List ℕ). Writes sink first new t) (ap (λ (p : List ℕ). text_of g.done ++ p) piece_is ∙ sym (text_of-append g.done gathered))
+          (writes_then sink first mid new (text_of g.done) more keeps g.wrote wrote.1);
+      piece_is = wrote.0;
+      alone = λ none. refl;
+    }
 
--- the stop behind a merger's stop is that one, or a write fault
-pub either_stop : (first stop : Stop) → StopAfter first stop → (stop ≡ first) ⊎ (stop ≡ WriteFault)
-either_stop Usage stop after = after
-either_stop WebNotOpened stop after = after
-either_stop ChangeNotOpened stop after = after
-either_stop (ReadFault file) stop after = inl after
-either_stop (LineTooLong file) stop after = after
-either_stop TooMuchText stop after = after
-either_stop Memory stop after = after
-either_stop OutNotOpened stop after = after
-either_stop WriteFault stop after = after
-either_stop LogFault stop after = after
+    pub fails_front : (new : W) → (IsTrue (sink.tells mid) → WritesFront (sink.written mid) (sink.written new) more) → IsTrue (sink.tells first)
+        → WritesFront (sink.written first) (sink.written new) (text_of (given_lines all))
+    fails_front new front tells =
+        front_of_all (given_lines all) g.done gathered (given_lines later) (sink.written first) (sink.written mid) (sink.written new) more
+        (given_front (g.done ++ gathered) old so' all later gives ∙ append_assoc g.done gathered (given_lines later)) (g.wrote tells) piece_is (front (place_told sink first mid keeps tells))
 
-pub same_stop : (stop : Stop) → StopAfter stop stop
-same_stop Usage = inl refl
-same_stop WebNotOpened = inl refl
-same_stop ChangeNotOpened = inl refl
-same_stop (ReadFault file) = refl
-same_stop (LineTooLong file) = inl refl
-same_stop TooMuchText = inl refl
-same_stop Memory = inl refl
-same_stop OutNotOpened = inl refl
-same_stop WriteFault = inl refl
-same_stop LogFault = inl refl
+    pub fails_among : (new : W) → IsTrue (sink.tells first) → (IsTrue (sink.tells mid) → WritesFront (sink.written mid) (sink.written new) more)
+        → FailsAmong room old so' all later (sink.written first) (sink.written new)
+    fails_among new tells front = record {
+      done = g.done;
+      gathered = gathered;
+      gives = gives;
+      front = subst (λ (m : List ℕ). WritesFront m (sink.written new) (text_of gathered)) (g.wrote tells)
+          (subst (λ (p : List ℕ). WritesFront (sink.written mid) (sink.written new) p) piece_is (front (place_told sink first mid keeps tells)));
+      some = omega (arith, length-append g.gathered (line ∷ []));
+      alone = λ none. length-append g.gathered (line ∷ []) ∙ ap (λ (ls : List Line). length ls + 1) (g.alone none);
+    }
 
-pub fault_after : (stop : Stop) → ((file : _) → stop ≡ ReadFault file → ⊥) → StopAfter stop WriteFault
-fault_after Usage other = inr refl
-fault_after WebNotOpened other = inr refl
-fault_after ChangeNotOpened other = inr refl
-fault_after (ReadFault file) other = absurd (other file refl)
-fault_after (LineTooLong file) other = inr refl
-fault_after TooMuchText other = inr refl
-fault_after Memory other = inr refl
-fault_after OutNotOpened other = inr refl
-fault_after WriteFault other = inr refl
-fault_after LogFault other = inr refl
+-- where lines are not gathered one line alone is lost
+pub loses_line : (old new : SoFar) (all later : List Event) (before after : List ℕ) → FailsAmong 0 old new all later before after → LosesLine old new all later before after
+loses_line old new all later before after failed = by failed.gathered (failed.alone refl) failed.gives failed.front
+  where
+    by : (gathered : List Line) → length gathered ≡ 1 → Gives (failed.done ++ gathered) old new all later → WritesFront (before ++ text_of failed.done) after (text_of gathered) → LosesLine old new all later before after
+    by [] one gives front = absurd (omega (arith, one))
+    by (line ∷ []) one gives front = record { done = failed.done; line = line; gives = gives; front = front }
+    by (line ∷ other ∷ rest) one gives front = absurd (omega (arith, one))
+
+pub no_read_blame : (stop : Stop) → ((file : _) → stop ≡ ReadFault file → ⊥) → read_blame stop ≡ 0
+no_read_blame (ReadFault file) other = absurd (other file refl)
+no_read_blame stop other = refl
 
 pub no_write_blame : (stop : Stop) → StopsReading stop → write_blame stop ≡ 0
-no_write_blame Usage reading = refl
-no_write_blame WebNotOpened reading = refl
-no_write_blame ChangeNotOpened reading = refl
-no_write_blame (ReadFault file) reading = refl
-no_write_blame (LineTooLong file) reading = refl
-no_write_blame TooMuchText reading = refl
-no_write_blame Memory reading = refl
-no_write_blame OutNotOpened reading = refl
 no_write_blame WriteFault reading = absurd reading
-no_write_blame LogFault reading = refl
+no_write_blame stop reading = refl
 
-same_blame : (first stop : Stop) → read_blame first ≡ 0 → (stop ≡ first) ⊎ (stop ≡ WriteFault) → read_blame first ≡ read_blame stop
-same_blame first stop none (inl same) = ap read_blame (sym same)
-same_blame first stop none (inr fault) = none ∙ ap read_blame (sym fault)
+reads_or_writes : (stop : Stop) → StopsReading stop → WritingStops stop
+reads_or_writes (ReadFault file) reading = tt
+reads_or_writes (LineTooLong file) reading = tt
+reads_or_writes TooMuchText reading = tt
+reads_or_writes Memory reading = tt
+reads_or_writes stop reading = absurd reading
 
-pub read_blame_after : (first stop : Stop) → StopAfter first stop → read_blame first ≡ read_blame stop
-read_blame_after Usage stop after = same_blame Usage stop refl after
-read_blame_after WebNotOpened stop after = same_blame WebNotOpened stop refl after
-read_blame_after ChangeNotOpened stop after = same_blame ChangeNotOpened stop refl after
-read_blame_after (ReadFault file) stop after = ap read_blame (sym after)
-read_blame_after (LineTooLong file) stop after = same_blame (LineTooLong file) stop refl after
-read_blame_after TooMuchText stop after = same_blame TooMuchText stop refl after
-read_blame_after Memory stop after = same_blame Memory stop refl after
-read_blame_after OutNotOpened stop after = same_blame OutNotOpened stop refl after
-read_blame_after WriteFault stop after = same_blame WriteFault stop refl after
-read_blame_after LogFault stop after = same_blame LogFault stop refl after
+-- what the end of a run whose merger stopped leaves over all devices
+pub blamed : (stop result : Stop) (piece : List ℕ) (Wrote : List ℕ → Type 0) (kept : Option Stop) (new : SoFar) (before after : Failed) → WritesRest stop result piece Wrote → KeepsStop stop kept new
+    → after.shelf ≡ before.shelf + read_blame stop → after.out ≡ before.out + write_blame result → Blames result before after kept (length new.names)
+blamed stop result piece Wrote kept new before after rest keeps shelf out = by rest
+  where
+    same : result ≡ stop → Blames result before after kept (length new.names)
+    same is = record {
+      kind = subst WritingStops (sym is) (reads_or_writes stop keeps.reading);
+      shelf = shelf ∙ ap (λ s. before.shelf + read_blame s) (sym is);
+      out = out;
+      named = omega (arith, ap files_named is, keeps.named);
+      kept = inr (keeps.kept ∙ ap (λ s. Some s) (sym is));
+    }
 
-module _ (first stop : Stop) (after : StopAfter first stop) where
-  pub stops_after : (old now : Count) (all : List Event) → StopsWriting first old now all → StopsWriting stop old now all
-  stops_after old now all stops = by (either_stop first stop after)
-    where
-      by : (stop ≡ first) ⊎ (stop ≡ WriteFault) → StopsWriting stop old now all
-      by (inl same) = subst (λ s. StopsWriting s old now all) (sym same) stops
-      by (inr fault) = subst (λ s. StopsWriting s old now all) (sym fault) tt
+    by : WritesRest stop result piece Wrote → Blames result before after kept (length new.names)
+    by (leaves file was is wrote) = same is
+    by (writes is wrote) = same is
+    by (fails is some blame) = record {
+      kind = subst WritingStops (sym is) tt;
+      shelf = omega (arith, shelf, blame, ap read_blame is);
+      out = out;
+      named = omega (arith, ap files_named is);
+      kept = inl is;
+    }
 
-  pub writing_after : StopsReading first → WritingStops stop
-  writing_after reading = by (either_stop first stop after)
-    where
-      reads : (s : Stop) → StopsReading s → WritingStops s
-      reads Usage h = h
-      reads WebNotOpened h = h
-      reads ChangeNotOpened h = h
-      reads (ReadFault file) h = h
-      reads (LineTooLong file) h = h
-      reads TooMuchText h = h
-      reads Memory h = h
-      reads OutNotOpened h = h
-      reads WriteFault h = tt
-      reads LogFault h = h
+-- a write failed, and the merger goes on
+pub blames_write : (result : Stop) (kept : Option Stop) (files : ℕ) (before after : Failed) → result ≡ WriteFault → after.shelf ≡ before.shelf → after.out ≡ before.out + 1 → Blames result before after kept files
+blames_write result kept files before after is shelf out = record {
+  kind = subst WritingStops (sym is) tt;
+  shelf = omega (arith, shelf, ap read_blame is);
+  out = omega (arith, out, ap write_blame is);
+  named = omega (arith, ap files_named is);
+  kept = inl is;
+}
 
-      by : (stop ≡ first) ⊎ (stop ≡ WriteFault) → WritingStops stop
-      by (inl same) = subst WritingStops (sym same) (reads first reading)
-      by (inr fault) = subst WritingStops (sym fault) tt
+pub write_failed : (result : Stop) (old now : Count) (all : List Event) (Wrote : List ℕ → Type 0) → result ≡ WriteFault → StopsWriting result old now all Wrote
+write_failed result old now all Wrote is = subst (λ s. StopsWriting s old now all Wrote) (sym is) tt
 
-  pub named_after : (files : ℕ) → files_named first ≤ files → files_named stop ≤ files
-  named_after files named = by (either_stop first stop after)
-    where
-      by : (stop ≡ first) ⊎ (stop ≡ WriteFault) → files_named stop ≤ files
-      by (inl same) = omega (arith, ap files_named same, named)
-      by (inr fault) = omega (arith, ap files_named fault)
+-- where nothing was gathered, no write fails behind a stop
+pub none_fails : (stop result : Stop) (piece : List ℕ) (Wrote : List ℕ → Type 0) → WritesRest stop result piece Wrote → StopsReading stop → piece ≡ [] → result ≡ WriteFault → ⊥
+none_fails stop result piece Wrote (leaves file was is wrote) reading none fault = subst StopsReading (sym is ∙ fault) reading
+none_fails stop result piece Wrote (writes is wrote) reading none fault = subst StopsReading (sym is ∙ fault) reading
+none_fails stop result piece Wrote (fails is some blame) reading none fault = omega (arith, some, ap (λ (p : List ℕ). length p) none)
 
 -- what was told is a front of all that is to be told
 pub tells_some : (lines : List Line) (old new : SoFar) (all later : List Event) → Gives lines old new all later → TellsFront old new all

@@ -1,6 +1,5 @@
 -- What a merger has still to give, and what a call gives of it.
 use Rattle.std.specs.Prelude.{◌≡◌, ◌<◌, ◌≤◌, ◌⊎◌, ◌+◌, ◌*◌, ◌-◌, ℕ, length, List, [], ◌∷◌, ◌++◌, Option}
-use Rattle.cweb_files.specs.declared.place.FileId.{FileId}
 use Rattle.cweb_lines.specs.Change.{Entry}
 use Rattle.cweb_lines.specs.Lines.{Line, SourceLine, IsOneLine}
 use Rattle.cweb_lines.specs.Merge.{State, Event, took, Thing}
@@ -10,14 +9,12 @@ use Rattle.cweb_lines.specs.Counts.{count_of}
 use Rattle.cweb_lines.specs.Finding.{world_in}
 use Rattle.cweb_lines.specs.Names.{names_of}
 use Rattle.cweb_lines.specs.Stages.{pending_in, change_in, things_in, weight_of}
-use Rattle.cweb_lines.specs.Texts.{Count, IsTooLong, Refuses, lines_at, raw_at}
+use Rattle.cweb_lines.specs.Texts.{Count, Refuses, StopsFor, lines_at, raw_at}
 use Rattle.cweb_lines.specs.declared.fault.SourceFault.{SourceFault}
-use Rattle.cweb_lines.specs.declared.limits.TheConstants.{LINES, BYTES}
 use Rattle.cweb_lines.specs.declared.run.Run.{Run}
 use Rattle.cweb_lines.specs.declared.stage.Stage.{Stage}
 use Rattle.cweb_lines.specs.declared.stage.Stage.TheVariants.{Done}
 use Rattle.cweb_lines.specs.declared.stop.Stop.{Stop}
-use Rattle.cweb_lines.specs.declared.stop.Stop.TheVariants.{Usage, WebNotOpened, ChangeNotOpened, ReadFault, LineTooLong, TooMuchText, Memory, OutNotOpened, WriteFault, LogFault}
 use Rattle.cweb_lines.specs.declared.text.LineAt.{LineAt}
 use Rattle.cweb_lines.specs.declared.turn.Turn.{Turn}
 use Rattle.cweb_lines.specs.declared.turn.Turn.TheVariants.{Given, On, Ended}
@@ -54,34 +51,21 @@ pub record GivesBehind (source : SourceLine) (lines : List Line) (old new : SoFa
   pub first : all ≡ took source ∷ rest
   pub gives : Gives lines old new rest later
 
--- before any further line is given out, a line of this file is to be taken that is too long
-pub record LongAhead (file : FileId) (all : List Event) : Type 0 where
+-- Behind these lines, and before any further line is given out, comes a line that can't be taken. With it no more lines
+-- and bytes are taken than are to come.
+pub record StopsBehind (lines : List Line) (stop : Stop) (old now : Count) (all : List Event) : Type 0 where
   pub events : List Event
   pub line : SourceLine
   pub later : List Event
   pub whole : all ≡ events ++ took line ∷ later
-  pub given : given_lines events ≡ []
-  pub why : IsTooLong file line
-
--- with the next line, of this size, more lines or bytes would be taken than may be
-pub record TooMuchAhead (old now : Count) (all : List Event) : Type 0 where
-  pub size : ℕ
-  pub passes : (now.lines ≡ LINES) ⊎ (BYTES < now.bytes + size)
+  pub given : given_lines events ≡ lines
+  pub why : Refuses stop now line
   pub few : now.lines + 1 ≤ old.lines + length (taken_lines all)
-  pub small : now.bytes + size ≤ old.bytes + size_of (taken_lines all)
+  pub small : now.bytes + line.size ≤ old.bytes + size_of (taken_lines all)
 
--- why no line came: a read failed, memory was refused, or a limit is passed by what is to come
+-- why no line came: a read failed, memory was refused, or a line that comes next can't be taken
 abbrev pub Stopped : Stop → Count → Count → List Event → Type 0
-Stopped Usage old now all = ⊥
-Stopped WebNotOpened old now all = ⊥
-Stopped ChangeNotOpened old now all = ⊥
-Stopped (ReadFault file) old now all = Unit {0}
-Stopped (LineTooLong file) old now all = LongAhead file all
-Stopped TooMuchText old now all = TooMuchAhead old now all
-Stopped Memory old now all = Unit {0}
-Stopped OutNotOpened old now all = ⊥
-Stopped WriteFault old now all = ⊥
-Stopped LogFault old now all = ⊥
+Stopped stop old now all = StopsFor (StopsBehind [] stop old now all) stop
 
 abbrev pub told_by : {R : Type 0} → Run R → SoFar
 told_by run = record { faults = run.faults.items; names = names_of run.names; count = count_of run.limits }

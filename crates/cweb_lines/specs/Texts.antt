@@ -12,7 +12,7 @@ use Rattle.cweb_lines.specs.declared.source.Taken.{Taken}
 use Rattle.cweb_lines.specs.declared.source.Taken.TheVariants.{Ended, Last, Full}
 use Rattle.cweb_lines.specs.declared.stack.Stack.{Stack}
 use Rattle.cweb_lines.specs.declared.stop.Stop.{Stop}
-use Rattle.cweb_lines.specs.declared.stop.Stop.TheVariants.{Usage, WebNotOpened, ChangeNotOpened, ReadFault, LineTooLong, TooMuchText, Memory, OutNotOpened, WriteFault, LogFault}
+use Rattle.cweb_lines.specs.declared.stop.Stop.TheVariants.{WebNotOpened, ChangeNotOpened, ReadFault, LineTooLong, TooMuchText, Memory}
 use Rattle.cweb_lines.specs.declared.text.LineAt.{LineAt}
 use Rattle.cweb_lines.specs.declared.text.OpenText.{OpenText}
 
@@ -63,34 +63,24 @@ TakesLine old (Some at) bytes new before after = (took : Took bytes at.place bef
 abbrev pub IsTooLong : FileId → SourceLine → Type 0
 IsTooLong file line = (line.line.place.file ≡ file) × (LINE_LENGTH < line.length)
 
-abbrev pub PassesLimit : Count → SourceLine → Type 0
-PassesLimit count line = (count.lines ≡ LINES) ⊎ (BYTES < count.bytes + line.size)
+-- with one more line than so many, more lines or bytes would be taken than may be; the line itself is not too long
+pub record PassesLimit (count : Count) (line : SourceLine) : Type 0 where
+  pub passes : (count.lines ≡ LINES) ⊎ (BYTES < count.bytes + line.size)
+  pub short : line.length ≤ LINE_LENGTH
 
 -- why a line was not taken, where it is the line that stops
 abbrev pub Refuses : Stop → Count → SourceLine → Type 0
-Refuses Usage count line = ⊥
-Refuses WebNotOpened count line = ⊥
-Refuses ChangeNotOpened count line = ⊥
-Refuses (ReadFault file) count line = ⊥
 Refuses (LineTooLong file) count line = IsTooLong file line
 Refuses TooMuchText count line = PassesLimit count line
-Refuses Memory count line = ⊥
-Refuses OutNotOpened count line = ⊥
-Refuses WriteFault count line = ⊥
-Refuses LogFault count line = ⊥
+Refuses _ count line = ⊥
 
 -- A line can't be taken because a read failed, because memory was refused, or because of a line.
 abbrev pub StopsFor : Type 0 → Stop → Type 0
-StopsFor Why Usage = ⊥
-StopsFor Why WebNotOpened = ⊥
-StopsFor Why ChangeNotOpened = ⊥
 StopsFor Why (ReadFault file) = Unit {0}
 StopsFor Why (LineTooLong file) = Why
 StopsFor Why TooMuchText = Why
 StopsFor Why Memory = Unit {0}
-StopsFor Why OutNotOpened = ⊥
-StopsFor Why WriteFault = ⊥
-StopsFor Why LogFault = ⊥
+StopsFor Why _ = ⊥
 
 -- the stops that taking lines can come to
 abbrev pub StopsReading : Stop → Type 0
@@ -98,16 +88,10 @@ StopsReading stop = StopsFor (Unit {0}) stop
 
 -- the stops that a merge can begin with
 abbrev pub StartStops : Stop → Type 0
-StartStops Usage = ⊥
 StartStops WebNotOpened = Unit {0}
 StartStops ChangeNotOpened = Unit {0}
-StartStops (ReadFault file) = ⊥
-StartStops (LineTooLong file) = ⊥
-StartStops TooMuchText = ⊥
 StartStops Memory = Unit {0}
-StartStops OutNotOpened = ⊥
-StartStops WriteFault = ⊥
-StartStops LogFault = ⊥
+StartStops _ = ⊥
 
 -- the first line is the one that stops
 pub record FirstStops (stop : Stop) (count : Count) (lines : List SourceLine) : Type 0 where
@@ -220,16 +204,8 @@ newline_bytes Full = 1
 
 -- by how much a stop raises the count of failures of a shelf
 abbrev pub read_blame : Stop → ℕ
-read_blame Usage = 0
-read_blame WebNotOpened = 0
-read_blame ChangeNotOpened = 0
 read_blame (ReadFault file) = 1
-read_blame (LineTooLong file) = 0
-read_blame TooMuchText = 0
-read_blame Memory = 0
-read_blame OutNotOpened = 0
-read_blame WriteFault = 0
-read_blame LogFault = 0
+read_blame _ = 0
 
 -- the count of failures rose by one where a read failed, and else it is as before
 abbrev pub ReadBlames : {A : Type 0} → ℕ → ℕ → Result A Stop → Type 0
@@ -238,16 +214,15 @@ ReadBlames before now (Err stop) = now ≡ before + read_blame stop
 
 -- how many files there are at least, where a stop names one
 abbrev pub files_named : Stop → ℕ
-files_named Usage = 0
-files_named WebNotOpened = 0
-files_named ChangeNotOpened = 0
 files_named (ReadFault file) = file.0 + 1
 files_named (LineTooLong file) = file.0 + 1
-files_named TooMuchText = 0
-files_named Memory = 0
-files_named OutNotOpened = 0
-files_named WriteFault = 0
-files_named LogFault = 0
+files_named _ = 0
+
+-- a stop that names a file names this one
+abbrev pub NamesFile : FileId → Stop → Type 0
+NamesFile file (ReadFault named) = named ≡ file
+NamesFile file (LineTooLong named) = named ≡ file
+NamesFile file _ = Unit {0}
 
 -- the files that an answer names are among so many
 abbrev pub NamesFiles : ℕ → Result (Option LineAt) Stop → Type 0

@@ -1,18 +1,27 @@
 -- What callers see of a merger.
-use Rattle.std.specs.Prelude.{◌≡◌, ℕ, List, [], ◌∷◌, Option, None, Some}
+use Rattle.std.specs.Prelude.{◌≡◌, ◌≤◌, ◌<◌, ◌+◌, ℕ, List, [], ◌∷◌, length, Option, None, Some}
+use Rattle.cweb_files.specs.declared.device.Shelf.{Ghosts as Shelf}
 use Rattle.cweb_files.specs.declared.place.Place.{Place}
 use Rattle.cweb_lines.specs.Finding.{names_found, text_found}
 use Rattle.cweb_lines.specs.Include.{World, Found}
+use Rattle.cweb_lines.specs.Lines.{Line, IsOneLine}
 use Rattle.cweb_lines.specs.Merge.{Event, started}
-use Rattle.cweb_lines.specs.Merging.{SoFar, Gives, NothingLeft, told_by, coming}
+use Rattle.cweb_lines.specs.Merging.{SoFar, Gives, NothingLeft, Stopped, TellsFront, told_by, coming}
+use Rattle.cweb_lines.specs.Texts.{StopsReading, files_named}
+use Rattle.cweb_lines.specs.Told.{given_lines}
 use Rattle.cweb_lines.specs.Total.{merge}
+use Rattle.cweb_lines.specs.declared.limits.TheConstants.{LINES, BYTES}
 use Rattle.cweb_lines.specs.declared.merger.Merger.{Merger}
 use Rattle.cweb_lines.specs.declared.stop.Stop.{Stop}
-use Rattle.cweb_lines.specs.declared.stop.Stop.TheVariants.{Usage, WebNotOpened, ChangeNotOpened, ReadFault, LineTooLong, TooMuchText, Memory, OutNotOpened, WriteFault, LogFault}
+use Rattle.cweb_lines.specs.declared.stop.Stop.TheVariants.{WebNotOpened, ChangeNotOpened, Memory}
 
 -- all that is to come, by what the shelf holds and what its readers have left
-abbrev pub to_come : {S R : Type 0} → (List ℕ → Option (List ℕ)) → (R → List ℕ) → Merger S R → List Event
-to_come texts left merger = coming texts left merger.run
+abbrev pub to_come : {S R : Type 0} → Shelf S R → S → Merger S R → List Event
+to_come shelf s merger = coming (shelf.texts s) (shelf.left s) merger.run
+
+-- the lines that are to come
+abbrev pub lines_to_come : {S R : Type 0} → Shelf S R → S → Merger S R → List Line
+lines_to_come shelf s merger = given_lines (to_come shelf s merger)
 
 -- what was told and taken so far
 abbrev pub so_far : {S R : Type 0} → Merger S R → SoFar
@@ -31,6 +40,32 @@ abbrev pub NextLine : Option Place → List ℕ → SoFar → SoFar → List Eve
 NextLine None bytes old new all later = Gives [] old new all later × (later ≡ [])
 NextLine (Some place) bytes old new all later = Gives (record { bytes = bytes; place = place } ∷ []) old new all later
 
+-- what holds of a line that is given out over every shelf
+pub record GivesOut (place : Place) (bytes : List ℕ) (old new : SoFar) : Type 0 where
+  -- its file has been opened
+  pub known : place.file.0 < length new.names
+  pub line : IsOneLine bytes
+  -- it was counted, and its bytes were
+  pub lines : old.count.lines < new.count.lines
+  pub bytes_are : old.count.bytes + length bytes ≤ new.count.bytes
+
+-- no file is forgotten, and the limits of all files are kept
+pub record Grows (old new : SoFar) : Type 0 where
+  pub names : length old.names ≤ length new.names
+  pub lines : new.count.lines ≤ LINES
+  pub bytes : new.count.bytes ≤ BYTES
+
+-- what a stop leaves: the merger keeps it, and the file that it names has been opened
+pub record KeepsStop (stop : Stop) (in_merger : Option Stop) (new : SoFar) : Type 0 where
+  pub reading : StopsReading stop
+  pub kept : in_merger ≡ Some stop
+  pub named : files_named stop ≤ length new.names
+
+-- why no line came, and that what was told by then is a front of all that is to be told
+pub record StopsThere (stop : Stop) (old new : SoFar) (all : List Event) : Type 0 where
+  pub why : Stopped stop old.count new.count all
+  pub told : TellsFront old new all
+
 -- the merge begins with the web that was found, and with the change file where one is named
 pub record Begins (world : World) (found : Option Found) (changes : Option (Option Found)) (first : SoFar) (all : List Event) : Type 0 where
   pub name : List ℕ
@@ -43,13 +78,7 @@ pub record Begins (world : World) (found : Option Found) (changes : Option (Opti
 
 -- a merge can't begin where there is no web, where a web is there and the change file that is named isn't, or where memory is refused
 abbrev pub StopsAtStart : Stop → Option Found → Option (Option Found) → Type 0
-StopsAtStart Usage found changes = ⊥
 StopsAtStart WebNotOpened found changes = found ≡ None
 StopsAtStart ChangeNotOpened found changes = ((web : Found) × (found ≡ Some web)) × (changes ≡ None)
-StopsAtStart (ReadFault file) found changes = ⊥
-StopsAtStart (LineTooLong file) found changes = ⊥
-StopsAtStart TooMuchText found changes = ⊥
 StopsAtStart Memory found changes = Unit {0}
-StopsAtStart OutNotOpened found changes = ⊥
-StopsAtStart WriteFault found changes = ⊥
-StopsAtStart LogFault found changes = ⊥
+StopsAtStart _ found changes = ⊥

@@ -1,12 +1,13 @@
 -- What merged lines look like in a sink.
-use Rattle.std.specs.Prelude.{◌≡◌, ◌<◌, ◌+◌, ◌⊎◌, ℕ, List, [], ◌∷◌, ◌++◌, length, Result, Ok, Err}
+use Rattle.std.specs.Prelude.{◌≡◌, ◌<◌, ◌≤◌, ◌+◌, ◌⊎◌, ℕ, List, [], ◌∷◌, ◌++◌, length, Bool, IsTrue, Option, None, Some}
 use Rattle.cweb_files.specs.declared.place.FileId.{FileId}
-use Rattle.cweb_lines.specs.Lines.{Line, SourceLine}
-use Rattle.cweb_lines.specs.Merge.{Event, took}
-use Rattle.cweb_lines.specs.Merging.{TooMuchAhead}
-use Rattle.cweb_lines.specs.Texts.{Count, IsTooLong}
+use Rattle.cweb_lines.specs.Lines.{Line}
+use Rattle.cweb_lines.specs.Merge.{Event}
+use Rattle.cweb_lines.specs.Merging.{SoFar, Gives, StopsBehind, TellsFront}
+use Rattle.cweb_lines.specs.Texts.{Count, read_blame, files_named}
+use Rattle.cweb_lines.specs.Told.{given_lines}
 use Rattle.cweb_lines.specs.declared.stop.Stop.{Stop}
-use Rattle.cweb_lines.specs.declared.stop.Stop.TheVariants.{Usage, WebNotOpened, ChangeNotOpened, ReadFault, LineTooLong, TooMuchText, Memory, OutNotOpened, WriteFault, LogFault}
+use Rattle.cweb_lines.specs.declared.stop.Stop.TheVariants.{ReadFault, LineTooLong, TooMuchText, Memory, WriteFault}
 
 -- the lines, each with a newline
 abbrev pub text_of : List Line → List ℕ
@@ -20,81 +21,97 @@ pub record WritesFront (old new text : List ℕ) : Type 0 where
   pub written : new ≡ old ++ front
   pub whole : text ≡ front ++ rest
 
--- What was given out so far: lines that were written, and lines that are gathered in a piece.
-pub record Gathered (room : ℕ) (all now : List Line) (old new piece : List ℕ) : Type 0 where
+-- all lines were given out and written
+pub record WritesAll (old new : SoFar) (all : List Event) (Wrote : List ℕ → Type 0) : Type 0 where
+  pub gives : Gives (given_lines all) old new all []
+  pub wrote : Wrote (text_of (given_lines all))
+
+-- whole lines were written, which come first
+pub record WritesSome (all : List Event) (Wrote : List ℕ → Type 0) : Type 0 where
+  pub lines : List Line
+  pub rest : List Line
+  pub whole : given_lines all ≡ lines ++ rest
+  pub wrote : Wrote (text_of lines)
+
+-- all lines were written that come before one that can't be taken
+pub record WritesUpTo (stop : Stop) (old now : Count) (all : List Event) (Wrote : List ℕ → Type 0) : Type 0 where
+  pub lines : List Line
+  pub stops : StopsBehind lines stop old now all
+  pub wrote : Wrote (text_of lines)
+
+-- what a stop leaves of the lines that are to be written: whole lines, unless a write failed
+abbrev pub StopsWriting : Stop → Count → Count → List Event → (List ℕ → Type 0) → Type 0
+StopsWriting (ReadFault file) old now all Wrote = WritesSome all Wrote
+StopsWriting (LineTooLong file) old now all Wrote = WritesUpTo (LineTooLong file) old now all Wrote
+StopsWriting TooMuchText old now all Wrote = WritesUpTo TooMuchText old now all Wrote
+StopsWriting Memory old now all Wrote = WritesSome all Wrote
+StopsWriting WriteFault old now all Wrote = Unit {0}
+StopsWriting _ old now all Wrote = ⊥
+
+-- why not all lines were written, and what was told by then
+pub record EndsEarly (stop : Stop) (old new : SoFar) (all : List Event) (Wrote : List ℕ → Type 0) : Type 0 where
+  pub why : StopsWriting stop old.count new.count all Wrote
+  pub told : TellsFront old new all
+
+-- A write failed in the midst of lines that were gathered. What comes after that comes behind them.
+pub record FailsAmong (room : ℕ) (old new : SoFar) (all later : List Event) (before after : List ℕ) : Type 0 where
   pub done : List Line
   pub gathered : List Line
-  pub whole : all ≡ done ++ (gathered ++ now)
-  pub written : new ≡ old ++ text_of done
-  pub piece_is : piece ≡ text_of gathered
-  pub alone : room ≡ 0 → gathered ≡ []
-
--- a piece is kept while it has fewer bytes than there is room for, and else it is written
-abbrev pub PassesOn : ℕ → List ℕ → List ℕ → List ℕ → List ℕ → Type 0
-PassesOn room old new piece rest = ((length piece < room) × (rest ≡ piece) × (new ≡ old)) ⊎ ((rest ≡ []) × (new ≡ old ++ piece))
-
--- A write failed in the midst of lines that were gathered. The lines that are to come after that are those behind them. Where lines are not gathered it is one line.
-pub record FailsIn (room : ℕ) (all later : List Line) (old new : List ℕ) : Type 0 where
-  pub done : List Line
-  pub gathered : List Line
-  pub whole : all ≡ done ++ (gathered ++ later)
-  pub front : WritesFront (old ++ text_of done) new (text_of gathered)
+  pub gives : Gives (done ++ gathered) old new all later
+  pub front : WritesFront (before ++ text_of done) after (text_of gathered)
   pub some : 0 < length gathered
   pub alone : room ≡ 0 → length gathered ≡ 1
 
--- a line of this file is to be taken that is too long
-pub record LongIn (file : FileId) (all : List Event) : Type 0 where
-  pub events : List Event
-  pub line : SourceLine
-  pub later : List Event
-  pub whole : all ≡ events ++ took line ∷ later
-  pub why : IsTooLong file line
-
--- why not all lines were written
-abbrev pub StopsWriting : Stop → Count → Count → List Event → Type 0
-StopsWriting Usage old now all = ⊥
-StopsWriting WebNotOpened old now all = ⊥
-StopsWriting ChangeNotOpened old now all = ⊥
-StopsWriting (ReadFault file) old now all = Unit {0}
-StopsWriting (LineTooLong file) old now all = LongIn file all
-StopsWriting TooMuchText old now all = TooMuchAhead old now all
-StopsWriting Memory old now all = Unit {0}
-StopsWriting OutNotOpened old now all = ⊥
-StopsWriting WriteFault old now all = Unit {0}
-StopsWriting LogFault old now all = ⊥
+-- A write failed in the midst of one line. What comes after that comes behind this line.
+pub record LosesLine (old new : SoFar) (all later : List Event) (before after : List ℕ) : Type 0 where
+  pub done : List Line
+  pub line : Line
+  pub gives : Gives (done ++ line ∷ []) old new all later
+  pub front : WritesFront (before ++ text_of done) after (line.bytes ++ 10 ∷ [])
 
 -- by how much a stop raises the count of failures of a sink
 abbrev pub write_blame : Stop → ℕ
-write_blame Usage = 0
-write_blame WebNotOpened = 0
-write_blame ChangeNotOpened = 0
-write_blame (ReadFault file) = 0
-write_blame (LineTooLong file) = 0
-write_blame TooMuchText = 0
-write_blame Memory = 0
-write_blame OutNotOpened = 0
 write_blame WriteFault = 1
-write_blame LogFault = 0
-
--- the sink's count of failures rose by one where a write failed, and else it is as before
-abbrev pub WriteBlames : {A : Type 0} → ℕ → ℕ → Result A Stop → Type 0
-WriteBlames before now (Ok x) = now ≡ before
-WriteBlames before now (Err stop) = now ≡ before + write_blame stop
+write_blame _ = 0
 
 -- the stops that writing can come to
 abbrev pub WritingStops : Stop → Type 0
-WritingStops Usage = ⊥
-WritingStops WebNotOpened = ⊥
-WritingStops ChangeNotOpened = ⊥
 WritingStops (ReadFault file) = Unit {0}
 WritingStops (LineTooLong file) = Unit {0}
 WritingStops TooMuchText = Unit {0}
 WritingStops Memory = Unit {0}
-WritingStops OutNotOpened = ⊥
 WritingStops WriteFault = Unit {0}
-WritingStops LogFault = ⊥
+WritingStops _ = ⊥
 
--- the stop of a run whose merger stopped, by whether the rest could be written: a read that failed stays the stop
-abbrev pub StopAfter : Stop → Stop → Type 0
-StopAfter (ReadFault file) stop = stop ≡ ReadFault file
-StopAfter first stop = (stop ≡ first) ⊎ (stop ≡ WriteFault)
+-- how often the devices of a merge have failed
+pub record Failed : Type 0 where
+  pub shelf : ℕ
+  pub out : ℕ
+
+-- what a stop leaves over all devices: the one that it tells of failed once more; the file that it names has been opened;
+-- the merger keeps it, unless a write failed
+pub record Blames (stop : Stop) (old new : Failed) (in_merger : Option Stop) (files : ℕ) : Type 0 where
+  pub kind : WritingStops stop
+  pub shelf : new.shelf ≡ old.shelf + read_blame stop
+  pub out : new.out ≡ old.out + write_blame stop
+  pub named : files_named stop ≤ files
+  pub kept : (stop ≡ WriteFault) ⊎ (in_merger ≡ Some stop)
+
+-- What was given out so far: lines that were written, and lines that are gathered in a piece.
+pub record Gathered (room : ℕ) (old new : SoFar) (all now : List Event) (Wrote : List ℕ → Type 0) (piece : List ℕ) : Type 0 where
+  pub done : List Line
+  pub gathered : List Line
+  pub gives : Gives (done ++ gathered) old new all now
+  pub wrote : Wrote (text_of done)
+  pub piece_is : piece ≡ text_of gathered
+  pub alone : room ≡ 0 → gathered ≡ []
+
+-- a piece is kept while it has fewer bytes than there is room for, and else it is written
+abbrev pub PassesOn : ℕ → List ℕ → List ℕ → (List ℕ → Type 0) → Type 0
+PassesOn room piece rest Wrote = ((length piece < room) × (rest ≡ piece) × Wrote []) ⊎ ((rest ≡ []) × Wrote piece)
+
+-- the merger has stopped: where no read failed, what was gathered before is written, or a write fails in its midst
+pub data WritesRest (stop result : Stop) (piece : List ℕ) (Wrote : List ℕ → Type 0) : Type 0 where
+  leaves : (file : FileId) → stop ≡ ReadFault file → result ≡ stop → Wrote [] → WritesRest stop result piece Wrote
+  writes : result ≡ stop → Wrote piece → WritesRest stop result piece Wrote
+  fails : result ≡ WriteFault → 0 < length piece → read_blame stop ≡ 0 → WritesRest stop result piece Wrote

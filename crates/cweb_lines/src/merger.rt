@@ -1,13 +1,13 @@
 // The merged lines of a web, one after another.
 ghost use Rattle.std.specs.Prelude.{◌≡◌, ◌≤◌, ◌<◌, ◌+◌, ◌^◌, ℕ, List, [], length, IsTrue, true, string_bytes, ◌∷◌, ◌++◌, IfOk, Ok, Err, IfErr, IfSome, OnOk, OnErr, OnSome, None, Some, All};
 ghost use Rattle.std.specs.Option.{option_copied};
+ghost use Rattle.cweb_files.specs.Frames.{KeepsTexts};
 ghost use Rattle.cweb_lines.specs.Include.{web_at, change_at};
 ghost use Rattle.cweb_lines.specs.Names.{names_of};
 ghost use Rattle.cweb_lines.specs.Finding.{text_of_name, found_as, names_found, lines_found};
-ghost use Rattle.cweb_lines.specs.Texts.{ReadBlames, StopsReading, StartStops, files_named, lines_left, lines_at, number_of, line_number, files_up_to};
+ghost use Rattle.cweb_lines.specs.Texts.{ReadBlames, StartStops, lines_left, lines_at, number_of, line_number, files_up_to};
 ghost use Rattle.cweb_lines.specs.Stages.{stage_for, begun_stage};
-ghost use Rattle.cweb_lines.specs.Lines.{lines_in, IsOneLine};
-ghost use Rattle.cweb_lines.specs.declared.limits.TheConstants.{LINES, BYTES};
+ghost use Rattle.cweb_lines.specs.Lines.{lines_in};
 
 use crate::fault::SourceFault;
 use crate::finding::{Opening, find_change, find_web};
@@ -109,8 +109,7 @@ fn first_stage<R: Drop>(change: &Option<OpenText<R>>) -> Stage
 }
 
 impl<S: Shelf> Merger<S> {
-    ghost use Rattle.cweb_lines.specs.Merging.{Stopped, TellsFront};
-    ghost use Rattle.cweb_lines.specs.Whole.{to_come, so_far, stop_in, HasEnded, NextLine, Begins, StopsAtStart};
+    ghost use Rattle.cweb_lines.specs.Whole.{to_come, so_far, stop_in, HasEnded, NextLine, GivesOut, Grows, KeepsStop, StopsThere, Begins, StopsAtStart};
 
     /// Opens the web under its name, or under the second where the first isn't there, then the change file if one is
     /// named, and reads nothing. Included files are sought as they are named and then in the folder `inputs`.
@@ -122,13 +121,11 @@ impl<S: Shelf> Merger<S> {
         change: Option<&str>,
         inputs: Option<&str>,
     ) -> Result<Self, Stop>
-        ensures tells { S.tells shelf.new ≡ S.tells shelf.old }
+        ensures keeps { KeepsTexts S.Shelf shelf.old shelf.new }
         ensures failed { S.failed shelf.new ≡ S.failed shelf.old }
-        ensures texts { IsTrue (S.tells shelf.old) → S.texts shelf.new ≡ S.texts shelf.old }
-        ensures others { IsTrue (S.tells shelf.old) → S.left shelf.new ≡ S.left shelf.old }
         ensures running { IfOk result (λ merger. stop_in merger ≡ None) }
         ensures begins { IsTrue (S.tells shelf.old) → IfOk result (λ merger. Begins (record { texts = S.texts shelf.old; inputs = option_copied inputs.entry })
-            (web_at (S.texts shelf.old) web.now (option_copied second.entry)) (change_at (S.texts shelf.old) (option_copied change.entry)) (so_far merger) (to_come (S.texts shelf.new) (S.left shelf.new) merger)) }
+            (web_at (S.texts shelf.old) web.now (option_copied second.entry)) (change_at (S.texts shelf.old) (option_copied change.entry)) (so_far merger) (to_come S.Shelf shelf.new merger)) }
         ensures stops { IsTrue (S.tells shelf.old) → IfErr result (λ stop. StopsAtStart stop (web_at (S.texts shelf.old) web.now (option_copied second.entry)) (change_at (S.texts shelf.old) (option_copied change.entry))) }
         ensures only { IfErr result (λ stop. StartStops stop) }
     {
@@ -168,32 +165,22 @@ impl<S: Shelf> Merger<S> {
     /// After a stop the merger answers the same one to each further call, and `line` is empty.
     pub fn next_line(&mut self, shelf: &mut S, line: &mut Vec<u8>) -> Result<Option<Place>, Stop>
         requires { S.failed shelf.old + 1 < 2 ^ 64 }
-        ensures tells { S.tells shelf.new ≡ S.tells shelf.old }
-        ensures texts { IsTrue (S.tells shelf.old) → S.texts shelf.new ≡ S.texts shelf.old }
-        ensures others { IsTrue (S.tells shelf.old) → S.left shelf.new ≡ S.left shelf.old }
+        ensures keeps { KeepsTexts S.Shelf shelf.old shelf.new }
+        ensures grows { Grows (so_far self.old) (so_far self.new) }
 
         // the next line that is to come, or none
         ensures next { IsTrue (S.tells shelf.old) → IfOk result (λ place. NextLine place line.new.items (so_far self.old) (so_far self.new)
-            (to_come (S.texts shelf.old) (S.left shelf.old) self.old) (to_come (S.texts shelf.new) (S.left shelf.new) self.new)) }
-        ensures known { IfOk result (λ place. IfSome place (λ p. p.file.0 < length (so_far self.new).names)) }
-        ensures grows { length (so_far self.old).names ≤ length (so_far self.new).names }
-        ensures line { IfOk result (λ place. OnSome place (IsOneLine line.new.items)) }
-        ensures gains { IfOk result (λ place. OnSome place ((so_far self.old).count.bytes + length line.new.items ≤ (so_far self.new).count.bytes)) }
-        ensures fewer { IfOk result (λ place. OnSome place ((so_far self.old).count.lines < (so_far self.new).count.lines)) }
-        ensures within { ((so_far self.new).count.lines ≤ LINES) × ((so_far self.new).count.bytes ≤ BYTES) }
+            (to_come S.Shelf shelf.old self.old) (to_come S.Shelf shelf.new self.new)) }
+        ensures given { IfOk result (λ place. IfSome place (λ p. GivesOut p line.new.items (so_far self.old) (so_far self.new))) }
         ensures end { result ≡ Ok None → (line.new.items ≡ []) × HasEnded self.new }
         ensures ended { stop_in self.old ≡ None → HasEnded self.old → (result ≡ Ok None) × (self.new ≡ self.old) × (shelf.new ≡ shelf.old) }
+        ensures running { OnOk result (stop_in self.new ≡ None) }
 
         // why there is no answer
         ensures blames { stop_in self.old ≡ None → ReadBlames (S.failed shelf.old) (S.failed shelf.new) result }
-        ensures stops { IsTrue (S.tells shelf.old) → stop_in self.old ≡ None → IfErr result (λ stop. Stopped stop (so_far self.old).count (so_far self.new).count
-            (to_come (S.texts shelf.old) (S.left shelf.old) self.old)) }
-        ensures told { IsTrue (S.tells shelf.old) → stop_in self.old ≡ None → OnErr result (TellsFront (so_far self.old) (so_far self.new) (to_come (S.texts shelf.old) (S.left shelf.old) self.old)) }
-        ensures reading { stop_in self.old ≡ None → IfErr result (λ stop. StopsReading stop) }
-        ensures named { IfErr result (λ stop. files_named stop ≤ length (so_far self.new).names) }
+        ensures kept { stop_in self.old ≡ None → IfErr result (λ stop. KeepsStop stop (stop_in self.new) (so_far self.new)) }
+        ensures stops { IsTrue (S.tells shelf.old) → stop_in self.old ≡ None → IfErr result (λ stop. StopsThere stop (so_far self.old) (so_far self.new) (to_come S.Shelf shelf.old self.old)) }
         ensures again { IfSome (stop_in self.old) (λ stop. (result ≡ Err stop) × (self.new ≡ self.old) × (shelf.new ≡ shelf.old)) }
-        ensures kept { IfErr result (λ stop. stop_in self.new ≡ Some stop) }
-        ensures runs { OnOk result (stop_in self.new ≡ None) }
         ensures empty { OnErr result (line.new.items ≡ []) }
     {
         if let Some(stop) = self.run.stopped {

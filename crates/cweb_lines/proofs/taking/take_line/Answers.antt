@@ -15,7 +15,7 @@ pub returns-in-Err-add-clause-stops : goal.returns-in-Err-add-clause-stops
 returns-in-Err-add-clause-stops g c = λ tells.
     let line = rw c.in-Some.is at (c.in-Ok.ensures.taken tells) in
     first_passes c.in-Err-add.stop line.taken (left_of g.S.Shelf.left c.args.shelf.now c.args.text.now.source) (left_of g.S.Shelf.left c.take_trimmed.new.shelf c.take_trimmed.new.source) line.raw
-    c.args.text.now.file.0 (c.args.text.now.line + 1) (count_of c.args.limits.now) line.some line.takes c.in-Err-add.ensures.stop
+    c.args.text.now.file.0 (c.args.text.now.line + 1) (count_of c.args.limits.now) line.some line.takes line.short c.in-Err-add.ensures.stop
     (rw line.size_is at c.in-Err-add.ensures.passed)
 
 pub returns-clause-taken : goal.returns-clause-taken

@@ -1,124 +1,124 @@
-use Rattle.std.proofs.Common.{rules, ◌++◌, ◌∷◌, [], refl, ap, sym, subst, ◌∙◌, arith}
-use Rattle.std.specs.Prelude.{IsTrue}
-use Rattle.cweb_lines.specs.Told.{given_lines}
-use Rattle.cweb_lines.proofs.Merges.{gives_nothing, gives_both}
-use Rattle.cweb_lines.proofs.Writes.{given_front, gives_all, nothing_yet, stays_front, ends_front, ends_whole, ends_failing, passed_on, fails_front, fails_in, stopped_writing, read_blame_after, stops_after, writing_after, named_after, tells_some, tells_more, tells_same}
+use Rattle.std.proofs.Common.{rules, ◌+◌, ◌∷◌, [], refl, ap, sym, ◌∙◌, arith}
+use Rattle.cweb_files.specs.Frames.{Writes}
+use Rattle.cweb_lines.specs.Texts.{read_blame}
+use Rattle.cweb_lines.specs.Writing.{write_blame}
+use Rattle.cweb_lines.proofs.Keeps.{keeps_same, keeps_told, keeps_then, place_same, place_then}
+use Rattle.cweb_lines.proofs.Writes.{nothing_yet, emptied, ends_front, ends_whole, ended_early, halted, fails_last, passed_on, fails_front, fails_among, write_failed, blamed, tells_some, tells_more, tells_same}
 use Rattle.cweb_lines.proofs.writing.write_merged_in_pieces.Goals as goal
 
 pub lines-init : goal.lines-init
 lines-init g c = record {
-  tells = refl;
+  keeps = keeps_same g.S.Shelf _;
+  place = place_same g.W.Sink _;
   failed = refl;
-  out_tells = refl;
   out_failed = refl;
-  texts = λ tells. refl;
   running = sym c.stopped.ensures ∙ c.in_default.is;
   before = sym c.stopped.ensures ∙ c.in_default.is;
-  gives = λ tells. ([], gives_nothing _ _ _ _ refl refl refl refl);
-  written = λ tells out. rw c.new-piece.ensures.items (nothing_yet c.args.room _ _);
+  names = omega arith;
+  empty = λ none. c.new-piece.ensures.items;
+  gathered = λ tells. rw c.new-piece.ensures.items (nothing_yet g.W.Sink _ _ _ _);
 }
 
-pub returns-in-Err-clause-err : goal.returns-in-Err-clause-err
-returns-in-Err-clause-err g c = λ tells out.
-    ends_front c.args.room _ _ _ _ _ (c.lines.invariant.written tells out) _ (rw c.deref.ensures.value at (c.write_rest.ensures.front (subst IsTrue (sym c.lines.invariant.out_tells) out)))
+-- the merger stopped
+pub returns-in-Err-clause-keeps : goal.returns-in-Err-clause-keeps
+returns-in-Err-clause-keeps g c = (
+  keeps_then g.S.Shelf _ _ _ c.lines.invariant.keeps c.in-Err.ensures.keeps,
+  place_then g.W.Sink _ _ _ c.lines.invariant.place c.write_rest.ensures.keeps,
+)
+
+pub returns-in-Err-clause-front : goal.returns-in-Err-clause-front
+returns-in-Err-clause-front g c = λ tells.
+    ends_front g.W.Sink _ _ c.lines.invariant.place _ _ _ _ _ _ (c.lines.invariant.gathered tells) c.write_rest.new.out (rw c.deref.ensures.value at c.write_rest.ensures.front)
 
 pub returns-in-Err-clause-stops : goal.returns-in-Err-clause-stops
 returns-in-Err-clause-stops g c = λ tells before.
-    let given = c.lines.invariant.gives tells in
-    stops_after c.in-Err.stop c.write_rest.result c.write_rest.ensures.after _ _ _
-    (stopped_writing c.in-Err.stop given.0 _ _ _ _ _ given.1 (c.in-Err.ensures.stops (subst IsTrue (sym c.lines.invariant.tells) tells) c.lines.invariant.running))
-
-pub returns-in-Err-clause-told : goal.returns-in-Err-clause-told
-returns-in-Err-clause-told g c = λ tells before.
-    let given = c.lines.invariant.gives tells in
-    tells_more given.0 _ _ _ _ _ given.1 (c.in-Err.ensures.told (subst IsTrue (sym c.lines.invariant.tells) tells) c.lines.invariant.running)
-
-pub returns-in-Err-write_piece-clause-told : goal.returns-in-Err-write_piece-clause-told
-returns-in-Err-write_piece-clause-told g c = λ tells before.
-    let given = c.lines.invariant.gives tells in
-    let next = rw c.in_default-next.is at (c.in-Ok.ensures.next (subst IsTrue (sym c.lines.invariant.tells) tells)) in
-    tells_more given.0 _ _ _ _ _ given.1 (tells_some [] _ _ _ _ next.0)
-
-pub returns-in-Err-gather-clause-told : goal.returns-in-Err-gather-clause-told
-returns-in-Err-gather-clause-told g c = λ tells before.
-    let given = c.lines.invariant.gives tells in
-    let next = rw c.in-Some-next.is at (c.in-Ok.ensures.next (subst IsTrue (sym c.lines.invariant.tells) tells)) in
-    tells_same _ _ _ _ c.halt.ensures.so_far (tells_more given.0 _ _ _ _ _ given.1 (tells_some _ _ _ _ _ next))
-
-pub returns-in-Err-pass_on-clause-told : goal.returns-in-Err-pass_on-clause-told
-returns-in-Err-pass_on-clause-told g c = λ tells before.
-    let given = c.lines.invariant.gives tells in
-    let next = rw c.in-Some-next.is at (c.in-Ok.ensures.next (subst IsTrue (sym c.lines.invariant.tells) tells)) in
-    tells_more given.0 _ _ _ _ _ given.1 (tells_some _ _ _ _ _ next)
-
-pub returns-in-Err-clause-writing : goal.returns-in-Err-clause-writing
-returns-in-Err-clause-writing g c = λ before. writing_after c.in-Err.stop c.write_rest.result c.write_rest.ensures.after (c.in-Err.ensures.reading c.lines.invariant.running)
+    let gathered = c.lines.invariant.gathered tells in
+    let there = c.in-Err.ensures.stops (keeps_told g.S.Shelf _ _ c.lines.invariant.keeps tells) c.lines.invariant.running in
+    record {
+      why = ended_early g.W.Sink _ _ c.lines.invariant.place _ _ _ _ _ _ gathered c.in-Err.stop c.write_rest.result _ c.write_rest.new.out there.why (rw c.deref.ensures.value at c.write_rest.ensures.rest);
+      told = tells_more _ _ _ _ _ _ gathered.gives there.told;
+    }
 
 pub returns-in-Err-clause-blames : goal.returns-in-Err-clause-blames
 returns-in-Err-clause-blames g c = λ before.
-    omega (arith, c.in-Err.ensures.blames c.lines.invariant.running, c.lines.invariant.failed, read_blame_after c.in-Err.stop c.write_rest.result c.write_rest.ensures.after)
+    blamed c.in-Err.stop c.write_rest.result _ _ _ _ _ _ c.write_rest.ensures.rest (c.in-Err.ensures.kept c.lines.invariant.running)
+    (c.in-Err.ensures.blames c.lines.invariant.running ∙ ap (λ n. n + read_blame c.in-Err.stop) c.lines.invariant.failed)
+    (c.write_rest.ensures.failed ∙ ap (λ n. n + write_blame c.write_rest.result) c.lines.invariant.out_failed)
 
-pub returns-in-Err-clause-named : goal.returns-in-Err-clause-named
-returns-in-Err-clause-named g c = named_after c.in-Err.stop c.write_rest.result c.write_rest.ensures.after _ c.in-Err.ensures.named
+-- no line was left
+pub returns-in-Err-write_piece-clause-front : goal.returns-in-Err-write_piece-clause-front
+returns-in-Err-write_piece-clause-front g c = λ tells.
+    ends_front g.W.Sink _ _ c.lines.invariant.place _ _ _ _ _ _ (c.lines.invariant.gathered tells) c.write_piece.new.out (rw c.deref-in_default-next.ensures.value at c.in-Err-write_piece.ensures.err)
 
-pub returns-in-Err-write_piece-clause-err : goal.returns-in-Err-write_piece-clause-err
-returns-in-Err-write_piece-clause-err g c = λ tells out.
-    ends_front c.args.room _ _ _ _ _ (c.lines.invariant.written tells out) _ (rw c.deref-in_default-next.ensures.value at (c.in-Err-write_piece.ensures.err (subst IsTrue (sym c.lines.invariant.out_tells) out)))
+pub returns-in-Err-write_piece-clause-stops : goal.returns-in-Err-write_piece-clause-stops
+returns-in-Err-write_piece-clause-stops g c = λ tells before.
+    let next = rw c.in_default-next.is at (c.in-Ok.ensures.next (keeps_told g.S.Shelf _ _ c.lines.invariant.keeps tells)) in
+    record {
+      why = write_failed _ _ _ _ _ c.in-Err-write_piece.ensures.stop;
+      told = tells_more _ _ _ _ _ _ (c.lines.invariant.gathered tells).gives (tells_some [] _ _ _ _ next.0);
+    }
 
 pub returns-in-Err-write_piece-clause-fault : goal.returns-in-Err-write_piece-clause-fault
-returns-in-Err-write_piece-clause-fault g c = λ tells out running.
-    let next = rw c.in_default-next.is at (c.in-Ok.ensures.next (subst IsTrue (sym c.lines.invariant.tells) tells)) in
-    ends_failing c.args.room _ _ _ _ _ (c.lines.invariant.written tells out) _ (given_front [] _ _ _ _ next.0) _ (rw c.deref-in_default-next.ensures.value at c.in-Err-write_piece.ensures.some)
-    (rw c.deref-in_default-next.ensures.value at (c.in-Err-write_piece.ensures.err (subst IsTrue (sym c.lines.invariant.out_tells) out)))
+returns-in-Err-write_piece-clause-fault g c = λ tells out before is running.
+    let next = rw c.in_default-next.is at (c.in-Ok.ensures.next (keeps_told g.S.Shelf _ _ c.lines.invariant.keeps tells)) in
+    fails_last g.W.Sink _ _ c.lines.invariant.place _ _ _ _ _ _ (c.lines.invariant.gathered tells) c.write_piece.new.out _ _ next.0 (rw c.deref-in_default-next.ensures.value at c.in-Err-write_piece.ensures.some) out
+    (rw c.deref-in_default-next.ensures.value at c.in-Err-write_piece.ensures.err)
 
 pub returns-in_default-next-clause-ok : goal.returns-in_default-next-clause-ok
-returns-in_default-next-clause-ok g c = λ tells out.
-    let next = rw c.in_default-next.is at (c.in-Ok.ensures.next (subst IsTrue (sym c.lines.invariant.tells) tells)) in
-    ends_whole c.args.room _ _ _ _ _ (c.lines.invariant.written tells out) _ (given_front [] _ _ _ _ next.0 ∙ ap given_lines next.1)
-    (rw c.deref-in_default-next.ensures.value at (c.in_default-write_piece.ensures.ok (subst IsTrue (sym c.lines.invariant.out_tells) out)))
+returns-in_default-next-clause-ok g c = λ tells.
+    let next = rw c.in_default-next.is at (c.in-Ok.ensures.next (keeps_told g.S.Shelf _ _ c.lines.invariant.keeps tells)) in
+    ends_whole g.W.Sink _ _ c.lines.invariant.place _ _ _ _ _ _ (c.lines.invariant.gathered tells) c.write_piece.new.out _ _ next.0 next.1
+    (rw c.deref-in_default-next.ensures.value at c.in_default-write_piece.ensures.ok)
 
-pub returns-in_default-next-clause-gives : goal.returns-in_default-next-clause-gives
-returns-in_default-next-clause-gives g c = λ tells.
-    let given = c.lines.invariant.gives tells in
-    let next = rw c.in_default-next.is at (c.in-Ok.ensures.next (subst IsTrue (sym c.lines.invariant.tells) tells)) in
-    gives_all (given.0 ++ []) _ _ _ _ (gives_both given.0 [] _ _ _ _ _ _ given.1 next.0) next.1
+-- memory was refused for a line
+pub returns-in-Err-gather-clause-front : goal.returns-in-Err-gather-clause-front
+returns-in-Err-gather-clause-front g c = λ tells.
+    ends_front g.W.Sink _ _ c.lines.invariant.place _ _ _ _ _ _ (c.lines.invariant.gathered tells) c.write_rest-in-Err-gather.new.out
+    (rw (c.deref-in-Err-gather.ensures.value, c.in-Err-gather.ensures.err) at c.write_rest-in-Err-gather.ensures.front)
 
-pub halt-requires : goal.halt-requires
-halt-requires g c = search rules
+pub returns-in-Err-gather-clause-stops : goal.returns-in-Err-gather-clause-stops
+returns-in-Err-gather-clause-stops g c = λ tells before.
+    let next = rw c.in-Some-next.is at (c.in-Ok.ensures.next (keeps_told g.S.Shelf _ _ c.lines.invariant.keeps tells)) in
+    let gathered = c.lines.invariant.gathered tells in
+    record {
+      why = halted g.W.Sink _ _ c.lines.invariant.place _ _ _ _ _ _ gathered c.write_rest-in-Err-gather.result _ c.write_rest-in-Err-gather.new.out
+          (rw (c.halt.ensures.stop, c.deref-in-Err-gather.ensures.value, c.in-Err-gather.ensures.err) at c.write_rest-in-Err-gather.ensures.rest);
+      told = tells_same _ _ _ _ c.halt.ensures.so_far (tells_more _ _ _ _ _ _ gathered.gives (tells_some _ _ _ _ _ next));
+    }
 
-pub has_line-requires : goal.has_line-requires
-has_line-requires g c = search rules
+-- a write failed
+pub returns-in-Err-pass_on-clause-front : goal.returns-in-Err-pass_on-clause-front
+returns-in-Err-pass_on-clause-front g c = λ tells.
+    let next = rw c.in-Some-next.is at (c.in-Ok.ensures.next (keeps_told g.S.Shelf _ _ c.lines.invariant.keeps tells)) in
+    fails_front g.W.Sink _ _ c.lines.invariant.place _ _ _ _ _ _ (c.lines.invariant.gathered tells) (record { bytes = c.next_line.new.line.items; place = c.in-Some-next.field-0 }) _ _ next _
+    (rw c.deref-in-lines.ensures.value at c.in_default-gather.ensures.ok) c.pass_on.new.out c.in-Err-pass_on.ensures.err
 
-pub returns-in-Err-gather-clause-err : goal.returns-in-Err-gather-clause-err
-returns-in-Err-gather-clause-err g c = λ tells out. stays_front c.args.room _ _ _ _ _ (c.lines.invariant.written tells out)
-
-pub returns-in-Err-pass_on-clause-err : goal.returns-in-Err-pass_on-clause-err
-returns-in-Err-pass_on-clause-err g c = λ tells out.
-    let next = given_front _ _ _ _ _ (rw c.in-Some-next.is at (c.in-Ok.ensures.next (subst IsTrue (sym c.lines.invariant.tells) tells))) in
-    fails_front c.args.room _ (record { bytes = c.next_line.new.line.items; place = c.in-Some-next.field-0 }) _ _ _ _ _ (rw next at (c.lines.invariant.written tells out))
-    (rw c.deref-in-lines.ensures.value at c.in_default-gather.ensures) _ (c.in-Err-pass_on.ensures.err (subst IsTrue (sym c.lines.invariant.out_tells) out))
+pub returns-in-Err-pass_on-clause-stops : goal.returns-in-Err-pass_on-clause-stops
+returns-in-Err-pass_on-clause-stops g c = λ tells before.
+    let next = rw c.in-Some-next.is at (c.in-Ok.ensures.next (keeps_told g.S.Shelf _ _ c.lines.invariant.keeps tells)) in
+    record {
+      why = write_failed _ _ _ _ _ c.in-Err-pass_on.ensures.stop;
+      told = tells_more _ _ _ _ _ _ (c.lines.invariant.gathered tells).gives (tells_some _ _ _ _ _ next);
+    }
 
 pub returns-in-Err-pass_on-clause-fault : goal.returns-in-Err-pass_on-clause-fault
-returns-in-Err-pass_on-clause-fault g c = λ tells out running.
-    let next = given_front _ _ _ _ _ (rw c.in-Some-next.is at (c.in-Ok.ensures.next (subst IsTrue (sym c.lines.invariant.tells) tells))) in
-    fails_in c.args.room _ (record { bytes = c.next_line.new.line.items; place = c.in-Some-next.field-0 }) _ _ _ _ _ (rw next at (c.lines.invariant.written tells out))
-    (rw c.deref-in-lines.ensures.value at c.in_default-gather.ensures) _ (c.in-Err-pass_on.ensures.err (subst IsTrue (sym c.lines.invariant.out_tells) out))
+returns-in-Err-pass_on-clause-fault g c = λ tells out before is running.
+    let next = rw c.in-Some-next.is at (c.in-Ok.ensures.next (keeps_told g.S.Shelf _ _ c.lines.invariant.keeps tells)) in
+    fails_among g.W.Sink _ _ c.lines.invariant.place _ _ _ _ _ _ (c.lines.invariant.gathered tells) (record { bytes = c.next_line.new.line.items; place = c.in-Some-next.field-0 }) _ _ next _
+    (rw c.deref-in-lines.ensures.value at c.in_default-gather.ensures.ok) c.pass_on.new.out out c.in-Err-pass_on.ensures.err
 
 pub lines-preserved : goal.lines-preserved
 lines-preserved g c = record {
-  tells = search rules;
+  keeps = keeps_then g.S.Shelf _ _ _ c.lines.invariant.keeps c.in-Ok.ensures.keeps;
+  place = place_then g.W.Sink _ _ _ c.lines.invariant.place c.in_default-pass_on.ensures.keeps;
   failed = search rules;
-  out_tells = search rules;
   out_failed = search rules;
-  texts = λ tells. c.in-Ok.ensures.texts (subst IsTrue (sym c.lines.invariant.tells) tells) ∙ c.lines.invariant.texts tells;
-  running = c.in-Ok.ensures.runs;
+  running = c.in-Ok.ensures.running;
   before = c.lines.invariant.before;
-  gives = λ tells.
-      let given = c.lines.invariant.gives tells in
-      let next = rw c.in-Some-next.is at (c.in-Ok.ensures.next (subst IsTrue (sym c.lines.invariant.tells) tells)) in
-      (given.0 ++ record { bytes = c.next_line.new.line.items; place = c.in-Some-next.field-0 } ∷ [], gives_both given.0 _ _ _ _ _ _ _ given.1 next);
-  written = λ tells out.
-      let next = given_front _ _ _ _ _ (rw c.in-Some-next.is at (c.in-Ok.ensures.next (subst IsTrue (sym c.lines.invariant.tells) tells))) in
-      passed_on c.args.room _ (record { bytes = c.next_line.new.line.items; place = c.in-Some-next.field-0 }) _ _ _ _ _ (rw next at (c.lines.invariant.written tells out))
-      (rw c.deref-in-lines.ensures.value at c.in_default-gather.ensures) _ _ (c.in_default-pass_on.ensures.ok (subst IsTrue (sym c.lines.invariant.out_tells) out));
+  names = omega (arith, c.in-Ok.ensures.grows.names, c.lines.invariant.names);
+  empty = λ none. emptied c.args.room c.gather.new.piece.items c.pass_on.new.piece.items (Writes g.W.Sink c.lines.out c.pass_on.new.out) c.in_default-pass_on.ensures.ok none;
+  gathered = λ tells.
+      let next = rw c.in-Some-next.is at (c.in-Ok.ensures.next (keeps_told g.S.Shelf _ _ c.lines.invariant.keeps tells)) in
+      passed_on g.W.Sink _ _ c.lines.invariant.place _ _ _ _ _ _ (c.lines.invariant.gathered tells) (record { bytes = c.next_line.new.line.items; place = c.in-Some-next.field-0 }) _ _ next _
+      (rw c.deref-in-lines.ensures.value at c.in_default-gather.ensures.ok) c.pass_on.new.out _ c.in_default-pass_on.ensures.ok;
 }
