@@ -5,7 +5,7 @@ use Rattle.cweb_files.specs.declared.place.FileId.{FileId}
 use Rattle.cweb_lines.specs.Lines.{SourceLine, HasNoNewline, IsOneLine, trimmed, before_blanks, is_blank, text_lines, numbered}
 use Rattle.cweb_lines.specs.Source.{Takes, IsLongerThan}
 use Rattle.cweb_lines.specs.Taking.{TakesWhole, TakesTrimmed}
-use Rattle.cweb_lines.specs.Texts.{Count, TakesLine, FirstStops, StopsFor, StopsReading, newline_bytes, stop_for}
+use Rattle.cweb_lines.specs.Texts.{Count, TakesLine, FirstStops, StopsFor, StopsReading, NamesFile, newline_bytes, stop_for}
 use Rattle.cweb_lines.specs.declared.limits.TheConstants.{LINE_LENGTH, LINES, BYTES}
 use Rattle.cweb_lines.specs.declared.source.LineFault.{LineFault}
 use Rattle.cweb_lines.specs.declared.source.LineFault.TheVariants.{Read, TooLong, Memory as NoMemory}
@@ -80,6 +80,11 @@ pub line_reads : (fault : LineFault) (stop : Stop) (file : FileId) → stop ≡ 
 line_reads Read stop file is = subst StopsReading (sym is) tt
 line_reads TooLong stop file is = subst StopsReading (sym is) tt
 line_reads NoMemory stop file is = subst StopsReading (sym is) tt
+
+pub line_names : (fault : LineFault) (stop : Stop) (file : FileId) → stop ≡ stop_for fault file → NamesFile file stop
+line_names Read stop file is = subst (NamesFile file) (sym is) refl
+line_names TooLong stop file is = subst (NamesFile file) (sym is) refl
+line_names NoMemory stop file is = subst (NamesFile file) (sym is) tt
 
 pub first_passes : (stop : Stop) (taken : Taken) (old new bytes : List ℕ) (file number : ℕ) (count : Count) → taken ≢ Ended → Takes old taken bytes new
     → length bytes ≤ LINE_LENGTH → stop ≡ TooMuchText → (count.lines ≡ LINES) ⊎ (BYTES < count.bytes + (length bytes + newline_bytes taken))

@@ -4,7 +4,7 @@ ghost use Rattle.cweb_lines.specs.Source.{left_of, pending, IsLongerThan, Blames
 ghost use Rattle.cweb_lines.specs.Taking.{TakesWhole, TakesTrimmed};
 ghost use Rattle.cweb_lines.specs.Lines.{trimmed, is_blank as blank, IsOneLine};
 ghost use Rattle.cweb_lines.specs.Counts.{count_of};
-ghost use Rattle.cweb_lines.specs.Texts.{lines_left, lines_at, number_of, line_number, text_depth, matches_at, DeepAt, files_up_to, TakesLine, StopsFor, StopsReading, FirstStops, ReadBlames, Counted, NamesFiles, stop_for, newline_bytes};
+ghost use Rattle.cweb_lines.specs.Texts.{lines_left, lines_at, number_of, line_number, text_depth, matches_at, DeepAt, files_up_to, TakesLine, StopsFor, StopsReading, FirstStops, ReadBlames, Counted, NamesFile, NamesFiles, stop_for, newline_bytes};
 
 use crate::limits::{LINE_LENGTH, Limits};
 use crate::reading::{newline_at, next_line};
@@ -146,6 +146,7 @@ fn take_line<S: Shelf>(
         (count_of limits.old) (count_of limits.new)) }
     ensures stops { IsTrue (S.tells shelf.old) → IfErr result (λ stop. StopsFor (FirstStops stop (count_of limits.old) (lines_left (S.left shelf.old) text.old)) stop) }
     ensures number { text.new.line ≤ limits.new.lines }
+    ensures names { IfErr result (λ stop. NamesFile text.old.file stop) }
     ensures reading { IfErr result (λ stop. StopsReading stop) }
     ensures more { limits.old.lines ≤ limits.new.lines }
     ensures counted { Counted (count_of limits.old) (count_of limits.new) result }

@@ -1,7 +1,7 @@
 use Rattle.std.proofs.Common.{◌+◌, ap, Err, arith}
 use Rattle.cweb_lines.specs.Counts.{count_of}
 use Rattle.cweb_lines.specs.Source.{left_of}
-use Rattle.cweb_lines.proofs.Trims.{takes_first, line_stops, line_reads, first_passes}
+use Rattle.cweb_lines.proofs.Trims.{takes_first, line_stops, line_reads, line_names, first_passes}
 use Rattle.cweb_lines.proofs.taking.take_line.Goals as goal
 
 pub returns-in-Err-clause-stops : goal.returns-in-Err-clause-stops
@@ -10,6 +10,9 @@ returns-in-Err-clause-stops g c = λ tells.
 
 pub returns-in-Err-clause-reading : goal.returns-in-Err-clause-reading
 returns-in-Err-clause-reading g c = line_reads c.in-Err.fault _ c.args.text.now.file c.stop_of.ensures
+
+pub returns-in-Err-clause-names : goal.returns-in-Err-clause-names
+returns-in-Err-clause-names g c = line_names c.in-Err.fault _ c.args.text.now.file c.stop_of.ensures
 
 pub returns-in-Err-add-clause-stops : goal.returns-in-Err-add-clause-stops
 returns-in-Err-add-clause-stops g c = λ tells.
