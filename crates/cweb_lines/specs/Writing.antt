@@ -1,10 +1,10 @@
 -- What merged lines look like in a sink.
 use Rattle.std.specs.Prelude.{◌≡◌, ◌<◌, ◌≤◌, ◌+◌, ◌⊎◌, ℕ, List, [], ◌∷◌, ◌++◌, length, Bool, IsTrue, Option, None, Some}
 use Rattle.cweb_files.specs.declared.place.FileId.{FileId}
-use Rattle.cweb_lines.specs.Lines.{Line}
-use Rattle.cweb_lines.specs.Merge.{Event}
+use Rattle.cweb_lines.specs.Lines.{Line, SourceLine}
+use Rattle.cweb_lines.specs.Merge.{Event, took}
 use Rattle.cweb_lines.specs.Merging.{SoFar, Gives, StopsBehind, TellsFront}
-use Rattle.cweb_lines.specs.Texts.{Count, read_blame, files_named}
+use Rattle.cweb_lines.specs.Texts.{Count, IsTooLong, read_blame, files_named}
 use Rattle.cweb_lines.specs.Told.{given_lines}
 use Rattle.cweb_lines.specs.declared.stop.Stop.{Stop}
 use Rattle.cweb_lines.specs.declared.stop.Stop.TheVariants.{ReadFault, LineTooLong, TooMuchText, Memory, WriteFault}
@@ -38,6 +38,14 @@ pub record WritesUpTo (stop : Stop) (old now : Count) (all : List Event) (Wrote 
   pub lines : List Line
   pub stops : StopsBehind lines stop old now all
   pub wrote : Wrote (text_of lines)
+
+-- a line of this file is to be taken that is too long
+pub record LongIn (file : FileId) (all : List Event) : Type 0 where
+  pub events : List Event
+  pub line : SourceLine
+  pub later : List Event
+  pub whole : all ≡ events ++ took line ∷ later
+  pub why : IsTooLong file line
 
 -- what a stop leaves of the lines that are to be written: whole lines, unless a write failed
 abbrev pub StopsWriting : Stop → Count → Count → List Event → (List ℕ → Type 0) → Type 0

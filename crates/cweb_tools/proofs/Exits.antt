@@ -1,16 +1,17 @@
 -- How the exits of a run are its ends.
-use Rattle.std.proofs.Common.{◌≤◌, ◌≡◌, ◌≢◌, ◌⊎◌, inl, inr, ℕ, List, [], ◌∷◌, ◌++◌, length, refl, sym, ◌∙◌, ap, subst, append-nil, append_assoc, arith}
+use Rattle.std.proofs.Common.{◌≤◌, ◌≡◌, ◌≢◌, ◌⊎◌, ◌+◌, inl, inr, ℕ, List, [], ◌∷◌, ◌++◌, length, refl, sym, ◌∙◌, ap, subst, append-nil, append_assoc, arith}
 use Rattle.std.specs.Prelude.{Option, Some, None, Result, Ok, Err, IsTrue}
 use Rattle.cweb_lines.proofs.Merges.{openings-append}
 use Rattle.cweb_lines.specs.Finding.{names_found, text_found}
 use Rattle.cweb_lines.specs.Include.{World, Found, web_at, change_at}
+use Rattle.cweb_lines.specs.Lines.{Line}
 use Rattle.cweb_lines.specs.Merge.{Event, started}
-use Rattle.cweb_lines.specs.Merging.{SoFar, Gives, TellsFront, TooMuchAhead}
-use Rattle.cweb_lines.specs.Texts.{Count, ReadBlames, StartStops, files_named, read_blame}
+use Rattle.cweb_lines.specs.Merging.{SoFar, Gives, StopsBehind, TellsFront}
+use Rattle.cweb_lines.specs.Texts.{Count, StartStops, files_named, read_blame}
 use Rattle.cweb_lines.specs.Told.{given_lines, told_faults, openings, taken_lines, IsWithinLimits}
 use Rattle.cweb_lines.specs.Total.{merge}
 use Rattle.cweb_lines.specs.Whole.{Begins, StopsAtStart}
-use Rattle.cweb_lines.specs.Writing.{text_of, StopsWriting, WritingStops, WriteBlames, WritesFront, write_blame}
+use Rattle.cweb_lines.specs.Writing.{text_of, StopsWriting, WritingStops, WritesFront, write_blame}
 use Rattle.cweb_lines.specs.declared.fault.SourceFault.{SourceFault}
 use Rattle.cweb_lines.specs.declared.limits.TheConstants.{LINES, BYTES}
 use Rattle.cweb_lines.specs.declared.stop.Stop.{Stop}
@@ -147,21 +148,23 @@ module _ (first : List (List ℕ)) (all : List Event) (old new : SoFar) (began :
       })
 
 -- with one more line than was taken a sum would pass its limit, and that line is among all
-passes_sums : (first : List (List ℕ)) (old : SoFar) (now : Count) (events : List Event) → old ≡ begun_with first
-    → TooMuchAhead old.count now events → PassesSums events
-passes_sums first old now events began why =
+passes_sums : (first : List (List ℕ)) (old : SoFar) (now : Count) (lines : List Line) (events : List Event) → old ≡ begun_with first
+    → StopsBehind lines TooMuchText old.count now events → PassesSums events
+passes_sums first old now lines events began ahead =
     let no_lines : old.count.lines ≡ 0 = ap (λ (s : SoFar). s.count.lines) began in
     let no_bytes : old.count.bytes ≡ 0 = ap (λ (s : SoFar). s.count.bytes) began in
-    elim why.passes [ inl lines ↦ inl (omega (arith, lines, why.few, no_lines)) | inr bytes ↦ inr (omega (arith, bytes, why.small, no_bytes)) ]
+    elim ahead.why.passes [ inl taken ↦ inl (omega (arith, taken, ahead.few, no_lines)) | inr bytes ↦ inr (omega (arith, bytes, ahead.small, no_bytes)) ]
 
-writing_cause : (stop : Stop) (first : List (List ℕ)) (old : SoFar) (now : Count) (events : List Event) → old ≡ begun_with first → WritingStops stop → StopsWriting stop old.count now events
+writing_cause : (stop : Stop) (first : List (List ℕ)) (old : SoFar) (now : Count) (events : List Event) (Wrote : List ℕ → Type 0) → old ≡ begun_with first → WritingStops stop
+    → StopsWriting stop old.count now events Wrote
     → CanStop stop (merging first events)
-writing_cause (ReadFault file) first old now events began kind why = tt
-writing_cause (LineTooLong file) first old now events began kind why = why
-writing_cause TooMuchText first old now events began kind why = passes_sums first old now events began why
-writing_cause Memory first old now events began kind why = tt
-writing_cause WriteFault first old now events began kind why = tt
-writing_cause stop first old now events began kind why = absurd kind
+writing_cause (ReadFault file) first old now events Wrote began kind why = tt
+writing_cause (LineTooLong file) first old now events Wrote began kind why =
+    record { events = why.stops.events; line = why.stops.line; later = why.stops.later; whole = why.stops.whole; why = why.stops.why }
+writing_cause TooMuchText first old now events Wrote began kind why = passes_sums first old now why.lines events began why.stops
+writing_cause Memory first old now events Wrote began kind why = tt
+writing_cause WriteFault first old now events Wrote began kind why = tt
+writing_cause stop first old now events Wrote began kind why = absurd kind
 
 writing_comes : (stop : Stop) → WritingStops stop → Comes stop
 writing_comes (ReadFault file) kind = tt
@@ -210,15 +213,16 @@ module _ (world : World) (names : WebNames) (found : Option Found) (changes : Op
     failed = failed;
   })
 
-  pub stopped : (stop : Stop) (new : SoFar) (files : List (List ℕ)) → files ≡ new.names → WritingStops stop → (IsTrue before.shelf.tells → StopsWriting stop old.count new.count all)
+  pub stopped : (stop : Stop) (new : SoFar) (files : List (List ℕ)) (Wrote : List ℕ → Type 0) → files ≡ new.names → WritingStops stop
+      → (IsTrue before.shelf.tells → StopsWriting stop old.count new.count all Wrote)
       → files_named stop ≤ length new.names → (IsTrue before.shelf.tells → TellsFront old new all)
-      → ReadBlames {A = Unit {0}} before.shelf.failed after.shelf.failed (Err stop) → WriteBlames {A = Unit {0}} before.out.failed after.out.failed (Err stop)
+      → after.shelf.failed ≡ before.shelf.failed + read_blame stop → after.out.failed ≡ before.out.failed + write_blame stop
       → (IsTrue before.shelf.tells → IsTrue before.out.tells → WritesFront before.out.bytes after.out.bytes (text_of (given_lines all)))
       → Logs (stop_line stop (subject files stop)) before.log after.log → status ≡ 1 → Merges names (found_course world names found changes) before after status
-  stopped stop new files files_are kind why named front read out written logs answered = stops (record {
+  stopped stop new files Wrote files_are kind why named front read out written logs answered = stops (record {
     stop = stop;
     comes = writing_comes stop kind;
-    cause = λ tells. subst (λ (course : Course). CanStop stop course) (sym (begun tells)) (writing_cause stop _ old new.count all (begins tells).so_far_is kind (why tells));
+    cause = λ tells. subst (λ (course : Course). CanStop stop course) (sym (begun tells)) (writing_cause stop _ old new.count all Wrote (begins tells).so_far_is kind (why tells));
     files = files;
     named = rw files_are named;
     opened = λ tells. subst (λ (course : Course). AreOpened files course) (sym (begun tells)) (opened_by _ old new all (begins tells).so_far_is (front tells) files files_are);

@@ -1,8 +1,9 @@
-use Rattle.std.proofs.Common.{refl, sym, ◌∙◌, subst, ℕ}
-use Rattle.std.specs.Prelude.{IsTrue, Err}
+use Rattle.std.proofs.Common.{◌+◌, refl, sym, ◌∙◌, ap, subst}
+use Rattle.std.specs.Prelude.{IsTrue}
 use Rattle.std.specs.Option.{option_copied}
 use Rattle.cweb_lines.specs.Include.{World}
-use Rattle.cweb_lines.specs.Texts.{ReadBlames}
+use Rattle.cweb_files.specs.Frames.{Writes}
+use Rattle.cweb_lines.specs.Texts.{read_blame}
 use Rattle.cweb_tools.proofs.Exits.{start_stopped, completed, stopped}
 use Rattle.cweb_tools.specs.Course.{world_of}
 use Rattle.cweb_tools.specs.Words.{WebNames, names_of}
@@ -20,31 +21,32 @@ pub returns-in-Ok-write_merged_in_pieces : goal.returns-in-Ok-write_merged_in_pi
 returns-in-Ok-write_merged_in_pieces g c =
     let world : World = world_of (g.S.Shelf.texts c.args.shelf.now) (option_copied c.args.inputs) in
     let names : WebNames = names_of c.args.asked.now in
-    let tells-2 : (IsTrue (g.S.Shelf.tells c.args.shelf.now)) → IsTrue (g.S.Shelf.tells c.start-started.new.shelf) = λ tells. subst IsTrue (sym c.in-Ok.ensures.tells) tells in
+    let tells-2 : (IsTrue (g.S.Shelf.tells c.args.shelf.now)) → IsTrue (g.S.Shelf.tells c.start-started.new.shelf) = λ tells. subst IsTrue (sym c.in-Ok.ensures.keeps.tells) tells in
     let wrote = c.in-Ok-write_merged_in_pieces.ensures in
     completed world names _ _ _ _ _ _ _
     (λ tells. rw (c.as_str.ensures.value, c.second.ensures, c.change.ensures, c.folder.ensures) at (c.in-Ok.ensures.begins tells))
     _ _ _ c.names.ensures c.faults.ensures.value
-    (λ tells. wrote.gives (tells-2 tells)) wrote.within.0 wrote.within.1
-    (wrote.blames c.in-Ok.ensures.running ∙ c.in-Ok.ensures.failed)
-    (wrote.out_blames c.in-Ok.ensures.running)
-    (λ tells told. wrote.ok (tells-2 tells) told)
+    (λ tells. (wrote.ok (tells-2 tells)).gives) wrote.grows.lines wrote.grows.bytes
+    (wrote.ended.2 ∙ c.in-Ok.ensures.failed)
+    wrote.ended.3
+    (λ tells told. (wrote.ok (tells-2 tells)).wrote told)
     c.log_faults.ensures.logs c.log_faults.ensures.answered c.log_faults.ensures.failed
 
 pub returns : goal.returns
 returns g c =
     let world : World = world_of (g.S.Shelf.texts c.args.shelf.now) (option_copied c.args.inputs) in
     let names : WebNames = names_of c.args.asked.now in
-    let tells-2 : (IsTrue (g.S.Shelf.tells c.args.shelf.now)) → IsTrue (g.S.Shelf.tells c.start-started.new.shelf) = λ tells. subst IsTrue (sym c.in-Ok.ensures.tells) tells in
+    let tells-2 : (IsTrue (g.S.Shelf.tells c.args.shelf.now)) → IsTrue (g.S.Shelf.tells c.start-started.new.shelf) = λ tells. subst IsTrue (sym c.in-Ok.ensures.keeps.tells) tells in
     let stop = c.in-Err-write_merged_in_pieces.stop in
     let wrote = c.in-Err-write_merged_in_pieces.ensures in
     let running = c.in-Ok.ensures.running in
+    let blames = wrote.blames running in
     stopped world names _ _ _ _ _ _ _
     (λ tells. rw (c.as_str.ensures.value, c.second.ensures, c.change.ensures, c.folder.ensures) at (c.in-Ok.ensures.begins tells))
-    stop _ _ c.names-in-Err-write_merged_in_pieces.ensures (wrote.writing running)
-    (λ tells. wrote.stops (tells-2 tells) running) wrote.named (λ tells. wrote.told (tells-2 tells) running)
-    (subst (λ (n : ℕ). ReadBlames {A = Unit {0}} n (g.S.Shelf.failed c.write_merged_in_pieces.new.shelf) (Err stop)) c.in-Ok.ensures.failed (wrote.blames running))
-    (wrote.out_blames running)
-    (λ tells told. wrote.err (tells-2 tells) told)
+    stop _ _ (Writes g.W.Sink c.args.out.now c.write_merged_in_pieces.new.out) c.names-in-Err-write_merged_in_pieces.ensures blames.kind
+    (λ tells. (wrote.stops (tells-2 tells) running).why) blames.named (λ tells. (wrote.stops (tells-2 tells) running).told)
+    (blames.shelf ∙ ap (λ n. n + read_blame stop) c.in-Ok.ensures.failed)
+    blames.out
+    (λ tells told. wrote.front (tells-2 tells) told)
     (rw c.subject.ensures at c.log_stop-in-Err-write_merged_in_pieces.ensures.logs)
     c.log_stop-in-Err-write_merged_in_pieces.ensures.status
