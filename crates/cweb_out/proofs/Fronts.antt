@@ -91,3 +91,19 @@ flat_at f xs i d lt =
     ap (flat_map f) (sym (take-append-drop i xs)) ∙ flat_map-append f (take i xs) (drop i xs)
     ∙ ap (λ ys. flat_map f (take i xs) ++ flat_map f ys) (drop-cons xs i d lt)
     ∙ sym (append_assoc (flat_map f (take i xs)) (f (get_or xs i d)) (flat_map f (drop (suc i) xs)))
+
+-- a text of several pieces: the first failed, or the second, or the last one was written or failed
+pub first_failed : {A E : Type 0} (old new text piece rest : List ℕ) (r : Result A E) → text ≡ piece ++ rest → IsErr r → WritesFront old new piece → Wrote old new text r
+first_failed old new text piece rest r is err f =
+    wrote_err old new text r err (written_front old old new text piece rest (record { front = []; written = sym (append-nil old); whole = is }) f)
+
+pub second_failed : {A E : Type 0} (old mid new text first piece rest : List ℕ) (r : Result A E) → text ≡ first ++ (piece ++ rest) → mid ≡ old ++ first → IsErr r → WritesFront mid new piece → Wrote old new text r
+second_failed old mid new text first piece rest r is wrote err f =
+    wrote_err old new text r err (written_front old mid new text piece rest (record { front = first; written = wrote; whole = is }) f)
+
+pub second_last : {A E : Type 0} (old mid new text first piece : List ℕ) (r : Result A E) → text ≡ first ++ piece → mid ≡ old ++ first → Wrote mid new piece r → Wrote old new text r
+second_last old mid new text first piece r is wrote last = written_last old mid new text piece r (record { front = first; written = wrote; whole = is }) last
+
+pub third_last : {A E : Type 0} (old mid next new text first second piece : List ℕ) (r : Result A E) → text ≡ first ++ (second ++ piece) → mid ≡ old ++ first → next ≡ mid ++ second → Wrote next new piece r → Wrote old new text r
+third_last old mid next new text first second piece r is wrote more last =
+    written_last old next new text piece r (written_more old mid next text second piece (record { front = first; written = wrote; whole = is }) more) last

@@ -9,10 +9,15 @@ use Rattle.cweb_out.specs.declared.frame.Frame.{Frame}
 use Rattle.cweb_out.specs.Outputs.{defs_first}
 use Rattle.cweb_out.specs.Frames.{suffix, IsRun, IsWithin, run_tokens, runs_tokens}
 
-slice_get-or : (ts : List Token) (i : ℕ) (t : Token) → slice_get ts i ≡ Some t → t ≡ slice_index_or ts i t
+pub slice_get-or : (ts : List Token) (i : ℕ) (t : Token) → slice_get ts i ≡ Some t → t ≡ slice_index_or ts i t
 slice_get-or [] i t h = cc
 slice_get-or (x ∷ ts) zero t h = cc
 slice_get-or (x ∷ ts) (suc i) t h = slice_get-or ts i t h
+
+pub slice_get-lt : (ts : List Token) (i : ℕ) (t : Token) → slice_get ts i ≡ Some t → i < length ts
+slice_get-lt [] i t h = cc
+slice_get-lt (x ∷ ts) zero t h = omega arith
+slice_get-lt (x ∷ ts) (suc i) t h = let lt = slice_get-lt ts i t h in omega arith
 
 -- a run that is not empty begins with its first token
 pub slice_range-first : (ts : List Token) (a b : ℕ) (t : Token) → a < b → b ≤ length ts → t ≡ slice_index_or ts a t → slice_range ts a b ≡ t ∷ slice_range ts (a + 1) b

@@ -8,6 +8,7 @@ pub mod Printing
 pub mod Writing
 pub mod Classes
 pub mod Printers
+pub mod Printed
 pub mod Plans
 pub mod Frames
 pub mod Bins

@@ -6,16 +6,21 @@ mod class;
 mod expander;
 mod frame;
 mod left;
+mod macros;
+mod mark;
 mod memory;
 mod pieces;
 mod plan;
+mod printer;
 mod reserved;
+mod text;
 
 pub use bins::{BinFault, Bins};
 pub use expander::Expander;
 pub use frame::Frame;
 pub use memory::{BinFile, MemoryBins};
 pub use plan::Plan;
+pub use printer::Printer;
 
 #[cfg(test)]
 mod tests;

@@ -1,0 +1,21 @@
+use Rattle.std.proofs.Common.{rules, take, drop, sym, subst, suc, List, ℕ}
+use Rattle.std.specs.Prelude.{IsTrue}
+use Rattle.cweb_out.specs.Printing.{quoted_byte, quoted}
+use Rattle.cweb_out.proofs.Fronts.{flat_at, front_in, wrote_err, wrote_same}
+use Rattle.cweb_out.proofs.Bytes.{plain_name}
+use Rattle.cweb_out.proofs.mark.write_quoted.Goals as goal
+
+pub returns-then-not-has_quotable-clause-wrote : goal.returns-then-not-has_quotable-clause-wrote
+returns-then-not-has_quotable-clause-wrote g c = λ tells.
+    wrote_same (g.W.Sink.written c.args.out.now) (g.W.Sink.written c.write_all.new.out) c.args.name.now (quoted c.args.name.now) c.write_all.result
+    (sym (plain_name c.args.name.now (search rules))) (c.write_all.ensures.wrote tells)
+
+pub returns-in_err-write_quoted_byte-clause-wrote : goal.returns-in_err-write_quoted_byte-clause-wrote
+returns-in_err-write_quoted_byte-clause-wrote g c = λ tells.
+    let bytes = c.args.name.now in
+    let i = c.bytes.byte-index in
+    let text : List ℕ → List ℕ = quoted in
+    wrote_err (g.W.Sink.written c.args.out.now) (g.W.Sink.written c.write_quoted_byte.new.out) (text bytes) c.from_residual.result c.from_residual.ensures.0
+    (front_in (g.W.Sink.written c.args.out.now) (g.W.Sink.written c.bytes.out) (g.W.Sink.written c.write_quoted_byte.new.out) (text (take i bytes)) _ (text (drop (suc i) bytes)) (text bytes)
+    (flat_at (quoted_byte) bytes i _ c.bytes-test.true) (c.bytes.invariant.written tells)
+    (c.in_err-write_quoted_byte.ensures.wrote (subst IsTrue (sym c.bytes.invariant.tells) tells)))
