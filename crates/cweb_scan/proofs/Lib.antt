@@ -13,6 +13,8 @@ pub mod Openers
 pub mod Gaps
 pub mod LineUnits
 pub mod TakenItems
+pub mod LineEnds
+pub mod Taken
 mod RowWords
 mod RowsWorked
 mod RowsFaulty

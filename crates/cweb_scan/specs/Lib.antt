@@ -6,5 +6,6 @@ pub mod Run
 pub mod Law
 pub mod Bound
 pub mod Resume
+pub mod Held
 pub mod Kept
 pub mod Room

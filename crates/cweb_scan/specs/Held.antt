@@ -1,0 +1,54 @@
+-- What is held between two lines: the state, and an item that goes on in the next line.
+use Rattle.std.specs.Prelude.{◌≡◌, ℕ, Bool, true, false, List, [], ◌∷◌, ◌++◌, map}
+use Rattle.cweb_files.specs.declared.place.Place.{Place}
+use Rattle.cweb_rules.specs.Lines.{AtLineEnd}
+use Rattle.cweb_rules.specs.declared.end.End.TheVariants.{Cut}
+use Rattle.cweb_scan.specs.State.{State, moved, before_text}
+use Rattle.cweb_scan.specs.After.{Reading, line_end, comment_line_end, literal}
+use Rattle.cweb_scan.specs.Resume.{Item, Between, InComment, InName, InLiteral, AfterBackslash, InRaw, resume}
+use Rattle.cweb_scan.specs.Run.{PlacedLine, read, further}
+
+pub record Held : Type 0 where
+  pub state : State
+  pub item : Item
+  -- whether a line was taken
+  pub begun : Bool
+
+abbrev pub held : State → Item → Held
+held s item = record { state = s; item = item; begun = true }
+
+-- what a line end does to what is held: it is taken once the next line's place is known
+abbrev pub after_line_end : Place → Item → State → Held
+after_line_end q Between s = held (line_end q s) Between
+after_line_end q (InComment begun) s = held (comment_line_end q s) (InComment begun)
+after_line_end q (InName begun is_file text) s = held (moved q s) (InName begun is_file (text ++ 10 ∷ []))
+after_line_end q (InLiteral begun quote text) s = held (line_end q (literal text Cut begun s)) Between
+after_line_end q (AfterBackslash begun quote text) s = held (moved q s) (InLiteral begun quote (text ++ 92 ∷ 10 ∷ []))
+after_line_end q (InRaw begun delimiter text) s = held (moved q s) (InRaw begun delimiter (text ++ 10 ∷ []))
+
+-- what is read after the rest of a line and the lines after it
+abbrev pub goes_on : Held → List Place → List ℕ → Reading
+goes_on h later t = resume h.item t (record { state = h.state; later = later })
+
+abbrev pub begun_at : Place → Held
+begun_at place = held (before_text place) Between
+
+abbrev pub places : List PlacedLine → List Place
+places lines = map (λ l. l.place) lines
+
+-- what is read after the lines that are still to come
+abbrev pub read_after : Held → List PlacedLine → Reading
+read_after h lines = elim h.begun [
+  | false ↦ read lines
+  | true ↦ goes_on h (places lines) (further lines)
+]
+
+-- the line end before a line at a place was taken
+pub record TakesLineEnd (place : Place) (old new : Held) : Type 0 where
+  pub begun : new.begun ≡ true
+  pub same : (later : List Place) (t : List ℕ) → goes_on new later t ≡ goes_on old (place ∷ later) (10 ∷ t)
+
+-- the bytes of a line were taken; what follows is a line end or nothing
+pub record TakesBytes (line : List ℕ) (old new : Held) : Type 0 where
+  pub begun : new.begun ≡ old.begun
+  pub same : (later : List Place) (more : List ℕ) → AtLineEnd more → goes_on new later more ≡ goes_on old later (line ++ more)
