@@ -21,7 +21,7 @@
 #include <sys/syscall.h>
 #include <unistd.h>
 
-enum { FILES = 64, NAME = 256, SECONDS = 20 };
+enum { FILES = 64, NAME = 256 };
 
 static void *(*next_malloc)(size_t);
 static void *(*next_calloc)(size_t, size_t);
@@ -39,8 +39,6 @@ __attribute__((constructor)) static void begin(void)
     next_malloc = dlsym(RTLD_NEXT, "malloc");
     next_calloc = dlsym(RTLD_NEXT, "calloc");
     next_realloc = dlsym(RTLD_NEXT, "realloc");
-    /* a program that does not end is stopped, and the script sees by which signal */
-    alarm(SECONDS);
     const char *asked = getenv("FAULTS");
     if (!asked || sscanf(asked, "%7s %d %ld %ld %d %ld %d", call, &stream, &nth, &every, &error, &most, &report) != 7)
         call[0] = 0;
