@@ -6,7 +6,8 @@ use Rattle.std.specs.List.{AllByRecursion}
 use Rattle.cweb_lines.specs.Lines.{Line, SourceLine, lines_in}
 use Rattle.cweb_lines.specs.Include.{World, Found, found_at, include_name, is_include}
 use Rattle.cweb_lines.specs.Change.{at_place}
-use Rattle.cweb_lines.specs.Laws.{fault_behind, line_behind}
+use Rattle.cweb_lines.specs.Laws.{file_behind}
+use Rattle.cweb_lines.specs.Seen.{fault_renumbered, line_renumbered}
 use Rattle.cweb_lines.specs.Merge.{Event, Next, RawLine, State, Thing, at_raw, fault, given, included, obeyed, onto, opened, opening, passed, past, plain, raw, raws, run, seek, taking, told, took}
 use Rattle.cweb_lines.specs.Told.{openings}
 use Rattle.cweb_lines.specs.Total.{merge, merge_next}
@@ -27,14 +28,14 @@ becomes (opens found) s r things = obeyed (Some found) s r things
 
 -- the same line in a run in which each file but the web has the next number
 abbrev pub source_behind : SourceLine → SourceLine
-source_behind source = record { line = line_behind source.line; length = source.length; size = source.size }
+source_behind source = record { line = line_renumbered file_behind source.line; length = source.length; size = source.size }
 
 abbrev pub raw_behind : RawLine → RawLine
 raw_behind r = record { source = source_behind r.source; depth = r.depth; may_match = r.may_match }
 
 abbrev pub kind_behind : Kind → Kind
-kind_behind (gives line) = gives (line_behind line)
-kind_behind (faults f) = faults (fault_behind f)
+kind_behind (gives line) = gives (line_renumbered file_behind line)
+kind_behind (faults f) = faults (fault_renumbered file_behind f)
 kind_behind (opens found) = opens found
 
 pub record Goes (r : RawLine) (go : State → RawLine → List Thing → Next) : Type 0 where

@@ -3,7 +3,8 @@ use Rattle.std.proofs.Common.{◌≡◌, ℕ, true, List, [], ◌∷◌, ◌++�
 use Rattle.std.specs.List.{AllByRecursion, list_any}
 use Rattle.cweb_lines.specs.Lines.{lines, lines_in, text_lines}
 use Rattle.cweb_lines.specs.Change.{Sought}
-use Rattle.cweb_lines.specs.Laws.{ChangeFilesWithoutEntriesChangeNothing, fault_behind, is_code, line_behind, seen, seen_behind}
+use Rattle.cweb_lines.specs.Laws.{ChangeFilesWithoutEntriesChangeNothing, file_behind, is_code}
+use Rattle.cweb_lines.specs.Seen.{fault_renumbered, line_renumbered, renumbered, seen}
 use Rattle.cweb_lines.specs.Merge.{Event, Thing, fault, given, opening, raws, started, took}
 use Rattle.cweb_lines.specs.Total.{halts, merge, merge-run, merge_next}
 use Rattle.cweb_lines.proofs.Alone.{IsNoSearch, raws_seek_not}
@@ -13,11 +14,11 @@ use Rattle.cweb_lines.proofs.Lies.{bytes_of, lie_in}
 use Rattle.cweb_lines.proofs.Merges.{state}
 use Rattle.cweb_lines.proofs.Seens.{fault_first, line_first, name_first, took_unseen}
 
-seen_events : (events : List Event) → seen (map event_behind events) ≡ seen_behind (seen events)
+seen_events : (events : List Event) → seen (map event_behind events) ≡ renumbered file_behind (seen events)
 seen_events [] = refl
 seen_events (took line ∷ events) = seen_events events
-seen_events (given line ∷ events) = ap (line_first (line_behind line)) (seen_events events)
-seen_events (fault f ∷ events) = ap (fault_first (fault_behind f)) (seen_events events)
+seen_events (given line ∷ events) = ap (line_first (line_renumbered file_behind line)) (seen_events events)
+seen_events (fault f ∷ events) = ap (fault_first (fault_renumbered file_behind f)) (seen_events events)
 seen_events (opening name ∷ events) = ap (name_first name) (seen_events events)
 
 -- the lines of the web are of the file whose number stays
@@ -46,5 +47,5 @@ change_files_without_entries world web change none =
     ∙ ap seen (merge-run alone.steps world (state (map thing_behind things) None [] 2) (map event_behind alone.events)
     (run_behind world alone.steps 1 things alone.events (omega arith) (web_none web) alone.comes))
     ∙ seen_events alone.events
-    ∙ ap (λ (es : List Event). seen_behind (seen es))
+    ∙ ap (λ (es : List Event). renumbered file_behind (seen es))
     (sym (merge-run alone.steps world (started web None) alone.events alone.comes))

@@ -7,7 +7,8 @@ use Rattle.cweb_files.specs.declared.place.Place.{Place}
 use Rattle.cweb_lines.specs.Lines.{Line, SourceLine}
 use Rattle.cweb_lines.specs.Include.{World, is_include}
 use Rattle.cweb_lines.specs.Change.{Entry, Sought, behind_x, code_of, old_at, old_line, old_lines, outside, passing, sought}
-use Rattle.cweb_lines.specs.Laws.{followed_by, is_code, only_lines, seen}
+use Rattle.cweb_lines.specs.Laws.{is_code}
+use Rattle.cweb_lines.specs.Seen.{followed_by, only_lines, seen}
 use Rattle.cweb_lines.specs.Merge.{Event, RawLine, Thing, at_entry, compared, given, new_at, new_lines, new_things, one_more, passed, plain, raw, raws, taking, took}
 use Rattle.cweb_lines.specs.Total.{merge, merge_end, merge_next}
 use Rattle.cweb_lines.specs.declared.code.Code.{Code}

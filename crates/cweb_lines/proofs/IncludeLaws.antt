@@ -6,7 +6,8 @@ use Rattle.std.specs.Prelude.{nat_lt}
 use Rattle.cweb_lines.specs.Lines.{SourceLine, lines_in}
 use Rattle.cweb_lines.specs.Include.{World, include_name, is_include}
 use Rattle.cweb_lines.specs.Change.{at_place}
-use Rattle.cweb_lines.specs.Laws.{IncludeLinesAreReplaced, Includes, LinesComeApart, Seen, followed_by, seen, seen_in}
+use Rattle.cweb_lines.specs.Laws.{IncludeLinesAreReplaced, Includes, LinesComeApart}
+use Rattle.cweb_lines.specs.Seen.{Seen, followed_by, seen, seen_in}
 use Rattle.cweb_lines.specs.Merge.{Event, Next, RawLine, State, Thing, fault, given, included, obeyed, opened, opening, plain, raw, raws, taking, took}
 use Rattle.cweb_lines.specs.Told.{openings}
 use Rattle.cweb_lines.specs.Total.{halts, merge, merge-run, merge_end, merge_next}

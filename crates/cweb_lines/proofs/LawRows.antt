@@ -6,7 +6,8 @@ use lib.Utf8.{encode}
 use Rattle.std.specs.List.{AllByRecursion, list_any}
 use Rattle.cweb_lines.specs.Lines.{lines}
 use Rattle.cweb_lines.specs.Include.{World, is_include}
-use Rattle.cweb_lines.specs.Laws.{Includes, IsPlainSplice, Seen, Splice, change_lines, is_code, only_lines, placed, seen, seen_behind, spliced, web_lines}
+use Rattle.cweb_lines.specs.Laws.{Includes, IsPlainSplice, Splice, change_lines, file_behind, is_code, spliced, web_lines}
+use Rattle.cweb_lines.specs.Seen.{Seen, only_lines, placed, renumbered, seen}
 use Rattle.cweb_lines.specs.Merge.{Event, run, started}
 use Rattle.cweb_lines.specs.Writing.{text_of}
 use Rattle.cweb_lines.specs.declared.fault.SourceKind.TheVariants.{NoMatch, NoName}
@@ -38,11 +39,11 @@ a_file_included = record {
 -- the included file is file 2 in place of 1, with its fault too
 it_changes_nothing : seen_by (run 20 a_file_included
     (started (codes "A\n@i b\n") (Some (codes "a comment\n@ alone\n"))))
-    ≡ option_map seen_behind (seen_by (run 20 a_file_included (started (codes "A\n@i b\n") None)))
+    ≡ option_map (renumbered file_behind) (seen_by (run 20 a_file_included (started (codes "A\n@i b\n") None)))
 unfolding is_utf8 chars encode
 it_changes_nothing = refl
 
-it_shows : option_map seen_behind (seen_by (run 20 a_file_included (started (codes "A\n@i b\n") None))) ≡ Some (record {
+it_shows : option_map (renumbered file_behind) (seen_by (run 20 a_file_included (started (codes "A\n@i b\n") None))) ≡ Some (record {
   lines = placed 0 1 (codes "A" ∷ []) ++ placed 2 1 (codes "B" ∷ []);
   faults = record { kind = NoName; place = record { file = record { 0 = 2 }; line = 2 }; count = 0 } ∷ [];
   included = codes "b" ∷ [];

@@ -5,7 +5,8 @@ use Rattle.std.specs.Str.{bytes_eq}
 use Rattle.cweb_lines.specs.Lines.{Line, SourceLine, lines, lines_in, text_lines}
 use Rattle.cweb_lines.specs.Include.{World, is_include}
 use Rattle.cweb_lines.specs.Change.{Sought, at_place, code_of}
-use Rattle.cweb_lines.specs.Laws.{EntriesWithoutMatchAreTold, followed_by, is_code, only_fault, only_lines, placed, seen}
+use Rattle.cweb_lines.specs.Laws.{EntriesWithoutMatchAreTold, is_code}
+use Rattle.cweb_lines.specs.Seen.{followed_by, only_fault, only_lines, placed, seen}
 use Rattle.cweb_lines.specs.Merge.{Event, Thing, fault, raws, seek, took}
 use Rattle.cweb_lines.specs.Total.{merge, merge_end, merge_next}
 use Rattle.cweb_lines.specs.declared.code.Code.TheVariants.{OldSide as old_side}

@@ -4,7 +4,8 @@ use Rattle.std.specs.List.{AllByRecursion, list_any}
 use Rattle.cweb_lines.specs.Lines.{Line, SourceLine, lines, lines_in, trimmed}
 use Rattle.cweb_lines.specs.Include.{World, is_include}
 use Rattle.cweb_lines.specs.Change.{Entry, at_place, sought}
-use Rattle.cweb_lines.specs.Laws.{PrintedMergesComeAgain, Seen, placed}
+use Rattle.cweb_lines.specs.Laws.{PrintedMergesComeAgain}
+use Rattle.cweb_lines.specs.Seen.{Seen, placed}
 use Rattle.cweb_lines.specs.Merge.{Event, Next, State, Thing, at_raw, fault, onto, passed, raw, run, seek, started, told, took}
 use Rattle.cweb_lines.specs.Told.{given_lines}
 use Rattle.cweb_lines.specs.Total.{halts, merge, merge-run}

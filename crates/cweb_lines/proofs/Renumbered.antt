@@ -4,7 +4,8 @@ use Rattle.std.specs.Prelude.{option_map}
 use Rattle.std.specs.List.{AllByRecursion}
 use Rattle.cweb_lines.specs.Lines.{TextLine, lines_in, numbered, text_lines, trimmed}
 use Rattle.cweb_lines.specs.Include.{World}
-use Rattle.cweb_lines.specs.Laws.{fault_behind, file_behind, line_behind}
+use Rattle.cweb_lines.specs.Laws.{file_behind}
+use Rattle.cweb_lines.specs.Seen.{fault_renumbered, line_renumbered}
 use Rattle.cweb_lines.specs.Merge.{Event, Next, RawLine, Thing, fault, given, onto, opening, passed, raw, raws, run, seek, told, took}
 use Rattle.cweb_lines.proofs.Merges.{state}
 use Rattle.cweb_lines.proofs.Alone.{IsNoSearch, Kind, becomes, faults, gives, kind_behind, onto_some, opens, raw_behind, raw_goes, raws_seek_not, source_behind}
@@ -12,14 +13,14 @@ use Rattle.cweb_lines.proofs.Alone.{IsNoSearch, Kind, becomes, faults, gives, ki
 -- the numbers of the files
 abbrev pub event_behind : Event → Event
 event_behind (took source) = took (source_behind source)
-event_behind (given line) = given (line_behind line)
-event_behind (fault f) = fault (fault_behind f)
+event_behind (given line) = given (line_renumbered file_behind line)
+event_behind (fault f) = fault (fault_renumbered file_behind f)
 event_behind (opening name) = opening name
 
 abbrev pub thing_behind : Thing → Thing
 thing_behind seek = seek
 thing_behind (raw r) = raw (raw_behind r)
-thing_behind (told f) = told (fault_behind f)
+thing_behind (told f) = told (fault_renumbered file_behind f)
 thing_behind (passed line) = passed (source_behind line)
 
 -- a line of a file as a raw line to come
@@ -72,11 +73,11 @@ module _ (world : World) where
       → onto (took (source_behind r.source) ∷ next'.0) (run n world next'.1) ≡ Some (map event_behind events)
   raw_behind_run n r things files events some none each (gives line) is =
       let x = onto_some (took r.source ∷ given line ∷ []) events (run n world (state things None [] files)) is in
-      ap (onto (took (source_behind r.source) ∷ given (line_behind line) ∷ [])) (each files things x.0 some none x.1)
+      ap (onto (took (source_behind r.source) ∷ given (line_renumbered file_behind line) ∷ [])) (each files things x.0 some none x.1)
       ∙ ap (λ (es : List Event). Some (map event_behind es)) x.2
   raw_behind_run n r things files events some none each (faults f) is =
       let x = onto_some (took r.source ∷ fault f ∷ []) events (run n world (state things None [] files)) is in
-      ap (onto (took (source_behind r.source) ∷ fault (fault_behind f) ∷ [])) (each files things x.0 some none x.1)
+      ap (onto (took (source_behind r.source) ∷ fault (fault_renumbered file_behind f) ∷ [])) (each files things x.0 some none x.1)
       ∙ ap (λ (es : List Event). Some (map event_behind es)) x.2
   raw_behind_run n r things files events some none each (opens found) is =
       let depth = r.depth + 1 in
@@ -98,7 +99,7 @@ module _ (world : World) where
   run_behind (suc n) files (seek ∷ things) events some none is = absurd none.0
   run_behind (suc n) files (told f ∷ things) events some none is =
       let x = onto_some (fault f ∷ []) events (run n world (state things None [] files)) is in
-      ap (onto (fault (fault_behind f) ∷ [])) (run_behind n files things x.0 some none.1 x.1)
+      ap (onto (fault (fault_renumbered file_behind f) ∷ [])) (run_behind n files things x.0 some none.1 x.1)
       ∙ ap (λ (es : List Event). Some (map event_behind es)) x.2
   run_behind (suc n) files (passed line ∷ things) events some none is =
       let x = onto_some (took line ∷ []) events (run n world (state things None [] files)) is in

@@ -2,7 +2,7 @@
 use Rattle.std.proofs.Common.{◌≡◌, Bool, true, false, ◌||◌, ℕ, List, [], ◌∷◌, ◌++◌, map, None, Some, Option, refl, ap}
 use Rattle.std.specs.Option.{is_some}
 use Rattle.cweb_lines.specs.Lines.{Line, SourceLine}
-use Rattle.cweb_lines.specs.Laws.{Seen, followed_by, seen}
+use Rattle.cweb_lines.specs.Seen.{Seen, followed_by, seen}
 use Rattle.cweb_lines.specs.Merge.{Event, fault, given, opening, took}
 use Rattle.cweb_lines.specs.declared.code.Code.{Code}
 use Rattle.cweb_lines.specs.declared.fault.SourceFault.{SourceFault}

@@ -5,7 +5,8 @@ use Rattle.std.specs.Str.{bytes_eq}
 use Rattle.cweb_lines.specs.Lines.{SourceLine, lines_in, text_lines}
 use Rattle.cweb_lines.specs.Include.{World, is_include}
 use Rattle.cweb_lines.specs.Change.{Sought, code_of}
-use Rattle.cweb_lines.specs.Laws.{ChangesSplice, IsPlainSplice, Splice, change_lines, followed_by, is_code, only_lines, placed, seen, spliced, web_lines}
+use Rattle.cweb_lines.specs.Laws.{ChangesSplice, IsPlainSplice, Splice, change_lines, is_code, spliced, web_lines}
+use Rattle.cweb_lines.specs.Seen.{followed_by, only_lines, placed, seen}
 use Rattle.cweb_lines.specs.Merge.{fault, raws, seek, took}
 use Rattle.cweb_lines.specs.Total.{merge, merge_next}
 use Rattle.cweb_lines.proofs.Merges.{state}

@@ -7,7 +7,8 @@ use Rattle.std.specs.Str.{bytes_eq}
 use Rattle.cweb_lines.specs.Lines.{SourceLine}
 use Rattle.cweb_lines.specs.Include.{World, is_include}
 use Rattle.cweb_lines.specs.Change.{Entry, OldSide, Sought, code_of}
-use Rattle.cweb_lines.specs.Laws.{followed_by, is_code, only_lines, seen}
+use Rattle.cweb_lines.specs.Laws.{is_code}
+use Rattle.cweb_lines.specs.Seen.{followed_by, only_lines, seen}
 use Rattle.cweb_lines.specs.Merge.{Compared, Event, NewSide, Next, RawLine, Thing, after_old, at_entry, change_events, compared, fault, passed, raw, raws, seek, taking, took}
 use Rattle.cweb_lines.specs.Total.{merge, merge_next}
 use Rattle.cweb_lines.specs.declared.code.Code.TheVariants.{EndSide as end_side, NewSide as new_side, OldSide as old_side}

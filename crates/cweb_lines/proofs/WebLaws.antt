@@ -3,7 +3,8 @@ use Rattle.std.proofs.Common.{true, [], ◌∙◌, ap}
 use Rattle.std.specs.List.{list_any}
 use Rattle.cweb_lines.specs.Lines.{lines, lines_in, text_lines}
 use Rattle.cweb_lines.specs.Include.{is_include}
-use Rattle.cweb_lines.specs.Laws.{WebsWithoutIncludesAreTheirOwnLines, only_lines}
+use Rattle.cweb_lines.specs.Laws.{WebsWithoutIncludesAreTheirOwnLines}
+use Rattle.cweb_lines.specs.Seen.{only_lines}
 use Rattle.cweb_lines.proofs.Entries.{gives_alone}
 use Rattle.cweb_lines.proofs.Lies.{bytes_of, lie_in}
 

@@ -3,48 +3,15 @@ use Rattle.std.specs.Prelude.{◌≡◌, ◌≢◌, ◌<◌, ◌≤◌, ℕ, zer
 use Rattle.std.specs.List.{AllByRecursion, list_any}
 use Rattle.std.specs.Option.{is_some}
 use Rattle.std.specs.Str.{bytes_eq}
-use Rattle.cweb_files.specs.declared.place.Place.{Place}
 use Rattle.cweb_lines.specs.Lines.{Line, SourceLine, lines, lines_in}
 use Rattle.cweb_lines.specs.Include.{World, found_at, include_name, is_include}
 use Rattle.cweb_lines.specs.Change.{at_place, code_of}
-use Rattle.cweb_lines.specs.Merge.{Event, raws, started}
-use Rattle.cweb_lines.specs.Told.{given_lines, told_faults, openings}
-use Rattle.cweb_lines.specs.Total.{merge}
+use Rattle.cweb_lines.specs.Seen.{followed_by, only_fault, only_lines, only_name, placed, renumbered, Seen, seen_in, seen_of}
 use Rattle.cweb_lines.specs.Writing.{text_of}
 use Rattle.cweb_lines.specs.declared.code.Code.TheVariants.{EndSide as end_side, NewSide as new_side, OldSide as old_side}
-use Rattle.cweb_lines.specs.declared.fault.SourceFault.{SourceFault}
 use Rattle.cweb_lines.specs.declared.fault.SourceKind.{SourceKind}
 use Rattle.cweb_lines.specs.declared.fault.SourceKind.TheVariants.{NoMatch, NoName, NotThere, TooDeep}
 use Rattle.cweb_lines.specs.declared.limits.TheConstants.{OPEN_FILES}
-
--- what an author sees of a merge: the lines with their places, the faults, and the names of included files
-pub record Seen : Type 0 where
-  pub lines : List Line
-  pub faults : List SourceFault
-  pub included : List (List ℕ)
-
-abbrev pub seen : List Event → Seen
-seen events = record {
-  lines = given_lines events;
-  faults = told_faults events;
-  included = openings events;
-}
-
--- what comes of a web, and of a change file where one is given
-abbrev pub seen_of : World → List ℕ → Option (List ℕ) → Seen
-seen_of world web change = seen (merge world (started web change))
-
-abbrev pub placed_line : ℕ → ℕ → List ℕ → Line
-placed_line file number bytes = record { bytes = bytes; place = record { file = record { 0 = file }; line = number } }
-
--- the lines of a file, of which the first has this number, with their places
-abbrev pub placed : ℕ → ℕ → List (List ℕ) → List Line
-placed file number [] = []
-placed file number (bytes ∷ rest) = placed_line file number bytes ∷ placed file (number + 1) rest
-
--- lines and nothing else
-abbrev pub only_lines : List Line → Seen
-only_lines lines = record { lines = lines; faults = []; included = [] }
 
 -- A web without include lines, and without a change file, is its own lines, in order, with their numbers, without a
 -- fault.
@@ -63,31 +30,11 @@ abbrev pub file_behind : ℕ → ℕ
 file_behind zero = zero
 file_behind (suc file) = suc (suc file)
 
-abbrev pub place_behind : Place → Place
-place_behind place = record { file = record { 0 = file_behind place.file.0 }; line = place.line }
-
-abbrev pub line_behind : Line → Line
-line_behind line = record { bytes = line.bytes; place = place_behind line.place }
-
-abbrev pub fault_behind : SourceFault → SourceFault
-fault_behind fault = record {
-  kind = fault.kind;
-  place = place_behind fault.place;
-  count = fault.count;
-}
-
-abbrev pub seen_behind : Seen → Seen
-seen_behind all = record {
-  lines = map line_behind all.lines;
-  faults = map fault_behind all.faults;
-  included = all.included;
-}
-
 -- A change file of no entries is no change file: what comes of the web is the same, but for the numbers of the files.
 abbrev pub ChangeFilesWithoutEntriesChangeNothing : Type 0
 ChangeFilesWithoutEntriesChangeNothing = (world : World) (web change : List ℕ)
     → list_any is_code (lines change) ≡ false
-    → seen_of world web (Some change) ≡ seen_behind (seen_of world web None)
+    → seen_of world web (Some change) ≡ renumbered file_behind (seen_of world web None)
 
 -- A text that was printed comes of itself: its lines are what was printed, none of them begins an include, and they are
 -- printed again.
@@ -103,24 +50,6 @@ abbrev pub PrintedMergesComeAgain : Type 0
 PrintedMergesComeAgain = (world other : World) (web : List ℕ) (change : Option (List ℕ)) →
     let printed = (seen_of world web change).lines in
     ComesAgain printed (seen_of other (text_of printed) None)
-
--- what comes of lines that lie at a depth, where no change is pending and so many files have been opened before
-abbrev pub seen_in : World → ℕ → ℕ → List SourceLine → Seen
-seen_in world depth files lines =
-    seen (merge world (record { things = raws depth true lines; pending = None; change = []; files = files }))
-
-abbrev pub followed_by : Seen → Seen → Seen
-followed_by first later = record {
-  lines = first.lines ++ later.lines;
-  faults = first.faults ++ later.faults;
-  included = first.included ++ later.included;
-}
-
-abbrev pub only_name : List ℕ → Seen
-only_name name = record { lines = []; faults = []; included = name ∷ [] }
-
-abbrev pub only_fault : SourceKind → Place → Seen
-only_fault kind place = record { lines = []; faults = at_place kind place ∷ []; included = [] }
 
 -- Where no change file is given, each line comes alone: what comes of lines is what comes of some of them and then what
 -- comes of the rest, and a line that includes no text is given out, or is a fault.
@@ -166,6 +95,18 @@ IncludeLinesAreReplaced = (world : World) (depth files : ℕ) (before behind : L
     (line : SourceLine) (name text : List ℕ)
     → Includes world line.line.bytes name text → depth < OPEN_FILES
     → seen_in world depth files (before ++ line ∷ behind) ≡ with_included world depth files before name text behind
+
+abbrev pub is_too_deep : SourceKind → Bool
+is_too_deep TooDeep = true
+is_too_deep _ = false
+
+-- The merged lines of an included text are those that it has as a web of its own, where no include line lies too deep for
+-- that it is included: only its files are numbered from its own number on.
+abbrev pub IncludedTextsMergeAsWebs : Type 0
+IncludedTextsMergeAsWebs = (world : World) (deeper file : ℕ) (text : List ℕ) →
+    let inside = seen_in world (1 + deeper) (file + 1) (lines_in file text) in
+    list_any (λ fault. is_too_deep fault.kind) inside.faults ≡ false
+    → inside ≡ renumbered (λ number. file + number) (seen_of world text None)
 
 -- One change as its author makes it. In the web: lines that stay, then the first line that is replaced, and further
 -- ones. In the change file: a comment, an @x line, the old lines, an @y line, the new lines, an @z line.

@@ -10,6 +10,7 @@ pub mod Merging
 pub mod Names
 pub mod Replacing
 pub mod Seeking
+pub mod Seen
 pub mod Source
 pub mod Stages
 pub mod Taking
