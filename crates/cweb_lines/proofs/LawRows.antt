@@ -4,11 +4,11 @@ use Rattle.std.specs.Prelude.{codes, option_map}
 use Rattle.std.specs.Str.{bytes_eq, is_utf8, chars}
 use lib.Utf8.{encode}
 use Rattle.std.specs.List.{AllByRecursion, list_any}
-use Rattle.cweb_lines.specs.Lines.{lines}
+use Rattle.cweb_lines.specs.Lines.{lines, lines_in}
 use Rattle.cweb_lines.specs.Include.{World, is_include}
 use Rattle.cweb_lines.specs.Laws.{Includes, IsPlainSplice, Splice, change_lines, file_behind, is_code, spliced, web_lines}
 use Rattle.cweb_lines.specs.Seen.{Seen, only_lines, placed, renumbered, seen}
-use Rattle.cweb_lines.specs.Merge.{Event, run, started}
+use Rattle.cweb_lines.specs.Merge.{Event, raws, run, started}
 use Rattle.cweb_lines.specs.Writing.{text_of}
 use Rattle.cweb_lines.specs.declared.fault.SourceKind.TheVariants.{NoMatch, NoName}
 
@@ -161,3 +161,10 @@ entry_without_match : seen_by (run 30 no_texts (started (codes "A\n") (Some (cod
       included = [];
     })
 entry_without_match = refl
+
+-- the text of an include line as it comes at depth 2, as file 1, and as it comes of a web of its own
+it_merges_as_a_web : seen_by (run 20 a_file_included
+    (record { things = raws 2 true (lines_in 1 (codes "A\n@i b\n")); pending = None; change = []; files = 2 }))
+    ≡ option_map (renumbered (λ number. 1 + number)) (seen_by (run 20 a_file_included (started (codes "A\n@i b\n") None)))
+unfolding is_utf8 chars encode
+it_merges_as_a_web = refl

@@ -1,6 +1,6 @@
 //! What holds of merged lines whatever the texts are. These functions do nothing: each is there for its contract.
 
-ghost use Rattle.cweb_lines.specs.Laws.{ChangeFilesWithoutEntriesChangeNothing, ChangesSplice, EntriesWithoutMatchAreTold, IncludeLinesAreReplaced, LinesComeApart, PrintedMergesComeAgain, WebsWithoutIncludesAreTheirOwnLines};
+ghost use Rattle.cweb_lines.specs.Laws.{ChangeFilesWithoutEntriesChangeNothing, ChangesSplice, EntriesWithoutMatchAreTold, IncludeLinesAreReplaced, IncludedTextsMergeAsWebs, LinesComeApart, PrintedMergesComeAgain, WebsWithoutIncludesAreTheirOwnLines};
 ghost use Rattle.cweb_lines.specs.Total.{HasOneAnswer};
 
 /// Every shelf, web and change file have their merged lines, and have them once: the steps of the merge end, and
@@ -54,4 +54,10 @@ pub fn changes_splice()
 /// The web has no include lines here, and no empty line stands between the `@x` and the first old line.
 pub fn entry_without_match_is_told()
     ensures { EntriesWithoutMatchAreTold }
+{}
+
+/// The merged lines of an included text are those that it has as a web of its own, unless an include line in it lies too
+/// deep only for that it is included: places, faults and included files are the same, with files numbered from its own on.
+pub fn included_text_merges_as_a_web()
+    ensures { IncludedTextsMergeAsWebs }
 {}
