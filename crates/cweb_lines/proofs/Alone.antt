@@ -28,7 +28,11 @@ becomes (opens found) s r things = obeyed (Some found) s r things
 
 -- the same line in a run in which each file but the web has the next number
 abbrev pub source_behind : SourceLine → SourceLine
-source_behind source = record { line = line_renumbered file_behind source.line; length = source.length; size = source.size }
+source_behind source = record {
+  line = line_renumbered file_behind source.line;
+  length = source.length;
+  size = source.size;
+}
 
 abbrev pub raw_behind : RawLine → RawLine
 raw_behind r = record { source = source_behind r.source; depth = r.depth; may_match = r.may_match }

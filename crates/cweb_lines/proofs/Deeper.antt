@@ -88,7 +88,13 @@ module _ (world : World) (by first : ℕ) where
   }
   opened_goes r true false name room =
       let shallow = obeyed_goes r (found_at world name) in
-      record { kind = shallow.kind; deeper = too_deep r; is = shallow.is; is_deeper = λ s things. refl; same = inr refl }
+      record {
+        kind = shallow.kind;
+        deeper = too_deep r;
+        is = shallow.is;
+        is_deeper = λ s things. refl;
+        same = inr refl;
+      }
   opened_goes r false true name room = let no : false ≡ true = room refl in absurd (cc)
   opened_goes r true true name room =
       let there = obeyed_goes r (found_at world name) in

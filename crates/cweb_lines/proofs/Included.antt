@@ -111,7 +111,8 @@ module _ (world : World) (by first : ℕ) where
       let number : first + (files + 1) ≡ first + files + 1 = omega arith in
       let depth : r.depth + 1 + by ≡ r.depth + by + 1 = omega arith in
       let texts = text_lines found.1 in
-      let moved = raws_at world by first (r.depth + 1) (r.depth + by + 1) r.may_match files (first + files) 1 texts things depth refl in
+      let moved = raws_at world by first (r.depth + 1) (r.depth + by + 1) r.may_match files (first + files) 1 texts
+      things depth refl in
       let x = onto_some opens_deep deep (run n world (state inner' None [] (first + files + 1))) d in
       let runs : RunsDeep n (files + 1) inner x.0 = (λ i. run n world (state (moved i) None [] (number i))) ∙ x.1 in
       let seek_not = raws_seek_not (r.depth + 1) r.may_match (lines_in files found.1) things none in

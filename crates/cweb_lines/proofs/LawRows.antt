@@ -43,11 +43,12 @@ it_changes_nothing : seen_by (run 20 a_file_included
 unfolding is_utf8 chars encode
 it_changes_nothing = refl
 
-it_shows : option_map (renumbered file_behind) (seen_by (run 20 a_file_included (started (codes "A\n@i b\n") None))) ≡ Some (record {
-  lines = placed 0 1 (codes "A" ∷ []) ++ placed 2 1 (codes "B" ∷ []);
-  faults = record { kind = NoName; place = record { file = record { 0 = 2 }; line = 2 }; count = 0 } ∷ [];
-  included = codes "b" ∷ [];
-})
+it_shows : option_map (renumbered file_behind) (seen_by (run 20 a_file_included (started (codes "A\n@i b\n") None)))
+    ≡ Some (record {
+      lines = placed 0 1 (codes "A" ∷ []) ++ placed 2 1 (codes "B" ∷ []);
+      faults = record { kind = NoName; place = record { file = record { 0 = 2 }; line = 2 }; count = 0 } ∷ [];
+      included = codes "b" ∷ [];
+    })
 unfolding is_utf8 chars encode
 it_shows = refl
 
@@ -165,6 +166,7 @@ entry_without_match = refl
 -- the text of an include line as it comes at depth 2, as file 1, and as it comes of a web of its own
 it_merges_as_a_web : seen_by (run 20 a_file_included
     (record { things = raws 2 true (lines_in 1 (codes "A\n@i b\n")); pending = None; change = []; files = 2 }))
-    ≡ option_map (renumbered (λ number. 1 + number)) (seen_by (run 20 a_file_included (started (codes "A\n@i b\n") None)))
+    ≡ option_map (renumbered (λ number. 1 + number))
+    (seen_by (run 20 a_file_included (started (codes "A\n@i b\n") None)))
 unfolding is_utf8 chars encode
 it_merges_as_a_web = refl

@@ -73,11 +73,13 @@ module _ (world : World) where
       → onto (took (source_behind r.source) ∷ next'.0) (run n world next'.1) ≡ Some (map event_behind events)
   raw_behind_run n r things files events some none each (gives line) is =
       let x = onto_some (took r.source ∷ given line ∷ []) events (run n world (state things None [] files)) is in
-      ap (onto (took (source_behind r.source) ∷ given (line_renumbered file_behind line) ∷ [])) (each files things x.0 some none x.1)
+      ap (onto (took (source_behind r.source) ∷ given (line_renumbered file_behind line) ∷ []))
+      (each files things x.0 some none x.1)
       ∙ ap (λ (es : List Event). Some (map event_behind es)) x.2
   raw_behind_run n r things files events some none each (faults f) is =
       let x = onto_some (took r.source ∷ fault f ∷ []) events (run n world (state things None [] files)) is in
-      ap (onto (took (source_behind r.source) ∷ fault (fault_renumbered file_behind f) ∷ [])) (each files things x.0 some none x.1)
+      ap (onto (took (source_behind r.source) ∷ fault (fault_renumbered file_behind f) ∷ []))
+      (each files things x.0 some none x.1)
       ∙ ap (λ (es : List Event). Some (map event_behind es)) x.2
   raw_behind_run n r things files events some none each (opens found) is =
       let depth = r.depth + 1 in

@@ -18,7 +18,8 @@ use Rattle.cweb_lines.proofs.Seens.{took_unseen}
 use Rattle.cweb_lines.proofs.Entries.{bytes_in, compares, entry_of, finds, gives_out, lines_of, new_splits, old_splits, passes_by}
 
 -- The lines of one change. Of the change file: a comment, the @x line, the first old line, the further ones, the
--- @y line, the new lines, the @z line. Of the web: the lines that stay, the first line that is replaced, and the further ones.
+-- @y line, the new lines, the @z line. Of the web: the lines that stay, the first line that is replaced, and the
+-- further ones.
 pub record Edit : Type 0 where
   pub comment : List SourceLine
   pub x : SourceLine
