@@ -7,6 +7,9 @@ pub mod Faults
 pub mod Calls
 pub mod Seen
 pub mod Runs
+pub mod PackedTexts
+pub mod Words
+pub mod Packed
 pub mod Trailing
 pub mod Found
 pub mod Known

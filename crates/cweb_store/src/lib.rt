@@ -10,6 +10,8 @@ pub mod laws;
 mod layout;
 mod name;
 mod name_table;
+mod packed;
+mod packed_texts;
 mod part;
 mod part_list;
 mod parts;
@@ -19,6 +21,7 @@ mod standing;
 mod store;
 mod token;
 mod token_list;
+mod word_texts;
 
 pub use builder::Builder;
 pub use name::{How, NameFault, NameId, NameKind, NameRef};

@@ -109,6 +109,7 @@ impl PartList {
             mut runs,
             current,
         } = self;
+        let tokens = tokens.finish();
         let Some(current) = current else {
             return ClosedParts { tokens, runs };
         };

@@ -41,19 +41,7 @@ impl Row {
         }
     }
 
-    #[tactic(
-        auto,
-        using(
-            crate::proofs::CallerLemmas::token_count_opened,
-            crate::proofs::CallerLemmas::token_count_pushed,
-            crate::proofs::CallerLemmas::token_count_dropped,
-            crate::proofs::CallerLemmas::token_count_closed,
-            crate::proofs::CallerLemmas::part_count_opened,
-            crate::proofs::CallerLemmas::part_count_pushed,
-            crate::proofs::CallerLemmas::part_count_dropped,
-            crate::proofs::CallerLemmas::part_count_closed
-        )
-    )]
+    #[tactic(auto, using(crate::proofs::CallerLemmas::token_count_opened, crate::proofs::CallerLemmas::token_count_pushed, crate::proofs::CallerLemmas::token_count_dropped, crate::proofs::CallerLemmas::token_count_closed, crate::proofs::CallerLemmas::part_count_opened, crate::proofs::CallerLemmas::part_count_pushed, crate::proofs::CallerLemmas::part_count_dropped, crate::proofs::CallerLemmas::part_count_closed))]
     fn make(&mut self, rt: &impl Abort, call: Call<'_>) -> Result<(), AllocError> {
         assert!(rt; self.calls < 1000);
         self.calls += 1;

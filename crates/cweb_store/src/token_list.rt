@@ -1,24 +1,27 @@
 // Tokens in order.
 
-ghost use Rattle.std.specs.Prelude.{◌≡◌, ◌<◌, ◌≤◌, ◌++◌, ◌∷◌, [], length, map, take, Some, slice_get, slice_range, OnOk, OnErr};
+ghost use Rattle.std.specs.Prelude.{◌≡◌, ◌<◌, ◌≤◌, ◌++◌, ◌∷◌, [], length, take, Some, slice_get, slice_range, OnOk, OnErr};
 ghost use Rattle.std.specs.List.{list_any};
 ghost use Rattle.cweb_store.specs.Parts.{is_defs};
 ghost use Rattle.cweb_store.specs.Gathered.{used_from};
-ghost use Rattle.cweb_store.specs.Seen.{kept};
+ghost use Rattle.cweb_store.specs.Packed.{is_packed_defs, used_by};
 
 use crate::name::{NameId, NameKind};
+use crate::packed::{Packed, lend, pack};
 use crate::part::Part;
+use crate::reserved::put;
 use crate::standing::add_name_at;
-use crate::token::{Kept, Token};
+use crate::token::Token;
+use crate::word_texts::WordTexts;
 use indexmap::IndexSet;
 use std::alloc::{AllocError, Global};
 use std::marker::Model;
 
-/// A list of tokens, each with its own bytes.
+/// Tokens as records of fixed size, and their texts.
 #[derive(Drop)]
 pub struct TokenList {
-    alloc: Global,
-    kept: Vec<Kept>,
+    texts: WordTexts,
+    records: Vec<Packed>,
 }
 
 impl Model for TokenList {
@@ -27,9 +30,11 @@ impl Model for TokenList {
 
     ghost Value = { List Token };
 
-    ghost use Rattle.cweb_store.specs.Seen.{kept as token_of};
+    ghost use Rattle.cweb_store.specs.Packed.{token_in, ArePacked};
 
-    ghost view = { λ s. map token_of s.kept.items };
+    ghost view = { λ s. map (token_in s.texts) s.records.items };
+
+    ghost invariant = { λ s. ArePacked s.texts s.records.items };
 }
 
 impl TokenList {
@@ -39,15 +44,15 @@ impl TokenList {
         ensures { result ≡ [] }
     {
         TokenList {
-            alloc,
-            kept: Vec::new(alloc),
+            texts: WordTexts::new(alloc),
+            records: Vec::new(alloc),
         }
     }
 
     pub fn len(&self) -> usize
         ensures { result ≡ length self.now }
     {
-        self.kept.len()
+        self.records.len()
     }
 
     /// Adds a token. A refused call changes nothing.
@@ -55,8 +60,9 @@ impl TokenList {
         ensures ok { OnOk result (self.new ≡ self.old ++ seen token.entry ∷ []) }
         ensures err { OnErr result (self.new ≡ self.old) }
     {
-        let kept = Kept::new(self.alloc, &token)?;
-        self.kept.push(kept)?;
+        self.records.reserve(1)?;
+        let packed = pack(&mut self.texts, token)?;
+        put(&mut self.records, packed);
         Ok(())
     }
 
@@ -64,14 +70,26 @@ impl TokenList {
         requires { number < length self.now }
         ensures { slice_get self.now number ≡ Some (seen result) }
     {
-        self.kept[number].lent()
+        let packed = self.records[number];
+        lend(&self.texts, packed)
     }
 
     /// Keeps the first `count` tokens.
     pub fn truncate(&mut self, count: usize)
         ensures { self.new ≡ take count self.old }
     {
-        self.kept.truncate(count);
+        self.records.truncate(count);
+    }
+
+    /// The same tokens, to which none comes.
+    pub fn finish(self) -> TokenList
+        ensures { result ≡ self }
+    {
+        let TokenList { texts, records } = self;
+        TokenList {
+            texts: texts.finish(),
+            records,
+        }
     }
 
     /// Adds the names that tokens use, in a range of numbers, to distinct names.
@@ -86,7 +104,7 @@ impl TokenList {
         ensures { OnOk result (used.new.keys ≡ used_from standings.now used.old.keys (slice_range self.now part.first part.after)) }
     {
         add_uses_of(
-            &self.kept[part.first as usize..part.after as usize],
+            &self.records[part.first as usize..part.after as usize],
             standings,
             used,
         )
@@ -98,30 +116,30 @@ impl TokenList {
         requires within { part.after ≤ length self.now }
         ensures { result ≡ list_any is_defs (slice_range self.now part.first part.after) }
     {
-        has_defs_in(&self.kept[part.first as usize..part.after as usize])
+        has_defs_in(&self.records[part.first as usize..part.after as usize])
     }
 }
 
 fn add_uses_of(
-    tokens: &[Kept],
+    tokens: &[Packed],
     standings: &[Result<NameId, NameKind>],
     used: &mut IndexSet<NameId>,
 ) -> Result<(), AllocError>
-    ensures { OnOk result (used.new.keys ≡ used_from standings.now used.old.keys (map kept tokens.now)) }
+    ensures { OnOk result (used.new.keys ≡ used_by standings.now used.old.keys tokens.now) }
 {
     for token in tokens {
-        if let Kept::Name(name) = token {
+        if let Packed::Name(name) = token {
             add_name_at(used, standings, name.0 as usize)?;
         }
     }
     Ok(())
 }
 
-fn has_defs_in(tokens: &[Kept]) -> bool
-    ensures { result ≡ list_any is_defs (map kept tokens.now) }
+fn has_defs_in(tokens: &[Packed]) -> bool
+    ensures { result ≡ list_any is_packed_defs tokens.now }
 {
     for token in tokens {
-        if let Kept::Defs = token {
+        if let Packed::Defs = token {
             return true;
         }
     }

@@ -9,7 +9,7 @@ pub invariant_of-result-2 : goal.invariant_of-result-2
 invariant_of-result-2 c =
     let s = c.self.inside in
     let tied = subst (λ (current : Option Open). AreRuns s.tokens s.runs.items current (vec_capacity s.runs)) c.in-Some.is c.self.invariant in
-    let run : c.closed_run-run.result ≡ last_run c.in-Some.current (length s.tokens) = c.closed_run-run.ensures ∙ ap (last_run c.in-Some.current) c.len.ensures in
+    let run : c.closed_run-run.result ≡ last_run c.in-Some.current (length s.tokens) = c.closed_run-run.ensures ∙ ap (last_run c.in-Some.current) (c.len.ensures ∙ ap length c.finish-tokens.ensures) in
     let after = close-are s.tokens s.runs.items c.in-Some.current _ (length s.runs.items) tied in
     let whole : IsWhole s.tokens (s.runs.items ++ last_run c.in-Some.current (length s.tokens) ∷ []) = record { follow = after.follow; few_tokens = after.few_tokens; few_parts = omega (arith, after.few_parts) } in
-    rw (c.put.ensures, run) whole
+    rw (c.put.ensures, run, c.finish-tokens.ensures) whole

@@ -1,14 +1,19 @@
-use Rattle.std.proofs.Common.{◌≡◌, List, map, ◌∙◌, ap, subst}
+use Rattle.std.proofs.Common.{◌≡◌, List, ◌∙◌, ap, subst}
 use Rattle.std.specs.Prelude.{slice_range, OnOk}
-use Rattle.cweb_store.specs.Parts.{Token}
+use Rattle.cweb_store.specs.declared.name.NameId.{NameId}
 use Rattle.cweb_store.specs.Gathered.{used_from}
-use Rattle.cweb_store.specs.Seen.{kept}
+use Rattle.cweb_store.specs.Packed.{token_in, used_by}
 use Rattle.cweb_store.proofs.RangeLemmas.{range-map}
+use Rattle.cweb_store.proofs.PackedLemmas.{used-records}
 use Rattle.cweb_store.proofs.token_list.TokenList.add_uses.Goals as goal
 
 pub returns : goal.returns
 returns c =
+    let s = c.self.inside in
     let first = c.args.part.first in
     let after = c.args.part.after in
-    let tokens = ap (λ ts. map kept (slice_range ts first after)) c.deref.ensures.value ∙ range-map kept c.self.inside.kept.items first after ∙ ap (λ ts. slice_range ts first after) c.self.view_is in
-    subst (λ (ts : List Token). OnOk c.add_uses_of.result (c.add_uses_of.new.used.keys ≡ used_from c.args.standings.now c.args.used.now.keys ts)) tokens c.add_uses_of.ensures
+    let rs = c.args.standings.now in
+    let old = c.args.used.now.keys in
+    let used = ap (λ ps. used_by rs old (slice_range ps first after)) c.deref.ensures.value ∙ used-records s.texts rs old (slice_range s.records.items first after)
+    ∙ ap (used_from rs old) (range-map (token_in s.texts) s.records.items first after ∙ ap (λ ts. slice_range ts first after) c.self.view_is) in
+    subst (λ (ns : List NameId). OnOk c.add_uses_of.result (c.add_uses_of.new.used.keys ≡ ns)) used c.add_uses_of.ensures

@@ -1,0 +1,219 @@
+-- What becomes of texts and of records that name them where texts are added.
+use Rattle.std.proofs.Common.{◌≡◌, ℕ, zero, suc, ◌+◌, ◌-◌, ◌≤◌, ◌<◌, true, false, List, [], ◌∷◌, ◌++◌, Some, None, map, length, take, drop, refl, sym, ◌∙◌, ap, subst, arith, length-append, length-drop, cond, get_or, ◌||◌, slice_get}
+use Rattle.std.specs.Prelude.{slice_range, slice_index_or, bytes_eq, Vec, if◌then◌else◌}
+use Rattle.std.specs.Map.{lookup}
+use Rattle.std.specs.declared.alloc.Global.{Global}
+use Rattle.std.proofs.lemmas.List.{drop-append-le, take-append-le, map-append}
+use Rattle.std.proofs.Math.Seq.{drop-append_seam, take-length, length-take-le}
+use Rattle.std.proofs.lemmas.Slice.Eq.{bytes_eq-Decides}
+use Rattle.indexmap.specs.IndexMap.{insert_entry}
+use Rattle.std.specs.List.{list_any}
+use Rattle.cweb_store.specs.declared.name.NameId.{NameId}
+use Rattle.cweb_store.specs.Names.{Standing}
+use Rattle.cweb_store.specs.Gathered.{with_use, used_from}
+use Rattle.cweb_store.specs.Parts as spec
+use Rattle.cweb_store.specs.Parts.{is_defs}
+use Rattle.cweb_store.specs.declared.packed.Packed.{Packed}
+use Rattle.cweb_store.specs.declared.packed.Packed.TheVariants.{Word, Number, Literal, Verbatim, Punct, Blank, Newline, Join, Defs, Name, Head, Tail, Mark}
+use Rattle.cweb_store.specs.PackedTexts.{texts_from, AreEnds, begin_of, text_bytes}
+use Rattle.cweb_store.specs.Words.{AreWords}
+use Rattle.cweb_store.specs.Packed.{with_record, used_by, is_packed_defs, text_at, token_in, IsWithin, ArePacked, Packs}
+
+ends-le : (n all : ℕ) (ends : List ℕ) → AreEnds n ends all → n ≤ all
+ends-le n all [] h = omega arith
+ends-le n all (e ∷ es) h = omega (arith, h.0, ends-le e all es h.1)
+
+range-grow : (bytes more : List ℕ) (i j : ℕ) → i ≤ j → j ≤ length bytes → slice_range (bytes ++ more) i j ≡ slice_range bytes i j
+range-grow bytes more i j le within =
+    ap (take (j - i)) (drop-append-le i bytes more (omega arith)) ∙ take-append-le (j - i) (drop i bytes) more (omega (arith, length-drop i bytes))
+
+range-end : (bytes text : List ℕ) → slice_range (bytes ++ text) (length bytes) (length (bytes ++ text)) ≡ text
+range-end bytes text =
+    ap (take (length (bytes ++ text) - length bytes)) (drop-append_seam bytes text) ∙ ap (λ n. take n text) (let e : length (bytes ++ text) - length bytes ≡ length text = omega (arith, length-append bytes text) in e) ∙ take-length text
+
+pub texts-push : (bytes text : List ℕ) (n : ℕ) (ends : List ℕ) → AreEnds n ends (length bytes) → texts_from (bytes ++ text) n (ends ++ length (bytes ++ text) ∷ []) ≡ texts_from bytes n ends ++ text ∷ []
+texts-push bytes text n [] h = ap (λ k. slice_range (bytes ++ text) k (length (bytes ++ text)) ∷ []) h ∙ ap (λ t. t ∷ []) (range-end bytes text)
+texts-push bytes text n (e ∷ es) h = λ i. range-grow bytes text n e h.0 (ends-le e (length bytes) es h.1) i ∷ texts-push bytes text e es h.1 i
+
+pub ends-push : (n all more : ℕ) (ends : List ℕ) → AreEnds n ends all → all ≤ more → AreEnds n (ends ++ more ∷ []) more
+ends-push n all more [] h le = (omega arith, refl)
+ends-push n all more (e ∷ es) h le = (h.0, ends-push e all more es h.1 le)
+
+pub texts-count : (bytes : List ℕ) (n : ℕ) (ends : List ℕ) → length (texts_from bytes n ends) ≡ length ends
+texts-count bytes n [] = refl
+texts-count bytes n (e ∷ es) = omega (arith, texts-count bytes e es)
+
+pub texts-at : (bytes : List ℕ) (n : ℕ) (ends : List ℕ) (k d : ℕ) → k < length ends → slice_get (texts_from bytes n ends) k ≡ Some (slice_range bytes (begin_of n ends k) (slice_index_or ends k d))
+texts-at bytes n [] k d h = absurd (let none : ⊥ = omega arith in none)
+texts-at bytes n (e ∷ es) zero d h = refl
+texts-at bytes n (e ∷ es) (suc k) d h = texts-at bytes e es k d (omega arith)
+
+pub begin-at : (n : ℕ) (ends : List ℕ) (k d : ℕ) → k < length ends → begin_of n ends (suc k) ≡ slice_index_or ends k d
+begin-at n [] k d h = absurd (let none : ⊥ = omega arith in none)
+begin-at n (e ∷ es) zero d h = refl
+begin-at n (e ∷ es) (suc k) d h = begin-at e es k d (omega arith)
+
+pub ends-at : (n all : ℕ) (ends : List ℕ) (k d : ℕ) → AreEnds n ends all → k < length ends → (begin_of n ends k ≤ slice_index_or ends k d) × (slice_index_or ends k d ≤ all)
+ends-at n all [] k d tied h = absurd (let none : ⊥ = omega arith in none)
+ends-at n all (e ∷ es) zero d tied h = (tied.0, ends-le e all es tied.1)
+ends-at n all (e ∷ es) (suc k) d tied h = ends-at e all es k d tied.1 (omega arith)
+
+bytes-from : (bytes : List ℕ) (n : ℕ) (ends : List ℕ) → AreEnds n ends (length bytes) → length (text_bytes (texts_from bytes n ends)) + n ≡ length bytes
+bytes-from bytes n [] h = omega (arith, h)
+bytes-from bytes n (e ∷ es) h =
+    let size : length (slice_range bytes n e) ≡ e - n = length-take-le (e - n) (drop n bytes) (omega (arith, length-drop n bytes, ends-le e (length bytes) es h.1)) in
+    omega (arith, size, h.0, length-append (slice_range bytes n e) (text_bytes (texts_from bytes e es)), bytes-from bytes e es h.1)
+
+pub bytes-count : (bytes : List ℕ) (ends : List ℕ) → AreEnds 0 ends (length bytes) → length bytes ≡ length (text_bytes (texts_from bytes 0 ends))
+bytes-count bytes ends h = omega (arith, bytes-from bytes 0 ends h)
+
+-- one more text at the end
+get-grow : (texts more : List (List ℕ)) (n : ℕ) (t : List ℕ) → slice_get texts n ≡ Some t → slice_get (texts ++ more) n ≡ Some t
+get-grow [] more n t h = cc
+get-grow (x ∷ texts) more zero t h = h
+get-grow (x ∷ texts) more (suc n) t h = get-grow texts more n t h
+
+pub get-last : (texts : List (List ℕ)) (t : List ℕ) (n : ℕ) → n ≡ length texts → slice_get (texts ++ t ∷ []) n ≡ Some t
+get-last [] t zero h = refl
+get-last [] t (suc n) h = absurd (let none : ⊥ = omega arith in none)
+get-last (x ∷ texts) t zero h = absurd (let none : ⊥ = omega arith in none)
+get-last (x ∷ texts) t (suc n) h = get-last texts t n (omega arith)
+
+pub get-within : (texts : List (List ℕ)) (n : ℕ) (t : List ℕ) → slice_get texts n ≡ Some t → n < length texts
+get-within [] n t h = cc
+get-within (x ∷ texts) zero t h = omega arith
+get-within (x ∷ texts) (suc n) t h = omega (arith, get-within texts n t h)
+
+pub get-text : (texts : List (List ℕ)) (n : ℕ) (t : List ℕ) → slice_get texts n ≡ Some t → text_at texts n ≡ t
+get-text [] n t h = cc
+get-text (x ∷ texts) zero t h = let same : x ≡ t = cc in same
+get-text (x ∷ texts) (suc n) t h = get-text texts n t h
+
+pub words-grow : (texts more : List (List ℕ)) (es : List (Vec ℕ Global × ℕ)) → AreWords texts es → AreWords (texts ++ more) es
+words-grow texts more [] words = tt
+words-grow texts more (e ∷ es) words = (get-grow texts more e.1 e.0.items words.0, words-grow texts more es words.1)
+
+-- a word that a map has is the text that it says
+pub words-lookup : (texts : List (List ℕ)) (word : List ℕ) (es : List (Vec ℕ Global × ℕ)) (n : ℕ) → AreWords texts es → lookup (λ k. bytes_eq word k.items) es ≡ Some n → slice_get texts n ≡ Some word
+words-lookup texts word [] n words found = cc
+words-lookup texts word (e ∷ es) n words found =
+    (elim (bytes_eq word e.0.items) as (λ b. bytes_eq word e.0.items ≡ b → cond b (Some e.1) (lookup (λ k. bytes_eq word k.items) es) ≡ Some n → slice_get texts n ≡ Some word) [
+      | true ↦ λ same at.
+          let is : e.1 ≡ n = cc in
+          let text : word ≡ e.0.items = (bytes_eq-Decides word e.0.items).0 same in
+          ap (slice_get texts) (sym is) ∙ words.0 ∙ ap Some (sym text)
+      | false ↦ λ other at. words-lookup texts word es n words.1 at
+    ]) refl found
+
+-- a new word goes into the map
+pub words-insert : (texts : List (List ℕ)) (es : List (Vec ℕ Global × ℕ)) (key : Vec ℕ Global) (n : ℕ) → AreWords texts es → lookup (λ k. bytes_eq key.items k.items) es ≡ None → slice_get texts n ≡ Some key.items →
+    AreWords texts (insert_entry (λ x y. bytes_eq x.items y.items) es key n)
+words-insert texts [] key n words none stands = (stands, tt)
+words-insert texts (e ∷ es) key n words none stands =
+    (elim (bytes_eq key.items e.0.items) as (λ b. cond b (Some e.1) (lookup (λ k. bytes_eq key.items k.items) es) ≡ None → AreWords texts (if b then (e.0, n) ∷ es else e ∷ insert_entry (λ x y. bytes_eq x.items y.items) es key n)) [
+      | true ↦ λ at. cc
+      | false ↦ λ at. (words.0, words-insert texts es key n words.1 at stands)
+    ]) none
+
+at-grow : (texts more : List (List ℕ)) (n : ℕ) → n < length texts → text_at (texts ++ more) n ≡ text_at texts n
+at-grow [] more n h = absurd (let none : ⊥ = omega arith in none)
+at-grow (x ∷ texts) more zero h = refl
+at-grow (x ∷ texts) more (suc n) h = at-grow texts more n (omega arith)
+
+token_in-grow : (texts more : List (List ℕ)) (p : Packed) → IsWithin (length texts) p → token_in (texts ++ more) p ≡ token_in texts p
+token_in-grow texts more (Word n) h = ap spec.Word (at-grow texts more n h)
+token_in-grow texts more (Number n) h = ap spec.Number (at-grow texts more n h)
+token_in-grow texts more (Literal n) h = ap spec.Literal (at-grow texts more n h)
+token_in-grow texts more (Verbatim n) h = ap spec.Verbatim (at-grow texts more n h)
+token_in-grow texts more (Punct n) h = ap spec.Punct (at-grow texts more n h)
+token_in-grow texts more Blank h = refl
+token_in-grow texts more Newline h = refl
+token_in-grow texts more Join h = refl
+token_in-grow texts more Defs h = refl
+token_in-grow texts more (Name name) h = refl
+token_in-grow texts more (Head section) h = refl
+token_in-grow texts more (Tail section) h = refl
+token_in-grow texts more (Mark place) h = refl
+
+IsWithin-grow : (n m : ℕ) (p : Packed) → n ≤ m → IsWithin n p → IsWithin m p
+IsWithin-grow n m (Word k) le h = omega (arith, h, le)
+IsWithin-grow n m (Number k) le h = omega (arith, h, le)
+IsWithin-grow n m (Literal k) le h = omega (arith, h, le)
+IsWithin-grow n m (Verbatim k) le h = omega (arith, h, le)
+IsWithin-grow n m (Punct k) le h = omega (arith, h, le)
+IsWithin-grow n m Blank le h = tt
+IsWithin-grow n m Newline le h = tt
+IsWithin-grow n m Join le h = tt
+IsWithin-grow n m Defs le h = tt
+IsWithin-grow n m (Name name) le h = tt
+IsWithin-grow n m (Head section) le h = tt
+IsWithin-grow n m (Tail section) le h = tt
+IsWithin-grow n m (Mark place) le h = tt
+
+tokens-grow : (texts more : List (List ℕ)) (ps : List Packed) → ArePacked texts ps → map (token_in (texts ++ more)) ps ≡ map (token_in texts) ps
+tokens-grow texts more [] h = refl
+tokens-grow texts more (p ∷ ps) h = λ i. token_in-grow texts more p h.0 i ∷ tokens-grow texts more ps h.1 i
+
+ArePacked-grow : (texts more : List (List ℕ)) (ps : List Packed) (p : Packed) → ArePacked texts ps → IsWithin (length (texts ++ more)) p → ArePacked (texts ++ more) (ps ++ p ∷ [])
+ArePacked-grow texts more [] p h here = (here, tt)
+ArePacked-grow texts more (q ∷ ps) p h here = (IsWithin-grow (length texts) (length (texts ++ more)) q (omega (arith, length-append texts more)) h.0, ArePacked-grow texts more ps p h.1 here)
+
+-- one more token
+pub packs-tokens : (old new : List (List ℕ)) (ps : List Packed) (t : spec.Token) (p : Packed) → ArePacked old ps → Packs old t p new → map (token_in new) (ps ++ p ∷ []) ≡ map (token_in old) ps ++ t ∷ []
+packs-tokens old new ps t p all packs =
+    map-append (token_in new) ps (p ∷ []) ∙ ap (λ x. map (token_in new) ps ++ x ∷ []) packs.stands ∙ ap (λ ts. ts ++ t ∷ []) (ap (λ b. map (token_in b) ps) packs.grows ∙ tokens-grow old packs.more ps all)
+
+pub packs-all : (old new : List (List ℕ)) (ps : List Packed) (t : spec.Token) (p : Packed) → ArePacked old ps → Packs old t p new → ArePacked new (ps ++ p ∷ [])
+packs-all old new ps t p all packs =
+    subst (λ (b : List (List ℕ)). ArePacked b (ps ++ p ∷ [])) (sym packs.grows) (ArePacked-grow old packs.more ps p all (subst (λ (b : List (List ℕ)). IsWithin (length b) p) packs.grows packs.within))
+
+-- a record at a place
+pub packed-at : (texts : List (List ℕ)) (ps : List Packed) (i : ℕ) (p : Packed) → ArePacked texts ps → i < length ps → p ≡ get_or ps i p → IsWithin (length texts) p × (slice_get (map (token_in texts) ps) i ≡ Some (token_in texts p))
+packed-at texts [] i p all h is = absurd (let none : ⊥ = omega arith in none)
+packed-at texts (q ∷ ps) zero p all h is = (subst (IsWithin (length texts)) (sym is) all.0, ap (λ r. Some (token_in texts r)) (sym is))
+packed-at texts (q ∷ ps) (suc i) p all h is = packed-at texts ps i p all.1 (omega arith) is
+
+pub packed-take : (texts : List (List ℕ)) (ps : List Packed) (n : ℕ) → ArePacked texts ps → ArePacked texts (take n ps)
+packed-take texts [] zero all = tt
+packed-take texts [] (suc n) all = tt
+packed-take texts (p ∷ ps) zero all = tt
+packed-take texts (p ∷ ps) (suc n) all = (all.0, packed-take texts ps n all.1)
+
+use-record : (texts : List (List ℕ)) (rs : List Standing) (ns : List NameId) (p : Packed) → with_record rs ns p ≡ with_use rs ns (token_in texts p)
+use-record texts rs ns (Word n) = refl
+use-record texts rs ns (Number n) = refl
+use-record texts rs ns (Literal n) = refl
+use-record texts rs ns (Verbatim n) = refl
+use-record texts rs ns (Punct n) = refl
+use-record texts rs ns Blank = refl
+use-record texts rs ns Newline = refl
+use-record texts rs ns Join = refl
+use-record texts rs ns Defs = refl
+use-record texts rs ns (Name name) = refl
+use-record texts rs ns (Head section) = refl
+use-record texts rs ns (Tail section) = refl
+use-record texts rs ns (Mark place) = refl
+
+-- records use what their tokens use
+pub used-records : (texts : List (List ℕ)) (rs : List Standing) (ns : List NameId) (ps : List Packed) → used_by rs ns ps ≡ used_from rs ns (map (token_in texts) ps)
+used-records texts rs ns [] = refl
+used-records texts rs ns (p ∷ ps) = ap (λ ms. used_by rs ms ps) (use-record texts rs ns p) ∙ used-records texts rs (with_use rs ns (token_in texts p)) ps
+
+defs-record : (texts : List (List ℕ)) (p : Packed) → is_packed_defs p ≡ is_defs (token_in texts p)
+defs-record texts (Word n) = refl
+defs-record texts (Number n) = refl
+defs-record texts (Literal n) = refl
+defs-record texts (Verbatim n) = refl
+defs-record texts (Punct n) = refl
+defs-record texts Blank = refl
+defs-record texts Newline = refl
+defs-record texts Join = refl
+defs-record texts Defs = refl
+defs-record texts (Name name) = refl
+defs-record texts (Head section) = refl
+defs-record texts (Tail section) = refl
+defs-record texts (Mark place) = refl
+
+pub defs-records : (texts : List (List ℕ)) (ps : List Packed) → list_any is_packed_defs ps ≡ list_any is_defs (map (token_in texts) ps)
+defs-records texts [] = refl
+defs-records texts (p ∷ ps) = λ i. defs-record texts p i || defs-records texts ps i

@@ -1,0 +1,59 @@
+-- Tokens of fixed size, which have their texts by number.
+use Rattle.std.specs.Prelude.{◌≡◌, ℕ, Bool, true, false, ◌<◌, List, [], ◌∷◌, ◌++◌, length, slice_index_or}
+use Rattle.cweb_store.specs.declared.name.NameId.{NameId}
+use Rattle.cweb_store.specs.Names.{Standing, stands, with_some}
+use Rattle.cweb_store.specs.Parts as spec
+use Rattle.cweb_store.specs.declared.packed.Packed.{Packed}
+use Rattle.cweb_store.specs.declared.packed.Packed.TheVariants.{Word, Number, Literal, Verbatim, Punct, Blank, Newline, Join, Defs, Name, Head, Tail, Mark}
+
+abbrev pub text_at : List (List ℕ) → ℕ → List ℕ
+text_at texts number = slice_index_or texts number []
+
+-- the token that a record stands for
+abbrev pub token_in : List (List ℕ) → Packed → spec.Token
+token_in texts (Word number) = spec.Word (text_at texts number)
+token_in texts (Number number) = spec.Number (text_at texts number)
+token_in texts (Literal number) = spec.Literal (text_at texts number)
+token_in texts (Verbatim number) = spec.Verbatim (text_at texts number)
+token_in texts (Punct number) = spec.Punct (text_at texts number)
+token_in texts Blank = spec.Blank
+token_in texts Newline = spec.Newline
+token_in texts Join = spec.Join
+token_in texts Defs = spec.Defs
+token_in texts (Name name) = spec.Name name
+token_in texts (Head section) = spec.Head section
+token_in texts (Tail section) = spec.Tail section
+token_in texts (Mark place) = spec.Mark place
+
+-- the names that records use, after others
+abbrev pub with_record : List Standing → List NameId → Packed → List NameId
+with_record rs ns (Name name) = with_some ns (stands rs name.0)
+with_record rs ns packed = ns
+
+abbrev pub used_by : List Standing → List NameId → List Packed → List NameId
+used_by rs ns [] = ns
+used_by rs ns (p ∷ ps) = used_by rs (with_record rs ns p) ps
+
+abbrev pub is_packed_defs : Packed → Bool
+is_packed_defs Defs = true
+is_packed_defs packed = false
+
+-- the text of a record, if it has one, is among so many
+abbrev pub IsWithin : ℕ → Packed → Type 0
+IsWithin n (Word number) = number < n
+IsWithin n (Number number) = number < n
+IsWithin n (Literal number) = number < n
+IsWithin n (Verbatim number) = number < n
+IsWithin n (Punct number) = number < n
+IsWithin n packed = Unit {0}
+
+abbrev pub ArePacked : List (List ℕ) → List Packed → Type 0
+ArePacked texts [] = Unit {0}
+ArePacked texts (p ∷ ps) = IsWithin (length texts) p × ArePacked texts ps
+
+-- the texts that were there stay, and the record stands for the token
+pub record Packs (old : List (List ℕ)) (token : spec.Token) (packed : Packed) (new : List (List ℕ)) : Type 0 where
+  pub more : List (List ℕ)
+  pub grows : new ≡ old ++ more
+  pub within : IsWithin (length new) packed
+  pub stands : token_in new packed ≡ token

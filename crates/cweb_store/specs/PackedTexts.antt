@@ -1,0 +1,28 @@
+-- Texts that stand one after another in a list of bytes.
+use Rattle.std.specs.Prelude.{◌≡◌, ℕ, zero, suc, ◌≤◌, List, [], ◌∷◌, ◌++◌, Some, flat_map, slice_get, slice_range}
+
+-- each text ends where the next begins, where the first begins at byte n
+abbrev pub texts_from : List ℕ → ℕ → List ℕ → List (List ℕ)
+texts_from bytes n [] = []
+texts_from bytes n (end ∷ ends) = slice_range bytes n end ∷ texts_from bytes end ends
+
+-- from byte n on the texts take all bytes
+abbrev pub AreEnds : ℕ → List ℕ → ℕ → Type 0
+AreEnds n [] all = n ≡ all
+AreEnds n (end ∷ ends) all = (n ≤ end) × AreEnds end ends all
+
+-- the bytes of texts
+abbrev pub text_bytes : List (List ℕ) → List ℕ
+text_bytes texts = flat_map (λ t. t) texts
+
+-- the texts that were there stay, and the text has a number
+pub record Keeps (old : List (List ℕ)) (text : List ℕ) (number : ℕ) (new : List (List ℕ)) : Type 0 where
+  pub more : List (List ℕ)
+  pub grows : new ≡ old ++ more
+  pub stands : slice_get new number ≡ Some text
+
+-- where text k begins, where the first begins at byte n
+abbrev pub begin_of : ℕ → List ℕ → ℕ → ℕ
+begin_of n ends zero = n
+begin_of n [] (suc k) = n
+begin_of n (end ∷ ends) (suc k) = begin_of end ends k

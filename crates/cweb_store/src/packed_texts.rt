@@ -1,0 +1,75 @@
+// Texts in one list of bytes.
+
+ghost use Rattle.std.specs.Prelude.{◌≡◌, ◌<◌, ◌++◌, ◌∷◌, [], length, slice_get, Some, IfOk, OnOk, OnErr};
+ghost use Rattle.cweb_store.specs.PackedTexts.{begin_of, text_bytes};
+
+use crate::reserved::put;
+use std::alloc::{AllocError, Global};
+use std::marker::Model;
+
+/// Texts, numbered from 0. They stand one after another in a list of bytes; of each is known where it ends.
+#[derive(Drop)]
+pub struct PackedTexts {
+    bytes: Vec<u8>,
+    ends: Vec<usize>,
+}
+
+impl Model for PackedTexts {
+    ghost use Rattle.std.specs.Prelude.{List, ℕ, length};
+
+    ghost Value = { List (List ℕ) };
+
+    ghost use Rattle.cweb_store.specs.PackedTexts.{texts_from, AreEnds};
+
+    ghost view = { λ s. texts_from s.bytes.items 0 s.ends.items };
+
+    ghost invariant = { λ s. AreEnds 0 s.ends.items (length s.bytes.items) };
+}
+
+impl PackedTexts {
+    pub fn new(alloc: Global) -> PackedTexts
+        ensures { result ≡ [] }
+    {
+        PackedTexts {
+            bytes: Vec::new(alloc),
+            ends: Vec::new(alloc),
+        }
+    }
+
+    /// Adds a text, and answers its number. A refused call changes nothing.
+    pub fn add(&mut self, text: &[u8]) -> Result<usize, AllocError>
+        ensures number { IfOk result (λ number. number ≡ length self.old) }
+        ensures added { OnOk result (self.new ≡ self.old ++ text.now ∷ []) }
+        ensures err { OnErr result (self.new ≡ self.old) }
+    {
+        self.ends.reserve(1)?;
+        self.bytes.extend_from_slice(text)?;
+        let number = self.ends.len();
+        put(&mut self.ends, self.bytes.len());
+        Ok(number)
+    }
+
+    /// The text with a number.
+    pub fn text(&self, number: usize) -> &[u8]
+        requires { number < length self.now }
+        ensures { slice_get self.now number ≡ Some result.now }
+    {
+        let begin = begin_of(self.ends.as_slice(), number);
+        &self.bytes[begin..self.ends[number]]
+    }
+
+    /// How many bytes the texts have.
+    pub fn text_bytes(&self) -> usize
+        ensures { result ≡ length (text_bytes self.now) }
+    {
+        self.bytes.len()
+    }
+}
+
+// Where a text begins: where the one before it ends.
+fn begin_of(ends: &[usize], number: usize) -> usize
+    requires { number < length ends.now }
+    ensures { result ≡ begin_of 0 ends.now number }
+{
+    if number == 0 { 0 } else { ends[number - 1] }
+}

@@ -1,0 +1,105 @@
+// Texts, of which equal words are kept once.
+
+ghost use Rattle.std.specs.Prelude.{◌≡◌, ◌<◌, [], length, slice_get, bytes_eq, Some, IfOk, OnErr};
+ghost use Rattle.indexmap.specs.IndexMap.{insert_entry, spare};
+ghost use Rattle.cweb_store.specs.PackedTexts.{Keeps, text_bytes};
+
+use crate::packed_texts::PackedTexts;
+use indexmap::IndexMap;
+use std::alloc::{AllocError, Global};
+use std::marker::Model;
+
+/// Texts, and the numbers of the words among them.
+#[derive(Drop)]
+pub struct WordTexts {
+    alloc: Global,
+    texts: PackedTexts,
+    words: IndexMap<Vec<u8>, usize>,
+}
+
+impl Model for WordTexts {
+    ghost use Rattle.std.specs.Prelude.{List, ℕ};
+
+    ghost Value = { List (List ℕ) };
+
+    ghost use Rattle.cweb_store.specs.Words.{AreWords};
+
+    ghost view = { λ s. s.texts };
+
+    ghost invariant = { λ s. AreWords s.texts s.words.entries };
+}
+
+impl WordTexts {
+    pub fn new(alloc: Global) -> WordTexts
+        ensures { result ≡ [] }
+    {
+        WordTexts {
+            alloc,
+            texts: PackedTexts::new(alloc),
+            words: IndexMap::new(alloc),
+        }
+    }
+
+    /// Keeps a text, and answers its number. A refused call changes nothing.
+    pub fn keep(&mut self, text: &[u8]) -> Result<usize, AllocError>
+        ensures ok { IfOk result (λ number. Keeps self.old text.now number self.new) }
+        ensures err { OnErr result (self.new ≡ self.old) }
+    {
+        let number = self.texts.add(text)?;
+        Ok(number)
+    }
+
+    /// Keeps a word, which may be there already. A refused call changes nothing.
+    pub fn keep_word(&mut self, word: &[u8]) -> Result<usize, AllocError>
+        ensures ok { IfOk result (λ number. Keeps self.old word.now number self.new) }
+        ensures err { OnErr result (self.new ≡ self.old) }
+    {
+        if let Some(number) = self.words.get(word).copied() {
+            return Ok(number);
+        }
+        let key = Vec::from_slice(self.alloc, word)?;
+        self.words.reserve(1)?;
+        let number = self.texts.add(word)?;
+        put_word(&mut self.words, key, number);
+        Ok(number)
+    }
+
+    /// The text with a number.
+    pub fn text(&self, number: usize) -> &[u8]
+        requires { number < length self.now }
+        ensures { slice_get self.now number ≡ Some result.now }
+    {
+        self.texts.text(number)
+    }
+
+    /// How many bytes the texts have.
+    pub fn text_bytes(&self) -> usize
+        ensures { result ≡ length (text_bytes self.now) }
+    {
+        self.texts.text_bytes()
+    }
+
+    /// The same texts, whose words are no longer looked for.
+    pub fn finish(self) -> WordTexts
+        ensures { result ≡ self }
+    {
+        let WordTexts {
+            alloc,
+            texts,
+            words: _,
+        } = self;
+        WordTexts {
+            alloc,
+            texts,
+            words: IndexMap::new(alloc),
+        }
+    }
+}
+
+// Adds a word for which there is room.
+fn put_word(words: &mut IndexMap<Vec<u8>, usize>, key: Vec<u8>, number: usize)
+    requires { 0 < spare words.old }
+    ensures { words.new.entries ≡ insert_entry (λ x y. bytes_eq x.items y.items) words.old.entries key number }
+{
+    let _ = words.insert(key, number);
+}
