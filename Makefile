@@ -11,7 +11,7 @@ SOURCES := crates.txt $(shell find crates -name out -prune -o -type f \( -name '
 
 help:
 	@echo 'make demo       builds wmerge and prints the merged lines of the example web, then with its change file'
-	@echo 'make build      proves and builds wmerge: about seven minutes the first time, on four processors'
+	@echo 'make build      proves and builds wmerge: some ten minutes the first time, on four processors'
 	@echo 'make install    copies wmerge and its man page below $(PREFIX) (PREFIX, BINDIR, MANDIR and DESTDIR are'
 	@echo '                obeyed); where make build was run before, it needs nothing but cp'
 	@echo 'make uninstall  removes what make install copied'
@@ -26,7 +26,7 @@ build: $(WMERGE)
 $(WMERGE): $(SOURCES)
 	@command -v rt > /dev/null || { echo 'make: to build wmerge takes the Rattle kit, and its command rt is not on the path' >&2; exit 1; }
 	@mkdir -p $(@D)
-	@echo 'Proving and building wmerge: about seven minutes the first time, on four processors.'
+	@echo 'Proving and building wmerge: some ten minutes the first time, on four processors.'
 	@echo 'What the prover says goes to $(LOG).'
 	@cd crates/wmerge && CWEBINPUTS=data rt run -- data/a > out/build.log 2>&1 || { tail -n 20 out/build.log >&2; exit 1; }
 	@touch $@
