@@ -3,13 +3,14 @@ use Rattle.std.proofs.Common.{◌≡◌, ◌≤◌, ℕ, zero, suc, ◌+◌, ◌
 use Rattle.std.specs.Prelude.{option_to_list}
 use Rattle.std.specs.List.{fold}
 use Rattle.std.proofs.lemmas.List.{length-take-le}
+use Rattle.cweb_lines.specs.Lines.{Line}
 use Rattle.cweb_store.specs.Parts.{Token, Part, all_tokens}
 use Rattle.cweb_store.specs.Growing.{PartsSoFar, all_parts}
 use Rattle.cweb_store.specs.Calls.{finished}
 use Rattle.cweb_rules.specs.Kinds.{Piece}
 use Rattle.cweb_scan.specs.State.{State, leave, before_text}
 use Rattle.cweb_scan.specs.After.{Reading, after}
-use Rattle.cweb_scan.specs.Run.{front_of, pieces_in, run, further, PlacedLine, read, scanned}
+use Rattle.cweb_scan.specs.Run.{front_of, pieces_in, run, further, read, scanned}
 use Rattle.cweb_scan.specs.Bound.{total, one, text_size, part_size, open_size, parts_size, token_number, text_bytes}
 use Rattle.cweb_rules.specs.Pays.{due}
 use Rattle.cweb_scan.specs.Bound.{Adds}
@@ -44,7 +45,7 @@ in_text zero r (b ∷ t) h =
 run-adds : (r : Reading) (t : List ℕ) → Adds (length t) (length t) r.state (run r t).state
 run-adds r t = let all = in_text 0 r t (omega arith) in record { tokens_are = omega (arith, all.tokens_are); bytes_are = omega (arith, all.bytes_are) }
 
-further-size : (lines : List PlacedLine) → length (further lines) ≡ web_size lines
+further-size : (lines : List Line) → length (further lines) ≡ web_size lines
 further-size [] = refl
 further-size (line ∷ lines) = omega (arith, further-size lines, length-append line.bytes (further lines))
 
@@ -71,7 +72,7 @@ of_state s n h k = record {
   bytes = omega (arith, k, all-size text_size s.contents.parts);
 }
 
-pub bounded : (lines : List PlacedLine) → IsBounded (scanned lines).store (web_size lines)
+pub bounded : (lines : List Line) → IsBounded (scanned lines).store (web_size lines)
 bounded [] = of_state (leave (read []).state) 0 (omega arith) (omega arith)
 bounded (line ∷ lines) =
     let start : Reading = record { state = before_text line.place; later = map (λ l. l.place) lines } in

@@ -1,6 +1,7 @@
 -- Short words for computed webs.
 use Rattle.std.proofs.Common.{ℕ, Bool, List}
 use Rattle.cweb_files.specs.declared.place.Place.{Place}
+use Rattle.cweb_lines.specs.Lines.{Line}
 use Rattle.cweb_store.specs.declared.name.How.{How}
 use Rattle.cweb_store.specs.declared.name.NameRef.{NameRef}
 use Rattle.cweb_store.specs.declared.part.PartKind.{PartKind}
@@ -9,7 +10,7 @@ use Rattle.cweb_store.specs.Parts.{Part, Token}
 use Rattle.cweb_store.specs.Replacements.{Replacement}
 use Rattle.cweb_rules.specs.declared.fault.ScanFault.{ScanFault}
 use Rattle.cweb_rules.specs.declared.fault.ScanKind.{ScanKind}
-use Rattle.cweb_scan.specs.Run.{PlacedLine, Scanned}
+use Rattle.cweb_scan.specs.Run.{Scanned}
 
 abbrev pub at : ℕ → ℕ → Place
 at file line = record { file = record { 0 = file }; line = line }
@@ -17,7 +18,7 @@ at file line = record { file = record { 0 = file }; line = line }
 abbrev pub ref : ℕ → NameRef
 ref n = record { 0 = n }
 
-abbrev pub line : List ℕ → Place → PlacedLine
+abbrev pub line : List ℕ → Place → Line
 line bytes place = record { bytes = bytes; place = place }
 
 abbrev pub occ : List ℕ → How → Bool → Occurrence

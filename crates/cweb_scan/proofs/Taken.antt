@@ -1,28 +1,29 @@
 -- A line is its line end and its bytes.
 use Rattle.std.proofs.Common.{◌≡◌, List, [], ◌∷◌, ◌++◌, true, false, refl, ap, sym, ◌∙◌}
+use Rattle.cweb_lines.specs.Lines.{Line}
 use Rattle.cweb_scan.specs.After.{Reading}
 use Rattle.cweb_rules.specs.Lines.{AtLineEnd}
-use Rattle.cweb_scan.specs.Run.{PlacedLine, further, read}
+use Rattle.cweb_scan.specs.Run.{further, read}
 use Rattle.cweb_scan.specs.Held.{Held, goes_on, places, read_after, begun_at, TakesLineEnd, TakesBytes}
 
-pub AtLineEnd-further : (lines : List PlacedLine) → AtLineEnd (further lines)
+pub AtLineEnd-further : (lines : List Line) → AtLineEnd (further lines)
 AtLineEnd-further [] = tt
 AtLineEnd-further (line ∷ lines) = refl
 
-begun_after : (h : Held) (lines : List PlacedLine) → h.begun ≡ true → read_after h lines ≡ goes_on h (places lines) (further lines)
+begun_after : (h : Held) (lines : List Line) → h.begun ≡ true → read_after h lines ≡ goes_on h (places lines) (further lines)
 begun_after h lines e = ap (λ v. elim v as (λ w. Reading) [ false ↦ read lines | true ↦ goes_on h (places lines) (further lines) ]) e
 
-fresh_after : (h : Held) (lines : List PlacedLine) → h.begun ≡ false → read_after h lines ≡ read lines
+fresh_after : (h : Held) (lines : List Line) → h.begun ≡ false → read_after h lines ≡ read lines
 fresh_after h lines e = ap (λ v. elim v as (λ w. Reading) [ false ↦ read lines | true ↦ goes_on h (places lines) (further lines) ]) e
 
-pub next_taken : (old mid new : Held) (line : PlacedLine) (lines : List PlacedLine) → old.begun ≡ true → TakesLineEnd line.place old mid → TakesBytes line.bytes mid new → read_after new lines ≡ read_after old (line ∷ lines)
+pub next_taken : (old mid new : Held) (line : Line) (lines : List Line) → old.begun ≡ true → TakesLineEnd line.place old mid → TakesBytes line.bytes mid new → read_after new lines ≡ read_after old (line ∷ lines)
 next_taken old mid new line lines begun ended took =
     begun_after new lines (took.begun ∙ ended.begun)
     ∙ took.same (places lines) (further lines) (AtLineEnd-further lines)
     ∙ ended.same (places lines) (line.bytes ++ further lines)
     ∙ sym (begun_after old (line ∷ lines) begun)
 
-pub first_taken : (old mid new : Held) (line : PlacedLine) (lines : List PlacedLine) → old.begun ≡ false → mid ≡ begun_at line.place → TakesBytes line.bytes mid new → read_after new lines ≡ read_after old (line ∷ lines)
+pub first_taken : (old mid new : Held) (line : Line) (lines : List Line) → old.begun ≡ false → mid ≡ begun_at line.place → TakesBytes line.bytes mid new → read_after new lines ≡ read_after old (line ∷ lines)
 first_taken old mid new line lines fresh is took =
     begun_after new lines (took.begun ∙ ap (λ (h : Held). h.begun) is)
     ∙ took.same (places lines) (further lines) (AtLineEnd-further lines)

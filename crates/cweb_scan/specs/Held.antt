@@ -1,12 +1,13 @@
 -- What is held between two lines: the state, and an item that goes on in the next line.
 use Rattle.std.specs.Prelude.{◌≡◌, ℕ, Bool, true, false, List, [], ◌∷◌, ◌++◌, map}
 use Rattle.cweb_files.specs.declared.place.Place.{Place}
+use Rattle.cweb_lines.specs.Lines.{Line}
 use Rattle.cweb_rules.specs.Lines.{AtLineEnd}
 use Rattle.cweb_rules.specs.declared.end.End.TheVariants.{Cut}
 use Rattle.cweb_scan.specs.State.{State, moved, before_text}
 use Rattle.cweb_scan.specs.After.{Reading, line_end, comment_line_end, literal}
 use Rattle.cweb_scan.specs.Resume.{Item, Between, InComment, InName, InLiteral, AfterBackslash, InRaw, resume}
-use Rattle.cweb_scan.specs.Run.{PlacedLine, read, further}
+use Rattle.cweb_scan.specs.Run.{read, further}
 
 pub record Held : Type 0 where
   pub state : State
@@ -33,11 +34,11 @@ goes_on h later t = resume h.item t (record { state = h.state; later = later })
 abbrev pub begun_at : Place → Held
 begun_at place = held (before_text place) Between
 
-abbrev pub places : List PlacedLine → List Place
+abbrev pub places : List Line → List Place
 places lines = map (λ l. l.place) lines
 
 -- what is read after the lines that are still to come
-abbrev pub read_after : Held → List PlacedLine → Reading
+abbrev pub read_after : Held → List Line → Reading
 read_after h lines = elim h.begun [
   | false ↦ read lines
   | true ↦ goes_on h (places lines) (further lines)

@@ -1,11 +1,12 @@
 -- What holds of the pieces of each text, and of what is kept of each web.
 use Rattle.std.specs.Prelude.{◌≡◌, ◌<◌, ◌≤◌, ℕ, ◌+◌, List, [], ◌∷◌, ◌++◌, length}
+use Rattle.cweb_lines.specs.Lines.{Line}
 use Rattle.cweb_store.specs.Parts.{all_tokens}
 use Rattle.cweb_store.specs.Calls.{Stored}
 use Rattle.cweb_scan.specs.Bound.{total, text_size, occurrence_size, replacement_size}
 use Rattle.cweb_rules.specs.Kinds.{Piece}
 use Rattle.cweb_scan.specs.After.{Reading, after}
-use Rattle.cweb_scan.specs.Run.{front_of, PlacedLine}
+use Rattle.cweb_scan.specs.Run.{front_of}
 
 -- the piece stands at the front of a text, and is what the rules name there
 pub record Fits (r : Reading) (t : List ℕ) (p : Piece) : Type 0 where
@@ -18,7 +19,7 @@ ArePieces r t [] = t ≡ []
 ArePieces r t (p ∷ ps) = (rest : List ℕ) × (t ≡ p.bytes ++ rest) × (0 < length p.bytes) × Fits r t p × ArePieces (after r p) rest ps
 
 -- the bytes plus the lines of a web
-abbrev pub web_size : List PlacedLine → ℕ
+abbrev pub web_size : List Line → ℕ
 web_size [] = 0
 web_size (line ∷ lines) = length line.bytes + 1 + web_size lines
 

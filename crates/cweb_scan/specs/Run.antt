@@ -2,6 +2,7 @@
 use Rattle.std.specs.Prelude.{ℕ, ◌-◌, List, [], ◌∷◌, ◌++◌, take, map, zero, suc}
 use Rattle.std.specs.List.{fold}
 use Rattle.cweb_files.specs.declared.place.Place.{Place}
+use Rattle.cweb_lines.specs.Lines.{Line}
 use Rattle.cweb_store.specs.Calls.{Stored, finished}
 use Rattle.cweb_rules.specs.declared.fault.ScanFault.{ScanFault}
 use Rattle.cweb_scan.specs.Directives.{names_include}
@@ -30,13 +31,8 @@ pieces r t = pieces_in 0 r t
 abbrev pub run : Reading → List ℕ → Reading
 run r t = fold after r (pieces r t)
 
--- a merged line
-pub record PlacedLine : Type 0 where
-  pub bytes : List ℕ
-  pub place : Place
-
 -- the lines with a newline before each
-abbrev pub further : List PlacedLine → List ℕ
+abbrev pub further : List Line → List ℕ
 further [] = []
 further (line ∷ lines) = 10 ∷ line.bytes ++ further lines
 
@@ -55,10 +51,10 @@ abbrev no_place : Place
 no_place = record { file = record { 0 = 0 }; line = 0 }
 
 -- what was read after the merged lines: their text is the lines joined by newlines
-abbrev pub read : List PlacedLine → Reading
+abbrev pub read : List Line → Reading
 read [] = record { state = before_text no_place; later = [] }
 read (line ∷ lines) = run (record { state = before_text line.place; later = map (λ l. l.place) lines }) (line.bytes ++ further lines)
 
 -- what a scan gives of the merged lines
-abbrev pub scanned : List PlacedLine → Scanned
+abbrev pub scanned : List Line → Scanned
 scanned lines = scanned_of (read lines).state

@@ -1,13 +1,14 @@
 // What holds of the pieces of each text, and of what is kept of each web.
 
 ghost use Rattle.std.specs.Prelude.{◌≡◌, ◌∷◌, List, ℕ, true, false};
+ghost use Rattle.cweb_lines.specs.Lines.{Line};
 ghost use Rattle.cweb_rules.specs.Bytes.{is_blank};
 ghost use Rattle.cweb_rules.specs.Kinds.{Piece};
 ghost use Rattle.cweb_rules.specs.declared.context.Context.TheVariants.{CText};
 ghost use Rattle.cweb_scan.specs.After.{Reading};
 ghost use Rattle.cweb_scan.specs.Directives.{in_directive};
 ghost use Rattle.cweb_scan.specs.Law.{ArePieces, IsBounded, web_size};
-ghost use Rattle.cweb_scan.specs.Run.{PlacedLine, pieces, run, scanned};
+ghost use Rattle.cweb_scan.specs.Run.{pieces, run, scanned};
 
 /// The pieces of a text are the one list of what the rules name at the front of the rest, again and again.
 pub fn pieces_are_one()
@@ -17,7 +18,7 @@ pub fn pieces_are_one()
 
 /// What is kept of a web has no more tokens, and no more bytes, than the web has bytes and lines.
 pub fn store_is_bounded()
-    ensures { (lines : List PlacedLine) → IsBounded (scanned lines).store (web_size lines) }
+    ensures { (lines : List Line) → IsBounded (scanned lines).store (web_size lines) }
 {}
 
 /// Blanks between two pieces of C text outside directives change nothing: what is read after a text with one blank more is what
