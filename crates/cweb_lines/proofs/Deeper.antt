@@ -1,21 +1,15 @@
 -- What comes of lines that lie deeper, with other numbers of files.
-use Rattle.std.proofs.Common.{◌≡◌, ◌+◌, ◌<◌, ◌⊎◌, inl, inr, ℕ, zero, suc, Bool, true, false, List, [], ◌∷◌, ◌++◌, map, None, Some, Option, refl, sym, ◌∙◌, ap, append-nil, subst, arith, length}
+use Rattle.std.proofs.Common.{◌≡◌, ◌+◌, ◌<◌, ◌⊎◌, inl, inr, ℕ, Bool, true, false, List, [], ◌∷◌, ◌++◌, map, None, Some, Option, refl, ◌∙◌, ap, arith, length}
 use Rattle.std.proofs.lemmas.Bool.Decides.{nat_tests}
-use Rattle.std.specs.List.{AllByRecursion, list_any}
 use Rattle.std.specs.Prelude.{nat_lt}
-use Rattle.cweb_lines.specs.Lines.{SourceLine, TextLine, lines_in, numbered, text_lines, trimmed}
+use Rattle.cweb_lines.specs.Lines.{SourceLine, TextLine, numbered, trimmed}
 use Rattle.cweb_lines.specs.Include.{Found, World, found_at, include_name, is_include}
 use Rattle.cweb_lines.specs.Change.{at_place}
-use Rattle.cweb_lines.specs.Laws.{IncludedTextsMergeAsWebs, is_too_deep}
-use Rattle.cweb_lines.specs.Merge.{Event, Next, RawLine, State, Thing, at_raw, fault, given, included, obeyed, onto, opened, opening, passed, plain, raw, raws, run, seek, started, told, took}
-use Rattle.cweb_lines.specs.Seen.{fault_renumbered, line_renumbered, renumbered, seen}
-use Rattle.cweb_lines.specs.Told.{told_faults}
-use Rattle.cweb_lines.specs.Total.{halts, merge-run}
+use Rattle.cweb_lines.specs.Merge.{Event, Next, RawLine, State, Thing, at_raw, fault, given, included, obeyed, opened, opening, passed, plain, raw, raws, seek, told, took}
+use Rattle.cweb_lines.specs.Seen.{fault_renumbered, line_renumbered}
 use Rattle.cweb_lines.specs.declared.fault.SourceKind.TheVariants.{NoName, NotThere, TooDeep}
 use Rattle.cweb_lines.specs.declared.limits.TheConstants.{OPEN_FILES}
-use Rattle.cweb_lines.proofs.Alone.{IsNoSearch, Kind, becomes, faults, gives, onto_some, opens, raws_seek_not}
-use Rattle.cweb_lines.proofs.Merges.{state}
-use Rattle.cweb_lines.proofs.Seens.{fault_first, line_first, name_first, or-false}
+use Rattle.cweb_lines.proofs.Alone.{Kind, becomes, faults, gives, opens}
 
 -- so much deeper, and with files numbered from this number on
 module _ (world : World) (by first : ℕ) where

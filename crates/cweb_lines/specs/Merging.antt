@@ -1,5 +1,5 @@
 -- What a merger has still to give, and what a call gives of it.
-use Rattle.std.specs.Prelude.{◌≡◌, ◌<◌, ◌≤◌, ◌⊎◌, ◌+◌, ◌*◌, ◌-◌, ℕ, length, List, [], ◌∷◌, ◌++◌, Option}
+use Rattle.std.specs.Prelude.{◌≡◌, ◌<◌, ◌≤◌, ◌+◌, ◌*◌, ◌-◌, ℕ, length, List, [], ◌∷◌, ◌++◌, Option}
 use Rattle.cweb_lines.specs.Change.{Entry}
 use Rattle.cweb_lines.specs.Lines.{Line, SourceLine, IsOneLine}
 use Rattle.cweb_lines.specs.Merge.{State, Event, took, Thing}

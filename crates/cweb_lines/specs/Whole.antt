@@ -1,5 +1,5 @@
 -- What callers see of a merger.
-use Rattle.std.specs.Prelude.{◌≡◌, ◌≤◌, ◌<◌, ◌+◌, ℕ, List, [], ◌∷◌, length, Option, None, Some}
+use Rattle.std.specs.Prelude.{◌≡◌, ◌≤◌, ◌<◌, ◌+◌, ℕ, List, [], ◌∷◌, length, Option, None, Some, Result, Ok, IfErr, OnOk, OnErr}
 use Rattle.cweb_files.specs.declared.device.Shelf.{Ghosts as Shelf}
 use Rattle.cweb_files.specs.declared.place.Place.{Place}
 use Rattle.cweb_lines.specs.Finding.{names_found, text_found}
@@ -7,7 +7,7 @@ use Rattle.cweb_lines.specs.Include.{World, Found}
 use Rattle.cweb_lines.specs.Lines.{Line, IsOneLine}
 use Rattle.cweb_lines.specs.Merge.{Event, started}
 use Rattle.cweb_lines.specs.Merging.{SoFar, Gives, NothingLeft, Stopped, TellsFront, told_by, coming}
-use Rattle.cweb_lines.specs.Texts.{StopsReading, files_named}
+use Rattle.cweb_lines.specs.Texts.{ReadBlames, StopsReading}
 use Rattle.cweb_lines.specs.Told.{given_lines}
 use Rattle.cweb_lines.specs.Total.{merge}
 use Rattle.cweb_lines.specs.declared.limits.TheConstants.{LINES, BYTES}
@@ -55,11 +55,17 @@ pub record Grows (old new : SoFar) : Type 0 where
   pub lines : new.count.lines ≤ LINES
   pub bytes : new.count.bytes ≤ BYTES
 
--- what a stop leaves: the merger keeps it, and the file that it names has been opened
-pub record KeepsStop (stop : Stop) (in_merger : Option Stop) (new : SoFar) : Type 0 where
-  pub reading : StopsReading stop
-  pub kept : in_merger ≡ Some stop
-  pub named : files_named stop ≤ length new.names
+-- in which state a call for the next line leaves the merger and the line
+pub record Leaves {S R : Type 0} (result : Result (Option Place) Stop) (bytes : List ℕ) (merger : Merger S R) : Type 0 where
+  pub running : OnOk result (stop_in merger ≡ None)
+  pub end : result ≡ Ok None → (bytes ≡ []) × HasEnded merger
+  pub kept : IfErr result (λ stop. stop_in merger ≡ Some stop)
+  pub empty : OnErr result (bytes ≡ [])
+
+-- one read failed where a stop tells of it, and else none did; no other stop comes than those of taking lines
+pub record BlamesReads (before now : ℕ) (result : Result (Option Place) Stop) : Type 0 where
+  pub failed : ReadBlames before now result
+  pub reading : IfErr result (λ stop. StopsReading stop)
 
 -- why no line came, and that what was told by then is a front of all that is to be told
 pub record StopsThere (stop : Stop) (old new : SoFar) (all : List Event) : Type 0 where

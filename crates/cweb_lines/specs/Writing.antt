@@ -1,5 +1,5 @@
 -- What merged lines look like in a sink.
-use Rattle.std.specs.Prelude.{◌≡◌, ◌<◌, ◌≤◌, ◌+◌, ◌⊎◌, ℕ, List, [], ◌∷◌, ◌++◌, length, Bool, IsTrue, Option, None, Some}
+use Rattle.std.specs.Prelude.{◌≡◌, ◌<◌, ◌≤◌, ◌+◌, ◌⊎◌, ℕ, List, [], ◌∷◌, ◌++◌, length, Option, None, Some}
 use Rattle.cweb_files.specs.declared.place.FileId.{FileId}
 use Rattle.cweb_lines.specs.Lines.{Line, SourceLine}
 use Rattle.cweb_lines.specs.Merge.{Event, took}
@@ -97,13 +97,14 @@ pub record Failed : Type 0 where
   pub out : ℕ
 
 -- what a stop leaves over all devices: the one that it tells of failed once more; the file that it names has been opened;
--- the merger keeps it, unless a write failed
-pub record Blames (stop : Stop) (old new : Failed) (in_merger : Option Stop) (files : ℕ) : Type 0 where
+-- the merger keeps it, unless a write failed; then it goes on, where lines are not gathered
+pub record Blames (room : ℕ) (stop : Stop) (old new : Failed) (in_merger : Option Stop) (files : ℕ) : Type 0 where
   pub kind : WritingStops stop
   pub shelf : new.shelf ≡ old.shelf + read_blame stop
   pub out : new.out ≡ old.out + write_blame stop
   pub named : files_named stop ≤ files
   pub kept : (stop ≡ WriteFault) ⊎ (in_merger ≡ Some stop)
+  pub goes_on : room ≡ 0 → stop ≡ WriteFault → in_merger ≡ None
 
 -- What was given out so far: lines that were written, and lines that are gathered in a piece.
 pub record Gathered (room : ℕ) (old new : SoFar) (all now : List Event) (Wrote : List ℕ → Type 0) (piece : List ℕ) : Type 0 where

@@ -5,7 +5,7 @@ ghost use Rattle.cweb_files.specs.Frames.{KeepsTexts};
 ghost use Rattle.cweb_lines.specs.Include.{web_at, change_at};
 ghost use Rattle.cweb_lines.specs.Names.{names_of};
 ghost use Rattle.cweb_lines.specs.Finding.{text_of_name, found_as, names_found, lines_found};
-ghost use Rattle.cweb_lines.specs.Texts.{ReadBlames, StartStops, lines_left, lines_at, number_of, line_number, files_up_to};
+ghost use Rattle.cweb_lines.specs.Texts.{StartStops, files_named, lines_left, lines_at, number_of, line_number, files_up_to};
 ghost use Rattle.cweb_lines.specs.Stages.{stage_for, begun_stage};
 ghost use Rattle.cweb_lines.specs.Lines.{lines_in};
 
@@ -48,8 +48,10 @@ fn open_web<R: Drop>(
 ) -> Result<OpenText<R>, Stop>
     requires { names_of names.old ≡ [] }
     ensures names { OnOk result (names_of names.new ≡ string_bytes opening.name ∷ []) }
-    ensures lines { IfOk result (λ text. (left : R → List ℕ) → lines_left left text ≡ lines_in 0 (left opening.reader)) }
-    ensures level { IfOk result (λ text. (text.file.0 ≡ 0) × (text.line ≡ 0) × (text.depth ≡ 1) × (text.may_match ≡ true)) }
+    ensures lines { IfOk result (λ text. (left : R → List ℕ) →
+        lines_left left text ≡ lines_in 0 (left opening.reader)) }
+    ensures level { IfOk result (λ text.
+        (text.file.0 ≡ 0) × (text.line ≡ 0) × (text.depth ≡ 1) × (text.may_match ≡ true)) }
     ensures memory { IfErr result (λ stop. stop ≡ Stop.Memory) }
 {
     let Opening { name, reader } = opening;
@@ -73,12 +75,15 @@ fn open_change<R: Drop>(
     change: Option<Opening<R>>,
 ) -> Result<Option<OpenText<R>>, Stop>
     requires { length (names_of names.old) ≡ 1 }
-    ensures names { OnOk result ((left : R → List ℕ) → names_of names.new ≡ names_of names.old ++ names_found (found_as left change)) }
-    ensures lines { IfOk result (λ text. (left : R → List ℕ) → lines_at left text ≡ lines_found (found_as left change)) }
+    ensures names { OnOk result ((left : R → List ℕ) →
+        names_of names.new ≡ names_of names.old ++ names_found (found_as left change)) }
+    ensures lines { IfOk result (λ text. (left : R → List ℕ) →
+        lines_at left text ≡ lines_found (found_as left change)) }
     ensures number { IfOk result (λ text. number_of line_number text ≡ 0) }
     ensures file { IfOk result (λ text. number_of files_up_to text ≤ length (names_of names.new)) }
     ensures few { length (names_of names.new) ≤ 2 }
-    ensures stage { IfOk result (λ text. (left : R → List ℕ) → stage_for text ≡ begun_stage (found_as left change)) }
+    ensures stage { IfOk result (λ text. (left : R → List ℕ) →
+        stage_for text ≡ begun_stage (found_as left change)) }
     ensures memory { IfErr result (λ stop. stop ≡ Stop.Memory) }
 {
     let Some(opening) = change else {
@@ -109,7 +114,7 @@ fn first_stage<R: Drop>(change: &Option<OpenText<R>>) -> Stage
 }
 
 impl<S: Shelf> Merger<S> {
-    ghost use Rattle.cweb_lines.specs.Whole.{to_come, so_far, stop_in, HasEnded, NextLine, GivesOut, Grows, KeepsStop, StopsThere, Begins, StopsAtStart};
+    ghost use Rattle.cweb_lines.specs.Whole.{to_come, so_far, stop_in, HasEnded, NextLine, GivesOut, Grows, Leaves, BlamesReads, StopsThere, Begins, StopsAtStart};
 
     /// Opens the web under its name, or under the second where the first isn't there, then the change file if one is
     /// named, and reads nothing. Included files are sought as they are named and then in the folder `inputs`.
@@ -124,9 +129,14 @@ impl<S: Shelf> Merger<S> {
         ensures keeps { KeepsTexts S.Shelf shelf.old shelf.new }
         ensures failed { S.failed shelf.new ≡ S.failed shelf.old }
         ensures running { IfOk result (λ merger. stop_in merger ≡ None) }
-        ensures begins { IsTrue (S.tells shelf.old) → IfOk result (λ merger. Begins (record { texts = S.texts shelf.old; inputs = option_copied inputs.entry })
-            (web_at (S.texts shelf.old) web.now (option_copied second.entry)) (change_at (S.texts shelf.old) (option_copied change.entry)) (so_far merger) (to_come S.Shelf shelf.new merger)) }
-        ensures stops { IsTrue (S.tells shelf.old) → IfErr result (λ stop. StopsAtStart stop (web_at (S.texts shelf.old) web.now (option_copied second.entry)) (change_at (S.texts shelf.old) (option_copied change.entry))) }
+        ensures begins { IsTrue (S.tells shelf.old) → IfOk result (λ merger. Begins
+            (record { texts = S.texts shelf.old; inputs = option_copied inputs.entry })
+            (web_at (S.texts shelf.old) web.now (option_copied second.entry))
+            (change_at (S.texts shelf.old) (option_copied change.entry))
+            (so_far merger) (to_come S.Shelf shelf.new merger)) }
+        ensures stops { IsTrue (S.tells shelf.old) → IfErr result (λ stop. StopsAtStart stop
+            (web_at (S.texts shelf.old) web.now (option_copied second.entry))
+            (change_at (S.texts shelf.old) (option_copied change.entry))) }
         ensures only { IfErr result (λ stop. StartStops stop) }
     {
         let inputs = owned(alloc, inputs)?;
@@ -167,21 +177,26 @@ impl<S: Shelf> Merger<S> {
         requires { S.failed shelf.old + 1 < 2 ^ 64 }
         ensures keeps { KeepsTexts S.Shelf shelf.old shelf.new }
         ensures grows { Grows (so_far self.old) (so_far self.new) }
+        ensures leaves { Leaves result line.new.items self.new }
 
         // the next line that is to come, or none
-        ensures next { IsTrue (S.tells shelf.old) → IfOk result (λ place. NextLine place line.new.items (so_far self.old) (so_far self.new)
+        ensures next { IsTrue (S.tells shelf.old) → IfOk result (λ place. NextLine place line.new.items
+            (so_far self.old) (so_far self.new)
             (to_come S.Shelf shelf.old self.old) (to_come S.Shelf shelf.new self.new)) }
-        ensures given { IfOk result (λ place. IfSome place (λ p. GivesOut p line.new.items (so_far self.old) (so_far self.new))) }
-        ensures end { result ≡ Ok None → (line.new.items ≡ []) × HasEnded self.new }
-        ensures ended { stop_in self.old ≡ None → HasEnded self.old → (result ≡ Ok None) × (self.new ≡ self.old) × (shelf.new ≡ shelf.old) }
-        ensures running { OnOk result (stop_in self.new ≡ None) }
+        ensures given { IfOk result (λ place. IfSome place (λ p. GivesOut p line.new.items
+            (so_far self.old) (so_far self.new))) }
+        ensures ended { stop_in self.old ≡ None → HasEnded self.old →
+            (result ≡ Ok None) × (self.new ≡ self.old) × (shelf.new ≡ shelf.old) }
 
         // why there is no answer
-        ensures blames { stop_in self.old ≡ None → ReadBlames (S.failed shelf.old) (S.failed shelf.new) result }
-        ensures kept { stop_in self.old ≡ None → IfErr result (λ stop. KeepsStop stop (stop_in self.new) (so_far self.new)) }
-        ensures stops { IsTrue (S.tells shelf.old) → stop_in self.old ≡ None → IfErr result (λ stop. StopsThere stop (so_far self.old) (so_far self.new) (to_come S.Shelf shelf.old self.old)) }
-        ensures again { IfSome (stop_in self.old) (λ stop. (result ≡ Err stop) × (self.new ≡ self.old) × (shelf.new ≡ shelf.old)) }
-        ensures empty { OnErr result (line.new.items ≡ []) }
+        ensures blames { stop_in self.old ≡ None →
+            BlamesReads (S.failed shelf.old) (S.failed shelf.new) result }
+        ensures stops { IsTrue (S.tells shelf.old) → stop_in self.old ≡ None →
+            IfErr result (λ stop. StopsThere stop (so_far self.old) (so_far self.new)
+            (to_come S.Shelf shelf.old self.old)) }
+        ensures again { IfSome (stop_in self.old) (λ stop.
+            (result ≡ Err stop) × (self.new ≡ self.old) × (shelf.new ≡ shelf.old)) }
+        ensures named { IfErr result (λ stop. files_named stop ≤ length (so_far self.new).names) }
     {
         if let Some(stop) = self.run.stopped {
             line.clear();
@@ -224,7 +239,8 @@ impl<S: Shelf> Merger<S> {
 
     /// The stop that each further call answers.
     pub fn stopped(&self) -> Option<Stop>
-        ensures { result ≡ stop_in self.now }
+        ensures stop { result ≡ stop_in self.now }
+        ensures named { IfSome result (λ stop. files_named stop ≤ length (so_far self.now).names) }
     {
         self.run.stopped
     }

@@ -1,4 +1,4 @@
-use Rattle.std.proofs.Common.{◌+◌, ap, Err, arith}
+use Rattle.std.proofs.Common.{◌+◌, ap, Err}
 use Rattle.cweb_lines.specs.Counts.{count_of}
 use Rattle.cweb_lines.specs.Source.{left_of}
 use Rattle.cweb_lines.proofs.Trims.{takes_first, line_stops, line_reads, line_names, first_passes}

@@ -1,4 +1,4 @@
-use Rattle.std.proofs.Common.{◌≡◌, ℕ, List, length, sym, ap, subst, rules, arith, Ok}
+use Rattle.std.proofs.Common.{ℕ, List, length, ap, subst, rules, arith, Ok}
 use Rattle.cweb_lines.specs.Source.{left_of, Takes}
 use Rattle.cweb_lines.proofs.Trims.{trimmed-line, trimmed-length, whole_line-one, whole_line-gains}
 use Rattle.cweb_lines.proofs.taking.take_trimmed.Goals as goal

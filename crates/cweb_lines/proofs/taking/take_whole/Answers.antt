@@ -1,4 +1,4 @@
-use Rattle.std.proofs.Common.{take, sym, ◌∙◌, arith}
+use Rattle.std.proofs.Common.{take, ◌∙◌, arith}
 use Rattle.std.proofs.lemmas.List.{length-take}
 use Rattle.std.specs.Prelude.{slice_range}
 use Rattle.cweb_lines.proofs.Newlines.{behind}

@@ -1,9 +1,9 @@
-use Rattle.std.proofs.Common.{rules, ◌+◌, ◌∷◌, [], refl, ap, sym, ◌∙◌, arith}
+use Rattle.std.proofs.Common.{rules, ◌+◌, [], refl, ap, sym, ◌∙◌, arith}
 use Rattle.cweb_files.specs.Frames.{Writes}
 use Rattle.cweb_lines.specs.Texts.{read_blame}
 use Rattle.cweb_lines.specs.Writing.{write_blame}
 use Rattle.cweb_lines.proofs.Keeps.{keeps_same, keeps_told, keeps_then, place_same, place_then}
-use Rattle.cweb_lines.proofs.Writes.{nothing_yet, emptied, ends_front, ends_whole, ended_early, halted, fails_last, passed_on, fails_front, fails_among, write_failed, blamed, tells_some, tells_more, tells_same}
+use Rattle.cweb_lines.proofs.Writes.{nothing_yet, emptied, names_rest, ends_front, ends_whole, ended_early, halted, fails_last, passed_on, fails_front, fails_among, write_failed, blamed, tells_some, tells_more, tells_same}
 use Rattle.cweb_lines.proofs.writing.write_merged_in_pieces.Goals as goal
 
 pub lines-init : goal.lines-init
@@ -12,8 +12,8 @@ lines-init g c = record {
   place = place_same g.W.Sink _;
   failed = refl;
   out_failed = refl;
-  running = sym c.stopped.ensures ∙ c.in_default.is;
-  before = sym c.stopped.ensures ∙ c.in_default.is;
+  running = sym c.stopped.ensures.stop ∙ c.in_default.is;
+  before = sym c.stopped.ensures.stop ∙ c.in_default.is;
   names = omega arith;
   empty = λ none. c.new-piece.ensures.items;
   gathered = λ tells. rw c.new-piece.ensures.items (nothing_yet g.W.Sink _ _ _ _);
@@ -41,9 +41,14 @@ returns-in-Err-clause-stops g c = λ tells before.
 
 pub returns-in-Err-clause-blames : goal.returns-in-Err-clause-blames
 returns-in-Err-clause-blames g c = λ before.
-    blamed c.in-Err.stop c.write_rest.result _ _ _ _ _ _ c.write_rest.ensures.rest (c.in-Err.ensures.kept c.lines.invariant.running)
-    (c.in-Err.ensures.blames c.lines.invariant.running ∙ ap (λ n. n + read_blame c.in-Err.stop) c.lines.invariant.failed)
+    let blames = c.in-Err.ensures.blames c.lines.invariant.running in
+    blamed c.args.room c.in-Err.stop c.write_rest.result _ _ _ _ _ _ c.write_rest.ensures.rest blames.reading c.in-Err.ensures.leaves.kept c.in-Err.ensures.named
+    (λ none. rw c.deref.ensures.value (c.lines.invariant.empty none))
+    (blames.failed ∙ ap (λ n. n + read_blame c.in-Err.stop) c.lines.invariant.failed)
     (c.write_rest.ensures.failed ∙ ap (λ n. n + write_blame c.write_rest.result) c.lines.invariant.out_failed)
+
+pub returns-in-Err-clause-named : goal.returns-in-Err-clause-named
+returns-in-Err-clause-named g c = names_rest c.in-Err.stop c.write_rest.result _ _ _ c.write_rest.ensures.rest c.in-Err.ensures.named
 
 -- no line was left
 pub returns-in-Err-write_piece-clause-front : goal.returns-in-Err-write_piece-clause-front
@@ -113,7 +118,7 @@ lines-preserved g c = record {
   place = place_then g.W.Sink _ _ _ c.lines.invariant.place c.in_default-pass_on.ensures.keeps;
   failed = search rules;
   out_failed = search rules;
-  running = c.in-Ok.ensures.running;
+  running = c.in-Ok.ensures.leaves.running;
   before = c.lines.invariant.before;
   names = omega (arith, c.in-Ok.ensures.grows.names, c.lines.invariant.names);
   empty = λ none. emptied c.args.room c.gather.new.piece.items c.pass_on.new.piece.items (Writes g.W.Sink c.lines.out c.pass_on.new.out) c.in_default-pass_on.ensures.ok none;

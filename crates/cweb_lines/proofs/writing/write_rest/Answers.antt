@@ -1,8 +1,8 @@
 use Rattle.std.proofs.Common.{[], refl, sym, arith}
 use Rattle.std.proofs.lemmas.List.{append-nil}
-use Rattle.cweb_lines.specs.Writing.{leaves, writes, fails}
+use Rattle.cweb_lines.specs.Writing.{leaves, writes}
 use Rattle.cweb_lines.proofs.Keeps.{writes_none}
-use Rattle.cweb_lines.proofs.Writes.{no_read_blame, no_write_blame}
+use Rattle.cweb_lines.proofs.Writes.{no_write_blame}
 use Rattle.cweb_lines.proofs.writing.write_rest.Goals as goal
 
 pub returns-in-ReadFault-clause-rest : goal.returns-in-ReadFault-clause-rest
