@@ -1,0 +1,134 @@
+// What a store answers, told piece by piece.
+
+ghost use Rattle.std.specs.Prelude.{◌<◌, ◌≤◌, length, All};
+ghost use Rattle.cweb_store.specs.Parts.{all_tokens};
+
+use super::*;
+
+/// What is still expected of a text that is told in pieces. To tell it takes no memory.
+#[derive(Drop)]
+pub struct Expected<'a> {
+    rest: &'a [u8],
+    is_met: bool,
+}
+
+impl<'a> Expected<'a> {
+    pub fn new(text: &'a str) -> Expected<'a> {
+        Expected {
+            rest: text.as_bytes(),
+            is_met: true,
+        }
+    }
+
+    pub fn is_met(&self) -> bool {
+        self.is_met && self.rest.is_empty()
+    }
+
+    fn tell(&mut self, piece: &[u8]) {
+        match self.rest.strip_prefix(piece) {
+            Some(rest) => self.rest = rest,
+            None => self.is_met = false,
+        }
+    }
+
+    // Numbers of tests have one digit.
+    fn tell_number(&mut self, number: u32) {
+        let digit = [b'0' + (number % 10) as u8];
+        self.tell(digit.as_slice());
+    }
+
+    /// Names with their parts, the program, macros, files, faults and replacements.
+    pub fn tell_store(&mut self, store: &Store) {
+        self.tell_names(store);
+        self.tell(b"program");
+        self.tell_parts(store, store.unnamed());
+        self.tell(b"; macros");
+        self.tell_parts(store, store.macros());
+        self.tell(b"; files");
+        for id in store.files() {
+            self.tell(b" ");
+            self.tell_number(id.0);
+        }
+        self.tell(b"; faults");
+        for fault in store.name_faults() {
+            self.tell(kind_name(fault.kind));
+            self.tell_number(fault.occurrence.0);
+        }
+    }
+
+    fn tell_names(&mut self, store: &Store) {
+        for number in 0..store.names() {
+            self.tell(store.name_text(NameId(number)));
+            self.tell_parts(store, store.parts(NameId(number)));
+            self.tell(b"; ");
+        }
+    }
+
+    // The parts of an iterator, each behind a sign of its own.
+    fn tell_parts<'b>(&mut self, store: &'b Store, parts: Parts<'b>)
+        requires { All (λ p. p.after ≤ length (all_tokens store.now.parts)) parts }
+    {
+        for part in parts {
+            self.tell(b":");
+            for number in part.first..part.after {
+                self.tell_token(store.token(number));
+            }
+        }
+    }
+
+    fn tell_token(&mut self, token: Token<'_>) {
+        self.tell(token_name(token));
+        self.tell(token_text(token));
+        if let Some(number) = token_number(token) {
+            self.tell_number(number);
+        }
+    }
+}
+
+fn kind_name(kind: NameKind) -> &'static [u8] {
+    match kind {
+        NameKind::Ambiguous => b" ambiguous ",
+        NameKind::NeverFull => b" never given ",
+        NameKind::PrefixOfAnother => b" prefix ",
+        NameKind::NotPresent => b" missing ",
+    }
+}
+
+fn token_name(token: Token<'_>) -> &'static [u8] {
+    match token {
+        Token::Word(_) => b" ",
+        Token::Number(_) => b" number ",
+        Token::Literal(_) => b" literal ",
+        Token::Verbatim(_) => b" verbatim ",
+        Token::Punct(_) => b" sign ",
+        Token::Blank => b" blank",
+        Token::Newline => b" newline",
+        Token::Join => b" join",
+        Token::Defs => b" defs",
+        Token::Name(_) => b" name ",
+        Token::Head(_) => b" head ",
+        Token::Tail(_) => b" tail ",
+        Token::Mark(_) => b" mark ",
+    }
+}
+
+fn token_text(token: Token<'_>) -> &[u8] {
+    match token {
+        Token::Word(text) => text,
+        Token::Number(text) => text,
+        Token::Literal(text) => text,
+        Token::Verbatim(text) => text,
+        Token::Punct(text) => text,
+        _ => b"",
+    }
+}
+
+fn token_number(token: Token<'_>) -> Option<u32> {
+    match token {
+        Token::Name(name) => Some(name.0),
+        Token::Head(section) => Some(section),
+        Token::Tail(section) => Some(section),
+        Token::Mark(place) => Some(place.line),
+        _ => None,
+    }
+}
