@@ -59,7 +59,7 @@ open-list : (f : Token → ℕ) (o : Option Part) → total (part_size f) (optio
 open-list f None = refl
 open-list f (Some p) = omega arith
 
-all-size : (f : Token → ℕ) (v : PartsSoFar) → total f (all_tokens (all_parts v)) ≡ parts_size f v
+pub all-size : (f : Token → ℕ) (v : PartsSoFar) → total f (all_tokens (all_parts v)) ≡ parts_size f v
 all-size f v = omega (arith, total-tokens f (all_parts v), total-append (part_size f) v.closed (option_to_list v.current), open-list f v.current)
 
 length-total : (ts : List Token) → length ts ≡ total one ts

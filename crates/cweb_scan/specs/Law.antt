@@ -1,12 +1,13 @@
 -- What holds of the pieces of each text, and of what is kept of each web.
-use Rattle.std.specs.Prelude.{◌≡◌, ◌<◌, ◌≤◌, ℕ, ◌+◌, List, [], ◌∷◌, ◌++◌, length}
+use Rattle.std.specs.Prelude.{◌≡◌, ◌<◌, ◌≤◌, ℕ, ◌+◌, Bool, true, List, [], ◌∷◌, ◌++◌, length, All}
+use Rattle.cweb_files.specs.declared.place.Place.{Place}
 use Rattle.cweb_lines.specs.Lines.{Line}
-use Rattle.cweb_store.specs.Parts.{all_tokens}
+use Rattle.cweb_store.specs.Parts.{Token, Mark, all_tokens}
 use Rattle.cweb_store.specs.Calls.{Stored}
 use Rattle.cweb_scan.specs.Bound.{total, text_size, occurrence_size, replacement_size}
 use Rattle.cweb_rules.specs.Kinds.{Piece}
 use Rattle.cweb_scan.specs.After.{Reading, after}
-use Rattle.cweb_scan.specs.Run.{front_of}
+use Rattle.cweb_scan.specs.Run.{front_of, Scanned}
 
 -- the piece stands at the front of a text, and is what the rules name there
 pub record Fits (r : Reading) (t : List ℕ) (p : Piece) : Type 0 where
@@ -27,3 +28,12 @@ web_size (line ∷ lines) = length line.bytes + 1 + web_size lines
 pub record IsBounded (store : Stored) (n : ℕ) : Type 0 where
   pub tokens : length (all_tokens store.parts) ≤ n
   pub bytes : total text_size (all_tokens store.parts) + (total occurrence_size store.occurrences + total replacement_size store.replacements) ≤ n
+
+abbrev pub MarkPasses : (Place → Bool) → Token → Type 0
+MarkPasses test (Mark place) = test place ≡ true
+MarkPasses test t = Unit {0}
+
+-- the places of all Marks and of all faults pass a test
+pub record PlacesPass (test : Place → Bool) (s : Scanned) : Type 0 where
+  pub marks : All (MarkPasses test) (all_tokens s.store.parts)
+  pub faults : All (λ f. test f.place ≡ true) s.faults
