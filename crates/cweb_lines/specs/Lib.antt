@@ -13,6 +13,7 @@ pub mod Seeking
 pub mod Seen
 pub mod Source
 pub mod Stages
+pub mod Steps
 pub mod Taking
 pub mod Texts
 pub mod Told

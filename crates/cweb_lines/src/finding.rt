@@ -1,6 +1,7 @@
 // The texts that a web and its include lines name.
 ghost use Rattle.std.specs.Prelude.{◌≡◌, ◌∷◌, ◌++◌, ℕ, List, IsTrue, IfOk, string_bytes};
 ghost use Rattle.std.specs.Option.{option_copied};
+ghost use Rattle.cweb_files.specs.Frames.{KeepsTexts};
 ghost use Rattle.cweb_lines.specs.Include.{found_at, under, web_at, change_at};
 ghost use Rattle.cweb_lines.specs.Finding.{found_as, changes_found, world_in};
 
@@ -15,11 +16,10 @@ pub struct Opening<R: Drop> {
 }
 
 fn fetch_named<S: Shelf>(shelf: &mut S, name: String) -> Result<Option<Opening<S::R>>, AllocError>
-    ensures tells { S.tells shelf.new ≡ S.tells shelf.old }
+    ensures keeps { KeepsTexts S.Shelf shelf.old shelf.new }
     ensures failed { S.failed shelf.new ≡ S.failed shelf.old }
-    ensures texts { IsTrue (S.tells shelf.old) → S.texts shelf.new ≡ S.texts shelf.old }
-    ensures others { IsTrue (S.tells shelf.old) → S.left shelf.new ≡ S.left shelf.old }
-    ensures found { IsTrue (S.tells shelf.old) → IfOk result (λ opening. found_as (S.left shelf.new) opening ≡ under (string_bytes name) (S.texts shelf.old (string_bytes name))) }
+    ensures found { IsTrue (S.tells shelf.old) → IfOk result (λ opening.
+        found_as (S.left shelf.new) opening ≡ under (string_bytes name) (S.texts shelf.old (string_bytes name))) }
 {
     match shelf.fetch(name.as_str())? {
         Some(reader) => Ok(Some(Opening { name, reader })),
@@ -43,11 +43,10 @@ pub fn find<S: Shelf>(
     inputs: &Option<String>,
     name: &[u8],
 ) -> Result<Option<Opening<S::R>>, AllocError>
-    ensures tells { S.tells shelf.new ≡ S.tells shelf.old }
+    ensures keeps { KeepsTexts S.Shelf shelf.old shelf.new }
     ensures failed { S.failed shelf.new ≡ S.failed shelf.old }
-    ensures texts { IsTrue (S.tells shelf.old) → S.texts shelf.new ≡ S.texts shelf.old }
-    ensures others { IsTrue (S.tells shelf.old) → S.left shelf.new ≡ S.left shelf.old }
-    ensures found { IsTrue (S.tells shelf.old) → IfOk result (λ opening. found_as (S.left shelf.new) opening ≡ found_at (world_in (S.texts shelf.old) inputs.now) name.now) }
+    ensures found { IsTrue (S.tells shelf.old) → IfOk result (λ opening.
+        found_as (S.left shelf.new) opening ≡ found_at (world_in (S.texts shelf.old) inputs.now) name.now) }
 {
     let Ok(name) = str::from_utf8(name) else {
         return Ok(None);
@@ -68,11 +67,10 @@ pub fn find_web<S: Shelf>(
     web: &str,
     second: Option<&str>,
 ) -> Result<Option<Opening<S::R>>, AllocError>
-    ensures tells { S.tells shelf.new ≡ S.tells shelf.old }
+    ensures keeps { KeepsTexts S.Shelf shelf.old shelf.new }
     ensures failed { S.failed shelf.new ≡ S.failed shelf.old }
-    ensures texts { IsTrue (S.tells shelf.old) → S.texts shelf.new ≡ S.texts shelf.old }
-    ensures others { IsTrue (S.tells shelf.old) → S.left shelf.new ≡ S.left shelf.old }
-    ensures found { IsTrue (S.tells shelf.old) → IfOk result (λ opening. found_as (S.left shelf.new) opening ≡ web_at (S.texts shelf.old) web.now (option_copied second.entry)) }
+    ensures found { IsTrue (S.tells shelf.old) → IfOk result (λ opening.
+        found_as (S.left shelf.new) opening ≡ web_at (S.texts shelf.old) web.now (option_copied second.entry)) }
 {
     let Some(opening) = fetch_named(shelf, String::from_str(alloc, web)?)? else {
         let Some(second) = second else {
@@ -89,11 +87,10 @@ pub fn find_change<S: Shelf>(
     shelf: &mut S,
     change: Option<&str>,
 ) -> Result<Option<Option<Opening<S::R>>>, AllocError>
-    ensures tells { S.tells shelf.new ≡ S.tells shelf.old }
+    ensures keeps { KeepsTexts S.Shelf shelf.old shelf.new }
     ensures failed { S.failed shelf.new ≡ S.failed shelf.old }
-    ensures texts { IsTrue (S.tells shelf.old) → S.texts shelf.new ≡ S.texts shelf.old }
-    ensures others { IsTrue (S.tells shelf.old) → S.left shelf.new ≡ S.left shelf.old }
-    ensures found { IsTrue (S.tells shelf.old) → IfOk result (λ opened. changes_found (S.left shelf.new) opened ≡ change_at (S.texts shelf.old) (option_copied change.entry)) }
+    ensures found { IsTrue (S.tells shelf.old) → IfOk result (λ opened.
+        changes_found (S.left shelf.new) opened ≡ change_at (S.texts shelf.old) (option_copied change.entry)) }
 {
     let Some(name) = change else {
         return Ok(Some(None));

@@ -6,6 +6,7 @@ ghost use Rattle.cweb_lines.specs.Merging.{NothingLeft, change_lines};
 ghost use Rattle.cweb_lines.specs.Names.{names_of};
 ghost use Rattle.cweb_lines.specs.Stages.{floor_of};
 ghost use Rattle.cweb_lines.specs.Texts.{ReadBlames, Counted, NamesFiles, TakesLine, TakesAbove, StopsFor, StopsReading, FirstStops, StopsAbove, StaysBelow};
+ghost use Rattle.cweb_lines.specs.Steps.{OnlyTakes, OnlyTells};
 
 use crate::fault::{SourceFault, SourceKind};
 use crate::run::Run;
@@ -62,14 +63,7 @@ impl<R: Drop> Run<R> {
         ensures told { OnOk result (self.new.faults.items ≡ self.old.faults.items ++ record { kind = kind; place = place; count = count } ∷ []) }
         ensures err { OnErr result (self.new.faults.items ≡ self.old.faults.items) }
         ensures memory { IfErr result (λ stop. stop ≡ Stop.Memory) }
-        ensures inputs { self.new.inputs ≡ self.old.inputs }
-        ensures stack { self.new.stack ≡ self.old.stack }
-        ensures change { self.new.change ≡ self.old.change }
-        ensures stage { self.new.stage ≡ self.old.stage }
-        ensures first { self.new.first ≡ self.old.first }
-        ensures limits { self.new.limits ≡ self.old.limits }
-        ensures names { self.new.names ≡ self.old.names }
-        ensures stopped { self.new.stopped ≡ self.old.stopped }
+        ensures only { OnlyTells self.old self.new }
     {
         let fault = SourceFault { kind, place, count };
         match self.faults.push(fault) {
@@ -98,13 +92,8 @@ pub fn take_change<S: Shelf>(
     ensures gains { IfOk result (λ at. OnSome at (run.old.limits.bytes + length line.new.items ≤ run.new.limits.bytes)) }
     ensures known { NamesFiles (length (names_of run.old.names)) result }
     ensures reading { IfErr result (λ stop. StopsReading stop) }
-    ensures inputs { run.new.inputs ≡ run.old.inputs }
+    ensures only { OnlyTakes run.old run.new }
     ensures stack { run.new.stack ≡ run.old.stack }
-    ensures stage { run.new.stage ≡ run.old.stage }
-    ensures first { run.new.first ≡ run.old.first }
-    ensures faults { run.new.faults ≡ run.old.faults }
-    ensures names { run.new.names ≡ run.old.names }
-    ensures stopped { run.new.stopped ≡ run.old.stopped }
 {
     take_from(shelf, &mut run.change, &mut run.limits, line)
 }
@@ -133,13 +122,8 @@ pub fn take_raw<S: Shelf>(
     ensures known { NamesFiles (length (names_of run.old.names)) result }
     ensures reading { IfErr result (λ stop. StopsReading stop) }
     ensures shallow { run.new.stack.depth ≤ run.old.stack.depth }
-    ensures inputs { run.new.inputs ≡ run.old.inputs }
+    ensures only { OnlyTakes run.old run.new }
     ensures change { run.new.change ≡ run.old.change }
-    ensures stage { run.new.stage ≡ run.old.stage }
-    ensures first { run.new.first ≡ run.old.first }
-    ensures faults { run.new.faults ≡ run.old.faults }
-    ensures names { run.new.names ≡ run.old.names }
-    ensures stopped { run.new.stopped ≡ run.old.stopped }
 {
     let low = run.floor();
     take_above(shelf, &mut run.stack, low, &mut run.limits, line)

@@ -25,9 +25,9 @@ returns-in_default-clause-gives g c = λ tells.
     let counted = rw c.in_default.is at c.in-Ok.ensures.counted in
     new_ended _ _ _ _ c.args.run.now c.args.change c.requires.changing c.requires.below (c.in-Ok.ensures.texts tells) (c.in-Ok.ensures.others tells)
     (text_of_name c.tell.new.self.inputs) c.tell.new.self.stack (length (names_of c.tell.new.self.names)) (told_by c.tell.new.self)
-    (ap (λ i. text_of_name i) (c.in_default-tell.ensures.inputs ∙ c.in-Ok.ensures.inputs)) (c.in_default-tell.ensures.stack ∙ c.in-Ok.ensures.stack) (ap (λ n. length (names_of n)) (c.in_default-tell.ensures.names ∙ c.in-Ok.ensures.names))
-    taken.0 (ap count_of c.in_default-tell.ensures.limits ∙ (λ i. record { lines = counted.0 i; bytes = counted.1 i }))
-    (c.in_default-tell.ensures.told ∙ ap (λ (v : Vec SourceFault Global). v.items ++ at_place EndedBeforeZ c.args.change.begin ∷ []) c.in-Ok.ensures.faults) (ap names_of (c.in_default-tell.ensures.names ∙ c.in-Ok.ensures.names))
+    (ap (λ i. text_of_name i) (c.in_default-tell.ensures.only.inputs ∙ c.in-Ok.ensures.only.inputs)) (c.in_default-tell.ensures.only.stack ∙ c.in-Ok.ensures.stack) (ap (λ n. length (names_of n)) (c.in_default-tell.ensures.only.names ∙ c.in-Ok.ensures.only.names))
+    taken.0 (ap count_of c.in_default-tell.ensures.only.limits ∙ (λ i. record { lines = counted.0 i; bytes = counted.1 i }))
+    (c.in_default-tell.ensures.told ∙ ap (λ (v : Vec SourceFault Global). v.items ++ at_place EndedBeforeZ c.args.change.begin ∷ []) c.in-Ok.ensures.only.faults) (ap names_of (c.in_default-tell.ensures.only.names ∙ c.in-Ok.ensures.only.names))
 
 pub returns-then-eq-clause-gives : goal.returns-then-eq-clause-gives
 returns-then-eq-clause-gives g c = λ tells.
@@ -35,17 +35,17 @@ returns-then-eq-clause-gives g c = λ tells.
     let test = ap code_of (sym c.deref.ensures.value) ∙ sym c.code_of.ensures ∙ c.in-Some-code_of.is ∙ ap Some (is_end c.in-Some-code_of.code (sym c.eq.ensures ∙ c.if-eq.true)) in
     new_side_ended _ _ _ _ c.args.run.now c.args.change c.requires.changing c.requires.below (c.in-Ok.ensures.texts tells) (c.in-Ok.ensures.others tells)
     (text_of_name c.take_change.new.run.inputs) c.take_change.new.run.stack (length (names_of c.take_change.new.run.names)) (told_by c.take_change.new.run)
-    (ap (λ i. text_of_name i) c.in-Ok.ensures.inputs) c.in-Ok.ensures.stack (ap (λ n. length (names_of n)) c.in-Ok.ensures.names)
-    c.take_change.new.line.items c.in-Some.at.place taken.0 _ taken.1 (ap (λ (v : Vec SourceFault Global). v.items) c.in-Ok.ensures.faults) (ap names_of c.in-Ok.ensures.names) test
+    (ap (λ i. text_of_name i) c.in-Ok.ensures.only.inputs) c.in-Ok.ensures.stack (ap (λ n. length (names_of n)) c.in-Ok.ensures.only.names)
+    c.take_change.new.line.items c.in-Some.at.place taken.0 _ taken.1 (ap (λ (v : Vec SourceFault Global). v.items) c.in-Ok.ensures.only.faults) (ap names_of c.in-Ok.ensures.only.names) test
 
 pub returns-in-None-clause-gives : goal.returns-in-None-clause-gives
 returns-in-None-clause-gives g c = λ tells.
     let taken = rw c.in-Some.is at (c.in-Ok.ensures.taken tells) in
     let test = ap code_of (sym c.deref.ensures.value) ∙ sym c.code_of.ensures ∙ c.in-None.is in
     IfOk-map c.give.result
-    (λ turn gives. gives_took _ (told_by c.args.run.now) _ _ c.take_change.new.line.items c.in-Some.at.place taken.0 _ _ _ (ap (λ (v : Vec SourceFault Global). v.items) c.in-Ok.ensures.faults) (ap names_of c.in-Ok.ensures.names)
-    (new_first _ _ _ _ c.args.run.now c.args.change c.requires.changing c.requires.below (c.in-Ok.ensures.texts tells) (c.in-Ok.ensures.others tells) c.take_change.new.run c.in-Ok.ensures.inputs c.in-Ok.ensures.stack (ap names_of c.in-Ok.ensures.names) c.in-Ok.ensures.stage
-    (told_by c.take_change.new.run) c.take_change.new.line.items c.in-Some.at.place taken.0 taken.1 (ap (λ (v : Vec SourceFault Global). v.items) c.in-Ok.ensures.faults) (ap names_of c.in-Ok.ensures.names) test)
+    (λ turn gives. gives_took _ (told_by c.args.run.now) _ _ c.take_change.new.line.items c.in-Some.at.place taken.0 _ _ _ (ap (λ (v : Vec SourceFault Global). v.items) c.in-Ok.ensures.only.faults) (ap names_of c.in-Ok.ensures.only.names)
+    (new_first _ _ _ _ c.args.run.now c.args.change c.requires.changing c.requires.below (c.in-Ok.ensures.texts tells) (c.in-Ok.ensures.others tells) c.take_change.new.run c.in-Ok.ensures.only.inputs c.in-Ok.ensures.stack (ap names_of c.in-Ok.ensures.only.names) c.in-Ok.ensures.only.stage
+    (told_by c.take_change.new.run) c.take_change.new.line.items c.in-Some.at.place taken.0 taken.1 (ap (λ (v : Vec SourceFault Global). v.items) c.in-Ok.ensures.only.faults) (ap names_of c.in-Ok.ensures.only.names) test)
     (gives taken.0.line taken.0.is))
     (rw c.deref-in-None.ensures.value at (c.give.ensures.gives (subst IsTrue (sym c.in-Ok.ensures.tells) tells)))
 
@@ -53,8 +53,8 @@ pub returns-in_default-tell-2-clause-gives : goal.returns-in_default-tell-2-clau
 returns-in_default-tell-2-clause-gives g c = λ tells.
     let taken = rw c.in-Some.is at (c.in-Ok.ensures.taken tells) in
     let test = ap code_of (sym c.deref.ensures.value) ∙ sym c.code_of.ensures ∙ c.in-Some-code_of.is in
-    new_faulty _ _ _ _ c.args.run.now c.args.change c.requires.changing c.requires.below (c.in-Ok.ensures.texts tells) (c.in-Ok.ensures.others tells) c.tell-in-Some-code_of.new.self (c.in_default-tell-2.ensures.inputs ∙ c.in-Ok.ensures.inputs)
-    (c.in_default-tell-2.ensures.stack ∙ c.in-Ok.ensures.stack) (ap names_of (c.in_default-tell-2.ensures.names ∙ c.in-Ok.ensures.names)) (c.in_default-tell-2.ensures.stage ∙ c.in-Ok.ensures.stage)
+    new_faulty _ _ _ _ c.args.run.now c.args.change c.requires.changing c.requires.below (c.in-Ok.ensures.texts tells) (c.in-Ok.ensures.others tells) c.tell-in-Some-code_of.new.self (c.in_default-tell-2.ensures.only.inputs ∙ c.in-Ok.ensures.only.inputs)
+    (c.in_default-tell-2.ensures.only.stack ∙ c.in-Ok.ensures.stack) (ap names_of (c.in_default-tell-2.ensures.only.names ∙ c.in-Ok.ensures.only.names)) (c.in_default-tell-2.ensures.only.stage ∙ c.in-Ok.ensures.only.stage)
     (told_by c.take_change.new.run) c.take_change.new.line.items c.in-Some.at.place taken.0
-    (taken.1 ∙ ap (λ ch. taken.0.line ∷ lines_at (g.S.Shelf.left c.take_change.new.shelf) ch) (sym c.in_default-tell-2.ensures.change)) (ap (λ (v : Vec SourceFault Global). v.items) c.in-Ok.ensures.faults) (ap names_of c.in-Ok.ensures.names)
-    c.in-Some-code_of.code test (sym c.eq.ensures ∙ c.if-eq.false) c.in_default-tell-2.ensures.told (ap names_of c.in_default-tell-2.ensures.names) (ap count_of c.in_default-tell-2.ensures.limits)
+    (taken.1 ∙ ap (λ ch. taken.0.line ∷ lines_at (g.S.Shelf.left c.take_change.new.shelf) ch) (sym c.in_default-tell-2.ensures.only.change)) (ap (λ (v : Vec SourceFault Global). v.items) c.in-Ok.ensures.only.faults) (ap names_of c.in-Ok.ensures.only.names)
+    c.in-Some-code_of.code test (sym c.eq.ensures ∙ c.if-eq.false) c.in_default-tell-2.ensures.told (ap names_of c.in_default-tell-2.ensures.only.names) (ap count_of c.in_default-tell-2.ensures.only.limits)

@@ -48,9 +48,9 @@ returns-in_default-begun_at-clause-gives g c = λ tells.
     let taken = takes_in (g.S.Shelf.left c.args.shelf.now) (g.S.Shelf.left c.take_raw.new.shelf) (c.in-Ok.ensures.others tells) c.args.run.now.stage (change_lines (g.S.Shelf.left c.args.shelf.now) c.args.run.now) c.args.run.now.stack c.take_raw.new.run.stack
     (Some c.in-Some.at) c.take_raw.new.line.items _ _ c.in_default.not-Seeking (rw c.in-Some.is at (c.in-Ok.ensures.taken tells)) c.in-Ok.ensures.below in
     IfOk-map c.give.result
-    (λ turn gives. gives_took _ (told_by c.args.run.now) (told_by c.take_raw.new.run) _ c.take_raw.new.line.items c.in-Some.at.place taken.0 _ _ _ (ap (λ (v : Vec SourceFault Global). v.items) c.in-Ok.ensures.faults) (ap names_of c.in-Ok.ensures.names)
+    (λ turn gives. gives_took _ (told_by c.args.run.now) (told_by c.take_raw.new.run) _ c.take_raw.new.line.items c.in-Some.at.place taken.0 _ _ _ (ap (λ (v : Vec SourceFault Global). v.items) c.in-Ok.ensures.only.faults) (ap names_of c.in-Ok.ensures.only.names)
     (taken_first (g.S.Shelf.texts c.args.shelf.now) (g.S.Shelf.texts c.take_raw.new.shelf) (g.S.Shelf.left c.args.shelf.now) (g.S.Shelf.left c.take_raw.new.shelf) c.args.run.now c.take_raw.new.run c.in-Some.at taken.0.line
-    (c.in-Ok.ensures.texts tells) (c.in-Ok.ensures.others tells) c.in-Ok.ensures.inputs c.in-Ok.ensures.change c.in-Ok.ensures.stage c.in-Ok.ensures.first c.in-Ok.ensures.names taken.1)
+    (c.in-Ok.ensures.texts tells) (c.in-Ok.ensures.others tells) c.in-Ok.ensures.only.inputs c.in-Ok.ensures.change c.in-Ok.ensures.only.stage c.in-Ok.ensures.only.first c.in-Ok.ensures.only.names taken.1)
     (gives taken.0.line taken.0.is))
     (rw c.deref-in_default-begun_at.ensures.value at (c.give.ensures.gives (subst IsTrue (sym c.in-Ok.ensures.tells) tells)))
 
@@ -59,10 +59,10 @@ returns-in-Err-begin_change-clause-told g c = λ tells.
     let taken = takes_in (g.S.Shelf.left c.args.shelf.now) (g.S.Shelf.left c.take_raw.new.shelf) (c.in-Ok.ensures.others tells) c.args.run.now.stage (change_lines (g.S.Shelf.left c.args.shelf.now) c.args.run.now) c.args.run.now.stack c.take_raw.new.run.stack
     (Some c.in-Some.at) c.take_raw.new.line.items _ _ c.in_default.not-Seeking (rw c.in-Some.is at (c.in-Ok.ensures.taken tells)) c.in-Ok.ensures.below in
     let tells' = subst IsTrue (sym c.in-Ok.ensures.tells) tells in
-    let faults = ap (λ (v : Vec SourceFault Global). v.items) c.in-Ok.ensures.faults in
-    let names = ap names_of c.in-Ok.ensures.names in
+    let faults = ap (λ (v : Vec SourceFault Global). v.items) c.in-Ok.ensures.only.faults in
+    let names = ap names_of c.in-Ok.ensures.only.names in
     let first = taken_first (g.S.Shelf.texts c.args.shelf.now) (g.S.Shelf.texts c.take_raw.new.shelf) (g.S.Shelf.left c.args.shelf.now) (g.S.Shelf.left c.take_raw.new.shelf) c.args.run.now c.take_raw.new.run c.in-Some.at taken.0.line
-    (c.in-Ok.ensures.texts tells) (c.in-Ok.ensures.others tells) c.in-Ok.ensures.inputs c.in-Ok.ensures.change c.in-Ok.ensures.stage c.in-Ok.ensures.first c.in-Ok.ensures.names taken.1 in
+    (c.in-Ok.ensures.texts tells) (c.in-Ok.ensures.others tells) c.in-Ok.ensures.only.inputs c.in-Ok.ensures.change c.in-Ok.ensures.only.stage c.in-Ok.ensures.only.first c.in-Ok.ensures.only.names taken.1 in
     let here = begins_here (g.S.Shelf.texts c.take_raw.new.shelf) (g.S.Shelf.left c.take_raw.new.shelf) c.take_raw.new.run c.in-Some.at taken.0.line c.take_raw.new.line.items c.in-Some-begun_at.begin taken.0.is
     ((λ i. begun_by (pending_in c.take_raw.new.run.stage (sym c.deref.ensures.value i)) c.in-Some.at.may_match (sym c.deref-2.ensures.value i)) ∙ sym c.begun_at.ensures ∙ c.in-Some-begun_at.is) in
     let lines = lines_replaced (change_lines (g.S.Shelf.left c.take_raw.new.shelf) c.take_raw.new.run) (things_above (g.S.Shelf.left c.take_raw.new.shelf) 0 c.take_raw.new.run.stack []) in
@@ -74,10 +74,10 @@ returns-in-Err-begin_change-clause-stops g c = λ tells.
     let taken = takes_in (g.S.Shelf.left c.args.shelf.now) (g.S.Shelf.left c.take_raw.new.shelf) (c.in-Ok.ensures.others tells) c.args.run.now.stage (change_lines (g.S.Shelf.left c.args.shelf.now) c.args.run.now) c.args.run.now.stack c.take_raw.new.run.stack
     (Some c.in-Some.at) c.take_raw.new.line.items _ _ c.in_default.not-Seeking (rw c.in-Some.is at (c.in-Ok.ensures.taken tells)) c.in-Ok.ensures.below in
     let tells' = subst IsTrue (sym c.in-Ok.ensures.tells) tells in
-    let faults = ap (λ (v : Vec SourceFault Global). v.items) c.in-Ok.ensures.faults in
-    let names = ap names_of c.in-Ok.ensures.names in
+    let faults = ap (λ (v : Vec SourceFault Global). v.items) c.in-Ok.ensures.only.faults in
+    let names = ap names_of c.in-Ok.ensures.only.names in
     let first = taken_first (g.S.Shelf.texts c.args.shelf.now) (g.S.Shelf.texts c.take_raw.new.shelf) (g.S.Shelf.left c.args.shelf.now) (g.S.Shelf.left c.take_raw.new.shelf) c.args.run.now c.take_raw.new.run c.in-Some.at taken.0.line
-    (c.in-Ok.ensures.texts tells) (c.in-Ok.ensures.others tells) c.in-Ok.ensures.inputs c.in-Ok.ensures.change c.in-Ok.ensures.stage c.in-Ok.ensures.first c.in-Ok.ensures.names taken.1 in
+    (c.in-Ok.ensures.texts tells) (c.in-Ok.ensures.others tells) c.in-Ok.ensures.only.inputs c.in-Ok.ensures.change c.in-Ok.ensures.only.stage c.in-Ok.ensures.only.first c.in-Ok.ensures.only.names taken.1 in
     let here = begins_here (g.S.Shelf.texts c.take_raw.new.shelf) (g.S.Shelf.left c.take_raw.new.shelf) c.take_raw.new.run c.in-Some.at taken.0.line c.take_raw.new.line.items c.in-Some-begun_at.begin taken.0.is
     ((λ i. begun_by (pending_in c.take_raw.new.run.stage (sym c.deref.ensures.value i)) c.in-Some.at.may_match (sym c.deref-2.ensures.value i)) ∙ sym c.begun_at.ensures ∙ c.in-Some-begun_at.is) in
     let lines = lines_replaced (change_lines (g.S.Shelf.left c.take_raw.new.shelf) c.take_raw.new.run) (things_above (g.S.Shelf.left c.take_raw.new.shelf) 0 c.take_raw.new.run.stack []) in
@@ -91,10 +91,10 @@ returns-clause-gives g c = λ tells.
     let taken = takes_in (g.S.Shelf.left c.args.shelf.now) (g.S.Shelf.left c.take_raw.new.shelf) (c.in-Ok.ensures.others tells) c.args.run.now.stage (change_lines (g.S.Shelf.left c.args.shelf.now) c.args.run.now) c.args.run.now.stack c.take_raw.new.run.stack
     (Some c.in-Some.at) c.take_raw.new.line.items _ _ c.in_default.not-Seeking (rw c.in-Some.is at (c.in-Ok.ensures.taken tells)) c.in-Ok.ensures.below in
     let tells' = subst IsTrue (sym c.in-Ok.ensures.tells) tells in
-    let faults = ap (λ (v : Vec SourceFault Global). v.items) c.in-Ok.ensures.faults in
-    let names = ap names_of c.in-Ok.ensures.names in
+    let faults = ap (λ (v : Vec SourceFault Global). v.items) c.in-Ok.ensures.only.faults in
+    let names = ap names_of c.in-Ok.ensures.only.names in
     let first = taken_first (g.S.Shelf.texts c.args.shelf.now) (g.S.Shelf.texts c.take_raw.new.shelf) (g.S.Shelf.left c.args.shelf.now) (g.S.Shelf.left c.take_raw.new.shelf) c.args.run.now c.take_raw.new.run c.in-Some.at taken.0.line
-    (c.in-Ok.ensures.texts tells) (c.in-Ok.ensures.others tells) c.in-Ok.ensures.inputs c.in-Ok.ensures.change c.in-Ok.ensures.stage c.in-Ok.ensures.first c.in-Ok.ensures.names taken.1 in
+    (c.in-Ok.ensures.texts tells) (c.in-Ok.ensures.others tells) c.in-Ok.ensures.only.inputs c.in-Ok.ensures.change c.in-Ok.ensures.only.stage c.in-Ok.ensures.only.first c.in-Ok.ensures.only.names taken.1 in
     let here = begins_here (g.S.Shelf.texts c.take_raw.new.shelf) (g.S.Shelf.left c.take_raw.new.shelf) c.take_raw.new.run c.in-Some.at taken.0.line c.take_raw.new.line.items c.in-Some-begun_at.begin taken.0.is
     ((λ i. begun_by (pending_in c.take_raw.new.run.stage (sym c.deref.ensures.value i)) c.in-Some.at.may_match (sym c.deref-2.ensures.value i)) ∙ sym c.begun_at.ensures ∙ c.in-Some-begun_at.is) in
     let lines = lines_replaced (change_lines (g.S.Shelf.left c.take_raw.new.shelf) c.take_raw.new.run) (things_above (g.S.Shelf.left c.take_raw.new.shelf) 0 c.take_raw.new.run.stack []) in

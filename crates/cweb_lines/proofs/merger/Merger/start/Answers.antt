@@ -40,18 +40,18 @@ invariant_of-result g c =
 
 pub returns-clause-begins : goal.returns-clause-begins
 returns-clause-begins g c = λ tells.
-    let later = subst IsTrue (sym c.in_ok-web.ensures.tells) tells in
+    let later = subst IsTrue (sym c.in_ok-web.ensures.keeps.tells) tells in
     let left = g.S.Shelf.left c.find_change.new.shelf in
     let change = found_as left c.in-Some-2.change in
     let names : names_of c.open_change.new.names ≡ string_bytes c.in-Some.web.name ∷ names_found change =
     c.in-Ok-open_change.ensures.names left ∙ ap (λ (ns : List (List ℕ)). ns ++ names_found change) c.in-Ok.ensures.names in
-    let texts = c.in_ok-change.ensures.texts later ∙ c.in_ok-web.ensures.texts tells in
+    let texts = c.in_ok-change.ensures.keeps.texts later ∙ c.in_ok-web.ensures.keeps.texts tells in
     record {
       name = string_bytes c.in-Some.web.name;
       text = left c.in-Some.web.reader;
       change = change;
-      there = sym (rw c.in-Some.is at (c.in_ok-web.ensures.found tells)) ∙ ap (λ l. Some (string_bytes c.in-Some.web.name, l c.in-Some.web.reader)) (sym (c.in_ok-change.ensures.others later));
-      changes_there = ap (λ t. change_at t (option_copied c.args.change)) (sym (c.in_ok-web.ensures.texts tells)) ∙ sym (rw c.in-Some-2.is at (c.in_ok-change.ensures.found later));
+      there = sym (rw c.in-Some.is at (c.in_ok-web.ensures.found tells)) ∙ ap (λ l. Some (string_bytes c.in-Some.web.name, l c.in-Some.web.reader)) (sym (c.in_ok-change.ensures.keeps.left later));
+      changes_there = ap (λ t. change_at t (option_copied c.args.change)) (sym (c.in_ok-web.ensures.keeps.texts tells)) ∙ sym (rw c.in-Some-2.is at (c.in_ok-change.ensures.found later));
       so_far_is = λ i. record { faults = c.new-4.ensures.items i; names = names i; count = record { lines = c.new-3.ensures.lines i; bytes = c.new-3.ensures.bytes i } };
       whole = (λ i. merge (record { texts = texts i; inputs = c.in_ok-inputs.ensures i }) (state (things_in left c.first_stage.result (lines_at left c.in-Ok-open_change.change) c.new.result) (pending_in c.first_stage.result c.new-2.result.items)
           (change_in c.first_stage.result (lines_at left c.in-Ok-open_change.change)) (length (names_of c.open_change.new.names))))
