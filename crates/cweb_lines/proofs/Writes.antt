@@ -41,7 +41,7 @@ some_lines [] some = some
 some_lines (line ∷ lines) some = omega arith
 
 -- a front of the text of all lines, where they are lines that were written, lines of which a front was written, and lines that follow
-front_of_all : (all done gathered now : List Line) (old mid new piece : List ℕ) → all ≡ done ++ (gathered ++ now) → mid ≡ old ++ text_of done → piece ≡ text_of gathered
+pub front_of_all : (all done gathered now : List Line) (old mid new piece : List ℕ) → all ≡ done ++ (gathered ++ now) → mid ≡ old ++ text_of done → piece ≡ text_of gathered
     → WritesFront mid new piece → WritesFront old new (text_of all)
 front_of_all all done gathered now old mid new piece whole written is front = record {
   front = text_of done ++ front.front;
@@ -60,10 +60,6 @@ nothing_yet sink w room so all = record {
   piece_is = refl;
   alone = λ none. refl;
 }
-
-pub emptied : (room : ℕ) (piece rest : List ℕ) (Wrote : List ℕ → Type 0) → PassesOn room piece rest Wrote → room ≡ 0 → rest ≡ []
-emptied room piece rest Wrote (inl kept) none = absurd (omega (arith, kept.0, none))
-emptied room piece rest Wrote (inr wrote) none = wrote.0
 
 module _ {W : Type 0} (sink : Sink W) (first mid : W) (keeps : KeepsPlace sink first mid) (room : ℕ) (old so : SoFar) (all now : List Event) (piece : List ℕ) (g : Gathered room old so all now (Writes sink first mid) piece) where
   lines_are : given_lines all ≡ g.done ++ (g.gathered ++ given_lines now)
@@ -146,63 +142,6 @@ module _ {W : Type 0} (sink : Sink W) (first mid : W) (keeps : KeepsPlace sink f
         some = more;
         alone = λ none. absurd (omega (arith, more, ap (λ (ls : List Line). length ls) (g.alone none)));
       }
-
-  -- one more line was gathered
-  module _ (line : Line) (so' : SoFar) (later : List Event) (next : Gives (line ∷ []) so so' now later) (more : List ℕ) (is : more ≡ piece ++ line.bytes ++ 10 ∷ []) where
-    abbrev gathered : List Line
-    gathered = g.gathered ++ line ∷ []
-
-    gives : Gives (g.done ++ gathered) old so' all later
-    gives = subst (λ (ls : List Line). Gives ls old so' all later) (append_assoc g.done g.gathered (line ∷ [])) (gives_both (g.done ++ g.gathered) (line ∷ []) old so so' all now later g.gives next)
-
-    piece_is : more ≡ text_of gathered
-    piece_is = is ∙ append_assoc piece line.bytes (10 ∷ []) ∙ ap (λ (t : List ℕ). t ++ (line.bytes ++ 10 ∷ [])) g.piece_is ∙ sym (text_of-append g.gathered (line ∷ []))
-
-    pub passed_on : (new : W) (rest : List ℕ) → PassesOn room more rest (Writes sink mid new) → Gathered room old so' all later (Writes sink first new) rest
-    passed_on new rest (inl kept) = record {
-      done = g.done;
-      gathered = gathered;
-      gives = gives;
-      wrote = subst (λ (t : List ℕ). Writes sink first new t) (append-nil (text_of g.done)) (writes_then sink first mid new (text_of g.done) [] keeps g.wrote kept.2);
-      piece_is = kept.1 ∙ piece_is;
-      alone = λ none. absurd (omega (arith, none, kept.0));
-    }
-    passed_on new rest (inr wrote) = record {
-      done = g.done ++ gathered;
-      gathered = [];
-      gives = subst (λ (ls : List Line). Gives ls old so' all later) (sym (append-nil (g.done ++ gathered))) gives;
-      wrote = subst (λ (t : List ℕ). Writes sink first new t) (ap (λ (p : List ℕ). text_of g.done ++ p) piece_is ∙ sym (text_of-append g.done gathered))
-          (writes_then sink first mid new (text_of g.done) more keeps g.wrote wrote.1);
-      piece_is = wrote.0;
-      alone = λ none. refl;
-    }
-
-    pub fails_front : (new : W) → (IsTrue (sink.tells mid) → WritesFront (sink.written mid) (sink.written new) more) → IsTrue (sink.tells first)
-        → WritesFront (sink.written first) (sink.written new) (text_of (given_lines all))
-    fails_front new front tells =
-        front_of_all (given_lines all) g.done gathered (given_lines later) (sink.written first) (sink.written mid) (sink.written new) more
-        (given_front (g.done ++ gathered) old so' all later gives ∙ append_assoc g.done gathered (given_lines later)) (g.wrote tells) piece_is (front (place_told sink first mid keeps tells))
-
-    pub fails_among : (new : W) → IsTrue (sink.tells first) → (IsTrue (sink.tells mid) → WritesFront (sink.written mid) (sink.written new) more)
-        → FailsAmong room old so' all later (sink.written first) (sink.written new)
-    fails_among new tells front = record {
-      done = g.done;
-      gathered = gathered;
-      gives = gives;
-      front = subst (λ (m : List ℕ). WritesFront m (sink.written new) (text_of gathered)) (g.wrote tells)
-          (subst (λ (p : List ℕ). WritesFront (sink.written mid) (sink.written new) p) piece_is (front (place_told sink first mid keeps tells)));
-      some = omega (arith, length-append g.gathered (line ∷ []));
-      alone = λ none. length-append g.gathered (line ∷ []) ∙ ap (λ (ls : List Line). length ls + 1) (g.alone none);
-    }
-
--- where lines are not gathered one line alone is lost
-pub loses_line : (old new : SoFar) (all later : List Event) (before after : List ℕ) → FailsAmong 0 old new all later before after → LosesLine old new all later before after
-loses_line old new all later before after failed = by failed.gathered (failed.alone refl) failed.gives failed.front
-  where
-    by : (gathered : List Line) → length gathered ≡ 1 → Gives (failed.done ++ gathered) old new all later → WritesFront (before ++ text_of failed.done) after (text_of gathered) → LosesLine old new all later before after
-    by [] one gives front = absurd (omega (arith, one))
-    by (line ∷ []) one gives front = record { done = failed.done; line = line; gives = gives; front = front }
-    by (line ∷ other ∷ rest) one gives front = absurd (omega (arith, one))
 
 pub no_read_blame : (stop : Stop) → ((file : _) → stop ≡ ReadFault file → ⊥) → read_blame stop ≡ 0
 no_read_blame (ReadFault file) other = absurd (other file refl)

@@ -4,12 +4,14 @@
 mod code;
 mod fault;
 mod finding;
+mod gathering;
 mod include;
 pub mod laws;
 mod limits;
 mod merger;
 mod names;
 mod obeying;
+mod passing;
 mod pieces;
 mod progress;
 mod reading;

@@ -4,6 +4,7 @@ ghost use Rattle.std.specs.Option.{option_copied};
 ghost use Rattle.cweb_files.specs.Frames.{KeepsTexts};
 ghost use Rattle.cweb_lines.specs.Include.{web_at, change_at};
 ghost use Rattle.cweb_lines.specs.Names.{names_of};
+ghost use Rattle.cweb_lines.specs.Passing.{PassesLines};
 ghost use Rattle.cweb_lines.specs.Finding.{text_of_name, found_as, names_found, lines_found};
 ghost use Rattle.cweb_lines.specs.Texts.{StartStops, files_named, lines_left, lines_at, number_of, line_number, files_up_to};
 ghost use Rattle.cweb_lines.specs.Stages.{stage_for, begun_stage};
@@ -13,6 +14,7 @@ use crate::fault::SourceFault;
 use crate::finding::{Opening, find_change, find_web};
 use crate::limits::Limits;
 use crate::names::FileNames;
+use crate::passing::pass_lines;
 use crate::run::Run;
 use crate::source::Source;
 use crate::stack::Stack;
@@ -252,6 +254,14 @@ impl<S: Shelf> Merger<S> {
     /// Whether the next line can be given without a read.
     pub(crate) fn has_line(&self) -> bool {
         self.run.has_line()
+    }
+
+    // Lines that were read and only pass through move to what a caller gathers, while that has less than so many bytes.
+    pub(crate) fn pass_lines(&mut self, piece: &mut Vec<u8>, room: usize)
+        ensures passes { PassesLines self.old.run self.new.run piece.old.items piece.new.items }
+        ensures alone { room ≡ 0 → piece.new.items ≡ piece.old.items }
+    {
+        pass_lines(&mut self.run, piece, room);
     }
 
     // Memory was refused to a caller that has taken a line.

@@ -20,8 +20,8 @@ fn is_blank(b: u8) -> bool
     matches!(b, b' ' | b'\t' | b'\r' | 11 | 12)
 }
 
-// How many bytes of a line stand in front of the blanks at its end.
-fn trimmed_length(line: &[u8]) -> usize
+/// How many bytes of a line stand in front of the blanks at its end.
+pub fn trimmed_length(line: &[u8]) -> usize
     ensures within { result ≤ length line.now }
     ensures trimmed { take result line.now ≡ trimmed line.now }
 {

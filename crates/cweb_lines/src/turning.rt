@@ -116,8 +116,8 @@ fn take_end<S: Shelf>(shelf: &mut S, run: &mut Run<S::R>, line: &mut Vec<u8>) ->
     }
 }
 
-// Where the entry has its @x line that a line begins.
-fn begun_at(stage: Stage, first: &[u8], may_match: bool, line: &[u8]) -> Option<Place>
+/// Where the entry has its @x line that a line begins.
+pub fn begun_at(stage: Stage, first: &[u8], may_match: bool, line: &[u8]) -> Option<Place>
     ensures { result ≡ begun_by (pending_in stage first.now) may_match line.now }
 {
     match stage {

@@ -1,5 +1,5 @@
 use Rattle.std.proofs.Common.{refl}
-use Rattle.cweb_lines.proofs.Writes.{loses_line}
+use Rattle.cweb_lines.proofs.Gathers.{loses_line}
 use Rattle.cweb_lines.proofs.writing.write_merged.Goals as goal
 
 pub returns-clause-fault : goal.returns-clause-fault

@@ -1,9 +1,11 @@
-use Rattle.std.proofs.Common.{rules, ◌+◌, [], refl, ap, sym, ◌∙◌, arith}
+use Rattle.std.proofs.Common.{rules, ◌+◌, [], length, refl, ap, sym, ◌∙◌, arith}
 use Rattle.cweb_files.specs.Frames.{Writes}
 use Rattle.cweb_lines.specs.Texts.{read_blame}
 use Rattle.cweb_lines.specs.Writing.{write_blame}
+use Rattle.cweb_lines.specs.Names.{names_of}
+use Rattle.cweb_lines.proofs.Gathers.{emptied, held, held_on, passed_on, fails_front, fails_among}
 use Rattle.cweb_lines.proofs.Keeps.{keeps_same, keeps_told, keeps_then, place_same, place_then}
-use Rattle.cweb_lines.proofs.Writes.{nothing_yet, emptied, names_rest, ends_front, ends_whole, ended_early, halted, fails_last, passed_on, fails_front, fails_among, write_failed, blamed, tells_some, tells_more, tells_same}
+use Rattle.cweb_lines.proofs.Writes.{nothing_yet, names_rest, ends_front, ends_whole, ended_early, halted, fails_last, write_failed, blamed, blames_write, tells_some, tells_more, tells_same}
 use Rattle.cweb_lines.proofs.writing.write_merged_in_pieces.Goals as goal
 
 pub lines-init : goal.lines-init
@@ -92,25 +94,45 @@ returns-in-Err-gather-clause-stops g c = λ tells before.
     }
 
 -- a write failed
+pub returns-in-Err-pass_on-clause-grows : goal.returns-in-Err-pass_on-clause-grows
+returns-in-Err-pass_on-clause-grows g c = record {
+  names = omega (arith, c.lines.invariant.names, c.in-Ok.ensures.grows.names, ap (λ n. length (names_of n)) c.pass_lines.ensures.passes.names);
+  lines = c.pass_lines.new.self.run.limits.few;
+  bytes = c.pass_lines.new.self.run.limits.small;
+}
+
 pub returns-in-Err-pass_on-clause-front : goal.returns-in-Err-pass_on-clause-front
 returns-in-Err-pass_on-clause-front g c = λ tells.
     let next = rw c.in-Some-next.is at (c.in-Ok.ensures.next (keeps_told g.S.Shelf _ _ c.lines.invariant.keeps tells)) in
-    fails_front g.W.Sink _ _ c.lines.invariant.place _ _ _ _ _ _ (c.lines.invariant.gathered tells) (record { bytes = c.next_line.new.line.items; place = c.in-Some-next.field-0 }) _ _ next _
-    (rw c.deref-in-lines.ensures.value at c.in_default-gather.ensures.ok) c.pass_on.new.out c.in-Err-pass_on.ensures.err
+    let one = held _ _ _ _ _ _ _ (c.lines.invariant.gathered tells) (record { bytes = c.next_line.new.line.items; place = c.in-Some-next.field-0 }) _ _ next _
+    (rw c.deref-in-lines.ensures.value at c.in_default-gather.ensures.ok) in
+    let passes = c.pass_lines.ensures.passes in
+    let more = held_on _ _ _ _ _ _ _ one passes.lines _ _ (passes.gives (g.S.Shelf.texts c.next_line.new.shelf) (g.S.Shelf.left c.next_line.new.shelf)) _ passes.gathered c.pass_lines.ensures.alone in
+    fails_front g.W.Sink _ _ c.lines.invariant.place _ _ _ _ _ _ more c.pass_on.new.out c.in-Err-pass_on.ensures.err
 
 pub returns-in-Err-pass_on-clause-stops : goal.returns-in-Err-pass_on-clause-stops
 returns-in-Err-pass_on-clause-stops g c = λ tells before.
     let next = rw c.in-Some-next.is at (c.in-Ok.ensures.next (keeps_told g.S.Shelf _ _ c.lines.invariant.keeps tells)) in
-    record {
-      why = write_failed _ _ _ _ _ c.in-Err-pass_on.ensures.stop;
-      told = tells_more _ _ _ _ _ _ (c.lines.invariant.gathered tells).gives (tells_some _ _ _ _ _ next);
-    }
+    let one = held _ _ _ _ _ _ _ (c.lines.invariant.gathered tells) (record { bytes = c.next_line.new.line.items; place = c.in-Some-next.field-0 }) _ _ next _
+    (rw c.deref-in-lines.ensures.value at c.in_default-gather.ensures.ok) in
+    let passes = c.pass_lines.ensures.passes in
+    let more = held_on _ _ _ _ _ _ _ one passes.lines _ _ (passes.gives (g.S.Shelf.texts c.next_line.new.shelf) (g.S.Shelf.left c.next_line.new.shelf)) _ passes.gathered c.pass_lines.ensures.alone in
+    record { why = write_failed _ _ _ _ _ c.in-Err-pass_on.ensures.stop; told = tells_some _ _ _ _ _ more.gives }
 
 pub returns-in-Err-pass_on-clause-fault : goal.returns-in-Err-pass_on-clause-fault
 returns-in-Err-pass_on-clause-fault g c = λ tells out before is running.
     let next = rw c.in-Some-next.is at (c.in-Ok.ensures.next (keeps_told g.S.Shelf _ _ c.lines.invariant.keeps tells)) in
-    fails_among g.W.Sink _ _ c.lines.invariant.place _ _ _ _ _ _ (c.lines.invariant.gathered tells) (record { bytes = c.next_line.new.line.items; place = c.in-Some-next.field-0 }) _ _ next _
-    (rw c.deref-in-lines.ensures.value at c.in_default-gather.ensures.ok) c.pass_on.new.out out c.in-Err-pass_on.ensures.err
+    let one = held _ _ _ _ _ _ _ (c.lines.invariant.gathered tells) (record { bytes = c.next_line.new.line.items; place = c.in-Some-next.field-0 }) _ _ next _
+    (rw c.deref-in-lines.ensures.value at c.in_default-gather.ensures.ok) in
+    let passes = c.pass_lines.ensures.passes in
+    let more = held_on _ _ _ _ _ _ _ one passes.lines _ _ (passes.gives (g.S.Shelf.texts c.next_line.new.shelf) (g.S.Shelf.left c.next_line.new.shelf)) _ passes.gathered c.pass_lines.ensures.alone in
+    fails_among g.W.Sink _ _ c.lines.invariant.place _ _ _ _ _ _ more c.pass_on.new.out out c.in-Err-pass_on.ensures.err
+
+pub returns-in-Err-pass_on-clause-blames : goal.returns-in-Err-pass_on-clause-blames
+returns-in-Err-pass_on-clause-blames g c = λ before.
+    let blames = c.in-Ok.ensures.blames c.lines.invariant.running in
+    blames_write _ _ _ _ _ _ c.in-Err-pass_on.ensures.stop (c.pass_lines.ensures.passes.stopped ∙ c.in-Ok.ensures.leaves.running)
+    (blames.failed ∙ c.lines.invariant.failed) (c.in-Err-pass_on.ensures.failed ∙ ap (λ n. n + 1) c.lines.invariant.out_failed)
 
 pub lines-preserved : goal.lines-preserved
 lines-preserved g c = record {
@@ -118,12 +140,20 @@ lines-preserved g c = record {
   place = place_then g.W.Sink _ _ _ c.lines.invariant.place c.in_default-pass_on.ensures.keeps;
   failed = search rules;
   out_failed = search rules;
-  running = c.in-Ok.ensures.leaves.running;
+  running = c.pass_lines.ensures.passes.stopped ∙ c.in-Ok.ensures.leaves.running;
   before = c.lines.invariant.before;
-  names = omega (arith, c.in-Ok.ensures.grows.names, c.lines.invariant.names);
-  empty = λ none. emptied c.args.room c.gather.new.piece.items c.pass_on.new.piece.items (Writes g.W.Sink c.lines.out c.pass_on.new.out) c.in_default-pass_on.ensures.ok none;
+  names = omega (arith, c.in-Ok.ensures.grows.names, c.lines.invariant.names, ap (λ n. length (names_of n)) c.pass_lines.ensures.passes.names);
+  empty = λ none. emptied c.args.room c.pass_lines.new.piece.items c.pass_on.new.piece.items (Writes g.W.Sink c.lines.out c.pass_on.new.out) c.in_default-pass_on.ensures.ok none;
   gathered = λ tells.
       let next = rw c.in-Some-next.is at (c.in-Ok.ensures.next (keeps_told g.S.Shelf _ _ c.lines.invariant.keeps tells)) in
-      passed_on g.W.Sink _ _ c.lines.invariant.place _ _ _ _ _ _ (c.lines.invariant.gathered tells) (record { bytes = c.next_line.new.line.items; place = c.in-Some-next.field-0 }) _ _ next _
-      (rw c.deref-in-lines.ensures.value at c.in_default-gather.ensures.ok) c.pass_on.new.out _ c.in_default-pass_on.ensures.ok;
+      let one = held _ _ _ _ _ _ _ (c.lines.invariant.gathered tells) (record { bytes = c.next_line.new.line.items; place = c.in-Some-next.field-0 }) _ _ next _
+      (rw c.deref-in-lines.ensures.value at c.in_default-gather.ensures.ok) in
+      let passes = c.pass_lines.ensures.passes in
+      let more = held_on _ _ _ _ _ _ _ one passes.lines _ _ (passes.gives (g.S.Shelf.texts c.next_line.new.shelf) (g.S.Shelf.left c.next_line.new.shelf)) _ passes.gathered c.pass_lines.ensures.alone in
+      passed_on g.W.Sink _ _ c.lines.invariant.place _ _ _ _ _ _ more c.pass_on.new.out _ c.in_default-pass_on.ensures.ok;
 }
+
+pub lines-smaller : goal.lines-smaller
+lines-smaller g c =
+    let given = rw c.in-Some-next.is at c.in-Ok.ensures.given in
+    omega (arith, given.lines, c.pass_lines.ensures.passes.counted, c.in-Ok.ensures.grows.lines, c.pass_lines.new.self.run.limits.few)

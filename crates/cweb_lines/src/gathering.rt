@@ -1,0 +1,26 @@
+// Lines behind those that were gathered before.
+ghost use Rattle.std.specs.Prelude.{◌≡◌, ◌++◌, ◌∷◌, [], OnOk, OnErr, length, take};
+
+use std::alloc::AllocError;
+
+fn push_line(piece: &mut Vec<u8>, line: &[u8]) -> Result<(), AllocError>
+    ensures ok { OnOk result (piece.new.items ≡ piece.old.items ++ line.now ++ 10 ∷ []) }
+    ensures front { take (length piece.old.items) piece.new.items ≡ piece.old.items }
+{
+    piece.extend_from_slice(line)?;
+    piece.push(b'\n')?;
+    Ok(())
+}
+
+/// A line and its newline behind the lines that were gathered before: both, or neither.
+pub fn gather(piece: &mut Vec<u8>, line: &[u8]) -> Result<(), AllocError>
+    ensures ok { OnOk result (piece.new.items ≡ piece.old.items ++ line.now ++ 10 ∷ []) }
+    ensures err { OnErr result (piece.new.items ≡ piece.old.items) }
+{
+    let before = piece.len();
+    let pushed = push_line(piece, line);
+    if pushed.is_err() {
+        piece.truncate(before);
+    }
+    pushed
+}
