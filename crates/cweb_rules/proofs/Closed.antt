@@ -57,7 +57,7 @@ macro_named b h = two b (or_elim _ _ _ (row-named (λ r. r.in_macro) table (lowe
 pub text_named : (b : ℕ) → is_named (in_text b) ≡ true → ((60 == b) || (40 == b)) ≡ true
 text_named b h = two b (or_elim _ _ _ (row-named (λ r. r.in_text) table (lower b) refl h) (λ g. g) (λ g. cc))
 
-unnamed : (e : Effect) (t : List ℕ) → is_named e ≡ false → opens_effect e t ≡ false
+pub unnamed : (e : Effect) (t : List ℕ) → is_named e ≡ false → opens_effect e t ≡ false
 unnamed Named t h = cc
 unnamed effect.Letter t h = refl
 unnamed effect.ControlText t h = refl

@@ -10,3 +10,4 @@ pub mod LineFronts
 pub mod InLines
 pub mod Closed
 mod Rows
+pub mod Lasts

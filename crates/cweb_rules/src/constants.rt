@@ -1,5 +1,5 @@
 // `@'` and `@l`: a character's code, and a letter with its replacement.
-ghost use Rattle.std.specs.Prelude.{◌≡◌, ◌≤◌, ◌<◌, length, IsTrue, IfSome, true};
+ghost use Rattle.std.specs.Prelude.{◌≡◌, ◌≤◌, ◌<◌, ◌+◌, length, IsTrue, IfSome, true};
 ghost use Rattle.std.specs.List.{position_or_len};
 ghost use Rattle.cweb_rules.specs.Bytes.{is_hex as is_hex_digit};
 ghost use Rattle.cweb_rules.specs.Constants as spec;
@@ -147,7 +147,8 @@ fn faulty_size(text: &[u8]) -> usize
 
 /// What follows `@'`: one character and `'`; else the constant is faulty, and ends with the first `'` or before the line end.
 pub fn constant(text: &[u8]) -> Valued
-    ensures { result ≡ spec.constant text.now }
+    ensures value { result ≡ spec.constant text.now }
+    ensures within { result.size ≤ length text.now }
 {
     if let Some(character) = character_at(text) {
         if character.size <= text.len() {
@@ -183,6 +184,7 @@ fn hex_value(byte: u8) -> u8
 fn hex_at(text: &[u8]) -> Option<u8>
     ensures value { result ≡ spec.hex_at text.now }
     ensures within { IfSome result (λ byte. 2 ≤ length text.now) }
+    ensures high { IfSome result (λ byte. 128 ≤ byte) }
 {
     let [first, second, ..] = text else {
         return None;
@@ -199,7 +201,9 @@ fn hex_at(text: &[u8]) -> Option<u8>
 
 /// What follows `@l`: two hexadecimal digits between blanks and tabs, and a replacement, which may be empty.
 pub fn letter(text: &[u8]) -> Option<Transliteration>
-    ensures { result ≡ spec.letter text.now }
+    ensures value { result ≡ spec.letter text.now }
+    ensures within { IfSome result (λ found. found.start + found.size ≤ length text.now) }
+    ensures high { IfSome result (λ found. 128 ≤ found.byte) }
 {
     let gap = run_len(Class::Gap, text);
     let (_, digits) = text.split_at(gap);

@@ -1,5 +1,5 @@
 // The items that last to an end sign: control texts, names, comments, literals and included names.
-ghost use Rattle.std.specs.Prelude.{◌≡◌, ◌≤◌, ◌<◌, length};
+ghost use Rattle.std.specs.Prelude.{◌≡◌, ◌≤◌, ◌<◌, ◌+◌, length};
 ghost use Rattle.cweb_rules.specs.Items as spec;
 ghost use Rattle.cweb_rules.specs.Looks.{look_of, reached, MovesOn};
 ghost use Rattle.cweb_rules.specs.declared.end.End.TheVariants as how;
@@ -151,8 +151,8 @@ impl Item<'_> {
     }
 }
 
-/// How far an item reaches in a text that may end before it does.
-pub fn reach(item: Item<'_>, text: &[u8]) -> Reached
+// How far an item reaches in a text, unit by unit.
+fn reach_by_units(item: Item<'_>, text: &[u8]) -> Reached
     ensures value { result ≡ reached (cut.reach (look_of item.entry) how.Open text.now) }
     ensures within { result.size ≤ length text.now }
 {
@@ -173,6 +173,14 @@ pub fn reach(item: Item<'_>, text: &[u8]) -> Reached
         close: 0,
         how: End::Open,
     }
+}
+
+/// How far an item reaches in a text that may end before it does.
+pub fn reach(item: Item<'_>, text: &[u8]) -> Reached
+    ensures value { result ≡ reached (cut.reach (look_of item.entry) how.Open text.now) }
+    ensures within { result.size + result.close ≤ length text.now }
+{
+    reach_by_units(item, text)
 }
 
 /// How many bytes the opener sign at a text's front has: blanks and tabs, then `=` or `+=` with no further `=`; else none.

@@ -20,7 +20,7 @@ layout_short p =
     let n = first_kept p.kind in
     omega (arith, length-append (take n p.tokens) (without_last is_layout (drop n p.tokens)), length-take n p.tokens, without_last_short is_layout (drop n p.tokens), length-drop n p.tokens)
 
-tokens_last : (ps : List Part) (p : Part) → length (all_tokens (ps ++ p ∷ [])) ≡ length (all_tokens ps) + length p.tokens
+pub tokens_last : (ps : List Part) (p : Part) → length (all_tokens (ps ++ p ∷ [])) ≡ length (all_tokens ps) + length p.tokens
 tokens_last ps p =
     omega (arith, ap (λ (ts : List Token). length ts) (flat_map-append (λ (q : Part). q.tokens) ps (p ∷ [])), length-append (all_tokens ps) (all_tokens (p ∷ [])), length-append p.tokens [])
 

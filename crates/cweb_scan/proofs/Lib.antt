@@ -27,3 +27,7 @@ mod RowsItems
 mod RowsCodes
 mod RowsRawLiterals
 mod RowsThousand
+pub mod Weights
+pub mod Turns
+pub mod Ends
+pub mod Opens

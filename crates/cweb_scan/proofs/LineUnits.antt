@@ -6,13 +6,10 @@ use Rattle.cweb_files.specs.declared.place.Place.{Place}
 use Rattle.cweb_rules.specs.declared.fault.ScanKind.TheVariants.{DoubleAtInString}
 use Rattle.cweb_scan.specs.After.{Reading, on, literal_unit}
 use Rattle.cweb_rules.specs.Lines.{IsLine}
+use Rattle.cweb_scan.specs.Fronted.{unit_state}
 use Rattle.cweb_scan.specs.State.{State, fault, moved}
 use Rattle.cweb_rules.proofs.InLines.{AreLines}
 use Rattle.cweb_scan.proofs.OpenItems.{none-line}
-
--- an `@` that isn't doubled is a fault
-abbrev pub unit_state : State → List ℕ → State
-unit_state s u = if bytes_eq u (codes "@") then fault DoubleAtInString s else s
 
 abbrev reading : State → List Place → Reading
 reading s later = record { state = s; later = later }

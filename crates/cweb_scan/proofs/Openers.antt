@@ -10,6 +10,7 @@ use Rattle.cweb_rules.specs.Codes.{in_macro, in_c}
 use Rattle.cweb_rules.specs.declared.look.Look.{Look}
 use Rattle.cweb_rules.specs.Cut.{Reach, reach, body, size_of}
 use Rattle.cweb_scan.specs.Directives.{names_include}
+use Rattle.cweb_scan.specs.Fronted.{reads_c, reads_names, reads_literals, IsPast}
 use Rattle.cweb_rules.specs.Fronts.{raw_prefix, delimiter, name_at, sign_after, section_at, code_at, comment_at, line_comment_at, raw_at, literal_at, literal_prefix, quote_of, quoted, c_front, starts_raw, starts_literal, starts_include, include_at}
 use Rattle.cweb_rules.specs.Items as items
 use Rattle.cweb_rules.specs.declared.end.End.{End}
@@ -38,14 +39,6 @@ with_front r t f = run (after r (record { kind = f.kind; bytes = take f.size t }
 -- what is read after what the rules name
 pub run_as : (r : Reading) (b : ℕ) (t : List ℕ) (f : Front) → front_in r.state.context (names_include r.state) (b ∷ t) ≡ f → run r (b ∷ t) ≡ with_front r (b ∷ t) f
 run_as r b t f h = ap (fold after r) (pieces_first r b t (fair r.state b t).some) ∙ ap (with_front r (b ∷ t)) h
-
--- C text, a macro and a head
-abbrev pub reads_c : Context → Bool
-reads_c Limbo = false
-reads_c TeX = false
-reads_c (Definition begun) = true
-reads_c Macro = true
-reads_c CText = true
 
 comment_front : (c : Context) (includes : Bool) (w : List ℕ) → reads_c c ≡ true → front_in c includes (47 ∷ 42 ∷ w) ≡ comment_at (47 ∷ 42 ∷ w)
 comment_front Limbo includes w h = cc
@@ -88,13 +81,6 @@ takes_in TeX = true
 takes_in (Definition begun) = true
 takes_in Macro = true
 takes_in CText = false
-
-abbrev pub reads_names : Context → Bool
-reads_names Limbo = false
-reads_names TeX = true
-reads_names (Definition begun) = true
-reads_names Macro = true
-reads_names CText = true
 
 takes_same : (c : Context) (s : State) → s.context ≡ c → takes_sign (leave_head_in c s) ≡ takes_in c
 takes_same Limbo s h = ap takes_in h
@@ -178,14 +164,6 @@ drop-add (suc m) zero [] = let e : suc m + 0 ≡ suc m = omega arith in ap (λ k
 drop-add (suc m) (suc n) [] = let e : suc m + suc n ≡ suc (m + suc n) = omega arith in ap (λ k. drop k []) e
 drop-add (suc m) n (b ∷ t) = let e : suc m + n ≡ suc (m + n) = omega arith in ap (λ k. drop k (b ∷ t)) e ∙ drop-add m n t
 
--- in a head no literal is named
-abbrev pub reads_literals : Context → Bool
-reads_literals Limbo = false
-reads_literals TeX = false
-reads_literals (Definition begun) = false
-reads_literals Macro = true
-reads_literals CText = true
-
 enter_quoted : (c : Context) (us : List (List ℕ)) (how : End) (s : State) → reads_literals c ≡ true → enter_in c (Quoted us how) s ≡ s
 enter_quoted Limbo us how s h = cc
 enter_quoted TeX us how s h = cc
@@ -222,15 +200,6 @@ opened_quoted look r n b t c line no_at h =
     ∙ ap (λ (v : Bool). run (on (literal ((if v then codes "@" else opener) ++ text_in (m.units ++ close ∷ [])) m.how r.state.here) (fold literal_unit r (m.units ++ close ∷ []))) (drop (n + size_of m) u)) no_at.double
     ∙ ap (λ v. let x = m.units ++ take m.close v ∷ [] in run (on (literal (opener ++ text_in x) m.how r.state.here) (fold literal_unit r x)) (drop (n + size_of m) u)) (drop-add n (length (body m)) u)
     ∙ ap (λ v. let x = m.units ++ take m.close (drop (length (body m)) w) ∷ [] in run (on (literal (opener ++ text_in x) m.how r.state.here) (fold literal_unit r x)) v) (drop-add n (size_of m) u)
-
--- no rule before the literals fits
-pub record IsPast (t : List ℕ) : Type 0 where
-  pub blank : first_is is_blank t ≡ false
-  pub line_end : first_is is_line_end t ≡ false
-  pub comment : begins (codes "/*") t ≡ false
-  pub line_comment : begins (codes "//") t ≡ false
-  pub section : starts_section t ≡ false
-  pub code : begins (codes "@") t ≡ false
 
 abbrev past : (effect : ℕ → Effect) (takes_sign includes : Bool) (t : List ℕ) → Bool → Bool → Bool → Bool → Bool → Bool → Bool → Bool → Front
 past effect takes_sign includes t v0 v1 v2 v3 v4 v5 v6 v7 =

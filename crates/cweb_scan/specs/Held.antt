@@ -1,5 +1,5 @@
 -- What is held between two lines: the state, and an item that goes on in the next line.
-use Rattle.std.specs.Prelude.{◌≡◌, ℕ, Bool, true, false, List, [], ◌∷◌, ◌++◌, map}
+use Rattle.std.specs.Prelude.{◌≡◌, ◌≤◌, ℕ, ◌+◌, ◌*◌, Bool, true, false, List, [], ◌∷◌, ◌++◌, length, take, drop, map}
 use Rattle.cweb_files.specs.declared.place.Place.{Place}
 use Rattle.cweb_lines.specs.Lines.{Line}
 use Rattle.cweb_rules.specs.Lines.{AtLineEnd}
@@ -7,13 +7,18 @@ use Rattle.cweb_rules.specs.declared.end.End.TheVariants.{Cut}
 use Rattle.cweb_scan.specs.State.{State, moved, before_text}
 use Rattle.cweb_scan.specs.After.{Reading, line_end, comment_line_end, literal}
 use Rattle.cweb_scan.specs.Resume.{Item, Between, InComment, InName, InLiteral, AfterBackslash, InRaw, resume}
-use Rattle.cweb_scan.specs.Run.{read, further}
+use Rattle.cweb_scan.specs.Room.{weight}
+use Rattle.cweb_scan.specs.Run.{no_place, read, further}
 
 pub record Held : Type 0 where
   pub state : State
   pub item : Item
   -- whether a line was taken
   pub begun : Bool
+
+-- before the first line
+abbrev pub unread : Held
+unread = record { state = before_text no_place; item = Between; begun = false }
 
 abbrev pub held : State → Item → Held
 held s item = record { state = s; item = item; begun = true }
@@ -53,3 +58,23 @@ pub record TakesLineEnd (place : Place) (old new : Held) : Type 0 where
 pub record TakesBytes (line : List ℕ) (old new : Held) : Type 0 where
   pub begun : new.begun ≡ old.begun
   pub same : (later : List Place) (more : List ℕ) → AtLineEnd more → goes_on new later more ≡ goes_on old later (line ++ more)
+
+-- what an open item still adds to what is kept when it ends
+abbrev pub owed : Item → ℕ
+owed Between = 0
+owed (InComment begun) = 0
+owed (InName begun is_file text) = 4
+owed (InLiteral begun quote text) = 1
+owed (AfterBackslash begun quote text) = 1
+owed (InRaw begun delimiter text) = 1
+
+-- what is kept, and what is owed
+abbrev pub cost : Held → ℕ
+cost h = weight h.state + owed h.item
+
+-- the first n bytes of the rest of a line were taken; each byte adds three at most
+pub record Takes (n : ℕ) (rest : List ℕ) (old new : Held) : Type 0 where
+  pub begun : new.begun ≡ old.begun
+  pub within : n ≤ length rest
+  pub adds : cost new ≤ cost old + 3 * n
+  pub same : (later : List Place) (more : List ℕ) → AtLineEnd more → goes_on new later (drop n rest ++ more) ≡ goes_on old later (rest ++ more)

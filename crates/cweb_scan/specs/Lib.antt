@@ -9,3 +9,6 @@ pub mod Resume
 pub mod Held
 pub mod Kept
 pub mod Room
+pub mod Opened
+pub mod Fronted
+pub mod Quotes

@@ -15,3 +15,7 @@ pub record HasRoom (tokens : ℕ) (s : State) : Type 0 where
 pub record HasPartRoom (s : State) : Type 0 where
   pub for_tokens : token_count s.contents.parts + 2 < too_many
   pub for_a_part : part_count s.contents.parts + 1 < too_many
+
+-- how much is kept of what has a bound: tokens, parts, occurrences and sections, all together
+abbrev pub weight : State → ℕ
+weight s = token_count s.contents.parts + part_count s.contents.parts + length s.contents.occurrences + s.sections

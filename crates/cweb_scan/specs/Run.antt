@@ -47,7 +47,7 @@ pub record Scanned : Type 0 where
 abbrev pub scanned_of : State → Scanned
 scanned_of s = let t = leave s in record { store = finished t.contents; faults = t.faults; sections = t.sections; starred = t.starred }
 
-abbrev no_place : Place
+abbrev pub no_place : Place
 no_place = record { file = record { 0 = 0 }; line = 0 }
 
 -- what was read after the merged lines: their text is the lines joined by newlines

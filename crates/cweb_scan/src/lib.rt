@@ -2,13 +2,17 @@
 //! The CWEB manual, "Control codes".
 #![tactic(auto)]
 
+mod codes;
 mod directive;
 mod given;
 pub mod laws;
 mod line_ends;
 mod names;
 mod occurrences;
+mod open;
 mod parts;
+mod reader;
 mod scanner;
+mod turn;
 
 pub use cweb_rules::{ScanFault, ScanKind};

@@ -77,6 +77,20 @@ impl Scanner {
         }
     }
 
+    /// The line on which the text goes on.
+    pub fn here(&self) -> Place
+        ensures { result ≡ self.now.here }
+    {
+        self.here
+    }
+
+    /// What the text belongs to.
+    pub fn context(&self) -> Context
+        ensures { result ≡ self.now.context }
+    {
+        self.context
+    }
+
     /// Adds a fault. A refused call changes nothing.
     pub fn fault(&mut self, kind: ScanKind, place: Place) -> Result<(), AllocError>
         ensures ok { OnOk result (self.new ≡ fault_at kind place self.old) }

@@ -3,7 +3,7 @@ use Rattle.cweb_rules.specs.Cut.{reach}
 use Rattle.cweb_rules.specs.Looks.{look_of, reached}
 use Rattle.cweb_rules.specs.declared.end.End.TheVariants.{Open}
 use Rattle.cweb_rules.proofs.Ranges.{later_by}
-use Rattle.cweb_rules.proofs.items.reach.Given as goal
+use Rattle.cweb_rules.proofs.items.reach_by_units.Given as goal
 
 abbrev pub invariant-units : goal.invariant-units
 invariant-units l = record {

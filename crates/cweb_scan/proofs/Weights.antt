@@ -1,0 +1,265 @@
+-- How much each piece adds to the tokens, parts, occurrences and sections, taken together.
+use Rattle.std.proofs.Common.{◌≡◌, ◌≤◌, ℕ, ◌+◌, ◌*◌, Bool, true, false, ◌||◌, ◌&&◌, not, List, [], ◌∷◌, ◌++◌, Option, Some, None, length, refl, ap, arith, append-nil, length-append}
+use Rattle.std.specs.Prelude.{if◌then◌else◌, codes, bytes_eq, fold, option_map, option_to_list}
+use Rattle.std.specs.Fmt.{decimal}
+use Rattle.cweb_files.specs.declared.place.Place.{Place}
+use Rattle.cweb_store.specs.declared.name.NameRef.{NameRef}
+use Rattle.cweb_store.specs.declared.part.PartKind.{PartKind}
+use Rattle.cweb_store.specs.declared.part.PartKind.TheVariants as part
+use Rattle.cweb_store.specs.Names.{Occurrence}
+use Rattle.cweb_store.specs.Parts.{Token, Part, all_tokens, Word, Number, Literal, Verbatim, Punct, Blank, Newline, Join, Defs, Name, Head, Tail, Mark}
+use Rattle.cweb_store.specs.Growing.{PartsSoFar, opened, pushed, longer, token_count, part_count}
+use Rattle.cweb_store.specs.Calls.{with_open, with_dropped, with_occurrence}
+use Rattle.cweb_store.proofs.CallerLemmas.{part_count_pushed, part_count_dropped, part_count_closed, token_count_closed, token_count_dropped}
+use Rattle.cweb_rules.specs.declared.context.Context.{Context}
+use Rattle.cweb_rules.specs.declared.context.Context.TheVariants.{Limbo, TeX, Definition, Macro, CText}
+use Rattle.cweb_rules.specs.declared.effect.Effect.{Effect}
+use Rattle.cweb_rules.specs.declared.effect.Effect.TheVariants.{Nothing, Define, Format, Program, Named, InsertDefs, Joins, GiveAt, Faulty}
+use Rattle.cweb_rules.specs.declared.effect.Effect.TheVariants as effect
+use Rattle.cweb_rules.specs.declared.end.End.{End}
+use Rattle.cweb_rules.specs.declared.end.End.TheVariants.{Closed, Cut, Nested, Open}
+use Rattle.cweb_rules.specs.declared.fault.ScanKind.TheVariants.{DoubleAtInString}
+use Rattle.cweb_rules.specs.Bytes.{is_line_end}
+use Rattle.cweb_rules.specs.Items.{text_in}
+use Rattle.cweb_rules.specs.Kinds.{Kind, Piece, Skipped, Section, Code, Letter, ControlText, Verbatim as VerbatimKind, Constant, Occurrence as OccurrenceKind, Blanks, LineEnd, Comment, Quoted, Defined, Identifier, Numeral, Punctuator}
+use Rattle.cweb_rules.specs.Pays.{at_line_ends, Pays}
+use Rattle.cweb_scan.specs.Directives.{in_directive, directive, is_punct, is_blank}
+use Rattle.cweb_scan.specs.Names.{occurrence_in}
+use Rattle.cweb_scan.specs.State.{State, give, fault, moved, begin_part, end_part, end_macro_in, end_macro, drop_definition, leave_in, leave, begin_section}
+use Rattle.cweb_scan.specs.After.{Reading, on, next_line, each_line_end, literal_unit, follows, line_end_token, line_end_in, line_end, comment_line_end, blank, punctuator, code, letter, control_text, verbatim, constant, define, comment, name_fault, use_name, open_name, name_in, occurrence, literal, stays_in_head, enter_in, enter, item, after}
+use Rattle.cweb_scan.specs.Room.{weight}
+use Rattle.cweb_scan.proofs.Drops.{tokens_last}
+
+-- PARTS AND TOKENS
+
+token_pushed : (t : Token) (v : PartsSoFar) → token_count (pushed t v) ≤ token_count v + 1
+token_pushed t v = elim v.current as (λ o. length (all_tokens (v.closed ++ option_to_list (option_map (longer t) o))) ≤ length (all_tokens (v.closed ++ option_to_list o)) + 1) [
+  | None ↦ omega arith
+  | Some p ↦ omega (arith, tokens_last v.closed (longer t p), tokens_last v.closed p, length-append p.tokens (t ∷ []))
+]
+
+abbrev empty_part : PartKind → Part
+empty_part kind = record { kind = kind; tokens = [] }
+
+token_opened : (kind : PartKind) (v : PartsSoFar) → token_count (opened kind v) ≤ token_count v
+token_opened kind v = elim v.current as (λ o. length (all_tokens (v.closed ++ (empty_part kind) ∷ [])) ≤ length (all_tokens (v.closed ++ option_to_list o))) [
+  | None ↦ omega (arith, tokens_last v.closed (empty_part kind), ap (λ (ps : List Part). length (all_tokens ps)) (append-nil v.closed))
+  | Some p ↦ omega (arith, tokens_last v.closed (empty_part kind), tokens_last v.closed p)
+]
+
+part_opened : (kind : PartKind) (v : PartsSoFar) → part_count (opened kind v) ≤ part_count v + 1
+part_opened kind v = elim v.current as (λ o. length (v.closed ++ (empty_part kind) ∷ []) ≤ length (v.closed ++ option_to_list o) + 1) [
+  | None ↦ omega (arith, length-append v.closed ((empty_part kind) ∷ []), length-append v.closed [])
+  | Some p ↦ omega (arith, length-append v.closed ((empty_part kind) ∷ []), length-append v.closed (p ∷ []))
+]
+
+-- THE STEPS OF THE STATE
+
+pub give-weight : (t : Token) (s : State) → weight (give t s) ≤ weight s + 1
+give-weight t s = omega (arith, token_pushed t s.contents.parts, part_count_pushed t s.contents.parts)
+
+open-weight : (kind : PartKind) (s : State) → weight (record s { contents = with_open kind s.contents }) ≤ weight s + 1
+open-weight kind s = omega (arith, token_opened kind s.contents.parts, part_opened kind s.contents.parts)
+
+begin_part-weight : (kind : PartKind) (s : State) → weight (begin_part kind s) ≤ weight s + 3
+begin_part-weight kind s =
+    let o : State = record s { contents = with_open kind s.contents } in
+    let h = give (Head s.sections) o in
+    omega (arith, open-weight kind s, give-weight (Head s.sections) o, give-weight (Mark s.here) h)
+
+end_part-weight : (s : State) → weight (end_part s) ≤ weight s
+end_part-weight s = omega (arith, token_count_closed s.contents.parts, part_count_closed s.contents.parts)
+
+end_macro_in-weight : (c : Context) (s : State) → weight (end_macro_in c s) ≤ weight s
+end_macro_in-weight Limbo s = omega arith
+end_macro_in-weight TeX s = omega arith
+end_macro_in-weight (Definition begun) s = omega arith
+end_macro_in-weight Macro s = end_part-weight s
+end_macro_in-weight CText s = omega arith
+
+pub leave_in-weight : (c : Context) (s : State) → weight (leave_in c s) ≤ weight s + 1
+leave_in-weight Limbo s = omega arith
+leave_in-weight TeX s = omega arith
+leave_in-weight (Definition begun) s = omega arith
+leave_in-weight Macro s = omega (arith, end_part-weight s)
+leave_in-weight CText s = omega (arith, give-weight (Tail s.sections) s, end_part-weight (give (Tail s.sections) s))
+
+leave-sections : (c : Context) (s : State) → (leave_in c s).sections ≡ s.sections
+leave-sections Limbo s = refl
+leave-sections TeX s = refl
+leave-sections (Definition begun) s = refl
+leave-sections Macro s = refl
+leave-sections CText s = refl
+
+begin_section-weight : (starred : Bool) (s : State) → weight (begin_section starred s) ≤ weight s + 2
+begin_section-weight starred s = omega (arith, leave_in-weight s.context s, leave-sections s.context s)
+
+line_end_in-weight : (c : Context) (p : Place) (s : State) → weight (line_end_in c p s) ≤ weight s + 1
+line_end_in-weight Limbo p s = omega arith
+line_end_in-weight TeX p s = omega arith
+line_end_in-weight (Definition begun) p s = omega arith
+line_end_in-weight Macro p s = omega (arith, give-weight Newline s)
+line_end_in-weight CText p s = omega (arith, give-weight (line_end_token p s) s)
+
+pub line_end-weight : (p : Place) (s : State) → weight (line_end p s) ≤ weight s + 1
+line_end-weight p s = line_end_in-weight s.context p s
+
+pub comment_line_end-weight : (p : Place) (s : State) → weight (comment_line_end p s) ≤ weight s + 1
+comment_line_end-weight p s = elim (in_directive s) as (λ v. weight (if v then moved p s else line_end p s) ≤ weight s + 1) [ true ↦ omega arith | false ↦ line_end-weight p s ]
+
+pub blank-weight : (s : State) → weight (blank s) ≤ weight s + 1
+blank-weight s = elim (in_directive s && not (is_blank (directive s).last)) as (λ v. weight (if v then give Blank s else s) ≤ weight s + 1) [ true ↦ give-weight Blank s | false ↦ omega arith ]
+
+code-weight : (e : Effect) (s : State) → weight (code e s) ≤ weight s + 3
+code-weight Nothing s = omega arith
+code-weight Define s = omega (arith, end_macro_in-weight s.context s)
+code-weight Format s = omega (arith, end_macro_in-weight s.context s)
+code-weight Program s = omega (arith, end_macro_in-weight s.context s, begin_part-weight part.Unnamed (end_macro s))
+code-weight InsertDefs s = omega (arith, give-weight Defs s, give-weight (Mark s.here) (give Defs s))
+code-weight Joins s =
+    let d : State = record s { contents = with_dropped s.contents } in
+    omega (arith, token_count_dropped s.contents.parts, part_count_dropped s.contents.parts, give-weight Join d)
+code-weight GiveAt s = omega (arith, give-weight (Punct (codes "@")) s)
+code-weight (Faulty k) s = omega arith
+code-weight Named s = omega arith
+code-weight effect.Letter s = omega arith
+code-weight effect.ControlText s = omega arith
+code-weight effect.Verbatim s = omega arith
+code-weight effect.Constant s = omega arith
+
+letter-weight : (byte : ℕ) (o : Option (List ℕ)) (s : State) → weight (letter byte o s) ≤ weight s
+letter-weight byte None s = omega arith
+letter-weight byte (Some text) s = omega arith
+
+control_text-weight : (how : End) (s : State) → weight (control_text how s) ≤ weight s
+control_text-weight Closed s = omega arith
+control_text-weight Cut s = omega arith
+control_text-weight Nested s = omega arith
+control_text-weight Open s = omega arith
+
+verbatim-weight : (text : List ℕ) (how : End) (s : State) → weight (verbatim text how s) ≤ weight s + 1
+verbatim-weight text Closed s = give-weight (Verbatim text) s
+verbatim-weight text Cut s = omega arith
+verbatim-weight text Nested s = omega arith
+verbatim-weight text Open s = omega arith
+
+constant-weight : (o : Option ℕ) (s : State) → weight (constant o s) ≤ weight s + 1
+constant-weight None s = omega arith
+constant-weight (Some n) s = give-weight (Number (decimal n)) s
+
+define-weight : (bytes : List ℕ) (tight : Bool) (s : State) → weight (define bytes tight s) ≤ weight s + 3
+define-weight bytes true s =
+    let o : State = record s { context = Macro; contents = with_open part.Macro s.contents } in
+    omega (arith, open-weight part.Macro s, give-weight (Word bytes) o)
+define-weight bytes false s =
+    let o : State = record s { context = Macro; contents = with_open part.Macro s.contents } in
+    omega (arith, open-weight part.Macro s, give-weight (Word bytes) o, give-weight Blank (give (Word bytes) o))
+
+pub comment-weight : (how : End) (p : Place) (s : State) → weight (comment how p s) ≤ weight s
+comment-weight Closed p s = omega arith
+comment-weight Cut p s = omega arith
+comment-weight Nested p s = omega arith
+comment-weight Open p s = omega arith
+
+name_fault-weight : (how : End) (p : Place) (s : State) → weight (name_fault how p s) ≤ weight s
+name_fault-weight Closed p s = omega arith
+name_fault-weight Cut p s = omega arith
+name_fault-weight Nested p s = omega arith
+name_fault-weight Open p s = omega arith
+
+use_name-weight : (n : NameRef) (opens : Bool) (p : Place) (s : State) → weight (use_name n opens p s) ≤ weight s + 2
+use_name-weight n true p s = omega (arith, give-weight (Name n) s, give-weight (Mark s.here) (give (Name n) s))
+use_name-weight n false p s = omega (arith, give-weight (Name n) s, give-weight (Mark s.here) (give (Name n) s))
+
+open_name-weight : (n : NameRef) (opens : Bool) (s : State) → weight (open_name n opens s) ≤ weight s + 3
+open_name-weight n true s = omega (arith, end_macro_in-weight s.context s, begin_part-weight (part.Named n) (end_macro s))
+open_name-weight n false s = omega (arith, end_macro_in-weight s.context s)
+
+name_in-weight : (c : Context) (n : NameRef) (opens : Bool) (p : Place) (s : State) → weight (name_in c n opens p s) ≤ weight s + 3
+name_in-weight Limbo n opens p s = omega arith
+name_in-weight TeX n opens p s = open_name-weight n opens s
+name_in-weight (Definition begun) n opens p s = omega arith
+name_in-weight Macro n opens p s = open_name-weight n opens s
+name_in-weight CText n opens p s = omega (arith, use_name-weight n opens p s)
+
+pub occurrence-weight : (is_file : Bool) (text : List ℕ) (how : End) (opens : Bool) (p : Place) (s : State) → weight (occurrence is_file text how opens p s) ≤ weight s + 4
+occurrence-weight is_file text how opens p s =
+    let n : NameRef = record { 0 = length s.contents.occurrences } in
+    let o = occurrence_in is_file text in
+    let with : State = record s { contents = with_occurrence o s.contents } in
+    omega (arith, length-append s.contents.occurrences (o ∷ []), name_fault-weight how p with, name_in-weight s.context n opens p (name_fault how p with))
+
+pub literal-weight : (text : List ℕ) (how : End) (p : Place) (s : State) → weight (literal text how p s) ≤ weight s + 1
+literal-weight text Closed p s = give-weight (Literal text) s
+literal-weight text Cut p s = omega (arith, give-weight (Literal text) s)
+literal-weight text Nested p s = omega arith
+literal-weight text Open p s = omega arith
+
+-- LINE ENDS IN A PIECE, AND UNITS
+
+next_line-weight : (f : Place → State → State) (n : ℕ) → ((p : Place) (s : State) → weight (f p s) ≤ weight s + n) → (s : State) (later : List Place)
+    → weight (next_line f (record { state = s; later = later })).state ≤ weight s + n
+next_line-weight f n adds s [] = omega arith
+next_line-weight f n adds s (p ∷ later) = adds p s
+
+each-weight : (f : Place → State → State) (n : ℕ) → ((p : Place) (s : State) → weight (f p s) ≤ weight s + n) → (bytes : List ℕ) (r : Reading)
+    → weight (each_line_end f bytes r).state ≤ weight r.state + at_line_ends n bytes
+each-weight f n adds [] r = omega arith
+each-weight f n adds (b ∷ t) r = elim (is_line_end b) as (λ v. weight (each_line_end f t (if v then next_line f r else r)).state ≤ weight r.state + (if v then n + at_line_ends n t else at_line_ends n t)) [
+  | true ↦ omega (arith, next_line-weight f n adds r.state r.later, each-weight f n adds t (next_line f r))
+  | false ↦ each-weight f n adds t r
+]
+
+no_line_ends : (t : List ℕ) → at_line_ends 0 t ≡ 0
+no_line_ends [] = refl
+no_line_ends (b ∷ t) = elim (is_line_end b) as (λ v. (if v then 0 + at_line_ends 0 t else at_line_ends 0 t) ≡ 0) [ true ↦ omega (arith, no_line_ends t) | false ↦ no_line_ends t ]
+
+moved-weight : (p : Place) (s : State) → weight (moved p s) ≤ weight s + 0
+moved-weight p s = omega arith
+
+moves : (bytes : List ℕ) (r : Reading) → weight (each_line_end moved bytes r).state ≤ weight r.state
+moves bytes r = omega (arith, each-weight moved 0 moved-weight bytes r, no_line_ends bytes)
+
+pub unit-weight : (r : Reading) (u : List ℕ) → weight (literal_unit r u).state ≤ weight r.state
+unit-weight r u = elim (bytes_eq u (codes "@")) as (λ v. weight (if v then on (fault DoubleAtInString) r else each_line_end moved u r).state ≤ weight r.state) [ true ↦ omega arith | false ↦ moves u r ]
+
+units-weight : (us : List (List ℕ)) (r : Reading) → weight (fold literal_unit r us).state ≤ weight r.state
+units-weight [] r = omega arith
+units-weight (u ∷ us) r = omega (arith, unit-weight r u, units-weight us (literal_unit r u))
+
+-- THE PIECES
+
+enter_in-weight : (c : Context) (k : Kind) (s : State) → weight (enter_in c k s) ≤ weight s
+enter_in-weight Limbo k s = omega arith
+enter_in-weight TeX k s = omega arith
+enter_in-weight (Definition begun) k s = elim (stays_in_head k) as (λ v. weight (if v then s else drop_definition begun s) ≤ weight s) [ true ↦ omega arith | false ↦ omega arith ]
+enter_in-weight Macro k s = omega arith
+enter_in-weight CText k s = omega arith
+
+item-weight : (c : Context) (k : Kind) (bytes : List ℕ) (r : Reading) → 1 ≤ length bytes → Pays c k bytes → weight (item k bytes r).state ≤ weight r.state + 3 * length bytes
+item-weight c Skipped bytes r some pays = omega (arith, moves bytes r)
+item-weight c (Section starred) bytes r some pays = omega (arith, begin_section-weight starred r.state, some)
+item-weight c (Code e) bytes r some pays = omega (arith, code-weight e r.state, some)
+item-weight c (Letter byte text) bytes r some pays = omega (arith, letter-weight byte text r.state)
+item-weight c (ControlText how) bytes r some pays = omega (arith, control_text-weight how r.state)
+item-weight c (VerbatimKind us how) bytes r some pays = omega (arith, verbatim-weight (text_in us) how r.state, some)
+item-weight c (Constant v) bytes r some pays = omega (arith, constant-weight v r.state, some)
+item-weight c (OccurrenceKind is_file us how opens) bytes r some pays =
+    let m = each_line_end moved bytes r in
+    omega (arith, moves bytes r, occurrence-weight is_file (text_in us) how opens r.state.here m.state, pays.0)
+item-weight c Blanks bytes r some pays = omega (arith, blank-weight r.state, some)
+item-weight c LineEnd bytes r some pays = omega (arith, next_line-weight line_end 1 line_end-weight r.state r.later, some)
+item-weight c (Comment how) bytes r some pays =
+    let m = each_line_end comment_line_end bytes (on blank r) in
+    omega (arith, blank-weight r.state, each-weight comment_line_end 1 comment_line_end-weight bytes (on blank r), comment-weight how r.state.here m.state, pays)
+item-weight c (Quoted us how) bytes r some pays =
+    let m = fold literal_unit r us in
+    omega (arith, units-weight us r, literal-weight (text_in us) how r.state.here m.state, some)
+item-weight c (Defined tight) bytes r some pays = omega (arith, define-weight bytes tight r.state, some)
+item-weight c Identifier bytes r some pays = omega (arith, give-weight (Word bytes) r.state, some)
+item-weight c Numeral bytes r some pays = omega (arith, give-weight (Number bytes) r.state, some)
+item-weight c Punctuator bytes r some pays = omega (arith, give-weight (Punct bytes) r.state, some)
+
+-- each byte of a piece adds at most three
+pub piece-weight : (r : Reading) (p : Piece) → 1 ≤ length p.bytes → Pays r.state.context p.kind p.bytes → weight (after r p).state ≤ weight r.state + 3 * length p.bytes
+piece-weight r p some pays = omega (arith, enter_in-weight r.state.context p.kind r.state, item-weight r.state.context p.kind p.bytes (on (enter p.kind) r) some pays)

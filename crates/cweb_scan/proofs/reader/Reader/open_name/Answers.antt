@@ -1,0 +1,15 @@
+use Rattle.std.proofs.Common.{◌≡◌, true, false, [], sym, ap, ◌∙◌, subst}
+use Rattle.cweb_scan.specs.Fronted.{is_head, reads_c, reads_names, reads_literals}
+use Rattle.cweb_scan.specs.State.{State}
+use Rattle.cweb_scan.specs.Resume.{InName}
+use Rattle.cweb_scan.proofs.Opens.{opened, name_opens, takes_at, at_state}
+use Rattle.cweb_scan.proofs.reader.Reader.open_name.Goals as goal
+
+pub returns : goal.returns
+returns c =
+    let s = c.self.inside.scanner in
+    let g = c.self.inside.begun in
+    let head = at_state (λ (u : State). is_head u.context ≡ false) _ _ c.self.view_is c.requires.head in
+    let reads = at_state (λ (u : State). reads_names u.context ≡ true) _ _ c.self.view_is c.requires.reads in
+    takes_at 2 c.args.rest.now _ _ c.self.view_is c.requires.between (opened s g (InName s.here false [])) _
+    (λ i. opened s g (InName (sym c.here.ensures i) false (sym c.clear.ensures.items i))) (name_opens s g c.args.rest.now head reads c.requires.sign)

@@ -1,0 +1,22 @@
+-- The open item as the code keeps it: what is open, its text so far, and the delimiter of a raw literal.
+use Rattle.std.specs.Prelude.{◌≡◌, ℕ, Bool, true, false, List}
+use Rattle.cweb_scan.specs.Resume.{Item, sign_of}
+use Rattle.cweb_scan.specs.Resume as item
+use Rattle.cweb_scan.specs.declared.open.Open.{Open}
+use Rattle.cweb_scan.specs.declared.open.Open.TheVariants.{Between, Comment, Name, Literal, AfterBackslash, Raw}
+use Rattle.cweb_scan.specs.Quotes.{quote_byte}
+
+abbrev pub item_of : Open → List ℕ → List ℕ → Item
+item_of Between delimiter text = item.Between
+item_of (Comment begun) delimiter text = item.InComment begun
+item_of (Name begun is_file) delimiter text = item.InName begun is_file text
+item_of (Literal begun quote) delimiter text = item.InLiteral begun (quote_byte quote) text
+item_of (AfterBackslash begun quote) delimiter text = item.AfterBackslash begun (quote_byte quote) text
+item_of (Raw begun) delimiter text = item.InRaw begun delimiter text
+
+abbrev pub is_raw : Open → Bool
+is_raw kind = elim kind [ Between ↦ false | Comment begun ↦ false | Name begun is_file ↦ false | Literal begun quote ↦ false | AfterBackslash begun quote ↦ false | Raw begun ↦ true ]
+
+-- in a raw literal the closing sign is that of the delimiter
+pub record IsSigned (kind : Open) (delimiter sign : List ℕ) : Type 0 where
+  pub signed : is_raw kind ≡ true → sign ≡ sign_of delimiter

@@ -1,0 +1,56 @@
+// The reader: the scanner with the item that is open.
+ghost use Rattle.std.specs.Prelude.{◌≡◌, ◌<◌, ◌≤◌, ◌+◌, ◌*◌, ◌∷◌, List, IfOk, OnOk, length};
+
+use crate::open::Open;
+use crate::scanner::Scanner;
+use cweb_files::{FileId, Place};
+use std::alloc::{AllocError, Global};
+use std::marker::Model;
+
+/// What was read of the lines so far: the state, and the item that goes on in the next line with its text so far.
+#[derive(Drop)]
+pub struct Reader {
+    pub(crate) alloc: Global,
+    pub(crate) scanner: Scanner,
+    pub(crate) item: Open,
+    pub(crate) text: Vec<u8>,
+    pub(crate) delimiter: Vec<u8>,
+    pub(crate) sign: Vec<u8>,
+    pub(crate) begun: bool,
+}
+
+impl Model for Reader {
+    ghost use Rattle.cweb_scan.specs.Held.{Held};
+    ghost use Rattle.cweb_scan.specs.Opened.{item_of, IsSigned};
+
+    ghost Value = { Held };
+
+    ghost view = { λ r. record { state = r.scanner; item = item_of r.item r.delimiter.items r.text.items; begun = r.begun } };
+
+    ghost invariant = { λ r. IsSigned r.item r.delimiter.items r.sign.items };
+}
+
+impl Reader {
+    ghost use Rattle.cweb_scan.specs.Held.{unread};
+
+    /// Before the first line.
+    pub fn new(alloc: Global) -> Reader
+        ensures { result ≡ unread }
+    {
+        Reader {
+            alloc,
+            scanner: Scanner::new(
+                alloc,
+                Place {
+                    file: FileId(0),
+                    line: 0,
+                },
+            ),
+            item: Open::Between,
+            text: Vec::new(alloc),
+            delimiter: Vec::new(alloc),
+            sign: Vec::new(alloc),
+            begun: false,
+        }
+    }
+}
