@@ -31,3 +31,4 @@ pub mod Weights
 pub mod Turns
 pub mod Ends
 pub mod Opens
+pub mod Units

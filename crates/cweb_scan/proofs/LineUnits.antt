@@ -14,7 +14,7 @@ use Rattle.cweb_scan.proofs.OpenItems.{none-line}
 abbrev reading : State → List Place → Reading
 reading s later = record { state = s; later = later }
 
-one-unit : (s : State) (later : List Place) (u : List ℕ) → IsLine u → literal_unit (reading s later) u ≡ reading (unit_state s u) later
+pub one-unit : (s : State) (later : List Place) (u : List ℕ) → IsLine u → literal_unit (reading s later) u ≡ reading (unit_state s u) later
 one-unit s later u h =
     ap (λ (r : Reading). if bytes_eq u (codes "@") then on (fault DoubleAtInString) (reading s later) else r) (none-line moved u (reading s later) h)
     ∙ (elim (bytes_eq u (codes "@")) as (λ v. (if v then on (fault DoubleAtInString) (reading s later) else reading s later) ≡ reading (if v then fault DoubleAtInString s else s) later) [ true ↦ refl | false ↦ refl ])

@@ -31,11 +31,11 @@ use Rattle.cweb_rules.proofs.LineItems.{sign_after-line}
 -- LINE ENDS
 
 -- no line end among the bytes of a line
-each-line : (f : Place → State → State) (t u : List ℕ) (m : Reading) → IsLine t → each_line_end f (t ++ u) m ≡ each_line_end f u m
+pub each-line : (f : Place → State → State) (t u : List ℕ) (m : Reading) → IsLine t → each_line_end f (t ++ u) m ≡ each_line_end f u m
 each-line f [] u m h = refl
 each-line f (b ∷ t) u m h = ap (λ v. each_line_end f (t ++ u) (if v then next_line f m else m)) (ne_eqb b 10 h.0) ∙ each-line f t u m h.1
 
-append-nil' : (t : List ℕ) → t ++ [] ≡ t
+pub append-nil' : (t : List ℕ) → t ++ [] ≡ t
 append-nil' [] = refl
 append-nil' (b ∷ t) = ap (λ u. b ∷ u) (append-nil' t)
 
@@ -60,7 +60,7 @@ body_at look b t (Goes n) h f g =
     let e : n ≡ suc (n - 1) = omega (arith, h.0) in
     ap (λ w. take n (b ∷ t) ++ w) (f (n - 1) h.1 g) ∙ ap (λ w. take n (b ∷ t) ++ w) (sym (ap (λ m. drop m (b ∷ t)) e)) ∙ take-append-drop n (b ∷ t)
 
-whole-end : (how : End) → IsEnd how → is_open how ≡ false
+pub whole-end : (how : End) → IsEnd how → is_open how ≡ false
 whole-end Open h = absurd h
 whole-end Closed h = refl
 whole-end Cut h = refl
@@ -80,7 +80,7 @@ open_body_in look zero (b ∷ t) w h = body_at look b t (look (b ∷ t)) (whole-
 pub open_body : (look : List ℕ → Look) (t : List ℕ) → IsWhole look 0 t → is_open (reach look Open t).how ≡ true → body (reach look Open t) ≡ t
 open_body look t w h = open_body_in look 0 t w h
 
-abbrev after_units : List (List ℕ) → Reach → Reach
+abbrev pub after_units : List (List ℕ) → Reach → Reach
 after_units us m = record { units = us ++ m.units; close = m.close; how = m.how }
 
 join-open : (us : List (List ℕ)) (n : ℕ) (how : End) (m : Reach) → is_open how ≡ true → join (record { units = us; close = n; how = how }) m ≡ after_units us m
@@ -92,10 +92,10 @@ join-open us n Nested m h = cc
 pub reach-open : (look : List ℕ → Look) (e : End) (t more : List ℕ) → IsLocal look more → IsWhole look 0 t → is_open (reach look Open t).how ≡ true → reach look e (t ++ more) ≡ after_units (reach look Open t).units (reach look e more)
 reach-open look e t more local w h = let r = reach look Open t in reach-append look e t more local w ∙ join-open r.units r.close r.how (reach look e more) h
 
-size-open : (us : List (List ℕ)) (t : List ℕ) (m : Reach) → flat_map (λ u. u) us ≡ t → length (body (after_units us m)) ≡ length t + length (body m)
+pub size-open : (us : List (List ℕ)) (t : List ℕ) (m : Reach) → flat_map (λ u. u) us ≡ t → length (body (after_units us m)) ≡ length t + length (body m)
 size-open us t m h = ap (λ (x : List ℕ). length x) (flat_map-append (λ u. u) us m.units) ∙ length-append (flat_map (λ u. u) us) (body m) ∙ ap (λ (x : List ℕ). length x + length (body m)) h
 
-sizes : (us : List (List ℕ)) (t : List ℕ) (m : Reach) → flat_map (λ u. u) us ≡ t → size_of (after_units us m) ≡ length t + size_of m
+pub sizes : (us : List (List ℕ)) (t : List ℕ) (m : Reach) → flat_map (λ u. u) us ≡ t → size_of (after_units us m) ≡ length t + size_of m
 sizes us t m h = omega (arith, size-open us t m h)
 
 -- COMMENTS
@@ -136,7 +136,7 @@ comment_ends begun t more m e line h =
 
 -- NAMES
 
-text_more : (text : List ℕ) (us vs : List (List ℕ)) → text ++ text_in (us ++ vs) ≡ (text ++ text_in us) ++ text_in vs
+pub text_more : (text : List ℕ) (us vs : List (List ℕ)) → text ++ text_in (us ++ vs) ≡ (text ++ text_in us) ++ text_in vs
 text_more text us vs = ap (λ x. text ++ x) (flat_map-append unit_bytes us vs) ∙ sym (append_assoc text (text_in us) (text_in vs))
 
 abbrev named : Place → Bool → List ℕ → End → ℕ → ℕ → List ℕ → Reading → Reading

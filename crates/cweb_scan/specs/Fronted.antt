@@ -113,3 +113,11 @@ pub record IsPast (t : List ℕ) : Type 0 where
 -- what an `@` in a literal makes of the state, where it isn't doubled
 abbrev pub unit_state : State → List ℕ → State
 unit_state s u = if bytes_eq u (codes "@") then fault DoubleAtInString s else s
+
+-- literals are in parts
+pub literals_in_part : (c : Context) → reads_literals c ≡ true → has_part c ≡ true
+literals_in_part Limbo h = h
+literals_in_part TeX h = h
+literals_in_part (Definition begun) h = h
+literals_in_part Macro h = h
+literals_in_part CText h = h
