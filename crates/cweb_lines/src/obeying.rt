@@ -1,5 +1,6 @@
 // Lines that begin no change: include lines are obeyed, and the others are given out.
 ghost use Rattle.std.specs.Prelude.{◌≡◌, ◌≤◌, ◌<◌, ◌+◌, ◌^◌, ◌++◌, ◌∷◌, [], length, IsTrue, IfOk, IfErr, OnOk, OnErr, None, Some, string_bytes, true};
+ghost use Rattle.cweb_files.specs.Frames.{KeepsTexts};
 ghost use Rattle.cweb_lines.specs.Include.{is_include as includes};
 ghost use Rattle.cweb_lines.specs.Lines.{SourceLine};
 ghost use Rattle.cweb_lines.specs.Merging.{GivesBehind, pending_of, told_by, coming, coming_after, lines_given, IsTaken, TurnKnown};
@@ -61,10 +62,8 @@ fn obey<S: Shelf>(shelf: &mut S, run: &mut Run<S::R>, line: &[u8], at: LineAt) -
     requires deep { run.old.stack.depth ≤ at.depth }
     requires settled { IsSettled run.old.stage }
     requires plain { begun_by (pending_of run.old) at.may_match line.now ≡ None }
-    ensures tells { S.tells shelf.new ≡ S.tells shelf.old }
+    ensures keeps { KeepsTexts S.Shelf shelf.old shelf.new }
     ensures failed { S.failed shelf.new ≡ S.failed shelf.old }
-    ensures texts { IsTrue (S.tells shelf.old) → S.texts shelf.new ≡ S.texts shelf.old }
-    ensures others { IsTrue (S.tells shelf.old) → S.left shelf.new ≡ S.left shelf.old }
     ensures same { OnErr result ((run.new.faults.items ≡ run.old.faults.items) × (names_of run.new.names ≡ names_of run.old.names)) }
     ensures memory { IfErr result (λ stop. stop ≡ Stop.Memory) }
     ensures more { length (names_of run.old.names) ≤ length (names_of run.new.names) }
@@ -100,10 +99,8 @@ pub fn give<S: Shelf>(
     requires deep { run.old.stack.depth ≤ at.depth }
     requires settled { IsSettled run.old.stage }
     requires plain { begun_by (pending_of run.old) at.may_match line.now ≡ None }
-    ensures tells { S.tells shelf.new ≡ S.tells shelf.old }
+    ensures keeps { KeepsTexts S.Shelf shelf.old shelf.new }
     ensures failed { S.failed shelf.new ≡ S.failed shelf.old }
-    ensures texts { IsTrue (S.tells shelf.old) → S.texts shelf.new ≡ S.texts shelf.old }
-    ensures others { IsTrue (S.tells shelf.old) → S.left shelf.new ≡ S.left shelf.old }
     ensures same { OnErr result ((run.new.faults.items ≡ run.old.faults.items) × (names_of run.new.names ≡ names_of run.old.names)) }
     ensures memory { IfErr result (λ stop. stop ≡ Stop.Memory) }
     ensures more { length (names_of run.old.names) ≤ length (names_of run.new.names) }

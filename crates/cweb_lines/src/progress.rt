@@ -1,5 +1,6 @@
 // What a merger does at once: it takes a line, or tells a fault.
 ghost use Rattle.std.specs.Prelude.{◌≡◌, ◌≤◌, ◌<◌, ◌+◌, ◌^◌, ◌++◌, ◌∷◌, [], length, IsTrue, IfOk, IfErr, IfSome, OnSome, Ok, OnOk, OnErr, None};
+ghost use Rattle.cweb_files.specs.Frames.{KeepsTexts};
 ghost use Rattle.cweb_lines.specs.Counts.{count_of};
 ghost use Rattle.cweb_lines.specs.Lines.{IsOneLine};
 ghost use Rattle.cweb_lines.specs.Merging.{NothingLeft, change_lines};
@@ -80,10 +81,8 @@ pub fn take_change<S: Shelf>(
     line: &mut Vec<u8>,
 ) -> Result<Option<LineAt>, Stop>
     requires { S.failed shelf.old + 1 < 2 ^ 64 }
-    ensures tells { S.tells shelf.new ≡ S.tells shelf.old }
+    ensures keeps { KeepsTexts S.Shelf shelf.old shelf.new }
     ensures failed { ReadBlames (S.failed shelf.old) (S.failed shelf.new) result }
-    ensures texts { IsTrue (S.tells shelf.old) → S.texts shelf.new ≡ S.texts shelf.old }
-    ensures others { IsTrue (S.tells shelf.old) → S.left shelf.new ≡ S.left shelf.old }
     ensures taken { IsTrue (S.tells shelf.old) → IfOk result (λ at. TakesLine (change_lines (S.left shelf.old) run.old) at line.new.items (change_lines (S.left shelf.new) run.new)
         (count_of run.old.limits) (count_of run.new.limits)) }
     ensures stops { IsTrue (S.tells shelf.old) → IfErr result (λ stop. StopsFor (FirstStops stop (count_of run.old.limits) (change_lines (S.left shelf.old) run.old)) stop) }
@@ -106,10 +105,8 @@ pub fn take_raw<S: Shelf>(
     line: &mut Vec<u8>,
 ) -> Result<Option<LineAt>, Stop>
     requires { S.failed shelf.old + 1 < 2 ^ 64 }
-    ensures tells { S.tells shelf.new ≡ S.tells shelf.old }
+    ensures keeps { KeepsTexts S.Shelf shelf.old shelf.new }
     ensures failed { ReadBlames (S.failed shelf.old) (S.failed shelf.new) result }
-    ensures texts { IsTrue (S.tells shelf.old) → S.texts shelf.new ≡ S.texts shelf.old }
-    ensures others { IsTrue (S.tells shelf.old) → S.left shelf.new ≡ S.left shelf.old }
     ensures taken { IsTrue (S.tells shelf.old) → IfOk result (λ at. TakesAbove (S.left shelf.old) (S.left shelf.new) (floor_of run.old.stage) run.old.stack run.new.stack at line.new.items
         (count_of run.old.limits) (count_of run.new.limits)) }
     ensures stops { IsTrue (S.tells shelf.old) → IfErr result (λ stop. StopsFor (StopsAbove (S.left shelf.old) (floor_of run.old.stage) run.old.stack stop (count_of run.old.limits)) stop) }

@@ -1,5 +1,6 @@
 // The texts that are open, the deepest last.
 ghost use Rattle.std.specs.Prelude.{◌≡◌, ◌≤◌, ◌<◌, ◌+◌, ◌-◌, ◌^◌, ℕ, List, ◌∷◌, replicate, length, IsTrue, IfOk, IfErr, IfSome, OnSome, Ok, None, Some, slice_set};
+ghost use Rattle.cweb_files.specs.Frames.{KeepsTexts};
 ghost use Rattle.cweb_lines.specs.Counts.{count_of};
 ghost use Rattle.cweb_lines.specs.Lines.{IsOneLine};
 ghost use Rattle.cweb_lines.specs.declared.limits.TheConstants.{OPEN_FILES};
@@ -105,10 +106,8 @@ fn take_top<S: Shelf>(
     requires shallow { stack.old.depth ≤ OPEN_FILES }
     requires numbers { most line_number stack.old.texts ≤ limits.old.lines }
     requires deep { AreDeep stack.old.texts }
-    ensures tells { S.tells shelf.new ≡ S.tells shelf.old }
+    ensures keeps { KeepsTexts S.Shelf shelf.old shelf.new }
     ensures failed { ReadBlames (S.failed shelf.old) (S.failed shelf.new) result }
-    ensures texts { IsTrue (S.tells shelf.old) → S.texts shelf.new ≡ S.texts shelf.old }
-    ensures others { IsTrue (S.tells shelf.old) → S.left shelf.new ≡ S.left shelf.old }
     ensures taken { IsTrue (S.tells shelf.old) → IfOk result (λ at. TakesTop (S.left shelf.old) (S.left shelf.new) stack.old stack.new at line.new.items (count_of limits.old) (count_of limits.new)) }
     ensures stops { IsTrue (S.tells shelf.old) → IfErr result (λ stop. StopsFor (StopsTop (S.left shelf.old) stack.old stop (count_of limits.old)) stop) }
     ensures below { (low : ℕ) → low < stack.old.depth → StaysBelow low stack.old.texts stack.new.texts }
@@ -151,10 +150,8 @@ pub fn take_above<S: Shelf>(
     requires shallow { stack.old.depth ≤ OPEN_FILES }
     requires numbers { most line_number stack.old.texts ≤ limits.old.lines }
     requires deep { AreDeep stack.old.texts }
-    ensures tells { S.tells shelf.new ≡ S.tells shelf.old }
+    ensures keeps { KeepsTexts S.Shelf shelf.old shelf.new }
     ensures failed { ReadBlames (S.failed shelf.old) (S.failed shelf.new) result }
-    ensures texts { IsTrue (S.tells shelf.old) → S.texts shelf.new ≡ S.texts shelf.old }
-    ensures others { IsTrue (S.tells shelf.old) → S.left shelf.new ≡ S.left shelf.old }
     ensures taken { IsTrue (S.tells shelf.old) → IfOk result (λ at. TakesAbove (S.left shelf.old) (S.left shelf.new) low stack.old stack.new at line.new.items (count_of limits.old) (count_of limits.new)) }
     ensures stops { IsTrue (S.tells shelf.old) → IfErr result (λ stop. StopsFor (StopsAbove (S.left shelf.old) low stack.old stop (count_of limits.old)) stop) }
     ensures below { StaysBelow low stack.old.texts stack.new.texts }

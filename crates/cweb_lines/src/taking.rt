@@ -1,5 +1,6 @@
 // The next line of an open text, without the blanks at its end.
 ghost use Rattle.std.specs.Prelude.{◌≡◌, ◌≤◌, ◌<◌, ◌+◌, ◌^◌, ℕ, List, length, take, IsTrue, IfOk, IfErr, IfSome, OnSome, OnOk, OnErr, IsErrOf, Ok, None};
+ghost use Rattle.cweb_files.specs.Frames.{KeepsTexts};
 ghost use Rattle.cweb_lines.specs.Source.{left_of, pending, IsLongerThan, Blames};
 ghost use Rattle.cweb_lines.specs.Taking.{TakesWhole, TakesTrimmed};
 ghost use Rattle.cweb_lines.specs.Lines.{trimmed, is_blank as blank, IsOneLine};
@@ -105,10 +106,8 @@ fn take_trimmed<S: Shelf>(
     line: &mut Vec<u8>,
 ) -> Result<Option<usize>, LineFault>
     requires count { S.failed shelf.old + 1 < 2 ^ 64 }
-    ensures tells { S.tells shelf.new ≡ S.tells shelf.old }
+    ensures keeps { KeepsTexts S.Shelf shelf.old shelf.new }
     ensures failed { Blames (S.failed shelf.old) (S.failed shelf.new) result }
-    ensures texts { IsTrue (S.tells shelf.old) → S.texts shelf.new ≡ S.texts shelf.old }
-    ensures others { IsTrue (S.tells shelf.old) → S.left shelf.new ≡ S.left shelf.old }
     ensures taken { IsTrue (S.tells shelf.old) → IfOk result (λ size. TakesTrimmed (left_of S.left shelf.old source.old) size line.new.items (left_of S.left shelf.new source.new)) }
     ensures too_long { IsTrue (S.tells shelf.old) → IsErrOf result LineFault.TooLong → IsLongerThan LINE_LENGTH (left_of S.left shelf.old source.old) }
     ensures line { IfOk result (λ size. OnSome size (IsOneLine line.new.items)) }
@@ -138,10 +137,8 @@ fn take_line<S: Shelf>(
 ) -> Result<Option<LineAt>, Stop>
     requires count { S.failed shelf.old + 1 < 2 ^ 64 }
     requires number { text.old.line ≤ limits.old.lines }
-    ensures tells { S.tells shelf.new ≡ S.tells shelf.old }
+    ensures keeps { KeepsTexts S.Shelf shelf.old shelf.new }
     ensures failed { ReadBlames (S.failed shelf.old) (S.failed shelf.new) result }
-    ensures texts { IsTrue (S.tells shelf.old) → S.texts shelf.new ≡ S.texts shelf.old }
-    ensures others { IsTrue (S.tells shelf.old) → S.left shelf.new ≡ S.left shelf.old }
     ensures taken { IsTrue (S.tells shelf.old) → IfOk result (λ at. TakesLine (lines_left (S.left shelf.old) text.old) at line.new.items (lines_left (S.left shelf.new) text.new)
         (count_of limits.old) (count_of limits.new)) }
     ensures stops { IsTrue (S.tells shelf.old) → IfErr result (λ stop. StopsFor (FirstStops stop (count_of limits.old) (lines_left (S.left shelf.old) text.old)) stop) }
@@ -189,10 +186,8 @@ pub fn take_from<S: Shelf>(
 ) -> Result<Option<LineAt>, Stop>
     requires count { S.failed shelf.old + 1 < 2 ^ 64 }
     requires number { number_of line_number slot.old ≤ limits.old.lines }
-    ensures tells { S.tells shelf.new ≡ S.tells shelf.old }
+    ensures keeps { KeepsTexts S.Shelf shelf.old shelf.new }
     ensures failed { ReadBlames (S.failed shelf.old) (S.failed shelf.new) result }
-    ensures texts { IsTrue (S.tells shelf.old) → S.texts shelf.new ≡ S.texts shelf.old }
-    ensures others { IsTrue (S.tells shelf.old) → S.left shelf.new ≡ S.left shelf.old }
     ensures taken { IsTrue (S.tells shelf.old) → IfOk result (λ at. TakesLine (lines_at (S.left shelf.old) slot.old) at line.new.items (lines_at (S.left shelf.new) slot.new)
         (count_of limits.old) (count_of limits.new)) }
     ensures stops { IsTrue (S.tells shelf.old) → IfErr result (λ stop. StopsFor (FirstStops stop (count_of limits.old) (lines_at (S.left shelf.old) slot.old)) stop) }

@@ -1,5 +1,6 @@
 // One step of a merger.
 ghost use Rattle.std.specs.Prelude.{◌≡◌, ◌≤◌, ◌<◌, ◌+◌, ◌^◌, length, IsTrue, IfOk, IfErr, Ok, OnOk, OnErr};
+ghost use Rattle.cweb_files.specs.Frames.{KeepsTexts};
 ghost use Rattle.cweb_lines.specs.Counts.{count_of};
 ghost use Rattle.cweb_lines.specs.Merging.{Gives, Stopped, TellsFront, NothingLeft, TurnLine, TurnGains, TurnCounts, TurnEnds, TurnKnown, coming, lines_given, told_by};
 ghost use Rattle.cweb_lines.specs.Names.{names_of};
@@ -29,10 +30,8 @@ fn take_new<S: Shelf>(
     requires count { S.failed shelf.old + 1 < 2 ^ 64 }
     requires changing { run.old.stage ≡ Stage.Changing change }
     requires below { run.old.stack.depth ≡ change.below }
-    ensures tells { S.tells shelf.new ≡ S.tells shelf.old }
+    ensures keeps { KeepsTexts S.Shelf shelf.old shelf.new }
     ensures failed { ReadBlames (S.failed shelf.old) (S.failed shelf.new) result }
-    ensures texts { IsTrue (S.tells shelf.old) → S.texts shelf.new ≡ S.texts shelf.old }
-    ensures others { IsTrue (S.tells shelf.old) → S.left shelf.new ≡ S.left shelf.old }
     ensures stopped { run.new.stopped ≡ run.old.stopped }
     ensures counts { IfOk result (λ turn. TurnCounts turn run.old.limits.lines run.old.stage run.new.limits.lines run.new.stage) }
     ensures ends { IfOk result (λ turn. TurnEnds turn run.new) }
@@ -85,10 +84,8 @@ fn take_end<S: Shelf>(shelf: &mut S, run: &mut Run<S::R>, line: &mut Vec<u8>) ->
     requires count { S.failed shelf.old + 1 < 2 ^ 64 }
     requires settled { IsSettled run.old.stage }
     requires floor { run.old.stack.depth ≡ floor_of run.old.stage }
-    ensures tells { S.tells shelf.new ≡ S.tells shelf.old }
+    ensures keeps { KeepsTexts S.Shelf shelf.old shelf.new }
     ensures failed { ReadBlames (S.failed shelf.old) (S.failed shelf.new) result }
-    ensures texts { IsTrue (S.tells shelf.old) → S.texts shelf.new ≡ S.texts shelf.old }
-    ensures others { IsTrue (S.tells shelf.old) → S.left shelf.new ≡ S.left shelf.old }
     ensures stopped { run.new.stopped ≡ run.old.stopped }
     ensures counts { IfOk result (λ turn. TurnCounts turn run.old.limits.lines run.old.stage run.new.limits.lines run.new.stage) }
     ensures ends { IfOk result (λ turn. TurnEnds turn run.new) }
@@ -133,10 +130,8 @@ pub fn take_turn<S: Shelf>(
     line: &mut Vec<u8>,
 ) -> Result<Turn, Stop>
     requires count { S.failed shelf.old + 1 < 2 ^ 64 }
-    ensures tells { S.tells shelf.new ≡ S.tells shelf.old }
+    ensures keeps { KeepsTexts S.Shelf shelf.old shelf.new }
     ensures failed { ReadBlames (S.failed shelf.old) (S.failed shelf.new) result }
-    ensures texts { IsTrue (S.tells shelf.old) → S.texts shelf.new ≡ S.texts shelf.old }
-    ensures others { IsTrue (S.tells shelf.old) → S.left shelf.new ≡ S.left shelf.old }
     ensures stopped { run.new.stopped ≡ run.old.stopped }
     ensures counts { IfOk result (λ turn. TurnCounts turn run.old.limits.lines run.old.stage run.new.limits.lines run.new.stage) }
     ensures ends { IfOk result (λ turn. TurnEnds turn run.new) }

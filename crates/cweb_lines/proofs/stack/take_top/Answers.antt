@@ -47,7 +47,7 @@ returns-in-Err-clause-deep g c =
 pub returns-in_default-clause-taken : goal.returns-in_default-clause-taken
 returns-in_default-clause-taken g c = λ tells low above rest.
     let within : c.args.stack.now.depth - 1 < length c.args.stack.now.texts = omega arith in
-    top_closed (g.S.Shelf.left c.args.shelf.now) (g.S.Shelf.left c.take_from.new.shelf) (c.in-Ok.ensures.others tells) c.args.stack.now.texts c.index-stack-top.result c.take_from.new.slot c.args.stack.now.depth
+    top_closed (g.S.Shelf.left c.args.shelf.now) (g.S.Shelf.left c.take_from.new.shelf) (c.in-Ok.ensures.keeps.left tells) c.args.stack.now.texts c.index-stack-top.result c.take_from.new.slot c.args.stack.now.depth
     within (count_of c.args.limits.now) (count_of c.take_from.new.limits) c.take_from.new.line.items low above rest _ (c.close.ensures.texts ∙ set-set c.args.stack.now.texts (c.args.stack.now.depth - 1) c.take_from.new.slot None)
     (rw c.in_default.is at (c.in-Ok.ensures.taken tells))
 
@@ -80,7 +80,7 @@ pub returns-clause-taken : goal.returns-clause-taken
 returns-clause-taken g c = λ tells low above rest.
     let within : c.args.stack.now.depth - 1 < length c.args.stack.now.texts = omega arith in
     let level = rw c.in-Some.is at c.in-Ok.ensures.level in
-    top_taken (g.S.Shelf.left c.args.shelf.now) (g.S.Shelf.left c.take_from.new.shelf) (c.in-Ok.ensures.others tells) c.args.stack.now.texts c.index-stack-top.result c.take_from.new.slot c.args.stack.now.depth
+    top_taken (g.S.Shelf.left c.args.shelf.now) (g.S.Shelf.left c.take_from.new.shelf) (c.in-Ok.ensures.keeps.left tells) c.args.stack.now.texts c.index-stack-top.result c.take_from.new.slot c.args.stack.now.depth
     within (count_of c.args.limits.now) (count_of c.take_from.new.limits) c.take_from.new.line.items low above rest c.in-Some.at level.0 level.1 c.in-Ok.ensures.depth c.in-Ok.ensures.may_match
     (rw c.in-Some.is at (c.in-Ok.ensures.taken tells))
 

@@ -13,10 +13,8 @@ pub returns : goal.returns
 returns g c =
     let same = c.in_ok-size.ensures.none (ap Ok c.in_default.is) in
     record {
-      tells = search rules;
+      keeps = c.in-Ok.ensures.keeps;
       failed = search rules;
-      texts = search rules;
-      others = search rules;
       taken = λ tells. record {
         taken = c.in-Ok.taken;
         raw = c.next_line.new.line.items;

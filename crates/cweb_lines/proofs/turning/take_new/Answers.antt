@@ -23,7 +23,7 @@ pub returns-in_default-clause-gives : goal.returns-in_default-clause-gives
 returns-in_default-clause-gives g c = λ tells.
     let taken = rw c.in_default.is at (c.in-Ok.ensures.taken tells) in
     let counted = rw c.in_default.is at c.in-Ok.ensures.counted in
-    new_ended _ _ _ _ c.args.run.now c.args.change c.requires.changing c.requires.below (c.in-Ok.ensures.texts tells) (c.in-Ok.ensures.others tells)
+    new_ended _ _ _ _ c.args.run.now c.args.change c.requires.changing c.requires.below (c.in-Ok.ensures.keeps.texts tells) (c.in-Ok.ensures.keeps.left tells)
     (text_of_name c.tell.new.self.inputs) c.tell.new.self.stack (length (names_of c.tell.new.self.names)) (told_by c.tell.new.self)
     (ap (λ i. text_of_name i) (c.in_default-tell.ensures.only.inputs ∙ c.in-Ok.ensures.only.inputs)) (c.in_default-tell.ensures.only.stack ∙ c.in-Ok.ensures.stack) (ap (λ n. length (names_of n)) (c.in_default-tell.ensures.only.names ∙ c.in-Ok.ensures.only.names))
     taken.0 (ap count_of c.in_default-tell.ensures.only.limits ∙ (λ i. record { lines = counted.0 i; bytes = counted.1 i }))
@@ -33,7 +33,7 @@ pub returns-then-eq-clause-gives : goal.returns-then-eq-clause-gives
 returns-then-eq-clause-gives g c = λ tells.
     let taken = rw c.in-Some.is at (c.in-Ok.ensures.taken tells) in
     let test = ap code_of (sym c.deref.ensures.value) ∙ sym c.code_of.ensures ∙ c.in-Some-code_of.is ∙ ap Some (is_end c.in-Some-code_of.code (sym c.eq.ensures ∙ c.if-eq.true)) in
-    new_side_ended _ _ _ _ c.args.run.now c.args.change c.requires.changing c.requires.below (c.in-Ok.ensures.texts tells) (c.in-Ok.ensures.others tells)
+    new_side_ended _ _ _ _ c.args.run.now c.args.change c.requires.changing c.requires.below (c.in-Ok.ensures.keeps.texts tells) (c.in-Ok.ensures.keeps.left tells)
     (text_of_name c.take_change.new.run.inputs) c.take_change.new.run.stack (length (names_of c.take_change.new.run.names)) (told_by c.take_change.new.run)
     (ap (λ i. text_of_name i) c.in-Ok.ensures.only.inputs) c.in-Ok.ensures.stack (ap (λ n. length (names_of n)) c.in-Ok.ensures.only.names)
     c.take_change.new.line.items c.in-Some.at.place taken.0 _ taken.1 (ap (λ (v : Vec SourceFault Global). v.items) c.in-Ok.ensures.only.faults) (ap names_of c.in-Ok.ensures.only.names) test
@@ -44,16 +44,16 @@ returns-in-None-clause-gives g c = λ tells.
     let test = ap code_of (sym c.deref.ensures.value) ∙ sym c.code_of.ensures ∙ c.in-None.is in
     IfOk-map c.give.result
     (λ turn gives. gives_took _ (told_by c.args.run.now) _ _ c.take_change.new.line.items c.in-Some.at.place taken.0 _ _ _ (ap (λ (v : Vec SourceFault Global). v.items) c.in-Ok.ensures.only.faults) (ap names_of c.in-Ok.ensures.only.names)
-    (new_first _ _ _ _ c.args.run.now c.args.change c.requires.changing c.requires.below (c.in-Ok.ensures.texts tells) (c.in-Ok.ensures.others tells) c.take_change.new.run c.in-Ok.ensures.only.inputs c.in-Ok.ensures.stack (ap names_of c.in-Ok.ensures.only.names) c.in-Ok.ensures.only.stage
+    (new_first _ _ _ _ c.args.run.now c.args.change c.requires.changing c.requires.below (c.in-Ok.ensures.keeps.texts tells) (c.in-Ok.ensures.keeps.left tells) c.take_change.new.run c.in-Ok.ensures.only.inputs c.in-Ok.ensures.stack (ap names_of c.in-Ok.ensures.only.names) c.in-Ok.ensures.only.stage
     (told_by c.take_change.new.run) c.take_change.new.line.items c.in-Some.at.place taken.0 taken.1 (ap (λ (v : Vec SourceFault Global). v.items) c.in-Ok.ensures.only.faults) (ap names_of c.in-Ok.ensures.only.names) test)
     (gives taken.0.line taken.0.is))
-    (rw c.deref-in-None.ensures.value at (c.give.ensures.gives (subst IsTrue (sym c.in-Ok.ensures.tells) tells)))
+    (rw c.deref-in-None.ensures.value at (c.give.ensures.gives (subst IsTrue (sym c.in-Ok.ensures.keeps.tells) tells)))
 
 pub returns-in_default-tell-2-clause-gives : goal.returns-in_default-tell-2-clause-gives
 returns-in_default-tell-2-clause-gives g c = λ tells.
     let taken = rw c.in-Some.is at (c.in-Ok.ensures.taken tells) in
     let test = ap code_of (sym c.deref.ensures.value) ∙ sym c.code_of.ensures ∙ c.in-Some-code_of.is in
-    new_faulty _ _ _ _ c.args.run.now c.args.change c.requires.changing c.requires.below (c.in-Ok.ensures.texts tells) (c.in-Ok.ensures.others tells) c.tell-in-Some-code_of.new.self (c.in_default-tell-2.ensures.only.inputs ∙ c.in-Ok.ensures.only.inputs)
+    new_faulty _ _ _ _ c.args.run.now c.args.change c.requires.changing c.requires.below (c.in-Ok.ensures.keeps.texts tells) (c.in-Ok.ensures.keeps.left tells) c.tell-in-Some-code_of.new.self (c.in_default-tell-2.ensures.only.inputs ∙ c.in-Ok.ensures.only.inputs)
     (c.in_default-tell-2.ensures.only.stack ∙ c.in-Ok.ensures.stack) (ap names_of (c.in_default-tell-2.ensures.only.names ∙ c.in-Ok.ensures.only.names)) (c.in_default-tell-2.ensures.only.stage ∙ c.in-Ok.ensures.only.stage)
     (told_by c.take_change.new.run) c.take_change.new.line.items c.in-Some.at.place taken.0
     (taken.1 ∙ ap (λ ch. taken.0.line ∷ lines_at (g.S.Shelf.left c.take_change.new.shelf) ch) (sym c.in_default-tell-2.ensures.only.change)) (ap (λ (v : Vec SourceFault Global). v.items) c.in-Ok.ensures.only.faults) (ap names_of c.in-Ok.ensures.only.names)
