@@ -264,8 +264,8 @@ impl<S: Shelf> Merger<S> {
         pass_lines(&mut self.run, piece, room);
     }
 
-    // Memory was refused to a caller that has taken a line.
-    pub(crate) fn halt(&mut self) -> Stop
+    /// Memory was refused to a caller that has taken a line: the merger answers that stop from then on.
+    pub fn halt(&mut self) -> Stop
         ensures stop { result ≡ Stop.Memory }
         ensures kept { stop_in self.new ≡ Some Stop.Memory }
         ensures so_far { so_far self.new ≡ so_far self.old }
