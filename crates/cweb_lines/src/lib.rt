@@ -21,6 +21,7 @@ mod seeking;
 mod source;
 mod stack;
 mod stage;
+mod starting;
 mod stop;
 mod taking;
 mod text;
