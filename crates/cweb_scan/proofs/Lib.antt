@@ -31,4 +31,6 @@ pub mod Weights
 pub mod Turns
 pub mod Ends
 pub mod Opens
-pub mod Units
+pub mod UnitsTaken
+pub mod Walks
+pub mod Rests

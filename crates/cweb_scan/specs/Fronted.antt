@@ -60,11 +60,10 @@ ended_as at_end Cut = Cut
 ended_as at_end Nested = Nested
 ended_as at_end Open = at_end
 
--- the rules of C text whose items end in their line, but for codes and sections
+-- the rules of C text whose items end in their line, but for codes, sections and included names
 abbrev pub ends_in_line : Rule → Bool
 ends_in_line rule.Blanks = true
 ends_in_line rule.LineComment = true
-ends_in_line rule.IncludedName = true
 ends_in_line rule.Number = true
 ends_in_line rule.Identifier = true
 ends_in_line rule.Punctuator = true
@@ -121,3 +120,14 @@ literals_in_part TeX h = h
 literals_in_part (Definition begun) h = h
 literals_in_part Macro h = h
 literals_in_part CText h = h
+
+-- a line comment begins with two bytes
+abbrev pub needs_two : Rule → Bool
+needs_two rule.LineComment = true
+needs_two r = false
+
+-- a name's code, and that of a text that is given as it stands
+abbrev pub is_text : Effect → Bool
+is_text effect.Named = true
+is_text effect.Verbatim = true
+is_text e = false

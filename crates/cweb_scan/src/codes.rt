@@ -1,6 +1,6 @@
 // Control codes: what each does, and the items that they begin and that end in their line.
 ghost use Rattle.std.specs.Prelude.{◌≡◌, ◌≤◌, IfOk, OnOk, length, true, false};
-ghost use Rattle.cweb_scan.specs.Fronted.{effect_in, may_do, begins_item as is_item, ended_as, Gives};
+ghost use Rattle.cweb_scan.specs.Fronted.{effect_in, may_do, begins_item as is_item, is_text, ended_as, Gives};
 
 use crate::scanner::Scanner;
 use cweb_rules::bytes::begins;
@@ -134,6 +134,25 @@ impl Scanner {
             self.set_letter(found.byte, replacement.split_at(found.size).0)?;
         }
         Ok(2 + (found.start + found.size))
+    }
+
+    /// A code, but for those of names and of texts that are given as they stand.
+    pub fn take_item(&mut self, effect: Effect, rest: &[u8]) -> Result<usize, AllocError>
+        requires two { 2 ≤ length rest.now }
+        requires may { may_do self.old.context effect ≡ true }
+        requires room { HasRoom 2 self.old }
+        requires item { is_text effect ≡ false }
+        ensures { IfOk result (λ n. Gives (code_front effect true rest.now) rest.now n self.old self.new) }
+    {
+        match effect {
+            Effect::Letter => self.take_letter(rest),
+            Effect::ControlText => self.take_control_text(rest),
+            Effect::Constant => self.take_constant(rest),
+            _ => {
+                self.obey(effect)?;
+                Ok(2)
+            }
+        }
     }
 
     /// `//`: a comment that lasts to the line's end.

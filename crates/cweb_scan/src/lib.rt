@@ -10,9 +10,12 @@ mod line_ends;
 mod names;
 mod occurrences;
 mod open;
+mod opened;
 mod parts;
 mod reader;
+mod ruled;
 mod scanner;
 mod turn;
+mod units;
 
 pub use cweb_rules::{ScanFault, ScanKind};

@@ -1,0 +1,14 @@
+use Rattle.std.proofs.Common.{◌≡◌, length}
+use Rattle.std.specs.List.{fold}
+use Rattle.cweb_rules.specs.Cut.{reach}
+use Rattle.cweb_rules.specs.Looks.{look_of}
+use Rattle.cweb_rules.specs.declared.end.End.TheVariants.{Open}
+use Rattle.cweb_scan.specs.Fronted.{unit_state}
+use Rattle.cweb_scan.proofs.scanner.Scanner.tell_units.Given as goal
+
+abbrev pub invariant-units : goal.invariant-units
+invariant-units l =
+    fold unit_state l.self (reach (look_of l.item) Open l.rest).units ≡ fold unit_state l.fn.self (reach (look_of l.item) Open l.line).units
+
+abbrev pub decreases-units : goal.decreases-units
+decreases-units l = length l.rest
