@@ -13,3 +13,5 @@ pub mod Plans
 pub mod Frames
 pub mod Bins
 pub mod Memory
+pub mod Search
+pub mod Planning

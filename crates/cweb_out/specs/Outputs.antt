@@ -1,5 +1,5 @@
 -- The outputs of a web, their names, and what keeps them from being written.
-use Rattle.std.specs.Prelude.{ℕ, ◌≡◌, Bool, true, false, not, ◌&&◌, ◌||◌, ◌==◌, nat_lt, List, [], ◌∷◌, ◌++◌, map, filter, find, codes, bytes_eq, length, Option, Some, None, Result, Ok, Err, slice_index_or}
+use Rattle.std.specs.Prelude.{ℕ, ◌≡◌, ◌<◌, Bool, true, false, not, ◌&&◌, ◌||◌, ◌==◌, nat_lt, List, [], ◌∷◌, ◌++◌, map, filter, find, codes, bytes_eq, length, Option, Some, None, Result, Ok, Err, slice_index_or}
 use Rattle.std.specs.List.{list_all, list_any, after_last}
 use Rattle.std.specs.Str.{is_utf8}
 use Rattle.cweb_store.specs.declared.name.NameId.{NameId}
@@ -8,7 +8,7 @@ use Rattle.cweb_store.specs.Parts.{Token, Defs, has_defs_code, is_unnamed}
 use Rattle.cweb_store.specs.Parts as parts
 use Rattle.cweb_store.specs.Faults.{has_part}
 use Rattle.cweb_store.specs.Calls.{Stored}
-use Rattle.cweb_out.specs.Uses.{program, joined}
+use Rattle.cweb_out.specs.Uses.{names, program, joined}
 use Rattle.cweb_out.specs.Ranks.{list_ends, first_endless}
 use Rattle.cweb_out.specs.Cycles.{cycle_from}
 
@@ -19,6 +19,11 @@ file_outputs w = filter (has_part (spec.standings w.occurrences) w.parts) (spec.
 -- the outputs: the main file, which is none of the names, and then a file for each file name that has a part
 abbrev pub outputs : Stored → List (Option NameId)
 outputs w = None ∷ map Some (file_outputs w)
+
+-- an output is the main file or that of one of the names
+abbrev pub IsRoot : Stored → Option NameId → Type 0
+IsRoot w None = Unit {0}
+IsRoot w (Some n) = n.0 < names w
 
 -- the macro lines come first in the main file, unless some C part says where they are to stand
 abbrev pub defs_first : Bool → List Token

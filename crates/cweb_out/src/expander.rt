@@ -8,7 +8,7 @@ ghost use Rattle.cweb_out.specs.Outputs.{IsPlanOf, root_at, root_list};
 ghost use Rattle.cweb_out.specs.Frames.{Advances, AreBelow, Enters, Gives, Stands, left, level};
 
 use crate::frame::Frame;
-use crate::plan::Plan;
+use crate::planned::Plan;
 use cweb_store::{NameRef, Store, Token};
 use std::alloc::{AllocError, Global};
 

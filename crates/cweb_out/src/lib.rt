@@ -4,22 +4,29 @@
 mod bins;
 mod class;
 mod expander;
+mod file_name;
 mod frame;
 mod left;
 mod macros;
 mod mark;
 mod memory;
+mod output_list;
 mod pieces;
-mod plan;
+mod plan_fault;
+mod planned;
+mod planning;
 mod printer;
 mod reserved;
+mod search;
 mod text;
 
 pub use bins::{BinFault, Bins};
 pub use expander::Expander;
 pub use frame::Frame;
 pub use memory::{BinFile, MemoryBins};
-pub use plan::Plan;
+pub use plan_fault::PlanFault;
+pub use planned::Plan;
+pub use planning::plan;
 pub use printer::Printer;
 
 #[cfg(test)]

@@ -17,8 +17,8 @@ pub struct Output {
 /// name is one that a file can have, and each expansion ends.
 #[derive(Drop)]
 pub struct Plan {
-    outputs: Vec<Output>,
-    no_text: bool,
+    pub(crate) outputs: Vec<Output>,
+    pub(crate) no_text: bool,
 }
 
 impl Model for Plan {
