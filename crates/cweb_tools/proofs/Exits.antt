@@ -2,14 +2,13 @@
 use Rattle.std.proofs.Common.{◌≤◌, ◌≡◌, ◌≢◌, ◌⊎◌, ◌+◌, inl, inr, ℕ, List, [], ◌∷◌, ◌++◌, length, refl, sym, ◌∙◌, ap, subst, append-nil, append_assoc, arith}
 use Rattle.std.specs.Prelude.{Option, Some, None, Result, Ok, Err, IsTrue}
 use Rattle.cweb_lines.proofs.Merges.{openings-append}
-use Rattle.cweb_lines.specs.Finding.{names_found, text_found}
-use Rattle.cweb_lines.specs.Include.{World, Found, web_at, change_at}
+use Rattle.cweb_lines.specs.Finding.{names_found}
+use Rattle.cweb_lines.specs.Include.{World, Found}
 use Rattle.cweb_lines.specs.Lines.{Line}
-use Rattle.cweb_lines.specs.Merge.{Event, started}
+use Rattle.cweb_lines.specs.Merge.{Event}
 use Rattle.cweb_lines.specs.Merging.{SoFar, Gives, StopsBehind, TellsFront}
 use Rattle.cweb_lines.specs.Texts.{Count, StartStops, files_named, read_blame}
 use Rattle.cweb_lines.specs.Told.{given_lines, told_faults, openings, taken_lines, IsWithinLimits}
-use Rattle.cweb_lines.specs.Total.{merge}
 use Rattle.cweb_lines.specs.Whole.{Begins, StopsAtStart}
 use Rattle.cweb_lines.specs.Writing.{text_of, StopsWriting, WritingStops, WritesFront, write_blame}
 use Rattle.cweb_lines.specs.declared.fault.SourceFault.{SourceFault}
@@ -19,7 +18,7 @@ use Rattle.cweb_lines.specs.declared.stop.Stop.TheVariants.{Usage, WebNotOpened,
 use Rattle.cweb_tools.specs.Course.{Course, unread, not_there, change_not_there, merging, asked_course, change_name, found_course, fault_status, merged, usage}
 use Rattle.cweb_tools.specs.Gathering.{Writes}
 use Rattle.cweb_tools.specs.Log.{fault_lines, stop_line, start_subject, subject}
-use Rattle.cweb_tools.specs.Run.{about, AreOpened, Blames, CanStop, Comes, Completes, completes, Ends, HasMerged, Logs, Merges, PassesSums, Refuses, Stops, stops}
+use Rattle.cweb_tools.specs.Run.{about, AreOpened, CanStop, Comes, completes, Ends, HasMerged, Logs, Merges, PassesSums, Refuses, stops}
 use Rattle.cweb_tools.specs.Seen.{Seen, SeenStream}
 use Rattle.cweb_tools.specs.Words.{WebNames}
 

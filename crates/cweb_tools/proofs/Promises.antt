@@ -1,5 +1,5 @@
 -- What the ends of a run come to, in the words of its promises.
-use Rattle.std.proofs.Common.{◌≤◌, ◌≡◌, ◌≢◌, ◌⊎◌, inl, inr, ℕ, ◌+◌, List, [], ◌∷◌, ◌++◌, length, refl, sym, ◌∙◌, ap, subst, append-nil, arith}
+use Rattle.std.proofs.Common.{◌≤◌, ◌≡◌, inl, inr, ℕ, ◌+◌, List, [], ◌∷◌, ◌++◌, refl, sym, ◌∙◌, ap, subst, append-nil, arith}
 use Rattle.std.specs.Prelude.{Option, Some, None, IsTrue}
 use Rattle.cweb_lines.specs.Include.{World, Found, web_at, change_at}
 use Rattle.cweb_lines.specs.Lines.{SourceLine}
@@ -12,9 +12,9 @@ use Rattle.cweb_lines.specs.declared.fault.SourceFault.{SourceFault}
 use Rattle.cweb_lines.specs.declared.limits.TheConstants.{LINE_LENGTH}
 use Rattle.cweb_lines.specs.declared.stop.Stop.{Stop}
 use Rattle.cweb_lines.specs.declared.stop.Stop.TheVariants.{Usage, WebNotOpened, ChangeNotOpened, ReadFault, LineTooLong, TooMuchText, Memory, OutNotOpened, WriteFault, LogFault}
-use Rattle.cweb_tools.specs.Course.{Course, unread, not_there, change_not_there, merging, asked_course, fault_status, found_course, merged, StaysWithin}
+use Rattle.cweb_tools.specs.Course.{Course, merging, asked_course, fault_status, found_course, merged, StaysWithin}
 use Rattle.cweb_tools.specs.Log.{fault_lines, stop_line}
-use Rattle.cweb_tools.specs.Run.{about, Blames, CanStop, Completes, completes, Ends, FailsOnce, HasMerged, IsMerge, Logs, Merges, Prints, Promises, RanFreely, Refuses, Stops, stops, TellsFaults}
+use Rattle.cweb_tools.specs.Run.{about, Blames, CanStop, Completes, completes, Ends, FailsOnce, HasMerged, IsMerge, Logs, Merges, Prints, Promises, RanFreely, stops, TellsFaults}
 use Rattle.cweb_tools.specs.Seen.{Seen, SeenStream, Tell}
 use Rattle.cweb_tools.specs.Words.{WebNames}
 

@@ -1,5 +1,5 @@
 -- Command lines of `ctangle` and what they ask for.
-use Rattle.std.proofs.Common.{◌≡◌, true, false, List, ℕ, [], ◌∷◌, Option, None, Some, refl}
+use Rattle.std.proofs.Common.{◌≡◌, true, false, List, ℕ, [], ◌∷◌, None, Some, refl}
 use Rattle.std.specs.Prelude.{codes}
 use Rattle.cweb_tools.specs.Options.{TangleNames, names_by, options_by, words_shown, shown_by_default}
 

@@ -1,7 +1,8 @@
 -- The words of a command line of `ctangle`, and what they ask for.
-use Rattle.std.specs.Prelude.{ℕ, Bool, true, false, not, ◌&&◌, ◌||◌, ◌==◌, nat_le, List, [], ◌∷◌, ◌++◌, codes, Option, None, Some, option_and_then, option_map, filter, if◌then◌else◌}
+use Rattle.std.specs.Prelude.{ℕ, Bool, true, false, not, ◌&&◌, ◌||◌, ◌==◌, nat_le, List, [], ◌∷◌, ◌++◌, codes, Option, None, Some, option_and_then, option_map, filter, string_bytes, if◌then◌else◌}
 use Rattle.std.specs.List.{list_any, after_last, before_last}
 use Rattle.cweb_tools.specs.Words.{WebNames, asked_for, asked_with, can_name_file, extended, is_dot, is_option, is_slash}
+use Rattle.cweb_tools.specs.declared.options.Options.{Options}
 use Rattle.cweb_tools.specs.declared.shown.Shown.{Shown}
 
 abbrev pub is_letter : ℕ → Bool
@@ -46,15 +47,27 @@ pub record TangleNames : Type 0 where
   pub merge : WebNames
   pub main : List ℕ
 
-abbrev pub with_main : List ℕ → Option WebNames → Option TangleNames
-with_main main names = option_map (λ (merge : WebNames). record { merge = merge; main = main }) names
+-- the merge's names, by the words for the web and the change file
+abbrev pub merge_by : List ℕ → Option (List ℕ) → Option WebNames
+merge_by web None = asked_for web None
+merge_by web (Some change) = asked_with web change
 
--- one to three words name the web, the change file and the main file, which is else named after the web
+-- the main file's name: its own word gives it, or else the web's; none where its word can't name a file
+abbrev pub main_by : List ℕ → Option (List ℕ) → Option (List ℕ)
+main_by web None = Some (stem web ++ codes ".c")
+main_by web (Some out) = if can_name_file out then Some (extended out (codes ".c")) else None
+
+-- what the words for the web, the change file and the main file ask for
+abbrev pub named_by : List ℕ → Option (List ℕ) → Option (List ℕ) → Option TangleNames
+named_by web change out =
+    option_and_then (λ (main : List ℕ). option_map (λ (merge : WebNames). record { merge = merge; main = main }) (merge_by web change)) (main_by web out)
+
+-- one to three words name the web, the change file and the main file
 abbrev pub names_by : List (List ℕ) → Option TangleNames
 names_by [] = None
-names_by (web ∷ []) = with_main (stem web ++ codes ".c") (asked_for web None)
-names_by (web ∷ change ∷ []) = with_main (stem web ++ codes ".c") (asked_with web change)
-names_by (web ∷ change ∷ out ∷ []) = if can_name_file out then with_main (extended out (codes ".c")) (asked_with web change) else None
+names_by (web ∷ []) = named_by web None None
+names_by (web ∷ change ∷ []) = named_by web (Some change) None
+names_by (web ∷ change ∷ out ∷ []) = named_by web (Some change) (Some out)
 names_by (web ∷ change ∷ out ∷ more ∷ rest) = None
 
 -- what a command line asks for
@@ -66,3 +79,17 @@ pub record Asked : Type 0 where
 abbrev pub options_by : List (List ℕ) → Option Asked
 options_by words =
     option_and_then (λ (shown : Shown). option_map (λ (names : TangleNames). record { shown = shown; names = names }) (names_by (others words))) (words_shown words shown_by_default)
+
+-- what options that were read hold
+abbrev pub options_of : Options → Asked
+options_of options = record {
+  shown = record { banner = options.banner; progress = options.progress; closing = options.closing; statistics = options.statistics };
+  names = record {
+    merge = record {
+      web = string_bytes options.web;
+      second = option_map (λ name. string_bytes name) options.second;
+      change = option_map (λ name. string_bytes name) options.change;
+    };
+    main = string_bytes options.main;
+  };
+}

@@ -5,6 +5,7 @@
 mod devices;
 mod faults;
 mod gathered;
+mod options;
 mod shown;
 mod stops;
 mod wmerge;
@@ -12,6 +13,7 @@ mod words;
 
 pub use devices::{FolderShelf, StdSink};
 pub use faults::write_faults;
+pub use options::Options;
 pub use shown::Shown;
 pub use stops::write_stop;
 pub use wmerge::run_wmerge;

@@ -16,6 +16,7 @@ pub struct MergeWords {
 }
 
 impl MergeWords {
+    ghost use Rattle.cweb_tools.specs.Options.{merge_by};
     ghost use Rattle.cweb_tools.specs.Words.{names_of};
 
     /// Reads the words, without the program's own name. They are judged before memory is taken.
@@ -28,6 +29,18 @@ impl MergeWords {
             [web] => MergeWords::named(alloc, web, None),
             [web, change] => MergeWords::with_change(alloc, web, change),
             _ => Err(Stop::Usage),
+        }
+    }
+
+    /// The names by the web's word and the change file's, which are judged here.
+    pub(crate) fn by(alloc: Global, web: &str, change: Option<&str>) -> Result<MergeWords, Stop>
+        ensures ok { IfOk result (λ read. merge_by web.now (option_copied change.entry) ≡ Some (names_of read)) }
+        ensures usage { IsErrOf result Stop.Usage ↔ (merge_by web.now (option_copied change.entry) ≡ None) }
+        ensures stops { IfErr result (λ stop. (stop ≡ Stop.Usage) ⊎ (stop ≡ Stop.Memory)) }
+    {
+        match change {
+            Some(change) => MergeWords::with_change(alloc, web, change),
+            None => MergeWords::named(alloc, web, None),
         }
     }
 
@@ -80,7 +93,7 @@ impl MergeWords {
     }
 }
 
-fn can_name_file(word: &str) -> bool
+pub(crate) fn can_name_file(word: &str) -> bool
     ensures { result ≡ can_name_file word.now }
 {
     let bytes = word.as_bytes();
@@ -153,14 +166,18 @@ fn second_try(alloc: Global, word: &str) -> Result<Option<String>, AllocError>
 }
 
 /// The name that a word gives: the word itself where it has an extension, else with this one.
-fn extended(alloc: Global, word: &str, extension: &str) -> Result<String, AllocError>
+pub(crate) fn extended(alloc: Global, word: &str, extension: &str) -> Result<String, AllocError>
     ensures { IfOk result (λ name. string_bytes name ≡ extended word.now extension.now) }
 {
     let appended = if has_extension(word) { "" } else { extension };
     with_extension(alloc, word, appended)
 }
 
-fn with_extension(alloc: Global, word: &str, extension: &str) -> Result<String, AllocError>
+pub(crate) fn with_extension(
+    alloc: Global,
+    word: &str,
+    extension: &str,
+) -> Result<String, AllocError>
     ensures { IfOk result (λ name. string_bytes name ≡ word.now ++ extension.now) }
 {
     let mut name = String::from_str(alloc, word)?;
