@@ -1,9 +1,13 @@
+pub mod Acts
 pub mod Course
 pub mod Devices
 pub mod Gathered
 pub mod Gathering
+pub mod Items
+pub mod Leaves
 pub mod Log
 pub mod Options
 pub mod Run
+pub mod Script
 pub mod Seen
 pub mod Words

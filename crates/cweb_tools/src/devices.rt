@@ -133,7 +133,7 @@ impl<W: Write + Drop> Sink for StdSink<W> {
 }
 
 /// One write, begun anew where a signal broke it off. A stream that takes nothing of a piece that has bytes has failed.
-fn write_once<W: Write>(stream: &mut W, piece: &[u8]) -> Result<usize, SinkFault>
+pub(crate) fn write_once<W: Write>(stream: &mut W, piece: &[u8]) -> Result<usize, SinkFault>
     ensures within { IfOk result (λ n. n ≤ length piece.now) }
     ensures some { 0 < length piece.now → IfOk result (λ n. 0 < n) }
     ensures passes { WriteAppends (W.contents stream.old) (W.contents stream.new) result piece.now }

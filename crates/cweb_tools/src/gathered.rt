@@ -46,7 +46,7 @@ impl Gathered {
 
     /// Adds a part. What was gathered is written where there is no room for the part, and so is a part that is longer than
     /// the array.
-    fn add<L: Sink>(&mut self, log: &mut L, part: &[u8]) -> Result<(), SinkFault>
+    pub(crate) fn add<L: Sink>(&mut self, log: &mut L, part: &[u8]) -> Result<(), SinkFault>
         requires { L.failed log.old + 1 < 2 ^ 64 }
         ensures { GathersMore part.now (seen_stream L.Sink log.old) (seen_stream L.Sink log.new) (pending self.old) (pending self.new) result }
     {

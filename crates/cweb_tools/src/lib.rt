@@ -2,17 +2,25 @@
 //! runs themselves.
 #![tactic(auto)]
 
+mod bins;
 mod devices;
+mod drafts;
 mod faults;
 mod gathered;
+mod items;
+pub mod laws;
 mod options;
 mod shown;
 mod stops;
 mod wmerge;
 mod words;
 
+pub use bins::FolderBins;
 pub use devices::{FolderShelf, StdSink};
 pub use faults::write_faults;
+pub use items::{
+    write_banner, write_closing, write_counts, write_no_text, write_starred, write_writing,
+};
 pub use options::Options;
 pub use shown::Shown;
 pub use stops::write_stop;

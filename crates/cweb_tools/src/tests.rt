@@ -7,7 +7,9 @@ use std::test::Fail;
 mod changes;
 mod command_line;
 mod failing;
+mod folder;
 mod gathering;
+mod items;
 mod options;
 mod streams;
 

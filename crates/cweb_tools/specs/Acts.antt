@@ -1,0 +1,112 @@
+-- What a run of `ctangle` does, act by act, and what it leaves where something stops it.
+use Rattle.std.specs.Prelude.{◌≡◌, ◌⊎◌, ℕ, ◌+◌, List, [], ◌∷◌, ◌++◌, Option, Some, None, Result, Ok, Err}
+use Rattle.cweb_files.specs.Files.{File, put_file}
+use Rattle.cweb_lines.specs.Lines.{SourceLine}
+use Rattle.cweb_lines.specs.Told.{IsWithinLimits}
+use Rattle.cweb_lines.specs.declared.stop.Stop.{Stop}
+use Rattle.cweb_lines.specs.declared.stop.Stop.TheVariants.{ReadFault, LineTooLong, TooMuchText, Memory, OutNotOpened, WriteFault, LogFault}
+use Rattle.cweb_tools.specs.Items.{Item, line}
+use Rattle.cweb_tools.specs.Log.{name_at, stop_line}
+
+-- what the devices of a run hold, and how often each has failed
+pub record Held : Type 0 where
+  pub shelf_failed : ℕ
+  pub bins_failed : ℕ
+  pub log_failed : ℕ
+  pub files : List File
+  pub draft : Option (List ℕ)
+  pub log : List ℕ
+
+pub data Act : Type 0 where
+  -- the words are read
+  judges : Act
+  -- a line is logged
+  says : Item → Act
+  -- the web and its change file are opened
+  opens : Act
+  -- files of these names are read, and these lines are taken from them
+  reads : List (List ℕ) → List SourceLine → Act
+  -- the outputs are planned
+  plans : Act
+  -- room is set aside for the expansions
+  reserves : Act
+  -- a draft of this name is begun, printed with this text, and committed
+  writes : List ℕ → List ℕ → Act
+
+-- what the devices hold after an act
+abbrev pub after_act : Act → Held → Held
+after_act (says item) now = record now { log = now.log ++ line item }
+after_act (writes name text) now = record now { files = put_file now.files (record { name = name; bytes = text }); draft = None }
+after_act _ now = now
+
+abbrev pub after_acts : List Act → Held → Held
+after_acts [] now = now
+after_acts (act ∷ acts) now = after_acts acts (after_act act now)
+
+-- what an act that was done shows
+abbrev pub Keeps : Act → Type 0
+Keeps (reads names lines) = IsWithinLimits lines
+Keeps _ = Unit {0}
+
+-- what stopped a run, and what that is about
+pub data Ending : Type 0 where
+  ending : Stop → List ℕ → Ending
+
+-- a front of a line was logged, and the log failed
+pub record FailsLog (text : List ℕ) (old new : Held) : Type 0 where
+  pub front : List ℕ
+  pub rest : List ℕ
+  pub whole : text ≡ front ++ rest
+  pub is : new ≡ record old { log_failed = old.log_failed + 1; log = old.log ++ front }
+
+-- the bins failed: the files are as they were, and no draft is left
+abbrev pub bins_fail : Held → Held
+bins_fail now = record now { bins_failed = now.bins_failed + 1; draft = None }
+
+-- what a stop leaves at an act: each act has stops of its own
+abbrev pub Breaks : Act → Ending → Held → Held → Type 0
+Breaks judges (ending Memory about) old new = new ≡ old
+Breaks (says item) (ending LogFault about) old new = FailsLog (line item) old new
+Breaks opens (ending Memory about) old new = new ≡ old
+Breaks (reads names lines) (ending (ReadFault file) about) old new = (about ≡ name_at names file.0) × (new ≡ record old { shelf_failed = old.shelf_failed + 1 })
+Breaks (reads names lines) (ending (LineTooLong file) about) old new = (about ≡ name_at names file.0) × (¬ IsWithinLimits lines) × (new ≡ old)
+Breaks (reads names lines) (ending TooMuchText about) old new = (¬ IsWithinLimits lines) × (new ≡ old)
+Breaks (reads names lines) (ending Memory about) old new = new ≡ old
+Breaks plans (ending Memory about) old new = new ≡ old
+Breaks reserves (ending Memory about) old new = new ≡ old
+Breaks (writes name text) (ending Memory about) old new = new ≡ record old { draft = None }
+Breaks (writes name text) (ending OutNotOpened about) old new = (about ≡ name) × (new ≡ bins_fail old)
+Breaks (writes name text) (ending WriteFault about) old new = (about ≡ name) × (new ≡ bins_fail old)
+Breaks _ _ old new = ⊥
+
+abbrev pub StopsAt : Act → Option Ending → Held → Held → Type 0
+StopsAt act None old new = ⊥
+StopsAt act (Some why) old new = Breaks act why old new
+
+abbrev pub Ended : Option Ending → Held → Held → Type 0
+Ended None old new = new ≡ old
+Ended (Some why) old new = ⊥
+
+-- the acts are done in their order, all of them or up to one that something stops
+abbrev pub Runs : List Act → Option Ending → Held → Held → Type 0
+Runs [] why old new = Ended why old new
+Runs (act ∷ acts) why old new = (Keeps act × Runs acts why (after_act act old) new) ⊎ StopsAt act why old new
+
+-- how a call ended that answers a stop
+abbrev pub ended : {A : Type 0} → List ℕ → Result A Stop → Option Ending
+ended about (Ok x) = None
+ended about (Err stop) = Some (ending stop about)
+
+-- a line is logged, or the log fails at it
+abbrev pub LogsLine : List ℕ → Held → Held → Type 0
+LogsLine text old new = (new ≡ record old { log = old.log ++ text }) ⊎ FailsLog text old new
+
+-- the line of what stopped a run comes last; a log that failed is told nothing
+abbrev pub LogsStop : Ending → Held → Held → Type 0
+LogsStop (ending LogFault about) old new = new ≡ old
+LogsStop (ending stop about) old new = LogsLine (stop_line stop about) old new
+
+-- how a run ends: all its acts were done and this is its status, or something stopped it and that is logged last
+pub data TangleEnds (acts : List Act) (due : ℕ) (before after : Held) (status : ℕ) : Type 0 where
+  completes : Runs acts None before after → status ≡ due → TangleEnds acts due before after status
+  stops : (why : Ending) (then : Held) → Runs acts (Some why) before then → LogsStop why then after → status ≡ 1 → TangleEnds acts due before after status

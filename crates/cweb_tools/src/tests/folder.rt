@@ -1,0 +1,134 @@
+// Files of a real folder, which are replaced whole.
+use super::*;
+use cweb_lines::write_all;
+use cweb_out::{BinFault, Bins};
+use std::os::unix::fs::PermissionsExt;
+use std::rt::{Env, Files};
+use std::{env, fs};
+
+/// A new folder, by its path.
+fn new_folder<R: Files + Env + AllocGlobal>(rt: &R) -> Result<String, Fail> {
+    let top = env::temp_dir(rt)?;
+    for number in 0..10_000 {
+        let path = format!(in rt.alloc(); "{}/cweb_tools-{number}", top.as_str())?;
+        if fs::create_dir(rt, path.as_str()).is_ok() {
+            return Ok(path);
+        }
+    }
+    Err(Fail::new("no folder"))
+}
+
+/// Writes a whole file, or gives it up.
+fn put<B: Bins>(bins: &mut B, name: &str, text: &[u8]) -> Result<(), BinFault> {
+    if bins.failures() > 1000 {
+        return Err(BinFault::Memory);
+    }
+    bins.start_file(name)?;
+    if bins.failures() > 1000 {
+        return Err(BinFault::Memory);
+    }
+    if write_all(bins, text).is_err() {
+        bins.abandon_file();
+        return Err(BinFault::Device);
+    }
+    if bins.failures() > 1000 {
+        return Err(BinFault::Memory);
+    }
+    bins.commit_file()
+}
+
+/// Puts a text into a file of a folder, and sees what is left there: the text of the file, and no draft.
+fn check_put<B: Bins>(
+    rt: &(impl Abort + Files + AllocGlobal),
+    bins: &mut B,
+    folder: &str,
+    name: &str,
+    text: &[u8],
+    left: Option<&[u8]>,
+) -> Result<(), Fail> {
+    let path = format!(in rt.alloc(); "{folder}/{name}")?;
+    let draft = format!(in rt.alloc(); "{folder}/{name}\u{7f}")?;
+    let done = put(bins, path.as_str(), text);
+    assert_eq!(rt; done.is_ok(), left == Some(text), "{name}");
+    let held = fs::read(rt, path.as_str()).ok();
+    assert_eq!(rt; held.as_ref().map(|bytes| bytes.as_slice()), left, "{name}");
+    assert!(rt; fs::symlink_metadata(rt, draft.as_str()).is_err(), "{name}");
+    Ok(())
+}
+
+/// A text that is longer than what is gathered at one time.
+fn large_text(alloc: Global) -> Result<Vec<u8>, AllocError> {
+    let mut large = Vec::new(alloc);
+    for _ in 0..200_000 {
+        large.push(b'x')?;
+    }
+    Ok(large)
+}
+
+fn put_texts<B: Bins>(
+    rt: &(impl Abort + Files + AllocGlobal),
+    bins: &mut B,
+    folder: &str,
+) -> Result<(), Fail> {
+    let large = large_text(rt.alloc())?;
+    check_put(rt, bins, folder, "a.c", b"old", Some(b"old"))?;
+    check_put(rt, bins, folder, "a.c", b"newer", Some(b"newer"))?;
+    check_put(rt, bins, folder, "b.c", &large, Some(&large))
+}
+
+/// The file's folder isn't there; a folder stands in the file's place.
+fn put_where_none_can_stand<B: Bins>(
+    rt: &(impl Abort + Files + AllocGlobal),
+    bins: &mut B,
+    folder: &str,
+) -> Result<(), Fail> {
+    let taken = format!(in rt.alloc(); "{folder}/d")?;
+    fs::create_dir(rt, taken.as_str())?;
+    check_put(rt, bins, folder, "gone/c.c", b"c", None)?;
+    check_put(rt, bins, folder, "d", b"d", None)
+}
+
+/// The disk is full, and says so at the end of a small file and within a large one. Then a draft of a killed run is there.
+fn put_on_a_full_disk<B: Bins>(
+    rt: &(impl Abort + Files + AllocGlobal),
+    bins: &mut B,
+    folder: &str,
+) -> Result<(), Fail> {
+    let draft = format!(in rt.alloc(); "{folder}/a.c\u{7f}")?;
+    let large = large_text(rt.alloc())?;
+    rt.symlink("/dev/full", draft.as_str())?;
+    check_put(rt, bins, folder, "a.c", b"lost", Some(b"newer"))?;
+    rt.symlink("/dev/full", draft.as_str())?;
+    check_put(rt, bins, folder, "a.c", &large, Some(b"newer"))?;
+    fs::write(rt, draft.as_str(), "of another run")?;
+    check_put(rt, bins, folder, "a.c", b"c", Some(b"c"))
+}
+
+#[test]
+fn files_of_a_folder_are_replaced_whole(rt: HostRuntime) -> Result<(), Fail> {
+    let folder = new_folder(&rt)?;
+    let mut bins = FolderBins::new(rt.alloc(), &rt);
+    put_texts(&rt, &mut bins, folder.as_str())?;
+    put_where_none_can_stand(&rt, &mut bins, folder.as_str())?;
+    put_on_a_full_disk(&rt, &mut bins, folder.as_str())?;
+    assert_eq!(rt; bins.failures(), 4);
+    fs::remove_dir_all(&rt, folder.as_str())?;
+    Ok(())
+}
+
+// An opening that the system refuses, for whatever cause, is a file that isn't there.
+#[test]
+fn refused_openings(rt: HostRuntime) -> Result<(), Fail> {
+    let folder = new_folder(&rt)?;
+    let path = format!(in rt.alloc(); "{}/closed.w", folder.as_str())?;
+    fs::write(&rt, path.as_str(), "x")?;
+    fs::set_permissions(&rt, path.as_str(), fs::Permissions::from_mode(0))?;
+    let mut shelf = FolderShelf::new(&rt);
+    // the superuser may read it all the same
+    let may_read = fs::open(&rt, path.as_str()).is_ok();
+    assert_eq!(rt; shelf.fetch(path.as_str())?.is_some(), may_read);
+    assert!(rt; shelf.fetch("/dev/null/x")?.is_none());
+    assert_eq!(rt; shelf.failures(), 0);
+    fs::remove_dir_all(&rt, folder.as_str())?;
+    Ok(())
+}
