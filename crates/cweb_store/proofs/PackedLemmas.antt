@@ -150,13 +150,17 @@ IsWithin-grow n m (Head section) le h = tt
 IsWithin-grow n m (Tail section) le h = tt
 IsWithin-grow n m (Mark place) le h = tt
 
-tokens-grow : (texts more : List (List ℕ)) (ps : List Packed) → ArePacked texts ps → map (token_in (texts ++ more)) ps ≡ map (token_in texts) ps
+pub tokens-grow : (texts more : List (List ℕ)) (ps : List Packed) → ArePacked texts ps → map (token_in (texts ++ more)) ps ≡ map (token_in texts) ps
 tokens-grow texts more [] h = refl
 tokens-grow texts more (p ∷ ps) h = λ i. token_in-grow texts more p h.0 i ∷ tokens-grow texts more ps h.1 i
 
 ArePacked-grow : (texts more : List (List ℕ)) (ps : List Packed) (p : Packed) → ArePacked texts ps → IsWithin (length (texts ++ more)) p → ArePacked (texts ++ more) (ps ++ p ∷ [])
 ArePacked-grow texts more [] p h here = (here, tt)
 ArePacked-grow texts more (q ∷ ps) p h here = (IsWithin-grow (length texts) (length (texts ++ more)) q (omega (arith, length-append texts more)) h.0, ArePacked-grow texts more ps p h.1 here)
+
+pub packed-grow : (texts more : List (List ℕ)) (ps : List Packed) → ArePacked texts ps → ArePacked (texts ++ more) ps
+packed-grow texts more [] h = tt
+packed-grow texts more (q ∷ ps) h = (IsWithin-grow (length texts) (length (texts ++ more)) q (omega (arith, length-append texts more)) h.0, packed-grow texts more ps h.1)
 
 -- one more token
 pub packs-tokens : (old new : List (List ℕ)) (ps : List Packed) (t : spec.Token) (p : Packed) → ArePacked old ps → Packs old t p new → map (token_in new) (ps ++ p ∷ []) ≡ map (token_in old) ps ++ t ∷ []

@@ -144,3 +144,6 @@ parts-count ts runs (Some o) = omega (arith, length-append (map (closed_in ts) r
 pub whole-tokens : (ts : List Token) (runs : List Run) → IsWhole ts runs → all_tokens (map (closed_in ts) runs) ≡ ts
 whole-tokens ts runs tied =
     sym (append-nil (all_tokens (map (closed_in ts) runs))) ∙ ap (λ us. all_tokens (map (closed_in ts) runs) ++ us) (sym (drop-length ts)) ∙ closed-whole runs ts 0 (length ts) tied.follow (omega arith)
+
+pub stored-runs : (ts : List Token) (runs : List Run) → IsWhole ts runs → runs ≡ runs_from 0 (map (closed_in ts) runs)
+stored-runs ts runs tied = sym (runs_from-parts runs ts 0 (length ts) tied.follow (omega arith))

@@ -7,7 +7,9 @@ pub mod Faults
 pub mod Calls
 pub mod Seen
 pub mod Runs
+pub mod Texts
 pub mod PackedTexts
+pub mod ClosedTokens
 pub mod Words
 pub mod Packed
 pub mod Trailing
@@ -18,4 +20,5 @@ pub mod Gathered
 pub mod Wanted
 pub mod Answers
 pub mod Replaced
+pub mod Stored
 pub mod Laws

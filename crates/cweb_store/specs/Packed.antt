@@ -1,8 +1,10 @@
 -- Tokens of fixed size, which have their texts by number.
-use Rattle.std.specs.Prelude.{◌≡◌, ℕ, Bool, true, false, ◌<◌, List, [], ◌∷◌, ◌++◌, length, slice_index_or}
+use Rattle.std.specs.Prelude.{◌≡◌, ℕ, Bool, true, false, ◌<◌, ◌≤◌, List, [], ◌∷◌, ◌++◌, length, slice_index_or}
 use Rattle.cweb_store.specs.declared.name.NameId.{NameId}
 use Rattle.cweb_store.specs.Names.{Standing, stands, with_some}
 use Rattle.cweb_store.specs.Parts as spec
+use Rattle.cweb_store.specs.PackedTexts.{text_bytes}
+use Rattle.cweb_store.specs.Texts.{token_bytes}
 use Rattle.cweb_store.specs.declared.packed.Packed.{Packed}
 use Rattle.cweb_store.specs.declared.packed.Packed.TheVariants.{Word, Number, Literal, Verbatim, Punct, Blank, Newline, Join, Defs, Name, Head, Tail, Mark}
 
@@ -57,3 +59,4 @@ pub record Packs (old : List (List ℕ)) (token : spec.Token) (packed : Packed) 
   pub grows : new ≡ old ++ more
   pub within : IsWithin (length new) packed
   pub stands : token_in new packed ≡ token
+  pub few_bytes : length (text_bytes more) ≤ token_bytes token

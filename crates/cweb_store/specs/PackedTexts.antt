@@ -1,5 +1,5 @@
 -- Texts that stand one after another in a list of bytes.
-use Rattle.std.specs.Prelude.{◌≡◌, ℕ, zero, suc, ◌≤◌, List, [], ◌∷◌, ◌++◌, Some, flat_map, slice_get, slice_range}
+use Rattle.std.specs.Prelude.{◌≡◌, ℕ, zero, suc, ◌≤◌, List, [], ◌∷◌, ◌++◌, Some, flat_map, length, slice_get, slice_range}
 
 -- each text ends where the next begins, where the first begins at byte n
 abbrev pub texts_from : List ℕ → ℕ → List ℕ → List (List ℕ)
@@ -20,6 +20,7 @@ pub record Keeps (old : List (List ℕ)) (text : List ℕ) (number : ℕ) (new :
   pub more : List (List ℕ)
   pub grows : new ≡ old ++ more
   pub stands : slice_get new number ≡ Some text
+  pub few_bytes : length (text_bytes more) ≤ length text
 
 -- where text k begins, where the first begins at byte n
 abbrev pub begin_of : ℕ → List ℕ → ℕ → ℕ

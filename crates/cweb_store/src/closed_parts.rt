@@ -1,14 +1,12 @@
 // Parts that are all given.
 
-ghost use Rattle.std.specs.Prelude.{◌≡◌, ◌<◌, [], length, Some, IfOk, slice_get};
-ghost use Rattle.cweb_store.specs.Parts.{all_tokens, has_defs_code};
-ghost use Rattle.cweb_store.specs.Calls.{too_many};
+ghost use Rattle.std.specs.Prelude.{◌≡◌, [], IfOk};
+ghost use Rattle.cweb_store.specs.Parts.{has_defs_code};
 ghost use Rattle.cweb_store.specs.Runs.{runs_from};
 ghost use Rattle.cweb_store.specs.Gathered.{used_in};
 
 use crate::name::{NameId, NameKind};
 use crate::part::Run;
-use crate::token::Token;
 use crate::token_list::TokenList;
 use indexmap::IndexSet;
 use std::alloc::{AllocError, Global};
@@ -35,16 +33,6 @@ impl Model for ClosedParts {
 }
 
 impl ClosedParts {
-    ghost use Rattle.cweb_store.specs.Seen.{seen};
-
-    /// The token with a number.
-    pub fn token(&self, number: usize) -> Token<'_>
-        requires { number < length (all_tokens self.now) }
-        ensures { slice_get (all_tokens self.now) number ≡ Some (seen result) }
-    {
-        self.tokens.token(number)
-    }
-
     /// The parts in order, as runs of token numbers.
     pub fn runs(&self) -> &[Run]
         ensures { result.now ≡ runs_from 0 self.now }
@@ -79,13 +67,5 @@ impl ClosedParts {
             }
         }
         false
-    }
-
-    /// How many tokens there are.
-    pub fn token_count(&self) -> usize
-        ensures count { result ≡ length (all_tokens self.now) }
-        ensures few { result < too_many }
-    {
-        self.tokens.len()
     }
 }

@@ -1,6 +1,6 @@
 // The names so far.
 
-ghost use Rattle.std.specs.Prelude.{false, ◌≡◌, ◌<◌, ◌^◌, [], length, slice_get, bytes_eq, option_map, Some, IfOk, OnOk, OnErr};
+ghost use Rattle.std.specs.Prelude.{false, ◌≡◌, ◌<◌, ◌^◌, [], map, length, slice_get, bytes_eq, option_map, Some, IfOk, OnOk, OnErr};
 ghost use Rattle.std.specs.List.{position_or_len};
 ghost use Rattle.indexmap.specs.IndexMap.{spare, insert_entry};
 ghost use Rattle.cweb_store.specs.Names.{beginning, texts, with_name, with_text};
@@ -118,6 +118,18 @@ impl KnownNames {
             Some((_, first)) => *first,
             None => unreachable!(),
         }
+    }
+
+    /// The numbers of the occurrences that first gave the names in full.
+    pub fn firsts(&self) -> Result<Vec<u32>, AllocError>
+        requires { length self.now < 2 ^ 32 }
+        ensures { IfOk result (λ all. all.items ≡ map (λ n. n.first) self.now) }
+    {
+        let mut all = Vec::with_capacity(self.alloc, self.firsts.len())?;
+        for number in 0..self.firsts.len() as u32 {
+            all.push(self.first(NameId(number)))?;
+        }
+        Ok(all)
     }
 
     /// Whether a name is a proper prefix of another. Two names begin with one that is, itself and the other.

@@ -3,6 +3,7 @@
 
 mod builder;
 mod closed_parts;
+mod closed_tokens;
 mod faults;
 mod found;
 mod known_names;

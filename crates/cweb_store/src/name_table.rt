@@ -1,9 +1,13 @@
 // The occurrences of names.
 
-ghost use Rattle.std.specs.Prelude.{◌≡◌, ◌<◌, ◌+◌, ◌^◌, ◌++◌, ◌∷◌, [], length, slice_get, option_map, Some, IfOk, OnOk, OnErr};
+ghost use Rattle.std.specs.Prelude.{◌≡◌, ◌<◌, ◌+◌, ◌^◌, ◌++◌, ◌∷◌, [], map, length, IfOk, OnOk, OnErr};
 ghost use Rattle.cweb_store.specs.Names.{files_from, names, standings};
 ghost use Rattle.cweb_store.specs.Calls.{occurrence_of, too_many};
+ghost use Rattle.cweb_store.specs.Texts.{occurrence_text};
+ghost use Rattle.cweb_store.specs.ClosedTokens.{with_texts};
+ghost use Rattle.cweb_store.specs.Stored.{given_as};
 
+use crate::closed_tokens::ClosedTokens;
 use crate::found::Found;
 use crate::known_names::KnownNames;
 use crate::name::{How, NameId, NameKind, NameRef};
@@ -20,6 +24,13 @@ pub struct Given {
     pub how: How,
     pub is_file: bool,
     pub found: Found,
+}
+
+/// How an occurrence is given, where its text stands elsewhere.
+#[derive(Clone, Copy)]
+pub struct GivenAs {
+    pub how: How,
+    pub is_file: bool,
 }
 
 /// The occurrences of names, and the names.
@@ -83,14 +94,6 @@ impl NameTable {
         &self.known
     }
 
-    /// The text of an occurrence.
-    pub fn text(&self, name: NameRef) -> &[u8]
-        requires { name.0 < length self.now }
-        ensures { option_map (λ o. o.text) (slice_get self.now name.0) ≡ Some result.now }
-    {
-        self.given[name.0 as usize].text.as_slice()
-    }
-
     /// What each occurrence stands for.
     pub fn standings(&self) -> Result<Vec<Result<NameId, NameKind>>, AllocError>
         ensures standings { IfOk result (λ all. all.items ≡ standings self.now) }
@@ -99,6 +102,22 @@ impl NameTable {
         let mut all = Vec::with_capacity(self.alloc, self.given.len())?;
         for given in &self.given {
             all.push(settled(&self.known, given)?)?;
+        }
+        Ok(all)
+    }
+
+    /// Puts the texts of the occurrences behind those of tokens, and answers how each is given.
+    pub fn close(self, tokens: &mut ClosedTokens) -> Result<Vec<GivenAs>, AllocError>
+        ensures given { IfOk result (λ all. all.items ≡ map given_as self) }
+        ensures texts { OnOk result (tokens.new ≡ with_texts (map occurrence_text self) tokens.old) }
+    {
+        let mut all = Vec::with_capacity(self.alloc, self.given.len())?;
+        for given in &self.given {
+            tokens.add(given.text.as_slice())?;
+            all.push(GivenAs {
+                how: given.how,
+                is_file: given.is_file,
+            })?;
         }
         Ok(all)
     }

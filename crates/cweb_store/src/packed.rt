@@ -5,6 +5,7 @@ ghost use Rattle.cweb_store.specs.Packed.{IsWithin, Packs, token_in};
 ghost use Rattle.cweb_store.specs.Seen.{seen};
 
 use crate::name::NameRef;
+use crate::packed_texts::PackedTexts;
 use crate::token::Token;
 use crate::word_texts::WordTexts;
 use cweb_files::Place;
@@ -51,7 +52,7 @@ pub fn pack(texts: &mut WordTexts, token: Token<'_>) -> Result<Packed, AllocErro
 }
 
 /// The token of a record, which lends its text.
-pub fn lend(texts: &WordTexts, packed: Packed) -> Token<'_>
+pub fn lend(texts: &PackedTexts, packed: Packed) -> Token<'_>
     requires { IsWithin (length texts.now) packed }
     ensures { seen result ≡ token_in texts.now packed }
 {

@@ -1,6 +1,6 @@
 // Texts in one list of bytes.
 
-ghost use Rattle.std.specs.Prelude.{◌≡◌, ◌<◌, ◌++◌, ◌∷◌, [], length, slice_get, Some, IfOk, OnOk, OnErr};
+ghost use Rattle.std.specs.Prelude.{◌≡◌, ◌<◌, ◌+◌, ◌++◌, ◌∷◌, [], length, slice_get, Some, IfOk, OnOk, OnErr};
 ghost use Rattle.cweb_store.specs.PackedTexts.{begin_of, text_bytes};
 
 use crate::reserved::put;
@@ -36,6 +36,12 @@ impl PackedTexts {
         }
     }
 
+    pub fn len(&self) -> usize
+        ensures { result ≡ length self.now }
+    {
+        self.ends.len()
+    }
+
     /// Adds a text, and answers its number. A refused call changes nothing.
     pub fn add(&mut self, text: &[u8]) -> Result<usize, AllocError>
         ensures number { IfOk result (λ number. number ≡ length self.old) }
@@ -56,6 +62,16 @@ impl PackedTexts {
     {
         let begin = begin_of(self.ends.as_slice(), number);
         &self.bytes[begin..self.ends[number]]
+    }
+
+    /// The text with a number, counted from another.
+    pub fn text_behind(&self, first: usize, number: usize) -> &[u8]
+        requires { first + number < length self.now }
+        ensures { slice_get self.now (first + number) ≡ Some result.now }
+    {
+        // the sum is below this, so that it fits
+        let _count = self.len();
+        self.text(first + number)
     }
 
     /// How many bytes the texts have.

@@ -1,8 +1,11 @@
 // What bytes are replaced by in Words that are printed.
 
-ghost use Rattle.std.specs.Prelude.{◌≡◌, ◌≤◌, ◌++◌, ◌∷◌, [], option_map, IfSome, OnOk, OnErr};
-ghost use Rattle.cweb_store.specs.Replacements.{replacement, replacement_of};
+ghost use Rattle.std.specs.Prelude.{◌≡◌, ◌++◌, ◌∷◌, [], map, IfOk, OnOk, OnErr};
+ghost use Rattle.cweb_store.specs.Replacements.{replacement_of};
+ghost use Rattle.cweb_store.specs.Texts.{replacement_text};
+ghost use Rattle.cweb_store.specs.ClosedTokens.{with_texts};
 
+use crate::closed_tokens::ClosedTokens;
 use std::alloc::{AllocError, Global};
 use std::marker::Model;
 
@@ -50,16 +53,16 @@ impl Replacements {
         Ok(())
     }
 
-    /// The text that stands for a byte, if any.
-    pub fn text(&self, byte: u8) -> Option<&[u8]>
-        ensures { option_map (λ text. text.now) result ≡ replacement self.now byte }
+    /// Puts the replacements behind the texts of tokens, and answers their bytes.
+    pub fn close(self, tokens: &mut ClosedTokens) -> Result<Vec<u8>, AllocError>
+        ensures bytes { IfOk result (λ bytes. bytes.items ≡ map (λ r. r.byte) self) }
+        ensures texts { OnOk result (tokens.new ≡ with_texts (map replacement_text self) tokens.old) }
     {
-        let mut text = None;
+        let mut bytes = Vec::with_capacity(self.alloc, self.given.len())?;
         for replaced in &self.given {
-            if replaced.byte == byte {
-                text = Some(replaced.text.as_slice());
-            }
+            tokens.add(replaced.text.as_slice())?;
+            bytes.push(replaced.byte)?;
         }
-        text
+        Ok(bytes)
     }
 }

@@ -1,16 +1,20 @@
 // The store.
 
-ghost use Rattle.std.specs.Prelude.{◌≡◌, ◌<◌, ◌≤◌, ◌↔◌, length, slice_get, option_map, Some, IfOk, IfSome, IsTrue, All};
+ghost use Rattle.std.specs.Prelude.{◌≡◌, ◌<◌, ◌≤◌, ◌↔◌, length, slice_get, option_map, Some, None, IfOk, IfSome, IsTrue, All};
 ghost use Rattle.cweb_store.specs.Names as spec;
 ghost use Rattle.cweb_store.specs.Parts.{all_tokens, has_defs_code, is_macro, is_of, is_unnamed, joined, numbers_where, tokens_at};
 ghost use Rattle.cweb_store.specs.Faults.{faults, has_part};
 ghost use Rattle.cweb_store.specs.Replacements.{replacement};
 ghost use Rattle.cweb_store.specs.Calls.{too_many};
+ghost use Rattle.cweb_store.specs.Texts.{AreInOneList, bytes_given, texts_of};
+ghost use Rattle.cweb_store.specs.Stored.{last_from};
 
 use crate::closed_parts::ClosedParts;
+use crate::closed_tokens::ClosedTokens;
 use crate::faults::name_faults;
 use crate::name::{NameFault, NameId, NameKind, NameRef};
-use crate::name_table::NameTable;
+use crate::name_table::{GivenAs, NameTable};
+use crate::part::Run;
 use crate::parts::{Parts, Wanted};
 use crate::replacements::Replacements;
 use crate::standing::name_at;
@@ -22,9 +26,11 @@ use std::marker::Model;
 /// What a web has given, for good: what each occurrence of a name stands for, the parts of each name, and the faults.
 #[derive(Drop)]
 pub struct Store {
-    table: NameTable,
-    parts: ClosedParts,
-    replacements: Replacements,
+    tokens: ClosedTokens,
+    runs: Vec<Run>,
+    given: Vec<GivenAs>,
+    replaced: Vec<u8>,
+    firsts: Vec<u32>,
     standings: Vec<Result<NameId, NameKind>>,
     files: IndexSet<NameId>,
     faults: Vec<NameFault>,
@@ -36,11 +42,11 @@ impl Model for Store {
 
     ghost Value = { Stored };
 
-    ghost use Rattle.cweb_store.specs.Answers.{AreAnswers};
+    ghost use Rattle.cweb_store.specs.Stored.{stored_in, AreStored};
 
-    ghost view = { λ s. record { occurrences = s.table; parts = s.parts; replacements = s.replacements } };
+    ghost view = { λ s. stored_in s.tokens s.runs.items s.given.items s.replaced.items };
 
-    ghost invariant = { λ s. AreAnswers s.table s.parts s.standings.items s.files.keys s.faults.items s.has_defs_code };
+    ghost invariant = { λ s. AreStored s.tokens s.runs.items s.given.items s.replaced.items s.firsts.items s.standings.items s.files.keys s.faults.items s.has_defs_code };
 }
 
 impl Store {
@@ -60,10 +66,17 @@ impl Store {
         let files = table.files(standings.as_slice())?;
         let faults = name_faults(alloc, &table, &parts, standings.as_slice(), &files)?;
         let has_defs_code = parts.has_defs_code();
+        let firsts = table.names().firsts()?;
+        let ClosedParts { tokens, runs } = parts;
+        let mut tokens = tokens.close();
+        let given = table.close(&mut tokens)?;
+        let replaced = replacements.close(&mut tokens)?;
         let store = Store {
-            table,
-            parts,
-            replacements,
+            tokens,
+            runs,
+            given,
+            replaced,
+            firsts,
             standings,
             files,
             faults,
@@ -80,7 +93,7 @@ impl Store {
         ensures within { All (λ p. p.after ≤ length (all_tokens self.now.parts)) result }
     {
         Parts::new(
-            self.parts.runs(),
+            self.runs.as_slice(),
             self.standings.as_slice(),
             Wanted::Program,
         )
@@ -95,7 +108,7 @@ impl Store {
         ensures within { All (λ p. p.after ≤ length (all_tokens self.now.parts)) result }
     {
         Parts::new(
-            self.parts.runs(),
+            self.runs.as_slice(),
             self.standings.as_slice(),
             Wanted::OfName(name),
         )
@@ -108,7 +121,11 @@ impl Store {
         ensures ordered { All (λ p. p.first ≤ p.after) result }
         ensures within { All (λ p. p.after ≤ length (all_tokens self.now.parts)) result }
     {
-        Parts::new(self.parts.runs(), self.standings.as_slice(), Wanted::Macros)
+        Parts::new(
+            self.runs.as_slice(),
+            self.standings.as_slice(),
+            Wanted::Macros,
+        )
     }
 
     /// The token with a number.
@@ -116,7 +133,7 @@ impl Store {
         requires { number < length (all_tokens self.now.parts) }
         ensures { slice_get (all_tokens self.now.parts) number ≡ Some (seen result) }
     {
-        self.parts.token(number as usize)
+        self.tokens.token(number as usize)
     }
 
     /// The name that an occurrence stands for, if any.
@@ -132,7 +149,7 @@ impl Store {
         ensures count { result ≡ length (spec.names self.now.occurrences) }
         ensures few { result < too_many }
     {
-        self.table.names().len() as u32
+        self.firsts.len() as u32
     }
 
     /// The text of a name.
@@ -140,7 +157,7 @@ impl Store {
         requires { name.0 < length (spec.names self.now.occurrences) }
         ensures { option_map (λ n. n.text) (slice_get (spec.names self.now.occurrences) name.0) ≡ Some result.now }
     {
-        self.table.names().text(name)
+        self.tokens.other(self.firsts[name.0 as usize] as usize)
     }
 
     /// The text that an occurrence was given with: of an abbreviation, the prefix without the dots.
@@ -148,7 +165,7 @@ impl Store {
         requires { name.0 < length self.now.occurrences }
         ensures { option_map (λ o. o.text) (slice_get self.now.occurrences name.0) ≡ Some result.now }
     {
-        self.table.text(name)
+        self.tokens.other(name.0 as usize)
     }
 
     /// The file names, in order of their first occurrence as a file's.
@@ -170,7 +187,10 @@ impl Store {
     pub fn replacement(&self, byte: u8) -> Option<&[u8]>
         ensures { option_map (λ text. text.now) result ≡ replacement self.now.replacements byte }
     {
-        self.replacements.text(byte)
+        let Some(number) = last_of(self.replaced.as_slice(), byte) else {
+            return None;
+        };
+        Some(self.tokens.other(self.given.len() + number))
     }
 
     /// The faults of names, in their order.
@@ -186,6 +206,27 @@ impl Store {
         ensures count { result ≡ length (all_tokens self.now.parts) }
         ensures few { result < too_many }
     {
-        self.parts.token_count() as u32
+        self.tokens.len() as u32
     }
+
+    /// How many bytes the texts have, of tokens, names and replacements. They stand in one list of that many bytes.
+    pub fn text_bytes(&self) -> u64
+        ensures texts { AreInOneList result (texts_of self.now) }
+        ensures few { result ≤ bytes_given self.now }
+    {
+        self.tokens.text_bytes() as u64
+    }
+}
+
+// Where a byte stands last, if anywhere.
+fn last_of(bytes: &[u8], byte: u8) -> Option<usize>
+    ensures { result ≡ last_from byte None 0 bytes.now }
+{
+    let mut last = None;
+    for (i, other) in bytes.iter().enumerate() {
+        if *other == byte {
+            last = Some(i);
+        }
+    }
+    last
 }

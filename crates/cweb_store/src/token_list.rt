@@ -4,8 +4,11 @@ ghost use Rattle.std.specs.Prelude.{◌≡◌, ◌<◌, ◌≤◌, ◌++◌, ◌
 ghost use Rattle.std.specs.List.{list_any};
 ghost use Rattle.cweb_store.specs.Parts.{is_defs};
 ghost use Rattle.cweb_store.specs.Gathered.{used_from};
+ghost use Rattle.cweb_store.specs.Texts.{token_bytes, total};
+ghost use Rattle.cweb_store.specs.ClosedTokens.{tokens_alone};
 ghost use Rattle.cweb_store.specs.Packed.{is_packed_defs, used_by};
 
+use crate::closed_tokens::ClosedTokens;
 use crate::name::{NameId, NameKind};
 use crate::packed::{Packed, lend, pack};
 use crate::part::Part;
@@ -30,11 +33,12 @@ impl Model for TokenList {
 
     ghost Value = { List Token };
 
-    ghost use Rattle.cweb_store.specs.Packed.{token_in, ArePacked};
+    ghost use Rattle.cweb_store.specs.Packed.{token_in};
+    ghost use Rattle.cweb_store.specs.ClosedTokens.{AreTokens};
 
     ghost view = { λ s. map (token_in s.texts) s.records.items };
 
-    ghost invariant = { λ s. ArePacked s.texts s.records.items };
+    ghost invariant = { λ s. AreTokens s.texts s.records.items };
 }
 
 impl TokenList {
@@ -71,11 +75,12 @@ impl TokenList {
         ensures { slice_get self.now number ≡ Some (seen result) }
     {
         let packed = self.records[number];
-        lend(&self.texts, packed)
+        lend(self.texts.texts(), packed)
     }
 
-    /// Keeps the first `count` tokens.
+    /// Keeps the first `count` tokens. The others have no text.
     pub fn truncate(&mut self, count: usize)
+        requires { total token_bytes (take count self.old) ≡ total token_bytes self.old }
         ensures { self.new ≡ take count self.old }
     {
         self.records.truncate(count);
@@ -89,6 +94,20 @@ impl TokenList {
         TokenList {
             texts: texts.finish(),
             records,
+        }
+    }
+
+    /// The same tokens, behind whose texts others may come.
+    pub fn close(self) -> ClosedTokens
+        ensures { result ≡ tokens_alone self }
+    {
+        let TokenList { texts, records } = self;
+        let texts = texts.close();
+        let own = texts.len();
+        ClosedTokens {
+            texts,
+            records,
+            own,
         }
     }
 

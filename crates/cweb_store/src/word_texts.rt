@@ -1,8 +1,8 @@
 // Texts, of which equal words are kept once.
 
-ghost use Rattle.std.specs.Prelude.{◌≡◌, ◌<◌, [], length, slice_get, bytes_eq, Some, IfOk, OnErr};
+ghost use Rattle.std.specs.Prelude.{◌≡◌, ◌<◌, [], bytes_eq, IfOk, OnErr};
 ghost use Rattle.indexmap.specs.IndexMap.{insert_entry, spare};
-ghost use Rattle.cweb_store.specs.PackedTexts.{Keeps, text_bytes};
+ghost use Rattle.cweb_store.specs.PackedTexts.{Keeps};
 
 use crate::packed_texts::PackedTexts;
 use indexmap::IndexMap;
@@ -64,19 +64,23 @@ impl WordTexts {
         Ok(number)
     }
 
-    /// The text with a number.
-    pub fn text(&self, number: usize) -> &[u8]
-        requires { number < length self.now }
-        ensures { slice_get self.now number ≡ Some result.now }
+    /// The texts.
+    pub fn texts(&self) -> &PackedTexts
+        ensures { result.now ≡ self.now }
     {
-        self.texts.text(number)
+        &self.texts
     }
 
-    /// How many bytes the texts have.
-    pub fn text_bytes(&self) -> usize
-        ensures { result ≡ length (text_bytes self.now) }
+    /// The texts, whose words are no longer looked for.
+    pub fn close(self) -> PackedTexts
+        ensures { result ≡ self }
     {
-        self.texts.text_bytes()
+        let WordTexts {
+            alloc: _,
+            texts,
+            words: _,
+        } = self;
+        texts
     }
 
     /// The same texts, whose words are no longer looked for.

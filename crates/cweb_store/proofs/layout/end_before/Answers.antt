@@ -3,7 +3,9 @@ use Rattle.std.specs.Prelude.{if◌then◌else◌}
 use Rattle.cweb_store.specs.Layout.{without_last_after}
 use Rattle.cweb_store.specs.Trailing.{is_dropped}
 use Rattle.cweb_store.specs.Seen.{seen}
+use Rattle.cweb_store.specs.Texts.{token_bytes, total}
 use Rattle.cweb_store.proofs.LayoutLemmas.{trim-next}
+use Rattle.cweb_store.proofs.TextLemmas.{trimmed-total}
 use Rattle.cweb_store.proofs.layout.end_before.Goals as goal
 
 pub loop-end-preserved : goal.loop-end-preserved
@@ -33,3 +35,15 @@ returns-else-is_dropped-clause-kept c =
     let stays : test t ≡ false = sym c.is_dropped.ensures ∙ c.if-is_dropped.false in
     let step = trim-next from test ts k t c.token.ensures (omega (arith, c.loop-end-test.true)) in
     ap (λ n. take n ts) (sym next) ∙ sym (ap (λ b. if b then without_last_after from test (take k ts) else take (suc k) ts) stays) ∙ sym step ∙ ap (λ n. without_last_after from test (take n ts)) next ∙ c.loop-end.invariant.same
+
+pub returns-else-is_dropped-clause-texts : goal.returns-else-is_dropped-clause-texts
+returns-else-is_dropped-clause-texts c =
+    let ts = c.args.tokens.now in
+    let from = c.args.from in
+    sym (trimmed-total from c.args.trailing (take c.loop-end.end ts)) ∙ ap (total token_bytes) c.loop-end.invariant.same ∙ trimmed-total from c.args.trailing ts
+
+pub returns-after-loop-end-clause-texts : goal.returns-after-loop-end-clause-texts
+returns-after-loop-end-clause-texts c =
+    let ts = c.args.tokens.now in
+    let from = c.args.from in
+    sym (trimmed-total from c.args.trailing (take c.loop-end.end ts)) ∙ ap (total token_bytes) c.loop-end.invariant.same ∙ trimmed-total from c.args.trailing ts

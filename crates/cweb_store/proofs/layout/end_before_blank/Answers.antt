@@ -1,6 +1,8 @@
 use Rattle.std.proofs.Common.{◌≡◌, suc, ◌-◌, take, drop, sym, ◌∙◌, ap, arith}
 use Rattle.cweb_store.specs.Layout.{without_blank}
 use Rattle.cweb_store.specs.Seen.{seen}
+use Rattle.cweb_store.specs.Texts.{token_bytes, total}
+use Rattle.cweb_store.proofs.TextLemmas.{blank-total}
 use Rattle.cweb_store.proofs.LayoutLemmas.{blank-dropped, blank-none, drop-all}
 use Rattle.cweb_store.proofs.layout.end_before_blank.Goals as goal
 use Rattle.cweb_store.proofs.layout.end_before_blank.Goals.{else-from-end-via-then-from-end+else-is_blank, else-from-end-via-else-from-end}
@@ -26,3 +28,10 @@ returns-clause-kept c =
           let none = drop-all from ts c.args.end (omega (arith, w.if-from-end.false)) in
           none ∙ ap without_blank (sym none)
     ]
+
+pub returns-then-is_blank-clause-texts : goal.returns-then-is_blank-clause-texts
+returns-then-is_blank-clause-texts c =
+    let ts = c.args.tokens.now in
+    let k = c.args.end - 1 in
+    let next : suc k ≡ c.args.end = omega (arith, c.if-from-end.true) in
+    blank-total ts k (seen c.token.result) c.token.ensures (sym c.is_blank.ensures ∙ c.if-is_blank.true) ∙ ap (λ n. total token_bytes (take n ts)) next

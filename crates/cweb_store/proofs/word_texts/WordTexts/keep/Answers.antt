@@ -1,4 +1,4 @@
-use Rattle.std.proofs.Common.{◌++◌, ◌∷◌, [], refl}
+use Rattle.std.proofs.Common.{◌++◌, ◌∷◌, [], refl, List, ℕ, arith, length-append}
 use Rattle.cweb_store.specs.PackedTexts.{Keeps}
 use Rattle.cweb_store.proofs.PackedLemmas.{words-grow, get-last}
 use Rattle.cweb_store.proofs.word_texts.WordTexts.keep.Goals as goal
@@ -10,5 +10,5 @@ pub returns-clause-ok : goal.returns-clause-ok
 returns-clause-ok c =
     let texts = c.self.inside.texts in
     let text = c.args.text.now in
-    let keeps : Keeps texts text c.in_ok-number.number (texts ++ text ∷ []) = record { more = text ∷ []; grows = refl; stands = get-last texts text c.in_ok-number.number c.in_ok-number.ensures.number } in
+    let keeps : Keeps texts text c.in_ok-number.number (texts ++ text ∷ []) = record { more = text ∷ []; grows = refl; stands = get-last texts text c.in_ok-number.number c.in_ok-number.ensures.number; few_bytes = omega (arith, length-append text (let none : List ℕ = [] in none)) } in
     rw (c.in_ok-number.ensures.added, ← c.self.view_is) keeps

@@ -1,4 +1,4 @@
-use Rattle.std.proofs.Common.{◌≡◌, ◌++◌, ℕ, [], ◌∷◌, sym, ◌∙◌, ap, Some, None, refl, append-nil}
+use Rattle.std.proofs.Common.{◌≡◌, ◌++◌, ℕ, [], ◌∷◌, sym, ◌∙◌, ap, Some, None, refl, append-nil, List, arith, length-append}
 use Rattle.std.specs.Prelude.{Vec, bytes_eq}
 use Rattle.std.specs.Map.{lookup}
 use Rattle.std.specs.declared.alloc.Global.{Global}
@@ -10,7 +10,7 @@ pub returns-in-Some-clause-ok : goal.returns-in-Some-clause-ok
 returns-in-Some-clause-ok c =
     let s = c.self.inside in
     let found : lookup (λ (k : Vec ℕ Global). bytes_eq c.args.word.now k.items) s.words.entries ≡ Some c.in-Some.number = sym c.get.ensures.value ∙ sym c.copied.ensures ∙ c.in-Some.is in
-    let keeps : Keeps s.texts c.args.word.now c.in-Some.number s.texts = record { more = []; grows = sym (append-nil s.texts); stands = words-lookup s.texts c.args.word.now s.words.entries c.in-Some.number c.self.invariant found } in
+    let keeps : Keeps s.texts c.args.word.now c.in-Some.number s.texts = record { more = []; grows = sym (append-nil s.texts); stands = words-lookup s.texts c.args.word.now s.words.entries c.in-Some.number c.self.invariant found; few_bytes = omega arith } in
     rw (← c.self.view_is) keeps
 
 pub invariant_of-self-2 : goal.invariant_of-self-2
@@ -28,5 +28,5 @@ pub returns-clause-ok : goal.returns-clause-ok
 returns-clause-ok c =
     let texts = c.self.inside.texts in
     let word = c.args.word.now in
-    let keeps : Keeps texts word c.in_ok-number.number (texts ++ word ∷ []) = record { more = word ∷ []; grows = refl; stands = get-last texts word c.in_ok-number.number c.in_ok-number.ensures.number } in
+    let keeps : Keeps texts word c.in_ok-number.number (texts ++ word ∷ []) = record { more = word ∷ []; grows = refl; stands = get-last texts word c.in_ok-number.number c.in_ok-number.ensures.number; few_bytes = omega (arith, length-append word (let none : List ℕ = [] in none)) } in
     rw (c.in_ok-number.ensures.added, ← c.self.view_is) keeps

@@ -1,0 +1,23 @@
+use Rattle.std.proofs.Common.{◌≡◌, ◌<◌, ◌≤◌, length, sym, ◌∙◌, ap, arith}
+use Rattle.std.specs.Prelude.{slice_get, option_map}
+use Rattle.cweb_store.specs.Names.{Occurrence}
+use Rattle.cweb_store.specs.Stored.{occurrences_at}
+use Rattle.cweb_store.proofs.StoredLemmas.{occurrences-count, occurrence-text}
+use Rattle.cweb_store.proofs.store.Store.occurrence_text.Goals as goal
+
+pub other-requires : goal.other-requires
+other-requires c =
+    let ts = c.self.inside.tokens.others in
+    let gs = c.self.inside.given.items in
+    let os = occurrences_at ts gs in
+    let count : length os ≡ length c.args.self.now.occurrences = ap (λ v. length v.occurrences) c.self.view_is in
+    let few : length gs ≤ length ts = omega (arith, c.self.invariant.texts) in
+    omega (arith, c.requires, count, occurrences-count ts gs few, few)
+
+pub returns : goal.returns
+returns c =
+    let ts = c.self.inside.tokens.others in
+    let gs = c.self.inside.given.items in
+    let os = occurrences_at ts gs in
+    let count : length os ≡ length c.args.self.now.occurrences = ap (λ v. length v.occurrences) c.self.view_is in
+    ap (λ v. option_map (λ (o : Occurrence). o.text) (slice_get v.occurrences c.args.name.0)) (sym c.self.view_is) ∙ occurrence-text ts gs c.args.name.0 (omega (arith, c.requires, count)) ∙ c.other.ensures

@@ -1,0 +1,38 @@
+-- Tokens to which none comes, and other texts behind theirs.
+use Rattle.std.specs.Prelude.{◌≤◌, ℕ, List, [], ◌∷◌, ◌++◌, map, length, take, drop}
+use Rattle.cweb_store.specs.Parts.{Token}
+use Rattle.cweb_store.specs.declared.packed.Packed.{Packed}
+use Rattle.cweb_store.specs.Packed.{token_in, ArePacked}
+use Rattle.cweb_store.specs.PackedTexts.{text_bytes}
+use Rattle.cweb_store.specs.Texts.{token_bytes, total}
+
+pub record TokensAndTexts : Type 0 where
+  pub tokens : List Token
+  pub others : List (List ℕ)
+
+-- the tokens that records stand for, and the texts behind the first ones
+abbrev pub tokens_and_texts : List (List ℕ) → List Packed → ℕ → TokensAndTexts
+tokens_and_texts texts records own = record { tokens = map (token_in texts) records; others = drop own texts }
+
+-- tokens with no other texts
+abbrev pub tokens_alone : List Token → TokensAndTexts
+tokens_alone tokens = record { tokens = tokens; others = [] }
+
+abbrev pub with_text : List ℕ → TokensAndTexts → TokensAndTexts
+with_text text c = record c { others = c.others ++ text ∷ [] }
+
+-- more texts, one after another
+abbrev pub with_texts : List (List ℕ) → TokensAndTexts → TokensAndTexts
+with_texts [] c = c
+with_texts (t ∷ ts) c = with_texts ts (with_text t c)
+
+-- the records have their texts, which have no more bytes than the tokens that were given
+pub record AreTokens (texts : List (List ℕ)) (records : List Packed) : Type 0 where
+  pub packed : ArePacked texts records
+  pub few_bytes : length (text_bytes texts) ≤ total token_bytes (map (token_in texts) records)
+
+-- the same of the first texts, where others stand behind them
+pub record AreClosed (texts : List (List ℕ)) (records : List Packed) (own : ℕ) : Type 0 where
+  pub packed : ArePacked texts records
+  pub within : own ≤ length texts
+  pub few_bytes : length (text_bytes (take own texts)) ≤ total token_bytes (map (token_in texts) records)

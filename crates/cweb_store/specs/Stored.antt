@@ -1,0 +1,44 @@
+-- What a store keeps, and what it stands for.
+use Rattle.std.specs.Prelude.{◌≡◌, ◌<◌, ℕ, ◌+◌, Bool, List, [], ◌∷◌, Option, Some, None, map, length, drop, nat_eq, if◌then◌else◌}
+use Rattle.cweb_store.specs.declared.name.NameId.{NameId}
+use Rattle.cweb_store.specs.declared.name.NameFault.{NameFault}
+use Rattle.cweb_store.specs.declared.name_table.GivenAs.{GivenAs}
+use Rattle.cweb_store.specs.declared.part.Run.{Run}
+use Rattle.cweb_store.specs.Names.{Occurrence, Standing, names}
+use Rattle.cweb_store.specs.Parts.{Part}
+use Rattle.cweb_store.specs.Replacements.{Replacement, replacement_of}
+use Rattle.cweb_store.specs.Runs.{IsWhole, closed_in}
+use Rattle.cweb_store.specs.ClosedTokens.{TokensAndTexts}
+use Rattle.cweb_store.specs.Calls.{Stored, occurrence_of, too_many, stored}
+use Rattle.cweb_store.specs.Answers.{AreAnswers}
+
+abbrev pub given_as : Occurrence → GivenAs
+given_as o = record { how = o.how; is_file = o.is_file }
+
+-- the occurrences of texts, one after another
+abbrev pub occurrences_at : List (List ℕ) → List GivenAs → List Occurrence
+occurrences_at texts [] = []
+occurrences_at [] (g ∷ gs) = []
+occurrences_at (t ∷ ts) (g ∷ gs) = occurrence_of t g.how g.is_file ∷ occurrences_at ts gs
+
+-- the replacements of bytes by texts, one after another
+abbrev pub replacements_at : List (List ℕ) → List ℕ → List Replacement
+replacements_at texts [] = []
+replacements_at [] (b ∷ bs) = []
+replacements_at (t ∷ ts) (b ∷ bs) = replacement_of b t ∷ replacements_at ts bs
+
+-- where a byte stands last in a list, where the first byte has number i
+abbrev pub last_from : ℕ → Option ℕ → ℕ → List ℕ → Option ℕ
+last_from byte found i [] = found
+last_from byte found i (b ∷ bs) = last_from byte (if nat_eq b byte then Some i else found) (i + 1) bs
+
+-- the texts of occurrences come first behind those of the tokens, then the replacements
+abbrev pub stored_in : TokensAndTexts → List Run → List GivenAs → List ℕ → Stored
+stored_in c runs given replaced = stored (occurrences_at c.others given) (map (closed_in c.tokens) runs) (replacements_at (drop (length given) c.others) replaced)
+
+pub record AreStored (c : TokensAndTexts) (runs : List Run) (given : List GivenAs) (replaced firsts : List ℕ) (standings : List Standing) (files : List NameId) (faults : List NameFault) (has_defs : Bool) : Type 0 where
+  pub whole : IsWhole c.tokens runs
+  pub texts : length c.others ≡ length given + length replaced
+  pub few : length firsts < too_many
+  pub first_places : firsts ≡ map (λ n. n.first) (names (occurrences_at c.others given))
+  pub answers : AreAnswers (occurrences_at c.others given) (map (closed_in c.tokens) runs) standings files faults has_defs

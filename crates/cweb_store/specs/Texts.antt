@@ -1,0 +1,56 @@
+-- The texts that a store answers, and how many bytes they have.
+use Rattle.std.specs.Prelude.{◌≡◌, ◌≤◌, ℕ, ◌+◌, List, [], ◌∷◌, ◌++◌, map, flat_map, length}
+use Rattle.cweb_store.specs.Names.{Occurrence}
+use Rattle.cweb_store.specs.Parts.{Token, Word, Number, Literal, Verbatim, Punct, all_tokens}
+use Rattle.cweb_store.specs.Replacements.{Replacement}
+use Rattle.cweb_store.specs.Calls.{Stored}
+
+-- the text of a token, if it has one
+abbrev pub token_texts : Token → List (List ℕ)
+token_texts (Word b) = b ∷ []
+token_texts (Number b) = b ∷ []
+token_texts (Literal b) = b ∷ []
+token_texts (Verbatim b) = b ∷ []
+token_texts (Punct b) = b ∷ []
+token_texts token = []
+
+-- how many bytes it has
+abbrev pub token_bytes : Token → ℕ
+token_bytes (Word b) = length b
+token_bytes (Number b) = length b
+token_bytes (Literal b) = length b
+token_bytes (Verbatim b) = length b
+token_bytes (Punct b) = length b
+token_bytes token = 0
+
+abbrev pub total : {A : Type 0} → (A → ℕ) → List A → ℕ
+total f [] = 0
+total f (x ∷ xs) = f x + total f xs
+
+abbrev pub occurrence_text : Occurrence → List ℕ
+occurrence_text o = o.text
+
+abbrev pub replacement_text : Replacement → List ℕ
+replacement_text r = r.text
+
+-- the texts of tokens, those of occurrences, and the replacements of bytes
+abbrev pub texts_of : Stored → List (List ℕ)
+texts_of s = flat_map token_texts (all_tokens s.parts) ++ (map occurrence_text s.occurrences ++ map replacement_text s.replacements)
+
+-- the bytes of all texts, where a text counts as often as it was given
+abbrev pub bytes_given : Stored → ℕ
+bytes_given s = total token_bytes (all_tokens s.parts) + (total length (map occurrence_text s.occurrences) + total length (map replacement_text s.replacements))
+
+-- a text is a run of bytes of a list
+abbrev pub StandsIn : List ℕ → List ℕ → Type 0
+StandsIn bytes text = (before : List ℕ) × (after : List ℕ) × (bytes ≡ before ++ (text ++ after))
+
+abbrev pub AllStandIn : List ℕ → List (List ℕ) → Type 0
+AllStandIn bytes [] = Unit {0}
+AllStandIn bytes (t ∷ ts) = StandsIn bytes t × AllStandIn bytes ts
+
+-- the texts are runs of bytes of one list, which has n bytes
+pub record AreInOneList (n : ℕ) (texts : List (List ℕ)) : Type 0 where
+  pub bytes : List ℕ
+  pub count : length bytes ≡ n
+  pub runs : AllStandIn bytes texts
