@@ -42,10 +42,10 @@ reach_in-at_end look within e zero (b ∷ t) = one_look look e (b ∷ t) t (look
 pub reach-at_end : (look : List ℕ → Look) → AllWithin look → (e : End) (t : List ℕ) → reach look e t ≡ at_end e (reach look Open t)
 reach-at_end look within e t = reach_in-at_end look within e 0 t
 
-size-at_end : (look : List ℕ → Look) → AllWithin look → (e : End) (t : List ℕ) (r : Reached) → r ≡ reached (reach look Open t) → r.size + r.close ≡ size_of (reach look e t)
+pub size-at_end : (look : List ℕ → Look) → AllWithin look → (e : End) (t : List ℕ) (r : Reached) → r ≡ reached (reach look Open t) → r.size + r.close ≡ size_of (reach look e t)
 size-at_end look within e t r is = ap (λ (v : Reached). v.size + v.close) is ∙ ap size_of (sym (reach-at_end look within e t))
 
-how-at_end : (look : List ℕ → Look) → AllWithin look → (e : End) (t : List ℕ) (r : Reached) → r ≡ reached (reach look Open t) → ended_as e r.how ≡ (reach look e t).how
+pub how-at_end : (look : List ℕ → Look) → AllWithin look → (e : End) (t : List ℕ) (r : Reached) → r ≡ reached (reach look Open t) → ended_as e r.how ≡ (reach look e t).how
 how-at_end look within e t r is = ap (λ (v : Reached). ended_as e v.how) is ∙ ap (λ (v : Reach). v.how) (sym (reach-at_end look within e t))
 
 pub control_gives : (t : List ℕ) (r : Reached) (s new : State) → r ≡ reached (reach look_in_control Open (drop 2 t)) → new ≡ control_text (ended_as Cut r.how) s

@@ -34,3 +34,4 @@ pub mod Opens
 pub mod UnitsTaken
 pub mod Walks
 pub mod Rests
+pub mod Texts

@@ -44,15 +44,6 @@ may_do c effect.Define = not (is_c c)
 may_do c effect.Program = not (is_c c)
 may_do c e = true
 
--- the code begins an item
-abbrev pub begins_item : Effect → Bool
-begins_item effect.Named = true
-begins_item effect.Letter = true
-begins_item effect.ControlText = true
-begins_item effect.Verbatim = true
-begins_item effect.Constant = true
-begins_item e = false
-
 -- an item that is open at its line's end has ended so
 abbrev pub ended_as : End → End → End
 ended_as at_end Closed = Closed
@@ -126,8 +117,7 @@ abbrev pub needs_two : Rule → Bool
 needs_two rule.LineComment = true
 needs_two r = false
 
--- a name's code, and that of a text that is given as it stands
-abbrev pub is_text : Effect → Bool
-is_text effect.Named = true
-is_text effect.Verbatim = true
-is_text e = false
+-- a name's code
+abbrev pub is_name : Effect → Bool
+is_name effect.Named = true
+is_name e = false

@@ -1,6 +1,6 @@
 // Control codes: what each does, and the items that they begin and that end in their line.
 ghost use Rattle.std.specs.Prelude.{◌≡◌, ◌≤◌, IfOk, OnOk, length, true, false};
-ghost use Rattle.cweb_scan.specs.Fronted.{effect_in, may_do, begins_item as is_item, is_text, ended_as, Gives};
+ghost use Rattle.cweb_scan.specs.Fronted.{effect_in, may_do, is_name, ended_as, Gives};
 
 use crate::scanner::Scanner;
 use cweb_rules::bytes::begins;
@@ -22,16 +22,6 @@ pub fn effect_of(context: Context, letter: u8) -> Effect
         Context::Macro => in_macro(letter),
         Context::CText => in_c(letter),
     }
-}
-
-// Whether a code begins an item.
-fn begins_item(effect: Effect) -> bool
-    ensures { result ≡ is_item effect }
-{
-    matches!(
-        effect,
-        Effect::Named | Effect::Letter | Effect::ControlText | Effect::Verbatim | Effect::Constant
-    )
 }
 
 /// How an item ended that a line end ends so.
@@ -136,18 +126,19 @@ impl Scanner {
         Ok(2 + (found.start + found.size))
     }
 
-    /// A code, but for those of names and of texts that are given as they stand.
+    /// A code, but for those of names.
     pub fn take_item(&mut self, effect: Effect, rest: &[u8]) -> Result<usize, AllocError>
         requires two { 2 ≤ length rest.now }
         requires may { may_do self.old.context effect ≡ true }
         requires room { HasRoom 2 self.old }
-        requires item { is_text effect ≡ false }
+        requires unnamed { is_name effect ≡ false }
         ensures { IfOk result (λ n. Gives (code_front effect true rest.now) rest.now n self.old self.new) }
     {
         match effect {
             Effect::Letter => self.take_letter(rest),
             Effect::ControlText => self.take_control_text(rest),
             Effect::Constant => self.take_constant(rest),
+            Effect::Verbatim => self.take_verbatim(rest),
             _ => {
                 self.obey(effect)?;
                 Ok(2)

@@ -1,13 +1,14 @@
 // Units of the items that last to an end sign.
-ghost use Rattle.std.specs.Prelude.{◌≡◌, ◌≤◌, ◌<◌, ◌+◌, ◌++◌, IfOk, OnOk, length, fold, if◌then◌else◌};
+ghost use Rattle.std.specs.Prelude.{◌≡◌, ◌≤◌, ◌<◌, ◌+◌, ◌++◌, IfOk, OnOk, length, fold, true};
 ghost use Rattle.cweb_rules.specs.Cut as cut;
 ghost use Rattle.cweb_rules.specs.Items as items;
 ghost use Rattle.cweb_rules.specs.Looks.{look_of, reached};
 ghost use Rattle.cweb_rules.specs.declared.end.End.TheVariants as how;
 ghost use Rattle.cweb_scan.specs.Fronted.{unit_state};
 
+use crate::codes::ended;
 use crate::scanner::Scanner;
-use cweb_rules::items::{Item, Reached, reach};
+use cweb_rules::items::{Item, reach};
 use cweb_rules::{End, Look, ScanKind};
 use std::alloc::AllocError;
 
@@ -40,6 +41,11 @@ pub fn push_units(text: &mut Vec<u8>, item: Item<'_>, line: &[u8]) -> Result<(),
 }
 
 impl Scanner {
+    ghost use Rattle.cweb_rules.specs.Fronts.{verbatim_at};
+    ghost use Rattle.cweb_scan.specs.Fronted.{Gives};
+    ghost use Rattle.cweb_scan.specs.Kept.{has_part};
+    ghost use Rattle.cweb_scan.specs.Room.{HasRoom};
+
     /// A unit of a literal: an `@` that isn't doubled is a fault.
     pub fn tell_unit(&mut self, unit: &[u8]) -> Result<(), AllocError>
         ensures { OnOk result (self.new ≡ unit_state self.old unit.now) }
@@ -64,5 +70,20 @@ impl Scanner {
             rest = after;
         }
         Ok(())
+    }
+
+    /// `@=`: a text up to `@>` that is given as it stands.
+    pub fn take_verbatim(&mut self, rest: &[u8]) -> Result<usize, AllocError>
+        requires two { 2 ≤ length rest.now }
+        requires part { has_part self.old.context ≡ true }
+        requires room { HasRoom 1 self.old }
+        ensures { IfOk result (λ n. Gives (verbatim_at rest.now) rest.now n self.old self.new) }
+    {
+        let (_, line) = rest.split_at(2);
+        let reached = reach(Item::ControlText, line);
+        let mut text = Vec::new(self.alloc);
+        push_units(&mut text, Item::ControlText, line)?;
+        self.give_verbatim(&text, ended(End::Cut, reached.how))?;
+        Ok(2 + (reached.size + reached.close))
     }
 }
