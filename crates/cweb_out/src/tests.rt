@@ -1,1 +1,3 @@
 mod bins;
+mod plans;
+mod rows;
