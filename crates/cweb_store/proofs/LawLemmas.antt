@@ -18,7 +18,7 @@ use Rattle.cweb_store.proofs.NameLemmas.{or-false}
 use Rattle.cweb_store.proofs.OccurrenceLemmas.{Grows, names_from-grows, with_text-has}
 
 -- what occurrence k stands for, by the names before it and all names
-standings-at : (i : ℕ) (before all : List Name) (os : List Occurrence) (k : ℕ) (o : Occurrence) → slice_get os k ≡ Some o → slice_get (standings_from i before all os) k ≡ Some (standing_among (names_from i before (take k os)) all o)
+pub standings-at : (i : ℕ) (before all : List Name) (os : List Occurrence) (k : ℕ) (o : Occurrence) → slice_get os k ≡ Some o → slice_get (standings_from i before all os) k ≡ Some (standing_among (names_from i before (take k os)) all o)
 standings-at i before all [] k o h = cc
 standings-at i before all (x ∷ os) zero o h = let same : x ≡ o = cc in ap (λ y. Some (standing_among before all y)) same
 standings-at i before all (x ∷ os) (suc k) o h = standings-at (i + 1) (with_name i before x) all os k o h
@@ -33,7 +33,7 @@ take-before [] later k o h = cc
 take-before (x ∷ os) later zero o h = refl
 take-before (x ∷ os) later (suc k) o h = ap (λ xs. x ∷ xs) (take-before os later k o h)
 
-names_from-append : (i j : ℕ) (ns : List Name) (os later : List Occurrence) → j ≡ i + length os → names_from i ns (os ++ later) ≡ names_from j (names_from i ns os) later
+pub names_from-append : (i j : ℕ) (ns : List Name) (os later : List Occurrence) → j ≡ i + length os → names_from i ns (os ++ later) ≡ names_from j (names_from i ns os) later
 names_from-append i j ns [] later e = ap (λ k. names_from k ns later) (let same : i ≡ j = omega arith in same)
 names_from-append i j ns (o ∷ os) later e = names_from-append (i + 1) j (with_name i ns o) os later (omega arith)
 
@@ -59,7 +59,7 @@ beginning-later j p ns (o ∷ later) h =
     let both = or-false (gives_beginning p o) (list_any (gives_beginning p) later) h in
     beginning-later (j + 1) p (with_name j ns o) later both.right ∙ beginning-with_name j p ns o.text o.how o.is_file both.left
 
-among-prefix : (before all : List Name) (text : List ℕ) (how : How) (is_file : Bool) → how ≡ Prefix →
+pub among-prefix : (before all : List Name) (text : List ℕ) (how : How) (is_file : Bool) → how ≡ Prefix →
     let o : Occurrence = record { text = text; how = how; is_file = is_file } in
     standing_among before all o ≡ the_one (beginning text before) (the_one (beginning text all) (Err NeverFull))
 among-prefix before all text Full is_file h = cc

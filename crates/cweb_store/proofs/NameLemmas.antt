@@ -121,13 +121,13 @@ lookup-insert (e ∷ es) key k v new absent other =
       ]) absent
     ]) new
 
-Distinct-push : (xs : List (List ℕ)) (y : List ℕ) → Distinct xs → list_any (bytes_eq y) xs ≡ false → Distinct (xs ++ y ∷ [])
+pub Distinct-push : (xs : List (List ℕ)) (y : List ℕ) → Distinct xs → list_any (bytes_eq y) xs ≡ false → Distinct (xs ++ y ∷ [])
 Distinct-push [] y d h = (refl, tt)
 Distinct-push (x ∷ xs) y d h =
     let none = or-false (bytes_eq y x) (list_any (bytes_eq y) xs) h in
     (list_any-append (bytes_eq x) xs (y ∷ []) ∙ (λ i. d.0 i || ((bytes_eq-sym x y ∙ none.left) i || false)), Distinct-push xs y d.1 none.right)
 
-texts-push : (ns : List Name) (n : Name) → texts (ns ++ n ∷ []) ≡ texts ns ++ n.text ∷ []
+pub texts-push : (ns : List Name) (n : Name) → texts (ns ++ n ∷ []) ≡ texts ns ++ n.text ∷ []
 texts-push ns n = map-append (λ (m : Name). m.text) ns (n ∷ [])
 
 -- a new name in the list and in the map

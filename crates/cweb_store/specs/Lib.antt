@@ -22,3 +22,4 @@ pub mod Answers
 pub mod Replaced
 pub mod Stored
 pub mod Laws
+pub mod MoreLaws

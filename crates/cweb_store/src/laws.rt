@@ -2,6 +2,7 @@
 //! contract.
 
 ghost use Rattle.cweb_store.specs.Laws.{AbbreviationsStay, EarlierNamesDecide, FullNamesStandForThemselves, JoiningConcatenates, OccurrencesAreThoseOfCalls};
+ghost use Rattle.cweb_store.specs.MoreLaws.{AbbreviationsBeginTheirNames, DroppingKeepsTheFront, NamesAreDistinct, OneFaultForNoName};
 
 /// What an abbreviation stands for stays when names are added that don't begin with its prefix.
 pub fn abbreviations_stay()
@@ -26,4 +27,24 @@ pub fn joining_concatenates()
 /// After any list of calls the occurrences are those of the calls, in order.
 pub fn occurrences_are_those_of_calls()
     ensures { OccurrencesAreThoseOfCalls }
+{}
+
+/// No text is the name of two names.
+pub fn names_are_distinct()
+    ensures { NamesAreDistinct }
+{}
+
+/// The name that an abbreviation stands for begins with its prefix.
+pub fn abbreviations_begin_their_names()
+    ensures { AbbreviationsBeginTheirNames }
+{}
+
+/// An occurrence stands for a name and has no fault of its own, or it stands for none and has just one.
+pub fn one_fault_for_no_name()
+    ensures { OneFaultForNoName }
+{}
+
+/// Dropping layout changes nothing before it, and a macro keeps its first two tokens.
+pub fn dropping_keeps_the_front()
+    ensures { DroppingKeepsTheFront }
 {}

@@ -1,0 +1,47 @@
+-- Laws of the layout that is dropped, and of the tokens that stay.
+use Rattle.std.proofs.Common.{◌≡◌, ℕ, zero, suc, Bool, true, false, List, [], ◌∷◌, ◌++◌, Some, None, Option, take, drop, refl, sym, ◌∙◌, ap, subst, append_assoc, append-nil}
+use Rattle.std.specs.Prelude.{if◌then◌else◌, fold, filter_map, option_map, option_to_list}
+use Rattle.std.proofs.lemmas.List.{take-append-drop}
+use Rattle.std.proofs.lemmas.Grind.{flat_map-append}
+use Rattle.cweb_store.specs.declared.part.PartKind.{PartKind}
+use Rattle.cweb_store.specs.Parts.{Token, Part, all_tokens, is_macro}
+use Rattle.cweb_store.specs.Layout.{before_last, without_last, without_last_after, without_blank, without_layout, at_close, first_kept, is_layout, is_newline, is_blank}
+use Rattle.cweb_store.specs.Growing.{PartsSoFar, all_parts}
+use Rattle.cweb_store.specs.Calls.{Call, Occurs, Opens, Pushes, Drops, Closes, Transliterates, Contents, after, empty}
+use Rattle.cweb_store.specs.MoreLaws.{AllPass, IsFront, KeepsFront, DroppingKeepsTheFront}
+
+before_last-front : (test : Token → Bool) (t : Token) (ts us rest : List Token) → ts ≡ us ++ rest → AllPass test rest → IsFront test (t ∷ ts) (before_last test t us)
+before_last-front test t ts [] rest splits passes =
+    (elim (test t) as (λ b. test t ≡ b → IsFront test (t ∷ ts) (if b then [] else t ∷ [])) [
+      | true ↦ λ h. record { rest = t ∷ rest; splits = ap (λ xs. t ∷ xs) splits; passes = (h, passes) }
+      | false ↦ λ h. record { rest = rest; splits = ap (λ xs. t ∷ xs) splits; passes = passes }
+    ]) refl
+before_last-front test t ts (u ∷ us) rest splits passes = record { rest = rest; splits = ap (λ xs. t ∷ xs) splits; passes = passes }
+
+without_last-front : (test : Token → Bool) (ts : List Token) → IsFront test ts (without_last test ts)
+without_last-front test [] = record { rest = []; splits = refl; passes = tt }
+without_last-front test (t ∷ ts) =
+    let f = without_last-front test ts in
+    before_last-front test t ts (without_last test ts) f.rest f.splits f.passes
+
+trimmed-front : (n : ℕ) (test : Token → Bool) (ts : List Token) → IsFront test ts (without_last_after n test ts)
+trimmed-front n test ts =
+    let f = without_last-front test (drop n ts) in
+    record {
+      rest = f.rest;
+      splits = sym (take-append-drop n ts) ∙ ap (λ xs. take n ts ++ xs) f.splits ∙ sym (append_assoc (take n ts) (without_last test (drop n ts)) f.rest);
+      passes = f.passes;
+    }
+
+first-stay : (n : ℕ) (test : Token → Bool) (ts : List Token) → take n (without_last_after n test ts) ≡ take n ts
+first-stay zero test [] = refl
+first-stay zero test (t ∷ ts) = take-none (without_last_after zero test (t ∷ ts))
+  where
+    take-none : (xs : List Token) → take zero xs ≡ []
+    take-none [] = refl
+    take-none (x ∷ xs) = refl
+first-stay (suc n) test [] = refl
+first-stay (suc n) test (t ∷ ts) = ap (λ xs. t ∷ xs) (first-stay n test ts)
+
+pub dropping_keeps_the_front : DroppingKeepsTheFront
+dropping_keeps_the_front p = record { front = trimmed-front (first_kept p.kind) is_layout p.tokens; firsts = first-stay (first_kept p.kind) is_layout p.tokens }

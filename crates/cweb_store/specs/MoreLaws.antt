@@ -1,0 +1,44 @@
+-- What else holds of names, faults, layout and tokens whatever the calls are.
+use Rattle.std.specs.Prelude.{◌≡◌, ℕ, Bool, true, nat_eq, List, [], ◌∷◌, ◌++◌, Some, take, slice_get, filter, option_to_list}
+use Rattle.std.specs.List.{starts_with}
+use Rattle.cweb_store.specs.declared.name.How.TheVariants.{Prefix}
+use Rattle.cweb_store.specs.declared.name.NameFault.{NameFault}
+use Rattle.cweb_store.specs.Names.{Occurrence, Standing, texts, names}
+use Rattle.cweb_store.specs.Parts.{Token, Part}
+use Rattle.cweb_store.specs.Layout.{is_layout, first_kept, without_layout}
+use Rattle.cweb_store.specs.Faults.{standing_fault, standing_faults}
+use Rattle.cweb_store.specs.Found.{Distinct}
+use Rattle.cweb_store.specs.Laws.{standing_text}
+
+-- no text is the name of two names
+abbrev pub NamesAreDistinct : Type 0
+NamesAreDistinct = (os : List Occurrence) → Distinct (texts (names os))
+
+-- the name that an abbreviation stands for begins with its prefix
+abbrev pub AbbreviationsBeginTheirNames : Type 0
+AbbreviationsBeginTheirNames = (os : List Occurrence) (i : ℕ) (o : Occurrence) (text : List ℕ) → slice_get os i ≡ Some o → o.how ≡ Prefix → standing_text os i ≡ Some text → starts_with nat_eq text o.text ≡ true
+
+abbrev pub is_at : ℕ → NameFault → Bool
+is_at i fault = nat_eq fault.occurrence.0 i
+
+-- an occurrence stands for a name and has no fault of its own, or it stands for none and has just one
+abbrev pub OneFaultForNoName : Type 0
+OneFaultForNoName = (rs : List Standing) (i : ℕ) (r : Standing) → slice_get rs i ≡ Some r → filter (is_at i) (standing_faults rs) ≡ option_to_list (standing_fault i r)
+
+abbrev pub AllPass : (Token → Bool) → List Token → Type 0
+AllPass test [] = Unit {0}
+AllPass test (t ∷ ts) = (test t ≡ true) × AllPass test ts
+
+-- some tokens are the first ones of others, and the rest of these passes a test
+pub record IsFront (test : Token → Bool) (whole front : List Token) : Type 0 where
+  pub rest : List Token
+  pub splits : whole ≡ front ++ rest
+  pub passes : AllPass test rest
+
+-- what stands before the layout that is dropped stays as it is, and a macro keeps its first two tokens
+pub record KeepsFront (p : Part) : Type 0 where
+  pub front : IsFront is_layout p.tokens (without_layout p).tokens
+  pub firsts : take (first_kept p.kind) (without_layout p).tokens ≡ take (first_kept p.kind) p.tokens
+
+abbrev pub DroppingKeepsTheFront : Type 0
+DroppingKeepsTheFront = (p : Part) → KeepsFront p
