@@ -15,6 +15,8 @@ pub mod LineUnits
 pub mod TakenItems
 pub mod LineEnds
 pub mod Taken
+pub mod LineBegins
+pub mod Scans
 pub mod StatePlaces
 pub mod Places
 mod RowWords

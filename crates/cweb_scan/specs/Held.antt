@@ -5,7 +5,7 @@ use Rattle.cweb_lines.specs.Lines.{Line}
 use Rattle.cweb_rules.specs.Lines.{AtLineEnd}
 use Rattle.cweb_rules.specs.declared.end.End.TheVariants.{Cut}
 use Rattle.cweb_scan.specs.State.{State, moved, before_text}
-use Rattle.cweb_scan.specs.After.{Reading, line_end, comment_line_end, literal}
+use Rattle.cweb_scan.specs.After.{Reading, line_end, comment_line_end, comment, occurrence, literal}
 use Rattle.cweb_scan.specs.Resume.{Item, Between, InComment, InName, InLiteral, AfterBackslash, InRaw, resume}
 use Rattle.cweb_scan.specs.Room.{weight}
 use Rattle.cweb_scan.specs.Run.{no_place, read, further}
@@ -78,3 +78,18 @@ pub record Takes (n : ℕ) (rest : List ℕ) (old new : Held) : Type 0 where
   pub within : n ≤ length rest
   pub adds : cost new ≤ cost old + 3 * n
   pub same : (later : List Place) (more : List ℕ) → AtLineEnd more → goes_on new later (drop n rest ++ more) ≡ goes_on old later (rest ++ more)
+
+-- a line at a place begins: the first, or one behind a line end
+pub record BeginsLine (place : Place) (old new : Held) : Type 0 where
+  pub first : old.begun ≡ false → new ≡ begun_at place
+  pub next : old.begun ≡ true → TakesLineEnd place old new
+  pub adds : cost new ≤ cost old + 3
+
+-- the state once no line follows: an item that is open ends
+abbrev pub text_ended : Item → State → State
+text_ended Between s = s
+text_ended (InComment begun) s = comment Cut begun s
+text_ended (InName begun is_file text) s = occurrence is_file text Cut false begun s
+text_ended (InLiteral begun quote text) s = literal text Cut begun s
+text_ended (AfterBackslash begun quote text) s = literal (text ++ 92 ∷ []) Cut begun s
+text_ended (InRaw begun delimiter text) s = literal text Cut begun s

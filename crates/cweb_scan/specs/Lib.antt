@@ -12,3 +12,4 @@ pub mod Room
 pub mod Opened
 pub mod Fronted
 pub mod Quotes
+pub mod Scan

@@ -13,9 +13,12 @@ mod open;
 mod opened;
 mod parts;
 mod reader;
+mod reading;
 mod ruled;
+mod scanned;
 mod scanner;
 mod turn;
 mod units;
 
 pub use cweb_rules::{ScanFault, ScanKind};
+pub use scanned::Scanned;

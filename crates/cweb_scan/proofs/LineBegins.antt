@@ -1,0 +1,119 @@
+-- How a line begins behind what is held, and how the text ends there.
+use Rattle.std.proofs.Common.{◌≡◌, ◌≤◌, ℕ, ◌+◌, Bool, true, false, List, [], ◌∷◌, ◌++◌, take, drop, refl, ap, sym, ◌∙◌, subst, arith}
+use Rattle.std.specs.Prelude.{◌==◌, if◌then◌else◌}
+use Rattle.std.proofs.lemmas.List.{append-nil}
+use Rattle.cweb_files.specs.declared.place.Place.{Place}
+use Rattle.cweb_lines.specs.Lines.{Line}
+use Rattle.cweb_rules.specs.declared.end.End.TheVariants.{Cut}
+use Rattle.cweb_rules.specs.Cut.{size_of}
+use Rattle.cweb_rules.specs.Fronts.{sign_after}
+use Rattle.cweb_rules.specs.Items as items
+use Rattle.cweb_scan.specs.After.{Reading, on, each_line_end, literal, occurrence}
+use Rattle.cweb_scan.specs.Held.{Held, held, after_line_end, begun_at, goes_on, read_after, text_ended, BeginsLine, TakesLineEnd, TakesBytes, cost, owed}
+use Rattle.cweb_scan.specs.Opened.{item_of}
+use Rattle.cweb_scan.specs.Quotes.{quote_byte}
+use Rattle.cweb_scan.specs.Resume.{Item, takes_sign}
+use Rattle.cweb_scan.specs.Resume as item
+use Rattle.cweb_scan.specs.Room.{weight}
+use Rattle.cweb_scan.specs.Run.{run}
+use Rattle.cweb_scan.specs.State.{State, moved}
+use Rattle.cweb_scan.specs.declared.open.Open.{Open}
+use Rattle.cweb_scan.specs.declared.open.Open.TheVariants.{Between, Comment, Name, Literal, AfterBackslash, Raw}
+use Rattle.cweb_scan.specs.declared.open.Quote.{Quote}
+use Rattle.cweb_scan.specs.declared.open.Quote.TheVariants.{Single, Double}
+use Rattle.cweb_scan.proofs.LineEnds.{between_goes_on, comment_goes_on, name_goes_on, literal_goes_on, raw_goes_on}
+use Rattle.cweb_scan.proofs.OpenItems.{literal_cut}
+use Rattle.cweb_scan.proofs.Taken.{first_taken, next_taken}
+use Rattle.cweb_scan.proofs.Weights.{line_end-weight, comment_line_end-weight, comment-weight, occurrence-weight, literal-weight}
+
+no_backslash : (quote : Quote) → (quote_byte quote == 92) ≡ false
+no_backslash Single = refl
+no_backslash Double = refl
+
+no_newline : (quote : Quote) → (quote_byte quote == 10) ≡ false
+no_newline Single = refl
+no_newline Double = refl
+
+-- a line end, whatever is open
+line_ends : (kind : Open) (d us : List ℕ) (q : Place) (s : State) → TakesLineEnd q (held s (item_of kind d us)) (after_line_end q (item_of kind d us) s)
+line_ends Between d us q s = record { begun = refl; same = between_goes_on q s }
+line_ends (Comment begun) d us q s = record { begun = refl; same = comment_goes_on begun q s }
+line_ends (Name begun is_file) d us q s = record { begun = refl; same = name_goes_on begun is_file us q s }
+line_ends (Literal begun quote) d us q s = record {
+  begun = refl;
+  same = λ later t.
+      between_goes_on q (literal us Cut begun s) later t
+      ∙ sym (literal_cut begun (quote_byte quote) us (10 ∷ t) (record { state = s; later = q ∷ later }) (no_newline quote) refl);
+}
+line_ends (AfterBackslash begun quote) d us q s = record { begun = refl; same = λ later t. literal_goes_on begun (quote_byte quote) us q s later t (no_backslash quote) }
+line_ends (Raw begun) d us q s = record { begun = refl; same = raw_goes_on begun d us q s }
+
+after_line_end-cost : (i : Item) (q : Place) (s : State) → cost (after_line_end q i s) ≤ weight s + owed i + 3
+after_line_end-cost item.Between q s = omega (arith, line_end-weight q s)
+after_line_end-cost (item.InComment begun) q s = omega (arith, comment_line_end-weight q s)
+after_line_end-cost (item.InName begun is_file text) q s = omega arith
+after_line_end-cost (item.InLiteral begun quote text) q s = omega (arith, line_end-weight q (literal text Cut begun s), literal-weight text Cut begun s)
+after_line_end-cost (item.AfterBackslash begun quote text) q s = omega arith
+after_line_end-cost (item.InRaw begun delimiter text) q s = omega arith
+
+-- a line begins behind a line end
+pub begins_next : (kind : Open) (d us : List ℕ) (s : State) (begun : Bool) (place : Place) (new : Held) → begun ≡ true → new ≡ after_line_end place (item_of kind d us) s
+    → BeginsLine place (record { state = s; item = item_of kind d us; begun = begun }) new
+begins_next kind d us s true place new h is = record {
+  first = λ none. absurd (cc none);
+  next = λ begun. subst (λ (h : Held). TakesLineEnd place (held s (item_of kind d us)) h) (sym is) (line_ends kind d us place s);
+  adds = omega (arith, ap cost is, after_line_end-cost (item_of kind d us) place s);
+}
+begins_next kind d us s false place new h is = absurd (cc h)
+
+-- the first line begins
+pub begins_first : (old : Held) (place : Place) (new : Held) → old.begun ≡ false → new ≡ begun_at place → BeginsLine place old new
+begins_first old place new h is = record {
+  first = λ none. is;
+  next = λ begun. absurd (cc (sym h ∙ begun));
+  adds = omega (arith, ap cost is);
+}
+
+-- a line that has begun is taken once its bytes are
+pub line_taken : (old mid new : Held) (line : Line) (lines : List Line) → BeginsLine line.place old mid → TakesBytes line.bytes mid new → read_after new lines ≡ read_after old (line ∷ lines)
+line_taken old mid new line lines begins took = by old.begun refl
+  where
+    by : (b : Bool) → old.begun ≡ b → read_after new lines ≡ read_after old (line ∷ lines)
+    by true h = next_taken old mid new line lines h (begins.next h) took
+    by false h = first_taken old mid new line lines h (begins.first h) took
+
+-- THE END OF THE TEXT
+
+abbrev sign_size : Bool → ℕ
+sign_size takes = let r = items.name [] in size_of r + (if takes then sign_after r.how (drop (size_of r) []) else 0)
+
+no_sign : (takes : Bool) → sign_size takes ≡ 0
+no_sign true = refl
+no_sign false = refl
+
+abbrev named_end : Place → Bool → List ℕ → ℕ → State → Reading
+named_end begun is_file us n s = run (on (occurrence is_file (us ++ []) Cut false begun) (each_line_end moved (take n []) (record { state = s; later = [] }))) (drop n [])
+
+text_ends : (kind : Open) (d us : List ℕ) (s : State) → (goes_on (held s (item_of kind d us)) [] []).state ≡ text_ended (item_of kind d us) s
+text_ends Between d us s = refl
+text_ends (Comment begun) d us s = refl
+text_ends (Name begun is_file) d us s =
+    ap (λ (n : ℕ). (named_end begun is_file us n s).state) (no_sign (takes_sign s)) ∙ ap (λ (t : List ℕ). occurrence is_file t Cut false begun s) (append-nil us)
+text_ends (Literal begun quote) d us s = ap (λ (t : List ℕ). literal t Cut begun s) (append-nil us)
+text_ends (AfterBackslash begun Single) d us s = refl
+text_ends (AfterBackslash begun Double) d us s = refl
+text_ends (Raw begun) d us s = ap (λ (t : List ℕ). literal t Cut begun s) (append-nil us)
+
+pub text_ended-weight : (i : Item) (s : State) → weight (text_ended i s) ≤ weight s + owed i
+text_ended-weight item.Between s = omega arith
+text_ended-weight (item.InComment begun) s = omega (arith, comment-weight Cut begun s)
+text_ended-weight (item.InName begun is_file text) s = occurrence-weight is_file text Cut false begun s
+text_ended-weight (item.InLiteral begun quote text) s = literal-weight text Cut begun s
+text_ended-weight (item.AfterBackslash begun quote text) s = literal-weight (text ++ 92 ∷ []) Cut begun s
+text_ended-weight (item.InRaw begun delimiter text) s = literal-weight text Cut begun s
+
+-- all was read once an item that is open has ended
+pub text_read : (kind : Open) (d us : List ℕ) (s : State) (begun : Bool) → begun ≡ true
+    → (read_after (record { state = s; item = item_of kind d us; begun = begun }) []).state ≡ text_ended (item_of kind d us) s
+text_read kind d us s true h = text_ends kind d us s
+text_read kind d us s false h = absurd (cc h)

@@ -1,0 +1,124 @@
+-- How the lines that a merger gives out are scanned.
+use Rattle.std.proofs.Common.{◌≡◌, ◌≤◌, ◌<◌, ℕ, ◌+◌, Bool, true, List, [], ◌∷◌, ◌++◌, length, refl, ap, sym, ◌∙◌, subst, arith}
+use Rattle.std.specs.Prelude.{IsTrue, nat_lt}
+use Rattle.std.proofs.lemmas.Bool.{ltb-true, lt-ltb}
+use Rattle.std.proofs.lemmas.List.{append-nil, append_assoc}
+use Rattle.std.proofs.lemmas.List.Elements.{All-nil, All-push, All-weaker}
+use Rattle.cweb_files.specs.declared.place.Place.{Place}
+use Rattle.cweb_lines.specs.Lines.{Line, HasNoNewline}
+use Rattle.cweb_lines.specs.Merge.{Event}
+use Rattle.cweb_lines.specs.Merging.{SoFar, Gives, StopsBehind}
+use Rattle.cweb_lines.specs.Told.{given_lines}
+use Rattle.cweb_lines.specs.Whole.{GivesOut, StopsThere}
+use Rattle.cweb_lines.specs.declared.stop.Stop.{Stop}
+use Rattle.cweb_lines.specs.declared.stop.Stop.TheVariants.{Memory}
+use Rattle.cweb_lines.proofs.Merges.{gives_nothing, gives_both, behind_both}
+use Rattle.cweb_lines.proofs.Stacks.{stops_map}
+use Rattle.cweb_lines.proofs.Writes.{given_front, gives_all, tells_some, tells_more, tells_same}
+use Rattle.cweb_store.specs.Parts.{Token, Mark, all_tokens}
+use Rattle.cweb_rules.specs.Lines.{IsLine}
+use Rattle.cweb_rules.specs.declared.fault.ScanFault.{ScanFault}
+use Rattle.cweb_scan.specs.After.{Reading}
+use Rattle.cweb_scan.specs.Held.{Held, read_after, unread}
+use Rattle.cweb_scan.specs.Law.{MarkPasses, web_size}
+use Rattle.cweb_scan.specs.Run.{Scanned, read, scanned, scanned_of}
+use Rattle.cweb_scan.specs.Scan.{AreBelow, IsBelow, IsMarkBelow, HasTaken, IsWithin, Scans, EndsEarly}
+use Rattle.cweb_scan.proofs.Bounds.{bounded}
+use Rattle.cweb_scan.proofs.Places.{scanned-pass}
+
+pub is_line : (t : List ℕ) → HasNoNewline t → IsLine t
+is_line [] h = tt
+is_line (b ∷ t) h = (h.0, is_line t h.1)
+
+pub nothing_taken : (tells : Bool) (so : SoFar) (all : List Event) → HasTaken tells so so all all unread
+nothing_taken tells so all = record {
+  lines = [];
+  read_is = λ more. refl;
+  below = All-nil (λ (line : Line). line.place.file.0 < length so.names);
+  few = omega arith;
+  gives = λ told. gives_nothing so so all all refl refl refl refl;
+}
+
+web_size-append : (a b : List Line) → web_size (a ++ b) ≡ web_size a + web_size b
+web_size-append [] b = omega arith
+web_size-append (line ∷ a) b = omega (arith, web_size-append a b)
+
+wider : (files more : ℕ) (lines : List Line) → files ≤ more → AreBelow files lines → AreBelow more lines
+wider files more lines h below = All-weaker (λ (line : Line). line.place.file.0 < files) (λ line. line.place.file.0 < more) (λ line k. omega (arith, h, k)) lines below
+
+-- one more line
+pub given_line_taken : (tells : Bool) (old so new : SoFar) (all now later : List Event) (held next : Held) (line : Line)
+    → HasTaken tells old so all now held
+    → GivesOut line.place line.bytes so new → length so.names ≤ length new.names
+    → ((more : List Line) → read_after next more ≡ read_after held (line ∷ more))
+    → (IsTrue tells → Gives (line ∷ []) so new now later)
+    → HasTaken tells old new all later next
+given_line_taken tells old so new all now later held next line taken given names reads gives = record {
+  lines = taken.lines ++ line ∷ [];
+  read_is = λ more. reads more ∙ taken.read_is (line ∷ more) ∙ ap read (sym (append_assoc taken.lines (line ∷ []) more));
+  below = All-push (λ (line : Line). line.place.file.0 < length new.names) taken.lines line (wider (length so.names) (length new.names) taken.lines names taken.below) given.known;
+  few = omega (arith, web_size-append taken.lines (line ∷ []), taken.few, given.lines, given.bytes_are);
+  gives = λ told. gives_both taken.lines (line ∷ []) old so new all now later (taken.gives told) (gives told);
+}
+
+-- where all lines stand in the first files, all Marks and faults do
+abbrev among : ℕ → Place → Bool
+among files p = nat_lt p.file.0 files
+
+mark_below : (files : ℕ) (t : Token) → MarkPasses (among files) t → IsMarkBelow files t
+mark_below files (Mark p) h = ltb-true p.file.0 files h
+mark_below files t h = tt
+
+scanned-below : (files : ℕ) (lines : List Line) → AreBelow files lines → IsBelow files (scanned lines)
+scanned-below files lines below =
+    let known = All-weaker (λ (l : Line). l.place.file.0 < files) (λ l. among files l.place ≡ true) (λ l h. lt-ltb l.place.file.0 files h) lines below in
+    let pass = scanned-pass (among files) lines known in
+    record {
+      marks = All-weaker (MarkPasses (among files)) (IsMarkBelow files) (mark_below files) (all_tokens (scanned lines).store.parts) pass.marks;
+      faults = All-weaker (λ (f : ScanFault). among files f.place ≡ true) (λ f. f.place.file.0 < files) (λ f h. ltb-true f.place.file.0 files h) (scanned lines).faults pass.faults;
+    }
+
+-- what all lines that were taken give
+of_taken : (held : Held) (lines : List Line) → ((more : List Line) → read_after held more ≡ read (lines ++ more)) → scanned_of (read_after held []).state ≡ scanned lines
+of_taken held lines reads = ap (λ (r : Reading). scanned_of r.state) (reads [] ∙ ap read (append-nil lines))
+
+pub all_within : (tells : Bool) (old so new : SoFar) (all now : List Event) (held : Held) (s : Scanned)
+    → HasTaken tells old so all now held → s ≡ scanned_of (read_after held []).state
+    → length so.names ≤ length new.names → so.count.bytes ≤ new.count.bytes → so.count.lines ≤ new.count.lines → IsWithin new s
+all_within tells old so new all now held s taken is names bytes lines =
+    let same : s ≡ scanned taken.lines = is ∙ of_taken held taken.lines taken.read_is in
+    let size = bounded taken.lines in
+    subst (λ (s : Scanned). IsWithin new s) (sym same) (record {
+      below = scanned-below (length new.names) taken.lines (wider (length so.names) (length new.names) taken.lines names taken.below);
+      bounded = record {
+        tokens = omega (arith, size.tokens, taken.few, bytes, lines);
+        bytes = omega (arith, size.bytes, taken.few, bytes, lines);
+      };
+    })
+
+-- no line is left
+pub all_scanned : (old so new : SoFar) (all now later : List Event) (lines : List Line) (held : Held) (s : Scanned)
+    → ((more : List Line) → read_after held more ≡ read (lines ++ more)) → Gives lines old so all now → s ≡ scanned_of (read_after held []).state
+    → Gives [] so new now later → later ≡ [] → Scans s old new all
+all_scanned old so new all now later lines held s reads gives is last none =
+    let whole = gives_both lines [] old so new all now later gives last in
+    let here : given_lines all ≡ lines =
+    given_front (lines ++ []) old new all later whole ∙ ap (λ (es : List Event). (lines ++ []) ++ given_lines es) none ∙ append-nil (lines ++ []) ∙ append-nil lines in
+    record {
+      made = is ∙ of_taken held lines reads ∙ ap scanned (sym here);
+      gives = gives_all (lines ++ []) old new all later whole none;
+    }
+
+-- the merger stopped
+pub ends_early : (stop : Stop) (old so new : SoFar) (all now : List Event) (lines : List Line) → Gives lines old so all now → StopsThere stop so new now → EndsEarly stop old new all
+ends_early stop old so new all now lines gives there = record {
+  why = stops_map stop (λ (why : StopsBehind [] stop so.count new.count now). record {
+    lines = lines ++ [];
+    stops = behind_both lines [] stop old so new.count all now gives why;
+  }) there.why;
+  told = tells_more lines old so new all now gives there.told;
+}
+
+-- memory was refused
+pub refused : (old so halted : SoFar) (all now : List Event) (lines : List Line) → halted ≡ so → Gives lines old so all now → EndsEarly Memory old halted all
+refused old so halted all now lines is gives = record { why = tt; told = tells_same old so halted all is (tells_some lines old so all now gives) }
