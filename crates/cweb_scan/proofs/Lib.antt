@@ -37,3 +37,6 @@ pub mod UnitsTaken
 pub mod Walks
 pub mod Rests
 pub mod Texts
+pub mod CodeTurns
+pub mod RuleTurns
+pub mod HeadTurns

@@ -1,29 +1,21 @@
 -- What is at the front of the rest of a line, once the code has seen its rule; and that taking it is right.
-use Rattle.std.proofs.Common.{◌≡◌, ◌≤◌, ◌<◌, ℕ, zero, suc, ◌+◌, ◌*◌, Bool, true, false, ◌&&◌, ◌||◌, ◌==◌, not, List, [], ◌∷◌, ◌++◌, length, take, drop, refl, ap, sym, ◌∙◌, subst, arith}
+use Rattle.std.proofs.Common.{◌≡◌, ℕ, Bool, true, false, ◌&&◌, List, [], ◌∷◌, ◌++◌, take, drop, refl, ap, sym, ◌∙◌, arith}
 use Rattle.std.specs.Prelude.{if◌then◌else◌, codes}
-use Rattle.std.specs.List.{prefix_len}
-use Rattle.std.proofs.lemmas.Bool.{eqb-true}
 use Rattle.std.proofs.lemmas.List.{length-take-le}
-use Rattle.cweb_files.specs.declared.place.Place.{Place}
-use Rattle.cweb_rules.specs.Bytes.{begins, first_is, is_blank, is_line_end, is_word_byte, at_line_end, starts_section}
-use Rattle.cweb_rules.specs.Codes.{in_limbo, in_text, in_macro, in_c}
-use Rattle.cweb_rules.specs.Fronts.{front_in, c_front, text_front, code_at, code_front, section_at, name_at, starts_raw, starts_literal, starts_include, raw_at, literal_at}
-use Rattle.cweb_rules.specs.Kinds.{Kind, Skipped, Front, front, Piece}
-use Rattle.cweb_rules.specs.Lines.{IsLine, AtLineEnd, opens_in, opens_code, opens_effect, opens_comment, opens_raw, opens_literal, c_opens, text_opens, macro_opens}
-use Rattle.cweb_rules.specs.Rules.{c_rule, c_front_by, text_rule, text_front_by}
+use Rattle.cweb_rules.specs.Bytes.{begins, first_is, is_blank, is_line_end, is_word_byte, starts_section}
+use Rattle.cweb_rules.specs.Fronts.{starts_raw, starts_literal, starts_include}
+use Rattle.cweb_rules.specs.Kinds.{Kind, Front}
+use Rattle.cweb_rules.specs.Lines.{IsLine, opens_in, opens_code, opens_comment, opens_raw, opens_literal, c_opens}
+use Rattle.cweb_rules.specs.Rules.{c_rule}
 use Rattle.cweb_rules.specs.Tables.{starts_number}
 use Rattle.cweb_rules.specs.declared.context.Context.{Context}
 use Rattle.cweb_rules.specs.declared.context.Context.TheVariants.{Limbo, TeX, Definition, Macro, CText}
 use Rattle.cweb_rules.specs.declared.effect.Effect.{Effect}
 use Rattle.cweb_rules.specs.declared.rule.Rule.{Rule}
 use Rattle.cweb_rules.specs.declared.rule.Rule.TheVariants as rule
-use Rattle.cweb_rules.specs.declared.rule.TextRule.{TextRule}
-use Rattle.cweb_rules.specs.declared.rule.TextRule.TheVariants as text
-use Rattle.cweb_rules.proofs.ByRules.{c_front-by, text_front-by}
-use Rattle.cweb_scan.specs.After.{Reading, enter_in, item}
-use Rattle.cweb_scan.specs.Directives.{names_include}
-use Rattle.cweb_scan.specs.Fronted.{with_front, Gives, is_head, is_skipped, IsPast}
-use Rattle.cweb_scan.specs.Held.{Held, goes_on, Takes}
+use Rattle.cweb_scan.specs.After.{enter_in, item}
+use Rattle.cweb_scan.specs.Fronted.{with_front, Gives, is_head, IsPast}
+use Rattle.cweb_scan.specs.Held.{Held, Takes}
 use Rattle.cweb_scan.specs.Resume.{Between}
 use Rattle.cweb_scan.specs.Room.{weight}
 use Rattle.cweb_scan.specs.Run.{front_of, run}
@@ -35,7 +27,7 @@ use Rattle.cweb_scan.proofs.Weights.{piece-weight}
 
 -- ITEMS THAT END IN THEIR LINE
 
-enter_same : (c : Context) (k : Kind) (s : State) → is_head c ≡ false → enter_in c k s ≡ s
+pub enter_same : (c : Context) (k : Kind) (s : State) → is_head c ≡ false → enter_in c k s ≡ s
 enter_same Limbo k s h = refl
 enter_same TeX k s h = refl
 enter_same (Definition begun) k s h = cc
@@ -45,15 +37,16 @@ enter_same CText k s h = refl
 abbrev pub between : State → Bool → Held
 between s g = record { state = s; item = Between; begun = g }
 
-pub closed_takes : (s new : State) (g : Bool) (n b : ℕ) (t : List ℕ) (f : Front) → IsLine (b ∷ t) → is_head s.context ≡ false → front_of s (b ∷ t) ≡ f → opens_in s.context (b ∷ t) ≡ false
+-- an item that leaves no head
+pub staying_takes : (s new : State) (g : Bool) (n b : ℕ) (t : List ℕ) (f : Front) → IsLine (b ∷ t) → enter_in s.context (front_of s (b ∷ t)).kind s ≡ s → front_of s (b ∷ t) ≡ f → opens_in s.context (b ∷ t) ≡ false
     → Gives f (b ∷ t) n s new → Takes n (b ∷ t) (between s g) (between new g)
-closed_takes s new g n b t f line head is ends gives =
+staying_takes s new g n b t f line stays is ends gives =
     let u = b ∷ t in
     let f0 = front_of s u in
     let p = first (reading s []) u in
     let fits = fair s b t in
     let same : state_after s p ≡ new =
-    ap (λ (v : State). (item f0.kind (take f0.size u) (reading v [])).state) (enter_same s.context f0.kind s head) ∙ ap (λ (v : Front). with_front v u s) is ∙ sym gives.state in
+    ap (λ (v : State). (item f0.kind (take f0.size u) (reading v [])).state) stays ∙ ap (λ (v : Front). with_front v u s) is ∙ sym gives.state in
     let size : n ≡ f0.size = gives.size ∙ ap (λ (v : Front). v.size) (sym is) in
     let long = length-take-le f0.size u fits.within in
     let adds = piece-weight (reading s []) p (omega (arith, long, fits.some)) fits.pays in
@@ -66,6 +59,10 @@ closed_takes s new g n b t f line head is ends gives =
           ∙ ap (λ k. run (reading (state_after s p) later) (drop k u ++ more)) size
           ∙ sym (taken s later b t more line e ends);
     }
+
+pub closed_takes : (s new : State) (g : Bool) (n b : ℕ) (t : List ℕ) (f : Front) → IsLine (b ∷ t) → is_head s.context ≡ false → front_of s (b ∷ t) ≡ f → opens_in s.context (b ∷ t) ≡ false
+    → Gives f (b ∷ t) n s new → Takes n (b ∷ t) (between s g) (between new g)
+closed_takes s new g n b t f line head is ends gives = staying_takes s new g n b t f line (enter_same s.context (front_of s (b ∷ t)).kind s head) is ends gives
 
 -- THE RULES OF C TEXT
 
@@ -97,15 +94,15 @@ c_opens-by effect includes t =
 
 -- WHAT A RULE SAYS OF THE TEXT
 
-later : (is : Rule → Bool) (v : Bool) (x y : Rule) → is x ≡ false → is (if v then x else y) ≡ true → (v ≡ false) × (is y ≡ true)
+pub later : (is : Rule → Bool) (v : Bool) (x y : Rule) → is x ≡ false → is (if v then x else y) ≡ true → (v ≡ false) × (is y ≡ true)
 later is true x y f h = let wrong : true ≡ false = sym h ∙ f in cc
 later is false x y f h = (refl, h)
 
-now : (is : Rule → Bool) (v : Bool) (x y : Rule) → is y ≡ false → is (if v then x else y) ≡ true → v ≡ true
+pub now : (is : Rule → Bool) (v : Bool) (x y : Rule) → is y ≡ false → is (if v then x else y) ≡ true → v ≡ true
 now is true x y f h = refl
 now is false x y f h = let wrong : true ≡ false = sym h ∙ f in cc
 
-neither : (is : Rule → Bool) (v : Bool) (x y : Rule) → is x ≡ false → is y ≡ false → is (if v then x else y) ≡ false
+pub neither : (is : Rule → Bool) (v : Bool) (x y : Rule) → is x ≡ false → is y ≡ false → is (if v then x else y) ≡ false
 neither is true x y f g = f
 neither is false x y f g = g
 
@@ -153,7 +150,7 @@ past_signs is includes t b e c l s h =
     let h4 = later is (starts_section t) _ _ s h3.1 in
     (record { blank = h0.0; line_end = h1.0; comment = h2.0; line_comment = h3.0; section = h4.0 }, h4.1)
 
-tail_is : (is : Rule → Bool) (a b c : Bool) → is rule.IncludedName ≡ false → is rule.Number ≡ false → is rule.Identifier ≡ false → is rule.Punctuator ≡ false
+pub tail_is : (is : Rule → Bool) (a b c : Bool) → is rule.IncludedName ≡ false → is rule.Number ≡ false → is rule.Identifier ≡ false → is rule.Punctuator ≡ false
     → is (if a then rule.IncludedName else (if b then rule.Number else (if c then rule.Identifier else rule.Punctuator))) ≡ false
 tail_is is a b c f g h k = neither is a _ _ f (neither is b _ _ g (neither is c _ _ h k))
 

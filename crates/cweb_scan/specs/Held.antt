@@ -1,5 +1,5 @@
 -- What is held between two lines: the state, and an item that goes on in the next line.
-use Rattle.std.specs.Prelude.{◌≡◌, ◌≤◌, ℕ, ◌+◌, ◌*◌, Bool, true, false, List, [], ◌∷◌, ◌++◌, length, take, drop, map}
+use Rattle.std.specs.Prelude.{◌≡◌, ◌≤◌, ℕ, ◌+◌, ◌*◌, Bool, true, false, List, [], ◌∷◌, ◌++◌, length, drop, map}
 use Rattle.cweb_files.specs.declared.place.Place.{Place}
 use Rattle.cweb_lines.specs.Lines.{Line}
 use Rattle.cweb_rules.specs.Lines.{AtLineEnd}
@@ -78,6 +78,11 @@ pub record Takes (n : ℕ) (rest : List ℕ) (old new : Held) : Type 0 where
   pub within : n ≤ length rest
   pub adds : cost new ≤ cost old + 3 * n
   pub same : (later : List Place) (more : List ℕ) → AtLineEnd more → goes_on new later (drop n rest ++ more) ≡ goes_on old later (rest ++ more)
+
+-- one turn: at least a byte of the rest of a line was taken
+pub record Passes (n : ℕ) (rest : List ℕ) (old new : Held) : Type 0 where
+  pub some : 1 ≤ n
+  pub taken : Takes n rest old new
 
 -- a line at a place begins: the first, or one behind a line end
 pub record BeginsLine (place : Place) (old new : Held) : Type 0 where

@@ -13,3 +13,4 @@ pub mod Opened
 pub mod Fronted
 pub mod Quotes
 pub mod Scan
+pub mod Ruled

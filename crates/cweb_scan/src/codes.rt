@@ -1,6 +1,6 @@
 // Control codes: what each does, and the items that they begin and that end in their line.
 ghost use Rattle.std.specs.Prelude.{◌≡◌, ◌≤◌, IfOk, OnOk, length, true, false};
-ghost use Rattle.cweb_scan.specs.Fronted.{effect_in, may_do, is_name, ended_as, Gives};
+ghost use Rattle.cweb_scan.specs.Fronted.{effect_in, may_do, is_name as names, ended_as, Gives};
 
 use crate::scanner::Scanner;
 use cweb_rules::bytes::begins;
@@ -22,6 +22,13 @@ pub fn effect_of(context: Context, letter: u8) -> Effect
         Context::Macro => in_macro(letter),
         Context::CText => in_c(letter),
     }
+}
+
+/// Whether a code is that of a name.
+pub fn is_name(effect: Effect) -> bool
+    ensures { result ≡ names effect }
+{
+    matches!(effect, Effect::Named)
 }
 
 /// How an item ended that a line end ends so.
@@ -131,7 +138,7 @@ impl Scanner {
         requires two { 2 ≤ length rest.now }
         requires may { may_do self.old.context effect ≡ true }
         requires room { HasRoom 2 self.old }
-        requires unnamed { is_name effect ≡ false }
+        requires unnamed { names effect ≡ false }
         ensures { IfOk result (λ n. Gives (code_front effect true rest.now) rest.now n self.old self.new) }
     {
         match effect {

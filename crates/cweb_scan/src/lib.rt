@@ -17,6 +17,7 @@ mod reading;
 mod ruled;
 mod scanned;
 mod scanner;
+mod taking;
 mod turn;
 mod units;
 

@@ -27,7 +27,7 @@ impl Reader {
     ghost use Rattle.cweb_rules.specs.Fronts.{starts_raw, starts_literal};
     ghost use Rattle.cweb_rules.specs.Lines.{IsLine};
     ghost use Rattle.cweb_scan.specs.Fronted.{is_head, reads_c, reads_names, reads_literals, IsPast};
-    ghost use Rattle.cweb_scan.specs.Held.{Takes};
+    ghost use Rattle.cweb_scan.specs.Held.{Passes};
     ghost use Rattle.cweb_scan.specs.Resume.{Between};
     ghost use Rattle.cweb_scan.specs.Room.{HasRoom};
 
@@ -37,7 +37,7 @@ impl Reader {
         requires reads { reads_c self.old.state.context ≡ true }
         requires sign { begins_with (codes "/*") rest.now ≡ true }
         requires room { HasRoom 1 self.old.state }
-        ensures { IfOk result (λ n. Takes n rest.now self.old self.new) }
+        ensures { IfOk result (λ n. Passes n rest.now self.old self.new) }
     {
         let begun = self.scanner.here();
         self.scanner.blank()?;
@@ -51,7 +51,7 @@ impl Reader {
         requires head { is_head self.old.state.context ≡ false }
         requires reads { reads_names self.old.state.context ≡ true }
         requires sign { begins_with (codes "@<") rest.now ≡ true }
-        ensures { Takes result rest.now self.old self.new }
+        ensures { Passes result rest.now self.old self.new }
     {
         self.text.clear();
         self.item = Open::Name {
@@ -67,7 +67,7 @@ impl Reader {
         requires head { is_head self.old.state.context ≡ false }
         requires reads { reads_names self.old.state.context ≡ true }
         requires sign { begins_with (codes "@(") rest.now ≡ true }
-        ensures { Takes result rest.now self.old self.new }
+        ensures { Passes result rest.now self.old self.new }
     {
         self.text.clear();
         self.item = Open::Name {
@@ -85,7 +85,7 @@ impl Reader {
         requires past { IsPast rest.now }
         requires plain { starts_raw rest.now ≡ false }
         requires sign { starts_literal rest.now ≡ true }
-        ensures { IfOk result (λ n. Takes n rest.now self.old self.new) }
+        ensures { IfOk result (λ n. Passes n rest.now self.old self.new) }
     {
         let prefix = literal_prefix(rest);
         let (opener, _) = rest.split_at(prefix + 1);
@@ -107,7 +107,7 @@ impl Reader {
         requires line { IsLine rest.now }
         requires past { IsPast rest.now }
         requires sign { starts_raw rest.now ≡ true }
-        ensures { IfOk result (λ n. Takes n rest.now self.old self.new) }
+        ensures { IfOk result (λ n. Passes n rest.now self.old self.new) }
     {
         let start = raw_prefix(rest) + 2;
         let (_, named) = rest.split_at(start);

@@ -1,5 +1,5 @@
-use Rattle.std.proofs.Common.{◌≡◌, true, false, [], sym, ap, ◌∙◌, subst}
-use Rattle.cweb_scan.specs.Fronted.{is_head, reads_c, reads_names, reads_literals}
+use Rattle.std.proofs.Common.{arith, ◌≡◌, true, sym}
+use Rattle.cweb_scan.specs.Fronted.{reads_c}
 use Rattle.cweb_scan.specs.State.{State}
 use Rattle.cweb_scan.specs.After.{blank}
 use Rattle.cweb_scan.specs.Resume.{InComment}
@@ -11,5 +11,8 @@ returns c =
     let s = c.self.inside.scanner in
     let g = c.self.inside.begun in
     let reads = at_state (λ (u : State). reads_c u.context ≡ true) _ _ c.self.view_is c.requires.reads in
-    takes_at 2 c.args.rest.now _ _ c.self.view_is c.requires.between (opened (blank s) g (InComment s.here)) _
-    (λ i. opened (sym c.in_ok-blank.ensures i) g (InComment (sym c.here-begun.ensures i))) (comment_opens s g c.args.rest.now reads c.requires.sign)
+    record {
+      some = omega arith;
+      taken = takes_at 2 c.args.rest.now _ _ c.self.view_is c.requires.between (opened (blank s) g (InComment s.here)) _
+          (λ i. opened (sym c.in_ok-blank.ensures i) g (InComment (sym c.here-begun.ensures i))) (comment_opens s g c.args.rest.now reads c.requires.sign);
+    }

@@ -1,8 +1,7 @@
-use Rattle.std.proofs.Common.{◌≡◌, true, false, [], sym, ap, ◌∙◌, subst, List, ℕ, ◌++◌, ◌+◌, take, drop}
-use Rattle.cweb_scan.specs.Fronted.{is_head, reads_c, reads_names, reads_literals}
+use Rattle.std.proofs.Common.{arith, ◌≡◌, true, sym, ap, ◌∙◌, ◌++◌, ◌+◌, take, drop}
+use Rattle.cweb_scan.specs.Fronted.{reads_literals}
 use Rattle.cweb_scan.specs.State.{State}
-use Rattle.std.specs.List.{list_all}
-use Rattle.cweb_rules.specs.Fronts.{literal_prefix, quote_of}
+use Rattle.cweb_rules.specs.Fronts.{quote_of}
 use Rattle.cweb_scan.specs.Resume.{InLiteral}
 use Rattle.cweb_scan.proofs.Opens.{opened, literal_opens_at, takes_at, at_state}
 use Rattle.cweb_scan.proofs.reader.Reader.open_literal.Goals as goal
@@ -16,6 +15,9 @@ returns c =
     let n = c.literal_prefix-prefix.result in
     let quote = c.of-quote.ensures ∙ ap quote_of c.split_at-2.ensures.back in
     let text = c.in_ok-extend_from_slice.ensures.items ∙ (λ i. c.clear.ensures.items i ++ c.split_at.ensures.front i) in
-    takes_at (n + 1) u _ _ c.self.view_is c.requires.between (opened s g (InLiteral s.here (quote_of (drop n u)) (take (n + 1) u))) _
-    (λ i. opened s g (InLiteral (sym c.here.ensures i) (sym quote i) (sym text i)))
-    (literal_opens_at s g u n c.literal_prefix-prefix.ensures.value reads c.requires.line c.requires.past c.requires.plain c.requires.sign)
+    record {
+      some = omega arith;
+      taken = takes_at (n + 1) u _ _ c.self.view_is c.requires.between (opened s g (InLiteral s.here (quote_of (drop n u)) (take (n + 1) u))) _
+          (λ i. opened s g (InLiteral (sym c.here.ensures i) (sym quote i) (sym text i)))
+          (literal_opens_at s g u n c.literal_prefix-prefix.ensures.value reads c.requires.line c.requires.past c.requires.plain c.requires.sign);
+    }

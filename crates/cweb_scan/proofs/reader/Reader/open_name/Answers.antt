@@ -1,5 +1,5 @@
-use Rattle.std.proofs.Common.{◌≡◌, true, false, [], sym, ap, ◌∙◌, subst}
-use Rattle.cweb_scan.specs.Fronted.{is_head, reads_c, reads_names, reads_literals}
+use Rattle.std.proofs.Common.{arith, ◌≡◌, true, false, [], sym}
+use Rattle.cweb_scan.specs.Fronted.{is_head, reads_names}
 use Rattle.cweb_scan.specs.State.{State}
 use Rattle.cweb_scan.specs.Resume.{InName}
 use Rattle.cweb_scan.proofs.Opens.{opened, name_opens, takes_at, at_state}
@@ -11,5 +11,8 @@ returns c =
     let g = c.self.inside.begun in
     let head = at_state (λ (u : State). is_head u.context ≡ false) _ _ c.self.view_is c.requires.head in
     let reads = at_state (λ (u : State). reads_names u.context ≡ true) _ _ c.self.view_is c.requires.reads in
-    takes_at 2 c.args.rest.now _ _ c.self.view_is c.requires.between (opened s g (InName s.here false [])) _
-    (λ i. opened s g (InName (sym c.here.ensures i) false (sym c.clear.ensures.items i))) (name_opens s g c.args.rest.now head reads c.requires.sign)
+    record {
+      some = omega arith;
+      taken = takes_at 2 c.args.rest.now _ _ c.self.view_is c.requires.between (opened s g (InName s.here false [])) _
+          (λ i. opened s g (InName (sym c.here.ensures i) false (sym c.clear.ensures.items i))) (name_opens s g c.args.rest.now head reads c.requires.sign);
+    }

@@ -1,7 +1,7 @@
-use Rattle.std.proofs.Common.{◌≡◌, true, false, [], sym, ap, ◌∙◌, subst, List, ℕ, ◌++◌, ◌+◌, ◌≤◌, ◌∷◌, length, take, drop}
-use Rattle.cweb_scan.specs.Fronted.{is_head, reads_c, reads_names, reads_literals}
+use Rattle.std.proofs.Common.{arith, ◌≡◌, true, sym, ap, ◌∙◌, ◌++◌, ◌+◌, length, take}
+use Rattle.cweb_scan.specs.Fronted.{reads_literals}
 use Rattle.cweb_scan.specs.State.{State}
-use Rattle.cweb_rules.specs.Fronts.{raw_prefix, delimiter}
+use Rattle.cweb_rules.specs.Fronts.{delimiter}
 use Rattle.cweb_scan.specs.Resume.{InRaw}
 use Rattle.cweb_scan.proofs.Opens.{opened, raw_opens_at, raw_fits_at, takes_at, at_state}
 use Rattle.cweb_scan.proofs.reader.Reader.open_raw.Goals as goal
@@ -23,6 +23,9 @@ returns c =
     let n = p + 2 + length d + 1 in
     let text = c.in_ok-extend_from_slice.ensures.items ∙ (λ i. c.clear.ensures.items i ++ c.split_at-2.ensures.front i) in
     let kept = c.in_ok-extend_from_slice-2.ensures.items ∙ (λ i. c.clear-2.ensures.items i ++ d) in
-    takes_at n u _ _ c.self.view_is c.requires.between (opened s g (InRaw s.here d (take n u))) _
-    (λ i. opened s g (InRaw (sym c.here.ensures i) (sym kept i) (sym text i)))
-    (raw_opens_at s g u p d c.raw_prefix-start.ensures.value name reads c.requires.line c.requires.past c.requires.sign)
+    record {
+      some = omega arith;
+      taken = takes_at n u _ _ c.self.view_is c.requires.between (opened s g (InRaw s.here d (take n u))) _
+          (λ i. opened s g (InRaw (sym c.here.ensures i) (sym kept i) (sym text i)))
+          (raw_opens_at s g u p d c.raw_prefix-start.ensures.value name reads c.requires.line c.requires.past c.requires.sign);
+    }

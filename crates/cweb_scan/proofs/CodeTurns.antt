@@ -1,0 +1,195 @@
+-- What is taken in one turn where no item is open: an item that ends in its line, and a code.
+use Rattle.std.proofs.Common.{◌≡◌, ◌≤◌, ℕ, Bool, true, false, ◌&&◌, ◌||◌, ◌==◌, not, ◌+◌, List, [], ◌∷◌, length, drop, get_or, refl, ap, sym, ◌∙◌, subst, arith}
+use Rattle.std.specs.Prelude.{if◌then◌else◌, codes}
+use Rattle.std.specs.List.{prefix_len}
+use Rattle.std.proofs.lemmas.Bool.{eqb-true}
+use Rattle.cweb_rules.specs.Bytes.{begins, is_one_of, lower, starts_section}
+use Rattle.cweb_rules.specs.Codes.{in_limbo, in_text, in_macro, in_c}
+use Rattle.cweb_rules.specs.Fronts.{front_in, code_at, code_front, section_at}
+use Rattle.cweb_rules.specs.Kinds.{Skipped, Front, front}
+use Rattle.cweb_rules.specs.Lines.{IsLine, opens_in, opens_code, opens_effect}
+use Rattle.cweb_rules.specs.declared.context.Context.{Context}
+use Rattle.cweb_rules.specs.declared.context.Context.TheVariants.{Limbo, TeX, Definition, Macro, CText}
+use Rattle.cweb_rules.specs.declared.effect.Effect.{Effect}
+use Rattle.cweb_rules.specs.declared.effect.Effect.TheVariants.{Nothing, Define, Format, Program, Named, InsertDefs, Joins, GiveAt, Faulty}
+use Rattle.cweb_rules.specs.declared.effect.Effect.TheVariants as effect
+use Rattle.cweb_rules.proofs.Closed.{is_named, c_named, macro_named, text_named}
+use Rattle.cweb_rules.proofs.Seams.{both}
+use Rattle.cweb_scan.specs.After.{enter_in}
+use Rattle.cweb_scan.specs.Directives.{is_c}
+use Rattle.cweb_scan.specs.Fronted.{Gives, effect_in, is_head, is_name, is_skipped, reads_c, reads_names}
+use Rattle.cweb_scan.specs.Held.{Held, Takes, Passes}
+use Rattle.cweb_scan.specs.Resume.{Between}
+use Rattle.cweb_scan.specs.Run.{front_of}
+use Rattle.cweb_scan.specs.State.{State}
+use Rattle.cweb_scan.proofs.Fairs.{fair}
+use Rattle.cweb_scan.proofs.Rests.{is_text, skipped_takes}
+use Rattle.cweb_scan.proofs.Turns.{between, enter_same, staying_takes}
+
+-- ITEMS THAT END IN THEIR LINE
+
+-- what a reader between two items is after another state
+abbrev pub at_item : Held → State → Held
+at_item v s = record { state = s; item = v.item; begun = v.begun }
+
+passed : (n : ℕ) (u : List ℕ) (s new : State) (g : Bool) (f : Front) → enter_in s.context (front_of s u).kind s ≡ s → IsLine u → 1 ≤ length u → front_of s u ≡ f → opens_in s.context u ≡ false
+    → Gives f u n s new → Passes n u (between s g) (between new g)
+passed n [] s new g f stays line some is ends gives = absurd (omega (arith, some))
+passed n (b ∷ t) s new g f stays line some is ends gives = record {
+  some = omega (arith, gives.size, ap (λ (v : Front). v.size) is, (fair s b t).some);
+  taken = staying_takes s new g n b t f line stays is ends gives;
+}
+
+-- an item that leaves no head
+pub staying_at : (n : ℕ) (u : List ℕ) (h v : Held) (new : State) (f : Front) → v ≡ h → h.item ≡ Between → enter_in h.state.context (front_of h.state u).kind h.state ≡ h.state → IsLine u → 1 ≤ length u
+    → front_of h.state u ≡ f → opens_in h.state.context u ≡ false → Gives f u n v.state new → Passes n u h (at_item v new)
+staying_at n u h v new f is none stays line some front ends =
+    subst (λ (k : Held). Gives f u n k.state new → Passes n u h (at_item k new)) (sym is)
+    (λ gives. subst (λ i. Passes n u (record { state = h.state; item = i; begun = h.begun }) (record { state = new; item = i; begun = h.begun })) (sym none)
+    (passed n u h.state new h.begun f stays line some front ends gives))
+
+pub closed_at : (n : ℕ) (u : List ℕ) (h v : Held) (new : State) (f : Front) → v ≡ h → h.item ≡ Between → is_head h.state.context ≡ false → IsLine u → 1 ≤ length u → front_of h.state u ≡ f
+    → opens_in h.state.context u ≡ false → Gives f u n v.state new → Passes n u h (at_item v new)
+closed_at n u h v new f is none head line some front ends gives =
+    staying_at n u h v new f is none (enter_same h.state.context (front_of h.state u).kind h.state head) line some front ends gives
+
+-- CODES
+
+-- `@` and a letter
+pub code_shape : (u : List ℕ) → starts_section u ≡ false → begins (codes "@") u ≡ true → 64 ∷ get_or u 1 0 ∷ drop 2 u ≡ u
+code_shape [] section at = cc
+code_shape (a ∷ []) section at =
+    let wrong : true ≡ false = subst (λ n. (n == 64) ≡ false) (sym (eqb-true 64 a (both (64 == a) true at).0)) section in cc
+code_shape (a ∷ b ∷ t) section at = ap (λ n. n ∷ b ∷ t) (eqb-true 64 a (both (64 == a) true at).0)
+
+pub code_size : (u : List ℕ) → starts_section u ≡ false → begins (codes "@") u ≡ true → 2 ≤ length u
+code_size u section at = omega (arith, ap (λ (v : List ℕ). length v) (code_shape u section at))
+
+code_is : (c : Context) (includes : Bool) (b : ℕ) (w : List ℕ) → is_head c ≡ false → starts_section (64 ∷ b ∷ w) ≡ false → front_in c includes (64 ∷ b ∷ w) ≡ code_front (effect_in c b) (not (is_c c)) (64 ∷ b ∷ w)
+code_is Limbo includes b w head h = ap (λ v. if v then section_at (64 ∷ b ∷ w) else code_front (in_limbo b) true (64 ∷ b ∷ w)) h
+code_is TeX includes b w head h = ap (λ v. if v then section_at (64 ∷ b ∷ w) else code_front (in_text b) true (64 ∷ b ∷ w)) h
+code_is (Definition begun) includes b w head h = cc
+code_is Macro includes b w head h = ap (λ v. if v then section_at (64 ∷ b ∷ w) else code_front (in_macro b) true (64 ∷ b ∷ w)) h
+code_is CText includes b w head h = ap (λ v. if v then section_at (64 ∷ b ∷ w) else code_front (in_c b) false (64 ∷ b ∷ w)) h
+
+code_opens : (c : Context) (b : ℕ) (w : List ℕ) → is_head c ≡ false → starts_section (64 ∷ b ∷ w) ≡ false → opens_in c (64 ∷ b ∷ w) ≡ opens_effect (effect_in c b) (64 ∷ b ∷ w)
+code_opens Limbo b w head h = ap (λ v. if v then false else opens_effect (in_limbo b) (64 ∷ b ∷ w)) h
+code_opens TeX b w head h = ap (λ v. if v then false else opens_effect (in_text b) (64 ∷ b ∷ w)) h
+code_opens (Definition begun) b w head h = cc
+code_opens Macro b w head h = ap (λ v. if v then false else opens_effect (in_macro b) (64 ∷ b ∷ w)) h
+code_opens CText b w head h = ap (λ v. if v then false else opens_effect (in_c b) (64 ∷ b ∷ w)) h
+
+-- a code that is no name's is one item, whether or not names take their sign
+plain_code : (e : Effect) (takes : Bool) (t : List ℕ) → is_name e ≡ false → (code_front e takes t ≡ code_front e true t) × (opens_effect e t ≡ false)
+plain_code Named takes t h = cc
+plain_code effect.Letter takes t h = (refl, refl)
+plain_code effect.ControlText takes t h = (refl, refl)
+plain_code effect.Verbatim takes t h = (refl, refl)
+plain_code effect.Constant takes t h = (refl, refl)
+plain_code Nothing takes t h = (refl, refl)
+plain_code Define takes t h = (refl, refl)
+plain_code Format takes t h = (refl, refl)
+plain_code Program takes t h = (refl, refl)
+plain_code InsertDefs takes t h = (refl, refl)
+plain_code Joins takes t h = (refl, refl)
+plain_code GiveAt takes t h = (refl, refl)
+plain_code (Faulty k) takes t h = (refl, refl)
+
+-- what a code's front is, and that it ends in its line
+pub plain_front : (c : Context) (includes : Bool) (u : List ℕ) → is_head c ≡ false → starts_section u ≡ false → begins (codes "@") u ≡ true → is_name (effect_in c (get_or u 1 0)) ≡ false
+    → (front_in c includes u ≡ code_front (effect_in c (get_or u 1 0)) true u) × (opens_in c u ≡ false)
+plain_front c includes u head section at plain =
+    let b = get_or u 1 0 in
+    let w = drop 2 u in
+    let shape = code_shape u section at in
+    let p = plain_code (effect_in c b) (not (is_c c)) (64 ∷ b ∷ w) plain in
+    let s = subst (λ (x : List ℕ). starts_section x ≡ false) (sym shape) section in
+    subst (λ (x : List ℕ). (front_in c includes x ≡ code_front (effect_in c b) true x) × (opens_in c x ≡ false)) shape
+    (code_is c includes b w head s ∙ p.0, code_opens c b w head s ∙ p.1)
+
+-- NAMES
+
+same_name : (e : Effect) → is_named e ≡ is_name e
+same_name Named = refl
+same_name effect.Letter = refl
+same_name effect.ControlText = refl
+same_name effect.Verbatim = refl
+same_name effect.Constant = refl
+same_name Nothing = refl
+same_name Define = refl
+same_name Format = refl
+same_name Program = refl
+same_name InsertDefs = refl
+same_name Joins = refl
+same_name GiveAt = refl
+same_name (Faulty k) = refl
+
+pick : (v : Bool) (x y : Effect) → is_named x ≡ false → is_named y ≡ false → is_named (if v then x else y) ≡ false
+pick true x y f g = f
+pick false x y f g = g
+
+limbo_plain : (b : ℕ) → is_named (in_limbo b) ≡ false
+limbo_plain b = pick (is_one_of (codes "@fs") (lower b)) _ _ refl (pick (is_one_of (codes "q") (lower b)) _ _ refl (pick (is_one_of (codes "l") (lower b)) _ _ refl refl))
+
+-- where a code names, names stand there, and its letter is one of the two
+named_letter : (c : Context) (b : ℕ) → is_named (effect_in c b) ≡ true → (reads_names c ≡ true) × (((60 == b) || (40 == b)) ≡ true)
+named_letter Limbo b h = let wrong : true ≡ false = sym h ∙ limbo_plain b in cc
+named_letter TeX b h = (refl, text_named b h)
+named_letter (Definition begun) b h = (refl, text_named b h)
+named_letter Macro b h = (refl, macro_named b h)
+named_letter CText b h = (refl, c_named b h)
+
+pub name_reads : (c : Context) (b : ℕ) → is_name (effect_in c b) ≡ true → reads_names c ≡ true
+name_reads c b h = (named_letter c b (same_name (effect_in c b) ∙ h)).0
+
+other : (x y : Bool) → (x || y) ≡ true → (x && true) ≡ false → (y && true) ≡ true
+other true y h f = cc
+other false true h f = refl
+other false false h f = h
+
+-- a name that isn't begun by `@<` is a file's
+pub name_or_file : (c : Context) (u : List ℕ) → starts_section u ≡ false → begins (codes "@") u ≡ true → is_name (effect_in c (get_or u 1 0)) ≡ true → begins (codes "@<") u ≡ false → begins (codes "@(") u ≡ true
+name_or_file c u section at name angle =
+    let b = get_or u 1 0 in
+    let shape = code_shape u section at in
+    let f : ((60 == b) && true) ≡ false = subst (λ (x : List ℕ). begins (codes "@<") x ≡ false) (sym shape) angle in
+    subst (λ (x : List ℕ). begins (codes "@(") x ≡ true) shape (other (60 == b) (40 == b) (named_letter c b (same_name (effect_in c b) ∙ name)).1 f)
+
+-- LIMBO AND TEXT
+
+text_is : (c : Context) → reads_c c ≡ false → is_text c ≡ true
+text_is Limbo h = refl
+text_is TeX h = refl
+text_is (Definition begun) h = cc
+text_is Macro h = cc
+text_is CText h = cc
+
+pub text_head : (c : Context) → reads_c c ≡ false → is_head c ≡ false
+text_head Limbo h = refl
+text_head TeX h = refl
+text_head (Definition begun) h = cc
+text_head Macro h = refl
+text_head CText h = refl
+
+-- what stands before the next `@`
+pub skipped_at : (n : ℕ) (u : List ℕ) (h : Held) → n ≡ prefix_len is_skipped u → 1 ≤ n → h.item ≡ Between → reads_c h.state.context ≡ false → IsLine u → Passes n u h h
+skipped_at n u h is some none text line =
+    subst (λ i. Passes n u (record { state = h.state; item = i; begun = h.begun }) (record { state = h.state; item = i; begun = h.begun })) (sym none) (record {
+      some = some;
+      taken = subst (λ k. Takes k u (between h.state h.begun) (between h.state h.begun)) (sym is) (skipped_takes h.state h.begun u (text_is h.state.context text) line);
+    })
+
+-- nothing stands before an `@`
+pub none_skipped : (u : List ℕ) → 1 ≤ length u → prefix_len is_skipped u ≡ 0 → begins (codes "@") u ≡ true
+none_skipped [] some h = absurd (omega (arith, some))
+none_skipped (b ∷ t) some h = (elim (b == 64) as (λ v. (b == 64) ≡ v → (if not v then 1 + prefix_len is_skipped t else 0) ≡ 0 → begins (codes "@") (b ∷ t) ≡ true) [
+  | true ↦ λ e g. ap (λ n. begins (codes "@") (n ∷ t)) (eqb-true b 64 e)
+  | false ↦ λ e g. absurd (omega (arith, g))
+]) refl h
+
+pub section_text : (c : Context) (includes : Bool) (u : List ℕ) → reads_c c ≡ false → starts_section u ≡ true → (front_in c includes u ≡ section_at u) × (opens_in c u ≡ false)
+section_text Limbo includes u c h = (ap (λ v. if v then section_at u else (if begins (codes "@") u then code_at in_limbo true u else front Skipped 1)) h, ap (λ v. if v then false else (if begins (codes "@") u then opens_code in_limbo u else false)) h)
+section_text TeX includes u c h = (ap (λ v. if v then section_at u else (if begins (codes "@") u then code_at in_text true u else front Skipped 1)) h, ap (λ v. if v then false else (if begins (codes "@") u then opens_code in_text u else false)) h)
+section_text (Definition begun) includes u c h = cc
+section_text Macro includes u c h = cc
+section_text CText includes u c h = cc

@@ -1,0 +1,248 @@
+-- What is taken in one turn in a head.
+use Rattle.std.proofs.Common.{◌≡◌, ◌≤◌, ℕ, Bool, true, false, ◌&&◌, ◌||◌, ◌==◌, not, List, [], ◌∷◌, ◌++◌, Option, Some, None, length, drop, take, refl, ap, sym, ◌∙◌, subst, arith}
+use Rattle.std.specs.Prelude.{if◌then◌else◌, codes}
+use Rattle.std.specs.List.{prefix_len}
+use Rattle.std.proofs.lemmas.Bool.{eqb-true}
+use Rattle.cweb_files.specs.declared.place.Place.{Place}
+use Rattle.cweb_rules.specs.Bytes.{begins, is_blank, is_line_end, is_digit, is_word_byte, starts_section}
+use Rattle.cweb_rules.specs.Codes.{in_text, in_macro}
+use Rattle.cweb_rules.specs.Constants.{letter}
+use Rattle.cweb_rules.specs.Fronts.{front_in, c_front, code_at, code_front, head_as, head_front, letter_is, section_at, text_front}
+use Rattle.cweb_rules.specs.Kinds.{Kind, Skipped, Section, Code, Letter, ControlText, Verbatim, Constant, Occurrence, Blanks, LineEnd, Comment, Quoted, Defined, Identifier, Numeral, Punctuator, Front, front}
+use Rattle.cweb_rules.specs.Lines.{AtLineEnd, IsLine, opens_in, c_opens, opens_code, text_opens}
+use Rattle.cweb_rules.specs.Rules.{c_rule, c_front_by}
+use Rattle.cweb_rules.specs.declared.constants.Transliteration.{Transliteration}
+use Rattle.cweb_rules.specs.declared.context.Context.{Context}
+use Rattle.cweb_rules.specs.declared.context.Context.TheVariants.{Definition}
+use Rattle.cweb_rules.specs.declared.effect.Effect.{Effect}
+use Rattle.cweb_rules.specs.declared.effect.Effect.TheVariants.{Nothing, Define, Format, Program, Named, InsertDefs, Joins, GiveAt, Faulty}
+use Rattle.cweb_rules.specs.declared.effect.Effect.TheVariants as effect
+use Rattle.cweb_rules.specs.declared.rule.Rule.{Rule}
+use Rattle.cweb_rules.specs.declared.rule.Rule.TheVariants as rule
+use Rattle.cweb_rules.proofs.ByRules.{c_front-by}
+use Rattle.cweb_rules.proofs.LineItems.{starts_raw_line, starts_literal_line}
+use Rattle.cweb_rules.proofs.Seams.{begins_line, starts_number_stop, starts_section_line, stops}
+use Rattle.cweb_scan.specs.After.{blank, enter_in, item, stays_in_head}
+use Rattle.cweb_scan.specs.Directives.{directive, is_c, is_some, names_include}
+use Rattle.cweb_scan.specs.Directives as directives
+use Rattle.cweb_scan.specs.Fronted.{Gives}
+use Rattle.cweb_scan.specs.Held.{Held, Passes}
+use Rattle.cweb_scan.specs.Resume.{Between}
+use Rattle.cweb_scan.specs.Run.{front_of, run}
+use Rattle.cweb_scan.specs.State.{State, drop_definition, give}
+use Rattle.cweb_scan.proofs.CodeTurns.{at_item, staying_at}
+use Rattle.cweb_scan.proofs.Openers.{run_as}
+use Rattle.cweb_scan.proofs.RuleTurns.{is_ended}
+use Rattle.cweb_scan.proofs.TakenItems.{reading}
+use Rattle.cweb_scan.proofs.Turns.{opens_by, c_opens-by, neither}
+use Rattle.cweb_store.specs.Parts as parts
+
+-- WHAT LEAVES A HEAD
+
+-- the kinds of what a head has not
+abbrev pub is_foreign : Kind → Bool
+is_foreign Blanks = false
+is_foreign LineEnd = false
+is_foreign (Comment how) = false
+is_foreign Identifier = false
+is_foreign (Defined tight) = false
+is_foreign k = true
+
+head_text : (k : Kind) (f : Front) (t : List ℕ) → is_foreign k ≡ true → head_as k f t ≡ text_front in_text t
+head_text Blanks f t h = cc
+head_text LineEnd f t h = cc
+head_text (Comment how) f t h = cc
+head_text Identifier f t h = cc
+head_text (Defined tight) f t h = cc
+head_text Skipped f t h = refl
+head_text (Section starred) f t h = refl
+head_text (Code c) f t h = refl
+head_text (Letter byte text) f t h = refl
+head_text (ControlText how) f t h = refl
+head_text (Verbatim us how) f t h = refl
+head_text (Constant v) f t h = refl
+head_text (Occurrence is_file us how opens) f t h = refl
+head_text (Quoted us how) f t h = refl
+head_text Numeral f t h = refl
+head_text Punctuator f t h = refl
+
+foreign_leaves : (k : Kind) → is_foreign k ≡ true → stays_in_head k ≡ false
+foreign_leaves Blanks h = cc
+foreign_leaves LineEnd h = cc
+foreign_leaves (Comment how) h = cc
+foreign_leaves Identifier h = cc
+foreign_leaves (Defined tight) h = cc
+foreign_leaves Skipped h = refl
+foreign_leaves (Section starred) h = refl
+foreign_leaves (Code c) h = refl
+foreign_leaves (Letter byte text) h = refl
+foreign_leaves (ControlText how) h = refl
+foreign_leaves (Verbatim us how) h = refl
+foreign_leaves (Constant v) h = refl
+foreign_leaves (Occurrence is_file us how opens) h = refl
+foreign_leaves (Quoted us how) h = refl
+foreign_leaves Numeral h = refl
+foreign_leaves Punctuator h = refl
+
+either : (is : Front → Bool) (v : Bool) (x y : Front) → is x ≡ true → is y ≡ true → is (if v then x else y) ≡ true
+either is true x y f g = f
+either is false x y f g = g
+
+abbrev pub foreign : Front → Bool
+foreign f = is_foreign f.kind
+
+foreign_section : (t : List ℕ) → foreign (section_at t) ≡ true
+foreign_section t = either foreign (begins (codes "@*") t) (front (Section true) 2) (front (Section false) 1) refl refl
+
+foreign_letter : (l : Option Transliteration) (t : List ℕ) → foreign (letter_is l t) ≡ true
+foreign_letter None t = refl
+foreign_letter (Some l) t = refl
+
+foreign_effect : (e : Effect) (takes : Bool) (t : List ℕ) → foreign (code_front e takes t) ≡ true
+foreign_effect Named takes t = refl
+foreign_effect effect.Letter takes t = foreign_letter (letter (drop 2 t)) t
+foreign_effect effect.ControlText takes t = refl
+foreign_effect effect.Verbatim takes t = refl
+foreign_effect effect.Constant takes t = refl
+foreign_effect Nothing takes t = refl
+foreign_effect Define takes t = refl
+foreign_effect Format takes t = refl
+foreign_effect Program takes t = refl
+foreign_effect InsertDefs takes t = refl
+foreign_effect Joins takes t = refl
+foreign_effect GiveAt takes t = refl
+foreign_effect (Faulty k) takes t = refl
+
+foreign_code : (effect : ℕ → Effect) (takes : Bool) (t : List ℕ) → foreign (code_at effect takes t) ≡ true
+foreign_code effect takes [] = refl
+foreign_code effect takes (a ∷ []) = refl
+foreign_code effect takes (a ∷ b ∷ t) = foreign_effect (effect b) takes (a ∷ b ∷ t)
+
+foreign_text : (effect : ℕ → Effect) (t : List ℕ) → foreign (text_front effect t) ≡ true
+foreign_text effect t =
+    either foreign (starts_section t) _ _ (foreign_section t) (either foreign (begins (codes "@") t) _ (front Skipped 1) (foreign_code effect true t) refl)
+
+pub foreign_rule : (v : List ℕ) (r : Rule) → (r ≡ rule.Blanks → ⊥) → (r ≡ rule.Comment → ⊥) → (r ≡ rule.LineComment → ⊥) → (r ≡ rule.Identifier → ⊥) → is_ended r ≡ false → foreign (c_front_by in_macro true v r) ≡ true
+foreign_rule v rule.Blanks b c l n e = absurd (b refl)
+foreign_rule v rule.LineEnd b c l n e = cc
+foreign_rule v rule.Comment b c l n e = absurd (c refl)
+foreign_rule v rule.LineComment b c l n e = absurd (l refl)
+foreign_rule v rule.Section b c l n e = foreign_section v
+foreign_rule v rule.Code b c l n e = foreign_code in_macro true v
+foreign_rule v rule.RawLiteral b c l n e = refl
+foreign_rule v rule.Literal b c l n e = refl
+foreign_rule v rule.IncludedName b c l n e = refl
+foreign_rule v rule.Number b c l n e = refl
+foreign_rule v rule.Identifier b c l n e = absurd (n refl)
+foreign_rule v rule.Punctuator b c l n e = refl
+
+by_rule : (v : List ℕ) (r : Rule) → r ≡ c_rule false v → c_front in_macro true false v ≡ c_front_by in_macro true v r
+by_rule v r is = c_front-by in_macro true false v ∙ ap (c_front_by in_macro true v) (sym is)
+
+-- which rule fits in a line doesn't depend on what comes after it
+rule_line : (b : ℕ) (t more : List ℕ) → AtLineEnd more → c_rule false (b ∷ t ++ more) ≡ c_rule false (b ∷ t)
+rule_line b t more e = λ i.
+    if is_blank b then rule.Blanks
+    else (if is_line_end b then rule.LineEnd
+    else (if begins_line (codes "/*") (b ∷ t) more refl e i then rule.Comment
+    else (if begins_line (codes "//") (b ∷ t) more refl e i then rule.LineComment
+    else (if starts_section_line b t more e i then rule.Section
+    else (if begins_line (codes "@") (b ∷ t) more refl e i then rule.Code
+    else (if starts_raw_line (b ∷ t) more e i then rule.RawLiteral
+    else (if starts_literal_line (b ∷ t) more e i then rule.Literal
+    else (if starts_number_stop b t more (stops is_digit more refl e) i then rule.Number
+    else (if is_word_byte b then rule.Identifier
+    else rule.Punctuator)))))))))
+
+-- what has left a head is what text makes of it, once the definition is dropped
+dropped_run : (s : State) (begun : Place) (later : List Place) (b : ℕ) (t : List ℕ) → s.context ≡ Definition begun → head_front (b ∷ t) ≡ text_front in_text (b ∷ t)
+    → run (reading (drop_definition begun s) later) (b ∷ t) ≡ run (reading s later) (b ∷ t)
+dropped_run s begun later b t in_head left =
+    let u = b ∷ t in
+    let f = text_front in_text u in
+    let k = f.kind in
+    let entered : enter_in s.context k s ≡ drop_definition begun s =
+    ap (λ (c : Context). enter_in c k s) in_head ∙ ap (λ v. if v then s else drop_definition begun s) (foreign_leaves k (foreign_text in_text u)) in
+    run_as (reading (drop_definition begun s) later) b t f refl
+    ∙ sym (ap (λ (v : State). run (item k (take f.size u) (reading v later)) (drop f.size u)) entered)
+    ∙ sym (run_as (reading s later) b t f (ap (λ (c : Context). front_in c (names_include s) u) in_head ∙ left))
+
+dropped_line : (s : State) (begun : Place) (later : List Place) (u more : List ℕ) (r : Rule) → s.context ≡ Definition begun → 1 ≤ length u → AtLineEnd more → r ≡ c_rule false u
+    → ((v : List ℕ) → foreign (c_front_by in_macro true v r) ≡ true) → run (reading (drop_definition begun s) later) (u ++ more) ≡ run (reading s later) (u ++ more)
+dropped_line s begun later [] more r in_head some e is left = absurd (omega (arith, some))
+dropped_line s begun later (b ∷ t) more r in_head some e is left =
+    let v = b ∷ t ++ more in
+    let f = c_front in_macro true false v in
+    dropped_run s begun later b (t ++ more) in_head (head_text f.kind f v (ap foreign (by_rule v r (is ∙ sym (rule_line b t more e))) ∙ left v))
+
+dropped_passes : (n : ℕ) (u : List ℕ) (h v new : Held) (begun : Place) (r : Rule) → v ≡ h → h.item ≡ Between → h.state.context ≡ Definition begun → 1 ≤ length u → r ≡ c_rule false u
+    → ((w : List ℕ) → foreign (c_front_by in_macro true w r) ≡ true) → Passes n u (at_item v (drop_definition begun v.state)) new → Passes n u h new
+dropped_passes n u h v new begun r same none in_head some is left passes =
+    let p = subst (λ (k : Held). Passes n u (at_item k (drop_definition begun k.state)) new) same passes in
+    let old : record { state = h.state; item = Between; begun = h.begun } ≡ h = λ i. record { state = h.state; item = sym none i; begun = h.begun } in
+    let q = subst (λ i. Passes n u (record { state = drop_definition begun h.state; item = i; begun = h.begun }) new) none p in
+    subst (λ (k : Held). Passes n u k new) old (record {
+      some = q.some;
+      taken = record {
+        begun = q.taken.begun;
+        within = q.taken.within;
+        adds = q.taken.adds;
+        same = λ later more e. q.taken.same later more e ∙ dropped_line h.state begun later u more r in_head some e is left;
+      };
+    })
+
+pub dropped_at : (n : ℕ) (u : List ℕ) (h v new : Held) (dropped : State) (begun : Place) (r : Rule) → v ≡ h → h.item ≡ Between → h.state.context ≡ Definition begun → 1 ≤ length u → r ≡ c_rule false u
+    → ((w : List ℕ) → foreign (c_front_by in_macro true w r) ≡ true) → dropped ≡ drop_definition begun v.state → Passes n u (at_item v dropped) new → Passes n u h new
+dropped_at n u h v new dropped begun r same none in_head some is left made passes =
+    dropped_passes n u h v new begun r same none in_head some is left (subst (λ (x : State). Passes n u (at_item v x) new) made passes)
+
+-- WHAT STAYS IN A HEAD
+
+no_at : (is : Rule → Bool) (u : List ℕ) → is rule.Section ≡ false → is rule.Code ≡ false → is (c_rule false u) ≡ true → begins (codes "@") u ≡ false
+no_at is [] s c h = refl
+no_at is (b ∷ t) s c h = (elim (64 == b) as (λ v. (64 == b) ≡ v → (v && true) ≡ false) [
+  | true ↦ λ e.
+      let first : is (c_rule false (64 ∷ t)) ≡ true = subst (λ n. is (c_rule false (n ∷ t)) ≡ true) (sym (eqb-true 64 b e)) h in
+      let wrong : true ≡ false = sym first ∙ neither is (starts_section (64 ∷ t)) rule.Section rule.Code s c in cc
+  | false ↦ λ e. refl
+]) refl
+
+unless : (v x : Bool) → x ≡ false → (if v then false else x) ≡ false
+unless true x h = refl
+unless false x h = h
+
+-- its item ends in its line
+head_closed : (is : Rule → Bool) (u : List ℕ) (r : Rule) → r ≡ c_rule false u → is r ≡ true → is rule.Section ≡ false → is rule.Code ≡ false → opens_by in_macro u r ≡ false
+    → (c_opens in_macro u || text_opens in_text u) ≡ false
+head_closed is u r same fits s c ends =
+    let at : begins (codes "@") u ≡ false = no_at is u s c (ap is (sym same) ∙ fits) in
+    let x : c_opens in_macro u ≡ false = c_opens-by in_macro false u ∙ ap (opens_by in_macro u) (sym same) ∙ ends in
+    let y : text_opens in_text u ≡ false = unless (starts_section u) (if begins (codes "@") u then opens_code in_text u else false) (ap (λ v. if v then opens_code in_text u else false) at) in
+    λ i. x i || y i
+
+abbrev pub stays : Rule → Bool
+stays rule.Blanks = true
+stays rule.LineComment = true
+stays rule.Identifier = true
+stays r = false
+
+head_is : (u : List ℕ) (r : Rule) → r ≡ c_rule false u → head_front u ≡ (let f = c_front_by in_macro true u r in head_as f.kind f u)
+head_is u r is = ap (λ (f : Front). head_as f.kind f u) (by_rule u r is)
+
+-- an item that belongs to a head
+pub head_passes : (n : ℕ) (u : List ℕ) (h v : Held) (new : State) (begun : Place) (r : Rule) (f : Front) → v ≡ h → h.item ≡ Between → h.state.context ≡ Definition begun → IsLine u → 1 ≤ length u → r ≡ c_rule false u
+    → stays r ≡ true → opens_by in_macro u r ≡ false → (let g = c_front_by in_macro true u r in head_as g.kind g u) ≡ f → stays_in_head f.kind ≡ true → Gives f u n v.state new → Passes n u h (at_item v new)
+head_passes n u h v new begun r f same none in_head line some is fits ends gives_front stay gives =
+    let s = h.state in
+    let front : front_of s u ≡ f = ap (λ (c : Context). front_in c (names_include s) u) in_head ∙ head_is u r is ∙ gives_front in
+    let stayed : enter_in s.context (front_of s u).kind s ≡ s =
+    ap (λ (g : Front). enter_in s.context g.kind s) front ∙ ap (λ (c : Context). enter_in c f.kind s) in_head ∙ ap (λ v. if v then s else drop_definition begun s) stay in
+    staying_at n u h v new f same none stayed line some front (ap (λ (c : Context). opens_in c u) in_head ∙ head_closed stays u r is fits refl refl ends) gives
+
+-- blanks give nothing
+pub blanks_pass : (n : ℕ) (u : List ℕ) (h : Held) (begun : Place) (r : Rule) → r ≡ rule.Blanks → h.item ≡ Between → h.state.context ≡ Definition begun → IsLine u → 1 ≤ length u → r ≡ c_rule false u → n ≡ prefix_len is_blank u → Passes n u h h
+blanks_pass n u h begun r blanks none in_head line some is size =
+    let s = h.state in
+    let same : s ≡ blank s =
+    sym (ap (λ v. if (v && is_some (directive s).tokens) && not (directives.is_blank (directive s).last) then give parts.Blank s else s) (ap is_c in_head)) in
+    head_passes n u h h s begun rule.Blanks (front Blanks (prefix_len is_blank u)) refl none in_head line some (sym blanks ∙ is) refl refl refl refl (record { size = size; state = same })
