@@ -40,3 +40,5 @@ pub mod Texts
 pub mod CodeTurns
 pub mod RuleTurns
 pub mod HeadTurns
+pub mod OpenRests
+pub mod OpenReaders

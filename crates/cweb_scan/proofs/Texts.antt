@@ -100,3 +100,12 @@ name_kept s a c us =
     let t = unit_state s a in
     let v = fold unit_state t us in
     both_kept s t _ (unit_kept s a) (both_kept t v _ (units_kept us t) (unit_kept v c))
+
+-- the faults of an included name as the code tells them
+pub told : (s a b d : State) (x l y f u z : List ℕ) → a ≡ unit_state s x → b ≡ fold unit_state a (reach look_in_include Open l).units → d ≡ unit_state b y → x ≡ f → l ≡ u → y ≡ z
+    → d ≡ unit_state (fold unit_state (unit_state s f) (reach look_in_include Open u).units) z
+told s a b d x l y f u z first units close front line back =
+    close
+    ∙ (λ i. unit_state (units i) (back i))
+    ∙ (λ i. unit_state (fold unit_state (first i) (reach look_in_include Open (line i)).units) z)
+    ∙ (λ i. unit_state (fold unit_state (unit_state s (front i)) (reach look_in_include Open u).units) z)

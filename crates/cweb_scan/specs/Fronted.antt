@@ -51,10 +51,11 @@ ended_as at_end Cut = Cut
 ended_as at_end Nested = Nested
 ended_as at_end Open = at_end
 
--- the rules of C text whose items end in their line, but for codes, sections and included names
+-- the rules of C text whose items end in their line, but for codes and sections
 abbrev pub ends_in_line : Rule → Bool
 ends_in_line rule.Blanks = true
 ends_in_line rule.LineComment = true
+ends_in_line rule.IncludedName = true
 ends_in_line rule.Number = true
 ends_in_line rule.Identifier = true
 ends_in_line rule.Punctuator = true

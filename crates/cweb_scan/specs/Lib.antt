@@ -14,3 +14,4 @@ pub mod Fronted
 pub mod Quotes
 pub mod Scan
 pub mod Ruled
+pub mod OpenRest

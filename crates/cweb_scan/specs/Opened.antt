@@ -1,5 +1,7 @@
 -- The open item as the code keeps it: what is open, its text so far, and the delimiter of a raw literal.
-use Rattle.std.specs.Prelude.{◌≡◌, ℕ, Bool, true, false, List}
+use Rattle.std.specs.Prelude.{◌≡◌, ℕ, Bool, true, false, not, List}
+use Rattle.std.specs.List.{list_all}
+use Rattle.cweb_rules.specs.Bytes.{is_line_end}
 use Rattle.cweb_rules.specs.declared.context.Context.{Context}
 use Rattle.cweb_scan.specs.Kept.{has_part}
 use Rattle.cweb_scan.specs.Resume.{Item, sign_of}
@@ -22,7 +24,8 @@ is_raw kind = elim kind [ Between ↦ false | Comment begun ↦ false | Name beg
 abbrev pub is_quoted : Open → Bool
 is_quoted kind = elim kind [ Between ↦ false | Comment begun ↦ false | Name begun is_file ↦ false | Literal begun quote ↦ true | AfterBackslash begun quote ↦ true | Raw begun ↦ true ]
 
--- in a raw literal the closing sign is that of the delimiter; literals are open only in parts
+-- in a raw literal the closing sign is that of the delimiter, and holds no line end; literals are open only in parts
 pub record IsSigned (kind : Open) (context : Context) (delimiter sign : List ℕ) : Type 0 where
   pub signed : is_raw kind ≡ true → sign ≡ sign_of delimiter
+  pub clean : is_raw kind ≡ true → list_all (λ b. not (is_line_end b)) sign ≡ true
   pub in_part : is_quoted kind ≡ true → has_part context ≡ true

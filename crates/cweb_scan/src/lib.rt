@@ -10,6 +10,7 @@ mod line_ends;
 mod names;
 mod occurrences;
 mod open;
+mod open_rest;
 mod opened;
 mod parts;
 mod reader;

@@ -11,6 +11,7 @@ use std::alloc::AllocError;
 
 impl Scanner {
     ghost use Rattle.cweb_rules.specs.Codes.{in_c};
+    ghost use Rattle.cweb_rules.specs.Lines.{IsLine};
     ghost use Rattle.cweb_rules.specs.Rules.{c_front_by};
     ghost use Rattle.cweb_scan.specs.Fronted.{ends_in_line, needs_two, Gives};
     ghost use Rattle.cweb_scan.specs.Kept.{has_part};
@@ -18,6 +19,7 @@ impl Scanner {
 
     /// What a rule of C text names, where it ends in its line and is no code.
     pub fn take_rule(&mut self, rule: Rule, rest: &[u8]) -> Result<usize, AllocError>
+        requires line { IsLine rest.now }
         requires ends { ends_in_line rule ≡ true }
         requires part { has_part self.old.context ≡ true }
         requires room { HasRoom 1 self.old }
@@ -31,6 +33,7 @@ impl Scanner {
                 Ok(run_len(Class::Blank, rest))
             }
             Rule::LineComment => self.take_line_comment(rest),
+            Rule::IncludedName => self.take_included_name(rest),
             Rule::Number => {
                 let size = number_len(rest);
                 self.give(Token::Number(rest.split_at(size).0))?;

@@ -1,8 +1,9 @@
-use Rattle.std.proofs.Common.{arith, ◌≡◌, true, sym, ap, ◌∙◌, ◌++◌, ◌+◌, length, take}
-use Rattle.cweb_scan.specs.Fronted.{reads_literals}
+use Rattle.std.proofs.Common.{arith, ◌≡◌, true, [], sym, ap, ◌∙◌, ◌++◌, ◌+◌, ◌∷◌, length, take, drop}
+use Rattle.cweb_scan.specs.Fronted.{reads_literals, literals_in_part}
 use Rattle.cweb_scan.specs.State.{State}
 use Rattle.cweb_rules.specs.Fronts.{delimiter}
 use Rattle.cweb_scan.specs.Resume.{InRaw}
+use Rattle.cweb_scan.proofs.OpenReaders.{raw_signed}
 use Rattle.cweb_scan.proofs.Opens.{opened, raw_opens_at, raw_fits_at, takes_at, at_state}
 use Rattle.cweb_scan.proofs.reader.Reader.open_raw.Goals as goal
 
@@ -10,6 +11,20 @@ pub split_at-requires-2 : goal.split_at-requires-2
 split_at-requires-2 c =
     let name = c.delimiter-name.ensures ∙ ap delimiter c.split_at.ensures.back in
     raw_fits_at c.args.rest.now c.raw_prefix-start.result c.delimiter-name.result.now c.raw_prefix-start.ensures.value name c.requires.sign
+
+pub invariant_of-self-2 : goal.invariant_of-self-2
+invariant_of-self-2 c =
+    let s = c.self.inside.scanner in
+    let d = c.delimiter-name.result.now in
+    let reads = at_state (λ (u : State). reads_literals u.context ≡ true) _ _ c.self.view_is c.requires.reads in
+    let name = c.delimiter-name.ensures ∙ ap delimiter c.split_at.ensures.back in
+    let kept = c.in_ok-extend_from_slice-2.ensures.items ∙ (λ i. c.clear-2.ensures.items i ++ d) in
+    let sign =
+    c.in_ok-push-2.ensures.items
+    ∙ (λ i. c.in_ok-extend_from_slice-3.ensures.items i ++ 34 ∷ [])
+    ∙ (λ i. (c.in_ok-push.ensures.items i ++ d) ++ 34 ∷ [])
+    ∙ (λ i. ((c.clear-3.ensures.items i ++ 41 ∷ []) ++ d) ++ 34 ∷ []) in
+    raw_signed s.context c.here.result (drop (c.raw_prefix-start.result + 2) c.args.rest.now) d _ _ name kept sign (literals_in_part s.context reads)
 
 pub returns : goal.returns
 returns c =

@@ -1,0 +1,203 @@
+-- The rest of an item that is open: what a turn of it takes.
+use Rattle.std.proofs.Common.{◌≡◌, ◌≤◌, ◌<◌, ℕ, ◌+◌, Bool, true, false, List, [], ◌∷◌, ◌++◌, length, take, drop, refl, ap, sym, ◌∙◌, subst, arith}
+use Rattle.std.specs.Prelude.{if◌then◌else◌, codes, bytes_eq, nat_lt}
+use Rattle.std.specs.List.{list_all}
+use Rattle.std.proofs.lemmas.List.{length-drop, drop_all}
+use Rattle.cweb_files.specs.declared.place.Place.{Place}
+use Rattle.cweb_rules.specs.Bytes.{begins}
+use Rattle.cweb_rules.specs.Cut.{Reach, reach, size_of}
+use Rattle.cweb_rules.specs.Fronts.{sign_after}
+use Rattle.cweb_rules.specs.Items.{unit_bytes, look_in_comment, look_in_name, look_in_literal, look_in_raw}
+use Rattle.cweb_rules.specs.Lines.{IsLine, is_open as stays}
+use Rattle.cweb_rules.specs.Looks.{reached, MovesOn}
+use Rattle.cweb_rules.specs.declared.end.End.{End}
+use Rattle.cweb_rules.specs.declared.end.End.TheVariants.{Closed, Cut, Nested, Open}
+use Rattle.cweb_rules.specs.declared.items.Reached.{Reached}
+use Rattle.cweb_rules.specs.declared.look.Look.{Look}
+use Rattle.cweb_rules.specs.declared.look.Look.TheVariants.{Goes, Ends}
+use Rattle.cweb_rules.specs.declared.fault.ScanKind.TheVariants.{DoubleAtInString}
+use Rattle.cweb_rules.proofs.Reaches.{IsWithin, comment-units, name-units, raw-units}
+use Rattle.cweb_rules.proofs.Sizes.{end_size, name-within, raw-within, comment-within, begins-size, reach-size, sign_after-size}
+use Rattle.cweb_rules.proofs.Seams.{in_line}
+use Rattle.cweb_scan.specs.After.{comment, occurrence}
+use Rattle.cweb_scan.specs.Fronted.{ended_as, unit_state}
+use Rattle.cweb_scan.specs.Held.{Held}
+use Rattle.cweb_scan.specs.OpenRest.{text_of, with_text, delimiter_of, literal_turn, look_size, TakesOpen}
+use Rattle.cweb_scan.specs.Resume.{Item, Between, InComment, InName, InLiteral, AfterBackslash, InRaw, resume, sign_of, takes_sign}
+use Rattle.cweb_scan.specs.Room.{weight}
+use Rattle.cweb_scan.specs.Run.{run}
+use Rattle.cweb_scan.specs.State.{State, fault}
+use Rattle.cweb_scan.proofs.Ends.{size-at_end, how-at_end}
+use Rattle.cweb_scan.proofs.OpenItems.{comment_stays, comment_ends}
+use Rattle.cweb_scan.proofs.Opens.{opened}
+use Rattle.cweb_scan.proofs.TakenItems.{reading}
+use Rattle.cweb_scan.proofs.Turns.{between}
+use Rattle.cweb_scan.proofs.UnitsTaken.{name_unit, name_end, literal_unit_taken, literal_end, raw_unit_taken, raw_end}
+use Rattle.cweb_scan.proofs.Weights.{comment-weight, occurrence-weight, literal-weight}
+
+-- COMMENTS
+
+abbrev in_comment : List ℕ → Reach
+in_comment u = reach (look_in_comment (begins (codes "*/")) 2) Open u
+
+-- one that the line doesn't end
+pub comment_goes : (s : State) (g : Bool) (begun : Place) (u : List ℕ) (r : Reached) → IsLine u → 1 ≤ length u → r ≡ reached (in_comment u) → stays r.how ≡ true
+    → TakesOpen (length u) u (opened s g (InComment begun)) (opened s g (InComment begun))
+comment_goes s g begun u r line some is still = record {
+  takes = record {
+    begun = refl;
+    within = omega arith;
+    adds = omega arith;
+    same = λ later more e.
+        ap (λ (t : List ℕ). resume (InComment begun) (t ++ more) (reading s later)) (drop_all (length u) u (omega arith))
+        ∙ sym (comment_stays begun u more (reading s later) e line (sym (ap (λ (v : Reached). stays v.how) is) ∙ still));
+  };
+  moves = λ h. omega (arith, some);
+  last = λ h. cc;
+}
+
+ended_stays : (how : End) → stays how ≡ false → how ≡ ended_as Cut how
+ended_stays Closed h = refl
+ended_stays Cut h = refl
+ended_stays Nested h = refl
+ended_stays Open h = cc
+
+-- one that ends in the line
+pub comment_over : (s : State) (g : Bool) (begun : Place) (u : List ℕ) (r : Reached) → IsLine u → r ≡ reached (in_comment u) → stays r.how ≡ false
+    → TakesOpen (r.size + r.close) u (opened s g (InComment begun)) (between (comment r.how begun s) g)
+comment_over s g begun u r line is ends =
+    let look = look_in_comment (begins (codes "*/")) 2 in
+    let units = comment-units (begins (codes "*/")) 2 in
+    let size : r.size + r.close ≡ size_of (reach look Cut u) = size-at_end look units Cut u r is in
+    let how : r.how ≡ (reach look Cut u).how = ended_stays r.how ends ∙ how-at_end look units Cut u r is in
+    record {
+      takes = record {
+        begun = refl;
+        within = omega (arith, size, reach-size look Cut (comment-within (begins (codes "*/")) 2 (begins-size (codes "*/"))) u);
+        adds = omega (arith, comment-weight r.how begun s);
+        same = λ later more e.
+            (λ i. run (reading (comment (how i) begun s) later) (drop (size i) u ++ more))
+            ∙ sym (comment_ends begun u more (reading s later) e line (sym (ap (λ (v : Reached). stays v.how) is) ∙ ends));
+      };
+      moves = λ h. cc;
+      last = λ h. cc;
+    }
+
+-- NAMES
+
+fits_as : (look : List ℕ → Look) (n b : ℕ) (t : List ℕ) → IsWithin (look (b ∷ t)) (length (b ∷ t)) → look (b ∷ t) ≡ Goes n → (0 < n) × (n ≤ length (b ∷ t))
+fits_as look n b t within h = subst (λ (v : Look). IsWithin v (length (b ∷ t))) h within
+
+ends_within : (look : List ℕ → Look) (n : ℕ) (how : End) (u : List ℕ) → end_size (look u) ≤ length u → look u ≡ Ends n how → n ≤ length u
+ends_within look n how u within h = subst (λ (v : Look). end_size v ≤ length u) h within
+
+-- a unit of one
+pub name_goes : (s : State) (g : Bool) (begun : Place) (is_file : Bool) (us : List ℕ) (n : ℕ) (u : List ℕ) → IsLine u → 1 ≤ length u → look_in_name u ≡ Goes n
+    → TakesOpen n u (opened s g (InName begun is_file us)) (opened s g (InName begun is_file (us ++ unit_bytes (take n u))))
+name_goes s g begun is_file us n [] line some h = absurd (omega (arith, some))
+name_goes s g begun is_file us n (b ∷ t) line some h =
+    let fits = fits_as look_in_name n b t (name-units b t) h in
+    record {
+      takes = record {
+        begun = refl;
+        within = fits.1;
+        adds = omega arith;
+        same = λ later more e. sym (name_unit begun is_file us n b t more (reading s later) e line h fits.0 fits.1);
+      };
+      moves = λ w. fits.0;
+      last = λ w. cc;
+    }
+
+-- the end of one, with its opener sign
+pub name_over : (s : State) (g : Bool) (begun : Place) (is_file : Bool) (us : List ℕ) (n : ℕ) (how : End) (u : List ℕ) (sign taken : ℕ) (opens : Bool) → IsLine u → 1 ≤ length u → look_in_name u ≡ Ends n how
+    → sign ≡ sign_after how (drop n u) → taken ≡ n + (if takes_sign s then sign else 0) → opens ≡ nat_lt 0 sign
+    → TakesOpen taken u (opened s g (InName begun is_file us)) (between (occurrence is_file us how opens begun s) g)
+name_over s g begun is_file us n how [] sign taken opens line some h is size opened_is = absurd (omega (arith, some))
+name_over s g begun is_file us n how (b ∷ t) sign taken opens line some h is size opened_is =
+    let u = b ∷ t in
+    let behind = sign_after how (drop n u) in
+    let fits = ends_within look_in_name n how u (name-within u) h in
+    let at_most : (if takes_sign s then sign else 0) ≤ sign = elim (takes_sign s) as (λ v. (if v then sign else 0) ≤ sign) [ true ↦ omega arith | false ↦ omega arith ] in
+    record {
+      takes = record {
+        begun = refl;
+        within = omega (arith, fits, at_most, size, is, sign_after-size how (drop n u), length-drop n u);
+        adds = omega (arith, occurrence-weight is_file us how opens begun s);
+        same = λ later more e.
+            (λ i. run (reading (occurrence is_file us how (opened_is i) begun s) later) (drop (size i) u ++ more))
+            ∙ (λ i. run (reading (occurrence is_file us how (nat_lt 0 (is i)) begun s) later) (drop (n + (if takes_sign s then is i else 0)) u ++ more))
+            ∙ sym (name_end begun is_file us n b how t more (reading s later) e line h);
+      };
+      moves = λ w. cc;
+      last = λ w. cc;
+    }
+
+-- LITERALS
+
+unit-weight : (s : State) (u : List ℕ) → weight (unit_state s u) ≤ weight s
+unit-weight s u = elim (bytes_eq u (codes "@")) as (λ v. weight (if v then fault DoubleAtInString s else s) ≤ weight s) [ true ↦ omega arith | false ↦ omega arith ]
+
+-- a line's last byte that is a `\`
+pub literal_waits : (s : State) (g : Bool) (begun : Place) (quote : ℕ) (us u : List ℕ) → u ≡ 92 ∷ [] → TakesOpen 1 u (opened s g (InLiteral begun quote us)) (opened s g (AfterBackslash begun quote us))
+literal_waits s g begun quote us u is = subst (λ (t : List ℕ). TakesOpen 1 t (opened s g (InLiteral begun quote us)) (opened s g (AfterBackslash begun quote us))) (sym is) (record {
+  takes = record { begun = refl; within = omega arith; adds = omega arith; same = λ later more e. refl };
+  moves = λ h. omega arith;
+  last = λ h. omega arith;
+})
+
+pub literal_takes : (s : State) (g : Bool) (begun : Place) (quote : ℕ) (us : List ℕ) (v : Look) (u : List ℕ) → MovesOn v → IsLine u → 1 ≤ length u → look_in_literal quote u ≡ v → look_size v ≤ length u
+    → TakesOpen (look_size v) u (opened s g (InLiteral begun quote us)) (literal_turn v begun u (opened s g (InLiteral begun quote us)))
+literal_takes s g begun quote us v [] moves line some h fits = absurd (omega (arith, some))
+literal_takes s g begun quote us (Goes n) (b ∷ t) moves line some h fits = record {
+  takes = record {
+    begun = refl;
+    within = fits;
+    adds = omega (arith, unit-weight s (take n (b ∷ t)));
+    same = λ later more e. sym (literal_unit_taken begun quote us n b t more s later e line h moves fits);
+  };
+  moves = λ w. moves;
+  last = λ w. cc;
+}
+literal_takes s g begun quote us (Ends n how) (b ∷ t) moves line some h fits =
+    let sign = take n (b ∷ t) in
+    record {
+      takes = record {
+        begun = refl;
+        within = fits;
+        adds = omega (arith, unit-weight s sign, literal-weight (us ++ unit_bytes sign) how begun (unit_state s sign));
+        same = λ later more e. sym (literal_end begun quote us n b how t more s later e line h);
+      };
+      moves = λ w. cc;
+      last = λ w. cc;
+    }
+
+pub raw_fits : (sign : List ℕ) (v : Look) (u : List ℕ) → v ≡ look_in_raw sign u → 1 ≤ length u → look_size v ≤ length u
+raw_fits sign v [] is some = absurd (omega (arith, some))
+raw_fits sign (Goes n) (b ∷ t) is some = (fits_as (look_in_raw sign) n b t (raw-units sign b t) (sym is)).1
+raw_fits sign (Ends n how) (b ∷ t) is some = ends_within (look_in_raw sign) n how (b ∷ t) (raw-within sign (b ∷ t)) (sym is)
+
+pub raw_takes : (s : State) (g : Bool) (begun : Place) (d us : List ℕ) (v : Look) (u : List ℕ) → MovesOn v → list_all in_line (sign_of d) ≡ true → IsLine u → 1 ≤ length u → look_in_raw (sign_of d) u ≡ v → look_size v ≤ length u
+    → TakesOpen (look_size v) u (opened s g (InRaw begun d us)) (literal_turn v begun u (opened s g (InRaw begun d us)))
+raw_takes s g begun d us v [] moves clean line some h fits = absurd (omega (arith, some))
+raw_takes s g begun d us (Goes n) (b ∷ t) moves clean line some h fits = record {
+  takes = record {
+    begun = refl;
+    within = fits;
+    adds = omega (arith, unit-weight s (take n (b ∷ t)));
+    same = λ later more e. sym (raw_unit_taken begun d us n b t more s later clean e line h moves fits);
+  };
+  moves = λ w. moves;
+  last = λ w. cc;
+}
+raw_takes s g begun d us (Ends n how) (b ∷ t) moves clean line some h fits =
+    let sign = take n (b ∷ t) in
+    record {
+      takes = record {
+        begun = refl;
+        within = fits;
+        adds = omega (arith, unit-weight s sign, literal-weight (us ++ unit_bytes sign) how begun (unit_state s sign));
+        same = λ later more e. sym (raw_end begun d us n b how t more s later clean e line h);
+      };
+      moves = λ w. cc;
+      last = λ w. cc;
+    }

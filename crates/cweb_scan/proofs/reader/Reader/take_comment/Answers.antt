@@ -1,0 +1,24 @@
+use Rattle.std.proofs.Common.{◌+◌, length, refl, sym, ◌∙◌}
+use Rattle.cweb_scan.specs.Held.{Held}
+use Rattle.cweb_scan.specs.Resume.{InComment}
+use Rattle.cweb_scan.proofs.OpenReaders.{open_at}
+use Rattle.cweb_scan.proofs.OpenRests.{comment_goes, comment_over}
+use Rattle.cweb_scan.proofs.Opens.{opened}
+use Rattle.cweb_scan.proofs.Turns.{between}
+use Rattle.cweb_scan.proofs.reader.Reader.take_comment.Goals as goal
+
+pub returns-then-goes_on : goal.returns-then-goes_on
+returns-then-goes_on c =
+    let h : Held = c.args.self.now in
+    let u = c.args.rest.now in
+    let i = InComment c.args.begun in
+    open_at (length u) u h h refl i c.requires.open h (opened h.state h.begun i) (λ j. record { state = h.state; item = c.requires.open j; begun = h.begun })
+    (comment_goes h.state h.begun c.args.begun u c.reach-reached.result c.requires.line c.requires.some c.reach-reached.ensures.value (sym c.goes_on.ensures ∙ c.if-goes_on.true))
+
+pub returns : goal.returns
+returns c =
+    let r = c.reach-reached.result in
+    let s = c.self.inside.scanner in
+    let g = c.self.inside.begun in
+    open_at (r.size + r.close) c.args.rest.now _ _ c.self.view_is (InComment c.args.begun) c.requires.open _ _ (λ j. between (c.in_ok-pass_comment.ensures j) g)
+    (comment_over s g c.args.begun c.args.rest.now r c.requires.line c.reach-reached.ensures.value (sym c.goes_on.ensures ∙ c.if-goes_on.false))
