@@ -18,7 +18,8 @@ use Rattle.cweb_rules.proofs.Seams.{both}
 use Rattle.cweb_scan.specs.After.{enter_in}
 use Rattle.cweb_scan.specs.Directives.{is_c}
 use Rattle.cweb_scan.specs.Fronted.{Gives, effect_in, is_head, is_name, is_skipped, reads_c, reads_names}
-use Rattle.cweb_scan.specs.Held.{Held, Takes, Passes}
+use Rattle.cweb_scan.specs.Held.{Held, Takes}
+use Rattle.cweb_scan.specs.Turned.{Passes}
 use Rattle.cweb_scan.specs.Resume.{Between}
 use Rattle.cweb_scan.specs.Run.{front_of}
 use Rattle.cweb_scan.specs.State.{State}
@@ -37,6 +38,7 @@ passed : (n : ℕ) (u : List ℕ) (s new : State) (g : Bool) (f : Front) → ent
 passed n [] s new g f stays line some is ends gives = absurd (omega (arith, some))
 passed n (b ∷ t) s new g f stays line some is ends gives = record {
   some = omega (arith, gives.size, ap (λ (v : Front). v.size) is, (fair s b t).some);
+  within = refl;
   taken = staying_takes s new g n b t f line stays is ends gives;
 }
 
@@ -176,6 +178,7 @@ pub skipped_at : (n : ℕ) (u : List ℕ) (h : Held) → n ≡ prefix_len is_ski
 skipped_at n u h is some none text line =
     subst (λ i. Passes n u (record { state = h.state; item = i; begun = h.begun }) (record { state = h.state; item = i; begun = h.begun })) (sym none) (record {
       some = some;
+      within = refl;
       taken = subst (λ k. Takes k u (between h.state h.begun) (between h.state h.begun)) (sym is) (skipped_takes h.state h.begun u (text_is h.state.context text) line);
     })
 

@@ -26,7 +26,8 @@ use Rattle.cweb_scan.specs.After.{blank, enter_in, item, stays_in_head}
 use Rattle.cweb_scan.specs.Directives.{directive, is_c, is_some, names_include}
 use Rattle.cweb_scan.specs.Directives as directives
 use Rattle.cweb_scan.specs.Fronted.{Gives}
-use Rattle.cweb_scan.specs.Held.{Held, Passes}
+use Rattle.cweb_scan.specs.Held.{Held}
+use Rattle.cweb_scan.specs.Turned.{Passes}
 use Rattle.cweb_scan.specs.Resume.{Between}
 use Rattle.cweb_scan.specs.Run.{front_of, run}
 use Rattle.cweb_scan.specs.State.{State, drop_definition, give}
@@ -183,6 +184,7 @@ dropped_passes n u h v new begun r same none in_head some is left passes =
     let q = subst (λ i. Passes n u (record { state = drop_definition begun h.state; item = i; begun = h.begun }) new) none p in
     subst (λ (k : Held). Passes n u k new) old (record {
       some = q.some;
+      within = q.within;
       taken = record {
         begun = q.taken.begun;
         within = q.taken.within;

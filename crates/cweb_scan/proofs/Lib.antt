@@ -42,3 +42,4 @@ pub mod RuleTurns
 pub mod HeadTurns
 pub mod OpenRests
 pub mod OpenReaders
+pub mod LineTurns

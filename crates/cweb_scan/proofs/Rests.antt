@@ -26,7 +26,7 @@ use Rattle.cweb_scan.proofs.Turns.{between, closed_takes, opens_by, c_opens-by}
 
 -- ONE PIECE AND THEN ANOTHER
 
-drop_more : (m n : ℕ) (t : List ℕ) → drop (m + n) t ≡ drop n (drop m t)
+pub drop_more : (m n : ℕ) (t : List ℕ) → drop (m + n) t ≡ drop n (drop m t)
 drop_more zero n t = let e : 0 + n ≡ n = omega arith in ap (λ k. drop k t) e
 drop_more (suc m) zero [] = let e : suc m + 0 ≡ suc m = omega arith in ap (λ k. drop k []) e
 drop_more (suc m) (suc n) [] = let e : suc m + suc n ≡ suc (m + suc n) = omega arith in ap (λ k. drop k []) e

@@ -17,8 +17,9 @@ use Rattle.cweb_rules.specs.declared.rule.Rule.TheVariants as rule
 use Rattle.cweb_rules.proofs.Sizes.{begins-size}
 use Rattle.cweb_scan.specs.After.{Reading}
 use Rattle.cweb_scan.specs.Directives.{is_c, names_include}
-use Rattle.cweb_scan.specs.Fronted.{ends_in_line, is_head, is_included, needs_two}
-use Rattle.cweb_scan.specs.Held.{Held, Passes}
+use Rattle.cweb_scan.specs.Fronted.{ends_in_line, is_head, needs_two}
+use Rattle.cweb_scan.specs.Held.{Held}
+use Rattle.cweb_scan.specs.Turned.{Passes}
 use Rattle.cweb_scan.specs.Kept.{has_part}
 use Rattle.cweb_scan.specs.Resume.{Between}
 use Rattle.cweb_scan.specs.Ruled.{ends_macro_line}
@@ -43,10 +44,10 @@ abbrev pub closes : Rule → Bool
 closes rule.Section = true
 closes rule.Blanks = true
 closes rule.LineComment = true
-closes rule.IncludedName = true
 closes rule.Number = true
 closes rule.Identifier = true
 closes rule.Punctuator = true
+closes rule.IncludedName = true
 closes r = false
 
 pub ends_closes : (r : Rule) → ends_in_line r ≡ true → closes r ≡ true
@@ -123,14 +124,6 @@ rule_in_line includes u line =
     (ap (λ v. is_ended (if v then rule.LineEnd else y)) (no_line_end u line)
     ∙ neither is (begins (codes "/*") u) _ _ refl (neither is (begins (codes "//") u) _ _ refl (neither is (starts_section u) _ _ refl (from_code is includes u refl refl refl refl refl refl refl))))
 
--- outside C text no included name is one
-pub none_included : (u : List ℕ) → is_included (c_rule false u) ≡ false
-none_included u =
-    let is = is_included in
-    neither is (first_is is_blank u) _ _ refl (neither is (first_is is_line_end u) _ _ refl (neither is (begins (codes "/*") u) _ _ refl (neither is (begins (codes "//") u) _ _ refl
-    (neither is (starts_section u) _ _ refl (neither is (begins (codes "@") u) _ _ refl (neither is (starts_raw u) _ _ refl (neither is (starts_literal u) _ _ refl
-    (neither is (starts_number u) _ _ refl (neither is (first_is is_word_byte u) _ _ refl refl)))))))))
-
 pub line_comment_seen : (includes : Bool) (u : List ℕ) → is_line_comment (c_rule includes u) ≡ true → begins (codes "//") u ≡ true
 line_comment_seen includes u h =
     let is = is_line_comment in
@@ -157,19 +150,19 @@ pub two_fit : (includes : Bool) (u : List ℕ) (r : Rule) → r ≡ c_rule inclu
 two_fit includes u r is h = begins-size (codes "//") u (line_comment_seen includes u (ap is_line_comment (sym is) ∙ sym (two_same r) ∙ h))
 
 -- what is left of the rules when those that open an item, sections and codes are told apart
-pub left_ends : (r : Rule) → (r ≡ rule.Comment → ⊥) → (r ≡ rule.Section → ⊥) → (r ≡ rule.Code → ⊥) → (r ≡ rule.RawLiteral → ⊥) → (r ≡ rule.Literal → ⊥) → is_ended r ≡ false → is_included r ≡ false → ends_in_line r ≡ true
-left_ends rule.Blanks c s k w l e n = refl
-left_ends rule.LineEnd c s k w l e n = cc
-left_ends rule.Comment c s k w l e n = absurd (c refl)
-left_ends rule.LineComment c s k w l e n = refl
-left_ends rule.Section c s k w l e n = absurd (s refl)
-left_ends rule.Code c s k w l e n = absurd (k refl)
-left_ends rule.RawLiteral c s k w l e n = absurd (w refl)
-left_ends rule.Literal c s k w l e n = absurd (l refl)
-left_ends rule.IncludedName c s k w l e n = refl
-left_ends rule.Number c s k w l e n = refl
-left_ends rule.Identifier c s k w l e n = refl
-left_ends rule.Punctuator c s k w l e n = refl
+pub left_ends : (r : Rule) → (r ≡ rule.Comment → ⊥) → (r ≡ rule.Section → ⊥) → (r ≡ rule.Code → ⊥) → (r ≡ rule.RawLiteral → ⊥) → (r ≡ rule.Literal → ⊥) → is_ended r ≡ false → ends_in_line r ≡ true
+left_ends rule.Blanks c s k w l e = refl
+left_ends rule.LineEnd c s k w l e = cc
+left_ends rule.Comment c s k w l e = absurd (c refl)
+left_ends rule.LineComment c s k w l e = refl
+left_ends rule.Section c s k w l e = absurd (s refl)
+left_ends rule.Code c s k w l e = absurd (k refl)
+left_ends rule.RawLiteral c s k w l e = absurd (w refl)
+left_ends rule.Literal c s k w l e = absurd (l refl)
+left_ends rule.IncludedName c s k w l e = refl
+left_ends rule.Number c s k w l e = refl
+left_ends rule.Identifier c s k w l e = refl
+left_ends rule.Punctuator c s k w l e = refl
 
 -- MACROS
 

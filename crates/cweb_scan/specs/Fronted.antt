@@ -122,8 +122,3 @@ needs_two r = false
 abbrev pub is_name : Effect → Bool
 is_name effect.Named = true
 is_name e = false
-
--- an included name's rule
-abbrev pub is_included : Rule → Bool
-is_included rule.IncludedName = true
-is_included r = false

@@ -79,11 +79,6 @@ pub record Takes (n : ℕ) (rest : List ℕ) (old new : Held) : Type 0 where
   pub adds : cost new ≤ cost old + 3 * n
   pub same : (later : List Place) (more : List ℕ) → AtLineEnd more → goes_on new later (drop n rest ++ more) ≡ goes_on old later (rest ++ more)
 
--- one turn: at least a byte of the rest of a line was taken
-pub record Passes (n : ℕ) (rest : List ℕ) (old new : Held) : Type 0 where
-  pub some : 1 ≤ n
-  pub taken : Takes n rest old new
-
 -- a line at a place begins: the first, or one behind a line end
 pub record BeginsLine (place : Place) (old new : Held) : Type 0 where
   pub first : old.begun ≡ false → new ≡ begun_at place

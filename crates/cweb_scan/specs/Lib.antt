@@ -15,3 +15,4 @@ pub mod Quotes
 pub mod Scan
 pub mod Ruled
 pub mod OpenRest
+pub mod Turned

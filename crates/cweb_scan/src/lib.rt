@@ -6,6 +6,7 @@ mod codes;
 mod directive;
 mod given;
 pub mod laws;
+mod line;
 mod line_ends;
 mod names;
 mod occurrences;

@@ -5,6 +5,7 @@ use crate::codes::{effect_of, is_name};
 use crate::reader::Reader;
 use crate::turn::skipped_len;
 use cweb_files::Place;
+use cweb_rules::Context;
 use cweb_rules::bytes::{Class, at_line_end, begins, run_len, starts_section};
 use cweb_rules::rule::{Rule, c_rule};
 use std::alloc::AllocError;
@@ -13,13 +14,12 @@ impl Reader {
     ghost use Rattle.cweb_rules.specs.Bytes as bytes;
     ghost use Rattle.cweb_rules.specs.Lines.{IsLine};
     ghost use Rattle.cweb_scan.specs.Fronted.{is_head, reads_c};
-    ghost use Rattle.cweb_scan.specs.Held.{Passes};
+    ghost use Rattle.cweb_scan.specs.Turned.{Passes};
     ghost use Rattle.cweb_scan.specs.Resume.{Between};
     ghost use Rattle.cweb_scan.specs.Room.{HasRoom};
     ghost use Rattle.cweb_rules.specs.declared.context.Context.TheVariants as context;
     ghost use Rattle.cweb_rules.specs.Rules.{c_rule as c_first};
     ghost use Rattle.cweb_rules.specs.declared.rule.Rule.TheVariants as rule;
-    ghost use Rattle.cweb_scan.specs.Fronted.{is_included};
     ghost use Rattle.cweb_scan.specs.Kept.{has_part};
     ghost use Rattle.cweb_scan.specs.Ruled.{ends_macro_line, rule_in};
 
@@ -64,7 +64,7 @@ impl Reader {
         self.take_code(rest)
     }
 
-    // In a macro and in C text: what the first rule that fits names, but for an included name.
+    // In a macro and in C text: what the first rule that fits names.
     fn take_by(&mut self, rule: Rule, rest: &[u8]) -> Result<usize, AllocError>
         requires between { self.old.item ≡ Between }
         requires part { has_part self.old.state.context ≡ true }
@@ -72,7 +72,6 @@ impl Reader {
         requires some { 1 ≤ length rest.now }
         requires plain { ends_macro_line self.old.state.context rest.now ≡ false }
         requires first { rule ≡ rule_in self.old.state rest.now }
-        requires named { is_included rule ≡ false }
         requires room { HasRoom 2 self.old.state }
         ensures { IfOk result (λ n. Passes n rest.now self.old self.new) }
     {
@@ -149,6 +148,35 @@ impl Reader {
                 let size = self.take_text(rest)?;
                 Ok(size)
             }
+        }
+    }
+
+    // In C text an included name may be a rule.
+    fn take_c(&mut self, rest: &[u8]) -> Result<usize, AllocError>
+        requires between { self.old.item ≡ Between }
+        requires in_c { self.old.state.context ≡ context.CText }
+        requires line { IsLine rest.now }
+        requires some { 1 ≤ length rest.now }
+        requires room { HasRoom 2 self.old.state }
+        ensures { IfOk result (λ n. Passes n rest.now self.old self.new) }
+    {
+        let rule = c_rule(self.scanner.names_include(), rest);
+        self.take_by(rule, rest)
+    }
+
+    /// What stands at the front of the rest of a line where no item is open. Answers how many bytes it has.
+    pub(crate) fn take_between(&mut self, rest: &[u8]) -> Result<usize, AllocError>
+        requires between { self.old.item ≡ Between }
+        requires line { IsLine rest.now }
+        requires some { 1 ≤ length rest.now }
+        requires room { HasRoom 2 self.old.state }
+        ensures { IfOk result (λ n. Passes n rest.now self.old self.new) }
+    {
+        match self.scanner.context() {
+            Context::Limbo | Context::TeX => self.take_text(rest),
+            Context::Definition(begun) => self.take_head(begun, rest),
+            Context::Macro => self.take_macro(rest),
+            Context::CText => self.take_c(rest),
         }
     }
 }

@@ -27,7 +27,7 @@ impl Reader {
     ghost use Rattle.cweb_rules.specs.Fronts.{starts_raw, starts_literal};
     ghost use Rattle.cweb_rules.specs.Lines.{IsLine};
     ghost use Rattle.cweb_scan.specs.Fronted.{is_head, reads_c, reads_names, reads_literals, IsPast};
-    ghost use Rattle.cweb_scan.specs.Held.{Passes};
+    ghost use Rattle.cweb_scan.specs.Turned.{Passes};
     ghost use Rattle.cweb_scan.specs.Resume.{Between};
     ghost use Rattle.cweb_scan.specs.Room.{HasRoom};
 

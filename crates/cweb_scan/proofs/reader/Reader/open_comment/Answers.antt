@@ -1,4 +1,4 @@
-use Rattle.std.proofs.Common.{arith, ◌≡◌, true, sym}
+use Rattle.std.proofs.Common.{refl, arith, ◌≡◌, true, sym}
 use Rattle.cweb_scan.specs.Fronted.{reads_c}
 use Rattle.cweb_scan.specs.State.{State}
 use Rattle.cweb_scan.specs.After.{blank}
@@ -13,6 +13,7 @@ returns c =
     let reads = at_state (λ (u : State). reads_c u.context ≡ true) _ _ c.self.view_is c.requires.reads in
     record {
       some = omega arith;
+      within = refl;
       taken = takes_at 2 c.args.rest.now _ _ c.self.view_is c.requires.between (opened (blank s) g (InComment s.here)) _
           (λ i. opened (sym c.in_ok-blank.ensures i) g (InComment (sym c.here-begun.ensures i))) (comment_opens s g c.args.rest.now reads c.requires.sign);
     }

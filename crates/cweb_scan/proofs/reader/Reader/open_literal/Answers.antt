@@ -1,4 +1,4 @@
-use Rattle.std.proofs.Common.{arith, ◌≡◌, true, sym, ap, ◌∙◌, ◌++◌, ◌+◌, take, drop}
+use Rattle.std.proofs.Common.{refl, arith, ◌≡◌, true, sym, ap, ◌∙◌, ◌++◌, ◌+◌, take, drop}
 use Rattle.cweb_scan.specs.Fronted.{reads_literals}
 use Rattle.cweb_scan.specs.State.{State}
 use Rattle.cweb_rules.specs.Fronts.{quote_of}
@@ -17,6 +17,7 @@ returns c =
     let text = c.in_ok-extend_from_slice.ensures.items ∙ (λ i. c.clear.ensures.items i ++ c.split_at.ensures.front i) in
     record {
       some = omega arith;
+      within = refl;
       taken = takes_at (n + 1) u _ _ c.self.view_is c.requires.between (opened s g (InLiteral s.here (quote_of (drop n u)) (take (n + 1) u))) _
           (λ i. opened s g (InLiteral (sym c.here.ensures i) (sym quote i) (sym text i)))
           (literal_opens_at s g u n c.literal_prefix-prefix.ensures.value reads c.requires.line c.requires.past c.requires.plain c.requires.sign);

@@ -1,4 +1,4 @@
-use Rattle.std.proofs.Common.{arith, ◌≡◌, true, false, [], sym}
+use Rattle.std.proofs.Common.{refl, arith, ◌≡◌, true, false, [], sym}
 use Rattle.cweb_scan.specs.Fronted.{is_head, reads_names}
 use Rattle.cweb_scan.specs.State.{State}
 use Rattle.cweb_scan.specs.Resume.{InName}
@@ -13,6 +13,7 @@ returns c =
     let reads = at_state (λ (u : State). reads_names u.context ≡ true) _ _ c.self.view_is c.requires.reads in
     record {
       some = omega arith;
+      within = refl;
       taken = takes_at 2 c.args.rest.now _ _ c.self.view_is c.requires.between (opened s g (InName s.here false [])) _
           (λ i. opened s g (InName (sym c.here.ensures i) false (sym c.clear.ensures.items i))) (name_opens s g c.args.rest.now head reads c.requires.sign);
     }

@@ -1,4 +1,4 @@
-use Rattle.std.proofs.Common.{arith, ◌≡◌, true, [], sym, ap, ◌∙◌, ◌++◌, ◌+◌, ◌∷◌, length, take, drop}
+use Rattle.std.proofs.Common.{refl, arith, ◌≡◌, true, [], sym, ap, ◌∙◌, ◌++◌, ◌+◌, ◌∷◌, length, take, drop}
 use Rattle.cweb_scan.specs.Fronted.{reads_literals, literals_in_part}
 use Rattle.cweb_scan.specs.State.{State}
 use Rattle.cweb_rules.specs.Fronts.{delimiter}
@@ -40,6 +40,7 @@ returns c =
     let kept = c.in_ok-extend_from_slice-2.ensures.items ∙ (λ i. c.clear-2.ensures.items i ++ d) in
     record {
       some = omega arith;
+      within = refl;
       taken = takes_at n u _ _ c.self.view_is c.requires.between (opened s g (InRaw s.here d (take n u))) _
           (λ i. opened s g (InRaw (sym c.here.ensures i) (sym kept i) (sym text i)))
           (raw_opens_at s g u p d c.raw_prefix-start.ensures.value name reads c.requires.line c.requires.past c.requires.sign);

@@ -27,7 +27,7 @@ pub take_rule-requires-clause-ends : goal.take_rule-requires-clause-ends
 take_rule-requires-clause-ends c =
     let s = c.args.self.now.state in
     let no_end = ap is_ended c.requires.first ∙ rule_in_line (is_c s.context && names_include s) c.args.rest.now c.requires.line in
-    left_ends c.args.rule c.in_default.not-Comment c.in_default.not-Section c.in_default.not-Code c.in_default.not-RawLiteral c.in_default.not-Literal no_end c.requires.named
+    left_ends c.args.rule c.in_default.not-Comment c.in_default.not-Section c.in_default.not-Code c.in_default.not-RawLiteral c.in_default.not-Literal no_end
 
 pub take_rule-requires-clause-two : goal.take_rule-requires-clause-two
 take_rule-requires-clause-two c = let s = c.args.self.now.state in two_fit (is_c s.context && names_include s) c.args.rest.now c.args.rule c.requires.first
@@ -47,7 +47,7 @@ returns-in_ok-size-in_default c =
     let s = h.state in
     let r = c.args.rule in
     let no_end = ap is_ended c.requires.first ∙ rule_in_line (is_c s.context && names_include s) u c.requires.line in
-    let ends = left_ends r c.in_default.not-Comment c.in_default.not-Section c.in_default.not-Code c.in_default.not-RawLiteral c.in_default.not-Literal no_end c.requires.named in
+    let ends = left_ends r c.in_default.not-Comment c.in_default.not-Section c.in_default.not-Code c.in_default.not-RawLiteral c.in_default.not-Literal no_end in
     let f = rule_closed s.context (names_include s) u r c.requires.part c.requires.plain c.requires.first (ends_closes r ends) in
     closed_at c.in_ok-size-in_default.size u h _ _ (c_front_by in_c false u r) c.self-in_default.view_is c.requires.between (part_head s.context c.requires.part) c.requires.line c.requires.some
     f.0 f.1 c.in_ok-size-in_default.ensures

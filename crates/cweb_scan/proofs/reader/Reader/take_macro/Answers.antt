@@ -1,13 +1,9 @@
 use Rattle.std.proofs.Common.{ap, sym, ◌∙◌}
 use Rattle.cweb_rules.specs.Bytes.{at_line_end}
-use Rattle.cweb_scan.specs.Fronted.{is_included}
-use Rattle.cweb_scan.proofs.RuleTurns.{backslash_passes, none_included}
+use Rattle.cweb_scan.proofs.RuleTurns.{backslash_passes}
 use Rattle.cweb_scan.proofs.reader.Reader.take_macro.Goals as goal
 
 pub returns-then-at_line_end : goal.returns-then-at_line_end
 returns-then-at_line_end c =
     backslash_passes c.args.rest.now c.args.self.now c.requires.between c.requires.in_macro c.requires.line c.requires.some
     (sym c.begins.ensures.value ∙ c.if-begins.true) (ap at_line_end (sym c.split_at.ensures.back) ∙ sym c.at_line_end.ensures ∙ c.if-at_line_end.true)
-
-pub take_by-requires-clause-named : goal.take_by-requires-clause-named
-take_by-requires-clause-named c = ap is_included c.c_rule.ensures ∙ none_included c.args.rest.now

@@ -1,0 +1,96 @@
+-- The bytes of a line are taken turn by turn.
+use Rattle.std.proofs.Common.{◌≡◌, ◌≤◌, ◌<◌, ℕ, zero, suc, ◌+◌, ◌*◌, Bool, true, false, List, [], ◌∷◌, length, drop, refl, ap, sym, ◌∙◌, subst, arith}
+use Rattle.std.specs.Prelude.{if◌then◌else◌}
+use Rattle.std.proofs.lemmas.List.{length-drop}
+use Rattle.cweb_rules.specs.Lines.{IsLine}
+use Rattle.cweb_scan.specs.Held.{Held, cost, Takes, TakesBytes}
+use Rattle.cweb_scan.specs.OpenRest.{awaits_line_end, is_open, TakesOpen}
+use Rattle.cweb_scan.specs.Opened.{item_of}
+use Rattle.cweb_scan.specs.Resume.{Item}
+use Rattle.cweb_scan.specs.Resume as item
+use Rattle.cweb_scan.specs.Turned.{Passes, TakesTurn, to_do}
+use Rattle.cweb_scan.specs.declared.open.Open.{Open}
+use Rattle.cweb_scan.specs.declared.open.Open.TheVariants.{Between, Comment, Name, Literal, AfterBackslash, Raw}
+use Rattle.cweb_scan.proofs.Rests.{drop_more, takes_all, takes_both, takes_none}
+
+-- ONE TURN
+
+one : (v : Bool) → (if v then 1 else 0) ≤ 1
+one true = omega arith
+one false = omega arith
+
+pub between_turn : (n : ℕ) (u : List ℕ) (h new : Held) → h.item ≡ item.Between → Passes n u h new → TakesTurn n u h new
+between_turn n u h new none p = record {
+  taken = p.taken;
+  less = omega (arith, one (is_open new.item), p.some, p.taken.within, length-drop n u);
+  last = λ e. let wrong : true ≡ false = sym e ∙ p.within in cc;
+}
+
+abbrev bit : Bool → ℕ
+bit v = if v then 1 else 0
+
+open_less : (n : ℕ) (u : List ℕ) (i j : Item) (v : Bool) → is_open i ≡ true → is_open j ≡ v → n ≤ length u → (v ≡ true → 0 < n) → to_do (drop n u) j < to_do u i
+open_less n u i j true opens is fits moves = omega (arith, ap bit is, ap bit opens, moves refl, fits, length-drop n u)
+open_less n u i j false opens is fits moves = omega (arith, ap bit is, ap bit opens, fits, length-drop n u)
+
+pub open_turn : (n : ℕ) (u : List ℕ) (h new : Held) → is_open h.item ≡ true → TakesOpen n u h new → TakesTurn n u h new
+open_turn n u h new opens p = record {
+  taken = p.takes;
+  less = open_less n u h.item new.item (is_open new.item) opens refl p.takes.within p.moves;
+  last = p.last;
+}
+
+-- what the code keeps open is open
+pub kept_open : (kind : Open) (delimiter text : List ℕ) → (kind ≡ Between → ⊥) → is_open (item_of kind delimiter text) ≡ true
+kept_open Between d t h = absurd (h refl)
+kept_open (Comment begun) d t h = refl
+kept_open (Name begun is_file) d t h = refl
+kept_open (Literal begun quote) d t h = refl
+kept_open (AfterBackslash begun quote) d t h = refl
+kept_open (Raw begun) d t h = refl
+
+-- ALL TURNS
+
+-- what stands before the rest of a line was taken
+pub record TakesFront (line rest : List ℕ) (old new : Held) : Type 0 where
+  pub size : ℕ
+  pub rest_is : rest ≡ drop size line
+  pub taken : Takes size line old new
+  pub last : awaits_line_end new.item ≡ true → length rest ≡ 0
+
+pub front_begins : (line : List ℕ) (h : Held) → awaits_line_end h.item ≡ false → TakesFront line line h h
+front_begins line h within = record {
+  size = 0;
+  rest_is = refl;
+  taken = takes_none line h;
+  last = λ e. let wrong : true ≡ false = sym e ∙ within in cc;
+}
+
+pub front_goes_on : (n : ℕ) (line rest after : List ℕ) (old mid new : Held) → after ≡ drop n rest → TakesFront line rest old mid → TakesTurn n rest mid new → TakesFront line after old new
+front_goes_on n line rest after old mid new is f t = record {
+  size = f.size + n;
+  rest_is = is ∙ ap (drop n) f.rest_is ∙ sym (drop_more f.size n line);
+  taken = takes_both f.size n line old mid new f.taken (subst (λ (u : List ℕ). Takes n u mid new) f.rest_is t.taken);
+  last = λ e. omega (arith, t.last e, ap (λ (u : List ℕ). length u) is, length-drop n rest);
+}
+
+is_line_drop : (n : ℕ) (u : List ℕ) → IsLine u → IsLine (drop n u)
+is_line_drop zero u h = h
+is_line_drop (suc n) [] h = h
+is_line_drop (suc n) (b ∷ t) h = is_line_drop n t h.1
+
+pub front_line : (line rest : List ℕ) (old new : Held) → IsLine line → TakesFront line rest old new → IsLine rest
+front_line line rest old new h f = subst IsLine (sym f.rest_is) (is_line_drop f.size line h)
+
+pub front_within : (line rest : List ℕ) (old new : Held) → TakesFront line rest old new → 1 ≤ length rest → awaits_line_end new.item ≡ false
+front_within line rest old new f some = (elim (awaits_line_end new.item) as (λ v. awaits_line_end new.item ≡ v → v ≡ false) [
+  | true ↦ λ e. absurd (omega (arith, f.last e, some))
+  | false ↦ λ e. refl
+]) refl
+
+pub front_cost : (line rest : List ℕ) (old new : Held) → TakesFront line rest old new → cost new ≤ cost old + 3 * length line
+front_cost line rest old new f = omega (arith, f.taken.adds, f.taken.within)
+
+pub front_all : (line rest : List ℕ) (old new : Held) → TakesFront line rest old new → length rest ≡ 0 → TakesBytes line old new
+front_all line rest old new f none =
+    takes_all f.size line old new (omega (arith, none, ap (λ (u : List ℕ). length u) f.rest_is, length-drop f.size line)) f.taken
