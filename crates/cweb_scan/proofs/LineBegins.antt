@@ -10,6 +10,7 @@ use Rattle.cweb_rules.specs.Fronts.{sign_after}
 use Rattle.cweb_rules.specs.Items as items
 use Rattle.cweb_scan.specs.After.{Reading, on, each_line_end, literal, occurrence}
 use Rattle.cweb_scan.specs.Held.{Held, held, after_line_end, begun_at, goes_on, read_after, text_ended, BeginsLine, TakesLineEnd, TakesBytes, cost, owed}
+use Rattle.cweb_scan.specs.OpenRest.{awaits_line_end}
 use Rattle.cweb_scan.specs.Opened.{item_of}
 use Rattle.cweb_scan.specs.Quotes.{quote_byte}
 use Rattle.cweb_scan.specs.Resume.{Item, takes_sign}
@@ -55,6 +56,15 @@ after_line_end-cost (item.InName begun is_file text) q s = omega arith
 after_line_end-cost (item.InLiteral begun quote text) q s = omega (arith, line_end-weight q (literal text Cut begun s), literal-weight text Cut begun s)
 after_line_end-cost (item.AfterBackslash begun quote text) q s = omega arith
 after_line_end-cost (item.InRaw begun delimiter text) q s = omega arith
+
+-- behind a line end no literal waits for one
+pub never_awaits : (i : Item) (q : Place) (s : State) → awaits_line_end (after_line_end q i s).item ≡ false
+never_awaits item.Between q s = refl
+never_awaits (item.InComment begun) q s = refl
+never_awaits (item.InName begun is_file text) q s = refl
+never_awaits (item.InLiteral begun quote text) q s = refl
+never_awaits (item.AfterBackslash begun quote text) q s = refl
+never_awaits (item.InRaw begun delimiter text) q s = refl
 
 -- a line begins behind a line end
 pub begins_next : (kind : Open) (d us : List ℕ) (s : State) (begun : Bool) (place : Place) (new : Held) → begun ≡ true → new ≡ after_line_end place (item_of kind d us) s

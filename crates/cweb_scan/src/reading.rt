@@ -1,5 +1,5 @@
 // How lines are read, one after another.
-ghost use Rattle.std.specs.Prelude.{◌≡◌, ◌≤◌, ◌<◌, ◌+◌, [], IfOk, OnOk};
+ghost use Rattle.std.specs.Prelude.{◌≡◌, ◌≤◌, ◌<◌, ◌+◌, ◌*◌, ◌∷◌, List, [], IfOk, OnOk, length};
 ghost use Rattle.cweb_store.specs.Calls.{too_many};
 
 use crate::open::Open;
@@ -10,8 +10,11 @@ use cweb_rules::End;
 use std::alloc::AllocError;
 
 impl Reader {
-    ghost use Rattle.std.specs.Prelude.{true};
+    ghost use Rattle.std.specs.Prelude.{true, false};
+    ghost use Rattle.cweb_lines.specs.Lines.{Line};
+    ghost use Rattle.cweb_rules.specs.Lines.{IsLine};
     ghost use Rattle.cweb_scan.specs.Held.{after_line_end, cost, read_after, text_ended, BeginsLine};
+    ghost use Rattle.cweb_scan.specs.OpenRest.{awaits_line_end};
     ghost use Rattle.cweb_scan.specs.Room.{weight};
 
     // The line end before a line that stands at a place: it is passed once that place is known.
@@ -45,7 +48,8 @@ impl Reader {
     // A line begins: the first, or one behind a line end.
     fn begin_line(&mut self, place: Place) -> Result<(), AllocError>
         requires { cost self.old + 8 < too_many }
-        ensures { OnOk result (BeginsLine place self.old self.new) }
+        ensures begins { OnOk result (BeginsLine place self.old self.new) }
+        ensures within { OnOk result (awaits_line_end self.new.item ≡ false) }
     {
         if self.begun {
             self.end_line(place)?;
@@ -54,6 +58,19 @@ impl Reader {
         self.scanner = Scanner::new(self.alloc, place);
         self.item = Open::Between;
         self.begun = true;
+        Ok(())
+    }
+
+    /// Takes the next line, which stands at a place.
+    pub fn take_line(&mut self, place: Place, line: &[u8]) -> Result<(), AllocError>
+        requires clean { IsLine line.now }
+        requires room { cost self.old + 3 * (length line.now + 1) + 8 < too_many }
+        ensures read { OnOk result ((lines : List Line) →
+            read_after self.new lines ≡ read_after self.old (record { bytes = line.now; place = place } ∷ lines)) }
+        ensures cost { OnOk result (cost self.new ≤ cost self.old + 3 * (length line.now + 1)) }
+    {
+        self.begin_line(place)?;
+        self.take_bytes(line)?;
         Ok(())
     }
 
