@@ -10,6 +10,7 @@ use Rattle.cweb_lines.specs.Merge.{Event}
 use Rattle.cweb_lines.specs.Merging.{SoFar, Gives, StopsBehind}
 use Rattle.cweb_lines.specs.Told.{given_lines}
 use Rattle.cweb_lines.specs.Whole.{GivesOut, StopsThere}
+use Rattle.cweb_lines.specs.declared.limits.TheConstants.{LINES, BYTES}
 use Rattle.cweb_lines.specs.declared.stop.Stop.{Stop}
 use Rattle.cweb_lines.specs.declared.stop.Stop.TheVariants.{Memory}
 use Rattle.cweb_lines.proofs.Merges.{gives_nothing, gives_both, behind_both}
@@ -84,7 +85,7 @@ of_taken held lines reads = ap (λ (r : Reading). scanned_of r.state) (reads [] 
 
 pub all_within : (tells : Bool) (old so new : SoFar) (all now : List Event) (held : Held) (s : Scanned)
     → HasTaken tells old so all now held → s ≡ scanned_of (read_after held []).state
-    → length so.names ≤ length new.names → so.count.bytes ≤ new.count.bytes → so.count.lines ≤ new.count.lines → IsWithin new s
+    → length so.names ≤ length new.names → so.count.bytes ≤ BYTES → so.count.lines ≤ LINES → IsWithin new s
 all_within tells old so new all now held s taken is names bytes lines =
     let same : s ≡ scanned taken.lines = is ∙ of_taken held taken.lines taken.read_is in
     let size = bounded taken.lines in

@@ -5,6 +5,7 @@ use Rattle.cweb_lines.specs.Merge.{Event}
 use Rattle.cweb_lines.specs.Merging.{SoFar, Gives, StopsBehind, TellsFront}
 use Rattle.cweb_lines.specs.Texts.{Count, StopsFor, StopsReading, read_blame}
 use Rattle.cweb_lines.specs.Told.{given_lines}
+use Rattle.cweb_lines.specs.declared.limits.TheConstants.{LINES, BYTES}
 use Rattle.cweb_lines.specs.declared.stop.Stop.{Stop}
 use Rattle.cweb_store.specs.Parts.{Token, Mark, all_tokens}
 use Rattle.cweb_scan.specs.Held.{Held, read_after}
@@ -29,10 +30,10 @@ pub record IsBelow (files : ℕ) (s : Scanned) : Type 0 where
 abbrev pub AreBelow : ℕ → List Line → Type 0
 AreBelow files lines = All (λ line. line.place.file.0 < files) lines
 
--- all Marks and faults stand in files that have been opened, and no more is kept than was taken of the files
+-- all Marks and faults stand in files that have been opened, and no more is kept than the limits let a merger take
 pub record IsWithin (told : SoFar) (s : Scanned) : Type 0 where
   pub below : IsBelow (length told.names) s
-  pub bounded : IsBounded s.store (told.count.bytes + told.count.lines)
+  pub bounded : IsBounded s.store (BYTES + LINES)
 
 -- all lines that are to come were given out and scanned
 pub record Scans (s : Scanned) (old new : SoFar) (all : List Event) : Type 0 where

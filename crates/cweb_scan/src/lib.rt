@@ -19,9 +19,11 @@ mod reading;
 mod ruled;
 mod scanned;
 mod scanner;
+mod scanning;
 mod taking;
 mod turn;
 mod units;
 
 pub use cweb_rules::{ScanFault, ScanKind};
 pub use scanned::Scanned;
+pub use scanning::scan;

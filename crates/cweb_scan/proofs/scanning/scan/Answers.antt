@@ -1,0 +1,78 @@
+use Rattle.std.proofs.Common.{rules, ◌≡◌, ◌+◌, ℕ, List, [], ◌∷◌, subst, refl, ap, sym, ◌∙◌, arith}
+use Rattle.cweb_lines.specs.Texts.{read_blame}
+use Rattle.cweb_lines.specs.Whole.{so_far, to_come}
+use Rattle.cweb_lines.specs.declared.stop.Stop.{Stop}
+use Rattle.cweb_scan.specs.Scan.{EndsEarly}
+use Rattle.cweb_lines.proofs.Keeps.{keeps_same, keeps_told, keeps_then}
+use Rattle.cweb_lines.proofs.Merges.{gives_both}
+use Rattle.cweb_scan.specs.Held.{cost, read_after}
+use Rattle.cweb_scan.proofs.Scans.{nothing_taken, given_line_taken, all_within, all_scanned, ends_early, refused, is_line}
+use Rattle.cweb_scan.proofs.scanning.scan.Goals as goal
+
+pub lines-init : goal.lines-init
+lines-init g c = record {
+  keeps = keeps_same g.S.Shelf _;
+  failed = refl;
+  running = sym c.stopped.ensures.stop ∙ c.in_default.is;
+  before = sym c.stopped.ensures.stop ∙ c.in_default.is;
+  names = omega arith;
+  taken = rw c.new-reader.ensures (nothing_taken _ _ _);
+  room = omega (arith, ap cost c.new-reader.ensures);
+}
+
+-- the merger stopped
+pub returns-in-Err-clause-stops : goal.returns-in-Err-clause-stops
+returns-in-Err-clause-stops g c = λ tells before.
+    ends_early _ _ _ _ _ _ _ (c.lines.invariant.taken.gives tells) (c.in-Err.ensures.stops (keeps_told g.S.Shelf _ _ c.lines.invariant.keeps tells) c.lines.invariant.running)
+
+pub returns-in-Err-clause-blames : goal.returns-in-Err-clause-blames
+returns-in-Err-clause-blames g c = λ before.
+    let blames = c.in-Err.ensures.blames c.lines.invariant.running in
+    record {
+      kind = blames.reading;
+      failed = blames.failed ∙ ap (λ n. n + read_blame c.in-Err.stop) c.lines.invariant.failed;
+      kept = c.in-Err.ensures.leaves.kept;
+    }
+
+-- memory was refused for a line
+pub returns-in-Err-take_line-clause-stops : goal.returns-in-Err-take_line-clause-stops
+returns-in-Err-take_line-clause-stops g c = λ tells before.
+    let next = rw c.in-Some-next.is at (c.in-Ok.ensures.next (keeps_told g.S.Shelf _ _ c.lines.invariant.keeps tells)) in
+    subst (λ (stop : Stop). EndsEarly stop (so_far c.args.merger.now) (so_far c.halt.new.self) (to_come g.S.Shelf c.args.shelf.now c.args.merger.now)) (sym c.halt.ensures.stop)
+    (refused _ _ _ _ _ _ c.halt.ensures.so_far (gives_both _ _ _ _ _ _ _ _ (c.lines.invariant.taken.gives tells) next))
+
+pub lines-preserved : goal.lines-preserved
+lines-preserved g c =
+    let given = rw c.in-Some-next.is at c.in-Ok.ensures.given in
+    record {
+      keeps = keeps_then g.S.Shelf _ _ _ c.lines.invariant.keeps c.in-Ok.ensures.keeps;
+      failed = search rules;
+      running = c.in-Ok.ensures.leaves.running;
+      before = c.lines.invariant.before;
+      names = omega (arith, c.in-Ok.ensures.grows.names, c.lines.invariant.names);
+      taken = given_line_taken _ _ _ _ _ _ _ _ _ (record { bytes = c.next_line.new.line.items; place = c.in-Some-next.place }) c.lines.invariant.taken given c.in-Ok.ensures.grows.names
+          (λ more. subst (λ (bytes : List ℕ). read_after c.take_line.new.self more ≡ read_after c.lines.reader (record { bytes = bytes; place = c.in-Some-next.place } ∷ more))
+          c.deref.ensures.value (c.in_default-take_line.ensures.read more))
+          (λ tells. rw c.in-Some-next.is at (c.in-Ok.ensures.next (keeps_told g.S.Shelf _ _ c.lines.invariant.keeps tells)));
+      room = omega (arith, c.in_default-take_line.ensures.cost, c.deref.ensures.len, c.lines.invariant.room, given.lines, given.bytes_are);
+    }
+
+-- no line is left
+pub returns-in-Ok-finished-clause-scans : goal.returns-in-Ok-finished-clause-scans
+returns-in-Ok-finished-clause-scans g c = λ tells.
+    let next = rw c.in_default-next.is at (c.in-Ok.ensures.next (keeps_told g.S.Shelf _ _ c.lines.invariant.keeps tells)) in
+    let taken = c.lines.invariant.taken in
+    all_scanned _ _ _ _ _ _ _ c.lines.reader _ taken.read_is (taken.gives tells) c.in-Ok-finished.ensures next.0 next.1
+
+pub returns-in-Ok-finished-clause-within : goal.returns-in-Ok-finished-clause-within
+returns-in-Ok-finished-clause-within g c =
+    let limits = c.lines.merger.run.limits in
+    all_within _ _ _ _ _ _ c.lines.reader _ c.lines.invariant.taken c.in-Ok-finished.ensures c.in-Ok.ensures.grows.names limits.small limits.few
+
+-- memory was refused for the store
+pub returns-clause-stops : goal.returns-clause-stops
+returns-clause-stops g c = λ tells before.
+    let next = rw c.in_default-next.is at (c.in-Ok.ensures.next (keeps_told g.S.Shelf _ _ c.lines.invariant.keeps tells)) in
+    let halt = c.halt-in-Err-finished in
+    subst (λ (stop : Stop). EndsEarly stop (so_far c.args.merger.now) (so_far halt.new.self) (to_come g.S.Shelf c.args.shelf.now c.args.merger.now)) (sym halt.ensures.stop)
+    (refused _ _ _ _ _ _ halt.ensures.so_far (gives_both _ [] _ _ _ _ _ _ (c.lines.invariant.taken.gives tells) next.0))

@@ -1,0 +1,68 @@
+// The lines of a merger, scanned.
+ghost use Rattle.std.specs.Prelude.{◌≡◌, [], ◌<◌, ◌+◌, ◌*◌, ◌^◌, ◌≤◌, length, IsTrue, Err, IfErr, IfOk, IfSome, OnOk, None, Some};
+ghost use Rattle.cweb_files.specs.Frames.{KeepsTexts};
+ghost use Rattle.cweb_lines.specs.Texts.{files_named};
+ghost use Rattle.cweb_lines.specs.Whole.{to_come, so_far, stop_in, HasEnded, Grows};
+ghost use Rattle.cweb_store.specs.Calls.{too_many};
+ghost use Rattle.cweb_scan.specs.Held.{cost, read_after};
+ghost use Rattle.cweb_scan.specs.Run.{scanned_of};
+ghost use Rattle.cweb_scan.specs.Scan.{seen, Blames, EndsEarly, IsWithin, Scans};
+
+use crate::reader::Reader;
+use crate::scanned::Scanned;
+use cweb_lines::{Merger, Shelf, Stop};
+use std::alloc::{AllocError, Global};
+
+// No line follows.
+fn finished(reader: Reader) -> Result<Scanned, AllocError>
+    requires { cost reader + 8 < too_many }
+    ensures { IfOk result (λ made. seen made ≡ scanned_of (read_after reader []).state) }
+{
+    let scanner = reader.finish()?;
+    scanner.scanned()
+}
+
+/// Scans the lines that are still to come: what they give to a store, their faults, their sections. The web's text is these
+/// lines, joined by newlines. Where memory is refused the merger stops.
+pub fn scan<S: Shelf>(alloc: Global, merger: &mut Merger<S>, shelf: &mut S) -> Result<Scanned, Stop>
+    requires { S.failed shelf.old + 1 < 2 ^ 64 }
+    ensures keeps { KeepsTexts S.Shelf shelf.old shelf.new }
+    ensures grows { Grows (so_far merger.old) (so_far merger.new) }
+
+    // all lines were scanned
+    ensures scans { IsTrue (S.tells shelf.old) → IfOk result (λ made. Scans (seen made)
+        (so_far merger.old) (so_far merger.new) (to_come S.Shelf shelf.old merger.old)) }
+    ensures within { IfOk result (λ made. IsWithin (so_far merger.new) (seen made)) }
+    ensures ended { OnOk result ((stop_in merger.new ≡ None) × HasEnded merger.new × (S.failed shelf.new ≡ S.failed shelf.old)) }
+
+    // why not all lines were scanned
+    ensures stops { IsTrue (S.tells shelf.old) → stop_in merger.old ≡ None →
+        IfErr result (λ stop. EndsEarly stop (so_far merger.old) (so_far merger.new) (to_come S.Shelf shelf.old merger.old)) }
+    ensures blames { stop_in merger.old ≡ None →
+        IfErr result (λ stop. Blames stop (S.failed shelf.old) (S.failed shelf.new) (stop_in merger.new)) }
+    ensures again { IfSome (stop_in merger.old) (λ stop.
+        (result ≡ Err stop) × (merger.new ≡ merger.old) × (shelf.new ≡ shelf.old)) }
+    ensures named { IfErr result (λ stop. files_named stop ≤ length (so_far merger.new).names) }
+{
+    if let Some(stop) = merger.stopped() {
+        return Err(stop);
+    }
+    let mut line = Vec::new(alloc);
+    let mut reader = Reader::new(alloc);
+    'lines: loop {
+        let next = match merger.next_line(shelf, &mut line) {
+            Ok(next) => next,
+            Err(stop) => return Err(stop),
+        };
+        let Some(place) = next else {
+            break;
+        };
+        if let Err(_) = reader.take_line(place, &line) {
+            return Err(merger.halt());
+        }
+    }
+    match finished(reader) {
+        Ok(made) => Ok(made),
+        Err(_) => Err(merger.halt()),
+    }
+}
