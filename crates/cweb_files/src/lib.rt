@@ -8,6 +8,3 @@ mod place;
 pub use device::{Shelf, ShelfFault, Sink, SinkFault};
 pub use memory::{MemoryReader, MemoryShelf, MemorySink};
 pub use place::{FileId, Place};
-
-#[cfg(test)]
-mod tests;

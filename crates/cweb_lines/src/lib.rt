@@ -38,6 +38,3 @@ pub use merger::Merger;
 pub use names::FileNames;
 pub use stop::Stop;
 pub use writing::{write_all, write_merged, write_merged_in_pieces};
-
-#[cfg(test)]
-mod tests;

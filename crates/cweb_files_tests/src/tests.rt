@@ -1,4 +1,4 @@
-use super::*;
+use cweb_files::{MemoryShelf, MemorySink, Shelf, Sink};
 use std::alloc::{AllocError, Global};
 use std::test::Fail;
 

@@ -6,7 +6,7 @@ mod limits;
 mod pieces;
 mod webs;
 
-use super::*;
+use cweb_lines::*;
 use std::alloc::{AllocError, Global};
 use std::test::Fail;
 
