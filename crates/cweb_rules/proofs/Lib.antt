@@ -1,9 +1,11 @@
 pub mod Longest
+mod Seconds
 pub mod Seams
 pub mod Sizes
 pub mod ByRules
 pub mod Reaches
 pub mod Ranges
+pub mod PlainRuns
 pub mod Fairs
 pub mod LineItems
 pub mod LineFronts

@@ -7,6 +7,7 @@ pub mod Cut
 pub mod Items
 pub mod Constants
 pub mod Looks
+pub mod Plains
 pub mod Kinds
 pub mod Fronts
 pub mod Rules

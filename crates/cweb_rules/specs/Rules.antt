@@ -1,7 +1,7 @@
 -- Which rule fits first, by its name in the code.
-use Rattle.std.specs.Prelude.{ℕ, Bool, true, ◌&&◌, List, codes, if◌then◌else◌}
+use Rattle.std.specs.Prelude.{ℕ, Bool, true, ◌&&◌, ◌||◌, not, List, [], ◌∷◌, codes, if◌then◌else◌}
 use Rattle.std.specs.List.{prefix_len}
-use Rattle.cweb_rules.specs.Bytes.{is_blank, is_line_end, is_word_byte, begins, first_is, starts_section}
+use Rattle.cweb_rules.specs.Bytes.{is_blank, is_digit, is_line_end, is_one_of, is_word_byte, begins, first_is, starts_section}
 use Rattle.cweb_rules.specs.Fronts.{comment_at, line_comment_at, section_at, code_at, raw_at, literal_at, include_at, starts_raw, starts_literal, starts_include}
 use Rattle.cweb_rules.specs.Kinds.{Skipped, Blanks, LineEnd, Identifier, Numeral, Punctuator, Front, front}
 use Rattle.cweb_rules.specs.Tables.{listed, longest, number_len, starts_number}
@@ -26,6 +26,11 @@ c_rule includes t =
     else (if starts_number t then rule.Number
     else (if first_is is_word_byte t then rule.Identifier
     else rule.Punctuator))))))))))
+
+-- the bytes at a text's front that leave but an identifier or a punctuator to begin there: no blank or line end, no first byte of
+-- a comment, a code, a literal, an included name or a number
+abbrev pub is_settled : ℕ → Bool
+is_settled b = not (is_one_of (32 ∷ 9 ∷ 13 ∷ 11 ∷ 12 ∷ 10 ∷ []) b || is_one_of (codes "/@RLuU\"'<.") b || is_digit b)
 
 -- what a rule of C text names
 abbrev pub c_front_by : (ℕ → Effect) → Bool → List ℕ → Rule → Front

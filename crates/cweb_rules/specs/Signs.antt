@@ -1,5 +1,5 @@
 -- The first of some signs that a text begins with.
-use Rattle.std.specs.Prelude.{ℕ, Bool, ◌&&◌, nat_le, List, [], ◌∷◌, length, if◌then◌else◌}
+use Rattle.std.specs.Prelude.{ℕ, Bool, false, ◌&&◌, nat_le, List, [], ◌∷◌, length, if◌then◌else◌}
 use Rattle.cweb_rules.specs.Bytes.{begins}
 
 -- its length, and else 1
@@ -11,3 +11,9 @@ first_len (p ∷ ps) t = if begins p t then length p else first_len ps t
 abbrev pub descends : ℕ → List (List ℕ) → Bool
 descends m [] = nat_le 1 m
 descends m (p ∷ ps) = nat_le (length p) m && descends (length p) ps
+
+-- a text has a second byte, and that passes a test
+abbrev pub second_is : (ℕ → Bool) → List ℕ → Bool
+second_is test [] = false
+second_is test (a ∷ []) = false
+second_is test (a ∷ b ∷ t) = test b

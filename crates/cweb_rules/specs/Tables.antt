@@ -8,6 +8,10 @@ listed = codes "..." ∷ codes "<<=" ∷ codes ">>=" ∷ codes "->*" ∷ codes "
     ∷ codes "<=" ∷ codes ">=" ∷ codes "==" ∷ codes "!=" ∷ codes "&&" ∷ codes "||" ∷ codes "*=" ∷ codes "/=" ∷ codes "%="
     ∷ codes "+=" ∷ codes "-=" ∷ codes "&=" ∷ codes "^=" ∷ codes "|=" ∷ codes "##" ∷ codes "::" ∷ codes ".*" ∷ []
 
+-- the bytes that stand in their second places
+abbrev pub seconds : List ℕ
+seconds = codes ".<>=-+&|*#:"
+
 -- the length of the longest entry that a text begins with, and else 1
 abbrev pub longest : List (List ℕ) → List ℕ → ℕ
 longest [] t = 1

@@ -151,7 +151,7 @@ impl Item<'_> {
     }
 }
 
-// How far an item reaches in a text, unit by unit.
+// How far an item reaches in a text: runs of units of one byte, and other units, by turns.
 fn reach_by_units(item: Item<'_>, text: &[u8]) -> Reached
     ensures value { result ≡ reached (cut.reach (look_of item.entry) how.Open text.now) }
     ensures within { result.size ≤ length text.now }
@@ -159,13 +159,19 @@ fn reach_by_units(item: Item<'_>, text: &[u8]) -> Reached
     let mut rest = text;
     let mut size = 0;
     'units: while !rest.is_empty() {
-        match item.look(rest) {
-            Look::Goes(unit) => {
-                let step = unit.min(rest.len());
-                rest = rest.split_at(step).1;
-                size += step;
+        let plain = item.plain_len(rest);
+        if plain > 0 {
+            rest = rest.split_at(plain).1;
+            size += plain;
+        } else {
+            match item.look(rest) {
+                Look::Goes(unit) => {
+                    let step = unit.min(rest.len());
+                    rest = rest.split_at(step).1;
+                    size += step;
+                }
+                Look::Ends(close, how) => return Reached { size, close, how },
             }
-            Look::Ends(close, how) => return Reached { size, close, how },
         }
     }
     Reached {

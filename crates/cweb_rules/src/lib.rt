@@ -14,6 +14,7 @@ pub mod laws;
 pub mod literals;
 mod look;
 pub mod numbers;
+pub mod plains;
 pub mod punctuators;
 pub mod rule;
 
@@ -22,6 +23,3 @@ pub use effect::Effect;
 pub use end::End;
 pub use fault::{ScanFault, ScanKind};
 pub use look::Look;
-
-#[cfg(test)]
-mod tests;

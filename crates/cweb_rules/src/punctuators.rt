@@ -1,7 +1,8 @@
 // Punctuators of C text.
 ghost use Rattle.std.specs.Prelude.{◌≡◌, map};
-ghost use Rattle.cweb_rules.specs.Tables.{listed, longest};
-ghost use Rattle.cweb_rules.specs.Signs.{first_len};
+ghost use Rattle.cweb_rules.specs.Bytes.{is_one_of};
+ghost use Rattle.cweb_rules.specs.Tables.{listed, longest, seconds};
+ghost use Rattle.cweb_rules.specs.Signs.{first_len, second_is};
 
 use crate::bytes::begins;
 
@@ -23,9 +24,32 @@ fn first_len(table: &[&[u8]], text: &[u8]) -> usize
     1
 }
 
+// Whether a listed punctuator has this byte in its second place. Most punctuators of a program stand before another one.
+fn goes_on(byte: u8) -> bool
+    ensures { result ≡ is_one_of seconds byte }
+{
+    matches!(
+        byte,
+        b'.' | b'<' | b'>' | b'=' | b'-' | b'+' | b'&' | b'|' | b'*' | b'#' | b':'
+    )
+}
+
+// Whether the second byte of a text lets a listed punctuator begin it.
+fn may_be_listed(text: &[u8]) -> bool
+    ensures { result ≡ second_is (is_one_of seconds) text.now }
+{
+    match text {
+        [_, second, ..] => goes_on(*second),
+        _ => false,
+    }
+}
+
 /// How many bytes the punctuator at a text's front has: the longest that is listed, and else one.
 pub fn punctuator_len(text: &[u8]) -> usize
     ensures { result ≡ longest listed text.now }
 {
+    if !may_be_listed(text) {
+        return 1;
+    }
     first_len(&LISTED, text)
 }

@@ -1,7 +1,8 @@
 // Which rule of C text fits first.
 ghost use Rattle.std.specs.Prelude.{◌≡◌, ◌<◌, length};
+ghost use Rattle.cweb_rules.specs.Bytes.{first_is};
 ghost use Rattle.cweb_rules.specs.Fronts as spec;
-ghost use Rattle.cweb_rules.specs.Rules.{c_rule as first_rule, text_rule as rule_of_text};
+ghost use Rattle.cweb_rules.specs.Rules.{c_rule as first_rule, is_settled as settled, text_rule as rule_of_text};
 
 use crate::bytes::{Class, begins, starts, starts_section};
 use crate::end::End;
@@ -51,8 +52,57 @@ fn starts_include(text: &[u8]) -> bool
     is_closed(reach(Item::IncludedName, name).how)
 }
 
-/// The first rule of C text that fits at a text's front; an included name is a rule where `includes` says so.
+// Whether a byte at a text's front leaves but an identifier or a punctuator to begin there.
+fn is_settled(byte: u8) -> bool
+    ensures { result ≡ settled byte }
+{
+    !matches!(
+        byte,
+        b' ' | b'\t'
+            | b'\r'
+            | 11
+            | 12
+            | b'\n'
+            | b'/'
+            | b'@'
+            | b'R'
+            | b'L'
+            | b'u'
+            | b'U'
+            | b'"'
+            | b'\''
+            | b'<'
+            | b'.'
+            | b'0'..=b'9'
+    )
+}
+
+fn starts_settled(text: &[u8]) -> bool
+    ensures { result ≡ first_is settled text.now }
+{
+    match text {
+        [first, ..] => is_settled(*first),
+        [] => false,
+    }
+}
+
+/// The first rule of C text that fits at a text's front; an included name is a rule where `includes` says so. Most pieces
+/// are told by their first byte.
 pub fn c_rule(includes: bool, text: &[u8]) -> Rule
+    ensures { result ≡ first_rule includes text.now }
+{
+    if !starts_settled(text) {
+        return tried_rule(includes, text);
+    }
+    if starts(Class::Word, text) {
+        Rule::Identifier
+    } else {
+        Rule::Punctuator
+    }
+}
+
+// The first rule that fits, each tried in its turn.
+fn tried_rule(includes: bool, text: &[u8]) -> Rule
     ensures { result ≡ first_rule includes text.now }
 {
     if starts(Class::Blank, text) {

@@ -1,14 +1,14 @@
 // The rules on the front of some texts, as tables.
 
-use crate::bytes::{Class, run_len, starts_section};
-use crate::codes::{in_c, in_limbo, in_macro, in_text};
-use crate::constants::{constant, letter};
-use crate::items::{Item, opener_sign, reach};
-use crate::literals::{delimiter, literal_prefix, quote_of, raw_prefix};
-use crate::numbers::number_len;
-use crate::punctuators::punctuator_len;
-use crate::rule::{Rule, TextRule, c_rule, text_rule};
-use crate::{Effect, End, ScanKind};
+use cweb_rules::bytes::{Class, run_len, starts_section};
+use cweb_rules::codes::{in_c, in_limbo, in_macro, in_text};
+use cweb_rules::constants::{constant, letter};
+use cweb_rules::items::{Item, opener_sign, reach};
+use cweb_rules::literals::{delimiter, literal_prefix, quote_of, raw_prefix};
+use cweb_rules::numbers::number_len;
+use cweb_rules::punctuators::punctuator_len;
+use cweb_rules::rule::{Rule, TextRule, c_rule, text_rule};
+use cweb_rules::{Effect, End, ScanKind};
 use std::test::Fail;
 
 #[test]

@@ -1,0 +1,24 @@
+use Rattle.std.proofs.Common.{◌≡◌, ◌+◌, ℕ, List, length, drop, ap, sym, ◌∙◌, arith}
+use Rattle.std.proofs.lemmas.List.{length-drop}
+use Rattle.cweb_rules.specs.Cut.{reach}
+use Rattle.cweb_rules.specs.Looks.{look_of, reached}
+use Rattle.cweb_rules.specs.declared.end.End.TheVariants.{Open}
+use Rattle.cweb_rules.specs.declared.items.Reached.{Reached}
+use Rattle.cweb_rules.proofs.PlainRuns.{reach_plain}
+use Rattle.cweb_rules.proofs.Ranges.{later_by, later_by-add}
+use Rattle.cweb_rules.proofs.items.reach_by_units.Goals as goal
+
+pub units-preserved-then-plain-gt0 : goal.units-preserved-then-plain-gt0
+units-preserved-then-plain-gt0 c =
+    let look = look_of c.args.item in
+    let rest = c.units.rest.now in
+    let size = c.units.size in
+    let n = c.plain_len-plain.result in
+    let back = c.split_at.ensures.back in
+    record {
+      within = omega (arith, c.units.invariant.within, ap length back, length-drop n rest, c.plain_len-plain.ensures.within);
+      so_far = c.units.invariant.so_far
+          ∙ ap (λ (r : Reached). later_by size r) (reach_plain c.args.item Open rest ∙ (λ i. later_by (sym c.plain_len-plain.ensures.value i) (reached (reach look Open (drop (sym c.plain_len-plain.ensures.value i) rest)))))
+          ∙ later_by-add size n (reached (reach look Open (drop n rest)))
+          ∙ ap (λ (u : List ℕ). later_by (size + n) (reached (reach look Open u))) (sym back);
+    }

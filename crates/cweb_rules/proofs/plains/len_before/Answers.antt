@@ -1,0 +1,7 @@
+use Rattle.std.proofs.Common.{◌∙◌}
+use Rattle.memchr.specs.Find.{is_byte}
+use Rattle.cweb_rules.proofs.PlainRuns.{before_first}
+use Rattle.cweb_rules.proofs.plains.len_before.Goals as goal
+
+pub returns-clause-value : goal.returns-clause-value
+returns-clause-value c = c.unwrap_or.ensures ∙ before_first (is_byte c.args.byte) c.args.text.now c.memchr.result c.memchr.ensures

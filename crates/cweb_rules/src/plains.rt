@@ -1,0 +1,67 @@
+// The bytes of an item that are no part of a sign, many at a time.
+ghost use Rattle.std.specs.Prelude.{◌≡◌, ◌≤◌, ◌==◌, ◌||◌, length, not};
+ghost use Rattle.std.specs.List.{prefix_len};
+ghost use Rattle.cweb_rules.specs.Plains.{is_plain, is_raw_sign};
+ghost use Rattle.memchr.specs.Find.{is_byte, is_byte2, is_byte3};
+
+use crate::items::Item;
+use memchr::{memchr, memchr2, memchr3};
+
+/// How many bytes stand before the first byte of one value.
+pub fn len_before(byte: u8, text: &[u8]) -> usize
+    ensures value { result ≡ prefix_len (λ b. not (is_byte byte b)) text.now }
+    ensures within { result ≤ length text.now }
+{
+    memchr(byte, text).unwrap_or(text.len())
+}
+
+// How many bytes stand before the first byte of two values.
+fn len_before2(one: u8, other: u8, text: &[u8]) -> usize
+    ensures value { result ≡ prefix_len (λ b. not (is_byte2 one other b)) text.now }
+    ensures within { result ≤ length text.now }
+{
+    memchr2(one, other, text).unwrap_or(text.len())
+}
+
+// How many bytes stand before the first byte of three values.
+fn len_before3(one: u8, other: u8, third: u8, text: &[u8]) -> usize
+    ensures value { result ≡ prefix_len (λ b. not (is_byte3 one other third b)) text.now }
+    ensures within { result ≤ length text.now }
+{
+    memchr3(one, other, third, text).unwrap_or(text.len())
+}
+
+fn plain_in_literal(quote: u8, text: &[u8]) -> usize
+    ensures value { result ≡ prefix_len (λ b. not ((b == 64 || b == 92 || b == quote) || b == 10)) text.now }
+    ensures within { result ≤ length text.now }
+{
+    let (quoted, _) = text.split_at(len_before3(b'@', b'\\', quote, text));
+    len_before(b'\n', quoted)
+}
+
+fn plain_in_raw(sign: &[u8], text: &[u8]) -> usize
+    ensures value { result ≡ prefix_len (λ b. not (is_raw_sign sign.now b)) text.now }
+    ensures within { result ≤ length text.now }
+{
+    match sign {
+        [first, ..] => len_before2(b'@', *first, text),
+        [] => 0,
+    }
+}
+
+impl Item<'_> {
+    /// How many bytes at a text's front are units of one byte, whatever stands behind them.
+    pub fn plain_len(self, text: &[u8]) -> usize
+        ensures value { result ≡ prefix_len (is_plain self.entry) text.now }
+        ensures within { result ≤ length text.now }
+    {
+        match self {
+            Item::ControlText | Item::LineComment => len_before2(b'@', b'\n', text),
+            Item::Name => len_before(b'@', text),
+            Item::Comment => len_before2(b'@', b'*', text),
+            Item::Literal(quote) => plain_in_literal(quote, text),
+            Item::IncludedName => len_before3(b'@', b'\n', b'>', text),
+            Item::RawLiteral(sign) => plain_in_raw(sign, text),
+        }
+    }
+}
