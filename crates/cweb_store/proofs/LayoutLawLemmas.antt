@@ -18,7 +18,7 @@ before_last-front test t ts [] rest splits passes =
     ]) refl
 before_last-front test t ts (u ∷ us) rest splits passes = record { rest = rest; splits = ap (λ xs. t ∷ xs) splits; passes = passes }
 
-without_last-front : (test : Token → Bool) (ts : List Token) → IsFront test ts (without_last test ts)
+pub without_last-front : (test : Token → Bool) (ts : List Token) → IsFront test ts (without_last test ts)
 without_last-front test [] = record { rest = []; splits = refl; passes = tt }
 without_last-front test (t ∷ ts) =
     let f = without_last-front test ts in

@@ -18,8 +18,10 @@ pub mod Known
 pub mod Given
 pub mod Gathered
 pub mod Wanted
+pub mod Links
 pub mod Answers
 pub mod Replaced
 pub mod Stored
 pub mod Laws
 pub mod MoreLaws
+pub mod TokenLaws

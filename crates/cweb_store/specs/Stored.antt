@@ -4,10 +4,12 @@ use Rattle.cweb_store.specs.declared.name.NameId.{NameId}
 use Rattle.cweb_store.specs.declared.name.NameFault.{NameFault}
 use Rattle.cweb_store.specs.declared.name_table.GivenAs.{GivenAs}
 use Rattle.cweb_store.specs.declared.part.Run.{Run}
+use Rattle.cweb_store.specs.declared.links.Links.{Links}
 use Rattle.cweb_store.specs.Names.{Occurrence, Standing, names}
 use Rattle.cweb_store.specs.Parts.{Part}
 use Rattle.cweb_store.specs.Replacements.{Replacement, replacement_of}
 use Rattle.cweb_store.specs.Runs.{IsWhole, closed_in}
+use Rattle.cweb_store.specs.Links.{AreLinked}
 use Rattle.cweb_store.specs.ClosedTokens.{TokensAndTexts}
 use Rattle.cweb_store.specs.Calls.{Stored, occurrence_of, too_many, stored}
 use Rattle.cweb_store.specs.Answers.{AreAnswers}
@@ -36,8 +38,9 @@ last_from byte found i (b ∷ bs) = last_from byte (if nat_eq b byte then Some i
 abbrev pub stored_in : TokensAndTexts → List Run → List GivenAs → List ℕ → Stored
 stored_in c runs given replaced = stored (occurrences_at c.others given) (map (closed_in c.tokens) runs) (replacements_at (drop (length given) c.others) replaced)
 
-pub record AreStored (c : TokensAndTexts) (runs : List Run) (given : List GivenAs) (replaced firsts : List ℕ) (standings : List Standing) (files : List NameId) (faults : List NameFault) (has_defs : Bool) : Type 0 where
+pub record AreStored (c : TokensAndTexts) (runs : List Run) (links : Links) (given : List GivenAs) (replaced firsts : List ℕ) (standings : List Standing) (files : List NameId) (faults : List NameFault) (has_defs : Bool) : Type 0 where
   pub whole : IsWhole c.tokens runs
+  pub linked : AreLinked standings runs links.skips.items links.heads
   pub texts : length c.others ≡ length given + length replaced
   pub few : length firsts < too_many
   pub first_places : firsts ≡ map (λ n. n.first) (names (occurrences_at c.others given))

@@ -3,6 +3,7 @@
 
 ghost use Rattle.cweb_store.specs.Laws.{AbbreviationsStay, EarlierNamesDecide, FullNamesStandForThemselves, JoiningConcatenates, OccurrencesAreThoseOfCalls};
 ghost use Rattle.cweb_store.specs.MoreLaws.{AbbreviationsBeginTheirNames, DroppingKeepsTheFront, NamesAreDistinct, OneFaultForNoName};
+ghost use Rattle.cweb_store.specs.TokenLaws.{TokensAreThosePushed};
 
 /// What an abbreviation stands for stays when names are added that don't begin with its prefix.
 pub fn abbreviations_stay()
@@ -47,4 +48,9 @@ pub fn one_fault_for_no_name()
 /// Dropping layout changes nothing before it, and a macro keeps its first two tokens.
 pub fn dropping_keeps_the_front()
     ensures { DroppingKeepsTheFront }
+{}
+
+/// The tokens of the parts are those that were pushed, in their order, but for layout that was dropped.
+pub fn tokens_are_those_pushed()
+    ensures { TokensAreThosePushed }
 {}

@@ -9,6 +9,7 @@ mod found;
 mod known_names;
 pub mod laws;
 mod layout;
+mod links;
 mod name;
 mod name_table;
 mod packed;
@@ -30,6 +31,3 @@ pub use part::{Part, PartKind};
 pub use parts::Parts;
 pub use store::Store;
 pub use token::Token;
-
-#[cfg(test)]
-mod tests;

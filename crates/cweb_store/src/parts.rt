@@ -1,11 +1,10 @@
 // The parts of a name, those of the program, or the macros, one after another.
 
 ghost use Rattle.std.specs.Prelude.{◌≡◌};
-ghost use Rattle.cweb_store.specs.Wanted.{is_wanted, wanted_in};
+ghost use Rattle.cweb_store.specs.Links.{followed};
 
-use crate::name::{NameId, NameKind};
-use crate::part::{Part, PartKind, Run};
-use crate::standing::name_at;
+use crate::name::NameId;
+use crate::part::{Part, Run};
 use std::marker::Model;
 
 /// Which parts are wanted.
@@ -19,12 +18,13 @@ pub enum Wanted {
     Macros,
 }
 
-/// The parts that are still to come, in order of appearance.
+/// The parts that are still to come, in order of appearance. Each tells how many stand between it and the next one, so
+/// that no other is visited.
 #[derive(Drop)]
 pub struct Parts<'a> {
     runs: &'a [Run],
-    standings: &'a [Result<NameId, NameKind>],
-    wanted: Wanted,
+    skips: &'a [u32],
+    skip: u32,
 }
 
 impl<'a> Model for Parts<'a> {
@@ -33,25 +33,17 @@ impl<'a> Model for Parts<'a> {
 
     ghost Value = { List Part };
 
-    ghost use Rattle.cweb_store.specs.Wanted.{wanted_in};
+    ghost use Rattle.cweb_store.specs.Links.{followed};
 
-    ghost view = { λ s. wanted_in s.standings.now s.wanted s.runs.now };
+    ghost view = { λ s. followed s.runs.now s.skips.now s.skip };
 }
 
 impl<'a> Parts<'a> {
-    /// The parts of these that are wanted.
-    pub(crate) fn new(
-        runs: &'a [Run],
-        standings: &'a [Result<NameId, NameKind>],
-        wanted: Wanted,
-    ) -> Parts<'a>
-        ensures { result ≡ wanted_in standings.entry.now wanted runs.entry.now }
+    /// The parts from the one behind `skip` others.
+    pub(crate) fn new(runs: &'a [Run], skips: &'a [u32], skip: u32) -> Parts<'a>
+        ensures { result ≡ followed runs.entry.now skips.entry.now skip }
     {
-        Parts {
-            runs,
-            standings,
-            wanted,
-        }
+        Parts { runs, skips, skip }
     }
 }
 
@@ -65,28 +57,16 @@ impl<'a> Iterator for Parts<'a> {
     ghost remaining = { item_count (λ s. s) };
 
     fn next(&mut self) -> Option<Part> {
-        while let Some((first, rest)) = self.runs.split_first() {
-            self.runs = rest;
-            if is_wanted(self.standings, self.wanted, first.kind) {
-                return Some(first.part);
-            }
-        }
-        None
-    }
-}
-
-fn is_wanted(standings: &[Result<NameId, NameKind>], wanted: Wanted, kind: PartKind) -> bool
-    ensures { result ≡ is_wanted standings.now wanted kind }
-{
-    match (wanted, kind) {
-        (Wanted::Program, PartKind::Unnamed) => true,
-        (Wanted::Macros, PartKind::Macro) => true,
-        (Wanted::OfName(id), PartKind::Named(name)) => {
-            match name_at(standings, name.0 as usize) {
-                Some(owner) => id == owner,
-                None => false,
-            }
-        }
-        _ => false,
+        let skip = self.skip as usize;
+        let Some(run) = self.runs.get(skip) else {
+            return None;
+        };
+        let Some(next) = self.skips.get(skip) else {
+            return None;
+        };
+        self.runs = &self.runs[skip + 1..];
+        self.skips = &self.skips[skip + 1..];
+        self.skip = *next;
+        Some(run.part)
     }
 }

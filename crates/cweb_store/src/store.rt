@@ -8,10 +8,13 @@ ghost use Rattle.cweb_store.specs.Replacements.{replacement};
 ghost use Rattle.cweb_store.specs.Calls.{too_many};
 ghost use Rattle.cweb_store.specs.Texts.{AreInOneList, bytes_given, texts_of};
 ghost use Rattle.cweb_store.specs.Stored.{last_from};
+ghost use Rattle.cweb_store.specs.Runs.{runs_from};
+ghost use Rattle.cweb_store.specs.Wanted.{wanted_in};
 
 use crate::closed_parts::ClosedParts;
 use crate::closed_tokens::ClosedTokens;
 use crate::faults::name_faults;
+use crate::links::Links;
 use crate::name::{NameFault, NameId, NameKind, NameRef};
 use crate::name_table::{GivenAs, NameTable};
 use crate::part::Run;
@@ -28,6 +31,7 @@ use std::marker::Model;
 pub struct Store {
     tokens: ClosedTokens,
     runs: Vec<Run>,
+    links: Links,
     given: Vec<GivenAs>,
     replaced: Vec<u8>,
     firsts: Vec<u32>,
@@ -46,7 +50,7 @@ impl Model for Store {
 
     ghost view = { λ s. stored_in s.tokens s.runs.items s.given.items s.replaced.items };
 
-    ghost invariant = { λ s. AreStored s.tokens s.runs.items s.given.items s.replaced.items s.firsts.items s.standings.items s.files.keys s.faults.items s.has_defs_code };
+    ghost invariant = { λ s. AreStored s.tokens s.runs.items s.links s.given.items s.replaced.items s.firsts.items s.standings.items s.files.keys s.faults.items s.has_defs_code };
 }
 
 impl Store {
@@ -67,6 +71,7 @@ impl Store {
         let faults = name_faults(alloc, &table, &parts, standings.as_slice(), &files)?;
         let has_defs_code = parts.has_defs_code();
         let firsts = table.names().firsts()?;
+        let links = Links::new(alloc, parts.runs(), standings.as_slice(), firsts.len())?;
         let ClosedParts { tokens, runs } = parts;
         let mut tokens = tokens.close();
         let given = table.close(&mut tokens)?;
@@ -74,6 +79,7 @@ impl Store {
         let store = Store {
             tokens,
             runs,
+            links,
             given,
             replaced,
             firsts,
@@ -92,11 +98,7 @@ impl Store {
         ensures ordered { All (λ p. p.first ≤ p.after) result }
         ensures within { All (λ p. p.after ≤ length (all_tokens self.now.parts)) result }
     {
-        Parts::new(
-            self.runs.as_slice(),
-            self.standings.as_slice(),
-            Wanted::Program,
-        )
+        self.wanted(Wanted::Program)
     }
 
     /// The parts of a name. There is one exactly where the name has a part.
@@ -107,11 +109,7 @@ impl Store {
         ensures ordered { All (λ p. p.first ≤ p.after) result }
         ensures within { All (λ p. p.after ≤ length (all_tokens self.now.parts)) result }
     {
-        Parts::new(
-            self.runs.as_slice(),
-            self.standings.as_slice(),
-            Wanted::OfName(name),
-        )
+        self.wanted(Wanted::OfName(name))
     }
 
     /// The macros.
@@ -120,12 +118,18 @@ impl Store {
         ensures text { tokens_at (all_tokens self.now.parts) result ≡ joined is_macro self.now.parts }
         ensures ordered { All (λ p. p.first ≤ p.after) result }
         ensures within { All (λ p. p.after ≤ length (all_tokens self.now.parts)) result }
+        ensures few { length result < too_many }
     {
-        Parts::new(
-            self.runs.as_slice(),
-            self.standings.as_slice(),
-            Wanted::Macros,
-        )
+        self.wanted(Wanted::Macros)
+    }
+
+    // The parts that are wanted.
+    fn wanted(&self, wanted: Wanted) -> Parts<'_>
+        ensures value { result ≡ wanted_in (spec.standings self.now.occurrences) wanted (runs_from 0 self.now.parts) }
+        ensures few { length result < too_many }
+    {
+        let skip = self.runs.len() as u32 - self.links.heads.get(wanted);
+        Parts::new(self.runs.as_slice(), self.links.skips.as_slice(), skip)
     }
 
     /// The token with a number.

@@ -1,21 +1,14 @@
 use Rattle.std.proofs.Common.{◌≤◌, ◌<◌, ◌↔◌, List, length, sym, ◌∙◌, ap, subst}
 use Rattle.std.specs.Prelude.{All, IsTrue}
 use Rattle.cweb_store.specs.declared.part.Part.{Part}
-use Rattle.cweb_store.specs.declared.parts.Wanted.TheVariants.{OfName}
 use Rattle.cweb_store.specs.Names as spec
 use Rattle.cweb_store.specs.Parts.{all_tokens, is_of, tokens_at}
-use Rattle.cweb_store.specs.Runs.{runs_from}
-use Rattle.cweb_store.specs.Wanted.{wanted_in}
 use Rattle.cweb_store.specs.Faults.{has_part}
-use Rattle.cweb_store.proofs.RunLemmas.{stored-runs}
 use Rattle.cweb_store.proofs.PartLemmas.{part-runs, tokens_at-numbers, numbers-within, numbers-ordered, numbers-some}
 use Rattle.cweb_store.proofs.store.Store.parts.Goals as goal
 
 pub returns-clause-numbers : goal.returns-clause-numbers
-returns-clause-numbers c =
-    let runs = c.as_slice.ensures.value ∙ stored-runs c.self.inside.tokens.tokens c.self.inside.runs.items c.self.invariant.whole ∙ ap (λ v. runs_from 0 v.parts) c.self.view_is in
-    let standings = c.as_slice-2.ensures.value ∙ c.self.invariant.answers.settled ∙ ap (λ v. spec.standings v.occurrences) c.self.view_is in
-    c.new.ensures ∙ (λ i. wanted_in (standings i) (OfName c.args.name) (runs i)) ∙ part-runs (is_of (spec.standings c.args.self.now.occurrences) c.args.name) 0 c.args.self.now.parts
+returns-clause-numbers c = c.wanted.ensures.value ∙ part-runs (is_of (spec.standings c.args.self.now.occurrences) c.args.name) 0 c.args.self.now.parts
 
 pub returns-clause-text : goal.returns-clause-text
 returns-clause-text c =

@@ -31,13 +31,23 @@ impl<'a> Expected<'a> {
         }
     }
 
-    // Numbers of tests have one digit.
+    // In tests a number has three digits at most.
     fn tell_number(&mut self, number: u32) {
+        if number >= 100 {
+            self.tell_last_digit(number / 100);
+        }
+        if number >= 10 {
+            self.tell_last_digit(number / 10);
+        }
+        self.tell_last_digit(number);
+    }
+
+    fn tell_last_digit(&mut self, number: u32) {
         let digit = [b'0' + (number % 10) as u8];
         self.tell(digit.as_slice());
     }
 
-    /// Names with their parts, the program, macros, files, faults and replacements.
+    /// Names with their parts, the program, macros, files and faults.
     pub fn tell_store(&mut self, store: &Store) {
         self.tell_names(store);
         self.tell(b"program");
@@ -53,6 +63,35 @@ impl<'a> Expected<'a> {
         for fault in store.name_faults() {
             self.tell(kind_name(fault.kind));
             self.tell_number(fault.occurrence.0);
+        }
+    }
+
+    /// The names that the first three occurrences stand for.
+    pub fn tell_standings(&mut self, store: &Store) {
+        for number in 0..3 {
+            match store.standing(NameRef(number)) {
+                Some(id) => self.tell_number(id.0),
+                None => self.tell(b"-"),
+            }
+        }
+    }
+
+    /// How many tokens and bytes of texts there are, Defs in the program, and replacements.
+    pub fn tell_counts(&mut self, store: &Store) {
+        self.tell(b"tokens ");
+        self.tell_number(store.tokens());
+        self.tell(b"; bytes ");
+        self.tell_number(store.text_bytes().min(999) as u32);
+        if store.has_defs_code() {
+            self.tell(b"; defs");
+        }
+        for byte in 128..=255 {
+            if let Some(text) = store.replacement(byte) {
+                self.tell(b"; byte ");
+                self.tell_number(u32::from(byte));
+                self.tell(b" ");
+                self.tell(text);
+            }
         }
     }
 

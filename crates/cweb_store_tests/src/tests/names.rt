@@ -1,0 +1,79 @@
+// Names, abbreviations, files, and what is wrong with them.
+use super::*;
+
+// What three occurrences stand for.
+#[test]
+fn abbreviations(rt: HostRuntime) -> Result<(), Fail> {
+    for (row, text) in [
+        (
+            "prefix Glob; full Global variables; full Global variables",
+            "000",
+        ),
+        (
+            "prefix Glob; full Global variables; full Global types",
+            "-01",
+        ),
+        (
+            "full Global variables; prefix Glob; full Global types",
+            "001",
+        ),
+        ("prefix Glob; prefix Glob; prefix Glob", "---"),
+    ] {
+        let store = store_of(&rt, rt.alloc(), row)?;
+        let mut expected = Expected::new(text);
+        expected.tell_standings(&store);
+        assert!(rt; expected.is_met(), "{row}");
+    }
+    Ok(())
+}
+
+#[test]
+fn an_abbreviation_of_two_names(rt: HostRuntime) -> Result<(), Fail> {
+    tells(
+        &rt,
+        rt.alloc(),
+        "prefix Glob; full Global variables; full Global types",
+        "Global variables; Global types; program; macros; files; faults ambiguous 0",
+    )
+}
+
+// The part belongs to no name, and still its tokens use one.
+#[test]
+fn an_abbreviation_of_no_name(rt: HostRuntime) -> Result<(), Fail> {
+    tells(
+        &rt,
+        rt.alloc(),
+        "prefix Zz; part 0; full B; name 1; close",
+        "B; program; macros; files; faults never given 0 missing 1",
+    )
+}
+
+#[test]
+fn a_prefix_of_another_name(rt: HostRuntime) -> Result<(), Fail> {
+    tells(
+        &rt,
+        rt.alloc(),
+        "full ab; part 0; word x; close; full abc; part 1; word y; close",
+        "ab: x; abc: y; program; macros; files; faults prefix 0",
+    )
+}
+
+#[test]
+fn an_empty_name_and_an_empty_prefix(rt: HostRuntime) -> Result<(), Fail> {
+    tells(
+        &rt,
+        rt.alloc(),
+        "full ; part 0; word ; close; prefix ; part 1; word y; close",
+        ": : y; program; macros; files; faults",
+    )
+}
+
+#[test]
+fn files_and_what_they_lack(rt: HostRuntime) -> Result<(), Fail> {
+    tells(
+        &rt,
+        rt.alloc(),
+        "full a.h; file b.h; file-prefix a; file b.h; part 2; word a; close",
+        "a.h: a; b.h; program; macros; files 1 0; faults missing 1",
+    )
+}

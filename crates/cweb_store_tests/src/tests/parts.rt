@@ -1,0 +1,55 @@
+// Parts, macros, their tokens and layout.
+use super::*;
+
+// Two parts of a name with one of the program between them. The last part is still open.
+#[test]
+fn parts_join_in_order(rt: HostRuntime) -> Result<(), Fail> {
+    tells(
+        &rt,
+        rt.alloc(),
+        "full A; part 0; word one; word two; close; program; word program; close; full A; part 1; word three",
+        "A: one two: three; program: program; macros; files; faults",
+    )
+}
+
+#[test]
+fn every_kind_of_token(rt: HostRuntime) -> Result<(), Fail> {
+    tells(
+        &rt,
+        rt.alloc(),
+        "full A; program; word word; number 1; literal c; verbatim v; sign +; blank; newline; join; name 0; head 3; tail 4; mark 17; defs; close",
+        "A; program: word number 1 literal c verbatim v sign + blank newline join name 0 head 3 tail 4 mark 17 defs; macros; files; faults missing 0",
+    )
+}
+
+#[test]
+fn dropped_layout_of_a_part(rt: HostRuntime) -> Result<(), Fail> {
+    tells(
+        &rt,
+        rt.alloc(),
+        "program; blank; word x; blank; newline; mark 7; drop; word y; newline; close; program; newline; blank; drop; close",
+        "program: blank x y newline:; macros; files; faults",
+    )
+}
+
+// Of a macro the first two tokens stay.
+#[test]
+fn dropped_layout_of_macros(rt: HostRuntime) -> Result<(), Fail> {
+    tells(
+        &rt,
+        rt.alloc(),
+        "macro; word a; drop; close; macro; word b; blank; drop; word x; close; macro; word c; blank; blank; drop; word x; close",
+        "program; macros: a: b blank x: c blank x; files; faults",
+    )
+}
+
+// A macro loses its last Newlines, and then one Blank.
+#[test]
+fn ends_of_macros(rt: HostRuntime) -> Result<(), Fail> {
+    tells(
+        &rt,
+        rt.alloc(),
+        "macro; word a; blank; newline; newline; close; macro; word b; blank; blank; close; macro; word c; newline; blank; close",
+        "program; macros: a: b blank: c newline; files; faults",
+    )
+}
