@@ -42,4 +42,5 @@ pub mod RuleTurns
 pub mod HeadTurns
 pub mod OpenRests
 pub mod OpenReaders
+pub mod Runs
 pub mod LineTurns

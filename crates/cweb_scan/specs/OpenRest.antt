@@ -73,3 +73,7 @@ literal_turn (Goes n) begun t h =
 literal_turn (Ends n how) begun t h =
     let sign = take n t in
     record { state = literal (text_of h.item ++ unit_bytes sign) how begun (unit_state h.state sign); item = Between; begun = h.begun }
+
+-- an item that goes on with the next n bytes, each of which stands for itself
+abbrev pub with_run : ℕ → List ℕ → Held → Held
+with_run n u h = record { state = h.state; item = with_text (text_of h.item ++ take n u) h.item; begun = h.begun }

@@ -14,7 +14,7 @@ use std::alloc::AllocError;
 impl Reader {
     ghost use Rattle.cweb_rules.specs.Lines.{IsLine};
     ghost use Rattle.cweb_scan.specs.Held.{cost};
-    ghost use Rattle.cweb_scan.specs.OpenRest.{awaits_line_end, is_literal, is_open, literal_of, literal_turn, look_size, raw_of, text_of, TakesOpen};
+    ghost use Rattle.cweb_scan.specs.OpenRest.{awaits_line_end, is_literal, is_open, literal_of, literal_turn, look_size, raw_of, text_of, with_run, TakesOpen};
     ghost use Rattle.cweb_scan.specs.Resume.{InComment, InName};
 
     // A comment, up to its end or that of the line.
@@ -33,7 +33,16 @@ impl Reader {
         Ok(reached.size + reached.close)
     }
 
-    // A unit of a name, or its end with the opener sign behind it: in C text that sign is C text.
+    // Bytes of an item's text, each of which stands for itself.
+    fn take_run(&mut self, size: usize, rest: &[u8]) -> Result<(), AllocError>
+        requires { size ≤ length rest.now }
+        ensures { OnOk result (self.new ≡ with_run size rest.now self.old) }
+    {
+        self.text.extend_from_slice(rest.split_at(size).0)?;
+        Ok(())
+    }
+
+    // A run or a unit of a name, or its end with the opener sign behind it: in C text that sign is C text.
     fn take_name(&mut self, begun: Place, is_file: bool, rest: &[u8]) -> Result<usize, AllocError>
         requires open { self.old.item ≡ InName begun is_file (text_of self.old.item) }
         requires line { IsLine rest.now }
@@ -41,6 +50,11 @@ impl Reader {
         requires room { cost self.old + 8 < too_many }
         ensures { IfOk result (λ n. TakesOpen n rest.now self.old self.new) }
     {
+        let plain = Item::Name.plain_len(rest);
+        if plain > 0 {
+            self.take_run(plain, rest)?;
+            return Ok(plain);
+        }
         match Item::Name.look(rest) {
             Look::Goes(size) => {
                 let (unit, _) = rest.split_at(size);
@@ -98,7 +112,13 @@ impl Reader {
             self.item = Open::AfterBackslash { begun, quote };
             return Ok(1);
         }
-        let look = Item::Literal(quote.byte()).look(rest);
+        let item = Item::Literal(quote.byte());
+        let plain = item.plain_len(rest);
+        if plain > 0 {
+            self.take_run(plain, rest)?;
+            return Ok(plain);
+        }
+        let look = item.look(rest);
         let size = self.turn_literal(look, begun, rest)?;
         Ok(size)
     }
@@ -111,6 +131,11 @@ impl Reader {
         requires room { cost self.old + 8 < too_many }
         ensures { IfOk result (λ n. TakesOpen n rest.now self.old self.new) }
     {
+        let plain = Item::RawLiteral(&self.sign).plain_len(rest);
+        if plain > 0 {
+            self.take_run(plain, rest)?;
+            return Ok(plain);
+        }
         let look = Item::RawLiteral(&self.sign).look(rest);
         let size = self.turn_literal(look, begun, rest)?;
         Ok(size)

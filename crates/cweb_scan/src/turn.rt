@@ -7,6 +7,7 @@ use crate::open::{Open, Quote};
 use crate::reader::Reader;
 use cweb_rules::bytes::begins;
 use cweb_rules::literals::{delimiter, literal_prefix, raw_prefix};
+use cweb_rules::plains::len_before;
 use std::alloc::AllocError;
 
 /// How many bytes stand before the first `@`.
@@ -14,12 +15,7 @@ pub fn skipped_len(text: &[u8]) -> usize
     ensures value { result ≡ prefix_len is_skipped text.now }
     ensures within { result ≤ length text.now }
 {
-    for (i, byte) in text.iter().enumerate() {
-        if *byte == b'@' {
-            return i;
-        }
-    }
-    text.len()
+    len_before(b'@', text)
 }
 
 impl Reader {

@@ -1,11 +1,15 @@
-use Rattle.std.proofs.Common.{◌≤◌, ℕ, length, sym, ap, ◌∙◌, subst}
+use Rattle.std.proofs.Common.{◌≤◌, ℕ, List, length, refl, sym, ap, ◌∙◌, subst}
+use Rattle.std.specs.List.{prefix_len}
 use Rattle.cweb_rules.specs.Items.{look_in_literal}
+use Rattle.cweb_rules.specs.Plains.{is_plain}
+use Rattle.cweb_rules.specs.declared.items.Item.TheVariants.{Literal}
 use Rattle.cweb_scan.specs.Held.{Held}
 use Rattle.cweb_scan.specs.OpenRest.{text_of}
 use Rattle.cweb_scan.specs.Quotes.{quote_byte}
 use Rattle.cweb_scan.specs.Resume.{InLiteral}
 use Rattle.cweb_scan.proofs.OpenReaders.{turn_at}
 use Rattle.cweb_scan.proofs.OpenRests.{literal_takes}
+use Rattle.cweb_scan.proofs.Runs.{run_at, literal_run}
 use Rattle.cweb_scan.proofs.reader.Reader.take_literal.Goals as goal
 
 pub returns : goal.returns
@@ -17,3 +21,13 @@ returns c =
     let seen = ap (λ (q : ℕ). look_in_literal q u) (sym c.byte.ensures) ∙ sym c.look-look.ensures.value in
     turn_at c.in_ok-size.size look c.args.begun u h _ (InLiteral c.args.begun quote (text_of h.item)) c.requires.open c.in_ok-size.ensures.size c.in_ok-size.ensures.turn
     (literal_takes h.state h.begun c.args.begun quote (text_of h.item) look u c.look-look.ensures.some c.requires.line c.requires.some seen (subst (λ k. k ≤ length u) c.in_ok-size.ensures.size c.in_ok-size.ensures.within))
+
+pub returns-then-plain-gt0 : goal.returns-then-plain-gt0
+returns-then-plain-gt0 c =
+    let h : Held = c.args.self.now in
+    let u = c.args.rest.now in
+    let quote = quote_byte c.args.quote in
+    let n = c.plain_len-plain.result in
+    let is = c.plain_len-plain.ensures.value ∙ ap (λ (q : ℕ). prefix_len (is_plain (Literal q)) u) c.byte.ensures in
+    run_at n u h _ (λ (x : List ℕ). InLiteral c.args.begun quote x) c.requires.open c.in_ok-take_run.ensures refl
+    (literal_run h.state h.begun c.args.begun quote (text_of h.item) n u c.requires.line c.if-plain-gt0.true is)

@@ -9,6 +9,7 @@ use Rattle.cweb_scan.specs.Resume.{InName}
 use Rattle.cweb_scan.proofs.OpenReaders.{open_at, text_kept, has_text, name_texted}
 use Rattle.cweb_scan.proofs.OpenRests.{name_goes, name_over}
 use Rattle.cweb_scan.proofs.Opens.{opened}
+use Rattle.cweb_scan.proofs.Runs.{run_at, name_run}
 use Rattle.cweb_scan.proofs.Turns.{between}
 use Rattle.cweb_scan.proofs.reader.Reader.take_name.Goals as goal
 
@@ -39,3 +40,11 @@ returns-in_ok-end_name-in-Ends c =
     open_at (n + c.sign_taken.result) u h _ c.self.view_is (InName c.args.begun c.args.is_file us) c.requires.open _ _ (λ j. between (made j) r.begun)
     (name_over r.scanner r.begun c.args.begun c.args.is_file us n c.in-Ends.how u sign (n + c.sign_taken.result) (nat_lt 0 sign) c.requires.line c.requires.some (sym c.look.ensures.value ∙ c.in-Ends.is)
     (c.sign_after-sign.ensures.value ∙ ap (sign_after c.in-Ends.how) c.split_at-in-Ends.ensures.back) (ap (λ k. n + k) c.sign_taken.ensures) refl)
+
+pub returns-then-plain-gt0 : goal.returns-then-plain-gt0
+returns-then-plain-gt0 c =
+    let h : Held = c.args.self.now in
+    let u = c.args.rest.now in
+    let n = c.plain_len-plain.result in
+    run_at n u h _ (λ (x : List ℕ). InName c.args.begun c.args.is_file x) c.requires.open c.in_ok-take_run.ensures refl
+    (name_run h.state h.begun c.args.begun c.args.is_file (text_of h.item) n u c.requires.line c.if-plain-gt0.true c.plain_len-plain.ensures.value)
