@@ -15,3 +15,4 @@ pub mod Bins
 pub mod Memory
 pub mod Search
 pub mod Planning
+pub mod Laws

@@ -6,6 +6,7 @@ mod class;
 mod expander;
 mod file_name;
 mod frame;
+pub mod laws;
 mod left;
 mod macros;
 mod mark;
@@ -28,6 +29,3 @@ pub use plan_fault::PlanFault;
 pub use planned::Plan;
 pub use planning::plan;
 pub use printer::Printer;
-
-#[cfg(test)]
-mod tests;

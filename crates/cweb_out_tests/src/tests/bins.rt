@@ -1,6 +1,6 @@
 // Places that keep files.
-use crate::{BinFault, Bins, MemoryBins};
 use cweb_files::Sink;
+use cweb_out::{BinFault, Bins, MemoryBins};
 use std::test::Fail;
 
 // A file is begun, written in pieces and committed or given up; false where a call failed.

@@ -1,0 +1,52 @@
+-- What holds of expansion and of print whatever the web is.
+use Rattle.std.specs.Prelude.{◌≡◌, ◌≤◌, ◌==◌, ℕ, suc, Bool, true, false, not, List, [], ◌∷◌, ◌++◌, Some, fold}
+use Rattle.std.specs.List.{list_all}
+use Rattle.cweb_store.specs.declared.name.NameId.{NameId}
+use Rattle.cweb_store.specs.declared.name.NameRef.{NameRef}
+use Rattle.cweb_store.specs.Parts.{Token, Name}
+use Rattle.cweb_store.specs.Calls.{Stored}
+use Rattle.cweb_out.specs.Uses.{joined, stands, uses}
+use Rattle.cweb_out.specs.Ranks.{ends_below}
+use Rattle.cweb_out.specs.Expansion.{expand}
+use Rattle.cweb_out.specs.Spacing.{last_is}
+use Rattle.cweb_out.specs.Printing.{Setting, file, file_text, kept, left_after, print, print_after, stays_joined}
+
+-- any token but the use of a name
+abbrev pub is_text : Token → Bool
+is_text (Name r) = false
+is_text t = true
+
+-- no use remains; any other token stays between the expansions of what stands before and behind it; and a use that stands for
+-- a name becomes the expansion of that name's text, one less deep
+pub record ReplacesUses (w : Stored) (k : ℕ) : Type 0 where
+  pub no_use : (ts : List Token) → list_all is_text (expand w k ts) ≡ true
+  pub kept : (before behind : List Token) (t : Token) → is_text t ≡ true → expand w k (before ++ t ∷ behind) ≡ expand w k before ++ t ∷ expand w k behind
+  pub replaced : (before behind : List Token) (r : NameRef) (n : NameId) → stands w r ≡ Some n
+      → expand w (suc k) (before ++ Name r ∷ behind) ≡ expand w (suc k) before ++ (expand w k (joined w n) ++ expand w (suc k) behind)
+
+abbrev pub ExpansionReplacesUsesAlone : Type 0
+ExpansionReplacesUsesAlone = (w : Stored) (k : ℕ) → ReplacesUses w k
+
+-- where each name that a list uses has a rank below k, its expansion is the same for every depth from k on
+abbrev pub DepthAboveTheRankChangesNothing : Type 0
+DepthAboveTheRankChangesNothing = (w : Stored) (k depth : ℕ) (ts : List Token) → k ≤ depth → list_all (ends_below w k) (uses w ts) ≡ true → expand w depth ts ≡ expand w k ts
+
+-- whether only layout and section comments stand behind the last join of a list
+abbrev pub is_joined : List Token → Bool
+is_joined ts = fold stays_joined false ts
+
+-- what a list prints behind another, by the last token of that one that was printed and by its open join
+abbrev pub print_behind : Setting → List Token → List Token → List ℕ
+print_behind s before ts = print_after (file_text s) (left_after before) (kept (is_joined before) ts)
+
+-- print of two lists is print of the one and then of the other
+abbrev pub PrintGoesOn : Type 0
+PrintGoesOn = (s : Setting) (before ts : List Token) → print s (before ++ ts) ≡ print s before ++ print_behind s before ts
+
+-- no bytes, or bytes whose last one is a newline
+abbrev pub is_whole_lines : List ℕ → Bool
+is_whole_lines [] = true
+is_whole_lines (b ∷ bytes) = last_is (λ x. x == 10) (b ∷ bytes)
+
+abbrev pub FilesHaveWholeLines : Type 0
+FilesHaveWholeLines = (s : Setting) (ts : List Token) → is_whole_lines (file s ts) ≡ true

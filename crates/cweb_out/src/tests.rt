@@ -1,3 +1,0 @@
-mod bins;
-mod plans;
-mod rows;

@@ -1,0 +1,5 @@
+//! The tests of `cweb_out`. They stand in a crate of their own, so that they are checked without proving it anew.
+#![tactic(auto)]
+
+#[cfg(test)]
+mod tests;

@@ -1,0 +1,8 @@
+// Webs written as text, and what becomes of them: their outputs, large webs, sinks that fail, memory that is refused. And places
+// that keep files.
+mod bins;
+mod failing;
+mod large;
+mod outputs;
+mod told;
+mod webs;

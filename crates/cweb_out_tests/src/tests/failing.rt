@@ -1,0 +1,164 @@
+// Sinks that fail, and memory that is refused.
+ghost use Rattle.std.specs.Prelude.{[], false};
+
+use super::told::print_file;
+use super::webs::store_of;
+use cweb_files::{MemoryShelf, MemorySink, Sink, SinkFault};
+use cweb_lines::{FileNames, Merger};
+use cweb_out::{BinFault, Bins, Expander, MemoryBins, PlanFault, plan};
+use cweb_store::Store;
+use std::alloc::{AllocError, Global};
+use std::process::Abort;
+use std::test::Fail;
+
+const NAME: &str = "s\".w";
+
+// A web with tokens of every kind, and what is printed of it.
+const FILE: &[u8] =
+    b"# wM _ n1 $ l\"x\" # wN : [1 m1 $ wx\xc3 p- p- n10 v@ & _ wa h <A m12345 p; $ ]1 =A [2 wb <B ]2 =B l'c'";
+
+const PRINTED: &[u8] =
+    b"/*1:*/\n#line 1 \"s\\\".w\"\n\nxXC3- -10@a\n#define M 1 \\\n\"x\"\n#define N\n/*2:*/b 'c'/*:2*/\n#line 12345 \"s\\\".w\"\n;\n/*:1*/\n";
+
+// Takes at most two bytes a write, and fails once, behind so many good writes.
+#[derive(Drop)]
+struct FailingSink {
+    sink: MemorySink,
+    good: u64,
+    failed: u64,
+}
+
+impl Sink for FailingSink {
+    ghost tells = { λ _. false };
+
+    ghost written = { λ _. [] };
+
+    ghost failed = { λ sink. sink.failed };
+
+    fn write(&mut self, piece: &[u8]) -> Result<usize, SinkFault> {
+        let most = piece.len().min(2);
+        if (self.good == 0 && self.failed == 0) || self.sink.failures() > 0 {
+            self.failed += 1;
+            return Err(SinkFault);
+        }
+        self.good = self.good.saturating_sub(1);
+        match self.sink.write(&piece[..most]) {
+            Ok(n) => Ok(n),
+            Err(fault) => {
+                self.failed += 1;
+                Err(fault)
+            }
+        }
+    }
+
+    fn failures(&self) -> u64 {
+        self.failed
+    }
+}
+
+// A growth that is refused is asked for once more: it is refused only once.
+fn store(rt: &impl Abort, alloc: Global) -> Result<Store, AllocError> {
+    match store_of(rt, alloc, FILE) {
+        Ok(store) => Ok(store),
+        Err(_) => store_of(rt, alloc, FILE),
+    }
+}
+
+fn merger(alloc: Global, shelf: &mut MemoryShelf) -> Result<Merger<MemoryShelf>, Fail> {
+    if shelf.put(NAME, b"").is_err() {
+        shelf.put(NAME, b"")?;
+    }
+    match Merger::start(alloc, shelf, NAME, None, None, None) {
+        Ok(merger) => Ok(merger),
+        Err(_) => Ok(Merger::start(alloc, shelf, NAME, None, None, None)?),
+    }
+}
+
+// Prints the web's main file to a sink that fails behind so many good writes; whether all was printed.
+fn print(
+    rt: &impl Abort,
+    alloc: Global,
+    store: &Store,
+    names: &FileNames,
+    good: u64,
+) -> Result<bool, PlanFault> {
+    let plan = match plan(alloc, store, "s.c") {
+        Ok(plan) => plan,
+        Err(fault) => return Err(fault),
+    };
+    assert!(rt; plan.outputs() > 0);
+    let mut expander = Expander::new(alloc, store, &plan, 0)?;
+    let mut out = FailingSink {
+        sink: MemorySink::with_room(alloc, 1000)?,
+        good,
+        failed: 0,
+    };
+    if print_file(rt, &mut expander, names, &mut out).is_ok() {
+        assert_eq!(rt; out.sink.bytes(), PRINTED);
+        assert_eq!(rt; out.failed, 0);
+        return Ok(true);
+    }
+    assert!(rt; PRINTED.starts_with(out.sink.bytes()));
+    assert!(rt; out.sink.bytes().len() < PRINTED.len());
+    assert_eq!(rt; out.failed, 1);
+    Ok(false)
+}
+
+// The same, once more where memory was refused.
+fn prints_all(rt: &impl Abort, alloc: Global, store: &Store, names: &FileNames, good: u64) -> bool {
+    let first = match print(rt, alloc, store, names, good) {
+        Err(PlanFault::Memory) => print(rt, alloc, store, names, good),
+        other => other,
+    };
+    assert!(rt; first.is_ok());
+    matches!(first, Ok(true))
+}
+
+// Run by `rt try --test --fail-alloc N` too, which refuses the Nth growth: then no token changes.
+#[test]
+fn a_front_is_written_up_to_a_fault(rt: HostRuntime) -> Result<(), Fail> {
+    let mut shelf = MemoryShelf::new(rt.alloc());
+    let merger = merger(rt.alloc(), &mut shelf)?;
+    let store = store(&rt, rt.alloc())?;
+    let mut faults: usize = 0;
+    for good in 0..1000 {
+        if prints_all(&rt, rt.alloc(), &store, merger.names(), good) {
+            break;
+        }
+        faults = faults.saturating_add(1);
+    }
+    assert!(rt; faults > PRINTED.len() / 2);
+    assert!(rt; faults < 1000);
+    Ok(())
+}
+
+// A file is begun, where memory is refused once more, and the bins are as they were.
+fn start(rt: &impl Abort, bins: &mut MemoryBins, name: &str) {
+    assert!(rt; bins.failures() == 0);
+    if let Err(fault) = bins.start_file(name) {
+        assert_eq!(rt; fault, BinFault::Memory);
+        assert!(rt; bins.failures() == 0);
+        assert!(rt; bins.files().is_empty());
+        assert!(rt; bins.start_file(name).is_ok());
+    }
+}
+
+#[test]
+fn memory_that_is_refused_for_a_file(rt: HostRuntime) -> Result<(), Fail> {
+    let mut bins = match MemoryBins::with_room(rt.alloc(), 0, PRINTED.len()) {
+        Ok(bins) => bins,
+        Err(_) => MemoryBins::with_room(rt.alloc(), 0, PRINTED.len())?,
+    };
+    start(&rt, &mut bins, "s.c");
+    for byte in PRINTED {
+        assert!(rt; bins.failures() == 0);
+        assert_eq!(rt; bins.write(&[*byte]), Ok(1));
+    }
+    assert!(rt; bins.failures() == 0);
+    assert!(rt; bins.commit_file().is_ok());
+    assert_eq!(rt; bins.files().len(), 1);
+    for file in bins.files() {
+        assert_eq!(rt; file.bytes.as_slice(), PRINTED);
+    }
+    Ok(())
+}

@@ -1,0 +1,168 @@
+// Stores of webs that are written as text: words with blanks between them, each begun by a sign.
+//
+// Parts: `:` is a part of the program, `=NAME` of a name, `(NAME` of a file's name, `#` a macro; a part ends where the next
+// begins. `@NAME` is a file's name without a part, `%ctext` gives a text for the byte 128 + c.
+// Tokens: `wx` a Word, `n1` a Number, `l"s"` a Literal, `vx` a Verbatim, `p+` a Punct, `_` a Blank, `$` a Newline, `&` a Join,
+// `h` Defs, `[1` and `]1` a Head and a Tail, `m7` and `M7` a Mark of line 7 of file 0 and 1, `<NAME` a use, `?NAME` a use
+// by an abbreviation.
+ghost use Rattle.std.specs.Prelude.{◌≡◌, ◌≤◌, ◌+◌, length, is_some, IfOk, IsOk, OnOk};
+ghost use Rattle.cweb_store.specs.Growing.{part_count, token_count};
+
+use cweb_files::{FileId, Place};
+use cweb_store::{Builder, How, NameRef, PartKind, Store, Token};
+use std::alloc::{AllocError, Global};
+use std::process::Abort;
+
+// A builder that knows how many calls it had, and whether a part is open.
+#[derive(Drop)]
+struct Row {
+    builder: Builder,
+    calls: u32,
+    is_open: bool,
+    ghost few_names: { length builder.occurrences ≤ calls },
+    ghost few_parts: { part_count builder.parts ≤ calls },
+    ghost few_tokens: { token_count builder.parts ≤ calls },
+    ghost open_part: { is_open ≡ is_some builder.parts.current },
+}
+
+impl Row {
+    fn new(alloc: Global) -> Row {
+        Row {
+            builder: Builder::new(alloc),
+            calls: 0,
+            is_open: false,
+        }
+    }
+
+    fn occur(
+        &mut self,
+        rt: &impl Abort,
+        name: &[u8],
+        how: How,
+        is_file: bool,
+    ) -> Result<NameRef, AllocError> {
+        assert!(rt; self.calls < 10_000_000);
+        self.calls += 1;
+        Ok(self.builder.occurrence(name, how, is_file)?)
+    }
+
+    #[tactic(auto, using(cweb_store::proofs::CallerLemmas::token_count_opened, cweb_store::proofs::CallerLemmas::token_count_closed, cweb_store::proofs::CallerLemmas::part_count_opened, cweb_store::proofs::CallerLemmas::part_count_closed))]
+    fn open(&mut self, rt: &impl Abort, kind: PartKind) -> Result<(), AllocError> {
+        assert!(rt; self.calls < 10_000_000);
+        self.calls += 1;
+        if self.is_open {
+            self.builder.close_part();
+            self.is_open = false;
+        }
+        self.builder.open_part(kind)?;
+        self.is_open = true;
+        Ok(())
+    }
+
+    #[tactic(auto, using(cweb_store::proofs::CallerLemmas::token_count_pushed, cweb_store::proofs::CallerLemmas::part_count_pushed))]
+    fn push(&mut self, rt: &impl Abort, token: Token<'_>) -> Result<(), AllocError> {
+        assert!(rt; self.calls < 10_000_000);
+        self.calls += 1;
+        assert!(rt; self.is_open);
+        self.builder.push(token)?;
+        Ok(())
+    }
+
+    fn read(&mut self, rt: &impl Abort, word: &[u8]) -> Result<(), AllocError> {
+        let Some((sign, rest)) = word.split_first() else {
+            return Ok(());
+        };
+        match *sign {
+            b':' => self.open(rt, PartKind::Unnamed),
+            b'#' => self.open(rt, PartKind::Macro),
+            b'=' => self.open_named(rt, rest, false),
+            b'(' => self.open_named(rt, rest, true),
+            b'@' => self.mention(rt, rest),
+            b'<' => self.put_use(rt, rest, How::Full),
+            b'?' => self.put_use(rt, rest, How::Prefix),
+            b'%' => self.replace(rt, rest),
+            sign => self.push(rt, token(sign, rest)),
+        }
+    }
+
+    fn open_named(
+        &mut self,
+        rt: &impl Abort,
+        name: &[u8],
+        is_file: bool,
+    ) -> Result<(), AllocError> {
+        let name = self.occur(rt, name, How::Full, is_file)?;
+        self.open(rt, PartKind::Named(name))
+    }
+
+    fn mention(&mut self, rt: &impl Abort, name: &[u8]) -> Result<(), AllocError> {
+        self.occur(rt, name, How::Full, true)?;
+        Ok(())
+    }
+
+    fn put_use(&mut self, rt: &impl Abort, name: &[u8], how: How) -> Result<(), AllocError> {
+        let name = self.occur(rt, name, how, false)?;
+        self.push(rt, Token::Name(name))
+    }
+
+    fn replace(&mut self, rt: &impl Abort, rest: &[u8]) -> Result<(), AllocError> {
+        let Some((byte, text)) = rest.split_first() else {
+            return Ok(());
+        };
+        assert!(rt; *byte < 128);
+        self.builder.transliterate(128 + *byte, text)?;
+        Ok(())
+    }
+
+    fn finish(self) -> Result<Store, AllocError> {
+        let Row {
+            builder,
+            calls: _,
+            is_open: _,
+        } = self;
+        builder.finish()
+    }
+}
+
+// The decimal number that digits give, as far as it is below a million.
+fn number(digits: &[u8]) -> u32 {
+    let mut number: u32 = 0;
+    for digit in digits {
+        number = number % 100_000 * 10 + u32::from(*digit % 16 % 10);
+    }
+    number
+}
+
+fn mark(file: u32, line: &[u8]) -> Token<'static> {
+    Token::Mark(Place {
+        file: FileId(file),
+        line: number(line),
+    })
+}
+
+fn token(sign: u8, rest: &[u8]) -> Token<'_> {
+    match sign {
+        b'w' => Token::Word(rest),
+        b'n' => Token::Number(rest),
+        b'l' => Token::Literal(rest),
+        b'v' => Token::Verbatim(rest),
+        b'p' => Token::Punct(rest),
+        b'_' => Token::Blank,
+        b'$' => Token::Newline,
+        b'&' => Token::Join,
+        b'h' => Token::Defs,
+        b'[' => Token::Head(number(rest)),
+        b']' => Token::Tail(number(rest)),
+        b'm' => mark(0, rest),
+        _ => mark(1, rest),
+    }
+}
+
+/// The store of a web.
+pub fn store_of(rt: &impl Abort, alloc: Global, web: &[u8]) -> Result<Store, AllocError> {
+    let mut row = Row::new(alloc);
+    for word in web.split(|byte| *byte == b' ') {
+        row.read(rt, word)?;
+    }
+    row.finish()
+}
