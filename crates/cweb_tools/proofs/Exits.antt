@@ -59,7 +59,7 @@ start_cause world names found changes Memory why = tt
 start_cause world names found changes stop why = absurd why
 
 -- the course of a run that begins a merge
-begins_course : (world : World) (names : WebNames) (found : Option Found) (changes : Option (Option Found)) {first : SoFar} {all : List Event} (begins : Begins world found changes first all)
+pub begins_course : (world : World) (names : WebNames) (found : Option Found) (changes : Option (Option Found)) {first : SoFar} {all : List Event} (begins : Begins world found changes first all)
     → found_course world names found changes ≡ merging (begins.name ∷ names_found begins.change) all
 begins_course world names found changes begins = rw (begins.there, begins.changes_there, begins.whole) refl
 
@@ -118,7 +118,7 @@ abbrev pub begun_with : List (List ℕ) → SoFar
 begun_with first = record { faults = []; names = first; count = record { lines = 0; bytes = 0 } }
 
 -- the names that a merge has told when it stops are among those that it opens in all
-opened_by : (first : List (List ℕ)) (old new : SoFar) (events : List Event) → old ≡ begun_with first → TellsFront old new events
+pub opened_by : (first : List (List ℕ)) (old new : SoFar) (events : List Event) → old ≡ begun_with first → TellsFront old new events
     → (files : List (List ℕ)) → files ≡ new.names → (rest : List (List ℕ)) × (first ++ openings events ≡ files ++ rest)
 opened_by first old new events began front files is = (
   openings front.later,
@@ -132,13 +132,13 @@ module _ (first : List (List ℕ)) (all : List Event) (old new : SoFar) (began :
   came : gives.events ≡ all
   came = sym (append-nil gives.events) ∙ sym gives.whole
 
-  names_told : new.names ≡ first ++ openings all
+  pub names_told : new.names ≡ first ++ openings all
   names_told = gives.names ∙ (λ i. (began i).names ++ openings (came i))
 
-  faults_told : new.faults ≡ told_faults all
+  pub faults_told : new.faults ≡ told_faults all
   faults_told = gives.faults ∙ (λ i. (began i).faults ++ told_faults (came i))
 
-  limits_kept : new.count.lines ≤ LINES → new.count.bytes ≤ BYTES → IsWithinLimits (taken_lines all)
+  pub limits_kept : new.count.lines ≤ LINES → new.count.bytes ≤ BYTES → IsWithinLimits (taken_lines all)
   limits_kept few small =
       subst (λ (events : List Event). IsWithinLimits (taken_lines events)) came (record {
         short = gives.short;

@@ -1,6 +1,7 @@
 -- Texts that come one after another, gathered and written.
-use Rattle.std.proofs.Common.{◌≡◌, ◌<◌, ◌≤◌, ◌+◌, ℕ, suc, List, [], ◌∷◌, ◌++◌, length, take, drop, get_or, refl, sym, ◌∙◌, ap, subst, append_assoc, append-nil, arith}
+use Rattle.std.proofs.Common.{◌≡◌, ◌<◌, ◌≤◌, ◌+◌, ℕ, suc, List, [], ◌∷◌, ◌++◌, length, map, take, drop, get_or, refl, sym, ◌∙◌, ap, subst, append_assoc, append-nil, arith}
 use Rattle.std.proofs.lemmas.Grind.{flat_map-append}
+use Rattle.std.proofs.lemmas.List.Folds.{flat_map-map}
 use Rattle.std.proofs.lemmas.List.{take-append-drop, take_all}
 use Rattle.std.proofs.Math.Seq.{take-suc}
 use Rattle.std.specs.List.{flat_map}
@@ -8,6 +9,7 @@ use Rattle.std.specs.Prelude.{IsTrue, Result, Ok, Err, OnOk, OnErr, IsErr}
 use Rattle.cweb_files.specs.Device.{Counts}
 use Rattle.cweb_lines.specs.Writing.{WritesFront}
 use Rattle.cweb_tools.specs.Gathering.{Writes, Gathers, GathersMore}
+use Rattle.cweb_tools.specs.Items.{Item, line}
 use Rattle.cweb_tools.specs.Seen.{SeenStream}
 
 on_ok : {A E : Type 0} (r : Result A E) (P Q : Type 0) → (P → Q) → OnOk r P → OnOk r Q
@@ -134,3 +136,8 @@ writes_front e (Err f) text before after held fails is = record {
   whole = λ tells. tt;
   front = λ tells. fails.front tells before.bytes [] (begins before.bytes);
 }
+
+-- the lines of a list of items
+pub writes_items : {A E X : Type 0} (f : X → Item) (xs : List X) (before after : SeenStream) (r : Result A E)
+    → Writes (flat_map (λ (x : X). line (f x)) xs) before after r → Writes (flat_map line (map f xs)) before after r
+writes_items f xs before after r writes = subst (λ (t : List ℕ). Writes t before after r) (sym (flat_map-map line f xs)) writes

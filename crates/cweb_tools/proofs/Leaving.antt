@@ -12,7 +12,7 @@ use Rattle.cweb_tools.specs.Script.{Numbers, Planning, refused, Web, closing_act
 use Rattle.cweb_tools.specs.declared.shown.Shown.{Shown}
 
 -- what stops an act changes no file
-break_files : (act : Act) (stop : Stop) (about : List ℕ) (old new : Held) → Breaks act (ending stop about) old new → new.files ≡ old.files
+pub break_files : (act : Act) (stop : Stop) (about : List ℕ) (old new : Held) → Breaks act (ending stop about) old new → new.files ≡ old.files
 break_files judges Memory about old new broke = ap (λ (d : Held). d.files) broke
 break_files (says item) LogFault about old new broke = ap (λ (d : Held). d.files) broke.is
 break_files opens Memory about old new broke = ap (λ (d : Held). d.files) broke
@@ -85,7 +85,7 @@ line_draft : (text : List ℕ) (old new : Held) → LogsLine text old new → ne
 line_draft text old new (inl is) = ap (λ (d : Held). d.draft) is
 line_draft text old new (inr fails) = ap (λ (d : Held). d.draft) fails.is
 
-stop_files : (stop : Stop) (about : List ℕ) (old new : Held) → LogsStop (ending stop about) old new → new.files ≡ old.files
+pub stop_files : (stop : Stop) (about : List ℕ) (old new : Held) → LogsStop (ending stop about) old new → new.files ≡ old.files
 stop_files LogFault about old new logs = ap (λ (d : Held). d.files) logs
 stop_files Usage about old new logs = line_files _ old new logs
 stop_files WebNotOpened about old new logs = line_files _ old new logs

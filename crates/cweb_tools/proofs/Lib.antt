@@ -1,10 +1,27 @@
+pub mod AllDone
 pub mod Asking
 pub mod Counted
+pub mod Doing
+pub mod Endings
 pub mod Exits
+pub mod FaultItems
 pub mod Gathering
+pub mod Prints
+pub mod Readies
+pub mod Refusals
+pub mod Promised
 pub mod Promises
+pub mod ReadAlls
 pub mod Leaving
+pub mod Logging
+pub mod Marks
+pub mod OutputActs
 mod Rows
+pub mod Running
 mod ScriptRows
+pub mod Statuses
 pub mod Stems
+pub mod Stopping
+pub mod TangleExits
 mod TangleRows
+mod WebRows

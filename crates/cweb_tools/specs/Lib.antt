@@ -1,6 +1,8 @@
 pub mod Acts
 pub mod Course
 pub mod Devices
+pub mod Does
+pub mod Expanders
 pub mod Gathered
 pub mod Gathering
 pub mod Items
@@ -10,4 +12,8 @@ pub mod Options
 pub mod Run
 pub mod Script
 pub mod Seen
+pub mod Tangle
+pub mod TangleRun
+pub mod Web
+pub mod WebItems
 pub mod Words

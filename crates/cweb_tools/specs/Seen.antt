@@ -1,5 +1,6 @@
 -- What the devices of a run show at one moment.
 use Rattle.std.specs.Prelude.{ℕ, List, Bool, IsTrue, Option}
+use Rattle.cweb_files.specs.Files.{Beside}
 use Rattle.cweb_files.specs.declared.device.Shelf.{Ghosts as Shelf}
 use Rattle.cweb_files.specs.declared.device.Sink.{Ghosts as Sink}
 
@@ -33,3 +34,27 @@ seen shelf out log s w l = record { shelf = seen_shelf shelf s; out = seen_strea
 -- all of them tell what they hold
 abbrev pub Tell : Seen → Type 0
 Tell seen = IsTrue seen.shelf.tells × IsTrue seen.out.tells × IsTrue seen.log.tells
+
+-- a place that keeps files: whether it tells them, how often it has failed, the bytes of the draft, and the files with the
+-- draft's name
+pub record SeenBins : Type 0 where
+  pub tells : Bool
+  pub failed : ℕ
+  pub bytes : List ℕ
+  pub beside : Beside
+
+abbrev pub seen_bins : {B : Type 0} → Sink B → B → SeenBins
+seen_bins sink b = record { tells = sink.tells b; failed = sink.failed b; bytes = sink.written b; beside = sink.beside b }
+
+-- the devices of `ctangle`
+pub record SeenRun : Type 0 where
+  pub shelf : SeenShelf
+  pub bins : SeenBins
+  pub log : SeenStream
+
+abbrev pub seen_run : {S R B L : Type 0} → Shelf S R → Sink B → Sink L → S → B → L → SeenRun
+seen_run shelf bins log s b l = record { shelf = seen_shelf shelf s; bins = seen_bins bins b; log = seen_stream log l }
+
+-- all of them tell what they hold
+abbrev pub AllTell : SeenRun → Type 0
+AllTell seen = IsTrue seen.shelf.tells × IsTrue seen.bins.tells × IsTrue seen.log.tells

@@ -58,7 +58,7 @@ fn add_fault<L: Sink>(
 }
 
 /// Adds a line on a place, which ends in a number where the fault has one.
-fn add_located<L: Sink>(
+pub(crate) fn add_located<L: Sink>(
     gathered: &mut Gathered,
     log: &mut L,
     file: &str,

@@ -96,7 +96,7 @@ pub fn write_counts<L: Sink>(
 }
 
 /// Writes the closing line, by the number of faults and whether there is no program text, which is a warning.
-pub fn write_closing<L: Sink>(log: &mut L, count: u64, missing: bool) -> Result<(), SinkFault>
+pub fn write_closing<L: Sink>(log: &mut L, count: u128, missing: bool) -> Result<(), SinkFault>
     requires { L.failed log.old + 1 < 2 ^ 64 }
     ensures { Writes (line (closing count missing)) (seen_stream L.Sink log.old) (seen_stream L.Sink log.new) result }
 {

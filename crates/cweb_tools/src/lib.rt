@@ -10,8 +10,14 @@ mod gathered;
 mod items;
 pub mod laws;
 mod options;
+mod outputs;
+mod saying;
 mod shown;
 mod stops;
+mod subjects;
+mod tangle;
+mod web;
+mod web_faults;
 mod wmerge;
 mod words;
 
@@ -24,6 +30,8 @@ pub use items::{
 pub use options::Options;
 pub use shown::Shown;
 pub use stops::write_stop;
+pub use tangle::run_ctangle;
+pub use web_faults::{write_name_faults, write_plan_fault, write_scan_faults};
 pub use wmerge::run_wmerge;
 pub use words::MergeWords;
 

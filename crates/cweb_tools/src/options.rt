@@ -51,6 +51,32 @@ impl Options {
         )
     }
 
+    /// The second name of the web, where there is one.
+    pub fn second(&self) -> Option<&str>
+        ensures { option_copied result ≡ (options_of self.now).names.merge.second }
+    {
+        self.second.as_ref().map(|name| name.as_str())
+    }
+
+    /// The name of the change file, where one is named.
+    pub fn change(&self) -> Option<&str>
+        ensures { option_copied result ≡ (options_of self.now).names.merge.change }
+    {
+        self.change.as_ref().map(|name| name.as_str())
+    }
+
+    /// What the log shows beside faults.
+    pub fn shown(&self) -> Shown
+        ensures { result ≡ (options_of self.now).shown }
+    {
+        Shown {
+            banner: self.banner,
+            progress: self.progress,
+            closing: self.closing,
+            statistics: self.statistics,
+        }
+    }
+
     /// The options by the words for the web, the change file and the main output, which are judged here.
     fn named(
         alloc: Global,

@@ -2,6 +2,7 @@
 ghost use Rattle.std.specs.Prelude.{◌≡◌, ◌<◌, ◌+◌, ◌^◌};
 ghost use Rattle.cweb_tools.specs.Gathering.{Writes};
 ghost use Rattle.cweb_tools.specs.Log.{message_line, stop_line};
+ghost use Rattle.cweb_tools.specs.Run.{Logs};
 ghost use Rattle.cweb_tools.specs.Seen.{seen_stream};
 
 use crate::gathered::say;
@@ -24,6 +25,17 @@ pub fn write_stop<L: Sink>(log: &mut L, stop: Stop, name: &str) -> Result<(), Si
         Stop::WriteFault => write_message(log, "Write fault on ", name),
         Stop::LogFault => say(log, &[]),
     }
+}
+
+/// Writes the line of what stopped a run to the log, and answers the status of such a run.
+pub(crate) fn log_stop<L: Sink>(log: &mut L, stop: Stop, name: &str) -> u8
+    requires { L.failed log.old + 1 < 2 ^ 64 }
+    ensures status { result ≡ 1 }
+    ensures tells { L.tells log.new ≡ L.tells log.old }
+    ensures logs { Logs (stop_line stop name.now) (seen_stream L.Sink log.old) (seen_stream L.Sink log.new) }
+{
+    let _ = write_stop(log, stop, name);
+    1
 }
 
 fn write_message<L: Sink>(log: &mut L, text: &str, name: &str) -> Result<(), SinkFault>

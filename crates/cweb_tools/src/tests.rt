@@ -12,6 +12,8 @@ mod gathering;
 mod items;
 mod options;
 mod streams;
+mod tangle;
+mod web_faults;
 
 use failing::{FailingShelf, FailingSink};
 

@@ -10,7 +10,8 @@ ghost use Rattle.cweb_tools.specs.Seen.{seen, seen_stream};
 ghost use Rattle.cweb_tools.specs.Words.{asked_by, names_of};
 
 use crate::faults::write_faults;
-use crate::stops::write_stop;
+use crate::stops::log_stop;
+use crate::subjects::{folder, subject};
 use crate::words::MergeWords;
 use cweb_lines::{FileNames, Merger, Shelf, Sink, SourceFault, Stop, write_merged_in_pieces};
 use std::alloc::Global;
@@ -77,16 +78,6 @@ fn merge_web<S: Shelf, W: Sink, L: Sink>(
     }
 }
 
-/// The folder in which included files are sought too. An empty one counts as none.
-fn folder(inputs: Option<&str>) -> Option<&str>
-    ensures { option_copied result ≡ folder_of (option_copied inputs.entry) }
-{
-    match inputs {
-        Some(folder) if folder.is_empty() => None,
-        inputs => inputs,
-    }
-}
-
 /// What a stop at the start of a merge is about.
 fn start_subject(asked: &MergeWords, stop: Stop) -> &str
     ensures { result.now ≡ start_subject (names_of asked.now).web (change_name (names_of asked.now).change) stop }
@@ -96,28 +87,6 @@ fn start_subject(asked: &MergeWords, stop: Stop) -> &str
         Stop::ChangeNotOpened => asked.change().unwrap_or(""),
         _ => "",
     }
-}
-
-/// What a stop within a merge is about.
-fn subject(names: &FileNames, stop: Stop) -> &str
-    requires { files_named stop ≤ length (file_names names.now) }
-    ensures { result.now ≡ subject (file_names names.now) stop }
-{
-    match stop {
-        Stop::ReadFault(file) | Stop::LineTooLong(file) => names.get(file),
-        Stop::WriteFault => "standard output",
-        _ => "",
-    }
-}
-
-/// Logs what stopped a run, and answers the status of such a run.
-fn log_stop<L: Sink>(log: &mut L, stop: Stop, name: &str) -> u8
-    requires { L.failed log.old + 1 < 2 ^ 64 }
-    ensures status { result ≡ 1 }
-    ensures logs { Logs (stop_line stop name.now) (seen_stream L.Sink log.old) (seen_stream L.Sink log.new) }
-{
-    let _ = write_stop(log, stop, name);
-    1
 }
 
 /// Logs the faults of a merge, and answers the status of a run that ends so.

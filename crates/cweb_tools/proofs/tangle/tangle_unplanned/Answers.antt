@@ -1,0 +1,25 @@
+use Rattle.std.proofs.Common.{[], ◌∷◌, refl, sym, subst}
+use Rattle.cweb_scan.specs.Scan.{seen}
+use Rattle.cweb_tools.specs.Acts.{plans}
+use Rattle.cweb_tools.specs.Does.{ClosesInLog}
+use Rattle.cweb_tools.specs.Items.{fault_count}
+use Rattle.cweb_tools.specs.Script.{Planning, planned_acts}
+use Rattle.cweb_tools.specs.Seen.{seen_stream}
+use Rattle.cweb_tools.specs.Tangle.{numbers_of, status_by}
+use Rattle.cweb_tools.specs.Web.{faults_of, files_of}
+use Rattle.cweb_tools.proofs.Doing.{log_closes_on, log_memory_halts, log_planned}
+use Rattle.cweb_tools.proofs.Refusals.{IsRefused, of_some, planning_refused, refused_by}
+use Rattle.cweb_tools.proofs.tangle.tangle_unplanned.Goals as goal
+
+pub returns-in-Memory : goal.returns-in-Memory
+returns-in-Memory g c = log_memory_halts plans _ _ _ _ _ (λ now. refl) c.log_stop.ensures.logs c.log_stop.ensures.status
+
+pub returns : goal.returns
+returns g c =
+    let why : IsRefused c.args.web.scanned.now.store c.args.main.now c.args.fault =
+    refused_by c.args.web.scanned.now.store c.args.main.now c.args.fault c.requires.due c.in_default.not-Memory in
+    log_closes_on (plans ∷ []) _ _ _ _ _ _ (log_planned _)
+    (subst (λ (plan : Planning). ClosesInLog (planned_acts c.args.shown (numbers_of (seen c.args.web.scanned.now)) (fault_count (faults_of c.args.web)) plan) (status_by (fault_count (faults_of c.args.web)) plan)
+    (seen_stream g.L.Sink c.args.log.now) (seen_stream g.L.Sink c.tangle_refused.new.log) c.tangle_refused.result)
+    (sym (planning_refused c.args.web.scanned.now.store (files_of c.args.web) c.args.main.now why.refusal why.due))
+    (of_some _ why.refusal _ why.told c.tangle_refused.ensures))

@@ -1,0 +1,112 @@
+-- What is promised of a run of `ctangle`, in the words of its sentences.
+use Rattle.std.specs.Prelude.{◌≡◌, ◌≢◌, ◌⊎◌, ℕ, ◌+◌, List, [], ◌∷◌, ◌++◌, Option, None}
+use Rattle.std.specs.List.{flat_map}
+use Rattle.cweb_lines.specs.Include.{World}
+use Rattle.cweb_lines.specs.Texts.{read_blame}
+use Rattle.cweb_lines.specs.Writing.{WritesFront}
+use Rattle.cweb_lines.specs.declared.stop.Stop.{Stop}
+use Rattle.cweb_lines.specs.declared.stop.Stop.TheVariants.{LogFault, Memory}
+use Rattle.cweb_tools.specs.Acts.{Act, Held, Keeps, TangleEnds, reads, writes}
+use Rattle.cweb_tools.specs.Does.{bins_blame, held}
+use Rattle.cweb_tools.specs.Items.{Item, line}
+use Rattle.cweb_tools.specs.Leaves.{LeavesFiles, put_files}
+use Rattle.cweb_tools.specs.Log.{stop_line}
+use Rattle.cweb_tools.specs.Options.{Asked}
+use Rattle.cweb_tools.specs.Script.{TangleCourse, files_in, items_in, script, tangle_files, tangle_log, tangle_status}
+use Rattle.cweb_tools.specs.Seen.{AllTell, SeenRun}
+use Rattle.cweb_tools.specs.Tangle.{shown_by, tangle_course}
+
+-- no line that the acts take breaks the limits
+abbrev pub KeepLimits : List Act → Type 0
+KeepLimits [] = Unit {0}
+KeepLimits (act ∷ acts) = Keeps act × KeepLimits acts
+
+-- no device failed, the limits were kept, and the run's text in the log doesn't end in the line on want of memory
+pub record RunsFreely (acts : List Act) (old new : Held) : Type 0 where
+  pub shelf : new.shelf_failed ≡ old.shelf_failed
+  pub bins : new.bins_failed ≡ old.bins_failed
+  pub log : new.log_failed ≡ old.log_failed
+  pub within : KeepLimits acts
+  pub memory : (items : List Item) → new.log ≢ old.log ++ (flat_map line items ++ stop_line Memory [])
+
+-- all that is due was done: its files were committed one after another, its items logged, and this is its status
+pub record DoesAll (acts : List Act) (due : ℕ) (old new : Held) (status : ℕ) : Type 0 where
+  pub files : new.files ≡ put_files old.files (files_in acts)
+  pub log : new.log ≡ old.log ++ flat_map line (items_in acts)
+  pub answered : status ≡ due
+
+-- the items up to some place were logged and then the stop's line; where the log failed, a front of that
+pub record LogsUpTo (items : List Item) (stop : Stop) (about : List ℕ) (old new : Held) : Type 0 where
+  pub before : List Item
+  pub later : List Item
+  pub whole : items ≡ before ++ later
+  pub front : WritesFront old.log new.log (flat_map line before ++ stop_line stop about)
+  pub all : new.log_failed ≡ old.log_failed → new.log ≡ old.log ++ (flat_map line before ++ stop_line stop about)
+
+-- this stopped the run: what its log has, and which device failed
+pub record IsStopped (acts : List Act) (stop : Stop) (about : List ℕ) (old new : Held) : Type 0 where
+  pub log : LogsUpTo (items_in acts) stop about old new
+  pub shelf : new.shelf_failed ≡ old.shelf_failed + read_blame stop
+  pub bins : new.bins_failed ≡ old.bins_failed + bins_blame stop
+  pub log_fails : stop ≡ LogFault → new.log_failed ≡ old.log_failed + 1
+
+-- all that is due was done, or something stopped the run
+abbrev pub IsEnded : List Act → ℕ → Held → Held → ℕ → Type 0
+IsEnded acts due old new status = DoesAll acts due old new status ⊎ ((stop : Stop) × (about : List ℕ) × IsStopped acts stop about old new × (status ≡ 1))
+
+-- no read failed, and the limits were kept
+pub record ReadAll (acts : List Act) (old new : Held) : Type 0 where
+  pub shelf : new.shelf_failed ≡ old.shelf_failed
+  pub within : KeepLimits acts
+
+-- a count rose by no more than one
+abbrev pub RisesOnce : ℕ → ℕ → Type 0
+RisesOnce old new = (new ≡ old) ⊎ (new ≡ old + 1)
+
+pub record FailOnce (before after : SeenRun) : Type 0 where
+  pub shelf : RisesOnce before.shelf.failed after.shelf.failed
+  pub bins : RisesOnce before.bins.failed after.bins.failed
+  pub log : RisesOnce before.log.failed after.log.failed
+
+-- a device that failed makes the status 1
+pub record FaultsShow (before after : SeenRun) (status : ℕ) : Type 0 where
+  pub read : after.shelf.failed ≢ before.shelf.failed → status ≡ 1
+  pub written : after.bins.failed ≢ before.bins.failed → status ≡ 1
+  pub logged : after.log.failed ≢ before.log.failed → status ≡ 1
+
+-- the sentences over devices that tell what they hold
+pub record TellingRun (acts : List Act) (due : ℕ) (old new : Held) (status : ℕ) : Type 0 where
+  -- the acts were done in their order, all of them or up to one that something stopped, and that is logged last
+  pub ends : TangleEnds acts due old new status
+  -- where no device failed, memory sufficed and the limits were kept, files, log and status are those that are due
+  pub freely : RunsFreely acts old new → DoesAll acts due old new status
+  -- else the log has the items up to a place and then the line of what stopped the run, and the status is 1
+  pub ended : IsEnded acts due old new status
+  -- the files committed are the first of those that are due, each whole; all others are as before
+  pub files : LeavesFiles (files_in acts) old.files new.files
+  -- no draft is left
+  pub draft : old.draft ≡ None → new.draft ≡ None
+  -- where a file was committed, no read failed and the limits were kept
+  pub read : new.files ≢ old.files → ReadAll acts old new
+  -- a web that breaks the limits is never answered by 0
+  pub limits : ¬ KeepLimits acts → status ≡ 1
+
+-- what is promised of a run, a sentence a field
+pub record TanglePromises (world : World) (asked : Option Asked) (before after : SeenRun) (status : ℕ) : Type 0 where
+  pub telling : AllTell before → TellingRun (script (shown_by asked) (tangle_course world asked)) (tangle_status (shown_by asked) (tangle_course world asked)) (held before) (held after) status
+  -- no device fails twice
+  pub once : FailOnce before after
+  -- no fault of a device is passed over
+  pub faults : FaultsShow before after status
+
+-- nothing is read in these acts
+abbrev pub ReadsNone : List Act → Type 0
+ReadsNone [] = Unit {0}
+ReadsNone (reads names lines ∷ acts) = ⊥
+ReadsNone (_ ∷ acts) = ReadsNone acts
+
+-- nothing is read once a file is written
+abbrev pub ReadsFirst : List Act → Type 0
+ReadsFirst [] = Unit {0}
+ReadsFirst (writes name text ∷ acts) = ReadsNone acts
+ReadsFirst (_ ∷ acts) = ReadsFirst acts

@@ -1,0 +1,100 @@
+// The items of the log of `ctangle`, each where it is asked for.
+ghost use Rattle.std.specs.Prelude.{◌<◌, ◌+◌, ◌^◌};
+ghost use Rattle.cweb_tools.specs.Does.{DoesInLog, told};
+ghost use Rattle.cweb_tools.specs.Items.{banner, closing, counts, no_text, starred, writing};
+ghost use Rattle.cweb_tools.specs.Script.{closing_acts, starred_acts, when};
+ghost use Rattle.cweb_tools.specs.Seen.{seen_stream};
+ghost use Rattle.cweb_tools.specs.Web.{counted};
+
+use crate::items::{
+    write_banner, write_closing, write_counts, write_no_text, write_starred, write_writing,
+};
+use crate::shown::Shown;
+use crate::web::Numbers;
+use cweb_lines::{Sink, SinkFault};
+
+pub(crate) fn say_banner<L: Sink>(shown: bool, log: &mut L) -> Result<(), SinkFault>
+    requires { L.failed log.old + 1 < 2 ^ 64 }
+    ensures { DoesInLog (when shown banner) (told result) (seen_stream L.Sink log.old) (seen_stream L.Sink log.new) }
+{
+    if !shown {
+        return Ok(());
+    }
+    write_banner(log)
+}
+
+/// The numbers of the starred sections, where progress is shown and there are any.
+pub(crate) fn say_starred<L: Sink>(
+    progress: bool,
+    numbers: &[u32],
+    log: &mut L,
+) -> Result<(), SinkFault>
+    requires { L.failed log.old + 1 < 2 ^ 64 }
+    ensures { DoesInLog (starred_acts progress numbers.now) (told result) (seen_stream L.Sink log.old) (seen_stream L.Sink log.new) }
+{
+    if !progress || numbers.is_empty() {
+        return Ok(());
+    }
+    write_starred(log, numbers)
+}
+
+pub(crate) fn say_no_text<L: Sink>(missing: bool, log: &mut L) -> Result<(), SinkFault>
+    requires { L.failed log.old + 1 < 2 ^ 64 }
+    ensures { DoesInLog (when missing no_text) (told result) (seen_stream L.Sink log.old) (seen_stream L.Sink log.new) }
+{
+    if !missing {
+        return Ok(());
+    }
+    write_no_text(log)
+}
+
+/// That an output is begun, where progress is shown.
+pub(crate) fn say_writing<L: Sink>(progress: bool, name: &str, log: &mut L) -> Result<(), SinkFault>
+    requires { L.failed log.old + 1 < 2 ^ 64 }
+    ensures { DoesInLog (when progress (writing name.now)) (told result) (seen_stream L.Sink log.old) (seen_stream L.Sink log.new) }
+{
+    if !progress {
+        return Ok(());
+    }
+    write_writing(log, name)
+}
+
+/// What comes after the outputs: the numbers of the web, and the closing line.
+pub(crate) fn say_end<L: Sink>(
+    shown: Shown,
+    numbers: Numbers,
+    count: u128,
+    missing: bool,
+    log: &mut L,
+) -> Result<(), SinkFault>
+    requires { L.failed log.old + 1 < 2 ^ 64 }
+    ensures { DoesInLog (closing_acts shown (counted numbers) count missing) (told result) (seen_stream L.Sink log.old) (seen_stream L.Sink log.new) }
+{
+    say_counts(shown.statistics, numbers, log)?;
+    say_closing(shown.closing, count, missing, log)
+}
+
+fn say_counts<L: Sink>(shown: bool, numbers: Numbers, log: &mut L) -> Result<(), SinkFault>
+    requires { L.failed log.old + 1 < 2 ^ 64 }
+    ensures { DoesInLog (when shown (counts numbers.sections numbers.names numbers.macros)) (told result) (seen_stream L.Sink log.old) (seen_stream L.Sink log.new) }
+{
+    if !shown {
+        return Ok(());
+    }
+    write_counts(log, numbers.sections, numbers.names, numbers.macros)
+}
+
+fn say_closing<L: Sink>(
+    shown: bool,
+    count: u128,
+    missing: bool,
+    log: &mut L,
+) -> Result<(), SinkFault>
+    requires { L.failed log.old + 1 < 2 ^ 64 }
+    ensures { DoesInLog (when shown (closing count missing)) (told result) (seen_stream L.Sink log.old) (seen_stream L.Sink log.new) }
+{
+    if !shown {
+        return Ok(());
+    }
+    write_closing(log, count, missing)
+}

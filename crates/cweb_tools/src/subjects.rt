@@ -1,0 +1,31 @@
+// What the runs share: the folder of included files, and what a stop is about.
+ghost use Rattle.std.specs.Prelude.{◌≡◌, ◌≤◌, length};
+ghost use Rattle.std.specs.Option.{option_copied};
+ghost use Rattle.cweb_lines.specs.Names.{names_of as file_names};
+ghost use Rattle.cweb_lines.specs.Texts.{files_named};
+ghost use Rattle.cweb_tools.specs.Course.{folder_of};
+ghost use Rattle.cweb_tools.specs.Log.{subject};
+
+use cweb_lines::{FileNames, Stop};
+
+/// The folder in which included files are sought too. An empty one counts as none.
+pub(crate) fn folder(inputs: Option<&str>) -> Option<&str>
+    ensures { option_copied result ≡ folder_of (option_copied inputs.entry) }
+{
+    match inputs {
+        Some(folder) if folder.is_empty() => None,
+        inputs => inputs,
+    }
+}
+
+/// What a stop within a merge is about.
+pub(crate) fn subject(names: &FileNames, stop: Stop) -> &str
+    requires { files_named stop ≤ length (file_names names.now) }
+    ensures { result.now ≡ subject (file_names names.now) stop }
+{
+    match stop {
+        Stop::ReadFault(file) | Stop::LineTooLong(file) => names.get(file),
+        Stop::WriteFault => "standard output",
+        _ => "",
+    }
+}

@@ -1,0 +1,263 @@
+// A run of `ctangle`.
+ghost use Rattle.std.specs.Prelude.{◌≡◌, ◌≢◌, ◌<◌, ◌+◌, ◌^◌, ◌∷◌, ◌==◌, if◌then◌else◌, IfSome, None, Some, map};
+ghost use Rattle.std.specs.List.{flat_map};
+ghost use Rattle.std.specs.Option.{option_copied};
+ghost use Rattle.cweb_out.specs.Outputs.{IsPlanOf, planned};
+ghost use Rattle.cweb_out.specs.Planning.{IsDue};
+ghost use Rattle.cweb_scan.specs.Scan.{seen};
+ghost use Rattle.cweb_tools.specs.Acts.{ending, plans};
+ghost use Rattle.cweb_tools.specs.Course.{world_of, change_name};
+ghost use Rattle.cweb_tools.specs.Does.{ClosesInBoth, ClosesInLog, DoesInLog, Follows, LogsEnding, told};
+ghost use Rattle.cweb_tools.specs.Gathering.{Writes};
+ghost use Rattle.cweb_tools.specs.Items.{fault_count, line};
+ghost use Rattle.cweb_tools.specs.Log.{start_subject};
+ghost use Rattle.cweb_tools.specs.Options.{options_by, options_of};
+ghost use Rattle.cweb_tools.specs.Script.{planned_acts, refused, web_acts};
+ghost use Rattle.cweb_tools.specs.Seen.{seen_bins, seen_run, seen_stream};
+ghost use Rattle.cweb_tools.specs.Tangle.{course_acts, course_status, numbers_of, plan_made, planning, status_by, tangle_course, web_status};
+ghost use Rattle.cweb_tools.specs.TangleRun.{TanglePromises};
+ghost use Rattle.cweb_tools.specs.Web.{IsKnown, faults_of, files_of, refusal_in, said_faults, web_in};
+ghost use Rattle.cweb_tools.specs.WebItems.{refusal_text};
+
+use crate::faults::write_faults;
+use crate::options::Options;
+use crate::outputs::write_outputs;
+use crate::saying::{say_banner, say_end, say_no_text, say_starred};
+use crate::shown::Shown;
+use crate::stops::log_stop;
+use crate::subjects::{folder, subject};
+use crate::web::{Numbers, Web};
+use crate::web_faults::{write_name_faults, write_plan_fault, write_scan_faults};
+use cweb_lines::{Merger, Shelf, Sink, SinkFault, Stop};
+use cweb_out::{Bins, Expander, Plan, PlanFault, plan};
+use cweb_scan::scan;
+use std::alloc::Global;
+
+const USAGE: &str = "ctangle [options] webfile[.w] [{changefile[.ch]|-} [outfile[.c]]]";
+
+/// Writes the C files of the web that the words name to the bins, and what there is to say to the log, and answers the
+/// program's status.
+pub fn run_ctangle<S: Shelf, B: Bins, L: Sink>(
+    alloc: Global,
+    words: &[&str],
+    inputs: Option<&str>,
+    shelf: &mut S,
+    bins: &mut B,
+    log: &mut L,
+) -> u8
+    requires shelf_count { S.failed shelf.old + 1 < 2 ^ 64 }
+    requires bins_count { B.failed bins.old + 1 < 2 ^ 64 }
+    requires log_count { L.failed log.old + 1 < 2 ^ 64 }
+    ensures promises { let before = seen_run S.Shelf B.Sink L.Sink shelf.old bins.old log.old in
+        let asked = options_by (map (λ word. word.now) words.now) in let world = world_of before.shelf.texts (option_copied inputs.entry) in
+        TanglePromises world asked before (seen_run S.Shelf B.Sink L.Sink shelf.new bins.new log.new) result }
+    ensures untouched { options_by (map (λ word. word.now) words.now) ≡ None → (shelf.new ≡ shelf.old) × (bins.new ≡ bins.old) }
+{
+    let options = match Options::read(alloc, words) {
+        Ok(options) => options,
+        Err(stop) => return log_stop(log, stop, USAGE),
+    };
+    if let Err(_) = say_banner(options.banner, log) {
+        return 1;
+    }
+    tangle_named(alloc, &options, inputs, shelf, bins, log)
+}
+
+/// Opens the web and its change file, reads them, and goes on with what they hold.
+fn tangle_named<S: Shelf, B: Bins, L: Sink>(
+    alloc: Global,
+    options: &Options,
+    inputs: Option<&str>,
+    shelf: &mut S,
+    bins: &mut B,
+    log: &mut L,
+) -> u8
+    requires shelf_count { S.failed shelf.old + 1 < 2 ^ 64 }
+    requires bins_count { B.failed bins.old + 1 < 2 ^ 64 }
+    requires log_count { L.failed log.old + 1 < 2 ^ 64 }
+    ensures { let before = seen_run S.Shelf B.Sink L.Sink shelf.old bins.old log.old in
+        let course = tangle_course (world_of before.shelf.texts (option_copied inputs.entry)) (Some (options_of options.now)) in
+        Follows (course_acts (options_of options.now).shown course) (course_status course) before (seen_run S.Shelf B.Sink L.Sink shelf.new bins.new log.new) result }
+{
+    let started = Merger::start(
+        alloc,
+        shelf,
+        options.web.as_str(),
+        options.second(),
+        options.change(),
+        folder(inputs),
+    );
+    let mut merger = match started {
+        Ok(merger) => merger,
+        Err(stop) => return log_stop(log, stop, start_subject(options, stop)),
+    };
+    let scanned = match scan(alloc, &mut merger, shelf) {
+        Ok(scanned) => scanned,
+        Err(stop) => return log_stop(log, stop, subject(merger.names(), stop)),
+    };
+    let web = Web {
+        names: merger.names(),
+        faults: merger.faults(),
+        scanned: &scanned,
+    };
+    tangle_web(
+        alloc,
+        options.shown(),
+        options.main.as_str(),
+        web,
+        bins,
+        log,
+    )
+}
+
+/// Logs what is wrong with a web that was read, plans its outputs, and goes on with the plan.
+fn tangle_web<B: Bins, L: Sink>(
+    alloc: Global,
+    shown: Shown,
+    main: &str,
+    web: Web<'_>,
+    bins: &mut B,
+    log: &mut L,
+) -> u8
+    requires known { IsKnown web }
+    requires bins_count { B.failed bins.old + 1 < 2 ^ 64 }
+    requires log_count { L.failed log.old + 1 < 2 ^ 64 }
+    ensures { ClosesInBoth (web_acts shown (web_in web.entry main.now)) (web_status (web_in web.entry main.now))
+        (seen_bins B.Sink bins.old) (seen_bins B.Sink bins.new) (seen_stream L.Sink log.old) (seen_stream L.Sink log.new) result }
+{
+    if let Err(_) = say_starred(shown.progress, web.scanned.starred.as_slice(), log) {
+        return 1;
+    }
+    if let Err(_) = say_faults(web, log) {
+        return 1;
+    }
+    match plan(alloc, web.store(), main) {
+        Ok(plan) => tangle_planned(alloc, shown, web, &plan, bins, log),
+        Err(fault) => tangle_unplanned(shown, main, web, fault, log),
+    }
+}
+
+/// The faults of the files, of the text and of the names.
+fn say_faults<L: Sink>(web: Web<'_>, log: &mut L) -> Result<(), SinkFault>
+    requires known { IsKnown web }
+    requires count { L.failed log.old + 1 < 2 ^ 64 }
+    ensures { DoesInLog (said_faults web.entry) (told result) (seen_stream L.Sink log.old) (seen_stream L.Sink log.new) }
+{
+    if web.fault_count() == 0 {
+        return Ok(());
+    }
+    write_web_faults(web, log)
+}
+
+fn write_web_faults<L: Sink>(web: Web<'_>, log: &mut L) -> Result<(), SinkFault>
+    requires known { IsKnown web }
+    requires count { L.failed log.old + 1 < 2 ^ 64 }
+    ensures { Writes (flat_map line (faults_of web.entry)) (seen_stream L.Sink log.old) (seen_stream L.Sink log.new) result }
+{
+    write_faults(log, web.names, web.faults)?;
+    write_scan_faults(log, web.names, web.scanned.faults.as_slice())?;
+    write_name_faults(log, web.store())
+}
+
+/// Ends a run whose outputs could not be planned: memory was refused, or there is no such plan.
+fn tangle_unplanned<L: Sink>(
+    shown: Shown,
+    main: &str,
+    web: Web<'_>,
+    fault: PlanFault,
+    log: &mut L,
+) -> u8
+    requires due { IsDue (planned web.scanned.now.store main.now) fault }
+    requires count { L.failed log.old + 1 < 2 ^ 64 }
+    ensures { ClosesInLog (plans ∷ planned_acts shown (numbers_of (seen web.entry.scanned.now)) (fault_count (faults_of web.entry)) (planning web.entry.scanned.now.store (files_of web.entry) main.now))
+        (status_by (fault_count (faults_of web.entry)) (planning web.entry.scanned.now.store (files_of web.entry) main.now)) (seen_stream L.Sink log.old) (seen_stream L.Sink log.new) result }
+{
+    if let PlanFault::Memory = fault {
+        return log_stop(log, Stop::Memory, "");
+    }
+    tangle_refused(shown, main, web, fault, log)
+}
+
+/// Logs why there is no plan, which is a fault more, and ends the run: nothing is written.
+fn tangle_refused<L: Sink>(
+    shown: Shown,
+    main: &str,
+    web: Web<'_>,
+    fault: PlanFault,
+    log: &mut L,
+) -> u8
+    requires { L.failed log.old + 1 < 2 ^ 64 }
+    ensures { IfSome (refusal_in fault) (λ refusal. ClosesInLog
+        (planned_acts shown (numbers_of (seen web.entry.scanned.now)) (fault_count (faults_of web.entry)) (refused (refusal_text web.entry.scanned.now.store main.now refusal)))
+        1 (seen_stream L.Sink log.old) (seen_stream L.Sink log.new) result) }
+{
+    if let Err(_) = write_plan_fault(log, web.store(), &fault, main) {
+        return 1;
+    }
+    let count = web.fault_count() + 1;
+    let _ = say_end(shown, Numbers::of(web.scanned), count, false, log);
+    1
+}
+
+/// Writes the outputs and ends the run. All room for the expansions is set aside before the first output begins.
+fn tangle_planned<B: Bins, L: Sink>(
+    alloc: Global,
+    shown: Shown,
+    web: Web<'_>,
+    plan: &Plan,
+    bins: &mut B,
+    log: &mut L,
+) -> u8
+    requires known { IsKnown web }
+    requires made { IsPlanOf web.scanned.now.store plan.now }
+    requires bins_count { B.failed bins.old + 1 < 2 ^ 64 }
+    requires log_count { L.failed log.old + 1 < 2 ^ 64 }
+    ensures { ClosesInBoth (planned_acts shown (numbers_of (seen web.entry.scanned.now)) (fault_count (faults_of web.entry)) (plan_made web.entry.scanned.now.store (files_of web.entry) plan.now))
+        (status_by (fault_count (faults_of web.entry)) (plan_made web.entry.scanned.now.store (files_of web.entry) plan.now))
+        (seen_bins B.Sink bins.old) (seen_bins B.Sink bins.new) (seen_stream L.Sink log.old) (seen_stream L.Sink log.new) result }
+{
+    if let Err(_) = say_no_text(plan.no_text(), log) {
+        return 1;
+    }
+    let Ok(mut expander) = Expander::new(alloc, web.store(), plan, 0) else {
+        return log_stop(log, Stop::Memory, "");
+    };
+    if let Err(failed) = write_outputs(shown.progress, web.names, &mut expander, bins, log) {
+        return log_failed(log, failed.stop, plan.output_name(failed.output));
+    }
+    let count = web.fault_count();
+    if let Err(_) = say_end(shown, Numbers::of(web.scanned), count, plan.no_text(), log) {
+        return 1;
+    }
+    status(count)
+}
+
+/// The status of a run with so many faults that nothing stopped.
+fn status(count: u128) -> u8
+    ensures { result ≡ (if count == 0 then 0 else 1) }
+{
+    if count == 0 { 0 } else { 1 }
+}
+
+/// Logs what stopped the writing of the outputs; a log that failed is told nothing.
+fn log_failed<L: Sink>(log: &mut L, stop: Stop, name: &str) -> u8
+    requires { stop ≢ Stop.LogFault → L.failed log.old + 1 < 2 ^ 64 }
+    ensures status { result ≡ 1 }
+    ensures logs { LogsEnding (ending stop name.now) (seen_stream L.Sink log.old) (seen_stream L.Sink log.new) }
+{
+    if let Stop::LogFault = stop {
+        return 1;
+    }
+    log_stop(log, stop, name)
+}
+
+/// What a stop at the start of a merge is about.
+fn start_subject(options: &Options, stop: Stop) -> &str
+    ensures { result.now ≡ start_subject (options_of options.now).names.merge.web (change_name (options_of options.now).names.merge.change) stop }
+{
+    match stop {
+        Stop::WebNotOpened => options.web.as_str(),
+        Stop::ChangeNotOpened => options.change().unwrap_or(""),
+        _ => "",
+    }
+}

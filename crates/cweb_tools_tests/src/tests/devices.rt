@@ -1,0 +1,140 @@
+// Runs over devices that fail, each call in turn: of the runs one after the other, those that leave what the run before left are
+// told once.
+use super::failing::{FailingBins, FailingShelf, FailingSink};
+use super::told::{FILES, ROOM, shelf_of, told};
+use cweb_lines::MemorySink;
+use cweb_out::{Bins, MemoryBins};
+use cweb_tools::run_ctangle;
+use std::alloc::{AllocError, Global};
+use std::test::Fail;
+
+/// Two outputs, and a fault.
+const WEB: &[u8] = b"@ @d M 1\n@(a.h@>=\nint m=\"x\n";
+
+const FAULT: &str = "f.w:3: ! String did not end\n";
+
+const MAIN: &str = "== f.c\n#define M 1\n";
+
+const HEADER: &str = "== a.h\n/*1:*/\n#line 2 \"f.w\"\n\nint m=\"x/*:1*/\n";
+
+/// More calls than a run makes.
+const CALLS: u64 = 400;
+
+/// Adds what a run left, unless the run before left the same.
+fn add(all: &mut String, last: &mut String, left: String) -> Result<(), AllocError> {
+    if left.as_str() != last.as_str() {
+        all.push_str(left.as_str())?;
+    }
+    *last = left;
+    Ok(())
+}
+
+/// Bins with an old file of the main file's name.
+fn old_bins(alloc: Global) -> Result<MemoryBins, AllocError> {
+    let mut bins = MemoryBins::with_room(alloc, FILES, ROOM)?;
+    if bins.start_file("f.c").is_ok() {
+        let _ = bins.commit_file();
+    }
+    Ok(bins)
+}
+
+#[test]
+fn each_call_of_the_bins_fails(rt: HostRuntime) -> Result<(), Fail> {
+    let alloc = rt.alloc();
+    let mut all = String::new(alloc);
+    let mut last = String::new(alloc);
+    for good in 0..CALLS {
+        let mut shelf = shelf_of(alloc, &[("f.w", WEB)])?;
+        let mut log = MemorySink::with_room(alloc, ROOM)?;
+        let mut bins = FailingBins {
+            bins: MemoryBins::with_room(alloc, FILES, ROOM)?,
+            good,
+            failed: 0,
+        };
+        let status = run_ctangle(alloc, &["-bph", "f"], None, &mut shelf, &mut bins, &mut log);
+        let left = told(alloc, log.bytes(), bins.bins.files(), status)?;
+        add(&mut all, &mut last, left)?;
+    }
+    let stop = "! Cannot open output file";
+    let fault = "! Write fault on";
+    let want = format!(in alloc;
+        "{FAULT}{stop} f.c\n== 1\n{FAULT}{fault} f.c\n== 1\n{FAULT}{stop} a.h\n{MAIN}== 1\n{FAULT}{fault} a.h\n{MAIN}== 1\n{FAULT}{MAIN}{HEADER}== 1\n"
+    )?;
+    assert_eq!(rt; all.as_str(), want.as_str());
+    Ok(())
+}
+
+#[test]
+fn an_old_file_stands_until_the_new_one_is_whole(rt: HostRuntime) -> Result<(), Fail> {
+    let alloc = rt.alloc();
+    let mut all = String::new(alloc);
+    let mut last = String::new(alloc);
+    for good in 0..CALLS {
+        let mut shelf = shelf_of(alloc, &[("f.w", WEB)])?;
+        let mut log = MemorySink::with_room(alloc, ROOM)?;
+        let mut bins = FailingBins {
+            bins: old_bins(alloc)?,
+            good,
+            failed: 0,
+        };
+        let _ = run_ctangle(alloc, &["-bph", "f"], None, &mut shelf, &mut bins, &mut log);
+        let left = told(alloc, b"", bins.bins.files(), 0)?;
+        add(&mut all, &mut last, left)?;
+    }
+    let want = format!(in alloc; "== f.c\n== 0\n{MAIN}== 0\n{MAIN}{HEADER}== 0\n")?;
+    assert_eq!(rt; all.as_str(), want.as_str());
+    Ok(())
+}
+
+#[test]
+fn each_read_fails(rt: HostRuntime) -> Result<(), Fail> {
+    let alloc = rt.alloc();
+    let mut all = String::new(alloc);
+    let mut last = String::new(alloc);
+    for good in 0..CALLS {
+        let mut shelf = FailingShelf {
+            shelf: shelf_of(alloc, &[("f.w", WEB), ("i.ch", b"")])?,
+            good,
+            failed: 0,
+        };
+        let mut bins = MemoryBins::with_room(alloc, FILES, ROOM)?;
+        let mut log = MemorySink::with_room(alloc, ROOM)?;
+        let status = run_ctangle(
+            alloc,
+            &["-bph", "f", "i"],
+            None,
+            &mut shelf,
+            &mut bins,
+            &mut log,
+        );
+        let left = told(alloc, log.bytes(), bins.files(), status)?;
+        add(&mut all, &mut last, left)?;
+    }
+    let want = format!(in alloc;
+        "! Read fault on i.ch\n== 1\n! Read fault on f.w\n== 1\n{FAULT}{MAIN}{HEADER}== 1\n"
+    )?;
+    assert_eq!(rt; all.as_str(), want.as_str());
+    Ok(())
+}
+
+#[test]
+fn each_write_of_the_log_fails(rt: HostRuntime) -> Result<(), Fail> {
+    let alloc = rt.alloc();
+    let mut all = String::new(alloc);
+    let mut last = String::new(alloc);
+    for good in 0..CALLS {
+        let mut shelf = shelf_of(alloc, &[("f.w", WEB)])?;
+        let mut bins = MemoryBins::with_room(alloc, FILES, ROOM)?;
+        let mut log = FailingSink {
+            sink: MemorySink::with_room(alloc, ROOM)?,
+            good,
+            failed: 0,
+        };
+        let status = run_ctangle(alloc, &["f"], None, &mut shelf, &mut bins, &mut log);
+        let left = told(alloc, b"", bins.files(), status)?;
+        add(&mut all, &mut last, left)?;
+    }
+    let want = format!(in alloc; "== 1\n{MAIN}== 1\n{MAIN}{HEADER}== 1\n")?;
+    assert_eq!(rt; all.as_str(), want.as_str());
+    Ok(())
+}
