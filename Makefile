@@ -3,57 +3,82 @@
 PREFIX ?= /usr/local
 BINDIR ?= $(PREFIX)/bin
 MANDIR ?= $(PREFIX)/share/man
+CTANGLE := crates/ctangle/out/ctangle
 WMERGE := crates/wmerge/out/wmerge
-LOG := crates/wmerge/out/build.log
+OUTPUTS := crates/bench_out/out/bench_out
+SCANS := crates/bench_scan/out/bench_scan
 SOURCES := crates.txt $(shell find crates -name out -prune -o -type f \( -name '*.rt' -o -name '*.antt' \) -print)
 
 .PHONY: help demo check build faults install uninstall bench clean
 
 help:
-	@echo 'make demo       builds wmerge and prints the merged lines of the example web, then with its change file'
-	@echo 'make build      proves and builds wmerge: some ten minutes the first time, on four processors'
-	@echo 'make install    copies wmerge and its man page below $(PREFIX) (PREFIX, BINDIR, MANDIR and DESTDIR are'
-	@echo '                obeyed); where make build was run before, it needs nothing but cp'
+	@echo 'make demo       builds both programs, merges an example web, and tangles, compiles and runs another one'
+	@echo 'make build      proves and builds ctangle and wmerge: half an hour the first time, on four processors'
+	@echo 'make install    copies the programs and their man pages below $(PREFIX) (PREFIX, BINDIR, MANDIR and DESTDIR'
+	@echo '                are obeyed); where make build was run before, it needs nothing but cp'
 	@echo 'make uninstall  removes what make install copied'
 	@echo 'make check      the gate: proves every crate from nothing, and runs all tests and programs'
-	@echo 'make faults     runs wmerge while its reads, writes, openings and allocations fail, one after the other'
-	@echo 'make bench      measures time, memory and instructions of wmerge on generated webs'
-	@echo 'make clean      removes what make bench wrote'
+	@echo 'make faults     runs the programs while their reads, writes, openings and allocations fail, one after the other'
+	@echo 'make bench      measures time, memory and instructions of the programs on generated webs, and what scans and outputs cost'
+	@echo 'make clean      removes what make demo and make bench wrote'
 
-build: $(WMERGE)
+build: $(WMERGE) $(CTANGLE)
 
-# rt runs what it has built, so it is given a web. Crates that haven't changed are not proved again.
+# rt runs what it has built, so it is given a web. Crates that haven't changed are not proved again. build,PROGRAM,WORDS
+define build
+@command -v rt > /dev/null || { echo 'make: to build $(1) takes the Rattle kit, and its command rt is not on the path' >&2; exit 1; }
+@mkdir -p $(@D)
+@echo 'Proving and building $(1). The first time this takes long: half an hour for both programs, on four processors.'
+@echo 'What the prover says goes to $(@D)/build.log.'
+@cd crates/$(1) && CWEBINPUTS=data rt run -- $(2) > out/build.log 2>&1 || { tail -n 20 out/build.log >&2; exit 1; }
+@touch $@
+@echo 'Built $@.'
+endef
+
 $(WMERGE): $(SOURCES)
-	@command -v rt > /dev/null || { echo 'make: to build wmerge takes the Rattle kit, and its command rt is not on the path' >&2; exit 1; }
-	@mkdir -p $(@D)
-	@echo 'Proving and building wmerge: some ten minutes the first time, on four processors.'
-	@echo 'What the prover says goes to $(LOG).'
-	@cd crates/wmerge && CWEBINPUTS=data rt run -- data/a > out/build.log 2>&1 || { tail -n 20 out/build.log >&2; exit 1; }
-	@touch $@
-	@echo 'Built $@.'
+	$(call build,wmerge,data/a)
+
+$(CTANGLE): $(SOURCES)
+	$(call build,ctangle,-bph data/hello - out/hello.c)
 
 demo: build
 	@echo '--- wmerge tally, in the folder examples: tally.w with counting.w in place of its @i line'
 	@cd examples && ../$(WMERGE) tally
 	@echo '--- wmerge tally tally: the same, with the changes of tally.ch'
 	@cd examples && ../$(WMERGE) tally tally
+	@examples/tangle $(CTANGLE)
 
 check:
 	@.ci/run
 
 faults: build
 	@tests/faults $(WMERGE)
+	@tests/tangle_faults $(CTANGLE)
 
 install: build
 	install -d $(DESTDIR)$(BINDIR) $(DESTDIR)$(MANDIR)/man1
-	install -m 755 $(WMERGE) $(DESTDIR)$(BINDIR)/wmerge
-	install -m 644 man/wmerge.1 $(DESTDIR)$(MANDIR)/man1/wmerge.1
+	install -m 755 $(CTANGLE) $(WMERGE) $(DESTDIR)$(BINDIR)
+	install -m 644 man/ctangle.1 man/wmerge.1 $(DESTDIR)$(MANDIR)/man1
 
 uninstall:
-	rm -f $(DESTDIR)$(BINDIR)/wmerge $(DESTDIR)$(MANDIR)/man1/wmerge.1
+	rm -f $(DESTDIR)$(BINDIR)/ctangle $(DESTDIR)$(BINDIR)/wmerge
+	rm -f $(DESTDIR)$(MANDIR)/man1/ctangle.1 $(DESTDIR)$(MANDIR)/man1/wmerge.1
 
-bench: build
+$(OUTPUTS): $(SOURCES)
+	@mkdir -p $(@D)
+	@cd crates/bench_out && rt run > out/build.log 2>&1 || { tail -n 20 out/build.log >&2; exit 1; }
+	@touch $@
+
+$(SCANS): $(SOURCES)
+	@mkdir -p $(@D)
+	@cd crates/bench_scan && rt run > out/build.log 2>&1 || { tail -n 20 out/build.log >&2; exit 1; }
+	@touch $@
+
+bench: build $(OUTPUTS) $(SCANS)
 	@bench/run $(WMERGE)
+	@bench/run_tangle $(CTANGLE)
+	@bench/outputs $(OUTPUTS)
+	@bench/run_scan $(SCANS)
 
 clean:
-	rm -rf bench/work
+	rm -rf bench/work examples/work

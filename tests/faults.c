@@ -2,7 +2,7 @@
  * be broken off by a signal. The script `faults` beside it compiles and drives it.
  *
  * The variable FAULTS has seven words:
- *   CALL    alloc, open, read or write: the calls that are counted
+ *   CALL    alloc, open, read, write, rename or unlink: the calls that are counted
  *   STREAM  the file descriptor whose reads or writes are counted, -1: all
  *   NTH     the first call that is met, from 1
  *   EVERY   0: no other one is met; else each EVERY-th from there on
@@ -143,4 +143,22 @@ ssize_t write(int descriptor, const void *piece, size_t size)
             return 0;
     }
     return syscall(SYS_write, descriptor, piece, size);
+}
+
+int rename(const char *path, const char *other)
+{
+    if (meets("rename", -1, other)) {
+        errno = error;
+        return -1;
+    }
+    return syscall(SYS_rename, path, other);
+}
+
+int unlink(const char *path)
+{
+    if (meets("unlink", -1, path)) {
+        errno = error;
+        return -1;
+    }
+    return syscall(SYS_unlink, path);
 }

@@ -1,0 +1,108 @@
+"""The runs of ctangle that `tangle_faults` makes fail: their files and words, and what they leave where nothing fails."""
+from dataclasses import dataclass, field
+
+BANNER = b"This is CTANGLE, profile of CWEB 3\n"
+
+
+@dataclass
+class Case:
+    """A run in a folder of its own, the files that it writes in their order, its log and its status."""
+
+    name: str
+    words: list
+    # texts by their paths, None being a folder; among them outputs that are there before
+    files: dict
+    outputs: dict
+    log: bytes
+    status: int = 0
+    # what comes of it where the opening of a file is refused, by its path: the outputs and the log
+    refused: dict = field(default_factory=dict)
+    # an output that can't be written where nothing fails either
+    stuck: tuple = ()
+
+    def due(self):
+        return [*self.outputs, *self.stuck]
+
+    def banner(self):
+        return BANNER if self.log.startswith(BANNER) else b""
+
+    def log_before(self, number):
+        """The log up to the line on the beginning of an output, by its number from 0."""
+        lines = self.log.splitlines(keepends=True)
+        begins = [n for n, line in enumerate(lines) if line.startswith(b"Writing ")]
+        return b"".join(lines[: begins[number] + 1]) if begins else b""
+
+
+def line_mark(file, line):
+    return b'#line %d "%s"\n' % (line, file)
+
+
+def two_files():
+    web = b"@* One.\n@d M 1\n@c\n@i b.w\n@ @(a.h@>=\nint m;\n"
+    files = {"a.w": web, "b.w": b"int b;\n", "m.ch": b"@x\nint m;\n@y\nint M;\n@z\n", "a.c": b"old\n", "a.h": b"old\n"}
+    main = b"#define M 1\n/*1:*/\n" + line_mark(b"a.w", 3) + line_mark(b"b.w", 1) + b"int b;\n" + line_mark(b"a.w", 5) + b"/*:1*/\n"
+    header = b"/*2:*/\n" + line_mark(b"a.w", 5) + line_mark(b"m.ch", 4) + b"int M;/*:2*/\n"
+    written = b"Writing a.c\nWriting a.h\nSections: 2. Names: 1. Macros: 1.\n"
+    log = BANNER + b"*1\n" + written + b"(No errors were found.)\n"
+    without = main.replace(line_mark(b"b.w", 1) + b"int b;\n", b"")
+    faults = BANNER + b"*1\na.w:4: ! Cannot open include file\n" + written + b"(Faults: 1.)\n"
+    refused = {b"b.w": ({"a.c": without, "a.h": header}, faults)}
+    return Case("two files", ["+s", "a", "m"], files, {"a.c": main, "a.h": header}, log, refused=refused)
+
+
+def with_faults():
+    web = b'@x\n@ @c @<Q@> "x@y"\n@i gone\n@ @(f@>= y\n'
+    main = b"/*1:*/\n" + line_mark(b"a.w", 2) + line_mark(b"a.w", 2) + b'"x@y"\n' + line_mark(b"a.w", 4) + b"/*:1*/\n"
+    other = b"/*2:*/\n" + line_mark(b"a.w", 4) + b"y/*:2*/\n"
+    log = (
+        BANNER
+        + b"a.w:3: ! Cannot open include file\na.w:1: ! Double @ in limbo\na.w:2: ! Double @ in strings\n"
+        + b"! Not present: <Q>\nWriting a.c\nWriting f\n(Faults: 4.)\n"
+    )
+    return Case("faults", ["a"], {"a.w": web, "f": b"old\n"}, {"a.c": main, "f": other}, log, 1)
+
+
+def many_files():
+    """More text than is written at once, and more files than may be open at one time."""
+    lines = 14000
+    names = [b"f%02d" % n for n in range(34)]
+    web = b"@ @c\n" + b"x=1;\n" * lines
+    log, outputs = BANNER + b"Writing a.c\n", {}
+    outputs["a.c"] = b"/*1:*/\n" + line_mark(b"a.w", 1) + b"\n" + b"x=1;\n" * lines + b"/*:1*/\n"
+    for n, name in enumerate(names):
+        web += b"@ @(%s@>= y%d\n" % (name, n)
+        text = b"/*%d:*/\n" % (n + 2) + line_mark(b"a.w", lines + 2 + n) + b"y%d\n/*:%d*/\n" % (n, n + 2)
+        outputs[name.decode()] = text if n + 1 < len(names) else text.replace(b"\n/*:", b"/*:")
+        log += b"Writing %s\n" % name
+    files = {"a.w": web, "f00": b"old\n", "f33": b"old\n"}
+    return Case("many files", ["a"], files, outputs, log + b"(No errors were found.)\n")
+
+
+def stopped(text):
+    return b"! " + text + b"\n"
+
+
+def cases():
+    yield two_files()
+    yield with_faults()
+    old = {"a.c": b"old\n"}
+    web = {"a.w": b"@ @c @<A@>\n@ @<A@>= @<A@>\n"}
+    yield Case("a cycle", ["a"], web | old, {}, BANNER + b"! Cycle: <A> <A>\n(Faults: 1.)\n", 1)
+    log = BANNER + b"! No program text\nWriting a.c\n(Did you see the warning?)\n"
+    yield Case("an empty web", ["a"], {"a.w": b""} | old, {"a.c": b""}, log)
+    text = b"/*1:*/\n" + line_mark(b"a.w", 1) + b"x/*:1*/\n"
+    yield Case("a silent run", ["-bph", "a"], {"a.w": b"@ @c x\n"} | old, {"a.c": text}, b"")
+    yield Case("no web", ["a"], old, {}, BANNER + stopped(b"Cannot open web file a.w"), 1)
+    yield Case("no change file", ["a", "m"], {"a.w": b"x\n"} | old, {}, BANNER + stopped(b"Cannot open change file m.ch"), 1)
+    usage = b"Usage: ctangle [options] webfile[.w] [{changefile[.ch]|-} [outfile[.c]]]"
+    yield Case("no words", [], old, {}, stopped(usage), 1)
+    yield Case("a folder as web", ["a"], {"a.w": None} | old, {}, BANNER + stopped(b"Read fault on a.w"), 1)
+    web = {"a.w": b"@ @(no/f@>= x\n"}
+    log = BANNER + b"Writing a.c\nWriting no/f\n" + stopped(b"Cannot open output file no/f")
+    yield Case("a folder that isn't there", ["a"], web, {"a.c": b""}, log, 1, stuck=("no/f",))
+    web = {"a.w": b"@ @(f@>= x\n", "f": None}
+    log = BANNER + b"Writing a.c\nWriting f\n" + stopped(b"Write fault on f")
+    yield Case("a folder in the place of an output", ["a"], web, {"a.c": b""}, log, 1, stuck=("f",))
+    # left by a run that was killed
+    yield Case("a draft that is there", ["-bph", "a"], {"a.w": b"@ @c x\n", "a.c\x7f": b"draft"}, {"a.c": text}, b"")
+    yield many_files()
