@@ -9,7 +9,7 @@ OUTPUTS := crates/bench_out/out/bench_out
 SCANS := crates/bench_scan/out/bench_scan
 SOURCES := crates.txt $(shell find crates -name out -prune -o -type f \( -name '*.rt' -o -name '*.antt' \) -print)
 
-.PHONY: help demo check build faults install uninstall bench clean
+.PHONY: help demo check format build faults install uninstall bench clean
 
 help:
 	@echo 'make demo       builds both programs, merges an example web, and tangles, compiles and runs another one'
@@ -18,6 +18,7 @@ help:
 	@echo '                are obeyed); where make build was run before, it needs nothing but cp'
 	@echo 'make uninstall  removes what make install copied'
 	@echo 'make check      the gate: proves every crate from nothing, and runs all tests and programs'
+	@echo 'make format     formats every crate: the gate refuses one that rt fmt would change'
 	@echo 'make faults     runs the programs while their reads, writes, openings and allocations fail, one after the other'
 	@echo 'make bench      measures time, memory and instructions of the programs on generated webs, and what scans and outputs cost'
 	@echo 'make clean      removes what make demo and make bench wrote'
@@ -50,6 +51,9 @@ demo: build
 
 check:
 	@.ci/run
+
+format:
+	@for crate in crates/*/; do (cd $$crate && rt fmt) || exit 1; done
 
 faults: build
 	@tests/faults $(WMERGE)
