@@ -13,3 +13,11 @@ pub mod InLines
 pub mod Closed
 mod Rows
 pub mod Lasts
+pub mod Chosen
+pub mod Joins
+pub mod Raws
+pub mod Stays
+pub mod ClosedLiterals
+pub mod Comments
+pub mod Tokens
+mod FollowRows

@@ -13,3 +13,4 @@ pub mod Fronts
 pub mod Rules
 pub mod Pays
 pub mod Lines
+pub mod Follows

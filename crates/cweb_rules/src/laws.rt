@@ -1,11 +1,36 @@
 // What holds of the rules in every context.
 
-ghost use Rattle.std.specs.Prelude.{ℕ, Bool, List, ◌∷◌};
+ghost use Rattle.std.specs.Prelude.{◌≡◌, ◌+◌, ℕ, Bool, true, false, List, ◌∷◌, ◌++◌, codes, length};
+ghost use Rattle.std.specs.List.{list_all};
+ghost use Rattle.cweb_rules.specs.Bytes.{first_is};
+ghost use Rattle.cweb_rules.specs.Follows.{JoinsAll, IsToken, goes_on, begins_as, is_quiet};
 ghost use Rattle.cweb_rules.specs.Fronts.{front_in};
+ghost use Rattle.cweb_rules.specs.Kinds.{Kind, Comment, front};
 ghost use Rattle.cweb_rules.specs.Pays.{Fair};
 ghost use Rattle.cweb_rules.specs.declared.context.Context.{Context};
+ghost use Rattle.cweb_rules.specs.declared.context.Context.TheVariants.{CText};
+ghost use Rattle.cweb_rules.specs.declared.end.End.TheVariants.{Closed};
 
 /// What a rule names at the front of a text has at least one byte, stands in the text, and its bytes pay for what it gives.
 pub fn fronts_are_fair()
     ensures { (c : Context) (includes : Bool) (b : ℕ) (t : List ℕ) → Fair c (b ∷ t) (front_in c includes (b ∷ t)) }
+{}
+
+/// A text that is one token of C text is the first piece of every longer text whose next byte does not go on with it, however
+/// it is told which bytes join with which: more may be said to join than the table of punctuators has.
+pub fn tokens_end_by_themselves()
+    ensures { (joins : ℕ → ℕ → Bool) (kind : Kind) (token more : List ℕ) → JoinsAll joins → IsToken kind token
+        → first_is (goes_on joins kind token) more ≡ false → front_in CText false (token ++ more) ≡ front kind (length token) }
+{}
+
+/// The first byte of a token tells what may stand before it: no digit begins an identifier, no word byte, quote or layout a
+/// punctuator.
+pub fn tokens_begin_by_kind()
+    ensures { (kind : Kind) (token : List ℕ) → IsToken kind token → first_is (begins_as kind) token ≡ true }
+{}
+
+/// A comment with neither `*` nor `@` in it ends by itself, whatever follows it.
+pub fn comments_end_by_themselves()
+    ensures { (text more : List ℕ) → list_all is_quiet text ≡ true
+        → front_in CText false (codes "/*" ++ (text ++ (codes "*/" ++ more))) ≡ front (Comment Closed) (2 + (length text + 2)) }
 {}

@@ -1,0 +1,49 @@
+-- Tokens that stand alone, and a relation that has all bytes that join, computed.
+use Rattle.std.proofs.Common.{◌≡◌, ℕ, Bool, true, ◌||◌, ◌&&◌, ◌==◌, not, [], ◌∷◌, ◌++◌, refl, ap}
+use Rattle.std.specs.Prelude.{codes}
+use Rattle.cweb_rules.specs.Bytes.{is_one_of, is_digit}
+use Rattle.cweb_rules.specs.Follows.{JoinsAll, IsToken}
+use Rattle.cweb_rules.specs.Kinds.{Code, Quoted, Identifier, Numeral, Punctuator}
+use Rattle.cweb_rules.specs.declared.effect.Effect.TheVariants.{GiveAt}
+use Rattle.cweb_rules.specs.declared.end.End.TheVariants.{Closed}
+
+-- operator bytes, but `.` only after `.`; or `.` and a digit
+abbrev is_operator : ℕ → Bool
+is_operator b = is_one_of (codes "+-*/%&|^!=<>.:#") b
+
+abbrev joins : ℕ → ℕ → Bool
+joins x y = (x == 46 && is_digit y) || (is_operator x && is_operator y && (not (y == 46) || x == 46))
+
+or_true : (v : Bool) (more : Bool) → v ≡ true → (v || more) ≡ true
+or_true v more h = ap (λ w. w || more) h
+
+operators_join : JoinsAll joins
+operators_join = record {
+  punctuators = refl;
+  comment = refl;
+  line_comment = refl;
+  number = λ digit h. or_true (is_digit digit) (is_operator digit && (not (digit == 46) || true)) h;
+}
+
+number : IsToken Numeral (codes "0xe+")
+number = record { whole = refl; token = refl }
+
+word : IsToken Identifier (codes "u8R")
+word = record { whole = refl; token = refl }
+
+arrow : IsToken Punctuator (codes "->*")
+arrow = record { whole = refl; token = refl }
+
+sign : IsToken (Code GiveAt) (codes "@@")
+sign = record { whole = refl; token = refl }
+
+null : IsToken Punctuator (0 ∷ [])
+null = record { whole = refl; token = refl }
+
+-- a literal of two lines
+two_lines : IsToken (Quoted ((34 ∷ []) ∷ (64 ∷ 64 ∷ []) ∷ (92 ∷ 10 ∷ []) ∷ (34 ∷ []) ∷ []) Closed) (34 ∷ 64 ∷ 64 ∷ 92 ∷ 10 ∷ 34 ∷ [])
+two_lines = record { whole = refl; token = refl }
+
+-- a raw literal that has a line end and an `@`
+raw : IsToken (Quoted (codes "R\"(" ∷ (10 ∷ []) ∷ codes "@@" ∷ codes ")\"" ∷ []) Closed) (codes "R\"(" ++ 10 ∷ 64 ∷ 64 ∷ codes ")\"")
+raw = record { whole = refl; token = refl }

@@ -1,0 +1,83 @@
+-- What stands at the front stays, whatever follows that can't go on with it.
+use Rattle.std.proofs.Common.{◌≡◌, ℕ, ◌+◌, Bool, true, false, cond, ◌&&◌, ◌||◌, ◌==◌, not, List, [], ◌∷◌, ◌++◌, length, max, refl, ap, sym, ◌∙◌, subst}
+use Rattle.std.specs.List.{list_all, prefix_len}
+use Rattle.std.proofs.lemmas.Bool.{eqb-true}
+use Rattle.cweb_rules.specs.Bytes.{begins, first_is}
+use Rattle.cweb_rules.specs.Tables.{longest}
+use Rattle.cweb_rules.specs.Follows.{all_join}
+
+pub both : (a b : Bool) → (a && b) ≡ true → (a ≡ true) × (b ≡ true)
+both true b e = (refl, e)
+both false b e = cc
+
+pub second : (a b : Bool) → a ≡ true → (a && b) ≡ false → b ≡ false
+second true b p e = e
+second false b p e = cc
+
+pub and_false : (a : Bool) → (a && false) ≡ false
+and_false true = refl
+and_false false = refl
+
+-- the last byte of a text and the first of what follows
+abbrev pub seam_joins : (ℕ → ℕ → Bool) → ℕ → List ℕ → List ℕ → Bool
+seam_joins joins b [] more = first_is (joins b) more
+seam_joins joins b (c ∷ t) more = seam_joins joins c t more
+
+-- a sign that begins a text and what follows, and not the text alone, goes over the seam
+crosses : (joins : ℕ → ℕ → Bool) (p : List ℕ) (b : ℕ) (t more : List ℕ) → all_join joins p ≡ true → begins p (b ∷ t ++ more) ≡ true → begins p (b ∷ t) ≡ false → seam_joins joins b t more ≡ true
+crosses joins [] b t more j fits misses = cc
+crosses joins (x ∷ []) b t more j fits misses = let e = sym fits ∙ misses in cc
+crosses joins (x ∷ y ∷ p) b [] [] j fits misses = let e = sym fits ∙ misses in cc
+crosses joins (x ∷ y ∷ p) b [] (c ∷ more) j fits misses =
+    let h = both (x == b) (begins (y ∷ p) (c ∷ more)) fits in
+    let k = both (y == c) (begins p more) h.1 in
+    let m : joins x y ≡ true = (both (joins x y) (all_join joins (y ∷ p)) j).0 in
+    subst (λ n. joins n c ≡ true) (eqb-true x b h.0) (subst (λ n. joins x n ≡ true) (eqb-true y c k.0) m)
+crosses joins (x ∷ y ∷ p) b (c ∷ t) more j fits misses =
+    let h = both (x == b) (begins (y ∷ p) (c ∷ t ++ more)) fits in
+    crosses joins (y ∷ p) c t more (both (joins x y) (all_join joins (y ∷ p)) j).1 h.1 (second (x == b) (begins (y ∷ p) (c ∷ t)) h.0 misses)
+
+pub begins-append : (p t more : List ℕ) → begins p t ≡ true → begins p (t ++ more) ≡ true
+begins-append [] t more h = refl
+begins-append (x ∷ p) [] more h = cc
+begins-append (x ∷ p) (b ∷ t) more h =
+    let e = both (x == b) (begins p t) h in
+    ap (λ v. v && begins p (t ++ more)) e.0 ∙ begins-append p t more e.1
+
+by_cases : (a b : Bool) → (a ≡ true → b ≡ true) → (b ≡ true → a ≡ false → true ≡ false) → b ≡ a
+by_cases true b f g = f refl
+by_cases false true f g = g refl refl
+by_cases false false f g = refl
+
+pub begins_stays : (joins : ℕ → ℕ → Bool) (p : List ℕ) (b : ℕ) (t more : List ℕ) → all_join joins p ≡ true → seam_joins joins b t more ≡ false → begins p (b ∷ t ++ more) ≡ begins p (b ∷ t)
+begins_stays joins p b t more j seam =
+    by_cases (begins p (b ∷ t)) (begins p (b ∷ t ++ more)) (begins-append p (b ∷ t) more)
+    (λ fits misses. sym (crosses joins p b t more j fits misses) ∙ seam)
+
+pub longest_stays : (joins : ℕ → ℕ → Bool) (ps : List (List ℕ)) (b : ℕ) (t more : List ℕ) → list_all (all_join joins) ps ≡ true → seam_joins joins b t more ≡ false → longest ps (b ∷ t ++ more) ≡ longest ps (b ∷ t)
+longest_stays joins [] b t more j seam = refl
+longest_stays joins (p ∷ ps) b t more j seam =
+    let js = both (all_join joins p) (list_all (all_join joins) ps) j in
+    ap (λ v. max (cond v (length p) 1) (longest ps (b ∷ t ++ more))) (begins_stays joins p b t more js.0 seam)
+    ∙ ap (λ n. max (cond (begins p (b ∷ t)) (length p) 1) n) (longest_stays joins ps b t more js.1 seam)
+
+pub run_stays : (p : ℕ → Bool) (t more : List ℕ) → first_is p more ≡ false → prefix_len p (t ++ more) ≡ prefix_len p t
+run_stays p [] [] h = refl
+run_stays p [] (b ∷ more) h = ap (λ v. cond v (1 + prefix_len p more) 0) h
+run_stays p (b ∷ t) more h = ap (λ n. cond (p b) (1 + n) 0) (run_stays p t more h)
+
+pub neither : (a b : Bool) → (a || b) ≡ false → (a ≡ false) × (b ≡ false)
+neither true b e = cc
+neither false b e = (refl, e)
+
+not_both : (v : Bool) → not v ≡ v → true ≡ false
+not_both true e = sym e
+not_both false e = e
+
+-- bytes that a test tells apart aren't equal
+pub unlike : (p : ℕ → Bool) (c b : ℕ) (v : Bool) → p b ≡ v → p c ≡ not v → (c == b) ≡ false
+unlike p c b v h k =
+    elim (c == b) as (λ w. (c == b) ≡ w → w ≡ false) [
+      | true ↦ λ e. let same : p c ≡ p b = ap p (eqb-true c b e) in not_both v (sym k ∙ same ∙ h)
+      | false ↦ λ e. refl
+    ] refl

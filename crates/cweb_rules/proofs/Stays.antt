@@ -1,0 +1,219 @@
+-- A Word, a Number and a Punct are read alike, whatever follows that can't go on with them.
+use Rattle.std.proofs.Common.{◌≡◌, ℕ, ◌+◌, Bool, true, false, cond, ◌&&◌, ◌||◌, ◌==◌, not, List, [], ◌∷◌, ◌++◌, refl, ap, sym, ◌∙◌, subst}
+use Rattle.std.specs.Prelude.{codes, if◌then◌else◌}
+use Rattle.std.specs.List.{list_all, prefix_len}
+use Rattle.std.proofs.lemmas.Bool.{eqb-true}
+use Rattle.cweb_rules.specs.Bytes.{begins, first_is, is_one_of, is_digit, is_word_byte, starts_section}
+use Rattle.cweb_rules.specs.Codes.{in_c}
+use Rattle.cweb_rules.specs.Fronts.{c_front, literal_at, is_quoted, starts_literal, raw_at}
+use Rattle.cweb_rules.specs.Kinds.{front, Numeral, Identifier, Punctuator}
+use Rattle.cweb_rules.specs.Tables.{listed, longest, number_len, goes_on_number, starts_number}
+use Rattle.cweb_rules.specs.Follows.{JoinsAll, after_word, after_number}
+use Rattle.cweb_rules.proofs.Chosen.{Passed, Facts, ForWord, ForNumber, ForPunct, passed_front}
+use Rattle.cweb_rules.proofs.Raws.{plain_raw, word_raw}
+use Rattle.cweb_rules.proofs.Joins.{and_false, neither, unlike, seam_joins, begins_stays, longest_stays}
+use Rattle.cweb_rules.proofs.Seams.{run_stop}
+
+or_false : (a : Bool) → (a || false) ≡ a
+or_false true = refl
+or_false false = refl
+
+pub and_true : (a : Bool) → (a && true) ≡ a
+and_true true = refl
+and_true false = refl
+
+-- LITERALS BEGIN
+
+abbrev pub opens : Bool → Bool → Bool → Bool → Bool → Bool
+opens u8 letter q2 q1 q0 = cond (u8 && q2) q2 (cond (letter && q1) q1 q0)
+
+at_prefix : (v w : Bool) (f : ℕ → Bool) → f (if v then 2 else (if w then 1 else 0)) ≡ cond v (f 2) (cond w (f 1) (f 0))
+at_prefix true w f = refl
+at_prefix false true f = refl
+at_prefix false false f = refl
+
+abbrev pub is_letter_first : List ℕ → Bool
+is_letter_first t = begins (codes "L") t || begins (codes "u") t || begins (codes "U") t
+
+abbrev pub literal_opens : List ℕ → Bool
+literal_opens t = opens (begins (codes "u8") t) (is_letter_first t) (is_quoted 2 t) (is_quoted 1 t) (is_quoted 0 t)
+
+pub opening : (t : List ℕ) → starts_literal t ≡ literal_opens t
+opening t = at_prefix (begins (codes "u8") t && is_quoted 2 t) (is_letter_first t && is_quoted 1 t) (λ n. is_quoted n t)
+
+no_quote : (c : ℕ) → is_one_of (codes "\"'") c ≡ false → ((34 == c) ≡ false) × ((39 == c) ≡ false)
+no_quote c h = let e = neither (34 == c) ((39 == c) || false) h in (e.0, (neither (39 == c) false e.1).0)
+
+pub literal_stays : (b : ℕ) (t more : List ℕ) → first_is after_word more ≡ false → starts_literal (b ∷ t ++ more) ≡ starts_literal (b ∷ t)
+literal_stays b [] [] h = refl
+literal_stays b [] (c ∷ more) h =
+    let n = neither (is_word_byte c) (is_one_of (codes "\"'") c) h in
+    let q = no_quote c n.1 in
+    let e = unlike is_word_byte 56 c false n.0 refl in
+    let t = b ∷ c ∷ more in
+    opening t
+    ∙ (λ i. opens ((117 == b) && (e i && true)) (is_letter_first t) (is_quoted 2 t) ((q.0 i && true) || (q.1 i && true)) (is_quoted 0 t))
+    ∙ ap (λ v. opens v (is_letter_first t) (is_quoted 2 t) false (is_quoted 0 t)) (and_false (117 == b))
+    ∙ sym (ap (λ v. opens v (is_letter_first t) false false (is_quoted 0 t)) (and_false (117 == b)))
+    ∙ sym (opening (b ∷ []))
+literal_stays b (c ∷ []) [] h = refl
+literal_stays b (c ∷ []) (e ∷ more) h =
+    let n = neither (is_word_byte e) (is_one_of (codes "\"'") e) h in
+    let q = no_quote e n.1 in
+    let t = b ∷ c ∷ e ∷ more in
+    opening t
+    ∙ (λ i. opens (begins (codes "u8") t) (is_letter_first t) ((q.0 i && true) || (q.1 i && true)) (is_quoted 1 t) (is_quoted 0 t))
+    ∙ sym (opening (b ∷ c ∷ []))
+literal_stays b (c ∷ e ∷ t) more h = opening (b ∷ c ∷ e ∷ t ++ more) ∙ sym (opening (b ∷ c ∷ e ∷ t))
+
+-- where a byte is told apart from the letters of the prefixes, only a quote begins a literal
+pub plain_with : (p : ℕ → Bool) (v : Bool) (b : ℕ) (t : List ℕ) → p b ≡ v → p 76 ≡ not v → p 117 ≡ not v → p 85 ≡ not v → starts_literal (b ∷ t) ≡ is_quoted 0 (b ∷ [])
+plain_with p v b t w hL hu hU =
+    let eL = unlike p 76 b v w hL in
+    let eu = unlike p 117 b v w hu in
+    let eU = unlike p 85 b v w hU in
+    let u = b ∷ t in
+    opening u
+    ∙ (λ i. opens (eu i && begins (codes "8") t) ((eL i && true) || (eu i && true) || (eU i && true)) (is_quoted 2 u) (is_quoted 1 u) (is_quoted 0 u))
+
+-- where no Word begins, only a quote begins a literal
+pub plain_literal : (b : ℕ) (t : List ℕ) → is_word_byte b ≡ false → starts_literal (b ∷ t) ≡ is_quoted 0 (b ∷ [])
+plain_literal b t w = plain_with is_word_byte false b t w refl refl refl
+
+-- NUMBERS BEGIN
+
+word_no_number : (b : ℕ) (t more : List ℕ) → (b == 46) ≡ false → starts_number (b ∷ t ++ more) ≡ starts_number (b ∷ t)
+word_no_number b [] [] h = refl
+word_no_number b [] (c ∷ more) h = ap (λ v. is_digit b || (v && is_digit c)) h ∙ or_false (is_digit b)
+word_no_number b (c ∷ t) more h = refl
+
+no_dot : (joins : ℕ → ℕ → Bool) → JoinsAll joins → (b c : ℕ) → joins b c ≡ false → ((b == 46) && is_digit c) ≡ false
+no_dot joins all b c h = (elim (b == 46) as (λ v. (b == 46) ≡ v → (v && is_digit c) ≡ false) [
+  | true ↦ λ e. (elim (is_digit c) as (λ w. is_digit c ≡ w → w ≡ false) [
+    | true ↦ λ d. sym (subst (λ x. joins x c ≡ true) (sym (eqb-true b 46 e)) (all.number c d)) ∙ h
+    | false ↦ λ d. refl
+  ]) refl
+  | false ↦ λ e. refl
+]) refl
+
+punct_no_number : (joins : ℕ → ℕ → Bool) → JoinsAll joins → (b : ℕ) (t more : List ℕ) → seam_joins joins b t more ≡ false → starts_number (b ∷ t ++ more) ≡ starts_number (b ∷ t)
+punct_no_number joins all b [] [] h = refl
+punct_no_number joins all b [] (c ∷ more) h = ap (λ v. is_digit b || v) (no_dot joins all b c h) ∙ or_false (is_digit b)
+punct_no_number joins all b (c ∷ t) more h = refl
+
+number_stays_number : (b : ℕ) (t more : List ℕ) → starts_number (b ∷ t) ≡ true → starts_number (b ∷ t ++ more) ≡ true
+number_stays_number b [] [] h = h
+number_stays_number b [] (c ∷ more) h = ap (λ v. v || ((b == 46) && is_digit c)) h
+number_stays_number b (c ∷ t) more h = h
+
+abbrev pub begins_number : ℕ → Bool
+begins_number b = is_digit b || (b == 46)
+
+wider : (x y z : Bool) → (x || (y && z)) ≡ true → (x || y) ≡ true
+wider true y z h = refl
+wider false true z h = refl
+wider false false z h = h
+
+pub number_first : (b : ℕ) (t : List ℕ) → starts_number (b ∷ t) ≡ true → begins_number b ≡ true
+number_first b [] h = ap (λ v. v || (b == 46)) h
+number_first b (c ∷ t) h = wider (is_digit b) (b == 46) (is_digit c) h
+
+pub number_goes : (last : ℕ) (t more : List ℕ) → first_is after_number more ≡ false → number_len last (t ++ more) ≡ number_len last t
+number_goes last [] [] h = refl
+number_goes last [] (c ∷ more) h =
+    let n = neither (after_word c) (is_one_of (codes ".+-") c) h in
+    let w = neither (is_word_byte c) (is_one_of (codes "\"'") c) n.0 in
+    let e = neither (46 == c) (is_one_of (codes "+-") c) n.1 in
+    let dot = unlike (λ x. 46 == x) c 46 true refl e.0 in
+    ap (λ v. elim v [ true ↦ 1 + number_len c more | false ↦ 0 ])
+    (λ i. w.0 i || dot i || (e.1 i && is_one_of (codes "eEpP") last))
+number_goes last (b ∷ t) more h = ap (λ n. elim (goes_on_number last b) [ true ↦ 1 + n | false ↦ 0 ]) (number_goes b t more h)
+
+-- THE RULES BEFORE
+
+pub no_section : (b : ℕ) (t : List ℕ) → (b == 64) ≡ false → starts_section (b ∷ t) ≡ false
+no_section b [] h = h
+no_section b (c ∷ t) h = ap (λ v. v && is_one_of (32 ∷ 9 ∷ 10 ∷ 42 ∷ []) c) h
+
+section_stays : (b : ℕ) (t : List ℕ) → begins (codes "@") (b ∷ t) ≡ false → starts_section (b ∷ t) ≡ false
+section_stays b t h = no_section b t (unlike (λ x. 64 == x) b 64 true refl (sym (and_true (64 == b)) ∙ h))
+
+pub passes : (b : ℕ) (t more : List ℕ) → (47 == b) ≡ false → Passed (b ∷ t) → Passed (b ∷ t ++ more)
+passes b t more e p = record {
+  blank = p.blank;
+  line_end = p.line_end;
+  comment = ap (λ v. v && begins (codes "*") (t ++ more)) e;
+  line_comment = ap (λ v. v && begins (codes "/") (t ++ more)) e;
+  section = section_stays b (t ++ more) p.code;
+  code = p.code;
+}
+
+two_join : (v : Bool) → v ≡ true → (v && true) ≡ true
+two_join v h = and_true v ∙ h
+
+passes_seam : (joins : ℕ → ℕ → Bool) → JoinsAll joins → (b : ℕ) (t more : List ℕ) → seam_joins joins b t more ≡ false → Passed (b ∷ t) → Passed (b ∷ t ++ more)
+passes_seam joins all b t more h p = record {
+  blank = p.blank;
+  line_end = p.line_end;
+  comment = begins_stays joins (codes "/*") b t more (two_join (joins 47 42) all.comment) h ∙ p.comment;
+  line_comment = begins_stays joins (codes "//") b t more (two_join (joins 47 47) all.line_comment) h ∙ p.line_comment;
+  section = section_stays b (t ++ more) p.code;
+  code = p.code;
+}
+
+-- THE THREE KINDS OF TOKENS
+
+not_word : (more : List ℕ) → first_is after_word more ≡ false → first_is is_word_byte more ≡ false
+not_word [] h = refl
+not_word (c ∷ more) h = (neither (is_word_byte c) (is_one_of (codes "\"'") c) h).0
+
+not_number : (more : List ℕ) → first_is after_number more ≡ false → first_is after_word more ≡ false
+not_number [] h = refl
+not_number (c ∷ more) h = (neither (after_word c) (is_one_of (codes ".+-") c) h).0
+
+pub word_front : (t : List ℕ) → Facts t ForWord → c_front in_c false false t ≡ front Identifier (prefix_len is_word_byte t)
+word_front t f =
+    passed_front t f.0.0
+    ∙ (λ i. if f.0.1 i then raw_at t else (if f.1 i then literal_at t else (if f.2 i then front Numeral (number_len 0 t) else (if f.3 i then front Identifier (prefix_len is_word_byte t) else front Punctuator (longest listed t)))))
+
+pub word_stays : (b : ℕ) (t more : List ℕ) → Facts (b ∷ t) ForWord → list_all is_word_byte (b ∷ t) ≡ true → first_is after_word more ≡ false → c_front in_c false false (b ∷ t ++ more) ≡ c_front in_c false false (b ∷ t)
+word_stays b t more f all h =
+    word_front (b ∷ t ++ more) (
+      (passes b t more (unlike is_word_byte 47 b true f.3 refl) f.0.0, word_raw (b ∷ t) more all h),
+      literal_stays b t more h ∙ f.1,
+      word_no_number b t more (unlike (λ x. 46 == x) b 46 true refl (unlike is_word_byte 46 b true f.3 refl)) ∙ f.2,
+      f.3,
+    )
+    ∙ ap (front Identifier) (run_stop is_word_byte (b ∷ t) more (not_word more h))
+    ∙ sym (word_front (b ∷ t) f)
+
+number_front : (t : List ℕ) → Facts t ForNumber → c_front in_c false false t ≡ front Numeral (number_len 0 t)
+number_front t f =
+    passed_front t f.0.0
+    ∙ (λ i. if f.0.1 i then raw_at t else (if f.1 i then literal_at t else (if f.2 i then front Numeral (number_len 0 t) else (if first_is is_word_byte t then front Identifier (prefix_len is_word_byte t) else front Punctuator (longest listed t)))))
+
+pub number_stays : (b : ℕ) (t more : List ℕ) → Facts (b ∷ t) ForNumber → first_is after_number more ≡ false → c_front in_c false false (b ∷ t ++ more) ≡ c_front in_c false false (b ∷ t)
+number_stays b t more f h =
+    number_front (b ∷ t ++ more) (
+      (passes b t more (unlike begins_number 47 b true (number_first b t f.2) refl) f.0.0, plain_raw begins_number true b (t ++ more) (number_first b t f.2) refl refl refl refl),
+      literal_stays b t more (not_number more h) ∙ f.1,
+      number_stays_number b t more f.2,
+    )
+    ∙ ap (front Numeral) (number_goes 0 (b ∷ t) more h)
+    ∙ sym (number_front (b ∷ t) f)
+
+punct_front : (t : List ℕ) → Facts t ForPunct → c_front in_c false false t ≡ front Punctuator (longest listed t)
+punct_front t f =
+    passed_front t f.0.0
+    ∙ (λ i. if f.0.1 i then raw_at t else (if f.1 i then literal_at t else (if f.2 i then front Numeral (number_len 0 t) else (if f.3 i then front Identifier (prefix_len is_word_byte t) else front Punctuator (longest listed t)))))
+
+pub punct_stays : (joins : ℕ → ℕ → Bool) → JoinsAll joins → (b : ℕ) (t more : List ℕ) → Facts (b ∷ t) ForPunct → seam_joins joins b t more ≡ false → c_front in_c false false (b ∷ t ++ more) ≡ c_front in_c false false (b ∷ t)
+punct_stays joins all b t more f h =
+    punct_front (b ∷ t ++ more) (
+      (passes_seam joins all b t more h f.0.0, plain_raw is_word_byte false b (t ++ more) f.3 refl refl refl refl),
+      plain_literal b (t ++ more) f.3 ∙ sym (plain_literal b t f.3) ∙ f.1,
+      punct_no_number joins all b t more h ∙ f.2,
+      f.3,
+    )
+    ∙ ap (front Punctuator) (longest_stays joins listed b t more all.punctuators h)
+    ∙ sym (punct_front (b ∷ t) f)

@@ -1,0 +1,218 @@
+-- A text that is one token of C text ends by itself, and what it begins with.
+use Rattle.std.proofs.Common.{◌≡◌, ℕ, Bool, true, false, ◌&&◌, ◌||◌, ◌==◌, not, List, [], ◌∷◌, ◌++◌, Option, Some, None, length, drop, refl, ap, sym, ◌∙◌, subst, arith}
+use Rattle.std.specs.Prelude.{codes, if◌then◌else◌}
+use Rattle.std.proofs.lemmas.Bool.{eqb-true}
+use Rattle.cweb_rules.specs.Bytes.{is_one_of, is_digit, is_word_byte, first_is, starts_section}
+use Rattle.cweb_rules.specs.Codes.{in_c}
+use Rattle.cweb_rules.specs.Constants.{letter}
+use Rattle.cweb_rules.specs.declared.constants.Transliteration.{Transliteration}
+use Rattle.cweb_rules.specs.declared.effect.Effect.{Effect}
+use Rattle.cweb_rules.specs.declared.effect.Effect.TheVariants.{Nothing, Define, Format, Program, Named, InsertDefs, Joins, GiveAt, Faulty}
+use Rattle.cweb_rules.specs.declared.effect.Effect.TheVariants as effect
+use Rattle.cweb_rules.specs.declared.end.End.{End}
+use Rattle.cweb_rules.specs.declared.end.End.TheVariants.{Closed, Cut, Nested, Open}
+use Rattle.cweb_rules.specs.Follows.{JoinsAll, IsToken, joins_last, goes_on, gives_at, is_token, begins_as}
+use Rattle.cweb_rules.specs.Fronts.{c_front, code_front, letter_is, section_at, is_closed, is_quoted, starts_raw}
+use Rattle.cweb_rules.specs.Kinds.{Kind, Front, front}
+use Rattle.cweb_rules.specs.Kinds as kind
+use Rattle.cweb_rules.specs.Tables.{starts_number}
+use Rattle.cweb_rules.proofs.Chosen.{Passed, Coded, Opens, Facts, rule_of, chosen}
+use Rattle.cweb_rules.proofs.ClosedLiterals.{raw_front, raw_stays_whole, literal_front, literal_stays_whole, is_a_quote}
+use Rattle.cweb_rules.proofs.Joins.{both, neither, seam_joins}
+use Rattle.cweb_rules.proofs.Raws.{plain_raw, run_all}
+use Rattle.cweb_rules.proofs.Reaches.{at_fits}
+use Rattle.cweb_rules.proofs.Stays.{word_front, word_stays, number_stays, punct_stays, plain_literal, plain_with, number_first, and_true}
+
+seam_of : (joins : ℕ → ℕ → Bool) (b : ℕ) (t more : List ℕ) → seam_joins joins b t more ≡ first_is (joins_last joins (b ∷ t)) more
+seam_of joins b [] [] = refl
+seam_of joins b [] (c ∷ more) = refl
+seam_of joins b (d ∷ t) more = seam_of joins d t more
+
+abbrev how_of : Kind → End
+how_of k = elim k [ kind.Quoted units how ↦ how | _ ↦ Closed ]
+
+-- what the rules of C text name at the front of a text, outside of an included name's directive
+abbrev pub Names : Kind → List ℕ → ℕ → Type 0
+Names k t n = c_front in_c false false t ≡ front k n
+
+pub facts_of : (d : List ℕ) (k : Kind) (n : ℕ) → Names k d n → Facts d (rule_of k)
+facts_of d k n e = subst (Facts d) (ap (λ f. rule_of f.kind) e) (chosen d)
+
+pub no_empty : (k : Kind) (P : Type 0) → Names k [] 0 → P
+no_empty k P e = let n : 1 ≡ 0 = ap (λ f. f.size) e in absurd (omega (arith, n))
+
+-- `@@`
+
+abbrev is_at : Kind → Bool
+is_at k = elim k [ kind.Code e ↦ gives_at e | _ ↦ false ]
+
+no_letter : (o : Option Transliteration) (t : List ℕ) → is_at (letter_is o t).kind ≡ false
+no_letter None t = refl
+no_letter (Some l) t = refl
+
+abbrev IsAt : Effect → List ℕ → List ℕ → Type 0
+IsAt e t u = (code_front e false u ≡ front (kind.Code GiveAt) 2) × ((code_front e false t).size ≡ 2)
+
+at_of : (e : Effect) (t u : List ℕ) → is_at (code_front e false t).kind ≡ true → IsAt e t u
+at_of GiveAt t u h = (refl, refl)
+at_of Nothing t u h = cc
+at_of Define t u h = cc
+at_of Format t u h = cc
+at_of Program t u h = cc
+at_of Named t u h = cc
+at_of effect.Letter t u h = let wrong : true ≡ false = sym h ∙ no_letter (letter (drop 2 t)) t in cc
+at_of effect.ControlText t u h = cc
+at_of effect.Verbatim t u h = cc
+at_of effect.Constant t u h = cc
+at_of InsertDefs t u h = cc
+at_of Joins t u h = cc
+at_of (Faulty k) t u h = cc
+
+code_is : (a b : ℕ) (t : List ℕ) → (64 == a) ≡ true → starts_section (a ∷ b ∷ t) ≡ false → c_front in_c false false (a ∷ b ∷ t) ≡ code_front (in_c b) false (a ∷ b ∷ t)
+code_is a b t at section =
+    subst (λ x. starts_section (x ∷ b ∷ t) ≡ false → c_front in_c false false (x ∷ b ∷ t) ≡ code_front (in_c b) false (x ∷ b ∷ t)) (eqb-true 64 a at)
+    (λ s. λ i. if s i then section_at (64 ∷ b ∷ t) else code_front (in_c b) false (64 ∷ b ∷ t)) section
+
+at_from : (a : ℕ) (d more : List ℕ) → Coded (a ∷ d) → Names (kind.Code GiveAt) (a ∷ d) (length (a ∷ d)) → Names (kind.Code GiveAt) (a ∷ d ++ more) (length (a ∷ d))
+at_from a [] more f e = absurd (omega (arith, at_fits a [] f.0 f.1))
+at_from a (b ∷ t) more f e =
+    let d = a ∷ b ∷ t in
+    let at = (both (64 == a) true f.1).0 in
+    let is : code_front (in_c b) false d ≡ front (kind.Code GiveAt) (length d) = sym (code_is a b t at f.0) ∙ e in
+    let gives = at_of (in_c b) d (d ++ more) (ap (λ g. is_at g.kind) is) in
+    code_is a b (t ++ more) at f.0 ∙ gives.0 ∙ ap (front (kind.Code GiveAt)) (sym gives.1 ∙ ap (λ g. g.size) is)
+
+at_stays : (d more : List ℕ) → Names (kind.Code GiveAt) d (length d) → Names (kind.Code GiveAt) (d ++ more) (length d)
+at_stays [] more e = no_empty (kind.Code GiveAt) (Names (kind.Code GiveAt) more 0) e
+at_stays (a ∷ d) more e = at_from a d more (facts_of (a ∷ d) (kind.Code GiveAt) (length (a ∷ d)) e) e
+
+code_stays : (c : Effect) (d more : List ℕ) → Names (kind.Code c) d (length d) → gives_at c ≡ true → Names (kind.Code c) (d ++ more) (length d)
+code_stays GiveAt d more e h = at_stays d more e
+code_stays Nothing d more e h = cc
+code_stays Define d more e h = cc
+code_stays Format d more e h = cc
+code_stays Program d more e h = cc
+code_stays Named d more e h = cc
+code_stays effect.Letter d more e h = cc
+code_stays effect.ControlText d more e h = cc
+code_stays effect.Verbatim d more e h = cc
+code_stays effect.Constant d more e h = cc
+code_stays InsertDefs d more e h = cc
+code_stays Joins d more e h = cc
+code_stays (Faulty k) d more e h = cc
+
+-- LITERALS
+
+ended : (how : End) → is_closed how ≡ true → how ≡ Closed
+ended Closed h = refl
+ended Cut h = cc
+ended Nested h = cc
+ended Open h = cc
+
+literal_case : (v : Bool) (units : List (List ℕ)) (how : End) (b : ℕ) (d more : List ℕ) → Passed (b ∷ d) → Opens (b ∷ d) v
+    → Names (kind.Quoted units how) (b ∷ d) (length (b ∷ d)) → is_closed how ≡ true → Names (kind.Quoted units how) (b ∷ d ++ more) (length (b ∷ d))
+literal_case true units how b d more p o e h =
+    let at = sym (raw_front (b ∷ d) p o) ∙ e in
+    let closed = ap (λ g. how_of g.kind) at ∙ ended how h in
+    let size = ap (λ g. g.size) at in
+    raw_stays_whole b d more p o (closed, omega (arith, size)) ∙ e
+literal_case false units how b d more p o e h =
+    let at = sym (literal_front (b ∷ d) p o.0 o.1) ∙ e in
+    let closed = ap (λ g. how_of g.kind) at ∙ ended how h in
+    let size = ap (λ g. g.size) at in
+    literal_stays_whole b d more p o.0 o.1 (closed, omega (arith, size)) ∙ e
+
+-- EACH TOKEN
+
+pub stays : (joins : ℕ → ℕ → Bool) → JoinsAll joins → (k : Kind) (d more : List ℕ) → Names k d (length d) → is_token k ≡ true → first_is (goes_on joins k d) more ≡ false → Names k (d ++ more) (length d)
+stays joins all k [] more e h seam = no_empty k (Names k more 0) e
+stays joins all kind.Identifier (b ∷ d) more e h seam =
+    let f = facts_of (b ∷ d) kind.Identifier (length (b ∷ d)) e in
+    let words = run_all is_word_byte (b ∷ d) (ap (λ g. g.size) (sym (word_front (b ∷ d) f) ∙ e)) in
+    word_stays b d more f words seam ∙ e
+stays joins all kind.Numeral (b ∷ d) more e h seam = number_stays b d more (facts_of (b ∷ d) kind.Numeral (length (b ∷ d)) e) seam ∙ e
+stays joins all kind.Punctuator (b ∷ d) more e h seam =
+    punct_stays joins all b d more (facts_of (b ∷ d) kind.Punctuator (length (b ∷ d)) e) (seam_of joins b d more ∙ seam) ∙ e
+stays joins all (kind.Quoted units how) (b ∷ d) more e h seam =
+    let f = facts_of (b ∷ d) (kind.Quoted units how) (length (b ∷ d)) e in
+    literal_case (starts_raw (b ∷ d)) units how b d more f.0 f.1 e h
+stays joins all (kind.Code c) (b ∷ d) more e h seam = code_stays c (b ∷ d) more e h
+stays joins all kind.Skipped (b ∷ d) more e h seam = cc
+stays joins all (kind.Section starred) (b ∷ d) more e h seam = cc
+stays joins all (kind.Letter byte text) (b ∷ d) more e h seam = cc
+stays joins all (kind.ControlText how) (b ∷ d) more e h seam = cc
+stays joins all (kind.Verbatim units how) (b ∷ d) more e h seam = cc
+stays joins all (kind.Constant value) (b ∷ d) more e h seam = cc
+stays joins all (kind.Occurrence is_file units how opens) (b ∷ d) more e h seam = cc
+stays joins all kind.Blanks (b ∷ d) more e h seam = cc
+stays joins all kind.LineEnd (b ∷ d) more e h seam = cc
+stays joins all (kind.Comment how) (b ∷ d) more e h seam = cc
+stays joins all (kind.Defined tight) (b ∷ d) more e h seam = cc
+
+-- WHAT IT BEGINS WITH
+
+no_digit : (b : ℕ) (t : List ℕ) → starts_number (b ∷ t) ≡ false → is_digit b ≡ false
+no_digit b [] h = h
+no_digit b (c ∷ t) h = (neither (is_digit b) ((b == 46) && is_digit c) h).0
+
+no_quote : (b : ℕ) → is_quoted 0 (b ∷ []) ≡ false → is_one_of (codes "\"'") b ≡ false
+no_quote b h =
+    let e = neither ((34 == b) && true) ((39 == b) && true) h in
+    λ i. (sym (and_true (34 == b)) ∙ e.0) i || ((sym (and_true (39 == b)) ∙ e.1) i || false)
+
+abbrev no_opener : ℕ → Bool
+no_opener b = not (is_one_of (codes "LuUR\"'") b)
+
+is_not : (v : Bool) → not v ≡ false → v ≡ true
+is_not true h = refl
+is_not false h = cc
+
+literal_byte : (v : Bool) (b : ℕ) (d : List ℕ) → Opens (b ∷ d) v → no_opener b ≡ false
+literal_byte true b d o =
+    (elim (no_opener b) as (λ v. no_opener b ≡ v → v ≡ false) [
+      | true ↦ λ e. sym o ∙ plain_raw no_opener true b d e refl refl refl refl
+      | false ↦ λ e. refl
+    ]) refl
+literal_byte false b d o =
+    (elim (no_opener b) as (λ v. no_opener b ≡ v → no_opener b ≡ false) [
+      | true ↦ λ e. is_a_quote b (λ n. no_opener n ≡ false) (sym (plain_with no_opener true b d e refl refl refl) ∙ o.1) refl refl
+      | false ↦ λ e. e
+    ]) refl
+
+at_byte : (b : ℕ) → (64 == b) ≡ true → (b == 64) ≡ true
+at_byte b h = subst (λ x. (x == 64) ≡ true) (eqb-true 64 b h) refl
+
+pub first_of : (k : Kind) (d : List ℕ) → Names k d (length d) → is_token k ≡ true → first_is (begins_as k) d ≡ true
+first_of k [] e h = no_empty k (first_is (begins_as k) [] ≡ true) e
+first_of kind.Identifier (b ∷ d) e h =
+    let f = facts_of (b ∷ d) kind.Identifier (length (b ∷ d)) e in
+    let digit = no_digit b d f.2 in
+    λ i. f.3 i && not (digit i)
+first_of kind.Numeral (b ∷ d) e h = let f = facts_of (b ∷ d) kind.Numeral (length (b ∷ d)) e in number_first b d f.2
+first_of kind.Punctuator (b ∷ d) e h =
+    let f = facts_of (b ∷ d) kind.Punctuator (length (b ∷ d)) e in
+    let quiet = no_quote b (sym (plain_literal b d f.3) ∙ f.1) in
+    λ i. not ((f.3 i || quiet i) || (f.0.0.blank i || f.0.0.line_end i))
+first_of (kind.Quoted units how) (b ∷ d) e h =
+    let f = facts_of (b ∷ d) (kind.Quoted units how) (length (b ∷ d)) e in
+    is_not (is_one_of (codes "LuUR\"'") b) (literal_byte (starts_raw (b ∷ d)) b d f.1)
+first_of (kind.Code c) (b ∷ d) e h = let f = facts_of (b ∷ d) (kind.Code c) (length (b ∷ d)) e in at_byte b (both (64 == b) true f.1).0
+first_of kind.Skipped (b ∷ d) e h = cc
+first_of (kind.Section starred) (b ∷ d) e h = cc
+first_of (kind.Letter byte text) (b ∷ d) e h = cc
+first_of (kind.ControlText how) (b ∷ d) e h = cc
+first_of (kind.Verbatim units how) (b ∷ d) e h = cc
+first_of (kind.Constant value) (b ∷ d) e h = cc
+first_of (kind.Occurrence is_file units how opens) (b ∷ d) e h = cc
+first_of kind.Blanks (b ∷ d) e h = cc
+first_of kind.LineEnd (b ∷ d) e h = cc
+first_of (kind.Comment how) (b ∷ d) e h = cc
+first_of (kind.Defined tight) (b ∷ d) e h = cc
+
+-- THE LAWS
+
+pub tokens_stay : (joins : ℕ → ℕ → Bool) (k : Kind) (d more : List ℕ) → JoinsAll joins → IsToken k d → first_is (goes_on joins k d) more ≡ false → Names k (d ++ more) (length d)
+tokens_stay joins k d more all h seam = stays joins all k d more h.whole h.token seam
+
+pub tokens_begin : (k : Kind) (d : List ℕ) → IsToken k d → first_is (begins_as k) d ≡ true
+tokens_begin k d h = first_of k d h.whole h.token
