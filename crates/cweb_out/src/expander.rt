@@ -101,11 +101,11 @@ impl<'a> Expander<'a> {
         ensures none { result ≡ None → (left self.old.store.now self.old.frames.items ≡ []) × (self.new.frames.items ≡ []) }
     {
         let store = self.store;
-        'frames: while let Some(mut frame) = self.frames.pop() {
+        'frames: while let Some(frame) = self.frames.last_mut() {
             if let Some(token) = frame.take(store) {
-                self.put(frame);
                 return Some(token);
             }
+            self.frames.pop();
         }
         None
     }

@@ -1,48 +1,45 @@
-use Rattle.std.proofs.Common.{◌≤◌, arith, ap, ◌∙◌, subst, vec_capacity, refl}
-use Rattle.cweb_out.specs.Uses.{names}
+use Rattle.std.proofs.Common.{◌≡◌, ◌-◌, arith, ◌∙◌, subst, sym, vec_capacity, refl}
+use Rattle.std.specs.Prelude.{vec_len, slice_set}
+use Rattle.std.proofs.lemmas.List.{take-set}
 use Rattle.cweb_store.specs.Calls.{Stored}
 use Rattle.cweb_store.specs.Seen.{seen}
-use Rattle.cweb_out.specs.Frames.{work_of, left}
-use Rattle.cweb_out.proofs.Stack.{Stands-pop, Stands-push, Top-next, advances, left-ended, work-ended}
+use Rattle.cweb_out.specs.Frames.{Stands}
+use Rattle.cweb_out.proofs.Tops.{HasTop, TopMoved, lower, stands_lower, top_ended, top_moved}
 use Rattle.cweb_out.proofs.expander.Expander.advance.Goals as goal
 
 pub take-requires : goal.take-requires
 take-requires c =
-    let h : vec_capacity c.frames.self.frames ≤ vec_capacity c.frames.self.frames = omega arith in
-    (Stands-pop c.args.self.now.store.now c.frames.self.frames.items c.pop.new.self.items c.in-Some.frame (vec_capacity c.frames.self.frames) (vec_capacity c.frames.self.frames) c.in-Some.ensures.items h c.frames.invariant.stands).1.within
+    let frames = c.frames.self.frames in
+    let top : HasTop (vec_len frames) frames.items c.in-Some.frame.now = record { count = frames.ok.0; some = c.in-Some.ensures.item.3.0; is = c.in-Some.ensures.value } in
+    (stands_lower c.args.self.now.store.now (vec_len frames) frames.items c.in-Some.frame.now (vec_capacity frames) c.frames.invariant.stands top).1.within
+
+abbrev moved : (c : goal.In-Some-take)
+    → TopMoved c.args.self.now.store.now c.args.self.now.frames.items (slice_set c.frames.self.frames.items (vec_len c.frames.self.frames - 1) c.take.new.self) (seen c.in-Some-take.token) (vec_capacity c.frames.self.frames)
+moved c =
+    let frames = c.frames.self.frames in
+    let top : HasTop (vec_len frames) frames.items c.in-Some.frame.now = record { count = frames.ok.0; some = c.in-Some.ensures.item.3.0; is = c.in-Some.ensures.value } in
+    top_moved c.args.self.now.store.now (vec_len frames) c.args.self.now.frames.items frames.items c.in-Some.frame.now c.take.new.self (seen c.in-Some-take.token) (vec_capacity frames)
+    c.frames.invariant.stands c.frames.invariant.left c.frames.invariant.work top c.in-Some-take.ensures.some c.in-Some-take.ensures.within
 
 pub returns-in-Some-take-clause-stands : goal.returns-in-Some-take-clause-stands
-returns-in-Some-take-clause-stands c =
-    let w : Stored = c.args.self.now.store.now in
-    let h : vec_capacity c.frames.self.frames ≤ vec_capacity c.pop.new.self = omega (arith, c.in-Some.ensures.capacity) in
-    let p = Stands-pop w c.frames.self.frames.items c.pop.new.self.items c.in-Some.frame (vec_capacity c.frames.self.frames) (vec_capacity c.pop.new.self) c.in-Some.ensures.items h c.frames.invariant.stands in
-    let q = Top-next w (names w) c.pop.new.self.items c.in-Some.frame c.take.new.self (seen c.in-Some-take.token) c.in-Some-take.ensures.some c.in-Some-take.ensures.within p.1 in
-    let s = Stands-push w c.put.new.self.frames.items c.pop.new.self.items c.take.new.self (vec_capacity c.pop.new.self) (vec_capacity c.put.new.self.frames) c.put.ensures.frames c.put.ensures.room p.0 q.0 p.2 in
-    rw (c.put.ensures.store, c.frames.invariant.store) s
+returns-in-Some-take-clause-stands c = rw c.frames.invariant.store (moved c).stands
 
 pub returns-in-Some-take-clause-some : goal.returns-in-Some-take-clause-some
-returns-in-Some-take-clause-some c =
-    let w : Stored = c.args.self.now.store.now in
-    let h : vec_capacity c.frames.self.frames ≤ vec_capacity c.pop.new.self = omega (arith, c.in-Some.ensures.capacity) in
-    let p = Stands-pop w c.frames.self.frames.items c.pop.new.self.items c.in-Some.frame (vec_capacity c.frames.self.frames) (vec_capacity c.pop.new.self) c.in-Some.ensures.items h c.frames.invariant.stands in
-    let q = Top-next w (names w) c.pop.new.self.items c.in-Some.frame c.take.new.self (seen c.in-Some-take.token) c.in-Some-take.ensures.some c.in-Some-take.ensures.within p.1 in
-    let e = ap (left w) c.in-Some.ensures.items in
-    let m = ap (work_of w (names w)) c.in-Some.ensures.items in
-    advances w c.args.self.now.frames.items c.pop.new.self.items c.put.new.self.frames.items c.in-Some.frame c.take.new.self (seen c.in-Some-take.token)
-    (c.frames.invariant.left ∙ e) (subst (λ n. n ≤ work_of w (names w) c.args.self.now.frames.items) m c.frames.invariant.work) c.in-Some-take.ensures.some q.1 c.put.ensures.frames
+returns-in-Some-take-clause-some c = (moved c).advances
 
 pub frames-preserved : goal.frames-preserved
 frames-preserved c =
     let w : Stored = c.args.self.now.store.now in
-    let h : vec_capacity c.frames.self.frames ≤ vec_capacity c.pop.new.self = omega (arith, c.in-Some.ensures.capacity) in
-    let p = Stands-pop w c.frames.self.frames.items c.pop.new.self.items c.in-Some.frame (vec_capacity c.frames.self.frames) (vec_capacity c.pop.new.self) c.in-Some.ensures.items h c.frames.invariant.stands in
-    let m = ap (work_of w (names w)) c.in-Some.ensures.items in
-    let n = work-ended w c.pop.new.self.items c.in-Some.frame in
-    let i = c.frames.invariant.work in
+    let frames = c.frames.self.frames in
+    let top : HasTop (vec_len frames) frames.items c.in-Some.frame.now = record { count = frames.ok.0; some = c.in-Some.ensures.item.3.0; is = c.in-Some.ensures.value } in
+    let is : c.pop.new.self.items ≡ lower (vec_len frames) frames.items = c.pop.ensures.rest ∙ take-set frames.items (vec_len frames - 1) c.take.new.self in
+    let ended = top_ended w (vec_len frames) frames.items c.pop.new.self.items c.in-Some.frame.now (vec_capacity frames) c.frames.invariant.stands top (c.in_default-take.ensures.none refl) is in
+    let less = ended.work in
+    let earlier = c.frames.invariant.work in
     record {
-      stands = p.0;
+      stands = subst (λ room. Stands w c.pop.new.self.items room) (sym c.pop.ensures.capacity) ended.stands;
       store = c.frames.invariant.store;
       plan = c.frames.invariant.plan;
-      left = c.frames.invariant.left ∙ ap (left w) c.in-Some.ensures.items ∙ left-ended w c.pop.new.self.items c.in-Some.frame (c.in_default-take.ensures.none refl);
+      left = c.frames.invariant.left ∙ ended.left;
       work = omega arith;
     }

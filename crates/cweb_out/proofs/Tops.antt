@@ -1,0 +1,76 @@
+-- The top frame of a stack, read and written in place. It is the last of the list.
+use Rattle.std.proofs.Common.{◌≡◌, ◌<◌, ◌≤◌, ◌+◌, ◌-◌, ◌++◌, ◌∷◌, [], ℕ, List, length, take, get_or, sym, ◌∙◌, ap, arith, subst}
+use Rattle.std.proofs.Math.ListN.{set}
+use Rattle.std.proofs.Math.Seq.{take-length}
+use Rattle.std.proofs.lemmas.List.{length-set, take_more, take_more_set}
+use Rattle.cweb_store.specs.Parts.{Token}
+use Rattle.cweb_store.specs.Calls.{Stored}
+use Rattle.cweb_out.specs.Uses.{names}
+use Rattle.cweb_out.specs.declared.frame.Frame.{Frame}
+use Rattle.cweb_out.specs.Frames.{suffix, left, work_of, IsWithin, Stands, Advances}
+use Rattle.cweb_out.proofs.Stack.{Top, Stands-pop, Stands-push, Top-next, advances, left-ended, work-ended}
+
+-- the frames below it, of a stack of n
+abbrev pub lower : ℕ → List Frame → List Frame
+lower n fs = take (n - 1) fs
+
+-- a stack of n frames has f on top
+pub record HasTop (n : ℕ) (fs : List Frame) (f : Frame) : Type 0 where
+  pub count : n ≡ length fs
+  pub some : 0 < length fs
+  pub is : f ≡ get_or fs (n - 1) f
+
+pub top_read : (n : ℕ) (fs : List Frame) (f : Frame) → HasTop n fs f → fs ≡ lower n fs ++ f ∷ []
+top_read n fs f h =
+    let c = h.count in
+    let some = h.some in
+    let all : length fs ≡ n - 1 + 1 = omega arith in
+    let lt : n - 1 < length fs = omega arith in
+    sym (take-length fs) ∙ ap (λ k. take k fs) all ∙ take_more fs (n - 1) f lt ∙ ap (λ (x : Frame). lower n fs ++ x ∷ []) (sym h.is)
+
+pub top_written : (n : ℕ) (fs : List Frame) (f g : Frame) → HasTop n fs f → set fs (n - 1) g ≡ lower n fs ++ g ∷ []
+top_written n fs f g h =
+    let c = h.count in
+    let some = h.some in
+    let all : length (set fs (n - 1) g) ≡ n - 1 + 1 = omega (arith, length-set fs (n - 1) g) in
+    let lt : n - 1 < length fs = omega arith in
+    sym (take-length (set fs (n - 1) g)) ∙ ap (λ k. take k (set fs (n - 1) g)) all ∙ take_more_set fs (n - 1) g lt
+
+-- a stack without its top, and what is known of the top
+pub stands_lower : (w : Stored) (n : ℕ) (fs : List Frame) (f : Frame) (room : ℕ) → Stands w fs room → HasTop n fs f → Stands w (lower n fs) room × Top w (names w) (lower n fs) f × (length (lower n fs) < names w + 1)
+stands_lower w n fs f room s h = let same : room ≤ room = omega arith in Stands-pop w fs (lower n fs) f room room (top_read n fs f h) same s
+
+-- the top went on by a token
+pub record TopMoved (w : Stored) (old new : List Frame) (t : Token) (room : ℕ) : Type 0 where
+  pub stands : Stands w new room
+  pub advances : Advances w old new t
+
+pub top_moved : (w : Stored) (n : ℕ) (old fs : List Frame) (f g : Frame) (t : Token) (room : ℕ) → Stands w fs room → left w old ≡ left w fs → work_of w (names w) fs ≤ work_of w (names w) old
+    → HasTop n fs f → suffix w f ≡ t ∷ suffix w g → IsWithin w g → TopMoved w old (set fs (n - 1) g) t room
+top_moved w n old fs f g t room s e m h goes i =
+    let same : room ≤ room = omega arith in
+    let both : fs ≡ lower n fs ++ f ∷ [] = top_read n fs f h in
+    let after : set fs (n - 1) g ≡ lower n fs ++ g ∷ [] = top_written n fs f g h in
+    let p = stands_lower w n fs f room s h in
+    let q = Top-next w (names w) (lower n fs) f g t goes i p.1 in
+    record {
+      stands = Stands-push w (set fs (n - 1) g) (lower n fs) g room room after same p.0 q.0 p.2;
+      advances = advances w old (lower n fs) (set fs (n - 1) g) f g t (e ∙ ap (left w) both) (subst (λ k. k ≤ work_of w (names w) old) (ap (work_of w (names w)) both) m) goes q.1 after;
+    }
+
+-- the top had come to its end
+pub record TopEnded (w : Stored) (fs new : List Frame) (room : ℕ) : Type 0 where
+  pub stands : Stands w new room
+  pub left : left w fs ≡ left w new
+  pub work : work_of w (names w) new ≤ work_of w (names w) fs
+
+pub top_ended : (w : Stored) (n : ℕ) (fs new : List Frame) (f : Frame) (room : ℕ) → Stands w fs room → HasTop n fs f → suffix w f ≡ [] → new ≡ lower n fs → TopEnded w fs new room
+top_ended w n fs new f room s h none is =
+    let both : fs ≡ new ++ f ∷ [] = top_read n fs f h ∙ ap (λ (x : List Frame). x ++ f ∷ []) (sym is) in
+    let same = ap (work_of w (names w)) both in
+    let less = work-ended w new f in
+    record {
+      stands = subst (λ (x : List Frame). Stands w x room) (sym is) (stands_lower w n fs f room s h).0;
+      left = ap (left w) both ∙ left-ended w new f none;
+      work = omega arith;
+    }
