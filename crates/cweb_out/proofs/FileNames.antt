@@ -1,5 +1,5 @@
 -- The outputs are one more than the names at most.
-use Rattle.std.proofs.Common.{◌≡◌, ◌≤◌, ◌<◌, ◌+◌, ℕ, zero, suc, Bool, true, false, cond, ◌||◌, List, [], ◌∷◌, ◌++◌, refl, sym, ◌∙◌, ap, arith, length, Option, Some, None, map, get_or, inl, inr, subst}
+use Rattle.std.proofs.Common.{◌≡◌, ◌≤◌, ◌<◌, ◌+◌, ℕ, suc, Bool, true, false, cond, ◌||◌, List, [], ◌∷◌, ◌++◌, refl, sym, arith, length, Option, Some, None, inl, inr, subst}
 use Rattle.std.specs.Prelude.{◌⊎◌, filter, All, if◌then◌else◌}
 use Rattle.std.specs.List.{list_any}
 use Rattle.std.proofs.lemmas.List.{length-map}
@@ -11,7 +11,7 @@ use Rattle.cweb_store.proofs.BoundLemmas.{files-within}
 use Rattle.cweb_out.specs.Uses.{names}
 use Rattle.cweb_out.specs.Outputs.{file_outputs, outputs}
 use Rattle.cweb_out.specs.Search.{AreNew}
-use Rattle.cweb_out.proofs.Searches.{new-push, is-same}
+use Rattle.cweb_out.proofs.Paths.{new-push, is-same}
 use Rattle.cweb_out.proofs.Ranks.{few}
 
 with_id-new : (ns : List NameId) (n : NameId) → AreNew [] ns → AreNew [] (with_id ns n)

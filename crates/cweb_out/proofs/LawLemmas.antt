@@ -4,8 +4,7 @@ use Rattle.std.specs.Prelude.{fold, flat_map, option_to_list}
 use Rattle.std.specs.List.{list_all}
 use Rattle.std.proofs.lemmas.List.Concat.{flat_map-append}
 use Rattle.cweb_store.specs.declared.name.NameId.{NameId}
-use Rattle.cweb_store.specs.declared.name.NameRef.{NameRef}
-use Rattle.cweb_store.specs.Parts.{Token, Word, Number, Literal, Verbatim, Punct, Blank, Newline, Join, Defs, Name, Head, Tail, Mark}
+use Rattle.cweb_store.specs.Parts.{Token, Newline, Defs, Name, Mark}
 use Rattle.cweb_store.specs.Calls.{Stored}
 use Rattle.cweb_out.specs.Uses.{joined, stands, uses, use_of}
 use Rattle.cweb_out.specs.Ranks.{ends_below}

@@ -6,7 +6,6 @@ use Rattle.cweb_store.specs.declared.part.Part.{Part}
 use Rattle.cweb_store.specs.Calls.{Stored}
 use Rattle.cweb_out.specs.Cycles.{cycle_from}
 use Rattle.cweb_out.specs.Ranks.{list_ends}
-use Rattle.cweb_out.specs.Outputs as spec
 use Rattle.cweb_out.specs.Outputs.{Planned, Refusal, bad_name, same_name, cycle, is_control, is_good_name, is_slash, names_no_file, output_name, output_of, root_list, start_of}
 use Rattle.cweb_out.specs.Plans.{output_in}
 use Rattle.cweb_out.specs.declared.planned.Output.{Output}

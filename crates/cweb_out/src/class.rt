@@ -90,7 +90,24 @@ fn of_last(last: u8) -> Class
 fn is_operator(byte: u8) -> bool
     ensures { result ≡ is_operator byte }
 {
-    b"+-*/%&|^!=<>.:#?".contains(&byte)
+    matches!(
+        byte,
+        b'+' | b'-'
+            | b'*'
+            | b'/'
+            | b'%'
+            | b'&'
+            | b'|'
+            | b'^'
+            | b'!'
+            | b'='
+            | b'<'
+            | b'>'
+            | b'.'
+            | b':'
+            | b'#'
+            | b'?'
+    )
 }
 
 fn begins_with_operator(bytes: &[u8]) -> bool
@@ -108,6 +125,6 @@ fn goes_on_in_number(bytes: &[u8]) -> bool
 {
     match bytes {
         [] => false,
-        [first, ..] => b".+-".contains(first),
+        [first, ..] => matches!(*first, b'.' | b'+' | b'-'),
     }
 }

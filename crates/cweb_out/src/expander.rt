@@ -75,6 +75,7 @@ impl<'a> Expander<'a> {
     }
 
     /// The next token: never a use of a name. Once it is none it stays so. It takes no memory.
+    #[inline(always)]
     pub fn next(&mut self) -> Option<Token<'a>>
         requires { Stands self.old.store.now self.old.frames.items (vec_capacity self.old.frames) }
         ensures stands { Stands self.new.store.now self.new.frames.items (vec_capacity self.new.frames) }

@@ -11,12 +11,13 @@ ghost use Rattle.cweb_out.specs.Writing.{Wrote};
 ghost use Rattle.std.specs.Prelude.{flat_map};
 
 use crate::left::Left;
-use crate::pieces::write_all;
+use crate::pieces::write_piece;
 use crate::text::write_plain;
 use cweb_files::{Sink, SinkFault};
 use cweb_store::{Part, Store, Token};
 
 /// Writes the lines of all macros, in their order.
+#[inline(never)]
 pub(crate) fn write_macros<W: Sink>(store: &Store, out: &mut W) -> Result<(), SinkFault>
     requires { W.failed out.old + 1 < 2 ^ 64 }
     ensures tells { W.tells out.new ≡ W.tells out.old }
@@ -40,9 +41,9 @@ fn write_macro<W: Sink>(store: &Store, part: Part, out: &mut W) -> Result<(), Si
     ensures beside { IsTrue (W.tells out.old) → W.beside out.new ≡ W.beside out.old }
     ensures wrote { IsTrue (W.tells out.old) → Wrote (W.written out.old) (W.written out.new) (macro_line (replaced_in store.now) (run_tokens store.now part)) result }
 {
-    write_all(out, b"#define ")?;
+    write_piece(out, b"#define ")?;
     write_macro_tokens(store, part, out)?;
-    write_all(out, b"\n")
+    write_piece(out, b"\n")
 }
 
 fn write_macro_tokens<W: Sink>(store: &Store, part: Part, out: &mut W) -> Result<(), SinkFault>
@@ -78,8 +79,8 @@ fn write_macro_token<W: Sink>(
     if left.drops(token) {
         return Ok(());
     }
-    write_all(out, left.separator(token))?;
-    write_all(out, continued(token))?;
+    write_piece(out, left.separator(token))?;
+    write_piece(out, continued(token))?;
     write_plain(store, token, out)
 }
 

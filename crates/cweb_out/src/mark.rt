@@ -5,11 +5,12 @@ ghost use Rattle.cweb_files.specs.Device.{Counts};
 ghost use Rattle.cweb_out.specs.Printing.{mark_line, quoted, quoted_byte, wants_backslash};
 ghost use Rattle.cweb_out.specs.Writing.{Wrote};
 
-use crate::pieces::{write_all, write_pieces};
+use crate::pieces::{write_piece, write_pieces};
 use cweb_files::{Sink, SinkFault};
 use itoa::Buffer;
 
 /// Writes what begins the line, and the mark of a line of a file.
+#[inline(never)]
 pub(crate) fn write_mark<W: Sink>(
     begin: &[u8],
     name: &[u8],
@@ -28,7 +29,7 @@ pub(crate) fn write_mark<W: Sink>(
         &[begin, b"#line ", digits.format(line).as_bytes(), b" \""],
     )?;
     write_quoted(name, out)?;
-    write_all(out, b"\"\n")
+    write_piece(out, b"\"\n")
 }
 
 // Names mostly have no quote and no backslash, and are then written at once.
@@ -40,7 +41,7 @@ fn write_quoted<W: Sink>(name: &[u8], out: &mut W) -> Result<(), SinkFault>
     ensures wrote { IsTrue (W.tells out.old) → Wrote (W.written out.old) (W.written out.new) (quoted name.now) result }
 {
     if !has_quotable(name) {
-        return write_all(out, name);
+        return write_piece(out, name);
     }
     'bytes: for byte in name {
         write_quoted_byte(*byte, out)?;
@@ -56,9 +57,9 @@ fn write_quoted_byte<W: Sink>(byte: u8, out: &mut W) -> Result<(), SinkFault>
     ensures wrote { IsTrue (W.tells out.old) → Wrote (W.written out.old) (W.written out.new) (quoted_byte byte) result }
 {
     if wants_backslash(byte) {
-        write_all(out, &[b'\\', byte])
+        write_piece(out, &[b'\\', byte])
     } else {
-        write_all(out, &[byte])
+        write_piece(out, &[byte])
     }
 }
 
@@ -71,5 +72,5 @@ fn has_quotable(name: &[u8]) -> bool
 fn wants_backslash(byte: u8) -> bool
     ensures { result ≡ wants_backslash byte }
 {
-    b"\"\\".contains(&byte)
+    matches!(byte, b'"' | b'\\')
 }

@@ -12,7 +12,7 @@ use crate::class::Class;
 use crate::left::Left;
 use crate::macros::write_macros;
 use crate::mark::write_mark;
-use crate::pieces::write_all;
+use crate::pieces::write_piece;
 use crate::text::write_plain;
 use cweb_files::{Sink, SinkFault};
 use cweb_lines::FileNames;
@@ -43,6 +43,7 @@ impl<'a> Printer<'a> {
 
     /// Prints a token: what the tokens so far and this one print as has this more than what those before it do. A use of a
     /// name prints nothing. It takes no memory.
+    #[inline]
     pub fn write<W: Sink>(&mut self, token: Token<'_>, out: &mut W) -> Result<(), SinkFault>
         requires count { W.failed out.old + 1 < 2 ^ 64 }
         requires named { IsNamed (setting_of self.old) (seen token) }
@@ -68,7 +69,7 @@ impl<'a> Printer<'a> {
         ensures err { OnErr result (self.new ≡ self.old) }
         ensures ends { IsTrue (W.tells out.old) → Ends self.old (W.written out.old) (W.written out.new) result }
     {
-        write_all(out, self.begin_line())?;
+        write_piece(out, self.begin_line())?;
         self.left = Left::start();
         Ok(())
     }
@@ -100,12 +101,13 @@ impl<'a> Printer<'a> {
         if self.left.drops(token) {
             return Ok(());
         }
-        write_all(out, self.left.separator(token))?;
+        write_piece(out, self.left.separator(token))?;
         self.write_placed(token, out)?;
         write_plain(self.store, token, out)
     }
 
     // A line mark or the macro lines.
+    #[inline(always)]
     fn write_placed<W: Sink>(&self, token: &Token<'_>, out: &mut W) -> Result<(), SinkFault>
         requires count { W.failed out.old + 1 < 2 ^ 64 }
         requires named { IsNamed (setting_of self.now) (seen token.now) }
@@ -120,7 +122,7 @@ impl<'a> Printer<'a> {
                 write_mark(self.begin_line(), name, place.line, out)
             }
             Token::Defs => {
-                write_all(out, self.begin_line())?;
+                write_piece(out, self.begin_line())?;
                 write_macros(self.store, out)
             }
             _ => Ok(()),

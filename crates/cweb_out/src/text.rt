@@ -7,7 +7,7 @@ ghost use Rattle.cweb_out.specs.Printing.{numbered, plain_text, word_byte, word_
 ghost use Rattle.cweb_out.specs.Printers.{default_text, hex_digit, replaced_in};
 ghost use Rattle.cweb_out.specs.Writing.{Wrote};
 
-use crate::pieces::{write_all, write_pieces};
+use crate::pieces::{write_piece, write_pieces};
 use cweb_files::{Sink, SinkFault};
 use cweb_store::{Store, Token};
 use itoa::Buffer;
@@ -28,8 +28,8 @@ fn write_replaced<W: Sink>(store: &Store, byte: u8, out: &mut W) -> Result<(), S
     ensures wrote { IsTrue (W.tells out.old) → Wrote (W.written out.old) (W.written out.new) (replaced_in store.now byte) result }
 {
     match store.replacement(byte) {
-        Some(text) => write_all(out, text),
-        None => write_all(out, &[b'X', hex_digit(byte / 16), hex_digit(byte % 16)]),
+        Some(text) => write_piece(out, text),
+        None => write_piece(out, &[b'X', hex_digit(byte / 16), hex_digit(byte % 16)]),
     }
 }
 
@@ -43,7 +43,7 @@ fn write_word_byte<W: Sink>(store: &Store, byte: u8, out: &mut W) -> Result<(), 
     if byte >= 128 {
         write_replaced(store, byte, out)
     } else {
-        write_all(out, &[byte])
+        write_piece(out, &[byte])
     }
 }
 
@@ -55,9 +55,21 @@ fn write_word<W: Sink>(store: &Store, bytes: &[u8], out: &mut W) -> Result<(), S
     ensures beside { IsTrue (W.tells out.old) → W.beside out.new ≡ W.beside out.old }
     ensures wrote { IsTrue (W.tells out.old) → Wrote (W.written out.old) (W.written out.new) (word_text (replaced_in store.now) bytes.now) result }
 {
-    if !has_high_byte(bytes) {
-        return write_all(out, bytes);
+    if has_high_byte(bytes) {
+        write_word_bytes(store, bytes, out)
+    } else {
+        write_piece(out, bytes)
     }
+}
+
+#[inline(never)]
+fn write_word_bytes<W: Sink>(store: &Store, bytes: &[u8], out: &mut W) -> Result<(), SinkFault>
+    requires { W.failed out.old + 1 < 2 ^ 64 }
+    ensures tells { W.tells out.new ≡ W.tells out.old }
+    ensures failed { Counts (W.failed out.old) (W.failed out.new) result }
+    ensures beside { IsTrue (W.tells out.old) → W.beside out.new ≡ W.beside out.old }
+    ensures wrote { IsTrue (W.tells out.old) → Wrote (W.written out.old) (W.written out.new) (word_text (replaced_in store.now) bytes.now) result }
+{
     'bytes: for byte in bytes {
         write_word_byte(store, *byte, out)?;
     }
@@ -70,6 +82,7 @@ fn has_high_byte(bytes: &[u8]) -> bool
     bytes.iter().any(|byte| *byte >= 128)
 }
 
+#[inline(never)]
 fn write_numbered<W: Sink>(
     before: &[u8],
     section: u32,
@@ -87,6 +100,7 @@ fn write_numbered<W: Sink>(
 }
 
 /// Writes the text of a token; that of a use, Defs or a line mark is nothing here.
+#[inline(always)]
 pub(crate) fn write_plain<W: Sink>(
     store: &Store,
     token: &Token<'_>,
@@ -100,14 +114,14 @@ pub(crate) fn write_plain<W: Sink>(
 {
     match token {
         Token::Word(bytes) => write_word(store, bytes, out),
-        Token::Number(bytes) => write_all(out, bytes),
-        Token::Literal(bytes) => write_all(out, bytes),
-        Token::Verbatim(bytes) => write_all(out, bytes),
-        Token::Punct(bytes) => write_all(out, bytes),
-        Token::Blank => write_all(out, b" "),
-        Token::Newline => write_all(out, b"\n"),
+        Token::Number(bytes) => write_piece(out, bytes),
+        Token::Literal(bytes) => write_piece(out, bytes),
+        Token::Verbatim(bytes) => write_piece(out, bytes),
+        Token::Punct(bytes) => write_piece(out, bytes),
+        Token::Blank => write_piece(out, b" "),
+        Token::Newline => write_piece(out, b"\n"),
         Token::Head(section) => write_numbered(b"/*", *section, b":*/", out),
         Token::Tail(section) => write_numbered(b"/*:", *section, b"*/", out),
-        Token::Join | Token::Defs | Token::Name(_) | Token::Mark(_) => write_all(out, b""),
+        Token::Join | Token::Defs | Token::Name(_) | Token::Mark(_) => Ok(()),
     }
 }

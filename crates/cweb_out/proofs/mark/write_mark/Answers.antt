@@ -44,4 +44,4 @@ returns-clause-wrote g c = λ tells.
     let first = written_more old old mid whole _ (quoted c.args.name.now ++ codes "\"\n")
     (subst (λ (t : List ℕ). Written old old whole t) is (written_none old whole)) (c.in_ok-write_pieces.ensures.wrote tells) in
     let second = written_more old mid next whole (quoted c.args.name.now) (codes "\"\n") first (c.in_ok-write_quoted.ensures.wrote tells_mid) in
-    written_last old next (g.W.Sink.written c.write_all.new.out) whole (codes "\"\n") c.write_all.result second (c.write_all.ensures.wrote tells_next)
+    written_last old next (g.W.Sink.written c.write_piece.new.out) whole (codes "\"\n") c.write_piece.result second (c.write_piece.ensures.wrote tells_next)

@@ -1,4 +1,4 @@
-use Rattle.std.proofs.Common.{◌≡◌, ◌<◌, ◌∙◌, ap, sym, arith, refl, length, true, false}
+use Rattle.std.proofs.Common.{◌<◌, ◌∙◌, ap, sym, arith, refl, length}
 use Rattle.std.specs.Prelude.{bytes_eq}
 use Rattle.cweb_store.specs.Names as spec
 use Rattle.cweb_store.specs.Names.{id}

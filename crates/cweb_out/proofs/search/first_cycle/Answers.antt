@@ -1,4 +1,4 @@
-use Rattle.std.proofs.Common.{◌∙◌, ap, refl, not}
+use Rattle.std.proofs.Common.{ap, refl, not}
 use Rattle.cweb_out.specs.Planning.{is_endless}
 use Rattle.cweb_out.proofs.Finds.{find-more}
 use Rattle.cweb_out.proofs.PlanLemmas.{cycle-found}

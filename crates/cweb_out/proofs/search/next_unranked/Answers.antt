@@ -1,10 +1,10 @@
-use Rattle.std.proofs.Common.{rules, ◌≡◌, ◌∙◌, ◌∷◌, [], ap, sym, arith, true, ◌&&◌, refl, length}
+use Rattle.std.proofs.Common.{rules, ◌≡◌, ◌∙◌, ap, sym, arith, true, ◌&&◌, length}
 use Rattle.std.specs.Prelude.{option_to_list}
 use Rattle.std.specs.List.{list_all}
 use Rattle.cweb_store.specs.Seen.{seen}
 use Rattle.cweb_out.specs.Frames.{suffix}
 use Rattle.cweb_out.specs.Search.{is_marked}
-use Rattle.cweb_out.proofs.Searches.{passes-more}
+use Rattle.cweb_out.proofs.Lookings.{passes-more}
 use Rattle.cweb_out.proofs.search.next_unranked.Goals as goal
 
 pub tokens-preserved-else-not-is_ranked : goal.tokens-preserved-else-not-is_ranked

@@ -1,5 +1,4 @@
-use Rattle.std.proofs.Common.{◌≡◌, ◌≤◌, length}
-use Rattle.cweb_out.specs.Uses.{names}
+use Rattle.std.proofs.Common.{◌≤◌, length}
 use Rattle.cweb_out.specs.Frames.{IsWithin, suffix}
 use Rattle.cweb_out.specs.Search.{Passes}
 use Rattle.cweb_out.proofs.search.next_unranked.Given as goal

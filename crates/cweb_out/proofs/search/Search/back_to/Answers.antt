@@ -1,7 +1,7 @@
-use Rattle.std.proofs.Common.{rules, ◌∙◌, ap, sym, ◌≡◌, take, length, List, get_or}
+use Rattle.std.proofs.Common.{rules, ◌∙◌, ap, sym, List, get_or}
 use Rattle.cweb_out.specs.declared.search.Waiting.{Waiting}
-use Rattle.cweb_out.specs.Search.{path_of, with_next}
-use Rattle.cweb_out.proofs.Searches.{from_first, from-more}
+use Rattle.cweb_out.specs.Search.{with_next}
+use Rattle.cweb_out.proofs.Walks.{from-more}
 use Rattle.cweb_out.proofs.search.Search.back_to.Goals as goal
 
 pub path-preserved : goal.path-preserved

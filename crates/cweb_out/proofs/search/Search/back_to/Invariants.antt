@@ -1,8 +1,6 @@
-use Rattle.std.proofs.Common.{◌≡◌, take, drop}
-use Rattle.std.specs.List.{position_or_len}
-use Rattle.cweb_store.specs.Names.{is_id}
+use Rattle.std.proofs.Common.{◌≡◌, take}
 use Rattle.cweb_out.specs.Search.{path_of}
-use Rattle.cweb_out.proofs.Searches.{from_first}
+use Rattle.cweb_out.proofs.Walks.{from_first}
 use Rattle.cweb_out.proofs.search.Search.back_to.Given as goal
 
 abbrev pub invariant-path : goal.invariant-path

@@ -1,7 +1,7 @@
-use Rattle.std.proofs.Common.{rules, refl, ◌++◌, ◌∷◌, [], List}
-use Rattle.cweb_store.specs.Calls.{Stored}
+use Rattle.std.proofs.Common.{refl}
 use Rattle.cweb_out.specs.declared.search.Waiting.{Waiting}
-use Rattle.cweb_out.proofs.Searches.{top-within, fits-swap, goes-ranked, goes-back, goes-on}
+use Rattle.cweb_out.proofs.Waits.{top-within, fits-swap}
+use Rattle.cweb_out.proofs.Searches.{goes-ranked, goes-back, goes-on}
 use Rattle.cweb_out.proofs.search.Search.go_on.Goals as goal
 
 pub next_unranked-requires-clause-within : goal.next_unranked-requires-clause-within

@@ -1,10 +1,11 @@
-use Rattle.std.proofs.Common.{rules, ◌≡◌, ◌++◌, ◌∷◌, [], List, sym, subst, true}
+use Rattle.std.proofs.Common.{◌≡◌, ◌++◌, ◌∷◌, [], List, sym, subst, true}
 use Rattle.std.specs.List.{list_any}
 use Rattle.cweb_store.specs.Names.{is_id}
 use Rattle.cweb_store.specs.Calls.{Stored}
 use Rattle.cweb_out.specs.Search.{Begins, IsEndless, path_of}
 use Rattle.cweb_out.specs.declared.search.Waiting.{Waiting}
-use Rattle.cweb_out.proofs.Searches.{top-name, on-top, path-cycle}
+use Rattle.cweb_out.proofs.Waits.{top-name, on-top}
+use Rattle.cweb_out.proofs.Walks.{path-cycle}
 use Rattle.cweb_out.proofs.search.Search.settle.Goals as goal
 
 pub go_on-requires-clause-name : goal.go_on-requires-clause-name

@@ -1,4 +1,3 @@
-use Rattle.std.proofs.Common.{rules}
 use Rattle.cweb_store.specs.Calls.{Stored}
 use Rattle.cweb_out.proofs.Searches.{settled}
 use Rattle.cweb_out.proofs.search.Search.settle_list.Goals as goal

@@ -1,13 +1,11 @@
-use Rattle.std.proofs.Common.{rules, refl, None, Some, [], ap, ◌≡◌, true, ◌∙◌}
-use Rattle.std.specs.List.{list_all}
+use Rattle.std.proofs.Common.{refl, None, [], ◌∙◌}
 use Rattle.cweb_store.specs.Calls.{Stored}
-use Rattle.cweb_out.specs.Uses.{uses}
 use Rattle.cweb_out.specs.Frames.{suffix}
 use Rattle.cweb_out.specs.Outputs.{root_list}
-use Rattle.cweb_out.specs.Search.{Looked, Meets, Settles}
-use Rattle.cweb_out.proofs.Searches.{looked-more, looked-on, looked-all, looked-start, program-endless}
+use Rattle.cweb_out.specs.Search.{Meets}
+use Rattle.cweb_out.proofs.Lookings.{looked-more, looked-on, looked-all}
+use Rattle.cweb_out.proofs.Searches.{program-endless}
 use Rattle.cweb_out.proofs.search.Search.settle_program.Goals as goal
-use Rattle.cweb_out.proofs.search.Search.settle_program.Given as given
 
 pub returns-in-Some-2-clause-settles : goal.returns-in-Some-2-clause-settles
 returns-in-Some-2-clause-settles c =

@@ -1,7 +1,7 @@
-use Rattle.std.proofs.Common.{rules, refl}
+use Rattle.std.proofs.Common.{refl}
 use Rattle.cweb_store.specs.Calls.{Stored}
 use Rattle.cweb_out.specs.declared.search.Waiting.{Waiting}
-use Rattle.cweb_out.proofs.Searches.{waited-fits}
+use Rattle.cweb_out.proofs.Waits.{waited-fits}
 use Rattle.cweb_out.proofs.search.Search.wait.Goals as goal
 
 pub returns-clause-waits : goal.returns-clause-waits

@@ -2,7 +2,7 @@ use Rattle.std.proofs.Common.{◌≡◌, ◌++◌, take}
 use Rattle.std.specs.Prelude.{IsTrue}
 use Rattle.cweb_out.specs.Printing.{word_text}
 use Rattle.cweb_out.specs.Printers.{replaced_in}
-use Rattle.cweb_out.proofs.text.write_word.Given as goal
+use Rattle.cweb_out.proofs.text.write_word_bytes.Given as goal
 
 abbrev pub invariant-bytes : goal.invariant-bytes
 invariant-bytes g l = record {
