@@ -7,6 +7,7 @@ CTANGLE := crates/ctangle/out/ctangle
 WMERGE := crates/wmerge/out/wmerge
 OUTPUTS := crates/bench_out/out/bench_out
 SCANS := crates/bench_scan/out/bench_scan
+STORES := crates/bench_store/out/bench_store
 SOURCES := crates.txt $(shell find crates -name out -prune -o -type f \( -name '*.rt' -o -name '*.antt' \) -print)
 
 .PHONY: help demo check format build faults install uninstall bench clean
@@ -20,7 +21,7 @@ help:
 	@echo 'make check      the gate: proves every crate from nothing, and runs all tests and programs'
 	@echo 'make format     formats every crate: the gate refuses one that rt fmt would change'
 	@echo 'make faults     runs the programs while their reads, writes, openings and allocations fail, one after the other'
-	@echo 'make bench      measures time, memory and instructions of the programs on generated webs, and what scans and outputs cost'
+	@echo 'make bench      measures time, memory and instructions of the programs on generated webs, and what scans, stores and outputs cost'
 	@echo 'make clean      removes what make demo and make bench wrote'
 
 build: $(WMERGE) $(CTANGLE)
@@ -78,11 +79,17 @@ $(SCANS): $(SOURCES)
 	@cd crates/bench_scan && rt run > out/build.log 2>&1 || { tail -n 20 out/build.log >&2; exit 1; }
 	@touch $@
 
-bench: build $(OUTPUTS) $(SCANS)
+$(STORES): $(SOURCES)
+	@mkdir -p $(@D)
+	@cd crates/bench_store && rt run > out/build.log 2>&1 || { tail -n 20 out/build.log >&2; exit 1; }
+	@touch $@
+
+bench: build $(OUTPUTS) $(SCANS) $(STORES)
 	@bench/run $(WMERGE)
 	@bench/run_tangle $(CTANGLE)
 	@bench/outputs $(OUTPUTS)
 	@bench/run_scan $(SCANS)
+	@bench/store $(STORES)
 
 clean:
 	rm -rf bench/work examples/work

@@ -1,11 +1,15 @@
-//! Gives a builder many names and as many abbreviations, and says what they stand for. With a number as argument it says
-//! how long that took, for so many names and for twice as many.
+//! Gives a builder many Words, many names with as many abbreviations, or many parts of one name, and asks its store for all
+//! of them. Without arguments it says what small ones answer. With a shape, a number and a step (`draw`, `give`, `finish` or
+//! `ask`) it goes so far with a large one, so that the cost of a step is that of two runs apart.
 #![tactic(auto)]
 
-mod filled;
-mod timing;
+mod answers;
+mod shape;
+mod web;
 
-use anyhow::{Context, Result, ensure};
+use anyhow::{Context, Result, bail};
+use shape::Shape;
+use std::alloc::Global;
 use std::env;
 
 const SMALL: u32 = 500;
@@ -13,19 +17,42 @@ const SMALL: u32 = 500;
 fn main(rt: HostRuntime) -> Result<()> {
     let mut words = env::args(&rt)?;
     let _program = words.next();
-    let Some(word) = words.next() else {
-        let store = filled::filled(rt.alloc(), SMALL)?.finish()?;
-        let names = store.names();
-        let faults = store.name_faults().len();
-        let standing = filled::standing_count(&store, SMALL);
-        println!(rt; "{names} names, {faults} faults")?;
-        println!(rt; "{standing} of {SMALL} abbreviations stand for a name")?;
-        return Ok(());
+    let Some(shape) = words.next() else {
+        show(&rt, rt.alloc(), "words", SMALL, "ask")?;
+        show(&rt, rt.alloc(), "names", SMALL, "ask")?;
+        return show(&rt, rt.alloc(), "parts", SMALL, "ask");
     };
-    let count = word
-        .as_str()
-        .parse::<u32>()
-        .context("reading the number of names")?;
-    ensure!(count <= 1_000_000, "too many names");
-    timing::show(&rt, rt.alloc(), count)
+    let count = words.next().context("a number is missing")?;
+    let count = count.as_str().parse::<u32>().context("reading the number")?;
+    let step = words.next().context("a step is missing")?;
+    show(&rt, rt.alloc(), shape.as_str(), count, step.as_str())
+}
+
+// Goes up to a step, and says what there is then.
+fn show(rt: &impl Print, alloc: Global, shape: &str, count: u32, step: &str) -> Result<()> {
+    let Some(shape) = Shape::of(shape) else {
+        bail!("no such shape");
+    };
+    let vocabulary = web::vocabulary(alloc)?;
+    if step == "draw" {
+        let bytes = web::drawn_bytes(&vocabulary, count);
+        println!(rt; "{bytes} bytes drawn")?;
+        return Ok(());
+    }
+    let web = web::filled(alloc, shape, &vocabulary, count)?;
+    if step == "give" {
+        return Ok(());
+    }
+    let store = web.finish()?;
+    let tokens = store.tokens();
+    let bytes = store.text_bytes();
+    let names = store.names();
+    let faults = store.name_faults().len();
+    println!(rt; "{tokens} tokens, {bytes} bytes of text, {names} names, {faults} faults")?;
+    if step == "finish" {
+        return Ok(());
+    }
+    let answered = answers::of(&store, shape, count);
+    println!(rt; "{answered} answered")?;
+    Ok(())
 }

@@ -1,0 +1,53 @@
+// What stores are asked.
+
+use crate::shape::Shape;
+use cweb_store::{NameId, NameRef, Store, Token};
+
+/// How much a store answers of what it was given much of: the bytes of all its Words, the abbreviations that stand for a name,
+/// or the parts of the name.
+pub fn of(store: &Store, shape: Shape, count: u32) -> u64 {
+    match shape {
+        Shape::Words => bytes_of_words(store),
+        Shape::Names => standing_abbreviations(store, count),
+        Shape::Parts => parts_of_first(store),
+    }
+}
+
+fn bytes_of_words(store: &Store) -> u64 {
+    let mut bytes: u64 = 0;
+    for number in 0..store.tokens() {
+        if let Token::Word(text) = store.token(number) {
+            bytes = bytes.saturating_add(text.len() as u64);
+        }
+    }
+    bytes
+}
+
+// One half of the abbreviations comes before the names, the other half behind them.
+fn standing_abbreviations(store: &Store, count: u32) -> u64 {
+    let half = count / 2;
+    let late = half.saturating_add(count);
+    standing_from(store, 0, half).saturating_add(standing_from(
+        store,
+        late,
+        late.saturating_add(half),
+    ))
+}
+
+fn standing_from(store: &Store, first: u32, after: u32) -> u64 {
+    let mut standing: u64 = 0;
+    for number in first..after {
+        if store.standing(NameRef(number)).is_some() {
+            standing = standing.saturating_add(1);
+        }
+    }
+    standing
+}
+
+fn parts_of_first(store: &Store) -> u64 {
+    let mut count: u64 = 0;
+    for _part in store.parts(NameId(0)) {
+        count = count.saturating_add(1);
+    }
+    count
+}
