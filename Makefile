@@ -20,7 +20,8 @@ help:
 	@echo 'make uninstall  removes what make install copied'
 	@echo 'make check      the gate: proves every crate from nothing, and runs all tests and programs'
 	@echo 'make format     formats every crate: the gate refuses one that rt fmt would change'
-	@echo 'make faults     runs the programs while their reads, writes, openings and allocations fail, one after the other'
+	@echo 'make faults     runs the programs while their reads, writes, openings and allocations fail, one after the other, and on'
+	@echo '                hostile webs and folders'
 	@echo 'make bench      measures time, memory and instructions of the programs on generated webs, and what scans, stores and outputs cost'
 	@echo 'make clean      removes what make demo and make bench wrote'
 
@@ -59,6 +60,7 @@ format:
 faults: build
 	@tests/faults $(WMERGE)
 	@tests/tangle_faults $(CTANGLE)
+	@tests/folders $(CTANGLE) $(WMERGE)
 
 install: build
 	install -d $(DESTDIR)$(BINDIR) $(DESTDIR)$(MANDIR)/man1
