@@ -55,7 +55,8 @@ impl<R: Files + Drop> Shelf for FolderShelf<R> {
         requires { shelf_failures self.old + 1 < 2 ^ 64 }
         ensures failed { Counts (shelf_failures self.old) (shelf_failures self.new) result }
         ensures within { IfOk result (λ n. n ≤ length piece.new) }
-        ensures passes { ReadConsumes (R.File.remaining reader.old) (R.File.remaining reader.new) result piece.new }
+        ensures passes { ReadConsumes (R.File.remaining reader.old)
+            (R.File.remaining reader.new) result piece.new }
     {
         let read = read_once(reader, piece);
         if read.is_err() {
@@ -69,8 +70,8 @@ impl<R: Files + Drop> Shelf for FolderShelf<R> {
     }
 }
 
-/// One read, begun anew where a signal broke it off.
-pub(crate) fn read_once<F: Read>(file: &mut F, piece: &mut [u8]) -> Result<usize, ShelfFault>
+/// One read of a file, begun anew where a signal broke it off: the bytes that it answers are the next ones of the file.
+pub fn read_once<F: Read>(file: &mut F, piece: &mut [u8]) -> Result<usize, ShelfFault>
     ensures within { IfOk result (λ n. n ≤ length piece.new) }
     ensures passes { ReadConsumes (F.remaining file.old) (F.remaining file.new) result piece.new }
 {
@@ -118,7 +119,8 @@ impl<W: Write + Drop> Sink for StdSink<W> {
         ensures failed { Counts (sink_failures self.old) (sink_failures self.new) result }
         ensures within { IfOk result (λ n. n ≤ length piece.now) }
         ensures some { 0 < length piece.now → IfOk result (λ n. 0 < n) }
-        ensures passes { WriteAppends (W.contents (stream_of self.old)) (W.contents (stream_of self.new)) result piece.now }
+        ensures passes { WriteAppends (W.contents (stream_of self.old))
+            (W.contents (stream_of self.new)) result piece.now }
     {
         let taken = write_once(&mut self.stream, piece);
         if taken.is_err() {

@@ -19,7 +19,8 @@ pub fn write_faults<L: Sink>(
 ) -> Result<(), SinkFault>
     requires count { L.failed log.old + 1 < 2 ^ 64 }
     requires known { All (λ fault. fault.place.file.0 < length (names_of names.now)) faults.now }
-    ensures { Writes (fault_lines (names_of names.now) faults.now) (seen_stream L.Sink log.old) (seen_stream L.Sink log.new) result }
+    ensures { Writes (fault_lines (names_of names.now) faults.now)
+        (seen_stream L.Sink log.old) (seen_stream L.Sink log.new) result }
 {
     let mut gathered = Gathered::new();
     'faults: for fault in faults {
@@ -36,7 +37,9 @@ fn add_fault<L: Sink>(
 ) -> Result<(), SinkFault>
     requires count { L.failed log.old + 1 < 2 ^ 64 }
     requires known { fault.now.place.file.0 < length (names_of names.now) }
-    ensures { GathersMore (fault_line (names_of names.now) fault.now) (seen_stream L.Sink log.old) (seen_stream L.Sink log.new) (pending gathered.old) (pending gathered.new) result }
+    ensures { GathersMore (fault_line (names_of names.now) fault.now)
+        (seen_stream L.Sink log.old) (seen_stream L.Sink log.new)
+        (pending gathered.old) (pending gathered.new) result }
 {
     let file = names.get(fault.place.file);
     let text = kind_text(fault.kind);
@@ -68,8 +71,10 @@ pub(crate) fn add_located<L: Sink>(
     count: &str,
 ) -> Result<(), SinkFault>
     requires { L.failed log.old + 1 < 2 ^ 64 }
-    ensures { GathersMore (located_line file.now line.now (text.now ++ (sign.now ++ (count.now ++ codes "\n"))))
-        (seen_stream L.Sink log.old) (seen_stream L.Sink log.new) (pending gathered.old) (pending gathered.new) result }
+    ensures { GathersMore
+        (located_line file.now line.now (text.now ++ (sign.now ++ (count.now ++ codes "\n"))))
+        (seen_stream L.Sink log.old) (seen_stream L.Sink log.new)
+        (pending gathered.old) (pending gathered.new) result }
 {
     gathered.add_line(
         log,

@@ -36,7 +36,9 @@ impl Gathered {
         parts: &[&[u8]],
     ) -> Result<(), SinkFault>
         requires { L.failed log.old + 1 < 2 ^ 64 }
-        ensures { GathersMore (joined parts.now) (seen_stream L.Sink log.old) (seen_stream L.Sink log.new) (pending self.old) (pending self.new) result }
+        ensures { GathersMore (joined parts.now)
+            (seen_stream L.Sink log.old) (seen_stream L.Sink log.new)
+            (pending self.old) (pending self.new) result }
     {
         'parts: for part in parts {
             self.add(log, part)?;
@@ -48,7 +50,9 @@ impl Gathered {
     /// the array.
     pub(crate) fn add<L: Sink>(&mut self, log: &mut L, part: &[u8]) -> Result<(), SinkFault>
         requires { L.failed log.old + 1 < 2 ^ 64 }
-        ensures { GathersMore part.now (seen_stream L.Sink log.old) (seen_stream L.Sink log.new) (pending self.old) (pending self.new) result }
+        ensures { GathersMore part.now
+            (seen_stream L.Sink log.old) (seen_stream L.Sink log.new)
+            (pending self.old) (pending self.new) result }
     {
         if part.len() > ROOM - self.len {
             self.pass_on(log)?;
@@ -73,7 +77,8 @@ impl Gathered {
     /// Writes what was gathered.
     pub(crate) fn pass_on<L: Sink>(&mut self, log: &mut L) -> Result<(), SinkFault>
         requires { L.failed log.old + 1 < 2 ^ 64 }
-        ensures writes { Writes (pending self.old) (seen_stream L.Sink log.old) (seen_stream L.Sink log.new) result }
+        ensures writes { Writes (pending self.old)
+            (seen_stream L.Sink log.old) (seen_stream L.Sink log.new) result }
         ensures empty { OnOk result (pending self.new ≡ []) }
     {
         write_all(log, &self.bytes[..self.len])?;
@@ -85,7 +90,8 @@ impl Gathered {
 /// Writes a line that is these parts, in one piece where it is not very long.
 pub(crate) fn say<L: Sink>(log: &mut L, parts: &[&[u8]]) -> Result<(), SinkFault>
     requires { L.failed log.old + 1 < 2 ^ 64 }
-    ensures { Writes (joined parts.now) (seen_stream L.Sink log.old) (seen_stream L.Sink log.new) result }
+    ensures { Writes (joined parts.now)
+        (seen_stream L.Sink log.old) (seen_stream L.Sink log.new) result }
 {
     let mut gathered = Gathered::new();
     gathered.add_line(log, parts)?;

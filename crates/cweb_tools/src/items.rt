@@ -13,7 +13,8 @@ use itoa::Buffer;
 /// Writes the banner.
 pub fn write_banner<L: Sink>(log: &mut L) -> Result<(), SinkFault>
     requires { L.failed log.old + 1 < 2 ^ 64 }
-    ensures { Writes (line banner) (seen_stream L.Sink log.old) (seen_stream L.Sink log.new) result }
+    ensures { Writes (line banner)
+        (seen_stream L.Sink log.old) (seen_stream L.Sink log.new) result }
 {
     say(log, &[b"This is CTANGLE, profile of CWEB 3\n"])
 }
@@ -21,7 +22,8 @@ pub fn write_banner<L: Sink>(log: &mut L) -> Result<(), SinkFault>
 /// Writes a star and the number of each section, on one line.
 pub fn write_starred<L: Sink>(log: &mut L, numbers: &[u32]) -> Result<(), SinkFault>
     requires { L.failed log.old + 1 < 2 ^ 64 }
-    ensures { Writes (line (starred numbers.now)) (seen_stream L.Sink log.old) (seen_stream L.Sink log.new) result }
+    ensures { Writes (line (starred numbers.now))
+        (seen_stream L.Sink log.old) (seen_stream L.Sink log.new) result }
 {
     let mut gathered = Gathered::new();
     add_stars(&mut gathered, log, numbers)?;
@@ -35,7 +37,9 @@ fn add_stars<L: Sink>(
     numbers: &[u32],
 ) -> Result<(), SinkFault>
     requires { L.failed log.old + 1 < 2 ^ 64 }
-    ensures { GathersMore (flat_map star numbers.now) (seen_stream L.Sink log.old) (seen_stream L.Sink log.new) (pending gathered.old) (pending gathered.new) result }
+    ensures { GathersMore (flat_map star numbers.now)
+        (seen_stream L.Sink log.old) (seen_stream L.Sink log.new)
+        (pending gathered.old) (pending gathered.new) result }
 {
     'numbers: for number in numbers {
         add_star(gathered, log, *number)?;
@@ -45,7 +49,9 @@ fn add_stars<L: Sink>(
 
 fn add_star<L: Sink>(gathered: &mut Gathered, log: &mut L, number: u32) -> Result<(), SinkFault>
     requires { L.failed log.old + 1 < 2 ^ 64 }
-    ensures { GathersMore (star number) (seen_stream L.Sink log.old) (seen_stream L.Sink log.new) (pending gathered.old) (pending gathered.new) result }
+    ensures { GathersMore (star number)
+        (seen_stream L.Sink log.old) (seen_stream L.Sink log.new)
+        (pending gathered.old) (pending gathered.new) result }
 {
     gathered.add(log, b"*")?;
     let mut digits = Buffer::new();
@@ -55,7 +61,8 @@ fn add_star<L: Sink>(gathered: &mut Gathered, log: &mut L, number: u32) -> Resul
 /// Writes that the web has no program text.
 pub fn write_no_text<L: Sink>(log: &mut L) -> Result<(), SinkFault>
     requires { L.failed log.old + 1 < 2 ^ 64 }
-    ensures { Writes (line no_text) (seen_stream L.Sink log.old) (seen_stream L.Sink log.new) result }
+    ensures { Writes (line no_text)
+        (seen_stream L.Sink log.old) (seen_stream L.Sink log.new) result }
 {
     say(log, &[b"! No program text\n"])
 }
@@ -63,7 +70,8 @@ pub fn write_no_text<L: Sink>(log: &mut L) -> Result<(), SinkFault>
 /// Writes that an output of this name is begun.
 pub fn write_writing<L: Sink>(log: &mut L, name: &str) -> Result<(), SinkFault>
     requires { L.failed log.old + 1 < 2 ^ 64 }
-    ensures { Writes (line (writing name.now)) (seen_stream L.Sink log.old) (seen_stream L.Sink log.new) result }
+    ensures { Writes (line (writing name.now))
+        (seen_stream L.Sink log.old) (seen_stream L.Sink log.new) result }
 {
     say(log, &[b"Writing ", name.as_bytes(), b"\n"])
 }
@@ -76,7 +84,8 @@ pub fn write_counts<L: Sink>(
     macros: u32,
 ) -> Result<(), SinkFault>
     requires { L.failed log.old + 1 < 2 ^ 64 }
-    ensures { Writes (line (counts sections names macros)) (seen_stream L.Sink log.old) (seen_stream L.Sink log.new) result }
+    ensures { Writes (line (counts sections names macros))
+        (seen_stream L.Sink log.old) (seen_stream L.Sink log.new) result }
 {
     let mut of_sections = Buffer::new();
     let mut of_names = Buffer::new();
@@ -98,7 +107,8 @@ pub fn write_counts<L: Sink>(
 /// Writes the closing line, by the number of faults and whether there is no program text, which is a warning.
 pub fn write_closing<L: Sink>(log: &mut L, count: u128, missing: bool) -> Result<(), SinkFault>
     requires { L.failed log.old + 1 < 2 ^ 64 }
-    ensures { Writes (line (closing count missing)) (seen_stream L.Sink log.old) (seen_stream L.Sink log.new) result }
+    ensures { Writes (line (closing count missing))
+        (seen_stream L.Sink log.old) (seen_stream L.Sink log.new) result }
 {
     if count == 0 {
         if missing {

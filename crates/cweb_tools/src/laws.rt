@@ -9,18 +9,22 @@ ghost use Rattle.cweb_tools.specs.declared.shown.Shown.{Shown};
 /// The files that were committed are the first of those that are due, in their order, each whole; all others are as before.
 pub fn committed_files_are_the_first_of_those_due()
     ensures { (shown : Shown) (course : TangleCourse) (due : ℕ) (old new : Held) (status : ℕ) →
-        TangleEnds (script shown course) due old new status → LeavesFiles (tangle_files shown course) old.files new.files }
+        TangleEnds (script shown course) due old new status →
+        LeavesFiles (tangle_files shown course) old.files new.files }
 {}
 
 /// A plan that is refused leaves all files as they were.
 pub fn refused_plans_write_no_file()
-    ensures { (shown : Shown) (names : List (List ℕ)) (lines : List SourceLine) (web : Web) (text : List ℕ) → web.plan ≡ refused text →
+    ensures { (shown : Shown) (names : List (List ℕ)) (lines : List SourceLine) (web : Web)
+        (text : List ℕ) → web.plan ≡ refused text →
         (due : ℕ) (old new : Held) (status : ℕ) →
-        TangleEnds (script shown (tangling names lines web)) due old new status → new.files ≡ old.files }
+        TangleEnds (script shown (tangling names lines web)) due old new status →
+        new.files ≡ old.files }
 {}
 
 /// Where there was no draft before a run, there is none behind it.
 pub fn no_draft_remains()
-    ensures { (shown : Shown) (course : TangleCourse) (due : ℕ) (old new : Held) (status : ℕ) → old.draft ≡ None →
+    ensures { (shown : Shown) (course : TangleCourse) (due : ℕ) (old new : Held) (status : ℕ) →
+        old.draft ≡ None →
         TangleEnds (script shown course) due old new status → new.draft ≡ None }
 {}

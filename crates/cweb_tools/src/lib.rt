@@ -22,7 +22,7 @@ mod wmerge;
 mod words;
 
 pub use bins::FolderBins;
-pub use devices::{FolderShelf, StdSink};
+pub use devices::{FolderShelf, StdSink, read_once};
 pub use faults::write_faults;
 pub use items::{
     write_banner, write_closing, write_counts, write_no_text, write_starred, write_writing,
@@ -34,6 +34,3 @@ pub use tangle::run_ctangle;
 pub use web_faults::{write_name_faults, write_plan_fault, write_scan_faults};
 pub use wmerge::run_wmerge;
 pub use words::MergeWords;
-
-#[cfg(test)]
-mod tests;

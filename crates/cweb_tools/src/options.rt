@@ -29,8 +29,10 @@ impl Options {
 
     /// Reads the words, without the program's own name. They are judged before memory is taken.
     pub fn read(alloc: Global, words: &[&str]) -> Result<Options, Stop>
-        ensures ok { IfOk result (λ read. options_by (map (λ word. word.now) words.now) ≡ Some (options_of read)) }
-        ensures usage { IsErrOf result Stop.Usage ↔ (options_by (map (λ word. word.now) words.now) ≡ None) }
+        ensures ok { IfOk result (λ read. options_by (map (λ word. word.now) words.now) ≡
+            Some (options_of read)) }
+        ensures usage { IsErrOf result Stop.Usage ↔
+            (options_by (map (λ word. word.now) words.now) ≡ None) }
         ensures stops { IfErr result (λ stop. (stop ≡ Stop.Usage) ⊎ (stop ≡ Stop.Memory)) }
     {
         let Some(shown) = Shown::read(words) else {
@@ -85,9 +87,12 @@ impl Options {
         change: Option<&str>,
         out: Option<&str>,
     ) -> Result<Options, Stop>
-        ensures ok { IfOk result (λ read. named_by web.now (option_copied change.entry) (option_copied out.entry) ≡ Some (options_of read).names) }
+        ensures ok { IfOk result (λ read.
+            named_by web.now (option_copied change.entry) (option_copied out.entry) ≡
+            Some (options_of read).names) }
         ensures shown { IfOk result (λ read. (options_of read).shown ≡ shown) }
-        ensures usage { IsErrOf result Stop.Usage ↔ (named_by web.now (option_copied change.entry) (option_copied out.entry) ≡ None) }
+        ensures usage { IsErrOf result Stop.Usage ↔
+            (named_by web.now (option_copied change.entry) (option_copied out.entry) ≡ None) }
         ensures stops { IfErr result (λ stop. (stop ≡ Stop.Usage) ⊎ (stop ≡ Stop.Memory)) }
     {
         if !out.is_none_or(can_name_file) {
@@ -127,7 +132,8 @@ fn other_word<'a>(words: &[&'a str], number: usize) -> Option<&'a str>
 /// The main output's name, by its own word, which can name a file, or else by the web's.
 fn main_name(alloc: Global, web: &str, out: Option<&str>) -> Result<String, AllocError>
     requires { main_by web.now (option_copied out) ≢ None }
-    ensures { IfOk result (λ name. main_by web.now (option_copied out.entry) ≡ Some (string_bytes name)) }
+    ensures { IfOk result (λ name. main_by web.now (option_copied out.entry) ≡
+        Some (string_bytes name)) }
 {
     match out {
         Some(out) => extended(alloc, out, ".c"),

@@ -37,8 +37,10 @@ pub(crate) fn write_outputs<B: Bins, L: Sink>(
     requires bins_count { B.failed bins.old + 1 < 2 ^ 64 }
     requires log_count { L.failed log.old + 1 < 2 ^ 64 }
     ensures known { IfErr result (λ failed. failed.output < length expander.old.plan.now.outputs) }
-    ensures does { DoesInBoth (outputs_acts progress (files_due names.now expander.old)) (ended_at expander.old.plan.now.outputs result)
-        (seen_bins B.Sink bins.old) (seen_bins B.Sink bins.new) (seen_stream L.Sink log.old) (seen_stream L.Sink log.new) }
+    ensures does { DoesInBoth (outputs_acts progress (files_due names.now expander.old))
+        (ended_at expander.old.plan.now.outputs result)
+        (seen_bins B.Sink bins.old) (seen_bins B.Sink bins.new)
+        (seen_stream L.Sink log.old) (seen_stream L.Sink log.new) }
 {
     let plan = expander.plan;
     'outputs: for output in 0..plan.outputs() {
@@ -64,8 +66,10 @@ fn write_output<B: Bins, L: Sink>(
     requires bins_count { B.failed bins.old + 1 < 2 ^ 64 }
     requires log_count { L.failed log.old + 1 < 2 ^ 64 }
     ensures stays { StaysReady expander.old expander.new }
-    ensures does { DoesInBoth (output_acts progress (file_at names.now expander.old output)) (ended (name_of expander.old.plan.now.outputs output) result)
-        (seen_bins B.Sink bins.old) (seen_bins B.Sink bins.new) (seen_stream L.Sink log.old) (seen_stream L.Sink log.new) }
+    ensures does { DoesInBoth (output_acts progress (file_at names.now expander.old output))
+        (ended (name_of expander.old.plan.now.outputs output) result)
+        (seen_bins B.Sink bins.old) (seen_bins B.Sink bins.new)
+        (seen_stream L.Sink log.old) (seen_stream L.Sink log.new) }
 {
     let name = expander.plan.output_name(output);
     if let Err(_) = say_writing(progress, name, log) {
@@ -86,8 +90,11 @@ fn write_file<B: Bins>(
     requires output { output < length expander.old.plan.now.outputs }
     requires count { B.failed bins.old + 1 < 2 ^ 64 }
     ensures stays { StaysReady expander.old expander.new }
-    ensures does { DoesInBins (writes (name_of expander.old.plan.now.outputs output) (file_at names.now expander.old output).bytes ∷ [])
-        (ended (name_of expander.old.plan.now.outputs output) result) (seen_bins B.Sink bins.old) (seen_bins B.Sink bins.new) }
+    ensures does { DoesInBins
+        (writes (name_of expander.old.plan.now.outputs output)
+        (file_at names.now expander.old output).bytes ∷ [])
+        (ended (name_of expander.old.plan.now.outputs output) result)
+        (seen_bins B.Sink bins.old) (seen_bins B.Sink bins.new) }
 {
     match bins.start_file(expander.plan.output_name(output)) {
         Ok(()) => {}
@@ -120,7 +127,8 @@ fn print_all<W: Sink>(
     ensures failed { Counts (W.failed out.old) (W.failed out.new) result }
     ensures beside { IsTrue (W.tells out.old) → W.beside out.new ≡ W.beside out.old }
     ensures prints { IsTrue (W.tells out.old) → OnOk result (W.written out.new
-        ≡ W.written out.old ++ file (setting expander.old.store.now (names_of names.now)) (left_in expander.old)) }
+        ≡ W.written out.old ++ file (setting expander.old.store.now (names_of names.now))
+        (left_in expander.old)) }
 {
     let mut printer = Printer::new(expander.store, names);
     'tokens: while let Some(token) = expander.next() {

@@ -15,7 +15,8 @@ use cweb_lines::{Sink, SinkFault};
 
 pub(crate) fn say_banner<L: Sink>(shown: bool, log: &mut L) -> Result<(), SinkFault>
     requires { L.failed log.old + 1 < 2 ^ 64 }
-    ensures { DoesInLog (when shown banner) (told result) (seen_stream L.Sink log.old) (seen_stream L.Sink log.new) }
+    ensures { DoesInLog (when shown banner) (told result)
+        (seen_stream L.Sink log.old) (seen_stream L.Sink log.new) }
 {
     if !shown {
         return Ok(());
@@ -30,7 +31,8 @@ pub(crate) fn say_starred<L: Sink>(
     log: &mut L,
 ) -> Result<(), SinkFault>
     requires { L.failed log.old + 1 < 2 ^ 64 }
-    ensures { DoesInLog (starred_acts progress numbers.now) (told result) (seen_stream L.Sink log.old) (seen_stream L.Sink log.new) }
+    ensures { DoesInLog (starred_acts progress numbers.now) (told result)
+        (seen_stream L.Sink log.old) (seen_stream L.Sink log.new) }
 {
     if !progress || numbers.is_empty() {
         return Ok(());
@@ -40,7 +42,8 @@ pub(crate) fn say_starred<L: Sink>(
 
 pub(crate) fn say_no_text<L: Sink>(missing: bool, log: &mut L) -> Result<(), SinkFault>
     requires { L.failed log.old + 1 < 2 ^ 64 }
-    ensures { DoesInLog (when missing no_text) (told result) (seen_stream L.Sink log.old) (seen_stream L.Sink log.new) }
+    ensures { DoesInLog (when missing no_text) (told result)
+        (seen_stream L.Sink log.old) (seen_stream L.Sink log.new) }
 {
     if !missing {
         return Ok(());
@@ -51,7 +54,8 @@ pub(crate) fn say_no_text<L: Sink>(missing: bool, log: &mut L) -> Result<(), Sin
 /// That an output is begun, where progress is shown.
 pub(crate) fn say_writing<L: Sink>(progress: bool, name: &str, log: &mut L) -> Result<(), SinkFault>
     requires { L.failed log.old + 1 < 2 ^ 64 }
-    ensures { DoesInLog (when progress (writing name.now)) (told result) (seen_stream L.Sink log.old) (seen_stream L.Sink log.new) }
+    ensures { DoesInLog (when progress (writing name.now)) (told result)
+        (seen_stream L.Sink log.old) (seen_stream L.Sink log.new) }
 {
     if !progress {
         return Ok(());
@@ -68,7 +72,8 @@ pub(crate) fn say_end<L: Sink>(
     log: &mut L,
 ) -> Result<(), SinkFault>
     requires { L.failed log.old + 1 < 2 ^ 64 }
-    ensures { DoesInLog (closing_acts shown (counted numbers) count missing) (told result) (seen_stream L.Sink log.old) (seen_stream L.Sink log.new) }
+    ensures { DoesInLog (closing_acts shown (counted numbers) count missing) (told result)
+        (seen_stream L.Sink log.old) (seen_stream L.Sink log.new) }
 {
     say_counts(shown.statistics, numbers, log)?;
     say_closing(shown.closing, count, missing, log)
@@ -76,7 +81,8 @@ pub(crate) fn say_end<L: Sink>(
 
 fn say_counts<L: Sink>(shown: bool, numbers: Numbers, log: &mut L) -> Result<(), SinkFault>
     requires { L.failed log.old + 1 < 2 ^ 64 }
-    ensures { DoesInLog (when shown (counts numbers.sections numbers.names numbers.macros)) (told result) (seen_stream L.Sink log.old) (seen_stream L.Sink log.new) }
+    ensures { DoesInLog (when shown (counts numbers.sections numbers.names numbers.macros))
+        (told result) (seen_stream L.Sink log.old) (seen_stream L.Sink log.new) }
 {
     if !shown {
         return Ok(());
@@ -91,7 +97,8 @@ fn say_closing<L: Sink>(
     log: &mut L,
 ) -> Result<(), SinkFault>
     requires { L.failed log.old + 1 < 2 ^ 64 }
-    ensures { DoesInLog (when shown (closing count missing)) (told result) (seen_stream L.Sink log.old) (seen_stream L.Sink log.new) }
+    ensures { DoesInLog (when shown (closing count missing)) (told result)
+        (seen_stream L.Sink log.old) (seen_stream L.Sink log.new) }
 {
     if !shown {
         return Ok(());

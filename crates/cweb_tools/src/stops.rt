@@ -11,7 +11,8 @@ use cweb_lines::{Sink, SinkFault, Stop};
 /// Writes the line of a stop, which ends in a name, to the log. It takes no memory.
 pub fn write_stop<L: Sink>(log: &mut L, stop: Stop, name: &str) -> Result<(), SinkFault>
     requires { L.failed log.old + 1 < 2 ^ 64 }
-    ensures { Writes (stop_line stop name.now) (seen_stream L.Sink log.old) (seen_stream L.Sink log.new) result }
+    ensures { Writes (stop_line stop name.now)
+        (seen_stream L.Sink log.old) (seen_stream L.Sink log.new) result }
 {
     match stop {
         Stop::Usage => write_message(log, "Usage: ", name),
@@ -32,7 +33,8 @@ pub(crate) fn log_stop<L: Sink>(log: &mut L, stop: Stop, name: &str) -> u8
     requires { L.failed log.old + 1 < 2 ^ 64 }
     ensures status { result ≡ 1 }
     ensures tells { L.tells log.new ≡ L.tells log.old }
-    ensures logs { Logs (stop_line stop name.now) (seen_stream L.Sink log.old) (seen_stream L.Sink log.new) }
+    ensures logs { Logs (stop_line stop name.now)
+        (seen_stream L.Sink log.old) (seen_stream L.Sink log.new) }
 {
     let _ = write_stop(log, stop, name);
     1
@@ -40,7 +42,8 @@ pub(crate) fn log_stop<L: Sink>(log: &mut L, stop: Stop, name: &str) -> u8
 
 fn write_message<L: Sink>(log: &mut L, text: &str, name: &str) -> Result<(), SinkFault>
     requires { L.failed log.old + 1 < 2 ^ 64 }
-    ensures { Writes (message_line text.now name.now) (seen_stream L.Sink log.old) (seen_stream L.Sink log.new) result }
+    ensures { Writes (message_line text.now name.now)
+        (seen_stream L.Sink log.old) (seen_stream L.Sink log.new) result }
 {
     say(log, &[b"! ", text.as_bytes(), name.as_bytes(), b"\n"])
 }

@@ -49,9 +49,12 @@ pub fn run_ctangle<S: Shelf, B: Bins, L: Sink>(
     requires bins_count { B.failed bins.old + 1 < 2 ^ 64 }
     requires log_count { L.failed log.old + 1 < 2 ^ 64 }
     ensures promises { let before = seen_run S.Shelf B.Sink L.Sink shelf.old bins.old log.old in
-        let asked = options_by (map (λ word. word.now) words.now) in let world = world_of before.shelf.texts (option_copied inputs.entry) in
-        TanglePromises world asked before (seen_run S.Shelf B.Sink L.Sink shelf.new bins.new log.new) result }
-    ensures untouched { options_by (map (λ word. word.now) words.now) ≡ None → (shelf.new ≡ shelf.old) × (bins.new ≡ bins.old) }
+        let asked = options_by (map (λ word. word.now) words.now) in
+        let world = world_of before.shelf.texts (option_copied inputs.entry) in
+        TanglePromises world asked before
+        (seen_run S.Shelf B.Sink L.Sink shelf.new bins.new log.new) result }
+    ensures untouched { options_by (map (λ word. word.now) words.now) ≡ None →
+        (shelf.new ≡ shelf.old) × (bins.new ≡ bins.old) }
 {
     let options = match Options::read(alloc, words) {
         Ok(options) => options,
@@ -76,8 +79,10 @@ fn tangle_named<S: Shelf, B: Bins, L: Sink>(
     requires bins_count { B.failed bins.old + 1 < 2 ^ 64 }
     requires log_count { L.failed log.old + 1 < 2 ^ 64 }
     ensures { let before = seen_run S.Shelf B.Sink L.Sink shelf.old bins.old log.old in
-        let course = tangle_course (world_of before.shelf.texts (option_copied inputs.entry)) (Some (options_of options.now)) in
-        Follows (course_acts (options_of options.now).shown course) (course_status course) before (seen_run S.Shelf B.Sink L.Sink shelf.new bins.new log.new) result }
+        let world = world_of before.shelf.texts (option_copied inputs.entry) in
+        let course = tangle_course world (Some (options_of options.now)) in
+        Follows (course_acts (options_of options.now).shown course) (course_status course) before
+        (seen_run S.Shelf B.Sink L.Sink shelf.new bins.new log.new) result }
 {
     let started = Merger::start(
         alloc,
@@ -122,8 +127,10 @@ fn tangle_web<B: Bins, L: Sink>(
     requires known { IsKnown web }
     requires bins_count { B.failed bins.old + 1 < 2 ^ 64 }
     requires log_count { L.failed log.old + 1 < 2 ^ 64 }
-    ensures { ClosesInBoth (web_acts shown (web_in web.entry main.now)) (web_status (web_in web.entry main.now))
-        (seen_bins B.Sink bins.old) (seen_bins B.Sink bins.new) (seen_stream L.Sink log.old) (seen_stream L.Sink log.new) result }
+    ensures { ClosesInBoth (web_acts shown (web_in web.entry main.now))
+        (web_status (web_in web.entry main.now))
+        (seen_bins B.Sink bins.old) (seen_bins B.Sink bins.new)
+        (seen_stream L.Sink log.old) (seen_stream L.Sink log.new) result }
 {
     if let Err(_) = say_starred(shown.progress, web.scanned.starred.as_slice(), log) {
         return 1;
@@ -141,7 +148,8 @@ fn tangle_web<B: Bins, L: Sink>(
 fn say_faults<L: Sink>(web: Web<'_>, log: &mut L) -> Result<(), SinkFault>
     requires known { IsKnown web }
     requires count { L.failed log.old + 1 < 2 ^ 64 }
-    ensures { DoesInLog (said_faults web.entry) (told result) (seen_stream L.Sink log.old) (seen_stream L.Sink log.new) }
+    ensures { DoesInLog (said_faults web.entry) (told result)
+        (seen_stream L.Sink log.old) (seen_stream L.Sink log.new) }
 {
     if web.fault_count() == 0 {
         return Ok(());
@@ -152,7 +160,8 @@ fn say_faults<L: Sink>(web: Web<'_>, log: &mut L) -> Result<(), SinkFault>
 fn write_web_faults<L: Sink>(web: Web<'_>, log: &mut L) -> Result<(), SinkFault>
     requires known { IsKnown web }
     requires count { L.failed log.old + 1 < 2 ^ 64 }
-    ensures { Writes (flat_map line (faults_of web.entry)) (seen_stream L.Sink log.old) (seen_stream L.Sink log.new) result }
+    ensures { Writes (flat_map line (faults_of web.entry))
+        (seen_stream L.Sink log.old) (seen_stream L.Sink log.new) result }
 {
     write_faults(log, web.names, web.faults)?;
     write_scan_faults(log, web.names, web.scanned.faults.as_slice())?;
@@ -169,8 +178,13 @@ fn tangle_unplanned<L: Sink>(
 ) -> u8
     requires due { IsDue (planned web.scanned.now.store main.now) fault }
     requires count { L.failed log.old + 1 < 2 ^ 64 }
-    ensures { ClosesInLog (plans ∷ planned_acts shown (numbers_of (seen web.entry.scanned.now)) (fault_count (faults_of web.entry)) (planning web.entry.scanned.now.store (files_of web.entry) main.now))
-        (status_by (fault_count (faults_of web.entry)) (planning web.entry.scanned.now.store (files_of web.entry) main.now)) (seen_stream L.Sink log.old) (seen_stream L.Sink log.new) result }
+    ensures { ClosesInLog
+        (plans ∷ planned_acts shown
+        (numbers_of (seen web.entry.scanned.now)) (fault_count (faults_of web.entry))
+        (planning web.entry.scanned.now.store (files_of web.entry) main.now))
+        (status_by (fault_count (faults_of web.entry))
+        (planning web.entry.scanned.now.store (files_of web.entry) main.now))
+        (seen_stream L.Sink log.old) (seen_stream L.Sink log.new) result }
 {
     if let PlanFault::Memory = fault {
         return log_stop(log, Stop::Memory, "");
@@ -188,7 +202,9 @@ fn tangle_refused<L: Sink>(
 ) -> u8
     requires { L.failed log.old + 1 < 2 ^ 64 }
     ensures { IfSome (refusal_in fault) (λ refusal. ClosesInLog
-        (planned_acts shown (numbers_of (seen web.entry.scanned.now)) (fault_count (faults_of web.entry)) (refused (refusal_text web.entry.scanned.now.store main.now refusal)))
+        (planned_acts shown
+        (numbers_of (seen web.entry.scanned.now)) (fault_count (faults_of web.entry))
+        (refused (refusal_text web.entry.scanned.now.store main.now refusal)))
         1 (seen_stream L.Sink log.old) (seen_stream L.Sink log.new) result) }
 {
     if let Err(_) = write_plan_fault(log, web.store(), &fault, main) {
@@ -212,9 +228,14 @@ fn tangle_planned<B: Bins, L: Sink>(
     requires made { IsPlanOf web.scanned.now.store plan.now }
     requires bins_count { B.failed bins.old + 1 < 2 ^ 64 }
     requires log_count { L.failed log.old + 1 < 2 ^ 64 }
-    ensures { ClosesInBoth (planned_acts shown (numbers_of (seen web.entry.scanned.now)) (fault_count (faults_of web.entry)) (plan_made web.entry.scanned.now.store (files_of web.entry) plan.now))
-        (status_by (fault_count (faults_of web.entry)) (plan_made web.entry.scanned.now.store (files_of web.entry) plan.now))
-        (seen_bins B.Sink bins.old) (seen_bins B.Sink bins.new) (seen_stream L.Sink log.old) (seen_stream L.Sink log.new) result }
+    ensures { ClosesInBoth
+        (planned_acts shown
+        (numbers_of (seen web.entry.scanned.now)) (fault_count (faults_of web.entry))
+        (plan_made web.entry.scanned.now.store (files_of web.entry) plan.now))
+        (status_by (fault_count (faults_of web.entry))
+        (plan_made web.entry.scanned.now.store (files_of web.entry) plan.now))
+        (seen_bins B.Sink bins.old) (seen_bins B.Sink bins.new)
+        (seen_stream L.Sink log.old) (seen_stream L.Sink log.new) result }
 {
     if let Err(_) = say_no_text(plan.no_text(), log) {
         return 1;
@@ -243,7 +264,8 @@ fn status(count: u128) -> u8
 fn log_failed<L: Sink>(log: &mut L, stop: Stop, name: &str) -> u8
     requires { stop ≢ Stop.LogFault → L.failed log.old + 1 < 2 ^ 64 }
     ensures status { result ≡ 1 }
-    ensures logs { LogsEnding (ending stop name.now) (seen_stream L.Sink log.old) (seen_stream L.Sink log.new) }
+    ensures logs { LogsEnding (ending stop name.now)
+        (seen_stream L.Sink log.old) (seen_stream L.Sink log.new) }
 {
     if let Stop::LogFault = stop {
         return 1;
@@ -253,7 +275,9 @@ fn log_failed<L: Sink>(log: &mut L, stop: Stop, name: &str) -> u8
 
 /// What a stop at the start of a merge is about.
 fn start_subject(options: &Options, stop: Stop) -> &str
-    ensures { result.now ≡ start_subject (options_of options.now).names.merge.web (change_name (options_of options.now).names.merge.change) stop }
+    ensures { result.now ≡
+        start_subject (options_of options.now).names.merge.web
+        (change_name (options_of options.now).names.merge.change) stop }
 {
     match stop {
         Stop::WebNotOpened => options.web.as_str(),

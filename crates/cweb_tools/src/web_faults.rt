@@ -26,7 +26,8 @@ pub fn write_scan_faults<L: Sink>(
 ) -> Result<(), SinkFault>
     requires count { L.failed log.old + 1 < 2 ^ 64 }
     requires known { All (λ fault. fault.place.file.0 < length (names_of names.now)) faults.now }
-    ensures { Writes (flat_map line (scan_items (names_of names.now) faults.now)) (seen_stream L.Sink log.old) (seen_stream L.Sink log.new) result }
+    ensures { Writes (flat_map line (scan_items (names_of names.now) faults.now))
+        (seen_stream L.Sink log.old) (seen_stream L.Sink log.new) result }
 {
     let mut gathered = Gathered::new();
     'faults: for fault in faults {
@@ -43,7 +44,9 @@ fn add_scan_fault<L: Sink>(
 ) -> Result<(), SinkFault>
     requires count { L.failed log.old + 1 < 2 ^ 64 }
     requires known { fault.now.place.file.0 < length (names_of names.now) }
-    ensures { GathersMore (line (scan_item (names_of names.now) fault.now)) (seen_stream L.Sink log.old) (seen_stream L.Sink log.new) (pending gathered.old) (pending gathered.new) result }
+    ensures { GathersMore (line (scan_item (names_of names.now) fault.now))
+        (seen_stream L.Sink log.old) (seen_stream L.Sink log.new)
+        (pending gathered.old) (pending gathered.new) result }
 {
     let file = names.get(fault.place.file);
     let mut line = Buffer::new();
@@ -76,7 +79,8 @@ fn scan_text(kind: ScanKind) -> &'static str
 /// Writes the lines of the faults of a web's names in their order.
 pub fn write_name_faults<L: Sink>(log: &mut L, store: &Store) -> Result<(), SinkFault>
     requires { L.failed log.old + 1 < 2 ^ 64 }
-    ensures { Writes (flat_map line (name_items store.now)) (seen_stream L.Sink log.old) (seen_stream L.Sink log.new) result }
+    ensures { Writes (flat_map line (name_items store.now))
+        (seen_stream L.Sink log.old) (seen_stream L.Sink log.new) result }
 {
     let mut gathered = Gathered::new();
     let faults = store.name_faults();
@@ -94,7 +98,9 @@ fn add_name_fault<L: Sink>(
 ) -> Result<(), SinkFault>
     requires count { L.failed log.old + 1 < 2 ^ 64 }
     requires known { fault.now.occurrence.0 < length store.now.occurrences }
-    ensures { GathersMore (line (name_item store.now.occurrences fault.now)) (seen_stream L.Sink log.old) (seen_stream L.Sink log.new) (pending gathered.old) (pending gathered.new) result }
+    ensures { GathersMore (line (name_item store.now.occurrences fault.now))
+        (seen_stream L.Sink log.old) (seen_stream L.Sink log.new)
+        (pending gathered.old) (pending gathered.new) result }
 {
     let name = store.occurrence_text(fault.occurrence);
     match fault.kind {
@@ -120,7 +126,9 @@ fn add_named<L: Sink>(
     end: &str,
 ) -> Result<(), SinkFault>
     requires { L.failed log.old + 1 < 2 ^ 64 }
-    ensures { GathersMore (line (fault (text.now ++ (name.now ++ end.now)))) (seen_stream L.Sink log.old) (seen_stream L.Sink log.new) (pending gathered.old) (pending gathered.new) result }
+    ensures { GathersMore (line (fault (text.now ++ (name.now ++ end.now))))
+        (seen_stream L.Sink log.old) (seen_stream L.Sink log.new)
+        (pending gathered.old) (pending gathered.new) result }
 {
     gathered.add_line(log, &[b"! ", text.as_bytes(), name, end.as_bytes(), b"\n"])
 }
@@ -134,7 +142,8 @@ pub fn write_plan_fault<L: Sink>(
     main: &str,
 ) -> Result<(), SinkFault>
     requires { L.failed log.old + 1 < 2 ^ 64 }
-    ensures { Writes (line (plan_item store.now main.now fault.now)) (seen_stream L.Sink log.old) (seen_stream L.Sink log.new) result }
+    ensures { Writes (line (plan_item store.now main.now fault.now))
+        (seen_stream L.Sink log.old) (seen_stream L.Sink log.new) result }
 {
     match fault {
         PlanFault::Cycle(names) => write_cycle(log, store, names.as_slice()),
@@ -154,14 +163,16 @@ pub fn write_plan_fault<L: Sink>(
 
 fn write_named<L: Sink>(log: &mut L, text: &str, name: &[u8]) -> Result<(), SinkFault>
     requires { L.failed log.old + 1 < 2 ^ 64 }
-    ensures { Writes (line (fault (text.now ++ (name.now ++ codes ">")))) (seen_stream L.Sink log.old) (seen_stream L.Sink log.new) result }
+    ensures { Writes (line (fault (text.now ++ (name.now ++ codes ">"))))
+        (seen_stream L.Sink log.old) (seen_stream L.Sink log.new) result }
 {
     say(log, &[b"! ", text.as_bytes(), name, b">\n"])
 }
 
 fn write_cycle<L: Sink>(log: &mut L, store: &Store, names: &[NameId]) -> Result<(), SinkFault>
     requires { L.failed log.old + 1 < 2 ^ 64 }
-    ensures { Writes (line (fault (codes "Cycle:" ++ flat_map (cycle_step store.now) names.now))) (seen_stream L.Sink log.old) (seen_stream L.Sink log.new) result }
+    ensures { Writes (line (fault (codes "Cycle:" ++ flat_map (cycle_step store.now) names.now)))
+        (seen_stream L.Sink log.old) (seen_stream L.Sink log.new) result }
 {
     let mut gathered = Gathered::new();
     gathered.add(log, b"! Cycle:")?;
@@ -177,7 +188,9 @@ fn add_steps<L: Sink>(
     names: &[NameId],
 ) -> Result<(), SinkFault>
     requires { L.failed log.old + 1 < 2 ^ 64 }
-    ensures { GathersMore (flat_map (cycle_step store.now) names.now) (seen_stream L.Sink log.old) (seen_stream L.Sink log.new) (pending gathered.old) (pending gathered.new) result }
+    ensures { GathersMore (flat_map (cycle_step store.now) names.now)
+        (seen_stream L.Sink log.old) (seen_stream L.Sink log.new)
+        (pending gathered.old) (pending gathered.new) result }
 {
     'names: for name in names {
         add_step(gathered, log, store, *name)?;
@@ -192,7 +205,9 @@ fn add_step<L: Sink>(
     name: NameId,
 ) -> Result<(), SinkFault>
     requires { L.failed log.old + 1 < 2 ^ 64 }
-    ensures { GathersMore (cycle_step store.now name) (seen_stream L.Sink log.old) (seen_stream L.Sink log.new) (pending gathered.old) (pending gathered.new) result }
+    ensures { GathersMore (cycle_step store.now name)
+        (seen_stream L.Sink log.old) (seen_stream L.Sink log.new)
+        (pending gathered.old) (pending gathered.new) result }
 {
     gathered.add_line(log, &[b" <", text_of(store, name), b">"])
 }

@@ -35,9 +35,11 @@ pub fn run_wmerge<S: Shelf, W: Sink, L: Sink>(
     requires out_count { W.failed out.old + 1 < 2 ^ 64 }
     requires log_count { L.failed log.old + 1 < 2 ^ 64 }
     ensures promises { let before = seen S.Shelf W.Sink L.Sink shelf.old out.old log.old in
-        let asked = asked_by (map (λ word. word.now) words.now) in let world = world_of before.shelf.texts (option_copied inputs.entry) in
+        let asked = asked_by (map (λ word. word.now) words.now) in
+        let world = world_of before.shelf.texts (option_copied inputs.entry) in
         Promises world asked before (seen S.Shelf W.Sink L.Sink shelf.new out.new log.new) result }
-    ensures untouched { asked_by (map (λ word. word.now) words.now) ≡ None → (shelf.new ≡ shelf.old) × (out.new ≡ out.old) }
+    ensures untouched { asked_by (map (λ word. word.now) words.now) ≡ None →
+        (shelf.new ≡ shelf.old) × (out.new ≡ out.old) }
 {
     let asked = match MergeWords::read(alloc, words) {
         Ok(asked) => asked,
@@ -57,8 +59,10 @@ fn merge_web<S: Shelf, W: Sink, L: Sink>(
     requires shelf_count { S.failed shelf.old + 1 < 2 ^ 64 }
     requires out_count { W.failed out.old + 1 < 2 ^ 64 }
     requires log_count { L.failed log.old + 1 < 2 ^ 64 }
-    ensures { let before = seen S.Shelf W.Sink L.Sink shelf.old out.old log.old in let world = world_of before.shelf.texts (option_copied inputs.entry) in
-        Merges (names_of asked.now) (asked_course world (Some (names_of asked.now))) before (seen S.Shelf W.Sink L.Sink shelf.new out.new log.new) result }
+    ensures { let before = seen S.Shelf W.Sink L.Sink shelf.old out.old log.old in
+        let world = world_of before.shelf.texts (option_copied inputs.entry) in
+        Merges (names_of asked.now) (asked_course world (Some (names_of asked.now))) before
+        (seen S.Shelf W.Sink L.Sink shelf.new out.new log.new) result }
 {
     let started = Merger::start(
         alloc,
@@ -80,7 +84,8 @@ fn merge_web<S: Shelf, W: Sink, L: Sink>(
 
 /// What a stop at the start of a merge is about.
 fn start_subject(asked: &MergeWords, stop: Stop) -> &str
-    ensures { result.now ≡ start_subject (names_of asked.now).web (change_name (names_of asked.now).change) stop }
+    ensures { result.now ≡
+        start_subject (names_of asked.now).web (change_name (names_of asked.now).change) stop }
 {
     match stop {
         Stop::WebNotOpened => asked.web.as_str(),
@@ -93,7 +98,8 @@ fn start_subject(asked: &MergeWords, stop: Stop) -> &str
 fn log_faults<L: Sink>(log: &mut L, names: &FileNames, faults: &[SourceFault]) -> u8
     requires count { L.failed log.old + 1 < 2 ^ 64 }
     requires known { All (λ fault. fault.place.file.0 < length (file_names names.now)) faults.now }
-    ensures logs { Logs (fault_lines (file_names names.now) faults.now) (seen_stream L.Sink log.old) (seen_stream L.Sink log.new) }
+    ensures logs { Logs (fault_lines (file_names names.now) faults.now)
+        (seen_stream L.Sink log.old) (seen_stream L.Sink log.new) }
     ensures answered { L.failed log.new ≡ L.failed log.old → result ≡ fault_status faults.now }
     ensures failed { L.failed log.new ≢ L.failed log.old → result ≡ 1 }
 {

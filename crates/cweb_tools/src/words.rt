@@ -21,8 +21,10 @@ impl MergeWords {
 
     /// Reads the words, without the program's own name. They are judged before memory is taken.
     pub fn read(alloc: Global, words: &[&str]) -> Result<MergeWords, Stop>
-        ensures ok { IfOk result (λ read. asked_by (map (λ word. word.now) words.now) ≡ Some (names_of read)) }
-        ensures usage { IsErrOf result Stop.Usage ↔ (asked_by (map (λ word. word.now) words.now) ≡ None) }
+        ensures ok { IfOk result (λ read. asked_by (map (λ word. word.now) words.now) ≡
+            Some (names_of read)) }
+        ensures usage { IsErrOf result Stop.Usage ↔
+            (asked_by (map (λ word. word.now) words.now) ≡ None) }
         ensures stops { IfErr result (λ stop. (stop ≡ Stop.Usage) ⊎ (stop ≡ Stop.Memory)) }
     {
         match words {
@@ -34,8 +36,10 @@ impl MergeWords {
 
     /// The names by the web's word and the change file's, which are judged here.
     pub(crate) fn by(alloc: Global, web: &str, change: Option<&str>) -> Result<MergeWords, Stop>
-        ensures ok { IfOk result (λ read. merge_by web.now (option_copied change.entry) ≡ Some (names_of read)) }
-        ensures usage { IsErrOf result Stop.Usage ↔ (merge_by web.now (option_copied change.entry) ≡ None) }
+        ensures ok { IfOk result (λ read. merge_by web.now (option_copied change.entry) ≡
+            Some (names_of read)) }
+        ensures usage { IsErrOf result Stop.Usage ↔
+            (merge_by web.now (option_copied change.entry) ≡ None) }
         ensures stops { IfErr result (λ stop. (stop ≡ Stop.Usage) ⊎ (stop ≡ Stop.Memory)) }
     {
         match change {
@@ -61,8 +65,10 @@ impl MergeWords {
 
     /// The names by the web's word, which is judged here, and the change file's.
     fn named(alloc: Global, web: &str, change: Option<&str>) -> Result<MergeWords, Stop>
-        ensures ok { IfOk result (λ read. asked_for web.now (option_copied change.entry) ≡ Some (names_of read)) }
-        ensures usage { IsErrOf result Stop.Usage ↔ (asked_for web.now (option_copied change.entry) ≡ None) }
+        ensures ok { IfOk result (λ read. asked_for web.now (option_copied change.entry) ≡
+            Some (names_of read)) }
+        ensures usage { IsErrOf result Stop.Usage ↔
+            (asked_for web.now (option_copied change.entry) ≡ None) }
         ensures stops { IfErr result (λ stop. (stop ≡ Stop.Usage) ⊎ (stop ≡ Stop.Memory)) }
     {
         if !can_name_file(web) {
@@ -148,7 +154,8 @@ fn has_extension(word: &str) -> bool
 }
 
 fn change_file(alloc: Global, word: Option<&str>) -> Result<Option<String>, AllocError>
-    ensures { IfOk result (λ name. option_map (λ s. string_bytes s) name ≡ option_map (λ w. extended w (codes ".ch")) (option_copied word.entry)) }
+    ensures { IfOk result (λ name. option_map (λ s. string_bytes s) name ≡
+        option_map (λ w. extended w (codes ".ch")) (option_copied word.entry)) }
 {
     match word {
         Some(word) => Ok(Some(extended(alloc, word, ".ch")?)),

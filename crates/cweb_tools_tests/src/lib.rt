@@ -1,4 +1,4 @@
-//! Tests of runs of `ctangle`. They stand in a crate of their own, so that they are checked without proving `cweb_tools` anew.
+//! Tests of `cweb_tools`. They stand in a crate of their own, so that they are checked without proving it anew.
 #![tactic(auto)]
 
 #[cfg(test)]

@@ -4,7 +4,7 @@ use std::test::Fail;
 
 #[test]
 fn what_is_shown(rt: HostRuntime) -> Result<(), Fail> {
-    let rows: [(&[&str], &[(&str, &[u8])], &str); 5] = [
+    let rows: [(&[&str], &[(&str, &[u8])], &str); 6] = [
         (
             &["hello"],
             &[(
@@ -20,6 +20,14 @@ fn what_is_shown(rt: HostRuntime) -> Result<(), Fail> {
                 b"@ Hello.\n@c\n#include <stdio.h>\nint main(void) { @<Greet@> return 0; }\n@ @<Greet@>=\nputs(\"hi\");\n",
             )],
             "This is CTANGLE, profile of CWEB 3\nWriting hello.c\nSections: 2. Names: 1. Macros: 0.\n(No errors were found.)\n== hello.c\n/*1:*/\n#line 2 \"hello.w\"\n\n#include <stdio.h>\nint main(void){/*2:*/\n#line 5 \"hello.w\"\n\nputs(\"hi\");/*:2*/\n#line 4 \"hello.w\"\nreturn 0;}\n/*:1*/\n== 0\n",
+        ),
+        (
+            &["hello", "-bph"],
+            &[(
+                "hello.w",
+                b"@ Hello.\n@c\n#include <stdio.h>\nint main(void) { @<Greet@> return 0; }\n@ @<Greet@>=\nputs(\"hi\");\n",
+            )],
+            "== hello.c\n/*1:*/\n#line 2 \"hello.w\"\n\n#include <stdio.h>\nint main(void){/*2:*/\n#line 5 \"hello.w\"\n\nputs(\"hi\");/*:2*/\n#line 4 \"hello.w\"\nreturn 0;}\n/*:1*/\n== 0\n",
         ),
         (
             &["empty"],

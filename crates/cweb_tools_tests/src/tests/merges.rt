@@ -1,36 +1,14 @@
-use super::*;
-use cweb_lines::{FileId, MemoryShelf, MemorySink, Shelf, Sink, Stop};
-use std::alloc::{AllocError, Global};
+// Runs of `wmerge` over texts in memory, and over devices that fail.
+use super::failing::{FailingShelf, FailingSink};
+use super::told::{ROOM, shelf_of};
+use cweb_lines::{FileId, MemorySink, Shelf, Sink, Stop};
+use cweb_tools::{run_wmerge, write_stop};
+use std::alloc::AllocError;
 use std::process::Abort;
 use std::test::Fail;
 
-mod changes;
-mod command_line;
-mod failing;
-mod folder;
-mod gathering;
-mod items;
-mod options;
-mod streams;
-mod tangle;
-mod web_faults;
-
-use failing::{FailingShelf, FailingSink};
-
-/// The room of a sink: more than any text of these tests.
-const ROOM: usize = 4096;
-
-/// Puts texts under their names.
-fn shelf_of(alloc: Global, texts: &[(&str, &[u8])]) -> Result<MemoryShelf, AllocError> {
-    let mut shelf = MemoryShelf::new(alloc);
-    for (name, text) in texts {
-        shelf.put(name, text)?;
-    }
-    Ok(shelf)
-}
-
 /// One run over texts in memory, and what it has to leave.
-fn check_run(
+pub fn check_run(
     rt: &(impl Abort + AllocGlobal),
     words: &[&str],
     inputs: Option<&str>,

@@ -1,5 +1,10 @@
 // The lines of the log of `ctangle` that are no faults.
-use super::*;
+use super::told::ROOM;
+use cweb_lines::MemorySink;
+use cweb_tools::{
+    write_banner, write_closing, write_counts, write_no_text, write_starred, write_writing,
+};
+use std::test::Fail;
 
 #[test]
 fn lines_of_items(rt: HostRuntime) -> Result<(), Fail> {

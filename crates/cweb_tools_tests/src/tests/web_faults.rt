@@ -1,7 +1,9 @@
 // The lines of what is wrong with a web's text.
-use super::*;
-use cweb_lines::{Merger, Place};
+use super::told::{ROOM, shelf_of};
+use cweb_lines::{FileId, MemorySink, Merger, Place};
 use cweb_rules::{ScanFault, ScanKind};
+use cweb_tools::write_scan_faults;
+use std::test::Fail;
 
 #[test]
 fn lines_of_faults_of_a_text(rt: HostRuntime) -> Result<(), Fail> {

@@ -1,5 +1,8 @@
 // The words of a command line of `ctangle`.
-use super::*;
+use cweb_lines::Stop;
+use cweb_tools::{Options, Shown};
+use std::process::Abort;
+use std::test::Fail;
 
 /// What the option words show: banner, progress, closing line and statistics.
 fn shown(words: &[&str]) -> Option<[bool; 4]> {

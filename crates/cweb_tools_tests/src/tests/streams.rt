@@ -1,9 +1,9 @@
 // Streams and files of the system, and streams that take and give a part, or are broken off.
-use super::*;
-use crate::devices::read_once;
-use cweb_lines::write_all;
+use cweb_lines::{Shelf, Sink, write_all};
+use cweb_tools::{FolderShelf, StdSink, read_once};
 use std::io;
 use std::io::{Error, ErrorKind, Read, Write};
+use std::test::Fail;
 
 /// Takes two bytes at most, and each other call of it is broken off by a signal.
 #[derive(Drop)]

@@ -1,5 +1,12 @@
 // Runs with a change file.
-use super::*;
+use super::failing::{FailingShelf, FailingSink};
+use super::merges::check_run;
+use super::told::{ROOM, shelf_of};
+use cweb_lines::{MemorySink, Shelf, Sink};
+use cweb_tools::run_wmerge;
+use std::alloc::AllocError;
+use std::process::Abort;
+use std::test::Fail;
 
 /// One run over `m.w`, `c.ch` and `inc.w`, and what it has to leave.
 fn check_change(

@@ -1,9 +1,11 @@
 // Many faults: their lines come in large pieces.
 ghost use Rattle.std.specs.Prelude.{[], false};
 
-use super::*;
-use crate::write_faults;
-use cweb_lines::{Merger, SinkFault};
+use super::told::{ROOM, shelf_of};
+use cweb_lines::{MemorySink, Merger, Sink, SinkFault};
+use cweb_tools::{run_wmerge, write_faults};
+use std::alloc::{AllocError, Global};
+use std::test::Fail;
 
 /// Counts the writes that it takes.
 #[derive(Drop)]

@@ -1,5 +1,8 @@
 // What the words of a command line ask for.
-use super::*;
+use super::merges::check_run;
+use cweb_tools::MergeWords;
+use std::process::Abort;
+use std::test::Fail;
 
 /// Reads words, and compares the names that they stand for.
 fn check_words(

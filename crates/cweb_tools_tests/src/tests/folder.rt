@@ -1,9 +1,12 @@
 // Files of a real folder, which are replaced whole.
-use super::*;
-use cweb_lines::write_all;
+use cweb_lines::{Shelf, Sink, write_all};
 use cweb_out::{BinFault, Bins};
+use cweb_tools::{FolderBins, FolderShelf};
+use std::alloc::{AllocError, Global};
 use std::os::unix::fs::PermissionsExt;
+use std::process::Abort;
 use std::rt::{Env, Files};
+use std::test::Fail;
 use std::{env, fs};
 
 /// A new folder, by its path.
