@@ -48,6 +48,7 @@ impl Scanner {
     ghost use Rattle.cweb_scan.specs.Room.{HasRoom};
 
     /// A section start.
+    #[inline(never)]
     pub fn take_section(&mut self, rest: &[u8]) -> Result<usize, AllocError>
         requires { HasRoom 1 self.old }
         ensures { IfOk result (λ n. Gives (section_at rest.now) rest.now n self.old self.new) }
@@ -154,6 +155,7 @@ impl Scanner {
     }
 
     /// `//`: a comment that lasts to the line's end.
+    #[inline(never)]
     pub fn take_line_comment(&mut self, rest: &[u8]) -> Result<usize, AllocError>
         requires two { 2 ≤ length rest.now }
         requires room { HasRoom 1 self.old }

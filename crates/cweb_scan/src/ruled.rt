@@ -18,6 +18,7 @@ impl Scanner {
     ghost use Rattle.cweb_scan.specs.Room.{HasRoom};
 
     /// What a rule of C text names, where it ends in its line and is no code.
+    #[inline(always)]
     pub fn take_rule(&mut self, rule: Rule, rest: &[u8]) -> Result<usize, AllocError>
         requires line { IsLine rest.now }
         requires ends { ends_in_line rule ≡ true }

@@ -101,6 +101,7 @@ impl Scanner {
     }
 
     /// Adds a token to the open part. A refused call changes nothing.
+    #[inline(always)]
     pub fn give(&mut self, token: Token<'_>) -> Result<(), AllocError>
         requires part { has_part self.old.context ≡ true }
         requires few { token_count self.old.contents.parts + 1 < too_many }
@@ -149,6 +150,7 @@ impl Scanner {
     }
 
     /// A punctuator; the text of a directive begins with its `#`.
+    #[inline(always)]
     pub fn punctuator(&mut self, bytes: &[u8]) -> Result<(), AllocError>
         requires part { has_part self.old.context ≡ true }
         requires few { token_count self.old.contents.parts + 1 < too_many }

@@ -24,6 +24,7 @@ impl Reader {
     ghost use Rattle.cweb_scan.specs.Ruled.{ends_macro_line, rule_in};
 
     // A code at the front, which is no section start.
+    #[inline(never)]
     fn take_code(&mut self, rest: &[u8]) -> Result<usize, AllocError>
         requires between { self.old.item ≡ Between }
         requires head { is_head self.old.state.context ≡ false }
@@ -65,6 +66,7 @@ impl Reader {
     }
 
     // In a macro and in C text: what the first rule that fits names.
+    #[inline(always)]
     fn take_by(&mut self, rule: Rule, rest: &[u8]) -> Result<usize, AllocError>
         requires between { self.old.item ≡ Between }
         requires part { has_part self.old.state.context ≡ true }

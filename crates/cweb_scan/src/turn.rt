@@ -28,6 +28,7 @@ impl Reader {
     ghost use Rattle.cweb_scan.specs.Room.{HasRoom};
 
     /// `/*`
+    #[inline(never)]
     pub(crate) fn open_comment(&mut self, rest: &[u8]) -> Result<usize, AllocError>
         requires between { self.old.item ≡ Between }
         requires reads { reads_c self.old.state.context ≡ true }
@@ -74,6 +75,7 @@ impl Reader {
     }
 
     /// A quote, with a prefix or without.
+    #[inline(never)]
     pub(crate) fn open_literal(&mut self, rest: &[u8]) -> Result<usize, AllocError>
         requires between { self.old.item ≡ Between }
         requires reads { reads_literals self.old.state.context ≡ true }
@@ -97,6 +99,7 @@ impl Reader {
     }
 
     /// `R"`, with a prefix or without, a delimiter and `(`.
+    #[inline(never)]
     pub(crate) fn open_raw(&mut self, rest: &[u8]) -> Result<usize, AllocError>
         requires between { self.old.item ≡ Between }
         requires reads { reads_literals self.old.state.context ≡ true }

@@ -90,6 +90,7 @@ impl Scanner {
     }
 
     /// An included name in a directive, with its signs.
+    #[inline(never)]
     pub fn take_included_name(&mut self, rest: &[u8]) -> Result<usize, AllocError>
         requires line { IsLine rest.now }
         requires some { 1 ≤ length rest.now }
