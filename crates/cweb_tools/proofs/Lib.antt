@@ -17,6 +17,7 @@ pub mod Logging
 pub mod Marks
 pub mod OutputActs
 mod Rows
+mod RunRows
 pub mod Running
 mod ScriptRows
 pub mod Statuses
