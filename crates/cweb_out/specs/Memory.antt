@@ -42,3 +42,7 @@ draft_room bins = room_of bins.draft
 -- the room that a draft gets
 abbrev pub file_room : MemoryBins → ℕ
 file_room bins = bins.room
+
+-- how many files the list has room for
+abbrev pub list_room : MemoryBins → ℕ
+list_room bins = vec_capacity bins.files

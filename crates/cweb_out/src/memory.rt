@@ -28,12 +28,13 @@ pub struct MemoryBins {
 }
 
 impl MemoryBins {
-    ghost use Rattle.cweb_out.specs.Memory.{bins_failed, file_room, files_kept, has_draft};
+    ghost use Rattle.cweb_out.specs.Memory.{bins_failed, file_room, files_kept, has_draft, list_room};
 
     /// No file yet: a list with room for so many files, and the room in bytes that each draft gets when it is begun.
     pub fn with_room(alloc: Global, files: usize, bytes: usize) -> Result<Self, AllocError>
         ensures empty { IfOk result (λ bins. files_kept bins ≡ []) }
         ensures no_draft { IfOk result (λ bins. has_draft bins ≡ false) }
+        ensures files { IfOk result (λ bins. files ≤ list_room bins) }
         ensures room { IfOk result (λ bins. file_room bins ≡ bytes) }
         ensures failed { IfOk result (λ bins. bins_failed bins ≡ 0) }
     {
