@@ -57,7 +57,8 @@ pub fn is_hex(byte: u8) -> bool
 pub fn is_word_byte(byte: u8) -> bool
     ensures { result ≡ spec.is_word_byte byte }
 {
-    matches!(byte, b'a'..=b'z' | b'A'..=b'Z' | b'0'..=b'9' | b'_' | b'$' | 128..)
+    // most are small letters
+    matches!(byte, b'a'..=b'z') || matches!(byte, b'A'..=b'Z' | b'0'..=b'9' | b'_' | b'$' | 128..)
 }
 
 fn is_replacing(byte: u8) -> bool

@@ -1,6 +1,6 @@
 // Punctuators of C text.
-ghost use Rattle.std.specs.Prelude.{◌≡◌, map};
-ghost use Rattle.cweb_rules.specs.Bytes.{is_one_of};
+ghost use Rattle.std.specs.Prelude.{◌≡◌, false, map};
+ghost use Rattle.cweb_rules.specs.Bytes.{begins as begins_with, is_one_of};
 ghost use Rattle.cweb_rules.specs.Tables.{listed, longest, seconds};
 ghost use Rattle.cweb_rules.specs.Signs.{first_len, second_is};
 
@@ -12,12 +12,22 @@ const LISTED: [&[u8]; 26] = [
     b"&&", b"||", b"*=", b"/=", b"%=", b"+=", b"-=", b"&=", b"^=", b"|=", b"##", b"::", b".*",
 ];
 
+// Whether the first bytes of a sign and of a text leave it open that the text begins with the sign.
+fn begins_alike(sign: &[u8], text: &[u8]) -> bool
+    ensures { result ≡ false → begins_with sign.now text.now ≡ false }
+{
+    match (sign, text) {
+        ([first, ..], [other, ..]) => *first == *other,
+        _ => true,
+    }
+}
+
 // The length of the first entry of a table that a text begins with, and else 1.
 fn first_len(table: &[&[u8]], text: &[u8]) -> usize
     ensures { result ≡ first_len (map (λ p. p.now) table.now) text.now }
 {
     for sign in table {
-        if begins(sign, text) {
+        if begins_alike(sign, text) && begins(sign, text) {
             return sign.len();
         }
     }

@@ -88,6 +88,7 @@ fn starts_settled(text: &[u8]) -> bool
 
 /// The first rule of C text that fits at a text's front; an included name is a rule where `includes` says so. Most pieces
 /// are told by their first byte.
+#[inline(always)]
 pub fn c_rule(includes: bool, text: &[u8]) -> Rule
     ensures { result ≡ first_rule includes text.now }
 {
@@ -102,6 +103,7 @@ pub fn c_rule(includes: bool, text: &[u8]) -> Rule
 }
 
 // The first rule that fits, each tried in its turn.
+#[inline(never)]
 fn tried_rule(includes: bool, text: &[u8]) -> Rule
     ensures { result ≡ first_rule includes text.now }
 {

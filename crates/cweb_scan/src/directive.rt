@@ -30,6 +30,7 @@ pub struct Directive {
     pub last: Last,
 }
 
+#[inline(always)]
 fn last_of(token: Token<'_>) -> Last
     ensures { result ≡ last (seen token.entry) }
 {
@@ -94,6 +95,7 @@ impl Directive {
         }
     }
 
+    #[inline(always)]
     fn next_stage(self, token: Token<'_>) -> Stage
         ensures { result ≡ stage_after self (seen token.entry) }
     {
@@ -110,6 +112,7 @@ impl Directive {
     }
 
     /// The directive after one more token.
+    #[inline(always)]
     pub fn step(self, token: Token<'_>) -> Directive
         ensures { result ≡ step self (seen token.entry) }
     {
