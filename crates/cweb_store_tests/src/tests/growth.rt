@@ -29,6 +29,14 @@ fn later_replacements_win(rt: HostRuntime) -> Result<(), Fail> {
 fn bytes_of_texts(rt: HostRuntime) -> Result<(), Fail> {
     for (row, text) in [
         ("program; word foo; word foo; word foo", "tokens 3; bytes 3"),
+        (
+            "program; word foo; word bar; sign +; word foo; close; macro; word bar; word ba; word foo",
+            "tokens 7; bytes 9",
+        ),
+        (
+            "program; number 12; word 12; number 12; verbatim 12; literal 12; word 12",
+            "tokens 6; bytes 10",
+        ),
         ("program; word foo; sign +; sign +", "tokens 3; bytes 5"),
         (
             "program; word foo; full a.h b; full a.h b",
