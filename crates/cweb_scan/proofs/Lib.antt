@@ -44,3 +44,6 @@ pub mod OpenRests
 pub mod OpenReaders
 pub mod Runs
 pub mod LineTurns
+pub mod PlainStates
+pub mod PlainPieces
+pub mod PlainTokens

@@ -16,3 +16,4 @@ pub mod Scan
 pub mod Ruled
 pub mod OpenRest
 pub mod Turned
+pub mod Alone

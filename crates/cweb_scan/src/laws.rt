@@ -1,15 +1,19 @@
 // What holds of the pieces of each text, and of what is kept of each web.
 
-ghost use Rattle.std.specs.Prelude.{◌≡◌, ◌∷◌, All, Bool, List, ℕ, true, false};
+ghost use Rattle.std.specs.List.{list_all};
+ghost use Rattle.std.specs.Prelude.{◌≡◌, ◌∷◌, ◌++◌, [], All, Bool, List, ℕ, codes, true, false};
 ghost use Rattle.cweb_files.specs.declared.place.Place.{Place};
 ghost use Rattle.cweb_lines.specs.Lines.{Line};
-ghost use Rattle.cweb_rules.specs.Bytes.{is_blank};
+ghost use Rattle.cweb_rules.specs.Bytes.{first_is, is_blank};
+ghost use Rattle.cweb_rules.specs.Follows.{JoinsAll, is_quiet};
 ghost use Rattle.cweb_rules.specs.Kinds.{Piece};
 ghost use Rattle.cweb_rules.specs.declared.context.Context.TheVariants.{CText};
 ghost use Rattle.cweb_scan.specs.After.{Reading};
+ghost use Rattle.cweb_scan.specs.Alone.{InPlainC, IsRead, ReadsAlone, bytes_of, doubled, goes_on, is_hash, solid};
 ghost use Rattle.cweb_scan.specs.Directives.{in_directive};
 ghost use Rattle.cweb_scan.specs.Law.{ArePieces, IsBounded, PlacesPass, web_size};
 ghost use Rattle.cweb_scan.specs.Run.{pieces, run, scanned};
+ghost use Rattle.cweb_store.specs.Parts.{Token};
 
 /// The pieces of a text are the one list of what the rules name at the front of the rest, again and again.
 pub fn pieces_are_one()
@@ -31,4 +35,19 @@ pub fn blanks_change_nothing()
 /// Marks and faults stand where lines of the web stand: what holds of the places of all lines holds of theirs.
 pub fn places_are_those_of_lines()
     ensures { (test : Place → Bool) (lines : List Line) → All (λ line. test line.place ≡ true) lines → PlacesPass test (scanned lines) }
+{}
+
+/// A token that reads alone is read as itself wherever a C part is open and no directive in it, whatever follows that does not
+/// go on with it.
+pub fn tokens_are_read_again()
+    ensures { (joins : ℕ → ℕ → Bool) (r : Reading) (token : Token) (rest : List ℕ) → JoinsAll joins → InPlainC r.state
+        → ReadsAlone token → is_hash token ≡ false → first_is (goes_on joins token) rest ≡ false
+        → IsRead r (doubled (bytes_of token)) rest (solid (token ∷ [])) }
+{}
+
+/// There a comment with neither `*` nor `@` in it, and a line end, give no token but what stands between tokens, and no fault.
+pub fn what_stands_between_is_passed()
+    ensures comments { (r : Reading) (text rest : List ℕ) → list_all is_quiet text ≡ true → InPlainC r.state
+        → IsRead r (codes "/*" ++ (text ++ codes "*/")) rest [] }
+    ensures line_ends { (r : Reading) (rest : List ℕ) → InPlainC r.state → IsRead r (codes "\n") rest [] }
 {}

@@ -26,3 +26,6 @@ pub mod Stopping
 pub mod TangleExits
 mod TangleRows
 mod WebRows
+mod SpacingStarts
+mod SpacingLaw
+mod SpacingRows

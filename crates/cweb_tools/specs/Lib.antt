@@ -17,3 +17,4 @@ pub mod TangleRun
 pub mod Web
 pub mod WebItems
 pub mod Words
+pub mod Spacing

@@ -1,9 +1,11 @@
-//! What holds of every run of `ctangle`, by the definition of its acts, whichever device fails and wherever memory is refused.
+//! What holds of every run of `ctangle`, by the definition of its acts, whichever device fails and wherever memory is refused; and
+//! that what is printed of C text reads as it was meant.
 ghost use Rattle.std.specs.Prelude.{◌≡◌, ℕ, List, None};
 ghost use Rattle.cweb_lines.specs.Lines.{SourceLine};
 ghost use Rattle.cweb_tools.specs.Acts.{Held, TangleEnds};
 ghost use Rattle.cweb_tools.specs.Leaves.{LeavesFiles};
 ghost use Rattle.cweb_tools.specs.Script.{TangleCourse, Web, refused, script, tangle_files, tangling};
+ghost use Rattle.cweb_tools.specs.Spacing.{Spacing};
 ghost use Rattle.cweb_tools.specs.declared.shown.Shown.{Shown};
 
 /// The files that were committed are the first of those that are due, in their order, each whole; all others are as before.
@@ -27,4 +29,10 @@ pub fn no_draft_remains()
     ensures { (shown : Shown) (course : TangleCourse) (due : ℕ) (old new : Held) (status : ℕ) →
         old.draft ≡ None →
         TangleEnds (script shown course) due old new status → new.draft ≡ None }
+{}
+
+/// Tokens of C text that are printed one after another, and read again with each `@` doubled, are the same tokens, and no fault
+/// comes: a blank stands wherever two of them would be read as another.
+pub fn spacing()
+    ensures { Spacing }
 {}

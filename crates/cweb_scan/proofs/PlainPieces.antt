@@ -1,0 +1,103 @@
+-- What one item of the law makes of a reading.
+use Rattle.std.proofs.Common.{◌≡◌, ℕ, Bool, true, false, cond, ◌&&◌, List, [], ◌∷◌, Option, Some, None, refl, ap, sym, ◌∙◌, subst}
+use Rattle.std.specs.List.{fold}
+use Rattle.cweb_store.specs.Parts.{Token, Word, Number, Literal, Punct}
+use Rattle.cweb_scan.specs.After.{Reading, after, item, on, each_line_end, comment_line_end, blank, punctuator, literal, literal_unit, next_line, line_end, enter_in, enter}
+use Rattle.cweb_rules.specs.declared.effect.Effect.{Effect}
+use Rattle.cweb_rules.specs.declared.effect.Effect.TheVariants.{Nothing, Define, Format, Program, Named, InsertDefs, Joins, GiveAt, Faulty}
+use Rattle.cweb_rules.specs.declared.effect.Effect.TheVariants as effect
+use Rattle.cweb_scan.specs.Directives.{in_directive}
+use Rattle.cweb_rules.specs.Items.{text_in}
+use Rattle.cweb_rules.specs.declared.end.End.TheVariants.{Closed, Cut, Nested, Open}
+use Rattle.cweb_rules.specs.Kinds.{Kind, Piece}
+use Rattle.cweb_rules.specs.Kinds as kind
+use Rattle.cweb_scan.specs.State.{give}
+use Rattle.cweb_scan.specs.Alone.{InPlainC, HasRead, solid, is_hash, is_clean, token_of, code_of}
+use Rattle.cweb_scan.proofs.PlainStates.{blank_gives, and_then, given, placed, line_ends, comment_line_ends, next_gives, each_gives, units_give}
+
+-- a head is left by no item of C text
+entered : (r : Reading) (k : Kind) → InPlainC r.state → on (enter k) r ≡ r
+entered r k h = ap (λ c. on (enter_in c k) r) h.in_c
+
+abbrev from_some : {A : Type 0} → Option A → A → A
+from_some None d = d
+from_some (Some a) d = a
+
+pub is_that : {A : Type 0} (a b : A) → Some a ≡ Some b → a ≡ b
+is_that a b e = ap (λ o. from_some o a) e
+
+abbrev Gives : Reading → (Reading → Reading) → Token → Type 0
+Gives r f t = HasRead r.state (f r).state (solid (t ∷ []))
+
+literal_gives : (r : Reading) (units : List (List ℕ)) (v : Bool) (t : Token) → InPlainC r.state → is_hash t ≡ false → (v ≡ true → is_clean units ≡ true)
+    → cond v (Some (Literal (text_in units))) None ≡ Some t → Gives r (λ q. on (literal (text_in units) Closed q.state.here) (fold literal_unit q units)) t
+literal_gives r units false t h plain clean e = cc
+literal_gives r units true t h plain clean e =
+    let q = fold literal_unit r units in
+    let first = units_give units r (clean refl) h in
+    let l = Literal (text_in units) in
+    subst (λ u. HasRead r.state (give l q.state) (solid (u ∷ []))) (is_that l t e)
+    (and_then r.state q.state (give l q.state) [] (solid (l ∷ [])) first (given q.state l first.plain refl))
+
+code_gives : (r : Reading) (e : Effect) (t : Token) → InPlainC r.state → is_hash t ≡ false → code_of e ≡ Some t → Gives r (λ q. item (kind.Code e) [] q) t
+code_gives r GiveAt t h plain e =
+    let u = Punct (64 ∷ []) in
+    subst (λ v. HasRead r.state (give u r.state) (solid (v ∷ []))) (is_that u t e) (given r.state u h refl)
+code_gives r Nothing t h plain e = cc
+code_gives r Define t h plain e = cc
+code_gives r Format t h plain e = cc
+code_gives r Program t h plain e = cc
+code_gives r Named t h plain e = cc
+code_gives r effect.Letter t h plain e = cc
+code_gives r effect.ControlText t h plain e = cc
+code_gives r effect.Verbatim t h plain e = cc
+code_gives r effect.Constant t h plain e = cc
+code_gives r InsertDefs t h plain e = cc
+code_gives r Joins t h plain e = cc
+code_gives r (Faulty k) t h plain e = cc
+
+item_gives : (r : Reading) (k : Kind) (bytes : List ℕ) (t : Token) → InPlainC r.state → is_hash t ≡ false → token_of k bytes ≡ Some t → Gives r (item k bytes) t
+item_gives r (kind.Quoted units Closed) bytes t h plain e = literal_gives r units (is_clean units) t h plain (λ c. c) e
+item_gives r (kind.Quoted units Cut) bytes t h plain e = cc
+item_gives r (kind.Quoted units Nested) bytes t h plain e = cc
+item_gives r (kind.Quoted units Open) bytes t h plain e = cc
+item_gives r kind.Identifier bytes t h plain e =
+    let u = Word bytes in
+    subst (λ v. HasRead r.state (give u r.state) (solid (v ∷ []))) (is_that u t e) (given r.state u h refl)
+item_gives r kind.Numeral bytes t h plain e =
+    let u = Number bytes in
+    subst (λ v. HasRead r.state (give u r.state) (solid (v ∷ []))) (is_that u t e) (given r.state u h refl)
+item_gives r kind.Punctuator bytes t h plain e =
+    let u = Punct bytes in
+    let same = is_that u t e in
+    subst (λ v. HasRead r.state (punctuator bytes r.state) (solid (v ∷ []))) same
+    (placed r.state (give u r.state) (solid (u ∷ [])) r.state.here (in_directive r.state && r.state.folded) (given r.state u h (ap is_hash same ∙ plain)))
+item_gives r (kind.Code e) bytes t h plain is = code_gives r e t h plain is
+item_gives r kind.Skipped bytes t h plain e = cc
+item_gives r (kind.Section starred) bytes t h plain e = cc
+item_gives r (kind.Letter byte text) bytes t h plain e = cc
+item_gives r (kind.ControlText how) bytes t h plain e = cc
+item_gives r (kind.Verbatim units how) bytes t h plain e = cc
+item_gives r (kind.Constant value) bytes t h plain e = cc
+item_gives r (kind.Occurrence is_file units how opens) bytes t h plain e = cc
+item_gives r kind.Blanks bytes t h plain e = cc
+item_gives r kind.LineEnd bytes t h plain e = cc
+item_gives r (kind.Comment how) bytes t h plain e = cc
+item_gives r (kind.Defined tight) bytes t h plain e = cc
+
+-- an item that is a token gives it, and no fault
+pub token_gives : (r : Reading) (p : Piece) (t : Token) → InPlainC r.state → is_hash t ≡ false → token_of p.kind p.bytes ≡ Some t → HasRead r.state (after r p).state (solid (t ∷ []))
+token_gives r p t h plain e = subst (λ q. HasRead r.state (item p.kind p.bytes q).state (solid (t ∷ []))) (sym (entered r p.kind h)) (item_gives r p.kind p.bytes t h plain e)
+
+-- blanks leave the reading as it is
+pub blanks_give : (r : Reading) (bytes : List ℕ) → InPlainC r.state → after r (record { kind = kind.Blanks; bytes = bytes }) ≡ r
+blanks_give r bytes h = ap (on blank) (entered r kind.Blanks h) ∙ ap (λ s. record r { state = s }) (blank_gives r.state h)
+
+pub line_end_gives : (r : Reading) (bytes : List ℕ) → InPlainC r.state → HasRead r.state (after r (record { kind = kind.LineEnd; bytes = bytes })).state []
+line_end_gives r bytes h = subst (λ q. HasRead r.state (next_line line_end q).state []) (sym (entered r kind.LineEnd h)) (next_gives line_end line_ends r h)
+
+-- a comment that ended gives layout alone
+pub comment_gives : (r : Reading) (bytes : List ℕ) → InPlainC r.state → HasRead r.state (after r (record { kind = kind.Comment Closed; bytes = bytes })).state []
+comment_gives r bytes h =
+    let same : on blank (on (enter (kind.Comment Closed)) r) ≡ r = ap (on blank) (entered r (kind.Comment Closed) h) ∙ ap (λ s. record r { state = s }) (blank_gives r.state h) in
+    subst (λ q. HasRead r.state (each_line_end comment_line_end bytes q).state []) (sym same) (each_gives comment_line_end comment_line_ends bytes r h)

@@ -1,0 +1,189 @@
+-- What a run makes of a token's bytes and what follows.
+use Rattle.std.proofs.Common.{◌≡◌, ℕ, ◌+◌, ◌<◌, ◌/◌, ◌%◌, suc, zero, Bool, true, false, cond, ◌&&◌, ◌==◌, List, [], ◌∷◌, ◌++◌, Some, None, length, take, drop, refl, ap, ◌∙◌, arith, append_assoc, length-append}
+use Rattle.std.specs.Prelude.{codes}
+use Rattle.std.specs.Fmt.{decimal, digit_glyph, digits_onto, digits}
+use Rattle.std.specs.List.{list_all, fold}
+use Rattle.std.proofs.Math.Seq.{take-append_seam, drop-append_seam}
+use Rattle.cweb_store.specs.Parts.{Token, Word, Number, Literal, Punct}
+use Rattle.cweb_rules.specs.Bytes.{first_is}
+use Rattle.cweb_rules.specs.Follows.{JoinsAll, IsToken, is_token, is_quiet, begins_as, joins_last}
+use Rattle.cweb_rules.specs.Follows as rules
+use Rattle.cweb_rules.specs.Fronts.{front_in}
+use Rattle.cweb_rules.specs.Kinds.{Kind, Front, front}
+use Rattle.cweb_rules.specs.Kinds as kind
+use Rattle.cweb_rules.specs.declared.context.Context.TheVariants.{CText}
+use Rattle.cweb_rules.specs.declared.effect.Effect.{Effect}
+use Rattle.cweb_rules.specs.declared.effect.Effect.TheVariants.{Nothing, Define, Format, Program, Named, InsertDefs, Joins, GiveAt, Faulty}
+use Rattle.cweb_rules.specs.declared.effect.Effect.TheVariants as effect
+use Rattle.cweb_rules.specs.declared.end.End.{End}
+use Rattle.cweb_rules.specs.declared.end.End.TheVariants.{Closed, Cut, Nested, Open}
+use Rattle.cweb_rules.proofs.Comments.{comment_front}
+use Rattle.cweb_rules.proofs.Tokens.{tokens_stay, tokens_begin}
+use Rattle.cweb_scan.specs.After.{Reading, after}
+use Rattle.cweb_scan.specs.Directives.{some_include, names_include}
+use Rattle.cweb_scan.specs.Run.{front_of, run}
+use Rattle.cweb_scan.proofs.Pieces.{pieces_first}
+use Rattle.cweb_scan.specs.Alone.{InPlainC, IsRead, ReadsAlone, doubled, solid, token_of, literal_of, bytes_of, goes_on, is_hash}
+use Rattle.cweb_scan.proofs.PlainPieces.{is_that, token_gives, line_end_gives, comment_gives}
+
+-- ONE PIECE
+
+in_plain_c : (r : Reading) (t : List ℕ) → InPlainC r.state → front_of r.state t ≡ front_in CText false t
+in_plain_c r t h = ap (λ c. front_in c (names_include r.state) t) h.in_c ∙ ap (λ o. front_in CText (some_include o) t) h.no_directive
+
+run_step : (r : Reading) (b : ℕ) (x : List ℕ) (k : Kind) (n : ℕ) → InPlainC r.state → front_in CText false (b ∷ x) ≡ front k n → 0 < n
+    → run r (b ∷ x) ≡ run (after r (record { kind = k; bytes = take n (b ∷ x) })) (drop n (b ∷ x))
+run_step r b x k n h is some =
+    let t = b ∷ x in
+    let e = in_plain_c r t h ∙ is in
+    let size : (front_of r.state t).size ≡ n = ap (λ f. f.size) e in
+    ap (fold after r) (pieces_first r b x (omega (arith, some, size)))
+    ∙ ap (λ f. run (after r (record { kind = f.kind; bytes = take f.size t })) (drop f.size t)) e
+
+-- a piece that has these bytes, whatever follows
+run_over : (r : Reading) (d more : List ℕ) (k : Kind) → InPlainC r.state → 0 < length d → front_in CText false (d ++ more) ≡ front k (length d)
+    → run r (d ++ more) ≡ run (after r (record { kind = k; bytes = d })) more
+run_over r [] more k h some is = absurd (omega (arith, some))
+run_over r (b ∷ t) more k h some is =
+    let d = b ∷ t in
+    run_step r b (t ++ more) k (length d) h is some
+    ∙ ap (λ bytes. run (after r (record { kind = k; bytes = bytes })) (drop (length d) (d ++ more))) (take-append_seam d more)
+    ∙ ap (run (after r (record { kind = k; bytes = d }))) (drop-append_seam d more)
+
+pub newline_read : (r : Reading) (rest : List ℕ) → InPlainC r.state → IsRead r (10 ∷ []) rest []
+newline_read r rest h = record {
+  next = after r (record { kind = kind.LineEnd; bytes = 10 ∷ [] });
+  goes_on = run_step r 10 rest kind.LineEnd 1 h refl (omega arith);
+  read = line_end_gives r (10 ∷ []) h;
+}
+
+abbrev pub comment_of : List ℕ → List ℕ
+comment_of x = codes "/*" ++ (x ++ codes "*/")
+
+pub comment_read : (r : Reading) (x rest : List ℕ) → list_all is_quiet x ≡ true → InPlainC r.state → IsRead r (comment_of x) rest []
+comment_read r x rest quiet h =
+    let d = comment_of x in
+    let is : d ++ rest ≡ 47 ∷ 42 ∷ x ++ 42 ∷ 47 ∷ rest = ap (λ t. 47 ∷ 42 ∷ t) (append_assoc x (42 ∷ 47 ∷ []) rest) in
+    let size : 2 + (length x + 2) ≡ length d = omega (arith, length-append x (42 ∷ 47 ∷ [])) in
+    record {
+      next = after r (record { kind = kind.Comment Closed; bytes = d });
+      goes_on = run_over r d rest (kind.Comment Closed) h (omega arith)
+          (ap (front_in CText false) is ∙ comment_front x rest quiet ∙ ap (front (kind.Comment Closed)) size);
+      read = comment_gives r d h;
+    }
+
+-- NUMBERS OF SECTIONS
+
+glyph_quiet : (d : ℕ) → d < 10 → is_quiet (digit_glyph false d) ≡ true
+glyph_quiet zero h = refl
+glyph_quiet (suc zero) h = refl
+glyph_quiet (suc (suc zero)) h = refl
+glyph_quiet (suc (suc (suc zero))) h = refl
+glyph_quiet (suc (suc (suc (suc zero)))) h = refl
+glyph_quiet (suc (suc (suc (suc (suc zero))))) h = refl
+glyph_quiet (suc (suc (suc (suc (suc (suc zero)))))) h = refl
+glyph_quiet (suc (suc (suc (suc (suc (suc (suc zero))))))) h = refl
+glyph_quiet (suc (suc (suc (suc (suc (suc (suc (suc zero)))))))) h = refl
+glyph_quiet (suc (suc (suc (suc (suc (suc (suc (suc (suc zero))))))))) h = refl
+glyph_quiet (suc (suc (suc (suc (suc (suc (suc (suc (suc (suc d)))))))))) h = absurd (omega (arith, h))
+
+pub all_if : (a b : Bool) → a ≡ true → b ≡ true → (a && b) ≡ true
+all_if true b e f = f
+all_if false b e f = e
+
+quiet_onto : (k n : ℕ) (acc : List ℕ) → list_all is_quiet acc ≡ true → list_all is_quiet (digits_onto k 10 false n acc) ≡ true
+quiet_onto zero n acc h = h
+quiet_onto (suc k) n acc h =
+    let g = digit_glyph false (n % 10) in
+    let more = all_if (is_quiet g) (list_all is_quiet acc) (glyph_quiet (n % 10) (omega arith)) h in
+    (elim (n / 10 == 0) as (λ v. list_all is_quiet (cond v (g ∷ acc) (digits_onto k 10 false (n / 10) (g ∷ acc))) ≡ true) [
+      | true ↦ more
+      | false ↦ quiet_onto k (n / 10) (g ∷ acc) more
+    ])
+
+pub quiet_decimal : (n : ℕ) → list_all is_quiet (decimal n) ≡ true
+unfolding digits
+quiet_decimal n = quiet_onto 64 n [] refl
+
+-- TOKENS
+
+clean_closed : (v : Bool) (b : List ℕ) (u : Token) → cond v (Some (Literal b)) None ≡ Some u → Literal b ≡ u
+clean_closed true b u t = is_that (Literal b) u t
+clean_closed false b u t = cc
+
+-- the kind of a token, and what is known of it by its kind
+pub record Kinded (k : Kind) (d : List ℕ) (u : Token) : Type 0 where
+  pub token : is_token k ≡ true
+  pub goes : (joins : ℕ → ℕ → Bool) (more : List ℕ) → first_is (goes_on joins u) more ≡ false → first_is (rules.goes_on joins k d) more ≡ false
+
+none_goes : (more : List ℕ) → first_is (λ b. false) more ≡ false
+none_goes [] = refl
+none_goes (b ∷ more) = refl
+
+code_kinded : (c : Effect) (d : List ℕ) (u : Token) → token_of (kind.Code c) d ≡ Some u → Kinded (kind.Code c) d u
+code_kinded GiveAt d u t = record { token = refl; goes = λ joins more h. none_goes more }
+code_kinded Nothing d u t = cc
+code_kinded Define d u t = cc
+code_kinded Format d u t = cc
+code_kinded Program d u t = cc
+code_kinded Named d u t = cc
+code_kinded effect.Letter d u t = cc
+code_kinded effect.ControlText d u t = cc
+code_kinded effect.Verbatim d u t = cc
+code_kinded effect.Constant d u t = cc
+code_kinded InsertDefs d u t = cc
+code_kinded Joins d u t = cc
+code_kinded (Faulty k) d u t = cc
+
+literal_kinded : (units : List (List ℕ)) (how : End) (d : List ℕ) (u : Token) → literal_of units how ≡ Some u → Kinded (kind.Quoted units how) d u
+literal_kinded units Closed d u t = record { token = refl; goes = λ joins more h. none_goes more }
+literal_kinded units Cut d u t = cc
+literal_kinded units Nested d u t = cc
+literal_kinded units Open d u t = cc
+
+pub kinded : (k : Kind) (d : List ℕ) (u : Token) → token_of k d ≡ Some u → Kinded k d u
+kinded kind.Identifier d u t =
+    let same = is_that (Word d) u t in
+    record { token = refl; goes = λ joins more h. ap (λ v. first_is (goes_on joins v) more) same ∙ h }
+kinded kind.Numeral d u t =
+    let same = is_that (Number d) u t in
+    record { token = refl; goes = λ joins more h. ap (λ v. first_is (goes_on joins v) more) same ∙ h }
+kinded kind.Punctuator d u t =
+    let same = is_that (Punct d) u t in
+    record { token = refl; goes = λ joins more h. ap (λ v. first_is (goes_on joins v) more) same ∙ h }
+kinded (kind.Quoted units how) d u t = literal_kinded units how d u t
+kinded (kind.Code c) d u t = code_kinded c d u t
+kinded kind.Skipped d u t = cc
+kinded (kind.Section starred) d u t = cc
+kinded (kind.Letter byte text) d u t = cc
+kinded (kind.ControlText how) d u t = cc
+kinded (kind.Verbatim units how) d u t = cc
+kinded (kind.Constant value) d u t = cc
+kinded (kind.Occurrence is_file units how opens) d u t = cc
+kinded kind.Blanks d u t = cc
+kinded kind.LineEnd d u t = cc
+kinded (kind.Comment how) d u t = cc
+kinded (kind.Defined tight) d u t = cc
+
+abbrev pub text_of : Token → List ℕ
+text_of u = doubled (bytes_of u)
+
+pub alone : (u : Token) (h : ReadsAlone u) → IsToken h.kind (text_of u)
+alone u h = record { whole = h.whole; token = (kinded h.kind (text_of u) u h.token).token }
+
+pub begins : (u : Token) (h : ReadsAlone u) → first_is (begins_as h.kind) (text_of u) ≡ true
+begins u h = tokens_begin h.kind (text_of u) (alone u h)
+
+some_byte : (p : ℕ → Bool) (d : List ℕ) → first_is p d ≡ true → 0 < length d
+some_byte p [] h = cc
+some_byte p (b ∷ d) h = omega arith
+
+pub token_read : (joins : ℕ → ℕ → Bool) (r : Reading) (u : Token) (rest : List ℕ) → JoinsAll joins → InPlainC r.state → ReadsAlone u → is_hash u ≡ false → first_is (goes_on joins u) rest ≡ false → IsRead r (text_of u) rest (solid (u ∷ []))
+token_read joins r u rest all plain h hash seam =
+    let d = text_of u in
+    let k = kinded h.kind d u h.token in
+    record {
+      next = after r (record { kind = h.kind; bytes = d });
+      goes_on = run_over r d rest h.kind plain (some_byte (begins_as h.kind) d (begins u h)) (tokens_stay joins h.kind d rest all (alone u h) (k.goes joins rest seam));
+      read = token_gives r (record { kind = h.kind; bytes = d }) u plain hash h.token;
+    }

@@ -1,0 +1,166 @@
+-- The spacing law, by induction on the list.
+use Rattle.std.proofs.Common.{◌≡◌, ℕ, Bool, true, false, cond, ◌==◌, not, List, [], ◌∷◌, ◌++◌, Option, Some, None, All, refl, ap, sym, ◌∙◌, subst, append_assoc}
+use Rattle.std.specs.Prelude.{codes, if◌then◌else◌, nat_le, decimal}
+use Rattle.std.specs.List.{list_all}
+use Rattle.std.proofs.lemmas.Grind.{flat_map-append}
+use Rattle.std.proofs.lemmas.List.Elements.{All-head, All-tail}
+use Rattle.std.proofs.lemmas.List.Folds.{list_all-append}
+use Rattle.cweb_store.specs.Parts.{Token, Word, Number, Literal, Verbatim, Punct, Blank, Newline, Join, Defs, Name, Head, Tail, Mark}
+use Rattle.cweb_rules.specs.Bytes.{first_is}
+use Rattle.cweb_rules.specs.Follows.{is_quiet}
+use Rattle.cweb_rules.proofs.Joins.{both, unlike}
+use Rattle.cweb_scan.specs.After.{Reading}
+use Rattle.cweb_scan.specs.Run.{run}
+use Rattle.cweb_scan.proofs.Gaps.{one_more}
+use Rattle.cweb_out.specs.Printing.{Setting, print_after, file_text, word_text, kept}
+use Rattle.cweb_out.specs.Spacing.{sep, are_apart}
+use Rattle.cweb_scan.specs.Alone.{InPlainC, HasRead, IsRead, ReadsAlone, solid, is_between, doubled, at_doubled, is_hash, bytes_of, goes_on}
+use Rattle.cweb_tools.specs.Spacing.{IsPlain, Spacing, is_ascii}
+use Rattle.cweb_scan.proofs.PlainStates.{nothing, and_then, no_directive}
+use Rattle.cweb_scan.proofs.PlainTokens.{newline_read, comment_read, comment_of, token_read, quiet_decimal, all_if}
+use Rattle.cweb_tools.proofs.SpacingStarts.{First, first_of, seam, blank_after, is_false, joins, operators_join}
+
+-- THE TEXT OF A TOKEN
+
+ascii_text : (s : Setting) (b : List ℕ) → is_ascii b ≡ true → word_text s.replaced b ≡ b
+ascii_text s [] h = refl
+ascii_text s (c ∷ b) h =
+    let e = both (not (nat_le 128 c)) (is_ascii b) h in
+    ap (λ v. (if v then s.replaced c else c ∷ []) ++ word_text s.replaced b) (is_false (nat_le 128 c) e.0) ∙ ap (λ t. c ∷ t) (ascii_text s b e.1)
+
+quiet_doubled : (x : List ℕ) → list_all is_quiet x ≡ true → doubled x ≡ x
+quiet_doubled [] h = refl
+quiet_doubled (b ∷ x) h =
+    let q = both (is_quiet b) (list_all is_quiet x) h in
+    let at = is_false (64 == b) (both (not (42 == b)) (not (64 == b)) q.0).1 in
+    ap (λ v. (if v then codes "@@" else b ∷ []) ++ doubled x) (unlike (λ c. 64 == c) b 64 true refl at) ∙ ap (λ t. b ∷ t) (quiet_doubled x q.1)
+
+head_text : (n : ℕ) → doubled (47 ∷ 42 ∷ decimal n ++ 58 ∷ 42 ∷ 47 ∷ []) ≡ comment_of (decimal n ++ 58 ∷ [])
+head_text n =
+    let d = decimal n in
+    ap (λ t. 47 ∷ 42 ∷ t) (flat_map-append at_doubled d (58 ∷ 42 ∷ 47 ∷ []) ∙ ap (λ t. t ++ 58 ∷ 42 ∷ 47 ∷ []) (quiet_doubled d (quiet_decimal n)) ∙ sym (append_assoc d (58 ∷ []) (42 ∷ 47 ∷ [])))
+
+tail_text : (n : ℕ) → doubled (47 ∷ 42 ∷ 58 ∷ decimal n ++ 42 ∷ 47 ∷ []) ≡ comment_of (58 ∷ decimal n)
+tail_text n =
+    let d = decimal n in
+    ap (λ t. 47 ∷ 42 ∷ 58 ∷ t) (flat_map-append at_doubled d (42 ∷ 47 ∷ []) ∙ ap (λ t. t ++ 42 ∷ 47 ∷ []) (quiet_doubled d (quiet_decimal n)))
+
+quiet_head : (n : ℕ) → list_all is_quiet (decimal n ++ 58 ∷ []) ≡ true
+quiet_head n = list_all-append is_quiet (decimal n) (58 ∷ []) ∙ all_if (list_all is_quiet (decimal n)) true (quiet_decimal n) refl
+
+-- the first byte of a token's text
+text_first : (s : Setting) (left : Option Token) (u : Token) → IsPlain u → First u (doubled (file_text s left u))
+text_first s left Blank h = record { byte = 32; rest = []; is = refl; starts = refl }
+text_first s left Newline h = record { byte = 10; rest = []; is = refl; starts = refl }
+text_first s left (Head n) h = record { byte = 47; rest = 42 ∷ (decimal n ++ 58 ∷ []) ++ 42 ∷ 47 ∷ []; is = head_text n; starts = refl }
+text_first s left (Tail n) h = record { byte = 47; rest = 42 ∷ (58 ∷ decimal n) ++ 42 ∷ 47 ∷ []; is = tail_text n; starts = refl }
+text_first s left (Word b) h = subst (λ t. First (Word b) (doubled t)) (sym (ascii_text s b h.0)) (first_of (Word b) h.1)
+text_first s left (Number b) h = first_of (Number b) h
+text_first s left (Literal b) h = first_of (Literal b) h
+text_first s left (Punct b) h = first_of (Punct b) h.2
+text_first s left (Verbatim b) h = absurd h
+text_first s left Join h = absurd h
+text_first s left Defs h = absurd h
+text_first s left (Name n) h = absurd h
+text_first s left (Mark p) h = absurd h
+
+-- ONE TOKEN
+
+pub run_blank : (r : Reading) (x : List ℕ) → InPlainC r.state → run r (32 ∷ x) ≡ run r x
+run_blank r x h = one_more r 32 x h.in_c (no_directive r.state h) refl
+
+solid_read : (r : Reading) (u : Token) (rest : List ℕ) → ReadsAlone u → is_hash u ≡ false → InPlainC r.state → first_is (goes_on joins u) rest ≡ false → IsRead r (doubled (bytes_of u)) rest (solid (u ∷ []))
+solid_read r u rest h plain in_plain goes = token_read joins r u rest operators_join in_plain h plain goes
+
+-- what is read of a token's text, whatever follows that can't go on with it
+step : (s : Setting) (left : Option Token) (r : Reading) (u : Token) (rest : List ℕ) → IsPlain u → InPlainC r.state → first_is (goes_on joins u) rest ≡ false
+    → IsRead r (doubled (file_text s left u)) rest (solid (u ∷ []))
+step s left r Blank rest h plain goes = record { next = r; goes_on = run_blank r rest plain; read = nothing r.state plain }
+step s left r Newline rest h plain goes = newline_read r rest plain
+step s left r (Head n) rest h plain goes = subst (λ t. IsRead r t rest []) (sym (head_text n)) (comment_read r (decimal n ++ 58 ∷ []) rest (quiet_head n) plain)
+step s left r (Tail n) rest h plain goes = subst (λ t. IsRead r t rest []) (sym (tail_text n)) (comment_read r (58 ∷ decimal n) rest (quiet_decimal n) plain)
+step s left r (Word b) rest h plain goes = subst (λ t. IsRead r (doubled t) rest (Word b ∷ [])) (sym (ascii_text s b h.0)) (solid_read r (Word b) rest h.1 refl plain goes)
+step s left r (Number b) rest h plain goes = solid_read r (Number b) rest h refl plain goes
+step s left r (Literal b) rest h plain goes = solid_read r (Literal b) rest h refl plain goes
+step s left r (Punct b) rest h plain goes = solid_read r (Punct b) rest h.2 h.0 plain goes
+step s left r (Verbatim b) rest h plain goes = absurd h
+step s left r Join rest h plain goes = absurd h
+step s left r Defs rest h plain goes = absurd h
+step s left r (Name n) rest h plain goes = absurd h
+step s left r (Mark p) rest h plain goes = absurd h
+
+-- THE LIST
+
+abbrev Plains : List Token → Type 0
+Plains [] = Unit {0}
+Plains (t ∷ ts) = IsPlain t × Plains ts
+
+abbrev printed : Setting → Option Token → List Token → List ℕ
+printed s left ts = doubled (print_after (file_text s) left ts)
+
+abbrev blank_if : Bool → List ℕ
+blank_if v = if v then codes " " else []
+
+seam_after : (s : Setting) (u : Token) (ts : List Token) → Plains ts → first_is (goes_on joins u) (printed s (Some u) ts) ≡ false
+seam_after s u [] h = refl
+seam_after s u (v ∷ ts) h =
+    let text = file_text s (Some u) v in
+    let more = print_after (file_text s) (Some v) ts in
+    let f = text_first s (Some u) v h.0 in
+    elim (are_apart u v) as (λ w. are_apart u v ≡ w → first_is (goes_on joins u) (doubled ((blank_if w ++ text) ++ more)) ≡ false) [
+      | true ↦ λ e. blank_after u
+      | false ↦ λ e. ap (first_is (goes_on joins u)) (flat_map-append at_doubled text more) ∙ ap (λ d. first_is (goes_on joins u) (d ++ doubled more)) f.is ∙ seam u v f.byte e f.starts
+    ] refl
+
+blank_before : (r : Reading) (v : Bool) (text more : List ℕ) → InPlainC r.state → run r (doubled ((blank_if v ++ text) ++ more)) ≡ run r (doubled text ++ doubled more)
+blank_before r true text more h = run_blank r (doubled (text ++ more)) h ∙ ap (run r) (flat_map-append at_doubled text more)
+blank_before r false text more h = ap (run r) (flat_map-append at_doubled text more)
+
+after_sep : (r : Reading) (left : Option Token) (t : Token) (text more : List ℕ) → InPlainC r.state → run r (doubled ((sep left t ++ text) ++ more)) ≡ run r (doubled text ++ doubled more)
+after_sep r None t text more h = blank_before r false text more h
+after_sep r (Some l) t text more h = blank_before r (are_apart l t) text more h
+
+one_first : (v : Bool) (t : Token) (us : List Token) → cond v (t ∷ []) [] ++ us ≡ cond v (t ∷ us) us
+one_first true t us = refl
+one_first false t us = refl
+
+solid_first : (t : Token) (ts : List Token) → solid (t ∷ []) ++ solid ts ≡ solid (t ∷ ts)
+solid_first t ts = one_first (not (is_between t)) t (solid ts)
+
+law_from : (s : Setting) (left : Option Token) (ts : List Token) → Plains ts → (r : Reading) → InPlainC r.state → HasRead r.state (run r (printed s left ts)).state (solid ts)
+law_from s left [] h r plain = nothing r.state plain
+law_from s left (t ∷ ts) h r plain =
+    let text = file_text s left t in
+    let more = print_after (file_text s) (Some t) ts in
+    let one = step s left r t (doubled more) h.0 plain (seam_after s t ts h.1) in
+    let rest = law_from s (Some t) ts h.1 one.next one.read.plain in
+    let whole = and_then r.state one.next.state (run one.next (doubled more)).state (solid (t ∷ [])) (solid ts) one.read rest in
+    let is : run r (printed s left (t ∷ ts)) ≡ run one.next (doubled more) = after_sep r left t text more plain ∙ one.goes_on in
+    subst (λ q. HasRead r.state q.state (solid (t ∷ ts))) (sym is)
+    (subst (λ us. HasRead r.state (run one.next (doubled more)).state us) (solid_first t ts) whole)
+
+-- without a Join no layout is deleted
+all_kept : (ts : List Token) → Plains ts → kept false ts ≡ ts
+all_kept [] h = refl
+all_kept (Blank ∷ ts) h = ap (λ us. Blank ∷ us) (all_kept ts h.1)
+all_kept (Newline ∷ ts) h = ap (λ us. Newline ∷ us) (all_kept ts h.1)
+all_kept (Head n ∷ ts) h = ap (λ us. Head n ∷ us) (all_kept ts h.1)
+all_kept (Tail n ∷ ts) h = ap (λ us. Tail n ∷ us) (all_kept ts h.1)
+all_kept (Word b ∷ ts) h = ap (λ us. Word b ∷ us) (all_kept ts h.1)
+all_kept (Number b ∷ ts) h = ap (λ us. Number b ∷ us) (all_kept ts h.1)
+all_kept (Literal b ∷ ts) h = ap (λ us. Literal b ∷ us) (all_kept ts h.1)
+all_kept (Punct b ∷ ts) h = ap (λ us. Punct b ∷ us) (all_kept ts h.1)
+all_kept (Verbatim b ∷ ts) h = absurd h.0
+all_kept (Join ∷ ts) h = absurd h.0
+all_kept (Defs ∷ ts) h = absurd h.0
+all_kept (Name n ∷ ts) h = absurd h.0
+all_kept (Mark p ∷ ts) h = absurd h.0
+
+plains : (ts : List Token) → All IsPlain ts → Plains ts
+plains [] h = tt
+plains (t ∷ ts) h = (All-head IsPlain t ts h, plains ts (All-tail IsPlain t ts h))
+
+pub law : Spacing
+law s ts h r plain =
+    let p = plains ts h in
+    subst (λ us. HasRead r.state (run r (doubled (print_after (file_text s) None us))).state (solid ts)) (sym (all_kept ts p)) (law_from s None ts p r plain)

@@ -1,0 +1,71 @@
+-- Rows of the spacing law, computed, and tokens that meet its premise.
+use Rattle.std.proofs.Common.{◌++◌, ◌≡◌, List, [], ◌∷◌, refl}
+use Rattle.std.specs.Prelude.{codes}
+use Rattle.std.specs.Fmt.{digits}
+use Rattle.cweb_store.specs.declared.part.PartKind.TheVariants as part
+use Rattle.cweb_store.specs.Calls.{empty, with_open}
+use Rattle.cweb_store.specs.Parts.{Token, Word, Number, Literal, Punct, Head}
+use Rattle.cweb_rules.specs.Kinds.{Quoted, Numeral, Punctuator, Code}
+use Rattle.cweb_rules.specs.declared.context.Context.TheVariants.{CText}
+use Rattle.cweb_rules.specs.declared.effect.Effect.TheVariants.{GiveAt}
+use Rattle.cweb_rules.specs.declared.end.End.TheVariants.{Closed}
+use Rattle.cweb_scan.specs.After.{Reading}
+use Rattle.cweb_scan.specs.Alone.{ReadsAlone, InPlainC, doubled}
+use Rattle.cweb_scan.specs.Run.{run}
+use Rattle.cweb_scan.specs.State.{before_text, part_tokens}
+use Rattle.cweb_out.specs.Printing.{Setting, print}
+
+abbrev in_c_part : Reading
+in_c_part = record { state = record (before_text (record { file = record { 0 = 0 }; line = 1 })) { context = CText; contents = with_open part.Unnamed empty }; later = [] }
+
+plain : InPlainC in_c_part.state
+plain = record { part = record { kind = part.Unnamed; tokens = [] }; open_part = refl; in_c = refl; no_directive = refl }
+
+abbrev settled : Setting
+settled = record { replaced = λ b. []; files = []; macros = [] }
+
+abbrev reread : List Token → List Token
+reread ts = part_tokens (run in_c_part (doubled (print settled ts))).state
+
+abbrev row : List Token
+row = Number (codes "0xe") ∷ Punct (codes "+") ∷ Number (codes "1") ∷ Punct (codes ".") ∷ Number (codes ".5") ∷ Literal (codes "\"a\"") ∷ Literal (codes "R\"(b)\"") ∷ Word (codes "R") ∷ Literal (codes "\"(c)\"") ∷ []
+
+row_printed : print settled row ≡ codes "0xe +1 . .5 \"a\"R\"(b)\" R \"(c)\""
+row_printed = refl
+
+row_read : reread row ≡ row
+row_read = refl
+
+comment_printed : print settled (Punct (codes "/") ∷ Head 1 ∷ Punct (codes "*") ∷ []) ≡ codes "/ /*1:*/*"
+unfolding digits
+comment_printed = refl
+
+comment_read : reread (Punct (codes "/") ∷ Head 1 ∷ Punct (codes "*") ∷ []) ≡ Punct (codes "/") ∷ Punct (codes "*") ∷ []
+unfolding digits
+comment_read = refl
+
+abbrev signs : List Token
+signs = Punct (codes "@") ∷ Word (codes "d") ∷ Punct (codes "-") ∷ Punct (codes "->") ∷ Punct (codes ".") ∷ Punct (codes "...") ∷ []
+
+signs_read : reread signs ≡ signs
+signs_read = refl
+
+-- tokens that read alone
+number : ReadsAlone (Number (codes "0xe+"))
+number = record { kind = Numeral; whole = refl; token = refl }
+
+at : ReadsAlone (Punct (codes "@"))
+at = record { kind = Code GiveAt; whole = refl; token = refl }
+
+backslash : ReadsAlone (Punct (codes "\\"))
+backslash = record { kind = Punctuator; whole = refl; token = refl }
+
+null : ReadsAlone (Punct (0 ∷ []))
+null = record { kind = Punctuator; whole = refl; token = refl }
+
+two_lines : ReadsAlone (Literal (34 ∷ 64 ∷ 92 ∷ 10 ∷ 34 ∷ []))
+two_lines = record { kind = Quoted ((34 ∷ []) ∷ (64 ∷ 64 ∷ []) ∷ (92 ∷ 10 ∷ []) ∷ (34 ∷ []) ∷ []) Closed; whole = refl; token = refl }
+
+-- a raw literal that holds a line end and an `@`
+raw : ReadsAlone (Literal (codes "R\"(" ++ 10 ∷ 64 ∷ codes ")\""))
+raw = record { kind = Quoted (codes "R\"(" ∷ (10 ∷ []) ∷ codes "@@" ∷ codes ")\"" ∷ []) Closed; whole = refl; token = refl }

@@ -1,0 +1,34 @@
+-- What is printed of C text is read as the tokens that were printed.
+use Rattle.std.specs.Prelude.{◌≡◌, Bool, true, false, nat_le, not, List, codes, Some, All}
+use Rattle.std.specs.Prelude.{ℕ}
+use Rattle.std.specs.List.{list_all}
+use Rattle.cweb_store.specs.Parts.{Token, Word, Number, Literal, Punct, Blank, Newline, Head, Tail}
+use Rattle.cweb_scan.specs.After.{Reading}
+use Rattle.cweb_scan.specs.Directives.{is_punct}
+use Rattle.cweb_scan.specs.Run.{run}
+use Rattle.cweb_out.specs.Printing.{Setting, print}
+use Rattle.cweb_scan.specs.Alone.{ReadsAlone, InPlainC, HasRead, doubled, solid, is_hash}
+
+abbrev pub is_ascii : List ℕ → Bool
+is_ascii bytes = list_all (λ b. not (nat_le 128 b)) bytes
+
+abbrev pub is_double_hash : Token → Bool
+is_double_hash token = is_punct (codes "##") (Some token)
+
+-- what the law speaks of: layout, section comments, and all words of bytes below 128, numbers, literals and punctuators that read
+-- alone; `#` and `##` belong to directives
+abbrev pub IsPlain : Token → Type 0
+IsPlain Blank = Unit {0}
+IsPlain Newline = Unit {0}
+IsPlain (Head section) = Unit {0}
+IsPlain (Tail section) = Unit {0}
+IsPlain (Word bytes) = (is_ascii bytes ≡ true) × ReadsAlone (Word bytes)
+IsPlain (Number bytes) = ReadsAlone (Number bytes)
+IsPlain (Literal bytes) = ReadsAlone (Literal bytes)
+IsPlain (Punct bytes) = (is_hash (Punct bytes) ≡ false) × (is_double_hash (Punct bytes) ≡ false) × ReadsAlone (Punct bytes)
+IsPlain token = ⊥
+
+-- printed, with each `@` doubled, they are read as these tokens again, wherever a C part is open and no directive in it
+abbrev pub Spacing : Type 0
+Spacing = (setting : Setting) (tokens : List Token) → All IsPlain tokens → (r : Reading) → InPlainC r.state →
+    HasRead r.state (run r (doubled (print setting tokens))).state (solid tokens)
