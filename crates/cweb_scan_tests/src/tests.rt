@@ -12,6 +12,7 @@ mod literals;
 mod macros;
 mod names;
 mod sections;
+mod spacing;
 mod told;
 mod worked;
 
