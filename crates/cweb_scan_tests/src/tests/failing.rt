@@ -41,7 +41,7 @@ fn refuse_memory(
     Ok(())
 }
 
-// Run by `rt try --test --fail-alloc 1..`, which refuses each allocation of the scans in turn.
+// Run by `tests/refusals`, which refuses each allocation of the scans in turn, one a run.
 #[test]
 fn memory_that_is_refused(rt: HostRuntime) -> Result<(), Fail> {
     refuse_memory(&rt, NAMES, 21, 0)
