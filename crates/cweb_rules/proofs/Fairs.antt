@@ -120,7 +120,7 @@ code_at-fair : (c : Context) (effect : ℕ → Effect) (takes_sign : Bool) (b : 
 code_at-fair c effect takes_sign a [] = skipped-fair c a []
 code_at-fair c effect takes_sign a (b ∷ u) = code_front-fair c a b u (effect b) takes_sign
 
-text_front-fair : (c : Context) (effect : ℕ → Effect) (b : ℕ) (t : List ℕ) → Fair c (b ∷ t) (text_front effect (b ∷ t))
+pub text_front-fair : (c : Context) (effect : ℕ → Effect) (b : ℕ) (t : List ℕ) → Fair c (b ∷ t) (text_front effect (b ∷ t))
 text_front-fair c effect b t =
     choose c (b ∷ t) (starts_section (b ∷ t)) _ _ (λ h. section_at-fair c b t)
     (λ h. choose c (b ∷ t) (begins (codes "@") (b ∷ t)) _ _ (λ k. code_at-fair c effect true b t) (λ k. skipped-fair c b t))

@@ -94,7 +94,7 @@ code_at-stands effect takes_sign [] h = tt
 code_at-stands effect takes_sign (a ∷ []) h = h
 code_at-stands effect takes_sign (a ∷ b ∷ t) h = code-stands (effect b) takes_sign (a ∷ b ∷ t) h
 
-text-stands : (effect : ℕ → Effect) (t : List ℕ) → IsLine t → Stands t (text_front effect t)
+pub text-stands : (effect : ℕ → Effect) (t : List ℕ) → IsLine t → Stands t (text_front effect t)
 text-stands effect t h =
     choose t (starts_section t) _ _ (λ v. section-stands t h) (λ v. choose t (begins (codes "@") t) _ _ (λ w. code_at-stands effect true t h) (λ w. IsLine-take 1 t h))
 
@@ -108,7 +108,7 @@ quoted-stands look n t h =
     let m = n + length (body r) in
     (IsLine-take n t h, lines-append r.units (take r.close (drop m t)) (units-lines look Cut (drop n t) (IsLine-drop n t h)) (IsLine-take r.close (drop m t) (IsLine-drop m t h)))
 
-c-stands : (effect : ℕ → Effect) (takes_sign includes : Bool) (b : ℕ) (t : List ℕ) → IsLine (b ∷ t) → Stands (b ∷ t) (c_front effect takes_sign includes (b ∷ t))
+pub c-stands : (effect : ℕ → Effect) (takes_sign includes : Bool) (b : ℕ) (t : List ℕ) → IsLine (b ∷ t) → Stands (b ∷ t) (c_front effect takes_sign includes (b ∷ t))
 c-stands effect takes_sign includes b t h =
     let u = b ∷ t in
     choose u (is_blank b) _ _ (λ v. IsLine-take (prefix_len is_blank u) u h)

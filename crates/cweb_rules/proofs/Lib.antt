@@ -21,3 +21,4 @@ pub mod ClosedLiterals
 pub mod Comments
 pub mod Tokens
 mod FollowRows
+pub mod Newlines

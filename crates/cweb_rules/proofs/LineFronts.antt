@@ -48,7 +48,7 @@ rest_line includes b t more e = λ i.
     else (if is_word_byte b then front Identifier (run_line is_word_byte (b ∷ t) more refl e i)
     else front Punctuator (longest_stop in_line listed (b ∷ t) more refl (stops in_line more refl e) i)))
 
-c_front_line : (effect : ℕ → Effect) (takes_sign includes : Bool) (b : ℕ) (t more : List ℕ) → AtLineEnd more → c_opens effect (b ∷ t) ≡ false → c_front effect takes_sign includes (b ∷ t ++ more) ≡ c_front effect takes_sign includes (b ∷ t)
+pub c_front_line : (effect : ℕ → Effect) (takes_sign includes : Bool) (b : ℕ) (t more : List ℕ) → AtLineEnd more → c_opens effect (b ∷ t) ≡ false → c_front effect takes_sign includes (b ∷ t ++ more) ≡ c_front effect takes_sign includes (b ∷ t)
 c_front_line effect takes_sign includes b t more e h =
     let u = b ∷ t in
     step (is_blank b) (is_blank b) _ _ _ _ false _ refl (λ v p. ap (front Blanks) (run_line is_blank u more refl e))

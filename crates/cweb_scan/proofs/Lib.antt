@@ -47,3 +47,4 @@ pub mod LineTurns
 pub mod PlainStates
 pub mod PlainPieces
 pub mod PlainTokens
+pub mod Standing

@@ -17,3 +17,4 @@ pub mod Ruled
 pub mod OpenRest
 pub mod Turned
 pub mod Alone
+pub mod Standing

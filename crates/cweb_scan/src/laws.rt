@@ -3,7 +3,7 @@
 ghost use Rattle.std.specs.List.{list_all};
 ghost use Rattle.std.specs.Prelude.{◌≡◌, ◌∷◌, ◌++◌, [], All, Bool, List, ℕ, codes, true, false};
 ghost use Rattle.cweb_files.specs.declared.place.Place.{Place};
-ghost use Rattle.cweb_lines.specs.Lines.{Line};
+ghost use Rattle.cweb_lines.specs.Lines.{HasNoNewline, Line};
 ghost use Rattle.cweb_rules.specs.Bytes.{first_is, is_blank};
 ghost use Rattle.cweb_rules.specs.Follows.{JoinsAll, is_quiet};
 ghost use Rattle.cweb_rules.specs.Kinds.{Piece};
@@ -13,6 +13,7 @@ ghost use Rattle.cweb_scan.specs.Alone.{InPlainC, IsRead, ReadsAlone, bytes_of, 
 ghost use Rattle.cweb_scan.specs.Directives.{in_directive};
 ghost use Rattle.cweb_scan.specs.Law.{ArePieces, IsBounded, PlacesPass, web_size};
 ghost use Rattle.cweb_scan.specs.Run.{pieces, run, scanned};
+ghost use Rattle.cweb_scan.specs.Standing.{StandOnTheirLines};
 ghost use Rattle.cweb_store.specs.Parts.{Token};
 
 /// The pieces of a text are the one list of what the rules name at the front of the rest, again and again.
@@ -35,6 +36,11 @@ pub fn blanks_change_nothing()
 /// Marks and faults stand where lines of the web stand: what holds of the places of all lines holds of theirs.
 pub fn places_are_those_of_lines()
     ensures { (test : Place → Bool) (lines : List Line) → All (λ line. test line.place ≡ true) lines → PlacesPass test (scanned lines) }
+{}
+
+/// A piece's place is that of its first byte's line, wherever the piece ends and whatever the pieces before it are.
+pub fn pieces_stand_on_their_lines()
+    ensures { (line : Line) (lines : List Line) → All (λ l. HasNoNewline l.bytes) (line ∷ lines) → StandOnTheirLines line lines }
 {}
 
 /// A token that reads alone is read as itself wherever a C part is open and no directive in it, whatever follows that does not
