@@ -1,5 +1,5 @@
 -- An item with its end sign stands in its text.
-use Rattle.std.proofs.Common.{◌≤◌, ◌+◌, ℕ, List, length}
+use Rattle.std.proofs.Common.{◌≤◌, ℕ, List, length}
 use Rattle.std.specs.Prelude.{codes}
 use Rattle.cweb_rules.specs.Bytes.{begins, at_line_end}
 use Rattle.cweb_rules.specs.Cut.{reach, size_of}

@@ -21,9 +21,8 @@ use Rattle.cweb_rules.proofs.Sizes.{end_size, name-within, raw-within, comment-w
 use Rattle.cweb_rules.proofs.Seams.{in_line}
 use Rattle.cweb_scan.specs.After.{comment, occurrence}
 use Rattle.cweb_scan.specs.Fronted.{ended_as, unit_state}
-use Rattle.cweb_scan.specs.Held.{Held}
-use Rattle.cweb_scan.specs.OpenRest.{text_of, with_text, delimiter_of, literal_turn, look_size, TakesOpen}
-use Rattle.cweb_scan.specs.Resume.{Item, Between, InComment, InName, InLiteral, AfterBackslash, InRaw, resume, sign_of, takes_sign}
+use Rattle.cweb_scan.specs.OpenRest.{literal_turn, look_size, TakesOpen}
+use Rattle.cweb_scan.specs.Resume.{InComment, InName, InLiteral, AfterBackslash, InRaw, resume, sign_of, takes_sign}
 use Rattle.cweb_scan.specs.Room.{weight}
 use Rattle.cweb_scan.specs.Run.{run}
 use Rattle.cweb_scan.specs.State.{State, fault}

@@ -4,7 +4,7 @@ use Rattle.std.specs.Prelude.{if◌then◌else◌, codes, nat_lt, bytes_eq, not}
 use Rattle.std.specs.List.{fold, prefix_len}
 use Rattle.std.proofs.lemmas.List.{take-append-le, drop-append-le, length-drop}
 use Rattle.cweb_scan.specs.After.{Reading, on, each_line_end, next_line, comment_line_end, comment, occurrence, literal, literal_unit, enter_in, after, blank}
-use Rattle.cweb_rules.specs.Bytes.{begins, first_is, is_blank, is_line_end, is_word_byte, at_line_end, starts_section}
+use Rattle.cweb_rules.specs.Bytes.{begins, first_is, is_blank, is_line_end, is_word_byte, at_line_end}
 use Rattle.cweb_rules.specs.declared.effect.Effect.{Effect}
 use Rattle.cweb_rules.specs.Codes.{in_macro, in_c}
 use Rattle.cweb_rules.specs.declared.look.Look.{Look}

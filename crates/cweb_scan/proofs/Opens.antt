@@ -1,9 +1,8 @@
 -- What opens an item is taken as the code takes it.
-use Rattle.std.proofs.Common.{◌≡◌, ◌≤◌, ℕ, zero, suc, ◌+◌, ◌*◌, Bool, true, false, ◌&&◌, ◌||◌, ◌==◌, List, [], ◌∷◌, ◌++◌, length, take, drop, refl, ap, sym, ◌∙◌, subst, arith}
-use Rattle.std.specs.Prelude.{if◌then◌else◌, codes}
+use Rattle.std.proofs.Common.{◌≡◌, ◌≤◌, ℕ, ◌+◌, Bool, true, false, ◌&&◌, ◌==◌, List, [], ◌∷◌, ◌++◌, length, take, drop, refl, ap, sym, ◌∙◌, subst, arith}
+use Rattle.std.specs.Prelude.{codes}
 use Rattle.std.proofs.lemmas.Bool.{eqb-true}
 use Rattle.std.proofs.lemmas.List.{length-drop}
-use Rattle.cweb_files.specs.declared.place.Place.{Place}
 use Rattle.cweb_rules.specs.Bytes.{begins}
 use Rattle.cweb_rules.specs.Fronts.{starts_raw, starts_literal, literal_prefix, quote_of, raw_prefix, delimiter}
 use Rattle.cweb_rules.specs.Lines.{IsLine}
@@ -11,12 +10,11 @@ use Rattle.cweb_rules.specs.declared.context.Context.{Context}
 use Rattle.cweb_rules.specs.declared.context.Context.TheVariants.{Limbo, TeX, Definition, Macro, CText}
 use Rattle.cweb_rules.proofs.LineItems.{is_quoted-size, sign-fits, has_delimiter-size}
 use Rattle.cweb_rules.proofs.Seams.{both}
-use Rattle.cweb_scan.specs.After.{Reading, on, blank}
+use Rattle.cweb_scan.specs.After.{blank}
 use Rattle.cweb_scan.specs.Fronted.{is_head}
-use Rattle.cweb_scan.specs.Held.{Held, goes_on, Takes}
+use Rattle.cweb_scan.specs.Held.{Held, Takes}
 use Rattle.cweb_scan.specs.Resume as item
 use Rattle.cweb_scan.specs.Resume.{Item, InComment, InName, InLiteral, InRaw, resume}
-use Rattle.cweb_scan.specs.Run.{run}
 use Rattle.cweb_scan.specs.State.{State}
 use Rattle.cweb_scan.specs.Fronted.{IsPast, reads_c, reads_names, reads_literals}
 use Rattle.cweb_scan.proofs.Openers.{leave_head_in, opened_comment, opened_name, opened_file, opened_raw, opened_literal}

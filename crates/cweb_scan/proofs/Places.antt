@@ -1,12 +1,11 @@
 -- Marks and faults stand where lines of the web stand.
-use Rattle.std.proofs.Common.{◌≡◌, ◌≤◌, ℕ, zero, suc, ◌+◌, ◌-◌, Bool, true, false, List, [], ◌∷◌, ◌++◌, take, map, refl, arith}
+use Rattle.std.proofs.Common.{◌≡◌, ◌≤◌, ℕ, zero, suc, ◌-◌, Bool, true, false, List, [], ◌∷◌, ◌++◌, take, map, refl, arith}
 use Rattle.std.specs.Prelude.{if◌then◌else◌, codes, bytes_eq, All}
 use Rattle.std.specs.List.{fold}
 use Rattle.std.proofs.lemmas.List.Elements.{All-nil, All-cons, All-head, All-tail}
 use Rattle.cweb_files.specs.declared.place.Place.{Place}
 use Rattle.cweb_lines.specs.Lines.{Line}
-use Rattle.cweb_store.specs.Names.{Occurrence}
-use Rattle.cweb_store.specs.Parts.{Token, Word, Number, Verbatim, Mark, all_tokens}
+use Rattle.cweb_store.specs.Parts.{Token, Word, Number, Mark, all_tokens}
 use Rattle.cweb_store.specs.Growing.{all_parts}
 use Rattle.cweb_rules.specs.Bytes.{is_line_end}
 use Rattle.cweb_rules.specs.Items.{text_in}

@@ -1,5 +1,5 @@
 -- A step of a scan holds no places but those that it is given.
-use Rattle.std.proofs.Common.{◌≡◌, ◌≤◌, ℕ, ◌-◌, Bool, true, false, ◌||◌, ◌&&◌, not, List, Option, Some, None, length, refl, ap, arith}
+use Rattle.std.proofs.Common.{◌≡◌, ◌≤◌, ℕ, Bool, true, false, ◌||◌, ◌&&◌, not, List, Option, Some, None, length, refl, ap, arith}
 use Rattle.std.specs.Prelude.{if◌then◌else◌, codes, All}
 use Rattle.std.specs.Fmt.{decimal}
 use Rattle.std.proofs.lemmas.List.Elements.{All-push}

@@ -1,19 +1,18 @@
 -- Texts that are given as they stand, and included names.
-use Rattle.std.proofs.Common.{◌≡◌, ◌≤◌, true, false, ℕ, ◌+◌, List, [], ◌∷◌, ◌++◌, length, take, drop, refl, ap, sym, ◌∙◌, append_assoc}
+use Rattle.std.proofs.Common.{◌≡◌, true, false, ℕ, ◌+◌, List, [], ◌∷◌, ◌++◌, length, take, drop, refl, ap, sym, ◌∙◌, append_assoc}
 use Rattle.std.specs.Prelude.{codes, bytes_eq, if◌then◌else◌}
-use Rattle.std.specs.List.{fold, flat_map}
+use Rattle.std.specs.List.{fold}
 use Rattle.std.proofs.lemmas.Grind.{flat_map-append, fold-append}
-use Rattle.cweb_rules.specs.Cut.{Reach, reach, body, size_of}
+use Rattle.cweb_rules.specs.Cut.{Reach, reach, body}
 use Rattle.cweb_rules.specs.Fronts.{verbatim_at, include_at}
 use Rattle.cweb_rules.specs.Items.{unit_bytes, text_in, look_in_control, look_in_include}
 use Rattle.cweb_rules.specs.Lines.{IsLine}
 use Rattle.cweb_rules.specs.Looks.{reached}
-use Rattle.cweb_rules.specs.declared.end.End.{End}
 use Rattle.cweb_rules.specs.declared.end.End.TheVariants.{Cut, Open}
 use Rattle.cweb_rules.specs.declared.items.Reached.{Reached}
 use Rattle.cweb_rules.proofs.InLines.{AreLines, IsLine-take, IsLine-drop, units-lines}
 use Rattle.cweb_rules.proofs.Reaches.{control-units, include-units}
-use Rattle.cweb_scan.specs.After.{Reading, on, verbatim, literal, literal_unit}
+use Rattle.cweb_scan.specs.After.{verbatim, literal, literal_unit}
 use Rattle.cweb_scan.specs.Fronted.{ended_as, Gives, unit_state}
 use Rattle.cweb_rules.specs.declared.fault.ScanKind.TheVariants.{DoubleAtInString}
 use Rattle.cweb_scan.specs.Kept.{has_part}

@@ -1,8 +1,8 @@
 -- One unit of an item that is open, and the end of one, in a line.
-use Rattle.std.proofs.Common.{◌≡◌, ◌≤◌, ◌<◌, ℕ, zero, suc, ◌+◌, ◌-◌, ◌*◌, Bool, true, false, ◌==◌, List, [], ◌∷◌, ◌++◌, length, take, drop, refl, ap, sym, ◌∙◌, subst, arith, append_assoc, length-append, take-append-drop}
-use Rattle.std.specs.Prelude.{if◌then◌else◌, codes, nat_lt, bytes_eq}
-use Rattle.std.specs.List.{flat_map, fold, list_all}
-use Rattle.std.proofs.lemmas.List.{take-append-le, drop-append-le, length-take-le}
+use Rattle.std.proofs.Common.{◌≡◌, ◌≤◌, ◌<◌, ℕ, zero, suc, ◌+◌, ◌-◌, Bool, true, false, ◌==◌, List, [], ◌∷◌, ◌++◌, length, take, drop, refl, ap, sym, ◌∙◌, subst, arith, append_assoc, length-append, take-append-drop}
+use Rattle.std.specs.Prelude.{if◌then◌else◌, nat_lt}
+use Rattle.std.specs.List.{fold, list_all}
+use Rattle.std.proofs.lemmas.List.{take-append-le, drop-append-le}
 use Rattle.std.proofs.Math.Seq.{take-append-add, drop-append-add}
 use Rattle.cweb_files.specs.declared.place.Place.{Place}
 use Rattle.cweb_rules.specs.Cut.{Reach, reach, reach_in, with_unit, body, size_of}
@@ -11,7 +11,7 @@ use Rattle.cweb_rules.specs.Items as items
 use Rattle.cweb_rules.specs.Items.{unit_bytes, text_in, look_in_name, look_in_literal, look_in_raw}
 use Rattle.cweb_rules.specs.Lines.{IsLine, AtLineEnd, is_open}
 use Rattle.cweb_rules.specs.declared.end.End.{End}
-use Rattle.cweb_rules.specs.declared.end.End.TheVariants.{Closed, Cut, Nested, Open}
+use Rattle.cweb_rules.specs.declared.end.End.TheVariants.{Cut, Open}
 use Rattle.cweb_rules.specs.declared.look.Look.{Look}
 use Rattle.cweb_rules.specs.declared.look.Look.TheVariants.{Goes, Ends}
 use Rattle.cweb_rules.proofs.InLines.{IsLine-take}
@@ -20,11 +20,11 @@ use Rattle.cweb_rules.proofs.Reaches.{IsLocal, IsEnd, IsWithin, AllWithin, AllSo
 use Rattle.cweb_rules.proofs.Seams.{in_line, stops}
 use Rattle.cweb_scan.specs.After.{Reading, on, each_line_end, occurrence, literal, literal_unit}
 use Rattle.cweb_scan.specs.Fronted.{unit_state}
-use Rattle.cweb_scan.specs.Resume.{InName, InLiteral, InRaw, AfterBackslash, takes_sign, end_name, end_literal, sign_of, resume}
+use Rattle.cweb_scan.specs.Resume.{InName, InLiteral, InRaw, takes_sign, end_name, end_literal, sign_of, resume}
 use Rattle.cweb_scan.specs.Run.{run}
 use Rattle.cweb_scan.specs.State.{State, moved}
 use Rattle.cweb_scan.proofs.LineUnits.{one-unit}
-use Rattle.cweb_scan.proofs.OpenItems.{append-nil', each-line, whole-end, text_more, after_units, size-open, sizes, name_ends, literal_ends, raw_ends, unit_passes}
+use Rattle.cweb_scan.proofs.OpenItems.{append-nil', each-line, whole-end, after_units, sizes, name_ends, literal_ends, raw_ends, unit_passes}
 use Rattle.cweb_scan.proofs.TakenItems.{reading}
 
 abbrev at_front : (List ℕ → Look) → Look → List ℕ → End → List ℕ → Reach

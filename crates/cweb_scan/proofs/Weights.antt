@@ -1,12 +1,11 @@
 -- How much each piece adds to the tokens, parts, occurrences and sections, taken together.
-use Rattle.std.proofs.Common.{◌≡◌, ◌≤◌, ℕ, ◌+◌, ◌*◌, Bool, true, false, ◌||◌, ◌&&◌, not, List, [], ◌∷◌, ◌++◌, Option, Some, None, length, refl, ap, arith, append-nil, length-append}
+use Rattle.std.proofs.Common.{◌≡◌, ◌≤◌, ℕ, ◌+◌, ◌*◌, Bool, true, false, ◌&&◌, not, List, [], ◌∷◌, ◌++◌, Option, Some, None, length, refl, ap, arith, append-nil, length-append}
 use Rattle.std.specs.Prelude.{if◌then◌else◌, codes, bytes_eq, fold, option_map, option_to_list}
 use Rattle.std.specs.Fmt.{decimal}
 use Rattle.cweb_files.specs.declared.place.Place.{Place}
 use Rattle.cweb_store.specs.declared.name.NameRef.{NameRef}
 use Rattle.cweb_store.specs.declared.part.PartKind.{PartKind}
 use Rattle.cweb_store.specs.declared.part.PartKind.TheVariants as part
-use Rattle.cweb_store.specs.Names.{Occurrence}
 use Rattle.cweb_store.specs.Parts.{Token, Part, all_tokens, Word, Number, Literal, Verbatim, Punct, Blank, Newline, Join, Defs, Name, Head, Tail, Mark}
 use Rattle.cweb_store.specs.Growing.{PartsSoFar, opened, pushed, longer, token_count, part_count}
 use Rattle.cweb_store.specs.Calls.{with_open, with_dropped, with_occurrence}
@@ -23,10 +22,10 @@ use Rattle.cweb_rules.specs.Bytes.{is_line_end}
 use Rattle.cweb_rules.specs.Items.{text_in}
 use Rattle.cweb_rules.specs.Kinds.{Kind, Piece, Skipped, Section, Code, Letter, ControlText, Verbatim as VerbatimKind, Constant, Occurrence as OccurrenceKind, Blanks, LineEnd, Comment, Quoted, Defined, Identifier, Numeral, Punctuator}
 use Rattle.cweb_rules.specs.Pays.{at_line_ends, Pays}
-use Rattle.cweb_scan.specs.Directives.{in_directive, directive, is_punct, is_blank}
+use Rattle.cweb_scan.specs.Directives.{in_directive, directive, is_blank}
 use Rattle.cweb_scan.specs.Names.{occurrence_in}
-use Rattle.cweb_scan.specs.State.{State, give, fault, moved, begin_part, end_part, end_macro_in, end_macro, drop_definition, leave_in, leave, begin_section}
-use Rattle.cweb_scan.specs.After.{Reading, on, next_line, each_line_end, literal_unit, follows, line_end_token, line_end_in, line_end, comment_line_end, blank, punctuator, code, letter, control_text, verbatim, constant, define, comment, name_fault, use_name, open_name, name_in, occurrence, literal, stays_in_head, enter_in, enter, item, after}
+use Rattle.cweb_scan.specs.State.{State, give, fault, moved, begin_part, end_part, end_macro_in, end_macro, drop_definition, leave_in, begin_section}
+use Rattle.cweb_scan.specs.After.{Reading, on, next_line, each_line_end, literal_unit, line_end_token, line_end_in, line_end, comment_line_end, blank, code, letter, control_text, verbatim, constant, define, comment, name_fault, use_name, open_name, name_in, occurrence, literal, stays_in_head, enter_in, enter, item, after}
 use Rattle.cweb_scan.specs.Room.{weight}
 use Rattle.cweb_scan.proofs.Drops.{tokens_last}
 

@@ -1,5 +1,5 @@
 -- What a scan makes of a merger's lines, and what holds of that whatever the lines are.
-use Rattle.std.specs.Prelude.{◌≡◌, ◌<◌, ◌≤◌, ◌+◌, ℕ, List, [], ◌∷◌, ◌++◌, length, Bool, IsTrue, All, Option, Some}
+use Rattle.std.specs.Prelude.{◌≡◌, ◌<◌, ◌≤◌, ◌+◌, ℕ, List, [], ◌++◌, length, Bool, IsTrue, All, Option, Some}
 use Rattle.cweb_lines.specs.Lines.{Line}
 use Rattle.cweb_lines.specs.Merge.{Event}
 use Rattle.cweb_lines.specs.Merging.{SoFar, Gives, StopsBehind, TellsFront}

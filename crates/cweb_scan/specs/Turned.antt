@@ -1,5 +1,5 @@
 -- What one turn takes of the rest of a line.
-use Rattle.std.specs.Prelude.{◌≡◌, ◌≤◌, ◌<◌, ℕ, ◌+◌, ◌*◌, Bool, true, false, List, length, drop, if◌then◌else◌}
+use Rattle.std.specs.Prelude.{◌≡◌, ◌≤◌, ◌<◌, ℕ, ◌+◌, ◌*◌, true, false, List, length, drop, if◌then◌else◌}
 use Rattle.cweb_scan.specs.Held.{Held, Takes}
 use Rattle.cweb_scan.specs.OpenRest.{awaits_line_end, is_open}
 use Rattle.cweb_scan.specs.Resume.{Item}

@@ -1,4 +1,4 @@
-use Rattle.std.proofs.Common.{◌≡◌, List, ℕ, ◌∷◌, ◌++◌, length, take, drop, min, sym, ap, ◌∙◌, append_assoc}
+use Rattle.std.proofs.Common.{List, ℕ, ◌++◌, sym, ap, ◌∙◌, append_assoc}
 use Rattle.cweb_rules.specs.Cut.{reach}
 use Rattle.cweb_rules.specs.Items.{unit_bytes, text_in}
 use Rattle.cweb_rules.specs.Looks.{look_of}

@@ -1,4 +1,4 @@
-use Rattle.std.proofs.Common.{◌≡◌, true, ap, sym, ◌∙◌}
+use Rattle.std.proofs.Common.{ap, sym, ◌∙◌}
 use Rattle.cweb_scan.specs.Held.{Held}
 use Rattle.cweb_scan.specs.OpenRest.{is_open}
 use Rattle.cweb_scan.specs.Opened.{item_of}

@@ -1,5 +1,4 @@
-use Rattle.std.proofs.Common.{◌≡◌, true, List, ℕ, ◌+◌, ◌++◌, take, drop, refl, sym, ap, ◌∙◌, subst}
-use Rattle.std.specs.List.{fold}
+use Rattle.std.proofs.Common.{◌≡◌, true, ◌+◌, ◌++◌, take, drop, refl, sym, ap, ◌∙◌, subst}
 use Rattle.cweb_rules.specs.Cut.{reach}
 use Rattle.cweb_rules.specs.Items.{unit_bytes, text_in, look_in_include}
 use Rattle.cweb_rules.specs.declared.end.End.TheVariants.{Open}

@@ -1,6 +1,6 @@
 use Rattle.std.proofs.Common.{ap, ◌∙◌}
 use Rattle.cweb_rules.specs.declared.end.End.{End}
-use Rattle.cweb_scan.specs.After.{comment, blank}
+use Rattle.cweb_scan.specs.After.{comment}
 use Rattle.cweb_rules.specs.declared.end.End.TheVariants.{Closed}
 use Rattle.cweb_scan.specs.Fronted.{ended_as}
 use Rattle.cweb_scan.specs.State.{State}

@@ -1,4 +1,4 @@
-use Rattle.std.proofs.Common.{◌≡◌, List, ℕ, ◌++◌, drop, ap, ◌∙◌}
+use Rattle.std.proofs.Common.{List, ℕ, ◌++◌, ap, ◌∙◌}
 use Rattle.cweb_rules.specs.Cut.{reach}
 use Rattle.cweb_rules.specs.Items.{text_in, look_in_control}
 use Rattle.cweb_rules.specs.declared.end.End.{End}
