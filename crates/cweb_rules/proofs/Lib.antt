@@ -22,3 +22,4 @@ pub mod Comments
 pub mod Tokens
 mod FollowRows
 pub mod Newlines
+pub mod FirstBytes

@@ -14,3 +14,4 @@ pub mod Rules
 pub mod Pays
 pub mod Lines
 pub mod Follows
+pub mod Leads

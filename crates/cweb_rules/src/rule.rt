@@ -1,8 +1,8 @@
 // Which rule of C text fits first.
 ghost use Rattle.std.specs.Prelude.{◌≡◌, ◌<◌, length};
-ghost use Rattle.cweb_rules.specs.Bytes.{first_is};
 ghost use Rattle.cweb_rules.specs.Fronts as spec;
-ghost use Rattle.cweb_rules.specs.Rules.{c_rule as first_rule, is_settled as settled, text_rule as rule_of_text};
+ghost use Rattle.cweb_rules.specs.Rules.{c_rule as first_rule, text_rule as rule_of_text};
+ghost use Rattle.cweb_rules.specs.Leads.{lead};
 
 use crate::bytes::{Class, begins, starts, starts_section};
 use crate::end::End;
@@ -52,37 +52,25 @@ fn starts_include(text: &[u8]) -> bool
     is_closed(reach(Item::IncludedName, name).how)
 }
 
-// Whether a byte at a text's front leaves but an identifier or a punctuator to begin there.
-fn is_settled(byte: u8) -> bool
-    ensures { result ≡ settled byte }
-{
-    !matches!(
-        byte,
-        b' ' | b'\t'
-            | b'\r'
-            | 11
-            | 12
-            | b'\n'
-            | b'/'
-            | b'@'
-            | b'R'
-            | b'L'
-            | b'u'
-            | b'U'
-            | b'"'
-            | b'\''
-            | b'<'
-            | b'.'
-            | b'0'..=b'9'
-    )
+// What the first byte of C text tells of the rule that fits: blanks, an identifier, a punctuator, or not yet which.
+#[derive(Clone, Copy, Debug, PartialEq, Eq)]
+enum Lead {
+    Blank,
+    Word,
+    Sign,
+    Open,
 }
 
-fn starts_settled(text: &[u8]) -> bool
-    ensures { result ≡ first_is settled text.now }
+#[inline(always)]
+fn lead_of(byte: u8) -> Lead
+    ensures { result ≡ lead byte }
 {
-    match text {
-        [first, ..] => is_settled(*first),
-        [] => false,
+    match byte {
+        b' ' | b'\t' | b'\r' | 11 | 12 => Lead::Blank,
+        b'\n' | b'/' | b'@' | b'R' | b'L' | b'u' | b'U' | b'"' | b'\'' | b'<' | b'.' => Lead::Open,
+        b'0'..=b'9' => Lead::Open,
+        b'a'..=b'z' | b'A'..=b'Z' | b'_' | b'$' | 128.. => Lead::Word,
+        _ => Lead::Sign,
     }
 }
 
@@ -92,13 +80,14 @@ fn starts_settled(text: &[u8]) -> bool
 pub fn c_rule(includes: bool, text: &[u8]) -> Rule
     ensures { result ≡ first_rule includes text.now }
 {
-    if !starts_settled(text) {
+    let [first, ..] = text else {
         return tried_rule(includes, text);
-    }
-    if starts(Class::Word, text) {
-        Rule::Identifier
-    } else {
-        Rule::Punctuator
+    };
+    match lead_of(*first) {
+        Lead::Blank => Rule::Blanks,
+        Lead::Word => Rule::Identifier,
+        Lead::Sign => Rule::Punctuator,
+        Lead::Open => tried_rule(includes, text),
     }
 }
 

@@ -142,6 +142,7 @@ impl Reader {
     }
 
     /// A part of the item that is open, which ends with it or goes on. Answers how many bytes it has.
+    #[inline(never)]
     pub(crate) fn take_open(&mut self, rest: &[u8]) -> Result<usize, AllocError>
         requires open { is_open self.old.item ≡ true }
         requires within { awaits_line_end self.old.item ≡ false }

@@ -1,0 +1,131 @@
+-- A first byte that leaves but one rule of C text tells it.
+use Rattle.std.proofs.Common.{◌≡◌, ℕ, ◌+◌, Bool, true, false, ◌||◌, ◌&&◌, ◌==◌, not, ◌≤◌, List, [], ◌∷◌, length, drop, slice_index_or, refl, ap, sym, ◌∙◌, subst, arith}
+use Rattle.std.specs.Prelude.{if◌then◌else◌, codes}
+use Rattle.std.specs.List.{list_all}
+use Rattle.std.proofs.lemmas.Bool.{eqb-true}
+use Rattle.cweb_rules.specs.Bytes.{begins, is_blank, is_digit, is_one_of, is_word_byte, starts_section}
+use Rattle.cweb_rules.specs.Fronts.{has_delimiter, is_closed, is_quoted, literal_prefix, raw_prefix, starts_include, starts_literal, starts_raw}
+use Rattle.cweb_rules.specs.Items.{included_name}
+use Rattle.cweb_rules.specs.Leads.{lead}
+use Rattle.cweb_rules.specs.Rules.{c_rule, is_settled}
+use Rattle.cweb_rules.specs.Tables.{starts_number}
+use Rattle.cweb_rules.specs.declared.rule.Lead.{Lead}
+use Rattle.cweb_rules.specs.declared.rule.Lead.TheVariants as first
+use Rattle.cweb_rules.specs.declared.rule.Rule.{Rule}
+use Rattle.cweb_rules.specs.declared.rule.Rule.TheVariants as rule
+use Rattle.cweb_rules.proofs.Seams.{both, differs}
+
+abbrev is_unsettled : ℕ → Bool
+is_unsettled b = not (is_settled b)
+
+last_false : (a b : Bool) → not (a || b) ≡ true → b ≡ false
+last_false true b h = cc
+last_false false true h = cc
+last_false false false h = refl
+
+and_false : (a : Bool) → (a && false) ≡ false
+and_false true = refl
+and_false false = refl
+
+module _ (b : ℕ) (settled : is_settled b ≡ true) where
+  differ : (x : ℕ) → is_unsettled x ≡ true → (x == b) ≡ false
+  differ x h = differs is_unsettled x b h (ap not settled)
+
+  differ_back : (x : ℕ) → is_unsettled x ≡ true → (b == x) ≡ false
+  differ_back x h = (elim (b == x) as (λ v. (b == x) ≡ v → v ≡ false) [
+    | true ↦ λ e. let same : is_settled b ≡ is_settled x = ap is_settled (eqb-true b x e) in let wrong : true ≡ false = sym h ∙ ap not (sym same ∙ settled) in cc
+    | false ↦ λ e. refl
+  ]) refl
+
+  none : (set : List ℕ) → list_all is_unsettled set ≡ true → is_one_of set b ≡ false
+  none [] h = refl
+  none (x ∷ set) h =
+      let p = both (is_unsettled x) (list_all is_unsettled set) h in
+      ap (λ v. v || is_one_of set b) (differ x p.0) ∙ none set p.1
+
+  no_digit : is_digit b ≡ false
+  no_digit = last_false (is_one_of (32 ∷ 9 ∷ 13 ∷ 11 ∷ 12 ∷ 10 ∷ []) b || is_one_of (codes "/@RLuU\"'<.") b) (is_digit b) settled
+
+  no_section : (t : List ℕ) → starts_section (b ∷ t) ≡ false
+  no_section [] = differ_back 64 refl
+  no_section (d ∷ t) = ap (λ v. v && is_one_of (32 ∷ 9 ∷ 10 ∷ 42 ∷ []) d) (differ_back 64 refl)
+
+  no_sign : (x : ℕ) (s t : List ℕ) → is_unsettled x ≡ true → begins (x ∷ s) (b ∷ t) ≡ false
+  no_sign x s t h = ap (λ v. v && begins s t) (differ x h)
+
+  no_raw_prefix : (t : List ℕ) → raw_prefix (b ∷ t) ≡ 0
+  no_raw_prefix t = λ i.
+      if no_sign 117 (codes "8R\"") t refl i then 2
+      else (if no_sign 76 (codes "R\"") t refl i || no_sign 117 (codes "R\"") t refl i || no_sign 85 (codes "R\"") t refl i then 1 else 0)
+
+  no_raw : (t : List ℕ) → starts_raw (b ∷ t) ≡ false
+  no_raw t =
+      ap (λ n. begins (codes "R\"") (drop n (b ∷ t)) && has_delimiter (drop (n + 2) (b ∷ t))) (no_raw_prefix t)
+      ∙ ap (λ v. v && has_delimiter (drop (0 + 2) (b ∷ t))) (no_sign 82 (codes "\"") t refl)
+
+  no_prefix : (t : List ℕ) → literal_prefix (b ∷ t) ≡ 0
+  no_prefix t = λ i.
+      if no_sign 117 (codes "8") t refl i && is_quoted 2 (b ∷ t) then 2
+      else (if (no_sign 76 [] t refl i || no_sign 117 [] t refl i || no_sign 85 [] t refl i) && is_quoted 1 (b ∷ t) then 1 else 0)
+
+  no_literal : (t : List ℕ) → starts_literal (b ∷ t) ≡ false
+  no_literal t = ap (λ n. is_quoted n (b ∷ t)) (no_prefix t) ∙ (λ i. no_sign 34 [] t refl i || no_sign 39 [] t refl i)
+
+  no_include : (includes : Bool) (t : List ℕ) → (includes && starts_include (b ∷ t)) ≡ false
+  no_include includes t =
+      ap (λ v. includes && (v && is_closed (included_name t).how)) (no_sign 60 [] t refl) ∙ and_false includes
+
+  no_number : (t : List ℕ) → starts_number (b ∷ t) ≡ false
+  no_number [] = no_digit
+  no_number (d ∷ t) = λ i. no_digit i || (differ_back 46 refl i && is_digit d)
+
+  pub settled-rule : (includes : Bool) (t : List ℕ) → c_rule includes (b ∷ t) ≡ (if is_word_byte b then rule.Identifier else rule.Punctuator)
+  settled-rule includes t = λ i.
+      if none (32 ∷ 9 ∷ 13 ∷ 11 ∷ 12 ∷ []) refl i then rule.Blanks
+      else (if differ_back 10 refl i then rule.LineEnd
+      else (if no_sign 47 (codes "*") t refl i then rule.Comment
+      else (if no_sign 47 (codes "/") t refl i then rule.LineComment
+      else (if no_section t i then rule.Section
+      else (if no_sign 64 [] t refl i then rule.Code
+      else (if no_raw t i then rule.RawLiteral
+      else (if no_literal t i then rule.Literal
+      else (if no_include includes t i then rule.IncludedName
+      else (if no_number t i then rule.Number
+      else (if is_word_byte b then rule.Identifier
+      else rule.Punctuator))))))))))
+
+if_true : (v : Bool) (x y : Rule) → v ≡ true → (if v then x else y) ≡ x
+if_true true x y e = refl
+if_true false x y e = cc
+
+-- the rule that a first byte leaves
+abbrev pub IsTold : Bool → List ℕ → Lead → Type 0
+IsTold includes t first.Blank = rule.Blanks ≡ c_rule includes t
+IsTold includes t first.Word = rule.Identifier ≡ c_rule includes t
+IsTold includes t first.Sign = rule.Punctuator ≡ c_rule includes t
+IsTold includes t first.Open = Unit {0}
+
+told-settled : (includes : Bool) (b : ℕ) (t : List ℕ) → is_settled b ≡ true → IsTold includes (b ∷ t) (if is_word_byte b then first.Word else first.Sign)
+told-settled includes b t settled =
+    (elim (is_word_byte b) as (λ v. c_rule includes (b ∷ t) ≡ (if v then rule.Identifier else rule.Punctuator) → IsTold includes (b ∷ t) (if v then first.Word else first.Sign)) [
+      | true ↦ λ e. sym e
+      | false ↦ λ e. sym e
+    ]) (settled-rule b settled includes t)
+
+told-unblank : (includes : Bool) (b : ℕ) (t : List ℕ) → IsTold includes (b ∷ t) (if is_settled b then (if is_word_byte b then first.Word else first.Sign) else first.Open)
+told-unblank includes b t =
+    (elim (is_settled b) as (λ v. is_settled b ≡ v → IsTold includes (b ∷ t) (if v then (if is_word_byte b then first.Word else first.Sign) else first.Open)) [
+      | true ↦ λ e. told-settled includes b t e
+      | false ↦ λ e. tt
+    ]) refl
+
+pub lead-told : (includes : Bool) (b : ℕ) (t : List ℕ) → IsTold includes (b ∷ t) (lead b)
+lead-told includes b t =
+    (elim (is_blank b) as (λ v. is_blank b ≡ v → IsTold includes (b ∷ t) (if v then first.Blank else (if is_settled b then (if is_word_byte b then first.Word else first.Sign) else first.Open))) [
+      | true ↦ λ e. sym (if_true (is_blank b) rule.Blanks _ e)
+      | false ↦ λ e. told-unblank includes b t
+    ]) refl
+
+pub told-at : (includes : Bool) (t : List ℕ) (r : Lead) → 1 ≤ length t → r ≡ lead (slice_index_or t 0 0) → IsTold includes t r
+told-at includes [] r h e = absurd (omega (arith, h))
+told-at includes (b ∷ t) r h e = subst (IsTold includes (b ∷ t)) (sym e) (lead-told includes b t)
