@@ -1,14 +1,10 @@
 -- Laws of the layout that is dropped, and of the tokens that stay.
-use Rattle.std.proofs.Common.{◌≡◌, ℕ, zero, suc, Bool, true, false, List, [], ◌∷◌, ◌++◌, Some, None, Option, take, drop, refl, sym, ◌∙◌, ap, subst, append_assoc, append-nil}
-use Rattle.std.specs.Prelude.{if◌then◌else◌, fold, filter_map, option_map, option_to_list}
+use Rattle.std.proofs.Common.{◌≡◌, ℕ, zero, suc, Bool, true, false, List, [], ◌∷◌, ◌++◌, take, drop, refl, sym, ◌∙◌, ap, append_assoc}
+use Rattle.std.specs.Prelude.{if◌then◌else◌}
 use Rattle.std.proofs.lemmas.List.{take-append-drop}
-use Rattle.std.proofs.lemmas.Grind.{flat_map-append}
-use Rattle.cweb_store.specs.declared.part.PartKind.{PartKind}
-use Rattle.cweb_store.specs.Parts.{Token, Part, all_tokens, is_macro}
-use Rattle.cweb_store.specs.Layout.{before_last, without_last, without_last_after, without_blank, without_layout, at_close, first_kept, is_layout, is_newline, is_blank}
-use Rattle.cweb_store.specs.Growing.{PartsSoFar, all_parts}
-use Rattle.cweb_store.specs.Calls.{Call, Occurs, Opens, Pushes, Drops, Closes, Transliterates, Contents, after, empty}
-use Rattle.cweb_store.specs.MoreLaws.{AllPass, IsFront, KeepsFront, DroppingKeepsTheFront}
+use Rattle.cweb_store.specs.Parts.{Token}
+use Rattle.cweb_store.specs.Layout.{before_last, without_last, without_last_after, first_kept, is_layout}
+use Rattle.cweb_store.specs.MoreLaws.{AllPass, IsFront, DroppingKeepsTheFront}
 
 before_last-front : (test : Token → Bool) (t : Token) (ts us rest : List Token) → ts ≡ us ++ rest → AllPass test rest → IsFront test (t ∷ ts) (before_last test t us)
 before_last-front test t ts [] rest splits passes =

@@ -1,19 +1,17 @@
 -- Who follows parts that are linked meets those that are wanted.
-use Rattle.std.proofs.Common.{◌≡◌, ℕ, zero, suc, ◌+◌, ◌-◌, ◌≤◌, ◌<◌, Bool, true, false, cond, List, [], ◌∷◌, Option, Some, None, map, length, take, drop, reverse, ◌++◌, get_or, refl, sym, ◌∙◌, ap, subst, arith, length-drop, drop-cons}
-use Rattle.std.specs.Prelude.{slice_get, slice_index, slice_range, filter, nat_eq, if◌then◌else◌}
+use Rattle.std.proofs.Common.{◌≡◌, ℕ, zero, suc, ◌+◌, ◌-◌, ◌≤◌, Bool, true, false, cond, List, [], ◌∷◌, Option, Some, None, map, length, drop, reverse, ◌++◌, get_or, refl, sym, ◌∙◌, ap, subst, arith, length-drop, drop-cons}
+use Rattle.std.specs.Prelude.{slice_get, slice_index, slice_range, filter, if◌then◌else◌}
 use Rattle.std.proofs.lemmas.Bool.{eqb-true}
 use Rattle.std.proofs.lemmas.List.{take_all, reverse-append}
-use Rattle.cweb_store.specs.declared.name.NameId.{NameId}
-use Rattle.cweb_store.specs.declared.part.Part.{Part}
 use Rattle.cweb_store.specs.declared.part.PartKind.{PartKind}
 use Rattle.cweb_store.specs.declared.part.PartKind.TheVariants.{Unnamed, Named, Macro}
 use Rattle.cweb_store.specs.declared.part.Run.{Run}
 use Rattle.cweb_store.specs.declared.parts.Wanted.{Wanted}
 use Rattle.cweb_store.specs.declared.parts.Wanted.TheVariants.{Program, OfName, Macros}
 use Rattle.cweb_store.specs.declared.links.Heads.{Heads}
-use Rattle.cweb_store.specs.Names.{Standing, stands, is_id}
+use Rattle.cweb_store.specs.Names.{Standing, stands}
 use Rattle.cweb_store.specs.Parts.{is_some_id}
-use Rattle.cweb_store.specs.Wanted.{is_wanted, wanted_in}
+use Rattle.cweb_store.specs.Wanted.{is_wanted}
 use Rattle.cweb_store.specs.Links.{followed, group_of, is_same, is_group, head_of, skip_of, IsPut, AreLinked}
 
 -- a part is wanted where its group is

@@ -16,7 +16,7 @@ use Rattle.cweb_store.specs.Parts.{is_defs}
 use Rattle.cweb_store.specs.declared.packed.Packed.{Packed}
 use Rattle.cweb_store.specs.declared.packed.Packed.TheVariants.{Word, Number, Literal, Verbatim, Punct, Blank, Newline, Join, Defs, Name, Head, Tail, Mark}
 use Rattle.cweb_store.specs.PackedTexts.{texts_from, AreEnds, begin_of, text_bytes}
-use Rattle.cweb_store.specs.Words.{AreWords}
+use Rattle.cweb_store.specs.Words.{TextsAndWords, AreWords}
 use Rattle.cweb_store.specs.Packed.{with_record, used_by, is_packed_defs, text_at, token_in, IsWithin, ArePacked, Packs}
 
 ends-le : (n all : ℕ) (ends : List ℕ) → AreEnds n ends all → n ≤ all
@@ -163,13 +163,13 @@ packed-grow texts more [] h = tt
 packed-grow texts more (q ∷ ps) h = (IsWithin-grow (length texts) (length (texts ++ more)) q (omega (arith, length-append texts more)) h.0, packed-grow texts more ps h.1)
 
 -- one more token
-pub packs-tokens : (old new : List (List ℕ)) (ps : List Packed) (t : spec.Token) (p : Packed) → ArePacked old ps → Packs old t p new → map (token_in new) (ps ++ p ∷ []) ≡ map (token_in old) ps ++ t ∷ []
+pub packs-tokens : (old new : TextsAndWords) (ps : List Packed) (t : spec.Token) (p : Packed) → ArePacked old.texts ps → Packs old t p new → map (token_in new.texts) (ps ++ p ∷ []) ≡ map (token_in old.texts) ps ++ t ∷ []
 packs-tokens old new ps t p all packs =
-    map-append (token_in new) ps (p ∷ []) ∙ ap (λ x. map (token_in new) ps ++ x ∷ []) packs.stands ∙ ap (λ ts. ts ++ t ∷ []) (ap (λ b. map (token_in b) ps) packs.grows ∙ tokens-grow old packs.more ps all)
+    map-append (token_in new.texts) ps (p ∷ []) ∙ ap (λ x. map (token_in new.texts) ps ++ x ∷ []) packs.stands ∙ ap (λ ts. ts ++ t ∷ []) (ap (λ b. map (token_in b) ps) packs.grows ∙ tokens-grow old.texts packs.more ps all)
 
-pub packs-all : (old new : List (List ℕ)) (ps : List Packed) (t : spec.Token) (p : Packed) → ArePacked old ps → Packs old t p new → ArePacked new (ps ++ p ∷ [])
+pub packs-all : (old new : TextsAndWords) (ps : List Packed) (t : spec.Token) (p : Packed) → ArePacked old.texts ps → Packs old t p new → ArePacked new.texts (ps ++ p ∷ [])
 packs-all old new ps t p all packs =
-    subst (λ (b : List (List ℕ)). ArePacked b (ps ++ p ∷ [])) (sym packs.grows) (ArePacked-grow old packs.more ps p all (subst (λ (b : List (List ℕ)). IsWithin (length b) p) packs.grows packs.within))
+    subst (λ (b : List (List ℕ)). ArePacked b (ps ++ p ∷ [])) (sym packs.grows) (ArePacked-grow old.texts packs.more ps p all (subst (λ (b : List (List ℕ)). IsWithin (length b) p) packs.grows packs.within))
 
 -- a record at a place
 pub packed-at : (texts : List (List ℕ)) (ps : List Packed) (i : ℕ) (p : Packed) → ArePacked texts ps → i < length ps → p ≡ get_or ps i p → IsWithin (length texts) p × (slice_get (map (token_in texts) ps) i ≡ Some (token_in texts p))

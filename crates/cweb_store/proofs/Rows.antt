@@ -9,9 +9,10 @@ use Rattle.cweb_store.specs.declared.name.NameRef.{NameRef}
 use Rattle.cweb_store.specs.declared.part.PartKind.{PartKind}
 use Rattle.cweb_store.specs.declared.part.PartKind.TheVariants.{Unnamed, Named, Macro}
 use Rattle.cweb_store.specs.Names.{Occurrence, id, names, texts, standings, files}
-use Rattle.cweb_store.specs.Parts.{Token, Word, Name, Mark, Blank, Newline, Join, Defs, joined, is_of, is_unnamed, is_macro, numbers_where, has_defs_code}
+use Rattle.cweb_store.specs.Parts.{Token, Word, Number, Name, Mark, Blank, Newline, Join, Defs, joined, is_of, is_unnamed, is_macro, numbers_where, has_defs_code}
 use Rattle.cweb_store.specs.Replacements.{replacement, replacement_of}
 use Rattle.cweb_store.specs.Faults.{fault, faults}
+use Rattle.cweb_store.specs.Texts.{bytes_given, bytes_kept}
 use Rattle.cweb_store.specs.Calls.{Call, Occurs, Opens, Pushes, Drops, Closes, Transliterates, Stored, contents, finished, occurrence_of}
 
 abbrev stored : List Call → Stored
@@ -177,3 +178,16 @@ a_replacement_of_its_own = refl
 
 no_replacement : replacement (stored replaced).replacements 214 ≡ None
 no_replacement = refl
+
+-- equal Words are kept once, and a Number that is spelled like one besides
+abbrev three_times : List Call
+three_times = Opens Unnamed ∷ Pushes x ∷ Pushes x ∷ Pushes x ∷ []
+
+words_kept_once : bytes_kept (stored three_times) ≡ 1
+words_kept_once = refl
+
+words_given : bytes_given (stored three_times) ≡ 3
+words_given = refl
+
+texts_kept_each : bytes_kept (stored (Occurs glob ∷ Occurs glob ∷ three_times ++ Pushes (Number (codes "x")) ∷ Pushes (Word (codes "xy")) ∷ replaced)) ≡ 17
+texts_kept_each = refl

@@ -4,7 +4,6 @@ use Rattle.std.specs.Prelude.{slice_get, option_map, option_and_then, nat_eq, by
 use Rattle.std.specs.List.{list_any}
 use Rattle.std.proofs.lemmas.List.{length-map}
 use Rattle.std.proofs.Math.Seq.{drop-append_seam}
-use Rattle.cweb_store.specs.declared.name.How.{How}
 use Rattle.cweb_store.specs.declared.name.How.TheVariants.{Full, Prefix}
 use Rattle.cweb_store.specs.declared.name.NameId.{NameId}
 use Rattle.cweb_store.specs.declared.name.NameFault.{NameFault}
@@ -18,9 +17,10 @@ use Rattle.cweb_store.specs.Runs.{IsWhole, closed_in}
 use Rattle.cweb_store.specs.Calls.{Stored, stored, too_many}
 use Rattle.cweb_store.specs.Answers.{AreAnswers}
 use Rattle.cweb_store.specs.Links.{AreLinked}
-use Rattle.cweb_store.specs.Texts.{token_texts, token_bytes, occurrence_text, replacement_text, texts_of, bytes_given, total, AllStandIn, AreInOneList}
+use Rattle.cweb_store.specs.Texts.{token_texts, token_bytes_kept, occurrence_text, replacement_text, texts_of, bytes_given, bytes_kept, total, AllStandIn, AreInOneList}
 use Rattle.cweb_store.specs.ClosedTokens.{TokensAndTexts, tokens_alone, with_texts}
 use Rattle.cweb_store.specs.Stored.{given_as, occurrences_at, replacements_at, last_from, stored_in, AreStored}
+use Rattle.cweb_store.proofs.WordLemmas.{kept-few}
 use Rattle.cweb_store.proofs.TextLemmas.{all-drop, all-both}
 use Rattle.cweb_store.proofs.RunLemmas.{whole-tokens}
 
@@ -199,21 +199,27 @@ store-texts n c runs given replaced whole all =
     }
 
 -- as many bytes as the other texts have
-replacements-total : (ts : List (List ℕ)) (bs : List ℕ) → length ts ≡ length bs → total length ts ≤ total length (map replacement_text (replacements_at ts bs))
-replacements-total [] bs h = omega arith
+replacements-total : (ts : List (List ℕ)) (bs : List ℕ) → length ts ≡ length bs → total length ts ≡ total length (map replacement_text (replacements_at ts bs))
+replacements-total [] [] h = refl
+replacements-total [] (b ∷ bs) h = refl
 replacements-total (t ∷ ts) [] h = absurd (let none : ⊥ = omega arith in none)
-replacements-total (t ∷ ts) (b ∷ bs) h = omega (arith, replacements-total ts bs (omega arith))
+replacements-total (t ∷ ts) (b ∷ bs) h = ap (λ n. length t + n) (replacements-total ts bs (omega arith))
 
-others-total : (ts : List (List ℕ)) (gs : List GivenAs) (bs : List ℕ) → length ts ≡ length gs + length bs → total length ts ≤ total length (map occurrence_text (occurrences_at ts gs)) + total length (map replacement_text (replacements_at (drop (length gs) ts) bs))
-others-total [] gs bs h = omega arith
+others-total : (ts : List (List ℕ)) (gs : List GivenAs) (bs : List ℕ) → length ts ≡ length gs + length bs → total length ts ≡ total length (map occurrence_text (occurrences_at ts gs)) + total length (map replacement_text (replacements_at (drop (length gs) ts) bs))
+others-total [] [] bs h = omega (arith, replacements-total [] bs (omega arith))
 others-total (t ∷ ts) [] bs h = omega (arith, replacements-total (t ∷ ts) bs (omega arith))
+others-total [] (g ∷ gs) bs h = absurd (let none : ⊥ = omega arith in none)
 others-total (t ∷ ts) (g ∷ gs) bs h = omega (arith, others-total ts gs bs (omega arith))
 
 pub store-bytes : (c : TokensAndTexts) (runs : List Run) (given : List GivenAs) (replaced : List ℕ) → IsWhole c.tokens runs → length c.others ≡ length given + length replaced →
-    total token_bytes c.tokens + total length c.others ≤ bytes_given (stored_in c runs given replaced)
+    token_bytes_kept c.tokens + total length c.others ≡ bytes_kept (stored_in c runs given replaced)
 store-bytes c runs given replaced whole size =
-    let tokens : total token_bytes (all_tokens (map (closed_in c.tokens) runs)) ≡ total token_bytes c.tokens = ap (total token_bytes) (whole-tokens c.tokens runs whole) in
+    let tokens : token_bytes_kept (all_tokens (map (closed_in c.tokens) runs)) ≡ token_bytes_kept c.tokens = ap token_bytes_kept (whole-tokens c.tokens runs whole) in
     omega (arith, tokens, others-total c.others given replaced size)
+
+-- equal Words that are kept once make the bytes fewer
+pub bytes-few : (s : Stored) → bytes_kept s ≤ bytes_given s
+bytes-few s = omega (arith, kept-few (all_tokens s.parts))
 
 pub map-both : {A B C : Type 0} (f : B → C) (g : A → B) (xs : List A) → map (λ x. f (g x)) xs ≡ map f (map g xs)
 map-both f g [] = refl

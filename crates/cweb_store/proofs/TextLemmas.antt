@@ -1,7 +1,8 @@
 -- Texts in one list of bytes, and how many bytes tokens and texts have.
-use Rattle.std.proofs.Common.{◌≡◌, ℕ, zero, suc, ◌+◌, ◌≤◌, ◌<◌, Bool, true, false, List, [], ◌∷◌, ◌++◌, Some, map, length, take, drop, refl, sym, ◌∙◌, ap, arith, length-append, append_assoc, flat_map}
-use Rattle.std.specs.Prelude.{slice_get, if◌then◌else◌}
+use Rattle.std.proofs.Common.{◌≡◌, ℕ, zero, suc, ◌+◌, ◌<◌, true, false, List, [], ◌∷◌, ◌++◌, Some, map, length, take, drop, refl, sym, ◌∙◌, ap, arith, length-append, append_assoc, append-nil, flat_map}
+use Rattle.std.specs.Prelude.{slice_get, filter, if◌then◌else◌}
 use Rattle.std.proofs.lemmas.List.{take-append-drop, drop-append-le, take-append-le, take-map}
+use Rattle.std.proofs.lemmas.List.Elements.{filter-append}
 use Rattle.cweb_store.specs.Parts as spec
 use Rattle.cweb_store.specs.Parts.{Token}
 use Rattle.cweb_store.specs.declared.layout.Trailing.{Trailing}
@@ -11,10 +12,12 @@ use Rattle.cweb_store.specs.declared.packed.Packed.TheVariants.{Word, Number, Li
 use Rattle.cweb_store.specs.Layout.{before_last, without_last, without_last_after, is_blank}
 use Rattle.cweb_store.specs.Trailing.{is_dropped}
 use Rattle.cweb_store.specs.PackedTexts.{text_bytes}
+use Rattle.cweb_store.specs.Words.{TextsAndWords}
 use Rattle.cweb_store.specs.Packed.{text_at, token_in, IsWithin, ArePacked, Packs}
-use Rattle.cweb_store.specs.Texts.{token_texts, token_bytes, total, StandsIn, AllStandIn, AreInOneList}
+use Rattle.cweb_store.specs.Texts.{token_texts, has_text, total, with_word_of, words_of, other_bytes, token_bytes_kept, StandsIn, AllStandIn, AreInOneList}
 use Rattle.cweb_store.specs.ClosedTokens.{with_text, tokens_and_texts, AreTokens, AreClosed}
 use Rattle.cweb_store.proofs.PackedLemmas.{packs-tokens, packs-all, packed-take, packed-grow, tokens-grow}
+use Rattle.cweb_store.proofs.WordLemmas.{total-append, words-push, same-words, same-bytes}
 use Rattle.cweb_store.proofs.LayoutLemmas.{take-next}
 
 stands-after : (x bytes text : List ℕ) → StandsIn bytes text → StandsIn (x ++ bytes) text
@@ -62,10 +65,6 @@ tokens-stand : (ts : List (List ℕ)) (ps : List Packed) → ArePacked ts ps →
 tokens-stand ts [] h = tt
 tokens-stand ts (p ∷ ps) h = all-both (text_bytes ts) (token_texts (token_in ts p)) (flat_map token_texts (map (token_in ts) ps)) (token-stands ts p h.0) (tokens-stand ts ps h.1)
 
-total-append : {A : Type 0} (f : A → ℕ) (xs ys : List A) → total f (xs ++ ys) ≡ total f xs + total f ys
-total-append f [] ys = omega arith
-total-append f (x ∷ xs) ys = omega (arith, total-append f xs ys)
-
 bytes-total : (ts : List (List ℕ)) → length (text_bytes ts) ≡ total length ts
 bytes-total [] = refl
 bytes-total (t ∷ ts) = omega (arith, length-append t (text_bytes ts), bytes-total ts)
@@ -76,7 +75,7 @@ bytes-split own ts =
     omega (arith, bytes-total ts, bytes-total (take own ts), total-append length (take own ts) (drop own ts), both)
 
 -- tokens that are dropped have no text
-dropped-none : (t : Trailing) (token : Token) → is_dropped t token ≡ true → token_bytes token ≡ 0
+dropped-none : (t : Trailing) (token : Token) → is_dropped t token ≡ true → has_text token ≡ false
 dropped-none trailing.Layout (spec.Word b) h = cc
 dropped-none trailing.Layout (spec.Number b) h = cc
 dropped-none trailing.Layout (spec.Literal b) h = cc
@@ -96,24 +95,26 @@ dropped-none t (spec.Head section) h = refl
 dropped-none t (spec.Tail section) h = refl
 dropped-none t (spec.Mark place) h = refl
 
-before_last-total : (t : Trailing) (token : Token) (ts : List Token) → total token_bytes (before_last (is_dropped t) token ts) ≡ token_bytes token + total token_bytes ts
-before_last-total t token [] =
-    (elim (is_dropped t token) as (λ b. is_dropped t token ≡ b → total token_bytes (if b then [] else token ∷ []) ≡ token_bytes token + 0) [
-      | true ↦ λ h. omega (arith, dropped-none t token h)
+gone : (token : Token) (ts : List Token) → has_text token ≡ false → filter has_text (token ∷ ts) ≡ filter has_text ts
+gone token ts h = ap (λ b. if b then token ∷ filter has_text ts else filter has_text ts) h
+
+before_last-texts : (t : Trailing) (token : Token) (ts : List Token) → filter has_text (before_last (is_dropped t) token ts) ≡ filter has_text (token ∷ ts)
+before_last-texts t token [] =
+    (elim (is_dropped t token) as (λ b. is_dropped t token ≡ b → filter has_text (if b then [] else token ∷ []) ≡ filter has_text (token ∷ [])) [
+      | true ↦ λ h. sym (gone token [] (dropped-none t token h))
       | false ↦ λ h. refl
     ]) refl
-before_last-total t token (u ∷ us) = refl
+before_last-texts t token (u ∷ us) = refl
 
-without_last-total : (t : Trailing) (ts : List Token) → total token_bytes (without_last (is_dropped t) ts) ≡ total token_bytes ts
-without_last-total t [] = refl
-without_last-total t (x ∷ ts) = omega (arith, before_last-total t x (without_last (is_dropped t) ts), without_last-total t ts)
+without_last-texts : (t : Trailing) (ts : List Token) → filter has_text (without_last (is_dropped t) ts) ≡ filter has_text ts
+without_last-texts t [] = refl
+without_last-texts t (x ∷ ts) = before_last-texts t x (without_last (is_dropped t) ts) ∙ ap (λ us. if has_text x then x ∷ us else us) (without_last-texts t ts)
 
-pub trimmed-total : (n : ℕ) (t : Trailing) (ts : List Token) → total token_bytes (without_last_after n (is_dropped t) ts) ≡ total token_bytes ts
-trimmed-total n t ts =
-    let both : total token_bytes (take n ts ++ drop n ts) ≡ total token_bytes ts = ap (total token_bytes) (take-append-drop n ts) in
-    omega (arith, total-append token_bytes (take n ts) (without_last (is_dropped t) (drop n ts)), without_last-total t (drop n ts), total-append token_bytes (take n ts) (drop n ts), both)
+pub trimmed-texts : (n : ℕ) (t : Trailing) (ts : List Token) → filter has_text (without_last_after n (is_dropped t) ts) ≡ filter has_text ts
+trimmed-texts n t ts =
+    filter-append has_text (take n ts) (without_last (is_dropped t) (drop n ts)) ∙ ap (λ us. filter has_text (take n ts) ++ us) (without_last-texts t (drop n ts)) ∙ sym (filter-append has_text (take n ts) (drop n ts)) ∙ ap (filter has_text) (take-append-drop n ts)
 
-blank-none : (t : Token) → is_blank t ≡ true → token_bytes t ≡ 0
+blank-none : (t : Token) → is_blank t ≡ true → has_text t ≡ false
 blank-none (spec.Word b) h = cc
 blank-none (spec.Number b) h = cc
 blank-none (spec.Literal b) h = cc
@@ -128,36 +129,41 @@ blank-none (spec.Head section) h = refl
 blank-none (spec.Tail section) h = refl
 blank-none (spec.Mark place) h = refl
 
-pub blank-total : (ts : List Token) (k : ℕ) (t : Token) → slice_get ts k ≡ Some t → is_blank t ≡ true → total token_bytes (take k ts) ≡ total token_bytes (take (suc k) ts)
-blank-total ts k t h blank =
-    let next : total token_bytes (take (suc k) ts) ≡ total token_bytes (take k ts ++ t ∷ []) = ap (total token_bytes) (take-next ts k t h) in
-    omega (arith, next, total-append token_bytes (take k ts) (t ∷ []), blank-none t blank)
+pub blank-texts : (ts : List Token) (k : ℕ) (t : Token) → slice_get ts k ≡ Some t → is_blank t ≡ true → filter has_text (take k ts) ≡ filter has_text (take (suc k) ts)
+blank-texts ts k t h blank =
+    sym (ap (filter has_text) (take-next ts k t h) ∙ filter-append has_text (take k ts) (t ∷ []) ∙ ap (λ us. filter has_text (take k ts) ++ us) (gone t [] (blank-none t blank)) ∙ append-nil (filter has_text (take k ts)))
 
 -- one more token
-pub packs-are : (old new : List (List ℕ)) (ps : List Packed) (t : Token) (p : Packed) → AreTokens old ps → Packs old t p new → AreTokens new (ps ++ p ∷ [])
+pub packs-are : (old new : TextsAndWords) (ps : List Packed) (t : Token) (p : Packed) → AreTokens old ps → Packs old t p new → AreTokens new (ps ++ p ∷ [])
 packs-are old new ps t p all packs =
-    let tokens : total token_bytes (map (token_in new) (ps ++ p ∷ [])) ≡ total token_bytes (map (token_in old) ps ++ t ∷ []) = ap (total token_bytes) (packs-tokens old new ps t p all.packed packs) in
-    let bytes : total length new ≡ total length (old ++ packs.more) = ap (total length) packs.grows in
+    let ts = map (token_in old.texts) ps in
+    let tokens : map (token_in new.texts) (ps ++ p ∷ []) ≡ ts ++ t ∷ [] = packs-tokens old new ps t p all.packed packs in
+    let words : new.words ≡ words_of (ts ++ t ∷ []) = packs.words ∙ ap (λ ws. with_word_of ws t) all.words ∙ sym (words-push ts t) in
+    let grown : total length new.texts ≡ total length (old.texts ++ packs.more) = ap (total length) packs.grows in
+    let bytes : length (text_bytes new.texts) ≡ token_bytes_kept (ts ++ t ∷ []) =
+    omega (arith, ap (total length) words, ap (total length) all.words, grown, bytes-total new.texts, bytes-total old.texts, bytes-total packs.more, total-append length old.texts packs.more, total-append other_bytes ts (t ∷ []), all.bytes, packs.bytes) in
     record {
       packed = packs-all old new ps t p all.packed packs;
-      few_bytes = omega (arith, tokens, bytes, bytes-total new, bytes-total old, bytes-total packs.more, total-append length old packs.more, total-append token_bytes (map (token_in old) ps) (t ∷ []), all.few_bytes, packs.few_bytes);
+      words = words ∙ ap words_of (sym tokens);
+      bytes = bytes ∙ ap token_bytes_kept (sym tokens);
     }
 
 -- fewer tokens with the same texts
-pub truncate-are : (texts : List (List ℕ)) (ps : List Packed) (n : ℕ) → AreTokens texts ps → total token_bytes (take n (map (token_in texts) ps)) ≡ total token_bytes (map (token_in texts) ps) → AreTokens texts (take n ps)
-truncate-are texts ps n all same =
-    let fewer : total token_bytes (take n (map (token_in texts) ps)) ≡ total token_bytes (map (token_in texts) (take n ps)) = ap (total token_bytes) (take-map (token_in texts) n ps) in
-    record { packed = packed-take texts ps n all.packed; few_bytes = omega (arith, fewer, same, all.few_bytes) }
+pub truncate-are : (kept : TextsAndWords) (ps : List Packed) (n : ℕ) → AreTokens kept ps → filter has_text (take n (map (token_in kept.texts) ps)) ≡ filter has_text (map (token_in kept.texts) ps) → AreTokens kept (take n ps)
+truncate-are kept ps n all same =
+    let ts = map (token_in kept.texts) ps in
+    let fewer : filter has_text ts ≡ filter has_text (map (token_in kept.texts) (take n ps)) = sym same ∙ ap (filter has_text) (take-map (token_in kept.texts) n ps) in
+    let us = map (token_in kept.texts) (take n ps) in
+    record { packed = packed-take kept.texts ps n all.packed; words = all.words ∙ same-words ts us fewer; bytes = all.bytes ∙ same-bytes ts us fewer }
 
 -- one more of the other texts
 pub closed-add : (texts : List (List ℕ)) (t : List ℕ) (ps : List Packed) (own : ℕ) → AreClosed texts ps own → AreClosed (texts ++ t ∷ []) ps own
 closed-add texts t ps own all =
     let own_bytes : length (text_bytes (take own (texts ++ t ∷ []))) ≡ length (text_bytes (take own texts)) = ap (λ ts. length (text_bytes ts)) (take-append-le own texts (t ∷ []) all.within) in
-    let tokens : total token_bytes (map (token_in (texts ++ t ∷ [])) ps) ≡ total token_bytes (map (token_in texts) ps) = ap (total token_bytes) (tokens-grow texts (t ∷ []) ps all.packed) in
     record {
       packed = packed-grow texts (t ∷ []) ps all.packed;
       within = omega (arith, all.within, length-append texts (t ∷ []));
-      few_bytes = omega (arith, own_bytes, tokens, all.few_bytes);
+      bytes = own_bytes ∙ all.bytes ∙ ap token_bytes_kept (sym (tokens-grow texts (t ∷ []) ps all.packed));
     }
 
 pub closed-added : (texts : List (List ℕ)) (t : List ℕ) (ps : List Packed) (own : ℕ) → AreClosed texts ps own → tokens_and_texts (texts ++ t ∷ []) ps own ≡ with_text t (tokens_and_texts texts ps own)
@@ -176,5 +182,5 @@ all-texts texts ps own n all count = record {
   runs = all-both (text_bytes texts) (flat_map token_texts (map (token_in texts) ps)) (drop own texts) (tokens-stand texts ps all.packed) (all-drop (text_bytes texts) own texts (texts-stand texts));
 }
 
-pub few-bytes : (texts : List (List ℕ)) (ps : List Packed) (own : ℕ) → AreClosed texts ps own → length (text_bytes texts) ≤ total token_bytes (map (token_in texts) ps) + total length (drop own texts)
-few-bytes texts ps own all = omega (arith, bytes-split own texts, all.few_bytes)
+pub all-bytes : (texts : List (List ℕ)) (ps : List Packed) (own : ℕ) → AreClosed texts ps own → length (text_bytes texts) ≡ token_bytes_kept (map (token_in texts) ps) + total length (drop own texts)
+all-bytes texts ps own all = omega (arith, bytes-split own texts, all.bytes)

@@ -1,10 +1,11 @@
 -- Tokens to which none comes, and other texts behind theirs.
-use Rattle.std.specs.Prelude.{◌≤◌, ℕ, List, [], ◌∷◌, ◌++◌, map, length, take, drop}
+use Rattle.std.specs.Prelude.{◌≡◌, ◌≤◌, ℕ, List, [], ◌∷◌, ◌++◌, map, length, take, drop}
 use Rattle.cweb_store.specs.Parts.{Token}
 use Rattle.cweb_store.specs.declared.packed.Packed.{Packed}
 use Rattle.cweb_store.specs.Packed.{token_in, ArePacked}
 use Rattle.cweb_store.specs.PackedTexts.{text_bytes}
-use Rattle.cweb_store.specs.Texts.{token_bytes, total}
+use Rattle.cweb_store.specs.Texts.{token_bytes_kept, words_of}
+use Rattle.cweb_store.specs.Words.{TextsAndWords}
 
 pub record TokensAndTexts : Type 0 where
   pub tokens : List Token
@@ -26,13 +27,14 @@ abbrev pub with_texts : List (List ℕ) → TokensAndTexts → TokensAndTexts
 with_texts [] c = c
 with_texts (t ∷ ts) c = with_texts ts (with_text t c)
 
--- the records have their texts, which have no more bytes than the tokens that were given
-pub record AreTokens (texts : List (List ℕ)) (records : List Packed) : Type 0 where
-  pub packed : ArePacked texts records
-  pub few_bytes : length (text_bytes texts) ≤ total token_bytes (map (token_in texts) records)
+-- the records have their texts, of which the equal words of tokens are kept once
+pub record AreTokens (kept : TextsAndWords) (records : List Packed) : Type 0 where
+  pub packed : ArePacked kept.texts records
+  pub words : kept.words ≡ words_of (map (token_in kept.texts) records)
+  pub bytes : length (text_bytes kept.texts) ≡ token_bytes_kept (map (token_in kept.texts) records)
 
 -- the same of the first texts, where others stand behind them
 pub record AreClosed (texts : List (List ℕ)) (records : List Packed) (own : ℕ) : Type 0 where
   pub packed : ArePacked texts records
   pub within : own ≤ length texts
-  pub few_bytes : length (text_bytes (take own texts)) ≤ total token_bytes (map (token_in texts) records)
+  pub bytes : length (text_bytes (take own texts)) ≡ token_bytes_kept (map (token_in texts) records)

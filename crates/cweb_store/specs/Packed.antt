@@ -1,10 +1,11 @@
 -- Tokens of fixed size, which have their texts by number.
-use Rattle.std.specs.Prelude.{◌≡◌, ℕ, Bool, true, false, ◌<◌, ◌≤◌, List, [], ◌∷◌, ◌++◌, length, slice_index_or}
+use Rattle.std.specs.Prelude.{◌≡◌, ℕ, Bool, true, false, ◌<◌, ◌+◌, List, [], ◌∷◌, ◌++◌, length, slice_index_or}
 use Rattle.cweb_store.specs.declared.name.NameId.{NameId}
 use Rattle.cweb_store.specs.Names.{Standing, stands, with_some}
 use Rattle.cweb_store.specs.Parts as spec
 use Rattle.cweb_store.specs.PackedTexts.{text_bytes}
-use Rattle.cweb_store.specs.Texts.{token_bytes}
+use Rattle.cweb_store.specs.Texts.{total, with_word_of, other_bytes}
+use Rattle.cweb_store.specs.Words.{TextsAndWords}
 use Rattle.cweb_store.specs.declared.packed.Packed.{Packed}
 use Rattle.cweb_store.specs.declared.packed.Packed.TheVariants.{Word, Number, Literal, Verbatim, Punct, Blank, Newline, Join, Defs, Name, Head, Tail, Mark}
 
@@ -54,9 +55,10 @@ ArePacked texts [] = Unit {0}
 ArePacked texts (p ∷ ps) = IsWithin (length texts) p × ArePacked texts ps
 
 -- the texts that were there stay, and the record stands for the token
-pub record Packs (old : List (List ℕ)) (token : spec.Token) (packed : Packed) (new : List (List ℕ)) : Type 0 where
+pub record Packs (old : TextsAndWords) (token : spec.Token) (packed : Packed) (new : TextsAndWords) : Type 0 where
   pub more : List (List ℕ)
-  pub grows : new ≡ old ++ more
-  pub within : IsWithin (length new) packed
-  pub stands : token_in new packed ≡ token
-  pub few_bytes : length (text_bytes more) ≤ token_bytes token
+  pub grows : new.texts ≡ old.texts ++ more
+  pub within : IsWithin (length new.texts) packed
+  pub stands : token_in new.texts packed ≡ token
+  pub words : new.words ≡ with_word_of old.words token
+  pub bytes : length (text_bytes more) + total length old.words ≡ total length new.words + other_bytes token

@@ -1,5 +1,5 @@
 -- Texts that stand one after another in a list of bytes.
-use Rattle.std.specs.Prelude.{◌≡◌, ℕ, zero, suc, ◌≤◌, List, [], ◌∷◌, ◌++◌, Some, flat_map, length, slice_get, slice_range}
+use Rattle.std.specs.Prelude.{◌≡◌, ℕ, zero, suc, ◌≤◌, List, [], ◌∷◌, flat_map, slice_range}
 
 -- each text ends where the next begins, where the first begins at byte n
 abbrev pub texts_from : List ℕ → ℕ → List ℕ → List (List ℕ)
@@ -14,13 +14,6 @@ AreEnds n (end ∷ ends) all = (n ≤ end) × AreEnds end ends all
 -- the bytes of texts
 abbrev pub text_bytes : List (List ℕ) → List ℕ
 text_bytes texts = flat_map (λ t. t) texts
-
--- the texts that were there stay, and the text has a number
-pub record Keeps (old : List (List ℕ)) (text : List ℕ) (number : ℕ) (new : List (List ℕ)) : Type 0 where
-  pub more : List (List ℕ)
-  pub grows : new ≡ old ++ more
-  pub stands : slice_get new number ≡ Some text
-  pub few_bytes : length (text_bytes more) ≤ length text
 
 -- where text k begins, where the first begins at byte n
 abbrev pub begin_of : ℕ → List ℕ → ℕ → ℕ

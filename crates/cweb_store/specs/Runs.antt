@@ -5,6 +5,7 @@ use Rattle.cweb_store.specs.declared.part.Open.{Open}
 use Rattle.cweb_store.specs.Parts.{Token, Part}
 use Rattle.cweb_store.specs.Growing.{PartsSoFar}
 use Rattle.cweb_store.specs.Calls.{too_many}
+use Rattle.cweb_store.specs.ClosedTokens.{TokensAndTexts, tokens_alone}
 
 abbrev pub closed_in : List Token → Run → Part
 closed_in ts r = record { kind = r.kind; tokens = slice_range ts r.part.first r.part.after }
@@ -38,6 +39,11 @@ pub record IsWhole (ts : List Token) (runs : List Run) : Type 0 where
   pub follow : Follow 0 runs (length ts)
   pub few_tokens : length ts < too_many
   pub few_parts : length runs < too_many
+
+-- the same, where no other texts stand behind those of the tokens
+pub record AreClosedRuns (c : TokensAndTexts) (runs : List Run) : Type 0 where
+  pub whole : IsWhole c.tokens runs
+  pub alone : c ≡ tokens_alone c.tokens
 
 -- parts as runs, where the first token has number n
 abbrev pub runs_from : ℕ → List Part → List Run

@@ -1,5 +1,6 @@
 -- The texts that a store answers, and how many bytes they have.
-use Rattle.std.specs.Prelude.{◌≡◌, ◌≤◌, ℕ, ◌+◌, List, [], ◌∷◌, ◌++◌, map, flat_map, length}
+use Rattle.std.specs.Prelude.{◌≡◌, ℕ, ◌+◌, Bool, true, false, List, [], ◌∷◌, ◌++◌, map, flat_map, fold, length, bytes_eq, if◌then◌else◌}
+use Rattle.std.specs.List.{list_any}
 use Rattle.cweb_store.specs.Names.{Occurrence}
 use Rattle.cweb_store.specs.Parts.{Token, Word, Number, Literal, Verbatim, Punct, all_tokens}
 use Rattle.cweb_store.specs.Replacements.{Replacement}
@@ -23,6 +24,14 @@ token_bytes (Verbatim b) = length b
 token_bytes (Punct b) = length b
 token_bytes token = 0
 
+abbrev pub has_text : Token → Bool
+has_text (Word b) = true
+has_text (Number b) = true
+has_text (Literal b) = true
+has_text (Verbatim b) = true
+has_text (Punct b) = true
+has_text token = false
+
 abbrev pub total : {A : Type 0} → (A → ℕ) → List A → ℕ
 total f [] = 0
 total f (x ∷ xs) = f x + total f xs
@@ -40,6 +49,31 @@ texts_of s = flat_map token_texts (all_tokens s.parts) ++ (map occurrence_text s
 -- the bytes of all texts, where a text counts as often as it was given
 abbrev pub bytes_given : Stored → ℕ
 bytes_given s = total token_bytes (all_tokens s.parts) + (total length (map occurrence_text s.occurrences) + total length (map replacement_text s.replacements))
+
+-- words with one more, unless it is among them
+abbrev pub with_word : List (List ℕ) → List ℕ → List (List ℕ)
+with_word words word = if list_any (bytes_eq word) words then words else words ++ word ∷ []
+
+abbrev pub with_word_of : List (List ℕ) → Token → List (List ℕ)
+with_word_of words (Word b) = with_word words b
+with_word_of words token = words
+
+-- the distinct Words among tokens
+abbrev pub words_of : List Token → List (List ℕ)
+words_of ts = fold with_word_of [] ts
+
+-- how many bytes the text of a token has that is no Word
+abbrev pub other_bytes : Token → ℕ
+other_bytes (Word b) = 0
+other_bytes token = token_bytes token
+
+-- the bytes of the texts of tokens, where equal Words count once
+abbrev pub token_bytes_kept : List Token → ℕ
+token_bytes_kept ts = total length (words_of ts) + total other_bytes ts
+
+-- the bytes of all texts, where equal Words count once and any other text as often as it was given
+abbrev pub bytes_kept : Stored → ℕ
+bytes_kept s = token_bytes_kept (all_tokens s.parts) + (total length (map occurrence_text s.occurrences) + total length (map replacement_text s.replacements))
 
 -- a text is a run of bytes of a list
 abbrev pub StandsIn : List ℕ → List ℕ → Type 0

@@ -5,9 +5,9 @@ ghost use Rattle.cweb_store.specs.Parts.{has_defs_code};
 ghost use Rattle.cweb_store.specs.Runs.{runs_from};
 ghost use Rattle.cweb_store.specs.Gathered.{used_in};
 
+use crate::closed_tokens::ClosedTokens;
 use crate::name::{NameId, NameKind};
 use crate::part::Run;
-use crate::token_list::TokenList;
 use indexmap::IndexSet;
 use std::alloc::{AllocError, Global};
 use std::marker::Model;
@@ -15,7 +15,7 @@ use std::marker::Model;
 /// Parts: the tokens of all of them in one list, and where each part begins and ends in it.
 #[derive(Drop)]
 pub struct ClosedParts {
-    pub tokens: TokenList,
+    pub tokens: ClosedTokens,
     pub runs: Vec<Run>,
 }
 
@@ -25,11 +25,11 @@ impl Model for ClosedParts {
 
     ghost Value = { List Part };
 
-    ghost use Rattle.cweb_store.specs.Runs.{closed_in, IsWhole};
+    ghost use Rattle.cweb_store.specs.Runs.{closed_in, AreClosedRuns};
 
-    ghost view = { λ s. map (closed_in s.tokens) s.runs.items };
+    ghost view = { λ s. map (closed_in s.tokens.tokens) s.runs.items };
 
-    ghost invariant = { λ s. IsWhole s.tokens s.runs.items };
+    ghost invariant = { λ s. AreClosedRuns s.tokens s.runs.items };
 }
 
 impl ClosedParts {

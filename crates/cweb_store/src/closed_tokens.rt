@@ -1,12 +1,20 @@
 // Tokens to which none comes, and the other texts of a store.
 
-ghost use Rattle.std.specs.Prelude.{◌≡◌, ◌<◌, ◌≤◌, ◌+◌, length, slice_get, flat_map, Some, OnOk};
-ghost use Rattle.cweb_store.specs.Texts.{AreInOneList, token_bytes, token_texts, total};
+ghost use Rattle.std.specs.Prelude.{◌≡◌, ◌<◌, ◌≤◌, ◌+◌, length, slice_get, slice_range, flat_map, Some, OnOk};
+ghost use Rattle.std.specs.List.{list_any};
+ghost use Rattle.cweb_store.specs.Parts.{is_defs};
+ghost use Rattle.cweb_store.specs.Gathered.{used_from};
+ghost use Rattle.cweb_store.specs.Texts.{AreInOneList, token_bytes_kept, token_texts, total};
 ghost use Rattle.cweb_store.specs.ClosedTokens.{with_text};
+ghost use Rattle.cweb_store.specs.Packed.{is_packed_defs, used_by};
 
+use crate::name::{NameId, NameKind};
 use crate::packed::{Packed, lend};
 use crate::packed_texts::PackedTexts;
+use crate::part::Part;
+use crate::standing::add_name_at;
 use crate::token::Token;
+use indexmap::IndexSet;
 use std::alloc::AllocError;
 use std::marker::Model;
 
@@ -55,6 +63,33 @@ impl ClosedTokens {
         self.records.len()
     }
 
+    /// Adds the names that tokens use, in a range of numbers, to distinct names.
+    pub fn add_uses(
+        &self,
+        part: Part,
+        standings: &[Result<NameId, NameKind>],
+        used: &mut IndexSet<NameId>,
+    ) -> Result<(), AllocError>
+        requires ordered { part.first ≤ part.after }
+        requires within { part.after ≤ length self.now.tokens }
+        ensures { OnOk result (used.new.keys ≡ used_from standings.now used.old.keys (slice_range self.now.tokens part.first part.after)) }
+    {
+        add_uses_of(
+            &self.records[part.first as usize..part.after as usize],
+            standings,
+            used,
+        )
+    }
+
+    /// Whether there is a Defs in a range of numbers.
+    pub fn has_defs(&self, part: Part) -> bool
+        requires ordered { part.first ≤ part.after }
+        requires within { part.after ≤ length self.now.tokens }
+        ensures { result ≡ list_any is_defs (slice_range self.now.tokens part.first part.after) }
+    {
+        has_defs_in(&self.records[part.first as usize..part.after as usize])
+    }
+
     /// The other text with a number.
     pub fn other(&self, number: usize) -> &[u8]
         requires { number < length self.now.others }
@@ -66,8 +101,34 @@ impl ClosedTokens {
     /// How many bytes all texts have.
     pub fn text_bytes(&self) -> usize
         ensures texts { AreInOneList result (flat_map token_texts self.now.tokens ++ self.now.others) }
-        ensures few { result ≤ total token_bytes self.now.tokens + total length self.now.others }
+        ensures once { result ≡ token_bytes_kept self.now.tokens + total length self.now.others }
     {
         self.texts.text_bytes()
     }
+}
+
+fn add_uses_of(
+    tokens: &[Packed],
+    standings: &[Result<NameId, NameKind>],
+    used: &mut IndexSet<NameId>,
+) -> Result<(), AllocError>
+    ensures { OnOk result (used.new.keys ≡ used_by standings.now used.old.keys tokens.now) }
+{
+    for token in tokens {
+        if let Packed::Name(name) = token {
+            add_name_at(used, standings, name.0 as usize)?;
+        }
+    }
+    Ok(())
+}
+
+fn has_defs_in(tokens: &[Packed]) -> bool
+    ensures { result ≡ list_any is_packed_defs tokens.now }
+{
+    for token in tokens {
+        if let Packed::Defs = token {
+            return true;
+        }
+    }
+    false
 }

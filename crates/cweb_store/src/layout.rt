@@ -1,10 +1,10 @@
 // The layout at the end of a part, and where the tokens before it end.
 
-ghost use Rattle.std.specs.Prelude.{◌≡◌, ◌≤◌, ℕ, length, take, drop};
+ghost use Rattle.std.specs.Prelude.{◌≡◌, ◌≤◌, ℕ, filter, length, take, drop};
 ghost use Rattle.cweb_store.specs.Layout.{at_close, is_blank, without_blank, without_last_after, without_layout};
 ghost use Rattle.cweb_store.specs.Runs.{open_in};
 ghost use Rattle.cweb_store.specs.Trailing.{is_dropped};
-ghost use Rattle.cweb_store.specs.Texts.{token_bytes, total};
+ghost use Rattle.cweb_store.specs.Texts.{has_text};
 ghost use Rattle.cweb_store.specs.Seen.{seen};
 
 use crate::part::Open;
@@ -24,7 +24,7 @@ pub enum Trailing {
 pub fn end_before_layout(tokens: &TokenList, current: Open) -> usize
     requires { current.first ≤ length tokens.now }
     ensures part { open_in (take result tokens.now) current ≡ without_layout (open_in tokens.now current) }
-    ensures texts { total token_bytes (take result tokens.now) ≡ total token_bytes tokens.now }
+    ensures texts { filter has_text (take result tokens.now) ≡ filter has_text tokens.now }
     ensures begins { current.first ≤ result }
     ensures within { result ≤ length tokens.now }
 {
@@ -36,7 +36,7 @@ pub fn end_before_layout(tokens: &TokenList, current: Open) -> usize
 pub fn end_at_close(tokens: &TokenList, current: Open) -> usize
     requires { current.first ≤ length tokens.now }
     ensures part { open_in (take result tokens.now) current ≡ at_close (open_in tokens.now current) }
-    ensures texts { total token_bytes (take result tokens.now) ≡ total token_bytes tokens.now }
+    ensures texts { filter has_text (take result tokens.now) ≡ filter has_text tokens.now }
     ensures begins { current.first ≤ result }
     ensures within { result ≤ length tokens.now }
 {
@@ -51,7 +51,7 @@ pub fn end_at_close(tokens: &TokenList, current: Open) -> usize
 // The number after the last token that isn't dropped, of those from a number on.
 fn end_before(tokens: &TokenList, from: usize, trailing: Trailing) -> usize
     ensures kept { take result tokens.now ≡ without_last_after from (is_dropped trailing) tokens.now }
-    ensures texts { total token_bytes (take result tokens.now) ≡ total token_bytes tokens.now }
+    ensures texts { filter has_text (take result tokens.now) ≡ filter has_text tokens.now }
     ensures begins { (n : ℕ) → n ≤ from → n ≤ length tokens.now → n ≤ result }
     ensures within { result ≤ length tokens.now }
 {
@@ -78,7 +78,7 @@ fn end_before_blank(tokens: &TokenList, from: usize, end: usize) -> usize
     requires begins { from ≤ end }
     requires within { end ≤ length tokens.now }
     ensures kept { drop from (take result tokens.now) ≡ without_blank (drop from (take end tokens.now)) }
-    ensures texts { total token_bytes (take result tokens.now) ≡ total token_bytes (take end tokens.now) }
+    ensures texts { filter has_text (take result tokens.now) ≡ filter has_text (take end tokens.now) }
     ensures begins { from ≤ result }
     ensures within { result ≤ end }
 {

@@ -109,7 +109,7 @@ impl PartList {
             mut runs,
             current,
         } = self;
-        let tokens = tokens.finish();
+        let tokens = tokens.close();
         let Some(current) = current else {
             return ClosedParts { tokens, runs };
         };

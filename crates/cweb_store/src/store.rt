@@ -6,7 +6,7 @@ ghost use Rattle.cweb_store.specs.Parts.{all_tokens, has_defs_code, is_macro, is
 ghost use Rattle.cweb_store.specs.Faults.{faults, has_part};
 ghost use Rattle.cweb_store.specs.Replacements.{replacement};
 ghost use Rattle.cweb_store.specs.Calls.{too_many};
-ghost use Rattle.cweb_store.specs.Texts.{AreInOneList, bytes_given, texts_of};
+ghost use Rattle.cweb_store.specs.Texts.{AreInOneList, bytes_given, bytes_kept, texts_of};
 ghost use Rattle.cweb_store.specs.Stored.{last_from};
 ghost use Rattle.cweb_store.specs.Runs.{runs_from};
 ghost use Rattle.cweb_store.specs.Wanted.{wanted_in};
@@ -72,8 +72,7 @@ impl Store {
         let has_defs_code = parts.has_defs_code();
         let firsts = table.names().firsts()?;
         let links = Links::new(alloc, parts.runs(), standings.as_slice(), firsts.len())?;
-        let ClosedParts { tokens, runs } = parts;
-        let mut tokens = tokens.close();
+        let ClosedParts { mut tokens, runs } = parts;
         let given = table.close(&mut tokens)?;
         let replaced = replacements.close(&mut tokens)?;
         let store = Store {
@@ -213,9 +212,11 @@ impl Store {
         self.tokens.len() as u32
     }
 
-    /// How many bytes the texts have, of tokens, names and replacements. They stand in one list of that many bytes.
+    /// How many bytes the texts have, of tokens, names and replacements. They stand in one list of that many bytes, in
+    /// which equal Words are kept once.
     pub fn text_bytes(&self) -> u64
         ensures texts { AreInOneList result (texts_of self.now) }
+        ensures once { result ≡ bytes_kept self.now }
         ensures few { result ≤ bytes_given self.now }
     {
         self.tokens.text_bytes() as u64

@@ -1,8 +1,8 @@
 // Texts, of which equal words are kept once.
 
-ghost use Rattle.std.specs.Prelude.{◌≡◌, ◌<◌, [], bytes_eq, IfOk, OnErr};
+ghost use Rattle.std.specs.Prelude.{◌≡◌, ◌<◌, bytes_eq, IfOk, OnErr};
 ghost use Rattle.indexmap.specs.IndexMap.{insert_entry, spare};
-ghost use Rattle.cweb_store.specs.PackedTexts.{Keeps};
+ghost use Rattle.cweb_store.specs.Words.{Keeps, KeepsWord, none_kept};
 
 use crate::packed_texts::PackedTexts;
 use indexmap::IndexMap;
@@ -18,20 +18,18 @@ pub struct WordTexts {
 }
 
 impl Model for WordTexts {
-    ghost use Rattle.std.specs.Prelude.{List, ℕ};
+    ghost use Rattle.cweb_store.specs.Words.{TextsAndWords, texts_and_words, AreWords};
 
-    ghost Value = { List (List ℕ) };
+    ghost Value = { TextsAndWords };
 
-    ghost use Rattle.cweb_store.specs.Words.{AreWords};
-
-    ghost view = { λ s. s.texts };
+    ghost view = { λ s. texts_and_words s.texts s.words.entries };
 
     ghost invariant = { λ s. AreWords s.texts s.words.entries };
 }
 
 impl WordTexts {
     pub fn new(alloc: Global) -> WordTexts
-        ensures { result ≡ [] }
+        ensures { result ≡ none_kept }
     {
         WordTexts {
             alloc,
@@ -49,9 +47,9 @@ impl WordTexts {
         Ok(number)
     }
 
-    /// Keeps a word, which may be there already. A refused call changes nothing.
+    /// Keeps a word, unless it was kept as a word before. A refused call changes nothing.
     pub fn keep_word(&mut self, word: &[u8]) -> Result<usize, AllocError>
-        ensures ok { IfOk result (λ number. Keeps self.old word.now number self.new) }
+        ensures ok { IfOk result (λ number. KeepsWord self.old word.now number self.new) }
         ensures err { OnErr result (self.new ≡ self.old) }
     {
         if let Some(number) = self.words.get(word).copied() {
@@ -66,14 +64,14 @@ impl WordTexts {
 
     /// The texts.
     pub fn texts(&self) -> &PackedTexts
-        ensures { result.now ≡ self.now }
+        ensures { result.now ≡ self.now.texts }
     {
         &self.texts
     }
 
     /// The texts, whose words are no longer looked for.
     pub fn close(self) -> PackedTexts
-        ensures { result ≡ self }
+        ensures { result ≡ self.texts }
     {
         let WordTexts {
             alloc: _,
@@ -81,22 +79,6 @@ impl WordTexts {
             words: _,
         } = self;
         texts
-    }
-
-    /// The same texts, whose words are no longer looked for.
-    pub fn finish(self) -> WordTexts
-        ensures { result ≡ self }
-    {
-        let WordTexts {
-            alloc,
-            texts,
-            words: _,
-        } = self;
-        WordTexts {
-            alloc,
-            texts,
-            words: IndexMap::new(alloc),
-        }
     }
 }
 

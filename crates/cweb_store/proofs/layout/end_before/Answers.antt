@@ -1,11 +1,11 @@
 use Rattle.std.proofs.Common.{◌≡◌, suc, ◌-◌, true, false, take, sym, ◌∙◌, ap, arith}
-use Rattle.std.specs.Prelude.{if◌then◌else◌}
+use Rattle.std.specs.Prelude.{filter, if◌then◌else◌}
 use Rattle.cweb_store.specs.Layout.{without_last_after}
 use Rattle.cweb_store.specs.Trailing.{is_dropped}
 use Rattle.cweb_store.specs.Seen.{seen}
-use Rattle.cweb_store.specs.Texts.{token_bytes, total}
+use Rattle.cweb_store.specs.Texts.{has_text}
 use Rattle.cweb_store.proofs.LayoutLemmas.{trim-next}
-use Rattle.cweb_store.proofs.TextLemmas.{trimmed-total}
+use Rattle.cweb_store.proofs.TextLemmas.{trimmed-texts}
 use Rattle.cweb_store.proofs.layout.end_before.Goals as goal
 
 pub loop-end-preserved : goal.loop-end-preserved
@@ -40,10 +40,10 @@ pub returns-else-is_dropped-clause-texts : goal.returns-else-is_dropped-clause-t
 returns-else-is_dropped-clause-texts c =
     let ts = c.args.tokens.now in
     let from = c.args.from in
-    sym (trimmed-total from c.args.trailing (take c.loop-end.end ts)) ∙ ap (total token_bytes) c.loop-end.invariant.same ∙ trimmed-total from c.args.trailing ts
+    sym (trimmed-texts from c.args.trailing (take c.loop-end.end ts)) ∙ ap (filter has_text) c.loop-end.invariant.same ∙ trimmed-texts from c.args.trailing ts
 
 pub returns-after-loop-end-clause-texts : goal.returns-after-loop-end-clause-texts
 returns-after-loop-end-clause-texts c =
     let ts = c.args.tokens.now in
     let from = c.args.from in
-    sym (trimmed-total from c.args.trailing (take c.loop-end.end ts)) ∙ ap (total token_bytes) c.loop-end.invariant.same ∙ trimmed-total from c.args.trailing ts
+    sym (trimmed-texts from c.args.trailing (take c.loop-end.end ts)) ∙ ap (filter has_text) c.loop-end.invariant.same ∙ trimmed-texts from c.args.trailing ts

@@ -1,8 +1,9 @@
 use Rattle.std.proofs.Common.{◌≡◌, suc, ◌-◌, take, drop, sym, ◌∙◌, ap, arith}
+use Rattle.std.specs.Prelude.{filter}
 use Rattle.cweb_store.specs.Layout.{without_blank}
 use Rattle.cweb_store.specs.Seen.{seen}
-use Rattle.cweb_store.specs.Texts.{token_bytes, total}
-use Rattle.cweb_store.proofs.TextLemmas.{blank-total}
+use Rattle.cweb_store.specs.Texts.{has_text}
+use Rattle.cweb_store.proofs.TextLemmas.{blank-texts}
 use Rattle.cweb_store.proofs.LayoutLemmas.{blank-dropped, blank-none, drop-all}
 use Rattle.cweb_store.proofs.layout.end_before_blank.Goals as goal
 use Rattle.cweb_store.proofs.layout.end_before_blank.Goals.{else-from-end-via-then-from-end+else-is_blank, else-from-end-via-else-from-end}
@@ -34,4 +35,4 @@ returns-then-is_blank-clause-texts c =
     let ts = c.args.tokens.now in
     let k = c.args.end - 1 in
     let next : suc k ≡ c.args.end = omega (arith, c.if-from-end.true) in
-    blank-total ts k (seen c.token.result) c.token.ensures (sym c.is_blank.ensures ∙ c.if-is_blank.true) ∙ ap (λ n. total token_bytes (take n ts)) next
+    blank-texts ts k (seen c.token.result) c.token.ensures (sym c.is_blank.ensures ∙ c.if-is_blank.true) ∙ ap (λ n. filter has_text (take n ts)) next

@@ -1,4 +1,4 @@
-use Rattle.std.proofs.Common.{◌≡◌, ◌<◌, ◌+◌, length, drop, ◌∙◌, ap, sym, arith, length-drop}
+use Rattle.std.proofs.Common.{◌≡◌, length, drop, ◌∙◌, ap, sym, arith, length-drop}
 use Rattle.std.specs.Prelude.{slice_get}
 use Rattle.cweb_store.proofs.TextLemmas.{get-drop}
 use Rattle.cweb_store.proofs.closed_tokens.ClosedTokens.other.Goals as goal

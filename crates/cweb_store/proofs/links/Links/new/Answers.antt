@@ -1,5 +1,4 @@
-use Rattle.std.proofs.Common.{◌≡◌, ◌+◌, ◌-◌, ℕ, suc, List, [], ◌∷◌, ◌++◌, length, drop, reverse, sym, ◌∙◌, ap, subst, arith, length-append}
-use Rattle.cweb_store.specs.declared.part.Run.{Run}
+use Rattle.std.proofs.Common.{◌≡◌, ◌-◌, ℕ, suc, [], ◌∷◌, length, drop, reverse, ◌∙◌, ap, subst, arith, length-append}
 use Rattle.cweb_store.specs.Links.{AreLinked}
 use Rattle.cweb_store.proofs.LinkLemmas.{step-linked}
 use Rattle.cweb_store.proofs.links.Links.new.Goals as goal

@@ -1,4 +1,4 @@
-use Rattle.std.proofs.Common.{◌≡◌, [], map, drop, sym, ◌∙◌, ap, arith}
+use Rattle.std.proofs.Common.{◌≡◌, map, sym, ◌∙◌, ap}
 use Rattle.std.proofs.lemmas.List.{take_all, drop_all}
 use Rattle.cweb_store.specs.Replaced.{replacement_in}
 use Rattle.cweb_store.specs.Replacements.{Replacement}

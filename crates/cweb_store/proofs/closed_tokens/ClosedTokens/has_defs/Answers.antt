@@ -5,7 +5,7 @@ use Rattle.cweb_store.specs.Parts.{is_defs}
 use Rattle.cweb_store.specs.Packed.{token_in, is_packed_defs}
 use Rattle.cweb_store.proofs.RangeLemmas.{range-map}
 use Rattle.cweb_store.proofs.PackedLemmas.{defs-records}
-use Rattle.cweb_store.proofs.token_list.TokenList.has_defs.Goals as goal
+use Rattle.cweb_store.proofs.closed_tokens.ClosedTokens.has_defs.Goals as goal
 
 pub returns : goal.returns
 returns c =
@@ -13,4 +13,4 @@ returns c =
     let first = c.args.part.first in
     let after = c.args.part.after in
     c.has_defs_in.ensures ∙ ap (λ ps. list_any is_packed_defs (slice_range ps first after)) c.deref.ensures.value ∙ defs-records s.texts (slice_range s.records.items first after)
-    ∙ ap (list_any is_defs) (range-map (token_in s.texts) s.records.items first after ∙ ap (λ ts. slice_range ts first after) c.self.view_is)
+    ∙ ap (list_any is_defs) (range-map (token_in s.texts) s.records.items first after ∙ ap (λ v. slice_range v.tokens first after) c.self.view_is)
