@@ -6,6 +6,7 @@ pub mod Replacements
 pub mod Faults
 pub mod Calls
 pub mod Seen
+pub mod Made
 pub mod Runs
 pub mod Texts
 pub mod PackedTexts

@@ -1,9 +1,28 @@
-//! What holds of names and parts whatever calls a builder is given. These functions do nothing: each is there for its
-//! contract.
+//! What holds of names and parts whatever calls a builder is given. Each function is there for its contract, and all but the
+//! first do nothing.
 
+ghost use Rattle.std.specs.Prelude.{◌≡◌, map, IfOk};
+ghost use Rattle.cweb_store.specs.Calls.{contents, empty};
 ghost use Rattle.cweb_store.specs.Laws.{AbbreviationsStay, EarlierNamesDecide, FullNamesStandForThemselves, JoiningConcatenates, OccurrencesAreThoseOfCalls};
 ghost use Rattle.cweb_store.specs.MoreLaws.{AbbreviationsBeginTheirNames, DroppingKeepsTheFront, NamesAreDistinct, OneFaultForNoName};
 ghost use Rattle.cweb_store.specs.TokenLaws.{TokensAreThosePushed};
+ghost use Rattle.cweb_store.specs.Made.{given, TakesAll};
+
+use crate::builder::Builder;
+use crate::call::Call;
+use std::alloc::{AllocError, Global};
+
+/// A builder after any list of calls holds what these make of nothing, each taken in its turn.
+pub fn builder_holds_contents(alloc: Global, calls: &[Call<'_>]) -> Result<Builder, AllocError>
+    requires { TakesAll empty (map given calls.now) }
+    ensures { IfOk result (λ builder. builder ≡ contents (map given calls.now)) }
+{
+    let mut builder = Builder::new(alloc);
+    for call in calls {
+        call.make(&mut builder)?;
+    }
+    Ok(builder)
+}
 
 /// What an abbreviation stands for stays when names are added that don't begin with its prefix.
 pub fn abbreviations_stay()

@@ -2,6 +2,7 @@
 #![tactic(auto)]
 
 mod builder;
+mod call;
 mod closed_parts;
 mod closed_tokens;
 mod faults;
@@ -26,6 +27,7 @@ mod token_list;
 mod word_texts;
 
 pub use builder::Builder;
+pub use call::Call;
 pub use name::{How, NameFault, NameId, NameKind, NameRef};
 pub use part::{Part, PartKind};
 pub use parts::Parts;

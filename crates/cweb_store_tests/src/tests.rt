@@ -1,6 +1,7 @@
 // What stores answer, of rows of builder calls that are written as text.
 
 mod growth;
+mod lists;
 mod names;
 mod parts;
 mod rows;

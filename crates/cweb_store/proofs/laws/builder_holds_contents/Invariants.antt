@@ -1,0 +1,11 @@
+use Rattle.std.proofs.Common.{◌≡◌, drop, map}
+use Rattle.std.specs.Prelude.{fold}
+use Rattle.cweb_store.specs.Calls.{after, contents}
+use Rattle.cweb_store.specs.Made.{given, TakesAll}
+use Rattle.cweb_store.proofs.laws.builder_holds_contents.Given as goal
+
+abbrev pub invariant-loop-call : goal.invariant-loop-call
+invariant-loop-call l = record {
+  taken : TakesAll l.builder (map given (drop l.call-index l.calls));
+  held : fold after l.builder (map given (drop l.call-index l.calls)) ≡ contents (map given l.calls);
+}
