@@ -26,6 +26,7 @@ pub(crate) enum Class {
 
 impl Class {
     /// The class of a token.
+    #[inline(always)]
     pub fn of(token: &Token<'_>) -> Class
         ensures { result ≡ class_of (Some (seen token.now)) }
     {
@@ -41,6 +42,7 @@ impl Class {
     }
 
     /// Whether a blank comes between a token of this class and the one that follows it.
+    #[inline(always)]
     pub fn is_apart(self, token: &Token<'_>) -> bool
         ensures { result ≡ is_apart self (seen token.now) }
     {

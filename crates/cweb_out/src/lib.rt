@@ -8,6 +8,7 @@ mod file_name;
 mod frame;
 pub mod laws;
 mod left;
+mod lent;
 mod macros;
 mod mark;
 mod memory;

@@ -10,6 +10,7 @@ ghost use Rattle.cweb_out.specs.Writing.{Wrote};
 
 use crate::class::Class;
 use crate::left::Left;
+use crate::lent::Lent;
 use crate::macros::write_macros;
 use crate::mark::write_mark;
 use crate::pieces::write_piece;
@@ -75,6 +76,30 @@ impl<'a> Printer<'a> {
     }
 
     fn print<W: Sink>(&mut self, token: &Token<'_>, out: &mut W) -> Result<(), SinkFault>
+        requires count { W.failed out.old + 1 < 2 ^ 64 }
+        requires named { IsNamed (setting_of self.old) (seen token.now) }
+        ensures tells { W.tells out.new ≡ W.tells out.old }
+        ensures failed { Counts (W.failed out.old) (W.failed out.new) result }
+        ensures beside { IsTrue (W.tells out.old) → W.beside out.new ≡ W.beside out.old }
+        ensures setting { setting_of self.new ≡ setting_of self.old }
+        ensures moves { OnOk result (Moves (kept_of self.old) (seen token.now) (kept_of self.new)) }
+        ensures err { OnErr result (self.new ≡ self.old) }
+        ensures prints { IsTrue (W.tells out.old) → Prints self.old (seen token.now) (W.written out.old) (W.written out.new) result }
+    {
+        let Some(lent) = Lent::of(self.left, token) else {
+            return self.print_other(token, out);
+        };
+        lent.write(out)?;
+        self.left = Left {
+            class: lent.class,
+            joined: false,
+        };
+        Ok(())
+    }
+
+    // Prints what isn't lent as it stands, or not in this place.
+    #[inline(never)]
+    fn print_other<W: Sink>(&mut self, token: &Token<'_>, out: &mut W) -> Result<(), SinkFault>
         requires count { W.failed out.old + 1 < 2 ^ 64 }
         requires named { IsNamed (setting_of self.old) (seen token.now) }
         ensures tells { W.tells out.new ≡ W.tells out.old }

@@ -1,24 +1,30 @@
-use Rattle.std.proofs.Common.{◌++◌, ◌∷◌, []}
+use Rattle.std.proofs.Common.{◌≡◌, ◌++◌, ◌∷◌, [], ◌∙◌, ap, sym, List, ℕ}
 use Rattle.cweb_store.specs.Seen.{seen}
 use Rattle.cweb_out.specs.Printing.{print}
-use Rattle.cweb_out.specs.Classes.{added, file_by}
+use Rattle.cweb_out.specs.Lent.{blank_where}
 use Rattle.cweb_out.specs.Printed.{kept_of, setting_of}
 use Rattle.cweb_out.proofs.Fronts.{wrote_err}
 use Rattle.cweb_out.proofs.Prints.{adds_by}
-use Rattle.cweb_out.proofs.Steps.{print-push}
+use Rattle.cweb_out.proofs.Lending.{print-lent}
 use Rattle.cweb_out.proofs.printer.Printer.print.Goals as goal
 
-pub returns-in_err-write_token-clause-prints : goal.returns-in_err-write_token-clause-prints
-returns-in_err-write_token-clause-prints g c = λ tells ts is.
+pub returns-in_err-write-clause-prints : goal.returns-in_err-write-clause-prints
+returns-in_err-write-clause-prints g c = λ tells ts is.
     let s = setting_of c.args.self.now in
-    let left = kept_of c.args.self.now in
     let t = seen c.args.token.now in
-    adds_by (print s ts) (print s (ts ++ t ∷ [])) (g.W.Sink.written c.args.out.now) (g.W.Sink.written c.write_token.new.out) (added (file_by s) left t) c.from_residual.result (print-push s left ts t is)
-    (wrote_err (g.W.Sink.written c.args.out.now) (g.W.Sink.written c.write_token.new.out) (added (file_by s) left t) c.from_residual.result c.from_residual.ensures.0 (c.in_err-write_token.ensures.wrote tells))
+    let lent = c.in-Some.lent in
+    let due = print-lent s (kept_of c.args.self.now) ts t lent.is_apart lent.text.now is c.in-Some.ensures.apart c.in-Some.ensures.text in
+    let bytes = blank_where lent.is_apart ++ lent.text.now in
+    adds_by (print s ts) (print s (ts ++ t ∷ [])) (g.W.Sink.written c.args.out.now) (g.W.Sink.written c.write.new.out) bytes c.from_residual.result due
+    (wrote_err (g.W.Sink.written c.args.out.now) (g.W.Sink.written c.write.new.out) bytes c.from_residual.result c.from_residual.ensures.0 (c.in_err-write.ensures.wrote tells))
 
 pub returns-clause-prints : goal.returns-clause-prints
 returns-clause-prints g c = λ tells ts is.
     let s = setting_of c.args.self.now in
-    let left = kept_of c.args.self.now in
     let t = seen c.args.token.now in
-    record { bytes = added (file_by s) left t; due = print-push s left ts t is; written = c.in_ok-write_token.ensures.wrote tells }
+    let lent = c.in-Some.lent in
+    record {
+      bytes = blank_where lent.is_apart ++ lent.text.now;
+      due = print-lent s (kept_of c.args.self.now) ts t lent.is_apart lent.text.now is c.in-Some.ensures.apart c.in-Some.ensures.text;
+      written = c.in_ok-write.ensures.wrote tells;
+    }
