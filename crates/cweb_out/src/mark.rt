@@ -23,6 +23,37 @@ pub(crate) fn write_mark<W: Sink>(
     ensures beside { IsTrue (W.tells out.old) → W.beside out.new ≡ W.beside out.old }
     ensures wrote { IsTrue (W.tells out.old) → Wrote (W.written out.old) (W.written out.new) (begin.now ++ mark_line name.now line) result }
 {
+    if has_quotable(name) {
+        return write_quoted_mark(begin, name, line, out);
+    }
+    let mut digits = Buffer::new();
+    write_pieces(
+        out,
+        &[
+            begin,
+            b"#line ",
+            digits.format(line).as_bytes(),
+            b" \"",
+            name,
+            b"\"\n",
+        ],
+    )
+}
+
+// The same for a name with a quote or a backslash, which few files have.
+#[inline(never)]
+fn write_quoted_mark<W: Sink>(
+    begin: &[u8],
+    name: &[u8],
+    line: u32,
+    out: &mut W,
+) -> Result<(), SinkFault>
+    requires { W.failed out.old + 1 < 2 ^ 64 }
+    ensures tells { W.tells out.new ≡ W.tells out.old }
+    ensures failed { Counts (W.failed out.old) (W.failed out.new) result }
+    ensures beside { IsTrue (W.tells out.old) → W.beside out.new ≡ W.beside out.old }
+    ensures wrote { IsTrue (W.tells out.old) → Wrote (W.written out.old) (W.written out.new) (begin.now ++ mark_line name.now line) result }
+{
     let mut digits = Buffer::new();
     write_pieces(
         out,
@@ -32,7 +63,6 @@ pub(crate) fn write_mark<W: Sink>(
     write_piece(out, b"\"\n")
 }
 
-// Names mostly have no quote and no backslash, and are then written at once.
 fn write_quoted<W: Sink>(name: &[u8], out: &mut W) -> Result<(), SinkFault>
     requires { W.failed out.old + 1 < 2 ^ 64 }
     ensures tells { W.tells out.new ≡ W.tells out.old }
@@ -40,9 +70,6 @@ fn write_quoted<W: Sink>(name: &[u8], out: &mut W) -> Result<(), SinkFault>
     ensures beside { IsTrue (W.tells out.old) → W.beside out.new ≡ W.beside out.old }
     ensures wrote { IsTrue (W.tells out.old) → Wrote (W.written out.old) (W.written out.new) (quoted name.now) result }
 {
-    if !has_quotable(name) {
-        return write_piece(out, name);
-    }
     'bytes: for byte in name {
         write_quoted_byte(*byte, out)?;
     }

@@ -1,14 +1,8 @@
-use Rattle.std.proofs.Common.{rules, take, drop, sym, subst, suc, List, ℕ}
+use Rattle.std.proofs.Common.{take, drop, sym, subst, suc, List, ℕ}
 use Rattle.std.specs.Prelude.{IsTrue}
 use Rattle.cweb_out.specs.Printing.{quoted_byte, quoted}
-use Rattle.cweb_out.proofs.Fronts.{flat_at, front_in, wrote_err, wrote_same}
-use Rattle.cweb_out.proofs.Bytes.{plain_name}
+use Rattle.cweb_out.proofs.Fronts.{flat_at, front_in, wrote_err}
 use Rattle.cweb_out.proofs.mark.write_quoted.Goals as goal
-
-pub returns-then-not-has_quotable-clause-wrote : goal.returns-then-not-has_quotable-clause-wrote
-returns-then-not-has_quotable-clause-wrote g c = λ tells.
-    wrote_same (g.W.Sink.written c.args.out.now) (g.W.Sink.written c.write_piece.new.out) c.args.name.now (quoted c.args.name.now) c.write_piece.result
-    (sym (plain_name c.args.name.now (search rules))) (c.write_piece.ensures.wrote tells)
 
 pub returns-in_err-write_quoted_byte-clause-wrote : goal.returns-in_err-write_quoted_byte-clause-wrote
 returns-in_err-write_quoted_byte-clause-wrote g c = λ tells.

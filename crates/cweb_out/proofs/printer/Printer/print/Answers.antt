@@ -1,4 +1,4 @@
-use Rattle.std.proofs.Common.{◌≡◌, ◌++◌, ◌∷◌, [], ◌∙◌, ap, sym, List, ℕ}
+use Rattle.std.proofs.Common.{◌++◌, ◌∷◌, []}
 use Rattle.cweb_store.specs.Seen.{seen}
 use Rattle.cweb_out.specs.Printing.{print}
 use Rattle.cweb_out.specs.Lent.{blank_where}
@@ -13,10 +13,13 @@ returns-in_err-write-clause-prints g c = λ tells ts is.
     let s = setting_of c.args.self.now in
     let t = seen c.args.token.now in
     let lent = c.in-Some.lent in
-    let due = print-lent s (kept_of c.args.self.now) ts t lent.is_apart lent.text.now is c.in-Some.ensures.apart c.in-Some.ensures.text in
+    let due = print-lent s (kept_of c.args.self.now) ts t lent.is_apart lent.text.now is
+    c.in-Some.ensures.apart c.in-Some.ensures.text in
+    let old = g.W.Sink.written c.args.out.now in
+    let new = g.W.Sink.written c.write.new.out in
     let bytes = blank_where lent.is_apart ++ lent.text.now in
-    adds_by (print s ts) (print s (ts ++ t ∷ [])) (g.W.Sink.written c.args.out.now) (g.W.Sink.written c.write.new.out) bytes c.from_residual.result due
-    (wrote_err (g.W.Sink.written c.args.out.now) (g.W.Sink.written c.write.new.out) bytes c.from_residual.result c.from_residual.ensures.0 (c.in_err-write.ensures.wrote tells))
+    adds_by (print s ts) (print s (ts ++ t ∷ [])) old new bytes c.from_residual.result due
+    (wrote_err old new bytes c.from_residual.result c.from_residual.ensures.0 (c.in_err-write.ensures.wrote tells))
 
 pub returns-clause-prints : goal.returns-clause-prints
 returns-clause-prints g c = λ tells ts is.
@@ -25,6 +28,7 @@ returns-clause-prints g c = λ tells ts is.
     let lent = c.in-Some.lent in
     record {
       bytes = blank_where lent.is_apart ++ lent.text.now;
-      due = print-lent s (kept_of c.args.self.now) ts t lent.is_apart lent.text.now is c.in-Some.ensures.apart c.in-Some.ensures.text;
+      due = print-lent s (kept_of c.args.self.now) ts t lent.is_apart lent.text.now is
+          c.in-Some.ensures.apart c.in-Some.ensures.text;
       written = c.in_ok-write.ensures.wrote tells;
     }

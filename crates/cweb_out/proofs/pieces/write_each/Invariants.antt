@@ -1,6 +1,6 @@
 use Rattle.std.proofs.Common.{◌≡◌, ◌++◌, take}
 use Rattle.std.specs.Prelude.{IsTrue, flat_map}
-use Rattle.cweb_out.proofs.pieces.write_pieces.Given as goal
+use Rattle.cweb_out.proofs.pieces.write_each.Given as goal
 
 abbrev pub invariant-pieces : goal.invariant-pieces
 invariant-pieces g l = record {

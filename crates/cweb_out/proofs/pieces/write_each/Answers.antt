@@ -1,7 +1,7 @@
 use Rattle.std.proofs.Common.{take, drop, sym, subst, suc, Bor, List, ℕ}
 use Rattle.std.specs.Prelude.{IsTrue, flat_map}
 use Rattle.cweb_out.proofs.Fronts.{pieces_at, front_in, wrote_err}
-use Rattle.cweb_out.proofs.pieces.write_pieces.Goals as goal
+use Rattle.cweb_out.proofs.pieces.write_each.Goals as goal
 
 pub returns-in_err-write_piece-clause-wrote : goal.returns-in_err-write_piece-clause-wrote
 returns-in_err-write_piece-clause-wrote g c = λ tells.
