@@ -14,8 +14,24 @@ returns-in-Some-clause-ok c =
     let s = c.self.inside in
     let word = c.args.word.now in
     let entries = s.words.entries in
-    let number = c.in-Some.number in
-    let found : lookup (λ (k : Vec ℕ Global). bytes_eq word k.items) entries ≡ Some number = sym c.get.ensures.value ∙ sym c.copied.ensures ∙ c.in-Some.is in
+    let number = c.in-Some.guessed in
+    let found : lookup (λ (k : Vec ℕ Global). bytes_eq word k.items) entries ≡ Some number = c.in-Some.ensures in
+    let keeps : KeepsWord (texts_and_words s.texts entries) word number (texts_and_words s.texts entries) = record {
+      more = [];
+      grows = sym (append-nil s.texts);
+      stands = words-lookup s.texts word entries number c.self.invariant found;
+      words = sym (known-word word entries number found);
+      bytes = omega arith;
+    } in
+    rw (← c.self.view_is) keeps
+
+pub returns-in-Some-copied-clause-ok : goal.returns-in-Some-copied-clause-ok
+returns-in-Some-copied-clause-ok c =
+    let s = c.self.inside in
+    let word = c.args.word.now in
+    let entries = s.words.entries in
+    let number = c.in-Some-copied.number in
+    let found : lookup (λ (k : Vec ℕ Global). bytes_eq word k.items) entries ≡ Some number = sym c.get.ensures.value ∙ sym c.copied.ensures ∙ c.in-Some-copied.is in
     let keeps : KeepsWord (texts_and_words s.texts entries) word number (texts_and_words s.texts entries) = record {
       more = [];
       grows = sym (append-nil s.texts);
@@ -32,7 +48,7 @@ invariant_of-self-2 c =
     let entries = s.words.entries in
     let key = c.in_ok-key.key in
     let is : key.items ≡ word = c.in_ok-key.ensures.items in
-    let none : lookup (λ (k : Vec ℕ Global). bytes_eq key.items k.items) entries ≡ None = ap (λ q. lookup (λ (k : Vec ℕ Global). bytes_eq q k.items) entries) is ∙ sym c.get.ensures.value ∙ sym c.copied.ensures ∙ c.in_default.is in
+    let none : lookup (λ (k : Vec ℕ Global). bytes_eq key.items k.items) entries ≡ None = ap (λ q. lookup (λ (k : Vec ℕ Global). bytes_eq q k.items) entries) is ∙ sym c.get.ensures.value ∙ sym c.copied.ensures ∙ c.in_default-copied.is in
     let inserted = words-insert (s.texts ++ word ∷ []) entries key c.in_ok-number.number (words-grow s.texts (word ∷ []) entries c.self.invariant) none (get-last s.texts word c.in_ok-number.number c.in_ok-number.ensures.number ∙ ap Some (sym is)) in
     rw (c.put_word.ensures, c.in_ok-reserve.ensures.entries, c.in_ok-number.ensures.added) inserted
 
@@ -45,7 +61,7 @@ returns-clause-ok c =
     let key = c.in_ok-key.key in
     let number = c.in_ok-number.number in
     let is : key.items ≡ word = c.in_ok-key.ensures.items in
-    let lacks : lookup (λ (k : Vec ℕ Global). bytes_eq word k.items) entries ≡ None = sym c.get.ensures.value ∙ sym c.copied.ensures ∙ c.in_default.is in
+    let lacks : lookup (λ (k : Vec ℕ Global). bytes_eq word k.items) entries ≡ None = sym c.get.ensures.value ∙ sym c.copied.ensures ∙ c.in_default-copied.is in
     let none : lookup (λ (k : Vec ℕ Global). bytes_eq key.items k.items) entries ≡ None = ap (λ q. lookup (λ (k : Vec ℕ Global). bytes_eq q k.items) entries) is ∙ lacks in
     let more = insert_entry (λ (x y : Vec ℕ Global). bytes_eq x.items y.items) entries key number in
     let last : map word_in more ≡ map word_in entries ++ word ∷ [] = new-word entries key number none ∙ ap (λ w. map word_in entries ++ w ∷ []) is in
