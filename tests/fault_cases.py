@@ -63,6 +63,11 @@ def small_cases():
     whole = Result(b"A\nnew\nD\n", faults, 1)
     yield Case("faults", ["a", "m"], {"a.w": web, "m.ch": change}, whole, [NO_WEB, NO_CHANGE, whole])
 
+    files = {"a.w": b"@i inc.w\nL2\nL3\n", "inc.w": b"I1\nI2\n", "m.ch": b"@x\nI2\nLX\n@y\nN\n@z\n"}
+    whole = Result(b"I1\nN\nL3\n", b"m.ch:1: ! Lines that failed to match: 1\n", 1)
+    log = b"a.w:1: ! Cannot open include file\nm.ch:1: ! Change entry did not match\n"
+    yield Case("a change in an included file", ["a", "m"], files, whole, [NO_WEB, NO_CHANGE, Result(b"L2\nL3\n", log, 1)])
+
     whole = Result(b"x\n", b"", 0)
     yield Case("a web under its second name", ["a"], {"a.web": b"x"}, whole, [whole, NO_WEB])
     yield Case("an empty web", ["a"], {"a.w": b""}, Result(b"", b"", 0), [NO_WEB])

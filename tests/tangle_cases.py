@@ -82,7 +82,31 @@ def stopped(text):
     return b"! " + text + b"\n"
 
 
+def writing(name):
+    """The log of a run that writes one file, and in which nothing is wrong."""
+    return BANNER + b"Writing " + name + b"\n(No errors were found.)\n"
+
+
+def small_webs():
+    """Webs of a few lines: a first program, macros, what takes memory in words, a fault."""
+    web = b'@ Hello.\n@c\n#include <stdio.h>\nint main(void) { @<Greet@> return 0; }\n@ @<Greet@>=\nputs("hi");\n'
+    text = b"/*1:*/\n" + line_mark(b"a.w", 2) + b"\n#include <stdio.h>\nint main(void){/*2:*/\n" + line_mark(b"a.w", 5)
+    text += b'\nputs("hi");/*:2*/\n' + line_mark(b"a.w", 4) + b"return 0;}\n/*:1*/\n"
+    yield Case("a first program", ["a"], {"a.w": web}, {"a.c": text}, writing(b"a.c"))
+    web = b"@ Macros.\n@d f(x) x+1\n@d g (x)\n@d N\n@d two 1+\n  2\n@c\nf(3)\n"
+    text = b"#define f(x)x+1\n#define g (x)\n#define N\n#define two 1 + \\\n2\n"
+    text += b"/*1:*/\n" + line_mark(b"a.w", 7) + b"\nf(3)/*:1*/\n"
+    yield Case("macros", ["a"], {"a.w": web}, {"a.c": text}, writing(b"a.c"))
+    web = b"@l fc ue\n@ @c\nfoo@&\nbar @'a' @'\\t' @=a  b@> f\xfcr\n"
+    text = b"/*1:*/\n" + line_mark(b"a.w", 2) + b"\nfoobar 97 9a  bfuer/*:1*/\n"
+    yield Case("a replaced byte", ["a"], {"a.w": web}, {"a.c": text}, writing(b"a.c"))
+    outputs = {"a.c": b"#define M 1\n", "a.h": b"/*1:*/\n" + line_mark(b"a.w", 2) + b'\nint m="x/*:1*/\n'}
+    log = BANNER + b"a.w:3: ! String did not end\nWriting a.c\nWriting a.h\n(Faults: 1.)\n"
+    yield Case("a string without an end", ["a"], {"a.w": b'@ @d M 1\n@(a.h@>=\nint m="x\n'}, outputs, log, 1)
+
+
 def cases():
+    yield from small_webs()
     yield two_files()
     yield with_faults()
     old = {"a.c": b"old\n"}
