@@ -1,46 +1,45 @@
 -- Words that are kept once, and how many bytes of tokens are kept.
 use Rattle.std.proofs.Common.{◌≡◌, ℕ, ◌+◌, ◌≤◌, true, false, cond, ◌||◌, List, [], ◌∷◌, ◌++◌, Some, None, map, length, refl, sym, ◌∙◌, ap, arith}
-use Rattle.std.specs.Prelude.{Vec, bytes_eq, filter, fold, if◌then◌else◌}
+use Rattle.std.specs.Prelude.{bytes_eq, filter, fold, if◌then◌else◌}
 use Rattle.std.specs.List.{list_any}
 use Rattle.std.specs.Map.{lookup}
-use Rattle.std.specs.declared.alloc.Global.{Global}
 use Rattle.std.proofs.lemmas.List.Sums.{fold-append}
 use Rattle.indexmap.specs.IndexMap.{insert_entry}
 use Rattle.cweb_store.specs.Parts.{Token, Word, Number, Literal, Verbatim, Punct, Blank, Newline, Join, Defs, Name, Head, Tail, Mark}
 use Rattle.cweb_store.specs.Texts.{has_text, token_bytes, total, with_word, with_word_of, words_of, other_bytes, token_bytes_kept}
-use Rattle.cweb_store.specs.Words.{word_in}
+use Rattle.cweb_store.specs.Words.{Entries, word_in}
 
 pub total-append : {A : Type 0} (f : A → ℕ) (xs ys : List A) → total f (xs ++ ys) ≡ total f xs + total f ys
 total-append f [] ys = omega arith
 total-append f (x ∷ xs) ys = omega (arith, total-append f xs ys)
 
 -- what is found in the map is one of its words
-pub known-word : (word : List ℕ) (es : List (Vec ℕ Global × ℕ)) (n : ℕ) → lookup (λ k. bytes_eq word k.items) es ≡ Some n → with_word (map word_in es) word ≡ map word_in es
+pub known-word : (word : List ℕ) (es : Entries) (n : ℕ) → lookup (bytes_eq word) es ≡ Some n → with_word (map word_in es) word ≡ map word_in es
 known-word word es n found = ap (λ b. if b then map word_in es else map word_in es ++ word ∷ []) (among es found)
   where
-    among : (es : List (Vec ℕ Global × ℕ)) → lookup (λ k. bytes_eq word k.items) es ≡ Some n → list_any (bytes_eq word) (map word_in es) ≡ true
+    among : (es : Entries) → lookup (bytes_eq word) es ≡ Some n → list_any (bytes_eq word) (map word_in es) ≡ true
     among [] found = cc
-    among (e ∷ es) found = (elim (bytes_eq word e.0.items) as (λ b. cond b (Some e.1) (lookup (λ k. bytes_eq word k.items) es) ≡ Some n → (b || list_any (bytes_eq word) (map word_in es)) ≡ true) [
+    among (e ∷ es) found = (elim (bytes_eq word e.0) as (λ b. cond b (Some e.1) (lookup (bytes_eq word) es) ≡ Some n → (b || list_any (bytes_eq word) (map word_in es)) ≡ true) [
       | true ↦ λ at. refl
       | false ↦ λ at. among es at
     ]) found
 
 -- a word that isn't found comes last
-pub new-word : (es : List (Vec ℕ Global × ℕ)) (key : Vec ℕ Global) (n : ℕ) → lookup (λ k. bytes_eq key.items k.items) es ≡ None →
-    map word_in (insert_entry (λ x y. bytes_eq x.items y.items) es key n) ≡ map word_in es ++ key.items ∷ []
+pub new-word : (es : Entries) (key : List ℕ) (n : ℕ) → lookup (bytes_eq key) es ≡ None →
+    map word_in (insert_entry bytes_eq es key n) ≡ map word_in es ++ key ∷ []
 new-word [] key n none = refl
 new-word (e ∷ es) key n none =
-    (elim (bytes_eq key.items e.0.items) as (λ b. cond b (Some e.1) (lookup (λ k. bytes_eq key.items k.items) es) ≡ None → map word_in (if b then (e.0, n) ∷ es else e ∷ insert_entry (λ x y. bytes_eq x.items y.items) es key n) ≡ e.0.items ∷ (map word_in es ++ key.items ∷ [])) [
+    (elim (bytes_eq key e.0) as (λ b. cond b (Some e.1) (lookup (bytes_eq key) es) ≡ None → map word_in (if b then (e.0, n) ∷ es else e ∷ insert_entry bytes_eq es key n) ≡ e.0 ∷ (map word_in es ++ key ∷ [])) [
       | true ↦ λ at. cc
-      | false ↦ λ at. ap (λ ws. e.0.items ∷ ws) (new-word es key n at)
+      | false ↦ λ at. ap (λ ws. e.0 ∷ ws) (new-word es key n at)
     ]) none
 
-pub other-word : (word : List ℕ) (es : List (Vec ℕ Global × ℕ)) → lookup (λ k. bytes_eq word k.items) es ≡ None → with_word (map word_in es) word ≡ map word_in es ++ word ∷ []
+pub other-word : (word : List ℕ) (es : Entries) → lookup (bytes_eq word) es ≡ None → with_word (map word_in es) word ≡ map word_in es ++ word ∷ []
 other-word word es none = ap (λ b. if b then map word_in es else map word_in es ++ word ∷ []) (lacks es none)
   where
-    lacks : (es : List (Vec ℕ Global × ℕ)) → lookup (λ k. bytes_eq word k.items) es ≡ None → list_any (bytes_eq word) (map word_in es) ≡ false
+    lacks : (es : Entries) → lookup (bytes_eq word) es ≡ None → list_any (bytes_eq word) (map word_in es) ≡ false
     lacks [] none = refl
-    lacks (e ∷ es) none = (elim (bytes_eq word e.0.items) as (λ b. cond b (Some e.1) (lookup (λ k. bytes_eq word k.items) es) ≡ None → (b || list_any (bytes_eq word) (map word_in es)) ≡ false) [
+    lacks (e ∷ es) none = (elim (bytes_eq word e.0) as (λ b. cond b (Some e.1) (lookup (bytes_eq word) es) ≡ None → (b || list_any (bytes_eq word) (map word_in es)) ≡ false) [
       | true ↦ λ at. cc
       | false ↦ λ at. lacks es at
     ]) none
@@ -69,10 +68,10 @@ words-texts ws (Mark place ∷ ts) = words-texts ws ts
 other-texts : (ts : List Token) → total other_bytes (filter has_text ts) ≡ total other_bytes ts
 other-texts [] = refl
 other-texts (Word b ∷ ts) = omega (arith, other-texts ts)
-other-texts (Number b ∷ ts) = ap (λ n. length b + n) (other-texts ts)
-other-texts (Literal b ∷ ts) = ap (λ n. length b + n) (other-texts ts)
-other-texts (Verbatim b ∷ ts) = ap (λ n. length b + n) (other-texts ts)
-other-texts (Punct b ∷ ts) = ap (λ n. length b + n) (other-texts ts)
+other-texts (Number b ∷ ts) = omega (arith, other-texts ts)
+other-texts (Literal b ∷ ts) = omega (arith, other-texts ts)
+other-texts (Verbatim b ∷ ts) = omega (arith, other-texts ts)
+other-texts (Punct b ∷ ts) = omega (arith, other-texts ts)
 other-texts (Blank ∷ ts) = omega (arith, other-texts ts)
 other-texts (Newline ∷ ts) = omega (arith, other-texts ts)
 other-texts (Join ∷ ts) = omega (arith, other-texts ts)

@@ -1,5 +1,5 @@
 -- Calls that are to be made, and which of them a builder takes.
-use Rattle.std.specs.Prelude.{ℕ, ◌+◌, ◌<◌, ◌≤◌, List, [], ◌∷◌, length, IsSome, IsNone}
+use Rattle.std.specs.Prelude.{◌+◌, ◌<◌, ◌≤◌, List, [], ◌∷◌, length, IsSome, IsNone}
 use Rattle.cweb_store.specs.declared.call.Call.{Call}
 use Rattle.cweb_store.specs.declared.call.Call.TheVariants as made
 use Rattle.cweb_store.specs.Growing.{part_count, token_count}

@@ -15,26 +15,16 @@ token_texts (Verbatim b) = b ∷ []
 token_texts (Punct b) = b ∷ []
 token_texts token = []
 
--- how many bytes it has
-abbrev pub token_bytes : Token → ℕ
-token_bytes (Word b) = length b
-token_bytes (Number b) = length b
-token_bytes (Literal b) = length b
-token_bytes (Verbatim b) = length b
-token_bytes (Punct b) = length b
-token_bytes token = 0
-
 abbrev pub has_text : Token → Bool
-has_text (Word b) = true
-has_text (Number b) = true
-has_text (Literal b) = true
-has_text (Verbatim b) = true
-has_text (Punct b) = true
-has_text token = false
+has_text token = elim (token_texts token) [ [] ↦ false | text ∷ texts ↦ true ]
 
 abbrev pub total : {A : Type 0} → (A → ℕ) → List A → ℕ
 total f [] = 0
 total f (x ∷ xs) = f x + total f xs
+
+-- how many bytes the text of a token has
+abbrev pub token_bytes : Token → ℕ
+token_bytes token = total length (token_texts token)
 
 abbrev pub occurrence_text : Occurrence → List ℕ
 occurrence_text o = o.text

@@ -1,6 +1,7 @@
 -- Texts, and the words that are kept once.
-use Rattle.std.specs.Prelude.{◌≡◌, ℕ, ◌+◌, List, [], ◌∷◌, ◌++◌, Some, Vec, map, length, slice_get}
-use Rattle.std.specs.declared.alloc.Global.{Global}
+use Rattle.std.specs.Prelude.{◌≡◌, ℕ, ◌+◌, List, [], ◌∷◌, ◌++◌, Some, map, length, slice_get, bytes_eq, IsTrue}
+use Rattle.std.proofs.Common.{ap}
+use Rattle.std.specs.Cmp.Lexicographic.{bytes_decides}
 use Rattle.cweb_store.specs.PackedTexts.{text_bytes}
 use Rattle.cweb_store.specs.Texts.{total, with_word}
 
@@ -11,17 +12,24 @@ pub record TextsAndWords : Type 0 where
 abbrev pub none_kept : TextsAndWords
 none_kept = record { texts = []; words = [] }
 
--- the words that a map has
-abbrev pub word_in : (Vec ℕ Global × ℕ) → List ℕ
-word_in e = e.0.items
+-- a map's words, each with the number of its text
+abbrev pub Entries : Type 0
+Entries = List (List ℕ × ℕ)
 
-abbrev pub texts_and_words : List (List ℕ) → List (Vec ℕ Global × ℕ) → TextsAndWords
+abbrev pub word_in : (List ℕ × ℕ) → List ℕ
+word_in e = e.0
+
+abbrev pub texts_and_words : List (List ℕ) → Entries → TextsAndWords
 texts_and_words texts es = record { texts = texts; words = map word_in es }
 
 -- each word is the text whose number a map gives
-abbrev pub AreWords : List (List ℕ) → List (Vec ℕ Global × ℕ) → Type 0
+abbrev pub AreWords : List (List ℕ) → Entries → Type 0
 AreWords texts [] = Unit {0}
-AreWords texts (e ∷ es) = (slice_get texts e.1 ≡ Some e.0.items) × AreWords texts es
+AreWords texts (e ∷ es) = (slice_get texts e.1 ≡ Some e.0) × AreWords texts es
+
+-- equal words give a hasher the same
+pub same_hash : (a b : List ℕ) → IsTrue (bytes_eq a b) → a ∷ [] ≡ b ∷ []
+same_hash a b same = ap (λ word. word ∷ []) ((bytes_decides a b).0 same)
 
 -- the texts that were there stay, and the text has a number
 pub record Keeps (old : TextsAndWords) (text : List ℕ) (number : ℕ) (new : TextsAndWords) : Type 0 where

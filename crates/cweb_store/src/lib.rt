@@ -24,6 +24,7 @@ mod standing;
 mod store;
 mod token;
 mod token_list;
+mod word;
 mod word_texts;
 
 pub use builder::Builder;
