@@ -12,7 +12,6 @@ mod literals;
 mod macros;
 mod names;
 mod sections;
-mod spacing;
 mod told;
 mod worked;
 

@@ -63,14 +63,12 @@ fn stays_stopped(
     ended: Result<(), Stop>,
 ) -> Result<(), Fail> {
     let stop = Stop::ReadFault(FileId(shelf.failed_in));
-    assert_eq!(rt; ended, Err(stop), "at {}", shelf.fails_at);
-    let mut line = Vec::new(rt.alloc());
-    line.push(b'x')?;
-    assert_eq!(rt; shelf.failed, 1);
-    assert!(rt; shelf.failed < 2);
-    assert_eq!(rt; merger.next_line(shelf, &mut line), Err(stop));
+    assert!(rt; ended == Err(stop));
+    let mut line = vec![in rt.alloc(); b'x'; 1]?;
+    assert!(rt; shelf.failed == 1);
+    assert!(rt; merger.next_line(shelf, &mut line) == Err(stop));
     assert!(rt; line.is_empty());
-    assert_eq!(rt; shelf.reads, shelf.fails_at);
+    assert!(rt; shelf.reads == shelf.fails_at);
     Ok(())
 }
 
@@ -161,62 +159,61 @@ fn a_write_that_fails(rt: HostRuntime) -> Result<(), Fail> {
     Ok(())
 }
 
-// The devices of a run, before anything of it is allocated.
-fn devices(
-    alloc: Global,
-    files: &[(&str, &[u8])],
-) -> Result<(MemoryShelf, MemorySink, MemorySink), AllocError> {
-    let shelf = shelf_of(alloc, files)?;
-    let sink = MemorySink::with_room(alloc, 100)?;
-    let after = MemorySink::with_room(alloc, 100)?;
-    Ok((shelf, sink, after))
+// A merger that was refused memory: it answers that stop, and writes nothing.
+fn stays_refused(
+    rt: &(impl AllocGlobal + Abort),
+    merger: &mut Merger<MemoryShelf>,
+    shelf: &mut MemoryShelf,
+) {
+    let mut line = Vec::new(rt.alloc());
+    assert!(rt; merger.next_line(shelf, &mut line) == Err(Stop::Memory));
+    let mut after = SmallSink::new(rt.alloc());
+    assert!(rt; write_merged(merger, shelf, &mut after) == Err(Stop::Memory));
+    assert!(rt; after.writes == 0);
 }
 
-// A run that gives this text and so many faults where no memory is refused, and else a front of them.
+// A run that gives this text and so many faults, or a front of the text where memory is refused.
+fn merge_whole(
+    rt: &(impl AllocGlobal + Abort),
+    files: &[(&str, &[u8])],
+    change: Option<&str>,
+    merged: &[u8],
+    faults: usize,
+) -> Result<(), Stop> {
+    let alloc = rt.alloc();
+    let mut shelf = shelf_of(alloc, files)?;
+    let mut sink = MemorySink::with_room(alloc, 100)?;
+    let mut merger = Merger::start(alloc, &mut shelf, "a.w", None, change, Some("lib"))?;
+    let ended = write_merged_in_pieces(&mut merger, &mut shelf, &mut sink, 6);
+    assert!(rt; merged.starts_with(sink.bytes()));
+    if ended.is_err() {
+        stays_refused(rt, &mut merger, &mut shelf);
+    }
+    ended?;
+    assert!(rt; sink.bytes() == merged);
+    assert!(rt; merger.faults().len() == faults);
+    Ok(())
+}
+
+// The same where memory may be refused: nothing else stops it.
 fn refuse_memory(
     rt: &(impl AllocGlobal + Abort),
     files: &[(&str, &[u8])],
     change: Option<&str>,
     merged: &[u8],
     faults: usize,
-) -> Result<(), Fail> {
-    let alloc = rt.alloc();
-    let Ok((mut shelf, mut sink, mut after)) = devices(alloc, files) else {
-        return Ok(());
-    };
-    assert_eq!(rt; sink.failures(), 0);
-    assert_eq!(rt; after.failures(), 0);
-    let mut merger = match Merger::start(alloc, &mut shelf, "a.w", None, change, Some("lib")) {
-        Ok(merger) => merger,
-        Err(stop) => {
-            assert_eq!(rt; stop, Stop::Memory);
-            return Ok(());
-        }
-    };
-    let Err(stop) = write_merged_in_pieces(&mut merger, &mut shelf, &mut sink, 6) else {
-        assert_eq!(rt; sink.bytes(), merged);
-        assert_eq!(rt; merger.faults().len(), faults);
-        return Ok(());
-    };
-    assert_eq!(rt; stop, Stop::Memory);
-    assert!(rt; merged.starts_with(sink.bytes()));
-    let mut line = Vec::new(alloc);
-    assert_eq!(rt; merger.next_line(&mut shelf, &mut line), Err(Stop::Memory));
-    assert_eq!(rt;
-        write_merged(&mut merger, &mut shelf, &mut after),
-        Err(Stop::Memory)
-    );
-    assert_eq!(rt; after.bytes(), b"".as_slice());
-    Ok(())
+) {
+    let ended = merge_whole(rt, files, change, merged, faults);
+    assert!(rt; matches!(ended, Ok(()) | Err(Stop::Memory)));
 }
 
-// Run by `rt try --test --fail-alloc 1..`, which refuses each allocation of the runs in turn.
+// Run by `tests/refusals`, which refuses each allocation of the runs in turn.
 #[test]
-fn memory_that_is_refused(rt: HostRuntime) -> Result<(), Fail> {
-    refuse_memory(&rt, &FILES, None, MERGED, 1)
+fn memory_that_is_refused(rt: HostRuntime) {
+    refuse_memory(&rt, &FILES, None, MERGED, 1);
 }
 
 #[test]
-fn memory_that_is_refused_within_changes(rt: HostRuntime) -> Result<(), Fail> {
-    refuse_memory(&rt, &CHANGED, Some("c.ch"), MERGED_CHANGED, 4)
+fn memory_that_is_refused_within_changes(rt: HostRuntime) {
+    refuse_memory(&rt, &CHANGED, Some("c.ch"), MERGED_CHANGED, 4);
 }

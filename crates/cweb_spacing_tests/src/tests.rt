@@ -5,12 +5,14 @@ ghost use Rattle.cweb_store.specs.Seen.{seen};
 ghost use Rattle.cweb_out.specs.Printers.{IsNamed};
 ghost use Rattle.cweb_out.specs.Printing.{Setting};
 
-use super::*;
-use cweb_files::{MemorySink, Sink};
-use cweb_lines::FileNames;
+use cweb_files::{MemoryShelf, MemorySink, Sink};
+use cweb_lines::{FileNames, Merger};
 use cweb_out::Printer;
+use cweb_scan::{Scanned, scan};
 use cweb_store::{Builder, Store, Token};
+use std::alloc::{AllocError, Global};
 use std::process::Abort;
+use std::test::Fail;
 
 // More than the text of any row.
 const ROOM: usize = 1000;
@@ -24,7 +26,7 @@ fn is_named(names: &FileNames, token: &Token<'_>) -> bool
     }
 }
 
-// What is printed of tokens.
+// Prints tokens.
 fn print(
     rt: &impl Abort,
     store: &Store,
@@ -89,6 +91,27 @@ fn told_store(alloc: Global, store: &Store) -> Result<Vec<u8>, AllocError> {
     Ok(told)
 }
 
+// What is printed of tokens.
+fn printed(rt: &impl Abort, alloc: Global, tokens: &[Token<'_>]) -> Result<MemorySink, Fail> {
+    let mut shelf = MemoryShelf::new(alloc);
+    shelf.put("a.w", b"")?;
+    let merger = Merger::start(alloc, &mut shelf, "a.w", None, None, None)?;
+    let store = Builder::new(alloc).finish()?;
+    let mut out = MemorySink::with_room(alloc, ROOM)?;
+    print(rt, &store, merger.names(), tokens, &mut out);
+    Ok(out)
+}
+
+// What a scan makes of C text.
+fn scanned(alloc: Global, text: &[u8]) -> Result<Scanned, Fail> {
+    let web = web_of(alloc, text)?;
+    let mut shelf = MemoryShelf::new(alloc);
+    shelf.put("a.w", web.as_slice())?;
+    let mut merger = Merger::start(alloc, &mut shelf, "a.w", None, None, None)?;
+    let made = scan(alloc, &mut merger, &mut shelf)?;
+    Ok(made)
+}
+
 // Tokens are printed, and read again as the same tokens, without a fault. `text`, where there is one, is what is printed.
 fn comes_back(
     rt: &impl Abort,
@@ -96,16 +119,11 @@ fn comes_back(
     tokens: &[Token<'_>],
     text: Option<&[u8]>,
 ) -> Result<(), Fail> {
-    let mut shelf = shelf_of(alloc, &[("a.w", b"")])?;
-    let merger = Merger::start(alloc, &mut shelf, "a.w", None, None, None)?;
-    let store = Builder::new(alloc).finish()?;
-    let mut out = MemorySink::with_room(alloc, ROOM)?;
-    print(rt, &store, merger.names(), tokens, &mut out);
+    let out = printed(rt, alloc, tokens)?;
     if let Some(text) = text {
         assert!(rt; out.bytes() == text);
     }
-    let web = web_of(alloc, out.bytes())?;
-    let made = scanned(alloc, &[("a.w", &web)], None)?;
+    let made = scanned(alloc, out.bytes())?;
     assert!(rt; made.faults.is_empty());
     let wanted = told_list(alloc, tokens)?;
     let read = told_store(alloc, &made.store)?;
@@ -206,12 +224,17 @@ const TOKENS: [Token<'static>; 44] = [
     Token::Tail(4_294_967_295),
 ];
 
-#[test]
-fn all_pairs_come_back(rt: HostRuntime) -> Result<(), Fail> {
-    for left in TOKENS {
-        for right in TOKENS {
-            comes_back(&rt, rt.alloc(), &[left, right], None)?;
+// Each token comes back before each.
+fn pairs_come_back(rt: &impl Abort, alloc: Global, tokens: &[Token<'_>]) -> Result<(), Fail> {
+    for left in tokens {
+        for right in tokens {
+            comes_back(rt, alloc, &[*left, *right], None)?;
         }
     }
     Ok(())
+}
+
+#[test]
+fn all_pairs_come_back(rt: HostRuntime) -> Result<(), Fail> {
+    pairs_come_back(&rt, rt.alloc(), &TOKENS)
 }

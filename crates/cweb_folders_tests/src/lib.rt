@@ -1,0 +1,5 @@
+//! The tests of `cweb_tools` on real folders and streams.
+#![tactic(auto)]
+
+#[cfg(test)]
+mod tests;

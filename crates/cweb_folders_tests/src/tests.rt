@@ -1,0 +1,3 @@
+// Files of real folders, and streams that take and give as much as they like.
+mod folder;
+mod streams;
