@@ -9,8 +9,8 @@ const MACROS: &[u8] = b"@l fc ue\n@* @d f(x) R\"(a\nb)\" @'a'\n@d g @=v@>\n@c @h
 
 const FAULTS: &[u8] = b"@x\n@ @d 1\n@c @^a\n@<A@<B\n@* @c \"x@y\n/* z\n";
 
-// A scan that makes this many tokens, faults and faults of names where no memory is refused. The merger keeps the stop of one
-// that was refused memory.
+// A scan that makes this many tokens and faults of the text where no memory is refused. The merger keeps the stop of one that was
+// refused memory.
 fn scan_whole(
     rt: &(impl AllocGlobal + Abort),
     web: &[u8],
