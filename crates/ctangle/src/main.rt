@@ -6,7 +6,7 @@ ghost use Rattle.std.specs.Prelude.{◌<◌, ◌+◌, ◌^◌};
 
 use cweb_lines::Stop;
 use cweb_out::Bins;
-use cweb_tools::{FolderBins, FolderShelf, StdSink, run_ctangle, write_stop};
+use cweb_tools::{FilesRead, FolderBins, FolderShelf, StdSink, run_ctangle, write_stop};
 use std::alloc::{AllocError, Global};
 use std::env;
 use std::env::VarError;
@@ -18,14 +18,16 @@ use std::rt::{Env, Files};
 const INPUTS: &str = "CWEBINPUTS";
 
 fn main(rt: HostRuntime) -> ExitCode {
+    let read = FilesRead::new(rt.alloc());
     // made before any other file is opened, so that no output takes the place of a standard stream that is closed
-    let bins = FolderBins::new(rt.alloc(), &rt);
-    ExitCode::from(tangle(&rt, bins, rt.stderr()))
+    let bins = FolderBins::new(rt.alloc(), &rt, &read);
+    ExitCode::from(tangle(&rt, &read, bins, rt.stderr()))
 }
 
 /// Runs over the arguments, the environment and the files of the program, and answers its status.
 fn tangle<R: Env + Files + AllocGlobal, B: Bins + Drop, L: Write + Drop>(
     rt: &R,
+    read: &FilesRead,
     bins: B,
     log: L,
 ) -> u8
@@ -42,7 +44,7 @@ fn tangle<R: Env + Files + AllocGlobal, B: Bins + Drop, L: Write + Drop>(
         return out_of_memory(log);
     };
     let inputs = inputs.as_ref().map(|folder| folder.as_str());
-    let mut shelf = FolderShelf::new(rt);
+    let mut shelf = FolderShelf::noting(rt, read);
     let mut log = StdSink::new(log);
     run_ctangle(rt.alloc(), &words, inputs, &mut shelf, &mut bins, &mut log)
 }

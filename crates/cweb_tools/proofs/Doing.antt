@@ -1,5 +1,5 @@
 -- Calls one after another, and how a run ends behind them.
-use Rattle.std.proofs.Common.{◌≡◌, inl, inr, ◌+◌, ℕ, Bool, List, [], ◌∷◌, ◌++◌, refl, sym, ◌∙◌, ap, subst, arith, add-zero}
+use Rattle.std.proofs.Common.{◌≡◌, inl, inr, ◌+◌, ℕ, Bool, List, [], ◌∷◌, ◌++◌, refl, sym, ◌∙◌, ap, subst, add-zero}
 use Rattle.std.specs.Prelude.{false, Option, Some, None, IsErr, IsTrue, Result, Ok, Err}
 use Rattle.cweb_files.specs.Files.{committed, nothing_beside, with_draft}
 use Rattle.cweb_lines.specs.Texts.{read_blame}

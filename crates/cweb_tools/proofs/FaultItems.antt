@@ -1,5 +1,5 @@
 -- The faults of a web as items: how many there are, and that they are written.
-use Rattle.std.proofs.Common.{◌≡◌, ◌<◌, ◌+◌, ℕ, zero, suc, Bool, true, false, cond, List, [], ◌∷◌, ◌++◌, length, map, refl, sym, ◌∙◌, ap, subst, append_assoc, append-nil, arith, length-append}
+use Rattle.std.proofs.Common.{◌≡◌, ◌<◌, ◌+◌, ℕ, zero, suc, Bool, true, false, cond, List, [], ◌∷◌, ◌++◌, length, map, refl, sym, ◌∙◌, ap, subst, append_assoc, arith, length-append}
 use Rattle.std.proofs.lemmas.Grind.{flat_map-append}
 use Rattle.std.proofs.lemmas.List.{length-map}
 use Rattle.std.proofs.lemmas.List.Sums.{sum_by-append, sum_by-cons}
@@ -8,13 +8,11 @@ use Rattle.std.specs.Prelude.{IsTrue, IsErr, None, Result, Ok, Err, count_by, de
 use Rattle.cweb_lines.specs.declared.fault.SourceFault.{SourceFault}
 use Rattle.cweb_lines.specs.declared.fault.SourceKind.{SourceKind}
 use Rattle.cweb_lines.specs.declared.fault.SourceKind.TheVariants.{Unequal}
-use Rattle.cweb_rules.specs.declared.fault.ScanFault.{ScanFault}
 use Rattle.cweb_store.specs.Faults as store
 use Rattle.cweb_store.specs.Parts.{Part, is_macro, numbers_from, numbers_where}
-use Rattle.cweb_store.specs.declared.name.NameFault.{NameFault}
 use Rattle.cweb_store.specs.declared.part.PartKind.{PartKind}
 use Rattle.cweb_scan.specs.Run.{Scanned}
-use Rattle.cweb_tools.specs.Acts.{Act, says}
+use Rattle.cweb_tools.specs.Acts.{says}
 use Rattle.cweb_tools.specs.Does.{DoesInLog, told}
 use Rattle.cweb_tools.specs.Gathering.{Writes}
 use Rattle.cweb_tools.specs.Items.{Item, counted_text, fault_count, is_fault, line, source_item}

@@ -1,4 +1,5 @@
 pub mod AllDone
+pub mod Among
 pub mod Asking
 pub mod Counted
 pub mod Doing

@@ -1,14 +1,13 @@
 -- Items that are logged are acts that are done.
-use Rattle.std.proofs.Common.{◌≡◌, ◌<◌, ◌≤◌, ◌+◌, ◌⊎◌, inl, inr, ℕ, zero, suc, List, [], ◌∷◌, ◌++◌, length, map, refl, sym, ◌∙◌, ap, subst, append_assoc, append-nil, arith, add-zero}
+use Rattle.std.proofs.Common.{◌≡◌, ◌+◌, ◌⊎◌, inl, inr, ℕ, List, [], ◌∷◌, ◌++◌, map, refl, sym, ◌∙◌, ap, subst, append_assoc, append-nil, add-zero}
 use Rattle.std.specs.List.{flat_map}
-use Rattle.std.specs.Prelude.{IsTrue, Option, None, Some, Result, Ok, Err}
-use Rattle.cweb_lines.specs.Writing.{WritesFront}
+use Rattle.std.specs.Prelude.{None, Some, Result, Ok, Err}
 use Rattle.cweb_lines.specs.declared.stop.Stop.TheVariants.{LogFault}
-use Rattle.cweb_tools.specs.Acts.{Act, Ending, ending, FailsLog, Held, Runs, after_act, says}
-use Rattle.cweb_tools.specs.Does.{Does, DoesInLog, held, told}
+use Rattle.cweb_tools.specs.Acts.{ending, Held, Runs, after_act, says}
+use Rattle.cweb_tools.specs.Does.{DoesInLog, held, told}
 use Rattle.cweb_tools.specs.Gathering.{Writes}
 use Rattle.cweb_tools.specs.Items.{Item, line}
-use Rattle.cweb_tools.specs.Seen.{AllTell, SeenBins, SeenRun, SeenShelf, SeenStream}
+use Rattle.cweb_tools.specs.Seen.{SeenBins, SeenRun, SeenShelf, SeenStream}
 use Rattle.cweb_tools.proofs.Doing.{does_none}
 
 -- two ways to cut a text in two: the first front ends within the second's, or the second's within it

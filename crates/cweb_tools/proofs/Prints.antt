@@ -1,18 +1,16 @@
 -- Tokens of an expander that are printed, one after another.
-use Rattle.std.proofs.Common.{◌≡◌, ℕ, List, [], ◌∷◌, ◌++◌, length, refl, sym, ◌∙◌, ap, subst, append_assoc, append-nil}
-use Rattle.std.proofs.lemmas.List.Elements.{All-head, All-same}
+use Rattle.std.proofs.Common.{◌≡◌, ℕ, List, [], ◌∷◌, ◌++◌, length, sym, ◌∙◌, ap, subst, append_assoc}
+use Rattle.std.proofs.lemmas.List.Elements.{All-head}
 use Rattle.std.specs.Borrow.{Bor}
-use Rattle.std.specs.Prelude.{All, IsTrue, Option, None, Some, Result, Ok, Err, vec_capacity}
-use Rattle.cweb_files.specs.Device.{Counts}
+use Rattle.std.specs.Prelude.{All, IsTrue, Ok}
 use Rattle.cweb_files.specs.declared.device.Sink.{Ghosts as Sink}
 use Rattle.cweb_store.specs.Calls.{Stored}
 use Rattle.cweb_store.specs.Parts.{Token}
 use Rattle.cweb_scan.specs.Scan.{IsMarkBelow}
-use Rattle.cweb_out.specs.Classes.{leaves}
-use Rattle.cweb_out.specs.Frames.{Gives, left}
-use Rattle.cweb_out.specs.Printed.{Adds, Ends, Moves, Prints, kept_of, setting_of}
+use Rattle.cweb_out.specs.Frames.{left}
+use Rattle.cweb_out.specs.Printed.{Adds, Moves, Prints, kept_of, setting_of}
 use Rattle.cweb_out.specs.Printers.{IsNamed, setting}
-use Rattle.cweb_out.specs.Printing.{Setting, file, print}
+use Rattle.cweb_out.specs.Printing.{Setting, print}
 use Rattle.cweb_out.specs.declared.expander.Expander.{Expander}
 use Rattle.cweb_out.specs.declared.printer.Printer.{Printer}
 use Rattle.cweb_tools.specs.Expanders.{PrintsSoFar, StaysReady, left_in}

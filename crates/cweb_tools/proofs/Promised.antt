@@ -1,13 +1,12 @@
 -- What a run of `ctangle` promises, by how it ends.
-use Rattle.std.proofs.Common.{◌≡◌, ◌≢◌, ◌+◌, ◌⊎◌, inl, inr, ℕ, List, [], ◌∷◌, ◌++◌, refl, sym, ◌∙◌, ap, subst, add-zero, arith}
-use Rattle.std.specs.Prelude.{IsTrue, Option, Some, None}
+use Rattle.std.proofs.Common.{◌≡◌, ◌+◌, ◌⊎◌, inl, inr, ℕ, List, refl, ◌∙◌, ap, subst, add-zero, arith}
+use Rattle.std.specs.Prelude.{IsTrue, Option, Some}
 use Rattle.cweb_lines.specs.Include.{World}
 use Rattle.cweb_lines.specs.Texts.{read_blame}
 use Rattle.cweb_lines.specs.declared.stop.Stop.{Stop}
 use Rattle.cweb_lines.specs.declared.stop.Stop.TheVariants.{Usage, WebNotOpened, ChangeNotOpened, ReadFault, LineTooLong, TooMuchText, Memory, OutNotOpened, WriteFault, LogFault}
-use Rattle.cweb_tools.specs.Acts.{Act, Ending, ending, Held, LogsLine, LogsStop, TangleEnds, completes, stops}
-use Rattle.cweb_tools.specs.Does.{Closes, ClosesLog, Does, Follows, bins_blame, done, halted, held, log_blame}
-use Rattle.cweb_tools.specs.Log.{stop_line}
+use Rattle.cweb_tools.specs.Acts.{Act, ending, Held, LogsLine, LogsStop, TangleEnds, completes, stops}
+use Rattle.cweb_tools.specs.Does.{Closes, ClosesLog, Follows, bins_blame, done, halted, held, log_blame}
 use Rattle.cweb_tools.specs.Options.{Asked}
 use Rattle.cweb_tools.specs.Run.{Logs}
 use Rattle.cweb_tools.specs.Script.{TangleCourse, script, tangle_status}

@@ -1,14 +1,14 @@
 -- Plans that are refused, and those that are made.
-use Rattle.std.proofs.Common.{◌≡◌, ℕ, List, refl, sym, ap, subst}
-use Rattle.std.specs.Prelude.{IfSome, Option, None, Some, Result, Ok, Err}
+use Rattle.std.proofs.Common.{◌≡◌, ℕ, List, refl, ap, subst}
+use Rattle.std.specs.Prelude.{IfSome, Option, None, Some, Ok, Err}
 use Rattle.cweb_store.specs.Calls.{Stored}
 use Rattle.cweb_out.specs.Outputs as out
 use Rattle.cweb_out.specs.Outputs.{Planned, Refusal, bad_name, same_name, cycle}
 use Rattle.cweb_out.specs.Planning.{IsDue}
 use Rattle.cweb_out.specs.declared.plan_fault.PlanFault.{PlanFault}
 use Rattle.cweb_out.specs.declared.plan_fault.PlanFault.TheVariants.{Cycle, SameName, BadName, Memory}
-use Rattle.cweb_tools.specs.Items.{Item, fault, line}
-use Rattle.cweb_tools.specs.Script.{Planning, refused}
+use Rattle.cweb_tools.specs.Items.{fault, line}
+use Rattle.cweb_tools.specs.Script.{refused}
 use Rattle.cweb_tools.specs.Tangle.{plan_made, planning, planning_by}
 use Rattle.cweb_tools.specs.Web.{refusal_in}
 use Rattle.cweb_tools.specs.WebItems.{plan_item, refusal_text}

@@ -1,12 +1,12 @@
 -- How the exits of a run of `ctangle` that come before its web is read are its ends.
-use Rattle.std.proofs.Common.{◌≤◌, ◌≡◌, ◌⊎◌, ◌+◌, inl, inr, ℕ, List, [], ◌∷◌, ◌++◌, length, refl, sym, ◌∙◌, ap, subst, append-nil, append_assoc, add-zero, arith}
+use Rattle.std.proofs.Common.{◌≤◌, ◌≡◌, ◌⊎◌, ◌+◌, inl, inr, ℕ, List, [], ◌∷◌, ◌++◌, length, refl, sym, ◌∙◌, ap, subst, add-zero, arith}
 use Rattle.std.proofs.Math.ListN.{get_or-append}
 use Rattle.std.specs.Prelude.{IsTrue, Option, Some, None}
 use Rattle.cweb_lines.specs.Finding.{names_found}
 use Rattle.cweb_lines.specs.Include.{World, Found}
 use Rattle.cweb_lines.specs.Lines.{SourceLine}
 use Rattle.cweb_lines.specs.Merge.{Event, took, given, fault, opening}
-use Rattle.cweb_lines.specs.Merging.{SoFar, Gives, StopsBehind, TellsFront}
+use Rattle.cweb_lines.specs.Merging.{SoFar}
 use Rattle.cweb_lines.specs.Texts.{Count, StartStops, StopsFor, StopsReading, files_named, read_blame}
 use Rattle.cweb_lines.specs.Told.{given_lines, told_faults, openings, taken_lines, AreShort, IsWithinLimits}
 use Rattle.cweb_lines.specs.Whole.{Begins, StopsAtStart}
@@ -16,14 +16,14 @@ use Rattle.cweb_lines.specs.declared.stop.Stop.{Stop}
 use Rattle.cweb_lines.specs.declared.stop.Stop.TheVariants.{Usage, WebNotOpened, ChangeNotOpened, ReadFault, LineTooLong, TooMuchText, Memory, LogFault}
 use Rattle.cweb_scan.specs.Run.{Scanned, scanned}
 use Rattle.cweb_scan.specs.Scan.{EndsEarly, Scans, StopsAfter}
-use Rattle.cweb_tools.specs.Acts.{Act, Breaks, Ending, ending, Held, Runs, judges, opens, reads, says}
+use Rattle.cweb_tools.specs.Acts.{Act, Breaks, ending, Held, Runs, judges, opens, reads, says}
 use Rattle.cweb_tools.specs.Course.{Course, change_name, found_course, merging}
 use Rattle.cweb_tools.specs.Does.{Closes, Does, DoesInLog, Follows, LogsEnding, bins_blame, done, halted, held, log_blame}
 use Rattle.cweb_tools.specs.Items.{Item, banner, line, stopped}
 use Rattle.cweb_tools.specs.Log.{name_at, start_subject, stop_line, subject}
 use Rattle.cweb_tools.specs.Options.{Asked}
 use Rattle.cweb_tools.specs.Run.{Logs}
-use Rattle.cweb_tools.specs.Script.{TangleCourse, Web, script, tangle_status, tangle_usage, tangling, web_acts, when}
+use Rattle.cweb_tools.specs.Script.{script, tangle_status, tangle_usage, web_acts, when}
 use Rattle.cweb_tools.specs.Seen.{AllTell, SeenBins, SeenRun, SeenShelf, SeenStream}
 use Rattle.cweb_tools.specs.Tangle.{course_acts, course_status, shown_by, tangle_course, tangled, web_of, web_status}
 use Rattle.cweb_tools.specs.Words.{WebNames}

@@ -1,8 +1,8 @@
 -- How often a device of the system has failed, and the stream under it.
-use Rattle.std.specs.Prelude.{ℕ, List, Option, option_and_then}
+use Rattle.std.specs.Prelude.{ℕ, List, Option, option_and_then, IsSome}
 use Rattle.std.specs.Io.Buffered.{writer_contents}
 use Rattle.cweb_tools.specs.declared.bins.FolderBins.{FolderBins}
-use Rattle.cweb_tools.specs.declared.drafts.Draft.{Draft}
+use Rattle.cweb_tools.specs.declared.target.Target.{Target}
 use Rattle.cweb_tools.specs.declared.devices.FolderShelf.{FolderShelf}
 use Rattle.cweb_tools.specs.declared.devices.StdSink.{StdSink}
 
@@ -18,9 +18,14 @@ stream_of sink = sink.stream
 abbrev pub bins_failures : {R File Dir : Type 0} → FolderBins R File Dir → ℕ
 bins_failures bins = bins.failed
 
--- the bytes of a draft, written and gathered, where its file's are known
-abbrev pub bytes_of : {F : Type 0} → (F → Option (List ℕ)) → Draft F → Option (List ℕ)
-bytes_of contents draft = writer_contents contents draft.out
+-- the bytes of an output, written and gathered, where its file's are known
+abbrev pub target_bytes : {F : Type 0} → (F → Option (List ℕ)) → Target F → Option (List ℕ)
+target_bytes contents (Target.Draft draft) = writer_contents contents draft.out
+target_bytes contents (Target.Device out) = writer_contents contents out
 
-abbrev pub draft_bytes : {R File Dir : Type 0} → (File → Option (List ℕ)) → FolderBins R File Dir → Option (List ℕ)
-draft_bytes contents bins = option_and_then (bytes_of contents) bins.draft
+abbrev pub output_bytes : {R File Dir : Type 0} → (File → Option (List ℕ)) → FolderBins R File Dir → Option (List ℕ)
+output_bytes contents bins = option_and_then (target_bytes contents) bins.output
+
+-- an output is open
+abbrev pub IsBegun : {R File Dir : Type 0} → FolderBins R File Dir → Type 0
+IsBegun bins = IsSome bins.output

@@ -15,6 +15,7 @@ pub mod Seen
 pub mod Tangle
 pub mod TangleRun
 pub mod Web
+pub mod Ways
 pub mod WebItems
 pub mod Words
 pub mod Spacing

@@ -12,7 +12,7 @@ use Rattle.cweb_tools.specs.Items.{Item, line}
 use Rattle.cweb_tools.specs.Leaves.{LeavesFiles, put_files}
 use Rattle.cweb_tools.specs.Log.{stop_line}
 use Rattle.cweb_tools.specs.Options.{Asked}
-use Rattle.cweb_tools.specs.Script.{TangleCourse, files_in, items_in, script, tangle_files, tangle_log, tangle_status}
+use Rattle.cweb_tools.specs.Script.{files_in, items_in, script, tangle_status}
 use Rattle.cweb_tools.specs.Seen.{AllTell, SeenRun}
 use Rattle.cweb_tools.specs.Tangle.{shown_by, tangle_course}
 

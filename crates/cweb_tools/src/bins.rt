@@ -4,11 +4,15 @@ ghost use Rattle.std.specs.Io.KnownBytes.{Appends};
 ghost use Rattle.cweb_files.specs.Device.{Counts};
 ghost use Rattle.cweb_out.specs.Bins.{CountsDevice};
 
-use crate::devices::write_once;
-use crate::drafts::Draft;
+use crate::drafts::{Draft, start_fault};
+use crate::files_read::FilesRead;
+use crate::standing::{Standing, Way};
+use crate::system::{FileKey, Held};
+use crate::target::Target;
 use cweb_files::{Sink, SinkFault};
 use cweb_out::{BinFault, Bins};
 use std::alloc::Global;
+use std::collections::BTreeSet;
 use std::fs;
 use std::rt::Files;
 
@@ -19,53 +23,92 @@ const ROOT: &str = "/";
 /// output's name has: it is renamed where it is committed, and deleted where it is given up or can't be renamed. A
 /// deletion that fails leaves it there.
 ///
-/// A draft is written in large pieces. So a write may fail for what was taken before; the draft is given up then, so that
-/// one that lost bytes is never committed.
+/// A file that was begun or committed here isn't begun again, whatever it is called.
+///
+/// An output is written in large pieces. So a write may fail for what was taken before; the output is given up then, so
+/// that one that lost bytes is never committed.
 #[derive(Drop)]
-pub struct FolderBins<R: Files + Drop> {
+pub struct FolderBins<'a, R: Files<File: Held> + Drop> {
     alloc: Global,
     files: R,
     /// What stands in the place of standard streams that are closed: no draft is opened under their descriptors. They are
     /// open for reading alone, so that writing to such a stream still fails.
     streams: [Option<R::File>; 3],
-    draft: Option<Draft<R::File>>,
+    /// The files that the run has read, and those that it has begun or committed.
+    read: &'a FilesRead,
+    written: BTreeSet<FileKey>,
+    output: Option<Target<R::File>>,
     failed: u64,
 }
 
-impl<R: Files + Drop> FolderBins<R> {
-    ghost use Rattle.cweb_tools.specs.Devices.{bins_failures, draft_bytes};
+impl<'a, R: Files<File: Held> + Drop> FolderBins<'a, R> {
+    ghost use Rattle.cweb_tools.specs.Devices.{bins_failures, output_bytes, IsBegun};
 
-    /// It is to be made before any other file is opened.
-    pub fn new(alloc: Global, files: R) -> Self
+    /// It is to be made before any other file is opened. No output takes the place of a file that is noted as read.
+    pub fn new(alloc: Global, files: R, read: &'a FilesRead) -> Self
         ensures { bins_failures result ≡ 0 }
     {
-        let streams = [
-            fs::open(&files, ROOT).ok(),
-            fs::open(&files, ROOT).ok(),
-            fs::open(&files, ROOT).ok(),
-        ];
+        let streams = [stand_in(&files), stand_in(&files), stand_in(&files)];
         FolderBins {
             alloc,
             files,
             streams,
-            draft: None,
+            read,
+            written: BTreeSet::new(alloc),
+            output: None,
             failed: 0,
         }
     }
 
-    /// Adds bytes to the draft, in their order: none is lost and none is added. After a fault the draft is given up.
+    /// Begins an output of a name, by what stands under it.
+    fn begin(&mut self, name: &str) -> Result<Target<R::File>, BinFault>
+        ensures failed { bins_failures self.new ≡ bins_failures self.old }
+    {
+        let standing = match Standing::of(&self.files, name) {
+            Ok(standing) => standing,
+            Err(error) => return Err(start_fault(&error)),
+        };
+        let read = self.read.take();
+        let way = standing.way(&read, &self.written);
+        self.read.put_back(read);
+        match way {
+            Way::Draft(replaced) => self.begin_draft(name, replaced),
+            Way::Device(device) => Target::open_device(self.alloc, &self.files, name, device),
+            Way::Refused => Err(BinFault::Device),
+        }
+    }
+
+    /// Begins a draft, and notes its file as one that this run writes.
+    fn begin_draft(
+        &mut self,
+        name: &str,
+        replaced: Option<u32>,
+    ) -> Result<Target<R::File>, BinFault>
+        ensures failed { bins_failures self.new ≡ bins_failures self.old }
+    {
+        let draft = Draft::begin(self.alloc, &self.files, name, replaced)?;
+        if self.written.insert(draft.file).is_err() {
+            draft.delete(&self.files);
+            return Err(BinFault::Memory);
+        }
+        Ok(Target::Draft(draft))
+    }
+
+    /// Adds bytes to the output, in their order: none is lost and none is added. After a fault the output is given up.
     fn add(&mut self, piece: &[u8]) -> Result<usize, SinkFault>
         requires { bins_failures self.old + 1 < 2 ^ 64 }
         ensures failed { Counts (bins_failures self.old) (bins_failures self.new) result }
         ensures within { IfOk result (λ n. n ≤ length piece.now) }
         ensures some { 0 < length piece.now → IfOk result (λ n. 0 < n) }
-        ensures passes { IfOk result (λ n. Appends (draft_bytes R.File.contents self.old)
-            (draft_bytes R.File.contents self.new) (take n piece.now)) }
+        ensures begun { IfOk result (λ _. IsBegun self.old) }
+        ensures passes { IfOk result (λ n. Appends (output_bytes R.File.contents self.old)
+            (output_bytes R.File.contents self.new) (take n piece.now)) }
     {
-        let taken = match &mut self.draft {
-            Some(draft) => write_once(&mut draft.out, piece),
-            None => Err(SinkFault),
+        let Some(output) = &mut self.output else {
+            self.failed += 1;
+            return Err(SinkFault);
         };
+        let taken = output.write(piece);
         if taken.is_err() {
             self.give_up();
             self.failed += 1;
@@ -73,17 +116,41 @@ impl<R: Files + Drop> FolderBins<R> {
         taken
     }
 
-    /// Deletes an open draft.
+    /// Gives up the output that is open.
     fn give_up(&mut self)
         ensures failed { bins_failures self.new ≡ bins_failures self.old }
     {
-        if let Some(draft) = self.draft.take() {
-            draft.delete(&self.files);
+        if let Some(output) = self.output.take() {
+            if let Target::Draft(draft) = &output {
+                self.written.remove(&draft.file);
+            }
+            output.give_up(&self.files);
         }
+    }
+
+    /// Commits the output that is open.
+    fn commit(&mut self) -> Result<(), BinFault>
+        ensures failed { bins_failures self.new ≡ bins_failures self.old }
+        ensures device { IfErr result (λ fault. fault ≡ BinFault.Device) }
+        ensures begun { IfOk result (λ _. IsBegun self.old) }
+    {
+        match self.output.take() {
+            Some(output) => output.commit(&self.files)?,
+            None => return Err(BinFault::Device),
+        }
+        Ok(())
     }
 }
 
-impl<R: Files + Drop> Sink for FolderBins<R> {
+/// Takes the descriptor of a standard stream that is closed, if there is one.
+fn stand_in<R: Files<File: Held>>(files: &R) -> Option<R::File> {
+    match fs::open(files, ROOT) {
+        Ok(folder) if folder.is_stream() => Some(folder),
+        _ => None,
+    }
+}
+
+impl<R: Files<File: Held> + Drop> Sink for FolderBins<'_, R> {
     ghost use Rattle.cweb_tools.specs.Devices.{bins_failures};
 
     ghost tells = { λ _. false };
@@ -101,14 +168,14 @@ impl<R: Files + Drop> Sink for FolderBins<R> {
     }
 }
 
-impl<R: Files + Drop> Bins for FolderBins<R> {
+impl<R: Files<File: Held> + Drop> Bins for FolderBins<'_, R> {
     ghost use Rattle.cweb_tools.specs.Devices.{bins_failures};
 
     fn start_file(&mut self, name: &str) -> Result<(), BinFault> {
         self.give_up();
-        match Draft::begin(self.alloc, &self.files, name) {
-            Ok(draft) => {
-                self.draft = Some(draft);
+        match self.begin(name) {
+            Ok(output) => {
+                self.output = Some(output);
                 Ok(())
             }
             Err(BinFault::Memory) => Err(BinFault::Memory),
@@ -120,10 +187,7 @@ impl<R: Files + Drop> Bins for FolderBins<R> {
     }
 
     fn commit_file(&mut self) -> Result<(), BinFault> {
-        let done = match self.draft.take() {
-            Some(draft) => draft.commit(&self.files),
-            None => Err(BinFault::Device),
-        };
+        let done = self.commit();
         if done.is_err() {
             self.failed += 1;
         }

@@ -3,30 +3,73 @@ ghost use Rattle.std.specs.Prelude.{◌≡◌, ◌≤◌, ◌<◌, ◌+◌, ◌^
 ghost use Rattle.std.specs.Io.KnownBytes.{WriteAppends, ReadConsumes};
 ghost use Rattle.cweb_files.specs.Device.{Counts};
 
+use crate::files_read::FilesRead;
+use crate::system::FileKey;
 use cweb_files::{Shelf, ShelfFault, Sink, SinkFault};
 use std::alloc::AllocError;
-use std::fs;
 use std::io::{ErrorKind, Read, Write};
 use std::rt::Files;
+use std::{fs, io};
 
 /// The files of the system, under their paths. A folder can be opened as a file can, and its first read fails.
 #[derive(Drop)]
-pub struct FolderShelf<R: Files + Drop> {
+pub struct FolderShelf<'a, R: Files + Drop> {
     files: R,
+    /// Where each file that is opened is noted, if anywhere.
+    read: Option<&'a FilesRead>,
     failed: u64,
 }
 
-impl<R: Files + Drop> FolderShelf<R> {
+impl<'a, R: Files + Drop> FolderShelf<'a, R> {
     ghost use Rattle.cweb_tools.specs.Devices.{shelf_failures};
 
     pub fn new(files: R) -> Self
         ensures { shelf_failures result ≡ 0 }
     {
-        FolderShelf { files, failed: 0 }
+        FolderShelf {
+            files,
+            read: None,
+            failed: 0,
+        }
+    }
+
+    /// A shelf that notes each file that it opens, so that no output takes its place.
+    pub fn noting(files: R, read: &'a FilesRead) -> Self
+        ensures { shelf_failures result ≡ 0 }
+    {
+        FolderShelf {
+            files,
+            read: Some(read),
+            failed: 0,
+        }
+    }
+
+    /// Opens a file, and notes it. One that the system doesn't tell apart from others is an error.
+    fn opened(&self, name: &str) -> io::Result<R::File> {
+        let file = fs::open(&self.files, name)?;
+        if let Some(read) = self.read {
+            read.note(FileKey::of_open(&file)?)?;
+        }
+        Ok(file)
+    }
+
+    /// The bytes that it answers are the next ones of the file, as the system gives them: it loses and adds none.
+    fn next_bytes(&mut self, reader: &mut R::File, piece: &mut [u8]) -> Result<usize, ShelfFault>
+        requires { shelf_failures self.old + 1 < 2 ^ 64 }
+        ensures failed { Counts (shelf_failures self.old) (shelf_failures self.new) result }
+        ensures within { IfOk result (λ n. n ≤ length piece.new) }
+        ensures passes { ReadConsumes (R.File.remaining reader.old)
+            (R.File.remaining reader.new) result piece.new }
+    {
+        let read = read_once(reader, piece);
+        if read.is_err() {
+            self.failed += 1;
+        }
+        read
     }
 }
 
-impl<R: Files + Drop> Shelf for FolderShelf<R> {
+impl<R: Files + Drop> Shelf for FolderShelf<'_, R> {
     ghost use Rattle.cweb_tools.specs.Devices.{shelf_failures};
 
     type R = R::File;
@@ -41,7 +84,7 @@ impl<R: Files + Drop> Shelf for FolderShelf<R> {
 
     /// A file that the system does not open, for whatever cause but want of memory, is not there.
     fn fetch(&mut self, name: &str) -> Result<Option<R::File>, AllocError> {
-        match fs::open(&self.files, name) {
+        match self.opened(name) {
             Ok(file) => Ok(Some(file)),
             Err(error) => match error.kind() {
                 ErrorKind::OutOfMemory => Err(AllocError),
@@ -50,19 +93,8 @@ impl<R: Files + Drop> Shelf for FolderShelf<R> {
         }
     }
 
-    /// The bytes that it answers are the next ones of the file, as the system gives them: it loses and adds none.
-    fn read(&mut self, reader: &mut R::File, piece: &mut [u8]) -> Result<usize, ShelfFault>
-        requires { shelf_failures self.old + 1 < 2 ^ 64 }
-        ensures failed { Counts (shelf_failures self.old) (shelf_failures self.new) result }
-        ensures within { IfOk result (λ n. n ≤ length piece.new) }
-        ensures passes { ReadConsumes (R.File.remaining reader.old)
-            (R.File.remaining reader.new) result piece.new }
-    {
-        let read = read_once(reader, piece);
-        if read.is_err() {
-            self.failed += 1;
-        }
-        read
+    fn read(&mut self, reader: &mut R::File, piece: &mut [u8]) -> Result<usize, ShelfFault> {
+        self.next_bytes(reader, piece)
     }
 
     fn failures(&self) -> u64 {

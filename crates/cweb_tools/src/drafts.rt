@@ -2,34 +2,47 @@
 ghost use Rattle.std.specs.Prelude.{◌≡◌, ◌++◌, [], ◌∷◌, string_bytes, IfOk, IfErr};
 ghost use Rattle.std.specs.Io.Buffered.{writer_buffer};
 
+use crate::standing::permissions;
+use crate::system::{FileKey, Held, remove, seen, seen_as};
 use cweb_out::BinFault;
 use std::alloc::{AllocError, Global};
-use std::fs;
+use std::fs::{Metadata, OpenFile, OpenOptions, Permissions};
 use std::io::{BufWriter, Error, ErrorKind, Write};
+use std::os::unix::fs::{OpenOptionsExt, PermissionsExt};
 use std::rt::Files;
+use std::{fs, io};
 
 /// What stands behind a file's name in that of its draft: byte 127.
 const DRAFT_SIGN: &str = "\u{7f}";
 
 /// The bytes that are gathered before they are written.
-const PIECE: usize = 65536;
+pub(crate) const PIECE: usize = 65536;
 
-/// A draft that is open for writing.
+/// Its owner may read and write a draft, whatever the file's permissions, so that other runs can wait for its lock.
+const OWNERS: u32 = 0o600;
+
+/// A draft that is open for writing. It was created by this run, and holds the system's lock.
 #[derive(Drop)]
 pub(crate) struct Draft<F: Write + Drop> {
     /// The name of the file that it is to become.
     name: String,
     /// The draft's own name.
     path: String,
+    /// The file that it is, and will be.
+    pub(crate) file: FileKey,
     pub(crate) out: BufWriter<F>,
 }
 
-impl<F: Write + Drop> Draft<F> {
-    /// Begins an empty draft of a name, in the place of one that was left there.
+/// A draft that was just created: the file, and by what it is known.
+type Created<F> = (F, FileKey);
+
+impl<F: Write + OpenFile + Held + Drop> Draft<F> {
+    /// Begins an empty draft of a name. It is as open to others as the file was whose place it takes, if it takes one's.
     pub(crate) fn begin<R: Files<File = F>>(
         alloc: Global,
         files: &R,
         name: &str,
+        replaced: Option<u32>,
     ) -> Result<Draft<F>, BinFault>
         ensures named { IfOk result (λ draft. string_bytes draft.name ≡ name.now) }
         ensures path { IfOk result (λ draft. string_bytes draft.path ≡ name.now ++ 127 ∷ []) }
@@ -41,37 +54,161 @@ impl<F: Write + Drop> Draft<F> {
         let Ok(name) = String::from_str(alloc, name) else {
             return Err(BinFault::Memory);
         };
-        let file = match fs::create(files, path.as_str()) {
-            Ok(file) => file,
+        let mut how = OpenOptions::new();
+        how.write(true).create_new(true);
+        if let Some(permissions) = replaced {
+            how.mode(permissions | OWNERS);
+        }
+        let (out, file) = match created(files, path.as_str(), &how) {
+            Ok(created) => created,
             Err(error) => return Err(start_fault(&error)),
         };
-        let Ok(out) = BufWriter::with_capacity(alloc, PIECE, file) else {
+        let Ok(out) = BufWriter::with_capacity(alloc, PIECE, out) else {
             let _ = fs::remove_file(files, path.as_str());
             return Err(BinFault::Memory);
         };
-        Ok(Draft { name, path, out })
+        Ok(Draft {
+            name,
+            path,
+            file,
+            out,
+        })
     }
 
     /// Writes what was gathered, and puts the draft in the place of the file of its name; where either fails it is deleted.
     pub(crate) fn commit<R: Files<File = F>>(mut self, files: &R) -> Result<(), BinFault>
         ensures { IfErr result (λ fault. fault ≡ BinFault.Device) }
     {
-        if self.out.flush().is_err() {
-            self.delete(files);
-            return Err(BinFault::Device);
-        }
-        if fs::rename(files, self.path.as_str(), self.name.as_str()).is_err() {
+        if self.put_in_place(files).is_err() {
             self.delete(files);
             return Err(BinFault::Device);
         }
         Ok(())
     }
 
-    /// Deletes it; what was gathered isn't written.
+    /// Where another file stands under its path by now, that one's text would be put in place: it is an error.
+    fn put_in_place<R: Files<File = F>>(&mut self, files: &R) -> io::Result<()> {
+        self.out.flush()?;
+        let Some(draft) = seen_as(files, self.path.as_str(), self.file)? else {
+            return Err(Error::from(ErrorKind::NotFound));
+        };
+        if let Some(replaced) = seen(files, self.name.as_str())? {
+            self.keep_permissions(&draft, &replaced)?;
+        }
+        fs::rename(files, self.path.as_str(), self.name.as_str())
+    }
+
+    /// Gives the draft the permissions of the file whose place it takes.
+    fn keep_permissions(&self, draft: &Metadata, replaced: &Metadata) -> io::Result<()> {
+        let kept = permissions(replaced);
+        if replaced.is_file() && permissions(draft) != kept {
+            let kept = Permissions::from_mode(kept);
+            return self.out.get_ref().set_permissions(kept);
+        }
+        Ok(())
+    }
+
+    /// Deletes it; what was gathered isn't written. Another file that stands under its path by now is left there.
     pub(crate) fn delete<R: Files<File = F>>(self, files: &R) {
-        let Draft { name: _, path, out } = self;
-        let _ = out.into_parts();
-        let _ = fs::remove_file(files, path.as_str());
+        let Draft {
+            name: _,
+            path,
+            file,
+            out,
+        } = self;
+        // the lock is held until it is deleted
+        let _held = out.into_parts();
+        match seen_as(files, path.as_str(), file) {
+            Ok(None) => {}
+            _ => {
+                let _ = fs::remove_file(files, path.as_str());
+            }
+        }
+    }
+}
+
+/// Creates a draft, in the place of what was left there.
+fn created<R: Files<File: Held>>(
+    files: &R,
+    path: &str,
+    how: &OpenOptions,
+) -> io::Result<Created<R::File>> {
+    for _ in 0..u64::MAX {
+        if let Some(created) = created_now(files, path, how)? {
+            return Ok(created);
+        }
+    }
+    Err(Error::from(ErrorKind::AlreadyExists))
+}
+
+/// Creates a draft; none where something stood there, which is gone now, or where another run took the new one away.
+fn created_now<R: Files<File: Held>>(
+    files: &R,
+    path: &str,
+    how: &OpenOptions,
+) -> io::Result<Option<Created<R::File>>> {
+    match how.open(files, path) {
+        Ok(file) => taken(files, path, file),
+        Err(error) => match error.kind() {
+            ErrorKind::AlreadyExists => {
+                clear(files, path)?;
+                Ok(None)
+            }
+            _ => Err(error),
+        },
+    }
+}
+
+/// Locks a draft that was just created. Another run may have locked and removed it first, as one that was left.
+fn taken<R: Files<File: Held>>(
+    files: &R,
+    path: &str,
+    file: R::File,
+) -> io::Result<Option<Created<R::File>>> {
+    // where the system has no locks, without one
+    let _ = file.lock();
+    match stands(files, path, &file) {
+        Ok(Some(key)) => Ok(Some((file, key))),
+        Ok(None) => Ok(None),
+        Err(error) => {
+            let _ = fs::remove_file(files, path);
+            Err(error)
+        }
+    }
+}
+
+/// The key of an open file, where it stands under a path.
+fn stands<R: Files>(files: &R, path: &str, file: &R::File) -> io::Result<Option<FileKey>> {
+    let file = FileKey::of_open(file)?;
+    Ok(seen_as(files, path, file)?.map(|_| file))
+}
+
+/// Removes what stands in a draft's place. A folder stays, and is an error.
+fn clear<R: Files<File: Held>>(files: &R, path: &str) -> io::Result<()> {
+    match seen(files, path)? {
+        None => Ok(()),
+        Some(found) if found.is_dir() => Err(Error::from(ErrorKind::IsADirectory)),
+        Some(found) if found.is_file() => clear_file(files, path),
+        Some(_) => remove(files, path),
+    }
+}
+
+/// Waits until no run holds a draft, and removes it where it still stands there: a run that was killed left it. One that
+/// may not be opened can't be waited for.
+fn clear_file<R: Files<File: Held>>(files: &R, path: &str) -> io::Result<()> {
+    match fs::open(files, path) {
+        Ok(file) => {
+            let _ = file.lock();
+            match stands(files, path, &file)? {
+                Some(_) => remove(files, path),
+                None => Ok(()),
+            }
+        }
+        Err(error) => match error.kind() {
+            ErrorKind::NotFound => Ok(()),
+            ErrorKind::PermissionDenied => remove(files, path),
+            _ => Err(error),
+        },
     }
 }
 
@@ -85,7 +222,7 @@ fn draft_path(alloc: Global, name: &str) -> Result<String, AllocError>
 }
 
 /// Want of memory is told apart from every other refusal of the system.
-fn start_fault(error: &Error) -> BinFault {
+pub(crate) fn start_fault(error: &Error) -> BinFault {
     match error.kind() {
         ErrorKind::OutOfMemory => BinFault::Memory,
         _ => BinFault::Device,

@@ -1,4 +1,4 @@
-use Rattle.std.proofs.Common.{◌<◌, ◌≤◌, [], List, length, take, sym, subst, arith}
+use Rattle.std.proofs.Common.{◌<◌, ◌≤◌, [], List, length, sym, subst, arith}
 use Rattle.std.specs.Prelude.{None, Some, Ok, Err}
 use Rattle.cweb_lines.specs.Names.{names_of}
 use Rattle.cweb_out.specs.Outputs.{Output, name_of}

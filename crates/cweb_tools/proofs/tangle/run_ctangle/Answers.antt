@@ -1,5 +1,5 @@
 use Rattle.std.proofs.Common.{◌≡◌, ap, refl, arith}
-use Rattle.std.specs.Prelude.{Result, Err, None, Some}
+use Rattle.std.specs.Prelude.{Result, Err, Some}
 use Rattle.std.specs.Option.{option_copied}
 use Rattle.cweb_lines.specs.Include.{World}
 use Rattle.cweb_lines.specs.declared.stop.Stop.{Stop}

@@ -1,5 +1,5 @@
-use Rattle.std.proofs.Common.{[], ◌∷◌, List, ℕ, false, refl, ap, ◌+◌, subst, ◌≡◌}
-use Rattle.std.specs.Prelude.{Some, Ok, Err}
+use Rattle.std.proofs.Common.{[], ◌∷◌, List, ℕ, false, refl, ap, ◌+◌, subst}
+use Rattle.std.specs.Prelude.{Ok, Err}
 use Rattle.cweb_files.specs.declared.device.SinkFault.{SinkFault}
 use Rattle.cweb_tools.specs.Acts.{says}
 use Rattle.cweb_tools.specs.Gathering.{Writes}

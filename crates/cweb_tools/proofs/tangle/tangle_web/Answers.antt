@@ -1,4 +1,4 @@
-use Rattle.std.proofs.Common.{◌≡◌, [], ◌∷◌, refl, sym, ◌∙◌, ap, subst, arith}
+use Rattle.std.proofs.Common.{[], ◌∷◌, refl, sym, subst, arith}
 use Rattle.cweb_scan.specs.Scan.{seen}
 use Rattle.cweb_tools.specs.Acts.{plans}
 use Rattle.cweb_tools.specs.Does.{ClosesInBoth}

@@ -1,0 +1,39 @@
+// The files that a run has read, of which its outputs are none.
+use crate::system::FileKey;
+use std::alloc::{AllocError, Global};
+use std::cell::Cell;
+use std::collections::BTreeSet;
+
+/// The files that a run has read: a shelf notes each file that it opens, and bins ask for them before an output begins.
+#[derive(Drop)]
+pub struct FilesRead {
+    alloc: Global,
+    keys: Cell<BTreeSet<FileKey>>,
+}
+
+impl FilesRead {
+    pub fn new(alloc: Global) -> Self {
+        FilesRead {
+            alloc,
+            keys: Cell::new(BTreeSet::new(alloc)),
+        }
+    }
+
+    /// Takes the keys out, so that they can be looked at. They are to be put back.
+    pub(crate) fn take(&self) -> BTreeSet<FileKey> {
+        self.keys.replace(BTreeSet::new(self.alloc))
+    }
+
+    pub(crate) fn put_back(&self, keys: BTreeSet<FileKey>) {
+        self.keys.set(keys);
+    }
+
+    /// Notes a file that is read.
+    pub(crate) fn note(&self, file: FileKey) -> Result<(), AllocError> {
+        let mut keys = self.take();
+        let noted = keys.insert(file);
+        self.put_back(keys);
+        noted?;
+        Ok(())
+    }
+}

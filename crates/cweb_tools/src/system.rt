@@ -1,0 +1,85 @@
+// What the system tells of files, beside what `Files` asks.
+use std::fs::{File, Metadata, OpenFile};
+use std::io::ErrorKind;
+use std::os::fd::AsRawFd;
+use std::os::unix::fs::MetadataExt;
+use std::rt::Files;
+use std::{fs, io};
+
+/// The descriptor of standard error, the last one of the standard streams.
+const LAST_STREAM: i32 = 2;
+
+/// A file by its device and its number there: it is the same one under all its names.
+#[derive(Clone, Copy, Debug, PartialEq, Eq, PartialOrd, Ord)]
+pub(crate) struct FileKey {
+    device: u64,
+    number: u64,
+}
+
+impl FileKey {
+    pub(crate) fn of(found: &Metadata) -> FileKey {
+        FileKey {
+            device: found.dev(),
+            number: found.ino(),
+        }
+    }
+
+    /// The key of an open file.
+    pub(crate) fn of_open<F: OpenFile>(file: &F) -> io::Result<FileKey> {
+        Ok(FileKey::of(&file.metadata()?))
+    }
+}
+
+/// An open file that the system locks, and whose descriptor it tells.
+pub trait Held {
+    /// Waits until no other opening of the file holds its lock, and takes it until this one is closed. An error where the
+    /// system has no locks for the file.
+    fn lock(&self) -> io::Result<()>;
+
+    /// Whether it stands in the place of a standard stream, which was closed when it was opened.
+    fn is_stream(&self) -> bool;
+}
+
+impl Held for File {
+    fn lock(&self) -> io::Result<()> {
+        File::lock(self)
+    }
+
+    fn is_stream(&self) -> bool {
+        self.as_raw_fd() <= LAST_STREAM
+    }
+}
+
+/// What stands under a path, where anything does. A link isn't followed.
+pub(crate) fn seen<R: Files>(files: &R, path: &str) -> io::Result<Option<Metadata>> {
+    match fs::symlink_metadata(files, path) {
+        Ok(found) => Ok(Some(found)),
+        Err(error) => match error.kind() {
+            ErrorKind::NotFound => Ok(None),
+            _ => Err(error),
+        },
+    }
+}
+
+/// What stands under a path, where it is this very file.
+pub(crate) fn seen_as<R: Files>(
+    files: &R,
+    path: &str,
+    file: FileKey,
+) -> io::Result<Option<Metadata>> {
+    match seen(files, path)? {
+        Some(found) if FileKey::of(&found) == file => Ok(Some(found)),
+        _ => Ok(None),
+    }
+}
+
+/// Removes what stands under a path, where anything does.
+pub(crate) fn remove<R: Files>(files: &R, path: &str) -> io::Result<()> {
+    match fs::remove_file(files, path) {
+        Ok(()) => Ok(()),
+        Err(error) => match error.kind() {
+            ErrorKind::NotFound => Ok(()),
+            _ => Err(error),
+        },
+    }
+}
