@@ -21,7 +21,7 @@ help:
 	@echo 'make check      the gate: proves every crate from nothing, and runs all tests and programs'
 	@echo 'make format     formats every crate: the gate refuses one that rt fmt would change'
 	@echo 'make faults     runs the programs while their reads, writes, openings and allocations fail, one after the other, and on'
-	@echo '                hostile webs and folders'
+	@echo '                hostile webs and folders, and twice at a time'
 	@echo 'make bench      measures time, memory and instructions of the programs on generated webs, and what scans, stores and outputs cost'
 	@echo 'make clean      removes what make demo and make bench wrote'
 
@@ -61,6 +61,7 @@ faults: build
 	@tests/faults $(WMERGE)
 	@tests/tangle_faults $(CTANGLE)
 	@tests/folders $(CTANGLE) $(WMERGE)
+	@tests/two_runs $(CTANGLE)
 
 install: build
 	install -d $(DESTDIR)$(BINDIR) $(DESTDIR)$(MANDIR)/man1

@@ -2,13 +2,15 @@
  * be broken off by a signal. The script `faults` beside it compiles and drives it.
  *
  * The variable FAULTS has seven words:
- *   CALL    alloc, open, read, write, rename or unlink: the calls that are counted
+ *   CALL    alloc, open, read, write, rename, unlink, flock, statx or fchmod: the calls that are counted
  *   STREAM  the file descriptor whose reads or writes are counted, -1: all
  *   NTH     the first call that is met, from 1
  *   EVERY   0: no other one is met; else each EVERY-th from there on
  *   ERROR   the errno with which a call that is met fails; 0: it is not to fail
  *   MOST    where it is not to fail, the most bytes that it transfers (a write of 0 bytes takes nothing)
- *   REPORT  the file descriptor to which the first call that is met is told: `alloc`, a path, or a stream's number
+ *   REPORT  the file descriptor to which the first call that is met is told: `alloc`, a path, or a stream's number; a statx
+ *           of an open file as `open` and its path; behind a write to a file, before the next one is opened, with `written`
+ *           in front
  */
 #define _GNU_SOURCE
 #include <dlfcn.h>
@@ -18,6 +20,8 @@
 #include <stdio.h>
 #include <stdlib.h>
 #include <string.h>
+#include <sys/file.h>
+#include <sys/stat.h>
 #include <sys/syscall.h>
 #include <unistd.h>
 
@@ -33,6 +37,9 @@ static long nth, every, most, count;
 
 /* The paths under which files were opened, by their descriptors. */
 static char paths[FILES][NAME];
+
+/* Whether something was written to a file since the last one was opened or renamed. */
+static int is_written;
 
 __attribute__((constructor)) static void begin(void)
 {
@@ -108,6 +115,7 @@ int open(const char *path, int flags, ...)
     int descriptor = syscall(SYS_openat, AT_FDCWD, path, flags, mode);
     if (descriptor >= 0 && descriptor < FILES)
         snprintf(paths[descriptor], NAME, "%s", path);
+    is_written = 0;
     return descriptor;
 }
 
@@ -132,6 +140,7 @@ ssize_t read(int descriptor, void *piece, size_t size)
 ssize_t write(int descriptor, const void *piece, size_t size)
 {
     const char number[] = { '0' + descriptor % 10, 0 };
+    is_written |= descriptor > 2;
     if (meets("write", descriptor, number)) {
         if (error) {
             errno = error;
@@ -151,6 +160,7 @@ int rename(const char *path, const char *other)
         errno = error;
         return -1;
     }
+    is_written = 0;
     return syscall(SYS_rename, path, other);
 }
 
@@ -161,4 +171,33 @@ int unlink(const char *path)
         return -1;
     }
     return syscall(SYS_unlink, path);
+}
+
+int flock(int descriptor, int how)
+{
+    if (meets("flock", -1, path_of(descriptor))) {
+        errno = error;
+        return -1;
+    }
+    return syscall(SYS_flock, descriptor, how);
+}
+
+int fchmod(int descriptor, mode_t mode)
+{
+    if (meets("fchmod", -1, path_of(descriptor))) {
+        errno = error;
+        return -1;
+    }
+    return syscall(SYS_fchmod, descriptor, mode);
+}
+
+int statx(int descriptor, const char *path, int flags, unsigned int mask, struct statx *found)
+{
+    char what[NAME + 16];
+    snprintf(what, sizeof what, "%s%s%s", is_written ? "written " : "", *path ? "" : "open ", *path ? path : path_of(descriptor));
+    if (meets("statx", -1, what)) {
+        errno = error;
+        return -1;
+    }
+    return syscall(SYS_statx, descriptor, path, flags, mask, found);
 }

@@ -19,6 +19,9 @@ class Case:
     refused: dict = field(default_factory=dict)
     # an output that can't be written where nothing fails either
     stuck: tuple = ()
+    modes: dict = field(default_factory=dict)
+    # the bytes that a file may have; 0: any number
+    most: int = 0
 
     def due(self):
         return [*self.outputs, *self.stuck]
@@ -125,8 +128,16 @@ def cases():
     log = BANNER + b"Writing a.c\nWriting no/f\n" + stopped(b"Cannot open output file no/f")
     yield Case("a folder that isn't there", ["a"], web, {"a.c": b""}, log, 1, stuck=("no/f",))
     web = {"a.w": b"@ @(f@>= x\n", "f": None}
-    log = BANNER + b"Writing a.c\nWriting f\n" + stopped(b"Write fault on f")
+    log = BANNER + b"Writing a.c\nWriting f\n" + stopped(b"Cannot open output file f")
     yield Case("a folder in the place of an output", ["a"], web, {"a.c": b""}, log, 1, stuck=("f",))
+    web = {"a.w": b"@ @(f@>=\n" + b"x=1;\n" * 1000}
+    log = BANNER + b"Writing a.c\nWriting f\n" + stopped(b"Write fault on f")
+    yield Case("a file beyond the limit", ["a"], web | {"f": b"old\n"}, {"a.c": b""}, log, 1, stuck=("f",), most=4000)
+    main = b"/*1:*/\n" + line_mark(b"a.w", 1) + b"x\n/*:1*/\n"
+    outputs = {"a.c": main, "f": b"/*2:*/\n" + line_mark(b"a.w", 2) + b"y/*:2*/\n"}
+    files = {"a.w": b"@ @c x\n@ @(f@>= y\n", "f": b"old\n"} | old
+    log = BANNER + b"Writing a.c\nWriting f\n(No errors were found.)\n"
+    yield Case("files of their own modes", ["a"], files, outputs, log, modes={"a.c": 0o444, "f": 0o666})
     # left by a run that was killed
     yield Case("a draft that is there", ["-bph", "a"], {"a.w": b"@ @c x\n", "a.c\x7f": b"draft"}, {"a.c": text}, b"")
     yield many_files()

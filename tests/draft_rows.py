@@ -1,0 +1,167 @@
+"""The runs of `folders` that find something under a draft's name, or whose draft is taken away while they write it."""
+import fcntl
+import os
+import signal
+import time
+
+from folder_rows import NO_ERRORS, Row, section
+from folder_runs import Missed
+from output_rows import FIRST, FULL, LARGE, MAIN, NULL, OLD, OTHER, WEB, WELL
+from output_rows import log_of, not_opened, not_written, web_with, whole_large
+
+DRAFT = "a.c\x7f"
+# so long it may take a run to come to where it is watched
+SECONDS = 60
+
+
+def left_drafts():
+    """What a killed run left, or who else was there, is removed and never written to."""
+    of = {"gone": (DRAFT,)}
+    for mode in (0o644, 0o600, 0o444, 0):
+        files = WEB | OLD | {DRAFT: b"draft"}
+        yield Row(f"a draft of mode {mode:03o}", WELL, 0, files, {"a.c": MAIN}, modes={DRAFT: mode}, **of)
+    for kind, to in {"a file": "other", "the web": "a.w", "its output": "a.c", "nothing": "gone", "a folder": "d"}.items():
+        files = WEB | OLD | OTHER | {"d/f": b"old\n"}
+        yield Row(f"a draft that is a link to {kind}", WELL, 0, files, {"a.c": MAIN}, links={DRAFT: to}, **of)
+    for kind, to in {"a full device": "/dev/full", "itself": DRAFT}.items():
+        yield Row(f"a draft that is a link to {kind}", WELL, 0, WEB | OLD, {"a.c": MAIN}, links={DRAFT: to}, **of)
+        large = {"a.w": b"@ @c\n" + LARGE} | OLD
+        yield Row(f"a large draft's link to {kind}", WELL, 0, large, {"a.c": whole_large()}, links={DRAFT: to}, **of)
+    for kind, name in {"another file": "other", "the web": "a.w", "its output": "a.c"}.items():
+        yield Row(f"a draft that is {kind} too", WELL, 0, WEB | OLD | OTHER, {"a.c": MAIN}, names={DRAFT: name}, **of)
+    yield Row("a draft that is a pipe", WELL, 0, WEB | OLD, {"a.c": MAIN}, pipes={DRAFT: (b"x", False)}, **of)
+    yield Row("a draft that is a socket", WELL, 0, WEB | OLD, {"a.c": MAIN}, sockets=(DRAFT,), **of)
+    for kind, numbers in {"a null": NULL, "a full": FULL}.items():
+        yield Row(f"a draft that is {kind} device", WELL, 0, WEB | OLD, {"a.c": MAIN}, devices={DRAFT: numbers}, **of)
+    log = log_of("a.c", "f") + NO_ERRORS
+    files = web_with("f") | {DRAFT: b"draft", "f\x7f": b"draft"}
+    written = {"a.c": FIRST, "f": section(2, 2, b"y") + b"\n"}
+    yield Row("two drafts", log, 0, files, written, gone=(DRAFT, "f\x7f"))
+
+
+def kept_drafts():
+    """What can't be removed stays, and the output can't be opened."""
+    for kind, files in {"an empty folder": {DRAFT: None}, "a folder": {f"{DRAFT}/f": b"old\n"}}.items():
+        yield Row(f"a draft that is {kind}", not_opened("a.c"), 1, WEB | OLD | files)
+    for mode in (0o644, 0o600):
+        files = web_with("d/f") | {"d/f": b"old\n", "d/f\x7f": b"draft"}
+        of = {"foreign": ("d", "d/f\x7f"), "modes": {"d": 0o1777, "d/f\x7f": mode}}
+        name = f"another user's draft of mode {mode:03o} in a folder where each deletes its own"
+        yield Row(name, not_opened("a.c", "d/f"), 1, files, {"a.c": FIRST}, **of)
+        of = {"foreign": (DRAFT,), "modes": {DRAFT: mode}, "gone": (DRAFT,)}
+        yield Row(f"another user's draft of mode {mode:03o}", WELL, 0, WEB | OLD | {DRAFT: b"draft"}, {"a.c": MAIN}, **of)
+        of = {"foreign": ("a.c",), "modes": {"a.c": mode}}
+        yield Row(f"another user's output of mode {mode:03o}", WELL, 0, WEB | OLD, {"a.c": MAIN}, **of)
+
+
+def held_drafts():
+    """Another run holds the draft, and is waited for."""
+    files = WEB | OLD | {DRAFT: b"draft"}
+    for kind, to in {"is killed": None, "commits": "a.c"}.items():
+        yield Row(f"the run that holds the draft {kind}", WELL, 0, files, {"a.c": MAIN}, held={DRAFT: to}, gone=(DRAFT,))
+    files = web_with("f") | {"f\x7f": b"draft"}
+    log, written = log_of("a.c", "f") + NO_ERRORS, {"a.c": FIRST, "f": section(2, 2, b"y") + b"\n"}
+    yield Row("the run that holds another draft commits", log, 0, files, written, held={"f\x7f": "f"}, gone=("f\x7f",))
+
+
+def come_to(process, is_there):
+    """Waits until a run has come so far."""
+    end = time.monotonic() + SECONDS
+    while not is_there():
+        if process.poll() is not None or time.monotonic() > end:
+            raise Missed
+
+
+def stop(process):
+    """Stops a run that writes its draft."""
+
+    def is_begun():
+        return os.path.lexists(DRAFT) and os.lstat(DRAFT).st_size > 0
+
+    try:
+        come_to(process, is_begun)
+        process.send_signal(signal.SIGSTOP)
+        os.waitid(os.P_PID, process.pid, os.WSTOPPED | os.WEXITED | os.WNOWAIT)
+        if not is_begun():
+            raise Missed
+    except (FileNotFoundError, Missed):
+        process.send_signal(signal.SIGCONT)
+        raise Missed from None
+
+
+def stopped_while(act):
+    """Has something done while a run stands still that writes its draft."""
+
+    def meanwhile(process):
+        stop(process)
+        try:
+            return list(act(process) or ())
+        finally:
+            process.send_signal(signal.SIGCONT)
+
+    return meanwhile
+
+
+def try_lock(process):
+    with open(DRAFT, "rb") as draft:
+        try:
+            fcntl.flock(draft, fcntl.LOCK_EX | fcntl.LOCK_NB)
+            yield "the draft is not locked"
+        except BlockingIOError:
+            pass
+
+
+def take_away(process):
+    os.unlink(DRAFT)
+
+
+def put_other(process):
+    """Something else comes under the draft's name."""
+    os.rename("other", DRAFT)
+
+
+def lost_drafts():
+    """What another process does to a draft."""
+    large, whole, failed = {"a.w": b"@ @c\n" + LARGE} | OLD, {"a.c": whole_large()}, not_written("a.c")
+    yield Row("a draft that is locked", WELL, 0, large, whole, meanwhile=stopped_while(try_lock))
+    yield Row("a draft that is deleted", failed, 1, large, meanwhile=stopped_while(take_away))
+    of = {"meanwhile": stopped_while(put_other), "moved": {"other": DRAFT}}
+    yield Row("a draft that is replaced by a file", failed, 1, large | OTHER, **of)
+    for kind, to in {"the web": "a.w", "nothing": "gone"}.items():
+        yield Row(f"a draft that is replaced by a link to {kind}", failed, 1, large, links={"other": to}, **of)
+
+
+def watched(closed):
+    """Sees that a run which reads a pipe holds the root folder under the numbers of closed streams alone; fills the pipe then."""
+    pipe = []
+
+    def is_read():
+        try:
+            pipe.append(os.open("in.w", os.O_WRONLY | os.O_NONBLOCK))
+        except OSError:
+            return False
+        return True
+
+    def meanwhile(process):
+        come_to(process, is_read)
+        at = f"/proc/{process.pid}/fd"
+        held = sorted(int(number) for number in os.listdir(at) if os.readlink(f"{at}/{number}") == "/")
+        os.write(pipe[0], b"x;\n")
+        os.close(pipe[0])
+        return [] if held == sorted(closed) else [f"the root folder is open as {held}"]
+
+    return meanwhile
+
+
+def closed_streams():
+    """A file that is opened never gets the number of a standard stream that is closed."""
+    text = section(1, 1, b'#line 1 "in.w"\nx;') + b"\n"
+    for closed in ((), (0,), (1,), (0, 1), (2,), (0, 1, 2)):
+        files = {"a.w": b"@ @c\n@i in.w\n"} | OLD
+        of = {"words": ("-bph", "a"), "pipes": {"in.w": None}, "closed": closed, "meanwhile": watched(closed)}
+        yield Row(f"closed streams {closed}", b"", 0, files, {"a.c": text}, **of)
+
+
+def rows():
+    for some in (left_drafts, kept_drafts, held_drafts, lost_drafts, closed_streams):
+        yield from some()

@@ -1,0 +1,83 @@
+"""What stands in a folder, and what is to stand there after a run."""
+import os
+import stat
+from dataclasses import dataclass, replace
+
+from fault_runs import shown
+
+NOBODY = 65534
+
+
+@dataclass(frozen=True)
+class Node:
+    """What stands under a path: its text, where it is a file, the path in it, where it is a link, the number of a device."""
+
+    kind: int
+    mode: int
+    owner: tuple
+    text: object
+    # the file's own number on its disk, None of a new one, and how many names it has
+    number: tuple = None
+    names: int = 1
+
+
+def owner():
+    """Who runs the program: nobody, where this is run by the superuser."""
+    return (NOBODY, NOBODY) if os.getuid() == 0 else (os.getuid(), os.getgid())
+
+
+def all_names():
+    yield "."
+    for folder, folders, names in os.walk("."):
+        for name in folders + names:
+            yield os.path.normpath(os.path.join(folder, name))
+
+
+def node(path):
+    found = os.lstat(path)
+    kind, text = stat.S_IFMT(found.st_mode), None
+    if kind == stat.S_IFREG:
+        with open(path, "rb") as file:
+            text = file.read()
+    elif kind == stat.S_IFLNK:
+        text = os.readlink(path)
+    elif kind == stat.S_IFCHR:
+        text = found.st_rdev
+    names = found.st_nlink if kind == stat.S_IFREG else 1
+    return Node(kind, stat.S_IMODE(found.st_mode), (found.st_uid, found.st_gid), text, (found.st_dev, found.st_ino), names)
+
+
+def nodes_here():
+    return {name: node(name) for name in all_names()}
+
+
+def expected_nodes(row, before):
+    """What is to stand there: a file that is written has the permissions of the one before, or those that a new one gets."""
+    nodes = {row.moved.get(name, name): node for name, node in before.items() if name not in row.gone}
+    for name, text in row.written.items():
+        old = before.get(name)
+        mode = old.mode & 0o777 if old and old.kind == stat.S_IFREG else 0o666 & ~row.umask
+        nodes[name] = Node(stat.S_IFREG, mode, owner(), text)
+    numbers = [node.number for node in nodes.values()]
+    return {name: replace(node, names=numbers.count(node.number) if node.number else 1) for name, node in nodes.items()}
+
+
+def is_new(row, name, old, found):
+    """Whether a file is another one than before. Where a third one came in between, it may have the first one's number."""
+    return old is None or found.number != old.number or name in row.held.values()
+
+
+def wrong_nodes(row, before, left):
+    """The paths under which not that stands what was to, and what stands there."""
+    expected = expected_nodes(row, before)
+    for name, (text, mode) in row.drafts.items():
+        found = left.pop(name, None)
+        if found is None or found.text != text or found.mode & ~mode:
+            yield f"{name!r}: {found and replace(found, text=shown(found.text))}"
+    for name in sorted(left.keys() | expected.keys()):
+        found = left.get(name)
+        if found and name in row.written and is_new(row, name, before.get(name), found):
+            found = replace(found, number=None)
+        if found != expected.get(name):
+            was = found and replace(found, text=shown(found.text) if isinstance(found.text, bytes) else found.text)
+            yield f"{name!r}: {was}"

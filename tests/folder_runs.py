@@ -1,0 +1,205 @@
+"""How `folders` makes a folder, runs a program there, and compares all that stands there afterwards."""
+import fcntl
+import os
+import resource
+import socket
+import stat
+import subprocess
+import threading
+import time
+from dataclasses import replace
+
+from fault_runs import shown
+from folder_nodes import all_names, nodes_here, owner, wrong_nodes
+
+# so long a run may take
+SECONDS = 60
+# so long a pipe may take to end after the run
+DRAINED = 5
+# so long another process holds a lock
+HELD = 0.3
+
+
+class CannotMake(Exception):
+    """What a run is to meet can't be made here."""
+
+
+class Missed(Exception):
+    """A run had gone on before what was to be done while it ran."""
+
+
+def mount(folder, options):
+    """A disk in memory; one that is read-only gets its files first."""
+    made = options.replace("ro", "size=64k")
+    called = subprocess.run(["mount", "-t", "tmpfs", "-o", f"{made},mode=777", "none", folder], capture_output=True)
+    if called.returncode != 0:
+        raise CannotMake("no disk can be mounted here")
+
+
+def make_device(name, numbers):
+    try:
+        os.mknod(name, stat.S_IFCHR | 0o666, os.makedev(*numbers))
+        os.chmod(name, 0o666)
+        os.close(os.open(name, os.O_WRONLY))
+    except OSError:
+        raise CannotMake("no device can be made here") from None
+
+
+def make_socket(name):
+    with socket.socket(socket.AF_UNIX) as made:
+        made.bind(name)
+
+
+def make_nodes(row):
+    """Makes the files of a row in the current folder."""
+    for name in row.disks:
+        os.mkdir(name)
+        mount(name, row.disks[name])
+    for name, text in row.files.items():
+        os.makedirs(name if text is None else os.path.dirname(name) or ".", exist_ok=True)
+        if text is not None:
+            with open(name, "wb") as file:
+                file.write(text)
+    for name, to in row.names.items():
+        os.link(to, name)
+    for name, to in row.links.items():
+        os.symlink(to, name)
+    for name in [*row.pipes, *row.drains]:
+        os.mkfifo(name)
+    for name in row.sockets:
+        make_socket(name)
+    for name, numbers in row.devices.items():
+        make_device(name, numbers)
+
+
+def lay_out(row):
+    """Makes the files of a row for the one who is to run the program, and answers what stands there then."""
+    if row.foreign and os.getuid() != 0:
+        raise CannotMake("only the superuser can leave files of another user")
+    make_nodes(row)
+    for name in all_names():
+        os.chown(name, *owner(), follow_symlinks=False)
+    for name in row.foreign:
+        os.chown(name, 0, 0, follow_symlinks=False)
+    nodes = nodes_here()
+    for name, mode in row.modes.items():
+        os.chmod(name, mode)
+        nodes[name] = replace(nodes[name], mode=mode)
+    for name, options in row.disks.items():
+        if options == "ro":
+            subprocess.run(["mount", "-o", "remount,ro", name], check=True)
+    return nodes
+
+
+def nodes_left(row):
+    """What stands in the current folder; what may not be read is opened for that."""
+    modes = {}
+    for name in row.modes:
+        if os.path.lexists(name) and not os.path.islink(name):
+            modes[name] = stat.S_IMODE(os.lstat(name).st_mode)
+            os.chmod(name, modes[name] | 0o700)
+    nodes = nodes_here()
+    return nodes | {name: replace(nodes[name], mode=mode) for name, mode in modes.items()}
+
+
+def fill(pipe, text, for_ever):
+    """Gives a text to the reader of a pipe, for ever or as long as somebody reads. What isn't a pipe is left alone."""
+    piece = text * (65536 // len(text)) if for_ever else text
+    try:
+        with open(os.open(pipe, os.O_WRONLY), "wb", buffering=0) as file:
+            while stat.S_ISFIFO(os.fstat(file.fileno()).st_mode):
+                file.write(piece)
+                if not for_ever:
+                    break
+    except (BrokenPipeError, FileNotFoundError):
+        pass
+
+
+def drain(pipe, drained):
+    """Takes what comes out of a pipe."""
+    with open(pipe, "rb") as file:
+        drained[pipe] = file.read()
+
+
+def begin_pipes(row):
+    """Threads at the other ends of the pipes: those that take texts, and what they have taken."""
+    for pipe, filled in row.pipes.items():
+        if filled is not None:
+            threading.Thread(target=fill, args=(os.path.abspath(pipe), *filled), daemon=True).start()
+    drained = {}
+    takers = [threading.Thread(target=drain, args=(pipe, drained), daemon=True) for pipe in row.drains]
+    for taker in takers:
+        taker.start()
+    return takers, drained
+
+
+def limited(row):
+    resource.setrlimit(resource.RLIMIT_AS, (row.memory, row.memory))
+    resource.setrlimit(resource.RLIMIT_FSIZE, (row.most, row.most))
+    resource.setrlimit(resource.RLIMIT_CORE, (0, 0))
+    for stream in row.closed:
+        os.close(stream)
+
+
+def begun(program, row):
+    user, group = owner()
+    as_nobody = {"user": user, "group": group, "extra_groups": []} if os.getuid() == 0 else {}
+    return subprocess.Popen(
+        [program, *row.words],
+        env={"CWEBINPUTS": row.inputs} if row.inputs else {},
+        stdin=subprocess.DEVNULL,
+        stdout=subprocess.PIPE,
+        stderr=subprocess.PIPE,
+        umask=row.umask,
+        preexec_fn=lambda: limited(row),
+        **as_nobody,
+    )
+
+
+def let_go(row, locked, process):
+    """Holds files locked for a while, and answers whether the run has waited so long."""
+    time.sleep(HELD)
+    if process.poll() is not None:
+        yield "it did not wait for the lock"
+    for file, (name, to) in zip(locked, row.held.items()):
+        if to is not None and os.path.lexists(name):
+            os.rename(name, to)
+        file.close()
+
+
+def locked_file(name):
+    file = open(name, "rb")
+    fcntl.flock(file, fcntl.LOCK_EX)
+    return file
+
+
+def started(program, row):
+    """A run in the current folder: its status, output and log, and what was wrong while it ran."""
+    takers, drained = begin_pipes(row)
+    locked = [locked_file(name) for name in row.held]
+    with begun(program, row) as process:
+        try:
+            faults = list(let_go(row, locked, process)) if locked else []
+            faults += row.meanwhile(process) if row.meanwhile else []
+            output, log = process.communicate(timeout=SECONDS)
+        except subprocess.TimeoutExpired:
+            process.kill()
+            return (None, b"", b""), ["it did not end"]
+    for taker in takers:
+        taker.join(DRAINED)
+    for name, text in row.drains.items():
+        if drained.get(name) != text:
+            faults.append(f"out of {name} came {shown(drained.get(name, b''))}")
+    return (process.returncode, output, log), faults
+
+
+def wrong(row, ended, before, left):
+    """What isn't as it was to be."""
+    status, output, log = ended
+    if status != row.status:
+        yield f"status {status}"
+    if log != row.log:
+        yield f"log {shown(log)}"
+    if output != row.output:
+        yield f"output {shown(output)}"
+    yield from wrong_nodes(row, before, left)
