@@ -24,10 +24,10 @@ fn later_replacements_win(rt: HostRuntime) -> Result<(), Fail> {
     )
 }
 
-// A store where each of three bytes is replaced 200 times.
+// A store where each of three bytes is replaced 40 times.
 fn replaced_often(rt: &impl Abort, alloc: Global) -> Result<Store, AllocError> {
     let mut row = Row::new(alloc);
-    for _ in 0..199 {
+    for _ in 0..39 {
         row.make_all(rt, "byte 128 a; byte 254 b; byte 255 c")?;
     }
     row.make_all(rt, "byte 255 g; byte 254 f; byte 128 de")?;
@@ -40,7 +40,7 @@ fn many_replacements_of_a_byte(rt: HostRuntime) -> Result<(), Fail> {
         Ok(store) => store,
         Err(_) => replaced_often(&rt, rt.alloc())?,
     };
-    let mut expected = Expected::new("tokens 0; bytes 601; byte 128 de; byte 254 f; byte 255 g");
+    let mut expected = Expected::new("tokens 0; bytes 121; byte 128 de; byte 254 f; byte 255 g");
     expected.tell_counts(&store);
     assert!(rt; expected.is_met());
     Ok(())
