@@ -19,7 +19,7 @@ use Rattle.cweb_store.specs.Answers.{AreAnswers}
 use Rattle.cweb_store.specs.Links.{AreLinked}
 use Rattle.cweb_store.specs.Texts.{token_texts, token_bytes_kept, occurrence_text, replacement_text, texts_of, bytes_given, bytes_kept, total, AllStandIn, AreInOneList}
 use Rattle.cweb_store.specs.ClosedTokens.{TokensAndTexts, tokens_alone, with_texts}
-use Rattle.cweb_store.specs.Stored.{given_as, occurrences_at, replacements_at, last_from, stored_in, AreStored}
+use Rattle.cweb_store.specs.Stored.{given_as, occurrences_at, replacements_at, last_from, stored_in, AreLast, AreStored}
 use Rattle.cweb_store.proofs.WordLemmas.{kept-few}
 use Rattle.cweb_store.proofs.TextLemmas.{all-drop, all-both}
 use Rattle.cweb_store.proofs.RunLemmas.{whole-tokens}
@@ -54,20 +54,21 @@ stored-is ts runs os rs =
     ap (λ c. stored_in c runs (map given_as os) (map (λ r. r.byte) rs)) (all_texts-are ts os rs)
     ∙ (λ i. stored (occurrences-back os (map replacement_text rs) i) (map (closed_in ts) runs) (replacements-behind os rs i))
 
-pub stored-are : (ts : List Token) (runs : List Run) (links : Links) (os : List Occurrence) (rs : List Replacement) (firsts : List ℕ) (standings : List Standing) (files : List NameId) (faults : List NameFault) (has_defs : Bool) →
-    IsWhole ts runs → AreLinked standings runs links.skips.items links.heads → firsts ≡ map (λ n. n.first) (names os) → length (names os) < too_many → AreAnswers os (map (closed_in ts) runs) standings files faults has_defs →
-    AreStored (all_texts ts os rs) runs links (map given_as os) (map (λ r. r.byte) rs) firsts standings files faults has_defs
-stored-are ts runs links os rs firsts standings files faults has_defs whole linked places few answers =
+pub stored-are : (ts : List Token) (runs : List Run) (links : Links) (os : List Occurrence) (rs : List Replacement) (last_places : List (Option ℕ)) (firsts : List ℕ) (standings : List Standing) (files : List NameId) (faults : List NameFault) (has_defs : Bool) →
+    IsWhole ts runs → AreLinked standings runs links.skips.items links.heads → AreLast last_places (map (λ r. r.byte) rs) → firsts ≡ map (λ n. n.first) (names os) → length (names os) < too_many → AreAnswers os (map (closed_in ts) runs) standings files faults has_defs →
+    AreStored (all_texts ts os rs) runs links (map given_as os) (map (λ r. r.byte) rs) last_places firsts standings files faults has_defs
+stored-are ts runs links os rs last_places firsts standings files faults has_defs whole linked last places few answers =
     let back = occurrences-back os (map replacement_text rs) in
-    let flat : AreStored (record { tokens = ts; others = map occurrence_text os ++ map replacement_text rs }) runs links (map given_as os) (map (λ r. r.byte) rs) firsts standings files faults has_defs = record {
+    let flat : AreStored (record { tokens = ts; others = map occurrence_text os ++ map replacement_text rs }) runs links (map given_as os) (map (λ r. r.byte) rs) last_places firsts standings files faults has_defs = record {
       whole = whole;
       linked = linked;
       texts = omega (arith, length-append (map occurrence_text os) (map replacement_text rs), length-map os occurrence_text, length-map os given_as, length-map rs replacement_text, length-map rs (λ (r : Replacement). r.byte));
+      last = last;
       few = omega (arith, ap length places, length-map (names os) (λ (n : Name). n.first), few);
       first_places = places ∙ ap (λ xs. map (λ (n : Name). n.first) (names xs)) (sym back);
       answers = subst (λ (xs : List Occurrence). AreAnswers xs (map (closed_in ts) runs) standings files faults has_defs) (sym back) answers;
     } in
-    subst (λ (c : TokensAndTexts). AreStored c runs links (map given_as os) (map (λ r. r.byte) rs) firsts standings files faults has_defs) (sym (all_texts-are ts os rs)) flat
+    subst (λ (c : TokensAndTexts). AreStored c runs links (map given_as os) (map (λ r. r.byte) rs) last_places firsts standings files faults has_defs) (sym (all_texts-are ts os rs)) flat
 
 -- the texts of occurrences
 pub occurrences-count : (ts : List (List ℕ)) (gs : List GivenAs) → length gs ≤ length ts → length (occurrences_at ts gs) ≡ length gs

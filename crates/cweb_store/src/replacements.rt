@@ -2,6 +2,7 @@
 
 ghost use Rattle.std.specs.Prelude.{◌≡◌, ◌++◌, ◌∷◌, [], map, IfOk, OnOk, OnErr};
 ghost use Rattle.cweb_store.specs.Replacements.{replacement_of};
+ghost use Rattle.cweb_store.specs.Stored.{AreLast};
 ghost use Rattle.cweb_store.specs.Texts.{replacement_text};
 ghost use Rattle.cweb_store.specs.ClosedTokens.{with_texts};
 
@@ -65,4 +66,15 @@ impl Replacements {
         }
         Ok(bytes)
     }
+}
+
+/// Where each byte stands last, if anywhere.
+pub(crate) fn last_places(bytes: &[u8]) -> [Option<usize>; 256]
+    ensures { AreLast result bytes.now }
+{
+    let mut places = [None; 256];
+    for (i, byte) in bytes.iter().enumerate() {
+        places[*byte as usize] = Some(i);
+    }
+    places
 }

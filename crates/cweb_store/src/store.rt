@@ -7,7 +7,6 @@ ghost use Rattle.cweb_store.specs.Faults.{faults, has_part};
 ghost use Rattle.cweb_store.specs.Replacements.{replacement};
 ghost use Rattle.cweb_store.specs.Calls.{too_many};
 ghost use Rattle.cweb_store.specs.Texts.{AreInOneList, bytes_given, bytes_kept, texts_of};
-ghost use Rattle.cweb_store.specs.Stored.{last_from};
 ghost use Rattle.cweb_store.specs.Runs.{runs_from};
 ghost use Rattle.cweb_store.specs.Wanted.{wanted_in};
 
@@ -19,7 +18,7 @@ use crate::name::{NameFault, NameId, NameKind, NameRef};
 use crate::name_table::{GivenAs, NameTable};
 use crate::part::Run;
 use crate::parts::{Parts, Wanted};
-use crate::replacements::Replacements;
+use crate::replacements::{Replacements, last_places};
 use crate::standing::name_at;
 use crate::token::Token;
 use indexmap::IndexSet;
@@ -34,6 +33,7 @@ pub struct Store {
     links: Links,
     given: Vec<GivenAs>,
     replaced: Vec<u8>,
+    last_places: [Option<usize>; 256],
     firsts: Vec<u32>,
     standings: Vec<Result<NameId, NameKind>>,
     files: IndexSet<NameId>,
@@ -50,7 +50,7 @@ impl Model for Store {
 
     ghost view = { λ s. stored_in s.tokens s.runs.items s.given.items s.replaced.items };
 
-    ghost invariant = { λ s. AreStored s.tokens s.runs.items s.links s.given.items s.replaced.items s.firsts.items s.standings.items s.files.keys s.faults.items s.has_defs_code };
+    ghost invariant = { λ s. AreStored s.tokens s.runs.items s.links s.given.items s.replaced.items s.last_places s.firsts.items s.standings.items s.files.keys s.faults.items s.has_defs_code };
 }
 
 impl Store {
@@ -75,12 +75,14 @@ impl Store {
         let ClosedParts { mut tokens, runs } = parts;
         let given = table.close(&mut tokens)?;
         let replaced = replacements.close(&mut tokens)?;
+        let last_places = last_places(replaced.as_slice());
         let store = Store {
             tokens,
             runs,
             links,
             given,
             replaced,
+            last_places,
             firsts,
             standings,
             files,
@@ -190,7 +192,7 @@ impl Store {
     pub fn replacement(&self, byte: u8) -> Option<&[u8]>
         ensures { option_map (λ text. text.now) result ≡ replacement self.now.replacements byte }
     {
-        let Some(number) = last_of(self.replaced.as_slice(), byte) else {
+        let Some(number) = self.last_places[byte as usize] else {
             return None;
         };
         Some(self.tokens.other(self.given.len() + number))
@@ -221,17 +223,4 @@ impl Store {
     {
         self.tokens.text_bytes() as u64
     }
-}
-
-// Where a byte stands last, if anywhere.
-fn last_of(bytes: &[u8], byte: u8) -> Option<usize>
-    ensures { result ≡ last_from byte None 0 bytes.now }
-{
-    let mut last = None;
-    for (i, other) in bytes.iter().enumerate() {
-        if *other == byte {
-            last = Some(i);
-        }
-    }
-    last
 }

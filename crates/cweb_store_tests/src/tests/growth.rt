@@ -24,6 +24,28 @@ fn later_replacements_win(rt: HostRuntime) -> Result<(), Fail> {
     )
 }
 
+// A store where each of three bytes is replaced 40 times.
+fn replaced_often(rt: &impl Abort, alloc: Global) -> Result<Store, AllocError> {
+    let mut row = Row::new(alloc);
+    for _ in 0..39 {
+        row.make_all(rt, "byte 128 a; byte 254 b; byte 255 c")?;
+    }
+    row.make_all(rt, "byte 255 g; byte 254 f; byte 128 de")?;
+    row.finish()
+}
+
+#[test]
+fn many_replacements_of_a_byte(rt: HostRuntime) -> Result<(), Fail> {
+    let store = match replaced_often(&rt, rt.alloc()) {
+        Ok(store) => store,
+        Err(_) => replaced_often(&rt, rt.alloc())?,
+    };
+    let mut expected = Expected::new("tokens 0; bytes 121; byte 128 de; byte 254 f; byte 255 g");
+    expected.tell_counts(&store);
+    assert!(rt; expected.is_met());
+    Ok(())
+}
+
 // An equal Word is kept once; each other text as often as it is given.
 #[test]
 fn bytes_of_texts(rt: HostRuntime) -> Result<(), Fail> {

@@ -8,6 +8,7 @@ use Rattle.cweb_store.specs.Parts.{has_defs_code}
 use Rattle.cweb_store.specs.Faults.{faults}
 use Rattle.cweb_store.specs.Runs.{closed_in, runs_from}
 use Rattle.cweb_store.specs.Links.{AreLinked}
+use Rattle.cweb_store.specs.Stored.{AreLast}
 use Rattle.cweb_store.specs.Calls.{stored}
 use Rattle.cweb_store.specs.Answers.{AreAnswers}
 use Rattle.cweb_store.specs.Texts.{occurrence_text, replacement_text}
@@ -35,7 +36,8 @@ invariant_of-store c =
     let linked = subst (λ (ss : List Standing). AreLinked ss runs links.skips.items links.heads) c.as_slice-3.ensures.value
     (subst (λ (xs : List Run). AreLinked c.as_slice-3.result.now xs links.skips.items links.heads) is_runs c.in_ok-links.ensures) in
     let places = c.in_ok-firsts.ensures ∙ ap (map (λ (n : Name). n.first)) c.names.ensures.names in
-    rw (tokens, c.in_ok-given.ensures.given, c.in_ok-replaced.ensures.bytes) (stored-are ts runs links os rs _ _ _ _ _ c.parts.invariant.whole linked places c.names.ensures.few answers)
+    let last = subst (AreLast c.last_places-last_places.result) (c.as_slice-4.ensures.value ∙ c.in_ok-replaced.ensures.bytes) c.last_places-last_places.ensures in
+    rw (tokens, c.in_ok-given.ensures.given, c.in_ok-replaced.ensures.bytes) (stored-are ts runs links os rs _ _ _ _ _ _ c.parts.invariant.whole linked last places c.names.ensures.few answers)
 
 pub returns : goal.returns
 returns c =

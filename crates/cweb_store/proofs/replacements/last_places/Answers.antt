@@ -1,0 +1,15 @@
+use Rattle.std.proofs.Common.{None, Some, sym, ◌∙◌, ap, refl, arith}
+use Rattle.std.proofs.lemmas.List.{drop_all, get_or-replicate}
+use Rattle.std.proofs.lemmas.Option.{slice_get-get_or}
+use Rattle.cweb_store.specs.Stored.{last_from}
+use Rattle.cweb_store.proofs.replacements.last_places.Goals as goal
+
+pub loop-i-init : goal.loop-i-init
+loop-i-init c = record { all = refl; last = λ byte h. ap (λ found. last_from byte found 0 c.args.bytes.now) (get_or-replicate 256 byte None None h) }
+
+pub returns : goal.returns
+returns c = λ byte h.
+    let places = c.loop-i.places in
+    let none = drop_all c.loop-i.i c.args.bytes.now c.loop-i-test.false in
+    slice_get-get_or places byte None (omega (arith, h, c.loop-i.invariant.all))
+    ∙ ap Some (ap (last_from byte _ c.loop-i.i) (sym none) ∙ c.loop-i.invariant.last byte h)
