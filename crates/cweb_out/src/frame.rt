@@ -26,13 +26,13 @@ impl<'a> Frame<'a> {
         let part = Part { first: 0, after: 0 };
         match root {
             None => Frame {
-                owner: root,
+                owner: None,
                 defs: !store.has_defs_code(),
                 part,
                 rest: store.unnamed(),
             },
             Some(name) => Frame {
-                owner: root,
+                owner: Some(name),
                 defs: false,
                 part,
                 rest: store.parts(name),
