@@ -142,7 +142,7 @@ still-more w k (suc j) s m l h =
     by-depth : (j : ℕ) → ends_below w (suc (j + k)) m ≡ true → ends_below w (j + k) m ≡ true
     by-depth j g = stays j m l g
 
-grows-more : (w : Stored) (j k : ℕ) (n : NameId) → ends_below w k n ≡ true → ends_below w (j + k) n ≡ true
+pub grows-more : (w : Stored) (j k : ℕ) (n : NameId) → ends_below w k n ≡ true → ends_below w (j + k) n ≡ true
 grows-more w zero k n h = let e : zero + k ≡ k = omega arith in ap (λ i. ends_below w i n) e ∙ h
 grows-more w (suc j) k n h = let e : suc j + k ≡ suc (j + k) = omega arith in ap (λ i. ends_below w i n) e ∙ rank-grows w (j + k) n (grows-more w j k n h)
 

@@ -1,5 +1,6 @@
 -- The definitions, computed on small webs.
 use Rattle.std.proofs.Common.{ℕ, ◌≡◌, refl, List, [], ◌∷◌, Some, codes, true, false}
+use Rattle.std.specs.Prelude.{Err}
 use Rattle.std.specs.Fmt.{digits}
 use Rattle.cweb_store.specs.declared.name.How.TheVariants.{Full}
 use Rattle.cweb_store.specs.declared.part.PartKind.{PartKind}
@@ -8,9 +9,11 @@ use Rattle.cweb_store.specs.Names.{Occurrence, id}
 use Rattle.cweb_store.specs.Parts.{Part, Token, Word, Number, Punct, Blank, Newline, Join, Defs, Name, Head, Tail, Mark}
 use Rattle.cweb_store.specs.Calls.{Stored}
 use Rattle.cweb_out.specs.Uses.{program}
-use Rattle.cweb_out.specs.Ranks.{ends_below, list_ends, first_endless}
+use Rattle.cweb_out.specs.Ranks.{ends_below, list_ends, first_endless, name_rank}
 use Rattle.cweb_out.specs.Cycles.{cycle_from}
 use Rattle.cweb_out.specs.Expansion.{expand}
+use Rattle.cweb_out.specs.Laws.{IsCycle}
+use Rattle.cweb_out.specs.Outputs.{cycle, planned_ending}
 use Rattle.cweb_out.specs.Printing.{Setting, print, file}
 
 abbrev full : List ℕ → Occurrence
@@ -39,6 +42,16 @@ two_names_that_use_each_other = refl
 from_the_second : cycle_from two (Some (id 1)) ≡ id 1 ∷ id 0 ∷ id 1 ∷ []
 from_the_second = refl
 
+the_plan_is_refused : planned_ending two (codes "a.c") ≡ Err (cycle (id 0 ∷ id 1 ∷ id 0 ∷ []))
+the_plan_is_refused = refl
+
+-- the law of refused cycles, where it says which names use which
+each_uses_the_other : IsCycle two (id 0 ∷ id 1 ∷ id 0 ∷ [])
+each_uses_the_other = record { first = id 0; between = id 1 ∷ []; closed = refl; each = (refl, (refl, tt)) }
+
+a_name_that_does_not_use_itself_is_no_cycle : IsCycle two (id 0 ∷ id 0 ∷ []) → ⊥
+a_name_that_does_not_use_itself_is_no_cycle c = let used : false ≡ true = c.each.0 in cc
+
 -- A and B use the next name twice, and so does the program; the last occurrence stands for a name without parts
 abbrev twice : Stored
 twice = record {
@@ -56,8 +69,11 @@ each_use_is_replaced = refl
 a_name_used_twice_is_no_cycle : list_ends twice (program twice) ≡ true
 a_name_used_twice_is_no_cycle = refl
 
-the_rank_of_the_first_is_three : ends_below twice 3 (id 0) ≡ false
+the_rank_of_the_first_is_three : name_rank twice (id 0) ≡ 3
 the_rank_of_the_first_is_three = refl
+
+it_is_not_below_three : ends_below twice 3 (id 0) ≡ false
+it_is_not_below_three = refl
 
 the_rank_of_the_first_is_below_four : ends_below twice 4 (id 0) ≡ true
 the_rank_of_the_first_is_below_four = refl

@@ -11,8 +11,10 @@ use Rattle.cweb_store.specs.Calls.{Stored}
 use Rattle.cweb_out.specs.Uses.{names, use_of, uses, stands, joined}
 use Rattle.cweb_out.specs.Ranks.{ends_below}
 use Rattle.cweb_out.specs.Expansion.{expand, name_text, put, text_for}
+use Rattle.cweb_out.specs.Outputs.{root_list}
 use Rattle.cweb_out.specs.declared.frame.Frame.{Frame}
-use Rattle.cweb_out.specs.Frames.{suffix, runs_tokens, left_of, work_of, list_work, AreRanked, AreBelow, IsRun, IsWithin, Stands, Advances, Enters, left, level, name_work, token_work, work_for}
+use Rattle.cweb_out.specs.Frames.{suffix, runs_tokens, left_of, work_of, list_work, AreOwned, AreRanked, AreBelow, IsRun, IsWithin, Stands, UsesLower, Advances, Enters, left, level, name_work, token_work, work_for}
+use Rattle.cweb_out.proofs.Owners.{OnTop, OnTop-entered, OnTop-first, AreOwned-pop, AreOwned-push}
 
 pub left_of-push : (w : Stored) (k : ℕ) (fs : List Frame) (f : Frame) → left_of w k (fs ++ f ∷ []) ≡ expand w (k - length fs) (suffix w f) ++ left_of w k fs
 left_of-push w zero [] f = sym (append-nil _)
@@ -79,19 +81,25 @@ all-back : {X : Type 0} (p : X → Bool) (xs ys : List X) → list_all p (xs ++ 
 all-back p [] ys h = h
 all-back p (x ∷ xs) ys h = all-back p xs ys (and-right (p x) (list_all p (xs ++ ys)) h)
 
-pub Stands-pop : (w : Stored) (all fs : List Frame) (f : Frame) (room more : ℕ) → all ≡ fs ++ f ∷ [] → room ≤ more → Stands w all room → Stands w fs more × Top w (names w) fs f × (length fs < names w + 1)
+pub Stands-pop : (w : Stored) (all fs : List Frame) (f : Frame) (room more : ℕ) → all ≡ fs ++ f ∷ [] → more ≡ room → Stands w all room
+    → Stands w fs more × Top w (names w) fs f × (length fs < names w + 1) × OnTop w (names w + 1) fs f
 Stands-pop w all fs f room more e r s =
     let t = AreRanked-pop w (names w) fs f (subst (AreRanked w (names w)) e s.ranked) in
+    let o = AreOwned-pop w (names w + 1) fs f (subst (AreOwned w (names w + 1)) e s.owned) in
     let n = ap length e ∙ length-append fs (f ∷ []) in
     let d = s.depth in
-    let c = s.room in
-    (record { ranked = t.ranked; depth = omega arith; room = omega arith }, t, omega arith)
+    (record { owned = o.below; ranked = t.ranked; depth = omega arith; room = r ∙ s.room }, t, omega arith, o)
 
-pub Stands-push : (w : Stored) (all fs : List Frame) (f : Frame) (room more : ℕ) → all ≡ fs ++ f ∷ [] → room ≤ more → Stands w fs room → Top w (names w) fs f → length fs < names w + 1 → Stands w all more
-Stands-push w all fs f room more e r s t n =
+pub Stands-push : (w : Stored) (all fs : List Frame) (f : Frame) (room more : ℕ) → all ≡ fs ++ f ∷ [] → more ≡ room → Stands w fs room → Top w (names w) fs f → length fs < names w + 1
+    → OnTop w (names w + 1) fs f → Stands w all more
+Stands-push w all fs f room more e r s t n o =
     let l = ap length e ∙ length-append fs (f ∷ []) in
-    let c = s.room in
-    record { ranked = subst (AreRanked w (names w)) (sym e) (AreRanked-push w (names w) fs f t); depth = omega arith; room = omega arith }
+    record {
+      owned = subst (AreOwned w (names w + 1)) (sym e) (AreOwned-push w (names w + 1) fs f o);
+      ranked = subst (AreRanked w (names w)) (sym e) (AreRanked-push w (names w) fs f t);
+      depth = omega arith;
+      room = r ∙ s.room;
+    }
 
 pub Top-next : (w : Stored) (k : ℕ) (fs : List Frame) (f g : Frame) (t : Token) → suffix w f ≡ t ∷ suffix w g → IsWithin w g → Top w k fs f → Top w k fs g × AreBelow w (k - length fs) (use_of w t)
 Top-next w k fs f g t s i h =
@@ -107,19 +115,20 @@ list_work-first w k t ts =
     let e : sum_by f (t ∷ ts) ≡ f t + sum_by f ts = sum_by-cons f t ts in omega (arith, e)
 
 pub advances : (w : Stored) (old fs new : List Frame) (f g : Frame) (t : Token) → left w old ≡ left w (fs ++ f ∷ []) → work_of w (names w) (fs ++ f ∷ []) ≤ work_of w (names w) old
-    → suffix w f ≡ t ∷ suffix w g → AreBelow w (names w - length fs) (use_of w t) → new ≡ fs ++ g ∷ [] → Advances w old new t
-advances w old fs new f g t e m s b is =
+    → suffix w f ≡ t ∷ suffix w g → AreBelow w (names w - length fs) (use_of w t) → UsesLower w new t → new ≡ fs ++ g ∷ [] → Advances w old new t
+advances w old fs new f g t e m s b u is =
     let k = names w - length fs in
     let l : names w - length fs ≡ level w new = sym (ap (level w) is ∙ level-push w fs g) in
     let p = work_of-push w (names w) fs f in
     let q : work_of w (names w) new ≡ list_work w k (suffix w g) + work_of w (names w) fs = ap (work_of w (names w)) is ∙ work_of-push w (names w) fs g in
-    let u : list_work w k (suffix w f) ≡ token_work w (name_work w k) t + list_work w k (suffix w g) = ap (list_work w k) s ∙ list_work-first w k t (suffix w g) in
-    let v : token_work w (name_work w k) t ≡ token_work w (name_work w (level w new)) t = ap (λ n. token_work w (name_work w n) t) l in
+    let v : list_work w k (suffix w f) ≡ token_work w (name_work w k) t + list_work w k (suffix w g) = ap (list_work w k) s ∙ list_work-first w k t (suffix w g) in
+    let x : token_work w (name_work w k) t ≡ token_work w (name_work w (level w new)) t = ap (λ n. token_work w (name_work w n) t) l in
     record {
       left = e ∙ left_of-push w (names w) fs f ∙ ap (λ ts. expand w k ts ++ left w fs) s ∙ append_assoc (put w (name_text w k) t) (expand w k (suffix w g)) (left w fs)
           ∙ ap (λ ts. put w (name_text w k) t ++ ts) (sym (left_of-push w (names w) fs g)) ∙ ap (λ fs. put w (name_text w k) t ++ left w fs) (sym is) ∙ ap (λ n. put w (name_text w n) t ++ left w new) l;
       below = AreBelow-at w (names w - length fs) (level w new) (use_of w t) l b;
-      work = omega (arith, p, q, u, v, m);
+      lower = u;
+      work = omega (arith, p, q, v, x, m);
       some = omega (arith, ap length is, length-append fs (g ∷ []));
     }
 
@@ -139,10 +148,10 @@ pub record Entered (w : Stored) (fs new : List Frame) (r : NameRef) (more : ℕ)
   pub stands : Stands w new more
   pub enters : Enters w fs new r
 
-pub entered : (w : Stored) (fs new : List Frame) (r : NameRef) (m : NameId) (room more : ℕ) (q : Part) (rest : List Part) → Stands w fs room → room ≤ more
-    → AreBelow w (level w fs) (use_of w (Name r)) → stands w r ≡ Some m → runs_tokens w (q ∷ rest) ≡ joined w m → All (IsRun (length (all_tokens w.parts))) (q ∷ rest)
+pub entered : (w : Stored) (fs new : List Frame) (r : NameRef) (m : NameId) (room more : ℕ) (q : Part) (rest : List Part) → Stands w fs room → more ≡ room
+    → AreBelow w (level w fs) (use_of w (Name r)) → UsesLower w fs (Name r) → stands w r ≡ Some m → runs_tokens w (q ∷ rest) ≡ joined w m → All (IsRun (length (all_tokens w.parts))) (q ∷ rest)
     → new ≡ fs ++ record { owner = Some m; defs = false; part = q; rest = rest } ∷ [] → Entered w fs new r more
-entered w fs new r m room more q rest s grows b e text a is =
+entered w fs new r m room more q rest s grows b lower e text a is =
     let g : Frame = record { owner = Some m; defs = false; part = q; rest = rest } in
     let h : ends_below w (level w fs) m && true ≡ true = subst (λ o. list_all (ends_below w (level w fs)) (option_to_list o) ≡ true) e b in
     let t = rank-step w (level w fs) m (and-left (ends_below w (level w fs) m) true h) in
@@ -152,12 +161,13 @@ entered w fs new r m room more q rest s grows b e text a is =
     let within : IsWithin w g = record { part = a 0 q (omega arith); rest = λ i x l. a (suc i) x (omega arith) } in
     let below : AreBelow w k (uses w (suffix w g)) = ap (λ n. list_all (ends_below w n) (uses w (suffix w g))) j ∙ ap (λ ts. list_all (ends_below w t.0) (uses w ts)) text ∙ t.2 in
     let top : Top w (names w) fs g = record { ranked = s.ranked; within = within; below = below } in
+    let on = OnTop-entered w fs g r m (level w fs) s.owned (omega arith) (and-left (ends_below w (level w fs) m) true h) lower e refl (sym text) in
     let one : put w (name_text w (level w fs)) (Name r) ≡ expand w t.0 (joined w m) = ap (text_for (name_text w (level w fs))) e ∙ ap (λ n. name_text w n m) t.1 in
     let two : token_work w (name_work w (level w fs)) (Name r) ≡ 1 + list_work w t.0 (joined w m) = ap (λ o. 1 + work_for (name_work w (level w fs)) o) e ∙ ap (λ n. 1 + name_work w n m) t.1 in
     let three : work_of w (names w) new ≡ list_work w k (suffix w g) + work_of w (names w) fs = ap (work_of w (names w)) is ∙ work_of-push w (names w) fs g in
     let four : list_work w k (suffix w g) ≡ list_work w t.0 (joined w m) = ap (λ n. list_work w n (suffix w g)) j ∙ ap (list_work w t.0) text in
     record {
-      stands = Stands-push w new fs g room more is grows s top d;
+      stands = Stands-push w new fs g room more is grows s top d on;
       enters = record {
         left = ap (left w) is ∙ left_of-push w (names w) fs g ∙ ap (λ n. expand w n (suffix w g) ++ left w fs) j ∙ ap (λ ts. expand w t.0 ts ++ left w fs) text ∙ ap (λ ts. ts ++ left w fs) (sym one);
         work = omega (arith, two, three, four);
@@ -183,10 +193,11 @@ AreRanked-none : (w : Stored) (k : ℕ) → AreRanked w k []
 AreRanked-none w zero = tt
 AreRanked-none w (suc k) = tt
 
-pub Stands-one : (w : Stored) (all : List Frame) (f : Frame) (room : ℕ) → all ≡ f ∷ [] → IsWithin w f → AreBelow w (names w) (uses w (suffix w f)) → names w + 1 ≤ room → Stands w all room
-Stands-one w all f room e i b r =
+pub Stands-one : (w : Stored) (all : List Frame) (f : Frame) (room : ℕ) → all ≡ f ∷ [] → IsWithin w f → AreBelow w (names w) (uses w (suffix w f)) → room ≡ names w + 1
+    → suffix w f ≡ root_list w f.owner → Stands w all room
+Stands-one w all f room e i b r l =
     let n : names w ≡ names w - 0 = omega arith in
-    let h : room ≤ room = omega arith in
     let k : 0 < names w + 1 = omega arith in
-    Stands-push w all [] f room room e h (record { ranked = AreRanked-none w (names w); depth = omega arith; room = r })
+    Stands-push w all [] f room room e refl (record { owned = tt; ranked = AreRanked-none w (names w); depth = omega arith; room = r })
     (record { ranked = AreRanked-none w (names w); within = i; below = AreBelow-at w (names w) (names w - 0) (uses w (suffix w f)) n b }) k
+    (OnTop-first w f (sym l) (subst (λ ts. AreBelow w (names w) (uses w ts)) l b))

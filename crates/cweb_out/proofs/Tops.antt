@@ -1,13 +1,14 @@
 -- The top frame of a stack, read and written in place. It is the last of the list.
-use Rattle.std.proofs.Common.{◌≡◌, ◌<◌, ◌≤◌, ◌+◌, ◌-◌, ◌++◌, ◌∷◌, [], ℕ, List, length, take, get_or, sym, ◌∙◌, ap, arith, subst}
+use Rattle.std.proofs.Common.{◌≡◌, ◌<◌, ◌≤◌, ◌+◌, ◌-◌, ◌++◌, ◌∷◌, [], ℕ, List, length, take, get_or, refl, sym, ◌∙◌, ap, arith, subst}
 use Rattle.std.proofs.Math.ListN.{set}
 use Rattle.std.proofs.Math.Seq.{take-length}
 use Rattle.std.proofs.lemmas.List.{length-set, take_more, take_more_set}
 use Rattle.cweb_store.specs.Parts.{Token}
 use Rattle.cweb_store.specs.Calls.{Stored}
-use Rattle.cweb_out.specs.Uses.{names}
+use Rattle.cweb_out.specs.Uses.{names, use_of}
 use Rattle.cweb_out.specs.declared.frame.Frame.{Frame}
-use Rattle.cweb_out.specs.Frames.{suffix, left, work_of, IsWithin, Stands, Advances}
+use Rattle.cweb_out.specs.Frames.{suffix, left, work_of, AreBelow, IsWithin, Stands, Advances, rank, top_rank}
+use Rattle.cweb_out.proofs.Owners.{OnTop, OnTop-next, top_rank-push}
 use Rattle.cweb_out.proofs.Stack.{Top, Stands-pop, Stands-push, Top-next, advances, left-ended, work-ended}
 
 -- the frames below it, of a stack of n
@@ -37,8 +38,8 @@ top_written n fs f g h =
     sym (take-length (set fs (n - 1) g)) ∙ ap (λ k. take k (set fs (n - 1) g)) all ∙ take_more_set fs (n - 1) g lt
 
 -- a stack without its top, and what is known of the top
-pub stands_lower : (w : Stored) (n : ℕ) (fs : List Frame) (f : Frame) (room : ℕ) → Stands w fs room → HasTop n fs f → Stands w (lower n fs) room × Top w (names w) (lower n fs) f × (length (lower n fs) < names w + 1)
-stands_lower w n fs f room s h = let same : room ≤ room = omega arith in Stands-pop w fs (lower n fs) f room room (top_read n fs f h) same s
+pub stands_lower : (w : Stored) (n : ℕ) (fs : List Frame) (f : Frame) (room : ℕ) → Stands w fs room → HasTop n fs f → Stands w (lower n fs) room × Top w (names w) (lower n fs) f × (length (lower n fs) < names w + 1) × OnTop w (names w + 1) (lower n fs) f
+stands_lower w n fs f room s h = Stands-pop w fs (lower n fs) f room room (top_read n fs f h) refl s
 
 -- the top went on by a token
 pub record TopMoved (w : Stored) (old new : List Frame) (t : Token) (room : ℕ) : Type 0 where
@@ -46,16 +47,17 @@ pub record TopMoved (w : Stored) (old new : List Frame) (t : Token) (room : ℕ)
   pub advances : Advances w old new t
 
 pub top_moved : (w : Stored) (n : ℕ) (old fs : List Frame) (f g : Frame) (t : Token) (room : ℕ) → Stands w fs room → left w old ≡ left w fs → work_of w (names w) fs ≤ work_of w (names w) old
-    → HasTop n fs f → suffix w f ≡ t ∷ suffix w g → IsWithin w g → TopMoved w old (set fs (n - 1) g) t room
-top_moved w n old fs f g t room s e m h goes i =
-    let same : room ≤ room = omega arith in
+    → HasTop n fs f → suffix w f ≡ t ∷ suffix w g → IsWithin w g → g.owner ≡ f.owner → TopMoved w old (set fs (n - 1) g) t room
+top_moved w n old fs f g t room s e m h goes i o =
     let both : fs ≡ lower n fs ++ f ∷ [] = top_read n fs f h in
     let after : set fs (n - 1) g ≡ lower n fs ++ g ∷ [] = top_written n fs f g h in
     let p = stands_lower w n fs f room s h in
     let q = Top-next w (names w) (lower n fs) f g t goes i p.1 in
+    let v = OnTop-next w (names w + 1) (lower n fs) f g t goes o p.3 in
+    let top : top_rank w (names w + 1) (set fs (n - 1) g) ≡ rank w g.owner = ap (top_rank w (names w + 1)) after ∙ top_rank-push w (names w + 1) (lower n fs) g in
     record {
-      stands = Stands-push w (set fs (n - 1) g) (lower n fs) g room room after same p.0 q.0 p.2;
-      advances = advances w old (lower n fs) (set fs (n - 1) g) f g t (e ∙ ap (left w) both) (subst (λ k. k ≤ work_of w (names w) old) (ap (work_of w (names w)) both) m) goes q.1 after;
+      stands = Stands-push w (set fs (n - 1) g) (lower n fs) g room room after refl p.0 q.0 p.2 v.0;
+      advances = advances w old (lower n fs) (set fs (n - 1) g) f g t (e ∙ ap (left w) both) (subst (λ k. k ≤ work_of w (names w) old) (ap (work_of w (names w)) both) m) goes q.1 (subst (λ k. AreBelow w k (use_of w t)) (sym top) v.1) after;
     }
 
 -- the top had come to its end

@@ -7,9 +7,9 @@ use Rattle.cweb_store.specs.declared.part.Part.{Part}
 use Rattle.cweb_store.specs.Parts.{Token, Name, all_tokens, tokens_at}
 use Rattle.cweb_store.specs.Calls.{Stored}
 use Rattle.cweb_out.specs.Uses.{names, joined, uses, use_of, stands}
-use Rattle.cweb_out.specs.Ranks.{ends_below}
+use Rattle.cweb_out.specs.Ranks.{ends_below, list_ends, name_rank}
 use Rattle.cweb_out.specs.Expansion.{expand, name_text, put}
-use Rattle.cweb_out.specs.Outputs.{defs_first}
+use Rattle.cweb_out.specs.Outputs.{defs_first, root_list}
 use Rattle.cweb_out.specs.declared.frame.Frame.{Frame}
 
 -- the tokens of a run of numbers
@@ -47,11 +47,37 @@ AreRanked w k [] = Unit {0}
 AreRanked w zero (f ∷ fs) = IsWithin w f × AreBelow w zero (uses w (suffix w f)) × AreRanked w zero fs
 AreRanked w (suc k) (f ∷ fs) = IsWithin w f × AreBelow w (suc k) (uses w (suffix w f)) × AreRanked w k fs
 
--- a stack that an expander may have
+-- some front of the owner's list was given, and the frame's suffix is what is still to come; all names that the list uses have ranks
+pub record IsOwned (w : Stored) (f : Frame) : Type 0 where
+  pub given : List Token
+  pub list : root_list w f.owner ≡ given ++ suffix w f
+  pub ends : list_ends w (root_list w f.owner) ≡ true
+
+-- the rank of the owner of a list: the main file stands above all names
+abbrev pub rank : Stored → Option NameId → ℕ
+rank w None = names w
+rank w (Some n) = name_rank w n
+
+-- each frame is of its owner's list, and the ranks of the owners fall strictly from frame to frame, the first one below a number
+abbrev pub AreOwned : Stored → ℕ → List Frame → Type 0
+AreOwned w above [] = Unit {0}
+AreOwned w above (f ∷ fs) = IsOwned w f × (rank w f.owner < above) × AreOwned w (rank w f.owner) fs
+
+-- a stack that an expander may have, and the room for it, which is never more nor less
 pub record Stands (w : Stored) (fs : List Frame) (capacity : ℕ) : Type 0 where
+  pub owned : AreOwned w (names w + 1) fs
   pub ranked : AreRanked w (names w) fs
   pub depth : length fs ≤ names w + 1
-  pub room : names w + 1 ≤ capacity
+  pub room : capacity ≡ names w + 1
+
+-- the rank of the top frame's owner, or a number where there is no frame
+abbrev pub top_rank : Stored → ℕ → List Frame → ℕ
+top_rank w above [] = above
+top_rank w above (f ∷ fs) = top_rank w (rank w f.owner) fs
+
+-- each name that a token uses has a rank below that of the top frame's owner
+abbrev pub UsesLower : Stored → List Frame → Token → Type 0
+UsesLower w fs t = AreBelow w (top_rank w (names w + 1) fs) (use_of w t)
 
 -- what an expander still has to give
 abbrev pub left : Stored → List Frame → List Token
@@ -91,6 +117,7 @@ level w fs = names w + 1 - length fs
 pub record Advances (w : Stored) (old new : List Frame) (t : Token) : Type 0 where
   pub left : left w old ≡ put w (name_text w (level w new)) t ++ left w new
   pub below : AreBelow w (level w new) (use_of w t)
+  pub lower : UsesLower w new t
   pub work : token_work w (name_work w (level w new)) t + work_of w (names w) new ≤ work_of w (names w) old
   pub some : 0 < length new
 

@@ -1,13 +1,15 @@
--- What holds of expansion and of print whatever the web is.
-use Rattle.std.specs.Prelude.{◌≡◌, ◌≤◌, ◌==◌, ℕ, suc, Bool, true, false, List, [], ◌∷◌, ◌++◌, Some, fold}
-use Rattle.std.specs.List.{list_all}
+-- What holds of expansion, of print and of cycles whatever the web is.
+use Rattle.std.specs.Prelude.{◌≡◌, ◌≤◌, ◌==◌, ℕ, suc, Bool, true, false, List, [], ◌∷◌, ◌++◌, Some, Err, fold}
+use Rattle.std.specs.List.{list_all, list_any}
 use Rattle.cweb_store.specs.declared.name.NameId.{NameId}
 use Rattle.cweb_store.specs.declared.name.NameRef.{NameRef}
+use Rattle.cweb_store.specs.Names.{is_id}
 use Rattle.cweb_store.specs.Parts.{Token, Name}
 use Rattle.cweb_store.specs.Calls.{Stored}
 use Rattle.cweb_out.specs.Uses.{joined, stands, uses}
 use Rattle.cweb_out.specs.Ranks.{ends_below}
 use Rattle.cweb_out.specs.Expansion.{expand}
+use Rattle.cweb_out.specs.Outputs.{cycle, planned}
 use Rattle.cweb_out.specs.Spacing.{last_is}
 use Rattle.cweb_out.specs.Printing.{Setting, file, file_text, kept, left_after, print, print_after, stays_joined}
 
@@ -50,3 +52,19 @@ is_whole_lines (b ∷ bytes) = last_is (λ x. x == 10) (b ∷ bytes)
 
 abbrev pub FilesHaveWholeLines : Type 0
 FilesHaveWholeLines = (s : Setting) (ts : List Token) → is_whole_lines (file s ts) ≡ true
+
+-- each name of a list but the last one uses the next one in its text
+abbrev pub EachUsesNext : Stored → List NameId → Type 0
+EachUsesNext w [] = Unit {0}
+EachUsesNext w (n ∷ []) = Unit {0}
+EachUsesNext w (n ∷ m ∷ ns) = (list_any (is_id m) (uses w (joined w n)) ≡ true) × EachUsesNext w (m ∷ ns)
+
+-- names that use one another in a circle: at least two stand there, and the last one is the first again
+pub record IsCycle (w : Stored) (ns : List NameId) : Type 0 where
+  pub first : NameId
+  pub between : List NameId
+  pub closed : ns ≡ first ∷ between ++ first ∷ []
+  pub each : EachUsesNext w ns
+
+abbrev pub RefusedCyclesAreCycles : Type 0
+RefusedCyclesAreCycles = (w : Stored) (main : List ℕ) (ns : List NameId) → planned w main ≡ Err (cycle ns) → IsCycle w ns

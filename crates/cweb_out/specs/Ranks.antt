@@ -1,5 +1,5 @@
 -- The rank of a name: how deep the names that it uses lie within one another.
-use Rattle.std.specs.Prelude.{ℕ, suc, zero, Bool, false, not, List, Option, find}
+use Rattle.std.specs.Prelude.{ℕ, suc, zero, Bool, true, false, not, List, Option, find}
 use Rattle.std.specs.List.{list_all}
 use Rattle.cweb_store.specs.declared.name.NameId.{NameId}
 use Rattle.cweb_store.specs.Parts.{Token}
@@ -14,6 +14,15 @@ ends_below w (suc k) n = list_all (ends_below w k) (uses w (joined w n))
 -- the expansion of the name ends: it has a rank, which is below the number of names, since names that use one another so deep are all different
 abbrev pub has_rank : Stored → NameId → Bool
 has_rank w n = ends_below w (names w) n
+
+-- the least number below n that passes a test, or n
+abbrev pub least : (ℕ → Bool) → ℕ → ℕ
+least test zero = zero
+least test (suc n) = elim (test zero) [ true ↦ zero | false ↦ suc (least (λ k. test (suc k)) n) ]
+
+-- the rank of a name: the least number that the ranks of all names that its text uses are below
+abbrev pub name_rank : Stored → NameId → ℕ
+name_rank w n = least (λ k. ends_below w (suc k) n) (names w)
 
 -- each name that a list uses has a rank
 abbrev pub list_ends : Stored → List Token → Bool

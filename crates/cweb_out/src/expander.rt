@@ -5,10 +5,11 @@ ghost use Rattle.cweb_store.specs.Parts.{Name};
 ghost use Rattle.cweb_out.specs.Uses.{names, use_of};
 ghost use Rattle.cweb_out.specs.Expansion.{expand};
 ghost use Rattle.cweb_out.specs.Outputs.{IsPlanOf, root_at, root_list};
-ghost use Rattle.cweb_out.specs.Frames.{Advances, AreBelow, Enters, Gives, Stands, left, level};
+ghost use Rattle.cweb_out.specs.Frames.{Advances, AreBelow, Enters, Gives, Stands, UsesLower, left, level};
 
 use crate::frame::Frame;
 use crate::planned::Plan;
+use crate::reserved::put;
 use cweb_store::{NameRef, Store, Token};
 use std::alloc::{AllocError, Global};
 
@@ -40,7 +41,7 @@ impl<'a> Expander<'a> {
     {
         let count = store.names();
         let mut frames = Vec::with_capacity(alloc, count as usize + 1)?;
-        frames.push(Frame::of_root(store, plan.root(root)))?;
+        put(&mut frames, Frame::of_root(store, plan.root(root)));
         Ok(Expander {
             store,
             plan,
@@ -116,6 +117,7 @@ impl<'a> Expander<'a> {
         requires stands { Stands self.old.store.now self.old.frames.items (vec_capacity self.old.frames) }
         requires some { 0 < length self.old.frames.items }
         requires below { AreBelow self.old.store.now (level self.old.store.now self.old.frames.items) (use_of self.old.store.now (Name name)) }
+        requires lower { UsesLower self.old.store.now self.old.frames.items (Name name) }
         ensures stands { Stands self.new.store.now self.new.frames.items (vec_capacity self.new.frames) }
         ensures store { self.new.store ≡ self.old.store }
         ensures plan { self.new.plan ≡ self.old.plan }
@@ -141,10 +143,10 @@ impl<'a> Expander<'a> {
     fn put(&mut self, frame: Frame<'a>)
         requires { length self.old.frames.items < vec_capacity self.old.frames }
         ensures frames { self.new.frames.items ≡ self.old.frames.items ++ frame.entry ∷ [] }
-        ensures room { vec_capacity self.old.frames ≤ vec_capacity self.new.frames }
+        ensures room { vec_capacity self.new.frames ≡ vec_capacity self.old.frames }
         ensures store { self.new.store ≡ self.old.store }
         ensures plan { self.new.plan ≡ self.old.plan }
     {
-        let _ = self.frames.push(frame);
+        put(&mut self.frames, frame);
     }
 }

@@ -21,17 +21,18 @@ impl<'a> Frame<'a> {
     pub(crate) fn of_root(store: &'a Store, root: Option<NameId>) -> Frame<'a>
         ensures within { IsWithin store.now result }
         ensures list { suffix store.now result ≡ root_list store.now root }
+        ensures owner { result.owner ≡ root }
     {
         let part = Part { first: 0, after: 0 };
         match root {
             None => Frame {
-                owner: root,
+                owner: None,
                 defs: !store.has_defs_code(),
                 part,
                 rest: store.unnamed(),
             },
             Some(name) => Frame {
-                owner: root,
+                owner: Some(name),
                 defs: false,
                 part,
                 rest: store.parts(name),
@@ -42,6 +43,7 @@ impl<'a> Frame<'a> {
     /// Takes the next token of the list, as it stands.
     pub(crate) fn take(&mut self, store: &'a Store) -> Option<Token<'a>>
         requires { IsWithin store.now self.old }
+        ensures owner { self.new.owner ≡ self.old.owner }
         ensures within { IsWithin store.now self.new }
         ensures some { IfSome result (λ t. suffix store.now self.old ≡ seen t ∷ suffix store.now self.new) }
         ensures none { result ≡ None → suffix store.now self.old ≡ [] }

@@ -1,6 +1,6 @@
-//! What holds of expansion and of print whatever the web is. These functions do nothing: each is there for its contract.
+//! What holds of expansion, of print and of cycles whatever the web is. These functions do nothing: each is there for its contract.
 
-ghost use Rattle.cweb_out.specs.Laws.{DepthAboveTheRankChangesNothing, ExpansionReplacesUsesAlone, FilesHaveWholeLines, PrintGoesOn};
+ghost use Rattle.cweb_out.specs.Laws.{DepthAboveTheRankChangesNothing, ExpansionReplacesUsesAlone, FilesHaveWholeLines, PrintGoesOn, RefusedCyclesAreCycles};
 
 /// An expansion has no use of a name. Each other token of a list stays, in order; each use becomes the expanded text of its
 /// name.
@@ -22,4 +22,10 @@ pub fn print_goes_on()
 /// The last byte of a file is a newline, unless the file is empty.
 pub fn files_have_whole_lines()
     ensures { FilesHaveWholeLines }
+{}
+
+/// Where a plan is refused for a cycle, its names are one: at least two stand there, the last is the first again, and each
+/// one is used in the text of the one before it.
+pub fn refused_cycles_are_cycles()
+    ensures { RefusedCyclesAreCycles }
 {}

@@ -4,7 +4,8 @@ ghost use Rattle.std.specs.Prelude.{◌≡◌, ◌<◌, ◌++◌, ◌∷◌, [],
 /// Adds an item for which there is room.
 pub(crate) fn put<T: Drop>(list: &mut Vec<T>, item: T)
     requires { vec_len list.old < vec_capacity list.old }
-    ensures { list.new.items ≡ list.old.items ++ item ∷ [] }
+    ensures items { list.new.items ≡ list.old.items ++ item ∷ [] }
+    ensures room { vec_capacity list.new ≡ vec_capacity list.old }
 {
-    let _ = list.push(item);
+    let _ = list.insert(list.len(), item);
 }

@@ -19,7 +19,7 @@ moved c =
     let frames = c.frames.self.frames in
     let top : HasTop (vec_len frames) frames.items c.in-Some.frame.now = record { count = frames.ok.0; some = c.in-Some.ensures.item.3.0; is = c.in-Some.ensures.value } in
     top_moved c.args.self.now.store.now (vec_len frames) c.args.self.now.frames.items frames.items c.in-Some.frame.now c.take.new.self (seen c.in-Some-take.token) (vec_capacity frames)
-    c.frames.invariant.stands c.frames.invariant.left c.frames.invariant.work top c.in-Some-take.ensures.some c.in-Some-take.ensures.within
+    c.frames.invariant.stands c.frames.invariant.left c.frames.invariant.work top c.in-Some-take.ensures.some c.in-Some-take.ensures.within c.take.ensures.owner
 
 pub returns-in-Some-take-clause-stands : goal.returns-in-Some-take-clause-stands
 returns-in-Some-take-clause-stands c = rw c.frames.invariant.store (moved c).stands

@@ -8,6 +8,7 @@ parts-preserved c =
     let w = c.args.store.now in
     let within = IsWithin-next w c.parts.self _ _ h c.parts.invariant.within in
     record {
+      owner = c.parts.invariant.owner;
       within = record { part = within.0; rest = within.1 };
       same = c.parts.invariant.same ∙ suffix-next w c.parts.self _ _ c.parts-test.true h;
       started = c.parts.invariant.started;

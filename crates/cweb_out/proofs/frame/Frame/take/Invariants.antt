@@ -4,6 +4,7 @@ use Rattle.cweb_out.proofs.frame.Frame.take.Given as goal
 
 abbrev pub invariant-parts : goal.invariant-parts
 invariant-parts l = record {
+  owner : l.self.owner ≡ l.fn.self.owner;
   within : IsWithin l.store l.self;
   same : suffix l.fn.store l.fn.self ≡ suffix l.store l.self;
   started : l.self.defs ≡ false;

@@ -1,0 +1,131 @@
+-- The owners of frames: the ranks of their lists, and what of them was given.
+use Rattle.std.proofs.Common.{◌≡◌, ◌≤◌, ◌<◌, ◌+◌, ◌-◌, ℕ, zero, suc, Bool, true, false, List, [], ◌∷◌, ◌++◌, refl, sym, ◌∙◌, ap, arith, append_assoc, subst, Option, Some, None}
+use Rattle.std.specs.Prelude.{option_to_list}
+use Rattle.std.specs.List.{list_all}
+use Rattle.cweb_store.specs.declared.name.NameId.{NameId}
+use Rattle.cweb_store.specs.declared.name.NameRef.{NameRef}
+use Rattle.cweb_store.specs.Parts.{Token, Name}
+use Rattle.cweb_store.specs.Calls.{Stored}
+use Rattle.cweb_out.specs.Uses.{names, use_of, uses, stands, joined}
+use Rattle.cweb_out.specs.Ranks.{ends_below, least, list_ends, name_rank}
+use Rattle.cweb_out.specs.Outputs.{root_list}
+use Rattle.cweb_out.specs.declared.frame.Frame.{Frame}
+use Rattle.cweb_out.specs.Frames.{suffix, rank, top_rank, AreBelow, AreOwned, IsOwned, UsesLower}
+use Rattle.cweb_out.proofs.Ranks.{all-back, all-front, and-first, grows-more}
+
+least-le : (test : ℕ → Bool) (n k : ℕ) → test k ≡ true → least test n ≤ k
+least-le test zero k h = omega arith
+least-le test (suc n) k h = by (test zero) refl k h (λ j e. least-le (λ i. test (suc i)) n j e)
+  where
+    by : (b : Bool) → test zero ≡ b → (k : ℕ) → test k ≡ true
+        → ((j : ℕ) → test (suc j) ≡ true → least (λ i. test (suc i)) n ≤ j)
+        → (elim b [ true ↦ zero | false ↦ suc (least (λ i. test (suc i)) n) ]) ≤ k
+    by true e k h later = omega arith
+    by false e zero h later = cc
+    by false e (suc k) h later = let le = later k h in omega (arith, le)
+
+least-holds : (test : ℕ → Bool) (n : ℕ) → test n ≡ true → test (least test n) ≡ true
+least-holds test zero h = h
+least-holds test (suc n) h = by (test zero) refl (least-holds (λ i. test (suc i)) n h)
+  where
+    by : (b : Bool) → test zero ≡ b → test (suc (least (λ i. test (suc i)) n)) ≡ true
+        → test (elim b [ true ↦ zero | false ↦ suc (least (λ i. test (suc i)) n) ]) ≡ true
+    by true e later = e
+    by false e later = later
+
+-- a rank is below each number that it ends below
+rank-below : (w : Stored) (k : ℕ) (n : NameId) → ends_below w k n ≡ true → name_rank w n < k
+rank-below w zero n h = cc
+rank-below w (suc k) n h = let le = least-le (λ j. ends_below w (suc j) n) (names w) k h in omega (arith, le)
+
+-- the names that a list uses have ranks below that of its owner
+owner-below : (w : Stored) (o : Option NameId) → list_ends w (root_list w o) ≡ true
+    → AreBelow w (rank w o) (uses w (root_list w o))
+owner-below w None h = h
+owner-below w (Some n) h = least-holds (λ k. ends_below w (suc k) n) (names w) h
+
+-- a frame that may come on top of others
+pub record OnTop (w : Stored) (above : ℕ) (fs : List Frame) (f : Frame) : Type 0 where
+  pub below : AreOwned w above fs
+  pub owned : IsOwned w f
+  pub lower : rank w f.owner < top_rank w above fs
+
+pub top_rank-push : (w : Stored) (above : ℕ) (fs : List Frame) (f : Frame)
+    → top_rank w above (fs ++ f ∷ []) ≡ rank w f.owner
+top_rank-push w above [] f = refl
+top_rank-push w above (g ∷ fs) f = top_rank-push w (rank w g.owner) fs f
+
+pub AreOwned-push : (w : Stored) (above : ℕ) (fs : List Frame) (f : Frame) → OnTop w above fs f
+    → AreOwned w above (fs ++ f ∷ [])
+AreOwned-push w above [] f t = (t.owned, t.lower, tt)
+AreOwned-push w above (g ∷ fs) f t =
+    (t.below.0, t.below.1, AreOwned-push w (rank w g.owner) fs f (record { below = t.below.2; owned = t.owned; lower = t.lower }))
+
+pub AreOwned-pop : (w : Stored) (above : ℕ) (fs : List Frame) (f : Frame) → AreOwned w above (fs ++ f ∷ [])
+    → OnTop w above fs f
+AreOwned-pop w above [] f h = record { below = tt; owned = h.0; lower = h.1 }
+AreOwned-pop w above (g ∷ fs) f h =
+    let t = AreOwned-pop w (rank w g.owner) fs f h.2 in
+    record { below = (h.0, h.1, t.below); owned = t.owned; lower = t.lower }
+
+uses-append : (w : Stored) (xs ys : List Token) → uses w (xs ++ ys) ≡ uses w xs ++ uses w ys
+uses-append w [] ys = refl
+uses-append w (x ∷ xs) ys =
+    ap (λ (ns : List NameId). use_of w x ++ ns) (uses-append w xs ys)
+    ∙ sym (append_assoc (use_of w x) (uses w xs) (uses w ys))
+
+-- a token of the list was given
+pub OnTop-next : (w : Stored) (above : ℕ) (fs : List Frame) (f g : Frame) (t : Token) → suffix w f ≡ t ∷ suffix w g
+    → g.owner ≡ f.owner → OnTop w above fs f
+    → OnTop w above fs g × AreBelow w (rank w g.owner) (use_of w t)
+OnTop-next w above fs f g t s o h =
+    let list : root_list w g.owner ≡ h.owned.given ++ (t ∷ suffix w g) = ap (root_list w) o ∙ h.owned.list ∙ ap (λ (ts : List Token). h.owned.given ++ ts) s in
+    let ends : list_ends w (root_list w g.owner) ≡ true = ap (λ (p : Option NameId). list_ends w (root_list w p)) o ∙ h.owned.ends in
+    let test : NameId → Bool = ends_below w (rank w g.owner) in
+    let split : list_all test (uses w h.owned.given ++ (use_of w t ++ uses w (suffix w g))) ≡ true =
+    ap (list_all test) (sym (ap (uses w) list ∙ uses-append w h.owned.given (t ∷ suffix w g))) ∙ owner-below w g.owner ends in (
+      record {
+        below = h.below;
+        owned = record {
+          given = h.owned.given ++ t ∷ [];
+          list = list ∙ sym (append_assoc h.owned.given (t ∷ []) (suffix w g));
+          ends = ends;
+        };
+        lower = subst (λ (p : Option NameId). rank w p < top_rank w above fs) (sym o) h.lower;
+      },
+      all-front test (use_of w t) (uses w (suffix w g)) (all-back test (uses w h.owned.given) (use_of w t ++ uses w (suffix w g)) split),
+    )
+
+-- the first frame
+pub OnTop-first : (w : Stored) (f : Frame) → root_list w f.owner ≡ suffix w f
+    → AreBelow w (names w) (uses w (root_list w f.owner)) → OnTop w (names w + 1) [] f
+OnTop-first w f l b = record {
+  below = tt;
+  owned = record { given = []; list = l; ends = b };
+  lower = within f.owner b;
+}
+  where
+    within : (o : Option NameId) → AreBelow w (names w) (uses w (root_list w o)) → rank w o < names w + 1
+    within None h = omega arith
+    within (Some n) h = let le = least-le (λ k. ends_below w (suc k) n) (names w) (names w) h in omega (arith, le)
+
+-- the frame of a name that the top frame's list uses
+pub OnTop-entered : (w : Stored) (fs : List Frame) (g : Frame) (r : NameRef) (m : NameId) (k : ℕ)
+    → AreOwned w (names w + 1) fs → k ≤ names w + 1 → ends_below w k m ≡ true → UsesLower w fs (Name r)
+    → stands w r ≡ Some m → g.owner ≡ Some m → joined w m ≡ suffix w g → OnTop w (names w + 1) fs g
+OnTop-entered w fs g r m k below le ends lower e o text =
+    let top : ℕ = top_rank w (names w + 1) fs in
+    let used : list_all (ends_below w top) (m ∷ []) ≡ true = subst (λ p. list_all (ends_below w top) (option_to_list p) ≡ true) e lower in
+    let deep : suc (names w) ≡ (suc (names w) - k) + k = omega (arith, le) in
+    record {
+      below = below;
+      owned = record {
+        given = [];
+        list = ap (root_list w) o ∙ text;
+        ends =
+            ap (λ (p : Option NameId). list_ends w (root_list w p)) o ∙ ap (λ j. ends_below w j m) deep
+            ∙ grows-more w (suc (names w) - k) k m ends;
+      };
+      lower =
+          subst (λ (p : Option NameId). rank w p < top) (sym o) (rank-below w top m (and-first (ends_below w top m) true used));
+    }
