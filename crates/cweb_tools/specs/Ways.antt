@@ -1,12 +1,12 @@
 -- How an output is written, by what stands under its name.
-use Rattle.std.specs.Prelude.{List, Some, None, Contains, ◌⊎◌}
+use Rattle.std.specs.Prelude.{Bool, IsTrue, List, Some, None, Contains, ◌⊎◌}
 use Rattle.cweb_tools.specs.declared.standing.Standing.{Standing}
 use Rattle.cweb_tools.specs.declared.standing.Way.{Way}
 use Rattle.cweb_tools.specs.declared.system.FileKey.{FileKey}
 
 -- a file that a run has read or written stands there, or a link that leads to one that it has read
-abbrev pub IsOfRun : List FileKey → List FileKey → Standing → Type 0
-IsOfRun read written (Standing.File file permissions) = Contains read file ⊎ Contains written file
+abbrev pub IsOfRun : List FileKey → Bool → Standing → Type 0
+IsOfRun read written (Standing.File file permissions) = Contains read file ⊎ IsTrue written
 IsOfRun read written (Standing.Link (Some file)) = Contains read file
 IsOfRun read written (Standing.Link None) = ⊥
 IsOfRun read written Standing.Nothing = ⊥

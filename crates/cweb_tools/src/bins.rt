@@ -7,12 +7,12 @@ ghost use Rattle.cweb_out.specs.Bins.{CountsDevice};
 use crate::drafts::{Draft, start_fault};
 use crate::files_read::FilesRead;
 use crate::standing::{Standing, Way};
-use crate::system::{FileKey, Held};
+use crate::system::{FileKey, Held, seen_as};
 use crate::target::Target;
 use cweb_files::{Sink, SinkFault};
 use cweb_out::{BinFault, Bins};
-use std::alloc::Global;
-use std::collections::BTreeSet;
+use std::alloc::{AllocError, Global};
+use std::collections::BTreeMap;
 use std::fs;
 use std::rt::Files;
 
@@ -34,9 +34,10 @@ pub struct FolderBins<'a, R: Files<File: Held> + Drop> {
     /// What stands in the place of standard streams that are closed: no draft is opened under their descriptors. They are
     /// open for reading alone, so that writing to such a stream still fails.
     streams: [Option<R::File>; 3],
-    /// The files that the run has read, and those that it has begun or committed.
+    /// The files that the run has read.
     read: &'a FilesRead,
-    written: BTreeSet<FileKey>,
+    /// Those that it has begun or committed, with their names.
+    written: BTreeMap<FileKey, String>,
     output: Option<Target<R::File>>,
     failed: u64,
 }
@@ -54,7 +55,7 @@ impl<'a, R: Files<File: Held> + Drop> FolderBins<'a, R> {
             files,
             streams,
             read,
-            written: BTreeSet::new(alloc),
+            written: BTreeMap::new(alloc),
             output: None,
             failed: 0,
         }
@@ -68,13 +69,26 @@ impl<'a, R: Files<File: Held> + Drop> FolderBins<'a, R> {
             Ok(standing) => standing,
             Err(error) => return Err(start_fault(&error)),
         };
+        let is_written = self.has_written(standing);
         let read = self.read.take();
-        let way = standing.way(&read, &self.written);
+        let way = standing.way(&read, is_written);
         self.read.put_back(read);
         match way {
             Way::Draft(replaced) => self.begin_draft(name, replaced),
             Way::Device(device) => Target::open_device(self.alloc, &self.files, name, device),
             Way::Refused => Err(BinFault::Device),
+        }
+    }
+
+    /// Whether this run wrote what stands there. Where it isn't under its own name any more another run has replaced it, and
+    /// its key may be that of another file by now.
+    fn has_written(&self, standing: Standing) -> bool {
+        let Standing::File(file, _) = standing else {
+            return false;
+        };
+        match self.written.get(&file) {
+            Some(name) => !matches!(seen_as(&self.files, name.as_str(), file), Ok(None)),
+            None => false,
         }
     }
 
@@ -87,11 +101,20 @@ impl<'a, R: Files<File: Held> + Drop> FolderBins<'a, R> {
         ensures failed { bins_failures self.new ≡ bins_failures self.old }
     {
         let draft = Draft::begin(self.alloc, &self.files, name, replaced)?;
-        if self.written.insert(draft.file).is_err() {
+        if self.note(draft.file, name).is_err() {
             draft.delete(&self.files);
             return Err(BinFault::Memory);
         }
         Ok(Target::Draft(draft))
+    }
+
+    /// Notes a file as one that this run writes.
+    fn note(&mut self, file: FileKey, name: &str) -> Result<(), AllocError>
+        ensures failed { bins_failures self.new ≡ bins_failures self.old }
+    {
+        let name = String::from_str(self.alloc, name)?;
+        self.written.insert(file, name)?;
+        Ok(())
     }
 
     /// Adds bytes to the output, in their order: none is lost and none is added. After a fault the output is given up.
@@ -122,7 +145,7 @@ impl<'a, R: Files<File: Held> + Drop> FolderBins<'a, R> {
     {
         if let Some(output) = self.output.take() {
             if let Target::Draft(draft) = &output {
-                self.written.remove(&draft.file);
+                let _ = self.written.remove(&draft.file);
             }
             output.give_up(&self.files);
         }

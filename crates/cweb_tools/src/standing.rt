@@ -60,12 +60,12 @@ impl Standing {
         }
     }
 
-    /// How an output of this name is written, in a run that has read some files and written others.
-    pub(crate) fn way(self, read: &BTreeSet<FileKey>, written: &BTreeSet<FileKey>) -> Way
-        ensures of_run { IsOfRun read.now.keys written.now.keys self → result ≡ Way.Refused }
-        ensures other { (IsOfRun read.now.keys written.now.keys self → ⊥) → result ≡ way_over self }
+    /// How an output of this name is written, in a run that has read some files and perhaps written this one.
+    pub(crate) fn way(self, read: &BTreeSet<FileKey>, is_written: bool) -> Way
+        ensures of_run { IsOfRun read.now.keys is_written self → result ≡ Way.Refused }
+        ensures other { (IsOfRun read.now.keys is_written self → ⊥) → result ≡ way_over self }
     {
-        if self.is_of_run(read, written) {
+        if self.is_of_run(read, is_written) {
             return Way::Refused;
         }
         match self {
@@ -77,11 +77,11 @@ impl Standing {
     }
 
     /// Whether it is a file that the run has read or written, or a link to one that it has read.
-    fn is_of_run(self, read: &BTreeSet<FileKey>, written: &BTreeSet<FileKey>) -> bool
-        ensures { IsTrue result ↔ IsOfRun read.now.keys written.now.keys self }
+    fn is_of_run(self, read: &BTreeSet<FileKey>, is_written: bool) -> bool
+        ensures { IsTrue result ↔ IsOfRun read.now.keys is_written self }
     {
         match self {
-            Standing::File(file, _) => is_among(read, file) || is_among(written, file),
+            Standing::File(file, _) => is_among(read, file) || is_written,
             Standing::Link(Some(file)) => is_among(read, file),
             _ => false,
         }
