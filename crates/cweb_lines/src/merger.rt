@@ -177,12 +177,18 @@ impl<S: Shelf> Merger<S> {
         pass_lines(&mut self.run, piece, room);
     }
 
-    /// Memory was refused to a caller that has taken a line: the merger answers that stop from then on.
+    /// Memory was refused to a caller that has taken a line: the merger answers that stop from then on, unless it has
+    /// stopped already. It answers the stop that it keeps.
     pub fn halt(&mut self) -> Stop
-        ensures stop { result ≡ Stop.Memory }
-        ensures kept { stop_in self.new ≡ Some Stop.Memory }
+        ensures stop { stop_in self.old ≡ None → result ≡ Stop.Memory }
+        ensures kept { stop_in self.new ≡ Some result }
+        ensures again { IfSome (stop_in self.old) (λ stop. (result ≡ stop) × (self.new ≡ self.old)) }
         ensures so_far { so_far self.new ≡ so_far self.old }
+        ensures named { files_named result ≤ length (so_far self.new).names }
     {
+        if let Some(earlier) = self.run.stopped {
+            return earlier;
+        }
         self.run.stopped = Some(Stop::Memory);
         Stop::Memory
     }

@@ -89,7 +89,7 @@ returns-in-Err-gather-clause-stops g c = λ tells before.
     let gathered = c.lines.invariant.gathered tells in
     record {
       why = halted g.W.Sink _ _ c.lines.invariant.place _ _ _ _ _ _ gathered c.write_rest-in-Err-gather.result _ c.write_rest-in-Err-gather.new.out
-          (rw (c.halt.ensures.stop, c.deref-in-Err-gather.ensures.value, c.in-Err-gather.ensures.err) at c.write_rest-in-Err-gather.ensures.rest);
+          (rw (c.halt.ensures.stop c.in-Ok.ensures.leaves.running, c.deref-in-Err-gather.ensures.value, c.in-Err-gather.ensures.err) at c.write_rest-in-Err-gather.ensures.rest);
       told = tells_same _ _ _ _ c.halt.ensures.so_far (tells_more _ _ _ _ _ _ gathered.gives (tells_some _ _ _ _ _ next));
     }
 
