@@ -1,13 +1,13 @@
 -- Lines that pass through, for the text, the stack and the run that they are taken from.
-use Rattle.std.proofs.Common.{◌≡◌, ◌≤◌, ◌<◌, ◌+◌, ◌-◌, ℕ, Bool, true, false, List, [], ◌∷◌, ◌++◌, length, Option, Some, None, refl, sym, ◌∙◌, ap, subst, arith}
+use Rattle.std.proofs.Common.{◌≡◌, ◌<◌, ◌+◌, ◌-◌, ℕ, Bool, true, false, List, [], ◌∷◌, ◌++◌, length, Option, Some, refl, sym, ◌∙◌, ap, arith}
 use Rattle.std.specs.Prelude.{IsTrue}
 use Rattle.std.proofs.lemmas.List.{append-nil, append_assoc}
 use Rattle.cweb_lines.specs.Change.{Entry}
 use Rattle.cweb_lines.specs.Counts.{count_of}
 use Rattle.cweb_lines.specs.Finding.{text_of_name}
 use Rattle.cweb_lines.specs.Lines.{Line, numbered, text_lines}
-use Rattle.cweb_lines.specs.Merge.{Event, Thing}
-use Rattle.cweb_lines.specs.Merging.{SoFar, Gives, told_by, coming, change_lines, pending_of}
+use Rattle.cweb_lines.specs.Merge.{Thing}
+use Rattle.cweb_lines.specs.Merging.{Gives, told_by, coming, change_lines, pending_of}
 use Rattle.cweb_lines.specs.Names.{names_of}
 use Rattle.cweb_lines.specs.Passing.{PassesWhole, PassesText, PassesTop, PassesLines}
 use Rattle.cweb_lines.specs.Source.{pending}

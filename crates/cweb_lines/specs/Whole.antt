@@ -6,7 +6,7 @@ use Rattle.cweb_lines.specs.Finding.{names_found, text_found}
 use Rattle.cweb_lines.specs.Include.{World, Found}
 use Rattle.cweb_lines.specs.Lines.{Line, IsOneLine}
 use Rattle.cweb_lines.specs.Merge.{Event, started}
-use Rattle.cweb_lines.specs.Merging.{SoFar, Gives, NothingLeft, Stopped, TellsFront, told_by, coming}
+use Rattle.cweb_lines.specs.Merging.{SoFar, Gives, KeepsTold, NothingLeft, Stopped, TellsFront, told_by, coming}
 use Rattle.cweb_lines.specs.Texts.{ReadBlames, StopsReading}
 use Rattle.cweb_lines.specs.Told.{given_lines}
 use Rattle.cweb_lines.specs.Total.{merge}
@@ -49,9 +49,9 @@ pub record GivesOut (place : Place) (bytes : List ℕ) (old new : SoFar) : Type 
   pub lines : old.count.lines < new.count.lines
   pub bytes_are : old.count.bytes + length bytes ≤ new.count.bytes
 
--- no file is forgotten, and the limits of all files are kept
+-- no fault and no name is forgotten or changed, and the limits of all files are kept
 pub record Grows (old new : SoFar) : Type 0 where
-  pub names : length old.names ≤ length new.names
+  pub told : KeepsTold old new
   pub lines : new.count.lines ≤ LINES
   pub bytes : new.count.bytes ≤ BYTES
 

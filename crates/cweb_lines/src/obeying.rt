@@ -3,7 +3,7 @@ ghost use Rattle.std.specs.Prelude.{◌≡◌, ◌≤◌, ◌<◌, ◌+◌, ◌^
 ghost use Rattle.cweb_files.specs.Frames.{KeepsTexts};
 ghost use Rattle.cweb_lines.specs.Include.{is_include as includes};
 ghost use Rattle.cweb_lines.specs.Lines.{SourceLine};
-ghost use Rattle.cweb_lines.specs.Merging.{GivesBehind, pending_of, told_by, coming, coming_after, lines_given, IsTaken, TurnKnown};
+ghost use Rattle.cweb_lines.specs.Merging.{GivesBehind, KeepsTold, pending_of, told_by, coming, coming_after, lines_given, IsTaken, TurnKnown};
 ghost use Rattle.cweb_lines.specs.Names.{names_of};
 ghost use Rattle.cweb_lines.specs.Stages.{begun_by, IsSettled};
 ghost use Rattle.cweb_lines.specs.declared.limits.TheConstants.{OPEN_FILES};
@@ -28,6 +28,7 @@ fn open<R: Drop>(run: &mut Run<R>, opening: Opening<R>, at: LineAt) -> Result<()
     ensures same { OnErr result (names_of run.new.names ≡ names_of run.old.names) }
     ensures memory { IfErr result (λ stop. stop ≡ Stop.Memory) }
     ensures opens { OnOk result ((names_of run.new.names ≡ names_of run.old.names ++ string_bytes opening.name ∷ []) × Opens run.old.stack run.new.stack opening.reader (length (names_of run.old.names)) at) }
+    ensures still { KeepsTold (told_by run.old) (told_by run.new) }
     ensures below { StaysBelow run.old.stack.depth run.old.stack.texts run.new.stack.texts }
     ensures inputs { run.new.inputs ≡ run.old.inputs }
     ensures change { run.new.change ≡ run.old.change }
@@ -67,6 +68,7 @@ fn obey<S: Shelf>(shelf: &mut S, run: &mut Run<S::R>, line: &[u8], at: LineAt) -
     ensures same { OnErr result ((run.new.faults.items ≡ run.old.faults.items) × (names_of run.new.names ≡ names_of run.old.names)) }
     ensures memory { IfErr result (λ stop. stop ≡ Stop.Memory) }
     ensures more { length (names_of run.old.names) ≤ length (names_of run.new.names) }
+    ensures still { KeepsTold (told_by run.old) (told_by run.new) }
     ensures limits { run.new.limits ≡ run.old.limits }
     ensures stage { run.new.stage ≡ run.old.stage }
     ensures stopped { run.new.stopped ≡ run.old.stopped }
@@ -104,6 +106,7 @@ pub fn give<S: Shelf>(
     ensures same { OnErr result ((run.new.faults.items ≡ run.old.faults.items) × (names_of run.new.names ≡ names_of run.old.names)) }
     ensures memory { IfErr result (λ stop. stop ≡ Stop.Memory) }
     ensures more { length (names_of run.old.names) ≤ length (names_of run.new.names) }
+    ensures still { KeepsTold (told_by run.old) (told_by run.new) }
     ensures limits { run.new.limits ≡ run.old.limits }
     ensures stage { run.new.stage ≡ run.old.stage }
     ensures stopped { run.new.stopped ≡ run.old.stopped }

@@ -1,6 +1,8 @@
-use Rattle.std.proofs.Common.{◌≡◌, ◌+◌, ◌∷◌, [], ℕ, List, length, arith, ap, ◌∙◌, length-append, string_bytes}
+use Rattle.std.proofs.Common.{◌≡◌, ◌+◌, ◌∷◌, [], ℕ, List, length, refl, sym, arith, ap, ◌∙◌, length-append, string_bytes}
+use Rattle.std.proofs.lemmas.List.{append-nil}
 use Rattle.cweb_lines.specs.Names.{names_of}
 use Rattle.cweb_lines.specs.Texts.{line_number, files_up_to}
+use Rattle.cweb_lines.proofs.Fronts.{told_more, told_same}
 use Rattle.cweb_lines.proofs.Stacks.{most_set}
 use Rattle.cweb_lines.proofs.obeying.open.Goals as goal
 
@@ -23,3 +25,16 @@ invariant_of-run-2 g c =
       faults_known = omega (arith, count, c.args.run.now.faults_known);
       stop_known = omega (arith, count, c.args.run.now.stop_known);
     }
+
+-- what was told stays
+pub returns-clause-still : goal.returns-clause-still
+returns-clause-still g c = told_more _ _ [] _ (sym (append-nil c.args.run.now.faults.items)) c.in_default.ensures.ok
+
+pub returns-in-Err-clause-still : goal.returns-in-Err-clause-still
+returns-in-Err-clause-still g c = told_same _ _ refl c.in-Err.ensures.err
+
+pub returns-in_err-piece-clause-still : goal.returns-in_err-piece-clause-still
+returns-in_err-piece-clause-still g c = told_same _ _ refl refl
+
+pub returns-in_err-source-clause-still : goal.returns-in_err-source-clause-still
+returns-in_err-source-clause-still g c = told_same _ _ refl refl

@@ -7,6 +7,7 @@ use Rattle.cweb_lines.specs.Merging.{told_by}
 use Rattle.cweb_lines.specs.Names.{names_of}
 use Rattle.cweb_lines.specs.Stages.{floor_of}
 use Rattle.cweb_lines.specs.declared.fault.SourceKind.TheVariants.{NoMatch}
+use Rattle.cweb_lines.proofs.Fronts.{told_behind, told_same}
 use Rattle.cweb_lines.proofs.Merges.{gives_fault}
 use Rattle.cweb_lines.proofs.Runs.{no_match, nothing_above}
 use Rattle.cweb_lines.proofs.turning.take_end.Goals as goal
@@ -20,3 +21,10 @@ returns-in_default-clause-gives g c = λ tells.
     (sym (nothing_above (world_in (g.S.Shelf.texts c.args.shelf.now) c.tell.new.self.inputs) (g.S.Shelf.left c.args.shelf.now) c.tell.new.self.stack (length (names_of c.tell.new.self.names))
     (ap (λ s. s.depth) c.in_default.ensures.only.stack ∙ none))))
     c.in_default.ensures.told (ap names_of c.in_default.ensures.only.names)
+
+-- what was told stays
+pub returns-in-Err-clause-still : goal.returns-in-Err-clause-still
+returns-in-Err-clause-still g c = told_same _ _ c.in-Err.ensures.err (ap names_of c.in-Err.ensures.only.names)
+
+pub returns-in_default-clause-still : goal.returns-in_default-clause-still
+returns-in_default-clause-still g c = told_behind _ _ _ c.in_default.ensures.told (ap names_of c.in_default.ensures.only.names)

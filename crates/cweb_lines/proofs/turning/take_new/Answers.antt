@@ -8,6 +8,7 @@ use Rattle.cweb_lines.specs.Texts.{lines_at}
 use Rattle.cweb_lines.specs.Names.{names_of}
 use Rattle.cweb_lines.specs.declared.fault.SourceFault.{SourceFault}
 use Rattle.cweb_lines.specs.declared.fault.SourceKind.TheVariants.{EndedBeforeZ}
+use Rattle.cweb_lines.proofs.Fronts.{told_behind, told_same, told_then, told_took}
 use Rattle.cweb_lines.proofs.Found.{IfOk-map}
 use Rattle.cweb_lines.proofs.Merges.{gives_took}
 use Rattle.cweb_lines.proofs.News.{coming_is, is_end, new_ended, new_faulty, new_first, new_side_ended, new_stops}
@@ -58,3 +59,29 @@ returns-in_default-tell-2-clause-gives g c = λ tells.
     (told_by c.take_change.new.run) c.take_change.new.line.items c.in-Some.at.place taken.0
     (taken.1 ∙ ap (λ ch. taken.0.line ∷ lines_at (g.S.Shelf.left c.take_change.new.shelf) ch) (sym c.in_default-tell-2.ensures.only.change)) (ap (λ (v : Vec SourceFault Global). v.items) c.in-Ok.ensures.only.faults) (ap names_of c.in-Ok.ensures.only.names)
     c.in-Some-code_of.code test (sym c.eq.ensures ∙ c.if-eq.false) c.in_default-tell-2.ensures.told (ap names_of c.in_default-tell-2.ensures.only.names) (ap count_of c.in_default-tell-2.ensures.only.limits)
+
+-- what was told stays
+pub returns-in-Err-clause-still : goal.returns-in-Err-clause-still
+returns-in-Err-clause-still g c = told_took c.in-Err.ensures.only
+
+pub returns-in-Err-tell-clause-still : goal.returns-in-Err-tell-clause-still
+returns-in-Err-tell-clause-still g c =
+    told_then _ _ _ (told_took c.in-Ok.ensures.only) (told_same _ _ c.in-Err-tell.ensures.err (ap names_of c.in-Err-tell.ensures.only.names))
+
+pub returns-in_default-clause-still : goal.returns-in_default-clause-still
+returns-in_default-clause-still g c =
+    told_then _ _ _ (told_took c.in-Ok.ensures.only) (told_behind _ _ _ c.in_default-tell.ensures.told (ap names_of c.in_default-tell.ensures.only.names))
+
+pub returns-in-None-clause-still : goal.returns-in-None-clause-still
+returns-in-None-clause-still g c = told_then _ _ _ (told_took c.in-Ok.ensures.only) c.give.ensures.still
+
+pub returns-then-eq-clause-still : goal.returns-then-eq-clause-still
+returns-then-eq-clause-still g c = told_took c.in-Ok.ensures.only
+
+pub returns-in-Err-tell-2-clause-still : goal.returns-in-Err-tell-2-clause-still
+returns-in-Err-tell-2-clause-still g c =
+    told_then _ _ _ (told_took c.in-Ok.ensures.only) (told_same _ _ c.in-Err-tell-2.ensures.err (ap names_of c.in-Err-tell-2.ensures.only.names))
+
+pub returns-in_default-tell-2-clause-still : goal.returns-in_default-tell-2-clause-still
+returns-in_default-tell-2-clause-still g c =
+    told_then _ _ _ (told_took c.in-Ok.ensures.only) (told_behind _ _ _ c.in_default-tell-2.ensures.told (ap names_of c.in_default-tell-2.ensures.only.names))

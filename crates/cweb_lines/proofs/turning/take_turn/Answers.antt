@@ -1,4 +1,4 @@
-use Rattle.std.proofs.Common.{◌∷◌, ◌++◌, [], map, Vec, Global, List, Some, None, ap, sym, subst, ◌∙◌}
+use Rattle.std.proofs.Common.{◌∷◌, ◌++◌, [], map, Vec, Global, List, Some, None, ap, sym, subst, ◌∙◌, refl}
 use Rattle.std.specs.Prelude.{IsTrue}
 use Rattle.cweb_lines.specs.Change.{sought}
 use Rattle.cweb_lines.specs.Counts.{count_of}
@@ -9,6 +9,7 @@ use Rattle.cweb_lines.specs.Texts.{things_above}
 use Rattle.cweb_lines.specs.Names.{names_of}
 use Rattle.cweb_lines.specs.Stages.{begun_by, pending_in}
 use Rattle.cweb_lines.specs.declared.fault.SourceFault.{SourceFault}
+use Rattle.cweb_lines.proofs.Fronts.{told_same, told_then, told_took}
 use Rattle.cweb_lines.proofs.Adds.{adds_both, adds_one, among_after, gives_adds, stopped_among, tells_after, tells_some}
 use Rattle.cweb_lines.proofs.Found.{IfOk-map}
 use Rattle.cweb_lines.proofs.Merges.{gives_took, stopped_by}
@@ -106,3 +107,22 @@ returns-clause-gives g c = λ tells.
     (c.in_default-begin_change.ensures.keeps.texts tells') c.in_default-begin_change.ensures.inputs c.in_default-begin_change.ensures.names here.1 changed))
     (adds_both [] (faults_replaced c.in-Some-begun_at.begin (change_lines (g.S.Shelf.left c.take_raw.new.shelf) c.take_raw.new.run) (things_above (g.S.Shelf.left c.take_raw.new.shelf) 0 c.take_raw.new.run.stack [])) (taken.0.line ∷ []) lines (told_by c.args.run.now) (told_by c.take_raw.new.run) (told_by c.begin_change.new.run)
     (adds_one (told_by c.args.run.now) (told_by c.take_raw.new.run) c.take_raw.new.line.items c.in-Some.at.place taken.0 faults names) changed.adds)
+
+-- what was told stays
+pub returns-then-has_ended-clause-still : goal.returns-then-has_ended-clause-still
+returns-then-has_ended-clause-still g c = told_same _ _ refl refl
+
+pub returns-in-Err-take_raw-clause-still : goal.returns-in-Err-take_raw-clause-still
+returns-in-Err-take_raw-clause-still g c = told_took c.in-Err-take_raw.ensures.only
+
+pub returns-in_default-taken-clause-still : goal.returns-in_default-taken-clause-still
+returns-in_default-taken-clause-still g c = told_then _ _ _ (told_took c.in-Ok.ensures.only) c.take_end.ensures.still
+
+pub returns-in_default-begun_at-clause-still : goal.returns-in_default-begun_at-clause-still
+returns-in_default-begun_at-clause-still g c = told_then _ _ _ (told_took c.in-Ok.ensures.only) c.give.ensures.still
+
+pub returns-in-Err-begin_change-clause-still : goal.returns-in-Err-begin_change-clause-still
+returns-in-Err-begin_change-clause-still g c = told_then _ _ _ (told_took c.in-Ok.ensures.only) c.in-Err-begin_change.ensures.still
+
+pub returns-clause-still : goal.returns-clause-still
+returns-clause-still g c = told_then _ _ _ (told_took c.in-Ok.ensures.only) c.in_default-begin_change.ensures.still

@@ -1,8 +1,8 @@
-use Rattle.std.proofs.Common.{rules, ◌+◌, [], length, refl, ap, sym, ◌∙◌, arith}
+use Rattle.std.proofs.Common.{rules, ◌+◌, [], refl, ap, sym, ◌∙◌, arith}
 use Rattle.cweb_files.specs.Frames.{Writes}
 use Rattle.cweb_lines.specs.Texts.{read_blame}
 use Rattle.cweb_lines.specs.Writing.{write_blame}
-use Rattle.cweb_lines.specs.Names.{names_of}
+use Rattle.cweb_lines.proofs.Fronts.{told_halted, told_passed, told_same, told_then}
 use Rattle.cweb_lines.proofs.Gathers.{emptied, held, held_on, passed_on, fails_front, fails_among}
 use Rattle.cweb_lines.proofs.Keeps.{keeps_same, keeps_told, keeps_then, place_same, place_then}
 use Rattle.cweb_lines.proofs.Writes.{nothing_yet, names_rest, ends_front, ends_whole, ended_early, halted, fails_last, write_failed, blamed, blames_write, tells_some, tells_more, tells_same}
@@ -16,7 +16,7 @@ lines-init g c = record {
   out_failed = refl;
   running = sym c.stopped.ensures.stop ∙ c.in_default.is;
   before = sym c.stopped.ensures.stop ∙ c.in_default.is;
-  names = omega arith;
+  told = told_same _ _ refl refl;
   empty = λ none. c.new-piece.ensures.items;
   gathered = λ tells. rw c.new-piece.ensures.items (nothing_yet g.W.Sink _ _ _ _);
 }
@@ -96,7 +96,7 @@ returns-in-Err-gather-clause-stops g c = λ tells before.
 -- a write failed
 pub returns-in-Err-pass_on-clause-grows : goal.returns-in-Err-pass_on-clause-grows
 returns-in-Err-pass_on-clause-grows g c = record {
-  names = omega (arith, c.lines.invariant.names, c.in-Ok.ensures.grows.names, ap (λ n. length (names_of n)) c.pass_lines.ensures.passes.names);
+  told = told_then _ _ _ c.lines.invariant.told (told_then _ _ _ c.in-Ok.ensures.grows.told (told_passed c.pass_lines.ensures.passes));
   lines = c.pass_lines.new.self.run.limits.few;
   bytes = c.pass_lines.new.self.run.limits.small;
 }
@@ -142,7 +142,7 @@ lines-preserved g c = record {
   out_failed = search rules;
   running = c.pass_lines.ensures.passes.stopped ∙ c.in-Ok.ensures.leaves.running;
   before = c.lines.invariant.before;
-  names = omega (arith, c.in-Ok.ensures.grows.names, c.lines.invariant.names, ap (λ n. length (names_of n)) c.pass_lines.ensures.passes.names);
+  told = told_then _ _ _ c.lines.invariant.told (told_then _ _ _ c.in-Ok.ensures.grows.told (told_passed c.pass_lines.ensures.passes));
   empty = λ none. emptied c.args.room c.pass_lines.new.piece.items c.pass_on.new.piece.items (Writes g.W.Sink c.lines.out c.pass_on.new.out) c.in_default-pass_on.ensures.ok none;
   gathered = λ tells.
       let next = rw c.in-Some-next.is at (c.in-Ok.ensures.next (keeps_told g.S.Shelf _ _ c.lines.invariant.keeps tells)) in
@@ -157,3 +157,35 @@ pub lines-smaller : goal.lines-smaller
 lines-smaller g c =
     let given = rw c.in-Some-next.is at c.in-Ok.ensures.given in
     omega (arith, given.lines, c.pass_lines.ensures.passes.counted, c.in-Ok.ensures.grows.lines, c.pass_lines.new.self.run.limits.few)
+
+-- what was told stays
+pub returns-in-Some-clause-grows : goal.returns-in-Some-clause-grows
+returns-in-Some-clause-grows g c = record { told = told_same _ _ refl refl; lines = c.args.merger.now.run.limits.few; bytes = c.args.merger.now.run.limits.small }
+
+pub returns-in-Err-clause-grows : goal.returns-in-Err-clause-grows
+returns-in-Err-clause-grows g c = record {
+  told = told_then _ _ _ c.lines.invariant.told c.in-Err.ensures.grows.told;
+  lines = c.in-Err.ensures.grows.lines;
+  bytes = c.in-Err.ensures.grows.bytes;
+}
+
+pub returns-in-Err-write_piece-clause-grows : goal.returns-in-Err-write_piece-clause-grows
+returns-in-Err-write_piece-clause-grows g c = record {
+  told = told_then _ _ _ c.lines.invariant.told c.in-Ok.ensures.grows.told;
+  lines = c.in-Ok.ensures.grows.lines;
+  bytes = c.in-Ok.ensures.grows.bytes;
+}
+
+pub returns-in_default-next-clause-grows : goal.returns-in_default-next-clause-grows
+returns-in_default-next-clause-grows g c = record {
+  told = told_then _ _ _ c.lines.invariant.told c.in-Ok.ensures.grows.told;
+  lines = c.in-Ok.ensures.grows.lines;
+  bytes = c.in-Ok.ensures.grows.bytes;
+}
+
+pub returns-in-Err-gather-clause-grows : goal.returns-in-Err-gather-clause-grows
+returns-in-Err-gather-clause-grows g c = record {
+  told = told_then _ _ _ c.lines.invariant.told (told_then _ _ _ c.in-Ok.ensures.grows.told (told_halted c.halt.ensures.so_far));
+  lines = c.halt.new.self.run.limits.few;
+  bytes = c.halt.new.self.run.limits.small;
+}
