@@ -104,6 +104,7 @@ passes_nothing run piece = record {
   stopped = refl;
   names = refl;
   counted = omega arith;
+  readers = λ opened_as known. known;
 }
 
 -- lines, and then more lines
@@ -116,4 +117,5 @@ passes_then a b c x y z first then = record {
   stopped = then.stopped ∙ first.stopped;
   names = then.names ∙ first.names;
   counted = omega (arith, first.counted, then.counted);
+  readers = λ opened_as known. then.readers opened_as (first.readers opened_as known);
 }

@@ -7,6 +7,7 @@ use Rattle.cweb_lines.specs.Include.{World, Found}
 use Rattle.cweb_lines.specs.Lines.{Line, IsOneLine}
 use Rattle.cweb_lines.specs.Merge.{Event, started}
 use Rattle.cweb_lines.specs.Merging.{SoFar, Gives, KeepsTold, NothingLeft, Stopped, TellsFront, told_by, coming}
+use Rattle.cweb_lines.specs.Naming.{AreReadersKnown}
 use Rattle.cweb_lines.specs.Texts.{ReadBlames, StopsReading}
 use Rattle.cweb_lines.specs.Told.{given_lines}
 use Rattle.cweb_lines.specs.Total.{merge}
@@ -30,6 +31,10 @@ so_far merger = told_by merger.run
 -- the stop that the merger keeps
 abbrev pub stop_in : {S R : Type 0} → Merger S R → Option Stop
 stop_in merger = merger.run.stopped
+
+-- at this shelf each reader of the merger was opened under the name that its file has
+abbrev pub KnowsReaders : {S R : Type 0} → Shelf S R → S → Merger S R → Type 0
+KnowsReaders shelf s merger = AreReadersKnown (shelf.opened_as s) merger.run
 
 -- no text is open any more, and no entry is left
 abbrev pub HasEnded : {S R : Type 0} → Merger S R → Type 0

@@ -6,6 +6,7 @@ ghost use Rattle.cweb_lines.specs.Merging.{Gives, KeepsTold, Stopped, TellsFront
 ghost use Rattle.cweb_lines.specs.Names.{names_of};
 ghost use Rattle.cweb_lines.specs.Stages.{IsSettled, begun_by, floor_of, pending_in};
 ghost use Rattle.cweb_lines.specs.Texts.{ReadBlames, StopsReading, files_named};
+ghost use Rattle.cweb_lines.specs.Naming.{BlamesReaders, KeepsReaders};
 
 use crate::code::{Code, code_of};
 use crate::fault::SourceKind;
@@ -38,6 +39,8 @@ fn take_new<S: Shelf>(
     ensures known { IfOk result (λ turn. TurnKnown (length (names_of run.new.names)) turn) }
     ensures grows { length (names_of run.old.names) ≤ length (names_of run.new.names) }
     ensures still { KeepsTold (told_by run.old) (told_by run.new) }
+    ensures readers { KeepsReaders S.Shelf shelf.old shelf.new run.old run.new }
+    ensures blamed { BlamesReaders S.Shelf shelf.old shelf.new run.old run.new result }
     ensures line { IfOk result (λ turn. TurnLine turn line.new.items) }
     ensures gains { IfOk result (λ turn. TurnGains turn line.new.items run.old.limits.bytes run.new.limits.bytes) }
     ensures named { IfErr result (λ stop. files_named stop ≤ length (names_of run.new.names)) }
@@ -93,6 +96,8 @@ fn take_end<S: Shelf>(shelf: &mut S, run: &mut Run<S::R>, line: &mut Vec<u8>) ->
     ensures known { IfOk result (λ turn. TurnKnown (length (names_of run.new.names)) turn) }
     ensures grows { length (names_of run.old.names) ≤ length (names_of run.new.names) }
     ensures still { KeepsTold (told_by run.old) (told_by run.new) }
+    ensures readers { KeepsReaders S.Shelf shelf.old shelf.new run.old run.new }
+    ensures blamed { BlamesReaders S.Shelf shelf.old shelf.new run.old run.new result }
     ensures line { IfOk result (λ turn. TurnLine turn line.new.items) }
     ensures gains { IfOk result (λ turn. TurnGains turn line.new.items run.old.limits.bytes run.new.limits.bytes) }
     ensures named { IfErr result (λ stop. files_named stop ≤ length (names_of run.new.names)) }
@@ -141,6 +146,8 @@ pub fn take_turn<S: Shelf>(
     ensures known { IfOk result (λ turn. TurnKnown (length (names_of run.new.names)) turn) }
     ensures grows { length (names_of run.old.names) ≤ length (names_of run.new.names) }
     ensures still { KeepsTold (told_by run.old) (told_by run.new) }
+    ensures readers { KeepsReaders S.Shelf shelf.old shelf.new run.old run.new }
+    ensures blamed { BlamesReaders S.Shelf shelf.old shelf.new run.old run.new result }
     ensures line { IfOk result (λ turn. TurnLine turn line.new.items) }
     ensures gains { IfOk result (λ turn. TurnGains turn line.new.items run.old.limits.bytes run.new.limits.bytes) }
     ensures named { IfErr result (λ stop. files_named stop ≤ length (names_of run.new.names)) }

@@ -5,8 +5,10 @@ use Rattle.cweb_lines.specs.Counts.{count_of}
 use Rattle.cweb_lines.specs.Finding.{world_in}
 use Rattle.cweb_lines.specs.Include.{found_at}
 use Rattle.cweb_lines.specs.Merge.{Event, opening}
+use Rattle.cweb_lines.specs.Naming.{AreReadersKnown}
 use Rattle.cweb_lines.specs.declared.fault.SourceFault.{SourceFault}
 use Rattle.cweb_lines.specs.declared.fault.SourceKind.TheVariants.{NoName, TooDeep, NotThere}
+use Rattle.cweb_lines.proofs.Named.{knows_only}
 use Rattle.cweb_lines.proofs.Fronts.{told_if, told_same}
 use Rattle.cweb_lines.proofs.Found.{OnOk-map}
 use Rattle.cweb_lines.proofs.Merges.{gives_opening, merge_no_name, merge_too_deep, merge_not_there, merge_opens, include_long, empty_is, some_are}
@@ -78,3 +80,23 @@ returns-in_default-clause-still g c =
 
 pub returns-in_err-opening-clause-still : goal.returns-in_err-opening-clause-still
 returns-in_err-opening-clause-still g c = told_same _ _ refl refl
+
+-- the readers
+pub returns-then-is_empty-clause-readers : goal.returns-then-is_empty-clause-readers
+returns-then-is_empty-clause-readers g c = λ tells known. knows_only c.tell.ensures.only known
+
+pub returns-then-at-ge-OPEN_FILES-clause-readers : goal.returns-then-at-ge-OPEN_FILES-clause-readers
+returns-then-at-ge-OPEN_FILES-clause-readers g c = λ tells known. knows_only c.tell-then-at-ge-OPEN_FILES.ensures.only known
+
+pub returns-in_default-clause-readers : goal.returns-in_default-clause-readers
+returns-in_default-clause-readers g c = λ tells known.
+    knows_only c.tell-in_default.ensures.only (subst (λ f. AreReadersKnown f c.args.run.now) (sym (c.in_ok-opening.ensures.keeps.names tells)) known)
+
+pub returns-clause-readers : goal.returns-clause-readers
+returns-clause-readers g c = λ tells known.
+    c.open.ensures.readers (g.S.Shelf.opened_as c.find.new.shelf) (rw c.in-Some.is at (c.in_ok-opening.ensures.opened tells))
+    (subst (λ f. AreReadersKnown f c.args.run.now) (sym (c.in_ok-opening.ensures.keeps.names tells)) known)
+
+pub returns-in_err-opening-clause-readers : goal.returns-in_err-opening-clause-readers
+returns-in_err-opening-clause-readers g c = λ tells known.
+    subst (λ f. AreReadersKnown f c.args.run.now) (sym (c.in_err-opening.ensures.keeps.names tells)) known

@@ -1,4 +1,4 @@
-use Rattle.std.proofs.Common.{◌∷◌, List, length, ap, sym, ◌∙◌}
+use Rattle.std.proofs.Common.{◌∷◌, List, length, ap, sym, ◌∙◌, refl}
 use Rattle.cweb_lines.specs.Change.{at_place}
 use Rattle.cweb_lines.specs.Counts.{count_of}
 use Rattle.cweb_lines.specs.Finding.{world_in}
@@ -6,7 +6,9 @@ use Rattle.cweb_lines.specs.Merge.{Event, fault}
 use Rattle.cweb_lines.specs.Merging.{told_by}
 use Rattle.cweb_lines.specs.Names.{names_of}
 use Rattle.cweb_lines.specs.Stages.{floor_of}
+use Rattle.cweb_lines.specs.Texts.{read_blame}
 use Rattle.cweb_lines.specs.declared.fault.SourceKind.TheVariants.{NoMatch}
+use Rattle.cweb_lines.proofs.Named.{blames_none, knows_only}
 use Rattle.cweb_lines.proofs.Fronts.{told_behind, told_same}
 use Rattle.cweb_lines.proofs.Merges.{gives_fault}
 use Rattle.cweb_lines.proofs.Runs.{no_match, nothing_above}
@@ -28,3 +30,15 @@ returns-in-Err-clause-still g c = told_same _ _ c.in-Err.ensures.err (ap names_o
 
 pub returns-in_default-clause-still : goal.returns-in_default-clause-still
 returns-in_default-clause-still g c = told_behind _ _ _ c.in_default.ensures.told (ap names_of c.in_default.ensures.only.names)
+
+-- the readers
+pub returns-in-Err-clause-readers : goal.returns-in-Err-clause-readers
+returns-in-Err-clause-readers g c = λ tells known. knows_only c.in-Err.ensures.only known
+
+pub returns-in-Err-clause-blamed : goal.returns-in-Err-clause-blamed
+returns-in-Err-clause-blamed g c = λ tells known. blames_none _ _ _ _ (ap read_blame c.in-Err.ensures.memory) refl
+
+pub returns-in_default-clause-readers : goal.returns-in_default-clause-readers
+returns-in_default-clause-readers g c = λ tells known.
+    let told = knows_only c.in_default.ensures.only known in
+    record { texts = told.texts; change = told.change }

@@ -9,6 +9,7 @@ use Rattle.cweb_lines.specs.Texts.{things_above}
 use Rattle.cweb_lines.specs.Names.{names_of}
 use Rattle.cweb_lines.specs.Stages.{begun_by, pending_in}
 use Rattle.cweb_lines.specs.declared.fault.SourceFault.{SourceFault}
+use Rattle.cweb_lines.proofs.Named.{blames_after, blames_memory, stop_after}
 use Rattle.cweb_lines.proofs.Fronts.{told_same, told_then, told_took}
 use Rattle.cweb_lines.proofs.Adds.{adds_both, adds_one, among_after, gives_adds, stopped_among, tells_after, tells_some}
 use Rattle.cweb_lines.proofs.Found.{IfOk-map}
@@ -126,3 +127,31 @@ returns-in-Err-begin_change-clause-still g c = told_then _ _ _ (told_took c.in-O
 
 pub returns-clause-still : goal.returns-clause-still
 returns-clause-still g c = told_then _ _ _ (told_took c.in-Ok.ensures.only) c.in_default-begin_change.ensures.still
+
+-- the readers
+pub returns-in_default-taken-clause-readers : goal.returns-in_default-taken-clause-readers
+returns-in_default-taken-clause-readers g c = λ tells known. c.take_end.ensures.readers (subst IsTrue (sym c.in-Ok.ensures.keeps.tells) tells) (c.in-Ok.ensures.readers tells known)
+
+pub returns-in_default-taken-clause-blamed : goal.returns-in_default-taken-clause-blamed
+returns-in_default-taken-clause-blamed g c = λ tells known.
+    blames_after c.take_end.result _ _ _ _ (c.in-Ok.ensures.blamed tells known) (c.take_end.ensures.blamed (subst IsTrue (sym c.in-Ok.ensures.keeps.tells) tells) (c.in-Ok.ensures.readers tells known))
+
+pub returns-in_default-begun_at-clause-readers : goal.returns-in_default-begun_at-clause-readers
+returns-in_default-begun_at-clause-readers g c = λ tells known. c.give.ensures.readers (subst IsTrue (sym c.in-Ok.ensures.keeps.tells) tells) (c.in-Ok.ensures.readers tells known)
+
+pub returns-in_default-begun_at-clause-blamed : goal.returns-in_default-begun_at-clause-blamed
+returns-in_default-begun_at-clause-blamed g c = λ tells known.
+    blames_memory c.give.result _ _ _ c.give.ensures.memory (c.give.ensures.blamed (subst IsTrue (sym c.in-Ok.ensures.keeps.tells) tells) ∙ c.in-Ok.ensures.blamed tells known)
+
+pub returns-in-Err-begin_change-clause-readers : goal.returns-in-Err-begin_change-clause-readers
+returns-in-Err-begin_change-clause-readers g c = λ tells known. c.in-Err-begin_change.ensures.readers (subst IsTrue (sym c.in-Ok.ensures.keeps.tells) tells) (c.in-Ok.ensures.readers tells known)
+
+pub returns-in-Err-begin_change-clause-blamed : goal.returns-in-Err-begin_change-clause-blamed
+returns-in-Err-begin_change-clause-blamed g c = λ tells known.
+    stop_after c.in-Err-begin_change.stop _ _ _ _ (c.in-Ok.ensures.blamed tells known) (c.in-Err-begin_change.ensures.blamed (subst IsTrue (sym c.in-Ok.ensures.keeps.tells) tells) (c.in-Ok.ensures.readers tells known))
+
+pub returns-clause-readers : goal.returns-clause-readers
+returns-clause-readers g c = λ tells known. c.in_default-begin_change.ensures.readers (subst IsTrue (sym c.in-Ok.ensures.keeps.tells) tells) (c.in-Ok.ensures.readers tells known)
+
+pub returns-clause-blamed : goal.returns-clause-blamed
+returns-clause-blamed g c = λ tells known. c.in_default-begin_change.ensures.blamed (subst IsTrue (sym c.in-Ok.ensures.keeps.tells) tells) (c.in-Ok.ensures.readers tells known) ∙ c.in-Ok.ensures.blamed tells known

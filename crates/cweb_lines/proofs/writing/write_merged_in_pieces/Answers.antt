@@ -2,6 +2,7 @@ use Rattle.std.proofs.Common.{rules, ◌+◌, [], refl, ap, sym, ◌∙◌, arit
 use Rattle.cweb_files.specs.Frames.{Writes}
 use Rattle.cweb_lines.specs.Texts.{read_blame}
 use Rattle.cweb_lines.specs.Writing.{write_blame}
+use Rattle.cweb_lines.proofs.Named.{blames_none, blames_rest, stop_after}
 use Rattle.cweb_lines.proofs.Fronts.{told_halted, told_passed, told_same, told_then}
 use Rattle.cweb_lines.proofs.Gathers.{emptied, held, held_on, passed_on, fails_front, fails_among}
 use Rattle.cweb_lines.proofs.Keeps.{keeps_same, keeps_told, keeps_then, place_same, place_then}
@@ -16,6 +17,8 @@ lines-init g c = record {
   out_failed = refl;
   running = sym c.stopped.ensures.stop ∙ c.in_default.is;
   before = sym c.stopped.ensures.stop ∙ c.in_default.is;
+  readers = λ tells known. known;
+  blamed = λ tells known. refl;
   told = told_same _ _ refl refl;
   empty = λ none. c.new-piece.ensures.items;
   gathered = λ tells. rw c.new-piece.ensures.items (nothing_yet g.W.Sink _ _ _ _);
@@ -142,6 +145,8 @@ lines-preserved g c = record {
   out_failed = search rules;
   running = c.pass_lines.ensures.passes.stopped ∙ c.in-Ok.ensures.leaves.running;
   before = c.lines.invariant.before;
+  readers = λ tells known. c.pass_lines.ensures.passes.readers _ (c.in-Ok.ensures.readers (keeps_told g.S.Shelf _ _ c.lines.invariant.keeps tells) (c.lines.invariant.readers tells known));
+  blamed = λ tells known. c.in-Ok.ensures.blamed (keeps_told g.S.Shelf _ _ c.lines.invariant.keeps tells) (c.lines.invariant.readers tells known) c.lines.invariant.running ∙ c.lines.invariant.blamed tells known;
   told = told_then _ _ _ c.lines.invariant.told (told_then _ _ _ c.in-Ok.ensures.grows.told (told_passed c.pass_lines.ensures.passes));
   empty = λ none. emptied c.args.room c.pass_lines.new.piece.items c.pass_on.new.piece.items (Writes g.W.Sink c.lines.out c.pass_on.new.out) c.in_default-pass_on.ensures.ok none;
   gathered = λ tells.
@@ -189,3 +194,38 @@ returns-in-Err-gather-clause-grows g c = record {
   lines = c.halt.new.self.run.limits.few;
   bytes = c.halt.new.self.run.limits.small;
 }
+
+-- the readers
+pub returns-in-Err-clause-readers : goal.returns-in-Err-clause-readers
+returns-in-Err-clause-readers g c = λ tells known. c.in-Err.ensures.readers (keeps_told g.S.Shelf _ _ c.lines.invariant.keeps tells) (c.lines.invariant.readers tells known)
+
+pub returns-in-Err-clause-blamed : goal.returns-in-Err-clause-blamed
+returns-in-Err-clause-blamed g c = λ tells known before.
+    stop_after c.write_rest.result _ _ _ _ (c.lines.invariant.blamed tells known)
+    (blames_rest _ _ _ c.in-Err.stop c.write_rest.result _ _ c.write_rest.ensures.rest (c.in-Err.ensures.blamed (keeps_told g.S.Shelf _ _ c.lines.invariant.keeps tells) (c.lines.invariant.readers tells known) c.lines.invariant.running))
+
+pub returns-in-Err-write_piece-clause-readers : goal.returns-in-Err-write_piece-clause-readers
+returns-in-Err-write_piece-clause-readers g c = λ tells known. c.in-Ok.ensures.readers (keeps_told g.S.Shelf _ _ c.lines.invariant.keeps tells) (c.lines.invariant.readers tells known)
+
+pub returns-in-Err-write_piece-clause-blamed : goal.returns-in-Err-write_piece-clause-blamed
+returns-in-Err-write_piece-clause-blamed g c = λ tells known before. blames_none _ _ _ _ (ap read_blame c.in-Err-write_piece.ensures.stop) (c.in-Ok.ensures.blamed (keeps_told g.S.Shelf _ _ c.lines.invariant.keeps tells) (c.lines.invariant.readers tells known) c.lines.invariant.running ∙ c.lines.invariant.blamed tells known)
+
+pub returns-in_default-next-clause-readers : goal.returns-in_default-next-clause-readers
+returns-in_default-next-clause-readers g c = λ tells known. c.in-Ok.ensures.readers (keeps_told g.S.Shelf _ _ c.lines.invariant.keeps tells) (c.lines.invariant.readers tells known)
+
+pub returns-in_default-next-clause-blamed : goal.returns-in_default-next-clause-blamed
+returns-in_default-next-clause-blamed g c = λ tells known before. c.in-Ok.ensures.blamed (keeps_told g.S.Shelf _ _ c.lines.invariant.keeps tells) (c.lines.invariant.readers tells known) c.lines.invariant.running ∙ c.lines.invariant.blamed tells known
+
+pub returns-in-Err-gather-clause-readers : goal.returns-in-Err-gather-clause-readers
+returns-in-Err-gather-clause-readers g c = λ tells known. c.halt.ensures.readers _ (c.in-Ok.ensures.readers (keeps_told g.S.Shelf _ _ c.lines.invariant.keeps tells) (c.lines.invariant.readers tells known))
+
+pub returns-in-Err-gather-clause-blamed : goal.returns-in-Err-gather-clause-blamed
+returns-in-Err-gather-clause-blamed g c = λ tells known before.
+    blames_rest _ _ _ c.halt.result c.write_rest-in-Err-gather.result _ _ c.write_rest-in-Err-gather.ensures.rest
+    (blames_none _ _ _ _ (ap read_blame (c.halt.ensures.stop c.in-Ok.ensures.leaves.running)) (c.in-Ok.ensures.blamed (keeps_told g.S.Shelf _ _ c.lines.invariant.keeps tells) (c.lines.invariant.readers tells known) c.lines.invariant.running ∙ c.lines.invariant.blamed tells known))
+
+pub returns-in-Err-pass_on-clause-readers : goal.returns-in-Err-pass_on-clause-readers
+returns-in-Err-pass_on-clause-readers g c = λ tells known. c.pass_lines.ensures.passes.readers _ (c.in-Ok.ensures.readers (keeps_told g.S.Shelf _ _ c.lines.invariant.keeps tells) (c.lines.invariant.readers tells known))
+
+pub returns-in-Err-pass_on-clause-blamed : goal.returns-in-Err-pass_on-clause-blamed
+returns-in-Err-pass_on-clause-blamed g c = λ tells known before. blames_none _ _ _ _ (ap read_blame c.in-Err-pass_on.ensures.stop) (c.in-Ok.ensures.blamed (keeps_told g.S.Shelf _ _ c.lines.invariant.keeps tells) (c.lines.invariant.readers tells known) c.lines.invariant.running ∙ c.lines.invariant.blamed tells known)
