@@ -70,6 +70,8 @@ finds_more entries i e name found lt is so_far b test =
     ]) found_one
 
 -- the entry of the name that was asked for has that name
-pub opened_here : (entries : List Entry) (i : ℕ) (e : Entry) (name : List ℕ) → i < length entries → e ≡ get_or entries i e → true ≡ bytes_eq (string_bytes e.name) name
+pub opened_here : (entries : List Entry) (i : ℕ) (e : Entry) (name : List ℕ) → i < length entries
+    → e ≡ get_or entries i e → true ≡ bytes_eq (string_bytes e.name) name
     → name_at (slice_get entries i) ≡ name
-opened_here entries i e name lt is same = ap name_at (slice_get-at entries i e lt is) ∙ (bytes_eq-Decides (string_bytes e.name) name).0 (sym same)
+opened_here entries i e name lt is same = ap name_at (slice_get-at entries i e lt is)
+    ∙ (bytes_eq-Decides (string_bytes e.name) name).0 (sym same)

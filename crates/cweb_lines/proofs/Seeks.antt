@@ -93,22 +93,27 @@ module _ (all : Sought) (lines : List SourceLine) (begin : Option Place) (old mi
         }
 
 -- where no line is left, no entry is found
-sought_none : (begin : Option Place) → ((sought [] begin).taken ≡ []) × ((sought [] begin).entry ≡ None) × ((sought [] begin).rest ≡ [])
+sought_none : (begin : Option Place) → ((sought [] begin).taken ≡ []) × ((sought [] begin).entry ≡ None)
+    × ((sought [] begin).rest ≡ [])
 sought_none None = (refl, refl, refl)
 sought_none (Some place) = (refl, refl, refl)
 
 -- the change file has ended
-pub seeks_ended : (all : Sought) (lines : List SourceLine) (begin : Option Place) (old mid : SoFar) → SeeksTo all (sought lines begin) old mid → lines ≡ [] → (new : SoFar)
-    → new.faults ≡ mid.faults ++ (sought [] begin).faults → new.names ≡ mid.names → new.count ≡ mid.count → (stage : Stage) → stage ≡ Done → (first : List ℕ) (left : List SourceLine)
+pub seeks_ended : (all : Sought) (lines : List SourceLine) (begin : Option Place) (old mid : SoFar)
+    → SeeksTo all (sought lines begin) old mid → lines ≡ [] → (new : SoFar)
+    → new.faults ≡ mid.faults ++ (sought [] begin).faults → new.names ≡ mid.names → new.count ≡ mid.count
+    → (stage : Stage) → stage ≡ Done → (first : List ℕ) (left : List SourceLine)
     → Searched all old new stage first left
 seeks_ended all lines begin old mid seeks none new faults names count stage done first left =
     let last = sought [] begin in
     let ends = sought_none begin in
-    let whole : all ≡ behind seeks.told seeks.taken last = seeks.whole ∙ ap (λ (ls : List SourceLine). behind seeks.told seeks.taken (sought ls begin)) none in
+    let whole : all ≡ behind seeks.told seeks.taken last = seeks.whole
+    ∙ ap (λ (ls : List SourceLine). behind seeks.told seeks.taken (sought ls begin)) none in
     let adds = adds_faults seeks.told last.faults seeks.taken old mid new seeks.adds faults names count in
     record {
       adds = subst (λ (s : Sought). Adds s.faults s.taken old new) (sym whole)
-          (subst (λ (ls : List SourceLine). Adds (seeks.told ++ last.faults) ls old new) (sym (ap (λ (ls : List SourceLine). seeks.taken ++ ls) ends.0 ∙ append-nil seeks.taken)) adds);
+          (subst (λ (ls : List SourceLine). Adds (seeks.told ++ last.faults) ls old new)
+          (sym (ap (λ (ls : List SourceLine). seeks.taken ++ ls) ends.0 ∙ append-nil seeks.taken)) adds);
       outside = subst IsOutside (sym done) tt;
       entry = ap (λ s. pending_in s first) done ∙ sym (ap (λ (s : Sought). s.entry) whole ∙ ends.1);
       rest = ap (λ s. change_in s left) done ∙ sym (ap (λ (s : Sought). s.rest) whole ∙ ends.2);

@@ -200,7 +200,8 @@ blamed room stop result piece Wrote kept files before after rest reading keeps n
       named = omega (arith, ap files_named is);
       kept = inl is;
       goes_on = goes_on;
-      after_write = λ fault. subst (λ o. IfSome o (λ own. IsOwnStop own files)) (sym keeps) (record { reading = reading; unread = blame; named = named });
+      after_write = λ fault. subst (λ o. IfSome o (λ own. IsOwnStop own files)) (sym keeps)
+          (record { reading = reading; unread = blame; named = named });
     }
 
 -- a write failed, and the merger goes on

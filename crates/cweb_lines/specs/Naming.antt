@@ -39,22 +39,29 @@ BlamesFile names before now (Err stop) = now ≡ before ++ blame names stop
 
 -- the reader of an open text stays the one of its file
 abbrev pub KeepsName : {S R : Type 0} → Shelf S R → S → S → Option (OpenText R) → Option (OpenText R) → Type 0
-KeepsName shelf old new slot slot' = IsTrue (shelf.tells old) → (names : List (List ℕ)) → IsNamed (shelf.opened_as old) names slot → IsNamed (shelf.opened_as new) names slot'
+KeepsName shelf old new slot slot' = IsTrue (shelf.tells old) → (names : List (List ℕ))
+    → IsNamed (shelf.opened_as old) names slot → IsNamed (shelf.opened_as new) names slot'
 
 -- a read fault blames the reader of the text
 abbrev pub BlamesText : {S R A : Type 0} → Shelf S R → S → S → Option (OpenText R) → Result A Stop → Type 0
-BlamesText shelf old new slot result = IsTrue (shelf.tells old) → (names : List (List ℕ)) → IsNamed (shelf.opened_as old) names slot → BlamesFile names (shelf.blamed old) (shelf.blamed new) result
+BlamesText shelf old new slot result = IsTrue (shelf.tells old) → (names : List (List ℕ))
+    → IsNamed (shelf.opened_as old) names slot → BlamesFile names (shelf.blamed old) (shelf.blamed new) result
 
 -- the same of the texts of a stack
-abbrev pub KeepsNames : {S R : Type 0} → Shelf S R → S → S → List (Option (OpenText R)) → List (Option (OpenText R)) → Type 0
-KeepsNames shelf old new texts texts' = IsTrue (shelf.tells old) → (names : List (List ℕ)) → AreNamed (shelf.opened_as old) names texts → AreNamed (shelf.opened_as new) names texts'
+abbrev pub KeepsNames : {S R : Type 0} → Shelf S R → S → S → List (Option (OpenText R)) → List (Option (OpenText R))
+    → Type 0
+KeepsNames shelf old new texts texts' = IsTrue (shelf.tells old) → (names : List (List ℕ))
+    → AreNamed (shelf.opened_as old) names texts → AreNamed (shelf.opened_as new) names texts'
 
 abbrev pub BlamesTexts : {S R A : Type 0} → Shelf S R → S → S → List (Option (OpenText R)) → Result A Stop → Type 0
-BlamesTexts shelf old new texts result = IsTrue (shelf.tells old) → (names : List (List ℕ)) → AreNamed (shelf.opened_as old) names texts → BlamesFile names (shelf.blamed old) (shelf.blamed new) result
+BlamesTexts shelf old new texts result = IsTrue (shelf.tells old) → (names : List (List ℕ))
+    → AreNamed (shelf.opened_as old) names texts → BlamesFile names (shelf.blamed old) (shelf.blamed new) result
 
 -- and of all texts of a run
 abbrev pub KeepsReaders : {S R : Type 0} → Shelf S R → S → S → Run R → Run R → Type 0
-KeepsReaders shelf old new run run' = IsTrue (shelf.tells old) → AreReadersKnown (shelf.opened_as old) run → AreReadersKnown (shelf.opened_as new) run'
+KeepsReaders shelf old new run run' = IsTrue (shelf.tells old) → AreReadersKnown (shelf.opened_as old) run
+    → AreReadersKnown (shelf.opened_as new) run'
 
 abbrev pub BlamesReaders : {S R A : Type 0} → Shelf S R → S → S → Run R → Run R → Result A Stop → Type 0
-BlamesReaders shelf old new run run' result = IsTrue (shelf.tells old) → AreReadersKnown (shelf.opened_as old) run → BlamesFile (names_of run'.names) (shelf.blamed old) (shelf.blamed new) result
+BlamesReaders shelf old new run run' result = IsTrue (shelf.tells old) → AreReadersKnown (shelf.opened_as old) run
+    → BlamesFile (names_of run'.names) (shelf.blamed old) (shelf.blamed new) result

@@ -44,7 +44,8 @@ pub record KeepsLevel {R : Type 0} (old new : Option (OpenText R)) : Type 0 wher
   pub depth : number_of text_depth new ≡ number_of text_depth old
   pub may_match : matches_at new ≡ matches_at old
   pub deep : (place : ℕ) → DeepAt place old → DeepAt place new
-  pub named : (opened_as : R → List ℕ) (names : List (List ℕ)) → IsNamed opened_as names old → IsNamed opened_as names new
+  pub named : (opened_as : R → List ℕ) (names : List (List ℕ)) → IsNamed opened_as names old
+      → IsNamed opened_as names new
 
 -- the same of the first line that the texts have left
 pub record PassesTop {R : Type 0} (entry : Option Entry) (old new : Stack R) (before after : Count) (piece more : List ℕ) : Type 0 where

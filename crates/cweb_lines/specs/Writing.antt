@@ -103,8 +103,8 @@ pub record IsOwnStop (stop : Stop) (files : ℕ) : Type 0 where
   pub named : files_named stop ≤ files
 
 -- what a stop leaves over all devices: the one that it tells of failed once more; the file that it names has been opened;
--- the merger keeps it, unless a write failed; then it goes on, where lines are not gathered, and else it may keep a stop of
--- its own
+-- the merger keeps it, unless a write failed; then it goes on, where lines are not gathered, and else it may keep a stop
+-- of its own
 pub record Blames (room : ℕ) (stop : Stop) (old new : Failed) (in_merger : Option Stop) (files : ℕ) : Type 0 where
   pub kind : WritingStops stop
   pub shelf : new.shelf ≡ old.shelf + read_blame stop

@@ -95,7 +95,8 @@ pub fn find_change<S: Shelf>(
 ) -> Result<Option<Option<Opening<S::R>>>, AllocError>
     ensures keeps { KeepsTexts S.Shelf shelf.old shelf.new }
     ensures failed { S.failed shelf.new ≡ S.failed shelf.old }
-    ensures opened { IsTrue (S.tells shelf.old) → IfOk result (IsChangeOpened (S.opened_as shelf.new)) }
+    ensures opened { IsTrue (S.tells shelf.old) →
+        IfOk result (IsChangeOpened (S.opened_as shelf.new)) }
     ensures blamed { IsTrue (S.tells shelf.old) → S.blamed shelf.new ≡ S.blamed shelf.old }
     ensures found { IsTrue (S.tells shelf.old) → IfOk result (λ opened.
         changes_found (S.left shelf.new) opened ≡ change_at (S.texts shelf.old) (option_copied change.entry)) }

@@ -53,7 +53,8 @@ impl<S: Shelf> Merger<S> {
         ensures stops { IsTrue (S.tells shelf.old) → IfErr result (λ stop. StopsAtStart stop
             (web_at (S.texts shelf.old) web.now (option_copied second.entry))
             (change_at (S.texts shelf.old) (option_copied change.entry))) }
-        ensures readers { IsTrue (S.tells shelf.old) → IfOk result (λ merger. KnowsReaders S.Shelf shelf.new merger) }
+        ensures readers { IsTrue (S.tells shelf.old) →
+            IfOk result (λ merger. KnowsReaders S.Shelf shelf.new merger) }
         ensures blamed { IsTrue (S.tells shelf.old) → S.blamed shelf.new ≡ S.blamed shelf.old }
         ensures only { IfErr result (λ stop. StartStops stop) }
     {
@@ -190,7 +191,8 @@ impl<S: Shelf> Merger<S> {
     pub fn halt(&mut self) -> Stop
         ensures stop { stop_in self.old ≡ None → result ≡ Stop.Memory }
         ensures kept { stop_in self.new ≡ Some result }
-        ensures again { IfSome (stop_in self.old) (λ stop. (result ≡ stop) × (self.new ≡ self.old)) }
+        ensures again { IfSome (stop_in self.old) (λ stop.
+            (result ≡ stop) × (self.new ≡ self.old)) }
         ensures readers { (opened_as : S.R → List ℕ) →
             AreReadersKnown opened_as self.old.run → AreReadersKnown opened_as self.new.run }
         ensures so_far { so_far self.new ≡ so_far self.old }

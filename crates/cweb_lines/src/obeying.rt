@@ -31,7 +31,8 @@ fn open<R: Drop>(run: &mut Run<R>, opening: Opening<R>, at: LineAt) -> Result<()
     ensures opens { OnOk result ((names_of run.new.names ≡ names_of run.old.names ++ string_bytes opening.name ∷ []) × Opens run.old.stack run.new.stack opening.reader (length (names_of run.old.names)) at) }
     ensures still { KeepsTold (told_by run.old) (told_by run.new) }
     ensures below { StaysBelow run.old.stack.depth run.old.stack.texts run.new.stack.texts }
-    ensures readers { (opened_as : R → List ℕ) → opened_as opening.reader ≡ string_bytes opening.name →
+    ensures readers { (opened_as : R → List ℕ) →
+        opened_as opening.reader ≡ string_bytes opening.name →
         AreReadersKnown opened_as run.old → AreReadersKnown opened_as run.new }
     ensures inputs { run.new.inputs ≡ run.old.inputs }
     ensures change { run.new.change ≡ run.old.change }

@@ -109,8 +109,11 @@ fn take_trimmed<S: Shelf>(
     requires count { S.failed shelf.old + 1 < 2 ^ 64 }
     ensures keeps { KeepsTexts S.Shelf shelf.old shelf.new }
     ensures failed { Blames (S.failed shelf.old) (S.failed shelf.new) result }
-    ensures opened { IsTrue (S.tells shelf.old) → S.opened_as shelf.new source.new.reader.value ≡ S.opened_as shelf.old source.old.reader.value }
-    ensures blamed { IsTrue (S.tells shelf.old) → BlamesReader (S.opened_as shelf.old source.old.reader.value) (S.blamed shelf.old) (S.blamed shelf.new) result }
+    ensures opened { IsTrue (S.tells shelf.old) →
+        S.opened_as shelf.new source.new.reader.value ≡ S.opened_as shelf.old source.old.reader.value }
+    ensures blamed { IsTrue (S.tells shelf.old) →
+        BlamesReader (S.opened_as shelf.old source.old.reader.value)
+        (S.blamed shelf.old) (S.blamed shelf.new) result }
     ensures taken { IsTrue (S.tells shelf.old) → IfOk result (λ size. TakesTrimmed (left_of S.left shelf.old source.old) size line.new.items (left_of S.left shelf.new source.new)) }
     ensures too_long { IsTrue (S.tells shelf.old) → IsErrOf result LineFault.TooLong → IsLongerThan LINE_LENGTH (left_of S.left shelf.old source.old) }
     ensures line { IfOk result (λ size. OnSome size (IsOneLine line.new.items)) }

@@ -66,7 +66,8 @@ returns-clause-obeys g c = λ tells. OnOk-map c.open.result (λ names source is.
 
 -- what was told stays
 pub returns-then-is_empty-clause-still : goal.returns-then-is_empty-clause-still
-returns-then-is_empty-clause-still g c = told_if c.tell.result _ _ _ c.tell.ensures.told c.tell.ensures.err (ap names_of c.tell.ensures.only.names)
+returns-then-is_empty-clause-still g c = told_if c.tell.result _ _ _ c.tell.ensures.told c.tell.ensures.err
+    (ap names_of c.tell.ensures.only.names)
 
 pub returns-then-at-ge-OPEN_FILES-clause-still : goal.returns-then-at-ge-OPEN_FILES-clause-still
 returns-then-at-ge-OPEN_FILES-clause-still g c =
@@ -86,15 +87,18 @@ pub returns-then-is_empty-clause-readers : goal.returns-then-is_empty-clause-rea
 returns-then-is_empty-clause-readers g c = λ tells known. knows_only c.tell.ensures.only known
 
 pub returns-then-at-ge-OPEN_FILES-clause-readers : goal.returns-then-at-ge-OPEN_FILES-clause-readers
-returns-then-at-ge-OPEN_FILES-clause-readers g c = λ tells known. knows_only c.tell-then-at-ge-OPEN_FILES.ensures.only known
+returns-then-at-ge-OPEN_FILES-clause-readers g c = λ tells known. knows_only
+    c.tell-then-at-ge-OPEN_FILES.ensures.only known
 
 pub returns-in_default-clause-readers : goal.returns-in_default-clause-readers
 returns-in_default-clause-readers g c = λ tells known.
-    knows_only c.tell-in_default.ensures.only (subst (λ f. AreReadersKnown f c.args.run.now) (sym (c.in_ok-opening.ensures.keeps.names tells)) known)
+    knows_only c.tell-in_default.ensures.only
+    (subst (λ f. AreReadersKnown f c.args.run.now) (sym (c.in_ok-opening.ensures.keeps.names tells)) known)
 
 pub returns-clause-readers : goal.returns-clause-readers
 returns-clause-readers g c = λ tells known.
-    c.open.ensures.readers (g.S.Shelf.opened_as c.find.new.shelf) (rw c.in-Some.is at (c.in_ok-opening.ensures.opened tells))
+    c.open.ensures.readers (g.S.Shelf.opened_as c.find.new.shelf)
+    (rw c.in-Some.is at (c.in_ok-opening.ensures.opened tells))
     (subst (λ f. AreReadersKnown f c.args.run.now) (sym (c.in_ok-opening.ensures.keeps.names tells)) known)
 
 pub returns-in_err-opening-clause-readers : goal.returns-in_err-opening-clause-readers

@@ -47,22 +47,31 @@ returns-clause-readers g c = λ opened_as opened known.
     let run = c.args.run.now in
     let more = string_bytes c.args.opening.name ∷ [] in
     let names : names_of c.push.new.self ≡ names_of run.names ++ more = c.in_default.ensures.ok in
-    let file : get_or (names_of run.names ++ more) c.count.result [] ≡ string_bytes c.args.opening.name = get_or_push (names_of run.names) (string_bytes c.args.opening.name) [] c.count.result (sym c.count.ensures) in
-    let top = ap opened_as c.in_ok-source.ensures.reader ∙ opened ∙ sym (ap (λ (ns : List (List ℕ)). get_or ns c.count.result []) names ∙ file) in
-    let others = subst (λ (ns : List (List ℕ)). AreNamed opened_as ns run.stack.texts) (sym names) (named_more opened_as (names_of run.names) more run.stack.texts run.open_known known.texts) in
+    let file : get_or (names_of run.names ++ more) c.count.result [] ≡ string_bytes c.args.opening.name = get_or_push
+    (names_of run.names) (string_bytes c.args.opening.name) [] c.count.result (sym c.count.ensures) in
+    let top = ap opened_as c.in_ok-source.ensures.reader ∙ opened
+    ∙ sym (ap (λ (ns : List (List ℕ)). get_or ns c.count.result []) names ∙ file) in
+    let others = subst (λ (ns : List (List ℕ)). AreNamed opened_as ns run.stack.texts) (sym names)
+    (named_more opened_as (names_of run.names) more run.stack.texts run.open_known known.texts) in
     record {
-      texts = rw c.push-2.ensures.texts (named_set opened_as (names_of c.push.new.self) run.stack.texts run.stack.depth _ others top);
-      change = subst (λ (ns : List (List ℕ)). IsNamed opened_as ns run.change) (sym names) (change_more opened_as (names_of run.names) more run.change run.change_known known.change);
+      texts = rw c.push-2.ensures.texts
+          (named_set opened_as (names_of c.push.new.self) run.stack.texts run.stack.depth _ others top);
+      change = subst (λ (ns : List (List ℕ)). IsNamed opened_as ns run.change) (sym names)
+          (change_more opened_as (names_of run.names) more run.change run.change_known known.change);
     }
 
 pub returns-in-Err-clause-readers : goal.returns-in-Err-clause-readers
 returns-in-Err-clause-readers g c = λ opened_as opened known. record {
-  texts = subst (λ (ns : List (List ℕ)). AreNamed opened_as ns c.args.run.now.stack.texts) (sym c.in-Err.ensures.err) known.texts;
-  change = subst (λ (ns : List (List ℕ)). IsNamed opened_as ns c.args.run.now.change) (sym c.in-Err.ensures.err) known.change;
+  texts = subst (λ (ns : List (List ℕ)). AreNamed opened_as ns c.args.run.now.stack.texts) (sym c.in-Err.ensures.err)
+      known.texts;
+  change = subst (λ (ns : List (List ℕ)). IsNamed opened_as ns c.args.run.now.change) (sym c.in-Err.ensures.err)
+      known.change;
 }
 
 pub returns-in_err-piece-clause-readers : goal.returns-in_err-piece-clause-readers
-returns-in_err-piece-clause-readers g c = λ opened_as opened known. record { texts = known.texts; change = known.change }
+returns-in_err-piece-clause-readers g c = λ opened_as opened known.
+    record { texts = known.texts; change = known.change }
 
 pub returns-in_err-source-clause-readers : goal.returns-in_err-source-clause-readers
-returns-in_err-source-clause-readers g c = λ opened_as opened known. record { texts = known.texts; change = known.change }
+returns-in_err-source-clause-readers g c = λ opened_as opened known.
+    record { texts = known.texts; change = known.change }

@@ -59,4 +59,6 @@ pub returns-clause-named : goal.returns-clause-named
 returns-clause-named g c = λ opened_as names each.
     let within : c.args.stack.now.depth - 1 < length c.args.stack.now.texts = omega arith in
     named_set opened_as names c.args.stack.now.texts (c.args.stack.now.depth - 1) c.pass_from.new.slot each
-    (c.pass_from.ensures.level.named opened_as names (named_at opened_as names c.args.stack.now.texts (c.args.stack.now.depth - 1) c.index-stack-top.result within each))
+    (c.pass_from.ensures.level.named opened_as names
+    (named_at opened_as names c.args.stack.now.texts (c.args.stack.now.depth - 1) c.index-stack-top.result within
+    each))

@@ -15,17 +15,21 @@ returns-in-Err-close-clause-told g c = λ tells. closes_some c.args.begin _ _ _ 
 -- what was told stays
 pub returns-in-Err-close-clause-still : goal.returns-in-Err-close-clause-still
 returns-in-Err-close-clause-still g c =
-    told_then _ _ _ c.in-Ok.ensures.still (told_behind _ _ _ c.in-Err-close.ensures.err.told (ap names_of c.in-Err-close.ensures.only.names))
+    told_then _ _ _ c.in-Ok.ensures.still (told_behind _ _ _ c.in-Err-close.ensures.err.told
+    (ap names_of c.in-Err-close.ensures.only.names))
 
 pub returns-clause-still : goal.returns-clause-still
-returns-clause-still g c = told_then _ _ _ c.in-Ok.ensures.still (told_behind _ _ _ c.in_default.ensures.told (ap names_of c.in_default.ensures.only.names))
+returns-clause-still g c = told_then _ _ _ c.in-Ok.ensures.still
+    (told_behind _ _ _ c.in_default.ensures.told (ap names_of c.in_default.ensures.only.names))
 
 -- the readers
 pub returns-in-Err-close-clause-readers : goal.returns-in-Err-close-clause-readers
-returns-in-Err-close-clause-readers g c = λ tells known. knows_only c.in-Err-close.ensures.only (c.in-Ok.ensures.readers tells known)
+returns-in-Err-close-clause-readers g c = λ tells known. knows_only c.in-Err-close.ensures.only
+    (c.in-Ok.ensures.readers tells known)
 
 pub returns-in-Err-close-clause-blamed : goal.returns-in-Err-close-clause-blamed
-returns-in-Err-close-clause-blamed g c = λ tells known. blames_none _ _ _ _ (ap read_blame c.in-Err-close.ensures.memory) (c.in-Ok.ensures.blamed tells known)
+returns-in-Err-close-clause-blamed g c = λ tells known. blames_none _ _ _ _
+    (ap read_blame c.in-Err-close.ensures.memory) (c.in-Ok.ensures.blamed tells known)
 
 pub returns-clause-readers : goal.returns-clause-readers
 returns-clause-readers g c = λ tells known.

@@ -14,7 +14,8 @@ invariant-texts g l = record {
   others : IsTrue (g.S.Shelf.tells l.fn.shelf) → g.S.Shelf.left l.shelf ≡ g.S.Shelf.left l.fn.shelf;
   names : IsTrue (g.S.Shelf.tells l.fn.shelf) → g.S.Shelf.opened_as l.shelf ≡ g.S.Shelf.opened_as l.fn.shelf;
   named : KeepsNames g.S.Shelf l.fn.shelf l.shelf l.fn.stack.texts l.stack.texts;
-  blamed : IsTrue (g.S.Shelf.tells l.fn.shelf) → (names : List (List ℕ)) → AreNamed (g.S.Shelf.opened_as l.fn.shelf) names l.fn.stack.texts → g.S.Shelf.blamed l.shelf ≡ g.S.Shelf.blamed l.fn.shelf;
+  blamed : IsTrue (g.S.Shelf.tells l.fn.shelf) → (names : List (List ℕ)) → AreNamed (g.S.Shelf.opened_as l.fn.shelf)
+      names l.fn.stack.texts → g.S.Shelf.blamed l.shelf ≡ g.S.Shelf.blamed l.fn.shelf;
   low : l.low ≤ l.stack.depth;
   shallow : l.stack.depth ≤ l.fn.stack.depth;
   numbers : most line_number l.stack.texts ≤ l.limits.lines;

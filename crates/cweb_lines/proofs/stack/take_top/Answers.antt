@@ -124,37 +124,47 @@ returns-clause-deeper g c =
 pub returns-in-Err-clause-named : goal.returns-in-Err-clause-named
 returns-in-Err-clause-named g c = λ tells names each.
     let within : c.args.stack.now.depth - 1 < length c.args.stack.now.texts = omega arith in
-    let slot = c.in-Err.ensures.named tells names (named_at _ names c.args.stack.now.texts (c.args.stack.now.depth - 1) c.index-stack-top.result within each) in
+    let slot = c.in-Err.ensures.named tells names
+    (named_at _ names c.args.stack.now.texts (c.args.stack.now.depth - 1) c.index-stack-top.result within each) in
     let others = subst (λ f. AreNamed f names c.args.stack.now.texts) (sym (c.in-Err.ensures.keeps.names tells)) each in
-    named_set (g.S.Shelf.opened_as c.take_from.new.shelf) names c.args.stack.now.texts (c.args.stack.now.depth - 1) c.take_from.new.slot others slot
+    named_set (g.S.Shelf.opened_as c.take_from.new.shelf) names c.args.stack.now.texts (c.args.stack.now.depth - 1)
+    c.take_from.new.slot others slot
 
 pub returns-in-Err-clause-blamed : goal.returns-in-Err-clause-blamed
 returns-in-Err-clause-blamed g c = λ tells names each.
     let within : c.args.stack.now.depth - 1 < length c.args.stack.now.texts = omega arith in
-    c.in-Err.ensures.blamed tells names (named_at _ names c.args.stack.now.texts (c.args.stack.now.depth - 1) c.index-stack-top.result within each)
+    c.in-Err.ensures.blamed tells names (named_at _ names c.args.stack.now.texts (c.args.stack.now.depth - 1)
+    c.index-stack-top.result within each)
 
 pub returns-in_default-clause-named : goal.returns-in_default-clause-named
 returns-in_default-clause-named g c = λ tells names each.
     let within : c.args.stack.now.depth - 1 < length c.args.stack.now.texts = omega arith in
-    let slot = c.in-Ok.ensures.named tells names (named_at _ names c.args.stack.now.texts (c.args.stack.now.depth - 1) c.index-stack-top.result within each) in
+    let slot = c.in-Ok.ensures.named tells names
+    (named_at _ names c.args.stack.now.texts (c.args.stack.now.depth - 1) c.index-stack-top.result within each) in
     let others = subst (λ f. AreNamed f names c.args.stack.now.texts) (sym (c.in-Ok.ensures.keeps.names tells)) each in
     rw c.close.ensures.texts
-    (named_set (g.S.Shelf.opened_as c.take_from.new.shelf) names (set c.args.stack.now.texts (c.args.stack.now.depth - 1) c.take_from.new.slot) (c.args.stack.now.depth - 1) None
-    (named_set (g.S.Shelf.opened_as c.take_from.new.shelf) names c.args.stack.now.texts (c.args.stack.now.depth - 1) c.take_from.new.slot others slot) tt)
+    (named_set (g.S.Shelf.opened_as c.take_from.new.shelf) names
+    (set c.args.stack.now.texts (c.args.stack.now.depth - 1) c.take_from.new.slot) (c.args.stack.now.depth - 1) None
+    (named_set (g.S.Shelf.opened_as c.take_from.new.shelf) names c.args.stack.now.texts (c.args.stack.now.depth - 1)
+    c.take_from.new.slot others slot) tt)
 
 pub returns-in_default-clause-blamed : goal.returns-in_default-clause-blamed
 returns-in_default-clause-blamed g c = λ tells names each.
     let within : c.args.stack.now.depth - 1 < length c.args.stack.now.texts = omega arith in
-    c.in-Ok.ensures.blamed tells names (named_at _ names c.args.stack.now.texts (c.args.stack.now.depth - 1) c.index-stack-top.result within each)
+    c.in-Ok.ensures.blamed tells names (named_at _ names c.args.stack.now.texts (c.args.stack.now.depth - 1)
+    c.index-stack-top.result within each)
 
 pub returns-clause-named : goal.returns-clause-named
 returns-clause-named g c = λ tells names each.
     let within : c.args.stack.now.depth - 1 < length c.args.stack.now.texts = omega arith in
-    let slot = c.in-Ok.ensures.named tells names (named_at _ names c.args.stack.now.texts (c.args.stack.now.depth - 1) c.index-stack-top.result within each) in
+    let slot = c.in-Ok.ensures.named tells names
+    (named_at _ names c.args.stack.now.texts (c.args.stack.now.depth - 1) c.index-stack-top.result within each) in
     let others = subst (λ f. AreNamed f names c.args.stack.now.texts) (sym (c.in-Ok.ensures.keeps.names tells)) each in
-    named_set (g.S.Shelf.opened_as c.take_from.new.shelf) names c.args.stack.now.texts (c.args.stack.now.depth - 1) c.take_from.new.slot others slot
+    named_set (g.S.Shelf.opened_as c.take_from.new.shelf) names c.args.stack.now.texts (c.args.stack.now.depth - 1)
+    c.take_from.new.slot others slot
 
 pub returns-clause-blamed : goal.returns-clause-blamed
 returns-clause-blamed g c = λ tells names each.
     let within : c.args.stack.now.depth - 1 < length c.args.stack.now.texts = omega arith in
-    c.in-Ok.ensures.blamed tells names (named_at _ names c.args.stack.now.texts (c.args.stack.now.depth - 1) c.index-stack-top.result within each)
+    c.in-Ok.ensures.blamed tells names (named_at _ names c.args.stack.now.texts (c.args.stack.now.depth - 1)
+    c.index-stack-top.result within each)

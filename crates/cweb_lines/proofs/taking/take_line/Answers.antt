@@ -46,7 +46,8 @@ pub returns-in-Err-add-clause-named : goal.returns-in-Err-add-clause-named
 returns-in-Err-add-clause-named g c = λ tells names is. c.in-Ok.ensures.opened tells ∙ is
 
 pub returns-in-Err-add-clause-blamed : goal.returns-in-Err-add-clause-blamed
-returns-in-Err-add-clause-blamed g c = λ tells names is. blames_none names _ _ _ (ap read_blame c.in-Err-add.ensures.stop) (c.in-Ok.ensures.blamed tells)
+returns-in-Err-add-clause-blamed g c = λ tells names is. blames_none names _ _ _
+    (ap read_blame c.in-Err-add.ensures.stop) (c.in-Ok.ensures.blamed tells)
 
 pub returns-clause-named : goal.returns-clause-named
 returns-clause-named g c = λ tells names is. c.in-Ok.ensures.opened tells ∙ is

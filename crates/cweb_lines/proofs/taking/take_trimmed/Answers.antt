@@ -15,7 +15,8 @@ returns g c =
     record {
       keeps = c.in-Ok.ensures.keeps;
       failed = search rules;
-      opened = λ tells. c.in-Ok.ensures.opened tells ∙ ap (g.S.Shelf.opened_as c.args.shelf.now) c.in_ok-size.ensures.reader;
+      opened = λ tells. c.in-Ok.ensures.opened tells ∙ ap (g.S.Shelf.opened_as c.args.shelf.now)
+          c.in_ok-size.ensures.reader;
       blamed = c.in-Ok.ensures.blamed;
       taken = λ tells. record {
         taken = c.in-Ok.taken;
@@ -32,8 +33,11 @@ returns g c =
     }
 
 pub returns-in-Err-clause-opened : goal.returns-in-Err-clause-opened
-returns-in-Err-clause-opened g c = λ tells. c.in-Err.ensures.opened tells ∙ ap (g.S.Shelf.opened_as c.args.shelf.now) c.in_ok-size.ensures.reader
+returns-in-Err-clause-opened g c = λ tells. c.in-Err.ensures.opened tells ∙ ap (g.S.Shelf.opened_as c.args.shelf.now)
+    c.in_ok-size.ensures.reader
 
 pub returns-in-Err-clause-blamed : goal.returns-in-Err-clause-blamed
 returns-in-Err-clause-blamed g c = λ tells.
-    subst (λ r. BlamesReader {A = ℕ} (g.S.Shelf.opened_as c.args.shelf.now r) (g.S.Shelf.blamed c.args.shelf.now) (g.S.Shelf.blamed c.next_line.new.shelf) (Err c.in-Err.fault)) c.in_ok-size.ensures.reader (c.in-Err.ensures.blamed tells)
+    subst (λ r. BlamesReader {A = ℕ} (g.S.Shelf.opened_as c.args.shelf.now r) (g.S.Shelf.blamed c.args.shelf.now)
+    (g.S.Shelf.blamed c.next_line.new.shelf) (Err c.in-Err.fault)) c.in_ok-size.ensures.reader
+    (c.in-Err.ensures.blamed tells)

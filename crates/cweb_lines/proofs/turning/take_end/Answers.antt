@@ -29,7 +29,8 @@ pub returns-in-Err-clause-still : goal.returns-in-Err-clause-still
 returns-in-Err-clause-still g c = told_same _ _ c.in-Err.ensures.err (ap names_of c.in-Err.ensures.only.names)
 
 pub returns-in_default-clause-still : goal.returns-in_default-clause-still
-returns-in_default-clause-still g c = told_behind _ _ _ c.in_default.ensures.told (ap names_of c.in_default.ensures.only.names)
+returns-in_default-clause-still g c = told_behind _ _ _ c.in_default.ensures.told
+    (ap names_of c.in_default.ensures.only.names)
 
 -- the readers
 pub returns-in-Err-clause-readers : goal.returns-in-Err-clause-readers

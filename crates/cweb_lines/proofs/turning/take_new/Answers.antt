@@ -67,11 +67,13 @@ returns-in-Err-clause-still g c = told_took c.in-Err.ensures.only
 
 pub returns-in-Err-tell-clause-still : goal.returns-in-Err-tell-clause-still
 returns-in-Err-tell-clause-still g c =
-    told_then _ _ _ (told_took c.in-Ok.ensures.only) (told_same _ _ c.in-Err-tell.ensures.err (ap names_of c.in-Err-tell.ensures.only.names))
+    told_then _ _ _ (told_took c.in-Ok.ensures.only)
+    (told_same _ _ c.in-Err-tell.ensures.err (ap names_of c.in-Err-tell.ensures.only.names))
 
 pub returns-in_default-clause-still : goal.returns-in_default-clause-still
 returns-in_default-clause-still g c =
-    told_then _ _ _ (told_took c.in-Ok.ensures.only) (told_behind _ _ _ c.in_default-tell.ensures.told (ap names_of c.in_default-tell.ensures.only.names))
+    told_then _ _ _ (told_took c.in-Ok.ensures.only)
+    (told_behind _ _ _ c.in_default-tell.ensures.told (ap names_of c.in_default-tell.ensures.only.names))
 
 pub returns-in-None-clause-still : goal.returns-in-None-clause-still
 returns-in-None-clause-still g c = told_then _ _ _ (told_took c.in-Ok.ensures.only) c.give.ensures.still
@@ -81,18 +83,22 @@ returns-then-eq-clause-still g c = told_took c.in-Ok.ensures.only
 
 pub returns-in-Err-tell-2-clause-still : goal.returns-in-Err-tell-2-clause-still
 returns-in-Err-tell-2-clause-still g c =
-    told_then _ _ _ (told_took c.in-Ok.ensures.only) (told_same _ _ c.in-Err-tell-2.ensures.err (ap names_of c.in-Err-tell-2.ensures.only.names))
+    told_then _ _ _ (told_took c.in-Ok.ensures.only)
+    (told_same _ _ c.in-Err-tell-2.ensures.err (ap names_of c.in-Err-tell-2.ensures.only.names))
 
 pub returns-in_default-tell-2-clause-still : goal.returns-in_default-tell-2-clause-still
 returns-in_default-tell-2-clause-still g c =
-    told_then _ _ _ (told_took c.in-Ok.ensures.only) (told_behind _ _ _ c.in_default-tell-2.ensures.told (ap names_of c.in_default-tell-2.ensures.only.names))
+    told_then _ _ _ (told_took c.in-Ok.ensures.only) (told_behind _ _ _ c.in_default-tell-2.ensures.told
+    (ap names_of c.in_default-tell-2.ensures.only.names))
 
 -- the readers
 pub returns-in-Err-tell-clause-readers : goal.returns-in-Err-tell-clause-readers
-returns-in-Err-tell-clause-readers g c = λ tells known. knows_only c.in-Err-tell.ensures.only (c.in-Ok.ensures.readers tells known)
+returns-in-Err-tell-clause-readers g c = λ tells known. knows_only c.in-Err-tell.ensures.only
+    (c.in-Ok.ensures.readers tells known)
 
 pub returns-in-Err-tell-clause-blamed : goal.returns-in-Err-tell-clause-blamed
-returns-in-Err-tell-clause-blamed g c = λ tells known. blames_none _ _ _ _ (ap read_blame c.in-Err-tell.ensures.memory) (c.in-Ok.ensures.blamed tells known)
+returns-in-Err-tell-clause-blamed g c = λ tells known. blames_none _ _ _ _
+    (ap read_blame c.in-Err-tell.ensures.memory) (c.in-Ok.ensures.blamed tells known)
 
 pub returns-in_default-clause-readers : goal.returns-in_default-clause-readers
 returns-in_default-clause-readers g c = λ tells known.
@@ -100,11 +106,14 @@ returns-in_default-clause-readers g c = λ tells known.
     record { texts = told.texts; change = told.change }
 
 pub returns-in-None-clause-readers : goal.returns-in-None-clause-readers
-returns-in-None-clause-readers g c = λ tells known. c.give.ensures.readers (subst IsTrue (sym c.in-Ok.ensures.keeps.tells) tells) (c.in-Ok.ensures.readers tells known)
+returns-in-None-clause-readers g c = λ tells known. c.give.ensures.readers
+    (subst IsTrue (sym c.in-Ok.ensures.keeps.tells) tells) (c.in-Ok.ensures.readers tells known)
 
 pub returns-in-None-clause-blamed : goal.returns-in-None-clause-blamed
 returns-in-None-clause-blamed g c = λ tells known.
-    blames_memory c.give.result _ _ _ c.give.ensures.memory (c.give.ensures.blamed (subst IsTrue (sym c.in-Ok.ensures.keeps.tells) tells) ∙ c.in-Ok.ensures.blamed tells known)
+    blames_memory c.give.result _ _ _ c.give.ensures.memory
+    (c.give.ensures.blamed (subst IsTrue (sym c.in-Ok.ensures.keeps.tells) tells)
+    ∙ c.in-Ok.ensures.blamed tells known)
 
 pub returns-then-eq-clause-readers : goal.returns-then-eq-clause-readers
 returns-then-eq-clause-readers g c = λ tells known.
@@ -112,10 +121,13 @@ returns-then-eq-clause-readers g c = λ tells known.
     record { texts = taken.texts; change = taken.change }
 
 pub returns-in-Err-tell-2-clause-readers : goal.returns-in-Err-tell-2-clause-readers
-returns-in-Err-tell-2-clause-readers g c = λ tells known. knows_only c.in-Err-tell-2.ensures.only (c.in-Ok.ensures.readers tells known)
+returns-in-Err-tell-2-clause-readers g c = λ tells known. knows_only c.in-Err-tell-2.ensures.only
+    (c.in-Ok.ensures.readers tells known)
 
 pub returns-in-Err-tell-2-clause-blamed : goal.returns-in-Err-tell-2-clause-blamed
-returns-in-Err-tell-2-clause-blamed g c = λ tells known. blames_none _ _ _ _ (ap read_blame c.in-Err-tell-2.ensures.memory) (c.in-Ok.ensures.blamed tells known)
+returns-in-Err-tell-2-clause-blamed g c = λ tells known. blames_none _ _ _ _
+    (ap read_blame c.in-Err-tell-2.ensures.memory) (c.in-Ok.ensures.blamed tells known)
 
 pub returns-in_default-tell-2-clause-readers : goal.returns-in_default-tell-2-clause-readers
-returns-in_default-tell-2-clause-readers g c = λ tells known. knows_only c.in_default-tell-2.ensures.only (c.in-Ok.ensures.readers tells known)
+returns-in_default-tell-2-clause-readers g c = λ tells known. knows_only c.in_default-tell-2.ensures.only
+    (c.in-Ok.ensures.readers tells known)

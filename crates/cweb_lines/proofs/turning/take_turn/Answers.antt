@@ -123,35 +123,48 @@ pub returns-in_default-begun_at-clause-still : goal.returns-in_default-begun_at-
 returns-in_default-begun_at-clause-still g c = told_then _ _ _ (told_took c.in-Ok.ensures.only) c.give.ensures.still
 
 pub returns-in-Err-begin_change-clause-still : goal.returns-in-Err-begin_change-clause-still
-returns-in-Err-begin_change-clause-still g c = told_then _ _ _ (told_took c.in-Ok.ensures.only) c.in-Err-begin_change.ensures.still
+returns-in-Err-begin_change-clause-still g c = told_then _ _ _ (told_took c.in-Ok.ensures.only)
+    c.in-Err-begin_change.ensures.still
 
 pub returns-clause-still : goal.returns-clause-still
 returns-clause-still g c = told_then _ _ _ (told_took c.in-Ok.ensures.only) c.in_default-begin_change.ensures.still
 
 -- the readers
 pub returns-in_default-taken-clause-readers : goal.returns-in_default-taken-clause-readers
-returns-in_default-taken-clause-readers g c = λ tells known. c.take_end.ensures.readers (subst IsTrue (sym c.in-Ok.ensures.keeps.tells) tells) (c.in-Ok.ensures.readers tells known)
+returns-in_default-taken-clause-readers g c = λ tells known. c.take_end.ensures.readers
+    (subst IsTrue (sym c.in-Ok.ensures.keeps.tells) tells) (c.in-Ok.ensures.readers tells known)
 
 pub returns-in_default-taken-clause-blamed : goal.returns-in_default-taken-clause-blamed
 returns-in_default-taken-clause-blamed g c = λ tells known.
-    blames_after c.take_end.result _ _ _ _ (c.in-Ok.ensures.blamed tells known) (c.take_end.ensures.blamed (subst IsTrue (sym c.in-Ok.ensures.keeps.tells) tells) (c.in-Ok.ensures.readers tells known))
+    blames_after c.take_end.result _ _ _ _ (c.in-Ok.ensures.blamed tells known)
+    (c.take_end.ensures.blamed (subst IsTrue (sym c.in-Ok.ensures.keeps.tells) tells)
+    (c.in-Ok.ensures.readers tells known))
 
 pub returns-in_default-begun_at-clause-readers : goal.returns-in_default-begun_at-clause-readers
-returns-in_default-begun_at-clause-readers g c = λ tells known. c.give.ensures.readers (subst IsTrue (sym c.in-Ok.ensures.keeps.tells) tells) (c.in-Ok.ensures.readers tells known)
+returns-in_default-begun_at-clause-readers g c = λ tells known. c.give.ensures.readers
+    (subst IsTrue (sym c.in-Ok.ensures.keeps.tells) tells) (c.in-Ok.ensures.readers tells known)
 
 pub returns-in_default-begun_at-clause-blamed : goal.returns-in_default-begun_at-clause-blamed
 returns-in_default-begun_at-clause-blamed g c = λ tells known.
-    blames_memory c.give.result _ _ _ c.give.ensures.memory (c.give.ensures.blamed (subst IsTrue (sym c.in-Ok.ensures.keeps.tells) tells) ∙ c.in-Ok.ensures.blamed tells known)
+    blames_memory c.give.result _ _ _ c.give.ensures.memory
+    (c.give.ensures.blamed (subst IsTrue (sym c.in-Ok.ensures.keeps.tells) tells)
+    ∙ c.in-Ok.ensures.blamed tells known)
 
 pub returns-in-Err-begin_change-clause-readers : goal.returns-in-Err-begin_change-clause-readers
-returns-in-Err-begin_change-clause-readers g c = λ tells known. c.in-Err-begin_change.ensures.readers (subst IsTrue (sym c.in-Ok.ensures.keeps.tells) tells) (c.in-Ok.ensures.readers tells known)
+returns-in-Err-begin_change-clause-readers g c = λ tells known. c.in-Err-begin_change.ensures.readers
+    (subst IsTrue (sym c.in-Ok.ensures.keeps.tells) tells) (c.in-Ok.ensures.readers tells known)
 
 pub returns-in-Err-begin_change-clause-blamed : goal.returns-in-Err-begin_change-clause-blamed
 returns-in-Err-begin_change-clause-blamed g c = λ tells known.
-    stop_after c.in-Err-begin_change.stop _ _ _ _ (c.in-Ok.ensures.blamed tells known) (c.in-Err-begin_change.ensures.blamed (subst IsTrue (sym c.in-Ok.ensures.keeps.tells) tells) (c.in-Ok.ensures.readers tells known))
+    stop_after c.in-Err-begin_change.stop _ _ _ _ (c.in-Ok.ensures.blamed tells known)
+    (c.in-Err-begin_change.ensures.blamed (subst IsTrue (sym c.in-Ok.ensures.keeps.tells) tells)
+    (c.in-Ok.ensures.readers tells known))
 
 pub returns-clause-readers : goal.returns-clause-readers
-returns-clause-readers g c = λ tells known. c.in_default-begin_change.ensures.readers (subst IsTrue (sym c.in-Ok.ensures.keeps.tells) tells) (c.in-Ok.ensures.readers tells known)
+returns-clause-readers g c = λ tells known. c.in_default-begin_change.ensures.readers
+    (subst IsTrue (sym c.in-Ok.ensures.keeps.tells) tells) (c.in-Ok.ensures.readers tells known)
 
 pub returns-clause-blamed : goal.returns-clause-blamed
-returns-clause-blamed g c = λ tells known. c.in_default-begin_change.ensures.blamed (subst IsTrue (sym c.in-Ok.ensures.keeps.tells) tells) (c.in-Ok.ensures.readers tells known) ∙ c.in-Ok.ensures.blamed tells known
+returns-clause-blamed g c = λ tells known. c.in_default-begin_change.ensures.blamed
+    (subst IsTrue (sym c.in-Ok.ensures.keeps.tells) tells) (c.in-Ok.ensures.readers tells known)
+    ∙ c.in-Ok.ensures.blamed tells known

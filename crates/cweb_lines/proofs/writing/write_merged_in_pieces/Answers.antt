@@ -92,14 +92,19 @@ returns-in-Err-gather-clause-stops g c = λ tells before.
     let gathered = c.lines.invariant.gathered tells in
     record {
       why = halted g.W.Sink _ _ c.lines.invariant.place _ _ _ _ _ _ gathered c.write_rest-in-Err-gather.result _ c.write_rest-in-Err-gather.new.out
-          (rw (c.halt.ensures.stop c.in-Ok.ensures.leaves.running, c.deref-in-Err-gather.ensures.value, c.in-Err-gather.ensures.err) at c.write_rest-in-Err-gather.ensures.rest);
+          (rw (
+            c.halt.ensures.stop c.in-Ok.ensures.leaves.running,
+            c.deref-in-Err-gather.ensures.value,
+            c.in-Err-gather.ensures.err,
+          ) at c.write_rest-in-Err-gather.ensures.rest);
       told = tells_same _ _ _ _ c.halt.ensures.so_far (tells_more _ _ _ _ _ _ gathered.gives (tells_some _ _ _ _ _ next));
     }
 
 -- a write failed
 pub returns-in-Err-pass_on-clause-grows : goal.returns-in-Err-pass_on-clause-grows
 returns-in-Err-pass_on-clause-grows g c = record {
-  told = told_then _ _ _ c.lines.invariant.told (told_then _ _ _ c.in-Ok.ensures.grows.told (told_passed c.pass_lines.ensures.passes));
+  told = told_then _ _ _ c.lines.invariant.told
+      (told_then _ _ _ c.in-Ok.ensures.grows.told (told_passed c.pass_lines.ensures.passes));
   lines = c.pass_lines.new.self.run.limits.few;
   bytes = c.pass_lines.new.self.run.limits.small;
 }
@@ -145,9 +150,13 @@ lines-preserved g c = record {
   out_failed = search rules;
   running = c.pass_lines.ensures.passes.stopped ∙ c.in-Ok.ensures.leaves.running;
   before = c.lines.invariant.before;
-  readers = λ tells known. c.pass_lines.ensures.passes.readers _ (c.in-Ok.ensures.readers (keeps_told g.S.Shelf _ _ c.lines.invariant.keeps tells) (c.lines.invariant.readers tells known));
-  blamed = λ tells known. c.in-Ok.ensures.blamed (keeps_told g.S.Shelf _ _ c.lines.invariant.keeps tells) (c.lines.invariant.readers tells known) c.lines.invariant.running ∙ c.lines.invariant.blamed tells known;
-  told = told_then _ _ _ c.lines.invariant.told (told_then _ _ _ c.in-Ok.ensures.grows.told (told_passed c.pass_lines.ensures.passes));
+  readers = λ tells known. c.pass_lines.ensures.passes.readers _
+      (c.in-Ok.ensures.readers (keeps_told g.S.Shelf _ _ c.lines.invariant.keeps tells)
+      (c.lines.invariant.readers tells known));
+  blamed = λ tells known. c.in-Ok.ensures.blamed (keeps_told g.S.Shelf _ _ c.lines.invariant.keeps tells)
+      (c.lines.invariant.readers tells known) c.lines.invariant.running ∙ c.lines.invariant.blamed tells known;
+  told = told_then _ _ _ c.lines.invariant.told
+      (told_then _ _ _ c.in-Ok.ensures.grows.told (told_passed c.pass_lines.ensures.passes));
   empty = λ none. emptied c.args.room c.pass_lines.new.piece.items c.pass_on.new.piece.items (Writes g.W.Sink c.lines.out c.pass_on.new.out) c.in_default-pass_on.ensures.ok none;
   gathered = λ tells.
       let next = rw c.in-Some-next.is at (c.in-Ok.ensures.next (keeps_told g.S.Shelf _ _ c.lines.invariant.keeps tells)) in
@@ -165,7 +174,11 @@ lines-smaller g c =
 
 -- what was told stays
 pub returns-in-Some-clause-grows : goal.returns-in-Some-clause-grows
-returns-in-Some-clause-grows g c = record { told = told_same _ _ refl refl; lines = c.args.merger.now.run.limits.few; bytes = c.args.merger.now.run.limits.small }
+returns-in-Some-clause-grows g c = record {
+  told = told_same _ _ refl refl;
+  lines = c.args.merger.now.run.limits.few;
+  bytes = c.args.merger.now.run.limits.small;
+}
 
 pub returns-in-Err-clause-grows : goal.returns-in-Err-clause-grows
 returns-in-Err-clause-grows g c = record {
@@ -190,42 +203,62 @@ returns-in_default-next-clause-grows g c = record {
 
 pub returns-in-Err-gather-clause-grows : goal.returns-in-Err-gather-clause-grows
 returns-in-Err-gather-clause-grows g c = record {
-  told = told_then _ _ _ c.lines.invariant.told (told_then _ _ _ c.in-Ok.ensures.grows.told (told_halted c.halt.ensures.so_far));
+  told = told_then _ _ _ c.lines.invariant.told
+      (told_then _ _ _ c.in-Ok.ensures.grows.told (told_halted c.halt.ensures.so_far));
   lines = c.halt.new.self.run.limits.few;
   bytes = c.halt.new.self.run.limits.small;
 }
 
 -- the readers
 pub returns-in-Err-clause-readers : goal.returns-in-Err-clause-readers
-returns-in-Err-clause-readers g c = λ tells known. c.in-Err.ensures.readers (keeps_told g.S.Shelf _ _ c.lines.invariant.keeps tells) (c.lines.invariant.readers tells known)
+returns-in-Err-clause-readers g c = λ tells known. c.in-Err.ensures.readers
+    (keeps_told g.S.Shelf _ _ c.lines.invariant.keeps tells) (c.lines.invariant.readers tells known)
 
 pub returns-in-Err-clause-blamed : goal.returns-in-Err-clause-blamed
 returns-in-Err-clause-blamed g c = λ tells known before.
     stop_after c.write_rest.result _ _ _ _ (c.lines.invariant.blamed tells known)
-    (blames_rest _ _ _ c.in-Err.stop c.write_rest.result _ _ c.write_rest.ensures.rest (c.in-Err.ensures.blamed (keeps_told g.S.Shelf _ _ c.lines.invariant.keeps tells) (c.lines.invariant.readers tells known) c.lines.invariant.running))
+    (blames_rest _ _ _ c.in-Err.stop c.write_rest.result _ _ c.write_rest.ensures.rest
+    (c.in-Err.ensures.blamed (keeps_told g.S.Shelf _ _ c.lines.invariant.keeps tells)
+    (c.lines.invariant.readers tells known) c.lines.invariant.running))
 
 pub returns-in-Err-write_piece-clause-readers : goal.returns-in-Err-write_piece-clause-readers
-returns-in-Err-write_piece-clause-readers g c = λ tells known. c.in-Ok.ensures.readers (keeps_told g.S.Shelf _ _ c.lines.invariant.keeps tells) (c.lines.invariant.readers tells known)
+returns-in-Err-write_piece-clause-readers g c = λ tells known. c.in-Ok.ensures.readers
+    (keeps_told g.S.Shelf _ _ c.lines.invariant.keeps tells) (c.lines.invariant.readers tells known)
 
 pub returns-in-Err-write_piece-clause-blamed : goal.returns-in-Err-write_piece-clause-blamed
-returns-in-Err-write_piece-clause-blamed g c = λ tells known before. blames_none _ _ _ _ (ap read_blame c.in-Err-write_piece.ensures.stop) (c.in-Ok.ensures.blamed (keeps_told g.S.Shelf _ _ c.lines.invariant.keeps tells) (c.lines.invariant.readers tells known) c.lines.invariant.running ∙ c.lines.invariant.blamed tells known)
+returns-in-Err-write_piece-clause-blamed g c = λ tells known before. blames_none _ _ _ _
+    (ap read_blame c.in-Err-write_piece.ensures.stop)
+    (c.in-Ok.ensures.blamed (keeps_told g.S.Shelf _ _ c.lines.invariant.keeps tells)
+    (c.lines.invariant.readers tells known) c.lines.invariant.running ∙ c.lines.invariant.blamed tells known)
 
 pub returns-in_default-next-clause-readers : goal.returns-in_default-next-clause-readers
-returns-in_default-next-clause-readers g c = λ tells known. c.in-Ok.ensures.readers (keeps_told g.S.Shelf _ _ c.lines.invariant.keeps tells) (c.lines.invariant.readers tells known)
+returns-in_default-next-clause-readers g c = λ tells known. c.in-Ok.ensures.readers
+    (keeps_told g.S.Shelf _ _ c.lines.invariant.keeps tells) (c.lines.invariant.readers tells known)
 
 pub returns-in_default-next-clause-blamed : goal.returns-in_default-next-clause-blamed
-returns-in_default-next-clause-blamed g c = λ tells known before. c.in-Ok.ensures.blamed (keeps_told g.S.Shelf _ _ c.lines.invariant.keeps tells) (c.lines.invariant.readers tells known) c.lines.invariant.running ∙ c.lines.invariant.blamed tells known
+returns-in_default-next-clause-blamed g c = λ tells known before. c.in-Ok.ensures.blamed
+    (keeps_told g.S.Shelf _ _ c.lines.invariant.keeps tells) (c.lines.invariant.readers tells known)
+    c.lines.invariant.running ∙ c.lines.invariant.blamed tells known
 
 pub returns-in-Err-gather-clause-readers : goal.returns-in-Err-gather-clause-readers
-returns-in-Err-gather-clause-readers g c = λ tells known. c.halt.ensures.readers _ (c.in-Ok.ensures.readers (keeps_told g.S.Shelf _ _ c.lines.invariant.keeps tells) (c.lines.invariant.readers tells known))
+returns-in-Err-gather-clause-readers g c = λ tells known. c.halt.ensures.readers _
+    (c.in-Ok.ensures.readers (keeps_told g.S.Shelf _ _ c.lines.invariant.keeps tells)
+    (c.lines.invariant.readers tells known))
 
 pub returns-in-Err-gather-clause-blamed : goal.returns-in-Err-gather-clause-blamed
 returns-in-Err-gather-clause-blamed g c = λ tells known before.
     blames_rest _ _ _ c.halt.result c.write_rest-in-Err-gather.result _ _ c.write_rest-in-Err-gather.ensures.rest
-    (blames_none _ _ _ _ (ap read_blame (c.halt.ensures.stop c.in-Ok.ensures.leaves.running)) (c.in-Ok.ensures.blamed (keeps_told g.S.Shelf _ _ c.lines.invariant.keeps tells) (c.lines.invariant.readers tells known) c.lines.invariant.running ∙ c.lines.invariant.blamed tells known))
+    (blames_none _ _ _ _ (ap read_blame (c.halt.ensures.stop c.in-Ok.ensures.leaves.running))
+    (c.in-Ok.ensures.blamed (keeps_told g.S.Shelf _ _ c.lines.invariant.keeps tells)
+    (c.lines.invariant.readers tells known) c.lines.invariant.running ∙ c.lines.invariant.blamed tells known))
 
 pub returns-in-Err-pass_on-clause-readers : goal.returns-in-Err-pass_on-clause-readers
-returns-in-Err-pass_on-clause-readers g c = λ tells known. c.pass_lines.ensures.passes.readers _ (c.in-Ok.ensures.readers (keeps_told g.S.Shelf _ _ c.lines.invariant.keeps tells) (c.lines.invariant.readers tells known))
+returns-in-Err-pass_on-clause-readers g c = λ tells known. c.pass_lines.ensures.passes.readers _
+    (c.in-Ok.ensures.readers (keeps_told g.S.Shelf _ _ c.lines.invariant.keeps tells)
+    (c.lines.invariant.readers tells known))
 
 pub returns-in-Err-pass_on-clause-blamed : goal.returns-in-Err-pass_on-clause-blamed
-returns-in-Err-pass_on-clause-blamed g c = λ tells known before. blames_none _ _ _ _ (ap read_blame c.in-Err-pass_on.ensures.stop) (c.in-Ok.ensures.blamed (keeps_told g.S.Shelf _ _ c.lines.invariant.keeps tells) (c.lines.invariant.readers tells known) c.lines.invariant.running ∙ c.lines.invariant.blamed tells known)
+returns-in-Err-pass_on-clause-blamed g c = λ tells known before. blames_none _ _ _ _
+    (ap read_blame c.in-Err-pass_on.ensures.stop)
+    (c.in-Ok.ensures.blamed (keeps_told g.S.Shelf _ _ c.lines.invariant.keeps tells)
+    (c.lines.invariant.readers tells known) c.lines.invariant.running ∙ c.lines.invariant.blamed tells known)

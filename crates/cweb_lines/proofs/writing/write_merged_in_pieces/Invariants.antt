@@ -14,8 +14,10 @@ invariant-lines g l = record {
   out_failed : g.W.Sink.failed l.out ≡ g.W.Sink.failed l.fn.out;
   running : stop_in l.merger ≡ None;
   before : stop_in l.fn.merger ≡ None;
-  readers : IsTrue (g.S.Shelf.tells l.fn.shelf) → KnowsReaders g.S.Shelf l.fn.shelf l.fn.merger → KnowsReaders g.S.Shelf l.shelf l.merger;
-  blamed : IsTrue (g.S.Shelf.tells l.fn.shelf) → KnowsReaders g.S.Shelf l.fn.shelf l.fn.merger → g.S.Shelf.blamed l.shelf ≡ g.S.Shelf.blamed l.fn.shelf;
+  readers : IsTrue (g.S.Shelf.tells l.fn.shelf) → KnowsReaders g.S.Shelf l.fn.shelf l.fn.merger
+      → KnowsReaders g.S.Shelf l.shelf l.merger;
+  blamed : IsTrue (g.S.Shelf.tells l.fn.shelf) → KnowsReaders g.S.Shelf l.fn.shelf l.fn.merger
+      → g.S.Shelf.blamed l.shelf ≡ g.S.Shelf.blamed l.fn.shelf;
   told : KeepsTold (so_far l.fn.merger) (so_far l.merger);
   empty : l.room ≡ 0 → l.piece.items ≡ [];
   gathered : IsTrue (g.S.Shelf.tells l.fn.shelf) → Gathered l.room (so_far l.fn.merger) (so_far l.merger)

@@ -9,11 +9,14 @@ loop-i-preserved c =
     let test = c.eq.ensures ∙ ap (λ (s : List ℕ). bytes_eq s c.args.name.now) c.as_str.ensures.value in
     elim c.if-eq.branch [
       | then-eq w ↦ rw w.found-is (record {
-        found = finds_more c.deref-entry-items.result.now c.loop-i.i c.entry-item.result c.args.name.now c.loop-i.found c.loop-i-test.true c.entry-item.is c.loop-i.invariant.found true (sym w.if-eq.true ∙ test);
-        opened = opened_here c.deref-entry-items.result.now c.loop-i.i c.entry-item.result c.args.name.now c.loop-i-test.true c.entry-item.is (sym w.if-eq.true ∙ test);
+        found = finds_more c.deref-entry-items.result.now c.loop-i.i c.entry-item.result c.args.name.now
+            c.loop-i.found c.loop-i-test.true c.entry-item.is c.loop-i.invariant.found true (sym w.if-eq.true ∙ test);
+        opened = opened_here c.deref-entry-items.result.now c.loop-i.i c.entry-item.result c.args.name.now
+            c.loop-i-test.true c.entry-item.is (sym w.if-eq.true ∙ test);
       })
       | else-eq w ↦ rw w.found-is (record {
-        found = finds_more c.deref-entry-items.result.now c.loop-i.i c.entry-item.result c.args.name.now c.loop-i.found c.loop-i-test.true c.entry-item.is c.loop-i.invariant.found false (sym w.if-eq.false ∙ test);
+        found = finds_more c.deref-entry-items.result.now c.loop-i.i c.entry-item.result c.args.name.now
+            c.loop-i.found c.loop-i-test.true c.entry-item.is c.loop-i.invariant.found false (sym w.if-eq.false ∙ test);
         opened = c.loop-i.invariant.opened;
       })
     ]

@@ -71,10 +71,12 @@ returns-clause-readers g c = λ tells.
     let found = names_found (found_as left c.in-Some-2.change) in
     let names : names_of c.open_change.new.names ≡ string_bytes c.in-Some.web.name ∷ found =
     c.in-Ok-open_change.ensures.names left ∙ ap (λ (ns : List (List ℕ)). ns ++ found) c.in-Ok.ensures.names in
-    let reader = ap opened_as c.in-Ok.ensures.reader ∙ ap (λ f. f c.in-Some.web.reader) (c.in_ok-change.ensures.keeps.names later) ∙ rw c.in-Some.is at (c.in_ok-web.ensures.opened tells) in
+    let reader = ap opened_as c.in-Ok.ensures.reader ∙ ap (λ f. f c.in-Some.web.reader)
+    (c.in_ok-change.ensures.keeps.names later) ∙ rw c.in-Some.is at (c.in_ok-web.ensures.opened tells) in
     let top : IsNamed opened_as (names_of c.open_change.new.names) (Some c.in-Ok.web) =
     reader ∙ sym ((λ i. get_or (names i) (c.in-Ok.ensures.level.0 i) [])) in
     record {
-      texts = subst (λ ts. AreNamed opened_as (names_of c.open_change.new.names) ts) (sym c.new.ensures.texts) (named_first opened_as (names_of c.open_change.new.names) c.in-Ok.web (OPEN_FILES - 1) top);
+      texts = subst (λ ts. AreNamed opened_as (names_of c.open_change.new.names) ts) (sym c.new.ensures.texts)
+          (named_first opened_as (names_of c.open_change.new.names) c.in-Ok.web (OPEN_FILES - 1) top);
       change = c.in-Ok-open_change.ensures.named opened_as (rw c.in-Some-2.is at (c.in_ok-change.ensures.opened later));
     }
