@@ -62,7 +62,7 @@ pub returns-in-Ok-finished-clause-scans : goal.returns-in-Ok-finished-clause-sca
 returns-in-Ok-finished-clause-scans g c = λ tells.
     let next = rw c.in_default-next.is at (c.in-Ok.ensures.next (keeps_told g.S.Shelf _ _ c.lines.invariant.keeps tells)) in
     let taken = c.lines.invariant.taken in
-    all_scanned _ _ _ _ _ _ _ c.lines.reader _ taken.read_is (taken.gives tells) c.in-Ok-finished.ensures next.0 next.1
+    all_scanned _ _ _ _ _ _ _ c.lines.reader _ taken.read_is taken.few (taken.gives tells) c.in-Ok-finished.ensures next.0 next.1
 
 pub returns-in-Ok-finished-clause-within : goal.returns-in-Ok-finished-clause-within
 returns-in-Ok-finished-clause-within g c =
