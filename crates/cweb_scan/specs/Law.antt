@@ -24,7 +24,7 @@ abbrev pub web_size : List Line → ℕ
 web_size [] = 0
 web_size (line ∷ lines) = length line.bytes + 1 + web_size lines
 
--- so many tokens at most, and so many bytes of texts, which are no fewer than a store's `text_bytes`
+-- at most so many tokens, and so many bytes of texts, each counted as often as it was given; `text_bytes` are no more
 pub record IsBounded (store : Stored) (n : ℕ) : Type 0 where
   pub tokens : length (all_tokens store.parts) ≤ n
   pub bytes : bytes_given store ≤ n
