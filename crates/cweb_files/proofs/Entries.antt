@@ -2,12 +2,13 @@
 use Rattle.std.proofs.Common.{◌≡◌, ◌≤◌, ◌+◌, ◌-◌, ℕ, Bool, true, false, cond, List, [], ◌∷◌, ◌++◌, Option, Some, None, refl, sym, ◌∙◌, ap, take, drop, get_or, length, ◌<◌, string_bytes, subst, arith, take-append-drop}
 use Rattle.std.proofs.lemmas.List.{take_at, drop-drop, take_more, length-take-le, length-drop}
 use Rattle.std.proofs.lemmas.Option.{slice_get_read}
+use Rattle.std.proofs.lemmas.Slice.Eq.{bytes_eq-Decides}
 use Rattle.cweb_files.specs.Device.{Finds}
 use Rattle.cweb_files.specs.declared.memory.MemoryReader.{MemoryReader}
 use Rattle.std.specs.Prelude.{slice_get}
 use Rattle.std.specs.Str.{bytes_eq}
 use Rattle.cweb_files.specs.declared.memory.Entry.{Entry}
-use Rattle.cweb_files.specs.Memory.{first_of, text_at, text_in, from_place}
+use Rattle.cweb_files.specs.Memory.{first_of, text_at, text_in, from_place, name_at}
 
 first_assoc : {A : Type 0} → (x y z : Option A) → first_of (first_of x y) z ≡ first_of x (first_of y z)
 first_assoc (Some x) y z = refl
@@ -67,3 +68,10 @@ finds_more entries i e name found lt is so_far b test =
       | true ↦ λ one. one ∙ ap (λ o. Some (from_place o 0)) (sym (slice_get-at entries i e lt is))
       | false ↦ λ same. subst (λ t. Finds (λ r. from_place (slice_get entries r.entry) r.at) t found) (sym same) so_far
     ]) found_one
+
+-- the entry of the name that was asked for has that name
+pub opened_here : (entries : List Entry) (i : ℕ) (e : Entry) (name : List ℕ) → i < length entries
+    → e ≡ get_or entries i e → true ≡ bytes_eq (string_bytes e.name) name
+    → name_at (slice_get entries i) ≡ name
+opened_here entries i e name lt is same = ap name_at (slice_get-at entries i e lt is)
+    ∙ (bytes_eq-Decides (string_bytes e.name) name).0 (sym same)

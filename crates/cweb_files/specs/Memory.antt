@@ -31,6 +31,15 @@ from_place None at = []
 abbrev pub rest_of : MemoryShelf → MemoryReader → List ℕ
 rest_of shelf reader = from_place (slice_get shelf.entries.items reader.entry) reader.at
 
+-- the name of an entry
+abbrev pub name_at : Option Entry → List ℕ
+name_at (Some entry) = string_bytes entry.name
+name_at None = []
+
+-- the name of the entry that a reader reads
+abbrev pub name_of : MemoryShelf → MemoryReader → List ℕ
+name_of shelf reader = name_at (slice_get shelf.entries.items reader.entry)
+
 abbrev pub sink_bytes : MemorySink → List ℕ
 sink_bytes sink = sink.bytes.items
 

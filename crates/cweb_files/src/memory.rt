@@ -1,7 +1,7 @@
 // Texts and sinks in memory, which tell their bytes.
 ghost use Rattle.std.specs.Prelude.{◌≡◌, ◌≤◌, ◌+◌, ◌^◌, ◌<◌, ◌-◌, [], ◌++◌, length, true, Some, vec_len, vec_capacity, string_bytes, IfOk, IfSome, OnOk, OnErr, IsOk, None, if◌then◌else◌};
 ghost use Rattle.std.specs.Str.{bytes_eq};
-ghost use Rattle.cweb_files.specs.Device.{Counts, Finds};
+ghost use Rattle.cweb_files.specs.Device.{Counts, Finds, IsOpenedAs};
 
 use crate::{Shelf, ShelfFault, Sink, SinkFault};
 use std::alloc::{AllocError, Global};
@@ -51,7 +51,7 @@ impl MemoryShelf {
 }
 
 impl Shelf for MemoryShelf {
-    ghost use Rattle.cweb_files.specs.Memory.{texts_of, rest_of};
+    ghost use Rattle.cweb_files.specs.Memory.{name_of, texts_of, rest_of};
 
     type R = MemoryReader;
 
@@ -63,10 +63,16 @@ impl Shelf for MemoryShelf {
 
     ghost failed = { λ _. 0 };
 
+    ghost opened_as = { name_of };
+
+    // No read fails.
+    ghost blamed = { λ _. [] };
+
     fn fetch(&mut self, name: &str) -> Result<Option<MemoryReader>, AllocError>
         // It takes no memory.
         ensures ok { IsOk result }
         ensures found { IfOk result (Finds (rest_of self.new) (texts_of self.old name.now)) }
+        ensures opened { IfOk result (IsOpenedAs (name_of self.new) name.now) }
         ensures same { self.new ≡ self.old }
     {
         let mut found = None;

@@ -47,3 +47,7 @@ OnOk-map (Err e) f p = p
 pub OnErr-map : {A E P Q : Type 0} (r : Result A E) → (P → Q) → OnErr r P → OnErr r Q
 OnErr-map (Ok x) f p = p
 OnErr-map (Err e) f p = f p
+
+pub OnOk-both : {A E P Q T : Type 0} (r : Result A E) → (P → Q → T) → OnOk r P → OnOk r Q → OnOk r T
+OnOk-both (Ok x) f p q = f p q
+OnOk-both (Err e) f p q = p

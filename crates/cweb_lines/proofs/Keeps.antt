@@ -1,5 +1,5 @@
 -- What two calls leave alone, one after the other.
-use Rattle.std.proofs.Common.{◌≡◌, ◌++◌, List, [], ℕ, refl, sym, ◌∙◌, ap, subst}
+use Rattle.std.proofs.Common.{◌++◌, List, [], ℕ, refl, sym, ◌∙◌, ap, subst}
 use Rattle.std.specs.Prelude.{IsTrue}
 use Rattle.std.proofs.lemmas.List.{append-nil, append_assoc}
 use Rattle.cweb_files.specs.declared.device.Shelf.{Ghosts as Shelf}
@@ -8,7 +8,7 @@ use Rattle.cweb_files.specs.Frames.{KeepsTexts, KeepsPlace, Writes}
 
 module _ {S R : Type 0} (shelf : Shelf S R) where
   pub keeps_same : (s : S) → KeepsTexts shelf s s
-  keeps_same s = record { tells = refl; texts = λ tells. refl; left = λ tells. refl }
+  keeps_same s = record { tells = refl; texts = λ tells. refl; left = λ tells. refl; names = λ tells. refl }
 
   pub keeps_told : (a b : S) → KeepsTexts shelf a b → IsTrue (shelf.tells a) → IsTrue (shelf.tells b)
   keeps_told a b first = subst IsTrue (sym first.tells)
@@ -18,11 +18,8 @@ module _ {S R : Type 0} (shelf : Shelf S R) where
     tells = then.tells ∙ first.tells;
     texts = λ tells. then.texts (keeps_told a b first tells) ∙ first.texts tells;
     left = λ tells. then.left (keeps_told a b first tells) ∙ first.left tells;
+    names = λ tells. then.names (keeps_told a b first tells) ∙ first.names tells;
   }
-
-  pub keeps_on : (a b c : S) → KeepsTexts shelf a b → shelf.tells c ≡ shelf.tells b → (IsTrue (shelf.tells b) → shelf.texts c ≡ shelf.texts b) → (IsTrue (shelf.tells b) → shelf.left c ≡ shelf.left b)
-      → KeepsTexts shelf a c
-  keeps_on a b c first tells texts left = keeps_then a b c first (record { tells = tells; texts = texts; left = left })
 
 module _ {W : Type 0} (sink : Sink W) where
   pub place_same : (w : W) → KeepsPlace sink w w

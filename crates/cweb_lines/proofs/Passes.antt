@@ -1,13 +1,13 @@
 -- Lines that pass through, for the text, the stack and the run that they are taken from.
-use Rattle.std.proofs.Common.{◌≡◌, ◌≤◌, ◌<◌, ◌+◌, ◌-◌, ℕ, Bool, true, false, List, [], ◌∷◌, ◌++◌, length, Option, Some, None, refl, sym, ◌∙◌, ap, subst, arith}
+use Rattle.std.proofs.Common.{◌≡◌, ◌<◌, ◌+◌, ◌-◌, ℕ, Bool, true, false, List, [], ◌∷◌, ◌++◌, length, Option, Some, refl, sym, ◌∙◌, ap, arith}
 use Rattle.std.specs.Prelude.{IsTrue}
 use Rattle.std.proofs.lemmas.List.{append-nil, append_assoc}
 use Rattle.cweb_lines.specs.Change.{Entry}
 use Rattle.cweb_lines.specs.Counts.{count_of}
 use Rattle.cweb_lines.specs.Finding.{text_of_name}
 use Rattle.cweb_lines.specs.Lines.{Line, numbered, text_lines}
-use Rattle.cweb_lines.specs.Merge.{Event, Thing}
-use Rattle.cweb_lines.specs.Merging.{SoFar, Gives, told_by, coming, change_lines, pending_of}
+use Rattle.cweb_lines.specs.Merge.{Thing}
+use Rattle.cweb_lines.specs.Merging.{Gives, told_by, coming, change_lines, pending_of}
 use Rattle.cweb_lines.specs.Names.{names_of}
 use Rattle.cweb_lines.specs.Passing.{PassesWhole, PassesText, PassesTop, PassesLines}
 use Rattle.cweb_lines.specs.Source.{pending}
@@ -104,6 +104,7 @@ passes_nothing run piece = record {
   stopped = refl;
   names = refl;
   counted = omega arith;
+  readers = λ opened_as known. known;
 }
 
 -- lines, and then more lines
@@ -116,4 +117,5 @@ passes_then a b c x y z first then = record {
   stopped = then.stopped ∙ first.stopped;
   names = then.names ∙ first.names;
   counted = omega (arith, first.counted, then.counted);
+  readers = λ opened_as known. then.readers opened_as (first.readers opened_as known);
 }

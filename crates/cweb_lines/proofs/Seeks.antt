@@ -1,17 +1,19 @@
 -- A search for an entry, line by line.
 use Rattle.std.proofs.Common.{◌≡◌, ℕ, List, [], ◌∷◌, ◌++◌, Option, Some, None, refl, sym, ◌∙◌, ap, subst, arith, length, length-append}
-use Rattle.std.proofs.lemmas.List.{append_assoc}
+use Rattle.std.proofs.lemmas.List.{append-nil, append_assoc}
 use Rattle.cweb_files.specs.declared.place.Place.{Place}
 use Rattle.cweb_lines.specs.Change.{Sought, behind_x, code_of, sought}
 use Rattle.cweb_lines.specs.Lines.{Line, SourceLine}
 use Rattle.cweb_lines.specs.Merging.{SoFar, Adds, StopsAmong, TellsSome}
 use Rattle.cweb_lines.specs.Seeking.{LooksAt, Searched, SeeksTo, ToldFront, behind}
+use Rattle.cweb_lines.specs.Stages.{IsOutside, change_in, pending_in}
 use Rattle.cweb_lines.specs.Texts.{Count, FirstStops, Refuses, Took}
 use Rattle.cweb_lines.specs.Told.{size_of}
 use Rattle.cweb_lines.specs.declared.code.Code.{Code}
 use Rattle.cweb_lines.specs.declared.fault.SourceFault.{SourceFault}
 use Rattle.cweb_lines.specs.declared.seeking.Look.TheVariants.{Entry as first_line, On as goes_on}
-use Rattle.cweb_lines.specs.declared.stage.Stage.TheVariants.{Waiting}
+use Rattle.cweb_lines.specs.declared.stage.Stage.{Stage}
+use Rattle.cweb_lines.specs.declared.stage.Stage.TheVariants.{Done, Waiting}
 use Rattle.cweb_lines.specs.declared.stop.Stop.{Stop}
 use Rattle.cweb_lines.proofs.Adds.{adds_none, adds_line, adds_faults}
 use Rattle.cweb_lines.proofs.Merges.{size-append}
@@ -89,3 +91,30 @@ module _ (all : Sought) (lines : List SourceLine) (begin : Option Place) (old mi
           entry = ap (λ (l : Line). Some (record { begin = entry; first = l.bytes })) (sym t.is) ∙ ap (λ (s : Sought). s.entry) (sym whole);
           rest = ap (λ (s : Sought). s.rest) (sym whole);
         }
+
+-- where no line is left, no entry is found
+sought_none : (begin : Option Place) → ((sought [] begin).taken ≡ []) × ((sought [] begin).entry ≡ None)
+    × ((sought [] begin).rest ≡ [])
+sought_none None = (refl, refl, refl)
+sought_none (Some place) = (refl, refl, refl)
+
+-- the change file has ended
+pub seeks_ended : (all : Sought) (lines : List SourceLine) (begin : Option Place) (old mid : SoFar)
+    → SeeksTo all (sought lines begin) old mid → lines ≡ [] → (new : SoFar)
+    → new.faults ≡ mid.faults ++ (sought [] begin).faults → new.names ≡ mid.names → new.count ≡ mid.count
+    → (stage : Stage) → stage ≡ Done → (first : List ℕ) (left : List SourceLine)
+    → Searched all old new stage first left
+seeks_ended all lines begin old mid seeks none new faults names count stage done first left =
+    let last = sought [] begin in
+    let ends = sought_none begin in
+    let whole : all ≡ behind seeks.told seeks.taken last = seeks.whole
+    ∙ ap (λ (ls : List SourceLine). behind seeks.told seeks.taken (sought ls begin)) none in
+    let adds = adds_faults seeks.told last.faults seeks.taken old mid new seeks.adds faults names count in
+    record {
+      adds = subst (λ (s : Sought). Adds s.faults s.taken old new) (sym whole)
+          (subst (λ (ls : List SourceLine). Adds (seeks.told ++ last.faults) ls old new)
+          (sym (ap (λ (ls : List SourceLine). seeks.taken ++ ls) ends.0 ∙ append-nil seeks.taken)) adds);
+      outside = subst IsOutside (sym done) tt;
+      entry = ap (λ s. pending_in s first) done ∙ sym (ap (λ (s : Sought). s.entry) whole ∙ ends.1);
+      rest = ap (λ s. change_in s left) done ∙ sym (ap (λ (s : Sought). s.rest) whole ∙ ends.2);
+    }

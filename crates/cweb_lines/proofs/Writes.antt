@@ -1,6 +1,6 @@
 -- How lines that were given out, gathered and written add up.
-use Rattle.std.proofs.Common.{◌≡◌, ◌≤◌, ◌<◌, ◌+◌, ℕ, List, [], ◌∷◌, ◌++◌, length, Option, None, Some, refl, sym, ◌∙◌, ap, subst, inl, inr, arith, length-append}
-use Rattle.std.specs.Prelude.{IsTrue}
+use Rattle.std.proofs.Common.{◌≡◌, ◌≤◌, ◌<◌, ◌+◌, ℕ, List, [], ◌∷◌, ◌++◌, length, Option, None, Some, refl, sym, ◌∙◌, ap, subst, inl, inr, arith}
+use Rattle.std.specs.Prelude.{IsTrue, IfSome}
 use Rattle.std.proofs.lemmas.List.{append-nil, append_assoc}
 use Rattle.cweb_files.specs.declared.device.Sink.{Ghosts as Sink}
 use Rattle.cweb_files.specs.Frames.{KeepsPlace, Writes}
@@ -9,7 +9,7 @@ use Rattle.cweb_lines.specs.Merge.{Event}
 use Rattle.cweb_lines.specs.Merging.{SoFar, Gives, Stopped, StopsBehind, TellsFront}
 use Rattle.cweb_lines.specs.Texts.{Count, StopsReading, read_blame, files_named}
 use Rattle.cweb_lines.specs.Told.{given_lines, told_faults, openings}
-use Rattle.cweb_lines.specs.Writing.{text_of, WritesFront, WritesAll, WritesSome, WritesUpTo, Gathered, FailsAmong, LosesLine, PassesOn, StopsWriting, WritingStops, WritesRest, leaves, writes, fails, Failed, Blames, write_blame}
+use Rattle.cweb_lines.specs.Writing.{text_of, WritesFront, WritesAll, WritesSome, WritesUpTo, Gathered, FailsAmong, StopsWriting, WritingStops, WritesRest, leaves, writes, fails, Failed, IsOwnStop, Blames, write_blame}
 use Rattle.cweb_lines.specs.declared.fault.SourceFault.{SourceFault}
 use Rattle.cweb_lines.specs.declared.stop.Stop.{Stop}
 use Rattle.cweb_lines.specs.declared.stop.Stop.TheVariants.{ReadFault, LineTooLong, TooMuchText, Memory, WriteFault}
@@ -187,6 +187,7 @@ blamed room stop result piece Wrote kept files before after rest reading keeps n
       named = names_rest stop result piece Wrote files rest named;
       kept = inr (keeps ∙ ap (λ s. Some s) (sym is));
       goes_on = goes_on;
+      after_write = λ fault. absurd (subst StopsReading (sym is ∙ fault) reading);
     }
 
     by : WritesRest stop result piece Wrote → Blames room result before after kept files
@@ -199,6 +200,8 @@ blamed room stop result piece Wrote kept files before after rest reading keeps n
       named = omega (arith, ap files_named is);
       kept = inl is;
       goes_on = goes_on;
+      after_write = λ fault. subst (λ o. IfSome o (λ own. IsOwnStop own files)) (sym keeps)
+          (record { reading = reading; unread = blame; named = named });
     }
 
 -- a write failed, and the merger goes on
@@ -211,6 +214,7 @@ blames_write room result kept files before after is running shelf out = record {
   named = omega (arith, ap files_named is);
   kept = inl is;
   goes_on = λ none fault. running;
+  after_write = λ fault. subst (λ o. IfSome o (λ own. IsOwnStop own files)) (sym running) tt;
 }
 
 pub write_failed : (result : Stop) (old now : Count) (all : List Event) (Wrote : List ℕ → Type 0) → result ≡ WriteFault → StopsWriting result old now all Wrote

@@ -1,5 +1,5 @@
 -- What a search for a text finds.
-use Rattle.std.specs.Prelude.{ℕ, List, [], ◌∷◌, Option, None, Some, String, string_bytes}
+use Rattle.std.specs.Prelude.{◌≡◌, ℕ, List, [], ◌∷◌, Option, None, Some, String, string_bytes}
 use Rattle.cweb_lines.specs.Include.{World, Found}
 use Rattle.cweb_lines.specs.Lines.{SourceLine, lines_in}
 use Rattle.cweb_lines.specs.declared.finding.Opening.{Opening}
@@ -13,6 +13,16 @@ found_as left (Some opening) = Some (string_bytes opening.name, left opening.rea
 abbrev pub changes_found : {R : Type 0} → (R → List ℕ) → Option (Option (Opening R)) → Option (Option Found)
 changes_found left None = None
 changes_found left (Some opening) = Some (found_as left opening)
+
+-- the reader of an opening was opened under its name
+abbrev pub IsOpened : {R : Type 0} → (R → List ℕ) → Option (Opening R) → Type 0
+IsOpened opened_as None = Unit {0}
+IsOpened opened_as (Some opening) = opened_as opening.reader ≡ string_bytes opening.name
+
+-- the same for a change file, where one is named
+abbrev pub IsChangeOpened : {R : Type 0} → (R → List ℕ) → Option (Option (Opening R)) → Type 0
+IsChangeOpened opened_as None = Unit {0}
+IsChangeOpened opened_as (Some opening) = IsOpened opened_as opening
 
 abbrev pub text_of_name : {Z : Type 0} → Option (String Z) → Option (List ℕ)
 text_of_name None = None

@@ -8,6 +8,7 @@ pub mod Lines
 pub mod Merge
 pub mod Merging
 pub mod Names
+pub mod Naming
 pub mod Passing
 pub mod Replacing
 pub mod Seeking

@@ -26,6 +26,15 @@ pub record SoFar : Type 0 where
   pub names : List (List ℕ)
   pub count : Count
 
+-- the first list is a front of the second
+abbrev pub IsFront : {A : Type 0} → List A → List A → Type 0
+IsFront {A = A} front list = (rest : List A) × (list ≡ front ++ rest)
+
+-- the faults and the names that were told stay as they are, in front of what is told since
+pub record KeepsTold (old new : SoFar) : Type 0 where
+  pub faults : IsFront old.faults new.faults
+  pub names : IsFront old.names new.names
+
 -- some of all that is to come comes: these lines are given out, and faults, openings and lines taken add to what came so far
 pub record Gives (lines : List Line) (old new : SoFar) (all later : List Event) : Type 0 where
   pub events : List Event

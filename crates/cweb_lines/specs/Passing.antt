@@ -5,6 +5,7 @@ use Rattle.cweb_lines.specs.Include.{is_include}
 use Rattle.cweb_lines.specs.Lines.{Line}
 use Rattle.cweb_lines.specs.Merge.{Event}
 use Rattle.cweb_lines.specs.Merging.{SoFar, Gives, told_by, coming}
+use Rattle.cweb_lines.specs.Naming.{AreReadersKnown, IsNamed}
 use Rattle.cweb_lines.specs.Stages.{begun_by}
 use Rattle.cweb_lines.specs.Taking.{TakesWhole}
 use Rattle.cweb_lines.specs.Texts.{Count, DeepAt, TakesAbove, TakesLine, files_up_to, lines_at, matches_at, number_of, text_depth}
@@ -37,12 +38,14 @@ pub record PassesText {R : Type 0} (entry : Option Entry) (old new : Option (Ope
   pub gathered : more ≡ piece ++ bytes ++ 10 ∷ []
   pub lines : after.lines ≡ before.lines + 1
 
--- the file, the depth of the lines and whether they match stay
+-- the file, its reader, the depth of the lines and whether they match stay
 pub record KeepsLevel {R : Type 0} (old new : Option (OpenText R)) : Type 0 where
   pub file : number_of files_up_to new ≡ number_of files_up_to old
   pub depth : number_of text_depth new ≡ number_of text_depth old
   pub may_match : matches_at new ≡ matches_at old
   pub deep : (place : ℕ) → DeepAt place old → DeepAt place new
+  pub named : (opened_as : R → List ℕ) (names : List (List ℕ)) → IsNamed opened_as names old
+      → IsNamed opened_as names new
 
 -- the same of the first line that the texts have left
 pub record PassesTop {R : Type 0} (entry : Option Entry) (old new : Stack R) (before after : Count) (piece more : List ℕ) : Type 0 where
@@ -62,6 +65,7 @@ pub record PassesLines {R : Type 0} (old new : Run R) (piece more : List ℕ) : 
   pub stopped : new.stopped ≡ old.stopped
   pub names : new.names ≡ old.names
   pub counted : old.limits.lines ≤ new.limits.lines
+  pub readers : (opened_as : R → List ℕ) → AreReadersKnown opened_as old → AreReadersKnown opened_as new
 
 -- Lines that were given out and written, and lines that are gathered: one at least, and no more where there is no room.
 pub record Held (room : ℕ) (old new : SoFar) (all now : List Event) (Wrote : List ℕ → Type 0) (piece : List ℕ) : Type 0 where

@@ -40,3 +40,10 @@ Blames before now (Ok x) = now ≡ before
 abbrev pub TakesOf : List ℕ → List ℕ → Bool → List ℕ → List ℕ → Type 0
 TakesOf old line true longer new = (front : List ℕ) × HasNoNewline front × (old ≡ front ++ 10 ∷ new) × (longer ≡ line ++ front)
 TakesOf old line false longer new = HasNoNewline old × (longer ≡ line ++ old) × (new ≡ [])
+
+-- a failed read puts the reader's name behind those that were blamed before, and nothing else changes them
+abbrev pub BlamesReader : {A : Type 0} → List ℕ → List (List ℕ) → List (List ℕ) → Result A LineFault → Type 0
+BlamesReader name before now (Err Read) = now ≡ before ++ name ∷ []
+BlamesReader name before now (Err TooLong) = now ≡ before
+BlamesReader name before now (Err Memory) = now ≡ before
+BlamesReader name before now (Ok x) = now ≡ before

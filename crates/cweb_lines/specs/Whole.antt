@@ -6,7 +6,8 @@ use Rattle.cweb_lines.specs.Finding.{names_found, text_found}
 use Rattle.cweb_lines.specs.Include.{World, Found}
 use Rattle.cweb_lines.specs.Lines.{Line, IsOneLine}
 use Rattle.cweb_lines.specs.Merge.{Event, started}
-use Rattle.cweb_lines.specs.Merging.{SoFar, Gives, NothingLeft, Stopped, TellsFront, told_by, coming}
+use Rattle.cweb_lines.specs.Merging.{SoFar, Gives, KeepsTold, NothingLeft, Stopped, TellsFront, told_by, coming}
+use Rattle.cweb_lines.specs.Naming.{AreReadersKnown}
 use Rattle.cweb_lines.specs.Texts.{ReadBlames, StopsReading}
 use Rattle.cweb_lines.specs.Told.{given_lines}
 use Rattle.cweb_lines.specs.Total.{merge}
@@ -31,6 +32,10 @@ so_far merger = told_by merger.run
 abbrev pub stop_in : {S R : Type 0} → Merger S R → Option Stop
 stop_in merger = merger.run.stopped
 
+-- at this shelf each reader of the merger was opened under the name that its file has
+abbrev pub KnowsReaders : {S R : Type 0} → Shelf S R → S → Merger S R → Type 0
+KnowsReaders shelf s merger = AreReadersKnown (shelf.opened_as s) merger.run
+
 -- no text is open any more, and no entry is left
 abbrev pub HasEnded : {S R : Type 0} → Merger S R → Type 0
 HasEnded merger = NothingLeft merger.run
@@ -49,9 +54,9 @@ pub record GivesOut (place : Place) (bytes : List ℕ) (old new : SoFar) : Type 
   pub lines : old.count.lines < new.count.lines
   pub bytes_are : old.count.bytes + length bytes ≤ new.count.bytes
 
--- no file is forgotten, and the limits of all files are kept
+-- no fault and no name is forgotten or changed, and the limits of all files are kept
 pub record Grows (old new : SoFar) : Type 0 where
-  pub names : length old.names ≤ length new.names
+  pub told : KeepsTold old new
   pub lines : new.count.lines ≤ LINES
   pub bytes : new.count.bytes ≤ BYTES
 

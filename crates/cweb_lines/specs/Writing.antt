@@ -1,10 +1,10 @@
 -- What merged lines look like in a sink.
-use Rattle.std.specs.Prelude.{◌≡◌, ◌<◌, ◌≤◌, ◌+◌, ◌⊎◌, ℕ, List, [], ◌∷◌, ◌++◌, length, Option, None, Some}
+use Rattle.std.specs.Prelude.{◌≡◌, ◌<◌, ◌≤◌, ◌+◌, ◌⊎◌, ℕ, List, [], ◌∷◌, ◌++◌, length, Option, None, Some, IfSome}
 use Rattle.cweb_files.specs.declared.place.FileId.{FileId}
 use Rattle.cweb_lines.specs.Lines.{Line, SourceLine}
 use Rattle.cweb_lines.specs.Merge.{Event, took}
 use Rattle.cweb_lines.specs.Merging.{SoFar, Gives, StopsBehind, TellsFront}
-use Rattle.cweb_lines.specs.Texts.{Count, IsTooLong, read_blame, files_named}
+use Rattle.cweb_lines.specs.Texts.{Count, IsTooLong, StopsReading, read_blame, files_named}
 use Rattle.cweb_lines.specs.Told.{given_lines}
 use Rattle.cweb_lines.specs.declared.stop.Stop.{Stop}
 use Rattle.cweb_lines.specs.declared.stop.Stop.TheVariants.{ReadFault, LineTooLong, TooMuchText, Memory, WriteFault}
@@ -96,8 +96,15 @@ pub record Failed : Type 0 where
   pub shelf : ℕ
   pub out : ℕ
 
+-- a merger came to this stop by itself: a line can't be taken, or memory was refused, and no read failed with it
+pub record IsOwnStop (stop : Stop) (files : ℕ) : Type 0 where
+  pub reading : StopsReading stop
+  pub unread : read_blame stop ≡ 0
+  pub named : files_named stop ≤ files
+
 -- what a stop leaves over all devices: the one that it tells of failed once more; the file that it names has been opened;
--- the merger keeps it, unless a write failed; then it goes on, where lines are not gathered
+-- the merger keeps it, unless a write failed; then it goes on, where lines are not gathered, and else it may keep a stop
+-- of its own
 pub record Blames (room : ℕ) (stop : Stop) (old new : Failed) (in_merger : Option Stop) (files : ℕ) : Type 0 where
   pub kind : WritingStops stop
   pub shelf : new.shelf ≡ old.shelf + read_blame stop
@@ -105,6 +112,7 @@ pub record Blames (room : ℕ) (stop : Stop) (old new : Failed) (in_merger : Opt
   pub named : files_named stop ≤ files
   pub kept : (stop ≡ WriteFault) ⊎ (in_merger ≡ Some stop)
   pub goes_on : room ≡ 0 → stop ≡ WriteFault → in_merger ≡ None
+  pub after_write : stop ≡ WriteFault → IfSome in_merger (λ own. IsOwnStop own files)
 
 -- What was given out so far: lines that were written, and lines that are gathered in a piece.
 pub record Gathered (room : ℕ) (old new : SoFar) (all now : List Event) (Wrote : List ℕ → Type 0) (piece : List ℕ) : Type 0 where

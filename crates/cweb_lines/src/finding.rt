@@ -3,7 +3,7 @@ ghost use Rattle.std.specs.Prelude.{◌≡◌, ◌∷◌, ◌++◌, ℕ, List, I
 ghost use Rattle.std.specs.Option.{option_copied};
 ghost use Rattle.cweb_files.specs.Frames.{KeepsTexts};
 ghost use Rattle.cweb_lines.specs.Include.{found_at, under, web_at, change_at};
-ghost use Rattle.cweb_lines.specs.Finding.{found_as, changes_found, world_in};
+ghost use Rattle.cweb_lines.specs.Finding.{found_as, changes_found, world_in, IsChangeOpened, IsOpened};
 
 use cweb_files::Shelf;
 use std::alloc::{AllocError, Global};
@@ -18,6 +18,8 @@ pub struct Opening<R: Drop> {
 fn fetch_named<S: Shelf>(shelf: &mut S, name: String) -> Result<Option<Opening<S::R>>, AllocError>
     ensures keeps { KeepsTexts S.Shelf shelf.old shelf.new }
     ensures failed { S.failed shelf.new ≡ S.failed shelf.old }
+    ensures opened { IsTrue (S.tells shelf.old) → IfOk result (IsOpened (S.opened_as shelf.new)) }
+    ensures blamed { IsTrue (S.tells shelf.old) → S.blamed shelf.new ≡ S.blamed shelf.old }
     ensures found { IsTrue (S.tells shelf.old) → IfOk result (λ opening.
         found_as (S.left shelf.new) opening ≡ under (string_bytes name) (S.texts shelf.old (string_bytes name))) }
 {
@@ -45,6 +47,8 @@ pub fn find<S: Shelf>(
 ) -> Result<Option<Opening<S::R>>, AllocError>
     ensures keeps { KeepsTexts S.Shelf shelf.old shelf.new }
     ensures failed { S.failed shelf.new ≡ S.failed shelf.old }
+    ensures opened { IsTrue (S.tells shelf.old) → IfOk result (IsOpened (S.opened_as shelf.new)) }
+    ensures blamed { IsTrue (S.tells shelf.old) → S.blamed shelf.new ≡ S.blamed shelf.old }
     ensures found { IsTrue (S.tells shelf.old) → IfOk result (λ opening.
         found_as (S.left shelf.new) opening ≡ found_at (world_in (S.texts shelf.old) inputs.now) name.now) }
 {
@@ -69,6 +73,8 @@ pub fn find_web<S: Shelf>(
 ) -> Result<Option<Opening<S::R>>, AllocError>
     ensures keeps { KeepsTexts S.Shelf shelf.old shelf.new }
     ensures failed { S.failed shelf.new ≡ S.failed shelf.old }
+    ensures opened { IsTrue (S.tells shelf.old) → IfOk result (IsOpened (S.opened_as shelf.new)) }
+    ensures blamed { IsTrue (S.tells shelf.old) → S.blamed shelf.new ≡ S.blamed shelf.old }
     ensures found { IsTrue (S.tells shelf.old) → IfOk result (λ opening.
         found_as (S.left shelf.new) opening ≡ web_at (S.texts shelf.old) web.now (option_copied second.entry)) }
 {
@@ -89,6 +95,9 @@ pub fn find_change<S: Shelf>(
 ) -> Result<Option<Option<Opening<S::R>>>, AllocError>
     ensures keeps { KeepsTexts S.Shelf shelf.old shelf.new }
     ensures failed { S.failed shelf.new ≡ S.failed shelf.old }
+    ensures opened { IsTrue (S.tells shelf.old) →
+        IfOk result (IsChangeOpened (S.opened_as shelf.new)) }
+    ensures blamed { IsTrue (S.tells shelf.old) → S.blamed shelf.new ≡ S.blamed shelf.old }
     ensures found { IsTrue (S.tells shelf.old) → IfOk result (λ opened.
         changes_found (S.left shelf.new) opened ≡ change_at (S.texts shelf.old) (option_copied change.entry)) }
 {

@@ -6,6 +6,7 @@ ghost use Rattle.cweb_lines.specs.Include.{web_at, change_at};
 ghost use Rattle.cweb_lines.specs.Names.{names_of};
 ghost use Rattle.cweb_lines.specs.Passing.{PassesLines};
 ghost use Rattle.cweb_lines.specs.Texts.{StartStops, files_named};
+ghost use Rattle.cweb_lines.specs.Naming.{AreReadersKnown, BlamesFile};
 
 use crate::fault::SourceFault;
 use crate::finding::{find_change, find_web};
@@ -29,7 +30,7 @@ pub struct Merger<S: Shelf> {
 }
 
 impl<S: Shelf> Merger<S> {
-    ghost use Rattle.cweb_lines.specs.Whole.{to_come, so_far, stop_in, HasEnded, NextLine, GivesOut, Grows, Leaves, BlamesReads, StopsThere, Begins, StopsAtStart};
+    ghost use Rattle.cweb_lines.specs.Whole.{to_come, so_far, stop_in, HasEnded, NextLine, GivesOut, Grows, Leaves, BlamesReads, StopsThere, Begins, StopsAtStart, KnowsReaders};
 
     /// Opens the web under its name, or under the second where the first isn't there, then the change file if one is
     /// named, and reads nothing. Included files are sought as they are named and then in the folder `inputs`.
@@ -52,6 +53,9 @@ impl<S: Shelf> Merger<S> {
         ensures stops { IsTrue (S.tells shelf.old) → IfErr result (λ stop. StopsAtStart stop
             (web_at (S.texts shelf.old) web.now (option_copied second.entry))
             (change_at (S.texts shelf.old) (option_copied change.entry))) }
+        ensures readers { IsTrue (S.tells shelf.old) →
+            IfOk result (λ merger. KnowsReaders S.Shelf shelf.new merger) }
+        ensures blamed { IsTrue (S.tells shelf.old) → S.blamed shelf.new ≡ S.blamed shelf.old }
         ensures only { IfErr result (λ stop. StartStops stop) }
     {
         let inputs = owned(alloc, inputs)?;
@@ -109,6 +113,11 @@ impl<S: Shelf> Merger<S> {
         ensures stops { IsTrue (S.tells shelf.old) → stop_in self.old ≡ None →
             IfErr result (λ stop. StopsThere stop (so_far self.old) (so_far self.new)
             (to_come S.Shelf shelf.old self.old)) }
+        ensures readers { IsTrue (S.tells shelf.old) →
+            KnowsReaders S.Shelf shelf.old self.old → KnowsReaders S.Shelf shelf.new self.new }
+        ensures blamed { IsTrue (S.tells shelf.old) → KnowsReaders S.Shelf shelf.old self.old →
+            stop_in self.old ≡ None → BlamesFile (so_far self.new).names
+            (S.blamed shelf.old) (S.blamed shelf.new) result }
         ensures again { IfSome (stop_in self.old) (λ stop.
             (result ≡ Err stop) × (self.new ≡ self.old) × (shelf.new ≡ shelf.old)) }
         ensures named { IfErr result (λ stop. files_named stop ≤ length (so_far self.new).names) }
@@ -177,12 +186,21 @@ impl<S: Shelf> Merger<S> {
         pass_lines(&mut self.run, piece, room);
     }
 
-    /// Memory was refused to a caller that has taken a line: the merger answers that stop from then on.
+    /// Memory was refused to a caller that has taken a line: the merger answers that stop from then on, unless it has
+    /// stopped already. It answers the stop that it keeps.
     pub fn halt(&mut self) -> Stop
-        ensures stop { result ≡ Stop.Memory }
-        ensures kept { stop_in self.new ≡ Some Stop.Memory }
+        ensures stop { stop_in self.old ≡ None → result ≡ Stop.Memory }
+        ensures kept { stop_in self.new ≡ Some result }
+        ensures again { IfSome (stop_in self.old) (λ stop.
+            (result ≡ stop) × (self.new ≡ self.old)) }
+        ensures readers { (opened_as : S.R → List ℕ) →
+            AreReadersKnown opened_as self.old.run → AreReadersKnown opened_as self.new.run }
         ensures so_far { so_far self.new ≡ so_far self.old }
+        ensures named { files_named result ≤ length (so_far self.new).names }
     {
+        if let Some(earlier) = self.run.stopped {
+            return earlier;
+        }
         self.run.stopped = Some(Stop::Memory);
         Stop::Memory
     }

@@ -1,13 +1,14 @@
 // Lines that begin no change: include lines are obeyed, and the others are given out.
-ghost use Rattle.std.specs.Prelude.{◌≡◌, ◌≤◌, ◌<◌, ◌+◌, ◌^◌, ◌++◌, ◌∷◌, [], length, IsTrue, IfOk, IfErr, OnOk, OnErr, None, Some, string_bytes, true};
+ghost use Rattle.std.specs.Prelude.{◌≡◌, ◌≤◌, ◌<◌, ◌+◌, ◌^◌, ◌++◌, ◌∷◌, [], length, IsTrue, IfOk, IfErr, OnOk, OnErr, None, Some, string_bytes, true, ℕ, List};
 ghost use Rattle.cweb_files.specs.Frames.{KeepsTexts};
 ghost use Rattle.cweb_lines.specs.Include.{is_include as includes};
 ghost use Rattle.cweb_lines.specs.Lines.{SourceLine};
-ghost use Rattle.cweb_lines.specs.Merging.{GivesBehind, pending_of, told_by, coming, coming_after, lines_given, IsTaken, TurnKnown};
+ghost use Rattle.cweb_lines.specs.Merging.{GivesBehind, KeepsTold, pending_of, told_by, coming, coming_after, lines_given, IsTaken, TurnKnown};
 ghost use Rattle.cweb_lines.specs.Names.{names_of};
 ghost use Rattle.cweb_lines.specs.Stages.{begun_by, IsSettled};
 ghost use Rattle.cweb_lines.specs.declared.limits.TheConstants.{OPEN_FILES};
 ghost use Rattle.cweb_lines.specs.Texts.{Opens, StaysBelow};
+ghost use Rattle.cweb_lines.specs.Naming.{AreReadersKnown, KeepsReaders};
 
 use crate::fault::SourceKind;
 use crate::finding::{Opening, find};
@@ -28,7 +29,11 @@ fn open<R: Drop>(run: &mut Run<R>, opening: Opening<R>, at: LineAt) -> Result<()
     ensures same { OnErr result (names_of run.new.names ≡ names_of run.old.names) }
     ensures memory { IfErr result (λ stop. stop ≡ Stop.Memory) }
     ensures opens { OnOk result ((names_of run.new.names ≡ names_of run.old.names ++ string_bytes opening.name ∷ []) × Opens run.old.stack run.new.stack opening.reader (length (names_of run.old.names)) at) }
+    ensures still { KeepsTold (told_by run.old) (told_by run.new) }
     ensures below { StaysBelow run.old.stack.depth run.old.stack.texts run.new.stack.texts }
+    ensures readers { (opened_as : R → List ℕ) →
+        opened_as opening.reader ≡ string_bytes opening.name →
+        AreReadersKnown opened_as run.old → AreReadersKnown opened_as run.new }
     ensures inputs { run.new.inputs ≡ run.old.inputs }
     ensures change { run.new.change ≡ run.old.change }
     ensures stage { run.new.stage ≡ run.old.stage }
@@ -64,9 +69,12 @@ fn obey<S: Shelf>(shelf: &mut S, run: &mut Run<S::R>, line: &[u8], at: LineAt) -
     requires plain { begun_by (pending_of run.old) at.may_match line.now ≡ None }
     ensures keeps { KeepsTexts S.Shelf shelf.old shelf.new }
     ensures failed { S.failed shelf.new ≡ S.failed shelf.old }
+    ensures readers { KeepsReaders S.Shelf shelf.old shelf.new run.old run.new }
+    ensures blamed { IsTrue (S.tells shelf.old) → S.blamed shelf.new ≡ S.blamed shelf.old }
     ensures same { OnErr result ((run.new.faults.items ≡ run.old.faults.items) × (names_of run.new.names ≡ names_of run.old.names)) }
     ensures memory { IfErr result (λ stop. stop ≡ Stop.Memory) }
     ensures more { length (names_of run.old.names) ≤ length (names_of run.new.names) }
+    ensures still { KeepsTold (told_by run.old) (told_by run.new) }
     ensures limits { run.new.limits ≡ run.old.limits }
     ensures stage { run.new.stage ≡ run.old.stage }
     ensures stopped { run.new.stopped ≡ run.old.stopped }
@@ -101,9 +109,12 @@ pub fn give<S: Shelf>(
     requires plain { begun_by (pending_of run.old) at.may_match line.now ≡ None }
     ensures keeps { KeepsTexts S.Shelf shelf.old shelf.new }
     ensures failed { S.failed shelf.new ≡ S.failed shelf.old }
+    ensures readers { KeepsReaders S.Shelf shelf.old shelf.new run.old run.new }
+    ensures blamed { IsTrue (S.tells shelf.old) → S.blamed shelf.new ≡ S.blamed shelf.old }
     ensures same { OnErr result ((run.new.faults.items ≡ run.old.faults.items) × (names_of run.new.names ≡ names_of run.old.names)) }
     ensures memory { IfErr result (λ stop. stop ≡ Stop.Memory) }
     ensures more { length (names_of run.old.names) ≤ length (names_of run.new.names) }
+    ensures still { KeepsTold (told_by run.old) (told_by run.new) }
     ensures limits { run.new.limits ≡ run.old.limits }
     ensures stage { run.new.stage ≡ run.old.stage }
     ensures stopped { run.new.stopped ≡ run.old.stopped }

@@ -1,12 +1,13 @@
 // Lines that were read whole and only pass through: they are no include lines and begin no change. They move straight behind
 // what a caller gathers.
-ghost use Rattle.std.specs.Prelude.{◌≡◌, ◌≤◌, ◌<◌, ◌+◌, ◌-◌, ◌++◌, ◌∷◌, [], length, IsTrue, false};
+ghost use Rattle.std.specs.Prelude.{◌≡◌, ◌≤◌, ◌<◌, ◌+◌, ◌-◌, ◌++◌, ◌∷◌, [], length, IsTrue, false, ℕ, List};
 ghost use Rattle.cweb_lines.specs.Counts.{count_of};
 ghost use Rattle.cweb_lines.specs.Passing.{KeepsLevel, PassesWhole, PassesText, PassesTop, PassesLines};
 ghost use Rattle.cweb_lines.specs.Source.{pending};
 ghost use Rattle.cweb_lines.specs.Stages.{pending_in};
 ghost use Rattle.cweb_lines.specs.Texts.{AreDeep, StaysBelow, files_up_to, line_number, most, number_of};
 ghost use Rattle.cweb_lines.specs.declared.limits.TheConstants.{OPEN_FILES};
+ghost use Rattle.cweb_lines.specs.Naming.{AreNamed};
 
 use crate::gathering::gather;
 use crate::include::is_include;
@@ -157,6 +158,8 @@ fn pass_top<R: Drop>(
     ensures more { limits.old.lines ≤ limits.new.lines }
     ensures depth { stack.new.depth ≡ stack.old.depth }
     ensures below { StaysBelow (stack.old.depth - 1) stack.old.texts stack.new.texts }
+    ensures named { (opened_as : R → List ℕ) → (names : List (List ℕ)) →
+        AreNamed opened_as names stack.old.texts → AreNamed opened_as names stack.new.texts }
     ensures numbers { most line_number stack.new.texts ≤ limits.new.lines }
     ensures files { most files_up_to stack.new.texts ≤ most files_up_to stack.old.texts }
     ensures deep { AreDeep stack.new.texts }

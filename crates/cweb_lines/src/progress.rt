@@ -8,6 +8,7 @@ ghost use Rattle.cweb_lines.specs.Names.{names_of};
 ghost use Rattle.cweb_lines.specs.Stages.{floor_of};
 ghost use Rattle.cweb_lines.specs.Texts.{ReadBlames, Counted, NamesFiles, TakesLine, TakesAbove, StopsFor, StopsReading, FirstStops, StopsAbove, StaysBelow};
 ghost use Rattle.cweb_lines.specs.Steps.{OnlyTakes, OnlyTells};
+ghost use Rattle.cweb_lines.specs.Naming.{BlamesReaders, KeepsReaders};
 
 use crate::fault::{SourceFault, SourceKind};
 use crate::run::Run;
@@ -86,6 +87,8 @@ pub fn take_change<S: Shelf>(
     ensures taken { IsTrue (S.tells shelf.old) → IfOk result (λ at. TakesLine (change_lines (S.left shelf.old) run.old) at line.new.items (change_lines (S.left shelf.new) run.new)
         (count_of run.old.limits) (count_of run.new.limits)) }
     ensures stops { IsTrue (S.tells shelf.old) → IfErr result (λ stop. StopsFor (FirstStops stop (count_of run.old.limits) (change_lines (S.left shelf.old) run.old)) stop) }
+    ensures readers { KeepsReaders S.Shelf shelf.old shelf.new run.old run.new }
+    ensures blamed { BlamesReaders S.Shelf shelf.old shelf.new run.old run.new result }
     ensures counted { Counted (count_of run.old.limits) (count_of run.new.limits) result }
     ensures line { IfOk result (λ at. OnSome at (IsOneLine line.new.items)) }
     ensures gains { IfOk result (λ at. OnSome at (run.old.limits.bytes + length line.new.items ≤ run.new.limits.bytes)) }
@@ -110,6 +113,8 @@ pub fn take_raw<S: Shelf>(
     ensures taken { IsTrue (S.tells shelf.old) → IfOk result (λ at. TakesAbove (S.left shelf.old) (S.left shelf.new) (floor_of run.old.stage) run.old.stack run.new.stack at line.new.items
         (count_of run.old.limits) (count_of run.new.limits)) }
     ensures stops { IsTrue (S.tells shelf.old) → IfErr result (λ stop. StopsFor (StopsAbove (S.left shelf.old) (floor_of run.old.stage) run.old.stack stop (count_of run.old.limits)) stop) }
+    ensures readers { KeepsReaders S.Shelf shelf.old shelf.new run.old run.new }
+    ensures blamed { BlamesReaders S.Shelf shelf.old shelf.new run.old run.new result }
     ensures below { StaysBelow (floor_of run.old.stage) run.old.stack.texts run.new.stack.texts }
     ensures ended { result ≡ Ok None → run.new.stack.depth ≡ floor_of run.old.stage }
     ensures deeper { IfOk result (λ at. IfSome at (λ a. run.new.stack.depth ≤ a.depth)) }

@@ -5,6 +5,7 @@ ghost use Rattle.cweb_lines.specs.Counts.{count_of};
 ghost use Rattle.cweb_lines.specs.Lines.{IsOneLine};
 ghost use Rattle.cweb_lines.specs.declared.limits.TheConstants.{OPEN_FILES};
 ghost use Rattle.cweb_lines.specs.Texts.{most, line_number, files_up_to, ReadBlames, Counted, NamesFiles, AreDeep, TakesTop, TakesAbove, StopsFor, StopsReading, StopsTop, StopsAbove, StaysBelow, DepthAfter, Pushes};
+ghost use Rattle.cweb_lines.specs.Naming.{BlamesTexts, KeepsNames};
 
 use crate::limits::{Limits, OPEN_FILES};
 use crate::pieces::Pieces;
@@ -111,6 +112,8 @@ fn take_top<S: Shelf>(
     ensures taken { IsTrue (S.tells shelf.old) → IfOk result (λ at. TakesTop (S.left shelf.old) (S.left shelf.new) stack.old stack.new at line.new.items (count_of limits.old) (count_of limits.new)) }
     ensures stops { IsTrue (S.tells shelf.old) → IfErr result (λ stop. StopsFor (StopsTop (S.left shelf.old) stack.old stop (count_of limits.old)) stop) }
     ensures below { (low : ℕ) → low < stack.old.depth → StaysBelow low stack.old.texts stack.new.texts }
+    ensures named { KeepsNames S.Shelf shelf.old shelf.new stack.old.texts stack.new.texts }
+    ensures blamed { BlamesTexts S.Shelf shelf.old shelf.new stack.old.texts result }
     ensures numbers { most line_number stack.new.texts ≤ limits.new.lines }
     ensures reading { IfErr result (λ stop. StopsReading stop) }
     ensures counted { Counted (count_of limits.old) (count_of limits.new) result }
@@ -155,6 +158,8 @@ pub fn take_above<S: Shelf>(
     ensures taken { IsTrue (S.tells shelf.old) → IfOk result (λ at. TakesAbove (S.left shelf.old) (S.left shelf.new) low stack.old stack.new at line.new.items (count_of limits.old) (count_of limits.new)) }
     ensures stops { IsTrue (S.tells shelf.old) → IfErr result (λ stop. StopsFor (StopsAbove (S.left shelf.old) low stack.old stop (count_of limits.old)) stop) }
     ensures below { StaysBelow low stack.old.texts stack.new.texts }
+    ensures named { KeepsNames S.Shelf shelf.old shelf.new stack.old.texts stack.new.texts }
+    ensures blamed { BlamesTexts S.Shelf shelf.old shelf.new stack.old.texts result }
     ensures numbers { most line_number stack.new.texts ≤ limits.new.lines }
     ensures reading { IfErr result (λ stop. StopsReading stop) }
     ensures counted { Counted (count_of limits.old) (count_of limits.new) result }

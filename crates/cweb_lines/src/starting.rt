@@ -1,11 +1,12 @@
 // How a merger begins: its web and its change file, opened and not yet read.
 ghost use Rattle.std.specs.Prelude.{◌≡◌, ◌≤◌, ◌++◌, ◌∷◌, ℕ, List, [], length, string_bytes, IfOk, IfErr, OnOk, true};
 ghost use Rattle.std.specs.Option.{option_copied};
-ghost use Rattle.cweb_lines.specs.Finding.{text_of_name, found_as, names_found, lines_found};
+ghost use Rattle.cweb_lines.specs.Finding.{text_of_name, found_as, names_found, lines_found, IsOpened};
 ghost use Rattle.cweb_lines.specs.Lines.{lines_in};
 ghost use Rattle.cweb_lines.specs.Names.{names_of};
 ghost use Rattle.cweb_lines.specs.Stages.{stage_for, begun_stage};
 ghost use Rattle.cweb_lines.specs.Texts.{lines_left, lines_at, number_of, line_number, files_up_to};
+ghost use Rattle.cweb_lines.specs.Naming.{IsNamed};
 
 use crate::finding::Opening;
 use crate::names::FileNames;
@@ -36,6 +37,7 @@ pub fn open_web<R: Drop>(
     ensures names { OnOk result (names_of names.new ≡ string_bytes opening.name ∷ []) }
     ensures lines { IfOk result (λ text. (left : R → List ℕ) →
         lines_left left text ≡ lines_in 0 (left opening.reader)) }
+    ensures reader { IfOk result (λ text. text.source.reader.value ≡ opening.reader) }
     ensures level { IfOk result (λ text.
         (text.file.0 ≡ 0) × (text.line ≡ 0) × (text.depth ≡ 1) × (text.may_match ≡ true)) }
     ensures memory { IfErr result (λ stop. stop ≡ Stop.Memory) }
@@ -65,6 +67,8 @@ pub fn open_change<R: Drop>(
         names_of names.new ≡ names_of names.old ++ names_found (found_as left change)) }
     ensures lines { IfOk result (λ text. (left : R → List ℕ) →
         lines_at left text ≡ lines_found (found_as left change)) }
+    ensures named { IfOk result (λ text. (opened_as : R → List ℕ) → IsOpened opened_as change →
+        IsNamed opened_as (names_of names.new) text) }
     ensures number { IfOk result (λ text. number_of line_number text ≡ 0) }
     ensures file { IfOk result (λ text. number_of files_up_to text ≤ length (names_of names.new)) }
     ensures few { length (names_of names.new) ≤ 2 }

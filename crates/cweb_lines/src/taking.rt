@@ -1,11 +1,12 @@
 // The next line of an open text, without the blanks at its end.
-ghost use Rattle.std.specs.Prelude.{◌≡◌, ◌≤◌, ◌<◌, ◌+◌, ◌^◌, ℕ, List, length, take, IsTrue, IfOk, IfErr, IfSome, OnSome, OnOk, OnErr, IsErrOf, Ok, None};
+ghost use Rattle.std.specs.Prelude.{◌≡◌, ◌≤◌, ◌<◌, ◌+◌, ◌^◌, ℕ, List, length, take, IsTrue, IfOk, IfErr, IfSome, OnSome, OnOk, OnErr, IsErrOf, Ok, None, Some};
 ghost use Rattle.cweb_files.specs.Frames.{KeepsTexts};
-ghost use Rattle.cweb_lines.specs.Source.{left_of, pending, IsLongerThan, Blames};
+ghost use Rattle.cweb_lines.specs.Source.{left_of, pending, IsLongerThan, Blames, BlamesReader};
 ghost use Rattle.cweb_lines.specs.Taking.{TakesWhole, TakesTrimmed};
 ghost use Rattle.cweb_lines.specs.Lines.{trimmed, is_blank as blank, IsOneLine};
 ghost use Rattle.cweb_lines.specs.Counts.{count_of};
 ghost use Rattle.cweb_lines.specs.Texts.{lines_left, lines_at, number_of, line_number, text_depth, matches_at, DeepAt, files_up_to, TakesLine, StopsFor, StopsReading, FirstStops, ReadBlames, Counted, NamesFile, NamesFiles, stop_for, newline_bytes};
+ghost use Rattle.cweb_lines.specs.Naming.{BlamesText, KeepsName};
 
 use crate::limits::{LINE_LENGTH, Limits};
 use crate::reading::{newline_at, next_line};
@@ -108,6 +109,11 @@ fn take_trimmed<S: Shelf>(
     requires count { S.failed shelf.old + 1 < 2 ^ 64 }
     ensures keeps { KeepsTexts S.Shelf shelf.old shelf.new }
     ensures failed { Blames (S.failed shelf.old) (S.failed shelf.new) result }
+    ensures opened { IsTrue (S.tells shelf.old) →
+        S.opened_as shelf.new source.new.reader.value ≡ S.opened_as shelf.old source.old.reader.value }
+    ensures blamed { IsTrue (S.tells shelf.old) →
+        BlamesReader (S.opened_as shelf.old source.old.reader.value)
+        (S.blamed shelf.old) (S.blamed shelf.new) result }
     ensures taken { IsTrue (S.tells shelf.old) → IfOk result (λ size. TakesTrimmed (left_of S.left shelf.old source.old) size line.new.items (left_of S.left shelf.new source.new)) }
     ensures too_long { IsTrue (S.tells shelf.old) → IsErrOf result LineFault.TooLong → IsLongerThan LINE_LENGTH (left_of S.left shelf.old source.old) }
     ensures line { IfOk result (λ size. OnSome size (IsOneLine line.new.items)) }
@@ -142,6 +148,8 @@ fn take_line<S: Shelf>(
     ensures taken { IsTrue (S.tells shelf.old) → IfOk result (λ at. TakesLine (lines_left (S.left shelf.old) text.old) at line.new.items (lines_left (S.left shelf.new) text.new)
         (count_of limits.old) (count_of limits.new)) }
     ensures stops { IsTrue (S.tells shelf.old) → IfErr result (λ stop. StopsFor (FirstStops stop (count_of limits.old) (lines_left (S.left shelf.old) text.old)) stop) }
+    ensures named { KeepsName S.Shelf shelf.old shelf.new (Some text.old) (Some text.new) }
+    ensures blamed { BlamesText S.Shelf shelf.old shelf.new (Some text.old) result }
     ensures number { text.new.line ≤ limits.new.lines }
     ensures names { IfErr result (λ stop. NamesFile text.old.file stop) }
     ensures reading { IfErr result (λ stop. StopsReading stop) }
@@ -191,6 +199,8 @@ pub fn take_from<S: Shelf>(
     ensures taken { IsTrue (S.tells shelf.old) → IfOk result (λ at. TakesLine (lines_at (S.left shelf.old) slot.old) at line.new.items (lines_at (S.left shelf.new) slot.new)
         (count_of limits.old) (count_of limits.new)) }
     ensures stops { IsTrue (S.tells shelf.old) → IfErr result (λ stop. StopsFor (FirstStops stop (count_of limits.old) (lines_at (S.left shelf.old) slot.old)) stop) }
+    ensures named { KeepsName S.Shelf shelf.old shelf.new slot.old slot.new }
+    ensures blamed { BlamesText S.Shelf shelf.old shelf.new slot.old result }
     ensures number { number_of line_number slot.new ≤ limits.new.lines }
     ensures reading { IfErr result (λ stop. StopsReading stop) }
     ensures more { limits.old.lines ≤ limits.new.lines }

@@ -2,10 +2,11 @@
 ghost use Rattle.std.specs.Prelude.{◌≡◌, ◌≤◌, ◌<◌, ◌+◌, ◌^◌, length, IsTrue, IfOk, IfErr, Ok, OnOk, OnErr};
 ghost use Rattle.cweb_files.specs.Frames.{KeepsTexts};
 ghost use Rattle.cweb_lines.specs.Counts.{count_of};
-ghost use Rattle.cweb_lines.specs.Merging.{Gives, Stopped, TellsFront, NothingLeft, TurnLine, TurnGains, TurnCounts, TurnEnds, TurnKnown, coming, lines_given, told_by};
+ghost use Rattle.cweb_lines.specs.Merging.{Gives, KeepsTold, Stopped, TellsFront, NothingLeft, TurnLine, TurnGains, TurnCounts, TurnEnds, TurnKnown, coming, lines_given, told_by};
 ghost use Rattle.cweb_lines.specs.Names.{names_of};
 ghost use Rattle.cweb_lines.specs.Stages.{IsSettled, begun_by, floor_of, pending_in};
 ghost use Rattle.cweb_lines.specs.Texts.{ReadBlames, StopsReading, files_named};
+ghost use Rattle.cweb_lines.specs.Naming.{BlamesReaders, KeepsReaders};
 
 use crate::code::{Code, code_of};
 use crate::fault::SourceKind;
@@ -37,6 +38,9 @@ fn take_new<S: Shelf>(
     ensures ends { IfOk result (λ turn. TurnEnds turn run.new) }
     ensures known { IfOk result (λ turn. TurnKnown (length (names_of run.new.names)) turn) }
     ensures grows { length (names_of run.old.names) ≤ length (names_of run.new.names) }
+    ensures still { KeepsTold (told_by run.old) (told_by run.new) }
+    ensures readers { KeepsReaders S.Shelf shelf.old shelf.new run.old run.new }
+    ensures blamed { BlamesReaders S.Shelf shelf.old shelf.new run.old run.new result }
     ensures line { IfOk result (λ turn. TurnLine turn line.new.items) }
     ensures gains { IfOk result (λ turn. TurnGains turn line.new.items run.old.limits.bytes run.new.limits.bytes) }
     ensures named { IfErr result (λ stop. files_named stop ≤ length (names_of run.new.names)) }
@@ -91,6 +95,9 @@ fn take_end<S: Shelf>(shelf: &mut S, run: &mut Run<S::R>, line: &mut Vec<u8>) ->
     ensures ends { IfOk result (λ turn. TurnEnds turn run.new) }
     ensures known { IfOk result (λ turn. TurnKnown (length (names_of run.new.names)) turn) }
     ensures grows { length (names_of run.old.names) ≤ length (names_of run.new.names) }
+    ensures still { KeepsTold (told_by run.old) (told_by run.new) }
+    ensures readers { KeepsReaders S.Shelf shelf.old shelf.new run.old run.new }
+    ensures blamed { BlamesReaders S.Shelf shelf.old shelf.new run.old run.new result }
     ensures line { IfOk result (λ turn. TurnLine turn line.new.items) }
     ensures gains { IfOk result (λ turn. TurnGains turn line.new.items run.old.limits.bytes run.new.limits.bytes) }
     ensures named { IfErr result (λ stop. files_named stop ≤ length (names_of run.new.names)) }
@@ -138,6 +145,9 @@ pub fn take_turn<S: Shelf>(
     ensures ended { NothingLeft run.old → (result ≡ Ok Turn.Ended) × (run.new ≡ run.old) × (shelf.new ≡ shelf.old) }
     ensures known { IfOk result (λ turn. TurnKnown (length (names_of run.new.names)) turn) }
     ensures grows { length (names_of run.old.names) ≤ length (names_of run.new.names) }
+    ensures still { KeepsTold (told_by run.old) (told_by run.new) }
+    ensures readers { KeepsReaders S.Shelf shelf.old shelf.new run.old run.new }
+    ensures blamed { BlamesReaders S.Shelf shelf.old shelf.new run.old run.new result }
     ensures line { IfOk result (λ turn. TurnLine turn line.new.items) }
     ensures gains { IfOk result (λ turn. TurnGains turn line.new.items run.old.limits.bytes run.new.limits.bytes) }
     ensures named { IfErr result (λ stop. files_named stop ≤ length (names_of run.new.names)) }

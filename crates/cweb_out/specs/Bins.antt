@@ -1,5 +1,6 @@
--- What the calls of a place that keeps files do to its count of failures.
+-- What the calls of a place that keeps files do to its count of failures, and what a refused beginning leaves.
 use Rattle.std.specs.Prelude.{◌≡◌, ◌+◌, ℕ, Result, Ok, Err}
+use Rattle.cweb_files.specs.Files.{Beside, Refused, no_memory, no_device, not_begun}
 use Rattle.cweb_out.specs.declared.bins.BinFault.{BinFault}
 use Rattle.cweb_out.specs.declared.bins.BinFault.TheVariants.{Memory, Device}
 
@@ -8,3 +9,12 @@ abbrev pub CountsDevice : {A : Type 0} → ℕ → ℕ → Result A BinFault →
 CountsDevice before now (Ok x) = now ≡ before
 CountsDevice before now (Err Memory) = now ≡ before
 CountsDevice before now (Err Device) = now ≡ before + 1
+
+-- why a file was not begun, by what the call answered
+abbrev pub refusal : BinFault → Refused
+refusal Memory = no_memory
+refusal Device = no_device
+
+-- a beginning was refused with this answer: that is noted, and there is no draft
+abbrev pub refusing : BinFault → Beside → Beside
+refusing fault beside = not_begun (refusal fault) beside

@@ -1,7 +1,7 @@
 -- What files in memory hold.
-use Rattle.std.specs.Prelude.{ℕ, Bool, List, [], map, Option, Some, None, option_map, string_bytes, vec_capacity}
+use Rattle.std.specs.Prelude.{ℕ, Bool, true, false, List, [], map, Option, Some, None, option_map, string_bytes, vec_capacity}
 use Rattle.std.specs.Option.{is_some}
-use Rattle.cweb_files.specs.Files.{File, Beside}
+use Rattle.cweb_files.specs.Files.{File, Beside, Refused, no_memory}
 use Rattle.cweb_out.specs.declared.memory.BinFile.{BinFile}
 use Rattle.cweb_out.specs.declared.memory.MemoryBins.{MemoryBins}
 
@@ -26,8 +26,17 @@ files_kept bins = bins.files.items
 abbrev pub bytes_kept : MemoryBins → List ℕ
 bytes_kept bins = bytes_of bins.draft
 
+-- a beginning that memory refuses is refused by want of it
+abbrev pub refused_by : Bool → Option Refused
+refused_by true = Some no_memory
+refused_by false = None
+
+-- why the last beginning was refused
+abbrev pub refusal_kept : MemoryBins → Option Refused
+refusal_kept bins = refused_by bins.refused
+
 abbrev pub beside_kept : MemoryBins → Beside
-beside_kept bins = record { files = map file_of bins.files.items; draft = option_map name_of bins.draft }
+beside_kept bins = record { files = map file_of bins.files.items; draft = option_map name_of bins.draft; refused = refusal_kept bins }
 
 abbrev pub bins_failed : MemoryBins → ℕ
 bins_failed bins = bins.failed

@@ -1,5 +1,5 @@
 // A place in memory that keeps files.
-ghost use Rattle.std.specs.Prelude.{◌≡◌, ◌≤◌, ◌<◌, ◌+◌, ◌^◌, ◌++◌, [], length, true, false, not, filter, vec_len, vec_capacity, string_bytes, IsTrue, IsOk, IsErr, IfOk, IfErr, OnOk, OnErr};
+ghost use Rattle.std.specs.Prelude.{◌≡◌, ◌≤◌, ◌<◌, ◌+◌, ◌^◌, ◌++◌, [], length, true, false, not, filter, None, vec_len, vec_capacity, string_bytes, IsTrue, IsSome, IsOk, IsErr, IfOk, IfErr, OnOk, OnErr};
 ghost use Rattle.std.specs.Str.{bytes_eq};
 ghost use Rattle.std.specs.Option.{is_some};
 ghost use Rattle.cweb_files.specs.Device.{Counts};
@@ -16,24 +16,27 @@ pub struct BinFile {
     pub bytes: Vec<u8>,
 }
 
-/// Files in memory, in the order in which they were committed, and at most one draft.
+/// Files in memory, in the order in which they were committed, at most one draft, and whether the last beginning was
+/// refused.
 #[derive(Drop)]
 pub struct MemoryBins {
     alloc: Global,
     files: Vec<BinFile>,
     draft: Option<BinFile>,
+    refused: bool,
     room: usize,
     failed: u64,
     ghost placed: { IsTrue (is_some draft) → vec_len files < vec_capacity files },
 }
 
 impl MemoryBins {
-    ghost use Rattle.cweb_out.specs.Memory.{bins_failed, file_room, files_kept, has_draft, list_room};
+    ghost use Rattle.cweb_out.specs.Memory.{bins_failed, file_room, files_kept, has_draft, list_room, refusal_kept};
 
     /// No file yet: a list with room for so many files, and the room in bytes that each draft gets when it is begun.
     pub fn with_room(alloc: Global, files: usize, bytes: usize) -> Result<Self, AllocError>
         ensures empty { IfOk result (λ bins. files_kept bins ≡ []) }
         ensures no_draft { IfOk result (λ bins. has_draft bins ≡ false) }
+        ensures begun { IfOk result (λ bins. refusal_kept bins ≡ None) }
         ensures files { IfOk result (λ bins. files ≤ list_room bins) }
         ensures room { IfOk result (λ bins. file_room bins ≡ bytes) }
         ensures failed { IfOk result (λ bins. bins_failed bins ≡ 0) }
@@ -42,6 +45,7 @@ impl MemoryBins {
             alloc,
             files: Vec::with_capacity(alloc, files)?,
             draft: None,
+            refused: false,
             room: bytes,
             failed: 0,
         })
@@ -93,6 +97,7 @@ impl Sink for MemoryBins {
         ensures whole { IfOk result (λ n. n ≡ length piece.now) }
         ensures bytes { OnOk result (bytes_kept self.new ≡ bytes_kept self.old ++ piece.now) }
         ensures err { OnErr result (bytes_kept self.new ≡ bytes_kept self.old) }
+        ensures begun { OnOk result (IsSome (beside_kept self.old).draft) }
         ensures beside { beside_kept self.new ≡ beside_kept self.old }
         ensures room { draft_room self.old ≤ draft_room self.new }
         ensures set_room { file_room self.new ≡ file_room self.old }
@@ -121,25 +126,29 @@ impl Sink for MemoryBins {
 impl Bins for MemoryBins {
     ghost use Rattle.cweb_out.specs.Memory.{beside_kept, bins_failed, bytes_kept, draft_room, file_room, has_draft};
     ghost use Rattle.cweb_files.specs.Files.{committed, with_draft, without_draft};
+    ghost use Rattle.cweb_out.specs.Bins.{refusing};
 
     fn start_file(&mut self, name: &str) -> Result<(), BinFault>
         requires { bins_failed self.old + 1 < 2 ^ 64 }
         ensures failed { bins_failed self.new ≡ bins_failed self.old }
         ensures begun { OnOk result (beside_kept self.new ≡ with_draft name.now (beside_kept self.old)) }
         ensures empty { OnOk result (bytes_kept self.new ≡ []) }
-        ensures err { OnErr result (beside_kept self.new ≡ without_draft (beside_kept self.old)) }
+        ensures err { IfErr result (λ fault.
+            beside_kept self.new ≡ refusing fault (beside_kept self.old)) }
         // It answers no Device, and the draft has the room that was set.
         ensures memory { IfErr result (λ fault. fault ≡ BinFault.Memory) }
         ensures room { OnOk result (file_room self.old ≤ draft_room self.new) }
         ensures set_room { file_room self.new ≡ file_room self.old }
     {
         self.abandon_file();
+        self.refused = true;
         let Ok(file) = empty_file(self.alloc, name, self.room) else {
             return Err(BinFault::Memory);
         };
         if self.files.reserve(1).is_err() {
             return Err(BinFault::Memory);
         }
+        self.refused = false;
         self.draft = Some(file);
         Ok(())
     }

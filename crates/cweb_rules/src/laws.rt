@@ -11,25 +11,27 @@ ghost use Rattle.cweb_rules.specs.declared.context.Context.{Context};
 ghost use Rattle.cweb_rules.specs.declared.context.Context.TheVariants.{CText};
 ghost use Rattle.cweb_rules.specs.declared.end.End.TheVariants.{Closed};
 
-/// What a rule names at the front of a text has at least one byte, stands in the text, and its bytes pay for what it gives.
+/// Of a text that has a byte, the first piece has a byte in every context, stands in the text, and is no shorter than `Pays` asks
+/// of its kind.
 pub fn fronts_are_fair()
     ensures { (c : Context) (includes : Bool) (b : ℕ) (t : List ℕ) → Fair c (b ∷ t) (front_in c includes (b ∷ t)) }
 {}
 
-/// A text that is one token of C text is the first piece of every longer text whose next byte does not go on with it, however
-/// it is told which bytes join with which: more may be said to join than the table of punctuators has.
+/// A text that is one token of C text is the first piece of each longer C text whose next byte may not go on with it, where no
+/// included name may stand. This holds however it is told which bytes join with which: more may be said to join than the table of
+/// punctuators has.
 pub fn tokens_end_by_themselves()
     ensures { (joins : ℕ → ℕ → Bool) (kind : Kind) (token more : List ℕ) → JoinsAll joins → IsToken kind token
         → first_is (goes_on joins kind token) more ≡ false → front_in CText false (token ++ more) ≡ front kind (length token) }
 {}
 
-/// The first byte of a token tells what may stand before it: no digit begins an identifier, no word byte, quote or layout a
+/// A token's first byte is one that its kind begins with: no digit begins an identifier, no word byte, quote or white byte a
 /// punctuator.
 pub fn tokens_begin_by_kind()
     ensures { (kind : Kind) (token : List ℕ) → IsToken kind token → first_is (begins_as kind) token ≡ true }
 {}
 
-/// A comment with neither `*` nor `@` in it ends by itself, whatever follows it.
+/// A comment with neither `*` nor `@` in it ends by itself, whatever follows it in C text, where no included name may stand.
 pub fn comments_end_by_themselves()
     ensures { (text more : List ℕ) → list_all is_quiet text ≡ true
         → front_in CText false (codes "/*" ++ (text ++ (codes "*/" ++ more))) ≡ front (Comment Closed) (2 + (length text + 2)) }

@@ -4,14 +4,17 @@ use Rattle.std.specs.Prelude.{option_to_list}
 use Rattle.std.specs.List.{fold}
 use Rattle.std.proofs.lemmas.List.{length-take-le}
 use Rattle.cweb_lines.specs.Lines.{Line}
-use Rattle.cweb_store.specs.Parts.{Token, Part, all_tokens}
+use Rattle.cweb_store.specs.Names.{Occurrence}
+use Rattle.cweb_store.specs.Parts.{Token, Word, Number, Literal, Verbatim, Punct, Blank, Newline, Join, Defs, Name, Head, Tail, Mark, Part, all_tokens}
+use Rattle.cweb_store.specs.Replacements.{Replacement}
+use Rattle.cweb_store.specs.Texts as kept
 use Rattle.cweb_store.specs.Growing.{PartsSoFar, all_parts}
 use Rattle.cweb_store.specs.Calls.{finished}
 use Rattle.cweb_rules.specs.Kinds.{Piece}
 use Rattle.cweb_scan.specs.State.{State, leave, before_text}
 use Rattle.cweb_scan.specs.After.{Reading, after}
 use Rattle.cweb_scan.specs.Run.{front_of, pieces_in, run, further, read, scanned}
-use Rattle.cweb_scan.specs.Bound.{total, one, text_size, part_size, open_size, parts_size, token_number, text_bytes}
+use Rattle.cweb_scan.specs.Bound.{total, one, text_size, occurrence_size, replacement_size, part_size, open_size, parts_size, token_number, text_bytes}
 use Rattle.cweb_rules.specs.Pays.{due}
 use Rattle.cweb_scan.specs.Bound.{Adds}
 use Rattle.cweb_scan.specs.Law.{web_size, IsBounded}
@@ -66,10 +69,39 @@ length-total : (ts : List Token) → length ts ≡ total one ts
 length-total [] = refl
 length-total (t ∷ ts) = omega (arith, length-total ts)
 
+-- the bytes of texts, as the store counts them
+
+token-bytes : (t : Token) → kept.token_bytes t ≡ text_size t
+token-bytes (Word b) = omega arith
+token-bytes (Number b) = omega arith
+token-bytes (Literal b) = omega arith
+token-bytes (Verbatim b) = omega arith
+token-bytes (Punct b) = omega arith
+token-bytes Blank = refl
+token-bytes Newline = refl
+token-bytes Join = refl
+token-bytes Defs = refl
+token-bytes (Name n) = refl
+token-bytes (Head n) = refl
+token-bytes (Tail n) = refl
+token-bytes (Mark p) = refl
+
+tokens-bytes : (ts : List Token) → kept.total kept.token_bytes ts ≡ total text_size ts
+tokens-bytes [] = refl
+tokens-bytes (t ∷ ts) = omega (arith, token-bytes t, tokens-bytes ts)
+
+occurrences-bytes : (os : List Occurrence) → kept.total length (map kept.occurrence_text os) ≡ total occurrence_size os
+occurrences-bytes [] = refl
+occurrences-bytes (o ∷ os) = omega (arith, occurrences-bytes os)
+
+replacements-bytes : (rs : List Replacement) → kept.total length (map kept.replacement_text rs) ≡ total replacement_size rs
+replacements-bytes [] = refl
+replacements-bytes (r ∷ rs) = omega (arith, replacements-bytes rs)
+
 of_state : (s : State) (n : ℕ) → token_number s.contents ≤ n → text_bytes s.contents ≤ n → IsBounded (finished s.contents) n
 of_state s n h k = record {
   tokens = omega (arith, h, length-total (all_tokens (all_parts s.contents.parts)), all-size one s.contents.parts);
-  bytes = omega (arith, k, all-size text_size s.contents.parts);
+  bytes = omega (arith, k, all-size text_size s.contents.parts, tokens-bytes (all_tokens (all_parts s.contents.parts)), occurrences-bytes s.contents.occurrences, replacements-bytes s.contents.replacements);
 }
 
 pub bounded : (lines : List Line) → IsBounded (scanned lines).store (web_size lines)

@@ -21,7 +21,7 @@ use Rattle.cweb_rules.specs.Lines.{IsLine}
 use Rattle.cweb_rules.specs.declared.fault.ScanFault.{ScanFault}
 use Rattle.cweb_scan.specs.After.{Reading}
 use Rattle.cweb_scan.specs.Held.{Held, read_after, unread}
-use Rattle.cweb_scan.specs.Law.{MarkPasses, web_size}
+use Rattle.cweb_scan.specs.Law.{IsBounded, MarkPasses, web_size}
 use Rattle.cweb_scan.specs.Run.{Scanned, read, scanned, scanned_of}
 use Rattle.cweb_scan.specs.Scan.{AreBelow, IsBelow, IsMarkBelow, HasTaken, IsWithin, Scans, EndsEarly}
 use Rattle.cweb_scan.proofs.Bounds.{bounded}
@@ -86,28 +86,36 @@ of_taken held lines reads = ap (λ (r : Reading). scanned_of r.state) (reads [] 
 pub all_within : (tells : Bool) (old so new : SoFar) (all now : List Event) (held : Held) (s : Scanned)
     → HasTaken tells old so all now held → s ≡ scanned_of (read_after held []).state
     → length so.names ≤ length new.names → so.count.bytes ≤ BYTES → so.count.lines ≤ LINES → IsWithin new s
-all_within tells old so new all now held s taken is names bytes lines =
+all_within tells old so new all now held s taken is names few_bytes few_lines =
     let same : s ≡ scanned taken.lines = is ∙ of_taken held taken.lines taken.read_is in
-    let size = bounded taken.lines in
-    subst (λ (s : Scanned). IsWithin new s) (sym same) (record {
-      below = scanned-below (length new.names) taken.lines (wider (length so.names) (length new.names) taken.lines names taken.below);
-      bounded = record {
-        tokens = omega (arith, size.tokens, taken.few, bytes, lines);
-        bytes = omega (arith, size.bytes, taken.few, bytes, lines);
-      };
-    })
+    let opened = wider (length so.names) (length new.names) taken.lines names taken.below in
+    record {
+      lines = taken.lines;
+      made = same;
+      opened = opened;
+      few = omega (arith, taken.few, few_bytes, few_lines);
+      below = subst (IsBelow (length new.names)) (sym same) (scanned-below (length new.names) taken.lines opened);
+      bounded = subst (λ (s : Scanned). IsBounded s.store (web_size taken.lines)) (sym same) (bounded taken.lines);
+    }
 
 -- no line is left
 pub all_scanned : (old so new : SoFar) (all now later : List Event) (lines : List Line) (held : Held) (s : Scanned)
-    → ((more : List Line) → read_after held more ≡ read (lines ++ more)) → Gives lines old so all now → s ≡ scanned_of (read_after held []).state
+    → ((more : List Line) → read_after held more ≡ read (lines ++ more)) → web_size lines ≤ so.count.bytes + so.count.lines
+    → Gives lines old so all now → s ≡ scanned_of (read_after held []).state
     → Gives [] so new now later → later ≡ [] → Scans s old new all
-all_scanned old so new all now later lines held s reads gives is last none =
+all_scanned old so new all now later lines held s reads few gives is last none =
     let whole = gives_both lines [] old so new all now later gives last in
     let here : given_lines all ≡ lines =
     given_front (lines ++ []) old new all later whole ∙ ap (λ (es : List Event). (lines ++ []) ++ given_lines es) none ∙ append-nil (lines ++ []) ∙ append-nil lines in
+    let same : s ≡ scanned lines = is ∙ of_taken held lines reads in
+    let size = bounded lines in
     record {
-      made = is ∙ of_taken held lines reads ∙ ap scanned (sym here);
+      made = same ∙ ap scanned (sym here);
       gives = gives_all (lines ++ []) old new all later whole none;
+      small = subst (λ (s : Scanned). IsBounded s.store (new.count.bytes + new.count.lines)) (sym same) (record {
+        tokens = omega (arith, size.tokens, few, last.lines_are, last.bytes_are);
+        bytes = omega (arith, size.bytes, few, last.lines_are, last.bytes_are);
+      });
     }
 
 -- the merger stopped

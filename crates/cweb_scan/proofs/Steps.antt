@@ -12,6 +12,8 @@ use Rattle.cweb_scan.specs.declared.directive.Directive.{Directive}
 use Rattle.cweb_rules.specs.declared.context.Context.{Context}
 use Rattle.cweb_scan.specs.Directives as spec
 use Rattle.cweb_scan.specs.Directives.{is_bare, is_include, is_punct, is_some, some_include, ends_line, directive_tokens, with_next, directive_of}
+use Rattle.cweb_scan.specs.Directives.{goes_over}
+use Rattle.cweb_scan.specs.Kept as kept
 use Rattle.cweb_scan.specs.Kept.{last_of, last_seen, stage_of, seen_directive, is_line_end, is_backslash, is_blank_kept, is_outside, is_bare_stage, is_include_stage, further, next_stage, step, outside, after_tokens, has_part, IsTied}
 use Rattle.cweb_rules.specs.declared.context.Context.TheVariants.{Limbo, TeX, Definition, Macro, CText}
 use Rattle.cweb_store.specs.declared.part.PartKind.{PartKind}
@@ -58,6 +60,21 @@ backslash-seen (Some (Name n)) = refl
 backslash-seen (Some (Head n)) = refl
 backslash-seen (Some (Tail n)) = refl
 
+over-seen : (o : Option Token) (t : Token) → kept.goes_over (last_seen o) t ≡ goes_over o t
+over-seen o Newline = backslash-seen o
+over-seen o (Mark p) = refl
+over-seen o Blank = refl
+over-seen o (Punct b) = refl
+over-seen o (Word b) = refl
+over-seen o (Number b) = refl
+over-seen o (Literal b) = refl
+over-seen o (Verbatim b) = refl
+over-seen o Join = refl
+over-seen o Defs = refl
+over-seen o (Name n) = refl
+over-seen o (Head n) = refl
+over-seen o (Tail n) = refl
+
 stage_when : (v : Bool) → stage_of (if v then Some [] else None) ≡ (if v then Bare else Outside)
 stage_when true = refl
 stage_when false = refl
@@ -94,10 +111,10 @@ choice false ts t = stage_of_some ts t
 stage-seen : (o : Option (List Token)) (l : Option Token) (t : Token) → stage_of (directive_tokens o l t) ≡ next_stage (record { stage = stage_of o; last = last_seen l }) t
 stage-seen None l t = stage_when (is_punct (codes "#") (Some t) && ends_line l) ∙ ap (λ v. if is_punct (codes "#") (Some t) && v then Bare else Outside) (sym (ends-seen l))
 stage-seen (Some ts) l t =
-    choice (ends_line (Some t) && not (is_punct (codes "\\") l)) ts t
-    ∙ (λ i. if sym (ends-seen (Some t)) i && not (sym (backslash-seen l) i) then Outside else further (stage_of (Some ts)) t)
+    choice (ends_line (Some t) && not (goes_over l t)) ts t
+    ∙ (λ i. if sym (ends-seen (Some t)) i && not (sym (over-seen l t) i) then Outside else further (stage_of (Some ts)) t)
     ∙ ap (λ v. if v then (if is_punct (codes "#") (Some t) && is_line_end (last_seen l) then Bare else Outside)
-    else (if is_line_end (last_of t) && not (is_backslash (last_seen l)) then Outside else further (stage_of (Some ts)) t)) (sym (not_outside (is_bare ts) (is_include ts)))
+    else (if is_line_end (last_of t) && not (kept.goes_over (last_seen l) t) then Outside else further (stage_of (Some ts)) t)) (sym (not_outside (is_bare ts) (is_include ts)))
 
 step-seen : (d : spec.Directive) (t : Token) → seen_directive (with_next d t) ≡ step (seen_directive d) t
 step-seen d t = ap (λ (g : Stage). record { stage = g; last = last_of t }) (stage-seen d.tokens d.last t)

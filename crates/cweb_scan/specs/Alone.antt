@@ -71,7 +71,7 @@ pub record ReadsAlone (t : Token) : Type 0 where
   pub whole : front_in CText false (doubled (bytes_of t)) ≡ front kind (length (doubled (bytes_of t)))
   pub token : token_of kind (doubled (bytes_of t)) ≡ Some t
 
--- a byte that would go on with a token
+-- a byte that may go on with a token
 abbrev pub goes_on : (ℕ → ℕ → Bool) → Token → ℕ → Bool
 goes_on joins (Word bytes) b = after_word b
 goes_on joins (Number bytes) b = after_number b

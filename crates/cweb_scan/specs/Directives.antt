@@ -27,10 +27,15 @@ is_blank None = false
 is_blank (Some Blank) = true
 is_blank (Some t) = false
 
--- A `#` right after a Newline or Mark begins one. The first Newline or Mark ends it that isn't right after a `\`.
+-- a directive goes on over a line end that stands right after a `\`: a Newline, but no Mark
+abbrev pub goes_over : Option Token → Token → Bool
+goes_over last Newline = is_punct (codes "\\") last
+goes_over last t = false
+
+-- A `#` right after a Newline or Mark begins one. A Mark ends it, and so does a Newline that isn't right after a `\`.
 abbrev pub directive_tokens : Option (List Token) → Option Token → Token → Option (List Token)
 directive_tokens None last t = if is_punct (codes "#") (Some t) && ends_line last then Some [] else None
-directive_tokens (Some ts) last t = if ends_line (Some t) && not (is_punct (codes "\\") last) then None else Some (t ∷ ts)
+directive_tokens (Some ts) last t = if ends_line (Some t) && not (goes_over last t) then None else Some (t ∷ ts)
 
 abbrev pub with_next : Directive → Token → Directive
 with_next d t = record { tokens = directive_tokens d.tokens d.last t; last = Some t }

@@ -38,6 +38,10 @@ is_line_end l = elim l [ last.LineEnd ↦ true | last.Backslash ↦ false | last
 abbrev pub is_backslash : Last → Bool
 is_backslash l = elim l [ last.LineEnd ↦ false | last.Backslash ↦ true | last.Blank ↦ false | last.Other ↦ false ]
 
+abbrev pub goes_over : Last → Token → Bool
+goes_over l Newline = is_backslash l
+goes_over l t = false
+
 abbrev pub is_outside : Stage → Bool
 is_outside g = elim g [ Outside ↦ true | Bare ↦ false | Include ↦ false | Further ↦ false ]
 
@@ -65,7 +69,7 @@ further g t = if is_blank_token t then g else (if is_include_word t && is_bare_s
 abbrev pub next_stage : Directive → Token → Stage
 next_stage d t =
     if is_outside d.stage then (if is_punct (codes "#") (Some t) && is_line_end d.last then Bare else Outside)
-    else (if is_line_end (last_of t) && not (is_backslash d.last) then Outside else further d.stage t)
+    else (if is_line_end (last_of t) && not (goes_over d.last t) then Outside else further d.stage t)
 
 abbrev pub step : Directive → Token → Directive
 step d t = record { stage = next_stage d t; last = last_of t }

@@ -4,7 +4,7 @@ use Rattle.cweb_files.specs.declared.place.Place.{Place}
 use Rattle.cweb_lines.specs.Lines.{Line}
 use Rattle.cweb_store.specs.Parts.{Token, Mark, all_tokens}
 use Rattle.cweb_store.specs.Calls.{Stored}
-use Rattle.cweb_scan.specs.Bound.{total, text_size, occurrence_size, replacement_size}
+use Rattle.cweb_store.specs.Texts.{bytes_given}
 use Rattle.cweb_rules.specs.Kinds.{Piece}
 use Rattle.cweb_scan.specs.After.{Reading, after}
 use Rattle.cweb_scan.specs.Run.{front_of, Scanned}
@@ -24,10 +24,10 @@ abbrev pub web_size : List Line → ℕ
 web_size [] = 0
 web_size (line ∷ lines) = length line.bytes + 1 + web_size lines
 
--- the tokens of all parts, and the bytes of all texts
+-- at most so many tokens, and so many bytes of texts, each counted as often as it was given; `text_bytes` are no more
 pub record IsBounded (store : Stored) (n : ℕ) : Type 0 where
   pub tokens : length (all_tokens store.parts) ≤ n
-  pub bytes : total text_size (all_tokens store.parts) + (total occurrence_size store.occurrences + total replacement_size store.replacements) ≤ n
+  pub bytes : bytes_given store ≤ n
 
 abbrev pub MarkPasses : (Place → Bool) → Token → Type 0
 MarkPasses test (Mark place) = test place ≡ true

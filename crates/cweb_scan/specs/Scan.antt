@@ -30,15 +30,21 @@ pub record IsBelow (files : ℕ) (s : Scanned) : Type 0 where
 abbrev pub AreBelow : ℕ → List Line → Type 0
 AreBelow files lines = All (λ line. line.place.file.0 < files) lines
 
--- all Marks and faults stand in files that have been opened, and no more is kept than the limits let a merger take
+-- Some lines of opened files were scanned, no more than the limits let a merger take. All Marks and faults stand in opened
+-- files, and no more is kept than these lines have bytes, with a newline each.
 pub record IsWithin (told : SoFar) (s : Scanned) : Type 0 where
+  pub lines : List Line
+  pub made : s ≡ scanned lines
+  pub opened : AreBelow (length told.names) lines
+  pub few : web_size lines ≤ BYTES + LINES
   pub below : IsBelow (length told.names) s
-  pub bounded : IsBounded s.store (BYTES + LINES)
+  pub bounded : IsBounded s.store (web_size lines)
 
--- all lines that are to come were given out and scanned
+-- all lines that are to come were given out and scanned, and no more is kept than was taken, in bytes and lines
 pub record Scans (s : Scanned) (old new : SoFar) (all : List Event) : Type 0 where
   pub made : s ≡ scanned (given_lines all)
   pub gives : Gives (given_lines all) old new all []
+  pub small : IsBounded s.store (new.count.bytes + new.count.lines)
 
 -- behind some lines comes one that can't be taken
 pub record StopsAfter (stop : Stop) (old now : Count) (all : List Event) : Type 0 where

@@ -2,7 +2,7 @@
 ghost use Rattle.std.specs.Prelude.{◌≡◌, true, Some, codes};
 ghost use Rattle.cweb_store.specs.Seen.{seen};
 ghost use Rattle.cweb_scan.specs.Directives.{is_punct};
-ghost use Rattle.cweb_scan.specs.Kept.{last_of as last, further as further_stage, next_stage as stage_after, step, outside, is_include_stage, is_include_word, is_blank_token};
+ghost use Rattle.cweb_scan.specs.Kept.{last_of as last, goes_over as goes_over_line, further as further_stage, next_stage as stage_after, step, outside, is_include_stage, is_include_word, is_blank_token};
 
 use cweb_store::Token;
 
@@ -46,6 +46,14 @@ fn last_of(token: Token<'_>) -> Last
         }
         _ => Last::Other,
     }
+}
+
+// Whether an open directive goes on over the line end that a token is.
+#[inline(always)]
+fn goes_over(last: Last, token: Token<'_>) -> bool
+    ensures { result ≡ goes_over_line last (seen token.entry) }
+{
+    matches!(token, Token::Newline) && matches!(last, Last::Backslash)
 }
 
 fn opens(token: Token<'_>) -> bool
@@ -105,7 +113,7 @@ impl Directive {
             }
             return Stage::Outside;
         }
-        if matches!(last_of(token), Last::LineEnd) && !matches!(self.last, Last::Backslash) {
+        if matches!(last_of(token), Last::LineEnd) && !goes_over(self.last, token) {
             return Stage::Outside;
         }
         further(self.stage, token)

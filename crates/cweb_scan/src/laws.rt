@@ -43,15 +43,16 @@ pub fn pieces_stand_on_their_lines()
     ensures { (line : Line) (lines : List Line) → All (λ l. HasNoNewline l.bytes) (line ∷ lines) → StandOnTheirLines line lines }
 {}
 
-/// A token that reads alone is read as itself wherever a C part is open and no directive in it, whatever follows that does not
-/// go on with it.
+/// A token that reads alone, but for the sign that begins a directive, is read as itself wherever a C part is open and no
+/// directive in it, whatever follows whose first byte may not go on with it. Layout, section comments and marks don't count here.
 pub fn tokens_are_read_again()
     ensures { (joins : ℕ → ℕ → Bool) (r : Reading) (token : Token) (rest : List ℕ) → JoinsAll joins → InPlainC r.state
         → ReadsAlone token → is_hash token ≡ false → first_is (goes_on joins token) rest ≡ false
         → IsRead r (doubled (bytes_of token)) rest (solid (token ∷ [])) }
 {}
 
-/// There a comment with neither `*` nor `@` in it, and a line end, give no token but what stands between tokens, and no fault.
+/// There a comment with neither `*` nor `@` in it, and a line end, give no tokens but layout, section comments and marks, and no
+/// fault.
 pub fn what_stands_between_is_passed()
     ensures comments { (r : Reading) (text rest : List ℕ) → list_all is_quiet text ≡ true → InPlainC r.state
         → IsRead r (codes "/*" ++ (text ++ codes "*/")) rest [] }

@@ -2,7 +2,8 @@
 ghost use Rattle.std.specs.Prelude.{◌≡◌, [], ◌<◌, ◌+◌, ◌*◌, ◌^◌, ◌≤◌, length, IsTrue, Err, IfErr, IfOk, IfSome, OnOk, None, Some};
 ghost use Rattle.cweb_files.specs.Frames.{KeepsTexts};
 ghost use Rattle.cweb_lines.specs.Texts.{files_named};
-ghost use Rattle.cweb_lines.specs.Whole.{to_come, so_far, stop_in, HasEnded, Grows};
+ghost use Rattle.cweb_lines.specs.Naming.{BlamesFile};
+ghost use Rattle.cweb_lines.specs.Whole.{to_come, so_far, stop_in, HasEnded, Grows, KnowsReaders};
 ghost use Rattle.cweb_store.specs.Calls.{too_many};
 ghost use Rattle.cweb_scan.specs.Held.{cost, read_after};
 ghost use Rattle.cweb_scan.specs.Run.{scanned_of};
@@ -40,6 +41,9 @@ pub fn scan<S: Shelf>(alloc: Global, merger: &mut Merger<S>, shelf: &mut S) -> R
         IfErr result (λ stop. EndsEarly stop (so_far merger.old) (so_far merger.new) (to_come S.Shelf shelf.old merger.old)) }
     ensures blames { stop_in merger.old ≡ None →
         IfErr result (λ stop. Blames stop (S.failed shelf.old) (S.failed shelf.new) (stop_in merger.new)) }
+    ensures blamed { IsTrue (S.tells shelf.old) → KnowsReaders S.Shelf shelf.old merger.old →
+        stop_in merger.old ≡ None → BlamesFile (so_far merger.new).names
+        (S.blamed shelf.old) (S.blamed shelf.new) result }
     ensures again { IfSome (stop_in merger.old) (λ stop.
         (result ≡ Err stop) × (merger.new ≡ merger.old) × (shelf.new ≡ shelf.old)) }
     ensures named { IfErr result (λ stop. files_named stop ≤ length (so_far merger.new).names) }

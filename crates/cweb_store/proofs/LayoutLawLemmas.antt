@@ -4,7 +4,8 @@ use Rattle.std.specs.Prelude.{if◌then◌else◌}
 use Rattle.std.proofs.lemmas.List.{take-append-drop}
 use Rattle.cweb_store.specs.Parts.{Token}
 use Rattle.cweb_store.specs.Layout.{before_last, without_last, without_last_after, first_kept, is_layout}
-use Rattle.cweb_store.specs.MoreLaws.{AllPass, IsFront, DroppingKeepsTheFront}
+use Rattle.cweb_store.specs.declared.part.PartKind.TheVariants.{Macro}
+use Rattle.cweb_store.specs.MoreLaws.{AllPass, IsFront, DroppingKeepsTheFront, MacrosKeepTwoTokens}
 
 before_last-front : (test : Token → Bool) (t : Token) (ts us rest : List Token) → ts ≡ us ++ rest → AllPass test rest → IsFront test (t ∷ ts) (before_last test t us)
 before_last-front test t ts [] rest splits passes =
@@ -29,15 +30,27 @@ trimmed-front n test ts =
       passes = f.passes;
     }
 
+take-none : (xs : List Token) → take zero xs ≡ []
+take-none [] = refl
+take-none (x ∷ xs) = refl
+
 first-stay : (n : ℕ) (test : Token → Bool) (ts : List Token) → take n (without_last_after n test ts) ≡ take n ts
 first-stay zero test [] = refl
 first-stay zero test (t ∷ ts) = take-none (without_last_after zero test (t ∷ ts))
-  where
-    take-none : (xs : List Token) → take zero xs ≡ []
-    take-none [] = refl
-    take-none (x ∷ xs) = refl
 first-stay (suc n) test [] = refl
 first-stay (suc n) test (t ∷ ts) = ap (λ xs. t ∷ xs) (first-stay n test ts)
 
 pub dropping_keeps_the_front : DroppingKeepsTheFront
 dropping_keeps_the_front p = record { front = trimmed-front (first_kept p.kind) is_layout p.tokens; firsts = first-stay (first_kept p.kind) is_layout p.tokens }
+
+without_last-none : (test : Token → Bool) (ts : List Token) → AllPass test ts → without_last test ts ≡ []
+without_last-none test [] h = refl
+without_last-none test (t ∷ ts) h = ap (before_last test t) (without_last-none test ts h.1) ∙ ap (λ b. if b then [] else t ∷ []) h.0
+
+pub macros_keep_two_tokens : MacrosKeepTwoTokens
+macros_keep_two_tokens = record {
+  firsts = λ ts. (dropping_keeps_the_front (record { kind = Macro; tokens = ts })).firsts;
+  fronts = λ ts. (dropping_keeps_the_front (record { kind = Macro; tokens = ts })).front;
+  no_more = λ t u layout all. ap (λ us. t ∷ u ∷ (us ++ without_last is_layout layout)) (take-none layout)
+      ∙ ap (λ us. t ∷ u ∷ us) (without_last-none is_layout layout all);
+}

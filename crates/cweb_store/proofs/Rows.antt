@@ -12,6 +12,7 @@ use Rattle.cweb_store.specs.Names.{Occurrence, id, names, texts, standings, file
 use Rattle.cweb_store.specs.Parts.{Token, Word, Number, Name, Mark, Blank, Newline, Join, Defs, joined, is_of, is_unnamed, is_macro, numbers_where, has_defs_code}
 use Rattle.cweb_store.specs.Replacements.{replacement, replacement_of}
 use Rattle.cweb_store.specs.Faults.{fault, faults}
+use Rattle.cweb_store.specs.MoreLaws.{left_of_macro}
 use Rattle.cweb_store.specs.Texts.{bytes_given, bytes_kept}
 use Rattle.cweb_store.specs.Calls.{Call, Occurs, Opens, Pushes, Drops, Closes, Transliterates, Stored, contents, finished, occurrence_of}
 
@@ -137,6 +138,9 @@ layout_of_a_macro_of_one = refl
 
 layout_of_a_macro_of_two : dropped_of Macro (x ∷ Blank ∷ []) ≡ x ∷ Blank ∷ []
 layout_of_a_macro_of_two = refl
+
+two_layout_tokens_of_a_macro : left_of_macro (Newline ∷ Blank ∷ Blank ∷ Newline ∷ []) ≡ Newline ∷ Blank ∷ []
+two_layout_tokens_of_a_macro = refl
 
 layout_of_a_macro_of_three : dropped_of Macro (x ∷ Blank ∷ Newline ∷ []) ≡ x ∷ Blank ∷ []
 layout_of_a_macro_of_three = refl

@@ -2,6 +2,7 @@ pub mod Names
 pub mod Parts
 pub mod Layout
 pub mod Growing
+pub mod Rooms
 pub mod Replacements
 pub mod Faults
 pub mod Calls

@@ -3,6 +3,7 @@ use Rattle.std.specs.Prelude.{◌≡◌, ℕ, Bool, true, nat_eq, List, [], ◌�
 use Rattle.std.specs.List.{starts_with}
 use Rattle.cweb_store.specs.declared.name.How.TheVariants.{Prefix}
 use Rattle.cweb_store.specs.declared.name.NameFault.{NameFault}
+use Rattle.cweb_store.specs.declared.part.PartKind.TheVariants.{Macro}
 use Rattle.cweb_store.specs.Names.{Occurrence, Standing, texts, names}
 use Rattle.cweb_store.specs.Parts.{Token, Part}
 use Rattle.cweb_store.specs.Layout.{is_layout, first_kept, without_layout}
@@ -42,3 +43,13 @@ pub record KeepsFront (p : Part) : Type 0 where
 
 abbrev pub DroppingKeepsTheFront : Type 0
 DroppingKeepsTheFront = (p : Part) → KeepsFront p
+
+-- what is left of a macro's tokens where its last layout is dropped
+abbrev pub left_of_macro : List Token → List Token
+left_of_macro ts = (without_layout (record { kind = Macro; tokens = ts })).tokens
+
+-- a macro keeps its first two tokens, whatever follows; only layout at its end is dropped, and behind the two all of it
+pub record MacrosKeepTwoTokens : Type 0 where
+  pub firsts : (ts : List Token) → take 2 (left_of_macro ts) ≡ take 2 ts
+  pub fronts : (ts : List Token) → IsFront is_layout ts (left_of_macro ts)
+  pub no_more : (t u : Token) (layout : List Token) → AllPass is_layout layout → left_of_macro (t ∷ u ∷ layout) ≡ t ∷ u ∷ []

@@ -30,7 +30,7 @@ impl Model for Builder {
 
     ghost Value = { Contents };
 
-    ghost view = { λ s. record { occurrences = s.names; parts = s.parts; replacements = s.replacements } };
+    ghost view = { λ s. record { occurrences = s.names; parts = s.parts.parts; replacements = s.replacements } };
 }
 
 impl Builder {

@@ -4,7 +4,7 @@
 ghost use Rattle.std.specs.Prelude.{◌≡◌, map, IfOk};
 ghost use Rattle.cweb_store.specs.Calls.{contents, empty};
 ghost use Rattle.cweb_store.specs.Laws.{AbbreviationsStay, EarlierNamesDecide, FullNamesStandForThemselves, JoiningConcatenates, OccurrencesAreThoseOfCalls};
-ghost use Rattle.cweb_store.specs.MoreLaws.{AbbreviationsBeginTheirNames, DroppingKeepsTheFront, NamesAreDistinct, OneFaultForNoName};
+ghost use Rattle.cweb_store.specs.MoreLaws.{AbbreviationsBeginTheirNames, DroppingKeepsTheFront, MacrosKeepTwoTokens, NamesAreDistinct, OneFaultForNoName};
 ghost use Rattle.cweb_store.specs.TokenLaws.{TokensAreThosePushed};
 ghost use Rattle.cweb_store.specs.Made.{given, TakesAll};
 
@@ -67,6 +67,11 @@ pub fn one_fault_for_no_name()
 /// Dropping layout changes nothing before it, and a macro keeps its first two tokens.
 pub fn dropping_keeps_the_front()
     ensures { DroppingKeepsTheFront }
+{}
+
+/// A macro keeps its first two tokens, whatever follows. What is dropped of it is layout at its end, and all of that behind the two.
+pub fn macros_keep_two_tokens()
+    ensures { MacrosKeepTwoTokens }
 {}
 
 /// The tokens of the parts are those that were pushed, in their order, but for layout that was dropped.

@@ -22,11 +22,11 @@ pub enum Trailing {
 
 /// The number after the last token of an open part that isn't layout. A macro's first two tokens are never layout.
 pub fn end_before_layout(tokens: &TokenList, current: Open) -> usize
-    requires { current.first ≤ length tokens.now }
-    ensures part { open_in (take result tokens.now) current ≡ without_layout (open_in tokens.now current) }
-    ensures texts { filter has_text (take result tokens.now) ≡ filter has_text tokens.now }
+    requires { current.first ≤ length tokens.now.tokens }
+    ensures part { open_in (take result tokens.now.tokens) current ≡ without_layout (open_in tokens.now.tokens current) }
+    ensures texts { filter has_text (take result tokens.now.tokens) ≡ filter has_text tokens.now.tokens }
     ensures begins { current.first ≤ result }
-    ensures within { result ≤ length tokens.now }
+    ensures within { result ≤ length tokens.now.tokens }
 {
     let kept = if current.kind.is_macro() { 2 } else { 0 };
     end_before(tokens, current.first as usize + kept, Trailing::Layout)
@@ -34,11 +34,11 @@ pub fn end_before_layout(tokens: &TokenList, current: Open) -> usize
 
 /// The number after the last token that an open part has when it is closed.
 pub fn end_at_close(tokens: &TokenList, current: Open) -> usize
-    requires { current.first ≤ length tokens.now }
-    ensures part { open_in (take result tokens.now) current ≡ at_close (open_in tokens.now current) }
-    ensures texts { filter has_text (take result tokens.now) ≡ filter has_text tokens.now }
+    requires { current.first ≤ length tokens.now.tokens }
+    ensures part { open_in (take result tokens.now.tokens) current ≡ at_close (open_in tokens.now.tokens current) }
+    ensures texts { filter has_text (take result tokens.now.tokens) ≡ filter has_text tokens.now.tokens }
     ensures begins { current.first ≤ result }
-    ensures within { result ≤ length tokens.now }
+    ensures within { result ≤ length tokens.now.tokens }
 {
     if !current.kind.is_macro() {
         return tokens.len();
@@ -50,10 +50,10 @@ pub fn end_at_close(tokens: &TokenList, current: Open) -> usize
 
 // The number after the last token that isn't dropped, of those from a number on.
 fn end_before(tokens: &TokenList, from: usize, trailing: Trailing) -> usize
-    ensures kept { take result tokens.now ≡ without_last_after from (is_dropped trailing) tokens.now }
-    ensures texts { filter has_text (take result tokens.now) ≡ filter has_text tokens.now }
-    ensures begins { (n : ℕ) → n ≤ from → n ≤ length tokens.now → n ≤ result }
-    ensures within { result ≤ length tokens.now }
+    ensures kept { take result tokens.now.tokens ≡ without_last_after from (is_dropped trailing) tokens.now.tokens }
+    ensures texts { filter has_text (take result tokens.now.tokens) ≡ filter has_text tokens.now.tokens }
+    ensures begins { (n : ℕ) → n ≤ from → n ≤ length tokens.now.tokens → n ≤ result }
+    ensures within { result ≤ length tokens.now.tokens }
 {
     let mut end = tokens.len();
     while from < end && is_dropped(tokens.token(end - 1), trailing) {
@@ -76,9 +76,9 @@ fn is_dropped(token: Token<'_>, trailing: Trailing) -> bool
 // The end of tokens, less a Blank that is the last of them, from a number on.
 fn end_before_blank(tokens: &TokenList, from: usize, end: usize) -> usize
     requires begins { from ≤ end }
-    requires within { end ≤ length tokens.now }
-    ensures kept { drop from (take result tokens.now) ≡ without_blank (drop from (take end tokens.now)) }
-    ensures texts { filter has_text (take result tokens.now) ≡ filter has_text (take end tokens.now) }
+    requires within { end ≤ length tokens.now.tokens }
+    ensures kept { drop from (take result tokens.now.tokens) ≡ without_blank (drop from (take end tokens.now.tokens)) }
+    ensures texts { filter has_text (take result tokens.now.tokens) ≡ filter has_text (take end tokens.now.tokens) }
     ensures begins { from ≤ result }
     ensures within { result ≤ end }
 {

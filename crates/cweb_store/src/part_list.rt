@@ -8,7 +8,7 @@ ghost use Rattle.cweb_store.specs.Runs.{last_run};
 use crate::closed_parts::ClosedParts;
 use crate::layout::{end_at_close, end_before_layout};
 use crate::part::{Open, Part, PartKind, Run};
-use crate::reserved::put;
+use crate::reserved::{put, put_in_room};
 use crate::token::Token;
 use crate::token_list::TokenList;
 use std::alloc::{AllocError, Global};
@@ -24,22 +24,22 @@ pub struct PartList {
 
 impl Model for PartList {
     ghost use Rattle.std.specs.Prelude.{vec_capacity};
-    ghost use Rattle.cweb_store.specs.Growing.{PartsSoFar};
+    ghost use Rattle.cweb_store.specs.Rooms.{PartsInRooms, in_rooms};
 
-    ghost Value = { PartsSoFar };
+    ghost Value = { PartsInRooms };
 
     ghost use Rattle.cweb_store.specs.Runs.{parts_in, AreRuns};
 
-    ghost view = { λ s. parts_in s.tokens s.runs.items s.current };
+    ghost view = { λ s. in_rooms (parts_in s.tokens.tokens s.runs.items s.current) s.tokens.room (vec_capacity s.runs) };
 
-    ghost invariant = { λ s. AreRuns s.tokens s.runs.items s.current (vec_capacity s.runs) };
+    ghost invariant = { λ s. AreRuns s.tokens.tokens s.runs.items s.current (vec_capacity s.runs) };
 }
 
 impl PartList {
     ghost use Rattle.cweb_store.specs.Seen.{seen};
 
     pub fn new(alloc: Global) -> PartList
-        ensures { result ≡ no_parts }
+        ensures { result.parts ≡ no_parts }
     {
         PartList {
             tokens: TokenList::new(alloc),
@@ -48,12 +48,12 @@ impl PartList {
         }
     }
 
-    /// Begins a part. A refused call changes nothing.
+    /// Begins a part. A refused call leaves the parts as they were.
     pub fn open(&mut self, kind: PartKind) -> Result<(), AllocError>
-        requires closed { IsNone self.old.current }
-        requires few { part_count self.old + 1 < too_many }
-        ensures ok { OnOk result (self.new ≡ opened kind self.old) }
-        ensures err { OnErr result (self.new ≡ self.old) }
+        requires closed { IsNone self.old.parts.current }
+        requires few { part_count self.old.parts + 1 < too_many }
+        ensures ok { OnOk result (self.new.parts ≡ opened kind self.old.parts) }
+        ensures err { OnErr result (self.new.parts ≡ self.old.parts) }
     {
         // room for the part, so that `close` cannot fail
         self.runs.reserve(1)?;
@@ -62,21 +62,22 @@ impl PartList {
         Ok(())
     }
 
-    /// Adds a token to the open part. A refused call changes nothing.
+    /// Adds a token to the open part. A refused call leaves the parts as they were.
     pub fn push(&mut self, token: Token<'_>) -> Result<(), AllocError>
-        requires open { IsSome self.old.current }
-        requires few { token_count self.old + 1 < too_many }
-        ensures ok { OnOk result (self.new ≡ pushed (seen token.entry) self.old) }
-        ensures err { OnErr result (self.new ≡ self.old) }
+        requires open { IsSome self.old.parts.current }
+        requires few { token_count self.old.parts + 1 < too_many }
+        ensures ok { OnOk result (self.new.parts ≡ pushed (seen token.entry) self.old.parts) }
+        ensures err { OnErr result (self.new.parts ≡ self.old.parts) }
     {
         self.tokens.push(token)?;
         Ok(())
     }
 
-    /// Drops the last layout of the open part.
+    /// Drops the last layout of the open part. It takes no memory.
     pub fn drop_layout(&mut self)
-        requires { IsSome self.old.current }
-        ensures { self.new ≡ dropped self.old }
+        requires { IsSome self.old.parts.current }
+        ensures parts { self.new.parts ≡ dropped self.old.parts }
+        ensures rooms { self.new.rooms ≡ self.old.rooms }
     {
         let Some(current) = self.current else {
             return;
@@ -85,10 +86,11 @@ impl PartList {
         self.tokens.truncate(end);
     }
 
-    /// Ends the open part.
+    /// Ends the open part. It takes no memory.
     pub fn close(&mut self)
-        requires { IsSome self.old.current }
-        ensures { self.new ≡ all_closed self.old }
+        requires { IsSome self.old.parts.current }
+        ensures parts { self.new.parts ≡ all_closed self.old.parts }
+        ensures rooms { self.new.rooms ≡ self.old.rooms }
     {
         let Some(current) = self.current else {
             return;
@@ -97,12 +99,12 @@ impl PartList {
         self.tokens.truncate(end);
         let run = closed_run(current, end as u32);
         self.current = None;
-        put(&mut self.runs, run);
+        put_in_room(&mut self.runs, run);
     }
 
     /// The parts, where one that is open counts as it stands.
     pub fn finish(self) -> ClosedParts
-        ensures { result ≡ all_parts self }
+        ensures { result ≡ all_parts self.parts }
     {
         let PartList {
             tokens,

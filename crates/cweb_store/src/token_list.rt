@@ -20,15 +20,15 @@ pub struct TokenList {
 }
 
 impl Model for TokenList {
-    ghost use Rattle.std.specs.Prelude.{List, map};
-    ghost use Rattle.cweb_store.specs.Parts.{Token};
+    ghost use Rattle.std.specs.Prelude.{map, vec_capacity};
+    ghost use Rattle.cweb_store.specs.Rooms.{TokensInRoom};
 
-    ghost Value = { List Token };
+    ghost Value = { TokensInRoom };
 
     ghost use Rattle.cweb_store.specs.Packed.{token_in};
     ghost use Rattle.cweb_store.specs.ClosedTokens.{AreTokens};
 
-    ghost view = { λ s. map (token_in s.texts.texts) s.records.items };
+    ghost view = { λ s. record { tokens = map (token_in s.texts.texts) s.records.items; room = vec_capacity s.records } };
 
     ghost invariant = { λ s. AreTokens s.texts s.records.items };
 }
@@ -37,7 +37,7 @@ impl TokenList {
     ghost use Rattle.cweb_store.specs.Seen.{seen};
 
     pub fn new(alloc: Global) -> TokenList
-        ensures { result ≡ [] }
+        ensures { result.tokens ≡ [] }
     {
         TokenList {
             texts: WordTexts::new(alloc),
@@ -46,15 +46,15 @@ impl TokenList {
     }
 
     pub fn len(&self) -> usize
-        ensures { result ≡ length self.now }
+        ensures { result ≡ length self.now.tokens }
     {
         self.records.len()
     }
 
-    /// Adds a token. A refused call changes nothing.
+    /// Adds a token. A refused call leaves the tokens as they were.
     pub fn push(&mut self, token: Token<'_>) -> Result<(), AllocError>
-        ensures ok { OnOk result (self.new ≡ self.old ++ seen token.entry ∷ []) }
-        ensures err { OnErr result (self.new ≡ self.old) }
+        ensures ok { OnOk result (self.new.tokens ≡ self.old.tokens ++ seen token.entry ∷ []) }
+        ensures err { OnErr result (self.new.tokens ≡ self.old.tokens) }
     {
         self.records.reserve(1)?;
         let packed = pack(&mut self.texts, token)?;
@@ -63,24 +63,25 @@ impl TokenList {
     }
 
     pub fn token(&self, number: usize) -> Token<'_>
-        requires { number < length self.now }
-        ensures { slice_get self.now number ≡ Some (seen result) }
+        requires { number < length self.now.tokens }
+        ensures { slice_get self.now.tokens number ≡ Some (seen result) }
     {
         let packed = self.records[number];
         lend(self.texts.texts(), packed)
     }
 
-    /// Keeps the first `count` tokens. The others have no text.
+    /// Keeps the first `count` tokens. The others have no text. It takes no memory.
     pub fn truncate(&mut self, count: usize)
-        requires { filter has_text (take count self.old) ≡ filter has_text self.old }
-        ensures { self.new ≡ take count self.old }
+        requires { filter has_text (take count self.old.tokens) ≡ filter has_text self.old.tokens }
+        ensures tokens { self.new.tokens ≡ take count self.old.tokens }
+        ensures room { self.new.room ≡ self.old.room }
     {
         self.records.truncate(count);
     }
 
     /// The same tokens, to which none comes. Behind their texts others may come.
     pub fn close(self) -> ClosedTokens
-        ensures { result ≡ tokens_alone self }
+        ensures { result ≡ tokens_alone self.tokens }
     {
         let TokenList { texts, records } = self;
         let texts = texts.close();

@@ -2,8 +2,8 @@
 use Rattle.std.proofs.Common.{◌≡◌, inl, inr, List, [], ◌∷◌, ◌++◌, sym, ◌∙◌, ap, append-nil, append_assoc}
 use Rattle.std.specs.Prelude.{None}
 use Rattle.std.specs.List.{flat_map}
+use Rattle.cweb_log.specs.Items.{line}
 use Rattle.cweb_tools.specs.Acts.{Held, Act, judges, says, opens, reads, plans, reserves, writes, after_act, Runs}
-use Rattle.cweb_tools.specs.Items.{line}
 use Rattle.cweb_tools.specs.Leaves.{put_files}
 use Rattle.cweb_tools.specs.Script.{files_in, items_in}
 
@@ -13,7 +13,7 @@ files_all [] old new is = ap (λ (d : Held). d.files) is
 files_all (judges ∷ acts) old new (inl run) = files_all acts old new run.1
 files_all (says item ∷ acts) old new (inl run) = files_all acts (after_act (says item) old) new run.1
 files_all (opens ∷ acts) old new (inl run) = files_all acts old new run.1
-files_all (reads names lines ∷ acts) old new (inl run) = files_all acts old new run.1
+files_all (reads names events ∷ acts) old new (inl run) = files_all acts old new run.1
 files_all (plans ∷ acts) old new (inl run) = files_all acts old new run.1
 files_all (reserves ∷ acts) old new (inl run) = files_all acts old new run.1
 files_all (writes name text ∷ acts) old new (inl run) = files_all acts (after_act (writes name text) old) new run.1
@@ -25,7 +25,7 @@ log_all [] old new is = ap (λ (d : Held). d.log) is ∙ sym (append-nil old.log
 log_all (judges ∷ acts) old new (inl run) = log_all acts old new run.1
 log_all (says item ∷ acts) old new (inl run) = log_all acts (after_act (says item) old) new run.1 ∙ append_assoc old.log (line item) (flat_map line (items_in acts))
 log_all (opens ∷ acts) old new (inl run) = log_all acts old new run.1
-log_all (reads names lines ∷ acts) old new (inl run) = log_all acts old new run.1
+log_all (reads names events ∷ acts) old new (inl run) = log_all acts old new run.1
 log_all (plans ∷ acts) old new (inl run) = log_all acts old new run.1
 log_all (reserves ∷ acts) old new (inl run) = log_all acts old new run.1
 log_all (writes name text ∷ acts) old new (inl run) = log_all acts (after_act (writes name text) old) new run.1

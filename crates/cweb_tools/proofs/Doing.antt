@@ -1,22 +1,18 @@
 -- Calls one after another, and how a run ends behind them.
 use Rattle.std.proofs.Common.{◌≡◌, inl, inr, ◌+◌, ℕ, Bool, List, [], ◌∷◌, ◌++◌, refl, sym, ◌∙◌, ap, subst, add-zero}
 use Rattle.std.specs.Prelude.{false, Option, Some, None, IsErr, IsTrue, Result, Ok, Err}
-use Rattle.cweb_files.specs.Files.{committed, nothing_beside, with_draft}
+use Rattle.cweb_files.specs.Files.{Beside, always_open, committed, with_draft}
 use Rattle.cweb_lines.specs.Texts.{read_blame}
 use Rattle.cweb_lines.specs.declared.stop.Stop.{Stop}
 use Rattle.cweb_lines.specs.declared.stop.Stop.TheVariants.{LogFault, Memory}
+use Rattle.cweb_log.specs.Log.{stop_line}
+use Rattle.cweb_log.specs.Gathering.{Logs}
+use Rattle.cweb_log.specs.Seen.{SeenBins, SeenRun, SeenShelf, SeenStream}
+use Rattle.cweb_log.specs.declared.shown.Shown.{Shown}
 use Rattle.cweb_tools.specs.Acts.{Act, Breaks, Ending, ending, Held, Runs, after_act, plans, reserves, says, writes}
-use Rattle.cweb_tools.specs.Does.{Closes, ClosesInBoth, ClosesInLog, ClosesLog, Does, DoesInBins, DoesInBoth, DoesInLog, bins_blame, done, halted, held, LogsEnding, log_blame, rise, told}
-use Rattle.cweb_tools.specs.Log.{stop_line}
-use Rattle.cweb_tools.specs.Run.{Logs}
+use Rattle.cweb_tools.specs.Does.{AsTold, Closes, ClosesInBoth, ClosesInLog, ClosesLog, Does, DoesInBins, DoesInBoth, DoesInLog, LogsEnding, bins_blame, done, halted, log_blame, rise, told}
 use Rattle.cweb_tools.specs.Script.{Numbers, closing_acts}
-use Rattle.cweb_tools.specs.Seen.{AllTell, SeenBins, SeenRun, SeenShelf, SeenStream}
-use Rattle.cweb_tools.specs.declared.shown.Shown.{Shown}
 use Rattle.cweb_tools.proofs.Running.{runs_on, stops_in}
-
--- devices that tell go on telling
-pub tell_on : (acts : List Act) (why : Option Ending) (before after : SeenRun) → Does acts why before after → AllTell before → AllTell after
-tell_on acts why before after does tell = (subst IsTrue (sym does.shelf_tells) tell.0, subst IsTrue (sym does.bins_tells) tell.1, subst IsTrue (sym does.log_tells) tell.2)
 
 -- nothing was done
 pub does_none : (seen : SeenRun) → Does [] None seen seen
@@ -27,7 +23,7 @@ does_none seen = record {
   shelf = sym (add-zero seen.shelf.failed);
   bins = sym (add-zero seen.bins.failed);
   log = sym (add-zero seen.log.failed);
-  runs = λ tell. refl;
+  runs = λ now told. record { left = now; told = told; runs = refl };
 }
 
 -- the first acts were done, and then the others
@@ -39,7 +35,10 @@ does_on xs ys why before mid after first then = record {
   shelf = then.shelf ∙ ap (λ (n : ℕ). n + rise read_blame why) (first.shelf ∙ add-zero before.shelf.failed);
   bins = then.bins ∙ ap (λ (n : ℕ). n + rise bins_blame why) (first.bins ∙ add-zero before.bins.failed);
   log = then.log ∙ ap (λ (n : ℕ). n + rise log_blame why) (first.log ∙ add-zero before.log.failed);
-  runs = λ tell. runs_on xs ys why (held before) (held mid) (held after) (first.runs tell) (then.runs (tell_on xs None before mid first tell));
+  runs = λ now told.
+      let one = first.runs now told in
+      let other = then.runs one.left one.told in
+      record { left = other.left; told = other.told; runs = runs_on xs ys why now one.left other.left one.runs other.runs };
 }
 
 -- something stopped the first acts
@@ -51,7 +50,8 @@ does_in xs ys why before after first = record {
   shelf = first.shelf;
   bins = first.bins;
   log = first.log;
-  runs = λ tell. stops_in xs ys why (held before) (held after) (first.runs tell);
+  runs = λ now told.
+      let lead = first.runs now told in record { left = lead.left; told = lead.told; runs = stops_in xs ys why now lead.left lead.runs };
 }
 
 -- the first acts were done, and the run ended in the others
@@ -65,10 +65,10 @@ pub closes_in : (xs ys : List Act) (due : ℕ) (why : Ending) (before then after
 closes_in xs ys due why before then after status does logs answered = halted why then (does_in xs ys why before then does) logs answered
 
 abbrev no_shelf : SeenShelf
-no_shelf = record { tells = false; failed = 0; texts = λ name. None }
+no_shelf = record { tells = false; failed = 0; texts = λ name. None; blamed = [] }
 
 abbrev no_bins : SeenBins
-no_bins = record { tells = false; failed = 0; bytes = []; beside = nothing_beside }
+no_bins = record { tells = false; failed = 0; bytes = []; beside = always_open }
 
 -- what happened to the count of a log alone
 pub log_counted : (acts : List Act) (why : Option Ending) (old new : SeenStream) → DoesInLog acts why old new → new.failed ≡ old.failed + rise log_blame why
@@ -100,7 +100,8 @@ does_about acts a b before after does = record {
   shelf = does.shelf;
   bins = does.bins;
   log = does.log;
-  runs = λ tell. log_about acts a b (held before) (held after) (does.runs tell);
+  runs = λ now told.
+      let lead = does.runs now told in record { left = lead.left; told = lead.told; runs = log_about acts a b now lead.left lead.runs };
 }
 
 -- the log failed in the first acts of a call that has the bins too
@@ -128,6 +129,33 @@ bins_counted acts why a b k l does = (does no_shelf).bins
 pub logs_counted : (acts : List Act) (why : Option Ending) (a b : SeenBins) (k l : SeenStream) → DoesInBoth acts why a b k l → l.failed ≡ k.failed + rise log_blame why
 logs_counted acts why a b k l does = (does no_shelf).log
 
+-- what stands beside the bytes of a draft
+abbrev beside_of : Held → Beside
+beside_of now = record { files = now.files; draft = now.draft; refused = now.refused }
+
+-- what the devices hold where the bins alone have changed: by what they held before and a change of it
+bins_told : (now left : Held) (shelf : SeenShelf) (a d : SeenBins) (log : SeenStream) (change : Beside → Beside) → AsTold now (record { shelf = shelf; bins = a; log = log })
+    → d.tells ≡ a.tells → (IsTrue a.tells → d.beside ≡ change a.beside) → left.bins_failed ≡ d.failed
+    → left ≡ record now {
+      bins_failed = left.bins_failed;
+      files = (change (beside_of now)).files;
+      draft = (change (beside_of now)).draft;
+      refused = (change (beside_of now)).refused;
+    } → AsTold left (record { shelf = shelf; bins = d; log = log })
+bins_told now left shelf a d log change told tells beside count is =
+    let first : IsTrue d.tells → IsTrue a.tells = λ tell. sym tells ∙ tell in
+    let same : IsTrue d.tells → change (beside_of now) ≡ d.beside = λ tell.
+    ap change (λ i. record { files = told.files (first tell) i; draft = told.draft (first tell) i; refused = told.refused (first tell) i }) ∙ sym (beside (first tell)) in record {
+      shelf_failed = ap (λ (h : Held). h.shelf_failed) is ∙ told.shelf_failed;
+      bins_failed = count;
+      log_failed = ap (λ (h : Held). h.log_failed) is ∙ told.log_failed;
+      blamed = λ tell. ap (λ (h : Held). h.blamed) is ∙ told.blamed tell;
+      files = λ tell. ap (λ (h : Held). h.files) is ∙ ap (λ (b : Beside). b.files) (same tell);
+      draft = λ tell. ap (λ (h : Held). h.draft) is ∙ ap (λ (b : Beside). b.draft) (same tell);
+      refused = λ tell. ap (λ (h : Held). h.refused) is ∙ ap (λ (b : Beside). b.refused) (same tell);
+      log = λ tell. ap (λ (h : Held). h.log) is ∙ told.log tell;
+    }
+
 -- a file was begun, printed and committed
 pub file_done : (name text : List ℕ) (a b c d : SeenBins)
     → b.tells ≡ a.tells → b.failed ≡ a.failed → (IsTrue a.tells → b.beside ≡ with_draft name a.beside) → (IsTrue a.tells → b.bytes ≡ [])
@@ -141,12 +169,41 @@ file_done name text a b c d tells failed begun empty tells' failed' beside print
   shelf = sym (add-zero shelf.failed);
   bins = failed'' ∙ failed' ∙ failed ∙ sym (add-zero a.failed);
   log = sym (add-zero log.failed);
-  runs = λ tell.
-      let tell-b : IsTrue b.tells = subst IsTrue (sym tells) tell.1 in
-      let tell-c : IsTrue c.tells = subst IsTrue (sym tells') tell-b in
-      let is : d.beside ≡ committed (with_draft name a.beside) text =
-      commits tell-c ∙ (λ i. committed ((beside tell-b ∙ begun tell.1) i) ((printed tell-b ∙ ap (λ (t : List ℕ). t ++ text) (empty tell.1)) i)) in
-      inl (tt, λ i. record (held (record { shelf = shelf; bins = a; log = log })) { bins_failed = (failed'' ∙ failed' ∙ failed) i; files = (is i).files; draft = (is i).draft });
+  runs = λ now told.
+      let is : (tell : IsTrue a.tells) → d.beside ≡ committed (with_draft name a.beside) text = λ tell.
+      let tell-b : IsTrue b.tells = tells ∙ tell in
+      let tell-c : IsTrue c.tells = tells' ∙ tell-b in
+      commits tell-c ∙ (λ i. committed ((beside tell-b ∙ begun tell) i) ((printed tell-b ∙ ap (λ (t : List ℕ). t ++ text) (empty tell)) i)) in record {
+        left = after_act (writes name text) now;
+        told = bins_told now _ shelf a d log (λ (b : Beside). committed (with_draft name b) text) told (tells'' ∙ tells' ∙ tells) is
+            (told.bins_failed ∙ sym (failed'' ∙ failed' ∙ failed)) refl;
+        runs = inl (tt, refl);
+      };
+}
+
+-- a file could not be begun, printed or committed: the bins have what this stop leaves
+pub file_failed : (name text : List ℕ) (stop : Stop) (leaves : Held → Held) (change : Beside → Beside) (a d : SeenBins) → d.tells ≡ a.tells → d.failed ≡ a.failed + bins_blame stop
+    → read_blame stop ≡ 0 → log_blame stop ≡ 0 → (IsTrue a.tells → d.beside ≡ change a.beside)
+    → ((now : Held) → Breaks (writes name text) (ending stop name) now (leaves now))
+    → ((now : Held) → (leaves now).bins_failed ≡ now.bins_failed + bins_blame stop)
+    → ((now : Held) → leaves now ≡ record now {
+      bins_failed = (leaves now).bins_failed;
+      files = (change (beside_of now)).files;
+      draft = (change (beside_of now)).draft;
+      refused = (change (beside_of now)).refused;
+    }) → DoesInBins (writes name text ∷ []) (Some (ending stop name)) a d
+file_failed name text stop leaves change a d tells failed no_read no_log beside breaks count are = λ shelf log. record {
+  shelf_tells = refl;
+  bins_tells = tells;
+  log_tells = refl;
+  shelf = sym (add-zero shelf.failed) ∙ ap (λ (n : ℕ). shelf.failed + n) (sym no_read);
+  bins = failed;
+  log = sym (add-zero log.failed) ∙ ap (λ (n : ℕ). log.failed + n) (sym no_log);
+  runs = λ now told. record {
+    left = leaves now;
+    told = bins_told now (leaves now) shelf a d log change told tells beside (count now ∙ ap (λ (n : ℕ). n + bins_blame stop) told.bins_failed ∙ sym failed) (are now);
+    runs = inr (breaks now);
+  };
 }
 
 -- a run that ends in a call that logs, whatever that answers
@@ -186,7 +243,7 @@ planned_so bins log = λ shelf. record {
   shelf = sym (add-zero shelf.failed);
   bins = sym (add-zero bins.failed);
   log = sym (add-zero log.failed);
-  runs = λ tell. inl (tt, refl);
+  runs = λ now told. record { left = now; told = told; runs = inl (tt, refl) };
 }
 
 pub reserved_so : (bins : SeenBins) (log : SeenStream) → DoesInBoth (reserves ∷ []) None bins bins log log
@@ -197,7 +254,7 @@ reserved_so bins log = λ shelf. record {
   shelf = sym (add-zero shelf.failed);
   bins = sym (add-zero bins.failed);
   log = sym (add-zero log.failed);
-  runs = λ tell. inl (tt, refl);
+  runs = λ now told. record { left = now; told = told; runs = inl (tt, refl) };
 }
 
 -- memory was refused at an act, and that was logged
@@ -210,7 +267,7 @@ memory_halts act acts due status bins old new breaks logs one = λ shelf. halted
   shelf = sym (add-zero shelf.failed);
   bins = sym (add-zero bins.failed);
   log = sym (add-zero old.failed);
-  runs = λ tell. inr (breaks (held (record { shelf = shelf; bins = bins; log = old })));
+  runs = λ now told. record { left = now; told = told; runs = inr (breaks now) };
 }) (record { shelf = refl; bins = refl; log = logs }) one
 
 -- what comes last, by equal numbers

@@ -6,6 +6,7 @@ use Rattle.cweb_lines.specs.declared.stop.Stop.TheVariants.{Usage, WebNotOpened,
 use Rattle.cweb_tools.specs.Acts.{Held, Act, judges, says, opens, reads, plans, reserves, writes, after_act, ending, Breaks, Runs, TangleEnds, completes, stops}
 use Rattle.cweb_tools.specs.TangleRun.{RunsFreely, DoesAll, IsStopped, IsEnded, KeepLimits}
 use Rattle.cweb_tools.proofs.AllDone.{files_all, log_all}
+use Rattle.cweb_tools.proofs.Limits.{long_beyond, much_beyond}
 use Rattle.cweb_tools.proofs.Stopping.{is_stopped}
 
 pub counts_all : (acts : List Act) (old new : Held) → Runs acts None old new → (new.shelf_failed ≡ old.shelf_failed) × (new.bins_failed ≡ old.bins_failed) × (new.log_failed ≡ old.log_failed)
@@ -13,7 +14,7 @@ counts_all [] old new is = (ap (λ (d : Held). d.shelf_failed) is, ap (λ (d : H
 counts_all (judges ∷ acts) old new (inl run) = counts_all acts old new run.1
 counts_all (says item ∷ acts) old new (inl run) = counts_all acts (after_act (says item) old) new run.1
 counts_all (opens ∷ acts) old new (inl run) = counts_all acts old new run.1
-counts_all (reads names lines ∷ acts) old new (inl run) = counts_all acts old new run.1
+counts_all (reads names events ∷ acts) old new (inl run) = counts_all acts old new run.1
 counts_all (plans ∷ acts) old new (inl run) = counts_all acts old new run.1
 counts_all (reserves ∷ acts) old new (inl run) = counts_all acts old new run.1
 counts_all (writes name text ∷ acts) old new (inl run) = counts_all acts (after_act (writes name text) old) new run.1
@@ -51,8 +52,8 @@ cause_more ChangeNotOpened within more part cause = cause
 cause_more stop within more part cause = tt
 
 cause_at : (act : Act) (acts : List Act) (stop : Stop) (about : List ℕ) (old new : Held) → Breaks act (ending stop about) old new → Cause stop (KeepLimits (act ∷ acts))
-cause_at (reads names lines) acts (LineTooLong file) about old new broke = λ within. broke.1 within.0
-cause_at (reads names lines) acts TooMuchText about old new broke = λ within. broke.0 within.0
+cause_at (reads names events) acts (LineTooLong file) about old new broke = λ within. long_beyond file events broke.1 within.0
+cause_at (reads names events) acts TooMuchText about old new broke = λ within. much_beyond events broke.0 within.0
 cause_at act acts (ReadFault file) about old new broke = tt
 cause_at act acts Memory about old new broke = tt
 cause_at act acts OutNotOpened about old new broke = tt

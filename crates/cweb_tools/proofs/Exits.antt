@@ -1,12 +1,12 @@
 -- How the exits of a run are its ends.
 use Rattle.std.proofs.Common.{◌≤◌, ◌≡◌, ◌≢◌, ◌⊎◌, ◌+◌, inl, inr, ℕ, List, [], ◌∷◌, ◌++◌, length, refl, sym, ◌∙◌, ap, subst, append-nil, append_assoc, arith}
-use Rattle.std.specs.Prelude.{Option, Some, None, Result, Ok, Err, IsTrue}
-use Rattle.cweb_lines.proofs.Merges.{openings-append}
+use Rattle.std.specs.Prelude.{Option, Some, None, IsTrue}
 use Rattle.cweb_lines.specs.Finding.{names_found}
 use Rattle.cweb_lines.specs.Include.{World, Found}
 use Rattle.cweb_lines.specs.Lines.{Line}
 use Rattle.cweb_lines.specs.Merge.{Event}
 use Rattle.cweb_lines.specs.Merging.{SoFar, Gives, StopsBehind, TellsFront}
+use Rattle.cweb_lines.specs.Naming.{blame}
 use Rattle.cweb_lines.specs.Texts.{Count, StartStops, files_named, read_blame}
 use Rattle.cweb_lines.specs.Told.{given_lines, told_faults, openings, taken_lines, IsWithinLimits}
 use Rattle.cweb_lines.specs.Whole.{Begins, StopsAtStart}
@@ -15,25 +15,13 @@ use Rattle.cweb_lines.specs.declared.fault.SourceFault.{SourceFault}
 use Rattle.cweb_lines.specs.declared.limits.TheConstants.{LINES, BYTES}
 use Rattle.cweb_lines.specs.declared.stop.Stop.{Stop}
 use Rattle.cweb_lines.specs.declared.stop.Stop.TheVariants.{Usage, WebNotOpened, ChangeNotOpened, ReadFault, LineTooLong, TooMuchText, Memory, WriteFault}
+use Rattle.cweb_lines.proofs.Merges.{openings-append}
+use Rattle.cweb_log.specs.Gathering.{Logs}
+use Rattle.cweb_log.specs.Log.{fault_lines, stop_line, start_subject, subject}
+use Rattle.cweb_log.specs.Seen.{Seen, SeenStream}
+use Rattle.cweb_log.specs.Words.{WebNames}
 use Rattle.cweb_tools.specs.Course.{Course, unread, not_there, change_not_there, merging, asked_course, change_name, found_course, fault_status, merged, usage}
-use Rattle.cweb_tools.specs.Gathering.{Writes}
-use Rattle.cweb_tools.specs.Log.{fault_lines, stop_line, start_subject, subject}
-use Rattle.cweb_tools.specs.Run.{about, AreOpened, CanStop, Comes, completes, Ends, HasMerged, Logs, Merges, PassesSums, Refuses, stops}
-use Rattle.cweb_tools.specs.Seen.{Seen, SeenStream}
-use Rattle.cweb_tools.specs.Words.{WebNames}
-
--- what writing a text left is what logging it leaves
-pub logs_by : {A E : Type 0} (r : Result A E) (text : List ℕ) (before after : SeenStream) → Writes text before after r → Logs text before after
-logs_by (Ok x) text before after writes = record {
-  once = inl writes.counts;
-  whole = λ tells same. writes.whole tells;
-  front = λ tells. record { front = text; rest = []; written = writes.whole tells; whole = sym (append-nil text) };
-}
-logs_by (Err e) text before after writes = record {
-  once = inr writes.counts;
-  whole = λ tells same. absurd (omega (arith, writes.counts, same));
-  front = writes.front;
-}
+use Rattle.cweb_tools.specs.Run.{about, AreOpened, CanStop, Comes, completes, Ends, HasMerged, Merges, PassesSums, Refuses, stops}
 
 none_written : (bytes text : List ℕ) → WritesFront bytes bytes text
 none_written bytes text = record { front = []; rest = text; written = sym (append-nil bytes); whole = refl }
@@ -64,7 +52,8 @@ pub begins_course : (world : World) (names : WebNames) (found : Option Found) (c
 begins_course world names found changes begins = rw (begins.there, begins.changes_there, begins.whole) refl
 
 -- a run that stops before it writes
-module _ (before after : Seen) (status : ℕ) (read : after.shelf.failed ≡ before.shelf.failed) (same : after.out ≡ before.out) (answered : status ≡ 1) where
+module _ (before after : Seen) (status : ℕ) (read : after.shelf.failed ≡ before.shelf.failed) (blamed : IsTrue before.shelf.tells → after.shelf.blamed ≡ before.shelf.blamed)
+    (same : after.out ≡ before.out) (answered : status ≡ 1) where
   out_count : after.out.failed ≡ before.out.failed
   out_count = ap (λ (stream : SeenStream). stream.failed) same
 
@@ -76,8 +65,8 @@ module _ (before after : Seen) (status : ℕ) (read : after.shelf.failed ≡ bef
   refused stop is logs = absurd (cc)
 
   not_begun : (names : WebNames) (course : Course) (stop : Stop) → Comes stop → files_named stop ≤ 0 → read_blame stop ≡ 0 → write_blame stop ≡ 0
-      → (IsTrue before.shelf.tells → CanStop stop course) → Logs (stop_line stop (about names [] stop)) before.log after.log → Merges names course before after status
-  not_begun names course stop comes named no_read no_write cause logs = stops (record {
+      → blame [] stop ≡ [] → (IsTrue before.shelf.tells → CanStop stop course) → Logs (stop_line stop (about names [] stop)) before.log after.log → Merges names course before after status
+  not_begun names course stop comes named no_read no_write none cause logs = stops (record {
     stop = stop;
     comes = comes;
     cause = cause;
@@ -85,6 +74,7 @@ module _ (before after : Seen) (status : ℕ) (read : after.shelf.failed ≡ bef
     named = named;
     opened = λ tells. none_opened course;
     blames = record { shelf = omega (arith, read, no_read); out = omega (arith, out_count, no_write) };
+    blamed = λ tells. blamed tells ∙ sym (append-nil before.shelf.blamed) ∙ ap (λ (ns : List (List ℕ)). before.shelf.blamed ++ ns) (sym none);
     written = λ tells told. subst (λ (bytes : List ℕ). WritesFront before.out.bytes bytes (merged course)) (sym out_bytes) (none_written before.out.bytes (merged course));
     logged = logs;
     answered = answered;
@@ -92,7 +82,7 @@ module _ (before after : Seen) (status : ℕ) (read : after.shelf.failed ≡ bef
 
   out_of_memory : (names : WebNames) (course : Course) (stop : Stop) → stop ≡ Memory → Logs (stop_line stop usage) before.log after.log → Merges names course before after status
   out_of_memory names course stop is logs =
-      not_begun names course Memory tt (omega arith) refl refl (λ tells. tt) (subst (λ (s : Stop). Logs (stop_line s usage) before.log after.log) is logs)
+      not_begun names course Memory tt (omega arith) refl refl refl (λ tells. tt) (subst (λ (s : Stop). Logs (stop_line s usage) before.log after.log) is logs)
 
   -- the words can't be read, or memory was wanting for their names
   pub words_stopped : (world : World) (asked : Option WebNames) (stop : Stop) → (stop ≡ Usage) ⊎ (stop ≡ Memory)
@@ -107,10 +97,10 @@ module _ (before after : Seen) (status : ℕ) (read : after.shelf.failed ≡ bef
       → (IsTrue before.shelf.tells → StopsAtStart stop found changes) → Logs (stop_line stop (start_subject names.web (change_name names.change) stop)) before.log after.log
       → Merges names (found_course world names found changes) before after status
   start_stopped world names found changes WebNotOpened comes why logs =
-      not_begun names _ WebNotOpened tt (omega arith) refl refl (λ tells. start_cause world names found changes WebNotOpened (why tells)) logs
+      not_begun names _ WebNotOpened tt (omega arith) refl refl refl (λ tells. start_cause world names found changes WebNotOpened (why tells)) logs
   start_stopped world names found changes ChangeNotOpened comes why logs =
-      not_begun names _ ChangeNotOpened tt (omega arith) refl refl (λ tells. start_cause world names found changes ChangeNotOpened (why tells)) logs
-  start_stopped world names found changes Memory comes why logs = not_begun names _ Memory tt (omega arith) refl refl (λ tells. tt) logs
+      not_begun names _ ChangeNotOpened tt (omega arith) refl refl refl (λ tells. start_cause world names found changes ChangeNotOpened (why tells)) logs
+  start_stopped world names found changes Memory comes why logs = not_begun names _ Memory tt (omega arith) refl refl refl (λ tells. tt) logs
   start_stopped world names found changes stop comes why logs = absurd comes
 
 -- what a merge has told and taken that begins with these files open
@@ -147,7 +137,7 @@ module _ (first : List (List ℕ)) (all : List Event) (old new : SoFar) (began :
       })
 
 -- with one more line than was taken a sum would pass its limit, and that line is among all
-passes_sums : (first : List (List ℕ)) (old : SoFar) (now : Count) (lines : List Line) (events : List Event) → old ≡ begun_with first
+pub passes_sums : (first : List (List ℕ)) (old : SoFar) (now : Count) (lines : List Line) (events : List Event) → old ≡ begun_with first
     → StopsBehind lines TooMuchText old.count now events → PassesSums events
 passes_sums first old now lines events began ahead =
     let no_lines : old.count.lines ≡ 0 = ap (λ (s : SoFar). s.count.lines) began in
@@ -192,11 +182,11 @@ module _ (world : World) (names : WebNames) (found : Option Found) (changes : Op
 
   pub completed : (new : SoFar) (files : List (List ℕ)) (faults : List SourceFault) → files ≡ new.names → faults ≡ new.faults
       → (IsTrue before.shelf.tells → Gives (given_lines all) old new all []) → new.count.lines ≤ LINES → new.count.bytes ≤ BYTES
-      → after.shelf.failed ≡ before.shelf.failed → after.out.failed ≡ before.out.failed
+      → after.shelf.failed ≡ before.shelf.failed → (IsTrue before.shelf.tells → after.shelf.blamed ≡ before.shelf.blamed) → after.out.failed ≡ before.out.failed
       → (IsTrue before.shelf.tells → IsTrue before.out.tells → after.out.bytes ≡ before.out.bytes ++ text_of (given_lines all)) → Logs (fault_lines files faults) before.log after.log
       → (after.log.failed ≡ before.log.failed → status ≡ fault_status faults) → (after.log.failed ≢ before.log.failed → status ≡ 1)
       → Merges names (found_course world names found changes) before after status
-  completed new files faults files_are faults_are gives few small read out written logs answered failed = completes (record {
+  completed new files faults files_are faults_are gives few small read none out written logs answered failed = completes (record {
     files = files;
     faults = faults;
     all = λ tells. subst (λ (course : Course). HasMerged course files faults) (sym (begun tells)) (
@@ -205,6 +195,7 @@ module _ (world : World) (names : WebNames) (found : Option Found) (changes : Op
       limits_kept _ all old new (begins tells).so_far_is (gives tells) few small,
     );
     read = read;
+    none_blamed = none;
     printed = out;
     written = λ tells told. written tells told ∙ ap (λ (text : List ℕ). before.out.bytes ++ text) (printed_all tells);
     logged = logs;
@@ -215,10 +206,11 @@ module _ (world : World) (names : WebNames) (found : Option Found) (changes : Op
   pub stopped : (stop : Stop) (new : SoFar) (files : List (List ℕ)) (Wrote : List ℕ → Type 0) → files ≡ new.names → WritingStops stop
       → (IsTrue before.shelf.tells → StopsWriting stop old.count new.count all Wrote)
       → files_named stop ≤ length new.names → (IsTrue before.shelf.tells → TellsFront old new all)
-      → after.shelf.failed ≡ before.shelf.failed + read_blame stop → after.out.failed ≡ before.out.failed + write_blame stop
+      → after.shelf.failed ≡ before.shelf.failed + read_blame stop → (IsTrue before.shelf.tells → after.shelf.blamed ≡ before.shelf.blamed ++ blame new.names stop)
+      → after.out.failed ≡ before.out.failed + write_blame stop
       → (IsTrue before.shelf.tells → IsTrue before.out.tells → WritesFront before.out.bytes after.out.bytes (text_of (given_lines all)))
       → Logs (stop_line stop (subject files stop)) before.log after.log → status ≡ 1 → Merges names (found_course world names found changes) before after status
-  stopped stop new files Wrote files_are kind why named front read out written logs answered = stops (record {
+  stopped stop new files Wrote files_are kind why named front read whose out written logs answered = stops (record {
     stop = stop;
     comes = writing_comes stop kind;
     cause = λ tells. subst (λ (course : Course). CanStop stop course) (sym (begun tells)) (writing_cause stop _ old new.count all Wrote (begins tells).so_far_is kind (why tells));
@@ -226,6 +218,7 @@ module _ (world : World) (names : WebNames) (found : Option Found) (changes : Op
     named = rw files_are named;
     opened = λ tells. subst (λ (course : Course). AreOpened files course) (sym (begun tells)) (opened_by _ old new all (begins tells).so_far_is (front tells) files files_are);
     blames = record { shelf = read; out = out };
+    blamed = λ tells. whose tells ∙ ap (λ (ns : List (List ℕ)). before.shelf.blamed ++ blame ns stop) (sym files_are);
     written = λ tells told. subst (λ (text : List ℕ). WritesFront before.out.bytes after.out.bytes text) (printed_all tells) (written tells told);
     logged = subst (λ (name : List ℕ). Logs (stop_line stop name) before.log after.log) (writing_about names files stop kind) logs;
     answered = answered;

@@ -12,14 +12,14 @@ use Rattle.cweb_store.specs.Faults as store
 use Rattle.cweb_store.specs.Parts.{Part, is_macro, numbers_from, numbers_where}
 use Rattle.cweb_store.specs.declared.part.PartKind.{PartKind}
 use Rattle.cweb_scan.specs.Run.{Scanned}
+use Rattle.cweb_log.specs.Gathering.{Writes}
+use Rattle.cweb_log.specs.Items.{Item, counted_text, fault_count, is_fault, line, source_item}
+use Rattle.cweb_log.specs.Log.{count_end, fault_line, fault_lines, kind_text, located_line, name_at}
+use Rattle.cweb_log.specs.Seen.{SeenStream}
+use Rattle.cweb_log.specs.WebItems.{name_item, name_items, scan_item, scan_items}
 use Rattle.cweb_tools.specs.Acts.{says}
 use Rattle.cweb_tools.specs.Does.{DoesInLog, told}
-use Rattle.cweb_tools.specs.Gathering.{Writes}
-use Rattle.cweb_tools.specs.Items.{Item, counted_text, fault_count, is_fault, line, source_item}
-use Rattle.cweb_tools.specs.Log.{count_end, fault_line, fault_lines, kind_text, located_line, name_at}
-use Rattle.cweb_tools.specs.Seen.{SeenStream}
 use Rattle.cweb_tools.specs.Tangle.{fault_items}
-use Rattle.cweb_tools.specs.WebItems.{name_item, name_items, scan_item, scan_items}
 use Rattle.cweb_tools.proofs.Logging.{said_all, said_none}
 
 -- items that are all faults

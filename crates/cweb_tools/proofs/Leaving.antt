@@ -2,24 +2,24 @@
 use Rattle.std.proofs.Common.{◌≡◌, inl, inr, ℕ, ◌+◌, Bool, true, false, List, [], ◌∷◌, ◌++◌, map, refl, sym, ◌∙◌, ap, append-nil}
 use Rattle.std.specs.Prelude.{Option, Some, None}
 use Rattle.cweb_files.specs.Files.{File}
-use Rattle.cweb_lines.specs.Lines.{SourceLine}
+use Rattle.cweb_lines.specs.Merge.{Event}
 use Rattle.cweb_lines.specs.declared.stop.Stop.{Stop}
 use Rattle.cweb_lines.specs.declared.stop.Stop.TheVariants.{Usage, WebNotOpened, ChangeNotOpened, ReadFault, LineTooLong, TooMuchText, Memory, OutNotOpened, WriteFault, LogFault}
+use Rattle.cweb_log.specs.Items.{Item, fault_count}
+use Rattle.cweb_log.specs.declared.shown.Shown.{Shown}
 use Rattle.cweb_tools.specs.Acts.{Held, Act, judges, says, opens, reads, plans, reserves, writes, after_act, Ending, ending, Breaks, Runs, LogsLine, LogsStop, TangleEnds, completes, stops}
-use Rattle.cweb_tools.specs.Items.{Item, fault_count}
 use Rattle.cweb_tools.specs.Leaves.{LeavesFiles, put_files}
 use Rattle.cweb_tools.specs.Script.{Numbers, Planning, refused, Web, closing_acts, files_in, planned_acts, script, starred_acts, tangle_files, tangling, when}
-use Rattle.cweb_tools.specs.declared.shown.Shown.{Shown}
 
 -- what stops an act changes no file
 pub break_files : (act : Act) (stop : Stop) (about : List ℕ) (old new : Held) → Breaks act (ending stop about) old new → new.files ≡ old.files
 break_files judges Memory about old new broke = ap (λ (d : Held). d.files) broke
 break_files (says item) LogFault about old new broke = ap (λ (d : Held). d.files) broke.is
 break_files opens Memory about old new broke = ap (λ (d : Held). d.files) broke
-break_files (reads names lines) (ReadFault file) about old new broke = ap (λ (d : Held). d.files) broke.1
-break_files (reads names lines) (LineTooLong file) about old new broke = ap (λ (d : Held). d.files) broke.2
-break_files (reads names lines) TooMuchText about old new broke = ap (λ (d : Held). d.files) broke.1
-break_files (reads names lines) Memory about old new broke = ap (λ (d : Held). d.files) broke
+break_files (reads names events) (ReadFault file) about old new broke = ap (λ (d : Held). d.files) broke.1
+break_files (reads names events) (LineTooLong file) about old new broke = ap (λ (d : Held). d.files) broke.2
+break_files (reads names events) TooMuchText about old new broke = ap (λ (d : Held). d.files) broke.1
+break_files (reads names events) Memory about old new broke = ap (λ (d : Held). d.files) broke
 break_files plans Memory about old new broke = ap (λ (d : Held). d.files) broke
 break_files reserves Memory about old new broke = ap (λ (d : Held). d.files) broke
 break_files (writes name text) Memory about old new broke = ap (λ (d : Held). d.files) broke
@@ -32,10 +32,10 @@ break_draft : (act : Act) (stop : Stop) (about : List ℕ) (old new : Held) → 
 break_draft judges Memory about old new none broke = ap (λ (d : Held). d.draft) broke ∙ none
 break_draft (says item) LogFault about old new none broke = ap (λ (d : Held). d.draft) broke.is ∙ none
 break_draft opens Memory about old new none broke = ap (λ (d : Held). d.draft) broke ∙ none
-break_draft (reads names lines) (ReadFault file) about old new none broke = ap (λ (d : Held). d.draft) broke.1 ∙ none
-break_draft (reads names lines) (LineTooLong file) about old new none broke = ap (λ (d : Held). d.draft) broke.2 ∙ none
-break_draft (reads names lines) TooMuchText about old new none broke = ap (λ (d : Held). d.draft) broke.1 ∙ none
-break_draft (reads names lines) Memory about old new none broke = ap (λ (d : Held). d.draft) broke ∙ none
+break_draft (reads names events) (ReadFault file) about old new none broke = ap (λ (d : Held). d.draft) broke.1 ∙ none
+break_draft (reads names events) (LineTooLong file) about old new none broke = ap (λ (d : Held). d.draft) broke.2 ∙ none
+break_draft (reads names events) TooMuchText about old new none broke = ap (λ (d : Held). d.draft) broke.1 ∙ none
+break_draft (reads names events) Memory about old new none broke = ap (λ (d : Held). d.draft) broke ∙ none
 break_draft plans Memory about old new none broke = ap (λ (d : Held). d.draft) broke ∙ none
 break_draft reserves Memory about old new none broke = ap (λ (d : Held). d.draft) broke ∙ none
 break_draft (writes name text) Memory about old new none broke = ap (λ (d : Held). d.draft) broke
@@ -53,7 +53,7 @@ runs_files [] (Some why) old new run = absurd run
 runs_files (judges ∷ acts) why old new (inl run) = runs_files acts why old new run.1
 runs_files (says item ∷ acts) why old new (inl run) = runs_files acts why (after_act (says item) old) new run.1
 runs_files (opens ∷ acts) why old new (inl run) = runs_files acts why old new run.1
-runs_files (reads names lines ∷ acts) why old new (inl run) = runs_files acts why old new run.1
+runs_files (reads names events ∷ acts) why old new (inl run) = runs_files acts why old new run.1
 runs_files (plans ∷ acts) why old new (inl run) = runs_files acts why old new run.1
 runs_files (reserves ∷ acts) why old new (inl run) = runs_files acts why old new run.1
 runs_files (writes name text ∷ acts) why old new (inl run) =
@@ -69,7 +69,7 @@ runs_draft [] (Some why) old new none run = absurd run
 runs_draft (judges ∷ acts) why old new none (inl run) = runs_draft acts why old new none run.1
 runs_draft (says item ∷ acts) why old new none (inl run) = runs_draft acts why (after_act (says item) old) new none run.1
 runs_draft (opens ∷ acts) why old new none (inl run) = runs_draft acts why old new none run.1
-runs_draft (reads names lines ∷ acts) why old new none (inl run) = runs_draft acts why old new none run.1
+runs_draft (reads names events ∷ acts) why old new none (inl run) = runs_draft acts why old new none run.1
 runs_draft (plans ∷ acts) why old new none (inl run) = runs_draft acts why old new none run.1
 runs_draft (reserves ∷ acts) why old new none (inl run) = runs_draft acts why old new none run.1
 runs_draft (writes name text ∷ acts) why old new none (inl run) = runs_draft acts why (after_act (writes name text) old) new refl run.1
@@ -137,9 +137,9 @@ files_in-closing : (shown : Shown) (numbers : Numbers) (count : ℕ) (missing : 
 files_in-closing shown numbers count missing =
     files_in-when shown.statistics _ _ ∙ ap files_in (sym (append-nil (when shown.closing _))) ∙ files_in-when shown.closing _ []
 
-refused_files : (shown : Shown) (names : List (List ℕ)) (lines : List SourceLine) (web : Web) (text : List ℕ) → web.plan ≡ refused text
-    → files_in (script shown (tangling names lines web)) ≡ []
-refused_files shown names lines web text is =
+refused_files : (shown : Shown) (names : List (List ℕ)) (events : List Event) (web : Web) (text : List ℕ) → web.plan ≡ refused text
+    → files_in (script shown (tangling names events web)) ≡ []
+refused_files shown names events web text is =
     files_in-when shown.banner _ _ ∙ files_in-starred shown.progress web.starred _ ∙ files_in-said web.faults _
     ∙ ap (λ (plan : Planning). files_in (planned_acts shown web.numbers (fault_count web.faults) plan)) is
     ∙ files_in-closing shown web.numbers (fault_count web.faults + 1) false
@@ -152,8 +152,8 @@ none_due due old new none leaves = nothing leaves.done leaves.undone (sym none �
     nothing [] undone whole is = is
     nothing (file ∷ done) undone whole is = cc
 
-pub refused_stays : (shown : Shown) (names : List (List ℕ)) (lines : List SourceLine) (web : Web) (text : List ℕ) → web.plan ≡ refused text
-    → (due : ℕ) (old new : Held) (status : ℕ) → TangleEnds (script shown (tangling names lines web)) due old new status → new.files ≡ old.files
-refused_stays shown names lines web text is due old new status ends =
-    none_due (tangle_files shown (tangling names lines web)) old.files new.files (refused_files shown names lines web text is)
-    (ends_files (script shown (tangling names lines web)) due old new status ends)
+pub refused_stays : (shown : Shown) (names : List (List ℕ)) (events : List Event) (web : Web) (text : List ℕ) → web.plan ≡ refused text
+    → (due : ℕ) (old new : Held) (status : ℕ) → TangleEnds (script shown (tangling names events web)) due old new status → new.files ≡ old.files
+refused_stays shown names events web text is due old new status ends =
+    none_due (tangle_files shown (tangling names events web)) old.files new.files (refused_files shown names events web text is)
+    (ends_files (script shown (tangling names events web)) due old new status ends)

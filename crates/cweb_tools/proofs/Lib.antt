@@ -1,12 +1,8 @@
 pub mod AllDone
-pub mod Among
-pub mod Asking
-pub mod Counted
 pub mod Doing
 pub mod Endings
 pub mod Exits
 pub mod FaultItems
-pub mod Gathering
 pub mod Prints
 pub mod Readies
 pub mod Refusals
@@ -14,6 +10,7 @@ pub mod Promised
 pub mod Promises
 pub mod ReadAlls
 pub mod Leaving
+pub mod Limits
 pub mod Logging
 pub mod Marks
 pub mod OutputActs
@@ -22,11 +19,8 @@ mod RunRows
 pub mod Running
 mod ScriptRows
 pub mod Statuses
-pub mod Stems
 pub mod Stopping
 pub mod TangleExits
-mod TangleRows
-mod WebRows
 mod SpacingStarts
 mod SpacingLaw
 mod SpacingRows

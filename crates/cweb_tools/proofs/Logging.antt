@@ -1,13 +1,15 @@
 -- Items that are logged are acts that are done.
-use Rattle.std.proofs.Common.{◌≡◌, ◌+◌, ◌⊎◌, inl, inr, ℕ, List, [], ◌∷◌, ◌++◌, map, refl, sym, ◌∙◌, ap, subst, append_assoc, append-nil, add-zero}
+use Rattle.std.proofs.Common.{◌≡◌, ◌<◌, ◌+◌, ◌⊎◌, inl, inr, ℕ, zero, suc, List, [], ◌∷◌, ◌++◌, map, refl, sym, ◌∙◌, ap, subst, append_assoc, append-nil, add-zero, length, arith}
 use Rattle.std.specs.List.{flat_map}
-use Rattle.std.specs.Prelude.{None, Some, Result, Ok, Err}
+use Rattle.std.specs.Prelude.{◌==◌, Bool, true, false, IsTrue, None, Some, Result, Ok, Err}
+use Rattle.cweb_lines.specs.Writing.{WritesFront}
 use Rattle.cweb_lines.specs.declared.stop.Stop.TheVariants.{LogFault}
+use Rattle.cweb_log.specs.Gathering.{Writes}
+use Rattle.cweb_log.specs.Items.{Item, line, starred}
+use Rattle.cweb_log.specs.Seen.{SeenBins, SeenRun, SeenShelf, SeenStream}
 use Rattle.cweb_tools.specs.Acts.{ending, Held, Runs, after_act, says}
-use Rattle.cweb_tools.specs.Does.{DoesInLog, held, told}
-use Rattle.cweb_tools.specs.Gathering.{Writes}
-use Rattle.cweb_tools.specs.Items.{Item, line}
-use Rattle.cweb_tools.specs.Seen.{SeenBins, SeenRun, SeenShelf, SeenStream}
+use Rattle.cweb_tools.specs.Does.{AsTold, DoesInLog, told}
+use Rattle.cweb_tools.specs.Script.{starred_acts, when}
 use Rattle.cweb_tools.proofs.Doing.{does_none}
 
 -- two ways to cut a text in two: the first front ends within the second's, or the second's within it
@@ -53,6 +55,32 @@ all_said (item ∷ items) old = inl (
 abbrev pub at : SeenShelf → SeenBins → SeenStream → SeenRun
 at shelf bins log = record { shelf = shelf; bins = bins; log = log }
 
+-- a front of a text was written, and where it is told this is the one
+pub record FrontTold (tells : Bool) (old new text : List ℕ) : Type 0 where
+  pub front : List ℕ
+  pub rest : List ℕ
+  pub whole : text ≡ front ++ rest
+  pub written : IsTrue tells → new ≡ old ++ front
+
+pub front_told : (tells : Bool) (old new text : List ℕ) → (IsTrue tells → WritesFront old new text) → FrontTold tells old new text
+front_told true old new text writes =
+    let front : WritesFront old new text = writes refl in record { front = front.front; rest = front.rest; whole = front.whole; written = λ tell. front.written }
+front_told false old new text writes = record { front = []; rest = text; whole = refl; written = λ tell. absurd (cc) }
+
+-- what the devices hold where the log alone has changed
+pub log_told : (now left : Held) (shelf : SeenShelf) (bins : SeenBins) (old new : SeenStream) → AsTold now (at shelf bins old)
+    → left ≡ record now { log_failed = left.log_failed; log = left.log } → left.log_failed ≡ new.failed → (IsTrue new.tells → left.log ≡ new.bytes) → AsTold left (at shelf bins new)
+log_told now left shelf bins old new told is count bytes = record {
+  shelf_failed = ap (λ (h : Held). h.shelf_failed) is ∙ told.shelf_failed;
+  bins_failed = ap (λ (h : Held). h.bins_failed) is ∙ told.bins_failed;
+  log_failed = count;
+  blamed = λ tells. ap (λ (h : Held). h.blamed) is ∙ told.blamed tells;
+  files = λ tells. ap (λ (h : Held). h.files) is ∙ told.files tells;
+  draft = λ tells. ap (λ (h : Held). h.draft) is ∙ told.draft tells;
+  refused = λ tells. ap (λ (h : Held). h.refused) is ∙ told.refused tells;
+  log = bytes;
+}
+
 -- writing the lines of items, of which there are some, is logging them
 pub said_all : {A E : Type 0} (r : Result A E) (item : Item) (items : List Item) (old new : SeenStream) → Writes (flat_map line (item ∷ items)) old new r
     → DoesInLog (map says (item ∷ items)) (told r) old new
@@ -63,9 +91,12 @@ said_all (Ok x) item items old new writes = λ shelf bins. record {
   shelf = sym (add-zero shelf.failed);
   bins = sym (add-zero bins.failed);
   log = writes.counts ∙ sym (add-zero old.failed);
-  runs = λ tell. subst (λ (d : Held). Runs (map says (item ∷ items)) None (held (at shelf bins old)) d)
-      (λ i. record (held (at shelf bins old)) { log_failed = sym writes.counts i; log = sym (writes.whole tell.2) i })
-      (all_said (item ∷ items) (held (at shelf bins old)));
+  runs = λ now told. let text : List ℕ = flat_map line (item ∷ items) in record {
+    left = record now { log = now.log ++ text };
+    told = log_told now _ shelf bins old new told refl (told.log_failed ∙ sym writes.counts)
+        (λ tell. let first : IsTrue old.tells = sym writes.tells ∙ tell in ap (λ (t : List ℕ). t ++ text) (told.log first) ∙ sym (writes.whole first));
+    runs = all_said (item ∷ items) now;
+  };
 }
 said_all (Err e) item items old new writes = λ shelf bins. record {
   shelf_tells = refl;
@@ -74,9 +105,12 @@ said_all (Err e) item items old new writes = λ shelf bins. record {
   shelf = sym (add-zero shelf.failed);
   bins = sym (add-zero bins.failed);
   log = writes.counts;
-  runs = λ tell. let front = writes.front tell.2 in subst (λ (d : Held). Runs (map says (item ∷ items)) (Some (ending LogFault [])) (held (at shelf bins old)) d)
-      (λ i. record (held (at shelf bins old)) { log_failed = sym writes.counts i; log = sym front.written i })
-      (front_stops item items front.front front.rest (held (at shelf bins old)) front.whole);
+  runs = λ now told. let front = front_told old.tells old.bytes new.bytes (flat_map line (item ∷ items)) writes.front in record {
+    left = record now { log_failed = now.log_failed + 1; log = now.log ++ front.front };
+    told = log_told now _ shelf bins old new told refl (ap (λ (n : ℕ). n + 1) told.log_failed ∙ sym writes.counts)
+        (λ tell. let first : IsTrue old.tells = sym writes.tells ∙ tell in ap (λ (t : List ℕ). t ++ front.front) (told.log first) ∙ sym (front.written first));
+    runs = front_stops item items front.front front.rest now front.whole;
+  };
 }
 
 -- a line
@@ -86,3 +120,20 @@ said r item old new writes = said_all r item [] old new (subst (λ (t : List ℕ
 -- nothing was to be logged
 pub said_none : (stream : SeenStream) → DoesInLog [] None stream stream
 said_none stream = λ shelf bins. does_none (at shelf bins stream)
+
+-- a line that is asked for
+pub said_when : {A E : Type 0} (r : Result A E) (asked : Bool) (item : Item) (old new : SeenStream) → asked ≡ true → Writes (line item) old new r
+    → DoesInLog (when asked item) (told r) old new
+said_when r true item old new is writes = said r item old new writes
+said_when r false item old new is writes = absurd (cc)
+
+-- a list that isn't empty has elements
+pub some_by : (n : ℕ) → (n == 0) ≡ false → 0 < n
+some_by zero is = absurd (cc)
+some_by (suc n) is = omega arith
+
+-- the numbers of starred sections, of which there are some
+pub said_starred : {A E : Type 0} (r : Result A E) (progress : Bool) (numbers : List ℕ) (old new : SeenStream) → progress ≡ true → 0 < length numbers
+    → Writes (line (starred numbers)) old new r → DoesInLog (starred_acts progress numbers) (told r) old new
+said_starred r progress [] old new is some writes = absurd (omega (arith, some))
+said_starred r progress (n ∷ numbers) old new is some writes = said_when r progress (starred (n ∷ numbers)) old new is writes

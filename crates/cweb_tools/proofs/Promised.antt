@@ -1,52 +1,121 @@
 -- What a run of `ctangle` promises, by how it ends.
-use Rattle.std.proofs.Common.{◌≡◌, ◌+◌, ◌⊎◌, inl, inr, ℕ, List, refl, ◌∙◌, ap, subst, add-zero, arith}
+use Rattle.std.proofs.Common.{◌≡◌, ◌+◌, ◌⊎◌, inl, inr, ℕ, List, ◌++◌, refl, sym, ◌∙◌, ap, subst, add-zero, arith}
+use Rattle.std.specs.List.{flat_map}
 use Rattle.std.specs.Prelude.{IsTrue, Option, Some}
+use Rattle.cweb_files.specs.Files.{File}
 use Rattle.cweb_lines.specs.Include.{World}
 use Rattle.cweb_lines.specs.Texts.{read_blame}
+use Rattle.cweb_lines.specs.Writing.{WritesFront}
 use Rattle.cweb_lines.specs.declared.stop.Stop.{Stop}
 use Rattle.cweb_lines.specs.declared.stop.Stop.TheVariants.{Usage, WebNotOpened, ChangeNotOpened, ReadFault, LineTooLong, TooMuchText, Memory, OutNotOpened, WriteFault, LogFault}
-use Rattle.cweb_tools.specs.Acts.{Act, ending, Held, LogsLine, LogsStop, TangleEnds, completes, stops}
-use Rattle.cweb_tools.specs.Does.{Closes, ClosesLog, Follows, bins_blame, done, halted, held, log_blame}
-use Rattle.cweb_tools.specs.Options.{Asked}
-use Rattle.cweb_tools.specs.Run.{Logs}
-use Rattle.cweb_tools.specs.Script.{TangleCourse, script, tangle_status}
-use Rattle.cweb_tools.specs.Seen.{AllTell, SeenBins, SeenRun, SeenShelf, SeenStream}
-use Rattle.cweb_tools.specs.Tangle.{shown_by, tangle_course}
-use Rattle.cweb_tools.specs.TangleRun.{FailOnce, FaultsShow, RisesOnce, TanglePromises, TellingRun}
-use Rattle.cweb_tools.specs.declared.shown.Shown.{Shown}
-use Rattle.cweb_tools.proofs.Doing.{tell_on}
+use Rattle.cweb_log.specs.Items.{line}
+use Rattle.cweb_log.specs.Log.{stop_line}
+use Rattle.cweb_log.specs.Options.{Asked}
+use Rattle.cweb_log.specs.Gathering.{Logs}
+use Rattle.cweb_log.specs.Seen.{SeenBins, SeenRun, SeenShelf, SeenStream}
+use Rattle.cweb_log.specs.declared.shown.Shown.{Shown}
+use Rattle.cweb_tools.specs.Acts.{Act, ending, Held, LogsLine, LogsStop, Runs, TangleEnds, completes, stops}
+use Rattle.cweb_tools.specs.Does.{AsTold, Closes, ClosesLog, Follows, LogsEnding, bins_blame, done, halted, held, log_blame}
+use Rattle.cweb_tools.specs.Leaves.{LeavesFiles}
+use Rattle.cweb_tools.specs.Script.{TangleCourse, files_in, items_in, script, tangle_status}
+use Rattle.cweb_tools.specs.Tangle.{CanCome, shown_by, tangle_course}
+use Rattle.cweb_tools.specs.TangleRun.{FailOnce, FaultsShow, IsEnded, LogEnds, RisesOnce, TanglePromises, TellingRun, Tells, cut, said}
 use Rattle.cweb_tools.proofs.Endings.{ends_freely, ends_so, ends_within}
 use Rattle.cweb_tools.proofs.Leaving.{ends_draft, ends_files}
+use Rattle.cweb_tools.proofs.Logging.{at, front_told, log_told}
 use Rattle.cweb_tools.proofs.ReadAlls.{ends_read}
 
--- a line was logged behind a run, and the other devices were left alone
-logs_line : (text : List ℕ) (then after : SeenRun) → after.shelf ≡ then.shelf → after.bins ≡ then.bins → Logs text then.log after.log → IsTrue then.log.tells → LogsLine text (held then) (held after)
-logs_line text then after shelf bins logs tells = elim logs.once [
-  | inl kept ↦ inl (λ i. held (record { shelf = shelf i; bins = bins i; log = record after.log { failed = kept i; bytes = logs.whole tells kept i } }))
-  | inr rose ↦ inr (record {
-    front = (logs.front tells).front;
-    rest = (logs.front tells).rest;
-    whole = (logs.front tells).whole;
-    is = λ i. held (record { shelf = shelf i; bins = bins i; log = record after.log { failed = rose i; bytes = (logs.front tells).written i } });
-  })
+-- what the devices hold behind a line of the log, as far as they tell it
+record LineLeft (text : List ℕ) (now : Held) (after : SeenRun) : Type 0 where
+  pub left : Held
+  pub told : AsTold left after
+  pub is : LogsLine text now left
+
+-- the other devices were left alone
+beside_told : (left : Held) (then after : SeenRun) → after.shelf ≡ then.shelf → after.bins ≡ then.bins → AsTold left (at then.shelf then.bins after.log) → AsTold left after
+beside_told left then after shelf bins told =
+    subst (λ (b : SeenBins). AsTold left (at after.shelf b after.log)) (sym bins)
+    (subst (λ (s : SeenShelf). AsTold left (at s then.bins after.log)) (sym shelf) told)
+
+-- a line was logged behind a run
+line_left : (text : List ℕ) (then after : SeenRun) → after.shelf ≡ then.shelf → after.bins ≡ then.bins → Logs text then.log after.log → (now : Held) → AsTold now then → LineLeft text now after
+line_left text then after shelf bins logs now told = elim logs.once [
+  | inl kept ↦ record {
+    left = record now { log = now.log ++ text };
+    told = beside_told _ then after shelf bins (log_told now _ then.shelf then.bins then.log after.log told refl (told.log_failed ∙ sym kept)
+        (λ tell. let first : IsTrue then.log.tells = sym logs.tells ∙ tell in ap (λ (t : List ℕ). t ++ text) (told.log first) ∙ sym (logs.whole first kept)));
+    is = inl refl;
+  }
+  | inr rose ↦ let front = front_told then.log.tells then.log.bytes after.log.bytes text logs.front in record {
+    left = record now { log_failed = now.log_failed + 1; log = now.log ++ front.front };
+    told = beside_told _ then after shelf bins (log_told now _ then.shelf then.bins then.log after.log told refl (ap (λ (n : ℕ). n + 1) told.log_failed ∙ sym rose)
+        (λ tell. let first : IsTrue then.log.tells = sym logs.tells ∙ tell in ap (λ (t : List ℕ). t ++ front.front) (told.log first) ∙ sym (front.written first)));
+    is = inr (record { front = front.front; rest = front.rest; whole = front.whole; is = refl });
+  }
 ]
 
-stop_logged : (stop : Stop) (about : List ℕ) (then after : SeenRun) → ClosesLog (ending stop about) then after → IsTrue then.log.tells → LogsStop (ending stop about) (held then) (held after)
-stop_logged LogFault about then after logs tells = λ i. held (record { shelf = logs.shelf i; bins = logs.bins i; log = logs.log i })
-stop_logged Usage about then after logs tells = logs_line _ then after logs.shelf logs.bins logs.log tells
-stop_logged WebNotOpened about then after logs tells = logs_line _ then after logs.shelf logs.bins logs.log tells
-stop_logged ChangeNotOpened about then after logs tells = logs_line _ then after logs.shelf logs.bins logs.log tells
-stop_logged (ReadFault file) about then after logs tells = logs_line _ then after logs.shelf logs.bins logs.log tells
-stop_logged (LineTooLong file) about then after logs tells = logs_line _ then after logs.shelf logs.bins logs.log tells
-stop_logged TooMuchText about then after logs tells = logs_line _ then after logs.shelf logs.bins logs.log tells
-stop_logged Memory about then after logs tells = logs_line _ then after logs.shelf logs.bins logs.log tells
-stop_logged OutNotOpened about then after logs tells = logs_line _ then after logs.shelf logs.bins logs.log tells
-stop_logged WriteFault about then after logs tells = logs_line _ then after logs.shelf logs.bins logs.log tells
+-- how a run ends in the devices, as far as they tell it
+record EndsTold (acts : List Act) (due : ℕ) (now : Held) (after : SeenRun) (status : ℕ) : Type 0 where
+  pub left : Held
+  pub told : AsTold left after
+  pub ends : TangleEnds acts due now left status
 
-tangle_ends : (acts : List Act) (due : ℕ) (before after : SeenRun) (status : ℕ) → Closes acts due before after status → AllTell before → TangleEnds acts due (held before) (held after) status
-tangle_ends acts due before after status (done does answered) tell = completes (does.runs tell) answered
-tangle_ends acts due before after status (halted (ending stop about) then does logs answered) tell =
-    stops (ending stop about) (held then) (does.runs tell) (stop_logged stop about then after logs (tell_on acts (Some (ending stop about)) before then does tell).2) answered
+line_ends : (stop : Stop) (about : List ℕ) (acts : List Act) (due : ℕ) (first now : Held) (after : SeenRun) (status : ℕ) → Runs acts (Some (ending stop about)) first now → status ≡ 1
+    → (line : LineLeft (stop_line stop about) now after) → LogsStop (ending stop about) now line.left → EndsTold acts due first after status
+line_ends stop about acts due first now after status runs answered line logs = record { left = line.left; told = line.told; ends = stops (ending stop about) now runs logs answered }
+
+stop_ends : (stop : Stop) (about : List ℕ) (acts : List Act) (due : ℕ) (first now : Held) (then after : SeenRun) (status : ℕ) → Runs acts (Some (ending stop about)) first now → AsTold now then
+    → ClosesLog (ending stop about) then after → status ≡ 1 → EndsTold acts due first after status
+stop_ends LogFault about acts due first now then after status runs told logs answered = record {
+  left = now;
+  told = beside_told now then after logs.shelf logs.bins (subst (λ (l : SeenStream). AsTold now (at then.shelf then.bins l)) (sym logs.log) told);
+  ends = stops (ending LogFault about) now runs refl answered;
+}
+stop_ends Usage about acts due first now then after status runs told logs answered =
+    let line = line_left _ then after logs.shelf logs.bins logs.log now told in line_ends Usage about acts due first now after status runs answered line line.is
+stop_ends WebNotOpened about acts due first now then after status runs told logs answered =
+    let line = line_left _ then after logs.shelf logs.bins logs.log now told in line_ends WebNotOpened about acts due first now after status runs answered line line.is
+stop_ends ChangeNotOpened about acts due first now then after status runs told logs answered =
+    let line = line_left _ then after logs.shelf logs.bins logs.log now told in line_ends ChangeNotOpened about acts due first now after status runs answered line line.is
+stop_ends (ReadFault file) about acts due first now then after status runs told logs answered =
+    let line = line_left _ then after logs.shelf logs.bins logs.log now told in line_ends (ReadFault file) about acts due first now after status runs answered line line.is
+stop_ends (LineTooLong file) about acts due first now then after status runs told logs answered =
+    let line = line_left _ then after logs.shelf logs.bins logs.log now told in line_ends (LineTooLong file) about acts due first now after status runs answered line line.is
+stop_ends TooMuchText about acts due first now then after status runs told logs answered =
+    let line = line_left _ then after logs.shelf logs.bins logs.log now told in line_ends TooMuchText about acts due first now after status runs answered line line.is
+stop_ends Memory about acts due first now then after status runs told logs answered =
+    let line = line_left _ then after logs.shelf logs.bins logs.log now told in line_ends Memory about acts due first now after status runs answered line line.is
+stop_ends OutNotOpened about acts due first now then after status runs told logs answered =
+    let line = line_left _ then after logs.shelf logs.bins logs.log now told in line_ends OutNotOpened about acts due first now after status runs answered line line.is
+stop_ends WriteFault about acts due first now then after status runs told logs answered =
+    let line = line_left _ then after logs.shelf logs.bins logs.log now told in line_ends WriteFault about acts due first now after status runs answered line line.is
+
+tangle_ends : (acts : List Act) (due : ℕ) (before after : SeenRun) (status : ℕ) → Closes acts due before after status → (now : Held) → AsTold now before → EndsTold acts due now after status
+tangle_ends acts due before after status (done does answered) now told =
+    let lead = does.runs now told in record { left = lead.left; told = lead.told; ends = completes lead.runs answered }
+tangle_ends acts due before after status (halted (ending stop about) then does logs answered) now told =
+    let lead = does.runs now told in stop_ends stop about acts due now lead.left then after status lead.runs lead.told logs answered
+
+-- a log and bins that tell go on telling
+ending_tells : (stop : Stop) (about : List ℕ) (old new : SeenStream) → LogsEnding (ending stop about) old new → new.tells ≡ old.tells
+ending_tells LogFault about old new logs = ap (λ (l : SeenStream). l.tells) logs
+ending_tells Usage about old new logs = logs.tells
+ending_tells WebNotOpened about old new logs = logs.tells
+ending_tells ChangeNotOpened about old new logs = logs.tells
+ending_tells (ReadFault file) about old new logs = logs.tells
+ending_tells (LineTooLong file) about old new logs = logs.tells
+ending_tells TooMuchText about old new logs = logs.tells
+ending_tells Memory about old new logs = logs.tells
+ending_tells OutNotOpened about old new logs = logs.tells
+ending_tells WriteFault about old new logs = logs.tells
+
+log_tells : (acts : List Act) (due : ℕ) (before after : SeenRun) (status : ℕ) → Closes acts due before after status → after.log.tells ≡ before.log.tells
+log_tells acts due before after status (done does answered) = does.log_tells
+log_tells acts due before after status (halted (ending stop about) then does logs answered) = ending_tells stop about then.log after.log logs.log ∙ does.log_tells
+
+bins_tell : (acts : List Act) (due : ℕ) (before after : SeenRun) (status : ℕ) → Closes acts due before after status → after.bins.tells ≡ before.bins.tells
+bins_tell acts due before after status (done does answered) = does.bins_tells
+bins_tell acts due before after status (halted why then does logs answered) = ap (λ (b : SeenBins). b.tells) logs.bins ∙ does.bins_tells
 
 -- a count that a stop raises by one at most
 blamed_once : (old new n : ℕ) → new ≡ old + n → (n ≡ 0) ⊎ (n ≡ 1) → RisesOnce old new
@@ -110,14 +179,38 @@ telling_run shown course due old new status ends = record {
   limits = ends_within (script shown course) due old new status ends;
 }
 
+-- devices hold what they show
+shown_told : (seen : SeenRun) → AsTold (held seen) seen
+shown_told seen = record { shelf_failed = refl; bins_failed = refl; log_failed = refl; blamed = λ tells. refl; files = λ tells. refl; draft = λ tells. refl; refused = λ tells. refl; log = λ tells. refl }
+
+-- what a log that tells has at a run's end
+log_ends : (acts : List Act) (due : ℕ) (before after : SeenRun) (status : ℕ) (new : Held) → AsTold new after → IsTrue after.log.tells → IsEnded acts due (held before) new status
+    → LogEnds (items_in acts) due before.log after.log status
+log_ends acts due before after status new told tells (inl all) = said (sym (told.log tells) ∙ all.log) all.answered
+log_ends acts due before after status new told tells (inr why) =
+    let log = why.2.log in
+    let text : List ℕ = flat_map line log.before ++ stop_line why.0 why.1 in
+    cut why.0 why.1 log.before log.later log.whole (subst (λ (bytes : List ℕ). WritesFront before.log.bytes bytes text) (told.log tells) log.front)
+    (λ same. sym (told.log tells) ∙ log.all (told.log_failed ∙ same)) why.3
+
 -- a run whose acts are those of its script keeps all promises
 pub promised : (world : World) (asked : Option Asked) (before after : SeenRun) (status : ℕ)
-    → Follows (script (shown_by asked) (tangle_course world asked)) (tangle_status (shown_by asked) (tangle_course world asked)) before after status → TanglePromises world asked before after status
-promised world asked before after status follows = record {
-  telling = λ tell. telling_run (shown_by asked) (tangle_course world asked) _ _ _ status
-      (subst (λ (due : ℕ). TangleEnds (script (shown_by asked) (tangle_course world asked)) due (held before) (held after) status) (follows.are tell).1
-      (subst (λ (acts : List Act). TangleEnds acts follows.answered (held before) (held after) status) (follows.are tell).0
-      (tangle_ends follows.taken follows.answered before after status follows.closes tell)));
-  once = fail_once follows.taken follows.answered before after status follows.closes;
-  faults = faults_show follows.taken follows.answered before after status follows.closes;
-}
+    → Follows (script (shown_by asked)) (tangle_status (shown_by asked)) (CanCome asked) (tangle_course world asked) before after status → TanglePromises world asked before after status
+promised world asked before after status follows =
+    let shown : Shown = shown_by asked in
+    let acts : List Act = script shown follows.taken in
+    let due : ℕ = tangle_status shown follows.taken in
+    let tells : (old : Held) → AsTold old before → Tells acts due old after status = λ old told.
+    let last = tangle_ends acts due before after status follows.closes old told in
+    record { new = last.left; told = last.told; run = telling_run shown follows.taken due old last.left status last.ends } in
+    let all = tells (held before) (shown_told before) in record {
+      course = follows.taken;
+      can = follows.can;
+      is = follows.is;
+      telling = tells;
+      logged = λ tell. log_ends acts due before after status all.new all.told (log_tells acts due before after status follows.closes ∙ tell) all.run.ended;
+      filed = λ tell. subst (λ (files : List File). LeavesFiles (files_in acts) before.bins.beside.files files)
+          (all.told.files (bins_tell acts due before after status follows.closes ∙ tell)) all.run.files;
+      once = fail_once acts due before after status follows.closes;
+      faults = faults_show acts due before after status follows.closes;
+    }

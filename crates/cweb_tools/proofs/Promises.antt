@@ -1,40 +1,29 @@
 -- What the ends of a run come to, in the words of its promises.
 use Rattle.std.proofs.Common.{◌≤◌, ◌≡◌, inl, inr, ℕ, ◌+◌, List, [], ◌∷◌, ◌++◌, refl, sym, ◌∙◌, ap, subst, append-nil, arith}
 use Rattle.std.specs.Prelude.{Option, Some, None, IsTrue}
-use Rattle.cweb_lines.specs.Include.{World, Found, web_at, change_at}
-use Rattle.cweb_lines.specs.Lines.{SourceLine}
-use Rattle.cweb_lines.specs.Merge.{Event, took, given, fault, opening}
-use Rattle.cweb_lines.specs.Texts.{read_blame}
-use Rattle.cweb_lines.specs.Told.{AreShort, taken_lines}
-use Rattle.cweb_lines.specs.Writing.{WritesFront, write_blame}
 use Rattle.cweb_files.specs.declared.place.FileId.{FileId}
+use Rattle.cweb_lines.specs.Include.{World, Found, web_at, change_at}
+use Rattle.cweb_lines.specs.Texts.{read_blame}
+use Rattle.cweb_lines.specs.Writing.{WritesFront, write_blame}
 use Rattle.cweb_lines.specs.declared.fault.SourceFault.{SourceFault}
-use Rattle.cweb_lines.specs.declared.limits.TheConstants.{LINE_LENGTH}
 use Rattle.cweb_lines.specs.declared.stop.Stop.{Stop}
 use Rattle.cweb_lines.specs.declared.stop.Stop.TheVariants.{Usage, WebNotOpened, ChangeNotOpened, ReadFault, LineTooLong, TooMuchText, Memory, OutNotOpened, WriteFault, LogFault}
+use Rattle.cweb_log.specs.Gathering.{Logs}
+use Rattle.cweb_log.specs.Log.{fault_lines, stop_line}
+use Rattle.cweb_log.specs.Seen.{Seen, SeenStream, Tell}
+use Rattle.cweb_log.specs.Words.{WebNames}
 use Rattle.cweb_tools.specs.Course.{Course, merging, asked_course, fault_status, found_course, merged, StaysWithin}
-use Rattle.cweb_tools.specs.Log.{fault_lines, stop_line}
-use Rattle.cweb_tools.specs.Run.{about, Blames, CanStop, Completes, completes, Ends, FailsOnce, HasMerged, IsMerge, Logs, Merges, Prints, Promises, RanFreely, stops, TellsFaults}
-use Rattle.cweb_tools.specs.Seen.{Seen, SeenStream, Tell}
-use Rattle.cweb_tools.specs.Words.{WebNames}
-
--- a line that is taken among others has no more bytes than it may
-short_at : (events : List Event) (line : SourceLine) (later : List Event) → AreShort (taken_lines (events ++ took line ∷ later)) → line.length ≤ LINE_LENGTH
-short_at [] line later short = short.0
-short_at (took l ∷ events) line later short = short_at events line later short.1
-short_at (given l ∷ events) line later short = short_at events line later short
-short_at (fault f ∷ events) line later short = short_at events line later short
-short_at (opening n ∷ events) line later short = short_at events line later short
+use Rattle.cweb_tools.specs.Run.{about, Blames, CanStop, Completes, completes, Ends, FailsOnce, HasMerged, IsMerge, Merges, Prints, Promises, RanFreely, stops, TellsFaults}
+use Rattle.cweb_tools.proofs.Limits.{long_beyond, much_beyond}
 
 -- a course that a limit stops does not stay within them
-long_beyond : (course : Course) (file : FileId) → CanStop (LineTooLong file) course → StaysWithin course → ⊥
-long_beyond (merging first events) file why within =
-    omega (arith, short_at why.events why.line why.later (subst (λ (es : List Event). AreShort (taken_lines es)) why.whole within.short), why.why.1)
-long_beyond course file why within = absurd why
+course_long : (course : Course) (file : FileId) → CanStop (LineTooLong file) course → StaysWithin course → ⊥
+course_long (merging first events) file why within = long_beyond file events why within
+course_long course file why within = absurd why
 
-much_beyond : (course : Course) → CanStop TooMuchText course → StaysWithin course → ⊥
-much_beyond (merging first events) why within = elim why [ inl lines ↦ omega (arith, lines, within.few) | inr bytes ↦ omega (arith, bytes, within.small) ]
-much_beyond course why within = absurd why
+course_much : (course : Course) → CanStop TooMuchText course → StaysWithin course → ⊥
+course_much (merging first events) why within = much_beyond events why within
+course_much course why within = absurd why
 
 no_front : (front rest : List ℕ) → [] ≡ front ++ rest → front ≡ []
 no_front [] rest whole = refl
@@ -65,8 +54,8 @@ module _ (world : World) (names : WebNames) (before after : Seen) (status : ℕ)
       record { written = front_of_nothing _ _ front; logged = logs.whole tell.2 free.told; answered = answered }
   freely_stopped found changes (ReadFault file) files cause blames logs front answered free = absurd (omega (arith, blames.shelf, free.read))
   freely_stopped found changes WriteFault files cause blames logs front answered free = absurd (omega (arith, blames.out, free.printed))
-  freely_stopped found changes (LineTooLong file) files cause blames logs front answered free = absurd (long_beyond (found_course world names found changes) file cause free.within)
-  freely_stopped found changes TooMuchText files cause blames logs front answered free = absurd (much_beyond (found_course world names found changes) cause free.within)
+  freely_stopped found changes (LineTooLong file) files cause blames logs front answered free = absurd (course_long (found_course world names found changes) file cause free.within)
+  freely_stopped found changes TooMuchText files cause blames logs front answered free = absurd (course_much (found_course world names found changes) cause free.within)
   freely_stopped found changes Memory files cause blames logs front answered free = absurd (free.memory (logs.whole tell.2 free.told))
   freely_stopped (Some web) None WebNotOpened files cause blames logs front answered free = absurd cause
   freely_stopped (Some web) (Some change) WebNotOpened files cause blames logs front answered free = absurd cause

@@ -1,23 +1,23 @@
 -- Where a run changed the files, all was read.
 use Rattle.std.proofs.Common.{◌≡◌, ◌≢◌, inl, inr, ℕ, ◌+◌, Bool, true, false, List, [], ◌∷◌, ◌++◌, map, ◌∙◌, ap}
 use Rattle.std.specs.Prelude.{Some}
+use Rattle.cweb_files.specs.Files.{File}
 use Rattle.cweb_lines.specs.declared.stop.Stop.{Stop}
 use Rattle.cweb_lines.specs.declared.stop.Stop.TheVariants.{Usage, WebNotOpened, ChangeNotOpened, ReadFault, LineTooLong, TooMuchText, Memory, OutNotOpened, WriteFault, LogFault}
-use Rattle.cweb_files.specs.Files.{File}
+use Rattle.cweb_log.specs.Items.{Item, fault_count}
+use Rattle.cweb_log.specs.declared.shown.Shown.{Shown}
 use Rattle.cweb_tools.specs.Acts.{Held, Act, judges, says, opens, reads, plans, reserves, writes, after_act, ending, Breaks, Runs, LogsLine, LogsStop, TangleEnds, completes, stops}
-use Rattle.cweb_tools.specs.Items.{Item, fault_count}
 use Rattle.cweb_tools.specs.Script.{Numbers, outputs_acts, when, TangleCourse, unread, not_there, change_not_there, tangling, script, web_acts, planned_acts, starred_acts, closing_acts, Planning, refused, planned, Web}
+use Rattle.cweb_tools.specs.TangleRun.{KeepLimits, ReadsNone, ReadsFirst, ReadAll}
 use Rattle.cweb_tools.proofs.Leaving.{break_files, stop_files}
 use Rattle.cweb_tools.proofs.Endings.{counts_all, limits_all}
-use Rattle.cweb_tools.specs.TangleRun.{KeepLimits, ReadsNone, ReadsFirst, ReadAll}
-use Rattle.cweb_tools.specs.declared.shown.Shown.{Shown}
 
 reads_none-append : (xs ys : List Act) → ReadsNone xs → ReadsNone ys → ReadsNone (xs ++ ys)
 reads_none-append [] ys none others = others
 reads_none-append (judges ∷ xs) ys none others = reads_none-append xs ys none others
 reads_none-append (says item ∷ xs) ys none others = reads_none-append xs ys none others
 reads_none-append (opens ∷ xs) ys none others = reads_none-append xs ys none others
-reads_none-append (reads names lines ∷ xs) ys none others = absurd none
+reads_none-append (reads names events ∷ xs) ys none others = absurd none
 reads_none-append (plans ∷ xs) ys none others = reads_none-append xs ys none others
 reads_none-append (reserves ∷ xs) ys none others = reads_none-append xs ys none others
 reads_none-append (writes name text ∷ xs) ys none others = reads_none-append xs ys none others
@@ -37,7 +37,7 @@ reads_first [] none = tt
 reads_first (judges ∷ acts) none = reads_first acts none
 reads_first (says item ∷ acts) none = reads_first acts none
 reads_first (opens ∷ acts) none = reads_first acts none
-reads_first (reads names lines ∷ acts) none = absurd none
+reads_first (reads names events ∷ acts) none = absurd none
 reads_first (plans ∷ acts) none = reads_first acts none
 reads_first (reserves ∷ acts) none = reads_first acts none
 reads_first (writes name text ∷ acts) none = none
@@ -52,18 +52,18 @@ keeps_none [] none = tt
 keeps_none (judges ∷ acts) none = (tt, keeps_none acts none)
 keeps_none (says item ∷ acts) none = (tt, keeps_none acts none)
 keeps_none (opens ∷ acts) none = (tt, keeps_none acts none)
-keeps_none (reads names lines ∷ acts) none = absurd none
+keeps_none (reads names events ∷ acts) none = absurd none
 keeps_none (plans ∷ acts) none = (tt, keeps_none acts none)
 keeps_none (reserves ∷ acts) none = (tt, keeps_none acts none)
 keeps_none (writes name text ∷ acts) none = (tt, keeps_none acts none)
 
 abbrev ReadsAct : Act → Type 0
-ReadsAct (reads names lines) = Unit {0}
+ReadsAct (reads names events) = Unit {0}
 ReadsAct _ = ⊥
 
 -- no act but reading raises the shelf's count
 shelf_stays : (act : Act) (stop : Stop) (about : List ℕ) (old new : Held) → ¬ ReadsAct act → Breaks act (ending stop about) old new → new.shelf_failed ≡ old.shelf_failed
-shelf_stays (reads names lines) stop about old new other broke = absurd (other tt)
+shelf_stays (reads names events) stop about old new other broke = absurd (other tt)
 shelf_stays judges Memory about old new other broke = ap (λ (d : Held). d.shelf_failed) broke
 shelf_stays opens Memory about old new other broke = ap (λ (d : Held). d.shelf_failed) broke
 shelf_stays plans Memory about old new other broke = ap (λ (d : Held). d.shelf_failed) broke
@@ -79,7 +79,7 @@ shelf_none [] stop about old new none run = absurd run
 shelf_none (judges ∷ acts) stop about old new none (inl run) = shelf_none acts stop about old new none run.1
 shelf_none (says item ∷ acts) stop about old new none (inl run) = shelf_none acts stop about (after_act (says item) old) new none run.1
 shelf_none (opens ∷ acts) stop about old new none (inl run) = shelf_none acts stop about old new none run.1
-shelf_none (reads names lines ∷ acts) stop about old new none run = absurd none
+shelf_none (reads names events ∷ acts) stop about old new none run = absurd none
 shelf_none (plans ∷ acts) stop about old new none (inl run) = shelf_none acts stop about old new none run.1
 shelf_none (reserves ∷ acts) stop about old new none (inl run) = shelf_none acts stop about old new none run.1
 shelf_none (writes name text ∷ acts) stop about old new none (inl run) = shelf_none acts stop about (after_act (writes name text) old) new none run.1
@@ -117,7 +117,7 @@ pub script_reads_first : (shown : Shown) (course : TangleCourse) → ReadsFirst 
 script_reads_first shown unread = tt
 script_reads_first shown (not_there web) = reads_first-when shown.banner _ (opens ∷ says _ ∷ []) tt
 script_reads_first shown (change_not_there change) = reads_first-when shown.banner _ (opens ∷ says _ ∷ []) tt
-script_reads_first shown (tangling files lines web) = reads_first-when shown.banner _ (opens ∷ reads files lines ∷ web_acts shown web) (reads_first (web_acts shown web) (reads_none-web shown web))
+script_reads_first shown (tangling files events web) = reads_first-when shown.banner _ (opens ∷ reads files events ∷ web_acts shown web) (reads_first (web_acts shown web) (reads_none-web shown web))
 
 all_read : (acts : List Act) (stop : Stop) (about : List ℕ) (old new : Held) → ReadsFirst acts → Runs acts (Some (ending stop about)) old new → new.files ≢ old.files → ReadAll acts old new
 all_read [] stop about old new first run changed = absurd run
@@ -125,7 +125,7 @@ all_read (judges ∷ acts) stop about old new first (inl run) changed = let rest
 all_read (says item ∷ acts) stop about old new first (inl run) changed =
     let rest = all_read acts stop about (after_act (says item) old) new first run.1 changed in record { shelf = rest.shelf; within = (tt, rest.within) }
 all_read (opens ∷ acts) stop about old new first (inl run) changed = let rest = all_read acts stop about old new first run.1 changed in record { shelf = rest.shelf; within = (tt, rest.within) }
-all_read (reads names lines ∷ acts) stop about old new first (inl run) changed = let rest = all_read acts stop about old new first run.1 changed in record { shelf = rest.shelf; within = (run.0, rest.within) }
+all_read (reads names events ∷ acts) stop about old new first (inl run) changed = let rest = all_read acts stop about old new first run.1 changed in record { shelf = rest.shelf; within = (run.0, rest.within) }
 all_read (plans ∷ acts) stop about old new first (inl run) changed = let rest = all_read acts stop about old new first run.1 changed in record { shelf = rest.shelf; within = (tt, rest.within) }
 all_read (reserves ∷ acts) stop about old new first (inl run) changed = let rest = all_read acts stop about old new first run.1 changed in record { shelf = rest.shelf; within = (tt, rest.within) }
 all_read (writes name text ∷ acts) stop about old new first (inl run) changed =
@@ -135,7 +135,7 @@ all_read (writes name text ∷ acts) stop about old new first (inr here) changed
 all_read (judges ∷ acts) stop about old new first (inr here) changed = absurd (changed (break_files judges stop about old new here))
 all_read (says item ∷ acts) stop about old new first (inr here) changed = absurd (changed (break_files (says item) stop about old new here))
 all_read (opens ∷ acts) stop about old new first (inr here) changed = absurd (changed (break_files opens stop about old new here))
-all_read (reads names lines ∷ acts) stop about old new first (inr here) changed = absurd (changed (break_files (reads names lines) stop about old new here))
+all_read (reads names events ∷ acts) stop about old new first (inr here) changed = absurd (changed (break_files (reads names events) stop about old new here))
 all_read (plans ∷ acts) stop about old new first (inr here) changed = absurd (changed (break_files plans stop about old new here))
 all_read (reserves ∷ acts) stop about old new first (inr here) changed = absurd (changed (break_files reserves stop about old new here))
 

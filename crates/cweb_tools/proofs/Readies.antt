@@ -16,11 +16,11 @@ use Rattle.cweb_out.specs.Printers.{setting}
 use Rattle.cweb_out.specs.Printing.{file}
 use Rattle.cweb_out.specs.Uses.{names}
 use Rattle.cweb_out.specs.declared.expander.Expander.{Expander}
+use Rattle.cweb_log.specs.Seen.{SeenBins, SeenStream}
 use Rattle.cweb_tools.specs.Acts.{ended}
 use Rattle.cweb_tools.specs.Does.{DoesInBoth}
 use Rattle.cweb_tools.specs.Expanders.{AreMarksBelow, IsReady, StaysReady, ended_at, file_at, files_due, left_in}
 use Rattle.cweb_tools.specs.Script.{output_acts, outputs_acts}
-use Rattle.cweb_tools.specs.Seen.{SeenBins, SeenStream}
 use Rattle.cweb_tools.specs.Tangle.{output_file}
 use Rattle.cweb_tools.specs.declared.outputs.Failed.{Failed}
 use Rattle.cweb_tools.proofs.Marks.{expansion_all}

@@ -7,11 +7,11 @@ use Rattle.cweb_out.specs.Outputs.{Planned, Refusal, bad_name, same_name, cycle}
 use Rattle.cweb_out.specs.Planning.{IsDue}
 use Rattle.cweb_out.specs.declared.plan_fault.PlanFault.{PlanFault}
 use Rattle.cweb_out.specs.declared.plan_fault.PlanFault.TheVariants.{Cycle, SameName, BadName, Memory}
-use Rattle.cweb_tools.specs.Items.{fault, line}
+use Rattle.cweb_log.specs.Items.{fault, line}
+use Rattle.cweb_log.specs.WebItems.{plan_item, refusal_text}
 use Rattle.cweb_tools.specs.Script.{refused}
 use Rattle.cweb_tools.specs.Tangle.{plan_made, planning, planning_by}
 use Rattle.cweb_tools.specs.Web.{refusal_in}
-use Rattle.cweb_tools.specs.WebItems.{plan_item, refusal_text}
 
 pub each_some : {A : Type 0} (o : Option A) (P : A → Type 0) → ((x : A) → o ≡ Some x → P x) → IfSome o P
 each_some None P each = tt

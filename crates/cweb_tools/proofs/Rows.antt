@@ -9,9 +9,9 @@ use Rattle.cweb_lines.specs.declared.stop.Stop.TheVariants.{Usage, WebNotOpened,
 use Rattle.cweb_lines.specs.Include.{World}
 use Rattle.cweb_lines.specs.Merge.{Event, State, run, started}
 use Rattle.cweb_lines.specs.Total.{merge-run}
-use Rattle.cweb_tools.specs.Log.{fault_line, fault_lines, stop_line, subject}
+use Rattle.cweb_log.specs.Log.{fault_line, fault_lines, stop_line, subject}
+use Rattle.cweb_log.specs.Words.{asked_by}
 use Rattle.cweb_tools.specs.Course.{Course, unread, change_not_there, merging, course_of, merged, merge_log, merge_status, usage}
-use Rattle.cweb_tools.specs.Words.{asked_by}
 
 -- a word without a dot in its last path part is given `.w`, and `.web` as a second try
 web_without_extension : asked_by (codes "lib.d/hello" ∷ []) ≡ Some (record { web = codes "lib.d/hello.w"; second = Some (codes "lib.d/hello.web"); change = None })

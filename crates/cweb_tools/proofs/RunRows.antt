@@ -8,8 +8,8 @@ use Rattle.cweb_files.specs.Files.{File}
 use Rattle.cweb_lines.specs.Include.{World}
 use Rattle.cweb_lines.specs.Merge.{Event, State, run, started}
 use Rattle.cweb_lines.specs.Total.{merge-run}
+use Rattle.cweb_log.specs.Options.{Asked, options_by}
 use Rattle.cweb_tools.specs.Course as course
-use Rattle.cweb_tools.specs.Options.{Asked, options_by}
 use Rattle.cweb_tools.specs.Script.{TangleCourse, tangle_files, tangle_log, tangle_status}
 use Rattle.cweb_tools.specs.Tangle.{shown_by, tangle_course, tangled}
 

@@ -3,10 +3,10 @@ use Rattle.std.proofs.Common.{◌≡◌, true, false, List, ℕ, [], ◌∷◌, 
 use Rattle.std.specs.Prelude.{codes}
 use Rattle.std.specs.Fmt.{digits}
 use Rattle.cweb_files.specs.Files.{File}
-use Rattle.cweb_tools.specs.Items.{Item, fault, located}
-use Rattle.cweb_tools.specs.Options.{shown_by_default}
+use Rattle.cweb_log.specs.Items.{Item, fault, located}
+use Rattle.cweb_log.specs.Options.{shown_by_default}
+use Rattle.cweb_log.specs.declared.shown.Shown.{Shown}
 use Rattle.cweb_tools.specs.Script.{Planning, TangleCourse, change_not_there, not_there, planned, refused, tangling, tangle_files, tangle_log, tangle_status, unread}
-use Rattle.cweb_tools.specs.declared.shown.Shown.{Shown}
 
 -- no options, and -bph
 abbrev quiet : Shown

@@ -11,13 +11,13 @@ use Rattle.cweb_rules.specs.Follows.{is_quiet}
 use Rattle.cweb_rules.proofs.Joins.{both, unlike}
 use Rattle.cweb_scan.specs.After.{Reading}
 use Rattle.cweb_scan.specs.Run.{run}
-use Rattle.cweb_scan.proofs.Gaps.{one_more}
-use Rattle.cweb_out.specs.Printing.{Setting, print_after, file_text, word_text, kept}
-use Rattle.cweb_out.specs.Spacing.{sep, are_apart}
 use Rattle.cweb_scan.specs.Alone.{InPlainC, HasRead, IsRead, ReadsAlone, solid, is_between, doubled, at_doubled, is_hash, bytes_of, goes_on}
-use Rattle.cweb_tools.specs.Spacing.{IsPlain, Spacing, is_ascii}
+use Rattle.cweb_scan.proofs.Gaps.{one_more}
 use Rattle.cweb_scan.proofs.PlainStates.{nothing, and_then, no_directive}
 use Rattle.cweb_scan.proofs.PlainTokens.{newline_read, comment_read, comment_of, token_read, quiet_decimal, all_if}
+use Rattle.cweb_out.specs.Printing.{Setting, print_after, file_text, word_text, kept}
+use Rattle.cweb_out.specs.Spacing.{sep, are_apart}
+use Rattle.cweb_tools.specs.Spacing.{IsPlain, Spacing, is_ascii}
 use Rattle.cweb_tools.proofs.SpacingStarts.{First, first_of, seam, blank_after, is_false, joins, operators_join}
 
 -- THE TEXT OF A TOKEN

@@ -15,11 +15,11 @@ use Rattle.cweb_rules.specs.declared.end.End.{End}
 use Rattle.cweb_rules.specs.declared.end.End.TheVariants.{Closed, Cut, Nested, Open}
 use Rattle.cweb_rules.proofs.Joins.{and_false, both, neither, unlike}
 use Rattle.cweb_rules.proofs.Stays.{begins_number, and_true}
-use Rattle.cweb_out.specs.Spacing.{is_operator, last_is, are_apart}
-use Rattle.cweb_out.specs.Spacing as print
 use Rattle.cweb_scan.specs.Alone.{ReadsAlone, doubled, token_of, bytes_of, literal_of, is_clean, goes_on}
 use Rattle.cweb_scan.proofs.PlainPieces.{is_that}
 use Rattle.cweb_scan.proofs.PlainTokens.{begins, text_of}
+use Rattle.cweb_out.specs.Spacing.{is_operator, last_is, are_apart}
+use Rattle.cweb_out.specs.Spacing as print
 
 -- operator bytes, but `.` only after `.`; or `.` and a digit
 abbrev pub joins : ℕ → ℕ → Bool

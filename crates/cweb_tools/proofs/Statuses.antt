@@ -6,11 +6,11 @@ use Rattle.std.specs.Prelude.{◌==◌, count_by, if◌then◌else◌}
 use Rattle.std.specs.List.{list_any}
 use Rattle.cweb_files.specs.Files.{File}
 use Rattle.cweb_lines.specs.declared.stop.Stop.TheVariants.{WebNotOpened, ChangeNotOpened}
+use Rattle.cweb_log.specs.Items.{Item, banner, closing, fault_count, faults, is_fault, no_errors, no_text, see_warning, stopped}
+use Rattle.cweb_log.specs.declared.shown.Shown.{Shown}
 use Rattle.cweb_tools.specs.Acts.{Act, opens, reads, says}
-use Rattle.cweb_tools.specs.Items.{Item, banner, closing, fault_count, faults, is_fault, no_errors, no_text, see_warning, stopped}
 use Rattle.cweb_tools.specs.Script.{Numbers, Planning, TangleCourse, closing_acts, items_in, outputs_acts, planned, planned_acts, refused, starred_acts, tangle_status, tangling, unread, not_there, change_not_there, web_acts, when}
 use Rattle.cweb_tools.specs.Tangle.{course_status, status_by}
-use Rattle.cweb_tools.specs.declared.shown.Shown.{Shown}
 
 -- whether acts log a fault
 abbrev has_fault : List Act → Bool
@@ -88,7 +88,7 @@ pub status_is : (shown : Shown) (course : TangleCourse) → tangle_status shown 
 status_is shown unread = refl
 status_is shown (not_there web) = ap status_for (fault-when shown.banner banner (opens ∷ says (stopped WebNotOpened web) ∷ []) refl)
 status_is shown (change_not_there change) = ap status_for (fault-when shown.banner banner (opens ∷ says (stopped ChangeNotOpened change) ∷ []) refl)
-status_is shown (tangling names lines web) =
-    ap status_for (fault-when shown.banner banner (opens ∷ reads names lines ∷ web_acts shown web) refl ∙ fault-starred shown.progress web.starred _ ∙ fault-said web.faults _
+status_is shown (tangling names events web) =
+    ap status_for (fault-when shown.banner banner (opens ∷ reads names events ∷ web_acts shown web) refl ∙ fault-starred shown.progress web.starred _ ∙ fault-said web.faults _
     ∙ ap (λ (f : Bool). list_any is_fault web.faults || f) (fault-planned shown web.numbers (fault_count web.faults) web.plan))
     ∙ status_planned web.faults web.plan

@@ -4,11 +4,11 @@ use Rattle.std.specs.Prelude.{Some}
 use Rattle.std.specs.List.{flat_map}
 use Rattle.cweb_lines.specs.declared.stop.Stop.{Stop}
 use Rattle.cweb_lines.specs.declared.stop.Stop.TheVariants.{ReadFault, LineTooLong, TooMuchText, Memory, OutNotOpened, WriteFault, LogFault}
-use Rattle.cweb_tools.specs.Log.{stop_line}
-use Rattle.cweb_tools.specs.Acts.{Held, Act, judges, says, opens, reads, plans, reserves, writes, after_act, ending, Breaks, Runs, FailsLog, LogsLine, LogsStop}
-use Rattle.cweb_tools.specs.Items.{Item, line}
-use Rattle.cweb_tools.specs.Script.{items_in}
 use Rattle.cweb_lines.specs.Texts.{read_blame}
+use Rattle.cweb_log.specs.Log.{stop_line}
+use Rattle.cweb_log.specs.Items.{Item, line}
+use Rattle.cweb_tools.specs.Acts.{Held, Act, judges, says, opens, reads, plans, reserves, writes, after_act, ending, Breaks, Runs, FailsLog, LogsLine, LogsStop}
+use Rattle.cweb_tools.specs.Script.{items_in}
 use Rattle.cweb_tools.specs.Does.{bins_blame}
 use Rattle.cweb_tools.specs.TangleRun.{LogsUpTo, IsStopped}
 
@@ -78,12 +78,12 @@ stopped_at opens Memory about old mid new broke logs acts = quietly Memory about
 stopped_at plans Memory about old mid new broke logs acts = quietly Memory about old mid new refl refl broke logs (plans ∷ acts) (λ is. cc)
 stopped_at reserves Memory about old mid new broke logs acts = quietly Memory about old mid new refl refl broke logs (reserves ∷ acts) (λ is. cc)
 stopped_at (says item) LogFault about old mid new broke logs acts = log_failed item about old mid new broke logs acts
-stopped_at (reads names lines) (ReadFault file) about old mid new broke logs acts =
+stopped_at (reads names events) (ReadFault file) about old mid new broke logs acts =
     counted (ReadFault file) about old mid new (ap (λ (d : Held). d.shelf_failed) broke.1) (ap (λ (d : Held). d.bins_failed) broke.1 ∙ sym (add-zero old.bins_failed))
-    (ap (λ (d : Held). d.log) broke.1) (ap (λ (d : Held). d.log_failed) broke.1) logs (reads names lines ∷ acts) (λ is. cc)
-stopped_at (reads names lines) (LineTooLong file) about old mid new broke logs acts = quietly (LineTooLong file) about old mid new refl refl broke.2 logs (reads names lines ∷ acts) (λ is. cc)
-stopped_at (reads names lines) TooMuchText about old mid new broke logs acts = quietly TooMuchText about old mid new refl refl broke.1 logs (reads names lines ∷ acts) (λ is. cc)
-stopped_at (reads names lines) Memory about old mid new broke logs acts = quietly Memory about old mid new refl refl broke logs (reads names lines ∷ acts) (λ is. cc)
+    (ap (λ (d : Held). d.log) broke.1) (ap (λ (d : Held). d.log_failed) broke.1) logs (reads names events ∷ acts) (λ is. cc)
+stopped_at (reads names events) (LineTooLong file) about old mid new broke logs acts = quietly (LineTooLong file) about old mid new refl refl broke.2 logs (reads names events ∷ acts) (λ is. cc)
+stopped_at (reads names events) TooMuchText about old mid new broke logs acts = quietly TooMuchText about old mid new refl refl broke.1 logs (reads names events ∷ acts) (λ is. cc)
+stopped_at (reads names events) Memory about old mid new broke logs acts = quietly Memory about old mid new refl refl broke logs (reads names events ∷ acts) (λ is. cc)
 stopped_at (writes name text) Memory about old mid new broke logs acts =
     counted Memory about old mid new (ap (λ (d : Held). d.shelf_failed) broke ∙ sym (add-zero old.shelf_failed)) (ap (λ (d : Held). d.bins_failed) broke ∙ sym (add-zero old.bins_failed))
     (ap (λ (d : Held). d.log) broke) (ap (λ (d : Held). d.log_failed) broke) logs (writes name text ∷ acts) (λ is. cc)
@@ -140,7 +140,7 @@ is_stopped (judges ∷ acts) stop about old mid new (inl run) logs = done_before
 is_stopped (opens ∷ acts) stop about old mid new (inl run) logs = done_before opens acts stop about old new refl refl refl refl refl (is_stopped acts stop about old mid new run.1 logs)
 is_stopped (plans ∷ acts) stop about old mid new (inl run) logs = done_before plans acts stop about old new refl refl refl refl refl (is_stopped acts stop about old mid new run.1 logs)
 is_stopped (reserves ∷ acts) stop about old mid new (inl run) logs = done_before reserves acts stop about old new refl refl refl refl refl (is_stopped acts stop about old mid new run.1 logs)
-is_stopped (reads names lines ∷ acts) stop about old mid new (inl run) logs = done_before (reads names lines) acts stop about old new refl refl refl refl refl (is_stopped acts stop about old mid new run.1 logs)
+is_stopped (reads names events ∷ acts) stop about old mid new (inl run) logs = done_before (reads names events) acts stop about old new refl refl refl refl refl (is_stopped acts stop about old mid new run.1 logs)
 is_stopped (writes name text ∷ acts) stop about old mid new (inl run) logs = done_before (writes name text) acts stop about old new refl refl refl refl refl (is_stopped acts stop about (after_act (writes name text) old) mid new run.1 logs)
 is_stopped (says item ∷ acts) stop about old mid new (inl run) logs = said_before item acts stop about old new (is_stopped acts stop about (after_act (says item) old) mid new run.1 logs)
 is_stopped (act ∷ acts) stop about old mid new (inr stop_here) logs = stopped_at act stop about old mid new stop_here logs acts

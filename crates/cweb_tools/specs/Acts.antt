@@ -1,20 +1,26 @@
 -- What a run of `ctangle` does, act by act, and what it leaves where something stops it.
-use Rattle.std.specs.Prelude.{◌≡◌, ◌⊎◌, ℕ, ◌+◌, List, [], ◌∷◌, ◌++◌, Option, Some, None, Result, Ok, Err}
-use Rattle.cweb_files.specs.Files.{File, put_file}
-use Rattle.cweb_lines.specs.Lines.{SourceLine}
-use Rattle.cweb_lines.specs.Told.{IsWithinLimits}
+use Rattle.std.specs.Prelude.{◌≡◌, ◌<◌, ◌⊎◌, ℕ, ◌+◌, length, List, [], ◌∷◌, ◌++◌, Option, Some, None, Result, Ok, Err}
+use Rattle.cweb_files.specs.Files.{File, Refused, no_device, no_memory, put_file}
+use Rattle.cweb_lines.specs.Merge.{Event}
+use Rattle.cweb_lines.specs.Told.{IsWithinLimits, taken_lines}
+use Rattle.cweb_lines.specs.Writing.{LongIn}
 use Rattle.cweb_lines.specs.declared.stop.Stop.{Stop}
 use Rattle.cweb_lines.specs.declared.stop.Stop.TheVariants.{ReadFault, LineTooLong, TooMuchText, Memory, OutNotOpened, WriteFault, LogFault}
-use Rattle.cweb_tools.specs.Items.{Item, line}
-use Rattle.cweb_tools.specs.Log.{name_at, stop_line}
+use Rattle.cweb_log.specs.Items.{Item, line}
+use Rattle.cweb_log.specs.Log.{name_at, stop_line}
+use Rattle.cweb_tools.specs.Run.{PassesSums}
 
 -- what the devices of a run hold, and how often each has failed
 pub record Held : Type 0 where
   pub shelf_failed : ℕ
+  -- the names of the files of which a read has failed
+  pub blamed : List (List ℕ)
   pub bins_failed : ℕ
   pub log_failed : ℕ
   pub files : List File
   pub draft : Option (List ℕ)
+  -- why the bins refused to begin the last file, if they did
+  pub refused : Option Refused
   pub log : List ℕ
 
 pub data Act : Type 0 where
@@ -24,8 +30,8 @@ pub data Act : Type 0 where
   says : Item → Act
   -- the web and its change file are opened
   opens : Act
-  -- files of these names are read, and these lines are taken from them
-  reads : List (List ℕ) → List SourceLine → Act
+  -- files of these names are read, and this comes of them
+  reads : List (List ℕ) → List Event → Act
   -- the outputs are planned
   plans : Act
   -- room is set aside for the expansions
@@ -36,7 +42,7 @@ pub data Act : Type 0 where
 -- what the devices hold after an act
 abbrev pub after_act : Act → Held → Held
 after_act (says item) now = record now { log = now.log ++ line item }
-after_act (writes name text) now = record now { files = put_file now.files (record { name = name; bytes = text }); draft = None }
+after_act (writes name text) now = record now { files = put_file now.files (record { name = name; bytes = text }); draft = None; refused = None }
 after_act _ now = now
 
 abbrev pub after_acts : List Act → Held → Held
@@ -45,7 +51,7 @@ after_acts (act ∷ acts) now = after_acts acts (after_act act now)
 
 -- what an act that was done shows
 abbrev pub Keeps : Act → Type 0
-Keeps (reads names lines) = IsWithinLimits lines
+Keeps (reads names events) = IsWithinLimits (taken_lines events)
 Keeps _ = Unit {0}
 
 -- what stopped a run, and what that is about
@@ -59,24 +65,41 @@ pub record FailsLog (text : List ℕ) (old new : Held) : Type 0 where
   pub whole : text ≡ front ++ rest
   pub is : new ≡ record old { log_failed = old.log_failed + 1; log = old.log ++ front }
 
--- the bins failed: the files are as they were, and no draft is left
+-- a file could not be begun: the files are as they were, there is no draft, and the bins know why
+abbrev pub not_begun : Refused → Held → Held
+not_begun why now = record now { draft = None; refused = Some why }
+
+-- the bins failed
 abbrev pub bins_fail : Held → Held
-bins_fail now = record now { bins_failed = now.bins_failed + 1; draft = None }
+bins_fail now = record now { bins_failed = now.bins_failed + 1 }
+
+-- what was written of a file that had begun is lost: the files are as they were, and no draft is left
+abbrev pub given_up : Held → Held
+given_up now = record now { draft = None; refused = None }
+
+-- a stop of reading is about one of the files that are read, and ends in its name
+pub record IsOfFile (names : List (List ℕ)) (file : ℕ) (about : List ℕ) : Type 0 where
+  pub known : file < length names
+  pub named : about ≡ name_at names file
+
+-- a read of the file of this name failed
+abbrev pub read_fails : List ℕ → Held → Held
+read_fails name now = record now { shelf_failed = now.shelf_failed + 1; blamed = now.blamed ++ name ∷ [] }
 
 -- what a stop leaves at an act: each act has stops of its own
 abbrev pub Breaks : Act → Ending → Held → Held → Type 0
 Breaks judges (ending Memory about) old new = new ≡ old
 Breaks (says item) (ending LogFault about) old new = FailsLog (line item) old new
 Breaks opens (ending Memory about) old new = new ≡ old
-Breaks (reads names lines) (ending (ReadFault file) about) old new = (about ≡ name_at names file.0) × (new ≡ record old { shelf_failed = old.shelf_failed + 1 })
-Breaks (reads names lines) (ending (LineTooLong file) about) old new = (about ≡ name_at names file.0) × (¬ IsWithinLimits lines) × (new ≡ old)
-Breaks (reads names lines) (ending TooMuchText about) old new = (¬ IsWithinLimits lines) × (new ≡ old)
-Breaks (reads names lines) (ending Memory about) old new = new ≡ old
+Breaks (reads names events) (ending (ReadFault file) about) old new = IsOfFile names file.0 about × (new ≡ read_fails about old)
+Breaks (reads names events) (ending (LineTooLong file) about) old new = IsOfFile names file.0 about × LongIn file events × (new ≡ old)
+Breaks (reads names events) (ending TooMuchText about) old new = PassesSums events × (new ≡ old)
+Breaks (reads names events) (ending Memory about) old new = new ≡ old
 Breaks plans (ending Memory about) old new = new ≡ old
 Breaks reserves (ending Memory about) old new = new ≡ old
-Breaks (writes name text) (ending Memory about) old new = new ≡ record old { draft = None }
-Breaks (writes name text) (ending OutNotOpened about) old new = (about ≡ name) × (new ≡ bins_fail old)
-Breaks (writes name text) (ending WriteFault about) old new = (about ≡ name) × (new ≡ bins_fail old)
+Breaks (writes name text) (ending Memory about) old new = new ≡ not_begun no_memory old
+Breaks (writes name text) (ending OutNotOpened about) old new = (about ≡ name) × (new ≡ bins_fail (not_begun no_device old))
+Breaks (writes name text) (ending WriteFault about) old new = (about ≡ name) × (new ≡ bins_fail (given_up old))
 Breaks _ _ old new = ⊥
 
 abbrev pub StopsAt : Act → Option Ending → Held → Held → Type 0

@@ -8,8 +8,8 @@ use Rattle.cweb_lines.specs.Total.{merge}
 use Rattle.cweb_lines.specs.Writing.{text_of}
 use Rattle.cweb_lines.specs.declared.fault.SourceFault.{SourceFault}
 use Rattle.cweb_lines.specs.declared.stop.Stop.TheVariants.{Usage, WebNotOpened, ChangeNotOpened}
-use Rattle.cweb_tools.specs.Log.{fault_lines, stop_line}
-use Rattle.cweb_tools.specs.Words.{WebNames, asked_by}
+use Rattle.cweb_log.specs.Log.{fault_lines, stop_line}
+use Rattle.cweb_log.specs.Words.{WebNames, asked_by}
 
 abbrev pub usage : List ℕ
 usage = codes "wmerge webfile[.w] [{changefile[.ch]|-}]"

@@ -1,22 +1,44 @@
--- Acts that calls do in the devices of a run: what they leave where the devices tell what they hold, and which device failed
+-- Acts that calls do in the devices of a run: what they leave in each device that tells what it holds, and which device failed
 -- over all devices.
-use Rattle.std.specs.Prelude.{◌≡◌, ℕ, ◌+◌, List, [], Option, Some, None, Result, Ok, Err}
+use Rattle.std.specs.Prelude.{◌≡◌, ℕ, ◌+◌, List, [], Option, Some, None, Result, Ok, Err, IsTrue}
 use Rattle.cweb_lines.specs.Texts.{read_blame}
 use Rattle.cweb_lines.specs.declared.stop.Stop.{Stop}
 use Rattle.cweb_lines.specs.declared.stop.Stop.TheVariants.{OutNotOpened, WriteFault, LogFault}
+use Rattle.cweb_log.specs.Log.{stop_line}
+use Rattle.cweb_log.specs.Gathering.{Logs}
+use Rattle.cweb_log.specs.Seen.{SeenBins, SeenRun, SeenShelf, SeenStream}
 use Rattle.cweb_tools.specs.Acts.{Act, Ending, ending, Held, Runs}
-use Rattle.cweb_tools.specs.Log.{stop_line}
-use Rattle.cweb_tools.specs.Run.{Logs}
-use Rattle.cweb_tools.specs.Seen.{AllTell, SeenBins, SeenRun, SeenShelf, SeenStream}
+use Rattle.cweb_tools.specs.Script.{TangleCourse}
 
--- what devices hold that tell it
+-- What devices hold, as far as they tell it: how often each has failed is always known; a log that tells has these bytes, bins
+-- that tell have these files, this draft and this answer to the last beginning, and a shelf that tells says of whose files reads
+-- have failed. Whatever tells nothing may hold anything.
+pub record AsTold (now : Held) (seen : SeenRun) : Type 0 where
+  pub shelf_failed : now.shelf_failed ≡ seen.shelf.failed
+  pub bins_failed : now.bins_failed ≡ seen.bins.failed
+  pub log_failed : now.log_failed ≡ seen.log.failed
+  pub blamed : IsTrue seen.shelf.tells → now.blamed ≡ seen.shelf.blamed
+  pub files : IsTrue seen.bins.tells → now.files ≡ seen.bins.beside.files
+  pub draft : IsTrue seen.bins.tells → now.draft ≡ seen.bins.beside.draft
+  pub refused : IsTrue seen.bins.tells → now.refused ≡ seen.bins.beside.refused
+  pub log : IsTrue seen.log.tells → now.log ≡ seen.log.bytes
+
+-- acts that begin with this in the devices leave something in them, as far as they tell it
+pub record LeadTo (acts : List Act) (why : Option Ending) (now : Held) (after : SeenRun) : Type 0 where
+  pub left : Held
+  pub told : AsTold left after
+  pub runs : Runs acts why now left
+
+-- what devices show that tell it
 abbrev pub held : SeenRun → Held
 held seen = record {
   shelf_failed = seen.shelf.failed;
+  blamed = seen.shelf.blamed;
   bins_failed = seen.bins.failed;
   log_failed = seen.log.failed;
   files = seen.bins.beside.files;
   draft = seen.bins.beside.draft;
+  refused = seen.bins.beside.refused;
   log = seen.log.bytes;
 }
 
@@ -42,7 +64,7 @@ pub record Does (acts : List Act) (why : Option Ending) (before after : SeenRun)
   pub shelf : after.shelf.failed ≡ before.shelf.failed + rise read_blame why
   pub bins : after.bins.failed ≡ before.bins.failed + rise bins_blame why
   pub log : after.log.failed ≡ before.log.failed + rise log_blame why
-  pub runs : AllTell before → Runs acts why (held before) (held after)
+  pub runs : (now : Held) → AsTold now before → LeadTo acts why now after
 
 -- acts of a call that has the log alone, whatever the other devices hold
 abbrev pub DoesInLog : List Act → Option Ending → SeenStream → SeenStream → Type 0
@@ -85,9 +107,11 @@ ClosesInLog acts due old new status = (shelf : SeenShelf) (bins : SeenBins) → 
 abbrev pub ClosesInBoth : List Act → ℕ → SeenBins → SeenBins → SeenStream → SeenStream → ℕ → Type 0
 ClosesInBoth acts due old new log log' status = (shelf : SeenShelf) → Closes acts due (record { shelf = shelf; bins = old; log = log }) (record { shelf = shelf; bins = new; log = log' }) status
 
--- how a run ends whose acts are these where all devices tell
-pub record Follows (acts : List Act) (due : ℕ) (before after : SeenRun) (status : ℕ) : Type 0 where
-  pub taken : List Act
-  pub answered : ℕ
-  pub are : AllTell before → (taken ≡ acts) × (answered ≡ due)
-  pub closes : Closes taken answered before after status
+-- how a run, or its last part, ends whose acts and status are these for each course: it takes this course where the shelf tells
+-- its texts, and else one to which it can come
+pub record Follows (acts : TangleCourse → List Act) (due : TangleCourse → ℕ) (CanBe : TangleCourse → Type 0) (course : TangleCourse)
+    (before after : SeenRun) (status : ℕ) : Type 0 where
+  pub taken : TangleCourse
+  pub can : CanBe taken
+  pub is : IsTrue before.shelf.tells → taken ≡ course
+  pub closes : Closes (acts taken) (due taken) before after status

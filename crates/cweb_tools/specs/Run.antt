@@ -2,6 +2,7 @@
 use Rattle.std.specs.Prelude.{◌≡◌, ◌≢◌, ◌⊎◌, ◌≤◌, ◌<◌, ℕ, ◌+◌, length, List, [], ◌++◌, codes, Option, None, Some, IsTrue}
 use Rattle.cweb_lines.specs.Include.{World}
 use Rattle.cweb_lines.specs.Merge.{Event}
+use Rattle.cweb_lines.specs.Naming.{blame}
 use Rattle.cweb_lines.specs.Texts.{files_named, read_blame}
 use Rattle.cweb_lines.specs.Told.{told_faults, openings, taken_lines, size_of, IsWithinLimits}
 use Rattle.cweb_lines.specs.Writing.{WritesFront, LongIn, write_blame}
@@ -9,16 +10,11 @@ use Rattle.cweb_lines.specs.declared.fault.SourceFault.{SourceFault}
 use Rattle.cweb_lines.specs.declared.limits.TheConstants.{LINES, BYTES}
 use Rattle.cweb_lines.specs.declared.stop.Stop.{Stop}
 use Rattle.cweb_lines.specs.declared.stop.Stop.TheVariants.{Usage, WebNotOpened, ChangeNotOpened, ReadFault, LineTooLong, TooMuchText, Memory, WriteFault}
+use Rattle.cweb_log.specs.Gathering.{Logs}
+use Rattle.cweb_log.specs.Log.{fault_lines, stop_line, name_at}
+use Rattle.cweb_log.specs.Seen.{Seen, Tell}
+use Rattle.cweb_log.specs.Words.{WebNames}
 use Rattle.cweb_tools.specs.Course.{Course, not_there, change_not_there, merging, asked_course, change_name, fault_status, merge_log, merge_status, merged, usage, StaysWithin}
-use Rattle.cweb_tools.specs.Log.{fault_lines, stop_line, name_at}
-use Rattle.cweb_tools.specs.Seen.{Seen, SeenStream, Tell}
-use Rattle.cweb_tools.specs.Words.{WebNames}
-
--- a text was logged: all of it, or after a fault a front of it
-pub record Logs (text : List ℕ) (before after : SeenStream) : Type 0 where
-  pub once : (after.failed ≡ before.failed) ⊎ (after.failed ≡ before.failed + 1)
-  pub whole : IsTrue before.tells → after.failed ≡ before.failed → after.bytes ≡ before.bytes ++ text
-  pub front : IsTrue before.tells → WritesFront before.bytes after.bytes text
 
 -- the words can't be read: the log alone is written to
 pub record Refuses (before after : Seen) (status : ℕ) : Type 0 where
@@ -39,6 +35,7 @@ pub record Completes (course : Course) (before after : Seen) (status : ℕ) : Ty
   pub faults : List SourceFault
   pub all : IsTrue before.shelf.tells → HasMerged course files faults
   pub read : after.shelf.failed ≡ before.shelf.failed
+  pub none_blamed : IsTrue before.shelf.tells → after.shelf.blamed ≡ before.shelf.blamed
   pub printed : after.out.failed ≡ before.out.failed
   pub written : IsTrue before.shelf.tells → IsTrue before.out.tells → after.out.bytes ≡ before.out.bytes ++ merged course
   pub logged : Logs (fault_lines files faults) before.log after.log
@@ -100,6 +97,8 @@ pub record Stops (names : WebNames) (course : Course) (before after : Seen) (sta
   pub named : files_named stop ≤ length files
   pub opened : IsTrue before.shelf.tells → AreOpened files course
   pub blames : Blames stop before after
+  -- a read fault is one of the very file that it names
+  pub blamed : IsTrue before.shelf.tells → after.shelf.blamed ≡ before.shelf.blamed ++ blame files stop
   pub written : IsTrue before.shelf.tells → IsTrue before.out.tells → WritesFront before.out.bytes after.out.bytes (merged course)
   pub logged : Logs (stop_line stop (about names files stop)) before.log after.log
   pub answered : status ≡ 1

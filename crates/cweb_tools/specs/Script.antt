@@ -2,11 +2,11 @@
 use Rattle.std.specs.Prelude.{ℕ, ◌+◌, Bool, true, false, List, [], ◌∷◌, ◌++◌, codes, map, if◌then◌else◌}
 use Rattle.std.specs.List.{flat_map, list_any}
 use Rattle.cweb_files.specs.Files.{File}
-use Rattle.cweb_lines.specs.Lines.{SourceLine}
+use Rattle.cweb_lines.specs.Merge.{Event}
 use Rattle.cweb_lines.specs.declared.stop.Stop.TheVariants.{Usage, WebNotOpened, ChangeNotOpened}
+use Rattle.cweb_log.specs.Items.{Item, line, banner, starred, fault, fault_count, no_text, writing, counts, closing, stopped, is_fault}
+use Rattle.cweb_log.specs.declared.shown.Shown.{Shown}
 use Rattle.cweb_tools.specs.Acts.{Act, judges, says, opens, reads, plans, reserves, writes}
-use Rattle.cweb_tools.specs.Items.{Item, line, banner, starred, fault, fault_count, no_text, writing, counts, closing, stopped, is_fault}
-use Rattle.cweb_tools.specs.declared.shown.Shown.{Shown}
 
 -- how many sections, names and macros a web has
 pub record Numbers : Type 0 where
@@ -27,13 +27,13 @@ pub record Web : Type 0 where
   pub numbers : Numbers
   pub plan : Planning
 
--- how a run goes: its words can't be read; its web or its change file isn't there; or these files are read, with these
--- lines, and this is what the web holds
+-- how a run goes: its words can't be read; its web or its change file isn't there; or these files are read, this comes of
+-- them, and this is what the web holds
 pub data TangleCourse : Type 0 where
   unread : TangleCourse
   not_there : List ℕ → TangleCourse
   change_not_there : List ℕ → TangleCourse
-  tangling : List (List ℕ) → List SourceLine → Web → TangleCourse
+  tangling : List (List ℕ) → List Event → Web → TangleCourse
 
 -- a line that is logged only where it is asked for
 abbrev pub when : Bool → Item → List Act
@@ -76,7 +76,7 @@ abbrev pub script : Shown → TangleCourse → List Act
 script shown unread = says (stopped Usage tangle_usage) ∷ []
 script shown (not_there web) = judges ∷ (when shown.banner banner ++ (opens ∷ says (stopped WebNotOpened web) ∷ []))
 script shown (change_not_there change) = judges ∷ (when shown.banner banner ++ (opens ∷ says (stopped ChangeNotOpened change) ∷ []))
-script shown (tangling names lines web) = judges ∷ (when shown.banner banner ++ (opens ∷ reads names lines ∷ web_acts shown web))
+script shown (tangling names events web) = judges ∷ (when shown.banner banner ++ (opens ∷ reads names events ∷ web_acts shown web))
 
 -- the items that acts log
 abbrev pub items_in : List Act → List Item

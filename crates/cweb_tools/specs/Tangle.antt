@@ -1,8 +1,8 @@
 -- What a web holds by its lines and its faults, and how a run of `ctangle` goes by texts, words and folder.
-use Rattle.std.specs.Prelude.{ℕ, ◌==◌, List, [], ◌∷◌, ◌++◌, map, count_by, Option, None, Some, Result, Ok, Err, if◌then◌else◌}
+use Rattle.std.specs.Prelude.{◌≡◌, ℕ, ◌==◌, List, [], ◌∷◌, ◌++◌, map, count_by, Option, None, Some, Result, Ok, Err, if◌then◌else◌}
 use Rattle.cweb_files.specs.Files.{File}
 use Rattle.cweb_lines.specs.Include.{World}
-use Rattle.cweb_lines.specs.Told.{given_lines, told_faults, openings, taken_lines}
+use Rattle.cweb_lines.specs.Told.{given_lines, told_faults, openings}
 use Rattle.cweb_lines.specs.declared.fault.SourceFault.{SourceFault}
 use Rattle.cweb_lines.specs.declared.stop.Stop.TheVariants.{WebNotOpened, ChangeNotOpened}
 use Rattle.cweb_store.specs.Calls.{Stored}
@@ -14,14 +14,14 @@ use Rattle.cweb_out.specs.Outputs.{Output, Planned, Refusal, root_list}
 use Rattle.cweb_out.specs.Printers.{setting}
 use Rattle.cweb_out.specs.Printing.{file}
 use Rattle.cweb_out.specs.Uses.{names}
+use Rattle.cweb_log.specs.Items.{Item, fault_count, source_item, stopped}
+use Rattle.cweb_log.specs.Options.{Asked, shown_by_default}
+use Rattle.cweb_log.specs.WebItems.{name_items, refusal_text, scan_items}
+use Rattle.cweb_log.specs.declared.shown.Shown.{Shown}
 use Rattle.cweb_tools.specs.Acts.{Act, opens, reads, says}
 use Rattle.cweb_tools.specs.Course as course
-use Rattle.cweb_tools.specs.Course.{Course, asked_course}
-use Rattle.cweb_tools.specs.Items.{Item, fault_count, source_item, stopped}
-use Rattle.cweb_tools.specs.Options.{Asked, shown_by_default}
+use Rattle.cweb_tools.specs.Course.{Course, asked_course, change_name}
 use Rattle.cweb_tools.specs.Script.{Numbers, Planning, TangleCourse, Web, unread, not_there, change_not_there, tangling, refused, planned, web_acts}
-use Rattle.cweb_tools.specs.WebItems.{name_items, refusal_text, scan_items}
-use Rattle.cweb_tools.specs.declared.shown.Shown.{Shown}
 
 -- an output with all names replaced by their texts, as it is printed; marks name these files
 abbrev pub output_file : Stored → List (List ℕ) → Output → File
@@ -66,12 +66,26 @@ tangled main (course.not_there web) = not_there web
 tangled main (course.change_not_there change) = change_not_there change
 tangled main (course.merging first events) =
     let files = first ++ openings events in
-    tangling files (taken_lines events) (web_of files (told_faults events) (scanned (given_lines events)) main)
+    tangling files events (web_of files (told_faults events) (scanned (given_lines events)) main)
 
 -- how a run goes, by what its words ask for
 abbrev pub tangle_course : World → Option Asked → TangleCourse
 tangle_course world None = unread
 tangle_course world (Some asked) = tangled asked.names.main (asked_course world (Some asked.names.merge))
+
+-- what some web holds that was read, with files of these names and a main file of this one
+pub record IsWebOf (files : List (List ℕ)) (main : List ℕ) (web : Web) : Type 0 where
+  pub faults : List SourceFault
+  pub made : Scanned
+  pub is : web ≡ web_of files faults made main
+
+-- a course to which a run can come whose words ask for this, whatever its shelf gives
+abbrev pub CanCome : Option Asked → TangleCourse → Type 0
+CanCome None unread = Unit {0}
+CanCome (Some asked) (not_there web) = web ≡ asked.names.merge.web
+CanCome (Some asked) (change_not_there change) = change ≡ change_name asked.names.merge.change
+CanCome (Some asked) (tangling files events web) = IsWebOf files asked.names.main web
+CanCome asked course = ⊥
 
 -- what its log shows
 abbrev pub shown_by : Option Asked → Shown
@@ -91,10 +105,10 @@ abbrev pub course_acts : Shown → TangleCourse → List Act
 course_acts shown unread = []
 course_acts shown (not_there web) = opens ∷ says (stopped WebNotOpened web) ∷ []
 course_acts shown (change_not_there change) = opens ∷ says (stopped ChangeNotOpened change) ∷ []
-course_acts shown (tangling names lines web) = opens ∷ reads names lines ∷ web_acts shown web
+course_acts shown (tangling names events web) = opens ∷ reads names events ∷ web_acts shown web
 
 abbrev pub course_status : TangleCourse → ℕ
 course_status unread = 1
 course_status (not_there web) = 1
 course_status (change_not_there change) = 1
-course_status (tangling names lines web) = web_status web
+course_status (tangling names events web) = web_status web

@@ -1,20 +1,20 @@
 -- What is promised of a run of `ctangle`, in the words of its sentences.
-use Rattle.std.specs.Prelude.{◌≡◌, ◌≢◌, ◌⊎◌, ℕ, ◌+◌, List, [], ◌∷◌, ◌++◌, Option, None}
+use Rattle.std.specs.Prelude.{◌≡◌, ◌≢◌, ◌⊎◌, ℕ, ◌+◌, List, [], ◌∷◌, ◌++◌, Option, None, IsTrue}
 use Rattle.std.specs.List.{flat_map}
 use Rattle.cweb_lines.specs.Include.{World}
 use Rattle.cweb_lines.specs.Texts.{read_blame}
 use Rattle.cweb_lines.specs.Writing.{WritesFront}
 use Rattle.cweb_lines.specs.declared.stop.Stop.{Stop}
 use Rattle.cweb_lines.specs.declared.stop.Stop.TheVariants.{LogFault, Memory}
+use Rattle.cweb_log.specs.Items.{Item, line}
+use Rattle.cweb_log.specs.Log.{stop_line}
+use Rattle.cweb_log.specs.Options.{Asked}
+use Rattle.cweb_log.specs.Seen.{SeenRun, SeenStream}
 use Rattle.cweb_tools.specs.Acts.{Act, Held, Keeps, TangleEnds, reads, writes}
-use Rattle.cweb_tools.specs.Does.{bins_blame, held}
-use Rattle.cweb_tools.specs.Items.{Item, line}
+use Rattle.cweb_tools.specs.Does.{AsTold, bins_blame}
 use Rattle.cweb_tools.specs.Leaves.{LeavesFiles, put_files}
-use Rattle.cweb_tools.specs.Log.{stop_line}
-use Rattle.cweb_tools.specs.Options.{Asked}
-use Rattle.cweb_tools.specs.Script.{files_in, items_in, script, tangle_status}
-use Rattle.cweb_tools.specs.Seen.{AllTell, SeenRun}
-use Rattle.cweb_tools.specs.Tangle.{shown_by, tangle_course}
+use Rattle.cweb_tools.specs.Script.{TangleCourse, files_in, items_in, script, tangle_status}
+use Rattle.cweb_tools.specs.Tangle.{CanCome, shown_by, tangle_course}
 
 -- no line that the acts take breaks the limits
 abbrev pub KeepLimits : List Act → Type 0
@@ -74,7 +74,7 @@ pub record FaultsShow (before after : SeenRun) (status : ℕ) : Type 0 where
   pub written : after.bins.failed ≢ before.bins.failed → status ≡ 1
   pub logged : after.log.failed ≢ before.log.failed → status ≡ 1
 
--- the sentences over devices that tell what they hold
+-- the sentences on what the devices held and hold
 pub record TellingRun (acts : List Act) (due : ℕ) (old new : Held) (status : ℕ) : Type 0 where
   -- the acts were done in their order, all of them or up to one that something stopped, and that is logged last
   pub ends : TangleEnds acts due old new status
@@ -91,9 +91,34 @@ pub record TellingRun (acts : List Act) (due : ℕ) (old new : Held) (status : �
   -- a web that breaks the limits is never answered by 0
   pub limits : ¬ KeepLimits acts → status ≡ 1
 
+-- they hold something for which the sentences are true, as far as they tell it
+pub record Tells (acts : List Act) (due : ℕ) (old : Held) (after : SeenRun) (status : ℕ) : Type 0 where
+  pub new : Held
+  pub told : AsTold new after
+  pub run : TellingRun acts due old new status
+
+-- what a log has that tells: all items that are due, or the items up to a place and then the line of what stopped the run,
+-- where the log failed a front of that
+pub data LogEnds (items : List Item) (due : ℕ) (old new : SeenStream) (status : ℕ) : Type 0 where
+  said : new.bytes ≡ old.bytes ++ flat_map line items → status ≡ due → LogEnds items due old new status
+  cut : (stop : Stop) (about : List ℕ) (before later : List Item) → items ≡ before ++ later
+      → WritesFront old.bytes new.bytes (flat_map line before ++ stop_line stop about)
+      → (new.failed ≡ old.failed → new.bytes ≡ old.bytes ++ (flat_map line before ++ stop_line stop about))
+      → status ≡ 1 → LogEnds items due old new status
+
 -- what is promised of a run, a sentence a field
 pub record TanglePromises (world : World) (asked : Option Asked) (before after : SeenRun) (status : ℕ) : Type 0 where
-  pub telling : AllTell before → TellingRun (script (shown_by asked) (tangle_course world asked)) (tangle_status (shown_by asked) (tangle_course world asked)) (held before) (held after) status
+  -- how the run went: over a shelf that tells its texts as they and the words say, over another in one of the ways that are left
+  pub course : TangleCourse
+  pub can : CanCome asked course
+  pub is : IsTrue before.shelf.tells → course ≡ tangle_course world asked
+  -- the sentences on what the devices hold, each of which says something as far as its device tells it
+  pub telling : (old : Held) → AsTold old before → Tells (script (shown_by asked) course) (tangle_status (shown_by asked) course) old after status
+  -- whatever the shelf and the bins are, a log that tells has the lines that are due, or those up to the stop's
+  pub logged : IsTrue before.log.tells
+      → LogEnds (items_in (script (shown_by asked) course)) (tangle_status (shown_by asked) course) before.log after.log status
+  -- whatever the shelf and the log are, bins that tell have the first of the files that are due, each whole
+  pub filed : IsTrue before.bins.tells → LeavesFiles (files_in (script (shown_by asked) course)) before.bins.beside.files after.bins.beside.files
   -- no device fails twice
   pub once : FailOnce before after
   -- no fault of a device is passed over
@@ -102,7 +127,7 @@ pub record TanglePromises (world : World) (asked : Option Asked) (before after :
 -- nothing is read in these acts
 abbrev pub ReadsNone : List Act → Type 0
 ReadsNone [] = Unit {0}
-ReadsNone (reads names lines ∷ acts) = ⊥
+ReadsNone (reads names events ∷ acts) = ⊥
 ReadsNone (_ ∷ acts) = ReadsNone acts
 
 -- nothing is read once a file is written

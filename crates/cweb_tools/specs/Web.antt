@@ -5,10 +5,10 @@ use Rattle.cweb_scan.specs.Scan.{IsBelow, seen}
 use Rattle.cweb_out.specs.Outputs.{Refusal, bad_name, same_name, cycle}
 use Rattle.cweb_out.specs.declared.plan_fault.PlanFault.{PlanFault}
 use Rattle.cweb_out.specs.declared.plan_fault.PlanFault.TheVariants as fault
+use Rattle.cweb_log.specs.Items.{Item}
 use Rattle.cweb_tools.specs.Acts.{Act, says}
 use Rattle.cweb_tools.specs.Script as script
 use Rattle.cweb_tools.specs.Tangle.{fault_items, web_of}
-use Rattle.cweb_tools.specs.Items.{Item}
 use Rattle.cweb_tools.specs.declared.web.Numbers.{Numbers}
 use Rattle.cweb_tools.specs.declared.web.Web.{Web}
 

@@ -1,12 +1,12 @@
 //! What holds of every run of `ctangle`, by the definition of its acts, whichever device fails and wherever memory is refused; and
 //! that what is printed of C text reads as it was meant.
 ghost use Rattle.std.specs.Prelude.{◌≡◌, ℕ, List, None};
-ghost use Rattle.cweb_lines.specs.Lines.{SourceLine};
+ghost use Rattle.cweb_lines.specs.Merge.{Event};
+ghost use Rattle.cweb_log.specs.declared.shown.Shown.{Shown};
 ghost use Rattle.cweb_tools.specs.Acts.{Held, TangleEnds};
 ghost use Rattle.cweb_tools.specs.Leaves.{LeavesFiles};
 ghost use Rattle.cweb_tools.specs.Script.{TangleCourse, Web, refused, script, tangle_files, tangling};
 ghost use Rattle.cweb_tools.specs.Spacing.{Spacing};
-ghost use Rattle.cweb_tools.specs.declared.shown.Shown.{Shown};
 
 /// The files that were committed are the first of those that are due, in their order, each whole; all others are as before.
 pub fn committed_files_are_the_first_of_those_due()
@@ -17,10 +17,10 @@ pub fn committed_files_are_the_first_of_those_due()
 
 /// A plan that is refused leaves all files as they were.
 pub fn refused_plans_write_no_file()
-    ensures { (shown : Shown) (names : List (List ℕ)) (lines : List SourceLine) (web : Web)
+    ensures { (shown : Shown) (names : List (List ℕ)) (events : List Event) (web : Web)
         (text : List ℕ) → web.plan ≡ refused text →
         (due : ℕ) (old new : Held) (status : ℕ) →
-        TangleEnds (script shown (tangling names lines web)) due old new status →
+        TangleEnds (script shown (tangling names events web)) due old new status →
         new.files ≡ old.files }
 {}
 

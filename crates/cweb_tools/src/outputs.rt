@@ -7,11 +7,11 @@ ghost use Rattle.cweb_scan.specs.Scan.{IsMarkBelow};
 ghost use Rattle.cweb_out.specs.Outputs.{name_of};
 ghost use Rattle.cweb_out.specs.Printers.{setting};
 ghost use Rattle.cweb_out.specs.Printing.{file};
+ghost use Rattle.cweb_log.specs.Seen.{seen_bins, seen_stream};
 ghost use Rattle.cweb_tools.specs.Acts.{ended, writes};
 ghost use Rattle.cweb_tools.specs.Does.{DoesInBins, DoesInBoth};
 ghost use Rattle.cweb_tools.specs.Expanders.{IsReady, StaysReady, ended_at, file_at, files_due, left_in, AreMarksBelow};
 ghost use Rattle.cweb_tools.specs.Script.{output_acts, outputs_acts};
-ghost use Rattle.cweb_tools.specs.Seen.{seen_bins, seen_stream};
 
 use crate::saying::say_writing;
 use cweb_lines::{FileNames, Sink, SinkFault, Stop};

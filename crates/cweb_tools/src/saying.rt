@@ -1,17 +1,16 @@
 // The items of the log of `ctangle`, each where it is asked for.
 ghost use Rattle.std.specs.Prelude.{◌<◌, ◌+◌, ◌^◌};
+ghost use Rattle.cweb_log.specs.Items.{banner, closing, counts, no_text, starred, writing};
+ghost use Rattle.cweb_log.specs.Seen.{seen_stream};
 ghost use Rattle.cweb_tools.specs.Does.{DoesInLog, told};
-ghost use Rattle.cweb_tools.specs.Items.{banner, closing, counts, no_text, starred, writing};
 ghost use Rattle.cweb_tools.specs.Script.{closing_acts, starred_acts, when};
-ghost use Rattle.cweb_tools.specs.Seen.{seen_stream};
 ghost use Rattle.cweb_tools.specs.Web.{counted};
 
-use crate::items::{
-    write_banner, write_closing, write_counts, write_no_text, write_starred, write_writing,
-};
-use crate::shown::Shown;
 use crate::web::Numbers;
 use cweb_lines::{Sink, SinkFault};
+use cweb_log::{
+    Shown, write_banner, write_closing, write_counts, write_no_text, write_starred, write_writing,
+};
 
 pub(crate) fn say_banner<L: Sink>(shown: bool, log: &mut L) -> Result<(), SinkFault>
     requires { L.failed log.old + 1 < 2 ^ 64 }

@@ -3,8 +3,8 @@ ghost use Rattle.std.specs.Prelude.{◌≡◌, ◌≤◌, length};
 ghost use Rattle.std.specs.Option.{option_copied};
 ghost use Rattle.cweb_lines.specs.Names.{names_of as file_names};
 ghost use Rattle.cweb_lines.specs.Texts.{files_named};
+ghost use Rattle.cweb_log.specs.Log.{subject};
 ghost use Rattle.cweb_tools.specs.Course.{folder_of};
-ghost use Rattle.cweb_tools.specs.Log.{subject};
 
 use cweb_lines::{FileNames, Stop};
 

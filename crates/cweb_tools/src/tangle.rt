@@ -2,33 +2,31 @@
 ghost use Rattle.std.specs.Prelude.{◌≡◌, ◌≢◌, ◌<◌, ◌+◌, ◌^◌, ◌∷◌, ◌==◌, if◌then◌else◌, IfSome, None, Some, map};
 ghost use Rattle.std.specs.List.{flat_map};
 ghost use Rattle.std.specs.Option.{option_copied};
+ghost use Rattle.cweb_scan.specs.Scan.{seen};
 ghost use Rattle.cweb_out.specs.Outputs.{IsPlanOf, planned};
 ghost use Rattle.cweb_out.specs.Planning.{IsDue};
-ghost use Rattle.cweb_scan.specs.Scan.{seen};
+ghost use Rattle.cweb_log.specs.Gathering.{Writes};
+ghost use Rattle.cweb_log.specs.Items.{fault_count, line};
+ghost use Rattle.cweb_log.specs.Log.{start_subject};
+ghost use Rattle.cweb_log.specs.Options.{options_by, options_of};
+ghost use Rattle.cweb_log.specs.Seen.{seen_bins, seen_run, seen_stream};
+ghost use Rattle.cweb_log.specs.WebItems.{refusal_text};
 ghost use Rattle.cweb_tools.specs.Acts.{ending, plans};
 ghost use Rattle.cweb_tools.specs.Course.{world_of, change_name};
 ghost use Rattle.cweb_tools.specs.Does.{ClosesInBoth, ClosesInLog, DoesInLog, Follows, LogsEnding, told};
-ghost use Rattle.cweb_tools.specs.Gathering.{Writes};
-ghost use Rattle.cweb_tools.specs.Items.{fault_count, line};
-ghost use Rattle.cweb_tools.specs.Log.{start_subject};
-ghost use Rattle.cweb_tools.specs.Options.{options_by, options_of};
 ghost use Rattle.cweb_tools.specs.Script.{planned_acts, refused, web_acts};
-ghost use Rattle.cweb_tools.specs.Seen.{seen_bins, seen_run, seen_stream};
-ghost use Rattle.cweb_tools.specs.Tangle.{course_acts, course_status, numbers_of, plan_made, planning, status_by, tangle_course, web_status};
+ghost use Rattle.cweb_tools.specs.Tangle.{CanCome, course_acts, course_status, numbers_of, plan_made, planning, status_by, tangle_course, web_status};
 ghost use Rattle.cweb_tools.specs.TangleRun.{TanglePromises};
 ghost use Rattle.cweb_tools.specs.Web.{IsKnown, faults_of, files_of, refusal_in, said_faults, web_in};
-ghost use Rattle.cweb_tools.specs.WebItems.{refusal_text};
 
-use crate::faults::write_faults;
-use crate::options::Options;
 use crate::outputs::write_outputs;
 use crate::saying::{say_banner, say_end, say_no_text, say_starred};
-use crate::shown::Shown;
-use crate::stops::log_stop;
 use crate::subjects::{folder, subject};
 use crate::web::{Numbers, Web};
-use crate::web_faults::{write_name_faults, write_plan_fault, write_scan_faults};
 use cweb_lines::{Merger, Shelf, Sink, SinkFault, Stop};
+use cweb_log::{
+    Options, Shown, log_stop, write_faults, write_name_faults, write_plan_fault, write_scan_faults,
+};
 use cweb_out::{Bins, Expander, Plan, PlanFault, plan};
 use cweb_scan::scan;
 use std::alloc::Global;
@@ -81,7 +79,8 @@ fn tangle_named<S: Shelf, B: Bins, L: Sink>(
     ensures { let before = seen_run S.Shelf B.Sink L.Sink shelf.old bins.old log.old in
         let world = world_of before.shelf.texts (option_copied inputs.entry) in
         let course = tangle_course world (Some (options_of options.now)) in
-        Follows (course_acts (options_of options.now).shown course) (course_status course) before
+        Follows (course_acts (options_of options.now).shown) course_status
+        (CanCome (Some (options_of options.now))) course before
         (seen_run S.Shelf B.Sink L.Sink shelf.new bins.new log.new) result }
 {
     let started = Merger::start(
@@ -178,13 +177,19 @@ fn tangle_unplanned<L: Sink>(
 ) -> u8
     requires due { IsDue (planned web.scanned.now.store main.now) fault }
     requires count { L.failed log.old + 1 < 2 ^ 64 }
-    ensures { ClosesInLog
+    ensures closes { ClosesInLog
         (plans ∷ planned_acts shown
         (numbers_of (seen web.entry.scanned.now)) (fault_count (faults_of web.entry))
         (planning web.entry.scanned.now.store (files_of web.entry) main.now))
         (status_by (fault_count (faults_of web.entry))
         (planning web.entry.scanned.now.store (files_of web.entry) main.now))
         (seen_stream L.Sink log.old) (seen_stream L.Sink log.new) result }
+    // What isn't want of memory is told as what it is.
+    ensures told { IfSome (refusal_in fault) (λ refusal. ClosesInLog
+        (planned_acts shown
+        (numbers_of (seen web.entry.scanned.now)) (fault_count (faults_of web.entry))
+        (refused (refusal_text web.entry.scanned.now.store main.now refusal)))
+        1 (seen_stream L.Sink log.old) (seen_stream L.Sink log.new) result) }
 {
     if let PlanFault::Memory = fault {
         return log_stop(log, Stop::Memory, "");

@@ -1,7 +1,7 @@
 // A web that was read, and how much it holds.
 ghost use Rattle.std.specs.Prelude.{◌≡◌, ◌<◌, ◌^◌, length};
 ghost use Rattle.cweb_scan.specs.Scan.{seen};
-ghost use Rattle.cweb_tools.specs.Items.{fault_count};
+ghost use Rattle.cweb_log.specs.Items.{fault_count};
 ghost use Rattle.cweb_tools.specs.Tangle.{numbers_of};
 ghost use Rattle.cweb_tools.specs.Web.{counted, faults_of};
 

@@ -3,17 +3,16 @@ ghost use Rattle.std.specs.Prelude.{◌≡◌, ◌≢◌, ◌<◌, ◌≤◌, �
 ghost use Rattle.std.specs.Option.{option_copied};
 ghost use Rattle.cweb_lines.specs.Names.{names_of as file_names};
 ghost use Rattle.cweb_lines.specs.Texts.{files_named};
+ghost use Rattle.cweb_log.specs.Gathering.{Logs};
+ghost use Rattle.cweb_log.specs.Log.{fault_lines, start_subject, stop_line, subject};
+ghost use Rattle.cweb_log.specs.Seen.{seen, seen_stream};
+ghost use Rattle.cweb_log.specs.Words.{asked_by, names_of};
 ghost use Rattle.cweb_tools.specs.Course.{asked_course, change_name, fault_status, folder_of, world_of};
-ghost use Rattle.cweb_tools.specs.Log.{fault_lines, start_subject, stop_line, subject};
-ghost use Rattle.cweb_tools.specs.Run.{Logs, Merges, Promises};
-ghost use Rattle.cweb_tools.specs.Seen.{seen, seen_stream};
-ghost use Rattle.cweb_tools.specs.Words.{asked_by, names_of};
+ghost use Rattle.cweb_tools.specs.Run.{Merges, Promises};
 
-use crate::faults::write_faults;
-use crate::stops::log_stop;
 use crate::subjects::{folder, subject};
-use crate::words::MergeWords;
 use cweb_lines::{FileNames, Merger, Shelf, Sink, SourceFault, Stop, write_merged_in_pieces};
+use cweb_log::{MergeWords, log_stop, write_faults};
 use std::alloc::Global;
 
 /// The bytes that are gathered before they are written.

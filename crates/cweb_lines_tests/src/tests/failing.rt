@@ -26,7 +26,13 @@ const FAULTS_CHANGED: &str =
 #[test]
 fn a_read_that_fails(rt: HostRuntime) -> Result<(), Fail> {
     let alloc = rt.alloc();
-    for (fails_at, file, lines) in [(1, 0, 0), (2, 1, 1), (3, 1, 2), (4, 0, 3)] {
+    let files = [
+        (1, 0, "a.w", 0),
+        (2, 1, "b.w", 1),
+        (3, 1, "b.w", 2),
+        (4, 0, "a.w", 3),
+    ];
+    for (fails_at, file, name, lines) in files {
         let mut shelf = OneReadFails::new(shelf_of(alloc, &FILES)?);
         shelf.fails_at = fails_at;
         let mut merger = Merger::start(alloc, &mut shelf, "a.w", None, None, None)?;
@@ -48,6 +54,9 @@ fn a_read_that_fails(rt: HostRuntime) -> Result<(), Fail> {
         }
         assert_eq!(rt; shelf.reads, fails_at);
         assert!(rt; shelf.failed == 1);
+        assert_eq!(rt; shelf.failed_in, file);
+        assert!(rt; file < merger.names().count());
+        assert_eq!(rt; merger.names().get(FileId(file)), name);
         let mut sink = SmallSink::new(alloc);
         assert_eq!(rt; write_merged(&mut merger, &mut shelf, &mut sink), Err(stop));
         assert_eq!(rt; sink.writes, 0);

@@ -1,11 +1,15 @@
 use Rattle.std.proofs.Common.{◌<◌, ◌∷◌, ℕ, List, Vec, Global, length, refl, ap, sym, subst, ◌∙◌, arith, string_bytes}
+use Rattle.cweb_lines.specs.Names.{names_of}
 use Rattle.cweb_lines.specs.Change.{at_place}
 use Rattle.cweb_lines.specs.Counts.{count_of}
 use Rattle.cweb_lines.specs.Finding.{world_in}
 use Rattle.cweb_lines.specs.Include.{found_at}
 use Rattle.cweb_lines.specs.Merge.{Event, opening}
+use Rattle.cweb_lines.specs.Naming.{AreReadersKnown}
 use Rattle.cweb_lines.specs.declared.fault.SourceFault.{SourceFault}
 use Rattle.cweb_lines.specs.declared.fault.SourceKind.TheVariants.{NoName, TooDeep, NotThere}
+use Rattle.cweb_lines.proofs.Named.{knows_only}
+use Rattle.cweb_lines.proofs.Fronts.{told_if, told_same}
 use Rattle.cweb_lines.proofs.Found.{OnOk-map}
 use Rattle.cweb_lines.proofs.Merges.{gives_opening, merge_no_name, merge_too_deep, merge_not_there, merge_opens, include_long, empty_is, some_are}
 use Rattle.cweb_lines.proofs.Runs.{coming_opened, gives_told}
@@ -59,3 +63,44 @@ returns-clause-obeys g c = λ tells. OnOk-map c.open.result (λ names source is.
           c.open.ensures.stage c.open.ensures.first names.0 c.requires.settled names.1 c.open.ensures.below))
           (ap (λ (v : Vec SourceFault Global). v.items) c.open.ensures.faults) names.0;
     }) c.open.ensures.opens
+
+-- what was told stays
+pub returns-then-is_empty-clause-still : goal.returns-then-is_empty-clause-still
+returns-then-is_empty-clause-still g c = told_if c.tell.result _ _ _ c.tell.ensures.told c.tell.ensures.err
+    (ap names_of c.tell.ensures.only.names)
+
+pub returns-then-at-ge-OPEN_FILES-clause-still : goal.returns-then-at-ge-OPEN_FILES-clause-still
+returns-then-at-ge-OPEN_FILES-clause-still g c =
+    let tell = c.tell-then-at-ge-OPEN_FILES in
+    told_if tell.result _ _ _ tell.ensures.told tell.ensures.err (ap names_of tell.ensures.only.names)
+
+pub returns-in_default-clause-still : goal.returns-in_default-clause-still
+returns-in_default-clause-still g c =
+    let tell = c.tell-in_default in
+    told_if tell.result _ _ _ tell.ensures.told tell.ensures.err (ap names_of tell.ensures.only.names)
+
+pub returns-in_err-opening-clause-still : goal.returns-in_err-opening-clause-still
+returns-in_err-opening-clause-still g c = told_same _ _ refl refl
+
+-- the readers
+pub returns-then-is_empty-clause-readers : goal.returns-then-is_empty-clause-readers
+returns-then-is_empty-clause-readers g c = λ tells known. knows_only c.tell.ensures.only known
+
+pub returns-then-at-ge-OPEN_FILES-clause-readers : goal.returns-then-at-ge-OPEN_FILES-clause-readers
+returns-then-at-ge-OPEN_FILES-clause-readers g c = λ tells known. knows_only
+    c.tell-then-at-ge-OPEN_FILES.ensures.only known
+
+pub returns-in_default-clause-readers : goal.returns-in_default-clause-readers
+returns-in_default-clause-readers g c = λ tells known.
+    knows_only c.tell-in_default.ensures.only
+    (subst (λ f. AreReadersKnown f c.args.run.now) (sym (c.in_ok-opening.ensures.keeps.names tells)) known)
+
+pub returns-clause-readers : goal.returns-clause-readers
+returns-clause-readers g c = λ tells known.
+    c.open.ensures.readers (g.S.Shelf.opened_as c.find.new.shelf)
+    (rw c.in-Some.is at (c.in_ok-opening.ensures.opened tells))
+    (subst (λ f. AreReadersKnown f c.args.run.now) (sym (c.in_ok-opening.ensures.keeps.names tells)) known)
+
+pub returns-in_err-opening-clause-readers : goal.returns-in_err-opening-clause-readers
+returns-in_err-opening-clause-readers g c = λ tells known.
+    subst (λ f. AreReadersKnown f c.args.run.now) (sym (c.in_err-opening.ensures.keeps.names tells)) known

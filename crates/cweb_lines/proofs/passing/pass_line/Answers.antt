@@ -19,4 +19,8 @@ returns-clause-passes g c =
       stopped = refl;
       names = refl;
       counted = c.pass_top.ensures.more;
+      readers = λ opened_as known. record {
+        texts = c.pass_top.ensures.named opened_as _ known.texts;
+        change = known.change;
+      };
     }

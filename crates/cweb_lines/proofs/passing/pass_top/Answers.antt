@@ -2,6 +2,7 @@ use Rattle.std.proofs.Common.{◌≡◌, ◌+◌, ◌<◌, ◌-◌, ◌∙◌, a
 use Rattle.cweb_lines.specs.Counts.{count_of}
 use Rattle.cweb_lines.specs.Texts.{line_number, files_up_to, most}
 use Rattle.std.proofs.lemmas.List.{set-get_or}
+use Rattle.cweb_lines.proofs.Named.{named_at, named_set}
 use Rattle.cweb_lines.proofs.Stacks.{most_read, most_set, top_taken, stays_below, deep-at, deep-set}
 use Rattle.cweb_lines.proofs.passing.pass_top.Goals as goal
 
@@ -53,3 +54,11 @@ returns-clause-no g c = λ is.
     let place = c.args.stack.now.depth - 1 in
     let texts = ap (λ s. set c.args.stack.now.texts place s) none.0 ∙ set-get_or c.args.stack.now.texts place c.index-stack-top.result in
     (λ i. record { texts = texts i; depth = c.args.stack.now.depth; pieces = c.args.stack.now.pieces }, none.1, none.2)
+
+pub returns-clause-named : goal.returns-clause-named
+returns-clause-named g c = λ opened_as names each.
+    let within : c.args.stack.now.depth - 1 < length c.args.stack.now.texts = omega arith in
+    named_set opened_as names c.args.stack.now.texts (c.args.stack.now.depth - 1) c.pass_from.new.slot each
+    (c.pass_from.ensures.level.named opened_as names
+    (named_at opened_as names c.args.stack.now.texts (c.args.stack.now.depth - 1) c.index-stack-top.result within
+    each))

@@ -1,7 +1,8 @@
-use Rattle.std.proofs.Common.{◌≡◌, ◌≤◌, List}
+use Rattle.std.proofs.Common.{◌≡◌, ◌≤◌, List, ℕ}
 use Rattle.std.specs.Prelude.{IsTrue}
 use Rattle.cweb_lines.specs.Counts.{count_of}
 use Rattle.cweb_lines.specs.Merge.{Thing}
+use Rattle.cweb_lines.specs.Naming.{AreNamed, KeepsNames}
 use Rattle.cweb_lines.specs.Texts.{AreDeep, StaysBelow, files_up_to, line_number, most, things_above}
 use Rattle.cweb_lines.proofs.stack.take_above.Given as goal
 
@@ -11,6 +12,10 @@ invariant-texts g l = record {
   failed : g.S.Shelf.failed l.shelf ≡ g.S.Shelf.failed l.fn.shelf;
   texts : IsTrue (g.S.Shelf.tells l.fn.shelf) → g.S.Shelf.texts l.shelf ≡ g.S.Shelf.texts l.fn.shelf;
   others : IsTrue (g.S.Shelf.tells l.fn.shelf) → g.S.Shelf.left l.shelf ≡ g.S.Shelf.left l.fn.shelf;
+  names : IsTrue (g.S.Shelf.tells l.fn.shelf) → g.S.Shelf.opened_as l.shelf ≡ g.S.Shelf.opened_as l.fn.shelf;
+  named : KeepsNames g.S.Shelf l.fn.shelf l.shelf l.fn.stack.texts l.stack.texts;
+  blamed : IsTrue (g.S.Shelf.tells l.fn.shelf) → (names : List (List ℕ)) → AreNamed (g.S.Shelf.opened_as l.fn.shelf)
+      names l.fn.stack.texts → g.S.Shelf.blamed l.shelf ≡ g.S.Shelf.blamed l.fn.shelf;
   low : l.low ≤ l.stack.depth;
   shallow : l.stack.depth ≤ l.fn.stack.depth;
   numbers : most line_number l.stack.texts ≤ l.limits.lines;

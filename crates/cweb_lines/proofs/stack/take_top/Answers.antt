@@ -1,7 +1,9 @@
-use Rattle.std.proofs.Common.{◌<◌, ◌≡◌, ◌-◌, ◌+◌, length, refl, ◌∙◌, arith, set, None}
+use Rattle.std.proofs.Common.{◌<◌, ◌≡◌, ◌-◌, ◌+◌, length, refl, sym, subst, ◌∙◌, arith, set, None}
 use Rattle.std.proofs.lemmas.List.{set-set}
 use Rattle.cweb_lines.specs.Counts.{count_of}
+use Rattle.cweb_lines.specs.Naming.{AreNamed}
 use Rattle.cweb_lines.specs.Texts.{line_number, files_up_to, most}
+use Rattle.cweb_lines.proofs.Named.{named_at, named_set}
 use Rattle.cweb_lines.proofs.Stacks.{most_read, most_set, top_taken, top_closed, top_stops, stops_map, stays_below, deep-at, deep-set}
 use Rattle.cweb_lines.proofs.stack.take_top.Goals as goal
 
@@ -117,3 +119,52 @@ returns-clause-deeper g c =
     let top : c.args.stack.now.depth - 1 ≡ 0 + (c.args.stack.now.depth - 1) = omega arith in
     let deep = rw c.in-Some.is at (c.in-Ok.ensures.deep (c.args.stack.now.depth - 1) (deep-at 0 (c.args.stack.now.depth - 1) (c.args.stack.now.depth - 1) c.args.stack.now.texts c.index-stack-top.result top within c.requires.deep)).1 in
     omega (arith, deep)
+
+-- the readers of the texts
+pub returns-in-Err-clause-named : goal.returns-in-Err-clause-named
+returns-in-Err-clause-named g c = λ tells names each.
+    let within : c.args.stack.now.depth - 1 < length c.args.stack.now.texts = omega arith in
+    let slot = c.in-Err.ensures.named tells names
+    (named_at _ names c.args.stack.now.texts (c.args.stack.now.depth - 1) c.index-stack-top.result within each) in
+    let others = subst (λ f. AreNamed f names c.args.stack.now.texts) (sym (c.in-Err.ensures.keeps.names tells)) each in
+    named_set (g.S.Shelf.opened_as c.take_from.new.shelf) names c.args.stack.now.texts (c.args.stack.now.depth - 1)
+    c.take_from.new.slot others slot
+
+pub returns-in-Err-clause-blamed : goal.returns-in-Err-clause-blamed
+returns-in-Err-clause-blamed g c = λ tells names each.
+    let within : c.args.stack.now.depth - 1 < length c.args.stack.now.texts = omega arith in
+    c.in-Err.ensures.blamed tells names (named_at _ names c.args.stack.now.texts (c.args.stack.now.depth - 1)
+    c.index-stack-top.result within each)
+
+pub returns-in_default-clause-named : goal.returns-in_default-clause-named
+returns-in_default-clause-named g c = λ tells names each.
+    let within : c.args.stack.now.depth - 1 < length c.args.stack.now.texts = omega arith in
+    let slot = c.in-Ok.ensures.named tells names
+    (named_at _ names c.args.stack.now.texts (c.args.stack.now.depth - 1) c.index-stack-top.result within each) in
+    let others = subst (λ f. AreNamed f names c.args.stack.now.texts) (sym (c.in-Ok.ensures.keeps.names tells)) each in
+    rw c.close.ensures.texts
+    (named_set (g.S.Shelf.opened_as c.take_from.new.shelf) names
+    (set c.args.stack.now.texts (c.args.stack.now.depth - 1) c.take_from.new.slot) (c.args.stack.now.depth - 1) None
+    (named_set (g.S.Shelf.opened_as c.take_from.new.shelf) names c.args.stack.now.texts (c.args.stack.now.depth - 1)
+    c.take_from.new.slot others slot) tt)
+
+pub returns-in_default-clause-blamed : goal.returns-in_default-clause-blamed
+returns-in_default-clause-blamed g c = λ tells names each.
+    let within : c.args.stack.now.depth - 1 < length c.args.stack.now.texts = omega arith in
+    c.in-Ok.ensures.blamed tells names (named_at _ names c.args.stack.now.texts (c.args.stack.now.depth - 1)
+    c.index-stack-top.result within each)
+
+pub returns-clause-named : goal.returns-clause-named
+returns-clause-named g c = λ tells names each.
+    let within : c.args.stack.now.depth - 1 < length c.args.stack.now.texts = omega arith in
+    let slot = c.in-Ok.ensures.named tells names
+    (named_at _ names c.args.stack.now.texts (c.args.stack.now.depth - 1) c.index-stack-top.result within each) in
+    let others = subst (λ f. AreNamed f names c.args.stack.now.texts) (sym (c.in-Ok.ensures.keeps.names tells)) each in
+    named_set (g.S.Shelf.opened_as c.take_from.new.shelf) names c.args.stack.now.texts (c.args.stack.now.depth - 1)
+    c.take_from.new.slot others slot
+
+pub returns-clause-blamed : goal.returns-clause-blamed
+returns-clause-blamed g c = λ tells names each.
+    let within : c.args.stack.now.depth - 1 < length c.args.stack.now.texts = omega arith in
+    c.in-Ok.ensures.blamed tells names (named_at _ names c.args.stack.now.texts (c.args.stack.now.depth - 1)
+    c.index-stack-top.result within each)

@@ -1,6 +1,8 @@
-use Rattle.std.proofs.Common.{◌+◌, ap, Err}
+use Rattle.std.proofs.Common.{◌+◌, ◌∙◌, ap, Err}
 use Rattle.cweb_lines.specs.Counts.{count_of}
 use Rattle.cweb_lines.specs.Source.{left_of}
+use Rattle.cweb_lines.specs.Texts.{read_blame}
+use Rattle.cweb_lines.proofs.Named.{blames_line, blames_none}
 use Rattle.cweb_lines.proofs.Trims.{takes_first, line_stops, line_reads, line_names, first_passes}
 use Rattle.cweb_lines.proofs.taking.take_line.Goals as goal
 
@@ -28,3 +30,24 @@ returns-clause-taken g c = λ tells.
     c.args.text.now.file.0 (c.args.text.now.line + 1) c.args.text.now.depth c.args.text.now.may_match line.taken (count_of c.args.limits.now) (count_of c.add.new.self)
     line.some line.takes line.bytes_are line.short c.in_default-add.ensures.lines
     (rw line.size_is at c.in_default-add.ensures.bytes)
+
+-- the reader stays the one of the file, and is blamed where a read of it failed
+pub returns-in-Err-clause-named : goal.returns-in-Err-clause-named
+returns-in-Err-clause-named g c = λ tells names is. c.in-Err.ensures.opened tells ∙ is
+
+pub returns-in-Err-clause-blamed : goal.returns-in-Err-clause-blamed
+returns-in-Err-clause-blamed g c = λ tells names is.
+    blames_line c.in-Err.fault _ c.args.text.now.file _ names _ _ c.stop_of.ensures is (c.in-Err.ensures.blamed tells)
+
+pub returns-in_default-clause-named : goal.returns-in_default-clause-named
+returns-in_default-clause-named g c = λ tells names is. c.in-Ok.ensures.opened tells ∙ is
+
+pub returns-in-Err-add-clause-named : goal.returns-in-Err-add-clause-named
+returns-in-Err-add-clause-named g c = λ tells names is. c.in-Ok.ensures.opened tells ∙ is
+
+pub returns-in-Err-add-clause-blamed : goal.returns-in-Err-add-clause-blamed
+returns-in-Err-add-clause-blamed g c = λ tells names is. blames_none names _ _ _
+    (ap read_blame c.in-Err-add.ensures.stop) (c.in-Ok.ensures.blamed tells)
+
+pub returns-clause-named : goal.returns-clause-named
+returns-clause-named g c = λ tells names is. c.in-Ok.ensures.opened tells ∙ is

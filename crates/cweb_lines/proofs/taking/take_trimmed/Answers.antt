@@ -1,5 +1,5 @@
-use Rattle.std.proofs.Common.{ℕ, List, length, ap, subst, rules, arith, Ok}
-use Rattle.cweb_lines.specs.Source.{left_of, Takes}
+use Rattle.std.proofs.Common.{◌∙◌, ℕ, List, length, ap, subst, rules, arith, Err, Ok}
+use Rattle.cweb_lines.specs.Source.{BlamesReader, left_of, Takes}
 use Rattle.cweb_lines.proofs.Trims.{trimmed-line, trimmed-length, whole_line-one, whole_line-gains}
 use Rattle.cweb_lines.proofs.taking.take_trimmed.Goals as goal
 
@@ -15,6 +15,9 @@ returns g c =
     record {
       keeps = c.in-Ok.ensures.keeps;
       failed = search rules;
+      opened = λ tells. c.in-Ok.ensures.opened tells ∙ ap (g.S.Shelf.opened_as c.args.shelf.now)
+          c.in_ok-size.ensures.reader;
+      blamed = c.in-Ok.ensures.blamed;
       taken = λ tells. record {
         taken = c.in-Ok.taken;
         raw = c.next_line.new.line.items;
@@ -28,3 +31,13 @@ returns g c =
       line = rw c.trim.ensures (trimmed-line c.next_line.new.line.items c.in-Ok.ensures.clean c.in-Ok.ensures.within);
       gains = omega (arith, ap (λ (l : List ℕ). length l) c.trim.ensures, trimmed-length c.next_line.new.line.items, c.len.ensures, c.next_line.new.line.ok.0);
     }
+
+pub returns-in-Err-clause-opened : goal.returns-in-Err-clause-opened
+returns-in-Err-clause-opened g c = λ tells. c.in-Err.ensures.opened tells ∙ ap (g.S.Shelf.opened_as c.args.shelf.now)
+    c.in_ok-size.ensures.reader
+
+pub returns-in-Err-clause-blamed : goal.returns-in-Err-clause-blamed
+returns-in-Err-clause-blamed g c = λ tells.
+    subst (λ r. BlamesReader {A = ℕ} (g.S.Shelf.opened_as c.args.shelf.now r) (g.S.Shelf.blamed c.args.shelf.now)
+    (g.S.Shelf.blamed c.next_line.new.shelf) (Err c.in-Err.fault)) c.in_ok-size.ensures.reader
+    (c.in-Err.ensures.blamed tells)

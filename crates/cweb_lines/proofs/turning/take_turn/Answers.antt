@@ -1,4 +1,4 @@
-use Rattle.std.proofs.Common.{◌∷◌, ◌++◌, [], map, Vec, Global, List, Some, None, ap, sym, subst, ◌∙◌}
+use Rattle.std.proofs.Common.{◌∷◌, ◌++◌, [], map, Vec, Global, List, Some, None, ap, sym, subst, ◌∙◌, refl}
 use Rattle.std.specs.Prelude.{IsTrue}
 use Rattle.cweb_lines.specs.Change.{sought}
 use Rattle.cweb_lines.specs.Counts.{count_of}
@@ -9,6 +9,8 @@ use Rattle.cweb_lines.specs.Texts.{things_above}
 use Rattle.cweb_lines.specs.Names.{names_of}
 use Rattle.cweb_lines.specs.Stages.{begun_by, pending_in}
 use Rattle.cweb_lines.specs.declared.fault.SourceFault.{SourceFault}
+use Rattle.cweb_lines.proofs.Named.{blames_after, blames_memory, stop_after}
+use Rattle.cweb_lines.proofs.Fronts.{told_same, told_then, told_took}
 use Rattle.cweb_lines.proofs.Adds.{adds_both, adds_one, among_after, gives_adds, stopped_among, tells_after, tells_some}
 use Rattle.cweb_lines.proofs.Found.{IfOk-map}
 use Rattle.cweb_lines.proofs.Merges.{gives_took, stopped_by}
@@ -106,3 +108,63 @@ returns-clause-gives g c = λ tells.
     (c.in_default-begin_change.ensures.keeps.texts tells') c.in_default-begin_change.ensures.inputs c.in_default-begin_change.ensures.names here.1 changed))
     (adds_both [] (faults_replaced c.in-Some-begun_at.begin (change_lines (g.S.Shelf.left c.take_raw.new.shelf) c.take_raw.new.run) (things_above (g.S.Shelf.left c.take_raw.new.shelf) 0 c.take_raw.new.run.stack [])) (taken.0.line ∷ []) lines (told_by c.args.run.now) (told_by c.take_raw.new.run) (told_by c.begin_change.new.run)
     (adds_one (told_by c.args.run.now) (told_by c.take_raw.new.run) c.take_raw.new.line.items c.in-Some.at.place taken.0 faults names) changed.adds)
+
+-- what was told stays
+pub returns-then-has_ended-clause-still : goal.returns-then-has_ended-clause-still
+returns-then-has_ended-clause-still g c = told_same _ _ refl refl
+
+pub returns-in-Err-take_raw-clause-still : goal.returns-in-Err-take_raw-clause-still
+returns-in-Err-take_raw-clause-still g c = told_took c.in-Err-take_raw.ensures.only
+
+pub returns-in_default-taken-clause-still : goal.returns-in_default-taken-clause-still
+returns-in_default-taken-clause-still g c = told_then _ _ _ (told_took c.in-Ok.ensures.only) c.take_end.ensures.still
+
+pub returns-in_default-begun_at-clause-still : goal.returns-in_default-begun_at-clause-still
+returns-in_default-begun_at-clause-still g c = told_then _ _ _ (told_took c.in-Ok.ensures.only) c.give.ensures.still
+
+pub returns-in-Err-begin_change-clause-still : goal.returns-in-Err-begin_change-clause-still
+returns-in-Err-begin_change-clause-still g c = told_then _ _ _ (told_took c.in-Ok.ensures.only)
+    c.in-Err-begin_change.ensures.still
+
+pub returns-clause-still : goal.returns-clause-still
+returns-clause-still g c = told_then _ _ _ (told_took c.in-Ok.ensures.only) c.in_default-begin_change.ensures.still
+
+-- the readers
+pub returns-in_default-taken-clause-readers : goal.returns-in_default-taken-clause-readers
+returns-in_default-taken-clause-readers g c = λ tells known. c.take_end.ensures.readers
+    (subst IsTrue (sym c.in-Ok.ensures.keeps.tells) tells) (c.in-Ok.ensures.readers tells known)
+
+pub returns-in_default-taken-clause-blamed : goal.returns-in_default-taken-clause-blamed
+returns-in_default-taken-clause-blamed g c = λ tells known.
+    blames_after c.take_end.result _ _ _ _ (c.in-Ok.ensures.blamed tells known)
+    (c.take_end.ensures.blamed (subst IsTrue (sym c.in-Ok.ensures.keeps.tells) tells)
+    (c.in-Ok.ensures.readers tells known))
+
+pub returns-in_default-begun_at-clause-readers : goal.returns-in_default-begun_at-clause-readers
+returns-in_default-begun_at-clause-readers g c = λ tells known. c.give.ensures.readers
+    (subst IsTrue (sym c.in-Ok.ensures.keeps.tells) tells) (c.in-Ok.ensures.readers tells known)
+
+pub returns-in_default-begun_at-clause-blamed : goal.returns-in_default-begun_at-clause-blamed
+returns-in_default-begun_at-clause-blamed g c = λ tells known.
+    blames_memory c.give.result _ _ _ c.give.ensures.memory
+    (c.give.ensures.blamed (subst IsTrue (sym c.in-Ok.ensures.keeps.tells) tells)
+    ∙ c.in-Ok.ensures.blamed tells known)
+
+pub returns-in-Err-begin_change-clause-readers : goal.returns-in-Err-begin_change-clause-readers
+returns-in-Err-begin_change-clause-readers g c = λ tells known. c.in-Err-begin_change.ensures.readers
+    (subst IsTrue (sym c.in-Ok.ensures.keeps.tells) tells) (c.in-Ok.ensures.readers tells known)
+
+pub returns-in-Err-begin_change-clause-blamed : goal.returns-in-Err-begin_change-clause-blamed
+returns-in-Err-begin_change-clause-blamed g c = λ tells known.
+    stop_after c.in-Err-begin_change.stop _ _ _ _ (c.in-Ok.ensures.blamed tells known)
+    (c.in-Err-begin_change.ensures.blamed (subst IsTrue (sym c.in-Ok.ensures.keeps.tells) tells)
+    (c.in-Ok.ensures.readers tells known))
+
+pub returns-clause-readers : goal.returns-clause-readers
+returns-clause-readers g c = λ tells known. c.in_default-begin_change.ensures.readers
+    (subst IsTrue (sym c.in-Ok.ensures.keeps.tells) tells) (c.in-Ok.ensures.readers tells known)
+
+pub returns-clause-blamed : goal.returns-clause-blamed
+returns-clause-blamed g c = λ tells known. c.in_default-begin_change.ensures.blamed
+    (subst IsTrue (sym c.in-Ok.ensures.keeps.tells) tells) (c.in-Ok.ensures.readers tells known)
+    ∙ c.in-Ok.ensures.blamed tells known

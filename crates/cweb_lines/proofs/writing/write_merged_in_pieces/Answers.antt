@@ -1,8 +1,9 @@
-use Rattle.std.proofs.Common.{rules, ◌+◌, [], length, refl, ap, sym, ◌∙◌, arith}
+use Rattle.std.proofs.Common.{rules, ◌+◌, [], refl, ap, sym, ◌∙◌, arith}
 use Rattle.cweb_files.specs.Frames.{Writes}
 use Rattle.cweb_lines.specs.Texts.{read_blame}
 use Rattle.cweb_lines.specs.Writing.{write_blame}
-use Rattle.cweb_lines.specs.Names.{names_of}
+use Rattle.cweb_lines.proofs.Named.{blames_none, blames_rest, stop_after}
+use Rattle.cweb_lines.proofs.Fronts.{told_halted, told_passed, told_same, told_then}
 use Rattle.cweb_lines.proofs.Gathers.{emptied, held, held_on, passed_on, fails_front, fails_among}
 use Rattle.cweb_lines.proofs.Keeps.{keeps_same, keeps_told, keeps_then, place_same, place_then}
 use Rattle.cweb_lines.proofs.Writes.{nothing_yet, names_rest, ends_front, ends_whole, ended_early, halted, fails_last, write_failed, blamed, blames_write, tells_some, tells_more, tells_same}
@@ -16,7 +17,9 @@ lines-init g c = record {
   out_failed = refl;
   running = sym c.stopped.ensures.stop ∙ c.in_default.is;
   before = sym c.stopped.ensures.stop ∙ c.in_default.is;
-  names = omega arith;
+  readers = λ tells known. known;
+  blamed = λ tells known. refl;
+  told = told_same _ _ refl refl;
   empty = λ none. c.new-piece.ensures.items;
   gathered = λ tells. rw c.new-piece.ensures.items (nothing_yet g.W.Sink _ _ _ _);
 }
@@ -89,14 +92,19 @@ returns-in-Err-gather-clause-stops g c = λ tells before.
     let gathered = c.lines.invariant.gathered tells in
     record {
       why = halted g.W.Sink _ _ c.lines.invariant.place _ _ _ _ _ _ gathered c.write_rest-in-Err-gather.result _ c.write_rest-in-Err-gather.new.out
-          (rw (c.halt.ensures.stop, c.deref-in-Err-gather.ensures.value, c.in-Err-gather.ensures.err) at c.write_rest-in-Err-gather.ensures.rest);
+          (rw (
+            c.halt.ensures.stop c.in-Ok.ensures.leaves.running,
+            c.deref-in-Err-gather.ensures.value,
+            c.in-Err-gather.ensures.err,
+          ) at c.write_rest-in-Err-gather.ensures.rest);
       told = tells_same _ _ _ _ c.halt.ensures.so_far (tells_more _ _ _ _ _ _ gathered.gives (tells_some _ _ _ _ _ next));
     }
 
 -- a write failed
 pub returns-in-Err-pass_on-clause-grows : goal.returns-in-Err-pass_on-clause-grows
 returns-in-Err-pass_on-clause-grows g c = record {
-  names = omega (arith, c.lines.invariant.names, c.in-Ok.ensures.grows.names, ap (λ n. length (names_of n)) c.pass_lines.ensures.passes.names);
+  told = told_then _ _ _ c.lines.invariant.told
+      (told_then _ _ _ c.in-Ok.ensures.grows.told (told_passed c.pass_lines.ensures.passes));
   lines = c.pass_lines.new.self.run.limits.few;
   bytes = c.pass_lines.new.self.run.limits.small;
 }
@@ -142,7 +150,13 @@ lines-preserved g c = record {
   out_failed = search rules;
   running = c.pass_lines.ensures.passes.stopped ∙ c.in-Ok.ensures.leaves.running;
   before = c.lines.invariant.before;
-  names = omega (arith, c.in-Ok.ensures.grows.names, c.lines.invariant.names, ap (λ n. length (names_of n)) c.pass_lines.ensures.passes.names);
+  readers = λ tells known. c.pass_lines.ensures.passes.readers _
+      (c.in-Ok.ensures.readers (keeps_told g.S.Shelf _ _ c.lines.invariant.keeps tells)
+      (c.lines.invariant.readers tells known));
+  blamed = λ tells known. c.in-Ok.ensures.blamed (keeps_told g.S.Shelf _ _ c.lines.invariant.keeps tells)
+      (c.lines.invariant.readers tells known) c.lines.invariant.running ∙ c.lines.invariant.blamed tells known;
+  told = told_then _ _ _ c.lines.invariant.told
+      (told_then _ _ _ c.in-Ok.ensures.grows.told (told_passed c.pass_lines.ensures.passes));
   empty = λ none. emptied c.args.room c.pass_lines.new.piece.items c.pass_on.new.piece.items (Writes g.W.Sink c.lines.out c.pass_on.new.out) c.in_default-pass_on.ensures.ok none;
   gathered = λ tells.
       let next = rw c.in-Some-next.is at (c.in-Ok.ensures.next (keeps_told g.S.Shelf _ _ c.lines.invariant.keeps tells)) in
@@ -157,3 +171,94 @@ pub lines-smaller : goal.lines-smaller
 lines-smaller g c =
     let given = rw c.in-Some-next.is at c.in-Ok.ensures.given in
     omega (arith, given.lines, c.pass_lines.ensures.passes.counted, c.in-Ok.ensures.grows.lines, c.pass_lines.new.self.run.limits.few)
+
+-- what was told stays
+pub returns-in-Some-clause-grows : goal.returns-in-Some-clause-grows
+returns-in-Some-clause-grows g c = record {
+  told = told_same _ _ refl refl;
+  lines = c.args.merger.now.run.limits.few;
+  bytes = c.args.merger.now.run.limits.small;
+}
+
+pub returns-in-Err-clause-grows : goal.returns-in-Err-clause-grows
+returns-in-Err-clause-grows g c = record {
+  told = told_then _ _ _ c.lines.invariant.told c.in-Err.ensures.grows.told;
+  lines = c.in-Err.ensures.grows.lines;
+  bytes = c.in-Err.ensures.grows.bytes;
+}
+
+pub returns-in-Err-write_piece-clause-grows : goal.returns-in-Err-write_piece-clause-grows
+returns-in-Err-write_piece-clause-grows g c = record {
+  told = told_then _ _ _ c.lines.invariant.told c.in-Ok.ensures.grows.told;
+  lines = c.in-Ok.ensures.grows.lines;
+  bytes = c.in-Ok.ensures.grows.bytes;
+}
+
+pub returns-in_default-next-clause-grows : goal.returns-in_default-next-clause-grows
+returns-in_default-next-clause-grows g c = record {
+  told = told_then _ _ _ c.lines.invariant.told c.in-Ok.ensures.grows.told;
+  lines = c.in-Ok.ensures.grows.lines;
+  bytes = c.in-Ok.ensures.grows.bytes;
+}
+
+pub returns-in-Err-gather-clause-grows : goal.returns-in-Err-gather-clause-grows
+returns-in-Err-gather-clause-grows g c = record {
+  told = told_then _ _ _ c.lines.invariant.told
+      (told_then _ _ _ c.in-Ok.ensures.grows.told (told_halted c.halt.ensures.so_far));
+  lines = c.halt.new.self.run.limits.few;
+  bytes = c.halt.new.self.run.limits.small;
+}
+
+-- the readers
+pub returns-in-Err-clause-readers : goal.returns-in-Err-clause-readers
+returns-in-Err-clause-readers g c = λ tells known. c.in-Err.ensures.readers
+    (keeps_told g.S.Shelf _ _ c.lines.invariant.keeps tells) (c.lines.invariant.readers tells known)
+
+pub returns-in-Err-clause-blamed : goal.returns-in-Err-clause-blamed
+returns-in-Err-clause-blamed g c = λ tells known before.
+    stop_after c.write_rest.result _ _ _ _ (c.lines.invariant.blamed tells known)
+    (blames_rest _ _ _ c.in-Err.stop c.write_rest.result _ _ c.write_rest.ensures.rest
+    (c.in-Err.ensures.blamed (keeps_told g.S.Shelf _ _ c.lines.invariant.keeps tells)
+    (c.lines.invariant.readers tells known) c.lines.invariant.running))
+
+pub returns-in-Err-write_piece-clause-readers : goal.returns-in-Err-write_piece-clause-readers
+returns-in-Err-write_piece-clause-readers g c = λ tells known. c.in-Ok.ensures.readers
+    (keeps_told g.S.Shelf _ _ c.lines.invariant.keeps tells) (c.lines.invariant.readers tells known)
+
+pub returns-in-Err-write_piece-clause-blamed : goal.returns-in-Err-write_piece-clause-blamed
+returns-in-Err-write_piece-clause-blamed g c = λ tells known before. blames_none _ _ _ _
+    (ap read_blame c.in-Err-write_piece.ensures.stop)
+    (c.in-Ok.ensures.blamed (keeps_told g.S.Shelf _ _ c.lines.invariant.keeps tells)
+    (c.lines.invariant.readers tells known) c.lines.invariant.running ∙ c.lines.invariant.blamed tells known)
+
+pub returns-in_default-next-clause-readers : goal.returns-in_default-next-clause-readers
+returns-in_default-next-clause-readers g c = λ tells known. c.in-Ok.ensures.readers
+    (keeps_told g.S.Shelf _ _ c.lines.invariant.keeps tells) (c.lines.invariant.readers tells known)
+
+pub returns-in_default-next-clause-blamed : goal.returns-in_default-next-clause-blamed
+returns-in_default-next-clause-blamed g c = λ tells known before. c.in-Ok.ensures.blamed
+    (keeps_told g.S.Shelf _ _ c.lines.invariant.keeps tells) (c.lines.invariant.readers tells known)
+    c.lines.invariant.running ∙ c.lines.invariant.blamed tells known
+
+pub returns-in-Err-gather-clause-readers : goal.returns-in-Err-gather-clause-readers
+returns-in-Err-gather-clause-readers g c = λ tells known. c.halt.ensures.readers _
+    (c.in-Ok.ensures.readers (keeps_told g.S.Shelf _ _ c.lines.invariant.keeps tells)
+    (c.lines.invariant.readers tells known))
+
+pub returns-in-Err-gather-clause-blamed : goal.returns-in-Err-gather-clause-blamed
+returns-in-Err-gather-clause-blamed g c = λ tells known before.
+    blames_rest _ _ _ c.halt.result c.write_rest-in-Err-gather.result _ _ c.write_rest-in-Err-gather.ensures.rest
+    (blames_none _ _ _ _ (ap read_blame (c.halt.ensures.stop c.in-Ok.ensures.leaves.running))
+    (c.in-Ok.ensures.blamed (keeps_told g.S.Shelf _ _ c.lines.invariant.keeps tells)
+    (c.lines.invariant.readers tells known) c.lines.invariant.running ∙ c.lines.invariant.blamed tells known))
+
+pub returns-in-Err-pass_on-clause-readers : goal.returns-in-Err-pass_on-clause-readers
+returns-in-Err-pass_on-clause-readers g c = λ tells known. c.pass_lines.ensures.passes.readers _
+    (c.in-Ok.ensures.readers (keeps_told g.S.Shelf _ _ c.lines.invariant.keeps tells)
+    (c.lines.invariant.readers tells known))
+
+pub returns-in-Err-pass_on-clause-blamed : goal.returns-in-Err-pass_on-clause-blamed
+returns-in-Err-pass_on-clause-blamed g c = λ tells known before. blames_none _ _ _ _
+    (ap read_blame c.in-Err-pass_on.ensures.stop)
+    (c.in-Ok.ensures.blamed (keeps_told g.S.Shelf _ _ c.lines.invariant.keeps tells)
+    (c.lines.invariant.readers tells known) c.lines.invariant.running ∙ c.lines.invariant.blamed tells known)

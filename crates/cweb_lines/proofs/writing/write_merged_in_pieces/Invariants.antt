@@ -1,7 +1,8 @@
-use Rattle.std.proofs.Common.{◌≡◌, ◌≤◌, ◌-◌, None, [], length}
+use Rattle.std.proofs.Common.{◌≡◌, ◌-◌, None, []}
 use Rattle.std.specs.Prelude.{IsTrue}
 use Rattle.cweb_files.specs.Frames.{KeepsTexts, KeepsPlace, Writes}
-use Rattle.cweb_lines.specs.Whole.{to_come, so_far, stop_in}
+use Rattle.cweb_lines.specs.Merging.{KeepsTold}
+use Rattle.cweb_lines.specs.Whole.{to_come, so_far, stop_in, KnowsReaders}
 use Rattle.cweb_lines.specs.Writing.{Gathered}
 use Rattle.cweb_lines.proofs.writing.write_merged_in_pieces.Given as goal
 
@@ -13,7 +14,11 @@ invariant-lines g l = record {
   out_failed : g.W.Sink.failed l.out ≡ g.W.Sink.failed l.fn.out;
   running : stop_in l.merger ≡ None;
   before : stop_in l.fn.merger ≡ None;
-  names : length (so_far l.fn.merger).names ≤ length (so_far l.merger).names;
+  readers : IsTrue (g.S.Shelf.tells l.fn.shelf) → KnowsReaders g.S.Shelf l.fn.shelf l.fn.merger
+      → KnowsReaders g.S.Shelf l.shelf l.merger;
+  blamed : IsTrue (g.S.Shelf.tells l.fn.shelf) → KnowsReaders g.S.Shelf l.fn.shelf l.fn.merger
+      → g.S.Shelf.blamed l.shelf ≡ g.S.Shelf.blamed l.fn.shelf;
+  told : KeepsTold (so_far l.fn.merger) (so_far l.merger);
   empty : l.room ≡ 0 → l.piece.items ≡ [];
   gathered : IsTrue (g.S.Shelf.tells l.fn.shelf) → Gathered l.room (so_far l.fn.merger) (so_far l.merger)
       (to_come g.S.Shelf l.fn.shelf l.fn.merger) (to_come g.S.Shelf l.shelf l.merger) (Writes g.W.Sink l.fn.out l.out) l.piece.items;

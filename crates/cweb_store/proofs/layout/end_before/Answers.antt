@@ -10,7 +10,7 @@ use Rattle.cweb_store.proofs.layout.end_before.Goals as goal
 
 pub loop-end-preserved : goal.loop-end-preserved
 loop-end-preserved c =
-    let ts = c.args.tokens.now in
+    let ts = c.args.tokens.now.tokens in
     let from = c.args.from in
     let test = is_dropped c.args.trailing in
     let k = c.loop-end.end - 1 in
@@ -26,7 +26,7 @@ loop-end-preserved c =
 
 pub returns-else-is_dropped-clause-kept : goal.returns-else-is_dropped-clause-kept
 returns-else-is_dropped-clause-kept c =
-    let ts = c.args.tokens.now in
+    let ts = c.args.tokens.now.tokens in
     let from = c.args.from in
     let test = is_dropped c.args.trailing in
     let k = c.loop-end.end - 1 in
@@ -38,12 +38,12 @@ returns-else-is_dropped-clause-kept c =
 
 pub returns-else-is_dropped-clause-texts : goal.returns-else-is_dropped-clause-texts
 returns-else-is_dropped-clause-texts c =
-    let ts = c.args.tokens.now in
+    let ts = c.args.tokens.now.tokens in
     let from = c.args.from in
     sym (trimmed-texts from c.args.trailing (take c.loop-end.end ts)) ∙ ap (filter has_text) c.loop-end.invariant.same ∙ trimmed-texts from c.args.trailing ts
 
 pub returns-after-loop-end-clause-texts : goal.returns-after-loop-end-clause-texts
 returns-after-loop-end-clause-texts c =
-    let ts = c.args.tokens.now in
+    let ts = c.args.tokens.now.tokens in
     let from = c.args.from in
     sym (trimmed-texts from c.args.trailing (take c.loop-end.end ts)) ∙ ap (filter has_text) c.loop-end.invariant.same ∙ trimmed-texts from c.args.trailing ts

@@ -10,7 +10,7 @@ use Rattle.cweb_store.proofs.layout.end_before_blank.Goals.{else-from-end-via-th
 
 pub returns-then-is_blank-clause-kept : goal.returns-then-is_blank-clause-kept
 returns-then-is_blank-clause-kept c =
-    let ts = c.args.tokens.now in
+    let ts = c.args.tokens.now.tokens in
     let from = c.args.from in
     let k = c.args.end - 1 in
     let next : suc k ≡ c.args.end = omega (arith, c.if-from-end.true) in
@@ -18,7 +18,7 @@ returns-then-is_blank-clause-kept c =
 
 pub returns-clause-kept : goal.returns-clause-kept
 returns-clause-kept c =
-    let ts = c.args.tokens.now in
+    let ts = c.args.tokens.now.tokens in
     let from = c.args.from in
     let k = c.args.end - 1 in
     elim c.else-from-end.branch [
@@ -32,7 +32,7 @@ returns-clause-kept c =
 
 pub returns-then-is_blank-clause-texts : goal.returns-then-is_blank-clause-texts
 returns-then-is_blank-clause-texts c =
-    let ts = c.args.tokens.now in
+    let ts = c.args.tokens.now.tokens in
     let k = c.args.end - 1 in
     let next : suc k ≡ c.args.end = omega (arith, c.if-from-end.true) in
     blank-texts ts k (seen c.token.result) c.token.ensures (sym c.is_blank.ensures ∙ c.if-is_blank.true) ∙ ap (λ n. filter has_text (take n ts)) next

@@ -1,11 +1,61 @@
-use Rattle.std.proofs.Common.{◌++◌, List, ℕ, ◌∙◌, ap}
-use Rattle.cweb_tools.specs.Seen.{seen_bins}
-use Rattle.cweb_tools.proofs.Doing.{file_done}
+use Rattle.std.proofs.Common.{◌+◌, ◌++◌, List, ℕ, refl, sym, ◌∙◌, ap, add-zero}
+use Rattle.std.specs.Prelude.{IsTrue}
+use Rattle.cweb_files.specs.Files as files
+use Rattle.cweb_files.specs.Files.{Beside, no_device, no_memory, with_draft, without_draft}
+use Rattle.cweb_lines.specs.declared.stop.Stop.TheVariants.{Memory, OutNotOpened, WriteFault}
+use Rattle.cweb_out.specs.Outputs.{name_of}
+use Rattle.cweb_log.specs.Seen.{seen_bins}
+use Rattle.cweb_tools.specs.Acts.{Held, bins_fail, given_up, not_begun}
+use Rattle.cweb_tools.proofs.Doing.{file_done, file_failed}
 use Rattle.cweb_tools.proofs.Readies.{left_known, text_on}
 use Rattle.cweb_tools.proofs.outputs.write_file.Goals as goal
 
 pub print_all-requires-clause-left : goal.print_all-requires-clause-left
 print_all-requires-clause-left g c = left_known c.args.names.now c.args.expander.now c.restart.new.self c.args.output c.requires.known c.restart.ensures.store c.restart.ensures.left
+
+-- the file could not be begun
+pub returns-in-Err-Memory-clause-does : goal.returns-in-Err-Memory-clause-does
+returns-in-Err-Memory-clause-does g c =
+    let began = c.in-Err-Memory.ensures in
+    file_failed _ _ Memory (not_begun no_memory) (files.not_begun no_memory) (seen_bins g.B.Sink c.args.bins.now) (seen_bins g.B.Sink c.start_file.new.self)
+    began.tells ((rw c.in-Err-Memory.field-0-is at began.failed) ∙ sym (add-zero (g.B.Sink.failed c.args.bins.now))) refl refl (λ tell. rw c.in-Err-Memory.field-0-is at (began.err tell)) (λ now. refl) (λ now. sym (add-zero now.bins_failed)) (λ now. refl)
+
+pub returns-in-Err-Device-clause-does : goal.returns-in-Err-Device-clause-does
+returns-in-Err-Device-clause-does g c =
+    let began = c.in-Err-Device.ensures in
+    file_failed _ _ OutNotOpened (λ (now : Held). bins_fail (not_begun no_device now)) (files.not_begun no_device)
+    (seen_bins g.B.Sink c.args.bins.now) (seen_bins g.B.Sink c.start_file.new.self) began.tells (rw c.in-Err-Device.field-0-is at began.failed) refl refl
+    (λ tell. rw c.in-Err-Device.field-0-is at (began.err tell)) (λ now. (refl, refl)) (λ now. refl) (λ now. refl)
+
+-- it was begun, and printing it failed
+pub returns-in-Err-clause-does : goal.returns-in-Err-clause-does
+returns-in-Err-clause-does g c =
+    let name : List ℕ = name_of c.args.expander.now.plan.now.outputs c.args.output in
+    let began = c.in-Ok.ensures in
+    let printed = c.in-Err.ensures in
+    let gone = c.abandon_file.ensures in
+    file_failed name _ WriteFault (λ (now : Held). bins_fail (given_up now)) (λ (b : Beside). without_draft (with_draft name b))
+    (seen_bins g.B.Sink c.args.bins.now) (seen_bins g.B.Sink c.abandon_file.new.self) (gone.tells ∙ printed.tells ∙ began.tells)
+    (gone.failed ∙ printed.failed ∙ ap (λ (n : ℕ). n + 1) began.failed) refl refl
+    (λ tell.
+    let told : IsTrue (g.B.Sink.tells c.start_file.new.self) = began.tells ∙ tell in
+    gone.gone (printed.tells ∙ told) ∙ ap without_draft (printed.beside told ∙ (rw c.output_name.ensures at began.begun) tell))
+    (λ now. (refl, refl)) (λ now. refl) (λ now. refl)
+
+-- it was printed, and could not be committed
+pub returns-in-Err-commit_file-clause-does : goal.returns-in-Err-commit_file-clause-does
+returns-in-Err-commit_file-clause-does g c =
+    let name : List ℕ = name_of c.args.expander.now.plan.now.outputs c.args.output in
+    let began = c.in-Ok.ensures in
+    let printed = c.in_default.ensures in
+    let kept = c.in-Err-commit_file.ensures in
+    file_failed name _ WriteFault (λ (now : Held). bins_fail (given_up now)) (λ (b : Beside). without_draft (with_draft name b))
+    (seen_bins g.B.Sink c.args.bins.now) (seen_bins g.B.Sink c.commit_file.new.self) (kept.tells ∙ printed.tells ∙ began.tells)
+    (kept.failed ∙ ap (λ (n : ℕ). n + 1) (printed.failed ∙ began.failed)) refl refl
+    (λ tell.
+    let told : IsTrue (g.B.Sink.tells c.start_file.new.self) = began.tells ∙ tell in
+    kept.err (printed.tells ∙ told) ∙ ap without_draft (printed.beside told ∙ (rw c.output_name.ensures at began.begun) tell))
+    (λ now. (refl, refl)) (λ now. refl) (λ now. refl)
 
 pub returns-clause-does : goal.returns-clause-does
 returns-clause-does g c =

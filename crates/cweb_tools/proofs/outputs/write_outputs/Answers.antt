@@ -4,7 +4,7 @@ use Rattle.cweb_lines.specs.Names.{names_of}
 use Rattle.cweb_out.specs.Outputs.{Output, name_of}
 use Rattle.cweb_tools.specs.Acts.{Act, ending}
 use Rattle.cweb_tools.specs.Does.{DoesInBoth}
-use Rattle.cweb_tools.specs.Seen.{seen_bins, seen_stream}
+use Rattle.cweb_log.specs.Seen.{seen_bins, seen_stream}
 use Rattle.cweb_tools.specs.Tangle.{output_file}
 use Rattle.cweb_tools.proofs.Doing.{bins_counted, both_in, both_then, logs_counted}
 use Rattle.cweb_tools.proofs.OutputActs.{acts_all, acts_at, acts_more}

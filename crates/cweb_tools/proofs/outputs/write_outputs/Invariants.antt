@@ -4,7 +4,7 @@ use Rattle.cweb_lines.specs.Names.{names_of}
 use Rattle.cweb_tools.specs.Does.{DoesInBoth}
 use Rattle.cweb_tools.specs.Expanders.{StaysReady}
 use Rattle.cweb_tools.specs.Script.{outputs_acts}
-use Rattle.cweb_tools.specs.Seen.{seen_bins, seen_stream}
+use Rattle.cweb_log.specs.Seen.{seen_bins, seen_stream}
 use Rattle.cweb_tools.specs.Tangle.{output_file}
 use Rattle.cweb_tools.proofs.outputs.write_outputs.Given as goal
 

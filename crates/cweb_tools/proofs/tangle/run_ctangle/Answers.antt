@@ -3,9 +3,9 @@ use Rattle.std.specs.Prelude.{Result, Err, Some}
 use Rattle.std.specs.Option.{option_copied}
 use Rattle.cweb_lines.specs.Include.{World}
 use Rattle.cweb_lines.specs.declared.stop.Stop.{Stop}
+use Rattle.cweb_log.specs.Options.{Asked, options_of}
+use Rattle.cweb_log.specs.Seen.{seen_bins, seen_run, seen_shelf, seen_stream}
 use Rattle.cweb_tools.specs.Course.{world_of}
-use Rattle.cweb_tools.specs.Options.{Asked, options_of}
-use Rattle.cweb_tools.specs.Seen.{seen_bins, seen_run, seen_shelf, seen_stream}
 use Rattle.cweb_tools.proofs.Doing.{log_counted}
 use Rattle.cweb_tools.proofs.Promised.{promised}
 use Rattle.cweb_tools.proofs.TangleExits.{banner_ends, named_ends, words_end}
@@ -20,7 +20,7 @@ same_stop r one other is too = cc
 pub returns-in-Err-clause-promises : goal.returns-in-Err-clause-promises
 returns-in-Err-clause-promises g c =
     promised _ _ _ _ _ (words_end _ _ c.in-Err.stop (seen_shelf g.S.Shelf c.args.shelf.now) (seen_bins g.B.Sink c.args.bins.now) (seen_stream g.L.Sink c.args.log.now) (seen_stream g.L.Sink c.log_stop.new.log) _
-    c.in-Err.ensures.stops (λ is. c.in-Err.ensures.usage.0 (ap Err is)) (λ none. same_stop _ _ _ refl (c.in-Err.ensures.usage.1 none)) c.log_stop.ensures.tells c.log_stop.ensures.logs c.log_stop.ensures.status)
+    c.in-Err.ensures.stops (λ is. c.in-Err.ensures.usage.0 (ap Err is)) (λ none. same_stop _ _ _ refl (c.in-Err.ensures.usage.1 none)) c.log_stop.ensures.logs c.log_stop.ensures.status)
 
 pub returns-in-Err-say_banner-clause-promises : goal.returns-in-Err-say_banner-clause-promises
 returns-in-Err-say_banner-clause-promises g c =

@@ -1,11 +1,11 @@
 use Rattle.std.proofs.Common.{[], ◌∷◌, List, ℕ, false, refl, ap, ◌+◌, subst}
 use Rattle.std.specs.Prelude.{Ok, Err}
 use Rattle.cweb_files.specs.declared.device.SinkFault.{SinkFault}
+use Rattle.cweb_log.specs.Gathering.{Writes}
+use Rattle.cweb_log.specs.Items.{fault}
+use Rattle.cweb_log.specs.Seen.{seen_stream}
+use Rattle.cweb_log.specs.WebItems.{refusal_text}
 use Rattle.cweb_tools.specs.Acts.{says}
-use Rattle.cweb_tools.specs.Gathering.{Writes}
-use Rattle.cweb_tools.specs.Items.{fault}
-use Rattle.cweb_tools.specs.Seen.{seen_stream}
-use Rattle.cweb_tools.specs.WebItems.{refusal_text}
 use Rattle.cweb_tools.proofs.Doing.{closes_told, closing_on, log_closes_on, log_halts}
 use Rattle.cweb_tools.proofs.Logging.{said}
 use Rattle.cweb_tools.proofs.Refusals.{each_some, refusal_line}

@@ -1,21 +1,21 @@
 use Rattle.std.proofs.Common.{[], ◌∷◌, refl, sym, subst}
 use Rattle.cweb_scan.specs.Scan.{seen}
+use Rattle.cweb_log.specs.Items.{fault_count}
+use Rattle.cweb_log.specs.Seen.{seen_stream}
 use Rattle.cweb_tools.specs.Acts.{plans}
 use Rattle.cweb_tools.specs.Does.{ClosesInLog}
-use Rattle.cweb_tools.specs.Items.{fault_count}
 use Rattle.cweb_tools.specs.Script.{Planning, planned_acts}
-use Rattle.cweb_tools.specs.Seen.{seen_stream}
 use Rattle.cweb_tools.specs.Tangle.{numbers_of, status_by}
 use Rattle.cweb_tools.specs.Web.{faults_of, files_of}
 use Rattle.cweb_tools.proofs.Doing.{log_closes_on, log_memory_halts, log_planned}
 use Rattle.cweb_tools.proofs.Refusals.{IsRefused, of_some, planning_refused, refused_by}
 use Rattle.cweb_tools.proofs.tangle.tangle_unplanned.Goals as goal
 
-pub returns-in-Memory : goal.returns-in-Memory
-returns-in-Memory g c = log_memory_halts plans _ _ _ _ _ (λ now. refl) c.log_stop.ensures.logs c.log_stop.ensures.status
+pub returns-in-Memory-clause-closes : goal.returns-in-Memory-clause-closes
+returns-in-Memory-clause-closes g c = log_memory_halts plans _ _ _ _ _ (λ now. refl) c.log_stop.ensures.logs c.log_stop.ensures.status
 
-pub returns : goal.returns
-returns g c =
+pub returns-clause-closes : goal.returns-clause-closes
+returns-clause-closes g c =
     let why : IsRefused c.args.web.scanned.now.store c.args.main.now c.args.fault =
     refused_by c.args.web.scanned.now.store c.args.main.now c.args.fault c.requires.due c.in_default.not-Memory in
     log_closes_on (plans ∷ []) _ _ _ _ _ _ (log_planned _)

@@ -1,10 +1,10 @@
 use Rattle.std.proofs.Common.{[], ◌∷◌, refl, sym, subst, arith}
 use Rattle.cweb_scan.specs.Scan.{seen}
+use Rattle.cweb_log.specs.Items.{fault_count}
+use Rattle.cweb_log.specs.Seen.{seen_bins, seen_stream}
 use Rattle.cweb_tools.specs.Acts.{plans}
 use Rattle.cweb_tools.specs.Does.{ClosesInBoth}
-use Rattle.cweb_tools.specs.Items.{fault_count}
 use Rattle.cweb_tools.specs.Script.{Planning, planned_acts}
-use Rattle.cweb_tools.specs.Seen.{seen_bins, seen_stream}
 use Rattle.cweb_tools.specs.Tangle.{numbers_of, status_by}
 use Rattle.cweb_tools.specs.Web.{faults_of, files_of}
 use Rattle.cweb_tools.proofs.Doing.{both_closes_on, both_halts, closes_log, closes_then, log_counted, planned_so}
@@ -39,4 +39,4 @@ returns-in-Ok g c =
 pub returns-in-Err-plan : goal.returns-in-Err-plan
 returns-in-Err-plan g c =
     both_closes_on _ _ _ _ _ _ _ _ _ (rw c.as_slice.ensures.value at c.in_default.ensures)
-    (both_closes_on _ _ _ _ _ _ _ _ _ c.in_default-say_faults.ensures (closes_log _ _ _ _ _ _ c.tangle_unplanned.ensures))
+    (both_closes_on _ _ _ _ _ _ _ _ _ c.in_default-say_faults.ensures (closes_log _ _ _ _ _ _ c.tangle_unplanned.ensures.closes))

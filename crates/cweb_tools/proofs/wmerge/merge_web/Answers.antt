@@ -1,19 +1,21 @@
-use Rattle.std.proofs.Common.{◌+◌, refl, sym, ◌∙◌, ap, subst}
+use Rattle.std.proofs.Common.{◌+◌, ◌++◌, List, ℕ, refl, sym, ◌∙◌, ap, subst}
 use Rattle.std.specs.Prelude.{IsTrue}
 use Rattle.std.specs.Option.{option_copied}
-use Rattle.cweb_lines.specs.Include.{World}
 use Rattle.cweb_files.specs.Frames.{Writes}
+use Rattle.cweb_lines.specs.Include.{World}
+use Rattle.cweb_lines.specs.Naming.{blame}
 use Rattle.cweb_lines.specs.Texts.{read_blame}
-use Rattle.cweb_tools.proofs.Exits.{start_stopped, completed, stopped}
+use Rattle.cweb_lines.specs.Whole.{so_far}
+use Rattle.cweb_log.specs.Words.{WebNames, names_of}
 use Rattle.cweb_tools.specs.Course.{world_of}
-use Rattle.cweb_tools.specs.Words.{WebNames, names_of}
+use Rattle.cweb_tools.proofs.Exits.{start_stopped, completed, stopped}
 use Rattle.cweb_tools.proofs.wmerge.merge_web.Goals as goal
 
 pub returns-in-Err : goal.returns-in-Err
 returns-in-Err g c =
     let world : World = world_of (g.S.Shelf.texts c.args.shelf.now) (option_copied c.args.inputs) in
     let names : WebNames = names_of c.args.asked.now in
-    start_stopped _ _ _ c.in-Err.ensures.failed refl c.log_stop.ensures.status world names _ _ c.in-Err.stop c.in-Err.ensures.only
+    start_stopped _ _ _ c.in-Err.ensures.failed c.in-Err.ensures.blamed refl c.log_stop.ensures.status world names _ _ c.in-Err.stop c.in-Err.ensures.only
     (λ tells. rw (c.as_str.ensures.value, c.second.ensures, c.change.ensures) at (c.in-Err.ensures.stops tells))
     (rw c.start_subject.ensures at c.log_stop.ensures.logs)
 
@@ -28,6 +30,7 @@ returns-in-Ok-write_merged_in_pieces g c =
     _ _ _ c.names.ensures c.faults.ensures.value
     (λ tells. (wrote.ok (tells-2 tells)).gives) wrote.grows.lines wrote.grows.bytes
     (wrote.ended.2 ∙ c.in-Ok.ensures.failed)
+    (λ tells. wrote.blamed (tells-2 tells) (c.in-Ok.ensures.readers tells) c.in-Ok.ensures.running ∙ c.in-Ok.ensures.blamed tells)
     wrote.ended.3
     (λ tells told. (wrote.ok (tells-2 tells)).wrote told)
     c.log_faults.ensures.logs c.log_faults.ensures.answered c.log_faults.ensures.failed
@@ -46,6 +49,8 @@ returns g c =
     stop _ _ (Writes g.W.Sink c.args.out.now c.write_merged_in_pieces.new.out) c.names-in-Err-write_merged_in_pieces.ensures blames.kind
     (λ tells. (wrote.stops (tells-2 tells) running).why) blames.named (λ tells. (wrote.stops (tells-2 tells) running).told)
     (blames.shelf ∙ ap (λ n. n + read_blame stop) c.in-Ok.ensures.failed)
+    (λ tells. wrote.blamed (tells-2 tells) (c.in-Ok.ensures.readers tells) running
+    ∙ ap (λ (names : List (List ℕ)). names ++ blame (so_far c.write_merged_in_pieces.new.merger).names stop) (c.in-Ok.ensures.blamed tells))
     blames.out
     (λ tells told. wrote.front (tells-2 tells) told)
     (rw c.subject.ensures at c.log_stop-in-Err-write_merged_in_pieces.ensures.logs)

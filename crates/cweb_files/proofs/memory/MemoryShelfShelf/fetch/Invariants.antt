@@ -1,8 +1,12 @@
 use Rattle.std.proofs.Common.{take}
 use Rattle.std.specs.Prelude.{slice_get}
-use Rattle.cweb_files.specs.Device.{Finds}
-use Rattle.cweb_files.specs.Memory.{text_in, from_place}
+use Rattle.cweb_files.specs.Device.{Finds, IsOpenedAs}
+use Rattle.cweb_files.specs.Memory.{text_in, from_place, name_at}
 use Rattle.cweb_files.proofs.memory.MemoryShelfShelf.fetch.Given as goal
 
 abbrev pub invariant-loop-i : goal.invariant-loop-i
-invariant-loop-i l = Finds (λ r. from_place (slice_get l.entry-items r.entry) r.at) (text_in (take l.i l.entry-items) l.name) l.found
+invariant-loop-i l = record {
+  found : Finds (λ r. from_place (slice_get l.entry-items r.entry) r.at) (text_in (take l.i l.entry-items) l.name)
+      l.found;
+  opened : IsOpenedAs (λ r. name_at (slice_get l.entry-items r.entry)) l.name l.found;
+}

@@ -1,4 +1,4 @@
-use Rattle.std.proofs.Common.{◌≡◌, ◌+◌, ◌∷◌, ◌++◌, ℕ, List, Some, true, subst, length, length-append, string_bytes, ap, sym, ◌∙◌, arith}
+use Rattle.std.proofs.Common.{◌≡◌, ◌+◌, ◌-◌, ◌∷◌, ◌++◌, ℕ, List, Some, true, subst, length, length-append, string_bytes, ap, sym, ◌∙◌, arith, get_or, []}
 use Rattle.cweb_lines.specs.Faults.{files_in}
 use Rattle.cweb_lines.specs.Finding.{found_as, names_found}
 use Rattle.std.specs.Prelude.{IsTrue}
@@ -7,9 +7,12 @@ use Rattle.cweb_lines.specs.Include.{change_at}
 use Rattle.cweb_lines.specs.Lines.{SourceLine}
 use Rattle.cweb_lines.specs.Merge.{raws}
 use Rattle.cweb_lines.specs.Names.{names_of}
+use Rattle.cweb_lines.specs.Naming.{AreNamed, IsNamed}
 use Rattle.cweb_lines.specs.Stages.{change_in, pending_in, things_in}
 use Rattle.cweb_lines.specs.Texts.{lines_at}
 use Rattle.cweb_lines.specs.Total.{merge}
+use Rattle.cweb_lines.specs.declared.limits.TheConstants.{OPEN_FILES}
+use Rattle.cweb_lines.proofs.Named.{named_first}
 use Rattle.cweb_lines.proofs.Merges.{state}
 use Rattle.cweb_lines.proofs.Runs.{begins_low, begun, begun_coming}
 use Rattle.cweb_lines.proofs.merger.Merger.start.Goals as goal
@@ -58,4 +61,22 @@ returns-clause-begins g c = λ tells.
           ∙ begun_coming _ left c.new.result change c.first_stage.result (lines_at left c.in-Ok-open_change.change) c.new-2.result.items (length (names_of c.open_change.new.names)) (left c.in-Some.web.reader)
           (c.first_stage.ensures ∙ c.in-Ok-open_change.ensures.stage left) (c.in-Ok-open_change.ensures.lines left) (ap (λ (ns : List (List ℕ)). length ns) names)
           (begun left c.new.result c.in-Ok.web _ c.new.ensures.depth c.new.ensures.texts c.in-Ok.ensures.level.2 c.in-Ok.ensures.level.3 ∙ ap (λ (ls : List SourceLine). raws 1 true ls) (c.in-Ok.ensures.lines left));
+    }
+
+pub returns-clause-readers : goal.returns-clause-readers
+returns-clause-readers g c = λ tells.
+    let later = subst IsTrue (sym c.in_ok-web.ensures.keeps.tells) tells in
+    let opened_as = g.S.Shelf.opened_as c.find_change.new.shelf in
+    let left = g.S.Shelf.left c.find_change.new.shelf in
+    let found = names_found (found_as left c.in-Some-2.change) in
+    let names : names_of c.open_change.new.names ≡ string_bytes c.in-Some.web.name ∷ found =
+    c.in-Ok-open_change.ensures.names left ∙ ap (λ (ns : List (List ℕ)). ns ++ found) c.in-Ok.ensures.names in
+    let reader = ap opened_as c.in-Ok.ensures.reader ∙ ap (λ f. f c.in-Some.web.reader)
+    (c.in_ok-change.ensures.keeps.names later) ∙ rw c.in-Some.is at (c.in_ok-web.ensures.opened tells) in
+    let top : IsNamed opened_as (names_of c.open_change.new.names) (Some c.in-Ok.web) =
+    reader ∙ sym ((λ i. get_or (names i) (c.in-Ok.ensures.level.0 i) [])) in
+    record {
+      texts = subst (λ ts. AreNamed opened_as (names_of c.open_change.new.names) ts) (sym c.new.ensures.texts)
+          (named_first opened_as (names_of c.open_change.new.names) c.in-Ok.web (OPEN_FILES - 1) top);
+      change = c.in-Ok-open_change.ensures.named opened_as (rw c.in-Some-2.is at (c.in_ok-change.ensures.opened later));
     }

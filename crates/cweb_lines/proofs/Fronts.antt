@@ -1,0 +1,79 @@
+-- What was told stays in front of what is told later.
+use Rattle.std.proofs.Common.{◌≡◌, ◌≤◌, ℕ, List, [], ◌++◌, None, length, sym, ◌∙◌, ap, arith, length-append}
+use Rattle.std.specs.Prelude.{Result, Ok, Err, OnOk, OnErr}
+use Rattle.std.proofs.lemmas.List.{append-nil, append_assoc}
+use Rattle.cweb_lines.specs.Lines.{Line}
+use Rattle.cweb_lines.specs.Merge.{Event}
+use Rattle.cweb_lines.specs.Merging.{SoFar, Gives, IsFront, KeepsTold, told_by}
+use Rattle.cweb_lines.specs.Names.{names_of}
+use Rattle.cweb_lines.specs.Passing.{PassesLines}
+use Rattle.cweb_lines.specs.Steps.{OnlyTakes}
+use Rattle.cweb_lines.specs.declared.fault.SourceFault.{SourceFault}
+use Rattle.cweb_lines.specs.declared.run.Run.{Run}
+use Rattle.cweb_lines.specs.Told.{told_faults, openings}
+
+front_then : {A : Type 0} (a b c : List A) → IsFront a b → IsFront b c → IsFront a c
+front_then {A = A} a b c first then = (
+  first.0 ++ then.0,
+  then.1 ∙ ap (λ (l : List A). l ++ then.0) first.1
+      ∙ append_assoc a first.0 then.0,
+)
+
+pub told_then : (a b c : SoFar) → KeepsTold a b → KeepsTold b c → KeepsTold a c
+told_then a b c first then = record {
+  faults = front_then a.faults b.faults c.faults first.faults then.faults;
+  names = front_then a.names b.names c.names first.names then.names;
+}
+
+pub told_more : (old new : SoFar) (faults : List SourceFault) (names : List (List ℕ))
+    → new.faults ≡ old.faults ++ faults → new.names ≡ old.names ++ names → KeepsTold old new
+told_more old new faults names faults_are names_are = record {
+  faults = (faults, faults_are);
+  names = (names, names_are);
+}
+
+pub told_same : (old new : SoFar) → new.faults ≡ old.faults → new.names ≡ old.names → KeepsTold old new
+told_same old new faults names = told_more old new [] [] (faults ∙ sym (append-nil old.faults))
+    (names ∙ sym (append-nil old.names))
+
+-- no fewer files are known
+pub told_files : (old new : SoFar) → KeepsTold old new → length old.names ≤ length new.names
+told_files old new told = omega (
+  arith,
+  ap (λ (ns : List (List ℕ)). length ns) told.names.1,
+  length-append old.names
+      told.names.0,
+)
+
+-- what comes of a merge is told behind what was told before
+pub told_given : (lines : List Line) (old new : SoFar) (all later : List Event) → Gives lines old new all later
+    → KeepsTold old new
+told_given lines old new all later gives = told_more old new (told_faults gives.events) (openings gives.events)
+    gives.faults gives.names
+
+-- faults were told
+pub told_behind : (old new : SoFar) (more : List SourceFault) → new.faults ≡ old.faults ++ more
+    → new.names ≡ old.names → KeepsTold old new
+told_behind old new more faults names = told_more old new more [] faults (names ∙ sym (append-nil old.names))
+
+-- by an answer: faults were told, or memory was refused for them
+pub told_if : {A E : Type 0} (result : Result A E) (old new : SoFar) (more : List SourceFault)
+    → OnOk result (new.faults ≡ old.faults ++ more) → OnErr result (new.faults ≡ old.faults)
+    → new.names ≡ old.names → KeepsTold old new
+told_if (Ok x) old new more told same names = told_behind old new more told names
+told_if (Err e) old new more told same names = told_same old new same names
+
+-- a line was taken
+pub told_took : {R : Type 0} {old new : Run R} → OnlyTakes old new → KeepsTold (told_by old) (told_by new)
+told_took {old = old} {new = new} only = told_same (told_by old) (told_by new) (λ i. (only.faults i).items)
+    (ap names_of only.names)
+
+-- lines that passed through tell nothing
+pub told_passed : {R : Type 0} {old new : Run R} {piece more : List ℕ} → PassesLines old new piece more
+    → KeepsTold (told_by old) (told_by new)
+told_passed {old = old} {new = new} passes = told_given passes.lines (told_by old) (told_by new) _ _
+    (passes.gives (λ _. None) (λ _. []))
+
+pub told_halted : {old new : SoFar} → new ≡ old → KeepsTold old new
+told_halted {old = old} {new = new} is = told_same old new (ap (λ (s : SoFar). s.faults) is)
+    (ap (λ (s : SoFar). s.names) is)

@@ -1,0 +1,82 @@
+-- The lines of the log for what is wrong with a web, computed.
+use Rattle.std.proofs.Common.{◌≡◌, true, false, List, ℕ, [], ◌∷◌, refl}
+use Rattle.std.specs.Prelude.{codes, Some, None}
+use Rattle.std.specs.Fmt.{digits}
+use Rattle.std.specs.List.{flat_map}
+use Rattle.cweb_store.specs.Calls.{Stored}
+use Rattle.cweb_store.specs.Names.{Occurrence, id}
+use Rattle.cweb_store.specs.Parts.{Part, Name}
+use Rattle.cweb_store.specs.declared.name.NameRef.{NameRef}
+use Rattle.cweb_store.specs.declared.part.PartKind.{PartKind}
+use Rattle.cweb_store.specs.declared.name.How.TheVariants.{Full, Prefix}
+use Rattle.cweb_store.specs.declared.part.PartKind.TheVariants.{Unnamed, Named}
+use Rattle.cweb_rules.specs.declared.fault.ScanFault.{ScanFault}
+use Rattle.cweb_rules.specs.declared.fault.ScanKind.{ScanKind}
+use Rattle.cweb_rules.specs.declared.fault.ScanKind.TheVariants.{DoubleAtInLimbo, ImproperHexNumber, ReplacementTooLong, LetterOutsideLimbo, NameDidNotEnd, NamesDoNotNest, CommentDidNotEnd, StringDidNotEnd, DoubleAtInString, ControlTextDidNotEnd, FaultyConstant, IgnoredInCText, MissingAt, DefsInMacro, DefinitionDropped}
+use Rattle.cweb_out.specs.Outputs.{bad_name, same_name, cycle}
+use Rattle.cweb_out.specs.Cycles.{cycle_from}
+use Rattle.cweb_out.specs.Ranks.{first_endless}
+use Rattle.cweb_out.specs.Uses.{program}
+use Rattle.cweb_log.specs.Items.{line}
+use Rattle.cweb_log.specs.WebItems.{name_items, refusal_text, scan_items}
+
+abbrev met : ScanKind → ℕ → ScanFault
+met kind number = record { kind = kind; place = record { file = record { 0 = 0 }; line = number } }
+
+-- one of each kind
+abbrev faults : List ScanFault
+faults = met DoubleAtInLimbo 1 ∷ met ImproperHexNumber 2 ∷ met ReplacementTooLong 3 ∷ met LetterOutsideLimbo 4 ∷ met NameDidNotEnd 5
+    ∷ met NamesDoNotNest 6 ∷ met CommentDidNotEnd 7 ∷ met StringDidNotEnd 8 ∷ met DoubleAtInString 9 ∷ met ControlTextDidNotEnd 10
+    ∷ met FaultyConstant 11 ∷ met IgnoredInCText 12 ∷ met MissingAt 13 ∷ met DefsInMacro 14 ∷ met DefinitionDropped 15 ∷ []
+
+scan_lines : flat_map line (scan_items (codes "u.w" ∷ []) faults)
+    ≡ codes "u.w:1: ! Double @ in limbo\nu.w:2: ! Improper hex number after @l\nu.w:3: ! Replacement after @l too long\nu.w:4: ! Use @l in limbo only\nu.w:5: ! Section name did not end\nu.w:6: ! Section names do not nest\nu.w:7: ! Comment did not end\nu.w:8: ! String did not end\nu.w:9: ! Double @ in strings\nu.w:10: ! Control text did not end\nu.w:11: ! Faulty ASCII constant\nu.w:12: ! @d, @f, @s, @c and @p are ignored in C text\nu.w:13: ! Missing @ before a named section\nu.w:14: ! @h is ignored in a macro\nu.w:15: ! Definition dropped, no identifier\n"
+unfolding digits
+scan_lines = refl
+
+abbrev full : List ℕ → Occurrence
+full text = record { text = text; how = Full; is_file = false }
+
+abbrev short : List ℕ → Occurrence
+short text = record { text = text; how = Prefix; is_file = false }
+
+abbrev file : List ℕ → Occurrence
+file text = record { text = text; how = Full; is_file = true }
+
+-- an abbreviation of two names, one of none, a name that is a prefix of another, and a file's name without a part
+abbrev faulty : Stored
+faulty = record { occurrences = full (codes "ab") ∷ full (codes "abc") ∷ short (codes "a") ∷ short (codes "z") ∷ file (codes "q.h") ∷ []; parts = []; replacements = [] }
+
+name_lines : flat_map line (name_items faulty)
+    ≡ codes "! Ambiguous prefix: <a...>\n! Never given in full: <z...>\n! Name is a prefix of another: <ab>\n! Not present: <q.h>\n"
+name_lines = refl
+
+abbrev use_of : ℕ → NameRef
+use_of n = record { 0 = n }
+
+abbrev part : PartKind → ℕ → Part
+part kind n = record { kind = kind; tokens = Name (use_of n) ∷ [] }
+
+-- the program uses a name, which uses another one, which uses the first
+abbrev endless : Stored
+endless = record {
+  occurrences = full (codes "A") ∷ full (codes "A") ∷ full (codes "B") ∷ full (codes "B") ∷ full (codes "A") ∷ [];
+  parts = part Unnamed 0 ∷ part (Named (use_of 1)) 2 ∷ part (Named (use_of 3)) 4 ∷ [];
+  replacements = [];
+}
+
+cycle_told : refusal_text endless (codes "c.c") (cycle (cycle_from endless (first_endless endless (program endless)))) ≡ codes "Cycle: <A> <B> <A>"
+cycle_told = refl
+
+-- a file's name that is the main file's, and outputs whose names no file can have
+abbrev one_file : Stored
+one_file = record { occurrences = file (codes "h.c") ∷ []; parts = record { kind = Named (use_of 0); tokens = [] } ∷ []; replacements = [] }
+
+same_name_told : refusal_text one_file (codes "h.c") (same_name (id 0)) ≡ codes "Two outputs with one name: <h.c>"
+same_name_told = refl
+
+bad_name_told : refusal_text one_file (codes "c.c") (bad_name (Some (id 0))) ≡ codes "Bad output name: <h.c>"
+bad_name_told = refl
+
+bad_main_told : refusal_text one_file (codes "..") (bad_name None) ≡ codes "Bad output name: <..>"
+bad_main_told = refl

@@ -1,0 +1,13 @@
+use Rattle.std.proofs.Common.{Ok, take}
+use Rattle.std.specs.List.{flat_map}
+use Rattle.cweb_files.specs.declared.device.SinkFault.{SinkFault}
+use Rattle.cweb_log.specs.Gathered.{pending}
+use Rattle.cweb_log.specs.Gathering.{GathersMore}
+use Rattle.cweb_log.specs.Items.{star}
+use Rattle.cweb_log.specs.Seen.{seen_stream}
+use Rattle.cweb_log.proofs.items.add_stars.Given as goal
+
+abbrev pub invariant-numbers : goal.invariant-numbers
+invariant-numbers g l =
+    GathersMore {A = Unit {0}} {E = SinkFault} (flat_map star (take l.number-index l.numbers)) (seen_stream g.L.Sink l.fn.log) (seen_stream g.L.Sink l.log)
+    (pending l.fn.gathered) (pending l.gathered) (Ok tt)

@@ -1,0 +1,5 @@
+use Rattle.cweb_log.proofs.Gathering.{logs_by}
+use Rattle.cweb_log.proofs.stops.log_stop.Goals as goal
+
+pub returns-clause-logs : goal.returns-clause-logs
+returns-clause-logs g c = logs_by _ _ _ _ c.write_stop.ensures

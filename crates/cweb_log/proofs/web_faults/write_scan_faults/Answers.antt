@@ -1,0 +1,31 @@
+use Rattle.std.proofs.Common.{refl, arith}
+use Rattle.cweb_lines.specs.Names.{names_of}
+use Rattle.cweb_rules.specs.declared.fault.ScanFault.{ScanFault}
+use Rattle.cweb_log.specs.Items.{line}
+use Rattle.cweb_log.specs.WebItems.{scan_item}
+use Rattle.cweb_log.proofs.Gathering.{gathers_none, gathers_next, gathers_failed, gathers_all, writes_all, writes_front, writes_items}
+use Rattle.cweb_log.proofs.web_faults.write_scan_faults.Goals as goal
+
+pub faults-init : goal.faults-init
+faults-init g c = rw c.new-gathered.ensures (gathers_none _ _ _)
+
+pub add_scan_fault-requires-clause-count : goal.add_scan_fault-requires-clause-count
+add_scan_fault-requires-clause-count g c = omega (arith, c.faults.invariant.counts, c.requires.count)
+
+pub returns-in_err-add_scan_fault : goal.returns-in_err-add_scan_fault
+returns-in_err-add_scan_fault g c =
+    writes_items (scan_item (names_of c.args.names.now)) c.args.faults.now _ _ _
+    (writes_front {A = Unit {0}} c.in_err-add_scan_fault.field-0.0 _ _ _ _ _
+    (gathers_failed (λ (fault : ScanFault). line (scan_item (names_of c.args.names.now) fault)) c.args.faults.now c.faults.fault-index _ _ _ _ _ _ _ _ _ _ c.faults-test.true c.faults.invariant c.in_err-add_scan_fault.ensures refl)
+    c.from_residual.ensures.0)
+
+pub faults-preserved : goal.faults-preserved
+faults-preserved g c =
+    gathers_next (λ (fault : ScanFault). line (scan_item (names_of c.args.names.now) fault)) c.args.faults.now c.faults.fault-index _ _ _ _ _ _ _ _ _ c.faults-test.true c.faults.invariant c.in_ok-add_scan_fault.ensures
+
+pub returns : goal.returns
+returns g c =
+    writes_items (scan_item (names_of c.args.names.now)) c.args.faults.now _ _ _
+    (writes_all _ _ _ _ _ _ _
+    (gathers_all (λ (fault : ScanFault). line (scan_item (names_of c.args.names.now) fault)) c.args.faults.now c.faults.fault-index _ _ _ _ _ c.faults-test.false c.faults.invariant)
+    c.pass_on.ensures.writes)

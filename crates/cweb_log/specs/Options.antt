@@ -1,0 +1,95 @@
+-- The words of a command line of `ctangle`, and what they ask for.
+use Rattle.std.specs.Prelude.{ℕ, Bool, true, false, not, ◌&&◌, ◌||◌, ◌==◌, nat_le, List, [], ◌∷◌, ◌++◌, codes, Option, None, Some, option_and_then, option_map, filter, string_bytes, if◌then◌else◌}
+use Rattle.std.specs.List.{list_any, after_last, before_last}
+use Rattle.cweb_log.specs.Words.{WebNames, asked_for, asked_with, can_name_file, extended, is_dot, is_option, is_slash}
+use Rattle.cweb_log.specs.declared.options.Options.{Options}
+use Rattle.cweb_log.specs.declared.shown.Shown.{Shown}
+
+abbrev pub is_letter : ℕ → Bool
+is_letter b = (nat_le 65 b && nat_le b 90) || (nat_le 97 b && nat_le b 122)
+
+abbrev pub shown_by_default : Shown
+shown_by_default = record { banner = true; progress = true; closing = true; statistics = false }
+
+-- a letter turned on or off; of others than `b`, `p`, `h` and `s` nothing changes
+abbrev pub letter_shown : Bool → ℕ → Shown → Shown
+letter_shown on b shown =
+    if b == 98 then record shown { banner = on }
+    else (if b == 112 then record shown { progress = on }
+    else (if b == 104 then record shown { closing = on }
+    else (if b == 115 then record shown { statistics = on } else shown)))
+
+-- letters in their order; none where a byte is no letter
+abbrev pub letters_shown : Bool → List ℕ → Shown → Option Shown
+letters_shown on [] shown = Some shown
+letters_shown on (b ∷ bs) shown = if is_letter b then letters_shown on bs (letter_shown on b shown) else None
+
+-- an option word: `+` turns its letters on, `-` off
+abbrev pub word_shown : List ℕ → Shown → Option Shown
+word_shown [] shown = Some shown
+word_shown (sign ∷ letters) shown = letters_shown (sign == 43) letters shown
+
+-- the option words among words, in their order: later letters win
+abbrev pub words_shown : List (List ℕ) → Shown → Option Shown
+words_shown [] shown = Some shown
+words_shown (word ∷ words) shown = if is_option word then option_and_then (words_shown words) (word_shown word shown) else words_shown words shown
+
+-- the words that are no option words
+abbrev pub others : List (List ℕ) → List (List ℕ)
+others words = filter (λ word. not (is_option word)) words
+
+-- a path's last part, before its last dot where it has one
+abbrev pub stem : List ℕ → List ℕ
+stem word = let part = after_last is_slash word in if list_any is_dot part then before_last is_dot part else part
+
+-- the names of a run: those of its merge, and the main file's
+pub record TangleNames : Type 0 where
+  pub merge : WebNames
+  pub main : List ℕ
+
+-- the merge's names, by the words for the web and the change file
+abbrev pub merge_by : List ℕ → Option (List ℕ) → Option WebNames
+merge_by web None = asked_for web None
+merge_by web (Some change) = asked_with web change
+
+-- the main file's name: its own word gives it, or else the web's; none where its word can't name a file
+abbrev pub main_by : List ℕ → Option (List ℕ) → Option (List ℕ)
+main_by web None = Some (stem web ++ codes ".c")
+main_by web (Some out) = if can_name_file out then Some (extended out (codes ".c")) else None
+
+-- what the words for the web, the change file and the main file ask for
+abbrev pub named_by : List ℕ → Option (List ℕ) → Option (List ℕ) → Option TangleNames
+named_by web change out =
+    option_and_then (λ (main : List ℕ). option_map (λ (merge : WebNames). record { merge = merge; main = main }) (merge_by web change)) (main_by web out)
+
+-- one to three words name the web, the change file and the main file
+abbrev pub names_by : List (List ℕ) → Option TangleNames
+names_by [] = None
+names_by (web ∷ []) = named_by web None None
+names_by (web ∷ change ∷ []) = named_by web (Some change) None
+names_by (web ∷ change ∷ out ∷ []) = named_by web (Some change) (Some out)
+names_by (web ∷ change ∷ out ∷ more ∷ rest) = None
+
+-- what a command line asks for
+pub record Asked : Type 0 where
+  pub shown : Shown
+  pub names : TangleNames
+
+-- none where the words are not of that form
+abbrev pub options_by : List (List ℕ) → Option Asked
+options_by words =
+    option_and_then (λ (shown : Shown). option_map (λ (names : TangleNames). record { shown = shown; names = names }) (names_by (others words))) (words_shown words shown_by_default)
+
+-- what options that were read hold
+abbrev pub options_of : Options → Asked
+options_of options = record {
+  shown = record { banner = options.banner; progress = options.progress; closing = options.closing; statistics = options.statistics };
+  names = record {
+    merge = record {
+      web = string_bytes options.web;
+      second = option_map (λ name. string_bytes name) options.second;
+      change = option_map (λ name. string_bytes name) options.change;
+    };
+    main = string_bytes options.main;
+  };
+}

@@ -1,0 +1,84 @@
+-- The words of a command line of `wmerge`, and the names that they stand for.
+use Rattle.std.specs.Prelude.{ℕ, Bool, false, not, ◌&&◌, ◌||◌, ◌==◌, nat_lt, length, List, [], ◌∷◌, ◌++◌, codes, Option, None, Some, option_map, string_bytes, if◌then◌else◌}
+use Rattle.std.specs.List.{list_any, after_last}
+use Rattle.cweb_log.specs.declared.words.MergeWords.{MergeWords}
+
+-- a byte that stands in no word: one below 32, or 127
+abbrev pub is_control : ℕ → Bool
+is_control b = nat_lt b 32 || b == 127
+
+abbrev pub has_control : List ℕ → Bool
+has_control word = list_any is_control word
+
+-- `-` or `+`
+abbrev pub is_sign : ℕ → Bool
+is_sign b = b == 45 || b == 43
+
+-- a lone `-`
+abbrev pub is_dash : List ℕ → Bool
+is_dash [] = false
+is_dash (a ∷ []) = a == 45
+is_dash (a ∷ b ∷ rest) = false
+
+-- a word of two bytes or more that begins with `-` or `+`
+abbrev pub is_option : List ℕ → Bool
+is_option [] = false
+is_option (a ∷ []) = false
+is_option (a ∷ b ∷ rest) = is_sign a
+
+-- whether a word can name a file
+abbrev pub can_name_file : List ℕ → Bool
+can_name_file word = not (length word == 0) && not (has_control word) && not (is_dash word) && not (is_option word)
+
+abbrev pub is_dot : ℕ → Bool
+is_dot b = b == 46
+
+abbrev pub is_slash : ℕ → Bool
+is_slash b = b == 47
+
+-- whether a word's last path part, behind the last slash, has a dot
+abbrev pub has_extension : List ℕ → Bool
+has_extension word = list_any is_dot (after_last is_slash word)
+
+-- the name under which the web is sought, the name under which it is sought where that one is not there, and the change file's
+pub record WebNames : Type 0 where
+  pub web : List ℕ
+  pub second : Option (List ℕ)
+  pub change : Option (List ℕ)
+
+-- the name that a word gives: the word itself, or with this extension where it has none
+abbrev pub extended : List ℕ → List ℕ → List ℕ
+extended word extension = if has_extension word then word else word ++ extension
+
+abbrev pub second_try : List ℕ → Option (List ℕ)
+second_try word = if has_extension word then None else Some (word ++ codes ".web")
+
+-- what the web's word and the change file's ask for; none where the web's can't name it
+abbrev pub asked_for : List ℕ → Option (List ℕ) → Option WebNames
+asked_for web change =
+    if can_name_file web then Some (record {
+      web = extended web (codes ".w");
+      second = second_try web;
+      change = option_map (λ word. extended word (codes ".ch")) change;
+    })
+    else None
+
+-- what two words ask for; a lone `-` in the second place stands for no change file
+abbrev pub asked_with : List ℕ → List ℕ → Option WebNames
+asked_with web change =
+    if is_dash change then asked_for web None
+    else (if can_name_file change then asked_for web (Some change) else None)
+
+-- what a list of words asks for; none where it is not one word, or two, that can be read so
+abbrev pub asked_by : List (List ℕ) → Option WebNames
+asked_by [] = None
+asked_by (web ∷ []) = asked_for web None
+asked_by (web ∷ change ∷ []) = asked_with web change
+asked_by (web ∷ change ∷ other ∷ rest) = None
+
+abbrev pub names_of : MergeWords → WebNames
+names_of words = record {
+  web = string_bytes words.web;
+  second = option_map (λ name. string_bytes name) words.second;
+  change = option_map (λ name. string_bytes name) words.change;
+}

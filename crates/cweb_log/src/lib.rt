@@ -1,0 +1,21 @@
+//! What the command lines of the programs ask for, and the lines of their logs.
+#![tactic(auto)]
+
+mod faults;
+mod gathered;
+mod items;
+mod options;
+mod shown;
+mod stops;
+mod web_faults;
+mod words;
+
+pub use faults::write_faults;
+pub use items::{
+    write_banner, write_closing, write_counts, write_no_text, write_starred, write_writing,
+};
+pub use options::Options;
+pub use shown::Shown;
+pub use stops::{log_stop, write_stop};
+pub use web_faults::{write_name_faults, write_plan_fault, write_scan_faults};
+pub use words::MergeWords;

@@ -1,0 +1,193 @@
+// The words of a command line of `wmerge`.
+ghost use Rattle.std.specs.Prelude.{◌≡◌, ◌↔◌, ◌⊎◌, ◌++◌, Some, None, map, codes, string_bytes, option_map, IfOk, IfErr, IsErrOf};
+ghost use Rattle.std.specs.Option.{option_copied};
+ghost use Rattle.cweb_log.specs.Words.{asked_by, asked_with, asked_for, is_control, is_dash, is_option, has_control, can_name_file, has_extension, extended, second_try};
+
+use cweb_lines::Stop;
+use std::alloc::{AllocError, Global};
+
+/// The names that a command line of `wmerge` gives: the web's, the one under which the web is sought where it is not
+/// there under the first, and the change file's.
+#[derive(Debug, Drop)]
+pub struct MergeWords {
+    pub web: String,
+    pub second: Option<String>,
+    pub change: Option<String>,
+}
+
+impl MergeWords {
+    ghost use Rattle.cweb_log.specs.Options.{merge_by};
+    ghost use Rattle.cweb_log.specs.Words.{names_of};
+
+    /// Reads the words, without the program's own name. They are judged before memory is taken.
+    pub fn read(alloc: Global, words: &[&str]) -> Result<MergeWords, Stop>
+        ensures ok { IfOk result (λ read. asked_by (map (λ word. word.now) words.now) ≡
+            Some (names_of read)) }
+        ensures usage { IsErrOf result Stop.Usage ↔
+            (asked_by (map (λ word. word.now) words.now) ≡ None) }
+        ensures stops { IfErr result (λ stop. (stop ≡ Stop.Usage) ⊎ (stop ≡ Stop.Memory)) }
+    {
+        match words {
+            [web] => MergeWords::named(alloc, web, None),
+            [web, change] => MergeWords::with_change(alloc, web, change),
+            _ => Err(Stop::Usage),
+        }
+    }
+
+    /// The names by the web's word and the change file's, which are judged here.
+    pub(crate) fn by(alloc: Global, web: &str, change: Option<&str>) -> Result<MergeWords, Stop>
+        ensures ok { IfOk result (λ read. merge_by web.now (option_copied change.entry) ≡
+            Some (names_of read)) }
+        ensures usage { IsErrOf result Stop.Usage ↔
+            (merge_by web.now (option_copied change.entry) ≡ None) }
+        ensures stops { IfErr result (λ stop. (stop ≡ Stop.Usage) ⊎ (stop ≡ Stop.Memory)) }
+    {
+        match change {
+            Some(change) => MergeWords::with_change(alloc, web, change),
+            None => MergeWords::named(alloc, web, None),
+        }
+    }
+
+    /// The names by two words. A lone `-` in the second place stands for no change file.
+    fn with_change(alloc: Global, web: &str, change: &str) -> Result<MergeWords, Stop>
+        ensures ok { IfOk result (λ read. asked_with web.now change.now ≡ Some (names_of read)) }
+        ensures usage { IsErrOf result Stop.Usage ↔ (asked_with web.now change.now ≡ None) }
+        ensures stops { IfErr result (λ stop. (stop ≡ Stop.Usage) ⊎ (stop ≡ Stop.Memory)) }
+    {
+        if is_dash(change.as_bytes()) {
+            return MergeWords::named(alloc, web, None);
+        }
+        if !can_name_file(change) {
+            return Err(Stop::Usage);
+        }
+        MergeWords::named(alloc, web, Some(change))
+    }
+
+    /// The names by the web's word, which is judged here, and the change file's.
+    fn named(alloc: Global, web: &str, change: Option<&str>) -> Result<MergeWords, Stop>
+        ensures ok { IfOk result (λ read. asked_for web.now (option_copied change.entry) ≡
+            Some (names_of read)) }
+        ensures usage { IsErrOf result Stop.Usage ↔
+            (asked_for web.now (option_copied change.entry) ≡ None) }
+        ensures stops { IfErr result (λ stop. (stop ≡ Stop.Usage) ⊎ (stop ≡ Stop.Memory)) }
+    {
+        if !can_name_file(web) {
+            return Err(Stop::Usage);
+        }
+        let second = second_try(alloc, web)?;
+        let change = change_file(alloc, change)?;
+        let web = extended(alloc, web, ".w")?;
+        Ok(MergeWords {
+            web,
+            second,
+            change,
+        })
+    }
+
+    /// The second name of the web, where there is one.
+    pub fn second(&self) -> Option<&str>
+        ensures { option_copied result ≡ (names_of self.now).second }
+    {
+        self.second.as_ref().map(|name| name.as_str())
+    }
+
+    /// The name of the change file, where one is named.
+    pub fn change(&self) -> Option<&str>
+        ensures { option_copied result ≡ (names_of self.now).change }
+    {
+        self.change.as_ref().map(|name| name.as_str())
+    }
+}
+
+pub(crate) fn can_name_file(word: &str) -> bool
+    ensures { result ≡ can_name_file word.now }
+{
+    let bytes = word.as_bytes();
+    !bytes.is_empty() && !has_control(bytes) && !is_dash(bytes) && !is_option(bytes)
+}
+
+fn has_control(word: &[u8]) -> bool
+    ensures { result ≡ has_control word.now }
+{
+    word.iter().any(|byte| is_control(*byte))
+}
+
+fn is_control(byte: u8) -> bool
+    ensures { result ≡ is_control byte }
+{
+    byte < 32 || byte == 127
+}
+
+/// A lone `-`, which stands for no change file.
+fn is_dash(word: &[u8]) -> bool
+    ensures { result ≡ is_dash word.now }
+{
+    match word {
+        [only] => *only == b'-',
+        _ => false,
+    }
+}
+
+/// A word of two bytes or more that begins as an option does.
+pub(crate) fn is_option(word: &[u8]) -> bool
+    ensures { result ≡ is_option word.now }
+{
+    match word {
+        [first, _, ..] => *first == b'-' || *first == b'+',
+        _ => false,
+    }
+}
+
+/// Whether the last part of a path has a dot.
+fn has_extension(word: &str) -> bool
+    ensures { result ≡ has_extension word.now }
+{
+    let mut has_dot = false;
+    'bytes: for byte in word.as_bytes() {
+        if *byte == b'/' {
+            has_dot = false;
+        } else if *byte == b'.' {
+            has_dot = true;
+        }
+    }
+    has_dot
+}
+
+fn change_file(alloc: Global, word: Option<&str>) -> Result<Option<String>, AllocError>
+    ensures { IfOk result (λ name. option_map (λ s. string_bytes s) name ≡
+        option_map (λ w. extended w (codes ".ch")) (option_copied word.entry)) }
+{
+    match word {
+        Some(word) => Ok(Some(extended(alloc, word, ".ch")?)),
+        None => Ok(None),
+    }
+}
+
+fn second_try(alloc: Global, word: &str) -> Result<Option<String>, AllocError>
+    ensures { IfOk result (λ name. option_map (λ s. string_bytes s) name ≡ second_try word.now) }
+{
+    if has_extension(word) {
+        return Ok(None);
+    }
+    Ok(Some(with_extension(alloc, word, ".web")?))
+}
+
+/// The name that a word gives: the word itself where it has an extension, else with this one.
+pub(crate) fn extended(alloc: Global, word: &str, extension: &str) -> Result<String, AllocError>
+    ensures { IfOk result (λ name. string_bytes name ≡ extended word.now extension.now) }
+{
+    let appended = if has_extension(word) { "" } else { extension };
+    with_extension(alloc, word, appended)
+}
+
+pub(crate) fn with_extension(
+    alloc: Global,
+    word: &str,
+    extension: &str,
+) -> Result<String, AllocError>
+    ensures { IfOk result (λ name. string_bytes name ≡ word.now ++ extension.now) }
+{
+    let mut name = String::from_str(alloc, word)?;
+    name.push_str(extension)?;
+    Ok(name)
+}

@@ -1,0 +1,223 @@
+// The files of the system's folders, as a place that keeps files. It tells no bytes.
+ghost use Rattle.std.specs.Prelude.{◌≡◌, ◌≤◌, ◌<◌, ◌+◌, ◌^◌, [], false, length, take, IfOk, IfErr};
+ghost use Rattle.std.specs.Io.KnownBytes.{Appends};
+ghost use Rattle.cweb_files.specs.Device.{Counts};
+ghost use Rattle.cweb_out.specs.Bins.{CountsDevice};
+
+use crate::drafts::{Draft, start_fault};
+use crate::files_read::FilesRead;
+use crate::standing::{Standing, Way};
+use crate::system::{FileKey, Held, seen_as};
+use crate::target::Target;
+use cweb_files::{Sink, SinkFault};
+use cweb_out::{BinFault, Bins};
+use std::alloc::{AllocError, Global};
+use std::collections::BTreeMap;
+use std::fs;
+use std::rt::Files;
+
+/// A folder that can be opened for reading anywhere.
+const ROOT: &str = "/";
+
+/// The files of the system, under their paths. The draft of a file is the file of its name followed by byte 127, which no
+/// output's name has: it is renamed where it is committed, and deleted where it is given up or can't be renamed. A
+/// deletion that fails leaves it there.
+///
+/// A file that was begun or committed here isn't begun again, whatever it is called.
+///
+/// An output is written in large pieces. So a write may fail for what was taken before; the output is given up then, so
+/// that one that lost bytes is never committed.
+#[derive(Drop)]
+pub struct FolderBins<'a, R: Files<File: Held> + Drop> {
+    alloc: Global,
+    files: R,
+    /// What stands in the place of standard streams that are closed: no draft is opened under their descriptors. They are
+    /// open for reading alone, so that writing to such a stream still fails.
+    streams: [Option<R::File>; 3],
+    /// The files that the run has read.
+    read: &'a FilesRead,
+    /// Those that it has begun or committed, with their names.
+    written: BTreeMap<FileKey, String>,
+    output: Option<Target<R::File>>,
+    failed: u64,
+}
+
+impl<'a, R: Files<File: Held> + Drop> FolderBins<'a, R> {
+    ghost use Rattle.cweb_system.specs.Devices.{bins_failures, output_bytes, IsBegun};
+
+    /// It is to be made before any other file is opened. No output takes the place of a file that is noted as read.
+    pub fn new(alloc: Global, files: R, read: &'a FilesRead) -> Self
+        ensures { bins_failures result ≡ 0 }
+    {
+        let streams = [stand_in(&files), stand_in(&files), stand_in(&files)];
+        FolderBins {
+            alloc,
+            files,
+            streams,
+            read,
+            written: BTreeMap::new(alloc),
+            output: None,
+            failed: 0,
+        }
+    }
+
+    /// Begins an output of a name, by what stands under it.
+    fn begin(&mut self, name: &str) -> Result<Target<R::File>, BinFault>
+        ensures failed { bins_failures self.new ≡ bins_failures self.old }
+    {
+        let standing = match Standing::of(&self.files, name) {
+            Ok(standing) => standing,
+            Err(error) => return Err(start_fault(&error)),
+        };
+        let is_written = self.has_written(standing);
+        let read = self.read.take();
+        let way = standing.way(&read, is_written);
+        self.read.put_back(read);
+        match way {
+            Way::Draft(replaced) => self.begin_draft(name, replaced),
+            Way::Device(device) => Target::open_device(self.alloc, &self.files, name, device),
+            Way::Refused => Err(BinFault::Device),
+        }
+    }
+
+    /// Whether this run wrote what stands there. Where it isn't under its own name any more another run has replaced it, and
+    /// its key may be that of another file by now.
+    fn has_written(&self, standing: Standing) -> bool {
+        let Standing::File(file, _) = standing else {
+            return false;
+        };
+        match self.written.get(&file) {
+            Some(name) => !matches!(seen_as(&self.files, name.as_str(), file), Ok(None)),
+            None => false,
+        }
+    }
+
+    /// Begins a draft, and notes its file as one that this run writes.
+    fn begin_draft(
+        &mut self,
+        name: &str,
+        replaced: Option<u32>,
+    ) -> Result<Target<R::File>, BinFault>
+        ensures failed { bins_failures self.new ≡ bins_failures self.old }
+    {
+        let draft = Draft::begin(self.alloc, &self.files, name, replaced)?;
+        if self.note(draft.file, name).is_err() {
+            draft.delete(&self.files);
+            return Err(BinFault::Memory);
+        }
+        Ok(Target::Draft(draft))
+    }
+
+    /// Notes a file as one that this run writes.
+    fn note(&mut self, file: FileKey, name: &str) -> Result<(), AllocError>
+        ensures failed { bins_failures self.new ≡ bins_failures self.old }
+    {
+        let name = String::from_str(self.alloc, name)?;
+        self.written.insert(file, name)?;
+        Ok(())
+    }
+
+    /// Adds bytes to the output, in their order: none is lost and none is added. After a fault the output is given up.
+    fn add(&mut self, piece: &[u8]) -> Result<usize, SinkFault>
+        requires { bins_failures self.old + 1 < 2 ^ 64 }
+        ensures failed { Counts (bins_failures self.old) (bins_failures self.new) result }
+        ensures within { IfOk result (λ n. n ≤ length piece.now) }
+        ensures some { 0 < length piece.now → IfOk result (λ n. 0 < n) }
+        ensures begun { IfOk result (λ _. IsBegun self.old) }
+        ensures passes { IfOk result (λ n. Appends (output_bytes R.File.contents self.old)
+            (output_bytes R.File.contents self.new) (take n piece.now)) }
+    {
+        let Some(output) = &mut self.output else {
+            self.failed += 1;
+            return Err(SinkFault);
+        };
+        let taken = output.write(piece);
+        if taken.is_err() {
+            self.give_up();
+            self.failed += 1;
+        }
+        taken
+    }
+
+    /// Gives up the output that is open.
+    fn give_up(&mut self)
+        ensures failed { bins_failures self.new ≡ bins_failures self.old }
+    {
+        if let Some(output) = self.output.take() {
+            if let Target::Draft(draft) = &output {
+                let _ = self.written.remove(&draft.file);
+            }
+            output.give_up(&self.files);
+        }
+    }
+
+    /// Commits the output that is open.
+    fn commit(&mut self) -> Result<(), BinFault>
+        ensures failed { bins_failures self.new ≡ bins_failures self.old }
+        ensures device { IfErr result (λ fault. fault ≡ BinFault.Device) }
+        ensures begun { IfOk result (λ _. IsBegun self.old) }
+    {
+        match self.output.take() {
+            Some(output) => output.commit(&self.files)?,
+            None => return Err(BinFault::Device),
+        }
+        Ok(())
+    }
+}
+
+/// Takes the descriptor of a standard stream that is closed, if there is one.
+fn stand_in<R: Files<File: Held>>(files: &R) -> Option<R::File> {
+    match fs::open(files, ROOT) {
+        Ok(folder) if folder.is_stream() => Some(folder),
+        _ => None,
+    }
+}
+
+impl<R: Files<File: Held> + Drop> Sink for FolderBins<'_, R> {
+    ghost use Rattle.cweb_system.specs.Devices.{bins_failures};
+
+    ghost tells = { λ _. false };
+
+    ghost written = { λ _. [] };
+
+    ghost failed = { bins_failures };
+
+    fn write(&mut self, piece: &[u8]) -> Result<usize, SinkFault> {
+        self.add(piece)
+    }
+
+    fn failures(&self) -> u64 {
+        self.failed
+    }
+}
+
+impl<R: Files<File: Held> + Drop> Bins for FolderBins<'_, R> {
+    ghost use Rattle.cweb_system.specs.Devices.{bins_failures};
+
+    fn start_file(&mut self, name: &str) -> Result<(), BinFault> {
+        self.give_up();
+        match self.begin(name) {
+            Ok(output) => {
+                self.output = Some(output);
+                Ok(())
+            }
+            Err(BinFault::Memory) => Err(BinFault::Memory),
+            Err(BinFault::Device) => {
+                self.failed += 1;
+                Err(BinFault::Device)
+            }
+        }
+    }
+
+    fn commit_file(&mut self) -> Result<(), BinFault> {
+        let done = self.commit();
+        if done.is_err() {
+            self.failed += 1;
+        }
+        done
+    }
+
+    fn abandon_file(&mut self) {
+        self.give_up();
+    }
+}

@@ -1,0 +1,93 @@
+// What an output of the system's folders is written to.
+ghost use Rattle.std.specs.Prelude.{◌≡◌, ◌≤◌, ◌<◌, length, take, IfOk, IfErr};
+ghost use Rattle.std.specs.Io.KnownBytes.{Appends};
+
+use crate::devices::write_once;
+use crate::drafts::{Draft, PIECE, start_fault};
+use crate::system::{FileKey, Held};
+use cweb_files::SinkFault;
+use cweb_out::BinFault;
+use std::alloc::Global;
+use std::fs::{OpenFile, OpenOptions};
+use std::io;
+use std::io::{BufWriter, Error, ErrorKind, Write};
+use std::rt::Files;
+
+/// What an output is written to.
+#[derive(Drop)]
+pub(crate) enum Target<F: Write + Drop> {
+    /// A draft of a file.
+    Draft(Draft<F>),
+    /// A device or a FIFO, which is written as it is.
+    Device(BufWriter<F>),
+}
+
+impl<F: Write + OpenFile + Held + Drop> Target<F> {
+    ghost use Rattle.cweb_system.specs.Devices.{target_bytes};
+
+    /// Opens a device for writing, where it still is the one that was seen.
+    pub(crate) fn open_device<R: Files<File = F>>(
+        alloc: Global,
+        files: &R,
+        name: &str,
+        device: FileKey,
+    ) -> Result<Target<F>, BinFault> {
+        let file = match opened(files, name, device) {
+            Ok(file) => file,
+            Err(error) => return Err(start_fault(&error)),
+        };
+        match BufWriter::with_capacity(alloc, PIECE, file) {
+            Ok(out) => Ok(Target::Device(out)),
+            Err(_) => Err(BinFault::Memory),
+        }
+    }
+
+    /// Adds bytes, in their order: none is lost and none is added.
+    pub(crate) fn write(&mut self, piece: &[u8]) -> Result<usize, SinkFault>
+        ensures within { IfOk result (λ n. n ≤ length piece.now) }
+        ensures some { 0 < length piece.now → IfOk result (λ n. 0 < n) }
+        ensures passes { IfOk result (λ n. Appends (target_bytes F.contents self.old)
+            (target_bytes F.contents self.new) (take n piece.now)) }
+    {
+        match self {
+            Target::Draft(draft) => write_once(&mut draft.out, piece),
+            Target::Device(out) => write_once(out, piece),
+        }
+    }
+
+    /// Puts a draft in its file's place, where all that was gathered could be written; else it is given up.
+    pub(crate) fn commit<R: Files<File = F>>(self, files: &R) -> Result<(), BinFault>
+        ensures { IfErr result (λ fault. fault ≡ BinFault.Device) }
+    {
+        match self {
+            Target::Draft(draft) => draft.commit(files),
+            Target::Device(mut out) => match out.flush() {
+                Ok(()) => Ok(()),
+                Err(_) => {
+                    Target::Device(out).give_up(files);
+                    Err(BinFault::Device)
+                }
+            },
+        }
+    }
+
+    /// Deletes a draft, and closes a device. What was gathered isn't written.
+    pub(crate) fn give_up<R: Files<File = F>>(self, files: &R) {
+        match self {
+            Target::Draft(draft) => draft.delete(files),
+            Target::Device(out) => {
+                let _ = out.into_parts();
+            }
+        }
+    }
+}
+
+/// Opens a device for writing. Where something else stands under its name by now it is an error, and nothing is changed.
+fn opened<R: Files>(files: &R, name: &str, device: FileKey) -> io::Result<R::File> {
+    let file = OpenOptions::new().write(true).open(files, name)?;
+    if FileKey::of_open(&file)? == device {
+        Ok(file)
+    } else {
+        Err(Error::from(ErrorKind::NotFound))
+    }
+}

@@ -1,8 +1,0 @@
-use Rattle.std.proofs.Common.{◌≡◌, drop, map}
-use Rattle.std.specs.Prelude.{slice_get}
-use Rattle.cweb_tools.specs.Options.{others}
-use Rattle.cweb_tools.proofs.options.other_word.Given as goal
-
-abbrev pub invariant-words : goal.invariant-words
-invariant-words l =
-    slice_get (others (map (λ word. word.now) (drop l.word-index l.words))) l.left ≡ slice_get (others (map (λ word. word.now) l.words)) l.number

@@ -1,0 +1,5 @@
+use Rattle.cweb_tools.proofs.Logging.{said_when}
+use Rattle.cweb_tools.proofs.saying.say_banner.Goals as goal
+
+pub returns : goal.returns
+returns g c = said_when _ _ _ _ _ c.if-not-shown.false c.write_banner.ensures

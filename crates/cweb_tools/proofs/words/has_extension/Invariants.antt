@@ -1,6 +1,0 @@
-use Rattle.std.proofs.Common.{◌≡◌, take}
-use Rattle.cweb_tools.specs.Words.{has_extension}
-use Rattle.cweb_tools.proofs.words.has_extension.Given as goal
-
-abbrev pub invariant-bytes : goal.invariant-bytes
-invariant-bytes l = l.has_dot ≡ has_extension (take l.byte-index l.byte-items)
