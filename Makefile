@@ -8,6 +8,9 @@ WMERGE := crates/wmerge/out/wmerge
 OUTPUTS := crates/bench_out/out/bench_out
 SCANS := crates/bench_scan/out/bench_scan
 STORES := crates/bench_store/out/bench_store
+KIT := rattle-kit-13b
+# a check by several jobs takes 1 to 4 GB
+JOBS ?= $(shell nproc)
 SOURCES := crates.txt $(shell find crates -name out -prune -o -type f \( -name '*.rt' -o -name '*.antt' \) -print)
 
 .PHONY: help demo check format build faults install uninstall bench clean
@@ -15,8 +18,8 @@ SOURCES := crates.txt $(shell find crates -name out -prune -o -type f \( -name '
 help:
 	@echo 'make demo       builds both programs, merges an example web, and tangles, compiles and runs another one'
 	@echo 'make build      proves and builds ctangle and wmerge: half an hour the first time, on four processors'
-	@echo 'make install    copies the programs and their man pages below $(PREFIX) (PREFIX, BINDIR, MANDIR and DESTDIR'
-	@echo '                are obeyed); where make build was run before, it needs nothing but cp'
+	@echo 'make install    copies the programs that make build made, and their man pages, below "$(PREFIX)" (PREFIX, BINDIR,'
+	@echo '                MANDIR and DESTDIR are obeyed); it proves nothing'
 	@echo 'make uninstall  removes what make install copied'
 	@echo 'make check      the gate: proves every crate from nothing, and runs all tests and programs'
 	@echo 'make format     formats every crate: the gate refuses one that rt fmt would change'
@@ -27,13 +30,19 @@ help:
 
 build: $(WMERGE) $(CTANGLE)
 
+# kit WHAT: says at once where the kit that proves and builds isn't there, or is another one
+define kit
+@command -v rt > /dev/null || { echo 'make: $(1) takes $(KIT), and its command rt is not on the path' >&2; exit 1; }
+@case $$(rt version) in '$(KIT) '*) ;; *) echo "make: $(1) takes $(KIT), and rt is of another kit: $$(rt version)" >&2; exit 1;; esac
+@mkdir -p $(@D)
+endef
+
 # rt runs what it has built, so it is given a web. Crates that haven't changed are not proved again. build,PROGRAM,WORDS
 define build
-@command -v rt > /dev/null || { echo 'make: to build $(1) takes the Rattle kit, and its command rt is not on the path' >&2; exit 1; }
-@mkdir -p $(@D)
+$(call kit,to build $(1))
 @echo 'Proving and building $(1). The first time this takes long: half an hour for both programs, on four processors.'
 @echo 'What the prover says goes to $(@D)/build.log.'
-@cd crates/$(1) && CWEBINPUTS=data rt run -- $(2) > out/build.log 2>&1 || { tail -n 20 out/build.log >&2; exit 1; }
+@cd crates/$(1) && CWEBINPUTS=data rt run --jobs $(JOBS) -- $(2) > out/build.log 2>&1 || { tail -n 20 out/build.log >&2; exit 1; }
 @touch $@
 @echo 'Built $@.'
 endef
@@ -62,30 +71,35 @@ faults: build
 	@tests/tangle_faults $(CTANGLE)
 	@tests/folders $(CTANGLE) $(WMERGE)
 	@tests/two_runs $(CTANGLE)
+	@tests/examples $(CTANGLE)
 
-install: build
-	install -d $(DESTDIR)$(BINDIR) $(DESTDIR)$(MANDIR)/man1
-	install -m 755 $(CTANGLE) $(WMERGE) $(DESTDIR)$(BINDIR)
-	install -m 644 man/ctangle.1 man/wmerge.1 $(DESTDIR)$(MANDIR)/man1
+install:
+	@for program in $(CTANGLE) $(WMERGE); do \
+	    test -x $$program || { echo "make: $$program is not there: make build first" >&2; exit 1; }; \
+	done
+	install -d "$(DESTDIR)$(BINDIR)" "$(DESTDIR)$(MANDIR)/man1"
+	install -m 755 $(CTANGLE) $(WMERGE) "$(DESTDIR)$(BINDIR)"
+	install -m 644 man/ctangle.1 man/wmerge.1 "$(DESTDIR)$(MANDIR)/man1"
 
 uninstall:
-	rm -f $(DESTDIR)$(BINDIR)/ctangle $(DESTDIR)$(BINDIR)/wmerge
-	rm -f $(DESTDIR)$(MANDIR)/man1/ctangle.1 $(DESTDIR)$(MANDIR)/man1/wmerge.1
+	rm -f "$(DESTDIR)$(BINDIR)/ctangle" "$(DESTDIR)$(BINDIR)/wmerge"
+	rm -f "$(DESTDIR)$(MANDIR)/man1/ctangle.1" "$(DESTDIR)$(MANDIR)/man1/wmerge.1"
+
+# bench,PROGRAM
+define bench
+$(call kit,to build $(1))
+@cd crates/$(1) && rt run --jobs $(JOBS) > out/build.log 2>&1 || { tail -n 20 out/build.log >&2; exit 1; }
+@touch $@
+endef
 
 $(OUTPUTS): $(SOURCES)
-	@mkdir -p $(@D)
-	@cd crates/bench_out && rt run > out/build.log 2>&1 || { tail -n 20 out/build.log >&2; exit 1; }
-	@touch $@
+	$(call bench,bench_out)
 
 $(SCANS): $(SOURCES)
-	@mkdir -p $(@D)
-	@cd crates/bench_scan && rt run > out/build.log 2>&1 || { tail -n 20 out/build.log >&2; exit 1; }
-	@touch $@
+	$(call bench,bench_scan)
 
 $(STORES): $(SOURCES)
-	@mkdir -p $(@D)
-	@cd crates/bench_store && rt run > out/build.log 2>&1 || { tail -n 20 out/build.log >&2; exit 1; }
-	@touch $@
+	$(call bench,bench_store)
 
 bench: build $(OUTPUTS) $(SCANS) $(STORES)
 	@bench/run $(WMERGE)
@@ -93,6 +107,7 @@ bench: build $(OUTPUTS) $(SCANS) $(STORES)
 	@bench/outputs $(OUTPUTS)
 	@bench/run_scan $(SCANS)
 	@bench/store $(STORES)
+	@bench/run_shapes $(CTANGLE)
 
 clean:
 	rm -rf bench/work examples/work

@@ -3,6 +3,7 @@ import os
 import shutil
 import signal
 import subprocess
+import sys
 
 HERE = os.path.dirname(os.path.abspath(__file__))
 # so many files may be open in a program, its streams counted
@@ -61,11 +62,23 @@ def dead_streams():
     return {"closed": None, "full": full, "without a reader": writer, "not for writing": unwritable}
 
 
+def programs_at(paths):
+    """The whole paths of built programs. Where one isn't there, that ends the script."""
+    for path in paths:
+        if not os.access(path, os.X_OK):
+            sys.exit(f"{path} is not built: make build")
+    return [os.path.abspath(path) for path in paths]
+
+
+def wanted(tool, what):
+    """Where a tool stands. Where it isn't there, that ends the script."""
+    found = shutil.which(tool)
+    return found or sys.exit(f"{os.path.basename(sys.argv[0])} takes {tool}, {what}, which is not there")
+
+
 def compiled(folder):
-    """The library, or None where there is no compiler."""
-    compiler = shutil.which(os.environ.get("CC", "cc"))
-    if not compiler:
-        return None
+    """The library `faults.so`, in a folder."""
+    compiler = wanted(os.environ.get("CC", "cc"), "a C compiler (or what CC names)")
     library, source = os.path.join(folder, "faults.so"), os.path.join(HERE, "faults.c")
     subprocess.run([compiler, "-O2", "-shared", "-fPIC", "-o", library, source, "-ldl"], check=True)
     return library

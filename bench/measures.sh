@@ -1,0 +1,72 @@
+# What the scripts of this folder share, which read it with `.`: what each lacks is said, its status is not 0 then, and no figure is
+# printed of a run that failed.
+
+# fails WORD..: says why there is no figure, and ends
+fails() {
+    echo "$(basename "$0"): $*" >&2
+    exit 1
+}
+
+# wants TOOL..: ends where one of them isn't there
+wants() {
+    for tool in "$@"; do
+        command -v "$tool" > /dev/null || fails "it takes $tool, which is not there"
+    done
+}
+
+# program PATH NAME: the whole path of a program that was built
+program() {
+    test -n "$1" || fails "name the program $2"
+    test -x "$1" || fails "$1 is not there, or is no program: make build makes ctangle and wmerge, make bench the others"
+    realpath "$1"
+}
+
+# runs STATUS COMMAND..: runs it without its output, and ends where its status is another one
+runs() {
+    wanted=$1
+    shift
+    status=0
+    "$@" > run.out 2> run.log || status=$?
+    test "$status" = "$wanted" || fails "status $status of: $*: $(tail -n 1 run.log)"
+}
+
+# seconds STATUS COMMAND..: the least wall time of seven runs that end with that status, in `time`
+seconds() {
+    : > run.times
+    for _ in 1 2 3 4 5 6 7; do
+        begin=$(date +%s%N)
+        runs "$@"
+        echo $(($(date +%s%N) - begin)) >> run.times
+    done
+    time=$(sort -n run.times | awk 'NR == 1 { printf "%.4f", $1 / 1e9 }')
+}
+
+# once STATUS COMMAND..: the wall time of one run, in `time`
+once() {
+    begin=$(date +%s%N)
+    runs "$@"
+    time=$(awk -v begin="$begin" -v end="$(date +%s%N)" 'BEGIN { printf "%.2f", (end - begin) / 1e9 }')
+}
+
+# room STATUS COMMAND..: the peak memory of a run, in KB, in `memory`
+room() {
+    wanted=$1
+    shift
+    runs "$wanted" /usr/bin/time -q -o run.memory -f %M "$@"
+    memory=$(cat run.memory)
+}
+
+# instructions STATUS COMMAND..: those of a run, which callgrind counts, in `count`
+instructions() {
+    wanted=$1
+    shift
+    runs "$wanted" valgrind --tool=callgrind --callgrind-out-file=callgrind.out "$@"
+    count=$(awk '/Collected/ { print $NF }' run.log)
+    test -n "$count" || fails "callgrind counted nothing: $*"
+}
+
+# dearest: the functions that take most of what callgrind counted last
+dearest() {
+    callgrind_annotate --threshold=95 callgrind.out > run.dearest 2> run.log || fails "callgrind_annotate: $(tail -n 1 run.log)"
+    awk '/^ *[0-9,]+ \(/ && shown < 8 { print; shown++ }' run.dearest
+}
