@@ -10,8 +10,8 @@ use Rattle.cweb_lines.specs.Include.{Found, World, found_at, include_name, is_in
 use Rattle.cweb_lines.specs.Change.{Entry, OldSide, Sought, at_place, behind_x, code_of, old_at, old_lines, outside, sought}
 use Rattle.cweb_lines.specs.Merge.{Compared, Event, NewSide, Next, RawLine, State, Thing, after_old, at_entry, at_raw, change_events, compared, fault, fault_if, included, new_at, new_lines, obeyed, opened, passed, plain, raw, raws, seek, told, took}
 use Rattle.cweb_lines.specs.Told.{given_lines}
-use Rattle.cweb_lines.specs.declared.code.Code.{Code}
-use Rattle.cweb_lines.specs.declared.code.Code.TheVariants.{EndSide as end_side, NewSide as new_side, OldSide as old_side}
+use Rattle.cweb_lines.specs.declared.change.code.Code.{Code}
+use Rattle.cweb_lines.specs.declared.change.code.Code.TheVariants.{EndSide as end_side, NewSide as new_side, OldSide as old_side}
 use Rattle.cweb_lines.specs.declared.fault.SourceFault.{SourceFault}
 use Rattle.cweb_lines.specs.declared.fault.SourceKind.TheVariants.{EndedBeforeY, Unequal, WebEnded}
 use Rattle.cweb_lines.proofs.Merges.{given-append}

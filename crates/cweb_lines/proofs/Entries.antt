@@ -11,8 +11,8 @@ use Rattle.cweb_lines.specs.Laws.{is_code}
 use Rattle.cweb_lines.specs.Seen.{followed_by, only_lines, seen}
 use Rattle.cweb_lines.specs.Merge.{Event, RawLine, Thing, at_entry, compared, given, new_at, new_lines, new_things, one_more, passed, plain, raw, raws, taking, took}
 use Rattle.cweb_lines.specs.Total.{merge, merge_end, merge_next}
-use Rattle.cweb_lines.specs.declared.code.Code.{Code}
-use Rattle.cweb_lines.specs.declared.code.Code.TheVariants.{EndSide as end_side, NewSide as new_side, OldSide as old_side}
+use Rattle.cweb_lines.specs.declared.change.code.Code.{Code}
+use Rattle.cweb_lines.specs.declared.change.code.Code.TheVariants.{EndSide as end_side, NewSide as new_side, OldSide as old_side}
 use Rattle.cweb_lines.proofs.Merges.{state}
 use Rattle.cweb_lines.proofs.Seens.{line_first, no_code, or-false}
 

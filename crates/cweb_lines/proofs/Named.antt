@@ -10,8 +10,8 @@ use Rattle.cweb_lines.specs.Steps.{OnlyTells}
 use Rattle.cweb_lines.specs.Texts.{files_up_to, most, number_of, read_blame, stop_for}
 use Rattle.cweb_lines.specs.Writing.{WritesRest, leaves, writes, fails}
 use Rattle.cweb_lines.specs.declared.run.Run.{Run}
-use Rattle.cweb_lines.specs.declared.source.LineFault.{LineFault}
-use Rattle.cweb_lines.specs.declared.source.LineFault.TheVariants.{Read, TooLong, Memory as NoMemory}
+use Rattle.cweb_lines.specs.declared.text.source.LineFault.{LineFault}
+use Rattle.cweb_lines.specs.declared.text.source.LineFault.TheVariants.{Read, TooLong, Memory as NoMemory}
 use Rattle.cweb_lines.specs.declared.stop.Stop.{Stop}
 use Rattle.cweb_lines.specs.declared.stop.Stop.TheVariants.{ReadFault, Memory}
 use Rattle.cweb_lines.specs.declared.text.OpenText.{OpenText}

@@ -5,7 +5,7 @@ use Rattle.std.proofs.lemmas.Bool.Decides.{nat_tests}
 use Rattle.memchr.specs.Find.{IsFirstByte, is_byte}
 use Rattle.cweb_lines.specs.Lines.{HasNewline, HasNoNewline, SplitsAt, IsNewlineAt, TextLine, byte_before, text_lines, onto_first}
 use Rattle.cweb_lines.specs.Source.{IsLongerThan, Takes, TakesOf}
-use Rattle.cweb_lines.specs.declared.source.Taken.TheVariants.{Full}
+use Rattle.cweb_lines.specs.declared.text.source.Taken.TheVariants.{Full}
 
 pub no_newline : (xs : List ℕ) → ((k : ℕ) → k < length xs → get_or xs k 0 ≢ 10) → HasNoNewline xs
 no_newline [] none = tt

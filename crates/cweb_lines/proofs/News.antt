@@ -13,14 +13,14 @@ use Rattle.cweb_lines.specs.Names.{names_of}
 use Rattle.cweb_lines.specs.Stages.{change_in, pending_in, things_below, things_in}
 use Rattle.cweb_lines.specs.Texts.{Count, FirstStops, StopsFor, Took, raw_at, things_above, things_over}
 use Rattle.cweb_lines.specs.Total.{merge, merge_next}
-use Rattle.cweb_lines.specs.contracts.code.Code.{the_type}
-use Rattle.cweb_lines.specs.declared.code.Code.{Code}
-use Rattle.cweb_lines.specs.declared.code.Code.TheVariants.{OldSide as old_side, NewSide as new_side, EndSide as end_side}
+use Rattle.cweb_lines.specs.contracts.change.code.Code.{the_type}
+use Rattle.cweb_lines.specs.declared.change.code.Code.{Code}
+use Rattle.cweb_lines.specs.declared.change.code.Code.TheVariants.{OldSide as old_side, NewSide as new_side, EndSide as end_side}
 use Rattle.cweb_lines.specs.declared.fault.SourceKind.TheVariants.{EndedBeforeZ, WantsZ}
 use Rattle.cweb_lines.specs.declared.run.Run.{Run}
-use Rattle.cweb_lines.specs.declared.stage.Change.{Change}
-use Rattle.cweb_lines.specs.declared.stage.Stage.TheVariants.{Changing}
-use Rattle.cweb_lines.specs.declared.stack.Stack.{Stack}
+use Rattle.cweb_lines.specs.declared.change.Change.{Change}
+use Rattle.cweb_lines.specs.declared.change.Stage.TheVariants.{Changing}
+use Rattle.cweb_lines.specs.declared.text.stack.Stack.{Stack}
 use Rattle.cweb_lines.specs.declared.stop.Stop.{Stop}
 use Rattle.cweb_lines.specs.declared.text.LineAt.{LineAt}
 use Rattle.cweb_lines.proofs.Adds.{adds_faults, adds_one, gives_adds}

@@ -9,7 +9,7 @@ use Rattle.cweb_lines.specs.Laws.{EntriesWithoutMatchAreTold, is_code}
 use Rattle.cweb_lines.specs.Seen.{followed_by, only_fault, only_lines, placed, seen}
 use Rattle.cweb_lines.specs.Merge.{Event, Thing, fault, raws, seek, took}
 use Rattle.cweb_lines.specs.Total.{merge, merge_end, merge_next}
-use Rattle.cweb_lines.specs.declared.code.Code.TheVariants.{OldSide as old_side}
+use Rattle.cweb_lines.specs.declared.change.code.Code.TheVariants.{OldSide as old_side}
 use Rattle.cweb_lines.specs.declared.fault.SourceFault.{SourceFault}
 use Rattle.cweb_lines.specs.declared.fault.SourceKind.TheVariants.{NoMatch}
 use Rattle.cweb_lines.proofs.Entries.{bytes_in, entry_of, finds, lines_of, passes_by}

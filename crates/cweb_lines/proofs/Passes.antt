@@ -16,7 +16,7 @@ use Rattle.cweb_lines.specs.Texts.{Count, StaysBelow, TakesLine, lines_at}
 use Rattle.cweb_lines.specs.Writing.{text_of}
 use Rattle.cweb_lines.specs.declared.limits.Limits.{Limits}
 use Rattle.cweb_lines.specs.declared.run.Run.{Run}
-use Rattle.cweb_lines.specs.declared.stack.Stack.{Stack}
+use Rattle.cweb_lines.specs.declared.text.stack.Stack.{Stack}
 use Rattle.cweb_lines.specs.declared.text.LineAt.{LineAt}
 use Rattle.cweb_lines.specs.declared.text.OpenText.{OpenText}
 use Rattle.cweb_lines.proofs.Merges.{gives_both, gives_line, gives_nothing, gives_took, merge_given}

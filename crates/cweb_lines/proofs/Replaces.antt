@@ -12,12 +12,12 @@ use Rattle.cweb_lines.specs.Seeking.{ToldFront}
 use Rattle.cweb_lines.specs.Texts.{Count, FirstStops, Refuses, Took, TopStops, raw_at}
 use Rattle.cweb_lines.specs.Told.{size_of}
 use denote.Enum.Bare.{sameb}
-use Rattle.cweb_lines.specs.contracts.code.Code.{the_type}
-use Rattle.cweb_lines.specs.declared.code.Code.{Code}
-use Rattle.cweb_lines.specs.declared.code.Code.TheVariants.{OldSide as old_side, NewSide as new_side, EndSide as end_side}
+use Rattle.cweb_lines.specs.contracts.change.code.Code.{the_type}
+use Rattle.cweb_lines.specs.declared.change.code.Code.{Code}
+use Rattle.cweb_lines.specs.declared.change.code.Code.TheVariants.{OldSide as old_side, NewSide as new_side, EndSide as end_side}
 use Rattle.cweb_lines.specs.declared.fault.SourceFault.{SourceFault}
 use Rattle.cweb_lines.specs.declared.fault.SourceKind.TheVariants.{WantsY}
-use Rattle.cweb_lines.specs.declared.replacing.Replaced.{Replaced}
+use Rattle.cweb_lines.specs.declared.change.old_side.Replaced.{Replaced}
 use Rattle.cweb_lines.specs.declared.stop.Stop.{Stop}
 use Rattle.cweb_lines.specs.declared.text.LineAt.{LineAt}
 use Rattle.cweb_lines.proofs.Adds.{adds_none, adds_one, adds_within, adds_lines, adds_faults}

@@ -16,10 +16,10 @@ use Rattle.cweb_lines.specs.Total.{merge, merge_end, merge_next}
 use Rattle.cweb_lines.specs.declared.fault.SourceFault.{SourceFault}
 use Rattle.cweb_lines.specs.declared.fault.SourceKind.TheVariants.{NoMatch}
 use Rattle.cweb_lines.specs.declared.run.Run.{Run}
-use Rattle.cweb_lines.specs.declared.stack.Stack.{Stack}
-use Rattle.cweb_lines.specs.declared.stage.Change.{Change}
-use Rattle.cweb_lines.specs.declared.stage.Stage.{Stage}
-use Rattle.cweb_lines.specs.declared.stage.Stage.TheVariants.{Done, Seeking, Waiting, Changing}
+use Rattle.cweb_lines.specs.declared.text.stack.Stack.{Stack}
+use Rattle.cweb_lines.specs.declared.change.Change.{Change}
+use Rattle.cweb_lines.specs.declared.change.Stage.{Stage}
+use Rattle.cweb_lines.specs.declared.change.Stage.TheVariants.{Done, Seeking, Waiting, Changing}
 use Rattle.cweb_lines.specs.declared.stop.Stop.{Stop}
 use Rattle.cweb_lines.specs.declared.text.LineAt.{LineAt}
 use Rattle.cweb_lines.specs.declared.text.OpenText.{OpenText}

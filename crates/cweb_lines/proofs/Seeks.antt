@@ -9,11 +9,11 @@ use Rattle.cweb_lines.specs.Seeking.{LooksAt, Searched, SeeksTo, ToldFront, behi
 use Rattle.cweb_lines.specs.Stages.{IsOutside, change_in, pending_in}
 use Rattle.cweb_lines.specs.Texts.{Count, FirstStops, Refuses, Took}
 use Rattle.cweb_lines.specs.Told.{size_of}
-use Rattle.cweb_lines.specs.declared.code.Code.{Code}
+use Rattle.cweb_lines.specs.declared.change.code.Code.{Code}
 use Rattle.cweb_lines.specs.declared.fault.SourceFault.{SourceFault}
-use Rattle.cweb_lines.specs.declared.seeking.Look.TheVariants.{Entry as first_line, On as goes_on}
-use Rattle.cweb_lines.specs.declared.stage.Stage.{Stage}
-use Rattle.cweb_lines.specs.declared.stage.Stage.TheVariants.{Done, Waiting}
+use Rattle.cweb_lines.specs.declared.change.seek.Look.TheVariants.{Entry as first_line, On as goes_on}
+use Rattle.cweb_lines.specs.declared.change.Stage.{Stage}
+use Rattle.cweb_lines.specs.declared.change.Stage.TheVariants.{Done, Waiting}
 use Rattle.cweb_lines.specs.declared.stop.Stop.{Stop}
 use Rattle.cweb_lines.proofs.Adds.{adds_none, adds_line, adds_faults}
 use Rattle.cweb_lines.proofs.Merges.{size-append}

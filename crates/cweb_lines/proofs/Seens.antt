@@ -4,7 +4,7 @@ use Rattle.std.specs.Option.{is_some}
 use Rattle.cweb_lines.specs.Lines.{Line, SourceLine}
 use Rattle.cweb_lines.specs.Seen.{Seen, followed_by, seen}
 use Rattle.cweb_lines.specs.Merge.{Event, fault, given, opening, took}
-use Rattle.cweb_lines.specs.declared.code.Code.{Code}
+use Rattle.cweb_lines.specs.declared.change.code.Code.{Code}
 use Rattle.cweb_lines.specs.declared.fault.SourceFault.{SourceFault}
 
 pub or-false : (a b : Bool) → (a || b) ≡ false → (a ≡ false) × (b ≡ false)

@@ -11,7 +11,7 @@ use Rattle.cweb_lines.specs.Laws.{is_code}
 use Rattle.cweb_lines.specs.Seen.{followed_by, only_lines, seen}
 use Rattle.cweb_lines.specs.Merge.{Compared, Event, NewSide, Next, RawLine, Thing, after_old, at_entry, change_events, compared, fault, passed, raw, raws, seek, taking, took}
 use Rattle.cweb_lines.specs.Total.{merge, merge_next}
-use Rattle.cweb_lines.specs.declared.code.Code.TheVariants.{EndSide as end_side, NewSide as new_side, OldSide as old_side}
+use Rattle.cweb_lines.specs.declared.change.code.Code.TheVariants.{EndSide as end_side, NewSide as new_side, OldSide as old_side}
 use Rattle.cweb_lines.proofs.IncludeLaws.{raws-append}
 use Rattle.cweb_lines.proofs.Merges.{state}
 use Rattle.cweb_lines.proofs.Seens.{took_unseen}

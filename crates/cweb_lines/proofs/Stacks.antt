@@ -5,7 +5,7 @@ use Rattle.std.proofs.lemmas.List.{get_or_default}
 use Rattle.cweb_lines.specs.Lines.{SourceLine}
 use Rattle.cweb_lines.specs.Merge.{Thing, raw, raws}
 use Rattle.cweb_lines.specs.Texts.{Count, things_at, things_over, matches_at, text_depth, lines_at, number_of, most, DeepAt, gap_at, gaps_from, StaysBelow, Pushes, TakesLine, TakesFirst, raw_at, StopsFor, FirstStops, TopStops}
-use Rattle.cweb_lines.specs.declared.stack.Stack.{Stack}
+use Rattle.cweb_lines.specs.declared.text.stack.Stack.{Stack}
 use Rattle.cweb_lines.specs.declared.stop.Stop.{Stop}
 use Rattle.cweb_lines.specs.declared.stop.Stop.TheVariants.{ReadFault, LineTooLong, TooMuchText, Memory}
 use Rattle.cweb_lines.specs.declared.text.LineAt.{LineAt}

@@ -7,10 +7,10 @@ use Rattle.cweb_lines.specs.Source.{Takes, IsLongerThan}
 use Rattle.cweb_lines.specs.Taking.{TakesWhole, TakesTrimmed}
 use Rattle.cweb_lines.specs.Texts.{Count, TakesLine, FirstStops, StopsFor, StopsReading, NamesFile, newline_bytes, stop_for}
 use Rattle.cweb_lines.specs.declared.limits.TheConstants.{LINE_LENGTH, LINES, BYTES}
-use Rattle.cweb_lines.specs.declared.source.LineFault.{LineFault}
-use Rattle.cweb_lines.specs.declared.source.LineFault.TheVariants.{Read, TooLong, Memory as NoMemory}
-use Rattle.cweb_lines.specs.declared.source.Taken.{Taken}
-use Rattle.cweb_lines.specs.declared.source.Taken.TheVariants.{Ended, Last, Full}
+use Rattle.cweb_lines.specs.declared.text.source.LineFault.{LineFault}
+use Rattle.cweb_lines.specs.declared.text.source.LineFault.TheVariants.{Read, TooLong, Memory as NoMemory}
+use Rattle.cweb_lines.specs.declared.text.source.Taken.{Taken}
+use Rattle.cweb_lines.specs.declared.text.source.Taken.TheVariants.{Ended, Last, Full}
 use Rattle.cweb_lines.specs.declared.stop.Stop.{Stop}
 use Rattle.cweb_lines.specs.declared.stop.Stop.TheVariants.{LineTooLong, TooMuchText}
 use Rattle.cweb_lines.proofs.Newlines.{text_lines-full, text_lines-last, longer_first}

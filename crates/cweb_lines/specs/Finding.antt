@@ -2,7 +2,7 @@
 use Rattle.std.specs.Prelude.{◌≡◌, ℕ, List, [], ◌∷◌, Option, None, Some, String, string_bytes}
 use Rattle.cweb_lines.specs.Include.{World, Found}
 use Rattle.cweb_lines.specs.Lines.{SourceLine, lines_in}
-use Rattle.cweb_lines.specs.declared.finding.Opening.{Opening}
+use Rattle.cweb_lines.specs.declared.files.find.Opening.{Opening}
 
 -- an opening as a text that was found, by what its reader has left
 abbrev pub found_as : {R : Type 0} → (R → List ℕ) → Option (Opening R) → Option Found

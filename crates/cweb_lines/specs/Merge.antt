@@ -6,8 +6,8 @@ use Rattle.cweb_lines.specs.Lines.{Line, SourceLine, lines_in}
 use Rattle.cweb_lines.specs.Include.{World, Found, is_include, include_name, found_at}
 use Rattle.cweb_lines.specs.Change.{code_of, at_place, Entry, sought, OldSide, old_lines}
 use Rattle.cweb_lines.specs.declared.limits.TheConstants.{OPEN_FILES}
-use Rattle.cweb_lines.specs.declared.code.Code.{Code}
-use Rattle.cweb_lines.specs.declared.code.Code.TheVariants.{OldSide as old_side, NewSide as new_side, EndSide as end_side}
+use Rattle.cweb_lines.specs.declared.change.code.Code.{Code}
+use Rattle.cweb_lines.specs.declared.change.code.Code.TheVariants.{OldSide as old_side, NewSide as new_side, EndSide as end_side}
 use Rattle.cweb_lines.specs.declared.fault.SourceKind.TheVariants.{NoName, TooDeep, NotThere, EndedBeforeY, WebEnded, Unequal, WantsZ, EndedBeforeZ, NoMatch}
 use Rattle.cweb_lines.specs.declared.fault.SourceFault.{SourceFault}
 

@@ -12,12 +12,12 @@ use Rattle.cweb_lines.specs.Stages.{pending_in, change_in, things_in, weight_of}
 use Rattle.cweb_lines.specs.Texts.{Count, Refuses, StopsFor, lines_at, raw_at}
 use Rattle.cweb_lines.specs.declared.fault.SourceFault.{SourceFault}
 use Rattle.cweb_lines.specs.declared.run.Run.{Run}
-use Rattle.cweb_lines.specs.declared.stage.Stage.{Stage}
-use Rattle.cweb_lines.specs.declared.stage.Stage.TheVariants.{Done}
+use Rattle.cweb_lines.specs.declared.change.Stage.{Stage}
+use Rattle.cweb_lines.specs.declared.change.Stage.TheVariants.{Done}
 use Rattle.cweb_lines.specs.declared.stop.Stop.{Stop}
 use Rattle.cweb_lines.specs.declared.text.LineAt.{LineAt}
-use Rattle.cweb_lines.specs.declared.turn.Turn.{Turn}
-use Rattle.cweb_lines.specs.declared.turn.Turn.TheVariants.{Given, On, Ended}
+use Rattle.cweb_lines.specs.declared.step.Turn.{Turn}
+use Rattle.cweb_lines.specs.declared.step.Turn.TheVariants.{Given, On, Ended}
 
 -- what was told and taken so far
 pub record SoFar : Type 0 where

@@ -11,7 +11,7 @@ use Rattle.cweb_lines.specs.Taking.{TakesWhole}
 use Rattle.cweb_lines.specs.Texts.{Count, DeepAt, TakesAbove, TakesLine, files_up_to, lines_at, matches_at, number_of, text_depth}
 use Rattle.cweb_lines.specs.Writing.{text_of}
 use Rattle.cweb_lines.specs.declared.run.Run.{Run}
-use Rattle.cweb_lines.specs.declared.stack.Stack.{Stack}
+use Rattle.cweb_lines.specs.declared.text.stack.Stack.{Stack}
 use Rattle.cweb_lines.specs.declared.text.LineAt.{LineAt}
 use Rattle.cweb_lines.specs.declared.text.OpenText.{OpenText}
 

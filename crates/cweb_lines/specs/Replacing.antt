@@ -8,8 +8,8 @@ use Rattle.cweb_lines.specs.Merging.{SoFar, Adds}
 use Rattle.cweb_lines.specs.Stages.{IsSettled, change_in, pending_in}
 use Rattle.cweb_lines.specs.declared.fault.SourceFault.{SourceFault}
 use Rattle.cweb_lines.specs.declared.fault.SourceKind.TheVariants.{EndedBeforeY, Unequal, WebEnded}
-use Rattle.cweb_lines.specs.declared.replacing.Replaced.{Replaced}
-use Rattle.cweb_lines.specs.declared.stage.Stage.{Stage}
+use Rattle.cweb_lines.specs.declared.change.old_side.Replaced.{Replaced}
+use Rattle.cweb_lines.specs.declared.change.Stage.{Stage}
 
 -- the raw lines that the further old lines of a change take away
 abbrev pub taken_away : List SourceLine → List Thing → Compared

@@ -5,13 +5,13 @@ use Rattle.cweb_lines.specs.Change.{Sought, at_place, sought}
 use Rattle.cweb_lines.specs.Lines.{SourceLine}
 use Rattle.cweb_lines.specs.Merging.{SoFar, Adds}
 use Rattle.cweb_lines.specs.Stages.{IsOutside, pending_in, change_in}
-use Rattle.cweb_lines.specs.declared.code.Code.{Code}
-use Rattle.cweb_lines.specs.declared.code.Code.TheVariants.{OldSide as old_side, NewSide as new_side, EndSide as end_side}
+use Rattle.cweb_lines.specs.declared.change.code.Code.{Code}
+use Rattle.cweb_lines.specs.declared.change.code.Code.TheVariants.{OldSide as old_side, NewSide as new_side, EndSide as end_side}
 use Rattle.cweb_lines.specs.declared.fault.SourceFault.{SourceFault}
 use Rattle.cweb_lines.specs.declared.fault.SourceKind.TheVariants.{MissingX}
-use Rattle.cweb_lines.specs.declared.seeking.Look.{Look}
-use Rattle.cweb_lines.specs.declared.seeking.Look.TheVariants.{Entry as first_line, On as goes_on}
-use Rattle.cweb_lines.specs.declared.stage.Stage.{Stage}
+use Rattle.cweb_lines.specs.declared.change.seek.Look.{Look}
+use Rattle.cweb_lines.specs.declared.change.seek.Look.TheVariants.{Entry as first_line, On as goes_on}
+use Rattle.cweb_lines.specs.declared.change.Stage.{Stage}
 
 -- a search behind faults that were told and lines that were taken
 abbrev pub behind : List SourceFault → List SourceLine → Sought → Sought

@@ -1,11 +1,11 @@
 -- What an open text has left, and what a line takes of it.
 use Rattle.std.specs.Prelude.{◌≡◌, ℕ, ◌+◌, ◌<◌, List, [], ◌∷◌, ◌++◌, length, slice_range, Bool, true, false, Option, None, Some, Result, Ok, Err}
 use Rattle.cweb_lines.specs.Lines.{HasNoNewline}
-use Rattle.cweb_lines.specs.declared.source.Source.{Source}
-use Rattle.cweb_lines.specs.declared.source.LineFault.{LineFault}
-use Rattle.cweb_lines.specs.declared.source.LineFault.TheVariants.{Read, TooLong, Memory}
-use Rattle.cweb_lines.specs.declared.source.Taken.{Taken}
-use Rattle.cweb_lines.specs.declared.source.Taken.TheVariants.{Ended, Last, Full}
+use Rattle.cweb_lines.specs.declared.text.source.Source.{Source}
+use Rattle.cweb_lines.specs.declared.text.source.LineFault.{LineFault}
+use Rattle.cweb_lines.specs.declared.text.source.LineFault.TheVariants.{Read, TooLong, Memory}
+use Rattle.cweb_lines.specs.declared.text.source.Taken.{Taken}
+use Rattle.cweb_lines.specs.declared.text.source.Taken.TheVariants.{Ended, Last, Full}
 
 -- what was read and not yet taken
 abbrev pub pending : {R : Type 0} → Source R → List ℕ

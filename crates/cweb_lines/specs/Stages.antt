@@ -7,10 +7,10 @@ use Rattle.cweb_lines.specs.Include.{Found}
 use Rattle.cweb_lines.specs.Lines.{SourceLine}
 use Rattle.cweb_lines.specs.Merge.{Thing, seek, new_lines}
 use Rattle.cweb_lines.specs.Texts.{things_over, things_above}
-use Rattle.cweb_lines.specs.declared.stack.Stack.{Stack}
-use Rattle.cweb_lines.specs.declared.stage.Change.{Change}
-use Rattle.cweb_lines.specs.declared.stage.Stage.{Stage}
-use Rattle.cweb_lines.specs.declared.stage.Stage.TheVariants.{Done, Seeking, Waiting, Changing}
+use Rattle.cweb_lines.specs.declared.text.stack.Stack.{Stack}
+use Rattle.cweb_lines.specs.declared.change.Change.{Change}
+use Rattle.cweb_lines.specs.declared.change.Stage.{Stage}
+use Rattle.cweb_lines.specs.declared.change.Stage.TheVariants.{Done, Seeking, Waiting, Changing}
 use Rattle.cweb_lines.specs.declared.text.OpenText.{OpenText}
 
 -- how many texts stay open

@@ -1,40 +1,45 @@
 //! The merged lines of a web: the lines of its files, with included files put in and a change file's entries made.
 #![tactic(auto)]
 
-mod code;
-mod fault;
-mod finding;
-mod gathering;
-mod include;
-pub mod laws;
-mod limits;
-mod merger;
-mod names;
-mod obeying;
-mod passing;
-mod pieces;
-mod progress;
-mod reading;
-mod replacing;
-mod run;
-mod seeking;
-mod source;
-mod stack;
-mod stage;
-mod starting;
-mod stop;
-mod taking;
+// an open text, cut into lines
 mod text;
-mod turn;
-mod turning;
+
+// the files that are opened, and their names
+mod files;
+
+// the change file: its stage, its entries, the old side that an entry takes away
+mod change;
+
+// what a merge holds
+mod run;
+
+// one step of a merge
+mod step;
+
+// the merged lines, one after another
+mod merger;
+
+// all of them, written
 mod writing;
+
+// what is wrong in a web, and told
+mod fault;
+
+// what ends a merge
+mod stop;
+
+// how much may be taken
+mod limits;
+
+// what holds of merged lines whatever the texts are
+pub mod laws;
 
 pub use cweb_files::{
     FileId, MemoryReader, MemoryShelf, MemorySink, Place, Shelf, ShelfFault, Sink, SinkFault,
 };
 pub use fault::{SourceFault, SourceKind};
+pub use files::FileNames;
 pub use limits::{BYTES, LINE_LENGTH, LINES};
 pub use merger::Merger;
-pub use names::FileNames;
 pub use stop::Stop;
 pub use writing::{write_all, write_merged, write_merged_in_pieces};

@@ -9,16 +9,16 @@ ghost use Rattle.cweb_lines.specs.Texts.{StartStops, files_named};
 ghost use Rattle.cweb_lines.specs.Naming.{AreReadersKnown, BlamesFile};
 
 use crate::fault::SourceFault;
-use crate::finding::{find_change, find_web};
+use crate::files::FileNames;
+use crate::files::find::{find_change, find_web};
+use crate::files::open::{first_stage, open_change, open_web, owned};
 use crate::limits::Limits;
-use crate::names::FileNames;
-use crate::passing::pass_lines;
 use crate::run::Run;
-use crate::stack::Stack;
-use crate::starting::{first_stage, open_change, open_web, owned};
+use crate::step::Turn;
+use crate::step::turning::take_turn;
 use crate::stop::Stop;
-use crate::turn::Turn;
-use crate::turning::take_turn;
+use crate::text::stack::Stack;
+use crate::writing::pass::pass_lines;
 use cweb_files::{Place, Shelf};
 use std::alloc::Global;
 

@@ -6,13 +6,13 @@ ghost use Rattle.cweb_lines.specs.Texts.{AreDeep, most, number_of, line_number, 
 ghost use Rattle.cweb_lines.specs.Faults.{files_in, files_kept};
 ghost use Rattle.cweb_lines.specs.Stages.{floor_of, new_depth, files_begun};
 
+use crate::change::Stage;
 use crate::fault::SourceFault;
+use crate::files::FileNames;
 use crate::limits::Limits;
-use crate::names::FileNames;
-use crate::stack::Stack;
-use crate::stage::Stage;
 use crate::stop::Stop;
 use crate::text::OpenText;
+use crate::text::stack::Stack;
 use std::alloc::Global;
 
 #[derive(Drop)]

@@ -1,5 +1,11 @@
 // Open texts, and the lines that are taken of them.
-use crate::source::Source;
+pub mod cut;
+pub mod pieces;
+pub mod source;
+pub mod stack;
+pub mod take;
+
+use crate::text::source::Source;
 use cweb_files::{FileId, Place};
 
 /// A text that is being read.

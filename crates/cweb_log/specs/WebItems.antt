@@ -5,16 +5,17 @@ use Rattle.cweb_lines.specs.declared.stop.Stop.TheVariants as stop
 use Rattle.cweb_store.specs.Names.{Occurrence}
 use Rattle.cweb_store.specs.Calls.{Stored}
 use Rattle.cweb_store.specs.Faults as store
-use Rattle.cweb_store.specs.declared.name.NameId.{NameId}
-use Rattle.cweb_store.specs.declared.name.NameFault.{NameFault}
-use Rattle.cweb_store.specs.declared.name.NameKind.{NameKind}
-use Rattle.cweb_store.specs.declared.name.NameKind.TheVariants.{Ambiguous, NeverFull, PrefixOfAnother, NotPresent}
+use Rattle.cweb_store.specs.declared.names.NameId.{NameId}
+use Rattle.cweb_store.specs.declared.names.NameFault.{NameFault}
+use Rattle.cweb_store.specs.declared.names.NameKind.{NameKind}
+use Rattle.cweb_store.specs.declared.names.NameKind.TheVariants.{Ambiguous, NeverFull, PrefixOfAnother, NotPresent}
 use Rattle.cweb_rules.specs.declared.fault.ScanFault.{ScanFault}
 use Rattle.cweb_rules.specs.declared.fault.ScanKind.{ScanKind}
 use Rattle.cweb_rules.specs.declared.fault.ScanKind.TheVariants.{DoubleAtInLimbo, ImproperHexNumber, ReplacementTooLong, LetterOutsideLimbo, NameDidNotEnd, NamesDoNotNest, CommentDidNotEnd, StringDidNotEnd, DoubleAtInString, ControlTextDidNotEnd, FaultyConstant, IgnoredInCText, MissingAt, DefsInMacro, DefinitionDropped}
-use Rattle.cweb_out.specs.Outputs.{Refusal, bad_name, same_name, cycle, name_at as text_at, output_name}
-use Rattle.cweb_out.specs.declared.plan_fault.PlanFault.{PlanFault}
-use Rattle.cweb_out.specs.declared.plan_fault.PlanFault.TheVariants as plan
+use Rattle.cweb_out.specs.Outputs as outputs
+use Rattle.cweb_out.specs.Outputs.{Refusal, bad_name, same_name, cycle, output_name}
+use Rattle.cweb_out.specs.declared.planning.fault.PlanFault.{PlanFault}
+use Rattle.cweb_out.specs.declared.planning.fault.PlanFault.TheVariants as plan
 use Rattle.cweb_log.specs.Items.{Item, fault, located, stopped}
 use Rattle.cweb_log.specs.Log.{name_at}
 
@@ -62,12 +63,12 @@ name_items web = map (name_item web.occurrences) (store.faults web.occurrences w
 
 -- a name of a cycle, behind the one that uses it
 abbrev pub cycle_step : Stored → NameId → List ℕ
-cycle_step web name = codes " <" ++ (text_at web name ++ codes ">")
+cycle_step web name = codes " <" ++ (outputs.name_at web name ++ codes ">")
 
 -- why nothing is written, where the main file has this name
 abbrev pub refusal_text : Stored → List ℕ → Refusal → List ℕ
 refusal_text web main (cycle names) = codes "Cycle:" ++ flat_map (cycle_step web) names
-refusal_text web main (same_name name) = codes "Two outputs with one name: <" ++ (text_at web name ++ codes ">")
+refusal_text web main (same_name name) = codes "Two outputs with one name: <" ++ (outputs.name_at web name ++ codes ">")
 refusal_text web main (bad_name output) = codes "Bad output name: <" ++ (output_name web main output ++ codes ">")
 
 -- what there is instead of a plan: its fault, or want of memory, which stops the run

@@ -1,14 +1,19 @@
 //! What the command lines of the programs ask for, and the lines of their logs.
 #![tactic(auto)]
 
-mod faults;
-mod gathered;
-mod items;
+// what words ask for
 mod options;
 mod shown;
+mod words;
+
+// lines of the log, gathered without memory
+mod gathered;
+
+// the lines of a run, of faults, and of what stopped it
+mod faults;
+mod items;
 mod stops;
 mod web_faults;
-mod words;
 
 pub use faults::write_faults;
 pub use items::{

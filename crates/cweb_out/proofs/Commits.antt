@@ -4,7 +4,7 @@ use Rattle.std.proofs.lemmas.List.{map-append}
 use Rattle.std.specs.Prelude.{filter}
 use Rattle.std.specs.Str.{bytes_eq}
 use Rattle.cweb_files.specs.Files.{File, without, put_file}
-use Rattle.cweb_out.specs.declared.memory.BinFile.{BinFile}
+use Rattle.cweb_out.specs.declared.bins.memory.BinFile.{BinFile}
 use Rattle.cweb_out.specs.Memory.{file_of}
 
 others : (name : List ℕ) (files : List BinFile) → map file_of (filter (λ (f : BinFile). not (bytes_eq (string_bytes f.name) name)) files) ≡ without name (map file_of files)

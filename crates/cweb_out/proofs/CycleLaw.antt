@@ -3,7 +3,7 @@ use Rattle.std.proofs.Common.{◌≡◌, ◌<◌, ◌+◌, ℕ, zero, suc, Bool,
 use Rattle.std.specs.Prelude.{◌⊎◌, All, Result, Ok, Err, find, filter, IfSome, option_to_list, bytes_eq}
 use Rattle.std.specs.List.{list_all, list_any, position_or_len}
 use Rattle.std.proofs.lemmas.List.Folds.{list_any-append}
-use Rattle.cweb_store.specs.declared.name.NameId.{NameId}
+use Rattle.cweb_store.specs.declared.names.NameId.{NameId}
 use Rattle.cweb_store.specs.Names as spec
 use Rattle.cweb_store.specs.Names.{is_id}
 use Rattle.cweb_store.specs.Faults.{has_part}

@@ -3,13 +3,13 @@ use Rattle.std.proofs.Common.{◌≡◌, ◌≤◌, ◌<◌, ◌+◌, ◌-◌, �
 use Rattle.std.specs.Prelude.{flat_map, filter, All, slice_get, Some}
 use Rattle.std.proofs.lemmas.List.{drop-drop, take_at, drop_at, take_more, get_or-drop, length-drop}
 use Rattle.std.proofs.Math.Seq.{take-add}
-use Rattle.cweb_out.specs.declared.class.Class.{Class}
-use Rattle.cweb_out.specs.declared.left.Left.{Left}
+use Rattle.cweb_out.specs.declared.printer.class.Class.{Class}
+use Rattle.cweb_out.specs.declared.printer.left.Left.{Left}
 use Rattle.cweb_out.specs.Classes.{added, all_added, at_start, leaves, left_by}
 use Rattle.cweb_out.proofs.Steps.{added-append, added-push, leaves-push}
 use Rattle.cweb_out.proofs.Suffixes.{slice_get-or, slice_get-lt, slice_range-first}
-use Rattle.cweb_store.specs.declared.part.PartKind.{PartKind}
-use Rattle.cweb_store.specs.declared.part.Part as declared
+use Rattle.cweb_store.specs.declared.parts.PartKind.{PartKind}
+use Rattle.cweb_store.specs.declared.parts.Part as declared
 use Rattle.cweb_store.specs.Parts.{Token, Part, all_tokens, is_macro, numbers_from, numbers_where}
 use Rattle.cweb_store.specs.Calls.{Stored}
 use Rattle.cweb_out.specs.Printing.{macro_line}

@@ -6,7 +6,7 @@ use Rattle.std.specs.Str.{IsUtf8, is_utf8}
 use Rattle.std.proofs.lemmas.Str.{IsUtf8-from_is_utf8, is_utf8-from_IsUtf8}
 use Rattle.std.proofs.lemmas.Bool.Decides.{eqb_tells}
 use Rattle.std.proofs.lemmas.List.{take_more, map-append, length-map}
-use Rattle.cweb_store.specs.declared.name.NameId.{NameId}
+use Rattle.cweb_store.specs.declared.names.NameId.{NameId}
 use Rattle.cweb_store.specs.Parts as parts
 use Rattle.cweb_store.specs.Calls.{Stored}
 use Rattle.cweb_store.proofs.PartLemmas.{numbers-some}
@@ -16,9 +16,9 @@ use Rattle.cweb_out.specs.Outputs.{Planned, Refusal, bad_name, same_name, cycle,
 use Rattle.cweb_out.specs.Plans.{output_in}
 use Rattle.cweb_out.specs.Planning.{NamesAll, NamesOne, first_cycle, has_one, is_bad, is_endless, is_good_path}
 use Rattle.cweb_out.specs.Search.{SettlesList}
-use Rattle.cweb_out.specs.declared.planned.Output.{Output}
-use Rattle.cweb_out.specs.declared.plan_fault.PlanFault.{PlanFault}
-use Rattle.cweb_out.specs.declared.plan_fault.PlanFault.TheVariants as fault
+use Rattle.cweb_out.specs.declared.planning.planned.Output.{Output}
+use Rattle.cweb_out.specs.declared.planning.fault.PlanFault.{PlanFault}
+use Rattle.cweb_out.specs.declared.planning.fault.PlanFault.TheVariants as fault
 use Rattle.cweb_out.proofs.Finds.{find-at}
 
 -- the first output whose name is bad
@@ -47,7 +47,7 @@ unnamed-one w =
     let some = numbers-some parts.is_unnamed w.parts in
     by (parts.numbers_where parts.is_unnamed w.parts) (list_any (λ (p : parts.Part). parts.is_unnamed p.kind) w.parts) some.0 some.1
   where
-    by : (ps : List Rattle.cweb_store.specs.declared.part.Part.Part) (b : Bool) → (b ≡ true → 0 < length ps) → (0 < length ps → b ≡ true) → has_one ps ≡ b
+    by : (ps : List Rattle.cweb_store.specs.declared.parts.Part.Part) (b : Bool) → (b ≡ true → 0 < length ps) → (0 < length ps → b ≡ true) → has_one ps ≡ b
     by [] true f g = absurd (omega (arith, f refl))
     by [] false f g = refl
     by (p ∷ ps) true f g = refl

@@ -2,9 +2,9 @@
 use Rattle.std.proofs.Common.{ℕ, ◌≡◌, refl, List, [], ◌∷◌, Some, codes, true, false}
 use Rattle.std.specs.Prelude.{Err}
 use Rattle.std.specs.Fmt.{digits}
-use Rattle.cweb_store.specs.declared.name.How.TheVariants.{Full}
-use Rattle.cweb_store.specs.declared.part.PartKind.{PartKind}
-use Rattle.cweb_store.specs.declared.part.PartKind.TheVariants.{Unnamed, Named}
+use Rattle.cweb_store.specs.declared.names.How.TheVariants.{Full}
+use Rattle.cweb_store.specs.declared.parts.PartKind.{PartKind}
+use Rattle.cweb_store.specs.declared.parts.PartKind.TheVariants.{Unnamed, Named}
 use Rattle.cweb_store.specs.Names.{Occurrence, id}
 use Rattle.cweb_store.specs.Parts.{Part, Token, Word, Number, Punct, Blank, Newline, Join, Defs, Name, Head, Tail, Mark}
 use Rattle.cweb_store.specs.Calls.{Stored}

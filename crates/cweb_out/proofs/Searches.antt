@@ -3,7 +3,7 @@ use Rattle.std.proofs.Common.{◌≡◌, ◌<◌, suc, Bool, true, false, not, L
 use Rattle.std.specs.Prelude.{Result, Ok, Err, IfOk, option_map, find, sum_by}
 use Rattle.std.specs.List.{list_all, list_any}
 use Rattle.std.proofs.Math.ListN.{set}
-use Rattle.cweb_store.specs.declared.name.NameId.{NameId}
+use Rattle.cweb_store.specs.declared.names.NameId.{NameId}
 use Rattle.cweb_store.specs.Names.{is_id}
 use Rattle.cweb_store.specs.Parts.{Token}
 use Rattle.cweb_store.specs.Calls.{Stored}
@@ -13,10 +13,10 @@ use Rattle.cweb_out.specs.Uses.{names, program, joined, uses}
 use Rattle.cweb_out.specs.Ranks.{has_rank}
 use Rattle.cweb_out.specs.Cycles.{cycle_from}
 use Rattle.cweb_out.specs.Frames.{IsWithin, suffix}
-use Rattle.cweb_out.specs.declared.frame.Frame.{Frame}
-use Rattle.cweb_out.specs.declared.search.Mark.{Mark}
-use Rattle.cweb_out.specs.declared.search.Mark.TheVariants.{Waits, Ranked}
-use Rattle.cweb_out.specs.declared.search.Waiting.{Waiting}
+use Rattle.cweb_out.specs.declared.expander.frame.Frame.{Frame}
+use Rattle.cweb_out.specs.declared.planning.search.Mark.{Mark}
+use Rattle.cweb_out.specs.declared.planning.search.Mark.TheVariants.{Waits, Ranked}
+use Rattle.cweb_out.specs.declared.planning.search.Waiting.{Waiting}
 use Rattle.cweb_out.specs.Search.{Begins, Chain, Fits, Goes, IsEndless, Settles, SettlesList, Waited, Looked, Meets, is_marked, mark_of, marks_left, path_of}
 use Rattle.cweb_out.proofs.Ranks.{rank-grows, rank_by_uses}
 use Rattle.cweb_out.proofs.Circles.{looked-endless}

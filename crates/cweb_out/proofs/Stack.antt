@@ -3,16 +3,16 @@ use Rattle.std.proofs.Common.{◌≡◌, ◌≤◌, ◌<◌, ◌+◌, ◌-◌, �
 use Rattle.std.specs.Prelude.{All, sum_by, option_to_list}
 use Rattle.std.specs.List.{list_all}
 use Rattle.std.proofs.lemmas.List.Sums.{sum_by-cons}
-use Rattle.cweb_store.specs.declared.name.NameId.{NameId}
-use Rattle.cweb_store.specs.declared.name.NameRef.{NameRef}
-use Rattle.cweb_store.specs.declared.part.Part.{Part}
+use Rattle.cweb_store.specs.declared.names.NameId.{NameId}
+use Rattle.cweb_store.specs.declared.names.NameRef.{NameRef}
+use Rattle.cweb_store.specs.declared.parts.Part.{Part}
 use Rattle.cweb_store.specs.Parts.{Token, Name, all_tokens}
 use Rattle.cweb_store.specs.Calls.{Stored}
 use Rattle.cweb_out.specs.Uses.{names, use_of, uses, stands, joined}
 use Rattle.cweb_out.specs.Ranks.{ends_below}
 use Rattle.cweb_out.specs.Expansion.{expand, name_text, put, text_for}
 use Rattle.cweb_out.specs.Outputs.{root_list}
-use Rattle.cweb_out.specs.declared.frame.Frame.{Frame}
+use Rattle.cweb_out.specs.declared.expander.frame.Frame.{Frame}
 use Rattle.cweb_out.specs.Frames.{suffix, runs_tokens, left_of, work_of, list_work, AreOwned, AreRanked, AreBelow, IsRun, IsWithin, Stands, UsesLower, Advances, Enters, left, level, name_work, token_work, work_for}
 use Rattle.cweb_out.proofs.Owners.{OnTop, OnTop-entered, OnTop-first, AreOwned-pop, AreOwned-push}
 

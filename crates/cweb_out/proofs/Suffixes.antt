@@ -2,10 +2,10 @@
 use Rattle.std.proofs.Common.{◌≡◌, ◌≤◌, ◌<◌, ◌+◌, ◌-◌, ℕ, [], ◌∷◌, ◌++◌, List, Some, length, sym, ◌∙◌, ap, arith, take, drop, slice_range, slice_index_or, false, zero, suc, add-one, subst}
 use Rattle.std.specs.Prelude.{All, slice_get}
 use Rattle.std.proofs.Math.Seq.{drop-cons}
-use Rattle.cweb_store.specs.declared.part.Part.{Part}
+use Rattle.cweb_store.specs.declared.parts.Part.{Part}
 use Rattle.cweb_store.specs.Parts.{Token, all_tokens}
 use Rattle.cweb_store.specs.Calls.{Stored}
-use Rattle.cweb_out.specs.declared.frame.Frame.{Frame}
+use Rattle.cweb_out.specs.declared.expander.frame.Frame.{Frame}
 use Rattle.cweb_out.specs.Outputs.{defs_first}
 use Rattle.cweb_out.specs.Frames.{suffix, IsRun, IsWithin, run_tokens, runs_tokens}
 

@@ -6,7 +6,7 @@ use Rattle.std.proofs.lemmas.List.{length-set, take_more, take_more_set}
 use Rattle.cweb_store.specs.Parts.{Token}
 use Rattle.cweb_store.specs.Calls.{Stored}
 use Rattle.cweb_out.specs.Uses.{names, use_of}
-use Rattle.cweb_out.specs.declared.frame.Frame.{Frame}
+use Rattle.cweb_out.specs.declared.expander.frame.Frame.{Frame}
 use Rattle.cweb_out.specs.Frames.{suffix, left, work_of, AreBelow, IsWithin, Stands, Advances, rank, top_rank}
 use Rattle.cweb_out.proofs.Owners.{OnTop, OnTop-next, top_rank-push}
 use Rattle.cweb_out.proofs.Stack.{Top, Stands-pop, Stands-push, Top-next, advances, left-ended, work-ended}

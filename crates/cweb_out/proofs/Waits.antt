@@ -6,15 +6,15 @@ use Rattle.std.proofs.Math.ListN.{set}
 use Rattle.std.proofs.lemmas.Bool.Decides.{eqb_tells}
 use Rattle.std.proofs.lemmas.List.{get_or-set_same, get_or-set_other, length-set, get_or_past}
 use Rattle.std.proofs.lemmas.List.Sums.{sum_by-set}
-use Rattle.cweb_store.specs.declared.name.NameId.{NameId}
+use Rattle.cweb_store.specs.declared.names.NameId.{NameId}
 use Rattle.cweb_store.specs.Names.{is_id}
 use Rattle.cweb_store.specs.Calls.{Stored}
 use Rattle.cweb_out.specs.Uses.{names, joined}
 use Rattle.cweb_out.specs.Ranks.{has_rank}
 use Rattle.cweb_out.specs.Frames.{IsWithin, suffix}
-use Rattle.cweb_out.specs.declared.search.Mark.{Mark}
-use Rattle.cweb_out.specs.declared.search.Mark.TheVariants.{Unseen, Waits, Ranked}
-use Rattle.cweb_out.specs.declared.search.Waiting.{Waiting}
+use Rattle.cweb_out.specs.declared.planning.search.Mark.{Mark}
+use Rattle.cweb_out.specs.declared.planning.search.Mark.TheVariants.{Unseen, Waits, Ranked}
+use Rattle.cweb_out.specs.declared.planning.search.Waiting.{Waiting}
 use Rattle.cweb_out.specs.Search.{AreNew, Fits, Waited, mark_of, marks_left, path_of}
 use Rattle.cweb_out.proofs.Ranks.{either, on-front, on-last, or-left, or-right}
 use Rattle.cweb_out.proofs.Lookings.{looked-start}

@@ -3,9 +3,9 @@ use Rattle.std.specs.Prelude.{ℕ, ◌==◌, Bool, true, false, ◌&&◌, ◌||�
 use Rattle.cweb_store.specs.Parts.{Token, Word, Number, Literal, Verbatim, Punct, Blank, Newline, Join, Defs, Name, Head, Tail, Mark}
 use Rattle.cweb_out.specs.Spacing.{last_is, is_operator, is_one_of, is_wordlike, is_literal, is_number, is_comment, begins_with}
 use Rattle.cweb_out.specs.Printing.{Setting, stays_joined, is_layout, mark_line, macro_lines, plain_text, file_name}
-use Rattle.cweb_out.specs.declared.class.Class.{Class}
-use Rattle.cweb_out.specs.declared.class.Class.TheVariants as class
-use Rattle.cweb_out.specs.declared.left.Left.{Left}
+use Rattle.cweb_out.specs.declared.printer.class.Class.{Class}
+use Rattle.cweb_out.specs.declared.printer.class.Class.TheVariants as class
+use Rattle.cweb_out.specs.declared.printer.left.Left.{Left}
 
 -- the class of a punctuator by two tests of its last byte: it is a point, it is an operator byte
 abbrev pub class_by : Bool → Bool → Class

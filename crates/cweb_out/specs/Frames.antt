@@ -1,16 +1,16 @@
 -- What a stack of frames still has to give.
 use Rattle.std.specs.Prelude.{ℕ, ◌≤◌, ◌<◌, ◌≡◌, ◌+◌, ◌-◌, suc, zero, List, [], ◌∷◌, ◌++◌, true, All, Option, Some, None, length, slice_range, sum_by}
 use Rattle.std.specs.List.{list_all}
-use Rattle.cweb_store.specs.declared.name.NameId.{NameId}
-use Rattle.cweb_store.specs.declared.name.NameRef.{NameRef}
-use Rattle.cweb_store.specs.declared.part.Part.{Part}
+use Rattle.cweb_store.specs.declared.names.NameId.{NameId}
+use Rattle.cweb_store.specs.declared.names.NameRef.{NameRef}
+use Rattle.cweb_store.specs.declared.parts.Part.{Part}
 use Rattle.cweb_store.specs.Parts.{Token, Name, all_tokens, tokens_at}
 use Rattle.cweb_store.specs.Calls.{Stored}
 use Rattle.cweb_out.specs.Uses.{names, joined, uses, use_of, stands}
 use Rattle.cweb_out.specs.Ranks.{ends_below, list_ends, name_rank}
 use Rattle.cweb_out.specs.Expansion.{expand, name_text, put}
 use Rattle.cweb_out.specs.Outputs.{defs_first, root_list}
-use Rattle.cweb_out.specs.declared.frame.Frame.{Frame}
+use Rattle.cweb_out.specs.declared.expander.frame.Frame.{Frame}
 
 -- the tokens of a run of numbers
 abbrev pub run_tokens : Stored → Part → List Token

@@ -1,16 +1,16 @@
 -- What the calls that make a plan answer.
 use Rattle.std.specs.Prelude.{◌≡◌, ℕ, Bool, true, false, not, ◌&&◌, List, [], ◌∷◌, map, find, Option, Some, None, Result, Ok, Err, option_map}
 use Rattle.std.specs.List.{list_all, after_last}
-use Rattle.cweb_store.specs.declared.name.NameId.{NameId}
-use Rattle.cweb_store.specs.declared.part.Part.{Part}
+use Rattle.cweb_store.specs.declared.names.NameId.{NameId}
+use Rattle.cweb_store.specs.declared.parts.Part.{Part}
 use Rattle.cweb_store.specs.Calls.{Stored}
 use Rattle.cweb_out.specs.Cycles.{cycle_from}
 use Rattle.cweb_out.specs.Ranks.{list_ends}
 use Rattle.cweb_out.specs.Outputs.{Planned, Refusal, bad_name, same_name, cycle, is_control, is_good_name, is_slash, names_no_file, output_name, output_of, root_list, start_of}
 use Rattle.cweb_out.specs.Plans.{output_in}
-use Rattle.cweb_out.specs.declared.planned.Output.{Output}
-use Rattle.cweb_out.specs.declared.plan_fault.PlanFault.{PlanFault}
-use Rattle.cweb_out.specs.declared.plan_fault.PlanFault.TheVariants as fault
+use Rattle.cweb_out.specs.declared.planning.planned.Output.{Output}
+use Rattle.cweb_out.specs.declared.planning.fault.PlanFault.{PlanFault}
+use Rattle.cweb_out.specs.declared.planning.fault.PlanFault.TheVariants as fault
 
 -- a fault is the refusal that is due; want of memory may come at any point
 abbrev pub IsDue : {A : Type 0} → Result A Refusal → PlanFault → Type 0

@@ -2,7 +2,7 @@
 use Rattle.std.specs.Prelude.{Bool, List, map, string_bytes}
 use Rattle.cweb_out.specs.Outputs as spec
 use Rattle.cweb_out.specs.Outputs.{Planned}
-use Rattle.cweb_out.specs.declared.planned.Output.{Output}
+use Rattle.cweb_out.specs.declared.planning.planned.Output.{Output}
 
 abbrev pub output_in : Output → spec.Output
 output_in output = record { name = string_bytes output.name; root = output.root }

@@ -5,7 +5,7 @@ use Rattle.cweb_store.specs.Parts.{Token}
 use Rattle.cweb_out.specs.Printing.{Setting, print, file}
 use Rattle.cweb_out.specs.Classes.{leaves}
 use Rattle.cweb_out.specs.Printers.{setting}
-use Rattle.cweb_out.specs.declared.left.Left.{Left}
+use Rattle.cweb_out.specs.declared.printer.left.Left.{Left}
 use Rattle.cweb_out.specs.declared.printer.Printer.{Printer}
 
 -- what a printer reads, and what it keeps of the tokens that were printed

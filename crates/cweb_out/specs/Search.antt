@@ -1,7 +1,7 @@
 -- The search for a cycle: names that wait until each name that they use has a rank.
 use Rattle.std.specs.Prelude.{◌≡◌, ◌<◌, ℕ, Bool, true, false, List, [], ◌∷◌, ◌++◌, Option, Some, None, map, length, drop, option_to_list, slice_index_or, sum_by, if◌then◌else◌}
 use Rattle.std.specs.List.{list_all, list_any, position_or_len}
-use Rattle.cweb_store.specs.declared.name.NameId.{NameId}
+use Rattle.cweb_store.specs.declared.names.NameId.{NameId}
 use Rattle.cweb_store.specs.Names.{is_id}
 use Rattle.cweb_store.specs.Parts.{Token}
 use Rattle.cweb_store.specs.Calls.{Stored}
@@ -10,10 +10,10 @@ use Rattle.cweb_out.specs.Ranks.{ends_below, has_rank, list_ends}
 use Rattle.cweb_out.specs.Cycles.{cycle_from}
 use Rattle.cweb_out.specs.Frames.{IsWithin, suffix}
 use Rattle.cweb_out.specs.Outputs.{root_list, start_of}
-use Rattle.cweb_out.specs.declared.frame.Frame.{Frame}
-use Rattle.cweb_out.specs.declared.search.Mark.{Mark}
-use Rattle.cweb_out.specs.declared.search.Mark.TheVariants.{Unseen, Waits, Ranked}
-use Rattle.cweb_out.specs.declared.search.Waiting.{Waiting}
+use Rattle.cweb_out.specs.declared.expander.frame.Frame.{Frame}
+use Rattle.cweb_out.specs.declared.planning.search.Mark.{Mark}
+use Rattle.cweb_out.specs.declared.planning.search.Mark.TheVariants.{Unseen, Waits, Ranked}
+use Rattle.cweb_out.specs.declared.planning.search.Waiting.{Waiting}
 
 -- how a name is marked
 abbrev pub mark_of : List Mark → NameId → Mark

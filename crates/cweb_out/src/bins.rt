@@ -4,6 +4,8 @@ ghost use Rattle.cweb_files.specs.Device.{Counts};
 ghost use Rattle.cweb_files.specs.Files.{committed, with_draft, without_draft};
 ghost use Rattle.cweb_out.specs.Bins.{CountsDevice, refusing};
 
+pub mod memory;
+
 use cweb_files::Sink;
 use thiserror::Error;
 

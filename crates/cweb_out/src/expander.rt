@@ -7,8 +7,10 @@ ghost use Rattle.cweb_out.specs.Expansion.{expand};
 ghost use Rattle.cweb_out.specs.Outputs.{IsPlanOf, root_at, root_list};
 ghost use Rattle.cweb_out.specs.Frames.{Advances, AreBelow, Enters, Gives, Stands, UsesLower, left, level};
 
-use crate::frame::Frame;
-use crate::planned::Plan;
+pub mod frame;
+
+use crate::expander::frame::Frame;
+use crate::planning::planned::Plan;
 use crate::reserved::put;
 use cweb_store::{NameRef, Store, Token};
 use std::alloc::{AllocError, Global};

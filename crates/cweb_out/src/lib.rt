@@ -1,32 +1,29 @@
 //! The outputs of a web: which files there are, the text of each with all names replaced, and how it is printed.
 #![tactic(auto)]
 
-mod bins;
-mod class;
-mod expander;
-mod file_name;
-mod frame;
-pub mod laws;
-mod left;
-mod lent;
-mod macros;
-mod mark;
-mod memory;
-mod output_list;
-mod pieces;
-mod plan_fault;
-mod planned;
+// which outputs there are
 mod planning;
-mod printer;
-mod reserved;
-mod search;
-mod text;
 
+// the tokens of an output, its names replaced
+mod expander;
+
+// how tokens are printed
+mod printer;
+
+// where files are kept
+mod bins;
+
+// adding where room was set aside
+mod reserved;
+
+// what holds whatever the web is
+pub mod laws;
+
+pub use bins::memory::{BinFile, MemoryBins};
 pub use bins::{BinFault, Bins};
 pub use expander::Expander;
-pub use frame::Frame;
-pub use memory::{BinFile, MemoryBins};
-pub use plan_fault::PlanFault;
-pub use planned::Plan;
+pub use expander::frame::Frame;
+pub use planning::fault::PlanFault;
 pub use planning::plan;
+pub use planning::planned::Plan;
 pub use printer::Printer;

@@ -7,11 +7,17 @@ ghost use Rattle.cweb_store.specs.Parts as parts;
 ghost use Rattle.cweb_out.specs.Outputs.{IsRoot, has_no_text, name_at, output_name, outputs, planned};
 ghost use Rattle.cweb_out.specs.Planning.{Answers, NamesAll, NamesOne, has_one};
 
-use crate::file_name::is_good_path;
-use crate::output_list::roots;
-use crate::plan_fault::PlanFault;
-use crate::planned::{Output, Plan};
-use crate::search::first_cycle;
+pub mod fault;
+pub mod file_name;
+pub mod output_list;
+pub mod planned;
+pub mod search;
+
+use crate::planning::fault::PlanFault;
+use crate::planning::file_name::is_good_path;
+use crate::planning::output_list::roots;
+use crate::planning::planned::{Output, Plan};
+use crate::planning::search::first_cycle;
 use cweb_store::{NameId, Parts, Store};
 use std::alloc::{AllocError, Global};
 

@@ -8,13 +8,21 @@ ghost use Rattle.cweb_out.specs.Printers.{IsNamed, setting};
 ghost use Rattle.cweb_out.specs.Printed.{Ends, Moves, Prints, kept_of, setting_of};
 ghost use Rattle.cweb_out.specs.Writing.{Wrote};
 
-use crate::class::Class;
-use crate::left::Left;
-use crate::lent::Lent;
-use crate::macros::write_macros;
-use crate::mark::write_mark;
-use crate::pieces::write_piece;
-use crate::text::write_plain;
+pub mod class;
+pub mod left;
+pub mod lent;
+pub mod macros;
+pub mod mark;
+pub mod pieces;
+pub mod text;
+
+use crate::printer::class::Class;
+use crate::printer::left::Left;
+use crate::printer::lent::Lent;
+use crate::printer::macros::write_macros;
+use crate::printer::mark::write_mark;
+use crate::printer::pieces::write_piece;
+use crate::printer::text::write_plain;
 use cweb_files::{Sink, SinkFault};
 use cweb_lines::FileNames;
 use cweb_store::{Store, Token};

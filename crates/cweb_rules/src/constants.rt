@@ -1,7 +1,7 @@
 // `@'` and `@l`: a character's code, and a letter with its replacement.
 ghost use Rattle.std.specs.Prelude.{◌≡◌, ◌≤◌, ◌<◌, ◌+◌, length, IsTrue, IfSome, true};
 ghost use Rattle.std.specs.List.{position_or_len};
-ghost use Rattle.cweb_rules.specs.Bytes.{is_hex as is_hex_digit};
+ghost use Rattle.cweb_rules.specs.Bytes as bytes;
 ghost use Rattle.cweb_rules.specs.Constants as spec;
 
 use crate::bytes::{Class, begins, is_digit, is_hex, run_len};
@@ -169,7 +169,7 @@ pub fn constant(text: &[u8]) -> Valued
 
 // The value of a hexadecimal digit.
 fn hex_value(byte: u8) -> u8
-    requires { is_hex_digit byte ≡ true }
+    requires { bytes.is_hex byte ≡ true }
     ensures value { result ≡ spec.hex_value byte }
     ensures small { result < 16 }
 {

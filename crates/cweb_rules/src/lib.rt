@@ -2,21 +2,38 @@
 //! the rest of a text in each context. The CWEB manual, "Control codes"; its C text is that of the C standard.
 #![tactic(auto)]
 
-pub mod bytes;
-pub mod codes;
-pub mod constants;
+// the contexts of a text
 mod context;
+
+// classes of bytes, and signs
+pub mod bytes;
+
+// control codes, and what each does where it stands
+pub mod codes;
 mod effect;
-mod end;
-mod fault;
-pub mod items;
-pub mod laws;
+
+// the pieces of C text
+pub mod constants;
 pub mod literals;
-mod look;
 pub mod numbers;
-pub mod plains;
 pub mod punctuators;
+
+// what lasts to an end sign, by its units, and how it ends
+mod end;
+pub mod items;
+mod look;
+
+// runs of bytes that are no end of anything
+pub mod plains;
+
+// which of all these stands at the front
 pub mod rule;
+
+// what is wrong in a text
+mod fault;
+
+// what holds of every text
+pub mod laws;
 
 pub use context::Context;
 pub use effect::Effect;

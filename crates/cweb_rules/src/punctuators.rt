@@ -1,6 +1,7 @@
 // Punctuators of C text.
 ghost use Rattle.std.specs.Prelude.{◌≡◌, false, map};
-ghost use Rattle.cweb_rules.specs.Bytes.{begins as begins_with, is_one_of};
+ghost use Rattle.cweb_rules.specs.Bytes.{is_one_of};
+ghost use Rattle.cweb_rules.specs.Bytes as spec;
 ghost use Rattle.cweb_rules.specs.Tables.{listed, longest, seconds};
 ghost use Rattle.cweb_rules.specs.Signs.{first_len, second_is};
 
@@ -14,7 +15,7 @@ const LISTED: [&[u8]; 26] = [
 
 // Whether the first bytes of a sign and of a text leave it open that the text begins with the sign.
 fn begins_alike(sign: &[u8], text: &[u8]) -> bool
-    ensures { result ≡ false → begins_with sign.now text.now ≡ false }
+    ensures { result ≡ false → spec.begins sign.now text.now ≡ false }
 {
     match (sign, text) {
         ([first, ..], [other, ..]) => *first == *other,

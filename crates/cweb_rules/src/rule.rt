@@ -1,7 +1,7 @@
 // Which rule of C text fits first.
 ghost use Rattle.std.specs.Prelude.{◌≡◌, ◌<◌, length};
 ghost use Rattle.cweb_rules.specs.Fronts as spec;
-ghost use Rattle.cweb_rules.specs.Rules.{c_rule as first_rule, text_rule as rule_of_text};
+ghost use Rattle.cweb_rules.specs.Rules as rules;
 ghost use Rattle.cweb_rules.specs.Leads.{lead};
 
 use crate::bytes::{Class, begins, starts, starts_section};
@@ -78,7 +78,7 @@ fn lead_of(byte: u8) -> Lead
 /// are told by their first byte.
 #[inline(always)]
 pub fn c_rule(includes: bool, text: &[u8]) -> Rule
-    ensures { result ≡ first_rule includes text.now }
+    ensures { result ≡ rules.c_rule includes text.now }
 {
     let [first, ..] = text else {
         return tried_rule(includes, text);
@@ -94,7 +94,7 @@ pub fn c_rule(includes: bool, text: &[u8]) -> Rule
 // The first rule that fits, each tried in its turn.
 #[inline(never)]
 fn tried_rule(includes: bool, text: &[u8]) -> Rule
-    ensures { result ≡ first_rule includes text.now }
+    ensures { result ≡ rules.c_rule includes text.now }
 {
     if starts(Class::Blank, text) {
         Rule::Blanks
@@ -125,7 +125,7 @@ fn tried_rule(includes: bool, text: &[u8]) -> Rule
 
 /// The rule of limbo and text that fits at a text's front.
 pub fn text_rule(text: &[u8]) -> TextRule
-    ensures { result ≡ rule_of_text text.now }
+    ensures { result ≡ rules.text_rule text.now }
 {
     if starts_section(text) {
         TextRule::Section

@@ -18,10 +18,10 @@ use Rattle.cweb_scan.specs.Resume as item
 use Rattle.cweb_scan.specs.Room.{weight}
 use Rattle.cweb_scan.specs.Run.{run}
 use Rattle.cweb_scan.specs.State.{State, moved}
-use Rattle.cweb_scan.specs.declared.open.Open.{Open}
-use Rattle.cweb_scan.specs.declared.open.Open.TheVariants.{Between, Comment, Name, Literal, AfterBackslash, Raw}
-use Rattle.cweb_scan.specs.declared.open.Quote.{Quote}
-use Rattle.cweb_scan.specs.declared.open.Quote.TheVariants.{Single, Double}
+use Rattle.cweb_scan.specs.declared.reader.open.Open.{Open}
+use Rattle.cweb_scan.specs.declared.reader.open.Open.TheVariants.{Between, Comment, Name, Literal, AfterBackslash, Raw}
+use Rattle.cweb_scan.specs.declared.reader.open.Quote.{Quote}
+use Rattle.cweb_scan.specs.declared.reader.open.Quote.TheVariants.{Single, Double}
 use Rattle.cweb_scan.proofs.LineEnds.{between_goes_on, comment_goes_on, name_goes_on, literal_goes_on, raw_goes_on}
 use Rattle.cweb_scan.proofs.OpenItems.{literal_cut}
 use Rattle.cweb_scan.proofs.Taken.{first_taken, next_taken}

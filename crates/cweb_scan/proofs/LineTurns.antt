@@ -9,8 +9,8 @@ use Rattle.cweb_scan.specs.Opened.{item_of}
 use Rattle.cweb_scan.specs.Resume.{Item}
 use Rattle.cweb_scan.specs.Resume as item
 use Rattle.cweb_scan.specs.Turned.{Passes, TakesTurn, to_do}
-use Rattle.cweb_scan.specs.declared.open.Open.{Open}
-use Rattle.cweb_scan.specs.declared.open.Open.TheVariants.{Between, Comment, Name, Literal, AfterBackslash, Raw}
+use Rattle.cweb_scan.specs.declared.reader.open.Open.{Open}
+use Rattle.cweb_scan.specs.declared.reader.open.Open.TheVariants.{Between, Comment, Name, Literal, AfterBackslash, Raw}
 use Rattle.cweb_scan.proofs.Rests.{drop_more, takes_all, takes_both, takes_none}
 
 -- ONE TURN

@@ -13,8 +13,8 @@ use Rattle.cweb_scan.specs.Kept.{has_part}
 use Rattle.cweb_scan.specs.OpenRest.{text_of, with_text, delimiter_of, literal_turn, look_size, TakesOpen}
 use Rattle.cweb_scan.specs.Opened.{item_of, is_raw, IsSigned}
 use Rattle.cweb_scan.specs.Resume.{Item, Between, InComment, InName, InLiteral, AfterBackslash, InRaw, sign_of}
-use Rattle.cweb_scan.specs.declared.open.Open.{Open}
-use Rattle.cweb_scan.specs.declared.open.Open.TheVariants as code
+use Rattle.cweb_scan.specs.declared.reader.open.Open.{Open}
+use Rattle.cweb_scan.specs.declared.reader.open.Open.TheVariants as code
 use Rattle.cweb_scan.proofs.Opens.{opened}
 
 pub open_at : (n : ℕ) (u : List ℕ) (h v : Held) → v ≡ h → (i : Item) → h.item ≡ i → (new made : Held) → new ≡ made → TakesOpen n u (opened v.state v.begun i) made → TakesOpen n u h new

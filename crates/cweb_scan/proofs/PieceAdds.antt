@@ -3,7 +3,7 @@ use Rattle.std.proofs.Common.{◌≡◌, ◌≤◌, ℕ, zero, suc, ◌+◌, ◌
 use Rattle.std.specs.Prelude.{if◌then◌else◌, codes, bytes_eq, fold}
 use Rattle.std.specs.Fmt.{decimal}
 use Rattle.cweb_files.specs.declared.place.Place.{Place}
-use Rattle.cweb_store.specs.declared.name.NameRef.{NameRef}
+use Rattle.cweb_store.specs.declared.names.NameRef.{NameRef}
 use Rattle.cweb_store.specs.Parts.{Word, Number}
 use Rattle.cweb_rules.specs.declared.fault.ScanKind.TheVariants.{ReplacementTooLong, DoubleAtInString, FaultyConstant}
 use Rattle.cweb_rules.specs.Bytes.{is_white, is_line_end}

@@ -1,7 +1,7 @@
 -- Control codes in each context, computed on small webs.
 use Rattle.std.proofs.Common.{◌≡◌, [], ◌∷◌, refl}
 use Rattle.std.specs.Prelude.{codes}
-use Rattle.cweb_store.specs.declared.part.PartKind.TheVariants.{Unnamed, Macro}
+use Rattle.cweb_store.specs.declared.parts.PartKind.TheVariants.{Unnamed, Macro}
 use Rattle.cweb_store.specs.Parts.{Word, Punct, Blank, Newline, Defs, Head, Tail, Mark}
 use Rattle.cweb_rules.specs.declared.fault.ScanKind.TheVariants.{DoubleAtInLimbo, ImproperHexNumber, ReplacementTooLong, LetterOutsideLimbo, ControlTextDidNotEnd, IgnoredInCText}
 use Rattle.cweb_scan.specs.Run.{scanned}

@@ -1,8 +1,8 @@
 -- Webs with faults, computed.
 use Rattle.std.proofs.Common.{◌≡◌, [], ◌∷◌, refl, false}
 use Rattle.std.specs.Prelude.{codes}
-use Rattle.cweb_store.specs.declared.name.How.TheVariants.{Full}
-use Rattle.cweb_store.specs.declared.part.PartKind.TheVariants.{Unnamed, Macro}
+use Rattle.cweb_store.specs.declared.names.How.TheVariants.{Full}
+use Rattle.cweb_store.specs.declared.parts.PartKind.TheVariants.{Unnamed, Macro}
 use Rattle.cweb_store.specs.Parts.{Word, Literal, Punct, Newline, Name, Head, Tail, Mark}
 use Rattle.cweb_rules.specs.declared.fault.ScanKind.TheVariants.{DoubleAtInLimbo, ImproperHexNumber, ReplacementTooLong, LetterOutsideLimbo, NameDidNotEnd, NamesDoNotNest, CommentDidNotEnd, DoubleAtInString, ControlTextDidNotEnd, FaultyConstant, IgnoredInCText, MissingAt, DefsInMacro, DefinitionDropped}
 use Rattle.cweb_scan.specs.Run.{scanned}

@@ -2,7 +2,7 @@
 use Rattle.std.proofs.Common.{◌≡◌, [], ◌∷◌, refl}
 use Rattle.std.specs.Prelude.{codes}
 use Rattle.std.specs.Fmt.{digits}
-use Rattle.cweb_store.specs.declared.part.PartKind.TheVariants.{Unnamed}
+use Rattle.cweb_store.specs.declared.parts.PartKind.TheVariants.{Unnamed}
 use Rattle.cweb_store.specs.Parts.{Word, Number, Literal, Verbatim, Punct, Blank, Newline, Head, Tail, Mark}
 use Rattle.cweb_rules.specs.declared.fault.ScanKind.TheVariants.{CommentDidNotEnd, StringDidNotEnd, DoubleAtInString, ControlTextDidNotEnd, FaultyConstant, IgnoredInCText}
 use Rattle.cweb_scan.specs.Run.{scanned}

@@ -2,8 +2,8 @@
 use Rattle.std.proofs.Common.{◌≡◌, [], ◌∷◌, refl, false}
 use Rattle.std.specs.Prelude.{codes}
 use Rattle.std.specs.Fmt.{digits}
-use Rattle.cweb_store.specs.declared.name.How.TheVariants.{Full}
-use Rattle.cweb_store.specs.declared.part.PartKind.TheVariants.{Unnamed, Named, Macro}
+use Rattle.cweb_store.specs.declared.names.How.TheVariants.{Full}
+use Rattle.cweb_store.specs.declared.parts.PartKind.TheVariants.{Unnamed, Named, Macro}
 use Rattle.cweb_store.specs.Parts.{Word, Number, Verbatim, Punct, Blank, Newline, Join, Head, Tail, Mark}
 use Rattle.cweb_rules.specs.declared.fault.ScanKind.TheVariants.{LetterOutsideLimbo, CommentDidNotEnd, DefsInMacro, DefinitionDropped}
 use Rattle.cweb_scan.specs.Run.{scanned}

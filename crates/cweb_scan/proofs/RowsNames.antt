@@ -1,8 +1,8 @@
 -- Names of sections, computed on small webs.
 use Rattle.std.proofs.Common.{◌≡◌, [], ◌∷◌, refl, true, false}
 use Rattle.std.specs.Prelude.{codes}
-use Rattle.cweb_store.specs.declared.name.How.TheVariants.{Full, Prefix}
-use Rattle.cweb_store.specs.declared.part.PartKind.TheVariants.{Unnamed, Named}
+use Rattle.cweb_store.specs.declared.names.How.TheVariants.{Full, Prefix}
+use Rattle.cweb_store.specs.declared.parts.PartKind.TheVariants.{Unnamed, Named}
 use Rattle.cweb_store.specs.Parts.{Word, Punct, Newline, Name, Head, Tail, Mark}
 use Rattle.cweb_rules.specs.declared.fault.ScanKind.TheVariants.{NameDidNotEnd, NamesDoNotNest, MissingAt}
 use Rattle.cweb_scan.specs.Run.{scanned}

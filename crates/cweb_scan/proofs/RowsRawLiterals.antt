@@ -1,7 +1,7 @@
 -- Raw literals and long replacements, computed.
 use Rattle.std.proofs.Common.{◌≡◌, [], ◌∷◌, ◌++◌, refl}
 use Rattle.std.specs.Prelude.{codes}
-use Rattle.cweb_store.specs.declared.part.PartKind.TheVariants.{Unnamed, Macro}
+use Rattle.cweb_store.specs.declared.parts.PartKind.TheVariants.{Unnamed, Macro}
 use Rattle.cweb_store.specs.Parts.{Word, Number, Literal, Punct, Blank, Newline, Join, Head, Tail, Mark}
 use Rattle.cweb_rules.specs.declared.fault.ScanKind.TheVariants.{ReplacementTooLong, StringDidNotEnd, DoubleAtInString, DefinitionDropped}
 use Rattle.cweb_scan.specs.Run.{scanned}

@@ -17,8 +17,8 @@ use Rattle.cweb_scan.specs.OpenRest.{text_of, with_text, with_run, TakesOpen}
 use Rattle.cweb_scan.specs.Opened.{item_of}
 use Rattle.cweb_scan.specs.Resume.{Item, InName, InLiteral, InRaw, sign_of}
 use Rattle.cweb_scan.specs.State.{State, fault}
-use Rattle.cweb_scan.specs.declared.open.Open.{Open}
-use Rattle.cweb_scan.specs.declared.open.Open.TheVariants as code
+use Rattle.cweb_scan.specs.declared.reader.open.Open.{Open}
+use Rattle.cweb_scan.specs.declared.reader.open.Open.TheVariants as code
 use Rattle.cweb_scan.proofs.OpenItems.{append-nil'}
 use Rattle.cweb_scan.proofs.OpenReaders.{open_at}
 use Rattle.cweb_scan.proofs.OpenRests.{name_goes, literal_takes, raw_takes}

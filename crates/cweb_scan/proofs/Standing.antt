@@ -8,7 +8,7 @@ use Rattle.std.proofs.lemmas.List.Elements.{All-head, All-tail}
 use Rattle.cweb_files.specs.declared.place.Place.{Place}
 use Rattle.cweb_lines.specs.Lines.{Line, HasNoNewline}
 use Rattle.cweb_store.specs.Parts.{Word, Number, Blank}
-use Rattle.cweb_store.specs.declared.name.NameRef.{NameRef}
+use Rattle.cweb_store.specs.declared.names.NameRef.{NameRef}
 use Rattle.cweb_rules.specs.Bytes.{is_line_end}
 use Rattle.cweb_rules.specs.Items.{text_in}
 use Rattle.cweb_rules.specs.Kinds.{Kind, Piece}

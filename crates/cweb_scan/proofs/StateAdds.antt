@@ -2,9 +2,9 @@
 use Rattle.std.proofs.Common.{◌≡◌, ◌≤◌, ℕ, ◌+◌, Bool, true, false, ◌||◌, ◌&&◌, not, List, [], ◌∷◌, Some, length, refl, arith}
 use Rattle.std.specs.Prelude.{if◌then◌else◌, codes}
 use Rattle.cweb_files.specs.declared.place.Place.{Place}
-use Rattle.cweb_store.specs.declared.name.NameRef.{NameRef}
-use Rattle.cweb_store.specs.declared.part.PartKind.{PartKind}
-use Rattle.cweb_store.specs.declared.part.PartKind.TheVariants as part
+use Rattle.cweb_store.specs.declared.names.NameRef.{NameRef}
+use Rattle.cweb_store.specs.declared.parts.PartKind.{PartKind}
+use Rattle.cweb_store.specs.declared.parts.PartKind.TheVariants as part
 use Rattle.cweb_store.specs.Names.{Occurrence}
 use Rattle.cweb_store.specs.Parts.{Token, Word, Literal, Verbatim, Punct, Blank, Newline, Join, Defs, Name, Head, Tail, Mark}
 use Rattle.cweb_store.specs.Calls.{with_open, with_dropped, with_occurrence}

@@ -4,9 +4,9 @@ use Rattle.std.specs.Prelude.{if◌then◌else◌, codes, All}
 use Rattle.std.specs.Fmt.{decimal}
 use Rattle.std.proofs.lemmas.List.Elements.{All-push}
 use Rattle.cweb_files.specs.declared.place.Place.{Place}
-use Rattle.cweb_store.specs.declared.name.NameRef.{NameRef}
-use Rattle.cweb_store.specs.declared.part.PartKind.{PartKind}
-use Rattle.cweb_store.specs.declared.part.PartKind.TheVariants as part
+use Rattle.cweb_store.specs.declared.names.NameRef.{NameRef}
+use Rattle.cweb_store.specs.declared.parts.PartKind.{PartKind}
+use Rattle.cweb_store.specs.declared.parts.PartKind.TheVariants as part
 use Rattle.cweb_store.specs.Parts.{Token, Word, Number, Literal, Verbatim, Punct, Blank, Newline, Join, Defs, Name, Head, Tail, Mark}
 use Rattle.cweb_store.specs.Calls.{with_open, with_dropped}
 use Rattle.cweb_rules.specs.declared.context.Context.{Context}

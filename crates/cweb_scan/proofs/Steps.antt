@@ -5,10 +5,10 @@ use Rattle.std.proofs.lemmas.Bool.Decides.{nat_tests}
 use Rattle.std.proofs.lemmas.List.Sums.{fold-append}
 use Rattle.cweb_store.specs.Parts.{Token, Word, Number, Literal, Verbatim, Punct, Blank, Newline, Join, Defs, Name, Head, Tail, Mark, Part}
 use Rattle.cweb_store.specs.Growing.{longer}
-use Rattle.cweb_scan.specs.declared.directive.Last.TheVariants as last
-use Rattle.cweb_scan.specs.declared.directive.Stage.{Stage}
-use Rattle.cweb_scan.specs.declared.directive.Stage.TheVariants.{Outside, Bare, Include, Further}
-use Rattle.cweb_scan.specs.declared.directive.Directive.{Directive}
+use Rattle.cweb_scan.specs.declared.scanner.directive.Last.TheVariants as last
+use Rattle.cweb_scan.specs.declared.scanner.directive.Stage.{Stage}
+use Rattle.cweb_scan.specs.declared.scanner.directive.Stage.TheVariants.{Outside, Bare, Include, Further}
+use Rattle.cweb_scan.specs.declared.scanner.directive.Directive.{Directive}
 use Rattle.cweb_rules.specs.declared.context.Context.{Context}
 use Rattle.cweb_scan.specs.Directives as spec
 use Rattle.cweb_scan.specs.Directives.{is_bare, is_include, is_punct, is_some, some_include, ends_line, directive_tokens, with_next, directive_of}
@@ -16,7 +16,7 @@ use Rattle.cweb_scan.specs.Directives.{goes_over}
 use Rattle.cweb_scan.specs.Kept as kept
 use Rattle.cweb_scan.specs.Kept.{last_of, last_seen, stage_of, seen_directive, is_line_end, is_backslash, is_blank_kept, is_outside, is_bare_stage, is_include_stage, further, next_stage, step, outside, after_tokens, has_part, IsTied}
 use Rattle.cweb_rules.specs.declared.context.Context.TheVariants.{Limbo, TeX, Definition, Macro, CText}
-use Rattle.cweb_store.specs.declared.part.PartKind.{PartKind}
+use Rattle.cweb_store.specs.declared.parts.PartKind.{PartKind}
 use Rattle.cweb_store.specs.Parts.{is_macro}
 use Rattle.cweb_store.specs.Layout.{is_layout, before_last, without_last, without_layout}
 

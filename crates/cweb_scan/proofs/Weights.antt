@@ -3,9 +3,9 @@ use Rattle.std.proofs.Common.{◌≡◌, ◌≤◌, ℕ, ◌+◌, ◌*◌, Bool,
 use Rattle.std.specs.Prelude.{if◌then◌else◌, codes, bytes_eq, fold, option_map, option_to_list}
 use Rattle.std.specs.Fmt.{decimal}
 use Rattle.cweb_files.specs.declared.place.Place.{Place}
-use Rattle.cweb_store.specs.declared.name.NameRef.{NameRef}
-use Rattle.cweb_store.specs.declared.part.PartKind.{PartKind}
-use Rattle.cweb_store.specs.declared.part.PartKind.TheVariants as part
+use Rattle.cweb_store.specs.declared.names.NameRef.{NameRef}
+use Rattle.cweb_store.specs.declared.parts.PartKind.{PartKind}
+use Rattle.cweb_store.specs.declared.parts.PartKind.TheVariants as part
 use Rattle.cweb_store.specs.Parts.{Token, Part, all_tokens, Word, Number, Literal, Verbatim, Punct, Blank, Newline, Join, Defs, Name, Head, Tail, Mark}
 use Rattle.cweb_store.specs.Growing.{PartsSoFar, opened, pushed, longer, token_count, part_count}
 use Rattle.cweb_store.specs.Calls.{with_open, with_dropped, with_occurrence}

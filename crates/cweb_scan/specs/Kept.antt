@@ -1,11 +1,11 @@
 -- What the code keeps of a directive, and how it is tied to the tokens.
 use Rattle.std.specs.Prelude.{◌≡◌, Bool, true, false, ◌&&◌, not, List, Option, Some, None, codes, if◌then◌else◌, bytes_eq}
 use Rattle.cweb_store.specs.Parts.{Token, Word, Punct, Blank, Newline, Mark, Part}
-use Rattle.cweb_scan.specs.declared.directive.Last.{Last}
-use Rattle.cweb_scan.specs.declared.directive.Last.TheVariants as last
-use Rattle.cweb_scan.specs.declared.directive.Stage.{Stage}
-use Rattle.cweb_scan.specs.declared.directive.Stage.TheVariants.{Outside, Bare, Include, Further}
-use Rattle.cweb_scan.specs.declared.directive.Directive.{Directive}
+use Rattle.cweb_scan.specs.declared.scanner.directive.Last.{Last}
+use Rattle.cweb_scan.specs.declared.scanner.directive.Last.TheVariants as last
+use Rattle.cweb_scan.specs.declared.scanner.directive.Stage.{Stage}
+use Rattle.cweb_scan.specs.declared.scanner.directive.Stage.TheVariants.{Outside, Bare, Include, Further}
+use Rattle.cweb_scan.specs.declared.scanner.directive.Directive.{Directive}
 use Rattle.cweb_rules.specs.declared.context.Context.{Context}
 use Rattle.cweb_rules.specs.declared.context.Context.TheVariants.{Limbo, TeX, Definition, Macro, CText}
 use Rattle.cweb_store.specs.Parts.{is_macro}

@@ -8,7 +8,7 @@ use Rattle.cweb_scan.specs.After.{literal}
 use Rattle.cweb_scan.specs.Fronted.{unit_state}
 use Rattle.cweb_scan.specs.Held.{Held, Takes}
 use Rattle.cweb_scan.specs.Quotes.{quote_byte}
-use Rattle.cweb_scan.specs.declared.open.Quote.{Quote}
+use Rattle.cweb_scan.specs.declared.reader.open.Quote.{Quote}
 use Rattle.cweb_scan.specs.Resume.{Item, Between, InComment, InName, InLiteral, AfterBackslash, InRaw}
 
 -- an item's text so far; a comment has none

@@ -6,8 +6,8 @@ use Rattle.cweb_rules.specs.declared.context.Context.{Context}
 use Rattle.cweb_scan.specs.Kept.{has_part}
 use Rattle.cweb_scan.specs.Resume.{Item, sign_of}
 use Rattle.cweb_scan.specs.Resume as item
-use Rattle.cweb_scan.specs.declared.open.Open.{Open}
-use Rattle.cweb_scan.specs.declared.open.Open.TheVariants.{Between, Comment, Name, Literal, AfterBackslash, Raw}
+use Rattle.cweb_scan.specs.declared.reader.open.Open.{Open}
+use Rattle.cweb_scan.specs.declared.reader.open.Open.TheVariants.{Between, Comment, Name, Literal, AfterBackslash, Raw}
 use Rattle.cweb_scan.specs.Quotes.{quote_byte}
 
 abbrev pub item_of : Open → List ℕ → List ℕ → Item

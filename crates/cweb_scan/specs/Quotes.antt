@@ -1,7 +1,7 @@
 -- The bytes of quotes.
 use Rattle.std.specs.Prelude.{ℕ}
-use Rattle.cweb_scan.specs.declared.open.Quote.{Quote}
-use Rattle.cweb_scan.specs.declared.open.Quote.TheVariants.{Single, Double}
+use Rattle.cweb_scan.specs.declared.reader.open.Quote.{Quote}
+use Rattle.cweb_scan.specs.declared.reader.open.Quote.TheVariants.{Single, Double}
 
 abbrev pub quote_byte : Quote → ℕ
 quote_byte Single = 39

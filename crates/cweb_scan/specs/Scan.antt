@@ -11,7 +11,7 @@ use Rattle.cweb_store.specs.Parts.{Token, Mark, all_tokens}
 use Rattle.cweb_scan.specs.Held.{Held, read_after}
 use Rattle.cweb_scan.specs.Law.{IsBounded, web_size}
 use Rattle.cweb_scan.specs.Run.{Scanned, read, scanned}
-use Rattle.cweb_scan.specs.declared.scanned.Scanned as code
+use Rattle.cweb_scan.specs.declared.scanning.scanned.Scanned as code
 
 -- what the result of a scan stands for
 abbrev pub seen : code.Scanned → Scanned

@@ -2,28 +2,18 @@
 //! The CWEB manual, "Control codes".
 #![tactic(auto)]
 
-mod codes;
-mod directive;
-mod given;
-pub mod laws;
-mod line;
-mod line_ends;
-mod names;
-mod occurrences;
-mod open;
-mod open_rest;
-mod opened;
-mod parts;
-mod reader;
-mod reading;
-mod ruled;
-mod scanned;
+// what was made of the text so far, and the steps
 mod scanner;
+
+// the lines, and the item that is open
+mod reader;
+
+// the scan of all lines
 mod scanning;
-mod taking;
-mod turn;
-mod units;
+
+// what holds of every text
+pub mod laws;
 
 pub use cweb_rules::{ScanFault, ScanKind};
-pub use scanned::Scanned;
 pub use scanning::scan;
+pub use scanning::scanned::Scanned;

@@ -1,7 +1,18 @@
 // The reader: the scanner with the item that is open.
 ghost use Rattle.std.specs.Prelude.{◌≡◌, ◌<◌, ◌≤◌, ◌+◌, ◌*◌, ◌∷◌, List, IfOk, OnOk, length};
 
-use crate::open::Open;
+pub mod codes;
+pub mod front;
+pub mod line;
+pub mod lines;
+pub mod open;
+pub mod opened;
+pub mod opening;
+pub mod rest;
+pub mod rule;
+pub mod units;
+
+use crate::reader::open::Open;
 use crate::scanner::Scanner;
 use cweb_files::{FileId, Place};
 use std::alloc::{AllocError, Global};

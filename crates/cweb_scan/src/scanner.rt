@@ -1,9 +1,16 @@
 // What is made of the text so far, and the steps that serve many rules.
 ghost use Rattle.std.specs.Prelude.{◌≡◌, ◌<◌, ◌+◌, OnOk, OnErr, true, if◌then◌else◌};
-ghost use Rattle.cweb_store.specs.Layout.{is_layout as layout};
+ghost use Rattle.cweb_store.specs.Layout as layout;
 ghost use Rattle.cweb_store.specs.Seen.{seen};
 
-use crate::directive::{Directive, Last, Stage};
+pub mod directive;
+pub mod given;
+pub mod line_ends;
+pub mod names;
+pub mod sections;
+pub mod spelling;
+
+use crate::scanner::directive::{Directive, Last, Stage};
 use cweb_files::Place;
 use cweb_rules::{Context, ScanFault, ScanKind};
 use cweb_store::{Builder, Token};
@@ -39,14 +46,14 @@ impl Model for Scanner {
 }
 
 fn is_layout(token: Token<'_>) -> bool
-    ensures { result ≡ layout (seen token.entry) }
+    ensures { result ≡ layout.is_layout (seen token.entry) }
 {
     matches!(token, Token::Blank | Token::Newline | Token::Mark(_))
 }
 
 // The directive that is open once the layout that is last is dropped, after a token.
 fn solid_after(solid: Directive, next: Directive, token: Token<'_>) -> Directive
-    ensures { result ≡ (if layout (seen token.entry) then solid else next) }
+    ensures { result ≡ (if layout.is_layout (seen token.entry) then solid else next) }
 {
     if is_layout(token) { solid } else { next }
 }
@@ -54,10 +61,11 @@ fn solid_after(solid: Directive, next: Directive, token: Token<'_>) -> Directive
 impl Scanner {
     ghost use Rattle.cweb_store.specs.Calls.{too_many};
     ghost use Rattle.cweb_store.specs.Growing.{token_count};
-    ghost use Rattle.cweb_scan.specs.After.{blank as blank_given, punctuator as punctuator_given};
+    ghost use Rattle.cweb_scan.specs.After as after;
     ghost use Rattle.cweb_scan.specs.Directives.{in_directive, is_c, names_include};
     ghost use Rattle.cweb_scan.specs.Kept.{has_part};
-    ghost use Rattle.cweb_scan.specs.State.{before_text, fault_at, give as given, moved};
+    ghost use Rattle.cweb_scan.specs.State.{before_text, fault_at, moved};
+    ghost use Rattle.cweb_scan.specs.State as spec;
 
     /// Nothing was read; the text begins here.
     pub fn new(alloc: Global, here: Place) -> Scanner
@@ -105,7 +113,7 @@ impl Scanner {
     pub fn give(&mut self, token: Token<'_>) -> Result<(), AllocError>
         requires part { has_part self.old.context ≡ true }
         requires few { token_count self.old.contents.parts + 1 < too_many }
-        ensures ok { OnOk result (self.new ≡ given (seen token.entry) self.old) }
+        ensures ok { OnOk result (self.new ≡ spec.give (seen token.entry) self.old) }
         ensures err { OnErr result (self.new ≡ self.old) }
     {
         self.builder.push(token)?;
@@ -141,7 +149,7 @@ impl Scanner {
     /// Blanks and comments give one Blank in a directive.
     pub fn blank(&mut self) -> Result<(), AllocError>
         requires { token_count self.old.contents.parts + 1 < too_many }
-        ensures { OnOk result (self.new ≡ blank_given self.old) }
+        ensures { OnOk result (self.new ≡ after.blank self.old) }
     {
         if self.in_directive() && !matches!(self.directive.last, Last::Blank) {
             self.give(Token::Blank)?;
@@ -154,7 +162,7 @@ impl Scanner {
     pub fn punctuator(&mut self, bytes: &[u8]) -> Result<(), AllocError>
         requires part { has_part self.old.context ≡ true }
         requires few { token_count self.old.contents.parts + 1 < too_many }
-        ensures { OnOk result (self.new ≡ punctuator_given bytes.now self.old) }
+        ensures { OnOk result (self.new ≡ after.punctuator bytes.now self.old) }
     {
         let folded = self.in_directive() && self.folded;
         self.give(Token::Punct(bytes))?;

@@ -9,8 +9,10 @@ ghost use Rattle.cweb_scan.specs.Held.{cost, read_after};
 ghost use Rattle.cweb_scan.specs.Run.{scanned_of};
 ghost use Rattle.cweb_scan.specs.Scan.{seen, Blames, EndsEarly, IsWithin, Scans};
 
+pub mod scanned;
+
 use crate::reader::Reader;
-use crate::scanned::Scanned;
+use crate::scanning::scanned::Scanned;
 use cweb_lines::{Merger, Shelf, Stop};
 use std::alloc::{AllocError, Global};
 

@@ -4,12 +4,12 @@ use Rattle.std.specs.Prelude.{Ok, Err, IfSome, All, bytes_eq, if◌then◌else�
 use Rattle.std.specs.List.{AllByRecursion, list_any, starts_with, position_or_len, enumerate_from}
 use Rattle.std.proofs.lemmas.List.{length-map}
 use Rattle.std.proofs.lemmas.List.Elements.{All-from_recursion}
-use Rattle.cweb_store.specs.declared.name.How.{How}
-use Rattle.cweb_store.specs.declared.name.How.TheVariants.{Full, Prefix}
-use Rattle.cweb_store.specs.declared.name.NameId.{NameId}
-use Rattle.cweb_store.specs.declared.name.NameFault.{NameFault}
-use Rattle.cweb_store.specs.declared.name.NameKind.{NameKind}
-use Rattle.cweb_store.specs.declared.name.NameKind.TheVariants.{NeverFull, PrefixOfAnother, NotPresent}
+use Rattle.cweb_store.specs.declared.names.How.{How}
+use Rattle.cweb_store.specs.declared.names.How.TheVariants.{Full, Prefix}
+use Rattle.cweb_store.specs.declared.names.NameId.{NameId}
+use Rattle.cweb_store.specs.declared.names.NameFault.{NameFault}
+use Rattle.cweb_store.specs.declared.names.NameKind.{NameKind}
+use Rattle.cweb_store.specs.declared.names.NameKind.TheVariants.{NeverFull, PrefixOfAnother, NotPresent}
 use Rattle.cweb_store.specs.Names.{Occurrence, Name, Standing, id, texts, with_text, with_name, names_from, names, beginning_from, the_one, standing_among, standings_from, standings, stands, with_some, with_file, files_from, files, is_id}
 use Rattle.cweb_store.specs.Parts.{Part}
 use Rattle.cweb_store.specs.Faults.{fault, standing_faults_from, standing_faults, faults_from, faults_where, faults, is_prefix_of_another, is_missing}

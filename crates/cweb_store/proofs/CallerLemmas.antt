@@ -3,7 +3,7 @@ use Rattle.std.proofs.Common.{◌≡◌, ◌≤◌, Bool, true, false, take, dro
 use Rattle.std.specs.Prelude.{IsSome, IsNone, option_map, option_to_list, if◌then◌else◌}
 use Rattle.std.proofs.lemmas.List.{take-append-drop}
 use Rattle.std.proofs.lemmas.Grind.{flat_map-append}
-use Rattle.cweb_store.specs.declared.part.PartKind.{PartKind}
+use Rattle.cweb_store.specs.declared.parts.PartKind.{PartKind}
 use Rattle.cweb_store.specs.Parts.{Token, Part, all_tokens, is_macro}
 use Rattle.cweb_store.specs.Layout.{before_last, without_last, without_blank, without_layout, at_close, first_kept, is_layout, is_newline, is_blank}
 use Rattle.cweb_store.specs.Growing.{PartsSoFar, all_closed, dropped, opened, pushed, longer, part_count, token_count}

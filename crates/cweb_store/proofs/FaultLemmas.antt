@@ -4,11 +4,11 @@ use Rattle.std.specs.Prelude.{bytes_eq, if◌then◌else◌, nat_eq, slice_get, 
 use Rattle.std.specs.List.{list_any, starts_with, enumerate_from}
 use Rattle.std.proofs.Math.Seq.{take-length}
 use Rattle.std.proofs.lemmas.Slice.Eq.{bytes_eq-Decides}
-use Rattle.cweb_store.specs.declared.name.NameId.{NameId}
-use Rattle.cweb_store.specs.declared.name.NameKind.{NameKind}
-use Rattle.cweb_store.specs.declared.name.NameFault.{NameFault}
-use Rattle.cweb_store.specs.declared.found.Found.{Found}
-use Rattle.cweb_store.specs.declared.found.Found.TheVariants.{Nothing, One, Several}
+use Rattle.cweb_store.specs.declared.names.NameId.{NameId}
+use Rattle.cweb_store.specs.declared.names.NameKind.{NameKind}
+use Rattle.cweb_store.specs.declared.names.NameFault.{NameFault}
+use Rattle.cweb_store.specs.declared.names.found.Found.{Found}
+use Rattle.cweb_store.specs.declared.names.found.Found.TheVariants.{Nothing, One, Several}
 use Rattle.cweb_store.specs.Names.{Name, id, texts, beginning_from, beginning}
 use Rattle.cweb_store.specs.Found.{found_of, is_several, Distinct}
 use Rattle.cweb_store.specs.Faults.{fault, fault_if, faults_from, is_prefix_of_another}

@@ -7,9 +7,9 @@ use Rattle.std.specs.BTreeMap.{insert_entry, is_at}
 use Rattle.std.specs.Ordering.{match_ordering, is_eq}
 use Rattle.std.specs.declared.cmp.Ordering.TheVariants.{Less, Equal, Greater}
 use Rattle.std.specs.declared.alloc.Global.{Global}
-use Rattle.cweb_store.specs.declared.name.NameId.{NameId}
-use Rattle.cweb_store.specs.declared.found.Found.{Found}
-use Rattle.cweb_store.specs.declared.found.Found.TheVariants.{Nothing, One, Several}
+use Rattle.cweb_store.specs.declared.names.NameId.{NameId}
+use Rattle.cweb_store.specs.declared.names.found.Found.{Found}
+use Rattle.cweb_store.specs.declared.names.found.Found.TheVariants.{Nothing, One, Several}
 use Rattle.cweb_store.specs.Found.{Entry, order, begins, found_of}
 
 -- the one that there is, with one more number that counts or not

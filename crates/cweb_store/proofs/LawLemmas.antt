@@ -5,11 +5,11 @@ use Rattle.std.specs.List.{list_any, starts_with, position_or_len}
 use Rattle.std.proofs.lemmas.List.{map-append}
 use Rattle.std.proofs.lemmas.Slice.Eq.{bytes_eq-Decides}
 use Rattle.std.proofs.lemmas.List.Folds.{list_any-append}
-use Rattle.cweb_store.specs.declared.name.How.{How}
-use Rattle.cweb_store.specs.declared.name.How.TheVariants.{Full, Prefix}
-use Rattle.cweb_store.specs.declared.name.NameId.{NameId}
-use Rattle.cweb_store.specs.declared.name.NameKind.TheVariants.{NeverFull}
-use Rattle.cweb_store.specs.declared.part.PartKind.{PartKind}
+use Rattle.cweb_store.specs.declared.names.How.{How}
+use Rattle.cweb_store.specs.declared.names.How.TheVariants.{Full, Prefix}
+use Rattle.cweb_store.specs.declared.names.NameId.{NameId}
+use Rattle.cweb_store.specs.declared.names.NameKind.TheVariants.{NeverFull}
+use Rattle.cweb_store.specs.declared.parts.PartKind.{PartKind}
 use Rattle.cweb_store.specs.Names.{Occurrence, Name, Standing, id, texts, with_text, with_name, names_from, names, beginning_from, beginning, the_one, standing_among, standings_from, standings, stands}
 use Rattle.cweb_store.specs.Parts.{Part, all_tokens, joined}
 use Rattle.cweb_store.specs.Calls.{Call, Occurs, Opens, Pushes, Drops, Closes, Transliterates, Contents, after, empty}

@@ -4,7 +4,7 @@ use Rattle.std.specs.Prelude.{if◌then◌else◌}
 use Rattle.std.proofs.lemmas.List.{take-append-drop}
 use Rattle.cweb_store.specs.Parts.{Token}
 use Rattle.cweb_store.specs.Layout.{before_last, without_last, without_last_after, first_kept, is_layout}
-use Rattle.cweb_store.specs.declared.part.PartKind.TheVariants.{Macro}
+use Rattle.cweb_store.specs.declared.parts.PartKind.TheVariants.{Macro}
 use Rattle.cweb_store.specs.MoreLaws.{AllPass, IsFront, DroppingKeepsTheFront, MacrosKeepTwoTokens}
 
 before_last-front : (test : Token → Bool) (t : Token) (ts us rest : List Token) → ts ≡ us ++ rest → AllPass test rest → IsFront test (t ∷ ts) (before_last test t us)

@@ -3,12 +3,12 @@ use Rattle.std.proofs.Common.{◌≡◌, ℕ, zero, suc, ◌+◌, ◌-◌, ◌�
 use Rattle.std.specs.Prelude.{slice_get, slice_index, slice_range, filter, if◌then◌else◌}
 use Rattle.std.proofs.lemmas.Bool.{eqb-true}
 use Rattle.std.proofs.lemmas.List.{take_all, reverse-append}
-use Rattle.cweb_store.specs.declared.part.PartKind.{PartKind}
-use Rattle.cweb_store.specs.declared.part.PartKind.TheVariants.{Unnamed, Named, Macro}
-use Rattle.cweb_store.specs.declared.part.Run.{Run}
-use Rattle.cweb_store.specs.declared.parts.Wanted.{Wanted}
-use Rattle.cweb_store.specs.declared.parts.Wanted.TheVariants.{Program, OfName, Macros}
-use Rattle.cweb_store.specs.declared.links.Heads.{Heads}
+use Rattle.cweb_store.specs.declared.parts.PartKind.{PartKind}
+use Rattle.cweb_store.specs.declared.parts.PartKind.TheVariants.{Unnamed, Named, Macro}
+use Rattle.cweb_store.specs.declared.parts.Run.{Run}
+use Rattle.cweb_store.specs.declared.parts.iter.Wanted.{Wanted}
+use Rattle.cweb_store.specs.declared.parts.iter.Wanted.TheVariants.{Program, OfName, Macros}
+use Rattle.cweb_store.specs.declared.parts.links.Heads.{Heads}
 use Rattle.cweb_store.specs.Names.{Standing, stands}
 use Rattle.cweb_store.specs.Parts.{is_some_id}
 use Rattle.cweb_store.specs.Wanted.{is_wanted}

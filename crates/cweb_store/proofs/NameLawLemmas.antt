@@ -4,9 +4,9 @@ use Rattle.std.specs.Prelude.{Ok, Err, bytes_eq, if◌then◌else◌, nat_eq, sl
 use Rattle.std.specs.List.{list_any, starts_with}
 use Rattle.std.proofs.lemmas.Bool.{eqb-true}
 use Rattle.std.proofs.lemmas.List.{take-append-drop}
-use Rattle.cweb_store.specs.declared.name.How.TheVariants.{Full, Prefix}
-use Rattle.cweb_store.specs.declared.name.NameId.{NameId}
-use Rattle.cweb_store.specs.declared.name.NameKind.TheVariants.{NeverFull}
+use Rattle.cweb_store.specs.declared.names.How.TheVariants.{Full, Prefix}
+use Rattle.cweb_store.specs.declared.names.NameId.{NameId}
+use Rattle.cweb_store.specs.declared.names.NameKind.TheVariants.{NeverFull}
 use Rattle.cweb_store.specs.Names.{Occurrence, Name, Standing, id, texts, with_text, with_name, names_from, names, beginning_from, beginning, the_one, standing_among, standings}
 use Rattle.cweb_store.specs.Faults.{fault, standing_fault, standing_faults_from}
 use Rattle.cweb_store.specs.Found.{Distinct}

@@ -13,10 +13,10 @@ use Rattle.std.proofs.lemmas.Map.Text.{is_eq-slice_cmp}
 use Rattle.std.proofs.lemmas.Slice.Eq.{bytes_eq-Decides}
 use Rattle.std.proofs.lemmas.List.{map-append}
 use Rattle.std.proofs.lemmas.List.Folds.{list_any-append}
-use Rattle.cweb_store.specs.declared.name.NameId.{NameId}
+use Rattle.cweb_store.specs.declared.names.NameId.{NameId}
 use Rattle.cweb_store.proofs.InsertLemmas.{grown, grown-swap, found-first, found-insert}
 use Rattle.cweb_store.specs.Names.{Name, id, texts, beginning_from, beginning, with_text}
-use Rattle.cweb_store.specs.declared.found.Found.TheVariants.{Nothing, One}
+use Rattle.cweb_store.specs.declared.names.found.Found.TheVariants.{Nothing, One}
 use Rattle.cweb_store.specs.Found.{Entry, order, found_of, Distinct, AreKnown}
 use Rattle.cweb_store.specs.Known.{name_in, names_in}
 

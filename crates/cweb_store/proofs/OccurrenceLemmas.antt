@@ -3,11 +3,11 @@ use Rattle.std.proofs.Common.{◌≡◌, ℕ, ◌+◌, ◌≤◌, ◌<◌, Bool,
 use Rattle.std.specs.Prelude.{Ok, Err, bytes_eq, if◌then◌else◌}
 use Rattle.std.specs.List.{list_any, position_or_len}
 use Rattle.std.proofs.lemmas.List.{map-append, length-map}
-use Rattle.cweb_store.specs.declared.name.How.{How}
-use Rattle.cweb_store.specs.declared.name.How.TheVariants.{Full, Prefix}
-use Rattle.cweb_store.specs.declared.name.NameId.{NameId}
-use Rattle.cweb_store.specs.declared.name.NameKind.TheVariants.{NeverFull}
-use Rattle.cweb_store.specs.declared.name_table.Given.{Given}
+use Rattle.cweb_store.specs.declared.names.How.{How}
+use Rattle.cweb_store.specs.declared.names.How.TheVariants.{Full, Prefix}
+use Rattle.cweb_store.specs.declared.names.NameId.{NameId}
+use Rattle.cweb_store.specs.declared.names.NameKind.TheVariants.{NeverFull}
+use Rattle.cweb_store.specs.declared.names.table.Given.{Given}
 use Rattle.cweb_store.specs.Names.{Occurrence, Name, Standing, id, texts, with_text, with_name, names_from, names, beginning, the_one, standing_among, standings_from, standings}
 use Rattle.cweb_store.specs.Found.{found_of}
 use Rattle.cweb_store.specs.Calls.{too_many}

@@ -7,13 +7,13 @@ use Rattle.std.proofs.Math.Seq.{drop-append_seam, take-length, length-take-le}
 use Rattle.std.proofs.lemmas.Slice.Eq.{bytes_eq-Decides}
 use Rattle.indexmap.specs.IndexMap.{insert_entry}
 use Rattle.std.specs.List.{list_any}
-use Rattle.cweb_store.specs.declared.name.NameId.{NameId}
+use Rattle.cweb_store.specs.declared.names.NameId.{NameId}
 use Rattle.cweb_store.specs.Names.{Standing}
 use Rattle.cweb_store.specs.Gathered.{with_use, used_from}
 use Rattle.cweb_store.specs.Parts as spec
 use Rattle.cweb_store.specs.Parts.{is_defs}
-use Rattle.cweb_store.specs.declared.packed.Packed.{Packed}
-use Rattle.cweb_store.specs.declared.packed.Packed.TheVariants.{Word, Number, Literal, Verbatim, Punct, Blank, Newline, Join, Defs, Name, Head, Tail, Mark}
+use Rattle.cweb_store.specs.declared.tokens.packed.Packed.{Packed}
+use Rattle.cweb_store.specs.declared.tokens.packed.Packed.TheVariants.{Word, Number, Literal, Verbatim, Punct, Blank, Newline, Join, Defs, Name, Head, Tail, Mark}
 use Rattle.cweb_store.specs.PackedTexts.{texts_from, AreEnds, begin_of, text_bytes}
 use Rattle.cweb_store.specs.Words.{TextsAndWords, Entries, AreWords}
 use Rattle.cweb_store.specs.Packed.{with_record, used_by, is_packed_defs, text_at, token_in, IsWithin, ArePacked, Packs}

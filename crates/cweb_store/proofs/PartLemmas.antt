@@ -5,9 +5,9 @@ use Rattle.std.specs.List.{AllByRecursion, list_any}
 use Rattle.std.proofs.Math.Seq.{take-append_seam, drop-append_seam}
 use Rattle.std.proofs.lemmas.List.{drop-drop}
 use Rattle.std.proofs.lemmas.List.Elements.{All-from_recursion}
-use Rattle.cweb_store.specs.declared.part.PartKind.{PartKind}
-use Rattle.cweb_store.specs.declared.part.Part as declared
-use Rattle.cweb_store.specs.declared.part.Run.{Run}
+use Rattle.cweb_store.specs.declared.parts.PartKind.{PartKind}
+use Rattle.cweb_store.specs.declared.parts.Part as declared
+use Rattle.cweb_store.specs.declared.parts.Run.{Run}
 use Rattle.cweb_store.specs.Parts.{Token, Part, all_tokens, joined, numbers_from, numbers_where, tokens_at}
 use Rattle.cweb_store.specs.Runs.{runs_from}
 

@@ -11,7 +11,7 @@ use Rattle.std.specs.declared.cmp.Ordering.TheVariants.{Less, Equal, Greater}
 use Rattle.std.specs.declared.alloc.Global.{Global}
 use Rattle.std.proofs.lemmas.Bool.{eqb-true}
 use Rattle.std.proofs.lemmas.Bool.Decides.{nat_tests}
-use Rattle.cweb_store.specs.declared.found.Found.TheVariants.{Nothing, One, Several}
+use Rattle.cweb_store.specs.declared.names.found.Found.TheVariants.{Nothing, One, Several}
 use Rattle.cweb_store.specs.Found.{Entry, order, begins, numbers, found_of}
 
 nat_less : (x y : ℕ) → nat_cmp x y ≡ Less → x < y

@@ -2,7 +2,7 @@
 use Rattle.std.proofs.Common.{◌≡◌, ℕ, zero, suc, ◌-◌, ◌≤◌, ◌<◌, List, [], ◌∷◌, map, take, drop, sym, ◌∙◌, ap, arith, length}
 use Rattle.std.specs.Prelude.{slice_range, slice_index_or}
 use Rattle.std.proofs.lemmas.List.{take-map, drop-map}
-use Rattle.cweb_store.specs.declared.part.Run.{Run}
+use Rattle.cweb_store.specs.declared.parts.Run.{Run}
 use Rattle.cweb_store.specs.Runs.{Follow}
 use Rattle.cweb_store.proofs.RunLemmas.{Follow-le}
 

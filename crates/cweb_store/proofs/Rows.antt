@@ -1,13 +1,13 @@
 -- The definitions, computed on small lists of calls.
 use Rattle.std.proofs.Common.{◌≡◌, ℕ, List, [], ◌∷◌, ◌++◌, Some, None, map, refl, true, false}
 use Rattle.std.specs.Prelude.{codes, Ok, Err}
-use Rattle.cweb_store.specs.declared.name.How.{How}
-use Rattle.cweb_store.specs.declared.name.How.TheVariants.{Full, Prefix}
-use Rattle.cweb_store.specs.declared.name.NameFault.{NameFault}
-use Rattle.cweb_store.specs.declared.name.NameKind.TheVariants.{Ambiguous, NeverFull, PrefixOfAnother, NotPresent}
-use Rattle.cweb_store.specs.declared.name.NameRef.{NameRef}
-use Rattle.cweb_store.specs.declared.part.PartKind.{PartKind}
-use Rattle.cweb_store.specs.declared.part.PartKind.TheVariants.{Unnamed, Named, Macro}
+use Rattle.cweb_store.specs.declared.names.How.{How}
+use Rattle.cweb_store.specs.declared.names.How.TheVariants.{Full, Prefix}
+use Rattle.cweb_store.specs.declared.names.NameFault.{NameFault}
+use Rattle.cweb_store.specs.declared.names.NameKind.TheVariants.{Ambiguous, NeverFull, PrefixOfAnother, NotPresent}
+use Rattle.cweb_store.specs.declared.names.NameRef.{NameRef}
+use Rattle.cweb_store.specs.declared.parts.PartKind.{PartKind}
+use Rattle.cweb_store.specs.declared.parts.PartKind.TheVariants.{Unnamed, Named, Macro}
 use Rattle.cweb_store.specs.Names.{Occurrence, id, names, texts, standings, files}
 use Rattle.cweb_store.specs.Parts.{Token, Word, Number, Name, Mark, Blank, Newline, Join, Defs, joined, is_of, is_unnamed, is_macro, numbers_where, has_defs_code}
 use Rattle.cweb_store.specs.Replacements.{replacement, replacement_of}

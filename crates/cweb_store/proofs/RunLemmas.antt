@@ -5,9 +5,9 @@ use Rattle.std.proofs.Math.Seq.{drop-length, length-take-le}
 use Rattle.std.proofs.lemmas.List.{length-map, drop-drop, take-append-drop, drop-append-le, take-append-le, drop-take, take-take, take_all, map-append}
 use Rattle.std.proofs.lemmas.Bool.{cases_lt}
 use Rattle.std.proofs.lemmas.Grind.{flat_map-append}
-use Rattle.cweb_store.specs.declared.part.PartKind.{PartKind}
-use Rattle.cweb_store.specs.declared.part.Run.{Run}
-use Rattle.cweb_store.specs.declared.part.Open.{Open}
+use Rattle.cweb_store.specs.declared.parts.PartKind.{PartKind}
+use Rattle.cweb_store.specs.declared.parts.Run.{Run}
+use Rattle.cweb_store.specs.declared.parts.Open.{Open}
 use Rattle.cweb_store.specs.Parts.{Token, Part, all_tokens}
 use Rattle.cweb_store.specs.Growing.{PartsSoFar, all_parts, pushed, part_count}
 use Rattle.cweb_store.specs.Calls.{too_many}

@@ -4,12 +4,12 @@ use Rattle.std.specs.Prelude.{slice_get, option_map, option_and_then, nat_eq, by
 use Rattle.std.specs.List.{list_any}
 use Rattle.std.proofs.lemmas.List.{length-map}
 use Rattle.std.proofs.Math.Seq.{drop-append_seam}
-use Rattle.cweb_store.specs.declared.name.How.TheVariants.{Full, Prefix}
-use Rattle.cweb_store.specs.declared.name.NameId.{NameId}
-use Rattle.cweb_store.specs.declared.name.NameFault.{NameFault}
-use Rattle.cweb_store.specs.declared.name_table.GivenAs.{GivenAs}
-use Rattle.cweb_store.specs.declared.part.Run.{Run}
-use Rattle.cweb_store.specs.declared.links.Links.{Links}
+use Rattle.cweb_store.specs.declared.names.How.TheVariants.{Full, Prefix}
+use Rattle.cweb_store.specs.declared.names.NameId.{NameId}
+use Rattle.cweb_store.specs.declared.names.NameFault.{NameFault}
+use Rattle.cweb_store.specs.declared.names.table.GivenAs.{GivenAs}
+use Rattle.cweb_store.specs.declared.parts.Run.{Run}
+use Rattle.cweb_store.specs.declared.parts.links.Links.{Links}
 use Rattle.cweb_store.specs.Names.{Occurrence, Name, Standing, texts, with_text, with_name, names_from, names}
 use Rattle.cweb_store.specs.Parts.{Token, all_tokens}
 use Rattle.cweb_store.specs.Replacements.{Replacement, replaced_by, replacement}

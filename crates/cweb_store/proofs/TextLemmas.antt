@@ -5,10 +5,10 @@ use Rattle.std.proofs.lemmas.List.{take-append-drop, drop-append-le, take-append
 use Rattle.std.proofs.lemmas.List.Elements.{filter-append}
 use Rattle.cweb_store.specs.Parts as spec
 use Rattle.cweb_store.specs.Parts.{Token}
-use Rattle.cweb_store.specs.declared.layout.Trailing.{Trailing}
-use Rattle.cweb_store.specs.declared.layout.Trailing.TheVariants as trailing
-use Rattle.cweb_store.specs.declared.packed.Packed.{Packed}
-use Rattle.cweb_store.specs.declared.packed.Packed.TheVariants.{Word, Number, Literal, Verbatim, Punct, Blank, Newline, Join, Defs, Name, Head, Tail, Mark}
+use Rattle.cweb_store.specs.declared.tokens.layout.Trailing.{Trailing}
+use Rattle.cweb_store.specs.declared.tokens.layout.Trailing.TheVariants as trailing
+use Rattle.cweb_store.specs.declared.tokens.packed.Packed.{Packed}
+use Rattle.cweb_store.specs.declared.tokens.packed.Packed.TheVariants.{Word, Number, Literal, Verbatim, Punct, Blank, Newline, Join, Defs, Name, Head, Tail, Mark}
 use Rattle.cweb_store.specs.Layout.{before_last, without_last, without_last_after, is_blank}
 use Rattle.cweb_store.specs.Trailing.{is_dropped}
 use Rattle.cweb_store.specs.PackedTexts.{text_bytes}

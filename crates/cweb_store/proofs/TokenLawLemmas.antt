@@ -2,7 +2,7 @@
 use Rattle.std.proofs.Common.{◌≡◌, inl, inr, Bool, true, false, List, [], ◌∷◌, ◌++◌, Some, None, refl, sym, ◌∙◌, ap, subst, append_assoc, append-nil}
 use Rattle.std.specs.Prelude.{IsSome, IsNone, if◌then◌else◌, fold, filter_map, option_map, option_to_list}
 use Rattle.std.proofs.lemmas.Grind.{flat_map-append}
-use Rattle.cweb_store.specs.declared.part.PartKind.{PartKind}
+use Rattle.cweb_store.specs.declared.parts.PartKind.{PartKind}
 use Rattle.cweb_store.specs.Parts.{Token, Blank, Newline, Mark, Part, all_tokens, is_macro}
 use Rattle.cweb_store.specs.Layout.{without_last, without_blank, without_layout, at_close, is_layout, is_newline, is_blank}
 use Rattle.cweb_store.specs.Growing.{PartsSoFar, all_parts, opened, pushed, dropped, all_closed, longer}

@@ -1,7 +1,7 @@
 -- What a store keeps besides the occurrences and the parts.
 use Rattle.std.specs.Prelude.{◌≡◌, Bool, List}
-use Rattle.cweb_store.specs.declared.name.NameId.{NameId}
-use Rattle.cweb_store.specs.declared.name.NameFault.{NameFault}
+use Rattle.cweb_store.specs.declared.names.NameId.{NameId}
+use Rattle.cweb_store.specs.declared.names.NameFault.{NameFault}
 use Rattle.cweb_store.specs.Names as spec
 use Rattle.cweb_store.specs.Names.{Occurrence, Standing}
 use Rattle.cweb_store.specs.Parts.{Part, has_defs_code}

@@ -1,7 +1,7 @@
 -- What a builder holds, and what each call makes of it.
 use Rattle.std.specs.Prelude.{ℕ, Bool, List, [], ◌∷◌, ◌++◌, fold}
-use Rattle.cweb_store.specs.declared.name.How.{How}
-use Rattle.cweb_store.specs.declared.part.PartKind.{PartKind}
+use Rattle.cweb_store.specs.declared.names.How.{How}
+use Rattle.cweb_store.specs.declared.parts.PartKind.{PartKind}
 use Rattle.cweb_store.specs.Names.{Occurrence}
 use Rattle.cweb_store.specs.Parts.{Token, Part}
 use Rattle.cweb_store.specs.Growing.{PartsSoFar, no_parts, all_parts, opened, pushed, dropped, all_closed}

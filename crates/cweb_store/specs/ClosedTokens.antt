@@ -1,7 +1,7 @@
 -- Tokens to which none comes, and other texts behind theirs.
 use Rattle.std.specs.Prelude.{◌≡◌, ◌≤◌, ℕ, List, [], ◌∷◌, ◌++◌, map, length, take, drop}
 use Rattle.cweb_store.specs.Parts.{Token}
-use Rattle.cweb_store.specs.declared.packed.Packed.{Packed}
+use Rattle.cweb_store.specs.declared.tokens.packed.Packed.{Packed}
 use Rattle.cweb_store.specs.Packed.{token_in, ArePacked}
 use Rattle.cweb_store.specs.PackedTexts.{text_bytes}
 use Rattle.cweb_store.specs.Texts.{token_bytes_kept, words_of}

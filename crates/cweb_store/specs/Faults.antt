@@ -1,10 +1,10 @@
 -- The faults of names, and their order.
 use Rattle.std.specs.Prelude.{◌∷◌, [], ℕ, Bool, false, not, ◌&&◌, ◌||◌, List, ◌++◌, Option, Some, None, Ok, Err, map, filter, filter_map, bytes_eq, nat_eq, if◌then◌else◌}
 use Rattle.std.specs.List.{starts_with, list_any, enumerate_from}
-use Rattle.cweb_store.specs.declared.name.NameId.{NameId}
-use Rattle.cweb_store.specs.declared.name.NameKind.{NameKind}
-use Rattle.cweb_store.specs.declared.name.NameKind.TheVariants.{PrefixOfAnother, NotPresent}
-use Rattle.cweb_store.specs.declared.name.NameFault.{NameFault}
+use Rattle.cweb_store.specs.declared.names.NameId.{NameId}
+use Rattle.cweb_store.specs.declared.names.NameKind.{NameKind}
+use Rattle.cweb_store.specs.declared.names.NameKind.TheVariants.{PrefixOfAnother, NotPresent}
+use Rattle.cweb_store.specs.declared.names.NameFault.{NameFault}
 use Rattle.cweb_store.specs.Names as spec
 use Rattle.cweb_store.specs.Names.{Occurrence, Standing, id, is_id, texts, names, standings, stands, files}
 use Rattle.cweb_store.specs.Parts.{Token, Name, Part, joined, is_code, is_some_id, is_of}

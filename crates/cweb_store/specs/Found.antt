@@ -7,9 +7,9 @@ use Rattle.std.specs.Ordering.{nat_cmp}
 use Rattle.std.specs.Cmp.Lexicographic.{slice_cmp}
 use Rattle.std.specs.declared.cmp.Ordering.{Ordering}
 use Rattle.std.specs.declared.alloc.Global.{Global}
-use Rattle.cweb_store.specs.declared.name.NameId.{NameId}
-use Rattle.cweb_store.specs.declared.found.Found.{Found}
-use Rattle.cweb_store.specs.declared.found.Found.TheVariants.{Nothing, One, Several}
+use Rattle.cweb_store.specs.declared.names.NameId.{NameId}
+use Rattle.cweb_store.specs.declared.names.found.Found.{Found}
+use Rattle.cweb_store.specs.declared.names.found.Found.TheVariants.{Nothing, One, Several}
 use Rattle.cweb_store.specs.Names.{Name, texts, beginning}
 
 abbrev pub found_of : List NameId → Found

@@ -1,7 +1,7 @@
 -- What is kept of the occurrences, and what it says of each when all are known.
 use Rattle.std.specs.Prelude.{◌≡◌, ◌<◌, List, [], Err, map, length}
-use Rattle.cweb_store.specs.declared.name.NameKind.TheVariants.{NeverFull}
-use Rattle.cweb_store.specs.declared.name_table.Given.{Given}
+use Rattle.cweb_store.specs.declared.names.NameKind.TheVariants.{NeverFull}
+use Rattle.cweb_store.specs.declared.names.table.Given.{Given}
 use Rattle.cweb_store.specs.Names.{Occurrence, Name, Standing, names, beginning}
 use Rattle.cweb_store.specs.Found.{found_of}
 use Rattle.cweb_store.specs.Calls.{too_many}

@@ -1,6 +1,6 @@
 -- Parts while they are given.
 use Rattle.std.specs.Prelude.{ℕ, List, [], ◌∷◌, ◌++◌, Option, Some, None, option_map, option_to_list, length}
-use Rattle.cweb_store.specs.declared.part.PartKind.{PartKind}
+use Rattle.cweb_store.specs.declared.parts.PartKind.{PartKind}
 use Rattle.cweb_store.specs.Parts.{Token, Part, all_tokens}
 use Rattle.cweb_store.specs.Layout.{without_layout, at_close}
 

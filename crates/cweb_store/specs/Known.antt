@@ -2,10 +2,10 @@
 use Rattle.std.specs.Prelude.{ℕ, ◌+◌, List, [], ◌∷◌, Ok, Err, map, bytes_eq, Vec}
 use Rattle.std.specs.List.{position_or_len}
 use Rattle.std.specs.declared.alloc.Global.{Global}
-use Rattle.cweb_store.specs.declared.name.How.TheVariants.{Full, Prefix}
-use Rattle.cweb_store.specs.declared.name.NameKind.TheVariants.{Ambiguous}
-use Rattle.cweb_store.specs.declared.found.Found.{Found}
-use Rattle.cweb_store.specs.declared.found.Found.TheVariants.{Nothing, One, Several}
+use Rattle.cweb_store.specs.declared.names.How.TheVariants.{Full, Prefix}
+use Rattle.cweb_store.specs.declared.names.NameKind.TheVariants.{Ambiguous}
+use Rattle.cweb_store.specs.declared.names.found.Found.{Found}
+use Rattle.cweb_store.specs.declared.names.found.Found.TheVariants.{Nothing, One, Several}
 use Rattle.cweb_store.specs.Names.{Occurrence, Name, Standing, id, texts, beginning, with_name}
 use Rattle.cweb_store.specs.Found.{found_of}
 

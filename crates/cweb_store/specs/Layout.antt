@@ -1,6 +1,6 @@
 -- The layout at the end of a part, and what is dropped of it.
 use Rattle.std.specs.Prelude.{ℕ, Bool, true, false, List, [], ◌∷◌, ◌++◌, take, drop, if◌then◌else◌}
-use Rattle.cweb_store.specs.declared.part.PartKind.{PartKind}
+use Rattle.cweb_store.specs.declared.parts.PartKind.{PartKind}
 use Rattle.cweb_store.specs.Parts.{Token, Blank, Newline, Mark, Part, is_macro}
 
 abbrev pub is_layout : Token → Bool

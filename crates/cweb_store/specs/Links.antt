@@ -1,12 +1,12 @@
 -- Parts that tell where the next part of the same name stands.
 use Rattle.std.specs.Prelude.{◌≡◌, ◌≤◌, ◌<◌, ◌-◌, ◌+◌, ℕ, zero, suc, Bool, true, false, List, [], ◌∷◌, Option, Some, None, option_map, length, slice_index, if◌then◌else◌}
-use Rattle.cweb_store.specs.declared.part.Part.{Part}
-use Rattle.cweb_store.specs.declared.part.PartKind.{PartKind}
-use Rattle.cweb_store.specs.declared.part.PartKind.TheVariants.{Unnamed, Named, Macro}
-use Rattle.cweb_store.specs.declared.part.Run.{Run}
-use Rattle.cweb_store.specs.declared.parts.Wanted.{Wanted}
-use Rattle.cweb_store.specs.declared.parts.Wanted.TheVariants.{Program, OfName, Macros}
-use Rattle.cweb_store.specs.declared.links.Heads.{Heads}
+use Rattle.cweb_store.specs.declared.parts.Part.{Part}
+use Rattle.cweb_store.specs.declared.parts.PartKind.{PartKind}
+use Rattle.cweb_store.specs.declared.parts.PartKind.TheVariants.{Unnamed, Named, Macro}
+use Rattle.cweb_store.specs.declared.parts.Run.{Run}
+use Rattle.cweb_store.specs.declared.parts.iter.Wanted.{Wanted}
+use Rattle.cweb_store.specs.declared.parts.iter.Wanted.TheVariants.{Program, OfName, Macros}
+use Rattle.cweb_store.specs.declared.parts.links.Heads.{Heads}
 use Rattle.cweb_store.specs.Names.{Standing, stands, is_id}
 use Rattle.cweb_store.specs.Wanted.{wanted_in}
 

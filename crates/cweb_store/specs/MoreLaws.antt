@@ -1,9 +1,9 @@
 -- What else holds of names, faults, layout and tokens whatever the calls are.
 use Rattle.std.specs.Prelude.{◌≡◌, ℕ, Bool, true, nat_eq, List, [], ◌∷◌, ◌++◌, Some, take, slice_get, filter, option_to_list}
 use Rattle.std.specs.List.{starts_with}
-use Rattle.cweb_store.specs.declared.name.How.TheVariants.{Prefix}
-use Rattle.cweb_store.specs.declared.name.NameFault.{NameFault}
-use Rattle.cweb_store.specs.declared.part.PartKind.TheVariants.{Macro}
+use Rattle.cweb_store.specs.declared.names.How.TheVariants.{Prefix}
+use Rattle.cweb_store.specs.declared.names.NameFault.{NameFault}
+use Rattle.cweb_store.specs.declared.parts.PartKind.TheVariants.{Macro}
 use Rattle.cweb_store.specs.Names.{Occurrence, Standing, texts, names}
 use Rattle.cweb_store.specs.Parts.{Token, Part}
 use Rattle.cweb_store.specs.Layout.{is_layout, first_kept, without_layout}

@@ -1,11 +1,11 @@
 -- Names: their occurrences, what each occurrence stands for, and which names are files.
 use Rattle.std.specs.Prelude.{ℕ, ◌+◌, Bool, nat_eq, List, [], ◌∷◌, ◌++◌, Option, Some, None, Result, Ok, Err, map, slice_get, bytes_eq, if◌then◌else◌}
 use Rattle.std.specs.List.{starts_with, list_any, position_or_len}
-use Rattle.cweb_store.specs.declared.name.How.{How}
-use Rattle.cweb_store.specs.declared.name.How.TheVariants.{Full, Prefix}
-use Rattle.cweb_store.specs.declared.name.NameId.{NameId}
-use Rattle.cweb_store.specs.declared.name.NameKind.{NameKind}
-use Rattle.cweb_store.specs.declared.name.NameKind.TheVariants.{Ambiguous, NeverFull}
+use Rattle.cweb_store.specs.declared.names.How.{How}
+use Rattle.cweb_store.specs.declared.names.How.TheVariants.{Full, Prefix}
+use Rattle.cweb_store.specs.declared.names.NameId.{NameId}
+use Rattle.cweb_store.specs.declared.names.NameKind.{NameKind}
+use Rattle.cweb_store.specs.declared.names.NameKind.TheVariants.{Ambiguous, NeverFull}
 
 -- an occurrence of a name: its text, or the prefix of an abbreviation, and whether it is given as a file's
 pub record Occurrence : Type 0 where

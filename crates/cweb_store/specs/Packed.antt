@@ -1,13 +1,13 @@
 -- Tokens of fixed size, which have their texts by number.
 use Rattle.std.specs.Prelude.{◌≡◌, ℕ, Bool, true, false, ◌<◌, ◌+◌, List, [], ◌∷◌, ◌++◌, length, slice_index_or}
-use Rattle.cweb_store.specs.declared.name.NameId.{NameId}
+use Rattle.cweb_store.specs.declared.names.NameId.{NameId}
 use Rattle.cweb_store.specs.Names.{Standing, stands, with_some}
 use Rattle.cweb_store.specs.Parts as spec
 use Rattle.cweb_store.specs.PackedTexts.{text_bytes}
 use Rattle.cweb_store.specs.Texts.{total, with_word_of, other_bytes}
 use Rattle.cweb_store.specs.Words.{TextsAndWords}
-use Rattle.cweb_store.specs.declared.packed.Packed.{Packed}
-use Rattle.cweb_store.specs.declared.packed.Packed.TheVariants.{Word, Number, Literal, Verbatim, Punct, Blank, Newline, Join, Defs, Name, Head, Tail, Mark}
+use Rattle.cweb_store.specs.declared.tokens.packed.Packed.{Packed}
+use Rattle.cweb_store.specs.declared.tokens.packed.Packed.TheVariants.{Word, Number, Literal, Verbatim, Punct, Blank, Newline, Join, Defs, Name, Head, Tail, Mark}
 
 abbrev pub text_at : List (List ℕ) → ℕ → List ℕ
 text_at texts number = slice_index_or texts number []

@@ -1,7 +1,7 @@
 -- What a token is that is handed in or lent out.
 use Rattle.cweb_store.specs.Parts as spec
-use Rattle.cweb_store.specs.declared.token.Token.{Token}
-use Rattle.cweb_store.specs.declared.token.Token.TheVariants as lent
+use Rattle.cweb_store.specs.declared.tokens.Token.{Token}
+use Rattle.cweb_store.specs.declared.tokens.Token.TheVariants as lent
 
 -- a token that is handed in or lent out
 abbrev pub seen : Token → spec.Token

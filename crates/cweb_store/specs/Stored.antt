@@ -1,10 +1,10 @@
 -- What a store keeps, and what it stands for.
 use Rattle.std.specs.Prelude.{◌≡◌, ◌<◌, ℕ, ◌+◌, Bool, List, [], ◌∷◌, Option, Some, None, map, length, drop, slice_get, nat_eq, if◌then◌else◌}
-use Rattle.cweb_store.specs.declared.name.NameId.{NameId}
-use Rattle.cweb_store.specs.declared.name.NameFault.{NameFault}
-use Rattle.cweb_store.specs.declared.name_table.GivenAs.{GivenAs}
-use Rattle.cweb_store.specs.declared.part.Run.{Run}
-use Rattle.cweb_store.specs.declared.links.Links.{Links}
+use Rattle.cweb_store.specs.declared.names.NameId.{NameId}
+use Rattle.cweb_store.specs.declared.names.NameFault.{NameFault}
+use Rattle.cweb_store.specs.declared.names.table.GivenAs.{GivenAs}
+use Rattle.cweb_store.specs.declared.parts.Run.{Run}
+use Rattle.cweb_store.specs.declared.parts.links.Links.{Links}
 use Rattle.cweb_store.specs.Names.{Occurrence, Standing, names}
 use Rattle.cweb_store.specs.Replacements.{Replacement, replacement_of}
 use Rattle.cweb_store.specs.Runs.{IsWhole, closed_in}

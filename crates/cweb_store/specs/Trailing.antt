@@ -1,7 +1,7 @@
 -- Which last tokens are dropped.
 use Rattle.std.specs.Prelude.{Bool}
-use Rattle.cweb_store.specs.declared.layout.Trailing.{Trailing}
-use Rattle.cweb_store.specs.declared.layout.Trailing.TheVariants as trailing
+use Rattle.cweb_store.specs.declared.tokens.layout.Trailing.{Trailing}
+use Rattle.cweb_store.specs.declared.tokens.layout.Trailing.TheVariants as trailing
 use Rattle.cweb_store.specs.Parts.{Token}
 use Rattle.cweb_store.specs.Layout.{is_layout, is_newline}
 

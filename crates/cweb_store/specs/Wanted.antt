@@ -1,10 +1,10 @@
 -- Which parts are wanted.
 use Rattle.std.specs.Prelude.{Bool, List, map, filter}
-use Rattle.cweb_store.specs.declared.part.PartKind.{PartKind}
-use Rattle.cweb_store.specs.declared.part.Part.{Part}
-use Rattle.cweb_store.specs.declared.part.Run.{Run}
-use Rattle.cweb_store.specs.declared.parts.Wanted.{Wanted}
-use Rattle.cweb_store.specs.declared.parts.Wanted.TheVariants.{Program, OfName, Macros}
+use Rattle.cweb_store.specs.declared.parts.PartKind.{PartKind}
+use Rattle.cweb_store.specs.declared.parts.Part.{Part}
+use Rattle.cweb_store.specs.declared.parts.Run.{Run}
+use Rattle.cweb_store.specs.declared.parts.iter.Wanted.{Wanted}
+use Rattle.cweb_store.specs.declared.parts.iter.Wanted.TheVariants.{Program, OfName, Macros}
 use Rattle.cweb_store.specs.Names.{Standing}
 use Rattle.cweb_store.specs.Parts.{is_unnamed, is_of, is_macro}
 

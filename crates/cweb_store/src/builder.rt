@@ -5,13 +5,13 @@ ghost use Rattle.cweb_store.specs.Growing.{part_count, token_count};
 ghost use Rattle.cweb_store.specs.Replacements.{replacement_of};
 ghost use Rattle.cweb_store.specs.Calls.{empty, finished, occurrence_of, too_many, with_closed, with_dropped, with_occurrence, with_open, with_replacement, with_token};
 
-use crate::name::{How, NameRef};
-use crate::name_table::NameTable;
-use crate::part::PartKind;
-use crate::part_list::PartList;
+use crate::names::table::NameTable;
+use crate::names::{How, NameRef};
+use crate::parts::PartKind;
+use crate::parts::list::PartList;
 use crate::replacements::Replacements;
 use crate::store::Store;
-use crate::token::Token;
+use crate::tokens::Token;
 use std::alloc::{AllocError, Global};
 use std::marker::Model;
 

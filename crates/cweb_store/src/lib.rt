@@ -1,36 +1,37 @@
 //! The names, parts and tokens of a web: a builder that is given them one after another, and the store that it makes of them.
 #![tactic(auto)]
 
-mod builder;
-mod call;
-mod closed_parts;
-mod closed_tokens;
-mod faults;
-mod found;
-mod known_names;
-pub mod laws;
-mod layout;
-mod links;
-mod name;
-mod name_table;
-mod packed;
-mod packed_texts;
-mod part;
-mod part_list;
+// the tokens of parts, and their texts
+mod tokens;
+
+// parts as runs of tokens, and those of one name
 mod parts;
+
+// names, their occurrences, what these stand for, and faults
+mod names;
+
+// what bytes are replaced by
 mod replacements;
-mod reserved;
-mod standing;
+
+// what a web gives, call by call
+mod builder;
+
+// these calls as values
+mod call;
+
+// what came of them
 mod store;
-mod token;
-mod token_list;
-mod word;
-mod word_texts;
+
+// adding where room was set aside
+mod reserved;
+
+// what holds whatever the calls are
+pub mod laws;
 
 pub use builder::Builder;
 pub use call::Call;
-pub use name::{How, NameFault, NameId, NameKind, NameRef};
-pub use part::{Part, PartKind};
-pub use parts::Parts;
+pub use names::{How, NameFault, NameId, NameKind, NameRef};
+pub use parts::iter::Parts;
+pub use parts::{Part, PartKind};
 pub use store::Store;
-pub use token::Token;
+pub use tokens::Token;

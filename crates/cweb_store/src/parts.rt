@@ -1,72 +1,55 @@
-// The parts of a name, those of the program, or the macros, one after another.
+// Parts, as runs of token numbers.
 
 ghost use Rattle.std.specs.Prelude.{◌≡◌};
-ghost use Rattle.cweb_store.specs.Links.{followed};
 
-use crate::name::NameId;
-use crate::part::{Part, Run};
-use std::marker::Model;
+pub mod closed;
+pub mod iter;
+pub mod links;
+pub mod list;
 
-/// Which parts are wanted.
-#[derive(Clone, Copy)]
-pub enum Wanted {
-    /// The unnamed ones.
-    Program,
-    /// Those of a name.
-    OfName(NameId),
-    /// The macros.
-    Macros,
+use crate::names::NameRef;
+
+/// What a part belongs to.
+#[derive(Clone, Copy, Debug, PartialEq, Eq, Hash)]
+pub enum PartKind {
+    /// The program itself.
+    Unnamed,
+    /// The name that this occurrence stands for.
+    Named(NameRef),
+    /// A macro definition. It is no C text.
+    Macro,
 }
 
-/// The parts that are still to come, in order of appearance. Each tells how many stand between it and the next one, so
-/// that no other is visited.
-#[derive(Drop)]
-pub struct Parts<'a> {
-    runs: &'a [Run],
-    skips: &'a [u32],
-    skip: u32,
-}
+impl PartKind {
+    ghost use Rattle.cweb_store.specs.Parts.{is_macro};
 
-impl<'a> Model for Parts<'a> {
-    ghost use Rattle.std.specs.Prelude.{List};
-    ghost use Rattle.cweb_store.specs.declared.part.Part.{Part};
-
-    ghost Value = { List Part };
-
-    ghost use Rattle.cweb_store.specs.Links.{followed};
-
-    ghost view = { λ s. followed s.runs.now s.skips.now s.skip };
-}
-
-impl<'a> Parts<'a> {
-    /// The parts from the one behind `skip` others.
-    pub(crate) fn new(runs: &'a [Run], skips: &'a [u32], skip: u32) -> Parts<'a>
-        ensures { result ≡ followed runs.entry.now skips.entry.now skip }
+    pub fn is_macro(self) -> bool
+        ensures { result ≡ is_macro self }
     {
-        Parts { runs, skips, skip }
+        match self {
+            PartKind::Macro => true,
+            _ => false,
+        }
     }
 }
 
-impl<'a> Iterator for Parts<'a> {
-    type Item = Part;
+/// A part: the numbers of its tokens, from the first up to the one after its last.
+#[derive(Clone, Copy, Debug, PartialEq, Eq, Hash)]
+pub struct Part {
+    pub first: u32,
+    pub after: u32,
+}
 
-    ghost use Rattle.std.specs.Iterator.{YieldsFirst, item_count};
+/// A part that is closed, and what it belongs to.
+#[derive(Clone, Copy)]
+pub struct Run {
+    pub kind: PartKind,
+    pub part: Part,
+}
 
-    ghost next_gives = { YieldsFirst (λ s. s) };
-
-    ghost remaining = { item_count (λ s. s) };
-
-    fn next(&mut self) -> Option<Part> {
-        let skip = self.skip as usize;
-        let Some(run) = self.runs.get(skip) else {
-            return None;
-        };
-        let Some(next) = self.skips.get(skip) else {
-            return None;
-        };
-        self.runs = &self.runs[skip + 1..];
-        self.skips = &self.skips[skip + 1..];
-        self.skip = *next;
-        Some(run.part)
-    }
+/// The part that is open, and the number of its first token.
+#[derive(Clone, Copy)]
+pub struct Open {
+    pub kind: PartKind,
+    pub first: u32,
 }

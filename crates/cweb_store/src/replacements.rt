@@ -6,7 +6,7 @@ ghost use Rattle.cweb_store.specs.Stored.{AreLast};
 ghost use Rattle.cweb_store.specs.Texts.{replacement_text};
 ghost use Rattle.cweb_store.specs.ClosedTokens.{with_texts};
 
-use crate::closed_tokens::ClosedTokens;
+use crate::tokens::closed::ClosedTokens;
 use std::alloc::{AllocError, Global};
 use std::marker::Model;
 

@@ -10,17 +10,17 @@ ghost use Rattle.cweb_store.specs.Texts.{AreInOneList, bytes_given, bytes_kept, 
 ghost use Rattle.cweb_store.specs.Runs.{runs_from};
 ghost use Rattle.cweb_store.specs.Wanted.{wanted_in};
 
-use crate::closed_parts::ClosedParts;
-use crate::closed_tokens::ClosedTokens;
-use crate::faults::name_faults;
-use crate::links::Links;
-use crate::name::{NameFault, NameId, NameKind, NameRef};
-use crate::name_table::{GivenAs, NameTable};
-use crate::part::Run;
-use crate::parts::{Parts, Wanted};
+use crate::names::faults::name_faults;
+use crate::names::standing::name_at;
+use crate::names::table::{GivenAs, NameTable};
+use crate::names::{NameFault, NameId, NameKind, NameRef};
+use crate::parts::Run;
+use crate::parts::closed::ClosedParts;
+use crate::parts::iter::{Parts, Wanted};
+use crate::parts::links::Links;
 use crate::replacements::{Replacements, last_places};
-use crate::standing::name_at;
-use crate::token::Token;
+use crate::tokens::Token;
+use crate::tokens::closed::ClosedTokens;
 use indexmap::IndexSet;
 use std::alloc::{AllocError, Global};
 use std::marker::Model;

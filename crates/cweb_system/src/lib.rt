@@ -1,13 +1,20 @@
 //! The files and the streams of the system, as a shelf, a sink and a place that keeps files.
 #![tactic(auto)]
 
-mod bins;
+// the shelf and the streams
 mod devices;
-mod drafts;
 mod files_read;
+
+// the place that keeps files
+mod bins;
+
+// what stands under an output's name, and what the output is then written to
+mod drafts;
 mod standing;
-mod system;
 mod target;
+
+// what is asked of the system
+mod system;
 
 pub use bins::FolderBins;
 pub use devices::{FolderShelf, StdSink, read_once};

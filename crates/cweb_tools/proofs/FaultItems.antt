@@ -10,7 +10,7 @@ use Rattle.cweb_lines.specs.declared.fault.SourceKind.{SourceKind}
 use Rattle.cweb_lines.specs.declared.fault.SourceKind.TheVariants.{Unequal}
 use Rattle.cweb_store.specs.Faults as store
 use Rattle.cweb_store.specs.Parts.{Part, is_macro, numbers_from, numbers_where}
-use Rattle.cweb_store.specs.declared.part.PartKind.{PartKind}
+use Rattle.cweb_store.specs.declared.parts.PartKind.{PartKind}
 use Rattle.cweb_scan.specs.Run.{Scanned}
 use Rattle.cweb_log.specs.Gathering.{Writes}
 use Rattle.cweb_log.specs.Items.{Item, counted_text, fault_count, is_fault, line, source_item}

@@ -6,8 +6,8 @@ use Rattle.cweb_store.specs.Calls.{Stored}
 use Rattle.cweb_store.specs.Parts as parts
 use Rattle.cweb_store.specs.Parts.{Token, Mark, Name, Defs, Part, all_tokens, is_of, is_unnamed}
 use Rattle.cweb_store.specs.Names as spec
-use Rattle.cweb_store.specs.declared.name.NameId.{NameId}
-use Rattle.cweb_store.specs.declared.part.PartKind.{PartKind}
+use Rattle.cweb_store.specs.declared.names.NameId.{NameId}
+use Rattle.cweb_store.specs.declared.parts.PartKind.{PartKind}
 use Rattle.cweb_scan.specs.Scan.{IsMarkBelow}
 use Rattle.cweb_out.specs.Expansion.{expand, name_text, put, text_for}
 use Rattle.cweb_out.specs.Outputs.{defs_first, root_list}

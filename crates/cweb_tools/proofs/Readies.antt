@@ -4,7 +4,7 @@ use Rattle.std.specs.Borrow.{Bor}
 use Rattle.std.specs.Prelude.{All, Result}
 use Rattle.cweb_files.specs.Files.{File}
 use Rattle.cweb_lines.specs.Names.{names_of}
-use Rattle.cweb_lines.specs.declared.names.FileNames.{FileNames}
+use Rattle.cweb_lines.specs.declared.files.FileNames.{FileNames}
 use Rattle.cweb_lines.specs.declared.stop.Stop.{Stop}
 use Rattle.cweb_store.specs.Calls.{Stored}
 use Rattle.cweb_store.specs.Parts.{Token, all_tokens}

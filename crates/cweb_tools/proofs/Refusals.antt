@@ -5,8 +5,8 @@ use Rattle.cweb_store.specs.Calls.{Stored}
 use Rattle.cweb_out.specs.Outputs as out
 use Rattle.cweb_out.specs.Outputs.{Planned, Refusal, bad_name, same_name, cycle}
 use Rattle.cweb_out.specs.Planning.{IsDue}
-use Rattle.cweb_out.specs.declared.plan_fault.PlanFault.{PlanFault}
-use Rattle.cweb_out.specs.declared.plan_fault.PlanFault.TheVariants.{Cycle, SameName, BadName, Memory}
+use Rattle.cweb_out.specs.declared.planning.fault.PlanFault.{PlanFault}
+use Rattle.cweb_out.specs.declared.planning.fault.PlanFault.TheVariants.{Cycle, SameName, BadName, Memory}
 use Rattle.cweb_log.specs.Items.{fault, line}
 use Rattle.cweb_log.specs.WebItems.{plan_item, refusal_text}
 use Rattle.cweb_tools.specs.Script.{refused}

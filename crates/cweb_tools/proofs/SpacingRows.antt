@@ -2,7 +2,7 @@
 use Rattle.std.proofs.Common.{◌++◌, ◌≡◌, List, [], ◌∷◌, refl}
 use Rattle.std.specs.Prelude.{codes}
 use Rattle.std.specs.Fmt.{digits}
-use Rattle.cweb_store.specs.declared.part.PartKind.TheVariants as part
+use Rattle.cweb_store.specs.declared.parts.PartKind.TheVariants as part
 use Rattle.cweb_store.specs.Calls.{empty, with_open}
 use Rattle.cweb_store.specs.Parts.{Token, Word, Number, Literal, Punct, Head}
 use Rattle.cweb_rules.specs.Kinds.{Quoted, Numeral, Punctuator, Code}

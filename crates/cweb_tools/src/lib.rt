@@ -1,14 +1,21 @@
-//! What the programs stand on: their command lines, their messages, the files and streams of the system, and the
-//! runs themselves.
+//! The runs of the programs, and what else these stand on: command lines and messages (`cweb_log`), the files and streams of the system
+//! (`cweb_system`).
 #![tactic(auto)]
 
-pub mod laws;
+// the runs
+mod tangle;
+mod wmerge;
+
+// a web that was read, and its outputs
 mod outputs;
+mod web;
+
+// the lines of the log that are wanted, and what a stop is about
 mod saying;
 mod subjects;
-mod tangle;
-mod web;
-mod wmerge;
+
+// what is printed is read again
+pub mod laws;
 
 pub use cweb_log::{
     MergeWords, Options, Shown, write_banner, write_closing, write_counts, write_faults,

@@ -1,7 +1,7 @@
 // What the runs share: the folder of included files, and what a stop is about.
 ghost use Rattle.std.specs.Prelude.{◌≡◌, ◌≤◌, length};
 ghost use Rattle.std.specs.Option.{option_copied};
-ghost use Rattle.cweb_lines.specs.Names.{names_of as file_names};
+ghost use Rattle.cweb_lines.specs.Names as spec;
 ghost use Rattle.cweb_lines.specs.Texts.{files_named};
 ghost use Rattle.cweb_log.specs.Log.{subject};
 ghost use Rattle.cweb_tools.specs.Course.{folder_of};
@@ -20,8 +20,8 @@ pub(crate) fn folder(inputs: Option<&str>) -> Option<&str>
 
 /// What a stop within a merge is about.
 pub(crate) fn subject(names: &FileNames, stop: Stop) -> &str
-    requires { files_named stop ≤ length (file_names names.now) }
-    ensures { result.now ≡ subject (file_names names.now) stop }
+    requires { files_named stop ≤ length (spec.names_of names.now) }
+    ensures { result.now ≡ subject (spec.names_of names.now) stop }
 {
     match stop {
         Stop::ReadFault(file) | Stop::LineTooLong(file) => names.get(file),

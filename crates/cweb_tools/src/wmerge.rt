@@ -1,7 +1,7 @@
 // A run of `wmerge`.
 ghost use Rattle.std.specs.Prelude.{◌≡◌, ◌≢◌, ◌<◌, ◌≤◌, ◌+◌, ◌^◌, length, map, All, None, Some};
 ghost use Rattle.std.specs.Option.{option_copied};
-ghost use Rattle.cweb_lines.specs.Names.{names_of as file_names};
+ghost use Rattle.cweb_lines.specs.Names as spec;
 ghost use Rattle.cweb_lines.specs.Texts.{files_named};
 ghost use Rattle.cweb_log.specs.Gathering.{Logs};
 ghost use Rattle.cweb_log.specs.Log.{fault_lines, start_subject, stop_line, subject};
@@ -96,8 +96,8 @@ fn start_subject(asked: &MergeWords, stop: Stop) -> &str
 /// Logs the faults of a merge, and answers the status of a run that ends so.
 fn log_faults<L: Sink>(log: &mut L, names: &FileNames, faults: &[SourceFault]) -> u8
     requires count { L.failed log.old + 1 < 2 ^ 64 }
-    requires known { All (λ fault. fault.place.file.0 < length (file_names names.now)) faults.now }
-    ensures logs { Logs (fault_lines (file_names names.now) faults.now)
+    requires known { All (λ fault. fault.place.file.0 < length (spec.names_of names.now)) faults.now }
+    ensures logs { Logs (fault_lines (spec.names_of names.now) faults.now)
         (seen_stream L.Sink log.old) (seen_stream L.Sink log.new) }
     ensures answered { L.failed log.new ≡ L.failed log.old → result ≡ fault_status faults.now }
     ensures failed { L.failed log.new ≢ L.failed log.old → result ≡ 1 }

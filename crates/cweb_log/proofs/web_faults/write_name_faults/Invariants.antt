@@ -1,7 +1,7 @@
 use Rattle.std.proofs.Common.{[], Ok, take}
 use Rattle.std.specs.List.{flat_map}
 use Rattle.cweb_files.specs.declared.device.SinkFault.{SinkFault}
-use Rattle.cweb_store.specs.declared.name.NameFault.{NameFault}
+use Rattle.cweb_store.specs.declared.names.NameFault.{NameFault}
 use Rattle.cweb_log.specs.Gathered.{pending}
 use Rattle.cweb_log.specs.Gathering.{GathersMore}
 use Rattle.cweb_log.specs.Items.{line}

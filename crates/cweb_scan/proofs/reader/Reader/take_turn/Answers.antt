@@ -2,7 +2,7 @@ use Rattle.std.proofs.Common.{ap, sym, ◌∙◌}
 use Rattle.cweb_scan.specs.Held.{Held}
 use Rattle.cweb_scan.specs.OpenRest.{is_open}
 use Rattle.cweb_scan.specs.Opened.{item_of}
-use Rattle.cweb_scan.specs.declared.open.Open.{Open}
+use Rattle.cweb_scan.specs.declared.reader.open.Open.{Open}
 use Rattle.cweb_scan.proofs.LineTurns.{between_turn, open_turn, kept_open}
 use Rattle.cweb_scan.proofs.reader.Reader.take_turn.Goals as goal
 

@@ -5,7 +5,7 @@ use Rattle.cweb_store.specs.Layout.{is_layout}
 use Rattle.cweb_store.specs.Seen.{seen}
 use Rattle.cweb_scan.specs.Kept.{IsTied, has_part, step}
 use Rattle.cweb_scan.specs.State.{State}
-use Rattle.cweb_scan.specs.declared.directive.Directive.{Directive}
+use Rattle.cweb_scan.specs.declared.scanner.directive.Directive.{Directive}
 use Rattle.cweb_scan.proofs.Steps.{tied_given}
 use Rattle.cweb_scan.proofs.scanner.Scanner.give.Goals as goal
 

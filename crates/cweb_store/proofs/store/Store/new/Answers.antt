@@ -1,8 +1,8 @@
 use Rattle.std.proofs.Common.{◌≡◌, ◌<◌, ℕ, List, [], map, length, sym, ◌∙◌, ap, subst, arith}
 use Rattle.std.specs.Prelude.{IfSome}
 use Rattle.std.proofs.lemmas.List.{length-map}
-use Rattle.cweb_store.specs.declared.name.NameId.{NameId}
-use Rattle.cweb_store.specs.declared.part.Run.{Run}
+use Rattle.cweb_store.specs.declared.names.NameId.{NameId}
+use Rattle.cweb_store.specs.declared.parts.Run.{Run}
 use Rattle.cweb_store.specs.Names.{Name, Standing, files_from, names, stands}
 use Rattle.cweb_store.specs.Parts.{has_defs_code}
 use Rattle.cweb_store.specs.Faults.{faults}

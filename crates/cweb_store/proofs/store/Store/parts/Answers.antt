@@ -1,6 +1,6 @@
 use Rattle.std.proofs.Common.{◌≤◌, ◌<◌, ◌↔◌, List, length, sym, ◌∙◌, ap, subst}
 use Rattle.std.specs.Prelude.{All, IsTrue}
-use Rattle.cweb_store.specs.declared.part.Part.{Part}
+use Rattle.cweb_store.specs.declared.parts.Part.{Part}
 use Rattle.cweb_store.specs.Names as spec
 use Rattle.cweb_store.specs.Parts.{all_tokens, is_of, tokens_at}
 use Rattle.cweb_store.specs.Faults.{has_part}

@@ -5,7 +5,7 @@ use Rattle.cweb_store.specs.Names as spec
 use Rattle.cweb_store.specs.Runs.{runs_from}
 use Rattle.cweb_store.specs.Wanted.{is_wanted, wanted_in}
 use Rattle.cweb_store.specs.Links.{followed}
-use Rattle.cweb_store.specs.declared.part.Run.{Run}
+use Rattle.cweb_store.specs.declared.parts.Run.{Run}
 use Rattle.cweb_store.proofs.RunLemmas.{stored-runs}
 use Rattle.cweb_store.proofs.store.Store.wanted.Goals as goal
 

@@ -1,0 +1,37 @@
+use Rattle.std.proofs.Common.{ap}
+use Rattle.cweb_lines.specs.Names.{names_of}
+use Rattle.cweb_lines.specs.Texts.{read_blame}
+use Rattle.cweb_lines.proofs.Named.{blames_none, knows_only}
+use Rattle.cweb_lines.proofs.Fronts.{told_behind, told_then}
+use Rattle.cweb_lines.proofs.Replaces.{tells_front, closes_some}
+use Rattle.cweb_lines.proofs.change.old_side.begin_change.Goals as goal
+
+pub returns-in-Err-clause-told : goal.returns-in-Err-clause-told
+returns-in-Err-clause-told g c = λ tells. tells_front _ _ _ _ (c.in-Err.ensures.told tells)
+
+pub returns-in-Err-close-clause-told : goal.returns-in-Err-close-clause-told
+returns-in-Err-close-clause-told g c = λ tells. closes_some c.args.begin _ _ _ _ _ _ _ _ (c.in-Ok.ensures.replaced tells) c.in-Err-close.ensures.err (ap names_of c.in-Err-close.ensures.only.names)
+
+-- what was told stays
+pub returns-in-Err-close-clause-still : goal.returns-in-Err-close-clause-still
+returns-in-Err-close-clause-still g c =
+    told_then _ _ _ c.in-Ok.ensures.still (told_behind _ _ _ c.in-Err-close.ensures.err.told
+    (ap names_of c.in-Err-close.ensures.only.names))
+
+pub returns-clause-still : goal.returns-clause-still
+returns-clause-still g c = told_then _ _ _ c.in-Ok.ensures.still
+    (told_behind _ _ _ c.in_default.ensures.told (ap names_of c.in_default.ensures.only.names))
+
+-- the readers
+pub returns-in-Err-close-clause-readers : goal.returns-in-Err-close-clause-readers
+returns-in-Err-close-clause-readers g c = λ tells known. knows_only c.in-Err-close.ensures.only
+    (c.in-Ok.ensures.readers tells known)
+
+pub returns-in-Err-close-clause-blamed : goal.returns-in-Err-close-clause-blamed
+returns-in-Err-close-clause-blamed g c = λ tells known. blames_none _ _ _ _
+    (ap read_blame c.in-Err-close.ensures.memory) (c.in-Ok.ensures.blamed tells known)
+
+pub returns-clause-readers : goal.returns-clause-readers
+returns-clause-readers g c = λ tells known.
+    let closed = knows_only c.in_default.ensures.only (c.in-Ok.ensures.readers tells known) in
+    record { texts = closed.texts; change = closed.change }

@@ -1,0 +1,14 @@
+use Rattle.std.proofs.Common.{refl, sym, ◌∙◌}
+use Rattle.cweb_lines.proofs.Fronts.{told_same}
+use Rattle.cweb_lines.proofs.Merges.{gives_line, merge_given}
+use Rattle.cweb_lines.proofs.step.obey.give.Goals as goal
+
+pub returns-then-not-is_include-clause-gives : goal.returns-then-not-is_include-clause-gives
+returns-then-not-is_include-clause-gives g c = λ tells source is. record {
+  rest = _;
+  first = merge_given _ source c.args.line.now c.args.at is _ _ _ _ c.requires.plain (sym c.is_include.ensures ∙ c.if-not-is_include.true);
+  gives = gives_line _ _ _ _ refl (record { bytes = c.args.line.now; place = c.args.at.place }) refl refl refl;
+}
+
+pub returns-then-not-is_include-clause-still : goal.returns-then-not-is_include-clause-still
+returns-then-not-is_include-clause-still g c = told_same _ _ refl refl

@@ -1,0 +1,106 @@
+use Rattle.std.proofs.Common.{◌<◌, ◌∷◌, ℕ, List, Vec, Global, length, refl, ap, sym, subst, ◌∙◌, arith, string_bytes}
+use Rattle.cweb_lines.specs.Names.{names_of}
+use Rattle.cweb_lines.specs.Change.{at_place}
+use Rattle.cweb_lines.specs.Counts.{count_of}
+use Rattle.cweb_lines.specs.Finding.{world_in}
+use Rattle.cweb_lines.specs.Include.{found_at}
+use Rattle.cweb_lines.specs.Merge.{Event, opening}
+use Rattle.cweb_lines.specs.Naming.{AreReadersKnown}
+use Rattle.cweb_lines.specs.declared.fault.SourceFault.{SourceFault}
+use Rattle.cweb_lines.specs.declared.fault.SourceKind.TheVariants.{NoName, TooDeep, NotThere}
+use Rattle.cweb_lines.proofs.Named.{knows_only}
+use Rattle.cweb_lines.proofs.Fronts.{told_if, told_same}
+use Rattle.cweb_lines.proofs.Found.{OnOk-map}
+use Rattle.cweb_lines.proofs.Merges.{gives_opening, merge_no_name, merge_too_deep, merge_not_there, merge_opens, include_long, empty_is, some_are}
+use Rattle.cweb_lines.proofs.Runs.{coming_opened, gives_told}
+use Rattle.cweb_lines.proofs.step.obey.obey.Goals as goal
+
+pub include_name-name-requires : goal.include_name-name-requires
+include_name-name-requires g c = include_long c.args.line.now c.requires.include
+
+pub returns-then-is_empty-clause-obeys : goal.returns-then-is_empty-clause-obeys
+returns-then-is_empty-clause-obeys g c = λ tells. OnOk-map c.tell.result (λ told source is. record {
+  rest = _;
+  first = merge_no_name _ source c.args.line.now c.args.at is _ _ _ _ c.requires.plain c.requires.include
+      (sym c.include_name-name.ensures ∙ empty_is c.include_name-name.result.now (sym c.is_empty.ensures ∙ c.if-is_empty.true));
+  gives = gives_told _ _ _ _ c.args.run.now c.tell.new.self (at_place NoName c.args.at.place) refl refl c.tell.ensures.only.inputs c.tell.ensures.only.stack c.tell.ensures.only.change c.tell.ensures.only.stage c.tell.ensures.only.first c.tell.ensures.only.names c.tell.ensures.only.limits told;
+}) c.tell.ensures.told
+
+pub returns-then-at-ge-OPEN_FILES-clause-obeys : goal.returns-then-at-ge-OPEN_FILES-clause-obeys
+returns-then-at-ge-OPEN_FILES-clause-obeys g c = λ tells. OnOk-map c.tell-then-at-ge-OPEN_FILES.result (λ told source is.
+    let some = subst (λ (n : List ℕ). 0 < length n) c.include_name-name.ensures (some_are c.include_name-name.result.now (sym c.is_empty.ensures ∙ c.if-is_empty.false)) in
+    record {
+      rest = _;
+      first = merge_too_deep _ source c.args.line.now c.args.at is _ _ _ _ c.requires.plain c.requires.include some (omega (arith, c.if-at-ge-OPEN_FILES.true));
+      gives = gives_told _ _ _ _ c.args.run.now c.tell-then-at-ge-OPEN_FILES.new.self (at_place TooDeep c.args.at.place) refl refl c.tell-then-at-ge-OPEN_FILES.ensures.only.inputs c.tell-then-at-ge-OPEN_FILES.ensures.only.stack c.tell-then-at-ge-OPEN_FILES.ensures.only.change
+          c.tell-then-at-ge-OPEN_FILES.ensures.only.stage c.tell-then-at-ge-OPEN_FILES.ensures.only.first c.tell-then-at-ge-OPEN_FILES.ensures.only.names c.tell-then-at-ge-OPEN_FILES.ensures.only.limits told;
+    }) c.tell-then-at-ge-OPEN_FILES.ensures.told
+
+pub returns-in_default-clause-obeys : goal.returns-in_default-clause-obeys
+returns-in_default-clause-obeys g c = λ tells. OnOk-map c.tell-in_default.result (λ told source is.
+    let some = subst (λ (n : List ℕ). 0 < length n) c.include_name-name.ensures (some_are c.include_name-name.result.now (sym c.is_empty.ensures ∙ c.if-is_empty.false)) in
+    let none = rw c.in_default.is at (c.in_ok-opening.ensures.found tells) in
+    record {
+      rest = _;
+      first = merge_not_there _ source c.args.line.now c.args.at is _ _ _ _ c.requires.plain c.requires.include some (omega (arith, c.if-at-ge-OPEN_FILES.false))
+          (none ∙ ap (found_at (world_in (g.S.Shelf.texts c.args.shelf.now) c.args.run.now.inputs)) c.include_name-name.ensures);
+      gives = gives_told _ _ _ _ c.args.run.now c.tell-in_default.new.self (at_place NotThere c.args.at.place) (c.in_ok-opening.ensures.keeps.texts tells) (c.in_ok-opening.ensures.keeps.left tells) c.tell-in_default.ensures.only.inputs c.tell-in_default.ensures.only.stack c.tell-in_default.ensures.only.change
+          c.tell-in_default.ensures.only.stage c.tell-in_default.ensures.only.first c.tell-in_default.ensures.only.names c.tell-in_default.ensures.only.limits told;
+    }) c.tell-in_default.ensures.told
+
+pub returns-clause-obeys : goal.returns-clause-obeys
+returns-clause-obeys g c = λ tells. OnOk-map c.open.result (λ names source is.
+    let some = subst (λ (n : List ℕ). 0 < length n) c.include_name-name.ensures (some_are c.include_name-name.result.now (sym c.is_empty.ensures ∙ c.if-is_empty.false)) in
+    let there = rw c.in-Some.is at (c.in_ok-opening.ensures.found tells) in
+    record {
+      rest = _;
+      first = merge_opens _ source c.args.line.now c.args.at is _ _ _ _ c.requires.plain (string_bytes c.in-Some.opening.name) (g.S.Shelf.left c.find.new.shelf c.in-Some.opening.reader) c.requires.include some (omega (arith, c.if-at-ge-OPEN_FILES.false))
+          (there ∙ ap (found_at (world_in (g.S.Shelf.texts c.args.shelf.now) c.args.run.now.inputs)) c.include_name-name.ensures);
+      gives = gives_opening _ _ _ _ (ap count_of c.open.ensures.limits) (string_bytes c.in-Some.opening.name)
+          (ap (λ (es : List Event). opening (string_bytes c.in-Some.opening.name) ∷ es)
+          (coming_opened (g.S.Shelf.texts c.args.shelf.now) (g.S.Shelf.texts c.find.new.shelf) (g.S.Shelf.left c.args.shelf.now) (g.S.Shelf.left c.find.new.shelf)
+          c.args.run.now c.open.new.run c.in-Some.opening.reader (string_bytes c.in-Some.opening.name) c.args.at (c.in_ok-opening.ensures.keeps.texts tells) (c.in_ok-opening.ensures.keeps.left tells) c.open.ensures.inputs c.open.ensures.change
+          c.open.ensures.stage c.open.ensures.first names.0 c.requires.settled names.1 c.open.ensures.below))
+          (ap (λ (v : Vec SourceFault Global). v.items) c.open.ensures.faults) names.0;
+    }) c.open.ensures.opens
+
+-- what was told stays
+pub returns-then-is_empty-clause-still : goal.returns-then-is_empty-clause-still
+returns-then-is_empty-clause-still g c = told_if c.tell.result _ _ _ c.tell.ensures.told c.tell.ensures.err
+    (ap names_of c.tell.ensures.only.names)
+
+pub returns-then-at-ge-OPEN_FILES-clause-still : goal.returns-then-at-ge-OPEN_FILES-clause-still
+returns-then-at-ge-OPEN_FILES-clause-still g c =
+    let tell = c.tell-then-at-ge-OPEN_FILES in
+    told_if tell.result _ _ _ tell.ensures.told tell.ensures.err (ap names_of tell.ensures.only.names)
+
+pub returns-in_default-clause-still : goal.returns-in_default-clause-still
+returns-in_default-clause-still g c =
+    let tell = c.tell-in_default in
+    told_if tell.result _ _ _ tell.ensures.told tell.ensures.err (ap names_of tell.ensures.only.names)
+
+pub returns-in_err-opening-clause-still : goal.returns-in_err-opening-clause-still
+returns-in_err-opening-clause-still g c = told_same _ _ refl refl
+
+-- the readers
+pub returns-then-is_empty-clause-readers : goal.returns-then-is_empty-clause-readers
+returns-then-is_empty-clause-readers g c = λ tells known. knows_only c.tell.ensures.only known
+
+pub returns-then-at-ge-OPEN_FILES-clause-readers : goal.returns-then-at-ge-OPEN_FILES-clause-readers
+returns-then-at-ge-OPEN_FILES-clause-readers g c = λ tells known. knows_only
+    c.tell-then-at-ge-OPEN_FILES.ensures.only known
+
+pub returns-in_default-clause-readers : goal.returns-in_default-clause-readers
+returns-in_default-clause-readers g c = λ tells known.
+    knows_only c.tell-in_default.ensures.only
+    (subst (λ f. AreReadersKnown f c.args.run.now) (sym (c.in_ok-opening.ensures.keeps.names tells)) known)
+
+pub returns-clause-readers : goal.returns-clause-readers
+returns-clause-readers g c = λ tells known.
+    c.open.ensures.readers (g.S.Shelf.opened_as c.find.new.shelf)
+    (rw c.in-Some.is at (c.in_ok-opening.ensures.opened tells))
+    (subst (λ f. AreReadersKnown f c.args.run.now) (sym (c.in_ok-opening.ensures.keeps.names tells)) known)
+
+pub returns-in_err-opening-clause-readers : goal.returns-in_err-opening-clause-readers
+returns-in_err-opening-clause-readers g c = λ tells known.
+    subst (λ f. AreReadersKnown f c.args.run.now) (sym (c.in_err-opening.ensures.keeps.names tells)) known

@@ -1,0 +1,14 @@
+use Rattle.std.proofs.Common.{sym, subst}
+use Rattle.cweb_lines.specs.Names.{names_of}
+use Rattle.cweb_lines.specs.Naming.{AreNamed}
+use Rattle.cweb_lines.proofs.step.progress.take_change.Goals as goal
+
+pub returns-clause-readers : goal.returns-clause-readers
+returns-clause-readers g c = λ tells known. record {
+  change = c.take_from.ensures.named tells _ known.change;
+  texts = subst (λ f. AreNamed f (names_of c.args.run.now.names) c.args.run.now.stack.texts)
+      (sym (c.take_from.ensures.keeps.names tells)) known.texts;
+}
+
+pub returns-clause-blamed : goal.returns-clause-blamed
+returns-clause-blamed g c = λ tells known. c.take_from.ensures.blamed tells _ known.change

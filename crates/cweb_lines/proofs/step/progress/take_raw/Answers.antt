@@ -1,0 +1,14 @@
+use Rattle.std.proofs.Common.{sym, subst}
+use Rattle.cweb_lines.specs.Names.{names_of}
+use Rattle.cweb_lines.specs.Naming.{IsNamed}
+use Rattle.cweb_lines.proofs.step.progress.take_raw.Goals as goal
+
+pub returns-clause-readers : goal.returns-clause-readers
+returns-clause-readers g c = λ tells known. record {
+  texts = c.take_above.ensures.named tells _ known.texts;
+  change = subst (λ f. IsNamed f (names_of c.args.run.now.names) c.args.run.now.change)
+      (sym (c.take_above.ensures.keeps.names tells)) known.change;
+}
+
+pub returns-clause-blamed : goal.returns-clause-blamed
+returns-clause-blamed g c = λ tells known. c.take_above.ensures.blamed tells _ known.texts

@@ -1,0 +1,45 @@
+use Rattle.std.proofs.Common.{◌∷◌, List, length, ap, sym, ◌∙◌, refl}
+use Rattle.cweb_lines.specs.Change.{at_place}
+use Rattle.cweb_lines.specs.Counts.{count_of}
+use Rattle.cweb_lines.specs.Finding.{world_in}
+use Rattle.cweb_lines.specs.Merge.{Event, fault}
+use Rattle.cweb_lines.specs.Merging.{told_by}
+use Rattle.cweb_lines.specs.Names.{names_of}
+use Rattle.cweb_lines.specs.Stages.{floor_of}
+use Rattle.cweb_lines.specs.Texts.{read_blame}
+use Rattle.cweb_lines.specs.declared.fault.SourceKind.TheVariants.{NoMatch}
+use Rattle.cweb_lines.proofs.Named.{blames_none, knows_only}
+use Rattle.cweb_lines.proofs.Fronts.{told_behind, told_same}
+use Rattle.cweb_lines.proofs.Merges.{gives_fault}
+use Rattle.cweb_lines.proofs.Runs.{no_match, nothing_above}
+use Rattle.cweb_lines.proofs.step.turning.take_end.Goals as goal
+
+pub returns-in_default-clause-gives : goal.returns-in_default-clause-gives
+returns-in_default-clause-gives g c = λ tells.
+    let none = c.requires.floor ∙ ap floor_of c.in-Waiting.is in
+    gives_fault (told_by c.args.run.now) (told_by c.tell.new.self) _ _ (ap count_of c.in_default.ensures.only.limits) (at_place NoMatch c.in-Waiting.begin)
+    (no_match (g.S.Shelf.texts c.args.shelf.now) (g.S.Shelf.left c.args.shelf.now) c.args.run.now c.in-Waiting.begin c.in-Waiting.is none
+    ∙ ap (λ (es : List Event). fault (at_place NoMatch c.in-Waiting.begin) ∷ es)
+    (sym (nothing_above (world_in (g.S.Shelf.texts c.args.shelf.now) c.tell.new.self.inputs) (g.S.Shelf.left c.args.shelf.now) c.tell.new.self.stack (length (names_of c.tell.new.self.names))
+    (ap (λ s. s.depth) c.in_default.ensures.only.stack ∙ none))))
+    c.in_default.ensures.told (ap names_of c.in_default.ensures.only.names)
+
+-- what was told stays
+pub returns-in-Err-clause-still : goal.returns-in-Err-clause-still
+returns-in-Err-clause-still g c = told_same _ _ c.in-Err.ensures.err (ap names_of c.in-Err.ensures.only.names)
+
+pub returns-in_default-clause-still : goal.returns-in_default-clause-still
+returns-in_default-clause-still g c = told_behind _ _ _ c.in_default.ensures.told
+    (ap names_of c.in_default.ensures.only.names)
+
+-- the readers
+pub returns-in-Err-clause-readers : goal.returns-in-Err-clause-readers
+returns-in-Err-clause-readers g c = λ tells known. knows_only c.in-Err.ensures.only known
+
+pub returns-in-Err-clause-blamed : goal.returns-in-Err-clause-blamed
+returns-in-Err-clause-blamed g c = λ tells known. blames_none _ _ _ _ (ap read_blame c.in-Err.ensures.memory) refl
+
+pub returns-in_default-clause-readers : goal.returns-in_default-clause-readers
+returns-in_default-clause-readers g c = λ tells known.
+    let told = knows_only c.in_default.ensures.only known in
+    record { texts = told.texts; change = told.change }

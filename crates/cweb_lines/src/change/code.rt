@@ -1,0 +1,29 @@
+// The code lines of a change file.
+ghost use Rattle.std.specs.Prelude.{◌≡◌};
+ghost use Rattle.cweb_lines.specs.Change as spec;
+
+/// A code line of a change file, by the part of an entry that it begins or ends.
+#[derive(Clone, Copy, Debug, PartialEq, Eq)]
+pub enum Code {
+    /// `@x`: the old lines begin.
+    OldSide,
+    /// `@y`: the new lines begin.
+    NewSide,
+    /// `@z`: the entry ends.
+    EndSide,
+}
+
+/// The code of a line that begins with `@` and the letter x, y or z in either case. The rest of the line is ignored.
+pub fn code_of(line: &[u8]) -> Option<Code>
+    ensures { result ≡ spec.code_of line.now }
+{
+    if line.len() < 2 || line[0] != b'@' {
+        return None;
+    }
+    match line[1] {
+        b'x' | b'X' => Some(Code::OldSide),
+        b'y' | b'Y' => Some(Code::NewSide),
+        b'z' | b'Z' => Some(Code::EndSide),
+        _ => None,
+    }
+}

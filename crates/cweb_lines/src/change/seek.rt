@@ -1,0 +1,178 @@
+// The search for the next entry of a change file.
+ghost use Rattle.std.specs.Prelude.{◌≡◌, ◌≤◌, ◌<◌, ◌+◌, ◌^◌, ◌++◌, ◌∷◌, [], List, length, IsTrue, IfOk, IfErr, OnOk, OnErr, None, Some};
+ghost use Rattle.cweb_files.specs.Frames.{KeepsTexts};
+ghost use Rattle.cweb_lines.specs.Change.{sought};
+ghost use Rattle.cweb_lines.specs.Counts.{count_of};
+ghost use Rattle.cweb_lines.specs.Lines.{SourceLine};
+ghost use Rattle.cweb_lines.specs.Merging.{KeepsTold, StopsAmong, TellsSome, change_lines, told_by, turns_left};
+ghost use Rattle.cweb_lines.specs.Names.{names_of};
+ghost use Rattle.cweb_lines.specs.Seeking.{BegunKnown, LooksAt, LooksKnown, Searched, ToldFront, begun_outside, told_outside};
+ghost use Rattle.cweb_lines.specs.Texts.{ReadBlames, StopsFor, StopsReading, files_named};
+ghost use Rattle.cweb_lines.specs.Steps.{OnlyTells};
+ghost use Rattle.cweb_lines.specs.Naming.{BlamesReaders, KeepsReaders};
+
+use crate::change::Stage;
+use crate::change::code::{Code, code_of};
+use crate::fault::SourceKind;
+use crate::run::Run;
+use crate::step::progress::take_change;
+use crate::stop::Stop;
+use cweb_files::{Place, Shelf};
+use std::mem::swap;
+
+/// What one line of the change file comes to in a search.
+#[derive(Clone, Copy, Debug, PartialEq, Eq)]
+pub enum Look {
+    /// It is the first old line of the entry whose `@x` line stands here.
+    Entry(Place),
+    /// The search goes on, behind an `@x` line or outside an entry.
+    On(Option<Place>),
+}
+
+// A line outside an entry: where it is an @x line, an entry may begin there.
+fn pass<R: Drop>(run: &mut Run<R>, code: Option<Code>, place: Place) -> Result<Option<Place>, Stop>
+    requires known { place.file.0 < length (names_of run.old.names) }
+    ensures next { IfOk result (λ next. next ≡ begun_outside code place) }
+    ensures told { OnOk result (run.new.faults.items ≡ run.old.faults.items ++ told_outside code place) }
+    ensures err { OnErr result (run.new.faults.items ≡ run.old.faults.items) }
+    ensures memory { IfErr result (λ stop. stop ≡ Stop.Memory) }
+    ensures only { OnlyTells run.old run.new }
+{
+    match code {
+        None => Ok(None),
+        Some(Code::OldSide) => Ok(Some(place)),
+        Some(Code::NewSide) | Some(Code::EndSide) => {
+            if let Err(stop) = run.tell(SourceKind::MissingX, place, 0) {
+                return Err(stop);
+            }
+            Ok(None)
+        }
+    }
+}
+
+// A line behind an @x line: empty lines are skipped, and a code line begins the search anew.
+fn look_behind<R: Drop>(
+    run: &mut Run<R>,
+    line: &[u8],
+    place: Place,
+    begin: Place,
+) -> Result<Look, Stop>
+    requires known { place.file.0 < length (names_of run.old.names) }
+    requires begun { begin.file.0 < length (names_of run.old.names) }
+    ensures looks { IfOk result (λ look. LooksAt look (Some begin) line.now place run.old.faults.items run.new.faults.items) }
+    ensures err { OnErr result ((source : SourceLine) → source.line ≡ record { bytes = line.now; place = place } → (lines : List SourceLine)
+        → ToldFront (sought (source ∷ lines) (Some begin)).faults run.old.faults.items run.new.faults.items) }
+    ensures known { IfOk result (λ look. LooksKnown (length (names_of run.old.names)) look) }
+    ensures memory { IfErr result (λ stop. stop ≡ Stop.Memory) }
+    ensures only { OnlyTells run.old run.new }
+{
+    if line.is_empty() {
+        return Ok(Look::On(Some(begin)));
+    }
+    let code = code_of(line);
+    if code.is_none() {
+        return Ok(Look::Entry(begin));
+    }
+    if let Err(stop) = run.tell(SourceKind::NoOldLines, begin, 0) {
+        return Err(stop);
+    }
+    match pass(run, code, place) {
+        Ok(next) => Ok(Look::On(next)),
+        Err(stop) => Err(stop),
+    }
+}
+
+// One line of the change file, behind an @x line or outside an entry.
+fn look_at<R: Drop>(
+    run: &mut Run<R>,
+    line: &[u8],
+    place: Place,
+    begin: Option<Place>,
+) -> Result<Look, Stop>
+    requires known { place.file.0 < length (names_of run.old.names) }
+    requires begun { BegunKnown (length (names_of run.old.names)) begin }
+    ensures looks { IfOk result (λ look. LooksAt look begin line.now place run.old.faults.items run.new.faults.items) }
+    ensures err { OnErr result ((source : SourceLine) → source.line ≡ record { bytes = line.now; place = place } → (lines : List SourceLine)
+        → ToldFront (sought (source ∷ lines) begin).faults run.old.faults.items run.new.faults.items) }
+    ensures known { IfOk result (λ look. LooksKnown (length (names_of run.old.names)) look) }
+    ensures memory { IfErr result (λ stop. stop ≡ Stop.Memory) }
+    ensures only { OnlyTells run.old run.new }
+{
+    if let Some(begin) = begin {
+        return look_behind(run, line, place, begin);
+    }
+    match pass(run, code_of(line), place) {
+        Ok(next) => Ok(Look::On(next)),
+        Err(stop) => Err(stop),
+    }
+}
+
+// The change file has ended: no entry is left.
+fn end<R: Drop>(run: &mut Run<R>, begin: Option<Place>) -> Result<(), Stop>
+    requires begun { BegunKnown (length (names_of run.old.names)) begin }
+    ensures told { OnOk result (run.new.faults.items ≡ run.old.faults.items ++ (sought [] begin).faults) }
+    ensures err { OnErr result (run.new.faults.items ≡ run.old.faults.items) }
+    ensures stage { OnOk result (run.new.stage ≡ Stage.Done) }
+    ensures memory { IfErr result (λ stop. stop ≡ Stop.Memory) }
+    ensures inputs { run.new.inputs ≡ run.old.inputs }
+    ensures stack { run.new.stack ≡ run.old.stack }
+    ensures change { run.new.change ≡ run.old.change }
+    ensures limits { run.new.limits ≡ run.old.limits }
+    ensures names { run.new.names ≡ run.old.names }
+    ensures stopped { run.new.stopped ≡ run.old.stopped }
+{
+    if let Some(place) = begin {
+        if let Err(stop) = run.tell(SourceKind::NoOldLines, place, 0) {
+            return Err(stop);
+        }
+    }
+    run.stage = Stage::Done;
+    Ok(())
+}
+
+/// Seeks the next entry, whose first old line then waits.
+pub fn seek<S: Shelf>(shelf: &mut S, run: &mut Run<S::R>, line: &mut Vec<u8>) -> Result<(), Stop>
+    requires count { S.failed shelf.old + 1 < 2 ^ 64 }
+    requires seeking { run.old.stage ≡ Stage.Seeking }
+    ensures keeps { KeepsTexts S.Shelf shelf.old shelf.new }
+    ensures failed { ReadBlames (S.failed shelf.old) (S.failed shelf.new) result }
+    ensures readers { KeepsReaders S.Shelf shelf.old shelf.new run.old run.new }
+    ensures blamed { BlamesReaders S.Shelf shelf.old shelf.new run.old run.new result }
+    ensures searched { IsTrue (S.tells shelf.old) → OnOk result (Searched (sought (change_lines (S.left shelf.old) run.old) None) (told_by run.old) (told_by run.new)
+        run.new.stage run.new.first.items (change_lines (S.left shelf.new) run.new)) }
+    ensures stops { IsTrue (S.tells shelf.old) → IfErr result (λ stop. StopsFor (StopsAmong stop (count_of run.old.limits) (count_of run.new.limits)
+        (sought (change_lines (S.left shelf.old) run.old) None).taken) stop) }
+    ensures told { IsTrue (S.tells shelf.old) → OnErr result (TellsSome (sought (change_lines (S.left shelf.old) run.old) None).faults (told_by run.old) (told_by run.new)) }
+    ensures still { KeepsTold (told_by run.old) (told_by run.new) }
+    ensures reading { IfErr result (λ stop. StopsReading stop) }
+    ensures named { IfErr result (λ stop. files_named stop ≤ length (names_of run.new.names)) }
+    ensures longer { OnOk result (run.old.limits.bytes ≤ run.new.limits.bytes) }
+    ensures counts { OnOk result ((run.old.limits.lines ≤ run.new.limits.lines) × (turns_left run.new.limits.lines run.new.stage < turns_left run.old.limits.lines run.old.stage)) }
+    ensures inputs { run.new.inputs ≡ run.old.inputs }
+    ensures stack { run.new.stack ≡ run.old.stack }
+    ensures names { run.new.names ≡ run.old.names }
+    ensures stopped { run.new.stopped ≡ run.old.stopped }
+{
+    let mut begin: Option<Place> = None;
+    'lines: loop {
+        let taken = match take_change(shelf, run, line) {
+            Ok(taken) => taken,
+            Err(stop) => return Err(stop),
+        };
+        let Some(at) = taken else {
+            return end(run, begin);
+        };
+        let looked = match look_at(run, line, at.place, begin) {
+            Ok(looked) => looked,
+            Err(stop) => return Err(stop),
+        };
+        match looked {
+            Look::On(next) => begin = next,
+            Look::Entry(place) => {
+                swap(&mut run.first, line);
+                run.stage = Stage::Waiting(place);
+                return Ok(());
+            }
+        }
+    }
+}

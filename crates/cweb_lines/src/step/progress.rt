@@ -1,0 +1,132 @@
+// What a merger does at once: it takes a line, or tells a fault.
+ghost use Rattle.std.specs.Prelude.{◌≡◌, ◌≤◌, ◌<◌, ◌+◌, ◌^◌, ◌++◌, ◌∷◌, [], length, IsTrue, IfOk, IfErr, IfSome, OnSome, Ok, OnOk, OnErr, None};
+ghost use Rattle.cweb_files.specs.Frames.{KeepsTexts};
+ghost use Rattle.cweb_lines.specs.Counts.{count_of};
+ghost use Rattle.cweb_lines.specs.Lines.{IsOneLine};
+ghost use Rattle.cweb_lines.specs.Merging.{NothingLeft, change_lines};
+ghost use Rattle.cweb_lines.specs.Names.{names_of};
+ghost use Rattle.cweb_lines.specs.Stages.{floor_of};
+ghost use Rattle.cweb_lines.specs.Texts.{ReadBlames, Counted, NamesFiles, TakesLine, TakesAbove, StopsFor, StopsReading, FirstStops, StopsAbove, StaysBelow};
+ghost use Rattle.cweb_lines.specs.Steps.{OnlyTakes, OnlyTells};
+ghost use Rattle.cweb_lines.specs.Naming.{BlamesReaders, KeepsReaders};
+
+use crate::change::Stage;
+use crate::fault::{SourceFault, SourceKind};
+use crate::run::Run;
+use crate::stop::Stop;
+use crate::text::LineAt;
+use crate::text::stack::take_above;
+use crate::text::take::take_from;
+use cweb_files::{Place, Shelf};
+use std::alloc::AllocError;
+
+impl<R: Drop> Run<R> {
+    /// How many texts stay open while lines are taken.
+    pub fn floor(&self) -> usize
+        ensures { result ≡ floor_of self.now.stage }
+    {
+        match self.stage {
+            Stage::Changing(change) => change.below,
+            Stage::Done | Stage::Seeking | Stage::Waiting(_) => 0,
+        }
+    }
+
+    /// Whether nothing is left.
+    pub fn has_ended(&self) -> bool
+        ensures yes { IsTrue result → NothingLeft self.now }
+        ensures no { NothingLeft self.now → IsTrue result }
+    {
+        self.stack.depth == 0 && self.stage == Stage::Done
+    }
+
+    /// Whether the next line can be given without a read. It is not said where more may have to be read, as where a line
+    /// may begin a change.
+    pub fn has_line(&self) -> bool {
+        match self.stage {
+            Stage::Done => self.stack.has_line(),
+            Stage::Seeking => false,
+            Stage::Waiting(_) => self.stack.has_line() && !self.stack.may_begin_with(&self.first),
+            Stage::Changing(change) if self.stack.depth > change.below => self.stack.has_line(),
+            Stage::Changing(_) => self.has_new_line(),
+        }
+    }
+
+    // Whether the change file's next line was read already and is no code line.
+    fn has_new_line(&self) -> bool {
+        match &self.change {
+            Some(text) => text.source.has_line() && !text.source.may_begin_with(b"@"),
+            None => false,
+        }
+    }
+
+    /// Tells a fault.
+    pub fn tell(&mut self, kind: SourceKind, place: Place, count: u32) -> Result<(), Stop>
+        requires known { place.file.0 < length (names_of self.old.names) }
+        ensures told { OnOk result (self.new.faults.items ≡ self.old.faults.items ++ record { kind = kind; place = place; count = count } ∷ []) }
+        ensures err { OnErr result (self.new.faults.items ≡ self.old.faults.items) }
+        ensures memory { IfErr result (λ stop. stop ≡ Stop.Memory) }
+        ensures only { OnlyTells self.old self.new }
+    {
+        let fault = SourceFault { kind, place, count };
+        match self.faults.push(fault) {
+            Ok(()) => Ok(()),
+            Err(e) => Err(AllocError::from(e).into()),
+        }
+    }
+}
+
+/// Takes the next line of the change file.
+pub fn take_change<S: Shelf>(
+    shelf: &mut S,
+    run: &mut Run<S::R>,
+    line: &mut Vec<u8>,
+) -> Result<Option<LineAt>, Stop>
+    requires { S.failed shelf.old + 1 < 2 ^ 64 }
+    ensures keeps { KeepsTexts S.Shelf shelf.old shelf.new }
+    ensures failed { ReadBlames (S.failed shelf.old) (S.failed shelf.new) result }
+    ensures taken { IsTrue (S.tells shelf.old) → IfOk result (λ at. TakesLine (change_lines (S.left shelf.old) run.old) at line.new.items (change_lines (S.left shelf.new) run.new)
+        (count_of run.old.limits) (count_of run.new.limits)) }
+    ensures stops { IsTrue (S.tells shelf.old) → IfErr result (λ stop. StopsFor (FirstStops stop (count_of run.old.limits) (change_lines (S.left shelf.old) run.old)) stop) }
+    ensures readers { KeepsReaders S.Shelf shelf.old shelf.new run.old run.new }
+    ensures blamed { BlamesReaders S.Shelf shelf.old shelf.new run.old run.new result }
+    ensures counted { Counted (count_of run.old.limits) (count_of run.new.limits) result }
+    ensures line { IfOk result (λ at. OnSome at (IsOneLine line.new.items)) }
+    ensures gains { IfOk result (λ at. OnSome at (run.old.limits.bytes + length line.new.items ≤ run.new.limits.bytes)) }
+    ensures known { NamesFiles (length (names_of run.old.names)) result }
+    ensures reading { IfErr result (λ stop. StopsReading stop) }
+    ensures only { OnlyTakes run.old run.new }
+    ensures stack { run.new.stack ≡ run.old.stack }
+{
+    take_from(shelf, &mut run.change, &mut run.limits, line)
+}
+
+/// Takes the next line of the open texts, but for those that stay open.
+#[inline(always)]
+pub fn take_raw<S: Shelf>(
+    shelf: &mut S,
+    run: &mut Run<S::R>,
+    line: &mut Vec<u8>,
+) -> Result<Option<LineAt>, Stop>
+    requires { S.failed shelf.old + 1 < 2 ^ 64 }
+    ensures keeps { KeepsTexts S.Shelf shelf.old shelf.new }
+    ensures failed { ReadBlames (S.failed shelf.old) (S.failed shelf.new) result }
+    ensures taken { IsTrue (S.tells shelf.old) → IfOk result (λ at. TakesAbove (S.left shelf.old) (S.left shelf.new) (floor_of run.old.stage) run.old.stack run.new.stack at line.new.items
+        (count_of run.old.limits) (count_of run.new.limits)) }
+    ensures stops { IsTrue (S.tells shelf.old) → IfErr result (λ stop. StopsFor (StopsAbove (S.left shelf.old) (floor_of run.old.stage) run.old.stack stop (count_of run.old.limits)) stop) }
+    ensures readers { KeepsReaders S.Shelf shelf.old shelf.new run.old run.new }
+    ensures blamed { BlamesReaders S.Shelf shelf.old shelf.new run.old run.new result }
+    ensures below { StaysBelow (floor_of run.old.stage) run.old.stack.texts run.new.stack.texts }
+    ensures ended { result ≡ Ok None → run.new.stack.depth ≡ floor_of run.old.stage }
+    ensures deeper { IfOk result (λ at. IfSome at (λ a. run.new.stack.depth ≤ a.depth)) }
+    ensures counted { Counted (count_of run.old.limits) (count_of run.new.limits) result }
+    ensures line { IfOk result (λ at. OnSome at (IsOneLine line.new.items)) }
+    ensures gains { IfOk result (λ at. OnSome at (run.old.limits.bytes + length line.new.items ≤ run.new.limits.bytes)) }
+    ensures known { NamesFiles (length (names_of run.old.names)) result }
+    ensures reading { IfErr result (λ stop. StopsReading stop) }
+    ensures shallow { run.new.stack.depth ≤ run.old.stack.depth }
+    ensures only { OnlyTakes run.old run.new }
+    ensures change { run.new.change ≡ run.old.change }
+{
+    let low = run.floor();
+    take_above(shelf, &mut run.stack, low, &mut run.limits, line)
+}

@@ -1,0 +1,12 @@
+use Rattle.std.proofs.Common.{◌≡◌, ◌∷◌, take, Some, None, map}
+use Rattle.std.specs.Prelude.{All, filter}
+use Rattle.cweb_store.specs.Names as spec
+use Rattle.cweb_store.specs.Faults.{has_part}
+use Rattle.cweb_out.specs.Outputs.{IsRoot}
+use Rattle.cweb_out.proofs.planning.output_list.roots.Given as goal
+
+abbrev pub invariant-files : goal.invariant-files
+invariant-files l = record {
+  roots : l.roots.items ≡ None ∷ map Some (filter (has_part (spec.standings l.store.occurrences) l.store.parts) (take l.name-index (spec.files l.store.occurrences)));
+  within : All (IsRoot l.store) l.roots.items;
+}

@@ -1,0 +1,17 @@
+use Rattle.std.proofs.Common.{◌≡◌, None, [], length}
+use Rattle.cweb_out.specs.Frames.{IsWithin, suffix}
+use Rattle.cweb_out.specs.Outputs.{root_list}
+use Rattle.cweb_out.specs.Search.{Fits, Looked}
+use Rattle.cweb_out.proofs.planning.search.Search.settle_program.Given as goal
+
+abbrev pub invariant-names : goal.invariant-names
+invariant-names l = record {
+  store : l.self.store ≡ l.fn.self.store;
+  fits : Fits l.fn.self.store.now l.self.marks.items [];
+  path : l.self.waiting.items ≡ [];
+  within : IsWithin l.fn.self.store.now l.text;
+  looked : Looked l.fn.self.store.now (root_list l.fn.self.store.now None) l.text None;
+}
+
+abbrev pub decreases-names : goal.decreases-names
+decreases-names l = length (suffix l.fn.self.store.now l.text)

@@ -1,8 +1,0 @@
-use Rattle.std.proofs.Common.{◌≡◌, ◌++◌, drop}
-use Rattle.std.specs.Prelude.{codes, if◌then◌else◌, []}
-use Rattle.cweb_scan.specs.Names.{squeezed, squeezed_after}
-use Rattle.cweb_scan.proofs.Spelling.{is_some}
-use Rattle.cweb_scan.proofs.names.squeezed.Given as goal
-
-abbrev pub invariant-loop-byte : goal.invariant-loop-byte
-invariant-loop-byte l = squeezed l.text ≡ l.name.items ++ squeezed_after (is_some l.name.items) (if l.gap then codes " " else []) (drop l.byte-index l.text)

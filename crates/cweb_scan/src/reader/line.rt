@@ -1,0 +1,51 @@
+// The bytes of a line are taken turn by turn.
+ghost use Rattle.std.specs.Prelude.{◌≡◌, ◌≤◌, ◌<◌, ◌+◌, ◌*◌, IfOk, OnOk, length, false};
+ghost use Rattle.cweb_store.specs.Calls.{too_many};
+
+use crate::reader::Reader;
+use crate::reader::open::Open;
+use std::alloc::AllocError;
+
+impl Reader {
+    ghost use Rattle.cweb_rules.specs.Lines.{IsLine};
+    ghost use Rattle.cweb_scan.specs.Held.{cost, TakesBytes};
+    ghost use Rattle.cweb_scan.specs.OpenRest.{awaits_line_end};
+    ghost use Rattle.cweb_scan.specs.Turned.{TakesTurn};
+
+    // One turn: what stands at the front of the rest of a line, or a part of the item that is open.
+    fn take_turn(&mut self, rest: &[u8]) -> Result<usize, AllocError>
+        requires within { awaits_line_end self.old.item ≡ false }
+        requires line { IsLine rest.now }
+        requires some { 1 ≤ length rest.now }
+        requires room { cost self.old + 8 < too_many }
+        ensures { IfOk result (λ n. TakesTurn n rest.now self.old self.new) }
+    {
+        match self.item {
+            Open::Between => {
+                let size = self.take_between(rest)?;
+                Ok(size)
+            }
+            _ => {
+                let size = self.take_open(rest)?;
+                Ok(size)
+            }
+        }
+    }
+
+    /// Takes the bytes of a line; the line end behind them is taken where the next line begins.
+    pub(crate) fn take_bytes(&mut self, line: &[u8]) -> Result<(), AllocError>
+        requires clean { IsLine line.now }
+        requires within { awaits_line_end self.old.item ≡ false }
+        requires room { cost self.old + 3 * length line.now + 8 < too_many }
+        ensures bytes { OnOk result (TakesBytes line.now self.old self.new) }
+        ensures cost { OnOk result (cost self.new ≤ cost self.old + 3 * length line.now) }
+    {
+        let mut rest = line;
+        'turns: while !rest.is_empty() {
+            let size = self.take_turn(rest)?;
+            let (_, after) = rest.split_at(size);
+            rest = after;
+        }
+        Ok(())
+    }
+}

@@ -1,0 +1,118 @@
+// How lines are read, one after another.
+ghost use Rattle.std.specs.Prelude.{◌≡◌, ◌≤◌, ◌<◌, ◌+◌, ◌*◌, ◌∷◌, List, [], IfOk, OnOk, length};
+ghost use Rattle.cweb_store.specs.Calls.{too_many};
+
+use crate::reader::Reader;
+use crate::reader::open::Open;
+use crate::scanner::Scanner;
+use cweb_files::{FileId, Place};
+use cweb_rules::End;
+use std::alloc::AllocError;
+
+impl Reader {
+    ghost use Rattle.std.specs.Prelude.{true, false};
+    ghost use Rattle.cweb_lines.specs.Lines.{Line};
+    ghost use Rattle.cweb_rules.specs.Lines.{IsLine};
+    ghost use Rattle.cweb_scan.specs.Held.{after_line_end, cost, read_after, text_ended, BeginsLine};
+    ghost use Rattle.cweb_scan.specs.OpenRest.{awaits_line_end};
+    ghost use Rattle.cweb_scan.specs.Room.{weight};
+
+    // The line end before a line that stands at a place: it is passed once that place is known.
+    fn end_line(&mut self, next: Place) -> Result<(), AllocError>
+        requires begun { self.old.begun ≡ true }
+        requires room { cost self.old + 8 < too_many }
+        ensures { OnOk result (self.new ≡ after_line_end next self.old.item self.old.state) }
+    {
+        match self.item {
+            Open::Between => self.scanner.end_line(next),
+            Open::Comment(_) => self.scanner.end_comment_line(next),
+            Open::Name { .. } | Open::Raw(_) => {
+                self.text.push(b'\n')?;
+                self.scanner.go_to(next);
+                Ok(())
+            }
+            Open::Literal { begun, .. } => {
+                self.item = Open::Between;
+                self.scanner.give_literal(&self.text, End::Cut, begun)?;
+                self.scanner.end_line(next)
+            }
+            Open::AfterBackslash { begun, quote } => {
+                self.text.extend_from_slice(b"\\\n")?;
+                self.item = Open::Literal { begun, quote };
+                self.scanner.go_to(next);
+                Ok(())
+            }
+        }
+    }
+
+    // A line begins: the first, or one behind a line end.
+    fn begin_line(&mut self, place: Place) -> Result<(), AllocError>
+        requires { cost self.old + 8 < too_many }
+        ensures begins { OnOk result (BeginsLine place self.old self.new) }
+        ensures within { OnOk result (awaits_line_end self.new.item ≡ false) }
+    {
+        if self.begun {
+            self.end_line(place)?;
+            return Ok(());
+        }
+        self.scanner = Scanner::new(self.alloc, place);
+        self.item = Open::Between;
+        self.begun = true;
+        Ok(())
+    }
+
+    /// Takes the next line, which stands at a place.
+    pub fn take_line(&mut self, place: Place, line: &[u8]) -> Result<(), AllocError>
+        requires clean { IsLine line.now }
+        requires room { cost self.old + 3 * (length line.now + 1) + 8 < too_many }
+        ensures read { OnOk result ((lines : List Line) →
+            read_after self.new lines ≡ read_after self.old (record { bytes = line.now; place = place } ∷ lines)) }
+        ensures cost { OnOk result (cost self.new ≤ cost self.old + 3 * (length line.now + 1)) }
+    {
+        self.begin_line(place)?;
+        self.take_bytes(line)?;
+        Ok(())
+    }
+
+    // The text ends, and with it the item that is open.
+    fn end_text(&mut self) -> Result<(), AllocError>
+        requires { cost self.old + 8 < too_many }
+        ensures { OnOk result (self.new.state ≡ text_ended self.old.item self.old.state) }
+    {
+        let item = self.item;
+        self.item = Open::Between;
+        match item {
+            Open::Between => Ok(()),
+            Open::Comment(begun) => self.scanner.pass_comment(End::Cut, begun),
+            Open::Name { begun, is_file } => {
+                self.scanner
+                    .end_name(is_file, &self.text, End::Cut, false, begun)
+            }
+            Open::Literal { begun, .. } => self.scanner.give_literal(&self.text, End::Cut, begun),
+            Open::Raw(begun) => self.scanner.give_literal(&self.text, End::Cut, begun),
+            Open::AfterBackslash { begun, .. } => {
+                self.text.push(b'\\')?;
+                self.scanner.give_literal(&self.text, End::Cut, begun)
+            }
+        }
+    }
+
+    /// No line follows.
+    pub fn finish(self) -> Result<Scanner, AllocError>
+        requires { cost self + 8 < too_many }
+        ensures made { IfOk result (λ s. s ≡ (read_after self []).state) }
+        ensures room { IfOk result (λ s. weight s ≤ cost self) }
+    {
+        let mut reader = self;
+        if !reader.begun {
+            let place = Place {
+                file: FileId(0),
+                line: 0,
+            };
+            return Ok(Scanner::new(reader.alloc, place));
+        }
+        reader.end_text()?;
+        let Reader { scanner, .. } = reader;
+        Ok(scanner)
+    }
+}

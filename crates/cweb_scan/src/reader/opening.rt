@@ -1,0 +1,126 @@
+// Pieces of a line, where no item is open: what opens one.
+ghost use Rattle.std.specs.Prelude.{◌≡◌, ◌≤◌, ◌<◌, ◌+◌, ◌*◌, IfOk, codes, length, true, false};
+ghost use Rattle.std.specs.List.{prefix_len};
+ghost use Rattle.cweb_scan.specs.Fronted.{is_skipped};
+
+use crate::reader::Reader;
+use crate::reader::open::{Open, Quote};
+use cweb_rules::bytes::begins;
+use cweb_rules::literals::{delimiter, literal_prefix, raw_prefix};
+use cweb_rules::plains::len_before;
+use std::alloc::AllocError;
+
+/// How many bytes stand before the first `@`.
+pub fn skipped_len(text: &[u8]) -> usize
+    ensures value { result ≡ prefix_len is_skipped text.now }
+    ensures within { result ≤ length text.now }
+{
+    len_before(b'@', text)
+}
+
+impl Reader {
+    ghost use Rattle.cweb_rules.specs.Bytes as spec;
+    ghost use Rattle.cweb_rules.specs.Fronts.{starts_raw, starts_literal};
+    ghost use Rattle.cweb_rules.specs.Lines.{IsLine};
+    ghost use Rattle.cweb_scan.specs.Fronted.{is_head, reads_c, reads_names, reads_literals, IsPast};
+    ghost use Rattle.cweb_scan.specs.Turned.{Passes};
+    ghost use Rattle.cweb_scan.specs.Resume.{Between};
+    ghost use Rattle.cweb_scan.specs.Room.{HasRoom};
+
+    /// `/*`
+    #[inline(never)]
+    pub(crate) fn open_comment(&mut self, rest: &[u8]) -> Result<usize, AllocError>
+        requires between { self.old.item ≡ Between }
+        requires reads { reads_c self.old.state.context ≡ true }
+        requires sign { spec.begins (codes "/*") rest.now ≡ true }
+        requires room { HasRoom 1 self.old.state }
+        ensures { IfOk result (λ n. Passes n rest.now self.old self.new) }
+    {
+        let begun = self.scanner.here();
+        self.scanner.blank()?;
+        self.item = Open::Comment(begun);
+        Ok(2)
+    }
+
+    /// `@<`
+    pub(crate) fn open_name(&mut self, rest: &[u8]) -> usize
+        requires between { self.old.item ≡ Between }
+        requires head { is_head self.old.state.context ≡ false }
+        requires reads { reads_names self.old.state.context ≡ true }
+        requires sign { spec.begins (codes "@<") rest.now ≡ true }
+        ensures { Passes result rest.now self.old self.new }
+    {
+        self.text.clear();
+        self.item = Open::Name {
+            begun: self.scanner.here(),
+            is_file: false,
+        };
+        2
+    }
+
+    /// `@(`
+    pub(crate) fn open_file(&mut self, rest: &[u8]) -> usize
+        requires between { self.old.item ≡ Between }
+        requires head { is_head self.old.state.context ≡ false }
+        requires reads { reads_names self.old.state.context ≡ true }
+        requires sign { spec.begins (codes "@(") rest.now ≡ true }
+        ensures { Passes result rest.now self.old self.new }
+    {
+        self.text.clear();
+        self.item = Open::Name {
+            begun: self.scanner.here(),
+            is_file: true,
+        };
+        2
+    }
+
+    /// A quote, with a prefix or without.
+    #[inline(never)]
+    pub(crate) fn open_literal(&mut self, rest: &[u8]) -> Result<usize, AllocError>
+        requires between { self.old.item ≡ Between }
+        requires reads { reads_literals self.old.state.context ≡ true }
+        requires line { IsLine rest.now }
+        requires past { IsPast rest.now }
+        requires plain { starts_raw rest.now ≡ false }
+        requires sign { starts_literal rest.now ≡ true }
+        ensures { IfOk result (λ n. Passes n rest.now self.old self.new) }
+    {
+        let prefix = literal_prefix(rest);
+        let (opener, _) = rest.split_at(prefix + 1);
+        self.text.clear();
+        self.text.extend_from_slice(opener)?;
+        let (_, quoted) = rest.split_at(prefix);
+        let quote = Quote::of(quoted);
+        self.item = Open::Literal {
+            begun: self.scanner.here(),
+            quote,
+        };
+        Ok(prefix + 1)
+    }
+
+    /// `R"`, with a prefix or without, a delimiter and `(`.
+    #[inline(never)]
+    pub(crate) fn open_raw(&mut self, rest: &[u8]) -> Result<usize, AllocError>
+        requires between { self.old.item ≡ Between }
+        requires reads { reads_literals self.old.state.context ≡ true }
+        requires line { IsLine rest.now }
+        requires past { IsPast rest.now }
+        requires sign { starts_raw rest.now ≡ true }
+        ensures { IfOk result (λ n. Passes n rest.now self.old self.new) }
+    {
+        let start = raw_prefix(rest) + 2;
+        let (_, named) = rest.split_at(start);
+        let name = delimiter(named);
+        let size = start + name.len() + 1;
+        self.text.clear();
+        self.text.extend_from_slice(rest.split_at(size).0)?;
+        self.delimiter.clear();
+        self.delimiter.extend_from_slice(name)?;
+        self.sign.clear();
+        self.sign.push(b')')?;
+        self.sign.extend_from_slice(name)?;
+        self.sign.push(b'"')?;
+        self.item = Open::Raw(self.scanner.here());
+        Ok(size)
+    }
+}

@@ -1,0 +1,162 @@
+// The rest of an item that is open, a unit a turn; of a comment all that stands in the line.
+ghost use Rattle.std.specs.Prelude.{◌≡◌, ◌≤◌, ◌<◌, ◌+◌, IfOk, OnOk, length, true, false};
+ghost use Rattle.cweb_store.specs.Calls.{too_many};
+
+use crate::reader::Reader;
+use crate::reader::open::{Open, Quote};
+use crate::reader::opened::{goes_on, sign_after};
+use crate::reader::units::push_unit;
+use cweb_files::Place;
+use cweb_rules::Look;
+use cweb_rules::items::{Item, reach};
+use std::alloc::AllocError;
+
+impl Reader {
+    ghost use Rattle.cweb_rules.specs.Lines.{IsLine};
+    ghost use Rattle.cweb_scan.specs.Held.{cost};
+    ghost use Rattle.cweb_scan.specs.OpenRest.{awaits_line_end, is_literal, is_open, literal_of, literal_turn, look_size, raw_of, text_of, with_run, TakesOpen};
+    ghost use Rattle.cweb_scan.specs.Resume.{InComment, InName};
+
+    // A comment, up to its end or that of the line.
+    fn take_comment(&mut self, begun: Place, rest: &[u8]) -> Result<usize, AllocError>
+        requires open { self.old.item ≡ InComment begun }
+        requires line { IsLine rest.now }
+        requires some { 1 ≤ length rest.now }
+        ensures { IfOk result (λ n. TakesOpen n rest.now self.old self.new) }
+    {
+        let reached = reach(Item::Comment, rest);
+        if goes_on(reached.how) {
+            return Ok(rest.len());
+        }
+        self.item = Open::Between;
+        self.scanner.pass_comment(reached.how, begun)?;
+        Ok(reached.size + reached.close)
+    }
+
+    // Bytes of an item's text, each of which stands for itself.
+    fn take_run(&mut self, size: usize, rest: &[u8]) -> Result<(), AllocError>
+        requires { size ≤ length rest.now }
+        ensures { OnOk result (self.new ≡ with_run size rest.now self.old) }
+    {
+        self.text.extend_from_slice(rest.split_at(size).0)?;
+        Ok(())
+    }
+
+    // A run or a unit of a name, or its end with the opener sign behind it: in C text that sign is C text.
+    fn take_name(&mut self, begun: Place, is_file: bool, rest: &[u8]) -> Result<usize, AllocError>
+        requires open { self.old.item ≡ InName begun is_file (text_of self.old.item) }
+        requires line { IsLine rest.now }
+        requires some { 1 ≤ length rest.now }
+        requires room { cost self.old + 8 < too_many }
+        ensures { IfOk result (λ n. TakesOpen n rest.now self.old self.new) }
+    {
+        let plain = Item::Name.plain_len(rest);
+        if plain > 0 {
+            self.take_run(plain, rest)?;
+            return Ok(plain);
+        }
+        match Item::Name.look(rest) {
+            Look::Goes(size) => {
+                let (unit, _) = rest.split_at(size);
+                push_unit(&mut self.text, unit)?;
+                Ok(size)
+            }
+            Look::Ends(size, how) => {
+                let (_, after) = rest.split_at(size);
+                let sign = sign_after(how, after);
+                let taken = size + self.scanner.sign_taken(sign);
+                self.item = Open::Between;
+                self.scanner
+                    .end_name(is_file, &self.text, how, 0 < sign, begun)?;
+                Ok(taken)
+            }
+        }
+    }
+
+    // A unit of a literal of either kind, or its end.
+    fn turn_literal(&mut self, look: Look, begun: Place, rest: &[u8]) -> Result<usize, AllocError>
+        requires open { is_literal self.old.item ≡ true }
+        requires fits { look_size look ≤ length rest.now }
+        requires room { cost self.old + 8 < too_many }
+        ensures size { IfOk result (λ n. n ≡ look_size look) }
+        ensures within { IfOk result (λ n. n ≤ length rest.now) }
+        ensures turn { OnOk result (self.new ≡ literal_turn look begun rest.now self.old) }
+    {
+        match look {
+            Look::Goes(size) => {
+                let (unit, _) = rest.split_at(size);
+                push_unit(&mut self.text, unit)?;
+                self.scanner.tell_unit(unit)?;
+                Ok(size)
+            }
+            Look::Ends(size, how) => {
+                let (sign, _) = rest.split_at(size);
+                push_unit(&mut self.text, sign)?;
+                self.scanner.tell_unit(sign)?;
+                self.item = Open::Between;
+                self.scanner.give_literal(&self.text, how, begun)?;
+                Ok(size)
+            }
+        }
+    }
+
+    // A literal: a `\` that is last in its line takes the line end with it.
+    fn take_literal(&mut self, begun: Place, quote: Quote, rest: &[u8]) -> Result<usize, AllocError>
+        requires open { self.old.item ≡ literal_of begun quote self.old.item }
+        requires line { IsLine rest.now }
+        requires some { 1 ≤ length rest.now }
+        requires room { cost self.old + 8 < too_many }
+        ensures { IfOk result (λ n. TakesOpen n rest.now self.old self.new) }
+    {
+        if rest == b"\\".as_slice() {
+            self.item = Open::AfterBackslash { begun, quote };
+            return Ok(1);
+        }
+        let item = Item::Literal(quote.byte());
+        let plain = item.plain_len(rest);
+        if plain > 0 {
+            self.take_run(plain, rest)?;
+            return Ok(plain);
+        }
+        let look = item.look(rest);
+        let size = self.turn_literal(look, begun, rest)?;
+        Ok(size)
+    }
+
+    // A raw literal.
+    fn take_raw(&mut self, begun: Place, rest: &[u8]) -> Result<usize, AllocError>
+        requires open { self.old.item ≡ raw_of begun self.old.item }
+        requires line { IsLine rest.now }
+        requires some { 1 ≤ length rest.now }
+        requires room { cost self.old + 8 < too_many }
+        ensures { IfOk result (λ n. TakesOpen n rest.now self.old self.new) }
+    {
+        let plain = Item::RawLiteral(&self.sign).plain_len(rest);
+        if plain > 0 {
+            self.take_run(plain, rest)?;
+            return Ok(plain);
+        }
+        let look = Item::RawLiteral(&self.sign).look(rest);
+        let size = self.turn_literal(look, begun, rest)?;
+        Ok(size)
+    }
+
+    /// A part of the item that is open, which ends with it or goes on. Answers how many bytes it has.
+    #[inline(never)]
+    pub(crate) fn take_open(&mut self, rest: &[u8]) -> Result<usize, AllocError>
+        requires open { is_open self.old.item ≡ true }
+        requires within { awaits_line_end self.old.item ≡ false }
+        requires line { IsLine rest.now }
+        requires some { 1 ≤ length rest.now }
+        requires room { cost self.old + 8 < too_many }
+        ensures { IfOk result (λ n. TakesOpen n rest.now self.old self.new) }
+    {
+        match self.item {
+            Open::Comment(begun) => self.take_comment(begun, rest),
+            Open::Name { begun, is_file } => self.take_name(begun, is_file, rest),
+            Open::Literal { begun, quote } => self.take_literal(begun, quote, rest),
+            Open::Raw(begun) => self.take_raw(begun, rest),
+            Open::Between | Open::AfterBackslash { .. } => Ok(0),
+        }
+    }
+}

@@ -1,7 +1,0 @@
-use Rattle.std.proofs.Common.{◌≡◌, drop, map}
-use Rattle.cweb_store.specs.Parts.{has_defs_code}
-use Rattle.cweb_store.specs.Runs.{closed_in}
-use Rattle.cweb_store.proofs.closed_parts.ClosedParts.has_defs_code.Given as goal
-
-abbrev pub invariant-loop-run : goal.invariant-loop-run
-invariant-loop-run l = has_defs_code (map (closed_in l.self-inside.tokens.tokens) (drop l.run-index l.run-items)) ≡ has_defs_code (map (closed_in l.self-inside.tokens.tokens) l.run-items)

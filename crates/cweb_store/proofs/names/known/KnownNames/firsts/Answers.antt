@@ -1,0 +1,11 @@
+use Rattle.std.proofs.Common.{◌≡◌, suc, ◌+◌, [], ◌∷◌, ◌++◌, map, take, sym, ◌∙◌, ap, arith}
+use Rattle.cweb_store.specs.Names.{Name}
+use Rattle.cweb_store.proofs.StoredLemmas.{firsts-next}
+use Rattle.cweb_store.proofs.names.known.KnownNames.firsts.Goals as goal
+
+pub loop-number-preserved : goal.loop-number-preserved
+loop-number-preserved c =
+    let ns = c.args.self.now in
+    let k = c.loop-number.number in
+    let next : suc k ≡ k + 1 = omega arith in
+    c.in_ok-push.ensures.items ∙ ap (λ xs. xs ++ c.first.result ∷ []) c.loop-number.invariant ∙ sym (firsts-next ns k c.first.result c.first.ensures) ∙ ap (λ j. map (λ (n : Name). n.first) (take j ns)) next

@@ -1,0 +1,153 @@
+// The names so far.
+
+ghost use Rattle.std.specs.Prelude.{false, ◌≡◌, ◌<◌, ◌^◌, [], map, length, slice_get, bytes_eq, option_map, Some, IfOk, OnOk, OnErr};
+ghost use Rattle.std.specs.List.{position_or_len};
+ghost use Rattle.indexmap.specs.IndexMap.{spare, insert_entry};
+ghost use Rattle.cweb_store.specs.Names.{beginning, texts, with_name, with_text};
+ghost use Rattle.cweb_store.specs.Faults.{is_prefix_of_another};
+ghost use Rattle.cweb_store.specs.Found.{found_of};
+ghost use Rattle.cweb_store.specs.Calls.{occurrence_of};
+ghost use Rattle.cweb_store.specs.Known.{early};
+
+use crate::names::found::{Found, find_one};
+use crate::names::{How, NameId};
+use indexmap::IndexMap;
+use std::alloc::{AllocError, Global};
+use std::collections::BTreeMap;
+use std::marker::Model;
+
+/// The names that were given in full, in order, each with the number of its first occurrence in full. They are kept
+/// sorted besides, so that those with a prefix are soon found.
+#[derive(Drop)]
+pub struct KnownNames {
+    alloc: Global,
+    firsts: IndexMap<Vec<u8>, u32>,
+    sorted: BTreeMap<Vec<u8>, NameId>,
+}
+
+impl Model for KnownNames {
+    ghost use Rattle.std.specs.Prelude.{List};
+    ghost use Rattle.cweb_store.specs.Names.{Name};
+
+    ghost Value = { List Name };
+
+    ghost use Rattle.cweb_store.specs.Known.{names_in};
+    ghost use Rattle.cweb_store.specs.Found.{AreKnown};
+
+    ghost view = { λ s. names_in s.firsts.entries };
+
+    ghost invariant = { λ s. AreKnown s.sorted.entries (names_in s.firsts.entries) };
+}
+
+impl KnownNames {
+    pub fn new(alloc: Global) -> KnownNames
+        ensures { result ≡ [] }
+    {
+        KnownNames {
+            alloc,
+            firsts: IndexMap::new(alloc),
+            sorted: BTreeMap::new(alloc),
+        }
+    }
+
+    pub fn len(&self) -> usize
+        ensures { result ≡ length self.now }
+    {
+        self.firsts.len()
+    }
+
+    /// Adds a name that occurrence `first` gives in full, if it is new, and answers its number. A refused call changes
+    /// nothing.
+    pub fn add(&mut self, text: &[u8], first: u32) -> Result<NameId, AllocError>
+        requires { length self.old < 2 ^ 32 }
+        ensures number { IfOk result (λ id. id.0 ≡ position_or_len (bytes_eq text.now) (texts self.old)) }
+        ensures added { OnOk result (self.new ≡ with_text first self.old text.now) }
+        ensures err { OnErr result (self.new ≡ self.old) }
+    {
+        if let Some(number) = self.firsts.get_index_of(text) {
+            return Ok(NameId(number as u32));
+        }
+        let id = NameId(self.firsts.len() as u32);
+        let key = Vec::from_slice(self.alloc, text)?;
+        let sorted_key = Vec::from_slice(self.alloc, text)?;
+        self.firsts.reserve(1)?;
+        self.sorted.insert(sorted_key, id)?;
+        put_name(&mut self.firsts, key, first);
+        Ok(id)
+    }
+
+    /// The names that begin with a prefix.
+    pub fn find(&self, prefix: &[u8]) -> Result<Found, AllocError>
+        ensures { IfOk result (λ found. found ≡ found_of (beginning prefix.now self.now)) }
+    {
+        let from = Vec::from_slice(self.alloc, prefix)?;
+        Ok(find_one(&self.sorted, from, prefix))
+    }
+
+    /// Takes occurrence `number` in, and answers which names the text stands for or begins, of those given up to it. A
+    /// refused call changes nothing.
+    pub fn take(&mut self, text: &[u8], how: How, number: u32) -> Result<Found, AllocError>
+        requires { length self.old < 2 ^ 32 }
+        ensures found { IfOk result (λ found. found ≡ early self.old (occurrence_of text.now how false)) }
+        ensures names { OnOk result (self.new ≡ with_name number self.old (occurrence_of text.now how false)) }
+        ensures err { OnErr result (self.new ≡ self.old) }
+    {
+        match how {
+            How::Full => Ok(Found::One(self.add(text, number)?)),
+            How::Prefix => Ok(self.find(text)?),
+        }
+    }
+
+    /// The text of a name.
+    pub fn text(&self, id: NameId) -> &[u8]
+        requires { id.0 < length self.now }
+        ensures { option_map (λ n. n.text) (slice_get self.now id.0) ≡ Some result.now }
+    {
+        match self.firsts.get_index(id.0 as usize) {
+            Some((text, _)) => text.as_slice(),
+            None => unreachable!(),
+        }
+    }
+
+    /// The number of the occurrence that first gave a name in full.
+    pub fn first(&self, id: NameId) -> u32
+        requires { id.0 < length self.now }
+        ensures { option_map (λ n. n.first) (slice_get self.now id.0) ≡ Some result }
+    {
+        match self.firsts.get_index(id.0 as usize) {
+            Some((_, first)) => *first,
+            None => unreachable!(),
+        }
+    }
+
+    /// The numbers of the occurrences that first gave the names in full.
+    pub fn firsts(&self) -> Result<Vec<u32>, AllocError>
+        requires { length self.now < 2 ^ 32 }
+        ensures { IfOk result (λ all. all.items ≡ map (λ n. n.first) self.now) }
+    {
+        let mut all = Vec::with_capacity(self.alloc, self.firsts.len())?;
+        for number in 0..self.firsts.len() as u32 {
+            all.push(self.first(NameId(number)))?;
+        }
+        Ok(all)
+    }
+
+    /// Whether a name is a proper prefix of another. Two names begin with one that is, itself and the other.
+    pub fn is_prefix(&self, id: NameId) -> Result<bool, AllocError>
+        requires { id.0 < length self.now }
+        ensures { IfOk result (λ is. option_map (λ n. is_prefix_of_another self.now n.text) (slice_get self.now id.0) ≡ Some is) }
+    {
+        let text = self.text(id);
+        let from = Vec::from_slice(self.alloc, text)?;
+        let found = find_one(&self.sorted, from, text);
+        Ok(found.is_several())
+    }
+}
+
+// Adds a name that is new, and for which there is room.
+fn put_name(names: &mut IndexMap<Vec<u8>, u32>, text: Vec<u8>, first: u32)
+    requires room { 0 < spare names.old }
+    ensures { names.new.entries ≡ insert_entry (λ x y. bytes_eq x.items y.items) names.old.entries text first }
+{
+    let _ = names.insert(text, first);
+}

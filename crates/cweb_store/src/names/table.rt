@@ -1,0 +1,140 @@
+// The occurrences of names.
+
+ghost use Rattle.std.specs.Prelude.{◌≡◌, ◌<◌, ◌+◌, ◌^◌, ◌++◌, ◌∷◌, [], map, length, IfOk, OnOk, OnErr};
+ghost use Rattle.cweb_store.specs.Names.{files_from, names, standings};
+ghost use Rattle.cweb_store.specs.Calls.{occurrence_of, too_many};
+ghost use Rattle.cweb_store.specs.Texts.{occurrence_text};
+ghost use Rattle.cweb_store.specs.ClosedTokens.{with_texts};
+ghost use Rattle.cweb_store.specs.Stored.{given_as};
+
+use crate::names::found::Found;
+use crate::names::known::KnownNames;
+use crate::names::standing::{add_name_at, settled};
+use crate::names::{How, NameId, NameKind, NameRef};
+use crate::reserved::put;
+use crate::tokens::closed::ClosedTokens;
+use indexmap::IndexSet;
+use std::alloc::{AllocError, Global};
+use std::marker::Model;
+
+/// An occurrence of a name, and what was found of it among the names given up to it.
+#[derive(Drop)]
+pub struct Given {
+    pub text: Vec<u8>,
+    pub how: How,
+    pub is_file: bool,
+    pub found: Found,
+}
+
+/// How an occurrence is given, where its text stands elsewhere.
+#[derive(Clone, Copy)]
+pub struct GivenAs {
+    pub how: How,
+    pub is_file: bool,
+}
+
+/// The occurrences of names, and the names.
+#[derive(Drop)]
+pub struct NameTable {
+    alloc: Global,
+    known: KnownNames,
+    given: Vec<Given>,
+}
+
+impl Model for NameTable {
+    ghost use Rattle.std.specs.Prelude.{List};
+    ghost use Rattle.cweb_store.specs.Names.{Occurrence};
+
+    ghost Value = { List Occurrence };
+
+    ghost use Rattle.cweb_store.specs.Given.{occurrences_in, AreGiven};
+
+    ghost view = { λ s. occurrences_in s.given.items };
+
+    ghost invariant = { λ s. AreGiven s.known s.given.items };
+}
+
+impl NameTable {
+    pub fn new(alloc: Global) -> NameTable
+        ensures { result ≡ [] }
+    {
+        NameTable {
+            alloc,
+            known: KnownNames::new(alloc),
+            given: Vec::new(alloc),
+        }
+    }
+
+    /// Adds an occurrence, and answers its number. A refused call changes nothing.
+    pub fn add(&mut self, name: &[u8], how: How, is_file: bool) -> Result<NameRef, AllocError>
+        requires { length self.old + 1 < too_many }
+        ensures number { IfOk result (λ name. name.0 ≡ length self.old) }
+        ensures added { OnOk result (self.new ≡ self.old ++ occurrence_of name.now how is_file ∷ []) }
+        ensures err { OnErr result (self.new ≡ self.old) }
+    {
+        let text = Vec::from_slice(self.alloc, name)?;
+        self.given.reserve(1)?;
+        let number = self.given.len() as u32;
+        let found = self.known.take(name, how, number)?;
+        let given = Given {
+            text,
+            how,
+            is_file,
+            found,
+        };
+        put(&mut self.given, given);
+        Ok(NameRef(number))
+    }
+
+    /// The names.
+    pub fn names(&self) -> &KnownNames
+        ensures names { result.now ≡ names self.now }
+        ensures few { length (names self.now) < too_many }
+    {
+        &self.known
+    }
+
+    /// What each occurrence stands for.
+    pub fn standings(&self) -> Result<Vec<Result<NameId, NameKind>>, AllocError>
+        ensures standings { IfOk result (λ all. all.items ≡ standings self.now) }
+        ensures few { IfOk result (λ all. length all.items < 2 ^ 32) }
+    {
+        let mut all = Vec::with_capacity(self.alloc, self.given.len())?;
+        for given in &self.given {
+            all.push(settled(&self.known, given)?)?;
+        }
+        Ok(all)
+    }
+
+    /// Puts the texts of the occurrences behind those of tokens, and answers how each is given.
+    pub fn close(self, tokens: &mut ClosedTokens) -> Result<Vec<GivenAs>, AllocError>
+        ensures given { IfOk result (λ all. all.items ≡ map given_as self) }
+        ensures texts { OnOk result (tokens.new ≡ with_texts (map occurrence_text self) tokens.old) }
+    {
+        let mut all = Vec::with_capacity(self.alloc, self.given.len())?;
+        for given in &self.given {
+            tokens.add(given.text.as_slice())?;
+            all.push(GivenAs {
+                how: given.how,
+                is_file: given.is_file,
+            })?;
+        }
+        Ok(all)
+    }
+
+    /// The file names, in order of their first occurrence as a file's.
+    pub fn files(
+        &self,
+        standings: &[Result<NameId, NameKind>],
+    ) -> Result<IndexSet<NameId>, AllocError>
+        ensures { IfOk result (λ files. files.keys ≡ files_from standings.now [] 0 self.now) }
+    {
+        let mut files = IndexSet::new(self.alloc);
+        for (i, given) in self.given.iter().enumerate() {
+            if given.is_file {
+                add_name_at(&mut files, standings, i)?;
+            }
+        }
+        Ok(files)
+    }
+}

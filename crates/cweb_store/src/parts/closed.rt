@@ -1,0 +1,71 @@
+// Parts that are all given.
+
+ghost use Rattle.std.specs.Prelude.{◌≡◌, [], IfOk};
+ghost use Rattle.cweb_store.specs.Parts.{has_defs_code};
+ghost use Rattle.cweb_store.specs.Runs.{runs_from};
+ghost use Rattle.cweb_store.specs.Gathered.{used_in};
+
+use crate::names::{NameId, NameKind};
+use crate::parts::Run;
+use crate::tokens::closed::ClosedTokens;
+use indexmap::IndexSet;
+use std::alloc::{AllocError, Global};
+use std::marker::Model;
+
+/// Parts: the tokens of all of them in one list, and where each part begins and ends in it.
+#[derive(Drop)]
+pub struct ClosedParts {
+    pub tokens: ClosedTokens,
+    pub runs: Vec<Run>,
+}
+
+impl Model for ClosedParts {
+    ghost use Rattle.std.specs.Prelude.{List, map};
+    ghost use Rattle.cweb_store.specs.Parts.{Part};
+
+    ghost Value = { List Part };
+
+    ghost use Rattle.cweb_store.specs.Runs.{closed_in, AreClosedRuns};
+
+    ghost view = { λ s. map (closed_in s.tokens.tokens) s.runs.items };
+
+    ghost invariant = { λ s. AreClosedRuns s.tokens s.runs.items };
+}
+
+impl ClosedParts {
+    /// The parts in order, as runs of token numbers.
+    pub fn runs(&self) -> &[Run]
+        ensures { result.now ≡ runs_from 0 self.now }
+    {
+        self.runs.as_slice()
+    }
+
+    /// The names that the parts of C text use.
+    pub fn uses(
+        &self,
+        alloc: Global,
+        standings: &[Result<NameId, NameKind>],
+    ) -> Result<IndexSet<NameId>, AllocError>
+        ensures { IfOk result (λ used. used.keys ≡ used_in standings.now [] self.now) }
+    {
+        let mut used = IndexSet::new(alloc);
+        for run in &self.runs {
+            if !run.kind.is_macro() {
+                self.tokens.add_uses(run.part, standings, &mut used)?;
+            }
+        }
+        Ok(used)
+    }
+
+    /// Whether a part of C text has a Defs.
+    pub fn has_defs_code(&self) -> bool
+        ensures { result ≡ has_defs_code self.now }
+    {
+        for run in &self.runs {
+            if !run.kind.is_macro() && self.tokens.has_defs(run.part) {
+                return true;
+            }
+        }
+        false
+    }
+}

@@ -1,0 +1,134 @@
+// Tokens to which none comes, and the other texts of a store.
+
+ghost use Rattle.std.specs.Prelude.{◌≡◌, ◌<◌, ◌≤◌, ◌+◌, length, slice_get, slice_range, flat_map, Some, OnOk};
+ghost use Rattle.std.specs.List.{list_any};
+ghost use Rattle.cweb_store.specs.Parts.{is_defs};
+ghost use Rattle.cweb_store.specs.Gathered.{used_from};
+ghost use Rattle.cweb_store.specs.Texts.{AreInOneList, token_bytes_kept, token_texts, total};
+ghost use Rattle.cweb_store.specs.ClosedTokens.{with_text};
+ghost use Rattle.cweb_store.specs.Packed.{is_packed_defs, used_by};
+
+use crate::names::standing::add_name_at;
+use crate::names::{NameId, NameKind};
+use crate::parts::Part;
+use crate::tokens::Token;
+use crate::tokens::packed::{Packed, lend};
+use crate::tokens::texts::PackedTexts;
+use indexmap::IndexSet;
+use std::alloc::AllocError;
+use std::marker::Model;
+
+/// Tokens as records of fixed size. Their texts, and other texts behind these, stand in one list of bytes.
+#[derive(Drop)]
+pub struct ClosedTokens {
+    pub texts: PackedTexts,
+    pub records: Vec<Packed>,
+    pub own: usize,
+}
+
+impl Model for ClosedTokens {
+    ghost use Rattle.cweb_store.specs.ClosedTokens.{TokensAndTexts, tokens_and_texts, AreClosed};
+
+    ghost Value = { TokensAndTexts };
+
+    ghost view = { λ s. tokens_and_texts s.texts s.records.items s.own };
+
+    ghost invariant = { λ s. AreClosed s.texts s.records.items s.own };
+}
+
+impl ClosedTokens {
+    ghost use Rattle.std.specs.Prelude.{◌++◌};
+    ghost use Rattle.cweb_store.specs.Seen.{seen};
+
+    /// Adds another text. It takes the next number, from 0.
+    pub fn add(&mut self, text: &[u8]) -> Result<(), AllocError>
+        ensures { OnOk result (self.new ≡ with_text text.now self.old) }
+    {
+        self.texts.add(text)?;
+        Ok(())
+    }
+
+    /// The token with a number.
+    pub fn token(&self, number: usize) -> Token<'_>
+        requires { number < length self.now.tokens }
+        ensures { slice_get self.now.tokens number ≡ Some (seen result) }
+    {
+        let packed = self.records[number];
+        lend(&self.texts, packed)
+    }
+
+    pub fn len(&self) -> usize
+        ensures { result ≡ length self.now.tokens }
+    {
+        self.records.len()
+    }
+
+    /// Adds the names that tokens use, in a range of numbers, to distinct names.
+    pub fn add_uses(
+        &self,
+        part: Part,
+        standings: &[Result<NameId, NameKind>],
+        used: &mut IndexSet<NameId>,
+    ) -> Result<(), AllocError>
+        requires ordered { part.first ≤ part.after }
+        requires within { part.after ≤ length self.now.tokens }
+        ensures { OnOk result (used.new.keys ≡ used_from standings.now used.old.keys (slice_range self.now.tokens part.first part.after)) }
+    {
+        add_uses_of(
+            &self.records[part.first as usize..part.after as usize],
+            standings,
+            used,
+        )
+    }
+
+    /// Whether there is a Defs in a range of numbers.
+    pub fn has_defs(&self, part: Part) -> bool
+        requires ordered { part.first ≤ part.after }
+        requires within { part.after ≤ length self.now.tokens }
+        ensures { result ≡ list_any is_defs (slice_range self.now.tokens part.first part.after) }
+    {
+        has_defs_in(&self.records[part.first as usize..part.after as usize])
+    }
+
+    /// The other text with a number.
+    pub fn other(&self, number: usize) -> &[u8]
+        requires { number < length self.now.others }
+        ensures { slice_get self.now.others number ≡ Some result.now }
+    {
+        self.texts.text_behind(self.own, number)
+    }
+
+    /// How many bytes all texts have.
+    pub fn text_bytes(&self) -> usize
+        ensures texts { AreInOneList result (flat_map token_texts self.now.tokens ++ self.now.others) }
+        ensures once { result ≡ token_bytes_kept self.now.tokens + total length self.now.others }
+    {
+        self.texts.text_bytes()
+    }
+}
+
+fn add_uses_of(
+    tokens: &[Packed],
+    standings: &[Result<NameId, NameKind>],
+    used: &mut IndexSet<NameId>,
+) -> Result<(), AllocError>
+    ensures { OnOk result (used.new.keys ≡ used_by standings.now used.old.keys tokens.now) }
+{
+    for token in tokens {
+        if let Packed::Name(name) = token {
+            add_name_at(used, standings, name.0 as usize)?;
+        }
+    }
+    Ok(())
+}
+
+fn has_defs_in(tokens: &[Packed]) -> bool
+    ensures { result ≡ list_any is_packed_defs tokens.now }
+{
+    for token in tokens {
+        if let Packed::Defs = token {
+            return true;
+        }
+    }
+    false
+}

@@ -1,0 +1,95 @@
+// Tokens in order.
+
+ghost use Rattle.std.specs.Prelude.{◌≡◌, ◌<◌, ◌++◌, ◌∷◌, [], filter, length, take, Some, slice_get, OnOk, OnErr};
+ghost use Rattle.cweb_store.specs.Texts.{has_text};
+ghost use Rattle.cweb_store.specs.ClosedTokens.{tokens_alone};
+
+use crate::reserved::put;
+use crate::tokens::Token;
+use crate::tokens::closed::ClosedTokens;
+use crate::tokens::packed::{Packed, lend, pack};
+use crate::tokens::words::WordTexts;
+use std::alloc::{AllocError, Global};
+use std::marker::Model;
+
+/// Tokens as records of fixed size, and their texts.
+#[derive(Drop)]
+pub struct TokenList {
+    texts: WordTexts,
+    records: Vec<Packed>,
+}
+
+impl Model for TokenList {
+    ghost use Rattle.std.specs.Prelude.{map, vec_capacity};
+    ghost use Rattle.cweb_store.specs.Rooms.{TokensInRoom};
+
+    ghost Value = { TokensInRoom };
+
+    ghost use Rattle.cweb_store.specs.Packed.{token_in};
+    ghost use Rattle.cweb_store.specs.ClosedTokens.{AreTokens};
+
+    ghost view = { λ s. record { tokens = map (token_in s.texts.texts) s.records.items; room = vec_capacity s.records } };
+
+    ghost invariant = { λ s. AreTokens s.texts s.records.items };
+}
+
+impl TokenList {
+    ghost use Rattle.cweb_store.specs.Seen.{seen};
+
+    pub fn new(alloc: Global) -> TokenList
+        ensures { result.tokens ≡ [] }
+    {
+        TokenList {
+            texts: WordTexts::new(alloc),
+            records: Vec::new(alloc),
+        }
+    }
+
+    pub fn len(&self) -> usize
+        ensures { result ≡ length self.now.tokens }
+    {
+        self.records.len()
+    }
+
+    /// Adds a token. A refused call leaves the tokens as they were.
+    pub fn push(&mut self, token: Token<'_>) -> Result<(), AllocError>
+        ensures ok { OnOk result (self.new.tokens ≡ self.old.tokens ++ seen token.entry ∷ []) }
+        ensures err { OnErr result (self.new.tokens ≡ self.old.tokens) }
+    {
+        self.records.reserve(1)?;
+        let packed = pack(&mut self.texts, token)?;
+        put(&mut self.records, packed);
+        Ok(())
+    }
+
+    pub fn token(&self, number: usize) -> Token<'_>
+        requires { number < length self.now.tokens }
+        ensures { slice_get self.now.tokens number ≡ Some (seen result) }
+    {
+        let packed = self.records[number];
+        lend(self.texts.texts(), packed)
+    }
+
+    /// Keeps the first `count` tokens. The others have no text. It takes no memory.
+    pub fn truncate(&mut self, count: usize)
+        requires { filter has_text (take count self.old.tokens) ≡ filter has_text self.old.tokens }
+        ensures tokens { self.new.tokens ≡ take count self.old.tokens }
+        ensures room { self.new.room ≡ self.old.room }
+    {
+        self.records.truncate(count);
+    }
+
+    /// The same tokens, to which none comes. Behind their texts others may come.
+    pub fn close(self) -> ClosedTokens
+        ensures { result ≡ tokens_alone self.tokens }
+    {
+        let TokenList { texts, records } = self;
+        let texts = texts.close();
+        let own = texts.len();
+        ClosedTokens {
+            texts,
+            records,
+            own,
+        }
+    }
+}

@@ -1,0 +1,74 @@
+// Tokens as records of fixed size.
+
+ghost use Rattle.std.specs.Prelude.{◌≡◌, length, IfOk, OnErr};
+ghost use Rattle.cweb_store.specs.Packed.{IsWithin, Packs, token_in};
+ghost use Rattle.cweb_store.specs.Seen.{seen};
+
+use crate::names::NameRef;
+use crate::tokens::Token;
+use crate::tokens::texts::PackedTexts;
+use crate::tokens::words::WordTexts;
+use cweb_files::Place;
+use std::alloc::AllocError;
+
+/// A token that has its text by number.
+#[derive(Clone, Copy)]
+pub enum Packed {
+    Word(usize),
+    Number(usize),
+    Literal(usize),
+    Verbatim(usize),
+    Punct(usize),
+    Blank,
+    Newline,
+    Join,
+    Defs,
+    Name(NameRef),
+    Head(u32),
+    Tail(u32),
+    Mark(Place),
+}
+
+/// The record of a token, whose text is kept. A refused call changes nothing.
+pub fn pack(texts: &mut WordTexts, token: Token<'_>) -> Result<Packed, AllocError>
+    ensures ok { IfOk result (λ packed. Packs texts.old (seen token.entry) packed texts.new) }
+    ensures err { OnErr result (texts.new ≡ texts.old) }
+{
+    match token {
+        Token::Word(text) => Ok(Packed::Word(texts.keep_word(text)?)),
+        Token::Number(text) => Ok(Packed::Number(texts.keep(text)?)),
+        Token::Literal(text) => Ok(Packed::Literal(texts.keep(text)?)),
+        Token::Verbatim(text) => Ok(Packed::Verbatim(texts.keep(text)?)),
+        Token::Punct(text) => Ok(Packed::Punct(texts.keep(text)?)),
+        Token::Blank => Ok(Packed::Blank),
+        Token::Newline => Ok(Packed::Newline),
+        Token::Join => Ok(Packed::Join),
+        Token::Defs => Ok(Packed::Defs),
+        Token::Name(name) => Ok(Packed::Name(name)),
+        Token::Head(section) => Ok(Packed::Head(section)),
+        Token::Tail(section) => Ok(Packed::Tail(section)),
+        Token::Mark(place) => Ok(Packed::Mark(place)),
+    }
+}
+
+/// The token of a record, which lends its text.
+pub fn lend(texts: &PackedTexts, packed: Packed) -> Token<'_>
+    requires { IsWithin (length texts.now) packed }
+    ensures { seen result ≡ token_in texts.now packed }
+{
+    match packed {
+        Packed::Word(number) => Token::Word(texts.text(number)),
+        Packed::Number(number) => Token::Number(texts.text(number)),
+        Packed::Literal(number) => Token::Literal(texts.text(number)),
+        Packed::Verbatim(number) => Token::Verbatim(texts.text(number)),
+        Packed::Punct(number) => Token::Punct(texts.text(number)),
+        Packed::Blank => Token::Blank,
+        Packed::Newline => Token::Newline,
+        Packed::Join => Token::Join,
+        Packed::Defs => Token::Defs,
+        Packed::Name(name) => Token::Name(name),
+        Packed::Head(section) => Token::Head(section),
+        Packed::Tail(section) => Token::Tail(section),
+        Packed::Mark(place) => Token::Mark(place),
+    }
+}
