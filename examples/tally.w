@@ -5,8 +5,8 @@
 lines, words and bytes it has, as |wc| does.
 
 It is told here in the order in which it is best explained. The tangler
-writes its pieces in the order that a C compiler wants; the merger, with which
-you can try this file today, puts the included file in its place.
+writes its pieces in the order that a C compiler wants; the merger puts the
+included file in its place.
 
 @c
 @<Header files@>@;
