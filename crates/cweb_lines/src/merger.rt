@@ -99,8 +99,8 @@ impl<S: Shelf> Merger<S> {
         ensures leaves { Leaves result line.new.items self.new }
 
         // the next line that is to come, or none
-        ensures next { IsTrue (S.tells shelf.old) → IfOk result (λ place. NextLine place line.new.items
-            (so_far self.old) (so_far self.new)
+        ensures next { IsTrue (S.tells shelf.old) →
+            IfOk result (λ place. NextLine place line.new.items (so_far self.old) (so_far self.new)
             (to_come S.Shelf shelf.old self.old) (to_come S.Shelf shelf.new self.new)) }
         ensures given { IfOk result (λ place. IfSome place (λ p. GivesOut p line.new.items
             (so_far self.old) (so_far self.new))) }
@@ -149,7 +149,8 @@ impl<S: Shelf> Merger<S> {
     /// The faults met so far, in the order in which they came.
     pub fn faults(&self) -> &[SourceFault]
         ensures value { result.now ≡ (so_far self.now).faults }
-        ensures known { All (λ fault. fault.place.file.0 < length (so_far self.now).names) result.now }
+        ensures known { All (λ fault. fault.place.file.0 < length (so_far self.now).names)
+            result.now }
     {
         &self.run.faults
     }

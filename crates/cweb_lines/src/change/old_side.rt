@@ -1,6 +1,7 @@
 // The old side of a change: its further old lines, and the raw lines that they take away.
 ghost use Rattle.std.specs.Prelude.{◌≡◌, ◌≤◌, ◌<◌, ◌+◌, ◌^◌, ◌++◌, ◌∷◌, [], length, IsTrue, IfOk, IfErr, OnOk, OnErr, false};
 ghost use Rattle.cweb_files.specs.Frames.{KeepsTexts};
+ghost use Rattle.cweb_lines.specs.Calls.{GoesOn, TakesAway};
 ghost use Rattle.cweb_lines.specs.Change.{old_lines};
 ghost use Rattle.cweb_lines.specs.Counts.{count_of};
 ghost use Rattle.cweb_lines.specs.Merging.{KeepsTold, StopsAmong, TellsSome, change_lines, things_of, told_by};
@@ -9,7 +10,7 @@ ghost use Rattle.cweb_lines.specs.Replacing.{Compares, IsChanged, IsReplaced, cl
 ghost use Rattle.cweb_lines.specs.Seeking.{ToldFront};
 ghost use Rattle.cweb_lines.specs.Stages.{floor_of};
 ghost use Rattle.cweb_lines.specs.Texts.{ReadBlames, StopsFor, StopsReading, TopStops, files_named, things_above};
-ghost use Rattle.cweb_lines.specs.Steps.{OnlyTells};
+ghost use Rattle.cweb_lines.specs.Steps.{OnlyTakes, OnlyTells};
 ghost use Rattle.cweb_lines.specs.Naming.{BlamesReaders, KeepsReaders};
 
 use crate::change::code::{Code, code_of};
@@ -44,25 +45,18 @@ fn compare<S: Shelf>(
     requires few { so_far.unequal ≤ run.old.limits.lines }
     ensures keeps { KeepsTexts S.Shelf shelf.old shelf.new }
     ensures failed { ReadBlames (S.failed shelf.old) (S.failed shelf.new) result }
-    ensures compares { IsTrue (S.tells shelf.old) → IfOk result (λ replaced. Compares run.old.first.items so_far replaced
-        (things_above (S.left shelf.old) 0 run.old.stack []) (things_above (S.left shelf.new) 0 run.new.stack []) (told_by run.old) (told_by run.new)) }
-    ensures stops { IsTrue (S.tells shelf.old) → IfErr result (λ stop. StopsFor (TopStops stop (count_of run.old.limits) (things_above (S.left shelf.old) 0 run.old.stack [])) stop) }
+    ensures compares { IsTrue (S.tells shelf.old) →
+        IfOk result (λ replaced. Compares run.old.first.items so_far replaced
+        (things_above (S.left shelf.old) 0 run.old.stack [])
+        (things_above (S.left shelf.new) 0 run.new.stack []) (told_by run.old) (told_by run.new)) }
+    ensures stops { IsTrue (S.tells shelf.old) →
+        IfErr result (λ stop. StopsFor (TopStops stop (count_of run.old.limits)
+        (things_above (S.left shelf.old) 0 run.old.stack [])) stop) }
     ensures readers { KeepsReaders S.Shelf shelf.old shelf.new run.old run.new }
     ensures blamed { BlamesReaders S.Shelf shelf.old shelf.new run.old run.new result }
-    ensures same { OnErr result (count_of run.new.limits ≡ count_of run.old.limits) }
-    ensures ended { IfOk result (λ replaced. replaced.ended ≡ so_far.ended) }
-    ensures few { IfOk result (λ replaced. replaced.unequal ≤ run.new.limits.lines) }
-    ensures more { run.old.limits.lines ≤ run.new.limits.lines }
-    ensures longer { run.old.limits.bytes ≤ run.new.limits.bytes }
-    ensures reading { IfErr result (λ stop. StopsReading stop) }
-    ensures named { IfErr result (λ stop. files_named stop ≤ length (names_of run.new.names)) }
-    ensures shallow { run.new.stack.depth ≤ run.old.stack.depth }
-    ensures inputs { run.new.inputs ≡ run.old.inputs }
+    ensures away { TakesAway so_far run.old run.new result }
+    ensures only { OnlyTakes run.old run.new }
     ensures change { run.new.change ≡ run.old.change }
-    ensures stage { run.new.stage ≡ run.old.stage }
-    ensures faults { run.new.faults ≡ run.old.faults }
-    ensures names { run.new.names ≡ run.old.names }
-    ensures stopped { run.new.stopped ≡ run.old.stopped }
 {
     let taken = match take_raw(shelf, run, line) {
         Ok(taken) => taken,
@@ -95,21 +89,21 @@ fn replace<S: Shelf>(
     ensures failed { ReadBlames (S.failed shelf.old) (S.failed shelf.new) result }
     ensures readers { KeepsReaders S.Shelf shelf.old shelf.new run.old run.new }
     ensures blamed { BlamesReaders S.Shelf shelf.old shelf.new run.old run.new result }
-    ensures replaced { IsTrue (S.tells shelf.old) → IfOk result (λ replaced. IsReplaced (change_lines (S.left shelf.old) run.old) (things_above (S.left shelf.old) 0 run.old.stack []) replaced
-        (change_lines (S.left shelf.new) run.new) (things_above (S.left shelf.new) 0 run.new.stack []) (told_by run.old) (told_by run.new)) }
-    ensures stops { IsTrue (S.tells shelf.old) → IfErr result (λ stop. StopsFor (StopsAmong stop (count_of run.old.limits) (count_of run.new.limits)
-        (lines_replaced (change_lines (S.left shelf.old) run.old) (things_above (S.left shelf.old) 0 run.old.stack []))) stop) }
-    ensures told { IsTrue (S.tells shelf.old) → OnErr result (TellsSome (old_lines (change_lines (S.left shelf.old) run.old)).faults (told_by run.old) (told_by run.new)) }
+    ensures replaced { IsTrue (S.tells shelf.old) →
+        IfOk result (λ replaced. IsReplaced (change_lines (S.left shelf.old) run.old)
+        (things_above (S.left shelf.old) 0 run.old.stack []) replaced
+        (change_lines (S.left shelf.new) run.new)
+        (things_above (S.left shelf.new) 0 run.new.stack []) (told_by run.old) (told_by run.new)) }
+    ensures stops { IsTrue (S.tells shelf.old) →
+        IfErr result (λ stop. StopsFor (StopsAmong stop (count_of run.old.limits)
+        (count_of run.new.limits) (lines_replaced (change_lines (S.left shelf.old) run.old)
+        (things_above (S.left shelf.old) 0 run.old.stack []))) stop) }
+    ensures told { IsTrue (S.tells shelf.old) →
+        OnErr result (TellsSome (old_lines (change_lines (S.left shelf.old) run.old)).faults
+        (told_by run.old) (told_by run.new)) }
     ensures still { KeepsTold (told_by run.old) (told_by run.new) }
-    ensures more { run.old.limits.lines ≤ run.new.limits.lines }
-    ensures longer { run.old.limits.bytes ≤ run.new.limits.bytes }
-    ensures reading { IfErr result (λ stop. StopsReading stop) }
-    ensures named { IfErr result (λ stop. files_named stop ≤ length (names_of run.new.names)) }
-    ensures shallow { run.new.stack.depth ≤ run.old.stack.depth }
-    ensures inputs { run.new.inputs ≡ run.old.inputs }
+    ensures goes { GoesOn run.old run.new result }
     ensures stage { run.new.stage ≡ run.old.stage }
-    ensures names { run.new.names ≡ run.old.names }
-    ensures stopped { run.new.stopped ≡ run.old.stopped }
 {
     let mut so_far = Replaced {
         unequal: 0,
@@ -155,7 +149,8 @@ fn tell_if<R: Drop>(
     count: u32,
 ) -> Result<(), Stop>
     requires known { place.file.0 < length (names_of run.old.names) }
-    ensures told { OnOk result (run.new.faults.items ≡ run.old.faults.items ++ list_if told (record { kind = kind; place = place; count = count })) }
+    ensures told { OnOk result (run.new.faults.items ≡ run.old.faults.items
+        ++ list_if told (record { kind = kind; place = place; count = count })) }
     ensures err { OnErr result (run.new.faults.items ≡ run.old.faults.items) }
     ensures memory { IfErr result (λ stop. stop ≡ Stop.Memory) }
     ensures only { OnlyTells run.old run.new }
@@ -169,8 +164,10 @@ fn tell_if<R: Drop>(
 // The faults of an old side that come behind those of its lines.
 fn close<R: Drop>(run: &mut Run<R>, begin: Place, replaced: Replaced) -> Result<(), Stop>
     requires known { begin.file.0 < length (names_of run.old.names) }
-    ensures told { OnOk result (run.new.faults.items ≡ run.old.faults.items ++ closing_faults begin replaced.ended replaced.ran_out replaced.unequal) }
-    ensures err { OnErr result (ToldFront (closing_faults begin replaced.ended replaced.ran_out replaced.unequal) run.old.faults.items run.new.faults.items) }
+    ensures told { OnOk result (run.new.faults.items ≡ run.old.faults.items
+        ++ closing_faults begin replaced.ended replaced.ran_out replaced.unequal) }
+    ensures err { OnErr result (ToldFront (closing_faults begin replaced.ended replaced.ran_out
+        replaced.unequal) run.old.faults.items run.new.faults.items) }
     ensures memory { IfErr result (λ stop. stop ≡ Stop.Memory) }
     ensures only { OnlyTells run.old run.new }
 {
@@ -201,19 +198,20 @@ pub fn begin_change<S: Shelf>(
     ensures failed { ReadBlames (S.failed shelf.old) (S.failed shelf.new) result }
     ensures readers { KeepsReaders S.Shelf shelf.old shelf.new run.old run.new }
     ensures blamed { BlamesReaders S.Shelf shelf.old shelf.new run.old run.new result }
-    ensures changed { IsTrue (S.tells shelf.old) → OnOk result (IsChanged begin depth (change_lines (S.left shelf.old) run.old) (things_above (S.left shelf.old) 0 run.old.stack []) run.new.stage
-        (change_lines (S.left shelf.new) run.new) (things_of (S.left shelf.new) run.new) (told_by run.old) (told_by run.new)) }
-    ensures stops { IsTrue (S.tells shelf.old) → IfErr result (λ stop. StopsFor (StopsAmong stop (count_of run.old.limits) (count_of run.new.limits)
-        (lines_replaced (change_lines (S.left shelf.old) run.old) (things_above (S.left shelf.old) 0 run.old.stack []))) stop) }
-    ensures told { IsTrue (S.tells shelf.old) → OnErr result (TellsSome (faults_replaced begin (change_lines (S.left shelf.old) run.old) (things_above (S.left shelf.old) 0 run.old.stack [])) (told_by run.old) (told_by run.new)) }
+    ensures changed { IsTrue (S.tells shelf.old) →
+        OnOk result (IsChanged begin depth (change_lines (S.left shelf.old) run.old)
+        (things_above (S.left shelf.old) 0 run.old.stack []) run.new.stage
+        (change_lines (S.left shelf.new) run.new) (things_of (S.left shelf.new) run.new)
+        (told_by run.old) (told_by run.new)) }
+    ensures stops { IsTrue (S.tells shelf.old) →
+        IfErr result (λ stop. StopsFor (StopsAmong stop (count_of run.old.limits)
+        (count_of run.new.limits) (lines_replaced (change_lines (S.left shelf.old) run.old)
+        (things_above (S.left shelf.old) 0 run.old.stack []))) stop) }
+    ensures told { IsTrue (S.tells shelf.old) →
+        OnErr result (TellsSome (faults_replaced begin (change_lines (S.left shelf.old) run.old)
+        (things_above (S.left shelf.old) 0 run.old.stack [])) (told_by run.old) (told_by run.new)) }
     ensures still { KeepsTold (told_by run.old) (told_by run.new) }
-    ensures more { run.old.limits.lines ≤ run.new.limits.lines }
-    ensures longer { run.old.limits.bytes ≤ run.new.limits.bytes }
-    ensures reading { IfErr result (λ stop. StopsReading stop) }
-    ensures named { IfErr result (λ stop. files_named stop ≤ length (names_of run.new.names)) }
-    ensures inputs { run.new.inputs ≡ run.old.inputs }
-    ensures names { run.new.names ≡ run.old.names }
-    ensures stopped { run.new.stopped ≡ run.old.stopped }
+    ensures goes { GoesOn run.old run.new result }
 {
     let replaced = match replace(shelf, run, line) {
         Ok(replaced) => replaced,

@@ -1,6 +1,7 @@
 // The search for the next entry of a change file.
 ghost use Rattle.std.specs.Prelude.{◌≡◌, ◌≤◌, ◌<◌, ◌+◌, ◌^◌, ◌++◌, ◌∷◌, [], List, length, IsTrue, IfOk, IfErr, OnOk, OnErr, None, Some};
 ghost use Rattle.cweb_files.specs.Frames.{KeepsTexts};
+ghost use Rattle.cweb_lines.specs.Calls.{OnlySeeks};
 ghost use Rattle.cweb_lines.specs.Change.{sought};
 ghost use Rattle.cweb_lines.specs.Counts.{count_of};
 ghost use Rattle.cweb_lines.specs.Lines.{SourceLine};
@@ -33,7 +34,8 @@ pub enum Look {
 fn pass<R: Drop>(run: &mut Run<R>, code: Option<Code>, place: Place) -> Result<Option<Place>, Stop>
     requires known { place.file.0 < length (names_of run.old.names) }
     ensures next { IfOk result (λ next. next ≡ begun_outside code place) }
-    ensures told { OnOk result (run.new.faults.items ≡ run.old.faults.items ++ told_outside code place) }
+    ensures told { OnOk result (run.new.faults.items ≡ run.old.faults.items
+        ++ told_outside code place) }
     ensures err { OnErr result (run.new.faults.items ≡ run.old.faults.items) }
     ensures memory { IfErr result (λ stop. stop ≡ Stop.Memory) }
     ensures only { OnlyTells run.old run.new }
@@ -59,9 +61,12 @@ fn look_behind<R: Drop>(
 ) -> Result<Look, Stop>
     requires known { place.file.0 < length (names_of run.old.names) }
     requires begun { begin.file.0 < length (names_of run.old.names) }
-    ensures looks { IfOk result (λ look. LooksAt look (Some begin) line.now place run.old.faults.items run.new.faults.items) }
-    ensures err { OnErr result ((source : SourceLine) → source.line ≡ record { bytes = line.now; place = place } → (lines : List SourceLine)
-        → ToldFront (sought (source ∷ lines) (Some begin)).faults run.old.faults.items run.new.faults.items) }
+    ensures looks { IfOk result (λ look. LooksAt look
+        (Some begin) line.now place run.old.faults.items run.new.faults.items) }
+    ensures err { OnErr result ((source : SourceLine) →
+        source.line ≡ record { bytes = line.now; place = place } → (lines : List SourceLine) →
+        ToldFront (sought (source ∷ lines) (Some begin)).faults run.old.faults.items
+        run.new.faults.items) }
     ensures known { IfOk result (λ look. LooksKnown (length (names_of run.old.names)) look) }
     ensures memory { IfErr result (λ stop. stop ≡ Stop.Memory) }
     ensures only { OnlyTells run.old run.new }
@@ -91,9 +96,12 @@ fn look_at<R: Drop>(
 ) -> Result<Look, Stop>
     requires known { place.file.0 < length (names_of run.old.names) }
     requires begun { BegunKnown (length (names_of run.old.names)) begin }
-    ensures looks { IfOk result (λ look. LooksAt look begin line.now place run.old.faults.items run.new.faults.items) }
-    ensures err { OnErr result ((source : SourceLine) → source.line ≡ record { bytes = line.now; place = place } → (lines : List SourceLine)
-        → ToldFront (sought (source ∷ lines) begin).faults run.old.faults.items run.new.faults.items) }
+    ensures looks { IfOk result (λ look. LooksAt look begin line.now place run.old.faults.items
+        run.new.faults.items) }
+    ensures err { OnErr result ((source : SourceLine) →
+        source.line ≡ record { bytes = line.now; place = place } → (lines : List SourceLine) →
+        ToldFront (sought (source ∷ lines) begin).faults run.old.faults.items
+        run.new.faults.items) }
     ensures known { IfOk result (λ look. LooksKnown (length (names_of run.old.names)) look) }
     ensures memory { IfErr result (λ stop. stop ≡ Stop.Memory) }
     ensures only { OnlyTells run.old run.new }
@@ -110,7 +118,8 @@ fn look_at<R: Drop>(
 // The change file has ended: no entry is left.
 fn end<R: Drop>(run: &mut Run<R>, begin: Option<Place>) -> Result<(), Stop>
     requires begun { BegunKnown (length (names_of run.old.names)) begin }
-    ensures told { OnOk result (run.new.faults.items ≡ run.old.faults.items ++ (sought [] begin).faults) }
+    ensures told { OnOk result (run.new.faults.items ≡ run.old.faults.items
+        ++ (sought [] begin).faults) }
     ensures err { OnErr result (run.new.faults.items ≡ run.old.faults.items) }
     ensures stage { OnOk result (run.new.stage ≡ Stage.Done) }
     ensures memory { IfErr result (λ stop. stop ≡ Stop.Memory) }
@@ -138,20 +147,19 @@ pub fn seek<S: Shelf>(shelf: &mut S, run: &mut Run<S::R>, line: &mut Vec<u8>) ->
     ensures failed { ReadBlames (S.failed shelf.old) (S.failed shelf.new) result }
     ensures readers { KeepsReaders S.Shelf shelf.old shelf.new run.old run.new }
     ensures blamed { BlamesReaders S.Shelf shelf.old shelf.new run.old run.new result }
-    ensures searched { IsTrue (S.tells shelf.old) → OnOk result (Searched (sought (change_lines (S.left shelf.old) run.old) None) (told_by run.old) (told_by run.new)
-        run.new.stage run.new.first.items (change_lines (S.left shelf.new) run.new)) }
-    ensures stops { IsTrue (S.tells shelf.old) → IfErr result (λ stop. StopsFor (StopsAmong stop (count_of run.old.limits) (count_of run.new.limits)
-        (sought (change_lines (S.left shelf.old) run.old) None).taken) stop) }
-    ensures told { IsTrue (S.tells shelf.old) → OnErr result (TellsSome (sought (change_lines (S.left shelf.old) run.old) None).faults (told_by run.old) (told_by run.new)) }
+    ensures searched { IsTrue (S.tells shelf.old) →
+        OnOk result (Searched (sought (change_lines (S.left shelf.old) run.old) None)
+        (told_by run.old) (told_by run.new) run.new.stage run.new.first.items
+        (change_lines (S.left shelf.new) run.new)) }
+    ensures stops { IsTrue (S.tells shelf.old) →
+        IfErr result (λ stop. StopsFor (StopsAmong stop (count_of run.old.limits)
+        (count_of run.new.limits) (sought (change_lines (S.left shelf.old) run.old) None).taken)
+        stop) }
+    ensures told { IsTrue (S.tells shelf.old) →
+        OnErr result (TellsSome (sought (change_lines (S.left shelf.old) run.old) None).faults
+        (told_by run.old) (told_by run.new)) }
     ensures still { KeepsTold (told_by run.old) (told_by run.new) }
-    ensures reading { IfErr result (λ stop. StopsReading stop) }
-    ensures named { IfErr result (λ stop. files_named stop ≤ length (names_of run.new.names)) }
-    ensures longer { OnOk result (run.old.limits.bytes ≤ run.new.limits.bytes) }
-    ensures counts { OnOk result ((run.old.limits.lines ≤ run.new.limits.lines) × (turns_left run.new.limits.lines run.new.stage < turns_left run.old.limits.lines run.old.stage)) }
-    ensures inputs { run.new.inputs ≡ run.old.inputs }
-    ensures stack { run.new.stack ≡ run.old.stack }
-    ensures names { run.new.names ≡ run.old.names }
-    ensures stopped { run.new.stopped ≡ run.old.stopped }
+    ensures only { OnlySeeks run.old run.new result }
 {
     let mut begin: Option<Place> = None;
     'lines: loop {

@@ -20,8 +20,9 @@ fn fetch_named<S: Shelf>(shelf: &mut S, name: String) -> Result<Option<Opening<S
     ensures failed { S.failed shelf.new ≡ S.failed shelf.old }
     ensures opened { IsTrue (S.tells shelf.old) → IfOk result (IsOpened (S.opened_as shelf.new)) }
     ensures blamed { IsTrue (S.tells shelf.old) → S.blamed shelf.new ≡ S.blamed shelf.old }
-    ensures found { IsTrue (S.tells shelf.old) → IfOk result (λ opening.
-        found_as (S.left shelf.new) opening ≡ under (string_bytes name) (S.texts shelf.old (string_bytes name))) }
+    ensures found { IsTrue (S.tells shelf.old) →
+        IfOk result (λ opening. found_as (S.left shelf.new) opening
+        ≡ under (string_bytes name) (S.texts shelf.old (string_bytes name))) }
 {
     match shelf.fetch(name.as_str())? {
         Some(reader) => Ok(Some(Opening { name, reader })),
@@ -49,8 +50,9 @@ pub fn find<S: Shelf>(
     ensures failed { S.failed shelf.new ≡ S.failed shelf.old }
     ensures opened { IsTrue (S.tells shelf.old) → IfOk result (IsOpened (S.opened_as shelf.new)) }
     ensures blamed { IsTrue (S.tells shelf.old) → S.blamed shelf.new ≡ S.blamed shelf.old }
-    ensures found { IsTrue (S.tells shelf.old) → IfOk result (λ opening.
-        found_as (S.left shelf.new) opening ≡ found_at (world_in (S.texts shelf.old) inputs.now) name.now) }
+    ensures found { IsTrue (S.tells shelf.old) →
+        IfOk result (λ opening. found_as (S.left shelf.new) opening
+        ≡ found_at (world_in (S.texts shelf.old) inputs.now) name.now) }
 {
     let Ok(name) = str::from_utf8(name) else {
         return Ok(None);
@@ -75,8 +77,9 @@ pub fn find_web<S: Shelf>(
     ensures failed { S.failed shelf.new ≡ S.failed shelf.old }
     ensures opened { IsTrue (S.tells shelf.old) → IfOk result (IsOpened (S.opened_as shelf.new)) }
     ensures blamed { IsTrue (S.tells shelf.old) → S.blamed shelf.new ≡ S.blamed shelf.old }
-    ensures found { IsTrue (S.tells shelf.old) → IfOk result (λ opening.
-        found_as (S.left shelf.new) opening ≡ web_at (S.texts shelf.old) web.now (option_copied second.entry)) }
+    ensures found { IsTrue (S.tells shelf.old) →
+        IfOk result (λ opening. found_as (S.left shelf.new) opening
+        ≡ web_at (S.texts shelf.old) web.now (option_copied second.entry)) }
 {
     let Some(opening) = fetch_named(shelf, String::from_str(alloc, web)?)? else {
         let Some(second) = second else {
@@ -98,8 +101,9 @@ pub fn find_change<S: Shelf>(
     ensures opened { IsTrue (S.tells shelf.old) →
         IfOk result (IsChangeOpened (S.opened_as shelf.new)) }
     ensures blamed { IsTrue (S.tells shelf.old) → S.blamed shelf.new ≡ S.blamed shelf.old }
-    ensures found { IsTrue (S.tells shelf.old) → IfOk result (λ opened.
-        changes_found (S.left shelf.new) opened ≡ change_at (S.texts shelf.old) (option_copied change.entry)) }
+    ensures found { IsTrue (S.tells shelf.old) →
+        IfOk result (λ opened. changes_found (S.left shelf.new) opened
+        ≡ change_at (S.texts shelf.old) (option_copied change.entry)) }
 {
     let Some(name) = change else {
         return Ok(Some(None));

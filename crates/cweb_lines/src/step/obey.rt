@@ -1,6 +1,7 @@
 // Lines that begin no change: include lines are obeyed, and the others are given out.
 ghost use Rattle.std.specs.Prelude.{◌≡◌, ◌≤◌, ◌<◌, ◌+◌, ◌^◌, ◌++◌, ◌∷◌, [], length, IsTrue, IfOk, IfErr, OnOk, OnErr, None, Some, string_bytes, true, ℕ, List};
 ghost use Rattle.cweb_files.specs.Frames.{KeepsTexts};
+ghost use Rattle.cweb_lines.specs.Calls.{OnlyObeys, OnlyOpens};
 ghost use Rattle.cweb_lines.specs.Include as spec;
 ghost use Rattle.cweb_lines.specs.Lines.{SourceLine};
 ghost use Rattle.cweb_lines.specs.Merging.{GivesBehind, KeepsTold, pending_of, told_by, coming, coming_after, lines_given, IsTaken, TurnKnown};
@@ -28,19 +29,15 @@ fn open<R: Drop>(run: &mut Run<R>, opening: Opening<R>, at: LineAt) -> Result<()
     requires names { length (names_of run.old.names) < run.old.limits.lines + 2 }
     ensures same { OnErr result (names_of run.new.names ≡ names_of run.old.names) }
     ensures memory { IfErr result (λ stop. stop ≡ Stop.Memory) }
-    ensures opens { OnOk result ((names_of run.new.names ≡ names_of run.old.names ++ string_bytes opening.name ∷ []) × Opens run.old.stack run.new.stack opening.reader (length (names_of run.old.names)) at) }
+    ensures opens { OnOk result ((names_of run.new.names ≡ names_of run.old.names
+        ++ string_bytes opening.name ∷ []) × Opens run.old.stack run.new.stack opening.reader
+        (length (names_of run.old.names)) at) }
     ensures still { KeepsTold (told_by run.old) (told_by run.new) }
     ensures below { StaysBelow run.old.stack.depth run.old.stack.texts run.new.stack.texts }
     ensures readers { (opened_as : R → List ℕ) →
         opened_as opening.reader ≡ string_bytes opening.name →
         AreReadersKnown opened_as run.old → AreReadersKnown opened_as run.new }
-    ensures inputs { run.new.inputs ≡ run.old.inputs }
-    ensures change { run.new.change ≡ run.old.change }
-    ensures stage { run.new.stage ≡ run.old.stage }
-    ensures first { run.new.first ≡ run.old.first }
-    ensures limits { run.new.limits ≡ run.old.limits }
-    ensures faults { run.new.faults ≡ run.old.faults }
-    ensures stopped { run.new.stopped ≡ run.old.stopped }
+    ensures only { OnlyOpens run.old run.new }
 {
     let Opening { name, reader } = opening;
     let piece = run.stack.pieces.take(run.alloc)?;
@@ -71,15 +68,14 @@ fn obey<S: Shelf>(shelf: &mut S, run: &mut Run<S::R>, line: &[u8], at: LineAt) -
     ensures failed { S.failed shelf.new ≡ S.failed shelf.old }
     ensures readers { KeepsReaders S.Shelf shelf.old shelf.new run.old run.new }
     ensures blamed { IsTrue (S.tells shelf.old) → S.blamed shelf.new ≡ S.blamed shelf.old }
-    ensures same { OnErr result ((run.new.faults.items ≡ run.old.faults.items) × (names_of run.new.names ≡ names_of run.old.names)) }
-    ensures memory { IfErr result (λ stop. stop ≡ Stop.Memory) }
-    ensures more { length (names_of run.old.names) ≤ length (names_of run.new.names) }
+    ensures only { OnlyObeys run.old run.new result }
     ensures still { KeepsTold (told_by run.old) (told_by run.new) }
-    ensures limits { run.new.limits ≡ run.old.limits }
-    ensures stage { run.new.stage ≡ run.old.stage }
-    ensures stopped { run.new.stopped ≡ run.old.stopped }
-    ensures obeys { IsTrue (S.tells shelf.old) → OnOk result ((source : SourceLine) → source.line ≡ record { bytes = line.now; place = at.place } → GivesBehind source [] (told_by run.old) (told_by run.new)
-        (coming_after (S.texts shelf.old) (S.left shelf.old) run.old at source) (coming (S.texts shelf.new) (S.left shelf.new) run.new)) }
+    ensures obeys { IsTrue (S.tells shelf.old) →
+        OnOk result ((source : SourceLine) → source.line
+        ≡ record { bytes = line.now; place = at.place } →
+        GivesBehind source [] (told_by run.old) (told_by run.new)
+        (coming_after (S.texts shelf.old) (S.left shelf.old) run.old at source)
+        (coming (S.texts shelf.new) (S.left shelf.new) run.new)) }
 {
     let name = include_name(line);
     if name.is_empty() {
@@ -111,17 +107,16 @@ pub fn give<S: Shelf>(
     ensures failed { S.failed shelf.new ≡ S.failed shelf.old }
     ensures readers { KeepsReaders S.Shelf shelf.old shelf.new run.old run.new }
     ensures blamed { IsTrue (S.tells shelf.old) → S.blamed shelf.new ≡ S.blamed shelf.old }
-    ensures same { OnErr result ((run.new.faults.items ≡ run.old.faults.items) × (names_of run.new.names ≡ names_of run.old.names)) }
-    ensures memory { IfErr result (λ stop. stop ≡ Stop.Memory) }
-    ensures more { length (names_of run.old.names) ≤ length (names_of run.new.names) }
+    ensures only { OnlyObeys run.old run.new result }
     ensures still { KeepsTold (told_by run.old) (told_by run.new) }
-    ensures limits { run.new.limits ≡ run.old.limits }
-    ensures stage { run.new.stage ≡ run.old.stage }
-    ensures stopped { run.new.stopped ≡ run.old.stopped }
     ensures goes { IfOk result (λ turn. IsTaken turn) }
     ensures known { IfOk result (λ turn. TurnKnown (length (names_of run.new.names)) turn) }
-    ensures gives { IsTrue (S.tells shelf.old) → IfOk result (λ turn. (source : SourceLine) → source.line ≡ record { bytes = line.now; place = at.place } → GivesBehind source (lines_given turn line.now) (told_by run.old) (told_by run.new)
-        (coming_after (S.texts shelf.old) (S.left shelf.old) run.old at source) (coming (S.texts shelf.new) (S.left shelf.new) run.new)) }
+    ensures gives { IsTrue (S.tells shelf.old) →
+        IfOk result (λ turn. (source : SourceLine) →
+        source.line ≡ record { bytes = line.now; place = at.place } →
+        GivesBehind source (lines_given turn line.now) (told_by run.old) (told_by run.new)
+        (coming_after (S.texts shelf.old) (S.left shelf.old) run.old at source)
+        (coming (S.texts shelf.new) (S.left shelf.new) run.new)) }
 {
     if !is_include(line) {
         return Ok(Turn::Given(at.place));

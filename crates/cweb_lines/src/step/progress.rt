@@ -1,6 +1,7 @@
 // What a merger does at once: it takes a line, or tells a fault.
 ghost use Rattle.std.specs.Prelude.{◌≡◌, ◌≤◌, ◌<◌, ◌+◌, ◌^◌, ◌++◌, ◌∷◌, [], length, IsTrue, IfOk, IfErr, IfSome, OnSome, Ok, OnOk, OnErr, None};
 ghost use Rattle.cweb_files.specs.Frames.{KeepsTexts};
+ghost use Rattle.cweb_lines.specs.Calls.{AnswersLine, ClosesAbove};
 ghost use Rattle.cweb_lines.specs.Counts.{count_of};
 ghost use Rattle.cweb_lines.specs.Lines.{IsOneLine};
 ghost use Rattle.cweb_lines.specs.Merging.{NothingLeft, change_lines};
@@ -62,7 +63,8 @@ impl<R: Drop> Run<R> {
     /// Tells a fault.
     pub fn tell(&mut self, kind: SourceKind, place: Place, count: u32) -> Result<(), Stop>
         requires known { place.file.0 < length (names_of self.old.names) }
-        ensures told { OnOk result (self.new.faults.items ≡ self.old.faults.items ++ record { kind = kind; place = place; count = count } ∷ []) }
+        ensures told { OnOk result (self.new.faults.items ≡ self.old.faults.items
+            ++ record { kind = kind; place = place; count = count } ∷ []) }
         ensures err { OnErr result (self.new.faults.items ≡ self.old.faults.items) }
         ensures memory { IfErr result (λ stop. stop ≡ Stop.Memory) }
         ensures only { OnlyTells self.old self.new }
@@ -84,16 +86,17 @@ pub fn take_change<S: Shelf>(
     requires { S.failed shelf.old + 1 < 2 ^ 64 }
     ensures keeps { KeepsTexts S.Shelf shelf.old shelf.new }
     ensures failed { ReadBlames (S.failed shelf.old) (S.failed shelf.new) result }
-    ensures taken { IsTrue (S.tells shelf.old) → IfOk result (λ at. TakesLine (change_lines (S.left shelf.old) run.old) at line.new.items (change_lines (S.left shelf.new) run.new)
-        (count_of run.old.limits) (count_of run.new.limits)) }
-    ensures stops { IsTrue (S.tells shelf.old) → IfErr result (λ stop. StopsFor (FirstStops stop (count_of run.old.limits) (change_lines (S.left shelf.old) run.old)) stop) }
+    ensures taken { IsTrue (S.tells shelf.old) →
+        IfOk result (λ at. TakesLine (change_lines (S.left shelf.old) run.old) at line.new.items
+        (change_lines (S.left shelf.new) run.new) (count_of run.old.limits)
+        (count_of run.new.limits)) }
+    ensures stops { IsTrue (S.tells shelf.old) →
+        IfErr result (λ stop. StopsFor (FirstStops stop (count_of run.old.limits)
+        (change_lines (S.left shelf.old) run.old)) stop) }
     ensures readers { KeepsReaders S.Shelf shelf.old shelf.new run.old run.new }
     ensures blamed { BlamesReaders S.Shelf shelf.old shelf.new run.old run.new result }
-    ensures counted { Counted (count_of run.old.limits) (count_of run.new.limits) result }
-    ensures line { IfOk result (λ at. OnSome at (IsOneLine line.new.items)) }
-    ensures gains { IfOk result (λ at. OnSome at (run.old.limits.bytes + length line.new.items ≤ run.new.limits.bytes)) }
-    ensures known { NamesFiles (length (names_of run.old.names)) result }
-    ensures reading { IfErr result (λ stop. StopsReading stop) }
+    ensures answers { AnswersLine (length (names_of run.old.names)) (count_of run.old.limits)
+        (count_of run.new.limits) line.new.items result }
     ensures only { OnlyTakes run.old run.new }
     ensures stack { run.new.stack ≡ run.old.stack }
 {
@@ -110,20 +113,18 @@ pub fn take_raw<S: Shelf>(
     requires { S.failed shelf.old + 1 < 2 ^ 64 }
     ensures keeps { KeepsTexts S.Shelf shelf.old shelf.new }
     ensures failed { ReadBlames (S.failed shelf.old) (S.failed shelf.new) result }
-    ensures taken { IsTrue (S.tells shelf.old) → IfOk result (λ at. TakesAbove (S.left shelf.old) (S.left shelf.new) (floor_of run.old.stage) run.old.stack run.new.stack at line.new.items
+    ensures taken { IsTrue (S.tells shelf.old) →
+        IfOk result (λ at. TakesAbove (S.left shelf.old) (S.left shelf.new)
+        (floor_of run.old.stage) run.old.stack run.new.stack at line.new.items
         (count_of run.old.limits) (count_of run.new.limits)) }
-    ensures stops { IsTrue (S.tells shelf.old) → IfErr result (λ stop. StopsFor (StopsAbove (S.left shelf.old) (floor_of run.old.stage) run.old.stack stop (count_of run.old.limits)) stop) }
+    ensures stops { IsTrue (S.tells shelf.old) →
+        IfErr result (λ stop. StopsFor (StopsAbove (S.left shelf.old)
+        (floor_of run.old.stage) run.old.stack stop (count_of run.old.limits)) stop) }
     ensures readers { KeepsReaders S.Shelf shelf.old shelf.new run.old run.new }
     ensures blamed { BlamesReaders S.Shelf shelf.old shelf.new run.old run.new result }
-    ensures below { StaysBelow (floor_of run.old.stage) run.old.stack.texts run.new.stack.texts }
-    ensures ended { result ≡ Ok None → run.new.stack.depth ≡ floor_of run.old.stage }
-    ensures deeper { IfOk result (λ at. IfSome at (λ a. run.new.stack.depth ≤ a.depth)) }
-    ensures counted { Counted (count_of run.old.limits) (count_of run.new.limits) result }
-    ensures line { IfOk result (λ at. OnSome at (IsOneLine line.new.items)) }
-    ensures gains { IfOk result (λ at. OnSome at (run.old.limits.bytes + length line.new.items ≤ run.new.limits.bytes)) }
-    ensures known { NamesFiles (length (names_of run.old.names)) result }
-    ensures reading { IfErr result (λ stop. StopsReading stop) }
-    ensures shallow { run.new.stack.depth ≤ run.old.stack.depth }
+    ensures closes { ClosesAbove (floor_of run.old.stage) run.old.stack run.new.stack result }
+    ensures answers { AnswersLine (length (names_of run.old.names)) (count_of run.old.limits)
+        (count_of run.new.limits) line.new.items result }
     ensures only { OnlyTakes run.old run.new }
     ensures change { run.new.change ≡ run.old.change }
 {

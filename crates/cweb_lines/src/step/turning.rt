@@ -1,6 +1,7 @@
 // One step of a merger.
 ghost use Rattle.std.specs.Prelude.{◌≡◌, ◌≤◌, ◌<◌, ◌+◌, ◌^◌, length, IsTrue, IfOk, IfErr, Ok, OnOk, OnErr};
 ghost use Rattle.cweb_files.specs.Frames.{KeepsTexts};
+ghost use Rattle.cweb_lines.specs.Calls.{Turns};
 ghost use Rattle.cweb_lines.specs.Counts.{count_of};
 ghost use Rattle.cweb_lines.specs.Merging.{Gives, KeepsTold, Stopped, TellsFront, NothingLeft, TurnLine, TurnGains, TurnCounts, TurnEnds, TurnKnown, coming, lines_given, told_by};
 ghost use Rattle.cweb_lines.specs.Names.{names_of};
@@ -33,22 +34,20 @@ fn take_new<S: Shelf>(
     requires below { run.old.stack.depth ≡ change.below }
     ensures keeps { KeepsTexts S.Shelf shelf.old shelf.new }
     ensures failed { ReadBlames (S.failed shelf.old) (S.failed shelf.new) result }
-    ensures stopped { run.new.stopped ≡ run.old.stopped }
-    ensures counts { IfOk result (λ turn. TurnCounts turn run.old.limits.lines run.old.stage run.new.limits.lines run.new.stage) }
-    ensures ends { IfOk result (λ turn. TurnEnds turn run.new) }
-    ensures known { IfOk result (λ turn. TurnKnown (length (names_of run.new.names)) turn) }
-    ensures grows { length (names_of run.old.names) ≤ length (names_of run.new.names) }
+    ensures turns { Turns run.old run.new line.new.items result }
     ensures still { KeepsTold (told_by run.old) (told_by run.new) }
     ensures readers { KeepsReaders S.Shelf shelf.old shelf.new run.old run.new }
     ensures blamed { BlamesReaders S.Shelf shelf.old shelf.new run.old run.new result }
-    ensures line { IfOk result (λ turn. TurnLine turn line.new.items) }
-    ensures gains { IfOk result (λ turn. TurnGains turn line.new.items run.old.limits.bytes run.new.limits.bytes) }
-    ensures named { IfErr result (λ stop. files_named stop ≤ length (names_of run.new.names)) }
-    ensures reading { IfErr result (λ stop. StopsReading stop) }
-    ensures gives { IsTrue (S.tells shelf.old) → IfOk result (λ turn. Gives (lines_given turn line.new.items) (told_by run.old) (told_by run.new)
-        (coming (S.texts shelf.old) (S.left shelf.old) run.old) (coming (S.texts shelf.new) (S.left shelf.new) run.new)) }
-    ensures told { IsTrue (S.tells shelf.old) → OnErr result (TellsFront (told_by run.old) (told_by run.new) (coming (S.texts shelf.old) (S.left shelf.old) run.old)) }
-    ensures stops { IsTrue (S.tells shelf.old) → IfErr result (λ stop. Stopped stop (count_of run.old.limits) (count_of run.new.limits) (coming (S.texts shelf.old) (S.left shelf.old) run.old)) }
+    ensures gives { IsTrue (S.tells shelf.old) →
+        IfOk result (λ turn. Gives (lines_given turn line.new.items) (told_by run.old)
+        (told_by run.new) (coming (S.texts shelf.old) (S.left shelf.old) run.old)
+        (coming (S.texts shelf.new) (S.left shelf.new) run.new)) }
+    ensures told { IsTrue (S.tells shelf.old) →
+        OnErr result (TellsFront (told_by run.old) (told_by run.new)
+        (coming (S.texts shelf.old) (S.left shelf.old) run.old)) }
+    ensures stops { IsTrue (S.tells shelf.old) →
+        IfErr result (λ stop. Stopped stop (count_of run.old.limits) (count_of run.new.limits)
+        (coming (S.texts shelf.old) (S.left shelf.old) run.old)) }
 {
     let taken = match take_change(shelf, run, line) {
         Ok(taken) => taken,
@@ -90,22 +89,20 @@ fn take_end<S: Shelf>(shelf: &mut S, run: &mut Run<S::R>, line: &mut Vec<u8>) ->
     requires floor { run.old.stack.depth ≡ floor_of run.old.stage }
     ensures keeps { KeepsTexts S.Shelf shelf.old shelf.new }
     ensures failed { ReadBlames (S.failed shelf.old) (S.failed shelf.new) result }
-    ensures stopped { run.new.stopped ≡ run.old.stopped }
-    ensures counts { IfOk result (λ turn. TurnCounts turn run.old.limits.lines run.old.stage run.new.limits.lines run.new.stage) }
-    ensures ends { IfOk result (λ turn. TurnEnds turn run.new) }
-    ensures known { IfOk result (λ turn. TurnKnown (length (names_of run.new.names)) turn) }
-    ensures grows { length (names_of run.old.names) ≤ length (names_of run.new.names) }
+    ensures turns { Turns run.old run.new line.new.items result }
     ensures still { KeepsTold (told_by run.old) (told_by run.new) }
     ensures readers { KeepsReaders S.Shelf shelf.old shelf.new run.old run.new }
     ensures blamed { BlamesReaders S.Shelf shelf.old shelf.new run.old run.new result }
-    ensures line { IfOk result (λ turn. TurnLine turn line.new.items) }
-    ensures gains { IfOk result (λ turn. TurnGains turn line.new.items run.old.limits.bytes run.new.limits.bytes) }
-    ensures named { IfErr result (λ stop. files_named stop ≤ length (names_of run.new.names)) }
-    ensures reading { IfErr result (λ stop. StopsReading stop) }
-    ensures gives { IsTrue (S.tells shelf.old) → IfOk result (λ turn. Gives (lines_given turn line.new.items) (told_by run.old) (told_by run.new)
-        (coming (S.texts shelf.old) (S.left shelf.old) run.old) (coming (S.texts shelf.new) (S.left shelf.new) run.new)) }
-    ensures told { IsTrue (S.tells shelf.old) → OnErr result (TellsFront (told_by run.old) (told_by run.new) (coming (S.texts shelf.old) (S.left shelf.old) run.old)) }
-    ensures stops { IsTrue (S.tells shelf.old) → IfErr result (λ stop. Stopped stop (count_of run.old.limits) (count_of run.new.limits) (coming (S.texts shelf.old) (S.left shelf.old) run.old)) }
+    ensures gives { IsTrue (S.tells shelf.old) →
+        IfOk result (λ turn. Gives (lines_given turn line.new.items) (told_by run.old)
+        (told_by run.new) (coming (S.texts shelf.old) (S.left shelf.old) run.old)
+        (coming (S.texts shelf.new) (S.left shelf.new) run.new)) }
+    ensures told { IsTrue (S.tells shelf.old) →
+        OnErr result (TellsFront (told_by run.old) (told_by run.new)
+        (coming (S.texts shelf.old) (S.left shelf.old) run.old)) }
+    ensures stops { IsTrue (S.tells shelf.old) →
+        IfErr result (λ stop. Stopped stop (count_of run.old.limits) (count_of run.new.limits)
+        (coming (S.texts shelf.old) (S.left shelf.old) run.old)) }
 {
     match run.stage {
         Stage::Done | Stage::Seeking => Ok(Turn::Ended),
@@ -139,23 +136,22 @@ pub fn take_turn<S: Shelf>(
     requires count { S.failed shelf.old + 1 < 2 ^ 64 }
     ensures keeps { KeepsTexts S.Shelf shelf.old shelf.new }
     ensures failed { ReadBlames (S.failed shelf.old) (S.failed shelf.new) result }
-    ensures stopped { run.new.stopped ≡ run.old.stopped }
-    ensures counts { IfOk result (λ turn. TurnCounts turn run.old.limits.lines run.old.stage run.new.limits.lines run.new.stage) }
-    ensures ends { IfOk result (λ turn. TurnEnds turn run.new) }
-    ensures ended { NothingLeft run.old → (result ≡ Ok Turn.Ended) × (run.new ≡ run.old) × (shelf.new ≡ shelf.old) }
-    ensures known { IfOk result (λ turn. TurnKnown (length (names_of run.new.names)) turn) }
-    ensures grows { length (names_of run.old.names) ≤ length (names_of run.new.names) }
+    ensures turns { Turns run.old run.new line.new.items result }
+    ensures ended { NothingLeft run.old → (result ≡ Ok Turn.Ended) × (run.new ≡ run.old)
+        × (shelf.new ≡ shelf.old) }
     ensures still { KeepsTold (told_by run.old) (told_by run.new) }
     ensures readers { KeepsReaders S.Shelf shelf.old shelf.new run.old run.new }
     ensures blamed { BlamesReaders S.Shelf shelf.old shelf.new run.old run.new result }
-    ensures line { IfOk result (λ turn. TurnLine turn line.new.items) }
-    ensures gains { IfOk result (λ turn. TurnGains turn line.new.items run.old.limits.bytes run.new.limits.bytes) }
-    ensures named { IfErr result (λ stop. files_named stop ≤ length (names_of run.new.names)) }
-    ensures reading { IfErr result (λ stop. StopsReading stop) }
-    ensures gives { IsTrue (S.tells shelf.old) → IfOk result (λ turn. Gives (lines_given turn line.new.items) (told_by run.old) (told_by run.new)
-        (coming (S.texts shelf.old) (S.left shelf.old) run.old) (coming (S.texts shelf.new) (S.left shelf.new) run.new)) }
-    ensures told { IsTrue (S.tells shelf.old) → OnErr result (TellsFront (told_by run.old) (told_by run.new) (coming (S.texts shelf.old) (S.left shelf.old) run.old)) }
-    ensures stops { IsTrue (S.tells shelf.old) → IfErr result (λ stop. Stopped stop (count_of run.old.limits) (count_of run.new.limits) (coming (S.texts shelf.old) (S.left shelf.old) run.old)) }
+    ensures gives { IsTrue (S.tells shelf.old) →
+        IfOk result (λ turn. Gives (lines_given turn line.new.items) (told_by run.old)
+        (told_by run.new) (coming (S.texts shelf.old) (S.left shelf.old) run.old)
+        (coming (S.texts shelf.new) (S.left shelf.new) run.new)) }
+    ensures told { IsTrue (S.tells shelf.old) →
+        OnErr result (TellsFront (told_by run.old) (told_by run.new)
+        (coming (S.texts shelf.old) (S.left shelf.old) run.old)) }
+    ensures stops { IsTrue (S.tells shelf.old) →
+        IfErr result (λ stop. Stopped stop (count_of run.old.limits) (count_of run.new.limits)
+        (coming (S.texts shelf.old) (S.left shelf.old) run.old)) }
 {
     if run.has_ended() {
         return Ok(Turn::Ended);

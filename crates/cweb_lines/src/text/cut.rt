@@ -22,7 +22,8 @@ fn extend(line: &mut Vec<u8>, front: &[u8]) -> Result<(), LineFault>
     ensures ok { OnOk result (line.new.items ≡ line.old.items ++ front.now) }
     ensures within { length line.new.items ≤ LINE_LENGTH }
     ensures read { IsErrOf result LineFault.Read → ⊥ }
-    ensures too_long { IsErrOf result LineFault.TooLong → LINE_LENGTH < length line.old.items + length front.now }
+    ensures too_long { IsErrOf result LineFault.TooLong →
+        LINE_LENGTH < length line.old.items + length front.now }
 {
     if front.len() > LINE_LENGTH - line.len() {
         return Err(LineFault::TooLong);
@@ -35,10 +36,12 @@ fn extend(line: &mut Vec<u8>, front: &[u8]) -> Result<(), LineFault>
 fn take_pending<R: Drop>(source: &mut Source<R>, line: &mut Vec<u8>) -> Result<bool, LineFault>
     requires { length line.old.items ≤ LINE_LENGTH }
     ensures reader { source.new.reader.value ≡ source.old.reader.value }
-    ensures taken { IfOk result (λ full. TakesOf (pending source.old) line.old.items full line.new.items (pending source.new)) }
+    ensures taken { IfOk result (λ full. TakesOf
+        (pending source.old) line.old.items full line.new.items (pending source.new)) }
     ensures within { length line.new.items ≤ LINE_LENGTH }
     ensures read { IsErrOf result LineFault.Read → ⊥ }
-    ensures too_long { HasNoNewline line.old.items → IsErrOf result LineFault.TooLong → IsLongerThan LINE_LENGTH (line.old.items ++ pending source.old) }
+    ensures too_long { HasNoNewline line.old.items → IsErrOf result LineFault.TooLong →
+        IsLongerThan LINE_LENGTH (line.old.items ++ pending source.old) }
 {
     let pending = &source.piece[source.start..source.end];
     match newline_at(pending) {
@@ -72,13 +75,16 @@ fn refill<S: Shelf>(shelf: &mut S, source: &mut Source<S::R>) -> Result<(), Line
     ensures keeps { KeepsTexts S.Shelf shelf.old shelf.new }
     ensures failed { Blames (S.failed shelf.old) (S.failed shelf.new) result }
     ensures opened { IsTrue (S.tells shelf.old) →
-        S.opened_as shelf.new source.new.reader.value ≡ S.opened_as shelf.old source.old.reader.value }
+        S.opened_as shelf.new source.new.reader.value
+        ≡ S.opened_as shelf.old source.old.reader.value }
     ensures blamed { IsTrue (S.tells shelf.old) →
         BlamesReader (S.opened_as shelf.old source.old.reader.value)
         (S.blamed shelf.old) (S.blamed shelf.new) result }
     ensures read { IsErrOf result LineFault.TooLong → ⊥ }
-    ensures same { IsTrue (S.tells shelf.old) → OnOk result (left_of S.left shelf.new source.new ≡ left_of S.left shelf.old source.old) }
-    ensures end { IsTrue (S.tells shelf.old) → OnOk result (source.new.start ≡ source.new.end → left_of S.left shelf.new source.new ≡ []) }
+    ensures same { IsTrue (S.tells shelf.old) →
+        OnOk result (left_of S.left shelf.new source.new ≡ left_of S.left shelf.old source.old) }
+    ensures end { IsTrue (S.tells shelf.old) →
+        OnOk result (source.new.start ≡ source.new.end → left_of S.left shelf.new source.new ≡ []) }
 {
     if source.start < source.end {
         return Ok(());
@@ -105,12 +111,16 @@ pub fn next_line<S: Shelf>(
     ensures keeps { KeepsTexts S.Shelf shelf.old shelf.new }
     ensures failed { Blames (S.failed shelf.old) (S.failed shelf.new) result }
     ensures opened { IsTrue (S.tells shelf.old) →
-        S.opened_as shelf.new source.new.reader.value ≡ S.opened_as shelf.old source.old.reader.value }
+        S.opened_as shelf.new source.new.reader.value
+        ≡ S.opened_as shelf.old source.old.reader.value }
     ensures blamed { IsTrue (S.tells shelf.old) →
         BlamesReader (S.opened_as shelf.old source.old.reader.value)
         (S.blamed shelf.old) (S.blamed shelf.new) result }
-    ensures taken { IsTrue (S.tells shelf.old) → IfOk result (λ taken. Takes (left_of S.left shelf.old source.old) taken line.new.items (left_of S.left shelf.new source.new)) }
-    ensures too_long { IsTrue (S.tells shelf.old) → IsErrOf result LineFault.TooLong → IsLongerThan LINE_LENGTH (left_of S.left shelf.old source.old) }
+    ensures taken { IsTrue (S.tells shelf.old) →
+        IfOk result (λ taken. Takes (left_of S.left shelf.old source.old) taken line.new.items
+        (left_of S.left shelf.new source.new)) }
+    ensures too_long { IsTrue (S.tells shelf.old) → IsErrOf result LineFault.TooLong →
+        IsLongerThan LINE_LENGTH (left_of S.left shelf.old source.old) }
     ensures within { length line.new.items ≤ LINE_LENGTH }
     ensures clean { OnOk result (HasNoNewline line.new.items) }
 {

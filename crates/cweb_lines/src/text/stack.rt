@@ -1,6 +1,7 @@
 // The texts that are open, the deepest last.
 ghost use Rattle.std.specs.Prelude.{◌≡◌, ◌≤◌, ◌<◌, ◌+◌, ◌-◌, ◌^◌, ℕ, List, ◌∷◌, replicate, length, IsTrue, IfOk, IfErr, IfSome, OnSome, Ok, None, Some, slice_set};
 ghost use Rattle.cweb_files.specs.Frames.{KeepsTexts};
+ghost use Rattle.cweb_lines.specs.Calls.{AnswersLine, ClosesAbove, ClosesTop, KeepsStack};
 ghost use Rattle.cweb_lines.specs.Counts.{count_of};
 ghost use Rattle.cweb_lines.specs.Lines.{IsOneLine};
 ghost use Rattle.cweb_lines.specs.declared.limits.TheConstants.{OPEN_FILES};
@@ -109,21 +110,19 @@ fn take_top<S: Shelf>(
     requires deep { AreDeep stack.old.texts }
     ensures keeps { KeepsTexts S.Shelf shelf.old shelf.new }
     ensures failed { ReadBlames (S.failed shelf.old) (S.failed shelf.new) result }
-    ensures taken { IsTrue (S.tells shelf.old) → IfOk result (λ at. TakesTop (S.left shelf.old) (S.left shelf.new) stack.old stack.new at line.new.items (count_of limits.old) (count_of limits.new)) }
-    ensures stops { IsTrue (S.tells shelf.old) → IfErr result (λ stop. StopsFor (StopsTop (S.left shelf.old) stack.old stop (count_of limits.old)) stop) }
-    ensures below { (low : ℕ) → low < stack.old.depth → StaysBelow low stack.old.texts stack.new.texts }
+    ensures taken { IsTrue (S.tells shelf.old) →
+        IfOk result (λ at. TakesTop (S.left shelf.old)
+        (S.left shelf.new) stack.old stack.new at line.new.items (count_of limits.old)
+        (count_of limits.new)) }
+    ensures stops { IsTrue (S.tells shelf.old) →
+        IfErr result (λ stop. StopsFor (StopsTop (S.left shelf.old) stack.old stop
+        (count_of limits.old)) stop) }
+    ensures closes { ClosesTop stack.old stack.new result }
     ensures named { KeepsNames S.Shelf shelf.old shelf.new stack.old.texts stack.new.texts }
     ensures blamed { BlamesTexts S.Shelf shelf.old shelf.new stack.old.texts result }
-    ensures numbers { most line_number stack.new.texts ≤ limits.new.lines }
-    ensures reading { IfErr result (λ stop. StopsReading stop) }
-    ensures counted { Counted (count_of limits.old) (count_of limits.new) result }
-    ensures line { IfOk result (λ at. OnSome at (IsOneLine line.new.items)) }
-    ensures gains { IfOk result (λ at. OnSome at (limits.old.bytes + length line.new.items ≤ limits.new.bytes)) }
-    ensures files { most files_up_to stack.new.texts ≤ most files_up_to stack.old.texts }
-    ensures known { NamesFiles (most files_up_to stack.old.texts) result }
-    ensures depth { DepthAfter stack.old.depth stack.new.depth result }
-    ensures deep { AreDeep stack.new.texts }
-    ensures deeper { IfOk result (λ at. IfSome at (λ a. stack.new.depth ≤ a.depth)) }
+    ensures stack { KeepsStack stack.old stack.new (count_of limits.new) }
+    ensures answers { AnswersLine (most files_up_to stack.old.texts) (count_of limits.old)
+        (count_of limits.new) line.new.items result }
 {
     let top = stack.depth - 1;
     let taken = match take_from(shelf, &mut stack.texts[top], limits, line) {
@@ -155,23 +154,19 @@ pub fn take_above<S: Shelf>(
     requires deep { AreDeep stack.old.texts }
     ensures keeps { KeepsTexts S.Shelf shelf.old shelf.new }
     ensures failed { ReadBlames (S.failed shelf.old) (S.failed shelf.new) result }
-    ensures taken { IsTrue (S.tells shelf.old) → IfOk result (λ at. TakesAbove (S.left shelf.old) (S.left shelf.new) low stack.old stack.new at line.new.items (count_of limits.old) (count_of limits.new)) }
-    ensures stops { IsTrue (S.tells shelf.old) → IfErr result (λ stop. StopsFor (StopsAbove (S.left shelf.old) low stack.old stop (count_of limits.old)) stop) }
-    ensures below { StaysBelow low stack.old.texts stack.new.texts }
+    ensures taken { IsTrue (S.tells shelf.old) →
+        IfOk result (λ at. TakesAbove (S.left shelf.old)
+        (S.left shelf.new) low stack.old stack.new at line.new.items (count_of limits.old)
+        (count_of limits.new)) }
+    ensures stops { IsTrue (S.tells shelf.old) →
+        IfErr result (λ stop. StopsFor (StopsAbove (S.left shelf.old) low stack.old stop
+        (count_of limits.old)) stop) }
+    ensures closes { ClosesAbove low stack.old stack.new result }
     ensures named { KeepsNames S.Shelf shelf.old shelf.new stack.old.texts stack.new.texts }
     ensures blamed { BlamesTexts S.Shelf shelf.old shelf.new stack.old.texts result }
-    ensures numbers { most line_number stack.new.texts ≤ limits.new.lines }
-    ensures reading { IfErr result (λ stop. StopsReading stop) }
-    ensures counted { Counted (count_of limits.old) (count_of limits.new) result }
-    ensures line { IfOk result (λ at. OnSome at (IsOneLine line.new.items)) }
-    ensures gains { IfOk result (λ at. OnSome at (limits.old.bytes + length line.new.items ≤ limits.new.bytes)) }
-    ensures files { most files_up_to stack.new.texts ≤ most files_up_to stack.old.texts }
-    ensures known { NamesFiles (most files_up_to stack.old.texts) result }
-    ensures low { low ≤ stack.new.depth }
-    ensures shallow { stack.new.depth ≤ stack.old.depth }
-    ensures ended { result ≡ Ok None → stack.new.depth ≡ low }
-    ensures deep { AreDeep stack.new.texts }
-    ensures deeper { IfOk result (λ at. IfSome at (λ a. stack.new.depth ≤ a.depth)) }
+    ensures stack { KeepsStack stack.old stack.new (count_of limits.new) }
+    ensures answers { AnswersLine (most files_up_to stack.old.texts) (count_of limits.old)
+        (count_of limits.new) line.new.items result }
 {
     'texts: while stack.depth > low {
         let taken = match take_top(shelf, stack, limits, line) {

@@ -1,6 +1,7 @@
 // The next line of an open text, without the blanks at its end.
 ghost use Rattle.std.specs.Prelude.{◌≡◌, ◌≤◌, ◌<◌, ◌+◌, ◌^◌, ℕ, List, length, take, IsTrue, IfOk, IfErr, IfSome, OnSome, OnOk, OnErr, IsErrOf, Ok, None, Some};
 ghost use Rattle.cweb_files.specs.Frames.{KeepsTexts};
+ghost use Rattle.cweb_lines.specs.Calls.{AnswersLine, KeepsText};
 ghost use Rattle.cweb_lines.specs.Source.{left_of, pending, IsLongerThan, Blames, BlamesReader};
 ghost use Rattle.cweb_lines.specs.Taking.{TakesWhole, TakesTrimmed};
 ghost use Rattle.cweb_lines.specs.Lines.{trimmed, IsOneLine};
@@ -82,7 +83,8 @@ fn take_whole<R: Drop>(
 ) -> Result<Option<usize>, AllocError>
     ensures none { result ≡ Ok None → source.new ≡ source.old }
     ensures reader { source.new.reader.value ≡ source.old.reader.value }
-    ensures taken { IfOk result (λ size. IfSome size (λ n. TakesWhole (pending source.old) line.new.items n (pending source.new))) }
+    ensures taken { IfOk result (λ size. IfSome size
+        (λ n. TakesWhole (pending source.old) line.new.items n (pending source.new))) }
 {
     if source.start >= source.lines_end {
         return Ok(None);
@@ -111,12 +113,16 @@ fn take_trimmed<S: Shelf>(
     ensures keeps { KeepsTexts S.Shelf shelf.old shelf.new }
     ensures failed { Blames (S.failed shelf.old) (S.failed shelf.new) result }
     ensures opened { IsTrue (S.tells shelf.old) →
-        S.opened_as shelf.new source.new.reader.value ≡ S.opened_as shelf.old source.old.reader.value }
+        S.opened_as shelf.new source.new.reader.value
+        ≡ S.opened_as shelf.old source.old.reader.value }
     ensures blamed { IsTrue (S.tells shelf.old) →
         BlamesReader (S.opened_as shelf.old source.old.reader.value)
         (S.blamed shelf.old) (S.blamed shelf.new) result }
-    ensures taken { IsTrue (S.tells shelf.old) → IfOk result (λ size. TakesTrimmed (left_of S.left shelf.old source.old) size line.new.items (left_of S.left shelf.new source.new)) }
-    ensures too_long { IsTrue (S.tells shelf.old) → IsErrOf result LineFault.TooLong → IsLongerThan LINE_LENGTH (left_of S.left shelf.old source.old) }
+    ensures taken { IsTrue (S.tells shelf.old) →
+        IfOk result (λ size. TakesTrimmed (left_of S.left shelf.old source.old) size line.new.items
+        (left_of S.left shelf.new source.new)) }
+    ensures too_long { IsTrue (S.tells shelf.old) → IsErrOf result LineFault.TooLong →
+        IsLongerThan LINE_LENGTH (left_of S.left shelf.old source.old) }
     ensures line { IfOk result (λ size. OnSome size (IsOneLine line.new.items)) }
     ensures gains { IfOk result (λ size. IfSome size (λ n. length line.new.items ≤ n)) }
 {
@@ -146,23 +152,19 @@ fn take_line<S: Shelf>(
     requires number { text.old.line ≤ limits.old.lines }
     ensures keeps { KeepsTexts S.Shelf shelf.old shelf.new }
     ensures failed { ReadBlames (S.failed shelf.old) (S.failed shelf.new) result }
-    ensures taken { IsTrue (S.tells shelf.old) → IfOk result (λ at. TakesLine (lines_left (S.left shelf.old) text.old) at line.new.items (lines_left (S.left shelf.new) text.new)
-        (count_of limits.old) (count_of limits.new)) }
-    ensures stops { IsTrue (S.tells shelf.old) → IfErr result (λ stop. StopsFor (FirstStops stop (count_of limits.old) (lines_left (S.left shelf.old) text.old)) stop) }
+    ensures taken { IsTrue (S.tells shelf.old) →
+        IfOk result (λ at. TakesLine (lines_left (S.left shelf.old) text.old) at line.new.items
+        (lines_left (S.left shelf.new) text.new) (count_of limits.old) (count_of limits.new)) }
+    ensures stops { IsTrue (S.tells shelf.old) →
+        IfErr result (λ stop. StopsFor (FirstStops stop (count_of limits.old)
+        (lines_left (S.left shelf.old) text.old)) stop) }
     ensures named { KeepsName S.Shelf shelf.old shelf.new (Some text.old) (Some text.new) }
     ensures blamed { BlamesText S.Shelf shelf.old shelf.new (Some text.old) result }
-    ensures number { text.new.line ≤ limits.new.lines }
+    ensures text { KeepsText (Some text.old) (Some text.new) (count_of limits.old)
+        (count_of limits.new) result }
     ensures names { IfErr result (λ stop. NamesFile text.old.file stop) }
-    ensures reading { IfErr result (λ stop. StopsReading stop) }
-    ensures more { limits.old.lines ≤ limits.new.lines }
-    ensures counted { Counted (count_of limits.old) (count_of limits.new) result }
-    ensures line { IfOk result (λ at. OnSome at (IsOneLine line.new.items)) }
-    ensures gains { IfOk result (λ at. OnSome at (limits.old.bytes + length line.new.items ≤ limits.new.bytes)) }
-    ensures file { text.new.file ≡ text.old.file }
-    ensures known { NamesFiles (text.old.file.0 + 1) result }
-    ensures depth { text.new.depth ≡ text.old.depth }
-    ensures may_match { text.new.may_match ≡ text.old.may_match }
-    ensures level { IfOk result (λ at. IfSome at (λ a. (a.depth ≡ text.old.depth) × (a.may_match ≡ text.old.may_match))) }
+    ensures answers { AnswersLine (text.old.file.0 + 1) (count_of limits.old)
+        (count_of limits.new) line.new.items result }
 {
     let taken = match take_trimmed(shelf, &mut text.source, line) {
         Ok(taken) => taken,
@@ -197,23 +199,19 @@ pub fn take_from<S: Shelf>(
     requires number { number_of line_number slot.old ≤ limits.old.lines }
     ensures keeps { KeepsTexts S.Shelf shelf.old shelf.new }
     ensures failed { ReadBlames (S.failed shelf.old) (S.failed shelf.new) result }
-    ensures taken { IsTrue (S.tells shelf.old) → IfOk result (λ at. TakesLine (lines_at (S.left shelf.old) slot.old) at line.new.items (lines_at (S.left shelf.new) slot.new)
-        (count_of limits.old) (count_of limits.new)) }
-    ensures stops { IsTrue (S.tells shelf.old) → IfErr result (λ stop. StopsFor (FirstStops stop (count_of limits.old) (lines_at (S.left shelf.old) slot.old)) stop) }
+    ensures taken { IsTrue (S.tells shelf.old) →
+        IfOk result (λ at. TakesLine (lines_at (S.left shelf.old) slot.old) at line.new.items
+        (lines_at (S.left shelf.new) slot.new) (count_of limits.old) (count_of limits.new)) }
+    ensures stops { IsTrue (S.tells shelf.old) →
+        IfErr result (λ stop. StopsFor (FirstStops stop (count_of limits.old)
+        (lines_at (S.left shelf.old) slot.old)) stop) }
     ensures named { KeepsName S.Shelf shelf.old shelf.new slot.old slot.new }
     ensures blamed { BlamesText S.Shelf shelf.old shelf.new slot.old result }
-    ensures number { number_of line_number slot.new ≤ limits.new.lines }
-    ensures reading { IfErr result (λ stop. StopsReading stop) }
-    ensures more { limits.old.lines ≤ limits.new.lines }
-    ensures counted { Counted (count_of limits.old) (count_of limits.new) result }
-    ensures line { IfOk result (λ at. OnSome at (IsOneLine line.new.items)) }
-    ensures gains { IfOk result (λ at. OnSome at (limits.old.bytes + length line.new.items ≤ limits.new.bytes)) }
-    ensures file { number_of files_up_to slot.new ≡ number_of files_up_to slot.old }
-    ensures known { NamesFiles (number_of files_up_to slot.old) result }
-    ensures depth { number_of text_depth slot.new ≡ number_of text_depth slot.old }
-    ensures may_match { matches_at slot.new ≡ matches_at slot.old }
-    ensures level { IfOk result (λ at. IfSome at (λ a. (a.depth ≡ number_of text_depth slot.old) × (a.may_match ≡ matches_at slot.old))) }
-    ensures deep { (place : ℕ) → DeepAt place slot.old → DeepAt place slot.new × IfOk result (λ at. IfSome at (λ a. place < a.depth)) }
+    ensures text { KeepsText slot.old slot.new (count_of limits.old) (count_of limits.new) result }
+    ensures answers { AnswersLine (number_of files_up_to slot.old) (count_of limits.old)
+        (count_of limits.new) line.new.items result }
+    ensures deep { (place : ℕ) → DeepAt place slot.old →
+        DeepAt place slot.new × IfOk result (λ at. IfSome at (λ a. place < a.depth)) }
 {
     match slot {
         Some(text) => take_line(shelf, text, limits, line),

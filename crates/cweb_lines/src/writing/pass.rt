@@ -57,8 +57,8 @@ fn pass_whole<R: Drop>(
         piece.old.items piece.new.items }
     ensures more { limits.old.lines ≤ limits.new.lines }
     ensures reader { source.new.reader.value ≡ source.old.reader.value }
-    ensures no { result ≡ false →
-        (source.new ≡ source.old) × (limits.new ≡ limits.old) × (piece.new.items ≡ piece.old.items) }
+    ensures no { result ≡ false → (source.new ≡ source.old) × (limits.new ≡ limits.old)
+        × (piece.new.items ≡ piece.old.items) }
 {
     if source.start >= source.lines_end {
         return false;
@@ -94,8 +94,9 @@ fn pass_text<R: Drop>(
     piece: &mut Vec<u8>,
 ) -> bool
     requires { text.old.line ≤ limits.old.lines }
-    ensures passed { IsTrue result → PassesText (pending_in stage first.now) (Some text.old) (Some text.new)
-        (count_of limits.old) (count_of limits.new) piece.old.items piece.new.items }
+    ensures passed { IsTrue result → PassesText (pending_in stage first.now) (Some text.old)
+        (Some text.new) (count_of limits.old)
+        (count_of limits.new) piece.old.items piece.new.items }
     ensures more { limits.old.lines ≤ limits.new.lines }
     ensures level { KeepsLevel (Some text.old) (Some text.new) }
     ensures number { text.new.line ≤ limits.new.lines }

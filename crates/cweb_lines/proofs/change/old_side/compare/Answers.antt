@@ -9,8 +9,8 @@ use Rattle.cweb_lines.proofs.change.old_side.compare.Goals as goal
 pub returns-in_default-clause-compares : goal.returns-in_default-clause-compares
 returns-in_default-clause-compares g c = λ tells.
     let taken = rw (c.in_default.is, c.requires.floor) at (c.in-Ok.ensures.taken tells) in
-    let counted = rw c.in_default.is at c.in-Ok.ensures.counted in
-    let ended = rw c.requires.floor at (c.in-Ok.ensures.ended (ap Ok c.in_default.is)) in
+    let counted = rw c.in_default.is at c.in-Ok.ensures.answers.counted in
+    let ended = rw c.requires.floor at (c.in-Ok.ensures.closes.ended (ap Ok c.in_default.is)) in
     compares_none c.args.run.now.first.items c.args.so_far _ _ _ _ (taken [])
     (over-none (g.S.Shelf.left c.take_raw.new.shelf) 0 _ c.take_raw.new.run.stack.texts [] (omega (arith, ended)))
     (λ i. record { faults = (c.in-Ok.ensures.only.faults i).items; names = names_of (c.in-Ok.ensures.only.names i); count = record { lines = counted.0 i; bytes = counted.1 i } })

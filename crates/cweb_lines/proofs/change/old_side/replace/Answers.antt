@@ -42,7 +42,7 @@ pub returns-in-Err-clause-stops : goal.returns-in-Err-clause-stops
 returns-in-Err-clause-stops g c = λ tells.
     stops_map c.in-Err.stop
     (replaces_stop _ _ c.lines.so_far _ _ _ _ (c.lines.invariant.replaces tells) c.in-Err.stop (count_of c.take_change.new.run.limits)
-    (λ i. record { lines = c.in-Err.ensures.counted.0 i; bytes = c.in-Err.ensures.counted.1 i }))
+    (λ i. record { lines = c.in-Err.ensures.answers.counted.0 i; bytes = c.in-Err.ensures.answers.counted.1 i }))
     (c.in-Err.ensures.stops (subst IsTrue (sym c.lines.invariant.tells) tells))
 
 pub returns-in-Err-compare-clause-stops : goal.returns-in-Err-compare-clause-stops
@@ -54,7 +54,7 @@ returns-in-Err-compare-clause-stops g c = λ tells.
     λ i. things_above (c.in-Ok.ensures.keeps.left still i) 0 (c.in-Ok.ensures.stack i) [] in
     stops_map c.in-Err-compare.stop
     (λ top. replaces_raw_stop _ _ c.lines.so_far _ _ _ _ (c.lines.invariant.replaces tells) (told_by c.take_change.new.run) c.take_change.new.line.items c.in-Some.at.place taken.0 _ taken.1
-    (ap (λ (v : Vec SourceFault Global). v.items) c.in-Ok.ensures.only.faults) (ap names_of c.in-Ok.ensures.only.names) c.in-Err-compare.stop (count_of c.compare.new.run.limits) c.in-Err-compare.ensures.same test
+    (ap (λ (v : Vec SourceFault Global). v.items) c.in-Ok.ensures.only.faults) (ap names_of c.in-Ok.ensures.only.names) c.in-Err-compare.stop (count_of c.compare.new.run.limits) c.in-Err-compare.ensures.away.same test
     (subst (λ (ts : List Thing). TopStops c.in-Err-compare.stop (count_of c.take_change.new.run.limits) ts) raws top))
     (c.in-Err-compare.ensures.stops (subst IsTrue (sym c.in-Ok.ensures.keeps.tells) still))
 
@@ -154,8 +154,8 @@ lines-preserved-in-None g c = record {
       ∙ c.in-Ok.ensures.blamed (subst IsTrue (sym c.lines.invariant.tells) tells)
       (c.lines.invariant.readers tells known) ∙ c.lines.invariant.blamed tells known;
   still = told_then _ _ _ c.lines.invariant.still (told_then _ _ _ (told_took c.in-Ok.ensures.only)
-      (told_same _ _ (λ i. (c.in-Ok-compare.ensures.faults i).items) (ap names_of c.in-Ok-compare.ensures.names)));
-  goes_on = c.in-Ok-compare.ensures.ended ∙ c.lines.invariant.goes_on;
+      (told_same _ _ (λ i. (c.in-Ok-compare.ensures.only.faults i).items) (ap names_of c.in-Ok-compare.ensures.only.names)));
+  goes_on = c.in-Ok-compare.ensures.away.ended ∙ c.lines.invariant.goes_on;
   replaces = λ tells.
       let still = subst IsTrue (sym c.lines.invariant.tells) tells in
       let later = subst IsTrue (sym c.in-Ok.ensures.keeps.tells) still in
@@ -184,7 +184,7 @@ returns-in_default-clause-still g c = told_then _ _ _ c.lines.invariant.still (t
 pub returns-in-Err-compare-clause-still : goal.returns-in-Err-compare-clause-still
 returns-in-Err-compare-clause-still g c =
     told_then _ _ _ c.lines.invariant.still (told_then _ _ _ (told_took c.in-Ok.ensures.only)
-    (told_same _ _ (λ i. (c.in-Err-compare.ensures.faults i).items) (ap names_of c.in-Err-compare.ensures.names)))
+    (told_same _ _ (λ i. (c.in-Err-compare.ensures.only.faults i).items) (ap names_of c.in-Err-compare.ensures.only.names)))
 
 pub returns-then-eq-clause-still : goal.returns-then-eq-clause-still
 returns-then-eq-clause-still g c = told_then _ _ _ c.lines.invariant.still (told_took c.in-Ok.ensures.only)

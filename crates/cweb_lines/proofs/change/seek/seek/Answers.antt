@@ -40,7 +40,7 @@ lines-init g c = record {
 pub returns-in-Err-clause-stops : goal.returns-in-Err-clause-stops
 returns-in-Err-clause-stops g c = λ tells.
     stops_map c.in-Err.stop
-    (seeks_stop _ _ _ _ _ (c.lines.invariant.seeks tells) c.in-Err.stop (count_of c.take_change.new.run.limits) (λ i. record { lines = c.in-Err.ensures.counted.0 i; bytes = c.in-Err.ensures.counted.1 i }))
+    (seeks_stop _ _ _ _ _ (c.lines.invariant.seeks tells) c.in-Err.stop (count_of c.take_change.new.run.limits) (λ i. record { lines = c.in-Err.ensures.answers.counted.0 i; bytes = c.in-Err.ensures.answers.counted.1 i }))
     (c.in-Err.ensures.stops (subst IsTrue (sym c.lines.invariant.tells) tells))
 
 pub returns-in-Err-look_at-clause-told : goal.returns-in-Err-look_at-clause-told
@@ -126,7 +126,7 @@ returns-in-Entry-clause-still g c =
 pub returns-in_default-clause-searched : goal.returns-in_default-clause-searched
 returns-in_default-clause-searched g c = λ tells.
     let taken = rw c.in_default.is at (c.in-Ok.ensures.taken (subst IsTrue (sym c.lines.invariant.tells) tells)) in
-    let counted = rw c.in_default.is at c.in-Ok.ensures.counted in
+    let counted = rw c.in_default.is at c.in-Ok.ensures.answers.counted in
     OnOk-both c.end.result (λ told done. seeks_ended _ _ c.lines.begin _ (told_by c.lines.run)
     (c.lines.invariant.seeks tells) taken.0 _
     (told ∙ ap (λ (v : Vec SourceFault Global). v.items ++ (sought [] c.lines.begin).faults)

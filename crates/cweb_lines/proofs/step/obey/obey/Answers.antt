@@ -56,12 +56,12 @@ returns-clause-obeys g c = λ tells. OnOk-map c.open.result (λ names source is.
       rest = _;
       first = merge_opens _ source c.args.line.now c.args.at is _ _ _ _ c.requires.plain (string_bytes c.in-Some.opening.name) (g.S.Shelf.left c.find.new.shelf c.in-Some.opening.reader) c.requires.include some (omega (arith, c.if-at-ge-OPEN_FILES.false))
           (there ∙ ap (found_at (world_in (g.S.Shelf.texts c.args.shelf.now) c.args.run.now.inputs)) c.include_name-name.ensures);
-      gives = gives_opening _ _ _ _ (ap count_of c.open.ensures.limits) (string_bytes c.in-Some.opening.name)
+      gives = gives_opening _ _ _ _ (ap count_of c.open.ensures.only.limits) (string_bytes c.in-Some.opening.name)
           (ap (λ (es : List Event). opening (string_bytes c.in-Some.opening.name) ∷ es)
           (coming_opened (g.S.Shelf.texts c.args.shelf.now) (g.S.Shelf.texts c.find.new.shelf) (g.S.Shelf.left c.args.shelf.now) (g.S.Shelf.left c.find.new.shelf)
-          c.args.run.now c.open.new.run c.in-Some.opening.reader (string_bytes c.in-Some.opening.name) c.args.at (c.in_ok-opening.ensures.keeps.texts tells) (c.in_ok-opening.ensures.keeps.left tells) c.open.ensures.inputs c.open.ensures.change
-          c.open.ensures.stage c.open.ensures.first names.0 c.requires.settled names.1 c.open.ensures.below))
-          (ap (λ (v : Vec SourceFault Global). v.items) c.open.ensures.faults) names.0;
+          c.args.run.now c.open.new.run c.in-Some.opening.reader (string_bytes c.in-Some.opening.name) c.args.at (c.in_ok-opening.ensures.keeps.texts tells) (c.in_ok-opening.ensures.keeps.left tells) c.open.ensures.only.inputs c.open.ensures.only.change
+          c.open.ensures.only.stage c.open.ensures.only.first names.0 c.requires.settled names.1 c.open.ensures.below))
+          (ap (λ (v : Vec SourceFault Global). v.items) c.open.ensures.only.faults) names.0;
     }) c.open.ensures.opens
 
 -- what was told stays

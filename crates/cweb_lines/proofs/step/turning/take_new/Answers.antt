@@ -19,12 +19,12 @@ pub returns-in-Err-clause-stops : goal.returns-in-Err-clause-stops
 returns-in-Err-clause-stops g c = λ tells.
     subst (λ es. Stopped c.in-Err.stop (count_of c.args.run.now.limits) (count_of c.take_change.new.run.limits) es)
     (sym (coming_is (g.S.Shelf.texts c.args.shelf.now) (g.S.Shelf.left c.args.shelf.now) c.args.run.now c.args.change c.requires.changing c.requires.below))
-    (new_stops _ c.args.change _ _ c.in-Err.stop (change_lines (g.S.Shelf.left c.args.shelf.now) c.args.run.now) _ _ (λ i. record { lines = c.in-Err.ensures.counted.0 i; bytes = c.in-Err.ensures.counted.1 i }) (c.in-Err.ensures.stops tells))
+    (new_stops _ c.args.change _ _ c.in-Err.stop (change_lines (g.S.Shelf.left c.args.shelf.now) c.args.run.now) _ _ (λ i. record { lines = c.in-Err.ensures.answers.counted.0 i; bytes = c.in-Err.ensures.answers.counted.1 i }) (c.in-Err.ensures.stops tells))
 
 pub returns-in_default-clause-gives : goal.returns-in_default-clause-gives
 returns-in_default-clause-gives g c = λ tells.
     let taken = rw c.in_default.is at (c.in-Ok.ensures.taken tells) in
-    let counted = rw c.in_default.is at c.in-Ok.ensures.counted in
+    let counted = rw c.in_default.is at c.in-Ok.ensures.answers.counted in
     new_ended _ _ _ _ c.args.run.now c.args.change c.requires.changing c.requires.below (c.in-Ok.ensures.keeps.texts tells) (c.in-Ok.ensures.keeps.left tells)
     (text_of_name c.tell.new.self.inputs) c.tell.new.self.stack (length (names_of c.tell.new.self.names)) (told_by c.tell.new.self)
     (ap (λ i. text_of_name i) (c.in_default-tell.ensures.only.inputs ∙ c.in-Ok.ensures.only.inputs)) (c.in_default-tell.ensures.only.stack ∙ c.in-Ok.ensures.stack) (ap (λ n. length (names_of n)) (c.in_default-tell.ensures.only.names ∙ c.in-Ok.ensures.only.names))
@@ -111,7 +111,7 @@ returns-in-None-clause-readers g c = λ tells known. c.give.ensures.readers
 
 pub returns-in-None-clause-blamed : goal.returns-in-None-clause-blamed
 returns-in-None-clause-blamed g c = λ tells known.
-    blames_memory c.give.result _ _ _ c.give.ensures.memory
+    blames_memory c.give.result _ _ _ c.give.ensures.only.memory
     (c.give.ensures.blamed (subst IsTrue (sym c.in-Ok.ensures.keeps.tells) tells)
     ∙ c.in-Ok.ensures.blamed tells known)
 

@@ -34,8 +34,8 @@ returns-in-texts-clause-blamed g c = λ tells names each.
 
 pub texts-preserved : goal.texts-preserved
 texts-preserved g c =
-    let depth = rw c.in_default.is at c.in-Ok.ensures.depth in
-    let counted = rw c.in_default.is at c.in-Ok.ensures.counted in
+    let depth = rw c.in_default.is at c.in-Ok.ensures.closes.depth in
+    let counted = rw c.in_default.is at c.in-Ok.ensures.answers.counted in
     record {
       tells = search rules;
       failed = search rules;
@@ -49,10 +49,10 @@ texts-preserved g c =
           (c.texts.invariant.named tells names each) ∙ c.texts.invariant.blamed tells names each;
       low = omega (arith, depth, c.texts-test.true);
       shallow = omega (arith, depth, c.texts.invariant.shallow);
-      numbers = c.in-Ok.ensures.numbers;
-      deep = c.in-Ok.ensures.deep;
-      files = omega (arith, c.in-Ok.ensures.files, c.texts.invariant.files);
-      below = λ left n le rest. c.in-Ok.ensures.below c.args.low c.texts-test.true left n le rest
+      numbers = c.in-Ok.ensures.stack.numbers;
+      deep = c.in-Ok.ensures.stack.deep;
+      files = omega (arith, c.in-Ok.ensures.stack.files, c.texts.invariant.files);
+      below = λ left n le rest. c.in-Ok.ensures.closes.below c.args.low c.texts-test.true left n le rest
           ∙ c.texts.invariant.below left n le rest;
       counted = (λ i. record { lines = counted.0 i; bytes = counted.1 i }) ∙ c.texts.invariant.counted;
       things = λ tells rest.

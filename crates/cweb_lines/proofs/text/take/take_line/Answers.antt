@@ -1,4 +1,4 @@
-use Rattle.std.proofs.Common.{◌+◌, ◌∙◌, ap, Err}
+use Rattle.std.proofs.Common.{rules, ◌+◌, ◌∙◌, ap, Err}
 use Rattle.cweb_lines.specs.Counts.{count_of}
 use Rattle.cweb_lines.specs.Source.{left_of}
 use Rattle.cweb_lines.specs.Texts.{read_blame}
@@ -10,8 +10,14 @@ pub returns-in-Err-clause-stops : goal.returns-in-Err-clause-stops
 returns-in-Err-clause-stops g c = λ tells.
     line_stops c.in-Err.fault _ (left_of g.S.Shelf.left c.args.shelf.now c.args.text.now.source) c.args.text.now.file (c.args.text.now.line + 1) _ c.stop_of.ensures (λ is. c.in-Err.ensures.too_long tells (ap Err is))
 
-pub returns-in-Err-clause-reading : goal.returns-in-Err-clause-reading
-returns-in-Err-clause-reading g c = line_reads c.in-Err.fault _ c.args.text.now.file c.stop_of.ensures
+pub returns-in-Err-clause-answers : goal.returns-in-Err-clause-answers
+returns-in-Err-clause-answers g c = record {
+  counted = search rules;
+  line = search rules;
+  gains = search rules;
+  known = search rules;
+  reading = line_reads c.in-Err.fault _ c.args.text.now.file c.stop_of.ensures;
+}
 
 pub returns-in-Err-clause-names : goal.returns-in-Err-clause-names
 returns-in-Err-clause-names g c = line_names c.in-Err.fault _ c.args.text.now.file c.stop_of.ensures
