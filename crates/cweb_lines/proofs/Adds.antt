@@ -50,18 +50,23 @@ module _ (lines : List SourceLine) (faults : List SourceFault) where
   events = map took lines ++ map fault faults
 
   given_none : given_lines events ≡ []
-  given_none = given-append (map took lines) (map fault faults) ∙ ap (λ (ls : List Line). ls ++ given_lines (map fault faults)) (given-took lines) ∙ given-fault faults
+  given_none = given-append (map took lines) (map fault faults)
+      ∙ ap (λ (ls : List Line). ls ++ given_lines (map fault faults)) (given-took lines) ∙ given-fault faults
 
   told_all : told_faults events ≡ faults
-  told_all = told-append (map took lines) (map fault faults) ∙ ap (λ (fs : List SourceFault). fs ++ told_faults (map fault faults)) (told-took lines) ∙ told-fault faults
+  told_all = told-append (map took lines) (map fault faults)
+      ∙ ap (λ (fs : List SourceFault). fs ++ told_faults (map fault faults)) (told-took lines) ∙ told-fault faults
 
   opened_none : openings events ≡ []
-  opened_none = openings-append (map took lines) (map fault faults) ∙ ap (λ (ns : List (List ℕ)). ns ++ openings (map fault faults)) (openings-took lines) ∙ openings-fault faults
+  opened_none = openings-append (map took lines) (map fault faults)
+      ∙ ap (λ (ns : List (List ℕ)). ns ++ openings (map fault faults)) (openings-took lines) ∙ openings-fault faults
 
   taken_all : taken_lines events ≡ lines
-  taken_all = taken-append (map took lines) (map fault faults) ∙ (λ i. taken-took lines i ++ taken-fault faults i) ∙ append-nil lines
+  taken_all = taken-append (map took lines) (map fault faults) ∙ (λ i. taken-took lines i ++ taken-fault faults i)
+      ∙ append-nil lines
 
-  pub gives_adds : (old new : SoFar) (all later : List Event) → all ≡ map took lines ++ (map fault faults ++ later) → Adds faults lines old new → Gives [] old new all later
+  pub gives_adds : (old new : SoFar) (all later : List Event) → all ≡ map took lines ++ (map fault faults ++ later) →
+      Adds faults lines old new → Gives [] old new all later
   gives_adds old new all later whole adds = record {
     events = events;
     whole = whole ∙ sym (append_assoc (map took lines) (map fault faults) later);
@@ -78,7 +83,8 @@ map-append f [] ys = refl
 map-append {B = B} f (x ∷ xs) ys = ap (λ (zs : List B). f x ∷ zs) (map-append f xs ys)
 
 -- some of the faults of a step were told
-pub tells_some : (lines : List SourceLine) (faults : List SourceFault) (old new : SoFar) (all later : List Event) → all ≡ map took lines ++ (map fault faults ++ later) → TellsSome faults old new → TellsFront old new all
+pub tells_some : (lines : List SourceLine) (faults : List SourceFault) (old new : SoFar) (all later : List Event) →
+    all ≡ map took lines ++ (map fault faults ++ later) → TellsSome faults old new → TellsFront old new all
 tells_some lines faults old new all later whole some = record {
   events = map took lines ++ map fault some.front;
   later = map fault some.rest ++ later;
@@ -88,11 +94,13 @@ tells_some lines faults old new all later whole some = record {
       ∙ ap (λ (es : List Event). map took lines ++ es) (append_assoc (map fault some.front) (map fault some.rest) later)
       ∙ sym (append_assoc (map took lines) (map fault some.front) (map fault some.rest ++ later));
   faults = some.told ∙ ap (λ (fs : List SourceFault). old.faults ++ fs) (sym (told_all lines some.front));
-  names = some.names ∙ sym (append-nil old.names) ∙ ap (λ (ns : List (List ℕ)). old.names ++ ns) (sym (opened_none lines some.front));
+  names = some.names ∙ sym (append-nil old.names) ∙ ap (λ (ns : List (List ℕ)). old.names ++ ns)
+      (sym (opened_none lines some.front));
 }
 
 -- one of the lines of a step stops
-pub stopped_among : (stop : Stop) (lines : List SourceLine) (old now : Count) (all later : List Event) → all ≡ map took lines ++ later → StopsFor (StopsAmong stop old now lines) stop → Stopped stop old now all
+pub stopped_among : (stop : Stop) (lines : List SourceLine) (old now : Count) (all later : List Event) →
+    all ≡ map took lines ++ later → StopsFor (StopsAmong stop old now lines) stop → Stopped stop old now all
 stopped_among stop lines old now all later whole = stops_map stop (λ stops.
     let few = ap (λ (es : List Event). length (taken_lines es)) whole ∙ lines_taken-append (map took lines) later in
     let small = ap (λ (es : List Event). size_of (taken_lines es)) whole ∙ bytes_taken-append (map took lines) later in
@@ -123,7 +131,8 @@ adds_none old new same = record {
 }
 
 -- a line was taken behind others
-pub adds_line : (faults : List SourceFault) (lines : List SourceLine) (old mid new : SoFar) (bytes : List ℕ) (place : Place) (t : Took bytes place mid.count new.count) → Adds faults lines old mid
+pub adds_line : (faults : List SourceFault) (lines : List SourceLine) (old mid new : SoFar) (bytes : List ℕ)
+    (place : Place) (t : Took bytes place mid.count new.count) → Adds faults lines old mid
     → new.faults ≡ mid.faults → new.names ≡ mid.names → Adds faults (lines ++ t.line ∷ []) old new
 adds_line faults lines old mid new bytes place t adds told names = record {
   told = told ∙ adds.told;
@@ -134,7 +143,8 @@ adds_line faults lines old mid new bytes place t adds told names = record {
 }
 
 -- more faults were told
-pub adds_faults : (faults more : List SourceFault) (lines : List SourceLine) (old mid new : SoFar) → Adds faults lines old mid → new.faults ≡ mid.faults ++ more → new.names ≡ mid.names → new.count ≡ mid.count
+pub adds_faults : (faults more : List SourceFault) (lines : List SourceLine) (old mid new : SoFar) →
+    Adds faults lines old mid → new.faults ≡ mid.faults ++ more → new.names ≡ mid.names → new.count ≡ mid.count
     → Adds (faults ++ more) lines old new
 adds_faults faults more lines old mid new adds told names count = record {
   told = told ∙ ap (λ (fs : List SourceFault). fs ++ more) adds.told ∙ append_assoc old.faults faults more;
@@ -145,7 +155,8 @@ adds_faults faults more lines old mid new adds told names count = record {
 }
 
 -- both, one behind the other
-pub adds_both : (faults more : List SourceFault) (lines further : List SourceLine) (old mid new : SoFar) → Adds faults lines old mid → Adds more further mid new → Adds (faults ++ more) (lines ++ further) old new
+pub adds_both : (faults more : List SourceFault) (lines further : List SourceLine) (old mid new : SoFar) →
+    Adds faults lines old mid → Adds more further mid new → Adds (faults ++ more) (lines ++ further) old new
 adds_both faults more lines further old mid new first second = record {
   told = second.told ∙ ap (λ (fs : List SourceFault). fs ++ more) first.told ∙ append_assoc old.faults faults more;
   names = second.names ∙ first.names;
@@ -155,9 +166,11 @@ adds_both faults more lines further old mid new first second = record {
 }
 
 -- what comes after one line that was taken
-module _ (old mid : SoFar) (bytes : List ℕ) (place : Place) (t : Took bytes place old.count mid.count) (told : mid.faults ≡ old.faults) (names : mid.names ≡ old.names) where
+module _ (old mid : SoFar) (bytes : List ℕ) (place : Place) (t : Took bytes place old.count mid.count)
+    (told : mid.faults ≡ old.faults) (names : mid.names ≡ old.names) where
   pub adds_one : Adds [] (t.line ∷ []) old mid
-  adds_one = record { told = told ∙ sym (append-nil old.faults); names = names; lines_are = omega (arith, t.lines); bytes_are = omega (arith, t.bytes_are); short = (t.short, tt) }
+  adds_one = record { told = told ∙ sym (append-nil old.faults); names = names; lines_are = omega (arith, t.lines);
+      bytes_are = omega (arith, t.bytes_are); short = (t.short, tt) }
 
   pub tells_after : (faults : List SourceFault) (new : SoFar) → TellsSome faults mid new → TellsSome faults old new
   tells_after faults new some = record {
@@ -168,7 +181,8 @@ module _ (old mid : SoFar) (bytes : List ℕ) (place : Place) (t : Took bytes pl
     names = some.names ∙ names;
   }
 
-  pub among_after : (stop : Stop) (now : Count) (lines : List SourceLine) → StopsAmong stop mid.count now lines → StopsAmong stop old.count now (t.line ∷ lines)
+  pub among_after : (stop : Stop) (now : Count) (lines : List SourceLine) → StopsAmong stop mid.count now lines →
+      StopsAmong stop old.count now (t.line ∷ lines)
   among_after stop now lines stops = record {
     front = t.line ∷ stops.front;
     line = stops.line;
@@ -184,20 +198,26 @@ short-split [] b short = (tt, short)
 short-split (l ∷ a) b short = let rest = short-split a b short.1 in ((short.0, rest.0), rest.1)
 
 -- a line was taken, which is counted in front of some of the others
-pub adds_within : (faults : List SourceFault) (lines others : List SourceLine) (old mid new : SoFar) (bytes : List ℕ) (place : Place) (t : Took bytes place mid.count new.count) → Adds faults (lines ++ others) old mid
+pub adds_within : (faults : List SourceFault) (lines others : List SourceLine) (old mid new : SoFar) (bytes : List ℕ)
+    (place : Place) (t : Took bytes place mid.count new.count) → Adds faults (lines ++ others) old mid
     → new.faults ≡ mid.faults → new.names ≡ mid.names → Adds faults ((lines ++ t.line ∷ []) ++ others) old new
 adds_within faults lines others old mid new bytes place t adds told names =
     let short = short-split lines others adds.short in
     record {
       told = told ∙ adds.told;
       names = names ∙ adds.names;
-      lines_are = omega (arith, adds.lines_are, t.lines, length-append lines others, length-append lines (t.line ∷ []), length-append (lines ++ t.line ∷ []) others);
-      bytes_are = omega (arith, adds.bytes_are, t.bytes_are, size-append lines others, size-append lines (t.line ∷ []), size-append (lines ++ t.line ∷ []) others);
-      short = short-append (lines ++ t.line ∷ []) others (short-append lines (t.line ∷ []) short.0 (t.short, tt)) short.1;
+      lines_are = omega (arith, adds.lines_are, t.lines, length-append lines others, length-append lines (t.line ∷ []),
+          length-append (lines ++ t.line ∷ []) others);
+      bytes_are = omega (arith, adds.bytes_are, t.bytes_are, size-append lines others, size-append lines (t.line ∷ []),
+          size-append (lines ++ t.line ∷ []) others);
+      short = short-append (lines ++ t.line ∷ []) others (short-append lines (t.line ∷ []) short.0 (t.short, tt))
+          short.1;
     }
 
 -- more lines were taken
-pub adds_lines : (faults : List SourceFault) (lines others further : List SourceLine) (old mid new : SoFar) → Adds faults (lines ++ others) old mid → Adds [] further mid new → Adds faults (lines ++ (others ++ further)) old new
+pub adds_lines : (faults : List SourceFault) (lines others further : List SourceLine) (old mid new : SoFar) →
+    Adds faults (lines ++ others) old mid → Adds [] further mid new → Adds faults (lines ++ (others ++ further)) old new
 adds_lines faults lines others further old mid new first second =
     let both = adds_both faults [] (lines ++ others) further old mid new first second in
-    subst (λ (ls : List SourceLine). Adds faults ls old new) (append_assoc lines others further) (subst (λ (fs : List SourceFault). Adds fs ((lines ++ others) ++ further) old new) (append-nil faults) both)
+    subst (λ (ls : List SourceLine). Adds faults ls old new) (append_assoc lines others further)
+        (subst (λ (fs : List SourceFault). Adds fs ((lines ++ others) ++ further) old new) (append-nil faults) both)

@@ -13,32 +13,41 @@ found_nothing world name not = by (is_utf8 name) refl
     by false is = refl
     by true is = absurd (not (IsUtf8-from_is_utf8 name is))
 
-module _ (texts : List ℕ → Option (List ℕ)) (inputs : Option (List ℕ)) (name bytes : List ℕ) (text : IsUtf8 name) (same : bytes ≡ name) where
+module _ (texts : List ℕ → Option (List ℕ)) (inputs : Option (List ℕ)) (name bytes : List ℕ) (text : IsUtf8 name)
+    (same : bytes ≡ name) where
   abbrev world : World
   world = record { texts = texts; inputs = inputs }
 
   pub found_first : (found : Found) → Some found ≡ under bytes (texts bytes) → Some found ≡ found_at world name
   found_first found is =
-      ap (λ f. first_found f (in_folder inputs texts name)) (is ∙ ap (λ n. under n (texts n)) same) ∙ ap (λ b. found_if b world name) (sym (is_utf8-from_IsUtf8 name text))
+      ap (λ f. first_found f (in_folder inputs texts name)) (is ∙ ap (λ n. under n (texts n)) same)
+          ∙ ap (λ b. found_if b world name) (sym (is_utf8-from_IsUtf8 name text))
 
-  pub found_second : (found : Option (Found)) → None ≡ under bytes (texts bytes) → found ≡ in_folder inputs texts name → found ≡ found_at world name
+  pub found_second : (found : Option (Found)) → None ≡ under bytes (texts bytes) → found ≡ in_folder inputs texts name →
+      found ≡ found_at world name
   found_second found none is =
-      is ∙ ap (λ f. first_found f (in_folder inputs texts name)) (none ∙ ap (λ n. under n (texts n)) same) ∙ ap (λ b. found_if b world name) (sym (is_utf8-from_IsUtf8 name text))
+      is ∙ ap (λ f. first_found f (in_folder inputs texts name)) (none ∙ ap (λ n. under n (texts n)) same)
+          ∙ ap (λ b. found_if b world name) (sym (is_utf8-from_IsUtf8 name text))
 
 pub IfOk-map : {A E : Type 0} {P Q : A → Type 0} (r : Result A E) → ((x : A) → P x → Q x) → IfOk r P → IfOk r Q
 IfOk-map (Ok x) f p = f x p
 IfOk-map (Err e) f p = p
 
 module _ (texts : List ℕ → Option (List ℕ)) (web bytes : List ℕ) (same : bytes ≡ web) where
-  pub web_first : (second : Option (List ℕ)) (found : Found) → Some found ≡ under bytes (texts bytes) → Some found ≡ web_at texts web second
+  pub web_first : (second : Option (List ℕ)) (found : Found) → Some found ≡ under bytes (texts bytes) →
+      Some found ≡ web_at texts web second
   web_first None found is = is ∙ ap (λ n. under n (texts n)) same
-  web_first (Some second) found is = ap (λ f. first_found f (under second (texts second))) (is ∙ ap (λ n. under n (texts n)) same)
+  web_first (Some second) found is = ap (λ f. first_found f (under second (texts second)))
+      (is ∙ ap (λ n. under n (texts n)) same)
 
-  pub web_none : (second : Option (List ℕ)) → second ≡ None → None ≡ under bytes (texts bytes) → None ≡ web_at texts web second
+  pub web_none : (second : Option (List ℕ)) → second ≡ None → None ≡ under bytes (texts bytes) →
+      None ≡ web_at texts web second
   web_none second gone none = none ∙ ap (λ n. under n (texts n)) same ∙ ap (web_at texts web) (sym gone)
 
-  pub web_second : (second : Option (List ℕ)) (name : List ℕ) → second ≡ Some name → None ≡ under bytes (texts bytes) → under name (texts name) ≡ web_at texts web second
-  web_second second name there none = ap (λ f. first_found f (under name (texts name))) (none ∙ ap (λ n. under n (texts n)) same) ∙ ap (web_at texts web) (sym there)
+  pub web_second : (second : Option (List ℕ)) (name : List ℕ) → second ≡ Some name → None ≡ under bytes (texts bytes) →
+      under name (texts name) ≡ web_at texts web second
+  web_second second name there none = ap (λ f. first_found f (under name (texts name)))
+      (none ∙ ap (λ n. under n (texts n)) same) ∙ ap (web_at texts web) (sym there)
 
 pub OnOk-map : {A E P Q : Type 0} (r : Result A E) → (P → Q) → OnOk r P → OnOk r Q
 OnOk-map (Ok x) f p = f p

@@ -14,19 +14,24 @@ use Rattle.cweb_lines.proofs.Keeps.{place_told, writes_then}
 use Rattle.cweb_lines.proofs.Merges.{gives_both}
 use Rattle.cweb_lines.proofs.Writes.{front_of_all, given_front, text_of-append}
 
-pub emptied : (room : ℕ) (piece rest : List ℕ) (Wrote : List ℕ → Type 0) → PassesOn room piece rest Wrote → room ≡ 0 → rest ≡ []
+pub emptied : (room : ℕ) (piece rest : List ℕ) (Wrote : List ℕ → Type 0) → PassesOn room piece rest Wrote → room ≡ 0 →
+    rest ≡ []
 emptied room piece rest Wrote (inl kept) none = absurd (omega (arith, kept.0, none))
 emptied room piece rest Wrote (inr wrote) none = wrote.0
 
 -- one more line was gathered
-pub held : (room : ℕ) (old so : SoFar) (all now : List Event) (Wrote : List ℕ → Type 0) (piece : List ℕ) → Gathered room old so all now Wrote piece
-    → (line : Line) (so' : SoFar) (later : List Event) → Gives (line ∷ []) so so' now later → (more : List ℕ) → more ≡ piece ++ line.bytes ++ 10 ∷ [] → Held room old so' all later Wrote more
+pub held : (room : ℕ) (old so : SoFar) (all now : List Event) (Wrote : List ℕ → Type 0) (piece : List ℕ) →
+    Gathered room old so all now Wrote piece
+    → (line : Line) (so' : SoFar) (later : List Event) → Gives (line ∷ []) so so' now later → (more : List ℕ) →
+        more ≡ piece ++ line.bytes ++ 10 ∷ [] → Held room old so' all later Wrote more
 held room old so all now Wrote piece g line so' later next more is = record {
   done = g.done;
   gathered = g.gathered ++ line ∷ [];
-  gives = subst (λ (ls : List Line). Gives ls old so' all later) (append_assoc g.done g.gathered (line ∷ [])) (gives_both (g.done ++ g.gathered) (line ∷ []) old so so' all now later g.gives next);
+  gives = subst (λ (ls : List Line). Gives ls old so' all later) (append_assoc g.done g.gathered (line ∷ []))
+      (gives_both (g.done ++ g.gathered) (line ∷ []) old so so' all now later g.gives next);
   wrote = g.wrote;
-  piece_is = is ∙ append_assoc piece line.bytes (10 ∷ []) ∙ ap (λ (t : List ℕ). t ++ (line.bytes ++ 10 ∷ [])) g.piece_is ∙ sym (text_of-append g.gathered (line ∷ []));
+  piece_is = is ∙ append_assoc piece line.bytes (10 ∷ []) ∙ ap (λ (t : List ℕ). t ++ (line.bytes ++ 10 ∷ [])) g.piece_is
+      ∙ sym (text_of-append g.gathered (line ∷ []));
   some = omega (arith, length-append g.gathered (line ∷ []));
   alone = λ none. length-append g.gathered (line ∷ []) ∙ ap (λ (ls : List Line). length ls + 1) (g.alone none);
 }
@@ -35,28 +40,36 @@ held room old so all now Wrote piece g line so' later next more is = record {
 no_lines : (lines : List Line) (piece : List ℕ) → piece ++ text_of lines ≡ piece → lines ≡ []
 no_lines [] piece same = refl
 no_lines (line ∷ lines) piece same =
-    absurd (omega (arith, ap (λ (t : List ℕ). length t) same, length-append piece (text_of (line ∷ lines)), length-append line.bytes (10 ∷ text_of lines)))
+    absurd (omega (arith, ap (λ (t : List ℕ). length t) same, length-append piece (text_of (line ∷ lines)),
+        length-append line.bytes (10 ∷ text_of lines)))
 
 -- and lines that passed through
-pub held_on : (room : ℕ) (old so : SoFar) (all now : List Event) (Wrote : List ℕ → Type 0) (piece : List ℕ) → Held room old so all now Wrote piece
-    → (lines : List Line) (so' : SoFar) (later : List Event) → Gives lines so so' now later → (more : List ℕ) → more ≡ piece ++ text_of lines → (room ≡ 0 → more ≡ piece) → Held room old so' all later Wrote more
+pub held_on : (room : ℕ) (old so : SoFar) (all now : List Event) (Wrote : List ℕ → Type 0) (piece : List ℕ) →
+    Held room old so all now Wrote piece
+    → (lines : List Line) (so' : SoFar) (later : List Event) → Gives lines so so' now later → (more : List ℕ) →
+        more ≡ piece ++ text_of lines → (room ≡ 0 → more ≡ piece) → Held room old so' all later Wrote more
 held_on room old so all now Wrote piece h lines so' later next more is alone = record {
   done = h.done;
   gathered = h.gathered ++ lines;
-  gives = subst (λ (ls : List Line). Gives ls old so' all later) (append_assoc h.done h.gathered lines) (gives_both (h.done ++ h.gathered) lines old so so' all now later h.gives next);
+  gives = subst (λ (ls : List Line). Gives ls old so' all later) (append_assoc h.done h.gathered lines)
+      (gives_both (h.done ++ h.gathered) lines old so so' all now later h.gives next);
   wrote = h.wrote;
   piece_is = is ∙ ap (λ (t : List ℕ). t ++ text_of lines) h.piece_is ∙ sym (text_of-append h.gathered lines);
   some = omega (arith, h.some, length-append h.gathered lines);
-  alone = λ none. ap (λ (ls : List Line). length (h.gathered ++ ls)) (no_lines lines piece (sym is ∙ alone none)) ∙ ap (λ (ls : List Line). length ls) (append-nil h.gathered) ∙ h.alone none;
+  alone = λ none. ap (λ (ls : List Line). length (h.gathered ++ ls)) (no_lines lines piece (sym is ∙ alone none))
+      ∙ ap (λ (ls : List Line). length ls) (append-nil h.gathered) ∙ h.alone none;
 }
 
-module _ {W : Type 0} (sink : Sink W) (first mid : W) (keeps : KeepsPlace sink first mid) (room : ℕ) (old so : SoFar) (all now : List Event) (piece : List ℕ) (h : Held room old so all now (Writes sink first mid) piece) where
-  pub passed_on : (new : W) (rest : List ℕ) → PassesOn room piece rest (Writes sink mid new) → Gathered room old so all now (Writes sink first new) rest
+module _ {W : Type 0} (sink : Sink W) (first mid : W) (keeps : KeepsPlace sink first mid) (room : ℕ) (old so : SoFar)
+    (all now : List Event) (piece : List ℕ) (h : Held room old so all now (Writes sink first mid) piece) where
+  pub passed_on : (new : W) (rest : List ℕ) → PassesOn room piece rest (Writes sink mid new) →
+      Gathered room old so all now (Writes sink first new) rest
   passed_on new rest (inl kept) = record {
     done = h.done;
     gathered = h.gathered;
     gives = h.gives;
-    wrote = subst (λ (t : List ℕ). Writes sink first new t) (append-nil (text_of h.done)) (writes_then sink first mid new (text_of h.done) [] keeps h.wrote kept.2);
+    wrote = subst (λ (t : List ℕ). Writes sink first new t) (append-nil (text_of h.done))
+        (writes_then sink first mid new (text_of h.done) [] keeps h.wrote kept.2);
     piece_is = kept.1 ∙ h.piece_is;
     alone = λ none. absurd (omega (arith, none, kept.0));
   }
@@ -64,35 +77,43 @@ module _ {W : Type 0} (sink : Sink W) (first mid : W) (keeps : KeepsPlace sink f
     done = h.done ++ h.gathered;
     gathered = [];
     gives = subst (λ (ls : List Line). Gives ls old so all now) (sym (append-nil (h.done ++ h.gathered))) h.gives;
-    wrote = subst (λ (t : List ℕ). Writes sink first new t) (ap (λ (p : List ℕ). text_of h.done ++ p) h.piece_is ∙ sym (text_of-append h.done h.gathered))
+    wrote = subst (λ (t : List ℕ). Writes sink first new t) (ap (λ (p : List ℕ). text_of h.done ++ p) h.piece_is
+        ∙ sym (text_of-append h.done h.gathered))
         (writes_then sink first mid new (text_of h.done) piece keeps h.wrote wrote.1);
     piece_is = wrote.0;
     alone = λ none. refl;
   }
 
-  pub fails_front : (new : W) → (IsTrue (sink.tells mid) → WritesFront (sink.written mid) (sink.written new) piece) → IsTrue (sink.tells first)
+  pub fails_front : (new : W) → (IsTrue (sink.tells mid) → WritesFront (sink.written mid) (sink.written new) piece) →
+      IsTrue (sink.tells first)
       → WritesFront (sink.written first) (sink.written new) (text_of (given_lines all))
   fails_front new front tells =
-      front_of_all (given_lines all) h.done h.gathered (given_lines now) (sink.written first) (sink.written mid) (sink.written new) piece
-      (given_front (h.done ++ h.gathered) old so all now h.gives ∙ append_assoc h.done h.gathered (given_lines now)) (h.wrote tells) h.piece_is (front (place_told sink first mid keeps tells))
+      front_of_all (given_lines all) h.done h.gathered (given_lines now) (sink.written first) (sink.written mid)
+          (sink.written new) piece
+      (given_front (h.done ++ h.gathered) old so all now h.gives ∙ append_assoc h.done h.gathered (given_lines now))
+          (h.wrote tells) h.piece_is (front (place_told sink first mid keeps tells))
 
-  pub fails_among : (new : W) → IsTrue (sink.tells first) → (IsTrue (sink.tells mid) → WritesFront (sink.written mid) (sink.written new) piece)
+  pub fails_among : (new : W) → IsTrue (sink.tells first) → (IsTrue (sink.tells mid) →
+      WritesFront (sink.written mid) (sink.written new) piece)
       → FailsAmong room old so all now (sink.written first) (sink.written new)
   fails_among new tells front = record {
     done = h.done;
     gathered = h.gathered;
     gives = h.gives;
     front = subst (λ (m : List ℕ). WritesFront m (sink.written new) (text_of h.gathered)) (h.wrote tells)
-        (subst (λ (p : List ℕ). WritesFront (sink.written mid) (sink.written new) p) h.piece_is (front (place_told sink first mid keeps tells)));
+        (subst (λ (p : List ℕ). WritesFront (sink.written mid) (sink.written new) p) h.piece_is
+            (front (place_told sink first mid keeps tells)));
     some = h.some;
     alone = h.alone;
   }
 
 -- where lines are not gathered one line alone is lost
-pub loses_line : (old new : SoFar) (all later : List Event) (before after : List ℕ) → FailsAmong 0 old new all later before after → LosesLine old new all later before after
+pub loses_line : (old new : SoFar) (all later : List Event) (before after : List ℕ) →
+    FailsAmong 0 old new all later before after → LosesLine old new all later before after
 loses_line old new all later before after failed = by failed.gathered (failed.alone refl) failed.gives failed.front
   where
-    by : (gathered : List Line) → length gathered ≡ 1 → Gives (failed.done ++ gathered) old new all later → WritesFront (before ++ text_of failed.done) after (text_of gathered) → LosesLine old new all later before after
+    by : (gathered : List Line) → length gathered ≡ 1 → Gives (failed.done ++ gathered) old new all later →
+        WritesFront (before ++ text_of failed.done) after (text_of gathered) → LosesLine old new all later before after
     by [] one gives front = absurd (omega (arith, one))
     by (line ∷ []) one gives front = record { done = failed.done; line = line; gives = gives; front = front }
     by (line ∷ other ∷ rest) one gives front = absurd (omega (arith, one))

@@ -37,6 +37,8 @@ module _ {W : Type 0} (sink : Sink W) where
   pub writes_none : (w : W) → Writes sink w w []
   writes_none w = λ tells. sym (append-nil (sink.written w))
 
-  pub writes_then : (a b c : W) (first more : List ℕ) → KeepsPlace sink a b → Writes sink a b first → Writes sink b c more → Writes sink a c (first ++ more)
+  pub writes_then : (a b c : W) (first more : List ℕ) → KeepsPlace sink a b → Writes sink a b first →
+      Writes sink b c more → Writes sink a c (first ++ more)
   writes_then a b c first more keeps one other = λ tells.
-      other (place_told a b keeps tells) ∙ ap (λ (t : List ℕ). t ++ more) (one tells) ∙ append_assoc (sink.written a) first more
+      other (place_told a b keeps tells) ∙ ap (λ (t : List ℕ). t ++ more) (one tells)
+          ∙ append_assoc (sink.written a) first more

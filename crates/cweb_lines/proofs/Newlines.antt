@@ -17,7 +17,8 @@ newline_at-memchr xs (Some at) first =
     let is : get_or xs at 0 ≡ 10 = grind (arith, nat_tests, first.1) in
     record {
       within = first.0.high;
-      split = sym (take-append-drop at xs) ∙ ap (λ (l : List ℕ). take at xs ++ l) (drop_more xs at 0 first.0.high ∙ ap (λ n. n ∷ drop (at + 1) xs) is);
+      split = sym (take-append-drop at xs) ∙ ap (λ (l : List ℕ). take at xs ++ l)
+          (drop_more xs at 0 first.0.high ∙ ap (λ n. n ∷ drop (at + 1) xs) is);
       before = no_newline (take at xs) (λ k lt ten.
           let near : k < at = omega (arith, length-take at xs) in
           first.0.before k (omega arith) near (ap (is_byte 10) (sym (get_or-take at xs k 0 near) ∙ ten)));
@@ -27,14 +28,16 @@ no_more : (b : ℕ) → b ≢ 10 → (text rest : List ℕ) → text_lines (b �
 no_more b not text rest = grind (arith, nat_tests)
 
 -- a line with its newline
-pub text_lines-full : (line rest : List ℕ) → HasNoNewline line → text_lines (line ++ 10 ∷ rest) ≡ record { bytes = line; size = length line + 1 } ∷ text_lines rest
+pub text_lines-full : (line rest : List ℕ) → HasNoNewline line →
+    text_lines (line ++ 10 ∷ rest) ≡ record { bytes = line; size = length line + 1 } ∷ text_lines rest
 text_lines-full [] rest none = ap (λ n. record { bytes = []; size = n } ∷ text_lines rest) (omega arith)
 text_lines-full (b ∷ line) rest none =
     no_more b none.0 (line ++ 10 ∷ rest) rest ∙ ap (onto_first b) (text_lines-full line rest none.1)
     ∙ ap (λ n. record { bytes = b ∷ line; size = n } ∷ text_lines rest) (omega arith)
 
 -- the last line, without one
-pub text_lines-last : (line : List ℕ) → HasNoNewline line → 0 < length line → text_lines line ≡ record { bytes = line; size = length line } ∷ []
+pub text_lines-last : (line : List ℕ) → HasNoNewline line → 0 < length line →
+    text_lines line ≡ record { bytes = line; size = length line } ∷ []
 text_lines-last [] none some = absurd (omega arith)
 text_lines-last (b ∷ []) none some = no_more b none.0 [] []
 text_lines-last (b ∷ c ∷ line) none some =
@@ -46,13 +49,16 @@ no_newline-append [] ys none_x none_y = none_y
 no_newline-append (x ∷ xs) ys none_x none_y = (none_x.0, no_newline-append xs ys none_x.1 none_y)
 
 -- a line that gets too long
-pub longer : (limit : ℕ) (line front rest : List ℕ) → HasNoNewline line → HasNoNewline front → limit < length line + length front → IsLongerThan limit (line ++ (front ++ rest))
+pub longer : (limit : ℕ) (line front rest : List ℕ) → HasNoNewline line → HasNoNewline front →
+    limit < length line + length front → IsLongerThan limit (line ++ (front ++ rest))
 longer limit line front rest none_l none_f more =
-    (line ++ front, rest, sym (append_assoc line front rest), no_newline-append line front none_l none_f, omega (arith, length-append line front))
+    (line ++ front, rest, sym (append_assoc line front rest), no_newline-append line front none_l none_f,
+        omega (arith, length-append line front))
 
 -- what is left of a piece behind its first newline
 pub behind : (piece : List ℕ) (start end at : ℕ) → SplitsAt (take (end - start) (drop start piece)) at → start ≤ end
-    → take (end - start) (drop start piece) ≡ take at (take (end - start) (drop start piece)) ++ 10 ∷ take (end - (start + (at + 1))) (drop (start + (at + 1)) piece)
+    → take (end - start) (drop start piece) ≡ take at (take (end - start) (drop start piece))
+        ++ 10 ∷ take (end - (start + (at + 1))) (drop (start + (at + 1)) piece)
 behind piece start end at splits le =
     splits.split ∙ ap (λ (l : List ℕ). take at (take (end - start) (drop start piece)) ++ 10 ∷ l) rest
   where
@@ -62,15 +68,18 @@ behind piece start end at splits le =
     count : end - start ≡ (at + 1) + (end - (start + (at + 1)))
     count = omega (arith, near)
 
-    rest : drop (at + 1) (take (end - start) (drop start piece)) ≡ take (end - (start + (at + 1))) (drop (start + (at + 1)) piece)
-    rest = ap (λ n. drop (at + 1) (take n (drop start piece))) count ∙ drop-take (at + 1) (end - (start + (at + 1))) (drop start piece)
+    rest : drop (at + 1) (take (end - start) (drop start piece)) ≡ take (end - (start + (at + 1)))
+        (drop (start + (at + 1)) piece)
+    rest = ap (λ n. drop (at + 1) (take n (drop start piece))) count
+        ∙ drop-take (at + 1) (end - (start + (at + 1))) (drop start piece)
         ∙ ap (λ (l : List ℕ). take (end - (start + (at + 1))) l) (drop-drop (at + 1) start piece)
 
 pub longer_more : (limit : ℕ) (text rest : List ℕ) → IsLongerThan limit text → IsLongerThan limit (text ++ rest)
 longer_more limit text rest long =
     (long.0, long.1 ++ rest, ap (λ (l : List ℕ). l ++ rest) long.2 ∙ append_assoc long.0 long.1 rest, long.3, long.4)
 
-pub taken_full : (all line old rest after new : List ℕ) → all ≡ line ++ (old ++ rest) → HasNoNewline line → TakesOf old line true after new → Takes all Full after (new ++ rest)
+pub taken_full : (all line old rest after new : List ℕ) → all ≡ line ++ (old ++ rest) → HasNoNewline line →
+    TakesOf old line true after new → Takes all Full after (new ++ rest)
 taken_full all line old rest after new is none takes = (
   is ∙ ap (λ (l : List ℕ). line ++ (l ++ rest)) takes.2
       ∙ (simp append_assoc)
@@ -78,7 +87,8 @@ taken_full all line old rest after new is none takes = (
   subst HasNoNewline (sym takes.3) (no_newline-append line takes.0 none takes.1),
 )
 
-pub taken_more : (all line old rest after new : List ℕ) → all ≡ line ++ (old ++ rest) → HasNoNewline line → TakesOf old line false after new
+pub taken_more : (all line old rest after new : List ℕ) → all ≡ line ++ (old ++ rest) → HasNoNewline line →
+    TakesOf old line false after new
     → (all ≡ after ++ (new ++ rest)) × HasNoNewline after
 taken_more all line old rest after new is none takes = (
   is ∙ sym (append_assoc line old rest) ∙ (λ i. sym takes.1 i ++ (sym takes.2 i ++ rest)),
@@ -87,12 +97,14 @@ taken_more all line old rest after new is none takes = (
 
 -- the first line of a text that begins with bytes other than newlines has those bytes at least
 pub longer_first : (front rest : List ℕ) → HasNoNewline front → 0 < length front
-    → (line : TextLine) × (lines : List TextLine) × (text_lines (front ++ rest) ≡ line ∷ lines) × (length front ≤ length line.bytes)
+    → (line : TextLine) × (lines : List TextLine) × (text_lines (front ++ rest) ≡ line ∷ lines)
+        × (length front ≤ length line.bytes)
 longer_first [] rest none some = absurd (omega arith)
 longer_first (b ∷ []) rest none some = by (text_lines rest) (no_more b none.0 rest [])
   where
     by : (lines : List TextLine) → text_lines (b ∷ rest) ≡ onto_first b lines
-        → (line : TextLine) × (lines' : List TextLine) × (text_lines (b ∷ rest) ≡ line ∷ lines') × (1 ≤ length line.bytes)
+        → (line : TextLine) × (lines' : List TextLine) × (text_lines (b ∷ rest) ≡ line ∷ lines')
+            × (1 ≤ length line.bytes)
     by [] is = (record { bytes = b ∷ []; size = 1 }, [], is, omega arith)
     by (line ∷ lines) is = (record { bytes = b ∷ line.bytes; size = line.size + 1 }, lines, is, omega arith)
 longer_first (b ∷ c ∷ front) rest none some =
@@ -104,12 +116,14 @@ longer_first (b ∷ c ∷ front) rest none some =
     )
 
 -- what stands in a piece behind its start, where a newline comes later in it
-pub whole_line : (piece : List ℕ) (start end at : ℕ) → start < at → at ≤ end → end ≤ length piece → byte_before piece at ≡ 10 → HasNewline (take (end - start) (drop start piece))
+pub whole_line : (piece : List ℕ) (start end at : ℕ) → start < at → at ≤ end → end ≤ length piece →
+    byte_before piece at ≡ 10 → HasNewline (take (end - start) (drop start piece))
 whole_line piece start end zero above whole within is = absurd (omega arith)
 whole_line piece start end (suc at) above whole within is = (
   take (at - start) bytes,
   drop (at - start + 1) bytes,
-  sym (take-append-drop (at - start) bytes) ∙ ap (λ (l : List ℕ). take (at - start) bytes ++ l) (drop_more bytes (at - start) 0 near ∙ ap (λ n. n ∷ drop (at - start + 1) bytes) ten),
+  sym (take-append-drop (at - start) bytes) ∙ ap (λ (l : List ℕ). take (at - start) bytes ++ l)
+      (drop_more bytes (at - start) 0 near ∙ ap (λ n. n ∷ drop (at - start + 1) bytes) ten),
 )
   where
     bytes : List ℕ
@@ -122,4 +136,5 @@ whole_line piece start end (suc at) above whole within is = (
     place = omega arith
 
     ten : get_or bytes (at - start) 0 ≡ 10
-    ten = get_or-take (end - start) (drop start piece) (at - start) 0 (omega arith) ∙ get_or-drop start piece (at - start) 0 ∙ ap (λ n. get_or piece n 0) place ∙ is
+    ten = get_or-take (end - start) (drop start piece) (at - start) 0 (omega arith)
+        ∙ get_or-drop start piece (at - start) 0 ∙ ap (λ n. get_or piece n 0) place ∙ is

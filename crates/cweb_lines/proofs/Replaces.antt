@@ -29,7 +29,8 @@ is_new old_side same = absurd (cc)
 is_new new_side same = refl
 is_new end_side same = absurd (cc)
 
-pub is_faulty : (code : Code) (line : SourceLine) (lines : List SourceLine) (later : OldSide) → sameb the_type code new_side ≡ false → old_at (Some code) line lines later ≡ old_code line later
+pub is_faulty : (code : Code) (line : SourceLine) (lines : List SourceLine) (later : OldSide) →
+    sameb the_type code new_side ≡ false → old_at (Some code) line lines later ≡ old_code line later
 is_faulty old_side line lines later other = refl
 is_faulty new_side line lines later other = absurd (cc)
 is_faulty end_side line lines later other = refl
@@ -55,7 +56,8 @@ none_rest : (olds : List (List ℕ)) → (compared olds []).rest ≡ []
 none_rest [] = refl
 none_rest (old ∷ olds) = refl
 
-compares_empty : (bytes : List ℕ) (before : Replaced) (old new : SoFar) → new ≡ old → Compares bytes before (record { unequal = before.unequal; ran_out = true; ended = before.ended }) [] [] old new
+compares_empty : (bytes : List ℕ) (before : Replaced) (old new : SoFar) → new ≡ old →
+    Compares bytes before (record { unequal = before.unequal; ran_out = true; ended = before.ended }) [] [] old new
 compares_empty bytes before old new same = record {
   taken = [];
   taken_are = λ olds. sym (none_taken olds);
@@ -65,31 +67,41 @@ compares_empty bytes before old new same = record {
   adds = adds_none old new same;
 }
 
-pub compares_none : (bytes : List ℕ) (before : Replaced) (things things' : List Thing) (old new : SoFar) → things ≡ things' → things' ≡ [] → new ≡ old
-    → Compares bytes before (record { unequal = before.unequal; ran_out = true; ended = before.ended }) things things' old new
+pub compares_none : (bytes : List ℕ) (before : Replaced) (things things' : List Thing) (old new : SoFar) →
+    things ≡ things' → things' ≡ [] → new ≡ old
+    → Compares bytes before (record { unequal = before.unequal; ran_out = true; ended = before.ended }) things things'
+        old new
 compares_none bytes before things things' old new is none same =
-    subst (λ (ts : List Thing). Compares bytes before (record { unequal = before.unequal; ran_out = true; ended = before.ended }) ts things' old new) (sym (is ∙ none))
-    (subst (λ (ts : List Thing). Compares bytes before (record { unequal = before.unequal; ran_out = true; ended = before.ended }) [] ts old new) (sym none) (compares_empty bytes before old new same))
+    subst (λ (ts : List Thing). Compares bytes before (record { unequal = before.unequal; ran_out = true; ended =
+        before.ended }) ts things' old new) (sym (is ∙ none))
+    (subst (λ (ts : List Thing). Compares bytes before (record { unequal = before.unequal; ran_out = true; ended =
+        before.ended }) [] ts old new) (sym none) (compares_empty bytes before old new same))
 
-pub compares_some : (bytes raw_bytes : List ℕ) (before after : Replaced) (at : LineAt) (things things' : List Thing) (old new : SoFar) (t : Took raw_bytes at.place old.count new.count) → things ≡ raw_at at t.line ∷ things'
-    → new.faults ≡ old.faults → new.names ≡ old.names → after.unequal ≡ (if bytes_eq raw_bytes bytes then before.unequal else before.unequal + 1) → after.ran_out ≡ before.ran_out → Compares bytes before after things things' old new
+pub compares_some : (bytes raw_bytes : List ℕ) (before after : Replaced) (at : LineAt) (things things' : List Thing)
+    (old new : SoFar) (t : Took raw_bytes at.place old.count new.count) → things ≡ raw_at at t.line ∷ things'
+    → new.faults ≡ old.faults → new.names ≡ old.names → after.unequal
+        ≡ (if bytes_eq raw_bytes bytes then before.unequal else before.unequal + 1) → after.ran_out ≡ before.ran_out →
+        Compares bytes before after things things' old new
 compares_some bytes raw_bytes before after at things things' old new t is told names unequal ran_out =
     subst (λ (ts : List Thing). Compares bytes before after ts things' old new) (sym is) (record {
       taken = t.line ∷ [];
       taken_are = λ olds. refl;
       unequal = λ olds.
-          ap (λ (l : Line). before.unequal + (if bytes_eq l.bytes bytes then (compared olds things').unequal else (compared olds things').unequal + 1)) t.is
+          ap (λ (l : Line). before.unequal + (if bytes_eq l.bytes bytes then (compared olds things').unequal
+              else (compared olds things').unequal + 1)) t.is
           ∙ by (bytes_eq raw_bytes bytes) unequal (compared olds things').unequal;
       ran_out = λ olds. ap (λ b. b || (compared olds things').ran_out) (sym ran_out);
       rest = λ olds. refl;
       adds = adds_one old new raw_bytes at.place t told names;
     })
   where
-    by : (b : Bool) → after.unequal ≡ (if b then before.unequal else before.unequal + 1) → (n : ℕ) → before.unequal + (if b then n else n + 1) ≡ after.unequal + n
+    by : (b : Bool) → after.unequal ≡ (if b then before.unequal else before.unequal + 1) → (n : ℕ) →
+        before.unequal + (if b then n else n + 1) ≡ after.unequal + n
     by true same n = omega (arith, same)
     by false same n = omega (arith, same)
 
-pub replaces_from : (change : List SourceLine) (things : List Thing) (old : SoFar) → Replaces change things (record { unequal = 0; ran_out = false; ended = false }) change things old old
+pub replaces_from : (change : List SourceLine) (things : List Thing) (old : SoFar) →
+    Replaces change things (record { unequal = 0; ran_out = false; ended = false }) change things old old
 replaces_from change things old = record {
   told = [];
   taken = [];
@@ -106,61 +118,82 @@ replaces_from change things old = record {
 }
 
 -- whatever comes of a line of the old side, it is taken first
-taken_at : (code : Option Code) (line : SourceLine) (lines : List SourceLine) (later : OldSide) → (more : List SourceLine) × ((old_at code line lines later).taken ≡ line ∷ more)
+taken_at : (code : Option Code) (line : SourceLine) (lines : List SourceLine) (later : OldSide) →
+    (more : List SourceLine) × ((old_at code line lines later).taken ≡ line ∷ more)
 taken_at None line lines later = (later.taken, refl)
 taken_at (Some old_side) line lines later = (later.taken, refl)
 taken_at (Some new_side) line lines later = ([], refl)
 taken_at (Some end_side) line lines later = (later.taken, refl)
 
 -- what an old side comes to at its next line, by the code that this has
-pub old_code_at : (code : Option Code) (line : SourceLine) (lines : List SourceLine) (bytes : List ℕ) (place : Place) → line.line ≡ record { bytes = bytes; place = place } → code_of bytes ≡ code
+pub old_code_at : (code : Option Code) (line : SourceLine) (lines : List SourceLine) (bytes : List ℕ) (place : Place) →
+    line.line ≡ record { bytes = bytes; place = place } → code_of bytes ≡ code
     → old_lines (line ∷ lines) ≡ old_at code line lines (old_lines lines)
-old_code_at code line lines bytes place is test = ap (λ (l : Line). old_at (code_of l.bytes) line lines (old_lines lines)) is ∙ ap (λ k. old_at k line lines (old_lines lines)) test
+old_code_at code line lines bytes place is test = ap (λ (l : Line). old_at (code_of l.bytes) line lines
+    (old_lines lines)) is ∙ ap (λ k. old_at k line lines (old_lines lines)) test
 
-module _ (change : List SourceLine) (things : List Thing) (so_far : Replaced) (lines : List SourceLine) (raws : List Thing) (old mid : SoFar) (r : Replaces change things so_far lines raws old mid) where
+module _ (change : List SourceLine) (things : List Thing) (so_far : Replaced) (lines : List SourceLine)
+    (raws : List Thing) (old mid : SoFar) (r : Replaces change things so_far lines raws old mid) where
   -- a line of the change file can't be taken
-  pub replaces_stop : (stop : Stop) (now : Count) → now ≡ mid.count → FirstStops stop mid.count lines → StopsAmong stop old.count now (lines_replaced change things)
+  pub replaces_stop : (stop : Stop) (now : Count) → now ≡ mid.count → FirstStops stop mid.count lines →
+      StopsAmong stop old.count now (lines_replaced change things)
   replaces_stop stop now same stops =
       let takes = taken_at (code_of stops.line.line.bytes) stops.line stops.rest (old_lines stops.rest) in
       let taken : (old_lines change).taken ≡ r.taken ++ stops.line ∷ takes.0 =
-      r.taken_are ∙ ap (λ (ls : List SourceLine). r.taken ++ (old_lines ls).taken) stops.first ∙ ap (λ (ls : List SourceLine). r.taken ++ ls) takes.1 in
+      r.taken_are ∙ ap (λ (ls : List SourceLine). r.taken ++ (old_lines ls).taken) stops.first
+          ∙ ap (λ (ls : List SourceLine). r.taken ++ ls) takes.1 in
       let among : lines_replaced change things ≡ r.taken ++ stops.line ∷ (takes.0 ++ (taken_away change things).taken) =
-      ap (λ (ls : List SourceLine). ls ++ (taken_away change things).taken) taken ∙ append_assoc r.taken (stops.line ∷ takes.0) (taken_away change things).taken in
+      ap (λ (ls : List SourceLine). ls ++ (taken_away change things).taken) taken
+          ∙ append_assoc r.taken (stops.line ∷ takes.0) (taken_away change things).taken in
       let now_lines = ap (λ (c : Count). c.lines) same in
       let now_bytes = ap (λ (c : Count). c.bytes) same in
-      let raw_lines = ap (λ (ls : List SourceLine). length ls) r.raw_taken_are ∙ length-append r.raw_taken (taken_away lines raws).taken in
+      let raw_lines = ap (λ (ls : List SourceLine). length ls) r.raw_taken_are
+          ∙ length-append r.raw_taken (taken_away lines raws).taken in
       let raw_bytes = ap size_of r.raw_taken_are ∙ size-append r.raw_taken (taken_away lines raws).taken in
-      let all_lines = ap (λ (ls : List SourceLine). length ls) among ∙ length-append r.taken (stops.line ∷ (takes.0 ++ (taken_away change things).taken)) in
-      let all_bytes = ap size_of among ∙ size-append r.taken (stops.line ∷ (takes.0 ++ (taken_away change things).taken)) in
+      let all_lines = ap (λ (ls : List SourceLine). length ls) among
+          ∙ length-append r.taken (stops.line ∷ (takes.0 ++ (taken_away change things).taken)) in
+      let all_bytes = ap size_of among ∙ size-append r.taken
+          (stops.line ∷ (takes.0 ++ (taken_away change things).taken)) in
       record {
         front = r.taken;
         line = stops.line;
         rest = takes.0 ++ (taken_away change things).taken;
         among = among;
         why = subst (λ (c : Count). Refuses stop c stops.line) (sym same) stops.why;
-        few = omega (arith, now_lines, raw_lines, all_lines, r.adds.lines_are, length-append r.taken r.raw_taken, length-append takes.0 (taken_away change things).taken);
-        small = omega (arith, now_bytes, raw_bytes, all_bytes, r.adds.bytes_are, size-append r.taken r.raw_taken, size-append takes.0 (taken_away change things).taken);
+        few = omega (arith, now_lines, raw_lines, all_lines, r.adds.lines_are, length-append r.taken r.raw_taken,
+            length-append takes.0 (taken_away change things).taken);
+        small = omega (arith, now_bytes, raw_bytes, all_bytes, r.adds.bytes_are, size-append r.taken r.raw_taken,
+            size-append takes.0 (taken_away change things).taken);
       }
 
   -- the old side ends here, behind these lines
-  pub replaces_done : (new : SoFar) (last rest : List SourceLine) (ended : Bool) → old_lines lines ≡ record { faults = []; lines = []; taken = last; ended = ended; rest = rest } → Adds r.told ((r.taken ++ last) ++ r.raw_taken) old new
-      → IsReplaced change things (record { unequal = so_far.unequal; ran_out = so_far.ran_out; ended = ended }) rest raws old new
+  pub replaces_done : (new : SoFar) (last rest : List SourceLine) (ended : Bool) →
+      old_lines lines ≡ record { faults = []; lines = []; taken = last; ended = ended; rest = rest } →
+      Adds r.told ((r.taken ++ last) ++ r.raw_taken) old new
+      → IsReplaced change things (record { unequal = so_far.unequal; ran_out = so_far.ran_out; ended = ended }) rest
+          raws old new
   replaces_done new last rest ended is adds =
-      let faults : (old_lines change).faults ≡ r.told = r.faults_are ∙ ap (λ (s : OldSide). r.told ++ s.faults) is ∙ append-nil r.told in
-      let taken : (old_lines change).taken ≡ r.taken ++ last = r.taken_are ∙ ap (λ (s : OldSide). r.taken ++ s.taken) is in
-      let raw_taken : (taken_away change things).taken ≡ r.raw_taken = r.raw_taken_are ∙ ap (λ (s : OldSide). r.raw_taken ++ (compared s.lines raws).taken) is ∙ append-nil r.raw_taken in
+      let faults : (old_lines change).faults ≡ r.told = r.faults_are ∙ ap (λ (s : OldSide). r.told ++ s.faults) is
+          ∙ append-nil r.told in
+      let taken : (old_lines change).taken ≡ r.taken ++ last = r.taken_are
+          ∙ ap (λ (s : OldSide). r.taken ++ s.taken) is in
+      let raw_taken : (taken_away change things).taken ≡ r.raw_taken = r.raw_taken_are
+          ∙ ap (λ (s : OldSide). r.raw_taken ++ (compared s.lines raws).taken) is ∙ append-nil r.raw_taken in
       record {
         adds = subst (λ (fs : List SourceFault). Adds fs (lines_replaced change things) old new) (sym faults)
             (subst (λ (ls : List SourceLine). Adds r.told ls old new) (sym (λ i. taken i ++ raw_taken i)) adds);
         ended = r.ended ∙ ap (λ (s : OldSide). s.ended) is;
         rest = r.rest ∙ ap (λ (s : OldSide). s.rest) is;
         unequal = omega (arith, r.unequal, ap (λ (s : OldSide). (compared s.lines raws).unequal) is);
-        ran_out = r.ran_out ∙ ap (λ (s : OldSide). so_far.ran_out || (compared s.lines raws).ran_out) is ∙ or_false so_far.ran_out;
+        ran_out = r.ran_out ∙ ap (λ (s : OldSide). so_far.ran_out || (compared s.lines raws).ran_out) is
+            ∙ or_false so_far.ran_out;
         raw_rest = r.raw_rest ∙ ap (λ (s : OldSide). (compared s.lines raws).rest) is;
       }
 
   -- a line of the change file was taken
-  module _ (now : SoFar) (bytes : List ℕ) (place : Place) (t : Took bytes place mid.count now.count) (rest : List SourceLine) (is : lines ≡ t.line ∷ rest) (told : now.faults ≡ mid.faults) (names : now.names ≡ mid.names) where
+  module _ (now : SoFar) (bytes : List ℕ) (place : Place) (t : Took bytes place mid.count now.count)
+      (rest : List SourceLine) (is : lines ≡ t.line ∷ rest) (told : now.faults ≡ mid.faults)
+      (names : now.names ≡ mid.names) where
     counted : Adds r.told ((r.taken ++ t.line ∷ []) ++ r.raw_taken) old now
     counted = adds_within r.told r.taken r.raw_taken old mid now bytes place t r.adds told names
 
@@ -168,82 +201,107 @@ module _ (change : List SourceLine) (things : List Thing) (so_far : Replaced) (l
     side code test = ap old_lines is ∙ old_code_at code t.line rest bytes place t.is test
 
     -- it is an @x or @z line
-    pub replaces_code : (code : Code) (new : SoFar) → code_of bytes ≡ Some code → old_at (Some code) t.line rest (old_lines rest) ≡ old_code t.line (old_lines rest) → new.faults ≡ now.faults ++ at_place WantsY place ∷ [] → new.names ≡ now.names
+    pub replaces_code : (code : Code) (new : SoFar) → code_of bytes ≡ Some code →
+        old_at (Some code) t.line rest (old_lines rest) ≡ old_code t.line (old_lines rest) →
+        new.faults ≡ now.faults ++ at_place WantsY place ∷ [] → new.names ≡ now.names
         → new.count ≡ now.count → Replaces change things so_far rest raws old new
     replaces_code code new test faulty told' names' count =
         let s : old_lines lines ≡ old_code t.line (old_lines rest) = side (Some code) test ∙ faulty in
-        let fault : at_place WantsY t.line.line.place ≡ at_place WantsY place = ap (λ (l : Line). at_place WantsY l.place) t.is in
+        let fault : at_place WantsY t.line.line.place ≡ at_place WantsY place =
+            ap (λ (l : Line). at_place WantsY l.place) t.is in
         record {
           told = r.told ++ at_place WantsY place ∷ [];
           taken = r.taken ++ t.line ∷ [];
           raw_taken = r.raw_taken;
-          faults_are = r.faults_are ∙ ap (λ (o : OldSide). r.told ++ o.faults) s ∙ ap (λ (f : SourceFault). r.told ++ f ∷ (old_lines rest).faults) fault
+          faults_are = r.faults_are ∙ ap (λ (o : OldSide). r.told ++ o.faults) s
+              ∙ ap (λ (f : SourceFault). r.told ++ f ∷ (old_lines rest).faults) fault
               ∙ sym (append_assoc r.told (at_place WantsY place ∷ []) (old_lines rest).faults);
-          taken_are = r.taken_are ∙ ap (λ (o : OldSide). r.taken ++ o.taken) s ∙ sym (append_assoc r.taken (t.line ∷ []) (old_lines rest).taken);
+          taken_are = r.taken_are ∙ ap (λ (o : OldSide). r.taken ++ o.taken) s
+              ∙ sym (append_assoc r.taken (t.line ∷ []) (old_lines rest).taken);
           ended = r.ended ∙ ap (λ (o : OldSide). o.ended) s;
           rest = r.rest ∙ ap (λ (o : OldSide). o.rest) s;
           raw_taken_are = r.raw_taken_are ∙ ap (λ (o : OldSide). r.raw_taken ++ (compared o.lines raws).taken) s;
           unequal = r.unequal ∙ ap (λ (o : OldSide). so_far.unequal + (compared o.lines raws).unequal) s;
           ran_out = r.ran_out ∙ ap (λ (o : OldSide). so_far.ran_out || (compared o.lines raws).ran_out) s;
           raw_rest = r.raw_rest ∙ ap (λ (o : OldSide). (compared o.lines raws).rest) s;
-          adds = adds_faults r.told (at_place WantsY place ∷ []) ((r.taken ++ t.line ∷ []) ++ r.raw_taken) old now new counted told' names' count;
+          adds = adds_faults r.told (at_place WantsY place ∷ [])
+              ((r.taken ++ t.line ∷ []) ++ r.raw_taken) old now new counted told' names' count;
         }
 
     -- it is an old line, which was compared
-    pub replaces_line : (after : Replaced) (raws' : List Thing) (new : SoFar) → code_of bytes ≡ None → Compares bytes so_far after raws raws' now new → Replaces change things after rest raws' old new
+    pub replaces_line : (after : Replaced) (raws' : List Thing) (new : SoFar) → code_of bytes ≡ None →
+        Compares bytes so_far after raws raws' now new → Replaces change things after rest raws' old new
     replaces_line after raws' new test by =
         let s : old_lines lines ≡ old_line t.line (old_lines rest) = side None test in
-        let b : t.line.line.bytes ∷ (old_lines rest).lines ≡ bytes ∷ (old_lines rest).lines = ap (λ (l : Line). l.bytes ∷ (old_lines rest).lines) t.is in
-        let away : taken_away lines raws ≡ compared (bytes ∷ (old_lines rest).lines) raws = ap (λ (o : OldSide). compared o.lines raws) s ∙ ap (λ (ls : List (List ℕ)). compared ls raws) b in
+        let b : t.line.line.bytes ∷ (old_lines rest).lines ≡ bytes ∷ (old_lines rest).lines =
+            ap (λ (l : Line). l.bytes ∷ (old_lines rest).lines) t.is in
+        let away : taken_away lines raws ≡ compared (bytes ∷ (old_lines rest).lines) raws =
+            ap (λ (o : OldSide). compared o.lines raws) s ∙ ap (λ (ls : List (List ℕ)). compared ls raws) b in
         record {
           told = r.told;
           taken = r.taken ++ t.line ∷ [];
           raw_taken = r.raw_taken ++ by.taken;
           faults_are = r.faults_are ∙ ap (λ (o : OldSide). r.told ++ o.faults) s;
-          taken_are = r.taken_are ∙ ap (λ (o : OldSide). r.taken ++ o.taken) s ∙ sym (append_assoc r.taken (t.line ∷ []) (old_lines rest).taken);
+          taken_are = r.taken_are ∙ ap (λ (o : OldSide). r.taken ++ o.taken) s
+              ∙ sym (append_assoc r.taken (t.line ∷ []) (old_lines rest).taken);
           ended = r.ended ∙ ap (λ (o : OldSide). o.ended) s;
           rest = r.rest ∙ ap (λ (o : OldSide). o.rest) s;
-          raw_taken_are = r.raw_taken_are ∙ ap (λ (c : Compared). r.raw_taken ++ c.taken) away ∙ ap (λ (ls : List SourceLine). r.raw_taken ++ ls) (by.taken_are (old_lines rest).lines)
+          raw_taken_are = r.raw_taken_are ∙ ap (λ (c : Compared). r.raw_taken ++ c.taken) away
+              ∙ ap (λ (ls : List SourceLine). r.raw_taken ++ ls) (by.taken_are (old_lines rest).lines)
               ∙ sym (append_assoc r.raw_taken by.taken (taken_away rest raws').taken);
-          unequal = r.unequal ∙ ap (λ (c : Compared). so_far.unequal + c.unequal) away ∙ by.unequal (old_lines rest).lines;
-          ran_out = r.ran_out ∙ ap (λ (c : Compared). so_far.ran_out || c.ran_out) away ∙ by.ran_out (old_lines rest).lines;
+          unequal = r.unequal ∙ ap (λ (c : Compared). so_far.unequal + c.unequal) away
+              ∙ by.unequal (old_lines rest).lines;
+          ran_out = r.ran_out ∙ ap (λ (c : Compared). so_far.ran_out || c.ran_out) away
+              ∙ by.ran_out (old_lines rest).lines;
           raw_rest = r.raw_rest ∙ ap (λ (c : Compared). c.rest) away ∙ by.rest (old_lines rest).lines;
           adds = adds_lines r.told (r.taken ++ t.line ∷ []) r.raw_taken by.taken old now new counted by.adds;
         }
 
     -- it is an old line, and the raw line that it would take away can't be taken
-    pub replaces_raw_stop : (stop : Stop) (count : Count) → count ≡ now.count → code_of bytes ≡ None → TopStops stop now.count raws → StopsAmong stop old.count count (lines_replaced change things)
+    pub replaces_raw_stop : (stop : Stop) (count : Count) → count ≡ now.count → code_of bytes ≡ None →
+        TopStops stop now.count raws → StopsAmong stop old.count count (lines_replaced change things)
     replaces_raw_stop stop count same test stops =
         let s : old_lines lines ≡ old_line t.line (old_lines rest) = side None test in
         let olds = (old_lines rest).lines in
         let more = (compared olds stops.rest).taken in
         let raw_taken : (taken_away change things).taken ≡ r.raw_taken ++ stops.raw_line.source ∷ more =
-        r.raw_taken_are ∙ ap (λ (o : OldSide). r.raw_taken ++ (compared o.lines raws).taken) s ∙ ap (λ (ts : List Thing). r.raw_taken ++ (compared (t.line.line.bytes ∷ olds) ts).taken) stops.first in
-        let taken : (old_lines change).taken ≡ r.taken ++ t.line ∷ (old_lines rest).taken = r.taken_are ∙ ap (λ (o : OldSide). r.taken ++ o.taken) s in
-        let among : lines_replaced change things ≡ ((old_lines change).taken ++ r.raw_taken) ++ stops.raw_line.source ∷ more =
-        ap (λ (ls : List SourceLine). (old_lines change).taken ++ ls) raw_taken ∙ sym (append_assoc (old_lines change).taken r.raw_taken (stops.raw_line.source ∷ more)) in
+        r.raw_taken_are ∙ ap (λ (o : OldSide). r.raw_taken ++ (compared o.lines raws).taken) s
+            ∙ ap (λ (ts : List Thing). r.raw_taken ++ (compared (t.line.line.bytes ∷ olds) ts).taken) stops.first in
+        let taken : (old_lines change).taken ≡ r.taken ++ t.line ∷ (old_lines rest).taken = r.taken_are
+            ∙ ap (λ (o : OldSide). r.taken ++ o.taken) s in
+        let among : lines_replaced change things ≡ ((old_lines change).taken ++ r.raw_taken)
+            ++ stops.raw_line.source ∷ more =
+        ap (λ (ls : List SourceLine). (old_lines change).taken ++ ls) raw_taken
+            ∙ sym (append_assoc (old_lines change).taken r.raw_taken (stops.raw_line.source ∷ more)) in
         let now_lines = ap (λ (c : Count). c.lines) same in
         let now_bytes = ap (λ (c : Count). c.bytes) same in
-        let taken_lines_are = ap (λ (ls : List SourceLine). length ls) taken ∙ length-append r.taken (t.line ∷ (old_lines rest).taken) in
+        let taken_lines_are = ap (λ (ls : List SourceLine). length ls) taken
+            ∙ length-append r.taken (t.line ∷ (old_lines rest).taken) in
         let taken_bytes_are = ap size_of taken ∙ size-append r.taken (t.line ∷ (old_lines rest).taken) in
-        let all_lines = ap (λ (ls : List SourceLine). length ls) among ∙ length-append ((old_lines change).taken ++ r.raw_taken) (stops.raw_line.source ∷ more) in
-        let all_bytes = ap size_of among ∙ size-append ((old_lines change).taken ++ r.raw_taken) (stops.raw_line.source ∷ more) in
+        let all_lines = ap (λ (ls : List SourceLine). length ls) among
+            ∙ length-append ((old_lines change).taken ++ r.raw_taken) (stops.raw_line.source ∷ more) in
+        let all_bytes = ap size_of among ∙ size-append ((old_lines change).taken ++ r.raw_taken)
+            (stops.raw_line.source ∷ more) in
         record {
           front = (old_lines change).taken ++ r.raw_taken;
           line = stops.raw_line.source;
           rest = more;
           among = among;
           why = subst (λ (c : Count). Refuses stop c stops.raw_line.source) (sym same) stops.why;
-          few = omega (arith, now_lines, taken_lines_are, all_lines, r.adds.lines_are, t.lines, length-append r.taken r.raw_taken, length-append (old_lines change).taken r.raw_taken);
-          small = omega (arith, now_bytes, taken_bytes_are, all_bytes, r.adds.bytes_are, t.bytes_are, size-append r.taken r.raw_taken, size-append (old_lines change).taken r.raw_taken);
+          few = omega (arith, now_lines, taken_lines_are, all_lines, r.adds.lines_are, t.lines,
+              length-append r.taken r.raw_taken, length-append (old_lines change).taken r.raw_taken);
+          small = omega (arith, now_bytes, taken_bytes_are, all_bytes, r.adds.bytes_are, t.bytes_are,
+              size-append r.taken r.raw_taken, size-append (old_lines change).taken r.raw_taken);
         }
 
     -- it is the @y line
-    pub replaces_new : code_of bytes ≡ Some new_side → IsReplaced change things (record { unequal = so_far.unequal; ran_out = so_far.ran_out; ended = false }) rest raws old now
+    pub replaces_new : code_of bytes ≡ Some new_side → IsReplaced change things
+        (record { unequal = so_far.unequal; ran_out = so_far.ran_out; ended = false }) rest raws old now
     replaces_new test = replaces_done now (t.line ∷ []) rest false (side (Some new_side) test) counted
 
 -- some of the faults of the old lines were told, and none behind them
-pub tells_front : (faults more : List SourceFault) (old new : SoFar) → TellsSome faults old new → TellsSome (faults ++ more) old new
+pub tells_front : (faults more : List SourceFault) (old new : SoFar) → TellsSome faults old new →
+    TellsSome (faults ++ more) old new
 tells_front faults more old new some = record {
   front = some.front;
   rest = some.rest ++ more;
@@ -252,16 +310,21 @@ tells_front faults more old new some = record {
   names = some.names;
 }
 
-module _ (begin : Place) (change : List SourceLine) (things : List Thing) (r : Replaced) (change' : List SourceLine) (things' : List Thing) (old mid new : SoFar) (by : IsReplaced change things r change' things' old mid) where
-  closing_same : closing_faults begin (old_lines change).ended (taken_away change things).ran_out (taken_away change things).unequal ≡ closing_faults begin r.ended r.ran_out r.unequal
+module _ (begin : Place) (change : List SourceLine) (things : List Thing) (r : Replaced) (change' : List SourceLine)
+    (things' : List Thing) (old mid new : SoFar) (by : IsReplaced change things r change' things' old mid) where
+  closing_same : closing_faults begin (old_lines change).ended (taken_away change things).ran_out
+      (taken_away change things).unequal ≡ closing_faults begin r.ended r.ran_out r.unequal
   closing_same = λ i. closing_faults begin (by.ended i) (by.ran_out i) (by.unequal i)
 
   -- some of the faults behind the old lines were told
-  pub closes_some : ToldFront (closing_faults begin r.ended r.ran_out r.unequal) mid.faults new.faults → new.names ≡ mid.names → TellsSome (faults_replaced begin change things) old new
+  pub closes_some : ToldFront (closing_faults begin r.ended r.ran_out r.unequal) mid.faults new.faults →
+      new.names ≡ mid.names → TellsSome (faults_replaced begin change things) old new
   closes_some front names = record {
     front = (old_lines change).faults ++ front.front;
     rest = front.rest;
-    whole = ap (λ (fs : List SourceFault). (old_lines change).faults ++ fs) (closing_same ∙ front.whole) ∙ sym (append_assoc (old_lines change).faults front.front front.rest);
-    told = front.told ∙ ap (λ (fs : List SourceFault). fs ++ front.front) by.adds.told ∙ append_assoc old.faults (old_lines change).faults front.front;
+    whole = ap (λ (fs : List SourceFault). (old_lines change).faults ++ fs) (closing_same ∙ front.whole)
+        ∙ sym (append_assoc (old_lines change).faults front.front front.rest);
+    told = front.told ∙ ap (λ (fs : List SourceFault). fs ++ front.front) by.adds.told
+        ∙ append_assoc old.faults (old_lines change).faults front.front;
     names = names ∙ by.adds.names;
   }

@@ -21,7 +21,8 @@ record Outcome : Type 0 where
 
 abbrev outcome_of : Option (List Event) → Option Outcome
 outcome_of None = None
-outcome_of (Some events) = Some (record { lines = given_lines events; faults = told_faults events; names = openings events })
+outcome_of (Some events) = Some (record { lines = given_lines events; faults = told_faults events; names =
+    openings events })
 
 abbrev place : ℕ → ℕ → Place
 place file number = record { file = record { 0 = file }; line = number }
@@ -57,13 +58,17 @@ empty_web : outcome_of (run 10 no_texts (started [] None)) ≡ Some (record { li
 empty_web = refl
 
 -- an include line is compared with the first old line before it is obeyed
-include_line_replaced : outcome_of (run 20 no_texts (started (codes "A\n@i gone.w\nB\n") (Some (codes "@x\n@i gone.w\n@y\nnew\n@z\n"))))
-    ≡ Some (record { lines = line (codes "A") 0 1 ∷ line (codes "new") 1 4 ∷ line (codes "B") 0 3 ∷ []; faults = []; names = [] })
+include_line_replaced : outcome_of (run 20 no_texts (started (codes "A\n@i gone.w\nB\n")
+    (Some (codes "@x\n@i gone.w\n@y\nnew\n@z\n"))))
+    ≡ Some (record { lines = line (codes "A") 0 1 ∷ line (codes "new") 1 4 ∷ line (codes "B") 0 3 ∷ []; faults = [];
+        names = [] })
 include_line_replaced = refl
 
 -- further old lines are taken over the end of an included file, unequal ones too
-change_over_a_file_end : outcome_of (run 20 (one_text (codes "inc.w") (codes "I1\nI2\n")) (started (codes "@i inc.w\nL2\nL3\n") (Some (codes "@x\nI2\nLX\n@y\nN\n@z\n"))))
-    ≡ Some (record { lines = line (codes "I1") 2 1 ∷ line (codes "N") 1 5 ∷ line (codes "L3") 0 3 ∷ []; faults = unequal 1 1 1 ∷ []; names = codes "inc.w" ∷ [] })
+change_over_a_file_end : outcome_of (run 20 (one_text (codes "inc.w") (codes "I1\nI2\n"))
+    (started (codes "@i inc.w\nL2\nL3\n") (Some (codes "@x\nI2\nLX\n@y\nN\n@z\n"))))
+    ≡ Some (record { lines = line (codes "I1") 2 1 ∷ line (codes "N") 1 5 ∷ line (codes "L3") 0 3 ∷ []; faults =
+        unequal 1 1 1 ∷ []; names = codes "inc.w" ∷ [] })
 unfolding is_utf8 chars encode
 change_over_a_file_end = refl
 
@@ -89,22 +94,26 @@ copies zero = []
 copies (suc n) = codes "a.w" ∷ copies n
 
 -- no more than `OPEN_FILES` are open: the include line of the deepest is a fault
-file_that_includes_itself : outcome_of (run 90 (one_text (codes "a.w") (codes "P\n@i a.w\nQ\n")) (started (codes "P\n@i a.w\nQ\n") None))
+file_that_includes_itself : outcome_of (run 90 (one_text (codes "a.w") (codes "P\n@i a.w\nQ\n"))
+    (started (codes "P\n@i a.w\nQ\n") None))
     ≡ Some (record { lines = firsts 20 0 ++ lasts 20; faults = fault TooDeep 19 2 ∷ []; names = copies 19 })
 unfolding is_utf8 chars encode
 file_that_includes_itself = refl
 
 abbrev in_lib : World
-in_lib = record { texts = λ asked. cond (bytes_eq asked (codes "lib/b.w")) (Some (codes "two\n")) None; inputs = Some (codes "lib") }
+in_lib = record { texts = λ asked. cond (bytes_eq asked (codes "lib/b.w")) (Some (codes "two\n")) None; inputs =
+    Some (codes "lib") }
 
 -- a file is sought as it is named, then in the folder
 include_in_a_folder : outcome_of (run 20 in_lib (started (codes "one\n@i b.w\nthree\n@i gone\n") None))
-    ≡ Some (record { lines = line (codes "one") 0 1 ∷ line (codes "two") 1 1 ∷ line (codes "three") 0 3 ∷ []; faults = fault NotThere 0 4 ∷ []; names = codes "lib/b.w" ∷ [] })
+    ≡ Some (record { lines = line (codes "one") 0 1 ∷ line (codes "two") 1 1 ∷ line (codes "three") 0 3 ∷ []; faults =
+        fault NotThere 0 4 ∷ []; names = codes "lib/b.w" ∷ [] })
 unfolding is_utf8 chars encode
 include_in_a_folder = refl
 
 -- codes out of place
-stray_codes : outcome_of (run 30 no_texts (started (codes "A\nB\n") (Some (codes "@y\n@x\nA\n@x\nQ\n@y\nN\n@y\nM\n@z\n"))))
+stray_codes : outcome_of (run 30 no_texts (started (codes "A\nB\n")
+    (Some (codes "@y\n@x\nA\n@x\nQ\n@y\nN\n@y\nM\n@z\n"))))
     ≡ Some (record {
       lines = line (codes "N") 1 7 ∷ line (codes "M") 1 9 ∷ [];
       faults = fault MissingX 1 1 ∷ fault WantsY 1 4 ∷ unequal 1 2 1 ∷ fault WantsZ 1 8 ∷ [];
@@ -123,7 +132,8 @@ change_file_ends_among_new_lines = refl
 -- lines that a new line includes do not match
 new_lines_do_not_match : outcome_of (run 30 (one_text (codes "inc.w") (codes "B\n"))
     (started (codes "A\nB\n") (Some (codes "@x\nA\n@y\n@i inc.w\n@z\n@x\nB\n@y\nC\n@z\n"))))
-    ≡ Some (record { lines = line (codes "B") 2 1 ∷ line (codes "C") 1 9 ∷ []; faults = []; names = codes "inc.w" ∷ [] })
+    ≡ Some (record { lines = line (codes "B") 2 1 ∷ line (codes "C") 1 9 ∷ []; faults = []; names =
+        codes "inc.w" ∷ [] })
 unfolding is_utf8 chars encode
 new_lines_do_not_match = refl
 

@@ -18,25 +18,31 @@ use Rattle.cweb_lines.specs.declared.stop.Stop.{Stop}
 use Rattle.cweb_lines.proofs.Adds.{adds_none, adds_line, adds_faults}
 use Rattle.cweb_lines.proofs.Merges.{size-append}
 
-pub behind-both : (a c : List SourceFault) (b d : List SourceLine) (found : Sought) → behind a b (behind c d found) ≡ behind (a ++ c) (b ++ d) found
-behind-both a c b d found = λ i. record { faults = sym (append_assoc a c found.faults) i; taken = sym (append_assoc b d found.taken) i; entry = found.entry; rest = found.rest }
+pub behind-both : (a c : List SourceFault) (b d : List SourceLine) (found : Sought) →
+    behind a b (behind c d found) ≡ behind (a ++ c) (b ++ d) found
+behind-both a c b d found = λ i. record { faults = sym (append_assoc a c found.faults) i; taken =
+    sym (append_assoc b d found.taken) i; entry = found.entry; rest = found.rest }
 
 pub seeks_from : (found : Sought) (old : SoFar) → SeeksTo found found old old
 seeks_from found old = record { told = []; taken = []; whole = refl; adds = adds_none old old refl }
 
 -- whatever comes of a line in a search, it is taken first
-taken_behind : (bytes : List ℕ) (code : Option Code) (begin : Place) (line : SourceLine) (lines : List SourceLine) → (more : List SourceLine) × ((behind_x bytes code begin line lines (λ next. sought lines next)).taken ≡ line ∷ more)
+taken_behind : (bytes : List ℕ) (code : Option Code) (begin : Place) (line : SourceLine) (lines : List SourceLine) →
+    (more : List SourceLine) × ((behind_x bytes code begin line lines (λ next. sought lines next)).taken ≡ line ∷ more)
 taken_behind [] code begin line lines = ((sought lines (Some begin)).taken, refl)
 taken_behind (b ∷ bs) None begin line lines = ([], refl)
 taken_behind (b ∷ bs) (Some code) begin line lines = (_, refl)
 
-sought_takes : (line : SourceLine) (lines : List SourceLine) (begin : Option Place) → (more : List SourceLine) × ((sought (line ∷ lines) begin).taken ≡ line ∷ more)
+sought_takes : (line : SourceLine) (lines : List SourceLine) (begin : Option Place) →
+    (more : List SourceLine) × ((sought (line ∷ lines) begin).taken ≡ line ∷ more)
 sought_takes line lines None = (_, refl)
 sought_takes line lines (Some begin) = taken_behind line.line.bytes (code_of line.line.bytes) begin line lines
 
-module _ (all : Sought) (lines : List SourceLine) (begin : Option Place) (old mid : SoFar) (seeks : SeeksTo all (sought lines begin) old mid) where
+module _ (all : Sought) (lines : List SourceLine) (begin : Option Place) (old mid : SoFar)
+    (seeks : SeeksTo all (sought lines begin) old mid) where
   -- a line can't be taken
-  pub seeks_stop : (stop : Stop) (now : Count) → now ≡ mid.count → FirstStops stop mid.count lines → StopsAmong stop old.count now all.taken
+  pub seeks_stop : (stop : Stop) (now : Count) → now ≡ mid.count → FirstStops stop mid.count lines →
+      StopsAmong stop old.count now all.taken
   seeks_stop stop now same stops =
       let takes = sought_takes stops.line stops.rest begin in
       let among : all.taken ≡ seeks.taken ++ stops.line ∷ takes.0 =
@@ -45,7 +51,8 @@ module _ (all : Sought) (lines : List SourceLine) (begin : Option Place) (old mi
       ∙ ap (λ (ls : List SourceLine). seeks.taken ++ ls) takes.1 in
       let now_lines = ap (λ (c : Count). c.lines) same in
       let now_bytes = ap (λ (c : Count). c.bytes) same in
-      let all_lines = ap (λ (ls : List SourceLine). length ls) among ∙ length-append seeks.taken (stops.line ∷ takes.0) in
+      let all_lines = ap (λ (ls : List SourceLine). length ls) among
+          ∙ length-append seeks.taken (stops.line ∷ takes.0) in
       let all_bytes = ap size_of among ∙ size-append seeks.taken (stops.line ∷ takes.0) in
       record {
         front = seeks.taken;
@@ -58,37 +65,52 @@ module _ (all : Sought) (lines : List SourceLine) (begin : Option Place) (old mi
       }
 
   -- some faults of a line are told behind those so far
-  pub seeks_told_more : (new : SoFar) → ToldFront (sought lines begin).faults mid.faults new.faults → new.names ≡ mid.names → TellsSome all.faults old new
+  pub seeks_told_more : (new : SoFar) → ToldFront (sought lines begin).faults mid.faults new.faults →
+      new.names ≡ mid.names → TellsSome all.faults old new
   seeks_told_more new more names = record {
     front = seeks.told ++ more.front;
     rest = more.rest;
-    whole = ap (λ (s : Sought). s.faults) seeks.whole ∙ ap (λ (fs : List SourceFault). seeks.told ++ fs) more.whole ∙ sym (append_assoc seeks.told more.front more.rest);
-    told = more.told ∙ ap (λ (fs : List SourceFault). fs ++ more.front) seeks.adds.told ∙ append_assoc old.faults seeks.told more.front;
+    whole = ap (λ (s : Sought). s.faults) seeks.whole ∙ ap (λ (fs : List SourceFault). seeks.told ++ fs) more.whole
+        ∙ sym (append_assoc seeks.told more.front more.rest);
+    told = more.told ∙ ap (λ (fs : List SourceFault). fs ++ more.front) seeks.adds.told
+        ∙ append_assoc old.faults seeks.told more.front;
     names = names ∙ seeks.adds.names;
   }
 
   -- a line was taken and looked at
-  module _ (now new : SoFar) (bytes : List ℕ) (place : Place) (t : Took bytes place mid.count now.count) (rest : List SourceLine) (is : lines ≡ t.line ∷ rest) (same_faults : now.faults ≡ mid.faults) (same_names : now.names ≡ mid.names)
+  module _ (now new : SoFar) (bytes : List ℕ) (place : Place) (t : Took bytes place mid.count now.count)
+      (rest : List SourceLine) (is : lines ≡ t.line ∷ rest) (same_faults : now.faults ≡ mid.faults)
+      (same_names : now.names ≡ mid.names)
       (names : new.names ≡ now.names) (count : new.count ≡ now.count) where
-    pub seeks_on : (next : Option Place) → LooksAt (goes_on next) begin bytes place now.faults new.faults → SeeksTo all (sought rest next) old new
+    pub seeks_on : (next : Option Place) → LooksAt (goes_on next) begin bytes place now.faults new.faults →
+        SeeksTo all (sought rest next) old new
     seeks_on next looks = record {
       told = seeks.told ++ looks.told;
       taken = seeks.taken ++ t.line ∷ [];
       whole = seeks.whole
-          ∙ ap (λ (s : Sought). behind seeks.told seeks.taken s) (ap (λ (ls : List SourceLine). sought ls begin) is ∙ looks.looks t.line t.is rest)
+          ∙ ap (λ (s : Sought). behind seeks.told seeks.taken s)
+              (ap (λ (ls : List SourceLine). sought ls begin) is ∙ looks.looks t.line t.is rest)
           ∙ behind-both seeks.told looks.told seeks.taken (t.line ∷ []) (sought rest next);
-      adds = adds_faults seeks.told looks.told (seeks.taken ++ t.line ∷ []) old now new (adds_line seeks.told seeks.taken old mid now bytes place t seeks.adds same_faults same_names) looks.faults names count;
+      adds = adds_faults seeks.told looks.told (seeks.taken ++ t.line ∷ []) old now new
+          (adds_line seeks.told seeks.taken old mid now bytes place t seeks.adds same_faults same_names) looks.faults
+          names count;
     }
 
-    pub seeks_found : (entry : Place) → LooksAt (first_line entry) begin bytes place now.faults new.faults → Searched all old new (Waiting entry) bytes rest
+    pub seeks_found : (entry : Place) → LooksAt (first_line entry) begin bytes place now.faults new.faults →
+        Searched all old new (Waiting entry) bytes rest
     seeks_found entry looks =
-        let whole : all ≡ behind seeks.told seeks.taken (record { faults = looks.told; taken = t.line ∷ []; entry = Some (record { begin = entry; first = t.line.line.bytes }); rest = rest }) =
-        seeks.whole ∙ ap (λ (s : Sought). behind seeks.told seeks.taken s) (ap (λ (ls : List SourceLine). sought ls begin) is ∙ looks.looks t.line t.is rest) in
+        let whole : all ≡ behind seeks.told seeks.taken (record { faults = looks.told; taken = t.line ∷ []; entry =
+            Some (record { begin = entry; first = t.line.line.bytes }); rest = rest }) =
+        seeks.whole ∙ ap (λ (s : Sought). behind seeks.told seeks.taken s)
+            (ap (λ (ls : List SourceLine). sought ls begin) is ∙ looks.looks t.line t.is rest) in
         record {
           adds = subst (λ (s : Sought). Adds s.faults s.taken old new) (sym whole)
-              (adds_faults seeks.told looks.told (seeks.taken ++ t.line ∷ []) old now new (adds_line seeks.told seeks.taken old mid now bytes place t seeks.adds same_faults same_names) looks.faults names count);
+              (adds_faults seeks.told looks.told (seeks.taken ++ t.line ∷ []) old now new
+                  (adds_line seeks.told seeks.taken old mid now bytes place t seeks.adds same_faults same_names)
+                  looks.faults names count);
           outside = tt;
-          entry = ap (λ (l : Line). Some (record { begin = entry; first = l.bytes })) (sym t.is) ∙ ap (λ (s : Sought). s.entry) (sym whole);
+          entry = ap (λ (l : Line). Some (record { begin = entry; first = l.bytes })) (sym t.is)
+              ∙ ap (λ (s : Sought). s.entry) (sym whole);
           rest = ap (λ (s : Sought). s.rest) (sym whole);
         }
 

@@ -33,24 +33,32 @@ source_line file number bytes taken = record {
 }
 
 takes_line : (taken : Taken) (old new bytes : List ℕ) (file number : ℕ) → taken ≢ Ended → Takes old taken bytes new
-    → numbered file number (text_lines old) ≡ source_line file number bytes taken ∷ numbered file (number + 1) (text_lines new)
+    → numbered file number (text_lines old) ≡ source_line file number bytes taken ∷ numbered file (number + 1)
+        (text_lines new)
 takes_line Ended old new bytes file number not takes = absurd (not refl)
 takes_line Last old new bytes file number not takes =
     let none : length bytes ≡ length bytes + 0 = omega arith in
-    ap (λ (t : List ℕ). numbered file number (text_lines t)) takes.0 ∙ ap (numbered file number) (text_lines-last bytes takes.1 takes.2)
-    ∙ ap (λ n. record { line = record { bytes = trimmed bytes; place = record { file = record { 0 = file }; line = number } }; length = length bytes; size = n } ∷ []) none
+    ap (λ (t : List ℕ). numbered file number (text_lines t)) takes.0
+        ∙ ap (numbered file number) (text_lines-last bytes takes.1 takes.2)
+    ∙ ap (λ n. record { line = record { bytes = trimmed bytes; place =
+        record { file = record { 0 = file }; line = number } }; length = length bytes; size = n } ∷ []) none
     ∙ ap (λ (t : List ℕ). source_line file number bytes Last ∷ numbered file (number + 1) (text_lines t)) (sym takes.3)
 takes_line Full old new bytes file number not takes =
-    ap (λ (t : List ℕ). numbered file number (text_lines t)) takes.0 ∙ ap (numbered file number) (text_lines-full bytes new takes.1)
+    ap (λ (t : List ℕ). numbered file number (text_lines t)) takes.0
+        ∙ ap (numbered file number) (text_lines-full bytes new takes.1)
 
-pub takes_first : (bytes raw old new : List ℕ) (file number depth : ℕ) (may_match : Bool) (taken : Taken) (before after : Count) → taken ≢ Ended → Takes old taken raw new → bytes ≡ trimmed raw → length raw ≤ LINE_LENGTH
+pub takes_first : (bytes raw old new : List ℕ) (file number depth : ℕ) (may_match : Bool) (taken : Taken)
+    (before after : Count) → taken ≢ Ended → Takes old taken raw new → bytes ≡ trimmed raw → length raw ≤ LINE_LENGTH
     → after.lines ≡ before.lines + 1 → after.bytes ≡ before.bytes + (length raw + newline_bytes taken)
-    → TakesLine (numbered file number (text_lines old)) (Some (record { place = record { file = record { 0 = file }; line = number }; depth = depth; may_match = may_match })) bytes
+    → TakesLine (numbered file number (text_lines old)) (Some
+        (record { place = record { file = record { 0 = file }; line = number }; depth = depth; may_match = may_match }))
+        bytes
     (numbered file (number + 1) (text_lines new)) before after
 takes_first bytes raw old new file number depth may_match taken before after not takes is short lines size = (
   record {
     line = source_line file number raw taken;
-    is = ap (λ (b : List ℕ). record { bytes = b; place = record { file = record { 0 = file }; line = number } }) (sym is);
+    is = ap (λ (b : List ℕ). record { bytes = b; place = record { file = record { 0 = file }; line = number } })
+        (sym is);
     short = short;
     lines = lines;
     bytes_are = size;
@@ -63,18 +71,24 @@ pub first_too_long : (text : List ℕ) (file : FileId) (number : ℕ) (count : C
 first_too_long text file number count long =
     let first = longer_first long.0 long.1 long.3 (omega (arith, long.4)) in
     record {
-      line = record { line = record { bytes = trimmed first.0.bytes; place = record { file = file; line = number } }; length = length first.0.bytes; size = first.0.size };
+      line = record { line = record { bytes = trimmed first.0.bytes; place = record { file = file; line = number } };
+          length = length first.0.bytes; size = first.0.size };
       rest = numbered file.0 (number + 1) first.1;
       first = ap (λ (t : List ℕ). numbered file.0 number (text_lines t)) long.2 ∙ ap (numbered file.0 number) first.2;
       why = (refl, omega (arith, long.4, first.3));
     }
 
-pub line_stops : (fault : LineFault) (stop : Stop) (text : List ℕ) (file : FileId) (number : ℕ) (count : Count) → stop ≡ stop_for fault file
-    → (fault ≡ TooLong → IsLongerThan LINE_LENGTH text) → StopsFor (FirstStops stop count (numbered file.0 number (text_lines text))) stop
-line_stops Read stop text file number count is long = subst (λ s. StopsFor (FirstStops s count (numbered file.0 number (text_lines text))) s) (sym is) tt
+pub line_stops : (fault : LineFault) (stop : Stop) (text : List ℕ) (file : FileId) (number : ℕ) (count : Count) →
+    stop ≡ stop_for fault file
+    → (fault ≡ TooLong → IsLongerThan LINE_LENGTH text) → StopsFor
+        (FirstStops stop count (numbered file.0 number (text_lines text))) stop
+line_stops Read stop text file number count is long = subst (λ s. StopsFor
+    (FirstStops s count (numbered file.0 number (text_lines text))) s) (sym is) tt
 line_stops TooLong stop text file number count is long =
-    subst (λ s. StopsFor (FirstStops s count (numbered file.0 number (text_lines text))) s) (sym is) (first_too_long text file number count (long refl))
-line_stops NoMemory stop text file number count is long = subst (λ s. StopsFor (FirstStops s count (numbered file.0 number (text_lines text))) s) (sym is) tt
+    subst (λ s. StopsFor (FirstStops s count (numbered file.0 number (text_lines text))) s) (sym is)
+        (first_too_long text file number count (long refl))
+line_stops NoMemory stop text file number count is long = subst
+    (λ s. StopsFor (FirstStops s count (numbered file.0 number (text_lines text))) s) (sym is) tt
 
 pub line_reads : (fault : LineFault) (stop : Stop) (file : FileId) → stop ≡ stop_for fault file → StopsReading stop
 line_reads Read stop file is = subst StopsReading (sym is) tt
@@ -86,8 +100,10 @@ line_names Read stop file is = subst (NamesFile file) (sym is) refl
 line_names TooLong stop file is = subst (NamesFile file) (sym is) refl
 line_names NoMemory stop file is = subst (NamesFile file) (sym is) tt
 
-pub first_passes : (stop : Stop) (taken : Taken) (old new bytes : List ℕ) (file number : ℕ) (count : Count) → taken ≢ Ended → Takes old taken bytes new
-    → length bytes ≤ LINE_LENGTH → stop ≡ TooMuchText → (count.lines ≡ LINES) ⊎ (BYTES < count.bytes + (length bytes + newline_bytes taken))
+pub first_passes : (stop : Stop) (taken : Taken) (old new bytes : List ℕ) (file number : ℕ) (count : Count) →
+    taken ≢ Ended → Takes old taken bytes new
+    → length bytes ≤ LINE_LENGTH → stop ≡ TooMuchText → (count.lines ≡ LINES)
+        ⊎ (BYTES < count.bytes + (length bytes + newline_bytes taken))
     → StopsFor (FirstStops stop count (numbered file number (text_lines old))) stop
 first_passes stop taken old new bytes file number count not takes short is passes =
     subst (λ s. StopsFor (FirstStops s count (numbered file number (text_lines old))) s) (sym is) (record {
@@ -98,16 +114,20 @@ first_passes stop taken old new bytes file number count not takes short is passe
     })
 
 -- the last byte of a front, where it is a blank, and where it is another
-pub trims_more : (xs : List ℕ) (n : ℕ) → n < length xs → is_blank (get_or xs n 0) ≡ true → trimmed (take n xs) ≡ trimmed (take (n + 1) xs)
-trims_more xs n within blank = sym (ap trimmed (take_more xs n 0 within) ∙ trimmed-blank (take n xs) (get_or xs n 0) blank)
+pub trims_more : (xs : List ℕ) (n : ℕ) → n < length xs → is_blank (get_or xs n 0) ≡ true →
+    trimmed (take n xs) ≡ trimmed (take (n + 1) xs)
+trims_more xs n within blank = sym (ap trimmed (take_more xs n 0 within)
+    ∙ trimmed-blank (take n xs) (get_or xs n 0) blank)
 
-pub trims_all : (xs : List ℕ) (n : ℕ) → n < length xs → is_blank (get_or xs n 0) ≡ false → trimmed (take (n + 1) xs) ≡ take (n + 1) xs
+pub trims_all : (xs : List ℕ) (n : ℕ) → n < length xs → is_blank (get_or xs n 0) ≡ false →
+    trimmed (take (n + 1) xs) ≡ take (n + 1) xs
 trims_all xs n within other =
     let split = take_more xs n 0 within in
     ap trimmed split ∙ trimmed-byte (take n xs) (get_or xs n 0) other ∙ sym split
 
 pub before_blanks-clean : (b : ℕ) (xs : List ℕ) → b ≢ 10 → HasNoNewline xs → HasNoNewline (before_blanks b xs)
-before_blanks-clean b [] other clean = elim (is_blank b) as (λ v. HasNoNewline (cond v [] (b ∷ []))) [ true ↦ tt | false ↦ (other, tt) ]
+before_blanks-clean b [] other clean = elim (is_blank b) as (λ v. HasNoNewline (cond v [] (b ∷ [])))
+    [ true ↦ tt | false ↦ (other, tt) ]
 before_blanks-clean b (x ∷ xs) other clean = (other, clean)
 
 -- a line without its last blanks has no newline either
@@ -116,7 +136,8 @@ trimmed-clean [] clean = tt
 trimmed-clean (b ∷ xs) clean = before_blanks-clean b (trimmed xs) clean.0 (trimmed-clean xs clean.1)
 
 before_blanks-length : (b : ℕ) (xs : List ℕ) → length (before_blanks b xs) ≤ 1 + length xs
-before_blanks-length b [] = elim (is_blank b) as (λ v. length (cond v [] (b ∷ [])) ≤ 1 + 0) [ true ↦ omega arith | false ↦ omega arith ]
+before_blanks-length b [] = elim (is_blank b) as (λ v. length (cond v [] (b ∷ [])) ≤ 1 + 0)
+    [ true ↦ omega arith | false ↦ omega arith ]
 before_blanks-length b (x ∷ xs) = omega arith
 
 pub trimmed-length : (xs : List ℕ) → length (trimmed xs) ≤ length xs
@@ -132,19 +153,24 @@ IsLine Last = Unit {0}
 IsLine Full = Unit {0}
 
 -- a whole line of a piece, in front of what is to be read
-pub whole_takes : (old new rest rest' bytes : List ℕ) (size : ℕ) → TakesWhole old bytes size new → rest ≡ rest' → TakesTrimmed (old ++ rest) (Some size) bytes (new ++ rest')
+pub whole_takes : (old new rest rest' bytes : List ℕ) (size : ℕ) → TakesWhole old bytes size new → rest ≡ rest' →
+    TakesTrimmed (old ++ rest) (Some size) bytes (new ++ rest')
 whole_takes old new rest rest' bytes size takes same = record {
   taken = Full;
   raw = takes.raw;
   some = λ is. subst IsLine is tt;
-  takes = (ap (λ (l : List ℕ). l ++ rest) takes.whole ∙ append_assoc takes.raw (10 ∷ new) rest ∙ ap (λ (l : List ℕ). takes.raw ++ 10 ∷ (new ++ l)) same, takes.clean);
+  takes = (ap (λ (l : List ℕ). l ++ rest) takes.whole ∙ append_assoc takes.raw (10 ∷ new) rest
+      ∙ ap (λ (l : List ℕ). takes.raw ++ 10 ∷ (new ++ l)) same, takes.clean);
   short = takes.short;
   bytes_are = takes.bytes_are;
   size_is = takes.size_is;
 }
 
 pub whole_line-one : (old bytes : List ℕ) (size : ℕ) (new : List ℕ) → TakesWhole old bytes size new → IsOneLine bytes
-whole_line-one old bytes size new takes = subst IsOneLine (sym takes.bytes_are) (trimmed-line takes.raw takes.clean takes.short)
+whole_line-one old bytes size new takes = subst IsOneLine (sym takes.bytes_are)
+    (trimmed-line takes.raw takes.clean takes.short)
 
-pub whole_line-gains : (old bytes : List ℕ) (size : ℕ) (new : List ℕ) → TakesWhole old bytes size new → length bytes ≤ size
-whole_line-gains old bytes size new takes = omega (arith, ap (λ (l : List ℕ). length l) takes.bytes_are, trimmed-length takes.raw, takes.size_is)
+pub whole_line-gains : (old bytes : List ℕ) (size : ℕ) (new : List ℕ) → TakesWhole old bytes size new →
+    length bytes ≤ size
+whole_line-gains old bytes size new takes = omega (arith, ap (λ (l : List ℕ). length l) takes.bytes_are,
+    trimmed-length takes.raw, takes.size_is)

@@ -16,15 +16,19 @@ use Rattle.cweb_lines.specs.declared.stop.Stop.TheVariants.{ReadFault, LineTooLo
 use Rattle.cweb_lines.proofs.Keeps.{place_told, writes_then}
 use Rattle.cweb_lines.proofs.Merges.{given-append, told-append, openings-append, gives_nothing, gives_both, behind_both}
 
-pub given_front : (lines : List Line) (old new : SoFar) (all later : List Event) → Gives lines old new all later → given_lines all ≡ lines ++ given_lines later
-given_front lines old new all later gives = ap given_lines gives.whole ∙ given-append gives.events later ∙ ap (λ (ls : List Line). ls ++ given_lines later) gives.given
+pub given_front : (lines : List Line) (old new : SoFar) (all later : List Event) → Gives lines old new all later →
+    given_lines all ≡ lines ++ given_lines later
+given_front lines old new all later gives = ap given_lines gives.whole ∙ given-append gives.events later
+    ∙ ap (λ (ls : List Line). ls ++ given_lines later) gives.given
 
 -- all came: the lines that were given out are all lines
-pub gives_all : (lines : List Line) (old new : SoFar) (all later : List Event) → Gives lines old new all later → later ≡ [] → Gives (given_lines all) old new all []
+pub gives_all : (lines : List Line) (old new : SoFar) (all later : List Event) → Gives lines old new all later →
+    later ≡ [] → Gives (given_lines all) old new all []
 gives_all lines old new all later gives none = record {
   events = gives.events;
   whole = gives.whole ∙ ap (λ (es : List Event). gives.events ++ es) none;
-  given = gives.given ∙ sym (given_front lines old new all later gives ∙ ap (λ (es : List Event). lines ++ given_lines es) none ∙ append-nil lines);
+  given = gives.given ∙ sym (given_front lines old new all later gives
+      ∙ ap (λ (es : List Event). lines ++ given_lines es) none ∙ append-nil lines);
   faults = gives.faults;
   names = gives.names;
   lines_are = gives.lines_are;
@@ -34,24 +38,31 @@ gives_all lines old new all later gives none = record {
 
 pub text_of-append : (a b : List Line) → text_of (a ++ b) ≡ text_of a ++ text_of b
 text_of-append [] b = refl
-text_of-append (line ∷ a) b = ap (λ (t : List ℕ). line.bytes ++ 10 ∷ t) (text_of-append a b) ∙ sym (append_assoc line.bytes (10 ∷ text_of a) (text_of b))
+text_of-append (line ∷ a) b = ap (λ (t : List ℕ). line.bytes ++ 10 ∷ t) (text_of-append a b)
+    ∙ sym (append_assoc line.bytes (10 ∷ text_of a) (text_of b))
 
 some_lines : (lines : List Line) → 0 < length (text_of lines) → 0 < length lines
 some_lines [] some = some
 some_lines (line ∷ lines) some = omega arith
 
--- a front of the text of all lines, where they are lines that were written, lines of which a front was written, and lines that follow
-pub front_of_all : (all done gathered now : List Line) (old mid new piece : List ℕ) → all ≡ done ++ (gathered ++ now) → mid ≡ old ++ text_of done → piece ≡ text_of gathered
+-- a front of the text of all lines, where they are lines that were written, lines of which a front was written, and
+-- lines that follow
+pub front_of_all : (all done gathered now : List Line) (old mid new piece : List ℕ) → all ≡ done ++ (gathered ++ now) →
+    mid ≡ old ++ text_of done → piece ≡ text_of gathered
     → WritesFront mid new piece → WritesFront old new (text_of all)
 front_of_all all done gathered now old mid new piece whole written is front = record {
   front = text_of done ++ front.front;
   rest = front.rest ++ text_of now;
   written = front.written ∙ ap (λ (t : List ℕ). t ++ front.front) written ∙ append_assoc old (text_of done) front.front;
-  whole = ap text_of whole ∙ text_of-append done (gathered ++ now) ∙ ap (λ (t : List ℕ). text_of done ++ t) (text_of-append gathered now ∙ ap (λ (t : List ℕ). t ++ text_of now) (sym is ∙ front.whole) ∙ append_assoc front.front front.rest (text_of now))
+  whole = ap text_of whole ∙ text_of-append done (gathered ++ now)
+      ∙ ap (λ (t : List ℕ). text_of done ++ t) (text_of-append gathered now
+      ∙ ap (λ (t : List ℕ). t ++ text_of now) (sym is ∙ front.whole)
+      ∙ append_assoc front.front front.rest (text_of now))
       ∙ sym (append_assoc (text_of done) front.front (front.rest ++ text_of now));
 }
 
-pub nothing_yet : {W : Type 0} (sink : Sink W) (w : W) (room : ℕ) (so : SoFar) (all : List Event) → Gathered room so so all all (Writes sink w w) []
+pub nothing_yet : {W : Type 0} (sink : Sink W) (w : W) (room : ℕ) (so : SoFar) (all : List Event) →
+    Gathered room so so all all (Writes sink w w) []
 nothing_yet sink w room so all = record {
   done = [];
   gathered = [];
@@ -61,28 +72,36 @@ nothing_yet sink w room so all = record {
   alone = λ none. refl;
 }
 
-module _ {W : Type 0} (sink : Sink W) (first mid : W) (keeps : KeepsPlace sink first mid) (room : ℕ) (old so : SoFar) (all now : List Event) (piece : List ℕ) (g : Gathered room old so all now (Writes sink first mid) piece) where
+module _ {W : Type 0} (sink : Sink W) (first mid : W) (keeps : KeepsPlace sink first mid) (room : ℕ) (old so : SoFar)
+    (all now : List Event) (piece : List ℕ) (g : Gathered room old so all now (Writes sink first mid) piece) where
   lines_are : given_lines all ≡ g.done ++ (g.gathered ++ given_lines now)
-  lines_are = given_front (g.done ++ g.gathered) old so all now g.gives ∙ append_assoc g.done g.gathered (given_lines now)
+  lines_are = given_front (g.done ++ g.gathered) old so all now g.gives
+      ∙ append_assoc g.done g.gathered (given_lines now)
 
   -- all that was gathered was written
   wrote_all : (new : W) → Writes sink mid new piece → Writes sink first new (text_of (g.done ++ g.gathered))
-  wrote_all new wrote = subst (λ (t : List ℕ). Writes sink first new t) (ap (λ (p : List ℕ). text_of g.done ++ p) g.piece_is ∙ sym (text_of-append g.done g.gathered))
+  wrote_all new wrote = subst (λ (t : List ℕ). Writes sink first new t)
+      (ap (λ (p : List ℕ). text_of g.done ++ p) g.piece_is ∙ sym (text_of-append g.done g.gathered))
       (writes_then sink first mid new (text_of g.done) piece keeps g.wrote wrote)
 
   -- a front of it was
-  pub ends_front : (new : W) → (IsTrue (sink.tells mid) → WritesFront (sink.written mid) (sink.written new) piece) → IsTrue (sink.tells first)
+  pub ends_front : (new : W) → (IsTrue (sink.tells mid) → WritesFront (sink.written mid) (sink.written new) piece) →
+      IsTrue (sink.tells first)
       → WritesFront (sink.written first) (sink.written new) (text_of (given_lines all))
   ends_front new front tells =
-      front_of_all (given_lines all) g.done g.gathered (given_lines now) (sink.written first) (sink.written mid) (sink.written new) piece lines_are (g.wrote tells) g.piece_is (front (place_told sink first mid keeps tells))
+      front_of_all (given_lines all) g.done g.gathered (given_lines now) (sink.written first) (sink.written mid)
+          (sink.written new) piece lines_are (g.wrote tells) g.piece_is (front (place_told sink first mid keeps tells))
 
-  pub ends_whole : (new : W) (so' : SoFar) (later : List Event) → Gives [] so so' now later → later ≡ [] → Writes sink mid new piece → WritesAll old so' all (Writes sink first new)
+  pub ends_whole : (new : W) (so' : SoFar) (later : List Event) → Gives [] so so' now later → later ≡ [] →
+      Writes sink mid new piece → WritesAll old so' all (Writes sink first new)
   ends_whole new so' later next none wrote =
       let gives = gives_both (g.done ++ g.gathered) [] old so so' all now later g.gives next in
       record {
         gives = gives_all ((g.done ++ g.gathered) ++ []) old so' all later gives none;
         wrote = subst (λ (ls : List Line). Writes sink first new (text_of ls))
-            (sym (given_front ((g.done ++ g.gathered) ++ []) old so' all later gives ∙ ap (λ (es : List Event). ((g.done ++ g.gathered) ++ []) ++ given_lines es) none ∙ append-nil ((g.done ++ g.gathered) ++ []) ∙ append-nil (g.done ++ g.gathered)))
+            (sym (given_front ((g.done ++ g.gathered) ++ []) old so' all later gives
+                ∙ ap (λ (es : List Event). ((g.done ++ g.gathered) ++ []) ++ given_lines es) none
+                ∙ append-nil ((g.done ++ g.gathered) ++ []) ∙ append-nil (g.done ++ g.gathered)))
             (wrote_all new wrote);
       }
 
@@ -99,17 +118,21 @@ module _ {W : Type 0} (sink : Sink W) (first mid : W) (keeps : KeepsPlace sink f
     lines = g.done;
     rest = g.gathered ++ given_lines now;
     whole = lines_are;
-    wrote = subst (λ (t : List ℕ). Writes sink first new t) (append-nil (text_of g.done)) (writes_then sink first mid new (text_of g.done) [] keeps g.wrote wrote);
+    wrote = subst (λ (t : List ℕ). Writes sink first new t) (append-nil (text_of g.done))
+        (writes_then sink first mid new (text_of g.done) [] keeps g.wrote wrote);
   }
 
-  up_to : (stop : Stop) (count : Count) (new : W) → StopsBehind [] stop so.count count now → Writes sink mid new piece → WritesUpTo stop old.count count all (Writes sink first new)
+  up_to : (stop : Stop) (count : Count) (new : W) → StopsBehind [] stop so.count count now → Writes sink mid new piece →
+      WritesUpTo stop old.count count all (Writes sink first new)
   up_to stop count new stops wrote = record {
     lines = (g.done ++ g.gathered) ++ [];
     stops = behind_both (g.done ++ g.gathered) [] stop old so count all now g.gives stops;
-    wrote = subst (λ (ls : List Line). Writes sink first new (text_of ls)) (sym (append-nil (g.done ++ g.gathered))) (wrote_all new wrote);
+    wrote = subst (λ (ls : List Line). Writes sink first new (text_of ls)) (sym (append-nil (g.done ++ g.gathered)))
+        (wrote_all new wrote);
   }
 
-  written_by : (stop : Stop) (count : Count) (new : W) → Stopped stop so.count count now → Writes sink mid new piece → StopsWriting stop old.count count all (Writes sink first new)
+  written_by : (stop : Stop) (count : Count) (new : W) → Stopped stop so.count count now → Writes sink mid new piece →
+      StopsWriting stop old.count count all (Writes sink first new)
   written_by (ReadFault file) count new stopped wrote = some_written new wrote
   written_by (LineTooLong file) count new stopped wrote = up_to (LineTooLong file) count new stopped wrote
   written_by TooMuchText count new stopped wrote = up_to TooMuchText count new stopped wrote
@@ -117,28 +140,41 @@ module _ {W : Type 0} (sink : Sink W) (first mid : W) (keeps : KeepsPlace sink f
   written_by stop count new stopped wrote = absurd stopped
 
   -- the merger stopped
-  pub ended_early : (stop result : Stop) (count : Count) (new : W) → Stopped stop so.count count now → WritesRest stop result piece (Writes sink mid new) → StopsWriting result old.count count all (Writes sink first new)
-  ended_early stop result count new stopped (leaves file was is wrote) = subst (λ s. StopsWriting s old.count count all (Writes sink first new)) (sym (is ∙ was)) (done_written new wrote)
-  ended_early stop result count new stopped (writes is wrote) = subst (λ s. StopsWriting s old.count count all (Writes sink first new)) (sym is) (written_by stop count new stopped wrote)
-  ended_early stop result count new stopped (fails is some blame) = subst (λ s. StopsWriting s old.count count all (Writes sink first new)) (sym is) tt
+  pub ended_early : (stop result : Stop) (count : Count) (new : W) → Stopped stop so.count count now →
+      WritesRest stop result piece (Writes sink mid new) → StopsWriting result old.count count all
+      (Writes sink first new)
+  ended_early stop result count new stopped (leaves file was is wrote) =
+      subst (λ s. StopsWriting s old.count count all (Writes sink first new)) (sym (is ∙ was)) (done_written new wrote)
+  ended_early stop result count new stopped (writes is wrote) =
+      subst (λ s. StopsWriting s old.count count all (Writes sink first new)) (sym is)
+      (written_by stop count new stopped wrote)
+  ended_early stop result count new stopped (fails is some blame) =
+      subst (λ s. StopsWriting s old.count count all (Writes sink first new)) (sym is) tt
 
   -- memory was refused for a line that was given out
-  pub halted : (result : Stop) (count : Count) (new : W) → WritesRest Memory result piece (Writes sink mid new) → StopsWriting result old.count count all (Writes sink first new)
+  pub halted : (result : Stop) (count : Count) (new : W) → WritesRest Memory result piece (Writes sink mid new) →
+      StopsWriting result old.count count all (Writes sink first new)
   halted result count new (leaves file was is wrote) = absurd (cc was)
-  halted result count new (writes is wrote) = subst (λ s. StopsWriting s old.count count all (Writes sink first new)) (sym is) (some_written new wrote)
-  halted result count new (fails is some blame) = subst (λ s. StopsWriting s old.count count all (Writes sink first new)) (sym is) tt
+  halted result count new (writes is wrote) = subst (λ s. StopsWriting s old.count count all (Writes sink first new))
+      (sym is) (some_written new wrote)
+  halted result count new (fails is some blame) = subst (λ s. StopsWriting s old.count count all
+      (Writes sink first new)) (sym is) tt
 
   -- nothing more comes, and a write of what was gathered failed
-  pub fails_last : (new : W) (so' : SoFar) (later : List Event) → Gives [] so so' now later → 0 < length piece → IsTrue (sink.tells first)
-      → (IsTrue (sink.tells mid) → WritesFront (sink.written mid) (sink.written new) piece) → FailsAmong room old so' all later (sink.written first) (sink.written new)
+  pub fails_last : (new : W) (so' : SoFar) (later : List Event) → Gives [] so so' now later → 0 < length piece →
+      IsTrue (sink.tells first)
+      → (IsTrue (sink.tells mid) → WritesFront (sink.written mid) (sink.written new) piece) →
+          FailsAmong room old so' all later (sink.written first) (sink.written new)
   fails_last new so' later next some tells front =
       let more = some_lines g.gathered (subst (λ (t : List ℕ). 0 < length t) g.piece_is some) in
       record {
         done = g.done;
         gathered = g.gathered;
-        gives = subst (λ (ls : List Line). Gives ls old so' all later) (append-nil (g.done ++ g.gathered)) (gives_both (g.done ++ g.gathered) [] old so so' all now later g.gives next);
+        gives = subst (λ (ls : List Line). Gives ls old so' all later) (append-nil (g.done ++ g.gathered))
+            (gives_both (g.done ++ g.gathered) [] old so so' all now later g.gives next);
         front = subst (λ (m : List ℕ). WritesFront m (sink.written new) (text_of g.gathered)) (g.wrote tells)
-            (subst (λ (p : List ℕ). WritesFront (sink.written mid) (sink.written new) p) g.piece_is (front (place_told sink first mid keeps tells)));
+            (subst (λ (p : List ℕ). WritesFront (sink.written mid) (sink.written new) p) g.piece_is
+                (front (place_told sink first mid keeps tells)));
         some = more;
         alone = λ none. absurd (omega (arith, more, ap (λ (ls : List Line). length ls) (g.alone none)));
       }
@@ -159,21 +195,27 @@ reads_or_writes Memory reading = tt
 reads_or_writes stop reading = absurd reading
 
 -- where nothing was gathered, no write fails behind a stop
-pub none_fails : (stop result : Stop) (piece : List ℕ) (Wrote : List ℕ → Type 0) → WritesRest stop result piece Wrote → StopsReading stop → piece ≡ [] → result ≡ WriteFault → ⊥
-none_fails stop result piece Wrote (leaves file was is wrote) reading none fault = subst StopsReading (sym is ∙ fault) reading
+pub none_fails : (stop result : Stop) (piece : List ℕ) (Wrote : List ℕ → Type 0) → WritesRest stop result piece Wrote →
+    StopsReading stop → piece ≡ [] → result ≡ WriteFault → ⊥
+none_fails stop result piece Wrote (leaves file was is wrote) reading none fault =
+    subst StopsReading (sym is ∙ fault) reading
 none_fails stop result piece Wrote (writes is wrote) reading none fault = subst StopsReading (sym is ∙ fault) reading
-none_fails stop result piece Wrote (fails is some blame) reading none fault = omega (arith, some, ap (λ (p : List ℕ). length p) none)
+none_fails stop result piece Wrote (fails is some blame) reading none fault =
+    omega (arith, some, ap (λ (p : List ℕ). length p) none)
 
 -- the file that the end of a run names is the one of the stop
-pub names_rest : (stop result : Stop) (piece : List ℕ) (Wrote : List ℕ → Type 0) (files : ℕ) → WritesRest stop result piece Wrote → files_named stop ≤ files → files_named result ≤ files
+pub names_rest : (stop result : Stop) (piece : List ℕ) (Wrote : List ℕ → Type 0) (files : ℕ) →
+    WritesRest stop result piece Wrote → files_named stop ≤ files → files_named result ≤ files
 names_rest stop result piece Wrote files (leaves file was is wrote) named = omega (arith, ap files_named is, named)
 names_rest stop result piece Wrote files (writes is wrote) named = omega (arith, ap files_named is, named)
 names_rest stop result piece Wrote files (fails is some blame) named = omega (arith, ap files_named is)
 
 -- what the end of a run whose merger stopped leaves over all devices
-pub blamed : (room : ℕ) (stop result : Stop) (piece : List ℕ) (Wrote : List ℕ → Type 0) (kept : Option Stop) (files : ℕ) (before after : Failed) → WritesRest stop result piece Wrote
+pub blamed : (room : ℕ) (stop result : Stop) (piece : List ℕ) (Wrote : List ℕ → Type 0) (kept : Option Stop) (files : ℕ)
+    (before after : Failed) → WritesRest stop result piece Wrote
     → StopsReading stop → kept ≡ Some stop → files_named stop ≤ files → (room ≡ 0 → piece ≡ [])
-    → after.shelf ≡ before.shelf + read_blame stop → after.out ≡ before.out + write_blame result → Blames room result before after kept files
+    → after.shelf ≡ before.shelf + read_blame stop → after.out ≡ before.out + write_blame result →
+        Blames room result before after kept files
 blamed room stop result piece Wrote kept files before after rest reading keeps named empty shelf out = by rest
   where
     goes_on : room ≡ 0 → result ≡ WriteFault → kept ≡ None
@@ -205,7 +247,8 @@ blamed room stop result piece Wrote kept files before after rest reading keeps n
     }
 
 -- a write failed, and the merger goes on
-pub blames_write : (room : ℕ) (result : Stop) (kept : Option Stop) (files : ℕ) (before after : Failed) → result ≡ WriteFault → kept ≡ None
+pub blames_write : (room : ℕ) (result : Stop) (kept : Option Stop) (files : ℕ) (before after : Failed) →
+    result ≡ WriteFault → kept ≡ None
     → after.shelf ≡ before.shelf → after.out ≡ before.out + 1 → Blames room result before after kept files
 blames_write room result kept files before after is running shelf out = record {
   kind = subst WritingStops (sym is) tt;
@@ -217,21 +260,28 @@ blames_write room result kept files before after is running shelf out = record {
   after_write = λ fault. subst (λ o. IfSome o (λ own. IsOwnStop own files)) (sym running) tt;
 }
 
-pub write_failed : (result : Stop) (old now : Count) (all : List Event) (Wrote : List ℕ → Type 0) → result ≡ WriteFault → StopsWriting result old now all Wrote
+pub write_failed : (result : Stop) (old now : Count) (all : List Event) (Wrote : List ℕ → Type 0) →
+    result ≡ WriteFault → StopsWriting result old now all Wrote
 write_failed result old now all Wrote is = subst (λ s. StopsWriting s old now all Wrote) (sym is) tt
 
 -- what was told is a front of all that is to be told
-pub tells_some : (lines : List Line) (old new : SoFar) (all later : List Event) → Gives lines old new all later → TellsFront old new all
-tells_some lines old new all later gives = record { events = gives.events; later = later; whole = gives.whole; faults = gives.faults; names = gives.names }
+pub tells_some : (lines : List Line) (old new : SoFar) (all later : List Event) → Gives lines old new all later →
+    TellsFront old new all
+tells_some lines old new all later gives = record { events = gives.events; later = later; whole = gives.whole; faults =
+    gives.faults; names = gives.names }
 
-pub tells_more : (lines : List Line) (old mid new : SoFar) (all now : List Event) → Gives lines old mid all now → TellsFront mid new now → TellsFront old new all
+pub tells_more : (lines : List Line) (old mid new : SoFar) (all now : List Event) → Gives lines old mid all now →
+    TellsFront mid new now → TellsFront old new all
 tells_more lines old mid new all now gives front = record {
   events = gives.events ++ front.events;
   later = front.later;
-  whole = gives.whole ∙ ap (λ (es : List Event). gives.events ++ es) front.whole ∙ sym (append_assoc gives.events front.events front.later);
-  faults = front.faults ∙ ap (λ (fs : List SourceFault). fs ++ told_faults front.events) gives.faults ∙ append_assoc old.faults (told_faults gives.events) (told_faults front.events)
+  whole = gives.whole ∙ ap (λ (es : List Event). gives.events ++ es) front.whole
+      ∙ sym (append_assoc gives.events front.events front.later);
+  faults = front.faults ∙ ap (λ (fs : List SourceFault). fs ++ told_faults front.events) gives.faults
+      ∙ append_assoc old.faults (told_faults gives.events) (told_faults front.events)
       ∙ ap (λ (fs : List SourceFault). old.faults ++ fs) (sym (told-append gives.events front.events));
-  names = front.names ∙ ap (λ (ns : List (List ℕ)). ns ++ openings front.events) gives.names ∙ append_assoc old.names (openings gives.events) (openings front.events)
+  names = front.names ∙ ap (λ (ns : List (List ℕ)). ns ++ openings front.events) gives.names
+      ∙ append_assoc old.names (openings gives.events) (openings front.events)
       ∙ ap (λ (ns : List (List ℕ)). old.names ++ ns) (sym (openings-append gives.events front.events));
 }
 

@@ -16,7 +16,8 @@ use Rattle.cweb_lines.specs.declared.text.stack.Stack.{Stack}
 
 -- What was taken is one line, it is counted, and its file is among those that were opened. A stop is one that reading
 -- comes to, and the file that it names is among them too.
-pub record AnswersLine (files : ℕ) (before after : Count) (bytes : List ℕ) (result : Result (Option LineAt) Stop) : Type 0 where
+pub record AnswersLine (files : ℕ) (before after : Count) (bytes : List ℕ)
+    (result : Result (Option LineAt) Stop) : Type 0 where
   pub counted : Counted before after result
   pub line : IfOk result (λ at. OnSome at (IsOneLine bytes))
   pub gains : IfOk result (λ at. OnSome at (before.bytes + length bytes ≤ after.bytes))
@@ -24,7 +25,8 @@ pub record AnswersLine (files : ℕ) (before after : Count) (bytes : List ℕ) (
   pub reading : IfErr result (λ stop. StopsReading stop)
 
 -- The text of which a line is taken stays the same file, as deep as it was, and its lines are numbered on.
-pub record KeepsText {R : Type 0} (old new : Option (OpenText R)) (before after : Count) (result : Result (Option LineAt) Stop) : Type 0 where
+pub record KeepsText {R : Type 0} (old new : Option (OpenText R)) (before after : Count)
+    (result : Result (Option LineAt) Stop) : Type 0 where
   pub number : number_of line_number new ≤ after.lines
   pub more : before.lines ≤ after.lines
   pub file : number_of files_up_to new ≡ number_of files_up_to old
@@ -47,7 +49,8 @@ pub record ClosesTop {R : Type 0} (old new : Stack R) (result : Result (Option L
   pub deeper : IfOk result (λ at. IfSome at (λ a. new.depth ≤ a.depth))
 
 -- Texts above a low place alone are closed: all of them where none has a line.
-pub record ClosesAbove {R : Type 0} (place : ℕ) (old new : Stack R) (result : Result (Option LineAt) Stop) : Type 0 where
+pub record ClosesAbove {R : Type 0} (place : ℕ) (old new : Stack R)
+    (result : Result (Option LineAt) Stop) : Type 0 where
   pub low : place ≤ new.depth
   pub shallow : new.depth ≤ old.depth
   pub ended : result ≡ Ok None → new.depth ≡ place
@@ -77,7 +80,8 @@ pub record GoesOn {R A : Type 0} (old new : Run R) (result : Result A Stop) : Ty
   pub reading : IfErr result (λ stop. StopsReading stop)
   pub named : IfErr result (λ stop. files_named stop ≤ length (names_of new.names))
 
--- The next entry is sought: lines are taken of the change file alone, and where an entry or its end is found, fewer turns
+-- The next entry is sought: lines are taken of the change file alone, and where an entry or its end is found, fewer
+-- turns
 -- are left.
 pub record OnlySeeks {R A : Type 0} (old new : Run R) (result : Result A Stop) : Type 0 where
   pub longer : old.limits.bytes ≤ new.limits.bytes

@@ -100,7 +100,8 @@ abbrev pub is_too_deep : SourceKind → Bool
 is_too_deep TooDeep = true
 is_too_deep _ = false
 
--- The merged lines of an included text are those that it has as a web of its own, where no include line lies too deep for
+-- The merged lines of an included text are those that it has as a web of its own, where no include line lies too deep
+-- for
 -- that it is included: only its files are numbered from its own number on.
 abbrev pub IncludedTextsMergeAsWebs : Type 0
 IncludedTextsMergeAsWebs = (world : World) (deeper file : ℕ) (text : List ℕ) →

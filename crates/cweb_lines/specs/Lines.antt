@@ -3,7 +3,8 @@ use Rattle.std.specs.Prelude.{◌≡◌, ◌≢◌, ℕ, zero, suc, ◌+◌, ◌
 use Rattle.cweb_files.specs.declared.place.Place.{Place}
 use Rattle.cweb_lines.specs.declared.limits.TheConstants.{LINE_LENGTH}
 
--- a line as it is cut from its text: its bytes without the newline, and how many bytes it takes with the newline that it may have
+-- a line as it is cut from its text: its bytes without the newline, and how many bytes it takes with the newline that
+-- it may have
 pub record TextLine : Type 0 where
   pub bytes : List ℕ
   pub size : ℕ

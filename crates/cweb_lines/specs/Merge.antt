@@ -19,14 +19,16 @@ pub record RawLine : Type 0 where
   -- whether it may match a change entry
   pub may_match : Bool
 
--- what is still to come: a search for an entry, a raw line, a fault that the new lines of a change bring, a code line to pass over
+-- what is still to come: a search for an entry, a raw line, a fault that the new lines of a change bring, a code line
+-- to pass over
 pub data Thing : Type 0 where
   seek : Thing
   raw : RawLine → Thing
   told : SourceFault → Thing
   passed : SourceLine → Thing
 
--- what comes out: a line is taken from its file, a merged line is given out, a fault is told, a file is opened under a name
+-- what comes out: a line is taken from its file, a merged line is given out, a fault is told, a file is opened under a
+-- name
 pub data Event : Type 0 where
   took : SourceLine → Event
   given : Line → Event
@@ -57,9 +59,12 @@ new_things things side = record { things = things ++ side.things; rest = side.re
 
 -- a new line may not match; an @x or @y among them is a fault, and skipped
 abbrev pub new_at : Option Code → ℕ → SourceLine → List SourceLine → NewSide → NewSide
-new_at None depth line lines later = new_things (raw (record { source = line; depth = depth; may_match = false }) ∷ []) later
-new_at (Some old_side) depth line lines later = new_things (passed line ∷ told (at_place WantsZ line.line.place) ∷ []) later
-new_at (Some new_side) depth line lines later = new_things (passed line ∷ told (at_place WantsZ line.line.place) ∷ []) later
+new_at None depth line lines later = new_things (raw (record { source = line; depth = depth; may_match = false }) ∷ [])
+    later
+new_at (Some old_side) depth line lines later = new_things (passed line ∷ told (at_place WantsZ line.line.place) ∷ [])
+    later
+new_at (Some new_side) depth line lines later = new_things (passed line ∷ told (at_place WantsZ line.line.place) ∷ [])
+    later
 new_at (Some end_side) depth line lines later = record { things = passed line ∷ []; rest = lines }
 
 abbrev pub new_lines : ℕ → Place → List SourceLine → NewSide
@@ -102,10 +107,12 @@ fault_if b f = if b then fault f ∷ [] else []
 abbrev pub change_events : Entry → OldSide → Compared → List Event
 change_events entry old by =
     map took old.taken ++ map took by.taken
-    ++ map fault old.faults ++ fault_if old.ended (at_place EndedBeforeY entry.begin) ++ fault_if by.ran_out (at_place WebEnded entry.begin)
+    ++ map fault old.faults ++ fault_if old.ended (at_place EndedBeforeY entry.begin)
+        ++ fault_if by.ran_out (at_place WebEnded entry.begin)
     ++ fault_if (nat_lt 0 by.unequal) (record { kind = Unequal; place = entry.begin; count = by.unequal })
 
--- behind the old side: the new lines come in front of the rest, then the next entry is sought; where the change file has ended, neither
+-- behind the old side: the new lines come in front of the rest, then the next entry is sought; where the change file
+-- has ended, neither
 abbrev pub after_old : Bool → ℕ → ℕ → Entry → OldSide → List Thing → State
 after_old true files depth entry old rest = record { things = rest; pending = None; change = []; files = files }
 after_old false files depth entry old rest =
@@ -122,7 +129,8 @@ changed s entry r things =
 abbrev pub past : State → List Thing → State
 past s things = record { things = things; pending = s.pending; change = s.change; files = s.files }
 
--- an include line whose text was sought: the lines of the text come in front, one deeper, and may match where the include line may
+-- an include line whose text was sought: the lines of the text come in front, one deeper, and may match where the
+-- include line may
 abbrev pub obeyed : Option Found → State → RawLine → List Thing → Next
 obeyed None s r things = (fault (at_place NotThere r.source.line.place) ∷ [], past s things)
 obeyed (Some found) s r things = (
@@ -139,7 +147,8 @@ abbrev pub opened : Bool → World → List ℕ → State → RawLine → List T
 opened false world name s r things = (fault (at_place TooDeep r.source.line.place) ∷ [], past s things)
 opened true world name s r things = obeyed (found_at world name) s r things
 
--- an include line is dropped with a fault where it gives no name, where no more files may be open, or where no text is there
+-- an include line is dropped with a fault where it gives no name, where no more files may be open, or where no text is
+-- there
 abbrev pub included : List ℕ → World → State → RawLine → List Thing → Next
 included [] world s r things = (fault (at_place NoName r.source.line.place) ∷ [], past s things)
 included (b ∷ bs) world s r things = opened (nat_lt r.depth OPEN_FILES) world (b ∷ bs) s r things
@@ -156,21 +165,24 @@ at_entry false entry world s r things = plain (is_include r.source.line.bytes) w
 -- the first old line is compared before an include line is obeyed
 abbrev pub at_raw : Option Entry → World → State → RawLine → List Thing → Next
 at_raw None world s r things = plain (is_include r.source.line.bytes) world s r things
-at_raw (Some entry) world s r things = at_entry (r.may_match && bytes_eq r.source.line.bytes entry.first) entry world s r things
+at_raw (Some entry) world s r things = at_entry (r.may_match && bytes_eq r.source.line.bytes entry.first) entry world s
+    r things
 
 abbrev pub taking : SourceLine → Next → Next
 taking line next = (took line ∷ next.0, next.1)
 
 abbrev pub at_end : Option Entry → State → Option Next
 at_end None s = None
-at_end (Some entry) s = Some (fault (at_place NoMatch entry.begin) ∷ [], record { things = []; pending = None; change = s.change; files = s.files })
+at_end (Some entry) s = Some (fault (at_place NoMatch entry.begin) ∷ [],
+    record { things = []; pending = None; change = s.change; files = s.files })
 
 -- the first thing to come decides; there is no step where nothing is to come
 abbrev pub step_at : List Thing → World → State → Option Next
 step_at [] world s = at_end s.pending s
 step_at (seek ∷ things) world s =
     let found = sought s.change None in
-    Some (map took found.taken ++ map fault found.faults, record { things = things; pending = found.entry; change = found.rest; files = s.files })
+    Some (map took found.taken ++ map fault found.faults, record { things = things; pending = found.entry; change =
+        found.rest; files = s.files })
 step_at (raw r ∷ things) world s = Some (taking r.source (at_raw s.pending world s r things))
 step_at (told f ∷ things) world s = Some (fault f ∷ [], past s things)
 step_at (passed line ∷ things) world s = Some (took line ∷ [], past s things)
@@ -194,4 +206,5 @@ run (suc n) world s = then_run (step world s) (λ next. run n world next)
 -- The merge begins with the web's lines. Where there is a change file, its first entry is sought before them.
 abbrev pub started : List ℕ → Option (List ℕ) → State
 started web None = record { things = raws 1 true (lines_in 0 web); pending = None; change = []; files = 1 }
-started web (Some change) = record { things = seek ∷ raws 1 true (lines_in 0 web); pending = None; change = lines_in 1 change; files = 2 }
+started web (Some change) = record { things = seek ∷ raws 1 true (lines_in 0 web); pending = None; change =
+    lines_in 1 change; files = 2 }

@@ -35,7 +35,8 @@ pub record KeepsTold (old new : SoFar) : Type 0 where
   pub faults : IsFront old.faults new.faults
   pub names : IsFront old.names new.names
 
--- some of all that is to come comes: these lines are given out, and faults, openings and lines taken add to what came so far
+-- some of all that is to come comes: these lines are given out, and faults, openings and lines taken add to what came
+-- so far
 pub record Gives (lines : List Line) (old new : SoFar) (all later : List Event) : Type 0 where
   pub events : List Event
   pub whole : all ≡ events ++ later
@@ -55,7 +56,8 @@ pub record TellsFront (old new : SoFar) (all : List Event) : Type 0 where
   pub names : new.names ≡ old.names ++ openings events
 
 -- the same behind a line that is counted already
-pub record GivesBehind (source : SourceLine) (lines : List Line) (old new : SoFar) (all later : List Event) : Type 0 where
+pub record GivesBehind (source : SourceLine) (lines : List Line) (old new : SoFar)
+    (all later : List Event) : Type 0 where
   pub rest : List Event
   pub first : all ≡ took source ∷ rest
   pub gives : Gives lines old new rest later
@@ -102,8 +104,10 @@ abbrev pub coming : {R : Type 0} → (List ℕ → Option (List ℕ)) → (R →
 coming texts left run = merge (world_in texts run.inputs) (state_of left run (things_of left run))
 
 -- the same with a line in front, which was taken
-abbrev pub coming_after : {R : Type 0} → (List ℕ → Option (List ℕ)) → (R → List ℕ) → Run R → LineAt → SourceLine → List Event
-coming_after texts left run at source = merge (world_in texts run.inputs) (state_of left run (raw_at at source ∷ things_of left run))
+abbrev pub coming_after : {R : Type 0} → (List ℕ → Option (List ℕ)) → (R → List ℕ) → Run R → LineAt → SourceLine →
+    List Event
+coming_after texts left run at source = merge (world_in texts run.inputs)
+    (state_of left run (raw_at at source ∷ things_of left run))
 
 -- faults that were told and lines that were taken are counted
 pub record Adds (faults : List SourceFault) (lines : List SourceLine) (old new : SoFar) : Type 0 where

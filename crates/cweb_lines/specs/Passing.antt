@@ -15,8 +15,10 @@ use Rattle.cweb_lines.specs.declared.text.stack.Stack.{Stack}
 use Rattle.cweb_lines.specs.declared.text.LineAt.{LineAt}
 use Rattle.cweb_lines.specs.declared.text.OpenText.{OpenText}
 
--- a whole line is counted and stands behind what was gathered; it is no include line, and the entry that waits does not begin with it
-pub record PassesWhole (entry : Option Entry) (may_match : Bool) (old new : List ℕ) (before after : Count) (piece more : List ℕ) : Type 0 where
+-- a whole line is counted and stands behind what was gathered; it is no include line, and the entry that waits does not
+-- begin with it
+pub record PassesWhole (entry : Option Entry) (may_match : Bool) (old new : List ℕ) (before after : Count)
+    (piece more : List ℕ) : Type 0 where
   pub bytes : List ℕ
   pub size : ℕ
   pub takes : TakesWhole old bytes size new
@@ -27,7 +29,8 @@ pub record PassesWhole (entry : Option Entry) (may_match : Bool) (old new : List
   pub bytes_are : after.bytes ≡ before.bytes + size
 
 -- the same of the first line that an open text has left
-pub record PassesText {R : Type 0} (entry : Option Entry) (old new : Option (OpenText R)) (before after : Count) (piece more : List ℕ) : Type 0 where
+pub record PassesText {R : Type 0} (entry : Option Entry) (old new : Option (OpenText R)) (before after : Count)
+    (piece more : List ℕ) : Type 0 where
   pub at : LineAt
   pub bytes : List ℕ
   pub takes : (left : R → List ℕ) → TakesLine (lines_at left old) (Some at) bytes (lines_at left new) before after
@@ -48,10 +51,12 @@ pub record KeepsLevel {R : Type 0} (old new : Option (OpenText R)) : Type 0 wher
       → IsNamed opened_as names new
 
 -- the same of the first line that the texts have left
-pub record PassesTop {R : Type 0} (entry : Option Entry) (old new : Stack R) (before after : Count) (piece more : List ℕ) : Type 0 where
+pub record PassesTop {R : Type 0} (entry : Option Entry) (old new : Stack R) (before after : Count)
+    (piece more : List ℕ) : Type 0 where
   pub at : LineAt
   pub bytes : List ℕ
-  pub takes : (left : R → List ℕ) (low : ℕ) → low < old.depth → TakesAbove left left low old new (Some at) bytes before after
+  pub takes : (left : R → List ℕ) (low : ℕ) → low < old.depth →
+      TakesAbove left left low old new (Some at) bytes before after
   pub plain : is_include bytes ≡ false
   pub unbegun : begun_by entry at.may_match bytes ≡ None
   pub gathered : more ≡ piece ++ bytes ++ 10 ∷ []
@@ -60,7 +65,8 @@ pub record PassesTop {R : Type 0} (entry : Option Entry) (old new : Stack R) (be
 -- lines are given out and stand behind what was gathered, whatever the shelf; no file is opened
 pub record PassesLines {R : Type 0} (old new : Run R) (piece more : List ℕ) : Type 0 where
   pub lines : List Line
-  pub gives : (texts : List ℕ → Option (List ℕ)) (left : R → List ℕ) → Gives lines (told_by old) (told_by new) (coming texts left old) (coming texts left new)
+  pub gives : (texts : List ℕ → Option (List ℕ)) (left : R → List ℕ) →
+      Gives lines (told_by old) (told_by new) (coming texts left old) (coming texts left new)
   pub gathered : more ≡ piece ++ text_of lines
   pub stopped : new.stopped ≡ old.stopped
   pub names : new.names ≡ old.names
@@ -68,7 +74,8 @@ pub record PassesLines {R : Type 0} (old new : Run R) (piece more : List ℕ) : 
   pub readers : (opened_as : R → List ℕ) → AreReadersKnown opened_as old → AreReadersKnown opened_as new
 
 -- Lines that were given out and written, and lines that are gathered: one at least, and no more where there is no room.
-pub record Held (room : ℕ) (old new : SoFar) (all now : List Event) (Wrote : List ℕ → Type 0) (piece : List ℕ) : Type 0 where
+pub record Held (room : ℕ) (old new : SoFar) (all now : List Event) (Wrote : List ℕ → Type 0)
+    (piece : List ℕ) : Type 0 where
   pub done : List Line
   pub gathered : List Line
   pub gives : Gives (done ++ gathered) old new all now

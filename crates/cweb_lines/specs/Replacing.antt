@@ -20,7 +20,8 @@ abbrev pub lines_replaced : List SourceLine → List Thing → List SourceLine
 lines_replaced change things = (old_lines change).taken ++ (taken_away change things).taken
 
 -- an old side has come so far: it began with these change lines and raw lines, and these are left
-pub record Replaces (change : List SourceLine) (things : List Thing) (so_far : Replaced) (change' : List SourceLine) (things' : List Thing) (old new : SoFar) : Type 0 where
+pub record Replaces (change : List SourceLine) (things : List Thing) (so_far : Replaced) (change' : List SourceLine)
+    (things' : List Thing) (old new : SoFar) : Type 0 where
   pub told : List SourceFault
   pub taken : List SourceLine
   pub raw_taken : List SourceLine
@@ -35,7 +36,8 @@ pub record Replaces (change : List SourceLine) (things : List Thing) (so_far : R
   pub adds : Adds told (taken ++ raw_taken) old new
 
 -- an old side has ended: its lines are counted, and the faults among them told
-pub record IsReplaced (change : List SourceLine) (things : List Thing) (so_far : Replaced) (change' : List SourceLine) (things' : List Thing) (old new : SoFar) : Type 0 where
+pub record IsReplaced (change : List SourceLine) (things : List Thing) (so_far : Replaced) (change' : List SourceLine)
+    (things' : List Thing) (old new : SoFar) : Type 0 where
   pub adds : Adds (old_lines change).faults (lines_replaced change things) old new
   pub ended : (old_lines change).ended ≡ so_far.ended
   pub rest : (old_lines change).rest ≡ change'
@@ -44,11 +46,15 @@ pub record IsReplaced (change : List SourceLine) (things : List Thing) (so_far :
   pub raw_rest : (taken_away change things).rest ≡ things'
 
 -- an old line took the next raw line away, where there is one, whatever old lines follow
-pub record Compares (bytes : List ℕ) (before after : Replaced) (things things' : List Thing) (old new : SoFar) : Type 0 where
+pub record Compares (bytes : List ℕ) (before after : Replaced) (things things' : List Thing)
+    (old new : SoFar) : Type 0 where
   pub taken : List SourceLine
-  pub taken_are : (olds : List (List ℕ)) → (compared (bytes ∷ olds) things).taken ≡ taken ++ (compared olds things').taken
-  pub unequal : (olds : List (List ℕ)) → before.unequal + (compared (bytes ∷ olds) things).unequal ≡ after.unequal + (compared olds things').unequal
-  pub ran_out : (olds : List (List ℕ)) → (before.ran_out || (compared (bytes ∷ olds) things).ran_out) ≡ (after.ran_out || (compared olds things').ran_out)
+  pub taken_are : (olds : List (List ℕ)) → (compared (bytes ∷ olds) things).taken ≡ taken
+      ++ (compared olds things').taken
+  pub unequal : (olds : List (List ℕ)) → before.unequal + (compared (bytes ∷ olds) things).unequal
+      ≡ after.unequal + (compared olds things').unequal
+  pub ran_out : (olds : List (List ℕ)) → (before.ran_out || (compared (bytes ∷ olds) things).ran_out)
+      ≡ (after.ran_out || (compared olds things').ran_out)
   pub rest : (olds : List (List ℕ)) → (compared (bytes ∷ olds) things).rest ≡ (compared olds things').rest
   pub adds : Adds [] taken old new
 
@@ -65,10 +71,12 @@ closing_faults begin ended ran_out unequal =
 -- all faults of an old side
 abbrev pub faults_replaced : Place → List SourceLine → List Thing → List SourceFault
 faults_replaced begin change things =
-    (old_lines change).faults ++ closing_faults begin (old_lines change).ended (taken_away change things).ran_out (taken_away change things).unequal
+    (old_lines change).faults ++ closing_faults begin (old_lines change).ended (taken_away change things).ran_out
+        (taken_away change things).unequal
 
 -- a change was begun: its old side is counted, and what is to come is as the definition has it
-pub record IsChanged (begin : Place) (depth : ℕ) (change : List SourceLine) (things : List Thing) (stage : Stage) (change' : List SourceLine) (things' : List Thing) (old new : SoFar) : Type 0 where
+pub record IsChanged (begin : Place) (depth : ℕ) (change : List SourceLine) (things : List Thing) (stage : Stage)
+    (change' : List SourceLine) (things' : List Thing) (old new : SoFar) : Type 0 where
   pub adds : Adds (faults_replaced begin change things) (lines_replaced change things) old new
   pub settled : IsSettled stage
   pub after : (entry : Entry) → entry.begin ≡ begin → (files : ℕ) (first : List ℕ)

@@ -15,7 +15,8 @@ use Rattle.cweb_lines.specs.declared.change.Stage.{Stage}
 
 -- a search behind faults that were told and lines that were taken
 abbrev pub behind : List SourceFault → List SourceLine → Sought → Sought
-behind faults taken found = record { faults = faults ++ found.faults; taken = taken ++ found.taken; entry = found.entry; rest = found.rest }
+behind faults taken found = record { faults = faults ++ found.faults; taken = taken ++ found.taken; entry = found.entry;
+    rest = found.rest }
 
 -- outside an entry: what a code line tells, and where an @x line stands that waits
 abbrev pub told_outside : Option Code → Place → List SourceFault
@@ -34,13 +35,16 @@ begun_outside (Some end_side) place = None
 abbrev pub Looks : Look → Option Place → SourceLine → List SourceLine → List SourceFault → Type 0
 Looks (goes_on next) begin line lines told = sought (line ∷ lines) begin ≡ behind told (line ∷ []) (sought lines next)
 Looks (first_line entry) begin line lines told =
-    sought (line ∷ lines) begin ≡ record { faults = told; taken = line ∷ []; entry = Some (record { begin = entry; first = line.line.bytes }); rest = lines }
+    sought (line ∷ lines) begin ≡ record { faults = told; taken = line ∷ []; entry =
+        Some (record { begin = entry; first = line.line.bytes }); rest = lines }
 
 -- the faults that were told, and what the line came to, whatever follows it
-pub record LooksAt (look : Look) (begin : Option Place) (bytes : List ℕ) (place : Place) (old new : List SourceFault) : Type 0 where
+pub record LooksAt (look : Look) (begin : Option Place) (bytes : List ℕ) (place : Place)
+    (old new : List SourceFault) : Type 0 where
   pub told : List SourceFault
   pub faults : new ≡ old ++ told
-  pub looks : (line : SourceLine) → line.line ≡ record { bytes = bytes; place = place } → (lines : List SourceLine) → Looks look begin line lines told
+  pub looks : (line : SourceLine) → line.line ≡ record { bytes = bytes; place = place } → (lines : List SourceLine) →
+      Looks look begin line lines told
 
 -- some of the faults of a search were told
 pub record ToldFront (all old new : List SourceFault) : Type 0 where
@@ -57,7 +61,8 @@ pub record SeeksTo (all now : Sought) (old new : SoFar) : Type 0 where
   pub adds : Adds told taken old new
 
 -- a search has ended: its faults and lines are counted, and its entry waits, or no entry is left
-pub record Searched (found : Sought) (old new : SoFar) (stage : Stage) (first : List ℕ) (lines : List SourceLine) : Type 0 where
+pub record Searched (found : Sought) (old new : SoFar) (stage : Stage) (first : List ℕ)
+    (lines : List SourceLine) : Type 0 where
   pub adds : Adds found.faults found.taken old new
   pub outside : IsOutside stage
   pub entry : pending_in stage first ≡ found.entry

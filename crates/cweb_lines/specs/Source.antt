@@ -22,7 +22,8 @@ Takes old Full line new = (old ≡ line ++ 10 ∷ new) × HasNoNewline line
 
 -- the next line is longer than this
 abbrev pub IsLongerThan : ℕ → List ℕ → Type 0
-IsLongerThan limit text = (front : List ℕ) × (rest : List ℕ) × (text ≡ front ++ rest) × HasNoNewline front × (limit < length front)
+IsLongerThan limit text = (front : List ℕ) × (rest : List ℕ) × (text ≡ front ++ rest) × HasNoNewline front
+    × (limit < length front)
 
 -- where the newline is, or where the bytes end
 abbrev pub front_end : List ℕ → Option ℕ → ℕ
@@ -38,7 +39,8 @@ Blames before now (Ok x) = now ≡ before
 
 -- what a line takes of a piece: up to a newline, or all of it
 abbrev pub TakesOf : List ℕ → List ℕ → Bool → List ℕ → List ℕ → Type 0
-TakesOf old line true longer new = (front : List ℕ) × HasNoNewline front × (old ≡ front ++ 10 ∷ new) × (longer ≡ line ++ front)
+TakesOf old line true longer new = (front : List ℕ) × HasNoNewline front × (old ≡ front ++ 10 ∷ new)
+    × (longer ≡ line ++ front)
 TakesOf old line false longer new = HasNoNewline old × (longer ≡ line ++ old) × (new ≡ [])
 
 -- a failed read puts the reader's name behind those that were blamed before, and nothing else changes them

@@ -50,14 +50,16 @@ change_in (Changing change) lines = (new_lines change.depth change.begin lines).
 
 -- the new lines, a search for the next entry, and what the texts below have left
 abbrev pub things_below : {R : Type 0} → (R → List ℕ) → Change → List SourceLine → Stack R → List Thing
-things_below left change lines stack = (new_lines change.depth change.begin lines).things ++ seek ∷ things_over left 0 change.below stack.texts []
+things_below left change lines stack = (new_lines change.depth change.begin lines).things
+    ++ seek ∷ things_over left 0 change.below stack.texts []
 
 -- the things that are still to come, by the lines of the change file that were not taken
 abbrev pub things_in : {R : Type 0} → (R → List ℕ) → Stage → List SourceLine → Stack R → List Thing
 things_in left Done lines stack = things_above left 0 stack []
 things_in left Seeking lines stack = seek ∷ things_above left 0 stack []
 things_in left (Waiting begin) lines stack = things_above left 0 stack []
-things_in left (Changing change) lines stack = things_above left change.below stack (things_below left change lines stack)
+things_in left (Changing change) lines stack = things_above left change.below stack
+    (things_below left change lines stack)
 
 -- where the entry has its @x line that a line begins
 abbrev pub begun_by : Option Entry → Bool → List ℕ → Option Place

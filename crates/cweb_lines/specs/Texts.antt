@@ -18,7 +18,8 @@ use Rattle.cweb_lines.specs.declared.text.OpenText.{OpenText}
 
 -- the lines that an open text has left
 abbrev pub lines_left : {R : Type 0} → (R → List ℕ) → OpenText R → List SourceLine
-lines_left left text = numbered text.file.0 (text.line + 1) (text_lines (pending text.source ++ left text.source.reader.value))
+lines_left left text = numbered text.file.0 (text.line + 1) (text_lines
+    (pending text.source ++ left text.source.reader.value))
 
 abbrev pub lines_at : {R : Type 0} → (R → List ℕ) → Option (OpenText R) → List SourceLine
 lines_at left None = []
@@ -116,7 +117,8 @@ things_at left slot = raws (number_of text_depth slot) (matches_at slot) (lines_
 -- the lines of the texts at so many places from a low one on, the deepest text first, in front of other things
 abbrev pub things_over : {R : Type 0} → (R → List ℕ) → ℕ → ℕ → List (Option (OpenText R)) → List Thing → List Thing
 things_over left low zero texts rest = rest
-things_over left low (suc n) texts rest = things_at left (slice_index_or texts (low + n) None) ++ things_over left low n texts rest
+things_over left low (suc n) texts rest = things_at left (slice_index_or texts (low + n) None)
+    ++ things_over left low n texts rest
 
 -- the lines of all open texts above a low place
 abbrev pub things_above : {R : Type 0} → (R → List ℕ) → ℕ → Stack R → List Thing → List Thing
@@ -144,19 +146,25 @@ raw_at at line = raw (record { source = line; depth = at.depth; may_match = at.m
 -- the first thing is taken, or what is left stays
 abbrev pub TakesFirst : List Thing → Option LineAt → List ℕ → List Thing → Count → Count → Type 0
 TakesFirst old None bytes new before after = old ≡ new
-TakesFirst old (Some at) bytes new before after = (took : Took bytes at.place before after) × (old ≡ raw_at at took.line ∷ new)
+TakesFirst old (Some at) bytes new before after = (took : Took bytes at.place before after)
+    × (old ≡ raw_at at took.line ∷ new)
 
 -- a line of the deepest text is taken, or that text, which has no more lines, is closed
-abbrev pub TakesTop : {R : Type 0} → (R → List ℕ) → (R → List ℕ) → Stack R → Stack R → Option LineAt → List ℕ → Count → Count → Type 0
-TakesTop left left' old new at bytes before after = (low : ℕ) → low < old.depth → (rest : List Thing) → TakesFirst (things_above left low old rest) at bytes (things_above left' low new rest) before after
+abbrev pub TakesTop : {R : Type 0} → (R → List ℕ) → (R → List ℕ) → Stack R → Stack R → Option LineAt → List ℕ → Count →
+    Count → Type 0
+TakesTop left left' old new at bytes before after = (low : ℕ) → low < old.depth → (rest : List Thing) →
+    TakesFirst (things_above left low old rest) at bytes (things_above left' low new rest) before after
 
 -- the next line of the texts above a low place is taken, or all of these have ended
-abbrev pub TakesAbove : {R : Type 0} → (R → List ℕ) → (R → List ℕ) → ℕ → Stack R → Stack R → Option LineAt → List ℕ → Count → Count → Type 0
-TakesAbove left left' low old new at bytes before after = (rest : List Thing) → TakesFirst (things_above left low old rest) at bytes (things_above left' low new rest) before after
+abbrev pub TakesAbove : {R : Type 0} → (R → List ℕ) → (R → List ℕ) → ℕ → Stack R → Stack R → Option LineAt → List ℕ →
+    Count → Count → Type 0
+TakesAbove left left' low old new at bytes before after = (rest : List Thing) →
+    TakesFirst (things_above left low old rest) at bytes (things_above left' low new rest) before after
 
 -- the texts below a place stay as they are
 abbrev pub StaysBelow : {R : Type 0} → ℕ → List (Option (OpenText R)) → List (Option (OpenText R)) → Type 0
-StaysBelow {R = R} low old new = (left : R → List ℕ) (n : ℕ) → n ≤ low → (rest : List Thing) → things_over left 0 n new rest ≡ things_over left 0 n old rest
+StaysBelow {R = R} low old new = (left : R → List ℕ) (n : ℕ) → n ≤ low → (rest : List Thing) →
+    things_over left 0 n new rest ≡ things_over left 0 n old rest
 
 -- the first thing is the line that stops
 pub record TopStops (stop : Stop) (count : Count) (things : List Thing) : Type 0 where
@@ -174,12 +182,15 @@ StopsTop left stack stop count = (low : ℕ) → low < stack.depth → StopsAbov
 
 -- the lines of a text come in front
 abbrev pub Pushes : {R : Type 0} → Stack R → Stack R → OpenText R → Type 0
-Pushes {R = R} old new text = (left : R → List ℕ) (low : ℕ) → low ≤ old.depth → (rest : List Thing) → things_above left low new rest ≡ things_at left (Some text) ++ things_above left low old rest
+Pushes {R = R} old new text = (left : R → List ℕ) (low : ℕ) → low ≤ old.depth → (rest : List Thing) →
+    things_above left low new rest ≡ things_at left (Some text) ++ things_above left low old rest
 
--- the lines of a text that was opened come in front, one deeper than the line that names it, and match where that line does
+-- the lines of a text that was opened come in front, one deeper than the line that names it, and match where that line
+-- does
 abbrev pub Opens : {R : Type 0} → Stack R → Stack R → R → ℕ → LineAt → Type 0
 Opens {R = R} old new reader file at = (left : R → List ℕ) (low : ℕ) → low ≤ old.depth → (rest : List Thing)
-    → things_above left low new rest ≡ raws (at.depth + 1) at.may_match (lines_in file (left reader)) ++ things_above left low old rest
+    → things_above left low new rest ≡ raws (at.depth + 1) at.may_match (lines_in file (left reader))
+        ++ things_above left low old rest
 
 abbrev pub DepthAfter : ℕ → ℕ → Result (Option LineAt) Stop → Type 0
 DepthAfter old new (Ok None) = new + 1 ≡ old

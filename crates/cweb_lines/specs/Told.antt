@@ -1,4 +1,5 @@
--- What comes out of a merge, sorted: lines that are given out, faults, names of opened files, and lines taken from files.
+-- What comes out of a merge, sorted: lines that are given out, faults, names of opened files, and lines taken from
+-- files.
 use Rattle.std.specs.Prelude.{ℕ, ◌+◌, ◌≤◌, List, [], ◌∷◌, length}
 use Rattle.cweb_lines.specs.Lines.{Line, SourceLine}
 use Rattle.cweb_lines.specs.Merge.{Event, took, given, fault, opening}

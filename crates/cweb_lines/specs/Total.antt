@@ -18,7 +18,8 @@ pub record Halts (world : World) (s : State) : Type 0 where
   pub events : List Event
   pub comes : run steps world s ≡ Some events
 
-pub halts_next : (world : World) (s : State) (next : Next) → step world s ≡ Some next → Halts world next.1 → Halts world s
+pub halts_next : (world : World) (s : State) (next : Next) → step world s ≡ Some next → Halts world next.1 →
+    Halts world s
 halts_next world s next is later = record {
   steps = suc later.steps;
   events = next.0 ++ later.events;
@@ -33,29 +34,36 @@ waiting (Some entry) = 1
 left_by : Sought → ℕ
 left_by found = length found.rest + waiting found.entry
 
-outside_less : (code : Option Code) (place : Place) (later : Option Place → Sought) (n : ℕ) → ((p : Option Place) → left_by (later p) ≤ n) → left_by (outside code place later) ≤ n
+outside_less : (code : Option Code) (place : Place) (later : Option Place → Sought) (n : ℕ) →
+    ((p : Option Place) → left_by (later p) ≤ n) → left_by (outside code place later) ≤ n
 unfolding left_by
 outside_less None place later n less = less None
 outside_less (Some old_side) place later n less = less (Some place)
 outside_less (Some new_side) place later n less = less None
 outside_less (Some end_side) place later n less = less None
 
-behind_less : (bytes : List ℕ) (code : Option Code) (begin : Place) (line : SourceLine) (lines : List SourceLine) (later : Option Place → Sought)
-    → ((p : Option Place) → left_by (later p) ≤ length lines) → left_by (behind_x bytes code begin line lines later) ≤ suc (length lines)
+behind_less : (bytes : List ℕ) (code : Option Code) (begin : Place) (line : SourceLine) (lines : List SourceLine)
+    (later : Option Place → Sought)
+    → ((p : Option Place) → left_by (later p) ≤ length lines) →
+        left_by (behind_x bytes code begin line lines later) ≤ suc (length lines)
 unfolding left_by waiting
 behind_less [] code begin line lines later less = omega (arith, less (Some begin))
 behind_less (b ∷ bs) None begin line lines later less = omega arith
-behind_less (b ∷ bs) (Some code) begin line lines later less = omega (arith, outside_less (Some code) line.line.place later (length lines) less)
+behind_less (b ∷ bs) (Some code) begin line lines later less =
+    omega (arith, outside_less (Some code) line.line.place later (length lines) less)
 
 -- a search takes no fewer lines than it finds entries
 sought_less : (lines : List SourceLine) (begin : Option Place) → left_by (sought lines begin) ≤ length lines
 unfolding left_by waiting
 sought_less [] None = omega arith
 sought_less [] (Some begin) = omega arith
-sought_less (line ∷ lines) None = omega (arith, outside_less (code_of line.line.bytes) line.line.place (λ begin. sought lines begin) (length lines) (sought_less lines))
-sought_less (line ∷ lines) (Some begin) = behind_less line.line.bytes (code_of line.line.bytes) begin line lines (λ next. sought lines next) (sought_less lines)
+sought_less (line ∷ lines) None = omega (arith, outside_less (code_of line.line.bytes) line.line.place
+    (λ begin. sought lines begin) (length lines) (sought_less lines))
+sought_less (line ∷ lines) (Some begin) = behind_less line.line.bytes (code_of line.line.bytes) begin line lines
+    (λ next. sought lines next) (sought_less lines)
 
-old_at_less : (code : Option Code) (line : SourceLine) (lines : List SourceLine) (later : OldSide) → length later.rest ≤ length lines → length (old_at code line lines later).rest ≤ suc (length lines)
+old_at_less : (code : Option Code) (line : SourceLine) (lines : List SourceLine) (later : OldSide) →
+    length later.rest ≤ length lines → length (old_at code line lines later).rest ≤ suc (length lines)
 old_at_less None line lines later less = omega arith
 old_at_less (Some old_side) line lines later less = omega arith
 old_at_less (Some new_side) line lines later less = omega arith
@@ -65,19 +73,25 @@ old_less : (lines : List SourceLine) → length (old_lines lines).rest ≤ lengt
 old_less [] = omega arith
 old_less (line ∷ lines) = old_at_less (code_of line.line.bytes) line lines (old_lines lines) (old_less lines)
 
-new_at_less : (code : Option Code) (depth : ℕ) (line : SourceLine) (lines : List SourceLine) (later : NewSide) → length later.rest ≤ length lines
+new_at_less : (code : Option Code) (depth : ℕ) (line : SourceLine) (lines : List SourceLine) (later : NewSide) →
+    length later.rest ≤ length lines
     → length (new_at code depth line lines later).rest ≤ suc (length lines)
 new_at_less None depth line lines later less = omega arith
 new_at_less (Some old_side) depth line lines later less = omega arith
 new_at_less (Some new_side) depth line lines later less = omega arith
 new_at_less (Some end_side) depth line lines later less = omega arith
 
-new_less : (depth : ℕ) (begin : Place) (lines : List SourceLine) → length (new_lines depth begin lines).rest ≤ length lines
+new_less : (depth : ℕ) (begin : Place) (lines : List SourceLine) →
+    length (new_lines depth begin lines).rest ≤ length lines
 new_less depth begin [] = omega arith
-new_less depth begin (line ∷ lines) = new_at_less (code_of line.line.bytes) depth line lines (new_lines depth begin lines) (new_less depth begin lines)
+new_less depth begin (line ∷ lines) = new_at_less (code_of line.line.bytes) depth line lines
+    (new_lines depth begin lines) (new_less depth begin lines)
 
--- The steps end for every state whose change lines and pending entry are no more than so many, where they end for those that have fewer: each change uses up its entry.
-module _ (world : World) (most : ℕ) (fewer : (things : List Thing) (change : List SourceLine) (files : ℕ) → length change < most → Halts world (record { things = things; pending = None; change = change; files = files })) where
+-- The steps end for every state whose change lines and pending entry are no more than so many, where they end for those
+-- that have fewer: each change uses up its entry.
+module _ (world : World) (most : ℕ) (fewer : (things : List Thing) (change : List SourceLine) (files : ℕ) →
+    length change < most → Halts world (record { things = things; pending = None; change = change; files = files }))
+    where
   abbrev Good : List Thing → Type 0
   Good things = (pending : Option Entry) (change : List SourceLine) (files : ℕ) → length change + waiting pending ≤ most
       → Halts world (record { things = things; pending = pending; change = change; files = files })
@@ -87,79 +101,106 @@ module _ (world : World) (most : ℕ) (fewer : (things : List Thing) (change : L
   good_none None change files within = record { steps = 1; events = []; comes = refl }
   good_none (Some entry) change files within = record { steps = 2; events = _; comes = refl }
 
-  after_old_good : (ended : Bool) (files depth : ℕ) (entry : Entry) (old : OldSide) (rest : List Thing) → length old.rest < most → Halts world (after_old ended files depth entry old rest)
+  after_old_good : (ended : Bool) (files depth : ℕ) (entry : Entry) (old : OldSide) (rest : List Thing) →
+      length old.rest < most → Halts world (after_old ended files depth entry old rest)
   after_old_good true files depth entry old rest less = fewer rest [] files (omega arith)
   after_old_good false files depth entry old rest less =
-      fewer ((new_lines depth entry.begin old.rest).things ++ seek ∷ rest) (new_lines depth entry.begin old.rest).rest files (omega (arith, new_less depth entry.begin old.rest))
+      fewer ((new_lines depth entry.begin old.rest).things ++ seek ∷ rest)
+          (new_lines depth entry.begin old.rest).rest files (omega (arith, new_less depth entry.begin old.rest))
 
   -- a raw line, where those that it opens are good
-  module _ (r : RawLine) (rest : List Thing) (good : Good rest) (opens : r.depth < OPEN_FILES → (lines : List SourceLine) → Good (raws (r.depth + 1) r.may_match lines ++ rest)) where
+  module _ (r : RawLine) (rest : List Thing) (good : Good rest)
+      (opens : r.depth < OPEN_FILES → (lines : List SourceLine) → Good (raws (r.depth + 1) r.may_match lines ++ rest))
+      where
     abbrev before : Option Entry → List SourceLine → ℕ → State
     before pending change files = record { things = raw r ∷ rest; pending = pending; change = change; files = files }
 
-    obeyed_good : (found : Option Found) (pending : Option Entry) (change : List SourceLine) (files : ℕ) → length change + waiting pending ≤ most → r.depth < OPEN_FILES
+    obeyed_good : (found : Option Found) (pending : Option Entry) (change : List SourceLine) (files : ℕ) →
+        length change + waiting pending ≤ most → r.depth < OPEN_FILES
         → Halts world (obeyed found (before pending change files) r rest).1
     obeyed_good None pending change files within shallow = good pending change files within
-    obeyed_good (Some found) pending change files within shallow = opens shallow (lines_in files found.1) pending change (files + 1) within
+    obeyed_good (Some found) pending change files within shallow =
+        opens shallow (lines_in files found.1) pending change (files + 1) within
 
-    opened_good : (b : Bool) (name : List ℕ) (pending : Option Entry) (change : List SourceLine) (files : ℕ) → length change + waiting pending ≤ most → b ≡ nat_lt r.depth OPEN_FILES
+    opened_good : (b : Bool) (name : List ℕ) (pending : Option Entry) (change : List SourceLine) (files : ℕ) →
+        length change + waiting pending ≤ most → b ≡ nat_lt r.depth OPEN_FILES
         → Halts world (opened b world name (before pending change files) r rest).1
     opened_good false name pending change files within test = good pending change files within
-    opened_good true name pending change files within test = obeyed_good (found_at world name) pending change files within (grind (arith, nat_tests))
+    opened_good true name pending change files within test =
+        obeyed_good (found_at world name) pending change files within (grind (arith, nat_tests))
 
-    included_good : (name : List ℕ) (pending : Option Entry) (change : List SourceLine) (files : ℕ) → length change + waiting pending ≤ most
+    included_good : (name : List ℕ) (pending : Option Entry) (change : List SourceLine) (files : ℕ) →
+        length change + waiting pending ≤ most
         → Halts world (included name world (before pending change files) r rest).1
     included_good [] pending change files within = good pending change files within
-    included_good (b ∷ bs) pending change files within = opened_good (nat_lt r.depth OPEN_FILES) (b ∷ bs) pending change files within refl
+    included_good (b ∷ bs) pending change files within = opened_good (nat_lt r.depth OPEN_FILES)
+        (b ∷ bs) pending change files within refl
 
-    plain_good : (b : Bool) (pending : Option Entry) (change : List SourceLine) (files : ℕ) → length change + waiting pending ≤ most
+    plain_good : (b : Bool) (pending : Option Entry) (change : List SourceLine) (files : ℕ) →
+        length change + waiting pending ≤ most
         → Halts world (plain b world (before pending change files) r rest).1
-    plain_good true pending change files within = included_good (include_name r.source.line.bytes) pending change files within
+    plain_good true pending change files within = included_good
+        (include_name r.source.line.bytes) pending change files within
     plain_good false pending change files within = good pending change files within
 
-    at_entry_good : (b : Bool) (entry : Entry) (change : List SourceLine) (files : ℕ) → length change + 1 ≤ most → Halts world (at_entry b entry world (before (Some entry) change files) r rest).1
+    at_entry_good : (b : Bool) (entry : Entry) (change : List SourceLine) (files : ℕ) → length change + 1 ≤ most →
+        Halts world (at_entry b entry world (before (Some entry) change files) r rest).1
     unfolding waiting
     at_entry_good true entry change files within =
-        after_old_good (old_lines change).ended files r.depth entry (old_lines change) (compared (old_lines change).lines rest).rest (omega (arith, old_less change))
-    at_entry_good false entry change files within = plain_good (is_include r.source.line.bytes) (Some entry) change files within
+        after_old_good (old_lines change).ended files r.depth entry (old_lines change)
+            (compared (old_lines change).lines rest).rest (omega (arith, old_less change))
+    at_entry_good false entry change files within = plain_good (is_include r.source.line.bytes)
+        (Some entry) change files within
 
-    at_raw_good : (pending : Option Entry) (change : List SourceLine) (files : ℕ) → length change + waiting pending ≤ most → Halts world (at_raw pending world (before pending change files) r rest).1
+    at_raw_good : (pending : Option Entry) (change : List SourceLine) (files : ℕ) →
+        length change + waiting pending ≤ most → Halts world
+        (at_raw pending world (before pending change files) r rest).1
     unfolding waiting
     at_raw_good None change files within = plain_good (is_include r.source.line.bytes) None change files within
-    at_raw_good (Some entry) change files within = at_entry_good (r.may_match && bytes_eq r.source.line.bytes entry.first) entry change files within
+    at_raw_good (Some entry) change files within = at_entry_good
+        (r.may_match && bytes_eq r.source.line.bytes entry.first) entry change files within
 
     one_good : Good (raw r ∷ rest)
-    one_good pending change files within = halts_next world (before pending change files) _ refl (at_raw_good pending change files within)
+    one_good pending change files within = halts_next world (before pending change files) _ refl
+        (at_raw_good pending change files within)
 
   -- the room is how much deeper the lines may lie that a line opens
-  raw_good : (room : ℕ) (r : RawLine) (rest : List Thing) → OPEN_FILES < r.depth + room → Good rest → Good (raw r ∷ rest)
+  raw_good : (room : ℕ) (r : RawLine) (rest : List Thing) → OPEN_FILES < r.depth + room → Good rest →
+      Good (raw r ∷ rest)
   raw_good zero r rest deep good = one_good r rest good (λ shallow. absurd (omega arith))
   raw_good (suc room) r rest deep good =
-      one_good r rest good (λ shallow lines. raws_good (λ r' rest' deep' good'. raw_good room r' rest' deep' good') (r.depth + 1) r.may_match lines rest (omega arith) good)
+      one_good r rest good (λ shallow lines. raws_good (λ r' rest' deep' good'. raw_good room r' rest' deep' good')
+          (r.depth + 1) r.may_match lines rest (omega arith) good)
     where
-      raws_good : ((r' : RawLine) (rest' : List Thing) → OPEN_FILES < r'.depth + room → Good rest' → Good (raw r' ∷ rest')) → (depth : ℕ) (may_match : Bool) (lines : List SourceLine) (rest : List Thing)
+      raws_good : ((r' : RawLine) (rest' : List Thing) → OPEN_FILES < r'.depth + room → Good rest' →
+          Good (raw r' ∷ rest')) → (depth : ℕ) (may_match : Bool) (lines : List SourceLine) (rest : List Thing)
           → OPEN_FILES < depth + room → Good rest → Good (raws depth may_match lines ++ rest)
       raws_good each depth may_match [] rest deep good = good
       raws_good each depth may_match (line ∷ lines) rest deep good =
-          each (record { source = line; depth = depth; may_match = may_match }) (raws depth may_match lines ++ rest) deep (raws_good each depth may_match lines rest deep good)
+          each (record { source = line; depth = depth; may_match = may_match })
+              (raws depth may_match lines ++ rest) deep (raws_good each depth may_match lines rest deep good)
 
   thing_good : (thing : Thing) (rest : List Thing) → Good rest → Good (thing ∷ rest)
   unfolding left_by
   thing_good seek rest good pending change files within =
       halts_next world (record { things = seek ∷ rest; pending = pending; change = change; files = files }) _ refl
       (good (sought change None).entry (sought change None).rest files (omega (arith, sought_less change None)))
-  thing_good (raw r) rest good pending change files within = raw_good (OPEN_FILES + 1) r rest (omega arith) good pending change files within
+  thing_good (raw r) rest good pending change files within =
+      raw_good (OPEN_FILES + 1) r rest (omega arith) good pending change files within
   thing_good (told f) rest good pending change files within =
-      halts_next world (record { things = told f ∷ rest; pending = pending; change = change; files = files }) _ refl (good pending change files within)
+      halts_next world (record { things = told f ∷ rest; pending = pending; change = change; files = files }) _ refl
+          (good pending change files within)
   thing_good (passed line) rest good pending change files within =
-      halts_next world (record { things = passed line ∷ rest; pending = pending; change = change; files = files }) _ refl (good pending change files within)
+      halts_next world (record { things = passed line ∷ rest; pending = pending; change = change; files = files }) _
+          refl (good pending change files within)
 
   all_good : (things : List Thing) → Good things
   all_good [] = good_none
   all_good (thing ∷ things) = thing_good thing things (all_good things)
 
 -- by the lines that the change file has left
-halts_below : (world : World) (most : ℕ) (things : List Thing) (change : List SourceLine) (files : ℕ) → length change < most
+halts_below : (world : World) (most : ℕ) (things : List Thing) (change : List SourceLine) (files : ℕ) →
+    length change < most
     → Halts world (record { things = things; pending = None; change = change; files = files })
 unfolding waiting
 halts_below world zero things change files less = absurd (omega arith)
@@ -172,14 +213,17 @@ halts world s =
     let most = length s.change + waiting s.pending in
     all_good world most (λ t c f l. halts_below world most t c f l) s.things s.pending s.change s.files (omega arith)
 
-onto_some : (events all : List Event) (later : Option (List Event)) → onto events later ≡ Some all → (rest : List Event) × (later ≡ Some rest) × (events ++ rest ≡ all)
+onto_some : (events all : List Event) (later : Option (List Event)) → onto events later ≡ Some all →
+    (rest : List Event) × (later ≡ Some rest) × (events ++ rest ≡ all)
 onto_some events all None is = absurd (cc)
 onto_some events all (Some rest) is = (rest, refl, cc)
 
-pub run_unique : (m n : ℕ) (world : World) (s : State) (a b : List Event) → run m world s ≡ Some a → run n world s ≡ Some b → a ≡ b
+pub run_unique : (m n : ℕ) (world : World) (s : State) (a b : List Event) → run m world s ≡ Some a →
+    run n world s ≡ Some b → a ≡ b
 run_unique zero n world s a b one other = cc
 run_unique (suc m) zero world s a b one other = cc
-run_unique (suc m) (suc n) world s a b one other = by (step world s) one other (λ s' a' b'. run_unique m n world s' a' b')
+run_unique (suc m) (suc n) world s a b one other = by (step world s) one other
+    (λ s' a' b'. run_unique m n world s' a' b')
   where
     by : (o : Option Next) → then_run o (λ s'. run m world s') ≡ Some a → then_run o (λ s'. run n world s') ≡ Some b
         → ((s' : State) (a' b' : List Event) → run m world s' ≡ Some a' → run n world s' ≡ Some b' → a' ≡ b') → a ≡ b
@@ -194,14 +238,17 @@ pub merge : World → State → List Event
 merge world s = (halts world s).events
 
 -- what so many steps give is all that comes
-pub merge-run : (n : ℕ) (world : World) (s : State) (events : List Event) → run n world s ≡ Some events → merge world s ≡ events
+pub merge-run : (n : ℕ) (world : World) (s : State) (events : List Event) → run n world s ≡ Some events →
+    merge world s ≡ events
 unfolding merge
-merge-run n world s events is = run_unique (halts world s).steps n world s (halts world s).events events (halts world s).comes is
+merge-run n world s events is = run_unique (halts world s).steps n world s (halts world s).events events
+    (halts world s).comes is
 
 pub merge_end : (world : World) (s : State) → step world s ≡ None → merge world s ≡ []
 merge_end world s is = merge-run 1 world s [] (ap (λ o. then_run o (λ s'. run 0 world s')) is)
 
-pub merge_next : (world : World) (s : State) (next : Next) → step world s ≡ Some next → merge world s ≡ next.0 ++ merge world next.1
+pub merge_next : (world : World) (s : State) (next : Next) → step world s ≡ Some next →
+    merge world s ≡ next.0 ++ merge world next.1
 unfolding merge halts_next
 merge_next world s next is =
     let h = halts_next world s next is (halts world next.1) in

@@ -61,7 +61,8 @@ pub record Grows (old new : SoFar) : Type 0 where
   pub bytes : new.count.bytes ≤ BYTES
 
 -- in which state a call for the next line leaves the merger and the line
-pub record Leaves {S R : Type 0} (result : Result (Option Place) Stop) (bytes : List ℕ) (merger : Merger S R) : Type 0 where
+pub record Leaves {S R : Type 0} (result : Result (Option Place) Stop) (bytes : List ℕ)
+    (merger : Merger S R) : Type 0 where
   pub running : OnOk result (stop_in merger ≡ None)
   pub end : result ≡ Ok None → (bytes ≡ []) × HasEnded merger
   pub kept : IfErr result (λ stop. stop_in merger ≡ Some stop)
@@ -78,16 +79,19 @@ pub record StopsThere (stop : Stop) (old new : SoFar) (all : List Event) : Type 
   pub told : TellsFront old new all
 
 -- the merge begins with the web that was found, and with the change file where one is named
-pub record Begins (world : World) (found : Option Found) (changes : Option (Option Found)) (first : SoFar) (all : List Event) : Type 0 where
+pub record Begins (world : World) (found : Option Found) (changes : Option (Option Found)) (first : SoFar)
+    (all : List Event) : Type 0 where
   pub name : List ℕ
   pub text : List ℕ
   pub change : Option Found
   pub there : found ≡ Some (name, text)
   pub changes_there : changes ≡ Some change
-  pub so_far_is : first ≡ record { faults = []; names = name ∷ names_found change; count = record { lines = 0; bytes = 0 } }
+  pub so_far_is : first ≡ record { faults = []; names = name ∷ names_found change; count =
+      record { lines = 0; bytes = 0 } }
   pub whole : all ≡ merge world (started text (text_found change))
 
--- a merge can't begin where there is no web, where a web is there and the change file that is named isn't, or where memory is refused
+-- a merge can't begin where there is no web, where a web is there and the change file that is named isn't, or where
+-- memory is refused
 abbrev pub StopsAtStart : Stop → Option Found → Option (Option Found) → Type 0
 StopsAtStart WebNotOpened found changes = found ≡ None
 StopsAtStart ChangeNotOpened found changes = ((web : Found) × (found ≡ Some web)) × (changes ≡ None)

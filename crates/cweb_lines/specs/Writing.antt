@@ -102,8 +102,10 @@ pub record IsOwnStop (stop : Stop) (files : ℕ) : Type 0 where
   pub unread : read_blame stop ≡ 0
   pub named : files_named stop ≤ files
 
--- what a stop leaves over all devices: the one that it tells of failed once more; the file that it names has been opened;
--- the merger keeps it, unless a write failed; then it goes on, where lines are not gathered, and else it may keep a stop
+-- what a stop leaves over all devices: the one that it tells of failed once more; the file that it names has been
+-- opened;
+-- the merger keeps it, unless a write failed; then it goes on, where lines are not gathered, and else it may keep a
+-- stop
 -- of its own
 pub record Blames (room : ℕ) (stop : Stop) (old new : Failed) (in_merger : Option Stop) (files : ℕ) : Type 0 where
   pub kind : WritingStops stop
@@ -115,7 +117,8 @@ pub record Blames (room : ℕ) (stop : Stop) (old new : Failed) (in_merger : Opt
   pub after_write : stop ≡ WriteFault → IfSome in_merger (λ own. IsOwnStop own files)
 
 -- What was given out so far: lines that were written, and lines that are gathered in a piece.
-pub record Gathered (room : ℕ) (old new : SoFar) (all now : List Event) (Wrote : List ℕ → Type 0) (piece : List ℕ) : Type 0 where
+pub record Gathered (room : ℕ) (old new : SoFar) (all now : List Event) (Wrote : List ℕ → Type 0)
+    (piece : List ℕ) : Type 0 where
   pub done : List Line
   pub gathered : List Line
   pub gives : Gives (done ++ gathered) old new all now

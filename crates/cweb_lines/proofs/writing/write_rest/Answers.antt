@@ -15,4 +15,5 @@ pub returns-in-Ok-clause-rest : goal.returns-in-Ok-clause-rest
 returns-in-Ok-clause-rest g c = writes refl c.in-Ok.ensures.ok
 
 pub returns-in-Ok-clause-front : goal.returns-in-Ok-clause-front
-returns-in-Ok-clause-front g c = λ tells. record { front = c.args.piece.now; rest = []; written = c.in-Ok.ensures.ok tells; whole = sym (append-nil c.args.piece.now) }
+returns-in-Ok-clause-front g c = λ tells. record { front = c.args.piece.now; rest = []; written =
+    c.in-Ok.ensures.ok tells; whole = sym (append-nil c.args.piece.now) }

@@ -10,7 +10,8 @@ pub returns-in-Err-clause-told : goal.returns-in-Err-clause-told
 returns-in-Err-clause-told g c = λ tells. tells_front _ _ _ _ (c.in-Err.ensures.told tells)
 
 pub returns-in-Err-close-clause-told : goal.returns-in-Err-close-clause-told
-returns-in-Err-close-clause-told g c = λ tells. closes_some c.args.begin _ _ _ _ _ _ _ _ (c.in-Ok.ensures.replaced tells) c.in-Err-close.ensures.err (ap names_of c.in-Err-close.ensures.only.names)
+returns-in-Err-close-clause-told g c = λ tells. closes_some c.args.begin _ _ _ _ _ _ _ _
+    (c.in-Ok.ensures.replaced tells) c.in-Err-close.ensures.err (ap names_of c.in-Err-close.ensures.only.names)
 
 -- what was told stays
 pub returns-in-Err-close-clause-still : goal.returns-in-Err-close-clause-still

@@ -26,8 +26,10 @@ invariant-lines g l = record {
       → g.S.Shelf.blamed l.shelf ≡ g.S.Shelf.blamed l.fn.shelf;
   still : KeepsTold (told_by l.fn.run) (told_by l.run);
   goes_on : l.so_far.ended ≡ false;
-  replaces : IsTrue (g.S.Shelf.tells l.fn.shelf) → Replaces (change_lines (g.S.Shelf.left l.fn.shelf) l.fn.run) (things_above (g.S.Shelf.left l.fn.shelf) 0 l.fn.run.stack []) l.so_far
-      (change_lines (g.S.Shelf.left l.shelf) l.run) (things_above (g.S.Shelf.left l.shelf) 0 l.run.stack []) (told_by l.fn.run) (told_by l.run);
+  replaces : IsTrue (g.S.Shelf.tells l.fn.shelf) → Replaces (change_lines (g.S.Shelf.left l.fn.shelf) l.fn.run)
+      (things_above (g.S.Shelf.left l.fn.shelf) 0 l.fn.run.stack []) l.so_far
+      (change_lines (g.S.Shelf.left l.shelf) l.run) (things_above (g.S.Shelf.left l.shelf) 0 l.run.stack [])
+          (told_by l.fn.run) (told_by l.run);
 }
 
 abbrev pub decreases-lines : goal.decreases-lines

@@ -26,7 +26,9 @@ invariant-lines g l = record {
       → g.S.Shelf.blamed l.shelf ≡ g.S.Shelf.blamed l.fn.shelf;
   still : KeepsTold (told_by l.fn.run) (told_by l.run);
   begun : BegunKnown (length (names_of l.run.names)) l.begin;
-  seeks : IsTrue (g.S.Shelf.tells l.fn.shelf) → SeeksTo (sought (change_lines (g.S.Shelf.left l.fn.shelf) l.fn.run) None) (sought (change_lines (g.S.Shelf.left l.shelf) l.run) l.begin) (told_by l.fn.run) (told_by l.run);
+  seeks : IsTrue (g.S.Shelf.tells l.fn.shelf) → SeeksTo (sought
+      (change_lines (g.S.Shelf.left l.fn.shelf) l.fn.run) None) (sought
+      (change_lines (g.S.Shelf.left l.shelf) l.run) l.begin) (told_by l.fn.run) (told_by l.run);
 }
 
 abbrev pub decreases-lines : goal.decreases-lines

@@ -16,6 +16,7 @@ invariant_of-self g c = record {
   open_known = c.args.self.now.open_known;
   change_known = c.args.self.now.change_known;
   begun_known = c.args.self.now.begun_known;
-  faults_known = rw c.push.ensures.items (files_in-if (is_ok c.push.result) c.args.self.now.faults.items _ (length (names_of c.args.self.now.names)) c.args.self.now.faults_known c.requires.known);
+  faults_known = rw c.push.ensures.items (files_in-if (is_ok c.push.result) c.args.self.now.faults.items _
+      (length (names_of c.args.self.now.names)) c.args.self.now.faults_known c.requires.known);
   stop_known = c.args.self.now.stop_known;
 }

@@ -6,7 +6,8 @@ use Rattle.cweb_lines.proofs.step.obey.give.Goals as goal
 pub returns-then-not-is_include-clause-gives : goal.returns-then-not-is_include-clause-gives
 returns-then-not-is_include-clause-gives g c = λ tells source is. record {
   rest = _;
-  first = merge_given _ source c.args.line.now c.args.at is _ _ _ _ c.requires.plain (sym c.is_include.ensures ∙ c.if-not-is_include.true);
+  first = merge_given _ source c.args.line.now c.args.at is _ _ _ _ c.requires.plain
+      (sym c.is_include.ensures ∙ c.if-not-is_include.true);
   gives = gives_line _ _ _ _ refl (record { bytes = c.args.line.now; place = c.args.at.place }) refl refl refl;
 }
 

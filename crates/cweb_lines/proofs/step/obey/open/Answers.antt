@@ -11,16 +11,19 @@ use Rattle.cweb_lines.proofs.step.obey.open.Goals as goal
 pub invariant_of-run-2 : goal.invariant_of-run-2
 invariant_of-run-2 g c =
     let count : length (names_of c.push.new.self) ≡ length (names_of c.args.run.now.names) + 1 =
-    ap (λ (ns : List (List ℕ)). length ns) c.in_default.ensures.ok ∙ length-append (names_of c.args.run.now.names) (string_bytes c.args.opening.name ∷ []) in
+    ap (λ (ns : List (List ℕ)). length ns) c.in_default.ensures.ok
+        ∙ length-append (names_of c.args.run.now.names) (string_bytes c.args.opening.name ∷ []) in
     record {
       shallow = omega (arith, c.push-2.ensures.depth, c.requires.room, c.requires.deep);
       deep = c.push-2.ensures.deep;
-      numbers = rw c.push-2.ensures.texts (most_set line_number c.args.run.now.stack.texts c.args.run.now.stack.depth _ c.args.run.now.limits.lines c.args.run.now.numbers (omega arith));
+      numbers = rw c.push-2.ensures.texts (most_set line_number c.args.run.now.stack.texts c.args.run.now.stack.depth _
+          c.args.run.now.limits.lines c.args.run.now.numbers (omega arith));
       change_number = c.args.run.now.change_number;
       floor = omega (arith, c.push-2.ensures.depth, c.args.run.now.floor);
       floor_deep = c.args.run.now.floor_deep;
       named = omega (arith, count, c.requires.names);
-      open_known = rw c.push-2.ensures.texts (most_set files_up_to c.args.run.now.stack.texts c.args.run.now.stack.depth _ (length (names_of c.push.new.self))
+      open_known = rw c.push-2.ensures.texts (most_set files_up_to c.args.run.now.stack.texts c.args.run.now.stack.depth
+          _ (length (names_of c.push.new.self))
           (omega (arith, count, c.args.run.now.open_known)) (omega (arith, count, c.count.ensures)));
       change_known = omega (arith, count, c.args.run.now.change_known);
       begun_known = omega (arith, count, c.args.run.now.begun_known);

@@ -15,7 +15,8 @@ invariant-pieces g l = record {
   opened : IsTrue (g.S.Shelf.tells l.fn.shelf)
       → g.S.Shelf.opened_as l.shelf l.source.reader.value ≡ g.S.Shelf.opened_as l.fn.shelf l.fn.source.reader.value;
   blamed : IsTrue (g.S.Shelf.tells l.fn.shelf) → g.S.Shelf.blamed l.shelf ≡ g.S.Shelf.blamed l.fn.shelf;
-  bytes : IsTrue (g.S.Shelf.tells l.fn.shelf) → left_of g.S.Shelf.left l.fn.shelf l.fn.source ≡ l.line.items ++ left_of g.S.Shelf.left l.shelf l.source;
+  bytes : IsTrue (g.S.Shelf.tells l.fn.shelf) → left_of g.S.Shelf.left l.fn.shelf l.fn.source ≡ l.line.items
+      ++ left_of g.S.Shelf.left l.shelf l.source;
   none : HasNoNewline l.line.items;
   within : length l.line.items ≤ LINE_LENGTH;
 }

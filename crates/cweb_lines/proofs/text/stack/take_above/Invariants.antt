@@ -24,7 +24,8 @@ invariant-texts g l = record {
   below : StaysBelow l.low l.fn.stack.texts l.stack.texts;
   counted : count_of l.limits ≡ count_of l.fn.limits;
   things : IsTrue (g.S.Shelf.tells l.fn.shelf) → (rest : List Thing)
-      → things_above (g.S.Shelf.left l.fn.shelf) l.low l.fn.stack rest ≡ things_above (g.S.Shelf.left l.shelf) l.low l.stack rest;
+      → things_above (g.S.Shelf.left l.fn.shelf) l.low l.fn.stack rest ≡ things_above
+          (g.S.Shelf.left l.shelf) l.low l.stack rest;
 }
 
 abbrev pub decreases-texts : goal.decreases-texts

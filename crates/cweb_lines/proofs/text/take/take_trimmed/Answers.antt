@@ -22,14 +22,16 @@ returns g c =
         taken = c.in-Ok.taken;
         raw = c.next_line.new.line.items;
         some = c.in_default-taken.not-Ended;
-        takes = subst (λ s. Takes (left_of g.S.Shelf.left c.args.shelf.now s) c.in-Ok.taken c.next_line.new.line.items (left_of g.S.Shelf.left c.next_line.new.shelf c.next_line.new.source)) same (c.in-Ok.ensures.taken tells);
+        takes = subst (λ s. Takes (left_of g.S.Shelf.left c.args.shelf.now s) c.in-Ok.taken c.next_line.new.line.items
+            (left_of g.S.Shelf.left c.next_line.new.shelf c.next_line.new.source)) same (c.in-Ok.ensures.taken tells);
         short = c.in-Ok.ensures.within;
         bytes_are = c.trim.ensures;
         size_is = omega (arith, c.len.ensures, c.next_line.new.line.ok.0, c.newline_size.ensures.value);
       };
       too_long = search rules;
       line = rw c.trim.ensures (trimmed-line c.next_line.new.line.items c.in-Ok.ensures.clean c.in-Ok.ensures.within);
-      gains = omega (arith, ap (λ (l : List ℕ). length l) c.trim.ensures, trimmed-length c.next_line.new.line.items, c.len.ensures, c.next_line.new.line.ok.0);
+      gains = omega (arith, ap (λ (l : List ℕ). length l) c.trim.ensures, trimmed-length c.next_line.new.line.items,
+          c.len.ensures, c.next_line.new.line.ok.0);
     }
 
 pub returns-in-Err-clause-opened : goal.returns-in-Err-clause-opened

@@ -12,4 +12,5 @@ lines-preserved g c = record {
 }
 
 pub returns-then-not-pass_line-clause-passes : goal.returns-then-not-pass_line-clause-passes
-returns-then-not-pass_line-clause-passes g c = passes_then _ _ _ _ _ _ c.lines.invariant.passes c.if-not-pass_line.ensures.passes
+returns-then-not-pass_line-clause-passes g c = passes_then _ _ _ _ _ _ c.lines.invariant.passes
+    c.if-not-pass_line.ensures.passes

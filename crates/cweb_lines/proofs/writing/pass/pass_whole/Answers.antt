@@ -14,7 +14,8 @@ returns-clause-passed g c = λ passed.
       size = c.in-Some.at + 1;
       takes = record {
         raw = raw;
-        whole = rw (← c.deref.ensures.value) (behind c.deref.result.now c.args.source.now.start c.args.source.now.end c.in-Some.at c.in-Some.ensures c.args.source.now.ordered);
+        whole = rw (← c.deref.ensures.value) (behind c.deref.result.now c.args.source.now.start c.args.source.now.end
+            c.in-Some.at c.in-Some.ensures c.args.source.now.ordered);
         clean = c.in-Some.ensures.before;
         short = omega (arith, length-take c.in-Some.at bytes, c.if-at-gt-LINE_LENGTH.false);
         bytes_are = c.trimmed_length.ensures.trimmed;
