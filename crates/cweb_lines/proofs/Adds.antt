@@ -10,7 +10,7 @@ use Rattle.cweb_lines.specs.Told.{given_lines, told_faults, openings, taken_line
 use Rattle.cweb_lines.proofs.Stacks.{stops_map}
 use Rattle.cweb_lines.specs.declared.fault.SourceFault.{SourceFault}
 use Rattle.cweb_lines.specs.declared.stop.Stop.{Stop}
-use Rattle.cweb_lines.proofs.Merges.{given-append, told-append, openings-append, taken-append, size-append, short-append, lines_taken-append, bytes_taken-append}
+use Rattle.cweb_lines.proofs.Sums.{given-append, told-append, openings-append, taken-append, size-append, short-append, lines_taken-append, bytes_taken-append}
 
 pub given-took : (lines : List SourceLine) → given_lines (map took lines) ≡ []
 given-took [] = refl
@@ -169,8 +169,13 @@ adds_both faults more lines further old mid new first second = record {
 module _ (old mid : SoFar) (bytes : List ℕ) (place : Place) (t : Took bytes place old.count mid.count)
     (told : mid.faults ≡ old.faults) (names : mid.names ≡ old.names) where
   pub adds_one : Adds [] (t.line ∷ []) old mid
-  adds_one = record { told = told ∙ sym (append-nil old.faults); names = names; lines_are = omega (arith, t.lines);
-      bytes_are = omega (arith, t.bytes_are); short = (t.short, tt) }
+  adds_one = record {
+    told = told ∙ sym (append-nil old.faults);
+    names = names;
+    lines_are = omega (arith, t.lines);
+    bytes_are = omega (arith, t.bytes_are);
+    short = (t.short, tt);
+  }
 
   pub tells_after : (faults : List SourceFault) (new : SoFar) → TellsSome faults mid new → TellsSome faults old new
   tells_after faults new some = record {
@@ -206,10 +211,22 @@ adds_within faults lines others old mid new bytes place t adds told names =
     record {
       told = told ∙ adds.told;
       names = names ∙ adds.names;
-      lines_are = omega (arith, adds.lines_are, t.lines, length-append lines others, length-append lines (t.line ∷ []),
-          length-append (lines ++ t.line ∷ []) others);
-      bytes_are = omega (arith, adds.bytes_are, t.bytes_are, size-append lines others, size-append lines (t.line ∷ []),
-          size-append (lines ++ t.line ∷ []) others);
+      lines_are = omega (
+        arith,
+        adds.lines_are,
+        t.lines,
+        length-append lines others,
+        length-append lines (t.line ∷ []),
+        length-append (lines ++ t.line ∷ []) others,
+      );
+      bytes_are = omega (
+        arith,
+        adds.bytes_are,
+        t.bytes_are,
+        size-append lines others,
+        size-append lines (t.line ∷ []),
+        size-append (lines ++ t.line ∷ []) others,
+      );
       short = short-append (lines ++ t.line ∷ []) others (short-append lines (t.line ∷ []) short.0 (t.short, tt))
           short.1;
     }
@@ -220,4 +237,4 @@ pub adds_lines : (faults : List SourceFault) (lines others further : List Source
 adds_lines faults lines others further old mid new first second =
     let both = adds_both faults [] (lines ++ others) further old mid new first second in
     subst (λ (ls : List SourceLine). Adds faults ls old new) (append_assoc lines others further)
-        (subst (λ (fs : List SourceFault). Adds fs ((lines ++ others) ++ further) old new) (append-nil faults) both)
+    (subst (λ (fs : List SourceFault). Adds fs ((lines ++ others) ++ further) old new) (append-nil faults) both)

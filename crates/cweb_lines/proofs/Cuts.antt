@@ -14,7 +14,7 @@ use Rattle.cweb_lines.specs.declared.change.code.Code.{Code}
 use Rattle.cweb_lines.specs.declared.change.code.Code.TheVariants.{EndSide as end_side, NewSide as new_side, OldSide as old_side}
 use Rattle.cweb_lines.specs.declared.fault.SourceFault.{SourceFault}
 use Rattle.cweb_lines.specs.declared.fault.SourceKind.TheVariants.{EndedBeforeY, Unequal, WebEnded}
-use Rattle.cweb_lines.proofs.Merges.{given-append}
+use Rattle.cweb_lines.proofs.Sums.{given-append}
 use Rattle.cweb_lines.proofs.Trims.{trimmed-clean}
 
 pub all-append : {A : Type 0} (P : A → Type 0) (xs ys : List A) → AllByRecursion P xs → AllByRecursion P ys

@@ -6,7 +6,8 @@ use Rattle.cweb_lines.specs.Change.{Sought}
 use Rattle.cweb_lines.specs.Laws.{ChangeFilesWithoutEntriesChangeNothing, file_behind, is_code}
 use Rattle.cweb_lines.specs.Seen.{fault_renumbered, line_renumbered, renumbered, seen}
 use Rattle.cweb_lines.specs.Merge.{Event, Thing, fault, given, opening, raws, started, took}
-use Rattle.cweb_lines.specs.Total.{halts, merge, merge-run, merge_next}
+use Rattle.cweb_lines.specs.Total.{merge, merge-run, merge_next}
+use Rattle.cweb_lines.specs.Halting.{halts}
 use Rattle.cweb_lines.proofs.Alone.{IsNoSearch, raws_seek_not}
 use Rattle.cweb_lines.proofs.Renumbered.{event_behind, raws_behind, run_behind, thing_behind}
 use Rattle.cweb_lines.proofs.Entries.{finds_none}

@@ -21,13 +21,13 @@ module _ (texts : List ℕ → Option (List ℕ)) (inputs : Option (List ℕ)) (
   pub found_first : (found : Found) → Some found ≡ under bytes (texts bytes) → Some found ≡ found_at world name
   found_first found is =
       ap (λ f. first_found f (in_folder inputs texts name)) (is ∙ ap (λ n. under n (texts n)) same)
-          ∙ ap (λ b. found_if b world name) (sym (is_utf8-from_IsUtf8 name text))
+      ∙ ap (λ b. found_if b world name) (sym (is_utf8-from_IsUtf8 name text))
 
   pub found_second : (found : Option (Found)) → None ≡ under bytes (texts bytes) → found ≡ in_folder inputs texts name →
       found ≡ found_at world name
   found_second found none is =
       is ∙ ap (λ f. first_found f (in_folder inputs texts name)) (none ∙ ap (λ n. under n (texts n)) same)
-          ∙ ap (λ b. found_if b world name) (sym (is_utf8-from_IsUtf8 name text))
+      ∙ ap (λ b. found_if b world name) (sym (is_utf8-from_IsUtf8 name text))
 
 pub IfOk-map : {A E : Type 0} {P Q : A → Type 0} (r : Result A E) → ((x : A) → P x → Q x) → IfOk r P → IfOk r Q
 IfOk-map (Ok x) f p = f x p

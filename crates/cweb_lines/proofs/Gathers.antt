@@ -11,7 +11,7 @@ use Rattle.cweb_lines.specs.Passing.{Held}
 use Rattle.cweb_lines.specs.Told.{given_lines}
 use Rattle.cweb_lines.specs.Writing.{text_of, WritesFront, Gathered, FailsAmong, LosesLine, PassesOn}
 use Rattle.cweb_lines.proofs.Keeps.{place_told, writes_then}
-use Rattle.cweb_lines.proofs.Merges.{gives_both}
+use Rattle.cweb_lines.proofs.Sums.{gives_both}
 use Rattle.cweb_lines.proofs.Writes.{front_of_all, given_front, text_of-append}
 
 pub emptied : (room : ℕ) (piece rest : List ℕ) (Wrote : List ℕ → Type 0) → PassesOn room piece rest Wrote → room ≡ 0 →
@@ -23,7 +23,7 @@ emptied room piece rest Wrote (inr wrote) none = wrote.0
 pub held : (room : ℕ) (old so : SoFar) (all now : List Event) (Wrote : List ℕ → Type 0) (piece : List ℕ) →
     Gathered room old so all now Wrote piece
     → (line : Line) (so' : SoFar) (later : List Event) → Gives (line ∷ []) so so' now later → (more : List ℕ) →
-        more ≡ piece ++ line.bytes ++ 10 ∷ [] → Held room old so' all later Wrote more
+    more ≡ piece ++ line.bytes ++ 10 ∷ [] → Held room old so' all later Wrote more
 held room old so all now Wrote piece g line so' later next more is = record {
   done = g.done;
   gathered = g.gathered ++ line ∷ [];
@@ -40,14 +40,18 @@ held room old so all now Wrote piece g line so' later next more is = record {
 no_lines : (lines : List Line) (piece : List ℕ) → piece ++ text_of lines ≡ piece → lines ≡ []
 no_lines [] piece same = refl
 no_lines (line ∷ lines) piece same =
-    absurd (omega (arith, ap (λ (t : List ℕ). length t) same, length-append piece (text_of (line ∷ lines)),
-        length-append line.bytes (10 ∷ text_of lines)))
+    absurd (omega (
+      arith,
+      ap (λ (t : List ℕ). length t) same,
+      length-append piece (text_of (line ∷ lines)),
+      length-append line.bytes (10 ∷ text_of lines),
+    ))
 
 -- and lines that passed through
 pub held_on : (room : ℕ) (old so : SoFar) (all now : List Event) (Wrote : List ℕ → Type 0) (piece : List ℕ) →
     Held room old so all now Wrote piece
     → (lines : List Line) (so' : SoFar) (later : List Event) → Gives lines so so' now later → (more : List ℕ) →
-        more ≡ piece ++ text_of lines → (room ≡ 0 → more ≡ piece) → Held room old so' all later Wrote more
+    more ≡ piece ++ text_of lines → (room ≡ 0 → more ≡ piece) → Held room old so' all later Wrote more
 held_on room old so all now Wrote piece h lines so' later next more is alone = record {
   done = h.done;
   gathered = h.gathered ++ lines;
@@ -89,9 +93,9 @@ module _ {W : Type 0} (sink : Sink W) (first mid : W) (keeps : KeepsPlace sink f
       → WritesFront (sink.written first) (sink.written new) (text_of (given_lines all))
   fails_front new front tells =
       front_of_all (given_lines all) h.done h.gathered (given_lines now) (sink.written first) (sink.written mid)
-          (sink.written new) piece
+      (sink.written new) piece
       (given_front (h.done ++ h.gathered) old so all now h.gives ∙ append_assoc h.done h.gathered (given_lines now))
-          (h.wrote tells) h.piece_is (front (place_told sink first mid keeps tells))
+      (h.wrote tells) h.piece_is (front (place_told sink first mid keeps tells))
 
   pub fails_among : (new : W) → IsTrue (sink.tells first) → (IsTrue (sink.tells mid) →
       WritesFront (sink.written mid) (sink.written new) piece)
@@ -102,7 +106,7 @@ module _ {W : Type 0} (sink : Sink W) (first mid : W) (keeps : KeepsPlace sink f
     gives = h.gives;
     front = subst (λ (m : List ℕ). WritesFront m (sink.written new) (text_of h.gathered)) (h.wrote tells)
         (subst (λ (p : List ℕ). WritesFront (sink.written mid) (sink.written new) p) h.piece_is
-            (front (place_told sink first mid keeps tells)));
+        (front (place_told sink first mid keeps tells)));
     some = h.some;
     alone = h.alone;
   }

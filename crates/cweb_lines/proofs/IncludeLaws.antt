@@ -10,7 +10,8 @@ use Rattle.cweb_lines.specs.Laws.{IncludeLinesAreReplaced, Includes, LinesComeAp
 use Rattle.cweb_lines.specs.Seen.{Seen, followed_by, seen, seen_in}
 use Rattle.cweb_lines.specs.Merge.{Event, Next, RawLine, State, Thing, fault, given, included, obeyed, opened, opening, plain, raw, raws, taking, took}
 use Rattle.cweb_lines.specs.Told.{openings}
-use Rattle.cweb_lines.specs.Total.{halts, merge, merge-run, merge_end, merge_next}
+use Rattle.cweb_lines.specs.Total.{merge, merge-run, merge_end, merge_next}
+use Rattle.cweb_lines.specs.Halting.{halts}
 use Rattle.cweb_lines.specs.declared.fault.SourceKind.TheVariants.{NoName, NotThere, TooDeep}
 use Rattle.cweb_lines.specs.declared.limits.TheConstants.{OPEN_FILES}
 use Rattle.cweb_lines.proofs.Alone.{IsNoSearch, front, raws_seek_not}

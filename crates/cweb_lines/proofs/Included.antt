@@ -8,7 +8,8 @@ use Rattle.cweb_lines.specs.Laws.{IncludedTextsMergeAsWebs, is_too_deep}
 use Rattle.cweb_lines.specs.Merge.{Event, Next, RawLine, Thing, fault, given, onto, opening, passed, raw, raws, run, seek, started, told, took}
 use Rattle.cweb_lines.specs.Seen.{fault_renumbered, line_renumbered, renumbered, seen}
 use Rattle.cweb_lines.specs.Told.{told_faults}
-use Rattle.cweb_lines.specs.Total.{halts, merge-run}
+use Rattle.cweb_lines.specs.Total.{merge-run}
+use Rattle.cweb_lines.specs.Halting.{halts}
 use Rattle.cweb_lines.specs.declared.fault.SourceKind.TheVariants.{TooDeep}
 use Rattle.cweb_lines.proofs.Alone.{IsNoSearch, Kind, becomes, faults, gives, onto_some, opens, raws_seek_not}
 use Rattle.cweb_lines.proofs.Merges.{state}

@@ -41,4 +41,4 @@ module _ {W : Type 0} (sink : Sink W) where
       Writes sink b c more → Writes sink a c (first ++ more)
   writes_then a b c first more keeps one other = λ tells.
       other (place_told a b keeps tells) ∙ ap (λ (t : List ℕ). t ++ more) (one tells)
-          ∙ append_assoc (sink.written a) first more
+      ∙ append_assoc (sink.written a) first more

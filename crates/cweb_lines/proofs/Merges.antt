@@ -1,6 +1,6 @@
 -- What comes of a line that was taken, and how what came adds up.
-use Rattle.std.proofs.Common.{Option, if◌then◌else◌, ◌&&◌, ◌≡◌, ◌≤◌, ◌<◌, ◌+◌, ◌==◌, ℕ, Bool, true, false, List, [], ◌∷◌, ◌++◌, Some, None, refl, sym, ◌∙◌, ap, subst, arith, length, length-append}
-use Rattle.std.proofs.lemmas.List.{append-nil, append_assoc}
+use Rattle.std.proofs.Common.{Option, if◌then◌else◌, ◌&&◌, ◌≡◌, ◌≤◌, ◌<◌, ◌+◌, ◌==◌, ℕ, Bool, true, false, List, [], ◌∷◌, ◌++◌, Some, None, refl, sym, ◌∙◌, ap, subst, arith, length}
+use Rattle.std.proofs.lemmas.List.{append-nil}
 use Rattle.std.specs.Prelude.{nat_lt}
 use Rattle.std.proofs.lemmas.Bool.Decides.{nat_tests}
 use Rattle.cweb_files.specs.declared.place.Place.{Place}
@@ -12,9 +12,9 @@ use Rattle.cweb_lines.specs.Merge.{State, RawLine, Thing, raw, Event, took, give
 use Rattle.cweb_lines.specs.Stages.{begun_by}
 use Rattle.cweb_lines.specs.declared.limits.TheConstants.{OPEN_FILES}
 use Rattle.cweb_lines.specs.declared.text.LineAt.{LineAt}
-use Rattle.cweb_lines.specs.Merging.{SoFar, Gives, GivesBehind, Stopped, StopsBehind}
-use Rattle.cweb_lines.specs.Texts.{Count, Refuses, Took, TopStops, StopsFor}
-use Rattle.cweb_lines.specs.Told.{given_lines, told_faults, openings, taken_lines, size_of, AreShort}
+use Rattle.cweb_lines.specs.Merging.{SoFar, Gives, Stopped}
+use Rattle.cweb_lines.specs.Texts.{Count, Refuses, TopStops, StopsFor}
+use Rattle.cweb_lines.specs.Told.{taken_lines, size_of}
 use Rattle.cweb_lines.specs.Total.{merge, merge_next}
 use Rattle.cweb_lines.specs.declared.fault.SourceFault.{SourceFault}
 use Rattle.cweb_lines.specs.declared.fault.SourceKind.TheVariants.{NoName, TooDeep, NotThere}
@@ -51,7 +51,7 @@ module _ (world : World) (source : SourceLine) (bytes : List ℕ) (at : LineAt)
   passes (Some entry) unbegun =
       ap (λ b. at_entry b entry world before r things)
       (as_read (λ b. at.may_match && bytes_eq b entry.first) false
-          (not_begun (at.may_match && bytes_eq bytes entry.first) entry.begin unbegun))
+      (not_begun (at.may_match && bytes_eq bytes entry.first) entry.begin unbegun))
 
   merge_plain : (next : Next) → plain (is_include source.line.bytes) world before r things ≡ next →
       merge world before ≡ took source ∷ next.0 ++ merge world next.1
@@ -62,7 +62,7 @@ module _ (world : World) (source : SourceLine) (bytes : List ℕ) (at : LineAt)
       (record { bytes = bytes; place = at.place }) ∷ merge world after
   merge_given test =
       merge_plain (given source.line ∷ [], after) (ap (λ b. plain b world before r things)
-          (as_read is_include false test))
+      (as_read is_include false test))
       ∙ ap (λ (l : Line). took source ∷ given l ∷ merge world after) is
 
   pub merge_no_name : is_include bytes ≡ true → include_name bytes ≡ [] →
@@ -70,7 +70,7 @@ module _ (world : World) (source : SourceLine) (bytes : List ℕ) (at : LineAt)
   merge_no_name test empty =
       merge_plain (fault (at_place NoName source.line.place) ∷ [], after)
       (ap (λ b. plain b world before r things) (as_read is_include true test)
-          ∙ ap (λ n. included n world before r things) (as_read include_name [] empty))
+      ∙ ap (λ n. included n world before r things) (as_read include_name [] empty))
       ∙ ap (λ (l : Line). took source ∷ fault (at_place NoName l.place) ∷ merge world after) is
 
   merge_named : (name : List ℕ) (next : Next) → is_include bytes ≡ true → include_name bytes ≡ name → 0 < length name →
@@ -80,14 +80,14 @@ module _ (world : World) (source : SourceLine) (bytes : List ℕ) (at : LineAt)
   merge_named (b ∷ bs) next test named some opens =
       merge_plain next
       (ap (λ b. plain b world before r things) (as_read is_include true test)
-          ∙ ap (λ n. included n world before r things) (as_read include_name (b ∷ bs) named) ∙ opens)
+      ∙ ap (λ n. included n world before r things) (as_read include_name (b ∷ bs) named) ∙ opens)
 
   pub merge_too_deep : is_include bytes ≡ true → 0 < length (include_name bytes) → OPEN_FILES ≤ at.depth →
       merge world before ≡ took source ∷ fault (at_place TooDeep at.place) ∷ merge world after
   merge_too_deep test some deep =
       let room : nat_lt at.depth OPEN_FILES ≡ false = grind (arith, nat_tests) in
       merge_named (include_name bytes) (fault (at_place TooDeep source.line.place) ∷ [], after) test refl some
-          (ap (λ t. opened t world (include_name bytes) before r things) room)
+      (ap (λ t. opened t world (include_name bytes) before r things) room)
       ∙ ap (λ (l : Line). took source ∷ fault (at_place TooDeep l.place) ∷ merge world after) is
 
   pub merge_not_there : is_include bytes ≡ true → 0 < length (include_name bytes) → at.depth < OPEN_FILES →
@@ -97,28 +97,33 @@ module _ (world : World) (source : SourceLine) (bytes : List ℕ) (at : LineAt)
       let room : nat_lt at.depth OPEN_FILES ≡ true = grind (arith, nat_tests) in
       merge_named (include_name bytes) (fault (at_place NotThere source.line.place) ∷ [], after) test refl some
       (ap (λ t. opened t world (include_name bytes) before r things) room
-          ∙ ap (λ o. obeyed o before r things) (sym gone))
+      ∙ ap (λ o. obeyed o before r things) (sym gone))
       ∙ ap (λ (l : Line). took source ∷ fault (at_place NotThere l.place) ∷ merge world after) is
 
   pub merge_opens : (name text : List ℕ) → is_include bytes ≡ true → 0 < length (include_name bytes) →
       at.depth < OPEN_FILES → Some (name, text) ≡ found_at world (include_name bytes)
       → merge world before ≡ took source ∷ opening name ∷ merge world
-          (state (raws (at.depth + 1) at.may_match (lines_in files text) ++ things) pending change (files + 1))
+      (state (raws (at.depth + 1) at.may_match (lines_in files text) ++ things) pending change (files + 1))
   merge_opens name text test some deep there =
       let room : nat_lt at.depth OPEN_FILES ≡ true = grind (arith, nat_tests) in
-      merge_named (include_name bytes) (opening name ∷ [], state
-          (raws (at.depth + 1) at.may_match (lines_in files text) ++ things) pending change (files + 1)) test refl some
+      merge_named (include_name bytes) (
+        opening name ∷ [],
+        state
+            (raws (at.depth + 1) at.may_match (lines_in files text) ++ things) pending change (files + 1),
+      ) test refl some
       (ap (λ t. opened t world (include_name bytes) before r things) room
-          ∙ ap (λ o. obeyed o before r things) (sym there))
+      ∙ ap (λ o. obeyed o before r things) (sym there))
 
 -- whatever comes of a raw line, it is taken first
 pub merge_takes : (world : World) (r : RawLine) (things : List Thing) (pending : Option Entry)
     (change : List SourceLine) (files : ℕ)
     → (rest : List Event) × (merge world (state (raw r ∷ things) pending change files) ≡ took r.source ∷ rest)
 merge_takes world r things pending change files =
-    let next = at_raw pending world (state (raw r ∷ things) pending change files) r things in
-    (next.0 ++ merge world next.1, merge_next world (state (raw r ∷ things) pending change files)
-        (taking r.source next) refl)
+    let next = at_raw pending world (state (raw r ∷ things) pending change files) r things in (
+      next.0 ++ merge world next.1,
+      merge_next world (state (raw r ∷ things) pending change files)
+          (taking r.source next) refl,
+    )
 
 plus_none : (n : ℕ) → n ≡ n + 0
 plus_none n = omega arith
@@ -182,113 +187,10 @@ module _ (old new : SoFar) (all later : List Event) (count : new.count ≡ old.c
     short = tt;
   }
 
--- a line was taken before
-pub gives_took : (lines : List Line) (old mid new : SoFar) (bytes : List ℕ) (place : Place)
-    (t : Took bytes place old.count mid.count) (first all later : List Event)
-    → mid.faults ≡ old.faults → mid.names ≡ old.names → first ≡ all → GivesBehind t.line lines mid new all later →
-        Gives lines old new first later
-gives_took lines old mid new bytes place t first all later faults names is g = record {
-  events = took t.line ∷ g.gives.events;
-  whole = is ∙ g.first ∙ ap (λ (es : List Event). took t.line ∷ es) g.gives.whole;
-  given = g.gives.given;
-  faults = g.gives.faults ∙ ap (λ (fs : List SourceFault). fs ++ told_faults g.gives.events) faults;
-  names = g.gives.names ∙ ap (λ (ns : List (List ℕ)). ns ++ openings g.gives.events) names;
-  lines_are = omega (arith, g.gives.lines_are, t.lines);
-  bytes_are = omega (arith, g.gives.bytes_are, t.bytes_are);
-  short = (t.short, g.gives.short);
-}
-
-pub given-append : (a b : List Event) → given_lines (a ++ b) ≡ given_lines a ++ given_lines b
-given-append [] b = refl
-given-append (took l ∷ a) b = given-append a b
-given-append (given l ∷ a) b = ap (λ (ls : List Line). l ∷ ls) (given-append a b)
-given-append (fault f ∷ a) b = given-append a b
-given-append (opening n ∷ a) b = given-append a b
-
-pub told-append : (a b : List Event) → told_faults (a ++ b) ≡ told_faults a ++ told_faults b
-told-append [] b = refl
-told-append (took l ∷ a) b = told-append a b
-told-append (given l ∷ a) b = told-append a b
-told-append (fault f ∷ a) b = ap (λ (fs : List SourceFault). f ∷ fs) (told-append a b)
-told-append (opening n ∷ a) b = told-append a b
-
-pub openings-append : (a b : List Event) → openings (a ++ b) ≡ openings a ++ openings b
-openings-append [] b = refl
-openings-append (took l ∷ a) b = openings-append a b
-openings-append (given l ∷ a) b = openings-append a b
-openings-append (fault f ∷ a) b = openings-append a b
-openings-append (opening n ∷ a) b = ap (λ (ns : List (List ℕ)). n ∷ ns) (openings-append a b)
-
-pub taken-append : (a b : List Event) → taken_lines (a ++ b) ≡ taken_lines a ++ taken_lines b
-taken-append [] b = refl
-taken-append (took l ∷ a) b = ap (λ (ls : List SourceLine). l ∷ ls) (taken-append a b)
-taken-append (given l ∷ a) b = taken-append a b
-taken-append (fault f ∷ a) b = taken-append a b
-taken-append (opening n ∷ a) b = taken-append a b
-
-pub size-append : (a b : List SourceLine) → size_of (a ++ b) ≡ size_of a + size_of b
-size-append [] b = omega arith
-size-append (l ∷ a) b = omega (arith, size-append a b)
-
-pub short-append : (a b : List SourceLine) → AreShort a → AreShort b → AreShort (a ++ b)
-short-append [] b none short = short
-short-append (l ∷ a) b short short' = (short.0, short-append a b short.1 short')
-
-pub lines_taken-append : (a b : List Event) → length (taken_lines (a ++ b)) ≡ length (taken_lines a) + length
-    (taken_lines b)
-lines_taken-append a b = ap (λ (ls : List SourceLine). length ls) (taken-append a b)
-    ∙ length-append (taken_lines a) (taken_lines b)
-
-pub bytes_taken-append : (a b : List Event) → size_of (taken_lines (a ++ b)) ≡ size_of (taken_lines a) + size_of
-    (taken_lines b)
-bytes_taken-append a b = ap size_of (taken-append a b) ∙ size-append (taken_lines a) (taken_lines b)
-
-pub gives_both : (lines more : List Line) (old mid new : SoFar) (all now later : List Event) →
-    Gives lines old mid all now → Gives more mid new now later → Gives (lines ++ more) old new all later
-gives_both lines more old mid new all now later a b = record {
-  events = a.events ++ b.events;
-  whole = a.whole ∙ ap (λ (es : List Event). a.events ++ es) b.whole ∙ sym (append_assoc a.events b.events later);
-  given = given-append a.events b.events ∙ ap (λ (ls : List Line). ls ++ given_lines b.events) a.given
-      ∙ ap (λ (ls : List Line). lines ++ ls) b.given;
-  faults = b.faults ∙ ap (λ (fs : List SourceFault). fs ++ told_faults b.events) a.faults
-      ∙ append_assoc old.faults (told_faults a.events) (told_faults b.events)
-      ∙ ap (λ (fs : List SourceFault). old.faults ++ fs) (sym (told-append a.events b.events));
-  names = b.names ∙ ap (λ (ns : List (List ℕ)). ns ++ openings b.events) a.names
-      ∙ append_assoc old.names (openings a.events) (openings b.events)
-      ∙ ap (λ (ns : List (List ℕ)). old.names ++ ns) (sym (openings-append a.events b.events));
-  lines_are = omega (arith, a.lines_are, b.lines_are, lines_taken-append a.events b.events);
-  bytes_are = omega (arith, a.bytes_are, b.bytes_are, bytes_taken-append a.events b.events);
-  short = subst AreShort (sym (taken-append a.events b.events))
-      (short-append (taken_lines a.events) (taken_lines b.events) a.short b.short);
-}
-
--- a stop behind what came
-pub behind_both : (lines more : List Line) (stop : Stop) (old mid : SoFar) (now : Count) (all rest : List Event) →
-    Gives lines old mid all rest → StopsBehind more stop mid.count now rest
-    → StopsBehind (lines ++ more) stop old.count now all
-behind_both lines more stop old mid now all rest gives stops =
-    let lines_are = ap (λ (es : List Event). length (taken_lines es)) gives.whole in
-    let bytes_are = ap (λ (es : List Event). size_of (taken_lines es)) gives.whole in
-    record {
-      events = gives.events ++ stops.events;
-      line = stops.line;
-      later = stops.later;
-      whole = gives.whole ∙ ap (λ (es : List Event). gives.events ++ es) stops.whole
-          ∙ sym (append_assoc gives.events stops.events (took stops.line ∷ stops.later));
-      given = given-append gives.events stops.events ∙ (λ i. gives.given i ++ stops.given i);
-      why = stops.why;
-      few = omega (arith, lines_are, gives.lines_are, lines_taken-append gives.events rest, stops.few);
-      small = omega (arith, bytes_are, gives.bytes_are, bytes_taken-append gives.events rest, stops.small);
-    }
-
-pub stopped_after : (stop : Stop) (old mid : SoFar) (now : Count) (all rest : List Event) → Gives [] old mid all rest →
-    Stopped stop mid.count now rest → Stopped stop old.count now all
-stopped_after stop old mid now all rest gives = stops_map stop (behind_both [] [] stop old mid now all rest gives)
-
 -- the line that comes first is the one that stops
 pub stopped_first : (stop : Stop) (Why : Type 0) (count now : Count) (all : List Event) → now ≡ count
     → (Why → (line : SourceLine) × ((later : List Event) × (all ≡ took line ∷ later)) × Refuses stop count line) →
-        StopsFor Why stop → Stopped stop count now all
+    StopsFor Why stop → Stopped stop count now all
 stopped_first stop Why count now all same first = stops_map stop (λ why.
     let line = first why in
     let lines = ap (λ (es : List Event). length (taken_lines es)) line.1.1 in
@@ -313,9 +215,15 @@ pub stopped_by : (stop : Stop) (count now : Count) (world : World) (things : Lis
 stopped_by stop count now world things pending change files same stops =
     stopped_first stop (TopStops stop count things) count now _ same
     (λ top.
-    let taken = merge_takes world top.raw_line top.rest pending change files in
-    (top.raw_line.source, (taken.0, ap (λ (ts : List Thing). merge world (state ts pending change files)) top.first
-        ∙ taken.1), top.why))
+    let taken = merge_takes world top.raw_line top.rest pending change files in (
+      top.raw_line.source,
+      (
+        taken.0,
+        ap (λ (ts : List Thing). merge world (state ts pending change files)) top.first
+            ∙ taken.1,
+      ),
+      top.why,
+    ))
     stops
 
 pub include_long : (line : List ℕ) → is_include line ≡ true → 2 ≤ length line

@@ -51,14 +51,18 @@ no_newline-append (x ∷ xs) ys none_x none_y = (none_x.0, no_newline-append xs 
 -- a line that gets too long
 pub longer : (limit : ℕ) (line front rest : List ℕ) → HasNoNewline line → HasNoNewline front →
     limit < length line + length front → IsLongerThan limit (line ++ (front ++ rest))
-longer limit line front rest none_l none_f more =
-    (line ++ front, rest, sym (append_assoc line front rest), no_newline-append line front none_l none_f,
-        omega (arith, length-append line front))
+longer limit line front rest none_l none_f more = (
+  line ++ front,
+  rest,
+  sym (append_assoc line front rest),
+  no_newline-append line front none_l none_f,
+  omega (arith, length-append line front),
+)
 
 -- what is left of a piece behind its first newline
 pub behind : (piece : List ℕ) (start end at : ℕ) → SplitsAt (take (end - start) (drop start piece)) at → start ≤ end
     → take (end - start) (drop start piece) ≡ take at (take (end - start) (drop start piece))
-        ++ 10 ∷ take (end - (start + (at + 1))) (drop (start + (at + 1)) piece)
+    ++ 10 ∷ take (end - (start + (at + 1))) (drop (start + (at + 1)) piece)
 behind piece start end at splits le =
     splits.split ∙ ap (λ (l : List ℕ). take at (take (end - start) (drop start piece)) ++ 10 ∷ l) rest
   where
@@ -98,13 +102,13 @@ taken_more all line old rest after new is none takes = (
 -- the first line of a text that begins with bytes other than newlines has those bytes at least
 pub longer_first : (front rest : List ℕ) → HasNoNewline front → 0 < length front
     → (line : TextLine) × (lines : List TextLine) × (text_lines (front ++ rest) ≡ line ∷ lines)
-        × (length front ≤ length line.bytes)
+    × (length front ≤ length line.bytes)
 longer_first [] rest none some = absurd (omega arith)
 longer_first (b ∷ []) rest none some = by (text_lines rest) (no_more b none.0 rest [])
   where
     by : (lines : List TextLine) → text_lines (b ∷ rest) ≡ onto_first b lines
         → (line : TextLine) × (lines' : List TextLine) × (text_lines (b ∷ rest) ≡ line ∷ lines')
-            × (1 ≤ length line.bytes)
+        × (1 ≤ length line.bytes)
     by [] is = (record { bytes = b ∷ []; size = 1 }, [], is, omega arith)
     by (line ∷ lines) is = (record { bytes = b ∷ line.bytes; size = line.size + 1 }, lines, is, omega arith)
 longer_first (b ∷ c ∷ front) rest none some =

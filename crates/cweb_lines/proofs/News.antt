@@ -1,12 +1,12 @@
 -- The new side of a change, line by line.
-use Rattle.std.proofs.Common.{◌≡◌, ◌-◌, ℕ, true, false, List, [], ◌∷◌, ◌++◌, Some, None, Option, refl, sym, ◌∙◌, ap, arith, length}
+use Rattle.std.proofs.Common.{◌≡◌, ◌-◌, ℕ, false, List, [], ◌∷◌, ◌++◌, Some, None, Option, refl, sym, ◌∙◌, ap, arith, length}
 use denote.Enum.Bare.{sameb}
 use Rattle.cweb_files.specs.declared.place.Place.{Place}
 use Rattle.cweb_lines.specs.Change.{at_place, code_of}
 use Rattle.cweb_lines.specs.Finding.{text_of_name, world_in}
 use Rattle.cweb_lines.specs.Include.{World}
 use Rattle.cweb_lines.specs.Lines.{Line, SourceLine}
-use Rattle.cweb_lines.specs.Merge.{Event, NewSide, Thing, fault, new_at, new_lines, new_things, passed, raw, seek, told, took}
+use Rattle.cweb_lines.specs.Merge.{Event, NewSide, Thing, fault, new_at, new_lines, passed, raw, seek, told, took}
 use Rattle.cweb_lines.specs.Merging.{Gives, SoFar, Stopped, change_lines, coming, coming_after, things_of, told_by}
 use Rattle.cweb_lines.specs.Counts.{count_of}
 use Rattle.cweb_lines.specs.Names.{names_of}
@@ -26,26 +26,13 @@ use Rattle.cweb_lines.specs.declared.text.LineAt.{LineAt}
 use Rattle.cweb_lines.proofs.Adds.{adds_faults, adds_one, gives_adds}
 use Rattle.cweb_lines.proofs.Merges.{gives_fault, merge_takes, state, stopped_first}
 use Rattle.cweb_lines.proofs.Stacks.{over-none}
-
--- what a comparison of codes says
-pub is_end : (code : Code) → sameb the_type code end_side ≡ true → code ≡ end_side
-is_end old_side same = absurd (cc)
-is_end new_side same = absurd (cc)
-is_end end_side same = refl
-
-pub is_faulty_new : (code : Code) (depth : ℕ) (line : SourceLine) (lines : List SourceLine) (later : NewSide) →
-    sameb the_type code end_side ≡ false
-    → new_at (Some code) depth line lines later ≡ new_things
-        (passed line ∷ told (at_place WantsZ line.line.place) ∷ []) later
-is_faulty_new old_side depth line lines later other = refl
-is_faulty_new new_side depth line lines later other = refl
-is_faulty_new end_side depth line lines later other = absurd (cc)
+use Rattle.cweb_lines.proofs.Codes.{is_faulty_new}
 
 -- what is to come of a change's new lines, in front of what the texts below have left
 abbrev pub coming_new : World → Change → List SourceLine → List Thing → ℕ → List Event
 coming_new world change lines below files =
     merge world (state ((new_lines change.depth change.begin lines).things ++ seek ∷ below) None
-        (new_lines change.depth change.begin lines).rest files)
+    (new_lines change.depth change.begin lines).rest files)
 
 module _ (world : World) (change : Change) (below : List Thing) (files : ℕ) where
   abbrev of_side : NewSide → List Event
@@ -57,17 +44,17 @@ module _ (world : World) (change : Change) (below : List Thing) (files : ℕ) wh
   new_none lines none =
       ap (λ (ls : List SourceLine). coming_new world change ls below files) none
       ∙ merge_next world (state (told (at_place EndedBeforeZ change.begin) ∷ seek ∷ below) None [] files)
-          (fault (at_place EndedBeforeZ change.begin) ∷ [], state (seek ∷ below) None [] files) refl
+      (fault (at_place EndedBeforeZ change.begin) ∷ [], state (seek ∷ below) None [] files) refl
       ∙ ap (λ (es : List Event). fault (at_place EndedBeforeZ change.begin) ∷ es)
-          (merge_next world (state (seek ∷ below) None [] files) ([], state below None [] files) refl)
+      (merge_next world (state (seek ∷ below) None [] files) ([], state below None [] files) refl)
 
   module _ (line : SourceLine) (lines : List SourceLine) where
     takes_by : (code : Option Code) → (rest : List Event) × (of_side
         (new_at code change.depth line lines (new_lines change.depth change.begin lines)) ≡ took line ∷ rest)
     takes_by None =
         merge_takes world (record { source = line; depth = change.depth; may_match = false })
-            ((new_lines change.depth change.begin lines).things ++ seek ∷ below) None
-            (new_lines change.depth change.begin lines).rest files
+        ((new_lines change.depth change.begin lines).things ++ seek ∷ below) None
+        (new_lines change.depth change.begin lines).rest files
     takes_by (Some old_side) = (_, merge_next world _ (took line ∷ [], _) refl)
     takes_by (Some new_side) = (_, merge_next world _ (took line ∷ [], _) refl)
     takes_by (Some end_side) = (_, merge_next world _ (took line ∷ [], _) refl)
@@ -79,16 +66,16 @@ module _ (world : World) (change : Change) (below : List Thing) (files : ℕ) wh
     module _ (bytes : List ℕ) (place : Place) (is : line.line ≡ record { bytes = bytes; place = place }) where
       side : (code : Option Code) → code_of bytes ≡ code
           → coming_new world change (line ∷ lines) below files ≡ of_side
-              (new_at code change.depth line lines (new_lines change.depth change.begin lines))
+          (new_at code change.depth line lines (new_lines change.depth change.begin lines))
       side code test =
           ap (λ (l : Line). of_side (new_at (code_of l.bytes) change.depth line lines
-              (new_lines change.depth change.begin lines))) is
+          (new_lines change.depth change.begin lines))) is
           ∙ ap (λ k. of_side (new_at k change.depth line lines (new_lines change.depth change.begin lines))) test
 
       pub new_line : code_of bytes ≡ None → coming_new world change (line ∷ lines) below files
           ≡ merge world (state (raw (record { source = line; depth = change.depth; may_match = false })
-              ∷ (new_lines change.depth change.begin lines).things
-              ++ seek ∷ below) None (new_lines change.depth change.begin lines).rest files)
+          ∷ (new_lines change.depth change.begin lines).things
+          ++ seek ∷ below) None (new_lines change.depth change.begin lines).rest files)
       new_line test = side None test
 
       pub new_end : code_of bytes ≡ Some end_side → coming_new world change
@@ -98,20 +85,25 @@ module _ (world : World) (change : Change) (below : List Thing) (files : ℕ) wh
 
       pub new_fault : (code : Code) → code_of bytes ≡ Some code → sameb the_type code end_side ≡ false
           → coming_new world change (line ∷ lines) below files ≡ took line ∷ fault
-              (at_place WantsZ place) ∷ coming_new world change lines below files
+          (at_place WantsZ place) ∷ coming_new world change lines below files
       new_fault code test other =
           let l = new_lines change.depth change.begin lines in
           side (Some code) test
           ∙ ap of_side (is_faulty_new code change.depth line lines l other)
           ∙ merge_next world (state (passed line ∷ told (at_place WantsZ line.line.place) ∷ l.things ++ seek ∷ below)
-              None l.rest files) (took line ∷ [], state (told (at_place WantsZ line.line.place) ∷ l.things
-              ++ seek ∷ below) None l.rest files) refl
+          None l.rest files) (
+            took line ∷ [],
+            state (told (at_place WantsZ line.line.place) ∷ l.things
+                ++ seek ∷ below) None l.rest files,
+          ) refl
           ∙ ap (λ (es : List Event). took line ∷ es)
           (merge_next world (state (told (at_place WantsZ line.line.place) ∷ l.things ++ seek ∷ below) None l.rest
-              files) (fault (at_place WantsZ line.line.place) ∷ [],
-              state (l.things ++ seek ∷ below) None l.rest files) refl)
+          files) (
+            fault (at_place WantsZ line.line.place) ∷ [],
+            state (l.things ++ seek ∷ below) None l.rest files,
+          ) refl)
           ∙ ap (λ (at : Line). took line ∷ fault (at_place WantsZ at.place) ∷ coming_new world change lines below files)
-              is
+          is
 
   -- the next new line can't be taken
   pub new_stops : (stop : Stop) (lines : List SourceLine) (count now : Count) → now ≡ count →
@@ -119,9 +111,15 @@ module _ (world : World) (change : Change) (below : List Thing) (files : ℕ) wh
   new_stops stop lines count now same stops =
       stopped_first stop (FirstStops stop count lines) count now _ same
       (λ first.
-      let taken = new_takes first.line first.rest in
-      (first.line, (taken.0, ap (λ (ls : List SourceLine). coming_new world change ls below files) first.first
-          ∙ taken.1), first.why))
+      let taken = new_takes first.line first.rest in (
+        first.line,
+        (
+          taken.0,
+          ap (λ (ls : List SourceLine). coming_new world change ls below files) first.first
+              ∙ taken.1,
+        ),
+        first.why,
+      ))
       stops
 
 -- a run whose new lines come, where no more texts are open than when they began
@@ -134,7 +132,7 @@ module _ {R : Type 0} (t : List ℕ → Option (List ℕ)) (l : R → List ℕ) 
   things_new =
       (λ i. things_in l (stage i) (change_lines l run) run.stack)
       ∙ over-none l change.below (run.stack.depth - change.below) run.stack.texts
-          (things_below l change (change_lines l run) run.stack) (omega (arith, low))
+      (things_below l change (change_lines l run) run.stack) (omega (arith, low))
 
   pub coming_is : coming t l run ≡ coming_new (world_in t run.inputs) change (change_lines l run) texts_below
       (length (names_of run.names))
@@ -143,12 +141,12 @@ module _ {R : Type 0} (t : List ℕ → Option (List ℕ)) (l : R → List ℕ) 
 
   pub coming_after_is : (at : LineAt) (source : SourceLine) → coming_after t l run at source
       ≡ merge (world_in t run.inputs) (state (raw_at at source
-          ∷ (new_lines change.depth change.begin (change_lines l run)).things
-          ++ seek ∷ texts_below) None (new_lines change.depth change.begin (change_lines l run)).rest (length
-          (names_of run.names)))
+      ∷ (new_lines change.depth change.begin (change_lines l run)).things
+      ++ seek ∷ texts_below) None (new_lines change.depth change.begin (change_lines l run)).rest (length
+      (names_of run.names)))
   coming_after_is at source =
       λ i. merge (world_in t run.inputs) (state (raw_at at source ∷ things_new i) (pending_in (stage i) run.first.items)
-          (change_in (stage i) (change_lines l run)) (length (names_of run.names)))
+      (change_in (stage i) (change_lines l run)) (length (names_of run.names)))
 
   pub below_are : things_above l 0 run.stack [] ≡ texts_below
   below_are = ap (λ n. things_over l 0 n run.stack.texts []) (omega (arith, low))
@@ -176,7 +174,7 @@ module _ {R : Type 0} (t t' : List ℕ → Option (List ℕ)) (l l' : R → List
         (state (things_above l' 0 stack' []) None [] files')
     done_is = sym (
         (λ i. merge (record { texts = texts i; inputs = inputs i })
-            (state (things_above (left i) 0 (stack i) []) None [] (same_files i)))
+        (state (things_above (left i) 0 (stack i) []) None [] (same_files i)))
         ∙ ap (λ (things : List Thing). merge world (state things None [] files)) (below_are t l run change stage low))
 
     -- the next entry is sought
@@ -184,37 +182,37 @@ module _ {R : Type 0} (t t' : List ℕ → Option (List ℕ)) (l l' : R → List
         (state (seek ∷ things_above l' 0 stack' []) None lines files')
     seeking_is lines = sym (
         (λ i. merge (record { texts = texts i; inputs = inputs i })
-            (state (seek ∷ things_above (left i) 0 (stack i) []) None lines (same_files i)))
+        (state (seek ∷ things_above (left i) 0 (stack i) []) None lines (same_files i)))
         ∙ ap (λ (things : List Thing). merge world (state (seek ∷ things) None lines files))
-            (below_are t l run change stage low))
+        (below_are t l run change stage low))
 
     pub new_ended : change_lines l run ≡ [] → new.count ≡ count_of run.limits →
         new.faults ≡ run.faults.items ++ at_place EndedBeforeZ change.begin ∷ [] → new.names ≡ names_of run.names
         → Gives [] (told_by run) new (coming t l run) (merge world'
-            (state (things_above l' 0 stack' []) None [] files'))
+        (state (things_above l' 0 stack' []) None [] files'))
     new_ended none count faults names =
         gives_fault (told_by run) new _ _ count (at_place EndedBeforeZ change.begin)
         (coming_is t l run change stage low ∙ new_none world change under files (change_lines l run) none
-            ∙ ap (λ (es : List Event). fault (at_place EndedBeforeZ change.begin) ∷ es) done_is) faults names
+        ∙ ap (λ (es : List Event). fault (at_place EndedBeforeZ change.begin) ∷ es) done_is) faults names
 
     pub new_side_ended : (bytes : List ℕ) (place : Place) (taken : Took bytes place (count_of run.limits) new.count)
         (rest : List SourceLine) → change_lines l run ≡ taken.line ∷ rest → new.faults ≡ run.faults.items →
         new.names ≡ names_of run.names
         → code_of bytes ≡ Some end_side → Gives [] (told_by run) new (coming t l run)
-            (merge world' (state (seek ∷ things_above l' 0 stack' []) None rest files'))
+        (merge world' (state (seek ∷ things_above l' 0 stack' []) None rest files'))
     new_side_ended bytes place taken rest is faults names test =
         gives_adds (taken.line ∷ []) [] (told_by run) new _ _
         (coming_is t l run change stage low ∙ ap (λ (ls : List SourceLine). coming_new world change ls under files) is
         ∙ new_end world change under files taken.line rest bytes place taken.is test
-            ∙ ap (λ (es : List Event). took taken.line ∷ es) (seeking_is rest))
+        ∙ ap (λ (es : List Event). took taken.line ∷ es) (seeking_is rest))
         (adds_one (told_by run) new bytes place taken faults names)
 
   -- where it goes on
   module _ (run' : Run R) (inputs : run'.inputs ≡ run.inputs) (stack : run'.stack ≡ run.stack)
       (names : names_of run'.names ≡ names_of run.names) (same : run'.stage ≡ run.stage)
       (mid : SoFar) (bytes : List ℕ) (place : Place) (taken : Took bytes place (count_of run.limits) mid.count)
-          (rest : change_lines l run ≡ taken.line ∷ change_lines l' run') (same_faults : mid.faults ≡ run.faults.items)
-          (same_names : mid.names ≡ names_of run.names) where
+      (rest : change_lines l run ≡ taken.line ∷ change_lines l' run') (same_faults : mid.faults ≡ run.faults.items)
+      (same_names : mid.names ≡ names_of run.names) where
     low' : run'.stack.depth ≡ change.below
     low' = ap (λ (s : Stack R). s.depth) stack ∙ low
 
@@ -222,7 +220,7 @@ module _ {R : Type 0} (t t' : List ℕ → Option (List ℕ)) (l l' : R → List
     more_is = sym (
         coming_is t' l' run' change (same ∙ stage) low'
         ∙ (λ i. coming_new (world_in (texts i) (inputs i)) change (change_lines l' run')
-            (things_over (left i) 0 change.below ((stack i).texts) []) (length (names i))))
+        (things_over (left i) 0 change.below ((stack i).texts) []) (length (names i))))
 
     first : coming t l run ≡ coming_new world change (taken.line ∷ change_lines l' run') under files
     first = coming_is t l run change stage low ∙ ap (λ (ls : List SourceLine). coming_new world change ls under files)
@@ -234,10 +232,10 @@ module _ {R : Type 0} (t t' : List ℕ → Option (List ℕ)) (l l' : R → List
     new_faulty code test other faults new_names count =
         gives_adds (taken.line ∷ []) (at_place WantsZ place ∷ []) (told_by run) (told_by run') _ _
         (first ∙ new_fault world change under files taken.line
-            (change_lines l' run') bytes place taken.is code test other
-            ∙ ap (λ (es : List Event). took taken.line ∷ fault (at_place WantsZ place) ∷ es) more_is)
+        (change_lines l' run') bytes place taken.is code test other
+        ∙ ap (λ (es : List Event). took taken.line ∷ fault (at_place WantsZ place) ∷ es) more_is)
         (adds_faults [] (at_place WantsZ place ∷ []) (taken.line ∷ []) (told_by run) mid (told_by run')
-            (adds_one (told_by run) mid bytes place taken same_faults same_names) faults new_names count)
+        (adds_one (told_by run) mid bytes place taken same_faults same_names) faults new_names count)
 
     -- a line that is no code line comes first
     pub new_first : code_of bytes ≡ None → coming t l run ≡ coming_after t' l' run'
@@ -245,9 +243,9 @@ module _ {R : Type 0} (t t' : List ℕ → Option (List ℕ)) (l l' : R → List
     new_first test =
         first ∙ new_line world change under files taken.line (change_lines l' run') bytes place taken.is test
         ∙ sym (coming_after_is t' l' run' change (same ∙ stage) low'
-            (record { place = place; depth = change.depth; may_match = false }) taken.line
+        (record { place = place; depth = change.depth; may_match = false }) taken.line
         ∙ (λ i. merge (world_in (texts i) (inputs i)) (state
-            (raw (record { source = taken.line; depth = change.depth; may_match = false })
-            ∷ (new_lines change.depth change.begin (change_lines l' run')).things
-            ++ seek ∷ things_over (left i) 0 change.below ((stack i).texts) [])
+        (raw (record { source = taken.line; depth = change.depth; may_match = false })
+        ∷ (new_lines change.depth change.begin (change_lines l' run')).things
+        ++ seek ∷ things_over (left i) 0 change.below ((stack i).texts) [])
         None (new_lines change.depth change.begin (change_lines l' run')).rest (length (names i)))))

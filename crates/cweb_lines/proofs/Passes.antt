@@ -19,7 +19,8 @@ use Rattle.cweb_lines.specs.declared.run.Run.{Run}
 use Rattle.cweb_lines.specs.declared.text.stack.Stack.{Stack}
 use Rattle.cweb_lines.specs.declared.text.LineAt.{LineAt}
 use Rattle.cweb_lines.specs.declared.text.OpenText.{OpenText}
-use Rattle.cweb_lines.proofs.Merges.{gives_both, gives_line, gives_nothing, gives_took, merge_given}
+use Rattle.cweb_lines.proofs.Merges.{gives_line, gives_nothing, merge_given}
+use Rattle.cweb_lines.proofs.Sums.{gives_both, gives_took}
 use Rattle.cweb_lines.proofs.Runs.{coming_of, takes_in}
 use Rattle.cweb_lines.proofs.Trims.{takes_first, whole_takes}
 use Rattle.cweb_lines.proofs.Writes.{text_of-append}
@@ -28,48 +29,56 @@ use Rattle.cweb_lines.proofs.Writes.{text_of-append}
 module _ {R : Type 0} (entry : Option Entry) (old new : OpenText R) (before after : Count) (piece more : List ℕ)
     (file : new.file ≡ old.file) (number : new.line ≡ old.line + 1)
     (reader : new.source.reader.value ≡ old.source.reader.value)
-        (passes : PassesWhole entry old.may_match (pending old.source) (pending new.source) before after piece more)
-        where
-  abbrev place_at : LineAt
-  place_at = record { place = record { file = old.file; line = old.line + 1 }; depth = old.depth; may_match =
-      old.may_match }
+    (passes : PassesWhole entry old.may_match (pending old.source) (pending new.source) before after piece more)
+  where
+    abbrev place_at : LineAt
+    place_at = record {
+      place = record { file = old.file; line = old.line + 1 };
+      depth = old.depth;
+      may_match =
+          old.may_match;
+    }
 
-  takes_text : (left : R → List ℕ) → TakesLine (lines_at left (Some old)) (Some place_at) passes.bytes
-      (lines_at left (Some new)) before after
-  takes_text left =
-      let whole = whole_takes (pending old.source) (pending new.source) (left old.source.reader.value)
-          (left new.source.reader.value) passes.bytes passes.size passes.takes (ap left (sym reader)) in
-      let first = takes_first passes.bytes whole.raw (pending old.source ++ left old.source.reader.value)
-          (pending new.source ++ left new.source.reader.value) old.file.0
-          (old.line + 1) old.depth old.may_match whole.taken before after
-      whole.some whole.takes whole.bytes_are whole.short passes.lines
-          (passes.bytes_are ∙ ap (λ n. before.bytes + n) whole.size_is) in (
-        first.0,
-        first.1 ∙ (λ i. first.0.line ∷ numbered (sym file i).0 (sym number i + 1)
-            (text_lines (pending new.source ++ left new.source.reader.value))),
-      )
+    takes_text : (left : R → List ℕ) → TakesLine (lines_at left (Some old)) (Some place_at) passes.bytes
+        (lines_at left (Some new)) before after
+    takes_text left =
+        let whole = whole_takes (pending old.source) (pending new.source) (left old.source.reader.value)
+        (left new.source.reader.value) passes.bytes passes.size passes.takes (ap left (sym reader)) in
+        let first = takes_first passes.bytes whole.raw (pending old.source ++ left old.source.reader.value)
+        (pending new.source ++ left new.source.reader.value) old.file.0
+        (old.line + 1) old.depth old.may_match whole.taken before after
+        whole.some whole.takes whole.bytes_are whole.short passes.lines
+        (passes.bytes_are ∙ ap (λ n. before.bytes + n) whole.size_is) in (
+          first.0,
+          first.1 ∙ (λ i. first.0.line ∷ numbered (sym file i).0 (sym number i + 1)
+              (text_lines (pending new.source ++ left new.source.reader.value))),
+        )
 
-  pub passes_text : PassesText entry (Some old) (Some new) before after piece more
-  passes_text = record {
-    at = place_at;
-    bytes = passes.bytes;
-    takes = takes_text;
-    depth = refl;
-    may_match = refl;
-    plain = passes.plain;
-    unbegun = passes.unbegun;
-    gathered = passes.gathered;
-    lines = passes.lines;
-  }
+    pub passes_text : PassesText entry (Some old) (Some new) before after piece more
+    passes_text = record {
+      at = place_at;
+      bytes = passes.bytes;
+      takes = takes_text;
+      depth = refl;
+      may_match = refl;
+      plain = passes.plain;
+      unbegun = passes.unbegun;
+      gathered = passes.gathered;
+      lines = passes.lines;
+    }
 
 -- what came of a run, by its stack and its counts afterwards
 pub record PassesRun {R : Type 0} (run : Run R) (stack : Stack R) (limits : Limits) (piece more : List ℕ) : Type 0 where
   pub lines : List Line
   pub gives : (t : List ℕ → Option (List ℕ)) (l : R → List ℕ) →
-      Gives lines (told_by run) (record { faults = run.faults.items; names = names_of run.names; count =
-      count_of limits }) (coming t l run)
+      Gives lines (told_by run) (record {
+        faults = run.faults.items;
+        names = names_of run.names;
+        count =
+            count_of limits;
+      }) (coming t l run)
       (coming_of t (text_of_name run.inputs) l run.stage run.change run.first.items (length (names_of run.names))
-          (things_in l run.stage (lines_at l run.change) stack))
+      (things_in l run.stage (lines_at l run.change) stack))
   pub gathered : more ≡ piece ++ text_of lines
 
 module _ {R : Type 0} (run : Run R) (stack : Stack R) (limits : Limits) (piece more : List ℕ) where
@@ -77,22 +86,29 @@ module _ {R : Type 0} (run : Run R) (stack : Stack R) (limits : Limits) (piece m
   passes_one : IsSettled run.stage → floor_of run.stage < run.stack.depth →
       StaysBelow (run.stack.depth - 1) run.stack.texts stack.texts
       → PassesTop (pending_of run) run.stack stack (count_of run.limits) (count_of limits) piece more →
-          PassesRun run stack limits piece more
+      PassesRun run stack limits piece more
   passes_one settled floor below passes =
       let line : Line = record { bytes = passes.bytes; place = passes.at.place } in
       let under : StaysBelow (floor_of run.stage) run.stack.texts stack.texts =
-          λ left n le rest. below left n (omega (arith, le, floor)) rest in
+      λ left n le rest. below left n (omega (arith, le, floor)) rest in
       record {
         lines = line ∷ [];
         gives = λ t l.
             let taken = takes_in l l refl run.stage (change_lines l run) run.stack stack (Some passes.at) passes.bytes
-                (count_of run.limits) (count_of limits) settled (passes.takes l (floor_of run.stage) floor) under in
-            gives_took (line ∷ []) (told_by run) (record { faults = run.faults.items; names = names_of run.names;
-                count = count_of limits }) (record { faults = run.faults.items; names = names_of run.names; count =
-                count_of limits })
+            (count_of run.limits) (count_of limits) settled (passes.takes l (floor_of run.stage) floor) under in
+            gives_took (line ∷ []) (told_by run) (record {
+              faults = run.faults.items;
+              names = names_of run.names;
+              count = count_of limits;
+            }) (record {
+              faults = run.faults.items;
+              names = names_of run.names;
+              count =
+                  count_of limits;
+            })
             passes.bytes passes.at.place taken.0 (coming t l run) _ _ refl refl
             (ap (λ (ts : List Thing). coming_of t (text_of_name run.inputs) l run.stage run.change run.first.items
-                (length (names_of run.names)) ts) taken.1)
+            (length (names_of run.names)) ts) taken.1)
             (record {
               rest = _;
               first = merge_given _ taken.0.line passes.bytes passes.at taken.0.is _ _ _ _ passes.unbegun passes.plain;
@@ -106,7 +122,7 @@ module _ {R : Type 0} (run : Run R) (stack : Stack R) (limits : Limits) (piece m
     lines = [];
     gives = λ t l. gives_nothing _ _ _ _ (ap count_of counts)
         (ap (λ s. coming_of t (text_of_name run.inputs) l run.stage run.change run.first.items
-            (length (names_of run.names)) (things_in l run.stage (lines_at l run.change) s)) (sym stacks)) refl refl;
+        (length (names_of run.names)) (things_in l run.stage (lines_at l run.change) s)) (sym stacks)) refl refl;
     gathered = pieces ∙ sym (append-nil piece);
   }
 
@@ -114,7 +130,7 @@ module _ {R : Type 0} (run : Run R) (stack : Stack R) (limits : Limits) (piece m
       StaysBelow (run.stack.depth - 1) run.stack.texts stack.texts
       → (IsTrue passed → PassesTop (pending_of run) run.stack stack (count_of run.limits) (count_of limits) piece more)
       → (passed ≡ false → (stack ≡ run.stack) × (limits ≡ run.limits) × (more ≡ piece)) →
-          PassesRun run stack limits piece more
+      PassesRun run stack limits piece more
   passes_run true settled floor below passed_by none_by = passes_one settled floor below (passed_by refl)
   passes_run false settled floor below passed_by none_by = passes_none (none_by refl).0 (none_by refl).1
       (none_by refl).2

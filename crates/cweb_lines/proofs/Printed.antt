@@ -8,11 +8,13 @@ use Rattle.cweb_lines.specs.Laws.{PrintedMergesComeAgain}
 use Rattle.cweb_lines.specs.Seen.{Seen, placed}
 use Rattle.cweb_lines.specs.Merge.{Event, Next, State, Thing, at_raw, fault, onto, passed, raw, run, seek, started, told, took}
 use Rattle.cweb_lines.specs.Told.{given_lines}
-use Rattle.cweb_lines.specs.Total.{halts, merge, merge-run}
+use Rattle.cweb_lines.specs.Total.{merge, merge-run}
+use Rattle.cweb_lines.specs.Halting.{halts}
 use Rattle.cweb_lines.specs.Writing.{text_of}
 use Rattle.cweb_lines.specs.declared.fault.SourceKind.TheVariants.{NoMatch}
 use Rattle.cweb_lines.proofs.Alone.{onto_some}
-use Rattle.cweb_lines.proofs.Merges.{given-append, state}
+use Rattle.cweb_lines.proofs.Merges.{state}
+use Rattle.cweb_lines.proofs.Sums.{given-append}
 use Rattle.cweb_lines.proofs.Newlines.{text_lines-full}
 use Rattle.cweb_lines.proofs.WebLaws.{webs_without_includes}
 use Rattle.cweb_lines.proofs.Cuts.{IsCutLine, IsCutState, IsCutThing, IsPrinted, Keeps, all-append, faults-silent, lines_in-cut, raw_keeps, raws-cut, silent-append, silent_keeps, sought-cut, took-silent}

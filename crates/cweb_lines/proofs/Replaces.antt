@@ -1,7 +1,6 @@
 -- The old side of a change, line by line.
-use Rattle.std.proofs.Common.{◌≡◌, ◌+◌, ◌||◌, ℕ, Bool, true, false, List, [], ◌∷◌, ◌++◌, Some, None, Option, refl, sym, ◌∙◌, ap, subst, arith, length, length-append, if◌then◌else◌}
+use Rattle.std.proofs.Common.{◌≡◌, ◌+◌, ◌||◌, ℕ, Bool, false, List, [], ◌∷◌, ◌++◌, Some, None, Option, refl, sym, ◌∙◌, ap, subst, arith, length, length-append}
 use Rattle.std.proofs.lemmas.List.{append-nil, append_assoc}
-use Rattle.std.specs.Str.{bytes_eq}
 use Rattle.cweb_files.specs.declared.place.Place.{Place}
 use Rattle.cweb_lines.specs.Change.{OldSide, at_place, code_of, old_at, old_code, old_line, old_lines}
 use Rattle.cweb_lines.specs.Lines.{Line, SourceLine}
@@ -9,96 +8,18 @@ use Rattle.cweb_lines.specs.Merge.{Compared, Thing, compared}
 use Rattle.cweb_lines.specs.Merging.{SoFar, Adds, StopsAmong, TellsSome}
 use Rattle.cweb_lines.specs.Replacing.{Compares, IsReplaced, Replaces, closing_faults, faults_replaced, lines_replaced, taken_away}
 use Rattle.cweb_lines.specs.Seeking.{ToldFront}
-use Rattle.cweb_lines.specs.Texts.{Count, FirstStops, Refuses, Took, TopStops, raw_at}
+use Rattle.cweb_lines.specs.Texts.{Count, FirstStops, Refuses, Took, TopStops}
 use Rattle.cweb_lines.specs.Told.{size_of}
-use denote.Enum.Bare.{sameb}
-use Rattle.cweb_lines.specs.contracts.change.code.Code.{the_type}
 use Rattle.cweb_lines.specs.declared.change.code.Code.{Code}
-use Rattle.cweb_lines.specs.declared.change.code.Code.TheVariants.{OldSide as old_side, NewSide as new_side, EndSide as end_side}
+use Rattle.cweb_lines.specs.declared.change.code.Code.TheVariants.{NewSide as new_side}
 use Rattle.cweb_lines.specs.declared.fault.SourceFault.{SourceFault}
 use Rattle.cweb_lines.specs.declared.fault.SourceKind.TheVariants.{WantsY}
 use Rattle.cweb_lines.specs.declared.change.old_side.Replaced.{Replaced}
 use Rattle.cweb_lines.specs.declared.stop.Stop.{Stop}
-use Rattle.cweb_lines.specs.declared.text.LineAt.{LineAt}
-use Rattle.cweb_lines.proofs.Adds.{adds_none, adds_one, adds_within, adds_lines, adds_faults}
-use Rattle.cweb_lines.proofs.Merges.{size-append}
-
--- what a comparison of codes says
-pub is_new : (code : Code) → sameb the_type code new_side ≡ true → code ≡ new_side
-is_new old_side same = absurd (cc)
-is_new new_side same = refl
-is_new end_side same = absurd (cc)
-
-pub is_faulty : (code : Code) (line : SourceLine) (lines : List SourceLine) (later : OldSide) →
-    sameb the_type code new_side ≡ false → old_at (Some code) line lines later ≡ old_code line later
-is_faulty old_side line lines later other = refl
-is_faulty new_side line lines later other = absurd (cc)
-is_faulty end_side line lines later other = refl
-
-or_true : (b : Bool) → (b || true) ≡ true
-or_true true = refl
-or_true false = refl
-
-or_false : (b : Bool) → (b || false) ≡ b
-or_false true = refl
-or_false false = refl
-
--- where no raw line is left, old lines take none
-none_taken : (olds : List (List ℕ)) → (compared olds []).taken ≡ []
-none_taken [] = refl
-none_taken (old ∷ olds) = refl
-
-none_unequal : (olds : List (List ℕ)) → (compared olds []).unequal ≡ 0
-none_unequal [] = refl
-none_unequal (old ∷ olds) = refl
-
-none_rest : (olds : List (List ℕ)) → (compared olds []).rest ≡ []
-none_rest [] = refl
-none_rest (old ∷ olds) = refl
-
-compares_empty : (bytes : List ℕ) (before : Replaced) (old new : SoFar) → new ≡ old →
-    Compares bytes before (record { unequal = before.unequal; ran_out = true; ended = before.ended }) [] [] old new
-compares_empty bytes before old new same = record {
-  taken = [];
-  taken_are = λ olds. sym (none_taken olds);
-  unequal = λ olds. omega (arith, none_unequal olds);
-  ran_out = λ olds. or_true before.ran_out;
-  rest = λ olds. sym (none_rest olds);
-  adds = adds_none old new same;
-}
-
-pub compares_none : (bytes : List ℕ) (before : Replaced) (things things' : List Thing) (old new : SoFar) →
-    things ≡ things' → things' ≡ [] → new ≡ old
-    → Compares bytes before (record { unequal = before.unequal; ran_out = true; ended = before.ended }) things things'
-        old new
-compares_none bytes before things things' old new is none same =
-    subst (λ (ts : List Thing). Compares bytes before (record { unequal = before.unequal; ran_out = true; ended =
-        before.ended }) ts things' old new) (sym (is ∙ none))
-    (subst (λ (ts : List Thing). Compares bytes before (record { unequal = before.unequal; ran_out = true; ended =
-        before.ended }) [] ts old new) (sym none) (compares_empty bytes before old new same))
-
-pub compares_some : (bytes raw_bytes : List ℕ) (before after : Replaced) (at : LineAt) (things things' : List Thing)
-    (old new : SoFar) (t : Took raw_bytes at.place old.count new.count) → things ≡ raw_at at t.line ∷ things'
-    → new.faults ≡ old.faults → new.names ≡ old.names → after.unequal
-        ≡ (if bytes_eq raw_bytes bytes then before.unequal else before.unequal + 1) → after.ran_out ≡ before.ran_out →
-        Compares bytes before after things things' old new
-compares_some bytes raw_bytes before after at things things' old new t is told names unequal ran_out =
-    subst (λ (ts : List Thing). Compares bytes before after ts things' old new) (sym is) (record {
-      taken = t.line ∷ [];
-      taken_are = λ olds. refl;
-      unequal = λ olds.
-          ap (λ (l : Line). before.unequal + (if bytes_eq l.bytes bytes then (compared olds things').unequal
-              else (compared olds things').unequal + 1)) t.is
-          ∙ by (bytes_eq raw_bytes bytes) unequal (compared olds things').unequal;
-      ran_out = λ olds. ap (λ b. b || (compared olds things').ran_out) (sym ran_out);
-      rest = λ olds. refl;
-      adds = adds_one old new raw_bytes at.place t told names;
-    })
-  where
-    by : (b : Bool) → after.unequal ≡ (if b then before.unequal else before.unequal + 1) → (n : ℕ) →
-        before.unequal + (if b then n else n + 1) ≡ after.unequal + n
-    by true same n = omega (arith, same)
-    by false same n = omega (arith, same)
+use Rattle.cweb_lines.proofs.Adds.{adds_none, adds_within, adds_lines, adds_faults}
+use Rattle.cweb_lines.proofs.Sums.{size-append}
+use Rattle.cweb_lines.proofs.Compares.{or_false}
+use Rattle.cweb_lines.proofs.Codes.{old_code_at, taken_at}
 
 pub replaces_from : (change : List SourceLine) (things : List Thing) (old : SoFar) →
     Replaces change things (record { unequal = 0; ran_out = false; ended = false }) change things old old
@@ -117,21 +38,6 @@ replaces_from change things old = record {
   adds = adds_none old old refl;
 }
 
--- whatever comes of a line of the old side, it is taken first
-taken_at : (code : Option Code) (line : SourceLine) (lines : List SourceLine) (later : OldSide) →
-    (more : List SourceLine) × ((old_at code line lines later).taken ≡ line ∷ more)
-taken_at None line lines later = (later.taken, refl)
-taken_at (Some old_side) line lines later = (later.taken, refl)
-taken_at (Some new_side) line lines later = ([], refl)
-taken_at (Some end_side) line lines later = (later.taken, refl)
-
--- what an old side comes to at its next line, by the code that this has
-pub old_code_at : (code : Option Code) (line : SourceLine) (lines : List SourceLine) (bytes : List ℕ) (place : Place) →
-    line.line ≡ record { bytes = bytes; place = place } → code_of bytes ≡ code
-    → old_lines (line ∷ lines) ≡ old_at code line lines (old_lines lines)
-old_code_at code line lines bytes place is test = ap (λ (l : Line). old_at (code_of l.bytes) line lines
-    (old_lines lines)) is ∙ ap (λ k. old_at k line lines (old_lines lines)) test
-
 module _ (change : List SourceLine) (things : List Thing) (so_far : Replaced) (lines : List SourceLine)
     (raws : List Thing) (old mid : SoFar) (r : Replaces change things so_far lines raws old mid) where
   -- a line of the change file can't be taken
@@ -141,29 +47,43 @@ module _ (change : List SourceLine) (things : List Thing) (so_far : Replaced) (l
       let takes = taken_at (code_of stops.line.line.bytes) stops.line stops.rest (old_lines stops.rest) in
       let taken : (old_lines change).taken ≡ r.taken ++ stops.line ∷ takes.0 =
       r.taken_are ∙ ap (λ (ls : List SourceLine). r.taken ++ (old_lines ls).taken) stops.first
-          ∙ ap (λ (ls : List SourceLine). r.taken ++ ls) takes.1 in
+      ∙ ap (λ (ls : List SourceLine). r.taken ++ ls) takes.1 in
       let among : lines_replaced change things ≡ r.taken ++ stops.line ∷ (takes.0 ++ (taken_away change things).taken) =
       ap (λ (ls : List SourceLine). ls ++ (taken_away change things).taken) taken
-          ∙ append_assoc r.taken (stops.line ∷ takes.0) (taken_away change things).taken in
+      ∙ append_assoc r.taken (stops.line ∷ takes.0) (taken_away change things).taken in
       let now_lines = ap (λ (c : Count). c.lines) same in
       let now_bytes = ap (λ (c : Count). c.bytes) same in
       let raw_lines = ap (λ (ls : List SourceLine). length ls) r.raw_taken_are
-          ∙ length-append r.raw_taken (taken_away lines raws).taken in
+      ∙ length-append r.raw_taken (taken_away lines raws).taken in
       let raw_bytes = ap size_of r.raw_taken_are ∙ size-append r.raw_taken (taken_away lines raws).taken in
       let all_lines = ap (λ (ls : List SourceLine). length ls) among
-          ∙ length-append r.taken (stops.line ∷ (takes.0 ++ (taken_away change things).taken)) in
+      ∙ length-append r.taken (stops.line ∷ (takes.0 ++ (taken_away change things).taken)) in
       let all_bytes = ap size_of among ∙ size-append r.taken
-          (stops.line ∷ (takes.0 ++ (taken_away change things).taken)) in
+      (stops.line ∷ (takes.0 ++ (taken_away change things).taken)) in
       record {
         front = r.taken;
         line = stops.line;
         rest = takes.0 ++ (taken_away change things).taken;
         among = among;
         why = subst (λ (c : Count). Refuses stop c stops.line) (sym same) stops.why;
-        few = omega (arith, now_lines, raw_lines, all_lines, r.adds.lines_are, length-append r.taken r.raw_taken,
-            length-append takes.0 (taken_away change things).taken);
-        small = omega (arith, now_bytes, raw_bytes, all_bytes, r.adds.bytes_are, size-append r.taken r.raw_taken,
-            size-append takes.0 (taken_away change things).taken);
+        few = omega (
+          arith,
+          now_lines,
+          raw_lines,
+          all_lines,
+          r.adds.lines_are,
+          length-append r.taken r.raw_taken,
+          length-append takes.0 (taken_away change things).taken,
+        );
+        small = omega (
+          arith,
+          now_bytes,
+          raw_bytes,
+          all_bytes,
+          r.adds.bytes_are,
+          size-append r.taken r.raw_taken,
+          size-append takes.0 (taken_away change things).taken,
+        );
       }
 
   -- the old side ends here, behind these lines
@@ -171,14 +91,14 @@ module _ (change : List SourceLine) (things : List Thing) (so_far : Replaced) (l
       old_lines lines ≡ record { faults = []; lines = []; taken = last; ended = ended; rest = rest } →
       Adds r.told ((r.taken ++ last) ++ r.raw_taken) old new
       → IsReplaced change things (record { unequal = so_far.unequal; ran_out = so_far.ran_out; ended = ended }) rest
-          raws old new
+      raws old new
   replaces_done new last rest ended is adds =
       let faults : (old_lines change).faults ≡ r.told = r.faults_are ∙ ap (λ (s : OldSide). r.told ++ s.faults) is
-          ∙ append-nil r.told in
+      ∙ append-nil r.told in
       let taken : (old_lines change).taken ≡ r.taken ++ last = r.taken_are
-          ∙ ap (λ (s : OldSide). r.taken ++ s.taken) is in
+      ∙ ap (λ (s : OldSide). r.taken ++ s.taken) is in
       let raw_taken : (taken_away change things).taken ≡ r.raw_taken = r.raw_taken_are
-          ∙ ap (λ (s : OldSide). r.raw_taken ++ (compared s.lines raws).taken) is ∙ append-nil r.raw_taken in
+      ∙ ap (λ (s : OldSide). r.raw_taken ++ (compared s.lines raws).taken) is ∙ append-nil r.raw_taken in
       record {
         adds = subst (λ (fs : List SourceFault). Adds fs (lines_replaced change things) old new) (sym faults)
             (subst (λ (ls : List SourceLine). Adds r.told ls old new) (sym (λ i. taken i ++ raw_taken i)) adds);
@@ -208,7 +128,7 @@ module _ (change : List SourceLine) (things : List Thing) (so_far : Replaced) (l
     replaces_code code new test faulty told' names' count =
         let s : old_lines lines ≡ old_code t.line (old_lines rest) = side (Some code) test ∙ faulty in
         let fault : at_place WantsY t.line.line.place ≡ at_place WantsY place =
-            ap (λ (l : Line). at_place WantsY l.place) t.is in
+        ap (λ (l : Line). at_place WantsY l.place) t.is in
         record {
           told = r.told ++ at_place WantsY place ∷ [];
           taken = r.taken ++ t.line ∷ [];
@@ -234,9 +154,9 @@ module _ (change : List SourceLine) (things : List Thing) (so_far : Replaced) (l
     replaces_line after raws' new test by =
         let s : old_lines lines ≡ old_line t.line (old_lines rest) = side None test in
         let b : t.line.line.bytes ∷ (old_lines rest).lines ≡ bytes ∷ (old_lines rest).lines =
-            ap (λ (l : Line). l.bytes ∷ (old_lines rest).lines) t.is in
+        ap (λ (l : Line). l.bytes ∷ (old_lines rest).lines) t.is in
         let away : taken_away lines raws ≡ compared (bytes ∷ (old_lines rest).lines) raws =
-            ap (λ (o : OldSide). compared o.lines raws) s ∙ ap (λ (ls : List (List ℕ)). compared ls raws) b in
+        ap (λ (o : OldSide). compared o.lines raws) s ∙ ap (λ (ls : List (List ℕ)). compared ls raws) b in
         record {
           told = r.told;
           taken = r.taken ++ t.line ∷ [];
@@ -266,32 +186,48 @@ module _ (change : List SourceLine) (things : List Thing) (so_far : Replaced) (l
         let more = (compared olds stops.rest).taken in
         let raw_taken : (taken_away change things).taken ≡ r.raw_taken ++ stops.raw_line.source ∷ more =
         r.raw_taken_are ∙ ap (λ (o : OldSide). r.raw_taken ++ (compared o.lines raws).taken) s
-            ∙ ap (λ (ts : List Thing). r.raw_taken ++ (compared (t.line.line.bytes ∷ olds) ts).taken) stops.first in
+        ∙ ap (λ (ts : List Thing). r.raw_taken ++ (compared (t.line.line.bytes ∷ olds) ts).taken) stops.first in
         let taken : (old_lines change).taken ≡ r.taken ++ t.line ∷ (old_lines rest).taken = r.taken_are
-            ∙ ap (λ (o : OldSide). r.taken ++ o.taken) s in
+        ∙ ap (λ (o : OldSide). r.taken ++ o.taken) s in
         let among : lines_replaced change things ≡ ((old_lines change).taken ++ r.raw_taken)
-            ++ stops.raw_line.source ∷ more =
+        ++ stops.raw_line.source ∷ more =
         ap (λ (ls : List SourceLine). (old_lines change).taken ++ ls) raw_taken
-            ∙ sym (append_assoc (old_lines change).taken r.raw_taken (stops.raw_line.source ∷ more)) in
+        ∙ sym (append_assoc (old_lines change).taken r.raw_taken (stops.raw_line.source ∷ more)) in
         let now_lines = ap (λ (c : Count). c.lines) same in
         let now_bytes = ap (λ (c : Count). c.bytes) same in
         let taken_lines_are = ap (λ (ls : List SourceLine). length ls) taken
-            ∙ length-append r.taken (t.line ∷ (old_lines rest).taken) in
+        ∙ length-append r.taken (t.line ∷ (old_lines rest).taken) in
         let taken_bytes_are = ap size_of taken ∙ size-append r.taken (t.line ∷ (old_lines rest).taken) in
         let all_lines = ap (λ (ls : List SourceLine). length ls) among
-            ∙ length-append ((old_lines change).taken ++ r.raw_taken) (stops.raw_line.source ∷ more) in
+        ∙ length-append ((old_lines change).taken ++ r.raw_taken) (stops.raw_line.source ∷ more) in
         let all_bytes = ap size_of among ∙ size-append ((old_lines change).taken ++ r.raw_taken)
-            (stops.raw_line.source ∷ more) in
+        (stops.raw_line.source ∷ more) in
         record {
           front = (old_lines change).taken ++ r.raw_taken;
           line = stops.raw_line.source;
           rest = more;
           among = among;
           why = subst (λ (c : Count). Refuses stop c stops.raw_line.source) (sym same) stops.why;
-          few = omega (arith, now_lines, taken_lines_are, all_lines, r.adds.lines_are, t.lines,
-              length-append r.taken r.raw_taken, length-append (old_lines change).taken r.raw_taken);
-          small = omega (arith, now_bytes, taken_bytes_are, all_bytes, r.adds.bytes_are, t.bytes_are,
-              size-append r.taken r.raw_taken, size-append (old_lines change).taken r.raw_taken);
+          few = omega (
+            arith,
+            now_lines,
+            taken_lines_are,
+            all_lines,
+            r.adds.lines_are,
+            t.lines,
+            length-append r.taken r.raw_taken,
+            length-append (old_lines change).taken r.raw_taken,
+          );
+          small = omega (
+            arith,
+            now_bytes,
+            taken_bytes_are,
+            all_bytes,
+            r.adds.bytes_are,
+            t.bytes_are,
+            size-append r.taken r.raw_taken,
+            size-append (old_lines change).taken r.raw_taken,
+          );
         }
 
     -- it is the @y line

@@ -21,8 +21,12 @@ record Outcome : Type 0 where
 
 abbrev outcome_of : Option (List Event) → Option Outcome
 outcome_of None = None
-outcome_of (Some events) = Some (record { lines = given_lines events; faults = told_faults events; names =
-    openings events })
+outcome_of (Some events) = Some (record {
+  lines = given_lines events;
+  faults = told_faults events;
+  names =
+      openings events;
+})
 
 abbrev place : ℕ → ℕ → Place
 place file number = record { file = record { 0 = file }; line = number }
@@ -60,15 +64,22 @@ empty_web = refl
 -- an include line is compared with the first old line before it is obeyed
 include_line_replaced : outcome_of (run 20 no_texts (started (codes "A\n@i gone.w\nB\n")
     (Some (codes "@x\n@i gone.w\n@y\nnew\n@z\n"))))
-    ≡ Some (record { lines = line (codes "A") 0 1 ∷ line (codes "new") 1 4 ∷ line (codes "B") 0 3 ∷ []; faults = [];
-        names = [] })
+    ≡ Some (record {
+      lines = line (codes "A") 0 1 ∷ line (codes "new") 1 4 ∷ line (codes "B") 0 3 ∷ [];
+      faults = [];
+      names = [];
+    })
 include_line_replaced = refl
 
 -- further old lines are taken over the end of an included file, unequal ones too
 change_over_a_file_end : outcome_of (run 20 (one_text (codes "inc.w") (codes "I1\nI2\n"))
     (started (codes "@i inc.w\nL2\nL3\n") (Some (codes "@x\nI2\nLX\n@y\nN\n@z\n"))))
-    ≡ Some (record { lines = line (codes "I1") 2 1 ∷ line (codes "N") 1 5 ∷ line (codes "L3") 0 3 ∷ []; faults =
-        unequal 1 1 1 ∷ []; names = codes "inc.w" ∷ [] })
+    ≡ Some (record {
+      lines = line (codes "I1") 2 1 ∷ line (codes "N") 1 5 ∷ line (codes "L3") 0 3 ∷ [];
+      faults =
+          unequal 1 1 1 ∷ [];
+      names = codes "inc.w" ∷ [];
+    })
 unfolding is_utf8 chars encode
 change_over_a_file_end = refl
 
@@ -101,13 +112,20 @@ unfolding is_utf8 chars encode
 file_that_includes_itself = refl
 
 abbrev in_lib : World
-in_lib = record { texts = λ asked. cond (bytes_eq asked (codes "lib/b.w")) (Some (codes "two\n")) None; inputs =
-    Some (codes "lib") }
+in_lib = record {
+  texts = λ asked. cond (bytes_eq asked (codes "lib/b.w")) (Some (codes "two\n")) None;
+  inputs =
+      Some (codes "lib");
+}
 
 -- a file is sought as it is named, then in the folder
 include_in_a_folder : outcome_of (run 20 in_lib (started (codes "one\n@i b.w\nthree\n@i gone\n") None))
-    ≡ Some (record { lines = line (codes "one") 0 1 ∷ line (codes "two") 1 1 ∷ line (codes "three") 0 3 ∷ []; faults =
-        fault NotThere 0 4 ∷ []; names = codes "lib/b.w" ∷ [] })
+    ≡ Some (record {
+      lines = line (codes "one") 0 1 ∷ line (codes "two") 1 1 ∷ line (codes "three") 0 3 ∷ [];
+      faults =
+          fault NotThere 0 4 ∷ [];
+      names = codes "lib/b.w" ∷ [];
+    })
 unfolding is_utf8 chars encode
 include_in_a_folder = refl
 
@@ -132,8 +150,12 @@ change_file_ends_among_new_lines = refl
 -- lines that a new line includes do not match
 new_lines_do_not_match : outcome_of (run 30 (one_text (codes "inc.w") (codes "B\n"))
     (started (codes "A\nB\n") (Some (codes "@x\nA\n@y\n@i inc.w\n@z\n@x\nB\n@y\nC\n@z\n"))))
-    ≡ Some (record { lines = line (codes "B") 2 1 ∷ line (codes "C") 1 9 ∷ []; faults = []; names =
-        codes "inc.w" ∷ [] })
+    ≡ Some (record {
+      lines = line (codes "B") 2 1 ∷ line (codes "C") 1 9 ∷ [];
+      faults = [];
+      names =
+          codes "inc.w" ∷ [];
+    })
 unfolding is_utf8 chars encode
 new_lines_do_not_match = refl
 

@@ -45,8 +45,11 @@ pub files_in-at : (faults : List SourceFault) (k : ℕ) (d : SourceFault) → k 
 unfolding files_in
 files_in-at [] k d lt = absurd (omega arith)
 files_in-at (f ∷ faults) zero d lt = omega (arith, le-max_left (f.place.file.0 + 1) (files_in faults))
-files_in-at (f ∷ faults) (suc k) d lt = omega (arith, files_in-at faults k d (omega arith),
-    le-max_right (f.place.file.0 + 1) (files_in faults))
+files_in-at (f ∷ faults) (suc k) d lt = omega (
+  arith,
+  files_in-at faults k d (omega arith),
+  le-max_right (f.place.file.0 + 1) (files_in faults),
+)
 
 -- all that is to come, by the parts of a run
 abbrev pub coming_of : {R : Type 0} → (List ℕ → Option (List ℕ)) → Option (List ℕ) → (R → List ℕ) → Stage →
@@ -66,14 +69,14 @@ below_same left left' same change lines old new stays =
 pub takes_in : {R : Type 0} (left left' : R → List ℕ) (same : left' ≡ left) (stage : Stage) (lines : List SourceLine)
     (old new : Stack R) (at : Option LineAt) (bytes : List ℕ) (before after : Count) → IsSettled stage
     → TakesAbove left left' (floor_of stage) old new at bytes before after →
-        StaysBelow (floor_of stage) old.texts new.texts
+    StaysBelow (floor_of stage) old.texts new.texts
     → TakesFirst (things_in left stage lines old) at bytes (things_in left' stage lines new) before after
 takes_in left left' same Done lines old new at bytes before after settled takes stays = takes []
 takes_in left left' same Seeking lines old new at bytes before after settled takes stays = absurd (settled refl)
 takes_in left left' same (Waiting begin) lines old new at bytes before after settled takes stays = takes []
 takes_in left left' same (Changing change) lines old new at bytes before after settled takes stays =
     subst (λ (rest : List Thing). TakesFirst (things_above left change.below old (things_below left change lines old))
-        at bytes (things_above left' change.below new rest) before after)
+    at bytes (things_above left' change.below new rest) before after)
     (below_same left left' same change lines old new stays) (takes (things_below left change lines old))
 
 pub stops_in : {R : Type 0} (left : R → List ℕ) (stage : Stage) (lines : List SourceLine) (stack : Stack R)
@@ -88,75 +91,75 @@ stops_in left (Changing change) lines stack stop count settled stops = stops (th
 pub opened_in : {R : Type 0} (left : R → List ℕ) (stage : Stage) (lines : List SourceLine) (old new : Stack R)
     (reader : R) (file : ℕ) (at : LineAt) → IsSettled stage → floor_of stage ≤ old.depth → Opens old new reader file at
     → StaysBelow old.depth old.texts new.texts → things_in left stage lines new ≡ raws (at.depth + 1) at.may_match
-        (lines_in file (left reader)) ++ things_in left stage lines old
+    (lines_in file (left reader)) ++ things_in left stage lines old
 opened_in left Done lines old new reader file at settled floor opens stays = opens left 0 (omega arith) []
 opened_in left Seeking lines old new reader file at settled floor opens stays = absurd (settled refl)
 opened_in left (Waiting begin) lines old new reader file at settled floor opens stays = opens left 0 (omega arith) []
 opened_in left (Changing change) lines old new reader file at settled floor opens stays =
     opens left change.below floor (things_below left change lines new)
     ∙ ap (λ (rest : List Thing). raws (at.depth + 1) at.may_match (lines_in file (left reader))
-        ++ things_above left change.below old rest)
+    ++ things_above left change.below old rest)
     (sym (below_same left left refl change lines old new (λ l n le. stays l n (omega (arith, le, floor)))))
 
 -- the same for a run of which nothing has changed that is to come
 pub coming_same : {R : Type 0} (t t' : List ℕ → Option (List ℕ)) (l l' : R → List ℕ) (run run' : Run R) → t' ≡ t →
     l' ≡ l → run'.inputs ≡ run.inputs → run'.stack ≡ run.stack → run'.change ≡ run.change
     → run'.stage ≡ run.stage → run'.first ≡ run.first → names_of run'.names ≡ names_of run.names →
-        coming t' l' run' ≡ coming t l run
+    coming t' l' run' ≡ coming t l run
 coming_same t t' l l' run run' texts left inputs stack change stage first names =
     λ i. coming_of (texts i) (text_of_name (inputs i)) (left i) (stage i) (change i) ((first i).items)
-        (length (names i)) (things_in (left i) (stage i) (lines_at (left i) (change i)) (stack i))
+    (length (names i)) (things_in (left i) (stage i) (lines_at (left i) (change i)) (stack i))
 
 -- nothing is left
 pub coming_none : {R : Type 0} (t : List ℕ → Option (List ℕ)) (l : R → List ℕ) (run : Run R) → NothingLeft run →
     coming t l run ≡ []
 coming_none t l run none =
     (λ i. coming_of t (text_of_name run.inputs) l (none.1 i) run.change run.first.items (length (names_of run.names))
-        (things_in l (none.1 i) (lines_at l run.change) run.stack))
+    (things_in l (none.1 i) (lines_at l run.change) run.stack))
     ∙ ap (λ (things : List Thing). coming_of t (text_of_name run.inputs) l Done run.change run.first.items
-        (length (names_of run.names)) things)
+    (length (names_of run.names)) things)
     (over-none l 0 (run.stack.depth - 0) run.stack.texts [] (omega (arith, none.0)))
     ∙ merge_end (record { texts = t; inputs = text_of_name run.inputs })
-        (state [] None [] (length (names_of run.names))) refl
+    (state [] None [] (length (names_of run.names))) refl
 
 -- a text was opened, by what the calls say of shelf and run
 pub coming_opened : {R : Type 0} (t t' : List ℕ → Option (List ℕ)) (l l' : R → List ℕ) (run run' : Run R) (reader : R)
     (name : List ℕ) (at : LineAt) → t' ≡ t → l' ≡ l → run'.inputs ≡ run.inputs → run'.change ≡ run.change
     → run'.stage ≡ run.stage → run'.first ≡ run.first → names_of run'.names ≡ names_of run.names ++ name ∷ [] →
-        IsSettled run.stage → Opens run.stack run'.stack reader (length (names_of run.names)) at
+    IsSettled run.stage → Opens run.stack run'.stack reader (length (names_of run.names)) at
     → StaysBelow run.stack.depth run.stack.texts run'.stack.texts
     → coming_of t (text_of_name run.inputs) l run.stage run.change run.first.items (length (names_of run.names) + 1)
     (raws (at.depth + 1) at.may_match (lines_in (length (names_of run.names)) (l' reader)) ++ things_of l run) ≡ coming
-        t' l' run'
+    t' l' run'
 coming_opened t t' l l' run run' reader name at texts left inputs change stage first names settled opens stays =
     let count : length (names_of run'.names) ≡ length (names_of run.names) + 1 =
-        ap (λ (ns : List (List ℕ)). length ns) names ∙ length-append (names_of run.names) (name ∷ []) in
+    ap (λ (ns : List (List ℕ)). length ns) names ∙ length-append (names_of run.names) (name ∷ []) in
     let things = opened_in l run.stage (lines_at l run.change) run.stack run'.stack reader
-        (length (names_of run.names)) at settled run.floor opens stays in
+    (length (names_of run.names)) at settled run.floor opens stays in
     sym ((λ i. coming_of (texts i) (text_of_name (inputs i)) (left i) (stage i) (change i) ((first i).items) (count i)
-        (things_in (left i) (stage i) (lines_at (left i) (change i)) run'.stack))
+    (things_in (left i) (stage i) (lines_at (left i) (change i)) run'.stack))
     ∙ ap (λ (ts : List Thing). coming_of t (text_of_name run.inputs) l run.stage run.change run.first.items
-        (length (names_of run.names) + 1) ts)
+    (length (names_of run.names) + 1) ts)
     (things ∙ ap (λ k. raws (at.depth + 1) at.may_match (lines_in (length (names_of run.names)) (k reader))
-        ++ things_of l run) (sym left)))
+    ++ things_of l run) (sym left)))
 
 -- a fault came, and nothing else has changed
 pub gives_told : {R : Type 0} (t t' : List ℕ → Option (List ℕ)) (l l' : R → List ℕ) (run run' : Run R)
     (f : SourceFault) → t' ≡ t → l' ≡ l → run'.inputs ≡ run.inputs → run'.stack ≡ run.stack → run'.change ≡ run.change
     → run'.stage ≡ run.stage → run'.first ≡ run.first → run'.names ≡ run.names → run'.limits ≡ run.limits →
-        run'.faults.items ≡ run.faults.items ++ f ∷ []
+    run'.faults.items ≡ run.faults.items ++ f ∷ []
     → Gives [] (told_by run) (told_by run') (fault f ∷ coming t l run) (coming t' l' run')
 gives_told t t' l l' run run' f texts left inputs stack change stage first names limits told =
     gives_fault (told_by run) (told_by run') _ _ (ap count_of limits) f
     (ap (λ (es : List Event). fault f ∷ es) (sym (coming_same t t' l l' run run' texts left inputs stack change stage
-        first (ap names_of names)))) told (ap names_of names)
+    first (ap names_of names)))) told (ap names_of names)
 
 -- no text has lines left, and no entry is left
 pub nothing_above : {R : Type 0} (world : World) (l : R → List ℕ) (stack : Stack R) (files : ℕ) → stack.depth ≡ 0 →
     merge world (state (things_above l 0 stack []) None [] files) ≡ []
 nothing_above world l stack files none =
     ap (λ (things : List Thing). merge world (state things None [] files))
-        (over-none l 0 (stack.depth - 0) stack.texts [] (omega (arith, none)))
+    (over-none l 0 (stack.depth - 0) stack.texts [] (omega (arith, none)))
     ∙ merge_end world (state [] None [] files) refl
 
 -- no text has lines left, and an entry waits
@@ -168,11 +171,13 @@ no_match t l run begin stage none =
     let lines = lines_at l run.change in
     let files = length (names_of run.names) in
     (λ i. coming_of t (text_of_name run.inputs) l (stage i) run.change run.first.items files
-        (things_in l (stage i) lines run.stack))
+    (things_in l (stage i) lines run.stack))
     ∙ ap (λ (things : List Thing). merge world (state things (Some entry) lines files))
-        (over-none l 0 (run.stack.depth - 0) run.stack.texts [] (omega (arith, none)))
-    ∙ merge_next world (state [] (Some entry) lines files) (fault (at_place NoMatch begin) ∷ [],
-        state [] None lines files) refl
+    (over-none l 0 (run.stack.depth - 0) run.stack.texts [] (omega (arith, none)))
+    ∙ merge_next world (state [] (Some entry) lines files) (
+      fault (at_place NoMatch begin) ∷ [],
+      state [] None lines files,
+    ) refl
     ∙ ap (λ (es : List Event). fault (at_place NoMatch begin) ∷ es) (merge_end world (state [] None lines files) refl)
 
 -- where a merge begins, no texts stay open and no entry waits
@@ -195,12 +200,12 @@ pub begun_coming : {R : Type 0} (world : World) (left : R → List ℕ) (stack :
     stage ≡ begun_stage change → lines ≡ lines_found change
     → files ≡ suc (length (names_found change)) → things_above left 0 stack [] ≡ raws 1 true (lines_in 0 text)
     → merge world (state (things_in left stage lines stack) (pending_in stage first) (change_in stage lines) files)
-        ≡ merge world (started text (text_found change))
+    ≡ merge world (started text (text_found change))
 begun_coming world left stack None stage lines first files text at are count things =
     (λ i. merge world (state (things_in left (at i) lines stack) (pending_in (at i) first) (change_in (at i) lines)
-        (count i)))
+    (count i)))
     ∙ ap (λ (ts : List Thing). merge world (state ts None [] 1)) things
 begun_coming world left stack (Some found) stage lines first files text at are count things =
     (λ i. merge world (state (things_in left (at i) lines stack) (pending_in (at i) first) (change_in (at i) lines)
-        (count i)))
+    (count i)))
     ∙ (λ i. merge world (state (seek ∷ things i) None (are i) 2))

@@ -16,12 +16,17 @@ use Rattle.cweb_lines.specs.declared.change.Stage.{Stage}
 use Rattle.cweb_lines.specs.declared.change.Stage.TheVariants.{Done, Waiting}
 use Rattle.cweb_lines.specs.declared.stop.Stop.{Stop}
 use Rattle.cweb_lines.proofs.Adds.{adds_none, adds_line, adds_faults}
-use Rattle.cweb_lines.proofs.Merges.{size-append}
+use Rattle.cweb_lines.proofs.Sums.{size-append}
 
 pub behind-both : (a c : List SourceFault) (b d : List SourceLine) (found : Sought) →
     behind a b (behind c d found) ≡ behind (a ++ c) (b ++ d) found
-behind-both a c b d found = λ i. record { faults = sym (append_assoc a c found.faults) i; taken =
-    sym (append_assoc b d found.taken) i; entry = found.entry; rest = found.rest }
+behind-both a c b d found = λ i. record {
+  faults = sym (append_assoc a c found.faults) i;
+  taken =
+      sym (append_assoc b d found.taken) i;
+  entry = found.entry;
+  rest = found.rest;
+}
 
 pub seeks_from : (found : Sought) (old : SoFar) → SeeksTo found found old old
 seeks_from found old = record { told = []; taken = []; whole = refl; adds = adds_none old old refl }
@@ -52,7 +57,7 @@ module _ (all : Sought) (lines : List SourceLine) (begin : Option Place) (old mi
       let now_lines = ap (λ (c : Count). c.lines) same in
       let now_bytes = ap (λ (c : Count). c.bytes) same in
       let all_lines = ap (λ (ls : List SourceLine). length ls) among
-          ∙ length-append seeks.taken (stops.line ∷ takes.0) in
+      ∙ length-append seeks.taken (stops.line ∷ takes.0) in
       let all_bytes = ap size_of among ∙ size-append seeks.taken (stops.line ∷ takes.0) in
       record {
         front = seeks.taken;
@@ -89,7 +94,7 @@ module _ (all : Sought) (lines : List SourceLine) (begin : Option Place) (old mi
       taken = seeks.taken ++ t.line ∷ [];
       whole = seeks.whole
           ∙ ap (λ (s : Sought). behind seeks.told seeks.taken s)
-              (ap (λ (ls : List SourceLine). sought ls begin) is ∙ looks.looks t.line t.is rest)
+          (ap (λ (ls : List SourceLine). sought ls begin) is ∙ looks.looks t.line t.is rest)
           ∙ behind-both seeks.told looks.told seeks.taken (t.line ∷ []) (sought rest next);
       adds = adds_faults seeks.told looks.told (seeks.taken ++ t.line ∷ []) old now new
           (adds_line seeks.told seeks.taken old mid now bytes place t seeks.adds same_faults same_names) looks.faults
@@ -99,15 +104,20 @@ module _ (all : Sought) (lines : List SourceLine) (begin : Option Place) (old mi
     pub seeks_found : (entry : Place) → LooksAt (first_line entry) begin bytes place now.faults new.faults →
         Searched all old new (Waiting entry) bytes rest
     seeks_found entry looks =
-        let whole : all ≡ behind seeks.told seeks.taken (record { faults = looks.told; taken = t.line ∷ []; entry =
-            Some (record { begin = entry; first = t.line.line.bytes }); rest = rest }) =
+        let whole : all ≡ behind seeks.told seeks.taken (record {
+          faults = looks.told;
+          taken = t.line ∷ [];
+          entry =
+              Some (record { begin = entry; first = t.line.line.bytes });
+          rest = rest;
+        }) =
         seeks.whole ∙ ap (λ (s : Sought). behind seeks.told seeks.taken s)
-            (ap (λ (ls : List SourceLine). sought ls begin) is ∙ looks.looks t.line t.is rest) in
+        (ap (λ (ls : List SourceLine). sought ls begin) is ∙ looks.looks t.line t.is rest) in
         record {
           adds = subst (λ (s : Sought). Adds s.faults s.taken old new) (sym whole)
               (adds_faults seeks.told looks.told (seeks.taken ++ t.line ∷ []) old now new
-                  (adds_line seeks.told seeks.taken old mid now bytes place t seeks.adds same_faults same_names)
-                  looks.faults names count);
+              (adds_line seeks.told seeks.taken old mid now bytes place t seeks.adds same_faults same_names)
+              looks.faults names count);
           outside = tt;
           entry = ap (λ (l : Line). Some (record { begin = entry; first = l.bytes })) (sym t.is)
               ∙ ap (λ (s : Sought). s.entry) (sym whole);

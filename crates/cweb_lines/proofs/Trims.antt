@@ -34,25 +34,32 @@ source_line file number bytes taken = record {
 
 takes_line : (taken : Taken) (old new bytes : List ℕ) (file number : ℕ) → taken ≢ Ended → Takes old taken bytes new
     → numbered file number (text_lines old) ≡ source_line file number bytes taken ∷ numbered file (number + 1)
-        (text_lines new)
+    (text_lines new)
 takes_line Ended old new bytes file number not takes = absurd (not refl)
 takes_line Last old new bytes file number not takes =
     let none : length bytes ≡ length bytes + 0 = omega arith in
     ap (λ (t : List ℕ). numbered file number (text_lines t)) takes.0
-        ∙ ap (numbered file number) (text_lines-last bytes takes.1 takes.2)
-    ∙ ap (λ n. record { line = record { bytes = trimmed bytes; place =
-        record { file = record { 0 = file }; line = number } }; length = length bytes; size = n } ∷ []) none
+    ∙ ap (numbered file number) (text_lines-last bytes takes.1 takes.2)
+    ∙ ap (λ n. record {
+      line = record {
+        bytes = trimmed bytes;
+        place =
+            record { file = record { 0 = file }; line = number };
+      };
+      length = length bytes;
+      size = n;
+    } ∷ []) none
     ∙ ap (λ (t : List ℕ). source_line file number bytes Last ∷ numbered file (number + 1) (text_lines t)) (sym takes.3)
 takes_line Full old new bytes file number not takes =
     ap (λ (t : List ℕ). numbered file number (text_lines t)) takes.0
-        ∙ ap (numbered file number) (text_lines-full bytes new takes.1)
+    ∙ ap (numbered file number) (text_lines-full bytes new takes.1)
 
 pub takes_first : (bytes raw old new : List ℕ) (file number depth : ℕ) (may_match : Bool) (taken : Taken)
     (before after : Count) → taken ≢ Ended → Takes old taken raw new → bytes ≡ trimmed raw → length raw ≤ LINE_LENGTH
     → after.lines ≡ before.lines + 1 → after.bytes ≡ before.bytes + (length raw + newline_bytes taken)
     → TakesLine (numbered file number (text_lines old)) (Some
-        (record { place = record { file = record { 0 = file }; line = number }; depth = depth; may_match = may_match }))
-        bytes
+    (record { place = record { file = record { 0 = file }; line = number }; depth = depth; may_match = may_match }))
+    bytes
     (numbered file (number + 1) (text_lines new)) before after
 takes_first bytes raw old new file number depth may_match taken before after not takes is short lines size = (
   record {
@@ -71,8 +78,11 @@ pub first_too_long : (text : List ℕ) (file : FileId) (number : ℕ) (count : C
 first_too_long text file number count long =
     let first = longer_first long.0 long.1 long.3 (omega (arith, long.4)) in
     record {
-      line = record { line = record { bytes = trimmed first.0.bytes; place = record { file = file; line = number } };
-          length = length first.0.bytes; size = first.0.size };
+      line = record {
+        line = record { bytes = trimmed first.0.bytes; place = record { file = file; line = number } };
+        length = length first.0.bytes;
+        size = first.0.size;
+      };
       rest = numbered file.0 (number + 1) first.1;
       first = ap (λ (t : List ℕ). numbered file.0 number (text_lines t)) long.2 ∙ ap (numbered file.0 number) first.2;
       why = (refl, omega (arith, long.4, first.3));
@@ -81,12 +91,12 @@ first_too_long text file number count long =
 pub line_stops : (fault : LineFault) (stop : Stop) (text : List ℕ) (file : FileId) (number : ℕ) (count : Count) →
     stop ≡ stop_for fault file
     → (fault ≡ TooLong → IsLongerThan LINE_LENGTH text) → StopsFor
-        (FirstStops stop count (numbered file.0 number (text_lines text))) stop
+    (FirstStops stop count (numbered file.0 number (text_lines text))) stop
 line_stops Read stop text file number count is long = subst (λ s. StopsFor
     (FirstStops s count (numbered file.0 number (text_lines text))) s) (sym is) tt
 line_stops TooLong stop text file number count is long =
     subst (λ s. StopsFor (FirstStops s count (numbered file.0 number (text_lines text))) s) (sym is)
-        (first_too_long text file number count (long refl))
+    (first_too_long text file number count (long refl))
 line_stops NoMemory stop text file number count is long = subst
     (λ s. StopsFor (FirstStops s count (numbered file.0 number (text_lines text))) s) (sym is) tt
 
@@ -103,7 +113,7 @@ line_names NoMemory stop file is = subst (NamesFile file) (sym is) tt
 pub first_passes : (stop : Stop) (taken : Taken) (old new bytes : List ℕ) (file number : ℕ) (count : Count) →
     taken ≢ Ended → Takes old taken bytes new
     → length bytes ≤ LINE_LENGTH → stop ≡ TooMuchText → (count.lines ≡ LINES)
-        ⊎ (BYTES < count.bytes + (length bytes + newline_bytes taken))
+    ⊎ (BYTES < count.bytes + (length bytes + newline_bytes taken))
     → StopsFor (FirstStops stop count (numbered file number (text_lines old))) stop
 first_passes stop taken old new bytes file number count not takes short is passes =
     subst (λ s. StopsFor (FirstStops s count (numbered file number (text_lines old))) s) (sym is) (record {
@@ -159,8 +169,11 @@ whole_takes old new rest rest' bytes size takes same = record {
   taken = Full;
   raw = takes.raw;
   some = λ is. subst IsLine is tt;
-  takes = (ap (λ (l : List ℕ). l ++ rest) takes.whole ∙ append_assoc takes.raw (10 ∷ new) rest
-      ∙ ap (λ (l : List ℕ). takes.raw ++ 10 ∷ (new ++ l)) same, takes.clean);
+  takes = (
+    ap (λ (l : List ℕ). l ++ rest) takes.whole ∙ append_assoc takes.raw (10 ∷ new) rest
+        ∙ ap (λ (l : List ℕ). takes.raw ++ 10 ∷ (new ++ l)) same,
+    takes.clean,
+  );
   short = takes.short;
   bytes_are = takes.bytes_are;
   size_is = takes.size_is;
@@ -172,5 +185,9 @@ whole_line-one old bytes size new takes = subst IsOneLine (sym takes.bytes_are)
 
 pub whole_line-gains : (old bytes : List ℕ) (size : ℕ) (new : List ℕ) → TakesWhole old bytes size new →
     length bytes ≤ size
-whole_line-gains old bytes size new takes = omega (arith, ap (λ (l : List ℕ). length l) takes.bytes_are,
-    trimmed-length takes.raw, takes.size_is)
+whole_line-gains old bytes size new takes = omega (
+  arith,
+  ap (λ (l : List ℕ). length l) takes.bytes_are,
+  trimmed-length takes.raw,
+  takes.size_is,
+)

@@ -32,16 +32,16 @@ pub sought_first : {R : Type 0} (t : List ℕ → Option (List ℕ)) (l : R → 
     coming t l run
     ≡ map took (sought (change_lines l run) None).taken ++ (map fault (sought (change_lines l run) None).faults
     ++ merge (world_in t run.inputs) (state (things_above l 0 run.stack []) (sought (change_lines l run) None).entry
-        (sought (change_lines l run) None).rest (length (names_of run.names))))
+    (sought (change_lines l run) None).rest (length (names_of run.names))))
 sought_first t l run stage =
     let found = sought (change_lines l run) None in
     let world = world_in t run.inputs in
     let files = length (names_of run.names) in
     let later = state (things_above l 0 run.stack []) found.entry found.rest files in
     (λ i. coming_of t (text_of_name run.inputs) l (stage i) run.change run.first.items files
-        (things_in l (stage i) (change_lines l run) run.stack))
+    (things_in l (stage i) (change_lines l run) run.stack))
     ∙ merge_next world (state (seek ∷ things_above l 0 run.stack []) None (change_lines l run) files)
-        (map took found.taken ++ map fault found.faults, later) refl
+    (map took found.taken ++ map fault found.faults, later) refl
     ∙ append_assoc (map took found.taken) (map fault found.faults) (merge world later)
 
 -- outside a change the texts alone are to come
@@ -57,26 +57,26 @@ pub searched_later : {R : Type 0} (t t' : List ℕ → Option (List ℕ)) (l l' 
     (old new : SoFar) → t' ≡ t → l' ≡ l → run'.inputs ≡ run.inputs → run'.stack ≡ run.stack → run'.names ≡ run.names
     → Searched (sought (change_lines l run) None) old new run'.stage run'.first.items (change_lines l' run')
     → merge (world_in t run.inputs) (state (things_above l 0 run.stack []) (sought (change_lines l run) None).entry
-        (sought (change_lines l run) None).rest (length (names_of run.names))) ≡ coming t' l' run'
+    (sought (change_lines l run) None).rest (length (names_of run.names))) ≡ coming t' l' run'
 searched_later t t' l l' run run' old new texts left inputs stack names found = sym (
     ap (λ (things : List Thing). coming_of t' (text_of_name run'.inputs) l' run'.stage run'.change run'.first.items
-        (length (names_of run'.names)) things) (outside_things l' run'.stage
-        (change_lines l' run') run'.stack found.outside)
+    (length (names_of run'.names)) things) (outside_things l' run'.stage
+    (change_lines l' run') run'.stack found.outside)
     ∙ (λ i. merge (world_in (texts i) (inputs i)) (state (things_above (left i) 0 (stack i) []) (found.entry i)
-        (found.rest i) (length (names_of (names i))))))
+    (found.rest i) (length (names_of (names i))))))
 
 -- a raw line was taken
 pub taken_first : {R : Type 0} (t t' : List ℕ → Option (List ℕ)) (l l' : R → List ℕ) (run run' : Run R) (at : LineAt)
     (source : SourceLine) → t' ≡ t → l' ≡ l → run'.inputs ≡ run.inputs → run'.change ≡ run.change →
     run'.stage ≡ run.stage → run'.first ≡ run.first
     → run'.names ≡ run.names → things_of l run ≡ raw_at at source ∷ things_in l' run.stage
-        (change_lines l run) run'.stack → coming t l run ≡ coming_after t' l' run' at source
+    (change_lines l run) run'.stack → coming t l run ≡ coming_after t' l' run' at source
 taken_first t t' l l' run run' at source texts left inputs change stage first names things =
     ap (λ (ts : List Thing). coming_of t (text_of_name run.inputs) l run.stage run.change run.first.items
-        (length (names_of run.names)) ts) things
+    (length (names_of run.names)) ts) things
     ∙ sym (λ i. coming_of (texts i) (text_of_name (inputs i)) (left i) (stage i) (change i) ((first i).items)
-        (length (names_of (names i))) (raw_at at source ∷ things_in l' (stage i)
-        (lines_at (left i) (change i)) run'.stack))
+    (length (names_of (names i))) (raw_at at source ∷ things_in l' (stage i)
+    (lines_at (left i) (change i)) run'.stack))
 
 fault_list : (b : Bool) (f : SourceFault) → fault_if b f ≡ map fault (list_if b f)
 fault_list true f = refl
@@ -94,7 +94,7 @@ map-appends {B = B} f x p q r = map-append f x (p ++ q ++ r)
 -- the events of an old side, lines first
 events_are : (entry : Entry) (change : List SourceLine) (things : List Thing)
     → change_events entry (old_lines change) (taken_away change things) ≡ map took (lines_replaced change things)
-        ++ map fault (faults_replaced entry.begin change things)
+    ++ map fault (faults_replaced entry.begin change things)
 events_are entry change things =
     let old = old_lines change in
     let by = taken_away change things in
@@ -102,12 +102,12 @@ events_are entry change things =
     let ran_out = at_place WebEnded entry.begin in
     let unequal : SourceFault = record { kind = Unequal; place = entry.begin; count = by.unequal } in
     (λ i. map took old.taken ++ map took by.taken ++ map fault old.faults ++ fault_list old.ended ended i
-        ++ fault_list by.ran_out ran_out i ++ fault_list (nat_lt 0 by.unequal) unequal i)
+    ++ fault_list by.ran_out ran_out i ++ fault_list (nat_lt 0 by.unequal) unequal i)
     ∙ re_assoc (map took old.taken ++ map took by.taken) (map fault old.faults) (map fault (list_if old.ended ended))
-        (map fault (list_if by.ran_out ran_out)) (map fault (list_if (nat_lt 0 by.unequal) unequal))
+    (map fault (list_if by.ran_out ran_out)) (map fault (list_if (nat_lt 0 by.unequal) unequal))
     ∙ (λ i. sym (map-append took old.taken by.taken) i ++ sym
-        (map-appends fault old.faults (list_if old.ended ended) (list_if by.ran_out ran_out)
-        (list_if (nat_lt 0 by.unequal) unequal)) i)
+    (map-appends fault old.faults (list_if old.ended ended) (list_if by.ran_out ran_out)
+    (list_if (nat_lt 0 by.unequal) unequal)) i)
 
 -- a change begins
 begun_entry : (p : Option Entry) (may_match : Bool) (bytes : List ℕ) (place : Place) →
@@ -126,22 +126,22 @@ begun_entry (Some entry) may_match bytes place is = by (may_match && bytes_eq by
 begin_step : (world : World) (entry : Entry) (source : SourceLine) (bytes : List ℕ) (at : LineAt) →
     source.line ≡ record { bytes = bytes; place = at.place } → (at.may_match && bytes_eq bytes entry.first) ≡ true
     → (things : List Thing) (lines : List SourceLine) (files : ℕ) →
-        merge world (state (raw_at at source ∷ things) (Some entry) lines files)
+    merge world (state (raw_at at source ∷ things) (Some entry) lines files)
     ≡ map took (source ∷ lines_replaced lines things) ++ (map fault (faults_replaced entry.begin lines things)
     ++ merge world (after_old (old_lines lines).ended files at.depth entry (old_lines lines)
-        (taken_away lines things).rest))
+    (taken_away lines things).rest))
 begin_step world entry source bytes at is test things lines files =
     let r : RawLine = record { source = source; depth = at.depth; may_match = at.may_match } in
     let s = state (raw r ∷ things) (Some entry) lines files in
     let events = change_events entry (old_lines lines) (taken_away lines things) in
     let later = after_old (old_lines lines).ended files at.depth entry (old_lines lines)
-        (taken_away lines things).rest in
+    (taken_away lines things).rest in
     merge_next world s (took source ∷ events, later)
     (ap (λ b. Some (taking source (at_entry b entry world s r things)))
-        (ap (λ (l : Line). at.may_match && bytes_eq l.bytes entry.first) is ∙ test))
+    (ap (λ (l : Line). at.may_match && bytes_eq l.bytes entry.first) is ∙ test))
     ∙ ap (λ (es : List Event). took source ∷ es ++ merge world later) (events_are entry lines things)
     ∙ append_assoc (map took (source ∷ lines_replaced lines things))
-        (map fault (faults_replaced entry.begin lines things)) (merge world later)
+    (map fault (faults_replaced entry.begin lines things)) (merge world later)
 
 -- an entry waits where its first old line was found
 waits : (stage : Stage) (first : List ℕ) (entry : Entry) → pending_in stage first ≡ Some entry →
@@ -157,10 +157,10 @@ pub begins_here : {R : Type 0} (t : List ℕ → Option (List ℕ)) (l : R → L
     → begun_by (pending_of run) at.may_match bytes ≡ Some begin
     → (entry : Entry) × (entry.begin ≡ begin) × (coming_after t l run at source
     ≡ map took (source ∷ lines_replaced (change_lines l run) (things_above l 0 run.stack []))
-        ++ (map fault (faults_replaced begin (change_lines l run) (things_above l 0 run.stack []))
+    ++ (map fault (faults_replaced begin (change_lines l run) (things_above l 0 run.stack []))
     ++ merge (world_in t run.inputs) (after_old (old_lines (change_lines l run)).ended
-        (length (names_of run.names)) at.depth entry (old_lines (change_lines l run))
-        (taken_away (change_lines l run) (things_above l 0 run.stack [])).rest)))
+    (length (names_of run.names)) at.depth entry (old_lines (change_lines l run))
+    (taken_away (change_lines l run) (things_above l 0 run.stack [])).rest)))
 begins_here t l run at source bytes begin is begun =
     let found = begun_entry (pending_of run) at.may_match bytes begin begun in
     let entry = found.0 in
@@ -170,14 +170,14 @@ begins_here t l run at source bytes begin is begun =
     let files = length (names_of run.names) in
     let things = things_above l 0 run.stack [] in
     let later = merge world (after_old (old_lines lines).ended files at.depth entry (old_lines lines)
-        (taken_away lines things).rest) in (
+    (taken_away lines things).rest) in (
       entry,
       found.2,
       (λ i. merge world (state (raw_at at source ∷ things_in l (stage.1 i) lines run.stack) (found.1 i)
           (change_in (stage.1 i) lines) files))
           ∙ begin_step world entry source bytes at is found.3 things lines files
           ∙ ap (λ (p : Place). map took (source ∷ lines_replaced lines things)
-              ++ (map fault (faults_replaced p lines things) ++ later)) found.2,
+          ++ (map fault (faults_replaced p lines things) ++ later)) found.2,
     )
 
 -- and what is to come behind its old side
@@ -185,13 +185,13 @@ pub begun_later : {R : Type 0} (t t' : List ℕ → Option (List ℕ)) (l l' : R
     (begin : Place) (entry : Entry) (old new : SoFar) → t' ≡ t → run'.inputs ≡ run.inputs → run'.names ≡ run.names →
     entry.begin ≡ begin
     → IsChanged begin depth (change_lines l run) (things_above l 0 run.stack []) run'.stage (change_lines l' run')
-        (things_of l' run') old new
+    (things_of l' run') old new
     → merge (world_in t run.inputs) (after_old (old_lines (change_lines l run)).ended
-        (length (names_of run.names)) depth entry (old_lines (change_lines l run))
-        (taken_away (change_lines l run) (things_above l 0 run.stack [])).rest)
+    (length (names_of run.names)) depth entry (old_lines (change_lines l run))
+    (taken_away (change_lines l run) (things_above l 0 run.stack [])).rest)
     ≡ coming t' l' run'
 begun_later t t' l l' run run' depth begin entry old new texts inputs names is changed = sym (
     ap (λ s. merge (world_in t' run'.inputs) s) (changed.after entry is (length (names_of run'.names)) run'.first.items)
     ∙ (λ i. merge (world_in (texts i) (inputs i)) (after_old (old_lines (change_lines l run)).ended
-        (length (names_of (names i))) depth entry (old_lines (change_lines l run))
-        (taken_away (change_lines l run) (things_above l 0 run.stack [])).rest)))
+    (length (names_of (names i))) depth entry (old_lines (change_lines l run))
+    (taken_away (change_lines l run) (things_above l 0 run.stack [])).rest)))

@@ -1,20 +1,21 @@
 -- How lines that were given out, gathered and written add up.
-use Rattle.std.proofs.Common.{◌≡◌, ◌≤◌, ◌<◌, ◌+◌, ℕ, List, [], ◌∷◌, ◌++◌, length, Option, None, Some, refl, sym, ◌∙◌, ap, subst, inl, inr, arith}
-use Rattle.std.specs.Prelude.{IsTrue, IfSome}
+use Rattle.std.proofs.Common.{◌≡◌, ◌<◌, ℕ, List, [], ◌∷◌, ◌++◌, length, refl, sym, ◌∙◌, ap, subst, arith}
+use Rattle.std.specs.Prelude.{IsTrue}
 use Rattle.std.proofs.lemmas.List.{append-nil, append_assoc}
 use Rattle.cweb_files.specs.declared.device.Sink.{Ghosts as Sink}
 use Rattle.cweb_files.specs.Frames.{KeepsPlace, Writes}
 use Rattle.cweb_lines.specs.Lines.{Line}
 use Rattle.cweb_lines.specs.Merge.{Event}
 use Rattle.cweb_lines.specs.Merging.{SoFar, Gives, Stopped, StopsBehind, TellsFront}
-use Rattle.cweb_lines.specs.Texts.{Count, StopsReading, read_blame, files_named}
+use Rattle.cweb_lines.specs.Texts.{Count}
 use Rattle.cweb_lines.specs.Told.{given_lines, told_faults, openings}
-use Rattle.cweb_lines.specs.Writing.{text_of, WritesFront, WritesAll, WritesSome, WritesUpTo, Gathered, FailsAmong, StopsWriting, WritingStops, WritesRest, leaves, writes, fails, Failed, IsOwnStop, Blames, write_blame}
+use Rattle.cweb_lines.specs.Writing.{text_of, WritesFront, WritesAll, WritesSome, WritesUpTo, Gathered, FailsAmong, StopsWriting, WritesRest, leaves, writes, fails}
 use Rattle.cweb_lines.specs.declared.fault.SourceFault.{SourceFault}
 use Rattle.cweb_lines.specs.declared.stop.Stop.{Stop}
-use Rattle.cweb_lines.specs.declared.stop.Stop.TheVariants.{ReadFault, LineTooLong, TooMuchText, Memory, WriteFault}
+use Rattle.cweb_lines.specs.declared.stop.Stop.TheVariants.{ReadFault, LineTooLong, TooMuchText, Memory}
 use Rattle.cweb_lines.proofs.Keeps.{place_told, writes_then}
-use Rattle.cweb_lines.proofs.Merges.{given-append, told-append, openings-append, gives_nothing, gives_both, behind_both}
+use Rattle.cweb_lines.proofs.Merges.{gives_nothing}
+use Rattle.cweb_lines.proofs.Sums.{given-append, told-append, openings-append, gives_both, behind_both}
 
 pub given_front : (lines : List Line) (old new : SoFar) (all later : List Event) → Gives lines old new all later →
     given_lines all ≡ lines ++ given_lines later
@@ -90,7 +91,7 @@ module _ {W : Type 0} (sink : Sink W) (first mid : W) (keeps : KeepsPlace sink f
       → WritesFront (sink.written first) (sink.written new) (text_of (given_lines all))
   ends_front new front tells =
       front_of_all (given_lines all) g.done g.gathered (given_lines now) (sink.written first) (sink.written mid)
-          (sink.written new) piece lines_are (g.wrote tells) g.piece_is (front (place_told sink first mid keeps tells))
+      (sink.written new) piece lines_are (g.wrote tells) g.piece_is (front (place_told sink first mid keeps tells))
 
   pub ends_whole : (new : W) (so' : SoFar) (later : List Event) → Gives [] so so' now later → later ≡ [] →
       Writes sink mid new piece → WritesAll old so' all (Writes sink first new)
@@ -100,8 +101,8 @@ module _ {W : Type 0} (sink : Sink W) (first mid : W) (keeps : KeepsPlace sink f
         gives = gives_all ((g.done ++ g.gathered) ++ []) old so' all later gives none;
         wrote = subst (λ (ls : List Line). Writes sink first new (text_of ls))
             (sym (given_front ((g.done ++ g.gathered) ++ []) old so' all later gives
-                ∙ ap (λ (es : List Event). ((g.done ++ g.gathered) ++ []) ++ given_lines es) none
-                ∙ append-nil ((g.done ++ g.gathered) ++ []) ∙ append-nil (g.done ++ g.gathered)))
+            ∙ ap (λ (es : List Event). ((g.done ++ g.gathered) ++ []) ++ given_lines es) none
+            ∙ append-nil ((g.done ++ g.gathered) ++ []) ∙ append-nil (g.done ++ g.gathered)))
             (wrote_all new wrote);
       }
 
@@ -164,7 +165,7 @@ module _ {W : Type 0} (sink : Sink W) (first mid : W) (keeps : KeepsPlace sink f
   pub fails_last : (new : W) (so' : SoFar) (later : List Event) → Gives [] so so' now later → 0 < length piece →
       IsTrue (sink.tells first)
       → (IsTrue (sink.tells mid) → WritesFront (sink.written mid) (sink.written new) piece) →
-          FailsAmong room old so' all later (sink.written first) (sink.written new)
+      FailsAmong room old so' all later (sink.written first) (sink.written new)
   fails_last new so' later next some tells front =
       let more = some_lines g.gathered (subst (λ (t : List ℕ). 0 < length t) g.piece_is some) in
       record {
@@ -174,101 +175,22 @@ module _ {W : Type 0} (sink : Sink W) (first mid : W) (keeps : KeepsPlace sink f
             (gives_both (g.done ++ g.gathered) [] old so so' all now later g.gives next);
         front = subst (λ (m : List ℕ). WritesFront m (sink.written new) (text_of g.gathered)) (g.wrote tells)
             (subst (λ (p : List ℕ). WritesFront (sink.written mid) (sink.written new) p) g.piece_is
-                (front (place_told sink first mid keeps tells)));
+            (front (place_told sink first mid keeps tells)));
         some = more;
         alone = λ none. absurd (omega (arith, more, ap (λ (ls : List Line). length ls) (g.alone none)));
       }
 
-pub no_read_blame : (stop : Stop) → ((file : _) → stop ≡ ReadFault file → ⊥) → read_blame stop ≡ 0
-no_read_blame (ReadFault file) other = absurd (other file refl)
-no_read_blame stop other = refl
-
-pub no_write_blame : (stop : Stop) → StopsReading stop → write_blame stop ≡ 0
-no_write_blame WriteFault reading = absurd reading
-no_write_blame stop reading = refl
-
-reads_or_writes : (stop : Stop) → StopsReading stop → WritingStops stop
-reads_or_writes (ReadFault file) reading = tt
-reads_or_writes (LineTooLong file) reading = tt
-reads_or_writes TooMuchText reading = tt
-reads_or_writes Memory reading = tt
-reads_or_writes stop reading = absurd reading
-
--- where nothing was gathered, no write fails behind a stop
-pub none_fails : (stop result : Stop) (piece : List ℕ) (Wrote : List ℕ → Type 0) → WritesRest stop result piece Wrote →
-    StopsReading stop → piece ≡ [] → result ≡ WriteFault → ⊥
-none_fails stop result piece Wrote (leaves file was is wrote) reading none fault =
-    subst StopsReading (sym is ∙ fault) reading
-none_fails stop result piece Wrote (writes is wrote) reading none fault = subst StopsReading (sym is ∙ fault) reading
-none_fails stop result piece Wrote (fails is some blame) reading none fault =
-    omega (arith, some, ap (λ (p : List ℕ). length p) none)
-
--- the file that the end of a run names is the one of the stop
-pub names_rest : (stop result : Stop) (piece : List ℕ) (Wrote : List ℕ → Type 0) (files : ℕ) →
-    WritesRest stop result piece Wrote → files_named stop ≤ files → files_named result ≤ files
-names_rest stop result piece Wrote files (leaves file was is wrote) named = omega (arith, ap files_named is, named)
-names_rest stop result piece Wrote files (writes is wrote) named = omega (arith, ap files_named is, named)
-names_rest stop result piece Wrote files (fails is some blame) named = omega (arith, ap files_named is)
-
--- what the end of a run whose merger stopped leaves over all devices
-pub blamed : (room : ℕ) (stop result : Stop) (piece : List ℕ) (Wrote : List ℕ → Type 0) (kept : Option Stop) (files : ℕ)
-    (before after : Failed) → WritesRest stop result piece Wrote
-    → StopsReading stop → kept ≡ Some stop → files_named stop ≤ files → (room ≡ 0 → piece ≡ [])
-    → after.shelf ≡ before.shelf + read_blame stop → after.out ≡ before.out + write_blame result →
-        Blames room result before after kept files
-blamed room stop result piece Wrote kept files before after rest reading keeps named empty shelf out = by rest
-  where
-    goes_on : room ≡ 0 → result ≡ WriteFault → kept ≡ None
-    goes_on none fault = absurd (none_fails stop result piece Wrote rest reading (empty none) fault)
-
-    same : result ≡ stop → Blames room result before after kept files
-    same is = record {
-      kind = subst WritingStops (sym is) (reads_or_writes stop reading);
-      shelf = shelf ∙ ap (λ s. before.shelf + read_blame s) (sym is);
-      out = out;
-      named = names_rest stop result piece Wrote files rest named;
-      kept = inr (keeps ∙ ap (λ s. Some s) (sym is));
-      goes_on = goes_on;
-      after_write = λ fault. absurd (subst StopsReading (sym is ∙ fault) reading);
-    }
-
-    by : WritesRest stop result piece Wrote → Blames room result before after kept files
-    by (leaves file was is wrote) = same is
-    by (writes is wrote) = same is
-    by (fails is some blame) = record {
-      kind = subst WritingStops (sym is) tt;
-      shelf = omega (arith, shelf, blame, ap read_blame is);
-      out = out;
-      named = omega (arith, ap files_named is);
-      kept = inl is;
-      goes_on = goes_on;
-      after_write = λ fault. subst (λ o. IfSome o (λ own. IsOwnStop own files)) (sym keeps)
-          (record { reading = reading; unread = blame; named = named });
-    }
-
--- a write failed, and the merger goes on
-pub blames_write : (room : ℕ) (result : Stop) (kept : Option Stop) (files : ℕ) (before after : Failed) →
-    result ≡ WriteFault → kept ≡ None
-    → after.shelf ≡ before.shelf → after.out ≡ before.out + 1 → Blames room result before after kept files
-blames_write room result kept files before after is running shelf out = record {
-  kind = subst WritingStops (sym is) tt;
-  shelf = omega (arith, shelf, ap read_blame is);
-  out = omega (arith, out, ap write_blame is);
-  named = omega (arith, ap files_named is);
-  kept = inl is;
-  goes_on = λ none fault. running;
-  after_write = λ fault. subst (λ o. IfSome o (λ own. IsOwnStop own files)) (sym running) tt;
-}
-
-pub write_failed : (result : Stop) (old now : Count) (all : List Event) (Wrote : List ℕ → Type 0) →
-    result ≡ WriteFault → StopsWriting result old now all Wrote
-write_failed result old now all Wrote is = subst (λ s. StopsWriting s old now all Wrote) (sym is) tt
-
 -- what was told is a front of all that is to be told
 pub tells_some : (lines : List Line) (old new : SoFar) (all later : List Event) → Gives lines old new all later →
     TellsFront old new all
-tells_some lines old new all later gives = record { events = gives.events; later = later; whole = gives.whole; faults =
-    gives.faults; names = gives.names }
+tells_some lines old new all later gives = record {
+  events = gives.events;
+  later = later;
+  whole = gives.whole;
+  faults =
+      gives.faults;
+  names = gives.names;
+}
 
 pub tells_more : (lines : List Line) (old mid new : SoFar) (all now : List Event) → Gives lines old mid all now →
     TellsFront mid new now → TellsFront old new all

@@ -39,8 +39,13 @@ abbrev pub met : SourceFault → Sought → Sought
 met f sought = record { faults = f ∷ sought.faults; taken = sought.taken; entry = sought.entry; rest = sought.rest }
 
 abbrev pub passing : SourceLine → Sought → Sought
-passing line sought = record { faults = sought.faults; taken = line ∷ sought.taken; entry = sought.entry; rest =
-    sought.rest }
+passing line sought = record {
+  faults = sought.faults;
+  taken = line ∷ sought.taken;
+  entry = sought.entry;
+  rest =
+      sought.rest;
+}
 
 -- Outside an entry, at a line with this code. What follows is a function of the @x line that waits, so that only one of
 -- the two ways is computed.
@@ -98,8 +103,14 @@ old_code line side = record {
 abbrev pub old_at : Option Code → SourceLine → List SourceLine → OldSide → OldSide
 old_at None line lines later = old_line line later
 old_at (Some old_side) line lines later = old_code line later
-old_at (Some new_side) line lines later = record { faults = []; lines = []; taken = line ∷ []; ended = false; rest =
-    lines }
+old_at (Some new_side) line lines later = record {
+  faults = [];
+  lines = [];
+  taken = line ∷ [];
+  ended = false;
+  rest =
+      lines;
+}
 old_at (Some end_side) line lines later = old_code line later
 
 abbrev pub old_lines : List SourceLine → OldSide

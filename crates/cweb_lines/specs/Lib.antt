@@ -21,5 +21,6 @@ pub mod Taking
 pub mod Texts
 pub mod Told
 pub mod Total
+pub mod Halting
 pub mod Whole
 pub mod Writing

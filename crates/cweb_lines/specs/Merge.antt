@@ -108,7 +108,7 @@ abbrev pub change_events : Entry → OldSide → Compared → List Event
 change_events entry old by =
     map took old.taken ++ map took by.taken
     ++ map fault old.faults ++ fault_if old.ended (at_place EndedBeforeY entry.begin)
-        ++ fault_if by.ran_out (at_place WebEnded entry.begin)
+    ++ fault_if by.ran_out (at_place WebEnded entry.begin)
     ++ fault_if (nat_lt 0 by.unequal) (record { kind = Unequal; place = entry.begin; count = by.unequal })
 
 -- behind the old side: the new lines come in front of the rest, then the next entry is sought; where the change file
@@ -173,16 +173,26 @@ taking line next = (took line ∷ next.0, next.1)
 
 abbrev pub at_end : Option Entry → State → Option Next
 at_end None s = None
-at_end (Some entry) s = Some (fault (at_place NoMatch entry.begin) ∷ [],
-    record { things = []; pending = None; change = s.change; files = s.files })
+at_end (Some entry) s = Some (
+  fault (at_place NoMatch entry.begin) ∷ [],
+  record { things = []; pending = None; change = s.change; files = s.files },
+)
 
 -- the first thing to come decides; there is no step where nothing is to come
 abbrev pub step_at : List Thing → World → State → Option Next
 step_at [] world s = at_end s.pending s
 step_at (seek ∷ things) world s =
     let found = sought s.change None in
-    Some (map took found.taken ++ map fault found.faults, record { things = things; pending = found.entry; change =
-        found.rest; files = s.files })
+    Some (
+      map took found.taken ++ map fault found.faults,
+      record {
+        things = things;
+        pending = found.entry;
+        change =
+            found.rest;
+        files = s.files;
+      },
+    )
 step_at (raw r ∷ things) world s = Some (taking r.source (at_raw s.pending world s r things))
 step_at (told f ∷ things) world s = Some (fault f ∷ [], past s things)
 step_at (passed line ∷ things) world s = Some (took line ∷ [], past s things)
@@ -206,5 +216,10 @@ run (suc n) world s = then_run (step world s) (λ next. run n world next)
 -- The merge begins with the web's lines. Where there is a change file, its first entry is sought before them.
 abbrev pub started : List ℕ → Option (List ℕ) → State
 started web None = record { things = raws 1 true (lines_in 0 web); pending = None; change = []; files = 1 }
-started web (Some change) = record { things = seek ∷ raws 1 true (lines_in 0 web); pending = None; change =
-    lines_in 1 change; files = 2 }
+started web (Some change) = record {
+  things = seek ∷ raws 1 true (lines_in 0 web);
+  pending = None;
+  change =
+      lines_in 1 change;
+  files = 2;
+}

@@ -72,7 +72,7 @@ closing_faults begin ended ran_out unequal =
 abbrev pub faults_replaced : Place → List SourceLine → List Thing → List SourceFault
 faults_replaced begin change things =
     (old_lines change).faults ++ closing_faults begin (old_lines change).ended (taken_away change things).ran_out
-        (taken_away change things).unequal
+    (taken_away change things).unequal
 
 -- a change was begun: its old side is counted, and what is to come is as the definition has it
 pub record IsChanged (begin : Place) (depth : ℕ) (change : List SourceLine) (things : List Thing) (stage : Stage)

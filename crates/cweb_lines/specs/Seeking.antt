@@ -15,8 +15,12 @@ use Rattle.cweb_lines.specs.declared.change.Stage.{Stage}
 
 -- a search behind faults that were told and lines that were taken
 abbrev pub behind : List SourceFault → List SourceLine → Sought → Sought
-behind faults taken found = record { faults = faults ++ found.faults; taken = taken ++ found.taken; entry = found.entry;
-    rest = found.rest }
+behind faults taken found = record {
+  faults = faults ++ found.faults;
+  taken = taken ++ found.taken;
+  entry = found.entry;
+  rest = found.rest;
+}
 
 -- outside an entry: what a code line tells, and where an @x line stands that waits
 abbrev pub told_outside : Option Code → Place → List SourceFault
@@ -35,8 +39,13 @@ begun_outside (Some end_side) place = None
 abbrev pub Looks : Look → Option Place → SourceLine → List SourceLine → List SourceFault → Type 0
 Looks (goes_on next) begin line lines told = sought (line ∷ lines) begin ≡ behind told (line ∷ []) (sought lines next)
 Looks (first_line entry) begin line lines told =
-    sought (line ∷ lines) begin ≡ record { faults = told; taken = line ∷ []; entry =
-        Some (record { begin = entry; first = line.line.bytes }); rest = lines }
+    sought (line ∷ lines) begin ≡ record {
+      faults = told;
+      taken = line ∷ [];
+      entry =
+          Some (record { begin = entry; first = line.line.bytes });
+      rest = lines;
+    }
 
 -- the faults that were told, and what the line came to, whatever follows it
 pub record LooksAt (look : Look) (begin : Option Place) (bytes : List ℕ) (place : Place)

@@ -190,7 +190,7 @@ Pushes {R = R} old new text = (left : R → List ℕ) (low : ℕ) → low ≤ ol
 abbrev pub Opens : {R : Type 0} → Stack R → Stack R → R → ℕ → LineAt → Type 0
 Opens {R = R} old new reader file at = (left : R → List ℕ) (low : ℕ) → low ≤ old.depth → (rest : List Thing)
     → things_above left low new rest ≡ raws (at.depth + 1) at.may_match (lines_in file (left reader))
-        ++ things_above left low old rest
+    ++ things_above left low old rest
 
 abbrev pub DepthAfter : ℕ → ℕ → Result (Option LineAt) Stop → Type 0
 DepthAfter old new (Ok None) = new + 1 ≡ old

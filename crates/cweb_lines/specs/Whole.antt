@@ -86,8 +86,12 @@ pub record Begins (world : World) (found : Option Found) (changes : Option (Opti
   pub change : Option Found
   pub there : found ≡ Some (name, text)
   pub changes_there : changes ≡ Some change
-  pub so_far_is : first ≡ record { faults = []; names = name ∷ names_found change; count =
-      record { lines = 0; bytes = 0 } }
+  pub so_far_is : first ≡ record {
+    faults = [];
+    names = name ∷ names_found change;
+    count =
+        record { lines = 0; bytes = 0 };
+  }
   pub whole : all ≡ merge world (started text (text_found change))
 
 -- a merge can't begin where there is no web, where a web is there and the change file that is named isn't, or where

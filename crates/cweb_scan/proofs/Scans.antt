@@ -13,7 +13,8 @@ use Rattle.cweb_lines.specs.Whole.{GivesOut, StopsThere}
 use Rattle.cweb_lines.specs.declared.limits.TheConstants.{LINES, BYTES}
 use Rattle.cweb_lines.specs.declared.stop.Stop.{Stop}
 use Rattle.cweb_lines.specs.declared.stop.Stop.TheVariants.{Memory}
-use Rattle.cweb_lines.proofs.Merges.{gives_nothing, gives_both, behind_both}
+use Rattle.cweb_lines.proofs.Merges.{gives_nothing}
+use Rattle.cweb_lines.proofs.Sums.{gives_both, behind_both}
 use Rattle.cweb_lines.proofs.Stacks.{stops_map}
 use Rattle.cweb_lines.proofs.Writes.{given_front, gives_all, tells_some, tells_more, tells_same}
 use Rattle.cweb_store.specs.Parts.{Token, Mark, all_tokens}

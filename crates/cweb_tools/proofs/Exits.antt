@@ -15,7 +15,7 @@ use Rattle.cweb_lines.specs.declared.fault.SourceFault.{SourceFault}
 use Rattle.cweb_lines.specs.declared.limits.TheConstants.{LINES, BYTES}
 use Rattle.cweb_lines.specs.declared.stop.Stop.{Stop}
 use Rattle.cweb_lines.specs.declared.stop.Stop.TheVariants.{Usage, WebNotOpened, ChangeNotOpened, ReadFault, LineTooLong, TooMuchText, Memory, WriteFault}
-use Rattle.cweb_lines.proofs.Merges.{openings-append}
+use Rattle.cweb_lines.proofs.Sums.{openings-append}
 use Rattle.cweb_log.specs.Gathering.{Logs}
 use Rattle.cweb_log.specs.Log.{fault_lines, stop_line, start_subject, subject}
 use Rattle.cweb_log.specs.Seen.{Seen, SeenStream}

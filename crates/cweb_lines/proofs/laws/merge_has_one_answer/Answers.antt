@@ -1,5 +1,6 @@
 use Rattle.std.proofs.Common.{sym}
-use Rattle.cweb_lines.specs.Total.{halts, merge-run}
+use Rattle.cweb_lines.specs.Total.{merge-run}
+use Rattle.cweb_lines.specs.Halting.{halts}
 use Rattle.cweb_lines.proofs.laws.merge_has_one_answer.Goals as goal
 
 pub returns : goal.returns

@@ -6,7 +6,8 @@ use Rattle.cweb_lines.proofs.Named.{blames_none, blames_rest, stop_after}
 use Rattle.cweb_lines.proofs.Fronts.{told_halted, told_passed, told_same, told_then}
 use Rattle.cweb_lines.proofs.Gathers.{emptied, held, held_on, passed_on, fails_front, fails_among}
 use Rattle.cweb_lines.proofs.Keeps.{keeps_same, keeps_told, keeps_then, place_same, place_then}
-use Rattle.cweb_lines.proofs.Writes.{nothing_yet, names_rest, ends_front, ends_whole, ended_early, halted, fails_last, write_failed, blamed, blames_write, tells_some, tells_more, tells_same}
+use Rattle.cweb_lines.proofs.Writes.{nothing_yet, ends_front, ends_whole, ended_early, halted, fails_last, tells_some, tells_more, tells_same}
+use Rattle.cweb_lines.proofs.WriteStops.{names_rest, write_failed, blamed, blames_write}
 use Rattle.cweb_lines.proofs.writing.write_merged_in_pieces.Goals as goal
 
 pub lines-init : goal.lines-init
@@ -34,13 +35,13 @@ returns-in-Err-clause-keeps g c = (
 pub returns-in-Err-clause-front : goal.returns-in-Err-clause-front
 returns-in-Err-clause-front g c = λ tells.
     ends_front g.W.Sink _ _ c.lines.invariant.place _ _ _ _ _ _ (c.lines.invariant.gathered tells) c.write_rest.new.out
-        (rw c.deref.ensures.value at c.write_rest.ensures.front)
+    (rw c.deref.ensures.value at c.write_rest.ensures.front)
 
 pub returns-in-Err-clause-stops : goal.returns-in-Err-clause-stops
 returns-in-Err-clause-stops g c = λ tells before.
     let gathered = c.lines.invariant.gathered tells in
     let there = c.in-Err.ensures.stops (keeps_told g.S.Shelf _ _ c.lines.invariant.keeps tells)
-        c.lines.invariant.running in
+    c.lines.invariant.running in
     record {
       why = ended_early g.W.Sink _ _ c.lines.invariant.place _ _ _ _ _ _ gathered c.in-Err.stop c.write_rest.result _
           c.write_rest.new.out there.why (rw c.deref.ensures.value at c.write_rest.ensures.rest);
@@ -51,7 +52,7 @@ pub returns-in-Err-clause-blames : goal.returns-in-Err-clause-blames
 returns-in-Err-clause-blames g c = λ before.
     let blames = c.in-Err.ensures.blames c.lines.invariant.running in
     blamed c.args.room c.in-Err.stop c.write_rest.result _ _ _ _ _ _ c.write_rest.ensures.rest blames.reading
-        c.in-Err.ensures.leaves.kept c.in-Err.ensures.named
+    c.in-Err.ensures.leaves.kept c.in-Err.ensures.named
     (λ none. rw c.deref.ensures.value (c.lines.invariant.empty none))
     (blames.failed ∙ ap (λ n. n + read_blame c.in-Err.stop) c.lines.invariant.failed)
     (c.write_rest.ensures.failed ∙ ap (λ n. n + write_blame c.write_rest.result) c.lines.invariant.out_failed)
@@ -64,12 +65,12 @@ returns-in-Err-clause-named g c = names_rest c.in-Err.stop c.write_rest.result _
 pub returns-in-Err-write_piece-clause-front : goal.returns-in-Err-write_piece-clause-front
 returns-in-Err-write_piece-clause-front g c = λ tells.
     ends_front g.W.Sink _ _ c.lines.invariant.place _ _ _ _ _ _ (c.lines.invariant.gathered tells) c.write_piece.new.out
-        (rw c.deref-in_default-next.ensures.value at c.in-Err-write_piece.ensures.err)
+    (rw c.deref-in_default-next.ensures.value at c.in-Err-write_piece.ensures.err)
 
 pub returns-in-Err-write_piece-clause-stops : goal.returns-in-Err-write_piece-clause-stops
 returns-in-Err-write_piece-clause-stops g c = λ tells before.
     let next = rw c.in_default-next.is at (c.in-Ok.ensures.next
-        (keeps_told g.S.Shelf _ _ c.lines.invariant.keeps tells)) in
+    (keeps_told g.S.Shelf _ _ c.lines.invariant.keeps tells)) in
     record {
       why = write_failed _ _ _ _ _ c.in-Err-write_piece.ensures.stop;
       told = tells_more _ _ _ _ _ _ (c.lines.invariant.gathered tells).gives (tells_some [] _ _ _ _ next.0);
@@ -78,31 +79,31 @@ returns-in-Err-write_piece-clause-stops g c = λ tells before.
 pub returns-in-Err-write_piece-clause-fault : goal.returns-in-Err-write_piece-clause-fault
 returns-in-Err-write_piece-clause-fault g c = λ tells out before is running.
     let next = rw c.in_default-next.is at (c.in-Ok.ensures.next
-        (keeps_told g.S.Shelf _ _ c.lines.invariant.keeps tells)) in
+    (keeps_told g.S.Shelf _ _ c.lines.invariant.keeps tells)) in
     fails_last g.W.Sink _ _ c.lines.invariant.place _ _ _ _ _ _
-        (c.lines.invariant.gathered tells) c.write_piece.new.out _ _ next.0
-        (rw c.deref-in_default-next.ensures.value at c.in-Err-write_piece.ensures.some) out
+    (c.lines.invariant.gathered tells) c.write_piece.new.out _ _ next.0
+    (rw c.deref-in_default-next.ensures.value at c.in-Err-write_piece.ensures.some) out
     (rw c.deref-in_default-next.ensures.value at c.in-Err-write_piece.ensures.err)
 
 pub returns-in_default-next-clause-ok : goal.returns-in_default-next-clause-ok
 returns-in_default-next-clause-ok g c = λ tells.
     let next = rw c.in_default-next.is at (c.in-Ok.ensures.next
-        (keeps_told g.S.Shelf _ _ c.lines.invariant.keeps tells)) in
+    (keeps_told g.S.Shelf _ _ c.lines.invariant.keeps tells)) in
     ends_whole g.W.Sink _ _ c.lines.invariant.place _ _ _ _ _ _
-        (c.lines.invariant.gathered tells) c.write_piece.new.out _ _ next.0 next.1
+    (c.lines.invariant.gathered tells) c.write_piece.new.out _ _ next.0 next.1
     (rw c.deref-in_default-next.ensures.value at c.in_default-write_piece.ensures.ok)
 
 -- memory was refused for a line
 pub returns-in-Err-gather-clause-front : goal.returns-in-Err-gather-clause-front
 returns-in-Err-gather-clause-front g c = λ tells.
     ends_front g.W.Sink _ _ c.lines.invariant.place _ _ _ _ _ _
-        (c.lines.invariant.gathered tells) c.write_rest-in-Err-gather.new.out
+    (c.lines.invariant.gathered tells) c.write_rest-in-Err-gather.new.out
     (rw (c.deref-in-Err-gather.ensures.value, c.in-Err-gather.ensures.err) at c.write_rest-in-Err-gather.ensures.front)
 
 pub returns-in-Err-gather-clause-stops : goal.returns-in-Err-gather-clause-stops
 returns-in-Err-gather-clause-stops g c = λ tells before.
     let next = rw c.in-Some-next.is at (c.in-Ok.ensures.next
-        (keeps_told g.S.Shelf _ _ c.lines.invariant.keeps tells)) in
+    (keeps_told g.S.Shelf _ _ c.lines.invariant.keeps tells)) in
     let gathered = c.lines.invariant.gathered tells in
     record {
       why = halted g.W.Sink _ _ c.lines.invariant.place _ _ _ _ _ _ gathered c.write_rest-in-Err-gather.result _
@@ -128,46 +129,46 @@ returns-in-Err-pass_on-clause-grows g c = record {
 pub returns-in-Err-pass_on-clause-front : goal.returns-in-Err-pass_on-clause-front
 returns-in-Err-pass_on-clause-front g c = λ tells.
     let next = rw c.in-Some-next.is at (c.in-Ok.ensures.next
-        (keeps_told g.S.Shelf _ _ c.lines.invariant.keeps tells)) in
+    (keeps_told g.S.Shelf _ _ c.lines.invariant.keeps tells)) in
     let one = held _ _ _ _ _ _ _ (c.lines.invariant.gathered tells)
-        (record { bytes = c.next_line.new.line.items; place = c.in-Some-next.field-0 }) _ _ next _
+    (record { bytes = c.next_line.new.line.items; place = c.in-Some-next.field-0 }) _ _ next _
     (rw c.deref-in-lines.ensures.value at c.in_default-gather.ensures.ok) in
     let passes = c.pass_lines.ensures.passes in
     let more = held_on _ _ _ _ _ _ _ one passes.lines _ _ (passes.gives (g.S.Shelf.texts c.next_line.new.shelf)
-        (g.S.Shelf.left c.next_line.new.shelf)) _ passes.gathered c.pass_lines.ensures.alone in
+    (g.S.Shelf.left c.next_line.new.shelf)) _ passes.gathered c.pass_lines.ensures.alone in
     fails_front g.W.Sink _ _ c.lines.invariant.place _ _ _ _ _ _ more c.pass_on.new.out c.in-Err-pass_on.ensures.err
 
 pub returns-in-Err-pass_on-clause-stops : goal.returns-in-Err-pass_on-clause-stops
 returns-in-Err-pass_on-clause-stops g c = λ tells before.
     let next = rw c.in-Some-next.is at (c.in-Ok.ensures.next
-        (keeps_told g.S.Shelf _ _ c.lines.invariant.keeps tells)) in
+    (keeps_told g.S.Shelf _ _ c.lines.invariant.keeps tells)) in
     let one = held _ _ _ _ _ _ _ (c.lines.invariant.gathered tells)
-        (record { bytes = c.next_line.new.line.items; place = c.in-Some-next.field-0 }) _ _ next _
+    (record { bytes = c.next_line.new.line.items; place = c.in-Some-next.field-0 }) _ _ next _
     (rw c.deref-in-lines.ensures.value at c.in_default-gather.ensures.ok) in
     let passes = c.pass_lines.ensures.passes in
     let more = held_on _ _ _ _ _ _ _ one passes.lines _ _ (passes.gives (g.S.Shelf.texts c.next_line.new.shelf)
-        (g.S.Shelf.left c.next_line.new.shelf)) _ passes.gathered c.pass_lines.ensures.alone in
+    (g.S.Shelf.left c.next_line.new.shelf)) _ passes.gathered c.pass_lines.ensures.alone in
     record { why = write_failed _ _ _ _ _ c.in-Err-pass_on.ensures.stop; told = tells_some _ _ _ _ _ more.gives }
 
 pub returns-in-Err-pass_on-clause-fault : goal.returns-in-Err-pass_on-clause-fault
 returns-in-Err-pass_on-clause-fault g c = λ tells out before is running.
     let next = rw c.in-Some-next.is at (c.in-Ok.ensures.next
-        (keeps_told g.S.Shelf _ _ c.lines.invariant.keeps tells)) in
+    (keeps_told g.S.Shelf _ _ c.lines.invariant.keeps tells)) in
     let one = held _ _ _ _ _ _ _ (c.lines.invariant.gathered tells)
-        (record { bytes = c.next_line.new.line.items; place = c.in-Some-next.field-0 }) _ _ next _
+    (record { bytes = c.next_line.new.line.items; place = c.in-Some-next.field-0 }) _ _ next _
     (rw c.deref-in-lines.ensures.value at c.in_default-gather.ensures.ok) in
     let passes = c.pass_lines.ensures.passes in
     let more = held_on _ _ _ _ _ _ _ one passes.lines _ _ (passes.gives (g.S.Shelf.texts c.next_line.new.shelf)
-        (g.S.Shelf.left c.next_line.new.shelf)) _ passes.gathered c.pass_lines.ensures.alone in
+    (g.S.Shelf.left c.next_line.new.shelf)) _ passes.gathered c.pass_lines.ensures.alone in
     fails_among g.W.Sink _ _ c.lines.invariant.place _ _ _ _ _ _ more c.pass_on.new.out out c.in-Err-pass_on.ensures.err
 
 pub returns-in-Err-pass_on-clause-blames : goal.returns-in-Err-pass_on-clause-blames
 returns-in-Err-pass_on-clause-blames g c = λ before.
     let blames = c.in-Ok.ensures.blames c.lines.invariant.running in
     blames_write _ _ _ _ _ _ c.in-Err-pass_on.ensures.stop (c.pass_lines.ensures.passes.stopped
-        ∙ c.in-Ok.ensures.leaves.running)
+    ∙ c.in-Ok.ensures.leaves.running)
     (blames.failed ∙ c.lines.invariant.failed) (c.in-Err-pass_on.ensures.failed
-        ∙ ap (λ n. n + 1) c.lines.invariant.out_failed)
+    ∙ ap (λ n. n + 1) c.lines.invariant.out_failed)
 
 pub lines-preserved : goal.lines-preserved
 lines-preserved g c = record {
@@ -188,22 +189,27 @@ lines-preserved g c = record {
       (Writes g.W.Sink c.lines.out c.pass_on.new.out) c.in_default-pass_on.ensures.ok none;
   gathered = λ tells.
       let next = rw c.in-Some-next.is at (c.in-Ok.ensures.next
-          (keeps_told g.S.Shelf _ _ c.lines.invariant.keeps tells)) in
+      (keeps_told g.S.Shelf _ _ c.lines.invariant.keeps tells)) in
       let one = held _ _ _ _ _ _ _ (c.lines.invariant.gathered tells)
-          (record { bytes = c.next_line.new.line.items; place = c.in-Some-next.field-0 }) _ _ next _
+      (record { bytes = c.next_line.new.line.items; place = c.in-Some-next.field-0 }) _ _ next _
       (rw c.deref-in-lines.ensures.value at c.in_default-gather.ensures.ok) in
       let passes = c.pass_lines.ensures.passes in
       let more = held_on _ _ _ _ _ _ _ one passes.lines _ _ (passes.gives (g.S.Shelf.texts c.next_line.new.shelf)
-          (g.S.Shelf.left c.next_line.new.shelf)) _ passes.gathered c.pass_lines.ensures.alone in
+      (g.S.Shelf.left c.next_line.new.shelf)) _ passes.gathered c.pass_lines.ensures.alone in
       passed_on g.W.Sink _ _ c.lines.invariant.place _ _ _ _ _ _ more c.pass_on.new.out _
-          c.in_default-pass_on.ensures.ok;
+      c.in_default-pass_on.ensures.ok;
 }
 
 pub lines-smaller : goal.lines-smaller
 lines-smaller g c =
     let given = rw c.in-Some-next.is at c.in-Ok.ensures.given in
-    omega (arith, given.lines, c.pass_lines.ensures.passes.counted, c.in-Ok.ensures.grows.lines,
-        c.pass_lines.new.self.run.limits.few)
+    omega (
+      arith,
+      given.lines,
+      c.pass_lines.ensures.passes.counted,
+      c.in-Ok.ensures.grows.lines,
+      c.pass_lines.new.self.run.limits.few,
+    )
 
 -- what was told stays
 pub returns-in-Some-clause-grows : goal.returns-in-Some-clause-grows

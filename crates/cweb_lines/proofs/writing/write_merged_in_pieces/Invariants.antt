@@ -22,7 +22,7 @@ invariant-lines g l = record {
   empty : l.room ≡ 0 → l.piece.items ≡ [];
   gathered : IsTrue (g.S.Shelf.tells l.fn.shelf) → Gathered l.room (so_far l.fn.merger) (so_far l.merger)
       (to_come g.S.Shelf l.fn.shelf l.fn.merger) (to_come g.S.Shelf l.shelf l.merger)
-          (Writes g.W.Sink l.fn.out l.out) l.piece.items;
+      (Writes g.W.Sink l.fn.out l.out) l.piece.items;
 }
 
 abbrev pub decreases-lines : goal.decreases-lines

@@ -2,7 +2,7 @@ use Rattle.std.proofs.Common.{[], refl, sym, arith}
 use Rattle.std.proofs.lemmas.List.{append-nil}
 use Rattle.cweb_lines.specs.Writing.{leaves, writes}
 use Rattle.cweb_lines.proofs.Keeps.{writes_none}
-use Rattle.cweb_lines.proofs.Writes.{no_write_blame}
+use Rattle.cweb_lines.proofs.WriteStops.{no_write_blame}
 use Rattle.cweb_lines.proofs.writing.write_rest.Goals as goal
 
 pub returns-in-ReadFault-clause-rest : goal.returns-in-ReadFault-clause-rest
@@ -15,5 +15,10 @@ pub returns-in-Ok-clause-rest : goal.returns-in-Ok-clause-rest
 returns-in-Ok-clause-rest g c = writes refl c.in-Ok.ensures.ok
 
 pub returns-in-Ok-clause-front : goal.returns-in-Ok-clause-front
-returns-in-Ok-clause-front g c = λ tells. record { front = c.args.piece.now; rest = []; written =
-    c.in-Ok.ensures.ok tells; whole = sym (append-nil c.args.piece.now) }
+returns-in-Ok-clause-front g c = λ tells. record {
+  front = c.args.piece.now;
+  rest = [];
+  written =
+      c.in-Ok.ensures.ok tells;
+  whole = sym (append-nil c.args.piece.now);
+}

@@ -8,7 +8,7 @@ use Rattle.cweb_lines.specs.declared.stop.Stop.TheVariants.{Memory}
 use Rattle.cweb_scan.specs.Scan.{EndsEarly}
 use Rattle.cweb_lines.proofs.Fronts.{told_files, told_same, told_then}
 use Rattle.cweb_lines.proofs.Keeps.{keeps_same, keeps_told, keeps_then}
-use Rattle.cweb_lines.proofs.Merges.{gives_both}
+use Rattle.cweb_lines.proofs.Sums.{gives_both}
 use Rattle.cweb_scan.specs.Held.{cost, read_after}
 use Rattle.cweb_scan.proofs.Scans.{nothing_taken, given_line_taken, all_within, all_scanned, ends_early, refused}
 use Rattle.cweb_scan.proofs.scanning.scan.Goals as goal

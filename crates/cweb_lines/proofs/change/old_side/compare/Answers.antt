@@ -2,7 +2,7 @@ use Rattle.std.proofs.Common.{Ok, ◌≡◌, ◌+◌, [], true, false, Vec, Glob
 use Rattle.std.specs.Str.{bytes_eq}
 use Rattle.cweb_lines.specs.Names.{names_of}
 use Rattle.cweb_lines.specs.declared.fault.SourceFault.{SourceFault}
-use Rattle.cweb_lines.proofs.Replaces.{compares_none, compares_some}
+use Rattle.cweb_lines.proofs.Compares.{compares_none, compares_some}
 use Rattle.cweb_lines.proofs.Stacks.{over-none}
 use Rattle.cweb_lines.proofs.change.old_side.compare.Goals as goal
 
@@ -13,18 +13,21 @@ returns-in_default-clause-compares g c = λ tells.
     let ended = rw c.requires.floor at (c.in-Ok.ensures.closes.ended (ap Ok c.in_default.is)) in
     compares_none c.args.run.now.first.items c.args.so_far _ _ _ _ (taken [])
     (over-none (g.S.Shelf.left c.take_raw.new.shelf) 0 _ c.take_raw.new.run.stack.texts [] (omega (arith, ended)))
-    (λ i. record { faults = (c.in-Ok.ensures.only.faults i).items; names = names_of (c.in-Ok.ensures.only.names i);
-        count = record { lines = counted.0 i; bytes = counted.1 i } })
+    (λ i. record {
+      faults = (c.in-Ok.ensures.only.faults i).items;
+      names = names_of (c.in-Ok.ensures.only.names i);
+      count = record { lines = counted.0 i; bytes = counted.1 i };
+    })
 
 pub returns-then-eq-clause-compares : goal.returns-then-eq-clause-compares
 returns-then-eq-clause-compares g c = λ tells.
     let taken = (rw (c.in-Some.is, c.requires.floor) at (c.in-Ok.ensures.taken tells)) [] in
     let first = c.as_slice-2.ensures.value ∙ ap (λ (v : Vec ℕ Global). v.items) c.in-Ok.ensures.only.first in
     let test : bytes_eq c.take_raw.new.line.items c.args.run.now.first.items ≡ true =
-        (λ i. bytes_eq (sym c.as_slice.ensures.value i) (sym first i)) ∙ sym c.eq.ensures ∙ c.if-eq.true in
+    (λ i. bytes_eq (sym c.as_slice.ensures.value i) (sym first i)) ∙ sym c.eq.ensures ∙ c.if-eq.true in
     compares_some c.args.run.now.first.items c.take_raw.new.line.items c.args.so_far c.args.so_far c.in-Some.field-0 _ _
-        _ _ taken.0 taken.1 (ap (λ (v : Vec SourceFault Global). v.items) c.in-Ok.ensures.only.faults)
-        (ap names_of c.in-Ok.ensures.only.names)
+    _ _ taken.0 taken.1 (ap (λ (v : Vec SourceFault Global). v.items) c.in-Ok.ensures.only.faults)
+    (ap names_of c.in-Ok.ensures.only.names)
     (ap (λ b. if b then c.args.so_far.unequal else c.args.so_far.unequal + 1) (sym test)) refl
 
 pub returns-clause-compares : goal.returns-clause-compares
@@ -32,8 +35,8 @@ returns-clause-compares g c = λ tells.
     let taken = (rw (c.in-Some.is, c.requires.floor) at (c.in-Ok.ensures.taken tells)) [] in
     let first = c.as_slice-2.ensures.value ∙ ap (λ (v : Vec ℕ Global). v.items) c.in-Ok.ensures.only.first in
     let test : bytes_eq c.take_raw.new.line.items c.args.run.now.first.items ≡ false =
-        (λ i. bytes_eq (sym c.as_slice.ensures.value i) (sym first i)) ∙ sym c.eq.ensures ∙ c.if-eq.false in
+    (λ i. bytes_eq (sym c.as_slice.ensures.value i) (sym first i)) ∙ sym c.eq.ensures ∙ c.if-eq.false in
     compares_some c.args.run.now.first.items c.take_raw.new.line.items c.args.so_far _ c.in-Some.field-0 _ _ _ _ taken.0
-        taken.1 (ap (λ (v : Vec SourceFault Global). v.items) c.in-Ok.ensures.only.faults)
-        (ap names_of c.in-Ok.ensures.only.names)
+    taken.1 (ap (λ (v : Vec SourceFault Global). v.items) c.in-Ok.ensures.only.faults)
+    (ap names_of c.in-Ok.ensures.only.names)
     (ap (λ b. if b then c.args.so_far.unequal else c.args.so_far.unequal + 1) (sym test)) refl

@@ -12,7 +12,8 @@ use Rattle.cweb_lines.specs.declared.change.code.Code.TheVariants.{NewSide as ne
 use Rattle.cweb_lines.specs.declared.fault.SourceFault.{SourceFault}
 use Rattle.cweb_lines.proofs.Named.{blames_none, knows_only, stop_after}
 use Rattle.cweb_lines.proofs.Fronts.{told_behind, told_same, told_then, told_took}
-use Rattle.cweb_lines.proofs.Replaces.{is_new, is_faulty, replaces_from, replaces_stop, replaces_new, replaces_code, replaces_line, replaces_raw_stop}
+use Rattle.cweb_lines.proofs.Replaces.{replaces_from, replaces_stop, replaces_new, replaces_code, replaces_line, replaces_raw_stop}
+use Rattle.cweb_lines.proofs.Codes.{is_new, is_faulty}
 use Rattle.cweb_lines.proofs.Stacks.{stops_map}
 use Rattle.cweb_lines.proofs.change.old_side.replace.Goals as goal
 
@@ -42,7 +43,7 @@ pub returns-in-Err-clause-stops : goal.returns-in-Err-clause-stops
 returns-in-Err-clause-stops g c = λ tells.
     stops_map c.in-Err.stop
     (replaces_stop _ _ c.lines.so_far _ _ _ _ (c.lines.invariant.replaces tells) c.in-Err.stop
-        (count_of c.take_change.new.run.limits)
+    (count_of c.take_change.new.run.limits)
     (λ i. record { lines = c.in-Err.ensures.answers.counted.0 i; bytes = c.in-Err.ensures.answers.counted.1 i }))
     (c.in-Err.ensures.stops (subst IsTrue (sym c.lines.invariant.tells) tells))
 
@@ -51,16 +52,16 @@ returns-in-Err-compare-clause-stops g c = λ tells.
     let still = subst IsTrue (sym c.lines.invariant.tells) tells in
     let taken = rw c.in-Some.is at (c.in-Ok.ensures.taken still) in
     let test : code_of c.take_change.new.line.items ≡ None = ap code_of (sym c.deref.ensures.value)
-        ∙ sym c.code_of.ensures ∙ c.in-None.is in
+    ∙ sym c.code_of.ensures ∙ c.in-None.is in
     let raws : things_above (g.S.Shelf.left c.take_change.new.shelf) 0 c.take_change.new.run.stack [] ≡ things_above
-        (g.S.Shelf.left c.lines.shelf) 0 c.lines.run.stack [] =
+    (g.S.Shelf.left c.lines.shelf) 0 c.lines.run.stack [] =
     λ i. things_above (c.in-Ok.ensures.keeps.left still i) 0 (c.in-Ok.ensures.stack i) [] in
     stops_map c.in-Err-compare.stop
     (λ top. replaces_raw_stop _ _ c.lines.so_far _ _ _ _ (c.lines.invariant.replaces tells)
-        (told_by c.take_change.new.run) c.take_change.new.line.items c.in-Some.at.place taken.0 _ taken.1
+    (told_by c.take_change.new.run) c.take_change.new.line.items c.in-Some.at.place taken.0 _ taken.1
     (ap (λ (v : Vec SourceFault Global). v.items) c.in-Ok.ensures.only.faults)
-        (ap names_of c.in-Ok.ensures.only.names) c.in-Err-compare.stop
-        (count_of c.compare.new.run.limits) c.in-Err-compare.ensures.away.same test
+    (ap names_of c.in-Ok.ensures.only.names) c.in-Err-compare.stop
+    (count_of c.compare.new.run.limits) c.in-Err-compare.ensures.away.same test
     (subst (λ (ts : List Thing). TopStops c.in-Err-compare.stop (count_of c.take_change.new.run.limits) ts) raws top))
     (c.in-Err-compare.ensures.stops (subst IsTrue (sym c.in-Ok.ensures.keeps.tells) still))
 
@@ -69,30 +70,30 @@ returns-then-eq-clause-replaced g c = λ tells.
     let still = subst IsTrue (sym c.lines.invariant.tells) tells in
     let taken = rw c.in-Some.is at (c.in-Ok.ensures.taken still) in
     let test : code_of c.take_change.new.line.items ≡ Some new_side = ap code_of (sym c.deref.ensures.value)
-        ∙ sym c.code_of.ensures ∙ c.in-Some-code_of.is ∙ ap Some
-        (is_new c.in-Some-code_of.code (sym c.eq.ensures ∙ c.if-eq.true)) in
+    ∙ sym c.code_of.ensures ∙ c.in-Some-code_of.is ∙ ap Some
+    (is_new c.in-Some-code_of.code (sym c.eq.ensures ∙ c.if-eq.true)) in
     let raws : things_above (g.S.Shelf.left c.lines.shelf) 0 c.lines.run.stack [] ≡ things_above
-        (g.S.Shelf.left c.take_change.new.shelf) 0 c.take_change.new.run.stack [] =
+    (g.S.Shelf.left c.take_change.new.shelf) 0 c.take_change.new.run.stack [] =
     λ i. things_above (sym (c.in-Ok.ensures.keeps.left still) i) 0 (sym c.in-Ok.ensures.stack i) [] in
     let done = replaces_new (change_lines (g.S.Shelf.left c.args.shelf.now) c.args.run.now)
-        (things_above (g.S.Shelf.left c.args.shelf.now) 0 c.args.run.now.stack []) c.lines.so_far
-        (change_lines (g.S.Shelf.left c.lines.shelf) c.lines.run)
+    (things_above (g.S.Shelf.left c.args.shelf.now) 0 c.args.run.now.stack []) c.lines.so_far
+    (change_lines (g.S.Shelf.left c.lines.shelf) c.lines.run)
     (things_above (g.S.Shelf.left c.lines.shelf) 0 c.lines.run.stack []) (told_by c.args.run.now) (told_by c.lines.run)
-        (c.lines.invariant.replaces tells)
+    (c.lines.invariant.replaces tells)
     (told_by c.take_change.new.run) c.take_change.new.line.items c.in-Some.at.place taken.0
-        (change_lines (g.S.Shelf.left c.take_change.new.shelf) c.take_change.new.run) taken.1
+    (change_lines (g.S.Shelf.left c.take_change.new.shelf) c.take_change.new.run) taken.1
     (ap (λ (v : Vec SourceFault Global). v.items) c.in-Ok.ensures.only.faults)
-        (ap names_of c.in-Ok.ensures.only.names) test in
+    (ap names_of c.in-Ok.ensures.only.names) test in
     subst (λ (ts : List Thing). IsReplaced (change_lines (g.S.Shelf.left c.args.shelf.now) c.args.run.now)
-        (things_above (g.S.Shelf.left c.args.shelf.now) 0 c.args.run.now.stack []) c.lines.so_far
+    (things_above (g.S.Shelf.left c.args.shelf.now) 0 c.args.run.now.stack []) c.lines.so_far
     (change_lines (g.S.Shelf.left c.take_change.new.shelf) c.take_change.new.run) ts (told_by c.args.run.now)
-        (told_by c.take_change.new.run)) raws
+    (told_by c.take_change.new.run)) raws
     (subst (λ (b : Bool). IsReplaced (change_lines (g.S.Shelf.left c.args.shelf.now) c.args.run.now)
-        (things_above (g.S.Shelf.left c.args.shelf.now) 0 c.args.run.now.stack [])
+    (things_above (g.S.Shelf.left c.args.shelf.now) 0 c.args.run.now.stack [])
     (record { unequal = c.lines.so_far.unequal; ran_out = c.lines.so_far.ran_out; ended = b })
     (change_lines (g.S.Shelf.left c.take_change.new.shelf) c.take_change.new.run)
-        (things_above (g.S.Shelf.left c.lines.shelf) 0 c.lines.run.stack []) (told_by c.args.run.now)
-        (told_by c.take_change.new.run)) (sym c.lines.invariant.goes_on) done)
+    (things_above (g.S.Shelf.left c.lines.shelf) 0 c.lines.run.stack []) (told_by c.args.run.now)
+    (told_by c.take_change.new.run)) (sym c.lines.invariant.goes_on) done)
 
 pub lines-preserved : goal.lines-preserved
 lines-preserved g c = record {
@@ -121,30 +122,30 @@ lines-preserved g c = record {
       let still = subst IsTrue (sym c.lines.invariant.tells) tells in
       let taken = rw c.in-Some.is at (c.in-Ok.ensures.taken still) in
       let change : change_lines (g.S.Shelf.left c.take_change.new.shelf) c.take_change.new.run ≡ change_lines
-          (g.S.Shelf.left c.take_change.new.shelf) c.tell.new.self =
+      (g.S.Shelf.left c.take_change.new.shelf) c.tell.new.self =
       ap (λ ch. lines_at (g.S.Shelf.left c.take_change.new.shelf) ch) (sym c.in_default-tell.ensures.only.change) in
       let raws : things_above (g.S.Shelf.left c.lines.shelf) 0 c.lines.run.stack [] ≡ things_above
-          (g.S.Shelf.left c.take_change.new.shelf) 0 c.tell.new.self.stack [] =
+      (g.S.Shelf.left c.take_change.new.shelf) 0 c.tell.new.self.stack [] =
       λ i. things_above (sym (c.in-Ok.ensures.keeps.left still) i) 0
-          (sym (c.in_default-tell.ensures.only.stack ∙ c.in-Ok.ensures.stack) i) [] in
+      (sym (c.in_default-tell.ensures.only.stack ∙ c.in-Ok.ensures.stack) i) [] in
       let told = ap (λ (v : Vec SourceFault Global). v.items) c.in-Ok.ensures.only.faults in
       let names = ap names_of c.in-Ok.ensures.only.names in
       let test : code_of c.take_change.new.line.items ≡ Some c.in-Some-code_of.code =
-          ap code_of (sym c.deref.ensures.value) ∙ sym c.code_of.ensures ∙ c.in-Some-code_of.is in
+      ap code_of (sym c.deref.ensures.value) ∙ sym c.code_of.ensures ∙ c.in-Some-code_of.is in
       let at = replaces_code _ _ c.lines.so_far _ _ _ _ (c.lines.invariant.replaces tells)
-          (told_by c.take_change.new.run) c.take_change.new.line.items c.in-Some.at.place taken.0 _ taken.1 told names
-          c.in-Some-code_of.code (told_by c.tell.new.self) test
+      (told_by c.take_change.new.run) c.take_change.new.line.items c.in-Some.at.place taken.0 _ taken.1 told names
+      c.in-Some-code_of.code (told_by c.tell.new.self) test
       (is_faulty c.in-Some-code_of.code taken.0.line _ _ (sym c.eq.ensures ∙ c.if-eq.false))
       c.in_default-tell.ensures.told (ap names_of c.in_default-tell.ensures.only.names)
-          (ap count_of c.in_default-tell.ensures.only.limits) in
+      (ap count_of c.in_default-tell.ensures.only.limits) in
       subst (λ (ls : List SourceLine). Replaces (change_lines (g.S.Shelf.left c.args.shelf.now) c.args.run.now)
-          (things_above (g.S.Shelf.left c.args.shelf.now) 0 c.args.run.now.stack []) c.lines.so_far
+      (things_above (g.S.Shelf.left c.args.shelf.now) 0 c.args.run.now.stack []) c.lines.so_far
       ls (things_above (g.S.Shelf.left c.take_change.new.shelf) 0 c.tell.new.self.stack []) (told_by c.args.run.now)
-          (told_by c.tell.new.self)) change
+      (told_by c.tell.new.self)) change
       (subst (λ (ts : List Thing). Replaces (change_lines (g.S.Shelf.left c.args.shelf.now) c.args.run.now)
-          (things_above (g.S.Shelf.left c.args.shelf.now) 0 c.args.run.now.stack []) c.lines.so_far
+      (things_above (g.S.Shelf.left c.args.shelf.now) 0 c.args.run.now.stack []) c.lines.so_far
       (change_lines (g.S.Shelf.left c.take_change.new.shelf) c.take_change.new.run) ts (told_by c.args.run.now)
-          (told_by c.tell.new.self)) raws at);
+      (told_by c.tell.new.self)) raws at);
 }
 
 pub lines-preserved-in-None : goal.lines-preserved-in-None
@@ -154,11 +155,11 @@ lines-preserved-in-None g c = record {
   texts = λ tells.
       let still = subst IsTrue (sym c.lines.invariant.tells) tells in
       c.in-Ok-compare.ensures.keeps.texts (subst IsTrue (sym c.in-Ok.ensures.keeps.tells) still)
-          ∙ c.in-Ok.ensures.keeps.texts still ∙ c.lines.invariant.texts tells;
+      ∙ c.in-Ok.ensures.keeps.texts still ∙ c.lines.invariant.texts tells;
   others = λ tells.
       let still = subst IsTrue (sym c.lines.invariant.tells) tells in
       c.in-Ok-compare.ensures.keeps.left (subst IsTrue (sym c.in-Ok.ensures.keeps.tells) still)
-          ∙ c.in-Ok.ensures.keeps.left still ∙ c.lines.invariant.others tells;
+      ∙ c.in-Ok.ensures.keeps.left still ∙ c.lines.invariant.others tells;
   stage = search rules;
   inputs = search rules;
   names = search rules;
@@ -187,37 +188,37 @@ lines-preserved-in-None g c = record {
       (c.lines.invariant.readers tells known) ∙ c.lines.invariant.blamed tells known;
   still = told_then _ _ _ c.lines.invariant.still (told_then _ _ _ (told_took c.in-Ok.ensures.only)
       (told_same _ _ (λ i. (c.in-Ok-compare.ensures.only.faults i).items)
-          (ap names_of c.in-Ok-compare.ensures.only.names)));
+      (ap names_of c.in-Ok-compare.ensures.only.names)));
   goes_on = c.in-Ok-compare.ensures.away.ended ∙ c.lines.invariant.goes_on;
   replaces = λ tells.
       let still = subst IsTrue (sym c.lines.invariant.tells) tells in
       let later = subst IsTrue (sym c.in-Ok.ensures.keeps.tells) still in
       let taken = rw c.in-Some.is at (c.in-Ok.ensures.taken still) in
       let test : code_of c.take_change.new.line.items ≡ None = ap code_of (sym c.deref.ensures.value)
-          ∙ sym c.code_of.ensures ∙ c.in-None.is in
+      ∙ sym c.code_of.ensures ∙ c.in-None.is in
       let change : change_lines (g.S.Shelf.left c.take_change.new.shelf) c.take_change.new.run ≡ change_lines
-          (g.S.Shelf.left c.compare.new.shelf) c.compare.new.run =
+      (g.S.Shelf.left c.compare.new.shelf) c.compare.new.run =
       λ i. lines_at (sym (c.in-Ok-compare.ensures.keeps.left later) i) (sym c.in-Ok-compare.ensures.change i) in
       let raws : things_above (g.S.Shelf.left c.take_change.new.shelf) 0 c.take_change.new.run.stack [] ≡ things_above
-          (g.S.Shelf.left c.lines.shelf) 0 c.lines.run.stack [] =
+      (g.S.Shelf.left c.lines.shelf) 0 c.lines.run.stack [] =
       λ i. things_above (c.in-Ok.ensures.keeps.left still i) 0 (c.in-Ok.ensures.stack i) [] in
       let compares = subst (λ (ts : List Thing). Compares c.take_change.new.line.items c.lines.so_far
-          c.in-Ok-compare.replaced ts (things_above (g.S.Shelf.left c.compare.new.shelf) 0 c.compare.new.run.stack [])
-          (told_by c.take_change.new.run) (told_by c.compare.new.run)) raws
+      c.in-Ok-compare.replaced ts (things_above (g.S.Shelf.left c.compare.new.shelf) 0 c.compare.new.run.stack [])
+      (told_by c.take_change.new.run) (told_by c.compare.new.run)) raws
       (subst (λ (v : Vec ℕ Global). Compares v.items c.lines.so_far c.in-Ok-compare.replaced
-          (things_above (g.S.Shelf.left c.take_change.new.shelf) 0 c.take_change.new.run.stack [])
-          (things_above (g.S.Shelf.left c.compare.new.shelf) 0 c.compare.new.run.stack [])
+      (things_above (g.S.Shelf.left c.take_change.new.shelf) 0 c.take_change.new.run.stack [])
+      (things_above (g.S.Shelf.left c.compare.new.shelf) 0 c.compare.new.run.stack [])
       (told_by c.take_change.new.run) (told_by c.compare.new.run)) c.swap.ensures.x_after
-          (c.in-Ok-compare.ensures.compares later)) in
+      (c.in-Ok-compare.ensures.compares later)) in
       subst (λ (ls : List SourceLine). Replaces (change_lines (g.S.Shelf.left c.args.shelf.now) c.args.run.now)
-          (things_above (g.S.Shelf.left c.args.shelf.now) 0 c.args.run.now.stack []) c.in-Ok-compare.replaced
+      (things_above (g.S.Shelf.left c.args.shelf.now) 0 c.args.run.now.stack []) c.in-Ok-compare.replaced
       ls (things_above (g.S.Shelf.left c.compare.new.shelf) 0 c.compare.new.run.stack []) (told_by c.args.run.now)
-          (told_by c.compare.new.run)) change
+      (told_by c.compare.new.run)) change
       (replaces_line _ _ c.lines.so_far _ _ _ _ (c.lines.invariant.replaces tells)
-          (told_by c.take_change.new.run) c.take_change.new.line.items c.in-Some.at.place taken.0 _ taken.1
+      (told_by c.take_change.new.run) c.take_change.new.line.items c.in-Some.at.place taken.0 _ taken.1
       (ap (λ (v : Vec SourceFault Global). v.items) c.in-Ok.ensures.only.faults)
-          (ap names_of c.in-Ok.ensures.only.names) c.in-Ok-compare.replaced _
-          (told_by c.compare.new.run) test compares);
+      (ap names_of c.in-Ok.ensures.only.names) c.in-Ok-compare.replaced _
+      (told_by c.compare.new.run) test compares);
 }
 
 -- what was told stays
@@ -231,7 +232,7 @@ pub returns-in-Err-compare-clause-still : goal.returns-in-Err-compare-clause-sti
 returns-in-Err-compare-clause-still g c =
     told_then _ _ _ c.lines.invariant.still (told_then _ _ _ (told_took c.in-Ok.ensures.only)
     (told_same _ _ (λ i. (c.in-Err-compare.ensures.only.faults i).items)
-        (ap names_of c.in-Err-compare.ensures.only.names)))
+    (ap names_of c.in-Err-compare.ensures.only.names)))
 
 pub returns-then-eq-clause-still : goal.returns-then-eq-clause-still
 returns-then-eq-clause-still g c = told_then _ _ _ c.lines.invariant.still (told_took c.in-Ok.ensures.only)

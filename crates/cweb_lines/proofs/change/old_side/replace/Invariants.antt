@@ -29,7 +29,7 @@ invariant-lines g l = record {
   replaces : IsTrue (g.S.Shelf.tells l.fn.shelf) → Replaces (change_lines (g.S.Shelf.left l.fn.shelf) l.fn.run)
       (things_above (g.S.Shelf.left l.fn.shelf) 0 l.fn.run.stack []) l.so_far
       (change_lines (g.S.Shelf.left l.shelf) l.run) (things_above (g.S.Shelf.left l.shelf) 0 l.run.stack [])
-          (told_by l.fn.run) (told_by l.run);
+      (told_by l.fn.run) (told_by l.run);
 }
 
 abbrev pub decreases-lines : goal.decreases-lines

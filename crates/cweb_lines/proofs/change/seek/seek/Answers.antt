@@ -41,22 +41,22 @@ pub returns-in-Err-clause-stops : goal.returns-in-Err-clause-stops
 returns-in-Err-clause-stops g c = λ tells.
     stops_map c.in-Err.stop
     (seeks_stop _ _ _ _ _ (c.lines.invariant.seeks tells) c.in-Err.stop (count_of c.take_change.new.run.limits)
-        (λ i. record { lines = c.in-Err.ensures.answers.counted.0 i; bytes = c.in-Err.ensures.answers.counted.1 i }))
+    (λ i. record { lines = c.in-Err.ensures.answers.counted.0 i; bytes = c.in-Err.ensures.answers.counted.1 i }))
     (c.in-Err.ensures.stops (subst IsTrue (sym c.lines.invariant.tells) tells))
 
 pub returns-in-Err-look_at-clause-told : goal.returns-in-Err-look_at-clause-told
 returns-in-Err-look_at-clause-told g c = λ tells.
     let taken = rw c.in-Some.is at (c.in-Ok.ensures.taken (subst IsTrue (sym c.lines.invariant.tells) tells)) in
     let front = c.in-Err-look_at.ensures.err taken.0.line (taken.0.is
-        ∙ ap (λ b. record { bytes = b; place = c.in-Some.at.place }) (sym c.deref.ensures.value)) (lines_at
-        (g.S.Shelf.left c.take_change.new.shelf) c.take_change.new.run.change) in
+    ∙ ap (λ b. record { bytes = b; place = c.in-Some.at.place }) (sym c.deref.ensures.value)) (lines_at
+    (g.S.Shelf.left c.take_change.new.shelf) c.take_change.new.run.change) in
     seeks_told_more _ (change_lines (g.S.Shelf.left c.lines.shelf) c.lines.run) c.lines.begin _ _
-        (c.lines.invariant.seeks tells) (told_by c.look_at.new.run)
+    (c.lines.invariant.seeks tells) (told_by c.look_at.new.run)
     (subst (λ (ls : List SourceLine). ToldFront (sought ls c.lines.begin).faults c.lines.run.faults.items
-        c.look_at.new.run.faults.items) (sym taken.1)
+    c.look_at.new.run.faults.items) (sym taken.1)
     (subst (λ (v : Vec SourceFault Global). ToldFront (sought
-        (taken.0.line ∷ lines_at (g.S.Shelf.left c.take_change.new.shelf) c.take_change.new.run.change)
-        c.lines.begin).faults v.items c.look_at.new.run.faults.items) c.in-Ok.ensures.only.faults front))
+    (taken.0.line ∷ lines_at (g.S.Shelf.left c.take_change.new.shelf) c.take_change.new.run.change)
+    c.lines.begin).faults v.items c.look_at.new.run.faults.items) c.in-Ok.ensures.only.faults front))
     (ap names_of (c.in-Err-look_at.ensures.only.names ∙ c.in-Ok.ensures.only.names))
 
 pub lines-preserved : goal.lines-preserved
@@ -85,15 +85,15 @@ lines-preserved g c = record {
   seeks = λ tells.
       let taken = rw c.in-Some.is at (c.in-Ok.ensures.taken (subst IsTrue (sym c.lines.invariant.tells) tells)) in
       subst (λ ch. SeeksTo (sought (change_lines (g.S.Shelf.left c.args.shelf.now) c.args.run.now) None)
-          (sought (lines_at (g.S.Shelf.left c.take_change.new.shelf) ch) c.in-On.next) (told_by c.args.run.now)
-          (told_by c.look_at.new.run)) (sym c.in-Ok-look_at.ensures.only.change)
+      (sought (lines_at (g.S.Shelf.left c.take_change.new.shelf) ch) c.in-On.next) (told_by c.args.run.now)
+      (told_by c.look_at.new.run)) (sym c.in-Ok-look_at.ensures.only.change)
       (seeks_on (sought (change_lines (g.S.Shelf.left c.args.shelf.now) c.args.run.now) None)
-          (change_lines (g.S.Shelf.left c.lines.shelf) c.lines.run) c.lines.begin (told_by c.args.run.now)
-          (told_by c.lines.run) (c.lines.invariant.seeks tells) (told_by c.take_change.new.run)
-          (told_by c.look_at.new.run) c.take_change.new.line.items c.in-Some.at.place taken.0 _ taken.1
+      (change_lines (g.S.Shelf.left c.lines.shelf) c.lines.run) c.lines.begin (told_by c.args.run.now)
+      (told_by c.lines.run) (c.lines.invariant.seeks tells) (told_by c.take_change.new.run)
+      (told_by c.look_at.new.run) c.take_change.new.line.items c.in-Some.at.place taken.0 _ taken.1
       (ap (λ (v : Vec SourceFault Global). v.items) c.in-Ok.ensures.only.faults)
-          (ap names_of c.in-Ok.ensures.only.names) (ap names_of c.in-Ok-look_at.ensures.only.names)
-          (ap count_of c.in-Ok-look_at.ensures.only.limits) c.in-On.next
+      (ap names_of c.in-Ok.ensures.only.names) (ap names_of c.in-Ok-look_at.ensures.only.names)
+      (ap count_of c.in-Ok-look_at.ensures.only.limits) c.in-On.next
       (rw (c.deref.ensures.value, c.in-On.is) at c.in-Ok-look_at.ensures.looks));
 }
 
@@ -101,21 +101,21 @@ pub returns-in-Entry-clause-searched : goal.returns-in-Entry-clause-searched
 returns-in-Entry-clause-searched g c = λ tells.
     let taken = rw c.in-Some.is at (c.in-Ok.ensures.taken (subst IsTrue (sym c.lines.invariant.tells) tells)) in
     let found = seeks_found (sought (change_lines (g.S.Shelf.left c.args.shelf.now) c.args.run.now) None)
-        (change_lines (g.S.Shelf.left c.lines.shelf) c.lines.run) c.lines.begin (told_by c.args.run.now)
-        (told_by c.lines.run) (c.lines.invariant.seeks tells)
+    (change_lines (g.S.Shelf.left c.lines.shelf) c.lines.run) c.lines.begin (told_by c.args.run.now)
+    (told_by c.lines.run) (c.lines.invariant.seeks tells)
     (told_by c.take_change.new.run) (told_by c.look_at.new.run) c.take_change.new.line.items c.in-Some.at.place taken.0
-        _ taken.1
+    _ taken.1
     (ap (λ (v : Vec SourceFault Global). v.items) c.in-Ok.ensures.only.faults) (ap names_of c.in-Ok.ensures.only.names)
-        (ap names_of c.in-Ok-look_at.ensures.only.names) (ap count_of c.in-Ok-look_at.ensures.only.limits)
-        c.in-Entry.place
+    (ap names_of c.in-Ok-look_at.ensures.only.names) (ap count_of c.in-Ok-look_at.ensures.only.limits)
+    c.in-Entry.place
     (rw (c.deref.ensures.value, c.in-Entry.is) at c.in-Ok-look_at.ensures.looks) in
     subst (λ ch. Searched (sought (change_lines (g.S.Shelf.left c.args.shelf.now) c.args.run.now) None)
-        (told_by c.args.run.now) (told_by c.look_at.new.run) (Waiting c.in-Entry.place) c.swap.new.x.items
-        (lines_at (g.S.Shelf.left c.take_change.new.shelf) ch))
+    (told_by c.args.run.now) (told_by c.look_at.new.run) (Waiting c.in-Entry.place) c.swap.new.x.items
+    (lines_at (g.S.Shelf.left c.take_change.new.shelf) ch))
     (sym c.in-Ok-look_at.ensures.only.change)
     (subst (λ (v : Vec ℕ Global). Searched (sought (change_lines (g.S.Shelf.left c.args.shelf.now) c.args.run.now) None)
-        (told_by c.args.run.now) (told_by c.look_at.new.run) (Waiting c.in-Entry.place) v.items
-        (lines_at (g.S.Shelf.left c.take_change.new.shelf) c.take_change.new.run.change))
+    (told_by c.args.run.now) (told_by c.look_at.new.run) (Waiting c.in-Entry.place) v.items
+    (lines_at (g.S.Shelf.left c.take_change.new.shelf) c.take_change.new.run.change))
     (sym c.swap.ensures.x_after) found)
 
 -- what was told stays

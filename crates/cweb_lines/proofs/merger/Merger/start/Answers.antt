@@ -21,12 +21,12 @@ pub invariant_of-result : goal.invariant_of-result
 unfolding files_in
 invariant_of-result g c =
     let one : length (names_of c.open_web.new.names) ≡ 1 = ap
-        (λ (ns : List (List ℕ)). length ns) c.in-Ok.ensures.names in
+    (λ (ns : List (List ℕ)). length ns) c.in-Ok.ensures.names in
     let left = g.S.Shelf.left c.find_change.new.shelf in
     let found = names_found (found_as left c.in-Some-2.change) in
     let all : length (names_of c.open_change.new.names) ≡ 1 + length found =
     ap (λ (ns : List (List ℕ)). length ns) (c.in-Ok-open_change.ensures.names left)
-        ∙ length-append (names_of c.open_web.new.names) found ∙ ap (λ n. n + length found) one in
+    ∙ length-append (names_of c.open_web.new.names) found ∙ ap (λ n. n + length found) one in
     let low = begins_low c.in-Ok-open_change.change c.first_stage.result c.first_stage.ensures in
     record {
       shallow = omega (arith, c.new.ensures.depth);
@@ -50,7 +50,7 @@ returns-clause-begins g c = λ tells.
     let change = found_as left c.in-Some-2.change in
     let names : names_of c.open_change.new.names ≡ string_bytes c.in-Some.web.name ∷ names_found change =
     c.in-Ok-open_change.ensures.names left ∙ ap (λ (ns : List (List ℕ)). ns ++ names_found change)
-        c.in-Ok.ensures.names in
+    c.in-Ok.ensures.names in
     let texts = c.in_ok-change.ensures.keeps.texts later ∙ c.in_ok-web.ensures.keeps.texts tells in
     record {
       name = string_bytes c.in-Some.web.name;
@@ -61,20 +61,24 @@ returns-clause-begins g c = λ tells.
           (sym (c.in_ok-change.ensures.keeps.left later));
       changes_there = ap (λ t. change_at t (option_copied c.args.change)) (sym (c.in_ok-web.ensures.keeps.texts tells))
           ∙ sym (rw c.in-Some-2.is at (c.in_ok-change.ensures.found later));
-      so_far_is = λ i. record { faults = c.new-4.ensures.items i; names = names i; count =
-          record { lines = c.new-3.ensures.lines i; bytes = c.new-3.ensures.bytes i } };
+      so_far_is = λ i. record {
+        faults = c.new-4.ensures.items i;
+        names = names i;
+        count =
+            record { lines = c.new-3.ensures.lines i; bytes = c.new-3.ensures.bytes i };
+      };
       whole = (λ i. merge (record { texts = texts i; inputs = c.in_ok-inputs.ensures i })
           (state (things_in left c.first_stage.result (lines_at left c.in-Ok-open_change.change) c.new.result)
           (pending_in c.first_stage.result c.new-2.result.items)
           (change_in c.first_stage.result (lines_at left c.in-Ok-open_change.change))
-              (length (names_of c.open_change.new.names))))
+          (length (names_of c.open_change.new.names))))
           ∙ begun_coming _ left c.new.result change c.first_stage.result
-              (lines_at left c.in-Ok-open_change.change) c.new-2.result.items
-              (length (names_of c.open_change.new.names)) (left c.in-Some.web.reader)
+          (lines_at left c.in-Ok-open_change.change) c.new-2.result.items
+          (length (names_of c.open_change.new.names)) (left c.in-Some.web.reader)
           (c.first_stage.ensures ∙ c.in-Ok-open_change.ensures.stage left) (c.in-Ok-open_change.ensures.lines left)
-              (ap (λ (ns : List (List ℕ)). length ns) names)
+          (ap (λ (ns : List (List ℕ)). length ns) names)
           (begun left c.new.result c.in-Ok.web _ c.new.ensures.depth c.new.ensures.texts c.in-Ok.ensures.level.2
-              c.in-Ok.ensures.level.3 ∙ ap (λ (ls : List SourceLine). raws 1 true ls) (c.in-Ok.ensures.lines left));
+          c.in-Ok.ensures.level.3 ∙ ap (λ (ls : List SourceLine). raws 1 true ls) (c.in-Ok.ensures.lines left));
     }
 
 pub returns-clause-readers : goal.returns-clause-readers

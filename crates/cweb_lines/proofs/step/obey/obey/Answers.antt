@@ -23,7 +23,7 @@ returns-then-is_empty-clause-obeys g c = λ tells. OnOk-map c.tell.result (λ to
   rest = _;
   first = merge_no_name _ source c.args.line.now c.args.at is _ _ _ _ c.requires.plain c.requires.include
       (sym c.include_name-name.ensures ∙ empty_is c.include_name-name.result.now
-          (sym c.is_empty.ensures ∙ c.if-is_empty.true));
+      (sym c.is_empty.ensures ∙ c.if-is_empty.true));
   gives = gives_told _ _ _ _ c.args.run.now c.tell.new.self (at_place NoName c.args.at.place) refl refl
       c.tell.ensures.only.inputs c.tell.ensures.only.stack c.tell.ensures.only.change c.tell.ensures.only.stage
       c.tell.ensures.only.first c.tell.ensures.only.names c.tell.ensures.only.limits told;
@@ -33,7 +33,7 @@ pub returns-then-at-ge-OPEN_FILES-clause-obeys : goal.returns-then-at-ge-OPEN_FI
 returns-then-at-ge-OPEN_FILES-clause-obeys g c = λ tells. OnOk-map c.tell-then-at-ge-OPEN_FILES.result
     (λ told source is.
     let some = subst (λ (n : List ℕ). 0 < length n) c.include_name-name.ensures
-        (some_are c.include_name-name.result.now (sym c.is_empty.ensures ∙ c.if-is_empty.false)) in
+    (some_are c.include_name-name.result.now (sym c.is_empty.ensures ∙ c.if-is_empty.false)) in
     record {
       rest = _;
       first = merge_too_deep _ source c.args.line.now c.args.at is _ _ _ _ c.requires.plain c.requires.include some
@@ -42,32 +42,32 @@ returns-then-at-ge-OPEN_FILES-clause-obeys g c = λ tells. OnOk-map c.tell-then-
           (at_place TooDeep c.args.at.place) refl refl c.tell-then-at-ge-OPEN_FILES.ensures.only.inputs
           c.tell-then-at-ge-OPEN_FILES.ensures.only.stack c.tell-then-at-ge-OPEN_FILES.ensures.only.change
           c.tell-then-at-ge-OPEN_FILES.ensures.only.stage c.tell-then-at-ge-OPEN_FILES.ensures.only.first
-              c.tell-then-at-ge-OPEN_FILES.ensures.only.names c.tell-then-at-ge-OPEN_FILES.ensures.only.limits told;
+          c.tell-then-at-ge-OPEN_FILES.ensures.only.names c.tell-then-at-ge-OPEN_FILES.ensures.only.limits told;
     }) c.tell-then-at-ge-OPEN_FILES.ensures.told
 
 pub returns-in_default-clause-obeys : goal.returns-in_default-clause-obeys
 returns-in_default-clause-obeys g c = λ tells. OnOk-map c.tell-in_default.result (λ told source is.
     let some = subst (λ (n : List ℕ). 0 < length n) c.include_name-name.ensures
-        (some_are c.include_name-name.result.now (sym c.is_empty.ensures ∙ c.if-is_empty.false)) in
+    (some_are c.include_name-name.result.now (sym c.is_empty.ensures ∙ c.if-is_empty.false)) in
     let none = rw c.in_default.is at (c.in_ok-opening.ensures.found tells) in
     record {
       rest = _;
       first = merge_not_there _ source c.args.line.now c.args.at is _ _ _ _ c.requires.plain c.requires.include some
           (omega (arith, c.if-at-ge-OPEN_FILES.false))
           (none ∙ ap (found_at (world_in (g.S.Shelf.texts c.args.shelf.now) c.args.run.now.inputs))
-              c.include_name-name.ensures);
+          c.include_name-name.ensures);
       gives = gives_told _ _ _ _ c.args.run.now c.tell-in_default.new.self (at_place NotThere c.args.at.place)
           (c.in_ok-opening.ensures.keeps.texts tells) (c.in_ok-opening.ensures.keeps.left tells)
           c.tell-in_default.ensures.only.inputs c.tell-in_default.ensures.only.stack
           c.tell-in_default.ensures.only.change
           c.tell-in_default.ensures.only.stage c.tell-in_default.ensures.only.first c.tell-in_default.ensures.only.names
-              c.tell-in_default.ensures.only.limits told;
+          c.tell-in_default.ensures.only.limits told;
     }) c.tell-in_default.ensures.told
 
 pub returns-clause-obeys : goal.returns-clause-obeys
 returns-clause-obeys g c = λ tells. OnOk-map c.open.result (λ names source is.
     let some = subst (λ (n : List ℕ). 0 < length n) c.include_name-name.ensures
-        (some_are c.include_name-name.result.now (sym c.is_empty.ensures ∙ c.if-is_empty.false)) in
+    (some_are c.include_name-name.result.now (sym c.is_empty.ensures ∙ c.if-is_empty.false)) in
     let there = rw c.in-Some.is at (c.in_ok-opening.ensures.found tells) in
     record {
       rest = _;
@@ -75,14 +75,14 @@ returns-clause-obeys g c = λ tells. OnOk-map c.open.result (λ names source is.
           (string_bytes c.in-Some.opening.name) (g.S.Shelf.left c.find.new.shelf c.in-Some.opening.reader)
           c.requires.include some (omega (arith, c.if-at-ge-OPEN_FILES.false))
           (there ∙ ap (found_at (world_in (g.S.Shelf.texts c.args.shelf.now) c.args.run.now.inputs))
-              c.include_name-name.ensures);
+          c.include_name-name.ensures);
       gives = gives_opening _ _ _ _ (ap count_of c.open.ensures.only.limits) (string_bytes c.in-Some.opening.name)
           (ap (λ (es : List Event). opening (string_bytes c.in-Some.opening.name) ∷ es)
           (coming_opened (g.S.Shelf.texts c.args.shelf.now) (g.S.Shelf.texts c.find.new.shelf)
-              (g.S.Shelf.left c.args.shelf.now) (g.S.Shelf.left c.find.new.shelf)
+          (g.S.Shelf.left c.args.shelf.now) (g.S.Shelf.left c.find.new.shelf)
           c.args.run.now c.open.new.run c.in-Some.opening.reader (string_bytes c.in-Some.opening.name) c.args.at
-              (c.in_ok-opening.ensures.keeps.texts tells) (c.in_ok-opening.ensures.keeps.left tells)
-              c.open.ensures.only.inputs c.open.ensures.only.change
+          (c.in_ok-opening.ensures.keeps.texts tells) (c.in_ok-opening.ensures.keeps.left tells)
+          c.open.ensures.only.inputs c.open.ensures.only.change
           c.open.ensures.only.stage c.open.ensures.only.first names.0 c.requires.settled names.1 c.open.ensures.below))
           (ap (λ (v : Vec SourceFault Global). v.items) c.open.ensures.only.faults) names.0;
     }) c.open.ensures.opens

@@ -12,7 +12,7 @@ pub invariant_of-run-2 : goal.invariant_of-run-2
 invariant_of-run-2 g c =
     let count : length (names_of c.push.new.self) ≡ length (names_of c.args.run.now.names) + 1 =
     ap (λ (ns : List (List ℕ)). length ns) c.in_default.ensures.ok
-        ∙ length-append (names_of c.args.run.now.names) (string_bytes c.args.opening.name ∷ []) in
+    ∙ length-append (names_of c.args.run.now.names) (string_bytes c.args.opening.name ∷ []) in
     record {
       shallow = omega (arith, c.push-2.ensures.depth, c.requires.room, c.requires.deep);
       deep = c.push-2.ensures.deep;

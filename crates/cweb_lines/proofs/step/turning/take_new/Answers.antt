@@ -11,50 +11,51 @@ use Rattle.cweb_lines.specs.declared.fault.SourceKind.TheVariants.{EndedBeforeZ}
 use Rattle.cweb_lines.proofs.Named.{blames_memory, blames_none, knows_only}
 use Rattle.cweb_lines.proofs.Fronts.{told_behind, told_same, told_then, told_took}
 use Rattle.cweb_lines.proofs.Found.{IfOk-map}
-use Rattle.cweb_lines.proofs.Merges.{gives_took}
-use Rattle.cweb_lines.proofs.News.{coming_is, is_end, new_ended, new_faulty, new_first, new_side_ended, new_stops}
+use Rattle.cweb_lines.proofs.Sums.{gives_took}
+use Rattle.cweb_lines.proofs.News.{coming_is, new_ended, new_faulty, new_first, new_side_ended, new_stops}
+use Rattle.cweb_lines.proofs.Codes.{is_end}
 use Rattle.cweb_lines.proofs.step.turning.take_new.Goals as goal
 
 pub returns-in-Err-clause-stops : goal.returns-in-Err-clause-stops
 returns-in-Err-clause-stops g c = λ tells.
     subst (λ es. Stopped c.in-Err.stop (count_of c.args.run.now.limits) (count_of c.take_change.new.run.limits) es)
     (sym (coming_is (g.S.Shelf.texts c.args.shelf.now) (g.S.Shelf.left c.args.shelf.now) c.args.run.now c.args.change
-        c.requires.changing c.requires.below))
+    c.requires.changing c.requires.below))
     (new_stops _ c.args.change _ _ c.in-Err.stop (change_lines (g.S.Shelf.left c.args.shelf.now) c.args.run.now) _ _
-        (λ i. record { lines = c.in-Err.ensures.answers.counted.0 i; bytes = c.in-Err.ensures.answers.counted.1 i })
-        (c.in-Err.ensures.stops tells))
+    (λ i. record { lines = c.in-Err.ensures.answers.counted.0 i; bytes = c.in-Err.ensures.answers.counted.1 i })
+    (c.in-Err.ensures.stops tells))
 
 pub returns-in_default-clause-gives : goal.returns-in_default-clause-gives
 returns-in_default-clause-gives g c = λ tells.
     let taken = rw c.in_default.is at (c.in-Ok.ensures.taken tells) in
     let counted = rw c.in_default.is at c.in-Ok.ensures.answers.counted in
     new_ended _ _ _ _ c.args.run.now c.args.change c.requires.changing c.requires.below
-        (c.in-Ok.ensures.keeps.texts tells) (c.in-Ok.ensures.keeps.left tells)
+    (c.in-Ok.ensures.keeps.texts tells) (c.in-Ok.ensures.keeps.left tells)
     (text_of_name c.tell.new.self.inputs) c.tell.new.self.stack (length (names_of c.tell.new.self.names))
-        (told_by c.tell.new.self)
+    (told_by c.tell.new.self)
     (ap (λ i. text_of_name i) (c.in_default-tell.ensures.only.inputs ∙ c.in-Ok.ensures.only.inputs))
-        (c.in_default-tell.ensures.only.stack ∙ c.in-Ok.ensures.stack)
-        (ap (λ n. length (names_of n)) (c.in_default-tell.ensures.only.names ∙ c.in-Ok.ensures.only.names))
+    (c.in_default-tell.ensures.only.stack ∙ c.in-Ok.ensures.stack)
+    (ap (λ n. length (names_of n)) (c.in_default-tell.ensures.only.names ∙ c.in-Ok.ensures.only.names))
     taken.0 (ap count_of c.in_default-tell.ensures.only.limits
-        ∙ (λ i. record { lines = counted.0 i; bytes = counted.1 i }))
+    ∙ (λ i. record { lines = counted.0 i; bytes = counted.1 i }))
     (c.in_default-tell.ensures.told ∙ ap (λ (v : Vec SourceFault Global). v.items
-        ++ at_place EndedBeforeZ c.args.change.begin ∷ []) c.in-Ok.ensures.only.faults) (ap names_of
-        (c.in_default-tell.ensures.only.names ∙ c.in-Ok.ensures.only.names))
+    ++ at_place EndedBeforeZ c.args.change.begin ∷ []) c.in-Ok.ensures.only.faults) (ap names_of
+    (c.in_default-tell.ensures.only.names ∙ c.in-Ok.ensures.only.names))
 
 pub returns-then-eq-clause-gives : goal.returns-then-eq-clause-gives
 returns-then-eq-clause-gives g c = λ tells.
     let taken = rw c.in-Some.is at (c.in-Ok.ensures.taken tells) in
     let test = ap code_of (sym c.deref.ensures.value) ∙ sym c.code_of.ensures ∙ c.in-Some-code_of.is
-        ∙ ap Some (is_end c.in-Some-code_of.code (sym c.eq.ensures ∙ c.if-eq.true)) in
+    ∙ ap Some (is_end c.in-Some-code_of.code (sym c.eq.ensures ∙ c.if-eq.true)) in
     new_side_ended _ _ _ _ c.args.run.now c.args.change c.requires.changing c.requires.below
-        (c.in-Ok.ensures.keeps.texts tells) (c.in-Ok.ensures.keeps.left tells)
+    (c.in-Ok.ensures.keeps.texts tells) (c.in-Ok.ensures.keeps.left tells)
     (text_of_name c.take_change.new.run.inputs) c.take_change.new.run.stack
-        (length (names_of c.take_change.new.run.names)) (told_by c.take_change.new.run)
+    (length (names_of c.take_change.new.run.names)) (told_by c.take_change.new.run)
     (ap (λ i. text_of_name i) c.in-Ok.ensures.only.inputs) c.in-Ok.ensures.stack
-        (ap (λ n. length (names_of n)) c.in-Ok.ensures.only.names)
+    (ap (λ n. length (names_of n)) c.in-Ok.ensures.only.names)
     c.take_change.new.line.items c.in-Some.at.place taken.0 _ taken.1
-        (ap (λ (v : Vec SourceFault Global). v.items) c.in-Ok.ensures.only.faults)
-        (ap names_of c.in-Ok.ensures.only.names) test
+    (ap (λ (v : Vec SourceFault Global). v.items) c.in-Ok.ensures.only.faults)
+    (ap names_of c.in-Ok.ensures.only.names) test
 
 pub returns-in-None-clause-gives : goal.returns-in-None-clause-gives
 returns-in-None-clause-gives g c = λ tells.
@@ -62,15 +63,15 @@ returns-in-None-clause-gives g c = λ tells.
     let test = ap code_of (sym c.deref.ensures.value) ∙ sym c.code_of.ensures ∙ c.in-None.is in
     IfOk-map c.give.result
     (λ turn gives. gives_took _ (told_by c.args.run.now) _ _ c.take_change.new.line.items c.in-Some.at.place taken.0 _ _
-        _ (ap (λ (v : Vec SourceFault Global). v.items) c.in-Ok.ensures.only.faults)
-        (ap names_of c.in-Ok.ensures.only.names)
+    _ (ap (λ (v : Vec SourceFault Global). v.items) c.in-Ok.ensures.only.faults)
+    (ap names_of c.in-Ok.ensures.only.names)
     (new_first _ _ _ _ c.args.run.now c.args.change c.requires.changing c.requires.below
-        (c.in-Ok.ensures.keeps.texts tells) (c.in-Ok.ensures.keeps.left tells) c.take_change.new.run
-        c.in-Ok.ensures.only.inputs c.in-Ok.ensures.stack (ap names_of c.in-Ok.ensures.only.names)
-        c.in-Ok.ensures.only.stage
+    (c.in-Ok.ensures.keeps.texts tells) (c.in-Ok.ensures.keeps.left tells) c.take_change.new.run
+    c.in-Ok.ensures.only.inputs c.in-Ok.ensures.stack (ap names_of c.in-Ok.ensures.only.names)
+    c.in-Ok.ensures.only.stage
     (told_by c.take_change.new.run) c.take_change.new.line.items c.in-Some.at.place taken.0 taken.1
-        (ap (λ (v : Vec SourceFault Global). v.items) c.in-Ok.ensures.only.faults)
-        (ap names_of c.in-Ok.ensures.only.names) test)
+    (ap (λ (v : Vec SourceFault Global). v.items) c.in-Ok.ensures.only.faults)
+    (ap names_of c.in-Ok.ensures.only.names) test)
     (gives taken.0.line taken.0.is))
     (rw c.deref-in-None.ensures.value at (c.give.ensures.gives (subst IsTrue (sym c.in-Ok.ensures.keeps.tells) tells)))
 
@@ -79,17 +80,17 @@ returns-in_default-tell-2-clause-gives g c = λ tells.
     let taken = rw c.in-Some.is at (c.in-Ok.ensures.taken tells) in
     let test = ap code_of (sym c.deref.ensures.value) ∙ sym c.code_of.ensures ∙ c.in-Some-code_of.is in
     new_faulty _ _ _ _ c.args.run.now c.args.change c.requires.changing c.requires.below
-        (c.in-Ok.ensures.keeps.texts tells) (c.in-Ok.ensures.keeps.left tells) c.tell-in-Some-code_of.new.self
-        (c.in_default-tell-2.ensures.only.inputs ∙ c.in-Ok.ensures.only.inputs)
+    (c.in-Ok.ensures.keeps.texts tells) (c.in-Ok.ensures.keeps.left tells) c.tell-in-Some-code_of.new.self
+    (c.in_default-tell-2.ensures.only.inputs ∙ c.in-Ok.ensures.only.inputs)
     (c.in_default-tell-2.ensures.only.stack ∙ c.in-Ok.ensures.stack)
-        (ap names_of (c.in_default-tell-2.ensures.only.names ∙ c.in-Ok.ensures.only.names))
-        (c.in_default-tell-2.ensures.only.stage ∙ c.in-Ok.ensures.only.stage)
+    (ap names_of (c.in_default-tell-2.ensures.only.names ∙ c.in-Ok.ensures.only.names))
+    (c.in_default-tell-2.ensures.only.stage ∙ c.in-Ok.ensures.only.stage)
     (told_by c.take_change.new.run) c.take_change.new.line.items c.in-Some.at.place taken.0
     (taken.1 ∙ ap (λ ch. taken.0.line ∷ lines_at (g.S.Shelf.left c.take_change.new.shelf) ch)
-        (sym c.in_default-tell-2.ensures.only.change)) (ap (λ (v : Vec SourceFault Global). v.items)
-        c.in-Ok.ensures.only.faults) (ap names_of c.in-Ok.ensures.only.names)
+    (sym c.in_default-tell-2.ensures.only.change)) (ap (λ (v : Vec SourceFault Global). v.items)
+    c.in-Ok.ensures.only.faults) (ap names_of c.in-Ok.ensures.only.names)
     c.in-Some-code_of.code test (sym c.eq.ensures ∙ c.if-eq.false) c.in_default-tell-2.ensures.told
-        (ap names_of c.in_default-tell-2.ensures.only.names) (ap count_of c.in_default-tell-2.ensures.only.limits)
+    (ap names_of c.in_default-tell-2.ensures.only.names) (ap count_of c.in_default-tell-2.ensures.only.limits)
 
 -- what was told stays
 pub returns-in-Err-clause-still : goal.returns-in-Err-clause-still

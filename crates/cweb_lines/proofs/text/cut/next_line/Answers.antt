@@ -13,37 +13,37 @@ use Rattle.cweb_lines.proofs.text.cut.next_line.Goals.{In_ok-refill}
 -- what was left at first is the line so far, what is pending and what the reader has left
 so_far : (g : given.Over) (c : In_ok-refill g) → IsTrue (g.S.Shelf.tells c.args.shelf.now)
     → left_of g.S.Shelf.left c.args.shelf.now c.args.source.now ≡ c.pieces.line.items
-        ++ left_of g.S.Shelf.left c.refill.new.shelf c.refill.new.source
+    ++ left_of g.S.Shelf.left c.refill.new.shelf c.refill.new.source
 so_far g c tells =
     let still = subst IsTrue (sym c.pieces.invariant.tells) tells in
     c.pieces.invariant.bytes tells ∙ ap (λ (l : List ℕ). c.pieces.line.items ++ l)
-        (sym (c.in_ok-refill.ensures.same still))
+    (sym (c.in_ok-refill.ensures.same still))
 
 pub returns-in_err-take_pending-clause-too_long : goal.returns-in_err-take_pending-clause-too_long
 returns-in_err-take_pending-clause-too_long g c = λ tells is.
     let p = err_from_is_err_and c.from_residual-in_err-take_pending.result
-        c.from_residual-in_err-take_pending.ensures.1 in
+    c.from_residual-in_err-take_pending.ensures.1 in
     let fault : c.in_err-take_pending.field-0.0 ≡ TooLong = cc (p.1, p.2, is) in
     let long = c.in_err-take_pending.ensures.too_long c.pieces.invariant.none (ap Err fault) in
     let rest = g.S.Shelf.left c.refill.new.shelf c.refill.new.source.reader.value in
     subst (λ (l : List ℕ). IsLongerThan LINE_LENGTH l)
     (append_assoc c.pieces.line.items (pending c.refill.new.source) rest
-        ∙ sym (so_far g (goal.at.returns-in_err-take_pending-clause-too_long g c).In_ok-refill tells))
+    ∙ sym (so_far g (goal.at.returns-in_err-take_pending-clause-too_long g c).In_ok-refill tells))
     (longer_more LINE_LENGTH (c.pieces.line.items ++ pending c.refill.new.source) rest long)
 
 pub returns-then-branch-clause-taken : goal.returns-then-branch-clause-taken
 returns-then-branch-clause-taken g c = λ tells.
     let takes = subst (λ b. TakesOf (pending c.refill.new.source) c.pieces.line.items b c.take_pending.new.line.items
-        (pending c.take_pending.new.source)) c.if-branch.true c.in_ok-take_pending.ensures.taken in
+    (pending c.take_pending.new.source)) c.if-branch.true c.in_ok-take_pending.ensures.taken in
     rw c.in_ok-take_pending.ensures.reader (taken_full _ c.pieces.line.items (pending c.refill.new.source)
-        (g.S.Shelf.left c.refill.new.shelf c.refill.new.source.reader.value) c.take_pending.new.line.items
-        (pending c.take_pending.new.source)
+    (g.S.Shelf.left c.refill.new.shelf c.refill.new.source.reader.value) c.take_pending.new.line.items
+    (pending c.take_pending.new.source)
     (so_far g (goal.at.returns-then-branch-clause-taken g c).In_ok-refill tells) c.pieces.invariant.none takes)
 
 pub pieces-preserved : goal.pieces-preserved
 pieces-preserved g c =
     let takes = subst (λ b. TakesOf (pending c.refill.new.source) c.pieces.line.items b c.take_pending.new.line.items
-        (pending c.take_pending.new.source)) c.if-branch.false c.in_ok-take_pending.ensures.taken in
+    (pending c.take_pending.new.source)) c.if-branch.false c.in_ok-take_pending.ensures.taken in
     record {
       tells = search rules;
       failed = search rules;
@@ -68,6 +68,6 @@ pieces-preserved g c =
 pub returns-then-branch-clause-clean : goal.returns-then-branch-clause-clean
 returns-then-branch-clause-clean g c =
     let takes = subst (λ b. TakesOf (pending c.refill.new.source) c.pieces.line.items b c.take_pending.new.line.items
-        (pending c.take_pending.new.source)) c.if-branch.true c.in_ok-take_pending.ensures.taken in
+    (pending c.take_pending.new.source)) c.if-branch.true c.in_ok-take_pending.ensures.taken in
     (taken_full _ c.pieces.line.items (pending c.refill.new.source) [] c.take_pending.new.line.items
-        (pending c.take_pending.new.source) refl c.pieces.invariant.none takes).1
+    (pending c.take_pending.new.source) refl c.pieces.invariant.none takes).1

@@ -8,7 +8,7 @@ pub returns-in-texts-clause-taken : goal.returns-in-texts-clause-taken
 returns-in-texts-clause-taken g c = λ tells rest.
     let top = rw c.in-Some.is at (c.in-Ok.ensures.taken (subst IsTrue (sym c.texts.invariant.tells) tells)) in
     takes_same (Some c.in-Some.at) _ _ _ _ _ _ _ (c.texts.invariant.things tells rest) c.texts.invariant.counted
-        (top c.args.low (omega (arith, c.texts-test.true)) rest)
+    (top c.args.low (omega (arith, c.texts-test.true)) rest)
 
 -- the readers of the texts
 pub returns-in-Err-clause-named : goal.returns-in-Err-clause-named

@@ -25,7 +25,7 @@ invariant-texts g l = record {
   counted : count_of l.limits ≡ count_of l.fn.limits;
   things : IsTrue (g.S.Shelf.tells l.fn.shelf) → (rest : List Thing)
       → things_above (g.S.Shelf.left l.fn.shelf) l.low l.fn.stack rest ≡ things_above
-          (g.S.Shelf.left l.shelf) l.low l.stack rest;
+      (g.S.Shelf.left l.shelf) l.low l.stack rest;
 }
 
 abbrev pub decreases-texts : goal.decreases-texts

@@ -30,8 +30,13 @@ returns g c =
       };
       too_long = search rules;
       line = rw c.trim.ensures (trimmed-line c.next_line.new.line.items c.in-Ok.ensures.clean c.in-Ok.ensures.within);
-      gains = omega (arith, ap (λ (l : List ℕ). length l) c.trim.ensures, trimmed-length c.next_line.new.line.items,
-          c.len.ensures, c.next_line.new.line.ok.0);
+      gains = omega (
+        arith,
+        ap (λ (l : List ℕ). length l) c.trim.ensures,
+        trimmed-length c.next_line.new.line.items,
+        c.len.ensures,
+        c.next_line.new.line.ok.0,
+      );
     }
 
 pub returns-in-Err-clause-opened : goal.returns-in-Err-clause-opened

@@ -18,7 +18,7 @@ pub returns-then-not-is_blank-clause-trimmed : goal.returns-then-not-is_blank-cl
 returns-then-not-is_blank-clause-trimmed c =
     let back : c.blanks.end - 1 + 1 ≡ c.blanks.end = omega (arith, c.blanks-test.true) in
     let within : c.blanks.end - 1 < length c.args.line.now =
-        omega (arith, c.blanks.invariant.within, c.blanks-test.true) in
+    omega (arith, c.blanks.invariant.within, c.blanks-test.true) in
     sym (subst (λ n. trimmed (take n c.args.line.now) ≡ take n c.args.line.now) back
-        (trims_all c.args.line.now (c.blanks.end - 1) within (sym c.is_blank.ensures ∙ c.if-not-is_blank.true)))
+    (trims_all c.args.line.now (c.blanks.end - 1) within (sym c.is_blank.ensures ∙ c.if-not-is_blank.true)))
     ∙ c.blanks.invariant.trimmed

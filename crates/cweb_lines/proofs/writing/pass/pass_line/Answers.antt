@@ -11,9 +11,9 @@ returns-then-run-floor-clause-passes g c = passes_nothing _ _
 pub returns-clause-passes : goal.returns-clause-passes
 returns-clause-passes g c =
     let passes = passes_run c.args.run.now c.pass_top.new.stack c.pass_top.new.limits c.args.piece.now.items
-        c.pass_top.new.piece.items c.pass_top.result c.in_default.not-Seeking
+    c.pass_top.new.piece.items c.pass_top.result c.in_default.not-Seeking
     (omega (arith, c.floor.ensures, c.if-run-floor.false)) c.pass_top.ensures.below
-        (rw c.deref.ensures.value at c.pass_top.ensures.passed) c.pass_top.ensures.no in
+    (rw c.deref.ensures.value at c.pass_top.ensures.passed) c.pass_top.ensures.no in
     record {
       lines = passes.lines;
       gives = passes.gives;

@@ -1,0 +1,84 @@
+-- What a comparison of an old line with a raw line comes to.
+use Rattle.std.proofs.Common.{◌≡◌, ◌+◌, ◌||◌, ℕ, Bool, true, false, List, [], ◌∷◌, refl, sym, ◌∙◌, ap, subst, arith, if◌then◌else◌}
+use Rattle.std.specs.Str.{bytes_eq}
+use Rattle.cweb_lines.specs.Lines.{Line}
+use Rattle.cweb_lines.specs.Merge.{Thing, compared}
+use Rattle.cweb_lines.specs.Merging.{SoFar}
+use Rattle.cweb_lines.specs.Replacing.{Compares}
+use Rattle.cweb_lines.specs.Texts.{Took, raw_at}
+use Rattle.cweb_lines.specs.declared.change.old_side.Replaced.{Replaced}
+use Rattle.cweb_lines.specs.declared.text.LineAt.{LineAt}
+use Rattle.cweb_lines.proofs.Adds.{adds_none, adds_one}
+
+pub or_true : (b : Bool) → (b || true) ≡ true
+or_true true = refl
+or_true false = refl
+
+pub or_false : (b : Bool) → (b || false) ≡ b
+or_false true = refl
+or_false false = refl
+
+-- where no raw line is left, old lines take none
+none_taken : (olds : List (List ℕ)) → (compared olds []).taken ≡ []
+none_taken [] = refl
+none_taken (old ∷ olds) = refl
+
+none_unequal : (olds : List (List ℕ)) → (compared olds []).unequal ≡ 0
+none_unequal [] = refl
+none_unequal (old ∷ olds) = refl
+
+none_rest : (olds : List (List ℕ)) → (compared olds []).rest ≡ []
+none_rest [] = refl
+none_rest (old ∷ olds) = refl
+
+compares_empty : (bytes : List ℕ) (before : Replaced) (old new : SoFar) → new ≡ old →
+    Compares bytes before (record { unequal = before.unequal; ran_out = true; ended = before.ended }) [] [] old new
+compares_empty bytes before old new same = record {
+  taken = [];
+  taken_are = λ olds. sym (none_taken olds);
+  unequal = λ olds. omega (arith, none_unequal olds);
+  ran_out = λ olds. or_true before.ran_out;
+  rest = λ olds. sym (none_rest olds);
+  adds = adds_none old new same;
+}
+
+pub compares_none : (bytes : List ℕ) (before : Replaced) (things things' : List Thing) (old new : SoFar) →
+    things ≡ things' → things' ≡ [] → new ≡ old
+    → Compares bytes before (record { unequal = before.unequal; ran_out = true; ended = before.ended }) things things'
+    old new
+compares_none bytes before things things' old new is none same =
+    subst (λ (ts : List Thing). Compares bytes before (record {
+      unequal = before.unequal;
+      ran_out = true;
+      ended =
+          before.ended;
+    }) ts things' old new) (sym (is ∙ none))
+    (subst (λ (ts : List Thing). Compares bytes before (record {
+      unequal = before.unequal;
+      ran_out = true;
+      ended =
+          before.ended;
+    }) [] ts old new) (sym none) (compares_empty bytes before old new same))
+
+pub compares_some : (bytes raw_bytes : List ℕ) (before after : Replaced) (at : LineAt) (things things' : List Thing)
+    (old new : SoFar) (t : Took raw_bytes at.place old.count new.count) → things ≡ raw_at at t.line ∷ things'
+    → new.faults ≡ old.faults → new.names ≡ old.names → after.unequal
+    ≡ (if bytes_eq raw_bytes bytes then before.unequal else before.unequal + 1) → after.ran_out ≡ before.ran_out →
+    Compares bytes before after things things' old new
+compares_some bytes raw_bytes before after at things things' old new t is told names unequal ran_out =
+    subst (λ (ts : List Thing). Compares bytes before after ts things' old new) (sym is) (record {
+      taken = t.line ∷ [];
+      taken_are = λ olds. refl;
+      unequal = λ olds.
+          ap (λ (l : Line). before.unequal + (if bytes_eq l.bytes bytes then (compared olds things').unequal
+          else (compared olds things').unequal + 1)) t.is
+          ∙ by (bytes_eq raw_bytes bytes) unequal (compared olds things').unequal;
+      ran_out = λ olds. ap (λ b. b || (compared olds things').ran_out) (sym ran_out);
+      rest = λ olds. refl;
+      adds = adds_one old new raw_bytes at.place t told names;
+    })
+  where
+    by : (b : Bool) → after.unequal ≡ (if b then before.unequal else before.unequal + 1) → (n : ℕ) →
+        before.unequal + (if b then n else n + 1) ≡ after.unequal + n
+    by true same n = omega (arith, same)
+    by false same n = omega (arith, same)

@@ -1,0 +1,217 @@
+-- The steps of the merge end, for every shelf, web and change file.
+use Rattle.std.proofs.Common.{◌≡◌, ◌≤◌, ◌<◌, ◌+◌, ℕ, zero, suc, Bool, true, false, List, [], ◌∷◌, ◌++◌, Option, Some, None, refl, ◌∙◌, ap, length, arith, ◌&&◌}
+use Rattle.std.specs.Prelude.{nat_lt}
+use Rattle.std.specs.Str.{bytes_eq}
+use Rattle.std.proofs.lemmas.Bool.Decides.{nat_tests}
+use Rattle.cweb_files.specs.declared.place.Place.{Place}
+use Rattle.cweb_lines.specs.Lines.{SourceLine, lines_in}
+use Rattle.cweb_lines.specs.Include.{World, Found, include_name, is_include, found_at}
+use Rattle.cweb_lines.specs.Change.{code_of, Entry, Sought, sought, outside, behind_x, OldSide, old_at, old_lines}
+use Rattle.cweb_lines.specs.declared.limits.TheConstants.{OPEN_FILES}
+use Rattle.cweb_lines.specs.declared.change.code.Code.{Code}
+use Rattle.cweb_lines.specs.declared.change.code.Code.TheVariants.{OldSide as old_side, NewSide as new_side, EndSide as end_side}
+use Rattle.cweb_lines.specs.Merge.{RawLine, Thing, seek, raw, told, passed, Event, State, NewSide, new_at, new_lines, compared, after_old, Next, obeyed, opened, included, plain, at_entry, at_raw, step, onto, then_run, run, raws}
+
+-- so many steps are enough, and this is what comes out
+pub record Halts (world : World) (s : State) : Type 0 where
+  pub steps : ℕ
+  pub events : List Event
+  pub comes : run steps world s ≡ Some events
+
+unfoldable pub halts_next : (world : World) (s : State) (next : Next) → step world s ≡ Some next → Halts world next.1 →
+    Halts world s
+halts_next world s next is later = record {
+  steps = suc later.steps;
+  events = next.0 ++ later.events;
+  comes = ap (λ o. then_run o (λ s'. run later.steps world s')) is ∙ ap (onto next.0) later.comes;
+}
+
+waiting : Option Entry → ℕ
+waiting None = 0
+waiting (Some entry) = 1
+
+-- what a search leaves: the lines behind it, and one for an entry
+left_by : Sought → ℕ
+left_by found = length found.rest + waiting found.entry
+
+outside_less : (code : Option Code) (place : Place) (later : Option Place → Sought) (n : ℕ) →
+    ((p : Option Place) → left_by (later p) ≤ n) → left_by (outside code place later) ≤ n
+unfolding left_by
+outside_less None place later n less = less None
+outside_less (Some old_side) place later n less = less (Some place)
+outside_less (Some new_side) place later n less = less None
+outside_less (Some end_side) place later n less = less None
+
+behind_less : (bytes : List ℕ) (code : Option Code) (begin : Place) (line : SourceLine) (lines : List SourceLine)
+    (later : Option Place → Sought)
+    → ((p : Option Place) → left_by (later p) ≤ length lines) →
+    left_by (behind_x bytes code begin line lines later) ≤ suc (length lines)
+unfolding left_by waiting
+behind_less [] code begin line lines later less = omega (arith, less (Some begin))
+behind_less (b ∷ bs) None begin line lines later less = omega arith
+behind_less (b ∷ bs) (Some code) begin line lines later less =
+    omega (arith, outside_less (Some code) line.line.place later (length lines) less)
+
+-- a search takes no fewer lines than it finds entries
+sought_less : (lines : List SourceLine) (begin : Option Place) → left_by (sought lines begin) ≤ length lines
+unfolding left_by waiting
+sought_less [] None = omega arith
+sought_less [] (Some begin) = omega arith
+sought_less (line ∷ lines) None = omega (
+  arith,
+  outside_less (code_of line.line.bytes) line.line.place
+      (λ begin. sought lines begin) (length lines) (sought_less lines),
+)
+sought_less (line ∷ lines) (Some begin) = behind_less line.line.bytes (code_of line.line.bytes) begin line lines
+    (λ next. sought lines next) (sought_less lines)
+
+old_at_less : (code : Option Code) (line : SourceLine) (lines : List SourceLine) (later : OldSide) →
+    length later.rest ≤ length lines → length (old_at code line lines later).rest ≤ suc (length lines)
+old_at_less None line lines later less = omega arith
+old_at_less (Some old_side) line lines later less = omega arith
+old_at_less (Some new_side) line lines later less = omega arith
+old_at_less (Some end_side) line lines later less = omega arith
+
+old_less : (lines : List SourceLine) → length (old_lines lines).rest ≤ length lines
+old_less [] = omega arith
+old_less (line ∷ lines) = old_at_less (code_of line.line.bytes) line lines (old_lines lines) (old_less lines)
+
+new_at_less : (code : Option Code) (depth : ℕ) (line : SourceLine) (lines : List SourceLine) (later : NewSide) →
+    length later.rest ≤ length lines
+    → length (new_at code depth line lines later).rest ≤ suc (length lines)
+new_at_less None depth line lines later less = omega arith
+new_at_less (Some old_side) depth line lines later less = omega arith
+new_at_less (Some new_side) depth line lines later less = omega arith
+new_at_less (Some end_side) depth line lines later less = omega arith
+
+new_less : (depth : ℕ) (begin : Place) (lines : List SourceLine) →
+    length (new_lines depth begin lines).rest ≤ length lines
+new_less depth begin [] = omega arith
+new_less depth begin (line ∷ lines) = new_at_less (code_of line.line.bytes) depth line lines
+    (new_lines depth begin lines) (new_less depth begin lines)
+
+-- The steps end for every state whose change lines and pending entry are no more than so many, where they end for those
+-- that have fewer: each change uses up its entry.
+module _ (world : World) (most : ℕ) (fewer : (things : List Thing) (change : List SourceLine) (files : ℕ) →
+    length change < most → Halts world (record { things = things; pending = None; change = change; files = files }))
+  where
+    abbrev Good : List Thing → Type 0
+    Good things = (pending : Option Entry) (change : List SourceLine) (files : ℕ) → length change + waiting pending ≤ most
+        → Halts world (record { things = things; pending = pending; change = change; files = files })
+
+    good_none : Good []
+    unfolding waiting
+    good_none None change files within = record { steps = 1; events = []; comes = refl }
+    good_none (Some entry) change files within = record { steps = 2; events = _; comes = refl }
+
+    after_old_good : (ended : Bool) (files depth : ℕ) (entry : Entry) (old : OldSide) (rest : List Thing) →
+        length old.rest < most → Halts world (after_old ended files depth entry old rest)
+    after_old_good true files depth entry old rest less = fewer rest [] files (omega arith)
+    after_old_good false files depth entry old rest less =
+        fewer ((new_lines depth entry.begin old.rest).things ++ seek ∷ rest)
+        (new_lines depth entry.begin old.rest).rest files (omega (arith, new_less depth entry.begin old.rest))
+
+    -- a raw line, where those that it opens are good
+    module _ (r : RawLine) (rest : List Thing) (good : Good rest)
+        (opens : r.depth < OPEN_FILES → (lines : List SourceLine) → Good (raws (r.depth + 1) r.may_match lines ++ rest))
+      where
+        abbrev before : Option Entry → List SourceLine → ℕ → State
+        before pending change files = record { things = raw r ∷ rest; pending = pending; change = change; files = files }
+
+        obeyed_good : (found : Option Found) (pending : Option Entry) (change : List SourceLine) (files : ℕ) →
+            length change + waiting pending ≤ most → r.depth < OPEN_FILES
+            → Halts world (obeyed found (before pending change files) r rest).1
+        obeyed_good None pending change files within shallow = good pending change files within
+        obeyed_good (Some found) pending change files within shallow =
+            opens shallow (lines_in files found.1) pending change (files + 1) within
+
+        opened_good : (b : Bool) (name : List ℕ) (pending : Option Entry) (change : List SourceLine) (files : ℕ) →
+            length change + waiting pending ≤ most → b ≡ nat_lt r.depth OPEN_FILES
+            → Halts world (opened b world name (before pending change files) r rest).1
+        opened_good false name pending change files within test = good pending change files within
+        opened_good true name pending change files within test =
+            obeyed_good (found_at world name) pending change files within (grind (arith, nat_tests))
+
+        included_good : (name : List ℕ) (pending : Option Entry) (change : List SourceLine) (files : ℕ) →
+            length change + waiting pending ≤ most
+            → Halts world (included name world (before pending change files) r rest).1
+        included_good [] pending change files within = good pending change files within
+        included_good (b ∷ bs) pending change files within = opened_good (nat_lt r.depth OPEN_FILES)
+            (b ∷ bs) pending change files within refl
+
+        plain_good : (b : Bool) (pending : Option Entry) (change : List SourceLine) (files : ℕ) →
+            length change + waiting pending ≤ most
+            → Halts world (plain b world (before pending change files) r rest).1
+        plain_good true pending change files within = included_good
+            (include_name r.source.line.bytes) pending change files within
+        plain_good false pending change files within = good pending change files within
+
+        at_entry_good : (b : Bool) (entry : Entry) (change : List SourceLine) (files : ℕ) → length change + 1 ≤ most →
+            Halts world (at_entry b entry world (before (Some entry) change files) r rest).1
+        unfolding waiting
+        at_entry_good true entry change files within =
+            after_old_good (old_lines change).ended files r.depth entry (old_lines change)
+            (compared (old_lines change).lines rest).rest (omega (arith, old_less change))
+        at_entry_good false entry change files within = plain_good (is_include r.source.line.bytes)
+            (Some entry) change files within
+
+        at_raw_good : (pending : Option Entry) (change : List SourceLine) (files : ℕ) →
+            length change + waiting pending ≤ most → Halts world
+            (at_raw pending world (before pending change files) r rest).1
+        unfolding waiting
+        at_raw_good None change files within = plain_good (is_include r.source.line.bytes) None change files within
+        at_raw_good (Some entry) change files within = at_entry_good
+            (r.may_match && bytes_eq r.source.line.bytes entry.first) entry change files within
+
+        one_good : Good (raw r ∷ rest)
+        one_good pending change files within = halts_next world (before pending change files) _ refl
+            (at_raw_good pending change files within)
+
+    -- the room is how much deeper the lines may lie that a line opens
+    raw_good : (room : ℕ) (r : RawLine) (rest : List Thing) → OPEN_FILES < r.depth + room → Good rest →
+        Good (raw r ∷ rest)
+    raw_good zero r rest deep good = one_good r rest good (λ shallow. absurd (omega arith))
+    raw_good (suc room) r rest deep good =
+        one_good r rest good (λ shallow lines. raws_good (λ r' rest' deep' good'. raw_good room r' rest' deep' good')
+        (r.depth + 1) r.may_match lines rest (omega arith) good)
+      where
+        raws_good : ((r' : RawLine) (rest' : List Thing) → OPEN_FILES < r'.depth + room → Good rest' →
+            Good (raw r' ∷ rest')) → (depth : ℕ) (may_match : Bool) (lines : List SourceLine) (rest : List Thing)
+            → OPEN_FILES < depth + room → Good rest → Good (raws depth may_match lines ++ rest)
+        raws_good each depth may_match [] rest deep good = good
+        raws_good each depth may_match (line ∷ lines) rest deep good =
+            each (record { source = line; depth = depth; may_match = may_match })
+            (raws depth may_match lines ++ rest) deep (raws_good each depth may_match lines rest deep good)
+
+    thing_good : (thing : Thing) (rest : List Thing) → Good rest → Good (thing ∷ rest)
+    unfolding left_by
+    thing_good seek rest good pending change files within =
+        halts_next world (record { things = seek ∷ rest; pending = pending; change = change; files = files }) _ refl
+        (good (sought change None).entry (sought change None).rest files (omega (arith, sought_less change None)))
+    thing_good (raw r) rest good pending change files within =
+        raw_good (OPEN_FILES + 1) r rest (omega arith) good pending change files within
+    thing_good (told f) rest good pending change files within =
+        halts_next world (record { things = told f ∷ rest; pending = pending; change = change; files = files }) _ refl
+        (good pending change files within)
+    thing_good (passed line) rest good pending change files within =
+        halts_next world (record { things = passed line ∷ rest; pending = pending; change = change; files = files }) _
+        refl (good pending change files within)
+
+    all_good : (things : List Thing) → Good things
+    all_good [] = good_none
+    all_good (thing ∷ things) = thing_good thing things (all_good things)
+
+-- by the lines that the change file has left
+halts_below : (world : World) (most : ℕ) (things : List Thing) (change : List SourceLine) (files : ℕ) →
+    length change < most
+    → Halts world (record { things = things; pending = None; change = change; files = files })
+unfolding waiting
+halts_below world zero things change files less = absurd (omega arith)
+halts_below world (suc most) things change files less =
+    all_good world most (λ t c f l. halts_below world most t c f l) things None change files (omega arith)
+
+pub halts : (world : World) (s : State) → Halts world s
+unfolding waiting
+halts world s =
+    let most = length s.change + waiting s.pending in
+    all_good world most (λ t c f l. halts_below world most t c f l) s.things s.pending s.change s.files (omega arith)
