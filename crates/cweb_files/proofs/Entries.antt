@@ -18,16 +18,19 @@ first_none : {A : Type 0} → (x : Option A) → first_of x None ≡ x
 first_none (Some x) = refl
 first_none None = refl
 
-pub text_in-push : (entries : List Entry) (entry : Entry) (name : List ℕ) → text_in (entries ++ entry ∷ []) name ≡ first_of (text_at entry name) (text_in entries name)
+pub text_in-push : (entries : List Entry) (entry : Entry) (name : List ℕ)
+    → text_in (entries ++ entry ∷ []) name ≡ first_of (text_at entry name) (text_in entries name)
 text_in-push [] entry name = sym (first_none (text_at entry name))
 text_in-push (e ∷ entries) entry name =
-    ap (λ t. first_of t (text_at e name)) (text_in-push entries entry name) ∙ first_assoc (text_at entry name) (text_in entries name) (text_at e name)
+    ap (λ t. first_of t (text_at e name)) (text_in-push entries entry name)
+    ∙ first_assoc (text_at entry name) (text_in entries name) (text_at e name)
 
 pub first-if : {A : Type 0} → (b : Bool) (x : A) (y : Option A) → first_of (cond b (Some x) None) y ≡ cond b (Some x) y
 first-if true x y = refl
 first-if false x y = refl
 
-pub put-texts : (old new : List Entry) (entry : Entry) (name text : List ℕ) → new ≡ old ++ entry ∷ [] → string_bytes entry.name ≡ name → entry.text.items ≡ text
+pub put-texts : (old new : List Entry) (entry : Entry) (name text : List ℕ)
+    → new ≡ old ++ entry ∷ [] → string_bytes entry.name ≡ name → entry.text.items ≡ text
     → text_in new ≡ (λ asked. cond (bytes_eq name asked) (Some text) (text_in old asked))
 put-texts old new entry name text is named holds = λ i asked. (at asked) i
   where
@@ -37,16 +40,20 @@ put-texts old new entry name text is named holds = λ i asked. (at asked) i
         ∙ first-if (bytes_eq (string_bytes entry.name) asked) entry.text.items (text_in old asked)
         ∙ (λ i. cond (bytes_eq (named i) asked) (Some (holds i)) (text_in old asked))
 
-slice_get-at : (entries : List Entry) (i : ℕ) (e : Entry) → i < length entries → e ≡ get_or entries i e → slice_get entries i ≡ Some e
+slice_get-at : (entries : List Entry) (i : ℕ) (e : Entry) → i < length entries
+    → e ≡ get_or entries i e → slice_get entries i ≡ Some e
 slice_get-at entries i e lt is = slice_get_read entries (length entries) i e refl lt is
 
-pub rest-read : (entries : List Entry) (i at n : ℕ) (e : Entry) (text copied piece : List ℕ) → i < length entries → e ≡ get_or entries i e → text ≡ e.text.items
+pub rest-read : (entries : List Entry) (i at n : ℕ) (e : Entry) (text copied piece : List ℕ)
+    → i < length entries → e ≡ get_or entries i e → text ≡ e.text.items
     → copied ≡ take (at + n - at) (drop at text) → at + n ≤ length text
     → from_place (slice_get entries i) at ≡ take n (copied ++ drop n piece) ++ from_place (slice_get entries i) (at + n)
 rest-read entries i at n e text copied piece lt is holds copy fits =
     let here : slice_get entries i ≡ Some e = slice_get-at entries i e lt is in
     let copy_is : copied ≡ take n (drop at e.text.items) = copy ∙ (λ j. take (omega_n j) (drop at (holds j))) in
-    let size : length copied ≡ n = ap length copy_is ∙ length-take-le n (drop at e.text.items) (omega (arith, length-drop at e.text.items, ap length holds)) in
+    let size : length copied ≡ n =
+    ap length copy_is
+    ∙ length-take-le n (drop at e.text.items) (omega (arith, length-drop at e.text.items, ap length holds)) in
     ap (λ o. from_place o at) here ∙ sym (take-append-drop n (drop at e.text.items))
     ∙ ap (λ (l : List ℕ). l ++ drop n (drop at e.text.items)) (sym (take_at copied (drop n piece) n size ∙ copy_is))
     ∙ ap (λ (l : List ℕ). take n (copied ++ drop n piece) ++ l) (drop-drop n at e.text.items)
@@ -55,16 +62,23 @@ rest-read entries i at n e text copied piece lt is holds copy fits =
     omega_n : at + n - at ≡ n
     omega_n = omega arith
 
-pub finds_more : (entries : List Entry) (i : ℕ) (e : Entry) (name : List ℕ) (found : Option MemoryReader) → i < length entries → e ≡ get_or entries i e
+pub finds_more : (entries : List Entry) (i : ℕ) (e : Entry) (name : List ℕ) (found : Option MemoryReader)
+    → i < length entries → e ≡ get_or entries i e
     → Finds (λ r. from_place (slice_get entries r.entry) r.at) (text_in (take i entries) name) found
     → (b : Bool) → b ≡ bytes_eq (string_bytes e.name) name
-    → Finds (λ r. from_place (slice_get entries r.entry) r.at) (text_in (take (i + 1) entries) name) (cond b (Some (record { entry = i; at = 0 })) found)
+    → Finds (λ r. from_place (slice_get entries r.entry) r.at)
+    (text_in (take (i + 1) entries) name) (cond b (Some (record { entry = i; at = 0 })) found)
 finds_more entries i e name found lt is so_far b test =
     let longer : text_in (take (i + 1) entries) name ≡ first_of (text_at e name) (text_in (take i entries) name) =
-    ap (λ (es : List Entry). text_in es name) (take_more entries i e lt) ∙ ap (λ (d : Entry). text_in (take i entries ++ d ∷ []) name) (sym is) ∙ text_in-push (take i entries) e name in
+    ap (λ (es : List Entry). text_in es name) (take_more entries i e lt)
+    ∙ ap (λ (d : Entry). text_in (take i entries ++ d ∷ []) name) (sym is) ∙ text_in-push (take i entries) e name in
     let found_one : text_in (take (i + 1) entries) name ≡ cond b (Some e.text.items) (text_in (take i entries) name) =
-    longer ∙ ap (λ t. first_of (cond t (Some e.text.items) None) (text_in (take i entries) name)) (sym test) ∙ first-if b e.text.items (text_in (take i entries) name) in
-    (elim b as (λ b'. (text_in (take (i + 1) entries) name ≡ cond b' (Some e.text.items) (text_in (take i entries) name)) → Finds (λ r. from_place (slice_get entries r.entry) r.at) (text_in (take (i + 1) entries) name) (cond b' (Some (record { entry = i; at = 0 })) found)) [
+    longer ∙ ap (λ t. first_of (cond t (Some e.text.items) None) (text_in (take i entries) name)) (sym test)
+    ∙ first-if b e.text.items (text_in (take i entries) name) in
+    (elim b as (λ b'.
+    (text_in (take (i + 1) entries) name ≡ cond b' (Some e.text.items) (text_in (take i entries) name))
+    → Finds (λ r. from_place (slice_get entries r.entry) r.at) (text_in (take (i + 1) entries) name)
+    (cond b' (Some (record { entry = i; at = 0 })) found)) [
       | true ↦ λ one. one ∙ ap (λ o. Some (from_place o 0)) (sym (slice_get-at entries i e lt is))
       | false ↦ λ same. subst (λ t. Finds (λ r. from_place (slice_get entries r.entry) r.at) t found) (sym same) so_far
     ]) found_one

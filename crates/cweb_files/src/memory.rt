@@ -40,7 +40,10 @@ impl MemoryShelf {
 
     /// Puts a text under a name, in the place of an earlier one.
     pub fn put(&mut self, name: &str, text: &[u8]) -> Result<(), AllocError>
-        ensures ok { OnOk result (texts_of self.new ≡ (λ asked. if bytes_eq name.now asked then Some text.now else texts_of self.old asked)) }
+        ensures ok { OnOk result
+            (texts_of self.new
+            ≡ (λ asked.
+            if bytes_eq name.now asked then Some text.now else texts_of self.old asked)) }
         ensures err { OnErr result (texts_of self.new ≡ texts_of self.old) }
     {
         let name = String::from_str(self.alloc, name)?;
@@ -149,7 +152,8 @@ impl Sink for MemorySink {
         ensures err { OnErr result (sink_bytes self.new ≡ sink_bytes self.old) }
         ensures room { sink_room self.old ≤ sink_room self.new }
         // Within the room it never fails.
-        ensures within_room { length (sink_bytes self.old) + length piece.now ≤ sink_room self.old → IsOk result }
+        ensures within_room { length (sink_bytes self.old) + length piece.now ≤ sink_room self.old
+            → IsOk result }
     {
         if self.bytes.extend_from_slice(piece).is_err() {
             self.failed += 1;

@@ -13,16 +13,20 @@ abbrev with_shown : Shown → TangleNames → Asked
 with_shown shown names = record { shown = shown; names = names }
 
 abbrev by_shown : List (List ℕ) → Option Shown → Option Asked
-by_shown words shown = option_and_then (λ (shown : Shown). option_map (with_shown shown) (names_by (others words))) shown
+by_shown words shown =
+    option_and_then (λ (shown : Shown). option_map (with_shown shown) (names_by (others words))) shown
 
 pub unshown : (words : List (List ℕ)) → words_shown words shown_by_default ≡ None → options_by words ≡ None
 unshown words none = ap (by_shown words) none
 
-pub unnamed : (words : List (List ℕ)) (shown : Shown) → words_shown words shown_by_default ≡ Some shown → names_by (others words) ≡ None → options_by words ≡ None
+pub unnamed : (words : List (List ℕ)) (shown : Shown) → words_shown words shown_by_default ≡ Some shown
+    → names_by (others words) ≡ None → options_by words ≡ None
 unnamed words shown some none = ap (by_shown words) some ∙ ap (option_map (with_shown shown)) none
 
-pub asks : (words : List (List ℕ)) (shown : Shown) (web : List ℕ) (change out : Option (List ℕ)) → words_shown words shown_by_default ≡ Some shown
-    → slice_get (others words) 0 ≡ Some web → change ≡ slice_get (others words) 1 → out ≡ slice_get (others words) 2 → slice_get (others words) 3 ≡ None
+pub asks : (words : List (List ℕ)) (shown : Shown) (web : List ℕ) (change out : Option (List ℕ))
+    → words_shown words shown_by_default ≡ Some shown
+    → slice_get (others words) 0 ≡ Some web → change ≡ slice_get (others words) 1
+    → out ≡ slice_get (others words) 2 → slice_get (others words) 3 ≡ None
     → options_by words ≡ option_map (with_shown shown) (named_by web change out)
 asks words shown web change out some first second third few =
     ap (by_shown words) some
@@ -30,7 +34,8 @@ asks words shown web change out some first second third few =
     ∙ ap (λ c. named_by web c (slice_get (others words) 2)) (sym second)
     ∙ ap (λ o. named_by web change o) (sym third))
 
-pub ok_from : (r : Result Options Stop) (asked : Option Asked) (names : Option TangleNames) (shown : Shown) → asked ≡ option_map (with_shown shown) names
+pub ok_from : (r : Result Options Stop) (asked : Option Asked) (names : Option TangleNames) (shown : Shown)
+    → asked ≡ option_map (with_shown shown) names
     → IfOk r (λ read. names ≡ Some (options_of read).names) → IfOk r (λ read. (options_of read).shown ≡ shown)
     → IfOk r (λ read. asked ≡ Some (options_of read))
 ok_from (Ok read) asked names shown is named shows =
@@ -41,10 +46,13 @@ names_none : (shown : Shown) (names : Option TangleNames) → option_map (with_s
 names_none shown None is = refl
 names_none shown (Some n) is = absurd (grind (arith, is))
 
-pub usage_from : (r : Result Options Stop) (asked : Option Asked) (names : Option TangleNames) (shown : Shown) → asked ≡ option_map (with_shown shown) names
+pub usage_from : (r : Result Options Stop) (asked : Option Asked) (names : Option TangleNames) (shown : Shown)
+    → asked ≡ option_map (with_shown shown) names
     → (IsErrOf r Usage ↔ (names ≡ None)) → (IsErrOf r Usage ↔ (asked ≡ None))
-usage_from r asked names shown is both =
-    (λ usage. is ∙ ap (option_map (with_shown shown)) (both.0 usage), λ none. both.1 (names_none shown names (sym is ∙ none)))
+usage_from r asked names shown is both = (
+  λ usage. is ∙ ap (option_map (with_shown shown)) (both.0 usage),
+  λ none. both.1 (names_none shown names (sym is ∙ none)),
+)
 
 pub copied_none : (word : Option (Bor (List ℕ))) → is_some word ≡ false → option_copied word ≡ None
 copied_none None none = refl

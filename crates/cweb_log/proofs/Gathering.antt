@@ -20,28 +20,35 @@ on_err : {A E : Type 0} (r : Result A E) (P Q : Type 0) → (P → Q) → OnErr 
 on_err (Ok x) P Q map holds = holds
 on_err (Err e) P Q map holds = map holds
 
-counts_from : {A E : Type 0} (r : Result A E) (before mid after : ℕ) → mid ≡ before → Counts mid after r → Counts before after r
+counts_from : {A E : Type 0} (r : Result A E) (before mid after : ℕ)
+    → mid ≡ before → Counts mid after r → Counts before after r
 counts_from (Ok x) before mid after same counts = counts ∙ same
 counts_from (Err e) before mid after same counts = omega (arith, counts, same)
 
 -- nothing more came yet
-pub gathers_none : {A E : Type 0} (stream : SeenStream) (held : List ℕ) (x : A) → GathersMore {A = A} {E = E} [] stream stream held held (Ok x)
+pub gathers_none : {A E : Type 0} (stream : SeenStream) (held : List ℕ) (x : A)
+    → GathersMore {A = A} {E = E} [] stream stream held held (Ok x)
 gathers_none stream held x = record {
   tells = refl;
   counts = refl;
-  whole = λ tells first text begun. subst (λ (t : List ℕ). Gathers first t stream.bytes held) (sym (append-nil text)) begun;
+  whole = λ tells first text begun.
+      subst (λ (t : List ℕ). Gathers first t stream.bytes held) (sym (append-nil text)) begun;
   front = λ tells first text begun. tt;
 }
 
 -- what came behind that
-pub gathers_on : {A E B F : Type 0} (x : A) (r : Result B F) (old more : List ℕ) (before mid after : SeenStream) (held between now : List ℕ)
-    → GathersMore {A = A} {E = E} old before mid held between (Ok x) → GathersMore more mid after between now r → GathersMore (old ++ more) before after held now r
+pub gathers_on : {A E B F : Type 0} (x : A) (r : Result B F) (old more : List ℕ)
+    (before mid after : SeenStream) (held between now : List ℕ)
+    → GathersMore {A = A} {E = E} old before mid held between (Ok x)
+    → GathersMore more mid after between now r → GathersMore (old ++ more) before after held now r
 gathers_on x r old more before mid after held between now came comes = record {
   tells = comes.tells ∙ came.tells;
   counts = counts_from r before.failed mid.failed after.failed came.counts comes.counts;
-  whole = λ tells first text begun. subst (λ (t : List ℕ). OnOk r (Gathers first t after.bytes now)) (append_assoc text old more)
+  whole = λ tells first text begun.
+      subst (λ (t : List ℕ). OnOk r (Gathers first t after.bytes now)) (append_assoc text old more)
       (comes.whole (subst IsTrue (sym came.tells) tells) first (text ++ old) (came.whole tells first text begun));
-  front = λ tells first text begun. subst (λ (t : List ℕ). OnErr r (WritesFront first after.bytes t)) (append_assoc text old more)
+  front = λ tells first text begun.
+      subst (λ (t : List ℕ). OnErr r (WritesFront first after.bytes t)) (append_assoc text old more)
       (comes.front (subst IsTrue (sym came.tells) tells) first (text ++ old) (came.whole tells first text begun));
 }
 
@@ -50,12 +57,17 @@ begins : (bytes : List ℕ) → Gathers bytes [] bytes []
 begins bytes = record { done = []; written_is = sym (append-nil bytes); whole = refl }
 
 -- a front of what is pending is written behind what was
-behind : (old mid new text held : List ℕ) → Gathers old text mid held → WritesFront mid new held → WritesFront old new text
+behind : (old mid new text held : List ℕ) → Gathers old text mid held
+    → WritesFront mid new held → WritesFront old new text
 behind old mid new text held gathered front = record {
   front = gathered.done ++ front.front;
   rest = front.rest;
-  written = front.written ∙ ap (λ (t : List ℕ). t ++ front.front) gathered.written_is ∙ append_assoc old gathered.done front.front;
-  whole = gathered.whole ∙ ap (λ (t : List ℕ). gathered.done ++ t) front.whole ∙ sym (append_assoc gathered.done front.front front.rest);
+  written =
+      front.written ∙ ap (λ (t : List ℕ). t ++ front.front) gathered.written_is
+      ∙ append_assoc old gathered.done front.front;
+  whole =
+      gathered.whole ∙ ap (λ (t : List ℕ). gathered.done ++ t) front.whole
+      ∙ sym (append_assoc gathered.done front.front front.rest);
 }
 
 longer : (old new text rest : List ℕ) → WritesFront old new text → WritesFront old new (text ++ rest)
@@ -67,8 +79,10 @@ longer old new text rest front = record {
 }
 
 -- a fault in a front of a text is one in the text
-pub gathers_front : {A E B F : Type 0} (e : E) (r : Result B F) (text rest : List ℕ) (before after : SeenStream) (held now : List ℕ)
-    → GathersMore {A = A} text before after held now (Err e) → IsErr r → GathersMore (text ++ rest) before after held now r
+pub gathers_front : {A E B F : Type 0} (e : E) (r : Result B F)
+    (text rest : List ℕ) (before after : SeenStream) (held now : List ℕ)
+    → GathersMore {A = A} text before after held now (Err e)
+    → IsErr r → GathersMore (text ++ rest) before after held now r
 gathers_front e (Ok x) text rest before after held now fails is = absurd (cc)
 gathers_front e (Err f) text rest before after held now fails is = record {
   tells = fails.tells;
@@ -79,40 +93,54 @@ gathers_front e (Err f) text rest before after held now fails is = record {
 }
 
 -- what a list's pieces come to with one more
-pub joined_next : {X : Type 0} (f : X → List ℕ) (xs : List X) (i : ℕ) (d : X) → i < length xs → flat_map f (take (i + 1) xs) ≡ flat_map f (take i xs) ++ f (get_or xs i d)
+pub joined_next : {X : Type 0} (f : X → List ℕ) (xs : List X) (i : ℕ) (d : X) → i < length xs
+    → flat_map f (take (i + 1) xs) ≡ flat_map f (take i xs) ++ f (get_or xs i d)
 joined_next f xs i d lt =
     let next : i + 1 ≡ suc i = omega arith in
-    ap (λ (n : ℕ). flat_map f (take n xs)) next ∙ ap (flat_map f) (take-suc xs i d lt) ∙ flat_map-append f (take i xs) (get_or xs i d ∷ [])
+    ap (λ (n : ℕ). flat_map f (take n xs)) next ∙ ap (flat_map f) (take-suc xs i d lt)
+    ∙ flat_map-append f (take i xs) (get_or xs i d ∷ [])
     ∙ ap (λ (t : List ℕ). flat_map f (take i xs) ++ t) (append-nil (f (get_or xs i d)))
 
 -- what a list's pieces come to, by those up to one and those behind
-pub joined_split : {X : Type 0} (f : X → List ℕ) (xs : List X) (i : ℕ) → flat_map f xs ≡ flat_map f (take i xs) ++ flat_map f (drop i xs)
+pub joined_split : {X : Type 0} (f : X → List ℕ) (xs : List X) (i : ℕ)
+    → flat_map f xs ≡ flat_map f (take i xs) ++ flat_map f (drop i xs)
 joined_split f xs i = ap (flat_map f) (sym (take-append-drop i xs)) ∙ flat_map-append f (take i xs) (drop i xs)
 
 -- a piece of a list fails: so does the whole
-pub gathers_failed : {A E B F X : Type 0} (f : X → List ℕ) (xs : List X) (i : ℕ) (d : X) (x : A) (e : E) (r : Result B F) (before mid after : SeenStream) (held between now : List ℕ) → i < length xs
-    → GathersMore {A = A} {E = E} (flat_map f (take i xs)) before mid held between (Ok x) → GathersMore {A = A} (f (get_or xs i d)) mid after between now (Err e) → IsErr r
+pub gathers_failed : {A E B F X : Type 0} (f : X → List ℕ) (xs : List X) (i : ℕ) (d : X) (x : A)
+    (e : E) (r : Result B F) (before mid after : SeenStream) (held between now : List ℕ) → i < length xs
+    → GathersMore {A = A} {E = E} (flat_map f (take i xs)) before mid held between (Ok x)
+    → GathersMore {A = A} (f (get_or xs i d)) mid after between now (Err e) → IsErr r
     → GathersMore (flat_map f xs) before after held now r
 gathers_failed f xs i d x e r before mid after held between now lt came fails is =
-    subst (λ (t : List ℕ). GathersMore t before after held now r) (sym (joined_split f xs (i + 1) ∙ ap (λ (t : List ℕ). t ++ flat_map f (drop (i + 1) xs)) (joined_next f xs i d lt)))
-    (gathers_front e r (flat_map f (take i xs) ++ f (get_or xs i d)) (flat_map f (drop (i + 1) xs)) before after held now
-    (gathers_on x (Err e) (flat_map f (take i xs)) (f (get_or xs i d)) before mid after held between now came fails) is)
+    subst (λ (t : List ℕ). GathersMore t before after held now r)
+    (sym (joined_split f xs (i + 1)
+    ∙ ap (λ (t : List ℕ). t ++ flat_map f (drop (i + 1) xs)) (joined_next f xs i d lt)))
+    (gathers_front e r (flat_map f (take i xs) ++ f (get_or xs i d))
+    (flat_map f (drop (i + 1) xs)) before after held now
+    (gathers_on x (Err e) (flat_map f (take i xs)) (f (get_or xs i d)) before mid after held between now came fails)
+    is)
 
 -- one more piece of a list came
-pub gathers_next : {A E X : Type 0} (f : X → List ℕ) (xs : List X) (i : ℕ) (d : X) (x y : A) (before mid after : SeenStream) (held between now : List ℕ) → i < length xs
-    → GathersMore {A = A} {E = E} (flat_map f (take i xs)) before mid held between (Ok x) → GathersMore {A = A} {E = E} (f (get_or xs i d)) mid after between now (Ok y)
+pub gathers_next : {A E X : Type 0} (f : X → List ℕ) (xs : List X) (i : ℕ) (d : X)
+    (x y : A) (before mid after : SeenStream) (held between now : List ℕ) → i < length xs
+    → GathersMore {A = A} {E = E} (flat_map f (take i xs)) before mid held between (Ok x)
+    → GathersMore {A = A} {E = E} (f (get_or xs i d)) mid after between now (Ok y)
     → GathersMore {A = A} {E = E} (flat_map f (take (i + 1) xs)) before after held now (Ok y)
 gathers_next {A = A} {E = E} f xs i d x y before mid after held between now lt came comes =
     subst (λ (t : List ℕ). GathersMore {A = A} {E = E} t before after held now (Ok y)) (sym (joined_next f xs i d lt))
     (gathers_on x (Ok y) (flat_map f (take i xs)) (f (get_or xs i d)) before mid after held between now came comes)
 
 -- all pieces of a list came
-pub gathers_all : {A E X : Type 0} (f : X → List ℕ) (xs : List X) (i : ℕ) (x : A) (before after : SeenStream) (held now : List ℕ) → length xs ≤ i
-    → GathersMore {A = A} {E = E} (flat_map f (take i xs)) before after held now (Ok x) → GathersMore {A = A} {E = E} (flat_map f xs) before after held now (Ok x)
+pub gathers_all : {A E X : Type 0} (f : X → List ℕ) (xs : List X)
+    (i : ℕ) (x : A) (before after : SeenStream) (held now : List ℕ) → length xs ≤ i
+    → GathersMore {A = A} {E = E} (flat_map f (take i xs)) before after held now (Ok x)
+    → GathersMore {A = A} {E = E} (flat_map f xs) before after held now (Ok x)
 gathers_all f xs i x before after held now le came = rw take_all at came
 
 -- nothing was gathered before, and what is gathered is written at last
-pub writes_all : {A E B F : Type 0} (x : A) (r : Result B F) (text : List ℕ) (before mid after : SeenStream) (held : List ℕ)
+pub writes_all : {A E B F : Type 0} (x : A) (r : Result B F)
+    (text : List ℕ) (before mid after : SeenStream) (held : List ℕ)
     → GathersMore {A = A} {E = E} text before mid [] held (Ok x) → Writes held mid after r → Writes text before after r
 writes_all x r text before mid after held came writes =
     let tells_mid : IsTrue before.tells → IsTrue mid.tells = λ tells. subst IsTrue (sym came.tells) tells in
@@ -121,13 +149,17 @@ writes_all x r text before mid after held came writes =
       tells = writes.tells ∙ came.tells;
       counts = counts_from r before.failed mid.failed after.failed came.counts writes.counts;
       whole = λ tells. on_ok r _ _ (λ (is : after.bytes ≡ mid.bytes ++ held). is
-          ∙ ap (λ (t : List ℕ). t ++ held) (gathered tells).written_is ∙ append_assoc before.bytes (gathered tells).done held
+          ∙ ap (λ (t : List ℕ). t ++ held) (gathered tells).written_is
+          ∙ append_assoc before.bytes (gathered tells).done held
           ∙ ap (λ (t : List ℕ). before.bytes ++ t) (sym (gathered tells).whole)) (writes.whole (tells_mid tells));
-      front = λ tells. on_err r _ _ (behind before.bytes mid.bytes after.bytes text held (gathered tells)) (writes.front (tells_mid tells));
+      front = λ tells.
+          on_err r _ _ (behind before.bytes mid.bytes after.bytes text held (gathered tells))
+          (writes.front (tells_mid tells));
     }
 
 -- nothing was gathered before, and a part of the text fails
-pub writes_front : {A E B F : Type 0} (e : E) (r : Result B F) (text : List ℕ) (before after : SeenStream) (held : List ℕ)
+pub writes_front : {A E B F : Type 0} (e : E) (r : Result B F)
+    (text : List ℕ) (before after : SeenStream) (held : List ℕ)
     → GathersMore {A = A} text before after [] held (Err e) → IsErr r → Writes text before after r
 writes_front e (Ok x) text before after held fails is = absurd (cc)
 writes_front e (Err f) text before after held fails is = record {
@@ -140,10 +172,12 @@ writes_front e (Err f) text before after held fails is = record {
 -- the lines of a list of items
 pub writes_items : {A E X : Type 0} (f : X → Item) (xs : List X) (before after : SeenStream) (r : Result A E)
     → Writes (flat_map (λ (x : X). line (f x)) xs) before after r → Writes (flat_map line (map f xs)) before after r
-writes_items f xs before after r writes = subst (λ (t : List ℕ). Writes t before after r) (sym (flat_map-map line f xs)) writes
+writes_items f xs before after r writes =
+    subst (λ (t : List ℕ). Writes t before after r) (sym (flat_map-map line f xs)) writes
 
 -- what writing a text left is what logging it leaves
-pub logs_by : {A E : Type 0} (r : Result A E) (text : List ℕ) (before after : SeenStream) → Writes text before after r → Logs text before after
+pub logs_by : {A E : Type 0} (r : Result A E) (text : List ℕ) (before after : SeenStream)
+    → Writes text before after r → Logs text before after
 logs_by (Ok x) text before after writes = record {
   tells = writes.tells;
   once = inl writes.counts;

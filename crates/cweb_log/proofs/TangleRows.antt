@@ -7,7 +7,8 @@ abbrev names : List ℕ → List ℕ → List ℕ → TangleNames
 names web second main = record { merge = record { web = web; second = Some second; change = None }; main = main }
 
 -- ctangle x.y/web
-main_after_the_web : names_by (codes "x.y/web" ∷ []) ≡ Some (names (codes "x.y/web.w") (codes "x.y/web.web") (codes "web.c"))
+main_after_the_web : names_by (codes "x.y/web" ∷ [])
+    ≡ Some (names (codes "x.y/web.w") (codes "x.y/web.web") (codes "web.c"))
 main_after_the_web = refl
 
 -- ctangle a - -
@@ -23,12 +24,16 @@ sign_among_letters : options_by (codes "-b-" ∷ codes "a" ∷ []) ≡ None
 sign_among_letters = refl
 
 -- ctangle a - out
-main_by_a_word : names_by (codes "a" ∷ codes "-" ∷ codes "out" ∷ []) ≡ Some (names (codes "a.w") (codes "a.web") (codes "out.c"))
+main_by_a_word : names_by (codes "a" ∷ codes "-" ∷ codes "out" ∷ [])
+    ≡ Some (names (codes "a.w") (codes "a.web") (codes "out.c"))
 main_by_a_word = refl
 
 -- ctangle a +s -bph
 options_behind : options_by (codes "a" ∷ codes "+s" ∷ codes "-bph" ∷ [])
-    ≡ Some (record { shown = record { banner = false; progress = false; closing = false; statistics = true }; names = names (codes "a.w") (codes "a.web") (codes "a.c") })
+    ≡ Some (record {
+      shown = record { banner = false; progress = false; closing = false; statistics = true };
+      names = names (codes "a.w") (codes "a.web") (codes "a.c");
+    })
 options_behind = refl
 
 -- later letters win

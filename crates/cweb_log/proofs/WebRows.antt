@@ -25,9 +25,13 @@ met kind number = record { kind = kind; place = record { file = record { 0 = 0 }
 
 -- one of each kind
 abbrev faults : List ScanFault
-faults = met DoubleAtInLimbo 1 ∷ met ImproperHexNumber 2 ∷ met ReplacementTooLong 3 ∷ met LetterOutsideLimbo 4 ∷ met NameDidNotEnd 5
-    ∷ met NamesDoNotNest 6 ∷ met CommentDidNotEnd 7 ∷ met StringDidNotEnd 8 ∷ met DoubleAtInString 9 ∷ met ControlTextDidNotEnd 10
-    ∷ met FaultyConstant 11 ∷ met IgnoredInCText 12 ∷ met MissingAt 13 ∷ met DefsInMacro 14 ∷ met DefinitionDropped 15 ∷ []
+faults =
+    met DoubleAtInLimbo 1 ∷ met ImproperHexNumber 2 ∷ met ReplacementTooLong 3
+    ∷ met LetterOutsideLimbo 4 ∷ met NameDidNotEnd 5
+    ∷ met NamesDoNotNest 6 ∷ met CommentDidNotEnd 7 ∷ met StringDidNotEnd 8
+    ∷ met DoubleAtInString 9 ∷ met ControlTextDidNotEnd 10
+    ∷ met FaultyConstant 11 ∷ met IgnoredInCText 12 ∷ met MissingAt 13
+    ∷ met DefsInMacro 14 ∷ met DefinitionDropped 15 ∷ []
 
 scan_lines : flat_map line (scan_items (codes "u.w" ∷ []) faults)
     ≡ codes "u.w:1: ! Double @ in limbo\nu.w:2: ! Improper hex number after @l\nu.w:3: ! Replacement after @l too long\nu.w:4: ! Use @l in limbo only\nu.w:5: ! Section name did not end\nu.w:6: ! Section names do not nest\nu.w:7: ! Comment did not end\nu.w:8: ! String did not end\nu.w:9: ! Double @ in strings\nu.w:10: ! Control text did not end\nu.w:11: ! Faulty ASCII constant\nu.w:12: ! @d, @f, @s, @c and @p are ignored in C text\nu.w:13: ! Missing @ before a named section\nu.w:14: ! @h is ignored in a macro\nu.w:15: ! Definition dropped, no identifier\n"
@@ -45,7 +49,13 @@ file text = record { text = text; how = Full; is_file = true }
 
 -- an abbreviation of two names, one of none, a name that is a prefix of another, and a file's name without a part
 abbrev faulty : Stored
-faulty = record { occurrences = full (codes "ab") ∷ full (codes "abc") ∷ short (codes "a") ∷ short (codes "z") ∷ file (codes "q.h") ∷ []; parts = []; replacements = [] }
+faulty =
+    record {
+      occurrences =
+          full (codes "ab") ∷ full (codes "abc") ∷ short (codes "a") ∷ short (codes "z") ∷ file (codes "q.h") ∷ [];
+      parts = [];
+      replacements = [];
+    }
 
 name_lines : flat_map line (name_items faulty)
     ≡ codes "! Ambiguous prefix: <a...>\n! Never given in full: <z...>\n! Name is a prefix of another: <ab>\n! Not present: <q.h>\n"
@@ -65,12 +75,18 @@ endless = record {
   replacements = [];
 }
 
-cycle_told : refusal_text endless (codes "c.c") (cycle (cycle_from endless (first_endless endless (program endless)))) ≡ codes "Cycle: <A> <B> <A>"
+cycle_told : refusal_text endless (codes "c.c") (cycle (cycle_from endless (first_endless endless (program endless))))
+    ≡ codes "Cycle: <A> <B> <A>"
 cycle_told = refl
 
 -- a file's name that is the main file's, and outputs whose names no file can have
 abbrev one_file : Stored
-one_file = record { occurrences = file (codes "h.c") ∷ []; parts = record { kind = Named (use_of 0); tokens = [] } ∷ []; replacements = [] }
+one_file =
+    record {
+      occurrences = file (codes "h.c") ∷ [];
+      parts = record { kind = Named (use_of 0); tokens = [] } ∷ [];
+      replacements = [];
+    }
 
 same_name_told : refusal_text one_file (codes "h.c") (same_name (id 0)) ≡ codes "Two outputs with one name: <h.c>"
 same_name_told = refl

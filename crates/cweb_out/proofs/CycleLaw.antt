@@ -29,7 +29,8 @@ option-on : (count : ℕ) (o : Option NameId) (m : NameId) → IfSome o (λ (k :
     → list_any (is_id m) (option_to_list o) ≡ true → m.0 < count
 option-on count None m b h = cc
 option-on count (Some k) m b h =
-    elim (either-true (is_id m k) false h) [ inl e ↦ subst (λ (i : NameId). i.0 < count) (sym (is-same m k e)) b | inr e ↦ cc ]
+    elim (either-true (is_id m k) false h)
+    [ inl e ↦ subst (λ (i : NameId). i.0 < count) (sym (is-same m k e)) b | inr e ↦ cc ]
 
 use-on : (w : Stored) (t : Token) (m : NameId) → list_any (is_id m) (use_of w t) ≡ true → m.0 < names w
 use-on w (Name r) m h = option-on (names w) (stands w r) m (standing-within w.occurrences r.0) h
@@ -39,7 +40,8 @@ use-on w t m h = cc
 uses-on : (w : Stored) (ts : List Token) (m : NameId) → list_any (is_id m) (uses w ts) ≡ true → m.0 < names w
 uses-on w [] m h = cc
 uses-on w (t ∷ ts) m h =
-    elim (either-true (list_any (is_id m) (use_of w t)) (list_any (is_id m) (uses w ts)) (sym (list_any-append (is_id m) (use_of w t) (uses w ts)) ∙ h)) [
+    elim (either-true (list_any (is_id m) (use_of w t)) (list_any (is_id m) (uses w ts))
+    (sym (list_any-append (is_id m) (use_of w t) (uses w ts)) ∙ h)) [
       | inl e ↦ use-on w t m e
       | inr e ↦ uses-on w ts m e
     ]
@@ -81,11 +83,14 @@ different a b t f e = let bad : true ≡ false = sym t ∙ e ∙ f in cc
 
 text-endless : (w : Stored) (n : NameId) → n.0 < names w → has_rank w n ≡ false → Endless w (joined w n)
 text-endless w n l h =
-    failing (has_rank w) (uses w (joined w n)) (not-true (list_ends w (joined w n)) (λ e. different (has_rank w n) (has_rank w n) (rank_by_uses w n l e) h refl))
+    failing (has_rank w) (uses w (joined w n))
+    (not-true (list_ends w (joined w n))
+    (λ e. different (has_rank w n) (has_rank w n) (rank_by_uses w n l e) h refl))
 
 name-endless : (w : Stored) (n : NameId) → list_ends w (joined w n) ≡ false → has_rank w n ≡ false
 name-endless w n h =
-    not-true (has_rank w n) (λ e. different (list_ends w (joined w n)) (list_ends w (joined w n)) (rank-grows w (names w) n e) h refl)
+    not-true (has_rank w n)
+    (λ e. different (list_ends w (joined w n)) (list_ends w (joined w n)) (rank-grows w (names w) n e) h refl)
 
 -- EACH USES THE NEXT
 
@@ -160,18 +165,24 @@ walks-in-a-cycle w zero before n l c = absurd (omega (arith, l, few (names w) be
 walks-in-a-cycle w (suc k) before n l c =
     let next : Endless w (joined w n) = text-endless w n c.name c.rankless in
     let size = length-append before (n ∷ []) in
-    by next (list_any (is_id n) before) refl (λ e. walks-in-a-cycle w k (before ++ n ∷ []) next.name (omega (arith, l, size)) (came-on w before n c e next))
+    by next (list_any (is_id n) before) refl
+    (λ e. walks-in-a-cycle w k (before ++ n ∷ []) next.name (omega (arith, l, size)) (came-on w before n c e next))
   where
     by : (next : Endless w (joined w n)) (b : Bool) → list_any (is_id n) before ≡ b
         → (list_any (is_id n) before ≡ false → IsCycle w (walk w k (before ++ n ∷ []) (Some next.name)))
-        → IsCycle w (elim b [ true ↦ drop (position_or_len (is_id n) before) before ++ n ∷ [] | false ↦ walk w k (before ++ n ∷ []) (first_endless w (joined w n)) ])
+        → IsCycle w
+        (elim b [
+          | true ↦ drop (position_or_len (is_id n) before) before ++ n ∷ []
+          | false ↦ walk w k (before ++ n ∷ []) (first_endless w (joined w n))
+        ])
     by next true e later = closed w before n c e
     by next false e later =
         subst (λ (o : Option NameId). IsCycle w (walk w k (before ++ n ∷ []) o)) (sym next.first) (later e)
 
 walk-cycle : (w : Stored) (n : NameId) → has_rank w n ≡ false → n.0 < names w → IsCycle w (cycle_from w (Some n))
 walk-cycle w n h l =
-    walks-in-a-cycle w (suc (names w)) [] n (omega arith) (record { new = tt; within = λ m e. cc; each = tt; rankless = h; name = l })
+    walks-in-a-cycle w (suc (names w)) [] n (omega arith)
+    (record { new = tt; within = λ m e. cc; each = tt; rankless = h; name = l })
 
 -- OUTPUTS
 
@@ -197,7 +208,8 @@ stuck-first w p (n ∷ ns) o a h = by (p n) h (λ e. stuck-first w p ns o (λ k 
         → (find (stuck w) (map Some (filter p ns)) ≡ Some o → Stuck w o) → Stuck w o
     here true e h later =
         let is : Some n ≡ o = cc in
-        subst (Stuck w) is (record { root = a 0 n (omega arith); ends = not-ends (list_ends w (root_list w (Some n))) e })
+        subst (Stuck w) is
+        (record { root = a 0 n (omega arith); ends = not-ends (list_ends w (root_list w (Some n))) e })
     here false e h later = later h
 
     by : (b : Bool) → find (stuck w) (map Some (cond b (n ∷ filter p ns) (filter p ns))) ≡ Some o
@@ -207,7 +219,9 @@ stuck-first w p (n ∷ ns) o a h = by (p n) h (λ e. stuck-first w p ns o (λ k 
 
 stuck-output : (w : Stored) (o : Option NameId) → find (stuck w) (outputs w) ≡ Some o → Stuck w o
 stuck-output w o h =
-    by (stuck w None) refl h (stuck-first w (has_part (spec.standings w.occurrences) w.parts) (spec.files w.occurrences) o (files-within w.occurrences))
+    by (stuck w None) refl h
+    (stuck-first w (has_part (spec.standings w.occurrences) w.parts)
+    (spec.files w.occurrences) o (files-within w.occurrences))
   where
     by : (b : Bool) → stuck w None ≡ b → cond b (Some None) (find (stuck w) (map Some (file_outputs w))) ≡ Some o
         → (find (stuck w) (map Some (file_outputs w)) ≡ Some o → Stuck w o) → Stuck w o
@@ -222,8 +236,10 @@ program-ends w false = refl
 
 stuck-cycle : (w : Stored) (o : Option NameId) → Stuck w o → IsCycle w (cycle_from w (start_of w o))
 stuck-cycle w None s =
-    let e : Endless w (program w) = failing (has_rank w) (uses w (program w)) (sym (program-ends w (not (has_defs_code w.parts))) ∙ s.ends) in
-    subst (λ (o : Option NameId). IsCycle w (cycle_from w o)) (sym e.first) (walk-cycle w e.name e.rankless (uses-on w (program w) e.name e.used))
+    let e : Endless w (program w) =
+    failing (has_rank w) (uses w (program w)) (sym (program-ends w (not (has_defs_code w.parts))) ∙ s.ends) in
+    subst (λ (o : Option NameId). IsCycle w (cycle_from w o)) (sym e.first)
+    (walk-cycle w e.name e.rankless (uses-on w (program w) e.name e.used))
 stuck-cycle w (Some n) s = walk-cycle w n (name-endless w n s.ends) s.root
 
 abbrev outcome : {A : Type 0} → Option A → (A → Refusal) → Result Planned Refusal → Result Planned Refusal
@@ -243,7 +259,13 @@ ended w p ns None h = cc
 pub refused_cycles_are_cycles : (w : Stored) (main : List ℕ) (ns : List NameId) → planned w main ≡ Err (cycle ns)
     → IsCycle w ns
 refused_cycles_are_cycles w main ns h =
-    let apart = passed (find (λ o. not (is_good_name (output_name w main o))) (outputs w)) (λ o. bad_name o) (planned_apart w main) ns (λ o e. cc) h in
-    let ending = passed (find (λ n. bytes_eq (name_at w n) main) (spec.files w.occurrences)) (λ n. same_name n) (planned_ending w main) ns (λ n e. cc) apart in
-    let end = ended w (record { outputs = map (output_of w main) (outputs w); no_text = has_no_text w }) ns (find (stuck w) (outputs w)) ending in
+    let apart =
+    passed (find (λ o. not (is_good_name (output_name w main o))) (outputs w))
+    (λ o. bad_name o) (planned_apart w main) ns (λ o e. cc) h in
+    let ending =
+    passed (find (λ n. bytes_eq (name_at w n) main) (spec.files w.occurrences))
+    (λ n. same_name n) (planned_ending w main) ns (λ n e. cc) apart in
+    let end =
+    ended w (record { outputs = map (output_of w main) (outputs w); no_text = has_no_text w })
+    ns (find (stuck w) (outputs w)) ending in
     subst (IsCycle w) end.2 (stuck-cycle w end.0 (stuck-output w end.0 end.1))

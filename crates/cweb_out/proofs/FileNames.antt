@@ -25,20 +25,24 @@ with_some-new : (ns : List NameId) (o : Option NameId) → AreNew [] ns → AreN
 with_some-new ns None a = a
 with_some-new ns (Some n) a = with_id-new ns n a
 
-with_file-new : (rs : List Standing) (ns : List NameId) (i : ℕ) (b : Bool) → AreNew [] ns → AreNew [] (if b then with_some ns (stands rs i) else ns)
+with_file-new : (rs : List Standing) (ns : List NameId) (i : ℕ) (b : Bool)
+    → AreNew [] ns → AreNew [] (if b then with_some ns (stands rs i) else ns)
 with_file-new rs ns i true a = with_some-new ns (stands rs i) a
 with_file-new rs ns i false a = a
 
-files_from-new : (rs : List Standing) (ns : List NameId) (i : ℕ) (os : List Occurrence) → AreNew [] ns → AreNew [] (files_from rs ns i os)
+files_from-new : (rs : List Standing) (ns : List NameId) (i : ℕ) (os : List Occurrence)
+    → AreNew [] ns → AreNew [] (files_from rs ns i os)
 files_from-new rs ns i [] a = a
-files_from-new rs ns i (o ∷ os) a = files_from-new rs (with_file rs ns i o) (i + 1) os (with_file-new rs ns i o.is_file a)
+files_from-new rs ns i (o ∷ os) a =
+    files_from-new rs (with_file rs ns i o) (i + 1) os (with_file-new rs ns i o.is_file a)
 
 either-true : (a b : Bool) → (a || b) ≡ true → (a ≡ true) ⊎ (b ≡ true)
 either-true true b h = inl refl
 either-true false b h = inr h
 
 -- an element of a list where each passes
-at-any : (count : ℕ) (ns : List NameId) (n : NameId) → All (λ (m : NameId). m.0 < count) ns → list_any (is_id n) ns ≡ true → n.0 < count
+at-any : (count : ℕ) (ns : List NameId) (n : NameId)
+    → All (λ (m : NameId). m.0 < count) ns → list_any (is_id n) ns ≡ true → n.0 < count
 at-any count [] n a h = cc
 at-any count (m ∷ ns) n a h = elim (either-true (is_id n m) (list_any (is_id n) ns) h) [
   | inl e ↦ subst (λ (k : NameId). k.0 < count) (sym (is-same n m e)) (a 0 m (omega arith))
@@ -47,11 +51,16 @@ at-any count (m ∷ ns) n a h = elim (either-true (is_id n m) (list_any (is_id n
 
 filter-few : (p : NameId → Bool) (ns : List NameId) → length (filter p ns) ≤ length ns
 filter-few p [] = omega arith
-filter-few p (n ∷ ns) = let h = filter-few p ns in elim (p n) as (λ b. length (cond b (n ∷ filter p ns) (filter p ns)) ≤ suc (length ns)) [ true ↦ omega (arith, h) | false ↦ omega (arith, h) ]
+filter-few p (n ∷ ns) =
+    let h = filter-few p ns in
+    elim (p n) as (λ b. length (cond b (n ∷ filter p ns) (filter p ns)) ≤ suc (length ns))
+    [ true ↦ omega (arith, h) | false ↦ omega (arith, h) ]
 
 pub outputs-few : (w : Stored) → length (outputs w) ≤ names w + 1
 outputs-few w =
     let files = spec.files w.occurrences in
-    let le = few (names w) files (files_from-new (spec.standings w.occurrences) [] 0 w.occurrences tt) (λ n h. at-any (names w) files n (files-within w.occurrences) h) in
+    let le =
+    few (names w) files (files_from-new (spec.standings w.occurrences) [] 0 w.occurrences tt)
+    (λ n h. at-any (names w) files n (files-within w.occurrences) h) in
     let part = filter-few (Rattle.cweb_store.specs.Faults.has_part (spec.standings w.occurrences) w.parts) files in
     omega (arith, le, part, length-map (file_outputs w) (λ n. Some n))

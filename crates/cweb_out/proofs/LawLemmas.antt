@@ -20,19 +20,25 @@ use Rattle.cweb_out.proofs.Steps.{sep_by_class}
 
 -- EXPANSION
 
-texts-append : (xs ys : List Token) → list_all is_text xs ≡ true → list_all is_text ys ≡ true → list_all is_text (xs ++ ys) ≡ true
+texts-append : (xs ys : List Token) → list_all is_text xs ≡ true
+    → list_all is_text ys ≡ true → list_all is_text (xs ++ ys) ≡ true
 texts-append [] ys a b = b
-texts-append (x ∷ xs) ys a b = and-true (is_text x) (list_all is_text (xs ++ ys)) (and-first (is_text x) (list_all is_text xs) a) (texts-append xs ys (and-second (is_text x) (list_all is_text xs) a) b)
+texts-append (x ∷ xs) ys a b =
+    and-true (is_text x) (list_all is_text (xs ++ ys)) (and-first (is_text x) (list_all is_text xs) a)
+    (texts-append xs ys (and-second (is_text x) (list_all is_text xs) a) b)
 
-text_for-text : (f : NameId → List Token) (o : Option NameId) → ((n : NameId) → list_all is_text (f n) ≡ true) → list_all is_text (text_for f o) ≡ true
+text_for-text : (f : NameId → List Token) (o : Option NameId)
+    → ((n : NameId) → list_all is_text (f n) ≡ true) → list_all is_text (text_for f o) ≡ true
 text_for-text f None h = refl
 text_for-text f (Some n) h = h n
 
-put-text : (w : Stored) (f : NameId → List Token) (t : Token) → ((n : NameId) → list_all is_text (f n) ≡ true) → list_all is_text (put w f t) ≡ true
+put-text : (w : Stored) (f : NameId → List Token) (t : Token)
+    → ((n : NameId) → list_all is_text (f n) ≡ true) → list_all is_text (put w f t) ≡ true
 put-text w f (Name r) h = text_for-text f (stands w r) h
 put-text w f t h = refl
 
-puts-text : (w : Stored) (f : NameId → List Token) (ts : List Token) → ((n : NameId) → list_all is_text (f n) ≡ true) → list_all is_text (flat_map (put w f) ts) ≡ true
+puts-text : (w : Stored) (f : NameId → List Token) (ts : List Token)
+    → ((n : NameId) → list_all is_text (f n) ≡ true) → list_all is_text (flat_map (put w f) ts) ≡ true
 puts-text w f [] h = refl
 puts-text w f (t ∷ ts) h = texts-append (put w f t) (flat_map (put w f) ts) (put-text w f t h) (puts-text w f ts h)
 
@@ -52,67 +58,85 @@ replaces_uses w k = record {
       ∙ ap (λ (u : List Token). expand w k before ++ (u ++ expand w k behind)) (put-same w (name_text w k) t h);
   replaced = λ before behind r n e.
       flat_map-append (put w (name_text w (suc k))) before (Name r ∷ behind)
-      ∙ ap (λ (o : Option NameId). expand w (suc k) before ++ (text_for (name_text w (suc k)) o ++ expand w (suc k) behind)) e;
+      ∙ ap (λ (o : Option NameId).
+      expand w (suc k) before ++ (text_for (name_text w (suc k)) o ++ expand w (suc k) behind))
+      e;
 }
 
 -- names that pass a test have the same texts
 abbrev AreSame : (NameId → Bool) → (NameId → List Token) → (NameId → List Token) → Type 0
 AreSame p f g = (n : NameId) → p n ≡ true → f n ≡ g n
 
-text_for-same : (p : NameId → Bool) (f g : NameId → List Token) → AreSame p f g → (o : Option NameId) → list_all p (option_to_list o) ≡ true → text_for f o ≡ text_for g o
+text_for-same : (p : NameId → Bool) (f g : NameId → List Token) → AreSame p f g
+    → (o : Option NameId) → list_all p (option_to_list o) ≡ true → text_for f o ≡ text_for g o
 text_for-same p f g same None h = refl
 text_for-same p f g same (Some n) h = same n (and-first (p n) true h)
 
-puts-use : (w : Stored) (p : NameId → Bool) (f g : NameId → List Token) (t : Token) → AreSame p f g → list_all p (use_of w t) ≡ true → put w f t ≡ put w g t
+puts-use : (w : Stored) (p : NameId → Bool) (f g : NameId → List Token) (t : Token)
+    → AreSame p f g → list_all p (use_of w t) ≡ true → put w f t ≡ put w g t
 puts-use w p f g (Name r) same h = text_for-same p f g same (stands w r) h
 puts-use w p f g t same h = refl
 
-puts-same : (w : Stored) (p : NameId → Bool) (f g : NameId → List Token) (ts : List Token) → AreSame p f g → list_all p (uses w ts) ≡ true → flat_map (put w f) ts ≡ flat_map (put w g) ts
+puts-same : (w : Stored) (p : NameId → Bool) (f g : NameId → List Token) (ts : List Token)
+    → AreSame p f g → list_all p (uses w ts) ≡ true → flat_map (put w f) ts ≡ flat_map (put w g) ts
 puts-same w p f g [] same h = refl
 puts-same w p f g (t ∷ ts) same h =
-    ap (λ (u : List Token). u ++ flat_map (put w f) ts) (puts-use w p f g t same (all-front p (use_of w t) (uses w ts) h))
+    ap (λ (u : List Token). u ++ flat_map (put w f) ts)
+    (puts-use w p f g t same (all-front p (use_of w t) (uses w ts) h))
     ∙ ap (λ (u : List Token). put w g t ++ u) (puts-same w p f g ts same (all-back p (use_of w t) (uses w ts) h))
 
 name-same : (w : Stored) (k : ℕ) (n : NameId) → ends_below w k n ≡ true → name_text w (suc k) n ≡ name_text w k n
 name-same w zero n h = cc
-name-same w (suc k) n h = puts-same w (ends_below w k) (name_text w (suc k)) (name_text w k) (joined w n) (λ m e. name-same w k m e) h
+name-same w (suc k) n h =
+    puts-same w (ends_below w k) (name_text w (suc k)) (name_text w k) (joined w n) (λ m e. name-same w k m e) h
 
-expand-next : (w : Stored) (k : ℕ) (ts : List Token) → list_all (ends_below w k) (uses w ts) ≡ true → expand w (suc k) ts ≡ expand w k ts
+expand-next : (w : Stored) (k : ℕ) (ts : List Token)
+    → list_all (ends_below w k) (uses w ts) ≡ true → expand w (suc k) ts ≡ expand w k ts
 expand-next w k ts h = puts-same w (ends_below w k) (name_text w (suc k)) (name_text w k) ts (name-same w k) h
 
-uses-grow : (w : Stored) (k : ℕ) (ts : List Token) → list_all (ends_below w k) (uses w ts) ≡ true → list_all (ends_below w (suc k)) (uses w ts) ≡ true
+uses-grow : (w : Stored) (k : ℕ) (ts : List Token) → list_all (ends_below w k) (uses w ts) ≡ true
+    → list_all (ends_below w (suc k)) (uses w ts) ≡ true
 uses-grow w k ts h = uses-weaker w (ends_below w k) (ends_below w (suc k)) ts (λ m l. rank-grows w k m) h
 
-expand-deeper : (w : Stored) (more k : ℕ) (ts : List Token) → list_all (ends_below w k) (uses w ts) ≡ true → expand w (k + more) ts ≡ expand w k ts
+expand-deeper : (w : Stored) (more k : ℕ) (ts : List Token)
+    → list_all (ends_below w k) (uses w ts) ≡ true → expand w (k + more) ts ≡ expand w k ts
 expand-deeper w zero k ts h = let e : k + zero ≡ k = omega arith in ap (λ j. expand w j ts) e
 expand-deeper w (suc more) k ts h =
     let e : k + suc more ≡ suc k + more = omega arith in
     ap (λ j. expand w j ts) e ∙ expand-deeper w more (suc k) ts (uses-grow w k ts h) ∙ expand-next w k ts h
 
-pub depth_changes_nothing : (w : Stored) (k depth : ℕ) (ts : List Token) → k ≤ depth → list_all (ends_below w k) (uses w ts) ≡ true → expand w depth ts ≡ expand w k ts
+pub depth_changes_nothing : (w : Stored) (k depth : ℕ) (ts : List Token) → k ≤ depth
+    → list_all (ends_below w k) (uses w ts) ≡ true → expand w depth ts ≡ expand w k ts
 depth_changes_nothing w k depth ts le h =
     let e : depth ≡ k + (depth - k) = omega (arith, le) in
     ap (λ j. expand w j ts) e ∙ expand-deeper w (depth - k) k ts h
 
 -- PRINT
 
-kept-append : (joined : Bool) (xs ys : List Token) → kept joined (xs ++ ys) ≡ kept joined xs ++ kept (fold stays_joined joined xs) ys
+kept-append : (joined : Bool) (xs ys : List Token)
+    → kept joined (xs ++ ys) ≡ kept joined xs ++ kept (fold stays_joined joined xs) ys
 kept-append joined [] ys = refl
 kept-append joined (x ∷ xs) ys = cases (joined && is_layout x) (kept-append (stays_joined joined x) xs ys)
   where
-    cases : (b : Bool) → kept (stays_joined joined x) (xs ++ ys) ≡ kept (stays_joined joined x) xs ++ kept (fold stays_joined (stays_joined joined x) xs) ys
+    cases : (b : Bool)
+        → kept (stays_joined joined x) (xs ++ ys)
+        ≡ kept (stays_joined joined x) xs ++ kept (fold stays_joined (stays_joined joined x) xs) ys
         → cond b (kept (stays_joined joined x) (xs ++ ys)) (x ∷ kept (stays_joined joined x) (xs ++ ys))
-        ≡ cond b (kept (stays_joined joined x) xs) (x ∷ kept (stays_joined joined x) xs) ++ kept (fold stays_joined (stays_joined joined x) xs) ys
+        ≡ cond b (kept (stays_joined joined x) xs) (x ∷ kept (stays_joined joined x) xs)
+        ++ kept (fold stays_joined (stays_joined joined x) xs) ys
     cases true later = later
     cases false later = ap (λ (ts : List Token). x ∷ ts) later
 
-print_after-append : (text : Option Token → Token → List ℕ) (l : Option Token) (xs ys : List Token) → print_after text l (xs ++ ys) ≡ print_after text l xs ++ print_after text (last_of l xs) ys
+print_after-append : (text : Option Token → Token → List ℕ) (l : Option Token) (xs ys : List Token)
+    → print_after text l (xs ++ ys) ≡ print_after text l xs ++ print_after text (last_of l xs) ys
 print_after-append text l [] ys = refl
 print_after-append text l (x ∷ xs) ys =
     ap (λ (u : List ℕ). (sep l x ++ text l x) ++ u) (print_after-append text (Some x) xs ys)
-    ∙ sym (append_assoc (sep l x ++ text l x) (print_after text (Some x) xs) (print_after text (last_of (Some x) xs) ys))
+    ∙ sym
+    (append_assoc (sep l x ++ text l x) (print_after text (Some x) xs) (print_after text (last_of (Some x) xs) ys))
 
-pub print_goes_on : (s : Setting) (before ts : List Token) → print s (before ++ ts) ≡ print s before ++ print_behind s before ts
+pub print_goes_on : (s : Setting) (before ts : List Token)
+    → print s (before ++ ts) ≡ print s before ++ print_behind s before ts
 print_goes_on s before ts =
     ap (print_after (file_text s) None) (kept-append false before ts)
     ∙ print_after-append (file_text s) None (kept false before) (kept (is_joined before) ts)
@@ -144,15 +168,19 @@ macro-ended replaced ts =
     let text = printed (λ left. macro_text replaced) ts in
     ended-behind (codes "#define ") (text ++ newline) (ended-behind text newline refl)
 
-macros-whole : (replaced : ℕ → List ℕ) (macros : List (List Token)) → is_whole_lines (flat_map (macro_line replaced) macros) ≡ true
+macros-whole : (replaced : ℕ → List ℕ) (macros : List (List Token))
+    → is_whole_lines (flat_map (macro_line replaced) macros) ≡ true
 macros-whole replaced [] = refl
-macros-whole replaced (ts ∷ macros) = whole-append (macro_line replaced ts) (flat_map (macro_line replaced) macros) (whole-ended (macro_line replaced ts) (macro-ended replaced ts)) (macros-whole replaced macros)
+macros-whole replaced (ts ∷ macros) =
+    whole-append (macro_line replaced ts) (flat_map (macro_line replaced) macros)
+    (whole-ended (macro_line replaced ts) (macro-ended replaced ts)) (macros-whole replaced macros)
 
 mark-ended : (name : List ℕ) (line : ℕ) → is_ended (mark_line name line) ≡ true
 mark-ended name line =
     let end = codes "\"\n" in
     let quote = codes " \"" in
-    ended-behind (codes "#line ") (decimal line ++ (quote ++ (quoted name ++ end))) (ended-behind (decimal line) (quote ++ (quoted name ++ end))
+    ended-behind (codes "#line ") (decimal line ++ (quote ++ (quoted name ++ end)))
+    (ended-behind (decimal line) (quote ++ (quoted name ++ end))
     (ended-behind quote (quoted name ++ end) (ended-behind (quoted name) end refl)))
 
 separator-none : (c : Class) → separator c Defs ≡ []
@@ -165,26 +193,35 @@ separator-none class.Operator = refl
 separator-none class.Glue = refl
 separator-none class.Other = refl
 
-defs-whole : (s : Setting) (bytes : List ℕ) (v : Bool) → (v ≡ true → is_whole_lines bytes ≡ true) → is_whole_lines (bytes ++ (cond v [] newline ++ macro_lines s)) ≡ true
+defs-whole : (s : Setting) (bytes : List ℕ) (v : Bool) → (v ≡ true → is_whole_lines bytes ≡ true)
+    → is_whole_lines (bytes ++ (cond v [] newline ++ macro_lines s)) ≡ true
 defs-whole s bytes true h = whole-append bytes (macro_lines s) (h refl) (macros-whole s.replaced s.macros)
 defs-whole s bytes false h =
     ap is_whole_lines (sym (append_assoc bytes newline (macro_lines s)))
-    ∙ whole-append (bytes ++ newline) (macro_lines s) (whole-ended (bytes ++ newline) (ended-behind bytes newline refl)) (macros-whole s.replaced s.macros)
+    ∙ whole-append (bytes ++ newline) (macro_lines s)
+    (whole-ended (bytes ++ newline) (ended-behind bytes newline refl)) (macros-whole s.replaced s.macros)
 
 -- what is printed up to a token that begins a line has whole lines
-token-whole : (s : Setting) (l : Option Token) (bytes : List ℕ) (t : Token) → (starts_line l ≡ true → is_whole_lines bytes ≡ true) → starts_line (Some t) ≡ true
+token-whole : (s : Setting) (l : Option Token) (bytes : List ℕ) (t : Token)
+    → (starts_line l ≡ true → is_whole_lines bytes ≡ true) → starts_line (Some t) ≡ true
     → is_whole_lines (bytes ++ (sep l t ++ file_text s l t)) ≡ true
-token-whole s l bytes Newline h k = whole-ended (bytes ++ (sep l Newline ++ newline)) (ended-behind bytes (sep l Newline ++ newline) (ended-behind (sep l Newline) newline refl))
+token-whole s l bytes Newline h k =
+    whole-ended (bytes ++ (sep l Newline ++ newline))
+    (ended-behind bytes (sep l Newline ++ newline) (ended-behind (sep l Newline) newline refl))
 token-whole s l bytes (Mark p) h k =
     let mark = mark_line (file_name s p) p.line in
-    whole-ended (bytes ++ (sep l (Mark p) ++ (begin_line l ++ mark))) (ended-behind bytes (sep l (Mark p) ++ (begin_line l ++ mark))
-    (ended-behind (sep l (Mark p)) (begin_line l ++ mark) (ended-behind (begin_line l) mark (mark-ended (file_name s p) p.line))))
+    whole-ended (bytes ++ (sep l (Mark p) ++ (begin_line l ++ mark)))
+    (ended-behind bytes (sep l (Mark p) ++ (begin_line l ++ mark))
+    (ended-behind (sep l (Mark p)) (begin_line l ++ mark)
+    (ended-behind (begin_line l) mark (mark-ended (file_name s p) p.line))))
 token-whole s l bytes Defs h k =
-    ap (λ (u : List ℕ). is_whole_lines (bytes ++ (u ++ (begin_line l ++ macro_lines s)))) (sep_by_class l Defs ∙ separator-none (class_of l))
+    ap (λ (u : List ℕ). is_whole_lines (bytes ++ (u ++ (begin_line l ++ macro_lines s))))
+    (sep_by_class l Defs ∙ separator-none (class_of l))
     ∙ defs-whole s bytes (starts_line l) h
 token-whole s l bytes t h k = cc
 
-list-whole : (s : Setting) (l : Option Token) (bytes : List ℕ) (ts : List Token) → (starts_line l ≡ true → is_whole_lines bytes ≡ true) → starts_line (last_of l ts) ≡ true
+list-whole : (s : Setting) (l : Option Token) (bytes : List ℕ) (ts : List Token)
+    → (starts_line l ≡ true → is_whole_lines bytes ≡ true) → starts_line (last_of l ts) ≡ true
     → is_whole_lines (bytes ++ print_after (file_text s) l ts) ≡ true
 list-whole s l bytes [] h k = ap is_whole_lines (append-nil bytes) ∙ h k
 list-whole s l bytes (t ∷ ts) h k =

@@ -18,14 +18,17 @@ use Rattle.cweb_out.proofs.Ranks.{all-append, and-first, and-second}
 pub passes-none : (w : Stored) (marks : List Mark) (ts : List Token) → Passes w marks ts ts
 passes-none w marks ts = record { before = []; marked = refl; same = refl }
 
-pub passes-more : (w : Stored) (marks : List Mark) (old mid new : List Token) (t : Token) → Passes w marks old mid → mid ≡ t ∷ new → list_all (is_marked marks) (use_of w t) ≡ true → Passes w marks old new
+pub passes-more : (w : Stored) (marks : List Mark) (old mid new : List Token) (t : Token) → Passes w marks old mid
+    → mid ≡ t ∷ new → list_all (is_marked marks) (use_of w t) ≡ true → Passes w marks old new
 passes-more w marks old mid new t p e h = record {
   before = p.before ++ use_of w t;
   marked = all-append (is_marked marks) p.before (use_of w t) p.marked h;
   same = p.same ∙ ap (λ ts. p.before ++ uses w ts) e ∙ sym (append_assoc p.before (use_of w t) (uses w new));
 }
 
-pub meets : (w : Stored) (marks : List Mark) (old mid new : List Token) (t : Token) (n : NameId) → Passes w marks old mid → mid ≡ t ∷ new → n ∷ [] ≡ use_of w t → is_marked marks n ≡ false → n.0 < names w → Meets w marks old n new
+pub meets : (w : Stored) (marks : List Mark) (old mid new : List Token) (t : Token) (n : NameId)
+    → Passes w marks old mid → mid ≡ t ∷ new → n ∷ [] ≡ use_of w t
+    → is_marked marks n ≡ false → n.0 < names w → Meets w marks old n new
 meets w marks old mid new t n p e u f l = record {
   before = p.before;
   marked = p.marked;
@@ -34,8 +37,10 @@ meets w marks old mid new t n p e u f l = record {
   name = l;
 }
 
-pub passes-all : (w : Stored) (marks : List Mark) (old new : List Token) → Passes w marks old new → new ≡ [] → list_all (is_marked marks) (uses w old) ≡ true
-passes-all w marks old new p e = ap (list_all (is_marked marks)) (p.same ∙ ap (λ ts. p.before ++ uses w ts) e ∙ append-nil p.before) ∙ p.marked
+pub passes-all : (w : Stored) (marks : List Mark) (old new : List Token)
+    → Passes w marks old new → new ≡ [] → list_all (is_marked marks) (uses w old) ≡ true
+passes-all w marks old new p e =
+    ap (list_all (is_marked marks)) (p.same ∙ ap (λ ts. p.before ++ uses w ts) e ∙ append-nil p.before) ∙ p.marked
 
 -- marks that are ranked stand for ranks
 marked-rank : (m : Mark) (b : Bool) → (m ≡ Ranked → b ≡ true) → is_ranked_mark m ≡ true → b ≡ true
@@ -43,14 +48,19 @@ marked-rank Unseen b f h = cc
 marked-rank Waits b f h = cc
 marked-rank Ranked b f h = f refl
 
-pub all-ranked : (w : Stored) (marks : List Mark) (path : List Waiting) (ns : List NameId) → Fits w marks path → list_all (is_marked marks) ns ≡ true → list_all (has_rank w) ns ≡ true
+pub all-ranked : (w : Stored) (marks : List Mark) (path : List Waiting) (ns : List NameId)
+    → Fits w marks path → list_all (is_marked marks) ns ≡ true → list_all (has_rank w) ns ≡ true
 all-ranked w marks path [] f h = refl
 all-ranked w marks path (n ∷ ns) f h =
-    ap (λ b. b && list_all (has_rank w) ns) (marked-rank (mark_of marks n) (has_rank w n) (f.ranked n) (and-first (is_marked marks n) (list_all (is_marked marks) ns) h))
+    ap (λ b. b && list_all (has_rank w) ns)
+    (marked-rank (mark_of marks n) (has_rank w n) (f.ranked n)
+    (and-first (is_marked marks n) (list_all (is_marked marks) ns) h))
     ∙ all-ranked w marks path ns f (and-second (is_marked marks n) (list_all (is_marked marks) ns) h)
 
 -- a list was looked at up to a name, and then as far as the next one
-pub looked-more : (w : Stored) (list : List Token) (marks : List Mark) (path : List Waiting) (old new : Frame) (n : NameId) → Fits w marks path → Looked w list old None → Meets w marks (suffix w old) n (suffix w new) → Looked w list new (Some n)
+pub looked-more : (w : Stored) (list : List Token) (marks : List Mark)
+    (path : List Waiting) (old new : Frame) (n : NameId) → Fits w marks path → Looked w list old None
+    → Meets w marks (suffix w old) n (suffix w new) → Looked w list new (Some n)
 looked-more w list marks path old new n f l m = record {
   before = l.before ++ m.before;
   ranked = all-append (has_rank w) l.before m.before l.ranked (all-ranked w marks path m.before f m.marked);
@@ -58,7 +68,8 @@ looked-more w list marks path old new n f l m = record {
 }
 
 -- the next name has got a rank
-pub looked-on : (w : Stored) (list : List Token) (frame : Frame) (n : NameId) → has_rank w n ≡ true → Looked w list frame (Some n) → Looked w list frame None
+pub looked-on : (w : Stored) (list : List Token) (frame : Frame) (n : NameId)
+    → has_rank w n ≡ true → Looked w list frame (Some n) → Looked w list frame None
 looked-on w list frame n h l = record {
   before = l.before ++ n ∷ [];
   ranked = all-append (has_rank w) l.before (n ∷ []) l.ranked (ap (λ b. b && true) h);
@@ -66,9 +77,13 @@ looked-on w list frame n h l = record {
 }
 
 -- nothing is left to look at
-pub looked-all : (w : Stored) (list : List Token) (frame : Frame) (marks : List Mark) (path : List Waiting) → Fits w marks path → Looked w list frame None → list_all (is_marked marks) (uses w (suffix w frame)) ≡ true → list_all (has_rank w) (uses w list) ≡ true
+pub looked-all : (w : Stored) (list : List Token) (frame : Frame) (marks : List Mark) (path : List Waiting)
+    → Fits w marks path → Looked w list frame None
+    → list_all (is_marked marks) (uses w (suffix w frame)) ≡ true → list_all (has_rank w) (uses w list) ≡ true
 looked-all w list frame marks path f l h =
-    ap (list_all (has_rank w)) l.same ∙ all-append (has_rank w) l.before (uses w (suffix w frame)) l.ranked (all-ranked w marks path (uses w (suffix w frame)) f h)
+    ap (list_all (has_rank w)) l.same
+    ∙ all-append (has_rank w) l.before (uses w (suffix w frame))
+    l.ranked (all-ranked w marks path (uses w (suffix w frame)) f h)
 
 pub looked-start : (w : Stored) (list : List Token) (frame : Frame) → suffix w frame ≡ list → Looked w list frame None
 looked-start w list frame e = record { before = []; ranked = refl; same = ap (uses w) (sym e) }

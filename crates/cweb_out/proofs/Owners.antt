@@ -58,8 +58,11 @@ top_rank-push w above (g ∷ fs) f = top_rank-push w (rank w g.owner) fs f
 pub AreOwned-push : (w : Stored) (above : ℕ) (fs : List Frame) (f : Frame) → OnTop w above fs f
     → AreOwned w above (fs ++ f ∷ [])
 AreOwned-push w above [] f t = (t.owned, t.lower, tt)
-AreOwned-push w above (g ∷ fs) f t =
-    (t.below.0, t.below.1, AreOwned-push w (rank w g.owner) fs f (record { below = t.below.2; owned = t.owned; lower = t.lower }))
+AreOwned-push w above (g ∷ fs) f t = (
+  t.below.0,
+  t.below.1,
+  AreOwned-push w (rank w g.owner) fs f (record { below = t.below.2; owned = t.owned; lower = t.lower }),
+)
 
 pub AreOwned-pop : (w : Stored) (above : ℕ) (fs : List Frame) (f : Frame) → AreOwned w above (fs ++ f ∷ [])
     → OnTop w above fs f
@@ -79,11 +82,14 @@ pub OnTop-next : (w : Stored) (above : ℕ) (fs : List Frame) (f g : Frame) (t :
     → g.owner ≡ f.owner → OnTop w above fs f
     → OnTop w above fs g × AreBelow w (rank w g.owner) (use_of w t)
 OnTop-next w above fs f g t s o h =
-    let list : root_list w g.owner ≡ h.owned.given ++ (t ∷ suffix w g) = ap (root_list w) o ∙ h.owned.list ∙ ap (λ (ts : List Token). h.owned.given ++ ts) s in
-    let ends : list_ends w (root_list w g.owner) ≡ true = ap (λ (p : Option NameId). list_ends w (root_list w p)) o ∙ h.owned.ends in
+    let list : root_list w g.owner ≡ h.owned.given ++ (t ∷ suffix w g) =
+    ap (root_list w) o ∙ h.owned.list ∙ ap (λ (ts : List Token). h.owned.given ++ ts) s in
+    let ends : list_ends w (root_list w g.owner) ≡ true =
+    ap (λ (p : Option NameId). list_ends w (root_list w p)) o ∙ h.owned.ends in
     let test : NameId → Bool = ends_below w (rank w g.owner) in
     let split : list_all test (uses w h.owned.given ++ (use_of w t ++ uses w (suffix w g))) ≡ true =
-    ap (list_all test) (sym (ap (uses w) list ∙ uses-append w h.owned.given (t ∷ suffix w g))) ∙ owner-below w g.owner ends in (
+    ap (list_all test) (sym (ap (uses w) list ∙ uses-append w h.owned.given (t ∷ suffix w g)))
+    ∙ owner-below w g.owner ends in (
       record {
         below = h.below;
         owned = record {
@@ -93,7 +99,8 @@ OnTop-next w above fs f g t s o h =
         };
         lower = subst (λ (p : Option NameId). rank w p < top_rank w above fs) (sym o) h.lower;
       },
-      all-front test (use_of w t) (uses w (suffix w g)) (all-back test (uses w h.owned.given) (use_of w t ++ uses w (suffix w g)) split),
+      all-front test (use_of w t) (uses w (suffix w g))
+          (all-back test (uses w h.owned.given) (use_of w t ++ uses w (suffix w g)) split),
     )
 
 -- the first frame
@@ -115,7 +122,8 @@ pub OnTop-entered : (w : Stored) (fs : List Frame) (g : Frame) (r : NameRef) (m 
     → stands w r ≡ Some m → g.owner ≡ Some m → joined w m ≡ suffix w g → OnTop w (names w + 1) fs g
 OnTop-entered w fs g r m k below le ends lower e o text =
     let top : ℕ = top_rank w (names w + 1) fs in
-    let used : list_all (ends_below w top) (m ∷ []) ≡ true = subst (λ p. list_all (ends_below w top) (option_to_list p) ≡ true) e lower in
+    let used : list_all (ends_below w top) (m ∷ []) ≡ true =
+    subst (λ p. list_all (ends_below w top) (option_to_list p) ≡ true) e lower in
     let deep : suc (names w) ≡ (suc (names w) - k) + k = omega (arith, le) in
     record {
       below = below;
@@ -127,5 +135,6 @@ OnTop-entered w fs g r m k below le ends lower e o text =
             ∙ grows-more w (suc (names w) - k) k m ends;
       };
       lower =
-          subst (λ (p : Option NameId). rank w p < top) (sym o) (rank-below w top m (and-first (ends_below w top m) true used));
+          subst (λ (p : Option NameId). rank w p < top) (sym o)
+          (rank-below w top m (and-first (ends_below w top m) true used));
     }

@@ -14,30 +14,36 @@ use Rattle.cweb_out.specs.declared.planning.search.Waiting.{Waiting}
 use Rattle.cweb_out.specs.Search.{AreNew, AreWithin, Begins, Chain, Looked, path_of}
 use Rattle.cweb_out.proofs.Lookings.{looked-on}
 
-pub chain-push : (w : Stored) (path : List Waiting) (f : Waiting) (last : Option NameId) → Chain w path (Some f.name) → Looked w (joined w f.name) f.text last → Chain w (path ++ f ∷ []) last
+pub chain-push : (w : Stored) (path : List Waiting) (f : Waiting) (last : Option NameId)
+    → Chain w path (Some f.name) → Looked w (joined w f.name) f.text last → Chain w (path ++ f ∷ []) last
 chain-push w [] f last c l = (l, tt)
 chain-push w (g ∷ []) f last c l = (c.0, (l, tt))
 chain-push w (g ∷ h ∷ path) f last c l = (c.0, chain-push w (h ∷ path) f last c.1 l)
 
-pub chain-pop : (w : Stored) (path : List Waiting) (f : Waiting) (last : Option NameId) → Chain w (path ++ f ∷ []) last → Chain w path (Some f.name) × Looked w (joined w f.name) f.text last
+pub chain-pop : (w : Stored) (path : List Waiting) (f : Waiting) (last : Option NameId)
+    → Chain w (path ++ f ∷ []) last → Chain w path (Some f.name) × Looked w (joined w f.name) f.text last
 chain-pop w [] f last c = (tt, c.0)
 chain-pop w (g ∷ []) f last c = ((c.0, tt), c.1.0)
 chain-pop w (g ∷ h ∷ path) f last c = let r = chain-pop w (h ∷ path) f last c.1 in ((c.0, r.0), r.1)
 
-pub chain-on : (w : Stored) (path : List Waiting) (n : NameId) → has_rank w n ≡ true → Chain w path (Some n) → Chain w path None
+pub chain-on : (w : Stored) (path : List Waiting) (n : NameId)
+    → has_rank w n ≡ true → Chain w path (Some n) → Chain w path None
 chain-on w [] n h c = tt
 chain-on w (g ∷ []) n h c = (looked-on w (joined w g.name) g.text n h c.0, tt)
 chain-on w (g ∷ k ∷ path) n h c = (c.0, chain-on w (k ∷ path) n h c.1)
 
-pub begins-pop : (w : Stored) (path : List Waiting) (f : Waiting) (n : NameId) → Begins w (path ++ f ∷ []) n → has_rank w f.name ≡ true → Begins w path n
+pub begins-pop : (w : Stored) (path : List Waiting) (f : Waiting) (n : NameId)
+    → Begins w (path ++ f ∷ []) n → has_rank w f.name ≡ true → Begins w path n
 begins-pop w [] f n b h = ap (has_rank w) (sym b) ∙ h
 begins-pop w (g ∷ path) f n b h = b
 
-pub begins-push : (w : Stored) (path : List Waiting) (f g : Waiting) (n : NameId) → g.name ≡ f.name → Begins w (path ++ f ∷ []) n → Begins w (path ++ g ∷ []) n
+pub begins-push : (w : Stored) (path : List Waiting) (f g : Waiting) (n : NameId)
+    → g.name ≡ f.name → Begins w (path ++ f ∷ []) n → Begins w (path ++ g ∷ []) n
 begins-push w [] f g n e b = e ∙ b
 begins-push w (h ∷ path) f g n e b = b
 
-pub begins-more : (w : Stored) (path : List Waiting) (f g : Waiting) (n : NameId) → Begins w (path ++ f ∷ []) n → Begins w ((path ++ f ∷ []) ++ g ∷ []) n
+pub begins-more : (w : Stored) (path : List Waiting) (f g : Waiting) (n : NameId)
+    → Begins w (path ++ f ∷ []) n → Begins w ((path ++ f ∷ []) ++ g ∷ []) n
 begins-more w [] f g n b = b
 begins-more w (h ∷ path) f g n b = b
 
@@ -45,21 +51,28 @@ pub path-push : (path : List Waiting) (f : Waiting) → path_of (path ++ f ∷ [
 path-push [] f = refl
 path-push (g ∷ path) f = ap (λ ns. g.name ∷ ns) (path-push path f)
 
-pub new-push : (seen ns : List NameId) (n : NameId) → AreNew seen ns → list_any (is_id n) (seen ++ ns) ≡ false → AreNew seen (ns ++ n ∷ [])
+pub new-push : (seen ns : List NameId) (n : NameId) → AreNew seen ns
+    → list_any (is_id n) (seen ++ ns) ≡ false → AreNew seen (ns ++ n ∷ [])
 new-push seen [] n a h = (ap (list_any (is_id n)) (sym (append-nil seen)) ∙ h, tt)
-new-push seen (m ∷ ns) n a h = (a.0, new-push (seen ++ m ∷ []) ns n a.1 (ap (list_any (is_id n)) (append_assoc seen (m ∷ []) ns) ∙ h))
+new-push seen (m ∷ ns) n a h =
+    (a.0, new-push (seen ++ m ∷ []) ns n a.1 (ap (list_any (is_id n)) (append_assoc seen (m ∷ []) ns) ∙ h))
 
-pub new-pop : (seen ns : List NameId) (n : NameId) → AreNew seen (ns ++ n ∷ []) → AreNew seen ns × (list_any (is_id n) (seen ++ ns) ≡ false)
+pub new-pop : (seen ns : List NameId) (n : NameId) → AreNew seen (ns ++ n ∷ [])
+    → AreNew seen ns × (list_any (is_id n) (seen ++ ns) ≡ false)
 new-pop seen [] n a = (tt, ap (list_any (is_id n)) (append-nil seen) ∙ a.0)
-new-pop seen (m ∷ ns) n a = let r = new-pop (seen ++ m ∷ []) ns n a.1 in ((a.0, r.0), ap (list_any (is_id n)) (sym (append_assoc seen (m ∷ []) ns)) ∙ r.1)
+new-pop seen (m ∷ ns) n a =
+    let r = new-pop (seen ++ m ∷ []) ns n a.1 in
+    ((a.0, r.0), ap (list_any (is_id n)) (sym (append_assoc seen (m ∷ []) ns)) ∙ r.1)
 
 pub same-id : (n m : NameId) → n.0 ≡ m.0 → n ≡ m
 same-id n m e = ap id e
 
 pub is-same : (n m : NameId) → is_id n m ≡ true → n ≡ m
-is-same n m h = elim (eqb_tells n.0 m.0) [ inl e ↦ same-id n m e.1 | inr e ↦ let bad : true ≡ false = sym h ∙ e.0 in cc ]
+is-same n m h =
+    elim (eqb_tells n.0 m.0) [ inl e ↦ same-id n m e.1 | inr e ↦ let bad : true ≡ false = sym h ∙ e.0 in cc ]
 
-pub on-pushed : (ns : List NameId) (n m : NameId) → list_any (is_id n) (ns ++ m ∷ []) ≡ (list_any (is_id n) ns || (is_id n m || false))
+pub on-pushed : (ns : List NameId) (n m : NameId)
+    → list_any (is_id n) (ns ++ m ∷ []) ≡ (list_any (is_id n) ns || (is_id n m || false))
 on-pushed ns n m = list_any-append (is_id n) ns (m ∷ [])
 
 pub split-or : (a b : Bool) → (a || (b || false)) ≡ true → (a ≡ true) ⊎ (b ≡ true)
@@ -71,10 +84,12 @@ pub not-true : (b : Bool) → (b ≡ true → ⊥) → b ≡ false
 not-true true h = absurd (h refl)
 not-true false h = refl
 
-pub within-push : (w : Stored) (path : List Waiting) (f : Waiting) → AreWithin w path → IsWithin w f.text → AreWithin w (path ++ f ∷ [])
+pub within-push : (w : Stored) (path : List Waiting) (f : Waiting)
+    → AreWithin w path → IsWithin w f.text → AreWithin w (path ++ f ∷ [])
 within-push w [] f a h = (h, tt)
 within-push w (g ∷ path) f a h = (a.0, within-push w path f a.1 h)
 
-pub within-pop : (w : Stored) (path : List Waiting) (f : Waiting) → AreWithin w (path ++ f ∷ []) → AreWithin w path × IsWithin w f.text
+pub within-pop : (w : Stored) (path : List Waiting) (f : Waiting)
+    → AreWithin w (path ++ f ∷ []) → AreWithin w path × IsWithin w f.text
 within-pop w [] f a = (tt, a.0)
 within-pop w (g ∷ path) f a = let r = within-pop w path f a.1 in ((a.0, r.0), r.1)

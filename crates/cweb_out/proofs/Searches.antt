@@ -25,31 +25,40 @@ use Rattle.cweb_out.proofs.Paths.{begins-more, begins-pop, begins-push, chain-on
 use Rattle.cweb_out.proofs.Waits.{fits-pop, fits-swap, left-less, on-top, top-name}
 
 -- the name that waited last has its rank
-pub goes-ranked : (w : Stored) (marks more : List Mark) (path : List Waiting) (f : Waiting) (text : Frame) → Fits w marks (path ++ f ∷ []) → Chain w (path ++ f ∷ []) None
-    → list_all (is_marked marks) (uses w (suffix w f.text)) ≡ true → more ≡ set marks f.name.0 Ranked → Goes w marks (path ++ f ∷ []) more path None
+pub goes-ranked : (w : Stored) (marks more : List Mark) (path : List Waiting) (f : Waiting) (text : Frame)
+    → Fits w marks (path ++ f ∷ []) → Chain w (path ++ f ∷ []) None
+    → list_all (is_marked marks) (uses w (suffix w f.text)) ≡ true
+    → more ≡ set marks f.name.0 Ranked → Goes w marks (path ++ f ∷ []) more path None
 goes-ranked w marks more path f text t c a m =
     let l = top-name w marks (path ++ f ∷ []) f.name t (on-top path f) in
     let pop = chain-pop w path f None c in
     let rank = rank_by_uses w f.name l (looked-all w (joined w f.name) f.text marks (path ++ f ∷ []) t pop.1 a) in
     let lt : f.name.0 < length marks = omega (arith, l, t.all) in
     let is : mark_of marks f.name ≡ Waits = t.marked f.name (on-top path f) in
-    let one : marks_left Ranked < marks_left (mark_of marks f.name) = subst (λ k. marks_left Ranked < marks_left k) (sym is) (omega arith) in
+    let one : marks_left Ranked < marks_left (mark_of marks f.name) =
+    subst (λ k. marks_left Ranked < marks_left k) (sym is) (omega arith) in
     record {
       fits = subst (λ (ms : List Mark). Fits w ms path) (sym m) (fits-pop w marks path f t l rank);
       chain = chain-on w path f.name rank pop.0;
       begins = λ n b. begins-pop w path f n b rank;
       back = tt;
-      less = λ e. subst (λ (ms : List Mark). sum_by marks_left ms < sum_by marks_left marks) (sym m) (left-less marks f.name Ranked lt one);
+      less = λ e.
+          subst (λ (ms : List Mark). sum_by marks_left ms < sum_by marks_left marks)
+          (sym m) (left-less marks f.name Ranked lt one);
     }
 
 -- it met a name that waits
-pub goes-back : (w : Stored) (marks : List Mark) (path after : List Waiting) (f g : Waiting) (n : NameId) → Fits w marks (path ++ f ∷ []) → Chain w (path ++ f ∷ []) None → g.name ≡ f.name → IsWithin w g.text
-    → Meets w marks (suffix w f.text) n (suffix w g.text) → after ≡ path ++ g ∷ [] → mark_of marks n ≡ Waits → Goes w marks (path ++ f ∷ []) marks after (Some n)
+pub goes-back : (w : Stored) (marks : List Mark) (path after : List Waiting) (f g : Waiting) (n : NameId)
+    → Fits w marks (path ++ f ∷ []) → Chain w (path ++ f ∷ []) None → g.name ≡ f.name → IsWithin w g.text
+    → Meets w marks (suffix w f.text) n (suffix w g.text) → after ≡ path ++ g ∷ []
+    → mark_of marks n ≡ Waits → Goes w marks (path ++ f ∷ []) marks after (Some n)
 goes-back w marks path after f g n t c e i m p is =
     let pop = chain-pop w path f None c in
     let fits : Fits w marks (path ++ g ∷ []) = fits-swap w marks path f g e i t in
     let looked = looked-more w (joined w f.name) marks (path ++ f ∷ []) f.text g.text n t pop.1 m in
-    let chain : Chain w (path ++ g ∷ []) (Some n) = chain-push w path g (Some n) (subst (λ k. Chain w path (Some k)) (sym e) pop.0) (subst (λ k. Looked w (joined w k) g.text (Some n)) (sym e) looked) in
+    let chain : Chain w (path ++ g ∷ []) (Some n) =
+    chain-push w path g (Some n) (subst (λ k. Chain w path (Some k)) (sym e) pop.0)
+    (subst (λ k. Looked w (joined w k) g.text (Some n)) (sym e) looked) in
     record {
       fits = subst (Fits w marks) (sym p) fits;
       chain = subst (λ (ps : List Waiting). Chain w ps (Some n)) (sym p) chain;
@@ -59,18 +68,26 @@ goes-back w marks path after f g n t c e i m p is =
     }
 
 -- it met a name that waits from now on
-pub goes-on : (w : Stored) (marks more : List Mark) (path mid after : List Waiting) (f g : Waiting) (n : NameId) → Fits w marks (path ++ f ∷ []) → Chain w (path ++ f ∷ []) None → g.name ≡ f.name → IsWithin w g.text
-    → Meets w marks (suffix w f.text) n (suffix w g.text) → mid ≡ path ++ g ∷ [] → Waited w marks mid n more after → Goes w marks (path ++ f ∷ []) more after None
+pub goes-on : (w : Stored) (marks more : List Mark) (path mid after : List Waiting) (f g : Waiting) (n : NameId)
+    → Fits w marks (path ++ f ∷ []) → Chain w (path ++ f ∷ []) None → g.name ≡ f.name → IsWithin w g.text
+    → Meets w marks (suffix w f.text) n (suffix w g.text) → mid ≡ path ++ g ∷ []
+    → Waited w marks mid n more after → Goes w marks (path ++ f ∷ []) more after None
 goes-on w marks more path mid after f g n t c e i m p x =
     let pop = chain-pop w path f None c in
     let looked = looked-more w (joined w f.name) marks (path ++ f ∷ []) f.text g.text n t pop.1 m in
-    let chain : Chain w (path ++ g ∷ []) (Some n) = chain-push w path g (Some n) (subst (λ k. Chain w path (Some k)) (sym e) pop.0) (subst (λ k. Looked w (joined w k) g.text (Some n)) (sym e) looked) in
+    let chain : Chain w (path ++ g ∷ []) (Some n) =
+    chain-push w path g (Some n) (subst (λ k. Chain w path (Some k)) (sym e) pop.0)
+    (subst (λ k. Looked w (joined w k) g.text (Some n)) (sym e) looked) in
     let long : after ≡ (path ++ g ∷ []) ++ x.top ∷ [] = x.long ∙ ap (λ (ps : List Waiting). ps ++ x.top ∷ []) p in
-    let longer : Chain w ((path ++ g ∷ []) ++ x.top ∷ []) None = chain-push w (path ++ g ∷ []) x.top None (subst (λ k. Chain w (path ++ g ∷ []) (Some k)) (sym x.name) chain) (subst (λ k. Looked w (joined w k) x.top.text None) (sym x.name) x.looked) in
+    let longer : Chain w ((path ++ g ∷ []) ++ x.top ∷ []) None =
+    chain-push w (path ++ g ∷ []) x.top None (subst (λ k. Chain w (path ++ g ∷ []) (Some k)) (sym x.name) chain)
+    (subst (λ k. Looked w (joined w k) x.top.text None) (sym x.name) x.looked) in
     record {
       fits = x.fits;
       chain = subst (λ (ps : List Waiting). Chain w ps None) (sym long) longer;
-      begins = λ k b. subst (λ (ps : List Waiting). Begins w ps k) (sym long) (begins-more w path g x.top k (begins-push w path f g k e b));
+      begins = λ k b.
+          subst (λ (ps : List Waiting). Begins w ps k) (sym long)
+          (begins-more w path g x.top k (begins-push w path f g k e b));
       back = tt;
       less = λ k. x.less;
     }
@@ -80,16 +97,21 @@ uses-defs : (w : Stored) (b : Bool) (ts : List Token) → uses w (defs_first b +
 uses-defs w true ts = refl
 uses-defs w false ts = refl
 
-pub program-endless : (w : Stored) (frame : Frame) (n : NameId) (cycle : List NameId) → Looked w (root_list w None) frame (Some n) → IsEndless w n cycle → SettlesList w None (Some cycle)
+pub program-endless : (w : Stored) (frame : Frame) (n : NameId) (cycle : List NameId)
+    → Looked w (root_list w None) frame (Some n) → IsEndless w n cycle → SettlesList w None (Some cycle)
 program-endless w frame n cycle l e =
     let same = uses-defs w (not (has_defs_code w.parts)) (program w) in
     let both = looked-endless w (root_list w None) frame n l (e.endless (names w)) in
     (both.1, e.walk ∙ ap (cycle_from w) (sym (ap (find (λ m. not (has_rank w m))) (sym same) ∙ both.0)))
 
-pub settles-list : (w : Stored) (n : NameId) (cycle : Option (List NameId)) → Settles w n cycle → SettlesList w (Some n) cycle
+pub settles-list : (w : Stored) (n : NameId) (cycle : Option (List NameId))
+    → Settles w n cycle → SettlesList w (Some n) cycle
 settles-list w n None s = rank-grows w (names w) n s
 settles-list w n (Some cycle) s = (s.endless (suc (names w)), s.walk)
 
-pub settled : {A E : Type 0} (w : Stored) (root : Option NameId) (n : NameId) (f : A → List NameId) (r : Result (Option A) E) → root ≡ Some n → IfOk r (λ c. Settles w n (option_map f c)) → IfOk r (λ c. SettlesList w root (option_map f c))
-settled w root n f (Ok c) e h = subst (λ o. SettlesList w o (option_map f c)) (sym e) (settles-list w n (option_map f c) h)
+pub settled : {A E : Type 0} (w : Stored) (root : Option NameId)
+    (n : NameId) (f : A → List NameId) (r : Result (Option A) E) → root ≡ Some n
+    → IfOk r (λ c. Settles w n (option_map f c)) → IfOk r (λ c. SettlesList w root (option_map f c))
+settled w root n f (Ok c) e h =
+    subst (λ o. SettlesList w o (option_map f c)) (sym e) (settles-list w n (option_map f c) h)
 settled w root n f (Err x) e h = h

@@ -16,19 +16,27 @@ use Rattle.cweb_out.specs.declared.expander.frame.Frame.{Frame}
 use Rattle.cweb_out.specs.Frames.{suffix, runs_tokens, left_of, work_of, list_work, AreOwned, AreRanked, AreBelow, IsRun, IsWithin, Stands, UsesLower, Advances, Enters, left, level, name_work, token_work, work_for}
 use Rattle.cweb_out.proofs.Owners.{OnTop, OnTop-entered, OnTop-first, AreOwned-pop, AreOwned-push}
 
-pub left_of-push : (w : Stored) (k : ℕ) (fs : List Frame) (f : Frame) → left_of w k (fs ++ f ∷ []) ≡ expand w (k - length fs) (suffix w f) ++ left_of w k fs
+pub left_of-push : (w : Stored) (k : ℕ) (fs : List Frame) (f : Frame)
+    → left_of w k (fs ++ f ∷ []) ≡ expand w (k - length fs) (suffix w f) ++ left_of w k fs
 left_of-push w zero [] f = sym (append-nil _)
-left_of-push w (suc k) [] f = let n : suc k - 0 ≡ suc k = omega arith in sym (append-nil _ ∙ ap (λ n. expand w n (suffix w f)) n)
+left_of-push w (suc k) [] f =
+    let n : suc k - 0 ≡ suc k = omega arith in sym (append-nil _ ∙ ap (λ n. expand w n (suffix w f)) n)
 left_of-push w zero (g ∷ fs) f =
     let n : zero - length fs ≡ zero - suc (length fs) = omega arith in
-    ap (λ ts. ts ++ expand w zero (suffix w g)) (left_of-push w zero fs f) ∙ append_assoc (expand w (zero - length fs) (suffix w f)) (left_of w zero fs) (expand w zero (suffix w g)) ∙ ap (λ n. expand w n (suffix w f) ++ left_of w zero (g ∷ fs)) n
+    ap (λ ts. ts ++ expand w zero (suffix w g)) (left_of-push w zero fs f)
+    ∙ append_assoc (expand w (zero - length fs) (suffix w f)) (left_of w zero fs) (expand w zero (suffix w g))
+    ∙ ap (λ n. expand w n (suffix w f) ++ left_of w zero (g ∷ fs)) n
 left_of-push w (suc k) (g ∷ fs) f =
     let n : k - length fs ≡ suc k - suc (length fs) = omega arith in
-    ap (λ ts. ts ++ expand w (suc k) (suffix w g)) (left_of-push w k fs f) ∙ append_assoc (expand w (k - length fs) (suffix w f)) (left_of w k fs) (expand w (suc k) (suffix w g)) ∙ ap (λ n. expand w n (suffix w f) ++ left_of w (suc k) (g ∷ fs)) n
+    ap (λ ts. ts ++ expand w (suc k) (suffix w g)) (left_of-push w k fs f)
+    ∙ append_assoc (expand w (k - length fs) (suffix w f)) (left_of w k fs) (expand w (suc k) (suffix w g))
+    ∙ ap (λ n. expand w n (suffix w f) ++ left_of w (suc k) (g ∷ fs)) n
 
-pub work_of-push : (w : Stored) (k : ℕ) (fs : List Frame) (f : Frame) → work_of w k (fs ++ f ∷ []) ≡ list_work w (k - length fs) (suffix w f) + work_of w k fs
+pub work_of-push : (w : Stored) (k : ℕ) (fs : List Frame) (f : Frame)
+    → work_of w k (fs ++ f ∷ []) ≡ list_work w (k - length fs) (suffix w f) + work_of w k fs
 work_of-push w zero [] f = omega arith
-work_of-push w (suc k) [] f = let n : suc k - 0 ≡ suc k = omega arith in let e = ap (λ n. list_work w n (suffix w f)) n in omega arith
+work_of-push w (suc k) [] f =
+    let n : suc k - 0 ≡ suc k = omega arith in let e = ap (λ n. list_work w n (suffix w f)) n in omega arith
 work_of-push w zero (g ∷ fs) f =
     let n : zero - length fs ≡ zero - suc (length fs) = omega arith in
     let e = ap (λ n. list_work w n (suffix w f)) n in let h = work_of-push w zero fs f in omega arith
@@ -47,23 +55,53 @@ AreBelow-at w j k ns e h = ap (λ k. list_all (ends_below w k) ns) (sym e) ∙ h
 
 pub AreRanked-push : (w : Stored) (k : ℕ) (fs : List Frame) (f : Frame) → Top w k fs f → AreRanked w k (fs ++ f ∷ [])
 AreRanked-push w zero [] f t = (t.within, t.below, tt)
-AreRanked-push w (suc k) [] f t = let n : suc k - 0 ≡ suc k = omega arith in (t.within, AreBelow-at w (suc k - 0) (suc k) (uses w (suffix w f)) n t.below, tt)
+AreRanked-push w (suc k) [] f t =
+    let n : suc k - 0 ≡ suc k = omega arith in
+    (t.within, AreBelow-at w (suc k - 0) (suc k) (uses w (suffix w f)) n t.below, tt)
 AreRanked-push w zero (g ∷ fs) f t =
-    let n : zero - suc (length fs) ≡ zero - length fs = omega arith in
-    (t.ranked.0, t.ranked.1, AreRanked-push w zero fs f (record { ranked = t.ranked.2; within = t.within; below = AreBelow-at w (zero - suc (length fs)) (zero - length fs) (uses w (suffix w f)) n t.below }))
+    let n : zero - suc (length fs) ≡ zero - length fs = omega arith in (
+      t.ranked.0,
+      t.ranked.1,
+      AreRanked-push w zero fs f
+          (record {
+            ranked = t.ranked.2;
+            within = t.within;
+            below = AreBelow-at w (zero - suc (length fs)) (zero - length fs) (uses w (suffix w f)) n t.below;
+          }),
+    )
 AreRanked-push w (suc k) (g ∷ fs) f t =
-    let n : suc k - suc (length fs) ≡ k - length fs = omega arith in
-    (t.ranked.0, t.ranked.1, AreRanked-push w k fs f (record { ranked = t.ranked.2; within = t.within; below = AreBelow-at w (suc k - suc (length fs)) (k - length fs) (uses w (suffix w f)) n t.below }))
+    let n : suc k - suc (length fs) ≡ k - length fs = omega arith in (
+      t.ranked.0,
+      t.ranked.1,
+      AreRanked-push w k fs f
+          (record {
+            ranked = t.ranked.2;
+            within = t.within;
+            below = AreBelow-at w (suc k - suc (length fs)) (k - length fs) (uses w (suffix w f)) n t.below;
+          }),
+    )
 
 pub AreRanked-pop : (w : Stored) (k : ℕ) (fs : List Frame) (f : Frame) → AreRanked w k (fs ++ f ∷ []) → Top w k fs f
 AreRanked-pop w zero [] f r = record { ranked = tt; within = r.0; below = r.1 }
-AreRanked-pop w (suc k) [] f r = let n : suc k ≡ suc k - 0 = omega arith in record { ranked = tt; within = r.0; below = AreBelow-at w (suc k) (suc k - 0) (uses w (suffix w f)) n r.1 }
+AreRanked-pop w (suc k) [] f r =
+    let n : suc k ≡ suc k - 0 = omega arith in
+    record { ranked = tt; within = r.0; below = AreBelow-at w (suc k) (suc k - 0) (uses w (suffix w f)) n r.1 }
 AreRanked-pop w zero (g ∷ fs) f r =
     let n : zero - length fs ≡ zero - suc (length fs) = omega arith in
-    let t = AreRanked-pop w zero fs f r.2 in record { ranked = (r.0, r.1, t.ranked); within = t.within; below = AreBelow-at w (zero - length fs) (zero - suc (length fs)) (uses w (suffix w f)) n t.below }
+    let t = AreRanked-pop w zero fs f r.2 in
+    record {
+      ranked = (r.0, r.1, t.ranked);
+      within = t.within;
+      below = AreBelow-at w (zero - length fs) (zero - suc (length fs)) (uses w (suffix w f)) n t.below;
+    }
 AreRanked-pop w (suc k) (g ∷ fs) f r =
     let n : k - length fs ≡ suc k - suc (length fs) = omega arith in
-    let t = AreRanked-pop w k fs f r.2 in record { ranked = (r.0, r.1, t.ranked); within = t.within; below = AreBelow-at w (k - length fs) (suc k - suc (length fs)) (uses w (suffix w f)) n t.below }
+    let t = AreRanked-pop w k fs f r.2 in
+    record {
+      ranked = (r.0, r.1, t.ranked);
+      within = t.within;
+      below = AreBelow-at w (k - length fs) (suc k - suc (length fs)) (uses w (suffix w f)) n t.below;
+    }
 
 and-left : (a b : Bool) → (a && b) ≡ true → a ≡ true
 and-left true b h = refl
@@ -75,13 +113,16 @@ and-right false b h = cc
 
 all-front : {X : Type 0} (p : X → Bool) (xs ys : List X) → list_all p (xs ++ ys) ≡ true → list_all p xs ≡ true
 all-front p [] ys h = refl
-all-front p (x ∷ xs) ys h = ap (λ b. b && list_all p xs) (and-left (p x) (list_all p (xs ++ ys)) h) ∙ all-front p xs ys (and-right (p x) (list_all p (xs ++ ys)) h)
+all-front p (x ∷ xs) ys h =
+    ap (λ b. b && list_all p xs) (and-left (p x) (list_all p (xs ++ ys)) h)
+    ∙ all-front p xs ys (and-right (p x) (list_all p (xs ++ ys)) h)
 
 all-back : {X : Type 0} (p : X → Bool) (xs ys : List X) → list_all p (xs ++ ys) ≡ true → list_all p ys ≡ true
 all-back p [] ys h = h
 all-back p (x ∷ xs) ys h = all-back p xs ys (and-right (p x) (list_all p (xs ++ ys)) h)
 
-pub Stands-pop : (w : Stored) (all fs : List Frame) (f : Frame) (room more : ℕ) → all ≡ fs ++ f ∷ [] → more ≡ room → Stands w all room
+pub Stands-pop : (w : Stored) (all fs : List Frame) (f : Frame) (room more : ℕ)
+    → all ≡ fs ++ f ∷ [] → more ≡ room → Stands w all room
     → Stands w fs more × Top w (names w) fs f × (length fs < names w + 1) × OnTop w (names w + 1) fs f
 Stands-pop w all fs f room more e r s =
     let t = AreRanked-pop w (names w) fs f (subst (AreRanked w (names w)) e s.ranked) in
@@ -90,7 +131,8 @@ Stands-pop w all fs f room more e r s =
     let d = s.depth in
     (record { owned = o.below; ranked = t.ranked; depth = omega arith; room = r ∙ s.room }, t, omega arith, o)
 
-pub Stands-push : (w : Stored) (all fs : List Frame) (f : Frame) (room more : ℕ) → all ≡ fs ++ f ∷ [] → more ≡ room → Stands w fs room → Top w (names w) fs f → length fs < names w + 1
+pub Stands-push : (w : Stored) (all fs : List Frame) (f : Frame) (room more : ℕ) → all ≡ fs ++ f ∷ []
+    → more ≡ room → Stands w fs room → Top w (names w) fs f → length fs < names w + 1
     → OnTop w (names w + 1) fs f → Stands w all more
 Stands-push w all fs f room more e r s t n o =
     let l = ap length e ∙ length-append fs (f ∷ []) in
@@ -101,31 +143,49 @@ Stands-push w all fs f room more e r s t n o =
       room = r ∙ s.room;
     }
 
-pub Top-next : (w : Stored) (k : ℕ) (fs : List Frame) (f g : Frame) (t : Token) → suffix w f ≡ t ∷ suffix w g → IsWithin w g → Top w k fs f → Top w k fs g × AreBelow w (k - length fs) (use_of w t)
+pub Top-next : (w : Stored) (k : ℕ) (fs : List Frame) (f g : Frame) (t : Token) → suffix w f ≡ t ∷ suffix w g
+    → IsWithin w g → Top w k fs f → Top w k fs g × AreBelow w (k - length fs) (use_of w t)
 Top-next w k fs f g t s i h =
-    let b : AreBelow w (k - length fs) (use_of w t ++ uses w (suffix w g)) = ap (λ ts. list_all (ends_below w (k - length fs)) (uses w ts)) (sym s) ∙ h.below in
-    (record { ranked = h.ranked; within = i; below = all-back (ends_below w (k - length fs)) (use_of w t) (uses w (suffix w g)) b }, all-front (ends_below w (k - length fs)) (use_of w t) (uses w (suffix w g)) b)
+    let b : AreBelow w (k - length fs) (use_of w t ++ uses w (suffix w g)) =
+    ap (λ ts. list_all (ends_below w (k - length fs)) (uses w ts)) (sym s) ∙ h.below in (
+      record {
+        ranked = h.ranked;
+        within = i;
+        below = all-back (ends_below w (k - length fs)) (use_of w t) (uses w (suffix w g)) b;
+      },
+      all-front (ends_below w (k - length fs)) (use_of w t) (uses w (suffix w g)) b,
+    )
 
 pub level-push : (w : Stored) (fs : List Frame) (f : Frame) → level w (fs ++ f ∷ []) ≡ names w - length fs
 level-push w fs f = let l = length-append fs (f ∷ []) in omega arith
 
-list_work-first : (w : Stored) (k : ℕ) (t : Token) (ts : List Token) → list_work w k (t ∷ ts) ≡ token_work w (name_work w k) t + list_work w k ts
+list_work-first : (w : Stored) (k : ℕ) (t : Token) (ts : List Token)
+    → list_work w k (t ∷ ts) ≡ token_work w (name_work w k) t + list_work w k ts
 list_work-first w k t ts =
     let f : Token → ℕ = token_work w (name_work w k) in
     let e : sum_by f (t ∷ ts) ≡ f t + sum_by f ts = sum_by-cons f t ts in omega (arith, e)
 
-pub advances : (w : Stored) (old fs new : List Frame) (f g : Frame) (t : Token) → left w old ≡ left w (fs ++ f ∷ []) → work_of w (names w) (fs ++ f ∷ []) ≤ work_of w (names w) old
-    → suffix w f ≡ t ∷ suffix w g → AreBelow w (names w - length fs) (use_of w t) → UsesLower w new t → new ≡ fs ++ g ∷ [] → Advances w old new t
+pub advances : (w : Stored) (old fs new : List Frame) (f g : Frame) (t : Token)
+    → left w old ≡ left w (fs ++ f ∷ []) → work_of w (names w) (fs ++ f ∷ []) ≤ work_of w (names w) old
+    → suffix w f ≡ t ∷ suffix w g → AreBelow w (names w - length fs) (use_of w t)
+    → UsesLower w new t → new ≡ fs ++ g ∷ [] → Advances w old new t
 advances w old fs new f g t e m s b u is =
     let k = names w - length fs in
     let l : names w - length fs ≡ level w new = sym (ap (level w) is ∙ level-push w fs g) in
     let p = work_of-push w (names w) fs f in
-    let q : work_of w (names w) new ≡ list_work w k (suffix w g) + work_of w (names w) fs = ap (work_of w (names w)) is ∙ work_of-push w (names w) fs g in
-    let v : list_work w k (suffix w f) ≡ token_work w (name_work w k) t + list_work w k (suffix w g) = ap (list_work w k) s ∙ list_work-first w k t (suffix w g) in
-    let x : token_work w (name_work w k) t ≡ token_work w (name_work w (level w new)) t = ap (λ n. token_work w (name_work w n) t) l in
+    let q : work_of w (names w) new ≡ list_work w k (suffix w g) + work_of w (names w) fs =
+    ap (work_of w (names w)) is ∙ work_of-push w (names w) fs g in
+    let v : list_work w k (suffix w f) ≡ token_work w (name_work w k) t + list_work w k (suffix w g) =
+    ap (list_work w k) s ∙ list_work-first w k t (suffix w g) in
+    let x : token_work w (name_work w k) t ≡ token_work w (name_work w (level w new)) t =
+    ap (λ n. token_work w (name_work w n) t) l in
     record {
-      left = e ∙ left_of-push w (names w) fs f ∙ ap (λ ts. expand w k ts ++ left w fs) s ∙ append_assoc (put w (name_text w k) t) (expand w k (suffix w g)) (left w fs)
-          ∙ ap (λ ts. put w (name_text w k) t ++ ts) (sym (left_of-push w (names w) fs g)) ∙ ap (λ fs. put w (name_text w k) t ++ left w fs) (sym is) ∙ ap (λ n. put w (name_text w n) t ++ left w new) l;
+      left =
+          e ∙ left_of-push w (names w) fs f ∙ ap (λ ts. expand w k ts ++ left w fs) s
+          ∙ append_assoc (put w (name_text w k) t) (expand w k (suffix w g)) (left w fs)
+          ∙ ap (λ ts. put w (name_text w k) t ++ ts) (sym (left_of-push w (names w) fs g))
+          ∙ ap (λ fs. put w (name_text w k) t ++ left w fs) (sym is)
+          ∙ ap (λ n. put w (name_text w n) t ++ left w new) l;
       below = AreBelow-at w (names w - length fs) (level w new) (use_of w t) l b;
       lower = u;
       work = omega (arith, p, q, v, x, m);
@@ -136,10 +196,12 @@ advances w old fs new f g t e m s b u is =
 pub left-ended : (w : Stored) (fs : List Frame) (f : Frame) → suffix w f ≡ [] → left w (fs ++ f ∷ []) ≡ left w fs
 left-ended w fs f e = left_of-push w (names w) fs f ∙ ap (λ ts. expand w (names w - length fs) ts ++ left w fs) e
 
-pub work-ended : (w : Stored) (fs : List Frame) (f : Frame) → work_of w (names w) fs ≤ work_of w (names w) (fs ++ f ∷ [])
+pub work-ended : (w : Stored) (fs : List Frame) (f : Frame)
+    → work_of w (names w) fs ≤ work_of w (names w) (fs ++ f ∷ [])
 work-ended w fs f = let p = work_of-push w (names w) fs f in omega arith
 
-rank-step : (w : Stored) (k : ℕ) (m : NameId) → ends_below w k m ≡ true → (j : ℕ) × (k ≡ suc j) × AreBelow w j (uses w (joined w m))
+rank-step : (w : Stored) (k : ℕ) (m : NameId) → ends_below w k m ≡ true
+    → (j : ℕ) × (k ≡ suc j) × AreBelow w j (uses w (joined w m))
 rank-step w zero m h = cc
 rank-step w (suc j) m h = (j, refl, h)
 
@@ -148,41 +210,56 @@ pub record Entered (w : Stored) (fs new : List Frame) (r : NameRef) (more : ℕ)
   pub stands : Stands w new more
   pub enters : Enters w fs new r
 
-pub entered : (w : Stored) (fs new : List Frame) (r : NameRef) (m : NameId) (room more : ℕ) (q : Part) (rest : List Part) → Stands w fs room → more ≡ room
-    → AreBelow w (level w fs) (use_of w (Name r)) → UsesLower w fs (Name r) → stands w r ≡ Some m → runs_tokens w (q ∷ rest) ≡ joined w m → All (IsRun (length (all_tokens w.parts))) (q ∷ rest)
+pub entered : (w : Stored) (fs new : List Frame) (r : NameRef)
+    (m : NameId) (room more : ℕ) (q : Part) (rest : List Part) → Stands w fs room → more ≡ room
+    → AreBelow w (level w fs) (use_of w (Name r)) → UsesLower w fs (Name r) → stands w r ≡ Some m
+    → runs_tokens w (q ∷ rest) ≡ joined w m → All (IsRun (length (all_tokens w.parts))) (q ∷ rest)
     → new ≡ fs ++ record { owner = Some m; defs = false; part = q; rest = rest } ∷ [] → Entered w fs new r more
 entered w fs new r m room more q rest s grows b lower e text a is =
     let g : Frame = record { owner = Some m; defs = false; part = q; rest = rest } in
-    let h : ends_below w (level w fs) m && true ≡ true = subst (λ o. list_all (ends_below w (level w fs)) (option_to_list o) ≡ true) e b in
+    let h : ends_below w (level w fs) m && true ≡ true =
+    subst (λ o. list_all (ends_below w (level w fs)) (option_to_list o) ≡ true) e b in
     let t = rank-step w (level w fs) m (and-left (ends_below w (level w fs) m) true h) in
     let k : ℕ = names w - length fs in
     let j : k ≡ t.0 = omega (arith, t.1) in
     let d : length fs < names w + 1 = omega (arith, t.1) in
     let within : IsWithin w g = record { part = a 0 q (omega arith); rest = λ i x l. a (suc i) x (omega arith) } in
-    let below : AreBelow w k (uses w (suffix w g)) = ap (λ n. list_all (ends_below w n) (uses w (suffix w g))) j ∙ ap (λ ts. list_all (ends_below w t.0) (uses w ts)) text ∙ t.2 in
+    let below : AreBelow w k (uses w (suffix w g)) =
+    ap (λ n. list_all (ends_below w n) (uses w (suffix w g))) j
+    ∙ ap (λ ts. list_all (ends_below w t.0) (uses w ts)) text ∙ t.2 in
     let top : Top w (names w) fs g = record { ranked = s.ranked; within = within; below = below } in
-    let on = OnTop-entered w fs g r m (level w fs) s.owned (omega arith) (and-left (ends_below w (level w fs) m) true h) lower e refl (sym text) in
-    let one : put w (name_text w (level w fs)) (Name r) ≡ expand w t.0 (joined w m) = ap (text_for (name_text w (level w fs))) e ∙ ap (λ n. name_text w n m) t.1 in
-    let two : token_work w (name_work w (level w fs)) (Name r) ≡ 1 + list_work w t.0 (joined w m) = ap (λ o. 1 + work_for (name_work w (level w fs)) o) e ∙ ap (λ n. 1 + name_work w n m) t.1 in
-    let three : work_of w (names w) new ≡ list_work w k (suffix w g) + work_of w (names w) fs = ap (work_of w (names w)) is ∙ work_of-push w (names w) fs g in
-    let four : list_work w k (suffix w g) ≡ list_work w t.0 (joined w m) = ap (λ n. list_work w n (suffix w g)) j ∙ ap (list_work w t.0) text in
+    let on =
+    OnTop-entered w fs g r m (level w fs) s.owned (omega arith)
+    (and-left (ends_below w (level w fs) m) true h) lower e refl (sym text) in
+    let one : put w (name_text w (level w fs)) (Name r) ≡ expand w t.0 (joined w m) =
+    ap (text_for (name_text w (level w fs))) e ∙ ap (λ n. name_text w n m) t.1 in
+    let two : token_work w (name_work w (level w fs)) (Name r) ≡ 1 + list_work w t.0 (joined w m) =
+    ap (λ o. 1 + work_for (name_work w (level w fs)) o) e ∙ ap (λ n. 1 + name_work w n m) t.1 in
+    let three : work_of w (names w) new ≡ list_work w k (suffix w g) + work_of w (names w) fs =
+    ap (work_of w (names w)) is ∙ work_of-push w (names w) fs g in
+    let four : list_work w k (suffix w g) ≡ list_work w t.0 (joined w m) =
+    ap (λ n. list_work w n (suffix w g)) j ∙ ap (list_work w t.0) text in
     record {
       stands = Stands-push w new fs g room more is grows s top d on;
       enters = record {
-        left = ap (left w) is ∙ left_of-push w (names w) fs g ∙ ap (λ n. expand w n (suffix w g) ++ left w fs) j ∙ ap (λ ts. expand w t.0 ts ++ left w fs) text ∙ ap (λ ts. ts ++ left w fs) (sym one);
+        left =
+            ap (left w) is ∙ left_of-push w (names w) fs g ∙ ap (λ n. expand w n (suffix w g) ++ left w fs) j
+            ∙ ap (λ ts. expand w t.0 ts ++ left w fs) text ∙ ap (λ ts. ts ++ left w fs) (sym one);
         work = omega (arith, two, three, four);
       };
     }
 
 -- a use that gives nothing
-pub passed_none : (w : Stored) (fs : List Frame) (r : NameRef) → put w (name_text w (level w fs)) (Name r) ≡ [] → Enters w fs fs r
+pub passed_none : (w : Stored) (fs : List Frame) (r : NameRef)
+    → put w (name_text w (level w fs)) (Name r) ≡ [] → Enters w fs fs r
 passed_none w fs r none = record {
   left = ap (λ ts. ts ++ left w fs) (sym none);
   work = omega arith;
 }
 
 -- a name without parts has no text
-pub no_parts : (w : Stored) (fs : List Frame) (r : NameRef) (m : NameId) → stands w r ≡ Some m → joined w m ≡ [] → put w (name_text w (level w fs)) (Name r) ≡ []
+pub no_parts : (w : Stored) (fs : List Frame) (r : NameRef) (m : NameId)
+    → stands w r ≡ Some m → joined w m ≡ [] → put w (name_text w (level w fs)) (Name r) ≡ []
 no_parts w fs r m e none = ap (text_for (name_text w (level w fs))) e ∙ empty (level w fs)
   where
     empty : (k : ℕ) → name_text w k m ≡ []
@@ -193,11 +270,18 @@ AreRanked-none : (w : Stored) (k : ℕ) → AreRanked w k []
 AreRanked-none w zero = tt
 AreRanked-none w (suc k) = tt
 
-pub Stands-one : (w : Stored) (all : List Frame) (f : Frame) (room : ℕ) → all ≡ f ∷ [] → IsWithin w f → AreBelow w (names w) (uses w (suffix w f)) → room ≡ names w + 1
+pub Stands-one : (w : Stored) (all : List Frame) (f : Frame) (room : ℕ) → all ≡ f ∷ []
+    → IsWithin w f → AreBelow w (names w) (uses w (suffix w f)) → room ≡ names w + 1
     → suffix w f ≡ root_list w f.owner → Stands w all room
 Stands-one w all f room e i b r l =
     let n : names w ≡ names w - 0 = omega arith in
     let k : 0 < names w + 1 = omega arith in
-    Stands-push w all [] f room room e refl (record { owned = tt; ranked = AreRanked-none w (names w); depth = omega arith; room = r })
-    (record { ranked = AreRanked-none w (names w); within = i; below = AreBelow-at w (names w) (names w - 0) (uses w (suffix w f)) n b }) k
+    Stands-push w all [] f room room e refl
+    (record { owned = tt; ranked = AreRanked-none w (names w); depth = omega arith; room = r })
+    (record {
+      ranked = AreRanked-none w (names w);
+      within = i;
+      below = AreBelow-at w (names w) (names w - 0) (uses w (suffix w f)) n b;
+    })
+    k
     (OnTop-first w f (sym l) (subst (λ ts. AreBelow w (names w) (uses w ts)) l b))

@@ -20,7 +20,8 @@ slice_get-lt (x ∷ ts) zero t h = omega arith
 slice_get-lt (x ∷ ts) (suc i) t h = let lt = slice_get-lt ts i t h in omega arith
 
 -- a run that is not empty begins with its first token
-pub slice_range-first : (ts : List Token) (a b : ℕ) (t : Token) → a < b → b ≤ length ts → t ≡ slice_index_or ts a t → slice_range ts a b ≡ t ∷ slice_range ts (a + 1) b
+pub slice_range-first : (ts : List Token) (a b : ℕ) (t : Token) → a < b → b ≤ length ts
+    → t ≡ slice_index_or ts a t → slice_range ts a b ≡ t ∷ slice_range ts (a + 1) b
 slice_range-first ts a b t h k e =
     let n : b - a ≡ suc (b - (a + 1)) = omega arith in
     let m : a < length ts = omega arith in
@@ -33,20 +34,39 @@ pub slice_range-none : (ts : List Token) (a b : ℕ) → b ≤ a → slice_range
 slice_range-none ts a b e = let n : b - a ≡ 0 = omega arith in ap (λ n. take n (drop a ts)) n
 
 -- a frame that has a run begins with that run's first token
-pub suffix-first : (w : Stored) (f : Frame) (t : Token) → f.defs ≡ false → f.part.first < f.part.after → IsWithin w f → slice_get (all_tokens w.parts) f.part.first ≡ Some t →
-    suffix w f ≡ t ∷ suffix w (record { owner = f.owner; defs = f.defs; part = record { first = f.part.first + 1; after = f.part.after }; rest = f.rest })
+pub suffix-first : (w : Stored) (f : Frame) (t : Token) → f.defs ≡ false → f.part.first < f.part.after
+    → IsWithin w f → slice_get (all_tokens w.parts) f.part.first ≡ Some t →
+    suffix w f
+    ≡ t
+    ∷ suffix w
+    (record {
+      owner = f.owner;
+      defs = f.defs;
+      part = record { first = f.part.first + 1; after = f.part.after };
+      rest = f.rest;
+    })
 suffix-first w f t d n k e =
-    let h = slice_range-first (all_tokens w.parts) f.part.first f.part.after t n k.part (slice_get-or (all_tokens w.parts) f.part.first t e) in
+    let h =
+    slice_range-first (all_tokens w.parts) f.part.first f.part.after t n
+    k.part (slice_get-or (all_tokens w.parts) f.part.first t e) in
     ap (λ b. defs_first b ++ (run_tokens w f.part ++ runs_tokens w f.rest)) d
     ∙ ap (λ xs. xs ++ runs_tokens w f.rest) h
-    ∙ ap (λ b. t ∷ (defs_first b ++ (slice_range (all_tokens w.parts) (f.part.first + 1) f.part.after ++ runs_tokens w f.rest))) (sym d)
+    ∙ ap (λ b.
+    t
+    ∷ (defs_first b
+    ++ (slice_range (all_tokens w.parts) (f.part.first + 1) f.part.after ++ runs_tokens w f.rest)))
+    (sym d)
 
-pub suffix-next : (w : Stored) (f : Frame) (q : Part) (more : List Part) → f.part.after ≤ f.part.first → f.rest ≡ q ∷ more → suffix w f ≡ suffix w (record { owner = f.owner; defs = f.defs; part = q; rest = more })
+pub suffix-next : (w : Stored) (f : Frame) (q : Part) (more : List Part) → f.part.after ≤ f.part.first
+    → f.rest ≡ q ∷ more → suffix w f ≡ suffix w (record { owner = f.owner; defs = f.defs; part = q; rest = more })
 suffix-next w f q more n e =
-    ap (λ xs. defs_first f.defs ++ (xs ++ runs_tokens w f.rest)) (slice_range-none (all_tokens w.parts) f.part.first f.part.after n)
+    ap (λ xs. defs_first f.defs ++ (xs ++ runs_tokens w f.rest))
+    (slice_range-none (all_tokens w.parts) f.part.first f.part.after n)
     ∙ ap (λ ps. defs_first f.defs ++ runs_tokens w ps) e
 
-pub IsWithin-next : (w : Stored) (f : Frame) (q : Part) (more : List Part) → f.rest ≡ q ∷ more → IsWithin w f → IsRun (length (all_tokens w.parts)) q × All (IsRun (length (all_tokens w.parts))) more
+pub IsWithin-next : (w : Stored) (f : Frame) (q : Part) (more : List Part) → f.rest ≡ q ∷ more
+    → IsWithin w f → IsRun (length (all_tokens w.parts)) q × All (IsRun (length (all_tokens w.parts))) more
 IsWithin-next w f q more e h =
-    let g : All (IsRun (length (all_tokens w.parts))) (q ∷ more) = subst (All (IsRun (length (all_tokens w.parts)))) e h.rest in
+    let g : All (IsRun (length (all_tokens w.parts))) (q ∷ more) =
+    subst (All (IsRun (length (all_tokens w.parts)))) e h.rest in
     (g 0 q (omega arith), λ k d l. g (suc k) d (omega arith))

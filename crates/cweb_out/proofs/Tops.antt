@@ -27,7 +27,8 @@ top_read n fs f h =
     let some = h.some in
     let all : length fs ≡ n - 1 + 1 = omega arith in
     let lt : n - 1 < length fs = omega arith in
-    sym (take-length fs) ∙ ap (λ k. take k fs) all ∙ take_more fs (n - 1) f lt ∙ ap (λ (x : Frame). lower n fs ++ x ∷ []) (sym h.is)
+    sym (take-length fs) ∙ ap (λ k. take k fs) all ∙ take_more fs (n - 1) f lt
+    ∙ ap (λ (x : Frame). lower n fs ++ x ∷ []) (sym h.is)
 
 pub top_written : (n : ℕ) (fs : List Frame) (f g : Frame) → HasTop n fs f → set fs (n - 1) g ≡ lower n fs ++ g ∷ []
 top_written n fs f g h =
@@ -38,7 +39,9 @@ top_written n fs f g h =
     sym (take-length (set fs (n - 1) g)) ∙ ap (λ k. take k (set fs (n - 1) g)) all ∙ take_more_set fs (n - 1) g lt
 
 -- a stack without its top, and what is known of the top
-pub stands_lower : (w : Stored) (n : ℕ) (fs : List Frame) (f : Frame) (room : ℕ) → Stands w fs room → HasTop n fs f → Stands w (lower n fs) room × Top w (names w) (lower n fs) f × (length (lower n fs) < names w + 1) × OnTop w (names w + 1) (lower n fs) f
+pub stands_lower : (w : Stored) (n : ℕ) (fs : List Frame) (f : Frame) (room : ℕ) → Stands w fs room → HasTop n fs f
+    → Stands w (lower n fs) room × Top w (names w) (lower n fs) f
+    × (length (lower n fs) < names w + 1) × OnTop w (names w + 1) (lower n fs) f
 stands_lower w n fs f room s h = Stands-pop w fs (lower n fs) f room room (top_read n fs f h) refl s
 
 -- the top went on by a token
@@ -46,18 +49,24 @@ pub record TopMoved (w : Stored) (old new : List Frame) (t : Token) (room : ℕ)
   pub stands : Stands w new room
   pub advances : Advances w old new t
 
-pub top_moved : (w : Stored) (n : ℕ) (old fs : List Frame) (f g : Frame) (t : Token) (room : ℕ) → Stands w fs room → left w old ≡ left w fs → work_of w (names w) fs ≤ work_of w (names w) old
-    → HasTop n fs f → suffix w f ≡ t ∷ suffix w g → IsWithin w g → g.owner ≡ f.owner → TopMoved w old (set fs (n - 1) g) t room
+pub top_moved : (w : Stored) (n : ℕ) (old fs : List Frame) (f g : Frame) (t : Token) (room : ℕ)
+    → Stands w fs room → left w old ≡ left w fs → work_of w (names w) fs ≤ work_of w (names w) old
+    → HasTop n fs f → suffix w f ≡ t ∷ suffix w g → IsWithin w g
+    → g.owner ≡ f.owner → TopMoved w old (set fs (n - 1) g) t room
 top_moved w n old fs f g t room s e m h goes i o =
     let both : fs ≡ lower n fs ++ f ∷ [] = top_read n fs f h in
     let after : set fs (n - 1) g ≡ lower n fs ++ g ∷ [] = top_written n fs f g h in
     let p = stands_lower w n fs f room s h in
     let q = Top-next w (names w) (lower n fs) f g t goes i p.1 in
     let v = OnTop-next w (names w + 1) (lower n fs) f g t goes o p.3 in
-    let top : top_rank w (names w + 1) (set fs (n - 1) g) ≡ rank w g.owner = ap (top_rank w (names w + 1)) after ∙ top_rank-push w (names w + 1) (lower n fs) g in
+    let top : top_rank w (names w + 1) (set fs (n - 1) g) ≡ rank w g.owner =
+    ap (top_rank w (names w + 1)) after ∙ top_rank-push w (names w + 1) (lower n fs) g in
     record {
       stands = Stands-push w (set fs (n - 1) g) (lower n fs) g room room after refl p.0 q.0 p.2 v.0;
-      advances = advances w old (lower n fs) (set fs (n - 1) g) f g t (e ∙ ap (left w) both) (subst (λ k. k ≤ work_of w (names w) old) (ap (work_of w (names w)) both) m) goes q.1 (subst (λ k. AreBelow w k (use_of w t)) (sym top) v.1) after;
+      advances =
+          advances w old (lower n fs) (set fs (n - 1) g) f g t (e ∙ ap (left w) both)
+          (subst (λ k. k ≤ work_of w (names w) old) (ap (work_of w (names w)) both) m)
+          goes q.1 (subst (λ k. AreBelow w k (use_of w t)) (sym top) v.1) after;
     }
 
 -- the top had come to its end
@@ -66,7 +75,8 @@ pub record TopEnded (w : Stored) (fs new : List Frame) (room : ℕ) : Type 0 whe
   pub left : left w fs ≡ left w new
   pub work : work_of w (names w) new ≤ work_of w (names w) fs
 
-pub top_ended : (w : Stored) (n : ℕ) (fs new : List Frame) (f : Frame) (room : ℕ) → Stands w fs room → HasTop n fs f → suffix w f ≡ [] → new ≡ lower n fs → TopEnded w fs new room
+pub top_ended : (w : Stored) (n : ℕ) (fs new : List Frame) (f : Frame) (room : ℕ) → Stands w fs room
+    → HasTop n fs f → suffix w f ≡ [] → new ≡ lower n fs → TopEnded w fs new room
 top_ended w n fs new f room s h none is =
     let both : fs ≡ new ++ f ∷ [] = top_read n fs f h ∙ ap (λ (x : List Frame). x ++ f ∷ []) (sym is) in
     let same = ap (work_of w (names w)) both in

@@ -31,7 +31,8 @@ pub trait Bins: Sink {
         requires { Self.failed self.old + 1 < 2 ^ 64 }
         ensures tells { Self.tells self.new ≡ Self.tells self.old }
         ensures failed { CountsDevice (Self.failed self.old) (Self.failed self.new) result }
-        ensures begun { IsTrue (Self.tells self.old) → OnOk result (Self.beside self.new ≡ with_draft name.now (Self.beside self.old)) }
+        ensures begun { IsTrue (Self.tells self.old)
+            → OnOk result (Self.beside self.new ≡ with_draft name.now (Self.beside self.old)) }
         ensures empty { IsTrue (Self.tells self.old) → OnOk result (Self.written self.new ≡ []) }
         ensures err { IsTrue (Self.tells self.old) →
             IfErr result (λ fault. Self.beside self.new ≡ refusing fault (Self.beside self.old)) };
@@ -43,13 +44,18 @@ pub trait Bins: Sink {
         ensures tells { Self.tells self.new ≡ Self.tells self.old }
         ensures failed { Counts (Self.failed self.old) (Self.failed self.new) result }
         ensures device { IfErr result (λ fault. fault ≡ BinFault.Device) }
-        ensures begun { IsTrue (Self.tells self.old) → OnOk result (IsSome (Self.beside self.old).draft) }
-        ensures ok { IsTrue (Self.tells self.old) → OnOk result (Self.beside self.new ≡ committed (Self.beside self.old) (Self.written self.old)) }
-        ensures err { IsTrue (Self.tells self.old) → OnErr result (Self.beside self.new ≡ without_draft (Self.beside self.old)) };
+        ensures begun { IsTrue (Self.tells self.old)
+            → OnOk result (IsSome (Self.beside self.old).draft) }
+        ensures ok { IsTrue (Self.tells self.old)
+            → OnOk result
+            (Self.beside self.new ≡ committed (Self.beside self.old) (Self.written self.old)) }
+        ensures err { IsTrue (Self.tells self.old)
+            → OnErr result (Self.beside self.new ≡ without_draft (Self.beside self.old)) };
 
     /// Gives the draft up; without one it changes nothing. It takes no memory.
     fn abandon_file(&mut self)
         ensures tells { Self.tells self.new ≡ Self.tells self.old }
         ensures failed { Self.failed self.new ≡ Self.failed self.old }
-        ensures gone { IsTrue (Self.tells self.old) → Self.beside self.new ≡ without_draft (Self.beside self.old) };
+        ensures gone { IsTrue (Self.tells self.old)
+            → Self.beside self.new ≡ without_draft (Self.beside self.old) };
 }

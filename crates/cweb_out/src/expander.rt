@@ -35,7 +35,8 @@ impl<'a> Expander<'a> {
     ) -> Result<Expander<'a>, AllocError>
         requires root { root < length plan.now.outputs }
         requires made { IsPlanOf store.now plan.now }
-        ensures stands { IfOk result (λ e. Stands store.now e.frames.items (vec_capacity e.frames)) }
+        ensures stands { IfOk result
+            (λ e. Stands store.now e.frames.items (vec_capacity e.frames)) }
         ensures store { IfOk result (λ e. e.store ≡ store.entry) }
         ensures plan { IfOk result (λ e. e.plan ≡ plan.entry) }
         ensures left { IfOk result (λ e. left store.now e.frames.items
@@ -55,8 +56,10 @@ impl<'a> Expander<'a> {
     pub fn restart(&mut self, root: u32)
         requires root { root < length self.old.plan.now.outputs }
         requires made { IsPlanOf self.old.store.now self.old.plan.now }
-        requires stands { Stands self.old.store.now self.old.frames.items (vec_capacity self.old.frames) }
-        ensures stands { Stands self.new.store.now self.new.frames.items (vec_capacity self.new.frames) }
+        requires stands { Stands self.old.store.now
+            self.old.frames.items (vec_capacity self.old.frames) }
+        ensures stands { Stands self.new.store.now
+            self.new.frames.items (vec_capacity self.new.frames) }
         ensures store { self.new.store ≡ self.old.store }
         ensures plan { self.new.plan ≡ self.old.plan }
         ensures left { left self.old.store.now self.new.frames.items
@@ -81,10 +84,12 @@ impl<'a> Expander<'a> {
     #[inline(always)]
     pub fn next(&mut self) -> Option<Token<'a>>
         requires { Stands self.old.store.now self.old.frames.items (vec_capacity self.old.frames) }
-        ensures stands { Stands self.new.store.now self.new.frames.items (vec_capacity self.new.frames) }
+        ensures stands { Stands self.new.store.now
+            self.new.frames.items (vec_capacity self.new.frames) }
         ensures store { self.new.store ≡ self.old.store }
         ensures plan { self.new.plan ≡ self.old.plan }
-        ensures gives { Gives (left self.old.store.now self.old.frames.items) (option_map seen result) (left self.old.store.now self.new.frames.items) }
+        ensures gives { Gives (left self.old.store.now self.old.frames.items)
+            (option_map seen result) (left self.old.store.now self.new.frames.items) }
     {
         'tokens: while let Some(token) = self.advance() {
             let Token::Name(name) = token else {
@@ -98,11 +103,14 @@ impl<'a> Expander<'a> {
     // Takes the next token of the lists as they stand, and frames that have ended away.
     fn advance(&mut self) -> Option<Token<'a>>
         requires { Stands self.old.store.now self.old.frames.items (vec_capacity self.old.frames) }
-        ensures stands { Stands self.new.store.now self.new.frames.items (vec_capacity self.new.frames) }
+        ensures stands { Stands self.new.store.now
+            self.new.frames.items (vec_capacity self.new.frames) }
         ensures store { self.new.store ≡ self.old.store }
         ensures plan { self.new.plan ≡ self.old.plan }
-        ensures some { IfSome result (λ t. Advances self.old.store.now self.old.frames.items self.new.frames.items (seen t)) }
-        ensures none { result ≡ None → (left self.old.store.now self.old.frames.items ≡ []) × (self.new.frames.items ≡ []) }
+        ensures some { IfSome result (λ t.
+            Advances self.old.store.now self.old.frames.items self.new.frames.items (seen t)) }
+        ensures none { result ≡ None
+            → (left self.old.store.now self.old.frames.items ≡ []) × (self.new.frames.items ≡ []) }
     {
         let store = self.store;
         'frames: while let Some(frame) = self.frames.last_mut() {
@@ -116,14 +124,19 @@ impl<'a> Expander<'a> {
 
     // Puts the text of a name on top, where the occurrence stands for one that has a part.
     fn enter(&mut self, name: NameRef)
-        requires stands { Stands self.old.store.now self.old.frames.items (vec_capacity self.old.frames) }
+        requires stands { Stands self.old.store.now
+            self.old.frames.items (vec_capacity self.old.frames) }
         requires some { 0 < length self.old.frames.items }
-        requires below { AreBelow self.old.store.now (level self.old.store.now self.old.frames.items) (use_of self.old.store.now (Name name)) }
+        requires below { AreBelow self.old.store.now
+            (level self.old.store.now self.old.frames.items)
+            (use_of self.old.store.now (Name name)) }
         requires lower { UsesLower self.old.store.now self.old.frames.items (Name name) }
-        ensures stands { Stands self.new.store.now self.new.frames.items (vec_capacity self.new.frames) }
+        ensures stands { Stands self.new.store.now
+            self.new.frames.items (vec_capacity self.new.frames) }
         ensures store { self.new.store ≡ self.old.store }
         ensures plan { self.new.plan ≡ self.old.plan }
-        ensures enters { Enters self.old.store.now self.old.frames.items self.new.frames.items name }
+        ensures enters { Enters self.old.store.now
+            self.old.frames.items self.new.frames.items name }
     {
         let store = self.store;
         let Some(id) = store.standing(name) else {

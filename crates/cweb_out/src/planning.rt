@@ -86,7 +86,8 @@ fn is_main(store: &Store, main: &str, name: NameId) -> bool
 
 // The first file name that is the main file's name.
 fn first_same(store: &Store, main: &str) -> Option<NameId>
-    ensures { result ≡ find (λ n. bytes_eq (name_at store.now n) main.now) (spec.files store.now.occurrences) }
+    ensures { result
+        ≡ find (λ n. bytes_eq (name_at store.now n) main.now) (spec.files store.now.occurrences) }
 {
     'files: for name in store.files() {
         if is_main(store, main, *name) {
@@ -132,7 +133,8 @@ fn outputs(
     roots: &[Option<NameId>],
 ) -> Result<Vec<Output>, PlanFault>
     requires { All (IsRoot store.now) roots.now }
-    ensures { NamesAll store.now main.now roots.now (result_map_both (λ outputs. outputs.items) (λ fault. fault) result) }
+    ensures { NamesAll store.now main.now roots.now
+        (result_map_both (λ outputs. outputs.items) (λ fault. fault) result) }
 {
     let mut outputs = Vec::new(alloc);
     'roots: for root in roots {

@@ -60,9 +60,11 @@ impl<'a> Printer<'a> {
         ensures failed { Counts (W.failed out.old) (W.failed out.new) result }
         ensures beside { IsTrue (W.tells out.old) → W.beside out.new ≡ W.beside out.old }
         ensures setting { setting_of self.new ≡ setting_of self.old }
-        ensures moves { OnOk result (Moves (kept_of self.old) (seen token.entry) (kept_of self.new)) }
+        ensures moves { OnOk result
+            (Moves (kept_of self.old) (seen token.entry) (kept_of self.new)) }
         ensures err { OnErr result (self.new ≡ self.old) }
-        ensures prints { IsTrue (W.tells out.old) → Prints self.old (seen token.entry) (W.written out.old) (W.written out.new) result }
+        ensures prints { IsTrue (W.tells out.old)
+            → Prints self.old (seen token.entry) (W.written out.old) (W.written out.new) result }
     {
         self.print(&token, out)
     }
@@ -76,7 +78,8 @@ impl<'a> Printer<'a> {
         ensures setting { setting_of self.new ≡ setting_of self.old }
         ensures left { OnOk result (leaves [] ≡ kept_of self.new) }
         ensures err { OnErr result (self.new ≡ self.old) }
-        ensures ends { IsTrue (W.tells out.old) → Ends self.old (W.written out.old) (W.written out.new) result }
+        ensures ends { IsTrue (W.tells out.old)
+            → Ends self.old (W.written out.old) (W.written out.new) result }
     {
         write_piece(out, self.begin_line())?;
         self.left = Left::start();
@@ -92,7 +95,8 @@ impl<'a> Printer<'a> {
         ensures setting { setting_of self.new ≡ setting_of self.old }
         ensures moves { OnOk result (Moves (kept_of self.old) (seen token.now) (kept_of self.new)) }
         ensures err { OnErr result (self.new ≡ self.old) }
-        ensures prints { IsTrue (W.tells out.old) → Prints self.old (seen token.now) (W.written out.old) (W.written out.new) result }
+        ensures prints { IsTrue (W.tells out.old)
+            → Prints self.old (seen token.now) (W.written out.old) (W.written out.new) result }
     {
         let Some(lent) = Lent::of(self.left, token) else {
             return self.print_other(token, out);
@@ -116,7 +120,8 @@ impl<'a> Printer<'a> {
         ensures setting { setting_of self.new ≡ setting_of self.old }
         ensures moves { OnOk result (Moves (kept_of self.old) (seen token.now) (kept_of self.new)) }
         ensures err { OnErr result (self.new ≡ self.old) }
-        ensures prints { IsTrue (W.tells out.old) → Prints self.old (seen token.now) (W.written out.old) (W.written out.new) result }
+        ensures prints { IsTrue (W.tells out.old)
+            → Prints self.old (seen token.now) (W.written out.old) (W.written out.new) result }
     {
         self.write_token(token, out)?;
         self.left = self.left.after(token);
@@ -129,7 +134,9 @@ impl<'a> Printer<'a> {
         ensures tells { W.tells out.new ≡ W.tells out.old }
         ensures failed { Counts (W.failed out.old) (W.failed out.new) result }
         ensures beside { IsTrue (W.tells out.old) → W.beside out.new ≡ W.beside out.old }
-        ensures wrote { IsTrue (W.tells out.old) → Wrote (W.written out.old) (W.written out.new) (added (file_by (setting_of self.now)) (kept_of self.now) (seen token.now)) result }
+        ensures wrote { IsTrue (W.tells out.old)
+            → Wrote (W.written out.old) (W.written out.new)
+            (added (file_by (setting_of self.now)) (kept_of self.now) (seen token.now)) result }
     {
         if self.left.drops(token) {
             return Ok(());
@@ -147,7 +154,10 @@ impl<'a> Printer<'a> {
         ensures tells { W.tells out.new ≡ W.tells out.old }
         ensures failed { Counts (W.failed out.old) (W.failed out.new) result }
         ensures beside { IsTrue (W.tells out.old) → W.beside out.new ≡ W.beside out.old }
-        ensures wrote { IsTrue (W.tells out.old) → Wrote (W.written out.old) (W.written out.new) (placed_text (setting_of self.now) (kept_of self.now).class (seen token.now)) result }
+        ensures wrote { IsTrue (W.tells out.old)
+            → Wrote (W.written out.old) (W.written out.new)
+            (placed_text (setting_of self.now) (kept_of self.now).class (seen token.now))
+            result }
     {
         match token {
             Token::Mark(place) => {

@@ -11,17 +11,26 @@ use Rattle.cweb_rules.specs.declared.rule.Rule.{Rule}
 use Rattle.cweb_rules.specs.declared.rule.TextRule.{TextRule}
 
 -- one test more
-by_test : {R : Type 0} (f : R → Front) (v : Bool) (x : R) (y : Front) (z : R) → y ≡ f z → (if v then f x else y) ≡ f (if v then x else z)
+by_test : {R : Type 0} (f : R → Front) (v : Bool) (x : R) (y : Front) (z : R)
+    → y ≡ f z → (if v then f x else y) ≡ f (if v then x else z)
 by_test f true x y z h = refl
 by_test f false x y z h = h
 
-pub c_front-by : (effect : ℕ → Effect) (takes_sign includes : Bool) (t : List ℕ) → c_front effect takes_sign includes t ≡ c_front_by effect takes_sign t (c_rule includes t)
+pub c_front-by : (effect : ℕ → Effect) (takes_sign includes : Bool) (t : List ℕ)
+    → c_front effect takes_sign includes t ≡ c_front_by effect takes_sign t (c_rule includes t)
 c_front-by effect takes_sign includes t =
     let f : Rule → Front = c_front_by effect takes_sign t in
-    by_test f (first_is is_blank t) _ _ _ (by_test f (first_is is_line_end t) _ _ _ (by_test f (begins (codes "/*") t) _ _ _
-    (by_test f (begins (codes "//") t) _ _ _ (by_test f (starts_section t) _ _ _ (by_test f (begins (codes "@") t) _ _ _
-    (by_test f (starts_raw t) _ _ _ (by_test f (starts_literal t) _ _ _ (by_test f (includes && starts_include t) _ _ _
-    (by_test f (starts_number t) _ _ _ (by_test f (first_is is_word_byte t) _ _ _ refl))))))))))
+    by_test f (first_is is_blank t) _ _ _
+    (by_test f (first_is is_line_end t) _ _ _
+    (by_test f (begins (codes "/*") t) _ _ _
+    (by_test f (begins (codes "//") t) _ _ _
+    (by_test f (starts_section t) _ _ _
+    (by_test f (begins (codes "@") t) _ _ _
+    (by_test f (starts_raw t) _ _ _
+    (by_test f (starts_literal t) _ _ _
+    (by_test f (includes && starts_include t) _ _ _
+    (by_test f (starts_number t) _ _ _
+    (by_test f (first_is is_word_byte t) _ _ _ refl))))))))))
 
 pub text_front-by : (effect : ℕ → Effect) (t : List ℕ) → text_front effect t ≡ text_front_by effect t (text_rule t)
 text_front-by effect t =

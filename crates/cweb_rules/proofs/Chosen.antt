@@ -17,7 +17,15 @@ pub data Rule : Type 0 where
   ForLiteral ForWord ForNumber ForPunct ForCode Other : Rule
 
 abbrev pub rule_of : Kind → Rule
-rule_of k = elim k [ Quoted units how ↦ ForLiteral | Identifier ↦ ForWord | Numeral ↦ ForNumber | Punctuator ↦ ForPunct | Code effect ↦ ForCode | _ ↦ Other ]
+rule_of k =
+    elim k [
+      | Quoted units how ↦ ForLiteral
+      | Identifier ↦ ForWord
+      | Numeral ↦ ForNumber
+      | Punctuator ↦ ForPunct
+      | Code effect ↦ ForCode
+      | _ ↦ Other
+    ]
 
 -- the rules before Literal don't fit
 pub record Passed (t : List ℕ) : Type 0 where
@@ -40,8 +48,12 @@ Coded t = (starts_section t ≡ false) × (begins (codes "@") t ≡ true)
 abbrev pub Facts : List ℕ → Rule → Type 0
 Facts t ForLiteral = Passed t × Opens t (starts_raw t)
 Facts t ForNumber = (Passed t × (starts_raw t ≡ false)) × (starts_literal t ≡ false) × (starts_number t ≡ true)
-Facts t ForWord = (Passed t × (starts_raw t ≡ false)) × (starts_literal t ≡ false) × (starts_number t ≡ false) × (first_is is_word_byte t ≡ true)
-Facts t ForPunct = (Passed t × (starts_raw t ≡ false)) × (starts_literal t ≡ false) × (starts_number t ≡ false) × (first_is is_word_byte t ≡ false)
+Facts t ForWord =
+    (Passed t × (starts_raw t ≡ false)) × (starts_literal t ≡ false)
+    × (starts_number t ≡ false) × (first_is is_word_byte t ≡ true)
+Facts t ForPunct =
+    (Passed t × (starts_raw t ≡ false)) × (starts_literal t ≡ false)
+    × (starts_number t ≡ false) × (first_is is_word_byte t ≡ false)
 Facts t ForCode = Coded t
 Facts t Other = Unit {0}
 
@@ -87,17 +99,42 @@ chosen t =
     let y3 = if begins (codes "//") t then line_comment_at t else y4 in
     let y2 = if begins (codes "/*") t then comment_at t else y3 in
     let y1 = if first_is is_line_end t then front LineEnd 1 else y2 in
-    choose P (first_is is_blank t) (front Blanks (prefix_len is_blank t)) y1 (λ h. tt) (λ a.
+    choose P (first_is is_blank t)
+    (front Blanks (prefix_len is_blank t)) y1 (λ h. tt) (λ a.
     choose P (first_is is_line_end t) (front LineEnd 1) y2 (λ h. tt) (λ b.
-    choose P (begins (codes "/*") t) (comment_at t) y3 (λ h. tt) (λ c.
-    choose P (begins (codes "//") t) (line_comment_at t) y4 (λ h. tt) (λ d.
-    choose P (starts_section t) (section_at t) y5 (λ h. choose P (begins (codes "@*") t) (front (Section true) 2) (front (Section false) 1) (λ i. tt) (λ i. tt)) (λ e.
-    choose P (begins (codes "@") t) (code_at in_c false t) y6 (λ h. code_facts t (e, h)) (λ f.
-    let passed : Passed t = record { blank = a; line_end = b; comment = c; line_comment = d; section = e; code = f } in
-    choose P (starts_raw t) (raw_at t) y7 (λ h. (passed, subst (Opens t) (sym h) h)) (λ w.
-    choose P (starts_literal t) (literal_at t) y8 (λ h. (passed, subst (Opens t) (sym w) (w, h))) (λ q.
-    choose P (starts_number t) (front Numeral (number_len 0 t)) y9 (λ h. ((passed, w), q, h)) (λ m.
-    choose P (first_is is_word_byte t) words puncts (λ h. ((passed, w), q, m, h)) (λ v. ((passed, w), q, m, v)))))))))))
+    choose P (begins (codes "/*") t)
+    (comment_at t) y3 (λ h. tt) (λ c.
+    choose P (begins (codes "//") t)
+    (line_comment_at t) y4 (λ h. tt) (λ d.
+    choose P (starts_section t)
+    (section_at t) y5 (λ h.
+    choose P (begins (codes "@*") t) (front (Section true) 2)
+    (front (Section false) 1) (λ i. tt) (λ i. tt))
+    (λ e.
+    choose P (begins (codes "@") t) (code_at in_c false t)
+    y6 (λ h. code_facts t (e, h)) (λ f.
+    let passed : Passed t =
+    record {
+      blank = a;
+      line_end = b;
+      comment = c;
+      line_comment = d;
+      section = e;
+      code = f;
+    } in
+    choose P (starts_raw t) (raw_at t) y7
+    (λ h. (passed, subst (Opens t) (sym h) h))
+    (λ w.
+    choose P (starts_literal t) (literal_at t) y8
+    (λ h. (passed, subst (Opens t) (sym w) (w, h)))
+    (λ q.
+    choose P (starts_number t)
+    (front Numeral (number_len 0 t))
+    y9 (λ h. ((passed, w), q, h))
+    (λ m.
+    choose P (first_is is_word_byte t) words
+    puncts (λ h. ((passed, w), q, m, h))
+    (λ v. ((passed, w), q, m, v)))))))))))
 
 abbrev pub after_literals : List ℕ → Front
 after_literals t =

@@ -17,12 +17,16 @@ is_named Named = true
 is_named e = false
 
 -- a code that has an effect stands in a row that has it
-row-named : (col : Row → Effect) (rs : List Row) (l : ℕ) → col (row_of [] l) ≡ Nothing → is_named (col (row_of rs l)) ≡ true → list_any (λ r. is_named (col r) && is_one_of r.letters l) rs ≡ true
+row-named : (col : Row → Effect) (rs : List Row) (l : ℕ) → col (row_of [] l) ≡ Nothing
+    → is_named (col (row_of rs l)) ≡ true → list_any (λ r. is_named (col r) && is_one_of r.letters l) rs ≡ true
 row-named col [] l none h = sym (ap is_named none) ∙ h
-row-named col (r ∷ rs) l none h = (elim (is_one_of r.letters l) as (λ v. is_named (col (if v then r else row_of rs l)) ≡ true → ((is_named (col r) && v) || list_any (λ r. is_named (col r) && is_one_of r.letters l) rs) ≡ true) [
-  | true ↦ λ g. ap (λ v. (v && true) || list_any (λ r. is_named (col r) && is_one_of r.letters l) rs) g
-  | false ↦ λ g. or_right (is_named (col r) && false) _ (row-named col rs l none g)
-]) h
+row-named col (r ∷ rs) l none h =
+    (elim (is_one_of r.letters l) as (λ v.
+    is_named (col (if v then r else row_of rs l)) ≡ true
+    → ((is_named (col r) && v) || list_any (λ r. is_named (col r) && is_one_of r.letters l) rs) ≡ true) [
+      | true ↦ λ g. ap (λ v. (v && true) || list_any (λ r. is_named (col r) && is_one_of r.letters l) rs) g
+      | false ↦ λ g. or_right (is_named (col r) && false) _ (row-named col rs l none g)
+    ]) h
   where
     or_right : (a b : Bool) → b ≡ true → (a || b) ≡ true
     or_right true b h = refl
@@ -34,14 +38,18 @@ or_elim false b c h f g = g h
 
 -- letters in upper case are none of the two
 lowered : (n b : ℕ) → n < 97 → (n == lower b) ≡ true → (n == b) ≡ true
-lowered n b small h = (elim (is_between 65 90 b) as (λ v. is_between 65 90 b ≡ v → (n == (if v then b + 32 else b)) ≡ true → (n == b) ≡ true) [
-  | true ↦ λ e g. absurd (omega (arith, small, eqb-true n (b + 32) g, leb-true 65 b (both (nat_le 65 b) (nat_le b 90) e).0))
-  | false ↦ λ e g. g
-]) refl h
+lowered n b small h =
+    (elim (is_between 65 90 b)
+    as (λ v. is_between 65 90 b ≡ v → (n == (if v then b + 32 else b)) ≡ true → (n == b) ≡ true) [
+      | true ↦ λ e g.
+          absurd (omega (arith, small, eqb-true n (b + 32) g, leb-true 65 b (both (nat_le 65 b) (nat_le b 90) e).0))
+      | false ↦ λ e g. g
+    ]) refl h
 
 two : (b : ℕ) → ((60 == lower b) || ((40 == lower b) || false)) ≡ true → ((60 == b) || (40 == b)) ≡ true
 two b h =
-    or_elim (60 == lower b) ((40 == lower b) || false) _ h (λ g. ap (λ v. v || (40 == b)) (lowered 60 b (omega arith) g))
+    or_elim (60 == lower b) ((40 == lower b) || false) _ h
+    (λ g. ap (λ v. v || (40 == b)) (lowered 60 b (omega arith) g))
     (λ g. or_elim (40 == lower b) false _ g (λ k. or_true (60 == b) (40 == b) (lowered 40 b (omega arith) k)) (λ k. cc))
   where
     or_true : (a b : Bool) → b ≡ true → (a || b) ≡ true
@@ -81,24 +89,28 @@ clash true y h f g = f
 clash false true h f g = g
 clash false false h f g = sym h
 
-pub code_closed : (effect : ℕ → Effect) → IsNamedAt effect → (u : List ℕ) → begins (codes "@") u ≡ true → begins (codes "@<") u ≡ false → begins (codes "@(") u ≡ false → opens_code effect u ≡ false
+pub code_closed : (effect : ℕ → Effect) → IsNamedAt effect → (u : List ℕ) → begins (codes "@") u ≡ true
+    → begins (codes "@<") u ≡ false → begins (codes "@(") u ≡ false → opens_code effect u ≡ false
 code_closed effect named [] at angle round = refl
 code_closed effect named (a ∷ []) at angle round = refl
-code_closed effect named (a ∷ b ∷ t) at angle round = (elim (is_named (effect b)) as (λ v. is_named (effect b) ≡ v → opens_effect (effect b) (a ∷ b ∷ t) ≡ false) [
-  | true ↦ λ h.
-      let e : (64 == a) ≡ true = (both (64 == a) true at).0 in
-      let f : ((60 == b) && true) ≡ false = sym (ap (λ v. v && ((60 == b) && true)) e) ∙ angle in
-      let g : ((40 == b) && true) ≡ false = sym (ap (λ v. v && ((40 == b) && true)) e) ∙ round in
-      let wrong : true ≡ false = clash (60 == b) (40 == b) (named b h) f g in cc
-  | false ↦ λ h. unnamed (effect b) (a ∷ b ∷ t) h
-]) refl
+code_closed effect named (a ∷ b ∷ t) at angle round =
+    (elim (is_named (effect b)) as (λ v. is_named (effect b) ≡ v → opens_effect (effect b) (a ∷ b ∷ t) ≡ false) [
+      | true ↦ λ h.
+          let e : (64 == a) ≡ true = (both (64 == a) true at).0 in
+          let f : ((60 == b) && true) ≡ false = sym (ap (λ v. v && ((60 == b) && true)) e) ∙ angle in
+          let g : ((40 == b) && true) ≡ false = sym (ap (λ v. v && ((40 == b) && true)) e) ∙ round in
+          let wrong : true ≡ false = clash (60 == b) (40 == b) (named b h) f g in cc
+      | false ↦ λ h. unnamed (effect b) (a ∷ b ∷ t) h
+    ]) refl
 
 flat : (v x y : Bool) → (v ≡ true → x ≡ false) → (v ≡ false → y ≡ false) → (if v then x else y) ≡ false
 flat true x y f g = f refl
 flat false x y f g = g refl
 
 -- where the code has seen no `/*`, `@<`, `@(`, `R"` and quote
-pub c_closed : (effect : ℕ → Effect) → IsNamedAt effect → (u : List ℕ) → begins (codes "/*") u ≡ false → begins (codes "@<") u ≡ false → begins (codes "@(") u ≡ false → starts_raw u ≡ false → starts_literal u ≡ false → c_opens effect u ≡ false
+pub c_closed : (effect : ℕ → Effect) → IsNamedAt effect → (u : List ℕ)
+    → begins (codes "/*") u ≡ false → begins (codes "@<") u ≡ false → begins (codes "@(") u ≡ false
+    → starts_raw u ≡ false → starts_literal u ≡ false → c_opens effect u ≡ false
 c_closed effect named u comment angle round raw quote =
     flat (first_is is_blank u) false _ (λ v. refl) (λ v. flat (first_is is_line_end u) false _ (λ w. refl)
     (λ w. flat (begins (codes "/*") u) (opens_comment u) _ (λ x. let wrong : true ≡ false = sym x ∙ comment in cc)
@@ -107,9 +119,12 @@ c_closed effect named u comment angle round raw quote =
     (λ y. flat (begins (codes "@") u) (opens_code effect u) _ (λ z. code_closed effect named u z angle round)
     (λ z. (λ i. if raw i then opens_raw u else (if quote i then opens_literal u else false))))))))
 
-pub text_closed : (effect : ℕ → Effect) → IsNamedAt effect → (u : List ℕ) → begins (codes "@<") u ≡ false → begins (codes "@(") u ≡ false → text_opens effect u ≡ false
+pub text_closed : (effect : ℕ → Effect) → IsNamedAt effect → (u : List ℕ)
+    → begins (codes "@<") u ≡ false → begins (codes "@(") u ≡ false → text_opens effect u ≡ false
 text_closed effect named u angle round =
-    flat (starts_section u) false _ (λ v. refl) (λ v. flat (begins (codes "@") u) (opens_code effect u) false (λ z. code_closed effect named u z angle round) (λ z. refl))
+    flat (starts_section u) false _ (λ v. refl) (λ v.
+    flat (begins (codes "@") u) (opens_code effect u) false
+    (λ z. code_closed effect named u z angle round) (λ z. refl))
 
 pick : (v : Bool) (x y : Effect) → is_named x ≡ false → is_named y ≡ false → is_named (if v then x else y) ≡ false
 pick true x y f g = f
@@ -119,5 +134,6 @@ pick false x y f g = g
 pub limbo_named : IsNamedAt in_limbo
 limbo_named b h =
     let f : is_named (in_limbo b) ≡ false =
-    pick (is_one_of (codes "@fs") (lower b)) _ _ refl (pick (is_one_of (codes "q") (lower b)) _ _ refl (pick (is_one_of (codes "l") (lower b)) _ _ refl refl)) in
+    pick (is_one_of (codes "@fs") (lower b)) _ _ refl
+    (pick (is_one_of (codes "q") (lower b)) _ _ refl (pick (is_one_of (codes "l") (lower b)) _ _ refl refl)) in
     let wrong : true ≡ false = sym h ∙ f in cc

@@ -18,12 +18,18 @@ use Rattle.cweb_rules.proofs.Stays.{passes, opening, opens, is_letter_first}
 -- UP TO ITS QUOTE
 
 abbrev seen : Bool → Bool → Bool → Bool → Look
-seen closes cut escaped pair = cond closes (Ends 1 Closed) (cond cut (Ends 0 Cut) (cond escaped (Goes 1) (cond pair (Goes 2) (Goes 1))))
+seen closes cut escaped pair =
+    cond closes (Ends 1 Closed) (cond cut (Ends 0 Cut) (cond escaped (Goes 1) (cond pair (Goes 2) (Goes 1))))
 
 abbrev at_front : (List ℕ → Look) → Look → List ℕ → List ℕ → Reach
-at_front look v u w = elim v [ Goes n ↦ with_unit (take n u) (reach_in look Cut (n - 1) w) | Ends n how ↦ record { units = []; close = n; how = how } ]
+at_front look v u w =
+    elim v [
+      | Goes n ↦ with_unit (take n u) (reach_in look Cut (n - 1) w)
+      | Ends n how ↦ record { units = []; close = n; how = how }
+    ]
 
-last_byte : (look : List ℕ → Look) (q e x p x' p' : Bool) (b : ℕ) (more : List ℕ) → (at_front look (seen q e x p) (b ∷ []) []).how ≡ Closed
+last_byte : (look : List ℕ → Look) (q e x p x' p' : Bool) (b : ℕ) (more : List ℕ)
+    → (at_front look (seen q e x p) (b ∷ []) []).how ≡ Closed
     → at_front look (seen q e x' p') (b ∷ more) more ≡ at_front look (seen q e x p) (b ∷ []) []
 last_byte look true e x p x' p' b more h = refl
 last_byte look false true x p x' p' b more h = cc
@@ -31,9 +37,12 @@ last_byte look false false true p x' p' b more h = cc
 last_byte look false false false true x' p' b more h = cc
 last_byte look false false false false x' p' b more h = cc
 
-further_byte : (look : List ℕ → Look) (q e x p : Bool) (b c : ℕ) (t more : List ℕ) → (at_front look (seen q e x p) (b ∷ c ∷ t) (c ∷ t)).how ≡ Closed
-    → ((k : ℕ) → (reach_in look Cut k (c ∷ t)).how ≡ Closed → reach_in look Cut k (c ∷ t ++ more) ≡ reach_in look Cut k (c ∷ t))
-    → at_front look (seen q e x p) (b ∷ c ∷ t ++ more) (c ∷ t ++ more) ≡ at_front look (seen q e x p) (b ∷ c ∷ t) (c ∷ t)
+further_byte : (look : List ℕ → Look) (q e x p : Bool) (b c : ℕ) (t more : List ℕ)
+    → (at_front look (seen q e x p) (b ∷ c ∷ t) (c ∷ t)).how ≡ Closed
+    → ((k : ℕ) → (reach_in look Cut k (c ∷ t)).how ≡ Closed
+    → reach_in look Cut k (c ∷ t ++ more) ≡ reach_in look Cut k (c ∷ t))
+    → at_front look (seen q e x p) (b ∷ c ∷ t ++ more) (c ∷ t ++ more)
+    ≡ at_front look (seen q e x p) (b ∷ c ∷ t) (c ∷ t)
 further_byte look true e x p b c t more h ih = refl
 further_byte look false true x p b c t more h ih = refl
 further_byte look false false true p b c t more h ih = ap (with_unit (b ∷ [])) (ih 0 h)
@@ -46,12 +55,14 @@ closed_stays quote k [] more h = cc
 closed_stays quote (suc k) (b ∷ t) more h = closed_stays quote k t more h
 closed_stays quote zero (b ∷ []) more h =
     let look = look_in_literal quote in
-    last_byte look (begins (quote ∷ []) (b ∷ [])) (at_line_end (b ∷ [])) (begins (codes "\\@") (b ∷ [])) (begins (codes "\\") (b ∷ []) || begins (codes "@@") (b ∷ []))
+    last_byte look (begins (quote ∷ []) (b ∷ [])) (at_line_end (b ∷ []))
+    (begins (codes "\\@") (b ∷ [])) (begins (codes "\\") (b ∷ []) || begins (codes "@@") (b ∷ []))
     (begins (codes "\\@") (b ∷ more)) (begins (codes "\\") (b ∷ more) || begins (codes "@@") (b ∷ more)) b more h
 closed_stays quote zero (b ∷ c ∷ t) more h =
     let look = look_in_literal quote in
     let u = b ∷ c ∷ t in
-    further_byte look (begins (quote ∷ []) u) (at_line_end u) (begins (codes "\\@") u) (begins (codes "\\") u || begins (codes "@@") u) b c t more h
+    further_byte look (begins (quote ∷ []) u) (at_line_end u) (begins (codes "\\@") u)
+    (begins (codes "\\") u || begins (codes "@@") u) b c t more h
     (λ k g. closed_stays quote k (c ∷ t) more g)
 
 -- ITS PREFIX
@@ -72,7 +83,8 @@ prefix_of v w = if v then 2 else (if w then 1 else 0)
 quote_first : (b : ℕ) (t u : List ℕ) → is_quoted 0 (b ∷ []) ≡ true → literal_prefix (b ∷ t) ≡ literal_prefix (b ∷ u)
 quote_first b t u h = is_a_quote b (λ n. literal_prefix (n ∷ t) ≡ literal_prefix (n ∷ u)) h refl refl
 
-prefix_one : (b : ℕ) (more : List ℕ) (c : ℕ) → is_quoted 0 (c ∷ []) ≡ true → literal_prefix (b ∷ c ∷ more) ≡ literal_prefix (b ∷ c ∷ [])
+prefix_one : (b : ℕ) (more : List ℕ) (c : ℕ) → is_quoted 0 (c ∷ []) ≡ true
+    → literal_prefix (b ∷ c ∷ more) ≡ literal_prefix (b ∷ c ∷ [])
 prefix_one b more c h =
     is_a_quote c (λ n. literal_prefix (b ∷ n ∷ more) ≡ literal_prefix (b ∷ n ∷ [])) h
     (ap (λ v. prefix_of (v && is_quoted 2 (b ∷ 34 ∷ more)) (is_letter_first (b ∷ []) && true)) (and_false (117 == b))
@@ -80,12 +92,14 @@ prefix_one b more c h =
     (ap (λ v. prefix_of (v && is_quoted 2 (b ∷ 39 ∷ more)) (is_letter_first (b ∷ []) && true)) (and_false (117 == b))
     ∙ sym (ap (λ v. prefix_of (v && false) (is_letter_first (b ∷ []) && true)) (and_false (117 == b))))
 
-by_second : (letter q1 q0 : Bool) (P : Type 0) → cond (letter && q1) q1 q0 ≡ true → (q1 ≡ true → P) → (q0 ≡ true → P) → P
+by_second : (letter q1 q0 : Bool) (P : Type 0)
+    → cond (letter && q1) q1 q0 ≡ true → (q1 ≡ true → P) → (q0 ≡ true → P) → P
 by_second true true q0 P h f g = f refl
 by_second true false q0 P h f g = g h
 by_second false q1 q0 P h f g = g h
 
-prefix_stays : (b : ℕ) (t more : List ℕ) → starts_literal (b ∷ t) ≡ true → literal_prefix (b ∷ t ++ more) ≡ literal_prefix (b ∷ t)
+prefix_stays : (b : ℕ) (t more : List ℕ) → starts_literal (b ∷ t) ≡ true
+    → literal_prefix (b ∷ t ++ more) ≡ literal_prefix (b ∷ t)
 prefix_stays b [] more h =
     let t = b ∷ [] in
     let e : is_quoted 0 t ≡ true =
@@ -96,16 +110,19 @@ prefix_stays b [] more h =
 prefix_stays b (c ∷ []) more h =
     let t = b ∷ c ∷ [] in
     let e : cond (is_letter_first t && is_quoted 1 t) (is_quoted 1 t) (is_quoted 0 t) ≡ true =
-    sym (ap (λ v. cond v false (cond (is_letter_first t && is_quoted 1 t) (is_quoted 1 t) (is_quoted 0 t))) (and_false (begins (codes "u8") t)))
+    sym (ap (λ v. cond v false (cond (is_letter_first t && is_quoted 1 t) (is_quoted 1 t) (is_quoted 0 t)))
+    (and_false (begins (codes "u8") t)))
     ∙ sym (opening t) ∙ h in
-    by_second (is_letter_first t) (is_quoted 1 t) (is_quoted 0 t) (literal_prefix (b ∷ c ∷ more) ≡ literal_prefix (b ∷ c ∷ [])) e
+    by_second (is_letter_first t) (is_quoted 1 t) (is_quoted 0 t)
+    (literal_prefix (b ∷ c ∷ more) ≡ literal_prefix (b ∷ c ∷ [])) e
     (λ q. prefix_one b more c q)
     (λ q. quote_first b (c ∷ more) (c ∷ []) q)
 prefix_stays b (c ∷ e ∷ t) more h = refl
 
 -- THE WHOLE LITERAL
 
-quote_within : (n : ℕ) (t more : List ℕ) → is_quoted n t ≡ true → (n < length t) × (is_quoted n (t ++ more) ≡ true) × (quote_of (drop n (t ++ more)) ≡ quote_of (drop n t))
+quote_within : (n : ℕ) (t more : List ℕ) → is_quoted n t ≡ true
+    → (n < length t) × (is_quoted n (t ++ more) ≡ true) × (quote_of (drop n (t ++ more)) ≡ quote_of (drop n t))
 quote_within zero [] more h = cc
 quote_within (suc n) [] more h = cc
 quote_within zero (b ∷ t) more h = (omega arith, h, refl)
@@ -114,7 +131,8 @@ quote_within (suc n) (b ∷ t) more h = let i = quote_within n t more h in (omeg
 abbrev pub inside : ℕ → List ℕ → Reach
 inside n t = literal (quote_of (drop n t)) (drop (n + 1) t)
 
-literal_with : (n : ℕ) (t more : List ℕ) → is_quoted n t ≡ true → (inside n t).how ≡ Closed → (n + 1) + size_of (inside n t) ≤ length t
+literal_with : (n : ℕ) (t more : List ℕ) → is_quoted n t ≡ true
+    → (inside n t).how ≡ Closed → (n + 1) + size_of (inside n t) ≤ length t
     → quoted (n + 1) (inside n (t ++ more)) (t ++ more) ≡ quoted (n + 1) (inside n t) t
 literal_with n t more q closed within =
     let w = quote_within n t more q in
@@ -131,11 +149,14 @@ not_slash b t h =
       | false ↦ λ e. refl
     ] refl
 
-pub literal_front : (t : List ℕ) → Passed t → starts_raw t ≡ false → starts_literal t ≡ true → c_front in_c false false t ≡ literal_at t
-literal_front t p r q = passed_front t p ∙ (λ i. if r i then raw_at t else (if q i then literal_at t else after_literals t))
+pub literal_front : (t : List ℕ) → Passed t → starts_raw t ≡ false
+    → starts_literal t ≡ true → c_front in_c false false t ≡ literal_at t
+literal_front t p r q =
+    passed_front t p ∙ (λ i. if r i then raw_at t else (if q i then literal_at t else after_literals t))
 
 pub raw_front : (t : List ℕ) → Passed t → starts_raw t ≡ true → c_front in_c false false t ≡ raw_at t
-raw_front t p r = passed_front t p ∙ ap (λ v. if v then raw_at t else (if starts_literal t then literal_at t else after_literals t)) r
+raw_front t p r =
+    passed_front t p ∙ ap (λ v. if v then raw_at t else (if starts_literal t then literal_at t else after_literals t)) r
 
 abbrev pub ends_closed : List ℕ → Type 0
 ends_closed t = let n = literal_prefix t in ((inside n t).how ≡ Closed) × ((n + 1) + size_of (inside n t) ≤ length t)
@@ -144,7 +165,8 @@ ends_closed t = let n = literal_prefix t in ((inside n t).how ≡ Closed) × ((n
 quote_no_raw : (b : ℕ) (t : List ℕ) → is_quoted 0 (b ∷ []) ≡ true → starts_raw (b ∷ t) ≡ false
 quote_no_raw b t h = is_a_quote b (λ n. starts_raw (n ∷ t) ≡ false) h refl refl
 
-by_prefix : (u8 letter q2 q1 q0 : Bool) (P : Type 0) → opens u8 letter q2 q1 q0 ≡ true → (u8 ≡ true → q2 ≡ true → P) → (letter ≡ true → q1 ≡ true → P) → (q0 ≡ true → P) → P
+by_prefix : (u8 letter q2 q1 q0 : Bool) (P : Type 0) → opens u8 letter q2 q1 q0 ≡ true
+    → (u8 ≡ true → q2 ≡ true → P) → (letter ≡ true → q1 ≡ true → P) → (q0 ≡ true → P) → P
 by_prefix true letter true q1 q0 P h f g k = f refl refl
 by_prefix true true false true q0 P h f g k = g refl refl
 by_prefix true true false false q0 P h f g k = k h
@@ -160,7 +182,9 @@ after_u8 (b ∷ c ∷ []) u q = cc
 after_u8 (b ∷ c ∷ e ∷ t) u q =
     let h = both (117 == b) ((56 == c) && true) u in
     let at : (n : ℕ) → starts_raw (117 ∷ 56 ∷ n ∷ t) ≡ false → starts_raw (b ∷ c ∷ n ∷ t) ≡ false =
-    λ n r. subst (λ x. starts_raw (x ∷ c ∷ n ∷ t) ≡ false) (eqb-true 117 b h.0) (subst (λ y. starts_raw (117 ∷ y ∷ n ∷ t) ≡ false) (eqb-true 56 c (both (56 == c) true h.1).0) r) in
+    λ n r.
+    subst (λ x. starts_raw (x ∷ c ∷ n ∷ t) ≡ false) (eqb-true 117 b h.0)
+    (subst (λ y. starts_raw (117 ∷ y ∷ n ∷ t) ≡ false) (eqb-true 56 c (both (56 == c) true h.1).0) r) in
     is_a_quote e (λ n. starts_raw (b ∷ c ∷ n ∷ t) ≡ false) q (at 34 refl) (at 39 refl)
 
 after_letter : (t : List ℕ) → is_letter_first t ≡ true → is_quoted 1 t ≡ true → starts_raw t ≡ false
@@ -182,16 +206,20 @@ after_quote (b ∷ t) q = quote_no_raw b t q
 
 literal_not_raw : (t : List ℕ) → starts_literal t ≡ true → starts_raw t ≡ false
 literal_not_raw t h =
-    by_prefix (begins (codes "u8") t) (is_letter_first t) (is_quoted 2 t) (is_quoted 1 t) (is_quoted 0 t) (starts_raw t ≡ false) (sym (opening t) ∙ h)
+    by_prefix (begins (codes "u8") t) (is_letter_first t) (is_quoted 2 t)
+    (is_quoted 1 t) (is_quoted 0 t) (starts_raw t ≡ false) (sym (opening t) ∙ h)
     (after_u8 t) (after_letter t) (after_quote t)
 
 -- a literal that isn't raw doesn't become raw: its prefix ends in a quote
-pub literal_stays_whole : (b : ℕ) (t more : List ℕ) → Passed (b ∷ t) → starts_raw (b ∷ t) ≡ false → starts_literal (b ∷ t) ≡ true → ends_closed (b ∷ t) → c_front in_c false false (b ∷ t ++ more) ≡ c_front in_c false false (b ∷ t)
+pub literal_stays_whole : (b : ℕ) (t more : List ℕ) → Passed (b ∷ t)
+    → starts_raw (b ∷ t) ≡ false → starts_literal (b ∷ t) ≡ true → ends_closed (b ∷ t)
+    → c_front in_c false false (b ∷ t ++ more) ≡ c_front in_c false false (b ∷ t)
 literal_stays_whole b t more p r q ends =
     let d = b ∷ t in
     let n = literal_prefix d in
     let same = prefix_stays b t more q in
-    let starts : starts_literal (d ++ more) ≡ true = ap (λ k. is_quoted k (d ++ more)) same ∙ (quote_within n d more q).1 in
+    let starts : starts_literal (d ++ more) ≡ true =
+    ap (λ k. is_quoted k (d ++ more)) same ∙ (quote_within n d more q).1 in
     literal_front (d ++ more) (passes b t more (not_slash b t q) p) (literal_not_raw (d ++ more) starts) starts
     ∙ ap (λ k. quoted (k + 1) (inside k (d ++ more)) (d ++ more)) same
     ∙ literal_with n d more q ends.0 ends.1
@@ -204,7 +232,8 @@ no_raw_slash b t h =
       | false ↦ λ e. refl
     ] refl
 
-pub raw_stays_whole : (b : ℕ) (t more : List ℕ) → Passed (b ∷ t) → starts_raw (b ∷ t) ≡ true → ends_raw (b ∷ t) → c_front in_c false false (b ∷ t ++ more) ≡ c_front in_c false false (b ∷ t)
+pub raw_stays_whole : (b : ℕ) (t more : List ℕ) → Passed (b ∷ t) → starts_raw (b ∷ t) ≡ true
+    → ends_raw (b ∷ t) → c_front in_c false false (b ∷ t ++ more) ≡ c_front in_c false false (b ∷ t)
 raw_stays_whole b t more p r ends =
     let d = b ∷ t in
     let s = raw_stays d more r ends in

@@ -37,7 +37,11 @@ abbrev ended : List ℕ → Reach
 ended x = record { units = map (λ b. b ∷ []) x; close = 2; how = Closed }
 
 abbrev at_front : Look → List ℕ → List ℕ → Reach
-at_front v u w = elim v [ Goes n ↦ with_unit (take n u) (reach_in look Cut (n - 1) w) | Ends n how ↦ record { units = []; close = n; how = how } ]
+at_front v u w =
+    elim v [
+      | Goes n ↦ with_unit (take n u) (reach_in look Cut (n - 1) w)
+      | Ends n how ↦ record { units = []; close = n; how = how }
+    ]
 
 comment_ends : (x more : List ℕ) → list_all is_quiet x ≡ true → reach_in look Cut 0 (x ++ 42 ∷ 47 ∷ more) ≡ ended x
 comment_ends [] more h = refl
@@ -51,7 +55,8 @@ singles [] = refl
 singles (b ∷ x) = ap (λ t. b ∷ t) (singles x)
 
 -- a comment of quiet bytes is read alike, whatever follows
-pub comment_front : (x more : List ℕ) → list_all is_quiet x ≡ true → c_front in_c false false (47 ∷ 42 ∷ x ++ 42 ∷ 47 ∷ more) ≡ front (Comment Closed) (2 + (length x + 2))
+pub comment_front : (x more : List ℕ) → list_all is_quiet x ≡ true
+    → c_front in_c false false (47 ∷ 42 ∷ x ++ 42 ∷ 47 ∷ more) ≡ front (Comment Closed) (2 + (length x + 2))
 comment_front x more h =
     ap (λ r. front (Comment r.how) (2 + size_of r)) (comment_ends x more h)
     ∙ ap (λ t. front (Comment Closed) (2 + (length t + 2))) (singles x)

@@ -27,16 +27,19 @@ use Rattle.cweb_rules.specs.Fronts.{front_in}
 use Rattle.cweb_rules.specs.Pays.{at_line_ends, Pays, Fair}
 use Rattle.cweb_rules.proofs.Sizes.{take-at_most, begins-size, units-text, reach-size, control-within, name-within, comment-within, literal-within, include-within, raw-within, sign_after-size, IsShort, constant-size, IsLetter, letter-size, number-size, longest-some, longest-size}
 
-fair_of : (c : Context) (t : List ℕ) (k : Kind) (n : ℕ) → 0 < n → n ≤ length t → (length (take n t) ≡ n → Pays c k (take n t)) → Fair c t (front k n)
+fair_of : (c : Context) (t : List ℕ) (k : Kind) (n : ℕ) → 0 < n → n ≤ length t
+    → (length (take n t) ≡ n → Pays c k (take n t)) → Fair c t (front k n)
 fair_of c t k n some within pays = record { some = some; within = within; pays = pays (length-take-le n t within) }
 
 -- the first rule that fits
-choose : (c : Context) (t : List ℕ) (v : Bool) (x y : Front) → (v ≡ true → Fair c t x) → (v ≡ false → Fair c t y) → Fair c t (if v then x else y)
+choose : (c : Context) (t : List ℕ) (v : Bool) (x y : Front) → (v ≡ true → Fair c t x)
+    → (v ≡ false → Fair c t y) → Fair c t (if v then x else y)
 choose c t true x y f g = f refl
 choose c t false x y f g = g refl
 
 section_at-fair : (c : Context) (b : ℕ) (t : List ℕ) → Fair c (b ∷ t) (section_at (b ∷ t))
-section_at-fair c b t = choose c (b ∷ t) (begins (codes "@*") (b ∷ t)) (front (Section true) 2) (front (Section false) 1)
+section_at-fair c b t =
+    choose c (b ∷ t) (begins (codes "@*") (b ∷ t)) (front (Section true) 2) (front (Section false) 1)
     (λ h. fair_of c (b ∷ t) (Section true) 2 (omega arith) (begins-size (codes "@*") (b ∷ t) h) (λ e. omega (arith, e)))
     (λ h. fair_of c (b ∷ t) (Section false) 1 (omega arith) (omega arith) (λ e. omega (arith, e)))
 
@@ -55,14 +58,18 @@ module _ (c : Context) (a b : ℕ) (u : List ℕ) where
   control_at-fair : Fair c t (control_at t)
   control_at-fair =
       let r = control_text u in
-      fair_of c t (ControlText r.how) (2 + size_of r) (omega arith) (omega (arith, reach-size look_in_control Cut control-within u)) (λ e. tt)
+      fair_of c t (ControlText r.how) (2 + size_of r) (omega arith)
+      (omega (arith, reach-size look_in_control Cut control-within u)) (λ e. tt)
 
   verbatim_at-fair : Fair c t (verbatim_at t)
   verbatim_at-fair =
       let r = control_text u in
-      fair_of c t (Verbatim r.units r.how) (2 + size_of r) (omega arith) (omega (arith, reach-size look_in_control Cut control-within u)) (λ e. (omega (arith, e), omega (arith, e, units-text r.units)))
+      fair_of c t (Verbatim r.units r.how) (2 + size_of r) (omega arith)
+      (omega (arith, reach-size look_in_control Cut control-within u))
+      (λ e. (omega (arith, e), omega (arith, e, units-text r.units)))
 
-  constant_pays : (o : Option ℕ) (n : ℕ) (bytes : List ℕ) → IsShort o n → 0 < n → length bytes ≡ n → Pays c (Constant o) bytes
+  constant_pays : (o : Option ℕ) (n : ℕ) (bytes : List ℕ) → IsShort o n
+      → 0 < n → length bytes ≡ n → Pays c (Constant o) bytes
   constant_pays None n bytes h some e = tt
   constant_pays (Some m) n bytes h some e = (omega (arith, some, e), omega (arith, h, e))
 
@@ -70,9 +77,11 @@ module _ (c : Context) (a b : ℕ) (u : List ℕ) where
   constant_at-fair =
       let v = constant u in
       let h = constant-size u in
-      fair_of c t (Constant v.value) (2 + v.size) (omega arith) (omega (arith, h.0)) (λ e. constant_pays v.value (2 + v.size) (take (2 + v.size) t) h.1 (omega arith) e)
+      fair_of c t (Constant v.value) (2 + v.size) (omega arith) (omega (arith, h.0))
+      (λ e. constant_pays v.value (2 + v.size) (take (2 + v.size) t) h.1 (omega arith) e)
 
-  text_pays : (byte : ℕ) (v : Bool) (text bytes : List ℕ) → length text ≤ length bytes → Pays c (Letter byte (if v then Some text else None)) bytes
+  text_pays : (byte : ℕ) (v : Bool) (text bytes : List ℕ) → length text ≤ length bytes
+      → Pays c (Letter byte (if v then Some text else None)) bytes
   text_pays byte true text bytes h = h
   text_pays byte false text bytes h = tt
 
@@ -82,7 +91,9 @@ module _ (c : Context) (a b : ℕ) (u : List ℕ) where
       let n = 2 + (l.start + l.size) in
       let text = take l.size (drop (2 + l.start) t) in
       fair_of c t _ n (omega arith) (omega (arith, h))
-      (λ e. text_pays l.byte (nat_le l.size 31) text (take n t) (omega (arith, e, take-at_most l.size (drop (2 + l.start) t))))
+      (λ e.
+      text_pays l.byte (nat_le l.size 31) text (take n t)
+      (omega (arith, e, take-at_most l.size (drop (2 + l.start) t))))
 
   letter_at-fair : Fair c t (letter_at t)
   letter_at-fair = letter_is-fair (letter u) (letter-size u)
@@ -93,12 +104,14 @@ module _ (c : Context) (a b : ℕ) (u : List ℕ) where
       let size = 2 + size_of r in
       let within = reach-size look_in_name Cut name-within u in
       let sign = sign_after r.how (drop size t) in
-      fair_of c t (Occurrence (begins (codes "@(") t) r.units r.how (nat_lt 0 sign)) (size + sign) (omega arith) (omega (arith, within, sign_after-size r.how (drop size t), length-drop size t))
+      fair_of c t (Occurrence (begins (codes "@(") t) r.units r.how (nat_lt 0 sign)) (size + sign)
+      (omega arith) (omega (arith, within, sign_after-size r.how (drop size t), length-drop size t))
       (λ e. (omega (arith, e), omega (arith, e, units-text r.units)))
   name_at-fair false =
       let r = name u in
       let size = 2 + size_of r in
-      fair_of c t (Occurrence (begins (codes "@(") t) r.units r.how (nat_lt 0 (sign_after r.how (drop size t)))) size (omega arith) (omega (arith, reach-size look_in_name Cut name-within u))
+      fair_of c t (Occurrence (begins (codes "@(") t) r.units r.how (nat_lt 0 (sign_after r.how (drop size t))))
+      size (omega arith) (omega (arith, reach-size look_in_name Cut name-within u))
       (λ e. (omega (arith, e), omega (arith, e, units-text r.units)))
 
   code_front-fair : (e : Effect) (takes_sign : Bool) → Fair c t (code_front e takes_sign t)
@@ -116,33 +129,47 @@ module _ (c : Context) (a b : ℕ) (u : List ℕ) where
   code_front-fair GiveAt takes_sign = pair-fair GiveAt
   code_front-fair (Faulty k) takes_sign = pair-fair (Faulty k)
 
-code_at-fair : (c : Context) (effect : ℕ → Effect) (takes_sign : Bool) (b : ℕ) (t : List ℕ) → Fair c (b ∷ t) (code_at effect takes_sign (b ∷ t))
+code_at-fair : (c : Context) (effect : ℕ → Effect) (takes_sign : Bool) (b : ℕ) (t : List ℕ)
+    → Fair c (b ∷ t) (code_at effect takes_sign (b ∷ t))
 code_at-fair c effect takes_sign a [] = skipped-fair c a []
 code_at-fair c effect takes_sign a (b ∷ u) = code_front-fair c a b u (effect b) takes_sign
 
-pub text_front-fair : (c : Context) (effect : ℕ → Effect) (b : ℕ) (t : List ℕ) → Fair c (b ∷ t) (text_front effect (b ∷ t))
+pub text_front-fair : (c : Context) (effect : ℕ → Effect) (b : ℕ) (t : List ℕ)
+    → Fair c (b ∷ t) (text_front effect (b ∷ t))
 text_front-fair c effect b t =
     choose c (b ∷ t) (starts_section (b ∷ t)) _ _ (λ h. section_at-fair c b t)
-    (λ h. choose c (b ∷ t) (begins (codes "@") (b ∷ t)) _ _ (λ k. code_at-fair c effect true b t) (λ k. skipped-fair c b t))
+    (λ h.
+    choose c (b ∷ t) (begins (codes "@") (b ∷ t)) _ _
+    (λ k. code_at-fair c effect true b t) (λ k. skipped-fair c b t))
 
 -- COMMENTS
 
 ends-size : (t : List ℕ) → at_line_ends 1 t ≤ length t
 ends-size [] = omega arith
-ends-size (b ∷ t) = elim (is_line_end b) as (λ v. (if v then 1 + at_line_ends 1 t else at_line_ends 1 t) ≤ length (b ∷ t)) [ true ↦ omega (arith, ends-size t) | false ↦ omega (arith, ends-size t) ]
+ends-size (b ∷ t) =
+    elim (is_line_end b) as (λ v. (if v then 1 + at_line_ends 1 t else at_line_ends 1 t) ≤ length (b ∷ t))
+    [ true ↦ omega (arith, ends-size t) | false ↦ omega (arith, ends-size t) ]
 
-comment_pays : (n b : ℕ) (t : List ℕ) → 0 < n → is_line_end b ≡ false → at_line_ends 1 (take n (b ∷ t)) + 1 ≤ length (take n (b ∷ t))
+comment_pays : (n b : ℕ) (t : List ℕ) → 0 < n → is_line_end b ≡ false
+    → at_line_ends 1 (take n (b ∷ t)) + 1 ≤ length (take n (b ∷ t))
 comment_pays zero b t some h = absurd (omega (arith, some))
 comment_pays (suc n) b t some h =
-    omega (arith, ends-size (take n t), ap (λ v. if v then 1 + at_line_ends 1 (take n t) else at_line_ends 1 (take n t)) h)
+    omega (
+      arith,
+      ends-size (take n t),
+      ap (λ v. if v then 1 + at_line_ends 1 (take n t) else at_line_ends 1 (take n t)) h,
+    )
 
-commented : (c : Context) (how : End) (b : ℕ) (t : List ℕ) (r : Reach) → is_line_end b ≡ false → 2 ≤ length (b ∷ t) → size_of r ≤ length (drop 2 (b ∷ t)) → Fair c (b ∷ t) (front (Comment how) (2 + size_of r))
+commented : (c : Context) (how : End) (b : ℕ) (t : List ℕ) (r : Reach) → is_line_end b ≡ false → 2 ≤ length (b ∷ t)
+    → size_of r ≤ length (drop 2 (b ∷ t)) → Fair c (b ∷ t) (front (Comment how) (2 + size_of r))
 commented c how b t r h two within =
-    fair_of c (b ∷ t) (Comment how) (2 + size_of r) (omega arith) (omega (arith, two, within, length-drop 2 (b ∷ t))) (λ e. comment_pays (2 + size_of r) b t (omega arith) h)
+    fair_of c (b ∷ t) (Comment how) (2 + size_of r) (omega arith)
+    (omega (arith, two, within, length-drop 2 (b ∷ t))) (λ e. comment_pays (2 + size_of r) b t (omega arith) h)
 
 -- LITERALS
 
-quoted-fair : (c : Context) (t : List ℕ) (n : ℕ) (r : Reach) → 0 < n → n ≤ length t → size_of r ≤ length (drop n t) → Fair c t (quoted n r t)
+quoted-fair : (c : Context) (t : List ℕ) (n : ℕ) (r : Reach) → 0 < n
+    → n ≤ length t → size_of r ≤ length (drop n t) → Fair c t (quoted n r t)
 quoted-fair c t n r some fits within =
     let close = take r.close (drop (n + length (body r)) t) in
     let us = take n t ∷ r.units ++ close ∷ [] in
@@ -156,7 +183,8 @@ quoted-fair c t n r some fits within =
       take-at_most n t,
       take-at_most r.close (drop (n + length (body r)) t),
     ) in
-    fair_of c t (Quoted us r.how) (n + size_of r) (omega (arith, some)) (omega (arith, fits, within, length-drop n t)) (λ e. (omega (arith, e, some), omega (arith, e, units-text us, whole)))
+    fair_of c t (Quoted us r.how) (n + size_of r) (omega (arith, some)) (omega (arith, fits, within, length-drop n t))
+    (λ e. (omega (arith, e, some), omega (arith, e, units-text us, whole)))
 
 and_right : (a b : Bool) → (a && b) ≡ true → b ≡ true
 and_right true b h = h
@@ -168,7 +196,9 @@ one_of false b n h f g = g h
 
 is_quoted-size : (n : ℕ) (t : List ℕ) → is_quoted n t ≡ true → n + 1 ≤ length t
 is_quoted-size n t h =
-    let some = one_of (begins (codes "\"") (drop n t)) (begins (codes "'") (drop n t)) (length (drop n t)) h (begins-size (codes "\"") (drop n t)) (begins-size (codes "'") (drop n t)) in
+    let some =
+    one_of (begins (codes "\"") (drop n t)) (begins (codes "'") (drop n t)) (length (drop n t))
+    h (begins-size (codes "\"") (drop n t)) (begins-size (codes "'") (drop n t)) in
     omega (arith, some, length-drop n t)
 
 literal_at-fair : (c : Context) (t : List ℕ) → starts_literal t ≡ true → Fair c t (literal_at t)
@@ -188,18 +218,26 @@ raw_at-fair c t h =
     let m = raw_prefix t + 2 in
     let n = m + length (delimiter (drop m t)) + 1 in
     let sign = closing_sign (drop m t) in
-    let some = has_delimiter-size (drop m t) (and_right (begins (codes "R\"") (drop (raw_prefix t) t)) (has_delimiter (drop m t)) h) in
-    quoted-fair c t n (raw_literal sign (drop n t)) (omega arith) (omega (arith, some, length-drop m t)) (reach-size (look_in_raw sign) Cut (raw-within sign) (drop n t))
+    let some =
+    has_delimiter-size (drop m t)
+    (and_right (begins (codes "R\"") (drop (raw_prefix t) t)) (has_delimiter (drop m t)) h) in
+    quoted-fair c t n (raw_literal sign (drop n t)) (omega arith) (omega (arith, some, length-drop m t))
+    (reach-size (look_in_raw sign) Cut (raw-within sign) (drop n t))
 
 include_at-fair : (c : Context) (b : ℕ) (t : List ℕ) → Fair c (b ∷ t) (include_at (b ∷ t))
-include_at-fair c b t = quoted-fair c (b ∷ t) 1 (included_name t) (omega arith) (omega arith) (reach-size look_in_include Cut include-within t)
+include_at-fair c b t =
+    quoted-fair c (b ∷ t) 1 (included_name t) (omega arith)
+    (omega arith) (reach-size look_in_include Cut include-within t)
 
 -- C TEXT
 
-run-fair : (c : Context) (k : Kind) (p : ℕ → Bool) (b : ℕ) (t : List ℕ) → p b ≡ true → (1 ≤ length (take (prefix_len p (b ∷ t)) (b ∷ t)) → Pays c k (take (prefix_len p (b ∷ t)) (b ∷ t))) → Fair c (b ∷ t) (front k (prefix_len p (b ∷ t)))
+run-fair : (c : Context) (k : Kind) (p : ℕ → Bool) (b : ℕ) (t : List ℕ) → p b ≡ true
+    → (1 ≤ length (take (prefix_len p (b ∷ t)) (b ∷ t)) → Pays c k (take (prefix_len p (b ∷ t)) (b ∷ t)))
+    → Fair c (b ∷ t) (front k (prefix_len p (b ∷ t)))
 run-fair c k p b t h pays =
     let some : 1 ≤ prefix_len p (b ∷ t) = omega (arith, ap (λ v. cond v (1 + prefix_len p t) 0) h) in
-    fair_of c (b ∷ t) k (prefix_len p (b ∷ t)) some (prefix_len-le-length p (b ∷ t)) (λ e. pays (omega (arith, e, some)))
+    fair_of c (b ∷ t) k (prefix_len p (b ∷ t)) some
+    (prefix_len-le-length p (b ∷ t)) (λ e. pays (omega (arith, e, some)))
 
 or_left : (a b : Bool) → a ≡ true → (a || b) ≡ true
 or_left true b h = refl
@@ -210,7 +248,12 @@ or_right true b h = refl
 or_right false b h = h
 
 digit_goes : (last b : ℕ) → is_digit b ≡ true → goes_on_number last b ≡ true
-digit_goes last b h = or_left (is_word_byte b || (b == 46)) _ (or_left (is_word_byte b) (b == 46) (or_left (is_letter b || is_digit b || is_one_of (codes "_$") b) (nat_le 128 b) (or_left (is_letter b || is_digit b) (is_one_of (codes "_$") b) (or_right (is_letter b) (is_digit b) h))))
+digit_goes last b h =
+    or_left (is_word_byte b || (b == 46)) _
+    (or_left (is_word_byte b) (b == 46)
+    (or_left (is_letter b || is_digit b || is_one_of (codes "_$") b) (nat_le 128 b)
+    (or_left (is_letter b || is_digit b) (is_one_of (codes "_$") b)
+    (or_right (is_letter b) (is_digit b) h))))
 
 dot_goes : (last b : ℕ) → (b == 46) ≡ true → goes_on_number last b ≡ true
 dot_goes last b h = or_left (is_word_byte b || (b == 46)) _ (or_right (is_word_byte b) (b == 46) h)
@@ -221,41 +264,90 @@ and_left false b h = cc
 
 begins_number : (b : ℕ) (t : List ℕ) → starts_number (b ∷ t) ≡ true → goes_on_number 0 b ≡ true
 begins_number b [] h = digit_goes 0 b h
-begins_number b (d ∷ t) h = (elim (is_digit b) as (λ v. is_digit b ≡ v → (v || ((b == 46) && is_digit d)) ≡ true → goes_on_number 0 b ≡ true) [
-  | true ↦ λ e k. digit_goes 0 b e
-  | false ↦ λ e k. dot_goes 0 b (and_left (b == 46) (is_digit d) k)
-]) refl h
+begins_number b (d ∷ t) h =
+    (elim (is_digit b) as (λ v. is_digit b ≡ v → (v || ((b == 46) && is_digit d)) ≡ true → goes_on_number 0 b ≡ true) [
+      | true ↦ λ e k. digit_goes 0 b e
+      | false ↦ λ e k. dot_goes 0 b (and_left (b == 46) (is_digit d) k)
+    ]) refl h
 
-number-fair : (c : Context) (b : ℕ) (t : List ℕ) → starts_number (b ∷ t) ≡ true → Fair c (b ∷ t) (front Numeral (number_len 0 (b ∷ t)))
+number-fair : (c : Context) (b : ℕ) (t : List ℕ) → starts_number (b ∷ t) ≡ true
+    → Fair c (b ∷ t) (front Numeral (number_len 0 (b ∷ t)))
 number-fair c b t h =
-    let some : 1 ≤ number_len 0 (b ∷ t) = omega (arith, ap (λ (v : Bool). elim v as (λ w. ℕ) [ true ↦ 1 + number_len b t | false ↦ 0 ]) (begins_number b t h)) in
+    let some : 1 ≤ number_len 0 (b ∷ t) =
+    omega (
+      arith,
+      ap (λ (v : Bool). elim v as (λ w. ℕ) [ true ↦ 1 + number_len b t | false ↦ 0 ])
+          (begins_number b t h),
+    ) in
     fair_of c (b ∷ t) Numeral (number_len 0 (b ∷ t)) some (number-size 0 (b ∷ t)) (λ e. omega (arith, e, some))
 
-pub c_front-fair : (c : Context) (effect : ℕ → Effect) (takes_sign includes : Bool) (b : ℕ) (t : List ℕ) → Fair c (b ∷ t) (c_front effect takes_sign includes (b ∷ t))
+pub c_front-fair : (c : Context) (effect : ℕ → Effect) (takes_sign includes : Bool) (b : ℕ) (t : List ℕ)
+    → Fair c (b ∷ t) (c_front effect takes_sign includes (b ∷ t))
 c_front-fair c effect takes_sign includes b t =
     choose c (b ∷ t) (is_blank b) _ _ (λ h. run-fair c Blanks is_blank b t h (λ e. e))
-    (λ h0. choose c (b ∷ t) (is_line_end b) _ _ (λ h. fair_of c (b ∷ t) LineEnd 1 (omega arith) (omega arith) (λ e. omega (arith, e)))
-    (λ no_end. choose c (b ∷ t) (begins (codes "/*") (b ∷ t)) _ _
-    (λ h. commented c _ b t (comment (drop 2 (b ∷ t))) no_end (begins-size (codes "/*") (b ∷ t) h) (reach-size (look_in_comment (begins (codes "*/")) 2) Cut (comment-within (begins (codes "*/")) 2 (begins-size (codes "*/"))) (drop 2 (b ∷ t))))
-    (λ h2. choose c (b ∷ t) (begins (codes "//") (b ∷ t)) _ _
-    (λ h. commented c _ b t (line_comment (drop 2 (b ∷ t))) no_end (begins-size (codes "//") (b ∷ t) h) (reach-size (look_in_comment at_line_end 0) Closed (comment-within at_line_end 0 (λ w k. omega arith)) (drop 2 (b ∷ t))))
-    (λ h3. choose c (b ∷ t) (starts_section (b ∷ t)) _ _ (λ h. section_at-fair c b t)
-    (λ h4. choose c (b ∷ t) (begins (codes "@") (b ∷ t)) _ _ (λ h. code_at-fair c effect takes_sign b t)
-    (λ h5. choose c (b ∷ t) (starts_raw (b ∷ t)) _ _ (λ h. raw_at-fair c (b ∷ t) h)
-    (λ h5r. choose c (b ∷ t) (starts_literal (b ∷ t)) _ _ (λ h. literal_at-fair c (b ∷ t) h)
-    (λ h6. choose c (b ∷ t) (includes && starts_include (b ∷ t)) _ _ (λ h. include_at-fair c b t)
-    (λ h7. choose c (b ∷ t) (starts_number (b ∷ t)) _ _ (λ h. number-fair c b t h)
-    (λ h8. choose c (b ∷ t) (is_word_byte b) _ _ (λ h. run-fair c Identifier is_word_byte b t h (λ e. e))
-    (λ h9. fair_of c (b ∷ t) Punctuator (longest listed (b ∷ t)) (longest-some listed (b ∷ t)) (longest-size listed b t) (λ e. omega (arith, e, longest-some listed (b ∷ t))))))))))))))
+    (λ h0.
+    choose c (b ∷ t) (is_line_end b) _ _
+    (λ h. fair_of c (b ∷ t) LineEnd 1 (omega arith) (omega arith) (λ e. omega (arith, e)))
+    (λ no_end.
+    choose c (b ∷ t) (begins (codes "/*") (b ∷ t)) _ _ (λ h.
+    commented c _ b t (comment (drop 2 (b ∷ t))) no_end (begins-size (codes "/*") (b ∷ t) h)
+    (reach-size (look_in_comment (begins (codes "*/")) 2) Cut
+    (comment-within (begins (codes "*/")) 2 (begins-size (codes "*/"))) (drop 2 (b ∷ t))))
+    (λ h2.
+    choose c (b ∷ t) (begins (codes "//") (b ∷ t)) _ _ (λ h.
+    commented c _ b t (line_comment (drop 2 (b ∷ t)))
+    no_end (begins-size (codes "//") (b ∷ t) h)
+    (reach-size (look_in_comment at_line_end 0) Closed
+    (comment-within at_line_end 0 (λ w k. omega arith)) (drop 2 (b ∷ t))))
+    (λ h3.
+    choose c (b ∷ t) (starts_section (b ∷ t))
+    _ _ (λ h. section_at-fair c b t) (λ h4.
+    choose c (b ∷ t) (begins (codes "@") (b ∷ t)) _ _
+    (λ h. code_at-fair c effect takes_sign b t)
+    (λ h5.
+    choose c (b ∷ t) (starts_raw (b ∷ t)) _ _ (λ h. raw_at-fair c (b ∷ t) h)
+    (λ h5r.
+    choose c (b ∷ t) (starts_literal (b ∷ t))
+    _ _ (λ h. literal_at-fair c (b ∷ t) h)
+    (λ h6.
+    choose c (b ∷ t) (includes && starts_include (b ∷ t))
+    _ _ (λ h. include_at-fair c b t)
+    (λ h7.
+    choose c (b ∷ t) (starts_number (b ∷ t))
+    _ _ (λ h. number-fair c b t h)
+    (λ h8.
+    choose c (b ∷ t) (is_word_byte b) _ _
+    (λ h.
+    run-fair c Identifier
+    is_word_byte b t h (λ e. e))
+    (λ h9.
+    fair_of c (b ∷ t) Punctuator
+    (longest listed (b ∷ t))
+    (longest-some listed
+    (b ∷ t))
+    (longest-size listed b t)
+    (λ e.
+    omega (
+      arith,
+      e,
+      longest-some
+          listed
+          (b
+          ∷ t),
+    )))))))))))))
 
 macro_front-fair : (c : Context) (b : ℕ) (t : List ℕ) → Fair c (b ∷ t) (macro_front (b ∷ t))
-macro_front-fair c b t = choose c (b ∷ t) (begins (codes "\\") (b ∷ t) && at_line_end (drop 1 (b ∷ t))) _ _ (λ h. skipped-fair c b t) (λ h. c_front-fair c in_macro true false b t)
+macro_front-fair c b t =
+    choose c (b ∷ t) (begins (codes "\\") (b ∷ t) && at_line_end (drop 1 (b ∷ t)))
+    _ _ (λ h. skipped-fair c b t) (λ h. c_front-fair c in_macro true false b t)
 
-head_as-fair : (begun : Place) (k : Kind) (n : ℕ) (b : ℕ) (t : List ℕ) → Fair (Definition begun) (b ∷ t) (front k n) → Fair (Definition begun) (b ∷ t) (head_as k (front k n) (b ∷ t))
+head_as-fair : (begun : Place) (k : Kind) (n : ℕ) (b : ℕ) (t : List ℕ)
+    → Fair (Definition begun) (b ∷ t) (front k n) → Fair (Definition begun) (b ∷ t) (head_as k (front k n) (b ∷ t))
 head_as-fair begun Blanks n b t f = f
 head_as-fair begun LineEnd n b t f = f
 head_as-fair begun (Comment how) n b t f = f
-head_as-fair begun Identifier n b t f = fair_of (Definition begun) (b ∷ t) _ n f.some f.within (λ e. (omega (arith, e, f.some), refl))
+head_as-fair begun Identifier n b t f =
+    fair_of (Definition begun) (b ∷ t) _ n f.some f.within (λ e. (omega (arith, e, f.some), refl))
 head_as-fair begun Skipped n b t f = text_front-fair (Definition begun) in_text b t
 head_as-fair begun (Section starred) n b t f = text_front-fair (Definition begun) in_text b t
 head_as-fair begun (Code e) n b t f = text_front-fair (Definition begun) in_text b t

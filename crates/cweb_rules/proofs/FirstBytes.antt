@@ -33,7 +33,9 @@ module _ (b : ℕ) (settled : is_settled b ≡ true) where
 
   differ_back : (x : ℕ) → is_unsettled x ≡ true → (b == x) ≡ false
   differ_back x h = (elim (b == x) as (λ v. (b == x) ≡ v → v ≡ false) [
-    | true ↦ λ e. let same : is_settled b ≡ is_settled x = ap is_settled (eqb-true b x e) in let wrong : true ≡ false = sym h ∙ ap not (sym same ∙ settled) in cc
+    | true ↦ λ e.
+        let same : is_settled b ≡ is_settled x = ap is_settled (eqb-true b x e) in
+        let wrong : true ≡ false = sym h ∙ ap not (sym same ∙ settled) in cc
     | false ↦ λ e. refl
   ]) refl
 
@@ -44,7 +46,9 @@ module _ (b : ℕ) (settled : is_settled b ≡ true) where
       ap (λ v. v || is_one_of set b) (differ x p.0) ∙ none set p.1
 
   no_digit : is_digit b ≡ false
-  no_digit = last_false (is_one_of (32 ∷ 9 ∷ 13 ∷ 11 ∷ 12 ∷ 10 ∷ []) b || is_one_of (codes "/@RLuU\"'<.") b) (is_digit b) settled
+  no_digit =
+      last_false (is_one_of (32 ∷ 9 ∷ 13 ∷ 11 ∷ 12 ∷ 10 ∷ []) b || is_one_of (codes "/@RLuU\"'<.") b)
+      (is_digit b) settled
 
   no_section : (t : List ℕ) → starts_section (b ∷ t) ≡ false
   no_section [] = differ_back 64 refl
@@ -56,7 +60,8 @@ module _ (b : ℕ) (settled : is_settled b ≡ true) where
   no_raw_prefix : (t : List ℕ) → raw_prefix (b ∷ t) ≡ 0
   no_raw_prefix t = λ i.
       if no_sign 117 (codes "8R\"") t refl i then 2
-      else (if no_sign 76 (codes "R\"") t refl i || no_sign 117 (codes "R\"") t refl i || no_sign 85 (codes "R\"") t refl i then 1 else 0)
+      else (if no_sign 76 (codes "R\"") t refl i
+      || no_sign 117 (codes "R\"") t refl i || no_sign 85 (codes "R\"") t refl i then 1 else 0)
 
   no_raw : (t : List ℕ) → starts_raw (b ∷ t) ≡ false
   no_raw t =
@@ -66,7 +71,8 @@ module _ (b : ℕ) (settled : is_settled b ≡ true) where
   no_prefix : (t : List ℕ) → literal_prefix (b ∷ t) ≡ 0
   no_prefix t = λ i.
       if no_sign 117 (codes "8") t refl i && is_quoted 2 (b ∷ t) then 2
-      else (if (no_sign 76 [] t refl i || no_sign 117 [] t refl i || no_sign 85 [] t refl i) && is_quoted 1 (b ∷ t) then 1 else 0)
+      else (if (no_sign 76 [] t refl i || no_sign 117 [] t refl i || no_sign 85 [] t refl i) && is_quoted 1 (b ∷ t)
+      then 1 else 0)
 
   no_literal : (t : List ℕ) → starts_literal (b ∷ t) ≡ false
   no_literal t = ap (λ n. is_quoted n (b ∷ t)) (no_prefix t) ∙ (λ i. no_sign 34 [] t refl i || no_sign 39 [] t refl i)
@@ -79,7 +85,8 @@ module _ (b : ℕ) (settled : is_settled b ≡ true) where
   no_number [] = no_digit
   no_number (d ∷ t) = λ i. no_digit i || (differ_back 46 refl i && is_digit d)
 
-  pub settled-rule : (includes : Bool) (t : List ℕ) → c_rule includes (b ∷ t) ≡ (if is_word_byte b then rule.Identifier else rule.Punctuator)
+  pub settled-rule : (includes : Bool) (t : List ℕ)
+      → c_rule includes (b ∷ t) ≡ (if is_word_byte b then rule.Identifier else rule.Punctuator)
   settled-rule includes t = λ i.
       if none (32 ∷ 9 ∷ 13 ∷ 11 ∷ 12 ∷ []) refl i then rule.Blanks
       else (if differ_back 10 refl i then rule.LineEnd
@@ -105,27 +112,38 @@ IsTold includes t first.Word = rule.Identifier ≡ c_rule includes t
 IsTold includes t first.Sign = rule.Punctuator ≡ c_rule includes t
 IsTold includes t first.Open = Unit {0}
 
-told-settled : (includes : Bool) (b : ℕ) (t : List ℕ) → is_settled b ≡ true → IsTold includes (b ∷ t) (if is_word_byte b then first.Word else first.Sign)
+told-settled : (includes : Bool) (b : ℕ) (t : List ℕ) → is_settled b ≡ true
+    → IsTold includes (b ∷ t) (if is_word_byte b then first.Word else first.Sign)
 told-settled includes b t settled =
-    (elim (is_word_byte b) as (λ v. c_rule includes (b ∷ t) ≡ (if v then rule.Identifier else rule.Punctuator) → IsTold includes (b ∷ t) (if v then first.Word else first.Sign)) [
+    (elim (is_word_byte b) as (λ v.
+    c_rule includes (b ∷ t) ≡ (if v then rule.Identifier else rule.Punctuator)
+    → IsTold includes (b ∷ t) (if v then first.Word else first.Sign)) [
       | true ↦ λ e. sym e
       | false ↦ λ e. sym e
     ]) (settled-rule b settled includes t)
 
-told-unblank : (includes : Bool) (b : ℕ) (t : List ℕ) → IsTold includes (b ∷ t) (if is_settled b then (if is_word_byte b then first.Word else first.Sign) else first.Open)
+told-unblank : (includes : Bool) (b : ℕ) (t : List ℕ)
+    → IsTold includes (b ∷ t) (if is_settled b then (if is_word_byte b then first.Word else first.Sign) else first.Open)
 told-unblank includes b t =
-    (elim (is_settled b) as (λ v. is_settled b ≡ v → IsTold includes (b ∷ t) (if v then (if is_word_byte b then first.Word else first.Sign) else first.Open)) [
+    (elim (is_settled b) as (λ v.
+    is_settled b ≡ v
+    → IsTold includes (b ∷ t) (if v then (if is_word_byte b then first.Word else first.Sign) else first.Open)) [
       | true ↦ λ e. told-settled includes b t e
       | false ↦ λ e. tt
     ]) refl
 
 pub lead-told : (includes : Bool) (b : ℕ) (t : List ℕ) → IsTold includes (b ∷ t) (lead b)
 lead-told includes b t =
-    (elim (is_blank b) as (λ v. is_blank b ≡ v → IsTold includes (b ∷ t) (if v then first.Blank else (if is_settled b then (if is_word_byte b then first.Word else first.Sign) else first.Open))) [
+    (elim (is_blank b) as (λ v.
+    is_blank b ≡ v
+    → IsTold includes (b ∷ t)
+    (if v then first.Blank
+    else (if is_settled b then (if is_word_byte b then first.Word else first.Sign) else first.Open))) [
       | true ↦ λ e. sym (if_true (is_blank b) rule.Blanks _ e)
       | false ↦ λ e. told-unblank includes b t
     ]) refl
 
-pub told-at : (includes : Bool) (t : List ℕ) (r : Lead) → 1 ≤ length t → r ≡ lead (slice_index_or t 0 0) → IsTold includes t r
+pub told-at : (includes : Bool) (t : List ℕ) (r : Lead) → 1 ≤ length t
+    → r ≡ lead (slice_index_or t 0 0) → IsTold includes t r
 told-at includes [] r h e = absurd (omega (arith, h))
 told-at includes (b ∷ t) r h e = subst (IsTold includes (b ∷ t)) (sym e) (lead-told includes b t)

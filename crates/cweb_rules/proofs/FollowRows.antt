@@ -41,9 +41,11 @@ null : IsToken Punctuator (0 ∷ [])
 null = record { whole = refl; token = refl }
 
 -- a literal of two lines
-two_lines : IsToken (Quoted ((34 ∷ []) ∷ (64 ∷ 64 ∷ []) ∷ (92 ∷ 10 ∷ []) ∷ (34 ∷ []) ∷ []) Closed) (34 ∷ 64 ∷ 64 ∷ 92 ∷ 10 ∷ 34 ∷ [])
+two_lines : IsToken (Quoted ((34 ∷ []) ∷ (64 ∷ 64 ∷ []) ∷ (92 ∷ 10 ∷ []) ∷ (34 ∷ []) ∷ []) Closed)
+    (34 ∷ 64 ∷ 64 ∷ 92 ∷ 10 ∷ 34 ∷ [])
 two_lines = record { whole = refl; token = refl }
 
 -- a raw literal that has a line end and an `@`
-raw : IsToken (Quoted (codes "R\"(" ∷ (10 ∷ []) ∷ codes "@@" ∷ codes ")\"" ∷ []) Closed) (codes "R\"(" ++ 10 ∷ 64 ∷ 64 ∷ codes ")\"")
+raw : IsToken (Quoted (codes "R\"(" ∷ (10 ∷ []) ∷ codes "@@" ∷ codes ")\"" ∷ []) Closed)
+    (codes "R\"(" ++ 10 ∷ 64 ∷ 64 ∷ codes ")\"")
 raw = record { whole = refl; token = refl }

@@ -24,7 +24,8 @@ seam_joins joins b [] more = first_is (joins b) more
 seam_joins joins b (c ∷ t) more = seam_joins joins c t more
 
 -- a sign that begins a text and what follows, and not the text alone, goes over the seam
-crosses : (joins : ℕ → ℕ → Bool) (p : List ℕ) (b : ℕ) (t more : List ℕ) → all_join joins p ≡ true → begins p (b ∷ t ++ more) ≡ true → begins p (b ∷ t) ≡ false → seam_joins joins b t more ≡ true
+crosses : (joins : ℕ → ℕ → Bool) (p : List ℕ) (b : ℕ) (t more : List ℕ) → all_join joins p ≡ true
+    → begins p (b ∷ t ++ more) ≡ true → begins p (b ∷ t) ≡ false → seam_joins joins b t more ≡ true
 crosses joins [] b t more j fits misses = cc
 crosses joins (x ∷ []) b t more j fits misses = let e = sym fits ∙ misses in cc
 crosses joins (x ∷ y ∷ p) b [] [] j fits misses = let e = sym fits ∙ misses in cc
@@ -35,7 +36,8 @@ crosses joins (x ∷ y ∷ p) b [] (c ∷ more) j fits misses =
     subst (λ n. joins n c ≡ true) (eqb-true x b h.0) (subst (λ n. joins x n ≡ true) (eqb-true y c k.0) m)
 crosses joins (x ∷ y ∷ p) b (c ∷ t) more j fits misses =
     let h = both (x == b) (begins (y ∷ p) (c ∷ t ++ more)) fits in
-    crosses joins (y ∷ p) c t more (both (joins x y) (all_join joins (y ∷ p)) j).1 h.1 (second (x == b) (begins (y ∷ p) (c ∷ t)) h.0 misses)
+    crosses joins (y ∷ p) c t more (both (joins x y) (all_join joins (y ∷ p)) j).1
+    h.1 (second (x == b) (begins (y ∷ p) (c ∷ t)) h.0 misses)
 
 pub begins-append : (p t more : List ℕ) → begins p t ≡ true → begins p (t ++ more) ≡ true
 begins-append [] t more h = refl
@@ -49,12 +51,15 @@ by_cases true b f g = f refl
 by_cases false true f g = g refl refl
 by_cases false false f g = refl
 
-pub begins_stays : (joins : ℕ → ℕ → Bool) (p : List ℕ) (b : ℕ) (t more : List ℕ) → all_join joins p ≡ true → seam_joins joins b t more ≡ false → begins p (b ∷ t ++ more) ≡ begins p (b ∷ t)
+pub begins_stays : (joins : ℕ → ℕ → Bool) (p : List ℕ) (b : ℕ) (t more : List ℕ) → all_join joins p ≡ true
+    → seam_joins joins b t more ≡ false → begins p (b ∷ t ++ more) ≡ begins p (b ∷ t)
 begins_stays joins p b t more j seam =
     by_cases (begins p (b ∷ t)) (begins p (b ∷ t ++ more)) (begins-append p (b ∷ t) more)
     (λ fits misses. sym (crosses joins p b t more j fits misses) ∙ seam)
 
-pub longest_stays : (joins : ℕ → ℕ → Bool) (ps : List (List ℕ)) (b : ℕ) (t more : List ℕ) → list_all (all_join joins) ps ≡ true → seam_joins joins b t more ≡ false → longest ps (b ∷ t ++ more) ≡ longest ps (b ∷ t)
+pub longest_stays : (joins : ℕ → ℕ → Bool) (ps : List (List ℕ)) (b : ℕ) (t more : List ℕ)
+    → list_all (all_join joins) ps ≡ true → seam_joins joins b t more ≡ false
+    → longest ps (b ∷ t ++ more) ≡ longest ps (b ∷ t)
 longest_stays joins [] b t more j seam = refl
 longest_stays joins (p ∷ ps) b t more j seam =
     let js = both (all_join joins p) (list_all (all_join joins) ps) j in

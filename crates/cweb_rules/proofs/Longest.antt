@@ -9,13 +9,16 @@ and_left : (a b : Bool) → (a && b) ≡ true → (a ≡ true) × (b ≡ true)
 and_left true b e = (refl, e)
 and_left false b e = cc
 
-pub longest-le : (ps : List (List ℕ)) (t : List ℕ) (m : ℕ) → descends m ps ≡ true → (longest ps t ≤ m) × (1 ≤ m) × (longest ps t ≡ first_len ps t)
+pub longest-le : (ps : List (List ℕ)) (t : List ℕ) (m : ℕ) → descends m ps ≡ true
+    → (longest ps t ≤ m) × (1 ≤ m) × (longest ps t ≡ first_len ps t)
 longest-le [] t m d = let h : 1 ≤ m = grind (arith, nat_tests) in (h, h, refl)
 longest-le (p ∷ ps) t m d =
     let b = and_left (nat_le (length p) m) (descends (length p) ps) d in
     let short : length p ≤ m = grind (arith, nat_tests, b.0) in
     let rest = longest-le ps t (length p) b.1 in
-    elim (begins p t) as (λ v. (max (cond v (length p) 1) (longest ps t) ≤ m) × (1 ≤ m) × (max (cond v (length p) 1) (longest ps t) ≡ cond v (length p) (first_len ps t))) [
+    elim (begins p t) as (λ v.
+    (max (cond v (length p) 1) (longest ps t) ≤ m) × (1 ≤ m)
+    × (max (cond v (length p) 1) (longest ps t) ≡ cond v (length p) (first_len ps t))) [
       | true ↦ (omega (arith, rest.0), omega (arith, rest.1), omega (arith, rest.0))
       | false ↦ (omega (arith, rest.0, rest.1), omega (arith, rest.1), omega (arith, rest.0, rest.2, longest_pos ps t))
     ]

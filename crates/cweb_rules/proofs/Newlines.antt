@@ -30,7 +30,8 @@ use Rattle.cweb_rules.proofs.LineItems.{starts_raw_line, starts_literal_line}
 use Rattle.cweb_rules.proofs.Reaches.{IsSome, AllSome, literal-some}
 use Rattle.cweb_rules.proofs.Seams.{begins_line, starts_section_line}
 
--- Skipped bytes, names, comments and literals may have line ends, those of a literal in its units; a line end is one; nothing
+-- Skipped bytes, names, comments and literals may have line ends, those of a literal in its units; a line end is one;
+-- nothing
 -- else has any.
 abbrev pub Tells : Kind → List ℕ → Type 0
 Tells Skipped bytes = Unit {0}
@@ -51,10 +52,13 @@ none-ends (b ∷ t) h = ap (λ v. if v then 1 + at_line_ends 1 t else at_line_en
 
 pub ends-append : (t u : List ℕ) → at_line_ends 1 (t ++ u) ≡ at_line_ends 1 t + at_line_ends 1 u
 ends-append [] u = let e : at_line_ends 1 u ≡ 0 + at_line_ends 1 u = omega arith in e
-ends-append (b ∷ t) u = elim (is_line_end b) as (λ v. (if v then 1 + at_line_ends 1 (t ++ u) else at_line_ends 1 (t ++ u)) ≡ (if v then 1 + at_line_ends 1 t else at_line_ends 1 t) + at_line_ends 1 u) [
-  | true ↦ omega (arith, ends-append t u)
-  | false ↦ ends-append t u
-]
+ends-append (b ∷ t) u =
+    elim (is_line_end b) as (λ v.
+    (if v then 1 + at_line_ends 1 (t ++ u) else at_line_ends 1 (t ++ u))
+    ≡ (if v then 1 + at_line_ends 1 t else at_line_ends 1 t) + at_line_ends 1 u) [
+      | true ↦ omega (arith, ends-append t u)
+      | false ↦ ends-append t u
+    ]
 
 units-none : (us : List (List ℕ)) → AreLines us → at_line_ends 1 (flat_map (λ u. u) us) ≡ 0
 units-none [] h = refl
@@ -79,14 +83,20 @@ line-told Numeral bytes h l = none-ends bytes l
 line-told Punctuator bytes h l = none-ends bytes l
 
 -- what a line's front names is told, whatever follows the line
-in_line-told : (f : Front) (u more : List ℕ) → IsLine u → InLine f.kind (take f.size u) → f.size ≤ length u → Told (u ++ more) f
+in_line-told : (f : Front) (u more : List ℕ) → IsLine u
+    → InLine f.kind (take f.size u) → f.size ≤ length u → Told (u ++ more) f
 in_line-told f u more l h fits =
-    subst (Tells f.kind) (sym (take-append-le f.size u more fits)) (line-told f.kind (take f.size u) h (IsLine-take f.size u l))
+    subst (Tells f.kind) (sym (take-append-le f.size u more fits))
+    (line-told f.kind (take f.size u) h (IsLine-take f.size u l))
 
 -- THE UNITS OF AN ITEM
 
 abbrev at_front : (List ℕ → Look) → End → Look → List ℕ → List ℕ → Reach
-at_front look e v u t = elim v [ Goes n ↦ with_unit (take n u) (reach_in look e (n - 1) t) | Ends n how ↦ record { units = []; close = n; how = how } ]
+at_front look e v u t =
+    elim v [
+      | Goes n ↦ with_unit (take n u) (reach_in look e (n - 1) t)
+      | Ends n how ↦ record { units = []; close = n; how = how }
+    ]
 
 drop-pred : (n : ℕ) (b : ℕ) (t : List ℕ) → 0 < n → drop (n - 1) t ≡ drop n (b ∷ t)
 drop-pred n b t h = let e : n ≡ suc (n - 1) = omega arith in sym (ap (λ m. drop m (b ∷ t)) e)
@@ -94,7 +104,8 @@ drop-pred n b t h = let e : n ≡ suc (n - 1) = omega arith in sym (ap (λ m. dr
 abbrev Begins : Reach → List ℕ → Type 0
 Begins r t = (rest : List ℕ) × (t ≡ body r ++ rest)
 
-begins_at : (look : List ℕ → Look) (e : End) (v : Look) (b : ℕ) (t : List ℕ) → IsSome v → ((k : ℕ) → Begins (reach_in look e k t) (drop k t)) → Begins (at_front look e v (b ∷ t) t) (b ∷ t)
+begins_at : (look : List ℕ → Look) (e : End) (v : Look) (b : ℕ) (t : List ℕ) → IsSome v
+    → ((k : ℕ) → Begins (reach_in look e k t) (drop k t)) → Begins (at_front look e v (b ∷ t) t) (b ∷ t)
 begins_at look e (Goes n) b t some f =
     let r = reach_in look e (n - 1) t in
     let h = f (n - 1) in (
@@ -105,13 +116,15 @@ begins_at look e (Goes n) b t some f =
     )
 begins_at look e (Ends n how) b t some f = (b ∷ t, refl)
 
-begins_in : (look : List ℕ → Look) (e : End) → AllSome look → (k : ℕ) (t : List ℕ) → Begins (reach_in look e k t) (drop k t)
+begins_in : (look : List ℕ → Look) (e : End) → AllSome look
+    → (k : ℕ) (t : List ℕ) → Begins (reach_in look e k t) (drop k t)
 begins_in look e some k [] = ([], drop-nil k)
 begins_in look e some (suc k) (b ∷ t) = begins_in look e some k t
 begins_in look e some zero (b ∷ t) = begins_at look e (look (b ∷ t)) b t (some b t) (λ k. begins_in look e some k t)
 
 -- an item's units are what its text begins with
-units-front : (look : List ℕ → Look) (e : End) (t : List ℕ) → AllSome look → take (length (body (reach look e t))) t ≡ body (reach look e t)
+units-front : (look : List ℕ → Look) (e : End) (t : List ℕ) → AllSome look
+    → take (length (body (reach look e t))) t ≡ body (reach look e t)
 units-front look e t some =
     let r = reach look e t in
     let h = begins_in look e some 0 t in
@@ -121,9 +134,11 @@ units-front look e t some =
 pub drop-sum : {A : Type 0} (n m : ℕ) (t : List A) → drop (n + m) t ≡ drop m (drop n t)
 drop-sum zero m t = let e : 0 + m ≡ m = omega arith in ap (λ k. drop k t) e
 drop-sum (suc n) m [] = drop-nil (suc n + m) ∙ sym (drop-nil m)
-drop-sum (suc n) m (b ∷ t) = let e : suc n + m ≡ suc (n + m) = omega arith in ap (λ k. drop k (b ∷ t)) e ∙ drop-sum n m t
+drop-sum (suc n) m (b ∷ t) =
+    let e : suc n + m ≡ suc (n + m) = omega arith in ap (λ k. drop k (b ∷ t)) e ∙ drop-sum n m t
 
-quoted-told : (look : List ℕ → Look) → AllSome look → (n : ℕ) (t : List ℕ) → Told t (quoted n (reach look Cut (drop n t)) t)
+quoted-told : (look : List ℕ → Look) → AllSome look → (n : ℕ) (t : List ℕ)
+    → Told t (quoted n (reach look Cut (drop n t)) t)
 quoted-told look some n t =
     let r = reach look Cut (drop n t) in
     let m = length (body r) in
@@ -140,18 +155,23 @@ some_if true x y f g = f
 some_if false x y f g = g
 
 raw-some : (sign : List ℕ) → AllSome (look_in_raw sign)
-raw-some sign b t = some_if (begins sign (b ∷ t)) _ _ tt (some_if (starts_section (b ∷ t)) _ _ tt (some_if (begins (codes "@@") (b ∷ t)) _ _ (omega arith) (omega arith)))
+raw-some sign b t =
+    some_if (begins sign (b ∷ t)) _ _ tt
+    (some_if (starts_section (b ∷ t)) _ _ tt
+    (some_if (begins (codes "@@") (b ∷ t)) _ _ (omega arith) (omega arith)))
 
 -- ITEMS THAT GO ON BEHIND THEIR LINE
 
 no : {P : Type 0} → false ≡ true → P
 no h = cc
 
-pick : (t : List ℕ) (v' v : Bool) (x y : Front) (p q : Bool) → v' ≡ v → (v ≡ true → p ≡ true → Told t x) → (v ≡ false → q ≡ true → Told t y) → (if v then p else q) ≡ true → Told t (if v' then x else y)
+pick : (t : List ℕ) (v' v : Bool) (x y : Front) (p q : Bool) → v' ≡ v → (v ≡ true → p ≡ true → Told t x)
+    → (v ≡ false → q ≡ true → Told t y) → (if v then p else q) ≡ true → Told t (if v' then x else y)
 pick t v' true x y p q e f g h = subst (λ w. Told t (if w then x else y)) (sym e) (f refl h)
 pick t v' false x y p q e f g h = subst (λ w. Told t (if w then x else y)) (sym e) (g refl h)
 
-code-opened : (e : Effect) (takes_sign : Bool) (t u : List ℕ) → opens_effect e u ≡ true → Told t (code_front e takes_sign t)
+code-opened : (e : Effect) (takes_sign : Bool) (t u : List ℕ)
+    → opens_effect e u ≡ true → Told t (code_front e takes_sign t)
 code-opened Named takes_sign t u h = tt
 code-opened effect.Letter takes_sign t u h = no h
 code-opened effect.ControlText takes_sign t u h = no h
@@ -166,50 +186,93 @@ code-opened Joins takes_sign t u h = no h
 code-opened GiveAt takes_sign t u h = no h
 code-opened (Faulty k) takes_sign t u h = no h
 
-code_at-opened : (effect : ℕ → Effect) (takes_sign : Bool) (b : ℕ) (u more : List ℕ) → opens_code effect (b ∷ u) ≡ true → Told (b ∷ u ++ more) (code_at effect takes_sign (b ∷ u ++ more))
+code_at-opened : (effect : ℕ → Effect) (takes_sign : Bool) (b : ℕ) (u more : List ℕ)
+    → opens_code effect (b ∷ u) ≡ true → Told (b ∷ u ++ more) (code_at effect takes_sign (b ∷ u ++ more))
 code_at-opened effect takes_sign b [] more h = no h
 code_at-opened effect takes_sign b (d ∷ u) more h = code-opened (effect d) takes_sign (b ∷ d ∷ u ++ more) (b ∷ d ∷ u) h
 
-text-opened : (effect : ℕ → Effect) (b : ℕ) (u more : List ℕ) → AtLineEnd more → text_opens effect (b ∷ u) ≡ true → Told (b ∷ u ++ more) (text_front effect (b ∷ u ++ more))
+text-opened : (effect : ℕ → Effect) (b : ℕ) (u more : List ℕ) → AtLineEnd more
+    → text_opens effect (b ∷ u) ≡ true → Told (b ∷ u ++ more) (text_front effect (b ∷ u ++ more))
 text-opened effect b u more e h =
     let t = b ∷ u ++ more in
     pick t (starts_section t) (starts_section (b ∷ u)) _ _ false _ (starts_section_line b u more e) (λ v k. no k)
-    (λ v0 h0. pick t (begins (codes "@") t) (begins (codes "@") (b ∷ u)) _ _ (opens_code effect (b ∷ u)) false (begins_line (codes "@") (b ∷ u) more refl e) (λ v k. code_at-opened effect true b u more k)
-    (λ v1 h1. no h1) h0) h
+    (λ v0 h0.
+    pick t (begins (codes "@") t) (begins (codes "@") (b ∷ u)) _ _
+    (opens_code effect (b ∷ u)) false (begins_line (codes "@") (b ∷ u) more refl e)
+    (λ v k. code_at-opened effect true b u more k) (λ v1 h1. no h1) h0)
+    h
 
-c-opened : (effect : ℕ → Effect) (takes_sign includes : Bool) (b : ℕ) (u more : List ℕ) → AtLineEnd more → c_opens effect (b ∷ u) ≡ true → Told (b ∷ u ++ more) (c_front effect takes_sign includes (b ∷ u ++ more))
+c-opened : (effect : ℕ → Effect) (takes_sign includes : Bool) (b : ℕ) (u more : List ℕ) → AtLineEnd more
+    → c_opens effect (b ∷ u) ≡ true → Told (b ∷ u ++ more) (c_front effect takes_sign includes (b ∷ u ++ more))
 c-opened effect takes_sign includes b u more e h =
     let w = b ∷ u in
     let t = w ++ more in
     pick t (is_blank b) (is_blank b) _ _ false _ refl (λ v k. no k)
-    (λ v0 h0. pick t (is_line_end b) (is_line_end b) _ _ false _ refl (λ v k. no k)
-    (λ v1 h1. pick t (begins (codes "/*") t) (begins (codes "/*") w) _ _ (opens_comment w) _ (begins_line (codes "/*") w more refl e) (λ v k. tt)
-    (λ v2 h2. pick t (begins (codes "//") t) (begins (codes "//") w) _ _ false _ (begins_line (codes "//") w more refl e) (λ v k. no k)
-    (λ v3 h3. pick t (starts_section t) (starts_section w) _ _ false _ (starts_section_line b u more e) (λ v k. no k)
-    (λ v4 h4. pick t (begins (codes "@") t) (begins (codes "@") w) _ _ (opens_code effect w) _ (begins_line (codes "@") w more refl e) (λ v k. code_at-opened effect takes_sign b u more k)
-    (λ v5 h5. pick t (starts_raw t) (starts_raw w) _ _ (opens_raw w) _ (starts_raw_line w more e)
-    (λ v k. let m = raw_prefix t + 2 in let sign = closing_sign (drop m t) in quoted-told (look_in_raw sign) (raw-some sign) (m + length (delimiter (drop m t)) + 1) t)
-    (λ v6 h6. pick t (starts_literal t) (starts_literal w) _ _ (opens_literal w) false (starts_literal_line w more e)
-    (λ v k. let n = literal_prefix t in let quote = quote_of (drop n t) in quoted-told (look_in_literal quote) (literal-some quote) (n + 1) t)
-    (λ v7 h7. no h7) h6) h5) h4) h3) h2) h1) h0) h
+    (λ v0 h0.
+    pick t (is_line_end b) (is_line_end b)
+    _ _ false _ refl (λ v k. no k) (λ v1 h1.
+    pick t (begins (codes "/*") t) (begins (codes "/*") w) _ _ (opens_comment w)
+    _ (begins_line (codes "/*") w more refl e) (λ v k. tt) (λ v2 h2.
+    pick t (begins (codes "//") t) (begins (codes "//") w) _
+    _ false _ (begins_line (codes "//") w more refl e)
+    (λ v k. no k) (λ v3 h3.
+    pick t (starts_section t) (starts_section w) _
+    _ false _ (starts_section_line b u more e)
+    (λ v k. no k) (λ v4 h4.
+    pick t (begins (codes "@") t) (begins (codes "@") w) _ _
+    (opens_code effect w) _ (begins_line (codes "@") w more refl e)
+    (λ v k. code_at-opened effect takes_sign b u more k)
+    (λ v5 h5.
+    pick t (starts_raw t) (starts_raw w) _ _
+    (opens_raw w) _ (starts_raw_line w more e)
+    (λ v k.
+    let m = raw_prefix t + 2 in
+    let sign = closing_sign (drop m t) in
+    quoted-told (look_in_raw sign) (raw-some sign)
+    (m + length (delimiter (drop m t)) + 1) t)
+    (λ v6 h6.
+    pick t (starts_literal t) (starts_literal w) _ _
+    (opens_literal w) false (starts_literal_line w more e)
+    (λ v k.
+    let n = literal_prefix t in
+    let quote = quote_of (drop n t) in
+    quoted-told (look_in_literal quote)
+    (literal-some quote) (n + 1) t)
+    (λ v7 h7. no h7) h6)
+    h5)
+    h4)
+    h3)
+    h2)
+    h1)
+    h0)
+    h
 
 -- WHAT A RULE NAMES
 
-text-told : (effect : ℕ → Effect) (b : ℕ) (u more : List ℕ) → AtLineEnd more → IsLine (b ∷ u) → Told (b ∷ u ++ more) (text_front effect (b ∷ u ++ more))
-text-told effect b u more e l = (elim (text_opens effect (b ∷ u)) as (λ v. text_opens effect (b ∷ u) ≡ v → Told (b ∷ u ++ more) (text_front effect (b ∷ u ++ more))) [
-  | true ↦ λ h. text-opened effect b u more e h
-  | false ↦ λ h. subst (Told (b ∷ u ++ more)) (sym (text_front_line effect b u more e h))
-      (in_line-told (text_front effect (b ∷ u)) (b ∷ u) more l (text-stands effect (b ∷ u) l) (text_front-fair TeX effect b u).within)
-]) refl
+text-told : (effect : ℕ → Effect) (b : ℕ) (u more : List ℕ) → AtLineEnd more
+    → IsLine (b ∷ u) → Told (b ∷ u ++ more) (text_front effect (b ∷ u ++ more))
+text-told effect b u more e l =
+    (elim (text_opens effect (b ∷ u))
+    as (λ v. text_opens effect (b ∷ u) ≡ v → Told (b ∷ u ++ more) (text_front effect (b ∷ u ++ more))) [
+      | true ↦ λ h. text-opened effect b u more e h
+      | false ↦ λ h. subst (Told (b ∷ u ++ more)) (sym (text_front_line effect b u more e h))
+          (in_line-told (text_front effect (b ∷ u)) (b ∷ u) more l
+          (text-stands effect (b ∷ u) l) (text_front-fair TeX effect b u).within)
+    ]) refl
 
-c-told : (effect : ℕ → Effect) (takes_sign includes : Bool) (b : ℕ) (u more : List ℕ) → AtLineEnd more → IsLine (b ∷ u) → Told (b ∷ u ++ more) (c_front effect takes_sign includes (b ∷ u ++ more))
-c-told effect takes_sign includes b u more e l = (elim (c_opens effect (b ∷ u)) as (λ v. c_opens effect (b ∷ u) ≡ v → Told (b ∷ u ++ more) (c_front effect takes_sign includes (b ∷ u ++ more))) [
-  | true ↦ λ h. c-opened effect takes_sign includes b u more e h
-  | false ↦ λ h. subst (Told (b ∷ u ++ more)) (sym (c_front_line effect takes_sign includes b u more e h))
-      (in_line-told (c_front effect takes_sign includes (b ∷ u)) (b ∷ u) more l (c-stands effect takes_sign includes b u l) (c_front-fair TeX effect takes_sign includes b u).within)
-]) refl
+c-told : (effect : ℕ → Effect) (takes_sign includes : Bool) (b : ℕ) (u more : List ℕ) → AtLineEnd more
+    → IsLine (b ∷ u) → Told (b ∷ u ++ more) (c_front effect takes_sign includes (b ∷ u ++ more))
+c-told effect takes_sign includes b u more e l =
+    (elim (c_opens effect (b ∷ u)) as (λ v.
+    c_opens effect (b ∷ u) ≡ v → Told (b ∷ u ++ more) (c_front effect takes_sign includes (b ∷ u ++ more))) [
+      | true ↦ λ h. c-opened effect takes_sign includes b u more e h
+      | false ↦ λ h. subst (Told (b ∷ u ++ more)) (sym (c_front_line effect takes_sign includes b u more e h))
+          (in_line-told (c_front effect takes_sign includes (b ∷ u)) (b ∷ u) more l
+          (c-stands effect takes_sign includes b u l) (c_front-fair TeX effect takes_sign includes b u).within)
+    ]) refl
 
-head-told : (k : Kind) (f : Front) (t : List ℕ) → f.kind ≡ k → Told t f → Told t (text_front in_text t) → Told t (head_as k f t)
+head-told : (k : Kind) (f : Front) (t : List ℕ) → f.kind ≡ k → Told t f
+    → Told t (text_front in_text t) → Told t (head_as k f t)
 head-told Blanks f t e h text = h
 head-told LineEnd f t e h text = h
 head-told (Comment how) f t e h text = h
@@ -227,7 +290,8 @@ head-told (Defined tight) f t e h text = text
 head-told Numeral f t e h text = text
 head-told Punctuator f t e h text = text
 
-in-told : (c : Context) (includes : Bool) (b : ℕ) (u more : List ℕ) → AtLineEnd more → IsLine (b ∷ u) → Told (b ∷ u ++ more) (front_in c includes (b ∷ u ++ more))
+in-told : (c : Context) (includes : Bool) (b : ℕ) (u more : List ℕ) → AtLineEnd more
+    → IsLine (b ∷ u) → Told (b ∷ u ++ more) (front_in c includes (b ∷ u ++ more))
 in-told Limbo includes b u more e l = text-told in_limbo b u more e l
 in-told TeX includes b u more e l = text-told in_text b u more e l
 in-told (Definition begun) includes b u more e l =
@@ -236,7 +300,8 @@ in-told (Definition begun) includes b u more e l =
     head-told f.kind f t refl (c-told in_macro true false b u more e l) (text-told in_text b u more e l)
 in-told Macro includes b u more e l =
     let t = b ∷ u ++ more in
-    elim (begins (codes "\\") t && at_line_end (u ++ more)) as (λ v. Told t (if v then front Skipped 1 else c_front in_macro true false t)) [
+    elim (begins (codes "\\") t && at_line_end (u ++ more))
+    as (λ v. Told t (if v then front Skipped 1 else c_front in_macro true false t)) [
       | true ↦ tt
       | false ↦ c-told in_macro true false b u more e l
     ]
@@ -266,10 +331,13 @@ cut (b ∷ t) = (elim (is_line_end b) as (λ v. is_line_end b ≡ v → (c : Lis
   | false ↦ λ h. let r = cut t in ((b ∷ r.0.0, r.0.1), (ap (λ u. b ∷ u) r.1.0, (not_ten b h, r.1.1), r.1.2))
 ]) refl
 
-at_cut : (c : Context) (includes : Bool) (b : ℕ) (t u more : List ℕ) → b ∷ t ≡ u ++ more → IsLine u → AtLineEnd more → Told (b ∷ t) (front_in c includes (b ∷ t))
+at_cut : (c : Context) (includes : Bool) (b : ℕ) (t u more : List ℕ) → b ∷ t ≡ u ++ more
+    → IsLine u → AtLineEnd more → Told (b ∷ t) (front_in c includes (b ∷ t))
 at_cut c includes b t [] [] e l h = let wrong : length (b ∷ t) ≡ 0 = ap length e in absurd (omega (arith, wrong))
-at_cut c includes b t [] (d ∷ more) e l h = subst (λ u. Told u (front_in c includes u)) (sym (e ∙ ap (λ x. x ∷ more) h)) (end-told c includes more)
-at_cut c includes b t (d ∷ u) more e l h = subst (λ w. Told w (front_in c includes w)) (sym e) (in-told c includes d u more h l)
+at_cut c includes b t [] (d ∷ more) e l h =
+    subst (λ u. Told u (front_in c includes u)) (sym (e ∙ ap (λ x. x ∷ more) h)) (end-told c includes more)
+at_cut c includes b t (d ∷ u) more e l h =
+    subst (λ w. Told w (front_in c includes w)) (sym e) (in-told c includes d u more h l)
 
 -- the line ends of what a rule names, in every context and text
 pub told : (c : Context) (includes : Bool) (b : ℕ) (t : List ℕ) → Told (b ∷ t) (front_in c includes (b ∷ t))

@@ -26,22 +26,30 @@ not_passed true h = absurd (h refl)
 not_passed false h = refl
 
 -- what stands before the first byte that passes a test
-pub before_first : (test : ℕ → Bool) (xs : List ℕ) (r : Option ℕ) → IsFirstByte test xs r → unwrap_or r (length xs) ≡ prefix_len (λ b. not (test b)) xs
+pub before_first : (test : ℕ → Bool) (xs : List ℕ) (r : Option ℕ) → IsFirstByte test xs r
+    → unwrap_or r (length xs) ≡ prefix_len (λ b. not (test b)) xs
 before_first test xs None none =
-    sym (prefix_len_is (λ b. not (test b)) xs (length xs) 0 (omega arith) (λ k lt. not_passed (test (get_or xs k 0)) (none k (omega arith) lt)) (λ lt. absurd (omega (arith, lt))))
+    sym (prefix_len_is (λ b. not (test b)) xs (length xs) 0 (omega arith)
+    (λ k lt. not_passed (test (get_or xs k 0)) (none k (omega arith) lt)) (λ lt. absurd (omega (arith, lt))))
 before_first test xs (Some at) first =
-    sym (prefix_len_is (λ b. not (test b)) xs at 0 (omega (arith, first.0.high)) (λ k lt. not_passed (test (get_or xs k 0)) (first.0.before k (omega arith) lt)) (λ lt. ap not first.1))
+    sym (prefix_len_is (λ b. not (test b)) xs at 0 (omega (arith, first.0.high))
+    (λ k lt. not_passed (test (get_or xs k 0)) (first.0.before k (omega arith) lt)) (λ lt. ap not first.1))
 
-pub before_first-within : (test : ℕ → Bool) (xs : List ℕ) (r : Option ℕ) → IsFirstByte test xs r → unwrap_or r (length xs) ≤ length xs
-before_first-within test xs r first = subst (λ n. n ≤ length xs) (sym (before_first test xs r first)) (prefix_len-le-length (λ b. not (test b)) xs)
+pub before_first-within : (test : ℕ → Bool) (xs : List ℕ) (r : Option ℕ)
+    → IsFirstByte test xs r → unwrap_or r (length xs) ≤ length xs
+before_first-within test xs r first =
+    subst (λ n. n ≤ length xs) (sym (before_first test xs r first)) (prefix_len-le-length (λ b. not (test b)) xs)
 
 -- two tests, one after the other
-pub before_either : (p q : ℕ → Bool) (xs : List ℕ) → prefix_len (λ b. not (q b)) (take (prefix_len (λ b. not (p b)) xs) xs) ≡ prefix_len (λ b. not (p b || q b)) xs
+pub before_either : (p q : ℕ → Bool) (xs : List ℕ)
+    → prefix_len (λ b. not (q b)) (take (prefix_len (λ b. not (p b)) xs) xs) ≡ prefix_len (λ b. not (p b || q b)) xs
 before_either p q [] = refl
 before_either p q (x ∷ xs) = by (p x) (before_either p q xs)
   where
-    by : (v : Bool) → prefix_len (λ b. not (q b)) (take (prefix_len (λ b. not (p b)) xs) xs) ≡ prefix_len (λ b. not (p b || q b)) xs
-        → prefix_len (λ b. not (q b)) (take (cond (not v) (1 + prefix_len (λ b. not (p b)) xs) 0) (x ∷ xs)) ≡ cond (not (v || q x)) (1 + prefix_len (λ b. not (p b || q b)) xs) 0
+    by : (v : Bool)
+        → prefix_len (λ b. not (q b)) (take (prefix_len (λ b. not (p b)) xs) xs) ≡ prefix_len (λ b. not (p b || q b)) xs
+        → prefix_len (λ b. not (q b)) (take (cond (not v) (1 + prefix_len (λ b. not (p b)) xs) 0) (x ∷ xs))
+        ≡ cond (not (v || q x)) (1 + prefix_len (λ b. not (p b || q b)) xs) 0
     by true rest = refl
     by false rest =
         let e : 1 + prefix_len (λ b. not (p b)) xs ≡ suc (prefix_len (λ b. not (p b)) xs) = omega arith in
@@ -71,26 +79,41 @@ three false false w h = (refl, refl, h)
 
 control_goes : (b : ℕ) (t : List ℕ) → (64 == b) ≡ false → (b == 10) ≡ false → look_in_control (b ∷ t) ≡ Goes 1
 control_goes b t at line =
-    λ i. if at i && begins (codes ">") t then Ends 2 Closed else (if at i && begins (codes "@") t then Goes 2 else (if (at i && true) || line i then Ends 0 Cut else Goes 1))
+    λ i.
+    if at i && begins (codes ">") t then Ends 2 Closed
+    else (if at i && begins (codes "@") t then Goes 2
+    else (if (at i && true) || line i then Ends 0 Cut else Goes 1))
 
 name_goes : (b : ℕ) (t : List ℕ) → (b == 64) ≡ false → look_in_name (b ∷ t) ≡ Goes 1
 name_goes b t h =
     let at = turned 64 b h in
     let section = no_section b t h in
-    λ i. if at i && begins (codes ">") t then Ends 2 Closed else (if (at i && begins (codes "<") t) || (at i && begins (codes "(") t) then Ends 0 Nested else (if section i then Ends 0 Cut else (if at i && true then Goes 2 else Goes 1)))
+    λ i.
+    if at i && begins (codes ">") t then Ends 2 Closed
+    else (if (at i && begins (codes "<") t) || (at i && begins (codes "(") t) then Ends 0 Nested
+    else (if section i then Ends 0 Cut else (if at i && true then Goes 2 else Goes 1)))
 
-comment_goes : (closes : List ℕ → Bool) (n b : ℕ) (t : List ℕ) → closes (b ∷ t) ≡ false → (b == 64) ≡ false → look_in_comment closes n (b ∷ t) ≡ Goes 1
+comment_goes : (closes : List ℕ → Bool) (n b : ℕ) (t : List ℕ) → closes (b ∷ t) ≡ false
+    → (b == 64) ≡ false → look_in_comment closes n (b ∷ t) ≡ Goes 1
 comment_goes closes n b t on h =
     let at = turned 64 b h in
     let section = no_section b t h in
     λ i. if on i then Ends n Closed else (if section i then Ends 0 Cut else (if at i && true then Goes 2 else Goes 1))
 
-literal_goes : (quote b : ℕ) (t : List ℕ) → (quote == b) ≡ false → (92 == b) ≡ false → (64 == b) ≡ false → (b == 10) ≡ false → look_in_literal quote (b ∷ t) ≡ Goes 1
+literal_goes : (quote b : ℕ) (t : List ℕ) → (quote == b) ≡ false → (92 == b) ≡ false
+    → (64 == b) ≡ false → (b == 10) ≡ false → look_in_literal quote (b ∷ t) ≡ Goes 1
 literal_goes quote b t on back at line =
-    λ i. if on i && true then Ends 1 Closed else (if line i then Ends 0 Cut else (if back i && begins (codes "@") t then Goes 1 else (if (back i && true) || (at i && begins (codes "@") t) then Goes 2 else Goes 1)))
+    λ i.
+    if on i && true then Ends 1 Closed
+    else (if line i then Ends 0 Cut
+    else (if back i && begins (codes "@") t then Goes 1
+    else (if (back i && true) || (at i && begins (codes "@") t) then Goes 2 else Goes 1)))
 
-include_goes : (b : ℕ) (t : List ℕ) → (62 == b) ≡ false → (64 == b) ≡ false → (b == 10) ≡ false → look_in_include (b ∷ t) ≡ Goes 1
-include_goes b t on at line = λ i. if on i && true then Ends 1 Closed else (if line i then Ends 0 Cut else (if at i && begins (codes "@") t then Goes 2 else Goes 1))
+include_goes : (b : ℕ) (t : List ℕ) → (62 == b) ≡ false → (64 == b) ≡ false
+    → (b == 10) ≡ false → look_in_include (b ∷ t) ≡ Goes 1
+include_goes b t on at line = λ i.
+    if on i && true then Ends 1 Closed
+    else (if line i then Ends 0 Cut else (if at i && begins (codes "@") t then Goes 2 else Goes 1))
 
 pub raw_goes : (sign : List ℕ) (b : ℕ) (t : List ℕ) → is_raw_sign sign b ≡ false → look_in_raw sign (b ∷ t) ≡ Goes 1
 raw_goes [] b t h = cc
@@ -99,7 +122,9 @@ raw_goes (first ∷ rest) b t h =
     let at = turned 64 b off.0 in
     let on = turned first b off.1 in
     let section = no_section b t off.0 in
-    λ i. if on i && begins rest t then Ends (length (first ∷ rest)) Closed else (if section i then Ends 0 Cut else (if at i && begins (codes "@") t then Goes 2 else Goes 1))
+    λ i.
+    if on i && begins rest t then Ends (length (first ∷ rest)) Closed
+    else (if section i then Ends 0 Cut else (if at i && begins (codes "@") t then Goes 2 else Goes 1))
 
 -- such a byte is a unit, whatever stands behind it
 pub plain_goes : (item : Item) (b : ℕ) (t : List ℕ) → is_sign item b ≡ false → look_of item (b ∷ t) ≡ Goes 1
@@ -120,7 +145,8 @@ plain_goes (RawLiteral sign) b t h = raw_goes sign.now b t h
 
 -- nor is it an `@`
 pub no_at_in_literal : (quote b : ℕ) → is_sign (Literal quote) b ≡ false → (b == 64) ≡ false
-no_at_in_literal quote b h = (three (b == 64) (b == 92) (b == quote) (neither (b == 64 || b == 92 || b == quote) (b == 10) h).0).0
+no_at_in_literal quote b h =
+    (three (b == 64) (b == 92) (b == quote) (neither (b == 64 || b == 92 || b == quote) (b == 10) h).0).0
 
 pub no_at_in_raw : (sign : List ℕ) (b : ℕ) → is_raw_sign sign b ≡ false → (b == 64) ≡ false
 no_at_in_raw [] b h = cc
@@ -128,7 +154,8 @@ no_at_in_raw (first ∷ rest) b h = (neither (b == 64) (b == first) h).0
 
 -- how far an item reaches behind a run of them
 pub reach_plain : (item : Item) (e : End) (t : List ℕ)
-    → reached (reach (look_of item) e t) ≡ later_by (prefix_len (is_plain item) t) (reached (reach (look_of item) e (drop (prefix_len (is_plain item) t) t)))
+    → reached (reach (look_of item) e t)
+    ≡ later_by (prefix_len (is_plain item) t) (reached (reach (look_of item) e (drop (prefix_len (is_plain item) t) t)))
 reach_plain item e [] = later_by-zero (reached (reach (look_of item) e []))
 reach_plain item e (b ∷ t) = by (is_plain item b) refl (reach_plain item e t)
   where
@@ -142,7 +169,8 @@ reach_plain item e (b ∷ t) = by (is_plain item b) refl (reach_plain item e t)
     one = omega arith
 
     by : (v : Bool) → is_plain item b ≡ v → reached (reach look e t) ≡ later_by n (reached (reach look e (drop n t)))
-        → reached (reach look e (b ∷ t)) ≡ later_by (cond v (1 + n) 0) (reached (reach look e (drop (cond v (1 + n) 0) (b ∷ t))))
+        → reached (reach look e (b ∷ t))
+        ≡ later_by (cond v (1 + n) 0) (reached (reach look e (drop (cond v (1 + n) 0) (b ∷ t))))
     by false off rest = later_by-zero (reached (reach look e (b ∷ t)))
     by true on rest =
         let next : 1 + n ≡ suc n = omega arith in

@@ -15,18 +15,26 @@ abbrev pub later_by : ℕ → Reached → Reached
 later_by n r = record { size = n + r.size; close = r.close; how = r.how }
 
 pub later_by-add : (m n : ℕ) (r : Reached) → later_by m (later_by n r) ≡ later_by (m + n) r
-later_by-add m n r = let e : m + (n + r.size) ≡ (m + n) + r.size = omega arith in ap (λ k. record { size = k; close = r.close; how = r.how }) e
+later_by-add m n r =
+    let e : m + (n + r.size) ≡ (m + n) + r.size = omega arith in
+    ap (λ k. record { size = k; close = r.close; how = r.how }) e
 
 pub later_by-zero : (r : Reached) → r ≡ later_by 0 r
-later_by-zero r = let e : r.size ≡ 0 + r.size = omega arith in ap (λ k. record { size = k; close = r.close; how = r.how }) e
+later_by-zero r =
+    let e : r.size ≡ 0 + r.size = omega arith in ap (λ k. record { size = k; close = r.close; how = r.how }) e
 
-pub reach_in-drop : (look : List ℕ → Look) (e : End) (k : ℕ) (t : List ℕ) → reach_in look e k t ≡ reach look e (drop k t)
+pub reach_in-drop : (look : List ℕ → Look) (e : End) (k : ℕ) (t : List ℕ)
+    → reach_in look e k t ≡ reach look e (drop k t)
 reach_in-drop look e zero t = refl
 reach_in-drop look e (suc k) [] = refl
 reach_in-drop look e (suc k) (b ∷ t) = reach_in-drop look e k t
 
 abbrev at_front : (List ℕ → Look) → End → Look → List ℕ → List ℕ → Reach
-at_front look e v u t = elim v [ Goes n ↦ with_unit (take n u) (reach_in look e (n - 1) t) | Ends n how ↦ record { units = []; close = n; how = how } ]
+at_front look e v u t =
+    elim v [
+      | Goes n ↦ with_unit (take n u) (reach_in look e (n - 1) t)
+      | Ends n how ↦ record { units = []; close = n; how = how }
+    ]
 
 unit-size : (u : List ℕ) (r : Reach) → reached (with_unit u r) ≡ later_by (length u) (reached r)
 unit-size u r = ap (λ n. record { size = n; close = r.close; how = r.how }) (length-append u (body r))
@@ -40,24 +48,29 @@ reach_goes look e n (b ∷ t) some moves h =
     ap (λ v. reached (at_front look e v (b ∷ t) t)) h
     ∙ unit-size (take n (b ∷ t)) (reach_in look e (n - 1) t)
     ∙ ap (λ k. later_by k (reached (reach_in look e (n - 1) t))) (length-take n (b ∷ t))
-    ∙ ap (λ (r : Reach). later_by (min n (length (b ∷ t))) (reached r)) (reach_in-drop look e (n - 1) t ∙ ap (λ k. reach look e (drop k (b ∷ t))) (sym same))
+    ∙ ap (λ (r : Reach). later_by (min n (length (b ∷ t))) (reached r))
+    (reach_in-drop look e (n - 1) t ∙ ap (λ k. reach look e (drop k (b ∷ t))) (sym same))
     ∙ ap (λ u. later_by (min n (length (b ∷ t))) (reached (reach look e u))) (sym (drop_min n (b ∷ t)))
 
-pub reach_ended : (look : List ℕ → Look) (e how : End) (n : ℕ) (t : List ℕ) → 0 < length t → look t ≡ Ends n how → reached (reach look e t) ≡ record { size = 0; close = n; how = how }
+pub reach_ended : (look : List ℕ → Look) (e how : End) (n : ℕ) (t : List ℕ) → 0 < length t
+    → look t ≡ Ends n how → reached (reach look e t) ≡ record { size = 0; close = n; how = how }
 reach_ended look e how n [] some h = absurd (omega arith)
 reach_ended look e how n (b ∷ t) some h = ap (λ v. reached (at_front look e v (b ∷ t) t)) h
 
-closed_at : (look : List ℕ → Look) (b : ℕ) (t : List ℕ) (v : Look) → ((k : ℕ) → is_closed (reach_in look Cut k t).how ≡ is_closed (reach_in look Open k t).how)
+closed_at : (look : List ℕ → Look) (b : ℕ) (t : List ℕ) (v : Look)
+    → ((k : ℕ) → is_closed (reach_in look Cut k t).how ≡ is_closed (reach_in look Open k t).how)
     → is_closed (at_front look Cut v (b ∷ t) t).how ≡ is_closed (at_front look Open v (b ∷ t) t).how
 closed_at look b t (Goes n) h = h (n - 1)
 closed_at look b t (Ends n how) h = refl
 
-closed_in : (look : List ℕ → Look) (k : ℕ) (t : List ℕ) → is_closed (reach_in look Cut k t).how ≡ is_closed (reach_in look Open k t).how
+closed_in : (look : List ℕ → Look) (k : ℕ) (t : List ℕ)
+    → is_closed (reach_in look Cut k t).how ≡ is_closed (reach_in look Open k t).how
 closed_in look zero [] = refl
 closed_in look (suc k) [] = refl
 closed_in look (suc k) (b ∷ t) = closed_in look k t
 closed_in look zero (b ∷ t) = closed_at look b t (look (b ∷ t)) (λ k. closed_in look k t)
 
 -- whether an end sign closes an item doesn't depend on how the item ends without one
-pub closed_same : (look : List ℕ → Look) (t : List ℕ) → is_closed (reach look Cut t).how ≡ is_closed (reach look Open t).how
+pub closed_same : (look : List ℕ → Look) (t : List ℕ)
+    → is_closed (reach look Cut t).how ≡ is_closed (reach look Open t).how
 closed_same look t = closed_in look 0 t

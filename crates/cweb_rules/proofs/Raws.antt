@@ -20,7 +20,8 @@ drop_over zero t more h = refl
 drop_over (suc n) [] more h = absurd (omega arith)
 drop_over (suc n) (b ∷ t) more h = drop_over n t more (omega arith)
 
-pub quoted_stays : (n : ℕ) (r : Reach) (t more : List ℕ) → n + size_of r ≤ length t → quoted n r (t ++ more) ≡ quoted n r t
+pub quoted_stays : (n : ℕ) (r : Reach) (t more : List ℕ)
+    → n + size_of r ≤ length t → quoted n r (t ++ more) ≡ quoted n r t
 quoted_stays n r t more h =
     let k = n + length (body r) in
     let within : r.close ≤ length (drop k t) = omega (arith, length-drop k t, h) in
@@ -42,11 +43,13 @@ opens_at n t = is_raw n t && has_delimiter (drop (n + 2) t)
 abbrev is_letter_raw : List ℕ → Bool
 is_letter_raw t = begins (codes "LR\"") t || begins (codes "uR\"") t || begins (codes "UR\"") t
 
-raw_none : (t : List ℕ) → begins (codes "u8R\"") t ≡ false → is_letter_raw t ≡ false → is_raw 0 t ≡ false → starts_raw t ≡ false
+raw_none : (t : List ℕ) → begins (codes "u8R\"") t ≡ false
+    → is_letter_raw t ≡ false → is_raw 0 t ≡ false → starts_raw t ≡ false
 raw_none t v w h = (λ i. opens_at (pick (v i) (w i)) t) ∙ ap (λ x. x && has_delimiter (drop 2 t)) h
 
 -- where a byte is told apart from the letters of the prefixes and from `R`
-pub plain_raw : (p : ℕ → Bool) (v : Bool) (b : ℕ) (t : List ℕ) → p b ≡ v → p 76 ≡ not v → p 117 ≡ not v → p 85 ≡ not v → p 82 ≡ not v → starts_raw (b ∷ t) ≡ false
+pub plain_raw : (p : ℕ → Bool) (v : Bool) (b : ℕ) (t : List ℕ) → p b ≡ v → p 76 ≡ not v
+    → p 117 ≡ not v → p 85 ≡ not v → p 82 ≡ not v → starts_raw (b ∷ t) ≡ false
 plain_raw p v b t w hL hu hU hR =
     let eL = unlike p 76 b v w hL in
     let eu = unlike p 117 b v w hu in
@@ -61,7 +64,8 @@ no_quote : (c : ℕ) → after_word c ≡ false → (34 == c) ≡ false
 no_quote c h = (neither (34 == c) ((39 == c) || false) (neither (is_word_byte c) (is_one_of (codes "\"'") c) h).1).0
 
 -- word bytes and a quote don't begin word bytes that no word byte and no quote follows
-no_mark : (w d more : List ℕ) → list_all is_word_byte w ≡ true → list_all is_word_byte d ≡ true → first_is after_word more ≡ false → begins (w ++ 34 ∷ []) (d ++ more) ≡ false
+no_mark : (w d more : List ℕ) → list_all is_word_byte w ≡ true → list_all is_word_byte d ≡ true
+    → first_is after_word more ≡ false → begins (w ++ 34 ∷ []) (d ++ more) ≡ false
 no_mark [] [] [] a all h = refl
 no_mark [] [] (c ∷ more) a all h = ap (λ v. v && true) (no_quote c h)
 no_mark [] (b ∷ d) more a all h =
@@ -72,12 +76,16 @@ no_mark (x ∷ w) [] (c ∷ more) a all h =
     let in_word : is_word_byte x ≡ true = (both (is_word_byte x) (list_all is_word_byte w) a).0 in
     ap (λ v. v && begins (w ++ 34 ∷ []) more) (unlike is_word_byte x c false out in_word)
 no_mark (x ∷ w) (b ∷ d) more a all h =
-    let rest = no_mark w d more (both (is_word_byte x) (list_all is_word_byte w) a).1 (both (is_word_byte b) (list_all is_word_byte d) all).1 h in
+    let rest =
+    no_mark w d more (both (is_word_byte x) (list_all is_word_byte w) a).1
+    (both (is_word_byte b) (list_all is_word_byte d) all).1 h in
     ap (λ v. (x == b) && v) rest ∙ and_false (x == b)
 
-pub word_raw : (d more : List ℕ) → list_all is_word_byte d ≡ true → first_is after_word more ≡ false → starts_raw (d ++ more) ≡ false
+pub word_raw : (d more : List ℕ) → list_all is_word_byte d ≡ true
+    → first_is after_word more ≡ false → starts_raw (d ++ more) ≡ false
 word_raw d more all h =
-    let none : (w : List ℕ) → list_all is_word_byte w ≡ true → begins (w ++ 34 ∷ []) (d ++ more) ≡ false = λ w a. no_mark w d more a all h in
+    let none : (w : List ℕ) → list_all is_word_byte w ≡ true → begins (w ++ 34 ∷ []) (d ++ more) ≡ false = λ w a.
+    no_mark w d more a all h in
     raw_none (d ++ more) (none (codes "u8R") refl)
     (λ i. none (codes "LR") refl i || none (codes "uR") refl i || none (codes "UR") refl i) (none (codes "R") refl)
 
@@ -100,44 +108,63 @@ abbrev seen : ℕ → Bool → Bool → Bool → Look
 seen size closes cut pair = cond closes (Ends size Closed) (cond cut (Ends 0 Cut) (cond pair (Goes 2) (Goes 1)))
 
 abbrev at_front : (List ℕ → Look) → Look → List ℕ → List ℕ → Reach
-at_front look v u w = elim v [ Goes n ↦ with_unit (take n u) (reach_in look Cut (n - 1) w) | Ends n how ↦ record { units = []; close = n; how = how } ]
+at_front look v u w =
+    elim v [
+      | Goes n ↦ with_unit (take n u) (reach_in look Cut (n - 1) w)
+      | Ends n how ↦ record { units = []; close = n; how = how }
+    ]
 
-one_long : (close : List ℕ) (b : ℕ) (t : List ℕ) (c s p : Bool) → (c ≡ true → length close ≤ length (b ∷ t)) → (at_front (look_in_raw close) (seen (length close) c s p) (b ∷ t) t).how ≡ Closed
-    → ((k : ℕ) → (reach_in (look_in_raw close) Cut k t).how ≡ Closed → length close ≤ length t) → length close ≤ length (b ∷ t)
+one_long : (close : List ℕ) (b : ℕ) (t : List ℕ) (c s p : Bool) → (c ≡ true → length close ≤ length (b ∷ t))
+    → (at_front (look_in_raw close) (seen (length close) c s p) (b ∷ t) t).how ≡ Closed
+    → ((k : ℕ) → (reach_in (look_in_raw close) Cut k t).how ≡ Closed → length close ≤ length t)
+    → length close ≤ length (b ∷ t)
 one_long close b t true s p f h ih = f refl
 one_long close b t false true p f h ih = cc
 one_long close b t false false true f h ih = let i = ih 1 h in omega (arith, i)
 one_long close b t false false false f h ih = let i = ih 0 h in omega (arith, i)
 
-long : (close : List ℕ) (k : ℕ) (t : List ℕ) → (reach_in (look_in_raw close) Cut k t).how ≡ Closed → length close ≤ length t
+long : (close : List ℕ) (k : ℕ) (t : List ℕ)
+    → (reach_in (look_in_raw close) Cut k t).how ≡ Closed → length close ≤ length t
 long close k [] h = cc
 long close (suc k) (b ∷ t) h = let i = long close k t h in omega (arith, i)
-long close zero (b ∷ t) h = one_long close b t (begins close (b ∷ t)) (starts_section (b ∷ t)) (begins (codes "@@") (b ∷ t)) (begins-size close (b ∷ t)) h (λ k g. long close k t g)
+long close zero (b ∷ t) h =
+    one_long close b t (begins close (b ∷ t)) (starts_section (b ∷ t))
+    (begins (codes "@@") (b ∷ t)) (begins-size close (b ∷ t)) h (λ k g. long close k t g)
 
-further_byte : (look : List ℕ → Look) (n : ℕ) (q e p : Bool) (b c : ℕ) (t more : List ℕ) → (at_front look (seen n q e p) (b ∷ c ∷ t) (c ∷ t)).how ≡ Closed
-    → ((k : ℕ) → (reach_in look Cut k (c ∷ t)).how ≡ Closed → reach_in look Cut k (c ∷ t ++ more) ≡ reach_in look Cut k (c ∷ t))
-    → at_front look (seen n q e p) (b ∷ c ∷ t ++ more) (c ∷ t ++ more) ≡ at_front look (seen n q e p) (b ∷ c ∷ t) (c ∷ t)
+further_byte : (look : List ℕ → Look) (n : ℕ) (q e p : Bool) (b c : ℕ) (t more : List ℕ)
+    → (at_front look (seen n q e p) (b ∷ c ∷ t) (c ∷ t)).how ≡ Closed
+    → ((k : ℕ) → (reach_in look Cut k (c ∷ t)).how ≡ Closed
+    → reach_in look Cut k (c ∷ t ++ more) ≡ reach_in look Cut k (c ∷ t))
+    → at_front look (seen n q e p) (b ∷ c ∷ t ++ more) (c ∷ t ++ more)
+    ≡ at_front look (seen n q e p) (b ∷ c ∷ t) (c ∷ t)
 further_byte look n true e p b c t more h ih = refl
 further_byte look n false true p b c t more h ih = refl
 further_byte look n false false true b c t more h ih = ap (with_unit (b ∷ c ∷ [])) (ih 1 h)
 further_byte look n false false false b c t more h ih = ap (with_unit (b ∷ [])) (ih 0 h)
 
-closed_stays : (close : List ℕ) → 2 ≤ length close → (k : ℕ) (t more : List ℕ) → (reach_in (look_in_raw close) Cut k t).how ≡ Closed
+closed_stays : (close : List ℕ) → 2 ≤ length close → (k : ℕ) (t more : List ℕ)
+    → (reach_in (look_in_raw close) Cut k t).how ≡ Closed
     → reach_in (look_in_raw close) Cut k (t ++ more) ≡ reach_in (look_in_raw close) Cut k t
 closed_stays close two k [] more h = cc
 closed_stays close two (suc k) (b ∷ t) more h = closed_stays close two k t more h
 closed_stays close two zero (b ∷ []) more h = let l = long close 0 (b ∷ []) h in absurd (omega (arith, l, two))
 closed_stays close two zero (b ∷ c ∷ t) more h =
     let u = b ∷ c ∷ t in
-    ap (λ v. at_front (look_in_raw close) (seen (length close) v (starts_section u) (begins (codes "@@") u)) (u ++ more) (c ∷ t ++ more)) (begins_fits close u more (long close 0 u h))
-    ∙ further_byte (look_in_raw close) (length close) (begins close u) (starts_section u) (begins (codes "@@") u) b c t more h (λ k g. closed_stays close two k (c ∷ t) more g)
+    ap (λ v.
+    at_front (look_in_raw close) (seen (length close) v (starts_section u) (begins (codes "@@") u))
+    (u ++ more) (c ∷ t ++ more))
+    (begins_fits close u more (long close 0 u h))
+    ∙ further_byte (look_in_raw close) (length close) (begins close u) (starts_section u)
+    (begins (codes "@@") u) b c t more h (λ k g. closed_stays close two k (c ∷ t) more g)
 
 -- THE WHOLE RAW LITERAL
 
 prefix_within : (p : ℕ → Bool) (t more : List ℕ) → prefix_len p t < length t → prefix_len p (t ++ more) ≡ prefix_len p t
 prefix_within p [] more h = absurd (omega (arith, h))
 prefix_within p (b ∷ t) more h =
-    elim (p b) as (λ v. cond v (1 + prefix_len p t) 0 < length (b ∷ t) → cond v (1 + prefix_len p (t ++ more)) 0 ≡ cond v (1 + prefix_len p t) 0) [
+    elim (p b) as (λ v.
+    cond v (1 + prefix_len p t) 0 < length (b ∷ t)
+    → cond v (1 + prefix_len p (t ++ more)) 0 ≡ cond v (1 + prefix_len p t) 0) [
       | true ↦ λ l. ap (λ n. 1 + n) (prefix_within p t more (omega (arith, l)))
       | false ↦ λ l. refl
     ] h
@@ -155,7 +182,8 @@ same y more h =
     let inside : m < length y = omega (arith, paren, length-drop m y) in
     let size : prefix_len is_delimiter (y ++ more) ≡ m = prefix_within is_delimiter y more inside in
     let rest : begins (codes "(") (drop m (y ++ more)) ≡ true =
-    ap (begins (codes "(")) (drop_over m y more (omega (arith, inside))) ∙ begins-append (codes "(") (drop m y) more e.1 in
+    ap (begins (codes "(")) (drop_over m y more (omega (arith, inside)))
+    ∙ begins-append (codes "(") (drop m y) more e.1 in
     record {
       delimited = ap (λ n. take n (y ++ more)) size ∙ take-append-le m y more (omega (arith, inside));
       has = ap (λ n. nat_le n 16 && begins (codes "(") (drop n (y ++ more))) size ∙ (λ i. e.0 i && rest i);
@@ -173,7 +201,8 @@ raw_from n t = quoted (start_of n t) (inside_of n t) t
 two : (y : List ℕ) → 2 ≤ length (closing_sign y)
 two y = omega (arith, length-append (delimiter y) (codes "\""))
 
-raw_with : (n : ℕ) (t more : List ℕ) → opens_at n t ≡ true → (inside_of n t).how ≡ Closed → start_of n t + size_of (inside_of n t) ≤ length t
+raw_with : (n : ℕ) (t more : List ℕ) → opens_at n t ≡ true
+    → (inside_of n t).how ≡ Closed → start_of n t + size_of (inside_of n t) ≤ length t
     → (raw_from n (t ++ more) ≡ raw_from n t) × (opens_at n (t ++ more) ≡ true)
 raw_with n t more o closed within =
     let x = drop n t in
@@ -185,7 +214,8 @@ raw_with n t more o closed within =
     let s = same y more e.1 in
     let delimited : delimiter (drop (n + 2) (t ++ more)) ≡ delimiter y = ap delimiter over2 ∙ s.delimited in
     let start : start_of n (t ++ more) ≡ start_of n t = ap (λ d. n + 2 + length d + 1) delimited in
-    let close : closing_sign (drop (n + 2) (t ++ more)) ≡ closing_sign y = ap (λ d. codes ")" ++ d ++ codes "\"") delimited in
+    let close : closing_sign (drop (n + 2) (t ++ more)) ≡ closing_sign y =
+    ap (λ d. codes ")" ++ d ++ codes "\"") delimited in
     let rest = drop_over (start_of n t) t more (omega (arith, within)) in
     let is : inside_of n (t ++ more) ≡ inside_of n t =
     (λ i. raw_literal (close i) (drop (start i) (t ++ more))) ∙ ap (raw_literal (closing_sign y)) rest
@@ -197,7 +227,8 @@ raw_with n t more o closed within =
     )
 
 abbrev pub ends_raw : List ℕ → Type 0
-ends_raw t = let n = raw_prefix t in ((inside_of n t).how ≡ Closed) × (start_of n t + size_of (inside_of n t) ≤ length t)
+ends_raw t =
+    let n = raw_prefix t in ((inside_of n t).how ≡ Closed) × (start_of n t + size_of (inside_of n t) ≤ length t)
 
 -- an item that its closing sign ended has the bytes of that sign
 enough : (n : ℕ) (t : List ℕ) → (inside_of n t).how ≡ Closed → 5 ≤ length t
@@ -206,11 +237,13 @@ enough n t closed =
     let l = long (closing_sign y) 0 (drop (start_of n t) t) closed in
     omega (arith, l, two y, length-drop (start_of n t) t)
 
-pub raw_stays : (t more : List ℕ) → starts_raw t ≡ true → ends_raw t → (raw_at (t ++ more) ≡ raw_at t) × (starts_raw (t ++ more) ≡ true)
+pub raw_stays : (t more : List ℕ) → starts_raw t ≡ true → ends_raw t
+    → (raw_at (t ++ more) ≡ raw_at t) × (starts_raw (t ++ more) ≡ true)
 raw_stays [] more o ends = absurd (omega (arith, enough (raw_prefix []) [] ends.0))
 raw_stays (a ∷ []) more o ends = absurd (omega (arith, enough (raw_prefix (a ∷ [])) (a ∷ []) ends.0))
 raw_stays (a ∷ b ∷ []) more o ends = absurd (omega (arith, enough (raw_prefix (a ∷ b ∷ [])) (a ∷ b ∷ []) ends.0))
-raw_stays (a ∷ b ∷ c ∷ []) more o ends = absurd (omega (arith, enough (raw_prefix (a ∷ b ∷ c ∷ [])) (a ∷ b ∷ c ∷ []) ends.0))
+raw_stays (a ∷ b ∷ c ∷ []) more o ends =
+    absurd (omega (arith, enough (raw_prefix (a ∷ b ∷ c ∷ [])) (a ∷ b ∷ c ∷ []) ends.0))
 raw_stays (a ∷ b ∷ c ∷ e ∷ t) more o ends =
     let d = a ∷ b ∷ c ∷ e ∷ t in
     raw_with (raw_prefix d) d more o ends.0 ends.1

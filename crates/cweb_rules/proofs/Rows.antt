@@ -21,28 +21,34 @@ longest_punctuator = refl
 unclosed_comment : front_in CText false (codes "/*/ a") ≡ front (Comment Cut) 5
 unclosed_comment = refl
 
-included_name_in_a_directive : front_in CText true (codes "<a.h> b") ≡ front (Quoted (codes "<" ∷ codes "a" ∷ codes "." ∷ codes "h" ∷ codes ">" ∷ []) Closed) 5
+included_name_in_a_directive : front_in CText true (codes "<a.h> b")
+    ≡ front (Quoted (codes "<" ∷ codes "a" ∷ codes "." ∷ codes "h" ∷ codes ">" ∷ []) Closed) 5
 included_name_in_a_directive = refl
 
 less_than_elsewhere : front_in CText false (codes "<a.h>") ≡ front Punctuator 1
 less_than_elsewhere = refl
 
-raw_literal_with_a_delimiter : front_in CText false (codes "R\"d()\")d\"x") ≡ front (Quoted (codes "R\"d(" ∷ codes ")" ∷ codes "\"" ∷ codes ")d\"" ∷ []) Closed) 9
+raw_literal_with_a_delimiter : front_in CText false (codes "R\"d()\")d\"x")
+    ≡ front (Quoted (codes "R\"d(" ∷ codes ")" ∷ codes "\"" ∷ codes ")d\"" ∷ []) Closed) 9
 raw_literal_with_a_delimiter = refl
 
-cut_literal : front_in Macro false (codes "L'a@@") ≡ front (Quoted (codes "L'" ∷ codes "a" ∷ codes "@@" ∷ [] ∷ []) Cut) 5
+cut_literal : front_in Macro false (codes "L'a@@")
+    ≡ front (Quoted (codes "L'" ∷ codes "a" ∷ codes "@@" ∷ [] ∷ []) Cut) 5
 cut_literal = refl
 
 nested_name : front_in CText false (codes "@<a@<b@>") ≡ front (Occurrence false (codes "a" ∷ []) Nested false) 3
 nested_name = refl
 
-name_with_its_sign_in_text : front_in TeX false (codes "@(a@> +=b") ≡ front (Occurrence true (codes "a" ∷ []) Closed true) 8
+name_with_its_sign_in_text : front_in TeX false (codes "@(a@> +=b")
+    ≡ front (Occurrence true (codes "a" ∷ []) Closed true) 8
 name_with_its_sign_in_text = refl
 
-name_before_a_sign_in_c_text : front_in CText false (codes "@(a@> +=b") ≡ front (Occurrence true (codes "a" ∷ []) Closed true) 5
+name_before_a_sign_in_c_text : front_in CText false (codes "@(a@> +=b")
+    ≡ front (Occurrence true (codes "a" ∷ []) Closed true) 5
 name_before_a_sign_in_c_text = refl
 
-no_sign_before_another_one : front_in TeX false (codes "@<a@>==b") ≡ front (Occurrence false (codes "a" ∷ []) Closed false) 5
+no_sign_before_another_one : front_in TeX false (codes "@<a@>==b")
+    ≡ front (Occurrence false (codes "a" ∷ []) Closed false) 5
 no_sign_before_another_one = refl
 
 backslash_at_a_macros_line_end : front_in Macro false (codes "\\\nx") ≡ front Skipped 1

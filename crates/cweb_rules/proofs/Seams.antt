@@ -27,13 +27,16 @@ differs p x b h g = (elim (x == b) as (λ v. (x == b) ≡ v → v ≡ false) [
 ]) refl
 
 -- a sign of bytes of a class
-pub begins_stop : (p : ℕ → Bool) (s t more : List ℕ) → list_all p s ≡ true → first_is p more ≡ false → begins s (t ++ more) ≡ begins s t
+pub begins_stop : (p : ℕ → Bool) (s t more : List ℕ) → list_all p s ≡ true
+    → first_is p more ≡ false → begins s (t ++ more) ≡ begins s t
 begins_stop p [] t more a h = refl
 begins_stop p (x ∷ s) [] [] a h = refl
 begins_stop p (x ∷ s) [] (b ∷ more) a h = ap (λ v. v && begins s more) (differs p x b (both (p x) (list_all p s) a).0 h)
-begins_stop p (x ∷ s) (b ∷ t) more a h = ap (λ v. (x == b) && v) (begins_stop p s t more (both (p x) (list_all p s) a).1 h)
+begins_stop p (x ∷ s) (b ∷ t) more a h =
+    ap (λ v. (x == b) && v) (begins_stop p s t more (both (p x) (list_all p s) a).1 h)
 
-pub begins_drop : (p : ℕ → Bool) (s : List ℕ) (n : ℕ) (t more : List ℕ) → list_all p s ≡ true → first_is p more ≡ false → n ≤ length t → begins s (drop n (t ++ more)) ≡ begins s (drop n t)
+pub begins_drop : (p : ℕ → Bool) (s : List ℕ) (n : ℕ) (t more : List ℕ) → list_all p s ≡ true
+    → first_is p more ≡ false → n ≤ length t → begins s (drop n (t ++ more)) ≡ begins s (drop n t)
 begins_drop p s n t more a h fits = ap (begins s) (drop-append-le n t more fits) ∙ begins_stop p s (drop n t) more a h
 
 -- a run
@@ -43,10 +46,13 @@ run_stop p [] (b ∷ more) h = ap (λ v. cond v (1 + prefix_len p more) 0) h
 run_stop p (b ∷ t) more h = ap (λ n. cond (p b) (1 + n) 0) (run_stop p t more h)
 
 -- a number
-pub number_stop : (last : ℕ) (t more : List ℕ) → ((last : ℕ) → first_is (goes_on_number last) more ≡ false) → number_len last (t ++ more) ≡ number_len last t
+pub number_stop : (last : ℕ) (t more : List ℕ) → ((last : ℕ) → first_is (goes_on_number last) more ≡ false)
+    → number_len last (t ++ more) ≡ number_len last t
 number_stop last [] [] h = refl
-number_stop last [] (b ∷ more) h = ap (λ (v : Bool). elim v as (λ w. ℕ) [ true ↦ 1 + number_len b more | false ↦ 0 ]) (h last)
-number_stop last (b ∷ t) more h = ap (λ n. elim (goes_on_number last b) as (λ w. ℕ) [ true ↦ 1 + n | false ↦ 0 ]) (number_stop b t more h)
+number_stop last [] (b ∷ more) h =
+    ap (λ (v : Bool). elim v as (λ w. ℕ) [ true ↦ 1 + number_len b more | false ↦ 0 ]) (h last)
+number_stop last (b ∷ t) more h =
+    ap (λ n. elim (goes_on_number last b) as (λ w. ℕ) [ true ↦ 1 + n | false ↦ 0 ]) (number_stop b t more h)
 
 and_false : (a : Bool) → (a && false) ≡ false
 and_false true = refl
@@ -56,13 +62,16 @@ or_false : (a : Bool) → (a || false) ≡ a
 or_false true = refl
 or_false false = refl
 
-pub starts_number_stop : (b : ℕ) (t more : List ℕ) → first_is is_digit more ≡ false → starts_number (b ∷ t ++ more) ≡ starts_number (b ∷ t)
+pub starts_number_stop : (b : ℕ) (t more : List ℕ) → first_is is_digit more ≡ false
+    → starts_number (b ∷ t ++ more) ≡ starts_number (b ∷ t)
 starts_number_stop b [] [] h = refl
-starts_number_stop b [] (c ∷ more) h = ap (λ v. is_digit b || ((b == 46) && v)) h ∙ ap (λ v. is_digit b || v) (and_false (b == 46)) ∙ or_false (is_digit b)
+starts_number_stop b [] (c ∷ more) h =
+    ap (λ v. is_digit b || ((b == 46) && v)) h ∙ ap (λ v. is_digit b || v) (and_false (b == 46)) ∙ or_false (is_digit b)
 starts_number_stop b (c ∷ t) more h = refl
 
 -- a punctuator
-pub longest_stop : (p : ℕ → Bool) (ps : List (List ℕ)) (t more : List ℕ) → list_all (list_all p) ps ≡ true → first_is p more ≡ false → longest ps (t ++ more) ≡ longest ps t
+pub longest_stop : (p : ℕ → Bool) (ps : List (List ℕ)) (t more : List ℕ)
+    → list_all (list_all p) ps ≡ true → first_is p more ≡ false → longest ps (t ++ more) ≡ longest ps t
 longest_stop p [] t more a h = refl
 longest_stop p (s ∷ ps) t more a h =
     let hs = both (list_all p s) (list_all (list_all p) ps) a in
@@ -80,16 +89,20 @@ and_true : (a : Bool) → (a && true) ≡ a
 and_true true = refl
 and_true false = refl
 
-pub starts_section_line : (b : ℕ) (t more : List ℕ) → AtLineEnd more → starts_section (b ∷ t ++ more) ≡ starts_section (b ∷ t)
+pub starts_section_line : (b : ℕ) (t more : List ℕ) → AtLineEnd more
+    → starts_section (b ∷ t ++ more) ≡ starts_section (b ∷ t)
 starts_section_line b [] [] e = refl
-starts_section_line b [] (x ∷ more) e = ap (λ n. (b == 64) && is_one_of (32 ∷ 9 ∷ 10 ∷ 42 ∷ []) n) e ∙ and_true (b == 64)
+starts_section_line b [] (x ∷ more) e =
+    ap (λ n. (b == 64) && is_one_of (32 ∷ 9 ∷ 10 ∷ 42 ∷ []) n) e ∙ and_true (b == 64)
 starts_section_line b (c ∷ t) more e = refl
 
 pub begins_line : (s t more : List ℕ) → list_all in_line s ≡ true → AtLineEnd more → begins s (t ++ more) ≡ begins s t
 begins_line s t more a e = begins_stop in_line s t more a (stops in_line more refl e)
 
-pub drop_line : (s : List ℕ) (n : ℕ) (t more : List ℕ) → list_all in_line s ≡ true → AtLineEnd more → n ≤ length t → begins s (drop n (t ++ more)) ≡ begins s (drop n t)
+pub drop_line : (s : List ℕ) (n : ℕ) (t more : List ℕ) → list_all in_line s ≡ true
+    → AtLineEnd more → n ≤ length t → begins s (drop n (t ++ more)) ≡ begins s (drop n t)
 drop_line s n t more a e fits = begins_drop in_line s n t more a (stops in_line more refl e) fits
 
-pub run_line : (p : ℕ → Bool) (t more : List ℕ) → p 10 ≡ false → AtLineEnd more → prefix_len p (t ++ more) ≡ prefix_len p t
+pub run_line : (p : ℕ → Bool) (t more : List ℕ) → p 10 ≡ false
+    → AtLineEnd more → prefix_len p (t ++ more) ≡ prefix_len p t
 run_line p t more h e = run_stop p t more (stops p more h e)

@@ -33,7 +33,8 @@ begins-none test (a ∷ b ∷ p) (x ∷ []) in_p out_t = and_false (a == x)
 begins-none test (a ∷ b ∷ p) (x ∷ y ∷ t) in_p out_t =
     ap (λ r. (a == x) && (r && begins p t)) (differ test b y in_p out_t) ∙ and_false (a == x)
 
-pub longest-none : (test : ℕ → Bool) (ps : List (List ℕ)) (t : List ℕ) → all_second test ps ≡ true → second_is test t ≡ false → longest ps t ≡ 1
+pub longest-none : (test : ℕ → Bool) (ps : List (List ℕ)) (t : List ℕ)
+    → all_second test ps ≡ true → second_is test t ≡ false → longest ps t ≡ 1
 longest-none test [] t all_in out_t = refl
 longest-none test (p ∷ ps) t all_in out_t =
     let parts = both (second_is test p) (all_second test ps) all_in in

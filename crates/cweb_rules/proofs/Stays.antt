@@ -44,7 +44,8 @@ opening t = at_prefix (begins (codes "u8") t && is_quoted 2 t) (is_letter_first 
 no_quote : (c : ℕ) → is_one_of (codes "\"'") c ≡ false → ((34 == c) ≡ false) × ((39 == c) ≡ false)
 no_quote c h = let e = neither (34 == c) ((39 == c) || false) h in (e.0, (neither (39 == c) false e.1).0)
 
-pub literal_stays : (b : ℕ) (t more : List ℕ) → first_is after_word more ≡ false → starts_literal (b ∷ t ++ more) ≡ starts_literal (b ∷ t)
+pub literal_stays : (b : ℕ) (t more : List ℕ) → first_is after_word more ≡ false
+    → starts_literal (b ∷ t ++ more) ≡ starts_literal (b ∷ t)
 literal_stays b [] [] h = refl
 literal_stays b [] (c ∷ more) h =
     let n = neither (is_word_byte c) (is_one_of (codes "\"'") c) h in
@@ -52,7 +53,9 @@ literal_stays b [] (c ∷ more) h =
     let e = unlike is_word_byte 56 c false n.0 refl in
     let t = b ∷ c ∷ more in
     opening t
-    ∙ (λ i. opens ((117 == b) && (e i && true)) (is_letter_first t) (is_quoted 2 t) ((q.0 i && true) || (q.1 i && true)) (is_quoted 0 t))
+    ∙ (λ i.
+    opens ((117 == b) && (e i && true)) (is_letter_first t) (is_quoted 2 t)
+    ((q.0 i && true) || (q.1 i && true)) (is_quoted 0 t))
     ∙ ap (λ v. opens v (is_letter_first t) (is_quoted 2 t) false (is_quoted 0 t)) (and_false (117 == b))
     ∙ sym (ap (λ v. opens v (is_letter_first t) false false (is_quoted 0 t)) (and_false (117 == b)))
     ∙ sym (opening (b ∷ []))
@@ -62,19 +65,24 @@ literal_stays b (c ∷ []) (e ∷ more) h =
     let q = no_quote e n.1 in
     let t = b ∷ c ∷ e ∷ more in
     opening t
-    ∙ (λ i. opens (begins (codes "u8") t) (is_letter_first t) ((q.0 i && true) || (q.1 i && true)) (is_quoted 1 t) (is_quoted 0 t))
+    ∙ (λ i.
+    opens (begins (codes "u8") t) (is_letter_first t)
+    ((q.0 i && true) || (q.1 i && true)) (is_quoted 1 t) (is_quoted 0 t))
     ∙ sym (opening (b ∷ c ∷ []))
 literal_stays b (c ∷ e ∷ t) more h = opening (b ∷ c ∷ e ∷ t ++ more) ∙ sym (opening (b ∷ c ∷ e ∷ t))
 
 -- where a byte is told apart from the letters of the prefixes, only a quote begins a literal
-pub plain_with : (p : ℕ → Bool) (v : Bool) (b : ℕ) (t : List ℕ) → p b ≡ v → p 76 ≡ not v → p 117 ≡ not v → p 85 ≡ not v → starts_literal (b ∷ t) ≡ is_quoted 0 (b ∷ [])
+pub plain_with : (p : ℕ → Bool) (v : Bool) (b : ℕ) (t : List ℕ) → p b ≡ v → p 76 ≡ not v
+    → p 117 ≡ not v → p 85 ≡ not v → starts_literal (b ∷ t) ≡ is_quoted 0 (b ∷ [])
 plain_with p v b t w hL hu hU =
     let eL = unlike p 76 b v w hL in
     let eu = unlike p 117 b v w hu in
     let eU = unlike p 85 b v w hU in
     let u = b ∷ t in
     opening u
-    ∙ (λ i. opens (eu i && begins (codes "8") t) ((eL i && true) || (eu i && true) || (eU i && true)) (is_quoted 2 u) (is_quoted 1 u) (is_quoted 0 u))
+    ∙ (λ i.
+    opens (eu i && begins (codes "8") t) ((eL i && true) || (eu i && true) || (eU i && true))
+    (is_quoted 2 u) (is_quoted 1 u) (is_quoted 0 u))
 
 -- where no Word begins, only a quote begins a literal
 pub plain_literal : (b : ℕ) (t : List ℕ) → is_word_byte b ≡ false → starts_literal (b ∷ t) ≡ is_quoted 0 (b ∷ [])
@@ -96,7 +104,8 @@ no_dot joins all b c h = (elim (b == 46) as (λ v. (b == 46) ≡ v → (v && is_
   | false ↦ λ e. refl
 ]) refl
 
-punct_no_number : (joins : ℕ → ℕ → Bool) → JoinsAll joins → (b : ℕ) (t more : List ℕ) → seam_joins joins b t more ≡ false → starts_number (b ∷ t ++ more) ≡ starts_number (b ∷ t)
+punct_no_number : (joins : ℕ → ℕ → Bool) → JoinsAll joins → (b : ℕ) (t more : List ℕ)
+    → seam_joins joins b t more ≡ false → starts_number (b ∷ t ++ more) ≡ starts_number (b ∷ t)
 punct_no_number joins all b [] [] h = refl
 punct_no_number joins all b [] (c ∷ more) h = ap (λ v. is_digit b || v) (no_dot joins all b c h) ∙ or_false (is_digit b)
 punct_no_number joins all b (c ∷ t) more h = refl
@@ -118,7 +127,8 @@ pub number_first : (b : ℕ) (t : List ℕ) → starts_number (b ∷ t) ≡ true
 number_first b [] h = ap (λ v. v || (b == 46)) h
 number_first b (c ∷ t) h = wider (is_digit b) (b == 46) (is_digit c) h
 
-pub number_goes : (last : ℕ) (t more : List ℕ) → first_is after_number more ≡ false → number_len last (t ++ more) ≡ number_len last t
+pub number_goes : (last : ℕ) (t more : List ℕ) → first_is after_number more ≡ false
+    → number_len last (t ++ more) ≡ number_len last t
 number_goes last [] [] h = refl
 number_goes last [] (c ∷ more) h =
     let n = neither (after_word c) (is_one_of (codes ".+-") c) h in
@@ -127,7 +137,8 @@ number_goes last [] (c ∷ more) h =
     let dot = unlike (λ x. 46 == x) c 46 true refl e.0 in
     ap (λ v. elim v [ true ↦ 1 + number_len c more | false ↦ 0 ])
     (λ i. w.0 i || dot i || (e.1 i && is_one_of (codes "eEpP") last))
-number_goes last (b ∷ t) more h = ap (λ n. elim (goes_on_number last b) [ true ↦ 1 + n | false ↦ 0 ]) (number_goes b t more h)
+number_goes last (b ∷ t) more h =
+    ap (λ n. elim (goes_on_number last b) [ true ↦ 1 + n | false ↦ 0 ]) (number_goes b t more h)
 
 -- THE RULES BEFORE
 
@@ -151,7 +162,8 @@ passes b t more e p = record {
 two_join : (v : Bool) → v ≡ true → (v && true) ≡ true
 two_join v h = and_true v ∙ h
 
-passes_seam : (joins : ℕ → ℕ → Bool) → JoinsAll joins → (b : ℕ) (t more : List ℕ) → seam_joins joins b t more ≡ false → Passed (b ∷ t) → Passed (b ∷ t ++ more)
+passes_seam : (joins : ℕ → ℕ → Bool) → JoinsAll joins → (b : ℕ) (t more : List ℕ)
+    → seam_joins joins b t more ≡ false → Passed (b ∷ t) → Passed (b ∷ t ++ more)
 passes_seam joins all b t more h p = record {
   blank = p.blank;
   line_end = p.line_end;
@@ -171,12 +183,19 @@ not_number : (more : List ℕ) → first_is after_number more ≡ false → firs
 not_number [] h = refl
 not_number (c ∷ more) h = (neither (after_word c) (is_one_of (codes ".+-") c) h).0
 
-pub word_front : (t : List ℕ) → Facts t ForWord → c_front in_c false false t ≡ front Identifier (prefix_len is_word_byte t)
+pub word_front : (t : List ℕ) → Facts t ForWord
+    → c_front in_c false false t ≡ front Identifier (prefix_len is_word_byte t)
 word_front t f =
     passed_front t f.0.0
-    ∙ (λ i. if f.0.1 i then raw_at t else (if f.1 i then literal_at t else (if f.2 i then front Numeral (number_len 0 t) else (if f.3 i then front Identifier (prefix_len is_word_byte t) else front Punctuator (longest listed t)))))
+    ∙ (λ i.
+    if f.0.1 i then raw_at t
+    else (if f.1 i then literal_at t
+    else (if f.2 i then front Numeral (number_len 0 t)
+    else (if f.3 i then front Identifier (prefix_len is_word_byte t)
+    else front Punctuator (longest listed t)))))
 
-pub word_stays : (b : ℕ) (t more : List ℕ) → Facts (b ∷ t) ForWord → list_all is_word_byte (b ∷ t) ≡ true → first_is after_word more ≡ false → c_front in_c false false (b ∷ t ++ more) ≡ c_front in_c false false (b ∷ t)
+pub word_stays : (b : ℕ) (t more : List ℕ) → Facts (b ∷ t) ForWord → list_all is_word_byte (b ∷ t) ≡ true
+    → first_is after_word more ≡ false → c_front in_c false false (b ∷ t ++ more) ≡ c_front in_c false false (b ∷ t)
 word_stays b t more f all h =
     word_front (b ∷ t ++ more) (
       (passes b t more (unlike is_word_byte 47 b true f.3 refl) f.0.0, word_raw (b ∷ t) more all h),
@@ -190,12 +209,21 @@ word_stays b t more f all h =
 number_front : (t : List ℕ) → Facts t ForNumber → c_front in_c false false t ≡ front Numeral (number_len 0 t)
 number_front t f =
     passed_front t f.0.0
-    ∙ (λ i. if f.0.1 i then raw_at t else (if f.1 i then literal_at t else (if f.2 i then front Numeral (number_len 0 t) else (if first_is is_word_byte t then front Identifier (prefix_len is_word_byte t) else front Punctuator (longest listed t)))))
+    ∙ (λ i.
+    if f.0.1 i then raw_at t
+    else (if f.1 i then literal_at t
+    else (if f.2 i then front Numeral (number_len 0 t)
+    else (if first_is is_word_byte t then front Identifier (prefix_len is_word_byte t)
+    else front Punctuator (longest listed t)))))
 
-pub number_stays : (b : ℕ) (t more : List ℕ) → Facts (b ∷ t) ForNumber → first_is after_number more ≡ false → c_front in_c false false (b ∷ t ++ more) ≡ c_front in_c false false (b ∷ t)
+pub number_stays : (b : ℕ) (t more : List ℕ) → Facts (b ∷ t) ForNumber → first_is after_number more ≡ false
+    → c_front in_c false false (b ∷ t ++ more) ≡ c_front in_c false false (b ∷ t)
 number_stays b t more f h =
     number_front (b ∷ t ++ more) (
-      (passes b t more (unlike begins_number 47 b true (number_first b t f.2) refl) f.0.0, plain_raw begins_number true b (t ++ more) (number_first b t f.2) refl refl refl refl),
+      (
+        passes b t more (unlike begins_number 47 b true (number_first b t f.2) refl) f.0.0,
+        plain_raw begins_number true b (t ++ more) (number_first b t f.2) refl refl refl refl,
+      ),
       literal_stays b t more (not_number more h) ∙ f.1,
       number_stays_number b t more f.2,
     )
@@ -205,9 +233,15 @@ number_stays b t more f h =
 punct_front : (t : List ℕ) → Facts t ForPunct → c_front in_c false false t ≡ front Punctuator (longest listed t)
 punct_front t f =
     passed_front t f.0.0
-    ∙ (λ i. if f.0.1 i then raw_at t else (if f.1 i then literal_at t else (if f.2 i then front Numeral (number_len 0 t) else (if f.3 i then front Identifier (prefix_len is_word_byte t) else front Punctuator (longest listed t)))))
+    ∙ (λ i.
+    if f.0.1 i then raw_at t
+    else (if f.1 i then literal_at t
+    else (if f.2 i then front Numeral (number_len 0 t)
+    else (if f.3 i then front Identifier (prefix_len is_word_byte t)
+    else front Punctuator (longest listed t)))))
 
-pub punct_stays : (joins : ℕ → ℕ → Bool) → JoinsAll joins → (b : ℕ) (t more : List ℕ) → Facts (b ∷ t) ForPunct → seam_joins joins b t more ≡ false → c_front in_c false false (b ∷ t ++ more) ≡ c_front in_c false false (b ∷ t)
+pub punct_stays : (joins : ℕ → ℕ → Bool) → JoinsAll joins → (b : ℕ) (t more : List ℕ) → Facts (b ∷ t) ForPunct
+    → seam_joins joins b t more ≡ false → c_front in_c false false (b ∷ t ++ more) ≡ c_front in_c false false (b ∷ t)
 punct_stays joins all b t more f h =
     punct_front (b ∷ t ++ more) (
       (passes_seam joins all b t more h f.0.0, plain_raw is_word_byte false b (t ++ more) f.3 refl refl refl refl),

@@ -23,7 +23,8 @@ use Rattle.cweb_rules.proofs.Raws.{plain_raw, run_all}
 use Rattle.cweb_rules.proofs.Reaches.{at_fits}
 use Rattle.cweb_rules.proofs.Stays.{word_front, word_stays, number_stays, punct_stays, plain_literal, plain_with, number_first, and_true}
 
-seam_of : (joins : ℕ → ℕ → Bool) (b : ℕ) (t more : List ℕ) → seam_joins joins b t more ≡ first_is (joins_last joins (b ∷ t)) more
+seam_of : (joins : ℕ → ℕ → Bool) (b : ℕ) (t more : List ℕ)
+    → seam_joins joins b t more ≡ first_is (joins_last joins (b ∷ t)) more
 seam_of joins b [] [] = refl
 seam_of joins b [] (c ∷ more) = refl
 seam_of joins b (d ∷ t) more = seam_of joins d t more
@@ -68,12 +69,17 @@ at_of InsertDefs t u h = cc
 at_of Joins t u h = cc
 at_of (Faulty k) t u h = cc
 
-code_is : (a b : ℕ) (t : List ℕ) → (64 == a) ≡ true → starts_section (a ∷ b ∷ t) ≡ false → c_front in_c false false (a ∷ b ∷ t) ≡ code_front (in_c b) false (a ∷ b ∷ t)
+code_is : (a b : ℕ) (t : List ℕ) → (64 == a) ≡ true → starts_section (a ∷ b ∷ t) ≡ false
+    → c_front in_c false false (a ∷ b ∷ t) ≡ code_front (in_c b) false (a ∷ b ∷ t)
 code_is a b t at section =
-    subst (λ x. starts_section (x ∷ b ∷ t) ≡ false → c_front in_c false false (x ∷ b ∷ t) ≡ code_front (in_c b) false (x ∷ b ∷ t)) (eqb-true 64 a at)
+    subst (λ x.
+    starts_section (x ∷ b ∷ t) ≡ false
+    → c_front in_c false false (x ∷ b ∷ t) ≡ code_front (in_c b) false (x ∷ b ∷ t))
+    (eqb-true 64 a at)
     (λ s. λ i. if s i then section_at (64 ∷ b ∷ t) else code_front (in_c b) false (64 ∷ b ∷ t)) section
 
-at_from : (a : ℕ) (d more : List ℕ) → Coded (a ∷ d) → Names (kind.Code GiveAt) (a ∷ d) (length (a ∷ d)) → Names (kind.Code GiveAt) (a ∷ d ++ more) (length (a ∷ d))
+at_from : (a : ℕ) (d more : List ℕ) → Coded (a ∷ d) → Names (kind.Code GiveAt) (a ∷ d) (length (a ∷ d))
+    → Names (kind.Code GiveAt) (a ∷ d ++ more) (length (a ∷ d))
 at_from a [] more f e = absurd (omega (arith, at_fits a [] f.0 f.1))
 at_from a (b ∷ t) more f e =
     let d = a ∷ b ∷ t in
@@ -86,7 +92,8 @@ at_stays : (d more : List ℕ) → Names (kind.Code GiveAt) d (length d) → Nam
 at_stays [] more e = no_empty (kind.Code GiveAt) (Names (kind.Code GiveAt) more 0) e
 at_stays (a ∷ d) more e = at_from a d more (facts_of (a ∷ d) (kind.Code GiveAt) (length (a ∷ d)) e) e
 
-code_stays : (c : Effect) (d more : List ℕ) → Names (kind.Code c) d (length d) → gives_at c ≡ true → Names (kind.Code c) (d ++ more) (length d)
+code_stays : (c : Effect) (d more : List ℕ) → Names (kind.Code c) d (length d)
+    → gives_at c ≡ true → Names (kind.Code c) (d ++ more) (length d)
 code_stays GiveAt d more e h = at_stays d more e
 code_stays Nothing d more e h = cc
 code_stays Define d more e h = cc
@@ -109,8 +116,10 @@ ended Cut h = cc
 ended Nested h = cc
 ended Open h = cc
 
-literal_case : (v : Bool) (units : List (List ℕ)) (how : End) (b : ℕ) (d more : List ℕ) → Passed (b ∷ d) → Opens (b ∷ d) v
-    → Names (kind.Quoted units how) (b ∷ d) (length (b ∷ d)) → is_closed how ≡ true → Names (kind.Quoted units how) (b ∷ d ++ more) (length (b ∷ d))
+literal_case : (v : Bool) (units : List (List ℕ)) (how : End) (b : ℕ) (d more : List ℕ)
+    → Passed (b ∷ d) → Opens (b ∷ d) v
+    → Names (kind.Quoted units how) (b ∷ d) (length (b ∷ d)) → is_closed how ≡ true
+    → Names (kind.Quoted units how) (b ∷ d ++ more) (length (b ∷ d))
 literal_case true units how b d more p o e h =
     let at = sym (raw_front (b ∷ d) p o) ∙ e in
     let closed = ap (λ g. how_of g.kind) at ∙ ended how h in
@@ -124,15 +133,18 @@ literal_case false units how b d more p o e h =
 
 -- EACH TOKEN
 
-pub stays : (joins : ℕ → ℕ → Bool) → JoinsAll joins → (k : Kind) (d more : List ℕ) → Names k d (length d) → is_token k ≡ true → first_is (goes_on joins k d) more ≡ false → Names k (d ++ more) (length d)
+pub stays : (joins : ℕ → ℕ → Bool) → JoinsAll joins → (k : Kind) (d more : List ℕ) → Names k d (length d)
+    → is_token k ≡ true → first_is (goes_on joins k d) more ≡ false → Names k (d ++ more) (length d)
 stays joins all k [] more e h seam = no_empty k (Names k more 0) e
 stays joins all kind.Identifier (b ∷ d) more e h seam =
     let f = facts_of (b ∷ d) kind.Identifier (length (b ∷ d)) e in
     let words = run_all is_word_byte (b ∷ d) (ap (λ g. g.size) (sym (word_front (b ∷ d) f) ∙ e)) in
     word_stays b d more f words seam ∙ e
-stays joins all kind.Numeral (b ∷ d) more e h seam = number_stays b d more (facts_of (b ∷ d) kind.Numeral (length (b ∷ d)) e) seam ∙ e
+stays joins all kind.Numeral (b ∷ d) more e h seam =
+    number_stays b d more (facts_of (b ∷ d) kind.Numeral (length (b ∷ d)) e) seam ∙ e
 stays joins all kind.Punctuator (b ∷ d) more e h seam =
-    punct_stays joins all b d more (facts_of (b ∷ d) kind.Punctuator (length (b ∷ d)) e) (seam_of joins b d more ∙ seam) ∙ e
+    punct_stays joins all b d more (facts_of (b ∷ d) kind.Punctuator (length (b ∷ d)) e) (seam_of joins b d more ∙ seam)
+    ∙ e
 stays joins all (kind.Quoted units how) (b ∷ d) more e h seam =
     let f = facts_of (b ∷ d) (kind.Quoted units how) (length (b ∷ d)) e in
     literal_case (starts_raw (b ∷ d)) units how b d more f.0 f.1 e h
@@ -175,7 +187,8 @@ literal_byte true b d o =
     ]) refl
 literal_byte false b d o =
     (elim (no_opener b) as (λ v. no_opener b ≡ v → no_opener b ≡ false) [
-      | true ↦ λ e. is_a_quote b (λ n. no_opener n ≡ false) (sym (plain_with no_opener true b d e refl refl refl) ∙ o.1) refl refl
+      | true ↦ λ e.
+          is_a_quote b (λ n. no_opener n ≡ false) (sym (plain_with no_opener true b d e refl refl refl) ∙ o.1) refl refl
       | false ↦ λ e. e
     ]) refl
 
@@ -196,7 +209,8 @@ first_of kind.Punctuator (b ∷ d) e h =
 first_of (kind.Quoted units how) (b ∷ d) e h =
     let f = facts_of (b ∷ d) (kind.Quoted units how) (length (b ∷ d)) e in
     is_not (is_one_of (codes "LuUR\"'") b) (literal_byte (starts_raw (b ∷ d)) b d f.1)
-first_of (kind.Code c) (b ∷ d) e h = let f = facts_of (b ∷ d) (kind.Code c) (length (b ∷ d)) e in at_byte b (both (64 == b) true f.1).0
+first_of (kind.Code c) (b ∷ d) e h =
+    let f = facts_of (b ∷ d) (kind.Code c) (length (b ∷ d)) e in at_byte b (both (64 == b) true f.1).0
 first_of kind.Skipped (b ∷ d) e h = cc
 first_of (kind.Section starred) (b ∷ d) e h = cc
 first_of (kind.Letter byte text) (b ∷ d) e h = cc
@@ -211,7 +225,8 @@ first_of (kind.Defined tight) (b ∷ d) e h = cc
 
 -- THE LAWS
 
-pub tokens_stay : (joins : ℕ → ℕ → Bool) (k : Kind) (d more : List ℕ) → JoinsAll joins → IsToken k d → first_is (goes_on joins k d) more ≡ false → Names k (d ++ more) (length d)
+pub tokens_stay : (joins : ℕ → ℕ → Bool) (k : Kind) (d more : List ℕ) → JoinsAll joins
+    → IsToken k d → first_is (goes_on joins k d) more ≡ false → Names k (d ++ more) (length d)
 tokens_stay joins k d more all h seam = stays joins all k d more h.whole h.token seam
 
 pub tokens_begin : (k : Kind) (d : List ℕ) → IsToken k d → first_is (begins_as k) d ≡ true

@@ -14,21 +14,24 @@ ghost use Rattle.cweb_rules.specs.declared.end.End.TheVariants.{Closed};
 /// Of a text that has a byte, the first piece has a byte in every context, stands in the text, and is no shorter than `Pays` asks
 /// of its kind.
 pub fn fronts_are_fair()
-    ensures { (c : Context) (includes : Bool) (b : ℕ) (t : List ℕ) → Fair c (b ∷ t) (front_in c includes (b ∷ t)) }
+    ensures { (c : Context) (includes : Bool) (b : ℕ) (t : List ℕ)
+        → Fair c (b ∷ t) (front_in c includes (b ∷ t)) }
 {}
 
 /// A text that is one token of C text is the first piece of each longer C text whose next byte may not go on with it, where no
 /// included name may stand. This holds however it is told which bytes join with which: more may be said to join than the table of
 /// punctuators has.
 pub fn tokens_end_by_themselves()
-    ensures { (joins : ℕ → ℕ → Bool) (kind : Kind) (token more : List ℕ) → JoinsAll joins → IsToken kind token
+    ensures { (joins : ℕ → ℕ → Bool) (kind : Kind) (token more : List ℕ)
+        → JoinsAll joins → IsToken kind token
         → first_is (goes_on joins kind token) more ≡ false → front_in CText false (token ++ more) ≡ front kind (length token) }
 {}
 
 /// A token's first byte is one that its kind begins with: no digit begins an identifier, no word byte, quote or white byte a
 /// punctuator.
 pub fn tokens_begin_by_kind()
-    ensures { (kind : Kind) (token : List ℕ) → IsToken kind token → first_is (begins_as kind) token ≡ true }
+    ensures { (kind : Kind) (token : List ℕ) → IsToken kind token
+        → first_is (begins_as kind) token ≡ true }
 {}
 
 /// A comment with neither `*` nor `@` in it ends by itself, whatever follows it in C text, where no included name may stand.

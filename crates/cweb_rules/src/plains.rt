@@ -32,7 +32,8 @@ fn len_before3(one: u8, other: u8, third: u8, text: &[u8]) -> usize
 }
 
 fn plain_in_literal(quote: u8, text: &[u8]) -> usize
-    ensures value { result ≡ prefix_len (λ b. not ((b == 64 || b == 92 || b == quote) || b == 10)) text.now }
+    ensures value { result
+        ≡ prefix_len (λ b. not ((b == 64 || b == 92 || b == quote) || b == 10)) text.now }
     ensures within { result ≤ length text.now }
 {
     let (quoted, _) = text.split_at(len_before3(b'@', b'\\', quote, text));

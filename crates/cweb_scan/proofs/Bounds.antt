@@ -25,10 +25,12 @@ use Rattle.cweb_scan.proofs.Fairs.{fair}
 
 -- so much is added, where `inner` bytes of the text are paid for already
 pub record AddsLess (inner bytes : ℕ) (old new : State) : Type 0 where
-  pub tokens_are : token_number new.contents + due new.context + inner ≤ token_number old.contents + due old.context + bytes
+  pub tokens_are : token_number new.contents + due new.context + inner
+      ≤ token_number old.contents + due old.context + bytes
   pub bytes_are : text_bytes new.contents + inner ≤ text_bytes old.contents + bytes
 
-in_text : (k : ℕ) (r : Reading) (t : List ℕ) → k ≤ length t → AddsLess k (length t) r.state (fold after r (pieces_in k r t)).state
+in_text : (k : ℕ) (r : Reading) (t : List ℕ) → k ≤ length t
+    → AddsLess k (length t) r.state (fold after r (pieces_in k r t)).state
 in_text k r [] h = record { tokens_are = omega (arith, h); bytes_are = omega (arith, h) }
 in_text (suc k) r (b ∷ t) h =
     let rest = in_text k r t (omega (arith, h)) in
@@ -46,7 +48,9 @@ in_text zero r (b ∷ t) h =
     }
 
 run-adds : (r : Reading) (t : List ℕ) → Adds (length t) (length t) r.state (run r t).state
-run-adds r t = let all = in_text 0 r t (omega arith) in record { tokens_are = omega (arith, all.tokens_are); bytes_are = omega (arith, all.bytes_are) }
+run-adds r t =
+    let all = in_text 0 r t (omega arith) in
+    record { tokens_are = omega (arith, all.tokens_are); bytes_are = omega (arith, all.bytes_are) }
 
 further-size : (lines : List Line) → length (further lines) ≡ web_size lines
 further-size [] = refl
@@ -63,7 +67,13 @@ open-list f None = refl
 open-list f (Some p) = omega arith
 
 pub all-size : (f : Token → ℕ) (v : PartsSoFar) → total f (all_tokens (all_parts v)) ≡ parts_size f v
-all-size f v = omega (arith, total-tokens f (all_parts v), total-append (part_size f) v.closed (option_to_list v.current), open-list f v.current)
+all-size f v =
+    omega (
+      arith,
+      total-tokens f (all_parts v),
+      total-append (part_size f) v.closed (option_to_list v.current),
+      open-list f v.current,
+    )
 
 length-total : (ts : List Token) → length ts ≡ total one ts
 length-total [] = refl
@@ -94,14 +104,24 @@ occurrences-bytes : (os : List Occurrence) → kept.total length (map kept.occur
 occurrences-bytes [] = refl
 occurrences-bytes (o ∷ os) = omega (arith, occurrences-bytes os)
 
-replacements-bytes : (rs : List Replacement) → kept.total length (map kept.replacement_text rs) ≡ total replacement_size rs
+replacements-bytes : (rs : List Replacement)
+    → kept.total length (map kept.replacement_text rs) ≡ total replacement_size rs
 replacements-bytes [] = refl
 replacements-bytes (r ∷ rs) = omega (arith, replacements-bytes rs)
 
-of_state : (s : State) (n : ℕ) → token_number s.contents ≤ n → text_bytes s.contents ≤ n → IsBounded (finished s.contents) n
+of_state : (s : State) (n : ℕ) → token_number s.contents ≤ n
+    → text_bytes s.contents ≤ n → IsBounded (finished s.contents) n
 of_state s n h k = record {
   tokens = omega (arith, h, length-total (all_tokens (all_parts s.contents.parts)), all-size one s.contents.parts);
-  bytes = omega (arith, k, all-size text_size s.contents.parts, tokens-bytes (all_tokens (all_parts s.contents.parts)), occurrences-bytes s.contents.occurrences, replacements-bytes s.contents.replacements);
+  bytes =
+      omega (
+        arith,
+        k,
+        all-size text_size s.contents.parts,
+        tokens-bytes (all_tokens (all_parts s.contents.parts)),
+        occurrences-bytes s.contents.occurrences,
+        replacements-bytes s.contents.replacements,
+      );
 }
 
 pub bounded : (lines : List Line) → IsBounded (scanned lines).store (web_size lines)
@@ -112,4 +132,6 @@ bounded (line ∷ lines) =
     let s = (run start t).state in
     let all = adds_both (run-adds start t) (leave_in-adds s.context s) in
     let size = length-append line.bytes (further lines) in
-    of_state (leave s) (web_size (line ∷ lines)) (omega (arith, all.tokens_are, due_some (leave s).context, size, further-size lines)) (omega (arith, all.bytes_are, size, further-size lines))
+    of_state (leave s) (web_size (line ∷ lines))
+    (omega (arith, all.tokens_are, due_some (leave s).context, size, further-size lines))
+    (omega (arith, all.bytes_are, size, further-size lines))

@@ -33,7 +33,8 @@ use Rattle.cweb_scan.proofs.Turns.{between, enter_same, staying_takes}
 abbrev pub at_item : Held → State → Held
 at_item v s = record { state = s; item = v.item; begun = v.begun }
 
-passed : (n : ℕ) (u : List ℕ) (s new : State) (g : Bool) (f : Front) → enter_in s.context (front_of s u).kind s ≡ s → IsLine u → 1 ≤ length u → front_of s u ≡ f → opens_in s.context u ≡ false
+passed : (n : ℕ) (u : List ℕ) (s new : State) (g : Bool) (f : Front) → enter_in s.context (front_of s u).kind s ≡ s
+    → IsLine u → 1 ≤ length u → front_of s u ≡ f → opens_in s.context u ≡ false
     → Gives f u n s new → Passes n u (between s g) (between new g)
 passed n [] s new g f stays line some is ends gives = absurd (omega (arith, some))
 passed n (b ∷ t) s new g f stays line some is ends gives = record {
@@ -43,38 +44,54 @@ passed n (b ∷ t) s new g f stays line some is ends gives = record {
 }
 
 -- an item that leaves no head
-pub staying_at : (n : ℕ) (u : List ℕ) (h v : Held) (new : State) (f : Front) → v ≡ h → h.item ≡ Between → enter_in h.state.context (front_of h.state u).kind h.state ≡ h.state → IsLine u → 1 ≤ length u
-    → front_of h.state u ≡ f → opens_in h.state.context u ≡ false → Gives f u n v.state new → Passes n u h (at_item v new)
+pub staying_at : (n : ℕ) (u : List ℕ) (h v : Held) (new : State) (f : Front) → v ≡ h → h.item ≡ Between
+    → enter_in h.state.context (front_of h.state u).kind h.state ≡ h.state → IsLine u → 1 ≤ length u
+    → front_of h.state u ≡ f → opens_in h.state.context u ≡ false
+    → Gives f u n v.state new → Passes n u h (at_item v new)
 staying_at n u h v new f is none stays line some front ends =
     subst (λ (k : Held). Gives f u n k.state new → Passes n u h (at_item k new)) (sym is)
-    (λ gives. subst (λ i. Passes n u (record { state = h.state; item = i; begun = h.begun }) (record { state = new; item = i; begun = h.begun })) (sym none)
-    (passed n u h.state new h.begun f stays line some front ends gives))
+    (λ gives.
+    subst (λ i.
+    Passes n u (record { state = h.state; item = i; begun = h.begun })
+    (record { state = new; item = i; begun = h.begun }))
+    (sym none) (passed n u h.state new h.begun f stays line some front ends gives))
 
-pub closed_at : (n : ℕ) (u : List ℕ) (h v : Held) (new : State) (f : Front) → v ≡ h → h.item ≡ Between → is_head h.state.context ≡ false → IsLine u → 1 ≤ length u → front_of h.state u ≡ f
+pub closed_at : (n : ℕ) (u : List ℕ) (h v : Held) (new : State) (f : Front) → v ≡ h → h.item ≡ Between
+    → is_head h.state.context ≡ false → IsLine u → 1 ≤ length u → front_of h.state u ≡ f
     → opens_in h.state.context u ≡ false → Gives f u n v.state new → Passes n u h (at_item v new)
 closed_at n u h v new f is none head line some front ends gives =
-    staying_at n u h v new f is none (enter_same h.state.context (front_of h.state u).kind h.state head) line some front ends gives
+    staying_at n u h v new f is none
+    (enter_same h.state.context (front_of h.state u).kind h.state head) line some front ends gives
 
 -- CODES
 
 -- `@` and a letter
-pub code_shape : (u : List ℕ) → starts_section u ≡ false → begins (codes "@") u ≡ true → 64 ∷ get_or u 1 0 ∷ drop 2 u ≡ u
+pub code_shape : (u : List ℕ) → starts_section u ≡ false
+    → begins (codes "@") u ≡ true → 64 ∷ get_or u 1 0 ∷ drop 2 u ≡ u
 code_shape [] section at = cc
 code_shape (a ∷ []) section at =
-    let wrong : true ≡ false = subst (λ n. (n == 64) ≡ false) (sym (eqb-true 64 a (both (64 == a) true at).0)) section in cc
+    let wrong : true ≡ false =
+    subst (λ n. (n == 64) ≡ false) (sym (eqb-true 64 a (both (64 == a) true at).0)) section in
+    cc
 code_shape (a ∷ b ∷ t) section at = ap (λ n. n ∷ b ∷ t) (eqb-true 64 a (both (64 == a) true at).0)
 
 pub code_size : (u : List ℕ) → starts_section u ≡ false → begins (codes "@") u ≡ true → 2 ≤ length u
 code_size u section at = omega (arith, ap (λ (v : List ℕ). length v) (code_shape u section at))
 
-code_is : (c : Context) (includes : Bool) (b : ℕ) (w : List ℕ) → is_head c ≡ false → starts_section (64 ∷ b ∷ w) ≡ false → front_in c includes (64 ∷ b ∷ w) ≡ code_front (effect_in c b) (not (is_c c)) (64 ∷ b ∷ w)
-code_is Limbo includes b w head h = ap (λ v. if v then section_at (64 ∷ b ∷ w) else code_front (in_limbo b) true (64 ∷ b ∷ w)) h
-code_is TeX includes b w head h = ap (λ v. if v then section_at (64 ∷ b ∷ w) else code_front (in_text b) true (64 ∷ b ∷ w)) h
+code_is : (c : Context) (includes : Bool) (b : ℕ) (w : List ℕ) → is_head c ≡ false → starts_section (64 ∷ b ∷ w) ≡ false
+    → front_in c includes (64 ∷ b ∷ w) ≡ code_front (effect_in c b) (not (is_c c)) (64 ∷ b ∷ w)
+code_is Limbo includes b w head h =
+    ap (λ v. if v then section_at (64 ∷ b ∷ w) else code_front (in_limbo b) true (64 ∷ b ∷ w)) h
+code_is TeX includes b w head h =
+    ap (λ v. if v then section_at (64 ∷ b ∷ w) else code_front (in_text b) true (64 ∷ b ∷ w)) h
 code_is (Definition begun) includes b w head h = cc
-code_is Macro includes b w head h = ap (λ v. if v then section_at (64 ∷ b ∷ w) else code_front (in_macro b) true (64 ∷ b ∷ w)) h
-code_is CText includes b w head h = ap (λ v. if v then section_at (64 ∷ b ∷ w) else code_front (in_c b) false (64 ∷ b ∷ w)) h
+code_is Macro includes b w head h =
+    ap (λ v. if v then section_at (64 ∷ b ∷ w) else code_front (in_macro b) true (64 ∷ b ∷ w)) h
+code_is CText includes b w head h =
+    ap (λ v. if v then section_at (64 ∷ b ∷ w) else code_front (in_c b) false (64 ∷ b ∷ w)) h
 
-code_opens : (c : Context) (b : ℕ) (w : List ℕ) → is_head c ≡ false → starts_section (64 ∷ b ∷ w) ≡ false → opens_in c (64 ∷ b ∷ w) ≡ opens_effect (effect_in c b) (64 ∷ b ∷ w)
+code_opens : (c : Context) (b : ℕ) (w : List ℕ) → is_head c ≡ false → starts_section (64 ∷ b ∷ w) ≡ false
+    → opens_in c (64 ∷ b ∷ w) ≡ opens_effect (effect_in c b) (64 ∷ b ∷ w)
 code_opens Limbo b w head h = ap (λ v. if v then false else opens_effect (in_limbo b) (64 ∷ b ∷ w)) h
 code_opens TeX b w head h = ap (λ v. if v then false else opens_effect (in_text b) (64 ∷ b ∷ w)) h
 code_opens (Definition begun) b w head h = cc
@@ -82,7 +99,8 @@ code_opens Macro b w head h = ap (λ v. if v then false else opens_effect (in_ma
 code_opens CText b w head h = ap (λ v. if v then false else opens_effect (in_c b) (64 ∷ b ∷ w)) h
 
 -- a code that is no name's is one item, whether or not names take their sign
-plain_code : (e : Effect) (takes : Bool) (t : List ℕ) → is_name e ≡ false → (code_front e takes t ≡ code_front e true t) × (opens_effect e t ≡ false)
+plain_code : (e : Effect) (takes : Bool) (t : List ℕ) → is_name e ≡ false
+    → (code_front e takes t ≡ code_front e true t) × (opens_effect e t ≡ false)
 plain_code Named takes t h = cc
 plain_code effect.Letter takes t h = (refl, refl)
 plain_code effect.ControlText takes t h = (refl, refl)
@@ -98,7 +116,8 @@ plain_code GiveAt takes t h = (refl, refl)
 plain_code (Faulty k) takes t h = (refl, refl)
 
 -- what a code's front is, and that it ends in its line
-pub plain_front : (c : Context) (includes : Bool) (u : List ℕ) → is_head c ≡ false → starts_section u ≡ false → begins (codes "@") u ≡ true → is_name (effect_in c (get_or u 1 0)) ≡ false
+pub plain_front : (c : Context) (includes : Bool) (u : List ℕ) → is_head c ≡ false
+    → starts_section u ≡ false → begins (codes "@") u ≡ true → is_name (effect_in c (get_or u 1 0)) ≡ false
     → (front_in c includes u ≡ code_front (effect_in c (get_or u 1 0)) true u) × (opens_in c u ≡ false)
 plain_front c includes u head section at plain =
     let b = get_or u 1 0 in
@@ -131,10 +150,13 @@ pick true x y f g = f
 pick false x y f g = g
 
 limbo_plain : (b : ℕ) → is_named (in_limbo b) ≡ false
-limbo_plain b = pick (is_one_of (codes "@fs") (lower b)) _ _ refl (pick (is_one_of (codes "q") (lower b)) _ _ refl (pick (is_one_of (codes "l") (lower b)) _ _ refl refl))
+limbo_plain b =
+    pick (is_one_of (codes "@fs") (lower b)) _ _ refl
+    (pick (is_one_of (codes "q") (lower b)) _ _ refl (pick (is_one_of (codes "l") (lower b)) _ _ refl refl))
 
 -- where a code names, names stand there, and its letter is one of the two
-named_letter : (c : Context) (b : ℕ) → is_named (effect_in c b) ≡ true → (reads_names c ≡ true) × (((60 == b) || (40 == b)) ≡ true)
+named_letter : (c : Context) (b : ℕ) → is_named (effect_in c b) ≡ true
+    → (reads_names c ≡ true) × (((60 == b) || (40 == b)) ≡ true)
 named_letter Limbo b h = let wrong : true ≡ false = sym h ∙ limbo_plain b in cc
 named_letter TeX b h = (refl, text_named b h)
 named_letter (Definition begun) b h = (refl, text_named b h)
@@ -150,12 +172,14 @@ other false true h f = refl
 other false false h f = h
 
 -- a name that isn't begun by `@<` is a file's
-pub name_or_file : (c : Context) (u : List ℕ) → starts_section u ≡ false → begins (codes "@") u ≡ true → is_name (effect_in c (get_or u 1 0)) ≡ true → begins (codes "@<") u ≡ false → begins (codes "@(") u ≡ true
+pub name_or_file : (c : Context) (u : List ℕ) → starts_section u ≡ false → begins (codes "@") u ≡ true
+    → is_name (effect_in c (get_or u 1 0)) ≡ true → begins (codes "@<") u ≡ false → begins (codes "@(") u ≡ true
 name_or_file c u section at name angle =
     let b = get_or u 1 0 in
     let shape = code_shape u section at in
     let f : ((60 == b) && true) ≡ false = subst (λ (x : List ℕ). begins (codes "@<") x ≡ false) (sym shape) angle in
-    subst (λ (x : List ℕ). begins (codes "@(") x ≡ true) shape (other (60 == b) (40 == b) (named_letter c b (same_name (effect_in c b) ∙ name)).1 f)
+    subst (λ (x : List ℕ). begins (codes "@(") x ≡ true) shape
+    (other (60 == b) (40 == b) (named_letter c b (same_name (effect_in c b) ∙ name)).1 f)
 
 -- LIMBO AND TEXT
 
@@ -174,25 +198,42 @@ text_head Macro h = refl
 text_head CText h = refl
 
 -- what stands before the next `@`
-pub skipped_at : (n : ℕ) (u : List ℕ) (h : Held) → n ≡ prefix_len is_skipped u → 1 ≤ n → h.item ≡ Between → reads_c h.state.context ≡ false → IsLine u → Passes n u h h
+pub skipped_at : (n : ℕ) (u : List ℕ) (h : Held) → n ≡ prefix_len is_skipped u → 1 ≤ n
+    → h.item ≡ Between → reads_c h.state.context ≡ false → IsLine u → Passes n u h h
 skipped_at n u h is some none text line =
-    subst (λ i. Passes n u (record { state = h.state; item = i; begun = h.begun }) (record { state = h.state; item = i; begun = h.begun })) (sym none) (record {
+    subst (λ i.
+    Passes n u (record { state = h.state; item = i; begun = h.begun })
+    (record { state = h.state; item = i; begun = h.begun }))
+    (sym none) (record {
       some = some;
       within = refl;
-      taken = subst (λ k. Takes k u (between h.state h.begun) (between h.state h.begun)) (sym is) (skipped_takes h.state h.begun u (text_is h.state.context text) line);
+      taken =
+          subst (λ k. Takes k u (between h.state h.begun) (between h.state h.begun)) (sym is)
+          (skipped_takes h.state h.begun u (text_is h.state.context text) line);
     })
 
 -- nothing stands before an `@`
 pub none_skipped : (u : List ℕ) → 1 ≤ length u → prefix_len is_skipped u ≡ 0 → begins (codes "@") u ≡ true
 none_skipped [] some h = absurd (omega (arith, some))
-none_skipped (b ∷ t) some h = (elim (b == 64) as (λ v. (b == 64) ≡ v → (if not v then 1 + prefix_len is_skipped t else 0) ≡ 0 → begins (codes "@") (b ∷ t) ≡ true) [
-  | true ↦ λ e g. ap (λ n. begins (codes "@") (n ∷ t)) (eqb-true b 64 e)
-  | false ↦ λ e g. absurd (omega (arith, g))
-]) refl h
+none_skipped (b ∷ t) some h =
+    (elim (b == 64) as (λ v.
+    (b == 64) ≡ v → (if not v then 1 + prefix_len is_skipped t else 0) ≡ 0
+    → begins (codes "@") (b ∷ t) ≡ true) [
+      | true ↦ λ e g. ap (λ n. begins (codes "@") (n ∷ t)) (eqb-true b 64 e)
+      | false ↦ λ e g. absurd (omega (arith, g))
+    ]) refl h
 
-pub section_text : (c : Context) (includes : Bool) (u : List ℕ) → reads_c c ≡ false → starts_section u ≡ true → (front_in c includes u ≡ section_at u) × (opens_in c u ≡ false)
-section_text Limbo includes u c h = (ap (λ v. if v then section_at u else (if begins (codes "@") u then code_at in_limbo true u else front Skipped 1)) h, ap (λ v. if v then false else (if begins (codes "@") u then opens_code in_limbo u else false)) h)
-section_text TeX includes u c h = (ap (λ v. if v then section_at u else (if begins (codes "@") u then code_at in_text true u else front Skipped 1)) h, ap (λ v. if v then false else (if begins (codes "@") u then opens_code in_text u else false)) h)
+pub section_text : (c : Context) (includes : Bool) (u : List ℕ) → reads_c c ≡ false
+    → starts_section u ≡ true → (front_in c includes u ≡ section_at u) × (opens_in c u ≡ false)
+section_text Limbo includes u c h = (
+  ap (λ v. if v then section_at u else (if begins (codes "@") u then code_at in_limbo true u else front Skipped 1))
+      h,
+  ap (λ v. if v then false else (if begins (codes "@") u then opens_code in_limbo u else false)) h,
+)
+section_text TeX includes u c h = (
+  ap (λ v. if v then section_at u else (if begins (codes "@") u then code_at in_text true u else front Skipped 1)) h,
+  ap (λ v. if v then false else (if begins (codes "@") u then opens_code in_text u else false)) h,
+)
 section_text (Definition begun) includes u c h = cc
 section_text Macro includes u c h = cc
 section_text CText includes u c h = cc

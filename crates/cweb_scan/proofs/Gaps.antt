@@ -19,7 +19,8 @@ if_true : (v : Bool) (x y : Front) → v ≡ true → (if v then x else y) ≡ x
 if_true true x y h = refl
 if_true false x y h = cc
 
-blank_front : (c : Context) (includes : Bool) (b : ℕ) (t : List ℕ) → c ≡ CText → is_blank b ≡ true → front_in c includes (b ∷ t) ≡ front Blanks (prefix_len is_blank (b ∷ t))
+blank_front : (c : Context) (includes : Bool) (b : ℕ) (t : List ℕ) → c ≡ CText → is_blank b ≡ true
+    → front_in c includes (b ∷ t) ≡ front Blanks (prefix_len is_blank (b ∷ t))
 blank_front c includes b t h e = ap (λ c. front_in c includes (b ∷ t)) h ∙ if_true (is_blank b) _ _ e
 
 longer_prefix : (b : ℕ) (t : List ℕ) → is_blank b ≡ true → prefix_len is_blank (b ∷ t) ≡ suc (prefix_len is_blank t)
@@ -29,21 +30,26 @@ no_blank : (s : State) → in_directive s ≡ false → blank s ≡ s
 no_blank s h = ap (λ v. if v && not (spec.is_blank (directive s).last) then give Blank s else s) h
 
 -- blanks at the front of a text give nothing
-passed : (r : Reading) (b : ℕ) (t : List ℕ) → r.state.context ≡ CText → in_directive r.state ≡ false → is_blank b ≡ true → run r (b ∷ t) ≡ run r (drop (prefix_len is_blank t) t)
+passed : (r : Reading) (b : ℕ) (t : List ℕ) → r.state.context ≡ CText → in_directive r.state ≡ false
+    → is_blank b ≡ true → run r (b ∷ t) ≡ run r (drop (prefix_len is_blank t) t)
 passed r b t h d e =
     let n = prefix_len is_blank t in
-    run_as r b t (front Blanks (prefix_len is_blank (b ∷ t))) (blank_front r.state.context (names_include r.state) b t h e)
+    run_as r b t (front Blanks (prefix_len is_blank (b ∷ t)))
+    (blank_front r.state.context (names_include r.state) b t h e)
     ∙ ap (λ k. run (after r (record { kind = Blanks; bytes = take k (b ∷ t) })) (drop k (b ∷ t))) (longer_prefix b t e)
     ∙ ap (λ c. run (record { state = blank (enter_in c Blanks r.state); later = r.later }) (drop n t)) h
     ∙ ap (λ s. run (record { state = s; later = r.later }) (drop n t)) (no_blank r.state d)
 
 -- one blank more gives the same
-pub one_more : (r : Reading) (b : ℕ) (t : List ℕ) → r.state.context ≡ CText → in_directive r.state ≡ false → is_blank b ≡ true → run r (b ∷ t) ≡ run r t
+pub one_more : (r : Reading) (b : ℕ) (t : List ℕ) → r.state.context ≡ CText
+    → in_directive r.state ≡ false → is_blank b ≡ true → run r (b ∷ t) ≡ run r t
 one_more r b [] h d e = passed r b [] h d e
-one_more r b (c ∷ t) h d e = passed r b (c ∷ t) h d e ∙ (elim (is_blank c) as (λ v. is_blank c ≡ v → run r (drop (prefix_len is_blank (c ∷ t)) (c ∷ t)) ≡ run r (c ∷ t)) [
-  | true ↦ λ f. ap (λ k. run r (drop k (c ∷ t))) (longer_prefix c t f) ∙ sym (passed r c t h d f)
-  | false ↦ λ f. ap (λ k. run r (drop k (c ∷ t))) (none_there c t f)
-]) refl
+one_more r b (c ∷ t) h d e =
+    passed r b (c ∷ t) h d e
+    ∙ (elim (is_blank c) as (λ v. is_blank c ≡ v → run r (drop (prefix_len is_blank (c ∷ t)) (c ∷ t)) ≡ run r (c ∷ t)) [
+      | true ↦ λ f. ap (λ k. run r (drop k (c ∷ t))) (longer_prefix c t f) ∙ sym (passed r c t h d f)
+      | false ↦ λ f. ap (λ k. run r (drop k (c ∷ t))) (none_there c t f)
+    ]) refl
   where
     none_there : (b : ℕ) (t : List ℕ) → is_blank b ≡ false → prefix_len is_blank (b ∷ t) ≡ 0
     none_there b t f = grind (arith, f)

@@ -121,9 +121,11 @@ foreign_code effect takes (a ∷ b ∷ t) = foreign_effect (effect b) takes (a �
 
 foreign_text : (effect : ℕ → Effect) (t : List ℕ) → foreign (text_front effect t) ≡ true
 foreign_text effect t =
-    either foreign (starts_section t) _ _ (foreign_section t) (either foreign (begins (codes "@") t) _ (front Skipped 1) (foreign_code effect true t) refl)
+    either foreign (starts_section t) _ _ (foreign_section t)
+    (either foreign (begins (codes "@") t) _ (front Skipped 1) (foreign_code effect true t) refl)
 
-pub foreign_rule : (v : List ℕ) (r : Rule) → (r ≡ rule.Blanks → ⊥) → (r ≡ rule.Comment → ⊥) → (r ≡ rule.LineComment → ⊥) → (r ≡ rule.Identifier → ⊥) → is_ended r ≡ false → foreign (c_front_by in_macro true v r) ≡ true
+pub foreign_rule : (v : List ℕ) (r : Rule) → (r ≡ rule.Blanks → ⊥) → (r ≡ rule.Comment → ⊥) → (r ≡ rule.LineComment → ⊥)
+    → (r ≡ rule.Identifier → ⊥) → is_ended r ≡ false → foreign (c_front_by in_macro true v r) ≡ true
 foreign_rule v rule.Blanks b c l n e = absurd (b refl)
 foreign_rule v rule.LineEnd b c l n e = cc
 foreign_rule v rule.Comment b c l n e = absurd (c refl)
@@ -156,32 +158,42 @@ rule_line b t more e = λ i.
     else rule.Punctuator)))))))))
 
 -- what has left a head is what text makes of it, once the definition is dropped
-dropped_run : (s : State) (begun : Place) (later : List Place) (b : ℕ) (t : List ℕ) → s.context ≡ Definition begun → head_front (b ∷ t) ≡ text_front in_text (b ∷ t)
+dropped_run : (s : State) (begun : Place) (later : List Place) (b : ℕ) (t : List ℕ)
+    → s.context ≡ Definition begun → head_front (b ∷ t) ≡ text_front in_text (b ∷ t)
     → run (reading (drop_definition begun s) later) (b ∷ t) ≡ run (reading s later) (b ∷ t)
 dropped_run s begun later b t in_head left =
     let u = b ∷ t in
     let f = text_front in_text u in
     let k = f.kind in
     let entered : enter_in s.context k s ≡ drop_definition begun s =
-    ap (λ (c : Context). enter_in c k s) in_head ∙ ap (λ v. if v then s else drop_definition begun s) (foreign_leaves k (foreign_text in_text u)) in
+    ap (λ (c : Context). enter_in c k s) in_head
+    ∙ ap (λ v. if v then s else drop_definition begun s) (foreign_leaves k (foreign_text in_text u)) in
     run_as (reading (drop_definition begun s) later) b t f refl
     ∙ sym (ap (λ (v : State). run (item k (take f.size u) (reading v later)) (drop f.size u)) entered)
     ∙ sym (run_as (reading s later) b t f (ap (λ (c : Context). front_in c (names_include s) u) in_head ∙ left))
 
-dropped_line : (s : State) (begun : Place) (later : List Place) (u more : List ℕ) (r : Rule) → s.context ≡ Definition begun → 1 ≤ length u → AtLineEnd more → r ≡ c_rule false u
-    → ((v : List ℕ) → foreign (c_front_by in_macro true v r) ≡ true) → run (reading (drop_definition begun s) later) (u ++ more) ≡ run (reading s later) (u ++ more)
+dropped_line : (s : State) (begun : Place) (later : List Place) (u more : List ℕ) (r : Rule)
+    → s.context ≡ Definition begun → 1 ≤ length u → AtLineEnd more → r ≡ c_rule false u
+    → ((v : List ℕ) → foreign (c_front_by in_macro true v r) ≡ true)
+    → run (reading (drop_definition begun s) later) (u ++ more) ≡ run (reading s later) (u ++ more)
 dropped_line s begun later [] more r in_head some e is left = absurd (omega (arith, some))
 dropped_line s begun later (b ∷ t) more r in_head some e is left =
     let v = b ∷ t ++ more in
     let f = c_front in_macro true false v in
-    dropped_run s begun later b (t ++ more) in_head (head_text f.kind f v (ap foreign (by_rule v r (is ∙ sym (rule_line b t more e))) ∙ left v))
+    dropped_run s begun later b (t ++ more) in_head
+    (head_text f.kind f v (ap foreign (by_rule v r (is ∙ sym (rule_line b t more e))) ∙ left v))
 
-dropped_passes : (n : ℕ) (u : List ℕ) (h v new : Held) (begun : Place) (r : Rule) → v ≡ h → h.item ≡ Between → h.state.context ≡ Definition begun → 1 ≤ length u → r ≡ c_rule false u
-    → ((w : List ℕ) → foreign (c_front_by in_macro true w r) ≡ true) → Passes n u (at_item v (drop_definition begun v.state)) new → Passes n u h new
+dropped_passes : (n : ℕ) (u : List ℕ) (h v new : Held) (begun : Place) (r : Rule) → v ≡ h
+    → h.item ≡ Between → h.state.context ≡ Definition begun → 1 ≤ length u → r ≡ c_rule false u
+    → ((w : List ℕ) → foreign (c_front_by in_macro true w r) ≡ true)
+    → Passes n u (at_item v (drop_definition begun v.state)) new → Passes n u h new
 dropped_passes n u h v new begun r same none in_head some is left passes =
     let p = subst (λ (k : Held). Passes n u (at_item k (drop_definition begun k.state)) new) same passes in
-    let old : record { state = h.state; item = Between; begun = h.begun } ≡ h = λ i. record { state = h.state; item = sym none i; begun = h.begun } in
-    let q = subst (λ i. Passes n u (record { state = drop_definition begun h.state; item = i; begun = h.begun }) new) none p in
+    let old : record { state = h.state; item = Between; begun = h.begun } ≡ h = λ i.
+    record { state = h.state; item = sym none i; begun = h.begun } in
+    let q =
+    subst (λ i. Passes n u (record { state = drop_definition begun h.state; item = i; begun = h.begun }) new)
+    none p in
     subst (λ (k : Held). Passes n u k new) old (record {
       some = q.some;
       within = q.within;
@@ -189,22 +201,28 @@ dropped_passes n u h v new begun r same none in_head some is left passes =
         begun = q.taken.begun;
         within = q.taken.within;
         adds = q.taken.adds;
-        same = λ later more e. q.taken.same later more e ∙ dropped_line h.state begun later u more r in_head some e is left;
+        same = λ later more e.
+            q.taken.same later more e ∙ dropped_line h.state begun later u more r in_head some e is left;
       };
     })
 
-pub dropped_at : (n : ℕ) (u : List ℕ) (h v new : Held) (dropped : State) (begun : Place) (r : Rule) → v ≡ h → h.item ≡ Between → h.state.context ≡ Definition begun → 1 ≤ length u → r ≡ c_rule false u
-    → ((w : List ℕ) → foreign (c_front_by in_macro true w r) ≡ true) → dropped ≡ drop_definition begun v.state → Passes n u (at_item v dropped) new → Passes n u h new
+pub dropped_at : (n : ℕ) (u : List ℕ) (h v new : Held) (dropped : State) (begun : Place) (r : Rule)
+    → v ≡ h → h.item ≡ Between → h.state.context ≡ Definition begun → 1 ≤ length u → r ≡ c_rule false u
+    → ((w : List ℕ) → foreign (c_front_by in_macro true w r) ≡ true)
+    → dropped ≡ drop_definition begun v.state → Passes n u (at_item v dropped) new → Passes n u h new
 dropped_at n u h v new dropped begun r same none in_head some is left made passes =
-    dropped_passes n u h v new begun r same none in_head some is left (subst (λ (x : State). Passes n u (at_item v x) new) made passes)
+    dropped_passes n u h v new begun r same none in_head some is left
+    (subst (λ (x : State). Passes n u (at_item v x) new) made passes)
 
 -- WHAT STAYS IN A HEAD
 
-no_at : (is : Rule → Bool) (u : List ℕ) → is rule.Section ≡ false → is rule.Code ≡ false → is (c_rule false u) ≡ true → begins (codes "@") u ≡ false
+no_at : (is : Rule → Bool) (u : List ℕ) → is rule.Section ≡ false
+    → is rule.Code ≡ false → is (c_rule false u) ≡ true → begins (codes "@") u ≡ false
 no_at is [] s c h = refl
 no_at is (b ∷ t) s c h = (elim (64 == b) as (λ v. (64 == b) ≡ v → (v && true) ≡ false) [
   | true ↦ λ e.
-      let first : is (c_rule false (64 ∷ t)) ≡ true = subst (λ n. is (c_rule false (n ∷ t)) ≡ true) (sym (eqb-true 64 b e)) h in
+      let first : is (c_rule false (64 ∷ t)) ≡ true =
+      subst (λ n. is (c_rule false (n ∷ t)) ≡ true) (sym (eqb-true 64 b e)) h in
       let wrong : true ≡ false = sym first ∙ neither is (starts_section (64 ∷ t)) rule.Section rule.Code s c in cc
   | false ↦ λ e. refl
 ]) refl
@@ -214,12 +232,15 @@ unless true x h = refl
 unless false x h = h
 
 -- its item ends in its line
-head_closed : (is : Rule → Bool) (u : List ℕ) (r : Rule) → r ≡ c_rule false u → is r ≡ true → is rule.Section ≡ false → is rule.Code ≡ false → opens_by in_macro u r ≡ false
+head_closed : (is : Rule → Bool) (u : List ℕ) (r : Rule) → r ≡ c_rule false u → is r ≡ true
+    → is rule.Section ≡ false → is rule.Code ≡ false → opens_by in_macro u r ≡ false
     → (c_opens in_macro u || text_opens in_text u) ≡ false
 head_closed is u r same fits s c ends =
     let at : begins (codes "@") u ≡ false = no_at is u s c (ap is (sym same) ∙ fits) in
     let x : c_opens in_macro u ≡ false = c_opens-by in_macro false u ∙ ap (opens_by in_macro u) (sym same) ∙ ends in
-    let y : text_opens in_text u ≡ false = unless (starts_section u) (if begins (codes "@") u then opens_code in_text u else false) (ap (λ v. if v then opens_code in_text u else false) at) in
+    let y : text_opens in_text u ≡ false =
+    unless (starts_section u) (if begins (codes "@") u then opens_code in_text u else false)
+    (ap (λ v. if v then opens_code in_text u else false) at) in
     λ i. x i || y i
 
 abbrev pub stays : Rule → Bool
@@ -228,23 +249,35 @@ stays rule.LineComment = true
 stays rule.Identifier = true
 stays r = false
 
-head_is : (u : List ℕ) (r : Rule) → r ≡ c_rule false u → head_front u ≡ (let f = c_front_by in_macro true u r in head_as f.kind f u)
+head_is : (u : List ℕ) (r : Rule) → r ≡ c_rule false u
+    → head_front u ≡ (let f = c_front_by in_macro true u r in head_as f.kind f u)
 head_is u r is = ap (λ (f : Front). head_as f.kind f u) (by_rule u r is)
 
 -- an item that belongs to a head
-pub head_passes : (n : ℕ) (u : List ℕ) (h v : Held) (new : State) (begun : Place) (r : Rule) (f : Front) → v ≡ h → h.item ≡ Between → h.state.context ≡ Definition begun → IsLine u → 1 ≤ length u → r ≡ c_rule false u
-    → stays r ≡ true → opens_by in_macro u r ≡ false → (let g = c_front_by in_macro true u r in head_as g.kind g u) ≡ f → stays_in_head f.kind ≡ true → Gives f u n v.state new → Passes n u h (at_item v new)
+pub head_passes : (n : ℕ) (u : List ℕ) (h v : Held) (new : State) (begun : Place) (r : Rule) (f : Front) → v ≡ h
+    → h.item ≡ Between → h.state.context ≡ Definition begun → IsLine u → 1 ≤ length u → r ≡ c_rule false u
+    → stays r ≡ true → opens_by in_macro u r ≡ false → (let g = c_front_by in_macro true u r in head_as g.kind g u) ≡ f
+    → stays_in_head f.kind ≡ true → Gives f u n v.state new → Passes n u h (at_item v new)
 head_passes n u h v new begun r f same none in_head line some is fits ends gives_front stay gives =
     let s = h.state in
-    let front : front_of s u ≡ f = ap (λ (c : Context). front_in c (names_include s) u) in_head ∙ head_is u r is ∙ gives_front in
+    let front : front_of s u ≡ f =
+    ap (λ (c : Context). front_in c (names_include s) u) in_head ∙ head_is u r is ∙ gives_front in
     let stayed : enter_in s.context (front_of s u).kind s ≡ s =
-    ap (λ (g : Front). enter_in s.context g.kind s) front ∙ ap (λ (c : Context). enter_in c f.kind s) in_head ∙ ap (λ v. if v then s else drop_definition begun s) stay in
-    staying_at n u h v new f same none stayed line some front (ap (λ (c : Context). opens_in c u) in_head ∙ head_closed stays u r is fits refl refl ends) gives
+    ap (λ (g : Front). enter_in s.context g.kind s) front ∙ ap (λ (c : Context). enter_in c f.kind s) in_head
+    ∙ ap (λ v. if v then s else drop_definition begun s) stay in
+    staying_at n u h v new f same none stayed line some front
+    (ap (λ (c : Context). opens_in c u) in_head ∙ head_closed stays u r is fits refl refl ends) gives
 
 -- blanks give nothing
-pub blanks_pass : (n : ℕ) (u : List ℕ) (h : Held) (begun : Place) (r : Rule) → r ≡ rule.Blanks → h.item ≡ Between → h.state.context ≡ Definition begun → IsLine u → 1 ≤ length u → r ≡ c_rule false u → n ≡ prefix_len is_blank u → Passes n u h h
+pub blanks_pass : (n : ℕ) (u : List ℕ) (h : Held) (begun : Place) (r : Rule)
+    → r ≡ rule.Blanks → h.item ≡ Between → h.state.context ≡ Definition begun → IsLine u
+    → 1 ≤ length u → r ≡ c_rule false u → n ≡ prefix_len is_blank u → Passes n u h h
 blanks_pass n u h begun r blanks none in_head line some is size =
     let s = h.state in
     let same : s ≡ blank s =
-    sym (ap (λ v. if (v && is_some (directive s).tokens) && not (directives.is_blank (directive s).last) then give parts.Blank s else s) (ap is_c in_head)) in
-    head_passes n u h h s begun rule.Blanks (front Blanks (prefix_len is_blank u)) refl none in_head line some (sym blanks ∙ is) refl refl refl refl (record { size = size; state = same })
+    sym (ap (λ v.
+    if (v && is_some (directive s).tokens) && not (directives.is_blank (directive s).last)
+    then give parts.Blank s else s)
+    (ap is_c in_head)) in
+    head_passes n u h h s begun rule.Blanks (front Blanks (prefix_len is_blank u)) refl none in_head
+    line some (sym blanks ∙ is) refl refl refl refl (record { size = size; state = same })

@@ -36,7 +36,8 @@ no_newline Single = refl
 no_newline Double = refl
 
 -- a line end, whatever is open
-line_ends : (kind : Open) (d us : List ℕ) (q : Place) (s : State) → TakesLineEnd q (held s (item_of kind d us)) (after_line_end q (item_of kind d us) s)
+line_ends : (kind : Open) (d us : List ℕ) (q : Place) (s : State)
+    → TakesLineEnd q (held s (item_of kind d us)) (after_line_end q (item_of kind d us) s)
 line_ends Between d us q s = record { begun = refl; same = between_goes_on q s }
 line_ends (Comment begun) d us q s = record { begun = refl; same = comment_goes_on begun q s }
 line_ends (Name begun is_file) d us q s = record { begun = refl; same = name_goes_on begun is_file us q s }
@@ -44,16 +45,22 @@ line_ends (Literal begun quote) d us q s = record {
   begun = refl;
   same = λ later t.
       between_goes_on q (literal us Cut begun s) later t
-      ∙ sym (literal_cut begun (quote_byte quote) us (10 ∷ t) (record { state = s; later = q ∷ later }) (no_newline quote) refl);
+      ∙ sym (literal_cut begun (quote_byte quote) us (10 ∷ t)
+      (record { state = s; later = q ∷ later }) (no_newline quote) refl);
 }
-line_ends (AfterBackslash begun quote) d us q s = record { begun = refl; same = λ later t. literal_goes_on begun (quote_byte quote) us q s later t (no_backslash quote) }
+line_ends (AfterBackslash begun quote) d us q s =
+    record {
+      begun = refl;
+      same = λ later t. literal_goes_on begun (quote_byte quote) us q s later t (no_backslash quote);
+    }
 line_ends (Raw begun) d us q s = record { begun = refl; same = raw_goes_on begun d us q s }
 
 after_line_end-cost : (i : Item) (q : Place) (s : State) → cost (after_line_end q i s) ≤ weight s + owed i + 3
 after_line_end-cost item.Between q s = omega (arith, line_end-weight q s)
 after_line_end-cost (item.InComment begun) q s = omega (arith, comment_line_end-weight q s)
 after_line_end-cost (item.InName begun is_file text) q s = omega arith
-after_line_end-cost (item.InLiteral begun quote text) q s = omega (arith, line_end-weight q (literal text Cut begun s), literal-weight text Cut begun s)
+after_line_end-cost (item.InLiteral begun quote text) q s =
+    omega (arith, line_end-weight q (literal text Cut begun s), literal-weight text Cut begun s)
 after_line_end-cost (item.AfterBackslash begun quote text) q s = omega arith
 after_line_end-cost (item.InRaw begun delimiter text) q s = omega arith
 
@@ -67,17 +74,20 @@ never_awaits (item.AfterBackslash begun quote text) q s = refl
 never_awaits (item.InRaw begun delimiter text) q s = refl
 
 -- a line begins behind a line end
-pub begins_next : (kind : Open) (d us : List ℕ) (s : State) (begun : Bool) (place : Place) (new : Held) → begun ≡ true → new ≡ after_line_end place (item_of kind d us) s
+pub begins_next : (kind : Open) (d us : List ℕ) (s : State) (begun : Bool) (place : Place) (new : Held)
+    → begun ≡ true → new ≡ after_line_end place (item_of kind d us) s
     → BeginsLine place (record { state = s; item = item_of kind d us; begun = begun }) new
 begins_next kind d us s true place new h is = record {
   first = λ none. absurd (cc none);
-  next = λ begun. subst (λ (h : Held). TakesLineEnd place (held s (item_of kind d us)) h) (sym is) (line_ends kind d us place s);
+  next = λ begun.
+      subst (λ (h : Held). TakesLineEnd place (held s (item_of kind d us)) h) (sym is) (line_ends kind d us place s);
   adds = omega (arith, ap cost is, after_line_end-cost (item_of kind d us) place s);
 }
 begins_next kind d us s false place new h is = absurd (cc h)
 
 -- the first line begins
-pub begins_first : (old : Held) (place : Place) (new : Held) → old.begun ≡ false → new ≡ begun_at place → BeginsLine place old new
+pub begins_first : (old : Held) (place : Place) (new : Held)
+    → old.begun ≡ false → new ≡ begun_at place → BeginsLine place old new
 begins_first old place new h is = record {
   first = λ none. is;
   next = λ begun. absurd (cc (sym h ∙ begun));
@@ -85,7 +95,8 @@ begins_first old place new h is = record {
 }
 
 -- a line that has begun is taken once its bytes are
-pub line_taken : (old mid new : Held) (line : Line) (lines : List Line) → BeginsLine line.place old mid → TakesBytes line.bytes mid new → read_after new lines ≡ read_after old (line ∷ lines)
+pub line_taken : (old mid new : Held) (line : Line) (lines : List Line) → BeginsLine line.place old mid
+    → TakesBytes line.bytes mid new → read_after new lines ≡ read_after old (line ∷ lines)
 line_taken old mid new line lines begins took = by old.begun refl
   where
     by : (b : Bool) → old.begun ≡ b → read_after new lines ≡ read_after old (line ∷ lines)
@@ -102,13 +113,18 @@ no_sign true = refl
 no_sign false = refl
 
 abbrev named_end : Place → Bool → List ℕ → ℕ → State → Reading
-named_end begun is_file us n s = run (on (occurrence is_file (us ++ []) Cut false begun) (each_line_end moved (take n []) (record { state = s; later = [] }))) (drop n [])
+named_end begun is_file us n s =
+    run (on (occurrence is_file (us ++ []) Cut false begun)
+    (each_line_end moved (take n []) (record { state = s; later = [] })))
+    (drop n [])
 
-text_ends : (kind : Open) (d us : List ℕ) (s : State) → (goes_on (held s (item_of kind d us)) [] []).state ≡ text_ended (item_of kind d us) s
+text_ends : (kind : Open) (d us : List ℕ) (s : State)
+    → (goes_on (held s (item_of kind d us)) [] []).state ≡ text_ended (item_of kind d us) s
 text_ends Between d us s = refl
 text_ends (Comment begun) d us s = refl
 text_ends (Name begun is_file) d us s =
-    ap (λ (n : ℕ). (named_end begun is_file us n s).state) (no_sign (takes_sign s)) ∙ ap (λ (t : List ℕ). occurrence is_file t Cut false begun s) (append-nil us)
+    ap (λ (n : ℕ). (named_end begun is_file us n s).state) (no_sign (takes_sign s))
+    ∙ ap (λ (t : List ℕ). occurrence is_file t Cut false begun s) (append-nil us)
 text_ends (Literal begun quote) d us s = ap (λ (t : List ℕ). literal t Cut begun s) (append-nil us)
 text_ends (AfterBackslash begun Single) d us s = refl
 text_ends (AfterBackslash begun Double) d us s = refl
@@ -124,6 +140,7 @@ text_ended-weight (item.InRaw begun delimiter text) s = literal-weight text Cut 
 
 -- all was read once an item that is open has ended
 pub text_read : (kind : Open) (d us : List ℕ) (s : State) (begun : Bool) → begun ≡ true
-    → (read_after (record { state = s; item = item_of kind d us; begun = begun }) []).state ≡ text_ended (item_of kind d us) s
+    → (read_after (record { state = s; item = item_of kind d us; begun = begun }) []).state
+    ≡ text_ended (item_of kind d us) s
 text_read kind d us s true h = text_ends kind d us s
 text_read kind d us s false h = absurd (cc h)

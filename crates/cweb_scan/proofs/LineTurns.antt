@@ -29,7 +29,8 @@ between_turn n u h new none p = record {
 abbrev bit : Bool → ℕ
 bit v = if v then 1 else 0
 
-open_less : (n : ℕ) (u : List ℕ) (i j : Item) (v : Bool) → is_open i ≡ true → is_open j ≡ v → n ≤ length u → (v ≡ true → 0 < n) → to_do (drop n u) j < to_do u i
+open_less : (n : ℕ) (u : List ℕ) (i j : Item) (v : Bool) → is_open i ≡ true
+    → is_open j ≡ v → n ≤ length u → (v ≡ true → 0 < n) → to_do (drop n u) j < to_do u i
 open_less n u i j true opens is fits moves = omega (arith, ap bit is, ap bit opens, moves refl, fits, length-drop n u)
 open_less n u i j false opens is fits moves = omega (arith, ap bit is, ap bit opens, fits, length-drop n u)
 
@@ -41,7 +42,8 @@ open_turn n u h new opens p = record {
 }
 
 -- what the code keeps open is open
-pub kept_open : (kind : Open) (delimiter text : List ℕ) → (kind ≡ Between → ⊥) → is_open (item_of kind delimiter text) ≡ true
+pub kept_open : (kind : Open) (delimiter text : List ℕ)
+    → (kind ≡ Between → ⊥) → is_open (item_of kind delimiter text) ≡ true
 kept_open Between d t h = absurd (h refl)
 kept_open (Comment begun) d t h = refl
 kept_open (Name begun is_file) d t h = refl
@@ -66,7 +68,8 @@ front_begins line h within = record {
   last = λ e. let wrong : true ≡ false = sym e ∙ within in cc;
 }
 
-pub front_goes_on : (n : ℕ) (line rest after : List ℕ) (old mid new : Held) → after ≡ drop n rest → TakesFront line rest old mid → TakesTurn n rest mid new → TakesFront line after old new
+pub front_goes_on : (n : ℕ) (line rest after : List ℕ) (old mid new : Held) → after ≡ drop n rest
+    → TakesFront line rest old mid → TakesTurn n rest mid new → TakesFront line after old new
 front_goes_on n line rest after old mid new is f t = record {
   size = f.size + n;
   rest_is = is ∙ ap (drop n) f.rest_is ∙ sym (drop_more f.size n line);
@@ -82,15 +85,20 @@ is_line_drop (suc n) (b ∷ t) h = is_line_drop n t h.1
 pub front_line : (line rest : List ℕ) (old new : Held) → IsLine line → TakesFront line rest old new → IsLine rest
 front_line line rest old new h f = subst IsLine (sym f.rest_is) (is_line_drop f.size line h)
 
-pub front_within : (line rest : List ℕ) (old new : Held) → TakesFront line rest old new → 1 ≤ length rest → awaits_line_end new.item ≡ false
-front_within line rest old new f some = (elim (awaits_line_end new.item) as (λ v. awaits_line_end new.item ≡ v → v ≡ false) [
-  | true ↦ λ e. absurd (omega (arith, f.last e, some))
-  | false ↦ λ e. refl
-]) refl
+pub front_within : (line rest : List ℕ) (old new : Held) → TakesFront line rest old new
+    → 1 ≤ length rest → awaits_line_end new.item ≡ false
+front_within line rest old new f some =
+    (elim (awaits_line_end new.item) as (λ v. awaits_line_end new.item ≡ v → v ≡ false) [
+      | true ↦ λ e. absurd (omega (arith, f.last e, some))
+      | false ↦ λ e. refl
+    ]) refl
 
-pub front_cost : (line rest : List ℕ) (old new : Held) → TakesFront line rest old new → cost new ≤ cost old + 3 * length line
+pub front_cost : (line rest : List ℕ) (old new : Held)
+    → TakesFront line rest old new → cost new ≤ cost old + 3 * length line
 front_cost line rest old new f = omega (arith, f.taken.adds, f.taken.within)
 
-pub front_all : (line rest : List ℕ) (old new : Held) → TakesFront line rest old new → length rest ≡ 0 → TakesBytes line old new
+pub front_all : (line rest : List ℕ) (old new : Held)
+    → TakesFront line rest old new → length rest ≡ 0 → TakesBytes line old new
 front_all line rest old new f none =
-    takes_all f.size line old new (omega (arith, none, ap (λ (u : List ℕ). length u) f.rest_is, length-drop f.size line)) f.taken
+    takes_all f.size line old new
+    (omega (arith, none, ap (λ (u : List ℕ). length u) f.rest_is, length-drop f.size line)) f.taken

@@ -22,13 +22,16 @@ module _ (f : Token → ℕ) where
   pub opened-size : (kind : PartKind) (v : PartsSoFar) → parts_size f (opened kind v) ≤ parts_size f v
   opened-size kind v = omega arith
 
-  before_last-size : (test : Token → Bool) (t : Token) (us : List Token) → total f (before_last test t us) ≤ f t + total f us
-  before_last-size test t [] = elim (test t) as (λ v. total f (if v then [] else t ∷ []) ≤ f t + 0) [ true ↦ omega arith | false ↦ omega arith ]
+  before_last-size : (test : Token → Bool) (t : Token) (us : List Token)
+      → total f (before_last test t us) ≤ f t + total f us
+  before_last-size test t [] =
+      elim (test t) as (λ v. total f (if v then [] else t ∷ []) ≤ f t + 0) [ true ↦ omega arith | false ↦ omega arith ]
   before_last-size test t (u ∷ us) = omega arith
 
   without_last-size : (test : Token → Bool) (ts : List Token) → total f (without_last test ts) ≤ total f ts
   without_last-size test [] = omega arith
-  without_last-size test (t ∷ ts) = omega (arith, before_last-size test t (without_last test ts), without_last-size test ts)
+  without_last-size test (t ∷ ts) =
+      omega (arith, before_last-size test t (without_last test ts), without_last-size test ts)
 
   without_blank-size : (ts : List Token) → total f (without_blank ts) ≤ total f ts
   without_blank-size [] = omega arith
@@ -37,17 +40,25 @@ module _ (f : Token → ℕ) where
   without_blank-size (t ∷ []) = omega arith
 
   at_close-size : (p : Part) → part_size f (at_close p) ≤ part_size f p
-  at_close-size p = elim (is_macro p.kind) as (λ v. part_size f (if v then record p { tokens = without_blank (without_last is_newline p.tokens) } else p) ≤ part_size f p) [
-    | true ↦ omega (arith, without_blank-size (without_last is_newline p.tokens), without_last-size is_newline p.tokens)
-    | false ↦ omega arith
-  ]
+  at_close-size p =
+      elim (is_macro p.kind) as (λ v.
+      part_size f (if v then record p { tokens = without_blank (without_last is_newline p.tokens) } else p)
+      ≤ part_size f p) [
+        | true ↦ omega (arith, without_blank-size (without_last is_newline p.tokens), without_last-size is_newline p.tokens)
+        | false ↦ omega arith
+      ]
 
   open_closed : (o : Option Part) → total (part_size f) (option_to_list (option_map at_close o)) ≤ open_size f o
   open_closed None = omega arith
   open_closed (Some p) = omega (arith, at_close-size p)
 
   pub closed-size : (v : PartsSoFar) → parts_size f (all_closed v) ≤ parts_size f v
-  closed-size v = omega (arith, total-append (part_size f) v.closed (option_to_list (option_map at_close v.current)), open_closed v.current)
+  closed-size v =
+      omega (
+        arith,
+        total-append (part_size f) v.closed (option_to_list (option_map at_close v.current)),
+        open_closed v.current,
+      )
 
   layout-size : (n : ℕ) (ts : List Token) → total f (take n ts ++ without_last is_layout (drop n ts)) ≤ total f ts
   layout-size n ts = omega (

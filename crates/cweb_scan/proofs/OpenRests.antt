@@ -40,7 +40,8 @@ abbrev in_comment : List ℕ → Reach
 in_comment u = reach (look_in_comment (begins (codes "*/")) 2) Open u
 
 -- one that the line doesn't end
-pub comment_goes : (s : State) (g : Bool) (begun : Place) (u : List ℕ) (r : Reached) → IsLine u → 1 ≤ length u → r ≡ reached (in_comment u) → stays r.how ≡ true
+pub comment_goes : (s : State) (g : Bool) (begun : Place) (u : List ℕ) (r : Reached)
+    → IsLine u → 1 ≤ length u → r ≡ reached (in_comment u) → stays r.how ≡ true
     → TakesOpen (length u) u (opened s g (InComment begun)) (opened s g (InComment begun))
 comment_goes s g begun u r line some is still = record {
   takes = record {
@@ -48,8 +49,10 @@ comment_goes s g begun u r line some is still = record {
     within = omega arith;
     adds = omega arith;
     same = λ later more e.
-        ap (λ (t : List ℕ). resume (InComment begun) (t ++ more) (reading s later)) (drop_all (length u) u (omega arith))
-        ∙ sym (comment_stays begun u more (reading s later) e line (sym (ap (λ (v : Reached). stays v.how) is) ∙ still));
+        ap (λ (t : List ℕ). resume (InComment begun) (t ++ more) (reading s later))
+        (drop_all (length u) u (omega arith))
+        ∙ sym
+        (comment_stays begun u more (reading s later) e line (sym (ap (λ (v : Reached). stays v.how) is) ∙ still));
   };
   moves = λ h. omega (arith, some);
   last = λ h. cc;
@@ -62,7 +65,8 @@ ended_stays Nested h = refl
 ended_stays Open h = cc
 
 -- one that ends in the line
-pub comment_over : (s : State) (g : Bool) (begun : Place) (u : List ℕ) (r : Reached) → IsLine u → r ≡ reached (in_comment u) → stays r.how ≡ false
+pub comment_over : (s : State) (g : Bool) (begun : Place) (u : List ℕ) (r : Reached)
+    → IsLine u → r ≡ reached (in_comment u) → stays r.how ≡ false
     → TakesOpen (r.size + r.close) u (opened s g (InComment begun)) (between (comment r.how begun s) g)
 comment_over s g begun u r line is ends =
     let look = look_in_comment (begins (codes "*/")) 2 in
@@ -72,11 +76,17 @@ comment_over s g begun u r line is ends =
     record {
       takes = record {
         begun = refl;
-        within = omega (arith, size, reach-size look Cut (comment-within (begins (codes "*/")) 2 (begins-size (codes "*/"))) u);
+        within =
+            omega (
+              arith,
+              size,
+              reach-size look Cut (comment-within (begins (codes "*/")) 2 (begins-size (codes "*/"))) u,
+            );
         adds = omega (arith, comment-weight r.how begun s);
         same = λ later more e.
             (λ i. run (reading (comment (how i) begun s) later) (drop (size i) u ++ more))
-            ∙ sym (comment_ends begun u more (reading s later) e line (sym (ap (λ (v : Reached). stays v.how) is) ∙ ends));
+            ∙ sym (comment_ends begun u more (reading s later) e line
+            (sym (ap (λ (v : Reached). stays v.how) is) ∙ ends));
       };
       moves = λ h. cc;
       last = λ h. cc;
@@ -84,15 +94,19 @@ comment_over s g begun u r line is ends =
 
 -- NAMES
 
-fits_as : (look : List ℕ → Look) (n b : ℕ) (t : List ℕ) → IsWithin (look (b ∷ t)) (length (b ∷ t)) → look (b ∷ t) ≡ Goes n → (0 < n) × (n ≤ length (b ∷ t))
+fits_as : (look : List ℕ → Look) (n b : ℕ) (t : List ℕ) → IsWithin (look (b ∷ t)) (length (b ∷ t))
+    → look (b ∷ t) ≡ Goes n → (0 < n) × (n ≤ length (b ∷ t))
 fits_as look n b t within h = subst (λ (v : Look). IsWithin v (length (b ∷ t))) h within
 
-ends_within : (look : List ℕ → Look) (n : ℕ) (how : End) (u : List ℕ) → end_size (look u) ≤ length u → look u ≡ Ends n how → n ≤ length u
+ends_within : (look : List ℕ → Look) (n : ℕ) (how : End) (u : List ℕ)
+    → end_size (look u) ≤ length u → look u ≡ Ends n how → n ≤ length u
 ends_within look n how u within h = subst (λ (v : Look). end_size v ≤ length u) h within
 
 -- a unit of one
-pub name_goes : (s : State) (g : Bool) (begun : Place) (is_file : Bool) (us : List ℕ) (n : ℕ) (u : List ℕ) → IsLine u → 1 ≤ length u → look_in_name u ≡ Goes n
-    → TakesOpen n u (opened s g (InName begun is_file us)) (opened s g (InName begun is_file (us ++ unit_bytes (take n u))))
+pub name_goes : (s : State) (g : Bool) (begun : Place) (is_file : Bool) (us : List ℕ) (n : ℕ) (u : List ℕ)
+    → IsLine u → 1 ≤ length u → look_in_name u ≡ Goes n
+    → TakesOpen n u (opened s g (InName begun is_file us))
+    (opened s g (InName begun is_file (us ++ unit_bytes (take n u))))
 name_goes s g begun is_file us n [] line some h = absurd (omega (arith, some))
 name_goes s g begun is_file us n (b ∷ t) line some h =
     let fits = fits_as look_in_name n b t (name-units b t) h in
@@ -108,7 +122,9 @@ name_goes s g begun is_file us n (b ∷ t) line some h =
     }
 
 -- the end of one, with its opener sign
-pub name_over : (s : State) (g : Bool) (begun : Place) (is_file : Bool) (us : List ℕ) (n : ℕ) (how : End) (u : List ℕ) (sign taken : ℕ) (opens : Bool) → IsLine u → 1 ≤ length u → look_in_name u ≡ Ends n how
+pub name_over : (s : State) (g : Bool) (begun : Place) (is_file : Bool) (us : List ℕ)
+    (n : ℕ) (how : End) (u : List ℕ) (sign taken : ℕ) (opens : Bool)
+    → IsLine u → 1 ≤ length u → look_in_name u ≡ Ends n how
     → sign ≡ sign_after how (drop n u) → taken ≡ n + (if takes_sign s then sign else 0) → opens ≡ nat_lt 0 sign
     → TakesOpen taken u (opened s g (InName begun is_file us)) (between (occurrence is_file us how opens begun s) g)
 name_over s g begun is_file us n how [] sign taken opens line some h is size opened_is = absurd (omega (arith, some))
@@ -116,7 +132,8 @@ name_over s g begun is_file us n how (b ∷ t) sign taken opens line some h is s
     let u = b ∷ t in
     let behind = sign_after how (drop n u) in
     let fits = ends_within look_in_name n how u (name-within u) h in
-    let at_most : (if takes_sign s then sign else 0) ≤ sign = elim (takes_sign s) as (λ v. (if v then sign else 0) ≤ sign) [ true ↦ omega arith | false ↦ omega arith ] in
+    let at_most : (if takes_sign s then sign else 0) ≤ sign =
+    elim (takes_sign s) as (λ v. (if v then sign else 0) ≤ sign) [ true ↦ omega arith | false ↦ omega arith ] in
     record {
       takes = record {
         begun = refl;
@@ -124,7 +141,9 @@ name_over s g begun is_file us n how (b ∷ t) sign taken opens line some h is s
         adds = omega (arith, occurrence-weight is_file us how opens begun s);
         same = λ later more e.
             (λ i. run (reading (occurrence is_file us how (opened_is i) begun s) later) (drop (size i) u ++ more))
-            ∙ (λ i. run (reading (occurrence is_file us how (nat_lt 0 (is i)) begun s) later) (drop (n + (if takes_sign s then is i else 0)) u ++ more))
+            ∙ (λ i.
+            run (reading (occurrence is_file us how (nat_lt 0 (is i)) begun s) later)
+            (drop (n + (if takes_sign s then is i else 0)) u ++ more))
             ∙ sym (name_end begun is_file us n b how t more (reading s later) e line h);
       };
       moves = λ w. cc;
@@ -134,18 +153,26 @@ name_over s g begun is_file us n how (b ∷ t) sign taken opens line some h is s
 -- LITERALS
 
 unit-weight : (s : State) (u : List ℕ) → weight (unit_state s u) ≤ weight s
-unit-weight s u = elim (bytes_eq u (codes "@")) as (λ v. weight (if v then fault DoubleAtInString s else s) ≤ weight s) [ true ↦ omega arith | false ↦ omega arith ]
+unit-weight s u =
+    elim (bytes_eq u (codes "@")) as (λ v. weight (if v then fault DoubleAtInString s else s) ≤ weight s)
+    [ true ↦ omega arith | false ↦ omega arith ]
 
 -- a line's last byte that is a `\`
-pub literal_waits : (s : State) (g : Bool) (begun : Place) (quote : ℕ) (us u : List ℕ) → u ≡ 92 ∷ [] → TakesOpen 1 u (opened s g (InLiteral begun quote us)) (opened s g (AfterBackslash begun quote us))
-literal_waits s g begun quote us u is = subst (λ (t : List ℕ). TakesOpen 1 t (opened s g (InLiteral begun quote us)) (opened s g (AfterBackslash begun quote us))) (sym is) (record {
-  takes = record { begun = refl; within = omega arith; adds = omega arith; same = λ later more e. refl };
-  moves = λ h. omega arith;
-  last = λ h. omega arith;
-})
+pub literal_waits : (s : State) (g : Bool) (begun : Place) (quote : ℕ) (us u : List ℕ) → u ≡ 92 ∷ []
+    → TakesOpen 1 u (opened s g (InLiteral begun quote us)) (opened s g (AfterBackslash begun quote us))
+literal_waits s g begun quote us u is =
+    subst (λ (t : List ℕ).
+    TakesOpen 1 t (opened s g (InLiteral begun quote us)) (opened s g (AfterBackslash begun quote us)))
+    (sym is) (record {
+      takes = record { begun = refl; within = omega arith; adds = omega arith; same = λ later more e. refl };
+      moves = λ h. omega arith;
+      last = λ h. omega arith;
+    })
 
-pub literal_takes : (s : State) (g : Bool) (begun : Place) (quote : ℕ) (us : List ℕ) (v : Look) (u : List ℕ) → MovesOn v → IsLine u → 1 ≤ length u → look_in_literal quote u ≡ v → look_size v ≤ length u
-    → TakesOpen (look_size v) u (opened s g (InLiteral begun quote us)) (literal_turn v begun u (opened s g (InLiteral begun quote us)))
+pub literal_takes : (s : State) (g : Bool) (begun : Place) (quote : ℕ) (us : List ℕ) (v : Look) (u : List ℕ)
+    → MovesOn v → IsLine u → 1 ≤ length u → look_in_literal quote u ≡ v → look_size v ≤ length u
+    → TakesOpen (look_size v) u (opened s g (InLiteral begun quote us))
+    (literal_turn v begun u (opened s g (InLiteral begun quote us)))
 literal_takes s g begun quote us v [] moves line some h fits = absurd (omega (arith, some))
 literal_takes s g begun quote us (Goes n) (b ∷ t) moves line some h fits = record {
   takes = record {
@@ -173,9 +200,12 @@ literal_takes s g begun quote us (Ends n how) (b ∷ t) moves line some h fits =
 pub raw_fits : (sign : List ℕ) (v : Look) (u : List ℕ) → v ≡ look_in_raw sign u → 1 ≤ length u → look_size v ≤ length u
 raw_fits sign v [] is some = absurd (omega (arith, some))
 raw_fits sign (Goes n) (b ∷ t) is some = (fits_as (look_in_raw sign) n b t (raw-units sign b t) (sym is)).1
-raw_fits sign (Ends n how) (b ∷ t) is some = ends_within (look_in_raw sign) n how (b ∷ t) (raw-within sign (b ∷ t)) (sym is)
+raw_fits sign (Ends n how) (b ∷ t) is some =
+    ends_within (look_in_raw sign) n how (b ∷ t) (raw-within sign (b ∷ t)) (sym is)
 
-pub raw_takes : (s : State) (g : Bool) (begun : Place) (d us : List ℕ) (v : Look) (u : List ℕ) → MovesOn v → list_all in_line (sign_of d) ≡ true → IsLine u → 1 ≤ length u → look_in_raw (sign_of d) u ≡ v → look_size v ≤ length u
+pub raw_takes : (s : State) (g : Bool) (begun : Place) (d us : List ℕ) (v : Look) (u : List ℕ)
+    → MovesOn v → list_all in_line (sign_of d) ≡ true → IsLine u
+    → 1 ≤ length u → look_in_raw (sign_of d) u ≡ v → look_size v ≤ length u
     → TakesOpen (look_size v) u (opened s g (InRaw begun d us)) (literal_turn v begun u (opened s g (InRaw begun d us)))
 raw_takes s g begun d us v [] moves clean line some h fits = absurd (omega (arith, some))
 raw_takes s g begun d us (Goes n) (b ∷ t) moves clean line some h fits = record {

@@ -37,10 +37,12 @@ abbrev with_front : Reading → List ℕ → Front → Reading
 with_front r t f = run (after r (record { kind = f.kind; bytes = take f.size t })) (drop f.size t)
 
 -- what is read after what the rules name
-pub run_as : (r : Reading) (b : ℕ) (t : List ℕ) (f : Front) → front_in r.state.context (names_include r.state) (b ∷ t) ≡ f → run r (b ∷ t) ≡ with_front r (b ∷ t) f
+pub run_as : (r : Reading) (b : ℕ) (t : List ℕ) (f : Front)
+    → front_in r.state.context (names_include r.state) (b ∷ t) ≡ f → run r (b ∷ t) ≡ with_front r (b ∷ t) f
 run_as r b t f h = ap (fold after r) (pieces_first r b t (fair r.state b t).some) ∙ ap (with_front r (b ∷ t)) h
 
-comment_front : (c : Context) (includes : Bool) (w : List ℕ) → reads_c c ≡ true → front_in c includes (47 ∷ 42 ∷ w) ≡ comment_at (47 ∷ 42 ∷ w)
+comment_front : (c : Context) (includes : Bool) (w : List ℕ) → reads_c c ≡ true
+    → front_in c includes (47 ∷ 42 ∷ w) ≡ comment_at (47 ∷ 42 ∷ w)
 comment_front Limbo includes w h = cc
 comment_front TeX includes w h = cc
 comment_front (Definition begun) includes w h = refl
@@ -55,14 +57,18 @@ enter_comment Macro how s = refl
 enter_comment CText how s = refl
 
 -- `/*`
-pub opened_comment : (r : Reading) (w : List ℕ) → reads_c r.state.context ≡ true → run r (47 ∷ 42 ∷ w) ≡ resume (InComment r.state.here) w (on blank r)
+pub opened_comment : (r : Reading) (w : List ℕ) → reads_c r.state.context ≡ true
+    → run r (47 ∷ 42 ∷ w) ≡ resume (InComment r.state.here) w (on blank r)
 opened_comment r w h =
     let m = items.comment w in
     let n = size_of m in
     let e : 2 + n ≡ suc (suc n) = omega arith in
     run_as r 47 (42 ∷ w) (comment_at (47 ∷ 42 ∷ w)) (comment_front r.state.context (names_include r.state) w h)
     ∙ ap (λ k. with_front r (47 ∷ 42 ∷ w) (front (Comment m.how) k)) e
-    ∙ ap (λ (s : State). run (on (comment m.how s.here) (each_line_end comment_line_end (take n w) (on blank (on (λ u. s) r)))) (drop n w)) (enter_comment r.state.context m.how r.state)
+    ∙ ap (λ (s : State).
+    run (on (comment m.how s.here) (each_line_end comment_line_end (take n w) (on blank (on (λ u. s) r))))
+    (drop n w))
+    (enter_comment r.state.context m.how r.state)
 
 -- what belongs to no head leaves it
 abbrev pub leave_head_in : Context → State → State
@@ -89,21 +95,24 @@ takes_same (Definition begun) s h = refl
 takes_same Macro s h = ap takes_in h
 takes_same CText s h = ap takes_in h
 
-name_front : (c : Context) (includes : Bool) (w : List ℕ) → reads_names c ≡ true → front_in c includes (64 ∷ 60 ∷ w) ≡ name_at (takes_in c) (64 ∷ 60 ∷ w)
+name_front : (c : Context) (includes : Bool) (w : List ℕ) → reads_names c ≡ true
+    → front_in c includes (64 ∷ 60 ∷ w) ≡ name_at (takes_in c) (64 ∷ 60 ∷ w)
 name_front Limbo includes w h = cc
 name_front TeX includes w h = refl
 name_front (Definition begun) includes w h = refl
 name_front Macro includes w h = refl
 name_front CText includes w h = refl
 
-file_front : (c : Context) (includes : Bool) (w : List ℕ) → reads_names c ≡ true → front_in c includes (64 ∷ 40 ∷ w) ≡ name_at (takes_in c) (64 ∷ 40 ∷ w)
+file_front : (c : Context) (includes : Bool) (w : List ℕ) → reads_names c ≡ true
+    → front_in c includes (64 ∷ 40 ∷ w) ≡ name_at (takes_in c) (64 ∷ 40 ∷ w)
 file_front Limbo includes w h = cc
 file_front TeX includes w h = refl
 file_front (Definition begun) includes w h = refl
 file_front Macro includes w h = refl
 file_front CText includes w h = refl
 
-enter_name : (c : Context) (is_file : Bool) (us : List (List ℕ)) (how : End) (opens : Bool) (s : State) → enter_in c (Occurrence is_file us how opens) s ≡ leave_head_in c s
+enter_name : (c : Context) (is_file : Bool) (us : List (List ℕ)) (how : End) (opens : Bool) (s : State)
+    → enter_in c (Occurrence is_file us how opens) s ≡ leave_head_in c s
 enter_name Limbo is_file us how opens s = refl
 enter_name TeX is_file us how opens s = refl
 enter_name (Definition begun) is_file us how opens s = refl
@@ -111,7 +120,10 @@ enter_name Macro is_file us how opens s = refl
 enter_name CText is_file us how opens s = refl
 
 abbrev named : Bool → Reach → ℕ → ℕ → List ℕ → Reading → Reading
-named is_file m sign n t r = run (on (occurrence is_file (text_in m.units) m.how (nat_lt 0 sign) r.state.here) (each_line_end moved (take n t) r)) (drop n t)
+named is_file m sign n t r =
+    run (on (occurrence is_file (text_in m.units) m.how (nat_lt 0 sign) r.state.here)
+    (each_line_end moved (take n t) r))
+    (drop n t)
 
 abbrev name_size : Bool → ℕ → ℕ → ℕ
 name_size takes n sign = if takes then n + sign else n
@@ -123,12 +135,14 @@ here_same (Definition begun) s = refl
 here_same Macro s = refl
 here_same CText s = refl
 
-name_size-two : (takes : Bool) (n sign : ℕ) → name_size takes (suc (suc n)) sign ≡ suc (suc (n + (if takes then sign else 0)))
+name_size-two : (takes : Bool) (n sign : ℕ)
+    → name_size takes (suc (suc n)) sign ≡ suc (suc (n + (if takes then sign else 0)))
 name_size-two true n sign = omega arith
 name_size-two false n sign = omega arith
 
 -- `@<`, `@(`
-opened_as : (r : Reading) (a : ℕ) (is_file : Bool) (w : List ℕ) → begins (codes "@(") (64 ∷ a ∷ w) ≡ is_file → is_line_end a ≡ false
+opened_as : (r : Reading) (a : ℕ) (is_file : Bool) (w : List ℕ)
+    → begins (codes "@(") (64 ∷ a ∷ w) ≡ is_file → is_line_end a ≡ false
     → front_in r.state.context (names_include r.state) (64 ∷ a ∷ w) ≡ name_at (takes_in r.state.context) (64 ∷ a ∷ w)
     → run r (64 ∷ a ∷ w) ≡ resume (InName r.state.here is_file []) w (on leave_head r)
 opened_as r a is_file w file in_line h =
@@ -142,18 +156,45 @@ opened_as r a is_file w file in_line h =
     let s = leave_head_in c r.state in
     let size = n + (if takes then sign else 0) in
     run_as r 64 (a ∷ w) (name_at takes t) h
-    ∙ ap (λ v. with_front r t (front (Occurrence v m.units m.how (nat_lt 0 (sign_after m.how (drop (2 + n) t)))) (name_size takes (2 + n) (sign_after m.how (drop (2 + n) t))))) file
-    ∙ ap (λ k. with_front r t (front (Occurrence is_file m.units m.how (nat_lt 0 (sign_after m.how (drop k t)))) (name_size takes k (sign_after m.how (drop k t))))) e
+    ∙ ap (λ v.
+    with_front r t
+    (front (Occurrence v m.units m.how (nat_lt 0 (sign_after m.how (drop (2 + n) t))))
+    (name_size takes (2 + n) (sign_after m.how (drop (2 + n) t)))))
+    file
+    ∙ ap (λ k.
+    with_front r t
+    (front (Occurrence is_file m.units m.how (nat_lt 0 (sign_after m.how (drop k t))))
+    (name_size takes k (sign_after m.how (drop k t)))))
+    e
     ∙ ap (λ k. with_front r t (front (Occurrence is_file m.units m.how (nat_lt 0 sign)) k)) (name_size-two takes n sign)
-    ∙ ap (λ (u : State). run (on (occurrence is_file (text_in m.units) m.how (nat_lt 0 sign) u.here) (each_line_end moved (take (suc (suc size)) t) (on (λ v. u) r))) (drop size w)) (enter_name c is_file m.units m.how (nat_lt 0 sign) r.state)
-    ∙ ap (λ v. run (on (occurrence is_file (text_in m.units) m.how (nat_lt 0 sign) s.here) (each_line_end moved (take size w) (if v then next_line moved (on (λ v. s) r) else on (λ v. s) r))) (drop size w)) in_line
-    ∙ ap (λ p. run (on (occurrence is_file (text_in m.units) m.how (nat_lt 0 sign) p) (each_line_end moved (take size w) (on (λ v. s) r))) (drop size w)) (here_same c r.state)
-    ∙ ap (λ v. let k = n + (if v then sign else 0) in run (on (occurrence is_file (text_in m.units) m.how (nat_lt 0 sign) r.state.here) (each_line_end moved (take k w) (on (λ v. s) r))) (drop k w)) (sym (takes_same c r.state refl))
+    ∙ ap (λ (u : State).
+    run (on (occurrence is_file (text_in m.units) m.how (nat_lt 0 sign) u.here)
+    (each_line_end moved (take (suc (suc size)) t) (on (λ v. u) r)))
+    (drop size w))
+    (enter_name c is_file m.units m.how (nat_lt 0 sign) r.state)
+    ∙ ap (λ v.
+    run (on (occurrence is_file (text_in m.units) m.how (nat_lt 0 sign) s.here)
+    (each_line_end moved (take size w) (if v then next_line moved (on (λ v. s) r) else on (λ v. s) r)))
+    (drop size w))
+    in_line
+    ∙ ap (λ p.
+    run (on (occurrence is_file (text_in m.units) m.how (nat_lt 0 sign) p)
+    (each_line_end moved (take size w) (on (λ v. s) r)))
+    (drop size w))
+    (here_same c r.state)
+    ∙ ap (λ v.
+    let k = n + (if v then sign else 0) in
+    run (on (occurrence is_file (text_in m.units) m.how (nat_lt 0 sign) r.state.here)
+    (each_line_end moved (take k w) (on (λ v. s) r)))
+    (drop k w))
+    (sym (takes_same c r.state refl))
 
-pub opened_name : (r : Reading) (w : List ℕ) → reads_names r.state.context ≡ true → run r (64 ∷ 60 ∷ w) ≡ resume (InName r.state.here false []) w (on leave_head r)
+pub opened_name : (r : Reading) (w : List ℕ) → reads_names r.state.context ≡ true
+    → run r (64 ∷ 60 ∷ w) ≡ resume (InName r.state.here false []) w (on leave_head r)
 opened_name r w h = opened_as r 60 false w refl refl (name_front r.state.context (names_include r.state) w h)
 
-pub opened_file : (r : Reading) (w : List ℕ) → reads_names r.state.context ≡ true → run r (64 ∷ 40 ∷ w) ≡ resume (InName r.state.here true []) w (on leave_head r)
+pub opened_file : (r : Reading) (w : List ℕ) → reads_names r.state.context ≡ true
+    → run r (64 ∷ 40 ∷ w) ≡ resume (InName r.state.here true []) w (on leave_head r)
 opened_file r w h = opened_as r 40 true w refl refl (file_front r.state.context (names_include r.state) w h)
 
 -- LITERALS
@@ -162,9 +203,11 @@ drop-add : (m n : ℕ) (t : List ℕ) → drop (m + n) t ≡ drop n (drop m t)
 drop-add zero n t = let e : 0 + n ≡ n = omega arith in ap (λ k. drop k t) e
 drop-add (suc m) zero [] = let e : suc m + 0 ≡ suc m = omega arith in ap (λ k. drop k []) e
 drop-add (suc m) (suc n) [] = let e : suc m + suc n ≡ suc (m + suc n) = omega arith in ap (λ k. drop k []) e
-drop-add (suc m) n (b ∷ t) = let e : suc m + n ≡ suc (m + n) = omega arith in ap (λ k. drop k (b ∷ t)) e ∙ drop-add m n t
+drop-add (suc m) n (b ∷ t) =
+    let e : suc m + n ≡ suc (m + n) = omega arith in ap (λ k. drop k (b ∷ t)) e ∙ drop-add m n t
 
-enter_quoted : (c : Context) (us : List (List ℕ)) (how : End) (s : State) → reads_literals c ≡ true → enter_in c (Quoted us how) s ≡ s
+enter_quoted : (c : Context) (us : List (List ℕ)) (how : End) (s : State)
+    → reads_literals c ≡ true → enter_in c (Quoted us how) s ≡ s
 enter_quoted Limbo us how s h = cc
 enter_quoted TeX us how s h = cc
 enter_quoted (Definition begun) us how s h = cc
@@ -173,10 +216,12 @@ enter_quoted CText us how s h = refl
 
 none-line : (t : List ℕ) (m : Reading) → IsLine t → each_line_end moved t m ≡ m
 none-line [] m h = refl
-none-line (b ∷ t) m h = ap (λ v. each_line_end moved t (if v then next_line moved m else m)) (ne_eqb b 10 h.0) ∙ none-line t m h.1
+none-line (b ∷ t) m h =
+    ap (λ v. each_line_end moved t (if v then next_line moved m else m)) (ne_eqb b 10 h.0) ∙ none-line t m h.1
 
 opener-unit : (r : Reading) (u : List ℕ) → IsLine u → bytes_eq u (codes "@") ≡ false → literal_unit r u ≡ r
-opener-unit r u line h = ap (λ v. if v then on (fault DoubleAtInString) r else each_line_end moved u r) h ∙ none-line u r line
+opener-unit r u line h =
+    ap (λ v. if v then on (fault DoubleAtInString) r else each_line_end moved u r) h ∙ none-line u r line
 
 -- a unit that stands for itself, and is no lone `@`
 pub record IsPlain (u : List ℕ) : Type 0 where
@@ -184,7 +229,8 @@ pub record IsPlain (u : List ℕ) : Type 0 where
   pub double : bytes_eq u (codes "@@") ≡ false
 
 -- a literal of either kind, whose first n bytes open it
-pub opened_quoted : (look : List ℕ → Look) (r : Reading) (n b : ℕ) (t : List ℕ) → reads_literals r.state.context ≡ true → IsLine (take n (b ∷ t)) → IsPlain (take n (b ∷ t))
+pub opened_quoted : (look : List ℕ → Look) (r : Reading) (n b : ℕ) (t : List ℕ)
+    → reads_literals r.state.context ≡ true → IsLine (take n (b ∷ t)) → IsPlain (take n (b ∷ t))
     → front_in r.state.context (names_include r.state) (b ∷ t) ≡ quoted n (reach look Cut (drop n (b ∷ t))) (b ∷ t)
     → run r (b ∷ t) ≡ end_literal r.state.here (take n (b ∷ t)) (reach look Cut (drop n (b ∷ t))) (drop n (b ∷ t)) r
 opened_quoted look r n b t c line no_at h =
@@ -195,13 +241,31 @@ opened_quoted look r n b t c line no_at h =
     let close = take m.close (drop (n + length (body m)) u) in
     let us = opener ∷ m.units ++ close ∷ [] in
     run_as r b t (quoted n m u) h
-    ∙ ap (λ (s : State). run (on (literal (text_in us) m.how s.here) (fold literal_unit (on (λ v. s) r) us)) (drop (n + size_of m) u)) (enter_quoted r.state.context us m.how r.state c)
-    ∙ ap (λ k. run (on (literal (text_in us) m.how r.state.here) (fold literal_unit k (m.units ++ close ∷ []))) (drop (n + size_of m) u)) (opener-unit r opener line no_at.single)
-    ∙ ap (λ (v : Bool). run (on (literal ((if v then codes "@" else opener) ++ text_in (m.units ++ close ∷ [])) m.how r.state.here) (fold literal_unit r (m.units ++ close ∷ []))) (drop (n + size_of m) u)) no_at.double
-    ∙ ap (λ v. let x = m.units ++ take m.close v ∷ [] in run (on (literal (opener ++ text_in x) m.how r.state.here) (fold literal_unit r x)) (drop (n + size_of m) u)) (drop-add n (length (body m)) u)
-    ∙ ap (λ v. let x = m.units ++ take m.close (drop (length (body m)) w) ∷ [] in run (on (literal (opener ++ text_in x) m.how r.state.here) (fold literal_unit r x)) v) (drop-add n (size_of m) u)
+    ∙ ap (λ (s : State).
+    run (on (literal (text_in us) m.how s.here) (fold literal_unit (on (λ v. s) r) us))
+    (drop (n + size_of m) u))
+    (enter_quoted r.state.context us m.how r.state c)
+    ∙ ap (λ k.
+    run (on (literal (text_in us) m.how r.state.here) (fold literal_unit k (m.units ++ close ∷ [])))
+    (drop (n + size_of m) u))
+    (opener-unit r opener line no_at.single)
+    ∙ ap (λ (v : Bool).
+    run (on (literal ((if v then codes "@" else opener) ++ text_in (m.units ++ close ∷ [])) m.how r.state.here)
+    (fold literal_unit r (m.units ++ close ∷ [])))
+    (drop (n + size_of m) u))
+    no_at.double
+    ∙ ap (λ v.
+    let x = m.units ++ take m.close v ∷ [] in
+    run (on (literal (opener ++ text_in x) m.how r.state.here) (fold literal_unit r x))
+    (drop (n + size_of m) u))
+    (drop-add n (length (body m)) u)
+    ∙ ap (λ v.
+    let x = m.units ++ take m.close (drop (length (body m)) w) ∷ [] in
+    run (on (literal (opener ++ text_in x) m.how r.state.here) (fold literal_unit r x)) v)
+    (drop-add n (size_of m) u)
 
-abbrev past : (effect : ℕ → Effect) (takes_sign includes : Bool) (t : List ℕ) → Bool → Bool → Bool → Bool → Bool → Bool → Bool → Bool → Front
+abbrev past : (effect : ℕ → Effect) (takes_sign includes : Bool) (t : List ℕ)
+    → Bool → Bool → Bool → Bool → Bool → Bool → Bool → Bool → Front
 past effect takes_sign includes t v0 v1 v2 v3 v4 v5 v6 v7 =
     if v0 then front Blanks (prefix_len is_blank t)
     else (if v1 then front LineEnd 1
@@ -216,11 +280,17 @@ past effect takes_sign includes t v0 v1 v2 v3 v4 v5 v6 v7 =
     else (if first_is is_word_byte t then front Identifier (prefix_len is_word_byte t)
     else front Punctuator (longest listed t)))))))))))
 
-pub c_front_raw : (effect : ℕ → Effect) (takes_sign includes : Bool) (t : List ℕ) → IsPast t → starts_raw t ≡ true → c_front effect takes_sign includes t ≡ raw_at t
-c_front_raw effect takes_sign includes t p h = λ i. past effect takes_sign includes t (p.blank i) (p.line_end i) (p.comment i) (p.line_comment i) (p.section i) (p.code i) (h i) (starts_literal t)
+pub c_front_raw : (effect : ℕ → Effect) (takes_sign includes : Bool) (t : List ℕ)
+    → IsPast t → starts_raw t ≡ true → c_front effect takes_sign includes t ≡ raw_at t
+c_front_raw effect takes_sign includes t p h = λ i.
+    past effect takes_sign includes t (p.blank i) (p.line_end i) (p.comment i)
+    (p.line_comment i) (p.section i) (p.code i) (h i) (starts_literal t)
 
-pub c_front_literal : (effect : ℕ → Effect) (takes_sign includes : Bool) (t : List ℕ) → IsPast t → starts_raw t ≡ false → starts_literal t ≡ true → c_front effect takes_sign includes t ≡ literal_at t
-c_front_literal effect takes_sign includes t p g h = λ i. past effect takes_sign includes t (p.blank i) (p.line_end i) (p.comment i) (p.line_comment i) (p.section i) (p.code i) (g i) (h i)
+pub c_front_literal : (effect : ℕ → Effect) (takes_sign includes : Bool) (t : List ℕ) → IsPast t
+    → starts_raw t ≡ false → starts_literal t ≡ true → c_front effect takes_sign includes t ≡ literal_at t
+c_front_literal effect takes_sign includes t p g h = λ i.
+    past effect takes_sign includes t (p.blank i) (p.line_end i)
+    (p.comment i) (p.line_comment i) (p.section i) (p.code i) (g i) (h i)
 
 pub past-line : (b : ℕ) (t more : List ℕ) → AtLineEnd more → IsPast (b ∷ t) → IsPast (b ∷ t ++ more)
 past-line b t more e p = record {
@@ -232,12 +302,16 @@ past-line b t more e p = record {
   code = begins_line (codes "@") (b ∷ t) more refl e ∙ p.code;
 }
 
-literal_front : (c : Context) (includes : Bool) (b : ℕ) (t : List ℕ) (f : Front) → reads_literals c ≡ true → begins (codes "\\") (b ∷ t) ≡ false
-    → ((effect : ℕ → Effect) (takes_sign includes : Bool) → c_front effect takes_sign includes (b ∷ t) ≡ f) → front_in c includes (b ∷ t) ≡ f
+literal_front : (c : Context) (includes : Bool) (b : ℕ) (t : List ℕ) (f : Front)
+    → reads_literals c ≡ true → begins (codes "\\") (b ∷ t) ≡ false
+    → ((effect : ℕ → Effect) (takes_sign includes : Bool) → c_front effect takes_sign includes (b ∷ t) ≡ f)
+    → front_in c includes (b ∷ t) ≡ f
 literal_front Limbo includes b t f h g k = cc
 literal_front TeX includes b t f h g k = cc
 literal_front (Definition begun) includes b t f h g k = cc
-literal_front Macro includes b t f h g k = ap (λ v. if v && at_line_end t then front Skipped 1 else c_front in_macro true false (b ∷ t)) g ∙ k in_macro true false
+literal_front Macro includes b t f h g k =
+    ap (λ v. if v && at_line_end t then front Skipped 1 else c_front in_macro true false (b ∷ t)) g
+    ∙ k in_macro true false
 literal_front CText includes b t f h g k = k in_c false includes
 
 IsLine-take : (n : ℕ) (t : List ℕ) → IsLine t → IsLine (take n t)
@@ -254,22 +328,33 @@ plain zero b t some h = absurd (omega (arith, some))
 plain (suc n) b t some h =
     let f : not (64 == b) ≡ true = ap (λ v. not v) (sym (and_true (64 == b)) ∙ h) in
     let e : (b == 64) ≡ false = differs (λ x. not (64 == x)) b 64 f refl in
-    record { single = ap (λ v. v && bytes_eq (take n t) []) e; double = ap (λ v. v && bytes_eq (take n t) (codes "@")) e }
+    record {
+      single = ap (λ v. v && bytes_eq (take n t) []) e;
+      double = ap (λ v. v && bytes_eq (take n t) (codes "@")) e;
+    }
 
 -- the same, before a line end
-opened_in_line : (look : List ℕ → Look) (r : Reading) (n b : ℕ) (t more : List ℕ) → 0 < n → n ≤ length (b ∷ t) → reads_literals r.state.context ≡ true → IsLine (b ∷ t) → begins (codes "@") (b ∷ t) ≡ false
-    → front_in r.state.context (names_include r.state) (b ∷ t ++ more) ≡ quoted n (reach look Cut (drop n (b ∷ t ++ more))) (b ∷ t ++ more)
-    → run r (b ∷ t ++ more) ≡ end_literal r.state.here (take n (b ∷ t)) (reach look Cut (drop n (b ∷ t) ++ more)) (drop n (b ∷ t) ++ more) r
+opened_in_line : (look : List ℕ → Look) (r : Reading) (n b : ℕ) (t more : List ℕ) → 0 < n → n ≤ length (b ∷ t)
+    → reads_literals r.state.context ≡ true → IsLine (b ∷ t) → begins (codes "@") (b ∷ t) ≡ false
+    → front_in r.state.context (names_include r.state) (b ∷ t ++ more)
+    ≡ quoted n (reach look Cut (drop n (b ∷ t ++ more))) (b ∷ t ++ more)
+    → run r (b ∷ t ++ more)
+    ≡ end_literal r.state.here (take n (b ∷ t)) (reach look Cut (drop n (b ∷ t) ++ more)) (drop n (b ∷ t) ++ more) r
 opened_in_line look r n b t more some fits c line code h =
     let u = b ∷ t in
     let first : take n (u ++ more) ≡ take n u = take-append-le n u more fits in
-    opened_quoted look r n b (t ++ more) c (subst IsLine (sym first) (IsLine-take n u line)) (subst IsPlain (sym first) (plain n b t some code)) h
+    opened_quoted look r n b (t ++ more) c (subst IsLine (sym first) (IsLine-take n u line))
+    (subst IsPlain (sym first) (plain n b t some code)) h
     ∙ ap (λ v. end_literal r.state.here v (reach look Cut (drop n (u ++ more))) (drop n (u ++ more)) r) first
     ∙ ap (λ v. end_literal r.state.here (take n u) (reach look Cut v) v r) (drop-append-le n u more fits)
 
 -- `R"(`
-pub opened_raw : (r : Reading) (b : ℕ) (t more : List ℕ) → AtLineEnd more → reads_literals r.state.context ≡ true → IsLine (b ∷ t) → IsPast (b ∷ t) → begins (codes "\\") (b ∷ t) ≡ false → starts_raw (b ∷ t) ≡ true
-    → run r (b ∷ t ++ more) ≡ (let m = raw_prefix (b ∷ t) + 2 in let d = delimiter (drop m (b ∷ t)) in let n = m + length d + 1 in resume (InRaw r.state.here d (take n (b ∷ t))) (drop n (b ∷ t) ++ more) r)
+pub opened_raw : (r : Reading) (b : ℕ) (t more : List ℕ) → AtLineEnd more → reads_literals r.state.context ≡ true
+    → IsLine (b ∷ t) → IsPast (b ∷ t) → begins (codes "\\") (b ∷ t) ≡ false → starts_raw (b ∷ t) ≡ true
+    → run r (b ∷ t ++ more)
+    ≡ (let m = raw_prefix (b ∷ t) + 2 in
+    let d = delimiter (drop m (b ∷ t)) in
+    let n = m + length d + 1 in resume (InRaw r.state.here d (take n (b ∷ t))) (drop n (b ∷ t) ++ more) r)
 opened_raw r b t more e c line p back starts =
     let u = b ∷ t in
     let m = raw_prefix u + 2 in
@@ -280,14 +365,23 @@ opened_raw r b t more e c line p back starts =
     let some = has_delimiter-size (drop m u) start.1 in
     let same : raw_at (u ++ more) ≡ raw_from m d (u ++ more) =
     ap (λ n. raw_from (n + 2) (delimiter (drop (n + 2) (u ++ more))) (u ++ more)) (raw_prefix-line u more e)
-    ∙ ap (λ d. raw_from m d (u ++ more)) (ap delimiter (drop-append-le m u more two) ∙ delimiter-line (drop m u) more e) in
-    opened_in_line (look_in_raw (sign_of d)) r n b t more (omega arith) (omega (arith, some, two, length-drop m u)) c line p.code
-    (literal_front r.state.context (names_include r.state) b (t ++ more) (raw_from m d (u ++ more)) c back
-    (λ effect takes_sign includes. c_front_raw effect takes_sign includes (u ++ more) (past-line b t more e p) (starts_raw_line u more e ∙ starts) ∙ same))
+    ∙ ap (λ d. raw_from m d (u ++ more))
+    (ap delimiter (drop-append-le m u more two) ∙ delimiter-line (drop m u) more e) in
+    opened_in_line (look_in_raw (sign_of d)) r n b t more (omega arith)
+    (omega (arith, some, two, length-drop m u)) c line p.code
+    (literal_front r.state.context (names_include r.state)
+    b (t ++ more) (raw_from m d (u ++ more)) c back (λ effect takes_sign includes.
+    c_front_raw effect takes_sign includes (u ++ more)
+    (past-line b t more e p) (starts_raw_line u more e ∙ starts) ∙ same))
 
 -- a quote
-pub opened_literal : (r : Reading) (b : ℕ) (t more : List ℕ) → AtLineEnd more → reads_literals r.state.context ≡ true → IsLine (b ∷ t) → IsPast (b ∷ t) → begins (codes "\\") (b ∷ t) ≡ false → starts_raw (b ∷ t) ≡ false → starts_literal (b ∷ t) ≡ true
-    → run r (b ∷ t ++ more) ≡ (let n = literal_prefix (b ∷ t) in resume (InLiteral r.state.here (quote_of (drop n (b ∷ t))) (take (n + 1) (b ∷ t))) (drop (n + 1) (b ∷ t) ++ more) r)
+pub opened_literal : (r : Reading) (b : ℕ) (t more : List ℕ) → AtLineEnd more
+    → reads_literals r.state.context ≡ true → IsLine (b ∷ t) → IsPast (b ∷ t)
+    → begins (codes "\\") (b ∷ t) ≡ false → starts_raw (b ∷ t) ≡ false → starts_literal (b ∷ t) ≡ true
+    → run r (b ∷ t ++ more)
+    ≡ (let n = literal_prefix (b ∷ t) in
+    resume (InLiteral r.state.here (quote_of (drop n (b ∷ t))) (take (n + 1) (b ∷ t)))
+    (drop (n + 1) (b ∷ t) ++ more) r)
 opened_literal r b t more e c line p back raw starts =
     let u = b ∷ t in
     let n = literal_prefix u in
@@ -295,7 +389,10 @@ opened_literal r b t more e c line p back raw starts =
     let fits = is_quoted-size n u starts in
     let same : literal_at (u ++ more) ≡ literal_with n quote (u ++ more) =
     ap (λ n. literal_with n (quote_of (drop n (u ++ more))) (u ++ more)) (literal_prefix-line u more e)
-    ∙ ap (λ v. literal_with n (if v then 39 else 34) (u ++ more)) (drop_line (codes "'") n u more refl e (omega (arith, fits))) in
+    ∙ ap (λ v. literal_with n (if v then 39 else 34) (u ++ more))
+    (drop_line (codes "'") n u more refl e (omega (arith, fits))) in
     opened_in_line (look_in_literal quote) r (n + 1) b t more (omega arith) fits c line p.code
-    (literal_front r.state.context (names_include r.state) b (t ++ more) (literal_with n quote (u ++ more)) c back
-    (λ effect takes_sign includes. c_front_literal effect takes_sign includes (u ++ more) (past-line b t more e p) (starts_raw_line u more e ∙ raw) (starts_literal_line u more e ∙ starts) ∙ same))
+    (literal_front r.state.context (names_include r.state) b
+    (t ++ more) (literal_with n quote (u ++ more)) c back (λ effect takes_sign includes.
+    c_front_literal effect takes_sign includes (u ++ more) (past-line b t more e p)
+    (starts_raw_line u more e ∙ raw) (starts_literal_line u more e ∙ starts) ∙ same))

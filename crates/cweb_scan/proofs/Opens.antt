@@ -34,7 +34,8 @@ two x y (a ∷ b ∷ w) h =
     (w, (λ i. eqb-true x a p.0 i ∷ eqb-true y b (both (y == b) true p.1).0 i ∷ w))
 
 -- `/*`
-pub comment_opens : (s : State) (g : Bool) (u : List ℕ) → reads_c s.context ≡ true → begins (codes "/*") u ≡ true → Takes 2 u (between s g) (opened (blank s) g (InComment s.here))
+pub comment_opens : (s : State) (g : Bool) (u : List ℕ) → reads_c s.context ≡ true
+    → begins (codes "/*") u ≡ true → Takes 2 u (between s g) (opened (blank s) g (InComment s.here))
 comment_opens s g u c h =
     let p = two 47 42 u h in
     subst (λ (v : List ℕ). Takes 2 v (between s g) (opened (blank s) g (InComment s.here))) p.1 (record {
@@ -52,25 +53,33 @@ no_head Macro s h = refl
 no_head CText s h = refl
 
 -- `@<`
-pub name_opens : (s : State) (g : Bool) (u : List ℕ) → is_head s.context ≡ false → reads_names s.context ≡ true → begins (codes "@<") u ≡ true → Takes 2 u (between s g) (opened s g (InName s.here false []))
+pub name_opens : (s : State) (g : Bool) (u : List ℕ) → is_head s.context ≡ false → reads_names s.context ≡ true
+    → begins (codes "@<") u ≡ true → Takes 2 u (between s g) (opened s g (InName s.here false []))
 name_opens s g u head c h =
     let p = two 64 60 u h in
     subst (λ (v : List ℕ). Takes 2 v (between s g) (opened s g (InName s.here false []))) p.1 (record {
       begun = refl;
       within = omega arith;
       adds = omega arith;
-      same = λ later more e. sym (opened_name (reading s later) (p.0 ++ more) c ∙ ap (λ (v : State). resume (InName s.here false []) (p.0 ++ more) (reading v later)) (no_head s.context s head));
+      same = λ later more e.
+          sym (opened_name (reading s later) (p.0 ++ more) c
+          ∙ ap (λ (v : State). resume (InName s.here false []) (p.0 ++ more) (reading v later))
+          (no_head s.context s head));
     })
 
 -- `@(`
-pub file_opens : (s : State) (g : Bool) (u : List ℕ) → is_head s.context ≡ false → reads_names s.context ≡ true → begins (codes "@(") u ≡ true → Takes 2 u (between s g) (opened s g (InName s.here true []))
+pub file_opens : (s : State) (g : Bool) (u : List ℕ) → is_head s.context ≡ false → reads_names s.context ≡ true
+    → begins (codes "@(") u ≡ true → Takes 2 u (between s g) (opened s g (InName s.here true []))
 file_opens s g u head c h =
     let p = two 64 40 u h in
     subst (λ (v : List ℕ). Takes 2 v (between s g) (opened s g (InName s.here true []))) p.1 (record {
       begun = refl;
       within = omega arith;
       adds = omega arith;
-      same = λ later more e. sym (opened_file (reading s later) (p.0 ++ more) c ∙ ap (λ (v : State). resume (InName s.here true []) (p.0 ++ more) (reading v later)) (no_head s.context s head));
+      same = λ later more e.
+          sym (opened_file (reading s later) (p.0 ++ more) c
+          ∙ ap (λ (v : State). resume (InName s.here true []) (p.0 ++ more) (reading v later))
+          (no_head s.context s head));
     })
 
 -- no literal begins with `\`
@@ -87,17 +96,22 @@ raw_plain b t h = (elim (92 == b) as (λ v. (92 == b) ≡ v → (v && true) ≡ 
 ]) refl
 
 -- a quote
-pub literal_opens : (s : State) (g : Bool) (b : ℕ) (t : List ℕ) → reads_literals s.context ≡ true → IsLine (b ∷ t) → IsPast (b ∷ t) → starts_raw (b ∷ t) ≡ false → starts_literal (b ∷ t) ≡ true
-    → (let n = literal_prefix (b ∷ t) in Takes (n + 1) (b ∷ t) (between s g) (opened s g (InLiteral s.here (quote_of (drop n (b ∷ t))) (take (n + 1) (b ∷ t)))))
+pub literal_opens : (s : State) (g : Bool) (b : ℕ) (t : List ℕ) → reads_literals s.context ≡ true
+    → IsLine (b ∷ t) → IsPast (b ∷ t) → starts_raw (b ∷ t) ≡ false → starts_literal (b ∷ t) ≡ true
+    → (let n = literal_prefix (b ∷ t) in
+    Takes (n + 1) (b ∷ t) (between s g)
+    (opened s g (InLiteral s.here (quote_of (drop n (b ∷ t))) (take (n + 1) (b ∷ t)))))
 literal_opens s g b t c line past raw starts = record {
   begun = refl;
   within = is_quoted-size (literal_prefix (b ∷ t)) (b ∷ t) starts;
   adds = omega arith;
-  same = λ later more e. sym (opened_literal (reading s later) b t more e c line past (literal_plain b t starts) raw starts);
+  same = λ later more e.
+      sym (opened_literal (reading s later) b t more e c line past (literal_plain b t starts) raw starts);
 }
 
 -- `R"(`
-pub raw_opens : (s : State) (g : Bool) (b : ℕ) (t : List ℕ) → reads_literals s.context ≡ true → IsLine (b ∷ t) → IsPast (b ∷ t) → starts_raw (b ∷ t) ≡ true
+pub raw_opens : (s : State) (g : Bool) (b : ℕ) (t : List ℕ) → reads_literals s.context ≡ true
+    → IsLine (b ∷ t) → IsPast (b ∷ t) → starts_raw (b ∷ t) ≡ true
     → (let m = raw_prefix (b ∷ t) + 2 in let d = delimiter (drop m (b ∷ t)) in let n = m + length d + 1 in
     Takes n (b ∷ t) (between s g) (opened s g (InRaw s.here d (take n (b ∷ t)))))
 raw_opens s g b t c line past starts =
@@ -114,32 +128,54 @@ raw_opens s g b t c line past starts =
 -- THE CODE'S READER
 
 -- what was between two items, seen by its fields
-pub takes_at : (n : ℕ) (rest : List ℕ) (h v : Held) → v ≡ h → h.item ≡ item.Between → (new made : Held) → new ≡ made → Takes n rest (between v.state v.begun) new → Takes n rest h made
+pub takes_at : (n : ℕ) (rest : List ℕ) (h v : Held) → v ≡ h → h.item ≡ item.Between → (new made : Held)
+    → new ≡ made → Takes n rest (between v.state v.begun) new → Takes n rest h made
 takes_at n rest h v is none new made same takes =
-    let old : between v.state v.begun ≡ h = ap (λ (k : Held). between k.state k.begun) is ∙ (λ i. record { state = h.state; item = sym none i; begun = h.begun }) in
-    subst (λ (k : Held). Takes n rest k made) old (subst (λ (k : Held). Takes n rest (between v.state v.begun) k) same takes)
+    let old : between v.state v.begun ≡ h =
+    ap (λ (k : Held). between k.state k.begun) is
+    ∙ (λ i. record { state = h.state; item = sym none i; begun = h.begun }) in
+    subst (λ (k : Held). Takes n rest k made) old
+    (subst (λ (k : Held). Takes n rest (between v.state v.begun) k) same takes)
 
 pub at_state : (P : State → Type 0) (h v : Held) → v ≡ h → P h.state → P v.state
 at_state P h v is p = subst (λ (k : Held). P k.state) (sym is) p
 
-pub literal_opens_at : (s : State) (g : Bool) (u : List ℕ) (n : ℕ) → n ≡ literal_prefix u → reads_literals s.context ≡ true → IsLine u → IsPast u → starts_raw u ≡ false → starts_literal u ≡ true
+pub literal_opens_at : (s : State) (g : Bool) (u : List ℕ) (n : ℕ) → n ≡ literal_prefix u
+    → reads_literals s.context ≡ true → IsLine u → IsPast u → starts_raw u ≡ false → starts_literal u ≡ true
     → Takes (n + 1) u (between s g) (opened s g (InLiteral s.here (quote_of (drop n u)) (take (n + 1) u)))
 literal_opens_at s g [] n is c line past raw starts = let wrong : false ≡ true = starts in cc
 literal_opens_at s g (b ∷ t) n is c line past raw starts =
-    subst (λ k. Takes (k + 1) (b ∷ t) (between s g) (opened s g (InLiteral s.here (quote_of (drop k (b ∷ t))) (take (k + 1) (b ∷ t))))) (sym is) (literal_opens s g b t c line past raw starts)
+    subst (λ k.
+    Takes (k + 1) (b ∷ t) (between s g)
+    (opened s g (InLiteral s.here (quote_of (drop k (b ∷ t))) (take (k + 1) (b ∷ t)))))
+    (sym is) (literal_opens s g b t c line past raw starts)
 
-pub raw_fits_at : (u : List ℕ) (p : ℕ) (d : List ℕ) → p ≡ raw_prefix u → d ≡ delimiter (drop (p + 2) u) → starts_raw u ≡ true → p + 2 + length d + 1 ≤ length u
+pub raw_fits_at : (u : List ℕ) (p : ℕ) (d : List ℕ) → p ≡ raw_prefix u
+    → d ≡ delimiter (drop (p + 2) u) → starts_raw u ≡ true → p + 2 + length d + 1 ≤ length u
 raw_fits_at u p d is name starts =
     let m = raw_prefix u + 2 in
     let start = both (begins (codes "R\"") (drop (raw_prefix u) u)) _ starts in
     let same = name ∙ ap (λ k. delimiter (drop (k + 2) u)) is in
-    omega (arith, is, ap (λ (x : List ℕ). length x) same, sign-fits u start.0, has_delimiter-size (drop m u) start.1, length-drop m u)
+    omega (
+      arith,
+      is,
+      ap (λ (x : List ℕ). length x) same,
+      sign-fits u start.0,
+      has_delimiter-size (drop m u) start.1,
+      length-drop m u,
+    )
 
-pub raw_opens_at : (s : State) (g : Bool) (u : List ℕ) (p : ℕ) (d : List ℕ) → p ≡ raw_prefix u → d ≡ delimiter (drop (p + 2) u) → reads_literals s.context ≡ true → IsLine u → IsPast u → starts_raw u ≡ true
+pub raw_opens_at : (s : State) (g : Bool) (u : List ℕ) (p : ℕ) (d : List ℕ) → p ≡ raw_prefix u
+    → d ≡ delimiter (drop (p + 2) u) → reads_literals s.context ≡ true → IsLine u → IsPast u → starts_raw u ≡ true
     → Takes (p + 2 + length d + 1) u (between s g) (opened s g (InRaw s.here d (take (p + 2 + length d + 1) u)))
 raw_opens_at s g [] p d is name c line past starts = let wrong : false ≡ true = starts in cc
 raw_opens_at s g (b ∷ t) p d is name c line past starts =
     let u = b ∷ t in
     let same = name ∙ ap (λ k. delimiter (drop (k + 2) u)) is in
-    subst (λ (k : ℕ). Takes (k + 2 + length d + 1) u (between s g) (opened s g (InRaw s.here d (take (k + 2 + length d + 1) u)))) (sym is)
-    (subst (λ (x : List ℕ). Takes (raw_prefix u + 2 + length x + 1) u (between s g) (opened s g (InRaw s.here x (take (raw_prefix u + 2 + length x + 1) u)))) (sym same) (raw_opens s g b t c line past starts))
+    subst (λ (k : ℕ).
+    Takes (k + 2 + length d + 1) u (between s g) (opened s g (InRaw s.here d (take (k + 2 + length d + 1) u))))
+    (sym is)
+    (subst (λ (x : List ℕ).
+    Takes (raw_prefix u + 2 + length x + 1) u (between s g)
+    (opened s g (InRaw s.here x (take (raw_prefix u + 2 + length x + 1) u))))
+    (sym same) (raw_opens s g b t c line past starts))

@@ -20,7 +20,9 @@ drop-pred : (n : ℕ) (b : ℕ) (t : List ℕ) → 0 < n → drop (n - 1) t ≡ 
 drop-pred n b t h = let e : n ≡ suc (n - 1) = omega arith in sym (ap (λ m. drop m (b ∷ t)) e)
 
 -- the pieces of a text are what stands at its front, and the pieces of the rest
-pub pieces_first : (r : Reading) (b : ℕ) (t : List ℕ) → 0 < (front_of r.state (b ∷ t)).size → pieces r (b ∷ t) ≡ first r (b ∷ t) ∷ pieces (after r (first r (b ∷ t))) (drop (front_of r.state (b ∷ t)).size (b ∷ t))
+pub pieces_first : (r : Reading) (b : ℕ) (t : List ℕ) → 0 < (front_of r.state (b ∷ t)).size
+    → pieces r (b ∷ t)
+    ≡ first r (b ∷ t) ∷ pieces (after r (first r (b ∷ t))) (drop (front_of r.state (b ∷ t)).size (b ∷ t))
 pieces_first r b t h =
     let n = (front_of r.state (b ∷ t)).size in
     let u = after r (first r (b ∷ t)) in
@@ -32,8 +34,10 @@ ArePieces-unique r t [] h = sym (ap (pieces r) h)
 ArePieces-unique r [] (p ∷ ps) h = absurd (omega (arith, ap length h.1, length-append p.bytes h.0, h.2))
 ArePieces-unique r (b ∷ t) (p ∷ ps) h =
     let n = (front_of r.state (b ∷ t)).size in
-    let bytes : p.bytes ≡ take n (b ∷ t) = sym (take-append_seam p.bytes h.0) ∙ ap (λ k. take k (p.bytes ++ h.0)) h.3.size ∙ ap (take n) (sym h.1) in
-    let rest : h.0 ≡ drop n (b ∷ t) = sym (drop-append_seam p.bytes h.0) ∙ ap (λ k. drop k (p.bytes ++ h.0)) h.3.size ∙ ap (drop n) (sym h.1) in
+    let bytes : p.bytes ≡ take n (b ∷ t) =
+    sym (take-append_seam p.bytes h.0) ∙ ap (λ k. take k (p.bytes ++ h.0)) h.3.size ∙ ap (take n) (sym h.1) in
+    let rest : h.0 ≡ drop n (b ∷ t) =
+    sym (drop-append_seam p.bytes h.0) ∙ ap (λ k. drop k (p.bytes ++ h.0)) h.3.size ∙ ap (drop n) (sym h.1) in
     let is_first : p ≡ first r (b ∷ t) = λ i. record { kind = h.3.kind i; bytes = bytes i } in
     ap (λ qs. p ∷ qs) (ArePieces-unique (after r p) h.0 ps h.4 ∙ ap (pieces (after r p)) rest)
     ∙ ap (λ q. q ∷ pieces (after r q) (drop n (b ∷ t))) is_first

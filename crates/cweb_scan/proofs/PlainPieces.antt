@@ -29,8 +29,10 @@ is_that a b e = ap (λ o. from_some o a) e
 abbrev Gives : Reading → (Reading → Reading) → Token → Type 0
 Gives r f t = HasRead r.state (f r).state (solid (t ∷ []))
 
-literal_gives : (r : Reading) (units : List (List ℕ)) (v : Bool) (t : Token) → InPlainC r.state → is_hash t ≡ false → (v ≡ true → is_clean units ≡ true)
-    → cond v (Some (Literal (text_in units))) None ≡ Some t → Gives r (λ q. on (literal (text_in units) Closed q.state.here) (fold literal_unit q units)) t
+literal_gives : (r : Reading) (units : List (List ℕ)) (v : Bool) (t : Token)
+    → InPlainC r.state → is_hash t ≡ false → (v ≡ true → is_clean units ≡ true)
+    → cond v (Some (Literal (text_in units))) None ≡ Some t
+    → Gives r (λ q. on (literal (text_in units) Closed q.state.here) (fold literal_unit q units)) t
 literal_gives r units false t h plain clean e = cc
 literal_gives r units true t h plain clean e =
     let q = fold literal_unit r units in
@@ -39,7 +41,8 @@ literal_gives r units true t h plain clean e =
     subst (λ u. HasRead r.state (give l q.state) (solid (u ∷ []))) (is_that l t e)
     (and_then r.state q.state (give l q.state) [] (solid (l ∷ [])) first (given q.state l first.plain refl))
 
-code_gives : (r : Reading) (e : Effect) (t : Token) → InPlainC r.state → is_hash t ≡ false → code_of e ≡ Some t → Gives r (λ q. item (kind.Code e) [] q) t
+code_gives : (r : Reading) (e : Effect) (t : Token) → InPlainC r.state
+    → is_hash t ≡ false → code_of e ≡ Some t → Gives r (λ q. item (kind.Code e) [] q) t
 code_gives r GiveAt t h plain e =
     let u = Punct (64 ∷ []) in
     subst (λ v. HasRead r.state (give u r.state) (solid (v ∷ []))) (is_that u t e) (given r.state u h refl)
@@ -56,7 +59,8 @@ code_gives r InsertDefs t h plain e = cc
 code_gives r Joins t h plain e = cc
 code_gives r (Faulty k) t h plain e = cc
 
-item_gives : (r : Reading) (k : Kind) (bytes : List ℕ) (t : Token) → InPlainC r.state → is_hash t ≡ false → token_of k bytes ≡ Some t → Gives r (item k bytes) t
+item_gives : (r : Reading) (k : Kind) (bytes : List ℕ) (t : Token) → InPlainC r.state
+    → is_hash t ≡ false → token_of k bytes ≡ Some t → Gives r (item k bytes) t
 item_gives r (kind.Quoted units Closed) bytes t h plain e = literal_gives r units (is_clean units) t h plain (λ c. c) e
 item_gives r (kind.Quoted units Cut) bytes t h plain e = cc
 item_gives r (kind.Quoted units Nested) bytes t h plain e = cc
@@ -71,7 +75,8 @@ item_gives r kind.Punctuator bytes t h plain e =
     let u = Punct bytes in
     let same = is_that u t e in
     subst (λ v. HasRead r.state (punctuator bytes r.state) (solid (v ∷ []))) same
-    (placed r.state (give u r.state) (solid (u ∷ [])) r.state.here (in_directive r.state && r.state.folded) (given r.state u h (ap is_hash same ∙ plain)))
+    (placed r.state (give u r.state) (solid (u ∷ [])) r.state.here
+    (in_directive r.state && r.state.folded) (given r.state u h (ap is_hash same ∙ plain)))
 item_gives r (kind.Code e) bytes t h plain is = code_gives r e t h plain is
 item_gives r kind.Skipped bytes t h plain e = cc
 item_gives r (kind.Section starred) bytes t h plain e = cc
@@ -86,18 +91,29 @@ item_gives r (kind.Comment how) bytes t h plain e = cc
 item_gives r (kind.Defined tight) bytes t h plain e = cc
 
 -- an item that is a token gives it, and no fault
-pub token_gives : (r : Reading) (p : Piece) (t : Token) → InPlainC r.state → is_hash t ≡ false → token_of p.kind p.bytes ≡ Some t → HasRead r.state (after r p).state (solid (t ∷ []))
-token_gives r p t h plain e = subst (λ q. HasRead r.state (item p.kind p.bytes q).state (solid (t ∷ []))) (sym (entered r p.kind h)) (item_gives r p.kind p.bytes t h plain e)
+pub token_gives : (r : Reading) (p : Piece) (t : Token) → InPlainC r.state → is_hash t ≡ false
+    → token_of p.kind p.bytes ≡ Some t → HasRead r.state (after r p).state (solid (t ∷ []))
+token_gives r p t h plain e =
+    subst (λ q. HasRead r.state (item p.kind p.bytes q).state (solid (t ∷ [])))
+    (sym (entered r p.kind h)) (item_gives r p.kind p.bytes t h plain e)
 
 -- blanks leave the reading as it is
-pub blanks_give : (r : Reading) (bytes : List ℕ) → InPlainC r.state → after r (record { kind = kind.Blanks; bytes = bytes }) ≡ r
-blanks_give r bytes h = ap (on blank) (entered r kind.Blanks h) ∙ ap (λ s. record r { state = s }) (blank_gives r.state h)
+pub blanks_give : (r : Reading) (bytes : List ℕ) → InPlainC r.state
+    → after r (record { kind = kind.Blanks; bytes = bytes }) ≡ r
+blanks_give r bytes h =
+    ap (on blank) (entered r kind.Blanks h) ∙ ap (λ s. record r { state = s }) (blank_gives r.state h)
 
-pub line_end_gives : (r : Reading) (bytes : List ℕ) → InPlainC r.state → HasRead r.state (after r (record { kind = kind.LineEnd; bytes = bytes })).state []
-line_end_gives r bytes h = subst (λ q. HasRead r.state (next_line line_end q).state []) (sym (entered r kind.LineEnd h)) (next_gives line_end line_ends r h)
+pub line_end_gives : (r : Reading) (bytes : List ℕ) → InPlainC r.state
+    → HasRead r.state (after r (record { kind = kind.LineEnd; bytes = bytes })).state []
+line_end_gives r bytes h =
+    subst (λ q. HasRead r.state (next_line line_end q).state [])
+    (sym (entered r kind.LineEnd h)) (next_gives line_end line_ends r h)
 
 -- a comment that ended gives layout alone
-pub comment_gives : (r : Reading) (bytes : List ℕ) → InPlainC r.state → HasRead r.state (after r (record { kind = kind.Comment Closed; bytes = bytes })).state []
+pub comment_gives : (r : Reading) (bytes : List ℕ) → InPlainC r.state
+    → HasRead r.state (after r (record { kind = kind.Comment Closed; bytes = bytes })).state []
 comment_gives r bytes h =
-    let same : on blank (on (enter (kind.Comment Closed)) r) ≡ r = ap (on blank) (entered r (kind.Comment Closed) h) ∙ ap (λ s. record r { state = s }) (blank_gives r.state h) in
-    subst (λ q. HasRead r.state (each_line_end comment_line_end bytes q).state []) (sym same) (each_gives comment_line_end comment_line_ends bytes r h)
+    let same : on blank (on (enter (kind.Comment Closed)) r) ≡ r =
+    ap (on blank) (entered r (kind.Comment Closed) h) ∙ ap (λ s. record r { state = s }) (blank_gives r.state h) in
+    subst (λ q. HasRead r.state (each_line_end comment_line_end bytes q).state [])
+    (sym same) (each_gives comment_line_end comment_line_ends bytes r h)

@@ -38,7 +38,8 @@ blank_gives s h = ap (λ v. cond (v && not (is_blank (directive s).last)) (give 
 pub given : (s : State) (t : Token) → InPlainC s → is_hash t ≡ false → HasRead s (give t s) (solid (t ∷ []))
 given s t h plain =
     let p = h.part in
-    let is_open : option_map (longer t) s.contents.parts.current ≡ Some (longer t p) = ap (option_map (longer t)) h.open_part in
+    let is_open : option_map (longer t) s.contents.parts.current ≡ Some (longer t p) =
+    ap (option_map (longer t)) h.open_part in
     let before : part_tokens s ≡ p.tokens = ap tokens_of h.open_part in
     let now : part_tokens (give t s) ≡ p.tokens ++ t ∷ [] = ap tokens_of is_open in
     let d = directive_of p.tokens in
@@ -62,9 +63,16 @@ given s t h plain =
     }
 
 -- the place and the fold of a directive may change
-pub placed : (s t : State) (ts : List Token) (p : Place) (folded : Bool) → HasRead s t ts → HasRead s (record t { here = p; folded = folded }) ts
+pub placed : (s t : State) (ts : List Token) (p : Place) (folded : Bool)
+    → HasRead s t ts → HasRead s (record t { here = p; folded = folded }) ts
 placed s t ts p folded h = record {
-  plain = record { part = h.plain.part; open_part = h.plain.open_part; in_c = h.plain.in_c; no_directive = h.plain.no_directive };
+  plain =
+      record {
+        part = h.plain.part;
+        open_part = h.plain.open_part;
+        in_c = h.plain.in_c;
+        no_directive = h.plain.no_directive;
+      };
   tokens = h.tokens;
   faults = h.faults;
 }
@@ -81,7 +89,10 @@ pub line_ends : (p : Place) (s : State) → InPlainC s → HasRead s (line_end p
 line_ends p s h =
     let none = no_directive s h in
     let token : line_end_token p s ≡ cond (not (follows s.here p)) (Mark p) Newline =
-    ap (λ v. cond (v && is_punct (codes "\\") (directive s).last) Newline (cond ((v && s.folded) || not (follows s.here p)) (Mark p) Newline)) none in
+    ap (λ v.
+    cond (v && is_punct (codes "\\") (directive s).last) Newline
+    (cond ((v && s.folded) || not (follows s.here p)) (Mark p) Newline))
+    none in
     let is : line_end p s ≡ moved p (give (cond (not (follows s.here p)) (Mark p) Newline) s) =
     ap (λ c. line_end_in c p s) h.in_c ∙ ap (λ t. moved p (give t s)) token in
     subst (λ t. HasRead s t []) (sym is) (ends p s (not (follows s.here p)) h)
@@ -93,18 +104,22 @@ comment_line_ends p s h =
 abbrev GivesNothing : (Place → State → State) → Type 0
 GivesNothing f = (p : Place) (s : State) → InPlainC s → HasRead s (f p s) []
 
-by_later : (f : Place → State → State) → GivesNothing f → (s : State) (later : List Place) → InPlainC s → HasRead s (next_line f (record { state = s; later = later })).state []
+by_later : (f : Place → State → State) → GivesNothing f → (s : State) (later : List Place)
+    → InPlainC s → HasRead s (next_line f (record { state = s; later = later })).state []
 by_later f gives s [] h = nothing s h
 by_later f gives s (p ∷ later) h = gives p s h
 
-pub next_gives : (f : Place → State → State) → GivesNothing f → (r : Reading) → InPlainC r.state → HasRead r.state (next_line f r).state []
+pub next_gives : (f : Place → State → State) → GivesNothing f → (r : Reading)
+    → InPlainC r.state → HasRead r.state (next_line f r).state []
 next_gives f gives r h = by_later f gives r.state r.later h
 
-one_byte : (f : Place → State → State) → GivesNothing f → (v : Bool) (r : Reading) → InPlainC r.state → HasRead r.state (cond v (next_line f r) r).state []
+one_byte : (f : Place → State → State) → GivesNothing f → (v : Bool) (r : Reading)
+    → InPlainC r.state → HasRead r.state (cond v (next_line f r) r).state []
 one_byte f gives true r h = next_gives f gives r h
 one_byte f gives false r h = nothing r.state h
 
-pub each_gives : (f : Place → State → State) → GivesNothing f → (bytes : List ℕ) (r : Reading) → InPlainC r.state → HasRead r.state (each_line_end f bytes r).state []
+pub each_gives : (f : Place → State → State) → GivesNothing f → (bytes : List ℕ) (r : Reading)
+    → InPlainC r.state → HasRead r.state (each_line_end f bytes r).state []
 each_gives f gives [] r h = nothing r.state h
 each_gives f gives (b ∷ t) r h =
     let q = cond (is_line_end b) (next_line f r) r in
@@ -115,14 +130,17 @@ both : (a b : Bool) → (a && b) ≡ true → (a ≡ true) × (b ≡ true)
 both true b e = (refl, e)
 both false b e = cc
 
-clean_unit : (v : Bool) (u : List ℕ) (r : Reading) (wrong : Reading) → not v ≡ true → InPlainC r.state → HasRead r.state (cond v wrong (each_line_end moved u r)).state []
+clean_unit : (v : Bool) (u : List ℕ) (r : Reading) (wrong : Reading) → not v ≡ true
+    → InPlainC r.state → HasRead r.state (cond v wrong (each_line_end moved u r)).state []
 clean_unit true u r wrong e h = cc
 clean_unit false u r wrong e h = each_gives moved moves u r h
 
-pub units_give : (units : List (List ℕ)) (r : Reading) → is_clean units ≡ true → InPlainC r.state → HasRead r.state (fold literal_unit r units).state []
+pub units_give : (units : List (List ℕ)) (r : Reading) → is_clean units ≡ true
+    → InPlainC r.state → HasRead r.state (fold literal_unit r units).state []
 units_give [] r clean h = nothing r.state h
 units_give (u ∷ us) r clean h =
     let e = both (not (bytes_eq u (codes "@"))) (is_clean us) clean in
     let q = literal_unit r u in
-    let first : HasRead r.state q.state [] = clean_unit (bytes_eq u (codes "@")) u r (literal_unit r (codes "@")) e.0 h in
+    let first : HasRead r.state q.state [] =
+    clean_unit (bytes_eq u (codes "@")) u r (literal_unit r (codes "@")) e.0 h in
     and_then r.state q.state (fold literal_unit q us).state [] [] first (units_give us q e.1 first.plain)

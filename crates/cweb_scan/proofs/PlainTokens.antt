@@ -29,9 +29,11 @@ use Rattle.cweb_scan.proofs.PlainPieces.{is_that, token_gives, line_end_gives, c
 -- ONE PIECE
 
 in_plain_c : (r : Reading) (t : List ℕ) → InPlainC r.state → front_of r.state t ≡ front_in CText false t
-in_plain_c r t h = ap (λ c. front_in c (names_include r.state) t) h.in_c ∙ ap (λ o. front_in CText (some_include o) t) h.no_directive
+in_plain_c r t h =
+    ap (λ c. front_in c (names_include r.state) t) h.in_c ∙ ap (λ o. front_in CText (some_include o) t) h.no_directive
 
-run_step : (r : Reading) (b : ℕ) (x : List ℕ) (k : Kind) (n : ℕ) → InPlainC r.state → front_in CText false (b ∷ x) ≡ front k n → 0 < n
+run_step : (r : Reading) (b : ℕ) (x : List ℕ) (k : Kind) (n : ℕ)
+    → InPlainC r.state → front_in CText false (b ∷ x) ≡ front k n → 0 < n
     → run r (b ∷ x) ≡ run (after r (record { kind = k; bytes = take n (b ∷ x) })) (drop n (b ∷ x))
 run_step r b x k n h is some =
     let t = b ∷ x in
@@ -41,13 +43,15 @@ run_step r b x k n h is some =
     ∙ ap (λ f. run (after r (record { kind = f.kind; bytes = take f.size t })) (drop f.size t)) e
 
 -- a piece that has these bytes, whatever follows
-run_over : (r : Reading) (d more : List ℕ) (k : Kind) → InPlainC r.state → 0 < length d → front_in CText false (d ++ more) ≡ front k (length d)
+run_over : (r : Reading) (d more : List ℕ) (k : Kind) → InPlainC r.state
+    → 0 < length d → front_in CText false (d ++ more) ≡ front k (length d)
     → run r (d ++ more) ≡ run (after r (record { kind = k; bytes = d })) more
 run_over r [] more k h some is = absurd (omega (arith, some))
 run_over r (b ∷ t) more k h some is =
     let d = b ∷ t in
     run_step r b (t ++ more) k (length d) h is some
-    ∙ ap (λ bytes. run (after r (record { kind = k; bytes = bytes })) (drop (length d) (d ++ more))) (take-append_seam d more)
+    ∙ ap (λ bytes. run (after r (record { kind = k; bytes = bytes })) (drop (length d) (d ++ more)))
+    (take-append_seam d more)
     ∙ ap (run (after r (record { kind = k; bytes = d }))) (drop-append_seam d more)
 
 pub newline_read : (r : Reading) (rest : List ℕ) → InPlainC r.state → IsRead r (10 ∷ []) rest []
@@ -60,7 +64,8 @@ newline_read r rest h = record {
 abbrev pub comment_of : List ℕ → List ℕ
 comment_of x = codes "/*" ++ (x ++ codes "*/")
 
-pub comment_read : (r : Reading) (x rest : List ℕ) → list_all is_quiet x ≡ true → InPlainC r.state → IsRead r (comment_of x) rest []
+pub comment_read : (r : Reading) (x rest : List ℕ) → list_all is_quiet x ≡ true
+    → InPlainC r.state → IsRead r (comment_of x) rest []
 comment_read r x rest quiet h =
     let d = comment_of x in
     let is : d ++ rest ≡ 47 ∷ 42 ∷ x ++ 42 ∷ 47 ∷ rest = ap (λ t. 47 ∷ 42 ∷ t) (append_assoc x (42 ∷ 47 ∷ []) rest) in
@@ -91,12 +96,14 @@ pub all_if : (a b : Bool) → a ≡ true → b ≡ true → (a && b) ≡ true
 all_if true b e f = f
 all_if false b e f = e
 
-quiet_onto : (k n : ℕ) (acc : List ℕ) → list_all is_quiet acc ≡ true → list_all is_quiet (digits_onto k 10 false n acc) ≡ true
+quiet_onto : (k n : ℕ) (acc : List ℕ) → list_all is_quiet acc ≡ true
+    → list_all is_quiet (digits_onto k 10 false n acc) ≡ true
 quiet_onto zero n acc h = h
 quiet_onto (suc k) n acc h =
     let g = digit_glyph false (n % 10) in
     let more = all_if (is_quiet g) (list_all is_quiet acc) (glyph_quiet (n % 10) (omega arith)) h in
-    (elim (n / 10 == 0) as (λ v. list_all is_quiet (cond v (g ∷ acc) (digits_onto k 10 false (n / 10) (g ∷ acc))) ≡ true) [
+    (elim (n / 10 == 0)
+    as (λ v. list_all is_quiet (cond v (g ∷ acc) (digits_onto k 10 false (n / 10) (g ∷ acc))) ≡ true) [
       | true ↦ more
       | false ↦ quiet_onto k (n / 10) (g ∷ acc) more
     ])
@@ -114,7 +121,8 @@ clean_closed false b u t = cc
 -- the kind of a token, and what is known of it by its kind
 pub record Kinded (k : Kind) (d : List ℕ) (u : Token) : Type 0 where
   pub token : is_token k ≡ true
-  pub goes : (joins : ℕ → ℕ → Bool) (more : List ℕ) → first_is (goes_on joins u) more ≡ false → first_is (rules.goes_on joins k d) more ≡ false
+  pub goes : (joins : ℕ → ℕ → Bool) (more : List ℕ) → first_is (goes_on joins u) more ≡ false
+      → first_is (rules.goes_on joins k d) more ≡ false
 
 none_goes : (more : List ℕ) → first_is (λ b. false) more ≡ false
 none_goes [] = refl
@@ -135,7 +143,8 @@ code_kinded InsertDefs d u t = cc
 code_kinded Joins d u t = cc
 code_kinded (Faulty k) d u t = cc
 
-literal_kinded : (units : List (List ℕ)) (how : End) (d : List ℕ) (u : Token) → literal_of units how ≡ Some u → Kinded (kind.Quoted units how) d u
+literal_kinded : (units : List (List ℕ)) (how : End) (d : List ℕ) (u : Token)
+    → literal_of units how ≡ Some u → Kinded (kind.Quoted units how) d u
 literal_kinded units Closed d u t = record { token = refl; goes = λ joins more h. none_goes more }
 literal_kinded units Cut d u t = cc
 literal_kinded units Nested d u t = cc
@@ -178,12 +187,16 @@ some_byte : (p : ℕ → Bool) (d : List ℕ) → first_is p d ≡ true → 0 < 
 some_byte p [] h = cc
 some_byte p (b ∷ d) h = omega arith
 
-pub token_read : (joins : ℕ → ℕ → Bool) (r : Reading) (u : Token) (rest : List ℕ) → JoinsAll joins → InPlainC r.state → ReadsAlone u → is_hash u ≡ false → first_is (goes_on joins u) rest ≡ false → IsRead r (text_of u) rest (solid (u ∷ []))
+pub token_read : (joins : ℕ → ℕ → Bool) (r : Reading) (u : Token) (rest : List ℕ)
+    → JoinsAll joins → InPlainC r.state → ReadsAlone u → is_hash u ≡ false
+    → first_is (goes_on joins u) rest ≡ false → IsRead r (text_of u) rest (solid (u ∷ []))
 token_read joins r u rest all plain h hash seam =
     let d = text_of u in
     let k = kinded h.kind d u h.token in
     record {
       next = after r (record { kind = h.kind; bytes = d });
-      goes_on = run_over r d rest h.kind plain (some_byte (begins_as h.kind) d (begins u h)) (tokens_stay joins h.kind d rest all (alone u h) (k.goes joins rest seam));
+      goes_on =
+          run_over r d rest h.kind plain (some_byte (begins_as h.kind) d (begins u h))
+          (tokens_stay joins h.kind d rest all (alone u h) (k.goes joins rest seam));
       read = token_gives r (record { kind = h.kind; bytes = d }) u plain hash h.token;
     }

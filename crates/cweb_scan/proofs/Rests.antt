@@ -27,7 +27,8 @@ pub drop_more : (m n : ℕ) (t : List ℕ) → drop (m + n) t ≡ drop n (drop m
 drop_more zero n t = let e : 0 + n ≡ n = omega arith in ap (λ k. drop k t) e
 drop_more (suc m) zero [] = let e : suc m + 0 ≡ suc m = omega arith in ap (λ k. drop k []) e
 drop_more (suc m) (suc n) [] = let e : suc m + suc n ≡ suc (m + suc n) = omega arith in ap (λ k. drop k []) e
-drop_more (suc m) n (b ∷ t) = let e : suc m + n ≡ suc (m + n) = omega arith in ap (λ k. drop k (b ∷ t)) e ∙ drop_more m n t
+drop_more (suc m) n (b ∷ t) =
+    let e : suc m + n ≡ suc (m + n) = omega arith in ap (λ k. drop k (b ∷ t)) e ∙ drop_more m n t
 
 pub takes_none : (u : List ℕ) (h : Held) → Takes 0 u h h
 takes_none u h = record { begun = refl; within = omega arith; adds = omega arith; same = λ later more e. refl }
@@ -37,14 +38,16 @@ takes_both n m u a b c x y = record {
   begun = y.begun ∙ x.begun;
   within = omega (arith, x.within, y.within, length-drop n u);
   adds = omega (arith, x.adds, y.adds);
-  same = λ later more e. ap (λ (t : List ℕ). goes_on c later (t ++ more)) (drop_more n m u) ∙ y.same later more e ∙ x.same later more e;
+  same = λ later more e.
+      ap (λ (t : List ℕ). goes_on c later (t ++ more)) (drop_more n m u) ∙ y.same later more e ∙ x.same later more e;
 }
 
 -- a line of which all was taken
 pub takes_all : (n : ℕ) (u : List ℕ) (a b : Held) → length u ≤ n → Takes n u a b → TakesBytes u a b
 takes_all n u a b all x = record {
   begun = x.begun;
-  same = λ later more e. ap (λ (t : List ℕ). goes_on b later (t ++ more)) (sym (drop_all n u all)) ∙ x.same later more e;
+  same = λ later more e.
+      ap (λ (t : List ℕ). goes_on b later (t ++ more)) (sym (drop_all n u all)) ∙ x.same later more e;
 }
 
 -- LIMBO AND TEXT
@@ -56,14 +59,18 @@ no_section : (b : ℕ) (t : List ℕ) → (b == 64) ≡ false → starts_section
 no_section b [] h = h
 no_section b (a ∷ t) h = ap (λ v. v && starts_section (64 ∷ a ∷ t)) h
 
-skipped_front : (c : Context) (includes : Bool) (b : ℕ) (t : List ℕ) → is_text c ≡ true → starts_section (b ∷ t) ≡ false → (64 == b) ≡ false → front_in c includes (b ∷ t) ≡ front Skipped 1
-skipped_front Limbo includes b t c s h = λ i. if s i then section_at (b ∷ t) else (if h i && true then code_at in_limbo true (b ∷ t) else front Skipped 1)
-skipped_front TeX includes b t c s h = λ i. if s i then section_at (b ∷ t) else (if h i && true then code_at in_text true (b ∷ t) else front Skipped 1)
+skipped_front : (c : Context) (includes : Bool) (b : ℕ) (t : List ℕ) → is_text c ≡ true
+    → starts_section (b ∷ t) ≡ false → (64 == b) ≡ false → front_in c includes (b ∷ t) ≡ front Skipped 1
+skipped_front Limbo includes b t c s h = λ i.
+    if s i then section_at (b ∷ t) else (if h i && true then code_at in_limbo true (b ∷ t) else front Skipped 1)
+skipped_front TeX includes b t c s h = λ i.
+    if s i then section_at (b ∷ t) else (if h i && true then code_at in_text true (b ∷ t) else front Skipped 1)
 skipped_front (Definition begun) includes b t c s h = cc
 skipped_front Macro includes b t c s h = cc
 skipped_front CText includes b t c s h = cc
 
-skipped_opens : (c : Context) (b : ℕ) (t : List ℕ) → is_text c ≡ true → starts_section (b ∷ t) ≡ false → (64 == b) ≡ false → opens_in c (b ∷ t) ≡ false
+skipped_opens : (c : Context) (b : ℕ) (t : List ℕ) → is_text c ≡ true
+    → starts_section (b ∷ t) ≡ false → (64 == b) ≡ false → opens_in c (b ∷ t) ≡ false
 skipped_opens Limbo b t c s h = λ i. if s i then false else (if h i && true then opens_code in_limbo (b ∷ t) else false)
 skipped_opens TeX b t c s h = λ i. if s i then false else (if h i && true then opens_code in_text (b ∷ t) else false)
 skipped_opens (Definition begun) b t c s h = cc
@@ -77,10 +84,12 @@ no_head (Definition begun) h = cc
 no_head Macro h = refl
 no_head CText h = refl
 
-one_skipped : (s : State) (g : Bool) (b : ℕ) (t : List ℕ) → is_text s.context ≡ true → IsLine (b ∷ t) → (b == 64) ≡ false → (64 == b) ≡ false → Takes 1 (b ∷ t) (between s g) (between s g)
+one_skipped : (s : State) (g : Bool) (b : ℕ) (t : List ℕ) → is_text s.context ≡ true → IsLine (b ∷ t)
+    → (b == 64) ≡ false → (64 == b) ≡ false → Takes 1 (b ∷ t) (between s g) (between s g)
 one_skipped s g b t c line h k =
     let section = no_section b t h in
-    closed_takes s s g 1 b t (front Skipped 1) line (no_head s.context c) (skipped_front s.context (names_include s) b t c section k) (skipped_opens s.context b t c section k) (record {
+    closed_takes s s g 1 b t (front Skipped 1) line (no_head s.context c)
+    (skipped_front s.context (names_include s) b t c section k) (skipped_opens s.context b t c section k) (record {
       size = refl;
       state = sym (ap (λ (r : Reading). r.state) (none_to_come moved (b ∷ []) s));
     })
@@ -89,12 +98,18 @@ sides : (x b : ℕ) → (b == x) ≡ false → (x == b) ≡ false
 sides x b h = grind (arith, nat_tests)
 
 -- what stands before the first `@` is skipped
-pub skipped_takes : (s : State) (g : Bool) (u : List ℕ) → is_text s.context ≡ true → IsLine u → Takes (prefix_len is_skipped u) u (between s g) (between s g)
+pub skipped_takes : (s : State) (g : Bool) (u : List ℕ) → is_text s.context ≡ true
+    → IsLine u → Takes (prefix_len is_skipped u) u (between s g) (between s g)
 skipped_takes s g [] c line = takes_none [] (between s g)
-skipped_takes s g (b ∷ t) c line = (elim (b == 64) as (λ v. (b == 64) ≡ v → Takes (if not v then 1 + prefix_len is_skipped t else 0) (b ∷ t) (between s g) (between s g)) [
-  | true ↦ λ h. takes_none (b ∷ t) (between s g)
-  | false ↦ λ h. takes_both 1 (prefix_len is_skipped t) (b ∷ t) _ _ _ (one_skipped s g b t c line h (sides 64 b h)) (skipped_takes s g t c line.1)
-]) refl
+skipped_takes s g (b ∷ t) c line =
+    (elim (b == 64) as (λ v.
+    (b == 64) ≡ v
+    → Takes (if not v then 1 + prefix_len is_skipped t else 0) (b ∷ t) (between s g) (between s g)) [
+      | true ↦ λ h. takes_none (b ∷ t) (between s g)
+      | false ↦ λ h.
+          takes_both 1 (prefix_len is_skipped t) (b ∷ t) _ _ _
+          (one_skipped s g b t c line h (sides 64 b h)) (skipped_takes s g t c line.1)
+    ]) refl
 
 -- C TEXT AND MACROS, by the first rule that fits
 
@@ -104,5 +119,7 @@ c_is includes u = c_front-by in_c false includes u
 pub c_opens_is : (includes : Bool) (u : List ℕ) → opens_in CText u ≡ opens_by in_c u (c_rule includes u)
 c_opens_is includes u = c_opens-by in_c includes u
 
-pub macro_is : (includes : Bool) (u : List ℕ) → (begins (codes "\\") u && at_line_end (drop 1 u)) ≡ false → front_in Macro includes u ≡ c_front_by in_macro true u (c_rule false u)
-macro_is includes u h = ap (λ v. if v then front Skipped 1 else c_front in_macro true false u) h ∙ c_front-by in_macro true false u
+pub macro_is : (includes : Bool) (u : List ℕ) → (begins (codes "\\") u && at_line_end (drop 1 u)) ≡ false
+    → front_in Macro includes u ≡ c_front_by in_macro true u (c_rule false u)
+macro_is includes u h =
+    ap (λ v. if v then front Skipped 1 else c_front in_macro true false u) h ∙ c_front-by in_macro true false u

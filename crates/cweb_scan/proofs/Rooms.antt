@@ -25,7 +25,8 @@ pub end_macro_room : (s : State) → HasPartRoom s → HasPartRoom (end_macro s)
 end_macro_room s h = macro_room s.context s h
 
 -- a name's occurrence and its fault leave the parts alone
-pub name_room : (how : End) (begun : Place) (o : Occurrence) (s : State) → HasRoom 2 s → HasPartRoom (name_fault how begun (with_name o s))
+pub name_room : (how : End) (begun : Place) (o : Occurrence) (s : State)
+    → HasRoom 2 s → HasPartRoom (name_fault how begun (with_name o s))
 name_room Closed begun o s h = record { for_tokens = h.for_tokens; for_a_part = h.for_a_part }
 name_room Cut begun o s h = record { for_tokens = h.for_tokens; for_a_part = h.for_a_part }
 name_room Nested begun o s h = record { for_tokens = h.for_tokens; for_a_part = h.for_a_part }

@@ -35,4 +35,9 @@ fault kind place = record { kind = kind; place = place }
 
 abbrev pub wanted : List Occurrence → List Part → List Replacement → List ScanFault → ℕ → List ℕ → Scanned
 wanted occurrences parts replacements faults sections starred =
-    record { store = record { occurrences = occurrences; parts = parts; replacements = replacements }; faults = faults; sections = sections; starred = starred }
+    record {
+      store = record { occurrences = occurrences; parts = parts; replacements = replacements };
+      faults = faults;
+      sections = sections;
+      starred = starred;
+    }

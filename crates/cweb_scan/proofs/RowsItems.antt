@@ -32,7 +32,8 @@ a_line_comment_that_ends_its_line_with_sign : scanned (line (codes "@ @c // x@")
 a_line_comment_that_ends_its_line_with_sign = refl
 
 -- literals: escapes, pairs, lone signs
-literals_escapes_pairs_lone_signs : scanned (line (codes "@ @c \"a\\\"b\" \"a\\@b\" \"a\\@@b\" '@' L\"@@\" u8'x' U\"y\" \"\\\\\"") (at 0 1)
+literals_escapes_pairs_lone_signs : scanned
+    (line (codes "@ @c \"a\\\"b\" \"a\\@b\" \"a\\@@b\" '@' L\"@@\" u8'x' U\"y\" \"\\\\\"") (at 0 1)
     ∷ line (codes "\"a\\") (at 0 2) ∷ line (codes "b@c\"d \"e") (at 0 3) ∷ [])
     ≡ wanted
     []

@@ -65,7 +65,8 @@ ends_closes rule.Identifier h = refl
 ends_closes rule.Punctuator h = refl
 
 -- the codes don't matter to them
-closed_front : (e : ℕ → Effect) (takes : Bool) (u : List ℕ) (r : Rule) → closes r ≡ true → (c_front_by e takes u r ≡ c_front_by in_c false u r) × (opens_by e u r ≡ false)
+closed_front : (e : ℕ → Effect) (takes : Bool) (u : List ℕ) (r : Rule) → closes r ≡ true
+    → (c_front_by e takes u r ≡ c_front_by in_c false u r) × (opens_by e u r ≡ false)
 closed_front e takes u rule.Blanks h = (refl, refl)
 closed_front e takes u rule.LineEnd h = cc
 closed_front e takes u rule.Comment h = cc
@@ -79,7 +80,8 @@ closed_front e takes u rule.Number h = (refl, refl)
 closed_front e takes u rule.Identifier h = (refl, refl)
 closed_front e takes u rule.Punctuator h = (refl, refl)
 
-pub rule_closed : (c : Context) (includes : Bool) (u : List ℕ) (r : Rule) → has_part c ≡ true → ends_macro_line c u ≡ false → r ≡ c_rule (is_c c && includes) u → closes r ≡ true
+pub rule_closed : (c : Context) (includes : Bool) (u : List ℕ) (r : Rule) → has_part c ≡ true
+    → ends_macro_line c u ≡ false → r ≡ c_rule (is_c c && includes) u → closes r ≡ true
     → (front_in c includes u ≡ c_front_by in_c false u r) × (opens_in c u ≡ false)
 rule_closed Limbo includes u r part plain is h = cc
 rule_closed TeX includes u r part plain is h = cc
@@ -87,10 +89,14 @@ rule_closed (Definition begun) includes u r part plain is h = cc
 rule_closed Macro includes u r part plain is h =
     let p = closed_front in_macro true u r h in (
       macro_is includes u plain ∙ ap (c_front_by in_macro true u) (sym is) ∙ p.0,
-      ap (λ v. if v then false else c_opens in_macro u) plain ∙ c_opens-by in_macro false u ∙ ap (opens_by in_macro u) (sym is) ∙ p.1,
+      ap (λ v. if v then false else c_opens in_macro u) plain
+          ∙ c_opens-by in_macro false u ∙ ap (opens_by in_macro u) (sym is) ∙ p.1,
     )
 rule_closed CText includes u r part plain is h =
-    let p = closed_front in_c false u r h in (c_is includes u ∙ ap (c_front_by in_c false u) (sym is), c_opens_is includes u ∙ ap (opens_by in_c u) (sym is) ∙ p.1)
+    let p = closed_front in_c false u r h in (
+      c_is includes u ∙ ap (c_front_by in_c false u) (sym is),
+      c_opens_is includes u ∙ ap (opens_by in_c u) (sym is) ∙ p.1,
+    )
 
 -- WHICH RULES FIT IN A LINE
 
@@ -106,31 +112,52 @@ no_line_end : (u : List ℕ) → IsLine u → first_is is_line_end u ≡ false
 no_line_end [] h = refl
 no_line_end (b ∷ t) h = ne_eqb b 10 h.0
 
-from_code : (is : Rule → Bool) (includes : Bool) (u : List ℕ) → is rule.Code ≡ false → is rule.RawLiteral ≡ false → is rule.Literal ≡ false → is rule.IncludedName ≡ false → is rule.Number ≡ false
+from_code : (is : Rule → Bool) (includes : Bool) (u : List ℕ) → is rule.Code ≡ false → is rule.RawLiteral ≡ false
+    → is rule.Literal ≡ false → is rule.IncludedName ≡ false → is rule.Number ≡ false
     → is rule.Identifier ≡ false → is rule.Punctuator ≡ false
-    → is (if begins (codes "@") u then rule.Code else (if starts_raw u then rule.RawLiteral else (if starts_literal u then rule.Literal else (if includes && starts_include u then rule.IncludedName
-    else (if starts_number u then rule.Number else (if first_is is_word_byte u then rule.Identifier else rule.Punctuator)))))) ≡ false
+    → is (if begins (codes "@") u then rule.Code
+    else (if starts_raw u then rule.RawLiteral
+    else (if starts_literal u then rule.Literal
+    else (if includes && starts_include u then rule.IncludedName
+    else (if starts_number u then rule.Number
+    else (if first_is is_word_byte u then rule.Identifier else rule.Punctuator)))))) ≡ false
 from_code is includes u c r l n m i p =
-    neither is (begins (codes "@") u) _ _ c (neither is (starts_raw u) _ _ r (neither is (starts_literal u) _ _ l (tail_is is (includes && starts_include u) (starts_number u) (first_is is_word_byte u) n m i p)))
+    neither is (begins (codes "@") u) _ _ c
+    (neither is (starts_raw u) _ _ r
+    (neither is (starts_literal u) _ _ l
+    (tail_is is (includes && starts_include u) (starts_number u) (first_is is_word_byte u) n m i p)))
 
 -- no line end stands in a line
 pub rule_in_line : (includes : Bool) (u : List ℕ) → IsLine u → is_ended (c_rule includes u) ≡ false
 rule_in_line includes u line =
     let is = is_ended in
-    let y : Rule = if begins (codes "/*") u then rule.Comment else (if begins (codes "//") u then rule.LineComment else (if starts_section u then rule.Section
-    else (if begins (codes "@") u then rule.Code else (if starts_raw u then rule.RawLiteral else (if starts_literal u then rule.Literal else (if includes && starts_include u then rule.IncludedName
-    else (if starts_number u then rule.Number else (if first_is is_word_byte u then rule.Identifier else rule.Punctuator)))))))) in
+    let y : Rule =
+    if begins (codes "/*") u then rule.Comment
+    else (if begins (codes "//") u then rule.LineComment
+    else (if starts_section u then rule.Section
+    else (if begins (codes "@") u then rule.Code
+    else (if starts_raw u then rule.RawLiteral
+    else (if starts_literal u then rule.Literal
+    else (if includes && starts_include u then rule.IncludedName
+    else (if starts_number u then rule.Number
+    else (if first_is is_word_byte u then rule.Identifier
+    else rule.Punctuator)))))))) in
     neither is (first_is is_blank u) rule.Blanks (if first_is is_line_end u then rule.LineEnd else y) refl
     (ap (λ v. is_ended (if v then rule.LineEnd else y)) (no_line_end u line)
-    ∙ neither is (begins (codes "/*") u) _ _ refl (neither is (begins (codes "//") u) _ _ refl (neither is (starts_section u) _ _ refl (from_code is includes u refl refl refl refl refl refl refl))))
+    ∙ neither is (begins (codes "/*") u) _ _ refl
+    (neither is (begins (codes "//") u) _ _ refl
+    (neither is (starts_section u) _ _ refl (from_code is includes u refl refl refl refl refl refl refl))))
 
-pub line_comment_seen : (includes : Bool) (u : List ℕ) → is_line_comment (c_rule includes u) ≡ true → begins (codes "//") u ≡ true
+pub line_comment_seen : (includes : Bool) (u : List ℕ)
+    → is_line_comment (c_rule includes u) ≡ true → begins (codes "//") u ≡ true
 line_comment_seen includes u h =
     let is = is_line_comment in
     let h0 = later is (first_is is_blank u) _ _ refl h in
     let h1 = later is (first_is is_line_end u) _ _ refl h0.1 in
     let h2 = later is (begins (codes "/*") u) _ _ refl h1.1 in
-    now is (begins (codes "//") u) rule.LineComment _ (neither is (starts_section u) rule.Section _ refl (from_code is includes u refl refl refl refl refl refl refl)) h2.1
+    now is (begins (codes "//") u) rule.LineComment _
+    (neither is (starts_section u) rule.Section _ refl (from_code is includes u refl refl refl refl refl refl refl))
+    h2.1
 
 two_same : (r : Rule) → needs_two r ≡ is_line_comment r
 two_same rule.Blanks = refl
@@ -147,10 +174,12 @@ two_same rule.Identifier = refl
 two_same rule.Punctuator = refl
 
 pub two_fit : (includes : Bool) (u : List ℕ) (r : Rule) → r ≡ c_rule includes u → needs_two r ≡ true → 2 ≤ length u
-two_fit includes u r is h = begins-size (codes "//") u (line_comment_seen includes u (ap is_line_comment (sym is) ∙ sym (two_same r) ∙ h))
+two_fit includes u r is h =
+    begins-size (codes "//") u (line_comment_seen includes u (ap is_line_comment (sym is) ∙ sym (two_same r) ∙ h))
 
 -- what is left of the rules when those that open an item, sections and codes are told apart
-pub left_ends : (r : Rule) → (r ≡ rule.Comment → ⊥) → (r ≡ rule.Section → ⊥) → (r ≡ rule.Code → ⊥) → (r ≡ rule.RawLiteral → ⊥) → (r ≡ rule.Literal → ⊥) → is_ended r ≡ false → ends_in_line r ≡ true
+pub left_ends : (r : Rule) → (r ≡ rule.Comment → ⊥) → (r ≡ rule.Section → ⊥) → (r ≡ rule.Code → ⊥)
+    → (r ≡ rule.RawLiteral → ⊥) → (r ≡ rule.Literal → ⊥) → is_ended r ≡ false → ends_in_line r ≡ true
 left_ends rule.Blanks c s k w l e = refl
 left_ends rule.LineEnd c s k w l e = cc
 left_ends rule.Comment c s k w l e = absurd (c refl)
@@ -167,10 +196,12 @@ left_ends rule.Punctuator c s k w l e = refl
 -- MACROS
 
 -- a `\` that ends its line is one byte that gives nothing
-pub backslash_passes : (u : List ℕ) (h : Held) → h.item ≡ Between → h.state.context ≡ Macro → IsLine u → 1 ≤ length u → begins (codes "\\") u ≡ true → at_line_end (drop 1 u) ≡ true → Passes 1 u h h
+pub backslash_passes : (u : List ℕ) (h : Held) → h.item ≡ Between → h.state.context ≡ Macro → IsLine u
+    → 1 ≤ length u → begins (codes "\\") u ≡ true → at_line_end (drop 1 u) ≡ true → Passes 1 u h h
 backslash_passes u h none is line some sign ended =
     let v : (begins (codes "\\") u && at_line_end (drop 1 u)) ≡ true = λ i. sign i && ended i in
     closed_at 1 u h h h.state (front Skipped 1) refl none (ap is_head is) line some
-    (ap (λ (c : Context). front_in c (names_include h.state) u) is ∙ ap (λ w. if w then front Skipped 1 else c_front in_macro true false u) v)
+    (ap (λ (c : Context). front_in c (names_include h.state) u) is
+    ∙ ap (λ w. if w then front Skipped 1 else c_front in_macro true false u) v)
     (ap (λ (c : Context). opens_in c u) is ∙ ap (λ w. if w then false else c_opens in_macro u) v)
     (record { size = refl; state = sym (ap (λ (r : Reading). r.state) (none_to_come moved (take 1 u) h.state)) })

@@ -42,21 +42,28 @@ At = List ℕ → Held
 
 -- each byte that is plain goes on with the item, and its text
 abbrev pub GoesOn : (ℕ → Bool) → At → Type 0
-GoesOn p at = (us : List ℕ) (b : ℕ) (t : List ℕ) → IsLine (b ∷ t) → p b ≡ true → Takes 1 (b ∷ t) (at us) (at (us ++ b ∷ []))
+GoesOn p at =
+    (us : List ℕ) (b : ℕ) (t : List ℕ) → IsLine (b ∷ t) → p b ≡ true → Takes 1 (b ∷ t) (at us) (at (us ++ b ∷ []))
 
-pub run_taken : (p : ℕ → Bool) (at : At) → GoesOn p at → (us t : List ℕ) → IsLine t → Takes (prefix_len p t) t (at us) (at (us ++ take (prefix_len p t) t))
-run_taken p at goes us [] line = subst (λ (v : List ℕ). Takes 0 [] (at us) (at v)) (sym (append-nil' us)) (none_taken [] (at us))
+pub run_taken : (p : ℕ → Bool) (at : At) → GoesOn p at → (us t : List ℕ) → IsLine t
+    → Takes (prefix_len p t) t (at us) (at (us ++ take (prefix_len p t) t))
+run_taken p at goes us [] line =
+    subst (λ (v : List ℕ). Takes 0 [] (at us) (at v)) (sym (append-nil' us)) (none_taken [] (at us))
 run_taken p at goes us (b ∷ t) line = by (p b) refl (run_taken p at goes (us ++ b ∷ []) t line.1)
   where
     n : ℕ
     n = prefix_len p t
 
-    by : (v : Bool) → p b ≡ v → Takes n t (at (us ++ b ∷ [])) (at ((us ++ b ∷ []) ++ take n t)) → Takes (cond v (1 + n) 0) (b ∷ t) (at us) (at (us ++ take (cond v (1 + n) 0) (b ∷ t)))
-    by false off rest = subst (λ (v : List ℕ). Takes 0 (b ∷ t) (at us) (at v)) (sym (append-nil' us)) (none_taken (b ∷ t) (at us))
+    by : (v : Bool) → p b ≡ v → Takes n t (at (us ++ b ∷ [])) (at ((us ++ b ∷ []) ++ take n t))
+        → Takes (cond v (1 + n) 0) (b ∷ t) (at us) (at (us ++ take (cond v (1 + n) 0) (b ∷ t)))
+    by false off rest =
+        subst (λ (v : List ℕ). Takes 0 (b ∷ t) (at us) (at v)) (sym (append-nil' us)) (none_taken (b ∷ t) (at us))
     by true on rest =
         let next : suc n ≡ 1 + n = omega arith in
-        let whole = after_one n b t (at us) (at (us ++ b ∷ [])) (at ((us ++ b ∷ []) ++ take n t)) (goes us b t line on) rest in
-        subst (λ (k : ℕ). Takes k (b ∷ t) (at us) (at (us ++ take k (b ∷ t)))) next (subst (λ (v : List ℕ). Takes (suc n) (b ∷ t) (at us) (at v)) (append_assoc us (b ∷ []) (take n t)) whole)
+        let whole =
+        after_one n b t (at us) (at (us ++ b ∷ [])) (at ((us ++ b ∷ []) ++ take n t)) (goes us b t line on) rest in
+        subst (λ (k : ℕ). Takes k (b ∷ t) (at us) (at (us ++ take k (b ∷ t)))) next
+        (subst (λ (v : List ℕ). Takes (suc n) (b ∷ t) (at us) (at v)) (append_assoc us (b ∷ []) (take n t)) whole)
 
 -- NAMES AND LITERALS
 
@@ -67,60 +74,84 @@ plain-bytes b h = ap (λ v. if v && false then codes "@" else b ∷ []) h
 plain-state : (s : State) (b : ℕ) → (b == 64) ≡ false → unit_state s (b ∷ []) ≡ s
 plain-state s b h = ap (λ v. if v && true then fault DoubleAtInString s else s) h
 
-name_goes_on : (s : State) (g : Bool) (begun : Place) (is_file : Bool) → GoesOn (is_plain Name) (λ us. opened s g (InName begun is_file us))
+name_goes_on : (s : State) (g : Bool) (begun : Place) (is_file : Bool)
+    → GoesOn (is_plain Name) (λ us. opened s g (InName begun is_file us))
 name_goes_on s g begun is_file us b t line plain =
     let off = is_not (is_sign Name b) plain in
-    subst (λ (v : List ℕ). Takes 1 (b ∷ t) (opened s g (InName begun is_file us)) (opened s g (InName begun is_file (us ++ v)))) (plain-bytes b off)
+    subst (λ (v : List ℕ).
+    Takes 1 (b ∷ t) (opened s g (InName begun is_file us)) (opened s g (InName begun is_file (us ++ v))))
+    (plain-bytes b off)
     (name_goes s g begun is_file us 1 (b ∷ t) line (omega arith) (plain_goes Name b t off)).takes
 
-pub name_run : (s : State) (g : Bool) (begun : Place) (is_file : Bool) (us : List ℕ) (n : ℕ) (u : List ℕ) → IsLine u → 0 < n → n ≡ prefix_len (is_plain Name) u
+pub name_run : (s : State) (g : Bool) (begun : Place) (is_file : Bool) (us : List ℕ) (n : ℕ) (u : List ℕ)
+    → IsLine u → 0 < n → n ≡ prefix_len (is_plain Name) u
     → TakesOpen n u (opened s g (InName begun is_file us)) (opened s g (InName begun is_file (us ++ take n u)))
 name_run s g begun is_file us n u line some is = record {
-  takes = subst (λ (k : ℕ). Takes k u (opened s g (InName begun is_file us)) (opened s g (InName begun is_file (us ++ take k u)))) (sym is)
-      (run_taken (is_plain Name) (λ us. opened s g (InName begun is_file us)) (name_goes_on s g begun is_file) us u line);
+  takes =
+      subst (λ (k : ℕ).
+      Takes k u (opened s g (InName begun is_file us)) (opened s g (InName begun is_file (us ++ take k u))))
+      (sym is)
+      (run_taken (is_plain Name) (λ us. opened s g (InName begun is_file us))
+      (name_goes_on s g begun is_file) us u line);
   moves = λ w. some;
   last = λ w. cc;
 }
 
 -- a unit of a literal of either kind that is one byte
 literal_one : (s : State) (g : Bool) (b : ℕ) (t : List ℕ) (at : List ℕ → Item) (us : List ℕ) → (b == 64) ≡ false
-    → Takes 1 (b ∷ t) (opened s g (at us)) (opened (unit_state s (b ∷ [])) g (at (us ++ unit_bytes (b ∷ [])))) → Takes 1 (b ∷ t) (opened s g (at us)) (opened s g (at (us ++ b ∷ [])))
+    → Takes 1 (b ∷ t) (opened s g (at us)) (opened (unit_state s (b ∷ [])) g (at (us ++ unit_bytes (b ∷ []))))
+    → Takes 1 (b ∷ t) (opened s g (at us)) (opened s g (at (us ++ b ∷ [])))
 literal_one s g b t at us h takes =
     subst (λ (k : State). Takes 1 (b ∷ t) (opened s g (at us)) (opened k g (at (us ++ b ∷ [])))) (plain-state s b h)
-    (subst (λ (v : List ℕ). Takes 1 (b ∷ t) (opened s g (at us)) (opened (unit_state s (b ∷ [])) g (at (us ++ v)))) (plain-bytes b h) takes)
+    (subst (λ (v : List ℕ). Takes 1 (b ∷ t) (opened s g (at us)) (opened (unit_state s (b ∷ [])) g (at (us ++ v))))
+    (plain-bytes b h) takes)
 
-literal_goes_on : (s : State) (g : Bool) (begun : Place) (quote : ℕ) → GoesOn (is_plain (Literal quote)) (λ us. opened s g (InLiteral begun quote us))
+literal_goes_on : (s : State) (g : Bool) (begun : Place) (quote : ℕ)
+    → GoesOn (is_plain (Literal quote)) (λ us. opened s g (InLiteral begun quote us))
 literal_goes_on s g begun quote us b t line plain =
     let off = is_not (is_sign (Literal quote) b) plain in
     literal_one s g b t (λ (v : List ℕ). InLiteral begun quote v) us (no_at_in_literal quote b off)
-    (literal_takes s g begun quote us (Goes 1) (b ∷ t) (omega arith) line (omega arith) (plain_goes (Literal quote) b t off) (omega arith)).takes
+    (literal_takes s g begun quote us (Goes 1) (b ∷ t) (omega arith) line
+    (omega arith) (plain_goes (Literal quote) b t off) (omega arith)).takes
 
-pub literal_run : (s : State) (g : Bool) (begun : Place) (quote : ℕ) (us : List ℕ) (n : ℕ) (u : List ℕ) → IsLine u → 0 < n → n ≡ prefix_len (is_plain (Literal quote)) u
+pub literal_run : (s : State) (g : Bool) (begun : Place) (quote : ℕ) (us : List ℕ) (n : ℕ) (u : List ℕ)
+    → IsLine u → 0 < n → n ≡ prefix_len (is_plain (Literal quote)) u
     → TakesOpen n u (opened s g (InLiteral begun quote us)) (opened s g (InLiteral begun quote (us ++ take n u)))
 literal_run s g begun quote us n u line some is = record {
-  takes = subst (λ (k : ℕ). Takes k u (opened s g (InLiteral begun quote us)) (opened s g (InLiteral begun quote (us ++ take k u)))) (sym is)
-      (run_taken (is_plain (Literal quote)) (λ us. opened s g (InLiteral begun quote us)) (literal_goes_on s g begun quote) us u line);
+  takes =
+      subst (λ (k : ℕ).
+      Takes k u (opened s g (InLiteral begun quote us)) (opened s g (InLiteral begun quote (us ++ take k u))))
+      (sym is)
+      (run_taken (is_plain (Literal quote)) (λ us. opened s g (InLiteral begun quote us))
+      (literal_goes_on s g begun quote) us u line);
   moves = λ w. some;
   last = λ w. cc;
 }
 
-raw_goes_on : (s : State) (g : Bool) (begun : Place) (d : List ℕ) → list_all in_line (sign_of d) ≡ true → GoesOn (λ b. not (is_raw_sign (sign_of d) b)) (λ us. opened s g (InRaw begun d us))
+raw_goes_on : (s : State) (g : Bool) (begun : Place) (d : List ℕ) → list_all in_line (sign_of d) ≡ true
+    → GoesOn (λ b. not (is_raw_sign (sign_of d) b)) (λ us. opened s g (InRaw begun d us))
 raw_goes_on s g begun d clean us b t line plain =
     let off = is_not (is_raw_sign (sign_of d) b) plain in
     literal_one s g b t (λ (v : List ℕ). InRaw begun d v) us (no_at_in_raw (sign_of d) b off)
-    (raw_takes s g begun d us (Goes 1) (b ∷ t) (omega arith) clean line (omega arith) (raw_goes (sign_of d) b t off) (omega arith)).takes
+    (raw_takes s g begun d us (Goes 1) (b ∷ t) (omega arith) clean line
+    (omega arith) (raw_goes (sign_of d) b t off) (omega arith)).takes
 
-pub raw_run : (s : State) (g : Bool) (begun : Place) (d us : List ℕ) (n : ℕ) (u : List ℕ) → list_all in_line (sign_of d) ≡ true → IsLine u → 0 < n → n ≡ prefix_len (λ b. not (is_raw_sign (sign_of d) b)) u
+pub raw_run : (s : State) (g : Bool) (begun : Place) (d us : List ℕ) (n : ℕ) (u : List ℕ)
+    → list_all in_line (sign_of d) ≡ true → IsLine u → 0 < n → n ≡ prefix_len (λ b. not (is_raw_sign (sign_of d) b)) u
     → TakesOpen n u (opened s g (InRaw begun d us)) (opened s g (InRaw begun d (us ++ take n u)))
 raw_run s g begun d us n u clean line some is = record {
-  takes = subst (λ (k : ℕ). Takes k u (opened s g (InRaw begun d us)) (opened s g (InRaw begun d (us ++ take k u)))) (sym is)
-      (run_taken (λ b. not (is_raw_sign (sign_of d) b)) (λ us. opened s g (InRaw begun d us)) (raw_goes_on s g begun d clean) us u line);
+  takes =
+      subst (λ (k : ℕ). Takes k u (opened s g (InRaw begun d us)) (opened s g (InRaw begun d (us ++ take k u))))
+      (sym is)
+      (run_taken (λ b. not (is_raw_sign (sign_of d) b))
+      (λ us. opened s g (InRaw begun d us)) (raw_goes_on s g begun d clean) us u line);
   moves = λ w. some;
   last = λ w. cc;
 }
 
 -- as the code makes the text longer
-pub item_grown : (o : Open) (d t x : List ℕ) → item_of o d (t ++ x) ≡ with_text (text_of (item_of o d t) ++ x) (item_of o d t)
+pub item_grown : (o : Open) (d t x : List ℕ)
+    → item_of o d (t ++ x) ≡ with_text (text_of (item_of o d t) ++ x) (item_of o d t)
 item_grown code.Between d t x = refl
 item_grown (code.Comment begun) d t x = refl
 item_grown (code.Name begun is_file) d t x = refl
@@ -128,8 +159,13 @@ item_grown (code.Literal begun quote) d t x = refl
 item_grown (code.AfterBackslash begun quote) d t x = refl
 item_grown (code.Raw begun) d t x = refl
 
-pub run_at : (n : ℕ) (u : List ℕ) (h new : Held) (at : List ℕ → Item) → h.item ≡ at (text_of h.item) → new ≡ with_run n u h → with_text (text_of h.item ++ take n u) (at (text_of h.item)) ≡ at (text_of h.item ++ take n u)
-    → TakesOpen n u (opened h.state h.begun (at (text_of h.item))) (opened h.state h.begun (at (text_of h.item ++ take n u))) → TakesOpen n u h new
+pub run_at : (n : ℕ) (u : List ℕ) (h new : Held) (at : List ℕ → Item)
+    → h.item ≡ at (text_of h.item) → new ≡ with_run n u h
+    → with_text (text_of h.item ++ take n u) (at (text_of h.item)) ≡ at (text_of h.item ++ take n u)
+    → TakesOpen n u (opened h.state h.begun (at (text_of h.item)))
+    (opened h.state h.begun (at (text_of h.item ++ take n u))) → TakesOpen n u h new
 run_at n u h new at item made same takes =
     open_at n u h h refl (at (text_of h.item)) item new (opened h.state h.begun (at (text_of h.item ++ take n u)))
-    (made ∙ (λ j. record { state = h.state; item = with_text (text_of h.item ++ take n u) (item j); begun = h.begun }) ∙ (λ j. record { state = h.state; item = same j; begun = h.begun })) takes
+    (made ∙ (λ j. record { state = h.state; item = with_text (text_of h.item ++ take n u) (item j); begun = h.begun })
+    ∙ (λ j. record { state = h.state; item = same j; begun = h.begun }))
+    takes

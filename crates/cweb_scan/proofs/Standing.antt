@@ -118,14 +118,16 @@ open_name-stays : (n : NameRef) (opens : Bool) (s : State) → Stays (open_name 
 open_name-stays n true s = macro-stays s
 open_name-stays n false s = macro-stays s
 
-name_in-stays : (c : Context) (n : NameRef) (opens : Bool) (begun : Place) (s : State) → Stays (name_in c n opens begun) s
+name_in-stays : (c : Context) (n : NameRef) (opens : Bool) (begun : Place) (s : State)
+    → Stays (name_in c n opens begun) s
 name_in-stays Limbo n opens begun s = refl
 name_in-stays TeX n opens begun s = open_name-stays n opens s
 name_in-stays (Definition at) n opens begun s = refl
 name_in-stays Macro n opens begun s = open_name-stays n opens s
 name_in-stays CText n opens begun s = use_name-stays n opens begun s
 
-occurrence-stays : (is_file : Bool) (text : List ℕ) (how : End) (opens : Bool) (begun : Place) (s : State) → Stays (occurrence is_file text how opens begun) s
+occurrence-stays : (is_file : Bool) (text : List ℕ) (how : End) (opens : Bool) (begun : Place) (s : State)
+    → Stays (occurrence is_file text how opens begun) s
 occurrence-stays is_file text how opens begun s =
     name_in-stays s.context _ opens begun (name_fault how begun _) ∙ name_fault-stays how begun _
 
@@ -136,12 +138,16 @@ literal-stays text Nested begun s = refl
 literal-stays text Open begun s = refl
 
 blank-stays : (s : State) → Stays blank s
-blank-stays s = elim (in_directive s && not (is_blank (directive s).last)) as (λ v. (if v then give Blank s else s).here ≡ s.here) [ true ↦ refl | false ↦ refl ]
+blank-stays s =
+    elim (in_directive s && not (is_blank (directive s).last))
+    as (λ v. (if v then give Blank s else s).here ≡ s.here) [ true ↦ refl | false ↦ refl ]
 
 enter_in-stays : (c : Context) (k : Kind) (s : State) → Stays (enter_in c k) s
 enter_in-stays Limbo k s = refl
 enter_in-stays TeX k s = refl
-enter_in-stays (Definition begun) k s = elim (stays_in_head k) as (λ v. (if v then s else drop_definition begun s).here ≡ s.here) [ true ↦ refl | false ↦ refl ]
+enter_in-stays (Definition begun) k s =
+    elim (stays_in_head k) as (λ v. (if v then s else drop_definition begun s).here ≡ s.here)
+    [ true ↦ refl | false ↦ refl ]
 enter_in-stays Macro k s = refl
 enter_in-stays CText k s = refl
 
@@ -161,20 +167,26 @@ line_end-moves : Moves line_end
 line_end-moves p s = line_end_in-moves s.context p s
 
 comment-moves : Moves comment_line_end
-comment-moves p s = elim (in_directive s) as (λ v. (if v then moved p s else line_end p s).here ≡ p) [ true ↦ refl | false ↦ line_end-moves p s ]
+comment-moves p s =
+    elim (in_directive s) as (λ v. (if v then moved p s else line_end p s).here ≡ p)
+    [ true ↦ refl | false ↦ line_end-moves p s ]
 
-next_in : (f : Place → State → State) → Moves f → (s : State) (later : List Place) → 1 ≤ length later → places_in (next_line f (record { state = s; later = later })) ≡ later
+next_in : (f : Place → State → State) → Moves f → (s : State) (later : List Place)
+    → 1 ≤ length later → places_in (next_line f (record { state = s; later = later })) ≡ later
 next_in f moves s [] h = absurd (omega (arith, h))
 next_in f moves s (p ∷ later) h = ap (λ q. q ∷ later) (moves p s)
 
 drop-one : (n : ℕ) (p : Place) (ps : List Place) → drop n ps ≡ drop (1 + n) (p ∷ ps)
 drop-one n p ps = let e : suc n ≡ 1 + n = omega arith in ap (λ k. drop k (p ∷ ps)) e
 
-each-places : (f : Place → State → State) → Moves f → (bytes : List ℕ) (r : Reading) → at_line_ends 1 bytes ≤ length r.later
+each-places : (f : Place → State → State) → Moves f
+    → (bytes : List ℕ) (r : Reading) → at_line_ends 1 bytes ≤ length r.later
     → places_in (each_line_end f bytes r) ≡ drop (at_line_ends 1 bytes) (places_in r)
 each-places f moves [] r h = refl
-each-places f moves (b ∷ t) r h = (elim (is_line_end b) as (λ v. (if v then 1 + at_line_ends 1 t else at_line_ends 1 t) ≤ length r.later
-    → places_in (each_line_end f t (if v then next_line f r else r)) ≡ drop (if v then 1 + at_line_ends 1 t else at_line_ends 1 t) (places_in r)) [
+each-places f moves (b ∷ t) r h =
+    (elim (is_line_end b) as (λ v. (if v then 1 + at_line_ends 1 t else at_line_ends 1 t) ≤ length r.later
+    → places_in (each_line_end f t (if v then next_line f r else r))
+    ≡ drop (if v then 1 + at_line_ends 1 t else at_line_ends 1 t) (places_in r)) [
       | true ↦ λ k.
           let e = next_in f moves r.state r.later (omega (arith, k)) in
           each-places f moves t (next_line f r) (omega (arith, k, ap length e))
@@ -186,17 +198,26 @@ each-places f moves (b ∷ t) r h = (elim (is_line_end b) as (λ v. (if v then 1
 -- an `@` is no line end
 sign-none : (u : List ℕ) → bytes_eq u (codes "@") ≡ true → at_line_ends 1 u ≡ 0
 sign-none [] h = refl
-sign-none (b ∷ []) h = none-ends (b ∷ []) ((λ e. let wrong : false ≡ true = sym (ap (λ x. bytes_eq (x ∷ []) (codes "@")) e) ∙ h in cc), tt)
-sign-none (b ∷ d ∷ u) h = (elim (b == 64) as (λ v. (v && false) ≡ true → at_line_ends 1 (b ∷ d ∷ u) ≡ 0) [ true ↦ λ k. cc | false ↦ λ k. cc ]) h
+sign-none (b ∷ []) h =
+    none-ends (b ∷ []) ((λ e. let wrong : false ≡ true = sym (ap (λ x. bytes_eq (x ∷ []) (codes "@")) e) ∙ h in cc), tt)
+sign-none (b ∷ d ∷ u) h =
+    (elim (b == 64) as (λ v. (v && false) ≡ true → at_line_ends 1 (b ∷ d ∷ u) ≡ 0) [ true ↦ λ k. cc | false ↦ λ k. cc ])
+    h
 
-unit-places : (r : Reading) (u : List ℕ) → at_line_ends 1 u ≤ length r.later → places_in (literal_unit r u) ≡ drop (at_line_ends 1 u) (places_in r)
-unit-places r u h = (elim (bytes_eq u (codes "@")) as (λ v. bytes_eq u (codes "@") ≡ v → places_in (if v then on (fault DoubleAtInString) r else each_line_end moved u r) ≡ drop (at_line_ends 1 u) (places_in r)) [
-  | true ↦ λ e. ap (λ k. drop k (places_in r)) (sym (sign-none u e))
-  | false ↦ λ e. each-places moved (λ p s. refl) u r h
-]) refl
+unit-places : (r : Reading) (u : List ℕ) → at_line_ends 1 u ≤ length r.later
+    → places_in (literal_unit r u) ≡ drop (at_line_ends 1 u) (places_in r)
+unit-places r u h =
+    (elim (bytes_eq u (codes "@")) as (λ v.
+    bytes_eq u (codes "@") ≡ v
+    → places_in (if v then on (fault DoubleAtInString) r else each_line_end moved u r)
+    ≡ drop (at_line_ends 1 u) (places_in r)) [
+      | true ↦ λ e. ap (λ k. drop k (places_in r)) (sym (sign-none u e))
+      | false ↦ λ e. each-places moved (λ p s. refl) u r h
+    ]) refl
 
 -- what is left after some of the places
-left : (r m : Reading) (n : ℕ) → n ≤ length r.later → places_in m ≡ drop n (places_in r) → length m.later + n ≡ length r.later
+left : (r m : Reading) (n : ℕ) → n ≤ length r.later
+    → places_in m ≡ drop n (places_in r) → length m.later + n ≡ length r.later
 left r m n h e = omega (arith, h, ap length e, length-drop n (places_in r))
 
 drop-more : (m n k : ℕ) (ps : List Place) → k ≡ m + n → drop n (drop m ps) ≡ drop k ps
@@ -211,27 +232,36 @@ units-places (u ∷ us) r h =
     let e = unit-places r u (omega (arith, h, both)) in
     units-places us m (omega (arith, h, both, left r m (at_line_ends 1 u) (omega (arith, h, both)) e))
     ∙ ap (drop (at_line_ends 1 (flat_map (λ v. v) us))) e
-    ∙ drop-more (at_line_ends 1 u) (at_line_ends 1 (flat_map (λ v. v) us)) (at_line_ends 1 (flat_map (λ v. v) (u ∷ us))) (places_in r) both
+    ∙ drop-more (at_line_ends 1 u) (at_line_ends 1 (flat_map (λ v. v) us))
+    (at_line_ends 1 (flat_map (λ v. v) (u ∷ us))) (places_in r) both
 
 -- THE PIECES
 
 on-places : (f : State → State) (r : Reading) → Stays f r.state → places_in (on f r) ≡ places_in r
 on-places f r e = ap (λ p. p ∷ r.later) e
 
-here-still : (f : State → State) (bytes : List ℕ) (r : Reading) → at_line_ends 1 bytes ≡ 0 → Stays f r.state → places_in (on f r) ≡ drop (at_line_ends 1 bytes) (places_in r)
+here-still : (f : State → State) (bytes : List ℕ) (r : Reading) → at_line_ends 1 bytes ≡ 0
+    → Stays f r.state → places_in (on f r) ≡ drop (at_line_ends 1 bytes) (places_in r)
 here-still f bytes r none e = on-places f r e ∙ ap (λ k. drop k (places_in r)) (sym none)
 
-item-places : (k : Kind) (bytes : List ℕ) (r : Reading) → Tells k bytes → at_line_ends 1 bytes ≤ length r.later → places_in (item k bytes r) ≡ drop (at_line_ends 1 bytes) (places_in r)
+item-places : (k : Kind) (bytes : List ℕ) (r : Reading) → Tells k bytes → at_line_ends 1 bytes ≤ length r.later
+    → places_in (item k bytes r) ≡ drop (at_line_ends 1 bytes) (places_in r)
 item-places kind.Skipped bytes r tells h = each-places moved (λ p s. refl) bytes r h
-item-places (kind.Section starred) bytes r tells h = here-still (begin_section starred) bytes r tells (leave_in-stays r.state.context r.state)
+item-places (kind.Section starred) bytes r tells h =
+    here-still (begin_section starred) bytes r tells (leave_in-stays r.state.context r.state)
 item-places (kind.Code e) bytes r tells h = here-still (code e) bytes r tells (code-stays e r.state)
-item-places (kind.Letter byte text) bytes r tells h = here-still (letter byte text) bytes r tells (letter-stays byte text r.state)
-item-places (kind.ControlText how) bytes r tells h = here-still (control_text how) bytes r tells (control_text-stays how r.state)
-item-places (kind.Verbatim units how) bytes r tells h = here-still (verbatim (text_in units) how) bytes r tells (verbatim-stays (text_in units) how r.state)
-item-places (kind.Constant value) bytes r tells h = here-still (constant value) bytes r tells (constant-stays value r.state)
+item-places (kind.Letter byte text) bytes r tells h =
+    here-still (letter byte text) bytes r tells (letter-stays byte text r.state)
+item-places (kind.ControlText how) bytes r tells h =
+    here-still (control_text how) bytes r tells (control_text-stays how r.state)
+item-places (kind.Verbatim units how) bytes r tells h =
+    here-still (verbatim (text_in units) how) bytes r tells (verbatim-stays (text_in units) how r.state)
+item-places (kind.Constant value) bytes r tells h =
+    here-still (constant value) bytes r tells (constant-stays value r.state)
 item-places (kind.Occurrence is_file units how opens) bytes r tells h =
     let m = each_line_end moved bytes r in
-    on-places (occurrence is_file (text_in units) how opens r.state.here) m (occurrence-stays is_file (text_in units) how opens r.state.here m.state)
+    on-places (occurrence is_file (text_in units) how opens r.state.here) m
+    (occurrence-stays is_file (text_in units) how opens r.state.here m.state)
     ∙ each-places moved (λ p s. refl) bytes r h
 item-places kind.Blanks bytes r tells h = here-still blank bytes r tells (blank-stays r.state)
 item-places kind.LineEnd bytes r tells h =
@@ -247,31 +277,38 @@ item-places (kind.Quoted units how) bytes r tells h =
     on-places (literal (text_in units) how r.state.here) m (literal-stays (text_in units) how r.state.here m.state)
     ∙ units-places units r (omega (arith, tells, h))
     ∙ ap (λ k. drop k (places_in r)) tells
-item-places (kind.Defined tight) bytes r tells h = here-still (define bytes tight) bytes r tells (define-stays bytes tight r.state)
+item-places (kind.Defined tight) bytes r tells h =
+    here-still (define bytes tight) bytes r tells (define-stays bytes tight r.state)
 item-places kind.Identifier bytes r tells h = here-still (give (Word bytes)) bytes r tells refl
 item-places kind.Numeral bytes r tells h = here-still (give (Number bytes)) bytes r tells refl
 item-places kind.Punctuator bytes r tells h = here-still (punctuator bytes) bytes r tells refl
 
-after-places : (r : Reading) (p : Piece) → Tells p.kind p.bytes → at_line_ends 1 p.bytes ≤ length r.later → places_in (after r p) ≡ drop (at_line_ends 1 p.bytes) (places_in r)
+after-places : (r : Reading) (p : Piece) → Tells p.kind p.bytes → at_line_ends 1 p.bytes ≤ length r.later
+    → places_in (after r p) ≡ drop (at_line_ends 1 p.bytes) (places_in r)
 after-places r p tells h =
     item-places p.kind p.bytes (on (enter p.kind) r) tells h
     ∙ ap (drop (at_line_ends 1 p.bytes)) (on-places (enter p.kind) r (enter_in-stays r.state.context p.kind r.state))
 
 -- what the rules name at the front of a text tells its line ends
-fits-tells : (r : Reading) (t bytes rest : List ℕ) (k : Kind) → t ≡ bytes ++ rest → 0 < length bytes → k ≡ (front_of r.state t).kind → length bytes ≡ (front_of r.state t).size → Tells k bytes
+fits-tells : (r : Reading) (t bytes rest : List ℕ) (k : Kind) → t ≡ bytes ++ rest → 0 < length bytes
+    → k ≡ (front_of r.state t).kind → length bytes ≡ (front_of r.state t).size → Tells k bytes
 fits-tells r [] bytes rest k e some same size = absurd (omega (arith, ap length e, length-append bytes rest, some))
 fits-tells r (b ∷ t) bytes rest k e some same size =
     let f = front_of r.state (b ∷ t) in
-    let is : bytes ≡ take f.size (b ∷ t) = sym (take-append_seam bytes rest) ∙ ap (λ n. take n (bytes ++ rest)) size ∙ ap (take f.size) (sym e) in
-    subst (λ u. Tells k u) (sym is) (subst (λ j. Tells j (take f.size (b ∷ t))) (sym same) (told r.state.context (names_include r.state) b t))
+    let is : bytes ≡ take f.size (b ∷ t) =
+    sym (take-append_seam bytes rest) ∙ ap (λ n. take n (bytes ++ rest)) size ∙ ap (take f.size) (sym e) in
+    subst (λ u. Tells k u) (sym is)
+    (subst (λ j. Tells j (take f.size (b ∷ t))) (sym same) (told r.state.context (names_include r.state) b t))
 
-walk : (before more : List Piece) (r : Reading) (t : List ℕ) → ArePieces r t (before ++ more) → at_line_ends 1 t ≤ length r.later → places_in (fold after r before) ≡ drop (newlines before) (places_in r)
+walk : (before more : List Piece) (r : Reading) (t : List ℕ) → ArePieces r t (before ++ more)
+    → at_line_ends 1 t ≤ length r.later → places_in (fold after r before) ≡ drop (newlines before) (places_in r)
 walk [] more r t h few = refl
 walk (q ∷ qs) more r t h few =
     let rest = h.0 in
     let n = at_line_ends 1 q.bytes in
     let parts = ap (at_line_ends 1) h.1 ∙ ends-append q.bytes rest in
-    let e = after-places r q (fits-tells r t q.bytes rest q.kind h.1 h.2 h.3.kind h.3.size) (omega (arith, few, parts)) in
+    let e =
+    after-places r q (fits-tells r t q.bytes rest q.kind h.1 h.2 h.3.kind h.3.size) (omega (arith, few, parts)) in
     walk qs more (after r q) rest h.4 (omega (arith, few, parts, left r (after r q) n (omega (arith, few, parts)) e))
     ∙ ap (drop (newlines qs)) e
     ∙ drop-more n (newlines qs) (newlines (q ∷ qs)) (places_in r) (ends-append q.bytes (flat_map (λ p. p.bytes) qs))
@@ -296,7 +333,8 @@ further-ends (line ∷ lines) h =
       further-ends lines (All-tail (λ (l : Line). HasNoNewline l.bytes) line lines h),
     )
 
-text-ends : (line : Line) (lines : List Line) → AreClean (line ∷ lines) → at_line_ends 1 (text_of line lines) ≤ length (places lines)
+text-ends : (line : Line) (lines : List Line) → AreClean (line ∷ lines)
+    → at_line_ends 1 (text_of line lines) ≤ length (places lines)
 text-ends line lines h =
     omega (
       arith,

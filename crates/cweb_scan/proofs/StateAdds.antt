@@ -26,10 +26,15 @@ use Rattle.cweb_scan.specs.Bound.{Adds}
 use Rattle.cweb_scan.proofs.Measures.{total-append, pushed-size, opened-size, closed-size, dropped-size}
 
 pub adds_both : {a b c d : ℕ} {s t u : State} → Adds a b s t → Adds c d t u → Adds (a + c) (b + d) s u
-adds_both x y = record { tokens_are = omega (arith, x.tokens_are, y.tokens_are); bytes_are = omega (arith, x.bytes_are, y.bytes_are) }
+adds_both x y =
+    record {
+      tokens_are = omega (arith, x.tokens_are, y.tokens_are);
+      bytes_are = omega (arith, x.bytes_are, y.bytes_are);
+    }
 
 pub adds_within : {a b : ℕ} (n m : ℕ) {s t : State} → Adds a b s t → a ≤ n → b ≤ m → Adds n m s t
-adds_within n m x h k = record { tokens_are = omega (arith, x.tokens_are, h); bytes_are = omega (arith, x.bytes_are, k) }
+adds_within n m x h k =
+    record { tokens_are = omega (arith, x.tokens_are, h); bytes_are = omega (arith, x.bytes_are, k) }
 
 pub due_some : (c : Context) → 1 ≤ due c
 due_some Limbo = omega arith
@@ -58,7 +63,11 @@ enters : (c : Context) (s : State) → due c ≤ due s.context → Adds 0 0 s (r
 enters c s h = record { tokens_are = omega (arith, h); bytes_are = omega arith }
 
 opens : (kind : PartKind) (s : State) → Adds 0 0 s (record s { contents = with_open kind s.contents })
-opens kind s = record { tokens_are = omega (arith, opened-size one kind s.contents.parts); bytes_are = omega (arith, opened-size text_size kind s.contents.parts) }
+opens kind s =
+    record {
+      tokens_are = omega (arith, opened-size one kind s.contents.parts);
+      bytes_are = omega (arith, opened-size text_size kind s.contents.parts);
+    }
 
 pub begin_part-adds : (kind : PartKind) (s : State) → Adds 2 0 s (begin_part kind s)
 begin_part-adds kind s =
@@ -91,7 +100,10 @@ leave_in-adds CText s = adds_both (give-adds (Tail s.sections) s) (end_part-adds
 pub begin_section-adds : (starred : Bool) (s : State) → Adds 1 0 s (begin_section starred s)
 begin_section-adds starred s =
     let a = leave_in-adds s.context s in
-    record { tokens_are = omega (arith, a.tokens_are, due_some (leave s).context); bytes_are = omega (arith, a.bytes_are) }
+    record {
+      tokens_are = omega (arith, a.tokens_are, due_some (leave s).context);
+      bytes_are = omega (arith, a.bytes_are);
+    }
 
 -- LINE ENDS
 
@@ -101,14 +113,18 @@ no_text false true p = refl
 no_text false false p = refl
 
 line_end_token-text : (p : Place) (s : State) → text_size (line_end_token p s) ≡ 0
-line_end_token-text p s = no_text (in_directive s && is_punct (codes "\\") (directive s).last) ((in_directive s && s.folded) || not (follows s.here p)) p
+line_end_token-text p s =
+    no_text (in_directive s && is_punct (codes "\\") (directive s).last)
+    ((in_directive s && s.folded) || not (follows s.here p)) p
 
 line_end_in-adds : (c : Context) (p : Place) (s : State) → Adds 1 0 s (line_end_in c p s)
 line_end_in-adds Limbo p s = adds_within 1 0 (moved-adds p s) (omega arith) (omega arith)
 line_end_in-adds TeX p s = adds_within 1 0 (moved-adds p s) (omega arith) (omega arith)
 line_end_in-adds (Definition begun) p s = adds_within 1 0 (moved-adds p s) (omega arith) (omega arith)
 line_end_in-adds Macro p s = adds_both (give-adds Newline s) (moved-adds p _)
-line_end_in-adds CText p s = adds_within 1 0 (adds_both (give-adds (line_end_token p s) s) (moved-adds p _)) (omega arith) (omega (arith, line_end_token-text p s))
+line_end_in-adds CText p s =
+    adds_within 1 0 (adds_both (give-adds (line_end_token p s) s) (moved-adds p _))
+    (omega arith) (omega (arith, line_end_token-text p s))
 
 pub line_end-adds : (p : Place) (s : State) → Adds 1 0 s (line_end p s)
 line_end-adds p s = line_end_in-adds s.context p s
@@ -122,16 +138,22 @@ comment_line_end-adds p s = elim (in_directive s) as (λ v. Adds 1 0 s (if v the
 -- ITEMS
 
 pub blank-adds : (s : State) → Adds 1 0 s (blank s)
-blank-adds s = elim (in_directive s && not (is_blank (directive s).last)) as (λ v. Adds 1 0 s (if v then give Blank s else s)) [
-  | true ↦ give-adds Blank s
-  | false ↦ adds_within 1 0 (nothing_adds s) (omega arith) (omega arith)
-]
+blank-adds s =
+    elim (in_directive s && not (is_blank (directive s).last)) as (λ v. Adds 1 0 s (if v then give Blank s else s)) [
+      | true ↦ give-adds Blank s
+      | false ↦ adds_within 1 0 (nothing_adds s) (omega arith) (omega arith)
+    ]
 
 pub punctuator-adds : (bytes : List ℕ) (s : State) → Adds 1 (length bytes) s (punctuator bytes s)
-punctuator-adds bytes s = let a = give-adds (Punct bytes) s in record { tokens_are = a.tokens_are; bytes_are = a.bytes_are }
+punctuator-adds bytes s =
+    let a = give-adds (Punct bytes) s in record { tokens_are = a.tokens_are; bytes_are = a.bytes_are }
 
 drops : (s : State) → Adds 0 0 s (record s { contents = with_dropped s.contents })
-drops s = record { tokens_are = omega (arith, dropped-size one s.contents.parts); bytes_are = omega (arith, dropped-size text_size s.contents.parts) }
+drops s =
+    record {
+      tokens_are = omega (arith, dropped-size one s.contents.parts);
+      bytes_are = omega (arith, dropped-size text_size s.contents.parts);
+    }
 
 quiet : (s t : State) → Adds 0 0 s t → Adds 2 1 s t
 quiet s t a = adds_within 2 1 a (omega arith) (omega arith)
@@ -140,10 +162,16 @@ pub code-adds : (e : Effect) (s : State) → Adds 2 1 s (code e s)
 code-adds Nothing s = quiet s s (nothing_adds s)
 code-adds Define s =
     let a = end_macro_in-adds s.context s in
-    record { tokens_are = omega (arith, a.tokens_are, due_some (end_macro s).context); bytes_are = omega (arith, a.bytes_are) }
+    record {
+      tokens_are = omega (arith, a.tokens_are, due_some (end_macro s).context);
+      bytes_are = omega (arith, a.bytes_are);
+    }
 code-adds Format s = quiet s _ (end_macro_in-adds s.context s)
-code-adds Program s = adds_within 2 1 (adds_both (end_macro_in-adds s.context s) (begin_part-adds part.Unnamed _)) (omega arith) (omega arith)
-code-adds InsertDefs s = adds_within 2 1 (adds_both (give-adds Defs s) (give-adds (Mark s.here) _)) (omega arith) (omega arith)
+code-adds Program s =
+    adds_within 2 1 (adds_both (end_macro_in-adds s.context s) (begin_part-adds part.Unnamed _))
+    (omega arith) (omega arith)
+code-adds InsertDefs s =
+    adds_within 2 1 (adds_both (give-adds Defs s) (give-adds (Mark s.here) _)) (omega arith) (omega arith)
 code-adds Joins s = adds_within 2 1 (adds_both (drops s) (give-adds Join _)) (omega arith) (omega arith)
 code-adds GiveAt s = adds_within 2 1 (give-adds (Punct (codes "@")) s) (omega arith) (omega arith)
 code-adds (Faulty k) s = quiet s _ (fault-adds k s.here s)
@@ -156,7 +184,8 @@ code-adds effect.Constant s = quiet s s (nothing_adds s)
 pub letter-adds : (byte : ℕ) (text : List ℕ) (s : State) → Adds 0 (length text) s (letter byte (Some text) s)
 letter-adds byte text s = record {
   tokens_are = omega arith;
-  bytes_are = omega (arith, total-append replacement_size s.contents.replacements ((record { byte = byte; text = text }) ∷ []));
+  bytes_are =
+      omega (arith, total-append replacement_size s.contents.replacements ((record { byte = byte; text = text }) ∷ []));
 }
 
 pub control_text-adds : (how : End) (s : State) → Adds 0 0 s (control_text how s)
@@ -167,12 +196,14 @@ control_text-adds Open s = nothing_adds s
 
 pub verbatim-adds : (text : List ℕ) (how : End) (s : State) → Adds 1 (length text) s (verbatim text how s)
 verbatim-adds text Closed s = give-adds (Verbatim text) s
-verbatim-adds text Cut s = adds_within 1 (length text) (fault-adds ControlTextDidNotEnd s.here s) (omega arith) (omega arith)
+verbatim-adds text Cut s =
+    adds_within 1 (length text) (fault-adds ControlTextDidNotEnd s.here s) (omega arith) (omega arith)
 verbatim-adds text Nested s = adds_within 1 (length text) (nothing_adds s) (omega arith) (omega arith)
 verbatim-adds text Open s = adds_within 1 (length text) (nothing_adds s) (omega arith) (omega arith)
 
 -- what is due in the head is paid
-pub define-adds : (bytes : List ℕ) (tight : Bool) (s : State) → due s.context ≡ 2 → Adds 1 (length bytes) s (define bytes tight s)
+pub define-adds : (bytes : List ℕ) (tight : Bool) (s : State)
+    → due s.context ≡ 2 → Adds 1 (length bytes) s (define bytes tight s)
 define-adds bytes true s h =
     let a = adds_both (opens part.Macro s) (give-adds (Word bytes) _) in
     record { tokens_are = omega (arith, a.tokens_are, h); bytes_are = omega (arith, a.bytes_are) }
@@ -193,21 +224,24 @@ name_fault-adds Nested p s = fault-adds NamesDoNotNest p s
 name_fault-adds Open p s = nothing_adds s
 
 use_name-adds : (n : NameRef) (opens : Bool) (p : Place) (s : State) → Adds 2 0 s (use_name n opens p s)
-use_name-adds n true p s = adds_both (adds_both (give-adds (Name n) s) (give-adds (Mark s.here) _)) (fault-adds MissingAt p _)
+use_name-adds n true p s =
+    adds_both (adds_both (give-adds (Name n) s) (give-adds (Mark s.here) _)) (fault-adds MissingAt p _)
 use_name-adds n false p s = adds_both (give-adds (Name n) s) (give-adds (Mark s.here) _)
 
 open_name-adds : (n : NameRef) (opens : Bool) (s : State) → Adds 2 0 s (open_name n opens s)
 open_name-adds n true s = adds_both (end_macro_in-adds s.context s) (begin_part-adds (part.Named n) _)
 open_name-adds n false s = adds_within 2 0 (end_macro_in-adds s.context s) (omega arith) (omega arith)
 
-pub name_in-adds : (c : Context) (n : NameRef) (opens : Bool) (p : Place) (s : State) → Adds 2 0 s (name_in c n opens p s)
+pub name_in-adds : (c : Context) (n : NameRef) (opens : Bool) (p : Place) (s : State)
+    → Adds 2 0 s (name_in c n opens p s)
 name_in-adds Limbo n opens p s = adds_within 2 0 (nothing_adds s) (omega arith) (omega arith)
 name_in-adds TeX n opens p s = open_name-adds n opens s
 name_in-adds (Definition begun) n opens p s = adds_within 2 0 (nothing_adds s) (omega arith) (omega arith)
 name_in-adds Macro n opens p s = open_name-adds n opens s
 name_in-adds CText n opens p s = use_name-adds n opens p s
 
-pub occurs : (o : Occurrence) (how : End) (p : Place) (s : State) → Adds 0 (length o.text) s (name_fault how p (record s { contents = with_occurrence o s.contents }))
+pub occurs : (o : Occurrence) (how : End) (p : Place) (s : State)
+    → Adds 0 (length o.text) s (name_fault how p (record s { contents = with_occurrence o s.contents }))
 occurs o how p s =
     let a : Adds 0 (length o.text) s (record s { contents = with_occurrence o s.contents }) = record {
       tokens_are = omega arith;
@@ -217,6 +251,8 @@ occurs o how p s =
 
 pub literal-adds : (text : List ℕ) (how : End) (p : Place) (s : State) → Adds 1 (length text) s (literal text how p s)
 literal-adds text Closed p s = give-adds (Literal text) s
-literal-adds text Cut p s = adds_within 1 (length text) (adds_both (give-adds (Literal text) s) (fault-adds StringDidNotEnd p _)) (omega arith) (omega arith)
+literal-adds text Cut p s =
+    adds_within 1 (length text) (adds_both (give-adds (Literal text) s) (fault-adds StringDidNotEnd p _))
+    (omega arith) (omega arith)
 literal-adds text Nested p s = adds_within 1 (length text) (nothing_adds s) (omega arith) (omega arith)
 literal-adds text Open p s = adds_within 1 (length text) (nothing_adds s) (omega arith) (omega arith)

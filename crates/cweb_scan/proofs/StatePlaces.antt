@@ -50,7 +50,13 @@ module _ (known : Place → Bool) where
   K s = AreKnown known s
 
   pub give-known : (t : Token) (s : State) → strange known t ≡ 0 → K s → K (give t s)
-  give-known t s e k = record { marks = omega (arith, pushed-size (strange known) t s.contents.parts, k.marks, e); faults = k.faults; here = k.here; begun = k.begun }
+  give-known t s e k =
+      record {
+        marks = omega (arith, pushed-size (strange known) t s.contents.parts, k.marks, e);
+        faults = k.faults;
+        here = k.here;
+        begun = k.begun;
+      }
 
   not_strange : (p : Place) → known p ≡ true → strange known (Mark p) ≡ 0
   not_strange p h = ap (λ v. if v then 0 else 1) h
@@ -59,7 +65,14 @@ module _ (known : Place → Bool) where
   mark-known s k = give-known (Mark s.here) s (not_strange s.here k.here) k
 
   pub fault-known : (kind : ScanKind) (p : Place) (s : State) → known p ≡ true → K s → K (fault_at kind p s)
-  fault-known kind p s h k = record { marks = k.marks; faults = All-push (λ (f : ScanFault). known f.place ≡ true) s.faults (record { kind = kind; place = p }) k.faults h; here = k.here; begun = k.begun }
+  fault-known kind p s h k =
+      record {
+        marks = k.marks;
+        faults =
+            All-push (λ (f : ScanFault). known f.place ≡ true) s.faults (record { kind = kind; place = p }) k.faults h;
+        here = k.here;
+        begun = k.begun;
+      }
 
   pub moved-known : (p : Place) (s : State) → known p ≡ true → K s → K (moved p s)
   moved-known p s h k = record { marks = k.marks; faults = k.faults; here = h; begun = k.begun }
@@ -68,7 +81,13 @@ module _ (known : Place → Bool) where
   enters c s h k = record { marks = k.marks; faults = k.faults; here = k.here; begun = h }
 
   opens : (kind : PartKind) (s : State) → K s → K (record s { contents = with_open kind s.contents })
-  opens kind s k = record { marks = omega (arith, opened-size (strange known) kind s.contents.parts, k.marks); faults = k.faults; here = k.here; begun = k.begun }
+  opens kind s k =
+      record {
+        marks = omega (arith, opened-size (strange known) kind s.contents.parts, k.marks);
+        faults = k.faults;
+        here = k.here;
+        begun = k.begun;
+      }
 
   begin_part-known : (kind : PartKind) (s : State) → K s → K (begin_part kind s)
   begin_part-known kind s k =
@@ -78,7 +97,13 @@ module _ (known : Place → Bool) where
       record { marks = c.marks; faults = c.faults; here = c.here; begun = tt }
 
   end_part-known : (s : State) → K s → K (end_part s)
-  end_part-known s k = record { marks = omega (arith, closed-size (strange known) s.contents.parts, k.marks); faults = k.faults; here = k.here; begun = tt }
+  end_part-known s k =
+      record {
+        marks = omega (arith, closed-size (strange known) s.contents.parts, k.marks);
+        faults = k.faults;
+        here = k.here;
+        begun = tt;
+      }
 
   end_macro_in-known : (c : Context) (s : State) → K s → K (end_macro_in c s)
   end_macro_in-known Limbo s k = k
@@ -104,24 +129,29 @@ module _ (known : Place → Bool) where
   leave-known s k = leave_in-known s.context s k.begun k
 
   pub begin_section-known : (starred : Bool) (s : State) → K s → K (begin_section starred s)
-  begin_section-known starred s k = let a = leave-known s k in record { marks = a.marks; faults = a.faults; here = a.here; begun = tt }
+  begin_section-known starred s k =
+      let a = leave-known s k in record { marks = a.marks; faults = a.faults; here = a.here; begun = tt }
 
   -- LINE ENDS
 
-  token-known : (a b : Bool) (p : Place) → known p ≡ true → strange known (if a then Newline else (if b then Mark p else Newline)) ≡ 0
+  token-known : (a b : Bool) (p : Place) → known p ≡ true
+      → strange known (if a then Newline else (if b then Mark p else Newline)) ≡ 0
   token-known true b p h = refl
   token-known false true p h = not_strange p h
   token-known false false p h = refl
 
   line_end_token-known : (p : Place) (s : State) → known p ≡ true → strange known (line_end_token p s) ≡ 0
-  line_end_token-known p s h = token-known (in_directive s && is_punct (codes "\\") (directive s).last) ((in_directive s && s.folded) || not (follows s.here p)) p h
+  line_end_token-known p s h =
+      token-known (in_directive s && is_punct (codes "\\") (directive s).last)
+      ((in_directive s && s.folded) || not (follows s.here p)) p h
 
   line_end_in-known : (c : Context) (p : Place) (s : State) → known p ≡ true → K s → K (line_end_in c p s)
   line_end_in-known Limbo p s h k = moved-known p s h k
   line_end_in-known TeX p s h k = moved-known p s h k
   line_end_in-known (Definition begun) p s h k = moved-known p s h k
   line_end_in-known Macro p s h k = moved-known p (give Newline s) h (give-known Newline s refl k)
-  line_end_in-known CText p s h k = moved-known p (give (line_end_token p s) s) h (give-known (line_end_token p s) s (line_end_token-known p s h) k)
+  line_end_in-known CText p s h k =
+      moved-known p (give (line_end_token p s) s) h (give-known (line_end_token p s) s (line_end_token-known p s h) k)
 
   pub line_end-known : (p : Place) (s : State) → known p ≡ true → K s → K (line_end p s)
   line_end-known p s h k = line_end_in-known s.context p s h k
@@ -135,13 +165,16 @@ module _ (known : Place → Bool) where
   -- ITEMS
 
   pub blank-known : (s : State) → K s → K (blank s)
-  blank-known s k = elim (in_directive s && not (is_blank (directive s).last)) as (λ v. K (if v then give Blank s else s)) [
-    | true ↦ give-known Blank s refl k
-    | false ↦ k
-  ]
+  blank-known s k =
+      elim (in_directive s && not (is_blank (directive s).last)) as (λ v. K (if v then give Blank s else s)) [
+        | true ↦ give-known Blank s refl k
+        | false ↦ k
+      ]
 
   pub punctuator-known : (bytes : List ℕ) (s : State) → K s → K (punctuator bytes s)
-  punctuator-known bytes s k = let a = give-known (Punct bytes) s refl k in record { marks = a.marks; faults = a.faults; here = a.here; begun = a.begun }
+  punctuator-known bytes s k =
+      let a = give-known (Punct bytes) s refl k in
+      record { marks = a.marks; faults = a.faults; here = a.here; begun = a.begun }
 
   pub code-known : (e : Effect) (s : State) → K s → K (code e s)
   code-known Nothing s k = k
@@ -208,30 +241,37 @@ module _ (known : Place → Bool) where
   name_fault-known Nested p s h k = fault-known NamesDoNotNest p s h k
   name_fault-known Open p s h k = k
 
-  use_name-known : (n : NameRef) (opens : Bool) (p : Place) (s : State) → known p ≡ true → K s → K (use_name n opens p s)
-  use_name-known n true p s h k = fault-known MissingAt p (give (Mark s.here) (give (Name n) s)) h (mark-known (give (Name n) s) (give-known (Name n) s refl k))
+  use_name-known : (n : NameRef) (opens : Bool) (p : Place) (s : State)
+      → known p ≡ true → K s → K (use_name n opens p s)
+  use_name-known n true p s h k =
+      fault-known MissingAt p (give (Mark s.here) (give (Name n) s)) h
+      (mark-known (give (Name n) s) (give-known (Name n) s refl k))
   use_name-known n false p s h k = mark-known (give (Name n) s) (give-known (Name n) s refl k)
 
   open_name-known : (n : NameRef) (opens : Bool) (s : State) → K s → K (open_name n opens s)
   open_name-known n true s k = begin_part-known (part.Named n) (end_macro s) (end_macro-known s k)
   open_name-known n false s k = end_macro-known s k
 
-  name_in-known : (c : Context) (n : NameRef) (opens : Bool) (p : Place) (s : State) → known p ≡ true → K s → K (name_in c n opens p s)
+  name_in-known : (c : Context) (n : NameRef) (opens : Bool) (p : Place) (s : State)
+      → known p ≡ true → K s → K (name_in c n opens p s)
   name_in-known Limbo n opens p s h k = k
   name_in-known TeX n opens p s h k = open_name-known n opens s k
   name_in-known (Definition begun) n opens p s h k = k
   name_in-known Macro n opens p s h k = open_name-known n opens s k
   name_in-known CText n opens p s h k = use_name-known n opens p s h k
 
-  pub occurrence-known : (is_file : Bool) (text : List ℕ) (how : End) (opens : Bool) (p : Place) (s : State) → known p ≡ true → K s → K (occurrence is_file text how opens p s)
+  pub occurrence-known : (is_file : Bool) (text : List ℕ) (how : End) (opens : Bool) (p : Place) (s : State)
+      → known p ≡ true → K s → K (occurrence is_file text how opens p s)
   occurrence-known is_file text how opens p s h k =
       let n : NameRef = record { 0 = length s.contents.occurrences } in
       let t = with_name (occurrence_in is_file text) s in
       let a : K t = record { marks = k.marks; faults = k.faults; here = k.here; begun = k.begun } in
       name_in-known s.context n opens p (name_fault how p t) h (name_fault-known how p t h a)
 
-  pub literal-known : (text : List ℕ) (how : End) (p : Place) (s : State) → known p ≡ true → K s → K (literal text how p s)
+  pub literal-known : (text : List ℕ) (how : End) (p : Place) (s : State)
+      → known p ≡ true → K s → K (literal text how p s)
   literal-known text Closed p s h k = give-known (Literal text) s refl k
-  literal-known text Cut p s h k = fault-known StringDidNotEnd p (give (Literal text) s) h (give-known (Literal text) s refl k)
+  literal-known text Cut p s h k =
+      fault-known StringDidNotEnd p (give (Literal text) s) h (give-known (Literal text) s refl k)
   literal-known text Nested p s h k = k
   literal-known text Open p s h k = k

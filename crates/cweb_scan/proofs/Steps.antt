@@ -91,7 +91,9 @@ bare_is false false = refl
 
 stage_of_some : (ts : List Token) (t : Token) → stage_of (Some (t ∷ ts)) ≡ further (stage_of (Some ts)) t
 stage_of_some ts Blank = refl
-stage_of_some ts (Word b) = ap (λ v. if bytes_eq b (codes "include") && v then Include else Further) (sym (bare_is (is_bare ts) (is_include ts)))
+stage_of_some ts (Word b) =
+    ap (λ v. if bytes_eq b (codes "include") && v then Include else Further)
+    (sym (bare_is (is_bare ts) (is_include ts)))
 stage_of_some ts (Punct b) = refl
 stage_of_some ts Newline = refl
 stage_of_some ts (Mark p) = refl
@@ -104,28 +106,38 @@ stage_of_some ts (Name n) = refl
 stage_of_some ts (Head n) = refl
 stage_of_some ts (Tail n) = refl
 
-choice : (v : Bool) (ts : List Token) (t : Token) → stage_of (if v then None else Some (t ∷ ts)) ≡ (if v then Outside else further (stage_of (Some ts)) t)
+choice : (v : Bool) (ts : List Token) (t : Token)
+    → stage_of (if v then None else Some (t ∷ ts)) ≡ (if v then Outside else further (stage_of (Some ts)) t)
 choice true ts t = refl
 choice false ts t = stage_of_some ts t
 
-stage-seen : (o : Option (List Token)) (l : Option Token) (t : Token) → stage_of (directive_tokens o l t) ≡ next_stage (record { stage = stage_of o; last = last_seen l }) t
-stage-seen None l t = stage_when (is_punct (codes "#") (Some t) && ends_line l) ∙ ap (λ v. if is_punct (codes "#") (Some t) && v then Bare else Outside) (sym (ends-seen l))
+stage-seen : (o : Option (List Token)) (l : Option Token) (t : Token)
+    → stage_of (directive_tokens o l t) ≡ next_stage (record { stage = stage_of o; last = last_seen l }) t
+stage-seen None l t =
+    stage_when (is_punct (codes "#") (Some t) && ends_line l)
+    ∙ ap (λ v. if is_punct (codes "#") (Some t) && v then Bare else Outside) (sym (ends-seen l))
 stage-seen (Some ts) l t =
     choice (ends_line (Some t) && not (goes_over l t)) ts t
-    ∙ (λ i. if sym (ends-seen (Some t)) i && not (sym (over-seen l t) i) then Outside else further (stage_of (Some ts)) t)
-    ∙ ap (λ v. if v then (if is_punct (codes "#") (Some t) && is_line_end (last_seen l) then Bare else Outside)
-    else (if is_line_end (last_of t) && not (kept.goes_over (last_seen l) t) then Outside else further (stage_of (Some ts)) t)) (sym (not_outside (is_bare ts) (is_include ts)))
+    ∙ (λ i.
+    if sym (ends-seen (Some t)) i && not (sym (over-seen l t) i) then Outside else further (stage_of (Some ts)) t)
+    ∙ ap (λ v.
+    if v then (if is_punct (codes "#") (Some t) && is_line_end (last_seen l) then Bare else Outside)
+    else (if is_line_end (last_of t) && not (kept.goes_over (last_seen l) t)
+    then Outside else further (stage_of (Some ts)) t))
+    (sym (not_outside (is_bare ts) (is_include ts)))
 
 step-seen : (d : spec.Directive) (t : Token) → seen_directive (with_next d t) ≡ step (seen_directive d) t
 step-seen d t = ap (λ (g : Stage). record { stage = g; last = last_of t }) (stage-seen d.tokens d.last t)
 
-pub directive-pushed : (ts : List Token) (t : Token) → seen_directive (directive_of (ts ++ t ∷ [])) ≡ step (seen_directive (directive_of ts)) t
+pub directive-pushed : (ts : List Token) (t : Token)
+    → seen_directive (directive_of (ts ++ t ∷ [])) ≡ step (seen_directive (directive_of ts)) t
 directive-pushed ts t = ap seen_directive (fold-append with_next _ ts (t ∷ [])) ∙ step-seen (directive_of ts) t
 
 -- LAYOUT THAT IS LAST
 
 -- one more token that is layout
-last_layout : (ts : List Token) (t : Token) → is_layout t ≡ true → without_last is_layout (ts ++ t ∷ []) ≡ without_last is_layout ts
+last_layout : (ts : List Token) (t : Token) → is_layout t ≡ true
+    → without_last is_layout (ts ++ t ∷ []) ≡ without_last is_layout ts
 last_layout [] t h = ap (λ v. if v then [] else t ∷ []) h
 last_layout (x ∷ ts) t h = ap (before_last is_layout x) (last_layout ts t h)
 
@@ -138,11 +150,14 @@ last_solid : (ts : List Token) (t : Token) → is_layout t ≡ false → without
 last_solid [] t h = ap (λ v. if v then [] else t ∷ []) h
 last_solid (x ∷ ts) t h = ap (before_last is_layout x) (last_solid ts t h) ∙ before_some x ts t
 
-before_twice : (x : Token) (ts : List Token) → without_last is_layout ts ≡ ts → without_last is_layout (before_last is_layout x ts) ≡ before_last is_layout x ts
-before_twice x [] h = elim (is_layout x) as (λ v. is_layout x ≡ v → without_last is_layout (if v then [] else x ∷ []) ≡ (if v then [] else x ∷ [])) [
-  | true ↦ λ e. refl
-  | false ↦ λ e. ap (λ v. if v then [] else x ∷ []) e
-] refl
+before_twice : (x : Token) (ts : List Token) → without_last is_layout ts ≡ ts
+    → without_last is_layout (before_last is_layout x ts) ≡ before_last is_layout x ts
+before_twice x [] h =
+    elim (is_layout x)
+    as (λ v. is_layout x ≡ v → without_last is_layout (if v then [] else x ∷ []) ≡ (if v then [] else x ∷ [])) [
+      | true ↦ λ e. refl
+      | false ↦ λ e. ap (λ v. if v then [] else x ∷ []) e
+    ] refl
 before_twice x (u ∷ us) h = ap (before_last is_layout x) h
 
 last_twice : (ts : List Token) → without_last is_layout (without_last is_layout ts) ≡ without_last is_layout ts
@@ -158,12 +173,15 @@ is_part (Definition begun) h = cc
 is_part Macro h = refl
 is_part CText h = refl
 
-solid_given : (d l : Directive) (ts : List Token) (t : Token) → d ≡ after_tokens ts → l ≡ after_tokens (without_last is_layout ts)
+solid_given : (d l : Directive) (ts : List Token) (t : Token)
+    → d ≡ after_tokens ts → l ≡ after_tokens (without_last is_layout ts)
     → (if is_layout t then l else step d t) ≡ after_tokens (without_last is_layout (ts ++ t ∷ []))
-solid_given d l ts t h k = (elim (is_layout t) as (λ v. is_layout t ≡ v → (if v then l else step d t) ≡ after_tokens (without_last is_layout (ts ++ t ∷ []))) [
-  | true ↦ λ e. k ∙ ap after_tokens (sym (last_layout ts t e))
-  | false ↦ λ e. ap (λ d. step d t) h ∙ sym (directive-pushed ts t) ∙ ap after_tokens (sym (last_solid ts t e))
-]) refl
+solid_given d l ts t h k =
+    (elim (is_layout t)
+    as (λ v. is_layout t ≡ v → (if v then l else step d t) ≡ after_tokens (without_last is_layout (ts ++ t ∷ []))) [
+      | true ↦ λ e. k ∙ ap after_tokens (sym (last_layout ts t e))
+      | false ↦ λ e. ap (λ d. step d t) h ∙ sym (directive-pushed ts t) ∙ ap after_tokens (sym (last_solid ts t e))
+    ]) refl
 
 pub tied_given : (d l : Directive) (c : Context) (o : Option Part) (t : Token) → IsTied d l c o → has_part c ≡ true
     → IsTied (step d t) (if is_layout t then l else step d t) c (option_map (longer t) o)
@@ -176,9 +194,11 @@ tied_given d l c (Some p) t tied h = record {
 }
 
 dropped_tokens : (p : Part) → is_macro p.kind ≡ false → (without_layout p).tokens ≡ without_last is_layout p.tokens
-dropped_tokens p h = ap (λ v. let n = (if v then 2 else 0) in take n p.tokens ++ without_last is_layout (drop n p.tokens)) h
+dropped_tokens p h =
+    ap (λ v. let n = (if v then 2 else 0) in take n p.tokens ++ without_last is_layout (drop n p.tokens)) h
 
-pub tied_dropped : (d l : Directive) (c : Context) (o : Option Part) → IsTied d l c o → IsTied l l c (option_map without_layout o)
+pub tied_dropped : (d l : Directive) (c : Context) (o : Option Part)
+    → IsTied d l c o → IsTied l l c (option_map without_layout o)
 tied_dropped d l c None tied = record {
   part_is_open = tied.part_is_open;
   is_no_macro = tied.is_no_macro;
@@ -189,11 +209,16 @@ tied_dropped d l c (Some p) tied = record {
   part_is_open = tied.part_is_open;
   is_no_macro = tied.is_no_macro;
   directive_is = λ e. tied.solid_is e ∙ ap after_tokens (sym (dropped_tokens p (tied.is_no_macro e)));
-  solid_is = λ e. tied.solid_is e ∙ ap after_tokens (sym (last_twice p.tokens) ∙ ap (without_last is_layout) (sym (dropped_tokens p (tied.is_no_macro e))));
+  solid_is = λ e.
+      tied.solid_is e
+      ∙ ap after_tokens
+      (sym (last_twice p.tokens) ∙ ap (without_last is_layout) (sym (dropped_tokens p (tied.is_no_macro e))));
 }
 
-pub tied_opened : (c : Context) (kind : PartKind) → has_part c ≡ true → (spec.is_c c ≡ true → is_macro kind ≡ false) → IsTied outside outside c (Some (record { kind = kind; tokens = [] }))
-tied_opened c kind h k = record { part_is_open = sym h; is_no_macro = k; directive_is = λ e. refl; solid_is = λ e. refl }
+pub tied_opened : (c : Context) (kind : PartKind) → has_part c ≡ true → (spec.is_c c ≡ true → is_macro kind ≡ false)
+    → IsTied outside outside c (Some (record { kind = kind; tokens = [] }))
+tied_opened c kind h k =
+    record { part_is_open = sym h; is_no_macro = k; directive_is = λ e. refl; solid_is = λ e. refl }
 
 pub tied_closed : (d l : Directive) (c : Context) → has_part c ≡ false → IsTied d l c None
 tied_closed d l c h = record {
@@ -221,7 +246,8 @@ bare_includes (Head n ∷ ts) h = refl
 bare_includes (Tail n ∷ ts) h = refl
 bare_includes (Mark p ∷ ts) h = refl
 
-include_when : (a b : Bool) → (a ≡ true → b ≡ false) → is_include_stage (if a then Bare else (if b then Include else Further)) ≡ b
+include_when : (a b : Bool) → (a ≡ true → b ≡ false)
+    → is_include_stage (if a then Bare else (if b then Include else Further)) ≡ b
 include_when true b h = sym (h refl)
 include_when false true h = refl
 include_when false false h = refl

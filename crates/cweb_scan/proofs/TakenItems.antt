@@ -30,8 +30,11 @@ reading s later = record { state = s; later = later }
 abbrev pub state_after : State → Piece → State
 state_after s p = (after (reading s []) p).state
 
-item_line : (k : Kind) (bytes : List ℕ) (s : State) (later : List Place) → InLine k bytes → item k bytes (reading s later) ≡ reading (item k bytes (reading s [])).state later
-item_line Skipped bytes s later h = none-line moved bytes (reading s later) h ∙ ap (λ (r : Reading). reading r.state later) (sym (none-line moved bytes (reading s []) h))
+item_line : (k : Kind) (bytes : List ℕ) (s : State) (later : List Place) → InLine k bytes
+    → item k bytes (reading s later) ≡ reading (item k bytes (reading s [])).state later
+item_line Skipped bytes s later h =
+    none-line moved bytes (reading s later) h
+    ∙ ap (λ (r : Reading). reading r.state later) (sym (none-line moved bytes (reading s []) h))
 item_line (Section starred) bytes s later h = refl
 item_line (Code e) bytes s later h = refl
 item_line (Letter byte text) bytes s later h = refl
@@ -39,13 +42,18 @@ item_line (ControlText how) bytes s later h = refl
 item_line (Verbatim us how) bytes s later h = refl
 item_line (Constant v) bytes s later h = refl
 item_line (Occurrence is_file us how opens) bytes s later h =
-    ap (on (occurrence is_file (text_in us) how opens s.here)) (none-line moved bytes (reading s later) h) ∙ ap (λ (r : Reading). reading (occurrence is_file (text_in us) how opens s.here r.state) later) (sym (none-line moved bytes (reading s []) h))
+    ap (on (occurrence is_file (text_in us) how opens s.here)) (none-line moved bytes (reading s later) h)
+    ∙ ap (λ (r : Reading). reading (occurrence is_file (text_in us) how opens s.here r.state) later)
+    (sym (none-line moved bytes (reading s []) h))
 item_line Blanks bytes s later h = refl
 item_line LineEnd bytes s later h = absurd h
 item_line (Comment how) bytes s later h =
-    ap (on (comment how s.here)) (none-line comment_line_end bytes (reading (blank s) later) h) ∙ ap (λ (r : Reading). reading (comment how s.here r.state) later) (sym (none-line comment_line_end bytes (reading (blank s) []) h))
+    ap (on (comment how s.here)) (none-line comment_line_end bytes (reading (blank s) later) h)
+    ∙ ap (λ (r : Reading). reading (comment how s.here r.state) later)
+    (sym (none-line comment_line_end bytes (reading (blank s) []) h))
 item_line (Quoted us how) bytes s later h =
-    ap (on (literal (text_in us) how s.here)) (units_line s later us h) ∙ ap (λ (r : Reading). reading (literal (text_in us) how s.here r.state) later) (sym (units_line s [] us h))
+    ap (on (literal (text_in us) how s.here)) (units_line s later us h)
+    ∙ ap (λ (r : Reading). reading (literal (text_in us) how s.here r.state) later) (sym (units_line s [] us h))
 item_line (Defined tight) bytes s later h = refl
 item_line Identifier bytes s later h = refl
 item_line Numeral bytes s later h = refl
@@ -62,37 +70,50 @@ run_line_item r b t more e h =
     let fits = (fair r.state b t).within in
     ap (fold after r) (pieces_first r b (t ++ more) (fair r.state b (t ++ more)).some)
     ∙ ap (with_front r (b ∷ t ++ more)) (front_line r.state.context (names_include r.state) b t more e h)
-    ∙ ap (λ u. run (after r (record { kind = f.kind; bytes = u })) (drop f.size (b ∷ t ++ more))) (take-append-le f.size (b ∷ t) more fits)
+    ∙ ap (λ u. run (after r (record { kind = f.kind; bytes = u })) (drop f.size (b ∷ t ++ more)))
+    (take-append-le f.size (b ∷ t) more fits)
     ∙ ap (λ u. run (after r (first r (b ∷ t))) u) (drop-append-le f.size (b ∷ t) more fits)
 
 -- what is read after a whole item of a line, and what follows
-pub taken_item : (s : State) (later : List Place) (b : ℕ) (t more : List ℕ) → AtLineEnd more → opens_in s.context (b ∷ t) ≡ false
+pub taken_item : (s : State) (later : List Place) (b : ℕ) (t more : List ℕ)
+    → AtLineEnd more → opens_in s.context (b ∷ t) ≡ false
     → InLine (front_of s (b ∷ t)).kind (take (front_of s (b ∷ t)).size (b ∷ t))
-    → run (reading s later) (b ∷ t ++ more) ≡ run (reading (state_after s (first (reading s []) (b ∷ t))) later) (drop (front_of s (b ∷ t)).size (b ∷ t) ++ more)
+    → run (reading s later) (b ∷ t ++ more)
+    ≡ run (reading (state_after s (first (reading s []) (b ∷ t))) later)
+    (drop (front_of s (b ∷ t)).size (b ∷ t) ++ more)
 taken_item s later b t more e ends h =
     let f = front_of s (b ∷ t) in
     run_line_item (reading s later) b t more e ends
-    ∙ ap (λ (r : Reading). run r (drop f.size (b ∷ t) ++ more)) (item_line f.kind (take f.size (b ∷ t)) (enter f.kind s) later h)
+    ∙ ap (λ (r : Reading). run r (drop f.size (b ∷ t) ++ more))
+    (item_line f.kind (take f.size (b ∷ t)) (enter f.kind s) later h)
 
 -- an item that ends in its line
-pub taken : (s : State) (later : List Place) (b : ℕ) (t more : List ℕ) → IsLine (b ∷ t) → AtLineEnd more → opens_in s.context (b ∷ t) ≡ false
-    → run (reading s later) (b ∷ t ++ more) ≡ run (reading (state_after s (first (reading s []) (b ∷ t))) later) (drop (front_of s (b ∷ t)).size (b ∷ t) ++ more)
+pub taken : (s : State) (later : List Place) (b : ℕ) (t more : List ℕ)
+    → IsLine (b ∷ t) → AtLineEnd more → opens_in s.context (b ∷ t) ≡ false
+    → run (reading s later) (b ∷ t ++ more)
+    ≡ run (reading (state_after s (first (reading s []) (b ∷ t))) later)
+    (drop (front_of s (b ∷ t)).size (b ∷ t) ++ more)
 taken s later b t more h e ends = taken_item s later b t more e ends (stands s.context (names_include s) b t h)
 
 -- a head with a literal, one that goes on after the line too: the definition is dropped, and text goes on
 no_name : (t : List ℕ) → IsPast t → text_opens in_text t ≡ false
 no_name t p = λ i. if p.section i then false else (if p.code i then opens_code in_text t else false)
 
-pub head_raw_line : (b : ℕ) (t more : List ℕ) → AtLineEnd more → IsPast (b ∷ t) → starts_raw (b ∷ t) ≡ true → head_front (b ∷ t ++ more) ≡ head_front (b ∷ t)
+pub head_raw_line : (b : ℕ) (t more : List ℕ) → AtLineEnd more → IsPast (b ∷ t)
+    → starts_raw (b ∷ t) ≡ true → head_front (b ∷ t ++ more) ≡ head_front (b ∷ t)
 head_raw_line b t more e p h =
     let u = b ∷ t in
-    ap (λ (f : Front). head_as f.kind f (u ++ more)) (c_front_raw in_macro true false (u ++ more) (past-line b t more e p) (starts_raw_line u more e ∙ h))
+    ap (λ (f : Front). head_as f.kind f (u ++ more))
+    (c_front_raw in_macro true false (u ++ more) (past-line b t more e p) (starts_raw_line u more e ∙ h))
     ∙ text_front_line in_text b t more e (no_name u p)
     ∙ sym (ap (λ (f : Front). head_as f.kind f u) (c_front_raw in_macro true false u p h))
 
-pub head_literal_line : (b : ℕ) (t more : List ℕ) → AtLineEnd more → IsPast (b ∷ t) → starts_raw (b ∷ t) ≡ false → starts_literal (b ∷ t) ≡ true → head_front (b ∷ t ++ more) ≡ head_front (b ∷ t)
+pub head_literal_line : (b : ℕ) (t more : List ℕ) → AtLineEnd more → IsPast (b ∷ t) → starts_raw (b ∷ t) ≡ false
+    → starts_literal (b ∷ t) ≡ true → head_front (b ∷ t ++ more) ≡ head_front (b ∷ t)
 head_literal_line b t more e p g h =
     let u = b ∷ t in
-    ap (λ (f : Front). head_as f.kind f (u ++ more)) (c_front_literal in_macro true false (u ++ more) (past-line b t more e p) (starts_raw_line u more e ∙ g) (starts_literal_line u more e ∙ h))
+    ap (λ (f : Front). head_as f.kind f (u ++ more))
+    (c_front_literal in_macro true false (u ++ more) (past-line b t more e p)
+    (starts_raw_line u more e ∙ g) (starts_literal_line u more e ∙ h))
     ∙ text_front_line in_text b t more e (no_name u p)
     ∙ sym (ap (λ (f : Front). head_as f.kind f u) (c_front_literal in_macro true false u p g h))

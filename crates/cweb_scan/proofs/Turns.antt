@@ -38,7 +38,8 @@ abbrev pub between : State → Bool → Held
 between s g = record { state = s; item = Between; begun = g }
 
 -- an item that leaves no head
-pub staying_takes : (s new : State) (g : Bool) (n b : ℕ) (t : List ℕ) (f : Front) → IsLine (b ∷ t) → enter_in s.context (front_of s (b ∷ t)).kind s ≡ s → front_of s (b ∷ t) ≡ f → opens_in s.context (b ∷ t) ≡ false
+pub staying_takes : (s new : State) (g : Bool) (n b : ℕ) (t : List ℕ) (f : Front) → IsLine (b ∷ t)
+    → enter_in s.context (front_of s (b ∷ t)).kind s ≡ s → front_of s (b ∷ t) ≡ f → opens_in s.context (b ∷ t) ≡ false
     → Gives f (b ∷ t) n s new → Takes n (b ∷ t) (between s g) (between new g)
 staying_takes s new g n b t f line stays is ends gives =
     let u = b ∷ t in
@@ -46,7 +47,8 @@ staying_takes s new g n b t f line stays is ends gives =
     let p = first (reading s []) u in
     let fits = fair s b t in
     let same : state_after s p ≡ new =
-    ap (λ (v : State). (item f0.kind (take f0.size u) (reading v [])).state) stays ∙ ap (λ (v : Front). with_front v u s) is ∙ sym gives.state in
+    ap (λ (v : State). (item f0.kind (take f0.size u) (reading v [])).state) stays
+    ∙ ap (λ (v : Front). with_front v u s) is ∙ sym gives.state in
     let size : n ≡ f0.size = gives.size ∙ ap (λ (v : Front). v.size) (sym is) in
     let long = length-take-le f0.size u fits.within in
     let adds = piece-weight (reading s []) p (omega (arith, long, fits.some)) fits.pays in
@@ -60,13 +62,16 @@ staying_takes s new g n b t f line stays is ends gives =
           ∙ sym (taken s later b t more line e ends);
     }
 
-pub closed_takes : (s new : State) (g : Bool) (n b : ℕ) (t : List ℕ) (f : Front) → IsLine (b ∷ t) → is_head s.context ≡ false → front_of s (b ∷ t) ≡ f → opens_in s.context (b ∷ t) ≡ false
+pub closed_takes : (s new : State) (g : Bool) (n b : ℕ) (t : List ℕ) (f : Front) → IsLine (b ∷ t)
+    → is_head s.context ≡ false → front_of s (b ∷ t) ≡ f → opens_in s.context (b ∷ t) ≡ false
     → Gives f (b ∷ t) n s new → Takes n (b ∷ t) (between s g) (between new g)
-closed_takes s new g n b t f line head is ends gives = staying_takes s new g n b t f line (enter_same s.context (front_of s (b ∷ t)).kind s head) is ends gives
+closed_takes s new g n b t f line head is ends gives =
+    staying_takes s new g n b t f line (enter_same s.context (front_of s (b ∷ t)).kind s head) is ends gives
 
 -- THE RULES OF C TEXT
 
-by_test : (f : Rule → Bool) (v : Bool) (x : Rule) (y : Bool) (z : Rule) → y ≡ f z → (if v then f x else y) ≡ f (if v then x else z)
+by_test : (f : Rule → Bool) (v : Bool) (x : Rule) (y : Bool) (z : Rule)
+    → y ≡ f z → (if v then f x else y) ≡ f (if v then x else z)
 by_test f true x y z h = refl
 by_test f false x y z h = h
 
@@ -78,23 +83,35 @@ opens_by effect t rule.RawLiteral = opens_raw t
 opens_by effect t rule.Literal = opens_literal t
 opens_by effect t r = false
 
-rest_closed : (effect : ℕ → Effect) (t : List ℕ) (a b c : Bool) → false ≡ opens_by effect t (if a then rule.IncludedName else (if b then rule.Number else (if c then rule.Identifier else rule.Punctuator)))
+rest_closed : (effect : ℕ → Effect) (t : List ℕ) (a b c : Bool)
+    → false
+    ≡ opens_by effect t
+    (if a then rule.IncludedName
+    else (if b then rule.Number else (if c then rule.Identifier else rule.Punctuator)))
 rest_closed effect t true b c = refl
 rest_closed effect t false true c = refl
 rest_closed effect t false false true = refl
 rest_closed effect t false false false = refl
 
-pub c_opens-by : (effect : ℕ → Effect) (includes : Bool) (t : List ℕ) → c_opens effect t ≡ opens_by effect t (c_rule includes t)
+pub c_opens-by : (effect : ℕ → Effect) (includes : Bool) (t : List ℕ)
+    → c_opens effect t ≡ opens_by effect t (c_rule includes t)
 c_opens-by effect includes t =
     let f : Rule → Bool = opens_by effect t in
-    by_test f (first_is is_blank t) rule.Blanks _ _ (by_test f (first_is is_line_end t) rule.LineEnd _ _ (by_test f (begins (codes "/*") t) rule.Comment _ _
-    (by_test f (begins (codes "//") t) rule.LineComment _ _ (by_test f (starts_section t) rule.Section _ _ (by_test f (begins (codes "@") t) rule.Code _ _
-    (by_test f (starts_raw t) rule.RawLiteral _ _ (by_test f (starts_literal t) rule.Literal _ _
-    (rest_closed effect t (includes && starts_include t) (starts_number t) (first_is is_word_byte t)))))))))
+    by_test f (first_is is_blank t) rule.Blanks _ _
+    (by_test f (first_is is_line_end t) rule.LineEnd _ _
+    (by_test f (begins (codes "/*") t) rule.Comment _ _
+    (by_test f (begins (codes "//") t) rule.LineComment _ _
+    (by_test f (starts_section t) rule.Section _ _
+    (by_test f (begins (codes "@") t) rule.Code _ _
+    (by_test f (starts_raw t) rule.RawLiteral _ _
+    (by_test f (starts_literal t) rule.Literal _ _
+    (rest_closed effect t (includes && starts_include t)
+    (starts_number t) (first_is is_word_byte t)))))))))
 
 -- WHAT A RULE SAYS OF THE TEXT
 
-pub later : (is : Rule → Bool) (v : Bool) (x y : Rule) → is x ≡ false → is (if v then x else y) ≡ true → (v ≡ false) × (is y ≡ true)
+pub later : (is : Rule → Bool) (v : Bool) (x y : Rule) → is x ≡ false
+    → is (if v then x else y) ≡ true → (v ≡ false) × (is y ≡ true)
 later is true x y f h = let wrong : true ≡ false = sym h ∙ f in cc
 later is false x y f h = (refl, h)
 
@@ -140,7 +157,8 @@ pub record IsPastSigns (t : List ℕ) : Type 0 where
   pub line_comment : begins (codes "//") t ≡ false
   pub section : starts_section t ≡ false
 
-past_signs : (is : Rule → Bool) (includes : Bool) (t : List ℕ) → is rule.Blanks ≡ false → is rule.LineEnd ≡ false → is rule.Comment ≡ false → is rule.LineComment ≡ false → is rule.Section ≡ false
+past_signs : (is : Rule → Bool) (includes : Bool) (t : List ℕ) → is rule.Blanks ≡ false
+    → is rule.LineEnd ≡ false → is rule.Comment ≡ false → is rule.LineComment ≡ false → is rule.Section ≡ false
     → is (c_rule includes t) ≡ true → IsPastSigns t × (is (after_section includes t) ≡ true)
 past_signs is includes t b e c l s h =
     let h0 = later is (first_is is_blank t) _ _ b h in
@@ -150,41 +168,76 @@ past_signs is includes t b e c l s h =
     let h4 = later is (starts_section t) _ _ s h3.1 in
     (record { blank = h0.0; line_end = h1.0; comment = h2.0; line_comment = h3.0; section = h4.0 }, h4.1)
 
-pub tail_is : (is : Rule → Bool) (a b c : Bool) → is rule.IncludedName ≡ false → is rule.Number ≡ false → is rule.Identifier ≡ false → is rule.Punctuator ≡ false
-    → is (if a then rule.IncludedName else (if b then rule.Number else (if c then rule.Identifier else rule.Punctuator))) ≡ false
+pub tail_is : (is : Rule → Bool) (a b c : Bool) → is rule.IncludedName ≡ false
+    → is rule.Number ≡ false → is rule.Identifier ≡ false → is rule.Punctuator ≡ false
+    → is
+    (if a then rule.IncludedName else (if b then rule.Number else (if c then rule.Identifier else rule.Punctuator)))
+    ≡ false
 tail_is is a b c f g h k = neither is a _ _ f (neither is b _ _ g (neither is c _ _ h k))
 
 pub comment_seen : (includes : Bool) (t : List ℕ) → c_rule includes t ≡ rule.Comment → begins (codes "/*") t ≡ true
 comment_seen includes t h =
     let h0 = later is_comment (first_is is_blank t) _ _ refl (ap is_comment h) in
     let h1 = later is_comment (first_is is_line_end t) _ _ refl h0.1 in
-    now is_comment (begins (codes "/*") t) rule.Comment _ (neither is_comment (begins (codes "//") t) rule.LineComment _ refl (neither is_comment (starts_section t) rule.Section _ refl
-    (neither is_comment (begins (codes "@") t) rule.Code _ refl (neither is_comment (starts_raw t) rule.RawLiteral _ refl (neither is_comment (starts_literal t) rule.Literal _ refl
-    (tail_is is_comment (includes && starts_include t) (starts_number t) (first_is is_word_byte t) refl refl refl refl)))))) h1.1
+    now is_comment (begins (codes "/*") t) rule.Comment _
+    (neither is_comment (begins (codes "//") t) rule.LineComment _ refl
+    (neither is_comment (starts_section t) rule.Section _ refl
+    (neither is_comment (begins (codes "@") t) rule.Code _ refl
+    (neither is_comment (starts_raw t) rule.RawLiteral _ refl
+    (neither is_comment (starts_literal t) rule.Literal _ refl
+    (tail_is is_comment (includes && starts_include t) (starts_number t)
+    (first_is is_word_byte t) refl refl refl refl))))))
+    h1.1
 
-pub code_seen : (includes : Bool) (t : List ℕ) → c_rule includes t ≡ rule.Code → (starts_section t ≡ false) × (begins (codes "@") t ≡ true)
+pub code_seen : (includes : Bool) (t : List ℕ) → c_rule includes t ≡ rule.Code
+    → (starts_section t ≡ false) × (begins (codes "@") t ≡ true)
 code_seen includes t h =
     let p = past_signs is_code includes t refl refl refl refl refl (ap is_code h) in (
       p.0.section,
-      now is_code (begins (codes "@") t) rule.Code _ (neither is_code (starts_raw t) rule.RawLiteral _ refl (neither is_code (starts_literal t) rule.Literal _ refl
-          (tail_is is_code (includes && starts_include t) (starts_number t) (first_is is_word_byte t) refl refl refl refl))) p.1,
+      now is_code (begins (codes "@") t) rule.Code _
+          (neither is_code (starts_raw t) rule.RawLiteral _ refl
+          (neither is_code (starts_literal t) rule.Literal _ refl
+          (tail_is is_code (includes && starts_include t) (starts_number t)
+          (first_is is_word_byte t) refl refl refl refl)))
+          p.1,
     )
 
 pub raw_seen : (includes : Bool) (t : List ℕ) → c_rule includes t ≡ rule.RawLiteral → IsPast t × (starts_raw t ≡ true)
 raw_seen includes t h =
     let p = past_signs is_raw includes t refl refl refl refl refl (ap is_raw h) in
     let q = later is_raw (begins (codes "@") t) _ _ refl p.1 in (
-      record { blank = p.0.blank; line_end = p.0.line_end; comment = p.0.comment; line_comment = p.0.line_comment; section = p.0.section; code = q.0 },
-      now is_raw (starts_raw t) rule.RawLiteral _ (neither is_raw (starts_literal t) rule.Literal _ refl
-          (tail_is is_raw (includes && starts_include t) (starts_number t) (first_is is_word_byte t) refl refl refl refl)) q.1,
+      record {
+        blank = p.0.blank;
+        line_end = p.0.line_end;
+        comment = p.0.comment;
+        line_comment = p.0.line_comment;
+        section = p.0.section;
+        code = q.0;
+      },
+      now is_raw (starts_raw t) rule.RawLiteral _
+          (neither is_raw (starts_literal t) rule.Literal _ refl
+          (tail_is is_raw (includes && starts_include t) (starts_number t)
+          (first_is is_word_byte t) refl refl refl refl))
+          q.1,
     )
 
-pub literal_seen : (includes : Bool) (t : List ℕ) → c_rule includes t ≡ rule.Literal → IsPast t × (starts_raw t ≡ false) × (starts_literal t ≡ true)
+pub literal_seen : (includes : Bool) (t : List ℕ) → c_rule includes t ≡ rule.Literal
+    → IsPast t × (starts_raw t ≡ false) × (starts_literal t ≡ true)
 literal_seen includes t h =
     let p = past_signs is_literal includes t refl refl refl refl refl (ap is_literal h) in
     let q = later is_literal (begins (codes "@") t) _ _ refl p.1 in
     let w = later is_literal (starts_raw t) _ _ refl q.1 in (
-      record { blank = p.0.blank; line_end = p.0.line_end; comment = p.0.comment; line_comment = p.0.line_comment; section = p.0.section; code = q.0 },
+      record {
+        blank = p.0.blank;
+        line_end = p.0.line_end;
+        comment = p.0.comment;
+        line_comment = p.0.line_comment;
+        section = p.0.section;
+        code = q.0;
+      },
       w.0,
-      now is_literal (starts_literal t) rule.Literal _ (tail_is is_literal (includes && starts_include t) (starts_number t) (first_is is_word_byte t) refl refl refl refl) w.1,
+      now is_literal (starts_literal t) rule.Literal _
+          (tail_is is_literal (includes && starts_include t) (starts_number t)
+          (first_is is_word_byte t) refl refl refl refl)
+          w.1,
     )

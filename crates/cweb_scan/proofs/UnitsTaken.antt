@@ -28,35 +28,49 @@ use Rattle.cweb_scan.proofs.OpenItems.{append-nil', each-line, whole-end, after_
 use Rattle.cweb_scan.proofs.TakenItems.{reading}
 
 abbrev at_front : (List ℕ → Look) → Look → List ℕ → End → List ℕ → Reach
-at_front look v u e t = elim v [ Goes n ↦ with_unit (take n u) (reach_in look e (n - 1) t) | Ends n how ↦ record { units = []; close = n; how = how } ]
+at_front look v u e t =
+    elim v [
+      | Goes n ↦ with_unit (take n u) (reach_in look e (n - 1) t)
+      | Ends n how ↦ record { units = []; close = n; how = how }
+    ]
 
-pub reach_end : (look : List ℕ → Look) (e how : End) (n b : ℕ) (t : List ℕ) → look (b ∷ t) ≡ Ends n how → reach look e (b ∷ t) ≡ record { units = []; close = n; how = how }
+pub reach_end : (look : List ℕ → Look) (e how : End) (n b : ℕ) (t : List ℕ)
+    → look (b ∷ t) ≡ Ends n how → reach look e (b ∷ t) ≡ record { units = []; close = n; how = how }
 reach_end look e how n b t h = ap (λ v. at_front look v (b ∷ t) e t) h
 
-reach_unit : (look : List ℕ → Look) (e : End) (n b : ℕ) (t : List ℕ) → look (b ∷ t) ≡ Goes (suc n) → reach look e (b ∷ t) ≡ with_unit (take (suc n) (b ∷ t)) (reach look e (drop n t))
+reach_unit : (look : List ℕ → Look) (e : End) (n b : ℕ) (t : List ℕ) → look (b ∷ t) ≡ Goes (suc n)
+    → reach look e (b ∷ t) ≡ with_unit (take (suc n) (b ∷ t)) (reach look e (drop n t))
 reach_unit look e n b t h =
     let less : suc n - 1 ≡ n = omega arith in
-    ap (λ v. at_front look v (b ∷ t) e t) h ∙ ap (λ k. with_unit (take (suc n) (b ∷ t)) (reach_in look e k t)) less ∙ ap (with_unit (take (suc n) (b ∷ t))) (reach_in-drop look e n t)
+    ap (λ v. at_front look v (b ∷ t) e t) h ∙ ap (λ k. with_unit (take (suc n) (b ∷ t)) (reach_in look e k t)) less
+    ∙ ap (with_unit (take (suc n) (b ∷ t))) (reach_in-drop look e n t)
 
-end_closed : (look : List ℕ → Look) (how : End) (n b : ℕ) (t : List ℕ) → IsEnd how → look (b ∷ t) ≡ Ends n how → is_open (reach look Open (b ∷ t)).how ≡ false
-end_closed look how n b t ends h = ap (λ (r : Reach). is_open r.how) (reach_end look Open how n b t h) ∙ whole-end how ends
+end_closed : (look : List ℕ → Look) (how : End) (n b : ℕ) (t : List ℕ) → IsEnd how
+    → look (b ∷ t) ≡ Ends n how → is_open (reach look Open (b ∷ t)).how ≡ false
+end_closed look how n b t ends h =
+    ap (λ (r : Reach). is_open r.how) (reach_end look Open how n b t h) ∙ whole-end how ends
 
-within_end : (look : List ℕ → Look) (how : End) (n b : ℕ) (t : List ℕ) → AllWithin look → look (b ∷ t) ≡ Ends n how → IsEnd how
+within_end : (look : List ℕ → Look) (how : End) (n b : ℕ) (t : List ℕ)
+    → AllWithin look → look (b ∷ t) ≡ Ends n how → IsEnd how
 within_end look how n b t within h = subst (λ (v : Look). IsWithin v (length (b ∷ t))) h (within b t)
 
-some_end : (look : List ℕ → Look) (how : End) (n b : ℕ) (t : List ℕ) → AllSome look → look (b ∷ t) ≡ Ends n how → IsEnd how
+some_end : (look : List ℕ → Look) (how : End) (n b : ℕ) (t : List ℕ)
+    → AllSome look → look (b ∷ t) ≡ Ends n how → IsEnd how
 some_end look how n b t some h = subst IsSome h (some b t)
 
 -- NAMES
 
 abbrev named : Place → Bool → List ℕ → End → ℕ → ℕ → List ℕ → Reading → Reading
-named begun is_file us how sign n t m = run (on (occurrence is_file us how (nat_lt 0 sign) begun) (each_line_end moved (take n t) m)) (drop n t)
+named begun is_file us how sign n t m =
+    run (on (occurrence is_file us how (nat_lt 0 sign) begun) (each_line_end moved (take n t) m)) (drop n t)
 
 abbrev sign_size : Reading → ℕ → ℕ
 sign_size m sign = if takes_sign m.state then sign else 0
 
 name_after : (begun : Place) (is_file : Bool) (us t more : List ℕ) (m : Reading) → IsLine t
-    → (let w = with_unit t (items.name more) in end_name begun is_file us w (sign_after w.how (drop (size_of w) (t ++ more))) (t ++ more) m) ≡ resume (InName begun is_file (us ++ unit_bytes t)) more m
+    → (let w = with_unit t (items.name more) in
+    end_name begun is_file us w (sign_after w.how (drop (size_of w) (t ++ more))) (t ++ more) m)
+    ≡ resume (InName begun is_file (us ++ unit_bytes t)) more m
 name_after begun is_file us t more m line =
     let vs : List (List ℕ) = t ∷ [] in
     let r = items.name more in
@@ -64,94 +78,169 @@ name_after begun is_file us t more m line =
     let n = size_of r + sign_size m sign in
     let f : length t + size_of r + sign_size m sign ≡ length t + n = omega arith in
     let g : size_of (after_units vs r) ≡ length t + size_of r = sizes vs t r (append-nil' t) in
-    ap (λ k. let g = sign_after r.how (drop k (t ++ more)) in named begun is_file (us ++ text_in (vs ++ r.units)) r.how g (k + sign_size m g) (t ++ more) m) g
-    ∙ ap (λ u. let g = sign_after r.how u in named begun is_file (us ++ text_in (vs ++ r.units)) r.how g ((length t + size_of r) + sign_size m g) (t ++ more) m) (drop-append-add t more (size_of r))
+    ap (λ k.
+    let g = sign_after r.how (drop k (t ++ more)) in
+    named begun is_file (us ++ text_in (vs ++ r.units)) r.how g (k + sign_size m g) (t ++ more) m)
+    g
+    ∙ ap (λ u.
+    let g = sign_after r.how u in
+    named begun is_file (us ++ text_in (vs ++ r.units)) r.how g
+    ((length t + size_of r) + sign_size m g) (t ++ more) m)
+    (drop-append-add t more (size_of r))
     ∙ ap (λ k. named begun is_file (us ++ text_in (vs ++ r.units)) r.how sign k (t ++ more) m) f
-    ∙ ap (λ u. run (on (occurrence is_file (us ++ text_in (vs ++ r.units)) r.how (nat_lt 0 sign) begun) (each_line_end moved u m)) (drop (length t + n) (t ++ more))) (take-append-add t more n)
-    ∙ ap (λ k. run (on (occurrence is_file (us ++ text_in (vs ++ r.units)) r.how (nat_lt 0 sign) begun) k) (drop (length t + n) (t ++ more))) (each-line moved t (take n more) m line)
-    ∙ ap (λ u. run (on (occurrence is_file (us ++ text_in (vs ++ r.units)) r.how (nat_lt 0 sign) begun) (each_line_end moved (take n more) m)) u) (drop-append-add t more n)
+    ∙ ap (λ u.
+    run (on (occurrence is_file (us ++ text_in (vs ++ r.units)) r.how (nat_lt 0 sign) begun)
+    (each_line_end moved u m))
+    (drop (length t + n) (t ++ more)))
+    (take-append-add t more n)
+    ∙ ap (λ k.
+    run (on (occurrence is_file (us ++ text_in (vs ++ r.units)) r.how (nat_lt 0 sign) begun) k)
+    (drop (length t + n) (t ++ more)))
+    (each-line moved t (take n more) m line)
+    ∙ ap (λ u.
+    run (on (occurrence is_file (us ++ text_in (vs ++ r.units)) r.how (nat_lt 0 sign) begun)
+    (each_line_end moved (take n more) m))
+    u)
+    (drop-append-add t more n)
     ∙ ap (λ x. named begun is_file x r.how sign n more m) (sym (append_assoc us (unit_bytes t) (text_in r.units)))
 
 -- a unit of a name
-pub name_unit : (begun : Place) (is_file : Bool) (us : List ℕ) (k b : ℕ) (t more : List ℕ) (m : Reading) → AtLineEnd more → IsLine (b ∷ t) → look_in_name (b ∷ t) ≡ Goes k → 0 < k → k ≤ length (b ∷ t)
-    → resume (InName begun is_file us) (b ∷ t ++ more) m ≡ resume (InName begun is_file (us ++ unit_bytes (take k (b ∷ t)))) (drop k (b ∷ t) ++ more) m
+pub name_unit : (begun : Place) (is_file : Bool) (us : List ℕ) (k b : ℕ) (t more : List ℕ) (m : Reading)
+    → AtLineEnd more → IsLine (b ∷ t) → look_in_name (b ∷ t) ≡ Goes k → 0 < k → k ≤ length (b ∷ t)
+    → resume (InName begun is_file us) (b ∷ t ++ more) m
+    ≡ resume (InName begun is_file (us ++ unit_bytes (take k (b ∷ t)))) (drop k (b ∷ t) ++ more) m
 name_unit begun is_file us zero b t more m e line h some fits = absurd (omega (arith, some))
 name_unit begun is_file us (suc n) b t more m e line h some fits =
     let u = b ∷ t in
     let unit = take (suc n) u in
     let first : take (suc n) (u ++ more) ≡ unit = take-append-le (suc n) u more fits in
     let rest : drop (suc n) (u ++ more) ≡ drop (suc n) u ++ more = drop-append-le (suc n) u more fits in
-    let cut : u ++ more ≡ unit ++ (drop (suc n) u ++ more) = sym (take-append-drop (suc n) (u ++ more)) ∙ (λ i. first i ++ rest i) in
+    let cut : u ++ more ≡ unit ++ (drop (suc n) u ++ more) =
+    sym (take-append-drop (suc n) (u ++ more)) ∙ (λ i. first i ++ rest i) in
     let seen : items.name (u ++ more) ≡ with_unit unit (items.name (drop (suc n) u ++ more)) =
-    reach_unit look_in_name Cut n b (t ++ more) (name-local more e b t ∙ h) ∙ (λ i. with_unit (first i) (items.name (rest i))) in
+    reach_unit look_in_name Cut n b (t ++ more) (name-local more e b t ∙ h)
+    ∙ (λ i. with_unit (first i) (items.name (rest i))) in
     ap (λ (w : Reach). end_name begun is_file us w (sign_after w.how (drop (size_of w) (u ++ more))) (u ++ more) m) seen
-    ∙ ap (λ v. let w = with_unit unit (items.name (drop (suc n) u ++ more)) in end_name begun is_file us w (sign_after w.how (drop (size_of w) v)) v m) cut
+    ∙ ap (λ v.
+    let w = with_unit unit (items.name (drop (suc n) u ++ more)) in
+    end_name begun is_file us w (sign_after w.how (drop (size_of w) v)) v m)
+    cut
     ∙ name_after begun is_file us unit (drop (suc n) u ++ more) m (IsLine-take (suc n) u line)
 
 -- a name's end
-pub name_end : (begun : Place) (is_file : Bool) (us : List ℕ) (n b : ℕ) (how : End) (t more : List ℕ) (m : Reading) → AtLineEnd more → IsLine (b ∷ t) → look_in_name (b ∷ t) ≡ Ends n how
+pub name_end : (begun : Place) (is_file : Bool) (us : List ℕ) (n b : ℕ) (how : End) (t more : List ℕ) (m : Reading)
+    → AtLineEnd more → IsLine (b ∷ t) → look_in_name (b ∷ t) ≡ Ends n how
     → resume (InName begun is_file us) (b ∷ t ++ more) m
-    ≡ (let sign = sign_after how (drop n (b ∷ t)) in run (on (occurrence is_file us how (nat_lt 0 sign) begun) m) (drop (n + sign_size m sign) (b ∷ t) ++ more))
+    ≡ (let sign = sign_after how (drop n (b ∷ t)) in
+    run (on (occurrence is_file us how (nat_lt 0 sign) begun) m) (drop (n + sign_size m sign) (b ∷ t) ++ more))
 name_end begun is_file us n b how t more m e line h =
     let u = b ∷ t in
     let z : 0 + n ≡ n = omega arith in
-    name_ends begun is_file us u more m e line (end_closed look_in_name how n b t (within_end look_in_name how n b t name-units h) h)
-    ∙ ap (λ (r : Reach). let sign = sign_after r.how (drop (size_of r) u) in run (on (occurrence is_file (us ++ text_in r.units) r.how (nat_lt 0 sign) begun) m) (drop (size_of r + sign_size m sign) u ++ more)) (reach_end look_in_name Cut how n b t h)
-    ∙ ap (λ k. let sign = sign_after how (drop k u) in run (on (occurrence is_file (us ++ []) how (nat_lt 0 sign) begun) m) (drop (k + sign_size m sign) u ++ more)) z
-    ∙ ap (λ x. let sign = sign_after how (drop n u) in run (on (occurrence is_file x how (nat_lt 0 sign) begun) m) (drop (n + sign_size m sign) u ++ more)) (append-nil' us)
+    name_ends begun is_file us u more m e line
+    (end_closed look_in_name how n b t (within_end look_in_name how n b t name-units h) h)
+    ∙ ap (λ (r : Reach).
+    let sign = sign_after r.how (drop (size_of r) u) in
+    run (on (occurrence is_file (us ++ text_in r.units) r.how (nat_lt 0 sign) begun) m)
+    (drop (size_of r + sign_size m sign) u ++ more))
+    (reach_end look_in_name Cut how n b t h)
+    ∙ ap (λ k.
+    let sign = sign_after how (drop k u) in
+    run (on (occurrence is_file (us ++ []) how (nat_lt 0 sign) begun) m)
+    (drop (k + sign_size m sign) u ++ more))
+    z
+    ∙ ap (λ x.
+    let sign = sign_after how (drop n u) in
+    run (on (occurrence is_file x how (nat_lt 0 sign) begun) m) (drop (n + sign_size m sign) u ++ more))
+    (append-nil' us)
 
 -- LITERALS
 
-quoted_unit : (look : List ℕ → Look) (begun : Place) (us : List ℕ) (k b : ℕ) (t more : List ℕ) (s : State) (later : List Place) → IsLocal look more → IsLine (b ∷ t) → look (b ∷ t) ≡ Goes k → 0 < k → k ≤ length (b ∷ t)
+quoted_unit : (look : List ℕ → Look) (begun : Place) (us : List ℕ)
+    (k b : ℕ) (t more : List ℕ) (s : State) (later : List Place) → IsLocal look more
+    → IsLine (b ∷ t) → look (b ∷ t) ≡ Goes k → 0 < k → k ≤ length (b ∷ t)
     → end_literal begun us (reach look Cut (b ∷ t ++ more)) (b ∷ t ++ more) (reading s later)
-    ≡ end_literal begun (us ++ unit_bytes (take k (b ∷ t))) (reach look Cut (drop k (b ∷ t) ++ more)) (drop k (b ∷ t) ++ more) (reading (unit_state s (take k (b ∷ t))) later)
+    ≡ end_literal begun (us ++ unit_bytes (take k (b ∷ t))) (reach look Cut (drop k (b ∷ t) ++ more))
+    (drop k (b ∷ t) ++ more) (reading (unit_state s (take k (b ∷ t))) later)
 quoted_unit look begun us zero b t more s later local line h some fits = absurd (omega (arith, some))
 quoted_unit look begun us (suc n) b t more s later local line h some fits =
     let u = b ∷ t in
     let unit = take (suc n) u in
     let first : take (suc n) (u ++ more) ≡ unit = take-append-le (suc n) u more fits in
     let rest : drop (suc n) (u ++ more) ≡ drop (suc n) u ++ more = drop-append-le (suc n) u more fits in
-    unit_passes look begun us n b (t ++ more) (reading s later) (local b t ∙ h) (omega (arith, fits, length-append t more))
-    ∙ (λ i. end_literal begun (us ++ unit_bytes (first i)) (reach look Cut (rest i)) (rest i) (literal_unit (reading s later) (first i)))
-    ∙ ap (λ (r : Reading). end_literal begun (us ++ unit_bytes unit) (reach look Cut (drop (suc n) u ++ more)) (drop (suc n) u ++ more) r) (one-unit s later unit (IsLine-take (suc n) u line))
+    unit_passes look begun us n b (t ++ more) (reading s later)
+    (local b t ∙ h) (omega (arith, fits, length-append t more))
+    ∙ (λ i.
+    end_literal begun (us ++ unit_bytes (first i)) (reach look Cut (rest i))
+    (rest i) (literal_unit (reading s later) (first i)))
+    ∙ ap (λ (r : Reading).
+    end_literal begun (us ++ unit_bytes unit)
+    (reach look Cut (drop (suc n) u ++ more)) (drop (suc n) u ++ more) r)
+    (one-unit s later unit (IsLine-take (suc n) u line))
 
-pub literal_unit_taken : (begun : Place) (quote : ℕ) (us : List ℕ) (k b : ℕ) (t more : List ℕ) (s : State) (later : List Place) → AtLineEnd more → IsLine (b ∷ t) → look_in_literal quote (b ∷ t) ≡ Goes k → 0 < k → k ≤ length (b ∷ t)
-    → resume (InLiteral begun quote us) (b ∷ t ++ more) (reading s later) ≡ resume (InLiteral begun quote (us ++ unit_bytes (take k (b ∷ t)))) (drop k (b ∷ t) ++ more) (reading (unit_state s (take k (b ∷ t))) later)
+pub literal_unit_taken : (begun : Place) (quote : ℕ) (us : List ℕ)
+    (k b : ℕ) (t more : List ℕ) (s : State) (later : List Place) → AtLineEnd more
+    → IsLine (b ∷ t) → look_in_literal quote (b ∷ t) ≡ Goes k → 0 < k → k ≤ length (b ∷ t)
+    → resume (InLiteral begun quote us) (b ∷ t ++ more) (reading s later)
+    ≡ resume (InLiteral begun quote (us ++ unit_bytes (take k (b ∷ t))))
+    (drop k (b ∷ t) ++ more) (reading (unit_state s (take k (b ∷ t))) later)
 literal_unit_taken begun quote us k b t more s later e line h some fits =
-    quoted_unit (look_in_literal quote) begun us k b t more s later (literal-local quote more (stops (λ x. x == 64) more refl e)) line h some fits
+    quoted_unit (look_in_literal quote) begun us k b t more s later
+    (literal-local quote more (stops (λ x. x == 64) more refl e)) line h some fits
 
-pub raw_unit_taken : (begun : Place) (d us : List ℕ) (k b : ℕ) (t more : List ℕ) (s : State) (later : List Place) → list_all in_line (sign_of d) ≡ true → AtLineEnd more → IsLine (b ∷ t) → look_in_raw (sign_of d) (b ∷ t) ≡ Goes k → 0 < k → k ≤ length (b ∷ t)
-    → resume (InRaw begun d us) (b ∷ t ++ more) (reading s later) ≡ resume (InRaw begun d (us ++ unit_bytes (take k (b ∷ t)))) (drop k (b ∷ t) ++ more) (reading (unit_state s (take k (b ∷ t))) later)
+pub raw_unit_taken : (begun : Place) (d us : List ℕ) (k b : ℕ) (t more : List ℕ) (s : State) (later : List Place)
+    → list_all in_line (sign_of d) ≡ true → AtLineEnd more → IsLine (b ∷ t)
+    → look_in_raw (sign_of d) (b ∷ t) ≡ Goes k → 0 < k → k ≤ length (b ∷ t)
+    → resume (InRaw begun d us) (b ∷ t ++ more) (reading s later)
+    ≡ resume (InRaw begun d (us ++ unit_bytes (take k (b ∷ t))))
+    (drop k (b ∷ t) ++ more) (reading (unit_state s (take k (b ∷ t))) later)
 raw_unit_taken begun d us k b t more s later clean e line h some fits =
-    quoted_unit (look_in_raw (sign_of d)) begun us k b t more s later (raw-local (sign_of d) more clean e) line h some fits
+    quoted_unit (look_in_raw (sign_of d)) begun us k b t more s
+    later (raw-local (sign_of d) more clean e) line h some fits
 
 abbrev closed_quoted : Place → List ℕ → Reach → List ℕ → List ℕ → Reading → Reading
 closed_quoted begun us r u more m =
     let rest = r.units ++ take r.close (drop (length (body r)) u) ∷ [] in
     run (on (literal (us ++ text_in rest) r.how begun) (fold literal_unit m rest)) (drop (size_of r) u ++ more)
 
-quoted_end : (look : List ℕ → Look) (begun : Place) (us : List ℕ) (n b : ℕ) (how : End) (t more : List ℕ) (s : State) (later : List Place) → IsLine (b ∷ t) → look (b ∷ t) ≡ Ends n how
+quoted_end : (look : List ℕ → Look) (begun : Place) (us : List ℕ) (n b : ℕ)
+    (how : End) (t more : List ℕ) (s : State) (later : List Place) → IsLine (b ∷ t) → look (b ∷ t) ≡ Ends n how
     → closed_quoted begun us (reach look Cut (b ∷ t)) (b ∷ t) more (reading s later)
-    ≡ run (reading (literal (us ++ unit_bytes (take n (b ∷ t))) how begun (unit_state s (take n (b ∷ t)))) later) (drop n (b ∷ t) ++ more)
+    ≡ run (reading (literal (us ++ unit_bytes (take n (b ∷ t))) how begun (unit_state s (take n (b ∷ t)))) later)
+    (drop n (b ∷ t) ++ more)
 quoted_end look begun us n b how t more s later line h =
     let u = b ∷ t in
     let unit = take n u in
     let z : 0 + n ≡ n = omega arith in
     ap (λ (r : Reach). closed_quoted begun us r u more (reading s later)) (reach_end look Cut how n b t h)
-    ∙ ap (λ k. run (on (literal (us ++ (unit_bytes unit ++ [])) how begun) (literal_unit (reading s later) unit)) (drop k u ++ more)) z
-    ∙ ap (λ x. run (on (literal (us ++ x) how begun) (literal_unit (reading s later) unit)) (drop n u ++ more)) (append-nil' (unit_bytes unit))
-    ∙ ap (λ (r : Reading). run (on (literal (us ++ unit_bytes unit) how begun) r) (drop n u ++ more)) (one-unit s later unit (IsLine-take n u line))
+    ∙ ap (λ k.
+    run (on (literal (us ++ (unit_bytes unit ++ [])) how begun) (literal_unit (reading s later) unit))
+    (drop k u ++ more))
+    z
+    ∙ ap (λ x. run (on (literal (us ++ x) how begun) (literal_unit (reading s later) unit)) (drop n u ++ more))
+    (append-nil' (unit_bytes unit))
+    ∙ ap (λ (r : Reading). run (on (literal (us ++ unit_bytes unit) how begun) r) (drop n u ++ more))
+    (one-unit s later unit (IsLine-take n u line))
 
-pub literal_end : (begun : Place) (quote : ℕ) (us : List ℕ) (n b : ℕ) (how : End) (t more : List ℕ) (s : State) (later : List Place) → AtLineEnd more → IsLine (b ∷ t) → look_in_literal quote (b ∷ t) ≡ Ends n how
-    → resume (InLiteral begun quote us) (b ∷ t ++ more) (reading s later) ≡ run (reading (literal (us ++ unit_bytes (take n (b ∷ t))) how begun (unit_state s (take n (b ∷ t)))) later) (drop n (b ∷ t) ++ more)
+pub literal_end : (begun : Place) (quote : ℕ) (us : List ℕ) (n b : ℕ)
+    (how : End) (t more : List ℕ) (s : State) (later : List Place)
+    → AtLineEnd more → IsLine (b ∷ t) → look_in_literal quote (b ∷ t) ≡ Ends n how
+    → resume (InLiteral begun quote us) (b ∷ t ++ more) (reading s later)
+    ≡ run (reading (literal (us ++ unit_bytes (take n (b ∷ t))) how begun (unit_state s (take n (b ∷ t)))) later)
+    (drop n (b ∷ t) ++ more)
 literal_end begun quote us n b how t more s later e line h =
     let look = look_in_literal quote in
-    literal_ends begun quote us (b ∷ t) more (reading s later) e (end_closed look how n b t (some_end look how n b t (literal-some quote) h) h)
+    literal_ends begun quote us (b ∷ t) more (reading s later) e
+    (end_closed look how n b t (some_end look how n b t (literal-some quote) h) h)
     ∙ quoted_end look begun us n b how t more s later line h
 
-pub raw_end : (begun : Place) (d us : List ℕ) (n b : ℕ) (how : End) (t more : List ℕ) (s : State) (later : List Place) → list_all in_line (sign_of d) ≡ true → AtLineEnd more → IsLine (b ∷ t) → look_in_raw (sign_of d) (b ∷ t) ≡ Ends n how
-    → resume (InRaw begun d us) (b ∷ t ++ more) (reading s later) ≡ run (reading (literal (us ++ unit_bytes (take n (b ∷ t))) how begun (unit_state s (take n (b ∷ t)))) later) (drop n (b ∷ t) ++ more)
+pub raw_end : (begun : Place) (d us : List ℕ) (n b : ℕ) (how : End) (t more : List ℕ) (s : State) (later : List Place)
+    → list_all in_line (sign_of d) ≡ true → AtLineEnd more
+    → IsLine (b ∷ t) → look_in_raw (sign_of d) (b ∷ t) ≡ Ends n how
+    → resume (InRaw begun d us) (b ∷ t ++ more) (reading s later)
+    ≡ run (reading (literal (us ++ unit_bytes (take n (b ∷ t))) how begun (unit_state s (take n (b ∷ t)))) later)
+    (drop n (b ∷ t) ++ more)
 raw_end begun d us n b how t more s later clean e line h =
     let look = look_in_raw (sign_of d) in
-    raw_ends begun d us (b ∷ t) more (reading s later) clean e (end_closed look how n b t (within_end look how n b t (raw-units (sign_of d)) h) h)
+    raw_ends begun d us (b ∷ t) more (reading s later) clean e
+    (end_closed look how n b t (within_end look how n b t (raw-units (sign_of d)) h) h)
     ∙ quoted_end look begun us n b how t more s later line h

@@ -10,12 +10,18 @@ use Rattle.cweb_rules.proofs.Ranges.{reach_in-drop}
 use Rattle.cweb_rules.proofs.Sizes.{longest-size}
 
 abbrev at_front : (List ℕ → Look) → Look → List ℕ → End → List ℕ → Reach
-at_front look v u e t = elim v [ Goes n ↦ with_unit (take n u) (reach_in look e (n - 1) t) | Ends n how ↦ record { units = []; close = n; how = how } ]
+at_front look v u e t =
+    elim v [
+      | Goes n ↦ with_unit (take n u) (reach_in look e (n - 1) t)
+      | Ends n how ↦ record { units = []; close = n; how = how }
+    ]
 
 pub take_min : (n : ℕ) (t : List ℕ) → take n t ≡ take (min n (length t)) t
 take_min zero t = let e : min zero (length t) ≡ zero = omega arith in sym (ap (λ k. take k t) e)
 take_min (suc n) [] = let e : min (suc n) 0 ≡ 0 = omega arith in sym (ap (λ k. take k []) e)
-take_min (suc n) (b ∷ t) = let e : min (suc n) (suc (length t)) ≡ suc (min n (length t)) = omega arith in ap (λ u. b ∷ u) (take_min n t) ∙ sym (ap (λ k. take k (b ∷ t)) e)
+take_min (suc n) (b ∷ t) =
+    let e : min (suc n) (suc (length t)) ≡ suc (min n (length t)) = omega arith in
+    ap (λ u. b ∷ u) (take_min n t) ∙ sym (ap (λ k. take k (b ∷ t)) e)
 
 -- the units of an item that goes on: the first, and those of the rest
 pub units_on : (look : List ℕ → Look) (e : End) (n : ℕ) (t : List ℕ) → 0 < length t → 0 < n → look t ≡ Goes n
@@ -25,14 +31,18 @@ units_on look e n (b ∷ t) some moves h =
     let same : n ≡ suc (n - 1) = omega arith in
     ap (λ v. (at_front look v (b ∷ t) e t).units) h
     ∙ ap (λ u. u ∷ (reach_in look e (n - 1) t).units) (take_min n (b ∷ t))
-    ∙ ap (λ (r : Reach). take (min n (length (b ∷ t))) (b ∷ t) ∷ r.units) (reach_in-drop look e (n - 1) t ∙ ap (λ k. reach look e (drop k (b ∷ t))) (sym same) ∙ ap (reach look e) (sym (drop_min n (b ∷ t))))
+    ∙ ap (λ (r : Reach). take (min n (length (b ∷ t))) (b ∷ t) ∷ r.units)
+    (reach_in-drop look e (n - 1) t ∙ ap (λ k. reach look e (drop k (b ∷ t))) (sym same)
+    ∙ ap (reach look e) (sym (drop_min n (b ∷ t))))
 
-pub units_ended : (look : List ℕ → Look) (e how : End) (n : ℕ) (t : List ℕ) → look t ≡ Ends n how → (reach look e t).units ≡ []
+pub units_ended : (look : List ℕ → Look) (e how : End) (n : ℕ) (t : List ℕ)
+    → look t ≡ Ends n how → (reach look e t).units ≡ []
 units_ended look e how n [] h = refl
 units_ended look e how n (b ∷ t) h = ap (λ v. (at_front look v (b ∷ t) e t).units) h
 
 -- the same, where the code has cut off the first unit
-pub units_from : (look : List ℕ → Look) (e : End) (n m : ℕ) (t unit after : List ℕ) → look t ≡ Goes n → 0 < n → 0 < length t → m ≡ min n (length t) → unit ≡ take m t → after ≡ drop m t
+pub units_from : (look : List ℕ → Look) (e : End) (n m : ℕ) (t unit after : List ℕ) → look t ≡ Goes n
+    → 0 < n → 0 < length t → m ≡ min n (length t) → unit ≡ take m t → after ≡ drop m t
     → (reach look e t).units ≡ unit ∷ (reach look e after).units
 units_from look e n m t unit after h moves some is front back =
     units_on look e n t some moves h

@@ -32,25 +32,37 @@ use Rattle.cweb_scan.proofs.Drops.{tokens_last}
 -- PARTS AND TOKENS
 
 token_pushed : (t : Token) (v : PartsSoFar) → token_count (pushed t v) ≤ token_count v + 1
-token_pushed t v = elim v.current as (λ o. length (all_tokens (v.closed ++ option_to_list (option_map (longer t) o))) ≤ length (all_tokens (v.closed ++ option_to_list o)) + 1) [
-  | None ↦ omega arith
-  | Some p ↦ omega (arith, tokens_last v.closed (longer t p), tokens_last v.closed p, length-append p.tokens (t ∷ []))
-]
+token_pushed t v =
+    elim v.current as (λ o.
+    length (all_tokens (v.closed ++ option_to_list (option_map (longer t) o)))
+    ≤ length (all_tokens (v.closed ++ option_to_list o)) + 1) [
+      | None ↦ omega arith
+      | Some p ↦ omega (arith, tokens_last v.closed (longer t p), tokens_last v.closed p, length-append p.tokens (t ∷ []))
+    ]
 
 abbrev empty_part : PartKind → Part
 empty_part kind = record { kind = kind; tokens = [] }
 
 token_opened : (kind : PartKind) (v : PartsSoFar) → token_count (opened kind v) ≤ token_count v
-token_opened kind v = elim v.current as (λ o. length (all_tokens (v.closed ++ (empty_part kind) ∷ [])) ≤ length (all_tokens (v.closed ++ option_to_list o))) [
-  | None ↦ omega (arith, tokens_last v.closed (empty_part kind), ap (λ (ps : List Part). length (all_tokens ps)) (append-nil v.closed))
-  | Some p ↦ omega (arith, tokens_last v.closed (empty_part kind), tokens_last v.closed p)
-]
+token_opened kind v =
+    elim v.current as (λ o.
+    length (all_tokens (v.closed ++ (empty_part kind) ∷ []))
+    ≤ length (all_tokens (v.closed ++ option_to_list o))) [
+      | None ↦
+          omega (
+            arith,
+            tokens_last v.closed (empty_part kind),
+            ap (λ (ps : List Part). length (all_tokens ps)) (append-nil v.closed),
+          )
+      | Some p ↦ omega (arith, tokens_last v.closed (empty_part kind), tokens_last v.closed p)
+    ]
 
 part_opened : (kind : PartKind) (v : PartsSoFar) → part_count (opened kind v) ≤ part_count v + 1
-part_opened kind v = elim v.current as (λ o. length (v.closed ++ (empty_part kind) ∷ []) ≤ length (v.closed ++ option_to_list o) + 1) [
-  | None ↦ omega (arith, length-append v.closed ((empty_part kind) ∷ []), length-append v.closed [])
-  | Some p ↦ omega (arith, length-append v.closed ((empty_part kind) ∷ []), length-append v.closed (p ∷ []))
-]
+part_opened kind v =
+    elim v.current as (λ o. length (v.closed ++ (empty_part kind) ∷ []) ≤ length (v.closed ++ option_to_list o) + 1) [
+      | None ↦ omega (arith, length-append v.closed ((empty_part kind) ∷ []), length-append v.closed [])
+      | Some p ↦ omega (arith, length-append v.closed ((empty_part kind) ∷ []), length-append v.closed (p ∷ []))
+    ]
 
 -- THE STEPS OF THE STATE
 
@@ -104,10 +116,15 @@ pub line_end-weight : (p : Place) (s : State) → weight (line_end p s) ≤ weig
 line_end-weight p s = line_end_in-weight s.context p s
 
 pub comment_line_end-weight : (p : Place) (s : State) → weight (comment_line_end p s) ≤ weight s + 1
-comment_line_end-weight p s = elim (in_directive s) as (λ v. weight (if v then moved p s else line_end p s) ≤ weight s + 1) [ true ↦ omega arith | false ↦ line_end-weight p s ]
+comment_line_end-weight p s =
+    elim (in_directive s) as (λ v. weight (if v then moved p s else line_end p s) ≤ weight s + 1)
+    [ true ↦ omega arith | false ↦ line_end-weight p s ]
 
 pub blank-weight : (s : State) → weight (blank s) ≤ weight s + 1
-blank-weight s = elim (in_directive s && not (is_blank (directive s).last)) as (λ v. weight (if v then give Blank s else s) ≤ weight s + 1) [ true ↦ give-weight Blank s | false ↦ omega arith ]
+blank-weight s =
+    elim (in_directive s && not (is_blank (directive s).last))
+    as (λ v. weight (if v then give Blank s else s) ≤ weight s + 1)
+    [ true ↦ give-weight Blank s | false ↦ omega arith ]
 
 code-weight : (e : Effect) (s : State) → weight (code e s) ≤ weight s + 3
 code-weight Nothing s = omega arith
@@ -171,22 +188,30 @@ use_name-weight n true p s = omega (arith, give-weight (Name n) s, give-weight (
 use_name-weight n false p s = omega (arith, give-weight (Name n) s, give-weight (Mark s.here) (give (Name n) s))
 
 open_name-weight : (n : NameRef) (opens : Bool) (s : State) → weight (open_name n opens s) ≤ weight s + 3
-open_name-weight n true s = omega (arith, end_macro_in-weight s.context s, begin_part-weight (part.Named n) (end_macro s))
+open_name-weight n true s =
+    omega (arith, end_macro_in-weight s.context s, begin_part-weight (part.Named n) (end_macro s))
 open_name-weight n false s = omega (arith, end_macro_in-weight s.context s)
 
-name_in-weight : (c : Context) (n : NameRef) (opens : Bool) (p : Place) (s : State) → weight (name_in c n opens p s) ≤ weight s + 3
+name_in-weight : (c : Context) (n : NameRef) (opens : Bool) (p : Place) (s : State)
+    → weight (name_in c n opens p s) ≤ weight s + 3
 name_in-weight Limbo n opens p s = omega arith
 name_in-weight TeX n opens p s = open_name-weight n opens s
 name_in-weight (Definition begun) n opens p s = omega arith
 name_in-weight Macro n opens p s = open_name-weight n opens s
 name_in-weight CText n opens p s = omega (arith, use_name-weight n opens p s)
 
-pub occurrence-weight : (is_file : Bool) (text : List ℕ) (how : End) (opens : Bool) (p : Place) (s : State) → weight (occurrence is_file text how opens p s) ≤ weight s + 4
+pub occurrence-weight : (is_file : Bool) (text : List ℕ) (how : End) (opens : Bool) (p : Place) (s : State)
+    → weight (occurrence is_file text how opens p s) ≤ weight s + 4
 occurrence-weight is_file text how opens p s =
     let n : NameRef = record { 0 = length s.contents.occurrences } in
     let o = occurrence_in is_file text in
     let with : State = record s { contents = with_occurrence o s.contents } in
-    omega (arith, length-append s.contents.occurrences (o ∷ []), name_fault-weight how p with, name_in-weight s.context n opens p (name_fault how p with))
+    omega (
+      arith,
+      length-append s.contents.occurrences (o ∷ []),
+      name_fault-weight how p with,
+      name_in-weight s.context n opens p (name_fault how p with),
+    )
 
 pub literal-weight : (text : List ℕ) (how : End) (p : Place) (s : State) → weight (literal text how p s) ≤ weight s + 1
 literal-weight text Closed p s = give-weight (Literal text) s
@@ -196,22 +221,29 @@ literal-weight text Open p s = omega arith
 
 -- LINE ENDS IN A PIECE, AND UNITS
 
-next_line-weight : (f : Place → State → State) (n : ℕ) → ((p : Place) (s : State) → weight (f p s) ≤ weight s + n) → (s : State) (later : List Place)
+next_line-weight : (f : Place → State → State) (n : ℕ)
+    → ((p : Place) (s : State) → weight (f p s) ≤ weight s + n) → (s : State) (later : List Place)
     → weight (next_line f (record { state = s; later = later })).state ≤ weight s + n
 next_line-weight f n adds s [] = omega arith
 next_line-weight f n adds s (p ∷ later) = adds p s
 
-each-weight : (f : Place → State → State) (n : ℕ) → ((p : Place) (s : State) → weight (f p s) ≤ weight s + n) → (bytes : List ℕ) (r : Reading)
+each-weight : (f : Place → State → State) (n : ℕ)
+    → ((p : Place) (s : State) → weight (f p s) ≤ weight s + n) → (bytes : List ℕ) (r : Reading)
     → weight (each_line_end f bytes r).state ≤ weight r.state + at_line_ends n bytes
 each-weight f n adds [] r = omega arith
-each-weight f n adds (b ∷ t) r = elim (is_line_end b) as (λ v. weight (each_line_end f t (if v then next_line f r else r)).state ≤ weight r.state + (if v then n + at_line_ends n t else at_line_ends n t)) [
-  | true ↦ omega (arith, next_line-weight f n adds r.state r.later, each-weight f n adds t (next_line f r))
-  | false ↦ each-weight f n adds t r
-]
+each-weight f n adds (b ∷ t) r =
+    elim (is_line_end b) as (λ v.
+    weight (each_line_end f t (if v then next_line f r else r)).state
+    ≤ weight r.state + (if v then n + at_line_ends n t else at_line_ends n t)) [
+      | true ↦ omega (arith, next_line-weight f n adds r.state r.later, each-weight f n adds t (next_line f r))
+      | false ↦ each-weight f n adds t r
+    ]
 
 no_line_ends : (t : List ℕ) → at_line_ends 0 t ≡ 0
 no_line_ends [] = refl
-no_line_ends (b ∷ t) = elim (is_line_end b) as (λ v. (if v then 0 + at_line_ends 0 t else at_line_ends 0 t) ≡ 0) [ true ↦ omega (arith, no_line_ends t) | false ↦ no_line_ends t ]
+no_line_ends (b ∷ t) =
+    elim (is_line_end b) as (λ v. (if v then 0 + at_line_ends 0 t else at_line_ends 0 t) ≡ 0)
+    [ true ↦ omega (arith, no_line_ends t) | false ↦ no_line_ends t ]
 
 moved-weight : (p : Place) (s : State) → weight (moved p s) ≤ weight s + 0
 moved-weight p s = omega arith
@@ -220,7 +252,10 @@ moves : (bytes : List ℕ) (r : Reading) → weight (each_line_end moved bytes r
 moves bytes r = omega (arith, each-weight moved 0 moved-weight bytes r, no_line_ends bytes)
 
 pub unit-weight : (r : Reading) (u : List ℕ) → weight (literal_unit r u).state ≤ weight r.state
-unit-weight r u = elim (bytes_eq u (codes "@")) as (λ v. weight (if v then on (fault DoubleAtInString) r else each_line_end moved u r).state ≤ weight r.state) [ true ↦ omega arith | false ↦ moves u r ]
+unit-weight r u =
+    elim (bytes_eq u (codes "@"))
+    as (λ v. weight (if v then on (fault DoubleAtInString) r else each_line_end moved u r).state ≤ weight r.state)
+    [ true ↦ omega arith | false ↦ moves u r ]
 
 units-weight : (us : List (List ℕ)) (r : Reading) → weight (fold literal_unit r us).state ≤ weight r.state
 units-weight [] r = omega arith
@@ -231,11 +266,14 @@ units-weight (u ∷ us) r = omega (arith, unit-weight r u, units-weight us (lite
 enter_in-weight : (c : Context) (k : Kind) (s : State) → weight (enter_in c k s) ≤ weight s
 enter_in-weight Limbo k s = omega arith
 enter_in-weight TeX k s = omega arith
-enter_in-weight (Definition begun) k s = elim (stays_in_head k) as (λ v. weight (if v then s else drop_definition begun s) ≤ weight s) [ true ↦ omega arith | false ↦ omega arith ]
+enter_in-weight (Definition begun) k s =
+    elim (stays_in_head k) as (λ v. weight (if v then s else drop_definition begun s) ≤ weight s)
+    [ true ↦ omega arith | false ↦ omega arith ]
 enter_in-weight Macro k s = omega arith
 enter_in-weight CText k s = omega arith
 
-item-weight : (c : Context) (k : Kind) (bytes : List ℕ) (r : Reading) → 1 ≤ length bytes → Pays c k bytes → weight (item k bytes r).state ≤ weight r.state + 3 * length bytes
+item-weight : (c : Context) (k : Kind) (bytes : List ℕ) (r : Reading) → 1 ≤ length bytes
+    → Pays c k bytes → weight (item k bytes r).state ≤ weight r.state + 3 * length bytes
 item-weight c Skipped bytes r some pays = omega (arith, moves bytes r)
 item-weight c (Section starred) bytes r some pays = omega (arith, begin_section-weight starred r.state, some)
 item-weight c (Code e) bytes r some pays = omega (arith, code-weight e r.state, some)
@@ -247,10 +285,17 @@ item-weight c (OccurrenceKind is_file us how opens) bytes r some pays =
     let m = each_line_end moved bytes r in
     omega (arith, moves bytes r, occurrence-weight is_file (text_in us) how opens r.state.here m.state, pays.0)
 item-weight c Blanks bytes r some pays = omega (arith, blank-weight r.state, some)
-item-weight c LineEnd bytes r some pays = omega (arith, next_line-weight line_end 1 line_end-weight r.state r.later, some)
+item-weight c LineEnd bytes r some pays =
+    omega (arith, next_line-weight line_end 1 line_end-weight r.state r.later, some)
 item-weight c (Comment how) bytes r some pays =
     let m = each_line_end comment_line_end bytes (on blank r) in
-    omega (arith, blank-weight r.state, each-weight comment_line_end 1 comment_line_end-weight bytes (on blank r), comment-weight how r.state.here m.state, pays)
+    omega (
+      arith,
+      blank-weight r.state,
+      each-weight comment_line_end 1 comment_line_end-weight bytes (on blank r),
+      comment-weight how r.state.here m.state,
+      pays,
+    )
 item-weight c (Quoted us how) bytes r some pays =
     let m = fold literal_unit r us in
     omega (arith, units-weight us r, literal-weight (text_in us) how r.state.here m.state, some)
@@ -260,5 +305,11 @@ item-weight c Numeral bytes r some pays = omega (arith, give-weight (Number byte
 item-weight c Punctuator bytes r some pays = omega (arith, give-weight (Punct bytes) r.state, some)
 
 -- each byte of a piece adds at most three
-pub piece-weight : (r : Reading) (p : Piece) → 1 ≤ length p.bytes → Pays r.state.context p.kind p.bytes → weight (after r p).state ≤ weight r.state + 3 * length p.bytes
-piece-weight r p some pays = omega (arith, enter_in-weight r.state.context p.kind r.state, item-weight r.state.context p.kind p.bytes (on (enter p.kind) r) some pays)
+pub piece-weight : (r : Reading) (p : Piece) → 1 ≤ length p.bytes → Pays r.state.context p.kind p.bytes
+    → weight (after r p).state ≤ weight r.state + 3 * length p.bytes
+piece-weight r p some pays =
+    omega (
+      arith,
+      enter_in-weight r.state.context p.kind r.state,
+      item-weight r.state.context p.kind p.bytes (on (enter p.kind) r) some pays,
+    )

@@ -18,7 +18,8 @@ ghost use Rattle.cweb_store.specs.Parts.{Token};
 
 /// The pieces of a text are the one list of what the rules name at the front of the rest, again and again.
 pub fn pieces_are_one()
-    ensures only { (r : Reading) (t : List ℕ) (ps : List Piece) → ArePieces r t ps → ps ≡ pieces r t }
+    ensures only { (r : Reading) (t : List ℕ) (ps : List Piece)
+        → ArePieces r t ps → ps ≡ pieces r t }
     ensures are { (r : Reading) (t : List ℕ) → ArePieces r t (pieces r t) }
 {}
 
@@ -30,23 +31,27 @@ pub fn store_is_bounded()
 /// Blanks between two pieces of C text outside directives change nothing: what is read after a text with one blank more is what
 /// is read after the text.
 pub fn blanks_change_nothing()
-    ensures { (r : Reading) (b : ℕ) (t : List ℕ) → r.state.context ≡ CText → in_directive r.state ≡ false → is_blank b ≡ true → run r (b ∷ t) ≡ run r t }
+    ensures { (r : Reading) (b : ℕ) (t : List ℕ) → r.state.context ≡ CText
+        → in_directive r.state ≡ false → is_blank b ≡ true → run r (b ∷ t) ≡ run r t }
 {}
 
 /// Marks and faults stand where lines of the web stand: what holds of the places of all lines holds of theirs.
 pub fn places_are_those_of_lines()
-    ensures { (test : Place → Bool) (lines : List Line) → All (λ line. test line.place ≡ true) lines → PlacesPass test (scanned lines) }
+    ensures { (test : Place → Bool) (lines : List Line)
+        → All (λ line. test line.place ≡ true) lines → PlacesPass test (scanned lines) }
 {}
 
 /// A piece's place is that of its first byte's line, wherever the piece ends and whatever the pieces before it are.
 pub fn pieces_stand_on_their_lines()
-    ensures { (line : Line) (lines : List Line) → All (λ l. HasNoNewline l.bytes) (line ∷ lines) → StandOnTheirLines line lines }
+    ensures { (line : Line) (lines : List Line)
+        → All (λ l. HasNoNewline l.bytes) (line ∷ lines) → StandOnTheirLines line lines }
 {}
 
 /// A token that reads alone, but for the sign that begins a directive, is read as itself wherever a C part is open and no
 /// directive in it, whatever follows whose first byte may not go on with it. Layout, section comments and marks don't count here.
 pub fn tokens_are_read_again()
-    ensures { (joins : ℕ → ℕ → Bool) (r : Reading) (token : Token) (rest : List ℕ) → JoinsAll joins → InPlainC r.state
+    ensures { (joins : ℕ → ℕ → Bool) (r : Reading) (token : Token) (rest : List ℕ)
+        → JoinsAll joins → InPlainC r.state
         → ReadsAlone token → is_hash token ≡ false → first_is (goes_on joins token) rest ≡ false
         → IsRead r (doubled (bytes_of token)) rest (solid (token ∷ [])) }
 {}
@@ -54,7 +59,9 @@ pub fn tokens_are_read_again()
 /// There a comment with neither `*` nor `@` in it, and a line end, give no tokens but layout, section comments and marks, and no
 /// fault.
 pub fn what_stands_between_is_passed()
-    ensures comments { (r : Reading) (text rest : List ℕ) → list_all is_quiet text ≡ true → InPlainC r.state
+    ensures comments { (r : Reading) (text rest : List ℕ)
+        → list_all is_quiet text ≡ true → InPlainC r.state
         → IsRead r (codes "/*" ++ (text ++ codes "*/")) rest [] }
-    ensures line_ends { (r : Reading) (rest : List ℕ) → InPlainC r.state → IsRead r (codes "\n") rest [] }
+    ensures line_ends { (r : Reading) (rest : List ℕ)
+        → InPlainC r.state → IsRead r (codes "\n") rest [] }
 {}

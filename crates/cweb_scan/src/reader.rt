@@ -36,7 +36,12 @@ impl Model for Reader {
 
     ghost Value = { Held };
 
-    ghost view = { λ r. record { state = r.scanner; item = item_of r.item r.delimiter.items r.text.items; begun = r.begun } };
+    ghost view = { λ r.
+        record {
+          state = r.scanner;
+          item = item_of r.item r.delimiter.items r.text.items;
+          begun = r.begun;
+        } };
 
     ghost invariant = { λ r. IsSigned r.item r.scanner.context r.delimiter.items r.sign.items };
 }

@@ -40,7 +40,16 @@ impl Model for Scanner {
 
     ghost Value = { State };
 
-    ghost view = { λ s. record { context = s.context; contents = s.builder; faults = s.faults.items; sections = s.sections; starred = s.starred.items; here = s.here; folded = s.folded } };
+    ghost view = { λ s.
+        record {
+          context = s.context;
+          contents = s.builder;
+          faults = s.faults.items;
+          sections = s.sections;
+          starred = s.starred.items;
+          here = s.here;
+          folded = s.folded;
+        } };
 
     ghost invariant = { λ s. IsTied s.directive s.solid s.context s.builder.parts.current };
 }

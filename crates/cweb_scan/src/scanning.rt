@@ -36,7 +36,9 @@ pub fn scan<S: Shelf>(alloc: Global, merger: &mut Merger<S>, shelf: &mut S) -> R
     ensures scans { IsTrue (S.tells shelf.old) → IfOk result (λ made. Scans (seen made)
         (so_far merger.old) (so_far merger.new) (to_come S.Shelf shelf.old merger.old)) }
     ensures within { IfOk result (λ made. IsWithin (so_far merger.new) (seen made)) }
-    ensures ended { OnOk result ((stop_in merger.new ≡ None) × HasEnded merger.new × (S.failed shelf.new ≡ S.failed shelf.old)) }
+    ensures ended { OnOk result
+        ((stop_in merger.new ≡ None) × HasEnded merger.new
+        × (S.failed shelf.new ≡ S.failed shelf.old)) }
 
     // why not all lines were scanned
     ensures stops { IsTrue (S.tells shelf.old) → stop_in merger.old ≡ None →

@@ -23,48 +23,64 @@ abbrev StandsBelow : ℕ → Standing → Type 0
 StandsBelow n (Ok m) = m.0 < n
 StandsBelow n (Err kind) = Unit {0}
 
-all-both : {X : Type 0} (P : X → Type 0) (xs ys : List X) → AllByRecursion P xs → AllByRecursion P ys → AllByRecursion P (xs ++ ys)
+all-both : {X : Type 0} (P : X → Type 0) (xs ys : List X)
+    → AllByRecursion P xs → AllByRecursion P ys → AllByRecursion P (xs ++ ys)
 all-both P [] ys a b = b
 all-both P (x ∷ xs) ys a b = (a.0, all-both P xs ys a.1 b)
 
 grows-length : (old new : List Name) → Grows old new → length old ≤ length new
 grows-length old new g = omega (arith, ap length g.grows, length-append old g.more)
 
-beginning-below : (i n : ℕ) (p : List ℕ) (ns : List Name) → i + length ns ≤ n → AllByRecursion (Below n) (beginning_from i p ns)
+beginning-below : (i n : ℕ) (p : List ℕ) (ns : List Name)
+    → i + length ns ≤ n → AllByRecursion (Below n) (beginning_from i p ns)
 beginning-below i n p [] h = tt
 beginning-below i n p (m ∷ ns) h =
     let rest = beginning-below (i + 1) n p ns (omega arith) in
-    elim (starts_with nat_eq m.text p) as (λ b. AllByRecursion (Below n) (if b then id i ∷ beginning_from (i + 1) p ns else beginning_from (i + 1) p ns)) [
+    elim (starts_with nat_eq m.text p) as (λ b.
+    AllByRecursion (Below n) (if b then id i ∷ beginning_from (i + 1) p ns else beginning_from (i + 1) p ns)) [
       | true ↦ (omega arith, rest)
       | false ↦ rest
     ]
 
-the_one-below : (n : ℕ) (ns : List NameId) (otherwise : Standing) → AllByRecursion (Below n) ns → StandsBelow n otherwise → StandsBelow n (the_one ns otherwise)
+the_one-below : (n : ℕ) (ns : List NameId) (otherwise : Standing) → AllByRecursion (Below n) ns
+    → StandsBelow n otherwise → StandsBelow n (the_one ns otherwise)
 the_one-below n [] otherwise h o = o
 the_one-below n (m ∷ []) otherwise h o = h.0
 the_one-below n (m ∷ k ∷ ns) otherwise h o = tt
 
 position-below : (p : List ℕ → Bool) (xs : List (List ℕ)) → list_any p xs ≡ true → position_or_len p xs < length xs
 position-below p [] h = cc
-position-below p (x ∷ xs) h = (elim (p x) as (λ b. (b || list_any p xs) ≡ true → cond (not b) (1 + position_or_len p xs) 0 < length (x ∷ xs)) [
-  | true ↦ λ g. omega arith
-  | false ↦ λ g. omega (arith, position-below p xs g)
-]) h
+position-below p (x ∷ xs) h =
+    (elim (p x) as (λ b. (b || list_any p xs) ≡ true → cond (not b) (1 + position_or_len p xs) 0 < length (x ∷ xs)) [
+      | true ↦ λ g. omega arith
+      | false ↦ λ g. omega (arith, position-below p xs g)
+    ]) h
 
 among-below : (i : ℕ) (before : List Name) (text : List ℕ) (how : How) (is_file : Bool) (all : List Name) →
     let o : Occurrence = record { text = text; how = how; is_file = is_file } in
     Grows (with_name i before o) all → StandsBelow (length all) (standing_among before all o)
 among-below i before text Full is_file all g =
     let size : length (texts all) ≡ length all = length-map all (λ (n : Name). n.text) in
-    omega (arith, size, position-below (bytes_eq text) (texts all) (any-grows (bytes_eq text) (with_text i before text) all g (with_text-has i before text)))
+    omega (
+      arith,
+      size,
+      position-below (bytes_eq text) (texts all)
+          (any-grows (bytes_eq text) (with_text i before text) all g (with_text-has i before text)),
+    )
 among-below i before text Prefix is_file all g =
-    the_one-below (length all) (beginning_from 0 text before) (the_one (beginning_from 0 text all) (Err NeverFull)) (beginning-below 0 (length all) text before (omega (arith, grows-length before all g)))
-    (the_one-below (length all) (beginning_from 0 text all) (Err NeverFull) (beginning-below 0 (length all) text all (omega arith)) tt)
+    the_one-below (length all) (beginning_from 0 text before) (the_one (beginning_from 0 text all) (Err NeverFull))
+    (beginning-below 0 (length all) text before (omega (arith, grows-length before all g)))
+    (the_one-below (length all) (beginning_from 0 text all) (Err NeverFull)
+    (beginning-below 0 (length all) text all (omega arith)) tt)
 
-standings-below : (i : ℕ) (before : List Name) (os : List Occurrence) → let all = names_from i before os in AllByRecursion (StandsBelow (length all)) (standings_from i before all os)
+standings-below : (i : ℕ) (before : List Name) (os : List Occurrence)
+    → let all = names_from i before os in AllByRecursion (StandsBelow (length all)) (standings_from i before all os)
 standings-below i before [] = tt
-standings-below i before (o ∷ os) =
-    (among-below i before o.text o.how o.is_file (names_from (i + 1) (with_name i before o) os) (names_from-grows (i + 1) (with_name i before o) os), standings-below (i + 1) (with_name i before o) os)
+standings-below i before (o ∷ os) = (
+  among-below i before o.text o.how o.is_file (names_from (i + 1) (with_name i before o) os)
+      (names_from-grows (i + 1) (with_name i before o) os),
+  standings-below (i + 1) (with_name i before o) os,
+)
 
 stands-below : (n : ℕ) (rs : List Standing) (i : ℕ) → AllByRecursion (StandsBelow n) rs → IfSome (stands rs i) (Below n)
 stands-below n [] i h = tt
@@ -72,17 +88,21 @@ stands-below n (Ok m ∷ rs) zero h = h.0
 stands-below n (Err kind ∷ rs) zero h = tt
 stands-below n (r ∷ rs) (suc i) h = stands-below n rs i h.1
 
-with_some-below : (n : ℕ) (ns : List NameId) (o : Option NameId) → AllByRecursion (Below n) ns → IfSome o (Below n) → AllByRecursion (Below n) (with_some ns o)
+with_some-below : (n : ℕ) (ns : List NameId) (o : Option NameId) → AllByRecursion (Below n) ns
+    → IfSome o (Below n) → AllByRecursion (Below n) (with_some ns o)
 with_some-below n ns None h o = h
-with_some-below n ns (Some m) h o = elim (list_any (is_id m) ns) as (λ b. AllByRecursion (Below n) (if b then ns else ns ++ m ∷ [])) [
-  | true ↦ h
-  | false ↦ all-both (Below n) ns (m ∷ []) h (o, tt)
-]
+with_some-below n ns (Some m) h o =
+    elim (list_any (is_id m) ns) as (λ b. AllByRecursion (Below n) (if b then ns else ns ++ m ∷ [])) [
+      | true ↦ h
+      | false ↦ all-both (Below n) ns (m ∷ []) h (o, tt)
+    ]
 
-files-below : (n : ℕ) (rs : List Standing) (fs : List NameId) (i : ℕ) (os : List Occurrence) → AllByRecursion (StandsBelow n) rs → AllByRecursion (Below n) fs → AllByRecursion (Below n) (files_from rs fs i os)
+files-below : (n : ℕ) (rs : List Standing) (fs : List NameId) (i : ℕ) (os : List Occurrence)
+    → AllByRecursion (StandsBelow n) rs → AllByRecursion (Below n) fs → AllByRecursion (Below n) (files_from rs fs i os)
 files-below n rs fs i [] h g = g
 files-below n rs fs i (o ∷ os) h g =
-    files-below n rs (with_file rs fs i o) (i + 1) os h (elim o.is_file as (λ b. AllByRecursion (Below n) (if b then with_some fs (stands rs i) else fs)) [
+    files-below n rs (with_file rs fs i o) (i + 1) os h
+    (elim o.is_file as (λ b. AllByRecursion (Below n) (if b then with_some fs (stands rs i) else fs)) [
       | true ↦ with_some-below n fs (stands rs i) g (stands-below n rs i h)
       | false ↦ g
     ])
@@ -90,7 +110,8 @@ files-below n rs fs i (o ∷ os) h g =
 abbrev At : ℕ → NameFault → Type 0
 At n f = f.occurrence.0 < n
 
-standing_faults-below : (n i : ℕ) (rs : List Standing) → i + length rs ≤ n → AllByRecursion (At n) (standing_faults_from i rs)
+standing_faults-below : (n i : ℕ) (rs : List Standing) → i + length rs ≤ n
+    → AllByRecursion (At n) (standing_faults_from i rs)
 standing_faults-below n i [] h = tt
 standing_faults-below n i (Ok m ∷ rs) h = standing_faults-below n (i + 1) rs (omega arith)
 standing_faults-below n i (Err kind ∷ rs) h = (omega arith, standing_faults-below n (i + 1) rs (omega arith))
@@ -98,16 +119,22 @@ standing_faults-below n i (Err kind ∷ rs) h = (omega arith, standing_faults-be
 abbrev First : ℕ → Name → Type 0
 First n m = m.first < n
 
-name_faults-below : (n i : ℕ) (kind : NameKind) (fails : NameId → List ℕ → Bool) (ns : List Name) → AllByRecursion (First n) ns → AllByRecursion (At n) (faults_from i kind fails ns)
+name_faults-below : (n i : ℕ) (kind : NameKind) (fails : NameId → List ℕ → Bool) (ns : List Name)
+    → AllByRecursion (First n) ns → AllByRecursion (At n) (faults_from i kind fails ns)
 name_faults-below n i kind fails [] h = tt
 name_faults-below n i kind fails (m ∷ ns) h =
     let rest = name_faults-below n (i + 1) kind fails ns h.1 in
-    elim (fails (id i) m.text) as (λ b. AllByRecursion (At n) (map (λ (p : ℕ × Name). fault kind p.1.first) (cond b ((i, m) ∷ filter (λ (p : ℕ × Name). fails (id p.0) p.1.text) (enumerate_from (i + 1) ns)) (filter (λ (p : ℕ × Name). fails (id p.0) p.1.text) (enumerate_from (i + 1) ns))))) [
+    elim (fails (id i) m.text) as (λ b.
+    AllByRecursion (At n)
+    (map (λ (p : ℕ × Name). fault kind p.1.first)
+    (cond b ((i, m) ∷ filter (λ (p : ℕ × Name). fails (id p.0) p.1.text) (enumerate_from (i + 1) ns))
+    (filter (λ (p : ℕ × Name). fails (id p.0) p.1.text) (enumerate_from (i + 1) ns))))) [
       | true ↦ (h.0, rest)
       | false ↦ rest
     ]
 
-with_text-first : (n i : ℕ) (ns : List Name) (text : List ℕ) → i < n → AllByRecursion (First n) ns → AllByRecursion (First n) (with_text i ns text)
+with_text-first : (n i : ℕ) (ns : List Name) (text : List ℕ) → i < n
+    → AllByRecursion (First n) ns → AllByRecursion (First n) (with_text i ns text)
 with_text-first n i ns text less h =
     let m : Name = record { text = text; first = i } in
     elim (list_any (bytes_eq text) (texts ns)) as (λ b. AllByRecursion (First n) (if b then ns else ns ++ m ∷ [])) [
@@ -115,34 +142,51 @@ with_text-first n i ns text less h =
       | false ↦ all-both (First n) ns (m ∷ []) h (less, tt)
     ]
 
-with_name-first : (n i : ℕ) (ns : List Name) (text : List ℕ) (how : How) (is_file : Bool) → i < n → AllByRecursion (First n) ns →
+with_name-first : (n i : ℕ) (ns : List Name) (text : List ℕ) (how : How) (is_file : Bool)
+    → i < n → AllByRecursion (First n) ns →
     AllByRecursion (First n) (with_name i ns (record { text = text; how = how; is_file = is_file }))
 with_name-first n i ns text Full is_file less h = with_text-first n i ns text less h
 with_name-first n i ns text Prefix is_file less h = h
 
-names-first : (n i : ℕ) (ns : List Name) (os : List Occurrence) → AllByRecursion (First n) ns → i + length os ≤ n → AllByRecursion (First n) (names_from i ns os)
+names-first : (n i : ℕ) (ns : List Name) (os : List Occurrence) → AllByRecursion (First n) ns
+    → i + length os ≤ n → AllByRecursion (First n) (names_from i ns os)
 names-first n i ns [] h le = h
-names-first n i ns (o ∷ os) h le = names-first n (i + 1) (with_name i ns o) os (with_name-first n i ns o.text o.how o.is_file (omega arith) h) (omega arith)
+names-first n i ns (o ∷ os) h le =
+    names-first n (i + 1) (with_name i ns o) os
+    (with_name-first n i ns o.text o.how o.is_file (omega arith) h) (omega arith)
 
-standings-length : (i : ℕ) (before all : List Name) (os : List Occurrence) → length (standings_from i before all os) ≡ length os
+standings-length : (i : ℕ) (before all : List Name) (os : List Occurrence)
+    → length (standings_from i before all os) ≡ length os
 standings-length i before all [] = refl
 standings-length i before all (o ∷ os) = omega (arith, standings-length (i + 1) (with_name i before o) all os)
 
 -- an occurrence stands for one of the names
-pub standing-within : (os : List Occurrence) (i : ℕ) → IfSome (stands (standings os) i) (λ (n : NameId). n.0 < length (names os))
+pub standing-within : (os : List Occurrence) (i : ℕ)
+    → IfSome (stands (standings os) i) (λ (n : NameId). n.0 < length (names os))
 standing-within os i = stands-below (length (names os)) (standings os) i (standings-below 0 [] os)
 
 -- files are names
 pub files-within : (os : List Occurrence) → All (λ (n : NameId). n.0 < length (names os)) (files os)
-files-within os = All-from_recursion (Below (length (names os))) (files os) (files-below (length (names os)) (standings os) [] 0 os (standings-below 0 [] os) tt)
+files-within os =
+    All-from_recursion (Below (length (names os))) (files os)
+    (files-below (length (names os)) (standings os) [] 0 os (standings-below 0 [] os) tt)
 
 -- a fault is told at one of the occurrences
-pub faults-within : (os : List Occurrence) (ps : List Part) → All (λ (f : NameFault). f.occurrence.0 < length os) (faults os ps)
+pub faults-within : (os : List Occurrence) (ps : List Part)
+    → All (λ (f : NameFault). f.occurrence.0 < length os) (faults os ps)
 faults-within os ps =
     let n = length os in
     let firsts = names-first n 0 [] os tt (omega arith) in
     let early = standing_faults-below n 0 (standings os) (omega (arith, standings-length 0 [] (names os) os)) in
-    let prefixes = name_faults-below n 0 PrefixOfAnother (λ n text. is_prefix_of_another (names os) text) (names os) firsts in
+    let prefixes =
+    name_faults-below n 0 PrefixOfAnother (λ n text. is_prefix_of_another (names os) text) (names os) firsts in
     let missing = name_faults-below n 0 NotPresent (λ n text. is_missing os ps n) (names os) firsts in
-    All-from_recursion (At n) (faults os ps) (all-both (At n) (standing_faults (standings os) ++ faults_where PrefixOfAnother (λ n text. is_prefix_of_another (names os) text) (names os)) (faults_where NotPresent (λ n text. is_missing os ps n) (names os))
-    (all-both (At n) (standing_faults (standings os)) (faults_where PrefixOfAnother (λ n text. is_prefix_of_another (names os) text) (names os)) early prefixes) missing)
+    All-from_recursion (At n) (faults os ps)
+    (all-both (At n)
+    (standing_faults (standings os)
+    ++ faults_where PrefixOfAnother (λ n text. is_prefix_of_another (names os) text) (names os))
+    (faults_where NotPresent (λ n text. is_missing os ps n) (names os))
+    (all-both (At n) (standing_faults (standings os))
+    (faults_where PrefixOfAnother (λ n text. is_prefix_of_another (names os) text) (names os))
+    early prefixes)
+    missing)

@@ -8,77 +8,141 @@ use Rattle.cweb_store.specs.Parts.{Token, Part, all_tokens, is_macro}
 use Rattle.cweb_store.specs.Layout.{before_last, without_last, without_blank, without_layout, at_close, first_kept, is_layout, is_newline, is_blank}
 use Rattle.cweb_store.specs.Growing.{PartsSoFar, all_closed, dropped, opened, pushed, longer, part_count, token_count}
 
-tokens-last : (ps : List Part) (p : Part) → length (all_tokens (ps ++ p ∷ [])) ≡ length (all_tokens ps) + length p.tokens
+tokens-last : (ps : List Part) (p : Part)
+    → length (all_tokens (ps ++ p ∷ [])) ≡ length (all_tokens ps) + length p.tokens
 tokens-last ps p = simp (flat_map-append {X = Part} {A = Token}, append-nil, length-append)
 
-pub token_count_opened : (kind : PartKind) (v : PartsSoFar) → IsNone v.current → token_count (opened kind v) ≡ token_count v
-token_count_opened kind v none = (elim v.current as (λ o. IsNone o → length (all_tokens (v.closed ++ (record { kind = kind; tokens = [] }) ∷ [])) ≡ length (all_tokens (v.closed ++ option_to_list o))) [
-  | None ↦ λ h. tokens-last v.closed (record { kind = kind; tokens = [] }) ∙ omega (arith, ap (λ ps. length (all_tokens ps)) (append-nil v.closed))
-  | Some p ↦ λ h. cc
-]) none
+pub token_count_opened : (kind : PartKind) (v : PartsSoFar)
+    → IsNone v.current → token_count (opened kind v) ≡ token_count v
+token_count_opened kind v none =
+    (elim v.current as (λ o.
+    IsNone o
+    → length (all_tokens (v.closed ++ (record { kind = kind; tokens = [] }) ∷ []))
+    ≡ length (all_tokens (v.closed ++ option_to_list o))) [
+      | None ↦ λ h.
+          tokens-last v.closed (record { kind = kind; tokens = [] })
+          ∙ omega (arith, ap (λ ps. length (all_tokens ps)) (append-nil v.closed))
+      | Some p ↦ λ h. cc
+    ]) none
 
 pub token_count_pushed : (t : Token) (v : PartsSoFar) → IsSome v.current → token_count (pushed t v) ≡ token_count v + 1
-token_count_pushed t v some = (elim v.current as (λ o. IsSome o → length (all_tokens (v.closed ++ option_to_list (option_map (longer t) o))) ≡ length (all_tokens (v.closed ++ option_to_list o)) + 1) [
-  | None ↦ λ h. cc
-  | Some p ↦ λ h. omega (arith, tokens-last v.closed (longer t p), tokens-last v.closed p, length-append p.tokens (t ∷ []))
-]) some
+token_count_pushed t v some =
+    (elim v.current as (λ o.
+    IsSome o
+    → length (all_tokens (v.closed ++ option_to_list (option_map (longer t) o)))
+    ≡ length (all_tokens (v.closed ++ option_to_list o)) + 1) [
+      | None ↦ λ h. cc
+      | Some p ↦ λ h.
+          omega (arith, tokens-last v.closed (longer t p), tokens-last v.closed p, length-append p.tokens (t ∷ []))
+    ]) some
 
-before_last-length : (test : Token → Bool) (t : Token) (ts : List Token) → length (before_last test t ts) ≤ length ts + 1
-before_last-length test t [] = elim (test t) as (λ b. length (if b then [] else t ∷ []) ≤ 1) [ true ↦ omega arith | false ↦ omega arith ]
+before_last-length : (test : Token → Bool) (t : Token) (ts : List Token)
+    → length (before_last test t ts) ≤ length ts + 1
+before_last-length test t [] =
+    elim (test t) as (λ b. length (if b then [] else t ∷ []) ≤ 1) [ true ↦ omega arith | false ↦ omega arith ]
 before_last-length test t (u ∷ us) = omega arith
 
 without_last-length : (test : Token → Bool) (ts : List Token) → length (without_last test ts) ≤ length ts
 without_last-length test [] = omega arith
-without_last-length test (t ∷ ts) = omega (arith, before_last-length test t (without_last test ts), without_last-length test ts)
+without_last-length test (t ∷ ts) =
+    omega (arith, before_last-length test t (without_last test ts), without_last-length test ts)
 
 without_blank-length : (ts : List Token) → length (without_blank ts) ≤ length ts
 without_blank-length [] = omega arith
-without_blank-length (t ∷ []) = elim (is_blank t) as (λ b. length (if b then [] else t ∷ []) ≤ 1) [ true ↦ omega arith | false ↦ omega arith ]
+without_blank-length (t ∷ []) =
+    elim (is_blank t) as (λ b. length (if b then [] else t ∷ []) ≤ 1) [ true ↦ omega arith | false ↦ omega arith ]
 without_blank-length (t ∷ u ∷ us) = omega (arith, without_blank-length (u ∷ us))
 
 without_layout-length : (p : Part) → length (without_layout p).tokens ≤ length p.tokens
 without_layout-length p =
     let n = first_kept p.kind in
-    omega (arith, length-append (take n p.tokens) (without_last is_layout (drop n p.tokens)), without_last-length is_layout (drop n p.tokens), length-append (take n p.tokens) (drop n p.tokens), ap length (take-append-drop n p.tokens))
+    omega (
+      arith,
+      length-append (take n p.tokens) (without_last is_layout (drop n p.tokens)),
+      without_last-length is_layout (drop n p.tokens),
+      length-append (take n p.tokens) (drop n p.tokens),
+      ap length (take-append-drop n p.tokens),
+    )
 
 at_close-length : (p : Part) → length (at_close p).tokens ≤ length p.tokens
-at_close-length p = elim (is_macro p.kind) as (λ b. length (let q : Part = if b then record p { tokens = without_blank (without_last is_newline p.tokens) } else p in q).tokens ≤ length p.tokens) [
-  | true ↦ omega (arith, without_blank-length (without_last is_newline p.tokens), without_last-length is_newline p.tokens)
-  | false ↦ omega arith
-]
+at_close-length p =
+    elim (is_macro p.kind) as (λ b.
+    length (let q : Part =
+    if b then record p { tokens = without_blank (without_last is_newline p.tokens) } else p in
+    q).tokens ≤ length p.tokens) [
+      | true ↦
+          omega (arith, without_blank-length (without_last is_newline p.tokens), without_last-length is_newline p.tokens)
+      | false ↦ omega arith
+    ]
 
 pub token_count_dropped : (v : PartsSoFar) → token_count (dropped v) ≤ token_count v
-token_count_dropped v = elim v.current as (λ o. length (all_tokens (v.closed ++ option_to_list (option_map without_layout o))) ≤ length (all_tokens (v.closed ++ option_to_list o))) [
-  | None ↦ omega arith
-  | Some p ↦ omega (arith, tokens-last v.closed (without_layout p), tokens-last v.closed p, without_layout-length p)
-]
+token_count_dropped v =
+    elim v.current as (λ o.
+    length (all_tokens (v.closed ++ option_to_list (option_map without_layout o)))
+    ≤ length (all_tokens (v.closed ++ option_to_list o))) [
+      | None ↦ omega arith
+      | Some p ↦ omega (arith, tokens-last v.closed (without_layout p), tokens-last v.closed p, without_layout-length p)
+    ]
 
 pub token_count_closed : (v : PartsSoFar) → token_count (all_closed v) ≤ token_count v
-token_count_closed v = elim v.current as (λ o. length (all_tokens ((v.closed ++ option_to_list (option_map at_close o)) ++ [])) ≤ length (all_tokens (v.closed ++ option_to_list o))) [
-  | None ↦ omega (arith, ap (λ ps. length (all_tokens ps)) (append-nil (v.closed ++ [])))
-  | Some p ↦ omega (arith, ap (λ ps. length (all_tokens ps)) (append-nil (v.closed ++ at_close p ∷ [])), tokens-last v.closed (at_close p), tokens-last v.closed p, at_close-length p)
-]
+token_count_closed v =
+    elim v.current as (λ o.
+    length (all_tokens ((v.closed ++ option_to_list (option_map at_close o)) ++ []))
+    ≤ length (all_tokens (v.closed ++ option_to_list o))) [
+      | None ↦ omega (arith, ap (λ ps. length (all_tokens ps)) (append-nil (v.closed ++ [])))
+      | Some p ↦
+          omega (
+            arith,
+            ap (λ ps. length (all_tokens ps)) (append-nil (v.closed ++ at_close p ∷ [])),
+            tokens-last v.closed (at_close p),
+            tokens-last v.closed p,
+            at_close-length p,
+          )
+    ]
 
-pub part_count_opened : (kind : PartKind) (v : PartsSoFar) → IsNone v.current → part_count (opened kind v) ≡ part_count v + 1
-part_count_opened kind v none = (elim v.current as (λ o. IsNone o → length (v.closed ++ (record { kind = kind; tokens = [] }) ∷ []) ≡ length (v.closed ++ option_to_list o) + 1) [
-  | None ↦ λ h. omega (arith, length-append v.closed (let p : Part = record { kind = kind; tokens = [] } in p ∷ []), length-append v.closed [])
-  | Some p ↦ λ h. cc
-]) none
+pub part_count_opened : (kind : PartKind) (v : PartsSoFar)
+    → IsNone v.current → part_count (opened kind v) ≡ part_count v + 1
+part_count_opened kind v none =
+    (elim v.current as (λ o.
+    IsNone o
+    → length (v.closed ++ (record { kind = kind; tokens = [] }) ∷ [])
+    ≡ length (v.closed ++ option_to_list o) + 1) [
+      | None ↦ λ h.
+          omega (
+            arith,
+            length-append v.closed (let p : Part = record { kind = kind; tokens = [] } in p ∷ []),
+            length-append v.closed [],
+          )
+      | Some p ↦ λ h. cc
+    ]) none
 
 pub part_count_pushed : (t : Token) (v : PartsSoFar) → part_count (pushed t v) ≡ part_count v
-part_count_pushed t v = elim v.current as (λ o. length (v.closed ++ option_to_list (option_map (longer t) o)) ≡ length (v.closed ++ option_to_list o)) [
-  | None ↦ refl
-  | Some p ↦ omega (arith, length-append v.closed (longer t p ∷ []), length-append v.closed (p ∷ []))
-]
+part_count_pushed t v =
+    elim v.current as (λ o.
+    length (v.closed ++ option_to_list (option_map (longer t) o)) ≡ length (v.closed ++ option_to_list o)) [
+      | None ↦ refl
+      | Some p ↦ omega (arith, length-append v.closed (longer t p ∷ []), length-append v.closed (p ∷ []))
+    ]
 
 pub part_count_dropped : (v : PartsSoFar) → part_count (dropped v) ≡ part_count v
-part_count_dropped v = elim v.current as (λ o. length (v.closed ++ option_to_list (option_map without_layout o)) ≡ length (v.closed ++ option_to_list o)) [
-  | None ↦ refl
-  | Some p ↦ omega (arith, length-append v.closed (without_layout p ∷ []), length-append v.closed (p ∷ []))
-]
+part_count_dropped v =
+    elim v.current as (λ o.
+    length (v.closed ++ option_to_list (option_map without_layout o)) ≡ length (v.closed ++ option_to_list o)) [
+      | None ↦ refl
+      | Some p ↦ omega (arith, length-append v.closed (without_layout p ∷ []), length-append v.closed (p ∷ []))
+    ]
 
 pub part_count_closed : (v : PartsSoFar) → part_count (all_closed v) ≡ part_count v
-part_count_closed v = elim v.current as (λ o. length ((v.closed ++ option_to_list (option_map at_close o)) ++ []) ≡ length (v.closed ++ option_to_list o)) [
-  | None ↦ ap length (append-nil (v.closed ++ []))
-  | Some p ↦ omega (arith, ap length (append-nil (v.closed ++ at_close p ∷ [])), length-append v.closed (at_close p ∷ []), length-append v.closed (p ∷ []))
-]
+part_count_closed v =
+    elim v.current as (λ o.
+    length ((v.closed ++ option_to_list (option_map at_close o)) ++ [])
+    ≡ length (v.closed ++ option_to_list o)) [
+      | None ↦ ap length (append-nil (v.closed ++ []))
+      | Some p ↦
+          omega (
+            arith,
+            ap length (append-nil (v.closed ++ at_close p ∷ [])),
+            length-append v.closed (at_close p ∷ []),
+            length-append v.closed (p ∷ []),
+          )
+    ]

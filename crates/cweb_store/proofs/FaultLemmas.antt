@@ -24,27 +24,37 @@ pub record Front {X : Type 0} (xs : List X) (i : ℕ) : Type 0 where
 pub front_at : {X : Type 0} (xs : List X) (i : ℕ) → i < length xs → Front xs i
 front_at [] i h = absurd (omega arith)
 front_at (x ∷ xs) zero h = record { item = x; there = refl; front = refl }
-front_at (x ∷ xs) (suc i) h = let rest = front_at xs i (omega arith) in record { item = rest.item; there = rest.there; front = rest.front }
+front_at (x ∷ xs) (suc i) h =
+    let rest = front_at xs i (omega arith) in record { item = rest.item; there = rest.there; front = rest.front }
 
 -- the faults from a name on are its own and those from the next on
-pub faults-step : (kind : NameKind) (fails : NameId → List ℕ → Bool) (ns : List Name) (i : ℕ) (b : Bool) (old new : List NameFault) → i < length ns →
-    option_map (λ (n : Name). fails (id i) n.text) (slice_get ns i) ≡ Some b → option_map (λ (n : Name). old ++ fault_if b kind n.first) (slice_get ns i) ≡ Some new →
+pub faults-step : (kind : NameKind) (fails : NameId → List ℕ → Bool)
+    (ns : List Name) (i : ℕ) (b : Bool) (old new : List NameFault) → i < length ns →
+    option_map (λ (n : Name). fails (id i) n.text) (slice_get ns i) ≡ Some b
+    → option_map (λ (n : Name). old ++ fault_if b kind n.first) (slice_get ns i) ≡ Some new →
     new ++ faults_from (i + 1) kind fails (drop (i + 1) ns) ≡ old ++ faults_from i kind fails (drop i ns)
 faults-step kind fails ns i b old new h test step =
     let f = front_at ns i h in
     let n = f.item in
     let rest = faults_from (i + 1) kind fails (drop (suc i) ns) in
-    let passes : fails (id i) n.text ≡ b = some_same (sym (ap (option_map (λ (m : Name). fails (id i) m.text)) f.there) ∙ test) in
-    let added : old ++ fault_if b kind n.first ≡ new = some_same (sym (ap (option_map (λ (m : Name). old ++ fault_if b kind m.first)) f.there) ∙ step) in
+    let passes : fails (id i) n.text ≡ b =
+    some_same (sym (ap (option_map (λ (m : Name). fails (id i) m.text)) f.there) ∙ test) in
+    let added : old ++ fault_if b kind n.first ≡ new =
+    some_same (sym (ap (option_map (λ (m : Name). old ++ fault_if b kind m.first)) f.there) ∙ step) in
     let split : fault_if b kind n.first ++ rest ≡ faults_from i kind fails (drop i ns) =
-    ap (λ v. fault_if v kind n.first ++ rest) (sym passes) ∙ one (fails (id i) n.text) n i (filter (λ (p : ℕ × Name). fails (id p.0) p.1.text) (enumerate_from (i + 1) (drop (suc i) ns))) ∙ sym (ap (faults_from i kind fails) f.front) in
+    ap (λ v. fault_if v kind n.first ++ rest) (sym passes)
+    ∙ one (fails (id i) n.text) n i
+    (filter (λ (p : ℕ × Name). fails (id p.0) p.1.text) (enumerate_from (i + 1) (drop (suc i) ns)))
+    ∙ sym (ap (faults_from i kind fails) f.front) in
     ap (λ ks. new ++ faults_from (i + 1) kind fails ks) (ap (λ k. drop k ns) (let e : i + 1 ≡ suc i = omega arith in e))
     ∙ ap (λ fs. fs ++ rest) (sym added) ∙ append_assoc old (fault_if b kind n.first) rest ∙ ap (λ fs. old ++ fs) split
   where
     some_same : {X : Type 0} {x y : X} → Some x ≡ Some y → x ≡ y
     some_same h = cc
 
-    one : (v : Bool) (n : Name) (i : ℕ) (others : List (ℕ × Name)) → fault_if v kind n.first ++ map (λ (p : ℕ × Name). fault kind p.1.first) others ≡ map (λ (p : ℕ × Name). fault kind p.1.first) (cond v ((i, n) ∷ others) others)
+    one : (v : Bool) (n : Name) (i : ℕ) (others : List (ℕ × Name))
+        → fault_if v kind n.first ++ map (λ (p : ℕ × Name). fault kind p.1.first) others
+        ≡ map (λ (p : ℕ × Name). fault kind p.1.first) (cond v ((i, n) ∷ others) others)
     one true n i others = refl
     one false n i others = refl
 
@@ -70,15 +80,21 @@ abbrev longer : List Name → List ℕ → Bool
 longer ns text = is_prefix_of_another ns text
 
 -- of a text that is no name, what begins with it is longer
-none-begins : (i : ℕ) (q : List ℕ) (ns : List Name) → list_any (bytes_eq q) (texts ns) ≡ false → is_nothing (found_of (beginning_from i q ns)) ≡ not (longer ns q)
+none-begins : (i : ℕ) (q : List ℕ) (ns : List Name) → list_any (bytes_eq q) (texts ns) ≡ false
+    → is_nothing (found_of (beginning_from i q ns)) ≡ not (longer ns q)
 unfolding is_nothing
 none-begins i q [] h = refl
 none-begins i q (n ∷ ns) h =
     let both = or-false (bytes_eq q n.text) (list_any (bytes_eq q) (texts ns)) h in
     let other : bytes_eq n.text q ≡ false = bytes_eq-sym n.text q ∙ both.left in
     let rest = none-begins (i + 1) q ns both.right in
-    (elim (starts_with nat_eq n.text q) as (λ b. is_nothing (found_of (if b then id i ∷ beginning_from (i + 1) q ns else beginning_from (i + 1) q ns)) ≡ not ((b && not (bytes_eq n.text q)) || longer ns q)) [
-      | true ↦ ap is_nothing (found-first (id i) (beginning_from (i + 1) q ns)) ∙ grown-nothing (id i) (found_of (beginning_from (i + 1) q ns)) ∙ ap (λ b. not (not b || longer ns q)) (sym other)
+    (elim (starts_with nat_eq n.text q) as (λ b.
+    is_nothing (found_of (if b then id i ∷ beginning_from (i + 1) q ns else beginning_from (i + 1) q ns))
+    ≡ not ((b && not (bytes_eq n.text q)) || longer ns q)) [
+      | true ↦
+          ap is_nothing (found-first (id i) (beginning_from (i + 1) q ns))
+          ∙ grown-nothing (id i) (found_of (beginning_from (i + 1) q ns))
+          ∙ ap (λ b. not (not b || longer ns q)) (sym other)
       | false ↦ rest
     ])
 
@@ -86,20 +102,34 @@ starts-same : (q : List ℕ) → starts_with nat_eq q q ≡ true
 starts-same q = ap (bytes_eq q) (take-length q) ∙ bytes_eq-same q
 
 -- of a name something begins with it
-some-begins : (i : ℕ) (q : List ℕ) (ns : List Name) → list_any (bytes_eq q) (texts ns) ≡ true → is_nothing (found_of (beginning_from i q ns)) ≡ false
+some-begins : (i : ℕ) (q : List ℕ) (ns : List Name) → list_any (bytes_eq q) (texts ns) ≡ true
+    → is_nothing (found_of (beginning_from i q ns)) ≡ false
 unfolding is_nothing
 some-begins i q [] h = cc
 some-begins i q (n ∷ ns) h =
-    (elim (bytes_eq q n.text) as (λ e. bytes_eq q n.text ≡ e → (e || list_any (bytes_eq q) (texts ns)) ≡ true → is_nothing (found_of (if starts_with nat_eq n.text q then id i ∷ beginning_from (i + 1) q ns else beginning_from (i + 1) q ns)) ≡ false) [
+    (elim (bytes_eq q n.text) as (λ e.
+    bytes_eq q n.text ≡ e → (e || list_any (bytes_eq q) (texts ns)) ≡ true
+    → is_nothing (found_of
+    (if starts_with nat_eq n.text q then id i ∷ beginning_from (i + 1) q ns
+    else beginning_from (i + 1) q ns)) ≡ false) [
       | true ↦ λ e g.
           let same : q ≡ n.text = (bytes_eq-Decides q n.text).0 e in
-          let begins : starts_with nat_eq n.text q ≡ true = ap (λ t. starts_with nat_eq t q) (sym same) ∙ starts-same q in
-          ap (λ b. is_nothing (found_of (if b then id i ∷ beginning_from (i + 1) q ns else beginning_from (i + 1) q ns))) begins
-          ∙ ap is_nothing (found-first (id i) (beginning_from (i + 1) q ns)) ∙ grown-nothing (id i) (found_of (beginning_from (i + 1) q ns))
-      | false ↦ λ e g. (elim (starts_with nat_eq n.text q) as (λ b. is_nothing (found_of (if b then id i ∷ beginning_from (i + 1) q ns else beginning_from (i + 1) q ns)) ≡ false) [
-        | true ↦ ap is_nothing (found-first (id i) (beginning_from (i + 1) q ns)) ∙ grown-nothing (id i) (found_of (beginning_from (i + 1) q ns))
-        | false ↦ some-begins (i + 1) q ns g
-      ])
+          let begins : starts_with nat_eq n.text q ≡ true =
+          ap (λ t. starts_with nat_eq t q) (sym same) ∙ starts-same q in
+          ap (λ b.
+          is_nothing (found_of (if b then id i ∷ beginning_from (i + 1) q ns else beginning_from (i + 1) q ns)))
+          begins
+          ∙ ap is_nothing (found-first (id i) (beginning_from (i + 1) q ns))
+          ∙ grown-nothing (id i) (found_of (beginning_from (i + 1) q ns))
+      | false ↦ λ e g.
+          (elim (starts_with nat_eq n.text q) as (λ b.
+          is_nothing (found_of (if b then id i ∷ beginning_from (i + 1) q ns else beginning_from (i + 1) q ns))
+          ≡ false) [
+            | true ↦
+                ap is_nothing (found-first (id i) (beginning_from (i + 1) q ns))
+                ∙ grown-nothing (id i) (found_of (beginning_from (i + 1) q ns))
+            | false ↦ some-begins (i + 1) q ns g
+          ])
     ]) refl h
 
 not-not : (b : Bool) → not (not b) ≡ b
@@ -107,23 +137,35 @@ not-not true = refl
 not-not false = refl
 
 -- several names begin with a name where one is longer
-several-longer : (i : ℕ) (q : List ℕ) (ns : List Name) → Distinct (texts ns) → list_any (bytes_eq q) (texts ns) ≡ true → is_several (found_of (beginning_from i q ns)) ≡ longer ns q
+several-longer : (i : ℕ) (q : List ℕ) (ns : List Name) → Distinct (texts ns)
+    → list_any (bytes_eq q) (texts ns) ≡ true → is_several (found_of (beginning_from i q ns)) ≡ longer ns q
 several-longer i q [] d h = cc
 several-longer i q (n ∷ ns) d h =
     let rest = found_of (beginning_from (i + 1) q ns) in
     (elim (bytes_eq q n.text) as (λ e. bytes_eq q n.text ≡ e → (e || list_any (bytes_eq q) (texts ns)) ≡ true →
-    is_several (found_of (if starts_with nat_eq n.text q then id i ∷ beginning_from (i + 1) q ns else beginning_from (i + 1) q ns)) ≡ ((starts_with nat_eq n.text q && not (bytes_eq n.text q)) || longer ns q)) [
+    is_several (found_of
+    (if starts_with nat_eq n.text q then id i ∷ beginning_from (i + 1) q ns else beginning_from (i + 1) q ns))
+    ≡ ((starts_with nat_eq n.text q && not (bytes_eq n.text q)) || longer ns q)) [
       | true ↦ λ e g.
           let same : q ≡ n.text = (bytes_eq-Decides q n.text).0 e in
-          let begins : starts_with nat_eq n.text q ≡ true = ap (λ t. starts_with nat_eq t q) (sym same) ∙ starts-same q in
-          let alone : list_any (bytes_eq q) (texts ns) ≡ false = ap (λ t. list_any (bytes_eq t) (texts ns)) same ∙ d.0 in
-          ap (λ b. is_several (found_of (if b then id i ∷ beginning_from (i + 1) q ns else beginning_from (i + 1) q ns))) begins
-          ∙ ap is_several (found-first (id i) (beginning_from (i + 1) q ns)) ∙ grown-several (id i) rest ∙ ap not (none-begins (i + 1) q ns alone) ∙ not-not (longer ns q)
+          let begins : starts_with nat_eq n.text q ≡ true =
+          ap (λ t. starts_with nat_eq t q) (sym same) ∙ starts-same q in
+          let alone : list_any (bytes_eq q) (texts ns) ≡ false =
+          ap (λ t. list_any (bytes_eq t) (texts ns)) same ∙ d.0 in
+          ap (λ b.
+          is_several (found_of (if b then id i ∷ beginning_from (i + 1) q ns else beginning_from (i + 1) q ns)))
+          begins
+          ∙ ap is_several (found-first (id i) (beginning_from (i + 1) q ns))
+          ∙ grown-several (id i) rest ∙ ap not (none-begins (i + 1) q ns alone) ∙ not-not (longer ns q)
           ∙ (λ j. (sym begins j && not ((sym e ∙ bytes_eq-sym q n.text) j)) || longer ns q)
       | false ↦ λ e g.
           let other : false ≡ bytes_eq n.text q = sym e ∙ bytes_eq-sym q n.text in
-          (elim (starts_with nat_eq n.text q) as (λ b. is_several (found_of (if b then id i ∷ beginning_from (i + 1) q ns else beginning_from (i + 1) q ns)) ≡ ((b && not (bytes_eq n.text q)) || longer ns q)) [
-            | true ↦ ap is_several (found-first (id i) (beginning_from (i + 1) q ns)) ∙ grown-several (id i) rest ∙ ap not (some-begins (i + 1) q ns g) ∙ ap (λ b. not b || longer ns q) other
+          (elim (starts_with nat_eq n.text q) as (λ b.
+          is_several (found_of (if b then id i ∷ beginning_from (i + 1) q ns else beginning_from (i + 1) q ns))
+          ≡ ((b && not (bytes_eq n.text q)) || longer ns q)) [
+            | true ↦
+                ap is_several (found-first (id i) (beginning_from (i + 1) q ns)) ∙ grown-several (id i) rest
+                ∙ ap not (some-begins (i + 1) q ns g) ∙ ap (λ b. not b || longer ns q) other
             | false ↦ several-longer (i + 1) q ns d.1 g
           ])
     ]) refl h
@@ -132,14 +174,22 @@ any-there : (ns : List Name) (i : ℕ) (n : Name) → slice_get ns i ≡ Some n 
 any-there [] i n h = cc
 any-there (m ∷ ns) zero n h =
     let same : m ≡ n = cc in
-    ap (λ (k : Name). bytes_eq n.text k.text || list_any (bytes_eq n.text) (texts ns)) same ∙ ap (λ b. b || list_any (bytes_eq n.text) (texts ns)) (bytes_eq-same n.text)
+    ap (λ (k : Name). bytes_eq n.text k.text || list_any (bytes_eq n.text) (texts ns)) same
+    ∙ ap (λ b. b || list_any (bytes_eq n.text) (texts ns)) (bytes_eq-same n.text)
 any-there (m ∷ ns) (suc i) n h =
-    ap (λ b. bytes_eq n.text m.text || b) (any-there ns i n h) ∙ elim (bytes_eq n.text m.text) as (λ b. (b || true) ≡ true) [ true ↦ refl | false ↦ refl ]
+    ap (λ b. bytes_eq n.text m.text || b) (any-there ns i n h)
+    ∙ elim (bytes_eq n.text m.text) as (λ b. (b || true) ≡ true) [ true ↦ refl | false ↦ refl ]
 
 -- a name is a proper prefix of another where several names begin with it
-pub prefix-several : (ns : List Name) (i : ℕ) (text : List ℕ) → Distinct (texts ns) → i < length ns → option_map (λ (n : Name). n.text) (slice_get ns i) ≡ Some text →
-    option_map (λ (n : Name). is_prefix_of_another ns n.text) (slice_get ns i) ≡ Some (is_several (found_of (beginning text ns)))
+pub prefix-several : (ns : List Name) (i : ℕ) (text : List ℕ) → Distinct (texts ns)
+    → i < length ns → option_map (λ (n : Name). n.text) (slice_get ns i) ≡ Some text →
+    option_map (λ (n : Name). is_prefix_of_another ns n.text) (slice_get ns i)
+    ≡ Some (is_several (found_of (beginning text ns)))
 prefix-several ns i text d h is =
     let f = front_at ns i h in
-    let same : f.item.text ≡ text = let e : Some f.item.text ≡ Some text = sym (ap (option_map (λ (n : Name). n.text)) f.there) ∙ is in cc in
-    ap (option_map (λ (n : Name). is_prefix_of_another ns n.text)) f.there ∙ ap Some (sym (several-longer 0 f.item.text ns d (any-there ns i f.item f.there)) ∙ ap (λ t. is_several (found_of (beginning t ns))) same)
+    let same : f.item.text ≡ text =
+    let e : Some f.item.text ≡ Some text = sym (ap (option_map (λ (n : Name). n.text)) f.there) ∙ is in cc in
+    ap (option_map (λ (n : Name). is_prefix_of_another ns n.text)) f.there
+    ∙ ap Some
+    (sym (several-longer 0 f.item.text ns d (any-there ns i f.item f.there))
+    ∙ ap (λ t. is_several (found_of (beginning t ns))) same)

@@ -18,33 +18,42 @@ use Rattle.cweb_store.proofs.NameLemmas.{or-false}
 use Rattle.cweb_store.proofs.OccurrenceLemmas.{Grows, names_from-grows, with_text-has}
 
 -- what occurrence k stands for, by the names before it and all names
-pub standings-at : (i : ℕ) (before all : List Name) (os : List Occurrence) (k : ℕ) (o : Occurrence) → slice_get os k ≡ Some o → slice_get (standings_from i before all os) k ≡ Some (standing_among (names_from i before (take k os)) all o)
+pub standings-at : (i : ℕ) (before all : List Name) (os : List Occurrence) (k : ℕ) (o : Occurrence)
+    → slice_get os k ≡ Some o
+    → slice_get (standings_from i before all os) k ≡ Some (standing_among (names_from i before (take k os)) all o)
 standings-at i before all [] k o h = cc
 standings-at i before all (x ∷ os) zero o h = let same : x ≡ o = cc in ap (λ y. Some (standing_among before all y)) same
 standings-at i before all (x ∷ os) (suc k) o h = standings-at (i + 1) (with_name i before x) all os k o h
 
-get-append : (os later : List Occurrence) (k : ℕ) (o : Occurrence) → slice_get os k ≡ Some o → slice_get (os ++ later) k ≡ Some o
+get-append : (os later : List Occurrence) (k : ℕ) (o : Occurrence)
+    → slice_get os k ≡ Some o → slice_get (os ++ later) k ≡ Some o
 get-append [] later k o h = cc
 get-append (x ∷ os) later zero o h = h
 get-append (x ∷ os) later (suc k) o h = get-append os later k o h
 
-take-before : (os later : List Occurrence) (k : ℕ) (o : Occurrence) → slice_get os k ≡ Some o → take k (os ++ later) ≡ take k os
+take-before : (os later : List Occurrence) (k : ℕ) (o : Occurrence)
+    → slice_get os k ≡ Some o → take k (os ++ later) ≡ take k os
 take-before [] later k o h = cc
 take-before (x ∷ os) later zero o h = refl
 take-before (x ∷ os) later (suc k) o h = ap (λ xs. x ∷ xs) (take-before os later k o h)
 
-pub names_from-append : (i j : ℕ) (ns : List Name) (os later : List Occurrence) → j ≡ i + length os → names_from i ns (os ++ later) ≡ names_from j (names_from i ns os) later
+pub names_from-append : (i j : ℕ) (ns : List Name) (os later : List Occurrence)
+    → j ≡ i + length os → names_from i ns (os ++ later) ≡ names_from j (names_from i ns os) later
 names_from-append i j ns [] later e = ap (λ k. names_from k ns later) (let same : i ≡ j = omega arith in same)
 names_from-append i j ns (o ∷ os) later e = names_from-append (i + 1) j (with_name i ns o) os later (omega arith)
 
-beginning-other : (i : ℕ) (p : List ℕ) (ns : List Name) (n : Name) → starts_with nat_eq n.text p ≡ false → beginning_from i p (ns ++ n ∷ []) ≡ beginning_from i p ns
+beginning-other : (i : ℕ) (p : List ℕ) (ns : List Name) (n : Name)
+    → starts_with nat_eq n.text p ≡ false → beginning_from i p (ns ++ n ∷ []) ≡ beginning_from i p ns
 beginning-other i p [] n h = ap (λ b. if b then id i ∷ [] else []) h
-beginning-other i p (m ∷ ns) n h = ap (λ ks. if starts_with nat_eq m.text p then id i ∷ ks else ks) (beginning-other (i + 1) p ns n h)
+beginning-other i p (m ∷ ns) n h =
+    ap (λ ks. if starts_with nat_eq m.text p then id i ∷ ks else ks) (beginning-other (i + 1) p ns n h)
 
-beginning-with_text : (j : ℕ) (p : List ℕ) (ns : List Name) (text : List ℕ) → starts_with nat_eq text p ≡ false → beginning p (with_text j ns text) ≡ beginning p ns
+beginning-with_text : (j : ℕ) (p : List ℕ) (ns : List Name) (text : List ℕ)
+    → starts_with nat_eq text p ≡ false → beginning p (with_text j ns text) ≡ beginning p ns
 beginning-with_text j p ns text h =
     let n : Name = record { text = text; first = j } in
-    elim (list_any (bytes_eq text) (texts ns)) as (λ b. beginning p (if b then ns else ns ++ n ∷ []) ≡ beginning p ns) [ true ↦ refl | false ↦ beginning-other 0 p ns n h ]
+    elim (list_any (bytes_eq text) (texts ns)) as (λ b. beginning p (if b then ns else ns ++ n ∷ []) ≡ beginning p ns)
+    [ true ↦ refl | false ↦ beginning-other 0 p ns n h ]
 
 beginning-with_name : (j : ℕ) (p : List ℕ) (ns : List Name) (text : List ℕ) (how : How) (is_file : Bool) →
     let o : Occurrence = record { text = text; how = how; is_file = is_file } in
@@ -53,11 +62,13 @@ beginning-with_name j p ns text Full is_file h = beginning-with_text j p ns text
 beginning-with_name j p ns text Prefix is_file h = refl
 
 -- names that don't begin with a prefix change nothing for it
-beginning-later : (j : ℕ) (p : List ℕ) (ns : List Name) (later : List Occurrence) → list_any (gives_beginning p) later ≡ false → beginning p (names_from j ns later) ≡ beginning p ns
+beginning-later : (j : ℕ) (p : List ℕ) (ns : List Name) (later : List Occurrence)
+    → list_any (gives_beginning p) later ≡ false → beginning p (names_from j ns later) ≡ beginning p ns
 beginning-later j p ns [] h = refl
 beginning-later j p ns (o ∷ later) h =
     let both = or-false (gives_beginning p o) (list_any (gives_beginning p) later) h in
-    beginning-later (j + 1) p (with_name j ns o) later both.right ∙ beginning-with_name j p ns o.text o.how o.is_file both.left
+    beginning-later (j + 1) p (with_name j ns o) later both.right
+    ∙ beginning-with_name j p ns o.text o.how o.is_file both.left
 
 pub among-prefix : (before all : List Name) (text : List ℕ) (how : How) (is_file : Bool) → how ≡ Prefix →
     let o : Occurrence = record { text = text; how = how; is_file = is_file } in
@@ -75,13 +86,18 @@ pub abbreviations_stay : AbbreviationsStay
 abbreviations_stay os later i o there prefix none =
     let before = names_from 0 [] (take i os) in
     let all : beginning o.text (names (os ++ later)) ≡ beginning o.text (names os) =
-    ap (beginning o.text) (names_from-append 0 (length os) [] os later (omega arith)) ∙ beginning-later (length os) o.text (names os) later none in
+    ap (beginning o.text) (names_from-append 0 (length os) [] os later (omega arith))
+    ∙ beginning-later (length os) o.text (names os) later none in
     standings-at 0 [] (names (os ++ later)) (os ++ later) i o (get-append os later i o there)
     ∙ ap (λ xs. Some (standing_among (names_from 0 [] xs) (names (os ++ later)) o)) (take-before os later i o there)
-    ∙ ap Some (among-prefix before (names (os ++ later)) o.text o.how o.is_file prefix ∙ ap (λ ns. the_one (beginning o.text before) (the_one ns (Err NeverFull))) all ∙ sym (among-prefix before (names os) o.text o.how o.is_file prefix))
+    ∙ ap Some
+    (among-prefix before (names (os ++ later)) o.text o.how o.is_file prefix
+    ∙ ap (λ ns. the_one (beginning o.text before) (the_one ns (Err NeverFull))) all
+    ∙ sym (among-prefix before (names os) o.text o.how o.is_file prefix))
     ∙ sym (standings-at 0 [] (names os) os i o there)
 
-get-middle : (earlier later : List Occurrence) (o : Occurrence) → slice_get (earlier ++ o ∷ later) (length earlier) ≡ Some o
+get-middle : (earlier later : List Occurrence) (o : Occurrence)
+    → slice_get (earlier ++ o ∷ later) (length earlier) ≡ Some o
 get-middle [] later o = refl
 get-middle (x ∷ earlier) later o = get-middle earlier later o
 
@@ -94,10 +110,15 @@ earlier_names_decide earlier later o n prefix only =
     let os = earlier ++ o ∷ later in
     standings-at 0 [] (names os) os (length earlier) o (get-middle earlier later o)
     ∙ ap (λ xs. Some (standing_among (names_from 0 [] xs) (names os) o)) (take-middle earlier (o ∷ later))
-    ∙ ap Some (among-prefix (names earlier) (names os) o.text o.how o.is_file prefix ∙ ap (λ ns. the_one ns (the_one (beginning o.text (names os)) (Err NeverFull))) only)
+    ∙ ap Some
+    (among-prefix (names earlier) (names os) o.text o.how o.is_file prefix
+    ∙ ap (λ ns. the_one ns (the_one (beginning o.text (names os)) (Err NeverFull))) only)
 
-pub any-grows : (p : List ℕ → Bool) (old new : List Name) → Grows old new → list_any p (texts old) ≡ true → list_any p (texts new) ≡ true
-any-grows p old new g h = ap (λ ns. list_any p (texts ns)) g.grows ∙ ap (list_any p) (map-append (λ (n : Name). n.text) old g.more) ∙ list_any-append p (texts old) (texts g.more) ∙ ap (λ b. b || list_any p (texts g.more)) h
+pub any-grows : (p : List ℕ → Bool) (old new : List Name) → Grows old new
+    → list_any p (texts old) ≡ true → list_any p (texts new) ≡ true
+any-grows p old new g h =
+    ap (λ ns. list_any p (texts ns)) g.grows ∙ ap (list_any p) (map-append (λ (n : Name). n.text) old g.more)
+    ∙ list_any-append p (texts old) (texts g.more) ∙ ap (λ b. b || list_any p (texts g.more)) h
 
 with_name-has : (i : ℕ) (ns : List Name) (text : List ℕ) (how : How) (is_file : Bool) → how ≡ Full →
     let o : Occurrence = record { text = text; how = how; is_file = is_file } in
@@ -106,48 +127,73 @@ with_name-has i ns text Full is_file h = with_text-has i ns text
 with_name-has i ns text Prefix is_file h = cc
 
 -- a text that is given in full is a name
-names-has : (i : ℕ) (ns : List Name) (os : List Occurrence) (k : ℕ) (o : Occurrence) → slice_get os k ≡ Some o → o.how ≡ Full → list_any (bytes_eq o.text) (texts (names_from i ns os)) ≡ true
+names-has : (i : ℕ) (ns : List Name) (os : List Occurrence) (k : ℕ) (o : Occurrence)
+    → slice_get os k ≡ Some o → o.how ≡ Full → list_any (bytes_eq o.text) (texts (names_from i ns os)) ≡ true
 names-has i ns [] k o h full = cc
 names-has i ns (x ∷ os) zero o h full =
     let same : x ≡ o = cc in
-    let there : list_any (bytes_eq o.text) (texts (with_name i ns x)) ≡ true = ap (λ y. list_any (bytes_eq o.text) (texts (with_name i ns y))) same ∙ with_name-has i ns o.text o.how o.is_file full in
-    any-grows (bytes_eq o.text) (with_name i ns x) (names_from (i + 1) (with_name i ns x) os) (names_from-grows (i + 1) (with_name i ns x) os) there
+    let there : list_any (bytes_eq o.text) (texts (with_name i ns x)) ≡ true =
+    ap (λ y. list_any (bytes_eq o.text) (texts (with_name i ns y))) same
+    ∙ with_name-has i ns o.text o.how o.is_file full in
+    any-grows (bytes_eq o.text) (with_name i ns x) (names_from (i + 1) (with_name i ns x) os)
+    (names_from-grows (i + 1) (with_name i ns x) os) there
 names-has i ns (x ∷ os) (suc k) o h full = names-has (i + 1) (with_name i ns x) os k o h full
 
-text_at-position : (text : List ℕ) (ns : List Name) → list_any (bytes_eq text) (texts ns) ≡ true → option_map (λ (n : Name). n.text) (slice_get ns (position_or_len (bytes_eq text) (texts ns))) ≡ Some text
+text_at-position : (text : List ℕ) (ns : List Name) → list_any (bytes_eq text) (texts ns) ≡ true
+    → option_map (λ (n : Name). n.text) (slice_get ns (position_or_len (bytes_eq text) (texts ns))) ≡ Some text
 text_at-position text [] h = cc
 text_at-position text (n ∷ ns) h =
     let rest = position_or_len (bytes_eq text) (texts ns) in
-    (elim (bytes_eq text n.text) as (λ b. bytes_eq text n.text ≡ b → (b || list_any (bytes_eq text) (texts ns)) ≡ true → option_map (λ (m : Name). m.text) (slice_get (n ∷ ns) (cond (not b) (1 + rest) 0)) ≡ Some text) [
+    (elim (bytes_eq text n.text) as (λ b.
+    bytes_eq text n.text ≡ b → (b || list_any (bytes_eq text) (texts ns)) ≡ true
+    → option_map (λ (m : Name). m.text) (slice_get (n ∷ ns) (cond (not b) (1 + rest) 0)) ≡ Some text) [
       | true ↦ λ e g. ap Some (sym ((bytes_eq-Decides text n.text).0 e))
-      | false ↦ λ e g. ap (λ k. option_map (λ (m : Name). m.text) (slice_get (n ∷ ns) k)) (let next : 1 + rest ≡ suc rest = omega arith in next) ∙ text_at-position text ns g
+      | false ↦ λ e g.
+          ap (λ k. option_map (λ (m : Name). m.text) (slice_get (n ∷ ns) k))
+          (let next : 1 + rest ≡ suc rest = omega arith in next) ∙ text_at-position text ns g
     ]) refl h
 
 pub full_names_stand_for_themselves : FullNamesStandForThemselves
 full_names_stand_for_themselves os i o there full =
     let n = id (position_or_len (bytes_eq o.text) (texts (names os))) in
-    let at : slice_get (standings os) i ≡ Some (Ok n) = standings-at 0 [] (names os) os i o there ∙ ap Some (among-full (names_from 0 [] (take i os)) (names os) o.text o.how o.is_file full) in
-    let here : stands (standings os) i ≡ Some n = ap (λ (r : Option Standing). let found : Option NameId = elim r [ Some v ↦ elim v [ Ok m ↦ Some m | Err kind ↦ None ] | None ↦ None ] in found) at in
-    ap (option_and_then (λ (m : NameId). option_map (λ (k : Name). k.text) (slice_get (names os) m.0))) here ∙ text_at-position o.text (names os) (names-has 0 [] os i o there full)
+    let at : slice_get (standings os) i ≡ Some (Ok n) =
+    standings-at 0 [] (names os) os i o there
+    ∙ ap Some (among-full (names_from 0 [] (take i os)) (names os) o.text o.how o.is_file full) in
+    let here : stands (standings os) i ≡ Some n =
+    ap (λ (r : Option Standing).
+    let found : Option NameId =
+    elim r [ Some v ↦ elim v [ Ok m ↦ Some m | Err kind ↦ None ] | None ↦ None ] in
+    found)
+    at in
+    ap (option_and_then (λ (m : NameId). option_map (λ (k : Name). k.text) (slice_get (names os) m.0))) here
+    ∙ text_at-position o.text (names os) (names-has 0 [] os i o there full)
 
 joined-append : (test : PartKind → Bool) (ps qs : List Part) → joined test (ps ++ qs) ≡ joined test ps ++ joined test qs
 joined-append test [] qs = refl
 joined-append test (p ∷ ps) qs =
     let rest = joined-append test ps qs in
-    elim (test p.kind) as (λ b. all_tokens (cond b (p ∷ filter (λ (q : Part). test q.kind) (ps ++ qs)) (filter (λ (q : Part). test q.kind) (ps ++ qs))) ≡ all_tokens (cond b (p ∷ filter (λ (q : Part). test q.kind) ps) (filter (λ (q : Part). test q.kind) ps)) ++ joined test qs) [
+    elim (test p.kind) as (λ b.
+    all_tokens (cond b (p ∷ filter (λ (q : Part). test q.kind) (ps ++ qs))
+    (filter (λ (q : Part). test q.kind) (ps ++ qs)))
+    ≡ all_tokens (cond b (p ∷ filter (λ (q : Part). test q.kind) ps) (filter (λ (q : Part). test q.kind) ps))
+    ++ joined test qs) [
       | true ↦ ap (λ ts. p.tokens ++ ts) rest ∙ sym (append_assoc p.tokens (joined test ps) (joined test qs))
       | false ↦ rest
     ]
 
 pub joining_concatenates : JoiningConcatenates
 joining_concatenates = record {
-  alone = λ test p. elim (test p.kind) as (λ b. all_tokens (cond b (p ∷ []) []) ≡ (if b then p.tokens else [])) [ true ↦ append-nil p.tokens | false ↦ refl ];
+  alone = λ test p.
+      elim (test p.kind) as (λ b. all_tokens (cond b (p ∷ []) []) ≡ (if b then p.tokens else []))
+      [ true ↦ append-nil p.tokens | false ↦ refl ];
   in_order = joined-append;
 }
 
-occurrences-from : (c : Contents) (calls : List Call) → (fold after c calls).occurrences ≡ c.occurrences ++ filter_map occurrence_in calls
+occurrences-from : (c : Contents) (calls : List Call)
+    → (fold after c calls).occurrences ≡ c.occurrences ++ filter_map occurrence_in calls
 occurrences-from c [] = sym (append-nil c.occurrences)
-occurrences-from c (Occurs o ∷ calls) = occurrences-from (after c (Occurs o)) calls ∙ append_assoc c.occurrences (o ∷ []) (filter_map occurrence_in calls)
+occurrences-from c (Occurs o ∷ calls) =
+    occurrences-from (after c (Occurs o)) calls ∙ append_assoc c.occurrences (o ∷ []) (filter_map occurrence_in calls)
 occurrences-from c (Opens kind ∷ calls) = occurrences-from (after c (Opens kind)) calls
 occurrences-from c (Pushes token ∷ calls) = occurrences-from (after c (Pushes token)) calls
 occurrences-from c (Drops ∷ calls) = occurrences-from (after c Drops) calls

@@ -7,13 +7,15 @@ use Rattle.cweb_store.specs.Layout.{before_last, without_last, without_last_afte
 use Rattle.cweb_store.specs.declared.parts.PartKind.TheVariants.{Macro}
 use Rattle.cweb_store.specs.MoreLaws.{AllPass, IsFront, DroppingKeepsTheFront, MacrosKeepTwoTokens}
 
-before_last-front : (test : Token → Bool) (t : Token) (ts us rest : List Token) → ts ≡ us ++ rest → AllPass test rest → IsFront test (t ∷ ts) (before_last test t us)
+before_last-front : (test : Token → Bool) (t : Token) (ts us rest : List Token)
+    → ts ≡ us ++ rest → AllPass test rest → IsFront test (t ∷ ts) (before_last test t us)
 before_last-front test t ts [] rest splits passes =
     (elim (test t) as (λ b. test t ≡ b → IsFront test (t ∷ ts) (if b then [] else t ∷ [])) [
       | true ↦ λ h. record { rest = t ∷ rest; splits = ap (λ xs. t ∷ xs) splits; passes = (h, passes) }
       | false ↦ λ h. record { rest = rest; splits = ap (λ xs. t ∷ xs) splits; passes = passes }
     ]) refl
-before_last-front test t ts (u ∷ us) rest splits passes = record { rest = rest; splits = ap (λ xs. t ∷ xs) splits; passes = passes }
+before_last-front test t ts (u ∷ us) rest splits passes =
+    record { rest = rest; splits = ap (λ xs. t ∷ xs) splits; passes = passes }
 
 pub without_last-front : (test : Token → Bool) (ts : List Token) → IsFront test ts (without_last test ts)
 without_last-front test [] = record { rest = []; splits = refl; passes = tt }
@@ -26,7 +28,9 @@ trimmed-front n test ts =
     let f = without_last-front test (drop n ts) in
     record {
       rest = f.rest;
-      splits = sym (take-append-drop n ts) ∙ ap (λ xs. take n ts ++ xs) f.splits ∙ sym (append_assoc (take n ts) (without_last test (drop n ts)) f.rest);
+      splits =
+          sym (take-append-drop n ts) ∙ ap (λ xs. take n ts ++ xs) f.splits
+          ∙ sym (append_assoc (take n ts) (without_last test (drop n ts)) f.rest);
       passes = f.passes;
     }
 
@@ -41,11 +45,16 @@ first-stay (suc n) test [] = refl
 first-stay (suc n) test (t ∷ ts) = ap (λ xs. t ∷ xs) (first-stay n test ts)
 
 pub dropping_keeps_the_front : DroppingKeepsTheFront
-dropping_keeps_the_front p = record { front = trimmed-front (first_kept p.kind) is_layout p.tokens; firsts = first-stay (first_kept p.kind) is_layout p.tokens }
+dropping_keeps_the_front p =
+    record {
+      front = trimmed-front (first_kept p.kind) is_layout p.tokens;
+      firsts = first-stay (first_kept p.kind) is_layout p.tokens;
+    }
 
 without_last-none : (test : Token → Bool) (ts : List Token) → AllPass test ts → without_last test ts ≡ []
 without_last-none test [] h = refl
-without_last-none test (t ∷ ts) h = ap (before_last test t) (without_last-none test ts h.1) ∙ ap (λ b. if b then [] else t ∷ []) h.0
+without_last-none test (t ∷ ts) h =
+    ap (before_last test t) (without_last-none test ts h.1) ∙ ap (λ b. if b then [] else t ∷ []) h.0
 
 pub macros_keep_two_tokens : MacrosKeepTwoTokens
 macros_keep_two_tokens = record {

@@ -17,13 +17,20 @@ use Rattle.cweb_store.specs.Links.{followed, group_of, is_same, is_group, head_o
 -- a part is wanted where its group is
 wanted-group : (rs : List Standing) (w : Wanted) (kind : PartKind) → is_wanted rs w kind ≡ is_group w (group_of rs kind)
 wanted-group rs Program Unnamed = refl
-wanted-group rs Program (Named name) = elim (stands rs name.0) as (λ o. false ≡ is_group Program (elim o [ None ↦ None | Some n ↦ Some (OfName n) ])) [ None ↦ refl | Some n ↦ refl ]
+wanted-group rs Program (Named name) =
+    elim (stands rs name.0) as (λ o. false ≡ is_group Program (elim o [ None ↦ None | Some n ↦ Some (OfName n) ]))
+    [ None ↦ refl | Some n ↦ refl ]
 wanted-group rs Program Macro = refl
 wanted-group rs (OfName n) Unnamed = refl
-wanted-group rs (OfName n) (Named name) = elim (stands rs name.0) as (λ o. is_some_id n o ≡ is_group (OfName n) (elim o [ None ↦ None | Some m ↦ Some (OfName m) ])) [ None ↦ refl | Some m ↦ refl ]
+wanted-group rs (OfName n) (Named name) =
+    elim (stands rs name.0)
+    as (λ o. is_some_id n o ≡ is_group (OfName n) (elim o [ None ↦ None | Some m ↦ Some (OfName m) ]))
+    [ None ↦ refl | Some m ↦ refl ]
 wanted-group rs (OfName n) Macro = refl
 wanted-group rs Macros Unnamed = refl
-wanted-group rs Macros (Named name) = elim (stands rs name.0) as (λ o. false ≡ is_group Macros (elim o [ None ↦ None | Some n ↦ Some (OfName n) ])) [ None ↦ refl | Some n ↦ refl ]
+wanted-group rs Macros (Named name) =
+    elim (stands rs name.0) as (λ o. false ≡ is_group Macros (elim o [ None ↦ None | Some n ↦ Some (OfName n) ]))
+    [ None ↦ refl | Some n ↦ refl ]
 wanted-group rs Macros Macro = refl
 
 head-same : (heads : Heads) (w v : Wanted) → is_same w v ≡ true → head_of heads v ≡ head_of heads w
@@ -37,7 +44,8 @@ head-same heads (OfName n) Macros h = cc
 head-same heads Macros Program h = cc
 head-same heads Macros (OfName m) h = cc
 
-skip-same : (heads : Heads) (behind : ℕ) (w : Wanted) (group : Option Wanted) → is_group w group ≡ true → skip_of heads behind group ≡ behind - head_of heads w
+skip-same : (heads : Heads) (behind : ℕ) (w : Wanted) (group : Option Wanted)
+    → is_group w group ≡ true → skip_of heads behind group ≡ behind - head_of heads w
 skip-same heads behind w None h = cc
 skip-same heads behind w (Some v) h = ap (λ k. behind - k) (head-same heads w v h)
 
@@ -46,20 +54,36 @@ put-within runs n m true is le = omega arith
 put-within runs n m false is le = omega arith
 
 -- one more part in front
-pub put-linked : (rs : List Standing) (r : Run) (runs : List Run) (skips : List ℕ) (old : Heads) (skip : ℕ) (new : Heads) → IsPut (group_of rs r.kind) (length runs) old skip new → AreLinked rs runs skips old → AreLinked rs (r ∷ runs) (skip ∷ skips) new
+pub put-linked : (rs : List Standing) (r : Run) (runs : List Run)
+    (skips : List ℕ) (old : Heads) (skip : ℕ) (new : Heads) → IsPut (group_of rs r.kind) (length runs) old skip new
+    → AreLinked rs runs skips old → AreLinked rs (r ∷ runs) (skip ∷ skips) new
 put-linked rs r runs skips old skip new put linked = record {
-  within = λ w. omega (arith, put-within (length runs) (head_of new w) (head_of old w) (is_group w (group_of rs r.kind)) (put.heads w) (linked.within w));
+  within = λ w.
+      omega (
+        arith,
+        put-within (length runs) (head_of new w) (head_of old w)
+            (is_group w (group_of rs r.kind)) (put.heads w) (linked.within w),
+      );
   follow = λ w.
       let others = filter (λ (x : Run). is_wanted rs w x.kind) runs in
-      (elim (is_group w (group_of rs r.kind)) as (λ b. is_group w (group_of rs r.kind) ≡ b → head_of new w ≡ (if b then length runs + 1 else head_of old w) →
-      followed (r ∷ runs) (skip ∷ skips) (length (r ∷ runs) - head_of new w) ≡ map (λ (x : Run). x.part) (cond b (r ∷ others) others)) [
+      (elim (is_group w (group_of rs r.kind)) as (λ b.
+      is_group w (group_of rs r.kind) ≡ b → head_of new w ≡ (if b then length runs + 1 else head_of old w) →
+      followed (r ∷ runs) (skip ∷ skips) (length (r ∷ runs) - head_of new w)
+      ≡ map (λ (x : Run). x.part) (cond b (r ∷ others) others)) [
         | true ↦ λ e first.
-            ap (followed (r ∷ runs) (skip ∷ skips)) (let here : length (r ∷ runs) - head_of new w ≡ zero = omega (arith, first) in here)
-            ∙ ap (λ ps. r.part ∷ ps) (ap (followed runs skips) (put.skips ∙ skip-same old (length runs) w (group_of rs r.kind) e) ∙ linked.follow w)
+            ap (followed (r ∷ runs) (skip ∷ skips))
+            (let here : length (r ∷ runs) - head_of new w ≡ zero = omega (arith, first) in here)
+            ∙ ap (λ ps. r.part ∷ ps)
+            (ap (followed runs skips) (put.skips ∙ skip-same old (length runs) w (group_of rs r.kind) e)
+            ∙ linked.follow w)
         | false ↦ λ e first.
-            ap (followed (r ∷ runs) (skip ∷ skips)) (let later : length (r ∷ runs) - head_of new w ≡ suc (length runs - head_of old w) = omega (arith, first, linked.within w) in later)
+            ap (followed (r ∷ runs) (skip ∷ skips))
+            (let later : length (r ∷ runs) - head_of new w ≡ suc (length runs - head_of old w) =
+            omega (arith, first, linked.within w) in
+            later)
             ∙ linked.follow w
-      ]) refl (put.heads w) ∙ ap (λ b. map (λ (x : Run). x.part) (cond b (r ∷ others) others)) (sym (wanted-group rs w r.kind));
+      ]) refl (put.heads w)
+      ∙ ap (λ b. map (λ (x : Run). x.part) (cond b (r ∷ others) others)) (sym (wanted-group rs w r.kind));
 }
 
 -- the first part that is met, and where the others are
@@ -75,7 +99,9 @@ followed-ended (r ∷ runs) [] n h = refl
 followed-ended (r ∷ runs) (skip ∷ skips) zero h = absurd (let none : ⊥ = omega arith in none)
 followed-ended (r ∷ runs) (skip ∷ skips) (suc n) h = followed-ended runs skips n (omega arith)
 
-pub followed-some : (runs : List Run) (skips : List ℕ) (n : ℕ) (r : Run) (skip : ℕ) → slice_get runs n ≡ Some r → slice_get skips n ≡ Some skip → followed runs skips n ≡ r.part ∷ followed (drop (suc n) runs) (drop (suc n) skips) skip
+pub followed-some : (runs : List Run) (skips : List ℕ) (n : ℕ) (r : Run) (skip : ℕ)
+    → slice_get runs n ≡ Some r → slice_get skips n ≡ Some skip
+    → followed runs skips n ≡ r.part ∷ followed (drop (suc n) runs) (drop (suc n) skips) skip
 followed-some [] skips n r skip here there = cc
 followed-some (x ∷ runs) [] n r skip here there = cc
 followed-some (x ∷ runs) (k ∷ skips) zero r skip here there =
@@ -87,15 +113,22 @@ followed-some (x ∷ runs) (k ∷ skips) (suc n) r skip here there = followed-so
 range-end : {X : Type 0} (xs : List X) (n : ℕ) → drop (suc n) xs ≡ slice_range xs (n + 1) (length xs)
 range-end xs n =
     let next : suc n ≡ n + 1 = omega arith in
-    sym (take_all (length xs - suc n) (drop (suc n) xs) (omega (arith, length-drop (suc n) xs))) ∙ ap (λ k. slice_range xs k (length xs)) next
+    sym (take_all (length xs - suc n) (drop (suc n) xs) (omega (arith, length-drop (suc n) xs)))
+    ∙ ap (λ k. slice_range xs k (length xs)) next
 
-pub followed-next : (runs : List Run) (skips : List ℕ) (n : ℕ) (r : Run) (skip : ℕ) → slice_get runs n ≡ Some r → slice_get skips n ≡ Some skip →
-    followed runs skips n ≡ r.part ∷ followed (slice_range runs (n + 1) (length runs)) (slice_range skips (n + 1) (length skips)) skip
-followed-next runs skips n r skip here there = followed-some runs skips n r skip here there ∙ (λ i. r.part ∷ followed (range-end runs n i) (range-end skips n i) skip)
+pub followed-next : (runs : List Run) (skips : List ℕ) (n : ℕ) (r : Run) (skip : ℕ)
+    → slice_get runs n ≡ Some r → slice_get skips n ≡ Some skip →
+    followed runs skips n
+    ≡ r.part ∷ followed (slice_range runs (n + 1) (length runs)) (slice_range skips (n + 1) (length skips)) skip
+followed-next runs skips n r skip here there =
+    followed-some runs skips n r skip here there
+    ∙ (λ i. r.part ∷ followed (range-end runs n i) (range-end skips n i) skip)
 
 -- one more part in front, where the links are gathered from the last part on
-pub step-linked : (rs : List Standing) (runs : List Run) (i behind skip : ℕ) (d : Run) (kept more : List ℕ) (group : Option Wanted) (old new : Heads) →
-    group ≡ group_of rs (get_or runs i d).kind → suc i + behind ≡ length runs → IsPut group behind old skip new → more ≡ kept ++ skip ∷ [] →
+pub step-linked : (rs : List Standing) (runs : List Run) (i behind skip : ℕ)
+    (d : Run) (kept more : List ℕ) (group : Option Wanted) (old new : Heads) →
+    group ≡ group_of rs (get_or runs i d).kind → suc i + behind ≡ length runs
+    → IsPut group behind old skip new → more ≡ kept ++ skip ∷ [] →
     AreLinked rs (drop (suc i) runs) (reverse kept) old → AreLinked rs (drop i runs) (reverse more) new
 step-linked rs runs i behind skip d kept more group old new belongs count put is linked =
     let others = drop (suc i) runs in
@@ -103,6 +136,8 @@ step-linked rs runs i behind skip d kept more group old new belongs count put is
     let here : drop i runs ≡ get_or runs i d ∷ others = drop-cons runs i d (omega (arith, count)) in
     let back : reverse more ≡ skip ∷ reverse kept = ap reverse is ∙ reverse-append kept (skip ∷ []) in
     let put_here : IsPut (group_of rs (get_or runs i d).kind) (length others) old skip new =
-    subst (λ (n : ℕ). IsPut (group_of rs (get_or runs i d).kind) n old skip new) size (subst (λ (g : Option Wanted). IsPut g behind old skip new) belongs put) in
+    subst (λ (n : ℕ). IsPut (group_of rs (get_or runs i d).kind) n old skip new) size
+    (subst (λ (g : Option Wanted). IsPut g behind old skip new) belongs put) in
     subst (λ (xs : List Run). AreLinked rs xs (reverse more) new) (sym here)
-    (subst (λ (ks : List ℕ). AreLinked rs (get_or runs i d ∷ others) ks new) (sym back) (put-linked rs (get_or runs i d) others (reverse kept) old skip new put_here linked))
+    (subst (λ (ks : List ℕ). AreLinked rs (get_or runs i d ∷ others) ks new) (sym back)
+    (put-linked rs (get_or runs i d) others (reverse kept) old skip new put_here linked))

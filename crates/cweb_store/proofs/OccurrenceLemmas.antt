@@ -18,10 +18,13 @@ use Rattle.cweb_store.proofs.NameLemmas.{bytes_eq-same}
 with_text-few : (i : ℕ) (ns : List Name) (text : List ℕ) → length (with_text i ns text) ≤ length ns + 1
 with_text-few i ns text =
     let n : Name = record { text = text; first = i } in
-    elim (list_any (bytes_eq text) (texts ns)) as (λ b. length (if b then ns else ns ++ n ∷ []) ≤ length ns + 1) [ true ↦ omega arith | false ↦ omega (arith, length-append ns (n ∷ [])) ]
+    elim (list_any (bytes_eq text) (texts ns)) as (λ b. length (if b then ns else ns ++ n ∷ []) ≤ length ns + 1)
+    [ true ↦ omega arith | false ↦ omega (arith, length-append ns (n ∷ [])) ]
 
 with_name-few : (i : ℕ) (ns : List Name) (o : Occurrence) → length (with_name i ns o) ≤ length ns + 1
-with_name-few i ns o = elim o.how as (λ how. length {A = Name} (elim how [ Full ↦ with_text i ns o.text | Prefix ↦ ns ]) ≤ length ns + 1) [ Full ↦ with_text-few i ns o.text | Prefix ↦ omega arith ]
+with_name-few i ns o =
+    elim o.how as (λ how. length {A = Name} (elim how [ Full ↦ with_text i ns o.text | Prefix ↦ ns ]) ≤ length ns + 1)
+    [ Full ↦ with_text-few i ns o.text | Prefix ↦ omega arith ]
 
 names_from-few : (i : ℕ) (ns : List Name) (os : List Occurrence) → length (names_from i ns os) ≤ length ns + length os
 names_from-few i ns [] = omega arith
@@ -31,21 +34,31 @@ names_from-few i ns (o ∷ os) = omega (arith, names_from-few (i + 1) (with_name
 pub names-few : (os : List Occurrence) → length (names os) ≤ length os
 names-few os = omega (arith, names_from-few 0 [] os)
 
-names_from-push : (i j : ℕ) (ns : List Name) (os : List Occurrence) (o : Occurrence) → j ≡ i + length os → names_from i ns (os ++ o ∷ []) ≡ with_name j (names_from i ns os) o
+names_from-push : (i j : ℕ) (ns : List Name) (os : List Occurrence) (o : Occurrence)
+    → j ≡ i + length os → names_from i ns (os ++ o ∷ []) ≡ with_name j (names_from i ns os) o
 names_from-push i j ns [] o e = ap (λ k. with_name k ns o) (let same : i ≡ j = omega arith in same)
 names_from-push i j ns (p ∷ os) o e = names_from-push (i + 1) j (with_name i ns p) os o (omega arith)
 
-earlies_from-push : (i : ℕ) (ns : List Name) (os : List Occurrence) (o : Occurrence) → earlies_from i ns (os ++ o ∷ []) ≡ earlies_from i ns os ++ early (names_from i ns os) o ∷ []
+earlies_from-push : (i : ℕ) (ns : List Name) (os : List Occurrence) (o : Occurrence)
+    → earlies_from i ns (os ++ o ∷ []) ≡ earlies_from i ns os ++ early (names_from i ns os) o ∷ []
 earlies_from-push i ns [] o = refl
 earlies_from-push i ns (p ∷ os) o = ap (λ fs. early ns p ∷ fs) (earlies_from-push (i + 1) (with_name i ns p) os o)
 
 -- one more occurrence
-pub given-push : (known more : List Name) (gs : List Given) (g : Given) → AreGiven known gs → length gs + 1 < too_many → g.found ≡ early known (occurrence_in g) → more ≡ with_name (length gs) known (occurrence_in g) → AreGiven more (gs ++ g ∷ [])
+pub given-push : (known more : List Name) (gs : List Given) (g : Given) → AreGiven known gs
+    → length gs + 1 < too_many → g.found ≡ early known (occurrence_in g)
+    → more ≡ with_name (length gs) known (occurrence_in g) → AreGiven more (gs ++ g ∷ [])
 given-push known more gs g tied few found new =
     let count : length gs ≡ 0 + length (occurrences_in gs) = omega (arith, length-map gs occurrence_in) in
     record {
-      known_names = new ∙ ap (λ ns. with_name (length gs) ns (occurrence_in g)) tied.known_names ∙ sym (names_from-push 0 (length gs) [] (occurrences_in gs) (occurrence_in g) count) ∙ ap names (sym (map-append occurrence_in gs (g ∷ [])));
-      found_early = map-append (λ (h : Given). h.found) gs (g ∷ []) ∙ (λ i. tied.found_early i ++ (found ∙ ap (λ ns. early ns (occurrence_in g)) tied.known_names) i ∷ []) ∙ sym (earlies_from-push 0 [] (occurrences_in gs) (occurrence_in g))
+      known_names =
+          new ∙ ap (λ ns. with_name (length gs) ns (occurrence_in g)) tied.known_names
+          ∙ sym (names_from-push 0 (length gs) [] (occurrences_in gs) (occurrence_in g) count)
+          ∙ ap names (sym (map-append occurrence_in gs (g ∷ [])));
+      found_early =
+          map-append (λ (h : Given). h.found) gs (g ∷ [])
+          ∙ (λ i. tied.found_early i ++ (found ∙ ap (λ ns. early ns (occurrence_in g)) tied.known_names) i ∷ [])
+          ∙ sym (earlies_from-push 0 [] (occurrences_in gs) (occurrence_in g))
           ∙ ap (earlies_from 0 []) (sym (map-append occurrence_in gs (g ∷ [])));
       few = omega (arith, length-append gs (g ∷ []));
     }
@@ -58,62 +71,90 @@ pub record Grows (old new : List Name) : Type 0 where
 with_text-grows : (i : ℕ) (ns : List Name) (text : List ℕ) → Grows ns (with_text i ns text)
 with_text-grows i ns text =
     let n : Name = record { text = text; first = i } in
-    elim (list_any (bytes_eq text) (texts ns)) as (λ b. Grows ns (if b then ns else ns ++ n ∷ [])) [ true ↦ record { more = []; grows = sym (append-nil ns) } | false ↦ record { more = n ∷ []; grows = refl } ]
+    elim (list_any (bytes_eq text) (texts ns)) as (λ b. Grows ns (if b then ns else ns ++ n ∷ []))
+    [ true ↦ record { more = []; grows = sym (append-nil ns) } | false ↦ record { more = n ∷ []; grows = refl } ]
 
 pub with_name-grows : (i : ℕ) (ns : List Name) (o : Occurrence) → Grows ns (with_name i ns o)
-with_name-grows i ns o = elim o.how as (λ how. Grows ns (elim how [ Full ↦ with_text i ns o.text | Prefix ↦ ns ])) [ Full ↦ with_text-grows i ns o.text | Prefix ↦ record { more = []; grows = sym (append-nil ns) } ]
+with_name-grows i ns o =
+    elim o.how as (λ how. Grows ns (elim how [ Full ↦ with_text i ns o.text | Prefix ↦ ns ]))
+    [ Full ↦ with_text-grows i ns o.text | Prefix ↦ record { more = []; grows = sym (append-nil ns) } ]
 
 pub names_from-grows : (i : ℕ) (ns : List Name) (os : List Occurrence) → Grows ns (names_from i ns os)
 names_from-grows i ns [] = record { more = []; grows = sym (append-nil ns) }
 names_from-grows i ns (o ∷ os) =
     let one = with_name-grows i ns o in
     let rest = names_from-grows (i + 1) (with_name i ns o) os in
-    record { more = one.more ++ rest.more; grows = rest.grows ∙ ap (λ ms. ms ++ rest.more) one.grows ∙ append_assoc ns one.more rest.more }
+    record {
+      more = one.more ++ rest.more;
+      grows = rest.grows ∙ ap (λ ms. ms ++ rest.more) one.grows ∙ append_assoc ns one.more rest.more;
+    }
 
 texts-append : (ns ms : List Name) → texts (ns ++ ms) ≡ texts ns ++ texts ms
 texts-append ns ms = map-append (λ (m : Name). m.text) ns ms
 
-position-append : (p : List ℕ → Bool) (xs ys : List (List ℕ)) → list_any p xs ≡ true → position_or_len p (xs ++ ys) ≡ position_or_len p xs
+position-append : (p : List ℕ → Bool) (xs ys : List (List ℕ))
+    → list_any p xs ≡ true → position_or_len p (xs ++ ys) ≡ position_or_len p xs
 position-append p [] ys h = cc
 position-append p (x ∷ xs) ys h =
-    (elim (p x) as (λ b. (b || list_any p xs) ≡ true → cond (not b) (1 + position_or_len p (xs ++ ys)) 0 ≡ cond (not b) (1 + position_or_len p xs) 0) [
+    (elim (p x) as (λ b.
+    (b || list_any p xs) ≡ true
+    → cond (not b) (1 + position_or_len p (xs ++ ys)) 0 ≡ cond (not b) (1 + position_or_len p xs) 0) [
       | true ↦ λ g. refl
       | false ↦ λ g. ap (λ n. 1 + n) (position-append p xs ys g)
     ]) h
 
 any-last : (p : List ℕ → Bool) (xs : List (List ℕ)) (y : List ℕ) → p y ≡ true → list_any p (xs ++ y ∷ []) ≡ true
 any-last p [] y h = ap (λ b. b || false) h
-any-last p (x ∷ xs) y h = ap (λ b. p x || b) (any-last p xs y h) ∙ elim (p x) as (λ b. (b || true) ≡ true) [ true ↦ refl | false ↦ refl ]
+any-last p (x ∷ xs) y h =
+    ap (λ b. p x || b) (any-last p xs y h) ∙ elim (p x) as (λ b. (b || true) ≡ true) [ true ↦ refl | false ↦ refl ]
 
-position-last : (p : List ℕ → Bool) (xs : List (List ℕ)) (y : List ℕ) → p y ≡ true → list_any p xs ≡ false → position_or_len p (xs ++ y ∷ []) ≡ position_or_len p xs
+position-last : (p : List ℕ → Bool) (xs : List (List ℕ)) (y : List ℕ) → p y ≡ true
+    → list_any p xs ≡ false → position_or_len p (xs ++ y ∷ []) ≡ position_or_len p xs
 position-last p [] y h none = ap (λ b. cond (not b) 1 0) h
 position-last p (x ∷ xs) y h none =
-    (elim (p x) as (λ b. (b || list_any p xs) ≡ false → cond (not b) (1 + position_or_len p (xs ++ y ∷ [])) 0 ≡ cond (not b) (1 + position_or_len p xs) 0) [
+    (elim (p x) as (λ b.
+    (b || list_any p xs) ≡ false
+    → cond (not b) (1 + position_or_len p (xs ++ y ∷ [])) 0 ≡ cond (not b) (1 + position_or_len p xs) 0) [
       | true ↦ λ g. cc
       | false ↦ λ g. ap (λ n. 1 + n) (position-last p xs y h g)
     ]) none
 
 -- a text is among the names once it is given in full
-pub with_text-has : (i : ℕ) (ns : List Name) (text : List ℕ) → list_any (bytes_eq text) (texts (with_text i ns text)) ≡ true
+pub with_text-has : (i : ℕ) (ns : List Name) (text : List ℕ)
+    → list_any (bytes_eq text) (texts (with_text i ns text)) ≡ true
 with_text-has i ns text =
     let n : Name = record { text = text; first = i } in
-    (elim (list_any (bytes_eq text) (texts ns)) as (λ b. list_any (bytes_eq text) (texts ns) ≡ b → list_any (bytes_eq text) (texts (if b then ns else ns ++ n ∷ [])) ≡ true) [
+    (elim (list_any (bytes_eq text) (texts ns)) as (λ b.
+    list_any (bytes_eq text) (texts ns) ≡ b
+    → list_any (bytes_eq text) (texts (if b then ns else ns ++ n ∷ [])) ≡ true) [
       | true ↦ λ h. h
-      | false ↦ λ h. ap (list_any (bytes_eq text)) (texts-append ns (n ∷ [])) ∙ any-last (bytes_eq text) (texts ns) text (bytes_eq-same text)
+      | false ↦ λ h.
+          ap (list_any (bytes_eq text)) (texts-append ns (n ∷ []))
+          ∙ any-last (bytes_eq text) (texts ns) text (bytes_eq-same text)
     ]) refl
 
 -- and its number is the one that it had, or that of the first new name
-with_text-position : (i : ℕ) (ns : List Name) (text : List ℕ) → position_or_len (bytes_eq text) (texts (with_text i ns text)) ≡ position_or_len (bytes_eq text) (texts ns)
+with_text-position : (i : ℕ) (ns : List Name) (text : List ℕ)
+    → position_or_len (bytes_eq text) (texts (with_text i ns text)) ≡ position_or_len (bytes_eq text) (texts ns)
 with_text-position i ns text =
     let n : Name = record { text = text; first = i } in
-    (elim (list_any (bytes_eq text) (texts ns)) as (λ b. list_any (bytes_eq text) (texts ns) ≡ b → position_or_len (bytes_eq text) (texts (if b then ns else ns ++ n ∷ [])) ≡ position_or_len (bytes_eq text) (texts ns)) [
+    (elim (list_any (bytes_eq text) (texts ns)) as (λ b.
+    list_any (bytes_eq text) (texts ns) ≡ b
+    → position_or_len (bytes_eq text) (texts (if b then ns else ns ++ n ∷ []))
+    ≡ position_or_len (bytes_eq text) (texts ns)) [
       | true ↦ λ h. refl
-      | false ↦ λ h. ap (position_or_len (bytes_eq text)) (texts-append ns (n ∷ [])) ∙ position-last (bytes_eq text) (texts ns) text (bytes_eq-same text) h
+      | false ↦ λ h.
+          ap (position_or_len (bytes_eq text)) (texts-append ns (n ∷ []))
+          ∙ position-last (bytes_eq text) (texts ns) text (bytes_eq-same text) h
     ]) refl
 
 -- a name keeps its number
-pub position-grows : (text : List ℕ) (old new : List Name) → Grows old new → list_any (bytes_eq text) (texts old) ≡ true → position_or_len (bytes_eq text) (texts new) ≡ position_or_len (bytes_eq text) (texts old)
-position-grows text old new g there = ap (λ ns. position_or_len (bytes_eq text) (texts ns)) g.grows ∙ ap (position_or_len (bytes_eq text)) (texts-append old g.more) ∙ position-append (bytes_eq text) (texts old) (texts g.more) there
+pub position-grows : (text : List ℕ) (old new : List Name) → Grows old new → list_any (bytes_eq text) (texts old) ≡ true
+    → position_or_len (bytes_eq text) (texts new) ≡ position_or_len (bytes_eq text) (texts old)
+position-grows text old new g there =
+    ap (λ ns. position_or_len (bytes_eq text) (texts ns)) g.grows
+    ∙ ap (position_or_len (bytes_eq text)) (texts-append old g.more)
+    ∙ position-append (bytes_eq text) (texts old) (texts g.more) there
 
 by_found-the_one : (ns : List NameId) (otherwise : Standing) → by_found (found_of ns) otherwise ≡ the_one ns otherwise
 by_found-the_one [] otherwise = refl
@@ -129,22 +170,36 @@ settled-one : (i : ℕ) (before : List Name) (os : List Occurrence) (text : List
     by_found (early before o) (late all text) ≡ standing_among before all o
 settled-one i before os text Full is_file =
     let grown = names_from-grows (i + 1) (with_text i before text) os in
-    ap (λ n. Ok (id n)) (sym (position-grows text (with_text i before text) (names_from (i + 1) (with_text i before text) os) grown (with_text-has i before text) ∙ with_text-position i before text))
+    ap (λ n. Ok (id n))
+    (sym (position-grows text (with_text i before text)
+    (names_from (i + 1) (with_text i before text) os) grown (with_text-has i before text)
+    ∙ with_text-position i before text))
 settled-one i before os text Prefix is_file =
     let all = names_from (i + 1) before os in
-    by_found-the_one (beginning text before) (late all text) ∙ ap (the_one (beginning text before)) (by_found-the_one (beginning text all) (Err NeverFull))
+    by_found-the_one (beginning text before) (late all text)
+    ∙ ap (the_one (beginning text before)) (by_found-the_one (beginning text all) (Err NeverFull))
 
-settled-from : (i : ℕ) (before : List Name) (gs : List Given) (all : List Name) → all ≡ names_from i before (occurrences_in gs) → map (λ (g : Given). g.found) gs ≡ earlies_from i before (occurrences_in gs) →
+settled-from : (i : ℕ) (before : List Name) (gs : List Given) (all : List Name)
+    → all ≡ names_from i before (occurrences_in gs)
+    → map (λ (g : Given). g.found) gs ≡ earlies_from i before (occurrences_in gs) →
     map (settled all) gs ≡ standings_from i before all (occurrences_in gs)
 settled-from i before [] all is found = refl
 settled-from i before (g ∷ gs) all is found =
     let here : g.found ≡ early before (occurrence_in g) = cc in
-    let rest : map (λ (h : Given). h.found) gs ≡ earlies_from (i + 1) (with_name i before (occurrence_in g)) (occurrences_in gs) = cc in
+    let rest : map (λ (h : Given). h.found) gs
+    ≡ earlies_from (i + 1) (with_name i before (occurrence_in g)) (occurrences_in gs) =
+    cc in
     let one : settled all g ≡ standing_among before all (occurrence_in g) =
     ap (λ f. by_found f (late all g.text.items)) here
-    ∙ subst (λ (ns : List Name). by_found (early before (occurrence_in g)) (late ns g.text.items) ≡ standing_among before ns (occurrence_in g)) (sym is) (settled-one i before (occurrences_in gs) g.text.items g.how g.is_file) in
+    ∙ subst (λ (ns : List Name).
+    by_found (early before (occurrence_in g)) (late ns g.text.items)
+    ≡ standing_among before ns (occurrence_in g))
+    (sym is) (settled-one i before (occurrences_in gs) g.text.items g.how g.is_file) in
     (λ j. one j ∷ settled-from (i + 1) (with_name i before (occurrence_in g)) gs all is rest j)
 
 -- what is found early, and else late, is what each occurrence stands for
-pub settled-standings : (known : List Name) (gs : List Given) → AreGiven known gs → map (settled known) gs ≡ standings (occurrences_in gs)
-settled-standings known gs tied = settled-from 0 [] gs known tied.known_names tied.found_early ∙ ap (λ ns. standings_from 0 [] ns (occurrences_in gs)) tied.known_names
+pub settled-standings : (known : List Name) (gs : List Given)
+    → AreGiven known gs → map (settled known) gs ≡ standings (occurrences_in gs)
+settled-standings known gs tied =
+    settled-from 0 [] gs known tied.known_names tied.found_early
+    ∙ ap (λ ns. standings_from 0 [] ns (occurrences_in gs)) tied.known_names

@@ -22,17 +22,25 @@ ends-le : (n all : ℕ) (ends : List ℕ) → AreEnds n ends all → n ≤ all
 ends-le n all [] h = omega arith
 ends-le n all (e ∷ es) h = omega (arith, h.0, ends-le e all es h.1)
 
-range-grow : (bytes more : List ℕ) (i j : ℕ) → i ≤ j → j ≤ length bytes → slice_range (bytes ++ more) i j ≡ slice_range bytes i j
+range-grow : (bytes more : List ℕ) (i j : ℕ) → i ≤ j → j ≤ length bytes
+    → slice_range (bytes ++ more) i j ≡ slice_range bytes i j
 range-grow bytes more i j le within =
-    ap (take (j - i)) (drop-append-le i bytes more (omega arith)) ∙ take-append-le (j - i) (drop i bytes) more (omega (arith, length-drop i bytes))
+    ap (take (j - i)) (drop-append-le i bytes more (omega arith))
+    ∙ take-append-le (j - i) (drop i bytes) more (omega (arith, length-drop i bytes))
 
 range-end : (bytes text : List ℕ) → slice_range (bytes ++ text) (length bytes) (length (bytes ++ text)) ≡ text
 range-end bytes text =
-    ap (take (length (bytes ++ text) - length bytes)) (drop-append_seam bytes text) ∙ ap (λ n. take n text) (let e : length (bytes ++ text) - length bytes ≡ length text = omega (arith, length-append bytes text) in e) ∙ take-length text
+    ap (take (length (bytes ++ text) - length bytes)) (drop-append_seam bytes text)
+    ∙ ap (λ n. take n text)
+    (let e : length (bytes ++ text) - length bytes ≡ length text = omega (arith, length-append bytes text) in e)
+    ∙ take-length text
 
-pub texts-push : (bytes text : List ℕ) (n : ℕ) (ends : List ℕ) → AreEnds n ends (length bytes) → texts_from (bytes ++ text) n (ends ++ length (bytes ++ text) ∷ []) ≡ texts_from bytes n ends ++ text ∷ []
-texts-push bytes text n [] h = ap (λ k. slice_range (bytes ++ text) k (length (bytes ++ text)) ∷ []) h ∙ ap (λ t. t ∷ []) (range-end bytes text)
-texts-push bytes text n (e ∷ es) h = λ i. range-grow bytes text n e h.0 (ends-le e (length bytes) es h.1) i ∷ texts-push bytes text e es h.1 i
+pub texts-push : (bytes text : List ℕ) (n : ℕ) (ends : List ℕ) → AreEnds n ends (length bytes)
+    → texts_from (bytes ++ text) n (ends ++ length (bytes ++ text) ∷ []) ≡ texts_from bytes n ends ++ text ∷ []
+texts-push bytes text n [] h =
+    ap (λ k. slice_range (bytes ++ text) k (length (bytes ++ text)) ∷ []) h ∙ ap (λ t. t ∷ []) (range-end bytes text)
+texts-push bytes text n (e ∷ es) h = λ i.
+    range-grow bytes text n e h.0 (ends-le e (length bytes) es h.1) i ∷ texts-push bytes text e es h.1 i
 
 pub ends-push : (n all more : ℕ) (ends : List ℕ) → AreEnds n ends all → all ≤ more → AreEnds n (ends ++ more ∷ []) more
 ends-push n all more [] h le = (omega arith, refl)
@@ -42,7 +50,8 @@ pub texts-count : (bytes : List ℕ) (n : ℕ) (ends : List ℕ) → length (tex
 texts-count bytes n [] = refl
 texts-count bytes n (e ∷ es) = omega (arith, texts-count bytes e es)
 
-pub texts-at : (bytes : List ℕ) (n : ℕ) (ends : List ℕ) (k d : ℕ) → k < length ends → slice_get (texts_from bytes n ends) k ≡ Some (slice_range bytes (begin_of n ends k) (slice_index_or ends k d))
+pub texts-at : (bytes : List ℕ) (n : ℕ) (ends : List ℕ) (k d : ℕ) → k < length ends
+    → slice_get (texts_from bytes n ends) k ≡ Some (slice_range bytes (begin_of n ends k) (slice_index_or ends k d))
 texts-at bytes n [] k d h = absurd (let none : ⊥ = omega arith in none)
 texts-at bytes n (e ∷ es) zero d h = refl
 texts-at bytes n (e ∷ es) (suc k) d h = texts-at bytes e es k d (omega arith)
@@ -52,22 +61,33 @@ begin-at n [] k d h = absurd (let none : ⊥ = omega arith in none)
 begin-at n (e ∷ es) zero d h = refl
 begin-at n (e ∷ es) (suc k) d h = begin-at e es k d (omega arith)
 
-pub ends-at : (n all : ℕ) (ends : List ℕ) (k d : ℕ) → AreEnds n ends all → k < length ends → (begin_of n ends k ≤ slice_index_or ends k d) × (slice_index_or ends k d ≤ all)
+pub ends-at : (n all : ℕ) (ends : List ℕ) (k d : ℕ) → AreEnds n ends all → k < length ends
+    → (begin_of n ends k ≤ slice_index_or ends k d) × (slice_index_or ends k d ≤ all)
 ends-at n all [] k d tied h = absurd (let none : ⊥ = omega arith in none)
 ends-at n all (e ∷ es) zero d tied h = (tied.0, ends-le e all es tied.1)
 ends-at n all (e ∷ es) (suc k) d tied h = ends-at e all es k d tied.1 (omega arith)
 
-bytes-from : (bytes : List ℕ) (n : ℕ) (ends : List ℕ) → AreEnds n ends (length bytes) → length (text_bytes (texts_from bytes n ends)) + n ≡ length bytes
+bytes-from : (bytes : List ℕ) (n : ℕ) (ends : List ℕ) → AreEnds n ends (length bytes)
+    → length (text_bytes (texts_from bytes n ends)) + n ≡ length bytes
 bytes-from bytes n [] h = omega (arith, h)
 bytes-from bytes n (e ∷ es) h =
-    let size : length (slice_range bytes n e) ≡ e - n = length-take-le (e - n) (drop n bytes) (omega (arith, length-drop n bytes, ends-le e (length bytes) es h.1)) in
-    omega (arith, size, h.0, length-append (slice_range bytes n e) (text_bytes (texts_from bytes e es)), bytes-from bytes e es h.1)
+    let size : length (slice_range bytes n e) ≡ e - n =
+    length-take-le (e - n) (drop n bytes) (omega (arith, length-drop n bytes, ends-le e (length bytes) es h.1)) in
+    omega (
+      arith,
+      size,
+      h.0,
+      length-append (slice_range bytes n e) (text_bytes (texts_from bytes e es)),
+      bytes-from bytes e es h.1,
+    )
 
-pub bytes-count : (bytes : List ℕ) (ends : List ℕ) → AreEnds 0 ends (length bytes) → length bytes ≡ length (text_bytes (texts_from bytes 0 ends))
+pub bytes-count : (bytes : List ℕ) (ends : List ℕ) → AreEnds 0 ends (length bytes)
+    → length bytes ≡ length (text_bytes (texts_from bytes 0 ends))
 bytes-count bytes ends h = omega (arith, bytes-from bytes 0 ends h)
 
 -- one more text at the end
-get-grow : (texts more : List (List ℕ)) (n : ℕ) (t : List ℕ) → slice_get texts n ≡ Some t → slice_get (texts ++ more) n ≡ Some t
+get-grow : (texts more : List (List ℕ)) (n : ℕ) (t : List ℕ)
+    → slice_get texts n ≡ Some t → slice_get (texts ++ more) n ≡ Some t
 get-grow [] more n t h = cc
 get-grow (x ∷ texts) more zero t h = h
 get-grow (x ∷ texts) more (suc n) t h = get-grow texts more n t h
@@ -93,10 +113,13 @@ words-grow texts more [] words = tt
 words-grow texts more (e ∷ es) words = (get-grow texts more e.1 e.0 words.0, words-grow texts more es words.1)
 
 -- a word that a map has is the text that it says
-pub words-lookup : (texts : List (List ℕ)) (word : List ℕ) (es : Entries) (n : ℕ) → AreWords texts es → lookup (bytes_eq word) es ≡ Some n → slice_get texts n ≡ Some word
+pub words-lookup : (texts : List (List ℕ)) (word : List ℕ) (es : Entries) (n : ℕ)
+    → AreWords texts es → lookup (bytes_eq word) es ≡ Some n → slice_get texts n ≡ Some word
 words-lookup texts word [] n words found = cc
 words-lookup texts word (e ∷ es) n words found =
-    (elim (bytes_eq word e.0) as (λ b. bytes_eq word e.0 ≡ b → cond b (Some e.1) (lookup (bytes_eq word) es) ≡ Some n → slice_get texts n ≡ Some word) [
+    (elim (bytes_eq word e.0) as (λ b.
+    bytes_eq word e.0 ≡ b → cond b (Some e.1) (lookup (bytes_eq word) es) ≡ Some n
+    → slice_get texts n ≡ Some word) [
       | true ↦ λ same at.
           let is : e.1 ≡ n = cc in
           let text : word ≡ e.0 = (bytes_eq-Decides word e.0).0 same in
@@ -105,11 +128,14 @@ words-lookup texts word (e ∷ es) n words found =
     ]) refl found
 
 -- a new word goes into the map
-pub words-insert : (texts : List (List ℕ)) (es : Entries) (key : List ℕ) (n : ℕ) → AreWords texts es → lookup (bytes_eq key) es ≡ None → slice_get texts n ≡ Some key →
+pub words-insert : (texts : List (List ℕ)) (es : Entries) (key : List ℕ) (n : ℕ)
+    → AreWords texts es → lookup (bytes_eq key) es ≡ None → slice_get texts n ≡ Some key →
     AreWords texts (insert_entry bytes_eq es key n)
 words-insert texts [] key n words none stands = (stands, tt)
 words-insert texts (e ∷ es) key n words none stands =
-    (elim (bytes_eq key e.0) as (λ b. cond b (Some e.1) (lookup (bytes_eq key) es) ≡ None → AreWords texts (if b then (e.0, n) ∷ es else e ∷ insert_entry bytes_eq es key n)) [
+    (elim (bytes_eq key e.0) as (λ b.
+    cond b (Some e.1) (lookup (bytes_eq key) es) ≡ None
+    → AreWords texts (if b then (e.0, n) ∷ es else e ∷ insert_entry bytes_eq es key n)) [
       | true ↦ λ at. cc
       | false ↦ λ at. (words.0, words-insert texts es key n words.1 at stands)
     ]) none
@@ -119,7 +145,8 @@ at-grow [] more n h = absurd (let none : ⊥ = omega arith in none)
 at-grow (x ∷ texts) more zero h = refl
 at-grow (x ∷ texts) more (suc n) h = at-grow texts more n (omega arith)
 
-token_in-grow : (texts more : List (List ℕ)) (p : Packed) → IsWithin (length texts) p → token_in (texts ++ more) p ≡ token_in texts p
+token_in-grow : (texts more : List (List ℕ)) (p : Packed)
+    → IsWithin (length texts) p → token_in (texts ++ more) p ≡ token_in texts p
 token_in-grow texts more (Word n) h = ap spec.Word (at-grow texts more n h)
 token_in-grow texts more (Number n) h = ap spec.Number (at-grow texts more n h)
 token_in-grow texts more (Literal n) h = ap spec.Literal (at-grow texts more n h)
@@ -149,31 +176,46 @@ IsWithin-grow n m (Head section) le h = tt
 IsWithin-grow n m (Tail section) le h = tt
 IsWithin-grow n m (Mark place) le h = tt
 
-pub tokens-grow : (texts more : List (List ℕ)) (ps : List Packed) → ArePacked texts ps → map (token_in (texts ++ more)) ps ≡ map (token_in texts) ps
+pub tokens-grow : (texts more : List (List ℕ)) (ps : List Packed) → ArePacked texts ps
+    → map (token_in (texts ++ more)) ps ≡ map (token_in texts) ps
 tokens-grow texts more [] h = refl
 tokens-grow texts more (p ∷ ps) h = λ i. token_in-grow texts more p h.0 i ∷ tokens-grow texts more ps h.1 i
 
-ArePacked-grow : (texts more : List (List ℕ)) (ps : List Packed) (p : Packed) → ArePacked texts ps → IsWithin (length (texts ++ more)) p → ArePacked (texts ++ more) (ps ++ p ∷ [])
+ArePacked-grow : (texts more : List (List ℕ)) (ps : List Packed) (p : Packed) → ArePacked texts ps
+    → IsWithin (length (texts ++ more)) p → ArePacked (texts ++ more) (ps ++ p ∷ [])
 ArePacked-grow texts more [] p h here = (here, tt)
-ArePacked-grow texts more (q ∷ ps) p h here = (IsWithin-grow (length texts) (length (texts ++ more)) q (omega (arith, length-append texts more)) h.0, ArePacked-grow texts more ps p h.1 here)
+ArePacked-grow texts more (q ∷ ps) p h here = (
+  IsWithin-grow (length texts) (length (texts ++ more)) q (omega (arith, length-append texts more)) h.0,
+  ArePacked-grow texts more ps p h.1 here,
+)
 
 pub packed-grow : (texts more : List (List ℕ)) (ps : List Packed) → ArePacked texts ps → ArePacked (texts ++ more) ps
 packed-grow texts more [] h = tt
-packed-grow texts more (q ∷ ps) h = (IsWithin-grow (length texts) (length (texts ++ more)) q (omega (arith, length-append texts more)) h.0, packed-grow texts more ps h.1)
+packed-grow texts more (q ∷ ps) h = (
+  IsWithin-grow (length texts) (length (texts ++ more)) q (omega (arith, length-append texts more)) h.0,
+  packed-grow texts more ps h.1,
+)
 
 -- one more token
-pub packs-tokens : (old new : TextsAndWords) (ps : List Packed) (t : spec.Token) (p : Packed) → ArePacked old.texts ps → Packs old t p new → map (token_in new.texts) (ps ++ p ∷ []) ≡ map (token_in old.texts) ps ++ t ∷ []
+pub packs-tokens : (old new : TextsAndWords) (ps : List Packed) (t : spec.Token) (p : Packed) → ArePacked old.texts ps
+    → Packs old t p new → map (token_in new.texts) (ps ++ p ∷ []) ≡ map (token_in old.texts) ps ++ t ∷ []
 packs-tokens old new ps t p all packs =
-    map-append (token_in new.texts) ps (p ∷ []) ∙ ap (λ x. map (token_in new.texts) ps ++ x ∷ []) packs.stands ∙ ap (λ ts. ts ++ t ∷ []) (ap (λ b. map (token_in b) ps) packs.grows ∙ tokens-grow old.texts packs.more ps all)
+    map-append (token_in new.texts) ps (p ∷ []) ∙ ap (λ x. map (token_in new.texts) ps ++ x ∷ []) packs.stands
+    ∙ ap (λ ts. ts ++ t ∷ []) (ap (λ b. map (token_in b) ps) packs.grows ∙ tokens-grow old.texts packs.more ps all)
 
-pub packs-all : (old new : TextsAndWords) (ps : List Packed) (t : spec.Token) (p : Packed) → ArePacked old.texts ps → Packs old t p new → ArePacked new.texts (ps ++ p ∷ [])
+pub packs-all : (old new : TextsAndWords) (ps : List Packed) (t : spec.Token) (p : Packed)
+    → ArePacked old.texts ps → Packs old t p new → ArePacked new.texts (ps ++ p ∷ [])
 packs-all old new ps t p all packs =
-    subst (λ (b : List (List ℕ)). ArePacked b (ps ++ p ∷ [])) (sym packs.grows) (ArePacked-grow old.texts packs.more ps p all (subst (λ (b : List (List ℕ)). IsWithin (length b) p) packs.grows packs.within))
+    subst (λ (b : List (List ℕ)). ArePacked b (ps ++ p ∷ [])) (sym packs.grows)
+    (ArePacked-grow old.texts packs.more ps p all
+    (subst (λ (b : List (List ℕ)). IsWithin (length b) p) packs.grows packs.within))
 
 -- a record at a place
-pub packed-at : (texts : List (List ℕ)) (ps : List Packed) (i : ℕ) (p : Packed) → ArePacked texts ps → i < length ps → p ≡ get_or ps i p → IsWithin (length texts) p × (slice_get (map (token_in texts) ps) i ≡ Some (token_in texts p))
+pub packed-at : (texts : List (List ℕ)) (ps : List Packed) (i : ℕ) (p : Packed) → ArePacked texts ps → i < length ps
+    → p ≡ get_or ps i p → IsWithin (length texts) p × (slice_get (map (token_in texts) ps) i ≡ Some (token_in texts p))
 packed-at texts [] i p all h is = absurd (let none : ⊥ = omega arith in none)
-packed-at texts (q ∷ ps) zero p all h is = (subst (IsWithin (length texts)) (sym is) all.0, ap (λ r. Some (token_in texts r)) (sym is))
+packed-at texts (q ∷ ps) zero p all h is =
+    (subst (IsWithin (length texts)) (sym is) all.0, ap (λ r. Some (token_in texts r)) (sym is))
 packed-at texts (q ∷ ps) (suc i) p all h is = packed-at texts ps i p all.1 (omega arith) is
 
 pub packed-take : (texts : List (List ℕ)) (ps : List Packed) (n : ℕ) → ArePacked texts ps → ArePacked texts (take n ps)
@@ -182,7 +224,8 @@ packed-take texts [] (suc n) all = tt
 packed-take texts (p ∷ ps) zero all = tt
 packed-take texts (p ∷ ps) (suc n) all = (all.0, packed-take texts ps n all.1)
 
-use-record : (texts : List (List ℕ)) (rs : List Standing) (ns : List NameId) (p : Packed) → with_record rs ns p ≡ with_use rs ns (token_in texts p)
+use-record : (texts : List (List ℕ)) (rs : List Standing) (ns : List NameId) (p : Packed)
+    → with_record rs ns p ≡ with_use rs ns (token_in texts p)
 use-record texts rs ns (Word n) = refl
 use-record texts rs ns (Number n) = refl
 use-record texts rs ns (Literal n) = refl
@@ -198,9 +241,12 @@ use-record texts rs ns (Tail section) = refl
 use-record texts rs ns (Mark place) = refl
 
 -- records use what their tokens use
-pub used-records : (texts : List (List ℕ)) (rs : List Standing) (ns : List NameId) (ps : List Packed) → used_by rs ns ps ≡ used_from rs ns (map (token_in texts) ps)
+pub used-records : (texts : List (List ℕ)) (rs : List Standing) (ns : List NameId) (ps : List Packed)
+    → used_by rs ns ps ≡ used_from rs ns (map (token_in texts) ps)
 used-records texts rs ns [] = refl
-used-records texts rs ns (p ∷ ps) = ap (λ ms. used_by rs ms ps) (use-record texts rs ns p) ∙ used-records texts rs (with_use rs ns (token_in texts p)) ps
+used-records texts rs ns (p ∷ ps) =
+    ap (λ ms. used_by rs ms ps) (use-record texts rs ns p)
+    ∙ used-records texts rs (with_use rs ns (token_in texts p)) ps
 
 defs-record : (texts : List (List ℕ)) (p : Packed) → is_packed_defs p ≡ is_defs (token_in texts p)
 defs-record texts (Word n) = refl
@@ -217,6 +263,7 @@ defs-record texts (Head section) = refl
 defs-record texts (Tail section) = refl
 defs-record texts (Mark place) = refl
 
-pub defs-records : (texts : List (List ℕ)) (ps : List Packed) → list_any is_packed_defs ps ≡ list_any is_defs (map (token_in texts) ps)
+pub defs-records : (texts : List (List ℕ)) (ps : List Packed)
+    → list_any is_packed_defs ps ≡ list_any is_defs (map (token_in texts) ps)
 defs-records texts [] = refl
 defs-records texts (p ∷ ps) = λ i. defs-record texts p i || defs-records texts ps i

@@ -26,7 +26,8 @@ nat_same x = grind (arith, nat_tests)
 abbrev Step : ℕ → ℕ → Ordering → Ordering → Type 0
 Step x y r s = (x ≡ y) × (is_le r ≡ true) × (s ≡ Less)
 
-step : (x y z : ℕ) (r s : Ordering) → x ≡ z → is_le (ordering_then (nat_cmp x y) r) ≡ true → ordering_then (nat_cmp y z) s ≡ Less → Step x y r s
+step : (x y z : ℕ) (r s : Ordering) → x ≡ z → is_le (ordering_then (nat_cmp x y) r) ≡ true
+    → ordering_then (nat_cmp y z) s ≡ Less → Step x y r s
 step x y z r s xz h g =
     (elim (nat_cmp x y) as (λ o. nat_cmp x y ≡ o → is_le (ordering_then o r) ≡ true → Step x y r s) [
       | Less ↦ λ e h'. (elim (nat_cmp y z) as (λ o. nat_cmp y z ≡ o → ordering_then o s ≡ Less → Step x y r s) [
@@ -50,7 +51,8 @@ both x z b h =
     ]) refl h
 
 -- what lies between a prefix and a text that begins with it begins with it
-pub squeeze : (p a b : List ℕ) → is_le (slice_cmp nat_cmp p a) ≡ true → slice_cmp nat_cmp a b ≡ Less → starts_with nat_eq b p ≡ true → starts_with nat_eq a p ≡ true
+pub squeeze : (p a b : List ℕ) → is_le (slice_cmp nat_cmp p a) ≡ true
+    → slice_cmp nat_cmp a b ≡ Less → starts_with nat_eq b p ≡ true → starts_with nat_eq a p ≡ true
 squeeze [] a b h g s = refl
 squeeze (x ∷ p) [] b h g s = cc
 squeeze (x ∷ p) (y ∷ a) [] h g s = cc
@@ -66,26 +68,38 @@ begins-le [] (z ∷ b) s = refl
 begins-le (x ∷ p) [] s = cc
 begins-le (x ∷ p) (z ∷ b) s =
     let front = both x z (starts_with nat_eq b p) s in
-    ap (λ o. is_le (ordering_then o (slice_cmp nat_cmp p b))) (ap (nat_cmp x) (sym front.0) ∙ nat_same x) ∙ begins-le p b front.1
+    ap (λ o. is_le (ordering_then o (slice_cmp nat_cmp p b))) (ap (nat_cmp x) (sym front.0) ∙ nat_same x)
+    ∙ begins-le p b front.1
 
 -- past a text that isn't below the prefix and doesn't begin with it none does
-pub none-begins : (p : List ℕ) (k : Vec ℕ Global) (es : List Entry) → is_le (slice_cmp nat_cmp p k.items) ≡ true → starts_with nat_eq k.items p ≡ false → AllByRecursion (λ j. order k j ≡ Less) (keys_of es) → filter (begins p) es ≡ []
+pub none-begins : (p : List ℕ) (k : Vec ℕ Global) (es : List Entry)
+    → is_le (slice_cmp nat_cmp p k.items) ≡ true → starts_with nat_eq k.items p ≡ false
+    → AllByRecursion (λ j. order k j ≡ Less) (keys_of es) → filter (begins p) es ≡ []
 none-begins p k [] low other above = refl
 none-begins p k (e ∷ es) low other above =
-    (elim (starts_with nat_eq e.0.items p) as (λ v. starts_with nat_eq e.0.items p ≡ v → cond v (e ∷ filter (begins p) es) (filter (begins p) es) ≡ []) [
+    (elim (starts_with nat_eq e.0.items p)
+    as (λ v. starts_with nat_eq e.0.items p ≡ v → cond v (e ∷ filter (begins p) es) (filter (begins p) es) ≡ []) [
       | true ↦ λ s. let t : starts_with nat_eq k.items p ≡ true = squeeze p k.items e.0.items low above.0 s in cc
       | false ↦ λ s. none-begins p k es low other above.1
     ]) refl
 
 -- the names that begin with a prefix are among those from the prefix on
-pub from-begins : (p : List ℕ) (es : List Entry) → filter (begins p) (filter (λ (e : Entry). is_le (slice_cmp nat_cmp p e.0.items) && true) es) ≡ filter (begins p) es
+pub from-begins : (p : List ℕ) (es : List Entry)
+    → filter (begins p) (filter (λ (e : Entry). is_le (slice_cmp nat_cmp p e.0.items) && true) es)
+    ≡ filter (begins p) es
 from-begins p [] = refl
 from-begins p (e ∷ es) =
     (elim (is_le (slice_cmp nat_cmp p e.0.items)) as (λ v. is_le (slice_cmp nat_cmp p e.0.items) ≡ v →
-    filter (begins p) (cond (v && true) (e ∷ filter (λ (e : Entry). is_le (slice_cmp nat_cmp p e.0.items) && true) es) (filter (λ (e : Entry). is_le (slice_cmp nat_cmp p e.0.items) && true) es))
+    filter (begins p)
+    (cond (v && true) (e ∷ filter (λ (e : Entry). is_le (slice_cmp nat_cmp p e.0.items) && true) es)
+    (filter (λ (e : Entry). is_le (slice_cmp nat_cmp p e.0.items) && true) es))
     ≡ cond (starts_with nat_eq e.0.items p) (e ∷ filter (begins p) es) (filter (begins p) es)) [
       | true ↦ λ h. ap (λ xs. cond (starts_with nat_eq e.0.items p) (e ∷ xs) xs) (from-begins p es)
-      | false ↦ λ h. from-begins p es ∙ ap (λ v. cond v (e ∷ filter (begins p) es) (filter (begins p) es)) (sym (no_begin (starts_with nat_eq e.0.items p) (λ s. let t : is_le (slice_cmp nat_cmp p e.0.items) ≡ true = begins-le p e.0.items s in cc)))
+      | false ↦ λ h.
+          from-begins p es
+          ∙ ap (λ v. cond v (e ∷ filter (begins p) es) (filter (begins p) es))
+          (sym (no_begin (starts_with nat_eq e.0.items p)
+          (λ s. let t : is_le (slice_cmp nat_cmp p e.0.items) ≡ true = begins-le p e.0.items s in cc)))
     ]) refl
   where
     no_begin : (b : Bool) → (b ≡ true → b ≡ false) → b ≡ false
@@ -95,27 +109,35 @@ from-begins p (e ∷ es) =
 abbrev from : List ℕ → List Entry → List Entry
 from p es = filter (λ (e : Entry). is_le (slice_cmp nat_cmp p e.0.items) && true) es
 
-all-from : (p : List ℕ) (k : Vec ℕ Global) (es : List Entry) → AllByRecursion (λ j. order k j ≡ Less) (keys_of es) → AllByRecursion (λ j. order k j ≡ Less) (keys_of (from p es))
+all-from : (p : List ℕ) (k : Vec ℕ Global) (es : List Entry) → AllByRecursion (λ j. order k j ≡ Less) (keys_of es)
+    → AllByRecursion (λ j. order k j ≡ Less) (keys_of (from p es))
 all-from p k [] h = tt
 all-from p k (e ∷ es) h =
-    elim (is_le (slice_cmp nat_cmp p e.0.items)) as (λ v. AllByRecursion (λ j. order k j ≡ Less) (keys_of (cond (v && true) (e ∷ from p es) (from p es)))) [
+    elim (is_le (slice_cmp nat_cmp p e.0.items))
+    as (λ v. AllByRecursion (λ j. order k j ≡ Less) (keys_of (cond (v && true) (e ∷ from p es) (from p es)))) [
       | true ↦ (h.0, all-from p k es h.1)
       | false ↦ all-from p k es h.1
     ]
 
-sorted-from : (p : List ℕ) (es : List Entry) → IsStrictlySortedBy order (keys_of es) → IsStrictlySortedBy order (keys_of (from p es))
+sorted-from : (p : List ℕ) (es : List Entry) → IsStrictlySortedBy order (keys_of es)
+    → IsStrictlySortedBy order (keys_of (from p es))
 unfolding IsStrictlySortedBy
 sorted-from p [] h = tt
 sorted-from p (e ∷ es) h =
-    elim (is_le (slice_cmp nat_cmp p e.0.items)) as (λ v. IsStrictlySortedBy order (keys_of (cond (v && true) (e ∷ from p es) (from p es)))) [
+    elim (is_le (slice_cmp nat_cmp p e.0.items))
+    as (λ v. IsStrictlySortedBy order (keys_of (cond (v && true) (e ∷ from p es) (from p es)))) [
       | true ↦ (all-from p e.0 es h.0, sorted-from p es h.1)
       | false ↦ sorted-from p es h.1
     ]
 
-low-from : (p : List ℕ) (es : List Entry) → AllByRecursion (λ (e : Entry). is_le (slice_cmp nat_cmp p e.0.items) ≡ true) (from p es)
+low-from : (p : List ℕ) (es : List Entry)
+    → AllByRecursion (λ (e : Entry). is_le (slice_cmp nat_cmp p e.0.items) ≡ true) (from p es)
 low-from p [] = tt
 low-from p (e ∷ es) =
-    (elim (is_le (slice_cmp nat_cmp p e.0.items)) as (λ v. is_le (slice_cmp nat_cmp p e.0.items) ≡ v → AllByRecursion (λ (e : Entry). is_le (slice_cmp nat_cmp p e.0.items) ≡ true) (cond (v && true) (e ∷ from p es) (from p es))) [
+    (elim (is_le (slice_cmp nat_cmp p e.0.items)) as (λ v.
+    is_le (slice_cmp nat_cmp p e.0.items) ≡ v
+    → AllByRecursion (λ (e : Entry). is_le (slice_cmp nat_cmp p e.0.items) ≡ true)
+    (cond (v && true) (e ∷ from p es) (from p es))) [
       | true ↦ λ h. (h, low-from p es)
       | false ↦ λ h. low-from p es
     ]) refl
@@ -132,23 +154,35 @@ names-from p es h = record { is = sym (from-begins p es); sorted = sorted-from p
 pub names-none : (p : List ℕ) (es rest : List Entry) → Names p es rest → rest ≡ [] → found_of (numbers p es) ≡ Nothing
 names-none p es rest h empty = ap (λ xs. found_of (map (λ (e : Entry). e.1) xs)) (h.is ∙ ap (filter (begins p)) empty)
 
-pub names-other : (p : List ℕ) (es : List Entry) (e : Entry) (rest : List Entry) → Names p es (e ∷ rest) → starts_with nat_eq e.0.items p ≡ false → found_of (numbers p es) ≡ Nothing
+pub names-other : (p : List ℕ) (es : List Entry) (e : Entry) (rest : List Entry) → Names p es (e ∷ rest)
+    → starts_with nat_eq e.0.items p ≡ false → found_of (numbers p es) ≡ Nothing
 unfolding IsStrictlySortedBy
 names-other p es e rest h other =
-    ap (λ xs. found_of (map (λ (e : Entry). e.1) xs)) (h.is ∙ ap (λ v. cond v (e ∷ filter (begins p) rest) (filter (begins p) rest)) other ∙ none-begins p e.0 rest h.low.0 other h.sorted.0)
+    ap (λ xs. found_of (map (λ (e : Entry). e.1) xs))
+    (h.is ∙ ap (λ v. cond v (e ∷ filter (begins p) rest) (filter (begins p) rest)) other
+    ∙ none-begins p e.0 rest h.low.0 other h.sorted.0)
 
-pub names-last : (p : List ℕ) (es : List Entry) (e : Entry) → Names p es (e ∷ []) → starts_with nat_eq e.0.items p ≡ true → found_of (numbers p es) ≡ One e.1
+pub names-last : (p : List ℕ) (es : List Entry) (e : Entry) → Names p es (e ∷ [])
+    → starts_with nat_eq e.0.items p ≡ true → found_of (numbers p es) ≡ One e.1
 names-last p es e h same = ap (λ xs. found_of (map (λ (e : Entry). e.1) xs)) (h.is ∙ ap (λ v. cond v (e ∷ []) []) same)
 
-pub names-two : (p : List ℕ) (es : List Entry) (e f : Entry) (rest : List Entry) → Names p es (e ∷ f ∷ rest) → starts_with nat_eq e.0.items p ≡ true → starts_with nat_eq f.0.items p ≡ true → found_of (numbers p es) ≡ Several
+pub names-two : (p : List ℕ) (es : List Entry) (e f : Entry) (rest : List Entry) → Names p es (e ∷ f ∷ rest)
+    → starts_with nat_eq e.0.items p ≡ true → starts_with nat_eq f.0.items p ≡ true → found_of (numbers p es) ≡ Several
 names-two p es e f rest h one two =
-    ap (λ xs. found_of (map (λ (e : Entry). e.1) xs)) (h.is ∙ ap (λ v. cond v (e ∷ filter (begins p) (f ∷ rest)) (filter (begins p) (f ∷ rest))) one ∙ ap (λ v. e ∷ cond v (f ∷ filter (begins p) rest) (filter (begins p) rest)) two)
+    ap (λ xs. found_of (map (λ (e : Entry). e.1) xs))
+    (h.is ∙ ap (λ v. cond v (e ∷ filter (begins p) (f ∷ rest)) (filter (begins p) (f ∷ rest))) one
+    ∙ ap (λ v. e ∷ cond v (f ∷ filter (begins p) rest) (filter (begins p) rest)) two)
 
-pub names-one : (p : List ℕ) (es : List Entry) (e f : Entry) (rest : List Entry) → Names p es (e ∷ f ∷ rest) → starts_with nat_eq e.0.items p ≡ true → starts_with nat_eq f.0.items p ≡ false → found_of (numbers p es) ≡ One e.1
+pub names-one : (p : List ℕ) (es : List Entry) (e f : Entry) (rest : List Entry) → Names p es (e ∷ f ∷ rest)
+    → starts_with nat_eq e.0.items p ≡ true → starts_with nat_eq f.0.items p ≡ false → found_of (numbers p es) ≡ One e.1
 unfolding IsStrictlySortedBy
 names-one p es e f rest h one other =
-    ap (λ xs. found_of (map (λ (e : Entry). e.1) xs)) (h.is ∙ ap (λ v. cond v (e ∷ filter (begins p) (f ∷ rest)) (filter (begins p) (f ∷ rest))) one
-    ∙ ap (λ v. e ∷ cond v (f ∷ filter (begins p) rest) (filter (begins p) rest)) other ∙ ap (λ xs. e ∷ xs) (none-begins p f.0 rest h.low.1.0 other h.sorted.1.0))
+    ap (λ xs. found_of (map (λ (e : Entry). e.1) xs))
+    (h.is ∙ ap (λ v. cond v (e ∷ filter (begins p) (f ∷ rest)) (filter (begins p) (f ∷ rest))) one
+    ∙ ap (λ v. e ∷ cond v (f ∷ filter (begins p) rest) (filter (begins p) rest)) other
+    ∙ ap (λ xs. e ∷ xs) (none-begins p f.0 rest h.low.1.0 other h.sorted.1.0))
 
-pub names-range : (p q : List ℕ) (es rest : List Entry) → rest ≡ filter (λ (e : Entry). is_le (slice_cmp nat_cmp q e.0.items) && true) es → q ≡ p → IsStrictlySortedBy order (keys_of es) → Names p es rest
+pub names-range : (p q : List ℕ) (es rest : List Entry)
+    → rest ≡ filter (λ (e : Entry). is_le (slice_cmp nat_cmp q e.0.items) && true) es
+    → q ≡ p → IsStrictlySortedBy order (keys_of es) → Names p es rest
 names-range p q es rest is same h = subst (Names p es) (sym (is ∙ ap (λ r. from r es) same)) (names-from p es h)

@@ -42,11 +42,13 @@ all-drop bytes zero (t ∷ ts) h = h
 all-drop bytes (suc k) [] h = tt
 all-drop bytes (suc k) (t ∷ ts) h = all-drop bytes k ts h.1
 
-pub all-both : (bytes : List ℕ) (ts us : List (List ℕ)) → AllStandIn bytes ts → AllStandIn bytes us → AllStandIn bytes (ts ++ us)
+pub all-both : (bytes : List ℕ) (ts us : List (List ℕ)) → AllStandIn bytes ts
+    → AllStandIn bytes us → AllStandIn bytes (ts ++ us)
 all-both bytes [] us h g = g
 all-both bytes (t ∷ ts) us h g = (h.0, all-both bytes ts us h.1 g)
 
-token-stands : (ts : List (List ℕ)) (p : Packed) → IsWithin (length ts) p → AllStandIn (text_bytes ts) (token_texts (token_in ts p))
+token-stands : (ts : List (List ℕ)) (p : Packed) → IsWithin (length ts) p
+    → AllStandIn (text_bytes ts) (token_texts (token_in ts p))
 token-stands ts (Word n) h = (text-stands ts n h, tt)
 token-stands ts (Number n) h = (text-stands ts n h, tt)
 token-stands ts (Literal n) h = (text-stands ts n h, tt)
@@ -61,17 +63,22 @@ token-stands ts (Head section) h = tt
 token-stands ts (Tail section) h = tt
 token-stands ts (Mark place) h = tt
 
-tokens-stand : (ts : List (List ℕ)) (ps : List Packed) → ArePacked ts ps → AllStandIn (text_bytes ts) (flat_map token_texts (map (token_in ts) ps))
+tokens-stand : (ts : List (List ℕ)) (ps : List Packed) → ArePacked ts ps
+    → AllStandIn (text_bytes ts) (flat_map token_texts (map (token_in ts) ps))
 tokens-stand ts [] h = tt
-tokens-stand ts (p ∷ ps) h = all-both (text_bytes ts) (token_texts (token_in ts p)) (flat_map token_texts (map (token_in ts) ps)) (token-stands ts p h.0) (tokens-stand ts ps h.1)
+tokens-stand ts (p ∷ ps) h =
+    all-both (text_bytes ts) (token_texts (token_in ts p))
+    (flat_map token_texts (map (token_in ts) ps)) (token-stands ts p h.0) (tokens-stand ts ps h.1)
 
 bytes-total : (ts : List (List ℕ)) → length (text_bytes ts) ≡ total length ts
 bytes-total [] = refl
 bytes-total (t ∷ ts) = omega (arith, length-append t (text_bytes ts), bytes-total ts)
 
-bytes-split : (own : ℕ) (ts : List (List ℕ)) → length (text_bytes ts) ≡ length (text_bytes (take own ts)) + total length (drop own ts)
+bytes-split : (own : ℕ) (ts : List (List ℕ))
+    → length (text_bytes ts) ≡ length (text_bytes (take own ts)) + total length (drop own ts)
 bytes-split own ts =
-    let both : total length (take own ts ++ drop own ts) ≡ total length ts = ap (total length) (take-append-drop own ts) in
+    let both : total length (take own ts ++ drop own ts) ≡ total length ts =
+    ap (total length) (take-append-drop own ts) in
     omega (arith, bytes-total ts, bytes-total (take own ts), total-append length (take own ts) (drop own ts), both)
 
 -- tokens that are dropped have no text
@@ -98,21 +105,29 @@ dropped-none t (spec.Mark place) h = refl
 gone : (token : Token) (ts : List Token) → has_text token ≡ false → filter has_text (token ∷ ts) ≡ filter has_text ts
 gone token ts h = ap (λ b. if b then token ∷ filter has_text ts else filter has_text ts) h
 
-before_last-texts : (t : Trailing) (token : Token) (ts : List Token) → filter has_text (before_last (is_dropped t) token ts) ≡ filter has_text (token ∷ ts)
+before_last-texts : (t : Trailing) (token : Token) (ts : List Token)
+    → filter has_text (before_last (is_dropped t) token ts) ≡ filter has_text (token ∷ ts)
 before_last-texts t token [] =
-    (elim (is_dropped t token) as (λ b. is_dropped t token ≡ b → filter has_text (if b then [] else token ∷ []) ≡ filter has_text (token ∷ [])) [
+    (elim (is_dropped t token) as (λ b.
+    is_dropped t token ≡ b → filter has_text (if b then [] else token ∷ []) ≡ filter has_text (token ∷ [])) [
       | true ↦ λ h. sym (gone token [] (dropped-none t token h))
       | false ↦ λ h. refl
     ]) refl
 before_last-texts t token (u ∷ us) = refl
 
-without_last-texts : (t : Trailing) (ts : List Token) → filter has_text (without_last (is_dropped t) ts) ≡ filter has_text ts
+without_last-texts : (t : Trailing) (ts : List Token)
+    → filter has_text (without_last (is_dropped t) ts) ≡ filter has_text ts
 without_last-texts t [] = refl
-without_last-texts t (x ∷ ts) = before_last-texts t x (without_last (is_dropped t) ts) ∙ ap (λ us. if has_text x then x ∷ us else us) (without_last-texts t ts)
+without_last-texts t (x ∷ ts) =
+    before_last-texts t x (without_last (is_dropped t) ts)
+    ∙ ap (λ us. if has_text x then x ∷ us else us) (without_last-texts t ts)
 
-pub trimmed-texts : (n : ℕ) (t : Trailing) (ts : List Token) → filter has_text (without_last_after n (is_dropped t) ts) ≡ filter has_text ts
+pub trimmed-texts : (n : ℕ) (t : Trailing) (ts : List Token)
+    → filter has_text (without_last_after n (is_dropped t) ts) ≡ filter has_text ts
 trimmed-texts n t ts =
-    filter-append has_text (take n ts) (without_last (is_dropped t) (drop n ts)) ∙ ap (λ us. filter has_text (take n ts) ++ us) (without_last-texts t (drop n ts)) ∙ sym (filter-append has_text (take n ts) (drop n ts)) ∙ ap (filter has_text) (take-append-drop n ts)
+    filter-append has_text (take n ts) (without_last (is_dropped t) (drop n ts))
+    ∙ ap (λ us. filter has_text (take n ts) ++ us) (without_last-texts t (drop n ts))
+    ∙ sym (filter-append has_text (take n ts) (drop n ts)) ∙ ap (filter has_text) (take-append-drop n ts)
 
 blank-none : (t : Token) → is_blank t ≡ true → has_text t ≡ false
 blank-none (spec.Word b) h = cc
@@ -129,19 +144,37 @@ blank-none (spec.Head section) h = refl
 blank-none (spec.Tail section) h = refl
 blank-none (spec.Mark place) h = refl
 
-pub blank-texts : (ts : List Token) (k : ℕ) (t : Token) → slice_get ts k ≡ Some t → is_blank t ≡ true → filter has_text (take k ts) ≡ filter has_text (take (suc k) ts)
+pub blank-texts : (ts : List Token) (k : ℕ) (t : Token) → slice_get ts k ≡ Some t
+    → is_blank t ≡ true → filter has_text (take k ts) ≡ filter has_text (take (suc k) ts)
 blank-texts ts k t h blank =
-    sym (ap (filter has_text) (take-next ts k t h) ∙ filter-append has_text (take k ts) (t ∷ []) ∙ ap (λ us. filter has_text (take k ts) ++ us) (gone t [] (blank-none t blank)) ∙ append-nil (filter has_text (take k ts)))
+    sym (ap (filter has_text) (take-next ts k t h) ∙ filter-append has_text (take k ts) (t ∷ [])
+    ∙ ap (λ us. filter has_text (take k ts) ++ us) (gone t [] (blank-none t blank))
+    ∙ append-nil (filter has_text (take k ts)))
 
 -- one more token
-pub packs-are : (old new : TextsAndWords) (ps : List Packed) (t : Token) (p : Packed) → AreTokens old ps → Packs old t p new → AreTokens new (ps ++ p ∷ [])
+pub packs-are : (old new : TextsAndWords) (ps : List Packed) (t : Token) (p : Packed)
+    → AreTokens old ps → Packs old t p new → AreTokens new (ps ++ p ∷ [])
 packs-are old new ps t p all packs =
     let ts = map (token_in old.texts) ps in
-    let tokens : map (token_in new.texts) (ps ++ p ∷ []) ≡ ts ++ t ∷ [] = packs-tokens old new ps t p all.packed packs in
-    let words : new.words ≡ words_of (ts ++ t ∷ []) = packs.words ∙ ap (λ ws. with_word_of ws t) all.words ∙ sym (words-push ts t) in
+    let tokens : map (token_in new.texts) (ps ++ p ∷ []) ≡ ts ++ t ∷ [] =
+    packs-tokens old new ps t p all.packed packs in
+    let words : new.words ≡ words_of (ts ++ t ∷ []) =
+    packs.words ∙ ap (λ ws. with_word_of ws t) all.words ∙ sym (words-push ts t) in
     let grown : total length new.texts ≡ total length (old.texts ++ packs.more) = ap (total length) packs.grows in
     let bytes : length (text_bytes new.texts) ≡ token_bytes_kept (ts ++ t ∷ []) =
-    omega (arith, ap (total length) words, ap (total length) all.words, grown, bytes-total new.texts, bytes-total old.texts, bytes-total packs.more, total-append length old.texts packs.more, total-append other_bytes ts (t ∷ []), all.bytes, packs.bytes) in
+    omega (
+      arith,
+      ap (total length) words,
+      ap (total length) all.words,
+      grown,
+      bytes-total new.texts,
+      bytes-total old.texts,
+      bytes-total packs.more,
+      total-append length old.texts packs.more,
+      total-append other_bytes ts (t ∷ []),
+      all.bytes,
+      packs.bytes,
+    ) in
     record {
       packed = packs-all old new ps t p all.packed packs;
       words = words ∙ ap words_of (sym tokens);
@@ -149,38 +182,57 @@ packs-are old new ps t p all packs =
     }
 
 -- fewer tokens with the same texts
-pub truncate-are : (kept : TextsAndWords) (ps : List Packed) (n : ℕ) → AreTokens kept ps → filter has_text (take n (map (token_in kept.texts) ps)) ≡ filter has_text (map (token_in kept.texts) ps) → AreTokens kept (take n ps)
+pub truncate-are : (kept : TextsAndWords) (ps : List Packed) (n : ℕ) → AreTokens kept ps
+    → filter has_text (take n (map (token_in kept.texts) ps)) ≡ filter has_text (map (token_in kept.texts) ps)
+    → AreTokens kept (take n ps)
 truncate-are kept ps n all same =
     let ts = map (token_in kept.texts) ps in
-    let fewer : filter has_text ts ≡ filter has_text (map (token_in kept.texts) (take n ps)) = sym same ∙ ap (filter has_text) (take-map (token_in kept.texts) n ps) in
+    let fewer : filter has_text ts ≡ filter has_text (map (token_in kept.texts) (take n ps)) =
+    sym same ∙ ap (filter has_text) (take-map (token_in kept.texts) n ps) in
     let us = map (token_in kept.texts) (take n ps) in
-    record { packed = packed-take kept.texts ps n all.packed; words = all.words ∙ same-words ts us fewer; bytes = all.bytes ∙ same-bytes ts us fewer }
+    record {
+      packed = packed-take kept.texts ps n all.packed;
+      words = all.words ∙ same-words ts us fewer;
+      bytes = all.bytes ∙ same-bytes ts us fewer;
+    }
 
 -- one more of the other texts
-pub closed-add : (texts : List (List ℕ)) (t : List ℕ) (ps : List Packed) (own : ℕ) → AreClosed texts ps own → AreClosed (texts ++ t ∷ []) ps own
+pub closed-add : (texts : List (List ℕ)) (t : List ℕ) (ps : List Packed) (own : ℕ)
+    → AreClosed texts ps own → AreClosed (texts ++ t ∷ []) ps own
 closed-add texts t ps own all =
-    let own_bytes : length (text_bytes (take own (texts ++ t ∷ []))) ≡ length (text_bytes (take own texts)) = ap (λ ts. length (text_bytes ts)) (take-append-le own texts (t ∷ []) all.within) in
+    let own_bytes : length (text_bytes (take own (texts ++ t ∷ []))) ≡ length (text_bytes (take own texts)) =
+    ap (λ ts. length (text_bytes ts)) (take-append-le own texts (t ∷ []) all.within) in
     record {
       packed = packed-grow texts (t ∷ []) ps all.packed;
       within = omega (arith, all.within, length-append texts (t ∷ []));
       bytes = own_bytes ∙ all.bytes ∙ ap token_bytes_kept (sym (tokens-grow texts (t ∷ []) ps all.packed));
     }
 
-pub closed-added : (texts : List (List ℕ)) (t : List ℕ) (ps : List Packed) (own : ℕ) → AreClosed texts ps own → tokens_and_texts (texts ++ t ∷ []) ps own ≡ with_text t (tokens_and_texts texts ps own)
-closed-added texts t ps own all = λ i. record { tokens = tokens-grow texts (t ∷ []) ps all.packed i; others = drop-append-le own texts (t ∷ []) all.within i }
+pub closed-added : (texts : List (List ℕ)) (t : List ℕ) (ps : List Packed) (own : ℕ) → AreClosed texts ps own
+    → tokens_and_texts (texts ++ t ∷ []) ps own ≡ with_text t (tokens_and_texts texts ps own)
+closed-added texts t ps own all = λ i.
+    record {
+      tokens = tokens-grow texts (t ∷ []) ps all.packed i;
+      others = drop-append-le own texts (t ∷ []) all.within i;
+    }
 
 pub get-drop : (texts : List (List ℕ)) (own n : ℕ) → slice_get (drop own texts) n ≡ slice_get texts (own + n)
 get-drop texts zero n = ap (slice_get texts) (let e : n ≡ zero + n = omega arith in e)
 get-drop [] (suc own) n = cc
-get-drop (t ∷ texts) (suc own) n = get-drop texts own n ∙ ap (slice_get (t ∷ texts)) (let e : suc (own + n) ≡ suc own + n = omega arith in e)
+get-drop (t ∷ texts) (suc own) n =
+    get-drop texts own n ∙ ap (slice_get (t ∷ texts)) (let e : suc (own + n) ≡ suc own + n = omega arith in e)
 
 -- all texts in one list of bytes
-pub all-texts : (texts : List (List ℕ)) (ps : List Packed) (own n : ℕ) → AreClosed texts ps own → n ≡ length (text_bytes texts) → AreInOneList n (flat_map token_texts (map (token_in texts) ps) ++ drop own texts)
+pub all-texts : (texts : List (List ℕ)) (ps : List Packed) (own n : ℕ) → AreClosed texts ps own
+    → n ≡ length (text_bytes texts) → AreInOneList n (flat_map token_texts (map (token_in texts) ps) ++ drop own texts)
 all-texts texts ps own n all count = record {
   bytes = text_bytes texts;
   count = sym count;
-  runs = all-both (text_bytes texts) (flat_map token_texts (map (token_in texts) ps)) (drop own texts) (tokens-stand texts ps all.packed) (all-drop (text_bytes texts) own texts (texts-stand texts));
+  runs =
+      all-both (text_bytes texts) (flat_map token_texts (map (token_in texts) ps)) (drop own texts)
+      (tokens-stand texts ps all.packed) (all-drop (text_bytes texts) own texts (texts-stand texts));
 }
 
-pub all-bytes : (texts : List (List ℕ)) (ps : List Packed) (own : ℕ) → AreClosed texts ps own → length (text_bytes texts) ≡ token_bytes_kept (map (token_in texts) ps) + total length (drop own texts)
+pub all-bytes : (texts : List (List ℕ)) (ps : List Packed) (own : ℕ) → AreClosed texts ps own
+    → length (text_bytes texts) ≡ token_bytes_kept (map (token_in texts) ps) + total length (drop own texts)
 all-bytes texts ps own all = omega (arith, bytes-split own texts, all.bytes)

@@ -14,42 +14,54 @@ total-append f [] ys = omega arith
 total-append f (x ∷ xs) ys = omega (arith, total-append f xs ys)
 
 -- what is found in the map is one of its words
-pub known-word : (word : List ℕ) (es : Entries) (n : ℕ) → lookup (bytes_eq word) es ≡ Some n → with_word (map word_in es) word ≡ map word_in es
+pub known-word : (word : List ℕ) (es : Entries) (n : ℕ)
+    → lookup (bytes_eq word) es ≡ Some n → with_word (map word_in es) word ≡ map word_in es
 known-word word es n found = ap (λ b. if b then map word_in es else map word_in es ++ word ∷ []) (among es found)
   where
     among : (es : Entries) → lookup (bytes_eq word) es ≡ Some n → list_any (bytes_eq word) (map word_in es) ≡ true
     among [] found = cc
-    among (e ∷ es) found = (elim (bytes_eq word e.0) as (λ b. cond b (Some e.1) (lookup (bytes_eq word) es) ≡ Some n → (b || list_any (bytes_eq word) (map word_in es)) ≡ true) [
-      | true ↦ λ at. refl
-      | false ↦ λ at. among es at
-    ]) found
+    among (e ∷ es) found =
+        (elim (bytes_eq word e.0) as (λ b.
+        cond b (Some e.1) (lookup (bytes_eq word) es) ≡ Some n
+        → (b || list_any (bytes_eq word) (map word_in es)) ≡ true) [
+          | true ↦ λ at. refl
+          | false ↦ λ at. among es at
+        ]) found
 
 -- a word that isn't found comes last
 pub new-word : (es : Entries) (key : List ℕ) (n : ℕ) → lookup (bytes_eq key) es ≡ None →
     map word_in (insert_entry bytes_eq es key n) ≡ map word_in es ++ key ∷ []
 new-word [] key n none = refl
 new-word (e ∷ es) key n none =
-    (elim (bytes_eq key e.0) as (λ b. cond b (Some e.1) (lookup (bytes_eq key) es) ≡ None → map word_in (if b then (e.0, n) ∷ es else e ∷ insert_entry bytes_eq es key n) ≡ e.0 ∷ (map word_in es ++ key ∷ [])) [
+    (elim (bytes_eq key e.0) as (λ b.
+    cond b (Some e.1) (lookup (bytes_eq key) es) ≡ None
+    → map word_in (if b then (e.0, n) ∷ es else e ∷ insert_entry bytes_eq es key n)
+    ≡ e.0 ∷ (map word_in es ++ key ∷ [])) [
       | true ↦ λ at. cc
       | false ↦ λ at. ap (λ ws. e.0 ∷ ws) (new-word es key n at)
     ]) none
 
-pub other-word : (word : List ℕ) (es : Entries) → lookup (bytes_eq word) es ≡ None → with_word (map word_in es) word ≡ map word_in es ++ word ∷ []
+pub other-word : (word : List ℕ) (es : Entries) → lookup (bytes_eq word) es ≡ None
+    → with_word (map word_in es) word ≡ map word_in es ++ word ∷ []
 other-word word es none = ap (λ b. if b then map word_in es else map word_in es ++ word ∷ []) (lacks es none)
   where
     lacks : (es : Entries) → lookup (bytes_eq word) es ≡ None → list_any (bytes_eq word) (map word_in es) ≡ false
     lacks [] none = refl
-    lacks (e ∷ es) none = (elim (bytes_eq word e.0) as (λ b. cond b (Some e.1) (lookup (bytes_eq word) es) ≡ None → (b || list_any (bytes_eq word) (map word_in es)) ≡ false) [
-      | true ↦ λ at. cc
-      | false ↦ λ at. lacks es at
-    ]) none
+    lacks (e ∷ es) none =
+        (elim (bytes_eq word e.0) as (λ b.
+        cond b (Some e.1) (lookup (bytes_eq word) es) ≡ None
+        → (b || list_any (bytes_eq word) (map word_in es)) ≡ false) [
+          | true ↦ λ at. cc
+          | false ↦ λ at. lacks es at
+        ]) none
 
 -- one more token
 pub words-push : (ts : List Token) (t : Token) → words_of (ts ++ t ∷ []) ≡ with_word_of (words_of ts) t
 words-push ts t = fold-append with_word_of [] ts (t ∷ [])
 
 -- tokens without a text add no word and no bytes
-words-texts : (ws : List (List ℕ)) (ts : List Token) → fold with_word_of ws (filter has_text ts) ≡ fold with_word_of ws ts
+words-texts : (ws : List (List ℕ)) (ts : List Token)
+    → fold with_word_of ws (filter has_text ts) ≡ fold with_word_of ws ts
 words-texts ws [] = refl
 words-texts ws (Word b ∷ ts) = words-texts (with_word ws b) ts
 words-texts ws (Number b ∷ ts) = words-texts ws ts
@@ -84,18 +96,23 @@ other-texts (Mark place ∷ ts) = omega (arith, other-texts ts)
 pub same-words : (ts us : List Token) → filter has_text ts ≡ filter has_text us → words_of ts ≡ words_of us
 same-words ts us same = sym (words-texts [] ts) ∙ ap words_of same ∙ words-texts [] us
 
-pub same-bytes : (ts us : List Token) → filter has_text ts ≡ filter has_text us → token_bytes_kept ts ≡ token_bytes_kept us
+pub same-bytes : (ts us : List Token) → filter has_text ts ≡ filter has_text us
+    → token_bytes_kept ts ≡ token_bytes_kept us
 same-bytes ts us same =
-    omega (arith, ap (total length) (same-words ts us same), other-texts ts, other-texts us, ap (total other_bytes) same)
+    omega
+    (arith, ap (total length) (same-words ts us same), other-texts ts, other-texts us, ap (total other_bytes) same)
 
 -- no more bytes are kept than were given
 word-few : (ws : List (List ℕ)) (b : List ℕ) → total length (with_word ws b) ≤ total length ws + length b
-word-few ws b = elim (list_any (bytes_eq b) ws) as (λ v. total length (if v then ws else ws ++ b ∷ []) ≤ total length ws + length b) [
-  | true ↦ omega arith
-  | false ↦ omega (arith, total-append length ws (b ∷ []))
-]
+word-few ws b =
+    elim (list_any (bytes_eq b) ws)
+    as (λ v. total length (if v then ws else ws ++ b ∷ []) ≤ total length ws + length b) [
+      | true ↦ omega arith
+      | false ↦ omega (arith, total-append length ws (b ∷ []))
+    ]
 
-few-from : (ws : List (List ℕ)) (ts : List Token) → total length (fold with_word_of ws ts) + total other_bytes ts ≤ total length ws + total token_bytes ts
+few-from : (ws : List (List ℕ)) (ts : List Token)
+    → total length (fold with_word_of ws ts) + total other_bytes ts ≤ total length ws + total token_bytes ts
 few-from ws [] = omega arith
 few-from ws (Word b ∷ ts) = omega (arith, word-few ws b, few-from (with_word ws b) ts)
 few-from ws (Number b ∷ ts) = omega (arith, few-from ws ts)

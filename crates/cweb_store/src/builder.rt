@@ -30,7 +30,8 @@ impl Model for Builder {
 
     ghost Value = { Contents };
 
-    ghost view = { λ s. record { occurrences = s.names; parts = s.parts.parts; replacements = s.replacements } };
+    ghost view = { λ s.
+        record { occurrences = s.names; parts = s.parts.parts; replacements = s.replacements } };
 }
 
 impl Builder {
@@ -57,7 +58,8 @@ impl Builder {
     ) -> Result<NameRef, AllocError>
         requires { length self.old.occurrences + 1 < too_many }
         ensures number { IfOk result (λ name. name.0 ≡ length self.old.occurrences) }
-        ensures added { OnOk result (self.new ≡ with_occurrence (occurrence_of name.now how is_file) self.old) }
+        ensures added { OnOk result
+            (self.new ≡ with_occurrence (occurrence_of name.now how is_file) self.old) }
         ensures err { OnErr result (self.new ≡ self.old) }
     {
         let number = self.names.add(name, how, is_file)?;
@@ -107,7 +109,8 @@ impl Builder {
     /// that of the CWEB manual's transliteration code.
     pub fn transliterate(&mut self, byte: u8, new: &[u8]) -> Result<(), AllocError>
         requires { 128 ≤ byte }
-        ensures ok { OnOk result (self.new ≡ with_replacement (replacement_of byte new.now) self.old) }
+        ensures ok { OnOk result
+            (self.new ≡ with_replacement (replacement_of byte new.now) self.old) }
         ensures err { OnErr result (self.new ≡ self.old) }
     {
         self.replacements.add(byte, new)?;

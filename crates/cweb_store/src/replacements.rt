@@ -57,7 +57,8 @@ impl Replacements {
     /// Puts the replacements behind the texts of tokens, and answers their bytes.
     pub fn close(self, tokens: &mut ClosedTokens) -> Result<Vec<u8>, AllocError>
         ensures bytes { IfOk result (λ bytes. bytes.items ≡ map (λ r. r.byte) self) }
-        ensures texts { OnOk result (tokens.new ≡ with_texts (map replacement_text self) tokens.old) }
+        ensures texts { OnOk result
+            (tokens.new ≡ with_texts (map replacement_text self) tokens.old) }
     {
         let mut bytes = Vec::with_capacity(self.alloc, self.given.len())?;
         for replaced in &self.given {

@@ -50,7 +50,9 @@ impl Model for Store {
 
     ghost view = { λ s. stored_in s.tokens s.runs.items s.given.items s.replaced.items };
 
-    ghost invariant = { λ s. AreStored s.tokens s.runs.items s.links s.given.items s.replaced.items s.last_places s.firsts.items s.standings.items s.files.keys s.faults.items s.has_defs_code };
+    ghost invariant = { λ s.
+        AreStored s.tokens s.runs.items s.links s.given.items s.replaced.items s.last_places
+        s.firsts.items s.standings.items s.files.keys s.faults.items s.has_defs_code };
 }
 
 impl Store {
@@ -95,7 +97,8 @@ impl Store {
     /// The unnamed parts, which are the program.
     pub fn unnamed(&self) -> Parts<'_>
         ensures numbers { result ≡ numbers_where is_unnamed self.now.parts }
-        ensures text { tokens_at (all_tokens self.now.parts) result ≡ joined is_unnamed self.now.parts }
+        ensures text { tokens_at (all_tokens self.now.parts) result
+            ≡ joined is_unnamed self.now.parts }
         ensures ordered { All (λ p. p.first ≤ p.after) result }
         ensures within { All (λ p. p.after ≤ length (all_tokens self.now.parts)) result }
     {
@@ -104,9 +107,12 @@ impl Store {
 
     /// The parts of a name. There is one exactly where the name has a part.
     pub fn parts(&self, name: NameId) -> Parts<'_>
-        ensures numbers { result ≡ numbers_where (is_of (spec.standings self.now.occurrences) name) self.now.parts }
-        ensures text { tokens_at (all_tokens self.now.parts) result ≡ joined (is_of (spec.standings self.now.occurrences) name) self.now.parts }
-        ensures some { IsTrue (has_part (spec.standings self.now.occurrences) self.now.parts name) ↔ 0 < length result }
+        ensures numbers { result
+            ≡ numbers_where (is_of (spec.standings self.now.occurrences) name) self.now.parts }
+        ensures text { tokens_at (all_tokens self.now.parts) result
+            ≡ joined (is_of (spec.standings self.now.occurrences) name) self.now.parts }
+        ensures some { IsTrue (has_part (spec.standings self.now.occurrences) self.now.parts name)
+            ↔ 0 < length result }
         ensures ordered { All (λ p. p.first ≤ p.after) result }
         ensures within { All (λ p. p.after ≤ length (all_tokens self.now.parts)) result }
     {
@@ -116,7 +122,8 @@ impl Store {
     /// The macros.
     pub fn macros(&self) -> Parts<'_>
         ensures numbers { result ≡ numbers_where is_macro self.now.parts }
-        ensures text { tokens_at (all_tokens self.now.parts) result ≡ joined is_macro self.now.parts }
+        ensures text { tokens_at (all_tokens self.now.parts) result
+            ≡ joined is_macro self.now.parts }
         ensures ordered { All (λ p. p.first ≤ p.after) result }
         ensures within { All (λ p. p.after ≤ length (all_tokens self.now.parts)) result }
         ensures few { length result < too_many }
@@ -126,7 +133,8 @@ impl Store {
 
     // The parts that are wanted.
     fn wanted(&self, wanted: Wanted) -> Parts<'_>
-        ensures value { result ≡ wanted_in (spec.standings self.now.occurrences) wanted (runs_from 0 self.now.parts) }
+        ensures value { result
+            ≡ wanted_in (spec.standings self.now.occurrences) wanted (runs_from 0 self.now.parts) }
         ensures few { length result < too_many }
     {
         let skip = self.runs.len() as u32 - self.links.heads.get(wanted);
@@ -160,7 +168,8 @@ impl Store {
     /// The text of a name.
     pub fn name_text(&self, name: NameId) -> &[u8]
         requires { name.0 < length (spec.names self.now.occurrences) }
-        ensures { option_map (λ n. n.text) (slice_get (spec.names self.now.occurrences) name.0) ≡ Some result.now }
+        ensures { option_map (λ n. n.text) (slice_get (spec.names self.now.occurrences) name.0)
+            ≡ Some result.now }
     {
         self.tokens.other(self.firsts[name.0 as usize] as usize)
     }
@@ -168,7 +177,8 @@ impl Store {
     /// The text that an occurrence was given with: of an abbreviation, the prefix without the dots.
     pub fn occurrence_text(&self, name: NameRef) -> &[u8]
         requires { name.0 < length self.now.occurrences }
-        ensures { option_map (λ o. o.text) (slice_get self.now.occurrences name.0) ≡ Some result.now }
+        ensures { option_map (λ o. o.text) (slice_get self.now.occurrences name.0)
+            ≡ Some result.now }
     {
         self.tokens.other(name.0 as usize)
     }
@@ -201,7 +211,8 @@ impl Store {
     /// The faults of names, in their order.
     pub fn name_faults(&self) -> &[NameFault]
         ensures faults { result.now ≡ faults self.now.occurrences self.now.parts }
-        ensures within { All (λ fault. fault.occurrence.0 < length self.now.occurrences) result.now }
+        ensures within { All
+            (λ fault. fault.occurrence.0 < length self.now.occurrences) result.now }
     {
         self.faults.as_slice()
     }

@@ -28,7 +28,9 @@ same a b equal = sym (λ i. record {
 })
 
 itself : (a : FileKey) → is_at (compare a) a ≡ true
-itself a = ap is_eq (ap (λ o. ordering_then o (nat_cmp a.number a.number)) (sym (nat_cmp_is a.device a.device Equal refl))
+itself a =
+    ap is_eq
+    (ap (λ o. ordering_then o (nat_cmp a.number a.number)) (sym (nat_cmp_is a.device a.device Equal refl))
     ∙ sym (nat_cmp_is a.number a.number Equal refl))
 
 found : (file : FileKey) (keys : List FileKey) → Any (λ k. is_at (compare file) k ≡ true) keys → Contains keys file
@@ -40,5 +42,6 @@ pub among : (file : FileKey) (keys : List FileKey) (has : Bool) → has ≡ list
     → IsTrue has ↔ Contains keys file
 among file keys has is = (
   (λ t. found file keys (Any-from_list_any (is_at (compare file)) keys (sym is ∙ t))),
-  (λ (n, within, at). is ∙ list_any_at (is_at (compare file)) keys n file within (ap (is_at (compare file)) at ∙ itself file)),
+  (λ (n, within, at).
+      is ∙ list_any_at (is_at (compare file)) keys n file within (ap (is_at (compare file)) at ∙ itself file)),
 )

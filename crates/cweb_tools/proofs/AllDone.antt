@@ -8,7 +8,8 @@ use Rattle.cweb_tools.specs.Leaves.{put_files}
 use Rattle.cweb_tools.specs.Script.{files_in, items_in}
 
 -- the files after acts that were all done
-pub files_all : (acts : List Act) (old new : Held) → Runs acts None old new → new.files ≡ put_files old.files (files_in acts)
+pub files_all : (acts : List Act) (old new : Held) → Runs acts None old new
+    → new.files ≡ put_files old.files (files_in acts)
 files_all [] old new is = ap (λ (d : Held). d.files) is
 files_all (judges ∷ acts) old new (inl run) = files_all acts old new run.1
 files_all (says item ∷ acts) old new (inl run) = files_all acts (after_act (says item) old) new run.1
@@ -20,10 +21,13 @@ files_all (writes name text ∷ acts) old new (inl run) = files_all acts (after_
 files_all (act ∷ acts) old new (inr stop) = absurd stop
 
 -- the log after acts that were all done
-pub log_all : (acts : List Act) (old new : Held) → Runs acts None old new → new.log ≡ old.log ++ flat_map line (items_in acts)
+pub log_all : (acts : List Act) (old new : Held) → Runs acts None old new
+    → new.log ≡ old.log ++ flat_map line (items_in acts)
 log_all [] old new is = ap (λ (d : Held). d.log) is ∙ sym (append-nil old.log)
 log_all (judges ∷ acts) old new (inl run) = log_all acts old new run.1
-log_all (says item ∷ acts) old new (inl run) = log_all acts (after_act (says item) old) new run.1 ∙ append_assoc old.log (line item) (flat_map line (items_in acts))
+log_all (says item ∷ acts) old new (inl run) =
+    log_all acts (after_act (says item) old) new run.1
+    ∙ append_assoc old.log (line item) (flat_map line (items_in acts))
 log_all (opens ∷ acts) old new (inl run) = log_all acts old new run.1
 log_all (reads names events ∷ acts) old new (inl run) = log_all acts old new run.1
 log_all (plans ∷ acts) old new (inl run) = log_all acts old new run.1

@@ -36,7 +36,8 @@ some_none : (names : WebNames) → Some names ≡ None → ⊥
 some_none names is = cc
 
 -- why a merge could not begin
-start_cause : (world : World) (names : WebNames) (found : Option Found) (changes : Option (Option Found)) (stop : Stop) → StopsAtStart stop found changes
+start_cause : (world : World) (names : WebNames) (found : Option Found) (changes : Option (Option Found)) (stop : Stop)
+    → StopsAtStart stop found changes
     → CanStop stop (found_course world names found changes)
 start_cause world names None changes WebNotOpened why = tt
 start_cause world names (Some web) changes WebNotOpened why = absurd (cc)
@@ -47,12 +48,14 @@ start_cause world names found changes Memory why = tt
 start_cause world names found changes stop why = absurd why
 
 -- the course of a run that begins a merge
-pub begins_course : (world : World) (names : WebNames) (found : Option Found) (changes : Option (Option Found)) {first : SoFar} {all : List Event} (begins : Begins world found changes first all)
+pub begins_course : (world : World) (names : WebNames) (found : Option Found) (changes : Option (Option Found))
+    {first : SoFar} {all : List Event} (begins : Begins world found changes first all)
     → found_course world names found changes ≡ merging (begins.name ∷ names_found begins.change) all
 begins_course world names found changes begins = rw (begins.there, begins.changes_there, begins.whole) refl
 
 -- a run that stops before it writes
-module _ (before after : Seen) (status : ℕ) (read : after.shelf.failed ≡ before.shelf.failed) (blamed : IsTrue before.shelf.tells → after.shelf.blamed ≡ before.shelf.blamed)
+module _ (before after : Seen) (status : ℕ) (read : after.shelf.failed ≡ before.shelf.failed)
+    (blamed : IsTrue before.shelf.tells → after.shelf.blamed ≡ before.shelf.blamed)
     (same : after.out ≡ before.out) (answered : status ≡ 1) where
   out_count : after.out.failed ≡ before.out.failed
   out_count = ap (λ (stream : SeenStream). stream.failed) same
@@ -60,12 +63,16 @@ module _ (before after : Seen) (status : ℕ) (read : after.shelf.failed ≡ bef
   out_bytes : after.out.bytes ≡ before.out.bytes
   out_bytes = ap (λ (stream : SeenStream). stream.bytes) same
 
-  refused : (stop : Stop) → stop ≡ Usage → Logs (stop_line stop usage) before.log after.log → Refuses before after status
-  refused Usage is logs = record { read = read; printed = out_count; written = out_bytes; logged = logs; answered = answered }
+  refused : (stop : Stop) → stop ≡ Usage
+      → Logs (stop_line stop usage) before.log after.log → Refuses before after status
+  refused Usage is logs =
+      record { read = read; printed = out_count; written = out_bytes; logged = logs; answered = answered }
   refused stop is logs = absurd (cc)
 
-  not_begun : (names : WebNames) (course : Course) (stop : Stop) → Comes stop → files_named stop ≤ 0 → read_blame stop ≡ 0 → write_blame stop ≡ 0
-      → blame [] stop ≡ [] → (IsTrue before.shelf.tells → CanStop stop course) → Logs (stop_line stop (about names [] stop)) before.log after.log → Merges names course before after status
+  not_begun : (names : WebNames) (course : Course) (stop : Stop) → Comes stop
+      → files_named stop ≤ 0 → read_blame stop ≡ 0 → write_blame stop ≡ 0
+      → blame [] stop ≡ [] → (IsTrue before.shelf.tells → CanStop stop course)
+      → Logs (stop_line stop (about names [] stop)) before.log after.log → Merges names course before after status
   not_begun names course stop comes named no_read no_write none cause logs = stops (record {
     stop = stop;
     comes = comes;
@@ -74,15 +81,21 @@ module _ (before after : Seen) (status : ℕ) (read : after.shelf.failed ≡ bef
     named = named;
     opened = λ tells. none_opened course;
     blames = record { shelf = omega (arith, read, no_read); out = omega (arith, out_count, no_write) };
-    blamed = λ tells. blamed tells ∙ sym (append-nil before.shelf.blamed) ∙ ap (λ (ns : List (List ℕ)). before.shelf.blamed ++ ns) (sym none);
-    written = λ tells told. subst (λ (bytes : List ℕ). WritesFront before.out.bytes bytes (merged course)) (sym out_bytes) (none_written before.out.bytes (merged course));
+    blamed = λ tells.
+        blamed tells ∙ sym (append-nil before.shelf.blamed)
+        ∙ ap (λ (ns : List (List ℕ)). before.shelf.blamed ++ ns) (sym none);
+    written = λ tells told.
+        subst (λ (bytes : List ℕ). WritesFront before.out.bytes bytes (merged course))
+        (sym out_bytes) (none_written before.out.bytes (merged course));
     logged = logs;
     answered = answered;
   })
 
-  out_of_memory : (names : WebNames) (course : Course) (stop : Stop) → stop ≡ Memory → Logs (stop_line stop usage) before.log after.log → Merges names course before after status
+  out_of_memory : (names : WebNames) (course : Course) (stop : Stop) → stop ≡ Memory
+      → Logs (stop_line stop usage) before.log after.log → Merges names course before after status
   out_of_memory names course stop is logs =
-      not_begun names course Memory tt (omega arith) refl refl refl (λ tells. tt) (subst (λ (s : Stop). Logs (stop_line s usage) before.log after.log) is logs)
+      not_begun names course Memory tt (omega arith) refl refl refl (λ tells. tt)
+      (subst (λ (s : Stop). Logs (stop_line s usage) before.log after.log) is logs)
 
   -- the words can't be read, or memory was wanting for their names
   pub words_stopped : (world : World) (asked : Option WebNames) (stop : Stop) → (stop ≡ Usage) ⊎ (stop ≡ Memory)
@@ -90,17 +103,23 @@ module _ (before after : Seen) (status : ℕ) (read : after.shelf.failed ≡ bef
       → Ends world asked before after status
   words_stopped world None stop why none_by is_usage logs = refused stop (is_usage refl) logs
   words_stopped world (Some names) stop why none_by is_usage logs =
-      out_of_memory names (asked_course world (Some names)) stop (elim why [ inl is ↦ absurd (some_none names (none_by is)) | inr is ↦ is ]) logs
+      out_of_memory names (asked_course world (Some names)) stop
+      (elim why [ inl is ↦ absurd (some_none names (none_by is)) | inr is ↦ is ]) logs
 
   -- a merge could not begin
-  pub start_stopped : (world : World) (names : WebNames) (found : Option Found) (changes : Option (Option Found)) (stop : Stop) → StartStops stop
-      → (IsTrue before.shelf.tells → StopsAtStart stop found changes) → Logs (stop_line stop (start_subject names.web (change_name names.change) stop)) before.log after.log
+  pub start_stopped : (world : World) (names : WebNames) (found : Option Found)
+      (changes : Option (Option Found)) (stop : Stop) → StartStops stop
+      → (IsTrue before.shelf.tells → StopsAtStart stop found changes)
+      → Logs (stop_line stop (start_subject names.web (change_name names.change) stop)) before.log after.log
       → Merges names (found_course world names found changes) before after status
   start_stopped world names found changes WebNotOpened comes why logs =
-      not_begun names _ WebNotOpened tt (omega arith) refl refl refl (λ tells. start_cause world names found changes WebNotOpened (why tells)) logs
+      not_begun names _ WebNotOpened tt (omega arith) refl refl refl
+      (λ tells. start_cause world names found changes WebNotOpened (why tells)) logs
   start_stopped world names found changes ChangeNotOpened comes why logs =
-      not_begun names _ ChangeNotOpened tt (omega arith) refl refl refl (λ tells. start_cause world names found changes ChangeNotOpened (why tells)) logs
-  start_stopped world names found changes Memory comes why logs = not_begun names _ Memory tt (omega arith) refl refl refl (λ tells. tt) logs
+      not_begun names _ ChangeNotOpened tt (omega arith) refl refl refl
+      (λ tells. start_cause world names found changes ChangeNotOpened (why tells)) logs
+  start_stopped world names found changes Memory comes why logs =
+      not_begun names _ Memory tt (omega arith) refl refl refl (λ tells. tt) logs
   start_stopped world names found changes stop comes why logs = absurd comes
 
 -- what a merge has told and taken that begins with these files open
@@ -108,17 +127,21 @@ abbrev pub begun_with : List (List ℕ) → SoFar
 begun_with first = record { faults = []; names = first; count = record { lines = 0; bytes = 0 } }
 
 -- the names that a merge has told when it stops are among those that it opens in all
-pub opened_by : (first : List (List ℕ)) (old new : SoFar) (events : List Event) → old ≡ begun_with first → TellsFront old new events
+pub opened_by : (first : List (List ℕ)) (old new : SoFar) (events : List Event)
+    → old ≡ begun_with first → TellsFront old new events
     → (files : List (List ℕ)) → files ≡ new.names → (rest : List (List ℕ)) × (first ++ openings events ≡ files ++ rest)
 opened_by first old new events began front files is = (
   openings front.later,
-  ap (λ (es : List Event). first ++ openings es) front.whole ∙ ap (λ (ns : List (List ℕ)). first ++ ns) (openings-append front.events front.later)
+  ap (λ (es : List Event). first ++ openings es) front.whole
+      ∙ ap (λ (ns : List (List ℕ)). first ++ ns) (openings-append front.events front.later)
       ∙ sym (append_assoc first (openings front.events) (openings front.later))
-      ∙ ap (λ (ns : List (List ℕ)). ns ++ openings front.later) (sym (is ∙ front.names ∙ ap (λ (s : SoFar). s.names ++ openings front.events) began)),
+      ∙ ap (λ (ns : List (List ℕ)). ns ++ openings front.later)
+      (sym (is ∙ front.names ∙ ap (λ (s : SoFar). s.names ++ openings front.events) began)),
 )
 
 -- what a merge told, where it began with these files and all of it came
-module _ (first : List (List ℕ)) (all : List Event) (old new : SoFar) (began : old ≡ begun_with first) (gives : Gives (given_lines all) old new all []) where
+module _ (first : List (List ℕ)) (all : List Event) (old new : SoFar)
+    (began : old ≡ begun_with first) (gives : Gives (given_lines all) old new all []) where
   came : gives.events ≡ all
   came = sym (append-nil gives.events) ∙ sym gives.whole
 
@@ -137,20 +160,32 @@ module _ (first : List (List ℕ)) (all : List Event) (old new : SoFar) (began :
       })
 
 -- with one more line than was taken a sum would pass its limit, and that line is among all
-pub passes_sums : (first : List (List ℕ)) (old : SoFar) (now : Count) (lines : List Line) (events : List Event) → old ≡ begun_with first
+pub passes_sums : (first : List (List ℕ)) (old : SoFar) (now : Count) (lines : List Line) (events : List Event)
+    → old ≡ begun_with first
     → StopsBehind lines TooMuchText old.count now events → PassesSums events
 passes_sums first old now lines events began ahead =
     let no_lines : old.count.lines ≡ 0 = ap (λ (s : SoFar). s.count.lines) began in
     let no_bytes : old.count.bytes ≡ 0 = ap (λ (s : SoFar). s.count.bytes) began in
-    elim ahead.why.passes [ inl taken ↦ inl (omega (arith, taken, ahead.few, no_lines)) | inr bytes ↦ inr (omega (arith, bytes, ahead.small, no_bytes)) ]
+    elim ahead.why.passes [
+      | inl taken ↦ inl (omega (arith, taken, ahead.few, no_lines))
+      | inr bytes ↦ inr (omega (arith, bytes, ahead.small, no_bytes))
+    ]
 
-writing_cause : (stop : Stop) (first : List (List ℕ)) (old : SoFar) (now : Count) (events : List Event) (Wrote : List ℕ → Type 0) → old ≡ begun_with first → WritingStops stop
+writing_cause : (stop : Stop) (first : List (List ℕ)) (old : SoFar)
+    (now : Count) (events : List Event) (Wrote : List ℕ → Type 0) → old ≡ begun_with first → WritingStops stop
     → StopsWriting stop old.count now events Wrote
     → CanStop stop (merging first events)
 writing_cause (ReadFault file) first old now events Wrote began kind why = tt
 writing_cause (LineTooLong file) first old now events Wrote began kind why =
-    record { events = why.stops.events; line = why.stops.line; later = why.stops.later; whole = why.stops.whole; why = why.stops.why }
-writing_cause TooMuchText first old now events Wrote began kind why = passes_sums first old now why.lines events began why.stops
+    record {
+      events = why.stops.events;
+      line = why.stops.line;
+      later = why.stops.later;
+      whole = why.stops.whole;
+      why = why.stops.why;
+    }
+writing_cause TooMuchText first old now events Wrote began kind why =
+    passes_sums first old now why.lines events began why.stops
 writing_cause Memory first old now events Wrote began kind why = tt
 writing_cause WriteFault first old now events Wrote began kind why = tt
 writing_cause stop first old now events Wrote began kind why = absurd kind
@@ -163,7 +198,8 @@ writing_comes Memory kind = tt
 writing_comes WriteFault kind = tt
 writing_comes stop kind = absurd kind
 
-writing_about : (names : WebNames) (files : List (List ℕ)) (stop : Stop) → WritingStops stop → subject files stop ≡ about names files stop
+writing_about : (names : WebNames) (files : List (List ℕ)) (stop : Stop)
+    → WritingStops stop → subject files stop ≡ about names files stop
 writing_about names files (ReadFault file) kind = refl
 writing_about names files (LineTooLong file) kind = refl
 writing_about names files TooMuchText kind = refl
@@ -172,54 +208,76 @@ writing_about names files WriteFault kind = refl
 writing_about names files stop kind = absurd kind
 
 -- a run that begins a merge, of which all this comes
-module _ (world : World) (names : WebNames) (found : Option Found) (changes : Option (Option Found)) (before after : Seen) (status : ℕ) (old : SoFar) (all : List Event)
+module _ (world : World) (names : WebNames) (found : Option Found) (changes : Option (Option Found))
+    (before after : Seen) (status : ℕ) (old : SoFar) (all : List Event)
     (begins : IsTrue before.shelf.tells → Begins world found changes old all) where
-  begun : (tells : IsTrue before.shelf.tells) → found_course world names found changes ≡ merging ((begins tells).name ∷ names_found (begins tells).change) all
+  begun : (tells : IsTrue before.shelf.tells)
+      → found_course world names found changes ≡ merging ((begins tells).name ∷ names_found (begins tells).change) all
   begun tells = begins_course world names found changes (begins tells)
 
-  printed_all : (tells : IsTrue before.shelf.tells) → text_of (given_lines all) ≡ merged (found_course world names found changes)
+  printed_all : (tells : IsTrue before.shelf.tells)
+      → text_of (given_lines all) ≡ merged (found_course world names found changes)
   printed_all tells = ap merged (sym (begun tells))
 
-  pub completed : (new : SoFar) (files : List (List ℕ)) (faults : List SourceFault) → files ≡ new.names → faults ≡ new.faults
-      → (IsTrue before.shelf.tells → Gives (given_lines all) old new all []) → new.count.lines ≤ LINES → new.count.bytes ≤ BYTES
-      → after.shelf.failed ≡ before.shelf.failed → (IsTrue before.shelf.tells → after.shelf.blamed ≡ before.shelf.blamed) → after.out.failed ≡ before.out.failed
-      → (IsTrue before.shelf.tells → IsTrue before.out.tells → after.out.bytes ≡ before.out.bytes ++ text_of (given_lines all)) → Logs (fault_lines files faults) before.log after.log
-      → (after.log.failed ≡ before.log.failed → status ≡ fault_status faults) → (after.log.failed ≢ before.log.failed → status ≡ 1)
+  pub completed : (new : SoFar) (files : List (List ℕ)) (faults : List SourceFault)
+      → files ≡ new.names → faults ≡ new.faults
+      → (IsTrue before.shelf.tells → Gives (given_lines all) old new all [])
+      → new.count.lines ≤ LINES → new.count.bytes ≤ BYTES
+      → after.shelf.failed ≡ before.shelf.failed
+      → (IsTrue before.shelf.tells → after.shelf.blamed ≡ before.shelf.blamed) → after.out.failed ≡ before.out.failed
+      → (IsTrue before.shelf.tells → IsTrue before.out.tells
+      → after.out.bytes ≡ before.out.bytes ++ text_of (given_lines all))
+      → Logs (fault_lines files faults) before.log after.log
+      → (after.log.failed ≡ before.log.failed → status ≡ fault_status faults)
+      → (after.log.failed ≢ before.log.failed → status ≡ 1)
       → Merges names (found_course world names found changes) before after status
-  completed new files faults files_are faults_are gives few small read none out written logs answered failed = completes (record {
-    files = files;
-    faults = faults;
-    all = λ tells. subst (λ (course : Course). HasMerged course files faults) (sym (begun tells)) (
-      files_are ∙ names_told _ all old new (begins tells).so_far_is (gives tells),
-      faults_are ∙ faults_told _ all old new (begins tells).so_far_is (gives tells),
-      limits_kept _ all old new (begins tells).so_far_is (gives tells) few small,
-    );
-    read = read;
-    none_blamed = none;
-    printed = out;
-    written = λ tells told. written tells told ∙ ap (λ (text : List ℕ). before.out.bytes ++ text) (printed_all tells);
-    logged = logs;
-    answered = answered;
-    failed = failed;
-  })
+  completed new files faults files_are faults_are gives few small read none out written logs answered failed =
+      completes (record {
+        files = files;
+        faults = faults;
+        all = λ tells. subst (λ (course : Course). HasMerged course files faults) (sym (begun tells)) (
+          files_are ∙ names_told _ all old new (begins tells).so_far_is (gives tells),
+          faults_are ∙ faults_told _ all old new (begins tells).so_far_is (gives tells),
+          limits_kept _ all old new (begins tells).so_far_is (gives tells) few small,
+        );
+        read = read;
+        none_blamed = none;
+        printed = out;
+        written = λ tells told. written tells told ∙ ap (λ (text : List ℕ). before.out.bytes ++ text) (printed_all tells);
+        logged = logs;
+        answered = answered;
+        failed = failed;
+      })
 
-  pub stopped : (stop : Stop) (new : SoFar) (files : List (List ℕ)) (Wrote : List ℕ → Type 0) → files ≡ new.names → WritingStops stop
+  pub stopped : (stop : Stop) (new : SoFar) (files : List (List ℕ)) (Wrote : List ℕ → Type 0)
+      → files ≡ new.names → WritingStops stop
       → (IsTrue before.shelf.tells → StopsWriting stop old.count new.count all Wrote)
       → files_named stop ≤ length new.names → (IsTrue before.shelf.tells → TellsFront old new all)
-      → after.shelf.failed ≡ before.shelf.failed + read_blame stop → (IsTrue before.shelf.tells → after.shelf.blamed ≡ before.shelf.blamed ++ blame new.names stop)
+      → after.shelf.failed ≡ before.shelf.failed + read_blame stop
+      → (IsTrue before.shelf.tells → after.shelf.blamed ≡ before.shelf.blamed ++ blame new.names stop)
       → after.out.failed ≡ before.out.failed + write_blame stop
-      → (IsTrue before.shelf.tells → IsTrue before.out.tells → WritesFront before.out.bytes after.out.bytes (text_of (given_lines all)))
-      → Logs (stop_line stop (subject files stop)) before.log after.log → status ≡ 1 → Merges names (found_course world names found changes) before after status
+      → (IsTrue before.shelf.tells → IsTrue before.out.tells
+      → WritesFront before.out.bytes after.out.bytes (text_of (given_lines all)))
+      → Logs (stop_line stop (subject files stop)) before.log after.log → status ≡ 1
+      → Merges names (found_course world names found changes) before after status
   stopped stop new files Wrote files_are kind why named front read whose out written logs answered = stops (record {
     stop = stop;
     comes = writing_comes stop kind;
-    cause = λ tells. subst (λ (course : Course). CanStop stop course) (sym (begun tells)) (writing_cause stop _ old new.count all Wrote (begins tells).so_far_is kind (why tells));
+    cause = λ tells.
+        subst (λ (course : Course). CanStop stop course) (sym (begun tells))
+        (writing_cause stop _ old new.count all Wrote (begins tells).so_far_is kind (why tells));
     files = files;
     named = rw files_are named;
-    opened = λ tells. subst (λ (course : Course). AreOpened files course) (sym (begun tells)) (opened_by _ old new all (begins tells).so_far_is (front tells) files files_are);
+    opened = λ tells.
+        subst (λ (course : Course). AreOpened files course) (sym (begun tells))
+        (opened_by _ old new all (begins tells).so_far_is (front tells) files files_are);
     blames = record { shelf = read; out = out };
     blamed = λ tells. whose tells ∙ ap (λ (ns : List (List ℕ)). before.shelf.blamed ++ blame ns stop) (sym files_are);
-    written = λ tells told. subst (λ (text : List ℕ). WritesFront before.out.bytes after.out.bytes text) (printed_all tells) (written tells told);
-    logged = subst (λ (name : List ℕ). Logs (stop_line stop name) before.log after.log) (writing_about names files stop kind) logs;
+    written = λ tells told.
+        subst (λ (text : List ℕ). WritesFront before.out.bytes after.out.bytes text)
+        (printed_all tells) (written tells told);
+    logged =
+        subst (λ (name : List ℕ). Logs (stop_line stop name) before.log after.log)
+        (writing_about names files stop kind) logs;
     answered = answered;
   })

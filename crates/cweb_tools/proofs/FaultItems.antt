@@ -23,24 +23,35 @@ use Rattle.cweb_tools.specs.Tangle.{fault_items}
 use Rattle.cweb_tools.proofs.Logging.{said_all, said_none}
 
 -- items that are all faults
-all_count : {X : Type 0} (f : X → Item) (xs : List X) → ((x : X) → is_fault (f x) ≡ true) → fault_count (map f xs) ≡ length xs
+all_count : {X : Type 0} (f : X → Item) (xs : List X)
+    → ((x : X) → is_fault (f x) ≡ true) → fault_count (map f xs) ≡ length xs
 all_count f [] is = refl
 all_count f (x ∷ xs) is =
     let one : ◌≡◌ {A = ℕ} (cond (is_fault (f x)) 1 0) 1 = ap (λ (b : Bool). cond b 1 0) (is x) in
     omega (arith, sum_by-cons (λ (item : Item). cond (is_fault item) 1 0) (f x) (map f xs), one, all_count f xs is)
 
 pub all_counted : (files : List (List ℕ)) (faults : List SourceFault) (made : Scanned)
-    → fault_count (fault_items files faults made) ≡ length faults + (length made.faults + length (store.faults made.store.occurrences made.store.parts))
+    → fault_count (fault_items files faults made)
+    ≡ length faults + (length made.faults + length (store.faults made.store.occurrences made.store.parts))
 all_counted files faults made =
     let names = store.faults made.store.occurrences made.store.parts in
-    let first : fault_count (map (source_item files) faults) ≡ length faults = all_count (source_item files) faults (λ x. refl) in
-    let next : fault_count (scan_items files made.faults) ≡ length made.faults = all_count (scan_item files) made.faults (λ x. refl) in
-    let last : fault_count (name_items made.store) ≡ length names = all_count (name_item made.store.occurrences) names (λ x. refl) in
-    sum_by-append (λ (item : Item). cond (is_fault item) 1 0) (map (source_item files) faults) (scan_items files made.faults ++ name_items made.store)
-    ∙ (λ i. first i + (sum_by-append (λ (item : Item). cond (is_fault item) 1 0) (scan_items files made.faults) (name_items made.store) ∙ (λ j. next j + last j)) i)
+    let first : fault_count (map (source_item files) faults) ≡ length faults =
+    all_count (source_item files) faults (λ x. refl) in
+    let next : fault_count (scan_items files made.faults) ≡ length made.faults =
+    all_count (scan_item files) made.faults (λ x. refl) in
+    let last : fault_count (name_items made.store) ≡ length names =
+    all_count (name_item made.store.occurrences) names (λ x. refl) in
+    sum_by-append (λ (item : Item). cond (is_fault item) 1 0) (map (source_item files) faults)
+    (scan_items files made.faults ++ name_items made.store)
+    ∙ (λ i.
+    first i
+    + (sum_by-append (λ (item : Item). cond (is_fault item) 1 0)
+    (scan_items files made.faults) (name_items made.store) ∙ (λ j. next j + last j))
+    i)
 
 -- all of them count
-pub counted_all : (files : List (List ℕ)) (faults : List SourceFault) (made : Scanned) → fault_count (fault_items files faults made) ≡ length (fault_items files faults made)
+pub counted_all : (files : List (List ℕ)) (faults : List SourceFault) (made : Scanned)
+    → fault_count (fault_items files faults made) ≡ length (fault_items files faults made)
 counted_all files faults made =
     let names = store.faults made.store.occurrences made.store.parts in
     omega (
@@ -58,20 +69,25 @@ some_from zero never = absurd (never refl)
 some_from (suc n) never = omega arith
 
 -- where no fault is counted there is nothing to log
-pub none_said : (items : List Item) (stream : SeenStream) → length items ≡ 0 → DoesInLog (map says items) None stream stream
+pub none_said : (items : List Item) (stream : SeenStream)
+    → length items ≡ 0 → DoesInLog (map says items) None stream stream
 none_said [] stream none = said_none stream
 none_said (item ∷ items) stream none = absurd (omega (arith, none))
 
-pub some_said : {A E : Type 0} (r : Result A E) (items : List Item) (old new : SeenStream) → 0 < length items → Writes (flat_map line items) old new r → DoesInLog (map says items) (told r) old new
+pub some_said : {A E : Type 0} (r : Result A E) (items : List Item) (old new : SeenStream) → 0 < length items
+    → Writes (flat_map line items) old new r → DoesInLog (map says items) (told r) old new
 some_said r [] old new some writes = absurd (omega (arith, some))
 some_said r (item ∷ items) old new some writes = said_all r item items old new writes
 
 -- one text was written behind another
-pub writes_on : {A E B F : Type 0} (x : A) (r : Result B F) (a b : List ℕ) (old mid new : SeenStream) → Writes {E = E} a old mid (Ok x) → Writes b mid new r → Writes (a ++ b) old new r
+pub writes_on : {A E B F : Type 0} (x : A) (r : Result B F) (a b : List ℕ) (old mid new : SeenStream)
+    → Writes {E = E} a old mid (Ok x) → Writes b mid new r → Writes (a ++ b) old new r
 writes_on x (Ok y) a b old mid new first then = record {
   tells = then.tells ∙ first.tells;
   counts = then.counts ∙ first.counts;
-  whole = λ tells. then.whole (subst IsTrue (sym first.tells) tells) ∙ ap (λ (t : List ℕ). t ++ b) (first.whole tells) ∙ append_assoc old.bytes a b;
+  whole = λ tells.
+      then.whole (subst IsTrue (sym first.tells) tells)
+      ∙ ap (λ (t : List ℕ). t ++ b) (first.whole tells) ∙ append_assoc old.bytes a b;
   front = λ tells. tt;
 }
 writes_on x (Err e) a b old mid new first then = record {
@@ -81,12 +97,15 @@ writes_on x (Err e) a b old mid new first then = record {
   front = λ tells. let front = then.front (subst IsTrue (sym first.tells) tells) in record {
     front = a ++ front.front;
     rest = front.rest;
-    written = front.written ∙ ap (λ (t : List ℕ). t ++ front.front) (first.whole tells) ∙ append_assoc old.bytes a front.front;
+    written =
+        front.written ∙ ap (λ (t : List ℕ). t ++ front.front) (first.whole tells)
+        ∙ append_assoc old.bytes a front.front;
     whole = ap (λ (t : List ℕ). a ++ t) front.whole ∙ sym (append_assoc a front.front front.rest);
   };
 }
 
-pub writes_in : {A E B F : Type 0} (e : E) (r : Result B F) (a b : List ℕ) (old new : SeenStream) → Writes {A = A} a old new (Err e) → IsErr r → Writes (a ++ b) old new r
+pub writes_in : {A E B F : Type 0} (e : E) (r : Result B F) (a b : List ℕ) (old new : SeenStream)
+    → Writes {A = A} a old new (Err e) → IsErr r → Writes (a ++ b) old new r
 writes_in e (Ok x) a b old new fails is = absurd (cc)
 writes_in e (Err f) a b old new fails is = record {
   tells = fails.tells;
@@ -101,35 +120,52 @@ writes_in e (Err f) a b old new fails is = record {
 }
 
 -- the line of a fault of a file is that of its item
-end_text : (kind : SourceKind) (count : ℕ) → kind_text kind ++ count_end kind count ≡ counted_text kind count ++ codes "\n"
-end_text Unequal count = sym (append_assoc (kind_text Unequal) (codes ": " ++ decimal count) (codes "\n") ∙ ap (λ (t : List ℕ). kind_text Unequal ++ t) (append_assoc (codes ": ") (decimal count) (codes "\n")))
+end_text : (kind : SourceKind) (count : ℕ)
+    → kind_text kind ++ count_end kind count ≡ counted_text kind count ++ codes "\n"
+end_text Unequal count =
+    sym (append_assoc (kind_text Unequal) (codes ": " ++ decimal count) (codes "\n")
+    ∙ ap (λ (t : List ℕ). kind_text Unequal ++ t) (append_assoc (codes ": ") (decimal count) (codes "\n")))
 end_text kind count = refl
 
 same_line : (files : List (List ℕ)) (met : SourceFault) → fault_line files met ≡ line (source_item files met)
-same_line files met = ap (located_line (name_at files met.place.file.0) (decimal met.place.line)) (end_text met.kind met.count)
+same_line files met =
+    ap (located_line (name_at files met.place.file.0) (decimal met.place.line)) (end_text met.kind met.count)
 
-same_lines : (files : List (List ℕ)) (faults : List SourceFault) → fault_lines files faults ≡ flat_map line (map (source_item files) faults)
+same_lines : (files : List (List ℕ)) (faults : List SourceFault)
+    → fault_lines files faults ≡ flat_map line (map (source_item files) faults)
 same_lines files [] = refl
 same_lines files (met ∷ faults) = λ i. same_line files met i ++ same_lines files faults i
 
 -- the lines of all faults of a web are those of its files, of its text and of its names
 pub fault_text : (files : List (List ℕ)) (faults : List SourceFault) (made : Scanned)
-    → flat_map line (fault_items files faults made) ≡ fault_lines files faults ++ (flat_map line (scan_items files made.faults) ++ flat_map line (name_items made.store))
+    → flat_map line (fault_items files faults made)
+    ≡ fault_lines files faults
+    ++ (flat_map line (scan_items files made.faults) ++ flat_map line (name_items made.store))
 fault_text files faults made =
     flat_map-append line (map (source_item files) faults) (scan_items files made.faults ++ name_items made.store)
-    ∙ (λ i. sym (same_lines files faults) i ++ flat_map-append line (scan_items files made.faults) (name_items made.store) i)
+    ∙ (λ i.
+    sym (same_lines files faults) i
+    ++ flat_map-append line (scan_items files made.faults) (name_items made.store) i)
 
 -- how many parts are macros
-numbers_counted : (test : PartKind → Bool) (parts : List Part) (n : ℕ) → length (numbers_from test n parts) ≡ count_by (λ (part : Part). test part.kind) parts
+numbers_counted : (test : PartKind → Bool) (parts : List Part) (n : ℕ)
+    → length (numbers_from test n parts) ≡ count_by (λ (part : Part). test part.kind) parts
 numbers_counted test [] n = refl
 numbers_counted test (p ∷ parts) n =
-    let rest : length (numbers_from test (n + length p.tokens) parts) ≡ count_by (λ (part : Part). test part.kind) parts = numbers_counted test parts (n + length p.tokens) in
+    let rest : length (numbers_from test (n + length p.tokens) parts)
+    ≡ count_by (λ (part : Part). test part.kind) parts =
+    numbers_counted test parts (n + length p.tokens) in
     let split = sum_by-cons (λ (part : Part). cond (test part.kind) 1 0) p parts in
-    (elim (test p.kind) as (λ b. length (cond b ((record { first = n; after = n + length p.tokens }) ∷ numbers_from test (n + length p.tokens) parts) (numbers_from test (n + length p.tokens) parts))
+    (elim (test p.kind) as (λ b.
+    length (cond b
+    ((record { first = n; after = n + length p.tokens })
+    ∷ numbers_from test (n + length p.tokens) parts)
+    (numbers_from test (n + length p.tokens) parts))
     ≡ cond b 1 0 + count_by (λ (part : Part). test part.kind) parts) [
       | true ↦ omega (arith, rest)
       | false ↦ omega (arith, rest)
     ]) ∙ sym split
 
-pub macros_counted : (parts : List Part) → length (numbers_where is_macro parts) ≡ count_by (λ (part : Part). is_macro part.kind) parts
+pub macros_counted : (parts : List Part)
+    → length (numbers_where is_macro parts) ≡ count_by (λ (part : Part). is_macro part.kind) parts
 macros_counted parts = numbers_counted is_macro parts 0

@@ -12,7 +12,8 @@ use Rattle.cweb_tools.specs.Leaves.{LeavesFiles, put_files}
 use Rattle.cweb_tools.specs.Script.{Numbers, Planning, refused, Web, closing_acts, files_in, planned_acts, script, starred_acts, tangle_files, tangling, when}
 
 -- what stops an act changes no file
-pub break_files : (act : Act) (stop : Stop) (about : List ℕ) (old new : Held) → Breaks act (ending stop about) old new → new.files ≡ old.files
+pub break_files : (act : Act) (stop : Stop) (about : List ℕ) (old new : Held)
+    → Breaks act (ending stop about) old new → new.files ≡ old.files
 break_files judges Memory about old new broke = ap (λ (d : Held). d.files) broke
 break_files (says item) LogFault about old new broke = ap (λ (d : Held). d.files) broke.is
 break_files opens Memory about old new broke = ap (λ (d : Held). d.files) broke
@@ -28,7 +29,8 @@ break_files (writes name text) WriteFault about old new broke = ap (λ (d : Held
 break_files act stop about old new broke = absurd broke
 
 -- and leaves no draft
-break_draft : (act : Act) (stop : Stop) (about : List ℕ) (old new : Held) → old.draft ≡ None → Breaks act (ending stop about) old new → new.draft ≡ None
+break_draft : (act : Act) (stop : Stop) (about : List ℕ) (old new : Held)
+    → old.draft ≡ None → Breaks act (ending stop about) old new → new.draft ≡ None
 break_draft judges Memory about old new none broke = ap (λ (d : Held). d.draft) broke ∙ none
 break_draft (says item) LogFault about old new none broke = ap (λ (d : Held). d.draft) broke.is ∙ none
 break_draft opens Memory about old new none broke = ap (λ (d : Held). d.draft) broke ∙ none
@@ -47,7 +49,8 @@ break_draft act stop about old new none broke = absurd broke
 none_done : (due old new : List File) → new ≡ old → LeavesFiles due old new
 none_done due old new same = record { done = []; undone = due; whole = refl; is = same }
 
-runs_files : (acts : List Act) (why : Option Ending) (old new : Held) → Runs acts why old new → LeavesFiles (files_in acts) old.files new.files
+runs_files : (acts : List Act) (why : Option Ending) (old new : Held)
+    → Runs acts why old new → LeavesFiles (files_in acts) old.files new.files
 runs_files [] None old new run = none_done [] old.files new.files (ap (λ (d : Held). d.files) run)
 runs_files [] (Some why) old new run = absurd run
 runs_files (judges ∷ acts) why old new (inl run) = runs_files acts why old new run.1
@@ -58,23 +61,34 @@ runs_files (plans ∷ acts) why old new (inl run) = runs_files acts why old new 
 runs_files (reserves ∷ acts) why old new (inl run) = runs_files acts why old new run.1
 runs_files (writes name text ∷ acts) why old new (inl run) =
     let file : File = record { name = name; bytes = text } in
-    let rest : LeavesFiles (files_in acts) (after_act (writes name text) old).files new.files = runs_files acts why (after_act (writes name text) old) new run.1 in
-    record { done = file ∷ rest.done; undone = rest.undone; whole = ap (λ (fs : List File). file ∷ fs) rest.whole; is = rest.is }
+    let rest : LeavesFiles (files_in acts) (after_act (writes name text) old).files new.files =
+    runs_files acts why (after_act (writes name text) old) new run.1 in
+    record {
+      done = file ∷ rest.done;
+      undone = rest.undone;
+      whole = ap (λ (fs : List File). file ∷ fs) rest.whole;
+      is = rest.is;
+    }
 runs_files (act ∷ acts) None old new (inr broke) = absurd broke
-runs_files (act ∷ acts) (Some (ending stop about)) old new (inr broke) = none_done (files_in (act ∷ acts)) old.files new.files (break_files act stop about old new broke)
+runs_files (act ∷ acts) (Some (ending stop about)) old new (inr broke) =
+    none_done (files_in (act ∷ acts)) old.files new.files (break_files act stop about old new broke)
 
-runs_draft : (acts : List Act) (why : Option Ending) (old new : Held) → old.draft ≡ None → Runs acts why old new → new.draft ≡ None
+runs_draft : (acts : List Act) (why : Option Ending) (old new : Held)
+    → old.draft ≡ None → Runs acts why old new → new.draft ≡ None
 runs_draft [] None old new none run = ap (λ (d : Held). d.draft) run ∙ none
 runs_draft [] (Some why) old new none run = absurd run
 runs_draft (judges ∷ acts) why old new none (inl run) = runs_draft acts why old new none run.1
-runs_draft (says item ∷ acts) why old new none (inl run) = runs_draft acts why (after_act (says item) old) new none run.1
+runs_draft (says item ∷ acts) why old new none (inl run) =
+    runs_draft acts why (after_act (says item) old) new none run.1
 runs_draft (opens ∷ acts) why old new none (inl run) = runs_draft acts why old new none run.1
 runs_draft (reads names events ∷ acts) why old new none (inl run) = runs_draft acts why old new none run.1
 runs_draft (plans ∷ acts) why old new none (inl run) = runs_draft acts why old new none run.1
 runs_draft (reserves ∷ acts) why old new none (inl run) = runs_draft acts why old new none run.1
-runs_draft (writes name text ∷ acts) why old new none (inl run) = runs_draft acts why (after_act (writes name text) old) new refl run.1
+runs_draft (writes name text ∷ acts) why old new none (inl run) =
+    runs_draft acts why (after_act (writes name text) old) new refl run.1
 runs_draft (act ∷ acts) None old new none (inr broke) = absurd broke
-runs_draft (act ∷ acts) (Some (ending stop about)) old new none (inr broke) = break_draft act stop about old new none broke
+runs_draft (act ∷ acts) (Some (ending stop about)) old new none (inr broke) =
+    break_draft act stop about old new none broke
 
 -- a line of the log changes nothing else
 line_files : (text : List ℕ) (old new : Held) → LogsLine text old new → new.files ≡ old.files
@@ -85,7 +99,8 @@ line_draft : (text : List ℕ) (old new : Held) → LogsLine text old new → ne
 line_draft text old new (inl is) = ap (λ (d : Held). d.draft) is
 line_draft text old new (inr fails) = ap (λ (d : Held). d.draft) fails.is
 
-pub stop_files : (stop : Stop) (about : List ℕ) (old new : Held) → LogsStop (ending stop about) old new → new.files ≡ old.files
+pub stop_files : (stop : Stop) (about : List ℕ) (old new : Held)
+    → LogsStop (ending stop about) old new → new.files ≡ old.files
 stop_files LogFault about old new logs = ap (λ (d : Held). d.files) logs
 stop_files Usage about old new logs = line_files _ old new logs
 stop_files WebNotOpened about old new logs = line_files _ old new logs
@@ -97,7 +112,8 @@ stop_files Memory about old new logs = line_files _ old new logs
 stop_files OutNotOpened about old new logs = line_files _ old new logs
 stop_files WriteFault about old new logs = line_files _ old new logs
 
-stop_draft : (stop : Stop) (about : List ℕ) (old new : Held) → LogsStop (ending stop about) old new → new.draft ≡ old.draft
+stop_draft : (stop : Stop) (about : List ℕ) (old new : Held)
+    → LogsStop (ending stop about) old new → new.draft ≡ old.draft
 stop_draft LogFault about old new logs = ap (λ (d : Held). d.draft) logs
 stop_draft Usage about old new logs = line_draft _ old new logs
 stop_draft WebNotOpened about old new logs = line_draft _ old new logs
@@ -109,13 +125,21 @@ stop_draft Memory about old new logs = line_draft _ old new logs
 stop_draft OutNotOpened about old new logs = line_draft _ old new logs
 stop_draft WriteFault about old new logs = line_draft _ old new logs
 
-pub ends_files : (acts : List Act) (due : ℕ) (old new : Held) (status : ℕ) → TangleEnds acts due old new status → LeavesFiles (files_in acts) old.files new.files
+pub ends_files : (acts : List Act) (due : ℕ) (old new : Held) (status : ℕ)
+    → TangleEnds acts due old new status → LeavesFiles (files_in acts) old.files new.files
 ends_files acts due old new status (completes run answered) = runs_files acts None old new run
 ends_files acts due old new status (stops (ending stop about) then run logs answered) =
-    let rest : LeavesFiles (files_in acts) old.files then.files = runs_files acts (Some (ending stop about)) old then run in
-    record { done = rest.done; undone = rest.undone; whole = rest.whole; is = stop_files stop about then new logs ∙ rest.is }
+    let rest : LeavesFiles (files_in acts) old.files then.files =
+    runs_files acts (Some (ending stop about)) old then run in
+    record {
+      done = rest.done;
+      undone = rest.undone;
+      whole = rest.whole;
+      is = stop_files stop about then new logs ∙ rest.is;
+    }
 
-pub ends_draft : (acts : List Act) (due : ℕ) (old new : Held) (status : ℕ) → old.draft ≡ None → TangleEnds acts due old new status → new.draft ≡ None
+pub ends_draft : (acts : List Act) (due : ℕ) (old new : Held) (status : ℕ)
+    → old.draft ≡ None → TangleEnds acts due old new status → new.draft ≡ None
 ends_draft acts due old new status none (completes run answered) = runs_draft acts None old new none run
 ends_draft acts due old new status none (stops (ending stop about) then run logs answered) =
     stop_draft stop about then new logs ∙ runs_draft acts (Some (ending stop about)) old then none run
@@ -129,15 +153,19 @@ files_in-said : (items : List Item) (acts : List Act) → files_in (map says ite
 files_in-said [] acts = refl
 files_in-said (item ∷ items) acts = files_in-said items acts
 
-files_in-starred : (progress : Bool) (numbers : List ℕ) (acts : List Act) → files_in (starred_acts progress numbers ++ acts) ≡ files_in acts
+files_in-starred : (progress : Bool) (numbers : List ℕ) (acts : List Act)
+    → files_in (starred_acts progress numbers ++ acts) ≡ files_in acts
 files_in-starred progress [] acts = refl
 files_in-starred progress (n ∷ numbers) acts = files_in-when progress _ acts
 
-files_in-closing : (shown : Shown) (numbers : Numbers) (count : ℕ) (missing : Bool) → files_in (closing_acts shown numbers count missing) ≡ []
+files_in-closing : (shown : Shown) (numbers : Numbers) (count : ℕ) (missing : Bool)
+    → files_in (closing_acts shown numbers count missing) ≡ []
 files_in-closing shown numbers count missing =
-    files_in-when shown.statistics _ _ ∙ ap files_in (sym (append-nil (when shown.closing _))) ∙ files_in-when shown.closing _ []
+    files_in-when shown.statistics _ _ ∙ ap files_in (sym (append-nil (when shown.closing _)))
+    ∙ files_in-when shown.closing _ []
 
-refused_files : (shown : Shown) (names : List (List ℕ)) (events : List Event) (web : Web) (text : List ℕ) → web.plan ≡ refused text
+refused_files : (shown : Shown) (names : List (List ℕ)) (events : List Event) (web : Web) (text : List ℕ)
+    → web.plan ≡ refused text
     → files_in (script shown (tangling names events web)) ≡ []
 refused_files shown names events web text is =
     files_in-when shown.banner _ _ ∙ files_in-starred shown.progress web.starred _ ∙ files_in-said web.faults _
@@ -152,8 +180,11 @@ none_due due old new none leaves = nothing leaves.done leaves.undone (sym none �
     nothing [] undone whole is = is
     nothing (file ∷ done) undone whole is = cc
 
-pub refused_stays : (shown : Shown) (names : List (List ℕ)) (events : List Event) (web : Web) (text : List ℕ) → web.plan ≡ refused text
-    → (due : ℕ) (old new : Held) (status : ℕ) → TangleEnds (script shown (tangling names events web)) due old new status → new.files ≡ old.files
+pub refused_stays : (shown : Shown) (names : List (List ℕ)) (events : List Event) (web : Web) (text : List ℕ)
+    → web.plan ≡ refused text
+    → (due : ℕ) (old new : Held) (status : ℕ)
+    → TangleEnds (script shown (tangling names events web)) due old new status → new.files ≡ old.files
 refused_stays shown names events web text is due old new status ends =
-    none_due (tangle_files shown (tangling names events web)) old.files new.files (refused_files shown names events web text is)
+    none_due (tangle_files shown (tangling names events web)) old.files
+    new.files (refused_files shown names events web text is)
     (ends_files (script shown (tangling names events web)) due old new status ends)

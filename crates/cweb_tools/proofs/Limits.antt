@@ -9,7 +9,8 @@ use Rattle.cweb_lines.specs.declared.limits.TheConstants.{LINE_LENGTH}
 use Rattle.cweb_tools.specs.Run.{PassesSums}
 
 -- a line that is taken among others has no more bytes than it may
-short_at : (events : List Event) (line : SourceLine) (later : List Event) → AreShort (taken_lines (events ++ took line ∷ later)) → line.length ≤ LINE_LENGTH
+short_at : (events : List Event) (line : SourceLine) (later : List Event)
+    → AreShort (taken_lines (events ++ took line ∷ later)) → line.length ≤ LINE_LENGTH
 short_at [] line later short = short.0
 short_at (took l ∷ events) line later short = short_at events line later short.1
 short_at (given l ∷ events) line later short = short_at events line later short
@@ -19,8 +20,14 @@ short_at (opening n ∷ events) line later short = short_at events line later sh
 -- a line that is too long is none of these
 pub long_beyond : (file : FileId) (events : List Event) → LongIn file events → IsWithinLimits (taken_lines events) → ⊥
 long_beyond file events why within =
-    omega (arith, short_at why.events why.line why.later (subst (λ (es : List Event). AreShort (taken_lines es)) why.whole within.short), why.why.1)
+    omega (
+      arith,
+      short_at why.events why.line why.later
+          (subst (λ (es : List Event). AreShort (taken_lines es)) why.whole within.short),
+      why.why.1,
+    )
 
 -- nor do more lines or bytes come than may be
 pub much_beyond : (events : List Event) → PassesSums events → IsWithinLimits (taken_lines events) → ⊥
-much_beyond events why within = elim why [ inl lines ↦ omega (arith, lines, within.few) | inr bytes ↦ omega (arith, bytes, within.small) ]
+much_beyond events why within =
+    elim why [ inl lines ↦ omega (arith, lines, within.few) | inr bytes ↦ omega (arith, bytes, within.small) ]

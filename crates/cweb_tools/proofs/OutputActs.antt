@@ -12,14 +12,20 @@ module _ {X : Type 0} (file : X → File) (progress : Bool) where
   acts xs = outputs_acts progress (map file xs)
 
   joined : (xs ys : List X) → acts (xs ++ ys) ≡ acts xs ++ acts ys
-  joined xs ys = ap (outputs_acts progress) (map-append file xs ys) ∙ flat_map-append (output_acts progress) (map file xs) (map file ys)
+  joined xs ys =
+      ap (outputs_acts progress) (map-append file xs ys)
+      ∙ flat_map-append (output_acts progress) (map file xs) (map file ys)
 
   -- the acts of the outputs before one, of that one, and of those behind it
-  pub acts_at : (xs : List X) (i : ℕ) (d : X) → i < length xs → acts xs ≡ acts (take i xs) ++ (output_acts progress (file (get_or xs i d)) ++ acts (drop (suc i) xs))
-  acts_at xs i d lt = ap acts (sym (take-append-drop i xs)) ∙ joined (take i xs) (drop i xs) ∙ ap (λ (ys : List X). acts (take i xs) ++ acts ys) (drop-cons xs i d lt)
+  pub acts_at : (xs : List X) (i : ℕ) (d : X) → i < length xs
+      → acts xs ≡ acts (take i xs) ++ (output_acts progress (file (get_or xs i d)) ++ acts (drop (suc i) xs))
+  acts_at xs i d lt =
+      ap acts (sym (take-append-drop i xs)) ∙ joined (take i xs) (drop i xs)
+      ∙ ap (λ (ys : List X). acts (take i xs) ++ acts ys) (drop-cons xs i d lt)
 
   -- one output more
-  pub acts_more : (xs : List X) (i : ℕ) (d : X) → i < length xs → acts (take (i + 1) xs) ≡ acts (take i xs) ++ output_acts progress (file (get_or xs i d))
+  pub acts_more : (xs : List X) (i : ℕ) (d : X) → i < length xs
+      → acts (take (i + 1) xs) ≡ acts (take i xs) ++ output_acts progress (file (get_or xs i d))
   acts_more xs i d lt =
       ap acts (take_more xs i d lt) ∙ joined (take i xs) (get_or xs i d ∷ [])
       ∙ ap (λ (more : List Act). acts (take i xs) ++ more) (append-nil (output_acts progress (file (get_or xs i d))))

@@ -31,10 +31,12 @@ no_front (b ∷ front) rest whole = absurd (cc)
 
 -- a front of nothing is nothing
 front_of_nothing : (old new : List ℕ) → WritesFront old new [] → new ≡ old ++ []
-front_of_nothing old new front = front.written ∙ ap (λ (t : List ℕ). old ++ t) (no_front front.front front.rest front.whole)
+front_of_nothing old new front =
+    front.written ∙ ap (λ (t : List ℕ). old ++ t) (no_front front.front front.rest front.whole)
 
 module _ (world : World) (names : WebNames) (before after : Seen) (status : ℕ) (tell : Tell before) where
-  freely_merged : (course : Course) (whole : Completes course before after status) → HasMerged course whole.files whole.faults → RanFreely course before after → IsMerge course before after status
+  freely_merged : (course : Course) (whole : Completes course before after status)
+      → HasMerged course whole.files whole.faults → RanFreely course before after → IsMerge course before after status
   freely_merged (merging first events) whole all free = record {
     written = whole.written tell.0 tell.1;
     logged = whole.logged.whole tell.2 free.told
@@ -44,49 +46,69 @@ module _ (world : World) (names : WebNames) (before after : Seen) (status : ℕ)
   freely_merged course whole all free = absurd all
 
   -- a run that did not run freely but for its words and files
-  freely_stopped : (found : Option Found) (changes : Option (Option Found)) (stop : Stop) (files : List (List ℕ)) → CanStop stop (found_course world names found changes)
+  freely_stopped : (found : Option Found) (changes : Option (Option Found)) (stop : Stop) (files : List (List ℕ))
+      → CanStop stop (found_course world names found changes)
       → Blames stop before after → Logs (stop_line stop (about names files stop)) before.log after.log
       → WritesFront before.out.bytes after.out.bytes (merged (found_course world names found changes)) → status ≡ 1
-      → RanFreely (found_course world names found changes) before after → IsMerge (found_course world names found changes) before after status
+      → RanFreely (found_course world names found changes) before after
+      → IsMerge (found_course world names found changes) before after status
   freely_stopped None changes WebNotOpened files cause blames logs front answered free =
       record { written = front_of_nothing _ _ front; logged = logs.whole tell.2 free.told; answered = answered }
   freely_stopped (Some web) None ChangeNotOpened files cause blames logs front answered free =
       record { written = front_of_nothing _ _ front; logged = logs.whole tell.2 free.told; answered = answered }
-  freely_stopped found changes (ReadFault file) files cause blames logs front answered free = absurd (omega (arith, blames.shelf, free.read))
-  freely_stopped found changes WriteFault files cause blames logs front answered free = absurd (omega (arith, blames.out, free.printed))
-  freely_stopped found changes (LineTooLong file) files cause blames logs front answered free = absurd (course_long (found_course world names found changes) file cause free.within)
-  freely_stopped found changes TooMuchText files cause blames logs front answered free = absurd (course_much (found_course world names found changes) cause free.within)
-  freely_stopped found changes Memory files cause blames logs front answered free = absurd (free.memory (logs.whole tell.2 free.told))
+  freely_stopped found changes (ReadFault file) files cause blames logs front answered free =
+      absurd (omega (arith, blames.shelf, free.read))
+  freely_stopped found changes WriteFault files cause blames logs front answered free =
+      absurd (omega (arith, blames.out, free.printed))
+  freely_stopped found changes (LineTooLong file) files cause blames logs front answered free =
+      absurd (course_long (found_course world names found changes) file cause free.within)
+  freely_stopped found changes TooMuchText files cause blames logs front answered free =
+      absurd (course_much (found_course world names found changes) cause free.within)
+  freely_stopped found changes Memory files cause blames logs front answered free =
+      absurd (free.memory (logs.whole tell.2 free.told))
   freely_stopped (Some web) None WebNotOpened files cause blames logs front answered free = absurd cause
   freely_stopped (Some web) (Some change) WebNotOpened files cause blames logs front answered free = absurd cause
   freely_stopped None changes ChangeNotOpened files cause blames logs front answered free = absurd cause
   freely_stopped (Some web) (Some change) ChangeNotOpened files cause blames logs front answered free = absurd cause
   freely_stopped found changes stop files cause blames logs front answered free = absurd cause
 
-  freely_ended : (course : Course) (found : Option Found) (changes : Option (Option Found)) → course ≡ found_course world names found changes → Merges names course before after status
+  freely_ended : (course : Course) (found : Option Found) (changes : Option (Option Found))
+      → course ≡ found_course world names found changes → Merges names course before after status
       → RanFreely course before after → IsMerge course before after status
   freely_ended course found changes is (completes whole) free = freely_merged course whole (whole.all tell.0) free
   freely_ended course found changes is (stops stop) free =
       subst (λ (c : Course). IsMerge c before after status) (sym is)
-      (freely_stopped found changes stop.stop stop.files (subst (λ (c : Course). CanStop stop.stop c) is (stop.cause tell.0)) stop.blames stop.logged
-      (subst (λ (c : Course). WritesFront before.out.bytes after.out.bytes (merged c)) is (stop.written tell.0 tell.1)) stop.answered
-      (subst (λ (c : Course). RanFreely c before after) is free))
+      (freely_stopped found changes stop.stop stop.files
+      (subst (λ (c : Course). CanStop stop.stop c) is (stop.cause tell.0)) stop.blames stop.logged
+      (subst (λ (c : Course). WritesFront before.out.bytes after.out.bytes (merged c))
+      is (stop.written tell.0 tell.1))
+      stop.answered (subst (λ (c : Course). RanFreely c before after) is free))
 
-ran_freely : (world : World) (asked : Option WebNames) (before after : Seen) (status : ℕ) → Ends world asked before after status
-    → Tell before → RanFreely (asked_course world asked) before after → IsMerge (asked_course world asked) before after status
+ran_freely : (world : World) (asked : Option WebNames) (before after : Seen) (status : ℕ)
+    → Ends world asked before after status
+    → Tell before → RanFreely (asked_course world asked) before after
+    → IsMerge (asked_course world asked) before after status
 ran_freely world None before after status ends tell free =
-    record { written = ends.written ∙ sym (append-nil before.out.bytes); logged = ends.logged.whole tell.2 free.told; answered = ends.answered }
+    record {
+      written = ends.written ∙ sym (append-nil before.out.bytes);
+      logged = ends.logged.whole tell.2 free.told;
+      answered = ends.answered;
+    }
 ran_freely world (Some names) before after status ends tell free =
-    freely_ended world names before after status tell _ (web_at world.texts names.web names.second) (change_at world.texts names.change) refl ends free
+    freely_ended world names before after status tell _ (web_at world.texts names.web names.second)
+    (change_at world.texts names.change) refl ends free
 
-stays_within : (course : Course) (files : List (List ℕ)) (faults : List SourceFault) → HasMerged course files faults → StaysWithin course
+stays_within : (course : Course) (files : List (List ℕ)) (faults : List SourceFault)
+    → HasMerged course files faults → StaysWithin course
 stays_within (merging first events) files faults all = all.2
 stays_within course files faults all = absurd all
 
-beyond_limits : (world : World) (asked : Option WebNames) (before after : Seen) (status : ℕ) → Ends world asked before after status
+beyond_limits : (world : World) (asked : Option WebNames) (before after : Seen) (status : ℕ)
+    → Ends world asked before after status
     → IsTrue before.shelf.tells → ¬ StaysWithin (asked_course world asked) → status ≡ 1
 beyond_limits world None before after status ends tells beyond = ends.answered
-beyond_limits world (Some names) before after status (completes whole) tells beyond = absurd (beyond (stays_within _ whole.files whole.faults (whole.all tells)))
+beyond_limits world (Some names) before after status (completes whole) tells beyond =
+    absurd (beyond (stays_within _ whole.files whole.faults (whole.all tells)))
 beyond_limits world (Some names) before after status (stops stop) tells beyond = stop.answered
 
 all_printed : (old new text : List ℕ) → new ≡ old ++ text → WritesFront old new text
@@ -95,15 +117,20 @@ all_printed old new text is = record { front = text; rest = []; written = is; wh
 not_zero : {A : Type 0} (status : ℕ) → status ≡ 1 → status ≡ 0 → A
 not_zero status one none = absurd (omega (arith, one, none))
 
-prints : (world : World) (asked : Option WebNames) (before after : Seen) (status : ℕ) → Ends world asked before after status
+prints : (world : World) (asked : Option WebNames) (before after : Seen) (status : ℕ)
+    → Ends world asked before after status
     → IsTrue before.shelf.tells → IsTrue before.out.tells → Prints (asked_course world asked) before after status
 prints world None before after status ends tells told = record {
   front = all_printed before.out.bytes after.out.bytes [] (ends.written ∙ sym (append-nil before.out.bytes));
   whole = not_zero status ends.answered;
 }
 prints world (Some names) before after status (completes whole) tells told =
-    record { front = all_printed before.out.bytes after.out.bytes _ (whole.written tells told); whole = λ none. whole.written tells told }
-prints world (Some names) before after status (stops stop) tells told = record { front = stop.written tells told; whole = not_zero status stop.answered }
+    record {
+      front = all_printed before.out.bytes after.out.bytes _ (whole.written tells told);
+      whole = λ none. whole.written tells told;
+    }
+prints world (Some names) before after status (stops stop) tells told =
+    record { front = stop.written tells told; whole = not_zero status stop.answered }
 
 one_blame : (stop : Stop) → read_blame stop + write_blame stop ≤ 1
 one_blame Usage = omega arith
@@ -120,21 +147,33 @@ one_blame LogFault = omega arith
 once_logged : (text : List ℕ) (before after : SeenStream) → Logs text before after → after.failed ≤ before.failed + 1
 once_logged text before after logs = elim logs.once [ inl same ↦ omega (arith, same) | inr more ↦ omega (arith, more) ]
 
-fails_once : (world : World) (asked : Option WebNames) (before after : Seen) (status : ℕ) → Ends world asked before after status → FailsOnce before after
-fails_once world None before after status ends = record { one = omega (arith, ends.read, ends.printed); log = once_logged _ before.log after.log ends.logged }
+fails_once : (world : World) (asked : Option WebNames) (before after : Seen) (status : ℕ)
+    → Ends world asked before after status → FailsOnce before after
+fails_once world None before after status ends =
+    record { one = omega (arith, ends.read, ends.printed); log = once_logged _ before.log after.log ends.logged }
 fails_once world (Some names) before after status (completes whole) =
     record { one = omega (arith, whole.read, whole.printed); log = once_logged _ before.log after.log whole.logged }
 fails_once world (Some names) before after status (stops stop) =
-    record { one = omega (arith, stop.blames.shelf, stop.blames.out, one_blame stop.stop); log = once_logged _ before.log after.log stop.logged }
+    record {
+      one = omega (arith, stop.blames.shelf, stop.blames.out, one_blame stop.stop);
+      log = once_logged _ before.log after.log stop.logged;
+    }
 
-tells_faults : (world : World) (asked : Option WebNames) (before after : Seen) (status : ℕ) → Ends world asked before after status → TellsFaults before after status
-tells_faults world None before after status ends = record { read = λ failed. ends.answered; printed = λ failed. ends.answered; logged = λ failed. ends.answered }
+tells_faults : (world : World) (asked : Option WebNames) (before after : Seen) (status : ℕ)
+    → Ends world asked before after status → TellsFaults before after status
+tells_faults world None before after status ends =
+    record { read = λ failed. ends.answered; printed = λ failed. ends.answered; logged = λ failed. ends.answered }
 tells_faults world (Some names) before after status (completes whole) =
-    record { read = λ failed. absurd (failed whole.read); printed = λ failed. absurd (failed whole.printed); logged = whole.failed }
+    record {
+      read = λ failed. absurd (failed whole.read);
+      printed = λ failed. absurd (failed whole.printed);
+      logged = whole.failed;
+    }
 tells_faults world (Some names) before after status (stops stop) =
     record { read = λ failed. stop.answered; printed = λ failed. stop.answered; logged = λ failed. stop.answered }
 
-pub promises : (world : World) (asked : Option WebNames) (before after : Seen) (status : ℕ) → Ends world asked before after status → Promises world asked before after status
+pub promises : (world : World) (asked : Option WebNames) (before after : Seen) (status : ℕ)
+    → Ends world asked before after status → Promises world asked before after status
 promises world asked before after status ends = record {
   ends = ends;
   freely = ran_freely world asked before after status ends;

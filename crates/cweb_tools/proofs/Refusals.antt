@@ -21,10 +21,14 @@ pub of_some : {A : Type 0} (o : Option A) (x : A) (P : A → Type 0) → o ≡ S
 of_some {A = A} o x P is holds = let whole : IfSome (Some x) P = subst (λ (o : Option A). IfSome o P) is holds in whole
 
 -- the line of a fault that tells of a refusal
-pub refusal_line : (w : Stored) (main : List ℕ) (f : PlanFault) (r : Refusal) → refusal_in f ≡ Some r → line (plan_item w main f) ≡ line (fault (refusal_text w main r))
-refusal_line w main (Cycle names) r is = let same : cycle names.items ≡ r = cc in ap (λ (r : Refusal). line (fault (refusal_text w main r))) same
-refusal_line w main (SameName name) r is = let same : same_name name ≡ r = cc in ap (λ (r : Refusal). line (fault (refusal_text w main r))) same
-refusal_line w main (BadName output) r is = let same : bad_name output ≡ r = cc in ap (λ (r : Refusal). line (fault (refusal_text w main r))) same
+pub refusal_line : (w : Stored) (main : List ℕ) (f : PlanFault) (r : Refusal)
+    → refusal_in f ≡ Some r → line (plan_item w main f) ≡ line (fault (refusal_text w main r))
+refusal_line w main (Cycle names) r is =
+    let same : cycle names.items ≡ r = cc in ap (λ (r : Refusal). line (fault (refusal_text w main r))) same
+refusal_line w main (SameName name) r is =
+    let same : same_name name ≡ r = cc in ap (λ (r : Refusal). line (fault (refusal_text w main r))) same
+refusal_line w main (BadName output) r is =
+    let same : bad_name output ≡ r = cc in ap (λ (r : Refusal). line (fault (refusal_text w main r))) same
 refusal_line w main Memory r is = absurd (cc)
 
 -- the refusal of a fault that isn't want of memory is the one that is due
@@ -33,14 +37,17 @@ pub record IsRefused (w : Stored) (main : List ℕ) (f : PlanFault) : Type 0 whe
   pub told : refusal_in f ≡ Some refusal
   pub due : out.planned w main ≡ Err refusal
 
-pub refused_by : (w : Stored) (main : List ℕ) (f : PlanFault) → IsDue (out.planned w main) f → (f ≡ Memory → ⊥) → IsRefused w main f
+pub refused_by : (w : Stored) (main : List ℕ) (f : PlanFault)
+    → IsDue (out.planned w main) f → (f ≡ Memory → ⊥) → IsRefused w main f
 refused_by w main (Cycle names) due never = record { refusal = cycle names.items; told = refl; due = due }
 refused_by w main (SameName name) due never = record { refusal = same_name name; told = refl; due = due }
 refused_by w main (BadName output) due never = record { refusal = bad_name output; told = refl; due = due }
 refused_by w main Memory due never = absurd (never refl)
 
-pub planning_made : (w : Stored) (files : List (List ℕ)) (main : List ℕ) (p : Planned) → out.planned w main ≡ Ok p → planning w files main ≡ plan_made w files p
+pub planning_made : (w : Stored) (files : List (List ℕ)) (main : List ℕ) (p : Planned)
+    → out.planned w main ≡ Ok p → planning w files main ≡ plan_made w files p
 planning_made w files main p is = ap (planning_by w files main) is
 
-pub planning_refused : (w : Stored) (files : List (List ℕ)) (main : List ℕ) (r : Refusal) → out.planned w main ≡ Err r → planning w files main ≡ refused (refusal_text w main r)
+pub planning_refused : (w : Stored) (files : List (List ℕ)) (main : List ℕ) (r : Refusal)
+    → out.planned w main ≡ Err r → planning w files main ≡ refused (refusal_text w main r)
 planning_refused w files main r is = ap (planning_by w files main) is

@@ -14,14 +14,17 @@ use Rattle.cweb_log.specs.Words.{asked_by}
 use Rattle.cweb_tools.specs.Course.{Course, unread, change_not_there, merging, course_of, merged, merge_log, merge_status, usage}
 
 -- a word without a dot in its last path part is given `.w`, and `.web` as a second try
-web_without_extension : asked_by (codes "lib.d/hello" ∷ []) ≡ Some (record { web = codes "lib.d/hello.w"; second = Some (codes "lib.d/hello.web"); change = None })
+web_without_extension : asked_by (codes "lib.d/hello" ∷ [])
+    ≡ Some (record { web = codes "lib.d/hello.w"; second = Some (codes "lib.d/hello.web"); change = None })
 web_without_extension = refl
 
-web_with_extension : asked_by (codes "lib/a.tex" ∷ []) ≡ Some (record { web = codes "lib/a.tex"; second = None; change = None })
+web_with_extension : asked_by (codes "lib/a.tex" ∷ [])
+    ≡ Some (record { web = codes "lib/a.tex"; second = None; change = None })
 web_with_extension = refl
 
 -- a lone `+` is an ordinary word
-lone_plus : asked_by (codes "+" ∷ []) ≡ Some (record { web = codes "+.w"; second = Some (codes "+.web"); change = None })
+lone_plus : asked_by (codes "+" ∷ [])
+    ≡ Some (record { web = codes "+.w"; second = Some (codes "+.web"); change = None })
 lone_plus = refl
 
 no_words : asked_by [] ≡ None
@@ -40,13 +43,16 @@ control_byte : asked_by ((97 ∷ 127 ∷ []) ∷ []) ≡ None
 control_byte = refl
 
 -- a change file is given `.ch`, and there is no second try
-change_without_extension : asked_by (codes "m.w" ∷ codes "d.d/c" ∷ []) ≡ Some (record { web = codes "m.w"; second = None; change = Some (codes "d.d/c.ch") })
+change_without_extension : asked_by (codes "m.w" ∷ codes "d.d/c" ∷ [])
+    ≡ Some (record { web = codes "m.w"; second = None; change = Some (codes "d.d/c.ch") })
 change_without_extension = refl
 
-change_with_extension : asked_by (codes "m" ∷ codes "d/c.x" ∷ []) ≡ Some (record { web = codes "m.w"; second = Some (codes "m.web"); change = Some (codes "d/c.x") })
+change_with_extension : asked_by (codes "m" ∷ codes "d/c.x" ∷ [])
+    ≡ Some (record { web = codes "m.w"; second = Some (codes "m.web"); change = Some (codes "d/c.x") })
 change_with_extension = refl
 
-change_of_plus : asked_by (codes "m.w" ∷ codes "+" ∷ []) ≡ Some (record { web = codes "m.w"; second = None; change = Some (codes "+.ch") })
+change_of_plus : asked_by (codes "m.w" ∷ codes "+" ∷ [])
+    ≡ Some (record { web = codes "m.w"; second = None; change = Some (codes "+.ch") })
 change_of_plus = refl
 
 -- a lone `-` as second word means no change file
@@ -72,15 +78,19 @@ three_words = refl
 abbrev place : ℕ → ℕ → Place
 place file line = record { file = record { 0 = file }; line = line }
 
-include_not_there : fault_line (codes "a.w" ∷ []) (record { kind = NotThere; place = place 0 2; count = 0 }) ≡ codes "a.w:2: ! Cannot open include file\n"
+include_not_there : fault_line (codes "a.w" ∷ []) (record { kind = NotThere; place = place 0 2; count = 0 })
+    ≡ codes "a.w:2: ! Cannot open include file\n"
 unfolding digits
 include_not_there = refl
 
-unequal_lines : fault_line (codes "m.w" ∷ codes "c.ch" ∷ []) (record { kind = Unequal; place = place 1 1; count = 12 }) ≡ codes "c.ch:1: ! Lines that failed to match: 12\n"
+unequal_lines : fault_line (codes "m.w" ∷ codes "c.ch" ∷ []) (record { kind = Unequal; place = place 1 1; count = 12 })
+    ≡ codes "c.ch:1: ! Lines that failed to match: 12\n"
 unfolding digits
 unequal_lines = refl
 
-two_faults : fault_lines (codes "m.w" ∷ codes "c.ch" ∷ []) (record { kind = Unequal; place = place 1 10; count = 1 } ∷ record { kind = NotThere; place = place 0 3; count = 0 } ∷ [])
+two_faults : fault_lines (codes "m.w" ∷ codes "c.ch" ∷ [])
+    (record { kind = Unequal; place = place 1 10; count = 1 }
+    ∷ record { kind = NotThere; place = place 0 3; count = 0 } ∷ [])
     ≡ codes "c.ch:10: ! Lines that failed to match: 1\nm.w:3: ! Cannot open include file\n"
 unfolding digits
 two_faults = refl
@@ -97,7 +107,8 @@ change_line = refl
 memory_line : stop_line Memory (codes "gone.ch") ≡ codes "! Out of memory\n"
 memory_line = refl
 
-long_line : stop_line (LineTooLong (record { 0 = 1 })) (subject (codes "m.w" ∷ codes "c.ch" ∷ []) (LineTooLong (record { 0 = 1 }))) ≡ codes "! Line too long in c.ch\n"
+long_line : stop_line (LineTooLong (record { 0 = 1 }))
+    (subject (codes "m.w" ∷ codes "c.ch" ∷ []) (LineTooLong (record { 0 = 1 }))) ≡ codes "! Line too long in c.ch\n"
 long_line = refl
 
 write_line : stop_line WriteFault (subject [] WriteFault) ≡ codes "! Write fault on standard output\n"
@@ -137,7 +148,9 @@ abbrev changed_course : Course
 changed_course = merging (codes "m.w" ∷ codes "c.ch" ∷ []) (events_of (run 20 there begun))
 
 changed_run : course_of web_and_change (codes "m" ∷ codes "c" ∷ []) None ≡ changed_course
-changed_run = ap (λ (events : List Event). merging (codes "m.w" ∷ codes "c.ch" ∷ []) events) (merge-run 20 there begun (events_of (run 20 there begun)) refl)
+changed_run =
+    ap (λ (events : List Event). merging (codes "m.w" ∷ codes "c.ch" ∷ []) events)
+    (merge-run 20 there begun (events_of (run 20 there begun)) refl)
 
 changed_text : merged changed_course ≡ codes "N\nB\n"
 changed_text = refl
@@ -150,5 +163,6 @@ changed_status : merge_status changed_course ≡ 1
 changed_status = refl
 
 -- with a lone `-` the change file is left alone
-unchanged_run : course_of web_and_change (codes "m" ∷ codes "-" ∷ []) None ≡ course_of web_and_change (codes "m" ∷ []) None
+unchanged_run : course_of web_and_change (codes "m" ∷ codes "-" ∷ []) None
+    ≡ course_of web_and_change (codes "m" ∷ []) None
 unchanged_run = refl

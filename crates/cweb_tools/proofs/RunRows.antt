@@ -20,7 +20,12 @@ record Left : Type 0 where
   status : ℕ
 
 abbrev left_of : Option Asked → TangleCourse → Left
-left_of asked course = record { log = tangle_log (shown_by asked) course; files = tangle_files (shown_by asked) course; status = tangle_status (shown_by asked) course }
+left_of asked course =
+    record {
+      log = tangle_log (shown_by asked) course;
+      files = tangle_files (shown_by asked) course;
+      status = tangle_status (shown_by asked) course;
+    }
 
 -- what it leaves over these texts, by its words
 abbrev left_by : World → List (List ℕ) → Left
@@ -47,7 +52,8 @@ merging there begun files main = tangled main (course.merging files (events_of (
 
 -- two sections: the name of the second one is used in the first
 abbrev hello_text : List ℕ
-hello_text = codes "@ Hello.\n@c\n#include <stdio.h>\nint main(void) { @<Greet@> return 0; }\n@ @<Greet@>=\nputs(\"hi\");\n"
+hello_text =
+    codes "@ Hello.\n@c\n#include <stdio.h>\nint main(void) { @<Greet@> return 0; }\n@ @<Greet@>=\nputs(\"hi\");\n"
 
 abbrev hello_there : World
 hello_there = one_web (codes "hello.w") hello_text
@@ -70,7 +76,8 @@ hello_left = record {
   status = 0;
 }
 
-hello_computed : left_of (options_by hello) (merging hello_there (started hello_text None) (codes "hello.w" ∷ []) (codes "hello.c")) ≡ hello_left
+hello_computed : left_of (options_by hello)
+    (merging hello_there (started hello_text None) (codes "hello.w" ∷ []) (codes "hello.c")) ≡ hello_left
 unfolding digits is_utf8 chars encode
 hello_computed = refl
 
@@ -101,7 +108,8 @@ two_left = record {
   status = 1;
 }
 
-two_computed : left_of (options_by two) (merging two_there (started two_text None) (codes "f.w" ∷ []) (codes "f.c")) ≡ two_left
+two_computed : left_of (options_by two) (merging two_there (started two_text None) (codes "f.w" ∷ []) (codes "f.c"))
+    ≡ two_left
 unfolding digits is_utf8 chars encode
 two_computed = refl
 
@@ -125,9 +133,15 @@ cycle_course =
     (merge-run 40 cycle_there (started cycle_text None) (events_of (run 40 cycle_there (started cycle_text None))) refl)
 
 abbrev cycle_left : Left
-cycle_left = record { log = codes "This is CTANGLE, profile of CWEB 3\n! Cycle: <A> <B> <A>\n(Faults: 1.)\n"; files = []; status = 1 }
+cycle_left =
+    record {
+      log = codes "This is CTANGLE, profile of CWEB 3\n! Cycle: <A> <B> <A>\n(Faults: 1.)\n";
+      files = [];
+      status = 1;
+    }
 
-cycle_computed : left_of (options_by cycle) (merging cycle_there (started cycle_text None) (codes "c.w" ∷ []) (codes "c.c")) ≡ cycle_left
+cycle_computed : left_of (options_by cycle)
+    (merging cycle_there (started cycle_text None) (codes "c.w" ∷ []) (codes "c.c")) ≡ cycle_left
 unfolding digits is_utf8 chars encode
 cycle_computed = refl
 
@@ -136,7 +150,9 @@ cycle_run = ap (left_of (options_by cycle)) cycle_course ∙ cycle_computed
 
 -- a line that a change file replaces, with marks to where each line stands
 abbrev changed_texts : List ℕ → Option (List ℕ)
-changed_texts sought = cond (bytes_eq sought (codes "v.w")) (Some (codes "@ @c\na;\nb;\nc;\n")) (text_in (codes "v.ch") (codes "@x\nb;\n@y\nB;\n@z\n") sought)
+changed_texts sought =
+    cond (bytes_eq sought (codes "v.w")) (Some (codes "@ @c\na;\nb;\nc;\n"))
+    (text_in (codes "v.ch") (codes "@x\nb;\n@y\nB;\n@z\n") sought)
 
 abbrev changed_there : World
 changed_there = record { texts = changed_texts; inputs = None }
@@ -156,11 +172,14 @@ changed_course =
 abbrev changed_left : Left
 changed_left = record {
   log = [];
-  files = file (codes "v.c") (codes "/*1:*/\n#line 1 \"v.w\"\n\na;\n#line 4 \"v.ch\"\nB;\n#line 4 \"v.w\"\nc;/*:1*/\n") ∷ [];
+  files =
+      file (codes "v.c") (codes "/*1:*/\n#line 1 \"v.w\"\n\na;\n#line 4 \"v.ch\"\nB;\n#line 4 \"v.w\"\nc;/*:1*/\n")
+      ∷ [];
   status = 0;
 }
 
-changed_computed : left_of (options_by changed) (merging changed_there changed_begun (codes "v.w" ∷ codes "v.ch" ∷ []) (codes "v.c")) ≡ changed_left
+changed_computed : left_of (options_by changed)
+    (merging changed_there changed_begun (codes "v.w" ∷ codes "v.ch" ∷ []) (codes "v.c")) ≡ changed_left
 unfolding digits is_utf8 chars encode
 changed_computed = refl
 

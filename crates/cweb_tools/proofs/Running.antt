@@ -4,13 +4,16 @@ use Rattle.std.specs.Prelude.{Option, Some, None}
 use Rattle.cweb_tools.specs.Acts.{Held, Act, after_act, Ending, Runs}
 
 -- the first acts were done, and then the others
-pub runs_on : (xs ys : List Act) (why : Option Ending) (old mid new : Held) → Runs xs None old mid → Runs ys why mid new → Runs (xs ++ ys) why old new
+pub runs_on : (xs ys : List Act) (why : Option Ending) (old mid new : Held)
+    → Runs xs None old mid → Runs ys why mid new → Runs (xs ++ ys) why old new
 runs_on [] ys why old mid new first then = subst (λ (d : Held). Runs ys why d new) first then
-runs_on (act ∷ xs) ys why old mid new (inl first) then = inl (first.0, runs_on xs ys why (after_act act old) mid new first.1 then)
+runs_on (act ∷ xs) ys why old mid new (inl first) then =
+    inl (first.0, runs_on xs ys why (after_act act old) mid new first.1 then)
 runs_on (act ∷ xs) ys why old mid new (inr stop) then = absurd stop
 
 -- something stopped the first acts
-pub stops_in : (xs ys : List Act) (why : Ending) (old new : Held) → Runs xs (Some why) old new → Runs (xs ++ ys) (Some why) old new
+pub stops_in : (xs ys : List Act) (why : Ending) (old new : Held)
+    → Runs xs (Some why) old new → Runs (xs ++ ys) (Some why) old new
 stops_in [] ys why old new none = absurd none
 stops_in (act ∷ xs) ys why old new (inl first) = inl (first.0, stops_in xs ys why (after_act act old) new first.1)
 stops_in (act ∷ xs) ys why old new (inr stop) = inr stop

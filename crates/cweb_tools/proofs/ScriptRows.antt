@@ -22,7 +22,13 @@ file name bytes = record { name = name; bytes = bytes }
 -- a web of so many sections and names, with these starred sections, faults and plan
 abbrev course : ℕ → ℕ → List ℕ → List Item → Planning → TangleCourse
 course sections names stars faults plan =
-    tangling [] [] (record { starred = stars; faults = faults; numbers = record { sections = sections; names = names; macros = 0 }; plan = plan })
+    tangling [] []
+    (record {
+      starred = stars;
+      faults = faults;
+      numbers = record { sections = sections; names = names; macros = 0 };
+      plan = plan;
+    })
 
 -- two sections, one of them starred, and one output
 abbrev plain : TangleCourse
@@ -57,7 +63,8 @@ textless_status = refl
 abbrev endless : TangleCourse
 endless = course 3 2 [] [] (refused (codes "Cycle: <A> <B> <A>"))
 
-endless_log : tangle_log shown_by_default endless ≡ codes "This is CTANGLE, profile of CWEB 3\n! Cycle: <A> <B> <A>\n(Faults: 1.)\n"
+endless_log : tangle_log shown_by_default endless
+    ≡ codes "This is CTANGLE, profile of CWEB 3\n! Cycle: <A> <B> <A>\n(Faults: 1.)\n"
 unfolding digits
 endless_log = refl
 
@@ -81,10 +88,12 @@ faulty_files : tangle_files quiet faulty ≡ file (codes "f.c") (codes "M\n") �
 faulty_files = refl
 
 -- words that can't be read are told alone, and a web that isn't there behind the banner
-unread_log : tangle_log shown_by_default unread ≡ codes "! Usage: ctangle [options] webfile[.w] [{changefile[.ch]|-} [outfile[.c]]]\n"
+unread_log : tangle_log shown_by_default unread
+    ≡ codes "! Usage: ctangle [options] webfile[.w] [{changefile[.ch]|-} [outfile[.c]]]\n"
 unread_log = refl
 
-gone_log : tangle_log shown_by_default (not_there (codes "gone.w")) ≡ codes "This is CTANGLE, profile of CWEB 3\n! Cannot open web file gone.w\n"
+gone_log : tangle_log shown_by_default (not_there (codes "gone.w"))
+    ≡ codes "This is CTANGLE, profile of CWEB 3\n! Cannot open web file gone.w\n"
 gone_log = refl
 
 gone_status : tangle_status quiet (not_there (codes "gone.w")) ≡ 1

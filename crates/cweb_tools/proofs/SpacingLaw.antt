@@ -26,35 +26,45 @@ ascii_text : (s : Setting) (b : List ℕ) → is_ascii b ≡ true → word_text 
 ascii_text s [] h = refl
 ascii_text s (c ∷ b) h =
     let e = both (not (nat_le 128 c)) (is_ascii b) h in
-    ap (λ v. (if v then s.replaced c else c ∷ []) ++ word_text s.replaced b) (is_false (nat_le 128 c) e.0) ∙ ap (λ t. c ∷ t) (ascii_text s b e.1)
+    ap (λ v. (if v then s.replaced c else c ∷ []) ++ word_text s.replaced b) (is_false (nat_le 128 c) e.0)
+    ∙ ap (λ t. c ∷ t) (ascii_text s b e.1)
 
 quiet_doubled : (x : List ℕ) → list_all is_quiet x ≡ true → doubled x ≡ x
 quiet_doubled [] h = refl
 quiet_doubled (b ∷ x) h =
     let q = both (is_quiet b) (list_all is_quiet x) h in
     let at = is_false (64 == b) (both (not (42 == b)) (not (64 == b)) q.0).1 in
-    ap (λ v. (if v then codes "@@" else b ∷ []) ++ doubled x) (unlike (λ c. 64 == c) b 64 true refl at) ∙ ap (λ t. b ∷ t) (quiet_doubled x q.1)
+    ap (λ v. (if v then codes "@@" else b ∷ []) ++ doubled x) (unlike (λ c. 64 == c) b 64 true refl at)
+    ∙ ap (λ t. b ∷ t) (quiet_doubled x q.1)
 
 head_text : (n : ℕ) → doubled (47 ∷ 42 ∷ decimal n ++ 58 ∷ 42 ∷ 47 ∷ []) ≡ comment_of (decimal n ++ 58 ∷ [])
 head_text n =
     let d = decimal n in
-    ap (λ t. 47 ∷ 42 ∷ t) (flat_map-append at_doubled d (58 ∷ 42 ∷ 47 ∷ []) ∙ ap (λ t. t ++ 58 ∷ 42 ∷ 47 ∷ []) (quiet_doubled d (quiet_decimal n)) ∙ sym (append_assoc d (58 ∷ []) (42 ∷ 47 ∷ [])))
+    ap (λ t. 47 ∷ 42 ∷ t)
+    (flat_map-append at_doubled d (58 ∷ 42 ∷ 47 ∷ [])
+    ∙ ap (λ t. t ++ 58 ∷ 42 ∷ 47 ∷ []) (quiet_doubled d (quiet_decimal n))
+    ∙ sym (append_assoc d (58 ∷ []) (42 ∷ 47 ∷ [])))
 
 tail_text : (n : ℕ) → doubled (47 ∷ 42 ∷ 58 ∷ decimal n ++ 42 ∷ 47 ∷ []) ≡ comment_of (58 ∷ decimal n)
 tail_text n =
     let d = decimal n in
-    ap (λ t. 47 ∷ 42 ∷ 58 ∷ t) (flat_map-append at_doubled d (42 ∷ 47 ∷ []) ∙ ap (λ t. t ++ 42 ∷ 47 ∷ []) (quiet_doubled d (quiet_decimal n)))
+    ap (λ t. 47 ∷ 42 ∷ 58 ∷ t)
+    (flat_map-append at_doubled d (42 ∷ 47 ∷ []) ∙ ap (λ t. t ++ 42 ∷ 47 ∷ []) (quiet_doubled d (quiet_decimal n)))
 
 quiet_head : (n : ℕ) → list_all is_quiet (decimal n ++ 58 ∷ []) ≡ true
-quiet_head n = list_all-append is_quiet (decimal n) (58 ∷ []) ∙ all_if (list_all is_quiet (decimal n)) true (quiet_decimal n) refl
+quiet_head n =
+    list_all-append is_quiet (decimal n) (58 ∷ []) ∙ all_if (list_all is_quiet (decimal n)) true (quiet_decimal n) refl
 
 -- the first byte of a token's text
 text_first : (s : Setting) (left : Option Token) (u : Token) → IsPlain u → First u (doubled (file_text s left u))
 text_first s left Blank h = record { byte = 32; rest = []; is = refl; starts = refl }
 text_first s left Newline h = record { byte = 10; rest = []; is = refl; starts = refl }
-text_first s left (Head n) h = record { byte = 47; rest = 42 ∷ (decimal n ++ 58 ∷ []) ++ 42 ∷ 47 ∷ []; is = head_text n; starts = refl }
-text_first s left (Tail n) h = record { byte = 47; rest = 42 ∷ (58 ∷ decimal n) ++ 42 ∷ 47 ∷ []; is = tail_text n; starts = refl }
-text_first s left (Word b) h = subst (λ t. First (Word b) (doubled t)) (sym (ascii_text s b h.0)) (first_of (Word b) h.1)
+text_first s left (Head n) h =
+    record { byte = 47; rest = 42 ∷ (decimal n ++ 58 ∷ []) ++ 42 ∷ 47 ∷ []; is = head_text n; starts = refl }
+text_first s left (Tail n) h =
+    record { byte = 47; rest = 42 ∷ (58 ∷ decimal n) ++ 42 ∷ 47 ∷ []; is = tail_text n; starts = refl }
+text_first s left (Word b) h =
+    subst (λ t. First (Word b) (doubled t)) (sym (ascii_text s b h.0)) (first_of (Word b) h.1)
 text_first s left (Number b) h = first_of (Number b) h
 text_first s left (Literal b) h = first_of (Literal b) h
 text_first s left (Punct b) h = first_of (Punct b) h.2
@@ -69,17 +79,25 @@ text_first s left (Mark p) h = absurd h
 pub run_blank : (r : Reading) (x : List ℕ) → InPlainC r.state → run r (32 ∷ x) ≡ run r x
 run_blank r x h = one_more r 32 x h.in_c (no_directive r.state h) refl
 
-solid_read : (r : Reading) (u : Token) (rest : List ℕ) → ReadsAlone u → is_hash u ≡ false → InPlainC r.state → first_is (goes_on joins u) rest ≡ false → IsRead r (doubled (bytes_of u)) rest (solid (u ∷ []))
+solid_read : (r : Reading) (u : Token) (rest : List ℕ) → ReadsAlone u → is_hash u ≡ false → InPlainC r.state
+    → first_is (goes_on joins u) rest ≡ false → IsRead r (doubled (bytes_of u)) rest (solid (u ∷ []))
 solid_read r u rest h plain in_plain goes = token_read joins r u rest operators_join in_plain h plain goes
 
 -- what is read of a token's text, whatever follows that can't go on with it
-step : (s : Setting) (left : Option Token) (r : Reading) (u : Token) (rest : List ℕ) → IsPlain u → InPlainC r.state → first_is (goes_on joins u) rest ≡ false
+step : (s : Setting) (left : Option Token) (r : Reading) (u : Token) (rest : List ℕ)
+    → IsPlain u → InPlainC r.state → first_is (goes_on joins u) rest ≡ false
     → IsRead r (doubled (file_text s left u)) rest (solid (u ∷ []))
-step s left r Blank rest h plain goes = record { next = r; goes_on = run_blank r rest plain; read = nothing r.state plain }
+step s left r Blank rest h plain goes =
+    record { next = r; goes_on = run_blank r rest plain; read = nothing r.state plain }
 step s left r Newline rest h plain goes = newline_read r rest plain
-step s left r (Head n) rest h plain goes = subst (λ t. IsRead r t rest []) (sym (head_text n)) (comment_read r (decimal n ++ 58 ∷ []) rest (quiet_head n) plain)
-step s left r (Tail n) rest h plain goes = subst (λ t. IsRead r t rest []) (sym (tail_text n)) (comment_read r (58 ∷ decimal n) rest (quiet_decimal n) plain)
-step s left r (Word b) rest h plain goes = subst (λ t. IsRead r (doubled t) rest (Word b ∷ [])) (sym (ascii_text s b h.0)) (solid_read r (Word b) rest h.1 refl plain goes)
+step s left r (Head n) rest h plain goes =
+    subst (λ t. IsRead r t rest []) (sym (head_text n))
+    (comment_read r (decimal n ++ 58 ∷ []) rest (quiet_head n) plain)
+step s left r (Tail n) rest h plain goes =
+    subst (λ t. IsRead r t rest []) (sym (tail_text n)) (comment_read r (58 ∷ decimal n) rest (quiet_decimal n) plain)
+step s left r (Word b) rest h plain goes =
+    subst (λ t. IsRead r (doubled t) rest (Word b ∷ [])) (sym (ascii_text s b h.0))
+    (solid_read r (Word b) rest h.1 refl plain goes)
 step s left r (Number b) rest h plain goes = solid_read r (Number b) rest h refl plain goes
 step s left r (Literal b) rest h plain goes = solid_read r (Literal b) rest h refl plain goes
 step s left r (Punct b) rest h plain goes = solid_read r (Punct b) rest h.2 h.0 plain goes
@@ -101,22 +119,29 @@ printed s left ts = doubled (print_after (file_text s) left ts)
 abbrev blank_if : Bool → List ℕ
 blank_if v = if v then codes " " else []
 
-seam_after : (s : Setting) (u : Token) (ts : List Token) → Plains ts → first_is (goes_on joins u) (printed s (Some u) ts) ≡ false
+seam_after : (s : Setting) (u : Token) (ts : List Token) → Plains ts
+    → first_is (goes_on joins u) (printed s (Some u) ts) ≡ false
 seam_after s u [] h = refl
 seam_after s u (v ∷ ts) h =
     let text = file_text s (Some u) v in
     let more = print_after (file_text s) (Some v) ts in
     let f = text_first s (Some u) v h.0 in
-    elim (are_apart u v) as (λ w. are_apart u v ≡ w → first_is (goes_on joins u) (doubled ((blank_if w ++ text) ++ more)) ≡ false) [
+    elim (are_apart u v)
+    as (λ w. are_apart u v ≡ w → first_is (goes_on joins u) (doubled ((blank_if w ++ text) ++ more)) ≡ false) [
       | true ↦ λ e. blank_after u
-      | false ↦ λ e. ap (first_is (goes_on joins u)) (flat_map-append at_doubled text more) ∙ ap (λ d. first_is (goes_on joins u) (d ++ doubled more)) f.is ∙ seam u v f.byte e f.starts
+      | false ↦ λ e.
+          ap (first_is (goes_on joins u)) (flat_map-append at_doubled text more)
+          ∙ ap (λ d. first_is (goes_on joins u) (d ++ doubled more)) f.is ∙ seam u v f.byte e f.starts
     ] refl
 
-blank_before : (r : Reading) (v : Bool) (text more : List ℕ) → InPlainC r.state → run r (doubled ((blank_if v ++ text) ++ more)) ≡ run r (doubled text ++ doubled more)
-blank_before r true text more h = run_blank r (doubled (text ++ more)) h ∙ ap (run r) (flat_map-append at_doubled text more)
+blank_before : (r : Reading) (v : Bool) (text more : List ℕ) → InPlainC r.state
+    → run r (doubled ((blank_if v ++ text) ++ more)) ≡ run r (doubled text ++ doubled more)
+blank_before r true text more h =
+    run_blank r (doubled (text ++ more)) h ∙ ap (run r) (flat_map-append at_doubled text more)
 blank_before r false text more h = ap (run r) (flat_map-append at_doubled text more)
 
-after_sep : (r : Reading) (left : Option Token) (t : Token) (text more : List ℕ) → InPlainC r.state → run r (doubled ((sep left t ++ text) ++ more)) ≡ run r (doubled text ++ doubled more)
+after_sep : (r : Reading) (left : Option Token) (t : Token) (text more : List ℕ) → InPlainC r.state
+    → run r (doubled ((sep left t ++ text) ++ more)) ≡ run r (doubled text ++ doubled more)
 after_sep r None t text more h = blank_before r false text more h
 after_sep r (Some l) t text more h = blank_before r (are_apart l t) text more h
 
@@ -127,15 +152,18 @@ one_first false t us = refl
 solid_first : (t : Token) (ts : List Token) → solid (t ∷ []) ++ solid ts ≡ solid (t ∷ ts)
 solid_first t ts = one_first (not (is_between t)) t (solid ts)
 
-law_from : (s : Setting) (left : Option Token) (ts : List Token) → Plains ts → (r : Reading) → InPlainC r.state → HasRead r.state (run r (printed s left ts)).state (solid ts)
+law_from : (s : Setting) (left : Option Token) (ts : List Token) → Plains ts → (r : Reading)
+    → InPlainC r.state → HasRead r.state (run r (printed s left ts)).state (solid ts)
 law_from s left [] h r plain = nothing r.state plain
 law_from s left (t ∷ ts) h r plain =
     let text = file_text s left t in
     let more = print_after (file_text s) (Some t) ts in
     let one = step s left r t (doubled more) h.0 plain (seam_after s t ts h.1) in
     let rest = law_from s (Some t) ts h.1 one.next one.read.plain in
-    let whole = and_then r.state one.next.state (run one.next (doubled more)).state (solid (t ∷ [])) (solid ts) one.read rest in
-    let is : run r (printed s left (t ∷ ts)) ≡ run one.next (doubled more) = after_sep r left t text more plain ∙ one.goes_on in
+    let whole =
+    and_then r.state one.next.state (run one.next (doubled more)).state (solid (t ∷ [])) (solid ts) one.read rest in
+    let is : run r (printed s left (t ∷ ts)) ≡ run one.next (doubled more) =
+    after_sep r left t text more plain ∙ one.goes_on in
     subst (λ q. HasRead r.state q.state (solid (t ∷ ts))) (sym is)
     (subst (λ us. HasRead r.state (run one.next (doubled more)).state us) (solid_first t ts) whole)
 
@@ -163,4 +191,5 @@ plains (t ∷ ts) h = (All-head IsPlain t ts h, plains ts (All-tail IsPlain t ts
 pub law : Spacing
 law s ts h r plain =
     let p = plains ts h in
-    subst (λ us. HasRead r.state (run r (doubled (print_after (file_text s) None us))).state (solid ts)) (sym (all_kept ts p)) (law_from s None ts p r plain)
+    subst (λ us. HasRead r.state (run r (doubled (print_after (file_text s) None us))).state (solid ts))
+    (sym (all_kept ts p)) (law_from s None ts p r plain)

@@ -16,10 +16,17 @@ use Rattle.cweb_scan.specs.State.{before_text, part_tokens}
 use Rattle.cweb_out.specs.Printing.{Setting, print}
 
 abbrev in_c_part : Reading
-in_c_part = record { state = record (before_text (record { file = record { 0 = 0 }; line = 1 })) { context = CText; contents = with_open part.Unnamed empty }; later = [] }
+in_c_part =
+    record {
+      state =
+          record (before_text (record { file = record { 0 = 0 }; line = 1 }))
+          { context = CText; contents = with_open part.Unnamed empty };
+      later = [];
+    }
 
 plain : InPlainC in_c_part.state
-plain = record { part = record { kind = part.Unnamed; tokens = [] }; open_part = refl; in_c = refl; no_directive = refl }
+plain =
+    record { part = record { kind = part.Unnamed; tokens = [] }; open_part = refl; in_c = refl; no_directive = refl }
 
 abbrev settled : Setting
 settled = record { replaced = λ b. []; files = []; macros = [] }
@@ -28,7 +35,9 @@ abbrev reread : List Token → List Token
 reread ts = part_tokens (run in_c_part (doubled (print settled ts))).state
 
 abbrev row : List Token
-row = Number (codes "0xe") ∷ Punct (codes "+") ∷ Number (codes "1") ∷ Punct (codes ".") ∷ Number (codes ".5") ∷ Literal (codes "\"a\"") ∷ Literal (codes "R\"(b)\"") ∷ Word (codes "R") ∷ Literal (codes "\"(c)\"") ∷ []
+row =
+    Number (codes "0xe") ∷ Punct (codes "+") ∷ Number (codes "1") ∷ Punct (codes ".") ∷ Number (codes ".5")
+    ∷ Literal (codes "\"a\"") ∷ Literal (codes "R\"(b)\"") ∷ Word (codes "R") ∷ Literal (codes "\"(c)\"") ∷ []
 
 row_printed : print settled row ≡ codes "0xe +1 . .5 \"a\"R\"(b)\" R \"(c)\""
 row_printed = refl
@@ -45,7 +54,9 @@ unfolding digits
 comment_read = refl
 
 abbrev signs : List Token
-signs = Punct (codes "@") ∷ Word (codes "d") ∷ Punct (codes "-") ∷ Punct (codes "->") ∷ Punct (codes ".") ∷ Punct (codes "...") ∷ []
+signs =
+    Punct (codes "@") ∷ Word (codes "d") ∷ Punct (codes "-")
+    ∷ Punct (codes "->") ∷ Punct (codes ".") ∷ Punct (codes "...") ∷ []
 
 signs_read : reread signs ≡ signs
 signs_read = refl
@@ -64,8 +75,18 @@ null : ReadsAlone (Punct (0 ∷ []))
 null = record { kind = Punctuator; whole = refl; token = refl }
 
 two_lines : ReadsAlone (Literal (34 ∷ 64 ∷ 92 ∷ 10 ∷ 34 ∷ []))
-two_lines = record { kind = Quoted ((34 ∷ []) ∷ (64 ∷ 64 ∷ []) ∷ (92 ∷ 10 ∷ []) ∷ (34 ∷ []) ∷ []) Closed; whole = refl; token = refl }
+two_lines =
+    record {
+      kind = Quoted ((34 ∷ []) ∷ (64 ∷ 64 ∷ []) ∷ (92 ∷ 10 ∷ []) ∷ (34 ∷ []) ∷ []) Closed;
+      whole = refl;
+      token = refl;
+    }
 
 -- a raw literal that holds a line end and an `@`
 raw : ReadsAlone (Literal (codes "R\"(" ++ 10 ∷ 64 ∷ codes ")\""))
-raw = record { kind = Quoted (codes "R\"(" ∷ (10 ∷ []) ∷ codes "@@" ∷ codes ")\"" ∷ []) Closed; whole = refl; token = refl }
+raw =
+    record {
+      kind = Quoted (codes "R\"(" ∷ (10 ∷ []) ∷ codes "@@" ∷ codes ")\"" ∷ []) Closed;
+      whole = refl;
+      token = refl;
+    }

@@ -55,21 +55,24 @@ pub is_false : (a : Bool) → not a ≡ true → a ≡ false
 is_false true h = cc
 is_false false h = refl
 
-none_of : (p : ℕ → Bool) (set : List ℕ) (c : ℕ) → list_all (λ x. not (p x)) set ≡ true → p c ≡ true → is_one_of set c ≡ false
+none_of : (p : ℕ → Bool) (set : List ℕ) (c : ℕ)
+    → list_all (λ x. not (p x)) set ≡ true → p c ≡ true → is_one_of set c ≡ false
 none_of p [] c h e = refl
 none_of p (x ∷ set) c h e =
     let q = both (not (p x)) (list_all (λ x. not (p x)) set) h in
     ap (λ v. v || is_one_of set c) (unlike p x c true e (is_false (p x) q.0)) ∙ none_of p set c q.1 e
 
 -- no byte of a set passes a test
-passes_none : (p : ℕ → Bool) (set : List ℕ) (c : ℕ) → list_all (λ x. not (p x)) set ≡ true → is_one_of set c ≡ true → p c ≡ false
+passes_none : (p : ℕ → Bool) (set : List ℕ) (c : ℕ)
+    → list_all (λ x. not (p x)) set ≡ true → is_one_of set c ≡ true → p c ≡ false
 passes_none p set c h e =
     (elim (p c) as (λ v. p c ≡ v → v ≡ false) [
       | true ↦ λ f. let wrong : true ≡ false = sym e ∙ none_of p set c h f in cc
       | false ↦ λ f. refl
     ]) refl
 
-code_first : (e : Effect) (d : List ℕ) (u : Token) → token_of (kind.Code e) d ≡ Some u → d ≡ doubled (bytes_of u) → First u d
+code_first : (e : Effect) (d : List ℕ) (u : Token)
+    → token_of (kind.Code e) d ≡ Some u → d ≡ doubled (bytes_of u) → First u d
 code_first GiveAt d u t is =
     let same = is_that (Punct (64 ∷ [])) u t in
     let at : d ≡ 64 ∷ 64 ∷ [] = is ∙ sym (ap (λ v. doubled (bytes_of v)) same) in
@@ -87,24 +90,30 @@ code_first InsertDefs d u t is = cc
 code_first Joins d u t is = cc
 code_first (Faulty k) d u t is = cc
 
-clean_is : (v : Bool) (b : List ℕ) (u : Token) → cond v (Some (Literal b)) None ≡ Some u → (b : List ℕ) × (Literal b ≡ u)
+clean_is : (v : Bool) (b : List ℕ) (u : Token)
+    → cond v (Some (Literal b)) None ≡ Some u → (b : List ℕ) × (Literal b ≡ u)
 clean_is true b u t = (b, is_that (Literal b) u t)
 clean_is false b u t = cc
 
-literal_is : (units : List (List ℕ)) (how : End) (u : Token) → literal_of units how ≡ Some u → (b : List ℕ) × (Literal b ≡ u)
+literal_is : (units : List (List ℕ)) (how : End) (u : Token)
+    → literal_of units how ≡ Some u → (b : List ℕ) × (Literal b ≡ u)
 literal_is units Closed u t = clean_is (is_clean units) (text_in units) u t
 literal_is units Cut u t = cc
 literal_is units Nested u t = cc
 literal_is units Open u t = cc
 
-first_by : (k : Kind) (b : ℕ) (d : List ℕ) (u : Token) → begins_as k b ≡ true → token_of k (b ∷ d) ≡ Some u → b ∷ d ≡ doubled (bytes_of u) → First u (b ∷ d)
+first_by : (k : Kind) (b : ℕ) (d : List ℕ) (u : Token) → begins_as k b ≡ true
+    → token_of k (b ∷ d) ≡ Some u → b ∷ d ≡ doubled (bytes_of u) → First u (b ∷ d)
 first_by kind.Identifier b d u h t is =
     let e = both (is_word_byte b) (not (is_digit b)) h in
-    subst (λ v. First v (b ∷ d)) (is_that (Word (b ∷ d)) u t) (record { byte = b; rest = d; is = refl; starts = (e.0, is_false (is_digit b) e.1) })
-first_by kind.Numeral b d u h t is = subst (λ v. First v (b ∷ d)) (is_that (Number (b ∷ d)) u t) (record { byte = b; rest = d; is = refl; starts = h })
+    subst (λ v. First v (b ∷ d)) (is_that (Word (b ∷ d)) u t)
+    (record { byte = b; rest = d; is = refl; starts = (e.0, is_false (is_digit b) e.1) })
+first_by kind.Numeral b d u h t is =
+    subst (λ v. First v (b ∷ d)) (is_that (Number (b ∷ d)) u t) (record { byte = b; rest = d; is = refl; starts = h })
 first_by kind.Punctuator b d u h t is =
     let e = neither (after_word b) (is_white b) (is_false (after_word b || is_white b) h) in
-    subst (λ v. First v (b ∷ d)) (is_that (Punct (b ∷ d)) u t) (record { byte = b; rest = d; is = refl; starts = (e.0, d, refl) })
+    subst (λ v. First v (b ∷ d)) (is_that (Punct (b ∷ d)) u t)
+    (record { byte = b; rest = d; is = refl; starts = (e.0, d, refl) })
 first_by (kind.Quoted units how) b d u h t is =
     let l = literal_is units how u t in
     subst (λ v. First v (b ∷ d)) l.1 (record {
@@ -126,7 +135,8 @@ first_by kind.LineEnd b d u h t is = cc
 first_by (kind.Comment how) b d u h t is = cc
 first_by (kind.Defined tight) b d u h t is = cc
 
-first_in : (k : Kind) (d : List ℕ) (u : Token) → first_is (begins_as k) d ≡ true → token_of k d ≡ Some u → d ≡ doubled (bytes_of u) → First u d
+first_in : (k : Kind) (d : List ℕ) (u : Token) → first_is (begins_as k) d ≡ true
+    → token_of k d ≡ Some u → d ≡ doubled (bytes_of u) → First u d
 first_in k [] u h t is = cc
 first_in k (b ∷ d) u h t is = first_by k b d u h t is
 
@@ -136,7 +146,8 @@ first_of u h = first_in h.kind (text_of u) u (begins u h) h.token refl
 
 -- THE SEAM
 
-not_both : (b : List ℕ) (c : ℕ) → is_digit c ≡ false → (last_is is_operator b && is_operator c) ≡ false → joins_last joins b c ≡ false
+not_both : (b : List ℕ) (c : ℕ) → is_digit c ≡ false
+    → (last_is is_operator b && is_operator c) ≡ false → joins_last joins b c ≡ false
 not_both [] c d h = refl
 not_both (x ∷ []) c d h =
     (λ i. ((x == 46) && d i) || (h i && (not (c == 46) || (x == 46)))) ∙ ap (λ v. v || false) (and_false (x == 46))
@@ -145,16 +156,20 @@ not_both (x ∷ y ∷ b) c d h = not_both (y ∷ b) c d h
 never : (b : List ℕ) (c : ℕ) → is_digit c ≡ false → is_operator c ≡ false → joins_last joins b c ≡ false
 never b c d h = not_both b c d (ap (λ v. last_is is_operator b && v) h ∙ and_false (last_is is_operator b))
 
-number_byte : (digit dot op : Bool) → (digit || dot) ≡ true → (digit ≡ true → op ≡ false) → (x : Bool) → (x && op && (not dot || false)) ≡ false
-number_byte true dot op h f x = ap (λ v. x && v && (not dot || false)) (f refl) ∙ ap (λ v. v && (not dot || false)) (and_false x)
+number_byte : (digit dot op : Bool) → (digit || dot) ≡ true
+    → (digit ≡ true → op ≡ false) → (x : Bool) → (x && op && (not dot || false)) ≡ false
+number_byte true dot op h f x =
+    ap (λ v. x && v && (not dot || false)) (f refl) ∙ ap (λ v. v && (not dot || false)) (and_false x)
 number_byte false true op h f x = and_false (x && op)
 number_byte false false op h f x = cc
 
-before_number : (b : List ℕ) (c : ℕ) → begins_number c ≡ true → last_is (λ x. x == 46) b ≡ false → joins_last joins b c ≡ false
+before_number : (b : List ℕ) (c : ℕ) → begins_number c ≡ true
+    → last_is (λ x. x == 46) b ≡ false → joins_last joins b c ≡ false
 before_number [] c n h = refl
 before_number (x ∷ []) c n h =
     (λ i. (h i && is_digit c) || (is_operator x && is_operator c && (not (c == 46) || h i)))
-    ∙ number_byte (is_digit c) (c == 46) (is_operator c) n (λ e. none_of is_digit (codes "+-*/%&|^!=<>.:#?") c refl e) (is_operator x)
+    ∙ number_byte (is_digit c) (c == 46) (is_operator c) n
+    (λ e. none_of is_digit (codes "+-*/%&|^!=<>.:#?") c refl e) (is_operator x)
 before_number (x ∷ y ∷ b) c n h = before_number (y ∷ b) c n h
 
 word_not_operator : (c : ℕ) → is_word_byte c ≡ true → is_operator c ≡ false
@@ -170,7 +185,9 @@ or_false : (a : Bool) → (a || false) ≡ a
 or_false true = refl
 or_false false = refl
 
-before_comment : (b : List ℕ) (c : ℕ) → (false || false || (last_is (λ x. x == 46) b && false) || (last_is is_operator b && (false || true)) || false) ≡ false → c ≡ 47 → joins_last joins b c ≡ false
+before_comment : (b : List ℕ) (c : ℕ)
+    → (false || false || (last_is (λ x. x == 46) b && false) || (last_is is_operator b && (false || true)) || false)
+    ≡ false → c ≡ 47 → joins_last joins b c ≡ false
 before_comment b c apart h =
     let last = last_is (λ x. x == 46) b in
     let op = last_is is_operator b in
@@ -195,7 +212,8 @@ seam (Number b) (Punct d) c apart h =
     let e = neither (print.first_is (print.is_one_of (codes ".+-")) d || false || false) false apart in
     let f = neither (print.first_is (print.is_one_of (codes ".+-")) d || false) false e.0 in
     let g = neither (print.first_is (print.is_one_of (codes ".+-")) d) false f.0 in
-    let sign : is_one_of (codes ".+-") c ≡ false = sym (ap (print.first_is (print.is_one_of (codes ".+-"))) h.2) ∙ g.0 in
+    let sign : is_one_of (codes ".+-") c ≡ false =
+    sym (ap (print.first_is (print.is_one_of (codes ".+-"))) h.2) ∙ g.0 in
     λ i. h.0 i || sign i
 seam (Number b) Blank c apart h = ap after_number h
 seam (Number b) Newline c apart h = ap after_number h
@@ -214,7 +232,9 @@ seam (Punct b) (Punct d) c apart h =
     let op = last_is is_operator b in
     let e = neither ((last && false) || (op && (print.first_is is_operator d || false))) false apart in
     let f = neither (last && false) (op && (print.first_is is_operator d || false)) e.0 in
-    let is : (op && is_operator c) ≡ false = ap (λ v. op && v) (sym (or_false (is_operator c)) ∙ sym (ap (λ q. print.first_is is_operator q || false) h.2)) ∙ f.1 in
+    let is : (op && is_operator c) ≡ false =
+    ap (λ v. op && v) (sym (or_false (is_operator c)) ∙ sym (ap (λ q. print.first_is is_operator q || false) h.2))
+    ∙ f.1 in
     not_both b c (no_digit_after c (neither (is_word_byte c) (is_one_of (codes "\"'") c) h.0).0) is
 seam (Punct b) Blank c apart h = ap (joins_last joins b) h ∙ never b 32 refl refl
 seam (Punct b) Newline c apart h = ap (joins_last joins b) h ∙ never b 10 refl refl

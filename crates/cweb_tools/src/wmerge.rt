@@ -96,7 +96,8 @@ fn start_subject(asked: &MergeWords, stop: Stop) -> &str
 /// Logs the faults of a merge, and answers the status of a run that ends so.
 fn log_faults<L: Sink>(log: &mut L, names: &FileNames, faults: &[SourceFault]) -> u8
     requires count { L.failed log.old + 1 < 2 ^ 64 }
-    requires known { All (λ fault. fault.place.file.0 < length (spec.names_of names.now)) faults.now }
+    requires known { All
+        (λ fault. fault.place.file.0 < length (spec.names_of names.now)) faults.now }
     ensures logs { Logs (fault_lines (spec.names_of names.now) faults.now)
         (seen_stream L.Sink log.old) (seen_stream L.Sink log.new) }
     ensures answered { L.failed log.new ≡ L.failed log.old → result ≡ fault_status faults.now }

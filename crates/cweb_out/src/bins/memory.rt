@@ -73,7 +73,8 @@ fn empty_file(alloc: Global, name: &str, room: usize) -> Result<BinFile, AllocEr
 
 // Takes the file of a name away.
 fn remove_named(files: &mut Vec<BinFile>, name: &str)
-    ensures others { files.new.items ≡ filter (λ file. not (bytes_eq (string_bytes file.name) name.now)) files.old.items }
+    ensures others { files.new.items
+        ≡ filter (λ file. not (bytes_eq (string_bytes file.name) name.now)) files.old.items }
     ensures capacity { vec_capacity files.new ≡ vec_capacity files.old }
     ensures len { vec_len files.new ≤ vec_len files.old }
 {
@@ -102,7 +103,8 @@ impl Sink for MemoryBins {
         ensures room { draft_room self.old ≤ draft_room self.new }
         ensures set_room { file_room self.new ≡ file_room self.old }
         // With a draft it never fails within the room, and without one it fails.
-        ensures within_room { has_draft self.old ≡ true → length (bytes_kept self.old) + length piece.now ≤ draft_room self.old → IsOk result }
+        ensures within_room { has_draft self.old ≡ true
+            → length (bytes_kept self.old) + length piece.now ≤ draft_room self.old → IsOk result }
         ensures none { has_draft self.old ≡ false → IsErr result }
     {
         let Some(mut file) = self.draft.take() else {
@@ -131,7 +133,8 @@ impl Bins for MemoryBins {
     fn start_file(&mut self, name: &str) -> Result<(), BinFault>
         requires { bins_failed self.old + 1 < 2 ^ 64 }
         ensures failed { bins_failed self.new ≡ bins_failed self.old }
-        ensures begun { OnOk result (beside_kept self.new ≡ with_draft name.now (beside_kept self.old)) }
+        ensures begun { OnOk result
+            (beside_kept self.new ≡ with_draft name.now (beside_kept self.old)) }
         ensures empty { OnOk result (bytes_kept self.new ≡ []) }
         ensures err { IfErr result (λ fault.
             beside_kept self.new ≡ refusing fault (beside_kept self.old)) }
@@ -158,7 +161,8 @@ impl Bins for MemoryBins {
         ensures failed { Counts (bins_failed self.old) (bins_failed self.new) result }
         ensures device { IfErr result (λ fault. fault ≡ BinFault.Device) }
         ensures begun { OnOk result (has_draft self.old ≡ true) }
-        ensures ok { OnOk result (beside_kept self.new ≡ committed (beside_kept self.old) (bytes_kept self.old)) }
+        ensures ok { OnOk result
+            (beside_kept self.new ≡ committed (beside_kept self.old) (bytes_kept self.old)) }
         ensures err { OnErr result (beside_kept self.new ≡ without_draft (beside_kept self.old)) }
         ensures set_room { file_room self.new ≡ file_room self.old }
         // With a draft it never fails.

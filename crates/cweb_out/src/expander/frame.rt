@@ -45,7 +45,8 @@ impl<'a> Frame<'a> {
         requires { IsWithin store.now self.old }
         ensures owner { self.new.owner ≡ self.old.owner }
         ensures within { IsWithin store.now self.new }
-        ensures some { IfSome result (λ t. suffix store.now self.old ≡ seen t ∷ suffix store.now self.new) }
+        ensures some { IfSome result
+            (λ t. suffix store.now self.old ≡ seen t ∷ suffix store.now self.new) }
         ensures none { result ≡ None → suffix store.now self.old ≡ [] }
     {
         if self.defs {

@@ -49,7 +49,8 @@ fn is_ranked(marks: &[Mark], name: NameId) -> bool
 fn is_waiting(marks: &[Mark], name: NameId) -> bool
     requires { name.0 < length marks.now }
     ensures waits { result ≡ true → mark_of marks.now name ≡ Mark.Waits }
-    ensures other { result ≡ false → is_marked marks.now name ≡ false → mark_of marks.now name ≡ Mark.Unseen }
+    ensures other { result ≡ false → is_marked marks.now name ≡ false
+        → mark_of marks.now name ≡ Mark.Unseen }
 {
     matches!(marks[name.0 as usize], Mark::Waits)
 }
@@ -59,9 +60,12 @@ fn next_unranked<'a>(store: &'a Store, marks: &[Mark], text: &mut Frame<'a>) -> 
     requires marks { length marks.now ≡ names store.now }
     requires within { IsWithin store.now text.old }
     ensures within { IsWithin store.now text.new }
-    ensures shorter { IfSome result (λ id. length (suffix store.now text.new) < length (suffix store.now text.old)) }
-    ensures meets { IfSome result (λ id. Meets store.now marks.now (suffix store.now text.old) id (suffix store.now text.new)) }
-    ensures none { result ≡ None → list_all (is_marked marks.now) (uses store.now (suffix store.now text.old)) ≡ true }
+    ensures shorter { IfSome result
+        (λ id. length (suffix store.now text.new) < length (suffix store.now text.old)) }
+    ensures meets { IfSome result (λ id.
+        Meets store.now marks.now (suffix store.now text.old) id (suffix store.now text.new)) }
+    ensures none { result ≡ None
+        → list_all (is_marked marks.now) (uses store.now (suffix store.now text.old)) ≡ true }
 {
     'tokens: while let Some(token) = text.take(store) {
         if let Some(name) = used_name(store, &token) {
@@ -115,9 +119,11 @@ impl<'a> Search<'a> {
         requires fits { Fits self.old.store.now self.old.marks.items [] }
         requires path { self.old.waiting.items ≡ [] }
         ensures store { self.new.store ≡ self.old.store }
-        ensures fits { IfOk result (λ cycle. cycle ≡ None → Fits self.old.store.now self.new.marks.items []) }
+        ensures fits { IfOk result
+            (λ cycle. cycle ≡ None → Fits self.old.store.now self.new.marks.items []) }
         ensures path { IfOk result (λ cycle. cycle ≡ None → self.new.waiting.items ≡ []) }
-        ensures settles { IfOk result (λ cycle. Settles self.old.store.now name (option_map (λ names. names.items) cycle)) }
+        ensures settles { IfOk result
+            (λ cycle. Settles self.old.store.now name (option_map (λ names. names.items) cycle)) }
     {
         if is_ranked(self.marks.as_slice(), name) {
             return Ok(None);
@@ -137,9 +143,11 @@ impl<'a> Search<'a> {
         requires fits { Fits self.old.store.now self.old.marks.items [] }
         requires path { self.old.waiting.items ≡ [] }
         ensures store { self.new.store ≡ self.old.store }
-        ensures fits { IfOk result (λ cycle. cycle ≡ None → Fits self.old.store.now self.new.marks.items []) }
+        ensures fits { IfOk result
+            (λ cycle. cycle ≡ None → Fits self.old.store.now self.new.marks.items []) }
         ensures path { IfOk result (λ cycle. cycle ≡ None → self.new.waiting.items ≡ []) }
-        ensures settles { IfOk result (λ cycle. SettlesList self.old.store.now root (option_map (λ names. names.items) cycle)) }
+        ensures settles { IfOk result (λ cycle.
+            SettlesList self.old.store.now root (option_map (λ names. names.items) cycle)) }
     {
         match root {
             Some(name) => self.settle(name),
@@ -151,9 +159,11 @@ impl<'a> Search<'a> {
         requires fits { Fits self.old.store.now self.old.marks.items [] }
         requires path { self.old.waiting.items ≡ [] }
         ensures store { self.new.store ≡ self.old.store }
-        ensures fits { IfOk result (λ cycle. cycle ≡ None → Fits self.old.store.now self.new.marks.items []) }
+        ensures fits { IfOk result
+            (λ cycle. cycle ≡ None → Fits self.old.store.now self.new.marks.items []) }
         ensures path { IfOk result (λ cycle. cycle ≡ None → self.new.waiting.items ≡ []) }
-        ensures settles { IfOk result (λ cycle. SettlesList self.old.store.now None (option_map (λ names. names.items) cycle)) }
+        ensures settles { IfOk result (λ cycle.
+            SettlesList self.old.store.now None (option_map (λ names. names.items) cycle)) }
     {
         let store = self.store;
         let mut text = Frame::of_root(store, None);
@@ -171,7 +181,9 @@ impl<'a> Search<'a> {
         requires fits { Fits self.old.store.now self.old.marks.items self.old.waiting.items }
         requires unseen { mark_of self.old.marks.items name ≡ Mark.Unseen }
         ensures store { self.new.store ≡ self.old.store }
-        ensures waits { OnOk result (Waited self.old.store.now self.old.marks.items self.old.waiting.items name self.new.marks.items self.new.waiting.items) }
+        ensures waits { OnOk result
+            (Waited self.old.store.now self.old.marks.items self.old.waiting.items
+            name self.new.marks.items self.new.waiting.items) }
     {
         self.marks[name.0 as usize] = Mark::Waits;
         self.waiting.push(Waiting {
@@ -185,10 +197,14 @@ impl<'a> Search<'a> {
     // answered where it waits already. Where there is none the name has a rank.
     fn go_on(&mut self, top: Waiting<'a>) -> Result<Option<NameId>, AllocError>
         requires name { top.name.0 < names self.old.store.now }
-        requires fits { Fits self.old.store.now self.old.marks.items (self.old.waiting.items ++ top ∷ []) }
+        requires fits { Fits self.old.store.now self.old.marks.items
+            (self.old.waiting.items ++ top ∷ []) }
         requires chain { Chain self.old.store.now (self.old.waiting.items ++ top ∷ []) None }
         ensures store { self.new.store ≡ self.old.store }
-        ensures goes { IfOk result (λ again. Goes self.old.store.now self.old.marks.items (self.old.waiting.items ++ top.entry ∷ []) self.new.marks.items self.new.waiting.items again) }
+        ensures goes { IfOk result (λ again.
+            Goes self.old.store.now self.old.marks.items
+            (self.old.waiting.items ++ top.entry ∷ [])
+            self.new.marks.items self.new.waiting.items again) }
     {
         let mut top = top;
         let Some(used) = next_unranked(self.store, self.marks.as_slice(), &mut top.text) else {
@@ -223,7 +239,8 @@ pub(crate) fn first_cycle(
     roots: &[Option<NameId>],
 ) -> Result<Option<Vec<NameId>>, AllocError>
     requires { All (IsRoot store.now) roots.now }
-    ensures { IfOk result (λ cycle. first_cycle store.now roots.now ≡ option_map (λ names. names.items) cycle) }
+    ensures { IfOk result
+        (λ cycle. first_cycle store.now roots.now ≡ option_map (λ names. names.items) cycle) }
 {
     let mut search = Search::new(alloc, store)?;
     'roots: for root in roots {

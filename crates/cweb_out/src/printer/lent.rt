@@ -26,9 +26,11 @@ impl<'a> Lent<'a> {
     /// is looked at again for the blank and the class.
     #[inline(always)]
     pub fn of(left: Left, token: &Token<'a>) -> Option<Lent<'a>>
-        ensures apart { IfSome result (λ lent. lent.is_apart ≡ is_apart left.class (seen token.now)) }
+        ensures apart { IfSome result
+            (λ lent. lent.is_apart ≡ is_apart left.class (seen token.now)) }
         ensures class { IfSome result (λ lent. lent.class ≡ class_of (Some (seen token.now))) }
-        ensures text { IfSome result (λ lent. lent_text left.joined (seen token.now) ≡ Some lent.text.now) }
+        ensures text { IfSome result
+            (λ lent. lent_text left.joined (seen token.now) ≡ Some lent.text.now) }
     {
         match token {
             Token::Word(text) if has_high_byte(text) => None,
@@ -63,7 +65,9 @@ impl<'a> Lent<'a> {
         ensures tells { W.tells out.new ≡ W.tells out.old }
         ensures failed { Counts (W.failed out.old) (W.failed out.new) result }
         ensures beside { IsTrue (W.tells out.old) → W.beside out.new ≡ W.beside out.old }
-        ensures wrote { IsTrue (W.tells out.old) → Wrote (W.written out.old) (W.written out.new) (blank_where self.entry.is_apart ++ self.entry.text.now) result }
+        ensures wrote { IsTrue (W.tells out.old)
+            → Wrote (W.written out.old) (W.written out.new)
+            (blank_where self.entry.is_apart ++ self.entry.text.now) result }
     {
         write_blank(self.is_apart, out)?;
         write_piece(out, self.text)
@@ -76,7 +80,8 @@ fn write_blank<W: Sink>(is_apart: bool, out: &mut W) -> Result<(), SinkFault>
     ensures tells { W.tells out.new ≡ W.tells out.old }
     ensures failed { Counts (W.failed out.old) (W.failed out.new) result }
     ensures beside { IsTrue (W.tells out.old) → W.beside out.new ≡ W.beside out.old }
-    ensures wrote { IsTrue (W.tells out.old) → Wrote (W.written out.old) (W.written out.new) (blank_where is_apart) result }
+    ensures wrote { IsTrue (W.tells out.old)
+        → Wrote (W.written out.old) (W.written out.new) (blank_where is_apart) result }
 {
     if is_apart {
         write_piece(out, b" ")

@@ -23,7 +23,9 @@ pub(crate) fn write_macros<W: Sink>(store: &Store, out: &mut W) -> Result<(), Si
     ensures tells { W.tells out.new ≡ W.tells out.old }
     ensures failed { Counts (W.failed out.old) (W.failed out.new) result }
     ensures beside { IsTrue (W.tells out.old) → W.beside out.new ≡ W.beside out.old }
-    ensures wrote { IsTrue (W.tells out.old) → Wrote (W.written out.old) (W.written out.new) (flat_map (macro_line (replaced_in store.now)) (macros store.now)) result }
+    ensures wrote { IsTrue (W.tells out.old)
+        → Wrote (W.written out.old) (W.written out.new)
+        (flat_map (macro_line (replaced_in store.now)) (macros store.now)) result }
 {
     let mut parts = store.macros();
     'macros: while let Some(part) = parts.next() {
@@ -39,7 +41,9 @@ fn write_macro<W: Sink>(store: &Store, part: Part, out: &mut W) -> Result<(), Si
     ensures tells { W.tells out.new ≡ W.tells out.old }
     ensures failed { Counts (W.failed out.old) (W.failed out.new) result }
     ensures beside { IsTrue (W.tells out.old) → W.beside out.new ≡ W.beside out.old }
-    ensures wrote { IsTrue (W.tells out.old) → Wrote (W.written out.old) (W.written out.new) (macro_line (replaced_in store.now) (run_tokens store.now part)) result }
+    ensures wrote { IsTrue (W.tells out.old)
+        → Wrote (W.written out.old) (W.written out.new)
+        (macro_line (replaced_in store.now) (run_tokens store.now part)) result }
 {
     write_piece(out, b"#define ")?;
     write_macro_tokens(store, part, out)?;
@@ -53,7 +57,10 @@ fn write_macro_tokens<W: Sink>(store: &Store, part: Part, out: &mut W) -> Result
     ensures tells { W.tells out.new ≡ W.tells out.old }
     ensures failed { Counts (W.failed out.old) (W.failed out.new) result }
     ensures beside { IsTrue (W.tells out.old) → W.beside out.new ≡ W.beside out.old }
-    ensures wrote { IsTrue (W.tells out.old) → Wrote (W.written out.old) (W.written out.new) (all_added (macro_by (replaced_in store.now)) at_start (run_tokens store.now part)) result }
+    ensures wrote { IsTrue (W.tells out.old)
+        → Wrote (W.written out.old) (W.written out.new)
+        (all_added (macro_by (replaced_in store.now)) at_start (run_tokens store.now part))
+        result }
 {
     let mut left = Left::start();
     'tokens: for number in part.first..part.after {
@@ -74,7 +81,9 @@ fn write_macro_token<W: Sink>(
     ensures tells { W.tells out.new ≡ W.tells out.old }
     ensures failed { Counts (W.failed out.old) (W.failed out.new) result }
     ensures beside { IsTrue (W.tells out.old) → W.beside out.new ≡ W.beside out.old }
-    ensures wrote { IsTrue (W.tells out.old) → Wrote (W.written out.old) (W.written out.new) (added (macro_by (replaced_in store.now)) left (seen token.now)) result }
+    ensures wrote { IsTrue (W.tells out.old)
+        → Wrote (W.written out.old) (W.written out.new)
+        (added (macro_by (replaced_in store.now)) left (seen token.now)) result }
 {
     if left.drops(token) {
         return Ok(());

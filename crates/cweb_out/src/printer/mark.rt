@@ -21,7 +21,9 @@ pub(crate) fn write_mark<W: Sink>(
     ensures tells { W.tells out.new ≡ W.tells out.old }
     ensures failed { Counts (W.failed out.old) (W.failed out.new) result }
     ensures beside { IsTrue (W.tells out.old) → W.beside out.new ≡ W.beside out.old }
-    ensures wrote { IsTrue (W.tells out.old) → Wrote (W.written out.old) (W.written out.new) (begin.now ++ mark_line name.now line) result }
+    ensures wrote { IsTrue (W.tells out.old)
+        → Wrote (W.written out.old) (W.written out.new)
+        (begin.now ++ mark_line name.now line) result }
 {
     if has_quotable(name) {
         return write_quoted_mark(begin, name, line, out);
@@ -52,7 +54,9 @@ fn write_quoted_mark<W: Sink>(
     ensures tells { W.tells out.new ≡ W.tells out.old }
     ensures failed { Counts (W.failed out.old) (W.failed out.new) result }
     ensures beside { IsTrue (W.tells out.old) → W.beside out.new ≡ W.beside out.old }
-    ensures wrote { IsTrue (W.tells out.old) → Wrote (W.written out.old) (W.written out.new) (begin.now ++ mark_line name.now line) result }
+    ensures wrote { IsTrue (W.tells out.old)
+        → Wrote (W.written out.old) (W.written out.new)
+        (begin.now ++ mark_line name.now line) result }
 {
     let mut digits = Buffer::new();
     write_pieces(
@@ -68,7 +72,8 @@ fn write_quoted<W: Sink>(name: &[u8], out: &mut W) -> Result<(), SinkFault>
     ensures tells { W.tells out.new ≡ W.tells out.old }
     ensures failed { Counts (W.failed out.old) (W.failed out.new) result }
     ensures beside { IsTrue (W.tells out.old) → W.beside out.new ≡ W.beside out.old }
-    ensures wrote { IsTrue (W.tells out.old) → Wrote (W.written out.old) (W.written out.new) (quoted name.now) result }
+    ensures wrote { IsTrue (W.tells out.old)
+        → Wrote (W.written out.old) (W.written out.new) (quoted name.now) result }
 {
     'bytes: for byte in name {
         write_quoted_byte(*byte, out)?;
@@ -81,7 +86,8 @@ fn write_quoted_byte<W: Sink>(byte: u8, out: &mut W) -> Result<(), SinkFault>
     ensures tells { W.tells out.new ≡ W.tells out.old }
     ensures failed { Counts (W.failed out.old) (W.failed out.new) result }
     ensures beside { IsTrue (W.tells out.old) → W.beside out.new ≡ W.beside out.old }
-    ensures wrote { IsTrue (W.tells out.old) → Wrote (W.written out.old) (W.written out.new) (quoted_byte byte) result }
+    ensures wrote { IsTrue (W.tells out.old)
+        → Wrote (W.written out.old) (W.written out.new) (quoted_byte byte) result }
 {
     if wants_backslash(byte) {
         write_piece(out, &[b'\\', byte])

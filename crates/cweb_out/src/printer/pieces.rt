@@ -16,7 +16,8 @@ pub(crate) fn write_piece<W: Sink>(out: &mut W, piece: &[u8]) -> Result<(), Sink
     ensures tells { W.tells out.new ≡ W.tells out.old }
     ensures failed { Counts (W.failed out.old) (W.failed out.new) result }
     ensures beside { IsTrue (W.tells out.old) → W.beside out.new ≡ W.beside out.old }
-    ensures wrote { IsTrue (W.tells out.old) → Wrote (W.written out.old) (W.written out.new) piece.now result }
+    ensures wrote { IsTrue (W.tells out.old)
+        → Wrote (W.written out.old) (W.written out.new) piece.now result }
 {
     write_all(out, piece)
 }
@@ -28,7 +29,9 @@ pub(crate) fn write_pieces<W: Sink>(out: &mut W, pieces: &[&[u8]]) -> Result<(),
     ensures tells { W.tells out.new ≡ W.tells out.old }
     ensures failed { Counts (W.failed out.old) (W.failed out.new) result }
     ensures beside { IsTrue (W.tells out.old) → W.beside out.new ≡ W.beside out.old }
-    ensures wrote { IsTrue (W.tells out.old) → Wrote (W.written out.old) (W.written out.new) (flat_map (λ piece. piece.now) pieces.now) result }
+    ensures wrote { IsTrue (W.tells out.old)
+        → Wrote (W.written out.old) (W.written out.new)
+        (flat_map (λ piece. piece.now) pieces.now) result }
 {
     match gather(pieces) {
         Some(gathered) => write_piece(out, gathered.as_slice()),
@@ -39,7 +42,8 @@ pub(crate) fn write_pieces<W: Sink>(out: &mut W, pieces: &[&[u8]]) -> Result<(),
 // The bytes of pieces, where there is room for them.
 #[inline(always)]
 fn gather(pieces: &[&[u8]]) -> Option<ArrayVec<u8, ROOM>>
-    ensures { IfSome result (λ gathered. gathered.items ≡ flat_map (λ piece. piece.now) pieces.now) }
+    ensures { IfSome result
+        (λ gathered. gathered.items ≡ flat_map (λ piece. piece.now) pieces.now) }
 {
     let mut gathered = ArrayVec::new();
     'pieces: for piece in pieces {
@@ -57,7 +61,9 @@ fn write_each<W: Sink>(out: &mut W, pieces: &[&[u8]]) -> Result<(), SinkFault>
     ensures tells { W.tells out.new ≡ W.tells out.old }
     ensures failed { Counts (W.failed out.old) (W.failed out.new) result }
     ensures beside { IsTrue (W.tells out.old) → W.beside out.new ≡ W.beside out.old }
-    ensures wrote { IsTrue (W.tells out.old) → Wrote (W.written out.old) (W.written out.new) (flat_map (λ piece. piece.now) pieces.now) result }
+    ensures wrote { IsTrue (W.tells out.old)
+        → Wrote (W.written out.old) (W.written out.new)
+        (flat_map (λ piece. piece.now) pieces.now) result }
 {
     'pieces: for piece in pieces {
         write_piece(out, piece)?;

@@ -25,7 +25,8 @@ fn write_replaced<W: Sink>(store: &Store, byte: u8, out: &mut W) -> Result<(), S
     ensures tells { W.tells out.new ≡ W.tells out.old }
     ensures failed { Counts (W.failed out.old) (W.failed out.new) result }
     ensures beside { IsTrue (W.tells out.old) → W.beside out.new ≡ W.beside out.old }
-    ensures wrote { IsTrue (W.tells out.old) → Wrote (W.written out.old) (W.written out.new) (replaced_in store.now byte) result }
+    ensures wrote { IsTrue (W.tells out.old)
+        → Wrote (W.written out.old) (W.written out.new) (replaced_in store.now byte) result }
 {
     match store.replacement(byte) {
         Some(text) => write_piece(out, text),
@@ -38,7 +39,9 @@ fn write_word_byte<W: Sink>(store: &Store, byte: u8, out: &mut W) -> Result<(), 
     ensures tells { W.tells out.new ≡ W.tells out.old }
     ensures failed { Counts (W.failed out.old) (W.failed out.new) result }
     ensures beside { IsTrue (W.tells out.old) → W.beside out.new ≡ W.beside out.old }
-    ensures wrote { IsTrue (W.tells out.old) → Wrote (W.written out.old) (W.written out.new) (word_byte (replaced_in store.now) byte) result }
+    ensures wrote { IsTrue (W.tells out.old)
+        → Wrote (W.written out.old) (W.written out.new)
+        (word_byte (replaced_in store.now) byte) result }
 {
     if byte >= 128 {
         write_replaced(store, byte, out)
@@ -53,7 +56,9 @@ fn write_word<W: Sink>(store: &Store, bytes: &[u8], out: &mut W) -> Result<(), S
     ensures tells { W.tells out.new ≡ W.tells out.old }
     ensures failed { Counts (W.failed out.old) (W.failed out.new) result }
     ensures beside { IsTrue (W.tells out.old) → W.beside out.new ≡ W.beside out.old }
-    ensures wrote { IsTrue (W.tells out.old) → Wrote (W.written out.old) (W.written out.new) (word_text (replaced_in store.now) bytes.now) result }
+    ensures wrote { IsTrue (W.tells out.old)
+        → Wrote (W.written out.old) (W.written out.new)
+        (word_text (replaced_in store.now) bytes.now) result }
 {
     if has_high_byte(bytes) {
         write_word_bytes(store, bytes, out)
@@ -68,7 +73,9 @@ fn write_word_bytes<W: Sink>(store: &Store, bytes: &[u8], out: &mut W) -> Result
     ensures tells { W.tells out.new ≡ W.tells out.old }
     ensures failed { Counts (W.failed out.old) (W.failed out.new) result }
     ensures beside { IsTrue (W.tells out.old) → W.beside out.new ≡ W.beside out.old }
-    ensures wrote { IsTrue (W.tells out.old) → Wrote (W.written out.old) (W.written out.new) (word_text (replaced_in store.now) bytes.now) result }
+    ensures wrote { IsTrue (W.tells out.old)
+        → Wrote (W.written out.old) (W.written out.new)
+        (word_text (replaced_in store.now) bytes.now) result }
 {
     'bytes: for byte in bytes {
         write_word_byte(store, *byte, out)?;
@@ -93,7 +100,9 @@ fn write_numbered<W: Sink>(
     ensures tells { W.tells out.new ≡ W.tells out.old }
     ensures failed { Counts (W.failed out.old) (W.failed out.new) result }
     ensures beside { IsTrue (W.tells out.old) → W.beside out.new ≡ W.beside out.old }
-    ensures wrote { IsTrue (W.tells out.old) → Wrote (W.written out.old) (W.written out.new) (numbered before.now section behind.now) result }
+    ensures wrote { IsTrue (W.tells out.old)
+        → Wrote (W.written out.old) (W.written out.new)
+        (numbered before.now section behind.now) result }
 {
     let mut digits = Buffer::new();
     write_pieces(out, &[before, digits.format(section).as_bytes(), behind])
@@ -110,7 +119,9 @@ pub(crate) fn write_plain<W: Sink>(
     ensures tells { W.tells out.new ≡ W.tells out.old }
     ensures failed { Counts (W.failed out.old) (W.failed out.new) result }
     ensures beside { IsTrue (W.tells out.old) → W.beside out.new ≡ W.beside out.old }
-    ensures wrote { IsTrue (W.tells out.old) → Wrote (W.written out.old) (W.written out.new) (plain_text (replaced_in store.now) (seen token.now)) result }
+    ensures wrote { IsTrue (W.tells out.old)
+        → Wrote (W.written out.old) (W.written out.new)
+        (plain_text (replaced_in store.now) (seen token.now)) result }
 {
     match token {
         Token::Word(bytes) => write_word(store, bytes, out),

@@ -141,7 +141,8 @@ impl Scanner {
         requires may { may_do self.old.context effect ≡ true }
         requires room { HasRoom 2 self.old }
         requires unnamed { fronted.is_name effect ≡ false }
-        ensures { IfOk result (λ n. Gives (code_front effect true rest.now) rest.now n self.old self.new) }
+        ensures { IfOk result
+            (λ n. Gives (code_front effect true rest.now) rest.now n self.old self.new) }
     {
         match effect {
             Effect::Letter => self.take_letter(rest),

@@ -26,7 +26,8 @@ impl Scanner {
         requires room { HasRoom 1 self.old }
         requires two { needs_two rule ≡ true → 2 ≤ length rest.now }
         requires some { 1 ≤ length rest.now }
-        ensures { IfOk result (λ n. Gives (c_front_by in_c false rest.now rule) rest.now n self.old self.new) }
+        ensures { IfOk result
+            (λ n. Gives (c_front_by in_c false rest.now rule) rest.now n self.old self.new) }
     {
         match rule {
             Rule::Blanks => {

@@ -26,7 +26,10 @@ pub fn push_unit(text: &mut Vec<u8>, unit: &[u8]) -> Result<(), AllocError>
 
 /// Adds the text of an item's units in a line.
 pub fn push_units(text: &mut Vec<u8>, item: Item<'_>, line: &[u8]) -> Result<(), AllocError>
-    ensures { OnOk result (text.new.items ≡ text.old.items ++ items.text_in (cut.reach (look_of item.entry) how.Open line.now).units) }
+    ensures { OnOk result
+        (text.new.items
+        ≡ text.old.items
+        ++ items.text_in (cut.reach (look_of item.entry) how.Open line.now).units) }
 {
     let mut rest = line;
     'units: while !rest.is_empty() {
@@ -60,7 +63,10 @@ impl Scanner {
 
     /// The faults of a literal's units in a line.
     pub fn tell_units(&mut self, item: Item<'_>, line: &[u8]) -> Result<(), AllocError>
-        ensures { OnOk result (self.new ≡ fold unit_state self.old (cut.reach (look_of item.entry) how.Open line.now).units) }
+        ensures { OnOk result
+            (self.new
+            ≡ fold unit_state self.old
+            (cut.reach (look_of item.entry) how.Open line.now).units) }
     {
         let mut rest = line;
         'units: while !rest.is_empty() {

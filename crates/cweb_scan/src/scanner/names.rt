@@ -40,7 +40,8 @@ impl Scanner {
         begun: Place,
     ) -> Result<(), AllocError>
         requires { HasRoom 2 self.old }
-        ensures { OnOk result (self.new ≡ spec.occurrence is_file text.now how opens begun self.old) }
+        ensures { OnOk result
+            (self.new ≡ spec.occurrence is_file text.now how opens begun self.old) }
     {
         let name = self.add_occurrence(is_file, text)?;
         self.name_fault(how, begun)?;

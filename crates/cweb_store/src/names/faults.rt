@@ -79,7 +79,11 @@ fn add_standing_faults(
 // Adds a fault for each name that is a proper prefix of another.
 fn add_prefix_faults(faults: &mut Vec<NameFault>, names: &KnownNames) -> Result<(), AllocError>
     requires { length names.now < 2 ^ 32 }
-    ensures { OnOk result (faults.new.items ≡ faults.old.items ++ faults_where PrefixOfAnother (λ n text. is_prefix_of_another names.now text) names.now) }
+    ensures { OnOk result
+        (faults.new.items
+        ≡ faults.old.items
+        ++ faults_where PrefixOfAnother
+        (λ n text. is_prefix_of_another names.now text) names.now) }
 {
     for number in 0..names.len() as u32 {
         let fails = names.is_prefix(NameId(number))?;
@@ -103,7 +107,14 @@ fn add_missing_faults(
     present: &IndexSet<NameId>,
 ) -> Result<(), AllocError>
     requires { length names.now < 2 ^ 32 }
-    ensures { OnOk result (faults.new.items ≡ faults.old.items ++ faults_where NotPresent (λ n text. (list_any (is_id n) used.now.keys || list_any (is_id n) files.now.keys) && not (list_any (is_id n) present.now.keys)) names.now) }
+    ensures { OnOk result
+        (faults.new.items
+        ≡ faults.old.items
+        ++ faults_where NotPresent
+        (λ n text.
+        (list_any (is_id n) used.now.keys || list_any (is_id n) files.now.keys)
+        && not (list_any (is_id n) present.now.keys))
+        names.now) }
 {
     for number in 0..names.len() as u32 {
         let id = NameId(number);
@@ -119,7 +130,9 @@ fn is_missing(
     files: &IndexSet<NameId>,
     present: &IndexSet<NameId>,
 ) -> bool
-    ensures { result ≡ ((list_any (is_id id) used.now.keys || list_any (is_id id) files.now.keys) && not (list_any (is_id id) present.now.keys)) }
+    ensures { result
+        ≡ ((list_any (is_id id) used.now.keys || list_any (is_id id) files.now.keys)
+        && not (list_any (is_id id) present.now.keys)) }
 {
     (used.contains(&id) || files.contains(&id)) && !present.contains(&id)
 }
@@ -133,7 +146,9 @@ fn add_fault_if(
     kind: NameKind,
 ) -> Result<(), AllocError>
     requires { id.0 < length names.now }
-    ensures { OnOk result (option_map (λ n. faults.old.items ++ fault_if fails kind n.first) (slice_get names.now id.0) ≡ Some faults.new.items) }
+    ensures { OnOk result
+        (option_map (λ n. faults.old.items ++ fault_if fails kind n.first) (slice_get names.now id.0)
+        ≡ Some faults.new.items) }
 {
     if fails {
         let occurrence = NameRef(names.first(id));

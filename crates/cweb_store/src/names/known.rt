@@ -60,7 +60,8 @@ impl KnownNames {
     /// nothing.
     pub fn add(&mut self, text: &[u8], first: u32) -> Result<NameId, AllocError>
         requires { length self.old < 2 ^ 32 }
-        ensures number { IfOk result (λ id. id.0 ≡ position_or_len (bytes_eq text.now) (texts self.old)) }
+        ensures number { IfOk result
+            (λ id. id.0 ≡ position_or_len (bytes_eq text.now) (texts self.old)) }
         ensures added { OnOk result (self.new ≡ with_text first self.old text.now) }
         ensures err { OnErr result (self.new ≡ self.old) }
     {
@@ -88,8 +89,10 @@ impl KnownNames {
     /// refused call changes nothing.
     pub fn take(&mut self, text: &[u8], how: How, number: u32) -> Result<Found, AllocError>
         requires { length self.old < 2 ^ 32 }
-        ensures found { IfOk result (λ found. found ≡ early self.old (occurrence_of text.now how false)) }
-        ensures names { OnOk result (self.new ≡ with_name number self.old (occurrence_of text.now how false)) }
+        ensures found { IfOk result
+            (λ found. found ≡ early self.old (occurrence_of text.now how false)) }
+        ensures names { OnOk result
+            (self.new ≡ with_name number self.old (occurrence_of text.now how false)) }
         ensures err { OnErr result (self.new ≡ self.old) }
     {
         match how {
@@ -135,7 +138,9 @@ impl KnownNames {
     /// Whether a name is a proper prefix of another. Two names begin with one that is, itself and the other.
     pub fn is_prefix(&self, id: NameId) -> Result<bool, AllocError>
         requires { id.0 < length self.now }
-        ensures { IfOk result (λ is. option_map (λ n. is_prefix_of_another self.now n.text) (slice_get self.now id.0) ≡ Some is) }
+        ensures { IfOk result (λ is.
+            option_map (λ n. is_prefix_of_another self.now n.text) (slice_get self.now id.0)
+            ≡ Some is) }
     {
         let text = self.text(id);
         let from = Vec::from_slice(self.alloc, text)?;
@@ -147,7 +152,8 @@ impl KnownNames {
 // Adds a name that is new, and for which there is room.
 fn put_name(names: &mut IndexMap<Vec<u8>, u32>, text: Vec<u8>, first: u32)
     requires room { 0 < spare names.old }
-    ensures { names.new.entries ≡ insert_entry (λ x y. bytes_eq x.items y.items) names.old.entries text first }
+    ensures { names.new.entries
+        ≡ insert_entry (λ x y. bytes_eq x.items y.items) names.old.entries text first }
 {
     let _ = names.insert(text, first);
 }

@@ -42,7 +42,8 @@ pub fn add_name_at(
     standings: &[Result<NameId, NameKind>],
     occurrence: usize,
 ) -> Result<(), AllocError>
-    ensures { OnOk result (names.new.keys ≡ with_some names.old.keys (stands standings.now occurrence)) }
+    ensures { OnOk result
+        (names.new.keys ≡ with_some names.old.keys (stands standings.now occurrence)) }
 {
     if let Some(id) = name_at(standings, occurrence) {
         names.insert(id)?;

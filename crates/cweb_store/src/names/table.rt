@@ -69,7 +69,8 @@ impl NameTable {
     pub fn add(&mut self, name: &[u8], how: How, is_file: bool) -> Result<NameRef, AllocError>
         requires { length self.old + 1 < too_many }
         ensures number { IfOk result (λ name. name.0 ≡ length self.old) }
-        ensures added { OnOk result (self.new ≡ self.old ++ occurrence_of name.now how is_file ∷ []) }
+        ensures added { OnOk result
+            (self.new ≡ self.old ++ occurrence_of name.now how is_file ∷ []) }
         ensures err { OnErr result (self.new ≡ self.old) }
     {
         let text = Vec::from_slice(self.alloc, name)?;
@@ -109,7 +110,8 @@ impl NameTable {
     /// Puts the texts of the occurrences behind those of tokens, and answers how each is given.
     pub fn close(self, tokens: &mut ClosedTokens) -> Result<Vec<GivenAs>, AllocError>
         ensures given { IfOk result (λ all. all.items ≡ map given_as self) }
-        ensures texts { OnOk result (tokens.new ≡ with_texts (map occurrence_text self) tokens.old) }
+        ensures texts { OnOk result
+            (tokens.new ≡ with_texts (map occurrence_text self) tokens.old) }
     {
         let mut all = Vec::with_capacity(self.alloc, self.given.len())?;
         for given in &self.given {

@@ -82,7 +82,8 @@ impl Links {
     ) -> Result<Links, AllocError>
         requires few { length runs.now < too_many }
         requires known { (i : ℕ) → IfSome (stands standings.now i) (λ id. id.0 < names) }
-        ensures { IfOk result (λ links. AreLinked standings.now runs.now links.skips.items links.heads) }
+        ensures { IfOk result
+            (λ links. AreLinked standings.now runs.now links.skips.items links.heads) }
     {
         let mut skips = Vec::with_capacity(alloc, runs.len())?;
         let mut heads = Heads::none(alloc, names)?;

@@ -30,7 +30,9 @@ impl Model for PartList {
 
     ghost use Rattle.cweb_store.specs.Runs.{parts_in, AreRuns};
 
-    ghost view = { λ s. in_rooms (parts_in s.tokens.tokens s.runs.items s.current) s.tokens.room (vec_capacity s.runs) };
+    ghost view = { λ s.
+        in_rooms (parts_in s.tokens.tokens s.runs.items s.current)
+        s.tokens.room (vec_capacity s.runs) };
 
     ghost invariant = { λ s. AreRuns s.tokens.tokens s.runs.items s.current (vec_capacity s.runs) };
 }

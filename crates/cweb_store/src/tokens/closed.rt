@@ -72,7 +72,10 @@ impl ClosedTokens {
     ) -> Result<(), AllocError>
         requires ordered { part.first ≤ part.after }
         requires within { part.after ≤ length self.now.tokens }
-        ensures { OnOk result (used.new.keys ≡ used_from standings.now used.old.keys (slice_range self.now.tokens part.first part.after)) }
+        ensures { OnOk result
+            (used.new.keys
+            ≡ used_from standings.now used.old.keys
+            (slice_range self.now.tokens part.first part.after)) }
     {
         add_uses_of(
             &self.records[part.first as usize..part.after as usize],
@@ -100,7 +103,8 @@ impl ClosedTokens {
 
     /// How many bytes all texts have.
     pub fn text_bytes(&self) -> usize
-        ensures texts { AreInOneList result (flat_map token_texts self.now.tokens ++ self.now.others) }
+        ensures texts { AreInOneList result
+            (flat_map token_texts self.now.tokens ++ self.now.others) }
         ensures once { result ≡ token_bytes_kept self.now.tokens + total length self.now.others }
     {
         self.texts.text_bytes()

@@ -23,8 +23,10 @@ pub enum Trailing {
 /// The number after the last token of an open part that isn't layout. A macro's first two tokens are never layout.
 pub fn end_before_layout(tokens: &TokenList, current: Open) -> usize
     requires { current.first ≤ length tokens.now.tokens }
-    ensures part { open_in (take result tokens.now.tokens) current ≡ without_layout (open_in tokens.now.tokens current) }
-    ensures texts { filter has_text (take result tokens.now.tokens) ≡ filter has_text tokens.now.tokens }
+    ensures part { open_in (take result tokens.now.tokens) current
+        ≡ without_layout (open_in tokens.now.tokens current) }
+    ensures texts { filter has_text (take result tokens.now.tokens)
+        ≡ filter has_text tokens.now.tokens }
     ensures begins { current.first ≤ result }
     ensures within { result ≤ length tokens.now.tokens }
 {
@@ -35,8 +37,10 @@ pub fn end_before_layout(tokens: &TokenList, current: Open) -> usize
 /// The number after the last token that an open part has when it is closed.
 pub fn end_at_close(tokens: &TokenList, current: Open) -> usize
     requires { current.first ≤ length tokens.now.tokens }
-    ensures part { open_in (take result tokens.now.tokens) current ≡ at_close (open_in tokens.now.tokens current) }
-    ensures texts { filter has_text (take result tokens.now.tokens) ≡ filter has_text tokens.now.tokens }
+    ensures part { open_in (take result tokens.now.tokens) current
+        ≡ at_close (open_in tokens.now.tokens current) }
+    ensures texts { filter has_text (take result tokens.now.tokens)
+        ≡ filter has_text tokens.now.tokens }
     ensures begins { current.first ≤ result }
     ensures within { result ≤ length tokens.now.tokens }
 {
@@ -50,8 +54,10 @@ pub fn end_at_close(tokens: &TokenList, current: Open) -> usize
 
 // The number after the last token that isn't dropped, of those from a number on.
 fn end_before(tokens: &TokenList, from: usize, trailing: Trailing) -> usize
-    ensures kept { take result tokens.now.tokens ≡ without_last_after from (is_dropped trailing) tokens.now.tokens }
-    ensures texts { filter has_text (take result tokens.now.tokens) ≡ filter has_text tokens.now.tokens }
+    ensures kept { take result tokens.now.tokens
+        ≡ without_last_after from (is_dropped trailing) tokens.now.tokens }
+    ensures texts { filter has_text (take result tokens.now.tokens)
+        ≡ filter has_text tokens.now.tokens }
     ensures begins { (n : ℕ) → n ≤ from → n ≤ length tokens.now.tokens → n ≤ result }
     ensures within { result ≤ length tokens.now.tokens }
 {
@@ -77,8 +83,10 @@ fn is_dropped(token: Token<'_>, trailing: Trailing) -> bool
 fn end_before_blank(tokens: &TokenList, from: usize, end: usize) -> usize
     requires begins { from ≤ end }
     requires within { end ≤ length tokens.now.tokens }
-    ensures kept { drop from (take result tokens.now.tokens) ≡ without_blank (drop from (take end tokens.now.tokens)) }
-    ensures texts { filter has_text (take result tokens.now.tokens) ≡ filter has_text (take end tokens.now.tokens) }
+    ensures kept { drop from (take result tokens.now.tokens)
+        ≡ without_blank (drop from (take end tokens.now.tokens)) }
+    ensures texts { filter has_text (take result tokens.now.tokens)
+        ≡ filter has_text (take end tokens.now.tokens) }
     ensures begins { from ≤ result }
     ensures within { result ≤ end }
 {

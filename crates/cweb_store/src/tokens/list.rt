@@ -28,7 +28,11 @@ impl Model for TokenList {
     ghost use Rattle.cweb_store.specs.Packed.{token_in};
     ghost use Rattle.cweb_store.specs.ClosedTokens.{AreTokens};
 
-    ghost view = { λ s. record { tokens = map (token_in s.texts.texts) s.records.items; room = vec_capacity s.records } };
+    ghost view = { λ s.
+        record {
+          tokens = map (token_in s.texts.texts) s.records.items;
+          room = vec_capacity s.records;
+        } };
 
     ghost invariant = { λ s. AreTokens s.texts s.records.items };
 }

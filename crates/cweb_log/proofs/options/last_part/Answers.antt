@@ -9,4 +9,5 @@ returns-in-Some c =
     c.range_from.ensures.value ∙ sym (after_found 47 c.args.word.now c.in-Some.slash found.0 found.1 found.2)
 
 pub returns-in-None : goal.returns-in-None
-returns-in-None c = sym (after_none 47 c.args.word.now (rfind_char 47 c.args.word.now None c.in-None.ensures.cases (omega arith)))
+returns-in-None c =
+    sym (after_none 47 c.args.word.now (rfind_char 47 c.args.word.now None c.in-None.ensures.cases (omega arith)))

@@ -9,4 +9,6 @@ pub returns : goal.returns
 returns c = c.first_len.ensures ∙ sym ((longest-le listed c.args.text.now 3 refl).2)
 
 pub returns-then-not-may_be_listed : goal.returns-then-not-may_be_listed
-returns-then-not-may_be_listed c = sym (longest-none (is_one_of seconds) listed c.args.text.now refl (sym c.may_be_listed.ensures ∙ c.if-not-may_be_listed.true))
+returns-then-not-may_be_listed c =
+    sym (longest-none (is_one_of seconds) listed c.args.text.now refl
+    (sym c.may_be_listed.ensures ∙ c.if-not-may_be_listed.true))

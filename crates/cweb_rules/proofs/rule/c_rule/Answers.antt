@@ -4,7 +4,9 @@ use Rattle.cweb_rules.proofs.FirstBytes.{told-at}
 use Rattle.cweb_rules.proofs.rule.c_rule.Goals as goal
 
 pub returns-in-Word : goal.returns-in-Word
-returns-in-Word c = told-at c.args.includes c.args.text.now first.Word c.in-len1-up.len_at_least (sym c.in-Word.is ∙ c.lead_of.ensures)
+returns-in-Word c =
+    told-at c.args.includes c.args.text.now first.Word c.in-len1-up.len_at_least (sym c.in-Word.is ∙ c.lead_of.ensures)
 
 pub returns-in-Sign : goal.returns-in-Sign
-returns-in-Sign c = told-at c.args.includes c.args.text.now first.Sign c.in-len1-up.len_at_least (sym c.in-Sign.is ∙ c.lead_of.ensures)
+returns-in-Sign c =
+    told-at c.args.includes c.args.text.now first.Sign c.in-len1-up.len_at_least (sym c.in-Sign.is ∙ c.lead_of.ensures)

@@ -12,4 +12,5 @@ returns c =
     c.is_closed.ensures ∙ ap (λ (r : Reached). is_closed r.how) c.reach.ensures.value
     ∙ ap (λ t. is_closed (reach look_in_include Open t).how) c.split_at.ensures.back
     ∙ sym (closed_same look_in_include (drop 1 c.args.text.now))
-    ∙ ap (λ v. v && is_closed (reach look_in_include Cut (drop 1 c.args.text.now)).how) (sym c.if-not-begins.false ∙ c.begins.ensures.value)
+    ∙ ap (λ v. v && is_closed (reach look_in_include Cut (drop 1 c.args.text.now)).how)
+    (sym c.if-not-begins.false ∙ c.begins.ensures.value)

@@ -27,7 +27,8 @@ lines-init g c = record {
 }
 
 grows_then : (a b c : SoFar) → KeepsTold a b → Grows b c → Grows a c
-grows_then a b c told grows = record { told = told_then a b c told grows.told; lines = grows.lines; bytes = grows.bytes }
+grows_then a b c told grows =
+    record { told = told_then a b c told grows.told; lines = grows.lines; bytes = grows.bytes }
 
 grows_to : (a b c : SoFar) → c ≡ b → Grows a b → Grows a c
 grows_to a b c same grows = subst (λ (s : SoFar). Grows a s) (sym same) grows
@@ -36,18 +37,21 @@ pub returns-in-Err-clause-grows : goal.returns-in-Err-clause-grows
 returns-in-Err-clause-grows g c = grows_then _ _ _ c.lines.invariant.told c.in-Err.ensures.grows
 
 pub returns-in-Err-take_line-clause-grows : goal.returns-in-Err-take_line-clause-grows
-returns-in-Err-take_line-clause-grows g c = grows_to _ _ _ c.halt.ensures.so_far (grows_then _ _ _ c.lines.invariant.told c.in-Ok.ensures.grows)
+returns-in-Err-take_line-clause-grows g c =
+    grows_to _ _ _ c.halt.ensures.so_far (grows_then _ _ _ c.lines.invariant.told c.in-Ok.ensures.grows)
 
 pub returns-in-Ok-finished-clause-grows : goal.returns-in-Ok-finished-clause-grows
 returns-in-Ok-finished-clause-grows g c = grows_then _ _ _ c.lines.invariant.told c.in-Ok.ensures.grows
 
 pub returns-clause-grows : goal.returns-clause-grows
-returns-clause-grows g c = grows_to _ _ _ c.halt-in-Err-finished.ensures.so_far (grows_then _ _ _ c.lines.invariant.told c.in-Ok.ensures.grows)
+returns-clause-grows g c =
+    grows_to _ _ _ c.halt-in-Err-finished.ensures.so_far (grows_then _ _ _ c.lines.invariant.told c.in-Ok.ensures.grows)
 
 -- the merger stopped
 pub returns-in-Err-clause-stops : goal.returns-in-Err-clause-stops
 returns-in-Err-clause-stops g c = λ tells before.
-    ends_early _ _ _ _ _ _ _ (c.lines.invariant.taken.gives tells) (c.in-Err.ensures.stops (keeps_told g.S.Shelf _ _ c.lines.invariant.keeps tells) c.lines.invariant.running)
+    ends_early _ _ _ _ _ _ _ (c.lines.invariant.taken.gives tells)
+    (c.in-Err.ensures.stops (keeps_told g.S.Shelf _ _ c.lines.invariant.keeps tells) c.lines.invariant.running)
 
 pub returns-in-Err-clause-blames : goal.returns-in-Err-clause-blames
 returns-in-Err-clause-blames g c = λ before.
@@ -61,8 +65,12 @@ returns-in-Err-clause-blames g c = λ before.
 -- memory was refused for a line
 pub returns-in-Err-take_line-clause-stops : goal.returns-in-Err-take_line-clause-stops
 returns-in-Err-take_line-clause-stops g c = λ tells before.
-    let next = rw c.in-Some-next.is at (c.in-Ok.ensures.next (keeps_told g.S.Shelf _ _ c.lines.invariant.keeps tells)) in
-    subst (λ (stop : Stop). EndsEarly stop (so_far c.args.merger.now) (so_far c.halt.new.self) (to_come g.S.Shelf c.args.shelf.now c.args.merger.now)) (sym (c.halt.ensures.stop c.in-Ok.ensures.leaves.running))
+    let next =
+    rw c.in-Some-next.is at (c.in-Ok.ensures.next (keeps_told g.S.Shelf _ _ c.lines.invariant.keeps tells)) in
+    subst (λ (stop : Stop).
+    EndsEarly stop (so_far c.args.merger.now) (so_far c.halt.new.self)
+    (to_come g.S.Shelf c.args.shelf.now c.args.merger.now))
+    (sym (c.halt.ensures.stop c.in-Ok.ensures.leaves.running))
     (refused _ _ _ _ _ _ c.halt.ensures.so_far (gives_both _ _ _ _ _ _ _ _ (c.lines.invariant.taken.gives tells) next))
 
 pub lines-preserved : goal.lines-preserved
@@ -71,17 +79,35 @@ lines-preserved g c =
     record {
       keeps = keeps_then g.S.Shelf _ _ _ c.lines.invariant.keeps c.in-Ok.ensures.keeps;
       failed = search rules;
-      readers = λ tells known. c.in-Ok.ensures.readers (keeps_told g.S.Shelf _ _ c.lines.invariant.keeps tells) (c.lines.invariant.readers tells known);
+      readers = λ tells known.
+          c.in-Ok.ensures.readers (keeps_told g.S.Shelf _ _ c.lines.invariant.keeps tells)
+          (c.lines.invariant.readers tells known);
       blamed = λ tells known.
-          c.in-Ok.ensures.blamed (keeps_told g.S.Shelf _ _ c.lines.invariant.keeps tells) (c.lines.invariant.readers tells known) c.lines.invariant.running ∙ c.lines.invariant.blamed tells known;
+          c.in-Ok.ensures.blamed (keeps_told g.S.Shelf _ _ c.lines.invariant.keeps tells)
+          (c.lines.invariant.readers tells known) c.lines.invariant.running ∙ c.lines.invariant.blamed tells known;
       running = c.in-Ok.ensures.leaves.running;
       before = c.lines.invariant.before;
       told = told_then _ _ _ c.lines.invariant.told c.in-Ok.ensures.grows.told;
-      taken = given_line_taken _ _ _ _ _ _ _ _ _ (record { bytes = c.next_line.new.line.items; place = c.in-Some-next.place }) c.lines.invariant.taken given (told_files _ _ c.in-Ok.ensures.grows.told)
-          (λ more. subst (λ (bytes : List ℕ). read_after c.take_line.new.self more ≡ read_after c.lines.reader (record { bytes = bytes; place = c.in-Some-next.place } ∷ more))
+      taken =
+          given_line_taken _ _ _ _ _ _ _ _ _
+          (record { bytes = c.next_line.new.line.items; place = c.in-Some-next.place })
+          c.lines.invariant.taken given (told_files _ _ c.in-Ok.ensures.grows.told)
+          (λ more.
+          subst (λ (bytes : List ℕ).
+          read_after c.take_line.new.self more
+          ≡ read_after c.lines.reader (record { bytes = bytes; place = c.in-Some-next.place } ∷ more))
           c.deref.ensures.value (c.in_default-take_line.ensures.read more))
-          (λ tells. rw c.in-Some-next.is at (c.in-Ok.ensures.next (keeps_told g.S.Shelf _ _ c.lines.invariant.keeps tells)));
-      room = omega (arith, c.in_default-take_line.ensures.cost, c.deref.ensures.len, c.lines.invariant.room, given.lines, given.bytes_are);
+          (λ tells.
+          rw c.in-Some-next.is at (c.in-Ok.ensures.next (keeps_told g.S.Shelf _ _ c.lines.invariant.keeps tells)));
+      room =
+          omega (
+            arith,
+            c.in_default-take_line.ensures.cost,
+            c.deref.ensures.len,
+            c.lines.invariant.room,
+            given.lines,
+            given.bytes_are,
+          );
     }
 
 -- whom a stop blames
@@ -89,9 +115,11 @@ pub returns-in-Err-clause-blamed : goal.returns-in-Err-clause-blamed
 returns-in-Err-clause-blamed g c = λ tells known before.
     let inv = c.lines.invariant in
     c.in-Err.ensures.blamed (keeps_told g.S.Shelf _ _ inv.keeps tells) (inv.readers tells known) inv.running
-    ∙ ap (λ (names : List (List ℕ)). names ++ blame (so_far c.next_line.new.self).names c.in-Err.stop) (inv.blamed tells known)
+    ∙ ap (λ (names : List (List ℕ)). names ++ blame (so_far c.next_line.new.self).names c.in-Err.stop)
+    (inv.blamed tells known)
 
-none_blamed : (names before now : List (List ℕ)) (stop : Stop) → stop ≡ Memory → now ≡ before → now ≡ before ++ blame names stop
+none_blamed : (names before now : List (List ℕ)) (stop : Stop)
+    → stop ≡ Memory → now ≡ before → now ≡ before ++ blame names stop
 none_blamed names before now stop is same =
     subst (λ (s : Stop). now ≡ before ++ blame names s) (sym is) (same ∙ sym (append-nil before))
 
@@ -99,35 +127,45 @@ pub returns-in-Err-take_line-clause-blamed : goal.returns-in-Err-take_line-claus
 returns-in-Err-take_line-clause-blamed g c = λ tells known before.
     let inv = c.lines.invariant in
     none_blamed _ _ _ _ (c.halt.ensures.stop c.in-Ok.ensures.leaves.running)
-    (c.in-Ok.ensures.blamed (keeps_told g.S.Shelf _ _ inv.keeps tells) (inv.readers tells known) inv.running ∙ inv.blamed tells known)
+    (c.in-Ok.ensures.blamed (keeps_told g.S.Shelf _ _ inv.keeps tells) (inv.readers tells known) inv.running
+    ∙ inv.blamed tells known)
 
 pub returns-in-Ok-finished-clause-blamed : goal.returns-in-Ok-finished-clause-blamed
 returns-in-Ok-finished-clause-blamed g c = λ tells known before.
     let inv = c.lines.invariant in
-    c.in-Ok.ensures.blamed (keeps_told g.S.Shelf _ _ inv.keeps tells) (inv.readers tells known) inv.running ∙ inv.blamed tells known
+    c.in-Ok.ensures.blamed (keeps_told g.S.Shelf _ _ inv.keeps tells) (inv.readers tells known) inv.running
+    ∙ inv.blamed tells known
 
 pub returns-clause-blamed : goal.returns-clause-blamed
 returns-clause-blamed g c = λ tells known before.
     let inv = c.lines.invariant in
     none_blamed _ _ _ _ (c.halt-in-Err-finished.ensures.stop c.in-Ok.ensures.leaves.running)
-    (c.in-Ok.ensures.blamed (keeps_told g.S.Shelf _ _ inv.keeps tells) (inv.readers tells known) inv.running ∙ inv.blamed tells known)
+    (c.in-Ok.ensures.blamed (keeps_told g.S.Shelf _ _ inv.keeps tells) (inv.readers tells known) inv.running
+    ∙ inv.blamed tells known)
 
 -- no line is left
 pub returns-in-Ok-finished-clause-scans : goal.returns-in-Ok-finished-clause-scans
 returns-in-Ok-finished-clause-scans g c = λ tells.
-    let next = rw c.in_default-next.is at (c.in-Ok.ensures.next (keeps_told g.S.Shelf _ _ c.lines.invariant.keeps tells)) in
+    let next =
+    rw c.in_default-next.is at (c.in-Ok.ensures.next (keeps_told g.S.Shelf _ _ c.lines.invariant.keeps tells)) in
     let taken = c.lines.invariant.taken in
-    all_scanned _ _ _ _ _ _ _ c.lines.reader _ taken.read_is taken.few (taken.gives tells) c.in-Ok-finished.ensures next.0 next.1
+    all_scanned _ _ _ _ _ _ _ c.lines.reader _ taken.read_is taken.few
+    (taken.gives tells) c.in-Ok-finished.ensures next.0 next.1
 
 pub returns-in-Ok-finished-clause-within : goal.returns-in-Ok-finished-clause-within
 returns-in-Ok-finished-clause-within g c =
     let limits = c.lines.merger.run.limits in
-    all_within _ _ _ _ _ _ c.lines.reader _ c.lines.invariant.taken c.in-Ok-finished.ensures (told_files _ _ c.in-Ok.ensures.grows.told) limits.small limits.few
+    all_within _ _ _ _ _ _ c.lines.reader _ c.lines.invariant.taken c.in-Ok-finished.ensures
+    (told_files _ _ c.in-Ok.ensures.grows.told) limits.small limits.few
 
 -- memory was refused for the store
 pub returns-clause-stops : goal.returns-clause-stops
 returns-clause-stops g c = λ tells before.
-    let next = rw c.in_default-next.is at (c.in-Ok.ensures.next (keeps_told g.S.Shelf _ _ c.lines.invariant.keeps tells)) in
+    let next =
+    rw c.in_default-next.is at (c.in-Ok.ensures.next (keeps_told g.S.Shelf _ _ c.lines.invariant.keeps tells)) in
     let halt = c.halt-in-Err-finished in
-    subst (λ (stop : Stop). EndsEarly stop (so_far c.args.merger.now) (so_far halt.new.self) (to_come g.S.Shelf c.args.shelf.now c.args.merger.now)) (sym (halt.ensures.stop c.in-Ok.ensures.leaves.running))
+    subst (λ (stop : Stop).
+    EndsEarly stop (so_far c.args.merger.now) (so_far halt.new.self)
+    (to_come g.S.Shelf c.args.shelf.now c.args.merger.now))
+    (sym (halt.ensures.stop c.in-Ok.ensures.leaves.running))
     (refused _ _ _ _ _ _ halt.ensures.so_far (gives_both _ [] _ _ _ _ _ _ (c.lines.invariant.taken.gives tells) next.0))

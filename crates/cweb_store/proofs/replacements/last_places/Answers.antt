@@ -5,7 +5,11 @@ use Rattle.cweb_store.specs.Stored.{last_from}
 use Rattle.cweb_store.proofs.replacements.last_places.Goals as goal
 
 pub loop-i-init : goal.loop-i-init
-loop-i-init c = record { all = refl; last = λ byte h. ap (λ found. last_from byte found 0 c.args.bytes.now) (get_or-replicate 256 byte None None h) }
+loop-i-init c =
+    record {
+      all = refl;
+      last = λ byte h. ap (λ found. last_from byte found 0 c.args.bytes.now) (get_or-replicate 256 byte None None h);
+    }
 
 pub returns : goal.returns
 returns c = λ byte h.

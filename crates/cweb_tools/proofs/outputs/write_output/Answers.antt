@@ -5,4 +5,5 @@ pub returns-in-Err-clause-does : goal.returns-in-Err-clause-does
 returns-in-Err-clause-does g c = both_fails _ _ _ _ _ _ (rw c.output_name-name.ensures at c.in-Err.ensures)
 
 pub returns-clause-does : goal.returns-clause-does
-returns-clause-does g c = both_on _ _ _ _ _ _ _ (rw c.output_name-name.ensures at c.in_default.ensures) c.write_file.ensures.does
+returns-clause-does g c =
+    both_on _ _ _ _ _ _ _ (rw c.output_name-name.ensures at c.in_default.ensures) c.write_file.ensures.does

@@ -3,4 +3,5 @@ use Rattle.cweb_log.specs.Options.{letters_shown}
 use Rattle.cweb_log.proofs.shown.Shown.with_letters.Given as goal
 
 abbrev pub invariant-letters : goal.invariant-letters
-invariant-letters l = letters_shown l.on (drop l.letter-index l.letters) l.shown ≡ letters_shown l.on l.letters l.fn.self
+invariant-letters l =
+    letters_shown l.on (drop l.letter-index l.letters) l.shown ≡ letters_shown l.on l.letters l.fn.self

@@ -7,14 +7,19 @@ use Rattle.cweb_out.specs.Frames.{IsRun, runs_tokens}
 use Rattle.cweb_out.proofs.Stack.{Entered, entered}
 use Rattle.cweb_out.proofs.expander.Expander.enter.Goals as goal
 
-abbrev all : (c : goal.After-put) → Entered c.args.self.now.store.now c.args.self.now.frames.items c.put.new.self.frames.items c.args.name (vec_capacity c.put.new.self.frames)
+abbrev all : (c : goal.After-put)
+    → Entered c.args.self.now.store.now c.args.self.now.frames.items
+    c.put.new.self.frames.items c.args.name (vec_capacity c.put.new.self.frames)
 all c =
     let w : Stored = c.args.self.now.store.now in
     let h : c.parts-rest.result ≡ c.in-Some-next.part ∷ c.next.new.self = c.in-Some-next.ensures.steps in
     let e : stands w c.args.name ≡ Some c.in-Some.id = sym c.standing.ensures.name ∙ c.in-Some.is in
-    let text : runs_tokens w (c.in-Some-next.part ∷ c.next.new.self) ≡ joined w c.in-Some.id = ap (runs_tokens w) (sym h) ∙ c.parts-rest.ensures.text in
-    let within : All (IsRun (length (all_tokens w.parts))) (c.in-Some-next.part ∷ c.next.new.self) = subst (All (IsRun (length (all_tokens w.parts)))) h c.parts-rest.ensures.within in
-    entered w c.args.self.now.frames.items c.put.new.self.frames.items c.args.name c.in-Some.id (vec_capacity c.args.self.now.frames) (vec_capacity c.put.new.self.frames) c.in-Some-next.part c.next.new.self
+    let text : runs_tokens w (c.in-Some-next.part ∷ c.next.new.self) ≡ joined w c.in-Some.id =
+    ap (runs_tokens w) (sym h) ∙ c.parts-rest.ensures.text in
+    let within : All (IsRun (length (all_tokens w.parts))) (c.in-Some-next.part ∷ c.next.new.self) =
+    subst (All (IsRun (length (all_tokens w.parts)))) h c.parts-rest.ensures.within in
+    entered w c.args.self.now.frames.items c.put.new.self.frames.items c.args.name c.in-Some.id
+    (vec_capacity c.args.self.now.frames) (vec_capacity c.put.new.self.frames) c.in-Some-next.part c.next.new.self
     c.requires.stands c.put.ensures.room c.requires.below c.requires.lower e text within c.put.ensures.frames
 
 pub returns-clause-stands : goal.returns-clause-stands

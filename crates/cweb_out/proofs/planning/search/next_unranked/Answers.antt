@@ -16,6 +16,9 @@ tokens-preserved-else-not-is_ranked c =
     record {
       within = c.take.ensures.within;
       shorter = omega (arith, ap length e, c.tokens.invariant.shorter);
-      passes = passes-more w marks (suffix w c.args.text.now) (suffix w c.tokens.text) (suffix w c.take.new.self) (seen c.in-Some.token) c.tokens.invariant.passes e
-          (ap (list_all (is_marked marks)) (sym c.used_name.ensures.name ∙ ap option_to_list c.in-Some-used_name.is) ∙ ap (λ b. b && true) ranked);
+      passes =
+          passes-more w marks (suffix w c.args.text.now) (suffix w c.tokens.text)
+          (suffix w c.take.new.self) (seen c.in-Some.token) c.tokens.invariant.passes e
+          (ap (list_all (is_marked marks)) (sym c.used_name.ensures.name ∙ ap option_to_list c.in-Some-used_name.is)
+          ∙ ap (λ b. b && true) ranked);
     }

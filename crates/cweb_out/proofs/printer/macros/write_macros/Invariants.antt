@@ -12,7 +12,8 @@ invariant-macros g l = record {
   beside : IsTrue (g.W.Sink.tells l.fn.out) → g.W.Sink.beside l.out ≡ g.W.Sink.beside l.fn.out;
   ordered : All (λ p. p.first ≤ p.after) l.parts;
   within : All (λ p. p.after ≤ length (all_tokens l.store.parts)) l.parts;
-  written : IsTrue (g.W.Sink.tells l.fn.out) → Written (g.W.Sink.written l.fn.out) (g.W.Sink.written l.out) (all_lines l.store) (lines l.store l.parts);
+  written : IsTrue (g.W.Sink.tells l.fn.out)
+      → Written (g.W.Sink.written l.fn.out) (g.W.Sink.written l.out) (all_lines l.store) (lines l.store l.parts);
 }
 
 abbrev pub decreases-macros : goal.decreases-macros

@@ -14,5 +14,6 @@ returns-clause-made c =
 
 pub returns-clause-room : goal.returns-clause-room
 returns-clause-room c =
-    let ended = ap (λ (h : Held). weight h.state) c.reader-2.view_is ∙ ap (λ (s : State). weight s) c.in_ok-end_text.ensures in
+    let ended =
+    ap (λ (h : Held). weight h.state) c.reader-2.view_is ∙ ap (λ (s : State). weight s) c.in_ok-end_text.ensures in
     omega (arith, ended, text_ended-weight c.args.self.item c.args.self.state)

@@ -15,5 +15,6 @@ returns c =
       some = omega arith;
       within = refl;
       taken = takes_at 2 c.args.rest.now _ _ c.self.view_is c.requires.between (opened s g (InName s.here false [])) _
-          (λ i. opened s g (InName (sym c.here.ensures i) false (sym c.clear.ensures.items i))) (name_opens s g c.args.rest.now head reads c.requires.sign);
+          (λ i. opened s g (InName (sym c.here.ensures i) false (sym c.clear.ensures.items i)))
+          (name_opens s g c.args.rest.now head reads c.requires.sign);
     }

@@ -10,7 +10,8 @@ use Rattle.cweb_scan.proofs.reader.Reader.open_raw.Goals as goal
 pub split_at-requires-2 : goal.split_at-requires-2
 split_at-requires-2 c =
     let name = c.delimiter-name.ensures ∙ ap delimiter c.split_at.ensures.back in
-    raw_fits_at c.args.rest.now c.raw_prefix-start.result c.delimiter-name.result.now c.raw_prefix-start.ensures.value name c.requires.sign
+    raw_fits_at c.args.rest.now c.raw_prefix-start.result c.delimiter-name.result.now
+    c.raw_prefix-start.ensures.value name c.requires.sign
 
 pub invariant_of-self-2 : goal.invariant_of-self-2
 invariant_of-self-2 c =
@@ -24,7 +25,8 @@ invariant_of-self-2 c =
     ∙ (λ i. c.in_ok-extend_from_slice-3.ensures.items i ++ 34 ∷ [])
     ∙ (λ i. (c.in_ok-push.ensures.items i ++ d) ++ 34 ∷ [])
     ∙ (λ i. ((c.clear-3.ensures.items i ++ 41 ∷ []) ++ d) ++ 34 ∷ []) in
-    raw_signed s.context c.here.result (drop (c.raw_prefix-start.result + 2) c.args.rest.now) d _ _ name kept sign (literals_in_part s.context reads)
+    raw_signed s.context c.here.result (drop (c.raw_prefix-start.result + 2) c.args.rest.now)
+    d _ _ name kept sign (literals_in_part s.context reads)
 
 pub returns : goal.returns
 returns c =
@@ -36,12 +38,14 @@ returns c =
     let d = c.delimiter-name.result.now in
     let name = c.delimiter-name.ensures ∙ ap delimiter c.split_at.ensures.back in
     let n = p + 2 + length d + 1 in
-    let text = c.in_ok-extend_from_slice.ensures.items ∙ (λ i. c.clear.ensures.items i ++ c.split_at-2.ensures.front i) in
+    let text =
+    c.in_ok-extend_from_slice.ensures.items ∙ (λ i. c.clear.ensures.items i ++ c.split_at-2.ensures.front i) in
     let kept = c.in_ok-extend_from_slice-2.ensures.items ∙ (λ i. c.clear-2.ensures.items i ++ d) in
     record {
       some = omega arith;
       within = refl;
       taken = takes_at n u _ _ c.self.view_is c.requires.between (opened s g (InRaw s.here d (take n u))) _
           (λ i. opened s g (InRaw (sym c.here.ensures i) (sym kept i) (sym text i)))
-          (raw_opens_at s g u p d c.raw_prefix-start.ensures.value name reads c.requires.line c.requires.past c.requires.sign);
+          (raw_opens_at s g u p d c.raw_prefix-start.ensures.value name
+          reads c.requires.line c.requires.past c.requires.sign);
     }

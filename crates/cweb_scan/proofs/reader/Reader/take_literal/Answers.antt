@@ -19,8 +19,10 @@ returns c =
     let quote = quote_byte c.args.quote in
     let look = c.look-look.result in
     let seen = ap (λ (q : ℕ). look_in_literal q u) (sym c.byte.ensures) ∙ sym c.look-look.ensures.value in
-    turn_at c.in_ok-size.size look c.args.begun u h _ (InLiteral c.args.begun quote (text_of h.item)) c.requires.open c.in_ok-size.ensures.size c.in_ok-size.ensures.turn
-    (literal_takes h.state h.begun c.args.begun quote (text_of h.item) look u c.look-look.ensures.some c.requires.line c.requires.some seen (subst (λ k. k ≤ length u) c.in_ok-size.ensures.size c.in_ok-size.ensures.within))
+    turn_at c.in_ok-size.size look c.args.begun u h _ (InLiteral c.args.begun quote (text_of h.item))
+    c.requires.open c.in_ok-size.ensures.size c.in_ok-size.ensures.turn
+    (literal_takes h.state h.begun c.args.begun quote (text_of h.item) look u c.look-look.ensures.some c.requires.line
+    c.requires.some seen (subst (λ k. k ≤ length u) c.in_ok-size.ensures.size c.in_ok-size.ensures.within))
 
 pub returns-then-plain-gt0 : goal.returns-then-plain-gt0
 returns-then-plain-gt0 c =

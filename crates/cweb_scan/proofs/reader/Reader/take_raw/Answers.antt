@@ -11,7 +11,8 @@ use Rattle.cweb_scan.proofs.Runs.{run_at, raw_run}
 use Rattle.cweb_scan.proofs.reader.Reader.take_raw.Goals as goal
 
 pub turn_literal-requires-clause-fits : goal.turn_literal-requires-clause-fits
-turn_literal-requires-clause-fits c = raw_fits c.deref-2.result.now c.look-look.result c.args.rest.now c.look-look.ensures.value c.requires.some
+turn_literal-requires-clause-fits c =
+    raw_fits c.deref-2.result.now c.look-look.result c.args.rest.now c.look-look.ensures.value c.requires.some
 
 pub returns : goal.returns
 returns c =
@@ -21,10 +22,15 @@ returns c =
     let d = delimiter_of h.item in
     let us = text_of h.item in
     let look = c.look-look.result in
-    let kept = sign_kept r.item r.scanner.context r.delimiter.items r.text.items r.sign.items h c.args.begun (ap (λ (k : Held). k.item) c.self.view_is) c.requires.open c.self.invariant in
-    let seen = ap (λ (x : List ℕ). look_in_raw x u) (sym (c.deref-2.ensures.value ∙ kept.0)) ∙ sym c.look-look.ensures.value in
-    turn_at c.in_ok-size.size look c.args.begun u h _ (InRaw c.args.begun d us) c.requires.open c.in_ok-size.ensures.size c.in_ok-size.ensures.turn
-    (raw_takes h.state h.begun c.args.begun d us look u c.look-look.ensures.some kept.1 c.requires.line c.requires.some seen (subst (λ k. k ≤ length u) c.in_ok-size.ensures.size c.in_ok-size.ensures.within))
+    let kept =
+    sign_kept r.item r.scanner.context r.delimiter.items r.text.items r.sign.items h c.args.begun
+    (ap (λ (k : Held). k.item) c.self.view_is) c.requires.open c.self.invariant in
+    let seen =
+    ap (λ (x : List ℕ). look_in_raw x u) (sym (c.deref-2.ensures.value ∙ kept.0)) ∙ sym c.look-look.ensures.value in
+    turn_at c.in_ok-size.size look c.args.begun u h _ (InRaw c.args.begun d us)
+    c.requires.open c.in_ok-size.ensures.size c.in_ok-size.ensures.turn
+    (raw_takes h.state h.begun c.args.begun d us look u c.look-look.ensures.some kept.1 c.requires.line
+    c.requires.some seen (subst (λ k. k ≤ length u) c.in_ok-size.ensures.size c.in_ok-size.ensures.within))
 
 pub returns-then-plain-gt0 : goal.returns-then-plain-gt0
 returns-then-plain-gt0 c =
@@ -33,7 +39,11 @@ returns-then-plain-gt0 c =
     let u = c.args.rest.now in
     let d = delimiter_of h.item in
     let n = c.plain_len-plain.result in
-    let kept = sign_kept r.item r.scanner.context r.delimiter.items r.text.items r.sign.items h c.args.begun (ap (λ (k : Held). k.item) c.self.view_is) c.requires.open c.self.invariant in
-    let is = c.plain_len-plain.ensures.value ∙ ap (λ (x : List ℕ). prefix_len (λ b. not (is_raw_sign x b)) u) (c.deref.ensures.value ∙ kept.0) in
+    let kept =
+    sign_kept r.item r.scanner.context r.delimiter.items r.text.items r.sign.items h c.args.begun
+    (ap (λ (k : Held). k.item) c.self.view_is) c.requires.open c.self.invariant in
+    let is =
+    c.plain_len-plain.ensures.value
+    ∙ ap (λ (x : List ℕ). prefix_len (λ b. not (is_raw_sign x b)) u) (c.deref.ensures.value ∙ kept.0) in
     run_at n u h _ (λ (x : List ℕ). InRaw c.args.begun d x) c.requires.open c.in_ok-take_run.ensures refl
     (raw_run h.state h.begun c.args.begun d (text_of h.item) n u kept.1 c.requires.line c.if-plain-gt0.true is)

@@ -12,8 +12,19 @@ loop-number-preserved c =
     let number = c.loop-number.number in
     let within : number < length ns = omega (arith, c.loop-number-test.true, c.len-number-end.ensures) in
     let f = front_at ns number within in
-    let test : option_map (λ (n : Name). (list_any (is_id (id number)) c.args.used.now.keys || list_any (is_id (id number)) c.args.files.now.keys) && not (list_any (is_id (id number)) c.args.present.now.keys)) (slice_get ns number) ≡ Some c.is_missing-fails.result =
-    ap (option_map (λ (n : Name). (list_any (is_id (id number)) c.args.used.now.keys || list_any (is_id (id number)) c.args.files.now.keys) && not (list_any (is_id (id number)) c.args.present.now.keys))) f.there ∙ ap Some (sym c.is_missing-fails.ensures) in
-    faults-step NotPresent (λ n text. (list_any (is_id n) c.args.used.now.keys || list_any (is_id n) c.args.files.now.keys) && not (list_any (is_id n) c.args.present.now.keys)) ns number c.is_missing-fails.result
+    let test : option_map (λ (n : Name).
+    (list_any (is_id (id number)) c.args.used.now.keys
+    || list_any (is_id (id number)) c.args.files.now.keys)
+    && not (list_any (is_id (id number)) c.args.present.now.keys))
+    (slice_get ns number) ≡ Some c.is_missing-fails.result =
+    ap (option_map (λ (n : Name).
+    (list_any (is_id (id number)) c.args.used.now.keys
+    || list_any (is_id (id number)) c.args.files.now.keys)
+    && not (list_any (is_id (id number)) c.args.present.now.keys)))
+    f.there ∙ ap Some (sym c.is_missing-fails.ensures) in
+    faults-step NotPresent (λ n text.
+    (list_any (is_id n) c.args.used.now.keys || list_any (is_id n) c.args.files.now.keys)
+    && not (list_any (is_id n) c.args.present.now.keys))
+    ns number c.is_missing-fails.result
     c.loop-number.faults.items c.add_fault_if.new.faults.items within test c.in_ok-add_fault_if.ensures
     ∙ c.loop-number.invariant

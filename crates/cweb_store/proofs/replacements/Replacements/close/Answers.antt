@@ -12,12 +12,17 @@ returns-clause-bytes c =
     let s = c.self.inside in
     let items : c.deref-replaced-items.result.now ≡ s.given.items = c.deref-replaced-items.ensures.value in
     let all = take_all c.loop-replaced.replaced-index c.deref-replaced-items.result.now c.loop-replaced-test.false in
-    c.loop-replaced.invariant.all ∙ ap (map (λ r. r.byte)) (all ∙ items) ∙ map-both (λ (r : Replacement). r.byte) replacement_in s.given.items ∙ ap (map (λ (r : Replacement). r.byte)) c.self.view_is
+    c.loop-replaced.invariant.all ∙ ap (map (λ r. r.byte)) (all ∙ items)
+    ∙ map-both (λ (r : Replacement). r.byte) replacement_in s.given.items
+    ∙ ap (map (λ (r : Replacement). r.byte)) c.self.view_is
 
 pub returns-clause-texts : goal.returns-clause-texts
 returns-clause-texts c =
     let s = c.self.inside in
     let items : c.deref-replaced-items.result.now ≡ s.given.items = c.deref-replaced-items.ensures.value in
     let none = drop_all c.loop-replaced.replaced-index c.deref-replaced-items.result.now c.loop-replaced-test.false in
-    ap (λ xs. with_texts (map (λ x. replacement_text (replacement_in x)) xs) c.loop-replaced.tokens) (sym none) ∙ c.loop-replaced.invariant.texts
-    ∙ ap (λ ts. with_texts ts c.args.tokens.now) (ap (map (λ x. replacement_text (replacement_in x))) items ∙ map-both replacement_text replacement_in s.given.items ∙ ap (map replacement_text) c.self.view_is)
+    ap (λ xs. with_texts (map (λ x. replacement_text (replacement_in x)) xs) c.loop-replaced.tokens) (sym none)
+    ∙ c.loop-replaced.invariant.texts
+    ∙ ap (λ ts. with_texts ts c.args.tokens.now)
+    (ap (map (λ x. replacement_text (replacement_in x))) items
+    ∙ map-both replacement_text replacement_in s.given.items ∙ ap (map replacement_text) c.self.view_is)

@@ -14,9 +14,12 @@ returns-clause-text c =
     ap (tokens_at (all_tokens ps)) (returns-clause-numbers c) ∙ tokens_at-numbers is_macro ps
 
 pub returns-clause-ordered : goal.returns-clause-ordered
-returns-clause-ordered c = subst (λ (xs : List Part). All (λ p. p.first ≤ p.after) xs) (sym (returns-clause-numbers c)) (numbers-ordered is_macro c.args.self.now.parts)
+returns-clause-ordered c =
+    subst (λ (xs : List Part). All (λ p. p.first ≤ p.after) xs)
+    (sym (returns-clause-numbers c)) (numbers-ordered is_macro c.args.self.now.parts)
 
 pub returns-clause-within : goal.returns-clause-within
 returns-clause-within c =
     let ps = c.args.self.now.parts in
-    subst (λ (xs : List Part). All (λ p. p.after ≤ length (all_tokens ps)) xs) (sym (returns-clause-numbers c)) (numbers-within is_macro ps)
+    subst (λ (xs : List Part). All (λ p. p.after ≤ length (all_tokens ps)) xs)
+    (sym (returns-clause-numbers c)) (numbers-within is_macro ps)

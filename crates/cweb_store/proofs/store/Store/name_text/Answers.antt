@@ -10,7 +10,8 @@ other-requires c =
     let ts = c.self.inside.tokens.others in
     let gs = c.self.inside.given.items in
     let os = occurrences_at ts gs in
-    let names : length (spec.names os) ≡ length (spec.names c.args.self.now.occurrences) = ap (λ v. length (spec.names v.occurrences)) c.self.view_is in
+    let names : length (spec.names os) ≡ length (spec.names c.args.self.now.occurrences) =
+    ap (λ v. length (spec.names v.occurrences)) c.self.view_is in
     let place = c.index.ensures ∙ ap (λ xs. get_or xs c.args.name.0 c.index.result.now) c.self.invariant.first_places in
     let first = first-place os c.args.name.0 c.index.result.now (omega (arith, names, c.requires)) place in
     let few : length gs ≤ length ts = omega (arith, c.self.invariant.texts) in
@@ -21,7 +22,9 @@ returns c =
     let ts = c.self.inside.tokens.others in
     let gs = c.self.inside.given.items in
     let os = occurrences_at ts gs in
-    let names : length (spec.names os) ≡ length (spec.names c.args.self.now.occurrences) = ap (λ v. length (spec.names v.occurrences)) c.self.view_is in
+    let names : length (spec.names os) ≡ length (spec.names c.args.self.now.occurrences) =
+    ap (λ v. length (spec.names v.occurrences)) c.self.view_is in
     let place = c.index.ensures ∙ ap (λ xs. get_or xs c.args.name.0 c.index.result.now) c.self.invariant.first_places in
     let first = first-place os c.args.name.0 c.index.result.now (omega (arith, names, c.requires)) place in
-    ap (λ v. option_map (λ (n : spec.Name). n.text) (slice_get (spec.names v.occurrences) c.args.name.0)) (sym c.self.view_is) ∙ first.same ∙ occurrence-text ts gs c.index.result.now first.within ∙ c.other.ensures
+    ap (λ v. option_map (λ (n : spec.Name). n.text) (slice_get (spec.names v.occurrences) c.args.name.0))
+    (sym c.self.view_is) ∙ first.same ∙ occurrence-text ts gs c.index.result.now first.within ∙ c.other.ensures

@@ -20,4 +20,5 @@ returns c =
     let gs = c.self.inside.given.items in
     let os = occurrences_at ts gs in
     let count : length os ≡ length c.args.self.now.occurrences = ap (λ v. length v.occurrences) c.self.view_is in
-    ap (λ v. option_map (λ (o : Occurrence). o.text) (slice_get v.occurrences c.args.name.0)) (sym c.self.view_is) ∙ occurrence-text ts gs c.args.name.0 (omega (arith, c.requires, count)) ∙ c.other.ensures
+    ap (λ v. option_map (λ (o : Occurrence). o.text) (slice_get v.occurrences c.args.name.0)) (sym c.self.view_is)
+    ∙ occurrence-text ts gs c.args.name.0 (omega (arith, c.requires, count)) ∙ c.other.ensures

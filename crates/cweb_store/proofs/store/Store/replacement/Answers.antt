@@ -11,15 +11,31 @@ pub overflow_add-len : goal.overflow_add-len
 overflow_add-len c =
     let s = c.self.inside in
     let here = c.self.invariant.last c.args.byte (omega (arith, c.ranges.byte.fits)) in
-    let last : last_from c.args.byte None 0 s.replaced.items ≡ Some c.in-Some.number = sym (get_or_from_slice_get s.last_places _ _ _ here) ∙ c.in-Some.is in
-    omega (arith, last-within c.args.byte s.replaced.items c.in-Some.number last, c.len.ensures, s.given.ok.0, s.given.small, s.replaced.ok.0, s.replaced.small)
+    let last : last_from c.args.byte None 0 s.replaced.items ≡ Some c.in-Some.number =
+    sym (get_or_from_slice_get s.last_places _ _ _ here) ∙ c.in-Some.is in
+    omega (
+      arith,
+      last-within c.args.byte s.replaced.items c.in-Some.number last,
+      c.len.ensures,
+      s.given.ok.0,
+      s.given.small,
+      s.replaced.ok.0,
+      s.replaced.small,
+    )
 
 pub other-requires : goal.other-requires
 other-requires c =
     let s = c.self.inside in
     let here = c.self.invariant.last c.args.byte (omega (arith, c.ranges.byte.fits)) in
-    let last : last_from c.args.byte None 0 s.replaced.items ≡ Some c.in-Some.number = sym (get_or_from_slice_get s.last_places _ _ _ here) ∙ c.in-Some.is in
-    omega (arith, last-within c.args.byte s.replaced.items c.in-Some.number last, c.len.ensures, s.given.ok.0, c.self.invariant.texts)
+    let last : last_from c.args.byte None 0 s.replaced.items ≡ Some c.in-Some.number =
+    sym (get_or_from_slice_get s.last_places _ _ _ here) ∙ c.in-Some.is in
+    omega (
+      arith,
+      last-within c.args.byte s.replaced.items c.in-Some.number last,
+      c.len.ensures,
+      s.given.ok.0,
+      c.self.invariant.texts,
+    )
 
 pub returns-in_default : goal.returns-in_default
 returns-in_default c =
@@ -28,9 +44,12 @@ returns-in_default c =
     let byte = c.args.byte in
     let others = s.tokens.others in
     let behind = drop (length s.given.items) others in
-    let size : length behind ≡ length s.replaced.items = omega (arith, length-drop (length s.given.items) others, c.self.invariant.texts) in
-    let all = ap (λ v. replacement v.replacements byte) (sym c.self.view_is) ∙ last-is behind s.replaced.items byte size in
-    let none : last_from byte None 0 s.replaced.items ≡ None = sym (get_or_from_slice_get s.last_places _ _ _ here) ∙ c.in_default.is in
+    let size : length behind ≡ length s.replaced.items =
+    omega (arith, length-drop (length s.given.items) others, c.self.invariant.texts) in
+    let all =
+    ap (λ v. replacement v.replacements byte) (sym c.self.view_is) ∙ last-is behind s.replaced.items byte size in
+    let none : last_from byte None 0 s.replaced.items ≡ None =
+    sym (get_or_from_slice_get s.last_places _ _ _ here) ∙ c.in_default.is in
     sym (all ∙ ap (at_last behind) none)
 
 pub returns : goal.returns
@@ -40,9 +59,13 @@ returns c =
     let byte = c.args.byte in
     let others = s.tokens.others in
     let behind = drop (length s.given.items) others in
-    let size : length behind ≡ length s.replaced.items = omega (arith, length-drop (length s.given.items) others, c.self.invariant.texts) in
-    let all = ap (λ v. replacement v.replacements byte) (sym c.self.view_is) ∙ last-is behind s.replaced.items byte size in
+    let size : length behind ≡ length s.replaced.items =
+    omega (arith, length-drop (length s.given.items) others, c.self.invariant.texts) in
+    let all =
+    ap (λ v. replacement v.replacements byte) (sym c.self.view_is) ∙ last-is behind s.replaced.items byte size in
     let k = c.in-Some.number in
-    let last : last_from byte None 0 s.replaced.items ≡ Some k = sym (get_or_from_slice_get s.last_places _ _ _ here) ∙ c.in-Some.is in
+    let last : last_from byte None 0 s.replaced.items ≡ Some k =
+    sym (get_or_from_slice_get s.last_places _ _ _ here) ∙ c.in-Some.is in
     let place : length s.given.items + k ≡ c.len.result + k = omega (arith, c.len.ensures, s.given.ok.0) in
-    sym (all ∙ ap (at_last behind) last ∙ get-drop others (length s.given.items) k ∙ ap (slice_get others) place ∙ c.other.ensures)
+    sym (all ∙ ap (at_last behind) last ∙ get-drop others (length s.given.items) k
+    ∙ ap (slice_get others) place ∙ c.other.ensures)

@@ -6,4 +6,5 @@ use Rattle.cweb_store.proofs.store.Store.tokens.Goals as goal
 pub returns-clause-count : goal.returns-clause-count
 returns-clause-count c =
     let s = c.self.inside in
-    c.len.ensures ∙ ap length (sym (whole-tokens s.tokens.tokens s.runs.items c.self.invariant.whole)) ∙ ap (λ v. length (all_tokens v.parts)) c.self.view_is
+    c.len.ensures ∙ ap length (sym (whole-tokens s.tokens.tokens s.runs.items c.self.invariant.whole))
+    ∙ ap (λ v. length (all_tokens v.parts)) c.self.view_is

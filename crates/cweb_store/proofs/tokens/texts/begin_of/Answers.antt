@@ -7,4 +7,5 @@ pub returns-else-number-eq0 : goal.returns-else-number-eq0
 returns-else-number-eq0 c =
     let k = c.args.number - 1 in
     let next : suc k ≡ c.args.number = omega (arith, c.if-number-eq0.false) in
-    sym (begin-at 0 c.args.ends.now k _ (omega (arith, c.requires, c.if-number-eq0.false))) ∙ ap (begin_of 0 c.args.ends.now) next
+    sym (begin-at 0 c.args.ends.now k _ (omega (arith, c.requires, c.if-number-eq0.false)))
+    ∙ ap (begin_of 0 c.args.ends.now) next

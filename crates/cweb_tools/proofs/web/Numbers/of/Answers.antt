@@ -6,5 +6,6 @@ pub returns : goal.returns
 returns c = λ i. record {
   sections = c.args.scanned.now.sections;
   names = c.names.ensures.count i;
-  macros = (c.count_parts.ensures ∙ ap length c.macros.ensures.numbers ∙ macros_counted c.args.scanned.now.store.parts) i;
+  macros =
+      (c.count_parts.ensures ∙ ap length c.macros.ensures.numbers ∙ macros_counted c.args.scanned.now.store.parts) i;
 }

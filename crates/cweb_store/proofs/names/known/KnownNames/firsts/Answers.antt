@@ -8,4 +8,5 @@ loop-number-preserved c =
     let ns = c.args.self.now in
     let k = c.loop-number.number in
     let next : suc k ≡ k + 1 = omega arith in
-    c.in_ok-push.ensures.items ∙ ap (λ xs. xs ++ c.first.result ∷ []) c.loop-number.invariant ∙ sym (firsts-next ns k c.first.result c.first.ensures) ∙ ap (λ j. map (λ (n : Name). n.first) (take j ns)) next
+    c.in_ok-push.ensures.items ∙ ap (λ xs. xs ++ c.first.result ∷ []) c.loop-number.invariant
+    ∙ sym (firsts-next ns k c.first.result c.first.ensures) ∙ ap (λ j. map (λ (n : Name). n.first) (take j ns)) next

@@ -12,12 +12,16 @@ returns-clause-given c =
     let s = c.self.inside in
     let items : c.deref-given-items.result.now ≡ s.given.items = c.deref-given-items.ensures.value in
     let all = take_all c.loop-given.given-index c.deref-given-items.result.now c.loop-given-test.false in
-    c.loop-given.invariant.all ∙ ap (map (λ g. given_as (occurrence_in g))) (all ∙ items) ∙ map-both given_as occurrence_in s.given.items ∙ ap (map given_as) c.self.view_is
+    c.loop-given.invariant.all ∙ ap (map (λ g. given_as (occurrence_in g))) (all ∙ items)
+    ∙ map-both given_as occurrence_in s.given.items ∙ ap (map given_as) c.self.view_is
 
 pub returns-clause-texts : goal.returns-clause-texts
 returns-clause-texts c =
     let s = c.self.inside in
     let items : c.deref-given-items.result.now ≡ s.given.items = c.deref-given-items.ensures.value in
     let none = drop_all c.loop-given.given-index c.deref-given-items.result.now c.loop-given-test.false in
-    ap (λ xs. with_texts (map (λ x. occurrence_text (occurrence_in x)) xs) c.loop-given.tokens) (sym none) ∙ c.loop-given.invariant.texts
-    ∙ ap (λ ts. with_texts ts c.args.tokens.now) (ap (map (λ x. occurrence_text (occurrence_in x))) items ∙ map-both occurrence_text occurrence_in s.given.items ∙ ap (map occurrence_text) c.self.view_is)
+    ap (λ xs. with_texts (map (λ x. occurrence_text (occurrence_in x)) xs) c.loop-given.tokens) (sym none)
+    ∙ c.loop-given.invariant.texts
+    ∙ ap (λ ts. with_texts ts c.args.tokens.now)
+    (ap (map (λ x. occurrence_text (occurrence_in x))) items
+    ∙ map-both occurrence_text occurrence_in s.given.items ∙ ap (map occurrence_text) c.self.view_is)

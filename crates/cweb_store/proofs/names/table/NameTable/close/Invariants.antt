@@ -8,5 +8,6 @@ use Rattle.cweb_store.proofs.names.table.NameTable.close.Given as goal
 abbrev pub invariant-loop-given : goal.invariant-loop-given
 invariant-loop-given l = record {
   all : l.all.items ≡ map (λ g. given_as (occurrence_in g)) (take l.given-index l.given-items);
-  texts : with_texts (map (λ g. occurrence_text (occurrence_in g)) (drop l.given-index l.given-items)) l.tokens ≡ with_texts (map (λ g. occurrence_text (occurrence_in g)) l.given-items) l.initial.tokens;
+  texts : with_texts (map (λ g. occurrence_text (occurrence_in g)) (drop l.given-index l.given-items)) l.tokens
+      ≡ with_texts (map (λ g. occurrence_text (occurrence_in g)) l.given-items) l.initial.tokens;
 }

@@ -6,4 +6,6 @@ use Rattle.cweb_store.proofs.parts.closed.ClosedParts.runs.Goals as goal
 pub returns : goal.returns
 returns c =
     let s = c.self.inside in
-    c.as_slice.ensures.value ∙ sym (runs_from-parts s.runs.items s.tokens.tokens 0 (length s.tokens.tokens) c.self.invariant.whole.follow (omega arith)) ∙ ap (runs_from 0) c.self.view_is
+    c.as_slice.ensures.value
+    ∙ sym (runs_from-parts s.runs.items s.tokens.tokens 0
+    (length s.tokens.tokens) c.self.invariant.whole.follow (omega arith)) ∙ ap (runs_from 0) c.self.view_is

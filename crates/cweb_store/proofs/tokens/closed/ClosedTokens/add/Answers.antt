@@ -9,4 +9,5 @@ invariant_of-self-2 c =
 pub returns : goal.returns
 returns c =
     let s = c.self.inside in
-    rw (c.in_ok-add.ensures.added, ← c.self.view_is) (closed-added s.texts c.args.text.now s.records.items s.own c.self.invariant)
+    rw (c.in_ok-add.ensures.added, ← c.self.view_is)
+    (closed-added s.texts c.args.text.now s.records.items s.own c.self.invariant)

@@ -14,6 +14,11 @@ returns c =
     let after = c.args.part.after in
     let rs = c.args.standings.now in
     let old = c.args.used.now.keys in
-    let used = ap (λ ps. used_by rs old (slice_range ps first after)) c.deref.ensures.value ∙ used-records s.texts rs old (slice_range s.records.items first after)
-    ∙ ap (used_from rs old) (range-map (token_in s.texts) s.records.items first after ∙ ap (λ v. slice_range v.tokens first after) c.self.view_is) in
-    subst (λ (ns : List NameId). OnOk c.add_uses_of.result (c.add_uses_of.new.used.keys ≡ ns)) used c.add_uses_of.ensures
+    let used =
+    ap (λ ps. used_by rs old (slice_range ps first after)) c.deref.ensures.value
+    ∙ used-records s.texts rs old (slice_range s.records.items first after)
+    ∙ ap (used_from rs old)
+    (range-map (token_in s.texts) s.records.items first after
+    ∙ ap (λ v. slice_range v.tokens first after) c.self.view_is) in
+    subst (λ (ns : List NameId). OnOk c.add_uses_of.result (c.add_uses_of.new.used.keys ≡ ns))
+    used c.add_uses_of.ensures

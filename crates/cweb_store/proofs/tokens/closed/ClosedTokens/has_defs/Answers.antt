@@ -12,5 +12,8 @@ returns c =
     let s = c.self.inside in
     let first = c.args.part.first in
     let after = c.args.part.after in
-    c.has_defs_in.ensures ∙ ap (λ ps. list_any is_packed_defs (slice_range ps first after)) c.deref.ensures.value ∙ defs-records s.texts (slice_range s.records.items first after)
-    ∙ ap (list_any is_defs) (range-map (token_in s.texts) s.records.items first after ∙ ap (λ v. slice_range v.tokens first after) c.self.view_is)
+    c.has_defs_in.ensures ∙ ap (λ ps. list_any is_packed_defs (slice_range ps first after)) c.deref.ensures.value
+    ∙ defs-records s.texts (slice_range s.records.items first after)
+    ∙ ap (list_any is_defs)
+    (range-map (token_in s.texts) s.records.items first after
+    ∙ ap (λ v. slice_range v.tokens first after) c.self.view_is)

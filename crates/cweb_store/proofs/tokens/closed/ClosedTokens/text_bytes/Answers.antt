@@ -7,9 +7,12 @@ use Rattle.cweb_store.proofs.tokens.closed.ClosedTokens.text_bytes.Goals as goal
 pub returns-clause-texts : goal.returns-clause-texts
 returns-clause-texts c =
     let s = c.self.inside in
-    subst (λ (v : TokensAndTexts). AreInOneList c.text_bytes.result (flat_map token_texts v.tokens ++ v.others)) c.self.view_is (all-texts s.texts s.records.items s.own c.text_bytes.result c.self.invariant c.text_bytes.ensures)
+    subst (λ (v : TokensAndTexts). AreInOneList c.text_bytes.result (flat_map token_texts v.tokens ++ v.others))
+    c.self.view_is
+    (all-texts s.texts s.records.items s.own c.text_bytes.result c.self.invariant c.text_bytes.ensures)
 
 pub returns-clause-once : goal.returns-clause-once
 returns-clause-once c =
     let s = c.self.inside in
-    c.text_bytes.ensures ∙ all-bytes s.texts s.records.items s.own c.self.invariant ∙ ap (λ v. token_bytes_kept v.tokens + total length v.others) c.self.view_is
+    c.text_bytes.ensures ∙ all-bytes s.texts s.records.items s.own c.self.invariant
+    ∙ ap (λ v. token_bytes_kept v.tokens + total length v.others) c.self.view_is

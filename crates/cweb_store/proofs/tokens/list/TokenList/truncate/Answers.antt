@@ -8,12 +8,16 @@ use Rattle.cweb_store.proofs.TextLemmas.{truncate-are}
 use Rattle.cweb_store.proofs.tokens.list.TokenList.truncate.Goals as goal
 
 pub returns-clause-tokens : goal.returns-clause-tokens
-returns-clause-tokens c = rw (c.truncate.ensures.items, ← c.self.view_is) (sym (take-map (token_in c.self.inside.texts.texts) c.args.count c.self.inside.records.items))
+returns-clause-tokens c =
+    rw (c.truncate.ensures.items, ← c.self.view_is)
+    (sym (take-map (token_in c.self.inside.texts.texts) c.args.count c.self.inside.records.items))
 
 pub invariant_of-self : goal.invariant_of-self
 invariant_of-self c =
     let s = c.self.inside in
-    let same = subst (λ (v : TokensInRoom). filter has_text (take c.args.count v.tokens) ≡ filter has_text v.tokens) (sym c.self.view_is) c.requires in
+    let same =
+    subst (λ (v : TokensInRoom). filter has_text (take c.args.count v.tokens) ≡ filter has_text v.tokens)
+    (sym c.self.view_is) c.requires in
     rw c.truncate.ensures.items (truncate-are s.texts s.records.items c.args.count c.self.invariant same)
 
 pub returns-clause-room : goal.returns-clause-room

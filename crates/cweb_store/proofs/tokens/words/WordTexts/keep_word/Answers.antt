@@ -14,7 +14,8 @@ returns-in-Some-clause-ok c =
     let word = c.args.word.now in
     let entries = s.words.entries in
     let number = c.in-Some.number in
-    let found : lookup (bytes_eq word) entries ≡ Some number = sym c.get.ensures.value ∙ sym c.copied.ensures ∙ c.in-Some.is in
+    let found : lookup (bytes_eq word) entries ≡ Some number =
+    sym c.get.ensures.value ∙ sym c.copied.ensures ∙ c.in-Some.is in
     let keeps : KeepsWord (texts_and_words s.texts entries) word number (texts_and_words s.texts entries) = record {
       more = [];
       grows = sym (append-nil s.texts);
@@ -31,8 +32,12 @@ invariant_of-self-2 c =
     let entries = s.words.entries in
     let key = c.in_ok-key.key in
     let is : key ≡ word = c.in_ok-key.ensures in
-    let none : lookup (bytes_eq key) entries ≡ None = ap (λ q. lookup (bytes_eq q) entries) is ∙ sym c.get.ensures.value ∙ sym c.copied.ensures ∙ c.in_default.is in
-    let inserted = words-insert (s.texts ++ word ∷ []) entries key c.in_ok-number.number (words-grow s.texts (word ∷ []) entries c.self.invariant) none (get-last s.texts word c.in_ok-number.number c.in_ok-number.ensures.number ∙ ap Some (sym is)) in
+    let none : lookup (bytes_eq key) entries ≡ None =
+    ap (λ q. lookup (bytes_eq q) entries) is ∙ sym c.get.ensures.value ∙ sym c.copied.ensures ∙ c.in_default.is in
+    let inserted =
+    words-insert (s.texts ++ word ∷ []) entries key c.in_ok-number.number
+    (words-grow s.texts (word ∷ []) entries c.self.invariant) none
+    (get-last s.texts word c.in_ok-number.number c.in_ok-number.ensures.number ∙ ap Some (sym is)) in
     rw (c.put_word.ensures, c.in_ok-reserve.ensures.entries, c.in_ok-number.ensures.added) inserted
 
 pub returns-clause-ok : goal.returns-clause-ok
@@ -44,15 +49,24 @@ returns-clause-ok c =
     let key = c.in_ok-key.key in
     let number = c.in_ok-number.number in
     let is : key ≡ word = c.in_ok-key.ensures in
-    let lacks : lookup (bytes_eq word) entries ≡ None = sym c.get.ensures.value ∙ sym c.copied.ensures ∙ c.in_default.is in
+    let lacks : lookup (bytes_eq word) entries ≡ None =
+    sym c.get.ensures.value ∙ sym c.copied.ensures ∙ c.in_default.is in
     let none : lookup (bytes_eq key) entries ≡ None = ap (λ q. lookup (bytes_eq q) entries) is ∙ lacks in
     let more = insert_entry bytes_eq entries key number in
-    let last : map word_in more ≡ map word_in entries ++ word ∷ [] = new-word entries key number none ∙ ap (λ w. map word_in entries ++ w ∷ []) is in
-    let keeps : KeepsWord (texts_and_words texts entries) word number (texts_and_words (texts ++ word ∷ []) more) = record {
+    let last : map word_in more ≡ map word_in entries ++ word ∷ [] =
+    new-word entries key number none ∙ ap (λ w. map word_in entries ++ w ∷ []) is in
+    let keeps : KeepsWord (texts_and_words texts entries) word number (texts_and_words (texts ++ word ∷ []) more) =
+    record {
       more = word ∷ [];
       grows = refl;
       stands = get-last texts word number c.in_ok-number.ensures.number;
       words = last ∙ sym (other-word word entries lacks);
-      bytes = omega (arith, length-append word (let nothing : List ℕ = [] in nothing), ap (total length) last, total-append length (map word_in entries) (word ∷ []));
+      bytes =
+          omega (
+            arith,
+            length-append word (let nothing : List ℕ = [] in nothing),
+            ap (total length) last,
+            total-append length (map word_in entries) (word ∷ []),
+          );
     } in
     rw (c.put_word.ensures, c.in_ok-reserve.ensures.entries, c.in_ok-number.ensures.added, ← c.self.view_is) keeps
