@@ -10,46 +10,61 @@ use cweb_lines::*;
 use std::alloc::{AllocError, Global};
 use std::test::Fail;
 
-/// A shelf with these texts under their names.
-fn shelf_of(alloc: Global, files: &[(&str, &[u8])]) -> Result<MemoryShelf, AllocError> {
-    let mut shelf = MemoryShelf::new(alloc);
+fn put_all(shelf: &mut MemoryShelf, files: &[(&str, &[u8])]) -> Result<(), AllocError> {
     for (name, text) in files {
         shelf.put(*name, *text)?;
     }
+    Ok(())
+}
+
+/// A shelf with these texts under their names.
+fn shelf_of(alloc: Global, files: &[(&str, &[u8])]) -> Result<MemoryShelf, AllocError> {
+    let mut shelf = MemoryShelf::new(alloc);
+    put_all(&mut shelf, files)?;
     Ok(shelf)
 }
 
-/// The faults so far, a line each, with the counts of those that have one.
-fn faults_told<S: Shelf>(alloc: Global, merger: &Merger<S>) -> Result<String, Fail> {
-    let mut told = String::new(alloc);
-    for fault in merger.faults() {
-        let place = fault.place;
-        write!(
-            told,
-            "{:?} in {} at {}",
-            fault.kind, place.file.0, place.line
-        )?;
-        if fault.count > 0 {
-            write!(told, ": {}", fault.count)?;
-        }
-        writeln!(told)?;
+/// A fault in a line, with its count where it has one.
+fn tell_fault(told: &mut String, fault: &SourceFault) -> Result<(), Fail> {
+    let place = fault.place;
+    write!(
+        told,
+        "{:?} in {} at {}",
+        fault.kind, place.file.0, place.line
+    )?;
+    if fault.count > 0 {
+        write!(told, ": {}", fault.count)?;
     }
-    Ok(told)
+    writeln!(told)?;
+    Ok(())
+}
+
+/// The faults so far, a line each.
+fn tell_faults<S: Shelf>(told: &mut String, merger: &Merger<S>) -> Result<(), Fail> {
+    for fault in merger.faults() {
+        tell_fault(told, fault)?;
+    }
+    Ok(())
 }
 
 /// The names of the files so far from this number on, a line each.
-fn names_told<S: Shelf>(alloc: Global, merger: &Merger<S>, from: u32) -> Result<String, Fail> {
-    let mut told = String::new(alloc);
+fn tell_names<S: Shelf>(told: &mut String, merger: &Merger<S>, from: u32) -> Result<(), Fail> {
     let names = merger.names();
     for i in from..names.count() {
         writeln!(told, "{} is {}", i, names.get(FileId(i)))?;
     }
+    Ok(())
+}
+
+fn faults_told<S: Shelf>(alloc: Global, merger: &Merger<S>) -> Result<String, Fail> {
+    let mut told = String::new(alloc);
+    tell_faults(&mut told, merger)?;
     Ok(told)
 }
 
 /// The faults and the names of the files so far, a line each.
 fn told<S: Shelf>(alloc: Global, merger: &Merger<S>) -> Result<String, Fail> {
     let mut told = faults_told(alloc, merger)?;
-    told.push_str(names_told(alloc, merger, 0)?.as_str())?;
+    tell_names(&mut told, merger, 0)?;
     Ok(told)
 }

@@ -2,40 +2,82 @@
 use super::*;
 use std::process::Abort;
 
-// The merged lines of the web `m.w` with the change file `c.ch`, each behind its place, then the faults and the names of the
-// included files.
-fn merged(alloc: Global, web: &str, change: &str, others: &[(&str, &str)]) -> Result<String, Fail> {
-    let mut shelf = shelf_of(
-        alloc,
-        &[("m.w", web.as_bytes()), ("c.ch", change.as_bytes())],
-    )?;
+// A shelf with the web `m.w`, the change file `c.ch` and other files.
+fn shelf_with(
+    alloc: Global,
+    web: &str,
+    change: &str,
+    others: &[(&str, &str)],
+) -> Result<MemoryShelf, AllocError> {
+    let mut shelf = MemoryShelf::new(alloc);
+    shelf.put("m.w", web.as_bytes())?;
+    shelf.put("c.ch", change.as_bytes())?;
     for (name, text) in others {
         shelf.put(*name, text.as_bytes())?;
     }
-    let mut merger = Merger::start(alloc, &mut shelf, "m.w", None, Some("c.ch"), None)?;
-    let mut text = String::new(alloc);
+    Ok(shelf)
+}
+
+// A line behind its place.
+fn tell_line(text: &mut String, alloc: Global, place: Place, line: &[u8]) -> Result<(), Fail> {
+    let given = String::from_utf8_lossy(alloc, line)?;
+    writeln!(text, "{}:{} {}", place.file.0, place.line, given.as_str())?;
+    Ok(())
+}
+
+// The lines that a merger still has to give, each behind its place.
+fn tell_lines(
+    text: &mut String,
+    alloc: Global,
+    merger: &mut Merger<MemoryShelf>,
+    shelf: &mut MemoryShelf,
+) -> Result<(), Fail> {
     let mut line = Vec::new(alloc);
     for _ in 0..1000 {
-        let Some(place) = merger.next_line(&mut shelf, &mut line)? else {
+        let Some(place) = merger.next_line(shelf, &mut line)? else {
             break;
         };
-        let given = String::from_utf8_lossy(alloc, &line)?;
-        writeln!(text, "{}:{} {}", place.file.0, place.line, given.as_str())?;
+        tell_line(text, alloc, place, &line)?;
     }
-    text.push_str(faults_told(alloc, &merger)?.as_str())?;
-    text.push_str(names_told(alloc, &merger, 2)?.as_str())?;
+    Ok(())
+}
+
+// The merged lines of the web `m.w` with the change file `c.ch`, each behind its place, then the faults and the names of the
+// included files.
+fn tell_merged(text: &mut String, alloc: Global, shelf: &mut MemoryShelf) -> Result<(), Fail> {
+    let mut merger = Merger::start(alloc, shelf, "m.w", None, Some("c.ch"), None)?;
+    tell_lines(text, alloc, &mut merger, shelf)?;
+    tell_faults(text, &merger)?;
+    tell_names(text, &merger, 2)
+}
+
+fn merged(alloc: Global, web: &str, change: &str, others: &[(&str, &str)]) -> Result<String, Fail> {
+    let mut shelf = shelf_with(alloc, web, change, others)?;
+    let mut text = String::new(alloc);
+    tell_merged(&mut text, alloc, &mut shelf)?;
     Ok(text)
 }
 
-// Merges each web with its change file, and compares.
+// Merges a web with its change file, and compares.
+fn compare(
+    rt: &(impl AllocGlobal + Abort),
+    others: &[(&str, &str)],
+    web: &str,
+    change: &str,
+    want: &str,
+) -> Result<(), Fail> {
+    let got = merged(rt.alloc(), web, change, others)?;
+    assert_eq!(rt; got.as_str(), want, "with {change:?}");
+    Ok(())
+}
+
 fn compare_all(
     rt: &(impl AllocGlobal + Abort),
     others: &[(&str, &str)],
     rows: &[(&str, &str, &str)],
 ) -> Result<(), Fail> {
     for (web, change, want) in rows {
-        let got = merged(rt.alloc(), *web, *change, others)?;
-        assert_eq!(rt; got.as_str(), *want, "with {change:?}");
+        compare(rt, others, *web, *change, *want)?;
     }
     Ok(())
 }
@@ -43,8 +85,8 @@ fn compare_all(
 // First uses of each rule.
 #[test]
 fn worked_changes(rt: HostRuntime) -> Result<(), Fail> {
-    let others = [("inc.w", "I1\nI2\n"), ("b.w", "B\n")];
-    let rows = [
+    const OTHERS: &[(&str, &str)] = &[("inc.w", "I1\nI2\n"), ("b.w", "B\n")];
+    const ROWS: &[(&str, &str, &str)] = &[
         (
             "A\n@i gone.w\nB\n",
             "@x\n@i gone.w\n@y\nnew\n@z\n",
@@ -74,12 +116,12 @@ fn worked_changes(rt: HostRuntime) -> Result<(), Fail> {
             "2:1 B\n1:9 C\n2 is b.w\n",
         ),
     ];
-    compare_all(&rt, &others, &rows)
+    compare_all(&rt, OTHERS, ROWS)
 }
 
 #[test]
 fn code_lines(rt: HostRuntime) -> Result<(), Fail> {
-    let rows = [
+    const ROWS: &[(&str, &str, &str)] = &[
         // letters in either case; what follows them is ignored
         (
             "A\nB\n",
@@ -95,12 +137,12 @@ fn code_lines(rt: HostRuntime) -> Result<(), Fail> {
         // in the web they are lines as others are
         ("@x\nA\n@y\n@z\n", "", "0:1 @x\n0:2 A\n0:3 @y\n0:4 @z\n"),
     ];
-    compare_all(&rt, &[], &rows)
+    compare_all(&rt, &[], ROWS)
 }
 
 #[test]
 fn seeking_an_entry(rt: HostRuntime) -> Result<(), Fail> {
-    let rows = [
+    const ROWS: &[(&str, &str, &str)] = &[
         // lines outside entries
         ("A\n", "", "0:1 A\n"),
         ("A\n", "A\n\nB", "0:1 A\n"),
@@ -118,12 +160,12 @@ fn seeking_an_entry(rt: HostRuntime) -> Result<(), Fail> {
         ("\nA\n", "@x\n\n \t\nA\n@y\nN\n@z\n", "0:1 \n1:6 N\n"),
         ("A\n", "@x\n\n  \n", "0:1 A\nNoOldLines in 1 at 1\n"),
     ];
-    compare_all(&rt, &[], &rows)
+    compare_all(&rt, &[], ROWS)
 }
 
 #[test]
 fn entries_that_are_passed_over(rt: HostRuntime) -> Result<(), Fail> {
-    let rows = [
+    const ROWS: &[(&str, &str, &str)] = &[
         // an entry without old lines, and the next entry right there or later
         (
             "A\n",
@@ -147,12 +189,12 @@ fn entries_that_are_passed_over(rt: HostRuntime) -> Result<(), Fail> {
             "0:1 A\nNoMatch in 1 at 1\n",
         ),
     ];
-    compare_all(&rt, &[], &rows)
+    compare_all(&rt, &[], ROWS)
 }
 
 #[test]
 fn entries_in_turn(rt: HostRuntime) -> Result<(), Fail> {
-    let rows = [
+    const ROWS: &[(&str, &str, &str)] = &[
         // the first line that equals an entry's, behind the change before
         (
             "A\nB\nA\nC\n",
@@ -187,12 +229,12 @@ fn entries_in_turn(rt: HostRuntime) -> Result<(), Fail> {
             "MissingX in 1 at 5\nNoMatch in 1 at 6\n",
         ),
     ];
-    compare_all(&rt, &[], &rows)
+    compare_all(&rt, &[], ROWS)
 }
 
 #[test]
 fn old_lines(rt: HostRuntime) -> Result<(), Fail> {
-    let rows = [
+    const ROWS: &[(&str, &str, &str)] = &[
         // blanks at their ends don't count, and others do
         ("A \nB\x0c\n", "@x\nA\r\nB\t\n@y \nN  \n@z\n", "1:5 N\n"),
         (" A\n", "@x\nA\n@y\n@z\n", "0:1  A\nNoMatch in 1 at 1\n"),
@@ -215,12 +257,12 @@ fn old_lines(rt: HostRuntime) -> Result<(), Fail> {
             "1:5 N\n0:3 A\nNoMatch in 1 at 7\n",
         ),
     ];
-    compare_all(&rt, &[], &rows)
+    compare_all(&rt, &[], ROWS)
 }
 
 #[test]
 fn old_lines_that_end_early(rt: HostRuntime) -> Result<(), Fail> {
-    let rows = [
+    const ROWS: &[(&str, &str, &str)] = &[
         // the order of the faults of one old side, of which two lines are compared
         (
             "A\nB\nC\n",
@@ -241,13 +283,13 @@ fn old_lines_that_end_early(rt: HostRuntime) -> Result<(), Fail> {
         ),
         ("A\nA\n", "@x\nA", "0:2 A\nEndedBeforeY in 1 at 1\n"),
     ];
-    compare_all(&rt, &[], &rows)
+    compare_all(&rt, &[], ROWS)
 }
 
 #[test]
 fn new_lines(rt: HostRuntime) -> Result<(), Fail> {
-    let others = [("b", "B\nA\n@i c\n"), ("c", "A\nC")];
-    let rows = [
+    const OTHERS: &[(&str, &str)] = &[("b", "B\nA\n@i c\n"), ("c", "A\nC")];
+    const ROWS: &[(&str, &str, &str)] = &[
         // code lines among them
         (
             "A\nB\n",
@@ -274,13 +316,13 @@ fn new_lines(rt: HostRuntime) -> Result<(), Fail> {
             "2:1 B\n2:2 A\n3:1 A\n3:2 C\n1:5 N\n4:1 A\n4:2 C\n2 is b\n3 is c\n4 is c\n",
         ),
     ];
-    compare_all(&rt, &others, &rows)
+    compare_all(&rt, OTHERS, ROWS)
 }
 
 #[test]
 fn included_lines(rt: HostRuntime) -> Result<(), Fail> {
-    let others = [("b", "B1\n@i c\nB3\n"), ("c", "C1\nC2\n"), ("none", "")];
-    let rows = [
+    const OTHERS: &[(&str, &str)] = &[("b", "B1\n@i c\nB3\n"), ("c", "C1\nC2\n"), ("none", "")];
+    const ROWS: &[(&str, &str, &str)] = &[
         // matched at each depth, and once for each time that a file is opened
         (
             "@i c\nM2\n@i b\n",
@@ -304,13 +346,13 @@ fn included_lines(rt: HostRuntime) -> Result<(), Fail> {
             "WebEnded in 1 at 1\n2 is none\n",
         ),
     ];
-    compare_all(&rt, &others, &rows)
+    compare_all(&rt, OTHERS, ROWS)
 }
 
 #[test]
 fn include_lines_taken_away(rt: HostRuntime) -> Result<(), Fail> {
-    let others = [("b", "B1\n@i c\nB3\n"), ("c", "C1\nC2\n")];
-    let rows = [
+    const OTHERS: &[(&str, &str)] = &[("b", "B1\n@i c\nB3\n"), ("c", "C1\nC2\n")];
+    const ROWS: &[(&str, &str, &str)] = &[
         // an include line that is an old line is not obeyed, be it the first, a further one or an unequal one
         (
             "@i b\nM2\n",
@@ -330,16 +372,27 @@ fn include_lines_taken_away(rt: HostRuntime) -> Result<(), Fail> {
             "2:1 C1\n2:2 C2\nNoMatch in 1 at 1\n2 is c\n",
         ),
     ];
-    compare_all(&rt, &others, &rows)
+    compare_all(&rt, OTHERS, ROWS)
 }
 
 // The web includes itself until twenty files are open, and each gives a line `A`.
+const NAMES_AT_THE_FULL_DEPTH: &str =
+    "2 is m.w\n3 is m.w\n4 is m.w\n5 is m.w\n6 is m.w\n7 is m.w\n8 is m.w\n9 is m.w\n10 is m.w\n11 is m.w\n12 is m.w\n13 is m.w\n14 is m.w\n15 is m.w\n16 is m.w\n17 is m.w\n18 is m.w\n19 is m.w\n20 is m.w\n";
+
+// Merges it with a change file, and compares the lines and the faults.
+fn compare_at_the_full_depth(
+    rt: &(impl AllocGlobal + Abort),
+    change: &str,
+    want: &str,
+) -> Result<(), Fail> {
+    let mut whole = String::from_str(rt.alloc(), want)?;
+    whole.push_str(NAMES_AT_THE_FULL_DEPTH)?;
+    compare(rt, &[], "@i m.w\nA\n", change, whole.as_str())
+}
+
 #[test]
 fn changes_at_the_full_depth(rt: HostRuntime) -> Result<(), Fail> {
-    let web = "@i m.w\nA\n";
-    let names =
-        "2 is m.w\n3 is m.w\n4 is m.w\n5 is m.w\n6 is m.w\n7 is m.w\n8 is m.w\n9 is m.w\n10 is m.w\n11 is m.w\n12 is m.w\n13 is m.w\n14 is m.w\n15 is m.w\n16 is m.w\n17 is m.w\n18 is m.w\n19 is m.w\n20 is m.w\n";
-    for (change, want) in [
+    const ROWS: &[(&str, &str)] = &[
         (
             "@x\nA\n@y\n@i c.ch\nN\n@z\n",
             "1:5 N\n19:2 A\n18:2 A\n17:2 A\n16:2 A\n15:2 A\n14:2 A\n13:2 A\n12:2 A\n11:2 A\n10:2 A\n9:2 A\n8:2 A\n7:2 A\n6:2 A\n5:2 A\n4:2 A\n3:2 A\n2:2 A\n0:2 A\nTooDeep in 20 at 1\nTooDeep in 1 at 4\n",
@@ -353,11 +406,9 @@ fn changes_at_the_full_depth(rt: HostRuntime) -> Result<(), Fail> {
             "@x\nA\nA\nA\nA\nA\nA\nA\nA\nA\nA\nA\nA\nA\nA\nA\nA\nA\nA\nA\nA\nA\n@y\n@i c.ch\n@i\n@z\n",
             "TooDeep in 20 at 1\nWebEnded in 1 at 1\nTooDeep in 1 at 24\nNoName in 1 at 25\n",
         ),
-    ] {
-        let mut want = String::from_str(rt.alloc(), want)?;
-        want.push_str(names)?;
-        let got = merged(rt.alloc(), web, change, &[])?;
-        assert_eq!(rt; got.as_str(), want.as_str(), "with {change:?}");
+    ];
+    for (change, want) in ROWS {
+        compare_at_the_full_depth(&rt, *change, *want)?;
     }
     Ok(())
 }
@@ -365,8 +416,8 @@ fn changes_at_the_full_depth(rt: HostRuntime) -> Result<(), Fail> {
 // What a new line includes lies one deeper than the line that began the change.
 #[test]
 fn files_within_a_change(rt: HostRuntime) -> Result<(), Fail> {
-    let others = [("b", "P\n@i b\n"), ("c", "A\n")];
-    let rows = [
+    const OTHERS: &[(&str, &str)] = &[("b", "P\n@i b\n"), ("c", "A\n")];
+    const ROWS: &[(&str, &str, &str)] = &[
         (
             "A\n",
             "@x\nA\n@y\n@i b\n@z\n",
@@ -384,31 +435,54 @@ fn files_within_a_change(rt: HostRuntime) -> Result<(), Fail> {
             "2:1 @x\n1:4 N\n2:3 @y\n2:4 N\n2:5 @z\n2 is c.ch\n",
         ),
     ];
-    compare_all(&rt, &others, &rows)
+    compare_all(&rt, OTHERS, ROWS)
+}
+
+const NAMED: &[(&str, &[u8])] = &[
+    ("m.web", b"@i b\nA\n"),
+    ("c.ch", b"@x\nA\n@y\n@i b\n@z\n"),
+    ("lib/b", b"B\n"),
+    ("lib/d.ch", b""),
+];
+
+// What is told of a merger at its start, what it writes, and what is told of it then.
+fn told_of_named(alloc: Global) -> Result<(String, MemorySink, String), Fail> {
+    let mut shelf = shelf_of(alloc, NAMED)?;
+    let second = Some("m.web");
+    let mut merger = Merger::start(alloc, &mut shelf, "m.w", second, Some("c.ch"), Some("lib"))?;
+    let at_first = told(alloc, &merger)?;
+    let mut sink = MemorySink::with_room(alloc, 100)?;
+    write_merged(&mut merger, &mut shelf, &mut sink)?;
+    let at_last = told(alloc, &merger)?;
+    Ok((at_first, sink, at_last))
 }
 
 #[test]
 fn names_of_the_files(rt: HostRuntime) -> Result<(), Fail> {
-    let alloc = rt.alloc();
-    let web = ("m.web", b"@i b\nA\n".as_slice());
-    let change = ("c.ch", b"@x\nA\n@y\n@i b\n@z\n".as_slice());
-    let mut shelf = shelf_of(alloc, &[web, change, ("lib/b", b"B\n"), ("lib/d.ch", b"")])?;
-    let second = Some("m.web");
-    let mut merger = Merger::start(alloc, &mut shelf, "m.w", second, Some("c.ch"), Some("lib"))?;
-    assert_eq!(rt; told(alloc, &merger)?.as_str(), "0 is m.web\n1 is c.ch\n");
-    let mut sink = MemorySink::with_room(alloc, 100)?;
-    write_merged(&mut merger, &mut shelf, &mut sink)?;
-    assert_eq!(rt; sink.bytes(), b"B\nB\n".as_slice());
+    let (at_first, sink, at_last) = told_of_named(rt.alloc())?;
+    assert!(rt; at_first.as_str() == "0 is m.web\n1 is c.ch\n");
+    assert!(rt; sink.bytes() == b"B\nB\n".as_slice());
     let want = "0 is m.web\n1 is c.ch\n2 is lib/b\n3 is lib/b\n";
-    assert_eq!(rt; told(alloc, &merger)?.as_str(), want);
-    // a change file that isn't there, which is not sought in the folder either; the web comes first
+    assert!(rt; at_last.as_str() == want);
+    Ok(())
+}
+
+// How a merger of these files is refused.
+fn refused(alloc: Global, second: Option<&str>, change: &str) -> Result<Option<Stop>, AllocError> {
+    let mut shelf = shelf_of(alloc, NAMED)?;
+    let started = Merger::start(alloc, &mut shelf, "m.w", second, Some(change), Some("lib"));
+    Ok(started.err())
+}
+
+// A change file that isn't there, which is not sought in the folder either; the web comes first.
+#[test]
+fn names_of_files_that_are_not_there(rt: HostRuntime) -> Result<(), Fail> {
     for (second, change, stop) in [
         (Some("m.web"), "d.ch", Stop::ChangeNotOpened),
         (None, "d.ch", Stop::WebNotOpened),
         (None, "c.ch", Stop::WebNotOpened),
     ] {
-        let started = Merger::start(alloc, &mut shelf, "m.w", second, Some(change), Some("lib"));
-        assert_eq!(rt; started.err(), Some(stop));
+        assert_eq!(rt; refused(rt.alloc(), second, change)?, Some(stop));
     }
     Ok(())
 }

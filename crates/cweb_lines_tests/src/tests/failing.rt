@@ -1,4 +1,6 @@
 // A read, a write or an allocation that fails in the midst of a run.
+ghost use Rattle.std.specs.Prelude.{◌≡◌, IfOk};
+
 use super::devices::{OneReadFails, SmallSink};
 use super::*;
 use std::process::Abort;
@@ -22,44 +24,94 @@ const MERGED_CHANGED: &[u8] = b"one\ntwo\ntwo\nthree\nfour\n";
 const FAULTS_CHANGED: &str =
     "MissingX in 1 at 1\nUnequal in 1 at 2: 1\nNoName in 1 at 7\nNoMatch in 1 at 10\n";
 
+// So many lines come before a read fails.
+fn takes_lines(
+    rt: &impl Abort,
+    merger: &mut Merger<OneReadFails>,
+    shelf: &mut OneReadFails,
+    line: &mut Vec<u8>,
+    lines: u32,
+) -> Result<(), Stop> {
+    for _ in 0..lines {
+        assert!(rt; shelf.failed == 0);
+        assert!(rt; merger.next_line(shelf, line)?.is_some());
+    }
+    Ok(())
+}
+
+// The next read fails, and none is made behind it.
+fn stops_twice(
+    rt: &impl Abort,
+    merger: &mut Merger<OneReadFails>,
+    shelf: &mut OneReadFails,
+    line: &mut Vec<u8>,
+    stop: Stop,
+) {
+    for _ in 0..2 {
+        assert!(rt; shelf.failed < 2);
+        let stopped = merger.next_line(shelf, line) == Err(stop);
+        assert!(rt; stopped, "at {}", shelf.fails_at);
+        assert!(rt; line.is_empty());
+        assert!(rt; shelf.failures() == 1);
+    }
+}
+
+// The text of the read that failed, by its number and its name.
+fn failed_in(
+    rt: &impl Abort,
+    merger: &Merger<OneReadFails>,
+    shelf: &OneReadFails,
+    file: u32,
+    name: &str,
+) {
+    assert!(rt; shelf.reads == shelf.fails_at);
+    assert_eq!(rt; shelf.failed_in, file);
+    assert!(rt; file < merger.names().count());
+    assert!(rt; merger.names().get(FileId(file)) == name);
+}
+
+// A merger of which a read has failed writes nothing.
+fn writes_nothing(
+    rt: &(impl AllocGlobal + Abort),
+    merger: &mut Merger<OneReadFails>,
+    shelf: &mut OneReadFails,
+    stop: Stop,
+) {
+    let mut sink = SmallSink::new(rt.alloc());
+    assert!(rt; shelf.failed == 1);
+    assert!(rt; write_merged(merger, shelf, &mut sink) == Err(stop));
+    assert_eq!(rt; sink.writes, 0);
+}
+
+fn check_read(
+    rt: &(impl AllocGlobal + Abort),
+    fails_at: u64,
+    file: u32,
+    name: &str,
+    lines: u32,
+) -> Result<(), Fail> {
+    let mut shelf = OneReadFails::new(shelf_of(rt.alloc(), &FILES)?);
+    shelf.fails_at = fails_at;
+    let mut merger = Merger::start(rt.alloc(), &mut shelf, "a.w", None, None, None)?;
+    let mut line = Vec::new(rt.alloc());
+    takes_lines(rt, &mut merger, &mut shelf, &mut line, lines)?;
+    let stop = Stop::ReadFault(FileId(file));
+    stops_twice(rt, &mut merger, &mut shelf, &mut line, stop);
+    failed_in(rt, &merger, &shelf, file, name);
+    writes_nothing(rt, &mut merger, &mut shelf, stop);
+    Ok(())
+}
+
 // Each text is read twice: its bytes, and then none.
 #[test]
 fn a_read_that_fails(rt: HostRuntime) -> Result<(), Fail> {
-    let alloc = rt.alloc();
-    let files = [
+    for (fails_at, file, name, lines) in [
         (1, 0, "a.w", 0),
         (2, 1, "b.w", 1),
         (3, 1, "b.w", 2),
         (4, 0, "a.w", 3),
-    ];
-    for (fails_at, file, name, lines) in files {
-        let mut shelf = OneReadFails::new(shelf_of(alloc, &FILES)?);
-        shelf.fails_at = fails_at;
-        let mut merger = Merger::start(alloc, &mut shelf, "a.w", None, None, None)?;
-        let mut line = Vec::new(alloc);
-        for _ in 0..lines {
-            assert!(rt; shelf.failed == 0);
-            assert!(rt; merger.next_line(&mut shelf, &mut line)?.is_some());
-        }
-        let stop = Stop::ReadFault(FileId(file));
-        for _ in 0..2 {
-            assert!(rt; shelf.failed < 2);
-            assert_eq!(rt;
-                merger.next_line(&mut shelf, &mut line),
-                Err(stop),
-                "at {fails_at}"
-            );
-            assert!(rt; line.is_empty());
-            assert_eq!(rt; shelf.failures(), 1);
-        }
-        assert_eq!(rt; shelf.reads, fails_at);
-        assert!(rt; shelf.failed == 1);
-        assert_eq!(rt; shelf.failed_in, file);
-        assert!(rt; file < merger.names().count());
-        assert_eq!(rt; merger.names().get(FileId(file)), name);
-        let mut sink = SmallSink::new(alloc);
-        assert_eq!(rt; write_merged(&mut merger, &mut shelf, &mut sink), Err(stop));
-        assert_eq!(rt; sink.writes, 0);
+    ] {
+        check_read(&rt, fails_at, file, name, lines)?;
     }
     Ok(())
 }
@@ -81,31 +133,55 @@ fn stays_stopped(
     Ok(())
 }
 
+// What a run leaves: a front of the merged lines and of the faults.
+fn leaves_a_front(rt: &impl Abort, written: &[u8], faults: &str) {
+    assert!(rt; MERGED_CHANGED.starts_with(written));
+    assert!(rt; FAULTS_CHANGED.starts_with(faults));
+}
+
+// What a run leaves of which no read fails.
+fn leaves_all(rt: &impl Abort, written: &[u8], faults: &str) {
+    assert_eq!(rt; written, MERGED_CHANGED);
+    assert_eq!(rt; faults, FAULTS_CHANGED);
+}
+
+// A shelf of the texts, of which a read fails where a byte is read at once.
+fn byte_by_byte(alloc: Global, fails_at: u64) -> Result<OneReadFails, AllocError>
+    ensures { IfOk result (λ shelf. shelf.failed ≡ 0) }
+{
+    let mut shelf = OneReadFails::new(shelf_of(alloc, &CHANGED)?);
+    shelf.most = 1;
+    shelf.fails_at = fails_at;
+    Ok(shelf)
+}
+
+// A run of which a read fails, but not the 88th: how many bytes it writes.
+fn check_run(rt: &(impl AllocGlobal + Abort), fails_at: u64) -> Result<usize, Fail> {
+    let alloc = rt.alloc();
+    let mut shelf = byte_by_byte(alloc, fails_at)?;
+    let mut merger = Merger::start(alloc, &mut shelf, "a.w", None, Some("c.ch"), None)?;
+    let mut sink = SmallSink::new(alloc);
+    let ended = write_merged(&mut merger, &mut shelf, &mut sink);
+    let faults = faults_told(alloc, &merger)?;
+    leaves_a_front(rt, &sink.bytes, faults.as_str());
+    if fails_at < 88 {
+        stays_stopped(rt, &mut merger, &mut shelf, ended)?;
+    } else {
+        assert!(rt; ended == Ok(()));
+        leaves_all(rt, &sink.bytes, faults.as_str());
+    }
+    Ok(sink.bytes.len())
+}
+
 // Each read in turn, where a byte is read at once: the texts of the web, twice that of `b.w`, each with its end, and the
 // change file up to the first old line of the entry that waits.
 #[test]
 fn each_read_that_fails(rt: HostRuntime) -> Result<(), Fail> {
-    let alloc = rt.alloc();
     let mut least = 0;
     for fails_at in 1..89 {
-        let mut shelf = OneReadFails::new(shelf_of(alloc, &CHANGED)?);
-        shelf.most = 1;
-        shelf.fails_at = fails_at;
-        let mut merger = Merger::start(alloc, &mut shelf, "a.w", None, Some("c.ch"), None)?;
-        let mut sink = SmallSink::new(alloc);
-        let ended = write_merged(&mut merger, &mut shelf, &mut sink);
-        assert!(rt; MERGED_CHANGED.starts_with(&sink.bytes));
-        assert!(rt; least <= sink.bytes.len());
-        least = sink.bytes.len();
-        let told = faults_told(alloc, &merger)?;
-        assert!(rt; FAULTS_CHANGED.starts_with(told.as_str()));
-        if fails_at < 88 {
-            stays_stopped(&rt, &mut merger, &mut shelf, ended)?;
-        } else {
-            assert_eq!(rt; ended, Ok(()));
-            assert_eq!(rt; sink.bytes.as_slice(), MERGED_CHANGED);
-            assert_eq!(rt; told.as_str(), FAULTS_CHANGED);
-        }
+        let written = check_run(&rt, fails_at)?;
+        assert!(rt; least <= written);
+        least = written;
     }
     Ok(())
 }
@@ -125,26 +201,85 @@ fn written(alloc: Global, fails_at: u64, most: usize, room: usize) -> Result<Vec
     Ok(sink.bytes)
 }
 
+fn gathers_as_much(
+    rt: &(impl AllocGlobal + Abort),
+    fails_at: u64,
+    most: usize,
+) -> Result<(), Fail> {
+    let at_once = written(rt.alloc(), fails_at, most, 0)?;
+    let gathered = written(rt.alloc(), fails_at, most, 65536)?;
+    assert!(rt;
+        gathered.as_slice() == at_once.as_slice(),
+        "at {fails_at}, {most} at once"
+    );
+    Ok(())
+}
+
 // A read that fails loses no line that could be given before it.
 #[test]
 fn lines_gathered_before_a_read_that_fails(rt: HostRuntime) -> Result<(), Fail> {
     for most in [7, 12, 24, usize::MAX] {
         for fails_at in 1..19 {
-            let at_once = written(rt.alloc(), fails_at, most, 0)?;
-            let gathered = written(rt.alloc(), fails_at, most, 65536)?;
-            assert_eq!(rt;
-                gathered.as_slice(),
-                at_once.as_slice(),
-                "at {fails_at}, {most} at once"
-            );
+            gathers_as_much(&rt, fails_at, most)?;
         }
     }
     Ok(())
 }
 
+// A sink of which a write fails, and which takes at most so many bytes at once.
+fn failing_sink(alloc: Global, fails_at: u64, most: usize) -> SmallSink
+    ensures { result.failed ≡ 0 }
+{
+    let mut sink = SmallSink::new(alloc);
+    sink.most = most;
+    sink.fails_at = fails_at;
+    sink
+}
+
+// A write fails behind these bytes.
+fn fails_behind(
+    rt: &impl Abort,
+    merger: &mut Merger<MemoryShelf>,
+    shelf: &mut MemoryShelf,
+    sink: &mut SmallSink,
+    written: &str,
+) {
+    assert!(rt; sink.failed == 0);
+    let ended = write_merged(merger, shelf, sink);
+    assert!(rt; ended == Err(Stop::WriteFault), "at {}", sink.fails_at);
+    assert!(rt; sink.failures() == 1);
+    assert!(rt; sink.bytes.as_slice() == written.as_bytes());
+}
+
+// What comes behind the line that was being written.
+fn goes_on(
+    rt: &(impl AllocGlobal + Abort),
+    merger: &mut Merger<MemoryShelf>,
+    shelf: &mut MemoryShelf,
+    rest: &str,
+) -> Result<(), Fail> {
+    let mut after = SmallSink::new(rt.alloc());
+    write_merged(merger, shelf, &mut after)?;
+    assert!(rt; after.bytes.as_slice() == rest.as_bytes());
+    Ok(())
+}
+
+fn check_write(
+    rt: &(impl AllocGlobal + Abort),
+    fails_at: u64,
+    most: usize,
+    written: &str,
+    rest: &str,
+) -> Result<(), Fail> {
+    let mut shelf = shelf_of(rt.alloc(), &FILES)?;
+    let mut merger = Merger::start(rt.alloc(), &mut shelf, "a.w", None, None, None)?;
+    let mut sink = failing_sink(rt.alloc(), fails_at, most);
+    fails_behind(rt, &mut merger, &mut shelf, &mut sink, written);
+    goes_on(rt, &mut merger, &mut shelf, rest)
+}
+
 #[test]
 fn a_write_that_fails(rt: HostRuntime) -> Result<(), Fail> {
-    let alloc = rt.alloc();
     // the write that fails, what was written by then, and what comes after the line that was being written
     for (fails_at, most, written, rest) in [
         (1, usize::MAX, "", "two\nthree\n"),
@@ -152,18 +287,7 @@ fn a_write_that_fails(rt: HostRuntime) -> Result<(), Fail> {
         (3, usize::MAX, "one\ntwo\n", ""),
         (6, 1, "one\nt", "three\n"),
     ] {
-        let mut shelf = shelf_of(alloc, &FILES)?;
-        let mut merger = Merger::start(alloc, &mut shelf, "a.w", None, None, None)?;
-        let mut sink = SmallSink::new(alloc);
-        sink.most = most;
-        sink.fails_at = fails_at;
-        let ended = write_merged(&mut merger, &mut shelf, &mut sink);
-        assert_eq!(rt; ended, Err(Stop::WriteFault), "at {fails_at}");
-        assert_eq!(rt; sink.failures(), 1);
-        assert_eq!(rt; sink.bytes.as_slice(), written.as_bytes());
-        let mut after = SmallSink::new(alloc);
-        write_merged(&mut merger, &mut shelf, &mut after)?;
-        assert_eq!(rt; after.bytes.as_slice(), rest.as_bytes());
+        check_write(&rt, fails_at, most, written, rest)?;
     }
     Ok(())
 }

@@ -8,29 +8,64 @@ fn start_at<S: Shelf>(alloc: Global, shelf: &mut S) -> Result<Merger<S>, Stop> {
     Merger::start(alloc, shelf, "a.w", None, None, None)
 }
 
-#[test]
-fn lines_as_long_as_they_may_be(rt: HostRuntime) -> Result<(), Fail> {
-    let alloc = rt.alloc();
+fn long_shelf(alloc: Global) -> Result<MemoryShelf, AllocError> {
     let longest = vec![in alloc; b'x'; 1_048_575]?;
     let longer = vec![in alloc; b'x'; 1_048_576]?;
-    let web = b"@i longest\n@i\n@i longer\n".as_slice();
-    let files = [("a.w", web), ("longest", &longest), ("longer", &longer)];
-    let mut shelf = shelf_of(alloc, &files)?;
-    let mut merger = start_at(alloc, &mut shelf)?;
-    let mut line = Vec::new(alloc);
+    let mut shelf = MemoryShelf::new(alloc);
+    shelf.put("a.w", b"@i longest\n@i\n@i longer\n")?;
+    shelf.put("longest", &longest)?;
+    shelf.put("longer", &longer)?;
+    Ok(shelf)
+}
+
+fn takes_the_longest(
+    rt: &(impl AllocGlobal + Abort),
+    merger: &mut Merger<MemoryShelf>,
+    shelf: &mut MemoryShelf,
+    line: &mut Vec<u8>,
+) -> Result<(), Fail> {
+    let longest = vec![in rt.alloc(); b'x'; 1_048_575]?;
     let place = Place {
         file: FileId(1),
         line: 1,
     };
-    assert_eq!(rt; merger.next_line(&mut shelf, &mut line), Ok(Some(place)));
+    assert!(rt; merger.next_line(shelf, line) == Ok(Some(place)));
     assert!(rt; line.as_slice() == longest.as_slice());
+    Ok(())
+}
+
+fn stops_at_the_longer(
+    rt: &impl Abort,
+    merger: &mut Merger<MemoryShelf>,
+    shelf: &mut MemoryShelf,
+    line: &mut Vec<u8>,
+) -> Result<(), Fail> {
+    line.push(b'x')?;
+    let stop = Err(Stop::LineTooLong(FileId(2)));
+    assert!(rt; merger.next_line(shelf, line) == stop);
+    assert!(rt; line.is_empty());
+    Ok(())
+}
+
+fn tells<S: Shelf>(
+    rt: &(impl AllocGlobal + Abort),
+    merger: &Merger<S>,
+    want: &str,
+) -> Result<(), Fail> {
+    assert_eq!(rt; told(rt.alloc(), merger)?.as_str(), want);
+    Ok(())
+}
+
+#[test]
+fn lines_as_long_as_they_may_be(rt: HostRuntime) -> Result<(), Fail> {
+    let mut shelf = long_shelf(rt.alloc())?;
+    let mut merger = start_at(rt.alloc(), &mut shelf)?;
+    let mut line = Vec::new(rt.alloc());
+    takes_the_longest(&rt, &mut merger, &mut shelf, &mut line)?;
+    let want = "NoName in 0 at 2\n0 is a.w\n1 is longest\n2 is longer\n";
     for _ in 0..2 {
-        line.push(b'x')?;
-        let stop = Err(Stop::LineTooLong(FileId(2)));
-        assert_eq!(rt; merger.next_line(&mut shelf, &mut line), stop);
-        assert!(rt; line.is_empty());
-        let want = "NoName in 0 at 2\n0 is a.w\n1 is longest\n2 is longer\n";
-        assert_eq!(rt; told(alloc, &merger)?.as_str(), want);
+        stops_at_the_longer(&rt, &mut merger, &mut shelf, &mut line)?;
+        tells(&rt, &merger, want)?;
     }
     Ok(())
 }
@@ -48,25 +83,32 @@ fn a_line_that_never_ends(rt: HostRuntime) -> Result<(), Fail> {
     Ok(())
 }
 
+// So many lines of so many bytes come.
+fn takes_lines(
+    rt: &impl Abort,
+    merger: &mut Merger<Endless>,
+    shelf: &mut Endless,
+    line: &mut Vec<u8>,
+    lines: u32,
+) -> Result<(), Stop> {
+    for i in 0..lines {
+        let want = Place {
+            file: FileId(0),
+            line: i + 1,
+        };
+        assert!(rt; merger.next_line(shelf, line)? == Some(want));
+        assert!(rt; line.len() == shelf.length);
+    }
+    Ok(())
+}
+
 // As many lines of so many bytes as may be taken, and then a stop.
 fn take_all(rt: &(impl AllocGlobal + Abort), length: usize, lines: u32) -> Result<(), Fail> {
     let mut shelf = Endless { length };
     let mut merger = start_at(rt.alloc(), &mut shelf)?;
     let mut line = Vec::new(rt.alloc());
-    for i in 0..lines {
-        let place = merger.next_line(&mut shelf, &mut line)?;
-        let want = Place {
-            file: FileId(0),
-            line: i + 1,
-        };
-        assert_eq!(rt; place, Some(want));
-        assert_eq!(rt; line.len(), length);
-    }
-    for _ in 0..2 {
-        let stop = Err(Stop::TooMuchText);
-        assert_eq!(rt; merger.next_line(&mut shelf, &mut line), stop);
-        assert!(rt; line.is_empty());
-    }
+    takes_lines(rt, &mut merger, &mut shelf, &mut line, lines)?;
+    stops_for_too_much(rt, &mut merger, &mut shelf, &mut line);
     Ok(())
 }
 
@@ -80,6 +122,38 @@ fn long_lines_that_never_end(rt: HostRuntime) -> Result<(), Fail> {
     take_all(&rt, 1_048_575, 1024)
 }
 
+// So many lines of an endless change file come.
+fn takes_changed(
+    rt: &impl Abort,
+    merger: &mut Merger<EndlessChange>,
+    shelf: &mut EndlessChange,
+    line: &mut Vec<u8>,
+    lines: u16,
+) -> Result<(), Stop> {
+    for i in 0..lines {
+        let want = Place {
+            file: FileId(1),
+            line: u32::from(i) + 4,
+        };
+        assert!(rt; merger.next_line(shelf, line)? == Some(want));
+    }
+    Ok(())
+}
+
+// There is too much text, and there stays too much.
+fn stops_for_too_much<S: Shelf>(
+    rt: &impl Abort,
+    merger: &mut Merger<S>,
+    shelf: &mut S,
+    line: &mut Vec<u8>,
+) {
+    for _ in 0..2 {
+        assert!(rt; shelf.failures() == 0);
+        assert!(rt; merger.next_line(shelf, line) == Err(Stop::TooMuchText));
+        assert!(rt; line.is_empty());
+    }
+}
+
 // So many lines of an endless change file, and then a stop.
 fn take_changed(
     rt: &(impl AllocGlobal + Abort),
@@ -88,23 +162,14 @@ fn take_changed(
 ) -> Result<(), Fail> {
     let mut merger = Merger::start(rt.alloc(), shelf, "a.w", None, Some("c.ch"), None)?;
     let mut line = Vec::new(rt.alloc());
-    for i in 0..lines {
-        let want = Place {
-            file: FileId(1),
-            line: u32::from(i) + 4,
-        };
-        assert!(rt; merger.next_line(shelf, &mut line)? == Some(want));
-    }
-    for _ in 0..2 {
-        let stop = Err(Stop::TooMuchText);
-        assert!(rt; merger.next_line(shelf, &mut line) == stop);
-        assert!(rt; line.is_empty());
-    }
-    assert_eq!(rt;
-        told(rt.alloc(), &merger)?.as_str(),
-        "0 is a.w\n1 is c.ch\n"
-    );
-    Ok(())
+    takes_changed(rt, &mut merger, shelf, &mut line, lines)?;
+    stops_for_too_much(rt, &mut merger, shelf, &mut line);
+    tells(rt, &merger, "0 is a.w\n1 is c.ch\n")
+}
+
+// The web, and a change file that has this front.
+fn change_shelf(alloc: Global, front: &str) -> Result<MemoryShelf, AllocError> {
+    shelf_of(alloc, &[("a.w", b"A\n"), ("c.ch", front.as_bytes())])
 }
 
 #[test]
@@ -120,9 +185,8 @@ fn change_files_that_never_end(rt: HostRuntime) -> Result<(), Fail> {
         // new lines
         ("@x\nA\n@y\n", 1_048_575, 1023),
     ] {
-        let files = [("a.w", b"A\n".as_slice()), ("c.ch", front.as_bytes())];
         let mut shelf = EndlessChange {
-            shelf: shelf_of(rt.alloc(), &files)?,
+            shelf: change_shelf(rt.alloc(), front)?,
             lines: Endless { length },
         };
         take_changed(&rt, &mut shelf, lines)?;

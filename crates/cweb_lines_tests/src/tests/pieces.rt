@@ -1,12 +1,38 @@
 // The same text however lines are gathered and however little is taken at once.
 use super::devices::{OneReadFails, SmallSink};
 use super::*;
+use std::process::Abort;
+
+const PIECES: &[(&str, &[u8])] = &[
+    ("a.w", b"one\n@i b.w\nthree, which is longer\n\nfive"),
+    ("b.w", b"two \n"),
+];
+
+// What is written where lines are gathered up to so many bytes, and at most so many are taken at once.
+fn written(alloc: Global, room: usize, most: usize) -> Result<SmallSink, Fail> {
+    let mut shelf = shelf_of(alloc, PIECES)?;
+    let mut merger = Merger::start(alloc, &mut shelf, "a.w", None, None, None)?;
+    let mut sink = SmallSink::new(alloc);
+    sink.most = most;
+    write_merged_in_pieces(&mut merger, &mut shelf, &mut sink, room)?;
+    Ok(sink)
+}
+
+fn compare_written(
+    rt: &(impl AllocGlobal + Abort),
+    room: usize,
+    most: usize,
+    writes: u64,
+) -> Result<(), Fail> {
+    let sink = written(rt.alloc(), room, most)?;
+    let want = b"one\ntwo\nthree, which is longer\n\nfive\n".as_slice();
+    assert!(rt; sink.bytes.as_slice() == want);
+    assert_eq!(rt; sink.writes, writes, "with room {room}, {most} at once");
+    Ok(())
+}
 
 #[test]
 fn pieces(rt: HostRuntime) -> Result<(), Fail> {
-    let alloc = rt.alloc();
-    let web = b"one\n@i b.w\nthree, which is longer\n\nfive".as_slice();
-    let files = [("a.w", web), ("b.w", b"two \n")];
     // The room for lines that are gathered, the bytes taken at once, and the writes that it takes. Whatever the room, lines
     // are written before the include line, before the end of its file, and before the last line, whose end must be read.
     for (room, most, writes) in [
@@ -19,30 +45,34 @@ fn pieces(rt: HostRuntime) -> Result<(), Fail> {
         (10, 1, 37),
         (65536, 16, 5),
     ] {
-        let mut shelf = shelf_of(alloc, &files)?;
-        let mut merger = Merger::start(alloc, &mut shelf, "a.w", None, None, None)?;
-        let mut sink = SmallSink::new(alloc);
-        sink.most = most;
-        write_merged_in_pieces(&mut merger, &mut shelf, &mut sink, room)?;
-        let want = b"one\ntwo\nthree, which is longer\n\nfive\n".as_slice();
-        assert!(rt; sink.bytes.as_slice() == want);
-        assert_eq!(rt; sink.writes, writes, "with room {room}, {most} at once");
+        compare_written(&rt, room, most, writes)?;
     }
     Ok(())
+}
+
+const READS: &[(&str, &[u8])] = &[
+    (
+        "a.w",
+        b"a \t\n  \n@i b.w\na longer line  \n@i b.w\n\x0b\nlast \t",
+    ),
+    ("b.w", b"two \n\n three"),
+];
+
+// What is written where at most so many bytes are read at once.
+fn written_of_reads(alloc: Global, most: usize) -> Result<SmallSink, Fail> {
+    let mut shelf = OneReadFails::new(shelf_of(alloc, READS)?);
+    shelf.most = most;
+    let mut merger = Merger::start(alloc, &mut shelf, "a.w", None, None, None)?;
+    let mut sink = SmallSink::new(alloc);
+    write_merged_in_pieces(&mut merger, &mut shelf, &mut sink, 65536)?;
+    Ok(sink)
 }
 
 // Blanks, line ends and an include line stand at each place of a read, and pieces of ended texts come again.
 #[test]
 fn reads_of_all_sizes(rt: HostRuntime) -> Result<(), Fail> {
-    let alloc = rt.alloc();
-    let web = b"a \t\n  \n@i b.w\na longer line  \n@i b.w\n\x0b\nlast \t".as_slice();
-    let files = [("a.w", web), ("b.w", b"two \n\n three")];
     for most in 1..=40usize {
-        let mut shelf = OneReadFails::new(shelf_of(alloc, &files)?);
-        shelf.most = most;
-        let mut merger = Merger::start(alloc, &mut shelf, "a.w", None, None, None)?;
-        let mut sink = SmallSink::new(alloc);
-        write_merged_in_pieces(&mut merger, &mut shelf, &mut sink, 65536)?;
+        let sink = written_of_reads(rt.alloc(), most)?;
         let want = b"a\n\ntwo\n\n three\na longer line\ntwo\n\n three\n\nlast\n".as_slice();
         assert_eq!(rt; sink.bytes.as_slice(), want, "with reads of {most} bytes");
     }
