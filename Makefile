@@ -8,7 +8,7 @@ WMERGE := crates/wmerge/out/wmerge
 OUTPUTS := crates/bench_out/out/bench_out
 SCANS := crates/bench_scan/out/bench_scan
 STORES := crates/bench_store/out/bench_store
-KIT := rattle-kit-13b
+KIT := rattle-kit-13f
 # a check by several jobs takes 1 to 4 GB
 JOBS ?= $(shell nproc)
 SOURCES := crates.txt $(shell find crates -name out -prune -o -type f \( -name '*.rt' -o -name '*.antt' \) -print)
