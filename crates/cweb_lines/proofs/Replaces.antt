@@ -1,17 +1,16 @@
 -- The old side of a change, line by line.
+use Rattle.cweb_lines.specs.declared.change.code.Code.TheVariants.{NewSide as new_side}
 use Rattle.std.proofs.Common.{◌≡◌, ◌+◌, ◌||◌, ℕ, Bool, false, List, [], ◌∷◌, ◌++◌, Some, None, Option, refl, sym, ◌∙◌, ap, subst, arith, length, length-append}
 use Rattle.std.proofs.lemmas.List.{append-nil, append_assoc}
 use Rattle.cweb_files.specs.declared.place.Place.{Place}
 use Rattle.cweb_lines.specs.Change.{OldSide, at_place, code_of, old_at, old_code, old_line, old_lines}
 use Rattle.cweb_lines.specs.Lines.{Line, SourceLine}
 use Rattle.cweb_lines.specs.Merge.{Compared, Thing, compared}
-use Rattle.cweb_lines.specs.Merging.{SoFar, Adds, StopsAmong, TellsSome}
-use Rattle.cweb_lines.specs.Replacing.{Compares, IsReplaced, Replaces, closing_faults, faults_replaced, lines_replaced, taken_away}
-use Rattle.cweb_lines.specs.Seeking.{ToldFront}
+use Rattle.cweb_lines.specs.Merging.{SoFar, Adds, StopsAmong}
+use Rattle.cweb_lines.specs.Replacing.{Compares, IsReplaced, Replaces, lines_replaced, taken_away}
 use Rattle.cweb_lines.specs.Texts.{Count, FirstStops, Refuses, Took, TopStops}
 use Rattle.cweb_lines.specs.Told.{size_of}
 use Rattle.cweb_lines.specs.declared.change.code.Code.{Code}
-use Rattle.cweb_lines.specs.declared.change.code.Code.TheVariants.{NewSide as new_side}
 use Rattle.cweb_lines.specs.declared.fault.SourceFault.{SourceFault}
 use Rattle.cweb_lines.specs.declared.fault.SourceKind.TheVariants.{WantsY}
 use Rattle.cweb_lines.specs.declared.change.old_side.Replaced.{Replaced}
@@ -234,33 +233,3 @@ module _ (change : List SourceLine) (things : List Thing) (so_far : Replaced) (l
     pub replaces_new : code_of bytes ≡ Some new_side → IsReplaced change things
         (record { unequal = so_far.unequal; ran_out = so_far.ran_out; ended = false }) rest raws old now
     replaces_new test = replaces_done now (t.line ∷ []) rest false (side (Some new_side) test) counted
-
--- some of the faults of the old lines were told, and none behind them
-pub tells_front : (faults more : List SourceFault) (old new : SoFar) → TellsSome faults old new →
-    TellsSome (faults ++ more) old new
-tells_front faults more old new some = record {
-  front = some.front;
-  rest = some.rest ++ more;
-  whole = ap (λ (fs : List SourceFault). fs ++ more) some.whole ∙ append_assoc some.front some.rest more;
-  told = some.told;
-  names = some.names;
-}
-
-module _ (begin : Place) (change : List SourceLine) (things : List Thing) (r : Replaced) (change' : List SourceLine)
-    (things' : List Thing) (old mid new : SoFar) (by : IsReplaced change things r change' things' old mid) where
-  closing_same : closing_faults begin (old_lines change).ended (taken_away change things).ran_out
-      (taken_away change things).unequal ≡ closing_faults begin r.ended r.ran_out r.unequal
-  closing_same = λ i. closing_faults begin (by.ended i) (by.ran_out i) (by.unequal i)
-
-  -- some of the faults behind the old lines were told
-  pub closes_some : ToldFront (closing_faults begin r.ended r.ran_out r.unequal) mid.faults new.faults →
-      new.names ≡ mid.names → TellsSome (faults_replaced begin change things) old new
-  closes_some front names = record {
-    front = (old_lines change).faults ++ front.front;
-    rest = front.rest;
-    whole = ap (λ (fs : List SourceFault). (old_lines change).faults ++ fs) (closing_same ∙ front.whole)
-        ∙ sym (append_assoc (old_lines change).faults front.front front.rest);
-    told = front.told ∙ ap (λ (fs : List SourceFault). fs ++ front.front) by.adds.told
-        ∙ append_assoc old.faults (old_lines change).faults front.front;
-    names = names ∙ by.adds.names;
-  }

@@ -7,8 +7,8 @@ use Rattle.cweb_lines.specs.Include.{World, Found}
 use Rattle.cweb_lines.specs.Lines.{Line, IsOneLine}
 use Rattle.cweb_lines.specs.Merge.{Event, started}
 use Rattle.cweb_lines.specs.Merging.{SoFar, Gives, KeepsTold, NothingLeft, Stopped, TellsFront, told_by, coming}
-use Rattle.cweb_lines.specs.Naming.{AreReadersKnown}
-use Rattle.cweb_lines.specs.Texts.{ReadBlames, StopsReading}
+use Rattle.cweb_lines.specs.Naming.{AreReadersKnown, BlamesFile}
+use Rattle.cweb_lines.specs.Texts.{ReadBlames, StopsReading, files_named}
 use Rattle.cweb_lines.specs.Told.{given_lines}
 use Rattle.cweb_lines.specs.Total.{merge}
 use Rattle.cweb_lines.specs.declared.limits.TheConstants.{LINES, BYTES}
@@ -35,6 +35,13 @@ stop_in merger = merger.run.stopped
 -- at this shelf each reader of the merger was opened under the name that its file has
 abbrev pub KnowsReaders : {S R : Type 0} → Shelf S R → S → Merger S R → Type 0
 KnowsReaders shelf s merger = AreReadersKnown (shelf.opened_as s) merger.run
+
+-- readers that were known stay so, and a reader is blamed where its read failed, under the name of its file
+pub record StaysKnown {S R A : Type 0} (shelf : Shelf S R) (before after : S) (old new : Merger S R)
+    (result : Result A Stop) : Type 0 where
+  pub readers : KnowsReaders shelf after new
+  pub blamed : stop_in old ≡ None
+      → BlamesFile (so_far new).names (shelf.blamed before) (shelf.blamed after) result
 
 -- no text is open any more, and no entry is left
 abbrev pub HasEnded : {S R : Type 0} → Merger S R → Type 0
@@ -67,6 +74,8 @@ pub record Leaves {S R : Type 0} (result : Result (Option Place) Stop) (bytes : 
   pub end : result ≡ Ok None → (bytes ≡ []) × HasEnded merger
   pub kept : IfErr result (λ stop. stop_in merger ≡ Some stop)
   pub empty : OnErr result (bytes ≡ [])
+  -- a stop names only a file that has been opened
+  pub named : IfErr result (λ stop. files_named stop ≤ length (so_far merger).names)
 
 -- one read failed where a stop tells of it, and else none did; no other stop comes than those of taking lines
 pub record BlamesReads (before now : ℕ) (result : Result (Option Place) Stop) : Type 0 where

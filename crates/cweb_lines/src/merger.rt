@@ -6,7 +6,7 @@ ghost use Rattle.cweb_lines.specs.Include.{web_at, change_at};
 ghost use Rattle.cweb_lines.specs.Names.{names_of};
 ghost use Rattle.cweb_lines.specs.Passing.{PassesLines};
 ghost use Rattle.cweb_lines.specs.Texts.{StartStops, files_named};
-ghost use Rattle.cweb_lines.specs.Naming.{AreReadersKnown, BlamesFile};
+ghost use Rattle.cweb_lines.specs.Naming.{AreReadersKnown};
 
 use crate::fault::SourceFault;
 use crate::files::FileNames;
@@ -30,7 +30,7 @@ pub struct Merger<S: Shelf> {
 }
 
 impl<S: Shelf> Merger<S> {
-    ghost use Rattle.cweb_lines.specs.Whole.{to_come, so_far, stop_in, HasEnded, NextLine, GivesOut, Grows, Leaves, BlamesReads, StopsThere, Begins, StopsAtStart, KnowsReaders};
+    ghost use Rattle.cweb_lines.specs.Whole.{to_come, so_far, stop_in, HasEnded, NextLine, GivesOut, Grows, Leaves, BlamesReads, StopsThere, Begins, StopsAtStart, KnowsReaders, StaysKnown};
 
     /// Opens the web under its name, or under the second where the first isn't there, then the change file if one is
     /// named, and reads nothing. Included files are sought as they are named and then in the folder `inputs`.
@@ -113,14 +113,10 @@ impl<S: Shelf> Merger<S> {
         ensures stops { IsTrue (S.tells shelf.old) → stop_in self.old ≡ None →
             IfErr result (λ stop. StopsThere stop (so_far self.old) (so_far self.new)
             (to_come S.Shelf shelf.old self.old)) }
-        ensures readers { IsTrue (S.tells shelf.old) →
-            KnowsReaders S.Shelf shelf.old self.old → KnowsReaders S.Shelf shelf.new self.new }
-        ensures blamed { IsTrue (S.tells shelf.old) → KnowsReaders S.Shelf shelf.old self.old →
-            stop_in self.old ≡ None → BlamesFile (so_far self.new).names
-            (S.blamed shelf.old) (S.blamed shelf.new) result }
+        ensures known { IsTrue (S.tells shelf.old) → KnowsReaders S.Shelf shelf.old self.old →
+            StaysKnown S.Shelf shelf.old shelf.new self.old self.new result }
         ensures again { IfSome (stop_in self.old) (λ stop.
             (result ≡ Err stop) × (self.new ≡ self.old) × (shelf.new ≡ shelf.old)) }
-        ensures named { IfErr result (λ stop. files_named stop ≤ length (so_far self.new).names) }
     {
         if let Some(stop) = self.run.stopped {
             line.clear();

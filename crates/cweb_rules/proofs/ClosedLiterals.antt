@@ -13,7 +13,8 @@ use Rattle.cweb_rules.specs.Fronts.{c_front, literal_at, quoted, is_quoted, lite
 use Rattle.cweb_rules.proofs.Chosen.{Passed, passed_front, after_literals}
 use Rattle.cweb_rules.proofs.Raws.{drop_over, quoted_stays, raw_stays, ends_raw}
 use Rattle.cweb_rules.proofs.Joins.{and_false, both}
-use Rattle.cweb_rules.proofs.Stays.{passes, opening, opens, is_letter_first}
+use Rattle.cweb_rules.proofs.Stays.{opening, opens, is_letter_first}
+use Rattle.cweb_rules.proofs.TokensStay.{passes}
 
 -- UP TO ITS QUOTE
 

@@ -13,7 +13,7 @@ use Rattle.cweb_rules.specs.Follows.{is_quiet}
 use Rattle.cweb_rules.specs.Fronts.{c_front}
 use Rattle.cweb_rules.specs.Kinds.{front, Comment}
 use Rattle.cweb_rules.proofs.Joins.{both, unlike}
-use Rattle.cweb_rules.proofs.Stays.{no_section}
+use Rattle.cweb_rules.proofs.TokensStay.{no_section}
 
 is_false : (a : Bool) → not a ≡ true → a ≡ false
 is_false true h = cc

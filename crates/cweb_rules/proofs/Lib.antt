@@ -2,12 +2,19 @@ pub mod Longest
 mod Seconds
 pub mod Seams
 pub mod Sizes
+pub mod TokenSizes
 pub mod ByRules
 pub mod Reaches
+pub mod Looks
 pub mod Ranges
 pub mod PlainRuns
+pub mod FairItems
 pub mod Fairs
-pub mod LineItems
+pub mod LineComments
+pub mod LineConstants
+pub mod LineCodes
+pub mod LineLiterals
+pub mod LineDelimiters
 pub mod LineFronts
 pub mod InLines
 pub mod Closed
@@ -17,9 +24,11 @@ pub mod Chosen
 pub mod Joins
 pub mod Raws
 pub mod Stays
+pub mod TokensStay
 pub mod ClosedLiterals
 pub mod Comments
 pub mod Tokens
 mod FollowRows
+pub mod UnitNewlines
 pub mod Newlines
 pub mod FirstBytes

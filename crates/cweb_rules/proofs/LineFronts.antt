@@ -14,8 +14,11 @@ use Rattle.cweb_rules.specs.declared.context.Context.{Context}
 use Rattle.cweb_rules.specs.declared.context.Context.TheVariants.{Limbo, TeX, Definition, Macro, CText}
 use Rattle.cweb_rules.specs.Tables.{listed, longest, number_len, goes_on_number, starts_number}
 use Rattle.cweb_rules.proofs.Fairs.{c_front-fair}
-use Rattle.cweb_rules.proofs.LineItems.{comment_at_line, line_comment_at_line, code_at_line, starts_raw_line, raw_at_line, starts_literal_line, literal_at_line, starts_include_line, include_at_line}
-use Rattle.cweb_rules.proofs.Reaches.{at_fits}
+use Rattle.cweb_rules.proofs.LineComments.{comment_at_line, line_comment_at_line}
+use Rattle.cweb_rules.proofs.LineCodes.{code_at_line}
+use Rattle.cweb_rules.proofs.LineLiterals.{starts_literal_line, literal_at_line}
+use Rattle.cweb_rules.proofs.LineDelimiters.{starts_raw_line, raw_at_line, starts_include_line, include_at_line}
+use Rattle.cweb_rules.proofs.Looks.{at_fits}
 use Rattle.cweb_rules.proofs.Seams.{in_line, stops, begins_line, drop_line, run_line, number_stop, starts_number_stop, longest_stop, at_line_end_line, starts_section_line}
 use Rattle.cweb_rules.proofs.Sizes.{begins-size}
 

@@ -1,164 +1,27 @@
 -- The line ends in the bytes that a rule names, as far as the kind of the piece tells them.
-use Rattle.std.proofs.Common.{◌≡◌, ◌≢◌, ◌≤◌, ◌<◌, ℕ, zero, suc, ◌+◌, ◌-◌, Bool, true, false, ◌&&◌, List, [], ◌∷◌, ◌++◌, length, take, drop, refl, ap, sym, ◌∙◌, subst, arith, take-append-drop, append_assoc, append-nil}
+use Rattle.std.proofs.Common.{◌≡◌, ◌≢◌, ℕ, ◌+◌, ◌-◌, Bool, true, false, ◌&&◌, List, [], ◌∷◌, ◌++◌, length, take, drop, refl, ap, sym, ◌∙◌, subst, arith}
 use Rattle.std.specs.Prelude.{if◌then◌else◌, codes}
-use Rattle.std.specs.List.{flat_map}
-use Rattle.std.proofs.Math.Seq.{take-add, drop-nil, take-append_seam}
-use Rattle.std.proofs.lemmas.Bool.{eqb-true, ne_eqb}
-use Rattle.std.proofs.lemmas.Grind.{flat_map-append}
-use Rattle.std.proofs.lemmas.List.{take-append-le}
+use Rattle.std.proofs.lemmas.Bool.{eqb-true}
 use Rattle.cweb_rules.specs.Bytes.{begins, is_blank, is_line_end, at_line_end, starts_section}
 use Rattle.cweb_rules.specs.Codes.{in_limbo, in_text, in_macro, in_c}
-use Rattle.cweb_rules.specs.Cut.{Reach, reach, reach_in, with_unit, body}
-use Rattle.cweb_rules.specs.Fronts.{code_front, code_at, text_front, quoted, quote_of, literal_prefix, raw_prefix, delimiter, closing_sign, starts_raw, starts_literal, c_front, head_as, front_in}
+use Rattle.cweb_rules.specs.Fronts.{code_front, code_at, text_front, quote_of, literal_prefix, raw_prefix, delimiter, closing_sign, starts_raw, starts_literal, c_front, head_as, front_in}
 use Rattle.cweb_rules.specs.Items.{look_in_literal, look_in_raw}
 use Rattle.cweb_rules.specs.Kinds.{Kind, Skipped, Section, Code, Letter, ControlText, Verbatim, Constant, Occurrence, Blanks, LineEnd, Comment, Quoted, Defined, Identifier, Numeral, Punctuator, Front, front}
 use Rattle.cweb_rules.specs.Lines.{IsLine, AtLineEnd, opens_comment, opens_literal, opens_raw, opens_effect, opens_code, text_opens, c_opens}
-use Rattle.cweb_rules.specs.Pays.{at_line_ends}
 use Rattle.cweb_rules.specs.declared.context.Context.{Context}
 use Rattle.cweb_rules.specs.declared.context.Context.TheVariants.{Limbo, TeX, Definition, Macro, CText}
 use Rattle.cweb_rules.specs.declared.effect.Effect.{Effect}
 use Rattle.cweb_rules.specs.declared.effect.Effect.TheVariants.{Nothing, Define, Format, Program, Named, InsertDefs, Joins, GiveAt, Faulty}
 use Rattle.cweb_rules.specs.declared.effect.Effect.TheVariants as effect
-use Rattle.cweb_rules.specs.declared.end.End.{End}
-use Rattle.cweb_rules.specs.declared.end.End.TheVariants.{Cut}
-use Rattle.cweb_rules.specs.declared.look.Look.{Look}
-use Rattle.cweb_rules.specs.declared.look.Look.TheVariants.{Goes, Ends}
-use Rattle.cweb_rules.proofs.Fairs.{c_front-fair, text_front-fair}
-use Rattle.cweb_rules.proofs.InLines.{InLine, AreLines, IsLine-take, c-stands, text-stands}
+use Rattle.cweb_rules.proofs.FairItems.{text_front-fair}
+use Rattle.cweb_rules.proofs.Fairs.{c_front-fair}
+use Rattle.cweb_rules.proofs.InLines.{c-stands, text-stands}
 use Rattle.cweb_rules.proofs.LineFronts.{c_front_line, text_front_line}
-use Rattle.cweb_rules.proofs.LineItems.{starts_raw_line, starts_literal_line}
-use Rattle.cweb_rules.proofs.Reaches.{IsSome, AllSome, literal-some}
+use Rattle.cweb_rules.proofs.LineLiterals.{starts_literal_line}
+use Rattle.cweb_rules.proofs.LineDelimiters.{starts_raw_line}
+use Rattle.cweb_rules.proofs.Looks.{literal-some}
 use Rattle.cweb_rules.proofs.Seams.{begins_line, starts_section_line}
-
--- Skipped bytes, names, comments and literals may have line ends, those of a literal in its units; a line end is one;
--- nothing
--- else has any.
-abbrev pub Tells : Kind → List ℕ → Type 0
-Tells Skipped bytes = Unit {0}
-Tells (Occurrence is_file us how opens) bytes = Unit {0}
-Tells (Comment how) bytes = Unit {0}
-Tells LineEnd bytes = bytes ≡ 10 ∷ []
-Tells (Quoted us how) bytes = at_line_ends 1 (flat_map (λ u. u) us) ≡ at_line_ends 1 bytes
-Tells k bytes = at_line_ends 1 bytes ≡ 0
-
-abbrev pub Told : List ℕ → Front → Type 0
-Told t f = Tells f.kind (take f.size t)
-
--- LINES
-
-pub none-ends : (t : List ℕ) → IsLine t → at_line_ends 1 t ≡ 0
-none-ends [] h = refl
-none-ends (b ∷ t) h = ap (λ v. if v then 1 + at_line_ends 1 t else at_line_ends 1 t) (ne_eqb b 10 h.0) ∙ none-ends t h.1
-
-pub ends-append : (t u : List ℕ) → at_line_ends 1 (t ++ u) ≡ at_line_ends 1 t + at_line_ends 1 u
-ends-append [] u = let e : at_line_ends 1 u ≡ 0 + at_line_ends 1 u = omega arith in e
-ends-append (b ∷ t) u =
-    elim (is_line_end b) as (λ v.
-    (if v then 1 + at_line_ends 1 (t ++ u) else at_line_ends 1 (t ++ u))
-    ≡ (if v then 1 + at_line_ends 1 t else at_line_ends 1 t) + at_line_ends 1 u) [
-      | true ↦ omega (arith, ends-append t u)
-      | false ↦ ends-append t u
-    ]
-
-units-none : (us : List (List ℕ)) → AreLines us → at_line_ends 1 (flat_map (λ u. u) us) ≡ 0
-units-none [] h = refl
-units-none (u ∷ us) h = omega (arith, ends-append u (flat_map (λ u. u) us), none-ends u h.0, units-none us h.1)
-
-line-told : (k : Kind) (bytes : List ℕ) → InLine k bytes → IsLine bytes → Tells k bytes
-line-told Skipped bytes h l = tt
-line-told (Section starred) bytes h l = none-ends bytes l
-line-told (Code e) bytes h l = none-ends bytes l
-line-told (Letter byte text) bytes h l = none-ends bytes l
-line-told (ControlText how) bytes h l = none-ends bytes l
-line-told (Verbatim us how) bytes h l = none-ends bytes l
-line-told (Constant v) bytes h l = none-ends bytes l
-line-told (Occurrence is_file us how opens) bytes h l = tt
-line-told Blanks bytes h l = none-ends bytes l
-line-told LineEnd bytes h l = absurd h
-line-told (Comment how) bytes h l = tt
-line-told (Quoted us how) bytes h l = units-none us h ∙ sym (none-ends bytes l)
-line-told (Defined tight) bytes h l = none-ends bytes l
-line-told Identifier bytes h l = none-ends bytes l
-line-told Numeral bytes h l = none-ends bytes l
-line-told Punctuator bytes h l = none-ends bytes l
-
--- what a line's front names is told, whatever follows the line
-in_line-told : (f : Front) (u more : List ℕ) → IsLine u
-    → InLine f.kind (take f.size u) → f.size ≤ length u → Told (u ++ more) f
-in_line-told f u more l h fits =
-    subst (Tells f.kind) (sym (take-append-le f.size u more fits))
-    (line-told f.kind (take f.size u) h (IsLine-take f.size u l))
-
--- THE UNITS OF AN ITEM
-
-abbrev at_front : (List ℕ → Look) → End → Look → List ℕ → List ℕ → Reach
-at_front look e v u t =
-    elim v [
-      | Goes n ↦ with_unit (take n u) (reach_in look e (n - 1) t)
-      | Ends n how ↦ record { units = []; close = n; how = how }
-    ]
-
-drop-pred : (n : ℕ) (b : ℕ) (t : List ℕ) → 0 < n → drop (n - 1) t ≡ drop n (b ∷ t)
-drop-pred n b t h = let e : n ≡ suc (n - 1) = omega arith in sym (ap (λ m. drop m (b ∷ t)) e)
-
-abbrev Begins : Reach → List ℕ → Type 0
-Begins r t = (rest : List ℕ) × (t ≡ body r ++ rest)
-
-begins_at : (look : List ℕ → Look) (e : End) (v : Look) (b : ℕ) (t : List ℕ) → IsSome v
-    → ((k : ℕ) → Begins (reach_in look e k t) (drop k t)) → Begins (at_front look e v (b ∷ t) t) (b ∷ t)
-begins_at look e (Goes n) b t some f =
-    let r = reach_in look e (n - 1) t in
-    let h = f (n - 1) in (
-      h.0,
-      sym (take-append-drop n (b ∷ t))
-          ∙ ap (λ u. take n (b ∷ t) ++ u) (sym (drop-pred n b t some) ∙ h.1)
-          ∙ sym (append_assoc (take n (b ∷ t)) (body r) h.0),
-    )
-begins_at look e (Ends n how) b t some f = (b ∷ t, refl)
-
-begins_in : (look : List ℕ → Look) (e : End) → AllSome look
-    → (k : ℕ) (t : List ℕ) → Begins (reach_in look e k t) (drop k t)
-begins_in look e some k [] = ([], drop-nil k)
-begins_in look e some (suc k) (b ∷ t) = begins_in look e some k t
-begins_in look e some zero (b ∷ t) = begins_at look e (look (b ∷ t)) b t (some b t) (λ k. begins_in look e some k t)
-
--- an item's units are what its text begins with
-units-front : (look : List ℕ → Look) (e : End) (t : List ℕ) → AllSome look
-    → take (length (body (reach look e t))) t ≡ body (reach look e t)
-units-front look e t some =
-    let r = reach look e t in
-    let h = begins_in look e some 0 t in
-    ap (take (length (body r))) h.1 ∙ take-append_seam (body r) h.0
-
--- dropping twice
-pub drop-sum : {A : Type 0} (n m : ℕ) (t : List A) → drop (n + m) t ≡ drop m (drop n t)
-drop-sum zero m t = let e : 0 + m ≡ m = omega arith in ap (λ k. drop k t) e
-drop-sum (suc n) m [] = drop-nil (suc n + m) ∙ sym (drop-nil m)
-drop-sum (suc n) m (b ∷ t) =
-    let e : suc n + m ≡ suc (n + m) = omega arith in ap (λ k. drop k (b ∷ t)) e ∙ drop-sum n m t
-
-quoted-told : (look : List ℕ → Look) → AllSome look → (n : ℕ) (t : List ℕ)
-    → Told t (quoted n (reach look Cut (drop n t)) t)
-quoted-told look some n t =
-    let r = reach look Cut (drop n t) in
-    let m = length (body r) in
-    let close = take r.close (drop (n + m) t) in
-    let units : flat_map (λ u. u) (r.units ++ close ∷ []) ≡ take (m + r.close) (drop n t) =
-    flat_map-append (λ u. u) r.units (close ∷ [])
-    ∙ ap (λ u. body r ++ u) (append-nil close ∙ ap (take r.close) (drop-sum n m t))
-    ∙ ap (λ u. u ++ take r.close (drop m (drop n t))) (sym (units-front look Cut (drop n t) some))
-    ∙ sym (take-add m r.close (drop n t)) in
-    ap (at_line_ends 1) (ap (λ u. take n t ++ u) units ∙ sym (take-add n (m + r.close) t))
-
-some_if : (v : Bool) (x y : Look) → IsSome x → IsSome y → IsSome (if v then x else y)
-some_if true x y f g = f
-some_if false x y f g = g
-
-raw-some : (sign : List ℕ) → AllSome (look_in_raw sign)
-raw-some sign b t =
-    some_if (begins sign (b ∷ t)) _ _ tt
-    (some_if (starts_section (b ∷ t)) _ _ tt
-    (some_if (begins (codes "@@") (b ∷ t)) _ _ (omega arith) (omega arith)))
+use Rattle.cweb_rules.proofs.UnitNewlines.{Tells, Told, in_line-told, quoted-told, raw-some}
 
 -- ITEMS THAT GO ON BEHIND THEIR LINE
 

@@ -1,18 +1,12 @@
--- A Word, a Number and a Punct are read alike, whatever follows that can't go on with them.
+-- Where literals and numbers begin, whatever follows that can't go on with them.
 use Rattle.std.proofs.Common.{◌≡◌, ℕ, ◌+◌, Bool, true, false, cond, ◌&&◌, ◌||◌, ◌==◌, not, List, [], ◌∷◌, ◌++◌, refl, ap, sym, ◌∙◌, subst}
 use Rattle.std.specs.Prelude.{codes, if◌then◌else◌}
-use Rattle.std.specs.List.{list_all, prefix_len}
 use Rattle.std.proofs.lemmas.Bool.{eqb-true}
-use Rattle.cweb_rules.specs.Bytes.{begins, first_is, is_one_of, is_digit, is_word_byte, starts_section}
-use Rattle.cweb_rules.specs.Codes.{in_c}
-use Rattle.cweb_rules.specs.Fronts.{c_front, literal_at, is_quoted, starts_literal, raw_at}
-use Rattle.cweb_rules.specs.Kinds.{front, Numeral, Identifier, Punctuator}
-use Rattle.cweb_rules.specs.Tables.{listed, longest, number_len, goes_on_number, starts_number}
+use Rattle.cweb_rules.specs.Bytes.{begins, first_is, is_one_of, is_digit, is_word_byte}
+use Rattle.cweb_rules.specs.Fronts.{is_quoted, starts_literal}
+use Rattle.cweb_rules.specs.Tables.{number_len, goes_on_number, starts_number}
 use Rattle.cweb_rules.specs.Follows.{JoinsAll, after_word, after_number}
-use Rattle.cweb_rules.proofs.Chosen.{Passed, Facts, ForWord, ForNumber, ForPunct, passed_front}
-use Rattle.cweb_rules.proofs.Raws.{plain_raw, word_raw}
-use Rattle.cweb_rules.proofs.Joins.{and_false, neither, unlike, seam_joins, begins_stays, longest_stays}
-use Rattle.cweb_rules.proofs.Seams.{run_stop}
+use Rattle.cweb_rules.proofs.Joins.{and_false, neither, unlike, seam_joins}
 
 or_false : (a : Bool) → (a || false) ≡ a
 or_false true = refl
@@ -90,7 +84,7 @@ plain_literal b t w = plain_with is_word_byte false b t w refl refl refl
 
 -- NUMBERS BEGIN
 
-word_no_number : (b : ℕ) (t more : List ℕ) → (b == 46) ≡ false → starts_number (b ∷ t ++ more) ≡ starts_number (b ∷ t)
+pub word_no_number : (b : ℕ) (t more : List ℕ) → (b == 46) ≡ false → starts_number (b ∷ t ++ more) ≡ starts_number (b ∷ t)
 word_no_number b [] [] h = refl
 word_no_number b [] (c ∷ more) h = ap (λ v. is_digit b || (v && is_digit c)) h ∙ or_false (is_digit b)
 word_no_number b (c ∷ t) more h = refl
@@ -104,13 +98,13 @@ no_dot joins all b c h = (elim (b == 46) as (λ v. (b == 46) ≡ v → (v && is_
   | false ↦ λ e. refl
 ]) refl
 
-punct_no_number : (joins : ℕ → ℕ → Bool) → JoinsAll joins → (b : ℕ) (t more : List ℕ)
+pub punct_no_number : (joins : ℕ → ℕ → Bool) → JoinsAll joins → (b : ℕ) (t more : List ℕ)
     → seam_joins joins b t more ≡ false → starts_number (b ∷ t ++ more) ≡ starts_number (b ∷ t)
 punct_no_number joins all b [] [] h = refl
 punct_no_number joins all b [] (c ∷ more) h = ap (λ v. is_digit b || v) (no_dot joins all b c h) ∙ or_false (is_digit b)
 punct_no_number joins all b (c ∷ t) more h = refl
 
-number_stays_number : (b : ℕ) (t more : List ℕ) → starts_number (b ∷ t) ≡ true → starts_number (b ∷ t ++ more) ≡ true
+pub number_stays_number : (b : ℕ) (t more : List ℕ) → starts_number (b ∷ t) ≡ true → starts_number (b ∷ t ++ more) ≡ true
 number_stays_number b [] [] h = h
 number_stays_number b [] (c ∷ more) h = ap (λ v. v || ((b == 46) && is_digit c)) h
 number_stays_number b (c ∷ t) more h = h
@@ -139,115 +133,3 @@ number_goes last [] (c ∷ more) h =
     (λ i. w.0 i || dot i || (e.1 i && is_one_of (codes "eEpP") last))
 number_goes last (b ∷ t) more h =
     ap (λ n. elim (goes_on_number last b) [ true ↦ 1 + n | false ↦ 0 ]) (number_goes b t more h)
-
--- THE RULES BEFORE
-
-pub no_section : (b : ℕ) (t : List ℕ) → (b == 64) ≡ false → starts_section (b ∷ t) ≡ false
-no_section b [] h = h
-no_section b (c ∷ t) h = ap (λ v. v && is_one_of (32 ∷ 9 ∷ 10 ∷ 42 ∷ []) c) h
-
-section_stays : (b : ℕ) (t : List ℕ) → begins (codes "@") (b ∷ t) ≡ false → starts_section (b ∷ t) ≡ false
-section_stays b t h = no_section b t (unlike (λ x. 64 == x) b 64 true refl (sym (and_true (64 == b)) ∙ h))
-
-pub passes : (b : ℕ) (t more : List ℕ) → (47 == b) ≡ false → Passed (b ∷ t) → Passed (b ∷ t ++ more)
-passes b t more e p = record {
-  blank = p.blank;
-  line_end = p.line_end;
-  comment = ap (λ v. v && begins (codes "*") (t ++ more)) e;
-  line_comment = ap (λ v. v && begins (codes "/") (t ++ more)) e;
-  section = section_stays b (t ++ more) p.code;
-  code = p.code;
-}
-
-two_join : (v : Bool) → v ≡ true → (v && true) ≡ true
-two_join v h = and_true v ∙ h
-
-passes_seam : (joins : ℕ → ℕ → Bool) → JoinsAll joins → (b : ℕ) (t more : List ℕ)
-    → seam_joins joins b t more ≡ false → Passed (b ∷ t) → Passed (b ∷ t ++ more)
-passes_seam joins all b t more h p = record {
-  blank = p.blank;
-  line_end = p.line_end;
-  comment = begins_stays joins (codes "/*") b t more (two_join (joins 47 42) all.comment) h ∙ p.comment;
-  line_comment = begins_stays joins (codes "//") b t more (two_join (joins 47 47) all.line_comment) h ∙ p.line_comment;
-  section = section_stays b (t ++ more) p.code;
-  code = p.code;
-}
-
--- THE THREE KINDS OF TOKENS
-
-not_word : (more : List ℕ) → first_is after_word more ≡ false → first_is is_word_byte more ≡ false
-not_word [] h = refl
-not_word (c ∷ more) h = (neither (is_word_byte c) (is_one_of (codes "\"'") c) h).0
-
-not_number : (more : List ℕ) → first_is after_number more ≡ false → first_is after_word more ≡ false
-not_number [] h = refl
-not_number (c ∷ more) h = (neither (after_word c) (is_one_of (codes ".+-") c) h).0
-
-pub word_front : (t : List ℕ) → Facts t ForWord
-    → c_front in_c false false t ≡ front Identifier (prefix_len is_word_byte t)
-word_front t f =
-    passed_front t f.0.0
-    ∙ (λ i.
-    if f.0.1 i then raw_at t
-    else (if f.1 i then literal_at t
-    else (if f.2 i then front Numeral (number_len 0 t)
-    else (if f.3 i then front Identifier (prefix_len is_word_byte t)
-    else front Punctuator (longest listed t)))))
-
-pub word_stays : (b : ℕ) (t more : List ℕ) → Facts (b ∷ t) ForWord → list_all is_word_byte (b ∷ t) ≡ true
-    → first_is after_word more ≡ false → c_front in_c false false (b ∷ t ++ more) ≡ c_front in_c false false (b ∷ t)
-word_stays b t more f all h =
-    word_front (b ∷ t ++ more) (
-      (passes b t more (unlike is_word_byte 47 b true f.3 refl) f.0.0, word_raw (b ∷ t) more all h),
-      literal_stays b t more h ∙ f.1,
-      word_no_number b t more (unlike (λ x. 46 == x) b 46 true refl (unlike is_word_byte 46 b true f.3 refl)) ∙ f.2,
-      f.3,
-    )
-    ∙ ap (front Identifier) (run_stop is_word_byte (b ∷ t) more (not_word more h))
-    ∙ sym (word_front (b ∷ t) f)
-
-number_front : (t : List ℕ) → Facts t ForNumber → c_front in_c false false t ≡ front Numeral (number_len 0 t)
-number_front t f =
-    passed_front t f.0.0
-    ∙ (λ i.
-    if f.0.1 i then raw_at t
-    else (if f.1 i then literal_at t
-    else (if f.2 i then front Numeral (number_len 0 t)
-    else (if first_is is_word_byte t then front Identifier (prefix_len is_word_byte t)
-    else front Punctuator (longest listed t)))))
-
-pub number_stays : (b : ℕ) (t more : List ℕ) → Facts (b ∷ t) ForNumber → first_is after_number more ≡ false
-    → c_front in_c false false (b ∷ t ++ more) ≡ c_front in_c false false (b ∷ t)
-number_stays b t more f h =
-    number_front (b ∷ t ++ more) (
-      (
-        passes b t more (unlike begins_number 47 b true (number_first b t f.2) refl) f.0.0,
-        plain_raw begins_number true b (t ++ more) (number_first b t f.2) refl refl refl refl,
-      ),
-      literal_stays b t more (not_number more h) ∙ f.1,
-      number_stays_number b t more f.2,
-    )
-    ∙ ap (front Numeral) (number_goes 0 (b ∷ t) more h)
-    ∙ sym (number_front (b ∷ t) f)
-
-punct_front : (t : List ℕ) → Facts t ForPunct → c_front in_c false false t ≡ front Punctuator (longest listed t)
-punct_front t f =
-    passed_front t f.0.0
-    ∙ (λ i.
-    if f.0.1 i then raw_at t
-    else (if f.1 i then literal_at t
-    else (if f.2 i then front Numeral (number_len 0 t)
-    else (if f.3 i then front Identifier (prefix_len is_word_byte t)
-    else front Punctuator (longest listed t)))))
-
-pub punct_stays : (joins : ℕ → ℕ → Bool) → JoinsAll joins → (b : ℕ) (t more : List ℕ) → Facts (b ∷ t) ForPunct
-    → seam_joins joins b t more ≡ false → c_front in_c false false (b ∷ t ++ more) ≡ c_front in_c false false (b ∷ t)
-punct_stays joins all b t more f h =
-    punct_front (b ∷ t ++ more) (
-      (passes_seam joins all b t more h f.0.0, plain_raw is_word_byte false b (t ++ more) f.3 refl refl refl refl),
-      plain_literal b (t ++ more) f.3 ∙ sym (plain_literal b t f.3) ∙ f.1,
-      punct_no_number joins all b t more h ∙ f.2,
-      f.3,
-    )
-    ∙ ap (front Punctuator) (longest_stays joins listed b t more all.punctuators h)
-    ∙ sym (punct_front (b ∷ t) f)

@@ -20,8 +20,9 @@ use Rattle.cweb_rules.proofs.Chosen.{Passed, Coded, Opens, Facts, rule_of, chose
 use Rattle.cweb_rules.proofs.ClosedLiterals.{raw_front, raw_stays_whole, literal_front, literal_stays_whole, is_a_quote}
 use Rattle.cweb_rules.proofs.Joins.{both, neither, seam_joins}
 use Rattle.cweb_rules.proofs.Raws.{plain_raw, run_all}
-use Rattle.cweb_rules.proofs.Reaches.{at_fits}
-use Rattle.cweb_rules.proofs.Stays.{word_front, word_stays, number_stays, punct_stays, plain_literal, plain_with, number_first, and_true}
+use Rattle.cweb_rules.proofs.Looks.{at_fits}
+use Rattle.cweb_rules.proofs.Stays.{plain_literal, plain_with, number_first, and_true}
+use Rattle.cweb_rules.proofs.TokensStay.{word_front, word_stays, number_stays, punct_stays}
 
 seam_of : (joins : ℕ → ℕ → Bool) (b : ℕ) (t more : List ℕ)
     → seam_joins joins b t more ≡ first_is (joins_last joins (b ∷ t)) more

@@ -12,7 +12,8 @@ use Rattle.cweb_rules.specs.declared.end.End.TheVariants.{Closed, Cut, Nested, O
 use Rattle.cweb_rules.specs.declared.items.Reached.{Reached}
 use Rattle.cweb_rules.specs.declared.look.Look.{Look}
 use Rattle.cweb_rules.specs.declared.look.Look.TheVariants.{Goes, Ends}
-use Rattle.cweb_rules.proofs.Reaches.{IsWithin, AllWithin, IsEnd, control-units, comment-units}
+use Rattle.cweb_rules.proofs.Reaches.{IsEnd}
+use Rattle.cweb_rules.proofs.Looks.{IsWithin, AllWithin, control-units, comment-units}
 use Rattle.cweb_scan.specs.After.{Reading, next_line, each_line_end, comment_line_end, comment, control_text, blank}
 use Rattle.cweb_scan.specs.Fronted.{ended_as, Gives}
 use Rattle.cweb_scan.specs.State.{State}

@@ -1,15 +1,13 @@
--- What is taken in one turn in a head.
-use Rattle.std.proofs.Common.{◌≡◌, ◌≤◌, ℕ, Bool, true, false, ◌&&◌, ◌||◌, ◌==◌, not, List, [], ◌∷◌, ◌++◌, Option, Some, None, length, drop, take, refl, ap, sym, ◌∙◌, subst, arith}
+-- What leaves a head in one turn.
+use Rattle.std.proofs.Common.{◌≡◌, ◌≤◌, ℕ, Bool, true, false, List, [], ◌∷◌, ◌++◌, Option, Some, None, length, drop, take, refl, ap, sym, ◌∙◌, subst, arith}
 use Rattle.std.specs.Prelude.{if◌then◌else◌, codes}
-use Rattle.std.specs.List.{prefix_len}
-use Rattle.std.proofs.lemmas.Bool.{eqb-true}
 use Rattle.cweb_files.specs.declared.place.Place.{Place}
 use Rattle.cweb_rules.specs.Bytes.{begins, is_blank, is_line_end, is_digit, is_word_byte, starts_section}
 use Rattle.cweb_rules.specs.Codes.{in_text, in_macro}
 use Rattle.cweb_rules.specs.Constants.{letter}
 use Rattle.cweb_rules.specs.Fronts.{front_in, c_front, code_at, code_front, head_as, head_front, letter_is, section_at, text_front}
 use Rattle.cweb_rules.specs.Kinds.{Kind, Skipped, Section, Code, Letter, ControlText, Verbatim, Constant, Occurrence, Blanks, LineEnd, Comment, Quoted, Defined, Identifier, Numeral, Punctuator, Front, front}
-use Rattle.cweb_rules.specs.Lines.{AtLineEnd, IsLine, opens_in, c_opens, opens_code, text_opens}
+use Rattle.cweb_rules.specs.Lines.{AtLineEnd}
 use Rattle.cweb_rules.specs.Rules.{c_rule, c_front_by}
 use Rattle.cweb_rules.specs.declared.constants.Transliteration.{Transliteration}
 use Rattle.cweb_rules.specs.declared.context.Context.{Context}
@@ -20,23 +18,20 @@ use Rattle.cweb_rules.specs.declared.effect.Effect.TheVariants as effect
 use Rattle.cweb_rules.specs.declared.rule.Rule.{Rule}
 use Rattle.cweb_rules.specs.declared.rule.Rule.TheVariants as rule
 use Rattle.cweb_rules.proofs.ByRules.{c_front-by}
-use Rattle.cweb_rules.proofs.LineItems.{starts_raw_line, starts_literal_line}
+use Rattle.cweb_rules.proofs.LineLiterals.{starts_literal_line}
+use Rattle.cweb_rules.proofs.LineDelimiters.{starts_raw_line}
 use Rattle.cweb_rules.proofs.Seams.{begins_line, starts_number_stop, starts_section_line, stops}
-use Rattle.cweb_scan.specs.After.{blank, enter_in, item, stays_in_head}
-use Rattle.cweb_scan.specs.Directives.{directive, is_c, is_some, names_include}
-use Rattle.cweb_scan.specs.Directives as directives
-use Rattle.cweb_scan.specs.Fronted.{Gives}
+use Rattle.cweb_scan.specs.After.{enter_in, item, stays_in_head}
+use Rattle.cweb_scan.specs.Directives.{names_include}
 use Rattle.cweb_scan.specs.Held.{Held}
 use Rattle.cweb_scan.specs.Turned.{Passes}
 use Rattle.cweb_scan.specs.Resume.{Between}
-use Rattle.cweb_scan.specs.Run.{front_of, run}
-use Rattle.cweb_scan.specs.State.{State, drop_definition, give}
-use Rattle.cweb_scan.proofs.CodeTurns.{at_item, staying_at}
+use Rattle.cweb_scan.specs.Run.{run}
+use Rattle.cweb_scan.specs.State.{State, drop_definition}
+use Rattle.cweb_scan.proofs.CodeTurns.{at_item}
 use Rattle.cweb_scan.proofs.Openers.{run_as}
 use Rattle.cweb_scan.proofs.RuleTurns.{is_ended}
 use Rattle.cweb_scan.proofs.TakenItems.{reading}
-use Rattle.cweb_scan.proofs.Turns.{opens_by, c_opens-by, neither}
-use Rattle.cweb_store.specs.Parts as parts
 
 -- WHAT LEAVES A HEAD
 
@@ -139,7 +134,7 @@ foreign_rule v rule.Number b c l n e = refl
 foreign_rule v rule.Identifier b c l n e = absurd (n refl)
 foreign_rule v rule.Punctuator b c l n e = refl
 
-by_rule : (v : List ℕ) (r : Rule) → r ≡ c_rule false v → c_front in_macro true false v ≡ c_front_by in_macro true v r
+pub by_rule : (v : List ℕ) (r : Rule) → r ≡ c_rule false v → c_front in_macro true false v ≡ c_front_by in_macro true v r
 by_rule v r is = c_front-by in_macro true false v ∙ ap (c_front_by in_macro true v) (sym is)
 
 -- which rule fits in a line doesn't depend on what comes after it
@@ -213,71 +208,3 @@ pub dropped_at : (n : ℕ) (u : List ℕ) (h v new : Held) (dropped : State) (be
 dropped_at n u h v new dropped begun r same none in_head some is left made passes =
     dropped_passes n u h v new begun r same none in_head some is left
     (subst (λ (x : State). Passes n u (at_item v x) new) made passes)
-
--- WHAT STAYS IN A HEAD
-
-no_at : (is : Rule → Bool) (u : List ℕ) → is rule.Section ≡ false
-    → is rule.Code ≡ false → is (c_rule false u) ≡ true → begins (codes "@") u ≡ false
-no_at is [] s c h = refl
-no_at is (b ∷ t) s c h = (elim (64 == b) as (λ v. (64 == b) ≡ v → (v && true) ≡ false) [
-  | true ↦ λ e.
-      let first : is (c_rule false (64 ∷ t)) ≡ true =
-      subst (λ n. is (c_rule false (n ∷ t)) ≡ true) (sym (eqb-true 64 b e)) h in
-      let wrong : true ≡ false = sym first ∙ neither is (starts_section (64 ∷ t)) rule.Section rule.Code s c in cc
-  | false ↦ λ e. refl
-]) refl
-
-unless : (v x : Bool) → x ≡ false → (if v then false else x) ≡ false
-unless true x h = refl
-unless false x h = h
-
--- its item ends in its line
-head_closed : (is : Rule → Bool) (u : List ℕ) (r : Rule) → r ≡ c_rule false u → is r ≡ true
-    → is rule.Section ≡ false → is rule.Code ≡ false → opens_by in_macro u r ≡ false
-    → (c_opens in_macro u || text_opens in_text u) ≡ false
-head_closed is u r same fits s c ends =
-    let at : begins (codes "@") u ≡ false = no_at is u s c (ap is (sym same) ∙ fits) in
-    let x : c_opens in_macro u ≡ false = c_opens-by in_macro false u ∙ ap (opens_by in_macro u) (sym same) ∙ ends in
-    let y : text_opens in_text u ≡ false =
-    unless (starts_section u) (if begins (codes "@") u then opens_code in_text u else false)
-    (ap (λ v. if v then opens_code in_text u else false) at) in
-    λ i. x i || y i
-
-abbrev pub stays : Rule → Bool
-stays rule.Blanks = true
-stays rule.LineComment = true
-stays rule.Identifier = true
-stays r = false
-
-head_is : (u : List ℕ) (r : Rule) → r ≡ c_rule false u
-    → head_front u ≡ (let f = c_front_by in_macro true u r in head_as f.kind f u)
-head_is u r is = ap (λ (f : Front). head_as f.kind f u) (by_rule u r is)
-
--- an item that belongs to a head
-pub head_passes : (n : ℕ) (u : List ℕ) (h v : Held) (new : State) (begun : Place) (r : Rule) (f : Front) → v ≡ h
-    → h.item ≡ Between → h.state.context ≡ Definition begun → IsLine u → 1 ≤ length u → r ≡ c_rule false u
-    → stays r ≡ true → opens_by in_macro u r ≡ false → (let g = c_front_by in_macro true u r in head_as g.kind g u) ≡ f
-    → stays_in_head f.kind ≡ true → Gives f u n v.state new → Passes n u h (at_item v new)
-head_passes n u h v new begun r f same none in_head line some is fits ends gives_front stay gives =
-    let s = h.state in
-    let front : front_of s u ≡ f =
-    ap (λ (c : Context). front_in c (names_include s) u) in_head ∙ head_is u r is ∙ gives_front in
-    let stayed : enter_in s.context (front_of s u).kind s ≡ s =
-    ap (λ (g : Front). enter_in s.context g.kind s) front ∙ ap (λ (c : Context). enter_in c f.kind s) in_head
-    ∙ ap (λ v. if v then s else drop_definition begun s) stay in
-    staying_at n u h v new f same none stayed line some front
-    (ap (λ (c : Context). opens_in c u) in_head ∙ head_closed stays u r is fits refl refl ends) gives
-
--- blanks give nothing
-pub blanks_pass : (n : ℕ) (u : List ℕ) (h : Held) (begun : Place) (r : Rule)
-    → r ≡ rule.Blanks → h.item ≡ Between → h.state.context ≡ Definition begun → IsLine u
-    → 1 ≤ length u → r ≡ c_rule false u → n ≡ prefix_len is_blank u → Passes n u h h
-blanks_pass n u h begun r blanks none in_head line some is size =
-    let s = h.state in
-    let same : s ≡ blank s =
-    sym (ap (λ v.
-    if (v && is_some (directive s).tokens) && not (directives.is_blank (directive s).last)
-    then give parts.Blank s else s)
-    (ap is_c in_head)) in
-    head_passes n u h h s begun rule.Blanks (front Blanks (prefix_len is_blank u)) refl none in_head
-    line some (sym blanks ∙ is) refl refl refl refl (record { size = size; state = same })

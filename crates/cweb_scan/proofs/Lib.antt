@@ -1,15 +1,20 @@
 pub mod Steps
+pub mod TiedSteps
 pub mod Rooms
 pub mod Spelling
 pub mod Drops
 pub mod Fairs
 pub mod Measures
 pub mod StateAdds
+pub mod ItemAdds
 pub mod PieceAdds
 pub mod Pieces
 pub mod Bounds
 pub mod OpenItems
+pub mod OpenNames
+pub mod OpenLiterals
 pub mod Openers
+pub mod LiteralOpeners
 pub mod Gaps
 pub mod LineUnits
 pub mod TakenItems
@@ -30,6 +35,7 @@ mod RowsCodes
 mod RowsRawLiterals
 mod RowsThousand
 pub mod Weights
+pub mod PieceWeights
 pub mod Turns
 pub mod Ends
 pub mod Opens
@@ -40,6 +46,7 @@ pub mod Texts
 pub mod CodeTurns
 pub mod RuleTurns
 pub mod HeadTurns
+pub mod HeadStays
 pub mod OpenRests
 pub mod OpenReaders
 pub mod Runs
@@ -48,3 +55,4 @@ pub mod PlainStates
 pub mod PlainPieces
 pub mod PlainTokens
 pub mod Standing
+pub mod StandingPieces

@@ -23,7 +23,7 @@ use Rattle.cweb_scan.specs.declared.reader.open.Open.TheVariants.{Between, Comme
 use Rattle.cweb_scan.specs.declared.reader.open.Quote.{Quote}
 use Rattle.cweb_scan.specs.declared.reader.open.Quote.TheVariants.{Single, Double}
 use Rattle.cweb_scan.proofs.LineEnds.{between_goes_on, comment_goes_on, name_goes_on, literal_goes_on, raw_goes_on}
-use Rattle.cweb_scan.proofs.OpenItems.{literal_cut}
+use Rattle.cweb_scan.proofs.OpenLiterals.{literal_cut}
 use Rattle.cweb_scan.proofs.Taken.{first_taken, next_taken}
 use Rattle.cweb_scan.proofs.Weights.{line_end-weight, comment_line_end-weight, comment-weight, occurrence-weight, literal-weight}
 

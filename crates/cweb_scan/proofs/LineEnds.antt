@@ -18,7 +18,7 @@ use Rattle.cweb_scan.specs.After.{Reading, on, line_end_in, line_end, comment_li
 use Rattle.cweb_scan.specs.Run.{pieces_in, run}
 use Rattle.cweb_scan.specs.Resume.{Between, InComment, InName, InLiteral, AfterBackslash, InRaw, takes_sign, end_literal, resume, end_comment, end_name}
 use Rattle.cweb_scan.specs.Held.{held, after_line_end, goes_on}
-use Rattle.cweb_scan.proofs.OpenItems.{raw_line_end}
+use Rattle.cweb_scan.proofs.OpenLiterals.{raw_line_end}
 
 abbrev reading : State → List Place → Reading
 reading s later = record { state = s; later = later }

@@ -6,7 +6,7 @@ use Rattle.cweb_rules.specs.Fronts.{delimiter}
 use Rattle.cweb_rules.specs.Items.{unit_bytes}
 use Rattle.cweb_rules.specs.declared.context.Context.{Context}
 use Rattle.cweb_rules.specs.declared.look.Look.{Look}
-use Rattle.cweb_rules.proofs.LineItems.{closing_sign-in_line}
+use Rattle.cweb_rules.proofs.LineDelimiters.{closing_sign-in_line}
 use Rattle.cweb_rules.proofs.Seams.{in_line}
 use Rattle.cweb_scan.specs.Held.{Held}
 use Rattle.cweb_scan.specs.Kept.{has_part}

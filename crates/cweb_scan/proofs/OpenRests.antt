@@ -16,7 +16,7 @@ use Rattle.cweb_rules.specs.declared.items.Reached.{Reached}
 use Rattle.cweb_rules.specs.declared.look.Look.{Look}
 use Rattle.cweb_rules.specs.declared.look.Look.TheVariants.{Goes, Ends}
 use Rattle.cweb_rules.specs.declared.fault.ScanKind.TheVariants.{DoubleAtInString}
-use Rattle.cweb_rules.proofs.Reaches.{IsWithin, comment-units, name-units, raw-units}
+use Rattle.cweb_rules.proofs.Looks.{IsWithin, comment-units, name-units, raw-units}
 use Rattle.cweb_rules.proofs.Sizes.{end_size, name-within, raw-within, comment-within, begins-size, reach-size, sign_after-size}
 use Rattle.cweb_rules.proofs.Seams.{in_line}
 use Rattle.cweb_scan.specs.After.{comment, occurrence}

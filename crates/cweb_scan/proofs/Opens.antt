@@ -8,7 +8,8 @@ use Rattle.cweb_rules.specs.Fronts.{starts_raw, starts_literal, literal_prefix, 
 use Rattle.cweb_rules.specs.Lines.{IsLine}
 use Rattle.cweb_rules.specs.declared.context.Context.{Context}
 use Rattle.cweb_rules.specs.declared.context.Context.TheVariants.{Limbo, TeX, Definition, Macro, CText}
-use Rattle.cweb_rules.proofs.LineItems.{is_quoted-size, sign-fits, has_delimiter-size}
+use Rattle.cweb_rules.proofs.LineLiterals.{is_quoted-size}
+use Rattle.cweb_rules.proofs.LineDelimiters.{sign-fits, has_delimiter-size}
 use Rattle.cweb_rules.proofs.Seams.{both}
 use Rattle.cweb_scan.specs.After.{blank}
 use Rattle.cweb_scan.specs.Fronted.{is_head}
@@ -17,7 +18,8 @@ use Rattle.cweb_scan.specs.Resume as item
 use Rattle.cweb_scan.specs.Resume.{Item, InComment, InName, InLiteral, InRaw, resume}
 use Rattle.cweb_scan.specs.State.{State}
 use Rattle.cweb_scan.specs.Fronted.{IsPast, reads_c, reads_names, reads_literals}
-use Rattle.cweb_scan.proofs.Openers.{leave_head_in, opened_comment, opened_name, opened_file, opened_raw, opened_literal}
+use Rattle.cweb_scan.proofs.Openers.{leave_head_in, opened_comment, opened_name, opened_file}
+use Rattle.cweb_scan.proofs.LiteralOpeners.{opened_raw, opened_literal}
 use Rattle.cweb_scan.proofs.TakenItems.{reading}
 use Rattle.cweb_scan.proofs.Turns.{between}
 use Rattle.cweb_scan.proofs.Weights.{blank-weight}

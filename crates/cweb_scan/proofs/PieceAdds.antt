@@ -17,7 +17,8 @@ use Rattle.cweb_scan.specs.State.{State, fault, moved, drop_definition}
 use Rattle.cweb_scan.specs.After.{Reading, on, next_line, each_line_end, literal_unit, line_end, comment_line_end, blank, occurrence, stays_in_head, enter_in, enter, item, after}
 use Rattle.cweb_rules.specs.Pays.{due, at_line_ends, Pays}
 use Rattle.cweb_scan.specs.Bound.{Adds}
-use Rattle.cweb_scan.proofs.StateAdds.{adds_both, adds_within, nothing_adds, give-adds, moved-adds, fault-adds, drop_definition-adds, begin_section-adds, line_end-adds, comment_line_end-adds, blank-adds, punctuator-adds, code-adds, letter-adds, control_text-adds, verbatim-adds, define-adds, comment-adds, name_in-adds, occurs, literal-adds}
+use Rattle.cweb_scan.proofs.StateAdds.{adds_both, adds_within, nothing_adds, give-adds, moved-adds, fault-adds, drop_definition-adds, begin_section-adds, line_end-adds, comment_line_end-adds}
+use Rattle.cweb_scan.proofs.ItemAdds.{blank-adds, punctuator-adds, code-adds, letter-adds, control_text-adds, verbatim-adds, define-adds, comment-adds, name_in-adds, occurs, literal-adds}
 
 abbrev reading : State → List Place → Reading
 reading s later = record { state = s; later = later }

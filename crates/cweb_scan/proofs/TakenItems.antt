@@ -20,8 +20,9 @@ use Rattle.cweb_scan.proofs.Fairs.{fair}
 use Rattle.cweb_scan.proofs.LineUnits.{units_line}
 use Rattle.cweb_scan.proofs.OpenItems.{none-line}
 use Rattle.cweb_scan.specs.Fronted.{IsPast}
-use Rattle.cweb_scan.proofs.Openers.{past-line, c_front_raw, c_front_literal}
-use Rattle.cweb_rules.proofs.LineItems.{starts_raw_line, starts_literal_line}
+use Rattle.cweb_scan.proofs.LiteralOpeners.{past-line, c_front_raw, c_front_literal}
+use Rattle.cweb_rules.proofs.LineLiterals.{starts_literal_line}
+use Rattle.cweb_rules.proofs.LineDelimiters.{starts_raw_line}
 use Rattle.cweb_scan.proofs.Pieces.{first, pieces_first}
 
 abbrev pub reading : State → List Place → Reading

@@ -11,7 +11,7 @@ use Rattle.cweb_rules.specs.Looks.{reached}
 use Rattle.cweb_rules.specs.declared.end.End.TheVariants.{Cut, Open}
 use Rattle.cweb_rules.specs.declared.items.Reached.{Reached}
 use Rattle.cweb_rules.proofs.InLines.{AreLines, IsLine-take, IsLine-drop, units-lines}
-use Rattle.cweb_rules.proofs.Reaches.{control-units, include-units}
+use Rattle.cweb_rules.proofs.Looks.{control-units, include-units}
 use Rattle.cweb_scan.specs.After.{verbatim, literal, literal_unit}
 use Rattle.cweb_scan.specs.Fronted.{ended_as, Gives, unit_state}
 use Rattle.cweb_rules.specs.declared.fault.ScanKind.TheVariants.{DoubleAtInString}

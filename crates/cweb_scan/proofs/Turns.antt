@@ -23,7 +23,7 @@ use Rattle.cweb_scan.specs.State.{State}
 use Rattle.cweb_scan.proofs.Fairs.{fair}
 use Rattle.cweb_scan.proofs.Pieces.{first}
 use Rattle.cweb_scan.proofs.TakenItems.{reading, state_after, taken}
-use Rattle.cweb_scan.proofs.Weights.{piece-weight}
+use Rattle.cweb_scan.proofs.PieceWeights.{piece-weight}
 
 -- ITEMS THAT END IN THEIR LINE
 

@@ -16,7 +16,8 @@ use Rattle.cweb_rules.specs.declared.look.Look.{Look}
 use Rattle.cweb_rules.specs.declared.look.Look.TheVariants.{Goes, Ends}
 use Rattle.cweb_rules.proofs.InLines.{IsLine-take}
 use Rattle.cweb_rules.proofs.Ranges.{reach_in-drop}
-use Rattle.cweb_rules.proofs.Reaches.{IsLocal, IsEnd, IsWithin, AllWithin, AllSome, IsSome, name-local, name-units, raw-local, raw-units, literal-local, literal-some}
+use Rattle.cweb_rules.proofs.Reaches.{IsLocal, IsEnd}
+use Rattle.cweb_rules.proofs.Looks.{IsWithin, AllWithin, AllSome, IsSome, name-local, name-units, raw-local, raw-units, literal-local, literal-some}
 use Rattle.cweb_rules.proofs.Seams.{in_line, stops}
 use Rattle.cweb_scan.specs.After.{Reading, on, each_line_end, occurrence, literal, literal_unit}
 use Rattle.cweb_scan.specs.Fronted.{unit_state}
@@ -24,7 +25,9 @@ use Rattle.cweb_scan.specs.Resume.{InName, InLiteral, InRaw, takes_sign, end_nam
 use Rattle.cweb_scan.specs.Run.{run}
 use Rattle.cweb_scan.specs.State.{State, moved}
 use Rattle.cweb_scan.proofs.LineUnits.{one-unit}
-use Rattle.cweb_scan.proofs.OpenItems.{append-nil', each-line, whole-end, after_units, sizes, name_ends, literal_ends, raw_ends, unit_passes}
+use Rattle.cweb_scan.proofs.OpenItems.{append-nil', each-line, whole-end, after_units, sizes}
+use Rattle.cweb_scan.proofs.OpenNames.{name_ends}
+use Rattle.cweb_scan.proofs.OpenLiterals.{literal_ends, raw_ends, unit_passes}
 use Rattle.cweb_scan.proofs.TakenItems.{reading}
 
 abbrev at_front : (List ℕ → Look) → Look → List ℕ → End → List ℕ → Reach

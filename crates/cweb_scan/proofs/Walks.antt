@@ -7,7 +7,7 @@ use Rattle.cweb_rules.specs.declared.look.Look.{Look}
 use Rattle.cweb_rules.specs.declared.look.Look.TheVariants.{Goes, Ends}
 use Rattle.cweb_rules.specs.Tables.{listed, longest}
 use Rattle.cweb_rules.proofs.Ranges.{reach_in-drop}
-use Rattle.cweb_rules.proofs.Sizes.{longest-size}
+use Rattle.cweb_rules.proofs.TokenSizes.{longest-size}
 
 abbrev at_front : (List ℕ → Look) → Look → List ℕ → End → List ℕ → Reach
 at_front look v u e t =

@@ -1,6 +1,6 @@
--- How much each piece adds to the tokens, parts, occurrences and sections, taken together.
-use Rattle.std.proofs.Common.{◌≡◌, ◌≤◌, ℕ, ◌+◌, ◌*◌, Bool, true, false, ◌&&◌, not, List, [], ◌∷◌, ◌++◌, Option, Some, None, length, refl, ap, arith, append-nil, length-append}
-use Rattle.std.specs.Prelude.{if◌then◌else◌, codes, bytes_eq, fold, option_map, option_to_list}
+-- How much each step of a scan adds to the tokens, parts, occurrences and sections, taken together.
+use Rattle.std.proofs.Common.{◌≡◌, ◌≤◌, ℕ, ◌+◌, Bool, true, false, ◌&&◌, not, List, [], ◌∷◌, ◌++◌, Option, Some, None, length, refl, ap, arith, append-nil, length-append}
+use Rattle.std.specs.Prelude.{if◌then◌else◌, codes, option_map, option_to_list}
 use Rattle.std.specs.Fmt.{decimal}
 use Rattle.cweb_files.specs.declared.place.Place.{Place}
 use Rattle.cweb_store.specs.declared.names.NameRef.{NameRef}
@@ -17,15 +17,11 @@ use Rattle.cweb_rules.specs.declared.effect.Effect.TheVariants.{Nothing, Define,
 use Rattle.cweb_rules.specs.declared.effect.Effect.TheVariants as effect
 use Rattle.cweb_rules.specs.declared.end.End.{End}
 use Rattle.cweb_rules.specs.declared.end.End.TheVariants.{Closed, Cut, Nested, Open}
-use Rattle.cweb_rules.specs.declared.fault.ScanKind.TheVariants.{DoubleAtInString}
-use Rattle.cweb_rules.specs.Bytes.{is_line_end}
-use Rattle.cweb_rules.specs.Items.{text_in}
-use Rattle.cweb_rules.specs.Kinds.{Kind, Piece, Skipped, Section, Code, Letter, ControlText, Verbatim as VerbatimKind, Constant, Occurrence as OccurrenceKind, Blanks, LineEnd, Comment, Quoted, Defined, Identifier, Numeral, Punctuator}
-use Rattle.cweb_rules.specs.Pays.{at_line_ends, Pays}
+use Rattle.cweb_rules.specs.Kinds.{Letter, ControlText, Constant}
 use Rattle.cweb_scan.specs.Directives.{in_directive, directive, is_blank}
 use Rattle.cweb_scan.specs.Names.{occurrence_in}
-use Rattle.cweb_scan.specs.State.{State, give, fault, moved, begin_part, end_part, end_macro_in, end_macro, drop_definition, leave_in, begin_section}
-use Rattle.cweb_scan.specs.After.{Reading, on, next_line, each_line_end, literal_unit, line_end_token, line_end_in, line_end, comment_line_end, blank, code, letter, control_text, verbatim, constant, define, comment, name_fault, use_name, open_name, name_in, occurrence, literal, stays_in_head, enter_in, enter, item, after}
+use Rattle.cweb_scan.specs.State.{State, give, moved, begin_part, end_part, end_macro_in, end_macro, leave_in, begin_section}
+use Rattle.cweb_scan.specs.After.{line_end_token, line_end_in, line_end, comment_line_end, blank, code, letter, control_text, verbatim, constant, define, comment, name_fault, use_name, open_name, name_in, occurrence, literal}
 use Rattle.cweb_scan.specs.Room.{weight}
 use Rattle.cweb_scan.proofs.Drops.{tokens_last}
 
@@ -102,7 +98,7 @@ leave-sections (Definition begun) s = refl
 leave-sections Macro s = refl
 leave-sections CText s = refl
 
-begin_section-weight : (starred : Bool) (s : State) → weight (begin_section starred s) ≤ weight s + 2
+pub begin_section-weight : (starred : Bool) (s : State) → weight (begin_section starred s) ≤ weight s + 2
 begin_section-weight starred s = omega (arith, leave_in-weight s.context s, leave-sections s.context s)
 
 line_end_in-weight : (c : Context) (p : Place) (s : State) → weight (line_end_in c p s) ≤ weight s + 1
@@ -126,7 +122,7 @@ blank-weight s =
     as (λ v. weight (if v then give Blank s else s) ≤ weight s + 1)
     [ true ↦ give-weight Blank s | false ↦ omega arith ]
 
-code-weight : (e : Effect) (s : State) → weight (code e s) ≤ weight s + 3
+pub code-weight : (e : Effect) (s : State) → weight (code e s) ≤ weight s + 3
 code-weight Nothing s = omega arith
 code-weight Define s = omega (arith, end_macro_in-weight s.context s)
 code-weight Format s = omega (arith, end_macro_in-weight s.context s)
@@ -143,27 +139,27 @@ code-weight effect.ControlText s = omega arith
 code-weight effect.Verbatim s = omega arith
 code-weight effect.Constant s = omega arith
 
-letter-weight : (byte : ℕ) (o : Option (List ℕ)) (s : State) → weight (letter byte o s) ≤ weight s
+pub letter-weight : (byte : ℕ) (o : Option (List ℕ)) (s : State) → weight (letter byte o s) ≤ weight s
 letter-weight byte None s = omega arith
 letter-weight byte (Some text) s = omega arith
 
-control_text-weight : (how : End) (s : State) → weight (control_text how s) ≤ weight s
+pub control_text-weight : (how : End) (s : State) → weight (control_text how s) ≤ weight s
 control_text-weight Closed s = omega arith
 control_text-weight Cut s = omega arith
 control_text-weight Nested s = omega arith
 control_text-weight Open s = omega arith
 
-verbatim-weight : (text : List ℕ) (how : End) (s : State) → weight (verbatim text how s) ≤ weight s + 1
+pub verbatim-weight : (text : List ℕ) (how : End) (s : State) → weight (verbatim text how s) ≤ weight s + 1
 verbatim-weight text Closed s = give-weight (Verbatim text) s
 verbatim-weight text Cut s = omega arith
 verbatim-weight text Nested s = omega arith
 verbatim-weight text Open s = omega arith
 
-constant-weight : (o : Option ℕ) (s : State) → weight (constant o s) ≤ weight s + 1
+pub constant-weight : (o : Option ℕ) (s : State) → weight (constant o s) ≤ weight s + 1
 constant-weight None s = omega arith
 constant-weight (Some n) s = give-weight (Number (decimal n)) s
 
-define-weight : (bytes : List ℕ) (tight : Bool) (s : State) → weight (define bytes tight s) ≤ weight s + 3
+pub define-weight : (bytes : List ℕ) (tight : Bool) (s : State) → weight (define bytes tight s) ≤ weight s + 3
 define-weight bytes true s =
     let o : State = record s { context = Macro; contents = with_open part.Macro s.contents } in
     omega (arith, open-weight part.Macro s, give-weight (Word bytes) o)
@@ -218,98 +214,3 @@ literal-weight text Closed p s = give-weight (Literal text) s
 literal-weight text Cut p s = omega (arith, give-weight (Literal text) s)
 literal-weight text Nested p s = omega arith
 literal-weight text Open p s = omega arith
-
--- LINE ENDS IN A PIECE, AND UNITS
-
-next_line-weight : (f : Place → State → State) (n : ℕ)
-    → ((p : Place) (s : State) → weight (f p s) ≤ weight s + n) → (s : State) (later : List Place)
-    → weight (next_line f (record { state = s; later = later })).state ≤ weight s + n
-next_line-weight f n adds s [] = omega arith
-next_line-weight f n adds s (p ∷ later) = adds p s
-
-each-weight : (f : Place → State → State) (n : ℕ)
-    → ((p : Place) (s : State) → weight (f p s) ≤ weight s + n) → (bytes : List ℕ) (r : Reading)
-    → weight (each_line_end f bytes r).state ≤ weight r.state + at_line_ends n bytes
-each-weight f n adds [] r = omega arith
-each-weight f n adds (b ∷ t) r =
-    elim (is_line_end b) as (λ v.
-    weight (each_line_end f t (if v then next_line f r else r)).state
-    ≤ weight r.state + (if v then n + at_line_ends n t else at_line_ends n t)) [
-      | true ↦ omega (arith, next_line-weight f n adds r.state r.later, each-weight f n adds t (next_line f r))
-      | false ↦ each-weight f n adds t r
-    ]
-
-no_line_ends : (t : List ℕ) → at_line_ends 0 t ≡ 0
-no_line_ends [] = refl
-no_line_ends (b ∷ t) =
-    elim (is_line_end b) as (λ v. (if v then 0 + at_line_ends 0 t else at_line_ends 0 t) ≡ 0)
-    [ true ↦ omega (arith, no_line_ends t) | false ↦ no_line_ends t ]
-
-moved-weight : (p : Place) (s : State) → weight (moved p s) ≤ weight s + 0
-moved-weight p s = omega arith
-
-moves : (bytes : List ℕ) (r : Reading) → weight (each_line_end moved bytes r).state ≤ weight r.state
-moves bytes r = omega (arith, each-weight moved 0 moved-weight bytes r, no_line_ends bytes)
-
-pub unit-weight : (r : Reading) (u : List ℕ) → weight (literal_unit r u).state ≤ weight r.state
-unit-weight r u =
-    elim (bytes_eq u (codes "@"))
-    as (λ v. weight (if v then on (fault DoubleAtInString) r else each_line_end moved u r).state ≤ weight r.state)
-    [ true ↦ omega arith | false ↦ moves u r ]
-
-units-weight : (us : List (List ℕ)) (r : Reading) → weight (fold literal_unit r us).state ≤ weight r.state
-units-weight [] r = omega arith
-units-weight (u ∷ us) r = omega (arith, unit-weight r u, units-weight us (literal_unit r u))
-
--- THE PIECES
-
-enter_in-weight : (c : Context) (k : Kind) (s : State) → weight (enter_in c k s) ≤ weight s
-enter_in-weight Limbo k s = omega arith
-enter_in-weight TeX k s = omega arith
-enter_in-weight (Definition begun) k s =
-    elim (stays_in_head k) as (λ v. weight (if v then s else drop_definition begun s) ≤ weight s)
-    [ true ↦ omega arith | false ↦ omega arith ]
-enter_in-weight Macro k s = omega arith
-enter_in-weight CText k s = omega arith
-
-item-weight : (c : Context) (k : Kind) (bytes : List ℕ) (r : Reading) → 1 ≤ length bytes
-    → Pays c k bytes → weight (item k bytes r).state ≤ weight r.state + 3 * length bytes
-item-weight c Skipped bytes r some pays = omega (arith, moves bytes r)
-item-weight c (Section starred) bytes r some pays = omega (arith, begin_section-weight starred r.state, some)
-item-weight c (Code e) bytes r some pays = omega (arith, code-weight e r.state, some)
-item-weight c (Letter byte text) bytes r some pays = omega (arith, letter-weight byte text r.state)
-item-weight c (ControlText how) bytes r some pays = omega (arith, control_text-weight how r.state)
-item-weight c (VerbatimKind us how) bytes r some pays = omega (arith, verbatim-weight (text_in us) how r.state, some)
-item-weight c (Constant v) bytes r some pays = omega (arith, constant-weight v r.state, some)
-item-weight c (OccurrenceKind is_file us how opens) bytes r some pays =
-    let m = each_line_end moved bytes r in
-    omega (arith, moves bytes r, occurrence-weight is_file (text_in us) how opens r.state.here m.state, pays.0)
-item-weight c Blanks bytes r some pays = omega (arith, blank-weight r.state, some)
-item-weight c LineEnd bytes r some pays =
-    omega (arith, next_line-weight line_end 1 line_end-weight r.state r.later, some)
-item-weight c (Comment how) bytes r some pays =
-    let m = each_line_end comment_line_end bytes (on blank r) in
-    omega (
-      arith,
-      blank-weight r.state,
-      each-weight comment_line_end 1 comment_line_end-weight bytes (on blank r),
-      comment-weight how r.state.here m.state,
-      pays,
-    )
-item-weight c (Quoted us how) bytes r some pays =
-    let m = fold literal_unit r us in
-    omega (arith, units-weight us r, literal-weight (text_in us) how r.state.here m.state, some)
-item-weight c (Defined tight) bytes r some pays = omega (arith, define-weight bytes tight r.state, some)
-item-weight c Identifier bytes r some pays = omega (arith, give-weight (Word bytes) r.state, some)
-item-weight c Numeral bytes r some pays = omega (arith, give-weight (Number bytes) r.state, some)
-item-weight c Punctuator bytes r some pays = omega (arith, give-weight (Punct bytes) r.state, some)
-
--- each byte of a piece adds at most three
-pub piece-weight : (r : Reading) (p : Piece) → 1 ≤ length p.bytes → Pays r.state.context p.kind p.bytes
-    → weight (after r p).state ≤ weight r.state + 3 * length p.bytes
-piece-weight r p some pays =
-    omega (
-      arith,
-      enter_in-weight r.state.context p.kind r.state,
-      item-weight r.state.context p.kind p.bytes (on (enter p.kind) r) some pays,
-    )

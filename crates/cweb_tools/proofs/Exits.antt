@@ -1,5 +1,5 @@
--- How the exits of a run are its ends.
-use Rattle.std.proofs.Common.{◌≤◌, ◌≡◌, ◌≢◌, ◌⊎◌, ◌+◌, inl, inr, ℕ, List, [], ◌∷◌, ◌++◌, length, refl, sym, ◌∙◌, ap, subst, append-nil, append_assoc, arith}
+-- How the exits of a run that come before it writes are its ends.
+use Rattle.std.proofs.Common.{◌≤◌, ◌≡◌, ◌⊎◌, ◌+◌, inl, inr, ℕ, List, [], ◌∷◌, ◌++◌, refl, sym, ◌∙◌, ap, subst, append-nil, append_assoc, arith}
 use Rattle.std.specs.Prelude.{Option, Some, None, IsTrue}
 use Rattle.cweb_lines.specs.Finding.{names_found}
 use Rattle.cweb_lines.specs.Include.{World, Found}
@@ -10,18 +10,17 @@ use Rattle.cweb_lines.specs.Naming.{blame}
 use Rattle.cweb_lines.specs.Texts.{Count, StartStops, files_named, read_blame}
 use Rattle.cweb_lines.specs.Told.{given_lines, told_faults, openings, taken_lines, IsWithinLimits}
 use Rattle.cweb_lines.specs.Whole.{Begins, StopsAtStart}
-use Rattle.cweb_lines.specs.Writing.{text_of, StopsWriting, WritingStops, WritesFront, write_blame}
-use Rattle.cweb_lines.specs.declared.fault.SourceFault.{SourceFault}
+use Rattle.cweb_lines.specs.Writing.{StopsWriting, WritingStops, WritesFront, write_blame}
 use Rattle.cweb_lines.specs.declared.limits.TheConstants.{LINES, BYTES}
 use Rattle.cweb_lines.specs.declared.stop.Stop.{Stop}
 use Rattle.cweb_lines.specs.declared.stop.Stop.TheVariants.{Usage, WebNotOpened, ChangeNotOpened, ReadFault, LineTooLong, TooMuchText, Memory, WriteFault}
 use Rattle.cweb_lines.proofs.Sums.{openings-append}
 use Rattle.cweb_log.specs.Gathering.{Logs}
-use Rattle.cweb_log.specs.Log.{fault_lines, stop_line, start_subject, subject}
+use Rattle.cweb_log.specs.Log.{stop_line, start_subject, subject}
 use Rattle.cweb_log.specs.Seen.{Seen, SeenStream}
 use Rattle.cweb_log.specs.Words.{WebNames}
-use Rattle.cweb_tools.specs.Course.{Course, unread, not_there, change_not_there, merging, asked_course, change_name, found_course, fault_status, merged, usage}
-use Rattle.cweb_tools.specs.Run.{about, AreOpened, CanStop, Comes, completes, Ends, HasMerged, Merges, PassesSums, Refuses, stops}
+use Rattle.cweb_tools.specs.Course.{Course, unread, not_there, change_not_there, merging, asked_course, change_name, found_course, merged, usage}
+use Rattle.cweb_tools.specs.Run.{about, AreOpened, CanStop, Comes, Ends, Merges, PassesSums, Refuses, stops}
 
 none_written : (bytes text : List ℕ) → WritesFront bytes bytes text
 none_written bytes text = record { front = []; rest = text; written = sym (append-nil bytes); whole = refl }
@@ -171,7 +170,7 @@ passes_sums first old now lines events began ahead =
       | inr bytes ↦ inr (omega (arith, bytes, ahead.small, no_bytes))
     ]
 
-writing_cause : (stop : Stop) (first : List (List ℕ)) (old : SoFar)
+pub writing_cause : (stop : Stop) (first : List (List ℕ)) (old : SoFar)
     (now : Count) (events : List Event) (Wrote : List ℕ → Type 0) → old ≡ begun_with first → WritingStops stop
     → StopsWriting stop old.count now events Wrote
     → CanStop stop (merging first events)
@@ -190,7 +189,7 @@ writing_cause Memory first old now events Wrote began kind why = tt
 writing_cause WriteFault first old now events Wrote began kind why = tt
 writing_cause stop first old now events Wrote began kind why = absurd kind
 
-writing_comes : (stop : Stop) → WritingStops stop → Comes stop
+pub writing_comes : (stop : Stop) → WritingStops stop → Comes stop
 writing_comes (ReadFault file) kind = tt
 writing_comes (LineTooLong file) kind = tt
 writing_comes TooMuchText kind = tt
@@ -198,7 +197,7 @@ writing_comes Memory kind = tt
 writing_comes WriteFault kind = tt
 writing_comes stop kind = absurd kind
 
-writing_about : (names : WebNames) (files : List (List ℕ)) (stop : Stop)
+pub writing_about : (names : WebNames) (files : List (List ℕ)) (stop : Stop)
     → WritingStops stop → subject files stop ≡ about names files stop
 writing_about names files (ReadFault file) kind = refl
 writing_about names files (LineTooLong file) kind = refl
@@ -206,78 +205,3 @@ writing_about names files TooMuchText kind = refl
 writing_about names files Memory kind = refl
 writing_about names files WriteFault kind = refl
 writing_about names files stop kind = absurd kind
-
--- a run that begins a merge, of which all this comes
-module _ (world : World) (names : WebNames) (found : Option Found) (changes : Option (Option Found))
-    (before after : Seen) (status : ℕ) (old : SoFar) (all : List Event)
-    (begins : IsTrue before.shelf.tells → Begins world found changes old all) where
-  begun : (tells : IsTrue before.shelf.tells)
-      → found_course world names found changes ≡ merging ((begins tells).name ∷ names_found (begins tells).change) all
-  begun tells = begins_course world names found changes (begins tells)
-
-  printed_all : (tells : IsTrue before.shelf.tells)
-      → text_of (given_lines all) ≡ merged (found_course world names found changes)
-  printed_all tells = ap merged (sym (begun tells))
-
-  pub completed : (new : SoFar) (files : List (List ℕ)) (faults : List SourceFault)
-      → files ≡ new.names → faults ≡ new.faults
-      → (IsTrue before.shelf.tells → Gives (given_lines all) old new all [])
-      → new.count.lines ≤ LINES → new.count.bytes ≤ BYTES
-      → after.shelf.failed ≡ before.shelf.failed
-      → (IsTrue before.shelf.tells → after.shelf.blamed ≡ before.shelf.blamed) → after.out.failed ≡ before.out.failed
-      → (IsTrue before.shelf.tells → IsTrue before.out.tells
-      → after.out.bytes ≡ before.out.bytes ++ text_of (given_lines all))
-      → Logs (fault_lines files faults) before.log after.log
-      → (after.log.failed ≡ before.log.failed → status ≡ fault_status faults)
-      → (after.log.failed ≢ before.log.failed → status ≡ 1)
-      → Merges names (found_course world names found changes) before after status
-  completed new files faults files_are faults_are gives few small read none out written logs answered failed =
-      completes (record {
-        files = files;
-        faults = faults;
-        all = λ tells. subst (λ (course : Course). HasMerged course files faults) (sym (begun tells)) (
-          files_are ∙ names_told _ all old new (begins tells).so_far_is (gives tells),
-          faults_are ∙ faults_told _ all old new (begins tells).so_far_is (gives tells),
-          limits_kept _ all old new (begins tells).so_far_is (gives tells) few small,
-        );
-        read = read;
-        none_blamed = none;
-        printed = out;
-        written = λ tells told. written tells told ∙ ap (λ (text : List ℕ). before.out.bytes ++ text) (printed_all tells);
-        logged = logs;
-        answered = answered;
-        failed = failed;
-      })
-
-  pub stopped : (stop : Stop) (new : SoFar) (files : List (List ℕ)) (Wrote : List ℕ → Type 0)
-      → files ≡ new.names → WritingStops stop
-      → (IsTrue before.shelf.tells → StopsWriting stop old.count new.count all Wrote)
-      → files_named stop ≤ length new.names → (IsTrue before.shelf.tells → TellsFront old new all)
-      → after.shelf.failed ≡ before.shelf.failed + read_blame stop
-      → (IsTrue before.shelf.tells → after.shelf.blamed ≡ before.shelf.blamed ++ blame new.names stop)
-      → after.out.failed ≡ before.out.failed + write_blame stop
-      → (IsTrue before.shelf.tells → IsTrue before.out.tells
-      → WritesFront before.out.bytes after.out.bytes (text_of (given_lines all)))
-      → Logs (stop_line stop (subject files stop)) before.log after.log → status ≡ 1
-      → Merges names (found_course world names found changes) before after status
-  stopped stop new files Wrote files_are kind why named front read whose out written logs answered = stops (record {
-    stop = stop;
-    comes = writing_comes stop kind;
-    cause = λ tells.
-        subst (λ (course : Course). CanStop stop course) (sym (begun tells))
-        (writing_cause stop _ old new.count all Wrote (begins tells).so_far_is kind (why tells));
-    files = files;
-    named = rw files_are named;
-    opened = λ tells.
-        subst (λ (course : Course). AreOpened files course) (sym (begun tells))
-        (opened_by _ old new all (begins tells).so_far_is (front tells) files files_are);
-    blames = record { shelf = read; out = out };
-    blamed = λ tells. whose tells ∙ ap (λ (ns : List (List ℕ)). before.shelf.blamed ++ blame ns stop) (sym files_are);
-    written = λ tells told.
-        subst (λ (text : List ℕ). WritesFront before.out.bytes after.out.bytes text)
-        (printed_all tells) (written tells told);
-    logged =
-        subst (λ (name : List ℕ). Logs (stop_line stop name) before.log after.log)
-        (writing_about names files stop kind) logs;
-    answered = answered;
-  })

@@ -1,11 +1,14 @@
 pub mod AllDone
 pub mod Doing
+pub mod DoingFiles
 pub mod Endings
 pub mod Exits
+pub mod MergeExits
 pub mod FaultItems
 pub mod Prints
 pub mod Readies
 pub mod Refusals
+pub mod PromisedEnds
 pub mod Promised
 pub mod Promises
 pub mod ReadAlls
@@ -21,6 +24,10 @@ mod ScriptRows
 pub mod Statuses
 pub mod Stopping
 pub mod TangleExits
+pub mod ReadingStops
+pub mod ReadingExits
+pub mod TangleEnds
 mod SpacingStarts
+mod SpacingSeam
 mod SpacingLaw
 mod SpacingRows

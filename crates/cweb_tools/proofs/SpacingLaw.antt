@@ -18,7 +18,8 @@ use Rattle.cweb_scan.proofs.PlainTokens.{newline_read, comment_read, comment_of,
 use Rattle.cweb_out.specs.Printing.{Setting, print_after, file_text, word_text, kept}
 use Rattle.cweb_out.specs.Spacing.{sep, are_apart}
 use Rattle.cweb_tools.specs.Spacing.{IsPlain, Spacing, is_ascii}
-use Rattle.cweb_tools.proofs.SpacingStarts.{First, first_of, seam, blank_after, is_false, joins, operators_join}
+use Rattle.cweb_tools.proofs.SpacingStarts.{First, first_of, is_false, joins, operators_join}
+use Rattle.cweb_tools.proofs.SpacingSeam.{seam, blank_after}
 
 -- THE TEXT OF A TOKEN
 

@@ -1,10 +1,10 @@
--- The first byte of what is printed can't go on with the token before.
+-- The first byte of what is printed of a token.
 use Rattle.std.proofs.Common.{◌≡◌, ℕ, Bool, true, false, cond, ◌&&◌, ◌||◌, ◌==◌, not, List, [], ◌∷◌, Some, None, refl, ap, sym, ◌∙◌, subst}
-use Rattle.std.specs.Prelude.{codes, nat_le}
+use Rattle.std.specs.Prelude.{codes}
 use Rattle.std.specs.List.{list_all}
-use Rattle.cweb_store.specs.Parts.{Token, Word, Number, Literal, Verbatim, Punct, Blank, Newline, Join, Defs, Name, Head, Tail, Mark}
-use Rattle.cweb_rules.specs.Bytes.{is_one_of, is_digit, is_letter, is_word_byte, is_white, first_is}
-use Rattle.cweb_rules.specs.Follows.{JoinsAll, after_word, after_number, joins_last, begins_as}
+use Rattle.cweb_store.specs.Parts.{Token, Word, Number, Literal, Verbatim, Punct, Blank, Newline, Head, Tail}
+use Rattle.cweb_rules.specs.Bytes.{is_one_of, is_digit, is_word_byte, is_white, first_is}
+use Rattle.cweb_rules.specs.Follows.{JoinsAll, after_word, begins_as}
 use Rattle.cweb_rules.specs.Items.{text_in}
 use Rattle.cweb_rules.specs.Kinds.{Kind}
 use Rattle.cweb_rules.specs.Kinds as kind
@@ -13,13 +13,12 @@ use Rattle.cweb_rules.specs.declared.effect.Effect.TheVariants.{Nothing, Define,
 use Rattle.cweb_rules.specs.declared.effect.Effect.TheVariants as effect
 use Rattle.cweb_rules.specs.declared.end.End.{End}
 use Rattle.cweb_rules.specs.declared.end.End.TheVariants.{Closed, Cut, Nested, Open}
-use Rattle.cweb_rules.proofs.Joins.{and_false, both, neither, unlike}
-use Rattle.cweb_rules.proofs.Stays.{begins_number, and_true}
-use Rattle.cweb_scan.specs.Alone.{ReadsAlone, doubled, token_of, bytes_of, literal_of, is_clean, goes_on}
+use Rattle.cweb_rules.proofs.Joins.{both, neither, unlike}
+use Rattle.cweb_rules.proofs.Stays.{begins_number}
+use Rattle.cweb_scan.specs.Alone.{ReadsAlone, doubled, token_of, bytes_of, literal_of, is_clean}
 use Rattle.cweb_scan.proofs.PlainPieces.{is_that}
 use Rattle.cweb_scan.proofs.PlainTokens.{begins, text_of}
-use Rattle.cweb_out.specs.Spacing.{is_operator, last_is, are_apart}
-use Rattle.cweb_out.specs.Spacing as print
+use Rattle.cweb_out.specs.Spacing.{is_operator}
 
 -- operator bytes, but `.` only after `.`; or `.` and a digit
 abbrev pub joins : ℕ → ℕ → Bool
@@ -55,7 +54,7 @@ pub is_false : (a : Bool) → not a ≡ true → a ≡ false
 is_false true h = cc
 is_false false h = refl
 
-none_of : (p : ℕ → Bool) (set : List ℕ) (c : ℕ)
+pub none_of : (p : ℕ → Bool) (set : List ℕ) (c : ℕ)
     → list_all (λ x. not (p x)) set ≡ true → p c ≡ true → is_one_of set c ≡ false
 none_of p [] c h e = refl
 none_of p (x ∷ set) c h e =
@@ -143,131 +142,3 @@ first_in k (b ∷ d) u h t is = first_by k b d u h t is
 -- the first byte of a token that reads alone
 pub first_of : (u : Token) → ReadsAlone u → First u (text_of u)
 first_of u h = first_in h.kind (text_of u) u (begins u h) h.token refl
-
--- THE SEAM
-
-not_both : (b : List ℕ) (c : ℕ) → is_digit c ≡ false
-    → (last_is is_operator b && is_operator c) ≡ false → joins_last joins b c ≡ false
-not_both [] c d h = refl
-not_both (x ∷ []) c d h =
-    (λ i. ((x == 46) && d i) || (h i && (not (c == 46) || (x == 46)))) ∙ ap (λ v. v || false) (and_false (x == 46))
-not_both (x ∷ y ∷ b) c d h = not_both (y ∷ b) c d h
-
-never : (b : List ℕ) (c : ℕ) → is_digit c ≡ false → is_operator c ≡ false → joins_last joins b c ≡ false
-never b c d h = not_both b c d (ap (λ v. last_is is_operator b && v) h ∙ and_false (last_is is_operator b))
-
-number_byte : (digit dot op : Bool) → (digit || dot) ≡ true
-    → (digit ≡ true → op ≡ false) → (x : Bool) → (x && op && (not dot || false)) ≡ false
-number_byte true dot op h f x =
-    ap (λ v. x && v && (not dot || false)) (f refl) ∙ ap (λ v. v && (not dot || false)) (and_false x)
-number_byte false true op h f x = and_false (x && op)
-number_byte false false op h f x = cc
-
-before_number : (b : List ℕ) (c : ℕ) → begins_number c ≡ true
-    → last_is (λ x. x == 46) b ≡ false → joins_last joins b c ≡ false
-before_number [] c n h = refl
-before_number (x ∷ []) c n h =
-    (λ i. (h i && is_digit c) || (is_operator x && is_operator c && (not (c == 46) || h i)))
-    ∙ number_byte (is_digit c) (c == 46) (is_operator c) n
-    (λ e. none_of is_digit (codes "+-*/%&|^!=<>.:#?") c refl e) (is_operator x)
-before_number (x ∷ y ∷ b) c n h = before_number (y ∷ b) c n h
-
-word_not_operator : (c : ℕ) → is_word_byte c ≡ true → is_operator c ≡ false
-word_not_operator c h = none_of is_word_byte (codes "+-*/%&|^!=<>.:#?") c refl h
-
-no_digit_after : (c : ℕ) → is_word_byte c ≡ false → is_digit c ≡ false
-no_digit_after c h =
-    let e = neither (is_letter c || is_digit c || is_one_of (codes "_$") c) (nat_le 128 c) h in
-    let f = neither (is_letter c || is_digit c) (is_one_of (codes "_$") c) e.0 in
-    (neither (is_letter c) (is_digit c) f.0).1
-
-or_false : (a : Bool) → (a || false) ≡ a
-or_false true = refl
-or_false false = refl
-
-before_comment : (b : List ℕ) (c : ℕ)
-    → (false || false || (last_is (λ x. x == 46) b && false) || (last_is is_operator b && (false || true)) || false)
-    ≡ false → c ≡ 47 → joins_last joins b c ≡ false
-before_comment b c apart h =
-    let last = last_is (λ x. x == 46) b in
-    let op = last_is is_operator b in
-    let e = neither ((last && false) || (op && (false || true))) false apart in
-    let f = neither (last && false) (op && (false || true)) e.0 in
-    ap (joins_last joins b) h ∙ not_both b 47 refl f.1
-
--- where the rules put no blank, the byte that follows doesn't go on with the token
-pub seam : (left right : Token) (c : ℕ) → are_apart left right ≡ false → Starts right c → goes_on joins left c ≡ false
-seam (Word b) (Word d) c apart h = cc
-seam (Word b) (Number d) c apart h = cc
-seam (Word b) (Literal d) c apart h = cc
-seam (Word b) (Punct d) c apart h = h.0
-seam (Word b) Blank c apart h = ap after_word h
-seam (Word b) Newline c apart h = ap after_word h
-seam (Word b) (Head n) c apart h = ap after_word h
-seam (Word b) (Tail n) c apart h = ap after_word h
-seam (Number b) (Word d) c apart h = cc
-seam (Number b) (Number d) c apart h = cc
-seam (Number b) (Literal d) c apart h = cc
-seam (Number b) (Punct d) c apart h =
-    let e = neither (print.first_is (print.is_one_of (codes ".+-")) d || false || false) false apart in
-    let f = neither (print.first_is (print.is_one_of (codes ".+-")) d || false) false e.0 in
-    let g = neither (print.first_is (print.is_one_of (codes ".+-")) d) false f.0 in
-    let sign : is_one_of (codes ".+-") c ≡ false =
-    sym (ap (print.first_is (print.is_one_of (codes ".+-"))) h.2) ∙ g.0 in
-    λ i. h.0 i || sign i
-seam (Number b) Blank c apart h = ap after_number h
-seam (Number b) Newline c apart h = ap after_number h
-seam (Number b) (Head n) c apart h = ap after_number h
-seam (Number b) (Tail n) c apart h = ap after_number h
-seam (Punct b) (Word d) c apart h = never b c h.1 (word_not_operator c h.0)
-seam (Punct b) (Number d) c apart h =
-    let last = last_is (λ x. x == 46) b in
-    let op = last_is is_operator b in
-    let e = neither ((last && true) || (op && (false || false))) false apart in
-    let f = neither (last && true) (op && (false || false)) e.0 in
-    before_number b c h (sym (and_true last) ∙ f.0)
-seam (Punct b) (Literal d) c apart h = never b c h.1 h.0
-seam (Punct b) (Punct d) c apart h =
-    let last = last_is (λ x. x == 46) b in
-    let op = last_is is_operator b in
-    let e = neither ((last && false) || (op && (print.first_is is_operator d || false))) false apart in
-    let f = neither (last && false) (op && (print.first_is is_operator d || false)) e.0 in
-    let is : (op && is_operator c) ≡ false =
-    ap (λ v. op && v) (sym (or_false (is_operator c)) ∙ sym (ap (λ q. print.first_is is_operator q || false) h.2))
-    ∙ f.1 in
-    not_both b c (no_digit_after c (neither (is_word_byte c) (is_one_of (codes "\"'") c) h.0).0) is
-seam (Punct b) Blank c apart h = ap (joins_last joins b) h ∙ never b 32 refl refl
-seam (Punct b) Newline c apart h = ap (joins_last joins b) h ∙ never b 10 refl refl
-seam (Punct b) (Head n) c apart h = before_comment b c apart h
-seam (Punct b) (Tail n) c apart h = before_comment b c apart h
-seam (Literal b) right c apart h = refl
-seam (Verbatim b) right c apart h = refl
-seam Blank right c apart h = refl
-seam Newline right c apart h = refl
-seam Join right c apart h = refl
-seam Defs right c apart h = refl
-seam (Name n) right c apart h = refl
-seam (Head n) right c apart h = refl
-seam (Tail n) right c apart h = refl
-seam (Mark p) right c apart h = refl
-seam left (Verbatim d) c apart h = absurd h
-seam left Join c apart h = absurd h
-seam left Defs c apart h = absurd h
-seam left (Name n) c apart h = absurd h
-seam left (Mark p) c apart h = absurd h
-
--- a blank goes on with no token
-pub blank_after : (left : Token) → goes_on joins left 32 ≡ false
-blank_after (Word b) = refl
-blank_after (Number b) = refl
-blank_after (Punct b) = never b 32 refl refl
-blank_after (Literal b) = refl
-blank_after (Verbatim b) = refl
-blank_after Blank = refl
-blank_after Newline = refl
-blank_after Join = refl
-blank_after Defs = refl
-blank_after (Name n) = refl
-blank_after (Head n) = refl
-blank_after (Tail n) = refl
-blank_after (Mark p) = refl

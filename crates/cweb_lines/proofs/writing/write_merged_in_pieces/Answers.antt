@@ -7,7 +7,7 @@ use Rattle.cweb_lines.proofs.Fronts.{told_halted, told_passed, told_same, told_t
 use Rattle.cweb_lines.proofs.Gathers.{emptied, held, held_on, passed_on, fails_front, fails_among}
 use Rattle.cweb_lines.proofs.Keeps.{keeps_same, keeps_told, keeps_then, place_same, place_then}
 use Rattle.cweb_lines.proofs.Writes.{nothing_yet, ends_front, ends_whole, ended_early, halted, fails_last, tells_some, tells_more, tells_same}
-use Rattle.cweb_lines.proofs.WriteStops.{names_rest, write_failed, blamed, blames_write}
+use Rattle.cweb_lines.proofs.WriteStops.{write_failed, blamed, blames_write}
 use Rattle.cweb_lines.proofs.writing.write_merged_in_pieces.Goals as goal
 
 pub lines-init : goal.lines-init
@@ -52,14 +52,10 @@ pub returns-in-Err-clause-blames : goal.returns-in-Err-clause-blames
 returns-in-Err-clause-blames g c = λ before.
     let blames = c.in-Err.ensures.blames c.lines.invariant.running in
     blamed c.args.room c.in-Err.stop c.write_rest.result _ _ _ _ _ _ c.write_rest.ensures.rest blames.reading
-    c.in-Err.ensures.leaves.kept c.in-Err.ensures.named
+    c.in-Err.ensures.leaves.kept c.in-Err.ensures.leaves.named
     (λ none. rw c.deref.ensures.value (c.lines.invariant.empty none))
     (blames.failed ∙ ap (λ n. n + read_blame c.in-Err.stop) c.lines.invariant.failed)
     (c.write_rest.ensures.failed ∙ ap (λ n. n + write_blame c.write_rest.result) c.lines.invariant.out_failed)
-
-pub returns-in-Err-clause-named : goal.returns-in-Err-clause-named
-returns-in-Err-clause-named g c = names_rest c.in-Err.stop c.write_rest.result _ _ _ c.write_rest.ensures.rest
-    c.in-Err.ensures.named
 
 -- no line was left
 pub returns-in-Err-write_piece-clause-front : goal.returns-in-Err-write_piece-clause-front
@@ -179,10 +175,11 @@ lines-preserved g c = record {
   running = c.pass_lines.ensures.passes.stopped ∙ c.in-Ok.ensures.leaves.running;
   before = c.lines.invariant.before;
   readers = λ tells known. c.pass_lines.ensures.passes.readers _
-      (c.in-Ok.ensures.readers (keeps_told g.S.Shelf _ _ c.lines.invariant.keeps tells)
-      (c.lines.invariant.readers tells known));
-  blamed = λ tells known. c.in-Ok.ensures.blamed (keeps_told g.S.Shelf _ _ c.lines.invariant.keeps tells)
-      (c.lines.invariant.readers tells known) c.lines.invariant.running ∙ c.lines.invariant.blamed tells known;
+      (c.in-Ok.ensures.known (keeps_told g.S.Shelf _ _ c.lines.invariant.keeps tells)
+      (c.lines.invariant.readers tells known)).readers;
+  blamed = λ tells known. (c.in-Ok.ensures.known (keeps_told g.S.Shelf _ _ c.lines.invariant.keeps tells)
+      (c.lines.invariant.readers tells known)).blamed c.lines.invariant.running
+      ∙ c.lines.invariant.blamed tells known;
   told = told_then _ _ _ c.lines.invariant.told
       (told_then _ _ _ c.in-Ok.ensures.grows.told (told_passed c.pass_lines.ensures.passes));
   empty = λ none. emptied c.args.room c.pass_lines.new.piece.items c.pass_on.new.piece.items
@@ -249,55 +246,54 @@ returns-in-Err-gather-clause-grows g c = record {
 }
 
 -- the readers
-pub returns-in-Err-clause-readers : goal.returns-in-Err-clause-readers
-returns-in-Err-clause-readers g c = λ tells known. c.in-Err.ensures.readers
-    (keeps_told g.S.Shelf _ _ c.lines.invariant.keeps tells) (c.lines.invariant.readers tells known)
+pub returns-in-Err-clause-known : goal.returns-in-Err-clause-known
+returns-in-Err-clause-known g c = λ tells known.
+    let told = keeps_told g.S.Shelf _ _ c.lines.invariant.keeps tells in
+    let stays = c.in-Err.ensures.known told (c.lines.invariant.readers tells known) in
+    record {
+      readers = stays.readers;
+      blamed = λ before. stop_after c.write_rest.result _ _ _ _ (c.lines.invariant.blamed tells known)
+          (blames_rest _ _ _ c.in-Err.stop c.write_rest.result _ _ c.write_rest.ensures.rest
+          (stays.blamed c.lines.invariant.running));
+    }
 
-pub returns-in-Err-clause-blamed : goal.returns-in-Err-clause-blamed
-returns-in-Err-clause-blamed g c = λ tells known before.
-    stop_after c.write_rest.result _ _ _ _ (c.lines.invariant.blamed tells known)
-    (blames_rest _ _ _ c.in-Err.stop c.write_rest.result _ _ c.write_rest.ensures.rest
-    (c.in-Err.ensures.blamed (keeps_told g.S.Shelf _ _ c.lines.invariant.keeps tells)
-    (c.lines.invariant.readers tells known) c.lines.invariant.running))
+pub returns-in-Err-write_piece-clause-known : goal.returns-in-Err-write_piece-clause-known
+returns-in-Err-write_piece-clause-known g c = λ tells known.
+    let told = keeps_told g.S.Shelf _ _ c.lines.invariant.keeps tells in
+    let stays = c.in-Ok.ensures.known told (c.lines.invariant.readers tells known) in
+    record {
+      readers = stays.readers;
+      blamed = λ before. blames_none _ _ _ _ (ap read_blame c.in-Err-write_piece.ensures.stop)
+          (stays.blamed c.lines.invariant.running ∙ c.lines.invariant.blamed tells known);
+    }
 
-pub returns-in-Err-write_piece-clause-readers : goal.returns-in-Err-write_piece-clause-readers
-returns-in-Err-write_piece-clause-readers g c = λ tells known. c.in-Ok.ensures.readers
-    (keeps_told g.S.Shelf _ _ c.lines.invariant.keeps tells) (c.lines.invariant.readers tells known)
+pub returns-in_default-next-clause-known : goal.returns-in_default-next-clause-known
+returns-in_default-next-clause-known g c = λ tells known.
+    let told = keeps_told g.S.Shelf _ _ c.lines.invariant.keeps tells in
+    let stays = c.in-Ok.ensures.known told (c.lines.invariant.readers tells known) in
+    record {
+      readers = stays.readers;
+      blamed = λ before. stays.blamed c.lines.invariant.running ∙ c.lines.invariant.blamed tells known;
+    }
 
-pub returns-in-Err-write_piece-clause-blamed : goal.returns-in-Err-write_piece-clause-blamed
-returns-in-Err-write_piece-clause-blamed g c = λ tells known before. blames_none _ _ _ _
-    (ap read_blame c.in-Err-write_piece.ensures.stop)
-    (c.in-Ok.ensures.blamed (keeps_told g.S.Shelf _ _ c.lines.invariant.keeps tells)
-    (c.lines.invariant.readers tells known) c.lines.invariant.running ∙ c.lines.invariant.blamed tells known)
+pub returns-in-Err-gather-clause-known : goal.returns-in-Err-gather-clause-known
+returns-in-Err-gather-clause-known g c = λ tells known.
+    let told = keeps_told g.S.Shelf _ _ c.lines.invariant.keeps tells in
+    let stays = c.in-Ok.ensures.known told (c.lines.invariant.readers tells known) in
+    record {
+      readers = c.halt.ensures.readers _ stays.readers;
+      blamed = λ before.
+          blames_rest _ _ _ c.halt.result c.write_rest-in-Err-gather.result _ _ c.write_rest-in-Err-gather.ensures.rest
+          (blames_none _ _ _ _ (ap read_blame (c.halt.ensures.stop c.in-Ok.ensures.leaves.running))
+          (stays.blamed c.lines.invariant.running ∙ c.lines.invariant.blamed tells known));
+    }
 
-pub returns-in_default-next-clause-readers : goal.returns-in_default-next-clause-readers
-returns-in_default-next-clause-readers g c = λ tells known. c.in-Ok.ensures.readers
-    (keeps_told g.S.Shelf _ _ c.lines.invariant.keeps tells) (c.lines.invariant.readers tells known)
-
-pub returns-in_default-next-clause-blamed : goal.returns-in_default-next-clause-blamed
-returns-in_default-next-clause-blamed g c = λ tells known before. c.in-Ok.ensures.blamed
-    (keeps_told g.S.Shelf _ _ c.lines.invariant.keeps tells) (c.lines.invariant.readers tells known)
-    c.lines.invariant.running ∙ c.lines.invariant.blamed tells known
-
-pub returns-in-Err-gather-clause-readers : goal.returns-in-Err-gather-clause-readers
-returns-in-Err-gather-clause-readers g c = λ tells known. c.halt.ensures.readers _
-    (c.in-Ok.ensures.readers (keeps_told g.S.Shelf _ _ c.lines.invariant.keeps tells)
-    (c.lines.invariant.readers tells known))
-
-pub returns-in-Err-gather-clause-blamed : goal.returns-in-Err-gather-clause-blamed
-returns-in-Err-gather-clause-blamed g c = λ tells known before.
-    blames_rest _ _ _ c.halt.result c.write_rest-in-Err-gather.result _ _ c.write_rest-in-Err-gather.ensures.rest
-    (blames_none _ _ _ _ (ap read_blame (c.halt.ensures.stop c.in-Ok.ensures.leaves.running))
-    (c.in-Ok.ensures.blamed (keeps_told g.S.Shelf _ _ c.lines.invariant.keeps tells)
-    (c.lines.invariant.readers tells known) c.lines.invariant.running ∙ c.lines.invariant.blamed tells known))
-
-pub returns-in-Err-pass_on-clause-readers : goal.returns-in-Err-pass_on-clause-readers
-returns-in-Err-pass_on-clause-readers g c = λ tells known. c.pass_lines.ensures.passes.readers _
-    (c.in-Ok.ensures.readers (keeps_told g.S.Shelf _ _ c.lines.invariant.keeps tells)
-    (c.lines.invariant.readers tells known))
-
-pub returns-in-Err-pass_on-clause-blamed : goal.returns-in-Err-pass_on-clause-blamed
-returns-in-Err-pass_on-clause-blamed g c = λ tells known before. blames_none _ _ _ _
-    (ap read_blame c.in-Err-pass_on.ensures.stop)
-    (c.in-Ok.ensures.blamed (keeps_told g.S.Shelf _ _ c.lines.invariant.keeps tells)
-    (c.lines.invariant.readers tells known) c.lines.invariant.running ∙ c.lines.invariant.blamed tells known)
+pub returns-in-Err-pass_on-clause-known : goal.returns-in-Err-pass_on-clause-known
+returns-in-Err-pass_on-clause-known g c = λ tells known.
+    let told = keeps_told g.S.Shelf _ _ c.lines.invariant.keeps tells in
+    let stays = c.in-Ok.ensures.known told (c.lines.invariant.readers tells known) in
+    record {
+      readers = c.pass_lines.ensures.passes.readers _ stays.readers;
+      blamed = λ before. blames_none _ _ _ _ (ap read_blame c.in-Err-pass_on.ensures.stop)
+          (stays.blamed c.lines.invariant.running ∙ c.lines.invariant.blamed tells known);
+    }

@@ -80,11 +80,12 @@ lines-preserved g c =
       keeps = keeps_then g.S.Shelf _ _ _ c.lines.invariant.keeps c.in-Ok.ensures.keeps;
       failed = search rules;
       readers = λ tells known.
-          c.in-Ok.ensures.readers (keeps_told g.S.Shelf _ _ c.lines.invariant.keeps tells)
-          (c.lines.invariant.readers tells known);
+          (c.in-Ok.ensures.known (keeps_told g.S.Shelf _ _ c.lines.invariant.keeps tells)
+          (c.lines.invariant.readers tells known)).readers;
       blamed = λ tells known.
-          c.in-Ok.ensures.blamed (keeps_told g.S.Shelf _ _ c.lines.invariant.keeps tells)
-          (c.lines.invariant.readers tells known) c.lines.invariant.running ∙ c.lines.invariant.blamed tells known;
+          (c.in-Ok.ensures.known (keeps_told g.S.Shelf _ _ c.lines.invariant.keeps tells)
+          (c.lines.invariant.readers tells known)).blamed c.lines.invariant.running
+          ∙ c.lines.invariant.blamed tells known;
       running = c.in-Ok.ensures.leaves.running;
       before = c.lines.invariant.before;
       told = told_then _ _ _ c.lines.invariant.told c.in-Ok.ensures.grows.told;
@@ -114,7 +115,7 @@ lines-preserved g c =
 pub returns-in-Err-clause-blamed : goal.returns-in-Err-clause-blamed
 returns-in-Err-clause-blamed g c = λ tells known before.
     let inv = c.lines.invariant in
-    c.in-Err.ensures.blamed (keeps_told g.S.Shelf _ _ inv.keeps tells) (inv.readers tells known) inv.running
+    (c.in-Err.ensures.known (keeps_told g.S.Shelf _ _ inv.keeps tells) (inv.readers tells known)).blamed inv.running
     ∙ ap (λ (names : List (List ℕ)). names ++ blame (so_far c.next_line.new.self).names c.in-Err.stop)
     (inv.blamed tells known)
 
@@ -127,20 +128,20 @@ pub returns-in-Err-take_line-clause-blamed : goal.returns-in-Err-take_line-claus
 returns-in-Err-take_line-clause-blamed g c = λ tells known before.
     let inv = c.lines.invariant in
     none_blamed _ _ _ _ (c.halt.ensures.stop c.in-Ok.ensures.leaves.running)
-    (c.in-Ok.ensures.blamed (keeps_told g.S.Shelf _ _ inv.keeps tells) (inv.readers tells known) inv.running
+    ((c.in-Ok.ensures.known (keeps_told g.S.Shelf _ _ inv.keeps tells) (inv.readers tells known)).blamed inv.running
     ∙ inv.blamed tells known)
 
 pub returns-in-Ok-finished-clause-blamed : goal.returns-in-Ok-finished-clause-blamed
 returns-in-Ok-finished-clause-blamed g c = λ tells known before.
     let inv = c.lines.invariant in
-    c.in-Ok.ensures.blamed (keeps_told g.S.Shelf _ _ inv.keeps tells) (inv.readers tells known) inv.running
+    (c.in-Ok.ensures.known (keeps_told g.S.Shelf _ _ inv.keeps tells) (inv.readers tells known)).blamed inv.running
     ∙ inv.blamed tells known
 
 pub returns-clause-blamed : goal.returns-clause-blamed
 returns-clause-blamed g c = λ tells known before.
     let inv = c.lines.invariant in
     none_blamed _ _ _ _ (c.halt-in-Err-finished.ensures.stop c.in-Ok.ensures.leaves.running)
-    (c.in-Ok.ensures.blamed (keeps_told g.S.Shelf _ _ inv.keeps tells) (inv.readers tells known) inv.running
+    ((c.in-Ok.ensures.known (keeps_told g.S.Shelf _ _ inv.keeps tells) (inv.readers tells known)).blamed inv.running
     ∙ inv.blamed tells known)
 
 -- no line is left

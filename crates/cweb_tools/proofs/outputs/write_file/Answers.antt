@@ -6,7 +6,7 @@ use Rattle.cweb_lines.specs.declared.stop.Stop.TheVariants.{Memory, OutNotOpened
 use Rattle.cweb_out.specs.Outputs.{name_of}
 use Rattle.cweb_log.specs.Seen.{seen_bins}
 use Rattle.cweb_tools.specs.Acts.{Held, bins_fail, given_up, not_begun}
-use Rattle.cweb_tools.proofs.Doing.{file_done, file_failed}
+use Rattle.cweb_tools.proofs.DoingFiles.{file_done, file_failed}
 use Rattle.cweb_tools.proofs.Readies.{left_known, text_on}
 use Rattle.cweb_tools.proofs.outputs.write_file.Goals as goal
 

@@ -8,7 +8,7 @@ use Rattle.cweb_log.specs.Seen.{seen_bins, seen_run, seen_shelf, seen_stream}
 use Rattle.cweb_tools.specs.Course.{world_of}
 use Rattle.cweb_tools.proofs.Doing.{log_counted}
 use Rattle.cweb_tools.proofs.Promised.{promised}
-use Rattle.cweb_tools.proofs.TangleExits.{banner_ends, named_ends, words_end}
+use Rattle.cweb_tools.proofs.TangleEnds.{banner_ends, named_ends, words_end}
 use Rattle.cweb_tools.proofs.tangle.run_ctangle.Goals as goal
 
 pub tangle_named-requires-clause-log_count : goal.tangle_named-requires-clause-log_count

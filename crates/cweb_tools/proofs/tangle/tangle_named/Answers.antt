@@ -8,7 +8,8 @@ use Rattle.cweb_lines.specs.Whole.{so_far}
 use Rattle.cweb_log.specs.Options.{Asked, options_of}
 use Rattle.cweb_log.specs.Seen.{seen_bins, seen_shelf, seen_stream}
 use Rattle.cweb_tools.specs.Course.{world_of}
-use Rattle.cweb_tools.proofs.TangleExits.{read_stops, read_whole, start_ends}
+use Rattle.cweb_tools.proofs.TangleExits.{start_ends}
+use Rattle.cweb_tools.proofs.ReadingExits.{read_stops, read_whole}
 use Rattle.cweb_tools.proofs.tangle.tangle_named.Goals as goal
 
 pub returns-in-Err : goal.returns-in-Err

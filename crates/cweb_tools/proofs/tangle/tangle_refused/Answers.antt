@@ -6,7 +6,7 @@ use Rattle.cweb_log.specs.Items.{fault}
 use Rattle.cweb_log.specs.Seen.{seen_stream}
 use Rattle.cweb_log.specs.WebItems.{refusal_text}
 use Rattle.cweb_tools.specs.Acts.{says}
-use Rattle.cweb_tools.proofs.Doing.{closes_told, closing_on, log_closes_on, log_halts}
+use Rattle.cweb_tools.proofs.DoingFiles.{closes_told, closing_on, log_closes_on, log_halts}
 use Rattle.cweb_tools.proofs.Logging.{said}
 use Rattle.cweb_tools.proofs.Refusals.{each_some, refusal_line}
 use Rattle.cweb_tools.proofs.tangle.tangle_refused.Goals as goal

@@ -7,7 +7,7 @@ use Rattle.cweb_tools.specs.Does.{ClosesInLog}
 use Rattle.cweb_tools.specs.Script.{Planning, planned_acts}
 use Rattle.cweb_tools.specs.Tangle.{numbers_of, status_by}
 use Rattle.cweb_tools.specs.Web.{faults_of, files_of}
-use Rattle.cweb_tools.proofs.Doing.{log_closes_on, log_memory_halts, log_planned}
+use Rattle.cweb_tools.proofs.DoingFiles.{log_closes_on, log_memory_halts, log_planned}
 use Rattle.cweb_tools.proofs.Refusals.{IsRefused, of_some, planning_refused, refused_by}
 use Rattle.cweb_tools.proofs.tangle.tangle_unplanned.Goals as goal
 

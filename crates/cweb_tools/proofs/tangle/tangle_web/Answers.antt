@@ -7,7 +7,8 @@ use Rattle.cweb_tools.specs.Does.{ClosesInBoth}
 use Rattle.cweb_tools.specs.Script.{Planning, planned_acts}
 use Rattle.cweb_tools.specs.Tangle.{numbers_of, status_by}
 use Rattle.cweb_tools.specs.Web.{faults_of, files_of}
-use Rattle.cweb_tools.proofs.Doing.{both_closes_on, both_halts, closes_log, closes_then, log_counted, planned_so}
+use Rattle.cweb_tools.proofs.Doing.{log_counted}
+use Rattle.cweb_tools.proofs.DoingFiles.{both_closes_on, both_halts, closes_log, closes_then, planned_so}
 use Rattle.cweb_tools.proofs.Refusals.{planning_made}
 use Rattle.cweb_tools.proofs.tangle.tangle_web.Goals as goal
 

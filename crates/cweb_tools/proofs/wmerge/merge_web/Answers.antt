@@ -8,7 +8,8 @@ use Rattle.cweb_lines.specs.Texts.{read_blame}
 use Rattle.cweb_lines.specs.Whole.{so_far}
 use Rattle.cweb_log.specs.Words.{WebNames, names_of}
 use Rattle.cweb_tools.specs.Course.{world_of}
-use Rattle.cweb_tools.proofs.Exits.{start_stopped, completed, stopped}
+use Rattle.cweb_tools.proofs.Exits.{start_stopped}
+use Rattle.cweb_tools.proofs.MergeExits.{completed, stopped}
 use Rattle.cweb_tools.proofs.wmerge.merge_web.Goals as goal
 
 pub returns-in-Err : goal.returns-in-Err
@@ -35,7 +36,7 @@ returns-in-Ok-write_merged_in_pieces g c =
     (λ tells. (wrote.ok (tells-2 tells)).gives) wrote.grows.lines wrote.grows.bytes
     (wrote.ended.2 ∙ c.in-Ok.ensures.failed)
     (λ tells.
-    wrote.blamed (tells-2 tells) (c.in-Ok.ensures.readers tells) c.in-Ok.ensures.running
+    (wrote.known (tells-2 tells) (c.in-Ok.ensures.readers tells)).blamed c.in-Ok.ensures.running
     ∙ c.in-Ok.ensures.blamed tells)
     wrote.ended.3
     (λ tells told. (wrote.ok (tells-2 tells)).wrote told)
@@ -61,7 +62,7 @@ returns g c =
     (λ tells. (wrote.stops (tells-2 tells) running).told)
     (blames.shelf ∙ ap (λ n. n + read_blame stop) c.in-Ok.ensures.failed)
     (λ tells.
-    wrote.blamed (tells-2 tells) (c.in-Ok.ensures.readers tells) running
+    (wrote.known (tells-2 tells) (c.in-Ok.ensures.readers tells)).blamed running
     ∙ ap (λ (names : List (List ℕ)). names ++ blame (so_far c.write_merged_in_pieces.new.merger).names stop)
     (c.in-Ok.ensures.blamed tells))
     blames.out

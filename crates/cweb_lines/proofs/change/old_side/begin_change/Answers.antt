@@ -3,7 +3,7 @@ use Rattle.cweb_lines.specs.Names.{names_of}
 use Rattle.cweb_lines.specs.Texts.{read_blame}
 use Rattle.cweb_lines.proofs.Named.{blames_none, knows_only}
 use Rattle.cweb_lines.proofs.Fronts.{told_behind, told_then}
-use Rattle.cweb_lines.proofs.Replaces.{tells_front, closes_some}
+use Rattle.cweb_lines.proofs.ReplacesTold.{tells_front, closes_some}
 use Rattle.cweb_lines.proofs.change.old_side.begin_change.Goals as goal
 
 pub returns-in-Err-clause-told : goal.returns-in-Err-clause-told

@@ -1,7 +1,8 @@
 use Rattle.std.proofs.Common.{ℕ, false, List, refl, ap, sym, ◌∙◌}
 use Rattle.cweb_rules.specs.Fronts.{line_comment_at}
 use Rattle.cweb_rules.specs.declared.rule.Rule.TheVariants as rule
-use Rattle.cweb_scan.proofs.HeadTurns.{blanks_pass, dropped_at, foreign_rule, head_passes}
+use Rattle.cweb_scan.proofs.HeadTurns.{dropped_at, foreign_rule}
+use Rattle.cweb_scan.proofs.HeadStays.{blanks_pass, head_passes}
 use Rattle.cweb_scan.proofs.RuleTurns.{is_ended, rule_in_line, two_fit}
 use Rattle.cweb_scan.proofs.Turns.{comment_seen}
 use Rattle.cweb_scan.proofs.reader.Reader.take_head.Goals as goal

@@ -5,7 +5,7 @@ use Rattle.cweb_rules.specs.Bytes.{begins, is_word_byte}
 use Rattle.cweb_rules.specs.Kinds.{Defined, front}
 use Rattle.cweb_rules.specs.declared.rule.Rule.TheVariants as rule
 use Rattle.cweb_scan.specs.After.{define}
-use Rattle.cweb_scan.proofs.HeadTurns.{head_passes}
+use Rattle.cweb_scan.proofs.HeadStays.{head_passes}
 use Rattle.cweb_scan.proofs.reader.Reader.take_macro_name.Goals as goal
 
 pub returns : goal.returns

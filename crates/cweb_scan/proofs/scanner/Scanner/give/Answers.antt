@@ -6,7 +6,7 @@ use Rattle.cweb_store.specs.Seen.{seen}
 use Rattle.cweb_scan.specs.Kept.{IsTied, has_part, step}
 use Rattle.cweb_scan.specs.State.{State}
 use Rattle.cweb_scan.specs.declared.scanner.directive.Directive.{Directive}
-use Rattle.cweb_scan.proofs.Steps.{tied_given}
+use Rattle.cweb_scan.proofs.TiedSteps.{tied_given}
 use Rattle.cweb_scan.proofs.scanner.Scanner.give.Goals as goal
 
 pub invariant_of-self-2 : goal.invariant_of-self-2

@@ -4,7 +4,7 @@ use Rattle.cweb_store.specs.Growing.{token_count}
 use Rattle.cweb_scan.specs.Kept.{IsTied}
 use Rattle.cweb_scan.specs.State.{State}
 use Rattle.cweb_scan.proofs.Drops.{dropped_count}
-use Rattle.cweb_scan.proofs.Steps.{tied_dropped}
+use Rattle.cweb_scan.proofs.TiedSteps.{tied_dropped}
 use Rattle.cweb_scan.proofs.scanner.Scanner.join.Goals as goal
 
 pub invariant_of-self : goal.invariant_of-self

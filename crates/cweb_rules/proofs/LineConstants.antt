@@ -1,0 +1,171 @@
+-- What constants, letters and control texts are in a line doesn't depend on what comes after it.
+use Rattle.std.proofs.Common.{◌≡◌, ◌≤◌, ℕ, ◌+◌, ◌*◌, Bool, true, false, ◌&&◌, ◌||◌, ◌==◌, not, List, [], ◌∷◌, ◌++◌, Option, Some, None, length, take, drop, refl, ap, ◌∙◌, subst, arith}
+use Rattle.std.specs.Prelude.{if◌then◌else◌, codes, nat_le, min}
+use Rattle.std.specs.List.{list_all, prefix_len}
+use Rattle.std.proofs.lemmas.List.{take-append-le, drop-append-le, length-take-le}
+use Rattle.std.proofs.lemmas.List.Sums.{prefix_len-le-length}
+use Rattle.cweb_rules.specs.Bytes.{begins, is_line_end, is_gap, is_octal, is_hex, is_replacing}
+use Rattle.cweb_rules.specs.Constants.{character, escapes, escaped, octal_value, octal, after_backslash, stands_alone, character_at, faulty_size, constant_of, constant, hex_value, hex_at, letter_with, letter_after, letter}
+use Rattle.cweb_rules.specs.declared.constants.Transliteration.{Transliteration}
+use Rattle.cweb_rules.specs.declared.constants.Character.{Character}
+use Rattle.cweb_rules.specs.declared.end.End.TheVariants.{Cut}
+use Rattle.cweb_rules.specs.Items.{control_text, look_in_control}
+use Rattle.cweb_rules.specs.Lines.{AtLineEnd}
+use Rattle.cweb_rules.proofs.Seams.{in_line, both, begins_line, drop_line, run_line}
+use Rattle.cweb_rules.proofs.Reaches.{reach-line}
+use Rattle.cweb_rules.proofs.Looks.{whole, control-local, control-units}
+use Rattle.cweb_rules.proofs.Sizes.{begins-size}
+
+-- CODES
+
+control-stops : (more : List ℕ) → AtLineEnd more → control_text more ≡ record { units = []; close = 0; how = Cut }
+control-stops [] e = refl
+control-stops (b ∷ more) e = ap (λ n. control_text (n ∷ more)) e
+
+pub control_text-line : (t more : List ℕ) → AtLineEnd more → control_text (t ++ more) ≡ control_text t
+control_text-line t more e =
+    reach-line look_in_control Cut t more (control-local more e) (control-local [] tt)
+    (whole look_in_control control-units t) (control-stops more e)
+
+escaped-line : (es : List (ℕ × ℕ)) (t more : List ℕ) → list_all (λ e. in_line e.0) es ≡ true
+    → AtLineEnd more → escaped es (t ++ more) ≡ escaped es t
+escaped-line [] t more h e = refl
+escaped-line (x ∷ es) t more h e =
+    let hs = both (in_line x.0) (list_all (λ e. in_line e.0) es) h in
+    λ i.
+    if begins_line (x.0 ∷ []) t more (ap (λ v. v && true) hs.0) e i
+    then character x.1 2 else escaped-line es t more hs.1 e i
+
+after_backslash-line : (t more : List ℕ) → AtLineEnd more → after_backslash (t ++ more) ≡ after_backslash t
+after_backslash-line t more e =
+    let k : ℕ = prefix_len is_octal t in
+    let n : ℕ = min 3 k in
+    ap (λ k. let n = min 3 k in if n == 0 then escaped escapes (t ++ more) else octal (take n (t ++ more)))
+    (run_line is_octal t more refl e)
+    ∙ (λ i.
+    if n == 0 then escaped-line escapes t more refl e i
+    else ap octal (take-append-le n t more (omega (arith, prefix_len-le-length is_octal t))) i)
+
+character_at-line : (t more : List ℕ) → AtLineEnd more → character_at (t ++ more) ≡ character_at t
+character_at-line [] [] e = refl
+character_at-line [] (b ∷ more) e = ap (λ n. character_at (n ∷ more)) e
+character_at-line (b ∷ t) more e = λ i.
+    if begins_line (codes "@@") (b ∷ t) more refl e i then character 64 2
+    else (if begins_line (codes "\\") (b ∷ t) more refl e i then after_backslash-line t more e i
+    else (if stands_alone b then character b 1 else None))
+
+abbrev IsFit : Option Character → ℕ → Type 0
+IsFit None n = Unit {0}
+IsFit (Some c) n = c.size ≤ n
+
+escaped-fits : (es : List (ℕ × ℕ)) (t : List ℕ) → IsFit (escaped es t) (1 + length t)
+escaped-fits [] t = tt
+escaped-fits (e ∷ es) t =
+    (elim (begins (e.0 ∷ []) t)
+    as (λ v. begins (e.0 ∷ []) t ≡ v → IsFit (if v then character e.1 2 else escaped es t) (1 + length t)) [
+      | true ↦ λ h. omega (arith, begins-size (e.0 ∷ []) t h)
+      | false ↦ λ h. escaped-fits es t
+    ]) refl
+
+octal-fits : (n : ℕ) (t : List ℕ) → n ≤ length t → IsFit (octal (take n t)) (1 + length t)
+octal-fits n t h =
+    elim (nat_le (octal_value (take n t)) 255)
+    as (λ v. IsFit (if v then character (octal_value (take n t)) (1 + length (take n t)) else None) (1 + length t))
+    [ true ↦ omega (arith, h, length-take-le n t h) | false ↦ tt ]
+
+after_backslash-fits : (t : List ℕ) → IsFit (after_backslash t) (1 + length t)
+after_backslash-fits t =
+    let n : ℕ = min 3 (prefix_len is_octal t) in
+    elim (n == 0) as (λ v. IsFit (if v then escaped escapes t else octal (take n t)) (1 + length t))
+    [ true ↦ escaped-fits escapes t | false ↦ octal-fits n t (omega (arith, prefix_len-le-length is_octal t)) ]
+
+character_at-fits : (t : List ℕ) → IsFit (character_at t) (length t)
+character_at-fits [] = tt
+character_at-fits (b ∷ t) =
+    (elim (begins (codes "@@") (b ∷ t)) as (λ v.
+    begins (codes "@@") (b ∷ t) ≡ v
+    → IsFit (if v then character 64 2
+    else (if begins (codes "\\") (b ∷ t) then after_backslash t
+    else (if stands_alone b then character b 1 else None)))
+    (length (b ∷ t))) [
+      | true ↦ λ h. begins-size (codes "@@") (b ∷ t) h
+      | false ↦ λ h.
+          elim (begins (codes "\\") (b ∷ t)) as (λ v.
+          IsFit (if v then after_backslash t else (if stands_alone b then character b 1 else None))
+          (length (b ∷ t))) [
+            | true ↦
+                let e : 1 + length t ≡ length (b ∷ t) = omega arith in
+                subst (IsFit (after_backslash t)) e (after_backslash-fits t)
+            | false ↦
+                elim (stands_alone b) as (λ v. IsFit (if v then character b 1 else None) (length (b ∷ t)))
+                [ true ↦ omega arith | false ↦ tt ]
+          ]
+    ]) refl
+
+faulty-line : (t more : List ℕ) → AtLineEnd more → faulty_size (t ++ more) ≡ faulty_size t
+faulty-line t more e =
+    let p : ℕ → Bool = λ b. not ((b == 39) || is_line_end b) in
+    let n : ℕ = prefix_len p t in
+    ap (λ (n : ℕ). if begins (codes "'") (drop n (t ++ more)) then n + 1 else n) (run_line p t more refl e)
+    ∙ ap (λ v. if v then n + 1 else n) (drop_line (codes "'") n t more refl e (prefix_len-le-length p t))
+
+constant_of-line : (o : Option Character) (t more : List ℕ) → AtLineEnd more
+    → IsFit o (length t) → constant_of o (t ++ more) ≡ constant_of o t
+constant_of-line None t more e h = λ i. record { value = None; size = faulty-line t more e i }
+constant_of-line (Some c) t more e h = λ i.
+    if drop_line (codes "'") c.size t more refl e h i then record { value = Some c.code; size = c.size + 1 }
+    else record { value = None; size = faulty-line t more e i }
+
+pub constant-line : (t more : List ℕ) → AtLineEnd more → constant (t ++ more) ≡ constant t
+constant-line t more e =
+    ap (λ o. constant_of o (t ++ more)) (character_at-line t more e)
+    ∙ constant_of-line (character_at t) t more e (character_at-fits t)
+
+and_false : (a : Bool) → (a && false) ≡ false
+and_false true = refl
+and_false false = refl
+
+letter_with-line : (byte start gap : ℕ) (t more : List ℕ) → AtLineEnd more → gap ≤ length t
+    → letter_with byte start gap (t ++ more) ≡ letter_with byte start gap t
+letter_with-line byte start gap t more e h =
+    let same : prefix_len is_replacing (drop gap (t ++ more)) ≡ prefix_len is_replacing (drop gap t) =
+    ap (prefix_len is_replacing) (drop-append-le gap t more h) ∙ run_line is_replacing (drop gap t) more refl e in
+    λ i. if gap == 0 then None else Some (record { byte = byte; start = start + gap; size = same i })
+
+letter_of-line : (o : Option ℕ) (start : ℕ) (t more : List ℕ) → AtLineEnd more
+    → (elim o as (λ w. Option Transliteration)
+    [ None ↦ None | Some byte ↦ letter_with byte start (prefix_len is_gap (t ++ more)) (t ++ more) ])
+    ≡ (elim o as (λ w. Option Transliteration)
+    [ None ↦ None | Some byte ↦ letter_with byte start (prefix_len is_gap t) t ])
+letter_of-line None start t more e = refl
+letter_of-line (Some byte) start t more e =
+    ap (λ g. letter_with byte start g (t ++ more)) (run_line is_gap t more refl e)
+    ∙ letter_with-line byte start (prefix_len is_gap t) t more e (prefix_len-le-length is_gap t)
+
+hex_none : (a : ℕ) (t more : List ℕ) → hex_at (a ∷ 10 ∷ more) ≡ None
+hex_none a t more =
+    ap (λ v. if v && nat_le 128 (16 * hex_value a + hex_value 10) then Some (16 * hex_value a + hex_value 10) else None)
+    (and_false (is_hex a))
+
+letter_after-none : (gap : ℕ) (t : List ℕ) → hex_at t ≡ None → letter_after gap t ≡ None
+letter_after-none gap t h =
+    ap (λ (o : Option ℕ).
+    elim o as (λ w. Option Transliteration)
+    [ None ↦ None | Some byte ↦ letter_with byte (gap + 2) (prefix_len is_gap (drop 2 t)) (drop 2 t) ])
+    h
+
+letter_after-line : (gap : ℕ) (t more : List ℕ) → AtLineEnd more → letter_after gap (t ++ more) ≡ letter_after gap t
+letter_after-line gap [] [] e = refl
+letter_after-line gap [] (b ∷ []) e = refl
+letter_after-line gap [] (b ∷ c ∷ more) e = ap (λ n. letter_after gap (n ∷ c ∷ more)) e
+letter_after-line gap (a ∷ []) [] e = refl
+letter_after-line gap (a ∷ []) (b ∷ more) e =
+    ap (λ n. letter_after gap (a ∷ n ∷ more)) e ∙ letter_after-none gap (a ∷ 10 ∷ more) (hex_none a [] more)
+letter_after-line gap (a ∷ b ∷ t) more e = letter_of-line (hex_at (a ∷ b ∷ t)) (gap + 2) t more e
+
+pub letter-line : (t more : List ℕ) → AtLineEnd more → letter (t ++ more) ≡ letter t
+letter-line t more e =
+    let g = prefix_len is_gap t in
+    ap (λ g. letter_after g (drop g (t ++ more))) (run_line is_gap t more refl e)
+    ∙ ap (letter_after g) (drop-append-le g t more (prefix_len-le-length is_gap t))
+    ∙ letter_after-line g (drop g t) more e

@@ -1,0 +1,161 @@
+-- What the rules of raw literals and included names name in a line doesn't depend on what comes after it.
+use Rattle.std.proofs.Common.{◌≡◌, ◌≤◌, ℕ, suc, ◌+◌, Bool, true, false, cond, ◌&&◌, ◌||◌, not, List, [], ◌∷◌, ◌++◌, length, take, drop, refl, ap, sym, ◌∙◌, arith}
+use Rattle.std.specs.Prelude.{if◌then◌else◌, codes, nat_le}
+use Rattle.std.specs.List.{list_all, prefix_len}
+use Rattle.std.proofs.lemmas.List.{take-append-le, drop-append-le, length-drop, length-take-le}
+use Rattle.std.proofs.lemmas.List.Sums.{prefix_len-le-length}
+use Rattle.cweb_rules.specs.Bytes.{begins, is_blank, is_line_end, is_delimiter, is_one_of}
+use Rattle.cweb_rules.specs.Cut.{Reach}
+use Rattle.cweb_rules.specs.declared.end.End.TheVariants.{Cut}
+use Rattle.cweb_rules.specs.Items.{included_name, raw_literal, look_in_include, look_in_raw}
+use Rattle.cweb_rules.specs.Kinds.{Front}
+use Rattle.cweb_rules.specs.Fronts.{quoted, raw_prefix, has_delimiter, starts_raw, delimiter, closing_sign, raw_at, is_closed, starts_include, include_at}
+use Rattle.cweb_rules.specs.Lines.{AtLineEnd, opens_raw}
+use Rattle.cweb_rules.proofs.Seams.{in_line, both, begins_line, drop_line, run_line}
+use Rattle.cweb_rules.proofs.Reaches.{reach-line}
+use Rattle.cweb_rules.proofs.Looks.{whole, include-local, include-units, raw-local, raw-units}
+use Rattle.cweb_rules.proofs.Sizes.{begins-size, reach-size, raw-within, include-within}
+use Rattle.cweb_rules.proofs.LineComments.{and_same}
+use Rattle.cweb_rules.proofs.LineLiterals.{quoted-line, quoted_ends, or_size}
+
+-- RAW LITERALS
+
+pub raw_prefix-line : (t more : List ℕ) → AtLineEnd more → raw_prefix (t ++ more) ≡ raw_prefix t
+raw_prefix-line t more e = λ i.
+    if begins_line (codes "u8R\"") t more refl e i then 2
+    else (if begins_line (codes "LR\"") t more refl e i
+    || begins_line (codes "uR\"") t more refl e i || begins_line (codes "UR\"") t more refl e i then 1 else 0)
+
+raw_letter : (t : List ℕ)
+    → (begins (codes "LR\"") t || begins (codes "uR\"") t || begins (codes "UR\"") t) ≡ true → 1 ≤ length t
+raw_letter t h =
+    or_size (begins (codes "LR\"") t || begins (codes "uR\"") t) (begins (codes "UR\"") t) (length t) h
+    (λ k.
+    or_size (begins (codes "LR\"") t) (begins (codes "uR\"") t)
+    (length t) k (λ l. omega (arith, begins-size (codes "LR\"") t l))
+    (λ l. omega (arith, begins-size (codes "uR\"") t l)))
+    (λ l. omega (arith, begins-size (codes "UR\"") t l))
+
+raw_prefix-fits : (t : List ℕ) → raw_prefix t ≤ length t
+raw_prefix-fits t =
+    (elim (begins (codes "u8R\"") t) as (λ v.
+    begins (codes "u8R\"") t ≡ v
+    → (if v then 2
+    else (if begins (codes "LR\"") t || begins (codes "uR\"") t || begins (codes "UR\"") t
+    then 1 else 0)) ≤ length t) [
+      | true ↦ λ h. omega (arith, begins-size (codes "u8R\"") t h)
+      | false ↦ λ h.
+          (elim (begins (codes "LR\"") t || begins (codes "uR\"") t || begins (codes "UR\"") t)
+          as (λ v.
+          (begins (codes "LR\"") t || begins (codes "uR\"") t || begins (codes "UR\"") t) ≡ v
+          → (if v then 1 else 0) ≤ length t) [
+            | true ↦ λ k. raw_letter t k
+            | false ↦ λ k. omega arith
+          ]) refl
+    ]) refl
+
+has_delimiter-line : (t more : List ℕ) → AtLineEnd more → has_delimiter (t ++ more) ≡ has_delimiter t
+has_delimiter-line t more e =
+    let n = prefix_len is_delimiter t in
+    ap (λ n. nat_le n 16 && begins (codes "(") (drop n (t ++ more))) (run_line is_delimiter t more refl e)
+    ∙ ap (λ v. nat_le n 16 && v) (drop_line (codes "(") n t more refl e (prefix_len-le-length is_delimiter t))
+
+pub sign-fits : (t : List ℕ) → begins (codes "R\"") (drop (raw_prefix t) t) ≡ true → raw_prefix t + 2 ≤ length t
+sign-fits t h = omega (arith, begins-size (codes "R\"") (drop (raw_prefix t) t) h, length-drop (raw_prefix t) t)
+
+pub starts_raw_line : (t more : List ℕ) → AtLineEnd more → starts_raw (t ++ more) ≡ starts_raw t
+starts_raw_line t more e =
+    let n = raw_prefix t in
+    ap (λ n. begins (codes "R\"") (drop n (t ++ more)) && has_delimiter (drop (n + 2) (t ++ more)))
+    (raw_prefix-line t more e)
+    ∙ and_same (begins (codes "R\"") (drop n (t ++ more))) (begins (codes "R\"") (drop n t))
+    (has_delimiter (drop (n + 2) (t ++ more))) (has_delimiter (drop (n + 2) t))
+    (drop_line (codes "R\"") n t more refl e (raw_prefix-fits t))
+    (λ h. ap has_delimiter (drop-append-le (n + 2) t more (sign-fits t h)) ∙ has_delimiter-line (drop (n + 2) t) more e)
+
+pub delimiter-line : (t more : List ℕ) → AtLineEnd more → delimiter (t ++ more) ≡ delimiter t
+delimiter-line t more e =
+    ap (λ n. take n (t ++ more)) (run_line is_delimiter t more refl e)
+    ∙ take-append-le (prefix_len is_delimiter t) t more (prefix_len-le-length is_delimiter t)
+
+-- no line end stands in a delimiter
+delimits : (b : ℕ) → is_delimiter b ≡ true → in_line b ≡ true
+delimits b h = (elim (is_line_end b) as (λ v. is_line_end b ≡ v → not v ≡ true) [
+  | true ↦ λ e.
+      let f : is_delimiter b ≡ false =
+      (λ i. not ((is_blank b || e i) || is_one_of (codes "()\\\"@") b))
+      ∙ ap (λ v. not (v || is_one_of (codes "()\\\"@") b)) (or_true (is_blank b)) in
+      sym (sym h ∙ f)
+  | false ↦ λ e. refl
+]) refl
+  where
+    or_true : (a : Bool) → (a || true) ≡ true
+    or_true true = refl
+    or_true false = refl
+
+delimiter-in_line : (t : List ℕ) → list_all in_line (delimiter t) ≡ true
+delimiter-in_line [] = refl
+delimiter-in_line (b ∷ t) =
+    (elim (is_delimiter b) as (λ v.
+    is_delimiter b ≡ v → list_all in_line (take (cond v (1 + prefix_len is_delimiter t) 0) (b ∷ t)) ≡ true) [
+      | true ↦ λ h. let e : 1 + prefix_len is_delimiter t ≡ suc (prefix_len is_delimiter t) = omega arith in
+          ap (λ n. list_all in_line (take n (b ∷ t))) e
+          ∙ ap (λ v. v && list_all in_line (delimiter t)) (delimits b h) ∙ delimiter-in_line t
+      | false ↦ λ h. refl
+    ]) refl
+
+with_end : (d : List ℕ) → list_all in_line d ≡ true → list_all in_line (d ++ codes "\"") ≡ true
+with_end [] h = refl
+with_end (b ∷ d) h =
+    let hs = both (in_line b) (list_all in_line d) h in
+    ap (λ v. v && list_all in_line (d ++ codes "\"")) hs.0 ∙ with_end d hs.1
+
+pub closing_sign-in_line : (t : List ℕ) → list_all in_line (closing_sign t) ≡ true
+closing_sign-in_line t = with_end (delimiter t) (delimiter-in_line t)
+
+abbrev pub raw_from : ℕ → List ℕ → List ℕ → Front
+raw_from m d t = let n = m + length d + 1 in quoted n (raw_literal (codes ")" ++ d ++ codes "\"") (drop n t)) t
+
+pub has_delimiter-size : (t : List ℕ) → has_delimiter t ≡ true → length (delimiter t) + 1 ≤ length t
+has_delimiter-size t h =
+    let n : ℕ = prefix_len is_delimiter t in
+    let sign = begins-size (codes "(") (drop n t) (both (nat_le n 16) (begins (codes "(") (drop n t)) h).1 in
+    omega (arith, sign, length-drop n t, length-take-le n t (prefix_len-le-length is_delimiter t))
+
+pub raw_at_line : (t more : List ℕ) → AtLineEnd more → starts_raw t ≡ true
+    → opens_raw t ≡ false → raw_at (t ++ more) ≡ raw_at t
+raw_at_line t more e starts ends =
+    let m = raw_prefix t + 2 in
+    let d = delimiter (drop m t) in
+    let n = m + length d + 1 in
+    let sign = closing_sign (drop m t) in
+    let start = both (begins (codes "R\"") (drop (raw_prefix t) t)) (has_delimiter (drop m t)) starts in
+    let two = sign-fits t start.0 in
+    let some = has_delimiter-size (drop m t) start.1 in
+    let clean = closing_sign-in_line (drop m t) in
+    let look = look_in_raw sign in
+    ap (λ n. raw_from (n + 2) (delimiter (drop (n + 2) (t ++ more))) (t ++ more)) (raw_prefix-line t more e)
+    ∙ ap (λ d. raw_from m d (t ++ more)) (ap delimiter (drop-append-le m t more two) ∙ delimiter-line (drop m t) more e)
+    ∙ quoted_ends look n t more (omega (arith, some, two, length-drop m t)) (raw-within sign)
+    (raw-local sign more clean e) (raw-local sign [] clean tt) (whole look (raw-units sign) (drop n t)) ends
+
+-- INCLUDED NAMES
+
+include-stops : (more : List ℕ) → AtLineEnd more → included_name more ≡ record { units = []; close = 0; how = Cut }
+include-stops [] e = refl
+include-stops (b ∷ more) e = ap (λ n. included_name (n ∷ more)) e
+
+included-line : (t more : List ℕ) → AtLineEnd more → included_name (t ++ more) ≡ included_name t
+included-line t more e =
+    reach-line look_in_include Cut t more (include-local more e) (include-local [] tt)
+    (whole look_in_include include-units t) (include-stops more e)
+
+pub starts_include_line : (b : ℕ) (t more : List ℕ) → AtLineEnd more
+    → starts_include (b ∷ t ++ more) ≡ starts_include (b ∷ t)
+starts_include_line b t more e = λ i.
+    begins_line (codes "<") (b ∷ t) more refl e i && is_closed (ap (λ (r : Reach). r.how) (included-line t more e) i)
+
+pub include_at_line : (b : ℕ) (t more : List ℕ) → AtLineEnd more → include_at (b ∷ t ++ more) ≡ include_at (b ∷ t)
+include_at_line b t more e =
+    ap (λ r. quoted 1 r (b ∷ t ++ more)) (included-line t more e)
+    ∙ quoted-line 1 (included_name t) (b ∷ t) more (omega arith) (reach-size look_in_include Cut include-within t)

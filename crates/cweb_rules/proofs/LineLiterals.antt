@@ -1,0 +1,118 @@
+-- What the rules of literals name in a line doesn't depend on what comes after it.
+use Rattle.std.proofs.Common.{◌≡◌, ◌≤◌, ℕ, ◌+◌, Bool, true, false, ◌&&◌, ◌||◌, ◌==◌, List, [], ◌∷◌, ◌++◌, length, take, drop, refl, ap, ◌∙◌, arith}
+use Rattle.std.specs.Prelude.{if◌then◌else◌, codes}
+use Rattle.std.proofs.lemmas.List.{take-append-le, drop-append-le, length-drop}
+use Rattle.cweb_rules.specs.Bytes.{begins}
+use Rattle.cweb_rules.specs.declared.look.Look.{Look}
+use Rattle.cweb_rules.specs.Cut.{Reach, reach, body, size_of}
+use Rattle.cweb_rules.specs.declared.end.End.TheVariants.{Cut, Open}
+use Rattle.cweb_rules.specs.Items.{literal, look_in_literal}
+use Rattle.cweb_rules.specs.Kinds.{Quoted, Front, front}
+use Rattle.cweb_rules.specs.Fronts.{is_quoted, literal_prefix, starts_literal, quoted, quote_of, literal_at}
+use Rattle.cweb_rules.specs.Lines.{AtLineEnd, is_open, opens_literal}
+use Rattle.cweb_rules.proofs.Seams.{stops, both, begins_line, drop_line}
+use Rattle.cweb_rules.proofs.Reaches.{IsLocal, IsWhole}
+use Rattle.cweb_rules.proofs.Looks.{reach_ends, ended_whole, literal-local, literal-some}
+use Rattle.cweb_rules.proofs.Sizes.{IsWithin, begins-size, reach-size, literal-within}
+use Rattle.cweb_rules.proofs.LineComments.{and_same}
+
+-- LITERALS
+
+pub quoted-line : (n : ℕ) (r : Reach) (t more : List ℕ) → n ≤ length t
+    → size_of r ≤ length (drop n t) → quoted n r (t ++ more) ≡ quoted n r t
+quoted-line n r t more fits within =
+    let m = n + length (body r) in
+    let d = length-drop n t in
+    let first : take n (t ++ more) ≡ take n t = take-append-le n t more fits in
+    let last : take r.close (drop m (t ++ more)) ≡ take r.close (drop m t) =
+    ap (take r.close) (drop-append-le m t more (omega (arith, fits, within, d)))
+    ∙ take-append-le r.close (drop m t) more (omega (arith, fits, within, d, length-drop m t)) in
+    λ i. front (Quoted (first i ∷ r.units ++ last i ∷ []) r.how) (n + size_of r)
+
+-- a literal that ends in the line
+pub quoted_ends : (look : List ℕ → Look) (n : ℕ) (t more : List ℕ) → n ≤ length t → IsWithin look → IsLocal look more
+    → IsLocal look [] → IsWhole look 0 (drop n t) → is_open (reach look Open (drop n t)).how ≡ false
+    → quoted n (reach look Cut (drop n (t ++ more))) (t ++ more) ≡ quoted n (reach look Cut (drop n t)) t
+quoted_ends look n t more fits within local local0 h ends =
+    ap (λ u. quoted n (reach look Cut u) (t ++ more)) (drop-append-le n t more fits)
+    ∙ ap (λ r. quoted n r (t ++ more)) (reach_ends look Cut (drop n t) more local local0 h ends)
+    ∙ quoted-line n (reach look Cut (drop n t)) t more fits (reach-size look Cut within (drop n t))
+
+is_quoted-line : (n : ℕ) (t more : List ℕ) → AtLineEnd more → n ≤ length t → is_quoted n (t ++ more) ≡ is_quoted n t
+is_quoted-line n t more e h = λ i.
+    drop_line (codes "\"") n t more refl e h i || drop_line (codes "'") n t more refl e h i
+
+pub or_size : (a b : Bool) (n : ℕ) → (a || b) ≡ true → (a ≡ true → 1 ≤ n) → (b ≡ true → 1 ≤ n) → 1 ≤ n
+or_size true b n h f g = f refl
+or_size false b n h f g = g h
+
+one_letter : (t : List ℕ) → (begins (codes "L") t || begins (codes "u") t || begins (codes "U") t) ≡ true → 1 ≤ length t
+one_letter t h =
+    or_size (begins (codes "L") t || begins (codes "u") t) (begins (codes "U") t) (length t) h
+    (λ k.
+    or_size (begins (codes "L") t) (begins (codes "u") t) (length t)
+    k (begins-size (codes "L") t) (begins-size (codes "u") t))
+    (begins-size (codes "U") t)
+
+pub literal_prefix-line : (t more : List ℕ) → AtLineEnd more → literal_prefix (t ++ more) ≡ literal_prefix t
+literal_prefix-line t more e =
+    let two =
+    and_same (begins (codes "u8") (t ++ more)) (begins (codes "u8") t)
+    (is_quoted 2 (t ++ more)) (is_quoted 2 t) (begins_line (codes "u8") t more refl e)
+    (λ h. is_quoted-line 2 t more e (begins-size (codes "u8") t h)) in
+    let one =
+    and_same (begins (codes "L") (t ++ more) || begins (codes "u") (t ++ more) || begins (codes "U") (t ++ more))
+    (begins (codes "L") t || begins (codes "u") t || begins (codes "U") t) (is_quoted 1 (t ++ more))
+    (is_quoted 1 t)
+    (λ i.
+    begins_line (codes "L") t more refl e i || begins_line (codes "u") t more refl e i
+    || begins_line (codes "U") t more refl e i)
+    (λ h. is_quoted-line 1 t more e (one_letter t h)) in
+    λ i. if two i then 2 else (if one i then 1 else 0)
+
+literal_prefix-fits : (t : List ℕ) → literal_prefix t ≤ length t
+literal_prefix-fits t =
+    (elim (begins (codes "u8") t && is_quoted 2 t) as (λ v.
+    (begins (codes "u8") t && is_quoted 2 t) ≡ v
+    → (if v then 2
+    else (if (begins (codes "L") t || begins (codes "u") t || begins (codes "U") t) && is_quoted 1 t
+    then 1 else 0)) ≤ length t) [
+      | true ↦ λ h. begins-size (codes "u8") t (both (begins (codes "u8") t) (is_quoted 2 t) h).0
+      | false ↦ λ h.
+          (elim ((begins (codes "L") t || begins (codes "u") t || begins (codes "U") t) && is_quoted 1 t)
+          as (λ v.
+          ((begins (codes "L") t || begins (codes "u") t || begins (codes "U") t) && is_quoted 1 t) ≡ v
+          → (if v then 1 else 0) ≤ length t) [
+            | true ↦ λ k.
+                one_letter t (both (begins (codes "L") t || begins (codes "u") t || begins (codes "U") t) (is_quoted 1 t) k).0
+            | false ↦ λ k. omega arith
+          ]) refl
+    ]) refl
+
+pub starts_literal_line : (t more : List ℕ) → AtLineEnd more → starts_literal (t ++ more) ≡ starts_literal t
+starts_literal_line t more e =
+    ap (λ n. is_quoted n (t ++ more)) (literal_prefix-line t more e)
+    ∙ is_quoted-line (literal_prefix t) t more e (literal_prefix-fits t)
+
+pub is_quoted-size : (n : ℕ) (t : List ℕ) → is_quoted n t ≡ true → n + 1 ≤ length t
+is_quoted-size n t h =
+    let some =
+    or_size (begins (codes "\"") (drop n t)) (begins (codes "'") (drop n t)) (length (drop n t))
+    h (begins-size (codes "\"") (drop n t)) (begins-size (codes "'") (drop n t)) in
+    omega (arith, some, length-drop n t)
+
+abbrev pub literal_with : ℕ → ℕ → List ℕ → Front
+literal_with n quote t = quoted (n + 1) (literal quote (drop (n + 1) t)) t
+
+pub literal_at_line : (t more : List ℕ) → AtLineEnd more → starts_literal t ≡ true
+    → opens_literal t ≡ false → literal_at (t ++ more) ≡ literal_at t
+literal_at_line t more e starts ends =
+    let n = literal_prefix t in
+    let quote = quote_of (drop n t) in
+    let fits = is_quoted-size n t starts in
+    ap (λ n. literal_with n (quote_of (drop n (t ++ more))) (t ++ more)) (literal_prefix-line t more e)
+    ∙ ap (λ v. literal_with n (if v then 39 else 34) (t ++ more))
+    (drop_line (codes "'") n t more refl e (omega (arith, fits)))
+    ∙ quoted_ends (look_in_literal quote) (n + 1) t more fits (literal-within quote)
+    (literal-local quote more (stops (λ b. b == 64) more refl e)) (literal-local quote [] refl)
+    (ended_whole (look_in_literal quote) (literal-some quote) (drop (n + 1) t) ends) ends

@@ -1,0 +1,198 @@
+-- What the looks of items see in a line, and that their units stand in it.
+use Rattle.std.proofs.Common.{◌≡◌, ◌≤◌, ◌<◌, ℕ, zero, suc, ◌-◌, Bool, true, false, ◌&&◌, ◌||◌, ◌==◌, List, [], ◌∷◌, ◌++◌, length, refl, ap, sym, ◌∙◌, subst, arith}
+use Rattle.std.specs.Prelude.{if◌then◌else◌, codes}
+use Rattle.std.specs.List.{list_all}
+use Rattle.std.proofs.lemmas.Bool.{eqb-true}
+use Rattle.std.proofs.lemmas.List.{append-nil}
+use Rattle.cweb_rules.specs.Bytes.{begins, first_is, is_line_end, starts_section}
+use Rattle.cweb_rules.specs.declared.look.Look.{Look}
+use Rattle.cweb_rules.specs.declared.look.Look.TheVariants.{Goes, Ends}
+use Rattle.cweb_rules.specs.Cut.{reach, reach_in}
+use Rattle.cweb_rules.specs.declared.end.End.{End}
+use Rattle.cweb_rules.specs.declared.end.End.TheVariants.{Closed, Cut, Nested, Open}
+use Rattle.cweb_rules.specs.Items.{look_in_control, look_in_name, look_in_comment, look_in_literal, look_in_include, look_in_raw}
+use Rattle.cweb_rules.specs.Lines.{AtLineEnd, is_open}
+use Rattle.cweb_rules.proofs.Seams.{in_line, both, begins_stop, begins_line, starts_section_line}
+use Rattle.cweb_rules.proofs.Sizes.{begins-size}
+use Rattle.cweb_rules.proofs.Reaches.{IsLocal, IsEnd, IsWhole, ended, at_front, WholeAt, reach-ended}
+
+-- THE LOOKS: what they see in a line, and that their units stand in it
+
+abbrev pub IsWithin : Look → ℕ → Type 0
+IsWithin (Goes n) len = (0 < n) × (n ≤ len)
+IsWithin (Ends n how) len = IsEnd how
+
+abbrev pub AllWithin : (List ℕ → Look) → Type 0
+AllWithin look = (b : ℕ) (t : List ℕ) → IsWithin (look (b ∷ t)) (length (b ∷ t))
+
+whole_at : (look : List ℕ → Look) (v : Look) (t : List ℕ) → IsWithin v (suc (length t))
+    → ((k : ℕ) → k ≤ length t → IsWhole look k t) → WholeAt look v t
+whole_at look (Goes n) t h f = (h.0, f (n - 1) (omega (arith, h.1)))
+whole_at look (Ends n how) t h f = h
+
+whole_in : (look : List ℕ → Look) → AllWithin look → (k : ℕ) (t : List ℕ) → k ≤ length t → IsWhole look k t
+whole_in look within k [] h = omega (arith, h)
+whole_in look within (suc k) (b ∷ t) h = whole_in look within k t (omega (arith, h))
+whole_in look within zero (b ∷ t) h = whole_at look (look (b ∷ t)) t (within b t) (λ k f. whole_in look within k t f)
+
+pub whole : (look : List ℕ → Look) → AllWithin look → (t : List ℕ) → IsWhole look 0 t
+whole look within t = whole_in look within 0 t (omega arith)
+
+within_if : (v : Bool) (x y : Look) (n : ℕ) → (v ≡ true → IsWithin x n)
+    → (v ≡ false → IsWithin y n) → IsWithin (if v then x else y) n
+within_if true x y n f g = f refl
+within_if false x y n f g = g refl
+
+goes : (n len : ℕ) → 0 < n → n ≤ len → IsWithin (Goes n) len
+goes n len h k = (h, k)
+
+-- control texts
+pub control-local : (more : List ℕ) → AtLineEnd more → IsLocal look_in_control more
+control-local more e b t = λ i.
+    if begins_line (codes "@>") (b ∷ t) more refl e i then Ends 2 Closed
+    else (if begins_line (codes "@@") (b ∷ t) more refl e i then Goes 2
+    else (if begins_line (codes "@") (b ∷ t) more refl e i || is_line_end b then Ends 0 Cut
+    else Goes 1))
+
+pub control-units : AllWithin look_in_control
+control-units b t =
+    let n = length (b ∷ t) in
+    within_if (begins (codes "@>") (b ∷ t)) _ _ n (λ h. tt) (λ h.
+    within_if (begins (codes "@@") (b ∷ t)) _ _ n
+    (λ k. goes 2 n (omega arith) (begins-size (codes "@@") (b ∷ t) k))
+    (λ k.
+    within_if (begins (codes "@") (b ∷ t) || is_line_end b) _ _ n
+    (λ l. tt) (λ l. goes 1 n (omega arith) (omega arith))))
+
+-- `@` that begins no section has a byte after it
+pub at_fits : (b : ℕ) (t : List ℕ) → starts_section (b ∷ t) ≡ false
+    → begins (codes "@") (b ∷ t) ≡ true → 2 ≤ length (b ∷ t)
+at_fits b [] s h =
+    let wrong : true ≡ false = subst (λ n. (n == 64) ≡ false) (sym (eqb-true 64 b (both (64 == b) true h).0)) s in cc
+at_fits b (c ∷ t) s h = omega arith
+
+-- names
+pub name-local : (more : List ℕ) → AtLineEnd more → IsLocal look_in_name more
+name-local more e b t = λ i.
+    if begins_line (codes "@>") (b ∷ t) more refl e i then Ends 2 Closed
+    else (if begins_line (codes "@<") (b ∷ t) more refl e i || begins_line (codes "@(") (b ∷ t) more refl e i
+    then Ends 0 Nested
+    else (if starts_section_line b t more e i then Ends 0 Cut
+    else (if begins_line (codes "@") (b ∷ t) more refl e i then Goes 2 else Goes 1)))
+
+at-units : (b : ℕ) (t : List ℕ) → starts_section (b ∷ t) ≡ false
+    → IsWithin (if begins (codes "@") (b ∷ t) then Goes 2 else Goes 1) (length (b ∷ t))
+at-units b t h =
+    let n = length (b ∷ t) in
+    within_if (begins (codes "@") (b ∷ t)) (Goes 2) (Goes 1) n
+    (λ m. goes 2 n (omega arith) (at_fits b t h m)) (λ m. goes 1 n (omega arith) (omega arith))
+
+pub name-units : AllWithin look_in_name
+name-units b t =
+    let n = length (b ∷ t) in
+    within_if (begins (codes "@>") (b ∷ t)) _ _ n (λ h. tt) (λ h.
+    within_if (begins (codes "@<") (b ∷ t) || begins (codes "@(") (b ∷ t)) _ _ n (λ k. tt)
+    (λ k. within_if (starts_section (b ∷ t)) _ _ n (λ l. tt) (λ l. at-units b t l)))
+
+-- comments
+pub comment-local : (closes : List ℕ → Bool) (size : ℕ) (more : List ℕ) → AtLineEnd more
+    → ((b : ℕ) (t : List ℕ) → closes (b ∷ t ++ more) ≡ closes (b ∷ t)) → IsLocal (look_in_comment closes size) more
+comment-local closes size more e same b t = λ i.
+    if same b t i then Ends size Closed
+    else (if starts_section_line b t more e i then Ends 0 Cut
+    else (if begins_line (codes "@") (b ∷ t) more refl e i then Goes 2 else Goes 1))
+
+pub comment-units : (closes : List ℕ → Bool) (size : ℕ) → AllWithin (look_in_comment closes size)
+comment-units closes size b t =
+    let n = length (b ∷ t) in
+    within_if (closes (b ∷ t)) _ _ n (λ h. tt)
+    (λ k. within_if (starts_section (b ∷ t)) _ _ n (λ l. tt) (λ l. at-units b t l))
+
+doubled-units : (b : ℕ) (t : List ℕ)
+    → IsWithin (if begins (codes "@@") (b ∷ t) then Goes 2 else Goes 1) (length (b ∷ t))
+doubled-units b t =
+    let n = length (b ∷ t) in
+    within_if (begins (codes "@@") (b ∷ t)) (Goes 2) (Goes 1) n
+    (λ l. goes 2 n (omega arith) (begins-size (codes "@@") (b ∷ t) l)) (λ l. goes 1 n (omega arith) (omega arith))
+
+-- included names
+pub include-local : (more : List ℕ) → AtLineEnd more → IsLocal look_in_include more
+include-local more e b t = λ i.
+    if begins_line (codes ">") (b ∷ t) more refl e i then Ends 1 Closed
+    else (if is_line_end b then Ends 0 Cut
+    else (if begins_line (codes "@@") (b ∷ t) more refl e i then Goes 2 else Goes 1))
+
+pub include-units : AllWithin look_in_include
+include-units b t =
+    let n = length (b ∷ t) in
+    within_if (begins (codes ">") (b ∷ t)) _ _ n (λ h. tt)
+    (λ h. within_if (is_line_end b) _ _ n (λ k. tt) (λ k. doubled-units b t))
+
+-- raw literals: their closing sign can't go over a line end
+pub raw-local : (sign more : List ℕ) → list_all in_line sign ≡ true → AtLineEnd more → IsLocal (look_in_raw sign) more
+raw-local sign more a e b t = λ i.
+    if begins_line sign (b ∷ t) more a e i then Ends (length sign) Closed
+    else (if starts_section_line b t more e i then Ends 0 Cut
+    else (if begins_line (codes "@@") (b ∷ t) more refl e i then Goes 2 else Goes 1))
+
+pub raw-units : (sign : List ℕ) → AllWithin (look_in_raw sign)
+raw-units sign b t =
+    let n = length (b ∷ t) in
+    within_if (begins sign (b ∷ t)) _ _ n (λ h. tt)
+    (λ h. within_if (starts_section (b ∷ t)) _ _ n (λ k. tt) (λ k. doubled-units b t))
+
+-- literals: any seam that no `@` follows
+pub literal-local : (quote : ℕ) (more : List ℕ)
+    → first_is (λ b. b == 64) more ≡ false → IsLocal (look_in_literal quote) more
+literal-local quote more stop b t = λ i.
+    let at : Bool = begins_stop (λ x. x == 64) (codes "@") t more refl stop i in
+    if begins (quote ∷ []) (b ∷ t) then Ends 1 Closed
+    else (if is_line_end b then Ends 0 Cut
+    else (if (92 == b) && at then Goes 1
+    else (if ((92 == b) && true) || ((64 == b) && at) then Goes 2 else Goes 1)))
+
+-- UNITS THAT ARE NOT EMPTY: what ends before a seam has no unit over it
+
+abbrev pub IsSome : Look → Type 0
+IsSome (Goes n) = 0 < n
+IsSome (Ends n how) = IsEnd how
+
+abbrev pub AllSome : (List ℕ → Look) → Type 0
+AllSome look = (b : ℕ) (t : List ℕ) → IsSome (look (b ∷ t))
+
+ended_at : (look : List ℕ → Look) (b : ℕ) (t : List ℕ) (v : Look) → IsSome v
+    → ((k : ℕ) → is_open (reach_in look Open k t).how ≡ false → IsWhole look k t)
+    → is_open (at_front look v (b ∷ t) Open t).how ≡ false → WholeAt look v t
+ended_at look b t (Goes n) h f g = (h, f (n - 1) g)
+ended_at look b t (Ends n how) h f g = h
+
+ended_in : (look : List ℕ → Look) → AllSome look → (k : ℕ) (t : List ℕ)
+    → is_open (reach_in look Open k t).how ≡ false → IsWhole look k t
+ended_in look some k [] h = cc
+ended_in look some (suc k) (b ∷ t) h = ended_in look some k t h
+ended_in look some zero (b ∷ t) h = ended_at look b t (look (b ∷ t)) (some b t) (λ k f. ended_in look some k t f) h
+
+pub ended_whole : (look : List ℕ → Look) → AllSome look → (t : List ℕ)
+    → is_open (reach look Open t).how ≡ false → IsWhole look 0 t
+ended_whole look some t h = ended_in look some 0 t h
+
+some_if : (v : Bool) (x y : Look) → IsSome x → IsSome y → IsSome (if v then x else y)
+some_if true x y f g = f
+some_if false x y f g = g
+
+pub literal-some : (quote : ℕ) → AllSome (look_in_literal quote)
+literal-some quote b t =
+    some_if (begins (quote ∷ []) (b ∷ t)) _ _ tt
+    (some_if (is_line_end b) _ _ tt
+    (some_if (begins (codes "\\@") (b ∷ t)) _ _ (omega arith)
+    (some_if (begins (codes "\\") (b ∷ t) || begins (codes "@@") (b ∷ t)) _ _ (omega arith) (omega arith))))
+
+-- what ends in a text ends so, however the text ends
+pub ended_same : (look : List ℕ → Look) (e : End) (t : List ℕ) → IsLocal look [] → IsWhole look 0 t
+    → is_open (reach look Open t).how ≡ false → reach look e t ≡ reach look Open t
+ended_same look e t local h ended = ap (reach look e) (sym (append-nil t)) ∙ reach-ended look e t [] local h ended
+
+pub reach_ends : (look : List ℕ → Look) (e : End) (t more : List ℕ) → IsLocal look more → IsLocal look []
+    → IsWhole look 0 t → is_open (reach look Open t).how ≡ false → reach look e (t ++ more) ≡ reach look e t
+reach_ends look e t more local local0 h ended =
+    reach-ended look e t more local h ended ∙ sym (ended_same look e t local0 h ended)

@@ -1,0 +1,233 @@
+-- What opens a literal: what is read then is what is read with the literal open.
+use Rattle.std.proofs.Common.{◌≡◌, ◌≤◌, ◌<◌, ℕ, zero, suc, ◌+◌, Bool, true, false, ◌&&◌, ◌==◌, List, [], ◌∷◌, ◌++◌, length, take, drop, refl, ap, sym, ◌∙◌, subst, arith}
+use Rattle.std.specs.Prelude.{if◌then◌else◌, codes, bytes_eq, not}
+use Rattle.std.specs.List.{fold, prefix_len}
+use Rattle.std.proofs.lemmas.List.{take-append-le, drop-append-le, length-drop}
+use Rattle.cweb_scan.specs.After.{Reading, on, each_line_end, next_line, comment, literal, literal_unit, enter_in, blank}
+use Rattle.cweb_rules.specs.Bytes.{begins, first_is, is_blank, is_word_byte, at_line_end}
+use Rattle.cweb_rules.specs.declared.effect.Effect.{Effect}
+use Rattle.cweb_rules.specs.Codes.{in_macro, in_c}
+use Rattle.cweb_rules.specs.declared.look.Look.{Look}
+use Rattle.cweb_rules.specs.Cut.{reach, body, size_of}
+use Rattle.cweb_scan.specs.Directives.{names_include}
+use Rattle.cweb_scan.specs.Fronted.{reads_literals, IsPast}
+use Rattle.cweb_rules.specs.Fronts.{raw_prefix, delimiter, section_at, code_at, comment_at, line_comment_at, raw_at, literal_at, literal_prefix, quote_of, quoted, c_front, starts_raw, starts_literal, starts_include, include_at}
+use Rattle.cweb_rules.specs.declared.end.End.{End}
+use Rattle.cweb_rules.specs.declared.end.End.TheVariants.{Cut}
+use Rattle.cweb_rules.specs.Items.{text_in, look_in_raw, look_in_literal}
+use Rattle.cweb_rules.specs.Kinds.{Skipped, Blanks, LineEnd, Quoted, Identifier, Numeral, Punctuator, Front, front}
+use Rattle.cweb_scan.specs.Resume.{sign_of, InLiteral, InRaw, takes_sign, end_literal, resume}
+use Rattle.cweb_rules.specs.Lines.{IsLine}
+use Rattle.cweb_rules.specs.Fronts.{front_in}
+use Rattle.cweb_scan.specs.Run.{run}
+use Rattle.cweb_rules.specs.declared.context.Context.{Context}
+use Rattle.cweb_rules.specs.declared.context.Context.TheVariants.{Limbo, TeX, Definition, Macro, CText}
+use Rattle.cweb_scan.specs.State.{State, moved, fault}
+use Rattle.cweb_rules.specs.declared.fault.ScanKind.TheVariants.{DoubleAtInString}
+use Rattle.cweb_rules.specs.Lines.{AtLineEnd}
+use Rattle.cweb_rules.specs.Tables.{listed, longest, number_len, starts_number}
+use Rattle.std.proofs.lemmas.Bool.{ne_eqb}
+use Rattle.cweb_rules.proofs.Seams.{differs, both, begins_line, drop_line, starts_section_line}
+use Rattle.cweb_rules.proofs.LineLiterals.{starts_literal_line, literal_with, literal_prefix-line, is_quoted-size}
+use Rattle.cweb_rules.proofs.LineDelimiters.{raw_from, raw_prefix-line, delimiter-line, sign-fits, has_delimiter-size, starts_raw_line}
+use Rattle.cweb_scan.proofs.Openers.{run_as}
+
+-- LITERALS
+
+drop-add : (m n : ℕ) (t : List ℕ) → drop (m + n) t ≡ drop n (drop m t)
+drop-add zero n t = let e : 0 + n ≡ n = omega arith in ap (λ k. drop k t) e
+drop-add (suc m) zero [] = let e : suc m + 0 ≡ suc m = omega arith in ap (λ k. drop k []) e
+drop-add (suc m) (suc n) [] = let e : suc m + suc n ≡ suc (m + suc n) = omega arith in ap (λ k. drop k []) e
+drop-add (suc m) n (b ∷ t) =
+    let e : suc m + n ≡ suc (m + n) = omega arith in ap (λ k. drop k (b ∷ t)) e ∙ drop-add m n t
+
+enter_quoted : (c : Context) (us : List (List ℕ)) (how : End) (s : State)
+    → reads_literals c ≡ true → enter_in c (Quoted us how) s ≡ s
+enter_quoted Limbo us how s h = cc
+enter_quoted TeX us how s h = cc
+enter_quoted (Definition begun) us how s h = cc
+enter_quoted Macro us how s h = refl
+enter_quoted CText us how s h = refl
+
+none-line : (t : List ℕ) (m : Reading) → IsLine t → each_line_end moved t m ≡ m
+none-line [] m h = refl
+none-line (b ∷ t) m h =
+    ap (λ v. each_line_end moved t (if v then next_line moved m else m)) (ne_eqb b 10 h.0) ∙ none-line t m h.1
+
+opener-unit : (r : Reading) (u : List ℕ) → IsLine u → bytes_eq u (codes "@") ≡ false → literal_unit r u ≡ r
+opener-unit r u line h =
+    ap (λ v. if v then on (fault DoubleAtInString) r else each_line_end moved u r) h ∙ none-line u r line
+
+-- a unit that stands for itself, and is no lone `@`
+pub record IsPlain (u : List ℕ) : Type 0 where
+  pub single : bytes_eq u (codes "@") ≡ false
+  pub double : bytes_eq u (codes "@@") ≡ false
+
+-- a literal of either kind, whose first n bytes open it
+pub opened_quoted : (look : List ℕ → Look) (r : Reading) (n b : ℕ) (t : List ℕ)
+    → reads_literals r.state.context ≡ true → IsLine (take n (b ∷ t)) → IsPlain (take n (b ∷ t))
+    → front_in r.state.context (names_include r.state) (b ∷ t) ≡ quoted n (reach look Cut (drop n (b ∷ t))) (b ∷ t)
+    → run r (b ∷ t) ≡ end_literal r.state.here (take n (b ∷ t)) (reach look Cut (drop n (b ∷ t))) (drop n (b ∷ t)) r
+opened_quoted look r n b t c line no_at h =
+    let u = b ∷ t in
+    let w = drop n u in
+    let m = reach look Cut w in
+    let opener = take n u in
+    let close = take m.close (drop (n + length (body m)) u) in
+    let us = opener ∷ m.units ++ close ∷ [] in
+    run_as r b t (quoted n m u) h
+    ∙ ap (λ (s : State).
+    run (on (literal (text_in us) m.how s.here) (fold literal_unit (on (λ v. s) r) us))
+    (drop (n + size_of m) u))
+    (enter_quoted r.state.context us m.how r.state c)
+    ∙ ap (λ k.
+    run (on (literal (text_in us) m.how r.state.here) (fold literal_unit k (m.units ++ close ∷ [])))
+    (drop (n + size_of m) u))
+    (opener-unit r opener line no_at.single)
+    ∙ ap (λ (v : Bool).
+    run (on (literal ((if v then codes "@" else opener) ++ text_in (m.units ++ close ∷ [])) m.how r.state.here)
+    (fold literal_unit r (m.units ++ close ∷ [])))
+    (drop (n + size_of m) u))
+    no_at.double
+    ∙ ap (λ v.
+    let x = m.units ++ take m.close v ∷ [] in
+    run (on (literal (opener ++ text_in x) m.how r.state.here) (fold literal_unit r x))
+    (drop (n + size_of m) u))
+    (drop-add n (length (body m)) u)
+    ∙ ap (λ v.
+    let x = m.units ++ take m.close (drop (length (body m)) w) ∷ [] in
+    run (on (literal (opener ++ text_in x) m.how r.state.here) (fold literal_unit r x)) v)
+    (drop-add n (size_of m) u)
+
+abbrev past : (effect : ℕ → Effect) (takes_sign includes : Bool) (t : List ℕ)
+    → Bool → Bool → Bool → Bool → Bool → Bool → Bool → Bool → Front
+past effect takes_sign includes t v0 v1 v2 v3 v4 v5 v6 v7 =
+    if v0 then front Blanks (prefix_len is_blank t)
+    else (if v1 then front LineEnd 1
+    else (if v2 then comment_at t
+    else (if v3 then line_comment_at t
+    else (if v4 then section_at t
+    else (if v5 then code_at effect takes_sign t
+    else (if v6 then raw_at t
+    else (if v7 then literal_at t
+    else (if includes && starts_include t then include_at t
+    else (if starts_number t then front Numeral (number_len 0 t)
+    else (if first_is is_word_byte t then front Identifier (prefix_len is_word_byte t)
+    else front Punctuator (longest listed t)))))))))))
+
+pub c_front_raw : (effect : ℕ → Effect) (takes_sign includes : Bool) (t : List ℕ)
+    → IsPast t → starts_raw t ≡ true → c_front effect takes_sign includes t ≡ raw_at t
+c_front_raw effect takes_sign includes t p h = λ i.
+    past effect takes_sign includes t (p.blank i) (p.line_end i) (p.comment i)
+    (p.line_comment i) (p.section i) (p.code i) (h i) (starts_literal t)
+
+pub c_front_literal : (effect : ℕ → Effect) (takes_sign includes : Bool) (t : List ℕ) → IsPast t
+    → starts_raw t ≡ false → starts_literal t ≡ true → c_front effect takes_sign includes t ≡ literal_at t
+c_front_literal effect takes_sign includes t p g h = λ i.
+    past effect takes_sign includes t (p.blank i) (p.line_end i)
+    (p.comment i) (p.line_comment i) (p.section i) (p.code i) (g i) (h i)
+
+pub past-line : (b : ℕ) (t more : List ℕ) → AtLineEnd more → IsPast (b ∷ t) → IsPast (b ∷ t ++ more)
+past-line b t more e p = record {
+  blank = p.blank;
+  line_end = p.line_end;
+  comment = begins_line (codes "/*") (b ∷ t) more refl e ∙ p.comment;
+  line_comment = begins_line (codes "//") (b ∷ t) more refl e ∙ p.line_comment;
+  section = starts_section_line b t more e ∙ p.section;
+  code = begins_line (codes "@") (b ∷ t) more refl e ∙ p.code;
+}
+
+literal_front : (c : Context) (includes : Bool) (b : ℕ) (t : List ℕ) (f : Front)
+    → reads_literals c ≡ true → begins (codes "\\") (b ∷ t) ≡ false
+    → ((effect : ℕ → Effect) (takes_sign includes : Bool) → c_front effect takes_sign includes (b ∷ t) ≡ f)
+    → front_in c includes (b ∷ t) ≡ f
+literal_front Limbo includes b t f h g k = cc
+literal_front TeX includes b t f h g k = cc
+literal_front (Definition begun) includes b t f h g k = cc
+literal_front Macro includes b t f h g k =
+    ap (λ v. if v && at_line_end t then front Skipped 1 else c_front in_macro true false (b ∷ t)) g
+    ∙ k in_macro true false
+literal_front CText includes b t f h g k = k in_c false includes
+
+IsLine-take : (n : ℕ) (t : List ℕ) → IsLine t → IsLine (take n t)
+IsLine-take zero t h = tt
+IsLine-take (suc n) [] h = tt
+IsLine-take (suc n) (b ∷ t) h = (h.0, IsLine-take n t h.1)
+
+and_true : (a : Bool) → (a && true) ≡ a
+and_true true = refl
+and_true false = refl
+
+plain : (n b : ℕ) (t : List ℕ) → 0 < n → begins (codes "@") (b ∷ t) ≡ false → IsPlain (take n (b ∷ t))
+plain zero b t some h = absurd (omega (arith, some))
+plain (suc n) b t some h =
+    let f : not (64 == b) ≡ true = ap (λ v. not v) (sym (and_true (64 == b)) ∙ h) in
+    let e : (b == 64) ≡ false = differs (λ x. not (64 == x)) b 64 f refl in
+    record {
+      single = ap (λ v. v && bytes_eq (take n t) []) e;
+      double = ap (λ v. v && bytes_eq (take n t) (codes "@")) e;
+    }
+
+-- the same, before a line end
+opened_in_line : (look : List ℕ → Look) (r : Reading) (n b : ℕ) (t more : List ℕ) → 0 < n → n ≤ length (b ∷ t)
+    → reads_literals r.state.context ≡ true → IsLine (b ∷ t) → begins (codes "@") (b ∷ t) ≡ false
+    → front_in r.state.context (names_include r.state) (b ∷ t ++ more)
+    ≡ quoted n (reach look Cut (drop n (b ∷ t ++ more))) (b ∷ t ++ more)
+    → run r (b ∷ t ++ more)
+    ≡ end_literal r.state.here (take n (b ∷ t)) (reach look Cut (drop n (b ∷ t) ++ more)) (drop n (b ∷ t) ++ more) r
+opened_in_line look r n b t more some fits c line code h =
+    let u = b ∷ t in
+    let first : take n (u ++ more) ≡ take n u = take-append-le n u more fits in
+    opened_quoted look r n b (t ++ more) c (subst IsLine (sym first) (IsLine-take n u line))
+    (subst IsPlain (sym first) (plain n b t some code)) h
+    ∙ ap (λ v. end_literal r.state.here v (reach look Cut (drop n (u ++ more))) (drop n (u ++ more)) r) first
+    ∙ ap (λ v. end_literal r.state.here (take n u) (reach look Cut v) v r) (drop-append-le n u more fits)
+
+-- `R"(`
+pub opened_raw : (r : Reading) (b : ℕ) (t more : List ℕ) → AtLineEnd more → reads_literals r.state.context ≡ true
+    → IsLine (b ∷ t) → IsPast (b ∷ t) → begins (codes "\\") (b ∷ t) ≡ false → starts_raw (b ∷ t) ≡ true
+    → run r (b ∷ t ++ more)
+    ≡ (let m = raw_prefix (b ∷ t) + 2 in
+    let d = delimiter (drop m (b ∷ t)) in
+    let n = m + length d + 1 in resume (InRaw r.state.here d (take n (b ∷ t))) (drop n (b ∷ t) ++ more) r)
+opened_raw r b t more e c line p back starts =
+    let u = b ∷ t in
+    let m = raw_prefix u + 2 in
+    let d = delimiter (drop m u) in
+    let n = m + length d + 1 in
+    let start = both (begins (codes "R\"") (drop (raw_prefix u) u)) _ starts in
+    let two = sign-fits u start.0 in
+    let some = has_delimiter-size (drop m u) start.1 in
+    let same : raw_at (u ++ more) ≡ raw_from m d (u ++ more) =
+    ap (λ n. raw_from (n + 2) (delimiter (drop (n + 2) (u ++ more))) (u ++ more)) (raw_prefix-line u more e)
+    ∙ ap (λ d. raw_from m d (u ++ more))
+    (ap delimiter (drop-append-le m u more two) ∙ delimiter-line (drop m u) more e) in
+    opened_in_line (look_in_raw (sign_of d)) r n b t more (omega arith)
+    (omega (arith, some, two, length-drop m u)) c line p.code
+    (literal_front r.state.context (names_include r.state)
+    b (t ++ more) (raw_from m d (u ++ more)) c back (λ effect takes_sign includes.
+    c_front_raw effect takes_sign includes (u ++ more)
+    (past-line b t more e p) (starts_raw_line u more e ∙ starts) ∙ same))
+
+-- a quote
+pub opened_literal : (r : Reading) (b : ℕ) (t more : List ℕ) → AtLineEnd more
+    → reads_literals r.state.context ≡ true → IsLine (b ∷ t) → IsPast (b ∷ t)
+    → begins (codes "\\") (b ∷ t) ≡ false → starts_raw (b ∷ t) ≡ false → starts_literal (b ∷ t) ≡ true
+    → run r (b ∷ t ++ more)
+    ≡ (let n = literal_prefix (b ∷ t) in
+    resume (InLiteral r.state.here (quote_of (drop n (b ∷ t))) (take (n + 1) (b ∷ t)))
+    (drop (n + 1) (b ∷ t) ++ more) r)
+opened_literal r b t more e c line p back raw starts =
+    let u = b ∷ t in
+    let n = literal_prefix u in
+    let quote = quote_of (drop n u) in
+    let fits = is_quoted-size n u starts in
+    let same : literal_at (u ++ more) ≡ literal_with n quote (u ++ more) =
+    ap (λ n. literal_with n (quote_of (drop n (u ++ more))) (u ++ more)) (literal_prefix-line u more e)
+    ∙ ap (λ v. literal_with n (if v then 39 else 34) (u ++ more))
+    (drop_line (codes "'") n u more refl e (omega (arith, fits))) in
+    opened_in_line (look_in_literal quote) r (n + 1) b t more (omega arith) fits c line p.code
+    (literal_front r.state.context (names_include r.state) b
+    (t ++ more) (literal_with n quote (u ++ more)) c back (λ effect takes_sign includes.
+    c_front_literal effect takes_sign includes (u ++ more) (past-line b t more e p)
+    (starts_raw_line u more e ∙ raw) (starts_literal_line u more e ∙ starts) ∙ same))

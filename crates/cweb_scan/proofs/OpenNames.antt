@@ -1,0 +1,115 @@
+-- A name that is open: what a line makes of it.
+use Rattle.std.proofs.Common.{◌≡◌, ◌≤◌, ℕ, ◌+◌, ◌-◌, Bool, true, false, List, [], ◌++◌, length, take, drop, ap, sym, ◌∙◌, arith, append_assoc}
+use Rattle.std.specs.Prelude.{if◌then◌else◌, nat_lt}
+use Rattle.std.proofs.lemmas.Grind.{flat_map-append}
+use Rattle.std.proofs.lemmas.List.{take-append-le, drop-append-le, length-drop}
+use Rattle.std.proofs.Math.Seq.{take-append-add, drop-append-add}
+use Rattle.cweb_files.specs.declared.place.Place.{Place}
+use Rattle.cweb_scan.specs.After.{Reading, on, each_line_end, occurrence}
+use Rattle.cweb_rules.specs.Cut.{Reach, reach, size_of}
+use Rattle.cweb_rules.specs.Fronts.{sign_after}
+use Rattle.cweb_rules.specs.Items as items
+use Rattle.cweb_rules.specs.declared.end.End.{End}
+use Rattle.cweb_rules.specs.declared.end.End.TheVariants.{Cut, Open}
+use Rattle.cweb_rules.specs.Items.{unit_bytes, text_in, look_in_name}
+use Rattle.cweb_rules.specs.Lines.{AtLineEnd, is_open}
+use Rattle.cweb_scan.specs.Resume.{InName, takes_sign, end_name, resume}
+use Rattle.cweb_rules.specs.Lines.{IsLine}
+use Rattle.cweb_scan.specs.Run.{run}
+use Rattle.cweb_scan.specs.State.{moved}
+use Rattle.cweb_rules.proofs.InLines.{IsLine-take}
+use Rattle.cweb_rules.proofs.Looks.{reach_ends, whole, name-local, name-units}
+use Rattle.cweb_rules.proofs.Sizes.{reach-size, name-within, sign_after-size}
+use Rattle.cweb_rules.proofs.LineCodes.{sign_after-line}
+use Rattle.cweb_scan.proofs.OpenItems.{each-line, none-line, open_body, reach-open, sizes}
+
+-- NAMES
+
+pub text_more : (text : List ℕ) (us vs : List (List ℕ))
+    → text ++ text_in (us ++ vs) ≡ (text ++ text_in us) ++ text_in vs
+text_more text us vs =
+    ap (λ x. text ++ x) (flat_map-append unit_bytes us vs) ∙ sym (append_assoc text (text_in us) (text_in vs))
+
+abbrev named : Place → Bool → List ℕ → End → ℕ → ℕ → List ℕ → Reading → Reading
+named begun is_file us how sign n t m =
+    run (on (occurrence is_file us how (nat_lt 0 sign) begun) (each_line_end moved (take n t) m)) (drop n t)
+
+abbrev sign_size : Reading → ℕ → ℕ
+sign_size m sign = if takes_sign m.state then sign else 0
+
+-- a name that goes on after the line
+pub name_stays : (begun : Place) (is_file : Bool) (us : List ℕ) (t more : List ℕ) (m : Reading)
+    → AtLineEnd more → IsLine t → is_open (reach look_in_name Open t).how ≡ true
+    → resume (InName begun is_file us) (t ++ more) m
+    ≡ resume (InName begun is_file (us ++ text_in (reach look_in_name Open t).units)) more m
+name_stays begun is_file us t more m e line h =
+    let w = whole look_in_name name-units t in
+    let vs = (reach look_in_name Open t).units in
+    let r = items.name more in
+    let sign = sign_after r.how (drop (size_of r) more) in
+    let n = size_of r + sign_size m sign in
+    let f : length t + size_of r + sign_size m sign ≡ length t + n = omega arith in
+    ap (λ (v : Reach). end_name begun is_file us v (sign_after v.how (drop (size_of v) (t ++ more))) (t ++ more) m)
+    (reach-open look_in_name Cut t more (name-local more e) w h)
+    ∙ ap (λ k.
+    let g = sign_after r.how (drop k (t ++ more)) in
+    named begun is_file (us ++ text_in (vs ++ r.units)) r.how g (k + sign_size m g) (t ++ more) m)
+    (sizes vs t r (open_body look_in_name t w h))
+    ∙ ap (λ u.
+    let g = sign_after r.how u in
+    named begun is_file (us ++ text_in (vs ++ r.units)) r.how g
+    ((length t + size_of r) + sign_size m g) (t ++ more) m)
+    (drop-append-add t more (size_of r))
+    ∙ ap (λ k. named begun is_file (us ++ text_in (vs ++ r.units)) r.how sign k (t ++ more) m) f
+    ∙ ap (λ u.
+    run (on (occurrence is_file (us ++ text_in (vs ++ r.units)) r.how (nat_lt 0 sign) begun)
+    (each_line_end moved u m))
+    (drop (length t + n) (t ++ more)))
+    (take-append-add t more n)
+    ∙ ap (λ k.
+    run (on (occurrence is_file (us ++ text_in (vs ++ r.units)) r.how (nat_lt 0 sign) begun) k)
+    (drop (length t + n) (t ++ more)))
+    (each-line moved t (take n more) m line)
+    ∙ ap (λ u.
+    run (on (occurrence is_file (us ++ text_in (vs ++ r.units)) r.how (nat_lt 0 sign) begun)
+    (each_line_end moved (take n more) m))
+    u)
+    (drop-append-add t more n)
+    ∙ ap (λ x. named begun is_file x r.how sign n more m) (text_more us vs r.units)
+
+sign_size-fits : (m : Reading) (n : ℕ) → sign_size m n ≤ n
+sign_size-fits m n =
+    elim (takes_sign m.state) as (λ v. (if v then n else 0) ≤ n) [ true ↦ omega arith | false ↦ omega arith ]
+
+-- a name that ends in the line, with its opener sign
+pub name_ends : (begun : Place) (is_file : Bool) (us : List ℕ) (t more : List ℕ) (m : Reading)
+    → AtLineEnd more → IsLine t → is_open (reach look_in_name Open t).how ≡ false
+    → resume (InName begun is_file us) (t ++ more) m
+    ≡ (let r = items.name t in
+    let sign = sign_after r.how (drop (size_of r) t) in
+    run (on (occurrence is_file (us ++ text_in r.units) r.how (nat_lt 0 sign) begun) m)
+    (drop (size_of r + sign_size m sign) t ++ more))
+name_ends begun is_file us t more m e line h =
+    let r = items.name t in
+    let rest = drop (size_of r) t in
+    let sign = sign_after r.how rest in
+    let n = size_of r + sign_size m sign in
+    let within = reach-size look_in_name Cut name-within t in
+    let fits : n ≤ length t =
+    omega (arith, within, sign_size-fits m sign, sign_after-size r.how rest, length-drop (size_of r) t) in
+    ap (λ (v : Reach). end_name begun is_file us v (sign_after v.how (drop (size_of v) (t ++ more))) (t ++ more) m)
+    (reach_ends look_in_name Cut t more (name-local more e) (name-local [] tt) (whole look_in_name name-units t) h)
+    ∙ ap (λ u.
+    let g = sign_after r.how u in
+    named begun is_file (us ++ text_in r.units) r.how g (size_of r + sign_size m g) (t ++ more) m)
+    (drop-append-le (size_of r) t more within)
+    ∙ ap (λ g. named begun is_file (us ++ text_in r.units) r.how g (size_of r + sign_size m g) (t ++ more) m)
+    (sign_after-line r.how rest more e)
+    ∙ ap (λ u.
+    run (on (occurrence is_file (us ++ text_in r.units) r.how (nat_lt 0 sign) begun) (each_line_end moved u m))
+    (drop n (t ++ more)))
+    (take-append-le n t more fits)
+    ∙ ap (λ k. run (on (occurrence is_file (us ++ text_in r.units) r.how (nat_lt 0 sign) begun) k) (drop n (t ++ more)))
+    (none-line moved (take n t) m (IsLine-take n t line))
+    ∙ ap (λ u. run (on (occurrence is_file (us ++ text_in r.units) r.how (nat_lt 0 sign) begun) m) u)
+    (drop-append-le n t more fits)

@@ -1,0 +1,97 @@
+-- How the exits of a run that begins a merge are its ends.
+use Rattle.std.proofs.Common.{◌≤◌, ◌≡◌, ◌≢◌, ◌+◌, ℕ, List, [], ◌∷◌, ◌++◌, length, sym, ◌∙◌, ap, subst}
+use Rattle.std.specs.Prelude.{Option, IsTrue}
+use Rattle.cweb_lines.specs.Finding.{names_found}
+use Rattle.cweb_lines.specs.Include.{World, Found}
+use Rattle.cweb_lines.specs.Merge.{Event}
+use Rattle.cweb_lines.specs.Merging.{SoFar, Gives, TellsFront}
+use Rattle.cweb_lines.specs.Naming.{blame}
+use Rattle.cweb_lines.specs.Texts.{files_named, read_blame}
+use Rattle.cweb_lines.specs.Told.{given_lines}
+use Rattle.cweb_lines.specs.Whole.{Begins}
+use Rattle.cweb_lines.specs.Writing.{text_of, StopsWriting, WritingStops, WritesFront, write_blame}
+use Rattle.cweb_lines.specs.declared.fault.SourceFault.{SourceFault}
+use Rattle.cweb_lines.specs.declared.limits.TheConstants.{LINES, BYTES}
+use Rattle.cweb_lines.specs.declared.stop.Stop.{Stop}
+use Rattle.cweb_log.specs.Gathering.{Logs}
+use Rattle.cweb_log.specs.Log.{fault_lines, stop_line, subject}
+use Rattle.cweb_log.specs.Seen.{Seen}
+use Rattle.cweb_log.specs.Words.{WebNames}
+use Rattle.cweb_tools.specs.Course.{Course, merging, found_course, fault_status, merged}
+use Rattle.cweb_tools.specs.Run.{AreOpened, CanStop, completes, HasMerged, Merges, stops}
+use Rattle.cweb_tools.proofs.Exits.{begins_course, opened_by, names_told, faults_told, limits_kept, writing_cause, writing_comes, writing_about}
+
+-- a run that begins a merge, of which all this comes
+module _ (world : World) (names : WebNames) (found : Option Found) (changes : Option (Option Found))
+    (before after : Seen) (status : ℕ) (old : SoFar) (all : List Event)
+    (begins : IsTrue before.shelf.tells → Begins world found changes old all) where
+  begun : (tells : IsTrue before.shelf.tells)
+      → found_course world names found changes ≡ merging ((begins tells).name ∷ names_found (begins tells).change) all
+  begun tells = begins_course world names found changes (begins tells)
+
+  printed_all : (tells : IsTrue before.shelf.tells)
+      → text_of (given_lines all) ≡ merged (found_course world names found changes)
+  printed_all tells = ap merged (sym (begun tells))
+
+  pub completed : (new : SoFar) (files : List (List ℕ)) (faults : List SourceFault)
+      → files ≡ new.names → faults ≡ new.faults
+      → (IsTrue before.shelf.tells → Gives (given_lines all) old new all [])
+      → new.count.lines ≤ LINES → new.count.bytes ≤ BYTES
+      → after.shelf.failed ≡ before.shelf.failed
+      → (IsTrue before.shelf.tells → after.shelf.blamed ≡ before.shelf.blamed) → after.out.failed ≡ before.out.failed
+      → (IsTrue before.shelf.tells → IsTrue before.out.tells
+      → after.out.bytes ≡ before.out.bytes ++ text_of (given_lines all))
+      → Logs (fault_lines files faults) before.log after.log
+      → (after.log.failed ≡ before.log.failed → status ≡ fault_status faults)
+      → (after.log.failed ≢ before.log.failed → status ≡ 1)
+      → Merges names (found_course world names found changes) before after status
+  completed new files faults files_are faults_are gives few small read none out written logs answered failed =
+      completes (record {
+        files = files;
+        faults = faults;
+        all = λ tells. subst (λ (course : Course). HasMerged course files faults) (sym (begun tells)) (
+          files_are ∙ names_told _ all old new (begins tells).so_far_is (gives tells),
+          faults_are ∙ faults_told _ all old new (begins tells).so_far_is (gives tells),
+          limits_kept _ all old new (begins tells).so_far_is (gives tells) few small,
+        );
+        read = read;
+        none_blamed = none;
+        printed = out;
+        written = λ tells told. written tells told ∙ ap (λ (text : List ℕ). before.out.bytes ++ text) (printed_all tells);
+        logged = logs;
+        answered = answered;
+        failed = failed;
+      })
+
+  pub stopped : (stop : Stop) (new : SoFar) (files : List (List ℕ)) (Wrote : List ℕ → Type 0)
+      → files ≡ new.names → WritingStops stop
+      → (IsTrue before.shelf.tells → StopsWriting stop old.count new.count all Wrote)
+      → files_named stop ≤ length new.names → (IsTrue before.shelf.tells → TellsFront old new all)
+      → after.shelf.failed ≡ before.shelf.failed + read_blame stop
+      → (IsTrue before.shelf.tells → after.shelf.blamed ≡ before.shelf.blamed ++ blame new.names stop)
+      → after.out.failed ≡ before.out.failed + write_blame stop
+      → (IsTrue before.shelf.tells → IsTrue before.out.tells
+      → WritesFront before.out.bytes after.out.bytes (text_of (given_lines all)))
+      → Logs (stop_line stop (subject files stop)) before.log after.log → status ≡ 1
+      → Merges names (found_course world names found changes) before after status
+  stopped stop new files Wrote files_are kind why named front read whose out written logs answered = stops (record {
+    stop = stop;
+    comes = writing_comes stop kind;
+    cause = λ tells.
+        subst (λ (course : Course). CanStop stop course) (sym (begun tells))
+        (writing_cause stop _ old new.count all Wrote (begins tells).so_far_is kind (why tells));
+    files = files;
+    named = rw files_are named;
+    opened = λ tells.
+        subst (λ (course : Course). AreOpened files course) (sym (begun tells))
+        (opened_by _ old new all (begins tells).so_far_is (front tells) files files_are);
+    blames = record { shelf = read; out = out };
+    blamed = λ tells. whose tells ∙ ap (λ (ns : List (List ℕ)). before.shelf.blamed ++ blame ns stop) (sym files_are);
+    written = λ tells told.
+        subst (λ (text : List ℕ). WritesFront before.out.bytes after.out.bytes text)
+        (printed_all tells) (written tells told);
+    logged =
+        subst (λ (name : List ℕ). Logs (stop_line stop name) before.log after.log)
+        (writing_about names files stop kind) logs;
+    answered = answered;
+  })

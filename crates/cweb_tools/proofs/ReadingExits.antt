@@ -1,0 +1,170 @@
+-- How the exits of a run of `ctangle` that has begun its merge are its ends.
+use Rattle.std.proofs.Common.{◌≤◌, ◌≡◌, ◌+◌, inl, inr, ℕ, List, [], ◌∷◌, ◌++◌, length, refl, sym, ◌∙◌, ap, subst, add-zero}
+use Rattle.std.specs.Prelude.{IsTrue, Option, Some, None}
+use Rattle.cweb_lines.specs.Finding.{names_found}
+use Rattle.cweb_lines.specs.Include.{World, Found}
+use Rattle.cweb_lines.specs.Merge.{Event}
+use Rattle.cweb_lines.specs.Merging.{SoFar}
+use Rattle.cweb_lines.specs.Naming.{blame}
+use Rattle.cweb_lines.specs.Texts.{StopsReading, files_named, read_blame}
+use Rattle.cweb_lines.specs.Told.{given_lines, told_faults, openings, taken_lines, IsWithinLimits}
+use Rattle.cweb_lines.specs.Total.{merge}
+use Rattle.cweb_lines.specs.Whole.{Begins}
+use Rattle.cweb_lines.specs.declared.fault.SourceFault.{SourceFault}
+use Rattle.cweb_lines.specs.declared.limits.TheConstants.{LINES, BYTES}
+use Rattle.cweb_lines.specs.declared.stop.Stop.{Stop}
+use Rattle.cweb_scan.specs.Run.{Scanned, scanned}
+use Rattle.cweb_scan.specs.Scan.{EndsEarly, Scans}
+use Rattle.cweb_log.specs.Log.{stop_line, subject}
+use Rattle.cweb_log.specs.Options.{Asked}
+use Rattle.cweb_log.specs.Gathering.{Logs}
+use Rattle.cweb_log.specs.Seen.{SeenBins, SeenRun, SeenShelf, SeenStream}
+use Rattle.cweb_tools.specs.Acts.{Act, Breaks, ending, Held, opens, reads}
+use Rattle.cweb_tools.specs.Course.{Course, found_course, merging}
+use Rattle.cweb_tools.specs.Does.{Closes, Does, halted}
+use Rattle.cweb_tools.specs.Script.{TangleCourse, tangling, web_acts}
+use Rattle.cweb_tools.specs.Tangle.{course_acts, course_status, tangled, web_of, web_status}
+use Rattle.cweb_tools.proofs.Doing.{closes_on}
+use Rattle.cweb_tools.proofs.Exits.{begins_course, faults_told, limits_kept, names_told, opened_by}
+use Rattle.cweb_tools.proofs.Logging.{at}
+use Rattle.cweb_tools.proofs.TangleExits.{either, can_come, EndsAs, opened, course}
+use Rattle.cweb_tools.proofs.ReadingStops.{left_quiet, left_by, left_told, reads_broke, read_by, silent_broke, reading_ends, reading_only, nothing_passes}
+
+-- a run that begins a merge, of which all this comes
+module _ (asked : Asked) (world : World) (found : Option Found) (changes : Option (Option Found))
+    (shelf shelf' : SeenShelf) (tells : shelf'.tells ≡ shelf.tells)
+    (bins : SeenBins) (l : SeenStream) (status : ℕ) (old new : SoFar) (all : List Event)
+    (begins : IsTrue shelf.tells → Begins world found changes old all) where
+  abbrev merged : Course
+  merged = found_course world asked.names.merge found changes
+
+  begun : (told : IsTrue shelf.tells) → merged ≡ merging ((begins told).name ∷ names_found (begins told).change) all
+  begun told = begins_course world asked.names.merge found changes (begins told)
+
+  -- files were opened, and reading them broke: those that were opened by then are named
+  breaks_so : (stop : Stop) (opened files : List (List ℕ)) (events : List Event) (acts : List Act) → StopsReading stop
+      → shelf'.failed ≡ shelf.failed + read_blame stop
+      → (IsTrue shelf.tells → shelf'.blamed ≡ shelf.blamed ++ blame opened stop)
+      → ((now : Held)
+      → Breaks (reads files events) (ending stop (subject opened stop)) now (left_by stop (subject opened stop) now))
+      → Does (opens ∷ reads files events ∷ acts)
+      (Some (ending stop (subject opened stop))) (at shelf bins l) (at shelf' bins l)
+  breaks_so stop opened files events acts kind failed blamed breaks = record {
+    shelf_tells = tells;
+    bins_tells = refl;
+    log_tells = refl;
+    shelf = failed;
+    bins = (reading_only stop bins.failed kind).0;
+    log = (reading_only stop l.failed kind).1;
+    runs = λ now told. record {
+      left = left_by stop (subject opened stop) now;
+      told = left_told stop opened now shelf shelf' bins l kind told tells failed blamed;
+      runs = inl (tt, inr (breaks now));
+    };
+  }
+
+  halts : (stop : Stop) (about : List ℕ) (l' : SeenStream) (course : TangleCourse)
+      → StopsReading stop → Logs (stop_line stop about) l l' → status ≡ 1
+      → Does (course_acts asked.shown course) (Some (ending stop about)) (at shelf bins l) (at shelf' bins l)
+      → Closes (course_acts asked.shown course) (course_status course) (at shelf bins l) (at shelf' bins l') status
+  halts stop about l' course kind logs answered does =
+      halted (ending stop about) (at shelf' bins l) does
+      (record { shelf = refl; bins = refl; log = reading_ends stop about l l' kind logs }) answered
+
+  -- reading ended before its end
+  pub read_stops : (stop : Stop) (opened : List (List ℕ)) (l' : SeenStream) → opened ≡ new.names
+      → StopsReading stop → (IsTrue shelf.tells → EndsEarly stop old new all)
+      → shelf'.failed ≡ shelf.failed + read_blame stop
+      → (IsTrue shelf.tells → shelf'.blamed ≡ shelf.blamed ++ blame new.names stop)
+      → files_named stop ≤ length new.names → Logs (stop_line stop (subject opened stop)) l l' → status ≡ 1
+      → EndsAs asked (tangled asked.names.main merged) (at shelf bins l) (at shelf' bins l') status
+  read_stops stop opened l' opened_are kind why failed blamed named logs answered =
+      let whose : IsTrue shelf.tells → shelf'.blamed ≡ shelf.blamed ++ blame opened stop = λ tell.
+      blamed tell ∙ ap (λ (ns : List (List ℕ)). shelf.blamed ++ blame ns stop) (sym opened_are) in
+      let known : files_named stop ≤ length opened =
+      subst (λ (ns : List (List ℕ)). files_named stop ≤ length ns) (sym opened_are) named in
+      elim (either shelf.tells) [
+        | inl told ↦
+            let front = opened_by _ old new all (begins told).so_far_is (why told).told opened opened_are in record {
+              taken = tangled asked.names.main merged;
+              can = can_come asked world found changes;
+              is = λ tell. refl;
+              closes = halts stop (subject opened stop) l' (tangled asked.names.main merged) kind logs answered
+                  (subst (λ (c : Course).
+                  Does (course_acts asked.shown (tangled asked.names.main c))
+                  (Some (ending stop (subject opened stop))) (at shelf bins l) (at shelf' bins l))
+                  (sym (begun told))
+                  (breaks_so stop opened _ all _ kind failed whose
+                  (λ now.
+                  reads_broke stop _ opened front.0 old new.count all now
+                  (begins told).so_far_is kind (why told).why front.1 known)));
+            }
+        | inr silent ↦
+            let web = web_of opened [] (scanned []) asked.names.main in record {
+              taken = tangling opened (read_by stop) web;
+              can = record { faults = []; made = scanned []; is = refl };
+              is = λ tell. absurd (silent tell);
+              closes = halts stop (subject opened stop) l' (tangling opened (read_by stop) web) kind logs answered
+                  (breaks_so stop opened opened (read_by stop) _ kind failed
+                  whose (λ now. silent_broke stop opened now kind known));
+            }
+      ]
+
+  -- all was read
+  reads_so : (files : List (List ℕ)) (events : List Event) → IsWithinLimits (taken_lines events)
+      → shelf'.failed ≡ shelf.failed → (IsTrue shelf.tells → shelf'.blamed ≡ shelf.blamed)
+      → Does (opens ∷ reads files events ∷ []) None (at shelf bins l) (at shelf' bins l)
+  reads_so files events within failed blamed = record {
+    shelf_tells = tells;
+    bins_tells = refl;
+    log_tells = refl;
+    shelf = failed ∙ sym (add-zero shelf.failed);
+    bins = sym (add-zero bins.failed);
+    log = sym (add-zero l.failed);
+    runs = λ now told.
+        record {
+          left = now;
+          told = left_quiet now shelf shelf' bins l told tells failed blamed;
+          runs = inl (tt, inl (within, refl));
+        };
+  }
+
+  -- and the run went on with what it holds
+  pub read_whole : (files : List (List ℕ)) (faults : List SourceFault) (made : Scanned) (after : SeenRun)
+      → files ≡ new.names → faults ≡ new.faults → (IsTrue shelf.tells → Scans made old new all)
+      → new.count.lines ≤ LINES → new.count.bytes ≤ BYTES → shelf'.failed ≡ shelf.failed
+      → (IsTrue shelf.tells → shelf'.blamed ≡ shelf.blamed)
+      → Closes (web_acts asked.shown (web_of files faults made asked.names.main))
+      (web_status (web_of files faults made asked.names.main)) (at shelf' bins l) after status
+      → EndsAs asked (tangled asked.names.main merged) (at shelf bins l) after status
+  read_whole files faults made after files_are faults_are scans few small failed blamed closes =
+      let main = asked.names.main in
+      let web = web_of files faults made main in
+      let goes_on : (events : List Event) → IsWithinLimits (taken_lines events)
+      → Closes (course_acts asked.shown (tangling files events web)) (web_status web) (at shelf bins l) after status =
+      λ events within.
+      closes_on (opens ∷ reads files events ∷ []) (web_acts asked.shown web) (web_status web) (at shelf bins l)
+      (at shelf' bins l) after status (reads_so files events within failed blamed) closes in
+      elim (either shelf.tells) [
+        | inl told ↦
+            let first = (begins told).name ∷ names_found (begins told).change in
+            let gives = (scans told).gives in
+            let of_files : files ≡ first ++ openings all =
+            files_are ∙ names_told first all old new (begins told).so_far_is gives in
+            let of_faults : faults ≡ told_faults all =
+            faults_are ∙ faults_told first all old new (begins told).so_far_is gives in
+            let of_text : made ≡ scanned (given_lines all) = (scans told).made in record {
+              taken = tangling files all web;
+              can = record { faults = faults; made = made; is = refl };
+              is = λ tell.
+                  (λ i. tangling (of_files i) all (web_of (of_files i) (of_faults i) (of_text i) main))
+                  ∙ ap (λ (c : Course). tangled main c) (sym (begun told));
+              closes = goes_on all (limits_kept _ all old new (begins told).so_far_is gives few small);
+            }
+        | inr silent ↦ record {
+          taken = tangling files [] web;
+          can = record { faults = faults; made = made; is = refl };
+          is = λ tell. absurd (silent tell);
+          closes = goes_on [] nothing_passes;
+        }
+      ]

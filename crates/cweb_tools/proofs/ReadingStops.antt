@@ -1,0 +1,135 @@
+-- What a stop of reading leaves, and why reading ended before its end.
+use Rattle.std.proofs.Common.{◌≤◌, ◌<◌, ◌≡◌, ◌+◌, inr, ℕ, List, [], ◌∷◌, ◌++◌, length, length-append, refl, sym, ◌∙◌, ap, subst, add-zero, append-nil, arith}
+use Rattle.std.proofs.Math.ListN.{get_or-append}
+use Rattle.std.specs.Prelude.{IsTrue}
+use Rattle.cweb_files.specs.declared.place.FileId.{FileId}
+use Rattle.cweb_lines.specs.Lines.{SourceLine}
+use Rattle.cweb_lines.specs.Merge.{Event, took}
+use Rattle.cweb_lines.specs.Merging.{SoFar}
+use Rattle.cweb_lines.specs.Naming.{blame}
+use Rattle.cweb_lines.specs.Texts.{Count, StopsFor, StopsReading, files_named, read_blame}
+use Rattle.cweb_lines.specs.Told.{openings, IsWithinLimits}
+use Rattle.cweb_lines.specs.declared.limits.TheConstants.{LINE_LENGTH, BYTES}
+use Rattle.cweb_lines.specs.declared.stop.Stop.{Stop}
+use Rattle.cweb_lines.specs.declared.stop.Stop.TheVariants.{ReadFault, LineTooLong, TooMuchText, Memory}
+use Rattle.cweb_scan.specs.Scan.{StopsAfter}
+use Rattle.cweb_log.specs.Items.{line}
+use Rattle.cweb_log.specs.Log.{name_at, stop_line, subject}
+use Rattle.cweb_log.specs.Gathering.{Logs}
+use Rattle.cweb_log.specs.Seen.{SeenBins, SeenShelf, SeenStream}
+use Rattle.cweb_tools.specs.Acts.{Breaks, ending, Held, IsOfFile, reads, read_fails}
+use Rattle.cweb_tools.specs.Does.{AsTold, LogsEnding, bins_blame, log_blame}
+use Rattle.cweb_tools.proofs.Exits.{begun_with, passes_sums}
+use Rattle.cweb_tools.proofs.Logging.{at}
+use Rattle.cweb_tools.proofs.TangleExits.{shelf_told, opened}
+
+-- the file that a stop names is among those that are opened in all
+of_file : (files opened rest : List (List ℕ)) (file : ℕ) → files ≡ opened ++ rest
+    → file + 1 ≤ length opened → IsOfFile files file (name_at opened file)
+of_file files opened rest file are known = record {
+  known = subst (λ (ns : List (List ℕ)). file < length ns) (sym are) (omega (arith, known, length-append opened rest));
+  named =
+      sym (get_or-append opened rest [] file (omega (arith, known)))
+      ∙ ap (λ (ns : List (List ℕ)). name_at ns file) (sym are);
+}
+
+-- no read failed
+pub left_quiet : (now : Held) (shelf shelf' : SeenShelf) (bins : SeenBins) (l : SeenStream)
+    → AsTold now (at shelf bins l) → shelf'.tells ≡ shelf.tells → shelf'.failed ≡ shelf.failed
+    → (IsTrue shelf.tells → shelf'.blamed ≡ shelf.blamed) → AsTold now (at shelf' bins l)
+left_quiet now shelf shelf' bins l told tells failed blamed =
+    shelf_told now now shelf shelf' bins l told refl (told.shelf_failed ∙ sym failed)
+    (λ tell. let first : IsTrue shelf.tells = sym tells ∙ tell in told.blamed first ∙ sym (blamed first))
+
+-- what a stop of reading leaves that is about this
+abbrev pub left_by : Stop → List ℕ → Held → Held
+left_by (ReadFault file) about now = read_fails about now
+left_by stop about now = now
+
+pub left_told : (stop : Stop) (files : List (List ℕ)) (now : Held)
+    (shelf shelf' : SeenShelf) (bins : SeenBins) (l : SeenStream) → StopsReading stop → AsTold now (at shelf bins l)
+    → shelf'.tells ≡ shelf.tells → shelf'.failed ≡ shelf.failed + read_blame stop
+    → (IsTrue shelf.tells → shelf'.blamed ≡ shelf.blamed ++ blame files stop)
+    → AsTold (left_by stop (subject files stop) now) (at shelf' bins l)
+left_told (ReadFault file) files now shelf shelf' bins l kind told tells blames blamed =
+    shelf_told now _ shelf shelf' bins l told refl (ap (λ (n : ℕ). n + 1) told.shelf_failed ∙ sym blames)
+    (λ tell.
+    let first : IsTrue shelf.tells = sym tells ∙ tell in
+    ap (λ (names : List (List ℕ)). names ++ name_at files file.0 ∷ []) (told.blamed first) ∙ sym (blamed first))
+left_told (LineTooLong file) files now shelf shelf' bins l kind told tells blames blamed =
+    left_quiet now shelf shelf' bins l told tells (blames ∙ add-zero shelf.failed)
+    (λ tell. blamed tell ∙ append-nil shelf.blamed)
+left_told TooMuchText files now shelf shelf' bins l kind told tells blames blamed =
+    left_quiet now shelf shelf' bins l told tells (blames ∙ add-zero shelf.failed)
+    (λ tell. blamed tell ∙ append-nil shelf.blamed)
+left_told Memory files now shelf shelf' bins l kind told tells blames blamed =
+    left_quiet now shelf shelf' bins l told tells (blames ∙ add-zero shelf.failed)
+    (λ tell. blamed tell ∙ append-nil shelf.blamed)
+left_told stop files now shelf shelf' bins l kind told tells blames blamed = absurd kind
+
+-- why reading ended before its end
+pub reads_broke : (stop : Stop) (first opened rest : List (List ℕ))
+    (old : SoFar) (count : Count) (all : List Event) (now : Held)
+    → old ≡ begun_with first → StopsReading stop → StopsFor (StopsAfter stop old.count count all) stop
+    → first ++ openings all ≡ opened ++ rest → files_named stop ≤ length opened
+    → Breaks (reads (first ++ openings all) all) (ending stop (subject opened stop))
+    now (left_by stop (subject opened stop) now)
+reads_broke (ReadFault file) first opened rest old count all now began kind why names known =
+    (of_file _ opened rest file.0 names known, refl)
+reads_broke (LineTooLong file) first opened rest old count all now began kind why names known = (
+  of_file _ opened rest file.0 names known,
+  record {
+    events = why.stops.events;
+    line = why.stops.line;
+    later = why.stops.later;
+    whole = why.stops.whole;
+    why = why.stops.why;
+  },
+  refl,
+)
+reads_broke TooMuchText first opened rest old count all now began kind why names known =
+    (passes_sums first old count why.lines all began why.stops, refl)
+reads_broke Memory first opened rest old count all now began kind why names known = refl
+reads_broke stop first opened rest old count all now began kind why names known = absurd kind
+
+-- a line that is too long, and one that is too much text
+abbrev line_of : FileId → ℕ → ℕ → SourceLine
+line_of file length size =
+    record { line = record { bytes = []; place = record { file = file; line = 0 } }; length = length; size = size }
+
+-- what may have been read of a shelf that tells nothing, where this stopped the reading
+abbrev pub read_by : Stop → List Event
+read_by (LineTooLong file) = took (line_of file (LINE_LENGTH + 1) 0) ∷ []
+read_by TooMuchText = took (line_of (record { 0 = 0 }) 0 (BYTES + 1)) ∷ []
+read_by stop = []
+
+pub silent_broke : (stop : Stop) (files : List (List ℕ)) (now : Held) → StopsReading stop → files_named stop ≤ length files
+    → Breaks (reads files (read_by stop)) (ending stop (subject files stop)) now (left_by stop (subject files stop) now)
+silent_broke (ReadFault file) files now kind known = (record { known = omega (arith, known); named = refl }, refl)
+silent_broke (LineTooLong file) files now kind known = (
+  record { known = omega (arith, known); named = refl },
+  record { events = []; line = line_of file (LINE_LENGTH + 1) 0; later = []; whole = refl; why = (refl, omega arith) },
+  refl,
+)
+silent_broke TooMuchText files now kind known = (inr (omega arith), refl)
+silent_broke Memory files now kind known = refl
+silent_broke stop files now kind known = absurd kind
+
+pub reading_ends : (stop : Stop) (about : List ℕ) (l l' : SeenStream) → StopsReading stop
+    → Logs (stop_line stop about) l l' → LogsEnding (ending stop about) l l'
+reading_ends (ReadFault file) about l l' kind logs = logs
+reading_ends (LineTooLong file) about l l' kind logs = logs
+reading_ends TooMuchText about l l' kind logs = logs
+reading_ends Memory about l l' kind logs = logs
+reading_ends stop about l l' kind logs = absurd kind
+
+-- reading fails no other device
+pub reading_only : (stop : Stop) (n : ℕ) → StopsReading stop → (n ≡ n + bins_blame stop) × (n ≡ n + log_blame stop)
+reading_only (ReadFault file) n kind = (sym (add-zero n), sym (add-zero n))
+reading_only (LineTooLong file) n kind = (sym (add-zero n), sym (add-zero n))
+reading_only TooMuchText n kind = (sym (add-zero n), sym (add-zero n))
+reading_only Memory n kind = (sym (add-zero n), sym (add-zero n))
+reading_only stop n kind = absurd kind
+
+pub nothing_passes : IsWithinLimits []
+nothing_passes = record { short = tt; few = omega arith; small = omega arith }
