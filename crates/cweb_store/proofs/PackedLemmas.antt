@@ -1,22 +1,18 @@
 -- What becomes of texts and of records that name them where texts are added.
-use Rattle.std.proofs.Common.{◌≡◌, ℕ, zero, suc, ◌+◌, ◌-◌, ◌≤◌, ◌<◌, true, false, List, [], ◌∷◌, ◌++◌, Some, None, map, length, take, drop, refl, sym, ◌∙◌, ap, subst, arith, length-append, length-drop, cond, get_or, ◌||◌, slice_get}
+use Rattle.std.proofs.Common.{◌≡◌, ℕ, zero, suc, ◌+◌, ◌-◌, ◌≤◌, ◌<◌, true, false, List, [], ◌∷◌, ◌++◌, Some, None, map, length, take, drop, refl, sym, ◌∙◌, ap, subst, arith, length-append, length-drop, cond, get_or, slice_get}
 use Rattle.std.specs.Prelude.{slice_range, slice_index_or, bytes_eq, if◌then◌else◌}
 use Rattle.std.specs.Map.{lookup}
 use Rattle.std.proofs.lemmas.List.{drop-append-le, take-append-le, map-append}
 use Rattle.std.proofs.Math.Seq.{drop-append_seam, take-length, length-take-le}
 use Rattle.std.proofs.lemmas.Slice.Eq.{bytes_eq-Decides}
 use Rattle.indexmap.specs.IndexMap.{insert_entry}
-use Rattle.std.specs.List.{list_any}
-use Rattle.cweb_store.specs.declared.names.NameId.{NameId}
-use Rattle.cweb_store.specs.Names.{Standing}
-use Rattle.cweb_store.specs.Gathered.{with_use, used_from}
 use Rattle.cweb_store.specs.Parts as spec
 use Rattle.cweb_store.specs.Parts.{is_defs}
 use Rattle.cweb_store.specs.declared.tokens.packed.Packed.{Packed}
 use Rattle.cweb_store.specs.declared.tokens.packed.Packed.TheVariants.{Word, Number, Literal, Verbatim, Punct, Blank, Newline, Join, Defs, Name, Head, Tail, Mark}
 use Rattle.cweb_store.specs.PackedTexts.{texts_from, AreEnds, begin_of, text_bytes}
 use Rattle.cweb_store.specs.Words.{TextsAndWords, Entries, AreWords}
-use Rattle.cweb_store.specs.Packed.{with_record, used_by, is_packed_defs, text_at, token_in, IsWithin, ArePacked, Packs}
+use Rattle.cweb_store.specs.Packed.{text_at, token_in, IsWithin, ArePacked, Packs}
 
 ends-le : (n all : ℕ) (ends : List ℕ) → AreEnds n ends all → n ≤ all
 ends-le n all [] h = omega arith
@@ -223,47 +219,3 @@ packed-take texts [] zero all = tt
 packed-take texts [] (suc n) all = tt
 packed-take texts (p ∷ ps) zero all = tt
 packed-take texts (p ∷ ps) (suc n) all = (all.0, packed-take texts ps n all.1)
-
-use-record : (texts : List (List ℕ)) (rs : List Standing) (ns : List NameId) (p : Packed)
-    → with_record rs ns p ≡ with_use rs ns (token_in texts p)
-use-record texts rs ns (Word n) = refl
-use-record texts rs ns (Number n) = refl
-use-record texts rs ns (Literal n) = refl
-use-record texts rs ns (Verbatim n) = refl
-use-record texts rs ns (Punct n) = refl
-use-record texts rs ns Blank = refl
-use-record texts rs ns Newline = refl
-use-record texts rs ns Join = refl
-use-record texts rs ns Defs = refl
-use-record texts rs ns (Name name) = refl
-use-record texts rs ns (Head section) = refl
-use-record texts rs ns (Tail section) = refl
-use-record texts rs ns (Mark place) = refl
-
--- records use what their tokens use
-pub used-records : (texts : List (List ℕ)) (rs : List Standing) (ns : List NameId) (ps : List Packed)
-    → used_by rs ns ps ≡ used_from rs ns (map (token_in texts) ps)
-used-records texts rs ns [] = refl
-used-records texts rs ns (p ∷ ps) =
-    ap (λ ms. used_by rs ms ps) (use-record texts rs ns p)
-    ∙ used-records texts rs (with_use rs ns (token_in texts p)) ps
-
-defs-record : (texts : List (List ℕ)) (p : Packed) → is_packed_defs p ≡ is_defs (token_in texts p)
-defs-record texts (Word n) = refl
-defs-record texts (Number n) = refl
-defs-record texts (Literal n) = refl
-defs-record texts (Verbatim n) = refl
-defs-record texts (Punct n) = refl
-defs-record texts Blank = refl
-defs-record texts Newline = refl
-defs-record texts Join = refl
-defs-record texts Defs = refl
-defs-record texts (Name name) = refl
-defs-record texts (Head section) = refl
-defs-record texts (Tail section) = refl
-defs-record texts (Mark place) = refl
-
-pub defs-records : (texts : List (List ℕ)) (ps : List Packed)
-    → list_any is_packed_defs ps ≡ list_any is_defs (map (token_in texts) ps)
-defs-records texts [] = refl
-defs-records texts (p ∷ ps) = λ i. defs-record texts p i || defs-records texts ps i

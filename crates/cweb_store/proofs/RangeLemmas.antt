@@ -1,14 +1,56 @@
 -- Ranges of lists.
-use Rattle.std.proofs.Common.{◌≡◌, ℕ, zero, suc, ◌-◌, ◌≤◌, ◌<◌, List, [], ◌∷◌, map, take, drop, sym, ◌∙◌, ap, arith, length}
-use Rattle.std.specs.Prelude.{slice_range, slice_index_or}
-use Rattle.std.proofs.lemmas.List.{take-map, drop-map}
+use Rattle.std.proofs.Common.{◌≡◌, ℕ, zero, suc, ◌+◌, ◌-◌, ◌≤◌, ◌<◌, List, [], ◌∷◌, ◌++◌, Some, take, drop, refl, sym, ◌∙◌, ap, arith, add-one, length}
+use Rattle.std.specs.Prelude.{slice_get, slice_range, slice_index_or}
 use Rattle.cweb_store.specs.declared.parts.Run.{Run}
+use Rattle.cweb_store.specs.Parts.{Token}
 use Rattle.cweb_store.specs.Runs.{Follow}
 use Rattle.cweb_store.proofs.RunLemmas.{Follow-le}
 
-pub range-map : {X Y : Type 0} (f : X → Y) (xs : List X) (i j : ℕ)
-    → map f (slice_range xs i j) ≡ slice_range (map f xs) i j
-range-map f xs i j = sym (ap (take (j - i)) (drop-map f i xs) ∙ take-map f (j - i) (drop i xs))
+take-none : {X : Type 0} (k : ℕ) → take {A = X} k [] ≡ []
+take-none zero = refl
+take-none (suc k) = refl
+
+take-split : {X : Type 0} (k m : ℕ) (xs : List X) → take (k + m) xs ≡ take k xs ++ take m (drop k xs)
+take-split zero m xs = ap (λ n. take n xs) (let e : 0 + m ≡ m = omega arith in e)
+take-split (suc k) m [] = take-none (suc k + m) ∙ sym (take-none m)
+take-split (suc k) m (x ∷ xs) =
+    ap (λ n. take n (x ∷ xs)) (let e : suc k + m ≡ suc (k + m) = omega arith in e)
+    ∙ ap (λ ys. x ∷ ys) (take-split k m xs)
+
+drop-none : {X : Type 0} (k : ℕ) → drop {A = X} k [] ≡ []
+drop-none zero = refl
+drop-none (suc k) = refl
+
+drop-more : {X : Type 0} (n k : ℕ) (xs : List X) → drop k (drop n xs) ≡ drop (n + k) xs
+drop-more zero k xs = ap (λ m. drop m xs) (let e : k ≡ 0 + k = omega arith in e)
+drop-more (suc n) k [] = drop-none k ∙ sym (drop-none (suc n + k))
+drop-more (suc n) k (x ∷ xs) =
+    drop-more n k xs ∙ ap (λ m. drop m (x ∷ xs)) (let e : suc (n + k) ≡ suc n + k = omega arith in e)
+
+-- a range goes up to a number in it, and on from there
+pub range-split : {X : Type 0} (xs : List X) (i j k : ℕ) → i ≤ j → j ≤ k
+    → slice_range xs i k ≡ slice_range xs i j ++ slice_range xs j k
+range-split xs i j k low high =
+    let both : k - i ≡ (j - i) + (k - j) = omega (arith, low, high) in
+    let place : i + (j - i) ≡ j = omega (arith, low) in
+    ap (λ n. take n (drop i xs)) both ∙ take-split (j - i) (k - j) (drop i xs)
+    ∙ ap (λ ys. slice_range xs i j ++ take (k - j) ys) (drop-more i (j - i) xs ∙ ap (λ n. drop n xs) place)
+
+-- a range begins with the token at its first number
+pub range-head : (ts : List Token) (i k : ℕ) (t : Token) → slice_get ts i ≡ Some t → i < k
+    → slice_range ts i k ≡ t ∷ slice_range ts (i + 1) k
+range-head ts i k t here less =
+    let size : k - i ≡ suc (k - (i + 1)) = omega (arith, less) in
+    ap (λ n. take n (drop i ts)) size ∙ ap (take (suc (k - (i + 1)))) (head ts i here)
+    ∙ ap (λ n. t ∷ take (k - (i + 1)) (drop n ts)) (sym (add-one i))
+  where
+    head : (us : List Token) (j : ℕ) → slice_get us j ≡ Some t → drop j us ≡ t ∷ drop (suc j) us
+    head [] j h = cc
+    head (u ∷ us) zero h = let same : u ≡ t = cc in ap (λ v. v ∷ us) same
+    head (u ∷ us) (suc j) h = head us j h
+
+pub range-none : (ts : List Token) (i k : ℕ) → k ≤ i → slice_range ts i k ≡ []
+range-none ts i k le = ap (λ n. take n (drop i ts)) (let e : k - i ≡ 0 = omega (arith, le) in e)
 
 -- each part begins no later than it ends, and ends where all tokens do or before
 pub Follow-at : (runs : List Run) (n end : ℕ) → Follow n runs end → (k : ℕ) (d : Run) → k < length runs

@@ -9,10 +9,12 @@ use Rattle.cweb_store.specs.declared.names.NameRef.{NameRef}
 use Rattle.cweb_store.specs.declared.parts.PartKind.{PartKind}
 use Rattle.cweb_store.specs.declared.parts.PartKind.TheVariants.{Unnamed, Named, Macro}
 use Rattle.cweb_store.specs.Names.{Occurrence, id, names, texts, standings, files}
-use Rattle.cweb_store.specs.Parts.{Token, Word, Number, Name, Mark, Blank, Newline, Join, Defs, joined, is_of, is_unnamed, is_macro, numbers_where, has_defs_code}
+use Rattle.cweb_store.specs.Parts.{Token, Word, Number, Name, Mark, Blank, Newline, Join, Defs, joined, is_of, is_unnamed, is_macro, numbers_where, has_defs_code, is_defs}
 use Rattle.cweb_store.specs.Replacements.{replacement, replacement_of}
 use Rattle.cweb_store.specs.Faults.{fault, faults}
 use Rattle.cweb_store.specs.MoreLaws.{left_of_macro}
+use Rattle.cweb_store.specs.Next.{is_name}
+use Rattle.cweb_store.specs.Noted.{token_numbers}
 use Rattle.cweb_store.specs.Texts.{bytes_given, bytes_kept}
 use Rattle.cweb_store.specs.Calls.{Call, Occurs, Opens, Pushes, Drops, Closes, Transliterates, Stored, contents, finished, occurrence_of}
 
@@ -206,3 +208,13 @@ texts_kept_each : bytes_kept
     (stored (Occurs glob ∷ Occurs glob ∷ three_times
     ++ Pushes (Number (codes "x")) ∷ Pushes (Word (codes "xy")) ∷ replaced)) ≡ 17
 texts_kept_each = refl
+
+-- what is noted of tokens
+abbrev noted : List Token
+noted = Blank ∷ Name (ref 0) ∷ Defs ∷ Name (ref 1) ∷ []
+
+uses_are_noted : token_numbers is_name 4 noted ≡ 5 ∷ 7 ∷ []
+uses_are_noted = refl
+
+defs_are_noted : token_numbers is_defs 0 noted ≡ 2 ∷ []
+defs_are_noted = refl

@@ -12,6 +12,8 @@ pub mod Runs
 pub mod Texts
 pub mod PackedTexts
 pub mod ClosedTokens
+pub mod Next
+pub mod Noted
 pub mod Words
 pub mod Packed
 pub mod Trailing

@@ -1,7 +1,5 @@
 -- Tokens of fixed size, which have their texts by number.
-use Rattle.std.specs.Prelude.{◌≡◌, ℕ, Bool, true, false, ◌<◌, ◌+◌, List, [], ◌∷◌, ◌++◌, length, slice_index_or}
-use Rattle.cweb_store.specs.declared.names.NameId.{NameId}
-use Rattle.cweb_store.specs.Names.{Standing, stands, with_some}
+use Rattle.std.specs.Prelude.{◌≡◌, ℕ, ◌<◌, ◌+◌, List, [], ◌∷◌, ◌++◌, length, slice_index_or}
 use Rattle.cweb_store.specs.Parts as spec
 use Rattle.cweb_store.specs.PackedTexts.{text_bytes}
 use Rattle.cweb_store.specs.Texts.{total, with_word_of, other_bytes}
@@ -27,19 +25,6 @@ token_in texts (Name name) = spec.Name name
 token_in texts (Head section) = spec.Head section
 token_in texts (Tail section) = spec.Tail section
 token_in texts (Mark place) = spec.Mark place
-
--- the names that records use, after others
-abbrev pub with_record : List Standing → List NameId → Packed → List NameId
-with_record rs ns (Name name) = with_some ns (stands rs name.0)
-with_record rs ns packed = ns
-
-abbrev pub used_by : List Standing → List NameId → List Packed → List NameId
-used_by rs ns [] = ns
-used_by rs ns (p ∷ ps) = used_by rs (with_record rs ns p) ps
-
-abbrev pub is_packed_defs : Packed → Bool
-is_packed_defs Defs = true
-is_packed_defs packed = false
 
 -- the text of a record, if it has one, is among so many
 abbrev pub IsWithin : ℕ → Packed → Type 0

@@ -9,15 +9,16 @@ ghost use Rattle.cweb_store.specs.Calls.{too_many};
 ghost use Rattle.cweb_store.specs.Texts.{AreInOneList, bytes_given, bytes_kept, texts_of};
 ghost use Rattle.cweb_store.specs.Runs.{runs_from};
 ghost use Rattle.cweb_store.specs.Wanted.{wanted_in};
+ghost use Rattle.cweb_store.specs.Next.{IsNext, is_name};
 
 use crate::names::faults::name_faults;
 use crate::names::standing::name_at;
 use crate::names::table::{GivenAs, NameTable};
 use crate::names::{NameFault, NameId, NameKind, NameRef};
-use crate::parts::Run;
 use crate::parts::closed::ClosedParts;
 use crate::parts::iter::{Parts, Wanted};
 use crate::parts::links::Links;
+use crate::parts::{Part, Run};
 use crate::replacements::{Replacements, last_places};
 use crate::tokens::Token;
 use crate::tokens::closed::ClosedTokens;
@@ -147,6 +148,15 @@ impl Store {
         ensures { slice_get (all_tokens self.now.parts) number ≡ Some (seen result) }
     {
         self.tokens.token(number as usize)
+    }
+
+    /// The number of the first use of a name among the tokens of a part, or of a stretch of it; where there is none, the
+    /// number after the last one.
+    pub fn next_use(&self, part: Part) -> u32
+        requires { part.first ≤ part.after }
+        ensures { IsNext is_name (all_tokens self.now.parts) part result }
+    {
+        self.tokens.next_use(part)
     }
 
     /// The name that an occurrence stands for, if any.

@@ -3,6 +3,7 @@
 pub mod closed;
 pub mod layout;
 pub mod list;
+pub mod noted;
 pub mod packed;
 pub mod texts;
 pub mod word;

@@ -6,34 +6,38 @@ ghost use Rattle.cweb_store.specs.Parts.{is_defs};
 ghost use Rattle.cweb_store.specs.Gathered.{used_from};
 ghost use Rattle.cweb_store.specs.Texts.{AreInOneList, token_bytes_kept, token_texts, total};
 ghost use Rattle.cweb_store.specs.ClosedTokens.{with_text};
-ghost use Rattle.cweb_store.specs.Packed.{is_packed_defs, used_by};
+ghost use Rattle.cweb_store.specs.Next.{IsNext, is_name};
 
 use crate::names::standing::add_name_at;
 use crate::names::{NameId, NameKind};
 use crate::parts::Part;
 use crate::tokens::Token;
+use crate::tokens::noted::{Noted, next_noted};
 use crate::tokens::packed::{Packed, lend};
 use crate::tokens::texts::PackedTexts;
 use indexmap::IndexSet;
 use std::alloc::AllocError;
 use std::marker::Model;
 
-/// Tokens as records of fixed size. Their texts, and other texts behind these, stand in one list of bytes.
+/// Tokens as records of fixed size, of which uses and Defs are noted. Their texts, and other texts behind these, stand in
+/// one list of bytes.
 #[derive(Drop)]
 pub struct ClosedTokens {
     pub texts: PackedTexts,
     pub records: Vec<Packed>,
     pub own: usize,
+    pub noted: Noted,
 }
 
 impl Model for ClosedTokens {
-    ghost use Rattle.cweb_store.specs.ClosedTokens.{TokensAndTexts, tokens_and_texts, AreClosed};
+    ghost use Rattle.cweb_store.specs.ClosedTokens.{TokensAndTexts, tokens_and_texts};
+    ghost use Rattle.cweb_store.specs.Noted.{AreClosedNoted};
 
     ghost Value = { TokensAndTexts };
 
     ghost view = { λ s. tokens_and_texts s.texts s.records.items s.own };
 
-    ghost invariant = { λ s. AreClosed s.texts s.records.items s.own };
+    ghost invariant = { λ s. AreClosedNoted s.texts s.records.items s.own s.noted };
 }
 
 impl ClosedTokens {
@@ -63,6 +67,14 @@ impl ClosedTokens {
         self.records.len()
     }
 
+    /// The number of the first use in a range of numbers, or the one after the range where there is none.
+    pub fn next_use(&self, part: Part) -> u32
+        requires { part.first ≤ part.after }
+        ensures { IsNext is_name self.now.tokens part result }
+    {
+        next_noted(self.noted.uses.as_slice(), part)
+    }
+
     /// Adds the names that tokens use, in a range of numbers, to distinct names.
     pub fn add_uses(
         &self,
@@ -77,11 +89,18 @@ impl ClosedTokens {
             ≡ used_from standings.now used.old.keys
             (slice_range self.now.tokens part.first part.after)) }
     {
-        add_uses_of(
-            &self.records[part.first as usize..part.after as usize],
-            standings,
-            used,
-        )
+        let mut next = self.next_use(part);
+        'uses: while next < part.after {
+            if let Token::Name(name) = self.token(next as usize) {
+                add_name_at(used, standings, name.0 as usize)?;
+            }
+            let rest = Part {
+                first: next + 1,
+                after: part.after,
+            };
+            next = self.next_use(rest);
+        }
+        Ok(())
     }
 
     /// Whether there is a Defs in a range of numbers.
@@ -90,7 +109,7 @@ impl ClosedTokens {
         requires within { part.after ≤ length self.now.tokens }
         ensures { result ≡ list_any is_defs (slice_range self.now.tokens part.first part.after) }
     {
-        has_defs_in(&self.records[part.first as usize..part.after as usize])
+        next_noted(self.noted.defs.as_slice(), part) < part.after
     }
 
     /// The other text with a number.
@@ -109,30 +128,4 @@ impl ClosedTokens {
     {
         self.texts.text_bytes()
     }
-}
-
-fn add_uses_of(
-    tokens: &[Packed],
-    standings: &[Result<NameId, NameKind>],
-    used: &mut IndexSet<NameId>,
-) -> Result<(), AllocError>
-    ensures { OnOk result (used.new.keys ≡ used_by standings.now used.old.keys tokens.now) }
-{
-    for token in tokens {
-        if let Packed::Name(name) = token {
-            add_name_at(used, standings, name.0 as usize)?;
-        }
-    }
-    Ok(())
-}
-
-fn has_defs_in(tokens: &[Packed]) -> bool
-    ensures { result ≡ list_any is_packed_defs tokens.now }
-{
-    for token in tokens {
-        if let Packed::Defs = token {
-            return true;
-        }
-    }
-    false
 }

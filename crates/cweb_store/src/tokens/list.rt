@@ -7,16 +7,18 @@ ghost use Rattle.cweb_store.specs.ClosedTokens.{tokens_alone};
 use crate::reserved::put;
 use crate::tokens::Token;
 use crate::tokens::closed::ClosedTokens;
+use crate::tokens::noted::Noted;
 use crate::tokens::packed::{Packed, lend, pack};
 use crate::tokens::words::WordTexts;
 use std::alloc::{AllocError, Global};
 use std::marker::Model;
 
-/// Tokens as records of fixed size, and their texts.
+/// Tokens as records of fixed size, and their texts. Uses and Defs are noted beside them.
 #[derive(Drop)]
 pub struct TokenList {
     texts: WordTexts,
     records: Vec<Packed>,
+    noted: Noted,
 }
 
 impl Model for TokenList {
@@ -26,7 +28,7 @@ impl Model for TokenList {
     ghost Value = { TokensInRoom };
 
     ghost use Rattle.cweb_store.specs.Packed.{token_in};
-    ghost use Rattle.cweb_store.specs.ClosedTokens.{AreTokens};
+    ghost use Rattle.cweb_store.specs.Noted.{AreTokensNoted};
 
     ghost view = { λ s.
         record {
@@ -34,7 +36,7 @@ impl Model for TokenList {
           room = vec_capacity s.records;
         } };
 
-    ghost invariant = { λ s. AreTokens s.texts s.records.items };
+    ghost invariant = { λ s. AreTokensNoted s.texts s.records.items s.noted };
 }
 
 impl TokenList {
@@ -46,6 +48,7 @@ impl TokenList {
         TokenList {
             texts: WordTexts::new(alloc),
             records: Vec::new(alloc),
+            noted: Noted::new(alloc),
         }
     }
 
@@ -61,7 +64,9 @@ impl TokenList {
         ensures err { OnErr result (self.new.tokens ≡ self.old.tokens) }
     {
         self.records.reserve(1)?;
+        self.noted.reserve(token)?;
         let packed = pack(&mut self.texts, token)?;
+        self.noted.note(self.records.len(), token);
         put(&mut self.records, packed);
         Ok(())
     }
@@ -81,19 +86,25 @@ impl TokenList {
         ensures room { self.new.room ≡ self.old.room }
     {
         self.records.truncate(count);
+        self.noted.truncate(count);
     }
 
     /// The same tokens, to which none comes. Behind their texts others may come.
     pub fn close(self) -> ClosedTokens
         ensures { result ≡ tokens_alone self.tokens }
     {
-        let TokenList { texts, records } = self;
+        let TokenList {
+            texts,
+            records,
+            noted,
+        } = self;
         let texts = texts.close();
         let own = texts.len();
         ClosedTokens {
             texts,
             records,
             own,
+            noted,
         }
     }
 }

@@ -1,13 +1,24 @@
+use Rattle.std.proofs.Common.{◌∷◌, [], List, sym, subst}
+use Rattle.cweb_store.specs.Parts.{Token}
+use Rattle.cweb_store.specs.Noted.{AreNoted}
+use Rattle.cweb_store.proofs.PackedLemmas.{tokens-grow}
 use Rattle.cweb_store.proofs.TextLemmas.{closed-add, closed-added}
 use Rattle.cweb_store.proofs.tokens.closed.ClosedTokens.add.Goals as goal
 
 pub invariant_of-self-2 : goal.invariant_of-self-2
 invariant_of-self-2 c =
     let s = c.self.inside in
-    rw c.in_ok-add.ensures.added (closed-add s.texts c.args.text.now s.records.items s.own c.self.invariant)
+    let text = c.args.text.now in
+    rw c.in_ok-add.ensures.added
+    (record {
+      tokens = closed-add s.texts text s.records.items s.own c.self.invariant.tokens;
+      notes =
+          subst (λ (ts : List Token). AreNoted s.noted ts)
+          (sym (tokens-grow s.texts (text ∷ []) s.records.items c.self.invariant.tokens.packed)) c.self.invariant.notes;
+    })
 
 pub returns : goal.returns
 returns c =
     let s = c.self.inside in
     rw (c.in_ok-add.ensures.added, ← c.self.view_is)
-    (closed-added s.texts c.args.text.now s.records.items s.own c.self.invariant)
+    (closed-added s.texts c.args.text.now s.records.items s.own c.self.invariant.tokens)

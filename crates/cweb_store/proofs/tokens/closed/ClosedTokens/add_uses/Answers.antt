@@ -1,24 +1,37 @@
-use Rattle.std.proofs.Common.{◌≡◌, List, ◌∙◌, ap, subst}
-use Rattle.std.specs.Prelude.{slice_range, OnOk}
-use Rattle.cweb_store.specs.declared.names.NameId.{NameId}
-use Rattle.cweb_store.specs.Gathered.{used_from}
-use Rattle.cweb_store.specs.Packed.{token_in, used_by}
-use Rattle.cweb_store.proofs.RangeLemmas.{range-map}
-use Rattle.cweb_store.proofs.PackedLemmas.{used-records}
+use Rattle.std.proofs.Common.{rules, ◌≡◌, ◌∙◌, ap, sym, false, arith}
+use Rattle.cweb_store.specs.Gathered.{with_use}
+use Rattle.cweb_store.specs.Next.{is_name}
+use Rattle.cweb_store.specs.Seen.{seen}
+use Rattle.cweb_store.proofs.UseLemmas.{not-used, used-from-next, used-step}
 use Rattle.cweb_store.proofs.tokens.closed.ClosedTokens.add_uses.Goals as goal
+use Rattle.cweb_store.proofs.tokens.closed.ClosedTokens.add_uses.Goals.{in-Name+in_ok-add_name_at, in_default}
 
-pub returns : goal.returns
-returns c =
-    let s = c.self.inside in
-    let first = c.args.part.first in
-    let after = c.args.part.after in
+pub uses-init : goal.uses-init
+uses-init c = record {
+  within = c.next_use-next.ensures.within;
+  same =
+      used-from-next c.args.standings.now c.args.used.now.keys c.args.self.now.tokens c.args.part
+      c.next_use-next.result c.next_use-next.ensures;
+}
+
+pub uses-preserved : goal.uses-preserved
+uses-preserved c =
     let rs = c.args.standings.now in
-    let old = c.args.used.now.keys in
-    let used =
-    ap (λ ps. used_by rs old (slice_range ps first after)) c.deref.ensures.value
-    ∙ used-records s.texts rs old (slice_range s.records.items first after)
-    ∙ ap (used_from rs old)
-    (range-map (token_in s.texts) s.records.items first after
-    ∙ ap (λ v. slice_range v.tokens first after) c.self.view_is) in
-    subst (λ (ns : List NameId). OnOk c.add_uses_of.result (c.add_uses_of.new.used.keys ≡ ns))
-    used c.add_uses_of.ensures
+    let ts = c.args.self.now.tokens in
+    let t = seen c.token.result in
+    let more : c.match-token.used.keys ≡ with_use rs c.uses.used.keys t =
+    elim c.match-token.branch [
+      | in-Name+in_ok-add_name_at w ↦
+          ap (λ used. used.keys) w.used-is ∙ w.in_ok-add_name_at.ensures
+          ∙ sym (ap (λ token. with_use rs c.uses.used.keys (seen token)) w.in-Name.is)
+      | in_default w ↦
+          let other : is_name t ≡ false = search rules in
+          ap (λ used. used.keys) w.used-is ∙ sym (not-used rs c.uses.used.keys t other)
+    ] in
+    record {
+      within = c.next_use-next-in-uses.ensures.within;
+      same =
+          used-step rs c.uses.used.keys c.match-token.used.keys ts c.args.part c.uses.next
+          c.next_use-next-in-uses.result t c.token.ensures (omega (arith, c.uses-test.true)) more
+          c.next_use-next-in-uses.ensures ∙ c.uses.invariant.same;
+    }

@@ -8,7 +8,7 @@ text_behind-requires c =
     let s = c.self.inside in
     let count : length (drop s.own s.texts) ≡ length c.args.self.now.others =
     ap (λ v. length v.others) c.self.view_is in
-    omega (arith, count, length-drop s.own s.texts, c.requires, c.self.invariant.within)
+    omega (arith, count, length-drop s.own s.texts, c.requires, c.self.invariant.tokens.within)
 
 pub returns : goal.returns
 returns c =

@@ -12,7 +12,7 @@ lend-requires c =
     let size : length (map (token_in s.texts) s.records.items) ≡ length s.records.items =
     length-map s.records.items (token_in s.texts) in
     (packed-at s.texts s.records.items c.args.number c.index-packed.result.now
-    c.self.invariant.packed (omega (arith, count, size, c.requires)) c.index-packed.ensures).0
+    c.self.invariant.tokens.packed (omega (arith, count, size, c.requires)) c.index-packed.ensures).0
 
 pub returns : goal.returns
 returns c =
@@ -23,4 +23,4 @@ returns c =
     length-map s.records.items (token_in s.texts) in
     rw (c.lend.ensures, ← c.self.view_is)
     (packed-at s.texts s.records.items c.args.number c.index-packed.result.now
-    c.self.invariant.packed (omega (arith, count, size, c.requires)) c.index-packed.ensures).1
+    c.self.invariant.tokens.packed (omega (arith, count, size, c.requires)) c.index-packed.ensures).1

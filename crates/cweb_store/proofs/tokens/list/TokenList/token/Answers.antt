@@ -13,7 +13,7 @@ lend-requires c =
     length-map s.records.items (token_in s.texts.texts) in
     let within =
     (packed-at s.texts.texts s.records.items c.args.number c.index-packed.result.now
-    c.self.invariant.packed (omega (arith, count, size, c.requires)) c.index-packed.ensures).0 in
+    c.self.invariant.tokens.packed (omega (arith, count, size, c.requires)) c.index-packed.ensures).0 in
     subst (λ (ts : List (List ℕ)). IsWithin (length ts) c.index-packed.result.now) (sym c.texts.ensures) within
 
 pub returns : goal.returns
@@ -25,4 +25,4 @@ returns c =
     length-map s.records.items (token_in s.texts.texts) in
     rw (c.lend.ensures, c.texts.ensures, ← c.self.view_is)
     (packed-at s.texts.texts s.records.items c.args.number c.index-packed.result.now
-    c.self.invariant.packed (omega (arith, count, size, c.requires)) c.index-packed.ensures).1
+    c.self.invariant.tokens.packed (omega (arith, count, size, c.requires)) c.index-packed.ensures).1

@@ -1,9 +1,10 @@
-use Rattle.std.proofs.Common.{◌≡◌, take, sym, subst, ap, ◌∙◌}
+use Rattle.std.proofs.Common.{◌≡◌, map, take, sym, subst, ap, ◌∙◌}
 use Rattle.std.specs.Prelude.{filter}
 use Rattle.std.proofs.lemmas.List.{take-map}
 use Rattle.cweb_store.specs.Rooms.{TokensInRoom}
 use Rattle.cweb_store.specs.Texts.{has_text}
 use Rattle.cweb_store.specs.Packed.{token_in}
+use Rattle.cweb_store.specs.Noted.{AreNoted}
 use Rattle.cweb_store.proofs.TextLemmas.{truncate-are}
 use Rattle.cweb_store.proofs.tokens.list.TokenList.truncate.Goals as goal
 
@@ -18,7 +19,14 @@ invariant_of-self c =
     let same =
     subst (λ (v : TokensInRoom). filter has_text (take c.args.count v.tokens) ≡ filter has_text v.tokens)
     (sym c.self.view_is) c.requires in
-    rw c.truncate.ensures.items (truncate-are s.texts s.records.items c.args.count c.self.invariant same)
+    let front = take-map (token_in s.texts.texts) c.args.count s.records.items in
+    rw c.truncate.ensures.items
+    (record {
+      tokens = truncate-are s.texts s.records.items c.args.count c.self.invariant.tokens same;
+      notes =
+          subst (AreNoted c.truncate-2.new.self) front
+          (c.truncate-2.ensures (map (token_in s.texts.texts) s.records.items) c.self.invariant.notes);
+    })
 
 pub returns-clause-room : goal.returns-clause-room
 returns-clause-room c = c.truncate.ensures.capacity ∙ ap (λ v. v.room) c.self.view_is

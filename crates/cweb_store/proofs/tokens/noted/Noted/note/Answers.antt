@@ -1,0 +1,49 @@
+use Rattle.std.proofs.Common.{rules, ◌≡◌, true, false}
+use Rattle.cweb_store.specs.Parts.{is_defs}
+use Rattle.cweb_store.specs.Seen.{seen}
+use Rattle.cweb_store.specs.Next.{is_name}
+use Rattle.cweb_store.proofs.NotedLemmas.{noted-push, noted-here, noted-not}
+use Rattle.cweb_store.proofs.tokens.noted.Noted.note.Goals as goal
+
+pub returns-in-Name : goal.returns-in-Name
+returns-in-Name c = λ tokens size are.
+    let t = seen c.args.token in
+    let uses = c.args.self.now.uses.items in
+    let defs = c.args.self.now.defs.items in
+    let k = c.args.number in
+    let used : is_name t ≡ true = search rules in
+    let other : is_defs t ≡ false = search rules in
+    record {
+      uses =
+          noted-push is_name uses c.put.new.list.items tokens t k size are.uses
+          (noted-here uses c.put.new.list.items (is_name t) k c.put.ensures used);
+      defs = noted-push is_defs defs defs tokens t k size are.defs (noted-not defs (is_defs t) k other);
+    }
+
+pub returns-in-Defs : goal.returns-in-Defs
+returns-in-Defs c = λ tokens size are.
+    let t = seen c.args.token in
+    let uses = c.args.self.now.uses.items in
+    let defs = c.args.self.now.defs.items in
+    let k = c.args.number in
+    let other : is_name t ≡ false = search rules in
+    let def : is_defs t ≡ true = search rules in
+    record {
+      uses = noted-push is_name uses uses tokens t k size are.uses (noted-not uses (is_name t) k other);
+      defs =
+          noted-push is_defs defs c.put-in-Defs.new.list.items tokens t k size are.defs
+          (noted-here defs c.put-in-Defs.new.list.items (is_defs t) k c.put-in-Defs.ensures def);
+    }
+
+pub returns-in_default : goal.returns-in_default
+returns-in_default c = λ tokens size are.
+    let t = seen c.args.token in
+    let uses = c.args.self.now.uses.items in
+    let defs = c.args.self.now.defs.items in
+    let k = c.args.number in
+    let no_use : is_name t ≡ false = search rules in
+    let no_defs : is_defs t ≡ false = search rules in
+    record {
+      uses = noted-push is_name uses uses tokens t k size are.uses (noted-not uses (is_name t) k no_use);
+      defs = noted-push is_defs defs defs tokens t k size are.defs (noted-not defs (is_defs t) k no_defs);
+    }
