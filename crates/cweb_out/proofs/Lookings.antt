@@ -4,7 +4,7 @@ use Rattle.std.specs.List.{list_all}
 use Rattle.cweb_store.specs.declared.names.NameId.{NameId}
 use Rattle.cweb_store.specs.Parts.{Token}
 use Rattle.cweb_store.specs.Calls.{Stored}
-use Rattle.cweb_out.specs.Uses.{names, uses, use_of}
+use Rattle.cweb_out.specs.Uses.{names, uses, use_of, PassesNoUse}
 use Rattle.cweb_out.specs.Ranks.{has_rank}
 use Rattle.cweb_out.specs.Frames.{suffix}
 use Rattle.cweb_out.specs.declared.expander.frame.Frame.{Frame}
@@ -12,6 +12,7 @@ use Rattle.cweb_out.specs.declared.planning.search.Mark.{Mark}
 use Rattle.cweb_out.specs.declared.planning.search.Mark.TheVariants.{Unseen, Waits, Ranked}
 use Rattle.cweb_out.specs.declared.planning.search.Waiting.{Waiting}
 use Rattle.cweb_out.specs.Search.{Fits, Looked, Meets, Passes, is_marked, is_ranked_mark, mark_of}
+use Rattle.cweb_out.proofs.FirstUses.{same-uses}
 use Rattle.cweb_out.proofs.Ranks.{all-append, and-first, and-second}
 
 -- a use more was passed over, or none
@@ -26,6 +27,15 @@ passes-more w marks old mid new t p e h = record {
   same = p.same ∙ ap (λ ts. p.before ++ uses w ts) e ∙ sym (append_assoc p.before (use_of w t) (uses w new));
 }
 
+-- no use was passed over
+pub passes-on : (w : Stored) (marks : List Mark) (old mid new : List Token)
+    → Passes w marks old mid → PassesNoUse mid new → Passes w marks old new
+passes-on w marks old mid new p x = record {
+  before = p.before;
+  marked = p.marked;
+  same = p.same ∙ ap (λ ns. p.before ++ ns) (same-uses w mid new x);
+}
+
 pub meets : (w : Stored) (marks : List Mark) (old mid new : List Token) (t : Token) (n : NameId)
     → Passes w marks old mid → mid ≡ t ∷ new → n ∷ [] ≡ use_of w t
     → is_marked marks n ≡ false → n.0 < names w → Meets w marks old n new
@@ -38,9 +48,9 @@ meets w marks old mid new t n p e u f l = record {
 }
 
 pub passes-all : (w : Stored) (marks : List Mark) (old new : List Token)
-    → Passes w marks old new → new ≡ [] → list_all (is_marked marks) (uses w old) ≡ true
+    → Passes w marks old new → uses w new ≡ [] → list_all (is_marked marks) (uses w old) ≡ true
 passes-all w marks old new p e =
-    ap (list_all (is_marked marks)) (p.same ∙ ap (λ ts. p.before ++ uses w ts) e ∙ append-nil p.before) ∙ p.marked
+    ap (list_all (is_marked marks)) (p.same ∙ ap (λ ns. p.before ++ ns) e ∙ append-nil p.before) ∙ p.marked
 
 -- marks that are ranked stand for ranks
 marked-rank : (m : Mark) (b : Bool) → (m ≡ Ranked → b ≡ true) → is_ranked_mark m ≡ true → b ≡ true

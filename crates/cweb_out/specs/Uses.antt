@@ -1,10 +1,12 @@
 -- What a web uses: the tokens of a store, the text that the parts of a name join to, and the names that a list of tokens uses.
-use Rattle.std.specs.Prelude.{ℕ, List, [], Option, length, flat_map, option_to_list}
+use Rattle.std.specs.Prelude.{◌≡◌, ℕ, false, List, [], ◌++◌, Option, length, flat_map, option_to_list}
+use Rattle.std.specs.List.{list_any}
 use Rattle.cweb_store.specs.declared.names.NameId.{NameId}
 use Rattle.cweb_store.specs.declared.names.NameRef.{NameRef}
 use Rattle.cweb_store.specs.Names as spec
 use Rattle.cweb_store.specs.Parts as parts
 use Rattle.cweb_store.specs.Parts.{Token, Name, is_unnamed, is_of, all_tokens}
+use Rattle.cweb_store.specs.Next.{is_name}
 use Rattle.cweb_store.specs.Calls.{Stored}
 
 -- how many names there are
@@ -31,3 +33,9 @@ use_of w token = []
 -- the names that tokens use, in order
 abbrev pub uses : Stored → List Token → List NameId
 uses w tokens = flat_map (use_of w) tokens
+
+-- from a list to what is still to come of it, no use is passed over
+pub record PassesNoUse (old new : List Token) : Type 0 where
+  pub before : List Token
+  pub none : list_any is_name before ≡ false
+  pub same : old ≡ before ++ new

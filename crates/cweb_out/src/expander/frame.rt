@@ -1,10 +1,14 @@
 // Frames: how far the list of an output or of a name was given out.
-ghost use Rattle.std.specs.Prelude.{◌≡◌, ◌∷◌, [], ◌<◌, Some, None, IfSome, length};
+ghost use Rattle.std.specs.Prelude.{◌≡◌, ◌∷◌, [], ◌<◌, false, Some, None, IfSome, length};
+ghost use Rattle.std.specs.List.{list_any};
+ghost use Rattle.cweb_store.specs.Next.{is_name};
+ghost use Rattle.cweb_store.specs.Parts.{Name, all_tokens};
 ghost use Rattle.cweb_store.specs.Seen.{seen};
-ghost use Rattle.cweb_out.specs.Frames.{IsWithin, suffix};
+ghost use Rattle.cweb_out.specs.Frames.{IsRun, IsWithin, run_tokens, suffix};
 ghost use Rattle.cweb_out.specs.Outputs.{root_list};
+ghost use Rattle.cweb_out.specs.Uses.{PassesNoUse};
 
-use cweb_store::{NameId, Part, Parts, Store, Token};
+use cweb_store::{NameId, NameRef, Part, Parts, Store, Token};
 
 /// The part of a list that is still to come: first Defs where `defs` says so, then the tokens of `part`, then those of
 /// `rest`. The list is the text of `owner`, or the main file's where that is none.
@@ -60,5 +64,45 @@ impl<'a> Frame<'a> {
         let token = store.token(self.part.first);
         self.part.first += 1;
         Some(token)
+    }
+
+    /// Takes the tokens of the list up to its next use, and that use too.
+    pub(crate) fn take_use(&mut self, store: &'a Store) -> Option<NameRef>
+        requires { IsWithin store.now self.old }
+        ensures owner { self.new.owner ≡ self.old.owner }
+        ensures within { IsWithin store.now self.new }
+        ensures some { IfSome result (λ name.
+            PassesNoUse (suffix store.now self.old) (Name name ∷ suffix store.now self.new)) }
+        ensures none { result ≡ None → list_any is_name (suffix store.now self.old) ≡ false }
+    {
+        self.defs = false;
+        'parts: loop {
+            if let Some(name) = take_use_in(store, &mut self.part) {
+                return Some(name);
+            }
+            self.part = self.rest.next()?;
+        }
+    }
+}
+
+// Takes the tokens of a part up to its first use, and that use too.
+fn take_use_in(store: &Store, part: &mut Part) -> Option<NameRef>
+    requires { IsRun (length (all_tokens store.now.parts)) part.old }
+    ensures within { IsRun (length (all_tokens store.now.parts)) part.new }
+    ensures some { IfSome result (λ name.
+        PassesNoUse (run_tokens store.now part.old) (Name name ∷ run_tokens store.now part.new)) }
+    ensures none { result ≡ None → list_any is_name (run_tokens store.now part.old) ≡ false }
+{
+    if part.first >= part.after {
+        return None;
+    }
+    let next = store.next_use(*part);
+    if next >= part.after {
+        return None;
+    }
+    part.first = next + 1;
+    match store.token(next) {
+        Token::Name(name) => Some(name),
+        _ => None,
     }
 }

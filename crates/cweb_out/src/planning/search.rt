@@ -1,15 +1,14 @@
 // The search for a cycle of names that use one another.
-ghost use Rattle.std.specs.Prelude.{◌≡◌, ◌≤◌, ◌<◌, ◌+◌, ◌++◌, ◌∷◌, [], true, false, None, Some, length, map, sum_by, option_map, option_to_list, All, IfOk, IfSome, OnOk};
+ghost use Rattle.std.specs.Prelude.{◌≡◌, ◌≤◌, ◌<◌, ◌+◌, ◌++◌, ◌∷◌, [], true, false, None, Some, length, map, sum_by, option_map, All, IfOk, IfSome, OnOk};
 ghost use Rattle.std.specs.List.{list_all};
-ghost use Rattle.cweb_store.specs.Seen.{seen};
-ghost use Rattle.cweb_out.specs.Uses.{names, use_of, uses};
+ghost use Rattle.cweb_out.specs.Uses.{names, uses};
 ghost use Rattle.cweb_out.specs.Frames.{IsWithin, suffix};
 ghost use Rattle.cweb_out.specs.Outputs.{IsRoot};
 ghost use Rattle.cweb_out.specs.Planning.{first_cycle};
 ghost use Rattle.cweb_out.specs.Search.{Chain, Fits, Goes, Meets, Settles, SettlesList, Waited, back_to, is_marked, mark_of, with_next};
 
 use crate::expander::frame::Frame;
-use cweb_store::{NameId, Store, Token};
+use cweb_store::{NameId, Store};
 use std::alloc::{AllocError, Global};
 
 /// What is known of a name.
@@ -26,17 +25,6 @@ pub(crate) enum Mark {
 pub(crate) struct Waiting<'a> {
     pub name: NameId,
     pub text: Frame<'a>,
-}
-
-// The name that a token uses, if any.
-fn used_name(store: &Store, token: &Token<'_>) -> Option<NameId>
-    ensures name { option_to_list result ≡ use_of store.now (seen token.now) }
-    ensures within { IfSome result (λ id. id.0 < names store.now) }
-{
-    match token {
-        Token::Name(name) => store.standing(*name),
-        _ => None,
-    }
 }
 
 fn is_ranked(marks: &[Mark], name: NameId) -> bool
@@ -67,8 +55,8 @@ fn next_unranked<'a>(store: &'a Store, marks: &[Mark], text: &mut Frame<'a>) -> 
     ensures none { result ≡ None
         → list_all (is_marked marks.now) (uses store.now (suffix store.now text.old)) ≡ true }
 {
-    'tokens: while let Some(token) = text.take(store) {
-        if let Some(name) = used_name(store, &token) {
+    'uses: while let Some(used) = text.take_use(store) {
+        if let Some(name) = store.standing(used) {
             if !is_ranked(marks, name) {
                 return Some(name);
             }

@@ -1,24 +1,63 @@
-use Rattle.std.proofs.Common.{rules, ◌≡◌, ◌∙◌, ap, sym, arith, true, ◌&&◌, length}
+use Rattle.std.proofs.Common.{rules, ◌≡◌, ◌∷◌, ◌∙◌, ap, sym, arith, true, false, ◌&&◌, refl}
 use Rattle.std.specs.Prelude.{option_to_list}
 use Rattle.std.specs.List.{list_all}
-use Rattle.cweb_store.specs.Seen.{seen}
+use Rattle.cweb_store.specs.Parts.{Name}
 use Rattle.cweb_out.specs.Frames.{suffix}
 use Rattle.cweb_out.specs.Search.{is_marked}
-use Rattle.cweb_out.proofs.Lookings.{passes-more}
+use Rattle.cweb_out.proofs.FirstUses.{none-used, use-shorter}
+use Rattle.cweb_out.proofs.Lookings.{passes-on, passes-more, passes-all, meets}
 use Rattle.cweb_out.proofs.planning.search.next_unranked.Goals as goal
 
-pub tokens-preserved-else-not-is_ranked : goal.tokens-preserved-else-not-is_ranked
-tokens-preserved-else-not-is_ranked c =
+pub returns-then-not-is_ranked-clause-meets : goal.returns-then-not-is_ranked-clause-meets
+returns-then-not-is_ranked-clause-meets c =
     let w = c.args.store.now in
     let marks = c.args.marks.now in
-    let e = c.in-Some.ensures.some in
-    let ranked : is_marked marks c.in-Some-used_name.name ≡ true = search rules in
+    let old = suffix w c.args.text.now in
+    let new = suffix w c.take_use.new.self in
+    let t = Name c.in-Some.used in
+    let at = passes-on w marks old (suffix w c.uses.text) (t ∷ new) c.uses.invariant.passes c.in-Some.ensures.some in
+    let unranked : is_marked marks c.in-Some-standing.name ≡ false = search rules in
+    meets w marks old (t ∷ new) new t c.in-Some-standing.name at refl
+    (ap option_to_list c.in-Some-standing.ensures.name) unranked c.in-Some-standing.ensures.within
+
+pub uses-preserved-else-not-is_ranked : goal.uses-preserved-else-not-is_ranked
+uses-preserved-else-not-is_ranked c =
+    let w = c.args.store.now in
+    let marks = c.args.marks.now in
+    let old = suffix w c.args.text.now in
+    let mid = suffix w c.uses.text in
+    let new = suffix w c.take_use.new.self in
+    let t = Name c.in-Some.used in
+    let at = passes-on w marks old mid (t ∷ new) c.uses.invariant.passes c.in-Some.ensures.some in
+    let ranked : is_marked marks c.in-Some-standing.name ≡ true = search rules in
+    let used = ap option_to_list c.in-Some-standing.ensures.name in
     record {
-      within = c.take.ensures.within;
-      shorter = omega (arith, ap length e, c.tokens.invariant.shorter);
+      within = c.take_use.ensures.within;
+      shorter = omega (arith, use-shorter mid new t c.in-Some.ensures.some, c.uses.invariant.shorter);
       passes =
-          passes-more w marks (suffix w c.args.text.now) (suffix w c.tokens.text)
-          (suffix w c.take.new.self) (seen c.in-Some.token) c.tokens.invariant.passes e
-          (ap (list_all (is_marked marks)) (sym c.used_name.ensures.name ∙ ap option_to_list c.in-Some-used_name.is)
-          ∙ ap (λ b. b && true) ranked);
+          passes-more w marks old (t ∷ new) new t at refl
+          (ap (list_all (is_marked marks)) (sym used) ∙ ap (λ b. b && true) ranked);
     }
+
+pub uses-preserved : goal.uses-preserved
+uses-preserved c =
+    let w = c.args.store.now in
+    let marks = c.args.marks.now in
+    let old = suffix w c.args.text.now in
+    let mid = suffix w c.uses.text in
+    let new = suffix w c.take_use.new.self in
+    let t = Name c.in-Some.used in
+    let at = passes-on w marks old mid (t ∷ new) c.uses.invariant.passes c.in-Some.ensures.some in
+    let used = ap option_to_list c.in_default-standing.ensures.name in
+    record {
+      within = c.take_use.ensures.within;
+      shorter = omega (arith, use-shorter mid new t c.in-Some.ensures.some, c.uses.invariant.shorter);
+      passes = passes-more w marks old (t ∷ new) new t at refl (ap (list_all (is_marked marks)) (sym used));
+    }
+
+pub returns-clause-none : goal.returns-clause-none
+returns-clause-none c = λ none.
+    let w = c.args.store.now in
+    let mid = suffix w c.uses.text in
+    passes-all w c.args.marks.now (suffix w c.args.text.now) mid c.uses.invariant.passes
+    (none-used w mid (c.in_default.ensures.none refl))

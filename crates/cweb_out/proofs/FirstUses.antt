@@ -1,0 +1,106 @@
+-- What comes before the first use in a list, and in a frame's.
+use Rattle.std.proofs.Common.{◌≡◌, ◌<◌, ◌||◌, Bool, true, false, List, [], ◌∷◌, ◌++◌, length, refl, sym, ◌∙◌, ap, arith, append_assoc, append-nil, length-append}
+use Rattle.std.specs.List.{list_any}
+use Rattle.std.proofs.lemmas.List.Folds.{list_any-append}
+use Rattle.std.proofs.lemmas.Grind.{flat_map-append}
+use Rattle.cweb_store.specs.declared.parts.Part.{Part}
+use Rattle.cweb_store.specs.Parts as spec
+use Rattle.cweb_store.specs.Parts.{Token, all_tokens}
+use Rattle.cweb_store.specs.Calls.{Stored}
+use Rattle.cweb_store.specs.Next.{is_name}
+use Rattle.cweb_out.specs.Uses.{PassesNoUse, uses, use_of}
+use Rattle.cweb_out.specs.Outputs.{defs_first}
+use Rattle.cweb_out.specs.Frames.{suffix, run_tokens, runs_tokens}
+use Rattle.cweb_out.specs.declared.expander.frame.Frame.{Frame}
+
+both-none : (a b : Bool) → a ≡ false → b ≡ false → (a || b) ≡ false
+both-none a b x y = ap (λ c. c || b) x ∙ y
+
+none-append : (ts us : List Token) → list_any is_name ts ≡ false
+    → list_any is_name us ≡ false → list_any is_name (ts ++ us) ≡ false
+none-append ts us a b =
+    list_any-append is_name ts us ∙ both-none (list_any is_name ts) (list_any is_name us) a b
+
+pub pass-on : (a b c : List Token) → PassesNoUse a b → PassesNoUse b c → PassesNoUse a c
+pass-on a b c x y = record {
+  before = x.before ++ y.before;
+  none = none-append x.before y.before x.none y.none;
+  same = x.same ∙ ap (λ ts. x.before ++ ts) y.same ∙ sym (append_assoc x.before y.before c);
+}
+
+pub pass-none : (a b : List Token) → PassesNoUse a b → list_any is_name b ≡ false → list_any is_name a ≡ false
+pass-none a b x h = ap (list_any is_name) x.same ∙ none-append x.before b x.none h
+
+-- what a list uses does not change where no use is passed over
+not-used : (w : Stored) (t : Token) → is_name t ≡ false → use_of w t ≡ []
+not-used w (spec.Name name) h = cc
+not-used w (spec.Word bytes) h = refl
+not-used w (spec.Number bytes) h = refl
+not-used w (spec.Literal bytes) h = refl
+not-used w (spec.Verbatim bytes) h = refl
+not-used w (spec.Punct bytes) h = refl
+not-used w spec.Blank h = refl
+not-used w spec.Newline h = refl
+not-used w spec.Join h = refl
+not-used w spec.Defs h = refl
+not-used w (spec.Head section) h = refl
+not-used w (spec.Tail section) h = refl
+not-used w (spec.Mark place) h = refl
+
+pub none-used : (w : Stored) (ts : List Token) → list_any is_name ts ≡ false → uses w ts ≡ []
+none-used w [] h = refl
+none-used w (t ∷ ts) h =
+    (elim (is_name t) as (λ b. is_name t ≡ b → (b || list_any is_name ts) ≡ false → use_of w t ++ uses w ts ≡ []) [
+      | true ↦ λ e some. cc
+      | false ↦ λ e none. ap (λ ns. ns ++ uses w ts) (not-used w t e) ∙ none-used w ts none
+    ]) refl h
+
+pub same-uses : (w : Stored) (old new : List Token) → PassesNoUse old new → uses w old ≡ uses w new
+same-uses w old new x =
+    ap (uses w) x.same ∙ flat_map-append (use_of w) x.before new
+    ∙ ap (λ ns. ns ++ uses w new) (none-used w x.before x.none)
+
+pub use-shorter : (old new : List Token) (t : Token) → PassesNoUse old (t ∷ new) → length new < length old
+use-shorter old new t x = omega (arith, ap length x.same, length-append x.before (t ∷ new))
+
+-- the steps of a frame: its Defs is passed over, a part without a use, and a part up to its first use
+pub pass-defs : (w : Stored) (f : Frame)
+    → PassesNoUse (suffix w f)
+    (suffix w (record { owner = f.owner; defs = false; part = f.part; rest = f.rest }))
+pass-defs w f = record { before = defs_first f.defs; none = no-use f.defs; same = refl }
+  where
+    no-use : (b : Bool) → list_any is_name (defs_first b) ≡ false
+    no-use true = refl
+    no-use false = refl
+
+pub pass-part : (w : Stored) (f : Frame) (q : Part) (more : List Part) → f.defs ≡ false
+    → list_any is_name (run_tokens w f.part) ≡ false → f.rest ≡ q ∷ more
+    → PassesNoUse (suffix w f) (suffix w (record { owner = f.owner; defs = f.defs; part = q; rest = more }))
+pass-part w f q more d none e = record {
+  before = run_tokens w f.part;
+  none = none;
+  same =
+      ap (λ b. defs_first b ++ (run_tokens w f.part ++ runs_tokens w f.rest)) d
+      ∙ ap (λ ps. run_tokens w f.part ++ runs_tokens w ps) e
+      ∙ ap (λ b. run_tokens w f.part ++ (defs_first b ++ runs_tokens w (q ∷ more))) (sym d);
+}
+
+pub pass-to-use : (w : Stored) (f : Frame) (q : Part) (t : Token) → f.defs ≡ false
+    → PassesNoUse (run_tokens w f.part) (t ∷ run_tokens w q)
+    → PassesNoUse (suffix w f) (t ∷ suffix w (record { owner = f.owner; defs = f.defs; part = q; rest = f.rest }))
+pass-to-use w f q t d x = record {
+  before = x.before;
+  none = x.none;
+  same =
+      ap (λ b. defs_first b ++ (run_tokens w f.part ++ runs_tokens w f.rest)) d
+      ∙ ap (λ ts. ts ++ runs_tokens w f.rest) x.same
+      ∙ append_assoc x.before (t ∷ run_tokens w q) (runs_tokens w f.rest)
+      ∙ ap (λ b. x.before ++ (t ∷ (defs_first b ++ (run_tokens w q ++ runs_tokens w f.rest)))) (sym d);
+}
+
+pub pass-all : (w : Stored) (f : Frame) → f.defs ≡ false → list_any is_name (run_tokens w f.part) ≡ false
+    → f.rest ≡ [] → list_any is_name (suffix w f) ≡ false
+pass-all w f d none e =
+    ap (λ b. list_any is_name (defs_first b ++ (run_tokens w f.part ++ runs_tokens w f.rest))) d
+    ∙ ap (λ ps. list_any is_name (run_tokens w f.part ++ runs_tokens w ps)) e
+    ∙ ap (list_any is_name) (append-nil (run_tokens w f.part)) ∙ none
