@@ -1,24 +1,20 @@
 -- What becomes of texts and of records that name them where texts are added.
-use Rattle.std.proofs.Common.{◌≡◌, ℕ, zero, suc, ◌+◌, ◌-◌, ◌≤◌, ◌<◌, true, false, List, [], ◌∷◌, ◌++◌, Some, None, map, length, take, drop, refl, sym, ◌∙◌, ap, subst, arith, length-append, length-drop, cond, get_or, slice_get}
-use Rattle.std.specs.Prelude.{slice_range, slice_index_or, bytes_eq, if◌then◌else◌}
-use Rattle.std.specs.Map.{lookup}
+use Rattle.std.proofs.Common.{◌≡◌, ℕ, zero, suc, ◌+◌, ◌-◌, ◌≤◌, ◌<◌, List, [], ◌∷◌, ◌++◌, Some, map, length, take, drop, refl, sym, ◌∙◌, ap, subst, arith, length-append, length-drop, get_or, slice_get}
+use Rattle.std.specs.Prelude.{slice_range, slice_index_or}
 use Rattle.std.proofs.lemmas.List.{drop-append-le, take-append-le, map-append}
 use Rattle.std.proofs.Math.Seq.{drop-append_seam, take-length, length-take-le}
-use Rattle.std.proofs.lemmas.Slice.Eq.{bytes_eq-Decides}
-use Rattle.indexmap.specs.IndexMap.{insert_entry}
 use Rattle.cweb_store.specs.Parts as spec
-use Rattle.cweb_store.specs.Parts.{is_defs}
 use Rattle.cweb_store.specs.declared.tokens.packed.Packed.{Packed}
 use Rattle.cweb_store.specs.declared.tokens.packed.Packed.TheVariants.{Word, Number, Literal, Verbatim, Punct, Blank, Newline, Join, Defs, Name, Head, Tail, Mark}
 use Rattle.cweb_store.specs.PackedTexts.{texts_from, AreEnds, begin_of, text_bytes}
-use Rattle.cweb_store.specs.Words.{TextsAndWords, Entries, AreWords}
+use Rattle.cweb_store.specs.Words.{TextsAndWords}
 use Rattle.cweb_store.specs.Packed.{text_at, token_in, IsWithin, ArePacked, Packs}
 
-ends-le : (n all : ℕ) (ends : List ℕ) → AreEnds n ends all → n ≤ all
+pub ends-le : (n all : ℕ) (ends : List ℕ) → AreEnds n ends all → n ≤ all
 ends-le n all [] h = omega arith
 ends-le n all (e ∷ es) h = omega (arith, h.0, ends-le e all es h.1)
 
-range-grow : (bytes more : List ℕ) (i j : ℕ) → i ≤ j → j ≤ length bytes
+pub range-grow : (bytes more : List ℕ) (i j : ℕ) → i ≤ j → j ≤ length bytes
     → slice_range (bytes ++ more) i j ≡ slice_range bytes i j
 range-grow bytes more i j le within =
     ap (take (j - i)) (drop-append-le i bytes more (omega arith))
@@ -82,7 +78,7 @@ pub bytes-count : (bytes : List ℕ) (ends : List ℕ) → AreEnds 0 ends (lengt
 bytes-count bytes ends h = omega (arith, bytes-from bytes 0 ends h)
 
 -- one more text at the end
-get-grow : (texts more : List (List ℕ)) (n : ℕ) (t : List ℕ)
+pub get-grow : (texts more : List (List ℕ)) (n : ℕ) (t : List ℕ)
     → slice_get texts n ≡ Some t → slice_get (texts ++ more) n ≡ Some t
 get-grow [] more n t h = cc
 get-grow (x ∷ texts) more zero t h = h
@@ -103,38 +99,6 @@ pub get-text : (texts : List (List ℕ)) (n : ℕ) (t : List ℕ) → slice_get 
 get-text [] n t h = cc
 get-text (x ∷ texts) zero t h = let same : x ≡ t = cc in same
 get-text (x ∷ texts) (suc n) t h = get-text texts n t h
-
-pub words-grow : (texts more : List (List ℕ)) (es : Entries) → AreWords texts es → AreWords (texts ++ more) es
-words-grow texts more [] words = tt
-words-grow texts more (e ∷ es) words = (get-grow texts more e.1 e.0 words.0, words-grow texts more es words.1)
-
--- a word that a map has is the text that it says
-pub words-lookup : (texts : List (List ℕ)) (word : List ℕ) (es : Entries) (n : ℕ)
-    → AreWords texts es → lookup (bytes_eq word) es ≡ Some n → slice_get texts n ≡ Some word
-words-lookup texts word [] n words found = cc
-words-lookup texts word (e ∷ es) n words found =
-    (elim (bytes_eq word e.0) as (λ b.
-    bytes_eq word e.0 ≡ b → cond b (Some e.1) (lookup (bytes_eq word) es) ≡ Some n
-    → slice_get texts n ≡ Some word) [
-      | true ↦ λ same at.
-          let is : e.1 ≡ n = cc in
-          let text : word ≡ e.0 = (bytes_eq-Decides word e.0).0 same in
-          ap (slice_get texts) (sym is) ∙ words.0 ∙ ap Some (sym text)
-      | false ↦ λ other at. words-lookup texts word es n words.1 at
-    ]) refl found
-
--- a new word goes into the map
-pub words-insert : (texts : List (List ℕ)) (es : Entries) (key : List ℕ) (n : ℕ)
-    → AreWords texts es → lookup (bytes_eq key) es ≡ None → slice_get texts n ≡ Some key →
-    AreWords texts (insert_entry bytes_eq es key n)
-words-insert texts [] key n words none stands = (stands, tt)
-words-insert texts (e ∷ es) key n words none stands =
-    (elim (bytes_eq key e.0) as (λ b.
-    cond b (Some e.1) (lookup (bytes_eq key) es) ≡ None
-    → AreWords texts (if b then (e.0, n) ∷ es else e ∷ insert_entry bytes_eq es key n)) [
-      | true ↦ λ at. cc
-      | false ↦ λ at. (words.0, words-insert texts es key n words.1 at stands)
-    ]) none
 
 at-grow : (texts more : List (List ℕ)) (n : ℕ) → n < length texts → text_at (texts ++ more) n ≡ text_at texts n
 at-grow [] more n h = absurd (let none : ⊥ = omega arith in none)

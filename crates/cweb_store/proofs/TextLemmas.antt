@@ -1,6 +1,7 @@
 -- Texts in one list of bytes, and how many bytes tokens and texts have.
 use Rattle.std.proofs.Common.{◌≡◌, ℕ, zero, suc, ◌+◌, ◌<◌, true, false, List, [], ◌∷◌, ◌++◌, Some, map, length, take, drop, refl, sym, ◌∙◌, ap, arith, length-append, append_assoc, append-nil, flat_map}
-use Rattle.std.specs.Prelude.{slice_get, filter, if◌then◌else◌}
+use Rattle.std.specs.Prelude.{slice_get, filter, bytes_eq, if◌then◌else◌}
+use Rattle.std.specs.List.{list_any}
 use Rattle.std.proofs.lemmas.List.{take-append-drop, drop-append-le, take-append-le, take-map}
 use Rattle.std.proofs.lemmas.List.Elements.{filter-append}
 use Rattle.cweb_store.specs.Parts as spec
@@ -12,12 +13,12 @@ use Rattle.cweb_store.specs.declared.tokens.packed.Packed.TheVariants.{Word, Num
 use Rattle.cweb_store.specs.Layout.{before_last, without_last, without_last_after, is_blank}
 use Rattle.cweb_store.specs.Trailing.{is_dropped}
 use Rattle.cweb_store.specs.PackedTexts.{text_bytes}
-use Rattle.cweb_store.specs.Words.{TextsAndWords}
+use Rattle.cweb_store.specs.Words.{TextsAndWords, has}
 use Rattle.cweb_store.specs.Packed.{text_at, token_in, IsWithin, ArePacked, Packs}
-use Rattle.cweb_store.specs.Texts.{token_texts, has_text, total, with_word_of, words_of, other_bytes, token_bytes_kept, StandsIn, AllStandIn, AreInOneList}
+use Rattle.cweb_store.specs.Texts.{token_texts, has_text, total, words_of, other_bytes, token_bytes_kept, StandsIn, AllStandIn, AreInOneList}
 use Rattle.cweb_store.specs.ClosedTokens.{with_text, tokens_and_texts, AreTokens, AreClosed}
 use Rattle.cweb_store.proofs.PackedLemmas.{packs-tokens, packs-all, packed-take, packed-grow, tokens-grow}
-use Rattle.cweb_store.proofs.WordLemmas.{total-append, words-push, same-words, same-bytes}
+use Rattle.cweb_store.proofs.WordLemmas.{total-append, words-push, same-words, same-bytes, same-more, same-more-bytes}
 use Rattle.cweb_store.proofs.LayoutLemmas.{take-next}
 
 stands-after : (x bytes text : List ℕ) → StandsIn bytes text → StandsIn (x ++ bytes) text
@@ -158,14 +159,15 @@ packs-are old new ps t p all packs =
     let ts = map (token_in old.texts) ps in
     let tokens : map (token_in new.texts) (ps ++ p ∷ []) ≡ ts ++ t ∷ [] =
     packs-tokens old new ps t p all.packed packs in
-    let words : new.words ≡ words_of (ts ++ t ∷ []) =
-    packs.words ∙ ap (λ ws. with_word_of ws t) all.words ∙ sym (words-push ts t) in
+    let words : (q : List ℕ) → has new q ≡ list_any (bytes_eq q) (words_of (ts ++ t ∷ [])) = λ q.
+    packs.words q ∙ same-more old.words (words_of ts) t all.words q
+    ∙ ap (list_any (bytes_eq q)) (sym (words-push ts t)) in
     let grown : total length new.texts ≡ total length (old.texts ++ packs.more) = ap (total length) packs.grows in
     let bytes : length (text_bytes new.texts) ≡ token_bytes_kept (ts ++ t ∷ []) =
     omega (
       arith,
-      ap (total length) words,
-      ap (total length) all.words,
+      same-more-bytes old.words (words_of ts) t all.words,
+      ap (total length) (words-push ts t),
       grown,
       bytes-total new.texts,
       bytes-total old.texts,
@@ -177,7 +179,7 @@ packs-are old new ps t p all packs =
     ) in
     record {
       packed = packs-all old new ps t p all.packed packs;
-      words = words ∙ ap words_of (sym tokens);
+      words = λ q. words q ∙ ap (λ us. list_any (bytes_eq q) (words_of us)) (sym tokens);
       bytes = bytes ∙ ap token_bytes_kept (sym tokens);
     }
 
@@ -192,7 +194,7 @@ truncate-are kept ps n all same =
     let us = map (token_in kept.texts) (take n ps) in
     record {
       packed = packed-take kept.texts ps n all.packed;
-      words = all.words ∙ same-words ts us fewer;
+      words = λ q. all.words q ∙ ap (list_any (bytes_eq q)) (same-words ts us fewer);
       bytes = all.bytes ∙ same-bytes ts us fewer;
     }
 
@@ -215,12 +217,6 @@ closed-added texts t ps own all = λ i.
       tokens = tokens-grow texts (t ∷ []) ps all.packed i;
       others = drop-append-le own texts (t ∷ []) all.within i;
     }
-
-pub get-drop : (texts : List (List ℕ)) (own n : ℕ) → slice_get (drop own texts) n ≡ slice_get texts (own + n)
-get-drop texts zero n = ap (slice_get texts) (let e : n ≡ zero + n = omega arith in e)
-get-drop [] (suc own) n = cc
-get-drop (t ∷ texts) (suc own) n =
-    get-drop texts own n ∙ ap (slice_get (t ∷ texts)) (let e : suc (own + n) ≡ suc own + n = omega arith in e)
 
 -- all texts in one list of bytes
 pub all-texts : (texts : List (List ℕ)) (ps : List Packed) (own n : ℕ) → AreClosed texts ps own

@@ -1,59 +1,83 @@
 -- Words that are kept once, and how many bytes of tokens are kept.
-use Rattle.std.proofs.Common.{◌≡◌, ℕ, ◌+◌, ◌≤◌, true, false, cond, ◌||◌, List, [], ◌∷◌, ◌++◌, Some, None, map, length, refl, sym, ◌∙◌, ap, arith}
+use Rattle.std.proofs.Common.{◌≡◌, ℕ, ◌+◌, ◌≤◌, true, false, cond, ◌||◌, List, [], ◌∷◌, ◌++◌, length, refl, sym, ◌∙◌, ap, arith}
 use Rattle.std.specs.Prelude.{bytes_eq, filter, fold, if◌then◌else◌}
 use Rattle.std.specs.List.{list_any}
-use Rattle.std.specs.Map.{lookup}
+use Rattle.std.specs.Cmp.Lexicographic.{bytes_decides}
 use Rattle.std.proofs.lemmas.List.Sums.{fold-append}
-use Rattle.indexmap.specs.IndexMap.{insert_entry}
+use Rattle.std.proofs.lemmas.List.Folds.{list_any-append}
 use Rattle.cweb_store.specs.Parts.{Token, Word, Number, Literal, Verbatim, Punct, Blank, Newline, Join, Defs, Name, Head, Tail, Mark}
 use Rattle.cweb_store.specs.Texts.{has_text, token_bytes, total, with_word, with_word_of, words_of, other_bytes, token_bytes_kept}
-use Rattle.cweb_store.specs.Words.{Entries, word_in}
+use Rattle.cweb_store.proofs.ListLemmas.{or-swap}
 
 pub total-append : {A : Type 0} (f : A → ℕ) (xs ys : List A) → total f (xs ++ ys) ≡ total f xs + total f ys
 total-append f [] ys = omega arith
 total-append f (x ∷ xs) ys = omega (arith, total-append f xs ys)
 
--- what is found in the map is one of its words
-pub known-word : (word : List ℕ) (es : Entries) (n : ℕ)
-    → lookup (bytes_eq word) es ≡ Some n → with_word (map word_in es) word ≡ map word_in es
-known-word word es n found = ap (λ b. if b then map word_in es else map word_in es ++ word ∷ []) (among es found)
-  where
-    among : (es : Entries) → lookup (bytes_eq word) es ≡ Some n → list_any (bytes_eq word) (map word_in es) ≡ true
-    among [] found = cc
-    among (e ∷ es) found =
-        (elim (bytes_eq word e.0) as (λ b.
-        cond b (Some e.1) (lookup (bytes_eq word) es) ≡ Some n
-        → (b || list_any (bytes_eq word) (map word_in es)) ≡ true) [
-          | true ↦ λ at. refl
-          | false ↦ λ at. among es at
-        ]) found
+-- a word is among words with one more where it is among them or is that one
+pub with-word-any : (q : List ℕ) (ws : List (List ℕ)) (w : List ℕ)
+    → list_any (bytes_eq q) (with_word ws w) ≡ (list_any (bytes_eq q) ws || bytes_eq q w)
+with-word-any q ws w =
+    (elim (list_any (bytes_eq w) ws) as (λ b. list_any (bytes_eq w) ws ≡ b →
+    list_any (bytes_eq q) (if b then ws else ws ++ w ∷ []) ≡ (list_any (bytes_eq q) ws || bytes_eq q w)) [
+      | true ↦ λ h.
+          (elim (bytes_eq q w) as (λ b. bytes_eq q w ≡ b →
+          list_any (bytes_eq q) ws ≡ (list_any (bytes_eq q) ws || b)) [
+            | true ↦ λ e.
+                ap (λ v. list_any (bytes_eq v) ws) ((bytes_decides q w).0 e) ∙ h
+                ∙ sym (or-swap (list_any (bytes_eq q) ws) true)
+            | false ↦ λ e. sym (or-swap (list_any (bytes_eq q) ws) false)
+          ]) refl
+      | false ↦ λ h.
+          list_any-append (bytes_eq q) ws (w ∷ [])
+          ∙ ap (λ b. list_any (bytes_eq q) ws || b) (or-swap (bytes_eq q w) false)
+    ]) refl
 
--- a word that isn't found comes last
-pub new-word : (es : Entries) (key : List ℕ) (n : ℕ) → lookup (bytes_eq key) es ≡ None →
-    map word_in (insert_entry bytes_eq es key n) ≡ map word_in es ++ key ∷ []
-new-word [] key n none = refl
-new-word (e ∷ es) key n none =
-    (elim (bytes_eq key e.0) as (λ b.
-    cond b (Some e.1) (lookup (bytes_eq key) es) ≡ None
-    → map word_in (if b then (e.0, n) ∷ es else e ∷ insert_entry bytes_eq es key n)
-    ≡ e.0 ∷ (map word_in es ++ key ∷ [])) [
-      | true ↦ λ at. cc
-      | false ↦ λ at. ap (λ ws. e.0 ∷ ws) (new-word es key n at)
-    ]) none
+-- where words are the same in some order, one more token makes the same of them
+pub same-more : (ws vs : List (List ℕ)) (t : Token)
+    → ((q : List ℕ) → list_any (bytes_eq q) ws ≡ list_any (bytes_eq q) vs)
+    → (q : List ℕ) → list_any (bytes_eq q) (with_word_of ws t) ≡ list_any (bytes_eq q) (with_word_of vs t)
+same-more ws vs (Word b) same = λ q.
+    with-word-any q ws b ∙ ap (λ v. v || bytes_eq q b) (same q) ∙ sym (with-word-any q vs b)
+same-more ws vs (Number b) same = same
+same-more ws vs (Literal b) same = same
+same-more ws vs (Verbatim b) same = same
+same-more ws vs (Punct b) same = same
+same-more ws vs Blank same = same
+same-more ws vs Newline same = same
+same-more ws vs Join same = same
+same-more ws vs Defs same = same
+same-more ws vs (Name name) same = same
+same-more ws vs (Head section) same = same
+same-more ws vs (Tail section) same = same
+same-more ws vs (Mark place) same = same
 
-pub other-word : (word : List ℕ) (es : Entries) → lookup (bytes_eq word) es ≡ None
-    → with_word (map word_in es) word ≡ map word_in es ++ word ∷ []
-other-word word es none = ap (λ b. if b then map word_in es else map word_in es ++ word ∷ []) (lacks es none)
-  where
-    lacks : (es : Entries) → lookup (bytes_eq word) es ≡ None → list_any (bytes_eq word) (map word_in es) ≡ false
-    lacks [] none = refl
-    lacks (e ∷ es) none =
-        (elim (bytes_eq word e.0) as (λ b.
-        cond b (Some e.1) (lookup (bytes_eq word) es) ≡ None
-        → (b || list_any (bytes_eq word) (map word_in es)) ≡ false) [
-          | true ↦ λ at. cc
-          | false ↦ λ at. lacks es at
-        ]) none
+word-bytes : (ws : List (List ℕ)) (w : List ℕ)
+    → total length (with_word ws w) ≡ total length ws + cond (list_any (bytes_eq w) ws) 0 (length w)
+word-bytes ws w =
+    elim (list_any (bytes_eq w) ws) as (λ b.
+    total length (if b then ws else ws ++ w ∷ []) ≡ total length ws + cond b 0 (length w)) [
+      | true ↦ omega arith
+      | false ↦ omega (arith, total-append length ws (w ∷ []))
+    ]
+
+-- and as many bytes more
+pub same-more-bytes : (ws vs : List (List ℕ)) (t : Token)
+    → ((q : List ℕ) → list_any (bytes_eq q) ws ≡ list_any (bytes_eq q) vs)
+    → total length (with_word_of ws t) + total length vs ≡ total length (with_word_of vs t) + total length ws
+same-more-bytes ws vs (Word b) same =
+    omega (arith, word-bytes ws b, word-bytes vs b, ap (λ v. cond v 0 (length b)) (same b))
+same-more-bytes ws vs (Number b) same = omega arith
+same-more-bytes ws vs (Literal b) same = omega arith
+same-more-bytes ws vs (Verbatim b) same = omega arith
+same-more-bytes ws vs (Punct b) same = omega arith
+same-more-bytes ws vs Blank same = omega arith
+same-more-bytes ws vs Newline same = omega arith
+same-more-bytes ws vs Join same = omega arith
+same-more-bytes ws vs Defs same = omega arith
+same-more-bytes ws vs (Name name) same = omega arith
+same-more-bytes ws vs (Head section) same = omega arith
+same-more-bytes ws vs (Tail section) same = omega arith
+same-more-bytes ws vs (Mark place) same = omega arith
 
 -- one more token
 pub words-push : (ts : List Token) (t : Token) → words_of (ts ++ t ∷ []) ≡ with_word_of (words_of ts) t

@@ -14,6 +14,8 @@ pub mod PackedTexts
 pub mod ClosedTokens
 pub mod Next
 pub mod Noted
+pub mod Keys
+pub mod Slots
 pub mod Words
 pub mod Packed
 pub mod Trailing

@@ -1,9 +1,11 @@
 -- Tokens of fixed size, which have their texts by number.
-use Rattle.std.specs.Prelude.{◌≡◌, ℕ, ◌<◌, ◌+◌, List, [], ◌∷◌, ◌++◌, length, slice_index_or}
+use Rattle.std.specs.Prelude.{◌≡◌, ℕ, ◌<◌, ◌+◌, List, [], ◌∷◌, ◌++◌, length, slice_index_or, bytes_eq}
+use Rattle.std.specs.List.{list_any}
+use Rattle.cweb_store.specs.Names.{stands}
 use Rattle.cweb_store.specs.Parts as spec
 use Rattle.cweb_store.specs.PackedTexts.{text_bytes}
 use Rattle.cweb_store.specs.Texts.{total, with_word_of, other_bytes}
-use Rattle.cweb_store.specs.Words.{TextsAndWords}
+use Rattle.cweb_store.specs.Words.{TextsAndWords, has}
 use Rattle.cweb_store.specs.declared.tokens.packed.Packed.{Packed}
 use Rattle.cweb_store.specs.declared.tokens.packed.Packed.TheVariants.{Word, Number, Literal, Verbatim, Punct, Blank, Newline, Join, Defs, Name, Head, Tail, Mark}
 
@@ -45,5 +47,6 @@ pub record Packs (old : TextsAndWords) (token : spec.Token) (packed : Packed) (n
   pub grows : new.texts ≡ old.texts ++ more
   pub within : IsWithin (length new.texts) packed
   pub stands : token_in new.texts packed ≡ token
-  pub words : new.words ≡ with_word_of old.words token
-  pub bytes : length (text_bytes more) + total length old.words ≡ total length new.words + other_bytes token
+  pub words : (q : List ℕ) → has new q ≡ list_any (bytes_eq q) (with_word_of old.words token)
+  pub bytes : length (text_bytes more) + total length old.words
+      ≡ total length (with_word_of old.words token) + other_bytes token

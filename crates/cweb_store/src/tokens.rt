@@ -6,7 +6,6 @@ pub mod list;
 pub mod noted;
 pub mod packed;
 pub mod texts;
-pub mod word;
 pub mod words;
 
 use crate::names::NameRef;

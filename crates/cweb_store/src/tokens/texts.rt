@@ -1,6 +1,6 @@
 // Texts in one list of bytes.
 
-ghost use Rattle.std.specs.Prelude.{◌≡◌, ◌<◌, ◌+◌, ◌++◌, ◌∷◌, [], length, slice_get, Some, IfOk, OnOk, OnErr};
+ghost use Rattle.std.specs.Prelude.{◌≡◌, ◌<◌, ◌+◌, ◌++◌, ◌∷◌, [], length, take, slice_get, Some, IfOk, OnOk, OnErr};
 ghost use Rattle.cweb_store.specs.PackedTexts.{begin_of, text_bytes};
 
 use crate::reserved::put;
@@ -53,6 +53,15 @@ impl PackedTexts {
         let number = self.ends.len();
         put(&mut self.ends, self.bytes.len());
         Ok(number)
+    }
+
+    /// Keeps the first texts alone. It takes no memory.
+    pub fn truncate(&mut self, count: usize)
+        requires { count < length self.old }
+        ensures { self.new ≡ take count self.old }
+    {
+        self.bytes.truncate(begin_of(self.ends.as_slice(), count));
+        self.ends.truncate(count);
     }
 
     /// The text with a number.

@@ -1,31 +1,45 @@
 // Texts, of which equal words are kept once.
 
-ghost use Rattle.std.specs.Prelude.{◌≡◌, ◌<◌, bytes_eq, IfOk, OnErr};
-ghost use Rattle.indexmap.specs.IndexMap.{insert_entry, spare};
-ghost use Rattle.cweb_store.specs.Words.{Keeps, KeepsWord, none_kept};
+pub mod growth;
+pub mod key;
+pub mod slot;
+
+ghost use Rattle.std.specs.Prelude.{◌≡◌, false, List, ℕ, IfOk, OnErr};
+ghost use Rattle.cweb_store.specs.Keys.{key_of};
+ghost use Rattle.cweb_store.specs.Words.{Keeps, KeepsWord, has, none_kept};
 
 use crate::tokens::texts::PackedTexts;
-use crate::tokens::word::{Sought, Word};
-use indexmap::IndexMap;
+use crate::tokens::words::growth::{insert_word, spread_wider};
+use crate::tokens::words::key::Key;
+use crate::tokens::words::slot::{Slot, find_slot, free_slots, place_word, window_of};
 use std::alloc::{AllocError, Global};
+use std::collections::BTreeMap;
 use std::marker::Model;
 
-/// Texts, and the numbers of the words among them.
+// How many slots there are at first.
+const FIRST_SLOTS: usize = 64;
+
+/// Texts, and the numbers of the words among them. A word stands in a slot, or in a sorted map where the slots of its
+/// window have other words: so no choice of words makes this slow.
 #[derive(Drop)]
 pub struct WordTexts {
     alloc: Global,
     texts: PackedTexts,
-    words: IndexMap<Word, usize>,
+    slots: Vec<Slot>,
+    // how many more words slots take before there are more of them
+    room: usize,
+    words: BTreeMap<Vec<u8>, usize>,
 }
 
 impl Model for WordTexts {
-    ghost use Rattle.cweb_store.specs.Words.{TextsAndWords, texts_and_words, AreWords};
+    ghost use Rattle.cweb_store.specs.Slots.{IsTable};
+    ghost use Rattle.cweb_store.specs.Words.{TextsAndWords, texts_and_words};
 
     ghost Value = { TextsAndWords };
 
-    ghost view = { λ s. texts_and_words s.texts s.words.entries };
+    ghost view = { λ s. texts_and_words s.texts s.slots.items s.words.entries };
 
-    ghost invariant = { λ s. AreWords s.texts s.words.entries };
+    ghost invariant = { λ s. IsTable s.texts s.slots.items s.words.entries };
 }
 
 impl WordTexts {
@@ -35,7 +49,9 @@ impl WordTexts {
         WordTexts {
             alloc,
             texts: PackedTexts::new(alloc),
-            words: IndexMap::new(alloc),
+            slots: Vec::new(alloc),
+            room: 0,
+            words: BTreeMap::new(alloc),
         }
     }
 
@@ -53,14 +69,75 @@ impl WordTexts {
         ensures ok { IfOk result (λ number. KeepsWord self.old word.now number self.new) }
         ensures err { OnErr result (self.new ≡ self.old) }
     {
-        if let Some(number) = self.words.get(Sought(word)).copied() {
+        let key = Key::of(word);
+        let window = window_of(self.slots.as_slice(), key);
+        if let Some(number) = find_slot(&self.texts, window, key, word) {
             return Ok(number);
         }
-        let key = Word::new(self.alloc, word)?;
-        self.words.reserve(1)?;
-        let number = self.texts.add(word)?;
-        put_word(&mut self.words, key, number);
+        if let Some(number) = self.words.get(word).copied() {
+            return Ok(number);
+        }
+        self.keep_new(key, word)
+    }
+
+    // Keeps a word that wasn't kept before.
+    fn keep_new(&mut self, key: Key, word: &[u8]) -> Result<usize, AllocError>
+        requires key { key ≡ key_of word.now }
+        requires absent { has self.old word.now ≡ false }
+        ensures ok { IfOk result (λ number. KeepsWord self.old word.now number self.new) }
+        ensures err { OnErr result (self.new ≡ self.old) }
+    {
+        self.begin();
+        let number = self.put_new(key, word)?;
+        if self.room == 0 {
+            self.grow();
+        }
         Ok(number)
+    }
+
+    // Puts a word that wasn't kept before into a slot, or into the map.
+    fn put_new(&mut self, key: Key, word: &[u8]) -> Result<usize, AllocError>
+        requires key { key ≡ key_of word.now }
+        requires absent { has self.old word.now ≡ false }
+        ensures ok { IfOk result (λ number. KeepsWord self.old word.now number self.new) }
+        ensures err { OnErr result (self.new ≡ self.old) }
+    {
+        let number = self.texts.add(word)?;
+        if place_word(&mut self.slots, key, number, word.len()) {
+            self.room = self.room.saturating_sub(1);
+            return Ok(number);
+        }
+        if let Err(refusal) = insert_word(self.alloc, &mut self.words, word, number) {
+            self.texts.truncate(number);
+            return Err(refusal);
+        }
+        Ok(number)
+    }
+
+    // Makes the first slots, if there are none, and memory is there.
+    fn begin(&mut self)
+        ensures { self.new ≡ self.old }
+    {
+        if self.slots.len() != 0 {
+            return;
+        }
+        if let Ok(slots) = free_slots(self.alloc, FIRST_SLOTS) {
+            self.slots = slots;
+            self.room = FIRST_SLOTS / 2;
+        }
+    }
+
+    // Makes twice as many slots, if memory is there.
+    fn grow(&mut self)
+        ensures texts { self.new.texts ≡ self.old.texts }
+        ensures words { (q : List ℕ) → has self.new q ≡ has self.old q }
+    {
+        let half = self.slots.len() / 2;
+        let old = self.slots.as_slice();
+        if let Ok(slots) = spread_wider(self.alloc, &self.texts, old, &mut self.words) {
+            self.slots = slots;
+            self.room = half;
+        }
     }
 
     /// The texts.
@@ -77,16 +154,10 @@ impl WordTexts {
         let WordTexts {
             alloc: _,
             texts,
+            slots: _,
+            room: _,
             words: _,
         } = self;
         texts
     }
-}
-
-// Adds a word for which there is room.
-fn put_word(words: &mut IndexMap<Word, usize>, key: Word, number: usize)
-    requires { 0 < spare words.old }
-    ensures { words.new.entries ≡ insert_entry bytes_eq words.old.entries key number }
-{
-    let _ = words.insert(key, number);
 }

@@ -3,7 +3,7 @@ use Rattle.std.specs.Prelude.{slice_get}
 use Rattle.std.proofs.lemmas.Option.{get_or_from_slice_get}
 use Rattle.cweb_store.specs.Replacements.{replacement}
 use Rattle.cweb_store.specs.Stored.{last_from}
-use Rattle.cweb_store.proofs.TextLemmas.{get-drop}
+use Rattle.cweb_store.proofs.ListLemmas.{get-drop}
 use Rattle.cweb_store.proofs.StoredLemmas.{at_last, last-is, last-within}
 use Rattle.cweb_store.proofs.store.Store.replacement.Goals as goal
 

@@ -1,6 +1,6 @@
 use Rattle.std.proofs.Common.{◌≡◌, length, drop, ◌∙◌, ap, sym, arith, length-drop}
 use Rattle.std.specs.Prelude.{slice_get}
-use Rattle.cweb_store.proofs.TextLemmas.{get-drop}
+use Rattle.cweb_store.proofs.ListLemmas.{get-drop}
 use Rattle.cweb_store.proofs.tokens.closed.ClosedTokens.other.Goals as goal
 
 pub text_behind-requires : goal.text_behind-requires

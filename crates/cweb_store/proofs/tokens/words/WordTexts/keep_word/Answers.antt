@@ -1,72 +1,54 @@
-use Rattle.std.proofs.Common.{◌≡◌, ◌++◌, ℕ, [], ◌∷◌, sym, ◌∙◌, ap, map, Some, None, refl, append-nil, List, arith, length-append, length}
-use Rattle.std.specs.Prelude.{bytes_eq}
+use Rattle.std.proofs.Common.{◌≡◌, Some, None, ℕ, List, Vec, false, sym, subst, ◌∙◌, ap}
+use Rattle.std.specs.List.{list_any}
 use Rattle.std.specs.Map.{lookup}
-use Rattle.indexmap.specs.IndexMap.{insert_entry}
-use Rattle.cweb_store.specs.Texts.{total}
-use Rattle.cweb_store.specs.Words.{KeepsWord, word_in, texts_and_words}
-use Rattle.cweb_store.proofs.PackedLemmas.{words-grow, words-lookup, words-insert, get-last}
-use Rattle.cweb_store.proofs.WordLemmas.{known-word, new-word, other-word, total-append}
+use Rattle.std.specs.Ordering.{is_eq, nat_cmp}
+use Rattle.std.specs.Cmp.Lexicographic.{slice_cmp}
+use Rattle.std.specs.declared.alloc.Global.{Global}
+use Rattle.cweb_store.specs.declared.tokens.words.slot.Slot.{Slot}
+use Rattle.cweb_store.specs.Keys.{key_of}
+use Rattle.cweb_store.specs.Slots.{AllHold, IsFound, slot_is, window_of}
+use Rattle.cweb_store.specs.Words.{has}
+use Rattle.cweb_store.proofs.SlotLemmas.{window-hold}
+use Rattle.cweb_store.proofs.KeepLemmas.{slot-known, word-known, not-kept}
 use Rattle.cweb_store.proofs.tokens.words.WordTexts.keep_word.Goals as goal
+
+pub find_slot-requires-clause-hold : goal.find_slot-requires-clause-hold
+find_slot-requires-clause-hold c =
+    let s = c.self.inside in
+    let key = c.of-key.result in
+    let window : c.window_of-window.result.now ≡ window_of key s.slots.items =
+    c.window_of-window.ensures ∙ ap (window_of key) c.as_slice.ensures.value in
+    subst (λ (w : List Slot). AllHold s.texts w) (sym window)
+    (window-hold s.texts key s.slots.items c.self.invariant.in_slots.hold)
 
 pub returns-in-Some-clause-ok : goal.returns-in-Some-clause-ok
 returns-in-Some-clause-ok c =
     let s = c.self.inside in
     let word = c.args.word.now in
-    let entries = s.words.entries in
-    let number = c.in-Some.number in
-    let found : lookup (bytes_eq word) entries ≡ Some number =
-    sym c.get.ensures.value ∙ sym c.copied.ensures ∙ c.in-Some.is in
-    let keeps : KeepsWord (texts_and_words s.texts entries) word number (texts_and_words s.texts entries) = record {
-      more = [];
-      grows = sym (append-nil s.texts);
-      stands = words-lookup s.texts word entries number c.self.invariant found;
-      words = sym (known-word word entries number found);
-      bytes = omega arith;
-    } in
-    rw (← c.self.view_is) keeps
+    let window : c.window_of-window.result.now ≡ window_of (key_of word) s.slots.items =
+    c.window_of-window.ensures ∙ (λ i. window_of (c.of-key.ensures i) (c.as_slice.ensures.value i)) in
+    rw (← c.self.view_is)
+    (slot-known s.texts word s.slots.items s.words.entries c.in-Some.number
+    (subst (λ (w : List Slot). IsFound s.texts w word c.in-Some.number) window c.in-Some.ensures))
 
-pub invariant_of-self-2 : goal.invariant_of-self-2
-invariant_of-self-2 c =
+pub returns-in-Some-copied-clause-ok : goal.returns-in-Some-copied-clause-ok
+returns-in-Some-copied-clause-ok c =
     let s = c.self.inside in
     let word = c.args.word.now in
-    let entries = s.words.entries in
-    let key = c.in_ok-key.key in
-    let is : key ≡ word = c.in_ok-key.ensures in
-    let none : lookup (bytes_eq key) entries ≡ None =
-    ap (λ q. lookup (bytes_eq q) entries) is ∙ sym c.get.ensures.value ∙ sym c.copied.ensures ∙ c.in_default.is in
-    let inserted =
-    words-insert (s.texts ++ word ∷ []) entries key c.in_ok-number.number
-    (words-grow s.texts (word ∷ []) entries c.self.invariant) none
-    (get-last s.texts word c.in_ok-number.number c.in_ok-number.ensures.number ∙ ap Some (sym is)) in
-    rw (c.put_word.ensures, c.in_ok-reserve.ensures.entries, c.in_ok-number.ensures.added) inserted
+    let number = c.in-Some-copied.number in
+    let found : lookup (λ (k : Vec ℕ Global). is_eq (slice_cmp nat_cmp word k.items)) s.words.entries ≡ Some number =
+    sym c.get.ensures.value ∙ sym c.copied.ensures ∙ c.in-Some-copied.is in
+    rw (← c.self.view_is) (word-known s.texts word s.slots.items s.words.entries number c.self.invariant found)
 
-pub returns-clause-ok : goal.returns-clause-ok
-returns-clause-ok c =
+pub keep_new-requires-clause-absent : goal.keep_new-requires-clause-absent
+keep_new-requires-clause-absent c =
     let s = c.self.inside in
-    let texts = s.texts in
     let word = c.args.word.now in
-    let entries = s.words.entries in
-    let key = c.in_ok-key.key in
-    let number = c.in_ok-number.number in
-    let is : key ≡ word = c.in_ok-key.ensures in
-    let lacks : lookup (bytes_eq word) entries ≡ None =
-    sym c.get.ensures.value ∙ sym c.copied.ensures ∙ c.in_default.is in
-    let none : lookup (bytes_eq key) entries ≡ None = ap (λ q. lookup (bytes_eq q) entries) is ∙ lacks in
-    let more = insert_entry bytes_eq entries key number in
-    let last : map word_in more ≡ map word_in entries ++ word ∷ [] =
-    new-word entries key number none ∙ ap (λ w. map word_in entries ++ w ∷ []) is in
-    let keeps : KeepsWord (texts_and_words texts entries) word number (texts_and_words (texts ++ word ∷ []) more) =
-    record {
-      more = word ∷ [];
-      grows = refl;
-      stands = get-last texts word number c.in_ok-number.ensures.number;
-      words = last ∙ sym (other-word word entries lacks);
-      bytes =
-          omega (
-            arith,
-            length-append word (let nothing : List ℕ = [] in nothing),
-            ap (total length) last,
-            total-append length (map word_in entries) (word ∷ []),
-          );
-    } in
-    rw (c.put_word.ensures, c.in_ok-reserve.ensures.entries, c.in_ok-number.ensures.added, ← c.self.view_is) keeps
+    let window : c.window_of-window.result.now ≡ window_of (key_of word) s.slots.items =
+    c.window_of-window.ensures ∙ (λ i. window_of (c.of-key.ensures i) (c.as_slice.ensures.value i)) in
+    let none : list_any (slot_is s.texts word) (window_of (key_of word) s.slots.items) ≡ false =
+    ap (list_any (slot_is s.texts word)) (sym window) ∙ c.in_default.ensures in
+    let absent : lookup (λ (k : Vec ℕ Global). is_eq (slice_cmp nat_cmp word k.items)) s.words.entries ≡ None =
+    sym c.get.ensures.value ∙ sym c.copied.ensures ∙ c.in_default-copied.is in
+    ap (λ k. has k word) (sym c.self.view_is)
+    ∙ not-kept s.texts word s.slots.items s.words.entries c.self.invariant none absent

@@ -1,0 +1,36 @@
+-- The key of a word, and where the words of a key stand in a table.
+use Rattle.std.specs.Prelude.{ℕ, ◌+◌, ◌-◌, ◌*◌, ◌/◌, ◌%◌, ◌^◌, nat_lt, List, length, take, drop, slice_index_or, if◌then◌else◌}
+use Rattle.std.specs.Int.{w32, w64, from_le_bytes}
+use Rattle.cweb_store.specs.declared.tokens.words.key.Key.{Key}
+
+abbrev pub short_key : List ℕ → Key
+short_key word = record {
+  first = slice_index_or word 0 0 + 256 * slice_index_or word 1 0;
+  last = slice_index_or word 2 0;
+}
+
+abbrev pub middle_key : List ℕ → Key
+middle_key word = record {
+  first = from_le_bytes w32 (take 4 word);
+  last = from_le_bytes w32 (drop (length word - 4) word);
+}
+
+abbrev pub long_key : List ℕ → Key
+long_key word = record {
+  first = from_le_bytes w64 (take 8 word);
+  last = from_le_bytes w64 (drop (length word - 8) word);
+}
+
+-- the numbers that the first bytes of a word and its last ones make: eight of each, or four, or what there is
+unfoldable pub key_of : List ℕ → Key
+key_of word =
+    if nat_lt (length word) 4 then short_key word
+    else (if nat_lt (length word) 8 then middle_key word else long_key word)
+
+-- the two numbers mixed into one
+unfoldable pub mixed : Key → ℕ
+mixed key = ((((key.first * 0x9E3779B97F4A7C15) % 2 ^ 64 + key.last) % 2 ^ 64) * 0xD6E8FEB86659FD93) % 2 ^ 64
+
+-- where the window of a key begins among n slots
+unfoldable pub home_of : Key → ℕ → ℕ
+home_of key n = (mixed key * n) / 2 ^ 64
