@@ -1,6 +1,6 @@
 -- The tokens that are printed as the text that they lend, whatever stands to their left.
-use Rattle.std.specs.Prelude.{ℕ, Bool, List, [], codes, Option, Some, None, nat_le, if◌then◌else◌}
-use Rattle.std.specs.List.{list_any}
+use Rattle.std.specs.Prelude.{◌≡◌, ℕ, Bool, true, false, List, [], codes, Option, Some, None, is_some, nat_le, if◌then◌else◌}
+use Rattle.std.specs.List.{list_all, list_any}
 use Rattle.cweb_store.specs.Parts.{Token, Word, Number, Literal, Verbatim, Punct, Blank, Newline}
 
 -- a byte that is not ASCII
@@ -21,3 +21,10 @@ lent_text joined t = None
 -- a blank, or nothing
 abbrev pub blank_where : Bool → List ℕ
 blank_where is_apart = if is_apart then codes " " else []
+
+-- a token lends its text where no join is open
+abbrev pub is_lent : Token → Bool
+is_lent t = is_some (lent_text false t)
+
+abbrev pub AreLent : List Token → Type 0
+AreLent ts = list_all is_lent ts ≡ true

@@ -10,6 +10,7 @@ pub mod Classes
 pub mod Lent
 pub mod Printers
 pub mod Printed
+pub mod Gathering
 pub mod Plans
 pub mod Frames
 pub mod Bins

@@ -8,6 +8,7 @@ ghost use Rattle.cweb_out.specs.Outputs.{IsPlanOf, root_at, root_list};
 ghost use Rattle.cweb_out.specs.Frames.{Advances, AreBelow, Enters, Gives, Stands, UsesLower, left, level};
 
 pub mod frame;
+pub mod gathering;
 
 use crate::expander::frame::Frame;
 use crate::planning::planned::Plan;

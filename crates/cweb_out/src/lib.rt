@@ -10,6 +10,9 @@ mod expander;
 // how tokens are printed
 mod printer;
 
+// what was printed and is still to be written
+mod gathered;
+
 // where files are kept
 mod bins;
 
@@ -23,6 +26,7 @@ pub use bins::memory::{BinFile, MemoryBins};
 pub use bins::{BinFault, Bins};
 pub use expander::Expander;
 pub use expander::frame::Frame;
+pub use gathered::Gathered;
 pub use planning::fault::PlanFault;
 pub use planning::plan;
 pub use planning::planned::Plan;

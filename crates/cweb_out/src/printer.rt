@@ -9,11 +9,15 @@ ghost use Rattle.cweb_out.specs.Printed.{Ends, Moves, Prints, kept_of, setting_o
 ghost use Rattle.cweb_out.specs.Writing.{Wrote};
 
 pub mod class;
+pub mod finishing;
+pub mod gathering;
 pub mod left;
 pub mod lent;
 pub mod macros;
 pub mod mark;
 pub mod pieces;
+pub mod run;
+pub mod short;
 pub mod text;
 
 use crate::printer::class::Class;

@@ -1,0 +1,97 @@
+-- The top frame of a stack passes tokens that lend their texts.
+use Rattle.std.proofs.Common.{◌≡◌, ◌≤◌, ◌<◌, ◌+◌, ◌-◌, ◌++◌, ◌∷◌, [], ℕ, List, length, take, drop, slice_range, true, false, refl, sym, ◌∙◌, ap, arith, subst, append_assoc}
+use Rattle.std.specs.List.{list_all}
+use Rattle.std.proofs.Math.ListN.{set}
+use Rattle.std.proofs.Math.Seq.{take-add}
+use Rattle.std.proofs.lemmas.List.{drop-drop}
+use Rattle.cweb_store.specs.declared.names.NameId.{NameId}
+use Rattle.cweb_store.specs.Parts.{Token, all_tokens}
+use Rattle.cweb_store.specs.Calls.{Stored}
+use Rattle.cweb_out.specs.Uses.{names, uses}
+use Rattle.cweb_out.specs.Ranks.{ends_below, list_ends}
+use Rattle.cweb_out.specs.Expansion.{expand, name_text}
+use Rattle.cweb_out.specs.Outputs.{defs_first, root_list}
+use Rattle.cweb_out.specs.declared.expander.frame.Frame.{Frame}
+use Rattle.cweb_out.specs.Frames.{suffix, left, rank, top_rank, IsWithin, Stands, run_tokens, runs_tokens}
+use Rattle.cweb_out.specs.Lent.{AreLent}
+use Rattle.cweb_out.proofs.Owners.{OnTop}
+use Rattle.cweb_out.proofs.Passing.{put-all-lent, uses-lent}
+use Rattle.cweb_out.proofs.Stack.{Stands-push, Top, left_of-push}
+use Rattle.cweb_out.proofs.Tops.{HasTop, lower, stands_lower, top_read, top_written}
+
+range_split : (ts : List Token) (a b c : ℕ) → a ≤ b → b ≤ c
+    → slice_range ts a c ≡ slice_range ts a b ++ slice_range ts b c
+range_split ts a b c ab bc =
+    let whole : c - a ≡ (b - a) + (c - b) = omega (arith, ab, bc) in
+    let at : a + (b - a) ≡ b = omega (arith, ab) in
+    ap (λ n. take n (drop a ts)) whole ∙ take-add (b - a) (c - b) (drop a ts)
+    ∙ ap (λ (us : List Token). slice_range ts a b ++ take (c - b) us)
+    (drop-drop (b - a) a ts ∙ ap (λ n. drop n ts) at)
+
+-- the part goes on at a later token
+pub suffix-passed : (w : Stored) (f : Frame) (n : ℕ) → f.defs ≡ false → f.part.first ≤ n → n ≤ f.part.after
+    → suffix w f ≡ slice_range (all_tokens w.parts) f.part.first n
+    ++ suffix w (record {
+      owner = f.owner;
+      defs = f.defs;
+      part = record { first = n; after = f.part.after };
+      rest = f.rest;
+    })
+suffix-passed w f n none from upto =
+    let passed = slice_range (all_tokens w.parts) f.part.first n in
+    let still = slice_range (all_tokens w.parts) n f.part.after in
+    ap (λ b. defs_first b ++ (run_tokens w f.part ++ runs_tokens w f.rest)) none
+    ∙ ap (λ (ts : List Token). ts ++ runs_tokens w f.rest)
+    (range_split (all_tokens w.parts) f.part.first n f.part.after from upto)
+    ∙ append_assoc passed still (runs_tokens w f.rest)
+    ∙ ap (λ b. passed ++ (defs_first b ++ (still ++ runs_tokens w f.rest))) (sym none)
+
+Top-passed : (w : Stored) (k : ℕ) (fs : List Frame) (f g : Frame) (ts : List Token) → suffix w f ≡ ts ++ suffix w g
+    → AreLent ts → IsWithin w g → Top w k fs f → Top w k fs g
+Top-passed w k fs f g ts s lent within h = record {
+  ranked = h.ranked;
+  within = within;
+  below = subst (λ (ns : List NameId). list_all (ends_below w (k - length fs)) ns ≡ true)
+      (ap (uses w) s ∙ uses-lent w ts (suffix w g) lent) h.below;
+}
+
+OnTop-passed : (w : Stored) (above : ℕ) (fs : List Frame) (f g : Frame) (ts : List Token)
+    → suffix w f ≡ ts ++ suffix w g → g.owner ≡ f.owner → OnTop w above fs f → OnTop w above fs g
+OnTop-passed w above fs f g ts s o h = record {
+  below = h.below;
+  owned = record {
+    given = h.owned.given ++ ts;
+    list =
+        ap (root_list w) o ∙ h.owned.list ∙ ap (λ (us : List Token). h.owned.given ++ us) s
+        ∙ sym (append_assoc h.owned.given ts (suffix w g));
+    ends = subst (λ p. list_ends w (root_list w p) ≡ true) (sym o) h.owned.ends;
+  };
+  lower = subst (λ p. rank w p < top_rank w above fs) (sym o) h.lower;
+}
+
+-- the top passed tokens
+pub record TopPassed (w : Stored) (fs new : List Frame) (ts : List Token) (room : ℕ) : Type 0 where
+  pub stands : Stands w new room
+  pub left : left w fs ≡ ts ++ left w new
+
+pub top_passed : (w : Stored) (n : ℕ) (fs : List Frame) (f g : Frame) (ts : List Token) (room : ℕ)
+    → Stands w fs room → HasTop n fs f → suffix w f ≡ ts ++ suffix w g → AreLent ts
+    → IsWithin w g → g.owner ≡ f.owner → TopPassed w fs (set fs (n - 1) g) ts room
+top_passed w n fs f g ts room s h goes lent i o =
+    let below : List Frame = lower n fs in
+    let both : fs ≡ below ++ f ∷ [] = top_read n fs f h in
+    let after : set fs (n - 1) g ≡ below ++ g ∷ [] = top_written n fs f g h in
+    let p = stands_lower w n fs f room s h in
+    let k : ℕ = names w - length below in
+    record {
+      stands =
+          Stands-push w (set fs (n - 1) g) below g room room after refl p.0
+          (Top-passed w (names w) below f g ts goes lent i p.1) p.2
+          (OnTop-passed w (names w + 1) below f g ts goes o p.3);
+      left =
+          ap (left w) both ∙ left_of-push w (names w) below f
+          ∙ ap (λ (us : List Token). expand w k us ++ left w below) goes
+          ∙ ap (λ (us : List Token). us ++ left w below) (put-all-lent w (name_text w k) ts (suffix w g) lent)
+          ∙ append_assoc ts (expand w k (suffix w g)) (left w below)
+          ∙ ap (λ (us : List Token). ts ++ us) (sym (ap (left w) after ∙ left_of-push w (names w) below g));
+    }

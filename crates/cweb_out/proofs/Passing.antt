@@ -1,0 +1,134 @@
+-- Tokens that lend their texts: no frame is put on top for them, and printing them one after another.
+use Rattle.std.proofs.Common.{◌≡◌, ◌++◌, ◌∙◌, [], ◌∷◌, refl, sym, ap, append_assoc, append-nil, ℕ, List, Bool, true, false, ◌&&◌, Some}
+use Rattle.std.specs.Prelude.{flat_map, is_some}
+use Rattle.std.specs.List.{list_all}
+use Rattle.cweb_store.specs.declared.names.NameId.{NameId}
+use Rattle.cweb_store.specs.Parts.{Token, Word, Number, Literal, Verbatim, Punct, Blank, Newline, Join, Defs, Name, Head, Tail, Mark}
+use Rattle.cweb_store.specs.Calls.{Stored}
+use Rattle.cweb_out.specs.Uses.{use_of, uses}
+use Rattle.cweb_out.specs.Expansion.{put}
+use Rattle.cweb_out.specs.Printing.{print}
+use Rattle.cweb_out.specs.declared.printer.left.Left.{Left}
+use Rattle.cweb_out.specs.declared.printer.Printer.{Printer}
+use Rattle.cweb_out.specs.Classes.{is_apart, leaves, left_by}
+use Rattle.cweb_out.specs.Lent.{AreLent, blank_where, is_lent, lent_text}
+use Rattle.cweb_out.specs.Printed.{kept_of, setting_of}
+use Rattle.cweb_out.specs.Gathering.{Gathers, MovesBy, PrintsBy}
+use Rattle.cweb_out.proofs.Lending.{leaves-lent, print-lent}
+use Rattle.cweb_out.proofs.Ranks.{and-first}
+use Rattle.cweb_out.proofs.Steps.{leaves-push}
+
+-- what is lent in one place is lent where no join is open
+lent-open : (joined : Bool) (t : Token) (text : List ℕ) → lent_text joined t ≡ Some text → is_lent t ≡ true
+lent-open joined (Word b) text h = ap is_some h
+lent-open joined (Number b) text h = refl
+lent-open joined (Literal b) text h = refl
+lent-open joined (Verbatim b) text h = refl
+lent-open joined (Punct b) text h = refl
+lent-open joined Blank text h = refl
+lent-open joined Newline text h = refl
+lent-open joined Join text h = cc
+lent-open joined Defs text h = cc
+lent-open joined (Name r) text h = cc
+lent-open joined (Head n) text h = cc
+lent-open joined (Tail n) text h = cc
+lent-open joined (Mark p) text h = cc
+
+put-lent : (w : Stored) (text : NameId → List Token) (t : Token) → is_lent t ≡ true → put w text t ≡ t ∷ []
+put-lent w text (Word b) h = refl
+put-lent w text (Number b) h = refl
+put-lent w text (Literal b) h = refl
+put-lent w text (Verbatim b) h = refl
+put-lent w text (Punct b) h = refl
+put-lent w text Blank h = refl
+put-lent w text Newline h = refl
+put-lent w text Join h = refl
+put-lent w text Defs h = refl
+put-lent w text (Name r) h = cc
+put-lent w text (Head n) h = refl
+put-lent w text (Tail n) h = refl
+put-lent w text (Mark p) h = refl
+
+use-lent : (w : Stored) (t : Token) → is_lent t ≡ true → use_of w t ≡ []
+use-lent w (Word b) h = refl
+use-lent w (Number b) h = refl
+use-lent w (Literal b) h = refl
+use-lent w (Verbatim b) h = refl
+use-lent w (Punct b) h = refl
+use-lent w Blank h = refl
+use-lent w Newline h = refl
+use-lent w Join h = refl
+use-lent w Defs h = refl
+use-lent w (Name r) h = cc
+use-lent w (Head n) h = refl
+use-lent w (Tail n) h = refl
+use-lent w (Mark p) h = refl
+
+and-rest : (a b : Bool) → (a && b) ≡ true → b ≡ true
+and-rest true b h = h
+and-rest false b h = cc
+
+-- such tokens stay as they are
+pub put-all-lent : (w : Stored) (text : NameId → List Token) (ts rest : List Token) → AreLent ts
+    → flat_map (put w text) (ts ++ rest) ≡ ts ++ flat_map (put w text) rest
+put-all-lent w text [] rest h = refl
+put-all-lent w text (t ∷ ts) rest h =
+    ap (λ (us : List Token). us ++ flat_map (put w text) (ts ++ rest))
+    (put-lent w text t (and-first (is_lent t) (list_all is_lent ts) h))
+    ∙ ap (λ (us : List Token). t ∷ us) (put-all-lent w text ts rest (and-rest (is_lent t) (list_all is_lent ts) h))
+
+-- and use no name
+pub uses-lent : (w : Stored) (ts rest : List Token) → AreLent ts → uses w (ts ++ rest) ≡ uses w rest
+uses-lent w [] rest h = refl
+uses-lent w (t ∷ ts) rest h =
+    ap (λ (ns : List NameId). ns ++ uses w (ts ++ rest)) (use-lent w t (and-first (is_lent t) (list_all is_lent ts) h))
+    ∙ uses-lent w ts rest (and-rest (is_lent t) (list_all is_lent ts) h)
+
+lent-push : (ts : List Token) (t : Token) → AreLent ts → is_lent t ≡ true → AreLent (ts ++ t ∷ [])
+lent-push [] t h e = ap (λ b. b && true) e
+lent-push (x ∷ xs) t h e =
+    ap (λ b. b && list_all is_lent (xs ++ t ∷ [])) (and-first (is_lent x) (list_all is_lent xs) h)
+    ∙ lent-push xs t (and-rest (is_lent x) (list_all is_lent xs) h) e
+
+-- tokens were printed one after another, and this is kept after them
+pub record Passed (p : Printer) (ts : List Token) (left : Left) (old new : List ℕ) : Type 0 where
+  pub lent : AreLent ts
+  pub moves : MovesBy (kept_of p) ts left
+  pub prints : PrintsBy p ts old new
+
+pub passed_none : (p : Printer) (old : List ℕ) → Passed p [] (kept_of p) old old
+passed_none p old = record {
+  lent = refl;
+  moves = λ done is. ap leaves (append-nil done) ∙ is;
+  prints = λ done is. record {
+    bytes = [];
+    due =
+        ap (print (setting_of p)) (append-nil done) ∙ sym (append-nil (print (setting_of p) done));
+    written = sym (append-nil old);
+  };
+}
+
+pub passed_more : (p : Printer) (ts : List Token) (left after : Left) (t : Token) (old mid new : List ℕ)
+    → Passed p ts left old mid → Gathers left t after mid new → Passed p (ts ++ t ∷ []) after old new
+passed_more p ts left after t old mid new passed g =
+    let s = setting_of p in
+    let more : List ℕ = blank_where (is_apart left.class t) ++ g.text in
+    let is_after : left_by left t ≡ after =
+    leaves-lent left t g.text g.lent ∙ (λ i. record { class = sym g.class i; joined = sym g.closed i }) in
+    record {
+      lent = lent-push ts t passed.lent (lent-open left.joined t g.text g.lent);
+      moves = λ done is.
+          ap leaves (sym (append_assoc done ts (t ∷ []))) ∙ leaves-push (done ++ ts) t
+          ∙ ap (λ (l : Left). left_by l t) (passed.moves done is) ∙ is_after;
+      prints = λ done is.
+          let so_far = passed.prints done is in
+          record {
+            bytes = so_far.bytes ++ more;
+            due =
+                ap (print s) (sym (append_assoc done ts (t ∷ [])))
+                ∙ print-lent s left (done ++ ts) t (is_apart left.class t) g.text (passed.moves done is) refl g.lent
+                ∙ ap (λ (u : List ℕ). u ++ more) so_far.due ∙ append_assoc (print s done) so_far.bytes more;
+            written =
+                g.added ∙ ap (λ (u : List ℕ). u ++ more) so_far.written ∙ append_assoc old so_far.bytes more;
+          };
+    }

@@ -1,0 +1,44 @@
+// Printing to where bytes are gathered for a sink.
+ghost use Rattle.std.specs.Prelude.{◌≡◌, ◌<◌, ◌+◌, ◌^◌, ◌++◌, IsTrue, OnOk, OnErr};
+ghost use Rattle.cweb_files.specs.Device.{Counts};
+ghost use Rattle.cweb_store.specs.Seen.{seen};
+ghost use Rattle.cweb_out.specs.Printers.{IsNamed};
+ghost use Rattle.cweb_out.specs.Printed.{Moves, Prints, kept_of, setting_of};
+
+use crate::gathered::Gathered;
+use crate::printer::Printer;
+use crate::printer::short::ShortText;
+use cweb_files::{Sink, SinkFault};
+use cweb_store::Token;
+
+impl<'a> Printer<'a> {
+    /// Prints a token as `write` does, behind what is gathered: what the sink has and what is gathered for it, taken
+    /// together, are what the sink alone has after `write`. A text that isn't short goes to the sink at once.
+    pub fn gather<W: Sink>(
+        &mut self,
+        token: Token<'_>,
+        gathered: &mut Gathered,
+        out: &mut W,
+    ) -> Result<(), SinkFault>
+        requires count { W.failed out.old + 1 < 2 ^ 64 }
+        requires named { IsNamed (setting_of self.old) (seen token) }
+        ensures tells { W.tells out.new ≡ W.tells out.old }
+        ensures failed { Counts (W.failed out.old) (W.failed out.new) result }
+        ensures beside { IsTrue (W.tells out.old) → W.beside out.new ≡ W.beside out.old }
+        ensures setting { setting_of self.new ≡ setting_of self.old }
+        ensures moves { OnOk result
+            (Moves (kept_of self.old) (seen token.entry) (kept_of self.new)) }
+        ensures err { OnErr result (self.new ≡ self.old) }
+        ensures prints { IsTrue (W.tells out.old) → Prints self.old (seen token.entry)
+            (W.written out.old ++ gathered.old) (W.written out.new ++ gathered.new) result }
+    {
+        gathered.make_room(out)?;
+        let mut text = ShortText::new();
+        if self.print(&token, &mut text).is_ok() {
+            gathered.add(text.as_slice());
+            return Ok(());
+        }
+        gathered.flush(out)?;
+        self.print(&token, out)
+    }
+}
