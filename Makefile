@@ -5,9 +5,7 @@ BINDIR ?= $(PREFIX)/bin
 MANDIR ?= $(PREFIX)/share/man
 CTANGLE := crates/ctangle/out/ctangle
 WMERGE := crates/wmerge/out/wmerge
-OUTPUTS := crates/bench_out/out/bench_out
-SCANS := crates/bench_scan/out/bench_scan
-STORES := crates/bench_store/out/bench_store
+BENCH := crates/bench/out/bench
 KIT := rattle-kit-13f
 # a check by several jobs takes 1 to 4 GB
 JOBS ?= $(shell nproc)
@@ -85,28 +83,17 @@ uninstall:
 	rm -f "$(DESTDIR)$(BINDIR)/ctangle" "$(DESTDIR)$(BINDIR)/wmerge"
 	rm -f "$(DESTDIR)$(MANDIR)/man1/ctangle.1" "$(DESTDIR)$(MANDIR)/man1/wmerge.1"
 
-# bench,PROGRAM
-define bench
-$(call kit,to build $(1))
-@cd crates/$(1) && rt run --jobs $(JOBS) > out/build.log 2>&1 || { tail -n 20 out/build.log >&2; exit 1; }
-@touch $@
-endef
+$(BENCH): $(SOURCES)
+	$(call kit,to build bench)
+	@cd crates/bench && rt run --jobs $(JOBS) > out/build.log 2>&1 || { tail -n 20 out/build.log >&2; exit 1; }
+	@touch $@
 
-$(OUTPUTS): $(SOURCES)
-	$(call bench,bench_out)
-
-$(SCANS): $(SOURCES)
-	$(call bench,bench_scan)
-
-$(STORES): $(SOURCES)
-	$(call bench,bench_store)
-
-bench: build $(OUTPUTS) $(SCANS) $(STORES)
+bench: build $(BENCH)
 	@bench/run $(WMERGE)
 	@bench/run_tangle $(CTANGLE)
-	@bench/outputs $(OUTPUTS)
-	@bench/run_scan $(SCANS)
-	@bench/store $(STORES)
+	@bench/outputs $(BENCH)
+	@bench/run_scan $(BENCH)
+	@bench/store $(BENCH)
 	@bench/run_shapes $(CTANGLE)
 
 clean:

@@ -1,6 +1,6 @@
 // What stores are asked.
 
-use crate::shape::Shape;
+use crate::store::Shape;
 use cweb_store::{NameId, NameRef, Store, Token};
 
 /// How much a store answers of what it was given much of: the bytes of all its Words, the abbreviations that stand for a name,

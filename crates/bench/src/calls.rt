@@ -1,0 +1,84 @@
+// Builders that are given so much.
+ghost use Rattle.std.specs.Prelude.{◌≡◌, ◌≤◌, length, is_some};
+ghost use Rattle.cweb_store.specs.Growing.{part_count, token_count};
+
+use anyhow::{Result, ensure};
+use cweb_store::{Builder, How, NameRef, PartKind, Store, Token};
+use std::alloc::{AllocError, Global};
+
+// A builder takes at most so many calls here.
+const MOST: u32 = 20_000_000;
+
+/// A builder that knows how many calls it had, and whether a part is open.
+#[derive(Drop)]
+pub struct Calls {
+    pub alloc: Global,
+    builder: Builder,
+    calls: u32,
+    is_open: bool,
+    ghost few_names: { length builder.occurrences ≤ calls },
+    ghost few_parts: { part_count builder.parts ≤ calls },
+    ghost few_tokens: { token_count builder.parts ≤ calls },
+    ghost open_part: { is_open ≡ is_some builder.parts.current },
+}
+
+impl Calls {
+    pub fn new(alloc: Global) -> Calls {
+        Calls {
+            alloc,
+            builder: Builder::new(alloc),
+            calls: 0,
+            is_open: false,
+        }
+    }
+
+    /// Gives an occurrence of a name.
+    pub fn occur(&mut self, name: &[u8], how: How) -> Result<NameRef> {
+        ensure!(self.calls < MOST, "too many calls");
+        self.calls += 1;
+        Ok(self.builder.occurrence(name, how, false)?)
+    }
+
+    /// Opens a part, and closes the one that was open.
+    #[tactic(auto, using(cweb_store::proofs::CallerLemmas::token_count_opened, cweb_store::proofs::CallerLemmas::token_count_closed, cweb_store::proofs::CallerLemmas::part_count_opened, cweb_store::proofs::CallerLemmas::part_count_closed))]
+    pub fn open(&mut self, kind: PartKind) -> Result<()> {
+        ensure!(self.calls < MOST, "too many calls");
+        self.calls += 1;
+        if self.is_open {
+            self.builder.close_part();
+            self.is_open = false;
+        }
+        self.builder.open_part(kind)?;
+        self.is_open = true;
+        Ok(())
+    }
+
+    /// Gives a token to the part that is open.
+    pub fn push(&mut self, token: Token<'_>) -> Result<()> {
+        let is_given = self.try_push(token)?;
+        ensure!(is_given, "too many calls");
+        Ok(())
+    }
+
+    // Whether a token could be given. An error of `anyhow` would cost more than the push.
+    #[tactic(auto, using(cweb_store::proofs::CallerLemmas::token_count_pushed, cweb_store::proofs::CallerLemmas::part_count_pushed))]
+    fn try_push(&mut self, token: Token<'_>) -> Result<bool, AllocError> {
+        if self.calls >= MOST || !self.is_open {
+            return Ok(false);
+        }
+        self.calls += 1;
+        self.builder.push(token)?;
+        Ok(true)
+    }
+
+    /// The store of what was given.
+    pub fn finish(self) -> Result<Store> {
+        let Calls {
+            alloc: _,
+            builder,
+            calls: _,
+            is_open: _,
+        } = self;
+        Ok(builder.finish()?)
+    }
+}

@@ -1,0 +1,147 @@
+// Stores that are given much of one thing, and how far each goes.
+
+mod answers;
+
+use crate::calls::Calls;
+use anyhow::{Result, bail};
+use cweb_store::{How, NameRef, PartKind, Token};
+use std::alloc::Global;
+
+// So many Words are drawn from.
+const WORDS: u32 = 1000;
+
+// Each has so many bytes.
+const LENGTH: usize = 8;
+
+/// What there is much of.
+#[derive(Clone, Copy)]
+pub enum Shape {
+    /// Words of a vocabulary.
+    Words,
+    /// Names, with as many abbreviations.
+    Names,
+    /// Parts of one name.
+    Parts,
+}
+
+impl Shape {
+    fn of(word: &str) -> Option<Shape> {
+        match word {
+            "words" => Some(Shape::Words),
+            "names" => Some(Shape::Names),
+            "parts" => Some(Shape::Parts),
+            _ => None,
+        }
+    }
+}
+
+/// Goes up to a step, and says what there is then.
+pub fn show(rt: &impl Print, alloc: Global, shape: &str, count: u32, step: &str) -> Result<()> {
+    let Some(shape) = Shape::of(shape) else {
+        bail!("no such shape");
+    };
+    let vocabulary = vocabulary(alloc)?;
+    if step == "draw" {
+        let bytes = drawn_bytes(&vocabulary, count);
+        println!(rt; "{bytes} bytes drawn")?;
+        return Ok(());
+    }
+    let calls = filled(alloc, shape, &vocabulary, count)?;
+    if step == "give" {
+        return Ok(());
+    }
+    let store = calls.finish()?;
+    let tokens = store.tokens();
+    let bytes = store.text_bytes();
+    let names = store.names();
+    let faults = store.name_faults().len();
+    println!(rt; "{tokens} tokens, {bytes} bytes of text, {names} names, {faults} faults")?;
+    if step == "finish" {
+        return Ok(());
+    }
+    let answered = answers::of(&store, shape, count);
+    println!(rt; "{answered} answered")?;
+    Ok(())
+}
+
+// The Words that are drawn from, one behind another.
+fn vocabulary(alloc: Global) -> Result<Vec<u8>> {
+    let mut all = Vec::new(alloc);
+    for number in 0..WORDS {
+        let word = format!(in alloc; "word{number:04}")?;
+        all.extend_from_slice(word.as_bytes())?;
+    }
+    Ok(all)
+}
+
+// The Word that is drawn with a number. Numbers that follow one another draw Words far apart.
+fn drawn(vocabulary: &[u8], number: u32) -> &[u8] {
+    let begin = (number.wrapping_mul(379) % WORDS) as usize * LENGTH;
+    match vocabulary.get(begin..begin + LENGTH) {
+        Some(word) => word,
+        None => b"",
+    }
+}
+
+// The bytes of so many Words that are drawn, added up.
+fn drawn_bytes(vocabulary: &[u8], count: u32) -> u64 {
+    let mut sum: u64 = 0;
+    for number in 0..count {
+        for byte in drawn(vocabulary, number) {
+            sum = sum.wrapping_add(u64::from(*byte));
+        }
+    }
+    sum
+}
+
+// A builder that was given so many Words, names or parts.
+fn filled(alloc: Global, shape: Shape, vocabulary: &[u8], count: u32) -> Result<Calls> {
+    let mut calls = Calls::new(alloc);
+    match shape {
+        Shape::Words => give_words(&mut calls, vocabulary, count)?,
+        Shape::Names => give_names(&mut calls, count)?,
+        Shape::Parts => give_parts(&mut calls, vocabulary, count)?,
+    }
+    Ok(calls)
+}
+
+fn give_words(calls: &mut Calls, vocabulary: &[u8], count: u32) -> Result<()> {
+    calls.open(PartKind::Unnamed)?;
+    for number in 0..count {
+        calls.push(Token::Word(drawn(vocabulary, number)))?;
+    }
+    Ok(())
+}
+
+// One half of the abbreviations comes before the names, so that only `finish` can say what they stand for.
+fn give_names(calls: &mut Calls, count: u32) -> Result<()> {
+    let half = count / 2;
+    give_all(calls, 0, half, How::Prefix)?;
+    give_all(calls, 0, count, How::Full)?;
+    give_all(calls, half, count, How::Prefix)
+}
+
+fn give_all(calls: &mut Calls, first: u32, after: u32, how: How) -> Result<()> {
+    for number in first..after {
+        occur(calls, number, how)?;
+    }
+    Ok(())
+}
+
+fn give_parts(calls: &mut Calls, vocabulary: &[u8], count: u32) -> Result<()> {
+    let name = occur(calls, 0, How::Full)?;
+    for number in 0..count {
+        calls.open(PartKind::Named(name))?;
+        calls.push(Token::Word(drawn(vocabulary, number)))?;
+    }
+    Ok(())
+}
+
+// Gives the name with a number, or its abbreviation.
+fn occur(calls: &mut Calls, number: u32, how: How) -> Result<NameRef> {
+    let name = match how {
+        How::Full => format!(in calls.alloc; "{number:07} of many names")?,
+        How::Prefix => format!(in calls.alloc; "{number:07} of")?,
+    };
+    calls.occur(name.as_bytes(), how)
+}
