@@ -13,6 +13,27 @@ const LISTED: [&[u8]; 26] = [
     b"&&", b"||", b"*=", b"/=", b"%=", b"+=", b"-=", b"&=", b"^=", b"|=", b"##", b"::", b".*",
 ];
 
+// Those of them that begin with a dot, a less, and so on.
+const DOTS: [&[u8]; 2] = [b"...", b".*"];
+
+const LESSES: [&[u8]; 3] = [b"<<=", b"<<", b"<="];
+
+const GREATERS: [&[u8]; 3] = [b">>=", b">>", b">="];
+
+const MINUSES: [&[u8]; 4] = [b"->*", b"->", b"--", b"-="];
+
+const PLUSES: [&[u8]; 2] = [b"++", b"+="];
+
+const EQUALS: [&[u8]; 1] = [b"=="];
+
+const NOTS: [&[u8]; 1] = [b"!="];
+
+const STARS: [&[u8]; 1] = [b"*="];
+
+const ANDS: [&[u8]; 2] = [b"&&", b"&="];
+
+const BARS: [&[u8]; 2] = [b"||", b"|="];
+
 // Whether the first bytes of a sign and of a text leave it open that the text begins with the sign.
 fn begins_alike(sign: &[u8], text: &[u8]) -> bool
     ensures { result ≡ false → spec.begins sign.now text.now ≡ false }
@@ -62,5 +83,17 @@ pub fn punctuator_len(text: &[u8]) -> usize
     if !may_be_listed(text) {
         return 1;
     }
-    first_len(&LISTED, text)
+    match text {
+        [b'.', ..] => first_len(&DOTS, text),
+        [b'<', ..] => first_len(&LESSES, text),
+        [b'>', ..] => first_len(&GREATERS, text),
+        [b'-', ..] => first_len(&MINUSES, text),
+        [b'+', ..] => first_len(&PLUSES, text),
+        [b'=', ..] => first_len(&EQUALS, text),
+        [b'!', ..] => first_len(&NOTS, text),
+        [b'*', ..] => first_len(&STARS, text),
+        [b'&', ..] => first_len(&ANDS, text),
+        [b'|', ..] => first_len(&BARS, text),
+        _ => first_len(&LISTED, text),
+    }
 }

@@ -5,8 +5,8 @@ use Rattle.cweb_rules.proofs.Longest.{longest-le}
 use Rattle.cweb_rules.proofs.Seconds.{longest-none}
 use Rattle.cweb_rules.proofs.punctuators.punctuator_len.Goals as goal
 
-pub returns : goal.returns
-returns c = c.first_len.ensures ∙ sym ((longest-le listed c.args.text.now 3 refl).2)
+pub returns-in_default : goal.returns-in_default
+returns-in_default c = c.first_len-in_default.ensures ∙ sym ((longest-le listed c.args.text.now 3 refl).2)
 
 pub returns-then-not-may_be_listed : goal.returns-then-not-may_be_listed
 returns-then-not-may_be_listed c =
