@@ -56,3 +56,5 @@ pub mod PlainPieces
 pub mod PlainTokens
 pub mod Standing
 pub mod StandingPieces
+pub mod Plains
+pub mod PlainTurns

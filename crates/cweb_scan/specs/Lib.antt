@@ -18,3 +18,4 @@ pub mod OpenRest
 pub mod Turned
 pub mod Alone
 pub mod Standing
+pub mod Plain

@@ -7,6 +7,7 @@ pub mod directive;
 pub mod given;
 pub mod line_ends;
 pub mod names;
+pub mod plain;
 pub mod sections;
 pub mod spelling;
 

@@ -12,18 +12,23 @@ impl Reader {
     ghost use Rattle.cweb_scan.specs.OpenRest.{awaits_line_end};
     ghost use Rattle.cweb_scan.specs.Turned.{TakesTurn};
 
-    // One turn: what stands at the front of the rest of a line, or a part of the item that is open.
+    // One turn: the plain C text at the front of the rest of a line and the piece behind it, or a part of the item that is open.
     fn take_turn(&mut self, rest: &[u8]) -> Result<usize, AllocError>
         requires within { awaits_line_end self.old.item ≡ false }
         requires line { IsLine rest.now }
         requires some { 1 ≤ length rest.now }
-        requires room { cost self.old + 8 < too_many }
+        requires room { cost self.old + 3 * length rest.now + 8 < too_many }
         ensures { IfOk result (λ n. TakesTurn n rest.now self.old self.new) }
     {
         match self.item {
             Open::Between => {
-                let size = self.take_between(rest)?;
-                Ok(size)
+                let plain = self.scanner.take_plain(rest)?;
+                let (_, after) = rest.split_at(plain);
+                if after.is_empty() {
+                    return Ok(plain);
+                }
+                let size = self.take_between(after)?;
+                Ok(plain + size)
             }
             _ => {
                 let size = self.take_open(rest)?;

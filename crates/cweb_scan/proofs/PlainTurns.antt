@@ -1,0 +1,95 @@
+-- Plain C text: pieces one after another, and the turn behind them.
+use Rattle.std.proofs.Common.{◌≡◌, ◌≤◌, ◌<◌, ℕ, zero, suc, ◌+◌, ◌*◌, false, List, [], ◌∷◌, length, drop, ap, sym, ◌∙◌, subst, arith}
+use Rattle.std.proofs.lemmas.List.{length-drop}
+use Rattle.cweb_store.specs.Calls.{too_many}
+use Rattle.cweb_rules.specs.Lines.{IsLine}
+use Rattle.cweb_scan.specs.Held.{Held, cost, Takes}
+use Rattle.cweb_scan.specs.OpenRest.{awaits_line_end}
+use Rattle.cweb_scan.specs.Plain.{IsPlainC, TakesPlain}
+use Rattle.cweb_scan.specs.Resume.{Item, Between}
+use Rattle.cweb_scan.specs.Room.{weight, HasRoom}
+use Rattle.cweb_scan.specs.State.{State}
+use Rattle.cweb_scan.specs.Turned.{Passes}
+use Rattle.cweb_scan.proofs.CodeTurns.{at_item}
+use Rattle.cweb_scan.proofs.Rests.{drop_more, takes_both}
+use Rattle.cweb_scan.proofs.Turns.{between}
+
+-- ALL PIECES
+
+-- what stands before the rest of the text was taken
+pub record TakesSome (n : ℕ) (text left : List ℕ) (old new : State) : Type 0 where
+  pub left_is : left ≡ drop n text
+  pub taken : TakesPlain n text old new
+  pub plain : IsPlainC new
+  pub sizes : n + length left ≡ length text
+  pub room : weight new + 3 * length left ≤ weight old + 3 * length text
+
+pub some_goes_on : (n m : ℕ) (text left after : List ℕ) (a b c : State) → after ≡ drop m left
+    → TakesSome n text left a b → TakesPlain m left b c → IsPlainC c → TakesSome (n + m) text after a c
+some_goes_on n m text left after a b c is f t plain =
+    let one = t.taken false in
+    let size = ap (λ (u : List ℕ). length u) is in
+    record {
+      left_is = is ∙ ap (drop m) f.left_is ∙ sym (drop_more n m text);
+      taken = record {
+        taken = λ g. takes_both n m text (between a g) (between b g) (between c g) (f.taken.taken g)
+            (subst (λ (u : List ℕ). Takes m u (between b g) (between c g)) f.left_is (t.taken g));
+      };
+      plain = plain;
+      sizes = omega (arith, size, length-drop m left, one.within, f.sizes);
+      room = omega (arith, size, length-drop m left, one.within, one.adds, f.room);
+    }
+
+pub piece_within : (n : ℕ) (u : List ℕ) (a b : State) → TakesPlain n u a b → n ≤ length u
+piece_within n u a b t = (t.taken false).within
+
+pub is_line_drop : (n : ℕ) (u : List ℕ) → IsLine u → IsLine (drop n u)
+is_line_drop zero u h = h
+is_line_drop (suc n) [] h = h
+is_line_drop (suc n) (b ∷ t) h = is_line_drop n t h.1
+
+pub left_line : (n : ℕ) (text left : List ℕ) (a b : State) → IsLine text → TakesSome n text left a b
+    → IsLine left
+left_line n text left a b line f = subst IsLine (sym f.left_is) (is_line_drop n text line)
+
+pub some_ended : (n m : ℕ) (text left : List ℕ) (a b c : State) → m ≡ 0 → TakesSome n text left a b
+    → TakesPlain m left b c → TakesPlain n text a c
+some_ended n m text left a b c none f t = record {
+  taken = λ g.
+      let all = takes_both n m text (between a g) (between b g) (between c g) (f.taken.taken g)
+      (subst (λ (u : List ℕ). Takes m u (between b g) (between c g)) f.left_is (t.taken g)) in
+      let same : n + m ≡ n = omega (arith, none) in
+      subst (λ k. Takes k text (between a g) (between c g)) same all;
+}
+
+-- THE READER
+
+pub plain_held : (n : ℕ) (u : List ℕ) (h v : Held) (new : State) → v ≡ h → h.item ≡ Between
+    → TakesPlain n u v.state new → Takes n u h (at_item v new)
+plain_held n u h v new is none t =
+    let item : v.item ≡ Between = ap (λ (k : Held). k.item) is ∙ none in
+    subst (λ (k : Held). Takes n u k (at_item v new)) is
+    (subst (λ (i : Item). Takes n u (record { state = v.state; item = i; begun = v.begun })
+    (record { state = new; item = i; begun = v.begun })) (sym item) (t.taken v.begun))
+
+pub plain_all : (n : ℕ) (u : List ℕ) (h new : Held) → Takes n u h new → awaits_line_end new.item ≡ false
+    → length (drop n u) ≡ 0 → 1 ≤ length u → Passes n u h new
+plain_all n u h new t within none some =
+    record { some = omega (arith, length-drop n u, none, some, t.within); within = within; taken = t }
+
+pub plain_then : (n m : ℕ) (u after : List ℕ) (h mid new : Held) → Takes n u h mid → after ≡ drop n u
+    → Passes m after mid new → Passes (n + m) u h new
+plain_then n m u after h mid new t is p = record {
+  some = omega (arith, p.some);
+  within = p.within;
+  taken = takes_both n m u h mid new t (subst (λ (w : List ℕ). Takes m w mid new) is p.taken);
+}
+
+pub plain_room : (n : ℕ) (u : List ℕ) (h new : Held) → Takes n u h new → cost h + 3 * length u + 8 < too_many
+    → HasRoom 2 new.state
+plain_room n u h new t room = record {
+  for_tokens = omega (arith, t.adds, t.within, room);
+  for_a_part = omega (arith, t.adds, t.within, room);
+  for_an_occurrence = omega (arith, t.adds, t.within, room);
+  for_a_section = omega (arith, t.adds, t.within, room);
+}

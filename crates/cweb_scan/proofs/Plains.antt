@@ -1,0 +1,241 @@
+-- Plain C text: what a first byte tells, and that a piece that it tells is taken rightly.
+use Rattle.std.proofs.Common.{◌≡◌, ◌≤◌, ℕ, Bool, true, false, ◌||◌, ◌&&◌, ◌==◌, not, List, [], ◌∷◌, Option, Some, None, length, take, slice_index_or, refl, ap, sym, ◌∙◌, subst, arith}
+use Rattle.std.specs.Prelude.{if◌then◌else◌, codes, option_map}
+use Rattle.std.specs.List.{prefix_len}
+use Rattle.std.proofs.lemmas.Bool.{eqb-true}
+use Rattle.std.proofs.lemmas.List.Sums.{fold-append}
+use Rattle.cweb_store.specs.Growing.{longer}
+use Rattle.cweb_store.specs.Parts.{Token, Word, Punct, Blank, Part}
+use Rattle.cweb_rules.specs.Bytes.{is_blank, is_one_of, is_word_byte}
+use Rattle.cweb_rules.specs.Codes.{in_c}
+use Rattle.cweb_rules.specs.Lines.{IsLine}
+use Rattle.cweb_rules.specs.Rules.{c_rule, c_front_by, is_settled}
+use Rattle.cweb_rules.specs.Tables.{listed, longest}
+use Rattle.cweb_rules.specs.declared.context.Context.{Context}
+use Rattle.cweb_rules.specs.declared.rule.Rule.{Rule}
+use Rattle.cweb_rules.specs.declared.rule.Rule.TheVariants as rule
+use Rattle.cweb_rules.proofs.FirstBytes.{settled-rule}
+use Rattle.cweb_scan.specs.After.{punctuator}
+use Rattle.cweb_scan.specs.Directives as spec
+use Rattle.cweb_scan.specs.Directives.{directive, directive_of, directive_tokens, ends_line, is_c, is_punct, is_some, names_include, with_next}
+use Rattle.cweb_scan.specs.Fronted.{Gives, is_head}
+use Rattle.cweb_scan.specs.Kept.{further, goes_over, has_part, is_line_end, is_outside, last_of, outside, step, IsTied}
+use Rattle.cweb_scan.specs.Plain.{is_alone, plain_by, IsPlainC, IsPlainToken, TakesPlain}
+use Rattle.cweb_scan.specs.Ruled.{ends_macro_line}
+use Rattle.cweb_scan.specs.State.{State, give, tokens_of}
+use Rattle.cweb_scan.specs.declared.scanner.directive.Directive.{Directive}
+use Rattle.cweb_scan.specs.declared.scanner.directive.Stage.{Stage}
+use Rattle.cweb_scan.specs.declared.scanner.directive.Stage.TheVariants.{Outside, Bare, Include, Further}
+use Rattle.cweb_scan.specs.declared.scanner.plain.Plain.{Plain}
+use Rattle.cweb_scan.specs.declared.scanner.plain.Plain.TheVariants as plain
+use Rattle.cweb_scan.proofs.CodeTurns.{closed_at}
+use Rattle.cweb_scan.proofs.RuleTurns.{closes, rule_closed}
+use Rattle.cweb_scan.proofs.TiedSteps.{outside-seen, tied_given}
+use Rattle.cweb_scan.proofs.Turns.{between}
+
+-- FIRST BYTES
+
+abbrev Each : (ℕ → Type 0) → List ℕ → Type 0
+Each P [] = Unit {0}
+Each P (x ∷ xs) = P x × Each P xs
+
+from_set : (P : ℕ → Type 0) (set : List ℕ) → Each P set → (b : ℕ) → is_one_of set b ≡ true → P b
+from_set P [] all b h = cc
+from_set P (x ∷ xs) all b h = (elim (x == b) as (λ v. (x == b) ≡ v → (v || is_one_of xs b) ≡ true → P b) [
+  | true ↦ λ e f. subst P (eqb-true x b e) all.0
+  | false ↦ λ e f. from_set P xs all.1 b f
+]) refl h
+
+-- a sign of one byte
+pub record IsSign (t : List ℕ) : Type 0 where
+  pub size : longest listed t ≡ 1
+  pub token : IsPlainToken (Punct (take 1 t))
+
+pub alone_sign : (b : ℕ) (t : List ℕ) → is_alone b ≡ true → IsSign (b ∷ t)
+alone_sign b t h =
+    let one : (n : ℕ) → is_punct (codes "#") (Some (Punct (n ∷ []))) ≡ false
+    → last_of (Punct (n ∷ [])) ≡ last_of (Word []) → longest listed (n ∷ t) ≡ 1 → IsSign (n ∷ t) =
+    λ n f g e. record { size = e; token = record { hash = f; last = g; solid = refl } } in
+    from_set (λ n. IsSign (n ∷ t)) (codes "()[]{};,?~") (
+      one 40 refl refl refl,
+      (
+        one 41 refl refl refl,
+        (
+          one 91 refl refl refl,
+          (
+            one 93 refl refl refl,
+            (
+              one 123 refl refl refl,
+              (
+                one 125 refl refl refl,
+                (
+                  one 59 refl refl refl,
+                  (
+                    one 44 refl refl refl,
+                    (one 63 refl refl refl, (one 126 refl refl refl, tt)),
+                  ),
+                ),
+              ),
+            ),
+          ),
+        ),
+      ),
+    ) b h
+
+-- what a first byte tells
+abbrev pub IsTold : Bool → List ℕ → Plain → Type 0
+IsTold includes t plain.Blank = rule.Blanks ≡ c_rule includes t
+IsTold includes t plain.Word = rule.Identifier ≡ c_rule includes t
+IsTold includes t plain.Sign = (rule.Punctuator ≡ c_rule includes t) × IsSign t
+IsTold includes t plain.Stop = Unit {0}
+
+abbrev sign_or_stop : Bool → Plain
+sign_or_stop alone = if alone then plain.Sign else plain.Stop
+
+if_true : (v : Bool) (x y : Rule) → v ≡ true → (if v then x else y) ≡ x
+if_true true x y e = refl
+if_true false x y e = cc
+
+told_sign : (includes : Bool) (b : ℕ) (t : List ℕ) → rule.Punctuator ≡ c_rule includes (b ∷ t)
+    → IsTold includes (b ∷ t) (sign_or_stop (is_alone b))
+told_sign includes b t is = (elim (is_alone b) as (λ v. is_alone b ≡ v → IsTold includes (b ∷ t) (sign_or_stop v)) [
+  | true ↦ λ e. (is, alone_sign b t e)
+  | false ↦ λ e. tt
+]) refl
+
+-- what a byte tells that begins no blank and none of the rules that look further
+abbrev settled_by : ℕ → Bool → Plain
+settled_by b word = if word then plain.Word else sign_or_stop (is_alone b)
+
+told_settled : (includes : Bool) (b : ℕ) (t : List ℕ) → is_settled b ≡ true
+    → IsTold includes (b ∷ t) (settled_by b (is_word_byte b))
+told_settled includes b t settled =
+    (elim (is_word_byte b) as (λ v. c_rule includes (b ∷ t) ≡ (if v then rule.Identifier else rule.Punctuator)
+    → IsTold includes (b ∷ t) (settled_by b v)) [
+      | true ↦ λ e. sym e
+      | false ↦ λ e. told_sign includes b t (sym e)
+    ]) (settled-rule b settled includes t)
+
+abbrev unblank_by : ℕ → Bool → Plain
+unblank_by b settled = if settled then settled_by b (is_word_byte b) else plain.Stop
+
+told_unblank : (includes : Bool) (b : ℕ) (t : List ℕ) → IsTold includes (b ∷ t) (unblank_by b (is_settled b))
+told_unblank includes b t =
+    (elim (is_settled b) as (λ v. is_settled b ≡ v → IsTold includes (b ∷ t) (unblank_by b v)) [
+      | true ↦ λ e. told_settled includes b t e
+      | false ↦ λ e. tt
+    ]) refl
+
+plain_told : (includes : Bool) (b : ℕ) (t : List ℕ) → IsTold includes (b ∷ t) (plain_by b)
+plain_told includes b t =
+    (elim (is_blank b) as (λ v. is_blank b ≡ v
+    → IsTold includes (b ∷ t) (if v then plain.Blank else unblank_by b (is_settled b))) [
+      | true ↦ λ e. sym (if_true (is_blank b) rule.Blanks _ e)
+      | false ↦ λ e. told_unblank includes b t
+    ]) refl
+
+pub told_at : (includes : Bool) (t : List ℕ) (r : Plain) → 1 ≤ length t → r ≡ plain_by (slice_index_or t 0 0)
+    → IsTold includes t r
+told_at includes [] r h e = absurd (omega (arith, h))
+told_at includes (b ∷ t) r h e = subst (IsTold includes (b ∷ t)) (sym e) (plain_told includes b t)
+
+-- DIRECTIVES
+
+no_more : (o : Option Part) (t : Token) → is_some (directive_of (tokens_of o)).tokens ≡ false
+    → is_punct (codes "#") (Some t) ≡ false
+    → is_some (directive_of (tokens_of (option_map (longer t) o))).tokens ≡ false
+no_more None t h plain = h
+no_more (Some p) t h plain =
+    let d = directive_of p.tokens in
+    ap (λ (e : spec.Directive). is_some e.tokens)
+    (fold-append with_next (record { tokens = None; last = None }) p.tokens (t ∷ []))
+    ∙ none_opens d.tokens d.last t h plain
+  where
+    none_opens : (o : Option (List Token)) (l : Option Token) (t : Token) → is_some o ≡ false
+        → is_punct (codes "#") (Some t) ≡ false → is_some (directive_tokens o l t) ≡ false
+    none_opens None l t h plain = ap (λ v. is_some (if v && ends_line l then Some [] else None)) plain
+    none_opens (Some ts) l t h plain = cc
+
+pub none_open : (s : State) → IsPlainC s → is_some (directive s).tokens ≡ false
+none_open s h = ap (λ (c : Context). is_c c && is_some (directive s).tokens) (sym h.in_c) ∙ h.outside
+
+pub stays_plain : (s : State) (t : Token) → IsPlainC s → IsPlainToken t → IsPlainC (give t s)
+stays_plain s t h plain = record {
+  in_c = h.in_c;
+  outside =
+      ap (λ (c : Context). is_c c && is_some (directive (give t s)).tokens) h.in_c
+      ∙ no_more s.contents.parts.current t (none_open s h) plain.hash;
+}
+
+stage_outside : (g : Stage) → is_outside g ≡ true → g ≡ Outside
+stage_outside Outside h = refl
+stage_outside Bare h = cc
+stage_outside Include h = cc
+stage_outside Further h = cc
+
+not_true : (v : Bool) → not v ≡ false → v ≡ true
+not_true true h = refl
+not_true false h = cc
+
+step_plain : (d : Directive) (t : Token) → is_outside d.stage ≡ true → IsPlainToken t → step d t ≡ outside
+step_plain d t h plain =
+    (λ i. record {
+      stage = if h i then (if is_punct (codes "#") (Some t) && is_line_end d.last then Bare else Outside)
+          else (if is_line_end (last_of t) && not (goes_over d.last t) then Outside else further d.stage t);
+      last = plain.last i;
+    }) ∙ ap (λ v. record { stage = if v && is_line_end d.last then Bare else Outside; last = outside.last }) plain.hash
+
+-- what is kept after a plain token
+pub tied_plain : (d l : Directive) (c : Context) (o : Option Part) (t : Token) → IsTied d l c o → is_c c ≡ true
+    → has_part c ≡ true → is_some (directive_of (tokens_of o)).tokens ≡ false → IsPlainToken t
+    → IsTied outside outside c (option_map (longer t) o)
+tied_plain d l c o t tied in_c part none plain =
+    let is_out = ap (λ (e : Directive). is_outside e.stage) (tied.directive_is in_c)
+    ∙ not_true _ (outside-seen (directive_of (tokens_of o)).tokens ∙ none) in
+    let stepped = step_plain d t is_out plain in
+    subst (λ (e : Directive). IsTied e outside c (option_map (longer t) o)) stepped
+    (subst (λ (e : Directive). IsTied (step d t) e c (option_map (longer t) o))
+    (ap (λ v. if v then l else step d t) plain.solid ∙ stepped) (tied_given d l c o t tied part))
+
+-- PIECES
+
+-- the rule that fits in C text where this was read before
+abbrev rule_at : State → List ℕ → Rule
+rule_at s u = c_rule (is_c s.context && names_include s) u
+
+pub turn : (n : ℕ) (u : List ℕ) (s new : State) (r : Rule) → IsLine u → 1 ≤ length u → IsPlainC s → r ≡ rule_at s u
+    → closes r ≡ true → Gives (c_front_by in_c false u r) u n s new → TakesPlain n u s new
+turn n u s new r line some h is closed gives =
+    let f = rule_closed s.context (names_include s) u r (ap has_part h.in_c)
+    (ap (λ (c : Context). ends_macro_line c u) h.in_c) is closed in
+    record {
+      taken = λ g. (closed_at n u (between s g) (between s g) new (c_front_by in_c false u r) refl refl
+          (ap is_head h.in_c) line some f.0 f.1 gives).taken;
+    }
+
+pub blanks_turn : (n : ℕ) (u : List ℕ) (s : State) → IsLine u → 1 ≤ length u → IsPlainC s
+    → rule.Blanks ≡ rule_at s u → n ≡ prefix_len is_blank u → TakesPlain n u s s
+blanks_turn n u s line some h is size =
+    turn n u s s rule.Blanks line some h is refl
+    (record {
+      size = size;
+      state = sym (ap (λ v. if v && not (spec.is_blank (directive s).last) then give Blank s else s) h.outside);
+    })
+
+pub word_turn : (n : ℕ) (u : List ℕ) (s new : State) → IsLine u → 1 ≤ length u → IsPlainC s
+    → rule.Identifier ≡ rule_at s u → n ≡ prefix_len is_word_byte u
+    → new ≡ give (Word (take n u)) s → TakesPlain n u s new
+word_turn n u s new line some h is size made =
+    turn n u s new rule.Identifier line some h is refl
+    (record { size = size; state = made ∙ ap (λ k. give (Word (take k u)) s) size })
+
+pub sign_turn : (u : List ℕ) (s new : State) → IsLine u → 1 ≤ length u → IsPlainC s
+    → rule.Punctuator ≡ rule_at s u → IsSign u
+    → new ≡ record (give (Punct (take 1 u)) s) { folded = false } → TakesPlain 1 u s new
+sign_turn u s new line some h is sign made =
+    turn 1 u s new rule.Punctuator line some h is refl
+    (record {
+      size = sym sign.size;
+      state = made ∙ ap (λ v. record (give (Punct (take 1 u)) s) { folded = v && s.folded }) (sym h.outside)
+          ∙ ap (λ k. punctuator (take k u) s) (sym sign.size);
+    })

@@ -1,0 +1,48 @@
+use Rattle.std.proofs.Common.{◌&&◌, List, ℕ, false, take, sym, ap, ◌∙◌, subst}
+use Rattle.cweb_store.specs.Parts.{Word, Punct}
+use Rattle.cweb_scan.specs.Directives.{is_c, names_include}
+use Rattle.cweb_scan.specs.Plain.{IsPlainC}
+use Rattle.cweb_scan.specs.State.{State, give}
+use Rattle.cweb_scan.specs.declared.scanner.plain.Plain.TheVariants as plain
+use Rattle.cweb_scan.proofs.Plains.{told_at, stays_plain, blanks_turn, word_turn, sign_turn}
+use Rattle.cweb_scan.proofs.scanner.Scanner.take_piece.Goals as goal
+
+pub returns-in-Blank-clause-taken : goal.returns-in-Blank-clause-taken
+returns-in-Blank-clause-taken c =
+    let s = c.args.self.now in
+    let u = c.args.rest.now in
+    let told = told_at (is_c s.context && names_include s) u plain.Blank c.requires.some
+    (sym c.in-Blank.is ∙ c.plain_of.ensures) in
+    blanks_turn c.run_len.result u s c.requires.line c.requires.some c.requires.in_c told c.run_len.ensures.value
+
+pub returns-in_ok-give_plain-in-Word-clause-taken : goal.returns-in_ok-give_plain-in-Word-clause-taken
+returns-in_ok-give_plain-in-Word-clause-taken c =
+    let s = c.args.self.now in
+    let u = c.args.rest.now in
+    let told = told_at (is_c s.context && names_include s) u plain.Word c.requires.some
+    (sym c.in-Word.is ∙ c.plain_of.ensures) in
+    word_turn c.run_len-size.result u s c.give_plain.new.self c.requires.line c.requires.some c.requires.in_c told
+    c.run_len-size.ensures.value
+    (c.in_ok-give_plain-in-Word.ensures.ok ∙ ap (λ (x : List ℕ). give (Word x) s) c.split_at.ensures.front)
+
+pub returns-in_ok-give_plain-in-Sign-clause-taken : goal.returns-in_ok-give_plain-in-Sign-clause-taken
+returns-in_ok-give_plain-in-Sign-clause-taken c =
+    let s = c.args.self.now in
+    let u = c.args.rest.now in
+    let told = told_at (is_c s.context && names_include s) u plain.Sign c.requires.some
+    (sym c.in-Sign.is ∙ c.plain_of.ensures) in
+    let made = c.self.view_is ∙ c.in_ok-give_plain-in-Sign.ensures.ok
+    ∙ ap (λ (x : List ℕ). give (Punct x) s) c.split_at-in-Sign.ensures.front in
+    sign_turn u s _ c.requires.line c.requires.some c.requires.in_c told.0 told.1
+    (ap (λ (v : State). record v { folded = false }) made)
+
+pub returns-in_ok-give_plain-in-Sign-clause-stays : goal.returns-in_ok-give_plain-in-Sign-clause-stays
+returns-in_ok-give_plain-in-Sign-clause-stays c =
+    let s = c.args.self.now in
+    let u = c.args.rest.now in
+    let told = told_at (is_c s.context && names_include s) u plain.Sign c.requires.some
+    (sym c.in-Sign.is ∙ c.plain_of.ensures) in
+    let made = c.self.view_is ∙ c.in_ok-give_plain-in-Sign.ensures.ok
+    ∙ ap (λ (x : List ℕ). give (Punct x) s) c.split_at-in-Sign.ensures.front in
+    let p = subst IsPlainC (sym made) (stays_plain s (Punct (take 1 u)) c.requires.in_c told.1.token) in
+    record { in_c = p.in_c; outside = p.outside }

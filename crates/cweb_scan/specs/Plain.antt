@@ -1,0 +1,41 @@
+-- Plain C text: pieces that their first bytes tell, where no directive is open.
+use Rattle.std.specs.Prelude.{◌≡◌, ℕ, Bool, false, List, codes, Some, if◌then◌else◌}
+use Rattle.cweb_store.specs.Parts.{Token}
+use Rattle.cweb_store.specs.Layout.{is_layout}
+use Rattle.cweb_rules.specs.Bytes.{is_blank, is_one_of, is_word_byte}
+use Rattle.cweb_rules.specs.Rules.{is_settled}
+use Rattle.cweb_rules.specs.declared.context.Context.TheVariants.{CText}
+use Rattle.cweb_scan.specs.Directives.{in_directive, is_punct}
+use Rattle.cweb_scan.specs.Held.{Takes}
+use Rattle.cweb_scan.specs.Kept.{last_of}
+use Rattle.cweb_scan.specs.Resume.{Between}
+use Rattle.cweb_scan.specs.State.{State}
+use Rattle.cweb_scan.specs.declared.scanner.directive.Last.TheVariants as last
+use Rattle.cweb_scan.specs.declared.scanner.plain.Plain.{Plain}
+use Rattle.cweb_scan.specs.declared.scanner.plain.Plain.TheVariants as plain
+
+-- the bytes that begin no listed punctuator, and no directive
+abbrev pub is_alone : ℕ → Bool
+is_alone b = is_one_of (codes "()[]{};,?~") b
+
+-- what a first byte tells of its piece
+abbrev pub plain_by : ℕ → Plain
+plain_by b =
+    if is_blank b then plain.Blank
+    else (if is_settled b then (if is_word_byte b then plain.Word else (if is_alone b then plain.Sign else plain.Stop))
+    else plain.Stop)
+
+-- C text in which no directive is open
+pub record IsPlainC (s : State) : Type 0 where
+  pub in_c : s.context ≡ CText
+  pub outside : in_directive s ≡ false
+
+-- a token that is no layout and neither a `#` nor a `\`
+pub record IsPlainToken (t : Token) : Type 0 where
+  pub hash : is_punct (codes "#") (Some t) ≡ false
+  pub last : last_of t ≡ last.Other
+  pub solid : is_layout t ≡ false
+
+-- the first n bytes of the rest of a line were taken, where no item is open
+pub record TakesPlain (n : ℕ) (rest : List ℕ) (old new : State) : Type 0 where
+  pub taken : (begun : Bool) → Takes n rest (record { state = old; item = Between; begun = begun }) (record { state = new; item = Between; begun = begun })

@@ -1,0 +1,107 @@
+// Plain C text, where no item and no directive is open: the pieces that their first bytes tell, one after another.
+ghost use Rattle.std.specs.Prelude.{◌≡◌, ◌≤◌, ◌<◌, ◌+◌, ◌*◌, IfOk, OnOk, OnErr, length};
+ghost use Rattle.cweb_store.specs.Calls.{too_many};
+ghost use Rattle.cweb_store.specs.Seen.{seen};
+ghost use Rattle.cweb_scan.specs.Plain.{plain_by, IsPlainC, IsPlainToken, TakesPlain};
+
+use crate::scanner::Scanner;
+use crate::scanner::directive::Directive;
+use cweb_rules::Context;
+use cweb_rules::bytes::{Class, run_len};
+use cweb_store::Token;
+use std::alloc::AllocError;
+
+// What a first byte tells of its piece.
+#[derive(Clone, Copy, Debug, PartialEq, Eq)]
+enum Plain {
+    Blank,
+    Word,
+    Sign,
+    Stop,
+}
+
+#[inline(always)]
+fn plain_of(byte: u8) -> Plain
+    ensures { result ≡ plain_by byte }
+{
+    match byte {
+        b' ' | b'\t' | b'\r' | 11 | 12 => Plain::Blank,
+        b'R' | b'L' | b'u' | b'U' => Plain::Stop,
+        b'a'..=b'z' | b'A'..=b'Z' | b'_' | b'$' | 128.. => Plain::Word,
+        b'(' | b')' | b'[' | b']' | b'{' | b'}' | b';' | b',' | b'?' | b'~' => Plain::Sign,
+        _ => Plain::Stop,
+    }
+}
+
+impl Scanner {
+    ghost use Rattle.cweb_store.specs.Growing.{token_count};
+    ghost use Rattle.cweb_rules.specs.Lines.{IsLine};
+    ghost use Rattle.cweb_scan.specs.Room.{weight};
+    ghost use Rattle.cweb_scan.specs.State as spec;
+
+    // A token that leaves no directive open. A refused call changes nothing.
+    #[inline(always)]
+    fn give_plain(&mut self, token: Token<'_>) -> Result<(), AllocError>
+        requires in_c { IsPlainC self.old }
+        requires plain { IsPlainToken (seen token) }
+        requires few { token_count self.old.contents.parts + 1 < too_many }
+        ensures ok { OnOk result (self.new ≡ spec.give (seen token.entry) self.old) }
+        ensures err { OnErr result (self.new ≡ self.old) }
+    {
+        self.builder.push(token)?;
+        let next = Directive::new();
+        self.solid = next;
+        self.directive = next;
+        Ok(())
+    }
+
+    // The piece at the front of the rest of a line, where its first byte tells it; else nothing.
+    #[inline(always)]
+    fn take_piece(&mut self, rest: &[u8]) -> Result<usize, AllocError>
+        requires in_c { IsPlainC self.old }
+        requires line { IsLine rest.now }
+        requires some { 1 ≤ length rest.now }
+        requires room { weight self.old + 1 < too_many }
+        ensures taken { IfOk result (λ n. TakesPlain n rest.now self.old self.new) }
+        ensures stays { OnOk result (IsPlainC self.new) }
+    {
+        match plain_of(rest[0]) {
+            Plain::Blank => Ok(run_len(Class::Blank, rest)),
+            Plain::Word => {
+                let size = run_len(Class::Word, rest);
+                self.give_plain(Token::Word(rest.split_at(size).0))?;
+                Ok(size)
+            }
+            Plain::Sign => {
+                self.give_plain(Token::Punct(rest.split_at(1).0))?;
+                self.folded = false;
+                Ok(1)
+            }
+            Plain::Stop => Ok(0),
+        }
+    }
+
+    /// Takes the pieces at the front of the rest of a line that their first bytes tell, where no directive is open. Answers how
+    /// many bytes they have.
+    pub fn take_plain(&mut self, rest: &[u8]) -> Result<usize, AllocError>
+        requires line { IsLine rest.now }
+        requires room { weight self.old + 3 * length rest.now + 8 < too_many }
+        ensures { IfOk result (λ n. TakesPlain n rest.now self.old self.new) }
+    {
+        if !matches!(self.context(), Context::CText) || self.in_directive() {
+            return Ok(0);
+        }
+        let mut taken = 0;
+        let mut left = rest;
+        'pieces: while !left.is_empty() {
+            let size = self.take_piece(left)?;
+            if size == 0 {
+                break;
+            }
+            let (_, after) = left.split_at(size);
+            left = after;
+            taken += size;
+        }
+        Ok(taken)
+    }
+}
