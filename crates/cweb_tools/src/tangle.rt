@@ -1,33 +1,32 @@
 // A run of `ctangle`.
-ghost use Rattle.std.specs.Prelude.{◌≡◌, ◌≢◌, ◌<◌, ◌+◌, ◌^◌, ◌∷◌, ◌==◌, if◌then◌else◌, IfSome, None, Some, map};
+ghost use Rattle.std.specs.Prelude.{◌≡◌, ◌≢◌, ◌<◌, ◌+◌, ◌^◌, ◌∷◌, ◌==◌, if◌then◌else◌, None, Some, map};
 ghost use Rattle.std.specs.List.{flat_map};
 ghost use Rattle.std.specs.Option.{option_copied};
 ghost use Rattle.cweb_scan.specs.Scan.{seen};
-ghost use Rattle.cweb_out.specs.Outputs.{IsPlanOf, planned};
-ghost use Rattle.cweb_out.specs.Planning.{IsDue};
+ghost use Rattle.cweb_out.specs.Outputs.{IsPlanOf};
 ghost use Rattle.cweb_log.specs.Gathering.{Writes};
 ghost use Rattle.cweb_log.specs.Items.{fault_count, line};
 ghost use Rattle.cweb_log.specs.Log.{start_subject};
 ghost use Rattle.cweb_log.specs.Options.{options_by, options_of};
 ghost use Rattle.cweb_log.specs.Seen.{seen_bins, seen_run, seen_stream};
-ghost use Rattle.cweb_log.specs.WebItems.{refusal_text};
 ghost use Rattle.cweb_tools.specs.Acts.{ending, plans};
 ghost use Rattle.cweb_tools.specs.Course.{world_of, change_name};
-ghost use Rattle.cweb_tools.specs.Does.{ClosesInBoth, ClosesInLog, DoesInLog, Follows, LogsEnding, told};
-ghost use Rattle.cweb_tools.specs.Script.{planned_acts, refused, web_acts};
-ghost use Rattle.cweb_tools.specs.Tangle.{CanCome, course_acts, course_status, numbers_of, plan_made, planning, status_by, tangle_course, web_status};
+ghost use Rattle.cweb_tools.specs.Does.{ClosesInBoth, DoesInLog, Follows, LogsEnding, told};
+ghost use Rattle.cweb_tools.specs.Script.{planned_acts, web_acts};
+ghost use Rattle.cweb_tools.specs.Tangle.{CanCome, course_acts, course_status, numbers_of, plan_made, status_by, tangle_course, web_status};
 ghost use Rattle.cweb_tools.specs.TangleRun.{TanglePromises};
-ghost use Rattle.cweb_tools.specs.Web.{IsKnown, faults_of, files_of, refusal_in, said_faults, web_in};
+ghost use Rattle.cweb_tools.specs.Web.{IsKnown, faults_of, files_of, said_faults, web_in};
+
+mod unplanned;
 
 use crate::outputs::write_outputs;
 use crate::saying::{say_banner, say_end, say_no_text, say_starred};
 use crate::subjects::{folder, subject};
+use crate::tangle::unplanned::tangle_unplanned;
 use crate::web::{Numbers, Web};
 use cweb_lines::{Merger, Shelf, Sink, SinkFault, Stop};
-use cweb_log::{
-    Options, Shown, log_stop, write_faults, write_name_faults, write_plan_fault, write_scan_faults,
-};
-use cweb_out::{Bins, Expander, Plan, PlanFault, plan};
+use cweb_log::{Options, Shown, log_stop, write_faults, write_name_faults, write_scan_faults};
+use cweb_out::{Bins, Expander, Plan, plan};
 use cweb_scan::scan;
 use std::alloc::Global;
 
@@ -165,59 +164,6 @@ fn write_web_faults<L: Sink>(web: Web<'_>, log: &mut L) -> Result<(), SinkFault>
     write_faults(log, web.names, web.faults)?;
     write_scan_faults(log, web.names, web.scanned.faults.as_slice())?;
     write_name_faults(log, web.store())
-}
-
-/// Ends a run whose outputs could not be planned: memory was refused, or there is no such plan.
-fn tangle_unplanned<L: Sink>(
-    shown: Shown,
-    main: &str,
-    web: Web<'_>,
-    fault: PlanFault,
-    log: &mut L,
-) -> u8
-    requires due { IsDue (planned web.scanned.now.store main.now) fault }
-    requires count { L.failed log.old + 1 < 2 ^ 64 }
-    ensures closes { ClosesInLog
-        (plans ∷ planned_acts shown
-        (numbers_of (seen web.entry.scanned.now)) (fault_count (faults_of web.entry))
-        (planning web.entry.scanned.now.store (files_of web.entry) main.now))
-        (status_by (fault_count (faults_of web.entry))
-        (planning web.entry.scanned.now.store (files_of web.entry) main.now))
-        (seen_stream L.Sink log.old) (seen_stream L.Sink log.new) result }
-    // What isn't want of memory is told as what it is.
-    ensures told { IfSome (refusal_in fault) (λ refusal. ClosesInLog
-        (planned_acts shown
-        (numbers_of (seen web.entry.scanned.now)) (fault_count (faults_of web.entry))
-        (refused (refusal_text web.entry.scanned.now.store main.now refusal)))
-        1 (seen_stream L.Sink log.old) (seen_stream L.Sink log.new) result) }
-{
-    if let PlanFault::Memory = fault {
-        return log_stop(log, Stop::Memory, "");
-    }
-    tangle_refused(shown, main, web, fault, log)
-}
-
-/// Logs why there is no plan, which is a fault more, and ends the run: nothing is written.
-fn tangle_refused<L: Sink>(
-    shown: Shown,
-    main: &str,
-    web: Web<'_>,
-    fault: PlanFault,
-    log: &mut L,
-) -> u8
-    requires { L.failed log.old + 1 < 2 ^ 64 }
-    ensures { IfSome (refusal_in fault) (λ refusal. ClosesInLog
-        (planned_acts shown
-        (numbers_of (seen web.entry.scanned.now)) (fault_count (faults_of web.entry))
-        (refused (refusal_text web.entry.scanned.now.store main.now refusal)))
-        1 (seen_stream L.Sink log.old) (seen_stream L.Sink log.new) result) }
-{
-    if let Err(_) = write_plan_fault(log, web.store(), &fault, main) {
-        return 1;
-    }
-    let count = web.fault_count() + 1;
-    let _ = say_end(shown, Numbers::of(web.scanned), count, false, log);
-    1
 }
 
 /// Writes the outputs and ends the run. All room for the expansions is set aside before the first output begins.

@@ -9,7 +9,7 @@ use Rattle.cweb_tools.specs.Acts.{says}
 use Rattle.cweb_tools.proofs.DoingFiles.{closes_told, closing_on, log_closes_on, log_halts}
 use Rattle.cweb_tools.proofs.Logging.{said}
 use Rattle.cweb_tools.proofs.Refusals.{each_some, refusal_line}
-use Rattle.cweb_tools.proofs.tangle.tangle_refused.Goals as goal
+use Rattle.cweb_tools.proofs.tangle.unplanned.tangle_refused.Goals as goal
 
 pub returns-in-Err : goal.returns-in-Err
 returns-in-Err g c =

@@ -9,7 +9,7 @@ use Rattle.cweb_tools.specs.Tangle.{numbers_of, status_by}
 use Rattle.cweb_tools.specs.Web.{faults_of, files_of}
 use Rattle.cweb_tools.proofs.DoingFiles.{log_closes_on, log_memory_halts, log_planned}
 use Rattle.cweb_tools.proofs.Refusals.{IsRefused, of_some, planning_refused, refused_by}
-use Rattle.cweb_tools.proofs.tangle.tangle_unplanned.Goals as goal
+use Rattle.cweb_tools.proofs.tangle.unplanned.tangle_unplanned.Goals as goal
 
 pub returns-in-Memory-clause-closes : goal.returns-in-Memory-clause-closes
 returns-in-Memory-clause-closes g c =

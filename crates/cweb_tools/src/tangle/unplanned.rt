@@ -1,0 +1,72 @@
+// How a run of `ctangle` ends whose outputs can't be planned.
+ghost use Rattle.std.specs.Prelude.{◌≡◌, ◌<◌, ◌+◌, ◌^◌, ◌∷◌, IfSome};
+ghost use Rattle.cweb_scan.specs.Scan.{seen};
+ghost use Rattle.cweb_out.specs.Outputs.{planned};
+ghost use Rattle.cweb_out.specs.Planning.{IsDue};
+ghost use Rattle.cweb_log.specs.Items.{fault_count};
+ghost use Rattle.cweb_log.specs.Seen.{seen_stream};
+ghost use Rattle.cweb_log.specs.WebItems.{refusal_text};
+ghost use Rattle.cweb_tools.specs.Acts.{plans};
+ghost use Rattle.cweb_tools.specs.Does.{ClosesInLog};
+ghost use Rattle.cweb_tools.specs.Script.{planned_acts, refused};
+ghost use Rattle.cweb_tools.specs.Tangle.{numbers_of, planning, status_by};
+ghost use Rattle.cweb_tools.specs.Web.{faults_of, files_of, refusal_in};
+
+use crate::saying::say_end;
+use crate::web::{Numbers, Web};
+use cweb_lines::{Sink, Stop};
+use cweb_log::{Shown, log_stop, write_plan_fault};
+use cweb_out::PlanFault;
+
+/// Ends a run whose outputs could not be planned: memory was refused, or there is no such plan.
+pub fn tangle_unplanned<L: Sink>(
+    shown: Shown,
+    main: &str,
+    web: Web<'_>,
+    fault: PlanFault,
+    log: &mut L,
+) -> u8
+    requires due { IsDue (planned web.scanned.now.store main.now) fault }
+    requires count { L.failed log.old + 1 < 2 ^ 64 }
+    ensures closes { ClosesInLog
+        (plans ∷ planned_acts shown
+        (numbers_of (seen web.entry.scanned.now)) (fault_count (faults_of web.entry))
+        (planning web.entry.scanned.now.store (files_of web.entry) main.now))
+        (status_by (fault_count (faults_of web.entry))
+        (planning web.entry.scanned.now.store (files_of web.entry) main.now))
+        (seen_stream L.Sink log.old) (seen_stream L.Sink log.new) result }
+    // What isn't want of memory is told as what it is.
+    ensures told { IfSome (refusal_in fault) (λ refusal. ClosesInLog
+        (planned_acts shown
+        (numbers_of (seen web.entry.scanned.now)) (fault_count (faults_of web.entry))
+        (refused (refusal_text web.entry.scanned.now.store main.now refusal)))
+        1 (seen_stream L.Sink log.old) (seen_stream L.Sink log.new) result) }
+{
+    if let PlanFault::Memory = fault {
+        return log_stop(log, Stop::Memory, "");
+    }
+    tangle_refused(shown, main, web, fault, log)
+}
+
+/// Logs why there is no plan, which is a fault more, and ends the run: nothing is written.
+fn tangle_refused<L: Sink>(
+    shown: Shown,
+    main: &str,
+    web: Web<'_>,
+    fault: PlanFault,
+    log: &mut L,
+) -> u8
+    requires { L.failed log.old + 1 < 2 ^ 64 }
+    ensures { IfSome (refusal_in fault) (λ refusal. ClosesInLog
+        (planned_acts shown
+        (numbers_of (seen web.entry.scanned.now)) (fault_count (faults_of web.entry))
+        (refused (refusal_text web.entry.scanned.now.store main.now refusal)))
+        1 (seen_stream L.Sink log.old) (seen_stream L.Sink log.new) result) }
+{
+    if let Err(_) = write_plan_fault(log, web.store(), &fault, main) {
+        return 1;
+    }
+    let count = web.fault_count() + 1;
+    let _ = say_end(shown, Numbers::of(web.scanned), count, false, log);
+    1
+}
