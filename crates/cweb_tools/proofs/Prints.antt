@@ -1,24 +1,27 @@
 -- Tokens of an expander that are printed, one after another.
-use Rattle.std.proofs.Common.{◌≡◌, ℕ, List, [], ◌∷◌, ◌++◌, length, sym, ◌∙◌, ap, subst, append_assoc}
+use Rattle.std.proofs.Common.{◌≡◌, ℕ, List, [], ◌∷◌, ◌++◌, length, sym, ◌∙◌, ap, subst, append_assoc, append-nil}
 use Rattle.std.proofs.lemmas.List.Elements.{All-head}
 use Rattle.std.specs.Borrow.{Bor}
-use Rattle.std.specs.Prelude.{All, IsTrue, Ok}
+use Rattle.std.specs.Prelude.{All, IsTrue, OnOk, Result, Ok, Err}
 use Rattle.cweb_files.specs.declared.device.Sink.{Ghosts as Sink}
 use Rattle.cweb_store.specs.Calls.{Stored}
 use Rattle.cweb_store.specs.Parts.{Token}
 use Rattle.cweb_scan.specs.Scan.{IsMarkBelow}
 use Rattle.cweb_out.specs.Frames.{left}
-use Rattle.cweb_out.specs.Printed.{Adds, Moves, Prints, kept_of, setting_of}
+use Rattle.cweb_out.specs.Gathering.{PrintsFront}
+use Rattle.cweb_out.specs.Printed.{Adds, Ends, Moves, Prints, kept_of, setting_of}
 use Rattle.cweb_out.specs.Printers.{IsNamed, setting}
-use Rattle.cweb_out.specs.Printing.{Setting, print}
+use Rattle.cweb_out.specs.Printing.{Setting, file, print}
 use Rattle.cweb_out.specs.declared.expander.Expander.{Expander}
 use Rattle.cweb_out.specs.declared.printer.Printer.{Printer}
 use Rattle.cweb_tools.specs.Expanders.{PrintsSoFar, StaysReady, left_in}
 use Rattle.cweb_tools.proofs.Marks.{all_back, mark_named}
+use Rattle.cweb_tools.proofs.Readies.{stays_on}
 
 -- the marks of what is left are named where those of all were
 pub next_named : {W : Type 0} {sink : Sink W} {files : List (List ℕ)} {first now : Expander}
-    {printer : Printer} {old new : W} (so_far : PrintsSoFar sink files first now printer old new)
+    {printer : Printer} {old new : W} {gathered : List ℕ}
+    (so_far : PrintsSoFar sink files first now printer old new gathered)
     (t : Token) (rest : List Token) → All (IsMarkBelow (length files)) (left_in first)
     → left_in now ≡ t ∷ rest → IsNamed (setting_of printer) t
 next_named {files = files} {first = first} {now = now} so_far t rest all gives =
@@ -29,27 +32,70 @@ next_named {files = files} {first = first} {now = now} so_far t rest all gives =
     All-head (IsMarkBelow (length files)) t rest (subst (All (IsMarkBelow (length files))) gives behind) in
     subst (λ (s : Setting). IsNamed s t) (sym so_far.setting_is) (mark_named (setting first.store.now files) t here)
 
+-- what is written and gathered, with what was added to it
+more_written : (old new new' : List ℕ) (s s' : Setting) (done more : List Token) → s ≡ s'
+    → new ≡ old ++ print s' done → Adds (print s done) (print s (done ++ more)) new new'
+    → new' ≡ old ++ print s' (done ++ more)
+more_written old new new' s s' done more same written adds =
+    adds.written
+    ∙ ap (λ (b : List ℕ). b ++ adds.bytes) (written ∙ ap (λ (s : Setting). old ++ print s done) (sym same))
+    ∙ append_assoc old (print s done) adds.bytes
+    ∙ ap (λ (b : List ℕ). old ++ b) (sym adds.due) ∙ ap (λ (s : Setting). old ++ print s (done ++ more)) same
+
+-- some more were printed to where bytes are gathered
+pub prints_front : {W : Type 0} {sink : Sink W} {files : List (List ℕ)}
+    {first mid : Expander} {printer printer' : Printer} {old new : W} {gathered gathered' : List ℕ} (now : Expander)
+    → PrintsSoFar sink files first mid printer old new gathered → StaysReady mid now
+    → setting_of printer' ≡ setting_of printer
+    → PrintsFront printer printer' (left_in mid) (left mid.store.now now.frames.items) gathered gathered'
+    → PrintsSoFar sink files first now printer' old new gathered'
+prints_front {sink = sink} {files = files} {first = first} {mid = mid} {printer = printer}
+    {old = old} {new = new} {gathered = gathered} {gathered' = gathered'} now so_far ready same front =
+    record {
+      ready = stays_on first mid now so_far.ready ready;
+      setting_is = same ∙ so_far.setting_is;
+      tells = so_far.tells;
+      failed = so_far.failed;
+      beside = so_far.beside;
+      done = so_far.done ++ front.done;
+      whole =
+          so_far.whole
+          ∙ ap (λ (ts : List Token). so_far.done ++ ts)
+          (front.whole ∙ ap (λ (s : Bor Stored). front.done ++ left s.now now.frames.items) (sym ready.store))
+          ∙ sym (append_assoc so_far.done front.done (left_in now));
+      kept = front.moves so_far.done so_far.kept;
+      written = λ told.
+          more_written (sink.written old) (sink.written new ++ gathered) (sink.written new ++ gathered')
+          (setting_of printer) (setting first.store.now files) so_far.done front.done so_far.setting_is
+          (so_far.written told)
+          (adds_behind (sink.written new) gathered gathered' (front.prints so_far.done so_far.kept));
+    }
+  where
+    adds_behind : {before after : List ℕ} (mid old new : List ℕ)
+        → Adds before after old new → Adds before after (mid ++ old) (mid ++ new)
+    adds_behind mid old new adds = record {
+      bytes = adds.bytes;
+      due = adds.due;
+      written = ap (λ (t : List ℕ). mid ++ t) adds.written ∙ sym (append_assoc mid old adds.bytes);
+    }
+
 -- one more was printed
 pub prints_more : {W : Type 0} (sink : Sink W) (files : List (List ℕ))
-    (first mid now : Expander) (printer printer' : Printer) (old new new' : W) (t : Token)
-    → PrintsSoFar sink files first mid printer old new → StaysReady mid now
+    (first mid now : Expander) (printer printer' : Printer) (old new new' : W) (gathered gathered' : List ℕ) (t : Token)
+    → PrintsSoFar sink files first mid printer old new gathered → StaysReady mid now
     → left_in mid ≡ t ∷ left mid.store.now now.frames.items
     → setting_of printer' ≡ setting_of printer → Moves (kept_of printer) t (kept_of printer')
     → sink.tells new' ≡ sink.tells new → sink.failed new' ≡ sink.failed new
     → (IsTrue (sink.tells new) → sink.beside new' ≡ sink.beside new)
     → (IsTrue (sink.tells new)
-    → Prints {A = Unit {0}} {E = Unit {0}} printer t (sink.written new) (sink.written new') (Ok tt))
-    → PrintsSoFar sink files first now printer' old new'
-prints_more sink files first mid now printer printer' old new new'
+    → Prints {A = Unit {0}} {E = Unit {0}} printer t
+    (sink.written new ++ gathered) (sink.written new' ++ gathered') (Ok tt))
+    → PrintsSoFar sink files first now printer' old new' gathered'
+prints_more sink files first mid now printer printer' old new new' gathered gathered'
     t so_far ready gives same moves tells failed beside prints =
     let tell : IsTrue (sink.tells old) → IsTrue (sink.tells new) = λ told. subst IsTrue (sym so_far.tells) told in
     record {
-      ready =
-          record {
-            store = ready.store ∙ so_far.ready.store;
-            plan = ready.plan ∙ so_far.ready.plan;
-            stands = ready.stands;
-          };
+      ready = stays_on first mid now so_far.ready ready;
       setting_is = same ∙ so_far.setting_is;
       tells = tells ∙ so_far.tells;
       failed = failed ∙ so_far.failed;
@@ -62,16 +108,28 @@ prints_more sink files first mid now printer printer' old new new'
           ∙ sym (append_assoc so_far.done (t ∷ []) (left_in now));
       kept = moves so_far.done so_far.kept;
       written = λ told.
-          more_written (sink.written old) (sink.written new) (sink.written new')
-          (setting_of printer) (setting first.store.now files) so_far.done t so_far.setting_is
+          more_written (sink.written old) (sink.written new ++ gathered) (sink.written new' ++ gathered')
+          (setting_of printer) (setting first.store.now files) so_far.done (t ∷ []) so_far.setting_is
           (so_far.written told) (prints (tell told) so_far.done so_far.kept);
     }
-  where
-    more_written : (old new new' : List ℕ) (s s' : Setting) (done : List Token) (t : Token) → s ≡ s'
-        → new ≡ old ++ print s' done → Adds (print s done) (print s (done ++ t ∷ [])) new new'
-        → new' ≡ old ++ print s' (done ++ t ∷ [])
-    more_written old new new' s s' done t same written adds =
-        adds.written
-        ∙ ap (λ (b : List ℕ). b ++ adds.bytes) (written ∙ ap (λ (s : Setting). old ++ print s done) (sym same))
-        ∙ append_assoc old (print s done) adds.bytes
-        ∙ ap (λ (b : List ℕ). old ++ b) (sym adds.due) ∙ ap (λ (s : Setting). old ++ print s (done ++ t ∷ [])) same
+
+-- nothing is left, and the last line was ended
+pub prints_all : {A E W : Type 0} {sink : Sink W} {files : List (List ℕ)} {first now : Expander} {printer : Printer}
+    {old new : W} {gathered : List ℕ} (new' : W) (gathered' : List ℕ) (r : Result A E)
+    → PrintsSoFar sink files first now printer old new gathered → left_in now ≡ []
+    → (IsTrue (sink.tells new) → Ends printer (sink.written new ++ gathered) (sink.written new' ++ gathered') r)
+    → OnOk r (gathered' ≡ []) → IsTrue (sink.tells old)
+    → OnOk r (sink.written new' ≡ sink.written old ++ file (setting first.store.now files) (left_in first))
+prints_all {sink = sink} {files = files} {first = first} {printer = printer}
+    {old = old} new' gathered' (Ok x) so_far none ends empty told =
+    let done : List Token = so_far.done in
+    let text : Setting → List ℕ = λ s. sink.written old ++ print s done in
+    let adds = ends (subst IsTrue (sym so_far.tells) told) done so_far.kept in
+    sym (append-nil (sink.written new')) ∙ ap (λ (t : List ℕ). sink.written new' ++ t) (sym empty) ∙ adds.written
+    ∙ ap (λ (t : List ℕ). t ++ adds.bytes) (so_far.written told ∙ ap text (sym so_far.setting_is))
+    ∙ append_assoc (sink.written old) (print (setting_of printer) done) adds.bytes
+    ∙ ap (λ (t : List ℕ). sink.written old ++ t) (sym adds.due)
+    ∙ ap (λ (s : Setting). sink.written old ++ file s done) so_far.setting_is
+    ∙ ap (λ (ts : List Token). sink.written old ++ file (setting first.store.now files) ts)
+    (sym (so_far.whole ∙ ap (λ (ts : List Token). done ++ ts) none ∙ append-nil done))
+prints_all new' gathered' (Err e) so_far none ends empty told = tt

@@ -49,8 +49,8 @@ abbrev pub ended_at : {A : Type 0} → List Output → Result A Failed → Optio
 ended_at outputs (Ok x) = None
 ended_at outputs (Err failed) = Some (ending failed.stop (name_of outputs failed.output))
 
--- of what an expander had to give some tokens are printed
-pub record PrintsSoFar {W : Type 0} (sink : Sink W) (files : List (List ℕ)) (first now : Expander) (printer : Printer) (old new : W) : Type 0 where
+-- of what an expander had to give some tokens are printed; a sink has a front of their text, and the rest of it is gathered
+pub record PrintsSoFar {W : Type 0} (sink : Sink W) (files : List (List ℕ)) (first now : Expander) (printer : Printer) (old new : W) (gathered : List ℕ) : Type 0 where
   pub ready : StaysReady first now
   pub setting_is : setting_of printer ≡ setting first.store.now files
   pub tells : sink.tells new ≡ sink.tells old
@@ -59,4 +59,4 @@ pub record PrintsSoFar {W : Type 0} (sink : Sink W) (files : List (List ℕ)) (f
   pub done : List Token
   pub whole : left_in first ≡ done ++ left_in now
   pub kept : leaves done ≡ kept_of printer
-  pub written : IsTrue (sink.tells old) → sink.written new ≡ sink.written old ++ print (setting first.store.now files) done
+  pub written : IsTrue (sink.tells old) → sink.written new ++ gathered ≡ sink.written old ++ print (setting first.store.now files) done

@@ -15,7 +15,7 @@ ghost use Rattle.cweb_tools.specs.Script.{output_acts, outputs_acts};
 
 use crate::saying::say_writing;
 use cweb_lines::{FileNames, Sink, SinkFault, Stop};
-use cweb_out::{BinFault, Bins, Expander, Printer};
+use cweb_out::{BinFault, Bins, Expander, Gathered, Printer};
 
 /// What stopped the writing of the outputs, and at which.
 #[derive(Clone, Copy, Debug)]
@@ -29,6 +29,7 @@ pub(crate) fn write_outputs<B: Bins, L: Sink>(
     progress: bool,
     names: &FileNames,
     expander: &mut Expander<'_>,
+    gathered: &mut Gathered,
     bins: &mut B,
     log: &mut L,
 ) -> Result<(), Failed>
@@ -44,7 +45,7 @@ pub(crate) fn write_outputs<B: Bins, L: Sink>(
 {
     let plan = expander.plan;
     'outputs: for output in 0..plan.outputs() {
-        if let Err(stop) = write_output(progress, names, expander, output, bins, log) {
+        if let Err(stop) = write_output(progress, names, expander, gathered, output, bins, log) {
             return Err(Failed { stop, output });
         }
     }
@@ -56,6 +57,7 @@ fn write_output<B: Bins, L: Sink>(
     progress: bool,
     names: &FileNames,
     expander: &mut Expander<'_>,
+    gathered: &mut Gathered,
     output: u32,
     bins: &mut B,
     log: &mut L,
@@ -75,13 +77,14 @@ fn write_output<B: Bins, L: Sink>(
     if let Err(_) = say_writing(progress, name, log) {
         return Err(Stop::LogFault);
     }
-    write_file(names, expander, output, bins)
+    write_file(names, expander, gathered, output, bins)
 }
 
 /// Begins an output, prints it and commits it.
 fn write_file<B: Bins>(
     names: &FileNames,
     expander: &mut Expander<'_>,
+    gathered: &mut Gathered,
     output: u32,
     bins: &mut B,
 ) -> Result<(), Stop>
@@ -102,7 +105,7 @@ fn write_file<B: Bins>(
         Err(BinFault::Device) => return Err(Stop::OutNotOpened),
     }
     expander.restart(output);
-    if let Err(_) = print_all(names, expander, bins) {
+    if let Err(_) = print_all(names, expander, gathered, bins) {
         bins.abandon_file();
         return Err(Stop::WriteFault);
     }
@@ -112,10 +115,11 @@ fn write_file<B: Bins>(
     Ok(())
 }
 
-/// Prints the tokens that are left of an output, as a whole file.
+/// Prints the tokens that are left of an output, as a whole file, gathered in pieces. What was left of another is forgotten.
 fn print_all<W: Sink>(
     names: &FileNames,
     expander: &mut Expander<'_>,
+    gathered: &mut Gathered,
     out: &mut W,
 ) -> Result<(), SinkFault>
     requires ready { IsReady expander.old }
@@ -131,8 +135,13 @@ fn print_all<W: Sink>(
         (left_in expander.old)) }
 {
     let mut printer = Printer::new(expander.store, names);
-    'tokens: while let Some(token) = expander.next() {
-        printer.write(token, out)?;
+    gathered.clear();
+    'tokens: loop {
+        expander.gather(&mut printer, gathered);
+        let Some(token) = expander.next() else {
+            break;
+        };
+        printer.gather(token, gathered, out)?;
     }
-    printer.end(out)
+    printer.finish(gathered, out)
 }

@@ -26,7 +26,7 @@ use crate::tangle::unplanned::tangle_unplanned;
 use crate::web::{Numbers, Web};
 use cweb_lines::{Merger, Shelf, Sink, SinkFault, Stop};
 use cweb_log::{Options, Shown, log_stop, write_faults, write_name_faults, write_scan_faults};
-use cweb_out::{Bins, Expander, Plan, plan};
+use cweb_out::{Bins, Expander, Gathered, Plan, plan};
 use cweb_scan::scan;
 use std::alloc::Global;
 
@@ -166,7 +166,8 @@ fn write_web_faults<L: Sink>(web: Web<'_>, log: &mut L) -> Result<(), SinkFault>
     write_name_faults(log, web.store())
 }
 
-/// Writes the outputs and ends the run. All room for the expansions is set aside before the first output begins.
+/// Writes the outputs and ends the run. All room for the expansions, and for what is printed of them, is set aside before the
+/// first output begins.
 fn tangle_planned<B: Bins, L: Sink>(
     alloc: Global,
     shown: Shown,
@@ -194,7 +195,17 @@ fn tangle_planned<B: Bins, L: Sink>(
     let Ok(mut expander) = Expander::new(alloc, web.store(), plan, 0) else {
         return log_stop(log, Stop::Memory, "");
     };
-    if let Err(failed) = write_outputs(shown.progress, web.names, &mut expander, bins, log) {
+    let Ok(mut gathered) = Gathered::new(alloc) else {
+        return log_stop(log, Stop::Memory, "");
+    };
+    if let Err(failed) = write_outputs(
+        shown.progress,
+        web.names,
+        &mut expander,
+        &mut gathered,
+        bins,
+        log,
+    ) {
         return log_failed(log, failed.stop, plan.output_name(failed.output));
     }
     let count = web.fault_count();

@@ -20,6 +20,15 @@ returns-in_default-new g c =
     both_closes_on _ _ _ _ _ _ _ _ _ (rw c.no_text.ensures at c.in_default.ensures)
     (memory_halts reserves _ _ _ _ _ _ (λ now. refl) c.log_stop.ensures.logs c.log_stop.ensures.status)
 
+pub log_stop-requires-in_default-new-2 : goal.log_stop-requires-in_default-new-2
+log_stop-requires-in_default-new-2 g c = omega (arith, log_counted _ _ _ _ c.in_default.ensures, c.requires.log_count)
+
+pub returns-in_default-new-2 : goal.returns-in_default-new-2
+returns-in_default-new-2 g c =
+    both_closes_on _ _ _ _ _ _ _ _ _ (rw c.no_text.ensures at c.in_default.ensures)
+    (memory_halts reserves _ _ _ _ _ _ (λ now. refl) c.log_stop-in_default-new-2.ensures.logs
+    c.log_stop-in_default-new-2.ensures.status)
+
 pub write_outputs-requires-clause-log_count : goal.write_outputs-requires-clause-log_count
 write_outputs-requires-clause-log_count g c =
     omega (arith, log_counted _ _ _ _ c.in_default.ensures, c.requires.log_count)
