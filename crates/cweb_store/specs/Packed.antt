@@ -1,7 +1,6 @@
 -- Tokens of fixed size, which have their texts by number.
 use Rattle.std.specs.Prelude.{◌≡◌, ℕ, ◌<◌, ◌+◌, List, [], ◌∷◌, ◌++◌, length, slice_index_or, bytes_eq}
 use Rattle.std.specs.List.{list_any}
-use Rattle.cweb_store.specs.Names.{stands}
 use Rattle.cweb_store.specs.Parts as spec
 use Rattle.cweb_store.specs.PackedTexts.{text_bytes}
 use Rattle.cweb_store.specs.Texts.{total, with_word_of, other_bytes}

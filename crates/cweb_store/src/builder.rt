@@ -78,6 +78,7 @@ impl Builder {
     }
 
     /// Adds a token to the open part.
+    #[inline(always)]
     pub fn push(&mut self, token: Token<'_>) -> Result<(), AllocError>
         requires open { IsSome self.old.parts.current }
         requires few { token_count self.old.parts + 1 < too_many }

@@ -143,6 +143,7 @@ impl Store {
     }
 
     /// The token with a number.
+    #[inline(always)]
     pub fn token(&self, number: u32) -> Token<'_>
         requires { number < length (all_tokens self.now.parts) }
         ensures { slice_get (all_tokens self.now.parts) number ≡ Some (seen result) }

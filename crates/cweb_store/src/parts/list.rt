@@ -65,6 +65,7 @@ impl PartList {
     }
 
     /// Adds a token to the open part. A refused call leaves the parts as they were.
+    #[inline(always)]
     pub fn push(&mut self, token: Token<'_>) -> Result<(), AllocError>
         requires open { IsSome self.old.parts.current }
         requires few { token_count self.old.parts + 1 < too_many }

@@ -53,6 +53,7 @@ impl ClosedTokens {
     }
 
     /// The token with a number.
+    #[inline(always)]
     pub fn token(&self, number: usize) -> Token<'_>
         requires { number < length self.now.tokens }
         ensures { slice_get self.now.tokens number ≡ Some (seen result) }

@@ -59,6 +59,7 @@ impl TokenList {
     }
 
     /// Adds a token. A refused call leaves the tokens as they were.
+    #[inline(always)]
     pub fn push(&mut self, token: Token<'_>) -> Result<(), AllocError>
         ensures ok { OnOk result (self.new.tokens ≡ self.old.tokens ++ seen token.entry ∷ []) }
         ensures err { OnErr result (self.new.tokens ≡ self.old.tokens) }

@@ -30,6 +30,7 @@ pub enum Packed {
 }
 
 /// The record of a token, whose text is kept. A refused call changes nothing.
+#[inline(always)]
 pub fn pack(texts: &mut WordTexts, token: Token<'_>) -> Result<Packed, AllocError>
     ensures ok { IfOk result (λ packed. Packs texts.old (seen token.entry) packed texts.new) }
     ensures err { OnErr result (texts.new ≡ texts.old) }
@@ -52,6 +53,7 @@ pub fn pack(texts: &mut WordTexts, token: Token<'_>) -> Result<Packed, AllocErro
 }
 
 /// The token of a record, which lends its text.
+#[inline(always)]
 pub fn lend(texts: &PackedTexts, packed: Packed) -> Token<'_>
     requires { IsWithin (length texts.now) packed }
     ensures { seen result ≡ token_in texts.now packed }

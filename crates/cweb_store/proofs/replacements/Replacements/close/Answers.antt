@@ -4,7 +4,7 @@ use Rattle.cweb_store.specs.Replaced.{replacement_in}
 use Rattle.cweb_store.specs.Replacements.{Replacement}
 use Rattle.cweb_store.specs.Texts.{replacement_text}
 use Rattle.cweb_store.specs.ClosedTokens.{with_texts}
-use Rattle.cweb_store.proofs.StoredLemmas.{map-both}
+use Rattle.cweb_store.proofs.StoredTexts.{map-both}
 use Rattle.cweb_store.proofs.replacements.Replacements.close.Goals as goal
 
 pub returns-clause-bytes : goal.returns-clause-bytes

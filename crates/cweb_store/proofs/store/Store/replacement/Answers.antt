@@ -4,7 +4,7 @@ use Rattle.std.proofs.lemmas.Option.{get_or_from_slice_get}
 use Rattle.cweb_store.specs.Replacements.{replacement}
 use Rattle.cweb_store.specs.Stored.{last_from}
 use Rattle.cweb_store.proofs.ListLemmas.{get-drop}
-use Rattle.cweb_store.proofs.StoredLemmas.{at_last, last-is, last-within}
+use Rattle.cweb_store.proofs.StoredTexts.{at_last, last-is, last-within}
 use Rattle.cweb_store.proofs.store.Store.replacement.Goals as goal
 
 pub overflow_add-len : goal.overflow_add-len

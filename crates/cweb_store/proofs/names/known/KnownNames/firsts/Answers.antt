@@ -1,6 +1,6 @@
 use Rattle.std.proofs.Common.{◌≡◌, suc, ◌+◌, [], ◌∷◌, ◌++◌, map, take, sym, ◌∙◌, ap, arith}
 use Rattle.cweb_store.specs.Names.{Name}
-use Rattle.cweb_store.proofs.StoredLemmas.{firsts-next}
+use Rattle.cweb_store.proofs.StoredTexts.{firsts-next}
 use Rattle.cweb_store.proofs.names.known.KnownNames.firsts.Goals as goal
 
 pub loop-number-preserved : goal.loop-number-preserved

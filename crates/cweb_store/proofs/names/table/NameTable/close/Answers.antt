@@ -4,7 +4,7 @@ use Rattle.cweb_store.specs.Given.{occurrence_in}
 use Rattle.cweb_store.specs.Stored.{given_as}
 use Rattle.cweb_store.specs.Texts.{occurrence_text}
 use Rattle.cweb_store.specs.ClosedTokens.{with_texts}
-use Rattle.cweb_store.proofs.StoredLemmas.{map-both}
+use Rattle.cweb_store.proofs.StoredTexts.{map-both}
 use Rattle.cweb_store.proofs.names.table.NameTable.close.Goals as goal
 
 pub returns-clause-given : goal.returns-clause-given
