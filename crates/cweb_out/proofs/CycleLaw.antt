@@ -1,129 +1,23 @@
 -- The cycle that is reported is one: the walk goes on until a name comes twice, and each name uses the next one.
-use Rattle.std.proofs.Common.{◌≡◌, ◌<◌, ◌+◌, ℕ, zero, suc, Bool, true, false, not, cond, ◌&&◌, ◌||◌, List, [], ◌∷◌, ◌++◌, refl, sym, ◌∙◌, ap, arith, length, length-append, inl, inr, drop, map, subst, Option, Some, None}
-use Rattle.std.specs.Prelude.{◌⊎◌, All, Result, Ok, Err, find, filter, IfSome, option_to_list, bytes_eq}
-use Rattle.std.specs.List.{list_all, list_any, position_or_len}
-use Rattle.std.proofs.lemmas.List.Folds.{list_any-append}
+use Rattle.std.proofs.Common.{◌≡◌, ◌<◌, ◌+◌, ℕ, zero, suc, Bool, true, false, not, cond, List, [], ◌∷◌, ◌++◌, refl, sym, ◌∙◌, ap, arith, length, length-append, inl, inr, drop, map, subst, Option, Some, None}
+use Rattle.std.specs.Prelude.{All, Result, Ok, Err, find, filter, bytes_eq}
+use Rattle.std.specs.List.{list_any, position_or_len}
 use Rattle.cweb_store.specs.declared.names.NameId.{NameId}
 use Rattle.cweb_store.specs.Names as spec
 use Rattle.cweb_store.specs.Names.{is_id}
 use Rattle.cweb_store.specs.Faults.{has_part}
-use Rattle.cweb_store.specs.Parts.{Token, Name, has_defs_code}
+use Rattle.cweb_store.specs.Parts.{has_defs_code}
 use Rattle.cweb_store.specs.Calls.{Stored}
-use Rattle.cweb_store.proofs.BoundLemmas.{files-within, standing-within}
-use Rattle.cweb_out.specs.Uses.{names, joined, program, stands, use_of, uses}
+use Rattle.cweb_store.proofs.BoundLemmas.{files-within}
+use Rattle.cweb_out.specs.Uses.{names, joined, program, uses}
 use Rattle.cweb_out.specs.Ranks.{first_endless, has_rank, list_ends}
 use Rattle.cweb_out.specs.Cycles.{cycle_from, walk}
 use Rattle.cweb_out.specs.Outputs.{IsRoot, Planned, Refusal, bad_name, same_name, cycle, defs_first, file_outputs, has_no_text, is_good_name, name_at, output_name, output_of, outputs, planned, planned_apart, planned_ending, root_list, start_of}
 use Rattle.cweb_out.specs.Search.{AreNew}
 use Rattle.cweb_out.specs.Laws.{EachUsesNext, IsCycle}
-use Rattle.cweb_out.proofs.Paths.{is-same, new-push, not-true, on-pushed, split-or}
-use Rattle.cweb_out.proofs.Ranks.{few, id-same, or-left, or-right, rank-grows, rank_by_uses}
-
--- USES
-
-either-true : (a b : Bool) → (a || b) ≡ true → (a ≡ true) ⊎ (b ≡ true)
-either-true true b h = inl refl
-either-true false b h = inr h
-
-option-on : (count : ℕ) (o : Option NameId) (m : NameId) → IfSome o (λ (k : NameId). k.0 < count)
-    → list_any (is_id m) (option_to_list o) ≡ true → m.0 < count
-option-on count None m b h = cc
-option-on count (Some k) m b h =
-    elim (either-true (is_id m k) false h)
-    [ inl e ↦ subst (λ (i : NameId). i.0 < count) (sym (is-same m k e)) b | inr e ↦ cc ]
-
-use-on : (w : Stored) (t : Token) (m : NameId) → list_any (is_id m) (use_of w t) ≡ true → m.0 < names w
-use-on w (Name r) m h = option-on (names w) (stands w r) m (standing-within w.occurrences r.0) h
-use-on w t m h = cc
-
--- a name that is used is one of the names
-uses-on : (w : Stored) (ts : List Token) (m : NameId) → list_any (is_id m) (uses w ts) ≡ true → m.0 < names w
-uses-on w [] m h = cc
-uses-on w (t ∷ ts) m h =
-    elim (either-true (list_any (is_id m) (use_of w t)) (list_any (is_id m) (uses w ts))
-    (sym (list_any-append (is_id m) (use_of w t) (uses w ts)) ∙ h)) [
-      | inl e ↦ use-on w t m e
-      | inr e ↦ uses-on w ts m e
-    ]
-
--- a first name that fails a test
-record Failing (p : NameId → Bool) (ns : List NameId) : Type 0 where
-  pub name : NameId
-  pub first : find (λ n. not (p n)) ns ≡ Some name
-  pub rankless : p name ≡ false
-  pub used : list_any (is_id name) ns ≡ true
-
-failing : (p : NameId → Bool) (ns : List NameId) → list_all p ns ≡ false → Failing p ns
-failing p [] h = cc
-failing p (n ∷ ns) h = by (p n) refl h (λ e. failing p ns e)
-  where
-    by : (b : Bool) → p n ≡ b → (b && list_all p ns) ≡ false → (list_all p ns ≡ false → Failing p ns)
-        → Failing p (n ∷ ns)
-    by true e h later =
-        let f = later h in
-        record {
-          name = f.name;
-          first = ap (λ b. cond (not b) (Some n) (find (λ m. not (p m)) ns)) e ∙ f.first;
-          rankless = f.rankless;
-          used = or-right (is_id f.name n) (list_any (is_id f.name) ns) f.used;
-        }
-    by false e h later = record {
-      name = n;
-      first = ap (λ b. cond (not b) (Some n) (find (λ m. not (p m)) ns)) e;
-      rankless = e;
-      used = or-left (is_id n n) (list_any (is_id n) ns) (id-same n);
-    }
-
--- a name without a rank that a list uses
-abbrev Endless : Stored → List Token → Type 0
-Endless w ts = Failing (has_rank w) (uses w ts)
-
-different : (a b : Bool) → a ≡ true → b ≡ false → a ≡ b → ⊥
-different a b t f e = let bad : true ≡ false = sym t ∙ e ∙ f in cc
-
-text-endless : (w : Stored) (n : NameId) → n.0 < names w → has_rank w n ≡ false → Endless w (joined w n)
-text-endless w n l h =
-    failing (has_rank w) (uses w (joined w n))
-    (not-true (list_ends w (joined w n))
-    (λ e. different (has_rank w n) (has_rank w n) (rank_by_uses w n l e) h refl))
-
-name-endless : (w : Stored) (n : NameId) → list_ends w (joined w n) ≡ false → has_rank w n ≡ false
-name-endless w n h =
-    not-true (has_rank w n)
-    (λ e. different (list_ends w (joined w n)) (list_ends w (joined w n)) (rank-grows w (names w) n e) h refl)
-
--- EACH USES THE NEXT
-
-each-tail : (w : Stored) (n : NameId) (ns : List NameId) → EachUsesNext w (n ∷ ns) → EachUsesNext w ns
-each-tail w n [] h = tt
-each-tail w n (m ∷ ns) h = h.1
-
-each-drop : (w : Stored) (k : ℕ) (ns more : List NameId) → EachUsesNext w (ns ++ more)
-    → EachUsesNext w (drop k ns ++ more)
-each-drop w zero ns more h = h
-each-drop w (suc k) [] more h = h
-each-drop w (suc k) (n ∷ ns) more h = each-drop w k ns more (each-tail w n (ns ++ more) h)
-
-each-push : (w : Stored) (ns : List NameId) (n m : NameId) → list_any (is_id m) (uses w (joined w n)) ≡ true
-    → EachUsesNext w (ns ++ n ∷ []) → EachUsesNext w ((ns ++ n ∷ []) ++ m ∷ [])
-each-push w [] n m u h = (u, tt)
-each-push w (k ∷ []) n m u h = (h.0, (u, tt))
-each-push w (k ∷ j ∷ ns) n m u h = (h.0, each-push w (j ∷ ns) n m u h.1)
-
--- a list from the first coming of a name on begins with it
-comes : (n : NameId) (ns : List NameId) → list_any (is_id n) ns ≡ true
-    → (rest : List NameId) × (drop (position_or_len (is_id n) ns) ns ≡ n ∷ rest)
-comes n [] h = cc
-comes n (m ∷ ns) h = by (is_id n m) refl h (λ e. comes n ns e)
-  where
-    by : (b : Bool) → is_id n m ≡ b → (b || list_any (is_id n) ns) ≡ true
-        → (list_any (is_id n) ns ≡ true → (rest : List NameId) × (drop (position_or_len (is_id n) ns) ns ≡ n ∷ rest))
-        → (rest : List NameId) × (drop (cond (not b) (1 + position_or_len (is_id n) ns) 0) (m ∷ ns) ≡ n ∷ rest)
-    by true e h later = (ns, ap (λ (k : NameId). k ∷ ns) (sym (is-same n m e)))
-    by false e h later =
-        let r = later h in
-        let k : 1 + position_or_len (is_id n) ns ≡ suc (position_or_len (is_id n) ns) = omega arith in
-        (r.0, ap (λ j. drop j (m ∷ ns)) k ∙ r.1)
+use Rattle.cweb_out.proofs.Paths.{is-same, new-push, on-pushed, split-or}
+use Rattle.cweb_out.proofs.Ranks.{few}
+use Rattle.cweb_out.proofs.CycleUses.{uses-on, failing, Endless, text-endless, name-endless, each-drop, each-push, comes}
 
 -- WALKS
 

@@ -1,20 +1,17 @@
 -- What a stack gives, and its bounds, as a frame is put on top and taken away.
-use Rattle.std.proofs.Common.{◌≡◌, ◌≤◌, ◌<◌, ◌+◌, ◌-◌, ℕ, zero, suc, [], ◌∷◌, ◌++◌, List, length, refl, sym, ◌∙◌, ap, arith, append_assoc, append-nil, length-append, Some, true, false, Bool, ◌&&◌, subst}
-use Rattle.std.specs.Prelude.{All, sum_by, option_to_list}
+use Rattle.std.proofs.Common.{◌≡◌, ◌≤◌, ◌<◌, ◌+◌, ◌-◌, ℕ, zero, suc, [], ◌∷◌, ◌++◌, List, length, refl, sym, ◌∙◌, ap, arith, append_assoc, append-nil, length-append, true, false, Bool, ◌&&◌, subst}
+use Rattle.std.specs.Prelude.{sum_by}
 use Rattle.std.specs.List.{list_all}
 use Rattle.std.proofs.lemmas.List.Sums.{sum_by-cons}
 use Rattle.cweb_store.specs.declared.names.NameId.{NameId}
-use Rattle.cweb_store.specs.declared.names.NameRef.{NameRef}
-use Rattle.cweb_store.specs.declared.parts.Part.{Part}
-use Rattle.cweb_store.specs.Parts.{Token, Name, all_tokens}
+use Rattle.cweb_store.specs.Parts.{Token}
 use Rattle.cweb_store.specs.Calls.{Stored}
-use Rattle.cweb_out.specs.Uses.{names, use_of, uses, stands, joined}
+use Rattle.cweb_out.specs.Uses.{names, use_of, uses, joined}
 use Rattle.cweb_out.specs.Ranks.{ends_below}
-use Rattle.cweb_out.specs.Expansion.{expand, name_text, put, text_for}
-use Rattle.cweb_out.specs.Outputs.{root_list}
+use Rattle.cweb_out.specs.Expansion.{expand, name_text, put}
 use Rattle.cweb_out.specs.declared.expander.frame.Frame.{Frame}
-use Rattle.cweb_out.specs.Frames.{suffix, runs_tokens, left_of, work_of, list_work, AreOwned, AreRanked, AreBelow, IsRun, IsWithin, Stands, UsesLower, Advances, Enters, left, level, name_work, token_work, work_for}
-use Rattle.cweb_out.proofs.Owners.{OnTop, OnTop-entered, OnTop-first, AreOwned-pop, AreOwned-push}
+use Rattle.cweb_out.specs.Frames.{suffix, left_of, work_of, list_work, AreOwned, AreRanked, AreBelow, IsWithin, Stands, UsesLower, Advances, left, level, name_work, token_work}
+use Rattle.cweb_out.proofs.Owners.{OnTop, AreOwned-pop, AreOwned-push}
 
 pub left_of-push : (w : Stored) (k : ℕ) (fs : List Frame) (f : Frame)
     → left_of w k (fs ++ f ∷ []) ≡ expand w (k - length fs) (suffix w f) ++ left_of w k fs
@@ -50,7 +47,7 @@ pub record Top (w : Stored) (k : ℕ) (fs : List Frame) (f : Frame) : Type 0 whe
   pub within : IsWithin w f
   pub below : AreBelow w (k - length fs) (uses w (suffix w f))
 
-AreBelow-at : (w : Stored) (j k : ℕ) (ns : List NameId) → j ≡ k → AreBelow w j ns → AreBelow w k ns
+pub AreBelow-at : (w : Stored) (j k : ℕ) (ns : List NameId) → j ≡ k → AreBelow w j ns → AreBelow w k ns
 AreBelow-at w j k ns e h = ap (λ k. list_all (ends_below w k) ns) (sym e) ∙ h
 
 pub AreRanked-push : (w : Stored) (k : ℕ) (fs : List Frame) (f : Frame) → Top w k fs f → AreRanked w k (fs ++ f ∷ [])
@@ -103,7 +100,7 @@ AreRanked-pop w (suc k) (g ∷ fs) f r =
       below = AreBelow-at w (k - length fs) (suc k - suc (length fs)) (uses w (suffix w f)) n t.below;
     }
 
-and-left : (a b : Bool) → (a && b) ≡ true → a ≡ true
+pub and-left : (a b : Bool) → (a && b) ≡ true → a ≡ true
 and-left true b h = refl
 and-left false b h = h
 
@@ -200,88 +197,7 @@ pub work-ended : (w : Stored) (fs : List Frame) (f : Frame)
     → work_of w (names w) fs ≤ work_of w (names w) (fs ++ f ∷ [])
 work-ended w fs f = let p = work_of-push w (names w) fs f in omega arith
 
-rank-step : (w : Stored) (k : ℕ) (m : NameId) → ends_below w k m ≡ true
+pub rank-step : (w : Stored) (k : ℕ) (m : NameId) → ends_below w k m ≡ true
     → (j : ℕ) × (k ≡ suc j) × AreBelow w j (uses w (joined w m))
 rank-step w zero m h = cc
 rank-step w (suc j) m h = (j, refl, h)
-
--- a frame on top
-pub record Entered (w : Stored) (fs new : List Frame) (r : NameRef) (more : ℕ) : Type 0 where
-  pub stands : Stands w new more
-  pub enters : Enters w fs new r
-
-pub entered : (w : Stored) (fs new : List Frame) (r : NameRef)
-    (m : NameId) (room more : ℕ) (q : Part) (rest : List Part) → Stands w fs room → more ≡ room
-    → AreBelow w (level w fs) (use_of w (Name r)) → UsesLower w fs (Name r) → stands w r ≡ Some m
-    → runs_tokens w (q ∷ rest) ≡ joined w m → All (IsRun (length (all_tokens w.parts))) (q ∷ rest)
-    → new ≡ fs ++ record { owner = Some m; defs = false; part = q; rest = rest } ∷ [] → Entered w fs new r more
-entered w fs new r m room more q rest s grows b lower e text a is =
-    let g : Frame = record { owner = Some m; defs = false; part = q; rest = rest } in
-    let h : ends_below w (level w fs) m && true ≡ true =
-    subst (λ o. list_all (ends_below w (level w fs)) (option_to_list o) ≡ true) e b in
-    let t = rank-step w (level w fs) m (and-left (ends_below w (level w fs) m) true h) in
-    let k : ℕ = names w - length fs in
-    let j : k ≡ t.0 = omega (arith, t.1) in
-    let d : length fs < names w + 1 = omega (arith, t.1) in
-    let within : IsWithin w g = record { part = a 0 q (omega arith); rest = λ i x l. a (suc i) x (omega arith) } in
-    let below : AreBelow w k (uses w (suffix w g)) =
-    ap (λ n. list_all (ends_below w n) (uses w (suffix w g))) j
-    ∙ ap (λ ts. list_all (ends_below w t.0) (uses w ts)) text ∙ t.2 in
-    let top : Top w (names w) fs g = record { ranked = s.ranked; within = within; below = below } in
-    let on =
-    OnTop-entered w fs g r m (level w fs) s.owned (omega arith)
-    (and-left (ends_below w (level w fs) m) true h) lower e refl (sym text) in
-    let one : put w (name_text w (level w fs)) (Name r) ≡ expand w t.0 (joined w m) =
-    ap (text_for (name_text w (level w fs))) e ∙ ap (λ n. name_text w n m) t.1 in
-    let two : token_work w (name_work w (level w fs)) (Name r) ≡ 1 + list_work w t.0 (joined w m) =
-    ap (λ o. 1 + work_for (name_work w (level w fs)) o) e ∙ ap (λ n. 1 + name_work w n m) t.1 in
-    let three : work_of w (names w) new ≡ list_work w k (suffix w g) + work_of w (names w) fs =
-    ap (work_of w (names w)) is ∙ work_of-push w (names w) fs g in
-    let four : list_work w k (suffix w g) ≡ list_work w t.0 (joined w m) =
-    ap (λ n. list_work w n (suffix w g)) j ∙ ap (list_work w t.0) text in
-    record {
-      stands = Stands-push w new fs g room more is grows s top d on;
-      enters = record {
-        left =
-            ap (left w) is ∙ left_of-push w (names w) fs g ∙ ap (λ n. expand w n (suffix w g) ++ left w fs) j
-            ∙ ap (λ ts. expand w t.0 ts ++ left w fs) text ∙ ap (λ ts. ts ++ left w fs) (sym one);
-        work = omega (arith, two, three, four);
-      };
-    }
-
--- a use that gives nothing
-pub passed_none : (w : Stored) (fs : List Frame) (r : NameRef)
-    → put w (name_text w (level w fs)) (Name r) ≡ [] → Enters w fs fs r
-passed_none w fs r none = record {
-  left = ap (λ ts. ts ++ left w fs) (sym none);
-  work = omega arith;
-}
-
--- a name without parts has no text
-pub no_parts : (w : Stored) (fs : List Frame) (r : NameRef) (m : NameId)
-    → stands w r ≡ Some m → joined w m ≡ [] → put w (name_text w (level w fs)) (Name r) ≡ []
-no_parts w fs r m e none = ap (text_for (name_text w (level w fs))) e ∙ empty (level w fs)
-  where
-    empty : (k : ℕ) → name_text w k m ≡ []
-    empty zero = refl
-    empty (suc k) = ap (expand w k) none
-
-AreRanked-none : (w : Stored) (k : ℕ) → AreRanked w k []
-AreRanked-none w zero = tt
-AreRanked-none w (suc k) = tt
-
-pub Stands-one : (w : Stored) (all : List Frame) (f : Frame) (room : ℕ) → all ≡ f ∷ []
-    → IsWithin w f → AreBelow w (names w) (uses w (suffix w f)) → room ≡ names w + 1
-    → suffix w f ≡ root_list w f.owner → Stands w all room
-Stands-one w all f room e i b r l =
-    let n : names w ≡ names w - 0 = omega arith in
-    let k : 0 < names w + 1 = omega arith in
-    Stands-push w all [] f room room e refl
-    (record { owned = tt; ranked = AreRanked-none w (names w); depth = omega arith; room = r })
-    (record {
-      ranked = AreRanked-none w (names w);
-      within = i;
-      below = AreBelow-at w (names w) (names w - 0) (uses w (suffix w f)) n b;
-    })
-    k
-    (OnTop-first w f (sym l) (subst (λ ts. AreBelow w (names w) (uses w ts)) l b))

@@ -4,7 +4,7 @@ use Rattle.cweb_store.specs.Parts.{all_tokens}
 use Rattle.cweb_store.specs.Calls.{Stored}
 use Rattle.cweb_out.specs.Uses.{stands, joined}
 use Rattle.cweb_out.specs.Frames.{IsRun, runs_tokens}
-use Rattle.cweb_out.proofs.Stack.{Entered, entered}
+use Rattle.cweb_out.proofs.StackUses.{Entered, entered}
 use Rattle.cweb_out.proofs.expander.Expander.enter.Goals as goal
 
 abbrev all : (c : goal.After-put)

@@ -5,7 +5,7 @@ use Rattle.cweb_out.specs.Uses.{names, uses}
 use Rattle.cweb_out.specs.Ranks.{ends_below}
 use Rattle.cweb_out.specs.Frames.{suffix, AreBelow}
 use Rattle.cweb_out.specs.Outputs.{root_list}
-use Rattle.cweb_out.proofs.Stack.{Stands-one}
+use Rattle.cweb_out.proofs.StackUses.{Stands-one}
 use Rattle.cweb_out.proofs.Roots.{root_below}
 use Rattle.cweb_out.proofs.expander.Expander.restart.Goals as goal
 
