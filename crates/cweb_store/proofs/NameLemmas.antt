@@ -1,13 +1,12 @@
 -- How names stand in lists and maps.
 use Rattle.std.proofs.Common.{◌≡◌, ℕ, ◌+◌, Bool, true, false, cond, not, ◌||◌, List, [], ◌∷◌, ◌++◌, Some, None, length, refl, sym, ◌∙◌, ap, subst, arith}
-use Rattle.std.specs.Prelude.{is_some, bytes_eq, if◌then◌else◌, Vec, nat_eq, nat_lt, position}
+use Rattle.std.specs.Prelude.{bytes_eq, if◌then◌else◌, Vec, nat_eq}
 use Rattle.std.specs.List.{list_any, starts_with, position_or_len}
-use Rattle.std.specs.Map.{lookup, keys_of}
+use Rattle.std.specs.Map.{lookup}
 use Rattle.std.specs.declared.alloc.Global.{Global}
-use Rattle.indexmap.specs.IndexMap.{insert_entry}
-use Rattle.std.specs.BTreeMap.{is_at}
 use Rattle.std.specs.BTreeMap as tree
-use Rattle.std.specs.Ordering.{match_ordering, is_eq}
+use Rattle.std.specs.Ordering.{match_ordering, is_eq, nat_cmp}
+use Rattle.std.specs.Cmp.Lexicographic.{slice_cmp}
 use Rattle.std.specs.declared.cmp.Ordering.TheVariants.{Less, Equal, Greater}
 use Rattle.std.proofs.lemmas.Map.Text.{is_eq-slice_cmp}
 use Rattle.std.proofs.lemmas.Slice.Eq.{bytes_eq-Decides}
@@ -17,37 +16,7 @@ use Rattle.cweb_store.specs.declared.names.NameId.{NameId}
 use Rattle.cweb_store.proofs.InsertLemmas.{grown, grown-swap, found-first, found-insert}
 use Rattle.cweb_store.specs.Names.{Name, id, texts, beginning_from, beginning, with_text}
 use Rattle.cweb_store.specs.declared.names.found.Found.TheVariants.{Nothing, One}
-use Rattle.cweb_store.specs.Found.{Entry, order, found_of, Distinct, AreKnown}
-use Rattle.cweb_store.specs.Known.{name_in, names_in}
-
-abbrev Firsts : Type 0
-Firsts = List (Vec ℕ Global × ℕ)
-
--- a map finds a text where the list of its names has it
-pub lookup-any : (q : List ℕ) (es : Firsts)
-    → is_some (lookup (λ k. bytes_eq q k.items) es) ≡ list_any (bytes_eq q) (texts (names_in es))
-lookup-any q [] = refl
-lookup-any q (e ∷ es) =
-    elim (bytes_eq q e.0.items) as (λ b.
-    is_some (cond b (Some e.1) (lookup (λ k. bytes_eq q k.items) es))
-    ≡ (b || list_any (bytes_eq q) (texts (names_in es)))) [
-      | true ↦ refl
-      | false ↦ lookup-any q es
-    ]
-
--- a new name goes last
-pub insert-names : (es : Firsts) (key : Vec ℕ Global) (first : ℕ)
-    → list_any (bytes_eq key.items) (texts (names_in es)) ≡ false →
-    names_in (insert_entry (λ x y. bytes_eq x.items y.items) es key first)
-    ≡ names_in es ++ (record { text = key.items; first = first }) ∷ []
-insert-names [] key first h = refl
-insert-names (e ∷ es) key first h =
-    (elim (bytes_eq key.items e.0.items) as (λ b. (b || list_any (bytes_eq key.items) (texts (names_in es))) ≡ false →
-    names_in (if b then (e.0, first) ∷ es else e ∷ insert_entry (λ x y. bytes_eq x.items y.items) es key first)
-    ≡ name_in e ∷ names_in es ++ (record { text = key.items; first = first }) ∷ []) [
-      | true ↦ λ g. cc
-      | false ↦ λ g. ap (λ ns. name_in e ∷ ns) (insert-names es key first g)
-    ]) h
+use Rattle.cweb_store.specs.Found.{Entry, order, found_of, number_of, Distinct, AreKnown}
 
 pub bytes_eq-same : (a : List ℕ) → bytes_eq a a ≡ true
 bytes_eq-same a = (bytes_eq-Decides a a).1 refl
@@ -72,21 +41,63 @@ pub or-false : (a b : Bool) → (a || b) ≡ false → Neither a b
 or-false true b h = cc
 or-false false b h = record { left = refl; right = h }
 
--- the position of a name is that of the map's key
-pub position-names : (q : List ℕ) (es : Firsts)
-    → position_or_len (bytes_eq q) (texts (names_in es))
-    ≡ position_or_len (λ (k : Vec ℕ Global). bytes_eq q k.items) (keys_of es)
-position-names q [] = refl
-position-names q (e ∷ es) = ap (λ n. cond (not (bytes_eq q e.0.items)) (1 + n) 0) (position-names q es)
-
-pub position-some : {K : Type 0} (p : K → Bool) (ks : List K) (i : ℕ)
-    → position p ks ≡ Some i → i ≡ position_or_len p ks
-position-some p ks i h =
-    (elim (nat_lt (position_or_len p ks) (length ks))
-    as (λ v. cond v (Some (position_or_len p ks)) None ≡ Some i → i ≡ position_or_len p ks) [
-      | true ↦ λ g. cc
-      | false ↦ λ g. cc
+-- the number of a text among names, by its place
+pub number-some : (i : ℕ) (q : List ℕ) (ns : List Name) (n : NameId) → number_of i q ns ≡ Some n
+    → (list_any (bytes_eq q) (texts ns) ≡ true) × (n.0 ≡ i + position_or_len (bytes_eq q) (texts ns))
+number-some i q [] n h = cc
+number-some i q (m ∷ ns) n h =
+    (elim (bytes_eq q m.text) as (λ b. (if b then Some (id i) else number_of (i + 1) q ns) ≡ Some n →
+    ((b || list_any (bytes_eq q) (texts ns)) ≡ true)
+    × (n.0 ≡ i + cond (not b) (1 + position_or_len (bytes_eq q) (texts ns)) 0)) [
+      | true ↦ λ g.
+          let is : id i ≡ n = cc in
+          let number : i ≡ n.0 = ap (λ (x : NameId). x.0) is in
+          (refl, omega (arith, number))
+      | false ↦ λ g.
+          let r = number-some (i + 1) q ns n g in
+          (r.0, omega (arith, r.1))
     ]) h
+
+pub number-none : (i : ℕ) (q : List ℕ) (ns : List Name) → number_of i q ns ≡ None
+    → list_any (bytes_eq q) (texts ns) ≡ false
+number-none i q [] h = refl
+number-none i q (m ∷ ns) h =
+    (elim (bytes_eq q m.text) as (λ b. (if b then Some (id i) else number_of (i + 1) q ns) ≡ None →
+    (b || list_any (bytes_eq q) (texts ns)) ≡ false) [
+      | true ↦ λ g. cc
+      | false ↦ λ g. number-none (i + 1) q ns g
+    ]) h
+
+pub number-new : (i : ℕ) (q : List ℕ) (ns : List Name) → list_any (bytes_eq q) (texts ns) ≡ false
+    → number_of i q ns ≡ None
+number-new i q [] h = refl
+number-new i q (m ∷ ns) h =
+    let none = or-false (bytes_eq q m.text) (list_any (bytes_eq q) (texts ns)) h in
+    ap (λ b. if b then Some (id i) else number_of (i + 1) q ns) none.left ∙ number-new (i + 1) q ns none.right
+
+-- one more name, where no other has its text
+number-push : (i : ℕ) (q : List ℕ) (ns : List Name) (n : Name) (j : ℕ) → j ≡ i + length ns
+    → list_any (bytes_eq n.text) (texts ns) ≡ false
+    → number_of i q (ns ++ n ∷ []) ≡ cond (bytes_eq q n.text) (Some (id j)) (number_of i q ns)
+number-push i q [] n j e new =
+    let same : i ≡ j = omega arith in
+    elim (bytes_eq q n.text) as (λ b. (if b then Some (id i) else None) ≡ cond b (Some (id j)) None) [
+      | true ↦ ap (λ k. Some (id k)) same
+      | false ↦ refl
+    ]
+number-push i q (m ∷ ns) n j e new =
+    let none = or-false (bytes_eq n.text m.text) (list_any (bytes_eq n.text) (texts ns)) new in
+    let rest = number-push (i + 1) q ns n j (omega arith) none.right in
+    (elim (bytes_eq q m.text) as (λ b. bytes_eq q m.text ≡ b →
+    (if b then Some (id i) else number_of (i + 1) q (ns ++ n ∷ []))
+    ≡ cond (bytes_eq q n.text) (Some (id j)) (if b then Some (id i) else number_of (i + 1) q ns)) [
+      | true ↦ λ is.
+          let text : q ≡ m.text = (bytes_eq-Decides q m.text).0 is in
+          let other : bytes_eq q n.text ≡ false =
+          ap (λ t. bytes_eq t n.text) text ∙ bytes_eq-sym m.text n.text ∙ none.left in
+          sym (ap (λ b. cond b (Some (id j)) (Some (id i))) other)
+      | false ↦ λ is. rest
+    ]) refl
 
 pub position-none : {K : Type 0} (p : K → Bool) (ks : List K) → list_any p ks ≡ false → position_or_len p ks ≡ length ks
 position-none p [] h = refl
@@ -126,25 +137,48 @@ beginning-push i p (m ∷ ns) n j e =
       | false ↦ rest
     ])
 
--- a text that a map lacks it lacks after another one is put in
-lookup-insert : (es : List Entry) (key k : Vec ℕ Global) (v : NameId) → lookup (is_at (order key)) es ≡ None
-    → lookup (is_at (order k)) es ≡ None → is_eq (order k key) ≡ false →
-    lookup (is_at (order k)) (tree.insert_entry order es key v) ≡ None
-lookup-insert [] key k v new absent other = ap (λ b. cond b (Some v) None) other
-lookup-insert (e ∷ es) key k v new absent other =
-    (elim (order key e.0) as (λ o. cond (is_eq o) (Some e.1) (lookup (is_at (order key)) es) ≡ None →
-    lookup (is_at (order k))
-    (match_ordering o ((key, v) ∷ e ∷ es) ((e.0, v) ∷ es) (e ∷ tree.insert_entry order es key v)) ≡ None) [
-      | Less ↦ λ h. ap (λ b. cond b (Some v) (lookup (is_at (order k)) (e ∷ es))) other ∙ absent
-      | Equal ↦ λ h. cc
-      | Greater ↦ λ h.
-          (elim (is_eq (order k e.0)) as (λ b.
-          cond b (Some e.1) (lookup (is_at (order k)) es) ≡ None
-          → cond b (Some e.1) (lookup (is_at (order k)) (tree.insert_entry order es key v)) ≡ None) [
-            | true ↦ λ g. cc
-            | false ↦ λ g. lookup-insert es key k v h g other
-          ]) absent
-    ]) new
+-- a map gives what was put into it, and else what it gave
+swap-conds : {X : Type 0} (a b : Bool) (x y z : X) → (a ≡ true → b ≡ true → ⊥)
+    → cond a x (cond b y z) ≡ cond b y (cond a x z)
+swap-conds true true x y z h = absurd (h refl refl)
+swap-conds true false x y z h = refl
+swap-conds false true x y z h = refl
+swap-conds false false x y z h = refl
+
+abbrev at : List ℕ → Vec ℕ Global → Bool
+at q k = is_eq (slice_cmp nat_cmp q k.items)
+
+lookup-inserted : (es : List Entry) (key : Vec ℕ Global) (v : NameId) (q : List ℕ)
+    → lookup (at q) (tree.insert_entry order es key v) ≡ cond (bytes_eq q key.items) (Some v) (lookup (at q) es)
+lookup-inserted [] key v q = ap (λ b. cond b (Some v) None) (is_eq-slice_cmp q key.items)
+lookup-inserted (e ∷ es) key v q =
+    let rest = lookup (at q) es in
+    let here : at q e.0 ≡ bytes_eq q e.0.items = is_eq-slice_cmp q e.0.items in
+    (elim (order key e.0) as (λ o. order key e.0 ≡ o →
+    lookup (at q) (match_ordering o ((key, v) ∷ e ∷ es) ((e.0, v) ∷ es) (e ∷ tree.insert_entry order es key v))
+    ≡ cond (bytes_eq q key.items) (Some v) (cond (at q e.0) (Some e.1) rest)) [
+      | Less ↦ λ is.
+          ap (λ b. cond b (Some v) (cond (at q e.0) (Some e.1) rest)) (is_eq-slice_cmp q key.items)
+      | Equal ↦ λ is.
+          let same : key.items ≡ e.0.items =
+          (bytes_eq-Decides key.items e.0.items).0 (sym (is_eq-slice_cmp key.items e.0.items) ∙ ap is_eq is) in
+          let found : at q e.0 ≡ bytes_eq q key.items = here ∙ ap (bytes_eq q) (sym same) in
+          (elim (bytes_eq q key.items) as (λ b. at q e.0 ≡ b →
+          cond (at q e.0) (Some v) rest ≡ cond b (Some v) (cond (at q e.0) (Some e.1) rest)) [
+            | true ↦ λ g. ap (λ b. cond b (Some v) rest) g
+            | false ↦ λ g. ap (λ b. cond b (Some v) rest) g ∙ sym (ap (λ b. cond b (Some e.1) rest) g)
+          ]) found
+      | Greater ↦ λ is.
+          ap (λ r. cond (at q e.0) (Some e.1) r) (lookup-inserted es key v q)
+          ∙ swap-conds (at q e.0) (bytes_eq q key.items) (Some e.1) (Some v) rest
+          (λ f g.
+          let text : key.items ≡ e.0.items =
+          sym ((bytes_eq-Decides q key.items).0 g) ∙ (bytes_eq-Decides q e.0.items).0 (sym here ∙ f) in
+          let equal : is_eq (order key e.0) ≡ true =
+          is_eq-slice_cmp key.items e.0.items ∙ (bytes_eq-Decides key.items e.0.items).1 text in
+          let none : false ≡ true = sym (ap is_eq is) ∙ equal in
+          cc)
+    ]) refl
 
 pub Distinct-push : (xs : List (List ℕ)) (y : List ℕ) → Distinct xs
     → list_any (bytes_eq y) xs ≡ false → Distinct (xs ++ y ∷ [])
@@ -166,16 +200,13 @@ known-push es ns key first v known new last =
     let n : Name = record { text = key.items; first = first } in
     record {
       finds = λ p.
-          found-insert p es key v (known.lacks key new) ∙ ap (grown (starts_with nat_eq key.items p) v) (known.finds p)
+          found-insert p es key v (known.gives key.items ∙ number-new 0 key.items ns new)
+          ∙ ap (grown (starts_with nat_eq key.items p) v) (known.finds p)
           ∙ ap (λ w. grown (starts_with nat_eq key.items p) w (found_of (beginning p ns))) last
           ∙ sym (beginning-push 0 p ns n (length ns) (omega arith));
-      lacks = λ k h.
-          let both =
-          or-false (list_any (bytes_eq k.items) (texts ns)) (bytes_eq k.items key.items || false)
-          (sym (list_any-append (bytes_eq k.items) (texts ns) (key.items ∷ []))
-          ∙ sym (ap (list_any (bytes_eq k.items)) (texts-push ns n)) ∙ h) in
-          let other = or-false (bytes_eq k.items key.items) false both.right in
-          lookup-insert es key k v (known.lacks key new) (known.lacks k both.left)
-          (is_eq-slice_cmp k.items key.items ∙ other.left);
+      gives = λ q.
+          lookup-inserted es key v q ∙ ap (λ r. cond (bytes_eq q key.items) (Some v) r) (known.gives q)
+          ∙ ap (λ w. cond (bytes_eq q key.items) (Some w) (number_of 0 q ns)) last
+          ∙ sym (number-push 0 q ns n (length ns) (omega arith) new);
       distinct = subst Distinct (sym (texts-push ns n)) (Distinct-push (texts ns) key.items known.distinct new);
     }

@@ -1,16 +1,15 @@
 -- What there is of the names that begin with a prefix: in a sorted map, and in a list of names.
-use Rattle.std.specs.Prelude.{◌≡◌, ℕ, Bool, true, false, List, [], ◌∷◌, None, map, filter, nat_eq, bytes_eq, Vec}
+use Rattle.std.specs.Prelude.{◌≡◌, ℕ, Bool, true, false, List, [], ◌∷◌, ◌+◌, Option, Some, None, map, filter, nat_eq, bytes_eq, Vec, if◌then◌else◌}
 use Rattle.std.specs.List.{starts_with, list_any}
 use Rattle.std.specs.Map.{lookup}
-use Rattle.std.specs.BTreeMap.{is_at}
-use Rattle.std.specs.Ordering.{nat_cmp}
+use Rattle.std.specs.Ordering.{is_eq, nat_cmp}
 use Rattle.std.specs.Cmp.Lexicographic.{slice_cmp}
 use Rattle.std.specs.declared.cmp.Ordering.{Ordering}
 use Rattle.std.specs.declared.alloc.Global.{Global}
 use Rattle.cweb_store.specs.declared.names.NameId.{NameId}
 use Rattle.cweb_store.specs.declared.names.found.Found.{Found}
 use Rattle.cweb_store.specs.declared.names.found.Found.TheVariants.{Nothing, One, Several}
-use Rattle.cweb_store.specs.Names.{Name, texts, beginning}
+use Rattle.cweb_store.specs.Names.{Name, id, texts, beginning}
 
 abbrev pub found_of : List NameId → Found
 found_of [] = Nothing
@@ -41,8 +40,13 @@ abbrev pub Distinct : List (List ℕ) → Type 0
 Distinct [] = Unit {0}
 Distinct (x ∷ xs) = (list_any (bytes_eq x) xs ≡ false) × Distinct xs
 
--- a map finds for every prefix what the list of names has, and lacks each text that the list lacks
+-- the number of a name, if there is one with the text, where the first name has number i
+abbrev pub number_of : ℕ → List ℕ → List Name → Option NameId
+number_of i text [] = None
+number_of i text (n ∷ ns) = if bytes_eq text n.text then Some (id i) else number_of (i + 1) text ns
+
+-- a map finds for every prefix, and for every text, what the list of names has
 pub record AreKnown (es : List Entry) (names : List Name) : Type 0 where
   pub finds : (p : List ℕ) → found_of (numbers p es) ≡ found_of (beginning p names)
-  pub lacks : (k : Vec ℕ Global) → list_any (bytes_eq k.items) (texts names) ≡ false → lookup (is_at (order k)) es ≡ None
+  pub gives : (q : List ℕ) → lookup (λ (k : Vec ℕ Global). is_eq (slice_cmp nat_cmp q k.items)) es ≡ number_of 0 q names
   pub distinct : Distinct (texts names)

@@ -1,20 +1,19 @@
--- Names in a map, and what is found of an occurrence when it is given.
-use Rattle.std.specs.Prelude.{ℕ, ◌+◌, List, [], ◌∷◌, Ok, Err, map, bytes_eq, Vec}
+-- Names in order, and what is found of an occurrence when it is given.
+use Rattle.std.specs.Prelude.{ℕ, ◌+◌, List, [], ◌∷◌, Ok, Err, map, bytes_eq}
 use Rattle.std.specs.List.{position_or_len}
-use Rattle.std.specs.declared.alloc.Global.{Global}
 use Rattle.cweb_store.specs.declared.names.How.TheVariants.{Full, Prefix}
 use Rattle.cweb_store.specs.declared.names.NameKind.TheVariants.{Ambiguous}
 use Rattle.cweb_store.specs.declared.names.found.Found.{Found}
+use Rattle.cweb_store.specs.declared.names.known.KnownName.{KnownName}
 use Rattle.cweb_store.specs.declared.names.found.Found.TheVariants.{Nothing, One, Several}
 use Rattle.cweb_store.specs.Names.{Occurrence, Name, Standing, id, texts, beginning, with_name}
 use Rattle.cweb_store.specs.Found.{found_of}
 
-abbrev pub name_in : (Vec ℕ Global × ℕ) → Name
-name_in e = record { text = e.0.items; first = e.1 }
+abbrev pub name_in : KnownName → Name
+name_in n = record { text = n.text.items; first = n.first }
 
--- the names that a map keeps as its keys
-abbrev pub names_in : List (Vec ℕ Global × ℕ) → List Name
-names_in es = map name_in es
+abbrev pub names_in : List KnownName → List Name
+names_in ns = map name_in ns
 
 -- what the names before an occurrence, and its own where it gives one, say of it
 abbrev pub early : List Name → Occurrence → Found

@@ -2,7 +2,6 @@
 
 ghost use Rattle.std.specs.Prelude.{false, ◌≡◌, ◌<◌, ◌^◌, [], map, length, slice_get, bytes_eq, option_map, Some, IfOk, OnOk, OnErr};
 ghost use Rattle.std.specs.List.{position_or_len};
-ghost use Rattle.indexmap.specs.IndexMap.{spare, insert_entry};
 ghost use Rattle.cweb_store.specs.Names.{beginning, texts, with_name, with_text};
 ghost use Rattle.cweb_store.specs.Faults.{is_prefix_of_another};
 ghost use Rattle.cweb_store.specs.Found.{found_of};
@@ -11,17 +10,24 @@ ghost use Rattle.cweb_store.specs.Known.{early};
 
 use crate::names::found::{Found, find_one};
 use crate::names::{How, NameId};
-use indexmap::IndexMap;
+use crate::reserved::put;
 use std::alloc::{AllocError, Global};
 use std::collections::BTreeMap;
 use std::marker::Model;
 
-/// The names that were given in full, in order, each with the number of its first occurrence in full. They are kept
-/// sorted besides, so that those with a prefix are soon found.
+/// A name, and the number of its first occurrence in full.
+#[derive(Drop)]
+pub struct KnownName {
+    pub text: Vec<u8>,
+    pub first: u32,
+}
+
+/// The names that were given in full, in order. They are kept sorted besides, so that a name is soon found, and so are
+/// those with a prefix.
 #[derive(Drop)]
 pub struct KnownNames {
     alloc: Global,
-    firsts: IndexMap<Vec<u8>, u32>,
+    names: Vec<KnownName>,
     sorted: BTreeMap<Vec<u8>, NameId>,
 }
 
@@ -34,9 +40,9 @@ impl Model for KnownNames {
     ghost use Rattle.cweb_store.specs.Known.{names_in};
     ghost use Rattle.cweb_store.specs.Found.{AreKnown};
 
-    ghost view = { λ s. names_in s.firsts.entries };
+    ghost view = { λ s. names_in s.names.items };
 
-    ghost invariant = { λ s. AreKnown s.sorted.entries (names_in s.firsts.entries) };
+    ghost invariant = { λ s. AreKnown s.sorted.entries (names_in s.names.items) };
 }
 
 impl KnownNames {
@@ -45,7 +51,7 @@ impl KnownNames {
     {
         KnownNames {
             alloc,
-            firsts: IndexMap::new(alloc),
+            names: Vec::new(alloc),
             sorted: BTreeMap::new(alloc),
         }
     }
@@ -53,7 +59,7 @@ impl KnownNames {
     pub fn len(&self) -> usize
         ensures { result ≡ length self.now }
     {
-        self.firsts.len()
+        self.names.len()
     }
 
     /// Adds a name that occurrence `first` gives in full, if it is new, and answers its number. A refused call changes
@@ -65,15 +71,15 @@ impl KnownNames {
         ensures added { OnOk result (self.new ≡ with_text first self.old text.now) }
         ensures err { OnErr result (self.new ≡ self.old) }
     {
-        if let Some(number) = self.firsts.get_index_of(text) {
-            return Ok(NameId(number as u32));
+        if let Some(id) = self.sorted.get(text).copied() {
+            return Ok(id);
         }
-        let id = NameId(self.firsts.len() as u32);
+        let id = NameId(self.names.len() as u32);
         let key = Vec::from_slice(self.alloc, text)?;
-        let sorted_key = Vec::from_slice(self.alloc, text)?;
-        self.firsts.reserve(1)?;
-        self.sorted.insert(sorted_key, id)?;
-        put_name(&mut self.firsts, key, first);
+        let text = Vec::from_slice(self.alloc, text)?;
+        self.names.reserve(1)?;
+        self.sorted.insert(key, id)?;
+        put(&mut self.names, KnownName { text, first });
         Ok(id)
     }
 
@@ -106,10 +112,7 @@ impl KnownNames {
         requires { id.0 < length self.now }
         ensures { option_map (λ n. n.text) (slice_get self.now id.0) ≡ Some result.now }
     {
-        match self.firsts.get_index(id.0 as usize) {
-            Some((text, _)) => text.as_slice(),
-            None => unreachable!(),
-        }
+        self.names[id.0 as usize].text.as_slice()
     }
 
     /// The number of the occurrence that first gave a name in full.
@@ -117,10 +120,7 @@ impl KnownNames {
         requires { id.0 < length self.now }
         ensures { option_map (λ n. n.first) (slice_get self.now id.0) ≡ Some result }
     {
-        match self.firsts.get_index(id.0 as usize) {
-            Some((_, first)) => *first,
-            None => unreachable!(),
-        }
+        self.names[id.0 as usize].first
     }
 
     /// The numbers of the occurrences that first gave the names in full.
@@ -128,8 +128,8 @@ impl KnownNames {
         requires { length self.now < 2 ^ 32 }
         ensures { IfOk result (λ all. all.items ≡ map (λ n. n.first) self.now) }
     {
-        let mut all = Vec::with_capacity(self.alloc, self.firsts.len())?;
-        for number in 0..self.firsts.len() as u32 {
+        let mut all = Vec::with_capacity(self.alloc, self.names.len())?;
+        for number in 0..self.names.len() as u32 {
             all.push(self.first(NameId(number)))?;
         }
         Ok(all)
@@ -147,13 +147,4 @@ impl KnownNames {
         let found = find_one(&self.sorted, from, text);
         Ok(found.is_several())
     }
-}
-
-// Adds a name that is new, and for which there is room.
-fn put_name(names: &mut IndexMap<Vec<u8>, u32>, text: Vec<u8>, first: u32)
-    requires room { 0 < spare names.old }
-    ensures { names.new.entries
-        ≡ insert_entry (λ x y. bytes_eq x.items y.items) names.old.entries text first }
-{
-    let _ = names.insert(text, first);
 }
