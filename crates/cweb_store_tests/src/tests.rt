@@ -6,6 +6,7 @@ mod names;
 mod parts;
 mod rows;
 mod told;
+mod words;
 
 use cweb_store::*;
 use rows::store_of;

@@ -103,6 +103,15 @@ impl Row {
         Ok(())
     }
 
+    /// Pushes a word, once more where the call is refused.
+    pub fn push_word(&mut self, rt: &impl Abort, word: &[u8]) -> Result<(), AllocError> {
+        let call = Call::Pushes(Token::Word(word));
+        if self.make(rt, call).is_err() {
+            self.make(rt, call)?;
+        }
+        Ok(())
+    }
+
     #[tactic(auto, using(cweb_store::proofs::CallerLemmas::token_count_opened, cweb_store::proofs::CallerLemmas::token_count_pushed, cweb_store::proofs::CallerLemmas::token_count_dropped, cweb_store::proofs::CallerLemmas::token_count_closed, cweb_store::proofs::CallerLemmas::part_count_opened, cweb_store::proofs::CallerLemmas::part_count_pushed, cweb_store::proofs::CallerLemmas::part_count_dropped, cweb_store::proofs::CallerLemmas::part_count_closed))]
     fn make(&mut self, rt: &impl Abort, call: Call<'_>) -> Result<(), AllocError> {
         assert!(rt; self.calls < 1000);
