@@ -74,6 +74,8 @@ fn show(
 fn show_small(rt: &impl Print, alloc: Global) -> Result<()> {
     show_scanned(rt, alloc, SMALL_WEB)?;
     store::show(rt, alloc, "words", SMALL_STORE, "ask")?;
+    store::show(rt, alloc, "distinct", SMALL_STORE, "ask")?;
+    store::show(rt, alloc, "flood", SMALL_STORE, "ask")?;
     store::show(rt, alloc, "names", SMALL_STORE, "ask")?;
     store::show(rt, alloc, "parts", SMALL_STORE, "ask")?;
     out::show(rt, alloc, "chain", SMALL_OUTPUT, "print")?;

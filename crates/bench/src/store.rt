@@ -18,6 +18,10 @@ const LENGTH: usize = 8;
 pub enum Shape {
     /// Words of a vocabulary.
     Words,
+    /// Words that are all distinct.
+    Distinct,
+    /// Words that are all distinct, but for which a table has one place.
+    Flood,
     /// Names, with as many abbreviations.
     Names,
     /// Parts of one name.
@@ -28,6 +32,8 @@ impl Shape {
     fn of(word: &str) -> Option<Shape> {
         match word {
             "words" => Some(Shape::Words),
+            "distinct" => Some(Shape::Distinct),
+            "flood" => Some(Shape::Flood),
             "names" => Some(Shape::Names),
             "parts" => Some(Shape::Parts),
             _ => None,
@@ -99,6 +105,8 @@ fn filled(alloc: Global, shape: Shape, vocabulary: &[u8], count: u32) -> Result<
     let mut calls = Calls::new(alloc);
     match shape {
         Shape::Words => give_words(&mut calls, vocabulary, count)?,
+        Shape::Distinct => give_distinct(&mut calls, count)?,
+        Shape::Flood => give_flood(&mut calls, count)?,
         Shape::Names => give_names(&mut calls, count)?,
         Shape::Parts => give_parts(&mut calls, vocabulary, count)?,
     }
@@ -109,6 +117,25 @@ fn give_words(calls: &mut Calls, vocabulary: &[u8], count: u32) -> Result<()> {
     calls.open(PartKind::Unnamed)?;
     for number in 0..count {
         calls.push(Token::Word(drawn(vocabulary, number)))?;
+    }
+    Ok(())
+}
+
+fn give_distinct(calls: &mut Calls, count: u32) -> Result<()> {
+    calls.open(PartKind::Unnamed)?;
+    for number in 0..count {
+        let word = format!(in calls.alloc; "{number:08}wordword")?;
+        calls.push(Token::Word(word.as_bytes()))?;
+    }
+    Ok(())
+}
+
+// The Words differ in the middle alone, where a store's table doesn't look.
+fn give_flood(calls: &mut Calls, count: u32) -> Result<()> {
+    calls.open(PartKind::Unnamed)?;
+    for number in 0..count {
+        let word = format!(in calls.alloc; "wordword{number:08}wordword")?;
+        calls.push(Token::Word(word.as_bytes()))?;
     }
     Ok(())
 }

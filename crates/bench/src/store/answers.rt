@@ -7,7 +7,7 @@ use cweb_store::{NameId, NameRef, Store, Token};
 /// or the parts of the name.
 pub fn of(store: &Store, shape: Shape, count: u32) -> u64 {
     match shape {
-        Shape::Words => bytes_of_words(store),
+        Shape::Words | Shape::Distinct | Shape::Flood => bytes_of_words(store),
         Shape::Names => standing_abbreviations(store, count),
         Shape::Parts => parts_of_first(store),
     }
