@@ -44,6 +44,7 @@ impl<'a> Frame<'a> {
         if self.defs || self.part.first >= self.part.after {
             return;
         }
-        self.part.first = printer.gather_run(store, self.part, gathered);
+        let next = printer.gather_run(store, self.part, gathered);
+        self.part.first = next;
     }
 }
