@@ -95,6 +95,14 @@ impl<'a> Expected<'a> {
         }
     }
 
+    /// The first use in a stretch of tokens.
+    pub fn tell_next_use(&mut self, store: &Store, first: u32, after: u32)
+        requires { first ≤ after }
+    {
+        self.tell(b" ");
+        self.tell_number(store.next_use(Part { first, after }));
+    }
+
     fn tell_names(&mut self, store: &Store) {
         for number in 0..store.names() {
             self.tell(store.name_text(NameId(number)));
