@@ -2,6 +2,7 @@
 // that keep files.
 mod bins;
 mod failing;
+mod gathering;
 mod large;
 mod outputs;
 mod told;

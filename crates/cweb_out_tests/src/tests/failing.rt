@@ -1,6 +1,7 @@
 // Sinks that fail, and memory that is refused.
 ghost use Rattle.std.specs.Prelude.{[], false};
 
+use super::gathering::gather_all;
 use super::told::print_file;
 use super::webs::store_of;
 use cweb_files::{MemoryShelf, MemorySink, Sink, SinkFault};
@@ -74,12 +75,13 @@ fn merger(alloc: Global, shelf: &mut MemoryShelf) -> Result<Merger<MemoryShelf>,
     }
 }
 
-// Prints the web's main file to a sink that fails behind so many good writes; whether all was printed.
+// Prints the web's main file, token by token or gathered, to a sink that fails behind so many good writes; whether all was printed.
 fn print(
     rt: &impl Abort,
     alloc: Global,
     store: &Store,
     names: &FileNames,
+    gathers: bool,
     good: u64,
 ) -> Result<bool, PlanFault> {
     let plan = match plan(alloc, store, "s.c") {
@@ -93,7 +95,12 @@ fn print(
         good,
         failed: 0,
     };
-    if print_file(rt, &mut expander, names, &mut out).is_ok() {
+    let printed = if gathers {
+        gather_all(rt, alloc, &mut expander, names, &mut out)?
+    } else {
+        print_file(rt, &mut expander, names, &mut out)
+    };
+    if printed.is_ok() {
         assert_eq!(rt; out.sink.bytes(), PRINTED);
         assert_eq!(rt; out.failed, 0);
         return Ok(true);
@@ -105,30 +112,53 @@ fn print(
 }
 
 // The same, once more where memory was refused.
-fn prints_all(rt: &impl Abort, alloc: Global, store: &Store, names: &FileNames, good: u64) -> bool {
-    let first = match print(rt, alloc, store, names, good) {
-        Err(PlanFault::Memory) => print(rt, alloc, store, names, good),
+fn prints_all(
+    rt: &impl Abort,
+    alloc: Global,
+    store: &Store,
+    names: &FileNames,
+    gathers: bool,
+    good: u64,
+) -> bool {
+    let first = match print(rt, alloc, store, names, gathers, good) {
+        Err(PlanFault::Memory) => print(rt, alloc, store, names, gathers, good),
         other => other,
     };
     assert!(rt; first.is_ok());
     matches!(first, Ok(true))
 }
 
-// Run by `rt try --test --fail-alloc N` too, which refuses the Nth growth: then no token changes.
-#[test]
-fn a_front_is_written_up_to_a_fault(rt: HostRuntime) -> Result<(), Fail> {
-    let mut shelf = MemoryShelf::new(rt.alloc());
-    let merger = merger(rt.alloc(), &mut shelf)?;
-    let store = store(&rt, rt.alloc())?;
+// How many writes fail, each in turn, before all is printed.
+fn faults(rt: &impl Abort, alloc: Global, gathers: bool) -> Result<usize, Fail> {
+    let mut shelf = MemoryShelf::new(alloc);
+    let merger = merger(alloc, &mut shelf)?;
+    let store = store(rt, alloc)?;
     let mut faults: usize = 0;
     for good in 0..1000 {
-        if prints_all(&rt, rt.alloc(), &store, merger.names(), good) {
+        if prints_all(rt, alloc, &store, merger.names(), gathers, good) {
             break;
         }
         faults = faults.saturating_add(1);
     }
+    Ok(faults)
+}
+
+// Run by `rt try --test --fail-alloc N` too, which refuses the Nth growth: then no token changes.
+#[test]
+fn a_front_is_written_up_to_a_fault(rt: HostRuntime) -> Result<(), Fail> {
+    let faults = faults(&rt, rt.alloc(), false)?;
     assert!(rt; faults > PRINTED.len() / 2);
     assert!(rt; faults < 1000);
+    Ok(())
+}
+
+// The sink takes two bytes a write, all of one piece.
+#[test]
+fn a_front_is_written_of_what_was_gathered(rt: HostRuntime) -> Result<(), Fail> {
+    assert_eq!(rt;
+        faults(&rt, rt.alloc(), true)?,
+        PRINTED.len() / 2 + PRINTED.len() % 2
+    );
     Ok(())
 }
 

@@ -16,14 +16,14 @@ use std::process::Abort;
 use std::test::Fail;
 
 // Tests have fewer tokens than this.
-const MANY: u32 = 1_000_000;
+pub const MANY: u32 = 1_000_000;
 
 fn tell(rt: &impl Abort, out: &mut MemorySink, piece: &[u8]) {
     assert!(rt; out.failures() == 0);
     assert_eq!(rt; out.write(piece), Ok(piece.len()));
 }
 
-fn is_named(names: &FileNames, token: &Token<'_>) -> bool
+pub fn is_named(names: &FileNames, token: &Token<'_>) -> bool
     ensures { result ≡ true → (s : Setting) → s.files ≡ names_of names.now → IsNamed s (seen token.now) }
 {
     match token {

@@ -1,4 +1,4 @@
-use Rattle.std.proofs.Common.{◌≡◌, vec_capacity}
+use Rattle.std.proofs.Common.{vec_capacity}
 use Rattle.cweb_out.specs.Frames.{Stands}
 use Rattle.cweb_out_tests.proofs.tests.large.counted.Given as goal
 
