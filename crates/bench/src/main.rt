@@ -14,7 +14,7 @@ mod calls;
 mod store;
 
 // what is planned, expanded and printed of a store
-mod out;
+mod outputs;
 
 use anyhow::{Context, Result, bail};
 use cweb_lines::MemoryShelf;
@@ -66,7 +66,7 @@ fn show(
 ) -> Result<()> {
     match layer {
         "store" => store::show(rt, alloc, shape, count, step),
-        "out" => out::show(rt, alloc, shape, count, step),
+        "out" => outputs::show(rt, alloc, shape, count, step),
         _ => bail!("scan, merge, store or out is wanted"),
     }
 }
@@ -78,9 +78,9 @@ fn show_small(rt: &impl Print, alloc: Global) -> Result<()> {
     store::show(rt, alloc, "flood", SMALL_STORE, "ask")?;
     store::show(rt, alloc, "names", SMALL_STORE, "ask")?;
     store::show(rt, alloc, "parts", SMALL_STORE, "ask")?;
-    out::show(rt, alloc, "chain", SMALL_OUTPUT, "print")?;
-    out::show(rt, alloc, "parts", SMALL_OUTPUT, "print")?;
-    out::show(rt, alloc, "uses", SMALL_OUTPUT, "print")
+    outputs::show(rt, alloc, "chain", SMALL_OUTPUT, "print")?;
+    outputs::show(rt, alloc, "parts", SMALL_OUTPUT, "print")?;
+    outputs::show(rt, alloc, "uses", SMALL_OUTPUT, "print")
 }
 
 fn show_scanned(rt: &impl Print, alloc: Global, text: &[u8]) -> Result<()> {

@@ -1,0 +1,104 @@
+// What is expanded and printed of a store.
+ghost use Rattle.std.specs.Prelude.{◌≡◌, ◌<◌, length, vec_capacity, true};
+ghost use Rattle.cweb_lines.specs.Names.{names_of};
+ghost use Rattle.cweb_store.specs.Seen.{seen};
+ghost use Rattle.cweb_out.specs.Frames.{Stands};
+ghost use Rattle.cweb_out.specs.Printers.{IsNamed};
+ghost use Rattle.cweb_out.specs.Printing.{Setting};
+
+use anyhow::{Result, bail, ensure};
+use cweb_files::{MemoryShelf, MemorySink, Sink};
+use cweb_lines::{FileNames, Merger};
+use cweb_out::{Expander, Gathered, Printer, plan};
+use cweb_store::{Store, Token};
+use std::alloc::Global;
+
+const WEB: &str = "web.w";
+
+// The room of the sink: a token has at most so many bytes here.
+const TOKEN_ROOM: usize = 32;
+
+/// Plans a store, and where the step says so, expands or prints its main file.
+pub fn show(rt: &impl Print, alloc: Global, store: &Store, step: &str) -> Result<()> {
+    let mut shelf = MemoryShelf::new(alloc);
+    shelf.put(WEB, b"")?;
+    let Ok(merger) = Merger::start(alloc, &mut shelf, WEB, None, None, None) else {
+        bail!("no web");
+    };
+    let Ok(plan) = plan(alloc, store, "web.c") else {
+        bail!("no plan");
+    };
+    ensure!(plan.outputs() > 0, "no output");
+    let mut expander = Expander::new(alloc, store, &plan, 0)?;
+    match step {
+        "plan" => Ok(()),
+        "expand" => {
+            let tokens = expand(&mut expander);
+            println!(rt; "{tokens} tokens expanded")?;
+            Ok(())
+        }
+        _ => {
+            let mut out = MemorySink::with_room(alloc, room(store))?;
+            let mut gathered = Gathered::new(alloc)?;
+            print(&mut expander, merger.names(), &mut gathered, &mut out)?;
+            let bytes = out.bytes().len();
+            println!(rt; "{bytes} bytes printed")?;
+            Ok(())
+        }
+    }
+}
+
+fn room(store: &Store) -> usize {
+    store.tokens() as usize * TOKEN_ROOM
+}
+
+// How many tokens an expander gives.
+fn expand(expander: &mut Expander<'_>) -> u32
+    requires { Stands expander.old.store.now expander.old.frames.items (vec_capacity expander.old.frames) }
+{
+    let mut count: u32 = 0;
+    'tokens: for _ in 0..u32::MAX {
+        if expander.next().is_none() {
+            break;
+        }
+        count = count.saturating_add(1);
+    }
+    count
+}
+
+fn is_named(names: &FileNames, token: &Token<'_>) -> bool
+    ensures { result ≡ true → (s : Setting) → s.files ≡ names_of names.now → IsNamed s (seen token.now) }
+{
+    match token {
+        Token::Mark(place) => place.file.0 < names.count(),
+        _ => true,
+    }
+}
+
+// Prints what an expander gives.
+fn print(
+    expander: &mut Expander<'_>,
+    names: &FileNames,
+    gathered: &mut Gathered,
+    out: &mut MemorySink,
+) -> Result<()>
+    requires { Stands expander.old.store.now expander.old.frames.items (vec_capacity expander.old.frames) }
+{
+    let mut printer = Printer::new(expander.store, names);
+    'tokens: for _ in 0..u32::MAX {
+        expander.gather(&mut printer, gathered);
+        let Some(token) = expander.next() else {
+            break;
+        };
+        ensure!(is_named(names, &token), "a line mark of no file");
+        ensure!(out.failures() == 0, "no room");
+        let Ok(()) = printer.gather(token, gathered, out) else {
+            bail!("no room");
+        };
+    }
+    ensure!(out.failures() == 0, "no room");
+    let Ok(()) = printer.finish(gathered, out) else {
+        bail!("no room");
+    };
+    Ok(())
+}
