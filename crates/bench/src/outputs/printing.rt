@@ -54,7 +54,8 @@ fn room(store: &Store) -> usize {
 
 // How many tokens an expander gives.
 fn expand(expander: &mut Expander<'_>) -> u32
-    requires { Stands expander.old.store.now expander.old.frames.items (vec_capacity expander.old.frames) }
+    requires { Stands expander.old.store.now
+        expander.old.frames.items (vec_capacity expander.old.frames) }
 {
     let mut count: u32 = 0;
     'tokens: for _ in 0..u32::MAX {
@@ -67,7 +68,8 @@ fn expand(expander: &mut Expander<'_>) -> u32
 }
 
 fn is_named(names: &FileNames, token: &Token<'_>) -> bool
-    ensures { result ≡ true → (s : Setting) → s.files ≡ names_of names.now → IsNamed s (seen token.now) }
+    ensures { result ≡ true → (s : Setting) → s.files ≡ names_of names.now
+        → IsNamed s (seen token.now) }
 {
     match token {
         Token::Mark(place) => place.file.0 < names.count(),
@@ -82,7 +84,8 @@ fn print(
     gathered: &mut Gathered,
     out: &mut MemorySink,
 ) -> Result<()>
-    requires { Stands expander.old.store.now expander.old.frames.items (vec_capacity expander.old.frames) }
+    requires { Stands expander.old.store.now
+        expander.old.frames.items (vec_capacity expander.old.frames) }
 {
     let mut printer = Printer::new(expander.store, names);
     'tokens: for _ in 0..u32::MAX {
