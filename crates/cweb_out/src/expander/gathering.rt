@@ -44,7 +44,6 @@ impl<'a> Frame<'a> {
         if self.defs || self.part.first >= self.part.after {
             return;
         }
-        let next = printer.gather_run(store, self.part, gathered);
-        self.part.first = next;
+        self.part.first = printer.gather_run(store, self.part, gathered);
     }
 }

@@ -5,7 +5,7 @@ use Rattle.cweb_out.proofs.expander.frame.Frame.gather.Goals as goal
 
 pub returns-clause-prints : goal.returns-clause-prints
 returns-clause-prints c =
-    let run = c.gather_run-next in
+    let run = c.gather_run-self in
     record {
       done = slice_range (all_tokens c.args.store.now.parts) c.args.self.now.part.first run.result;
       whole =
