@@ -6,7 +6,8 @@ MANDIR ?= $(PREFIX)/share/man
 CTANGLE := crates/ctangle/out/ctangle
 WMERGE := crates/wmerge/out/wmerge
 BENCH := crates/bench/out/bench
-KIT := rattle-kit-13f
+# any letter of it: the programs were proved with 13b and with 13f
+KIT := rattle-kit-13
 # a check by several jobs takes 1 to 4 GB
 JOBS ?= $(shell nproc)
 SOURCES := crates.txt $(shell find crates -name out -prune -o -type f \( -name '*.rt' -o -name '*.antt' \) -print)
@@ -30,8 +31,8 @@ build: $(WMERGE) $(CTANGLE)
 
 # kit WHAT: says at once where the kit that proves and builds isn't there, or is another one
 define kit
-@command -v rt > /dev/null || { echo 'make: $(1) takes $(KIT), and its command rt is not on the path' >&2; exit 1; }
-@case $$(rt version) in '$(KIT) '*) ;; *) echo "make: $(1) takes $(KIT), and rt is of another kit: $$(rt version)" >&2; exit 1;; esac
+@command -v rt > /dev/null || { echo 'make: $(1) takes a $(KIT), and its command rt is not on the path' >&2; exit 1; }
+@case $$(rt version) in '$(KIT)'[a-z]' '*) ;; *) echo "make: $(1) takes a $(KIT), and rt is of another kit: $$(rt version)" >&2; exit 1;; esac
 @mkdir -p $(@D)
 endef
 
