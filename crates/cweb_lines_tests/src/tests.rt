@@ -9,20 +9,7 @@ mod webs;
 use cweb_lines::*;
 use std::alloc::{AllocError, Global};
 use std::test::Fail;
-
-fn put_all(shelf: &mut MemoryShelf, files: &[(&str, &[u8])]) -> Result<(), AllocError> {
-    for (name, text) in files {
-        shelf.put(*name, *text)?;
-    }
-    Ok(())
-}
-
-/// A shelf with these texts under their names.
-fn shelf_of(alloc: Global, files: &[(&str, &[u8])]) -> Result<MemoryShelf, AllocError> {
-    let mut shelf = MemoryShelf::new(alloc);
-    put_all(&mut shelf, files)?;
-    Ok(shelf)
-}
+use trial::shelf_of;
 
 /// A fault in a line, with its count where it has one.
 fn tell_fault(told: &mut String, fault: &SourceFault) -> Result<(), Fail> {

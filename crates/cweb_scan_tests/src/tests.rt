@@ -15,20 +15,12 @@ mod sections;
 mod told;
 mod worked;
 
-use cweb_lines::{MemoryShelf, Merger};
+use cweb_lines::Merger;
 use cweb_scan::{Scanned, scan};
-use std::alloc::{AllocError, Global};
+use std::alloc::Global;
 use std::test::Fail;
 use told::told;
-
-/// A shelf with these texts under their names.
-fn shelf_of(alloc: Global, files: &[(&str, &[u8])]) -> Result<MemoryShelf, AllocError> {
-    let mut shelf = MemoryShelf::new(alloc);
-    for (name, text) in files {
-        shelf.put(*name, *text)?;
-    }
-    Ok(shelf)
-}
+use trial::shelf_of;
 
 /// What a scan makes of the web `a.w` of these files, with a change file or without.
 fn scanned(alloc: Global, files: &[(&str, &[u8])], change: Option<&str>) -> Result<Scanned, Fail> {

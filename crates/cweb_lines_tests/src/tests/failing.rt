@@ -1,9 +1,9 @@
 // A read, a write or an allocation that fails in the midst of a run.
 ghost use Rattle.std.specs.Prelude.{◌≡◌, IfOk};
 
-use super::devices::{OneReadFails, SmallSink};
 use super::*;
 use std::process::Abort;
+use trial::{TrialShelf, TrialSink};
 
 const FILES: [(&str, &[u8]); 2] = [("a.w", b"one\n@i b.w\n@i gone\nthree\n"), ("b.w", b"two\n")];
 
@@ -27,8 +27,8 @@ const FAULTS_CHANGED: &str =
 // So many lines come before a read fails.
 fn takes_lines(
     rt: &impl Abort,
-    merger: &mut Merger<OneReadFails>,
-    shelf: &mut OneReadFails,
+    merger: &mut Merger<TrialShelf>,
+    shelf: &mut TrialShelf,
     line: &mut Vec<u8>,
     lines: u32,
 ) -> Result<(), Stop> {
@@ -42,8 +42,8 @@ fn takes_lines(
 // The next read fails, and none is made behind it.
 fn stops_twice(
     rt: &impl Abort,
-    merger: &mut Merger<OneReadFails>,
-    shelf: &mut OneReadFails,
+    merger: &mut Merger<TrialShelf>,
+    shelf: &mut TrialShelf,
     line: &mut Vec<u8>,
     stop: Stop,
 ) {
@@ -59,8 +59,8 @@ fn stops_twice(
 // The text of the read that failed, by its number and its name.
 fn failed_in(
     rt: &impl Abort,
-    merger: &Merger<OneReadFails>,
-    shelf: &OneReadFails,
+    merger: &Merger<TrialShelf>,
+    shelf: &TrialShelf,
     file: u32,
     name: &str,
 ) {
@@ -73,11 +73,11 @@ fn failed_in(
 // A merger of which a read has failed writes nothing.
 fn writes_nothing(
     rt: &(impl AllocGlobal + Abort),
-    merger: &mut Merger<OneReadFails>,
-    shelf: &mut OneReadFails,
+    merger: &mut Merger<TrialShelf>,
+    shelf: &mut TrialShelf,
     stop: Stop,
 ) {
-    let mut sink = SmallSink::new(rt.alloc());
+    let mut sink = TrialSink::new(rt.alloc());
     assert!(rt; shelf.failed == 1);
     assert!(rt; write_merged(merger, shelf, &mut sink) == Err(stop));
     assert_eq!(rt; sink.writes, 0);
@@ -90,7 +90,7 @@ fn check_read(
     name: &str,
     lines: u32,
 ) -> Result<(), Fail> {
-    let mut shelf = OneReadFails::new(shelf_of(rt.alloc(), &FILES)?);
+    let mut shelf = TrialShelf::new(shelf_of(rt.alloc(), &FILES)?);
     shelf.fails_at = fails_at;
     let mut merger = Merger::start(rt.alloc(), &mut shelf, "a.w", None, None, None)?;
     let mut line = Vec::new(rt.alloc());
@@ -119,8 +119,8 @@ fn a_read_that_fails(rt: HostRuntime) -> Result<(), Fail> {
 // A merger of which a read has failed: it answers that text's stop, and reads no more.
 fn stays_stopped(
     rt: &(impl AllocGlobal + Abort),
-    merger: &mut Merger<OneReadFails>,
-    shelf: &mut OneReadFails,
+    merger: &mut Merger<TrialShelf>,
+    shelf: &mut TrialShelf,
     ended: Result<(), Stop>,
 ) -> Result<(), Fail> {
     let stop = Stop::ReadFault(FileId(shelf.failed_in));
@@ -146,10 +146,10 @@ fn leaves_all(rt: &impl Abort, written: &[u8], faults: &str) {
 }
 
 // A shelf of the texts, of which a read fails where a byte is read at once.
-fn byte_by_byte(alloc: Global, fails_at: u64) -> Result<OneReadFails, AllocError>
+fn byte_by_byte(alloc: Global, fails_at: u64) -> Result<TrialShelf, AllocError>
     ensures { IfOk result (λ shelf. shelf.failed ≡ 0) }
 {
-    let mut shelf = OneReadFails::new(shelf_of(alloc, &CHANGED)?);
+    let mut shelf = TrialShelf::new(shelf_of(alloc, &CHANGED)?);
     shelf.most = 1;
     shelf.fails_at = fails_at;
     Ok(shelf)
@@ -160,7 +160,7 @@ fn check_run(rt: &(impl AllocGlobal + Abort), fails_at: u64) -> Result<usize, Fa
     let alloc = rt.alloc();
     let mut shelf = byte_by_byte(alloc, fails_at)?;
     let mut merger = Merger::start(alloc, &mut shelf, "a.w", None, Some("c.ch"), None)?;
-    let mut sink = SmallSink::new(alloc);
+    let mut sink = TrialSink::new(alloc);
     let ended = write_merged(&mut merger, &mut shelf, &mut sink);
     let faults = faults_told(alloc, &merger)?;
     leaves_a_front(rt, &sink.bytes, faults.as_str());
@@ -188,11 +188,11 @@ fn each_read_that_fails(rt: HostRuntime) -> Result<(), Fail> {
 
 // What is written until a read fails, where lines are gathered up to so many bytes.
 fn written(alloc: Global, fails_at: u64, most: usize, room: usize) -> Result<Vec<u8>, Fail> {
-    let mut shelf = OneReadFails::new(shelf_of(alloc, &CHANGED)?);
+    let mut shelf = TrialShelf::new(shelf_of(alloc, &CHANGED)?);
     shelf.most = most;
     shelf.fails_at = fails_at;
     let mut merger = Merger::start(alloc, &mut shelf, "a.w", None, Some("c.ch"), None)?;
-    let mut sink = SmallSink::new(alloc);
+    let mut sink = TrialSink::new(alloc);
     if let Err(stop) = write_merged_in_pieces(&mut merger, &mut shelf, &mut sink, room) {
         if shelf.failed == 0 {
             return Err(stop.into());
@@ -227,10 +227,10 @@ fn lines_gathered_before_a_read_that_fails(rt: HostRuntime) -> Result<(), Fail> 
 }
 
 // A sink of which a write fails, and which takes at most so many bytes at once.
-fn failing_sink(alloc: Global, fails_at: u64, most: usize) -> SmallSink
+fn failing_sink(alloc: Global, fails_at: u64, most: usize) -> TrialSink
     ensures { result.failed ≡ 0 }
 {
-    let mut sink = SmallSink::new(alloc);
+    let mut sink = TrialSink::new(alloc);
     sink.most = most;
     sink.fails_at = fails_at;
     sink
@@ -241,7 +241,7 @@ fn fails_behind(
     rt: &impl Abort,
     merger: &mut Merger<MemoryShelf>,
     shelf: &mut MemoryShelf,
-    sink: &mut SmallSink,
+    sink: &mut TrialSink,
     written: &str,
 ) {
     assert!(rt; sink.failed == 0);
@@ -258,7 +258,7 @@ fn goes_on(
     shelf: &mut MemoryShelf,
     rest: &str,
 ) -> Result<(), Fail> {
-    let mut after = SmallSink::new(rt.alloc());
+    let mut after = TrialSink::new(rt.alloc());
     write_merged(merger, shelf, &mut after)?;
     assert!(rt; after.bytes.as_slice() == rest.as_bytes());
     Ok(())
@@ -300,7 +300,7 @@ fn stays_refused(
 ) {
     let mut line = Vec::new(rt.alloc());
     assert!(rt; merger.next_line(shelf, &mut line) == Err(Stop::Memory));
-    let mut after = SmallSink::new(rt.alloc());
+    let mut after = TrialSink::new(rt.alloc());
     assert!(rt; write_merged(merger, shelf, &mut after) == Err(Stop::Memory));
     assert!(rt; after.writes == 0);
 }

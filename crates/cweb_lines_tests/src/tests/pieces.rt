@@ -1,7 +1,7 @@
 // The same text however lines are gathered and however little is taken at once.
-use super::devices::{OneReadFails, SmallSink};
 use super::*;
 use std::process::Abort;
+use trial::{TrialShelf, TrialSink};
 
 const PIECES: &[(&str, &[u8])] = &[
     ("a.w", b"one\n@i b.w\nthree, which is longer\n\nfive"),
@@ -9,10 +9,10 @@ const PIECES: &[(&str, &[u8])] = &[
 ];
 
 // What is written where lines are gathered up to so many bytes, and at most so many are taken at once.
-fn written(alloc: Global, room: usize, most: usize) -> Result<SmallSink, Fail> {
+fn written(alloc: Global, room: usize, most: usize) -> Result<TrialSink, Fail> {
     let mut shelf = shelf_of(alloc, PIECES)?;
     let mut merger = Merger::start(alloc, &mut shelf, "a.w", None, None, None)?;
-    let mut sink = SmallSink::new(alloc);
+    let mut sink = TrialSink::new(alloc);
     sink.most = most;
     write_merged_in_pieces(&mut merger, &mut shelf, &mut sink, room)?;
     Ok(sink)
@@ -59,11 +59,11 @@ const READS: &[(&str, &[u8])] = &[
 ];
 
 // What is written where at most so many bytes are read at once.
-fn written_of_reads(alloc: Global, most: usize) -> Result<SmallSink, Fail> {
-    let mut shelf = OneReadFails::new(shelf_of(alloc, READS)?);
+fn written_of_reads(alloc: Global, most: usize) -> Result<TrialSink, Fail> {
+    let mut shelf = TrialShelf::new(shelf_of(alloc, READS)?);
     shelf.most = most;
     let mut merger = Merger::start(alloc, &mut shelf, "a.w", None, None, None)?;
-    let mut sink = SmallSink::new(alloc);
+    let mut sink = TrialSink::new(alloc);
     write_merged_in_pieces(&mut merger, &mut shelf, &mut sink, 65536)?;
     Ok(sink)
 }

@@ -1,16 +1,15 @@
 // Sinks that fail, and memory that is refused.
-ghost use Rattle.std.specs.Prelude.{[], false};
-
 use super::gathering::gather_all;
 use super::told::print_file;
 use super::webs::store_of;
-use cweb_files::{MemoryShelf, MemorySink, Sink, SinkFault};
+use cweb_files::{MemoryShelf, Sink};
 use cweb_lines::{FileNames, Merger};
 use cweb_out::{BinFault, Bins, Expander, MemoryBins, PlanFault, plan};
 use cweb_store::Store;
 use std::alloc::{AllocError, Global};
 use std::process::Abort;
 use std::test::Fail;
+use trial::TrialSink;
 
 const NAME: &str = "s\".w";
 
@@ -20,42 +19,6 @@ const FILE: &[u8] =
 
 const PRINTED: &[u8] =
     b"/*1:*/\n#line 1 \"s\\\".w\"\n\nxXC3- -10@a\n#define M 1 \\\n\"x\"\n#define N\n/*2:*/b 'c'/*:2*/\n#line 12345 \"s\\\".w\"\n;\n/*:1*/\n";
-
-// Takes at most two bytes a write, and fails once, behind so many good writes.
-#[derive(Drop)]
-struct FailingSink {
-    sink: MemorySink,
-    good: u64,
-    failed: u64,
-}
-
-impl Sink for FailingSink {
-    ghost tells = { λ _. false };
-
-    ghost written = { λ _. [] };
-
-    ghost failed = { λ sink. sink.failed };
-
-    fn write(&mut self, piece: &[u8]) -> Result<usize, SinkFault> {
-        let most = piece.len().min(2);
-        if (self.good == 0 && self.failed == 0) || self.sink.failures() > 0 {
-            self.failed += 1;
-            return Err(SinkFault);
-        }
-        self.good = self.good.saturating_sub(1);
-        match self.sink.write(&piece[..most]) {
-            Ok(n) => Ok(n),
-            Err(fault) => {
-                self.failed += 1;
-                Err(fault)
-            }
-        }
-    }
-
-    fn failures(&self) -> u64 {
-        self.failed
-    }
-}
 
 // A growth that is refused is asked for once more: it is refused only once.
 fn store(rt: &impl Abort, alloc: Global) -> Result<Store, AllocError> {
@@ -90,23 +53,19 @@ fn print(
     };
     assert!(rt; plan.outputs() > 0);
     let mut expander = Expander::new(alloc, store, &plan, 0)?;
-    let mut out = FailingSink {
-        sink: MemorySink::with_room(alloc, 1000)?,
-        good,
-        failed: 0,
-    };
+    let mut out = TrialSink::failing_at(alloc, 1000, good + 1)?;
     let printed = if gathers {
         gather_all(rt, alloc, &mut expander, names, &mut out)?
     } else {
         print_file(rt, &mut expander, names, &mut out)
     };
     if printed.is_ok() {
-        assert_eq!(rt; out.sink.bytes(), PRINTED);
+        assert_eq!(rt; out.bytes(), PRINTED);
         assert_eq!(rt; out.failed, 0);
         return Ok(true);
     }
-    assert!(rt; PRINTED.starts_with(out.sink.bytes()));
-    assert!(rt; out.sink.bytes().len() < PRINTED.len());
+    assert!(rt; PRINTED.starts_with(out.bytes()));
+    assert!(rt; out.bytes().len() < PRINTED.len());
     assert_eq!(rt; out.failed, 1);
     Ok(false)
 }

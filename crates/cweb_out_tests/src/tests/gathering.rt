@@ -1,17 +1,18 @@
 // Files whose bytes are gathered in pieces: those that are written token by token, in few writes.
-ghost use Rattle.std.specs.Prelude.{[], vec_capacity, false};
+ghost use Rattle.std.specs.Prelude.{vec_capacity};
 ghost use Rattle.cweb_out.specs.Frames.{Stands};
 ghost use Rattle.cweb_out.specs.Outputs.{IsPlanOf};
 
 use super::told::{MANY, is_named, print_file};
 use super::webs::store_of;
-use cweb_files::{MemoryShelf, MemorySink, Sink, SinkFault};
+use cweb_files::{MemoryShelf, Sink, SinkFault};
 use cweb_lines::{FileNames, Merger};
 use cweb_out::{Expander, Gathered, Plan, Printer, plan};
 use cweb_store::Store;
 use std::alloc::{AllocError, Global};
 use std::process::Abort;
 use std::test::Fail;
+use trial::TrialSink;
 
 // So many bytes are gathered.
 const ROOM: usize = 65_536;
@@ -54,43 +55,6 @@ pub fn gather_all<W: Sink>(
     Ok(gather_file(rt, expander, names, &mut gathered, out))
 }
 
-// Counts the writes that it takes.
-#[derive(Drop)]
-struct CountingSink {
-    sink: MemorySink,
-    writes: u64,
-    failed: u64,
-}
-
-impl Sink for CountingSink {
-    ghost tells = { λ _. false };
-
-    ghost written = { λ _. [] };
-
-    ghost failed = { λ sink. sink.failed };
-
-    fn write(&mut self, piece: &[u8]) -> Result<usize, SinkFault> {
-        self.writes = self.writes.saturating_add(1);
-        if self.sink.failures() > 0 || self.sink.write(piece).is_err() {
-            self.failed += 1;
-            return Err(SinkFault);
-        }
-        Ok(piece.len())
-    }
-
-    fn failures(&self) -> u64 {
-        self.failed
-    }
-}
-
-fn sink(alloc: Global) -> Result<CountingSink, AllocError> {
-    Ok(CountingSink {
-        sink: MemorySink::with_room(alloc, 4 * ROOM)?,
-        writes: 0,
-        failed: 0,
-    })
-}
-
 // The sizes of the file of a web and the writes that it takes, gathered; its bytes are those that are written token by token.
 fn measured(rt: &impl Abort, alloc: Global, web: &[u8]) -> Result<(usize, u64), Fail> {
     let mut shelf = MemoryShelf::new(alloc);
@@ -114,13 +78,13 @@ fn printed(
 {
     assert!(rt; plan.outputs() > 0);
     let mut expander = Expander::new(alloc, store, plan, 0)?;
-    let mut pieces = sink(alloc)?;
+    let mut pieces = TrialSink::with_room(alloc, 4 * ROOM)?;
     assert!(rt; gather_all(rt, alloc, &mut expander, names, &mut pieces)?.is_ok());
     let mut expander = Expander::new(alloc, store, plan, 0)?;
-    let mut tokens = sink(alloc)?;
+    let mut tokens = TrialSink::with_room(alloc, 4 * ROOM)?;
     assert!(rt; print_file(rt, &mut expander, names, &mut tokens).is_ok());
-    assert!(rt; pieces.sink.bytes() == tokens.sink.bytes());
-    Ok((pieces.sink.bytes().len(), pieces.writes))
+    assert!(rt; pieces.bytes() == tokens.bytes());
+    Ok((pieces.bytes().len(), pieces.writes))
 }
 
 // A web of so many tokens of a kind.

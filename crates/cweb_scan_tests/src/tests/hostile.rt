@@ -1,6 +1,7 @@
 // Webs of a thousand nested names, of long lines, of many lines, and of every byte.
 use super::*;
 use cweb_rules::ScanKind;
+use std::alloc::AllocError;
 use std::process::Abort;
 
 // A text again and again.

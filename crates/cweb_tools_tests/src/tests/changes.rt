@@ -1,12 +1,12 @@
 // Runs with a change file.
-use super::failing::{FailingShelf, FailingSink};
 use super::merges::check_run;
-use super::told::{ROOM, shelf_of};
+use super::told::ROOM;
 use cweb_lines::{MemorySink, Shelf, Sink};
 use cweb_tools::run_wmerge;
 use std::alloc::AllocError;
 use std::process::Abort;
 use std::test::Fail;
+use trial::{TrialShelf, TrialSink, shelf_of};
 
 /// One run over `m.w`, `c.ch` and `inc.w`, and what it has to leave.
 fn check_change(
@@ -162,11 +162,7 @@ fn a_read_fails_in_a_change(rt: HostRuntime) -> Result<(), Fail> {
     let mut in_change = false;
     for good in 0..40 {
         let shelf = shelf_of(alloc, &[("m.w", WEB), ("c.ch", CHANGE)])?;
-        let mut shelf = FailingShelf {
-            shelf,
-            good,
-            failed: 0,
-        };
+        let mut shelf = TrialShelf::failing_at(shelf, good + 1);
         let mut out = MemorySink::with_room(alloc, ROOM)?;
         let mut log = MemorySink::with_room(alloc, ROOM)?;
         let status = run_wmerge(alloc, &["m", "c"], None, &mut shelf, &mut out, &mut log);
@@ -194,18 +190,13 @@ fn the_log_fails_without_a_change_file(rt: HostRuntime) -> Result<(), Fail> {
     for good in 0..10 {
         let mut shelf = shelf_of(alloc, &[("m.w", WEB)])?;
         let mut out = MemorySink::with_room(alloc, ROOM)?;
-        let sink = MemorySink::with_room(alloc, ROOM)?;
-        let mut log = FailingSink {
-            sink,
-            good,
-            failed: 0,
-        };
+        let mut log = TrialSink::failing_at(alloc, ROOM, good + 1)?;
         let words = ["m", "gone"];
         let status = run_wmerge(alloc, &words, None, &mut shelf, &mut out, &mut log);
         assert_eq!(rt; status, 1);
         assert_eq!(rt; log.failures(), 1);
         assert_eq!(rt; out.bytes(), b"".as_slice());
-        assert!(rt; line.starts_with(log.sink.bytes()));
+        assert!(rt; line.starts_with(log.bytes()));
     }
     Ok(())
 }

@@ -1,12 +1,13 @@
 // Runs over devices that fail, each call in turn: of the runs one after the other, those that leave what the run before left are
 // told once.
-use super::failing::{FailingBins, FailingShelf, FailingSink};
-use super::told::{FILES, ROOM, shelf_of, told};
+use super::failing::FailingBins;
+use super::told::{FILES, ROOM, told};
 use cweb_lines::MemorySink;
 use cweb_out::{Bins, MemoryBins};
 use cweb_tools::run_ctangle;
 use std::alloc::{AllocError, Global};
 use std::test::Fail;
+use trial::{TrialShelf, TrialSink, shelf_of};
 
 /// Two outputs, and a fault.
 const WEB: &[u8] = b"@ @d M 1\n@(a.h@>=\nint m=\"x\n";
@@ -92,11 +93,8 @@ fn each_read_fails(rt: HostRuntime) -> Result<(), Fail> {
     let mut all = String::new(alloc);
     let mut last = String::new(alloc);
     for good in 0..CALLS {
-        let mut shelf = FailingShelf {
-            shelf: shelf_of(alloc, &[("f.w", WEB), ("i.ch", b"")])?,
-            good,
-            failed: 0,
-        };
+        let shelf = shelf_of(alloc, &[("f.w", WEB), ("i.ch", b"")])?;
+        let mut shelf = TrialShelf::failing_at(shelf, good + 1);
         let mut bins = MemoryBins::with_room(alloc, FILES, ROOM)?;
         let mut log = MemorySink::with_room(alloc, ROOM)?;
         let status = run_ctangle(
@@ -125,11 +123,7 @@ fn each_write_of_the_log_fails(rt: HostRuntime) -> Result<(), Fail> {
     for good in 0..CALLS {
         let mut shelf = shelf_of(alloc, &[("f.w", WEB)])?;
         let mut bins = MemoryBins::with_room(alloc, FILES, ROOM)?;
-        let mut log = FailingSink {
-            sink: MemorySink::with_room(alloc, ROOM)?,
-            good,
-            failed: 0,
-        };
+        let mut log = TrialSink::failing_at(alloc, ROOM, good + 1)?;
         let status = run_ctangle(alloc, &["f"], None, &mut shelf, &mut bins, &mut log);
         let left = told(alloc, b"", bins.files(), status)?;
         add(&mut all, &mut last, left)?;

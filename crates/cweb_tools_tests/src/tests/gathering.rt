@@ -1,46 +1,10 @@
 // Many faults: their lines come in large pieces.
-ghost use Rattle.std.specs.Prelude.{[], false};
-
-use super::told::{ROOM, shelf_of};
-use cweb_lines::{MemorySink, Merger, Sink, SinkFault};
+use super::told::ROOM;
+use cweb_lines::{MemorySink, Merger};
 use cweb_tools::{run_wmerge, write_faults};
 use std::alloc::{AllocError, Global};
 use std::test::Fail;
-
-/// Counts the writes that it takes.
-#[derive(Drop)]
-struct Counting {
-    sink: MemorySink,
-    writes: u64,
-    failed: u64,
-}
-
-impl Sink for Counting {
-    ghost tells = { λ _. false };
-
-    ghost written = { λ _. [] };
-
-    ghost failed = { λ sink. sink.failed };
-
-    fn write(&mut self, piece: &[u8]) -> Result<usize, SinkFault> {
-        self.writes = self.writes.saturating_add(1);
-        if self.sink.failures() > 0 {
-            self.failed += 1;
-            return Err(SinkFault);
-        }
-        match self.sink.write(piece) {
-            Ok(n) => Ok(n),
-            Err(fault) => {
-                self.failed += 1;
-                Err(fault)
-            }
-        }
-    }
-
-    fn failures(&self) -> u64 {
-        self.failed
-    }
-}
+use trial::{TrialSink, shelf_of};
 
 /// A web of so many include lines without a name.
 fn faulty_web(alloc: Global, lines: u32) -> Result<Vec<u8>, AllocError> {
@@ -56,11 +20,7 @@ fn a_thousand_faults_are_few_writes(rt: HostRuntime) -> Result<(), Fail> {
     let alloc = rt.alloc();
     let mut shelf = shelf_of(alloc, &[("a.w", &faulty_web(alloc, 1000)?)])?;
     let mut out = MemorySink::with_room(alloc, ROOM)?;
-    let mut log = Counting {
-        sink: MemorySink::with_room(alloc, ROOM)?,
-        writes: 0,
-        failed: 0,
-    };
+    let mut log = TrialSink::with_room(alloc, ROOM)?;
     assert_eq!(rt;
         run_wmerge(alloc, &["a"], None, &mut shelf, &mut out, &mut log),
         1
@@ -71,7 +31,7 @@ fn a_thousand_faults_are_few_writes(rt: HostRuntime) -> Result<(), Fail> {
         expected.extend_from_slice(itoa::Buffer::new().format(line).as_bytes())?;
         expected.extend_from_slice(b": ! Include file name not given\n")?;
     }
-    assert_eq!(rt; log.sink.bytes(), expected.as_slice());
+    assert_eq!(rt; log.bytes(), expected.as_slice());
 
     // some forty bytes a line, and 4,096 a piece
     assert!(rt; log.writes < 12, "{}", log.writes);

@@ -1,11 +1,11 @@
 // Runs of `wmerge` over texts in memory, and over devices that fail.
-use super::failing::{FailingShelf, FailingSink};
-use super::told::{ROOM, shelf_of};
+use super::told::ROOM;
 use cweb_lines::{FileId, MemorySink, Shelf, Sink, Stop};
 use cweb_tools::{run_wmerge, write_stop};
 use std::alloc::AllocError;
 use std::process::Abort;
 use std::test::Fail;
+use trial::{TrialShelf, TrialSink, shelf_of};
 
 /// One run over texts in memory, and what it has to leave.
 pub fn check_run(
@@ -190,11 +190,7 @@ fn a_read_fails(rt: HostRuntime) -> Result<(), Fail> {
     let mut last_fault = 0;
     for good in 0..20 {
         let shelf = shelf_of(alloc, &[("a.w", WEB), ("lib/b.w", b"two\n")])?;
-        let mut shelf = FailingShelf {
-            shelf,
-            good,
-            failed: 0,
-        };
+        let mut shelf = TrialShelf::failing_at(shelf, good + 1);
         let mut out = MemorySink::with_room(alloc, ROOM)?;
         let mut log = MemorySink::with_room(alloc, ROOM)?;
         let status = run_wmerge(alloc, &["a"], Some("lib"), &mut shelf, &mut out, &mut log);
@@ -219,17 +215,12 @@ fn a_write_fails(rt: HostRuntime) -> Result<(), Fail> {
     let mut last_fault = 0;
     for good in 0..20 {
         let mut shelf = shelf_of(alloc, &[("a.w", b"one\ntwo\nthree\n")])?;
-        let sink = MemorySink::with_room(alloc, ROOM)?;
-        let mut out = FailingSink {
-            sink,
-            good,
-            failed: 0,
-        };
+        let mut out = TrialSink::failing_at(alloc, ROOM, good + 1)?;
         let mut log = MemorySink::with_room(alloc, ROOM)?;
         let status = run_wmerge(alloc, &["a"], None, &mut shelf, &mut out, &mut log);
         if out.failures() == 0 {
             assert_eq!(rt; status, 0);
-            assert_eq!(rt; out.sink.bytes(), MERGED);
+            assert_eq!(rt; out.bytes(), MERGED);
             continue;
         }
         last_fault = good;
@@ -238,7 +229,7 @@ fn a_write_fails(rt: HostRuntime) -> Result<(), Fail> {
             log.bytes(),
             b"! Write fault on standard output\n".as_slice()
         );
-        assert!(rt; MERGED.starts_with(out.sink.bytes()));
+        assert!(rt; MERGED.starts_with(out.bytes()));
     }
     assert_eq!(rt; last_fault, 6);
     Ok(())
@@ -250,17 +241,12 @@ fn the_log_fails(rt: HostRuntime) -> Result<(), Fail> {
     for good in 0..10 {
         let mut shelf = shelf_of(alloc, &[("a.w", WEB), ("lib/b.w", b"two\n")])?;
         let mut out = MemorySink::with_room(alloc, ROOM)?;
-        let sink = MemorySink::with_room(alloc, ROOM)?;
-        let mut log = FailingSink {
-            sink,
-            good,
-            failed: 0,
-        };
+        let mut log = TrialSink::failing_at(alloc, ROOM, good + 1)?;
         let status = run_wmerge(alloc, &["a"], Some("lib"), &mut shelf, &mut out, &mut log);
         assert_eq!(rt; status, 1);
         assert_eq!(rt; log.failures(), 1);
         assert_eq!(rt; out.bytes(), MERGED);
-        assert!(rt; FAULTS.starts_with(log.sink.bytes()));
+        assert!(rt; FAULTS.starts_with(log.bytes()));
     }
     Ok(())
 }

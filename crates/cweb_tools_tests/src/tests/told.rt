@@ -1,23 +1,15 @@
 // What a run leaves, as text.
-use cweb_lines::{MemoryShelf, MemorySink};
+use cweb_lines::MemorySink;
 use cweb_out::{BinFile, MemoryBins};
 use cweb_tools::run_ctangle;
 use std::alloc::{AllocError, Global};
+use trial::shelf_of;
 
 /// The room of a log and of each file: more than any text of these tests.
 pub const ROOM: usize = 4096;
 
 /// So many files have room.
 pub const FILES: usize = 8;
-
-/// Puts texts under their names.
-pub fn shelf_of(alloc: Global, texts: &[(&str, &[u8])]) -> Result<MemoryShelf, AllocError> {
-    let mut shelf = MemoryShelf::new(alloc);
-    for (name, text) in texts {
-        shelf.put(name, text)?;
-    }
-    Ok(shelf)
-}
 
 /// A log, the files and a status.
 pub fn told(

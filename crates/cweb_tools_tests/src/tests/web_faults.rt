@@ -1,9 +1,10 @@
 // The lines of what is wrong with a web's text.
-use super::told::{ROOM, shelf_of};
+use super::told::ROOM;
 use cweb_lines::{FileId, MemorySink, Merger, Place};
 use cweb_rules::{ScanFault, ScanKind};
 use cweb_tools::write_scan_faults;
 use std::test::Fail;
+use trial::shelf_of;
 
 #[test]
 fn lines_of_faults_of_a_text(rt: HostRuntime) -> Result<(), Fail> {

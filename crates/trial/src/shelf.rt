@@ -1,0 +1,97 @@
+// Texts under names, of which one read may fail.
+ghost use Rattle.std.specs.Prelude.{◌≡◌, [], None, false};
+
+use cweb_files::{MemoryReader, MemoryShelf, Shelf, ShelfFault};
+use std::alloc::{AllocError, Global};
+
+/// A shelf with these texts under their names.
+pub fn shelf_of(alloc: Global, texts: &[(&str, &[u8])]) -> Result<MemoryShelf, AllocError> {
+    let mut shelf = MemoryShelf::new(alloc);
+    for (name, text) in texts {
+        shelf.put(*name, *text)?;
+    }
+    Ok(shelf)
+}
+
+/// Texts in memory, of which at most so many bytes are read at once. One read fails.
+#[derive(Drop)]
+pub struct TrialShelf {
+    pub shelf: MemoryShelf,
+    pub most: usize,
+    pub reads: u64,
+    /// The number of the read that fails, from 1: with 0 none does.
+    pub fails_at: u64,
+    pub failed: u64,
+    /// How many texts were opened.
+    pub opened: u32,
+    /// The text of the read that failed: how many were opened before it.
+    pub failed_in: u32,
+}
+
+impl TrialShelf {
+    /// A shelf whose reads take all at once, and of which none fails.
+    pub fn new(shelf: MemoryShelf) -> Self
+        ensures { result.failed ≡ 0 }
+    {
+        TrialShelf {
+            shelf,
+            most: usize::MAX,
+            reads: 0,
+            fails_at: 0,
+            failed: 0,
+            opened: 0,
+            failed_in: 0,
+        }
+    }
+
+    /// A shelf that gives at most three bytes a read, and whose read with this number fails, from 1.
+    pub fn failing_at(shelf: MemoryShelf, read: u64) -> Self
+        ensures { result.failed ≡ 0 }
+    {
+        let mut failing = TrialShelf::new(shelf);
+        failing.most = 3;
+        failing.fails_at = read;
+        failing
+    }
+}
+
+impl Shelf for TrialShelf {
+    // How many texts were opened before it, and the place in its own.
+    type R = (u32, MemoryReader);
+
+    ghost tells = { λ _. false };
+
+    ghost texts = { λ _ _. None };
+
+    ghost left = { λ _ _. [] };
+
+    ghost failed = { λ shelf. shelf.failed };
+
+    fn fetch(&mut self, name: &str) -> Result<Option<(u32, MemoryReader)>, AllocError> {
+        let Some(reader) = self.shelf.fetch(name)? else {
+            return Ok(None);
+        };
+        let before = self.opened;
+        self.opened = before.saturating_add(1);
+        Ok(Some((before, reader)))
+    }
+
+    fn read(
+        &mut self,
+        reader: &mut (u32, MemoryReader),
+        piece: &mut [u8],
+    ) -> Result<usize, ShelfFault> {
+        self.reads = self.reads.saturating_add(1);
+        if self.reads == self.fails_at {
+            self.failed += 1;
+            self.failed_in = reader.0;
+            return Err(ShelfFault);
+        }
+        let n = piece.len().min(self.most.max(1));
+        self.shelf.read(&mut reader.1, &mut piece[..n])
+    }
+
+    fn failures(&self) -> u64 {
+        self.failed
+    }
+}
