@@ -19,7 +19,7 @@ use Rattle.cweb_store.proofs.SlotLemmas.{used-not, from-window, not-in-window, a
 use Rattle.cweb_store.proofs.MapLemmas.{mapped-grow, find-word, no-word, insert-any, insert-mapped}
 
 -- a word that is there
-known : (old : TextsAndWords) (word : List ℕ) (number : ℕ) → has old word ≡ true
+pub known : (old : TextsAndWords) (word : List ℕ) (number : ℕ) → has old word ≡ true
     → slice_get old.texts number ≡ Some word → KeepsWord old word number old
 known old word number h stands =
     let same : with_word old.words word ≡ old.words =

@@ -9,7 +9,7 @@ use Rattle.cweb_store.specs.declared.names.NameRef.{NameRef}
 use Rattle.cweb_store.specs.declared.parts.PartKind.{PartKind}
 use Rattle.cweb_store.specs.declared.parts.PartKind.TheVariants.{Unnamed, Named, Macro}
 use Rattle.cweb_store.specs.Names.{Occurrence, id, names, texts, standings, files}
-use Rattle.cweb_store.specs.Parts.{Token, Word, Number, Name, Mark, Blank, Newline, Join, Defs, joined, is_of, is_unnamed, is_macro, numbers_where, has_defs_code, is_defs}
+use Rattle.cweb_store.specs.Parts.{Token, Word, Number, Punct, Name, Mark, Blank, Newline, Join, Defs, joined, is_of, is_unnamed, is_macro, numbers_where, has_defs_code, is_defs}
 use Rattle.cweb_store.specs.Replacements.{replacement, replacement_of}
 use Rattle.cweb_store.specs.Faults.{fault, faults}
 use Rattle.cweb_store.specs.MoreLaws.{left_of_macro}
@@ -200,6 +200,14 @@ three_times = Opens Unnamed ∷ Pushes x ∷ Pushes x ∷ Pushes x ∷ []
 
 words_kept_once : bytes_kept (stored three_times) ≡ 1
 words_kept_once = refl
+
+-- and so are punctuators, of which one may be spelled like a Word
+abbrev arrow : Token
+arrow = Punct (codes "->")
+
+signs_kept_once : bytes_kept
+    (stored (Opens Unnamed ∷ Pushes arrow ∷ Pushes x ∷ Pushes (Punct (codes "x")) ∷ Pushes arrow ∷ [])) ≡ 3
+signs_kept_once = refl
 
 words_given : bytes_given (stored three_times) ≡ 3
 words_given = refl

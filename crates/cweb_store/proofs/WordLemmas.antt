@@ -1,4 +1,4 @@
--- Words that are kept once, and how many bytes of tokens are kept.
+-- Words and punctuators that are kept once, and how many bytes of tokens are kept.
 use Rattle.std.proofs.Common.{◌≡◌, ℕ, ◌+◌, ◌≤◌, true, false, cond, ◌||◌, List, [], ◌∷◌, ◌++◌, length, refl, sym, ◌∙◌, ap, arith}
 use Rattle.std.specs.Prelude.{bytes_eq, filter, fold, if◌then◌else◌}
 use Rattle.std.specs.List.{list_any}
@@ -41,7 +41,8 @@ same-more ws vs (Word b) same = λ q.
 same-more ws vs (Number b) same = same
 same-more ws vs (Literal b) same = same
 same-more ws vs (Verbatim b) same = same
-same-more ws vs (Punct b) same = same
+same-more ws vs (Punct b) same = λ q.
+    with-word-any q ws b ∙ ap (λ v. v || bytes_eq q b) (same q) ∙ sym (with-word-any q vs b)
 same-more ws vs Blank same = same
 same-more ws vs Newline same = same
 same-more ws vs Join same = same
@@ -69,7 +70,8 @@ same-more-bytes ws vs (Word b) same =
 same-more-bytes ws vs (Number b) same = omega arith
 same-more-bytes ws vs (Literal b) same = omega arith
 same-more-bytes ws vs (Verbatim b) same = omega arith
-same-more-bytes ws vs (Punct b) same = omega arith
+same-more-bytes ws vs (Punct b) same =
+    omega (arith, word-bytes ws b, word-bytes vs b, ap (λ v. cond v 0 (length b)) (same b))
 same-more-bytes ws vs Blank same = omega arith
 same-more-bytes ws vs Newline same = omega arith
 same-more-bytes ws vs Join same = omega arith
@@ -91,7 +93,7 @@ words-texts ws (Word b ∷ ts) = words-texts (with_word ws b) ts
 words-texts ws (Number b ∷ ts) = words-texts ws ts
 words-texts ws (Literal b ∷ ts) = words-texts ws ts
 words-texts ws (Verbatim b ∷ ts) = words-texts ws ts
-words-texts ws (Punct b ∷ ts) = words-texts ws ts
+words-texts ws (Punct b ∷ ts) = words-texts (with_word ws b) ts
 words-texts ws (Blank ∷ ts) = words-texts ws ts
 words-texts ws (Newline ∷ ts) = words-texts ws ts
 words-texts ws (Join ∷ ts) = words-texts ws ts
@@ -142,7 +144,7 @@ few-from ws (Word b ∷ ts) = omega (arith, word-few ws b, few-from (with_word w
 few-from ws (Number b ∷ ts) = omega (arith, few-from ws ts)
 few-from ws (Literal b ∷ ts) = omega (arith, few-from ws ts)
 few-from ws (Verbatim b ∷ ts) = omega (arith, few-from ws ts)
-few-from ws (Punct b ∷ ts) = omega (arith, few-from ws ts)
+few-from ws (Punct b ∷ ts) = omega (arith, word-few ws b, few-from (with_word ws b) ts)
 few-from ws (Blank ∷ ts) = omega (arith, few-from ws ts)
 few-from ws (Newline ∷ ts) = omega (arith, few-from ws ts)
 few-from ws (Join ∷ ts) = omega (arith, few-from ws ts)

@@ -28,7 +28,7 @@ abbrev pub with_texts : List (List ℕ) → TokensAndTexts → TokensAndTexts
 with_texts [] c = c
 with_texts (t ∷ ts) c = with_texts ts (with_text t c)
 
--- the records have their texts, of which the equal words of tokens are kept once
+-- the records have their texts, of which the equal words and punctuators of tokens are kept once
 pub record AreTokens (kept : TextsAndWords) (records : List Packed) : Type 0 where
   pub packed : ArePacked kept.texts records
   pub words : (q : List ℕ) → has kept q ≡ list_any (bytes_eq q) (words_of (map (token_in kept.texts) records))

@@ -17,6 +17,7 @@ pub mod Noted
 pub mod Keys
 pub mod Slots
 pub mod Words
+pub mod Signs
 pub mod Packed
 pub mod Trailing
 pub mod Found

@@ -46,22 +46,24 @@ with_word words word = if list_any (bytes_eq word) words then words else words +
 
 abbrev pub with_word_of : List (List ℕ) → Token → List (List ℕ)
 with_word_of words (Word b) = with_word words b
+with_word_of words (Punct b) = with_word words b
 with_word_of words token = words
 
--- the distinct Words among tokens
+-- the distinct texts of Words and Puncts among tokens
 abbrev pub words_of : List Token → List (List ℕ)
 words_of ts = fold with_word_of [] ts
 
--- how many bytes the text of a token has that is no Word
+-- how many bytes the text of a token has that is neither Word nor Punct
 abbrev pub other_bytes : Token → ℕ
 other_bytes (Word b) = 0
+other_bytes (Punct b) = 0
 other_bytes token = token_bytes token
 
--- the bytes of the texts of tokens, where equal Words count once
+-- the bytes of the texts of tokens, where equal ones of Words and Puncts count once
 abbrev pub token_bytes_kept : List Token → ℕ
 token_bytes_kept ts = total length (words_of ts) + total other_bytes ts
 
--- the bytes of all texts, where equal Words count once and any other text as often as it was given
+-- the bytes of all texts, where equal ones of Words and Puncts count once and any other text as often as it was given
 abbrev pub bytes_kept : Stored → ℕ
 bytes_kept s = token_bytes_kept (all_tokens s.parts) + (total length (map occurrence_text s.occurrences) + total length (map replacement_text s.replacements))
 

@@ -237,7 +237,7 @@ impl Store {
     }
 
     /// How many bytes the texts have, of tokens, names and replacements. They stand in one list of that many bytes, in
-    /// which equal Words are kept once.
+    /// which equal texts of Words and punctuators are kept once.
     pub fn text_bytes(&self) -> u64
         ensures texts { AreInOneList result (texts_of self.now) }
         ensures once { result ≡ bytes_kept self.now }

@@ -1,6 +1,7 @@
 // Tokens, as they are handed in and lent out.
 
 pub mod closed;
+pub mod kept;
 pub mod layout;
 pub mod list;
 pub mod noted;

@@ -5,6 +5,7 @@ mod lists;
 mod names;
 mod parts;
 mod rows;
+mod signs;
 mod told;
 mod words;
 

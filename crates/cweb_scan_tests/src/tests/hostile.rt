@@ -91,7 +91,7 @@ fn lines_of_a_million_bytes(rt: HostRuntime) -> Result<(), Fail> {
             b"",
             524_286,
             0,
-            LONGEST - 5,
+            10,
         ),
         (b"@ @d m ", b"x", LONGEST - 7, b"", 3, 0, LONGEST - 6),
     ] {

@@ -7,16 +7,16 @@ ghost use Rattle.cweb_store.specs.ClosedTokens.{tokens_alone};
 use crate::reserved::put;
 use crate::tokens::Token;
 use crate::tokens::closed::ClosedTokens;
+use crate::tokens::kept::KeptTexts;
 use crate::tokens::noted::Noted;
 use crate::tokens::packed::{Packed, lend, pack};
-use crate::tokens::words::WordTexts;
 use std::alloc::{AllocError, Global};
 use std::marker::Model;
 
 /// Tokens as records of fixed size, and their texts. Uses and Defs are noted beside them.
 #[derive(Drop)]
 pub struct TokenList {
-    texts: WordTexts,
+    texts: KeptTexts,
     records: Vec<Packed>,
     noted: Noted,
 }
@@ -46,7 +46,7 @@ impl TokenList {
         ensures { result.tokens ≡ [] }
     {
         TokenList {
-            texts: WordTexts::new(alloc),
+            texts: KeptTexts::new(alloc),
             records: Vec::new(alloc),
             noted: Noted::new(alloc),
         }

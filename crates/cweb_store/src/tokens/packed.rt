@@ -6,8 +6,8 @@ ghost use Rattle.cweb_store.specs.Seen.{seen};
 
 use crate::names::NameRef;
 use crate::tokens::Token;
+use crate::tokens::kept::KeptTexts;
 use crate::tokens::texts::PackedTexts;
-use crate::tokens::words::WordTexts;
 use cweb_files::Place;
 use std::alloc::AllocError;
 
@@ -31,7 +31,7 @@ pub enum Packed {
 
 /// The record of a token, whose text is kept. A refused call changes nothing.
 #[inline(always)]
-pub fn pack(texts: &mut WordTexts, token: Token<'_>) -> Result<Packed, AllocError>
+pub fn pack(texts: &mut KeptTexts, token: Token<'_>) -> Result<Packed, AllocError>
     ensures ok { IfOk result (λ packed. Packs texts.old (seen token.entry) packed texts.new) }
     ensures err { OnErr result (texts.new ≡ texts.old) }
 {
@@ -40,7 +40,7 @@ pub fn pack(texts: &mut WordTexts, token: Token<'_>) -> Result<Packed, AllocErro
         Token::Number(text) => Ok(Packed::Number(texts.keep(text)?)),
         Token::Literal(text) => Ok(Packed::Literal(texts.keep(text)?)),
         Token::Verbatim(text) => Ok(Packed::Verbatim(texts.keep(text)?)),
-        Token::Punct(text) => Ok(Packed::Punct(texts.keep(text)?)),
+        Token::Punct(text) => Ok(Packed::Punct(texts.keep_sign(text)?)),
         Token::Blank => Ok(Packed::Blank),
         Token::Newline => Ok(Packed::Newline),
         Token::Join => Ok(Packed::Join),

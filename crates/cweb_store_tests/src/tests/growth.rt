@@ -46,7 +46,7 @@ fn many_replacements_of_a_byte(rt: HostRuntime) -> Result<(), Fail> {
     Ok(())
 }
 
-// An equal Word is kept once; each other text as often as it is given.
+// An equal Word or Punct is kept once; each other text as often as it is given.
 #[test]
 fn bytes_of_texts(rt: HostRuntime) -> Result<(), Fail> {
     for (row, text) in [
@@ -59,7 +59,19 @@ fn bytes_of_texts(rt: HostRuntime) -> Result<(), Fail> {
             "program; number 12; word 12; number 12; verbatim 12; literal 12; word 12",
             "tokens 6; bytes 10",
         ),
-        ("program; word foo; sign +; sign +", "tokens 3; bytes 5"),
+        ("program; word foo; sign +; sign +", "tokens 3; bytes 4"),
+        (
+            "program; sign ->; sign >>; sign ->; sign -; sign >; sign -; sign ->",
+            "tokens 7; bytes 6",
+        ),
+        (
+            "program; sign a; word a; sign a; number a",
+            "tokens 4; bytes 2",
+        ),
+        (
+            "program; sign ; sign ; sign ...; sign ...",
+            "tokens 4; bytes 3",
+        ),
         (
             "program; word foo; full a.h b; full a.h b",
             "tokens 1; bytes 13",

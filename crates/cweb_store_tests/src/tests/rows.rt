@@ -103,9 +103,9 @@ impl Row {
         Ok(())
     }
 
-    /// Pushes a word, once more where the call is refused.
-    pub fn push_word(&mut self, rt: &impl Abort, word: &[u8]) -> Result<(), AllocError> {
-        let call = Call::Pushes(Token::Word(word));
+    /// Pushes a token, once more where the call is refused.
+    pub fn push(&mut self, rt: &impl Abort, token: Token<'_>) -> Result<(), AllocError> {
+        let call = Call::Pushes(token);
         if self.make(rt, call).is_err() {
             self.make(rt, call)?;
         }

@@ -41,7 +41,7 @@ fn pushed_twice(
     row.make_all(rt, "program")?;
     for _ in 0..2 {
         for number in 0..count {
-            row.push_word(rt, words.of(&digits(number)))?;
+            row.push(rt, Token::Word(words.of(&digits(number))))?;
         }
     }
     row.finish()
@@ -87,7 +87,7 @@ fn of_each_length(rt: &impl Abort, alloc: Global) -> Result<Store, AllocError> {
     row.make_all(rt, "program")?;
     for _ in 0..2 {
         for len in 0..41 {
-            row.push_word(rt, &LETTERS.as_slice()[..len])?;
+            row.push(rt, Token::Word(&LETTERS.as_slice()[..len]))?;
         }
     }
     row.finish()

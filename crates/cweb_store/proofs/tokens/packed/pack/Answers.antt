@@ -1,7 +1,7 @@
 use Rattle.std.proofs.Common.{ap, arith}
 use Rattle.cweb_store.specs.Parts as spec
 use Rattle.cweb_store.specs.Packed.{Packs}
-use Rattle.cweb_store.specs.declared.tokens.packed.Packed.TheVariants.{Number, Literal, Verbatim, Punct}
+use Rattle.cweb_store.specs.declared.tokens.packed.Packed.TheVariants.{Number, Literal, Verbatim}
 use Rattle.cweb_store.proofs.PackedLemmas.{get-text, get-within}
 use Rattle.cweb_store.proofs.tokens.packed.pack.Goals as goal
 
@@ -52,19 +52,3 @@ returns-in_ok-keep-in-Verbatim-clause-ok c =
       bytes = omega (arith, keeps.bytes);
     } in
     rw c.in-Verbatim.is packs
-
-pub returns-in_ok-keep-in-Punct-clause-ok : goal.returns-in_ok-keep-in-Punct-clause-ok
-returns-in_ok-keep-in-Punct-clause-ok c =
-    let new = c.keep-in-Punct.new.self in
-    let text = c.in-Punct.text.now in
-    let number = c.in_ok-keep-in-Punct.field-0 in
-    let keeps = c.in_ok-keep-in-Punct.ensures.ok in
-    let packs : Packs c.args.texts.now (spec.Punct text) (Punct number) new = record {
-      more = keeps.more;
-      grows = keeps.grows;
-      within = get-within new.texts number text keeps.stands;
-      stands = ap spec.Punct (get-text new.texts number text keeps.stands);
-      words = keeps.words;
-      bytes = omega (arith, keeps.bytes);
-    } in
-    rw c.in-Punct.is packs
