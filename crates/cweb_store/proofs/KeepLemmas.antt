@@ -30,6 +30,7 @@ known old word number h stands =
       stands = stands;
       words = λ q. ap (list_any (bytes_eq q)) (sym same);
       bytes = omega (arith, ap (total length) same);
+      few = omega arith;
     }
 
 pub slot-known : (texts : List (List ℕ)) (word : List ℕ) (ss : List Slot) (es : Entries) (number : ℕ)
@@ -80,6 +81,7 @@ new-keeps old word number new absent grows last words =
             ap (total length) longer,
             total-append length old.words (word ∷ []),
           );
+      few = omega arith;
     }
 
 -- in a slot

@@ -1,5 +1,5 @@
 -- Texts in one list of bytes, and how many bytes tokens and texts have.
-use Rattle.std.proofs.Common.{◌≡◌, ℕ, zero, suc, ◌+◌, ◌<◌, true, false, List, [], ◌∷◌, ◌++◌, Some, map, length, take, drop, refl, sym, ◌∙◌, ap, arith, length-append, append_assoc, append-nil, flat_map}
+use Rattle.std.proofs.Common.{◌≡◌, ℕ, zero, suc, ◌+◌, ◌<◌, ◌≤◌, Bool, true, false, List, [], ◌∷◌, ◌++◌, Some, map, length, take, drop, refl, sym, ◌∙◌, ap, arith, length-append, append_assoc, append-nil, flat_map}
 use Rattle.std.specs.Prelude.{slice_get, filter, bytes_eq, if◌then◌else◌}
 use Rattle.std.specs.List.{list_any}
 use Rattle.std.proofs.lemmas.List.{take-append-drop, drop-append-le, take-append-le, take-map}
@@ -181,6 +181,17 @@ packs-are old new ps t p all packs =
       packed = packs-all old new ps t p all.packed packs;
       words = λ q. words q ∙ ap (λ us. list_any (bytes_eq q) (words_of us)) (sym tokens);
       bytes = bytes ∙ ap token_bytes_kept (sym tokens);
+      few =
+          omega (
+            arith,
+            ap length packs.grows,
+            length-append old.texts packs.more,
+            packs.few,
+            all.few,
+            ap length (filter-append has_text ts (t ∷ [])),
+            length-append (filter has_text ts) (filter has_text (t ∷ [])),
+            ap (λ us. length (filter has_text us)) tokens,
+          );
     }
 
 -- fewer tokens with the same texts
@@ -196,7 +207,21 @@ truncate-are kept ps n all same =
       packed = packed-take kept.texts ps n all.packed;
       words = λ q. all.words q ∙ ap (list_any (bytes_eq q)) (same-words ts us fewer);
       bytes = all.bytes ∙ same-bytes ts us fewer;
+      few = omega (arith, all.few, ap length fewer);
     }
+
+filter-few : {A : Type 0} (p : A → Bool) (xs : List A) → length (filter p xs) ≤ length xs
+filter-few p [] = omega arith
+filter-few p (x ∷ xs) =
+    elim (p x) as (λ b. length (if b then x ∷ filter p xs else filter p xs) ≤ length (x ∷ xs)) [
+      | true ↦ omega (arith, filter-few p xs)
+      | false ↦ omega (arith, filter-few p xs)
+    ]
+
+-- there are no more texts than tokens
+pub texts-few : (kept : TextsAndWords) (ps : List Packed) → AreTokens kept ps
+    → length kept.texts ≤ length (map (token_in kept.texts) ps)
+texts-few kept ps all = omega (arith, all.few, filter-few has_text (map (token_in kept.texts) ps))
 
 -- one more of the other texts
 pub closed-add : (texts : List (List ℕ)) (t : List ℕ) (ps : List Packed) (own : ℕ)

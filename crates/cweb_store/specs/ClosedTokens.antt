@@ -1,11 +1,11 @@
 -- Tokens to which none comes, and other texts behind theirs.
-use Rattle.std.specs.Prelude.{◌≡◌, ◌≤◌, ℕ, List, [], ◌∷◌, ◌++◌, map, length, take, drop, bytes_eq}
+use Rattle.std.specs.Prelude.{◌≡◌, ◌≤◌, ℕ, List, [], ◌∷◌, ◌++◌, map, length, take, drop, filter, bytes_eq}
 use Rattle.std.specs.List.{list_any}
 use Rattle.cweb_store.specs.Parts.{Token}
 use Rattle.cweb_store.specs.declared.tokens.packed.Packed.{Packed}
 use Rattle.cweb_store.specs.Packed.{token_in, ArePacked}
 use Rattle.cweb_store.specs.PackedTexts.{text_bytes}
-use Rattle.cweb_store.specs.Texts.{token_bytes_kept, words_of}
+use Rattle.cweb_store.specs.Texts.{has_text, token_bytes_kept, words_of}
 use Rattle.cweb_store.specs.Words.{TextsAndWords, has}
 
 pub record TokensAndTexts : Type 0 where
@@ -28,11 +28,12 @@ abbrev pub with_texts : List (List ℕ) → TokensAndTexts → TokensAndTexts
 with_texts [] c = c
 with_texts (t ∷ ts) c = with_texts ts (with_text t c)
 
--- the records have their texts, of which the equal words and punctuators of tokens are kept once
+-- the records have their texts, of which the equal words and punctuators of tokens are kept once; no text is without a token
 pub record AreTokens (kept : TextsAndWords) (records : List Packed) : Type 0 where
   pub packed : ArePacked kept.texts records
   pub words : (q : List ℕ) → has kept q ≡ list_any (bytes_eq q) (words_of (map (token_in kept.texts) records))
   pub bytes : length (text_bytes kept.texts) ≡ token_bytes_kept (map (token_in kept.texts) records)
+  pub few : length kept.texts ≤ length (filter has_text (map (token_in kept.texts) records))
 
 -- the same of the first texts, where others stand behind them
 pub record AreClosed (texts : List (List ℕ)) (records : List Packed) (own : ℕ) : Type 0 where

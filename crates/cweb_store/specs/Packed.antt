@@ -1,9 +1,9 @@
 -- Tokens of fixed size, which have their texts by number.
-use Rattle.std.specs.Prelude.{◌≡◌, ℕ, ◌<◌, ◌+◌, List, [], ◌∷◌, ◌++◌, length, slice_index_or, bytes_eq}
+use Rattle.std.specs.Prelude.{◌≡◌, ℕ, ◌<◌, ◌≤◌, ◌+◌, List, [], ◌∷◌, ◌++◌, length, filter, slice_index_or, bytes_eq}
 use Rattle.std.specs.List.{list_any}
 use Rattle.cweb_store.specs.Parts as spec
 use Rattle.cweb_store.specs.PackedTexts.{text_bytes}
-use Rattle.cweb_store.specs.Texts.{total, with_word_of, other_bytes}
+use Rattle.cweb_store.specs.Texts.{has_text, total, with_word_of, other_bytes}
 use Rattle.cweb_store.specs.Words.{TextsAndWords, has}
 use Rattle.cweb_store.specs.declared.tokens.packed.Packed.{Packed}
 use Rattle.cweb_store.specs.declared.tokens.packed.Packed.TheVariants.{Word, Number, Literal, Verbatim, Punct, Blank, Newline, Join, Defs, Name, Head, Tail, Mark}
@@ -49,3 +49,4 @@ pub record Packs (old : TextsAndWords) (token : spec.Token) (packed : Packed) (n
   pub words : (q : List ℕ) → has new q ≡ list_any (bytes_eq q) (with_word_of old.words token)
   pub bytes : length (text_bytes more) + total length old.words
       ≡ total length (with_word_of old.words token) + other_bytes token
+  pub few : length more ≤ length (filter has_text (token ∷ []))

@@ -1,5 +1,5 @@
 -- Texts, and the words that are kept once.
-use Rattle.std.specs.Prelude.{◌≡◌, ℕ, ◌+◌, Bool, List, [], ◌++◌, Some, map, length, slice_get, bytes_eq}
+use Rattle.std.specs.Prelude.{◌≡◌, ◌≤◌, ℕ, ◌+◌, Bool, List, [], ◌++◌, Some, map, length, slice_get, bytes_eq}
 use Rattle.std.specs.List.{list_any}
 use Rattle.cweb_store.specs.declared.tokens.words.slot.Slot.{Slot}
 use Rattle.cweb_store.specs.PackedTexts.{text_bytes}
@@ -29,6 +29,7 @@ pub record Keeps (old : TextsAndWords) (text : List ℕ) (number : ℕ) (new : T
   pub stands : slice_get new.texts number ≡ Some text
   pub words : (q : List ℕ) → has new q ≡ has old q
   pub bytes : length (text_bytes more) ≡ length text
+  pub few : length more ≤ 1
 
 -- the same of a word, which adds no bytes where it was kept before
 pub record KeepsWord (old : TextsAndWords) (word : List ℕ) (number : ℕ) (new : TextsAndWords) : Type 0 where
@@ -37,3 +38,4 @@ pub record KeepsWord (old : TextsAndWords) (word : List ℕ) (number : ℕ) (new
   pub stands : slice_get new.texts number ≡ Some word
   pub words : (q : List ℕ) → has new q ≡ list_any (bytes_eq q) (with_word old.words word)
   pub bytes : length (text_bytes more) + total length old.words ≡ total length (with_word old.words word)
+  pub few : length more ≤ 1

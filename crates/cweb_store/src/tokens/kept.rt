@@ -1,6 +1,7 @@
 // Texts, of which equal words and equal punctuators are kept once.
 
-ghost use Rattle.std.specs.Prelude.{◌≡◌, ◌+◌, Some, slice_get, IfOk, IfSome, OnErr};
+ghost use Rattle.std.specs.Prelude.{◌≡◌, ◌<◌, ◌+◌, Some, length, slice_get, IfOk, IfSome, OnErr};
+ghost use Rattle.cweb_store.specs.Calls.{too_many};
 ghost use Rattle.cweb_store.specs.Signs.{AreSigns, IsSign};
 ghost use Rattle.cweb_store.specs.Words.{Keeps, KeepsWord, TextsAndWords, none_kept};
 
@@ -24,6 +25,7 @@ pub struct KeptTexts {
 
 impl Model for KeptTexts {
     ghost use Rattle.cweb_store.specs.Words.{TextsAndWords};
+    ghost use Rattle.cweb_store.specs.Calls.{too_many};
     ghost use Rattle.cweb_store.specs.Signs.{AreSigns};
 
     ghost Value = { TextsAndWords };
@@ -45,24 +47,29 @@ impl KeptTexts {
     }
 
     /// Keeps a text, and answers its number. A refused call changes nothing.
-    pub fn keep(&mut self, text: &[u8]) -> Result<usize, AllocError>
+    pub fn keep(&mut self, text: &[u8]) -> Result<u32, AllocError>
+        requires few { length self.old.texts + 1 < too_many }
         ensures ok { IfOk result (λ number. Keeps self.old text.now number self.new) }
         ensures err { OnErr result (self.new ≡ self.old) }
     {
-        self.texts.keep(text)
+        let number = self.texts.keep(text)?;
+        Ok(number as u32)
     }
 
     /// Keeps a word, unless it was kept before. A refused call changes nothing.
-    pub fn keep_word(&mut self, word: &[u8]) -> Result<usize, AllocError>
+    pub fn keep_word(&mut self, word: &[u8]) -> Result<u32, AllocError>
+        requires few { length self.old.texts + 1 < too_many }
         ensures ok { IfOk result (λ number. KeepsWord self.old word.now number self.new) }
         ensures err { OnErr result (self.new ≡ self.old) }
     {
-        self.texts.keep_word(word)
+        let number = self.texts.keep_word(word)?;
+        Ok(number as u32)
     }
 
     /// The same of a punctuator: one of a single byte that was kept before is found by this byte.
     #[inline(always)]
-    pub fn keep_sign(&mut self, sign: &[u8]) -> Result<usize, AllocError>
+    pub fn keep_sign(&mut self, sign: &[u8]) -> Result<u32, AllocError>
+        requires few { length self.old.texts + 1 < too_many }
         ensures ok { IfOk result (λ number. KeepsWord self.old sign.now number self.new) }
         ensures err { OnErr result (self.new ≡ self.old) }
     {
@@ -76,11 +83,12 @@ impl KeptTexts {
 
     // Keeps a punctuator that its byte didn't tell.
     #[inline(never)]
-    fn look_up(&mut self, sign: &[u8]) -> Result<usize, AllocError>
+    fn look_up(&mut self, sign: &[u8]) -> Result<u32, AllocError>
+        requires few { length self.old.texts + 1 < too_many }
         ensures ok { IfOk result (λ number. KeepsWord self.old sign.now number self.new) }
         ensures err { OnErr result (self.new ≡ self.old) }
     {
-        let number = self.texts.keep_word(sign)?;
+        let number = self.texts.keep_word(sign)? as u32;
         if let [byte] = sign {
             self.begin();
             know_sign(&mut self.signs, *byte, number);
@@ -122,22 +130,22 @@ impl KeptTexts {
 
 // The number of the text that is a byte, where it is known.
 #[inline(always)]
-fn known_sign(signs: &[u32], byte: u8) -> Option<usize>
+fn known_sign(signs: &[u32], byte: u8) -> Option<u32>
     ensures { IfSome result (λ number. slice_get signs.now byte ≡ Some (number + 1)) }
 {
     match signs.get(byte as usize) {
-        Some(entry) if *entry > 0 => Some(*entry as usize - 1),
+        Some(entry) if *entry > 0 => Some(*entry - 1),
         _ => None,
     }
 }
 
-// Notes the number of the text that is a byte, if there is a table, and the number fits.
-fn know_sign(signs: &mut Vec<u32>, byte: u8, number: usize)
+// Notes the number of the text that is a byte, if there is a table, and one more than the number fits.
+fn know_sign(signs: &mut Vec<u32>, byte: u8, number: u32)
     ensures { (kept : TextsAndWords) → AreSigns kept signs.old.items → IsSign kept byte number
         → AreSigns kept signs.new.items }
 {
     let place = byte as usize;
-    if place < signs.len() && number < u32::MAX as usize {
-        signs[place] = number as u32 + 1;
+    if place < signs.len() && number < u32::MAX {
+        signs[place] = number + 1;
     }
 }

@@ -1,6 +1,7 @@
 // Tokens in order.
 
-ghost use Rattle.std.specs.Prelude.{◌≡◌, ◌<◌, ◌++◌, ◌∷◌, [], filter, length, take, Some, slice_get, OnOk, OnErr};
+ghost use Rattle.std.specs.Prelude.{◌≡◌, ◌<◌, ◌+◌, ◌++◌, ◌∷◌, [], filter, length, take, Some, slice_get, OnOk, OnErr};
+ghost use Rattle.cweb_store.specs.Calls.{too_many};
 ghost use Rattle.cweb_store.specs.Texts.{has_text};
 ghost use Rattle.cweb_store.specs.ClosedTokens.{tokens_alone};
 
@@ -61,6 +62,7 @@ impl TokenList {
     /// Adds a token. A refused call leaves the tokens as they were.
     #[inline(always)]
     pub fn push(&mut self, token: Token<'_>) -> Result<(), AllocError>
+        requires few { length self.old.tokens + 1 < too_many }
         ensures ok { OnOk result (self.new.tokens ≡ self.old.tokens ++ seen token.entry ∷ []) }
         ensures err { OnErr result (self.new.tokens ≡ self.old.tokens) }
     {

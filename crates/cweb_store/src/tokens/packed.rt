@@ -1,6 +1,7 @@
 // Tokens as records of fixed size.
 
-ghost use Rattle.std.specs.Prelude.{◌≡◌, length, IfOk, OnErr};
+ghost use Rattle.std.specs.Prelude.{◌≡◌, ◌<◌, ◌+◌, length, IfOk, OnErr};
+ghost use Rattle.cweb_store.specs.Calls.{too_many};
 ghost use Rattle.cweb_store.specs.Packed.{IsWithin, Packs, token_in};
 ghost use Rattle.cweb_store.specs.Seen.{seen};
 
@@ -14,11 +15,11 @@ use std::alloc::AllocError;
 /// A token that has its text by number.
 #[derive(Clone, Copy)]
 pub enum Packed {
-    Word(usize),
-    Number(usize),
-    Literal(usize),
-    Verbatim(usize),
-    Punct(usize),
+    Word(u32),
+    Number(u32),
+    Literal(u32),
+    Verbatim(u32),
+    Punct(u32),
     Blank,
     Newline,
     Join,
@@ -29,9 +30,13 @@ pub enum Packed {
     Mark(Place),
 }
 
+// a record for each token of a web is what a store takes most memory for
+const _: () = prove!(size_of::<Packed>() == 12);
+
 /// The record of a token, whose text is kept. A refused call changes nothing.
 #[inline(always)]
 pub fn pack(texts: &mut KeptTexts, token: Token<'_>) -> Result<Packed, AllocError>
+    requires few { length texts.old.texts + 1 < too_many }
     ensures ok { IfOk result (λ packed. Packs texts.old (seen token.entry) packed texts.new) }
     ensures err { OnErr result (texts.new ≡ texts.old) }
 {
@@ -59,11 +64,11 @@ pub fn lend(texts: &PackedTexts, packed: Packed) -> Token<'_>
     ensures { seen result ≡ token_in texts.now packed }
 {
     match packed {
-        Packed::Word(number) => Token::Word(texts.text(number)),
-        Packed::Number(number) => Token::Number(texts.text(number)),
-        Packed::Literal(number) => Token::Literal(texts.text(number)),
-        Packed::Verbatim(number) => Token::Verbatim(texts.text(number)),
-        Packed::Punct(number) => Token::Punct(texts.text(number)),
+        Packed::Word(number) => Token::Word(texts.text(number as usize)),
+        Packed::Number(number) => Token::Number(texts.text(number as usize)),
+        Packed::Literal(number) => Token::Literal(texts.text(number as usize)),
+        Packed::Verbatim(number) => Token::Verbatim(texts.text(number as usize)),
+        Packed::Punct(number) => Token::Punct(texts.text(number as usize)),
         Packed::Blank => Token::Blank,
         Packed::Newline => Token::Newline,
         Packed::Join => Token::Join,

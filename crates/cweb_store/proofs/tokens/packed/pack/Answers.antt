@@ -18,6 +18,7 @@ returns-in_ok-keep-in-Number-clause-ok c =
       stands = ap spec.Number (get-text new.texts number text keeps.stands);
       words = keeps.words;
       bytes = omega (arith, keeps.bytes);
+      few = keeps.few;
     } in
     rw c.in-Number.is packs
 
@@ -34,6 +35,7 @@ returns-in_ok-keep-in-Literal-clause-ok c =
       stands = ap spec.Literal (get-text new.texts number text keeps.stands);
       words = keeps.words;
       bytes = omega (arith, keeps.bytes);
+      few = keeps.few;
     } in
     rw c.in-Literal.is packs
 
@@ -50,5 +52,6 @@ returns-in_ok-keep-in-Verbatim-clause-ok c =
       stands = ap spec.Verbatim (get-text new.texts number text keeps.stands);
       words = keeps.words;
       bytes = omega (arith, keeps.bytes);
+      few = keeps.few;
     } in
     rw c.in-Verbatim.is packs

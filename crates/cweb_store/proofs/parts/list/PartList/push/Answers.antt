@@ -7,6 +7,14 @@ use Rattle.cweb_store.specs.Rooms.{PartsInRooms}
 use Rattle.cweb_store.proofs.RunLemmas.{push-parts, push-are, tokens-whole}
 use Rattle.cweb_store.proofs.parts.list.PartList.push.Goals as goal
 
+pub push-requires : goal.push-requires
+push-requires c =
+    let s = c.self.inside in
+    let count : token_count c.args.self.now.parts ≡ length s.tokens.tokens =
+    ap (λ (v : PartsInRooms). token_count v.parts) (sym c.self.view_is)
+    ∙ ap length (tokens-whole s.tokens.tokens s.runs.items s.current _ c.self.invariant) in
+    record { few = omega (arith, count, c.requires.few); }
+
 pub invariant_of-self-2 : goal.invariant_of-self-2
 invariant_of-self-2 c =
     let s = c.self.inside in

@@ -28,7 +28,7 @@ pub invariant_of-self-then-sign-lt2 : goal.invariant_of-self-then-sign-lt2
 invariant_of-self-then-sign-lt2 c =
     let s = c.self.inside.texts in
     let sign = c.args.sign.now in
-    let number = c.in_ok-number.number in
+    let number = c.in_ok-number.field-0 in
     let one = one-byte sign 0 (omega (arith, c.in-len1.len_at_least)) (omega (arith, c.in-len1.len_below)) in
     let keeps : KeepsWord s (slice_index_or sign 0 0 ∷ []) number c.keep_word.new.self =
     subst (λ text. KeepsWord s text number c.keep_word.new.self) (sym one) c.in_ok-number.ensures.ok in

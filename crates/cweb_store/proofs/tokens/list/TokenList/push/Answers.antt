@@ -4,8 +4,17 @@ use Rattle.cweb_store.specs.Packed.{token_in}
 use Rattle.cweb_store.specs.Noted.{AreNoted}
 use Rattle.cweb_store.specs.Seen.{seen}
 use Rattle.cweb_store.proofs.PackedLemmas.{packs-tokens}
-use Rattle.cweb_store.proofs.TextLemmas.{packs-are}
+use Rattle.cweb_store.proofs.TextLemmas.{packs-are, texts-few}
 use Rattle.cweb_store.proofs.tokens.list.TokenList.push.Goals as goal
+
+pub pack-requires : goal.pack-requires
+pack-requires c =
+    let s = c.self.inside in
+    let count : length (map (token_in s.texts.texts) s.records.items) ≡ length c.args.self.now.tokens =
+    ap (λ v. length v.tokens) c.self.view_is in
+    record {
+      few = omega (arith, texts-few s.texts s.records.items c.self.invariant.tokens, count, c.requires.few);
+    }
 
 pub invariant_of-self-2 : goal.invariant_of-self-2
 invariant_of-self-2 c =

@@ -35,5 +35,6 @@ returns-clause-ok c =
           (any-grow texts (text ∷ []) q slots c.self.invariant.in_slots.hold)
           ∙ sym (has-stands texts slots entries q);
       bytes = omega (arith, length-append text (let none : List ℕ = [] in none));
+      few = omega arith;
     } in
     rw (c.in_ok-number.ensures.added, ← c.self.view_is) keeps
