@@ -142,3 +142,34 @@ fn comments_across_the_end_of_the_room(rt: HostRuntime) -> Result<(), Fail> {
     assert_eq!(rt; measured(&rt, rt.alloc(), &web)?, (140_000, 3));
     Ok(())
 }
+
+// Names that give nothing, and a name of two parts.
+#[test]
+fn names_that_give_nothing_and_names_of_two_parts(rt: HostRuntime) -> Result<(), Fail> {
+    let web = b": <A <B p; <A =A wx <B =C =A wy <C";
+    assert_eq!(rt; measured(&rt, rt.alloc(), web)?, (8, 1));
+    Ok(())
+}
+
+// A name of two bytes, which is used so often.
+#[test]
+fn uses_across_the_end_of_the_room(rt: HostRuntime) -> Result<(), Fail> {
+    let mut web = repeated(rt.alloc(), " <A", 50_000)?;
+    web.extend_from_slice(b" =A wx p;")?;
+    assert_eq!(rt; measured(&rt, rt.alloc(), &web)?, (100_001, 2));
+    Ok(())
+}
+
+// Names of one token, of which each uses the next one behind it.
+#[test]
+fn a_chain_across_the_end_of_the_room(rt: HostRuntime) -> Result<(), Fail> {
+    let mut web = Vec::from_slice(rt.alloc(), b": <0")?;
+    for name in 0u32..9_999 {
+        let next = name + 1;
+        let part = format!(in rt.alloc(); " ={name} wabcdefghi <{next}")?;
+        web.extend_from_slice(part.as_bytes())?;
+    }
+    web.extend_from_slice(b" =9999 p;")?;
+    assert_eq!(rt; measured(&rt, rt.alloc(), &web)?, (99_991, 2));
+    Ok(())
+}

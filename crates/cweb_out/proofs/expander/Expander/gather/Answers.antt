@@ -1,37 +1,169 @@
-use Rattle.std.proofs.Common.{◌-◌, vec_capacity}
+use Rattle.std.proofs.Common.{◌≡◌, ◌∙◌, ◌++◌, ◌-◌, ap, arith, refl, subst, sym, vec_capacity, List}
 use Rattle.std.specs.Prelude.{vec_len, slice_set}
+use Rattle.std.proofs.lemmas.List.{take-set}
+use Rattle.cweb_store.specs.Calls.{Stored}
+use Rattle.cweb_store.specs.Parts.{Token, Name}
+use Rattle.cweb_out.specs.Frames.{Stands, left}
+use Rattle.cweb_out.proofs.Gathers.{front_more, front_of}
+use Rattle.cweb_out.proofs.Leaving.{TopGone, TopUsed, top_gone, top_used}
 use Rattle.cweb_out.proofs.Passes.{TopPassed, top_passed}
-use Rattle.cweb_out.proofs.Tops.{HasTop, stands_lower}
+use Rattle.cweb_out.proofs.Tops.{HasTop, lower, stands_lower}
 use Rattle.cweb_out.proofs.expander.Expander.gather.Goals as goal
+use Rattle.cweb_out.proofs.expander.Expander.gather.Goals.{After-pop, In_default-take_name}
 
 pub gather-requires : goal.gather-requires
 gather-requires c =
-    let frames = c.args.self.now.frames in
-    let top : HasTop (vec_len frames) frames.items c.in-Some.frame.now =
-    record { count = frames.ok.0; some = c.in-Some.ensures.item.3.0; is = c.in-Some.ensures.value } in
-    (stands_lower c.args.self.now.store.now (vec_len frames) frames.items
-    c.in-Some.frame.now (vec_capacity frames) c.requires top).1.within
+    let top : HasTop (vec_len c.frames.self.frames) c.frames.self.frames.items c.in-Some.frame.now =
+    record {
+      count = c.frames.self.frames.ok.0;
+      some = c.in-Some.ensures.item.3.0;
+      is = c.in-Some.ensures.value;
+    } in
+    (stands_lower c.args.self.now.store.now (vec_len c.frames.self.frames) c.frames.self.frames.items
+    c.in-Some.frame.now (vec_capacity c.frames.self.frames) c.frames.invariant.stands top).1.within
 
-abbrev passed : (c : goal.After-self-in-Some-1)
-    → TopPassed c.args.self.now.store.now c.args.self.now.frames.items
-    (slice_set c.args.self.now.frames.items (vec_len c.args.self.now.frames - 1) c.gather.new.self)
-    c.gather.ensures.prints.done (vec_capacity c.args.self.now.frames)
+abbrev gone : (c : After-pop)
+    → TopGone c.args.self.now.store.now c.frames.self.frames.items c.pop.new.self.items
+    c.gather.ensures.prints.done (vec_capacity c.frames.self.frames)
+gone c =
+    let frames = c.frames.self.frames in
+    let top : HasTop (vec_len frames) frames.items c.in-Some.frame.now =
+    record {
+      count = c.frames.self.frames.ok.0;
+      some = c.in-Some.ensures.item.3.0;
+      is = c.in-Some.ensures.value;
+    } in
+    let is : c.pop.new.self.items ≡ lower (vec_len frames) frames.items =
+    c.pop.ensures.rest ∙ take-set frames.items (vec_len frames - 1) c.gather.new.self in
+    top_gone c.args.self.now.store.now (vec_len frames) frames.items c.pop.new.self.items
+    c.in-Some.frame.now c.gather.new.self c.gather.ensures.prints.done (vec_capacity frames)
+    c.frames.invariant.stands top c.gather.ensures.prints.whole c.gather.ensures.prints.lent
+    c.gather.ensures.within c.gather.ensures.owner (c.gather.ensures.ended c.if-gather.true) is
+
+pub frames-smaller-then-gather : goal.frames-smaller-then-gather
+frames-smaller-then-gather c = (gone c).work
+
+pub frames-preserved-then-gather : goal.frames-preserved-then-gather
+frames-preserved-then-gather c =
+    let w : Stored = c.args.self.now.store.now in
+    record {
+      stands =
+          subst (λ room. Stands w c.pop.new.self.items room) (sym c.pop.ensures.capacity) (gone c).stands;
+      store = c.frames.invariant.store;
+      plan = c.frames.invariant.plan;
+      setting = c.gather.ensures.setting ∙ c.frames.invariant.setting;
+      prints =
+          front_more c.args.printer.now c.frames.printer c.gather.new.printer
+          (left w c.args.self.now.frames.items) (left w c.frames.self.frames.items) (left w c.pop.new.self.items)
+          c.args.gathered.now c.frames.gathered c.gather.new.gathered c.frames.invariant.setting
+          c.frames.invariant.prints
+          (front_of c.frames.printer c.gather.new.printer _ _ _ _ c.frames.gathered c.gather.new.gathered
+          c.gather.ensures.prints (gone c).left);
+    }
+
+abbrev taken : (c : goal.After-enter-arg-1)
+    → TopUsed c.args.self.now.store.now c.frames.self.frames.items
+    (slice_set c.frames.self.frames.items (vec_len c.frames.self.frames - 1) c.take_name.new.self)
+    c.gather.ensures.prints.done (Name c.in-Some-take_name.name) (vec_capacity c.frames.self.frames)
+taken c =
+    let frames = c.frames.self.frames in
+    let top : HasTop (vec_len frames) frames.items c.in-Some.frame.now =
+    record {
+      count = c.frames.self.frames.ok.0;
+      some = c.in-Some.ensures.item.3.0;
+      is = c.in-Some.ensures.value;
+    } in
+    top_used c.args.self.now.store.now (vec_len frames) frames.items
+    c.in-Some.frame.now c.gather.new.self c.take_name.new.self c.gather.ensures.prints.done
+    (Name c.in-Some-take_name.name) (vec_capacity frames) c.frames.invariant.stands top
+    c.gather.ensures.prints.whole c.gather.ensures.prints.lent c.gather.ensures.within c.gather.ensures.owner
+    c.in-Some-take_name.ensures.some c.take_name.ensures.within c.take_name.ensures.owner
+
+pub enter-requires-clause-stands : goal.enter-requires-clause-stands
+enter-requires-clause-stands c = rw c.frames.invariant.store (taken c).stands
+
+pub enter-requires-clause-below : goal.enter-requires-clause-below
+enter-requires-clause-below c = rw c.frames.invariant.store (taken c).below
+
+pub enter-requires-clause-lower : goal.enter-requires-clause-lower
+enter-requires-clause-lower c = rw c.frames.invariant.store (taken c).lower
+
+abbrev used : (c : goal.After-enter)
+    → TopUsed c.args.self.now.store.now c.frames.self.frames.items
+    (slice_set c.frames.self.frames.items (vec_len c.frames.self.frames - 1) c.take_name.new.self)
+    c.gather.ensures.prints.done (Name c.in-Some-take_name.name) (vec_capacity c.frames.self.frames)
+used c =
+    let frames = c.frames.self.frames in
+    let top : HasTop (vec_len frames) frames.items c.in-Some.frame.now =
+    record {
+      count = c.frames.self.frames.ok.0;
+      some = c.in-Some.ensures.item.3.0;
+      is = c.in-Some.ensures.value;
+    } in
+    top_used c.args.self.now.store.now (vec_len frames) frames.items
+    c.in-Some.frame.now c.gather.new.self c.take_name.new.self c.gather.ensures.prints.done
+    (Name c.in-Some-take_name.name) (vec_capacity frames) c.frames.invariant.stands top
+    c.gather.ensures.prints.whole c.gather.ensures.prints.lent c.gather.ensures.within c.gather.ensures.owner
+    c.in-Some-take_name.ensures.some c.take_name.ensures.within c.take_name.ensures.owner
+
+pub frames-smaller : goal.frames-smaller
+frames-smaller c =
+    let w : Stored = c.args.self.now.store.now in
+    let less = (used c).work in
+    let more = rw c.frames.invariant.store at c.enter.ensures.enters.work in
+    omega (arith, less, more)
+
+pub frames-preserved : goal.frames-preserved
+frames-preserved c =
+    let w : Stored = c.args.self.now.store.now in
+    let entered = rw c.frames.invariant.store at c.enter.ensures.enters.left in
+    record {
+      stands = rw (c.enter.ensures.store ∙ c.frames.invariant.store) at c.enter.ensures.stands;
+      store = c.enter.ensures.store ∙ c.frames.invariant.store;
+      plan = c.enter.ensures.plan ∙ c.frames.invariant.plan;
+      setting = c.gather.ensures.setting ∙ c.frames.invariant.setting;
+      prints =
+          front_more c.args.printer.now c.frames.printer c.gather.new.printer
+          (left w c.args.self.now.frames.items) (left w c.frames.self.frames.items) (left w c.enter.new.self.frames.items)
+          c.args.gathered.now c.frames.gathered c.gather.new.gathered c.frames.invariant.setting
+          c.frames.invariant.prints
+          (front_of c.frames.printer c.gather.new.printer _ _ _ _ c.frames.gathered c.gather.new.gathered
+          c.gather.ensures.prints
+          ((used c).left ∙ ap (λ (ts : List Token). c.gather.ensures.prints.done ++ ts) (sym entered)));
+    }
+
+-- where no use comes next
+abbrev passed : (c : In_default-take_name)
+    → TopPassed c.args.self.now.store.now c.frames.self.frames.items
+    (slice_set c.frames.self.frames.items (vec_len c.frames.self.frames - 1) c.take_name.new.self)
+    c.gather.ensures.prints.done (vec_capacity c.frames.self.frames)
 passed c =
-    let frames = c.args.self.now.frames in
+    let w : Stored = c.args.self.now.store.now in
+    let frames = c.frames.self.frames in
     let top : HasTop (vec_len frames) frames.items c.in-Some.frame.now =
-    record { count = frames.ok.0; some = c.in-Some.ensures.item.3.0; is = c.in-Some.ensures.value } in
-    top_passed c.args.self.now.store.now (vec_len frames) frames.items c.in-Some.frame.now c.gather.new.self
-    c.gather.ensures.prints.done (vec_capacity frames) c.requires top c.gather.ensures.prints.whole
-    c.gather.ensures.prints.lent c.gather.ensures.within c.gather.ensures.owner
+    record {
+      count = c.frames.self.frames.ok.0;
+      some = c.in-Some.ensures.item.3.0;
+      is = c.in-Some.ensures.value;
+    } in
+    subst (λ f. TopPassed w frames.items (slice_set frames.items (vec_len frames - 1) f)
+    c.gather.ensures.prints.done (vec_capacity frames))
+    (sym (c.in_default-take_name.ensures.none refl))
+    (top_passed w (vec_len frames) frames.items c.in-Some.frame.now c.gather.new.self
+    c.gather.ensures.prints.done (vec_capacity frames) c.frames.invariant.stands top
+    c.gather.ensures.prints.whole c.gather.ensures.prints.lent c.gather.ensures.within c.gather.ensures.owner)
 
-pub returns-in-Some-clause-stands : goal.returns-in-Some-clause-stands
-returns-in-Some-clause-stands c = (passed c).stands
+pub returns-in_default-take_name-clause-stands : goal.returns-in_default-take_name-clause-stands
+returns-in_default-take_name-clause-stands c = rw c.frames.invariant.store (passed c).stands
 
-pub returns-in-Some-clause-prints : goal.returns-in-Some-clause-prints
-returns-in-Some-clause-prints c = record {
-  done = c.gather.ensures.prints.done;
-  whole = (passed c).left;
-  lent = c.gather.ensures.prints.lent;
-  moves = c.gather.ensures.prints.moves;
-  prints = c.gather.ensures.prints.prints;
-}
+pub returns-in_default-take_name-clause-prints : goal.returns-in_default-take_name-clause-prints
+returns-in_default-take_name-clause-prints c =
+    let w : Stored = c.args.self.now.store.now in
+    let frames = c.frames.self.frames in
+    front_more c.args.printer.now c.frames.printer c.gather.new.printer
+    (left w c.args.self.now.frames.items) (left w frames.items)
+    (left w (slice_set frames.items (vec_len frames - 1) c.take_name.new.self))
+    c.args.gathered.now c.frames.gathered c.gather.new.gathered c.frames.invariant.setting
+    c.frames.invariant.prints
+    (front_of c.frames.printer c.gather.new.printer _ _ _ _ c.frames.gathered c.gather.new.gathered
+    c.gather.ensures.prints (passed c).left)

@@ -1,0 +1,19 @@
+use Rattle.std.proofs.Common.{◌≡◌, vec_capacity}
+use Rattle.cweb_out.specs.Uses.{names}
+use Rattle.cweb_out.specs.Frames.{Stands, left, work_of}
+use Rattle.cweb_out.specs.Gathering.{PrintsFront}
+use Rattle.cweb_out.specs.Printed.{setting_of}
+use Rattle.cweb_out.proofs.expander.Expander.gather.Given as goal
+
+abbrev pub invariant-frames : goal.invariant-frames
+invariant-frames l = record {
+  stands : Stands l.store l.self.frames.items (vec_capacity l.self.frames);
+  store : l.self.store ≡ l.fn.self.store;
+  plan : l.self.plan ≡ l.fn.self.plan;
+  setting : setting_of l.printer ≡ setting_of l.fn.printer;
+  prints : PrintsFront l.fn.printer l.printer (left l.store l.fn.self.frames.items)
+      (left l.store l.self.frames.items) l.fn.gathered l.gathered;
+}
+
+abbrev pub decreases-frames : goal.decreases-frames
+decreases-frames l = work_of l.store (names l.store) l.self.frames.items

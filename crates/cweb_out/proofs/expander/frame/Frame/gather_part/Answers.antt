@@ -1,0 +1,23 @@
+use Rattle.std.proofs.Common.{slice_range}
+use Rattle.cweb_store.specs.Parts.{all_tokens}
+use Rattle.cweb_out.specs.Frames.{suffix}
+use Rattle.cweb_out.proofs.Gathers.{front_none}
+use Rattle.cweb_out.proofs.Passes.{suffix-passed}
+use Rattle.cweb_out.proofs.expander.frame.Frame.gather_part.Goals as goal
+
+pub returns-then-self-clause-prints : goal.returns-then-self-clause-prints
+returns-then-self-clause-prints c =
+    let run = c.gather_run-self in
+    record {
+      done = slice_range (all_tokens c.args.store.now.parts) c.args.self.now.part.first run.result;
+      whole =
+          suffix-passed c.args.store.now c.args.self.now run.result
+          c.requires.started run.ensures.from run.ensures.upto;
+      lent = run.ensures.lent;
+      moves = run.ensures.moves;
+      prints = run.ensures.prints;
+    }
+
+pub returns-else-self-clause-prints : goal.returns-else-self-clause-prints
+returns-else-self-clause-prints c =
+    front_none c.args.printer.now (suffix c.args.store.now c.args.self.now) c.args.gathered.now
