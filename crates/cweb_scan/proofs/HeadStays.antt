@@ -7,14 +7,14 @@ use Rattle.cweb_files.specs.declared.place.Place.{Place}
 use Rattle.cweb_rules.specs.Bytes.{begins, is_blank, starts_section}
 use Rattle.cweb_rules.specs.Codes.{in_text, in_macro}
 use Rattle.cweb_rules.specs.Fronts.{front_in, head_as, head_front}
-use Rattle.cweb_rules.specs.Kinds.{Section, Code, Blanks, Identifier, Front, front}
+use Rattle.cweb_rules.specs.Kinds.{Blanks, Front, front}
 use Rattle.cweb_rules.specs.Lines.{IsLine, opens_in, c_opens, opens_code, text_opens}
 use Rattle.cweb_rules.specs.Rules.{c_rule, c_front_by}
 use Rattle.cweb_rules.specs.declared.context.Context.{Context}
 use Rattle.cweb_rules.specs.declared.context.Context.TheVariants.{Definition}
 use Rattle.cweb_rules.specs.declared.rule.Rule.{Rule}
 use Rattle.cweb_rules.specs.declared.rule.Rule.TheVariants as rule
-use Rattle.cweb_scan.specs.After.{blank, enter_in, item, stays_in_head}
+use Rattle.cweb_scan.specs.After.{blank, enter_in, stays_in_head}
 use Rattle.cweb_scan.specs.Directives.{directive, is_c, is_some, names_include}
 use Rattle.cweb_scan.specs.Directives as directives
 use Rattle.cweb_scan.specs.Fronted.{Gives}

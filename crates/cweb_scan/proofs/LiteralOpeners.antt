@@ -3,7 +3,7 @@ use Rattle.std.proofs.Common.{◌≡◌, ◌≤◌, ◌<◌, ℕ, zero, suc, ◌
 use Rattle.std.specs.Prelude.{if◌then◌else◌, codes, bytes_eq, not}
 use Rattle.std.specs.List.{fold, prefix_len}
 use Rattle.std.proofs.lemmas.List.{take-append-le, drop-append-le, length-drop}
-use Rattle.cweb_scan.specs.After.{Reading, on, each_line_end, next_line, comment, literal, literal_unit, enter_in, blank}
+use Rattle.cweb_scan.specs.After.{Reading, on, each_line_end, next_line, literal, literal_unit, enter_in}
 use Rattle.cweb_rules.specs.Bytes.{begins, first_is, is_blank, is_word_byte, at_line_end}
 use Rattle.cweb_rules.specs.declared.effect.Effect.{Effect}
 use Rattle.cweb_rules.specs.Codes.{in_macro, in_c}

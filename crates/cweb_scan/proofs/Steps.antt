@@ -1,12 +1,11 @@
 -- The code's directive follows that of the tokens.
-use Rattle.std.proofs.Common.{◌≡◌, ◌+◌, ◌-◌, Bool, true, false, ◌&&◌, not, List, [], ◌∷◌, ◌++◌, Option, Some, None, refl, ap, sym, ◌∙◌}
+use Rattle.std.proofs.Common.{◌≡◌, Bool, true, false, ◌&&◌, not, List, [], ◌∷◌, ◌++◌, Option, Some, None, refl, ap, sym, ◌∙◌}
 use Rattle.std.specs.Prelude.{codes, bytes_eq, if◌then◌else◌}
 use Rattle.std.proofs.lemmas.List.Sums.{fold-append}
 use Rattle.cweb_store.specs.Parts.{Token, Word, Number, Literal, Verbatim, Punct, Blank, Newline, Join, Defs, Name, Head, Tail, Mark}
 use Rattle.cweb_scan.specs.declared.scanner.directive.Last.TheVariants as last
 use Rattle.cweb_scan.specs.declared.scanner.directive.Stage.{Stage}
 use Rattle.cweb_scan.specs.declared.scanner.directive.Stage.TheVariants.{Outside, Bare, Include, Further}
-use Rattle.cweb_scan.specs.declared.scanner.directive.Directive.{Directive}
 use Rattle.cweb_scan.specs.Directives as spec
 use Rattle.cweb_scan.specs.Directives.{is_bare, is_include, is_punct, ends_line, directive_tokens, with_next, directive_of}
 use Rattle.cweb_scan.specs.Directives.{goes_over}

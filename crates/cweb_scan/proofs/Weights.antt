@@ -17,7 +17,6 @@ use Rattle.cweb_rules.specs.declared.effect.Effect.TheVariants.{Nothing, Define,
 use Rattle.cweb_rules.specs.declared.effect.Effect.TheVariants as effect
 use Rattle.cweb_rules.specs.declared.end.End.{End}
 use Rattle.cweb_rules.specs.declared.end.End.TheVariants.{Closed, Cut, Nested, Open}
-use Rattle.cweb_rules.specs.Kinds.{Letter, ControlText, Constant}
 use Rattle.cweb_scan.specs.Directives.{in_directive, directive, is_blank}
 use Rattle.cweb_scan.specs.Names.{occurrence_in}
 use Rattle.cweb_scan.specs.State.{State, give, moved, begin_part, end_part, end_macro_in, end_macro, leave_in, begin_section}
