@@ -7,7 +7,7 @@ use Rattle.std.proofs.lemmas.Bool.{ne_eqb}
 use Rattle.std.proofs.lemmas.Grind.{flat_map-append}
 use Rattle.std.proofs.lemmas.List.{take-append-le}
 use Rattle.cweb_rules.specs.Bytes.{begins, is_line_end, starts_section}
-use Rattle.cweb_rules.specs.Cut.{Reach, reach, reach_in, with_unit, body}
+use Rattle.cweb_rules.specs.Cut.{Reach, reach, reach_in, with_unit, body, size_of}
 use Rattle.cweb_rules.specs.Fronts.{quoted}
 use Rattle.cweb_rules.specs.Items.{look_in_raw}
 use Rattle.cweb_rules.specs.Kinds.{Kind, Skipped, Section, Code, Letter, ControlText, Verbatim, Constant, Occurrence, Blanks, LineEnd, Comment, Quoted, Defined, Identifier, Numeral, Punctuator, Front}
@@ -127,9 +127,12 @@ drop-sum (suc n) m [] = drop-nil (suc n + m) ∙ sym (drop-nil m)
 drop-sum (suc n) m (b ∷ t) =
     let e : suc n + m ≡ suc (n + m) = omega arith in ap (λ k. drop k (b ∷ t)) e ∙ drop-sum n m t
 
-pub quoted-told : (look : List ℕ → Look) → AllSome look → (n : ℕ) (t : List ℕ)
-    → Told t (quoted n (reach look Cut (drop n t)) t)
-quoted-told look some n t =
+-- the units of a literal are its bytes
+pub quoted-bytes : (look : List ℕ → Look) → AllSome look → (n : ℕ) (t : List ℕ)
+    → (let r = reach look Cut (drop n t) in
+    flat_map (λ u. u) (take n t ∷ r.units ++ take r.close (drop (n + length (body r)) t) ∷ []))
+    ≡ take (n + size_of (reach look Cut (drop n t))) t
+quoted-bytes look some n t =
     let r = reach look Cut (drop n t) in
     let m = length (body r) in
     let close = take r.close (drop (n + m) t) in
@@ -138,7 +141,11 @@ quoted-told look some n t =
     ∙ ap (λ u. body r ++ u) (append-nil close ∙ ap (take r.close) (drop-sum n m t))
     ∙ ap (λ u. u ++ take r.close (drop m (drop n t))) (sym (units-front look Cut (drop n t) some))
     ∙ sym (take-add m r.close (drop n t)) in
-    ap (at_line_ends 1) (ap (λ u. take n t ++ u) units ∙ sym (take-add n (m + r.close) t))
+    ap (λ u. take n t ++ u) units ∙ sym (take-add n (m + r.close) t)
+
+pub quoted-told : (look : List ℕ → Look) → AllSome look → (n : ℕ) (t : List ℕ)
+    → Told t (quoted n (reach look Cut (drop n t)) t)
+quoted-told look some n t = ap (at_line_ends 1) (quoted-bytes look some n t)
 
 some_if : (v : Bool) (x y : Look) → IsSome x → IsSome y → IsSome (if v then x else y)
 some_if true x y f g = f

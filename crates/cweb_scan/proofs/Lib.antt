@@ -58,3 +58,5 @@ pub mod Standing
 pub mod StandingPieces
 pub mod Plains
 pub mod PlainTurns
+pub mod Furthers
+pub mod FurtherLiterals

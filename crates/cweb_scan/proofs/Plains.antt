@@ -6,7 +6,7 @@ use Rattle.std.proofs.lemmas.Bool.{eqb-true}
 use Rattle.std.proofs.lemmas.List.Sums.{fold-append}
 use Rattle.cweb_store.specs.Growing.{longer}
 use Rattle.cweb_store.specs.Parts.{Token, Word, Punct, Blank, Part}
-use Rattle.cweb_rules.specs.Bytes.{is_blank, is_one_of, is_word_byte}
+use Rattle.cweb_rules.specs.Bytes.{first_is, is_blank, is_one_of, is_word_byte}
 use Rattle.cweb_rules.specs.Codes.{in_c}
 use Rattle.cweb_rules.specs.Lines.{IsLine}
 use Rattle.cweb_rules.specs.Rules.{c_rule, c_front_by, is_settled}
@@ -20,7 +20,7 @@ use Rattle.cweb_scan.specs.Directives as spec
 use Rattle.cweb_scan.specs.Directives.{directive, directive_of, directive_tokens, ends_line, is_c, is_punct, is_some, names_include, with_next}
 use Rattle.cweb_scan.specs.Fronted.{Gives, is_head}
 use Rattle.cweb_scan.specs.Kept.{further, goes_over, has_part, is_line_end, is_outside, last_of, outside, step, IsTied}
-use Rattle.cweb_scan.specs.Plain.{is_alone, plain_by, IsPlainC, IsPlainToken, TakesPlain}
+use Rattle.cweb_scan.specs.Plain.{is_alone, is_kept_back, plain_by, IsPlainC, IsPlainToken, TakesPlain}
 use Rattle.cweb_scan.specs.Ruled.{ends_macro_line}
 use Rattle.cweb_scan.specs.State.{State, give, tokens_of}
 use Rattle.cweb_scan.specs.declared.scanner.directive.Directive.{Directive}
@@ -82,56 +82,65 @@ alone_sign b t h =
       ),
     ) b h
 
--- what a first byte tells
+-- what a first byte tells; of the others, that they are not kept back
 abbrev pub IsTold : Bool → List ℕ → Plain → Type 0
 IsTold includes t plain.Blank = rule.Blanks ≡ c_rule includes t
 IsTold includes t plain.Word = rule.Identifier ≡ c_rule includes t
 IsTold includes t plain.Sign = (rule.Punctuator ≡ c_rule includes t) × IsSign t
+IsTold includes t plain.Further = first_is is_kept_back t ≡ false
 IsTold includes t plain.Stop = Unit {0}
 
-abbrev sign_or_stop : Bool → Plain
-sign_or_stop alone = if alone then plain.Sign else plain.Stop
+abbrev sign_or_further : Bool → Plain
+sign_or_further alone = if alone then plain.Sign else plain.Further
+
+-- what a byte tells that begins no blank and none of the rules that look further
+abbrev settled_by : ℕ → Bool → Plain
+settled_by b word = if word then plain.Word else sign_or_further (is_alone b)
+
+abbrev unblank_by : ℕ → Bool → Plain
+unblank_by b settled = if settled then settled_by b (is_word_byte b) else plain.Further
+
+abbrev taken_by : ℕ → Bool → Plain
+taken_by b blank = if blank then plain.Blank else unblank_by b (is_settled b)
 
 if_true : (v : Bool) (x y : Rule) → v ≡ true → (if v then x else y) ≡ x
 if_true true x y e = refl
 if_true false x y e = cc
 
-told_sign : (includes : Bool) (b : ℕ) (t : List ℕ) → rule.Punctuator ≡ c_rule includes (b ∷ t)
-    → IsTold includes (b ∷ t) (sign_or_stop (is_alone b))
-told_sign includes b t is = (elim (is_alone b) as (λ v. is_alone b ≡ v → IsTold includes (b ∷ t) (sign_or_stop v)) [
-  | true ↦ λ e. (is, alone_sign b t e)
-  | false ↦ λ e. tt
-]) refl
+module _ (includes : Bool) (b : ℕ) (t : List ℕ) (kept : is_kept_back b ≡ false) where
+  told_sign : rule.Punctuator ≡ c_rule includes (b ∷ t) → IsTold includes (b ∷ t) (sign_or_further (is_alone b))
+  told_sign is = (elim (is_alone b) as (λ v. is_alone b ≡ v → IsTold includes (b ∷ t) (sign_or_further v)) [
+    | true ↦ λ e. (is, alone_sign b t e)
+    | false ↦ λ e. kept
+  ]) refl
 
--- what a byte tells that begins no blank and none of the rules that look further
-abbrev settled_by : ℕ → Bool → Plain
-settled_by b word = if word then plain.Word else sign_or_stop (is_alone b)
+  told_settled : is_settled b ≡ true → IsTold includes (b ∷ t) (settled_by b (is_word_byte b))
+  told_settled settled =
+      (elim (is_word_byte b) as (λ v. c_rule includes (b ∷ t) ≡ (if v then rule.Identifier else rule.Punctuator)
+      → IsTold includes (b ∷ t) (settled_by b v)) [
+        | true ↦ λ e. sym e
+        | false ↦ λ e. told_sign (sym e)
+      ]) (settled-rule b settled includes t)
 
-told_settled : (includes : Bool) (b : ℕ) (t : List ℕ) → is_settled b ≡ true
-    → IsTold includes (b ∷ t) (settled_by b (is_word_byte b))
-told_settled includes b t settled =
-    (elim (is_word_byte b) as (λ v. c_rule includes (b ∷ t) ≡ (if v then rule.Identifier else rule.Punctuator)
-    → IsTold includes (b ∷ t) (settled_by b v)) [
-      | true ↦ λ e. sym e
-      | false ↦ λ e. told_sign includes b t (sym e)
-    ]) (settled-rule b settled includes t)
+  told_unblank : IsTold includes (b ∷ t) (unblank_by b (is_settled b))
+  told_unblank =
+      (elim (is_settled b) as (λ v. is_settled b ≡ v → IsTold includes (b ∷ t) (unblank_by b v)) [
+        | true ↦ λ e. told_settled e
+        | false ↦ λ e. kept
+      ]) refl
 
-abbrev unblank_by : ℕ → Bool → Plain
-unblank_by b settled = if settled then settled_by b (is_word_byte b) else plain.Stop
-
-told_unblank : (includes : Bool) (b : ℕ) (t : List ℕ) → IsTold includes (b ∷ t) (unblank_by b (is_settled b))
-told_unblank includes b t =
-    (elim (is_settled b) as (λ v. is_settled b ≡ v → IsTold includes (b ∷ t) (unblank_by b v)) [
-      | true ↦ λ e. told_settled includes b t e
-      | false ↦ λ e. tt
-    ]) refl
+  told_taken : IsTold includes (b ∷ t) (taken_by b (is_blank b))
+  told_taken = (elim (is_blank b) as (λ v. is_blank b ≡ v → IsTold includes (b ∷ t) (taken_by b v)) [
+    | true ↦ λ e. sym (if_true (is_blank b) rule.Blanks _ e)
+    | false ↦ λ e. told_unblank
+  ]) refl
 
 plain_told : (includes : Bool) (b : ℕ) (t : List ℕ) → IsTold includes (b ∷ t) (plain_by b)
 plain_told includes b t =
-    (elim (is_blank b) as (λ v. is_blank b ≡ v
-    → IsTold includes (b ∷ t) (if v then plain.Blank else unblank_by b (is_settled b))) [
-      | true ↦ λ e. sym (if_true (is_blank b) rule.Blanks _ e)
-      | false ↦ λ e. told_unblank includes b t
+    (elim (is_kept_back b) as (λ v. is_kept_back b ≡ v
+    → IsTold includes (b ∷ t) (if v then plain.Stop else taken_by b (is_blank b))) [
+      | true ↦ λ e. tt
+      | false ↦ λ e. told_taken includes b t e
     ]) refl
 
 pub told_at : (includes : Bool) (t : List ℕ) (r : Plain) → 1 ≤ length t → r ≡ plain_by (slice_index_or t 0 0)
@@ -200,7 +209,7 @@ tied_plain d l c o t tied in_c part none plain =
 -- PIECES
 
 -- the rule that fits in C text where this was read before
-abbrev rule_at : State → List ℕ → Rule
+abbrev pub rule_at : State → List ℕ → Rule
 rule_at s u = c_rule (is_c s.context && names_include s) u
 
 pub turn : (n : ℕ) (u : List ℕ) (s new : State) (r : Rule) → IsLine u → 1 ≤ length u → IsPlainC s → r ≡ rule_at s u

@@ -18,12 +18,17 @@ use Rattle.cweb_scan.specs.declared.scanner.plain.Plain.TheVariants as plain
 abbrev pub is_alone : ℕ → Bool
 is_alone b = is_one_of (codes "()[]{};,?~") b
 
+-- the bytes that begin a code, and the punctuators that directives ask for
+abbrev pub is_kept_back : ℕ → Bool
+is_kept_back b = is_one_of (codes "@#\\") b
+
 -- what a first byte tells of its piece
 abbrev pub plain_by : ℕ → Plain
 plain_by b =
-    if is_blank b then plain.Blank
-    else (if is_settled b then (if is_word_byte b then plain.Word else (if is_alone b then plain.Sign else plain.Stop))
-    else plain.Stop)
+    if is_kept_back b then plain.Stop
+    else (if is_blank b then plain.Blank
+    else (if is_settled b then (if is_word_byte b then plain.Word else (if is_alone b then plain.Sign else plain.Further))
+    else plain.Further))
 
 -- C text in which no directive is open
 pub record IsPlainC (s : State) : Type 0 where

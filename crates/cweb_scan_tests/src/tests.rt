@@ -11,6 +11,7 @@ mod line_ends;
 mod literals;
 mod macros;
 mod names;
+mod plain;
 mod sections;
 mod told;
 mod worked;

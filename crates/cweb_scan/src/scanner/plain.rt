@@ -17,6 +17,7 @@ enum Plain {
     Blank,
     Word,
     Sign,
+    Further,
     Stop,
 }
 
@@ -25,11 +26,12 @@ fn plain_of(byte: u8) -> Plain
     ensures { result ≡ plain_by byte }
 {
     match byte {
+        b'@' | b'#' | b'\\' => Plain::Stop,
         b' ' | b'\t' | b'\r' | 11 | 12 => Plain::Blank,
-        b'R' | b'L' | b'u' | b'U' => Plain::Stop,
+        b'R' | b'L' | b'u' | b'U' => Plain::Further,
         b'a'..=b'z' | b'A'..=b'Z' | b'_' | b'$' | 128.. => Plain::Word,
         b'(' | b')' | b'[' | b']' | b'{' | b'}' | b';' | b',' | b'?' | b'~' => Plain::Sign,
-        _ => Plain::Stop,
+        _ => Plain::Further,
     }
 }
 
@@ -41,7 +43,7 @@ impl Scanner {
 
     // A token that leaves no directive open. A refused call changes nothing.
     #[inline(always)]
-    fn give_plain(&mut self, token: Token<'_>) -> Result<(), AllocError>
+    pub(crate) fn give_plain(&mut self, token: Token<'_>) -> Result<(), AllocError>
         requires in_c { IsPlainC self.old }
         requires plain { IsPlainToken (seen token) }
         requires few { token_count self.old.contents.parts + 1 < too_many }
@@ -77,6 +79,7 @@ impl Scanner {
                 self.folded = false;
                 Ok(1)
             }
+            Plain::Further => self.take_further(rest),
             Plain::Stop => Ok(0),
         }
     }

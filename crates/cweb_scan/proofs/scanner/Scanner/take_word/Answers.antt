@@ -1,0 +1,14 @@
+use Rattle.std.proofs.Common.{List, ℕ, ap, ◌∙◌}
+use Rattle.cweb_store.specs.Parts.{Word}
+use Rattle.cweb_scan.specs.State.{give}
+use Rattle.cweb_scan.proofs.Plains.{word_turn}
+use Rattle.cweb_scan.proofs.Furthers.{seen_word}
+use Rattle.cweb_scan.proofs.scanner.Scanner.take_word.Goals as goal
+
+pub returns-clause-taken : goal.returns-clause-taken
+returns-clause-taken c =
+    let s = c.args.self.now in
+    let u = c.args.rest.now in
+    word_turn c.run_len-size.result u s c.give_plain.new.self c.requires.line c.requires.some
+    c.requires.in_c (seen_word s u c.requires.in_c c.requires.first) c.run_len-size.ensures.value
+    (c.in_ok-give_plain.ensures.ok ∙ ap (λ (x : List ℕ). give (Word x) s) c.split_at.ensures.front)
