@@ -32,3 +32,4 @@ mod FollowRows
 pub mod UnitNewlines
 pub mod Newlines
 pub mod FirstBytes
+pub mod WordTable

@@ -7,7 +7,7 @@ ghost use Rattle.cweb_scan.specs.Plain.{plain_by, IsPlainC, IsPlainToken, TakesP
 use crate::scanner::Scanner;
 use crate::scanner::directive::Directive;
 use cweb_rules::Context;
-use cweb_rules::bytes::{Class, run_len};
+use cweb_rules::bytes::{Class, is_word_byte, run_len};
 use cweb_store::Token;
 use std::alloc::AllocError;
 
@@ -29,9 +29,15 @@ fn plain_of(byte: u8) -> Plain
         b'@' | b'#' | b'\\' => Plain::Stop,
         b' ' | b'\t' | b'\r' | 11 | 12 => Plain::Blank,
         b'R' | b'L' | b'u' | b'U' => Plain::Further,
-        b'a'..=b'z' | b'A'..=b'Z' | b'_' | b'$' | 128.. => Plain::Word,
+        b'0' | b'1' | b'2' | b'3' | b'4' | b'5' | b'6' | b'7' | b'8' | b'9' => Plain::Further,
         b'(' | b')' | b'[' | b']' | b'{' | b'}' | b';' | b',' | b'?' | b'~' => Plain::Sign,
-        _ => Plain::Further,
+        _ => {
+            if is_word_byte(byte) {
+                Plain::Word
+            } else {
+                Plain::Further
+            }
+        }
     }
 }
 
