@@ -85,7 +85,8 @@ impl<'a> Frame<'a> {
     }
 }
 
-// Takes the tokens of a part up to its first use, and that use too.
+// Takes the tokens of a part up to its first use, and that use too. Where uses stand one behind the other no search is
+// needed.
 fn take_use_in(store: &Store, part: &mut Part) -> Option<NameRef>
     requires { IsRun (length (all_tokens store.now.parts)) part.old }
     ensures within { IsRun (length (all_tokens store.now.parts)) part.new }
@@ -95,6 +96,10 @@ fn take_use_in(store: &Store, part: &mut Part) -> Option<NameRef>
 {
     if part.first >= part.after {
         return None;
+    }
+    if let Token::Name(name) = store.token(part.first) {
+        part.first += 1;
+        return Some(name);
     }
     let next = store.next_use(*part);
     if next >= part.after {
