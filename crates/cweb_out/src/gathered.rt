@@ -87,13 +87,18 @@ impl Gathered {
         self.flush(out)
     }
 
-    /// Adds a text for which there is room.
+    /// Adds a text for which there is room. Most have one byte, and then no call copies them.
     #[inline(always)]
     pub(crate) fn add(&mut self, text: &[u8])
         requires { length self.old + length text.now ≤ ROOM }
         ensures { self.new ≡ self.old ++ text.now }
     {
-        let _ = self.bytes.extend_from_slice(text);
+        match text {
+            [byte] => self.bytes.push_reserved(*byte),
+            _ => {
+                let _ = self.bytes.extend_from_slice(text);
+            }
+        }
     }
 
     /// Adds a text, behind a blank or not, where there is room for both, and answers whether there is.
@@ -108,7 +113,7 @@ impl Gathered {
             return false;
         }
         if is_apart {
-            self.add(b" ");
+            self.bytes.push_reserved(b' ');
         }
         self.add(text);
         true
