@@ -1,5 +1,5 @@
 -- What was gathered goes to a sink.
-use Rattle.std.proofs.Common.{◌≡◌, ◌++◌, ◌∙◌, [], refl, sym, ap, append_assoc, append-nil, ℕ, List, take, drop}
+use Rattle.std.proofs.Common.{◌≡◌, ◌++◌, ◌∙◌, [], refl, sym, subst, ap, append_assoc, append-nil, ℕ, List, take, drop}
 use Rattle.std.proofs.lemmas.List.{take-append-drop}
 use Rattle.std.specs.Prelude.{Result, Ok, Err, IsErr, IsOk}
 use Rattle.cweb_out.specs.Gathering.{Moved}
@@ -57,3 +57,10 @@ pub behind : (old mid piece piece' new after text : List ℕ) → mid ++ piece �
     → new ++ after ≡ mid ++ piece' → new ++ after ≡ old ++ text
 behind old mid piece piece' new after text same is moved =
     moved ∙ ap (λ (t : List ℕ). mid ++ t) is ∙ sym (append_assoc mid piece text) ∙ ap (λ (t : List ℕ). t ++ text) same
+
+-- what a sink has and what is gathered, told in other words
+pub adds_at : {A E : Type 0} (before after old new old' new' : List ℕ) (r : Result A E)
+    → old ≡ old' → new ≡ new' → AddsBy before after old new r → AddsBy before after old' new' r
+adds_at before after old new old' new' r is is' adds =
+    subst (λ (t : List ℕ). AddsBy before after old' t r) is'
+    (subst (λ (t : List ℕ). AddsBy before after t new r) is adds)

@@ -16,6 +16,7 @@ pub mod lent;
 pub mod macros;
 pub mod mark;
 pub mod pieces;
+pub mod rare;
 pub mod run;
 pub mod short;
 pub mod text;

@@ -33,6 +33,9 @@ impl<'a> Printer<'a> {
             (W.written out.old ++ gathered.old) (W.written out.new ++ gathered.new) result }
     {
         gathered.make_room(out)?;
+        if self.gather_rare(&token, gathered) {
+            return Ok(());
+        }
         let mut text = ShortText::new();
         if self.print(&token, &mut text).is_ok() {
             gathered.add(text.as_slice());

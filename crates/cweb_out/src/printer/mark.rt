@@ -96,7 +96,7 @@ fn write_quoted_byte<W: Sink>(byte: u8, out: &mut W) -> Result<(), SinkFault>
     }
 }
 
-fn has_quotable(name: &[u8]) -> bool
+pub(crate) fn has_quotable(name: &[u8]) -> bool
     ensures { result ≡ list_any wants_backslash name.now }
 {
     name.iter().any(|byte| wants_backslash(*byte))

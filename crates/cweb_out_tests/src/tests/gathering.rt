@@ -173,3 +173,21 @@ fn a_chain_across_the_end_of_the_room(rt: HostRuntime) -> Result<(), Fail> {
     assert_eq!(rt; measured(&rt, rt.alloc(), &web)?, (99_991, 2));
     Ok(())
 }
+
+// Section comments behind operators, with a blank before each.
+#[test]
+fn comments_behind_operators(rt: HostRuntime) -> Result<(), Fail> {
+    let web = repeated(rt.alloc(), " p+ [7 p- ]7 $", 10_000)?;
+    assert_eq!(rt; measured(&rt, rt.alloc(), &web)?, (170_000, 3));
+    Ok(())
+}
+
+// Line marks of 14 bytes, a word and a newline; and marks behind a join, which are dropped.
+#[test]
+fn marks_across_the_end_of_the_room(rt: HostRuntime) -> Result<(), Fail> {
+    let web = repeated(rt.alloc(), " m7 wx $", 10_000)?;
+    assert_eq!(rt; measured(&rt, rt.alloc(), &web)?, (160_000, 3));
+    let joined = repeated(rt.alloc(), " m7 wx & m8 [9 m9 wy", 5_000)?;
+    assert_eq!(rt; measured(&rt, rt.alloc(), &joined)?, (120_000, 2));
+    Ok(())
+}
