@@ -56,6 +56,7 @@ pub mod PlainPieces
 pub mod PlainTokens
 pub mod Standing
 pub mod StandingPieces
+pub mod PlainFirsts
 pub mod Plains
 pub mod PlainTurns
 pub mod Furthers

@@ -1,152 +1,33 @@
--- Plain C text: what a first byte tells, and that a piece that it tells is taken rightly.
-use Rattle.std.proofs.Common.{◌≡◌, ◌≤◌, ℕ, Bool, true, false, ◌||◌, ◌&&◌, ◌==◌, not, List, [], ◌∷◌, Option, Some, None, length, take, slice_index_or, refl, ap, sym, ◌∙◌, subst, arith}
+-- Plain C text: that a piece that its first byte tells is taken rightly.
+use Rattle.std.proofs.Common.{◌≡◌, ◌≤◌, ℕ, Bool, true, false, ◌&&◌, not, List, [], ◌∷◌, Option, Some, None, length, take, refl, ap, sym, ◌∙◌, subst}
 use Rattle.std.specs.Prelude.{if◌then◌else◌, codes, option_map}
 use Rattle.std.specs.List.{prefix_len}
-use Rattle.std.proofs.lemmas.Bool.{eqb-true}
 use Rattle.std.proofs.lemmas.List.Sums.{fold-append}
 use Rattle.cweb_store.specs.Growing.{longer}
 use Rattle.cweb_store.specs.Parts.{Token, Word, Punct, Blank, Part}
-use Rattle.cweb_rules.specs.Bytes.{first_is, is_blank, is_one_of, is_word_byte}
+use Rattle.cweb_rules.specs.Bytes.{is_blank, is_word_byte}
 use Rattle.cweb_rules.specs.Codes.{in_c}
 use Rattle.cweb_rules.specs.Lines.{IsLine}
-use Rattle.cweb_rules.specs.Rules.{c_rule, c_front_by, is_settled}
-use Rattle.cweb_rules.specs.Tables.{listed, longest}
+use Rattle.cweb_rules.specs.Rules.{c_rule, c_front_by}
 use Rattle.cweb_rules.specs.declared.context.Context.{Context}
 use Rattle.cweb_rules.specs.declared.rule.Rule.{Rule}
 use Rattle.cweb_rules.specs.declared.rule.Rule.TheVariants as rule
-use Rattle.cweb_rules.proofs.FirstBytes.{settled-rule}
 use Rattle.cweb_scan.specs.After.{punctuator}
 use Rattle.cweb_scan.specs.Directives as spec
 use Rattle.cweb_scan.specs.Directives.{directive, directive_of, directive_tokens, ends_line, is_c, is_punct, is_some, names_include, with_next}
 use Rattle.cweb_scan.specs.Fronted.{Gives, is_head}
 use Rattle.cweb_scan.specs.Kept.{further, goes_over, has_part, is_line_end, is_outside, last_of, outside, step, IsTied}
-use Rattle.cweb_scan.specs.Plain.{is_alone, is_kept_back, plain_by, IsPlainC, IsPlainToken, TakesPlain}
+use Rattle.cweb_scan.specs.Plain.{IsPlainC, IsPlainToken, TakesPlain}
 use Rattle.cweb_scan.specs.Ruled.{ends_macro_line}
 use Rattle.cweb_scan.specs.State.{State, give, tokens_of}
 use Rattle.cweb_scan.specs.declared.scanner.directive.Directive.{Directive}
 use Rattle.cweb_scan.specs.declared.scanner.directive.Stage.{Stage}
 use Rattle.cweb_scan.specs.declared.scanner.directive.Stage.TheVariants.{Outside, Bare, Include, Further}
-use Rattle.cweb_scan.specs.declared.scanner.plain.Plain.{Plain}
-use Rattle.cweb_scan.specs.declared.scanner.plain.Plain.TheVariants as plain
 use Rattle.cweb_scan.proofs.CodeTurns.{closed_at}
+use Rattle.cweb_scan.proofs.PlainFirsts.{IsSign}
 use Rattle.cweb_scan.proofs.RuleTurns.{closes, rule_closed}
 use Rattle.cweb_scan.proofs.TiedSteps.{outside-seen, tied_given}
 use Rattle.cweb_scan.proofs.Turns.{between}
-
--- FIRST BYTES
-
-abbrev Each : (ℕ → Type 0) → List ℕ → Type 0
-Each P [] = Unit {0}
-Each P (x ∷ xs) = P x × Each P xs
-
-from_set : (P : ℕ → Type 0) (set : List ℕ) → Each P set → (b : ℕ) → is_one_of set b ≡ true → P b
-from_set P [] all b h = cc
-from_set P (x ∷ xs) all b h = (elim (x == b) as (λ v. (x == b) ≡ v → (v || is_one_of xs b) ≡ true → P b) [
-  | true ↦ λ e f. subst P (eqb-true x b e) all.0
-  | false ↦ λ e f. from_set P xs all.1 b f
-]) refl h
-
--- a sign of one byte
-pub record IsSign (t : List ℕ) : Type 0 where
-  pub size : longest listed t ≡ 1
-  pub token : IsPlainToken (Punct (take 1 t))
-
-pub alone_sign : (b : ℕ) (t : List ℕ) → is_alone b ≡ true → IsSign (b ∷ t)
-alone_sign b t h =
-    let one : (n : ℕ) → is_punct (codes "#") (Some (Punct (n ∷ []))) ≡ false
-    → last_of (Punct (n ∷ [])) ≡ last_of (Word []) → longest listed (n ∷ t) ≡ 1 → IsSign (n ∷ t) =
-    λ n f g e. record { size = e; token = record { hash = f; last = g; solid = refl } } in
-    from_set (λ n. IsSign (n ∷ t)) (codes "()[]{};,?~") (
-      one 40 refl refl refl,
-      (
-        one 41 refl refl refl,
-        (
-          one 91 refl refl refl,
-          (
-            one 93 refl refl refl,
-            (
-              one 123 refl refl refl,
-              (
-                one 125 refl refl refl,
-                (
-                  one 59 refl refl refl,
-                  (
-                    one 44 refl refl refl,
-                    (one 63 refl refl refl, (one 126 refl refl refl, tt)),
-                  ),
-                ),
-              ),
-            ),
-          ),
-        ),
-      ),
-    ) b h
-
--- what a first byte tells; of the others, that they are not kept back
-abbrev pub IsTold : Bool → List ℕ → Plain → Type 0
-IsTold includes t plain.Blank = rule.Blanks ≡ c_rule includes t
-IsTold includes t plain.Word = rule.Identifier ≡ c_rule includes t
-IsTold includes t plain.Sign = (rule.Punctuator ≡ c_rule includes t) × IsSign t
-IsTold includes t plain.Further = first_is is_kept_back t ≡ false
-IsTold includes t plain.Stop = Unit {0}
-
-abbrev sign_or_further : Bool → Plain
-sign_or_further alone = if alone then plain.Sign else plain.Further
-
--- what a byte tells that begins no blank and none of the rules that look further
-abbrev settled_by : ℕ → Bool → Plain
-settled_by b word = if word then plain.Word else sign_or_further (is_alone b)
-
-abbrev unblank_by : ℕ → Bool → Plain
-unblank_by b settled = if settled then settled_by b (is_word_byte b) else plain.Further
-
-abbrev taken_by : ℕ → Bool → Plain
-taken_by b blank = if blank then plain.Blank else unblank_by b (is_settled b)
-
-if_true : (v : Bool) (x y : Rule) → v ≡ true → (if v then x else y) ≡ x
-if_true true x y e = refl
-if_true false x y e = cc
-
-module _ (includes : Bool) (b : ℕ) (t : List ℕ) (kept : is_kept_back b ≡ false) where
-  told_sign : rule.Punctuator ≡ c_rule includes (b ∷ t) → IsTold includes (b ∷ t) (sign_or_further (is_alone b))
-  told_sign is = (elim (is_alone b) as (λ v. is_alone b ≡ v → IsTold includes (b ∷ t) (sign_or_further v)) [
-    | true ↦ λ e. (is, alone_sign b t e)
-    | false ↦ λ e. kept
-  ]) refl
-
-  told_settled : is_settled b ≡ true → IsTold includes (b ∷ t) (settled_by b (is_word_byte b))
-  told_settled settled =
-      (elim (is_word_byte b) as (λ v. c_rule includes (b ∷ t) ≡ (if v then rule.Identifier else rule.Punctuator)
-      → IsTold includes (b ∷ t) (settled_by b v)) [
-        | true ↦ λ e. sym e
-        | false ↦ λ e. told_sign (sym e)
-      ]) (settled-rule b settled includes t)
-
-  told_unblank : IsTold includes (b ∷ t) (unblank_by b (is_settled b))
-  told_unblank =
-      (elim (is_settled b) as (λ v. is_settled b ≡ v → IsTold includes (b ∷ t) (unblank_by b v)) [
-        | true ↦ λ e. told_settled e
-        | false ↦ λ e. kept
-      ]) refl
-
-  told_taken : IsTold includes (b ∷ t) (taken_by b (is_blank b))
-  told_taken = (elim (is_blank b) as (λ v. is_blank b ≡ v → IsTold includes (b ∷ t) (taken_by b v)) [
-    | true ↦ λ e. sym (if_true (is_blank b) rule.Blanks _ e)
-    | false ↦ λ e. told_unblank
-  ]) refl
-
-plain_told : (includes : Bool) (b : ℕ) (t : List ℕ) → IsTold includes (b ∷ t) (plain_by b)
-plain_told includes b t =
-    (elim (is_kept_back b) as (λ v. is_kept_back b ≡ v
-    → IsTold includes (b ∷ t) (if v then plain.Stop else taken_by b (is_blank b))) [
-      | true ↦ λ e. tt
-      | false ↦ λ e. told_taken includes b t e
-    ]) refl
-
-pub told_at : (includes : Bool) (t : List ℕ) (r : Plain) → 1 ≤ length t → r ≡ plain_by (slice_index_or t 0 0)
-    → IsTold includes t r
-told_at includes [] r h e = absurd (omega (arith, h))
-told_at includes (b ∷ t) r h e = subst (IsTold includes (b ∷ t)) (sym e) (plain_told includes b t)
 
 -- DIRECTIVES
 

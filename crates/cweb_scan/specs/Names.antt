@@ -1,5 +1,5 @@
 -- The name that an occurrence gives, and how it gives it.
-use Rattle.std.specs.Prelude.{ℕ, ◌-◌, Bool, true, false, ◌&&◌, nat_eq, nat_lt, List, [], ◌∷◌, ◌++◌, length, take, codes, if◌then◌else◌}
+use Rattle.std.specs.Prelude.{ℕ, ◌-◌, Bool, true, false, ◌&&◌, ◌==◌, not, nat_eq, nat_lt, List, [], ◌∷◌, ◌++◌, length, take, codes, if◌then◌else◌}
 use Rattle.std.specs.List.{ends_with}
 use Rattle.cweb_store.specs.declared.names.How.TheVariants.{Full, Prefix}
 use Rattle.cweb_store.specs.Names.{Occurrence}
@@ -15,6 +15,18 @@ squeezed_after begun gap (b ∷ t) = elim (is_white b) [
 
 abbrev pub squeezed : List ℕ → List ℕ
 squeezed t = squeezed_after false [] t
+
+-- whether a text is squeezed as it stands: its white bytes are single blanks, and a gap stands before another byte; at its front
+-- a further gap would be one too many
+abbrev pub is_squeezed_after : Bool → List ℕ → Bool
+is_squeezed_after gap [] = not gap
+is_squeezed_after gap (b ∷ t) = elim (is_white b) [
+  | true ↦ not gap && (b == 32) && is_squeezed_after true t
+  | false ↦ is_squeezed_after false t
+]
+
+abbrev pub is_squeezed : List ℕ → Bool
+is_squeezed t = is_squeezed_after true t
 
 abbrev pub is_abbreviation : List ℕ → Bool
 is_abbreviation text = nat_lt 3 (length text) && ends_with nat_eq text (codes "...")

@@ -22,13 +22,21 @@ is_alone b = is_one_of (codes "()[]{};,?~") b
 abbrev pub is_kept_back : ℕ → Bool
 is_kept_back b = is_one_of (codes "@#\\") b
 
+-- the bytes that begin a number, and a literal, wherever they stand
+abbrev pub is_figure : ℕ → Bool
+is_figure b = is_one_of (codes "0123456789") b
+
+abbrev pub is_quote : ℕ → Bool
+is_quote b = is_one_of (codes "\"'") b
+
 -- what a first byte tells of its piece
 abbrev pub plain_by : ℕ → Plain
 plain_by b =
     if is_kept_back b then plain.Stop
     else (if is_blank b then plain.Blank
     else (if is_settled b then (if is_word_byte b then plain.Word else (if is_alone b then plain.Sign else plain.Further))
-    else plain.Further))
+    else (if is_figure b then plain.Digit
+    else (if is_quote b then plain.Quote else plain.Further))))
 
 -- C text in which no directive is open
 pub record IsPlainC (s : State) : Type 0 where

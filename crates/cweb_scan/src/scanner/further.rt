@@ -24,7 +24,7 @@ impl Scanner {
 
     // A number.
     #[inline(always)]
-    fn take_number(&mut self, rest: &[u8]) -> Result<usize, AllocError>
+    pub(crate) fn take_number(&mut self, rest: &[u8]) -> Result<usize, AllocError>
         requires in_c { IsPlainC self.old }
         requires line { IsLine rest.now }
         requires some { 1 ≤ length rest.now }
@@ -107,7 +107,7 @@ impl Scanner {
     }
 
     // A literal that ends in its line and has no `@`.
-    fn take_whole_literal(&mut self, rest: &[u8]) -> Result<usize, AllocError>
+    pub(crate) fn take_whole_literal(&mut self, rest: &[u8]) -> Result<usize, AllocError>
         requires in_c { IsPlainC self.old }
         requires line { IsLine rest.now }
         requires some { 1 ≤ length rest.now }

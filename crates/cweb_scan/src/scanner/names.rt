@@ -2,7 +2,7 @@
 ghost use Rattle.std.specs.Prelude.{◌≡◌, IfOk, OnOk, length, false};
 
 use crate::scanner::Scanner;
-use crate::scanner::spelling::{is_prefix, squeezed};
+use crate::scanner::spelling::{is_prefix, is_squeezed, squeezed};
 use cweb_files::Place;
 use cweb_rules::{Context, End};
 use cweb_store::{How, NameRef};
@@ -10,9 +10,24 @@ use std::alloc::AllocError;
 
 impl Scanner {
     ghost use Rattle.cweb_scan.specs.After as spec;
-    ghost use Rattle.cweb_scan.specs.Names.{occurrence_in};
+    ghost use Rattle.cweb_scan.specs.Names.{given, occurrence_in};
     ghost use Rattle.cweb_scan.specs.Room.{HasRoom};
     ghost use Rattle.cweb_scan.specs.State.{with_name};
+
+    // The occurrence that a name gives as it is spelled. Answers its number.
+    fn add_spelled(&mut self, is_file: bool, name: &[u8]) -> Result<NameRef, AllocError>
+        requires { HasRoom 2 self.old }
+        ensures number { IfOk result (λ name. name.0 ≡ length self.old.contents.occurrences) }
+        ensures ok { OnOk result (self.new ≡ with_name (given is_file name.now) self.old) }
+    {
+        if is_prefix(name) {
+            let (prefix, _) = name.split_at(name.len() - 3);
+            let number = self.builder.occurrence(prefix, How::Prefix, is_file)?;
+            return Ok(number);
+        }
+        let number = self.builder.occurrence(name, How::Full, is_file)?;
+        Ok(number)
+    }
 
     // The occurrence that a name's text gives. Answers its number.
     fn add_occurrence(&mut self, is_file: bool, text: &[u8]) -> Result<NameRef, AllocError>
@@ -20,14 +35,11 @@ impl Scanner {
         ensures number { IfOk result (λ name. name.0 ≡ length self.old.contents.occurrences) }
         ensures ok { OnOk result (self.new ≡ with_name (occurrence_in is_file text.now) self.old) }
     {
-        let name = squeezed(self.alloc, text)?;
-        if is_prefix(&name) {
-            let (prefix, _) = name.split_at(name.len() - 3);
-            let number = self.builder.occurrence(prefix, How::Prefix, is_file)?;
-            return Ok(number);
+        if is_squeezed(text) {
+            return self.add_spelled(is_file, text);
         }
-        let number = self.builder.occurrence(&name, How::Full, is_file)?;
-        Ok(number)
+        let name = squeezed(self.alloc, text)?;
+        self.add_spelled(is_file, &name)
     }
 
     /// A name that began at a place ended, with an opener sign behind it or without.

@@ -17,6 +17,8 @@ enum Plain {
     Blank,
     Word,
     Sign,
+    Digit,
+    Quote,
     Further,
     Stop,
 }
@@ -29,7 +31,8 @@ fn plain_of(byte: u8) -> Plain
         b'@' | b'#' | b'\\' => Plain::Stop,
         b' ' | b'\t' | b'\r' | 11 | 12 => Plain::Blank,
         b'R' | b'L' | b'u' | b'U' => Plain::Further,
-        b'0' | b'1' | b'2' | b'3' | b'4' | b'5' | b'6' | b'7' | b'8' | b'9' => Plain::Further,
+        b'0' | b'1' | b'2' | b'3' | b'4' | b'5' | b'6' | b'7' | b'8' | b'9' => Plain::Digit,
+        b'"' | b'\'' => Plain::Quote,
         b'(' | b')' | b'[' | b']' | b'{' | b'}' | b';' | b',' | b'?' | b'~' => Plain::Sign,
         _ => {
             if is_word_byte(byte) {
@@ -85,6 +88,8 @@ impl Scanner {
                 self.folded = false;
                 Ok(1)
             }
+            Plain::Digit => self.take_number(rest),
+            Plain::Quote => self.take_whole_literal(rest),
             Plain::Further => self.take_further(rest),
             Plain::Stop => Ok(0),
         }

@@ -32,6 +32,23 @@ pub fn squeezed(alloc: Global, text: &[u8]) -> Result<Vec<u8>, AllocError>
     Ok(name)
 }
 
+/// Whether a text is such a name as it stands.
+pub fn is_squeezed(text: &[u8]) -> bool
+    ensures { result ≡ spec.is_squeezed text.now }
+{
+    let mut gap = true;
+    for byte in text {
+        if !is_white(*byte) {
+            gap = false;
+        } else if gap || *byte != b' ' {
+            return false;
+        } else {
+            gap = true;
+        }
+    }
+    !gap
+}
+
 /// Whether a name is an abbreviation: longer than three bytes, it ends in `...`.
 pub fn is_prefix(name: &[u8]) -> bool
     ensures { result ≡ is_abbreviation name.now }

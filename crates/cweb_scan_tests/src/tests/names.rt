@@ -43,6 +43,12 @@ fn spelling(rt: HostRuntime) -> Result<(), Fail> {
             b"@ @<  a \t b\x0bc\n d @>=x".as_slice(),
             "[<a b c d>] head:1 at:2 w:x tail:1 ",
         ),
+        // blanks as they stand, and too many
+        (b"@ @<a b c@>=x", "[<a b c>] head:1 at:1 w:x tail:1 "),
+        (b"@ @<a b  c@>=x", "[<a b c>] head:1 at:1 w:x tail:1 "),
+        (b"@ @<a\tb@>=x", "[<a b>] head:1 at:1 w:x tail:1 "),
+        (b"@ @< a@>=x", "[<a>] head:1 at:1 w:x tail:1 "),
+        (b"@ @<a @>=x", "[<a>] head:1 at:1 w:x tail:1 "),
         (b"@ @<a@@b@>=x", "[<a@b>] head:1 at:1 w:x tail:1 "),
         (b"@ @<a@@>b@>=x", "[<a@>b>] head:1 at:1 w:x tail:1 "),
         (b"@ @<a@xb@>=x", "[<a@xb>] head:1 at:1 w:x tail:1 "),

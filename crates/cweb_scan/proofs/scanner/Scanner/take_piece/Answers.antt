@@ -4,7 +4,8 @@ use Rattle.cweb_scan.specs.Directives.{is_c, names_include}
 use Rattle.cweb_scan.specs.Plain.{IsPlainC}
 use Rattle.cweb_scan.specs.State.{State, give}
 use Rattle.cweb_scan.specs.declared.scanner.plain.Plain.TheVariants as plain
-use Rattle.cweb_scan.proofs.Plains.{told_at, stays_plain, blanks_turn, word_turn, sign_turn}
+use Rattle.cweb_scan.proofs.PlainFirsts.{told_at}
+use Rattle.cweb_scan.proofs.Plains.{stays_plain, blanks_turn, word_turn, sign_turn}
 use Rattle.cweb_scan.proofs.scanner.Scanner.take_piece.Goals as goal
 
 pub returns-in-Blank-clause-taken : goal.returns-in-Blank-clause-taken
@@ -46,3 +47,11 @@ returns-in_ok-give_plain-in-Sign-clause-stays c =
     ∙ ap (λ (x : List ℕ). give (Punct x) s) c.split_at-in-Sign.ensures.front in
     let p = subst IsPlainC (sym made) (stays_plain s (Punct (take 1 u)) c.requires.in_c told.1.token) in
     record { in_c = p.in_c; outside = p.outside }
+
+pub take_number-requires-clause-first : goal.take_number-requires-clause-first
+take_number-requires-clause-first c =
+    told_at false c.args.rest.now plain.Digit c.requires.some (sym c.in-Digit.is ∙ c.plain_of.ensures)
+
+pub take_whole_literal-requires-clause-first : goal.take_whole_literal-requires-clause-first
+take_whole_literal-requires-clause-first c =
+    told_at false c.args.rest.now plain.Quote c.requires.some (sym c.in-Quote.is ∙ c.plain_of.ensures)
