@@ -44,13 +44,13 @@ impl TrialShelf {
         }
     }
 
-    /// A shelf that gives at most three bytes a read, and whose read with this number fails, from 1.
-    pub fn failing_at(shelf: MemoryShelf, read: u64) -> Self
+    /// A shelf that gives at most three bytes a read, and fails once, behind so many good reads.
+    pub fn failing_behind(shelf: MemoryShelf, good: u64) -> Self
         ensures { result.failed ≡ 0 }
     {
         let mut failing = TrialShelf::new(shelf);
         failing.most = 3;
-        failing.fails_at = read;
+        failing.fails_at = good.saturating_add(1);
         failing
     }
 }

@@ -38,13 +38,13 @@ impl TrialSink {
         Ok(sink)
     }
 
-    /// A sink with room for so many bytes that takes at most two bytes a write, and whose write with this number fails, from 1.
-    pub fn failing_at(alloc: Global, bytes: usize, write: u64) -> Result<Self, AllocError>
+    /// A sink with room for so many bytes that takes at most two bytes a write, and fails once, behind so many good writes.
+    pub fn failing_behind(alloc: Global, bytes: usize, good: u64) -> Result<Self, AllocError>
         ensures { IfOk result (λ sink. sink.failed ≡ 0) }
     {
         let mut sink = TrialSink::with_room(alloc, bytes)?;
         sink.most = 2;
-        sink.fails_at = write;
+        sink.fails_at = good.saturating_add(1);
         Ok(sink)
     }
 

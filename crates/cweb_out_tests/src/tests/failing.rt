@@ -53,7 +53,7 @@ fn print(
     };
     assert!(rt; plan.outputs() > 0);
     let mut expander = Expander::new(alloc, store, &plan, 0)?;
-    let mut out = TrialSink::failing_at(alloc, 1000, good + 1)?;
+    let mut out = TrialSink::failing_behind(alloc, 1000, good)?;
     let printed = if gathers {
         gather_all(rt, alloc, &mut expander, names, &mut out)?
     } else {

@@ -162,7 +162,7 @@ fn a_read_fails_in_a_change(rt: HostRuntime) -> Result<(), Fail> {
     let mut in_change = false;
     for good in 0..40 {
         let shelf = shelf_of(alloc, &[("m.w", WEB), ("c.ch", CHANGE)])?;
-        let mut shelf = TrialShelf::failing_at(shelf, good + 1);
+        let mut shelf = TrialShelf::failing_behind(shelf, good);
         let mut out = MemorySink::with_room(alloc, ROOM)?;
         let mut log = MemorySink::with_room(alloc, ROOM)?;
         let status = run_wmerge(alloc, &["m", "c"], None, &mut shelf, &mut out, &mut log);
@@ -190,7 +190,7 @@ fn the_log_fails_without_a_change_file(rt: HostRuntime) -> Result<(), Fail> {
     for good in 0..10 {
         let mut shelf = shelf_of(alloc, &[("m.w", WEB)])?;
         let mut out = MemorySink::with_room(alloc, ROOM)?;
-        let mut log = TrialSink::failing_at(alloc, ROOM, good + 1)?;
+        let mut log = TrialSink::failing_behind(alloc, ROOM, good)?;
         let words = ["m", "gone"];
         let status = run_wmerge(alloc, &words, None, &mut shelf, &mut out, &mut log);
         assert_eq!(rt; status, 1);

@@ -94,7 +94,7 @@ fn each_read_fails(rt: HostRuntime) -> Result<(), Fail> {
     let mut last = String::new(alloc);
     for good in 0..CALLS {
         let shelf = shelf_of(alloc, &[("f.w", WEB), ("i.ch", b"")])?;
-        let mut shelf = TrialShelf::failing_at(shelf, good + 1);
+        let mut shelf = TrialShelf::failing_behind(shelf, good);
         let mut bins = MemoryBins::with_room(alloc, FILES, ROOM)?;
         let mut log = MemorySink::with_room(alloc, ROOM)?;
         let status = run_ctangle(
@@ -123,7 +123,7 @@ fn each_write_of_the_log_fails(rt: HostRuntime) -> Result<(), Fail> {
     for good in 0..CALLS {
         let mut shelf = shelf_of(alloc, &[("f.w", WEB)])?;
         let mut bins = MemoryBins::with_room(alloc, FILES, ROOM)?;
-        let mut log = TrialSink::failing_at(alloc, ROOM, good + 1)?;
+        let mut log = TrialSink::failing_behind(alloc, ROOM, good)?;
         let status = run_ctangle(alloc, &["f"], None, &mut shelf, &mut bins, &mut log);
         let left = told(alloc, b"", bins.files(), status)?;
         add(&mut all, &mut last, left)?;

@@ -190,7 +190,7 @@ fn a_read_fails(rt: HostRuntime) -> Result<(), Fail> {
     let mut last_fault = 0;
     for good in 0..20 {
         let shelf = shelf_of(alloc, &[("a.w", WEB), ("lib/b.w", b"two\n")])?;
-        let mut shelf = TrialShelf::failing_at(shelf, good + 1);
+        let mut shelf = TrialShelf::failing_behind(shelf, good);
         let mut out = MemorySink::with_room(alloc, ROOM)?;
         let mut log = MemorySink::with_room(alloc, ROOM)?;
         let status = run_wmerge(alloc, &["a"], Some("lib"), &mut shelf, &mut out, &mut log);
@@ -215,7 +215,7 @@ fn a_write_fails(rt: HostRuntime) -> Result<(), Fail> {
     let mut last_fault = 0;
     for good in 0..20 {
         let mut shelf = shelf_of(alloc, &[("a.w", b"one\ntwo\nthree\n")])?;
-        let mut out = TrialSink::failing_at(alloc, ROOM, good + 1)?;
+        let mut out = TrialSink::failing_behind(alloc, ROOM, good)?;
         let mut log = MemorySink::with_room(alloc, ROOM)?;
         let status = run_wmerge(alloc, &["a"], None, &mut shelf, &mut out, &mut log);
         if out.failures() == 0 {
@@ -241,7 +241,7 @@ fn the_log_fails(rt: HostRuntime) -> Result<(), Fail> {
     for good in 0..10 {
         let mut shelf = shelf_of(alloc, &[("a.w", WEB), ("lib/b.w", b"two\n")])?;
         let mut out = MemorySink::with_room(alloc, ROOM)?;
-        let mut log = TrialSink::failing_at(alloc, ROOM, good + 1)?;
+        let mut log = TrialSink::failing_behind(alloc, ROOM, good)?;
         let status = run_wmerge(alloc, &["a"], Some("lib"), &mut shelf, &mut out, &mut log);
         assert_eq!(rt; status, 1);
         assert_eq!(rt; log.failures(), 1);
