@@ -84,15 +84,7 @@ fn lines_of_a_million_bytes(rt: HostRuntime) -> Result<(), Fail> {
             0,
             LONGEST - 5,
         ),
-        (
-            b"@ @c #include",
-            b"<",
-            LONGEST - 13,
-            b"",
-            524_286,
-            0,
-            10,
-        ),
+        (b"@ @c #include", b"<", LONGEST - 13, b"", 524_286, 0, 10),
         (b"@ @d m ", b"x", LONGEST - 7, b"", 3, 0, LONGEST - 6),
     ] {
         let web = long_web(alloc, front, middle, times, back)?;
