@@ -13,7 +13,7 @@ push-requires c =
     let count : token_count c.args.self.now.parts ≡ length s.tokens.tokens =
     ap (λ (v : PartsInRooms). token_count v.parts) (sym c.self.view_is)
     ∙ ap length (tokens-whole s.tokens.tokens s.runs.items s.current _ c.self.invariant) in
-    record { few = omega (arith, count, c.requires.few); }
+    record { few = omega (arith, count, c.requires.few) }
 
 pub invariant_of-self-2 : goal.invariant_of-self-2
 invariant_of-self-2 c =
