@@ -1,5 +1,5 @@
 -- What becomes of texts and of records that name them where texts are added.
-use Rattle.std.proofs.Common.{◌≡◌, ℕ, zero, suc, ◌+◌, ◌-◌, ◌≤◌, ◌<◌, List, [], ◌∷◌, ◌++◌, Some, map, length, take, drop, refl, sym, ◌∙◌, ap, subst, arith, length-append, length-drop, get_or, slice_get}
+use Rattle.std.proofs.Common.{◌≡◌, ℕ, zero, suc, ◌+◌, ◌-◌, ◌≤◌, ◌<◌, List, [], ◌∷◌, ◌++◌, Some, map, length, take, drop, refl, sym, ◌∙◌, ap, subst, arith, length-append, length-drop, slice_get}
 use Rattle.std.specs.Prelude.{slice_range, slice_index_or}
 use Rattle.std.proofs.lemmas.List.{drop-append-le, take-append-le, map-append}
 use Rattle.std.proofs.Math.Seq.{drop-append_seam, take-length, length-take-le}
@@ -171,12 +171,14 @@ packs-all old new ps t p all packs =
     (subst (λ (b : List (List ℕ)). IsWithin (length b) p) packs.grows packs.within))
 
 -- a record at a place
-pub packed-at : (texts : List (List ℕ)) (ps : List Packed) (i : ℕ) (p : Packed) → ArePacked texts ps → i < length ps
-    → p ≡ get_or ps i p → IsWithin (length texts) p × (slice_get (map (token_in texts) ps) i ≡ Some (token_in texts p))
-packed-at texts [] i p all h is = absurd (let none : ⊥ = omega arith in none)
-packed-at texts (q ∷ ps) zero p all h is =
-    (subst (IsWithin (length texts)) (sym is) all.0, ap (λ r. Some (token_in texts r)) (sym is))
-packed-at texts (q ∷ ps) (suc i) p all h is = packed-at texts ps i p all.1 (omega arith) is
+pub packed-at : (texts : List (List ℕ)) (ps : List Packed) (i : ℕ) (p : Packed) → ArePacked texts ps
+    → slice_get ps i ≡ Some p
+    → IsWithin (length texts) p × (slice_get (map (token_in texts) ps) i ≡ Some (token_in texts p))
+packed-at texts [] i p all there = cc
+packed-at texts (q ∷ ps) zero p all there =
+    let same : q ≡ p = cc in
+    (subst (IsWithin (length texts)) same all.0, ap (λ r. Some (token_in texts r)) same)
+packed-at texts (q ∷ ps) (suc i) p all there = packed-at texts ps i p all.1 there
 
 pub packed-take : (texts : List (List ℕ)) (ps : List Packed) (n : ℕ) → ArePacked texts ps → ArePacked texts (take n ps)
 packed-take texts [] zero all = tt

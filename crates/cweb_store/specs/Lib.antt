@@ -19,6 +19,7 @@ pub mod Slots
 pub mod Words
 pub mod Signs
 pub mod Packed
+pub mod Records
 pub mod Trailing
 pub mod Found
 pub mod Known

@@ -6,6 +6,7 @@ pub mod layout;
 pub mod list;
 pub mod noted;
 pub mod packed;
+pub mod records;
 pub mod texts;
 pub mod words;
 

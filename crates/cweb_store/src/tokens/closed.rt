@@ -13,18 +13,19 @@ use crate::names::{NameId, NameKind};
 use crate::parts::Part;
 use crate::tokens::Token;
 use crate::tokens::noted::{Noted, next_noted};
-use crate::tokens::packed::{Packed, lend};
+use crate::tokens::packed::lend;
+use crate::tokens::records::Records;
 use crate::tokens::texts::PackedTexts;
 use indexmap::IndexSet;
 use std::alloc::AllocError;
 use std::marker::Model;
 
-/// Tokens as records of fixed size, of which uses and Defs are noted. Their texts, and other texts behind these, stand in
+/// Tokens as records, of which uses and Defs are noted. Their texts, and other texts behind these, stand in
 /// one list of bytes.
 #[derive(Drop)]
 pub struct ClosedTokens {
     pub texts: PackedTexts,
-    pub records: Vec<Packed>,
+    pub records: Records,
     pub own: usize,
     pub noted: Noted,
 }
@@ -35,9 +36,9 @@ impl Model for ClosedTokens {
 
     ghost Value = { TokensAndTexts };
 
-    ghost view = { λ s. tokens_and_texts s.texts s.records.items s.own };
+    ghost view = { λ s. tokens_and_texts s.texts s.records.packed s.own };
 
-    ghost invariant = { λ s. AreClosedNoted s.texts s.records.items s.own s.noted };
+    ghost invariant = { λ s. AreClosedNoted s.texts s.records.packed s.own s.noted };
 }
 
 impl ClosedTokens {
@@ -58,7 +59,7 @@ impl ClosedTokens {
         requires { number < length self.now.tokens }
         ensures { slice_get self.now.tokens number ≡ Some (seen result) }
     {
-        let packed = self.records[number];
+        let packed = self.records.get(number);
         lend(&self.texts, packed)
     }
 

@@ -5,25 +5,25 @@ ghost use Rattle.cweb_store.specs.Calls.{too_many};
 ghost use Rattle.cweb_store.specs.Texts.{has_text};
 ghost use Rattle.cweb_store.specs.ClosedTokens.{tokens_alone};
 
-use crate::reserved::put;
 use crate::tokens::Token;
 use crate::tokens::closed::ClosedTokens;
 use crate::tokens::kept::KeptTexts;
 use crate::tokens::noted::Noted;
-use crate::tokens::packed::{Packed, lend, pack};
+use crate::tokens::packed::{lend, pack};
+use crate::tokens::records::Records;
 use std::alloc::{AllocError, Global};
 use std::marker::Model;
 
-/// Tokens as records of fixed size, and their texts. Uses and Defs are noted beside them.
+/// Tokens as records, and their texts. Uses and Defs are noted beside them.
 #[derive(Drop)]
 pub struct TokenList {
     texts: KeptTexts,
-    records: Vec<Packed>,
+    records: Records,
     noted: Noted,
 }
 
 impl Model for TokenList {
-    ghost use Rattle.std.specs.Prelude.{map, vec_capacity};
+    ghost use Rattle.std.specs.Prelude.{map};
     ghost use Rattle.cweb_store.specs.Rooms.{TokensInRoom};
 
     ghost Value = { TokensInRoom };
@@ -33,11 +33,11 @@ impl Model for TokenList {
 
     ghost view = { λ s.
         record {
-          tokens = map (token_in s.texts.texts) s.records.items;
-          room = vec_capacity s.records;
+          tokens = map (token_in s.texts.texts) s.records.packed;
+          room = s.records.room;
         } };
 
-    ghost invariant = { λ s. AreTokensNoted s.texts s.records.items s.noted };
+    ghost invariant = { λ s. AreTokensNoted s.texts s.records.packed s.noted };
 }
 
 impl TokenList {
@@ -48,7 +48,7 @@ impl TokenList {
     {
         TokenList {
             texts: KeptTexts::new(alloc),
-            records: Vec::new(alloc),
+            records: Records::new(alloc),
             noted: Noted::new(alloc),
         }
     }
@@ -66,11 +66,11 @@ impl TokenList {
         ensures ok { OnOk result (self.new.tokens ≡ self.old.tokens ++ seen token.entry ∷ []) }
         ensures err { OnErr result (self.new.tokens ≡ self.old.tokens) }
     {
-        self.records.reserve(1)?;
+        self.records.reserve(token)?;
         self.noted.reserve(token)?;
         let packed = pack(&mut self.texts, token)?;
         self.noted.note(self.records.len(), token);
-        put(&mut self.records, packed);
+        self.records.put(packed);
         Ok(())
     }
 
@@ -78,7 +78,7 @@ impl TokenList {
         requires { number < length self.now.tokens }
         ensures { slice_get self.now.tokens number ≡ Some (seen result) }
     {
-        let packed = self.records[number];
+        let packed = self.records.get(number);
         lend(self.texts.texts(), packed)
     }
 

@@ -1,4 +1,4 @@
-// Tokens as records of fixed size.
+// Tokens that have their texts by number.
 
 ghost use Rattle.std.specs.Prelude.{◌≡◌, ◌<◌, ◌+◌, length, IfOk, OnErr};
 ghost use Rattle.cweb_store.specs.Calls.{too_many};
@@ -29,9 +29,6 @@ pub enum Packed {
     Tail(u32),
     Mark(Place),
 }
-
-// a record for each token of a web is what a store takes most memory for
-const _: () = prove!(size_of::<Packed>() == 12);
 
 /// The record of a token, whose text is kept. A refused call changes nothing.
 #[inline(always)]

@@ -32,6 +32,17 @@ fn dropped_layout_of_a_part(rt: HostRuntime) -> Result<(), Fail> {
     )
 }
 
+// A Mark has its own place, also behind some that were dropped and in the next part.
+#[test]
+fn places_behind_dropped_marks(rt: HostRuntime) -> Result<(), Fail> {
+    tells(
+        &rt,
+        rt.alloc(),
+        "program; mark 3; word x; mark 4; newline; mark 5; drop; mark 6; word y; mark 7; drop; word z; mark 8; close; program; mark 9; drop; mark 10; blank; mark 11; close",
+        "program: mark 3 x mark 6 y z mark 8: mark 10 blank mark 11; macros; files; faults",
+    )
+}
+
 // Of a macro the first two tokens stay.
 #[test]
 fn dropped_layout_of_macros(rt: HostRuntime) -> Result<(), Fail> {

@@ -11,14 +11,14 @@ invariant_of-self-2 c =
     let text = c.args.text.now in
     rw c.in_ok-add.ensures.added
     (record {
-      tokens = closed-add s.texts text s.records.items s.own c.self.invariant.tokens;
+      tokens = closed-add s.texts text s.records.packed s.own c.self.invariant.tokens;
       notes =
           subst (λ (ts : List Token). AreNoted s.noted ts)
-          (sym (tokens-grow s.texts (text ∷ []) s.records.items c.self.invariant.tokens.packed)) c.self.invariant.notes;
+          (sym (tokens-grow s.texts (text ∷ []) s.records.packed c.self.invariant.tokens.packed)) c.self.invariant.notes;
     })
 
 pub returns : goal.returns
 returns c =
     let s = c.self.inside in
     rw (c.in_ok-add.ensures.added, ← c.self.view_is)
-    (closed-added s.texts c.args.text.now s.records.items s.own c.self.invariant.tokens)
+    (closed-added s.texts c.args.text.now s.records.packed s.own c.self.invariant.tokens)

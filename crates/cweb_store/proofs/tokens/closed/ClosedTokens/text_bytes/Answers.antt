@@ -9,10 +9,10 @@ returns-clause-texts c =
     let s = c.self.inside in
     subst (λ (v : TokensAndTexts). AreInOneList c.text_bytes.result (flat_map token_texts v.tokens ++ v.others))
     c.self.view_is
-    (all-texts s.texts s.records.items s.own c.text_bytes.result c.self.invariant.tokens c.text_bytes.ensures)
+    (all-texts s.texts s.records.packed s.own c.text_bytes.result c.self.invariant.tokens c.text_bytes.ensures)
 
 pub returns-clause-once : goal.returns-clause-once
 returns-clause-once c =
     let s = c.self.inside in
-    c.text_bytes.ensures ∙ all-bytes s.texts s.records.items s.own c.self.invariant.tokens
+    c.text_bytes.ensures ∙ all-bytes s.texts s.records.packed s.own c.self.invariant.tokens
     ∙ ap (λ v. token_bytes_kept v.tokens + total length v.others) c.self.view_is

@@ -1,0 +1,154 @@
+-- Records whose places are numbered in order.
+use Rattle.std.proofs.Common.{◌≡◌, ℕ, zero, suc, ◌+◌, ◌-◌, ◌≤◌, ◌<◌, true, false, cond, List, [], ◌∷◌, ◌++◌, Some, map, length, take, drop, refl, sym, subst, ◌∙◌, ap, arith, length-drop}
+use Rattle.std.specs.Prelude.{slice_get}
+use Rattle.std.proofs.lemmas.List.{map-append, take_all}
+use Rattle.std.proofs.Math.Seq.{take-append_seam}
+use Rattle.cweb_files.specs.declared.place.Place.{Place}
+use Rattle.cweb_store.specs.declared.tokens.packed.Packed.{Packed}
+use Rattle.cweb_store.specs.declared.tokens.packed.Packed.TheVariants as packed
+use Rattle.cweb_store.specs.declared.tokens.records.Record.{Record}
+use Rattle.cweb_store.specs.declared.tokens.records.Record.TheVariants as record_of
+use Rattle.cweb_store.specs.Packed.{token_in}
+use Rattle.cweb_store.specs.Records.{packed_in, has_place, place_at, IsAt, IsWithin, places_of, AreNumbered, IsRecord, is_mark, is_mark_token}
+
+-- a token that is a Mark has a record that is one
+pub mark-same : (texts : List (List ℕ)) (p : Packed) → is_mark p ≡ is_mark_token (token_in texts p)
+mark-same texts (packed.Word n) = refl
+mark-same texts (packed.Number n) = refl
+mark-same texts (packed.Literal n) = refl
+mark-same texts (packed.Verbatim n) = refl
+mark-same texts (packed.Punct n) = refl
+mark-same texts packed.Blank = refl
+mark-same texts packed.Newline = refl
+mark-same texts packed.Join = refl
+mark-same texts packed.Defs = refl
+mark-same texts (packed.Name n) = refl
+mark-same texts (packed.Head n) = refl
+mark-same texts (packed.Tail n) = refl
+mark-same texts (packed.Mark n) = refl
+
+pub numbered-le : (n end : ℕ) (rs : List Record) → AreNumbered n rs end → n ≤ end
+numbered-le n end [] h = omega (arith, h)
+numbered-le n end (r ∷ rs) h = omega (arith, numbered-le (n + places_of r) end rs h.1)
+
+one-place : (r : Record) → places_of r ≤ 1
+one-place r = elim (has_place r) as (λ b. cond b 1 0 ≤ 1) [ true ↦ omega arith | false ↦ omega arith ]
+
+-- there are no more places than records
+pub numbered-few : (n end : ℕ) (rs : List Record) → AreNumbered n rs end → end ≤ n + length rs
+numbered-few n end [] h = omega (arith, h)
+numbered-few n end (r ∷ rs) h = omega (arith, one-place r, numbered-few (n + places_of r) end rs h.1)
+
+pub numbered-push : (n end : ℕ) (rs : List Record) (r : Record) → AreNumbered n rs end → IsAt end r
+    → AreNumbered n (rs ++ r ∷ []) (end + places_of r)
+numbered-push n end [] r h at = (subst (λ k. IsAt k r) (sym h) at, ap (λ k. k + places_of r) h)
+numbered-push n end (q ∷ rs) r h at = (h.0, numbered-push (n + places_of q) end rs r h.1 at)
+
+-- the last records
+pub tail : (rs : List Record) (n : ℕ) → take (length rs - n) (drop n rs) ≡ drop n rs
+tail rs n = take_all (length rs - n) (drop n rs) (omega (arith, length-drop n rs))
+
+-- the places of the first records, and of the others
+pub record Split (from : ℕ) (count : ℕ) (rs : List Record) (end : ℕ) : Type 0 where
+  pub number : ℕ
+  pub front : AreNumbered from (take count rs) number
+  pub rest : AreNumbered number (drop count rs) end
+
+pub split : (from count : ℕ) (rs : List Record) (end : ℕ) → AreNumbered from rs end → Split from count rs end
+split from zero [] end h = record { number = from; front = refl; rest = h }
+split from (suc count) [] end h = record { number = from; front = refl; rest = h }
+split from zero (r ∷ rs) end h = record { number = from; front = refl; rest = h }
+split from (suc count) (r ∷ rs) end h =
+    let s = split (from + places_of r) count rs end h.1 in
+    record { number = s.number; front = (h.0, s.front); rest = s.rest }
+
+at-take : (places : List Place) (n k : ℕ) → k < n → place_at (take n places) k ≡ place_at places k
+at-take [] zero k h = refl
+at-take [] (suc n) k h = refl
+at-take (p ∷ ps) zero k h = absurd (let none : ⊥ = omega arith in none)
+at-take (p ∷ ps) (suc n) zero h = refl
+at-take (p ∷ ps) (suc n) (suc k) h = at-take ps n k (omega arith)
+
+packed-take : (places : List Place) (n from : ℕ) (r : Record) → IsAt from r → from + places_of r ≤ n
+    → packed_in (take n places) r ≡ packed_in places r
+packed-take places n from (record_of.Word k) at h = refl
+packed-take places n from (record_of.Number k) at h = refl
+packed-take places n from (record_of.Literal k) at h = refl
+packed-take places n from (record_of.Verbatim k) at h = refl
+packed-take places n from (record_of.Punct k) at h = refl
+packed-take places n from record_of.Blank at h = refl
+packed-take places n from record_of.Newline at h = refl
+packed-take places n from record_of.Join at h = refl
+packed-take places n from record_of.Defs at h = refl
+packed-take places n from (record_of.Name k) at h = refl
+packed-take places n from (record_of.Head k) at h = refl
+packed-take places n from (record_of.Tail k) at h = refl
+packed-take places n from (record_of.Mark k) at h = ap packed.Mark (at-take places n k (omega (arith, at, h)))
+
+-- the places behind those of records don't count
+pub cut : (places : List Place) (from n : ℕ) (rs : List Record) → AreNumbered from rs n
+    → map (packed_in (take n places)) rs ≡ map (packed_in places) rs
+cut places from n [] h = refl
+cut places from n (r ∷ rs) h = λ i.
+    packed-take places n from r h.0 (numbered-le (from + places_of r) n rs h.1) i
+    ∷ cut places (from + places_of r) n rs h.1 i
+
+-- one more
+pub push-packed : (old new : List Place) (rs : List Record) (token : Packed) (r : Record)
+    → AreNumbered 0 rs (length old) → IsRecord old token r new
+    → map (packed_in new) (rs ++ r ∷ []) ≡ map (packed_in old) rs ++ token ∷ []
+push-packed old new rs token r all is =
+    let front : take (length old) new ≡ old = ap (take (length old)) is.grows ∙ take-append_seam old is.more in
+    map-append (packed_in new) rs (r ∷ [])
+    ∙ (λ i. (sym (cut new 0 (length old) rs all) ∙ ap (λ ps. map (packed_in ps) rs) front) i ++ is.stands i ∷ [])
+
+pub push-numbered : (old new : List Place) (rs : List Record) (token : Packed) (r : Record)
+    → AreNumbered 0 rs (length old) → IsRecord old token r new → AreNumbered 0 (rs ++ r ∷ []) (length new)
+push-numbered old new rs token r all is =
+    subst (AreNumbered 0 (rs ++ r ∷ [])) (sym is.count) (numbered-push 0 (length old) rs r all is.at)
+
+-- a record at a number
+pub record-at : (places : List Place) (from end : ℕ) (rs : List Record) (i : ℕ) (r : Record) → AreNumbered from rs end
+    → slice_get rs i ≡ Some r
+    → IsWithin end r × (slice_get (map (packed_in places) rs) i ≡ Some (packed_in places r))
+record-at places from end [] i r all h = cc
+record-at places from end (q ∷ rs) zero r all h =
+    let same : q ≡ r = cc in (
+      subst (IsWithin end) same (within q from end all.0 (numbered-le (from + places_of q) end rs all.1)),
+      ap (λ x. Some (packed_in places x)) same,
+    )
+  where
+    within : (q : Record) (from end : ℕ) → IsAt from q → from + places_of q ≤ end → IsWithin end q
+    within (record_of.Word k) from end at h = tt
+    within (record_of.Number k) from end at h = tt
+    within (record_of.Literal k) from end at h = tt
+    within (record_of.Verbatim k) from end at h = tt
+    within (record_of.Punct k) from end at h = tt
+    within record_of.Blank from end at h = tt
+    within record_of.Newline from end at h = tt
+    within record_of.Join from end at h = tt
+    within record_of.Defs from end at h = tt
+    within (record_of.Name k) from end at h = tt
+    within (record_of.Head k) from end at h = tt
+    within (record_of.Tail k) from end at h = tt
+    within (record_of.Mark k) from end at h = omega (arith, at, h)
+record-at places from end (q ∷ rs) (suc i) r all h = record-at places (from + places_of q) end rs i r all.1 h
+
+-- the first Mark of the last records has the number from which they are numbered
+pub first-mark : (i : ℕ) (rs : List Record) (k n end : ℕ) → slice_get rs i ≡ Some (record_of.Mark k)
+    → AreNumbered n (drop i rs) end → k ≡ n
+first-mark i [] k n end there all = cc
+first-mark zero (r ∷ rs) k n end there all =
+    let same : r ≡ record_of.Mark k = cc in
+    subst (IsAt n) same all.0
+first-mark (suc i) (r ∷ rs) k n end there all = first-mark i rs k n end there all
+
+pub not-mark : (i : ℕ) (rs : List Record) (r : Record) (n end : ℕ) → slice_get rs i ≡ Some r → has_place r ≡ false
+    → AreNumbered n (drop i rs) end → AreNumbered n (drop (suc i) rs) end
+not-mark i [] r n end there none all = cc
+not-mark zero (q ∷ rs) r n end there none all =
+    let same : q ≡ r = cc in
+    let nothing : places_of r ≡ 0 = ap (λ b. let k : ℕ = cond b 1 0 in k) none in
+    let stays : n + places_of q ≡ n = omega (arith, ap places_of same, nothing) in
+    subst (λ k. AreNumbered k rs end) stays all.1
+not-mark (suc i) (q ∷ rs) r n end there none all = not-mark i rs r n end there none all
