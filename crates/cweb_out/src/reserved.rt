@@ -7,5 +7,5 @@ pub(crate) fn put<T: Drop>(list: &mut Vec<T>, item: T)
     ensures items { list.new.items ≡ list.old.items ++ item ∷ [] }
     ensures room { vec_capacity list.new ≡ vec_capacity list.old }
 {
-    let _ = list.insert(list.len(), item);
+    list.push_reserved(item);
 }
