@@ -1,5 +1,5 @@
 -- Runs of bytes that are units of an item wherever they stand.
-use Rattle.std.proofs.Common.{◌≡◌, ◌≤◌, ◌<◌, ℕ, suc, ◌+◌, Bool, true, false, cond, not, ◌&&◌, ◌||◌, ◌==◌, List, [], ◌∷◌, Option, Some, None, length, take, drop, get_or, refl, ap, sym, ◌∙◌, subst, arith, min}
+use Rattle.std.proofs.Common.{◌≡◌, ◌≤◌, ◌<◌, ℕ, suc, ◌+◌, Bool, true, false, cond, not, ◌&&◌, ◌||◌, ◌==◌, List, [], ◌∷◌, Option, Some, None, length, drop, get_or, refl, ap, sym, ◌∙◌, subst, arith, min}
 use Rattle.std.specs.Prelude.{if◌then◌else◌, codes}
 use Rattle.std.specs.List.{prefix_len}
 use Rattle.std.specs.Option.{unwrap_or}
@@ -39,21 +39,6 @@ pub before_first-within : (test : ℕ → Bool) (xs : List ℕ) (r : Option ℕ)
     → IsFirstByte test xs r → unwrap_or r (length xs) ≤ length xs
 before_first-within test xs r first =
     subst (λ n. n ≤ length xs) (sym (before_first test xs r first)) (prefix_len-le-length (λ b. not (test b)) xs)
-
--- two tests, one after the other
-pub before_either : (p q : ℕ → Bool) (xs : List ℕ)
-    → prefix_len (λ b. not (q b)) (take (prefix_len (λ b. not (p b)) xs) xs) ≡ prefix_len (λ b. not (p b || q b)) xs
-before_either p q [] = refl
-before_either p q (x ∷ xs) = by (p x) (before_either p q xs)
-  where
-    by : (v : Bool)
-        → prefix_len (λ b. not (q b)) (take (prefix_len (λ b. not (p b)) xs) xs) ≡ prefix_len (λ b. not (p b || q b)) xs
-        → prefix_len (λ b. not (q b)) (take (cond (not v) (1 + prefix_len (λ b. not (p b)) xs) 0) (x ∷ xs))
-        ≡ cond (not (v || q x)) (1 + prefix_len (λ b. not (p b || q b)) xs) 0
-    by true rest = refl
-    by false rest =
-        let e : 1 + prefix_len (λ b. not (p b)) xs ≡ suc (prefix_len (λ b. not (p b)) xs) = omega arith in
-        ap (λ n. prefix_len (λ b. not (q b)) (take n (x ∷ xs))) e ∙ ap (λ n. cond (not (q x)) (1 + n) 0) rest
 
 -- UNITS OF ONE BYTE
 

@@ -36,8 +36,13 @@ fn plain_in_literal(quote: u8, text: &[u8]) -> usize
         ≡ prefix_len (λ b. not ((b == 64 || b == 92 || b == quote) || b == 10)) text.now }
     ensures within { result ≤ length text.now }
 {
-    let (quoted, _) = text.split_at(len_before3(b'@', b'\\', quote, text));
-    len_before(b'\n', quoted)
+    // most literals are short
+    for (i, byte) in text.iter().enumerate() {
+        if matches!(*byte, b'@' | b'\\' | b'\n') || *byte == quote {
+            return i;
+        }
+    }
+    text.len()
 }
 
 fn plain_in_raw(sign: &[u8], text: &[u8]) -> usize

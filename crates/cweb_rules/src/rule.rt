@@ -4,7 +4,7 @@ ghost use Rattle.cweb_rules.specs.Fronts as spec;
 ghost use Rattle.cweb_rules.specs.Rules as rules;
 ghost use Rattle.cweb_rules.specs.Leads.{lead};
 
-use crate::bytes::{Class, begins, starts, starts_section};
+use crate::bytes::{Class, begins, is_word_byte, starts, starts_section};
 use crate::end::End;
 use crate::items::{Item, reach};
 use crate::literals::{starts_literal, starts_raw};
@@ -68,9 +68,14 @@ fn lead_of(byte: u8) -> Lead
     match byte {
         b' ' | b'\t' | b'\r' | 11 | 12 => Lead::Blank,
         b'\n' | b'/' | b'@' | b'R' | b'L' | b'u' | b'U' | b'"' | b'\'' | b'<' | b'.' => Lead::Open,
-        b'0'..=b'9' => Lead::Open,
-        b'a'..=b'z' | b'A'..=b'Z' | b'_' | b'$' | 128.. => Lead::Word,
-        _ => Lead::Sign,
+        b'0' | b'1' | b'2' | b'3' | b'4' | b'5' | b'6' | b'7' | b'8' | b'9' => Lead::Open,
+        _ => {
+            if is_word_byte(byte) {
+                Lead::Word
+            } else {
+                Lead::Sign
+            }
+        }
     }
 }
 
