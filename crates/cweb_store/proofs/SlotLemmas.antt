@@ -78,6 +78,14 @@ pub window-hold : (texts : List (List ℕ)) (key : Key) (ss : List Slot) → All
     → AllHold texts (window_of key ss)
 window-hold texts key ss h = λ k s g u. h (home_of key (length ss) + k) s (window-slot key ss k s g).there u
 
+-- the first slot of a window
+pub home-slot : (key : Key) (ss : List Slot) (s : Slot) → slice_get ss (home_of key (length ss)) ≡ Some s
+    → slice_get (window_of key ss) 0 ≡ Some s
+home-slot key ss s there =
+    let from = home_of key (length ss) in
+    let same : from + 0 ≡ from = omega arith in
+    get-take (drop from ss) 8 0 (omega arith) ∙ get-drop ss from 0 ∙ ap (slice_get ss) same ∙ there
+
 pub found-slot : (texts : List (List ℕ)) (window : List Slot) (q : List ℕ) (k : ℕ) (s : Slot) → AllHold texts window
     → slice_get window k ≡ Some s → slot_is texts q s ≡ true → IsFound texts window q s.number
 found-slot texts window q k s hold there is =

@@ -1,7 +1,11 @@
 -- The key of a word, and where the words of a key stand in a table.
-use Rattle.std.specs.Prelude.{ℕ, ◌+◌, ◌-◌, ◌*◌, ◌/◌, ◌%◌, ◌^◌, nat_lt, List, length, take, drop, slice_index_or, if◌then◌else◌}
+use Rattle.std.specs.Prelude.{ℕ, ◌<◌, ◌+◌, ◌-◌, ◌*◌, ◌/◌, ◌%◌, ◌^◌, nat_lt, List, length, take, drop, slice_index_or, if◌then◌else◌}
 use Rattle.std.specs.Int.{w32, w64, from_le_bytes}
 use Rattle.cweb_store.specs.declared.tokens.words.key.Key.{Key}
+
+-- the numbers of a text are bytes
+abbrev pub AreBytes : List ℕ → Type 0
+AreBytes text = (i : ℕ) → slice_index_or text i 0 < 256
 
 abbrev pub short_key : List ℕ → Key
 short_key word = record {

@@ -11,7 +11,7 @@ ghost use Rattle.cweb_store.specs.Words.{Keeps, KeepsWord, has, none_kept};
 use crate::tokens::texts::PackedTexts;
 use crate::tokens::words::growth::{insert_word, spread_wider};
 use crate::tokens::words::key::Key;
-use crate::tokens::words::slot::{Slot, find_slot, free_slots, place_word, window_of};
+use crate::tokens::words::slot::{Slot, find_slot, first_slot, free_slots, place_word, window_of};
 use std::alloc::{AllocError, Global};
 use std::collections::BTreeMap;
 use std::marker::Model;
@@ -70,6 +70,19 @@ impl WordTexts {
         ensures err { OnErr result (self.new ≡ self.old) }
     {
         let key = Key::of(word);
+        if let Some(number) = first_slot(&self.texts, self.slots.as_slice(), key, word) {
+            return Ok(number);
+        }
+        self.look_up(key, word)
+    }
+
+    // Keeps a word that the first slot of its window may not have.
+    #[inline(never)]
+    fn look_up(&mut self, key: Key, word: &[u8]) -> Result<usize, AllocError>
+        requires key { key ≡ key_of word.now }
+        ensures ok { IfOk result (λ number. KeepsWord self.old word.now number self.new) }
+        ensures err { OnErr result (self.new ≡ self.old) }
+    {
         let window = window_of(self.slots.as_slice(), key);
         if let Some(number) = find_slot(&self.texts, window, key, word) {
             return Ok(number);

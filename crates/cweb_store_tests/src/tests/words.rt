@@ -106,3 +106,55 @@ fn words_of_each_length(rt: HostRuntime) -> Result<(), Fail> {
     }
     Ok(())
 }
+
+// The longest words that differ in one byte.
+const LONGEST: usize = 18;
+
+// A word of so many bytes of which one is another letter.
+fn marked(bytes: &mut [u8; LONGEST], len: usize, place: usize) -> &[u8] {
+    *bytes = [b'a'; LONGEST];
+    if place < LONGEST {
+        bytes[place] = b'b';
+    }
+    match bytes.get(..len) {
+        Some(word) => word,
+        None => b"",
+    }
+}
+
+// Words of each length, each with another letter at each place.
+fn of_each_place(rt: &impl Abort, alloc: Global) -> Result<Store, AllocError> {
+    let mut row = Row::new(alloc);
+    let mut bytes = [b'a'; LONGEST];
+    row.make_all(rt, "program")?;
+    for _ in 0..2 {
+        for len in 1..=LONGEST {
+            for place in 0..len {
+                row.push(rt, Token::Word(marked(&mut bytes, len, place)))?;
+            }
+        }
+    }
+    row.finish()
+}
+
+#[test]
+fn words_that_differ_in_one_byte(rt: HostRuntime) -> Result<(), Fail> {
+    let store = match of_each_place(&rt, rt.alloc()) {
+        Ok(store) => store,
+        Err(_) => of_each_place(&rt, rt.alloc())?,
+    };
+    assert!(rt; store.text_bytes() == 2109);
+    let mut bytes = [b'a'; LONGEST];
+    let mut number: u32 = 0;
+    for _ in 0..2 {
+        for len in 1..=LONGEST {
+            for place in 0..len {
+                assert!(rt; number < store.tokens());
+                assert!(rt; store.token(number) == Token::Word(marked(&mut bytes, len, place)));
+                number += 1;
+            }
+        }
+    }
+    assert!(rt; number == store.tokens());
+    Ok(())
+}

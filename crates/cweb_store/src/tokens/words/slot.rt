@@ -3,7 +3,7 @@
 ghost use Rattle.std.specs.Prelude.{◌≡◌, ◌<◌, true, false, length, replicate, slice_get, Some};
 ghost use Rattle.std.specs.Prelude.{IfOk, IfSome, MatchBool, MatchOption};
 ghost use Rattle.std.specs.List.{list_any};
-ghost use Rattle.cweb_store.specs.Keys.{key_of};
+ghost use Rattle.cweb_store.specs.Keys.{AreBytes, key_of};
 ghost use Rattle.cweb_store.specs.Slots.{AllHold, Holds, IsFound, IsPlaced, IsWordPlaced};
 ghost use Rattle.cweb_store.specs.Slots.{free_slot, is_alike, is_used, slot_is, window_of};
 
@@ -13,6 +13,9 @@ use std::alloc::{AllocError, Global};
 
 // In how many slots a word may stand, from the home of its key on.
 const WINDOW: usize = 8;
+
+// A word of at most so many bytes is told by its key and its length.
+const TOLD: usize = 16;
 
 /// A word by the number of its text, with its key and its length. A slot whose length is 0 is free.
 #[derive(Clone, Copy)]
@@ -64,6 +67,20 @@ pub fn window_of(slots: &[Slot], key: Key) -> &[Slot]
     }
 }
 
+/// The number of the text of a word, if the first slot of its window has it.
+#[inline(always)]
+pub fn first_slot(texts: &PackedTexts, slots: &[Slot], key: Key, word: &[u8]) -> Option<usize>
+    requires hold { AllHold texts.now slots.now }
+    requires key { key ≡ key_of word.now }
+    ensures { IfSome result (λ number.
+        IsFound texts.now (window_of key slots.now) word.now number) }
+{
+    match slots.get(home(key, slots.len())) {
+        Some(slot) if is_word(texts, *slot, key, word) => Some(slot.number as usize),
+        _ => None,
+    }
+}
+
 /// The number of the text of a word, if a slot of its window has it.
 pub fn find_slot(texts: &PackedTexts, window: &[Slot], key: Key, word: &[u8]) -> Option<usize>
     requires hold { AllHold texts.now window.now }
@@ -80,6 +97,7 @@ pub fn find_slot(texts: &PackedTexts, window: &[Slot], key: Key, word: &[u8]) ->
 }
 
 // Whether a slot has a word.
+#[inline(always)]
 fn is_word(texts: &PackedTexts, slot: Slot, key: Key, word: &[u8]) -> bool
     requires hold { is_used slot.len ≡ true → Holds texts.now slot }
     requires key { key ≡ key_of word.now }
@@ -88,7 +106,23 @@ fn is_word(texts: &PackedTexts, slot: Slot, key: Key, word: &[u8]) -> bool
     if !is_alike(slot, key, word.len()) {
         return false;
     }
-    word == texts.text(slot.number as usize)
+    let text = texts.text(slot.number as usize);
+    if word.len() <= TOLD {
+        know_bytes(word);
+        know_bytes(text);
+        return true;
+    }
+    word == text
+}
+
+// Tells that a text has bytes, as a read of one does.
+#[inline(always)]
+fn know_bytes(text: &[u8])
+    ensures { AreBytes text.now }
+{
+    if let [first, ..] = text {
+        let _byte = *first;
+    }
 }
 
 // Whether a slot has a word with a key and a length.
