@@ -11,7 +11,7 @@ use Rattle.cweb_rules.specs.declared.rule.Rule.TheVariants as rule
 use Rattle.cweb_rules.proofs.FirstBytes.{settled-rule}
 use Rattle.cweb_scan.specs.Directives.{is_punct}
 use Rattle.cweb_scan.specs.Kept.{last_of}
-use Rattle.cweb_scan.specs.Plain.{is_alone, is_figure, is_kept_back, is_quote, plain_by, IsPlainToken}
+use Rattle.cweb_scan.specs.Plain.{is_alone, is_figure, is_kept_back, is_less, is_quote, plain_by, IsPlainToken}
 use Rattle.cweb_scan.specs.declared.scanner.plain.Plain.{Plain}
 use Rattle.cweb_scan.specs.declared.scanner.plain.Plain.TheVariants as plain
 
@@ -99,6 +99,13 @@ figure_rule b t h =
     figure n one more [] = one
     figure n one more (d ∷ u) = more d u
 
+less_rule : (b : ℕ) (t : List ℕ) → is_less b ≡ true → rule.Punctuator ≡ c_rule false (b ∷ t)
+less_rule b t h = from_set (λ n. rule.Punctuator ≡ c_rule false (n ∷ t)) (codes "<") (less t, tt) b h
+  where
+    less : (u : List ℕ) → rule.Punctuator ≡ c_rule false (60 ∷ u)
+    less [] = refl
+    less (d ∷ u) = refl
+
 quote_rule : (b : ℕ) (t : List ℕ) → is_quote b ≡ true → rule.Literal ≡ c_rule false (b ∷ t)
 quote_rule b t h =
     from_set (λ n. rule.Literal ≡ c_rule false (n ∷ t)) (codes "\"'")
@@ -115,23 +122,27 @@ abbrev pub IsTold : Bool → List ℕ → Plain → Type 0
 IsTold includes t plain.Blank = rule.Blanks ≡ c_rule includes t
 IsTold includes t plain.Word = rule.Identifier ≡ c_rule includes t
 IsTold includes t plain.Sign = (rule.Punctuator ≡ c_rule includes t) × IsSign t
+IsTold includes t plain.Operator = (rule.Punctuator ≡ c_rule false t) × (first_is is_kept_back t ≡ false)
 IsTold includes t plain.Digit = rule.Number ≡ c_rule false t
 IsTold includes t plain.Quote = rule.Literal ≡ c_rule false t
 IsTold includes t plain.Further = first_is is_kept_back t ≡ false
 IsTold includes t plain.Stop = Unit {0}
 
-abbrev sign_or_further : Bool → Plain
-sign_or_further alone = if alone then plain.Sign else plain.Further
+abbrev sign_or_operator : Bool → Plain
+sign_or_operator alone = if alone then plain.Sign else plain.Operator
 
 -- what a byte tells that begins no blank and none of the rules that look further
 abbrev settled_by : ℕ → Bool → Plain
-settled_by b word = if word then plain.Word else sign_or_further (is_alone b)
+settled_by b word = if word then plain.Word else sign_or_operator (is_alone b)
 
-abbrev quote_by : Bool → Plain
-quote_by quote = if quote then plain.Quote else plain.Further
+abbrev less_by : Bool → Plain
+less_by less = if less then plain.Operator else plain.Further
+
+abbrev quote_by : ℕ → Bool → Plain
+quote_by b quote = if quote then plain.Quote else less_by (is_less b)
 
 abbrev unsettled_by : ℕ → Bool → Plain
-unsettled_by b figure = if figure then plain.Digit else quote_by (is_quote b)
+unsettled_by b figure = if figure then plain.Digit else quote_by b (is_quote b)
 
 abbrev unblank_by : ℕ → Bool → Plain
 unblank_by b settled = if settled then settled_by b (is_word_byte b) else unsettled_by b (is_figure b)
@@ -144,24 +155,32 @@ if_true true x y e = refl
 if_true false x y e = cc
 
 module _ (includes : Bool) (b : ℕ) (t : List ℕ) (kept : is_kept_back b ≡ false) where
-  told_sign : rule.Punctuator ≡ c_rule includes (b ∷ t) → IsTold includes (b ∷ t) (sign_or_further (is_alone b))
-  told_sign is = (elim (is_alone b) as (λ v. is_alone b ≡ v → IsTold includes (b ∷ t) (sign_or_further v)) [
+  told_sign : rule.Punctuator ≡ c_rule includes (b ∷ t) → rule.Punctuator ≡ c_rule false (b ∷ t)
+      → IsTold includes (b ∷ t) (sign_or_operator (is_alone b))
+  told_sign is outside = (elim (is_alone b) as (λ v. is_alone b ≡ v → IsTold includes (b ∷ t) (sign_or_operator v)) [
     | true ↦ λ e. (is, alone_sign b t e)
-    | false ↦ λ e. kept
+    | false ↦ λ e. (outside, kept)
   ]) refl
 
   told_settled : is_settled b ≡ true → IsTold includes (b ∷ t) (settled_by b (is_word_byte b))
   told_settled settled =
       (elim (is_word_byte b) as (λ v. c_rule includes (b ∷ t) ≡ (if v then rule.Identifier else rule.Punctuator)
+      → c_rule false (b ∷ t) ≡ (if v then rule.Identifier else rule.Punctuator)
       → IsTold includes (b ∷ t) (settled_by b v)) [
-        | true ↦ λ e. sym e
-        | false ↦ λ e. told_sign (sym e)
-      ]) (settled-rule b settled includes t)
+        | true ↦ λ e f. sym e
+        | false ↦ λ e f. told_sign (sym e) (sym f)
+      ]) (settled-rule b settled includes t) (settled-rule b settled false t)
 
-  told_quote : IsTold includes (b ∷ t) (quote_by (is_quote b))
-  told_quote = (elim (is_quote b) as (λ v. is_quote b ≡ v → IsTold includes (b ∷ t) (quote_by v)) [
-    | true ↦ λ e. quote_rule b t e
+  told_less : IsTold includes (b ∷ t) (less_by (is_less b))
+  told_less = (elim (is_less b) as (λ v. is_less b ≡ v → IsTold includes (b ∷ t) (less_by v)) [
+    | true ↦ λ e. (less_rule b t e, kept)
     | false ↦ λ e. kept
+  ]) refl
+
+  told_quote : IsTold includes (b ∷ t) (quote_by b (is_quote b))
+  told_quote = (elim (is_quote b) as (λ v. is_quote b ≡ v → IsTold includes (b ∷ t) (quote_by b v)) [
+    | true ↦ λ e. quote_rule b t e
+    | false ↦ λ e. told_less
   ]) refl
 
   told_unsettled : IsTold includes (b ∷ t) (unsettled_by b (is_figure b))

@@ -29,14 +29,19 @@ is_figure b = is_one_of (codes "0123456789") b
 abbrev pub is_quote : ℕ → Bool
 is_quote b = is_one_of (codes "\"'") b
 
+-- the byte that begins an included name where one may stand
+abbrev pub is_less : ℕ → Bool
+is_less b = is_one_of (codes "<") b
+
 -- what a first byte tells of its piece
 abbrev pub plain_by : ℕ → Plain
 plain_by b =
     if is_kept_back b then plain.Stop
     else (if is_blank b then plain.Blank
-    else (if is_settled b then (if is_word_byte b then plain.Word else (if is_alone b then plain.Sign else plain.Further))
+    else (if is_settled b then (if is_word_byte b then plain.Word else (if is_alone b then plain.Sign else plain.Operator))
     else (if is_figure b then plain.Digit
-    else (if is_quote b then plain.Quote else plain.Further))))
+    else (if is_quote b then plain.Quote
+    else (if is_less b then plain.Operator else plain.Further)))))
 
 -- C text in which no directive is open
 pub record IsPlainC (s : State) : Type 0 where

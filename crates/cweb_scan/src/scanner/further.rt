@@ -56,7 +56,7 @@ impl Scanner {
 
     // A punctuator that no directive asks for.
     #[inline(always)]
-    fn take_operator(&mut self, rest: &[u8]) -> Result<usize, AllocError>
+    pub(crate) fn take_operator(&mut self, rest: &[u8]) -> Result<usize, AllocError>
         requires in_c { IsPlainC self.old }
         requires line { IsLine rest.now }
         requires some { 1 ≤ length rest.now }

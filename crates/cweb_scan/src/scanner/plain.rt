@@ -17,6 +17,7 @@ enum Plain {
     Blank,
     Word,
     Sign,
+    Operator,
     Digit,
     Quote,
     Further,
@@ -30,6 +31,7 @@ fn plain_of(byte: u8) -> Plain
     match byte {
         b'@' | b'#' | b'\\' => Plain::Stop,
         b' ' | b'\t' | b'\r' | 11 | 12 => Plain::Blank,
+        b'\n' | b'.' | b'/' => Plain::Further,
         b'R' | b'L' | b'u' | b'U' => Plain::Further,
         b'0' | b'1' | b'2' | b'3' | b'4' | b'5' | b'6' | b'7' | b'8' | b'9' => Plain::Digit,
         b'"' | b'\'' => Plain::Quote,
@@ -38,7 +40,7 @@ fn plain_of(byte: u8) -> Plain
             if is_word_byte(byte) {
                 Plain::Word
             } else {
-                Plain::Further
+                Plain::Operator
             }
         }
     }
@@ -88,6 +90,7 @@ impl Scanner {
                 self.folded = false;
                 Ok(1)
             }
+            Plain::Operator => self.take_operator(rest),
             Plain::Digit => self.take_number(rest),
             Plain::Quote => self.take_whole_literal(rest),
             Plain::Further => self.take_further(rest),

@@ -55,3 +55,11 @@ take_number-requires-clause-first c =
 pub take_whole_literal-requires-clause-first : goal.take_whole_literal-requires-clause-first
 take_whole_literal-requires-clause-first c =
     told_at false c.args.rest.now plain.Quote c.requires.some (sym c.in-Quote.is ∙ c.plain_of.ensures)
+
+pub take_operator-requires-clause-first : goal.take_operator-requires-clause-first
+take_operator-requires-clause-first c =
+    (told_at false c.args.rest.now plain.Operator c.requires.some (sym c.in-Operator.is ∙ c.plain_of.ensures)).0
+
+pub take_operator-requires-clause-kept : goal.take_operator-requires-clause-kept
+take_operator-requires-clause-kept c =
+    (told_at false c.args.rest.now plain.Operator c.requires.some (sym c.in-Operator.is ∙ c.plain_of.ensures)).1
