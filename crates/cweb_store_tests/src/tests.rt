@@ -2,6 +2,7 @@
 
 mod growth;
 mod lists;
+mod long;
 mod names;
 mod parts;
 mod rows;

@@ -1,6 +1,6 @@
 // Texts, of which equal words and equal punctuators are kept once.
 
-ghost use Rattle.std.specs.Prelude.{◌≡◌, ◌<◌, ◌+◌, Some, length, slice_get, IfOk, IfSome, OnErr};
+ghost use Rattle.std.specs.Prelude.{◌≡◌, ◌<◌, ◌+◌, ℕ, Some, length, slice_get, IfOk, IfSome, OnErr};
 ghost use Rattle.cweb_store.specs.Calls.{too_many};
 ghost use Rattle.cweb_store.specs.Signs.{AreSigns, IsSign};
 ghost use Rattle.cweb_store.specs.Words.{Keeps, KeepsWord, TextsAndWords, none_kept};
@@ -25,7 +25,6 @@ pub struct KeptTexts {
 
 impl Model for KeptTexts {
     ghost use Rattle.cweb_store.specs.Words.{TextsAndWords};
-    ghost use Rattle.cweb_store.specs.Calls.{too_many};
     ghost use Rattle.cweb_store.specs.Signs.{AreSigns};
 
     ghost Value = { TextsAndWords };
@@ -131,7 +130,8 @@ impl KeptTexts {
 // The number of the text that is a byte, where it is known.
 #[inline(always)]
 fn known_sign(signs: &[u32], byte: u8) -> Option<u32>
-    ensures { IfSome result (λ number. slice_get signs.now byte ≡ Some (number + 1)) }
+    ensures some { IfSome result (λ number. slice_get signs.now byte ≡ Some (number + 1)) }
+    ensures known { (number : ℕ) → slice_get signs.now byte ≡ Some (number + 1) → result ≡ Some number }
 {
     match signs.get(byte as usize) {
         Some(entry) if *entry > 0 => Some(*entry - 1),
@@ -141,8 +141,10 @@ fn known_sign(signs: &[u32], byte: u8) -> Option<u32>
 
 // Notes the number of the text that is a byte, if there is a table, and one more than the number fits.
 fn know_sign(signs: &mut Vec<u32>, byte: u8, number: u32)
-    ensures { (kept : TextsAndWords) → AreSigns kept signs.old.items → IsSign kept byte number
+    ensures signs { (kept : TextsAndWords) → AreSigns kept signs.old.items → IsSign kept byte number
         → AreSigns kept signs.new.items }
+    ensures noted { byte < length signs.old.items → number < 4294967295
+        → slice_get signs.new.items byte ≡ Some (number + 1) }
 {
     let place = byte as usize;
     if place < signs.len() && number < u32::MAX {

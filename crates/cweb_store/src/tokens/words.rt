@@ -136,20 +136,20 @@ impl WordTexts {
         }
         if let Ok(slots) = free_slots(self.alloc, FIRST_SLOTS) {
             self.slots = slots;
-            self.room = FIRST_SLOTS / 2;
+            self.room = FIRST_SLOTS / 3;
         }
     }
 
-    // Makes twice as many slots, if memory is there.
+    // Makes twice as many slots, if memory is there: a third of them may have words before they grow again.
     fn grow(&mut self)
         ensures texts { self.new.texts ≡ self.old.texts }
         ensures words { (q : List ℕ) → has self.new q ≡ has self.old q }
     {
-        let half = self.slots.len() / 2;
+        let more = self.slots.len() / 3;
         let old = self.slots.as_slice();
         if let Ok(slots) = spread_wider(self.alloc, &self.texts, old, &mut self.words) {
             self.slots = slots;
-            self.room = half;
+            self.room = more;
         }
     }
 

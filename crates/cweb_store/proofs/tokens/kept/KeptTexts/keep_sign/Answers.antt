@@ -11,7 +11,7 @@ returns-in-Some-clause-ok c =
     let number = c.in-Some.number in
     let one = one-byte sign 0 (omega (arith, c.in-len1.len_at_least)) (omega (arith, c.in-len1.len_below)) in
     let there : slice_get s.signs.items byte ≡ Some (number + 1) =
-    ap (λ signs. slice_get signs byte) (sym c.as_slice.ensures.value) ∙ c.in-Some.ensures in
+    ap (λ signs. slice_get signs byte) (sym c.as_slice.ensures.value) ∙ c.in-Some.ensures.some in
     rw (← c.self.view_is)
     (subst (λ text. KeepsWord s.texts text number s.texts) one
     (sign-known s.texts s.signs.items byte number c.self.invariant there))

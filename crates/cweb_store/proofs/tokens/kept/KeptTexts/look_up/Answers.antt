@@ -33,6 +33,6 @@ invariant_of-self-then-sign-lt2 c =
     let keeps : KeepsWord s (slice_index_or sign 0 0 ∷ []) number c.keep_word.new.self =
     subst (λ text. KeepsWord s text number c.keep_word.new.self) (sym one) c.in_ok-number.ensures.ok in
     let same : c.self-in-len1.inside.texts ≡ c.keep_word.new.self = c.self-in-len1.view_is ∙ c.begin.ensures in
-    c.know_sign.ensures c.self-in-len1.inside.texts c.self-in-len1.invariant
+    c.know_sign.ensures.signs c.self-in-len1.inside.texts c.self-in-len1.invariant
     (subst (λ kept. IsSign kept (slice_index_or sign 0 0) number) (sym same)
     (is-sign s c.keep_word.new.self (slice_index_or sign 0 0) number keeps))
