@@ -1,5 +1,5 @@
 -- The lines of the log for what is wrong with a web, computed.
-use Rattle.std.proofs.Common.{◌≡◌, true, false, List, ℕ, [], ◌∷◌, refl}
+use Rattle.std.proofs.Common.{◌≡◌, true, false, List, ℕ, [], ◌∷◌, ◌++◌, refl}
 use Rattle.std.specs.Prelude.{codes, Some, None}
 use Rattle.std.specs.Fmt.{digits}
 use Rattle.std.specs.List.{flat_map}
@@ -34,7 +34,14 @@ faults =
     ∷ met DefsInMacro 14 ∷ met DefinitionDropped 15 ∷ []
 
 scan_lines : flat_map line (scan_items (codes "u.w" ∷ []) faults)
-    ≡ codes "u.w:1: ! Double @ in limbo\nu.w:2: ! Improper hex number after @l\nu.w:3: ! Replacement after @l too long\nu.w:4: ! Use @l in limbo only\nu.w:5: ! Section name did not end\nu.w:6: ! Section names do not nest\nu.w:7: ! Comment did not end\nu.w:8: ! String did not end\nu.w:9: ! Double @ in strings\nu.w:10: ! Control text did not end\nu.w:11: ! Faulty ASCII constant\nu.w:12: ! @d, @f, @s, @c and @p are ignored in C text\nu.w:13: ! Missing @ before a named section\nu.w:14: ! @h is ignored in a macro\nu.w:15: ! Definition dropped, no identifier\n"
+    ≡ codes "u.w:1: ! Double @ in limbo\nu.w:2: ! Improper hex number after @l\n"
+    ++ codes "u.w:3: ! Replacement after @l too long\nu.w:4: ! Use @l in limbo only\n"
+    ++ codes "u.w:5: ! Section name did not end\nu.w:6: ! Section names do not nest\n"
+    ++ codes "u.w:7: ! Comment did not end\nu.w:8: ! String did not end\nu.w:9: ! Double @ in strings\n"
+    ++ codes "u.w:10: ! Control text did not end\nu.w:11: ! Faulty ASCII constant\n"
+    ++ codes "u.w:12: ! @d, @f, @s, @c and @p are ignored in C text\n"
+    ++ codes "u.w:13: ! Missing @ before a named section\nu.w:14: ! @h is ignored in a macro\n"
+    ++ codes "u.w:15: ! Definition dropped, no identifier\n"
 unfolding digits
 scan_lines = refl
 
@@ -58,7 +65,8 @@ faulty =
     }
 
 name_lines : flat_map line (name_items faulty)
-    ≡ codes "! Ambiguous prefix: <a...>\n! Never given in full: <z...>\n! Name is a prefix of another: <ab>\n! Not present: <q.h>\n"
+    ≡ codes "! Ambiguous prefix: <a...>\n! Never given in full: <z...>\n"
+    ++ codes "! Name is a prefix of another: <ab>\n! Not present: <q.h>\n"
 name_lines = refl
 
 abbrev use_of : ℕ → NameRef

@@ -84,7 +84,8 @@ plain_literal b t w = plain_with is_word_byte false b t w refl refl refl
 
 -- NUMBERS BEGIN
 
-pub word_no_number : (b : ℕ) (t more : List ℕ) → (b == 46) ≡ false → starts_number (b ∷ t ++ more) ≡ starts_number (b ∷ t)
+pub word_no_number : (b : ℕ) (t more : List ℕ) → (b == 46) ≡ false
+    → starts_number (b ∷ t ++ more) ≡ starts_number (b ∷ t)
 word_no_number b [] [] h = refl
 word_no_number b [] (c ∷ more) h = ap (λ v. is_digit b || (v && is_digit c)) h ∙ or_false (is_digit b)
 word_no_number b (c ∷ t) more h = refl
@@ -104,7 +105,8 @@ punct_no_number joins all b [] [] h = refl
 punct_no_number joins all b [] (c ∷ more) h = ap (λ v. is_digit b || v) (no_dot joins all b c h) ∙ or_false (is_digit b)
 punct_no_number joins all b (c ∷ t) more h = refl
 
-pub number_stays_number : (b : ℕ) (t more : List ℕ) → starts_number (b ∷ t) ≡ true → starts_number (b ∷ t ++ more) ≡ true
+pub number_stays_number : (b : ℕ) (t more : List ℕ) → starts_number (b ∷ t) ≡ true
+    → starts_number (b ∷ t ++ more) ≡ true
 number_stays_number b [] [] h = h
 number_stays_number b [] (c ∷ more) h = ap (λ v. v || ((b == 46) && is_digit c)) h
 number_stays_number b (c ∷ t) more h = h
