@@ -1,4 +1,5 @@
-use Rattle.std.proofs.Common.{None, Some, sym, ◌∙◌, ap, refl, arith}
+use Rattle.std.proofs.Common.{None, Some, sym, ◌∙◌, ap, refl, arith, rules}
+use Rattle.std.proofs.lemmas.Grind.{common_steps}
 use Rattle.std.proofs.lemmas.List.{drop_all, get_or-replicate}
 use Rattle.std.proofs.lemmas.Option.{slice_get-get_or}
 use Rattle.cweb_store.specs.Stored.{last_from}
@@ -17,3 +18,6 @@ returns c = λ byte h.
     let none = drop_all c.loop-i.i c.args.bytes.now c.loop-i-test.false in
     slice_get-get_or places byte None (omega (arith, h, c.loop-i.invariant.all))
     ∙ ap Some (ap (last_from byte _ c.loop-i.i) (sym none) ∙ c.loop-i.invariant.last byte h)
+
+pub loop-i-preserved : goal.loop-i-preserved
+loop-i-preserved c = grind (arith, common_steps)

@@ -1,4 +1,4 @@
-use Rattle.std.proofs.Common.{◌≡◌, ◌∷◌, vec_capacity, sym, ap, ◌∙◌, subst, Some, length}
+use Rattle.std.proofs.Common.{◌≡◌, ◌∷◌, vec_capacity, sym, ap, ◌∙◌, subst, Some, length, rules}
 use Rattle.std.specs.Prelude.{All}
 use Rattle.cweb_store.specs.Parts.{all_tokens}
 use Rattle.cweb_store.specs.Calls.{Stored}
@@ -27,3 +27,9 @@ returns-clause-stands c = rw c.put.ensures.store (all c).stands
 
 pub returns-clause-enters : goal.returns-clause-enters
 returns-clause-enters c = (all c).enters
+
+pub returns-in_default-next-clause-stands : goal.returns-in_default-next-clause-stands
+returns-in_default-next-clause-stands c = search rules
+
+pub returns-in_default-next-clause-enters : goal.returns-in_default-next-clause-enters
+returns-in_default-next-clause-enters c = search rules

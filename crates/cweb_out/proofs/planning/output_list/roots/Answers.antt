@@ -1,4 +1,5 @@
-use Rattle.std.proofs.Common.{◌≡◌, ◌∷◌, ◌∙◌, ap, arith, length, Some, None, map, List}
+use Rattle.std.proofs.Common.{◌≡◌, ◌∷◌, ◌∙◌, ap, arith, length, Some, None, map, List, rules}
+use Rattle.std.proofs.lemmas.Grind.{common_steps}
 use Rattle.std.specs.Prelude.{filter}
 use Rattle.cweb_store.specs.declared.names.NameId.{NameId}
 use Rattle.cweb_store.specs.Calls.{Stored}
@@ -20,3 +21,6 @@ returns-clause-few c =
     ∙ ap (λ (ns : List NameId). None ∷ map Some (filter (has_part (spec.standings w.occurrences) w.parts) ns))
     all in
     omega (arith, ap length is, outputs-few w, c.names-names.ensures.count, c.names-names.ensures.few)
+
+pub files-preserved : goal.files-preserved
+files-preserved c = grind (arith, common_steps)

@@ -1,4 +1,4 @@
-use Rattle.std.proofs.Common.{◌≡◌, ◌++◌, ◌∙◌, ap, sym, List, ℕ}
+use Rattle.std.proofs.Common.{◌≡◌, ◌++◌, ◌∙◌, ap, sym, List, ℕ, rules}
 use Rattle.cweb_out.specs.Printing.{print, file}
 use Rattle.cweb_out.specs.Printed.{kept_of, setting_of}
 use Rattle.cweb_out.proofs.Fronts.{wrote_err}
@@ -25,3 +25,6 @@ returns-clause-ends g c = λ tells ts is.
           file-end s (kept_of c.args.self.now) ts is ∙ ap (λ (t : List ℕ). print s ts ++ t) (sym c.begin_line.ensures);
       written = c.in_ok-write_piece.ensures.wrote tells;
     }
+
+pub returns-clause-left : goal.returns-clause-left
+returns-clause-left g c = search rules

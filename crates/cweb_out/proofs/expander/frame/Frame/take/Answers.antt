@@ -1,4 +1,4 @@
-use Rattle.std.proofs.Common.{arith, ◌∙◌, ◌≡◌, ◌∷◌}
+use Rattle.std.proofs.Common.{arith, ◌∙◌, ◌≡◌, ◌∷◌, rules}
 use Rattle.cweb_out.proofs.Suffixes.{suffix-first, suffix-next, IsWithin-next}
 use Rattle.cweb_out.proofs.expander.frame.Frame.take.Goals as goal
 
@@ -19,3 +19,6 @@ returns-clause-some c =
     c.parts.invariant.same
     ∙ suffix-first c.args.store.now c.parts.self _ c.parts.invariant.started
     (omega (arith, c.parts-test.false)) c.parts.invariant.within c.token-token.ensures
+
+pub returns-clause-owner : goal.returns-clause-owner
+returns-clause-owner c = search rules

@@ -1,4 +1,4 @@
-use Rattle.std.proofs.Common.{◌≡◌, [], ◌∷◌, ◌++◌, Some, sym, ◌∙◌, ap, false, length, arith}
+use Rattle.std.proofs.Common.{◌≡◌, [], ◌∷◌, ◌++◌, Some, sym, ◌∙◌, ap, false, length, arith, rules}
 use Rattle.std.specs.Prelude.{bytes_eq}
 use Rattle.std.specs.List.{list_any}
 use Rattle.std.proofs.lemmas.List.{length-map, map-append}
@@ -79,3 +79,9 @@ returns-clause-added c =
     ∙ ap (λ q. let n : Name = record { text = q; first = c.args.first } in names_in ns ++ n ∷ []) kept_is in
     rw (c.put.ensures, c.in_ok-reserve.ensures.items, ← c.self.view_is)
     (more ∙ sym (with_text-new c.args.first (names_in ns) text absent))
+
+pub invariant_of-self-in_err-insert : goal.invariant_of-self-in_err-insert
+invariant_of-self-in_err-insert c = search rules
+
+pub returns-in_err-insert-clause-err : goal.returns-in_err-insert-clause-err
+returns-in_err-insert-clause-err c = search rules

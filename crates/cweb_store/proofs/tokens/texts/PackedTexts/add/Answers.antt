@@ -1,4 +1,4 @@
-use Rattle.std.proofs.Common.{◌≡◌, ◌≤◌, ◌++◌, length, sym, ◌∙◌, ap, arith, length-append}
+use Rattle.std.proofs.Common.{◌≡◌, ◌≤◌, ◌++◌, length, sym, ◌∙◌, ap, arith, length-append, rules}
 use Rattle.cweb_store.proofs.PackedLemmas.{texts-push, ends-push, texts-count}
 use Rattle.cweb_store.proofs.tokens.texts.PackedTexts.add.Goals as goal
 
@@ -28,3 +28,6 @@ returns-clause-added c =
     c.len.ensures ∙ c.extend_from_slice.new.self.ok.0 ∙ ap length c.in_ok-extend_from_slice.ensures.items in
     rw (c.put.ensures, c.in_ok-reserve.ensures.items, size, c.in_ok-extend_from_slice.ensures.items, ← c.self.view_is)
     (texts-push bytes text 0 s.ends.items c.self.invariant)
+
+pub returns-in_err-reserve-clause-err : goal.returns-in_err-reserve-clause-err
+returns-in_err-reserve-clause-err c = search rules

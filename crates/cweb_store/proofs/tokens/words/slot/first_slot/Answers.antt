@@ -1,4 +1,4 @@
-use Rattle.std.proofs.Common.{◌≡◌, Some, length, slice_get, sym, ◌∙◌, ap, ltb-true}
+use Rattle.std.proofs.Common.{◌≡◌, Some, length, slice_get, sym, ◌∙◌, ap, ltb-true, rules}
 use Rattle.std.proofs.lemmas.Option.{slice_get-get_or}
 use Rattle.cweb_store.specs.Keys.{home_of}
 use Rattle.cweb_store.specs.Slots.{window_of}
@@ -18,3 +18,6 @@ returns-in-Some c =
     ∙ ap Some (sym c.in-Some.ensures.lookup.1) in
     found-slot texts (window_of key slots) c.args.word.now 0 slot (window-hold texts key slots c.requires.hold)
     (home-slot key slots slot there) (sym c.is_word.ensures ∙ c.if-is_word.true)
+
+pub is_word-requires-clause-key : goal.is_word-requires-clause-key
+is_word-requires-clause-key c = search rules
