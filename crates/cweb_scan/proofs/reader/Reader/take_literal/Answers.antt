@@ -1,4 +1,4 @@
-use Rattle.std.proofs.Common.{◌≤◌, ℕ, List, length, refl, sym, ap, ◌∙◌, subst}
+use Rattle.std.proofs.Common.{◌≤◌, ℕ, List, length, refl, sym, ap, ◌∙◌, subst, rules}
 use Rattle.std.specs.List.{prefix_len}
 use Rattle.cweb_rules.specs.Items.{look_in_literal}
 use Rattle.cweb_rules.specs.Plains.{is_plain}
@@ -33,3 +33,6 @@ returns-then-plain-gt0 c =
     let is = c.plain_len-plain.ensures.value ∙ ap (λ (q : ℕ). prefix_len (is_plain (Literal q)) u) c.byte.ensures in
     run_at n u h _ (λ (x : List ℕ). InLiteral c.args.begun quote x) c.requires.open c.in_ok-take_run.ensures refl
     (literal_run h.state h.begun c.args.begun quote (text_of h.item) n u c.requires.line c.if-plain-gt0.true is)
+
+pub returns-then-eq : goal.returns-then-eq
+returns-then-eq c = search rules

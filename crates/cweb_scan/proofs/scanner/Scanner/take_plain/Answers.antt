@@ -1,3 +1,4 @@
+use Rattle.std.proofs.Common.{rules}
 use Rattle.cweb_scan.proofs.PlainTurns.{left_line, piece_within, some_goes_on, some_ended}
 use Rattle.cweb_scan.proofs.scanner.Scanner.take_plain.Goals as goal
 
@@ -20,3 +21,6 @@ pub returns-then-size-eq0 : goal.returns-then-size-eq0
 returns-then-size-eq0 c =
     some_ended c.pieces.taken c.in_ok-size.size c.args.rest.now c.pieces.left.now c.args.self.now c.pieces.self
     c.take_piece.new.self c.if-size-eq0.true c.pieces.invariant c.in_ok-size.ensures.taken
+
+pub pieces-init : goal.pieces-init
+pieces-init c = search rules

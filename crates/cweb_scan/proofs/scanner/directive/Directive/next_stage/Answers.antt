@@ -1,0 +1,6 @@
+use Rattle.std.proofs.Common.{rules, arith}
+use Rattle.std.proofs.lemmas.Grind.{common_steps}
+use Rattle.cweb_scan.proofs.scanner.directive.Directive.next_stage.Goals as goal
+
+pub returns : goal.returns
+returns c = search rules
