@@ -1,3 +1,4 @@
+use Rattle.std.proofs.Common.{rules}
 use Rattle.cweb_tools.proofs.Prints.{next_named, prints_all, prints_front, prints_more}
 use Rattle.cweb_tools.proofs.outputs.print_all.Goals as goal
 
@@ -26,3 +27,6 @@ returns-clause-prints g c =
     (record { store = c.gather.ensures.store; plan = c.gather.ensures.plan; stands = c.gather.ensures.stands })
     c.gather.ensures.setting c.gather.ensures.prints)
     c.in_default.ensures.gives.0 c.finish.ensures.ends c.finish.ensures.empty
+
+pub tokens-init : goal.tokens-init
+tokens-init g c = search rules
