@@ -33,7 +33,10 @@ fn long_token(letters: &[u8], number: u32) -> Token<'_> {
 
 #[test]
 fn texts_of_about_65536_bytes(rt: HostRuntime) -> Result<(), Fail> {
-    let letters = vec![in rt.alloc(); b'x'; LONGEST]?;
+    let letters = match vec![in rt.alloc(); b'x'; LONGEST] {
+        Ok(letters) => letters,
+        Err(_) => vec![in rt.alloc(); b'x'; LONGEST]?,
+    };
     let store = match pushed_long(&rt, rt.alloc(), letters.as_slice()) {
         Ok(store) => store,
         Err(_) => pushed_long(&rt, rt.alloc(), letters.as_slice())?,
