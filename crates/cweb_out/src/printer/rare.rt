@@ -23,7 +23,8 @@ impl<'a> Printer<'a> {
         requires room { length gathered.old + SHORT ≤ ROOM }
         requires named { IsNamed (setting_of self.old) (seen token.now) }
         ensures setting { setting_of self.new ≡ setting_of self.old }
-        ensures left { result ≡ true → kept_of self.new ≡ left_by (kept_of self.old) (seen token.now) }
+        ensures left { result ≡ true
+            → kept_of self.new ≡ left_by (kept_of self.old) (seen token.now) }
         ensures added { result ≡ true → gathered.new ≡ gathered.old
             ++ added (file_by (setting_of self.old)) (kept_of self.old) (seen token.now) }
         ensures same { result ≡ false → self.new ≡ self.old }

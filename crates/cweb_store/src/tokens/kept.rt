@@ -131,7 +131,8 @@ impl KeptTexts {
 #[inline(always)]
 fn known_sign(signs: &[u32], byte: u8) -> Option<u32>
     ensures some { IfSome result (λ number. slice_get signs.now byte ≡ Some (number + 1)) }
-    ensures known { (number : ℕ) → slice_get signs.now byte ≡ Some (number + 1) → result ≡ Some number }
+    ensures known { (number : ℕ) → slice_get signs.now byte ≡ Some (number + 1)
+        → result ≡ Some number }
 {
     match signs.get(byte as usize) {
         Some(entry) if *entry > 0 => Some(*entry - 1),

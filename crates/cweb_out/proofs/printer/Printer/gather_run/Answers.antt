@@ -1,4 +1,4 @@
-use Rattle.std.proofs.Common.{List, slice_range, sym, subst, arith, rules}
+use Rattle.std.proofs.Common.{List, slice_range, sym, subst, arith}
 use Rattle.cweb_store.specs.Parts.{Token, all_tokens}
 use Rattle.cweb_store.specs.Seen.{seen}
 use Rattle.cweb_out.proofs.MacroLines.{range_more}

@@ -1,5 +1,4 @@
-use Rattle.std.proofs.Common.{rules, arith}
-use Rattle.std.proofs.lemmas.Grind.{common_steps}
+use Rattle.std.proofs.Common.{rules}
 use Rattle.cweb_out.proofs.bins.memory.MemoryBinsBins.start_file.Goals as goal
 
 pub returns-in_default-clause-err : goal.returns-in_default-clause-err

@@ -1,5 +1,4 @@
-use Rattle.std.proofs.Common.{rules, arith}
-use Rattle.std.proofs.lemmas.Grind.{common_steps}
+use Rattle.std.proofs.Common.{rules}
 use Rattle.cweb_scan.proofs.scanner.directive.Directive.next_stage.Goals as goal
 
 pub returns : goal.returns
