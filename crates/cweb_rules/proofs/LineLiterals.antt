@@ -84,7 +84,8 @@ literal_prefix-fits t =
           ((begins (codes "L") t || begins (codes "u") t || begins (codes "U") t) && is_quoted 1 t) ≡ v
           → (if v then 1 else 0) ≤ length t) [
             | true ↦ λ k.
-                one_letter t (both (begins (codes "L") t || begins (codes "u") t || begins (codes "U") t) (is_quoted 1 t) k).0
+                one_letter t
+                (both (begins (codes "L") t || begins (codes "u") t || begins (codes "U") t) (is_quoted 1 t) k).0
             | false ↦ λ k. omega arith
           ]) refl
     ]) refl

@@ -67,10 +67,11 @@ character_at-is (b ∷ t) =
           elim (begins (codes "\\") (b ∷ t))
           as (λ v. IsCharacter (if v then after_backslash t else (if stands_alone b then character b 1 else None))) [
             | true ↦ after_backslash-is t
-            | false ↦ (elim (stands_alone b) as (λ v. stands_alone b ≡ v → IsCharacter (if v then character b 1 else None)) [
-              | true ↦ λ h. (omega (arith, alone-is b h), omega arith)
-              | false ↦ λ h. tt
-            ]) refl
+            | false ↦
+                (elim (stands_alone b) as (λ v. stands_alone b ≡ v → IsCharacter (if v then character b 1 else None)) [
+                  | true ↦ λ h. (omega (arith, alone-is b h), omega arith)
+                  | false ↦ λ h. tt
+                ]) refl
           ]
     ]
 

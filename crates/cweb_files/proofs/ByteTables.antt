@@ -1,0 +1,36 @@
+-- A table with an entry for each byte tells what a test of bytes does.
+use Rattle.std.proofs.Common.{◌≡◌, ◌<◌, ℕ, zero, suc, ◌+◌, Bool, true, false, ◌&&◌, not, List, [], ◌∷◌, length}
+use Rattle.std.proofs.Common.{slice_index_or, refl, ap, sym, ◌∙◌, arith}
+
+both : (a b : Bool) → (a && b) ≡ true → (a ≡ true) × (b ≡ true)
+both true b e = (refl, e)
+both false b e = cc
+
+abbrev pub same : Bool → Bool → Bool
+same true b = b
+same false b = not b
+
+same_is : (x y : Bool) → same x y ≡ true → x ≡ y
+same_is true y h = sym h
+same_is false true h = cc
+same_is false false h = refl
+
+-- the entries of a table from a byte on are what the test says of it and the bytes after it
+abbrev pub agrees : (ℕ → Bool) → ℕ → List Bool → Bool
+agrees test k [] = true
+agrees test k (x ∷ xs) = same x (test k) && agrees test (suc k) xs
+
+told_from : (test : ℕ → Bool) (xs : List Bool) (k i b : ℕ) → agrees test k xs ≡ true → i < length xs → b ≡ k + i
+    → slice_index_or xs i false ≡ test b
+told_from test [] k i b h within e = absurd (omega (arith, within))
+told_from test (x ∷ xs) k zero b h within e =
+    let here : k ≡ b = omega (arith, e) in
+    same_is x (test k) (both (same x (test k)) (agrees test (suc k) xs) h).0 ∙ ap test here
+told_from test (x ∷ xs) k (suc i) b h within e =
+    told_from test xs (suc k) i b (both (same x (test k)) (agrees test (suc k) xs) h).1
+    (omega (arith, within)) (omega (arith, e))
+
+-- a table that agrees with the test from byte 0 on tells it of each byte that has an entry
+pub told_by_table : (test : ℕ → Bool) (xs : List Bool) → agrees test 0 xs ≡ true → (b : ℕ) → b < length xs
+    → slice_index_or xs b false ≡ test b
+told_by_table test xs h b within = told_from test xs 0 b b h within (omega arith)

@@ -1,0 +1,9 @@
+use Rattle.std.proofs.Common.{arith}
+use Rattle.std.proofs.lemmas.Grind.{common_steps}
+use Rattle.cweb_rules.proofs.constants.faulty_len.Goals as goal
+
+pub returns-then-matches-clause-value : goal.returns-then-matches-clause-value
+returns-then-matches-clause-value c = grind (arith, common_steps)
+
+pub loop-i-preserved : goal.loop-i-preserved
+loop-i-preserved c = grind (arith, common_steps)

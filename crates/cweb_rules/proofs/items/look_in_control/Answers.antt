@@ -1,0 +1,5 @@
+use Rattle.std.proofs.Common.{rules}
+use Rattle.cweb_rules.proofs.items.look_in_control.Goals as goal
+
+pub returns : goal.returns
+returns c = search rules

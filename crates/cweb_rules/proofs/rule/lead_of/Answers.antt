@@ -1,0 +1,5 @@
+use Rattle.std.proofs.Common.{rules}
+use Rattle.cweb_rules.proofs.rule.lead_of.Goals as goal
+
+pub returns-then-is_word_byte : goal.returns-then-is_word_byte
+returns-then-is_word_byte c = search rules
