@@ -71,7 +71,11 @@ at_close-length p =
     if b then record p { tokens = without_blank (without_last is_newline p.tokens) } else p in
     q).tokens ≤ length p.tokens) [
       | true ↦
-          omega (arith, without_blank-length (without_last is_newline p.tokens), without_last-length is_newline p.tokens)
+          omega (
+            arith,
+            without_blank-length (without_last is_newline p.tokens),
+            without_last-length is_newline p.tokens,
+          )
       | false ↦ omega arith
     ]
 

@@ -59,7 +59,8 @@ found-insert p (e ∷ es) k v absent =
           ≡ grown (starts_with nat_eq k.items p) v
           (found (cond b (e ∷ filter (begins p) es) (filter (begins p) es)))) [
             | true ↦
-                found-cons e (filter (begins p) (insert_entry order es k v)) ∙ ap (grown true e.1) (found-insert p es k v h)
+                found-cons e (filter (begins p) (insert_entry order es k v))
+                ∙ ap (grown true e.1) (found-insert p es k v h)
                 ∙ grown-swap e.1 v (starts_with nat_eq k.items p) (found (filter (begins p) es))
                 ∙ ap (grown (starts_with nat_eq k.items p) v) (sym (found-cons e (filter (begins p) es)))
             | false ↦ found-insert p es k v h

@@ -1,5 +1,7 @@
 // The store.
 
+pub(crate) mod answers;
+
 ghost use Rattle.std.specs.Prelude.{◌≡◌, ◌<◌, ◌≤◌, ◌↔◌, length, slice_get, option_map, Some, None, IfOk, IfSome, IsTrue, All};
 ghost use Rattle.cweb_store.specs.Names as spec;
 ghost use Rattle.cweb_store.specs.Parts.{all_tokens, has_defs_code, is_macro, is_of, is_unnamed, joined, numbers_where, tokens_at};
@@ -11,7 +13,6 @@ ghost use Rattle.cweb_store.specs.Runs.{runs_from};
 ghost use Rattle.cweb_store.specs.Wanted.{wanted_in};
 ghost use Rattle.cweb_store.specs.Next.{IsNext, is_name};
 
-use crate::names::faults::name_faults;
 use crate::names::standing::name_at;
 use crate::names::table::{GivenAs, NameTable};
 use crate::names::{NameFault, NameId, NameKind, NameRef};
@@ -20,6 +21,7 @@ use crate::parts::iter::{Parts, Wanted};
 use crate::parts::links::Links;
 use crate::parts::{Part, Run};
 use crate::replacements::{Replacements, last_places};
+use crate::store::answers::Answers;
 use crate::tokens::Token;
 use crate::tokens::closed::ClosedTokens;
 use indexmap::IndexSet;
@@ -69,15 +71,18 @@ impl Store {
     ) -> Result<Store, AllocError>
         ensures { IfOk result (λ store. store ≡ stored table parts replacements) }
     {
-        let standings = table.standings()?;
-        let files = table.files(standings.as_slice())?;
-        let faults = name_faults(alloc, &table, &parts, standings.as_slice(), &files)?;
-        let has_defs_code = parts.has_defs_code();
-        let firsts = table.names().firsts()?;
-        let links = Links::new(alloc, parts.runs(), standings.as_slice(), firsts.len())?;
+        let answers = Answers::of(alloc, &table, &parts)?;
         let ClosedParts { mut tokens, runs } = parts;
         let given = table.close(&mut tokens)?;
         let replaced = replacements.close(&mut tokens)?;
+        let Answers {
+            standings,
+            files,
+            faults,
+            firsts,
+            links,
+            has_defs_code,
+        } = answers;
         let last_places = last_places(replaced.as_slice());
         let store = Store {
             tokens,

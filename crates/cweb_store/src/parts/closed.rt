@@ -1,6 +1,7 @@
 // Parts that are all given.
 
-ghost use Rattle.std.specs.Prelude.{◌≡◌, [], IfOk};
+ghost use Rattle.std.specs.Prelude.{◌≡◌, ◌<◌, [], length, IfOk};
+ghost use Rattle.cweb_store.specs.Calls.{too_many};
 ghost use Rattle.cweb_store.specs.Parts.{has_defs_code};
 ghost use Rattle.cweb_store.specs.Runs.{runs_from};
 ghost use Rattle.cweb_store.specs.Gathered.{used_in};
@@ -35,7 +36,8 @@ impl Model for ClosedParts {
 impl ClosedParts {
     /// The parts in order, as runs of token numbers.
     pub fn runs(&self) -> &[Run]
-        ensures { result.now ≡ runs_from 0 self.now }
+        ensures runs { result.now ≡ runs_from 0 self.now }
+        ensures few { length result.now < too_many }
     {
         self.runs.as_slice()
     }

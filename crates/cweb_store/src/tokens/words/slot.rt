@@ -67,7 +67,8 @@ pub fn window_of(slots: &[Slot], key: Key) -> &[Slot]
     }
 }
 
-/// The number of the text of a word, if the first slot of its window has it.
+/// The number of the text of a word, if it is told by its key and the first slot of its window has it: no text is looked at,
+/// and nothing is called.
 #[inline(always)]
 pub fn first_slot(texts: &PackedTexts, slots: &[Slot], key: Key, word: &[u8]) -> Option<usize>
     requires hold { AllHold texts.now slots.now }
@@ -76,7 +77,9 @@ pub fn first_slot(texts: &PackedTexts, slots: &[Slot], key: Key, word: &[u8]) ->
         IsFound texts.now (window_of key slots.now) word.now number) }
 {
     match slots.get(home(key, slots.len())) {
-        Some(slot) if is_word(texts, *slot, key, word) => Some(slot.number as usize),
+        Some(slot) if word.len() <= TOLD && is_word(texts, *slot, key, word) => {
+            Some(slot.number as usize)
+        }
         _ => None,
     }
 }

@@ -20,7 +20,7 @@ returns c =
     ∙ ap (λ ss. is_used ss ps n) c.requires.settled in
     let present : (n : NameId) → list_any (is_id n) c.in_ok-present.present.keys ≡ has_part (spec.standings os) ps n =
     λ n.
-    ap (list_any (is_id n)) (c.in_ok-present.ensures ∙ ap (present_from rs []) c.runs.ensures)
+    ap (list_any (is_id n)) (c.in_ok-present.ensures ∙ ap (present_from rs []) c.runs.ensures.runs)
     ∙ any-present rs n ps ∙ ap (λ ss. has_part ss ps n) c.requires.settled in
     let files : (n : NameId) → list_any (is_id n) c.args.files.now.keys ≡ list_any (is_id n) (spec.files os) = λ n.
     ap (list_any (is_id n)) c.requires.given in

@@ -14,7 +14,8 @@ invariant_of-self-2 c =
       tokens = closed-add s.texts text s.records.packed s.own c.self.invariant.tokens;
       notes =
           subst (λ (ts : List Token). AreNoted s.noted ts)
-          (sym (tokens-grow s.texts (text ∷ []) s.records.packed c.self.invariant.tokens.packed)) c.self.invariant.notes;
+          (sym (tokens-grow s.texts (text ∷ []) s.records.packed c.self.invariant.tokens.packed))
+          c.self.invariant.notes;
     })
 
 pub returns : goal.returns

@@ -48,7 +48,8 @@ invariant_of-self-2 c =
           subst (AreNoted c.note.new.self)
           (sym (packs-tokens s.texts c.pack.new.texts s.records.packed t p c.self.invariant.tokens.packed
           c.in_ok-packed.ensures.ok))
-          (c.note.ensures tokens (omega (arith, size, c.len.ensures, ap length c.in_ok-reserve.ensures.packed)) (c.in_ok-reserve-2.ensures.noted tokens c.self.invariant.notes));
+          (c.note.ensures tokens (omega (arith, size, c.len.ensures, ap length c.in_ok-reserve.ensures.packed))
+          (c.in_ok-reserve-2.ensures.noted tokens c.self.invariant.notes));
     })
 
 pub returns-clause-ok : goal.returns-clause-ok

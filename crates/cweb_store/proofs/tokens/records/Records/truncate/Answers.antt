@@ -18,7 +18,8 @@ invariant_of-self c =
     (subst (λ (rs : List Record). AreNumbered parts.number rs c.len-2.result) (sym behind)
     (subst (AreNumbered parts.number (drop count s.items.items)) (sym (c.len-2.ensures ∙ s.places.ok.0)) parts.rest)) in
     let size : length (take parts.number places) ≡ parts.number =
-    length-take-le parts.number places (numbered-le parts.number (length places) (drop count s.items.items) parts.rest) in
+    length-take-le parts.number places
+    (numbered-le parts.number (length places) (drop count s.items.items) parts.rest) in
     rw (c.truncate.ensures.items, c.truncate-2.ensures.items, first)
     (subst (AreNumbered 0 (take count s.items.items)) (sym size) parts.front)
 

@@ -1,0 +1,49 @@
+use Rattle.std.proofs.Common.{◌≡◌, ◌<◌, ℕ, List, [], map, length, sym, ◌∙◌, ap, subst, arith}
+use Rattle.std.specs.Prelude.{IfSome}
+use Rattle.std.proofs.lemmas.List.{length-map}
+use Rattle.cweb_store.specs.declared.names.NameId.{NameId}
+use Rattle.cweb_store.specs.declared.parts.Run.{Run}
+use Rattle.cweb_store.specs.Names.{Name, Standing, files_from, names, stands}
+use Rattle.cweb_store.specs.Links.{AreLinked}
+use Rattle.cweb_store.proofs.BoundLemmas.{standing-within}
+use Rattle.cweb_store.proofs.store.answers.Answers.of.Goals as goal
+
+pub returns-clause-answers : goal.returns-clause-answers
+returns-clause-answers c = record {
+  settled = c.in_ok-standings.ensures.standings;
+  given =
+      c.in_ok-files.ensures
+      ∙ ap (λ ss. files_from ss [] 0 c.args.table.now)
+      (c.as_slice.ensures.value ∙ c.in_ok-standings.ensures.standings);
+  found = c.in_ok-faults.ensures;
+  defs = c.has_defs_code.ensures;
+}
+
+pub returns-clause-linked : goal.returns-clause-linked
+returns-clause-linked c =
+    let links = c.in_ok-links.links in
+    subst (λ (xs : List Run). AreLinked c.in_ok-standings.standings.items xs links.skips.items links.heads)
+    c.runs.ensures.runs
+    (subst (λ (ss : List Standing). AreLinked ss c.runs.result.now links.skips.items links.heads)
+    c.as_slice-3.ensures.value c.in_ok-links.ensures)
+
+pub returns-clause-firsts : goal.returns-clause-firsts
+returns-clause-firsts c = c.in_ok-firsts.ensures ∙ ap (map (λ (n : Name). n.first)) c.names.ensures.names
+
+-- each name that stands somewhere is one of those that there are
+pub new-requires-clause-known : goal.new-requires-clause-known
+new-requires-clause-known c = λ i.
+    let os = c.args.table.now in
+    let given = c.as_slice-3.ensures.value ∙ c.in_ok-standings.ensures.standings in
+    let places = c.in_ok-firsts.ensures ∙ ap (map (λ (n : Name). n.first)) c.names.ensures.names in
+    let size : length (names os) ≡ c.len.result =
+    omega (
+      arith,
+      c.len.ensures,
+      c.in_ok-firsts.firsts.ok.0,
+      ap length places,
+      length-map (names os) (λ (n : Name). n.first),
+    ) in
+    subst (λ (n : ℕ). IfSome (stands c.as_slice-3.result.now i) (λ (id : NameId). id.0 < n)) size
+    (subst (λ (rs : List Standing). IfSome (stands rs i) (λ (id : NameId). id.0 < length (names os)))
+    (sym given) (standing-within os i))

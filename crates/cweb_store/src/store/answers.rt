@@ -1,0 +1,55 @@
+// What comes of the names and the parts once all of them are given.
+
+ghost use Rattle.std.specs.Prelude.{◌≡◌, ◌<◌, length, map, IfOk, OnOk};
+ghost use Rattle.cweb_store.specs.Answers.{AreAnswers};
+ghost use Rattle.cweb_store.specs.Calls.{too_many};
+ghost use Rattle.cweb_store.specs.Links.{AreLinked};
+ghost use Rattle.cweb_store.specs.Names.{names};
+ghost use Rattle.cweb_store.specs.Runs.{runs_from};
+
+use crate::names::faults::name_faults;
+use crate::names::table::NameTable;
+use crate::names::{NameFault, NameId, NameKind};
+use crate::parts::closed::ClosedParts;
+use crate::parts::links::Links;
+use indexmap::IndexSet;
+use std::alloc::{AllocError, Global};
+
+/// What each occurrence stands for, which names are files', their faults, where each name was first given in full, and the
+/// parts of each.
+#[derive(Drop)]
+pub(crate) struct Answers {
+    pub standings: Vec<Result<NameId, NameKind>>,
+    pub files: IndexSet<NameId>,
+    pub faults: Vec<NameFault>,
+    pub firsts: Vec<u32>,
+    pub links: Links,
+    pub has_defs_code: bool,
+}
+
+impl Answers {
+    /// The answers of a web's names and parts.
+    pub fn of(alloc: Global, table: &NameTable, parts: &ClosedParts) -> Result<Answers, AllocError>
+        ensures answers { IfOk result (λ all. AreAnswers table.now parts.now
+            all.standings.items all.files.keys all.faults.items all.has_defs_code) }
+        ensures linked { IfOk result (λ all. AreLinked all.standings.items
+            (runs_from 0 parts.now) all.links.skips.items all.links.heads) }
+        ensures firsts { IfOk result
+            (λ all. all.firsts.items ≡ map (λ n. n.first) (names table.now)) }
+        ensures few { OnOk result (length (names table.now) < too_many) }
+    {
+        let standings = table.standings()?;
+        let files = table.files(standings.as_slice())?;
+        let faults = name_faults(alloc, table, parts, standings.as_slice(), &files)?;
+        let firsts = table.names().firsts()?;
+        let links = Links::new(alloc, parts.runs(), standings.as_slice(), firsts.len())?;
+        Ok(Answers {
+            standings,
+            files,
+            faults,
+            firsts,
+            links,
+            has_defs_code: parts.has_defs_code(),
+        })
+    }
+}
