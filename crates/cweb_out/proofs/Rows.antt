@@ -1,5 +1,5 @@
 -- The definitions, computed on small webs.
-use Rattle.std.proofs.Common.{ℕ, ◌≡◌, refl, List, [], ◌∷◌, Some, codes, true, false}
+use Rattle.std.proofs.Common.{ℕ, ◌≡◌, refl, List, [], ◌∷◌, ◌++◌, Some, codes, true, false}
 use Rattle.std.specs.Prelude.{Err}
 use Rattle.std.specs.Fmt.{digits}
 use Rattle.cweb_store.specs.declared.names.How.TheVariants.{Full}
@@ -98,7 +98,8 @@ operators_and_numbers_stay_apart : file plain
     ∷ Word (codes "y") ∷ Punct (codes "=") ∷ Number (codes "0xe") ∷ Punct (codes "+") ∷ Number (codes "1")
     ∷ semicolon ∷ Word (codes "q") ∷ Punct (codes "=") ∷ Word (codes "a") ∷ Punct (codes "/") ∷ Head 2 ∷ at 3
     ∷ Word (codes "b") ∷ Tail 2 ∷ at 2 ∷ semicolon ∷ Newline ∷ Tail 1 ∷ [])
-    ≡ codes "/*1:*/\n#line 1 \"s.w\"\n\nx= -1;a* -b;y=0xe +1;q=a/ /*2:*/\n#line 3 \"s.w\"\nb/*:2*/\n#line 2 \"s.w\"\n;\n/*:1*/\n"
+    ≡ codes "/*1:*/\n#line 1 \"s.w\"\n\nx= -1;a* -b;y=0xe +1;q=a/ /*2:*/\n"
+    ++ codes "#line 3 \"s.w\"\nb/*:2*/\n#line 2 \"s.w\"\n;\n/*:1*/\n"
 unfolding digits
 operators_and_numbers_stay_apart = refl
 

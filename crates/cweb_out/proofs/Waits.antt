@@ -54,7 +54,8 @@ fits-push w marks path f t u l i =
           ap (list_any (is_id n)) (path-push path f)
           ∙ on-pushed (path_of path) n f.name ∙ elim (eqb_tells n.0 f.name.0) [
             | inl e ↦
-                or-right (list_any (is_id n) (path_of path)) (is_id n f.name || false) (or-left (is_id n f.name) false e.0)
+                or-right (list_any (is_id n) (path_of path)) (is_id n f.name || false)
+                (or-left (is_id n f.name) false e.0)
             | inr e ↦
                 or-left (list_any (is_id n) (path_of path)) (is_id n f.name || false)
                 (t.waits n (sym (mark-other marks f.name n Waits e.1) ∙ h))

@@ -5,6 +5,7 @@ ghost use Rattle.cweb_out.specs.Gathering.{Moved};
 ghost use Rattle.cweb_out.specs.Lent.{blank_where};
 ghost use Rattle.cweb_out.specs.declared.gathered.TheConstants.{ROOM, SHORT};
 
+use crate::reserved::put_all;
 use cweb_files::{Sink, SinkFault};
 use std::alloc::{AllocError, Global};
 use std::marker::Model;
@@ -87,7 +88,7 @@ impl Gathered {
         self.flush(out)
     }
 
-    /// Adds a text for which there is room. Most have one byte, and then no call copies them.
+    /// Adds a text for which there is room. Most are short, and then no call copies them.
     #[inline(always)]
     pub(crate) fn add(&mut self, text: &[u8])
         requires { length self.old + length text.now ≤ ROOM }
@@ -95,10 +96,40 @@ impl Gathered {
     {
         match text {
             [byte] => self.bytes.push_reserved(*byte),
-            _ => {
-                let _ = self.bytes.extend_from_slice(text);
+            [first, second] => {
+                self.bytes.push_reserved(*first);
+                self.bytes.push_reserved(*second);
             }
+            [first, second, third] => {
+                self.bytes.push_reserved(*first);
+                self.bytes.push_reserved(*second);
+                self.bytes.push_reserved(*third);
+            }
+            [_, _, _, _, ..] if text.len() <= 8 => self.add_ends::<4>(text),
+            [_, _, _, _, ..] if text.len() <= 16 => self.add_ends::<8>(text),
+            _ => put_all(&mut self.bytes, text),
         }
+    }
+
+    // Adds a text of so many bytes to twice as many in two moves: its first bytes, and from where they reach over its last
+    // ones these.
+    #[inline(always)]
+    fn add_ends<const N: usize>(&mut self, text: &[u8])
+        requires room { length self.old + length text.now ≤ ROOM }
+        requires least { N ≤ length text.now }
+        requires most { length text.now ≤ N + N }
+        ensures { self.new ≡ self.old ++ text.now }
+    {
+        let begin = self.bytes.len() + (text.len() - N);
+        let Some(first) = text.first_chunk::<N>() else {
+            unreachable!();
+        };
+        let Some(last) = text.last_chunk::<N>() else {
+            unreachable!();
+        };
+        put_all(&mut self.bytes, first);
+        self.bytes.truncate(begin);
+        put_all(&mut self.bytes, last);
     }
 
     /// Adds a text, behind a blank or not, where there is room for both, and answers whether there is.

@@ -88,28 +88,34 @@ fn of_last(last: u8) -> Class
     }
 }
 
-// Bytes that may join with one another to a longer operator.
+// Which bytes may join with one another to a longer operator: one look a byte.
+const OPERATOR_BYTES: [bool; 256] = [
+    false, false, false, false, false, false, false, false, false, false, false, false, false,
+    false, false, false, false, false, false, false, false, false, false, false, false, false,
+    false, false, false, false, false, false, false, true, false, true, false, true, true, false,
+    false, false, true, true, false, true, true, true, false, false, false, false, false, false,
+    false, false, false, false, true, false, true, true, true, true, false, false, false, false,
+    false, false, false, false, false, false, false, false, false, false, false, false, false,
+    false, false, false, false, false, false, false, false, false, false, false, false, false,
+    true, false, false, false, false, false, false, false, false, false, false, false, false,
+    false, false, false, false, false, false, false, false, false, false, false, false, false,
+    false, false, false, false, true, false, false, false, false, false, false, false, false,
+    false, false, false, false, false, false, false, false, false, false, false, false, false,
+    false, false, false, false, false, false, false, false, false, false, false, false, false,
+    false, false, false, false, false, false, false, false, false, false, false, false, false,
+    false, false, false, false, false, false, false, false, false, false, false, false, false,
+    false, false, false, false, false, false, false, false, false, false, false, false, false,
+    false, false, false, false, false, false, false, false, false, false, false, false, false,
+    false, false, false, false, false, false, false, false, false, false, false, false, false,
+    false, false, false, false, false, false, false, false, false, false, false, false, false,
+    false, false, false, false, false, false, false, false, false, false, false, false, false,
+    false, false, false, false, false, false,
+];
+
 fn is_operator(byte: u8) -> bool
     ensures { result ≡ is_operator byte }
 {
-    matches!(
-        byte,
-        b'+' | b'-'
-            | b'*'
-            | b'/'
-            | b'%'
-            | b'&'
-            | b'|'
-            | b'^'
-            | b'!'
-            | b'='
-            | b'<'
-            | b'>'
-            | b'.'
-            | b':'
-            | b'#'
-            | b'?'
-    )
+    OPERATOR_BYTES[byte as usize]
 }
 
 fn begins_with_operator(bytes: &[u8]) -> bool

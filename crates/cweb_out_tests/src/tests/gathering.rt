@@ -105,6 +105,26 @@ fn text(alloc: Global, size: usize) -> Result<Vec<u8>, AllocError> {
     Ok(web)
 }
 
+// A web of a word of so many letters, each another one than those beside it.
+fn letters(alloc: Global, size: usize) -> Result<Vec<u8>, AllocError> {
+    let mut web = Vec::from_slice(alloc, b": w")?;
+    for place in 0..size {
+        web.push(b"abcdefghijklmnopqrstuvwxyz"[place % 26])?;
+    }
+    Ok(web)
+}
+
+// A short word is gathered in one move or two, by its length.
+#[test]
+fn a_word_of_each_length(rt: HostRuntime) -> Result<(), Fail> {
+    let alloc = rt.alloc();
+    for size in 1..40_usize {
+        let web = letters(alloc, size)?;
+        assert_eq!(rt; measured(&rt, alloc, &web)?, (size.saturating_add(1), 1));
+    }
+    Ok(())
+}
+
 // The newline at the end is gathered behind the text, unless there is no room for a short text. A text that has no room is
 // written behind what is gathered.
 #[test]

@@ -124,7 +124,8 @@ frames-preserved c =
       setting = c.gather.ensures.setting ∙ c.frames.invariant.setting;
       prints =
           front_more c.args.printer.now c.frames.printer c.gather.new.printer
-          (left w c.args.self.now.frames.items) (left w c.frames.self.frames.items) (left w c.enter.new.self.frames.items)
+          (left w c.args.self.now.frames.items) (left w c.frames.self.frames.items)
+          (left w c.enter.new.self.frames.items)
           c.args.gathered.now c.frames.gathered c.gather.new.gathered c.frames.invariant.setting
           c.frames.invariant.prints
           (front_of c.frames.printer c.gather.new.printer _ _ _ _ c.frames.gathered c.gather.new.gathered

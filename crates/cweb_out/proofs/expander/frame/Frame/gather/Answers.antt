@@ -33,5 +33,7 @@ parts-preserved c =
       prints =
           front_to c.args.printer.now c.gather_part.new.printer (suffix w c.args.self.now) (suffix w f) _
           c.args.gathered.now c.gather_part.new.gathered
-          (suffix-next w f _ _ c.if-self-2.false h) (front_more _ _ _ _ _ _ _ _ _ c.parts.invariant.setting c.parts.invariant.prints c.gather_part.ensures.prints);
+          (suffix-next w f _ _ c.if-self-2.false h)
+          (front_more _ _ _ _ _ _ _ _ _ c.parts.invariant.setting c.parts.invariant.prints
+          c.gather_part.ensures.prints);
     }

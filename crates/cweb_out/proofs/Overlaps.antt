@@ -1,0 +1,20 @@
+-- A text is its first bytes, up to where its last ones begin, and these.
+use Rattle.std.proofs.Common.{◌≡◌, ◌≤◌, ◌+◌, ◌-◌, ◌++◌, ◌∙◌, ℕ, List, length, take, drop, sym, ap, arith}
+use Rattle.std.proofs.lemmas.List.{append_assoc, length-take-le, take-append-drop, take-append-le}
+use Rattle.std.proofs.Math.Seq.{take-append-add}
+
+-- of the first bytes of a text those that are first
+taken_twice : (m n : ℕ) (text : List ℕ) → m ≤ n → n ≤ length text → take m (take n text) ≡ take m text
+taken_twice m n text below within =
+    sym (take-append-le m (take n text) (drop n text) (omega (arith, below, length-take-le n text within)))
+    ∙ ap (take m) (take-append-drop n text)
+
+pub overlapped : (before text : List ℕ) (n : ℕ) → n ≤ length text → length text ≤ n + n
+    → take (length before + (length text - n)) (before ++ take n text) ++ drop (length text - n) text
+    ≡ before ++ text
+overlapped before text n least most =
+    let m : ℕ = length text - n in
+    ap (λ (front : List ℕ). front ++ drop m text) (take-append-add before (take n text) m
+    ∙ ap (λ (front : List ℕ). before ++ front) (taken_twice m n text (omega (arith, most)) least))
+    ∙ append_assoc before (take m text) (drop m text)
+    ∙ ap (λ (all : List ℕ). before ++ all) (take-append-drop m text)
