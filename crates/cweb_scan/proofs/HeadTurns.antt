@@ -134,7 +134,8 @@ foreign_rule v rule.Number b c l n e = refl
 foreign_rule v rule.Identifier b c l n e = absurd (n refl)
 foreign_rule v rule.Punctuator b c l n e = refl
 
-pub by_rule : (v : List ℕ) (r : Rule) → r ≡ c_rule false v → c_front in_macro true false v ≡ c_front_by in_macro true v r
+pub by_rule : (v : List ℕ) (r : Rule) → r ≡ c_rule false v
+    → c_front in_macro true false v ≡ c_front_by in_macro true v r
 by_rule v r is = c_front-by in_macro true false v ∙ ap (c_front_by in_macro true v) (sym is)
 
 -- which rule fits in a line doesn't depend on what comes after it

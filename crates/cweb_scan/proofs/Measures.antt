@@ -44,7 +44,8 @@ module _ (f : Token → ℕ) where
       elim (is_macro p.kind) as (λ v.
       part_size f (if v then record p { tokens = without_blank (without_last is_newline p.tokens) } else p)
       ≤ part_size f p) [
-        | true ↦ omega (arith, without_blank-size (without_last is_newline p.tokens), without_last-size is_newline p.tokens)
+        | true ↦
+            omega (arith, without_blank-size (without_last is_newline p.tokens), without_last-size is_newline p.tokens)
         | false ↦ omega arith
       ]
 

@@ -32,7 +32,8 @@ token_pushed t v =
     length (all_tokens (v.closed ++ option_to_list (option_map (longer t) o)))
     ≤ length (all_tokens (v.closed ++ option_to_list o)) + 1) [
       | None ↦ omega arith
-      | Some p ↦ omega (arith, tokens_last v.closed (longer t p), tokens_last v.closed p, length-append p.tokens (t ∷ []))
+      | Some p ↦
+          omega (arith, tokens_last v.closed (longer t p), tokens_last v.closed p, length-append p.tokens (t ∷ []))
     ]
 
 abbrev empty_part : PartKind → Part

@@ -57,7 +57,8 @@ module _ (world : World) (names : WebNames) (found : Option Found) (changes : Op
         read = read;
         none_blamed = none;
         printed = out;
-        written = λ tells told. written tells told ∙ ap (λ (text : List ℕ). before.out.bytes ++ text) (printed_all tells);
+        written = λ tells told.
+            written tells told ∙ ap (λ (text : List ℕ). before.out.bytes ++ text) (printed_all tells);
         logged = logs;
         answered = answered;
         failed = failed;

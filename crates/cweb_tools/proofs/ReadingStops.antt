@@ -103,7 +103,8 @@ read_by (LineTooLong file) = took (line_of file (LINE_LENGTH + 1) 0) ∷ []
 read_by TooMuchText = took (line_of (record { 0 = 0 }) 0 (BYTES + 1)) ∷ []
 read_by stop = []
 
-pub silent_broke : (stop : Stop) (files : List (List ℕ)) (now : Held) → StopsReading stop → files_named stop ≤ length files
+pub silent_broke : (stop : Stop) (files : List (List ℕ)) (now : Held) → StopsReading stop
+    → files_named stop ≤ length files
     → Breaks (reads files (read_by stop)) (ending stop (subject files stop)) now (left_by stop (subject files stop) now)
 silent_broke (ReadFault file) files now kind known = (record { known = omega (arith, known); named = refl }, refl)
 silent_broke (LineTooLong file) files now kind known = (
