@@ -53,22 +53,15 @@ impl Calls {
         Ok(())
     }
 
-    /// Gives a token to the part that is open.
-    pub fn push(&mut self, token: Token<'_>) -> Result<()> {
-        let is_given = self.try_push(token)?;
-        ensure!(is_given, "too many calls");
-        Ok(())
-    }
-
-    // Whether a token could be given. An error of `anyhow` would cost more than the push.
+    /// Gives a token to the part that is open. One call too many is answered as if memory were refused: an error of `anyhow`
+    /// has 288 bytes, and an answer that may hold one costs more than the push.
     #[tactic(auto, using(cweb_store::proofs::CallerLemmas::token_count_pushed, cweb_store::proofs::CallerLemmas::part_count_pushed))]
-    fn try_push(&mut self, token: Token<'_>) -> Result<bool, AllocError> {
+    pub fn push(&mut self, token: Token<'_>) -> Result<(), AllocError> {
         if self.calls >= MOST || !self.is_open {
-            return Ok(false);
+            return Err(AllocError);
         }
         self.calls += 1;
-        self.builder.push(token)?;
-        Ok(true)
+        self.builder.push(token)
     }
 
     /// The store of what was given.

@@ -35,38 +35,35 @@ fn main(rt: HostRuntime) -> Result<()> {
         return show_small(&rt, rt.alloc());
     };
     let what = words.next().context("a file or a shape is missing")?;
-    match layer.as_str() {
-        "scan" => {
-            let text = fs::read(&rt, what.as_str()).context("reading the web")?;
-            show_scanned(&rt, rt.alloc(), &text)
-        }
-        "merge" => {
-            let text = fs::read(&rt, what.as_str()).context("reading the web")?;
-            let shelf = shelf_of(rt.alloc(), &text)?;
-            let bytes = scan::merged(rt.alloc(), shelf, text.len())?;
-            println!(rt; "{bytes} bytes")?;
-            Ok(())
-        }
-        layer => {
-            let count = words.next().context("a number is missing")?;
-            let count = count.as_str().parse::<u32>().context("reading the number")?;
-            let step = words.next().context("a step is missing")?;
-            show(&rt, rt.alloc(), layer, what.as_str(), count, step.as_str())
-        }
+    if matches!(layer.as_str(), "scan" | "merge") {
+        return show_web(&rt, layer.as_str(), what.as_str());
+    }
+    let count = words.next().context("a number is missing")?;
+    let step = words.next().context("a step is missing")?;
+    let (layer, shape) = (layer.as_str(), what.as_str());
+    show(&rt, layer, shape, count.as_str(), step.as_str())
+}
+
+// Reads a web, and scans it or merges its lines.
+fn show_web(rt: &HostRuntime, layer: &str, file: &str) -> Result<()> {
+    let text = fs::read(rt, file).context("reading the web")?;
+    match layer {
+        "scan" => show_scanned(rt, rt.alloc(), &text),
+        _ => show_merged(rt, rt.alloc(), &text),
     }
 }
 
-fn show(
-    rt: &impl Print,
-    alloc: Global,
-    layer: &str,
-    shape: &str,
-    count: u32,
-    step: &str,
-) -> Result<()> {
+fn show_merged(rt: &impl Print, alloc: Global, text: &[u8]) -> Result<()> {
+    let bytes = scan::merged(alloc, shelf_of(alloc, text)?, text.len())?;
+    println!(rt; "{bytes} bytes")?;
+    Ok(())
+}
+
+fn show(rt: &HostRuntime, layer: &str, shape: &str, count: &str, step: &str) -> Result<()> {
+    let count = count.parse::<u32>().context("reading the number")?;
     match layer {
-        "store" => store::show(rt, alloc, shape, count, step),
-        "out" => outputs::show(rt, alloc, shape, count, step),
+        "store" => store::show(rt, rt.alloc(), shape, count, step),
+        "out" => outputs::show(rt, rt.alloc(), shape, count, step),
         _ => bail!("scan, merge, store or out is wanted"),
     }
 }

@@ -6,7 +6,7 @@ use crate::calls::Calls;
 use anyhow::{Result, bail};
 use cweb_files::{FileId, Place};
 use cweb_store::{How, NameRef, PartKind, Store, Token};
-use std::alloc::Global;
+use std::alloc::{AllocError, Global};
 
 // The parts of a web are spread over so many names.
 const SHARED: u32 = 500;
@@ -86,7 +86,8 @@ fn uses(calls: &mut Calls, count: u32) -> Result<()> {
     }
     open_named(calls, 0)?;
     calls.push(Token::Word(b"x"))?;
-    calls.push(Token::Punct(b";"))
+    calls.push(Token::Punct(b";"))?;
+    Ok(())
 }
 
 fn occur(calls: &mut Calls, number: u32) -> Result<NameRef> {
@@ -101,11 +102,12 @@ fn open_named(calls: &mut Calls, number: u32) -> Result<()> {
 
 fn put_use(calls: &mut Calls, number: u32) -> Result<()> {
     let name = occur(calls, number)?;
-    calls.push(Token::Name(name))
+    calls.push(Token::Name(name))?;
+    Ok(())
 }
 
 // Twenty tokens of a program's text.
-fn put_text(calls: &mut Calls, section: u32) -> Result<()> {
+fn put_text(calls: &mut Calls, section: u32) -> Result<(), AllocError> {
     calls.push(Token::Head(section))?;
     calls.push(Token::Mark(Place {
         file: FileId(0),
@@ -119,7 +121,13 @@ fn put_text(calls: &mut Calls, section: u32) -> Result<()> {
     calls.push(Token::Tail(section))
 }
 
-fn put_statement(calls: &mut Calls, a: &[u8], b: &[u8], c: &[u8], d: &[u8]) -> Result<()> {
+fn put_statement(
+    calls: &mut Calls,
+    a: &[u8],
+    b: &[u8],
+    c: &[u8],
+    d: &[u8],
+) -> Result<(), AllocError> {
     calls.push(Token::Word(a))?;
     calls.push(Token::Punct(b))?;
     calls.push(Token::Word(c))?;

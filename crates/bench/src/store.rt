@@ -4,7 +4,7 @@ mod answers;
 
 use crate::calls::Calls;
 use anyhow::{Result, bail};
-use cweb_store::{How, NameRef, PartKind, Token};
+use cweb_store::{How, NameRef, PartKind, Store, Token};
 use std::alloc::Global;
 
 // So many Words are drawn from.
@@ -46,26 +46,35 @@ pub fn show(rt: &impl Print, alloc: Global, shape: &str, count: u32, step: &str)
     let Some(shape) = Shape::of(shape) else {
         bail!("no such shape");
     };
-    let vocabulary = vocabulary(alloc)?;
-    if step == "draw" {
-        let bytes = drawn_bytes(&vocabulary, count);
-        println!(rt; "{bytes} bytes drawn")?;
-        return Ok(());
+    match step {
+        "draw" => show_drawn(rt, alloc, count),
+        "give" => {
+            filled(alloc, shape, count)?;
+            Ok(())
+        }
+        "finish" => show_store(rt, &filled(alloc, shape, count)?.finish()?),
+        _ => show_asked(rt, &filled(alloc, shape, count)?.finish()?, shape, count),
     }
-    let calls = filled(alloc, shape, &vocabulary, count)?;
-    if step == "give" {
-        return Ok(());
-    }
-    let store = calls.finish()?;
+}
+
+fn show_drawn(rt: &impl Print, alloc: Global, count: u32) -> Result<()> {
+    let bytes = drawn_bytes(&vocabulary(alloc)?, count);
+    println!(rt; "{bytes} bytes drawn")?;
+    Ok(())
+}
+
+fn show_store(rt: &impl Print, store: &Store) -> Result<()> {
     let tokens = store.tokens();
     let bytes = store.text_bytes();
     let names = store.names();
     let faults = store.name_faults().len();
     println!(rt; "{tokens} tokens, {bytes} bytes of text, {names} names, {faults} faults")?;
-    if step == "finish" {
-        return Ok(());
-    }
-    let answered = answers::of(&store, shape, count);
+    Ok(())
+}
+
+fn show_asked(rt: &impl Print, store: &Store, shape: Shape, count: u32) -> Result<()> {
+    show_store(rt, store)?;
+    let answered = answers::of(store, shape, count);
     println!(rt; "{answered} answered")?;
     Ok(())
 }
@@ -101,16 +110,21 @@ fn drawn_bytes(vocabulary: &[u8], count: u32) -> u64 {
 }
 
 // A builder that was given so many Words, names or parts.
-fn filled(alloc: Global, shape: Shape, vocabulary: &[u8], count: u32) -> Result<Calls> {
+fn filled(alloc: Global, shape: Shape, count: u32) -> Result<Calls> {
+    let vocabulary = vocabulary(alloc)?;
     let mut calls = Calls::new(alloc);
-    match shape {
-        Shape::Words => give_words(&mut calls, vocabulary, count)?,
-        Shape::Distinct => give_distinct(&mut calls, count)?,
-        Shape::Flood => give_flood(&mut calls, count)?,
-        Shape::Names => give_names(&mut calls, count)?,
-        Shape::Parts => give_parts(&mut calls, vocabulary, count)?,
-    }
+    fill(&mut calls, shape, &vocabulary, count)?;
     Ok(calls)
+}
+
+fn fill(calls: &mut Calls, shape: Shape, vocabulary: &[u8], count: u32) -> Result<()> {
+    match shape {
+        Shape::Words => give_words(calls, vocabulary, count),
+        Shape::Distinct => give_distinct(calls, count),
+        Shape::Flood => give_flood(calls, count),
+        Shape::Names => give_names(calls, count),
+        Shape::Parts => give_parts(calls, vocabulary, count),
+    }
 }
 
 fn give_words(calls: &mut Calls, vocabulary: &[u8], count: u32) -> Result<()> {

@@ -18,7 +18,8 @@ mod worked;
 
 use cweb_lines::Merger;
 use cweb_scan::{Scanned, scan};
-use std::alloc::Global;
+use std::alloc::{AllocGlobal, Global};
+use std::process::Abort;
 use std::test::Fail;
 use told::told;
 use trial::shelf_of;
@@ -40,4 +41,12 @@ fn told_of(alloc: Global, files: &[(&str, &[u8])], change: Option<&str>) -> Resu
 /// What is told of a web of one file.
 fn told_of_web(alloc: Global, web: &[u8]) -> Result<String, Fail> {
     told_of(alloc, &[("a.w", web)], None)
+}
+
+/// Of each web of one file is told what stands beside it.
+fn tell_each(rt: &(impl AllocGlobal + Abort), rows: &[(&[u8], &str)]) -> Result<(), Fail> {
+    for (web, want) in rows {
+        assert_eq!(rt; told_of_web(rt.alloc(), web)?.as_str(), *want);
+    }
+    Ok(())
 }

@@ -23,10 +23,13 @@ fn scan_whole(
     let scanned = scan(alloc, &mut merger, &mut shelf);
     assert!(rt; shelf.failures() == 0);
     assert!(rt; merger.stopped() == scanned.as_ref().err().copied());
-    let made = scanned?;
+    has_sizes(rt, &scanned?, tokens, faults);
+    Ok(())
+}
+
+fn has_sizes(rt: &impl Abort, made: &Scanned, tokens: u32, faults: usize) {
     assert!(rt; made.store.tokens() == tokens);
     assert!(rt; made.faults.len() == faults);
-    Ok(())
 }
 
 // The same where memory may be refused: nothing else stops it.

@@ -1,75 +1,72 @@
 // Limbo, and the codes of text.
 use super::*;
 
+const CODES_BEFORE_THE_FIRST_SECTION: &[(&[u8], &str)] = &[
+    (b"x @@ @f @s @F @S @q a@@b@> y", ""),
+    (b"@<a@>", "DoubleAtInLimbo 1 DoubleAtInLimbo 1 "),
+    (b"@d x\n@C", "DoubleAtInLimbo 1 DoubleAtInLimbo 2 "),
+    // control texts that did not end
+    (
+        b"@q a\n@q b@x\n@qc@@d",
+        "ControlTextDidNotEnd 1 ControlTextDidNotEnd 2 DoubleAtInLimbo 2 ControlTextDidNotEnd 3 ",
+    ),
+];
+
 #[test]
 fn codes_before_the_first_section(rt: HostRuntime) -> Result<(), Fail> {
-    for (web, want) in [
-        (b"x @@ @f @s @F @S @q a@@b@> y".as_slice(), ""),
-        (b"@<a@>", "DoubleAtInLimbo 1 DoubleAtInLimbo 1 "),
-        (b"@d x\n@C", "DoubleAtInLimbo 1 DoubleAtInLimbo 2 "),
-        // control texts that did not end
-        (
-            b"@q a\n@q b@x\n@qc@@d",
-            "ControlTextDidNotEnd 1 ControlTextDidNotEnd 2 DoubleAtInLimbo 2 ControlTextDidNotEnd 3 ",
-        ),
-    ] {
-        assert_eq!(rt; told_of_web(rt.alloc(), web)?.as_str(), want);
-    }
-    Ok(())
+    tell_each(&rt, CODES_BEFORE_THE_FIRST_SECTION)
 }
+
+const LETTERS: &[(&[u8], &str)] = &[
+    (b"@l 80 a", "80=a "),
+    (b"@L FF\tB_9.x", "ff=B_9 "),
+    (b"@lfF \t z", "ff=z "),
+    (b"@l fc .", "fc= "),
+    (b"@l fc a\n@l e4 b\n@l fc c", "e4=b fc=c "),
+    (b"@l fc x@c", "fc=x DoubleAtInLimbo 1 "),
+    // no letter
+    (b"@l 7f x", "ImproperHexNumber 1 "),
+    (b"@l fcx", "ImproperHexNumber 1 "),
+    (b"@l f x", "ImproperHexNumber 1 "),
+    (b"@l g0 x", "ImproperHexNumber 1 "),
+    (b"@l fc\x0bx", "ImproperHexNumber 1 "),
+    (b"@l\x0bfc x", "ImproperHexNumber 1 "),
+    (b"@l fc \n", "ImproperHexNumber 1 "),
+    (b"@l 8", "ImproperHexNumber 1 "),
+    (b"@l", "ImproperHexNumber 1 "),
+    // the pair alone is passed over
+    (b"@l @x", "ImproperHexNumber 1 DoubleAtInLimbo 1 "),
+    // 31 letters, and 32, with which nothing is set
+    (
+        b"@l fc 0123456789abcdefghijklmnopqrstu",
+        "fc=0123456789abcdefghijklmnopqrstu ",
+    ),
+    (
+        b"@l fc a\n@l fc 0123456789abcdefghijklmnopqrstuv",
+        "fc=a ReplacementTooLong 2 ",
+    ),
+];
 
 #[test]
 fn letters(rt: HostRuntime) -> Result<(), Fail> {
-    for (web, want) in [
-        (b"@l 80 a".as_slice(), "80=a "),
-        (b"@L FF\tB_9.x", "ff=B_9 "),
-        (b"@lfF \t z", "ff=z "),
-        (b"@l fc .", "fc= "),
-        (b"@l fc a\n@l e4 b\n@l fc c", "e4=b fc=c "),
-        (b"@l fc x@c", "fc=x DoubleAtInLimbo 1 "),
-        // no letter
-        (b"@l 7f x", "ImproperHexNumber 1 "),
-        (b"@l fcx", "ImproperHexNumber 1 "),
-        (b"@l f x", "ImproperHexNumber 1 "),
-        (b"@l g0 x", "ImproperHexNumber 1 "),
-        (b"@l fc\x0bx", "ImproperHexNumber 1 "),
-        (b"@l\x0bfc x", "ImproperHexNumber 1 "),
-        (b"@l fc \n", "ImproperHexNumber 1 "),
-        (b"@l 8", "ImproperHexNumber 1 "),
-        (b"@l", "ImproperHexNumber 1 "),
-        // the pair alone is passed over
-        (b"@l @x", "ImproperHexNumber 1 DoubleAtInLimbo 1 "),
-        // 31 letters, and 32, with which nothing is set
-        (
-            b"@l fc 0123456789abcdefghijklmnopqrstu",
-            "fc=0123456789abcdefghijklmnopqrstu ",
-        ),
-        (
-            b"@l fc a\n@l fc 0123456789abcdefghijklmnopqrstuv",
-            "fc=a ReplacementTooLong 2 ",
-        ),
-    ] {
-        assert_eq!(rt; told_of_web(rt.alloc(), web)?.as_str(), want);
-    }
-    Ok(())
+    tell_each(&rt, LETTERS)
 }
+
+const CODES_OF_TEXT: &[(&[u8], &str)] = &[
+    (
+        b"@ @h @& @= a @' @^ @. @: @t @q @l @@ @f @s @z @> @L @H",
+        "",
+    ),
+    (b"@ text @c x", "[program] head:1 at:1 w:x tail:1 "),
+    (b"@ @Px", "[program] head:1 at:1 w:x tail:1 "),
+    // a name without an opener sign is an occurrence alone
+    (
+        b"@ @<Ab@> @<Ac@> @c @<A...@>",
+        "[program] head:1 at:1 <?> at:1 tail:1 Ambiguous <A> ",
+    ),
+];
 
 #[test]
 fn codes_of_text(rt: HostRuntime) -> Result<(), Fail> {
-    for (web, want) in [
-        (
-            b"@ @h @& @= a @' @^ @. @: @t @q @l @@ @f @s @z @> @L @H".as_slice(),
-            "",
-        ),
-        (b"@ text @c x", "[program] head:1 at:1 w:x tail:1 "),
-        (b"@ @Px", "[program] head:1 at:1 w:x tail:1 "),
-        // a name without an opener sign is an occurrence alone
-        (
-            b"@ @<Ab@> @<Ac@> @c @<A...@>",
-            "[program] head:1 at:1 <?> at:1 tail:1 Ambiguous <A> ",
-        ),
-    ] {
-        assert_eq!(rt; told_of_web(rt.alloc(), web)?.as_str(), want);
-    }
-    Ok(())
+    tell_each(&rt, CODES_OF_TEXT)
 }

@@ -1,112 +1,109 @@
 // Names of sections, and the signs behind them.
 use super::*;
 
+const OPENER_SIGNS: &[(&[u8], &str)] = &[
+    (b"@ @<A@>=x", "[<A>] head:1 at:1 w:x tail:1 "),
+    (b"@ @<A@> \t +=x", "[<A>] head:1 at:1 w:x tail:1 "),
+    (b"@ @<A@>= =x", "[<A>] head:1 at:1 p:= w:x tail:1 "),
+    // no opener signs
+    (b"@ @<A@>==x", ""),
+    (b"@ @<A@>+==x", ""),
+    (b"@ @<A@>+x", ""),
+    (b"@ @<A@>\n=x", ""),
+    (b"@ @<A@>\x0b=x", ""),
+    // in C text a name is a use
+    (
+        b"@ @c @<A@>=x",
+        "[program] head:1 at:1 <A> at:1 p:= w:x tail:1 MissingAt 1 NotPresent <A> ",
+    ),
+    (
+        b"@ @c @<A@> += x",
+        "[program] head:1 at:1 <A> at:1 p:+= w:x tail:1 MissingAt 1 NotPresent <A> ",
+    ),
+    (
+        b"@ @c @<A@>==x",
+        "[program] head:1 at:1 <A> at:1 p:== w:x tail:1 NotPresent <A> ",
+    ),
+    (
+        b"@ @(f@>=\n@(f@>",
+        "[<f>] head:1 at:1 / <f> at:2 tail:1 file <f> ",
+    ),
+];
+
 #[test]
 fn opener_signs(rt: HostRuntime) -> Result<(), Fail> {
-    for (web, want) in [
-        (b"@ @<A@>=x".as_slice(), "[<A>] head:1 at:1 w:x tail:1 "),
-        (b"@ @<A@> \t +=x", "[<A>] head:1 at:1 w:x tail:1 "),
-        (b"@ @<A@>= =x", "[<A>] head:1 at:1 p:= w:x tail:1 "),
-        // no opener signs
-        (b"@ @<A@>==x", ""),
-        (b"@ @<A@>+==x", ""),
-        (b"@ @<A@>+x", ""),
-        (b"@ @<A@>\n=x", ""),
-        (b"@ @<A@>\x0b=x", ""),
-        // in C text a name is a use
-        (
-            b"@ @c @<A@>=x",
-            "[program] head:1 at:1 <A> at:1 p:= w:x tail:1 MissingAt 1 NotPresent <A> ",
-        ),
-        (
-            b"@ @c @<A@> += x",
-            "[program] head:1 at:1 <A> at:1 p:+= w:x tail:1 MissingAt 1 NotPresent <A> ",
-        ),
-        (
-            b"@ @c @<A@>==x",
-            "[program] head:1 at:1 <A> at:1 p:== w:x tail:1 NotPresent <A> ",
-        ),
-        (
-            b"@ @(f@>=\n@(f@>",
-            "[<f>] head:1 at:1 / <f> at:2 tail:1 file <f> ",
-        ),
-    ] {
-        assert_eq!(rt; told_of_web(rt.alloc(), web)?.as_str(), want);
-    }
-    Ok(())
+    tell_each(&rt, OPENER_SIGNS)
 }
+
+const SPELLING: &[(&[u8], &str)] = &[
+    (
+        b"@ @<  a \t b\x0bc\n d @>=x",
+        "[<a b c d>] head:1 at:2 w:x tail:1 ",
+    ),
+    // blanks as they stand, and too many
+    (b"@ @<a b c@>=x", "[<a b c>] head:1 at:1 w:x tail:1 "),
+    (b"@ @<a b  c@>=x", "[<a b c>] head:1 at:1 w:x tail:1 "),
+    (b"@ @<a\tb@>=x", "[<a b>] head:1 at:1 w:x tail:1 "),
+    (b"@ @< a@>=x", "[<a>] head:1 at:1 w:x tail:1 "),
+    (b"@ @<a @>=x", "[<a>] head:1 at:1 w:x tail:1 "),
+    (b"@ @<a@@b@>=x", "[<a@b>] head:1 at:1 w:x tail:1 "),
+    (b"@ @<a@@>b@>=x", "[<a@>b>] head:1 at:1 w:x tail:1 "),
+    (b"@ @<a@xb@>=x", "[<a@xb>] head:1 at:1 w:x tail:1 "),
+    (b"@ @<a@\x0b b@>=x", "[<a@ b>] head:1 at:1 w:x tail:1 "),
+    (
+        b"@ @<a\x00\xffb@>=x",
+        "[<a{00}{ff}b>] head:1 at:1 w:x tail:1 ",
+    ),
+    // abbreviations
+    (b"@ @<...@>=x", "[<...>] head:1 at:1 w:x tail:1 "),
+    (
+        b"@ @<abc@>=x @<a...@>@< abc... @>",
+        "[<abc>] head:1 at:1 w:x <abc> at:1 <abc> at:1 tail:1 ",
+    ),
+    (
+        b"@ @<abc@>=x @<a ...@>",
+        "[<abc>] head:1 at:1 w:x <?> at:1 tail:1 NeverFull <a > ",
+    ),
+];
 
 #[test]
 fn spelling(rt: HostRuntime) -> Result<(), Fail> {
-    for (web, want) in [
-        (
-            b"@ @<  a \t b\x0bc\n d @>=x".as_slice(),
-            "[<a b c d>] head:1 at:2 w:x tail:1 ",
-        ),
-        // blanks as they stand, and too many
-        (b"@ @<a b c@>=x", "[<a b c>] head:1 at:1 w:x tail:1 "),
-        (b"@ @<a b  c@>=x", "[<a b c>] head:1 at:1 w:x tail:1 "),
-        (b"@ @<a\tb@>=x", "[<a b>] head:1 at:1 w:x tail:1 "),
-        (b"@ @< a@>=x", "[<a>] head:1 at:1 w:x tail:1 "),
-        (b"@ @<a @>=x", "[<a>] head:1 at:1 w:x tail:1 "),
-        (b"@ @<a@@b@>=x", "[<a@b>] head:1 at:1 w:x tail:1 "),
-        (b"@ @<a@@>b@>=x", "[<a@>b>] head:1 at:1 w:x tail:1 "),
-        (b"@ @<a@xb@>=x", "[<a@xb>] head:1 at:1 w:x tail:1 "),
-        (b"@ @<a@\x0b b@>=x", "[<a@ b>] head:1 at:1 w:x tail:1 "),
-        (
-            b"@ @<a\x00\xffb@>=x",
-            "[<a{00}{ff}b>] head:1 at:1 w:x tail:1 ",
-        ),
-        // abbreviations
-        (b"@ @<...@>=x", "[<...>] head:1 at:1 w:x tail:1 "),
-        (
-            b"@ @<abc@>=x @<a...@>@< abc... @>",
-            "[<abc>] head:1 at:1 w:x <abc> at:1 <abc> at:1 tail:1 ",
-        ),
-        (
-            b"@ @<abc@>=x @<a ...@>",
-            "[<abc>] head:1 at:1 w:x <?> at:1 tail:1 NeverFull <a > ",
-        ),
-    ] {
-        assert_eq!(rt; told_of_web(rt.alloc(), web)?.as_str(), want);
-    }
-    Ok(())
+    tell_each(&rt, SPELLING)
 }
+
+const NAMES_THAT_DID_NOT_END: &[(&[u8], &str)] = &[
+    (
+        b"@ @<A@<B@>=x",
+        "[<B>] head:1 at:1 w:x tail:1 NamesDoNotNest 1 ",
+    ),
+    (
+        b"@ @<A@(f@>=x",
+        "[<f>] head:1 at:1 w:x tail:1 file <f> NamesDoNotNest 1 ",
+    ),
+    (
+        b"@ @c @<A\n@<B@>",
+        "[program] head:1 at:1 <A> at:2 <B> at:2 tail:1 NamesDoNotNest 1 NotPresent <A> NotPresent <B> ",
+    ),
+    (
+        b"@ @c @<A\nb@ x",
+        "[program] head:1 at:1 <A b> at:2 tail:1 NameDidNotEnd 1 NotPresent <A b> ",
+    ),
+    // an opener sign belongs to no such name
+    (
+        b"@ @<A@ @<B@>=x",
+        "[<B>] head:2 at:1 w:x tail:2 NameDidNotEnd 1 ",
+    ),
+    (
+        b"@ @c @<A\n\n",
+        "[program] head:1 at:1 <A> at:2 tail:1 NameDidNotEnd 1 NotPresent <A> ",
+    ),
+    (
+        b"@ @c @<A...\n",
+        "[program] head:1 at:1 <?> at:1 tail:1 NameDidNotEnd 1 NeverFull <A> ",
+    ),
+];
 
 #[test]
 fn names_that_did_not_end(rt: HostRuntime) -> Result<(), Fail> {
-    for (web, want) in [
-        (
-            b"@ @<A@<B@>=x".as_slice(),
-            "[<B>] head:1 at:1 w:x tail:1 NamesDoNotNest 1 ",
-        ),
-        (
-            b"@ @<A@(f@>=x",
-            "[<f>] head:1 at:1 w:x tail:1 file <f> NamesDoNotNest 1 ",
-        ),
-        (
-            b"@ @c @<A\n@<B@>",
-            "[program] head:1 at:1 <A> at:2 <B> at:2 tail:1 NamesDoNotNest 1 NotPresent <A> NotPresent <B> ",
-        ),
-        (
-            b"@ @c @<A\nb@ x",
-            "[program] head:1 at:1 <A b> at:2 tail:1 NameDidNotEnd 1 NotPresent <A b> ",
-        ),
-        // an opener sign belongs to no such name
-        (
-            b"@ @<A@ @<B@>=x",
-            "[<B>] head:2 at:1 w:x tail:2 NameDidNotEnd 1 ",
-        ),
-        (
-            b"@ @c @<A\n\n",
-            "[program] head:1 at:1 <A> at:2 tail:1 NameDidNotEnd 1 NotPresent <A> ",
-        ),
-        (
-            b"@ @c @<A...\n",
-            "[program] head:1 at:1 <?> at:1 tail:1 NameDidNotEnd 1 NeverFull <A> ",
-        ),
-    ] {
-        assert_eq!(rt; told_of_web(rt.alloc(), web)?.as_str(), want);
-    }
-    Ok(())
+    tell_each(&rt, NAMES_THAT_DID_NOT_END)
 }

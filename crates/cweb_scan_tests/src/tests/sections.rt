@@ -8,42 +8,48 @@ fn sections_told(
     change: Option<&str>,
 ) -> Result<String, Fail> {
     let made = scanned(alloc, files, change)?;
+    tell_sections(alloc, made.sections, made.starred.as_slice())
+}
+
+fn tell_sections(alloc: Global, sections: u32, starred: &[u32]) -> Result<String, Fail> {
     let mut told = String::new(alloc);
-    write!(told, "{}", made.sections)?;
-    for number in &made.starred {
+    write!(told, "{sections}")?;
+    for number in starred {
         write!(told, " *{number}")?;
     }
     Ok(told)
 }
 
+const SECTION_STARTS: &[(&[u8], &str)] = &[
+    (b"", "0"),
+    (b"x @@ y @q a b@> @@*", "0"),
+    (b"@", "1"),
+    (b"x@\ny", "1"),
+    (b"@\tx@ y", "2"),
+    (b"@*x", "1 *1"),
+    (b"@ a@*b@ c@*", "4 *2 *4"),
+    // other white bytes begin none, but at a line's end they are dropped
+    (b"@\x0bx", "0"),
+    (b"@\x0b\nx", "1"),
+    // inside each item
+    (b"@ @c /*@* x", "2 *2"),
+    (b"@ @c //@* x", "2 *2"),
+    (b"@ @c @<a@* x", "2 *2"),
+    (b"@ @c R\"(a@* x", "2 *2"),
+    (b"@ @c @^a@* x", "2 *2"),
+    (b"@ @c @=a@* x", "2 *2"),
+    (b"@ @d@* x", "2 *2"),
+    (b"@ @d m@* x", "2 *2"),
+    (b"@ @c \"a@* x", "1"),
+    (b"@ @c @'a@* x", "1"),
+    (b"@ @c\n#include <a@* x>", "1"),
+];
+
 #[test]
 fn section_starts(rt: HostRuntime) -> Result<(), Fail> {
-    for (web, want) in [
-        (b"".as_slice(), "0"),
-        (b"x @@ y @q a b@> @@*", "0"),
-        (b"@", "1"),
-        (b"x@\ny", "1"),
-        (b"@\tx@ y", "2"),
-        (b"@*x", "1 *1"),
-        (b"@ a@*b@ c@*", "4 *2 *4"),
-        // other white bytes begin none, but at a line's end they are dropped
-        (b"@\x0bx", "0"),
-        (b"@\x0b\nx", "1"),
-        // inside each item
-        (b"@ @c /*@* x", "2 *2"),
-        (b"@ @c //@* x", "2 *2"),
-        (b"@ @c @<a@* x", "2 *2"),
-        (b"@ @c R\"(a@* x", "2 *2"),
-        (b"@ @c @^a@* x", "2 *2"),
-        (b"@ @c @=a@* x", "2 *2"),
-        (b"@ @d@* x", "2 *2"),
-        (b"@ @d m@* x", "2 *2"),
-        (b"@ @c \"a@* x", "1"),
-        (b"@ @c @'a@* x", "1"),
-        (b"@ @c\n#include <a@* x>", "1"),
-    ] {
+    for (web, want) in SECTION_STARTS {
         let got = sections_told(rt.alloc(), &[("a.w", web)], None)?;
-        assert_eq!(rt; got.as_str(), want, "of {web:?}");
+        assert_eq!(rt; got.as_str(), *want, "of {web:?}");
     }
     Ok(())
 }
