@@ -6,7 +6,7 @@ pub mod seek;
 use cweb_files::Place;
 
 /// What a merger does with its change file next.
-#[derive(Clone, Copy, Debug, PartialEq, Eq)]
+#[derive(Clone, Copy)]
 pub enum Stage {
     /// There is no change file, or it has no entry left.
     Done,
@@ -19,7 +19,7 @@ pub enum Stage {
 }
 
 /// A change whose new lines come.
-#[derive(Clone, Copy, Debug, PartialEq, Eq)]
+#[derive(Clone, Copy)]
 pub struct Change {
     /// Where its entry's `@x` line stands.
     pub begin: Place,

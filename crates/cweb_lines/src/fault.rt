@@ -2,7 +2,7 @@
 use cweb_files::Place;
 
 /// What is wrong with a line of a web or of a change file.
-#[derive(Clone, Copy, Debug, PartialEq, Eq, Hash)]
+#[derive(Clone, Copy, Debug, PartialEq, Eq)]
 pub enum SourceKind {
     /// An include line gives no name.
     NoName,
@@ -31,7 +31,7 @@ pub enum SourceKind {
 }
 
 /// A fault, and the line that has it. The count is 0 but for unequal lines.
-#[derive(Clone, Copy, Debug, PartialEq, Eq, Hash)]
+#[derive(Clone, Copy, Debug, PartialEq, Eq)]
 pub struct SourceFault {
     pub kind: SourceKind,
     pub place: Place,

@@ -5,7 +5,7 @@ pub mod turning;
 
 use cweb_files::Place;
 
-#[derive(Clone, Copy, Debug, PartialEq, Eq)]
+#[derive(Clone, Copy)]
 pub enum Turn {
     /// The line at this place is given out.
     Given(Place),

@@ -23,7 +23,7 @@ pub struct OpenText<R: Drop> {
 
 /// A line that was taken of an open text: where it stands, how deep it lies, and whether it may match a change entry. Its
 /// bytes are in the caller's buffer.
-#[derive(Clone, Copy, Debug, PartialEq, Eq)]
+#[derive(Clone, Copy)]
 pub struct LineAt {
     pub place: Place,
     pub depth: usize,

@@ -5,7 +5,7 @@ ghost use Rattle.cweb_rules.specs.Bytes as spec;
 ghost use Rattle.cweb_rules.specs.Classes.{in_class};
 
 /// A class of bytes.
-#[derive(Clone, Copy, Debug, PartialEq, Eq)]
+#[derive(Clone, Copy)]
 pub enum Class {
     /// Blank, tab, CR, VT and FF.
     Blank,

@@ -7,21 +7,21 @@ ghost use Rattle.cweb_rules.specs.Constants as spec;
 use crate::bytes::{Class, begins, is_digit, is_hex, run_len};
 
 /// A character as it is written: its code, and how many bytes it takes.
-#[derive(Clone, Copy, Debug, PartialEq, Eq)]
+#[derive(Clone, Copy)]
 pub struct Character {
     pub code: u8,
     pub size: usize,
 }
 
 /// What follows `@'`: the code of its character, if it has one, and how many bytes it takes.
-#[derive(Clone, Copy, Debug, PartialEq, Eq)]
+#[derive(Clone, Copy)]
 pub struct Valued {
     pub value: Option<u8>,
     pub size: usize,
 }
 
 /// What follows `@l`: the byte, where its replacement begins, and how many bytes that has.
-#[derive(Clone, Copy, Debug, PartialEq, Eq)]
+#[derive(Clone, Copy)]
 pub struct Transliteration {
     pub byte: u8,
     pub start: usize,

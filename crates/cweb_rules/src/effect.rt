@@ -3,7 +3,7 @@
 use crate::fault::ScanKind;
 
 /// What a control code does in its context.
-#[derive(Clone, Copy, Debug, PartialEq, Eq)]
+#[derive(Clone, Copy)]
 pub enum Effect {
     /// The pair gives nothing.
     Nothing,

@@ -3,7 +3,7 @@
 use cweb_files::Place;
 
 /// What is wrong in a web's text.
-#[derive(Clone, Copy, Debug, PartialEq, Eq, Hash)]
+#[derive(Clone, Copy, Debug, PartialEq, Eq)]
 pub enum ScanKind {
     /// A control code that has no place before the first section.
     DoubleAtInLimbo,
@@ -38,7 +38,7 @@ pub enum ScanKind {
 }
 
 /// A fault, and the line on which its item begins; of an `@` in a literal, the line of the `@`.
-#[derive(Clone, Copy, Debug, PartialEq, Eq, Hash)]
+#[derive(Clone, Copy, Debug, PartialEq, Eq)]
 pub struct ScanFault {
     pub kind: ScanKind,
     pub place: Place,

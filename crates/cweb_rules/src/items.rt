@@ -29,7 +29,7 @@ pub enum Item<'a> {
 }
 
 /// How far an item reaches: its bytes before the end sign, those of the sign, and how it ends.
-#[derive(Clone, Copy, Debug, PartialEq, Eq)]
+#[derive(Clone, Copy)]
 pub struct Reached {
     pub size: usize,
     pub close: usize,

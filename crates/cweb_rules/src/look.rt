@@ -3,7 +3,7 @@
 use crate::end::End;
 
 /// What stands at the front of the rest of an item that lasts to an end sign.
-#[derive(Clone, Copy, Debug, PartialEq, Eq)]
+#[derive(Clone, Copy)]
 pub enum Look {
     /// A unit of so many bytes.
     Goes(usize),

@@ -53,7 +53,7 @@ fn starts_include(text: &[u8]) -> bool
 }
 
 // What the first byte of C text tells of the rule that fits: blanks, an identifier, a punctuator, or not yet which.
-#[derive(Clone, Copy, Debug, PartialEq, Eq)]
+#[derive(Clone, Copy)]
 enum Lead {
     Blank,
     Word,

@@ -11,7 +11,7 @@ use crate::tokens::Token;
 use std::alloc::AllocError;
 
 /// A call of a builder. It lends its bytes.
-#[derive(Clone, Copy, Debug, PartialEq, Eq)]
+#[derive(Clone, Copy)]
 pub enum Call<'a> {
     /// `occurrence`: a name's text or prefix, which of them it is, and whether it is a file's.
     Occurs(&'a [u8], How, bool),

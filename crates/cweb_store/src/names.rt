@@ -7,7 +7,7 @@ pub mod standing;
 pub mod table;
 
 /// How an occurrence gives a name.
-#[derive(Clone, Copy, Debug, PartialEq, Eq, Hash)]
+#[derive(Clone, Copy, Debug, PartialEq, Eq)]
 pub enum How {
     /// The whole name.
     Full,
@@ -24,7 +24,7 @@ pub struct NameRef(pub u32);
 pub struct NameId(pub u32);
 
 /// What is wrong with a name.
-#[derive(Clone, Copy, Debug, PartialEq, Eq, Hash)]
+#[derive(Clone, Copy, Debug, PartialEq, Eq)]
 pub enum NameKind {
     /// An abbreviation fits several names.
     Ambiguous,
@@ -37,7 +37,7 @@ pub enum NameKind {
 }
 
 /// A fault of a name, at the occurrence that shows it.
-#[derive(Clone, Copy, Debug, PartialEq, Eq, Hash)]
+#[derive(Clone, Copy, Debug, PartialEq, Eq)]
 pub struct NameFault {
     pub kind: NameKind,
     pub occurrence: NameRef,

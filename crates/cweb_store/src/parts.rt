@@ -10,7 +10,7 @@ pub mod list;
 use crate::names::NameRef;
 
 /// What a part belongs to.
-#[derive(Clone, Copy, Debug, PartialEq, Eq, Hash)]
+#[derive(Clone, Copy, Debug, PartialEq, Eq)]
 pub enum PartKind {
     /// The program itself.
     Unnamed,
@@ -34,7 +34,7 @@ impl PartKind {
 }
 
 /// A part: the numbers of its tokens, from the first up to the one after its last.
-#[derive(Clone, Copy, Debug, PartialEq, Eq, Hash)]
+#[derive(Clone, Copy, Debug, PartialEq, Eq)]
 pub struct Part {
     pub first: u32,
     pub after: u32,

@@ -13,7 +13,7 @@ use std::{fs, io};
 const PERMISSIONS: u32 = 0o777;
 
 /// What stands under an output's name.
-#[derive(Clone, Copy, Debug)]
+#[derive(Clone, Copy)]
 pub(crate) enum Standing {
     Nothing,
     /// A regular file and its permissions.
@@ -26,7 +26,7 @@ pub(crate) enum Standing {
 }
 
 /// How an output is written.
-#[derive(Clone, Copy, Debug, PartialEq, Eq)]
+#[derive(Clone, Copy)]
 pub(crate) enum Way {
     /// By a draft, which takes the place of what stands there: of a file with these permissions, where it is one.
     Draft(Option<u32>),

@@ -18,7 +18,7 @@ use cweb_lines::{FileNames, Sink, SinkFault, Stop};
 use cweb_out::{BinFault, Bins, Expander, Gathered, Printer};
 
 /// What stopped the writing of the outputs, and at which.
-#[derive(Clone, Copy, Debug)]
+#[derive(Clone, Copy)]
 pub(crate) struct Failed {
     pub(crate) stop: Stop,
     pub(crate) output: u32,

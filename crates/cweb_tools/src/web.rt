@@ -10,7 +10,7 @@ use cweb_scan::Scanned;
 use cweb_store::{Parts, Store};
 
 /// How many sections, names and macros a web has.
-#[derive(Clone, Copy, Debug)]
+#[derive(Clone, Copy)]
 pub(crate) struct Numbers {
     pub(crate) sections: u32,
     pub(crate) names: u32,

@@ -3,7 +3,7 @@ ghost use Rattle.std.specs.Prelude.{◌≡◌};
 ghost use Rattle.cweb_lines.specs.Change as spec;
 
 /// A code line of a change file, by the part of an entry that it begins or ends.
-#[derive(Clone, Copy, Debug, PartialEq, Eq)]
+#[derive(Clone, Copy, PartialEq, Eq)]
 pub enum Code {
     /// `@x`: the old lines begin.
     OldSide,

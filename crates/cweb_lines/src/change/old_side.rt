@@ -23,7 +23,7 @@ use cweb_files::{Place, Shelf};
 use std::mem::swap;
 
 /// What came of the old lines behind the first.
-#[derive(Clone, Copy, Debug, PartialEq, Eq)]
+#[derive(Clone, Copy)]
 pub struct Replaced {
     /// How many of them differ from the web's lines.
     pub unequal: u32,

@@ -22,7 +22,7 @@ use cweb_files::{Place, Shelf};
 use std::mem::swap;
 
 /// What one line of the change file comes to in a search.
-#[derive(Clone, Copy, Debug, PartialEq, Eq)]
+#[derive(Clone, Copy)]
 pub enum Look {
     /// It is the first old line of the entry whose `@x` line stands here.
     Entry(Place),

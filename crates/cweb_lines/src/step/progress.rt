@@ -37,7 +37,7 @@ impl<R: Drop> Run<R> {
         ensures yes { IsTrue result → NothingLeft self.now }
         ensures no { NothingLeft self.now → IsTrue result }
     {
-        self.stack.depth == 0 && self.stage == Stage::Done
+        self.stack.depth == 0 && matches!(self.stage, Stage::Done)
     }
 
     /// Whether the next line can be given without a read. It is not said where more may have to be read, as where a line

@@ -8,7 +8,7 @@ use crate::text::pieces::new_piece;
 use std::alloc::{AllocError, Global};
 
 /// Why a line could not be taken.
-#[derive(Clone, Copy, Debug, PartialEq, Eq)]
+#[derive(Clone, Copy)]
 pub enum LineFault {
     Read,
     TooLong,
@@ -24,7 +24,7 @@ impl From<AllocError> for LineFault {
 }
 
 /// How a line ended.
-#[derive(Clone, Copy, Debug, PartialEq, Eq)]
+#[derive(Clone, Copy)]
 pub enum Taken {
     /// There is no line.
     Ended,

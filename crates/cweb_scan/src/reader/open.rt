@@ -7,14 +7,14 @@ use cweb_files::Place;
 use cweb_rules::bytes::begins;
 
 /// The quote of a literal.
-#[derive(Clone, Copy, Debug, PartialEq, Eq)]
+#[derive(Clone, Copy)]
 pub enum Quote {
     Single,
     Double,
 }
 
 /// What is open where a line ended, with the place where it began.
-#[derive(Clone, Copy, Debug, PartialEq, Eq)]
+#[derive(Clone, Copy)]
 pub enum Open {
     /// Nothing.
     Between,

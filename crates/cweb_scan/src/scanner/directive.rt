@@ -8,7 +8,7 @@ ghost use Rattle.cweb_scan.specs.Kept as spec;
 use cweb_store::Token;
 
 /// What the last token is, as far as directives ask.
-#[derive(Clone, Copy, Debug, PartialEq, Eq)]
+#[derive(Clone, Copy)]
 pub enum Last {
     LineEnd,
     Backslash,
@@ -17,7 +17,7 @@ pub enum Last {
 }
 
 /// How far the directive has come: none is open; nothing but blanks after its `#`; `include` and blanks; more.
-#[derive(Clone, Copy, Debug, PartialEq, Eq)]
+#[derive(Clone, Copy)]
 pub enum Stage {
     Outside,
     Bare,

@@ -12,7 +12,7 @@ use cweb_store::Token;
 use std::alloc::AllocError;
 
 // What a first byte tells of its piece.
-#[derive(Clone, Copy, Debug, PartialEq, Eq)]
+#[derive(Clone, Copy)]
 enum Plain {
     Blank,
     Word,
