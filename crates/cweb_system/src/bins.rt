@@ -1,8 +1,9 @@
 // The files of the system's folders, as a place that keeps files. It tells no bytes.
-ghost use Rattle.std.specs.Prelude.{◌≡◌, ◌≤◌, ◌<◌, ◌+◌, ◌^◌, [], false, length, take, IfOk, IfErr};
+ghost use Rattle.std.specs.Prelude.{◌≡◌, ◌≤◌, ◌<◌, ◌+◌, ◌^◌, [], false, length, option_and_then, take, IfOk, IfErr, IsSome};
 ghost use Rattle.std.specs.Io.KnownBytes.{Appends};
 ghost use Rattle.cweb_files.specs.Device.{Counts};
 ghost use Rattle.cweb_out.specs.Bins.{CountsDevice};
+ghost use Rattle.cweb_system.specs.Devices.{target_bytes};
 
 use crate::drafts::{Draft, start_fault};
 use crate::files_read::FilesRead;
@@ -14,6 +15,8 @@ use cweb_out::{BinFault, Bins};
 use std::alloc::{AllocError, Global};
 use std::collections::BTreeMap;
 use std::fs;
+use std::fs::OpenFile;
+use std::io::Write;
 use std::rt::Files;
 
 /// A folder that can be opened for reading anywhere.
@@ -127,11 +130,7 @@ impl<'a, R: Files<File: Held> + Drop> FolderBins<'a, R> {
         ensures passes { IfOk result (λ n. Appends (output_bytes R.File.contents self.old)
             (output_bytes R.File.contents self.new) (take n piece.now)) }
     {
-        let Some(output) = &mut self.output else {
-            self.failed += 1;
-            return Err(SinkFault);
-        };
-        let taken = output.write(piece);
+        let taken = write_to(&mut self.output, piece);
         if taken.is_err() {
             self.give_up();
             self.failed += 1;
@@ -162,6 +161,24 @@ impl<'a, R: Files<File: Held> + Drop> FolderBins<'a, R> {
             None => return Err(BinFault::Device),
         }
         Ok(())
+    }
+}
+
+/// Adds bytes to an output, where one is open.
+fn write_to<F: Write + OpenFile + Held + Drop>(
+    output: &mut Option<Target<F>>,
+    piece: &[u8],
+) -> Result<usize, SinkFault>
+    ensures within { IfOk result (λ n. n ≤ length piece.now) }
+    ensures some { 0 < length piece.now → IfOk result (λ n. 0 < n) }
+    ensures begun { IfOk result (λ _. IsSome output.old) }
+    ensures passes { IfOk result (λ n. Appends
+        (option_and_then (target_bytes F.contents) output.old)
+        (option_and_then (target_bytes F.contents) output.new) (take n piece.now)) }
+{
+    match output {
+        Some(output) => output.write(piece),
+        None => Err(SinkFault),
     }
 }
 
