@@ -1,6 +1,6 @@
 // Places that keep files.
 use cweb_files::Sink;
-use cweb_out::{BinFault, Bins, MemoryBins};
+use cweb_out::{BinFault, BinFile, Bins, MemoryBins};
 use std::test::Fail;
 
 // A file is begun, written in pieces and committed or given up; false where a call failed.
@@ -26,11 +26,15 @@ fn has_files(bins: &MemoryBins, files: &[(&str, &[u8])]) -> bool {
         return false;
     }
     for (file, (name, bytes)) in bins.files().iter().zip(files) {
-        if file.name.as_str() != *name || file.bytes.as_slice() != *bytes {
+        if !is_file(file, name, bytes) {
             return false;
         }
     }
     true
+}
+
+fn is_file(file: &BinFile, name: &str, bytes: &[u8]) -> bool {
+    file.name.as_str() == name && file.bytes.as_slice() == bytes
 }
 
 #[test]

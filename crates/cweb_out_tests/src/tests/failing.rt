@@ -92,14 +92,24 @@ fn faults(rt: &impl Abort, alloc: Global, gathers: bool) -> Result<usize, Fail> 
     let mut shelf = MemoryShelf::new(alloc);
     let merger = merger(alloc, &mut shelf)?;
     let store = store(rt, alloc)?;
+    Ok(faults_of(rt, alloc, &store, merger.names(), gathers))
+}
+
+fn faults_of(
+    rt: &impl Abort,
+    alloc: Global,
+    store: &Store,
+    names: &FileNames,
+    gathers: bool,
+) -> usize {
     let mut faults: usize = 0;
     for good in 0..1000 {
-        if prints_all(rt, alloc, &store, merger.names(), gathers, good) {
+        if prints_all(rt, alloc, store, names, gathers, good) {
             break;
         }
         faults = faults.saturating_add(1);
     }
-    Ok(faults)
+    faults
 }
 
 // Run by `rt try --test --fail-alloc N` too, which refuses the Nth growth: then no token changes.

@@ -1,11 +1,12 @@
 // Webs with many names.
-ghost use Rattle.std.specs.Prelude.{◌≡◌, ◌≤◌, vec_capacity};
+ghost use Rattle.std.specs.Prelude.{◌≡◌, ◌≤◌, ◌<◌, length, vec_capacity};
 ghost use Rattle.cweb_out.specs.Frames.{Stands};
+ghost use Rattle.cweb_out.specs.Outputs.{IsPlanOf};
 
 use super::outputs::told;
 use super::webs::store_of;
-use cweb_out::{Expander, PlanFault, plan};
-use cweb_store::{NameId, Token};
+use cweb_out::{Expander, Plan, PlanFault, plan};
+use cweb_store::{NameId, Store, Token};
 use std::alloc::{AllocError, Global};
 use std::process::Abort;
 use std::test::Fail;
@@ -54,14 +55,33 @@ fn counted(rt: &impl Abort, expander: &mut Expander<'_>, calls: u32) -> (u32, u3
 }
 
 fn count(rt: &impl Abort, alloc: Global, web: &[u8], calls: u32) -> Result<(u32, u32), Fail> {
-    let store = store_of(rt, alloc, web)?;
-    match plan(alloc, &store, "s.c") {
-        Ok(plan) => {
-            let mut expander = Expander::new(alloc, &store, &plan, 0)?;
-            Ok(counted(rt, &mut expander, calls))
-        }
+    count_store(rt, alloc, &store_of(rt, alloc, web)?, calls)
+}
+
+fn count_store(
+    rt: &impl Abort,
+    alloc: Global,
+    store: &Store,
+    calls: u32,
+) -> Result<(u32, u32), Fail> {
+    match plan(alloc, store, "s.c") {
+        Ok(plan) => count_plan(rt, alloc, store, &plan, calls),
         Err(_) => Ok((0, 0)),
     }
+}
+
+fn count_plan(
+    rt: &impl Abort,
+    alloc: Global,
+    store: &Store,
+    plan: &Plan,
+    calls: u32,
+) -> Result<(u32, u32), Fail>
+    requires some { 0 < length plan.now.outputs }
+    requires made { IsPlanOf store.now plan.now }
+{
+    let mut expander = Expander::new(alloc, store, plan, 0)?;
+    Ok(counted(rt, &mut expander, calls))
 }
 
 // Each name uses the next one twice.

@@ -1,5 +1,5 @@
 // Runs over devices that fail, each call in turn: of the runs one after the other, those that leave what the run before left are
-// told once.
+// told once. Each run stands in a function of its own, which holds its devices alone.
 use super::failing::FailingBins;
 use super::told::{FILES, ROOM, told};
 use cweb_lines::MemorySink;
@@ -21,13 +21,77 @@ const HEADER: &str = "== a.h\n/*1:*/\n#line 2 \"f.w\"\n\nint m=\"x/*:1*/\n";
 /// More calls than a run makes.
 const CALLS: u64 = 400;
 
-/// Adds what a run left, unless the run before left the same.
-fn add(all: &mut String, last: &mut String, left: String) -> Result<(), AllocError> {
-    if left.as_str() != last.as_str() {
-        all.push_str(left.as_str())?;
+/// Runs in which a device fails, behind so many good calls.
+trait FailingRuns {
+    /// What such a run leaves.
+    fn left(&self, alloc: Global, good: u64) -> Result<String, AllocError>;
+}
+
+/// What the runs leave, one after the other, but for those that leave what the run before left.
+fn told_once<R: FailingRuns + Drop>(alloc: Global, runs: R) -> Result<String, AllocError> {
+    let mut all = String::new(alloc);
+    let mut last = String::new(alloc);
+    for good in 0..CALLS {
+        let left = runs.left(alloc, good)?;
+        if left.as_str() != last.as_str() {
+            all.push_str(left.as_str())?;
+        }
+        last = left;
     }
-    *last = left;
+    Ok(all)
+}
+
+/// A run over bins that fail behind so many good calls: what it logs and its status, and the bins.
+fn over_bins(
+    alloc: Global,
+    bins: MemoryBins,
+    good: u64,
+) -> Result<(MemorySink, u8, MemoryBins), AllocError> {
+    let mut shelf = shelf_of(alloc, &[("f.w", WEB)])?;
+    let mut log = MemorySink::with_room(alloc, ROOM)?;
+    let mut bins = FailingBins {
+        bins,
+        good,
+        failed: 0,
+    };
+    let status = run_ctangle(alloc, &["-bph", "f"], None, &mut shelf, &mut bins, &mut log);
+    Ok((log, status, bins.bins))
+}
+
+/// The calls of the bins fail.
+#[derive(Clone, Copy)]
+struct OfBins;
+
+impl FailingRuns for OfBins {
+    fn left(&self, alloc: Global, good: u64) -> Result<String, AllocError> {
+        let bins = MemoryBins::with_room(alloc, FILES, ROOM)?;
+        let (log, status, bins) = over_bins(alloc, bins, good)?;
+        told(alloc, log.bytes(), bins.files(), status)
+    }
+}
+
+#[test]
+fn each_call_of_the_bins_fails(rt: HostRuntime) -> Result<(), Fail> {
+    let alloc = rt.alloc();
+    let stop = "! Cannot open output file";
+    let fault = "! Write fault on";
+    let want = format!(in alloc;
+        "{FAULT}{stop} f.c\n== 1\n{FAULT}{fault} f.c\n== 1\n{FAULT}{stop} a.h\n{MAIN}== 1\n{FAULT}{fault} a.h\n{MAIN}== 1\n{FAULT}{MAIN}{HEADER}== 1\n"
+    )?;
+    assert_eq!(rt; told_once(alloc, OfBins)?.as_str(), want.as_str());
     Ok(())
+}
+
+/// The same over an old file of the main file's name: what is told is what stands there then.
+#[derive(Clone, Copy)]
+struct OverOldFile;
+
+impl FailingRuns for OverOldFile {
+    fn left(&self, alloc: Global, good: u64) -> Result<String, AllocError> {
+        let bins = old_bins(alloc)?;
+        let (_, _, bins) = over_bins(alloc, bins, good)?;
+        told(alloc, b"", bins.files(), 0)
+    }
 }
 
 /// Bins with an old file of the main file's name.
@@ -40,95 +104,57 @@ fn old_bins(alloc: Global) -> Result<MemoryBins, AllocError> {
 }
 
 #[test]
-fn each_call_of_the_bins_fails(rt: HostRuntime) -> Result<(), Fail> {
+fn an_old_file_stands_until_the_new_one_is_whole(rt: HostRuntime) -> Result<(), Fail> {
     let alloc = rt.alloc();
-    let mut all = String::new(alloc);
-    let mut last = String::new(alloc);
-    for good in 0..CALLS {
-        let mut shelf = shelf_of(alloc, &[("f.w", WEB)])?;
-        let mut log = MemorySink::with_room(alloc, ROOM)?;
-        let mut bins = FailingBins {
-            bins: MemoryBins::with_room(alloc, FILES, ROOM)?,
-            good,
-            failed: 0,
-        };
-        let status = run_ctangle(alloc, &["-bph", "f"], None, &mut shelf, &mut bins, &mut log);
-        let left = told(alloc, log.bytes(), bins.bins.files(), status)?;
-        add(&mut all, &mut last, left)?;
-    }
-    let stop = "! Cannot open output file";
-    let fault = "! Write fault on";
-    let want = format!(in alloc;
-        "{FAULT}{stop} f.c\n== 1\n{FAULT}{fault} f.c\n== 1\n{FAULT}{stop} a.h\n{MAIN}== 1\n{FAULT}{fault} a.h\n{MAIN}== 1\n{FAULT}{MAIN}{HEADER}== 1\n"
-    )?;
-    assert_eq!(rt; all.as_str(), want.as_str());
+    let want = format!(in alloc; "== f.c\n== 0\n{MAIN}== 0\n{MAIN}{HEADER}== 0\n")?;
+    assert_eq!(rt; told_once(alloc, OverOldFile)?.as_str(), want.as_str());
     Ok(())
 }
 
-#[test]
-fn an_old_file_stands_until_the_new_one_is_whole(rt: HostRuntime) -> Result<(), Fail> {
-    let alloc = rt.alloc();
-    let mut all = String::new(alloc);
-    let mut last = String::new(alloc);
-    for good in 0..CALLS {
-        let mut shelf = shelf_of(alloc, &[("f.w", WEB)])?;
+/// The reads fail.
+#[derive(Clone, Copy)]
+struct OfReads;
+
+impl FailingRuns for OfReads {
+    fn left(&self, alloc: Global, good: u64) -> Result<String, AllocError> {
+        let shelf = shelf_of(alloc, &[("f.w", WEB), ("i.ch", b"")])?;
+        let mut shelf = TrialShelf::failing_behind(shelf, good);
+        let mut bins = MemoryBins::with_room(alloc, FILES, ROOM)?;
         let mut log = MemorySink::with_room(alloc, ROOM)?;
-        let mut bins = FailingBins {
-            bins: old_bins(alloc)?,
-            good,
-            failed: 0,
-        };
-        let _ = run_ctangle(alloc, &["-bph", "f"], None, &mut shelf, &mut bins, &mut log);
-        let left = told(alloc, b"", bins.bins.files(), 0)?;
-        add(&mut all, &mut last, left)?;
+        let words = ["-bph", "f", "i"];
+        let status = run_ctangle(alloc, &words, None, &mut shelf, &mut bins, &mut log);
+        told(alloc, log.bytes(), bins.files(), status)
     }
-    let want = format!(in alloc; "== f.c\n== 0\n{MAIN}== 0\n{MAIN}{HEADER}== 0\n")?;
-    assert_eq!(rt; all.as_str(), want.as_str());
-    Ok(())
 }
 
 #[test]
 fn each_read_fails(rt: HostRuntime) -> Result<(), Fail> {
     let alloc = rt.alloc();
-    let mut all = String::new(alloc);
-    let mut last = String::new(alloc);
-    for good in 0..CALLS {
-        let shelf = shelf_of(alloc, &[("f.w", WEB), ("i.ch", b"")])?;
-        let mut shelf = TrialShelf::failing_behind(shelf, good);
-        let mut bins = MemoryBins::with_room(alloc, FILES, ROOM)?;
-        let mut log = MemorySink::with_room(alloc, ROOM)?;
-        let status = run_ctangle(
-            alloc,
-            &["-bph", "f", "i"],
-            None,
-            &mut shelf,
-            &mut bins,
-            &mut log,
-        );
-        let left = told(alloc, log.bytes(), bins.files(), status)?;
-        add(&mut all, &mut last, left)?;
-    }
     let want = format!(in alloc;
         "! Read fault on i.ch\n== 1\n! Read fault on f.w\n== 1\n{FAULT}{MAIN}{HEADER}== 1\n"
     )?;
-    assert_eq!(rt; all.as_str(), want.as_str());
+    assert_eq!(rt; told_once(alloc, OfReads)?.as_str(), want.as_str());
     Ok(())
+}
+
+/// The writes of the log fail: what is told is the files and the status.
+#[derive(Clone, Copy)]
+struct OfLog;
+
+impl FailingRuns for OfLog {
+    fn left(&self, alloc: Global, good: u64) -> Result<String, AllocError> {
+        let mut shelf = shelf_of(alloc, &[("f.w", WEB)])?;
+        let mut bins = MemoryBins::with_room(alloc, FILES, ROOM)?;
+        let mut log = TrialSink::failing_behind(alloc, ROOM, good)?;
+        let status = run_ctangle(alloc, &["f"], None, &mut shelf, &mut bins, &mut log);
+        told(alloc, b"", bins.files(), status)
+    }
 }
 
 #[test]
 fn each_write_of_the_log_fails(rt: HostRuntime) -> Result<(), Fail> {
     let alloc = rt.alloc();
-    let mut all = String::new(alloc);
-    let mut last = String::new(alloc);
-    for good in 0..CALLS {
-        let mut shelf = shelf_of(alloc, &[("f.w", WEB)])?;
-        let mut bins = MemoryBins::with_room(alloc, FILES, ROOM)?;
-        let mut log = TrialSink::failing_behind(alloc, ROOM, good)?;
-        let status = run_ctangle(alloc, &["f"], None, &mut shelf, &mut bins, &mut log);
-        let left = told(alloc, b"", bins.files(), status)?;
-        add(&mut all, &mut last, left)?;
-    }
     let want = format!(in alloc; "== 1\n{MAIN}== 1\n{MAIN}{HEADER}== 1\n")?;
-    assert_eq!(rt; all.as_str(), want.as_str());
+    assert_eq!(rt; told_once(alloc, OfLog)?.as_str(), want.as_str());
     Ok(())
 }
