@@ -38,26 +38,33 @@ pub fn show(rt: &impl Print, alloc: Global, shape: &str, count: u32, step: &str)
     let Some(shape) = Shape::of(shape) else {
         bail!("no such shape");
     };
-    let store = store(alloc, shape, count)?;
+    show_store(rt, alloc, &store(alloc, shape, count)?, step)
+}
+
+fn show_store(rt: &impl Print, alloc: Global, store: &Store, step: &str) -> Result<()> {
     let tokens = store.tokens();
     let names = store.names();
     println!(rt; "{names} names, {tokens} tokens")?;
     if step == "build" {
         return Ok(());
     }
-    printing::show(rt, alloc, &store, step)
+    printing::show(rt, alloc, store, step)
 }
 
 // A store of a shape, with so many names, parts or uses.
 fn store(alloc: Global, shape: Shape, count: u32) -> Result<Store> {
     let mut calls = Calls::new(alloc);
+    fill(&mut calls, shape, count)?;
+    calls.finish()
+}
+
+fn fill(calls: &mut Calls, shape: Shape, count: u32) -> Result<()> {
     calls.open(PartKind::Unnamed)?;
     match shape {
-        Shape::Chain => chain(&mut calls, count)?,
-        Shape::Parts => parts(&mut calls, count)?,
-        Shape::Uses => uses(&mut calls, count)?,
+        Shape::Chain => chain(calls, count),
+        Shape::Parts => parts(calls, count),
+        Shape::Uses => uses(calls, count),
     }
-    calls.finish()
 }
 
 fn chain(calls: &mut Calls, count: u32) -> Result<()> {

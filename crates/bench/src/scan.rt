@@ -2,7 +2,7 @@
 
 use anyhow::Result;
 use cweb_lines::{MemoryShelf, MemorySink, Merger, write_merged};
-use cweb_scan::scan;
+use cweb_scan::{Scanned, scan};
 use std::alloc::Global;
 use std::fmt;
 use std::fmt::{Display, Formatter, Write};
@@ -20,6 +20,18 @@ pub struct Counts {
     faults: usize,
 }
 
+impl Counts {
+    fn of(made: &Scanned) -> Counts {
+        Counts {
+            sections: made.sections,
+            tokens: made.store.tokens(),
+            bytes: made.store.text_bytes(),
+            names: made.store.names(),
+            faults: made.faults.len(),
+        }
+    }
+}
+
 impl Display for Counts {
     fn fmt<W: Write>(&self, f: &mut Formatter<W>) -> fmt::Result {
         write!(
@@ -34,14 +46,7 @@ impl Display for Counts {
 pub fn scanned(alloc: Global, shelf: MemoryShelf) -> Result<Counts> {
     let mut shelf = shelf;
     let mut merger = Merger::start(alloc, &mut shelf, WEB, None, None, None)?;
-    let made = scan(alloc, &mut merger, &mut shelf)?;
-    Ok(Counts {
-        sections: made.sections,
-        tokens: made.store.tokens(),
-        bytes: made.store.text_bytes(),
-        names: made.store.names(),
-        faults: made.faults.len(),
-    })
+    Ok(Counts::of(&scan(alloc, &mut merger, &mut shelf)?))
 }
 
 /// Writes the merged lines of the web of a shelf, and says how many bytes they have with their line ends.

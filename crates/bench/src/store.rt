@@ -48,13 +48,24 @@ pub fn show(rt: &impl Print, alloc: Global, shape: &str, count: u32, step: &str)
     };
     match step {
         "draw" => show_drawn(rt, alloc, count),
-        "give" => {
-            filled(alloc, shape, count)?;
-            Ok(())
-        }
-        "finish" => show_store(rt, &filled(alloc, shape, count)?.finish()?),
-        _ => show_asked(rt, &filled(alloc, shape, count)?.finish()?, shape, count),
+        "give" => give(alloc, shape, count),
+        "finish" => show_finished(rt, alloc, shape, count),
+        _ => show_asked(rt, alloc, shape, count),
     }
+}
+
+// Gives all, and lets it go.
+fn give(alloc: Global, shape: Shape, count: u32) -> Result<()> {
+    filled(alloc, shape, count)?;
+    Ok(())
+}
+
+fn show_finished(rt: &impl Print, alloc: Global, shape: Shape, count: u32) -> Result<()> {
+    show_store(rt, &finished(alloc, shape, count)?)
+}
+
+fn show_asked(rt: &impl Print, alloc: Global, shape: Shape, count: u32) -> Result<()> {
+    show_answers(rt, &finished(alloc, shape, count)?, shape, count)
 }
 
 fn show_drawn(rt: &impl Print, alloc: Global, count: u32) -> Result<()> {
@@ -72,7 +83,7 @@ fn show_store(rt: &impl Print, store: &Store) -> Result<()> {
     Ok(())
 }
 
-fn show_asked(rt: &impl Print, store: &Store, shape: Shape, count: u32) -> Result<()> {
+fn show_answers(rt: &impl Print, store: &Store, shape: Shape, count: u32) -> Result<()> {
     show_store(rt, store)?;
     let answered = answers::of(store, shape, count);
     println!(rt; "{answered} answered")?;
@@ -115,6 +126,11 @@ fn filled(alloc: Global, shape: Shape, count: u32) -> Result<Calls> {
     let mut calls = Calls::new(alloc);
     fill(&mut calls, shape, &vocabulary, count)?;
     Ok(calls)
+}
+
+// The store of so many Words, names or parts.
+fn finished(alloc: Global, shape: Shape, count: u32) -> Result<Store> {
+    filled(alloc, shape, count)?.finish()
 }
 
 fn fill(calls: &mut Calls, shape: Shape, vocabulary: &[u8], count: u32) -> Result<()> {
