@@ -1,18 +1,9 @@
 -- The last byte of a punctuator.
-use Rattle.std.proofs.Common.{◌≡◌, ◌==◌, ◌-◌, ℕ, suc, Bool, true, List, [], ◌∷◌, Some, ◌∙◌, ap, arith, length, slice_get}
+use Rattle.std.proofs.Common.{◌≡◌, ◌==◌, ◌-◌, ℕ, true, List, [], ◌∷◌, Some, ◌∙◌, ap, length, slice_get}
 use Rattle.std.proofs.lemmas.Bool.{eqb-true}
+use Rattle.cweb_store.proofs.BorderLemmas.{last_is-at}
 use Rattle.cweb_out.specs.Spacing.{last_is, is_operator}
 use Rattle.cweb_out.specs.Classes.{class_by, punct_class}
-
-last_of_list : (p : ℕ → Bool) (b : ℕ) (bs : List ℕ) (x : ℕ)
-    → slice_get (b ∷ bs) (length bs) ≡ Some x → last_is p (b ∷ bs) ≡ p x
-last_of_list p b [] x h = cc
-last_of_list p b (c ∷ bs) x h = last_of_list p c bs x h
-
-last_is-at : (p : ℕ → Bool) (bs : List ℕ) (x : ℕ) → slice_get bs (length bs - 1) ≡ Some x → last_is p bs ≡ p x
-last_is-at p [] x h = cc
-last_is-at p (b ∷ bs) x h =
-    let e : length bs ≡ suc (length bs) - 1 = omega arith in last_of_list p b bs x (ap (slice_get (b ∷ bs)) e ∙ h)
 
 pub punct-last : (bs : List ℕ) (x : ℕ) → slice_get bs (length bs - 1) ≡ Some x
     → punct_class bs ≡ class_by (x == 46) (is_operator x)

@@ -1,6 +1,7 @@
 -- A text is its first bytes, up to where its last ones begin, and these.
-use Rattle.std.proofs.Common.{◌≡◌, ◌≤◌, ◌+◌, ◌-◌, ◌++◌, ◌∙◌, ℕ, List, length, take, drop, sym, ap, arith}
+use Rattle.std.proofs.Common.{◌≡◌, ◌≤◌, ◌+◌, ◌-◌, ◌++◌, ◌∙◌, ℕ, List, length, take, drop, sym, ap, arith, rules, length-drop}
 use Rattle.std.proofs.lemmas.List.{append_assoc, length-take-le, take-append-drop, take-append-le}
+use Rattle.std.proofs.lemmas.Slice.{between_is}
 use Rattle.std.proofs.Math.Seq.{take-append-add}
 
 -- of the first bytes of a text those that are first
@@ -8,6 +9,10 @@ taken_twice : (m n : ℕ) (text : List ℕ) → m ≤ n → n ≤ length text �
 taken_twice m n text below within =
     sym (take-append-le m (take n text) (drop n text) (omega (arith, below, length-take-le n text within)))
     ∙ ap (take m) (take-append-drop n text)
+
+-- of what is behind the first bytes those up to a place
+taken_behind : (bytes : List ℕ) (used count : ℕ) → take (used - count) (drop count bytes) ≡ drop count (take used bytes)
+taken_behind bytes used count = search (rules, between_is)
 
 pub overlapped : (before text : List ℕ) (n : ℕ) → n ≤ length text → length text ≤ n + n
     → take (length before + (length text - n)) (before ++ take n text) ++ drop (length text - n) text
@@ -18,3 +23,10 @@ overlapped before text n least most =
     ∙ ap (λ (front : List ℕ). before ++ front) (taken_twice m n text (omega (arith, most)) least))
     ∙ append_assoc before (take m text) (drop m text)
     ∙ ap (λ (all : List ℕ). before ++ all) (take-append-drop m text)
+
+-- bytes that were turned round, of which the rest behind the first ones is now in front
+pub rest_in_front : (bytes : List ℕ) (used count : ℕ) → count ≤ used → used ≤ length bytes
+    → take (used - count) (drop count bytes ++ take count bytes) ≡ drop count (take used bytes)
+rest_in_front bytes used count below within =
+    take-append-le (used - count) (drop count bytes) (take count bytes) (omega (arith, within, length-drop count bytes))
+    ∙ taken_behind bytes used count

@@ -7,6 +7,7 @@ pub mod Spacing
 pub mod Printing
 pub mod Writing
 pub mod Classes
+pub mod Borders
 pub mod Lent
 pub mod Printers
 pub mod Printed

@@ -1,23 +1,7 @@
 -- Whether a blank comes between two tokens that are printed one after the other.
-use Rattle.std.specs.Prelude.{ℕ, Bool, true, false, ◌||◌, ◌&&◌, ◌==◌, not, List, [], ◌∷◌, codes, if◌then◌else◌, Option, Some, None}
-use Rattle.std.specs.List.{list_any}
+use Rattle.std.specs.Prelude.{ℕ, Bool, true, false, ◌||◌, ◌&&◌, ◌==◌, not, List, [], codes, if◌then◌else◌, Option, Some, None}
+pub use Rattle.cweb_store.specs.Borders.{first_is, is_one_of, is_operator, last_is}
 use Rattle.cweb_store.specs.Parts.{Token, Word, Number, Literal, Verbatim, Punct, Join, Head, Tail}
-
-abbrev pub is_one_of : List ℕ → ℕ → Bool
-is_one_of bytes b = list_any (λ x. x == b) bytes
-
--- bytes that may join with one another to a longer operator
-abbrev pub is_operator : ℕ → Bool
-is_operator b = is_one_of (codes "+-*/%&|^!=<>.:#?") b
-
-abbrev pub first_is : (ℕ → Bool) → List ℕ → Bool
-first_is test [] = false
-first_is test (b ∷ bytes) = test b
-
-abbrev pub last_is : (ℕ → Bool) → List ℕ → Bool
-last_is test [] = false
-last_is test (b ∷ []) = test b
-last_is test (b ∷ c ∷ bytes) = last_is test (c ∷ bytes)
 
 abbrev pub is_wordlike : Token → Bool
 is_wordlike (Word b) = true

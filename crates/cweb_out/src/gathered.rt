@@ -1,11 +1,10 @@
 // Printed bytes, gathered before a sink has them.
-ghost use Rattle.std.specs.Prelude.{◌≡◌, ◌≤◌, ◌<◌, ◌+◌, ◌^◌, ◌++◌, [], length, take, nat_lt, true, false, IfOk, IfErr, IsTrue, OnOk};
+ghost use Rattle.std.specs.Prelude.{◌≡◌, ◌≤◌, ◌<◌, ◌+◌, ◌^◌, ◌++◌, ◌∷◌, [], length, take, drop, nat_lt, true, false, IfOk, IfErr, IsTrue, OnOk};
 ghost use Rattle.cweb_files.specs.Device.{Counts};
 ghost use Rattle.cweb_out.specs.Gathering.{Moved};
 ghost use Rattle.cweb_out.specs.Lent.{blank_where};
 ghost use Rattle.cweb_out.specs.declared.gathered.TheConstants.{ROOM, SHORT};
 
-use crate::reserved::put_all;
 use cweb_files::{Sink, SinkFault};
 use std::alloc::{AllocError, Global};
 use std::marker::Model;
@@ -19,18 +18,20 @@ pub(crate) const SHORT: usize = 256;
 /// What was printed and no sink has yet. Room for it is set aside when it is made, and no memory is taken after that.
 #[derive(Drop)]
 pub struct Gathered {
+    // ROOM of them, of which the first ones are gathered
     bytes: Vec<u8>,
+    used: usize,
 }
 
 impl Model for Gathered {
-    ghost use Rattle.std.specs.Prelude.{◌≤◌, ℕ, List, vec_capacity};
+    ghost use Rattle.std.specs.Prelude.{◌≡◌, ◌≤◌, ℕ, List, length, take};
     ghost use Rattle.cweb_out.specs.declared.gathered.TheConstants.{ROOM};
 
     ghost Value = { List ℕ };
 
-    ghost view = { λ g. g.bytes.items };
+    ghost view = { λ g. take g.used g.bytes.items };
 
-    ghost invariant = { λ g. ROOM ≤ vec_capacity g.bytes };
+    ghost invariant = { λ g. (length g.bytes.items ≡ ROOM) × (g.used ≤ ROOM) };
 }
 
 impl Gathered {
@@ -39,7 +40,8 @@ impl Gathered {
         ensures { IfOk result (λ gathered. gathered ≡ []) }
     {
         Ok(Gathered {
-            bytes: Vec::with_capacity(alloc, ROOM)?,
+            bytes: Vec::from_elem(alloc, 0, ROOM)?,
+            used: 0,
         })
     }
 
@@ -47,7 +49,7 @@ impl Gathered {
     pub fn clear(&mut self)
         ensures { self.new ≡ [] }
     {
-        self.bytes.clear();
+        self.used = 0;
     }
 
     /// Lets a sink have what is gathered. After a fault what the sink has not is still gathered.
@@ -60,16 +62,25 @@ impl Gathered {
             → Moved (W.written out.old) self.old (W.written out.new) self.new }
         ensures empty { OnOk result (self.new ≡ []) }
     {
-        match write_front(out, self.bytes.as_slice()) {
+        match write_front(out, &self.bytes[..self.used]) {
             Ok(()) => {
-                self.bytes.clear();
+                self.used = 0;
                 Ok(())
             }
             Err(taken) => {
-                self.bytes.drain(..taken);
+                self.drop_front(taken);
                 Err(SinkFault)
             }
         }
+    }
+
+    // Drops the first bytes.
+    fn drop_front(&mut self, count: usize)
+        requires { count ≤ length self.old }
+        ensures { self.new ≡ drop count self.old }
+    {
+        self.bytes.rotate_left(count);
+        self.used -= count;
     }
 
     /// Lets a sink have what is gathered, unless there is room for a short text behind it.
@@ -82,7 +93,7 @@ impl Gathered {
             → Moved (W.written out.old) self.old (W.written out.new) self.new }
         ensures room { OnOk result (length self.new + SHORT ≤ ROOM) }
     {
-        if self.bytes.len() + SHORT <= ROOM {
+        if self.used + SHORT <= ROOM {
             return Ok(());
         }
         self.flush(out)
@@ -95,19 +106,11 @@ impl Gathered {
         ensures { self.new ≡ self.old ++ text.now }
     {
         match text {
-            [byte] => self.bytes.push_reserved(*byte),
-            [first, second] => {
-                self.bytes.push_reserved(*first);
-                self.bytes.push_reserved(*second);
-            }
-            [first, second, third] => {
-                self.bytes.push_reserved(*first);
-                self.bytes.push_reserved(*second);
-                self.bytes.push_reserved(*third);
-            }
+            [byte] => self.put_byte(*byte),
+            [_, _, ..] if text.len() <= 4 => self.add_ends::<2>(text),
             [_, _, _, _, ..] if text.len() <= 8 => self.add_ends::<4>(text),
-            [_, _, _, _, ..] if text.len() <= 16 => self.add_ends::<8>(text),
-            _ => put_all(&mut self.bytes, text),
+            [_, _, _, _, _, _, _, _, ..] if text.len() <= 16 => self.add_ends::<8>(text),
+            _ => self.put_at(self.used, text),
         }
     }
 
@@ -120,16 +123,36 @@ impl Gathered {
         requires most { length text.now ≤ N + N }
         ensures { self.new ≡ self.old ++ text.now }
     {
-        let begin = self.bytes.len() + (text.len() - N);
+        let used = self.used;
         let Some(first) = text.first_chunk::<N>() else {
             unreachable!();
         };
         let Some(last) = text.last_chunk::<N>() else {
             unreachable!();
         };
-        put_all(&mut self.bytes, first);
-        self.bytes.truncate(begin);
-        put_all(&mut self.bytes, last);
+        self.put_at(used, first);
+        self.put_at(used + (text.len() - N), last);
+    }
+
+    // Puts bytes behind the first ones that are gathered, in place of those that stand there.
+    #[inline(always)]
+    fn put_at(&mut self, begin: usize, bytes: &[u8])
+        requires behind { begin ≤ length self.old }
+        requires room { begin + length bytes.now ≤ ROOM }
+        ensures { self.new ≡ take begin self.old ++ bytes.now }
+    {
+        let end = begin + bytes.len();
+        self.bytes[begin..end].copy_from_slice(bytes);
+        self.used = end;
+    }
+
+    #[inline(always)]
+    fn put_byte(&mut self, byte: u8)
+        requires { length self.old < ROOM }
+        ensures { self.new ≡ self.old ++ byte ∷ [] }
+    {
+        self.bytes[self.used] = byte;
+        self.used += 1;
     }
 
     /// Adds a text, behind a blank or not, where there is room for both, and answers whether there is.
@@ -140,11 +163,11 @@ impl Gathered {
             → self.new ≡ self.old ++ (blank_where is_apart ++ text.now) }
         ensures full { result ≡ false → self.new ≡ self.old }
     {
-        if self.bytes.len() + text.len() >= ROOM {
+        if self.used + text.len() >= ROOM {
             return false;
         }
         if is_apart {
-            self.bytes.push_reserved(b' ');
+            self.put_byte(b' ');
         }
         self.add(text);
         true

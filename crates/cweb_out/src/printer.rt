@@ -8,6 +8,7 @@ ghost use Rattle.cweb_out.specs.Printers.{IsNamed, setting};
 ghost use Rattle.cweb_out.specs.Printed.{Ends, Moves, Prints, kept_of, setting_of};
 ghost use Rattle.cweb_out.specs.Writing.{Wrote};
 
+pub mod borders;
 pub mod class;
 pub mod finishing;
 pub mod gathering;

@@ -10,6 +10,7 @@ pub mod Seen
 pub mod Made
 pub mod Runs
 pub mod Texts
+pub mod Borders
 pub mod PackedTexts
 pub mod ClosedTokens
 pub mod Next

@@ -35,3 +35,4 @@ pub use parts::iter::Parts;
 pub use parts::{Part, PartKind};
 pub use store::Store;
 pub use tokens::Token;
+pub use tokens::borders::{Border, LentText};

@@ -1,6 +1,7 @@
 // The store.
 
 pub(crate) mod answers;
+pub mod lending;
 
 ghost use Rattle.std.specs.Prelude.{◌≡◌, ◌<◌, ◌≤◌, ◌↔◌, length, slice_get, option_map, Some, None, IfOk, IfSome, IsTrue, All};
 ghost use Rattle.cweb_store.specs.Names as spec;

@@ -1,5 +1,6 @@
 // Tokens, as they are handed in and lent out.
 
+pub mod borders;
 pub mod closed;
 pub mod kept;
 pub mod layout;

@@ -1,6 +1,7 @@
 // What stores answer, of rows of builder calls that are written as text.
 
 mod growth;
+mod lending;
 mod lists;
 mod long;
 mod names;

@@ -12,8 +12,9 @@ use crate::names::standing::add_name_at;
 use crate::names::{NameId, NameKind};
 use crate::parts::Part;
 use crate::tokens::Token;
+use crate::tokens::borders::LentText;
 use crate::tokens::noted::{Noted, next_noted};
-use crate::tokens::packed::lend;
+use crate::tokens::packed::{lend, lent};
 use crate::tokens::records::Records;
 use crate::tokens::texts::PackedTexts;
 use indexmap::IndexSet;
@@ -42,7 +43,8 @@ impl Model for ClosedTokens {
 }
 
 impl ClosedTokens {
-    ghost use Rattle.std.specs.Prelude.{◌++◌};
+    ghost use Rattle.std.specs.Prelude.{◌++◌, option_map};
+    ghost use Rattle.cweb_store.specs.Borders.{lends, lent_seen};
     ghost use Rattle.cweb_store.specs.Seen.{seen};
 
     /// Adds another text. It takes the next number, from 0.
@@ -61,6 +63,17 @@ impl ClosedTokens {
     {
         let packed = self.records.get(number);
         lend(&self.texts, packed)
+    }
+
+    /// What the token with a number lends.
+    #[inline(always)]
+    pub fn lent(&self, number: usize) -> Option<LentText<'_>>
+        requires { number < length self.now.tokens }
+        ensures { option_map lends (slice_get self.now.tokens number)
+            ≡ Some (option_map lent_seen result) }
+    {
+        let packed = self.records.get(number);
+        lent(&self.texts, packed)
     }
 
     pub fn len(&self) -> usize

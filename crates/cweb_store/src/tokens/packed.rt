@@ -1,12 +1,15 @@
 // Tokens that have their texts by number.
 
-ghost use Rattle.std.specs.Prelude.{◌≡◌, ◌<◌, ◌+◌, length, IfOk, OnErr};
+ghost use Rattle.std.specs.Prelude.{◌≡◌, ◌<◌, ◌+◌, length, IfOk, OnErr, option_map};
+ghost use Rattle.cweb_store.specs.Borders.{lends, lent_seen};
+ghost use Rattle.cweb_store.specs.Parts as spec;
 ghost use Rattle.cweb_store.specs.Calls.{too_many};
-ghost use Rattle.cweb_store.specs.Packed.{IsWithin, Packs, token_in};
+ghost use Rattle.cweb_store.specs.Packed.{IsWithin, Packs, text_at, token_in};
 ghost use Rattle.cweb_store.specs.Seen.{seen};
 
 use crate::names::NameRef;
 use crate::tokens::Token;
+use crate::tokens::borders::{Border, LentText, untold_sign, untold_word};
 use crate::tokens::kept::KeptTexts;
 use crate::tokens::texts::PackedTexts;
 use cweb_files::Place;
@@ -74,5 +77,65 @@ pub fn lend(texts: &PackedTexts, packed: Packed) -> Token<'_>
         Packed::Head(section) => Token::Head(section),
         Packed::Tail(section) => Token::Tail(section),
         Packed::Mark(place) => Token::Mark(place),
+    }
+}
+
+/// What a record lends. No byte is looked at where the border of the text is kept.
+#[inline(always)]
+pub fn lent(texts: &PackedTexts, packed: Packed) -> Option<LentText<'_>>
+    requires { IsWithin (length texts.now) packed }
+    ensures { option_map lent_seen result ≡ lends (token_in texts.now packed) }
+{
+    match packed {
+        Packed::Word(number) => lent_word(texts, number as usize),
+        Packed::Number(number) => Some(LentText {
+            text: texts.text(number as usize),
+            border: Border::Number,
+        }),
+        Packed::Literal(number) => Some(LentText {
+            text: texts.text(number as usize),
+            border: Border::Literal,
+        }),
+        Packed::Verbatim(number) => Some(LentText {
+            text: texts.text(number as usize),
+            border: Border::Glue,
+        }),
+        Packed::Punct(number) => lent_sign(texts, number as usize),
+        Packed::Blank => Some(LentText {
+            text: b" ",
+            border: Border::Blank,
+        }),
+        Packed::Newline => Some(LentText {
+            text: b"\n",
+            border: Border::LineEnd,
+        }),
+        _ => None,
+    }
+}
+
+#[inline(always)]
+fn lent_word(texts: &PackedTexts, number: usize) -> Option<LentText<'_>>
+    requires { number < length texts.now }
+    ensures { option_map lent_seen result ≡ lends (spec.Word (text_at texts.now number)) }
+{
+    let text = texts.text(number);
+    match texts.border(number) {
+        Border::Untold => untold_word(text),
+        _ => Some(LentText {
+            text,
+            border: Border::Word,
+        }),
+    }
+}
+
+#[inline(always)]
+fn lent_sign(texts: &PackedTexts, number: usize) -> Option<LentText<'_>>
+    requires { number < length texts.now }
+    ensures { option_map lent_seen result ≡ lends (spec.Punct (text_at texts.now number)) }
+{
+    let text = texts.text(number);
+    match texts.border(number) {
+        Border::Untold => untold_sign(text),
+        border => Some(LentText { text, border }),
     }
 }

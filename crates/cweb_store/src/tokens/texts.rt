@@ -1,29 +1,33 @@
 // Texts in one list of bytes.
 
-ghost use Rattle.std.specs.Prelude.{◌≡◌, ◌<◌, ◌+◌, ◌++◌, ◌∷◌, [], length, take, slice_get, Some, IfOk, OnOk, OnErr};
+ghost use Rattle.std.specs.Prelude.{◌≡◌, ◌<◌, ◌+◌, ◌++◌, ◌∷◌, [], List, ℕ, length, take, slice_get, Some, IfOk, OnOk, OnErr};
+ghost use Rattle.cweb_store.specs.Borders.{IsTold};
 ghost use Rattle.cweb_store.specs.PackedTexts.{begin_of, text_bytes};
 
 use crate::reserved::put;
+use crate::tokens::borders::{Border, border_of};
 use std::alloc::{AllocError, Global};
 use std::marker::Model;
 
-/// Texts, numbered from 0. They stand one after another in a list of bytes; of each is known where it ends.
+/// Texts, numbered from 0. They stand one after another in a list of bytes; of each is known where it ends, and of a word its
+/// border.
 #[derive(Drop)]
 pub struct PackedTexts {
     bytes: Vec<u8>,
     ends: Vec<usize>,
+    borders: Vec<Border>,
 }
 
 impl Model for PackedTexts {
-    ghost use Rattle.std.specs.Prelude.{List, ℕ, length};
+    ghost use Rattle.std.specs.Prelude.{List, ℕ};
 
     ghost Value = { List (List ℕ) };
 
-    ghost use Rattle.cweb_store.specs.PackedTexts.{texts_from, AreEnds};
+    ghost use Rattle.cweb_store.specs.PackedTexts.{texts_from, AreKeptTexts};
 
     ghost view = { λ s. texts_from s.bytes.items 0 s.ends.items };
 
-    ghost invariant = { λ s. AreEnds 0 s.ends.items (length s.bytes.items) };
+    ghost invariant = { λ s. AreKeptTexts s.bytes.items s.ends.items s.borders.items };
 }
 
 impl PackedTexts {
@@ -33,6 +37,7 @@ impl PackedTexts {
         PackedTexts {
             bytes: Vec::new(alloc),
             ends: Vec::new(alloc),
+            borders: Vec::new(alloc),
         }
     }
 
@@ -48,10 +53,30 @@ impl PackedTexts {
         ensures added { OnOk result (self.new ≡ self.old ++ text.now ∷ []) }
         ensures err { OnErr result (self.new ≡ self.old) }
     {
+        self.add_told(text, Border::Untold)
+    }
+
+    /// The same, and keeps its border.
+    pub fn add_word(&mut self, word: &[u8]) -> Result<usize, AllocError>
+        ensures number { IfOk result (λ number. number ≡ length self.old) }
+        ensures added { OnOk result (self.new ≡ self.old ++ word.now ∷ []) }
+        ensures err { OnErr result (self.new ≡ self.old) }
+    {
+        self.add_told(word, border_of(word))
+    }
+
+    fn add_told(&mut self, text: &[u8], border: Border) -> Result<usize, AllocError>
+        requires { IsTold text.now border }
+        ensures number { IfOk result (λ number. number ≡ length self.old) }
+        ensures added { OnOk result (self.new ≡ self.old ++ text.now ∷ []) }
+        ensures err { OnErr result (self.new ≡ self.old) }
+    {
         self.ends.reserve(1)?;
+        self.borders.reserve(1)?;
         self.bytes.extend_from_slice(text)?;
         let number = self.ends.len();
         put(&mut self.ends, self.bytes.len());
+        put(&mut self.borders, border);
         Ok(number)
     }
 
@@ -62,6 +87,7 @@ impl PackedTexts {
     {
         self.bytes.truncate(begin_of(self.ends.as_slice(), count));
         self.ends.truncate(count);
+        self.borders.truncate(count);
     }
 
     /// The text with a number.
@@ -71,6 +97,15 @@ impl PackedTexts {
     {
         let begin = begin_of(self.ends.as_slice(), number);
         &self.bytes[begin..self.ends[number]]
+    }
+
+    /// What is kept of the border of the text with a number.
+    #[inline(always)]
+    pub fn border(&self, number: usize) -> Border
+        requires { number < length self.now }
+        ensures { (text : List ℕ) → slice_get self.now number ≡ Some text → IsTold text result }
+    {
+        self.borders[number]
     }
 
     /// The text with a number, counted from another.

@@ -115,7 +115,7 @@ impl WordTexts {
         ensures ok { IfOk result (λ number. KeepsWord self.old word.now number self.new) }
         ensures err { OnErr result (self.new ≡ self.old) }
     {
-        let number = self.texts.add(word)?;
+        let number = self.texts.add_word(word)?;
         if place_word(&mut self.slots, key, number, word.len()) {
             self.room = self.room.saturating_sub(1);
             return Ok(number);

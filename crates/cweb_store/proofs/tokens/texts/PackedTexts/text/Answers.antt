@@ -28,7 +28,7 @@ slice_bounds-result-count c =
       arith,
       begin,
       c.index.ensures,
-      (ends-at 0 (length s.bytes.items) s.ends.items c.args.number e c.self.invariant within).0,
+      (ends-at 0 (length s.bytes.items) s.ends.items c.args.number e c.self.invariant.ends_at within).0,
     )
 
 pub slice_bounds-result-start : goal.slice_bounds-result-start
@@ -43,7 +43,7 @@ slice_bounds-result-start c =
       arith,
       begin,
       c.index.ensures,
-      (ends-at 0 (length s.bytes.items) s.ends.items c.args.number e c.self.invariant within).0,
+      (ends-at 0 (length s.bytes.items) s.ends.items c.args.number e c.self.invariant.ends_at within).0,
     )
 
 pub slice_bounds-result-end : goal.slice_bounds-result-end
@@ -56,7 +56,7 @@ slice_bounds-result-end c =
       arith,
       c.index.ensures,
       ap length c.deref.ensures.value,
-      (ends-at 0 (length s.bytes.items) s.ends.items c.args.number e c.self.invariant within).1,
+      (ends-at 0 (length s.bytes.items) s.ends.items c.args.number e c.self.invariant.ends_at within).1,
     )
 
 pub returns : goal.returns

@@ -6,5 +6,5 @@ use Rattle.cweb_store.proofs.tokens.texts.PackedTexts.text_bytes.Goals as goal
 pub returns : goal.returns
 returns c =
     let s = c.self.inside in
-    c.len.ensures ∙ s.bytes.ok.0 ∙ bytes-count s.bytes.items s.ends.items c.self.invariant
+    c.len.ensures ∙ s.bytes.ok.0 ∙ bytes-count s.bytes.items s.ends.items c.self.invariant.ends_at
     ∙ ap (λ ts. length (text_bytes ts)) c.self.view_is

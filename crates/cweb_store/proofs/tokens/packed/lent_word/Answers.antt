@@ -1,0 +1,12 @@
+use Rattle.std.proofs.Common.{rules, ◌≡◌, true}
+use Rattle.cweb_store.specs.Borders.{is_told}
+use Rattle.cweb_store.proofs.BorderLemmas.{word-lends}
+use Rattle.cweb_store.proofs.PackedLemmas.{get-text}
+use Rattle.cweb_store.proofs.tokens.packed.lent_word.Goals as goal
+
+pub returns-in_default : goal.returns-in_default
+returns-in_default c =
+    let t = c.text-text.result.now in
+    let told : is_told c.border.result ≡ true = search rules in
+    rw (get-text c.args.texts.now c.args.number t c.text-text.ensures)
+    (word-lends t c.border.result (c.border.ensures t c.text-text.ensures) told)

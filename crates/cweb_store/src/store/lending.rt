@@ -1,0 +1,20 @@
+// What a store's tokens lend.
+
+ghost use Rattle.std.specs.Prelude.{◌≡◌, ◌<◌, length, option_map, slice_get, Some};
+ghost use Rattle.cweb_store.specs.Borders.{lends, lent_seen};
+ghost use Rattle.cweb_store.specs.Parts.{all_tokens};
+
+use crate::store::Store;
+use crate::tokens::borders::LentText;
+
+impl Store {
+    /// What the token with a number lends, where it is printed as a text stands.
+    #[inline(always)]
+    pub fn lent(&self, number: u32) -> Option<LentText<'_>>
+        requires { number < length (all_tokens self.now.parts) }
+        ensures { option_map lends (slice_get (all_tokens self.now.parts) number)
+            ≡ Some (option_map lent_seen result) }
+    {
+        self.tokens.lent(number as usize)
+    }
+}
