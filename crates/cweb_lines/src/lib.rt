@@ -16,6 +16,9 @@ mod run;
 // one step of a merge
 mod step;
 
+// lines that pass through
+mod passing;
+
 // the merged lines, one after another
 mod merger;
 
