@@ -1,7 +1,7 @@
 // Lines that pass through are taken and counted.
-ghost use Rattle.std.specs.Prelude.{◌≡◌, ◌≤◌, ◌<◌, ℕ, List, Option};
+ghost use Rattle.std.specs.Prelude.{◌≡◌, ◌≤◌, ◌<◌, ◌+◌, ℕ, List, Option, length};
 ghost use Rattle.cweb_lines.specs.Change.{Entry};
-ghost use Rattle.cweb_lines.specs.Passing.{ComesNext, GivesLines, HasRoomFor, KeepsLevel, KeepsTop, PassesSlot, PassesTop, StandsAt, StandsIn, lines_next, piece_of, top_of};
+ghost use Rattle.cweb_lines.specs.Passing.{ComesNext, GivesLines, HasRoomFor, KeepsLevel, KeepsTop, PassesSlot, PassesTop, StandsAt, StandsIn, lines_next, piece_of, standing, top_of};
 ghost use Rattle.cweb_lines.specs.Texts.{line_number, most, number_of};
 ghost use Rattle.cweb_lines.specs.declared.limits.TheConstants.{OPEN_FILES};
 
@@ -71,6 +71,9 @@ impl<R: Drop> Run<R> {
         requires { (lines : List (List ℕ)) × ComesNext self.old stretch lines }
         ensures given { (lines : List (List ℕ)) → ComesNext self.old stretch lines →
             GivesLines self.old self.new (lines_next (top_of self.old.stack) lines) }
+        ensures bytes { (lines : List (List ℕ)) → ComesNext self.old stretch lines →
+            self.new.limits.bytes ≡ self.old.limits.bytes + length (standing lines) }
+        ensures depth { self.new.stack.depth ≡ self.old.stack.depth }
         ensures piece { piece_of (top_of self.new.stack) ≡ piece_of (top_of self.old.stack) }
         ensures more { self.old.limits.lines < self.new.limits.lines }
     {

@@ -23,3 +23,7 @@ returns-clause-given g c = λ lines next.
       );
       readers = λ opened_as known. record { texts = keeps.named opened_as _ known.texts; change = known.change };
     }
+
+pub returns-clause-bytes : goal.returns-clause-bytes
+returns-clause-bytes g c = λ lines next.
+    (c.advance_top.ensures.passes (pending_of c.args.self.now) lines next.stands).bytes
