@@ -1,77 +1,69 @@
--- Lines that pass through, for the text, the stack and the run that they are taken from.
-use Rattle.std.proofs.Common.{◌≡◌, ◌<◌, ◌+◌, ◌-◌, ℕ, Bool, true, false, List, [], ◌∷◌, ◌++◌, length, Option, Some, refl, sym, ◌∙◌, ap, arith}
-use Rattle.std.specs.Prelude.{IsTrue}
-use Rattle.std.proofs.lemmas.List.{append-nil, append_assoc}
-use Rattle.cweb_lines.specs.Change.{Entry}
+-- Lines that pass through, for the stack and the run that they are taken from.
+use Rattle.std.proofs.Common.{◌≡◌, ◌<◌, ◌+◌, ◌-◌, ℕ, suc, List, [], ◌∷◌, ◌++◌, length, Option, None, get_or, set, refl, sym, ◌∙◌, ap, subst, arith}
+use Rattle.std.proofs.lemmas.List.{append-nil, append_assoc, get_or_default}
 use Rattle.cweb_lines.specs.Counts.{count_of}
-use Rattle.cweb_lines.specs.Finding.{text_of_name}
-use Rattle.cweb_lines.specs.Lines.{Line, numbered, text_lines}
-use Rattle.cweb_lines.specs.Merge.{Thing}
+use Rattle.cweb_lines.specs.Finding.{text_of_name, world_in}
+use Rattle.cweb_lines.specs.Lines.{SourceLine}
+use Rattle.cweb_lines.specs.Merge.{Thing, raws}
 use Rattle.cweb_lines.specs.Merging.{Gives, told_by, coming, change_lines, pending_of}
 use Rattle.cweb_lines.specs.Names.{names_of}
-use Rattle.cweb_lines.specs.Passing.{PassesWhole, PassesText, PassesTop, PassesLines}
-use Rattle.cweb_lines.specs.Source.{pending}
-use Rattle.cweb_lines.specs.Stages.{IsSettled, floor_of, things_in}
-use Rattle.cweb_lines.specs.Texts.{Count, StaysBelow, TakesLine, lines_at}
+use Rattle.cweb_lines.specs.Passing.{ComesNext, GivesLines, PassesLines, PassesTop, lines_next, sources_next, text_at, top_of}
+use Rattle.cweb_lines.specs.Stages.{change_in, floor_of, things_in}
+use Rattle.cweb_lines.specs.Texts.{StaysBelow, lines_at, matches_at, number_of, text_depth, things_at, things_over}
+use Rattle.cweb_lines.specs.Told.{AreShort, size_of}
 use Rattle.cweb_lines.specs.Writing.{text_of}
+use Rattle.cweb_lines.specs.declared.fault.SourceFault.{SourceFault}
 use Rattle.cweb_lines.specs.declared.limits.Limits.{Limits}
+use Rattle.cweb_lines.specs.declared.passing.stretch.Stretch.{Stretch}
 use Rattle.cweb_lines.specs.declared.run.Run.{Run}
 use Rattle.cweb_lines.specs.declared.text.stack.Stack.{Stack}
-use Rattle.cweb_lines.specs.declared.text.LineAt.{LineAt}
 use Rattle.cweb_lines.specs.declared.text.OpenText.{OpenText}
-use Rattle.cweb_lines.proofs.Merges.{gives_line, gives_nothing, merge_given}
-use Rattle.cweb_lines.proofs.Sums.{gives_both, gives_took}
-use Rattle.cweb_lines.proofs.Runs.{coming_of, takes_in}
-use Rattle.cweb_lines.proofs.Trims.{takes_first, whole_takes}
+use Rattle.cweb_lines.proofs.GivenLines.{events_of, events-given, events-untold, events-unopened, events-taken, merge_next_lines, next-length, next-size, next-short, next-text}
+use Rattle.cweb_lines.proofs.IncludeLaws.{raws-append}
+use Rattle.cweb_lines.proofs.Merges.{gives_nothing}
+use Rattle.cweb_lines.proofs.Sums.{gives_both}
+use Rattle.cweb_lines.proofs.Stacks.{over-top}
+use Rattle.cweb_lines.proofs.Runs.{coming_of, passes_in}
 use Rattle.cweb_lines.proofs.Writes.{text_of-append}
 
--- a whole line of a text's source
-module _ {R : Type 0} (entry : Option Entry) (old new : OpenText R) (before after : Count) (piece more : List ℕ)
-    (file : new.file ≡ old.file) (number : new.line ≡ old.line + 1)
-    (reader : new.source.reader.value ≡ old.source.reader.value)
-    (passes : PassesWhole entry old.may_match (pending old.source) (pending new.source) before after piece more)
-  where
-    abbrev place_at : LineAt
-    place_at = record {
-      place = record { file = old.file; line = old.line + 1 };
-      depth = old.depth;
-      may_match =
-          old.may_match;
-    }
+-- the deepest text, of which lines were taken
+pub top_passed : {R : Type 0} (left : R → List ℕ) (texts : List (Option (OpenText R))) (d slot' : Option (OpenText R))
+    (depth : ℕ) (within : depth - 1 < length texts) (low : ℕ) (above : low < depth) (rest : List Thing)
+    (sources : List SourceLine) → number_of text_depth slot' ≡ number_of text_depth (get_or texts (depth - 1) d)
+    → matches_at slot' ≡ matches_at (get_or texts (depth - 1) d)
+    → lines_at left (get_or texts (depth - 1) d) ≡ sources ++ lines_at left slot'
+    → things_over left low (depth - low) texts rest
+    ≡ raws (number_of text_depth (get_or texts (depth - 1) d)) (matches_at (get_or texts (depth - 1) d)) sources
+    ++ things_over left low (depth - low) (set texts (depth - 1) slot') rest
+top_passed left texts d slot' depth within low above rest sources deep' matches' takes =
+    let deep : depth - low ≡ suc (depth - 1 - low) = omega arith in
+    let top : low + (depth - 1 - low) ≡ depth - 1 = omega arith in
+    let slot = get_or texts (depth - 1) d in
+    let first = raws (number_of text_depth slot) (matches_at slot) sources in
+    let under = things_over left low (depth - 1 - low) texts rest in
+    ap (λ n. things_over left low n texts rest) deep
+    ∙ ap (λ t. things_at left t ++ under)
+    (ap (λ p. get_or texts p None) top ∙ get_or_default texts (depth - 1) None d within)
+    ∙ ap (λ (ls : List SourceLine). raws (number_of text_depth slot) (matches_at slot) ls ++ under) takes
+    ∙ ap (λ (ts : List Thing). ts ++ under)
+    (raws-append (number_of text_depth slot) (matches_at slot) sources (lines_at left slot'))
+    ∙ append_assoc first (raws (number_of text_depth slot) (matches_at slot) (lines_at left slot')) under
+    ∙ ap (λ (ts : List Thing). first ++ ts) (
+    (λ i. raws (sym deep' i) (sym matches' i) (lines_at left slot') ++ under)
+    ∙ sym (over-top left low (depth - 1 - low) texts slot' rest (omega (arith, within)))
+    ∙ ap (λ p. things_over left low (suc (depth - 1 - low)) (set texts p slot') rest) top
+    ∙ ap (λ n. things_over left low n (set texts (depth - 1) slot') rest) (sym deep)
+    )
 
-    takes_text : (left : R → List ℕ) → TakesLine (lines_at left (Some old)) (Some place_at) passes.bytes
-        (lines_at left (Some new)) before after
-    takes_text left =
-        let whole = whole_takes (pending old.source) (pending new.source) (left old.source.reader.value)
-        (left new.source.reader.value) passes.bytes passes.size passes.takes (ap left (sym reader)) in
-        let first = takes_first passes.bytes whole.raw (pending old.source ++ left old.source.reader.value)
-        (pending new.source ++ left new.source.reader.value) old.file.0
-        (old.line + 1) old.depth old.may_match whole.taken before after
-        whole.some whole.takes whole.bytes_are whole.short passes.lines
-        (passes.bytes_are ∙ ap (λ n. before.bytes + n) whole.size_is) in (
-          first.0,
-          first.1 ∙ (λ i. first.0.line ∷ numbered (sym file i).0 (sym number i + 1)
-              (text_lines (pending new.source ++ left new.source.reader.value))),
-        )
+-- what comes of a run whose next lines are taken, by its stack and its counts afterwards
+module _ {R : Type 0} (run : Run R) (stack : Stack R) (limits : Limits) (s : Stretch) (lines : List (List ℕ))
+    (next : ComesNext run s lines) (passes : PassesTop run.stack stack run.limits limits lines)
+    (below : StaysBelow (run.stack.depth - 1) run.stack.texts stack.texts) where
+  abbrev sources : List SourceLine
+  sources = sources_next (top_of run.stack) lines
 
-    pub passes_text : PassesText entry (Some old) (Some new) before after piece more
-    passes_text = record {
-      at = place_at;
-      bytes = passes.bytes;
-      takes = takes_text;
-      depth = refl;
-      may_match = refl;
-      plain = passes.plain;
-      unbegun = passes.unbegun;
-      gathered = passes.gathered;
-      lines = passes.lines;
-    }
-
--- what came of a run, by its stack and its counts afterwards
-pub record PassesRun {R : Type 0} (run : Run R) (stack : Stack R) (limits : Limits) (piece more : List ℕ) : Type 0 where
-  pub lines : List Line
-  pub gives : (t : List ℕ → Option (List ℕ)) (l : R → List ℕ) →
-      Gives lines (told_by run) (record {
+  pub gives_next : (t : List ℕ → Option (List ℕ)) (l : R → List ℕ) →
+      Gives (lines_next (top_of run.stack) lines) (told_by run) (record {
         faults = run.faults.items;
         names = names_of run.names;
         count =
@@ -79,61 +71,51 @@ pub record PassesRun {R : Type 0} (run : Run R) (stack : Stack R) (limits : Limi
       }) (coming t l run)
       (coming_of t (text_of_name run.inputs) l run.stage run.change run.first.items (length (names_of run.names))
       (things_in l run.stage (lines_at l run.change) stack))
-  pub gathered : more ≡ piece ++ text_of lines
-
-module _ {R : Type 0} (run : Run R) (stack : Stack R) (limits : Limits) (piece more : List ℕ) where
-  -- a line of the deepest text
-  passes_one : IsSettled run.stage → floor_of run.stage < run.stack.depth →
-      StaysBelow (run.stack.depth - 1) run.stack.texts stack.texts
-      → PassesTop (pending_of run) run.stack stack (count_of run.limits) (count_of limits) piece more →
-      PassesRun run stack limits piece more
-  passes_one settled floor below passes =
-      let line : Line = record { bytes = passes.bytes; place = passes.at.place } in
-      let under : StaysBelow (floor_of run.stage) run.stack.texts stack.texts =
-      λ left n le rest. below left n (omega (arith, le, floor)) rest in
-      record {
-        lines = line ∷ [];
-        gives = λ t l.
-            let taken = takes_in l l refl run.stage (change_lines l run) run.stack stack (Some passes.at) passes.bytes
-            (count_of run.limits) (count_of limits) settled (passes.takes l (floor_of run.stage) floor) under in
-            gives_took (line ∷ []) (told_by run) (record {
-              faults = run.faults.items;
-              names = names_of run.names;
-              count = count_of limits;
-            }) (record {
-              faults = run.faults.items;
-              names = names_of run.names;
-              count =
-                  count_of limits;
-            })
-            passes.bytes passes.at.place taken.0 (coming t l run) _ _ refl refl
-            (ap (λ (ts : List Thing). coming_of t (text_of_name run.inputs) l run.stage run.change run.first.items
-            (length (names_of run.names)) ts) taken.1)
-            (record {
-              rest = _;
-              first = merge_given _ taken.0.line passes.bytes passes.at taken.0.is _ _ _ _ passes.unbegun passes.plain;
-              gives = gives_line _ _ _ _ refl line refl refl refl;
-            });
-        gathered = passes.gathered ∙ append_assoc piece passes.bytes (10 ∷ []);
-      }
-
-  passes_none : stack ≡ run.stack → limits ≡ run.limits → more ≡ piece → PassesRun run stack limits piece more
-  passes_none stacks counts pieces = record {
-    lines = [];
-    gives = λ t l. gives_nothing _ _ _ _ (ap count_of counts)
-        (ap (λ s. coming_of t (text_of_name run.inputs) l run.stage run.change run.first.items
-        (length (names_of run.names)) (things_in l run.stage (lines_at l run.change) s)) (sym stacks)) refl refl;
-    gathered = pieces ∙ sym (append-nil piece);
+  gives_next t l = record {
+    events = events_of sources;
+    whole = ap (λ (ts : List Thing). coming_of t (text_of_name run.inputs) l run.stage run.change run.first.items
+        (length (names_of run.names)) ts)
+        (passes_in l run.stage (change_lines l run) run.stack stack _ next.settled
+        (passes.takes l (floor_of run.stage) next.above)
+        (λ left n le rest. below left n (omega (arith, le, next.above)) rest))
+        ∙ merge_next_lines (world_in t run.inputs) (pending_of run) (top_of run.stack) s lines
+        (things_in l run.stage (lines_at l run.change) stack) (change_in run.stage (lines_at l run.change))
+        (length (names_of run.names)) next.stands;
+    given = events-given sources;
+    faults = sym (append-nil run.faults.items)
+        ∙ ap (λ (fs : List SourceFault). run.faults.items ++ fs) (sym (events-untold sources));
+    names = sym (append-nil (names_of run.names))
+        ∙ ap (λ (ns : List (List ℕ)). names_of run.names ++ ns) (sym (events-unopened sources));
+    lines_are = omega (
+      arith,
+      passes.few,
+      ap (λ (ls : List SourceLine). length ls) (events-taken sources),
+      next-length (pending_of run) (top_of run.stack) s lines next.stands,
+    );
+    bytes_are = omega (
+      arith,
+      passes.bytes,
+      ap size_of (events-taken sources),
+      next-size (pending_of run) (top_of run.stack) s lines next.stands,
+    );
+    short = subst AreShort (sym (events-taken sources))
+        (next-short (pending_of run) (top_of run.stack) s lines next.stands);
   }
 
-  pub passes_run : (passed : Bool) → IsSettled run.stage → floor_of run.stage < run.stack.depth →
-      StaysBelow (run.stack.depth - 1) run.stack.texts stack.texts
-      → (IsTrue passed → PassesTop (pending_of run) run.stack stack (count_of run.limits) (count_of limits) piece more)
-      → (passed ≡ false → (stack ≡ run.stack) × (limits ≡ run.limits) × (more ≡ piece)) →
-      PassesRun run stack limits piece more
-  passes_run true settled floor below passed_by none_by = passes_one settled floor below (passed_by refl)
-  passes_run false settled floor below passed_by none_by = passes_none (none_by refl).0 (none_by refl).1
-      (none_by refl).2
+-- lines behind those that were gathered
+pub passes_next : {R : Type 0} (old new : Run R) (s : Stretch) (lines : List (List ℕ)) (piece more : List ℕ)
+    → ComesNext old s lines → GivesLines old new (lines_next (top_of old.stack) lines)
+    → more ≡ piece ++ text_at (top_of old.stack) s ++ 10 ∷ [] → PassesLines old new piece more
+passes_next old new s lines piece more next given gathered = record {
+  lines = lines_next (top_of old.stack) lines;
+  gives = given.gives;
+  gathered = gathered ∙ append_assoc piece (text_at (top_of old.stack) s) (10 ∷ [])
+      ∙ ap (λ (t : List ℕ). piece ++ t) (sym (next-text (pending_of old) (top_of old.stack) s lines next.stands));
+  stopped = given.stopped;
+  names = given.names;
+  counted = omega (arith, given.counted);
+  readers = given.readers;
+}
 
 -- nothing passed
 pub passes_nothing : {R : Type 0} (run : Run R) (piece : List ℕ) → PassesLines run run piece piece

@@ -1,5 +1,5 @@
 -- The faults that an old side told, where something stopped it.
-use Rattle.std.proofs.Common.{◌≡◌, ◌+◌, List, ◌++◌, sym, ◌∙◌, ap}
+use Rattle.std.proofs.Common.{◌≡◌, List, ◌++◌, sym, ◌∙◌, ap}
 use Rattle.std.proofs.lemmas.List.{append_assoc}
 use Rattle.cweb_files.specs.declared.place.Place.{Place}
 use Rattle.cweb_lines.specs.Change.{old_lines}

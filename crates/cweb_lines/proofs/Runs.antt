@@ -79,6 +79,21 @@ takes_in left left' same (Changing change) lines old new at bytes before after s
     at bytes (things_above left' change.below new rest) before after)
     (below_same left left' same change lines old new stays) (takes (things_below left change lines old))
 
+-- things came in front, above the texts that stay open
+pub passes_in : {R : Type 0} (left : R → List ℕ) (stage : Stage) (lines : List SourceLine) (old new : Stack R)
+    (first : List Thing) → IsSettled stage
+    → ((rest : List Thing) → things_above left (floor_of stage) old rest
+    ≡ first ++ things_above left (floor_of stage) new rest)
+    → StaysBelow (floor_of stage) old.texts new.texts
+    → things_in left stage lines old ≡ first ++ things_in left stage lines new
+passes_in left Done lines old new first settled takes stays = takes []
+passes_in left Seeking lines old new first settled takes stays = absurd (settled refl)
+passes_in left (Waiting begin) lines old new first settled takes stays = takes []
+passes_in left (Changing change) lines old new first settled takes stays =
+    takes (things_below left change lines old)
+    ∙ ap (λ (rest : List Thing). first ++ things_above left change.below new rest)
+    (below_same left left refl change lines old new stays)
+
 pub stops_in : {R : Type 0} (left : R → List ℕ) (stage : Stage) (lines : List SourceLine) (stack : Stack R)
     (stop : Stop) (count : Count) → IsSettled stage → StopsAbove left (floor_of stage) stack stop count
     → TopStops stop count (things_in left stage lines stack)

@@ -1,10 +1,10 @@
 -- Lines without the blanks at their ends, and what taking a line leaves.
 use Rattle.std.proofs.Common.{Bool, ◌≡◌, ◌≢◌, ◌+◌, ◌≤◌, ℕ, true, false, cond, List, [], ◌∷◌, ◌++◌, refl, sym, ◌∙◌, ap, subst, arith, ◌<◌, length, get_or, take, ◌⊎◌, Some}
-use Rattle.std.proofs.lemmas.List.{take_more, append_assoc}
+use Rattle.std.proofs.lemmas.List.{take_more}
 use Rattle.cweb_files.specs.declared.place.FileId.{FileId}
 use Rattle.cweb_lines.specs.Lines.{SourceLine, HasNoNewline, IsOneLine, trimmed, before_blanks, is_blank, text_lines, numbered}
 use Rattle.cweb_lines.specs.Source.{Takes, IsLongerThan}
-use Rattle.cweb_lines.specs.Taking.{TakesWhole, TakesTrimmed}
+use Rattle.cweb_lines.specs.Taking.{TakesWhole}
 use Rattle.cweb_lines.specs.Texts.{Count, TakesLine, FirstStops, StopsFor, StopsReading, NamesFile, newline_bytes, stop_for}
 use Rattle.cweb_lines.specs.declared.limits.TheConstants.{LINE_LENGTH, LINES, BYTES}
 use Rattle.cweb_lines.specs.declared.text.source.LineFault.{LineFault}
@@ -156,28 +156,6 @@ trimmed-length (b ∷ xs) = omega (arith, before_blanks-length b (trimmed xs), t
 
 pub trimmed-line : (xs : List ℕ) → HasNoNewline xs → length xs ≤ LINE_LENGTH → IsOneLine (trimmed xs)
 trimmed-line xs clean short = record { clean = trimmed-clean xs clean; short = omega (arith, short, trimmed-length xs) }
-
-abbrev IsLine : Taken → Type 0
-IsLine Ended = ⊥
-IsLine Last = Unit {0}
-IsLine Full = Unit {0}
-
--- a whole line of a piece, in front of what is to be read
-pub whole_takes : (old new rest rest' bytes : List ℕ) (size : ℕ) → TakesWhole old bytes size new → rest ≡ rest' →
-    TakesTrimmed (old ++ rest) (Some size) bytes (new ++ rest')
-whole_takes old new rest rest' bytes size takes same = record {
-  taken = Full;
-  raw = takes.raw;
-  some = λ is. subst IsLine is tt;
-  takes = (
-    ap (λ (l : List ℕ). l ++ rest) takes.whole ∙ append_assoc takes.raw (10 ∷ new) rest
-        ∙ ap (λ (l : List ℕ). takes.raw ++ 10 ∷ (new ++ l)) same,
-    takes.clean,
-  );
-  short = takes.short;
-  bytes_are = takes.bytes_are;
-  size_is = takes.size_is;
-}
 
 pub whole_line-one : (old bytes : List ℕ) (size : ℕ) (new : List ℕ) → TakesWhole old bytes size new → IsOneLine bytes
 whole_line-one old bytes size new takes = subst IsOneLine (sym takes.bytes_are)

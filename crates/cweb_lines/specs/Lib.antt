@@ -5,6 +5,7 @@ pub mod Faults
 pub mod Finding
 pub mod Include
 pub mod Laws
+pub mod Lending
 pub mod Lines
 pub mod Merge
 pub mod Merging

@@ -16,6 +16,9 @@ mod run;
 // one step of a merge
 mod step;
 
+// lines that pass through
+mod passing;
+
 // the merged lines, one after another
 mod merger;
 
@@ -41,5 +44,6 @@ pub use fault::{SourceFault, SourceKind};
 pub use files::FileNames;
 pub use limits::{BYTES, LINE_LENGTH, LINES};
 pub use merger::Merger;
+pub use passing::lent::Lent;
 pub use stop::Stop;
 pub use writing::{write_all, write_merged, write_merged_in_pieces};

@@ -1,5 +1,5 @@
 // How much may be taken from all files.
-ghost use Rattle.std.specs.Prelude.{◌≡◌, ◌≤◌, ◌<◌, ◌+◌, ◌⊎◌, IfErr, OnOk, OnErr};
+ghost use Rattle.std.specs.Prelude.{◌≡◌, ◌≤◌, ◌<◌, ◌+◌, ◌⊎◌, IsTrue, IfErr, OnOk, OnErr};
 
 use crate::stop::Stop;
 
@@ -49,5 +49,24 @@ impl Limits {
         self.lines += 1;
         self.bytes += size as u64;
         Ok(())
+    }
+
+    /// Whether lines that have so many bytes together pass no limit, however many they are.
+    pub fn has_room(&self, size: usize) -> bool
+        ensures lines { IsTrue result → self.now.lines + size ≤ LINES }
+        ensures bytes { IsTrue result → self.now.bytes + size ≤ BYTES }
+    {
+        size as u64 <= BYTES - self.bytes && size as u64 <= (LINES - self.lines) as u64
+    }
+
+    /// Counts lines with which no limit is passed.
+    pub fn add_all(&mut self, lines: u32, size: usize)
+        requires few { self.old.lines + lines ≤ LINES }
+        requires small { self.old.bytes + size ≤ BYTES }
+        ensures lines { self.new.lines ≡ self.old.lines + lines }
+        ensures bytes { self.new.bytes ≡ self.old.bytes + size }
+    {
+        self.lines += lines;
+        self.bytes += size as u64;
     }
 }

@@ -3,6 +3,7 @@ ghost use Rattle.std.specs.Prelude.{◌≡◌, ◌≤◌, ◌<◌, ◌+◌, ◌^
 ghost use Rattle.std.specs.Option.{option_copied};
 ghost use Rattle.cweb_files.specs.Frames.{KeepsTexts};
 ghost use Rattle.cweb_lines.specs.Include.{web_at, change_at};
+ghost use Rattle.cweb_lines.specs.Lending.{LendsLine, LiesIn, bytes_in};
 ghost use Rattle.cweb_lines.specs.Names.{names_of};
 ghost use Rattle.cweb_lines.specs.Passing.{PassesLines};
 ghost use Rattle.cweb_lines.specs.Texts.{StartStops, files_named};
@@ -13,6 +14,7 @@ use crate::files::FileNames;
 use crate::files::find::{find_change, find_web};
 use crate::files::open::{first_stage, open_change, open_web, owned};
 use crate::limits::Limits;
+use crate::passing::lent::Lent;
 use crate::run::Run;
 use crate::step::Turn;
 use crate::step::turning::take_turn;
@@ -140,6 +142,29 @@ impl<S: Shelf> Merger<S> {
                 }
             }
         }
+    }
+
+    /// The next line, where it was read already and passes through: it is counted, and lies in what was read (`bytes_of`) until
+    /// the next call that changes the merger. None where there is more to do for it, or a stop is kept, and nothing is changed.
+    #[inline(always)]
+    pub fn lend_line(&mut self) -> Option<Lent>
+        ensures lent { IfSome result (λ line. LendsLine line self.old.run self.new.run) }
+        ensures running { OnSome result (stop_in self.new ≡ None) }
+        ensures none { result ≡ None → self.new ≡ self.old }
+    {
+        if let Some(_) = self.run.stopped {
+            return None;
+        }
+        self.run.lend_line()
+    }
+
+    /// The bytes of a line that was lent last.
+    #[inline(always)]
+    pub fn bytes_of(&self, line: Lent) -> &[u8]
+        requires { LiesIn self.now.run line }
+        ensures { result.now ≡ bytes_in self.now.run line }
+    {
+        self.run.bytes_of(line)
     }
 
     /// The faults met so far, in the order in which they came.

@@ -1,0 +1,114 @@
+-- Lines that pass through, as a merge takes them and gives them out.
+use Rattle.std.proofs.Common.{◌≡◌, ◌+◌, ℕ, Bool, List, [], ◌∷◌, ◌++◌, length, map, Option, Some, None, refl, sym, ◌∙◌, ap, arith}
+use Rattle.std.proofs.lemmas.List.{length-append}
+use Rattle.cweb_files.specs.declared.place.Place.{Place}
+use Rattle.cweb_lines.specs.Change.{Entry}
+use Rattle.cweb_lines.specs.Include.{World}
+use Rattle.cweb_lines.specs.Lines.{Line, SourceLine, numbered, trimmed}
+use Rattle.cweb_lines.specs.Merge.{Event, Thing, took, given, raws}
+use Rattle.cweb_lines.specs.Passing.{ArePassing, StandsAt, ended, lines_next, printed, sources_next, standing, text_at}
+use Rattle.cweb_lines.specs.Texts.{matches_at, number_of, text_depth}
+use Rattle.cweb_lines.specs.Told.{AreShort, given_lines, openings, size_of, taken_lines, told_faults}
+use Rattle.cweb_lines.specs.Total.{merge}
+use Rattle.cweb_lines.specs.Writing.{text_of}
+use Rattle.cweb_lines.specs.declared.passing.stretch.Stretch.{Stretch}
+use Rattle.cweb_lines.specs.declared.text.OpenText.{OpenText}
+use Rattle.cweb_lines.proofs.Merges.{merge_given, state}
+
+-- each is taken and given out
+abbrev pub events_of : List SourceLine → List Event
+events_of [] = []
+events_of (source ∷ sources) = took source ∷ given source.line ∷ events_of sources
+
+pub events-given : (sources : List SourceLine) → given_lines (events_of sources) ≡ map (λ source. source.line) sources
+events-given [] = refl
+events-given (source ∷ sources) = ap (λ (ls : List Line). source.line ∷ ls) (events-given sources)
+
+pub events-untold : (sources : List SourceLine) → told_faults (events_of sources) ≡ []
+events-untold [] = refl
+events-untold (source ∷ sources) = events-untold sources
+
+pub events-unopened : (sources : List SourceLine) → openings (events_of sources) ≡ []
+events-unopened [] = refl
+events-unopened (source ∷ sources) = events-unopened sources
+
+pub events-taken : (sources : List SourceLine) → taken_lines (events_of sources) ≡ sources
+events-taken [] = refl
+events-taken (source ∷ sources) = ap (λ (ls : List SourceLine). source ∷ ls) (events-taken sources)
+
+-- what a merge gives of lines that pass through
+merge_lines : (world : World) (entry : Option Entry) (may_match : Bool) (depth file number : ℕ)
+    (lines : List (List ℕ)) (things : List Thing) (change : List SourceLine) (files : ℕ)
+    → ArePassing entry may_match lines
+    → merge world (state (raws depth may_match (numbered file number (map ended lines)) ++ things) entry change files)
+    ≡ events_of (numbered file number (map ended lines)) ++ merge world (state things entry change files)
+merge_lines world entry may_match depth file number [] things change files passing = refl
+merge_lines world entry may_match depth file number (line ∷ lines) things change files passing =
+    let place : Place = record { file = record { 0 = file }; line = number } in
+    let source : SourceLine = record {
+      line = record { bytes = trimmed line; place = place };
+      length = length line;
+      size = length line + 1;
+    } in
+    merge_given world source (trimmed line) (record { place = place; depth = depth; may_match = may_match }) refl
+    (raws depth may_match (numbered file (number + 1) (map ended lines)) ++ things) entry change files
+    passing.0.unbegun passing.0.plain
+    ∙ ap (λ (es : List Event). took source ∷ given source.line ∷ es)
+    (merge_lines world entry may_match depth file (number + 1) lines things change files passing.1)
+
+-- what these lines are, by the text that they stand in
+pub merge_next_lines : {R : Type 0} (world : World) (entry : Option Entry) (slot : Option (OpenText R)) (s : Stretch)
+    (lines : List (List ℕ)) (things : List Thing) (change : List SourceLine) (files : ℕ) → StandsAt entry slot s lines
+    → merge world (state (raws (number_of text_depth slot) (matches_at slot) (sources_next slot lines) ++ things) entry
+    change files) ≡ events_of (sources_next slot lines) ++ merge world (state things entry change files)
+merge_next_lines world entry None s lines things change files stands = absurd stands
+merge_next_lines world entry (Some text) s lines things change files stands =
+    merge_lines world entry text.may_match text.depth text.file.0 (text.line + 1) lines things change files
+    stands.is.passing
+
+numbered-length : (file number : ℕ) (lines : List (List ℕ))
+    → length (numbered file number (map ended lines)) ≡ length lines
+numbered-length file number [] = refl
+numbered-length file number (line ∷ lines) = omega (arith, numbered-length file (number + 1) lines)
+
+numbered-size : (file number : ℕ) (lines : List (List ℕ))
+    → size_of (numbered file number (map ended lines)) ≡ length (standing lines)
+numbered-size file number [] = refl
+numbered-size file number (line ∷ lines) =
+    omega (arith, numbered-size file (number + 1) lines, length_line)
+  where
+    length_line : length (line ++ 10 ∷ standing lines) ≡ length line + (1 + length (standing lines))
+    length_line = omega (arith, length-append line (10 ∷ standing lines))
+
+numbered-short : (entry : Option Entry) (may_match : Bool) (file number : ℕ) (lines : List (List ℕ))
+    → ArePassing entry may_match lines → AreShort (numbered file number (map ended lines))
+numbered-short entry may_match file number [] passing = tt
+numbered-short entry may_match file number (line ∷ lines) passing =
+    (passing.0.short, numbered-short entry may_match file (number + 1) lines passing.1)
+
+numbered-text : (file number : ℕ) (lines : List (List ℕ))
+    → text_of (map (λ source. source.line) (numbered file number (map ended lines))) ≡ printed lines
+numbered-text file number [] = refl
+numbered-text file number (line ∷ lines) = ap (λ (t : List ℕ). trimmed line ++ 10 ∷ t)
+    (numbered-text file (number + 1) lines)
+
+pub next-length : {R : Type 0} (entry : Option Entry) (slot : Option (OpenText R)) (s : Stretch) (lines : List (List ℕ))
+    → StandsAt entry slot s lines → length (sources_next slot lines) ≡ length lines
+next-length entry None s lines stands = absurd stands
+next-length entry (Some text) s lines stands = numbered-length text.file.0 (text.line + 1) lines
+
+pub next-size : {R : Type 0} (entry : Option Entry) (slot : Option (OpenText R)) (s : Stretch) (lines : List (List ℕ))
+    → StandsAt entry slot s lines → size_of (sources_next slot lines) ≡ length (standing lines)
+next-size entry None s lines stands = absurd stands
+next-size entry (Some text) s lines stands = numbered-size text.file.0 (text.line + 1) lines
+
+pub next-short : {R : Type 0} (entry : Option Entry) (slot : Option (OpenText R)) (s : Stretch) (lines : List (List ℕ))
+    → StandsAt entry slot s lines → AreShort (sources_next slot lines)
+next-short entry None s lines stands = absurd stands
+next-short entry (Some text) s lines stands =
+    numbered-short entry text.may_match text.file.0 (text.line + 1) lines stands.is.passing
+
+pub next-text : {R : Type 0} (entry : Option Entry) (slot : Option (OpenText R)) (s : Stretch)
+    (lines : List (List ℕ)) → StandsAt entry slot s lines → text_of (lines_next slot lines) ≡ text_at slot s ++ 10 ∷ []
+next-text entry None s lines stands = absurd stands
+next-text entry (Some text) s lines stands = numbered-text text.file.0 (text.line + 1) lines ∙ sym stands.is.text

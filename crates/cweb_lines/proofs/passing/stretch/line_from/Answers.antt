@@ -1,0 +1,37 @@
+use Rattle.std.proofs.Common.{ℕ, List, [], ◌∷◌, ◌+◌, ◌-◌, ◌∙◌, drop, take, ap, sym, subst, refl, arith}
+use Rattle.std.proofs.lemmas.List.{length-take}
+use Rattle.std.specs.Prelude.{slice_range}
+use Rattle.cweb_lines.specs.Include.{is_include}
+use Rattle.cweb_lines.specs.Passing.{Reaches}
+use Rattle.cweb_lines.specs.Stages.{begun_by, pending_in}
+use Rattle.cweb_lines.specs.declared.passing.stretch.Stretch.{Stretch}
+use Rattle.cweb_lines.proofs.Standing.{one_line}
+use Rattle.cweb_lines.proofs.passing.stretch.line_from.Goals as goal
+
+pub returns-clause-line : goal.returns-clause-line
+returns-clause-line g c =
+    let piece = c.deref.result.now in
+    let bytes = slice_range piece c.args.start c.args.source.now.end in
+    let at = c.in-Some.at in
+    let size = length-take at bytes in
+    let entry = pending_in c.args.stage c.args.first.now in
+    let trims = c.trimmed_length-length.ensures.trimmed in
+    let s : Stretch = record {
+      text = c.args.start + c.trimmed_length-length.result;
+      end = c.args.start + at + 1;
+      lines = 1;
+    } in
+    let near = c.in-Some.ensures.within in
+    let whole = length-take (c.args.source.now.end - c.args.start) (drop c.args.start piece) in
+    subst (λ (p : List ℕ). Reaches entry c.args.may_match p c.args.start c.args.source.now.end s) c.deref.ensures.value (
+      take at bytes ∷ [],
+      one_line entry c.args.may_match piece c.args.start c.args.source.now.end at c.trimmed_length-length.result
+          c.in-Some.ensures c.requires (omega (arith, c.trimmed_length-length.ensures.within, size, near)) trims s refl refl
+          refl (record {
+            clean = c.in-Some.ensures.before;
+            short = omega (arith, size, c.if-at-gt-LINE_LENGTH.false);
+            plain = ap is_include (sym trims) ∙ sym c.is_include.ensures ∙ c.if-is_include.false;
+            unbegun = ap (begun_by entry c.args.may_match) (sym trims) ∙ sym c.begun_at.ensures ∙ c.in_default-begun_at.is;
+          }),
+      omega (arith, near, whole),
+    )

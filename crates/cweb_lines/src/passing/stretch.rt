@@ -1,0 +1,166 @@
+// How many lines of what was read pass through at once.
+ghost use Rattle.std.specs.Prelude.{◌≡◌, ◌≤◌, ◌+◌, ◌-◌, ℕ, List, IfSome};
+ghost use Rattle.cweb_lines.specs.Passing.{Reaches, StandsIn, ComesNext, HasRoomFor, text_at, top_of};
+ghost use Rattle.cweb_lines.specs.Stages.{pending_in};
+ghost use Rattle.cweb_lines.specs.declared.limits.TheConstants.{LINES};
+
+use crate::change::Stage;
+use crate::files::include::is_include;
+use crate::limits::{LINE_LENGTH, Limits};
+use crate::run::Run;
+use crate::step::turning::begun_at;
+use crate::text::OpenText;
+use crate::text::cut::newline_at;
+use crate::text::source::Source;
+use crate::text::take::trimmed_length;
+
+/// Lines that stand one behind another in what was read, and pass through. All but the last have no blanks at their ends, so
+/// that they are printed as they stand.
+#[derive(Clone, Copy, Debug, PartialEq, Eq)]
+pub struct Stretch {
+    /// Where what is printed of them ends, without the last newline.
+    pub text: usize,
+    /// Where they end, with the last newline.
+    pub end: usize,
+    /// How many they are.
+    pub lines: u32,
+}
+
+impl Stretch {
+    // These lines and those behind them.
+    fn then(self, next: Stretch) -> Stretch
+        requires { self.lines + next.lines ≤ LINES }
+        ensures text { result.text ≡ next.text }
+        ensures end { result.end ≡ next.end }
+        ensures lines { result.lines ≡ self.lines + next.lines }
+    {
+        Stretch {
+            text: next.text,
+            end: next.end,
+            lines: self.lines + next.lines,
+        }
+    }
+}
+
+// The line from a place on, where it was read whole and passes through.
+#[inline(always)]
+fn line_from<R: Drop>(
+    source: &Source<R>,
+    start: usize,
+    stage: Stage,
+    first: &[u8],
+    may_match: bool,
+) -> Option<Stretch>
+    requires { start ≤ source.now.end }
+    ensures line { IfSome result (λ s. Reaches (pending_in stage first.now) may_match
+        source.now.piece.items start source.now.end s) }
+    ensures one { IfSome result (λ s. s.lines ≡ 1) }
+{
+    let pending = &source.piece[start..source.end];
+    let Some(at) = newline_at(pending) else {
+        return None;
+    };
+    if at > LINE_LENGTH {
+        return None;
+    }
+    let raw = &pending[..at];
+    let length = trimmed_length(raw);
+    let line = &raw[..length];
+    if is_include(line) {
+        return None;
+    }
+    if let Some(_) = begun_at(stage, first, may_match, line) {
+        return None;
+    }
+    Some(Stretch {
+        text: start + length,
+        end: start + at + 1,
+        lines: 1,
+    })
+}
+
+// The next lines of a source that pass through, until they have so many bytes. The last one alone may have blanks at its end.
+#[inline(always)]
+fn stretch_from<R: Drop>(
+    source: &Source<R>,
+    stage: Stage,
+    first: &[u8],
+    may_match: bool,
+    room: usize,
+) -> Option<Stretch>
+    requires { source.now.end - source.now.start ≤ LINES }
+    ensures lines { IfSome result (λ s. Reaches (pending_in stage first.now) may_match
+        source.now.piece.items source.now.start source.now.end s) }
+    ensures one { room ≡ 0 → IfSome result (λ s. s.lines ≡ 1) }
+{
+    if source.start >= source.lines_end {
+        return None;
+    }
+    let Some(line) = line_from(source, source.start, stage, first, may_match) else {
+        return None;
+    };
+    let mut stretch = line;
+    'lines: while stretch.text + 1 == stretch.end
+        && stretch.end < source.lines_end
+        && stretch.end - source.start < room
+    {
+        let Some(next) = line_from(source, stretch.end, stage, first, may_match) else {
+            break 'lines;
+        };
+        stretch = stretch.then(next);
+    }
+    Some(stretch)
+}
+
+// The next lines of an open text. None where what was read might pass a limit.
+#[inline(always)]
+fn stretch_of<R: Drop>(
+    text: &OpenText<R>,
+    stage: Stage,
+    first: &[u8],
+    limits: &Limits,
+    room: usize,
+) -> Option<Stretch>
+    ensures lines { IfSome result (λ s. (lines : List (List ℕ))
+        × StandsIn (pending_in stage first.now) text.now s lines × HasRoomFor limits.now lines) }
+    ensures one { room ≡ 0 → IfSome result (λ s. s.lines ≡ 1) }
+{
+    let source = &text.source;
+    if !limits.has_room(source.end - source.start) {
+        return None;
+    }
+    stretch_from(source, stage, first, text.may_match, room)
+}
+
+impl<R: Drop> Run<R> {
+    /// The next lines that pass through, until they have so many bytes, where no entry is sought and they are lines of an
+    /// open text. One line where there is no room.
+    #[inline(always)]
+    pub fn stretch(&self, room: usize) -> Option<Stretch>
+        ensures lines { IfSome result (λ s. (lines : List (List ℕ)) × ComesNext self.now s lines) }
+        ensures one { room ≡ 0 → IfSome result (λ s. s.lines ≡ 1) }
+    {
+        if let Stage::Seeking = self.stage {
+            return None;
+        }
+        if self.stack.depth <= self.floor() {
+            return None;
+        }
+        match &self.stack.texts[self.stack.depth - 1] {
+            Some(text) => stretch_of(text, self.stage, &self.first, &self.limits, room),
+            None => None,
+        }
+    }
+
+    /// What is printed of lines that come next, without the last newline.
+    #[inline(always)]
+    pub fn printed(&self, stretch: Stretch) -> &[u8]
+        requires { (lines : List (List ℕ)) × ComesNext self.now stretch lines }
+        ensures { result.now ≡ text_at (top_of self.now.stack) stretch }
+    {
+        match &self.stack.texts[self.stack.depth - 1] {
+            Some(text) => &text.source.piece[text.source.start..stretch.text],
+            None => &[],
+        }
+    }
+}
