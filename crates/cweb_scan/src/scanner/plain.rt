@@ -6,8 +6,9 @@ ghost use Rattle.cweb_scan.specs.Plain.{plain_by, IsPlainC, IsPlainToken, TakesP
 
 use crate::scanner::Scanner;
 use crate::scanner::directive::Directive;
+use crate::scanner::plain::Plain::{Blank, Digit, Further, Operator, Quote, Sign, Stop, Word};
 use cweb_rules::Context;
-use cweb_rules::bytes::{Class, is_word_byte, run_len};
+use cweb_rules::bytes::{Class, begun_run_len};
 use cweb_store::Token;
 use std::alloc::AllocError;
 
@@ -24,26 +25,34 @@ enum Plain {
     Stop,
 }
 
+// The same for each byte: one look a piece.
+const FIRSTS: [Plain; 256] = [
+    Operator, Operator, Operator, Operator, Operator, Operator, Operator, Operator, Operator,
+    Blank, Further, Blank, Blank, Blank, Operator, Operator, Operator, Operator, Operator,
+    Operator, Operator, Operator, Operator, Operator, Operator, Operator, Operator, Operator,
+    Operator, Operator, Operator, Operator, Blank, Operator, Quote, Stop, Word, Operator, Operator,
+    Quote, Sign, Sign, Operator, Operator, Sign, Operator, Further, Further, Digit, Digit, Digit,
+    Digit, Digit, Digit, Digit, Digit, Digit, Digit, Operator, Sign, Operator, Operator, Operator,
+    Sign, Stop, Word, Word, Word, Word, Word, Word, Word, Word, Word, Word, Word, Further, Word,
+    Word, Word, Word, Word, Further, Word, Word, Further, Word, Word, Word, Word, Word, Sign, Stop,
+    Sign, Operator, Word, Operator, Word, Word, Word, Word, Word, Word, Word, Word, Word, Word,
+    Word, Word, Word, Word, Word, Word, Word, Word, Word, Word, Further, Word, Word, Word, Word,
+    Word, Sign, Operator, Sign, Sign, Operator, Word, Word, Word, Word, Word, Word, Word, Word,
+    Word, Word, Word, Word, Word, Word, Word, Word, Word, Word, Word, Word, Word, Word, Word, Word,
+    Word, Word, Word, Word, Word, Word, Word, Word, Word, Word, Word, Word, Word, Word, Word, Word,
+    Word, Word, Word, Word, Word, Word, Word, Word, Word, Word, Word, Word, Word, Word, Word, Word,
+    Word, Word, Word, Word, Word, Word, Word, Word, Word, Word, Word, Word, Word, Word, Word, Word,
+    Word, Word, Word, Word, Word, Word, Word, Word, Word, Word, Word, Word, Word, Word, Word, Word,
+    Word, Word, Word, Word, Word, Word, Word, Word, Word, Word, Word, Word, Word, Word, Word, Word,
+    Word, Word, Word, Word, Word, Word, Word, Word, Word, Word, Word, Word, Word, Word, Word, Word,
+    Word, Word, Word, Word, Word, Word, Word, Word,
+];
+
 #[inline(always)]
 fn plain_of(byte: u8) -> Plain
     ensures { result ≡ plain_by byte }
 {
-    match byte {
-        b'@' | b'#' | b'\\' => Plain::Stop,
-        b' ' | b'\t' | b'\r' | 11 | 12 => Plain::Blank,
-        b'\n' | b'.' | b'/' => Plain::Further,
-        b'R' | b'L' | b'u' | b'U' => Plain::Further,
-        b'0' | b'1' | b'2' | b'3' | b'4' | b'5' | b'6' | b'7' | b'8' | b'9' => Plain::Digit,
-        b'"' | b'\'' => Plain::Quote,
-        b'(' | b')' | b'[' | b']' | b'{' | b'}' | b';' | b',' | b'?' | b'~' => Plain::Sign,
-        _ => {
-            if is_word_byte(byte) {
-                Plain::Word
-            } else {
-                Plain::Operator
-            }
-        }
-    }
+    FIRSTS[byte as usize]
 }
 
 impl Scanner {
@@ -79,9 +88,9 @@ impl Scanner {
         ensures stays { OnOk result (IsPlainC self.new) }
     {
         match plain_of(rest[0]) {
-            Plain::Blank => Ok(run_len(Class::Blank, rest)),
+            Plain::Blank => Ok(begun_run_len(Class::Blank, rest)),
             Plain::Word => {
-                let size = run_len(Class::Word, rest);
+                let size = begun_run_len(Class::Word, rest);
                 self.give_plain(Token::Word(rest.split_at(size).0))?;
                 Ok(size)
             }
@@ -108,17 +117,14 @@ impl Scanner {
         if !matches!(self.context(), Context::CText) || self.in_directive() {
             return Ok(0);
         }
-        let mut taken = 0;
         let mut left = rest;
         'pieces: while !left.is_empty() {
             let size = self.take_piece(left)?;
             if size == 0 {
-                break;
+                return Ok(rest.len() - left.len());
             }
-            let (_, after) = left.split_at(size);
-            left = after;
-            taken += size;
+            left = left.split_at(size).1;
         }
-        Ok(taken)
+        Ok(rest.len() - left.len())
     }
 }
