@@ -141,6 +141,7 @@ pub fn begun_run_len(class: Class, text: &[u8]) -> usize
     requires first { spec.first_is (in_class class) text.now ≡ true }
     ensures value { result ≡ prefix_len (in_class class) text.now }
     ensures within { result ≤ length text.now }
+    ensures some { 1 ≤ result }
 {
     let (_, rest) = text.split_at(1);
     1 + run_len(class, rest)

@@ -46,7 +46,8 @@ told_from : (xs : List Plain) (k i b : ℕ) (d : Plain) → agrees k xs ≡ true
 told_from [] k i b d h within e = absurd (omega (arith, within))
 told_from (x ∷ xs) k zero b d h within e =
     let here : k ≡ b = omega (arith, e) in
-    let same = eqb-true (number x) (number (plain_by k)) (both (number x == number (plain_by k)) (agrees (suc k) xs) h).0 in
+    let test = number x == number (plain_by k) in
+    let same = eqb-true (number x) (number (plain_by k)) (both test (agrees (suc k) xs) h).0 in
     sym (kind_back x) ∙ ap kind same ∙ kind_back (plain_by k) ∙ ap plain_by here
 told_from (x ∷ xs) k (suc i) b d h within e =
     told_from xs (suc k) i b d (both (number x == number (plain_by k)) (agrees (suc k) xs) h).1

@@ -1,11 +1,11 @@
 -- Plain C text: pieces one after another, and the turn behind them.
-use Rattle.std.proofs.Common.{◌≡◌, ◌≤◌, ◌<◌, ℕ, zero, suc, ◌+◌, ◌-◌, ◌*◌, false, List, [], ◌∷◌, length, drop, refl, ap, sym, ◌∙◌, subst, arith}
+use Rattle.std.proofs.Common.{◌≡◌, ◌≤◌, ◌<◌, ℕ, zero, suc, ◌+◌, ◌-◌, ◌*◌, false, List, [], ◌∷◌, Option, Some, None, length, drop, ap, sym, ◌∙◌, subst, arith}
 use Rattle.std.proofs.lemmas.List.{length-drop}
 use Rattle.cweb_store.specs.Calls.{too_many}
 use Rattle.cweb_rules.specs.Lines.{IsLine}
 use Rattle.cweb_scan.specs.Held.{Held, cost, Takes}
 use Rattle.cweb_scan.specs.OpenRest.{awaits_line_end}
-use Rattle.cweb_scan.specs.Plain.{IsPlainC, TakesPlain}
+use Rattle.cweb_scan.specs.Plain.{taken_size, TakesPlain}
 use Rattle.cweb_scan.specs.Resume.{Item, Between}
 use Rattle.cweb_scan.specs.Room.{weight, HasRoom}
 use Rattle.cweb_scan.specs.State.{State}
@@ -20,25 +20,12 @@ use Rattle.cweb_scan.proofs.Turns.{between}
 pub record TakesSome (text left : List ℕ) (old new : State) : Type 0 where
   pub left_is : left ≡ drop (length text - length left) text
   pub taken : TakesPlain (length text - length left) text old new
-  pub plain : IsPlainC new
   pub within : length left ≤ length text
   pub room : weight new + 3 * length left ≤ weight old + 3 * length text
 
-pub none_taken : (text : List ℕ) (s : State) → IsPlainC s → TakesSome text text s s
-none_taken text s h =
-    let none : 0 ≡ length text - length text = omega arith in
-    record {
-      left_is = ap (λ k. drop k text) none;
-      taken = subst (λ k. TakesPlain k text s s) none
-          (record { taken = λ g. record { begun = refl; within = omega arith; adds = omega arith; same = λ later more line. refl } });
-      plain = h;
-      within = omega arith;
-      room = omega arith;
-    }
-
 pub some_goes_on : (m : ℕ) (text left after : List ℕ) (a b c : State) → after ≡ drop m left
-    → TakesSome text left a b → TakesPlain m left b c → IsPlainC c → TakesSome text after a c
-some_goes_on m text left after a b c is f t plain =
+    → TakesSome text left a b → TakesPlain m left b c → TakesSome text after a c
+some_goes_on m text left after a b c is f t =
     let n = length text - length left in
     let one = t.taken false in
     let size = ap (λ (u : List ℕ). length u) is in
@@ -49,7 +36,6 @@ some_goes_on m text left after a b c is f t plain =
         taken = λ g. takes_both n m text (between a g) (between b g) (between c g) (f.taken.taken g)
             (subst (λ (u : List ℕ). Takes m u (between b g) (between c g)) f.left_is (t.taken g));
       });
-      plain = plain;
       within = omega (arith, size, length-drop m left, f.within);
       room = omega (arith, size, length-drop m left, one.within, one.adds, f.room);
     }
@@ -67,17 +53,26 @@ left_line text left a b line f =
     subst IsLine (sym f.left_is) (is_line_drop (length text - length left) text line)
 
 -- a piece of no bytes ends them
-pub some_ended : (m : ℕ) (text left : List ℕ) (a b c : State) → m ≡ 0 → TakesSome text left a b
-    → TakesPlain m left b c → TakesPlain (length text - length left) text a c
-some_ended m text left a b c none f t =
+pub some_ended : (text left : List ℕ) (a b c : State) → TakesSome text left a b
+    → TakesPlain 0 left b c → TakesPlain (length text - length left) text a c
+some_ended text left a b c f t =
     let n = length text - length left in
-    let same : n + m ≡ n = omega (arith, none) in
+    let same : n + 0 ≡ n = omega arith in
     record {
       taken = λ g.
-          let all = takes_both n m text (between a g) (between b g) (between c g) (f.taken.taken g)
-          (subst (λ (u : List ℕ). Takes m u (between b g) (between c g)) f.left_is (t.taken g)) in
+          let all = takes_both n 0 text (between a g) (between b g) (between c g) (f.taken.taken g)
+          (subst (λ (u : List ℕ). Takes 0 u (between b g) (between c g)) f.left_is (t.taken g)) in
           subst (λ k. Takes k text (between a g) (between c g)) same all;
     }
+
+-- a piece that was found, and none
+pub some_taken : (n : ℕ) (o : Option ℕ) (u : List ℕ) (a b : State) → o ≡ Some n → TakesPlain (taken_size o) u a b
+    → TakesPlain n u a b
+some_taken n o u a b is t = subst (λ p. TakesPlain (taken_size p) u a b) is t
+
+pub none_taken : (o : Option ℕ) (u : List ℕ) (a b : State) → o ≡ None → TakesPlain (taken_size o) u a b
+    → TakesPlain 0 u a b
+none_taken o u a b is t = subst (λ p. TakesPlain (taken_size p) u a b) is t
 
 -- THE READER
 

@@ -1,8 +1,8 @@
 // Plain C text, where no item and no directive is open: the pieces that their first bytes tell, one after another.
-ghost use Rattle.std.specs.Prelude.{◌≡◌, ◌≤◌, ◌<◌, ◌+◌, ◌*◌, IfOk, OnOk, OnErr, length};
+ghost use Rattle.std.specs.Prelude.{◌≡◌, ◌≤◌, ◌<◌, ◌+◌, ◌*◌, IfOk, IfSome, OnOk, OnErr, length};
 ghost use Rattle.cweb_store.specs.Calls.{too_many};
 ghost use Rattle.cweb_store.specs.Seen.{seen};
-ghost use Rattle.cweb_scan.specs.Plain.{plain_by, IsPlainC, IsPlainToken, TakesPlain};
+ghost use Rattle.cweb_scan.specs.Plain.{plain_by, taken_size, IsPlainC, IsPlainToken, TakesPlain};
 
 use crate::scanner::Scanner;
 use crate::scanner::directive::Directive;
@@ -55,6 +55,15 @@ fn plain_of(byte: u8) -> Plain
     FIRSTS[byte as usize]
 }
 
+// A piece of no bytes is none.
+#[inline(always)]
+fn piece_of(size: usize) -> Option<usize>
+    ensures size { taken_size result ≡ size }
+    ensures some { IfSome result (λ n. 1 ≤ n) }
+{
+    if size == 0 { None } else { Some(size) }
+}
+
 impl Scanner {
     ghost use Rattle.cweb_store.specs.Growing.{token_count};
     ghost use Rattle.cweb_rules.specs.Lines.{IsLine};
@@ -79,31 +88,32 @@ impl Scanner {
 
     // The piece at the front of the rest of a line, where its first byte tells it; else nothing.
     #[inline(always)]
-    fn take_piece(&mut self, rest: &[u8]) -> Result<usize, AllocError>
+    fn take_piece(&mut self, rest: &[u8]) -> Result<Option<usize>, AllocError>
         requires in_c { IsPlainC self.old }
         requires line { IsLine rest.now }
         requires some { 1 ≤ length rest.now }
         requires room { weight self.old + 1 < too_many }
-        ensures taken { IfOk result (λ n. TakesPlain n rest.now self.old self.new) }
+        ensures taken { IfOk result (λ o. TakesPlain (taken_size o) rest.now self.old self.new) }
+        ensures some { IfOk result (λ o. IfSome o (λ n. 1 ≤ n)) }
         ensures stays { OnOk result (IsPlainC self.new) }
     {
         match plain_of(rest[0]) {
-            Plain::Blank => Ok(begun_run_len(Class::Blank, rest)),
+            Plain::Blank => Ok(Some(begun_run_len(Class::Blank, rest))),
             Plain::Word => {
                 let size = begun_run_len(Class::Word, rest);
                 self.give_plain(Token::Word(rest.split_at(size).0))?;
-                Ok(size)
+                Ok(Some(size))
             }
             Plain::Sign => {
                 self.give_plain(Token::Punct(rest.split_at(1).0))?;
                 self.folded = false;
-                Ok(1)
+                Ok(Some(1))
             }
-            Plain::Operator => self.take_operator(rest),
-            Plain::Digit => self.take_number(rest),
-            Plain::Quote => self.take_whole_literal(rest),
-            Plain::Further => self.take_further(rest),
-            Plain::Stop => Ok(0),
+            Plain::Operator => Ok(piece_of(self.take_operator(rest)?)),
+            Plain::Digit => Ok(piece_of(self.take_number(rest)?)),
+            Plain::Quote => Ok(piece_of(self.take_whole_literal(rest)?)),
+            Plain::Further => Ok(piece_of(self.take_further(rest)?)),
+            Plain::Stop => Ok(None),
         }
     }
 
@@ -119,11 +129,10 @@ impl Scanner {
         }
         let mut left = rest;
         'pieces: while !left.is_empty() {
-            let size = self.take_piece(left)?;
-            if size == 0 {
-                return Ok(rest.len() - left.len());
+            match self.take_piece(left)? {
+                Some(size) => left = left.split_at(size).1,
+                None => return Ok(rest.len() - left.len()),
             }
-            left = left.split_at(size).1;
         }
         Ok(rest.len() - left.len())
     }
