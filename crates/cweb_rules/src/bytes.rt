@@ -1,5 +1,5 @@
 // The classes of bytes, and what a text begins with.
-ghost use Rattle.std.specs.Prelude.{◌≡◌, ◌≤◌, IsTrue, length};
+ghost use Rattle.std.specs.Prelude.{◌≡◌, ◌≤◌, IsTrue, length, true};
 ghost use Rattle.std.specs.List.{prefix_len};
 ghost use Rattle.cweb_rules.specs.Bytes as spec;
 ghost use Rattle.cweb_rules.specs.Classes.{in_class};
@@ -133,6 +133,18 @@ pub fn run_len(class: Class, text: &[u8]) -> usize
         }
     }
     text.len()
+}
+
+/// The same, where the first byte is known to be of the class: it isn't looked at again.
+#[inline(always)]
+pub fn begun_run_len(class: Class, text: &[u8]) -> usize
+    requires first { spec.first_is (in_class class) text.now ≡ true }
+    ensures value { result ≡ prefix_len (in_class class) text.now }
+    ensures within { result ≤ length text.now }
+    ensures some { 1 ≤ result }
+{
+    let (_, rest) = text.split_at(1);
+    1 + run_len(class, rest)
 }
 
 /// Whether a text begins with a sign.

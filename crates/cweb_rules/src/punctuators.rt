@@ -77,12 +77,21 @@ fn may_be_listed(text: &[u8]) -> bool
 }
 
 /// How many bytes the punctuator at a text's front has: the longest that is listed, and else one.
+#[inline(always)]
 pub fn punctuator_len(text: &[u8]) -> usize
     ensures { result ≡ longest listed text.now }
 {
     if !may_be_listed(text) {
         return 1;
     }
+    listed_len(text)
+}
+
+// The same, where the second byte may be of a listed one. It stays a call: few punctuators come to it.
+#[inline(never)]
+fn listed_len(text: &[u8]) -> usize
+    ensures { result ≡ longest listed text.now }
+{
     match text {
         [b'.', ..] => first_len(&DOTS, text),
         [b'<', ..] => first_len(&LESSES, text),

@@ -57,6 +57,7 @@ pub mod PlainTokens
 pub mod Standing
 pub mod StandingPieces
 pub mod PlainFirsts
+pub mod FirstTable
 pub mod Plains
 pub mod PlainTurns
 pub mod Furthers

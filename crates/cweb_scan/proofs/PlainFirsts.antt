@@ -119,8 +119,8 @@ quote_rule b t h =
 
 -- what a first byte tells; of the others, that they are not kept back
 abbrev pub IsTold : Bool → List ℕ → Plain → Type 0
-IsTold includes t plain.Blank = rule.Blanks ≡ c_rule includes t
-IsTold includes t plain.Word = rule.Identifier ≡ c_rule includes t
+IsTold includes t plain.Blank = (rule.Blanks ≡ c_rule includes t) × (first_is is_blank t ≡ true)
+IsTold includes t plain.Word = (rule.Identifier ≡ c_rule includes t) × (first_is is_word_byte t ≡ true)
 IsTold includes t plain.Sign = (rule.Punctuator ≡ c_rule includes t) × IsSign t
 IsTold includes t plain.Operator = (rule.Punctuator ≡ c_rule false t) × (first_is is_kept_back t ≡ false)
 IsTold includes t plain.Digit = rule.Number ≡ c_rule false t
@@ -164,12 +164,13 @@ module _ (includes : Bool) (b : ℕ) (t : List ℕ) (kept : is_kept_back b ≡ f
 
   told_settled : is_settled b ≡ true → IsTold includes (b ∷ t) (settled_by b (is_word_byte b))
   told_settled settled =
-      (elim (is_word_byte b) as (λ v. c_rule includes (b ∷ t) ≡ (if v then rule.Identifier else rule.Punctuator)
+      (elim (is_word_byte b) as (λ v. is_word_byte b ≡ v
+      → c_rule includes (b ∷ t) ≡ (if v then rule.Identifier else rule.Punctuator)
       → c_rule false (b ∷ t) ≡ (if v then rule.Identifier else rule.Punctuator)
       → IsTold includes (b ∷ t) (settled_by b v)) [
-        | true ↦ λ e f. sym e
-        | false ↦ λ e f. told_sign (sym e) (sym f)
-      ]) (settled-rule b settled includes t) (settled-rule b settled false t)
+        | true ↦ λ word e f. (sym e, word)
+        | false ↦ λ word e f. told_sign (sym e) (sym f)
+      ]) refl (settled-rule b settled includes t) (settled-rule b settled false t)
 
   told_less : IsTold includes (b ∷ t) (less_by (is_less b))
   told_less = (elim (is_less b) as (λ v. is_less b ≡ v → IsTold includes (b ∷ t) (less_by v)) [
@@ -198,7 +199,7 @@ module _ (includes : Bool) (b : ℕ) (t : List ℕ) (kept : is_kept_back b ≡ f
 
   told_taken : IsTold includes (b ∷ t) (taken_by b (is_blank b))
   told_taken = (elim (is_blank b) as (λ v. is_blank b ≡ v → IsTold includes (b ∷ t) (taken_by b v)) [
-    | true ↦ λ e. sym (if_true (is_blank b) rule.Blanks _ e)
+    | true ↦ λ e. (sym (if_true (is_blank b) rule.Blanks _ e), e)
     | false ↦ λ e. told_unblank
   ]) refl
 

@@ -4,7 +4,7 @@ use Rattle.std.specs.Prelude.{if◌then◌else◌, codes, option_map}
 use Rattle.std.specs.List.{prefix_len}
 use Rattle.std.proofs.lemmas.List.Sums.{fold-append}
 use Rattle.cweb_store.specs.Growing.{longer}
-use Rattle.cweb_store.specs.Parts.{Token, Word, Punct, Blank, Part}
+use Rattle.cweb_store.specs.Parts.{Token, Word, Punct, Blank, Newline, Part}
 use Rattle.cweb_rules.specs.Bytes.{is_blank, is_word_byte}
 use Rattle.cweb_rules.specs.Codes.{in_c}
 use Rattle.cweb_rules.specs.Lines.{IsLine}
@@ -16,11 +16,12 @@ use Rattle.cweb_scan.specs.After.{punctuator}
 use Rattle.cweb_scan.specs.Directives as spec
 use Rattle.cweb_scan.specs.Directives.{directive, directive_of, directive_tokens, ends_line, is_c, is_punct, is_some, names_include, with_next}
 use Rattle.cweb_scan.specs.Fronted.{Gives, is_head}
-use Rattle.cweb_scan.specs.Kept.{further, goes_over, has_part, is_line_end, is_outside, last_of, outside, step, IsTied}
+use Rattle.cweb_scan.specs.Kept.{further, goes_over, has_part, is_line_end, is_outside, last_of, next_stage, outside, step, IsTied}
 use Rattle.cweb_scan.specs.Plain.{IsPlainC, IsPlainToken, TakesPlain}
 use Rattle.cweb_scan.specs.Ruled.{ends_macro_line}
 use Rattle.cweb_scan.specs.State.{State, give, tokens_of}
 use Rattle.cweb_scan.specs.declared.scanner.directive.Directive.{Directive}
+use Rattle.cweb_scan.specs.declared.scanner.directive.Last.TheVariants as last
 use Rattle.cweb_scan.specs.declared.scanner.directive.Stage.{Stage}
 use Rattle.cweb_scan.specs.declared.scanner.directive.Stage.TheVariants.{Outside, Bare, Include, Further}
 use Rattle.cweb_scan.proofs.CodeTurns.{closed_at}
@@ -86,6 +87,25 @@ tied_plain d l c o t tied in_c part none plain =
     subst (λ (e : Directive). IsTied e outside c (option_map (longer t) o)) stepped
     (subst (λ (e : Directive). IsTied (step d t) e c (option_map (longer t) o))
     (ap (λ v. if v then l else step d t) plain.solid ∙ stepped) (tied_given d l c o t tied part))
+
+-- what is kept after a line end where no directive is open
+step_newline : (d : Directive) → is_outside d.stage ≡ true
+    → step d Newline ≡ record { stage = d.stage; last = last.LineEnd }
+step_newline d h = λ i. record { stage = (stays h ∙ sym (stage_outside d.stage h)) i; last = last.LineEnd }
+  where
+    stays : is_outside d.stage ≡ true → next_stage d Newline ≡ Outside
+    stays h =
+        ap (λ v. if v then Outside
+        else (if not (goes_over d.last Newline) then Outside else further d.stage Newline)) h
+
+pub tied_newline : (d l : Directive) (c : Context) (o : Option Part) → IsTied d l c o → is_c c ≡ true
+    → has_part c ≡ true → is_some (directive_of (tokens_of o)).tokens ≡ false
+    → IsTied (record { stage = d.stage; last = last.LineEnd }) l c (option_map (longer Newline) o)
+tied_newline d l c o tied in_c part none =
+    let is_out = ap (λ (e : Directive). is_outside e.stage) (tied.directive_is in_c)
+    ∙ not_true _ (outside-seen (directive_of (tokens_of o)).tokens ∙ none) in
+    subst (λ (e : Directive). IsTied e l c (option_map (longer Newline) o)) (step_newline d is_out)
+    (tied_given d l c o Newline tied part)
 
 -- PIECES
 

@@ -1,5 +1,5 @@
 -- Plain C text: pieces that their first bytes tell, where no directive is open.
-use Rattle.std.specs.Prelude.{◌≡◌, ℕ, Bool, false, List, codes, Some, if◌then◌else◌}
+use Rattle.std.specs.Prelude.{◌≡◌, ℕ, Bool, false, List, codes, Option, Some, None, if◌then◌else◌}
 use Rattle.cweb_store.specs.Parts.{Token}
 use Rattle.cweb_store.specs.Layout.{is_layout}
 use Rattle.cweb_rules.specs.Bytes.{is_blank, is_one_of, is_word_byte}
@@ -42,6 +42,11 @@ plain_by b =
     else (if is_figure b then plain.Digit
     else (if is_quote b then plain.Quote
     else (if is_less b then plain.Operator else plain.Further)))))
+
+-- how many bytes were taken, if any
+abbrev pub taken_size : Option ℕ → ℕ
+taken_size None = 0
+taken_size (Some n) = n
 
 -- C text in which no directive is open
 pub record IsPlainC (s : State) : Type 0 where

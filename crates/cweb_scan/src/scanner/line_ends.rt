@@ -21,6 +21,8 @@ impl Scanner {
     ghost use Rattle.cweb_store.specs.Growing.{token_count};
     ghost use Rattle.cweb_scan.specs.After.{line_end, comment_line_end, line_end_token};
     ghost use Rattle.cweb_scan.specs.Directives.{is_c};
+    ghost use Rattle.cweb_scan.specs.Plain.{IsPlainC};
+    ghost use Rattle.cweb_store.specs.Parts.{Newline};
     ghost use Rattle.cweb_scan.specs.State as spec;
 
     // What a line end before a line at a place gives in C text.
@@ -41,8 +43,39 @@ impl Scanner {
         Ok(())
     }
 
-    /// The line end before a line that stands at a place.
+    // A Newline where no directive is open: none is open behind it.
+    #[inline(always)]
+    fn give_newline(&mut self) -> Result<(), AllocError>
+        requires in_c { IsPlainC self.old }
+        requires few { token_count self.old.contents.parts + 1 < too_many }
+        ensures { OnOk result (self.new ≡ spec.give Newline self.old) }
+    {
+        self.builder.push(Token::Newline)?;
+        self.directive.last = Last::LineEnd;
+        Ok(())
+    }
+
+    /// The line end before a line that stands at a place. Most stand in C text outside directives, between lines that follow
+    /// one another: those give a Newline at once.
+    #[inline(never)]
     pub fn end_line(&mut self, next: Place) -> Result<(), AllocError>
+        requires { token_count self.old.contents.parts + 1 < too_many }
+        ensures { OnOk result (self.new ≡ line_end next self.old) }
+    {
+        if matches!(self.context, Context::CText)
+            && !self.in_directive()
+            && follows(self.here, next)
+        {
+            self.give_newline()?;
+            self.go_to(next);
+            return Ok(());
+        }
+        self.end_any_line(next)
+    }
+
+    // The same, whatever it gives.
+    #[inline(never)]
+    fn end_any_line(&mut self, next: Place) -> Result<(), AllocError>
         requires { token_count self.old.contents.parts + 1 < too_many }
         ensures { OnOk result (self.new ≡ line_end next self.old) }
     {

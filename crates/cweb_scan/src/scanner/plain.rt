@@ -1,13 +1,14 @@
 // Plain C text, where no item and no directive is open: the pieces that their first bytes tell, one after another.
-ghost use Rattle.std.specs.Prelude.{◌≡◌, ◌≤◌, ◌<◌, ◌+◌, ◌*◌, IfOk, OnOk, OnErr, length};
+ghost use Rattle.std.specs.Prelude.{◌≡◌, ◌≤◌, ◌<◌, ◌+◌, ◌*◌, IfOk, IfSome, OnOk, OnErr, length};
 ghost use Rattle.cweb_store.specs.Calls.{too_many};
 ghost use Rattle.cweb_store.specs.Seen.{seen};
-ghost use Rattle.cweb_scan.specs.Plain.{plain_by, IsPlainC, IsPlainToken, TakesPlain};
+ghost use Rattle.cweb_scan.specs.Plain.{plain_by, taken_size, IsPlainC, IsPlainToken, TakesPlain};
 
 use crate::scanner::Scanner;
 use crate::scanner::directive::Directive;
+use crate::scanner::plain::Plain::{Blank, Digit, Further, Operator, Quote, Sign, Stop, Word};
 use cweb_rules::Context;
-use cweb_rules::bytes::{Class, is_word_byte, run_len};
+use cweb_rules::bytes::{Class, begun_run_len};
 use cweb_store::Token;
 use std::alloc::AllocError;
 
@@ -24,26 +25,43 @@ enum Plain {
     Stop,
 }
 
+// The same for each byte: one look a piece.
+const FIRSTS: [Plain; 256] = [
+    Operator, Operator, Operator, Operator, Operator, Operator, Operator, Operator, Operator,
+    Blank, Further, Blank, Blank, Blank, Operator, Operator, Operator, Operator, Operator,
+    Operator, Operator, Operator, Operator, Operator, Operator, Operator, Operator, Operator,
+    Operator, Operator, Operator, Operator, Blank, Operator, Quote, Stop, Word, Operator, Operator,
+    Quote, Sign, Sign, Operator, Operator, Sign, Operator, Further, Further, Digit, Digit, Digit,
+    Digit, Digit, Digit, Digit, Digit, Digit, Digit, Operator, Sign, Operator, Operator, Operator,
+    Sign, Stop, Word, Word, Word, Word, Word, Word, Word, Word, Word, Word, Word, Further, Word,
+    Word, Word, Word, Word, Further, Word, Word, Further, Word, Word, Word, Word, Word, Sign, Stop,
+    Sign, Operator, Word, Operator, Word, Word, Word, Word, Word, Word, Word, Word, Word, Word,
+    Word, Word, Word, Word, Word, Word, Word, Word, Word, Word, Further, Word, Word, Word, Word,
+    Word, Sign, Operator, Sign, Sign, Operator, Word, Word, Word, Word, Word, Word, Word, Word,
+    Word, Word, Word, Word, Word, Word, Word, Word, Word, Word, Word, Word, Word, Word, Word, Word,
+    Word, Word, Word, Word, Word, Word, Word, Word, Word, Word, Word, Word, Word, Word, Word, Word,
+    Word, Word, Word, Word, Word, Word, Word, Word, Word, Word, Word, Word, Word, Word, Word, Word,
+    Word, Word, Word, Word, Word, Word, Word, Word, Word, Word, Word, Word, Word, Word, Word, Word,
+    Word, Word, Word, Word, Word, Word, Word, Word, Word, Word, Word, Word, Word, Word, Word, Word,
+    Word, Word, Word, Word, Word, Word, Word, Word, Word, Word, Word, Word, Word, Word, Word, Word,
+    Word, Word, Word, Word, Word, Word, Word, Word, Word, Word, Word, Word, Word, Word, Word, Word,
+    Word, Word, Word, Word, Word, Word, Word, Word,
+];
+
 #[inline(always)]
 fn plain_of(byte: u8) -> Plain
     ensures { result ≡ plain_by byte }
 {
-    match byte {
-        b'@' | b'#' | b'\\' => Plain::Stop,
-        b' ' | b'\t' | b'\r' | 11 | 12 => Plain::Blank,
-        b'\n' | b'.' | b'/' => Plain::Further,
-        b'R' | b'L' | b'u' | b'U' => Plain::Further,
-        b'0' | b'1' | b'2' | b'3' | b'4' | b'5' | b'6' | b'7' | b'8' | b'9' => Plain::Digit,
-        b'"' | b'\'' => Plain::Quote,
-        b'(' | b')' | b'[' | b']' | b'{' | b'}' | b';' | b',' | b'?' | b'~' => Plain::Sign,
-        _ => {
-            if is_word_byte(byte) {
-                Plain::Word
-            } else {
-                Plain::Operator
-            }
-        }
-    }
+    FIRSTS[byte as usize]
+}
+
+// A piece of no bytes is none.
+#[inline(always)]
+fn piece_of(size: usize) -> Option<usize>
+    ensures size { taken_size result ≡ size }
+    ensures some { IfSome result (λ n. 1 ≤ n) }
+{
+    if size == 0 { None } else { Some(size) }
 }
 
 impl Scanner {
@@ -70,31 +88,32 @@ impl Scanner {
 
     // The piece at the front of the rest of a line, where its first byte tells it; else nothing.
     #[inline(always)]
-    fn take_piece(&mut self, rest: &[u8]) -> Result<usize, AllocError>
+    fn take_piece(&mut self, rest: &[u8]) -> Result<Option<usize>, AllocError>
         requires in_c { IsPlainC self.old }
         requires line { IsLine rest.now }
         requires some { 1 ≤ length rest.now }
         requires room { weight self.old + 1 < too_many }
-        ensures taken { IfOk result (λ n. TakesPlain n rest.now self.old self.new) }
+        ensures taken { IfOk result (λ o. TakesPlain (taken_size o) rest.now self.old self.new) }
+        ensures some { IfOk result (λ o. IfSome o (λ n. 1 ≤ n)) }
         ensures stays { OnOk result (IsPlainC self.new) }
     {
         match plain_of(rest[0]) {
-            Plain::Blank => Ok(run_len(Class::Blank, rest)),
+            Plain::Blank => Ok(Some(begun_run_len(Class::Blank, rest))),
             Plain::Word => {
-                let size = run_len(Class::Word, rest);
+                let size = begun_run_len(Class::Word, rest);
                 self.give_plain(Token::Word(rest.split_at(size).0))?;
-                Ok(size)
+                Ok(Some(size))
             }
             Plain::Sign => {
                 self.give_plain(Token::Punct(rest.split_at(1).0))?;
                 self.folded = false;
-                Ok(1)
+                Ok(Some(1))
             }
-            Plain::Operator => self.take_operator(rest),
-            Plain::Digit => self.take_number(rest),
-            Plain::Quote => self.take_whole_literal(rest),
-            Plain::Further => self.take_further(rest),
-            Plain::Stop => Ok(0),
+            Plain::Operator => Ok(piece_of(self.take_operator(rest)?)),
+            Plain::Digit => Ok(piece_of(self.take_number(rest)?)),
+            Plain::Quote => Ok(piece_of(self.take_whole_literal(rest)?)),
+            Plain::Further => Ok(piece_of(self.take_further(rest)?)),
+            Plain::Stop => Ok(None),
         }
     }
 
@@ -108,17 +127,13 @@ impl Scanner {
         if !matches!(self.context(), Context::CText) || self.in_directive() {
             return Ok(0);
         }
-        let mut taken = 0;
         let mut left = rest;
         'pieces: while !left.is_empty() {
-            let size = self.take_piece(left)?;
-            if size == 0 {
-                break;
+            match self.take_piece(left)? {
+                Some(size) => left = left.split_at(size).1,
+                None => return Ok(rest.len() - left.len()),
             }
-            let (_, after) = left.split_at(size);
-            left = after;
-            taken += size;
         }
-        Ok(taken)
+        Ok(rest.len() - left.len())
     }
 }

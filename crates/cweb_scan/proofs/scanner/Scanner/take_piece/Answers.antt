@@ -14,7 +14,8 @@ returns-in-Blank-clause-taken c =
     let u = c.args.rest.now in
     let told = told_at (is_c s.context && names_include s) u plain.Blank c.requires.some
     (sym c.in-Blank.is ∙ c.plain_of.ensures) in
-    blanks_turn c.run_len.result u s c.requires.line c.requires.some c.requires.in_c told c.run_len.ensures.value
+    blanks_turn c.begun_run_len.result u s c.requires.line c.requires.some c.requires.in_c told.0
+    c.begun_run_len.ensures.value
 
 pub returns-in_ok-give_plain-in-Word-clause-taken : goal.returns-in_ok-give_plain-in-Word-clause-taken
 returns-in_ok-give_plain-in-Word-clause-taken c =
@@ -22,8 +23,8 @@ returns-in_ok-give_plain-in-Word-clause-taken c =
     let u = c.args.rest.now in
     let told = told_at (is_c s.context && names_include s) u plain.Word c.requires.some
     (sym c.in-Word.is ∙ c.plain_of.ensures) in
-    word_turn c.run_len-size.result u s c.give_plain.new.self c.requires.line c.requires.some c.requires.in_c told
-    c.run_len-size.ensures.value
+    word_turn c.begun_run_len-size.result u s c.give_plain.new.self c.requires.line c.requires.some c.requires.in_c
+    told.0 c.begun_run_len-size.ensures.value
     (c.in_ok-give_plain-in-Word.ensures.ok ∙ ap (λ (x : List ℕ). give (Word x) s) c.split_at.ensures.front)
 
 pub returns-in_ok-give_plain-in-Sign-clause-taken : goal.returns-in_ok-give_plain-in-Sign-clause-taken
@@ -63,3 +64,14 @@ take_operator-requires-clause-first c =
 pub take_operator-requires-clause-kept : goal.take_operator-requires-clause-kept
 take_operator-requires-clause-kept c =
     (told_at false c.args.rest.now plain.Operator c.requires.some (sym c.in-Operator.is ∙ c.plain_of.ensures)).1
+
+pub begun_run_len-requires : goal.begun_run_len-requires
+begun_run_len-requires c = record {
+  first =
+      (told_at false c.args.rest.now plain.Blank c.requires.some (sym c.in-Blank.is ∙ c.plain_of.ensures)).1;
+}
+
+pub begun_run_len-size-requires : goal.begun_run_len-size-requires
+begun_run_len-size-requires c = record {
+  first = (told_at false c.args.rest.now plain.Word c.requires.some (sym c.in-Word.is ∙ c.plain_of.ensures)).1;
+}

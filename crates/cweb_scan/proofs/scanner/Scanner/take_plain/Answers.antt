@@ -1,26 +1,35 @@
 use Rattle.std.proofs.Common.{rules}
-use Rattle.cweb_scan.proofs.PlainTurns.{left_line, piece_within, some_goes_on, some_ended}
+use Rattle.cweb_scan.proofs.PlainTurns.{left_line, none_taken, piece_within, some_ended, some_goes_on, some_taken}
 use Rattle.cweb_scan.proofs.scanner.Scanner.take_plain.Goals as goal
 
 pub take_piece-requires-clause-line : goal.take_piece-requires-clause-line
 take_piece-requires-clause-line c =
-    left_line c.pieces.taken c.args.rest.now c.pieces.left.now c.args.self.now c.pieces.self c.requires.line
-    c.pieces.invariant
+    left_line c.args.rest.now c.pieces.left.now c.args.self.now c.pieces.self c.requires.line c.pieces.invariant.0
 
 pub split_at-requires : goal.split_at-requires
 split_at-requires c =
-    piece_within c.in_ok-size.size c.pieces.left.now c.pieces.self c.take_piece.new.self c.in_ok-size.ensures.taken
+    let n = c.in-Some.size in
+    let u = c.pieces.left.now in
+    piece_within n u c.pieces.self c.take_piece.new.self
+    (some_taken n c.in_ok-size.field-0 u c.pieces.self c.take_piece.new.self c.in-Some.is c.in_ok-size.ensures.taken)
 
 pub pieces-preserved : goal.pieces-preserved
 pieces-preserved c =
-    some_goes_on c.pieces.taken c.in_ok-size.size c.args.rest.now c.pieces.left.now c.split_at.result.1.now
-    c.args.self.now c.pieces.self c.take_piece.new.self c.split_at.ensures.back c.pieces.invariant
-    c.in_ok-size.ensures.taken c.in_ok-size.ensures.stays
+    let n = c.in-Some.size in
+    let u = c.pieces.left.now in
+    let new = c.take_piece.new.self in (
+      some_goes_on n c.args.rest.now u c.split_at.result.1.now c.args.self.now c.pieces.self new
+          c.split_at.ensures.back c.pieces.invariant.0
+          (some_taken n c.in_ok-size.field-0 u c.pieces.self new c.in-Some.is c.in_ok-size.ensures.taken),
+      c.in_ok-size.ensures.stays,
+    )
 
-pub returns-then-size-eq0 : goal.returns-then-size-eq0
-returns-then-size-eq0 c =
-    some_ended c.pieces.taken c.in_ok-size.size c.args.rest.now c.pieces.left.now c.args.self.now c.pieces.self
-    c.take_piece.new.self c.if-size-eq0.true c.pieces.invariant c.in_ok-size.ensures.taken
+pub returns-in-None : goal.returns-in-None
+returns-in-None c =
+    let u = c.pieces.left.now in
+    let new = c.take_piece.new.self in
+    some_ended c.args.rest.now u c.args.self.now c.pieces.self new c.pieces.invariant.0
+    (none_taken c.in_ok-size.field-0 u c.pieces.self new c.in-None.is c.in_ok-size.ensures.taken)
 
 pub pieces-init : goal.pieces-init
 pieces-init c = search rules

@@ -1,8 +1,6 @@
-use Rattle.std.proofs.Common.{rules}
+use Rattle.std.proofs.Common.{◌<◌, arith}
+use Rattle.cweb_scan.proofs.FirstTable.{first_told}
 use Rattle.cweb_scan.proofs.scanner.plain.plain_of.Goals as goal
 
-pub returns-in-82 : goal.returns-in-82
-returns-in-82 c = search rules
-
-pub returns-in-64 : goal.returns-in-64
-returns-in-64 c = search rules
+pub returns : goal.returns
+returns c = let small : c.args.byte < 256 = omega (arith, c.ranges.byte.fits) in first_told c.args.byte _ small
