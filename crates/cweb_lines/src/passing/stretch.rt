@@ -16,7 +16,7 @@ use crate::text::take::trimmed_length;
 
 /// Lines that stand one behind another in what was read, and pass through. All but the last have no blanks at their ends, so
 /// that they are printed as they stand.
-#[derive(Clone, Copy, Debug, PartialEq, Eq)]
+#[derive(Clone, Copy)]
 pub struct Stretch {
     /// Where what is printed of them ends, without the last newline.
     pub text: usize,
