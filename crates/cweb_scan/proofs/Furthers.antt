@@ -40,7 +40,7 @@ none_included : (o : Option (List Token)) → is_some o ≡ false → some_inclu
 none_included None h = refl
 none_included (Some ts) h = cc
 
-and_false : (a : Bool) → (a && false) ≡ false
+pub and_false : (a : Bool) → (a && false) ≡ false
 and_false true = refl
 and_false false = refl
 
@@ -76,11 +76,16 @@ ended_turn n u s new r line some h is ends gives =
 
 -- NUMBERS, WORDS AND PUNCTUATORS
 
+pub numeral_turn : (n : ℕ) (u : List ℕ) (s new : State) → IsLine u → 1 ≤ length u → s.context ≡ CText
+    → rule.Number ≡ rule_at s u → n ≡ number_len 0 u → new ≡ give (Number (take n u)) s → TakesPlain n u s new
+numeral_turn n u s new line some c_text is size made =
+    turn n u s new rule.Number line some c_text is refl
+    (record { size = size; state = made ∙ ap (λ k. give (Number (take k u)) s) size })
+
 pub number_turn : (n : ℕ) (u : List ℕ) (s new : State) → IsLine u → 1 ≤ length u → IsPlainC s
     → rule.Number ≡ c_rule false u → n ≡ number_len 0 u → new ≡ give (Number (take n u)) s → TakesPlain n u s new
 number_turn n u s new line some h is size made =
-    turn n u s new rule.Number line some h (rule_plain s u rule.Number h is) refl
-    (record { size = size; state = made ∙ ap (λ k. give (Number (take k u)) s) size })
+    numeral_turn n u s new line some h.in_c (rule_plain s u rule.Number h is) size made
 
 pub seen_word : (s : State) (u : List ℕ) → IsPlainC s → rule.Identifier ≡ c_rule false u
     → rule.Identifier ≡ rule_at s u
@@ -90,7 +95,7 @@ pub operator_turn : (n : ℕ) (u : List ℕ) (s new : State) → IsLine u → 1 
     → rule.Punctuator ≡ c_rule false u → n ≡ longest listed u
     → new ≡ record (give (Punct (take n u)) s) { folded = false } → TakesPlain n u s new
 operator_turn n u s new line some h is size made =
-    turn n u s new rule.Punctuator line some h (rule_plain s u rule.Punctuator h is) refl
+    turn n u s new rule.Punctuator line some h.in_c (rule_plain s u rule.Punctuator h is) refl
     (record {
       size = size;
       state = made ∙ ap (λ v. record (give (Punct (take n u)) s) { folded = v && s.folded }) (sym h.outside)
@@ -129,7 +134,7 @@ pub line_comment_turn : (u : List ℕ) (s : State) (r : Reached) → IsLine u �
     → rule.LineComment ≡ c_rule false u → r ≡ reached (reach (look_in_comment at_line_end 0) Open (drop 2 u))
     → r.how ≡ Open → TakesPlain (2 + (r.size + r.close)) u s s
 line_comment_turn u s r line some h is reach ends =
-    turn (2 + (r.size + r.close)) u s s rule.LineComment line some h (rule_plain s u rule.LineComment h is) refl
+    turn (2 + (r.size + r.close)) u s s rule.LineComment line some h.in_c (rule_plain s u rule.LineComment h is) refl
     (line_comment_gives u r s s reach
     (sym (blank_is s h) ∙ ap (λ (e : End). comment (ended_as Closed e) s.here (blank s)) (sym ends)))
 

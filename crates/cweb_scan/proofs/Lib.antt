@@ -62,3 +62,4 @@ pub mod Plains
 pub mod PlainTurns
 pub mod Furthers
 pub mod FurtherLiterals
+pub mod DirectiveTexts

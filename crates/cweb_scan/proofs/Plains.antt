@@ -10,6 +10,7 @@ use Rattle.cweb_rules.specs.Codes.{in_c}
 use Rattle.cweb_rules.specs.Lines.{IsLine}
 use Rattle.cweb_rules.specs.Rules.{c_rule, c_front_by}
 use Rattle.cweb_rules.specs.declared.context.Context.{Context}
+use Rattle.cweb_rules.specs.declared.context.Context.TheVariants.{CText}
 use Rattle.cweb_rules.specs.declared.rule.Rule.{Rule}
 use Rattle.cweb_rules.specs.declared.rule.Rule.TheVariants as rule
 use Rattle.cweb_scan.specs.After.{punctuator}
@@ -113,37 +114,37 @@ tied_newline d l c o tied in_c part none =
 abbrev pub rule_at : State → List ℕ → Rule
 rule_at s u = c_rule (is_c s.context && names_include s) u
 
-pub turn : (n : ℕ) (u : List ℕ) (s new : State) (r : Rule) → IsLine u → 1 ≤ length u → IsPlainC s → r ≡ rule_at s u
-    → closes r ≡ true → Gives (c_front_by in_c false u r) u n s new → TakesPlain n u s new
-turn n u s new r line some h is closed gives =
-    let f = rule_closed s.context (names_include s) u r (ap has_part h.in_c)
-    (ap (λ (c : Context). ends_macro_line c u) h.in_c) is closed in
+pub turn : (n : ℕ) (u : List ℕ) (s new : State) (r : Rule) → IsLine u → 1 ≤ length u → s.context ≡ CText
+    → r ≡ rule_at s u → closes r ≡ true → Gives (c_front_by in_c false u r) u n s new → TakesPlain n u s new
+turn n u s new r line some c_text is closed gives =
+    let f = rule_closed s.context (names_include s) u r (ap has_part c_text)
+    (ap (λ (c : Context). ends_macro_line c u) c_text) is closed in
     record {
       taken = λ g. (closed_at n u (between s g) (between s g) new (c_front_by in_c false u r) refl refl
-          (ap is_head h.in_c) line some f.0 f.1 gives).taken;
+          (ap is_head c_text) line some f.0 f.1 gives).taken;
     }
 
 pub blanks_turn : (n : ℕ) (u : List ℕ) (s : State) → IsLine u → 1 ≤ length u → IsPlainC s
     → rule.Blanks ≡ rule_at s u → n ≡ prefix_len is_blank u → TakesPlain n u s s
 blanks_turn n u s line some h is size =
-    turn n u s s rule.Blanks line some h is refl
+    turn n u s s rule.Blanks line some h.in_c is refl
     (record {
       size = size;
       state = sym (ap (λ v. if v && not (spec.is_blank (directive s).last) then give Blank s else s) h.outside);
     })
 
-pub word_turn : (n : ℕ) (u : List ℕ) (s new : State) → IsLine u → 1 ≤ length u → IsPlainC s
+pub word_turn : (n : ℕ) (u : List ℕ) (s new : State) → IsLine u → 1 ≤ length u → s.context ≡ CText
     → rule.Identifier ≡ rule_at s u → n ≡ prefix_len is_word_byte u
     → new ≡ give (Word (take n u)) s → TakesPlain n u s new
-word_turn n u s new line some h is size made =
-    turn n u s new rule.Identifier line some h is refl
+word_turn n u s new line some c_text is size made =
+    turn n u s new rule.Identifier line some c_text is refl
     (record { size = size; state = made ∙ ap (λ k. give (Word (take k u)) s) size })
 
 pub sign_turn : (u : List ℕ) (s new : State) → IsLine u → 1 ≤ length u → IsPlainC s
     → rule.Punctuator ≡ rule_at s u → IsSign u
     → new ≡ record (give (Punct (take 1 u)) s) { folded = false } → TakesPlain 1 u s new
 sign_turn u s new line some h is sign made =
-    turn 1 u s new rule.Punctuator line some h is refl
+    turn 1 u s new rule.Punctuator line some h.in_c is refl
     (record {
       size = sym sign.size;
       state = made ∙ ap (λ v. record (give (Punct (take 1 u)) s) { folded = v && s.folded }) (sym h.outside)

@@ -51,6 +51,9 @@ is_bare_stage g = elim g [ Outside ↦ false | Bare ↦ true | Include ↦ false
 abbrev pub is_include_stage : Stage → Bool
 is_include_stage g = elim g [ Outside ↦ false | Bare ↦ false | Include ↦ true | Further ↦ false ]
 
+abbrev pub is_further_stage : Stage → Bool
+is_further_stage g = elim g [ Outside ↦ false | Bare ↦ false | Include ↦ false | Further ↦ true ]
+
 abbrev pub is_blank_kept : Last → Bool
 is_blank_kept l = elim l [ last.LineEnd ↦ false | last.Backslash ↦ false | last.Blank ↦ true | last.Other ↦ false ]
 

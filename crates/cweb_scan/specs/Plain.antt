@@ -1,13 +1,13 @@
 -- Plain C text: pieces that their first bytes tell, where no directive is open.
-use Rattle.std.specs.Prelude.{◌≡◌, ℕ, Bool, false, List, codes, Option, Some, None, if◌then◌else◌}
+use Rattle.std.specs.Prelude.{◌≡◌, ℕ, Bool, ◌&&◌, false, List, codes, Option, Some, None, if◌then◌else◌}
 use Rattle.cweb_store.specs.Parts.{Token}
 use Rattle.cweb_store.specs.Layout.{is_layout}
 use Rattle.cweb_rules.specs.Bytes.{is_blank, is_one_of, is_word_byte}
 use Rattle.cweb_rules.specs.Rules.{is_settled}
 use Rattle.cweb_rules.specs.declared.context.Context.TheVariants.{CText}
-use Rattle.cweb_scan.specs.Directives.{in_directive, is_punct}
+use Rattle.cweb_scan.specs.Directives.{directive, in_directive, is_c, is_punct}
 use Rattle.cweb_scan.specs.Held.{Takes}
-use Rattle.cweb_scan.specs.Kept.{last_of}
+use Rattle.cweb_scan.specs.Kept.{is_further_stage, last_of, stage_of}
 use Rattle.cweb_scan.specs.Resume.{Between}
 use Rattle.cweb_scan.specs.State.{State}
 use Rattle.cweb_scan.specs.declared.scanner.directive.Last.TheVariants as last
@@ -52,6 +52,10 @@ taken_size (Some n) = n
 pub record IsPlainC (s : State) : Type 0 where
   pub in_c : s.context ≡ CText
   pub outside : in_directive s ≡ false
+
+-- C text in which a directive is open that is past its first word, so that no included name may follow
+abbrev pub in_directive_text : State → Bool
+in_directive_text s = is_c s.context && is_further_stage (stage_of (directive s).tokens)
 
 -- a token that is no layout and neither a `#` nor a `\`
 pub record IsPlainToken (t : Token) : Type 0 where

@@ -4,6 +4,7 @@ ghost use Rattle.cweb_store.specs.Layout as layout;
 ghost use Rattle.cweb_store.specs.Seen.{seen};
 
 pub mod directive;
+pub mod directive_text;
 pub mod further;
 pub mod given;
 pub mod line_ends;

@@ -2,7 +2,7 @@
 ghost use Rattle.std.specs.Prelude.{◌≡◌, true, Some, codes};
 ghost use Rattle.cweb_store.specs.Seen.{seen};
 ghost use Rattle.cweb_scan.specs.Directives.{is_punct};
-ghost use Rattle.cweb_scan.specs.Kept.{step, outside, is_include_stage, is_include_word, is_blank_token};
+ghost use Rattle.cweb_scan.specs.Kept.{step, outside, is_further_stage, is_include_stage, is_include_word, is_blank_token};
 ghost use Rattle.cweb_scan.specs.Kept as spec;
 
 use cweb_store::Token;
@@ -136,5 +136,13 @@ impl Directive {
         ensures { result ≡ is_include_stage self.stage }
     {
         matches!(self.stage, Stage::Include)
+    }
+
+    /// Whether it is open and past its first word.
+    #[inline(always)]
+    pub fn is_further(&self) -> bool
+        ensures { result ≡ is_further_stage self.now.stage }
+    {
+        matches!(self.stage, Stage::Further)
     }
 }

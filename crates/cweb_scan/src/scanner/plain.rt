@@ -14,7 +14,7 @@ use std::alloc::AllocError;
 
 // What a first byte tells of its piece.
 #[derive(Clone, Copy)]
-enum Plain {
+pub(crate) enum Plain {
     Blank,
     Word,
     Sign,
@@ -49,7 +49,7 @@ const FIRSTS: [Plain; 256] = [
 ];
 
 #[inline(always)]
-fn plain_of(byte: u8) -> Plain
+pub(crate) fn plain_of(byte: u8) -> Plain
     ensures { result ≡ plain_by byte }
 {
     FIRSTS[byte as usize]
@@ -57,7 +57,7 @@ fn plain_of(byte: u8) -> Plain
 
 // A piece of no bytes is none.
 #[inline(always)]
-fn piece_of(size: usize) -> Option<usize>
+pub(crate) fn piece_of(size: usize) -> Option<usize>
     ensures size { taken_size result ≡ size }
     ensures some { IfSome result (λ n. 1 ≤ n) }
 {
@@ -117,15 +117,18 @@ impl Scanner {
         }
     }
 
-    /// Takes the pieces at the front of the rest of a line that their first bytes tell, where no directive is open. Answers how
-    /// many bytes they have.
+    /// Takes the pieces at the front of the rest of a line that their first bytes tell, in C text. Answers how many bytes they
+    /// have.
     pub fn take_plain(&mut self, rest: &[u8]) -> Result<usize, AllocError>
         requires line { IsLine rest.now }
         requires room { weight self.old + 3 * length rest.now + 8 < too_many }
         ensures { IfOk result (λ n. TakesPlain n rest.now self.old self.new) }
     {
-        if !matches!(self.context(), Context::CText) || self.in_directive() {
+        if !matches!(self.context(), Context::CText) {
             return Ok(0);
+        }
+        if self.in_directive() {
+            return self.take_directive_text(rest);
         }
         let mut left = rest;
         'pieces: while !left.is_empty() {

@@ -42,3 +42,31 @@ const PIECES_BY_THEIR_FIRST_BYTES: &[(&[u8], &str)] = &[
 fn pieces_by_their_first_bytes(rt: HostRuntime) -> Result<(), Fail> {
     tell_each(&rt, PIECES_BY_THEIR_FIRST_BYTES)
 }
+
+const TEXT_OF_DIRECTIVES: &[(&[u8], &str)] = &[
+    // blanks give one Blank, words, numbers and signs what they are
+    (
+        b"@ @c\n#define a(x) \t  ((x)+0x1f)*2->y\nb c",
+        "[program] head:1 at:1 / p:# w:define _ w:a p:( w:x p:) _ p:( p:( w:x p:) p:+ n:0x1f p:) p:* n:2 p:-> w:y / w:b w:c tail:1 ",
+    ),
+    // further signs open nothing, and no included name follows
+    (
+        b"@ @c\n#define a <b> # c ## d \\ e\nf g",
+        "[program] head:1 at:1 / p:# w:define _ w:a _ p:< w:b p:> _ p:# _ w:c _ p:## _ w:d _ p:\\ _ w:e / w:f w:g tail:1 ",
+    ),
+    // comments beside blanks, and a line that goes on
+    (
+        b"@ @c\n#a b /* c */ /* d */ e \\\n f g\nh i",
+        "[program] head:1 at:1 / p:# w:a _ w:b _ w:e _ p:\\ / _ w:f _ w:g at:4 w:h w:i tail:1 ",
+    ),
+    // what the first bytes don't tell
+    (
+        b"@ @c\n#a L x \"y\" .5 z@&w\nb c",
+        "[program] head:1 at:1 / p:# w:a _ w:L _ w:x _ l:\"y\" _ n:.5 _ w:z & w:w / w:b w:c tail:1 ",
+    ),
+];
+
+#[test]
+fn text_of_directives(rt: HostRuntime) -> Result<(), Fail> {
+    tell_each(&rt, TEXT_OF_DIRECTIVES)
+}

@@ -23,7 +23,7 @@ returns-in_ok-give_plain-in-Word-clause-taken c =
     let u = c.args.rest.now in
     let told = told_at (is_c s.context && names_include s) u plain.Word c.requires.some
     (sym c.in-Word.is ∙ c.plain_of.ensures) in
-    word_turn c.begun_run_len-size.result u s c.give_plain.new.self c.requires.line c.requires.some c.requires.in_c
+    word_turn c.begun_run_len-size.result u s c.give_plain.new.self c.requires.line c.requires.some c.requires.in_c.in_c
     told.0 c.begun_run_len-size.ensures.value
     (c.in_ok-give_plain-in-Word.ensures.ok ∙ ap (λ (x : List ℕ). give (Word x) s) c.split_at.ensures.front)
 

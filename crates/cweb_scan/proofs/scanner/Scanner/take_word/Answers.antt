@@ -10,5 +10,5 @@ returns-clause-taken c =
     let s = c.args.self.now in
     let u = c.args.rest.now in
     word_turn c.run_len-size.result u s c.give_plain.new.self c.requires.line c.requires.some
-    c.requires.in_c (seen_word s u c.requires.in_c c.requires.first) c.run_len-size.ensures.value
+    c.requires.in_c.in_c (seen_word s u c.requires.in_c c.requires.first) c.run_len-size.ensures.value
     (c.in_ok-give_plain.ensures.ok ∙ ap (λ (x : List ℕ). give (Word x) s) c.split_at.ensures.front)
