@@ -1,9 +1,9 @@
 -- A line that is lent from where it lies.
-use Rattle.std.proofs.Common.{◌≡◌, ◌≤◌, ◌<◌, ◌+◌, ◌-◌, ℕ, List, [], ◌∷◌, ◌++◌, length, Option, None, Some, sym, ◌∙◌, ap, subst, arith}
+use Rattle.std.proofs.Common.{◌≡◌, ◌≤◌, ◌<◌, ◌+◌, ◌-◌, ℕ, List, [], ◌∷◌, ◌++◌, length, Option, None, Some, refl, sym, ◌∙◌, ap, subst, arith}
 use Rattle.std.proofs.lemmas.List.{append_cancel_right, length-append}
 use Rattle.std.specs.Prelude.{slice_range, unwrap_or}
 use Rattle.cweb_lines.specs.Change.{Entry}
-use Rattle.cweb_lines.specs.Lending.{LendsLine, LiesIn, bytes_in, lent_at}
+use Rattle.cweb_lines.specs.Lending.{LendsLine, LendsLines, LiesIn, bytes_in, lent_at}
 use Rattle.cweb_lines.specs.Lines.{Line, IsOneLine, trimmed}
 use Rattle.cweb_lines.specs.Merging.{Gives, coming, pending_of, told_by}
 use Rattle.cweb_lines.specs.Names.{names_of}
@@ -13,8 +13,10 @@ use Rattle.cweb_lines.specs.declared.passing.lent.Lent.{Lent}
 use Rattle.cweb_lines.specs.declared.passing.stretch.Stretch.{Stretch}
 use Rattle.cweb_lines.specs.declared.run.Run.{Run}
 use Rattle.cweb_lines.specs.declared.text.OpenText.{OpenText}
-use Rattle.cweb_lines.proofs.Fronts.{told_given}
+use Rattle.cweb_lines.proofs.Fronts.{told_given, told_same, told_then}
+use Rattle.cweb_lines.proofs.Merges.{gives_nothing}
 use Rattle.cweb_lines.proofs.Stacks.{most_at}
+use Rattle.cweb_lines.proofs.Sums.{gives_both}
 use Rattle.cweb_lines.proofs.Trims.{trimmed-length, trimmed-line}
 
 -- a stretch of one line, where it lies in a text
@@ -103,3 +105,27 @@ lends_line old new s line lines next one is gives bytes more depth piece = recor
 
     same : bytes_in new line ≡ slice_range (piece_of (top_of old.stack)) line.from line.to
     same = ap (λ (p : List ℕ). slice_range p line.from line.to) piece
+
+-- no line was lent
+pub lends_none : {R : Type 0} (run : Run R) → LendsLines run run
+lends_none run = record {
+  gives = λ texts left. ([], gives_nothing _ _ _ _ refl refl refl refl);
+  grows = record { told = told_same _ _ refl refl; lines = run.limits.few; bytes = run.limits.small };
+  stopped = refl;
+  readers = λ opened_as known. known;
+}
+
+-- one more
+pub lends_more : {R : Type 0} (line : Lent) (old mid new : Run R) → LendsLines old mid → LendsLine line mid new
+    → LendsLines old new
+lends_more line old mid new first then = record {
+  gives = λ texts left.
+      (_, gives_both _ _ _ _ _ _ _ _ (first.gives texts left).1 (then.next texts left));
+  grows = record {
+    told = told_then _ _ _ first.grows.told then.grows.told;
+    lines = then.grows.lines;
+    bytes = then.grows.bytes;
+  };
+  stopped = then.stopped ∙ first.stopped;
+  readers = λ opened_as known. then.readers opened_as (first.readers opened_as known);
+}

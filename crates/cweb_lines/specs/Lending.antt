@@ -1,5 +1,6 @@
 -- A line that is lent from where it lies in what was read.
 use Rattle.std.specs.Prelude.{◌≡◌, ℕ, ◌+◌, ◌≤◌, ◌<◌, List, [], ◌∷◌, length, slice_range, Option, None, Some}
+use Rattle.cweb_lines.specs.Lines.{Line}
 use Rattle.cweb_lines.specs.Merging.{Gives, told_by, coming}
 use Rattle.cweb_lines.specs.Naming.{AreReadersKnown}
 use Rattle.cweb_lines.specs.Passing.{piece_of, top_of}
@@ -35,6 +36,14 @@ pub record LendsLine {R : Type 0} (line : Lent) (old new : Run R) : Type 0 where
   pub next : (texts : List ℕ → Option (List ℕ)) (left : R → List ℕ) →
       Gives (record { bytes = bytes_in new line; place = line.place } ∷ []) (told_by old) (told_by new)
       (coming texts left old) (coming texts left new)
+  pub grows : Grows (told_by old) (told_by new)
+  pub stopped : new.stopped ≡ old.stopped
+  pub readers : (opened_as : R → List ℕ) → AreReadersKnown opened_as old → AreReadersKnown opened_as new
+
+-- Lines were lent one after another, whatever the shelf: they were given out, nothing stopped, and no other reader came.
+pub record LendsLines {R : Type 0} (old new : Run R) : Type 0 where
+  pub gives : (texts : List ℕ → Option (List ℕ)) (left : R → List ℕ) → (lines : List Line)
+      × Gives lines (told_by old) (told_by new) (coming texts left old) (coming texts left new)
   pub grows : Grows (told_by old) (told_by new)
   pub stopped : new.stopped ≡ old.stopped
   pub readers : (opened_as : R → List ℕ) → AreReadersKnown opened_as old → AreReadersKnown opened_as new

@@ -1,13 +1,16 @@
 // The lines of a merger, scanned.
-ghost use Rattle.std.specs.Prelude.{◌≡◌, [], ◌<◌, ◌+◌, ◌*◌, ◌^◌, ◌≤◌, length, IsTrue, Err, IfErr, IfOk, IfSome, OnOk, None, Some};
+ghost use Rattle.std.specs.Prelude.{◌≡◌, ℕ, List, Bool, Option, [], ◌<◌, ◌+◌, ◌*◌, ◌^◌, ◌≤◌, length, IsTrue, Err, IfErr, IfOk, IfSome, OnOk, None, Some};
 ghost use Rattle.cweb_files.specs.Frames.{KeepsTexts};
+ghost use Rattle.cweb_lines.specs.Lending.{LendsLines};
+ghost use Rattle.cweb_lines.specs.Merge.{Event};
+ghost use Rattle.cweb_lines.specs.Merging.{SoFar, coming};
 ghost use Rattle.cweb_lines.specs.Texts.{files_named};
 ghost use Rattle.cweb_lines.specs.Naming.{BlamesFile};
 ghost use Rattle.cweb_lines.specs.Whole.{to_come, so_far, stop_in, HasEnded, Grows, KnowsReaders};
 ghost use Rattle.cweb_store.specs.Calls.{too_many};
 ghost use Rattle.cweb_scan.specs.Held.{cost, read_after};
 ghost use Rattle.cweb_scan.specs.Run.{scanned_of};
-ghost use Rattle.cweb_scan.specs.Scan.{seen, Blames, EndsEarly, IsWithin, Scans};
+ghost use Rattle.cweb_scan.specs.Scan.{seen, Blames, EndsEarly, HasTaken, IsWithin, Scans};
 
 pub mod scanned;
 
@@ -23,6 +26,23 @@ fn finished(reader: Reader) -> Result<Scanned, AllocError>
 {
     let scanner = reader.finish()?;
     scanner.scanned()
+}
+
+// Takes lines where they lie in what was read, as long as the merger lends them.
+fn take_lent<S: Shelf>(merger: &mut Merger<S>, reader: &mut Reader) -> Result<(), AllocError>
+    requires { let so = (so_far merger.old).count in cost reader.old ≤ 3 * (so.bytes + so.lines) }
+    ensures lent { LendsLines merger.old.run merger.new.run }
+    ensures taken { OnOk result ((tells : Bool) → (first : SoFar) → (all : List Event) →
+        (texts : List ℕ → Option (List ℕ)) → (left : S.R → List ℕ) →
+        HasTaken tells first (so_far merger.old) all (coming texts left merger.old.run) reader.old →
+        HasTaken tells first (so_far merger.new) all (coming texts left merger.new.run) reader.new) }
+    ensures cost { let so = (so_far merger.new).count in
+        OnOk result (cost reader.new ≤ 3 * (so.bytes + so.lines)) }
+{
+    'lines: while let Some(line) = merger.lend_line() {
+        reader.take_line(line.place, merger.bytes_of(line))?;
+    }
+    Ok(())
 }
 
 /// Scans the lines that are still to come: what they give to a store, their faults, their sections. The web's text is these
@@ -66,6 +86,9 @@ pub fn scan<S: Shelf>(alloc: Global, merger: &mut Merger<S>, shelf: &mut S) -> R
             break;
         };
         if let Err(_) = reader.take_line(place, &line) {
+            return Err(merger.halt());
+        }
+        if let Err(_) = take_lent(merger, &mut reader) {
             return Err(merger.halt());
         }
     }

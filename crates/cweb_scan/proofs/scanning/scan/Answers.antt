@@ -1,16 +1,21 @@
-use Rattle.std.proofs.Common.{rules, ◌≡◌, ◌+◌, ℕ, List, [], ◌∷◌, ◌++◌, append-nil, subst, refl, ap, sym, ◌∙◌, arith}
+use Rattle.std.proofs.Common.{rules, ◌≡◌, ◌≤◌, ◌+◌, ◌*◌, ℕ, Bool, Option, None, List, [], ◌∷◌, ◌++◌, append-nil, subst, refl, ap, sym, ◌∙◌, arith}
+use Rattle.cweb_files.specs.declared.device.Shelf.{Ghosts as Shelf}
+use Rattle.cweb_lines.specs.Lending.{LendsLines}
+use Rattle.cweb_lines.specs.Merge.{Event}
 use Rattle.cweb_lines.specs.Naming.{blame}
 use Rattle.cweb_lines.specs.Texts.{read_blame}
-use Rattle.cweb_lines.specs.Merging.{KeepsTold, SoFar}
+use Rattle.cweb_lines.specs.Merging.{KeepsTold, SoFar, coming}
 use Rattle.cweb_lines.specs.Whole.{Grows, so_far, to_come}
+use Rattle.cweb_lines.specs.declared.merger.Merger.{Merger}
 use Rattle.cweb_lines.specs.declared.stop.Stop.{Stop}
 use Rattle.cweb_lines.specs.declared.stop.Stop.TheVariants.{Memory}
-use Rattle.cweb_scan.specs.Scan.{EndsEarly}
+use Rattle.cweb_scan.specs.Scan.{EndsEarly, HasTaken}
 use Rattle.cweb_lines.proofs.Fronts.{told_files, told_same, told_then}
 use Rattle.cweb_lines.proofs.Keeps.{keeps_same, keeps_told, keeps_then}
 use Rattle.cweb_lines.proofs.Sums.{gives_both}
-use Rattle.cweb_scan.specs.Held.{cost, read_after}
+use Rattle.cweb_scan.specs.Held.{Held, cost, read_after}
 use Rattle.cweb_scan.proofs.Scans.{nothing_taken, given_line_taken, all_within, all_scanned, ends_early, refused}
+use Rattle.cweb_scan.proofs.scanning.scan.Invariants.{HasScanned}
 use Rattle.cweb_scan.proofs.scanning.scan.Goals as goal
 
 pub lines-init : goal.lines-init
@@ -47,6 +52,39 @@ pub returns-clause-grows : goal.returns-clause-grows
 returns-clause-grows g c =
     grows_to _ _ _ c.halt-in-Err-finished.ensures.so_far (grows_then _ _ _ c.lines.invariant.told c.in-Ok.ensures.grows)
 
+none_blamed : (names before now : List (List ℕ)) (stop : Stop)
+    → stop ≡ Memory → now ≡ before → now ≡ before ++ blame names stop
+none_blamed names before now stop is same =
+    subst (λ (s : Stop). now ≡ before ++ blame names s) (sym is) (same ∙ sym (append-nil before))
+
+-- memory was refused for a line that was lent
+pub returns-in-Err-take_lent-clause-grows : goal.returns-in-Err-take_lent-clause-grows
+returns-in-Err-take_lent-clause-grows g c =
+    grows_to _ _ _ c.halt-in-Err-take_lent.ensures.so_far (grows_then _ _ _
+    (told_then _ _ _ c.lines.invariant.told c.in-Ok.ensures.grows.told) c.in-Err-take_lent.ensures.lent.grows)
+
+pub returns-in-Err-take_lent-clause-stops : goal.returns-in-Err-take_lent-clause-stops
+returns-in-Err-take_lent-clause-stops g c = λ tells before.
+    let next =
+    rw c.in-Some-next.is at (c.in-Ok.ensures.next (keeps_told g.S.Shelf _ _ c.lines.invariant.keeps tells)) in
+    let lent = c.in-Err-take_lent.ensures.lent in
+    let halt = c.halt-in-Err-take_lent in
+    subst (λ (stop : Stop).
+    EndsEarly stop (so_far c.args.merger.now) (so_far halt.new.self)
+    (to_come g.S.Shelf c.args.shelf.now c.args.merger.now))
+    (sym (halt.ensures.stop (lent.stopped ∙ c.in-Ok.ensures.leaves.running)))
+    (refused _ _ _ _ _ _ halt.ensures.so_far (gives_both _ _ _ _ _ _ _ _
+    (gives_both _ _ _ _ _ _ _ _ (c.lines.invariant.taken.gives tells) next)
+    (lent.gives (g.S.Shelf.texts c.next_line.new.shelf) (g.S.Shelf.left c.next_line.new.shelf)).1))
+
+pub returns-in-Err-take_lent-clause-blamed : goal.returns-in-Err-take_lent-clause-blamed
+returns-in-Err-take_lent-clause-blamed g c = λ tells known before.
+    let inv = c.lines.invariant in
+    none_blamed _ _ _ _ (c.halt-in-Err-take_lent.ensures.stop
+    (c.in-Err-take_lent.ensures.lent.stopped ∙ c.in-Ok.ensures.leaves.running))
+    ((c.in-Ok.ensures.known (keeps_told g.S.Shelf _ _ inv.keeps tells) (inv.readers tells known)).blamed inv.running
+    ∙ inv.blamed tells known)
+
 -- the merger stopped
 pub returns-in-Err-clause-stops : goal.returns-in-Err-clause-stops
 returns-in-Err-clause-stops g c = λ tells before.
@@ -73,10 +111,33 @@ returns-in-Err-take_line-clause-stops g c = λ tells before.
     (sym (c.halt.ensures.stop c.in-Ok.ensures.leaves.running))
     (refused _ _ _ _ _ _ c.halt.ensures.so_far (gives_both _ _ _ _ _ _ _ _ (c.lines.invariant.taken.gives tells) next))
 
+-- lines were lent
+after_lent : {S R : Type 0} (shelf : Shelf S R) (before now : S) (old merger new : Merger S R) (reader next : Held)
+    → HasScanned shelf before now old merger reader → LendsLines merger.run new.run
+    → ((tells : Bool) (first : SoFar) (all : List Event) (texts : List ℕ → Option (List ℕ)) (left : R → List ℕ)
+    → HasTaken tells first (so_far merger) all (coming texts left merger.run) reader
+    → HasTaken tells first (so_far new) all (coming texts left new.run) next)
+    → cost next ≤ 3 * ((so_far new).count.bytes + (so_far new).count.lines)
+    → HasScanned shelf before now old new next
+after_lent shelf before now old merger new reader next scanned lent taken room = record {
+  keeps = scanned.keeps;
+  failed = scanned.failed;
+  readers = λ tells known. lent.readers (shelf.opened_as now) (scanned.readers tells known);
+  blamed = scanned.blamed;
+  running = lent.stopped ∙ scanned.running;
+  before = scanned.before;
+  told = told_then _ _ _ scanned.told lent.grows.told;
+  taken = taken (shelf.tells before) (so_far old) (to_come shelf before old) (shelf.texts now) (shelf.left now)
+      scanned.taken;
+  room = room;
+}
+
 pub lines-preserved : goal.lines-preserved
 lines-preserved g c =
     let given = rw c.in-Some-next.is at c.in-Ok.ensures.given in
-    record {
+    let lent = c.in_default-take_lent.ensures in
+    after_lent g.S.Shelf c.args.shelf.now c.next_line.new.shelf c.args.merger.now c.next_line.new.self
+    c.take_lent.new.merger c.take_line.new.self c.take_lent.new.reader (record {
       keeps = keeps_then g.S.Shelf _ _ _ c.lines.invariant.keeps c.in-Ok.ensures.keeps;
       failed = search rules;
       readers = λ tells known.
@@ -109,7 +170,7 @@ lines-preserved g c =
             given.lines,
             given.bytes_are,
           );
-    }
+    }) lent.lent lent.taken lent.cost
 
 -- whom a stop blames
 pub returns-in-Err-clause-blamed : goal.returns-in-Err-clause-blamed
@@ -118,11 +179,6 @@ returns-in-Err-clause-blamed g c = λ tells known before.
     (c.in-Err.ensures.known (keeps_told g.S.Shelf _ _ inv.keeps tells) (inv.readers tells known)).blamed inv.running
     ∙ ap (λ (names : List (List ℕ)). names ++ blame (so_far c.next_line.new.self).names c.in-Err.stop)
     (inv.blamed tells known)
-
-none_blamed : (names before now : List (List ℕ)) (stop : Stop)
-    → stop ≡ Memory → now ≡ before → now ≡ before ++ blame names stop
-none_blamed names before now stop is same =
-    subst (λ (s : Stop). now ≡ before ++ blame names s) (sym is) (same ∙ sym (append-nil before))
 
 pub returns-in-Err-take_line-clause-blamed : goal.returns-in-Err-take_line-clause-blamed
 returns-in-Err-take_line-clause-blamed g c = λ tells known before.
@@ -170,3 +226,15 @@ returns-clause-stops g c = λ tells before.
     (to_come g.S.Shelf c.args.shelf.now c.args.merger.now))
     (sym (halt.ensures.stop c.in-Ok.ensures.leaves.running))
     (refused _ _ _ _ _ _ halt.ensures.so_far (gives_both _ [] _ _ _ _ _ _ (c.lines.invariant.taken.gives tells) next.0))
+
+-- a line at least was taken
+pub lines-smaller : goal.lines-smaller
+lines-smaller g c =
+    let given = rw c.in-Some-next.is at c.in-Ok.ensures.given in
+    let lent = c.in_default-take_lent.ensures.lent in
+    omega (
+      arith,
+      given.lines,
+      (lent.gives (λ _. None) (λ _. [])).1.lines_are,
+      c.next_line.new.self.run.limits.few,
+    )

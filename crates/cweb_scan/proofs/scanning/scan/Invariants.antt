@@ -1,27 +1,30 @@
 use Rattle.std.proofs.Common.{◌≡◌, ◌≤◌, ◌+◌, ◌*◌, ◌-◌, None}
 use Rattle.std.specs.Prelude.{IsTrue}
+use Rattle.cweb_files.specs.declared.device.Shelf.{Ghosts as Shelf}
 use Rattle.cweb_files.specs.Frames.{KeepsTexts}
 use Rattle.cweb_lines.specs.Merging.{KeepsTold}
 use Rattle.cweb_lines.specs.Whole.{KnowsReaders, to_come, so_far, stop_in}
-use Rattle.cweb_scan.specs.Held.{cost}
+use Rattle.cweb_lines.specs.declared.merger.Merger.{Merger}
+use Rattle.cweb_scan.specs.Held.{Held, cost}
 use Rattle.cweb_scan.specs.Scan.{HasTaken}
 use Rattle.cweb_scan.proofs.scanning.scan.Given as goal
 
+-- lines were taken, and nothing stopped
+pub record HasScanned {S R : Type 0} (shelf : Shelf S R) (was now : S) (old merger : Merger S R)
+    (reader : Held) : Type 0 where
+  pub keeps : KeepsTexts shelf was now
+  pub failed : shelf.failed now ≡ shelf.failed was
+  pub readers : IsTrue (shelf.tells was) → KnowsReaders shelf was old → KnowsReaders shelf now merger
+  pub blamed : IsTrue (shelf.tells was) → KnowsReaders shelf was old → shelf.blamed now ≡ shelf.blamed was
+  pub running : stop_in merger ≡ None
+  pub before : stop_in old ≡ None
+  pub told : KeepsTold (so_far old) (so_far merger)
+  pub taken : HasTaken (shelf.tells was) (so_far old) (so_far merger)
+      (to_come shelf was old) (to_come shelf now merger) reader
+  pub room : cost reader ≤ 3 * ((so_far merger).count.bytes + (so_far merger).count.lines)
+
 abbrev pub invariant-lines : goal.invariant-lines
-invariant-lines g l = record {
-  keeps : KeepsTexts g.S.Shelf l.fn.shelf l.shelf;
-  failed : g.S.Shelf.failed l.shelf ≡ g.S.Shelf.failed l.fn.shelf;
-  readers : IsTrue (g.S.Shelf.tells l.fn.shelf) → KnowsReaders g.S.Shelf l.fn.shelf l.fn.merger
-      → KnowsReaders g.S.Shelf l.shelf l.merger;
-  blamed : IsTrue (g.S.Shelf.tells l.fn.shelf) → KnowsReaders g.S.Shelf l.fn.shelf l.fn.merger
-      → g.S.Shelf.blamed l.shelf ≡ g.S.Shelf.blamed l.fn.shelf;
-  running : stop_in l.merger ≡ None;
-  before : stop_in l.fn.merger ≡ None;
-  told : KeepsTold (so_far l.fn.merger) (so_far l.merger);
-  taken : HasTaken (g.S.Shelf.tells l.fn.shelf) (so_far l.fn.merger) (so_far l.merger)
-      (to_come g.S.Shelf l.fn.shelf l.fn.merger) (to_come g.S.Shelf l.shelf l.merger) l.reader;
-  room : cost l.reader ≤ 3 * ((so_far l.merger).count.bytes + (so_far l.merger).count.lines);
-}
+invariant-lines g l = HasScanned g.S.Shelf l.fn.shelf l.shelf l.fn.merger l.merger l.reader
 
 abbrev pub decreases-lines : goal.decreases-lines
 decreases-lines g l = 16777216 - (so_far l.merger).count.lines
