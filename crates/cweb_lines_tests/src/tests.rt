@@ -1,4 +1,5 @@
 // What no clause says: worked webs and changes, the limits, and devices that fail, that take little at once or that never end.
+mod borders;
 mod changes;
 mod devices;
 mod failing;

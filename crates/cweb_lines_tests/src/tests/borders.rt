@@ -1,0 +1,173 @@
+// Lines that pass through together, where what is read at once ends within them.
+use super::*;
+use std::process::Abort;
+use trial::TrialSink;
+
+// So many lines of 64 bytes stand in front, so that the first read ends 64 bytes behind them.
+const LINES_BEFORE: usize = 1023;
+
+const LINE_BEFORE: &[u8] = b"int counter_of_all_the_lines_in_front[] = { 1, 2, 3, 4, 5, 6 };\n";
+
+// Behind them: plain lines, lines with blanks at their ends, an include line, the old line of a change, the last line without
+// a newline.
+const TAIL: &[u8] = b"one\ntwo \t\nthree\n@i b.w\nfour\nfive\nold\n\nsix  \nseven\nlast";
+
+const TAIL_MERGED: &[u8] = b"one\ntwo\nthree\nin b\nfour\nfive\nnew\n\nsix\nseven\nlast\n";
+
+const AROUND: &[(&str, &[u8])] = &[("b.w", b"in b "), ("c.ch", b"@x\nold\n@y\nnew\n@z\n")];
+
+const PLACED: &[(&str, &[u8])] = &[
+    ("a.w", b"one\ntwo \n@i b.w\nold\nfive\nlast"),
+    ("b.w", b"in b\nbehind\n"),
+    ("c.ch", b"@x\nold\n@y\nnew\nnewer\n@z\n"),
+];
+
+// The file and the number of each of their merged lines, and whether it is lent.
+const PLACES: &[(u32, u32, bool)] = &[
+    (0, 1, false),
+    (0, 2, true),
+    (2, 1, false),
+    (2, 2, true),
+    (1, 4, false),
+    (1, 5, false),
+    (0, 5, false),
+    (0, 6, false),
+];
+
+// The lines in front, a line of so many bytes, and what stands behind it.
+fn text_with(alloc: Global, length: usize, tail: &[u8]) -> Result<Vec<u8>, AllocError> {
+    let mut text = Vec::new(alloc);
+    for _ in 0..LINES_BEFORE {
+        text.extend_from_slice(LINE_BEFORE)?;
+    }
+    for _ in 0..length {
+        text.push(b'x')?;
+    }
+    text.push(b'\n')?;
+    text.extend_from_slice(tail)?;
+    Ok(text)
+}
+
+fn shelf_with(alloc: Global, length: usize) -> Result<MemoryShelf, Fail> {
+    let mut shelf = shelf_of(alloc, AROUND)?;
+    let text = text_with(alloc, length, TAIL)?;
+    shelf.put("a.w", &text)?;
+    Ok(shelf)
+}
+
+// The merged lines, gathered up to so many bytes.
+fn gathered(alloc: Global, length: usize, room: usize) -> Result<Vec<u8>, Fail> {
+    let mut shelf = shelf_with(alloc, length)?;
+    let mut merger = Merger::start(alloc, &mut shelf, "a.w", None, Some("c.ch"), None)?;
+    let mut sink = TrialSink::new(alloc);
+    write_merged_in_pieces(&mut merger, &mut shelf, &mut sink, room)?;
+    Ok(sink.bytes)
+}
+
+// The merged lines, asked for one by one.
+fn one_by_one(alloc: Global, length: usize) -> Result<Vec<u8>, Fail> {
+    let mut shelf = shelf_with(alloc, length)?;
+    let mut merger = Merger::start(alloc, &mut shelf, "a.w", None, Some("c.ch"), None)?;
+    let mut line = Vec::new(alloc);
+    let mut text = Vec::new(alloc);
+    for _ in 0..2 * LINES_BEFORE {
+        let Some(_) = merger.next_line(&mut shelf, &mut line)? else {
+            break;
+        };
+        text.extend_from_slice(&line)?;
+        text.push(b'\n')?;
+    }
+    Ok(text)
+}
+
+// The next line, lent where it can be, and else asked for, behind the text of those before it.
+fn add_line(
+    merger: &mut Merger<MemoryShelf>,
+    shelf: &mut MemoryShelf,
+    line: &mut Vec<u8>,
+    text: &mut Vec<u8>,
+) -> Result<bool, Fail> {
+    if let Some(lent) = merger.lend_line() {
+        text.extend_from_slice(merger.bytes_of(lent))?;
+        return Ok(true);
+    }
+    let Some(_) = merger.next_line(shelf, line)? else {
+        return Ok(false);
+    };
+    text.extend_from_slice(line)?;
+    Ok(true)
+}
+
+// The merged lines, lent as long as they are.
+fn lent(alloc: Global, length: usize) -> Result<Vec<u8>, Fail> {
+    let mut shelf = shelf_with(alloc, length)?;
+    let mut merger = Merger::start(alloc, &mut shelf, "a.w", None, Some("c.ch"), None)?;
+    let mut line = Vec::new(alloc);
+    let mut text = Vec::new(alloc);
+    for _ in 0..2 * LINES_BEFORE {
+        if !add_line(&mut merger, &mut shelf, &mut line, &mut text)? {
+            break;
+        }
+        text.push(b'\n')?;
+    }
+    Ok(text)
+}
+
+fn merges_alike(rt: &(impl AllocGlobal + Abort), length: usize) -> Result<(), Fail> {
+    let want = text_with(rt.alloc(), length, TAIL_MERGED)?;
+    let gathered = gathered(rt.alloc(), length, 65536)?;
+    assert!(rt;
+        gathered.as_slice() == want.as_slice(),
+        "gathered, {length}"
+    );
+    let asked = one_by_one(rt.alloc(), length)?;
+    assert!(rt; asked.as_slice() == want.as_slice(), "one by one, {length}");
+    let lent = lent(rt.alloc(), length)?;
+    assert!(rt; lent.as_slice() == want.as_slice(), "lent, {length}");
+    Ok(())
+}
+
+// The places of lines that are lent are those of lines that are asked for; none is lent before something was read, or where
+// an include line or the old line of a change comes next.
+#[test]
+fn places_of_lent_lines(rt: HostRuntime) -> Result<(), Fail> {
+    let mut shelf = shelf_of(rt.alloc(), PLACED)?;
+    let mut merger = Merger::start(rt.alloc(), &mut shelf, "a.w", None, Some("c.ch"), None)?;
+    let mut line = Vec::new(rt.alloc());
+    for (file, number, is_lent) in PLACES {
+        let lent = merger.lend_line();
+        assert!(rt; lent.is_some() == *is_lent, "{file} {number}");
+        let place = match lent {
+            Some(lent) => Some(lent.place),
+            None => merger.next_line(&mut shelf, &mut line)?,
+        };
+        let want = Place {
+            file: FileId(*file),
+            line: *number,
+        };
+        assert!(rt; place == Some(want), "{file} {number}");
+    }
+    assert!(rt; merger.lend_line().is_none());
+    assert!(rt; merger.next_line(&mut shelf, &mut line)? == None);
+    Ok(())
+}
+
+// The first read ends at each place behind the line in the middle.
+#[test]
+fn lines_around_the_end_of_a_read(rt: HostRuntime) -> Result<(), Fail> {
+    for length in 8..64usize {
+        merges_alike(&rt, length)?;
+    }
+    Ok(())
+}
+
+// Lines are gathered until they have so many bytes, and no line is lost or comes twice where they do.
+#[test]
+fn lines_around_the_end_of_a_piece_that_is_gathered(rt: HostRuntime) -> Result<(), Fail> {
+    let want = text_with(rt.alloc(), 5, TAIL_MERGED)?;
+    for room in [0usize, 1, 64, 65, 1000, 65471, 65472, 65473] {
+        let text = gathered(rt.alloc(), 5, room)?;
+        assert!(rt; text.as_slice() == want.as_slice(), "with room {room}");
+    }
+    Ok(())
+}
