@@ -138,7 +138,6 @@ line_end-apart class.Point = refl
 line_end-apart class.Operator = refl
 line_end-apart class.Glue = refl
 line_end-apart class.Other = refl
-
 -- whether a blank comes before a punctuator, by two tests of its first byte
 abbrev before_sign : Class → Bool → Bool → Bool
 before_sign c s o =
@@ -202,7 +201,8 @@ first-numeric [] h = h
 first-numeric (x ∷ b) h = numeric_is x (46 == x) (43 == x) (45 == x) refl refl refl h
 
 apart-lent : (c : Class) (t : Token) (l : Bordered) → lends t ≡ Some l → is_apart c t ≡ stands_apart c l.border
-apart-lent c (Word b) l h = word-apart c b ∙ ap (stands_apart c) (sym (border_of b border.Word l (list_any is_high b) h))
+apart-lent c (Word b) l h =
+    word-apart c b ∙ ap (stands_apart c) (sym (border_of b border.Word l (list_any is_high b) h))
 apart-lent c (Number b) l h = number-apart c b ∙ ap (λ o. stands_apart c (border_in o)) h
 apart-lent c (Literal b) l h = literal-apart c b ∙ ap (λ o. stands_apart c (border_in o)) h
 apart-lent c (Verbatim b) l h = glue-apart c b ∙ ap (λ o. stands_apart c (border_in o)) h

@@ -9,7 +9,8 @@ returns g c =
     let before = c.args.self.now in
     let text = c.args.text.now in
     let within : s.used ≤ length s.bytes.items = omega (arith, c.self.invariant.0, c.self.invariant.1) in
-    let used : s.used ≡ length before = omega (arith, length-take-le s.used s.bytes.items within, ap length c.self.view_is) in
+    let used : s.used ≡ length before =
+    omega (arith, length-take-le s.used s.bytes.items within, ap length c.self.view_is) in
     rw (
       c.put_at-2.ensures,
       c.put_at.ensures,

@@ -15,16 +15,16 @@ pub tokens-init : goal.tokens-init
 tokens-init c =
     let p = c.args.self.now in
     let first = c.args.part.first in
+    let old = c.args.gathered.now in
     record {
       from = omega arith;
       upto = c.requires.ordered;
       passed =
-          subst
-          (λ (us : List Token). Passed p us (left_behind c.border_of-last.result) c.args.gathered.now c.args.gathered.now)
+          subst (λ (us : List Token). Passed p us (left_behind c.border_of-last.result) old old)
           (sym (slice_range-none (all_tokens c.args.store.now.parts) first first (omega arith)))
-          (subst (λ (l : Left). Passed p [] l c.args.gathered.now c.args.gathered.now)
+          (subst (λ (l : Left). Passed p [] l old old)
           (λ i. record { class = sym c.border_of-last.ensures i; joined = c.if-self.false i })
-          (passed_none p c.args.gathered.now));
+          (passed_none p old));
     }
 
 pub tokens-preserved : goal.tokens-preserved
