@@ -138,6 +138,7 @@ line_end-apart class.Point = refl
 line_end-apart class.Operator = refl
 line_end-apart class.Glue = refl
 line_end-apart class.Other = refl
+
 -- whether a blank comes before a punctuator, by two tests of its first byte
 abbrev before_sign : Class → Bool → Bool → Bool
 before_sign c s o =
