@@ -1,4 +1,4 @@
--- The text of a directive behind its first word: what is told of it, and what its pieces make of it.
+-- The text of a directive that has come too far for an included name: what is told of it, and what its pieces make.
 use Rattle.std.proofs.Common.{◌≡◌, ◌≤◌, ℕ, Bool, true, false, ◌&&◌, not, List, Option, Some, length, take, refl, ap, sym, ◌∙◌, subst}
 use Rattle.std.specs.Prelude.{if◌then◌else◌, codes, option_map}
 use Rattle.std.specs.List.{prefix_len}

@@ -53,7 +53,7 @@ pub record IsPlainC (s : State) : Type 0 where
   pub in_c : s.context ≡ CText
   pub outside : in_directive s ≡ false
 
--- C text in which a directive is open that is past its first word, so that no included name may follow
+-- C text in which a directive is open that has come too far for an included name: more stands in it than blanks and an `include`
 abbrev pub in_directive_text : State → Bool
 in_directive_text s = is_c s.context && is_further_stage (stage_of (directive s).tokens)
 

@@ -138,7 +138,7 @@ impl Directive {
         matches!(self.stage, Stage::Include)
     }
 
-    /// Whether it is open and past its first word.
+    /// Whether more stands in it than blanks and `include`.
     #[inline(always)]
     pub fn is_further(&self) -> bool
         ensures { result ≡ is_further_stage self.now.stage }

@@ -1,4 +1,4 @@
-// The text of a directive behind its first word: the pieces that their first bytes tell, one after another.
+// The text of a directive that has come too far for an included name: the pieces that their first bytes tell, one after another.
 ghost use Rattle.std.specs.Prelude.{◌≡◌, ◌≤◌, ◌<◌, ◌+◌, ◌*◌, IfOk, IfSome, OnOk, OnErr, length, true};
 ghost use Rattle.cweb_store.specs.Calls.{too_many};
 ghost use Rattle.cweb_store.specs.Seen.{seen};
@@ -20,7 +20,7 @@ impl Scanner {
     ghost use Rattle.cweb_scan.specs.Room.{weight};
     ghost use Rattle.cweb_scan.specs.State as spec;
 
-    // Whether a directive is open that is past its first word.
+    // Whether a directive is open that has come too far for an included name.
     #[inline(always)]
     fn in_directive_text(&self) -> bool
         ensures { result ≡ in_directive_text self.now }
@@ -85,8 +85,8 @@ impl Scanner {
         }
     }
 
-    /// Takes the pieces at the front of the rest of a line that their first bytes tell, where a directive is open that is past
-    /// its first word. Answers how many bytes they have.
+    /// Takes the pieces at the front of the rest of a line that their first bytes tell, where a directive is open that has
+    /// come too far for an included name. Answers how many bytes they have.
     #[inline(never)]
     pub(crate) fn take_directive_text(&mut self, rest: &[u8]) -> Result<usize, AllocError>
         requires line { IsLine rest.now }
