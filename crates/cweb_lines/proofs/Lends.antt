@@ -86,7 +86,8 @@ lends_line old new s line lines next one is gives bytes more depth piece = recor
   };
   next = λ texts left.
       subst (λ (ls : List Line). Gives ls (told_by old) (told_by new) (coming texts left old) (coming texts left new))
-      (lies.one ∙ ap (λ (b : List ℕ). record { bytes = b; place = line.place } ∷ []) (sym same)) (gives.gives texts left);
+      (lies.one ∙ ap (λ (b : List ℕ). record { bytes = b; place = line.place } ∷ []) (sym same))
+      (gives.gives texts left);
   grows = record {
     told = told_given _ (told_by old) (told_by new) _ _ (gives.gives (λ _. None) (λ _. []));
     lines = new.limits.few;
@@ -101,7 +102,8 @@ lends_line old new s line lines next one is gives bytes more depth piece = recor
 
     lies : LiesAt (piece_of (top_of old.stack)) line (lines_next (top_of old.stack) lines)
         (length (names_of old.names)) (length (standing lines))
-    lies = lies_at (pending_of old) (top_of old.stack) s line lines (length (names_of old.names)) next.stands one is known
+    lies = lies_at (pending_of old) (top_of old.stack) s line lines (length (names_of old.names)) next.stands one is
+        known
 
     same : bytes_in new line ≡ slice_range (piece_of (top_of old.stack)) line.from line.to
     same = ap (λ (p : List ℕ). slice_range p line.from line.to) piece

@@ -234,14 +234,6 @@ impl Store {
         self.faults.as_slice()
     }
 
-    /// How many tokens there are, of all parts and macros.
-    pub fn tokens(&self) -> u32
-        ensures count { result ≡ length (all_tokens self.now.parts) }
-        ensures few { result < too_many }
-    {
-        self.tokens.len() as u32
-    }
-
     /// How many bytes the texts have, of tokens, names and replacements. They stand in one list of that many bytes, in
     /// which equal texts of Words and punctuators are kept once.
     pub fn text_bytes(&self) -> u64

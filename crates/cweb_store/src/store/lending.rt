@@ -1,13 +1,22 @@
-// What a store's tokens lend.
+// A store's tokens: how many there are, and what they lend.
 
 ghost use Rattle.std.specs.Prelude.{◌≡◌, ◌<◌, length, option_map, slice_get, Some};
 ghost use Rattle.cweb_store.specs.Borders.{lends, lent_seen};
+ghost use Rattle.cweb_store.specs.Calls.{too_many};
 ghost use Rattle.cweb_store.specs.Parts.{all_tokens};
 
 use crate::store::Store;
 use crate::tokens::borders::LentText;
 
 impl Store {
+    /// How many tokens there are, of all parts and macros.
+    pub fn tokens(&self) -> u32
+        ensures count { result ≡ length (all_tokens self.now.parts) }
+        ensures few { result < too_many }
+    {
+        self.tokens.len() as u32
+    }
+
     /// What the token with a number lends, where it is printed as a text stands.
     #[inline(always)]
     pub fn lent(&self, number: u32) -> Option<LentText<'_>>

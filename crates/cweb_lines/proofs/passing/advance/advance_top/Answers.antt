@@ -25,7 +25,8 @@ returns-clause-passes g c = λ entry lines stands.
     let passes = c.advance_slot.ensures.passes entry lines
     (subst (λ slot. StandsAt entry slot c.args.stretch lines) same stands) in
     let level = c.advance_slot.ensures.level in
-    let takes = subst (λ slot. PassesSlot slot c.advance_slot.new.slot c.args.limits.now c.advance_slot.new.limits lines)
+    let takes = subst (λ slot. PassesSlot slot c.advance_slot.new.slot c.args.limits.now c.advance_slot.new.limits
+    lines)
     (sym same) passes in
     let kept = subst (λ slot. KeepsLevel slot c.advance_slot.new.slot) (sym same) level in
     record {

@@ -23,15 +23,18 @@ returns-clause-line g c =
     } in
     let near = c.in-Some.ensures.within in
     let whole = length-take (c.args.source.now.end - c.args.start) (drop c.args.start piece) in
-    subst (λ (p : List ℕ). Reaches entry c.args.may_match p c.args.start c.args.source.now.end s) c.deref.ensures.value (
+    subst (λ (p : List ℕ). Reaches entry c.args.may_match p c.args.start c.args.source.now.end s)
+    c.deref.ensures.value (
       take at bytes ∷ [],
       one_line entry c.args.may_match piece c.args.start c.args.source.now.end at c.trimmed_length-length.result
-          c.in-Some.ensures c.requires (omega (arith, c.trimmed_length-length.ensures.within, size, near)) trims s refl refl
+          c.in-Some.ensures c.requires (omega (arith, c.trimmed_length-length.ensures.within, size, near)) trims s
+          refl refl
           refl (record {
             clean = c.in-Some.ensures.before;
             short = omega (arith, size, c.if-at-gt-LINE_LENGTH.false);
             plain = ap is_include (sym trims) ∙ sym c.is_include.ensures ∙ c.if-is_include.false;
-            unbegun = ap (begun_by entry c.args.may_match) (sym trims) ∙ sym c.begun_at.ensures ∙ c.in_default-begun_at.is;
+            unbegun = ap (begun_by entry c.args.may_match) (sym trims) ∙ sym c.begun_at.ensures
+                ∙ c.in_default-begun_at.is;
           }),
       omega (arith, near, whole),
     )

@@ -12,7 +12,8 @@ returns-clause-given g c = λ lines next.
     let passes = c.advance_top.ensures.passes (pending_of run) lines next.stands in
     let keeps = c.advance_top.ensures.keeps in
     record {
-      gives = gives_next run c.advance_top.new.stack c.advance_top.new.limits c.args.stretch lines next passes keeps.below;
+      gives = gives_next run c.advance_top.new.stack c.advance_top.new.limits c.args.stretch lines next passes
+          keeps.below;
       stopped = refl;
       names = refl;
       counted = omega (
