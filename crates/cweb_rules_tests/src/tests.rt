@@ -43,15 +43,15 @@ fn first_rule_that_fits(rt: HostRuntime) {
 
 #[test]
 fn codes_by_context(rt: HostRuntime) {
-    assert_eq!(rt; in_limbo(b'L'), Effect::Letter);
-    assert_eq!(rt; in_limbo(b'<'), Effect::Faulty(ScanKind::DoubleAtInLimbo));
-    assert_eq!(rt; in_text(b'P'), Effect::Program);
-    assert_eq!(rt; in_text(b'h'), Effect::Nothing);
-    assert_eq!(rt; in_macro(b'F'), Effect::Format);
-    assert_eq!(rt; in_macro(b'h'), Effect::Faulty(ScanKind::DefsInMacro));
-    assert_eq!(rt; in_c(b'd'), Effect::Faulty(ScanKind::IgnoredInCText));
-    assert_eq!(rt; in_c(b'H'), Effect::InsertDefs);
-    assert_eq!(rt; in_c(b'z'), Effect::Nothing);
+    assert!(rt; matches!(in_limbo(b'L'), Effect::Letter));
+    assert!(rt; matches!(in_limbo(b'<'), Effect::Faulty(ScanKind::DoubleAtInLimbo)));
+    assert!(rt; matches!(in_text(b'P'), Effect::Program));
+    assert!(rt; matches!(in_text(b'h'), Effect::Nothing));
+    assert!(rt; matches!(in_macro(b'F'), Effect::Format));
+    assert!(rt; matches!(in_macro(b'h'), Effect::Faulty(ScanKind::DefsInMacro)));
+    assert!(rt; matches!(in_c(b'd'), Effect::Faulty(ScanKind::IgnoredInCText)));
+    assert!(rt; matches!(in_c(b'H'), Effect::InsertDefs));
+    assert!(rt; matches!(in_c(b'z'), Effect::Nothing));
 }
 
 #[test]
@@ -119,7 +119,7 @@ fn constants_and_letters(rt: HostRuntime) -> Result<(), Fail> {
     assert_eq!(rt; found.byte, 252);
     assert_eq!(rt; found.start, 5);
     assert_eq!(rt; found.size, 4);
-    assert_eq!(rt; letter(b"7f x"), None);
-    assert_eq!(rt; letter(b"fcx"), None);
+    assert!(rt; letter(b"7f x").is_none());
+    assert!(rt; letter(b"fcx").is_none());
     Ok(())
 }
