@@ -26,7 +26,7 @@ pub(crate) enum Plain {
 }
 
 // The same for each byte: one look a piece.
-const FIRSTS: [Plain; 256] = [
+static FIRSTS: [Plain; 256] = [
     Operator, Operator, Operator, Operator, Operator, Operator, Operator, Operator, Operator,
     Blank, Further, Blank, Blank, Blank, Operator, Operator, Operator, Operator, Operator,
     Operator, Operator, Operator, Operator, Operator, Operator, Operator, Operator, Operator,
