@@ -7,12 +7,14 @@ use Rattle.std.proofs.lemmas.List.Elements.{All-nil, All-push, All-weaker}
 use Rattle.cweb_files.specs.declared.place.Place.{Place}
 use Rattle.cweb_lines.specs.Lines.{Line, HasNoNewline}
 use Rattle.cweb_lines.specs.Merge.{Event}
-use Rattle.cweb_lines.specs.Merging.{SoFar, Gives, StopsBehind}
+use Rattle.cweb_lines.specs.Merging.{KeepsTold, SoFar, Gives, StopsBehind}
+use Rattle.cweb_lines.specs.Naming.{blame}
 use Rattle.cweb_lines.specs.Told.{given_lines}
-use Rattle.cweb_lines.specs.Whole.{GivesOut, StopsThere}
+use Rattle.cweb_lines.specs.Whole.{GivesOut, Grows, StopsThere}
 use Rattle.cweb_lines.specs.declared.limits.TheConstants.{LINES, BYTES}
 use Rattle.cweb_lines.specs.declared.stop.Stop.{Stop}
 use Rattle.cweb_lines.specs.declared.stop.Stop.TheVariants.{Memory}
+use Rattle.cweb_lines.proofs.Fronts.{told_then}
 use Rattle.cweb_lines.proofs.Merges.{gives_nothing}
 use Rattle.cweb_lines.proofs.Sums.{gives_both, behind_both}
 use Rattle.cweb_lines.proofs.Stacks.{stops_map}
@@ -149,3 +151,17 @@ pub refused : (old so halted : SoFar) (all now : List Event) (lines : List Line)
     → halted ≡ so → Gives lines old so all now → EndsEarly Memory old halted all
 refused old so halted all now lines is gives =
     record { why = tt; told = tells_same old so halted all is (tells_some lines old so all now gives) }
+
+-- what was told grows, also where a merger is halted behind it
+pub grows_then : (a b c : SoFar) → KeepsTold a b → Grows b c → Grows a c
+grows_then a b c told grows =
+    record { told = told_then a b c told grows.told; lines = grows.lines; bytes = grows.bytes }
+
+pub grows_to : (a b c : SoFar) → c ≡ b → Grows a b → Grows a c
+grows_to a b c same grows = subst (λ (s : SoFar). Grows a s) (sym same) grows
+
+-- want of memory blames no file
+pub none_blamed : (names before now : List (List ℕ)) (stop : Stop)
+    → stop ≡ Memory → now ≡ before → now ≡ before ++ blame names stop
+none_blamed names before now stop is same =
+    subst (λ (s : Stop). now ≡ before ++ blame names s) (sym is) (same ∙ sym (append-nil before))

@@ -8,9 +8,8 @@ ghost use Rattle.cweb_lines.specs.Texts.{files_named};
 ghost use Rattle.cweb_lines.specs.Naming.{BlamesFile};
 ghost use Rattle.cweb_lines.specs.Whole.{to_come, so_far, stop_in, HasEnded, Grows, KnowsReaders};
 ghost use Rattle.cweb_store.specs.Calls.{too_many};
-ghost use Rattle.cweb_scan.specs.Held.{cost, read_after};
-ghost use Rattle.cweb_scan.specs.Run.{scanned_of};
-ghost use Rattle.cweb_scan.specs.Scan.{seen, Blames, EndsEarly, HasTaken, IsWithin, Scans};
+ghost use Rattle.cweb_scan.specs.Held.{cost, unread};
+ghost use Rattle.cweb_scan.specs.Scan.{seen, made_of, Blames, EndsEarly, HasTaken, IsWithin, Scans};
 
 pub mod scanned;
 
@@ -22,7 +21,7 @@ use std::alloc::{AllocError, Global};
 // No line follows.
 fn finished(reader: Reader) -> Result<Scanned, AllocError>
     requires { cost reader + 8 < too_many }
-    ensures { IfOk result (λ made. seen made ≡ scanned_of (read_after reader []).state) }
+    ensures { IfOk result (λ made. seen made ≡ made_of reader) }
 {
     let scanner = reader.finish()?;
     scanner.scanned()
@@ -43,6 +42,48 @@ fn take_lent<S: Shelf>(merger: &mut Merger<S>, reader: &mut Reader) -> Result<()
         reader.take_line(line.place, merger.bytes_of(line))?;
     }
     Ok(())
+}
+
+// Takes all lines that are still to come, one after another in the room of a line.
+fn take_lines<S: Shelf>(
+    merger: &mut Merger<S>,
+    shelf: &mut S,
+    line: &mut Vec<u8>,
+    reader: &mut Reader,
+) -> Result<(), Stop>
+    requires count { S.failed shelf.old + 1 < 2 ^ 64 }
+    requires running { stop_in merger.old ≡ None }
+    requires fresh { reader.old ≡ unread }
+    ensures keeps { KeepsTexts S.Shelf shelf.old shelf.new }
+    ensures grows { Grows (so_far merger.old) (so_far merger.new) }
+    ensures scans { IsTrue (S.tells shelf.old) → OnOk result (Scans (made_of reader.new)
+        (so_far merger.old) (so_far merger.new) (to_come S.Shelf shelf.old merger.old)) }
+    ensures within { OnOk result (IsWithin (so_far merger.new) (made_of reader.new)) }
+    ensures ended { OnOk result ((stop_in merger.new ≡ None) × HasEnded merger.new
+        × (S.failed shelf.new ≡ S.failed shelf.old) × (cost reader.new + 8 < too_many)) }
+    ensures stops { IsTrue (S.tells shelf.old) → IfErr result (λ stop. EndsEarly stop
+        (so_far merger.old) (so_far merger.new) (to_come S.Shelf shelf.old merger.old)) }
+    ensures blames { IfErr result (λ stop.
+        Blames stop (S.failed shelf.old) (S.failed shelf.new) (stop_in merger.new)) }
+    ensures blamed { IsTrue (S.tells shelf.old) → KnowsReaders S.Shelf shelf.old merger.old →
+        BlamesFile (so_far merger.new).names (S.blamed shelf.old) (S.blamed shelf.new) result }
+    ensures named { IfErr result (λ stop. files_named stop ≤ length (so_far merger.new).names) }
+{
+    'lines: loop {
+        let next = match merger.next_line(shelf, line) {
+            Ok(next) => next,
+            Err(stop) => return Err(stop),
+        };
+        let Some(place) = next else {
+            return Ok(());
+        };
+        if let Err(_) = reader.take_line(place, line) {
+            return Err(merger.halt());
+        }
+        if let Err(_) = take_lent(merger, reader) {
+            return Err(merger.halt());
+        }
+    }
 }
 
 /// Scans the lines that are still to come: what they give to a store, their faults, their sections. The web's text is these
@@ -77,20 +118,8 @@ pub fn scan<S: Shelf>(alloc: Global, merger: &mut Merger<S>, shelf: &mut S) -> R
     }
     let mut line = Vec::new(alloc);
     let mut reader = Reader::new(alloc);
-    'lines: loop {
-        let next = match merger.next_line(shelf, &mut line) {
-            Ok(next) => next,
-            Err(stop) => return Err(stop),
-        };
-        let Some(place) = next else {
-            break;
-        };
-        if let Err(_) = reader.take_line(place, &line) {
-            return Err(merger.halt());
-        }
-        if let Err(_) = take_lent(merger, &mut reader) {
-            return Err(merger.halt());
-        }
+    if let Err(stop) = take_lines(merger, shelf, &mut line, &mut reader) {
+        return Err(stop);
     }
     match finished(reader) {
         Ok(made) => Ok(made),

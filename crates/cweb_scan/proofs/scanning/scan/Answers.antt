@@ -1,240 +1,35 @@
-use Rattle.std.proofs.Common.{rules, ◌≡◌, ◌≤◌, ◌+◌, ◌*◌, ℕ, Bool, Option, None, List, [], ◌∷◌, ◌++◌, append-nil, subst, refl, ap, sym, ◌∙◌, arith}
-use Rattle.cweb_files.specs.declared.device.Shelf.{Ghosts as Shelf}
-use Rattle.cweb_lines.specs.Lending.{LendsLines}
-use Rattle.cweb_lines.specs.Merge.{Event}
-use Rattle.cweb_lines.specs.Naming.{blame}
-use Rattle.cweb_lines.specs.Texts.{read_blame}
-use Rattle.cweb_lines.specs.Merging.{KeepsTold, SoFar, coming}
-use Rattle.cweb_lines.specs.Whole.{Grows, so_far, to_come}
-use Rattle.cweb_lines.specs.declared.merger.Merger.{Merger}
+use Rattle.std.proofs.Common.{sym, subst}
+use Rattle.cweb_lines.specs.Whole.{so_far, to_come}
 use Rattle.cweb_lines.specs.declared.stop.Stop.{Stop}
-use Rattle.cweb_lines.specs.declared.stop.Stop.TheVariants.{Memory}
-use Rattle.cweb_scan.specs.Scan.{EndsEarly, HasTaken}
-use Rattle.cweb_lines.proofs.Fronts.{told_files, told_same, told_then}
-use Rattle.cweb_lines.proofs.Keeps.{keeps_same, keeps_told, keeps_then}
-use Rattle.cweb_lines.proofs.Sums.{gives_both}
-use Rattle.cweb_scan.specs.Held.{Held, cost, read_after}
-use Rattle.cweb_scan.proofs.Scans.{nothing_taken, given_line_taken, all_within, all_scanned, ends_early, refused}
-use Rattle.cweb_scan.proofs.scanning.scan.Invariants.{HasScanned}
+use Rattle.cweb_scan.specs.Run.{Scanned}
+use Rattle.cweb_scan.specs.Scan.{EndsEarly, IsWithin, Scans}
+use Rattle.cweb_scan.proofs.Scans.{grows_to, none_blamed, refused}
 use Rattle.cweb_scan.proofs.scanning.scan.Goals as goal
 
-pub lines-init : goal.lines-init
-lines-init g c = record {
-  keeps = keeps_same g.S.Shelf _;
-  failed = refl;
-  readers = λ tells known. known;
-  blamed = λ tells known. refl;
-  running = sym c.stopped.ensures.stop ∙ c.in_default.is;
-  before = sym c.stopped.ensures.stop ∙ c.in_default.is;
-  told = told_same _ _ refl refl;
-  taken = rw c.new-reader.ensures (nothing_taken _ _ _);
-  room = omega (arith, ap cost c.new-reader.ensures);
-}
+-- no line is left
+pub returns-in-Ok-clause-scans : goal.returns-in-Ok-clause-scans
+returns-in-Ok-clause-scans g c = λ tells.
+    subst (λ (s : Scanned). Scans s (so_far c.args.merger.now) (so_far c.take_lines.new.merger)
+    (to_come g.S.Shelf c.args.shelf.now c.args.merger.now)) (sym c.in-Ok.ensures)
+    (c.in_default-take_lines.ensures.scans tells)
 
-grows_then : (a b c : SoFar) → KeepsTold a b → Grows b c → Grows a c
-grows_then a b c told grows =
-    record { told = told_then a b c told grows.told; lines = grows.lines; bytes = grows.bytes }
+pub returns-in-Ok-clause-within : goal.returns-in-Ok-clause-within
+returns-in-Ok-clause-within g c =
+    subst (λ (s : Scanned). IsWithin (so_far c.take_lines.new.merger) s) (sym c.in-Ok.ensures)
+    c.in_default-take_lines.ensures.within
 
-grows_to : (a b c : SoFar) → c ≡ b → Grows a b → Grows a c
-grows_to a b c same grows = subst (λ (s : SoFar). Grows a s) (sym same) grows
-
-pub returns-in-Err-clause-grows : goal.returns-in-Err-clause-grows
-returns-in-Err-clause-grows g c = grows_then _ _ _ c.lines.invariant.told c.in-Err.ensures.grows
-
-pub returns-in-Err-take_line-clause-grows : goal.returns-in-Err-take_line-clause-grows
-returns-in-Err-take_line-clause-grows g c =
-    grows_to _ _ _ c.halt.ensures.so_far (grows_then _ _ _ c.lines.invariant.told c.in-Ok.ensures.grows)
-
-pub returns-in-Ok-finished-clause-grows : goal.returns-in-Ok-finished-clause-grows
-returns-in-Ok-finished-clause-grows g c = grows_then _ _ _ c.lines.invariant.told c.in-Ok.ensures.grows
-
+-- memory was refused for the store
 pub returns-clause-grows : goal.returns-clause-grows
-returns-clause-grows g c =
-    grows_to _ _ _ c.halt-in-Err-finished.ensures.so_far (grows_then _ _ _ c.lines.invariant.told c.in-Ok.ensures.grows)
+returns-clause-grows g c = grows_to _ _ _ c.halt.ensures.so_far c.in_default-take_lines.ensures.grows
 
-none_blamed : (names before now : List (List ℕ)) (stop : Stop)
-    → stop ≡ Memory → now ≡ before → now ≡ before ++ blame names stop
-none_blamed names before now stop is same =
-    subst (λ (s : Stop). now ≡ before ++ blame names s) (sym is) (same ∙ sym (append-nil before))
-
--- memory was refused for a line that was lent
-pub returns-in-Err-take_lent-clause-grows : goal.returns-in-Err-take_lent-clause-grows
-returns-in-Err-take_lent-clause-grows g c =
-    grows_to _ _ _ c.halt-in-Err-take_lent.ensures.so_far (grows_then _ _ _
-    (told_then _ _ _ c.lines.invariant.told c.in-Ok.ensures.grows.told) c.in-Err-take_lent.ensures.lent.grows)
-
-pub returns-in-Err-take_lent-clause-stops : goal.returns-in-Err-take_lent-clause-stops
-returns-in-Err-take_lent-clause-stops g c = λ tells before.
-    let next =
-    rw c.in-Some-next.is at (c.in-Ok.ensures.next (keeps_told g.S.Shelf _ _ c.lines.invariant.keeps tells)) in
-    let lent = c.in-Err-take_lent.ensures.lent in
-    let halt = c.halt-in-Err-take_lent in
-    subst (λ (stop : Stop).
-    EndsEarly stop (so_far c.args.merger.now) (so_far halt.new.self)
-    (to_come g.S.Shelf c.args.shelf.now c.args.merger.now))
-    (sym (halt.ensures.stop (lent.stopped ∙ c.in-Ok.ensures.leaves.running)))
-    (refused _ _ _ _ _ _ halt.ensures.so_far (gives_both _ _ _ _ _ _ _ _
-    (gives_both _ _ _ _ _ _ _ _ (c.lines.invariant.taken.gives tells) next)
-    (lent.gives (g.S.Shelf.texts c.next_line.new.shelf) (g.S.Shelf.left c.next_line.new.shelf)).1))
-
-pub returns-in-Err-take_lent-clause-blamed : goal.returns-in-Err-take_lent-clause-blamed
-returns-in-Err-take_lent-clause-blamed g c = λ tells known before.
-    let inv = c.lines.invariant in
-    none_blamed _ _ _ _ (c.halt-in-Err-take_lent.ensures.stop
-    (c.in-Err-take_lent.ensures.lent.stopped ∙ c.in-Ok.ensures.leaves.running))
-    ((c.in-Ok.ensures.known (keeps_told g.S.Shelf _ _ inv.keeps tells) (inv.readers tells known)).blamed inv.running
-    ∙ inv.blamed tells known)
-
--- the merger stopped
-pub returns-in-Err-clause-stops : goal.returns-in-Err-clause-stops
-returns-in-Err-clause-stops g c = λ tells before.
-    ends_early _ _ _ _ _ _ _ (c.lines.invariant.taken.gives tells)
-    (c.in-Err.ensures.stops (keeps_told g.S.Shelf _ _ c.lines.invariant.keeps tells) c.lines.invariant.running)
-
-pub returns-in-Err-clause-blames : goal.returns-in-Err-clause-blames
-returns-in-Err-clause-blames g c = λ before.
-    let blames = c.in-Err.ensures.blames c.lines.invariant.running in
-    record {
-      kind = blames.reading;
-      failed = blames.failed ∙ ap (λ n. n + read_blame c.in-Err.stop) c.lines.invariant.failed;
-      kept = c.in-Err.ensures.leaves.kept;
-    }
-
--- memory was refused for a line
-pub returns-in-Err-take_line-clause-stops : goal.returns-in-Err-take_line-clause-stops
-returns-in-Err-take_line-clause-stops g c = λ tells before.
-    let next =
-    rw c.in-Some-next.is at (c.in-Ok.ensures.next (keeps_told g.S.Shelf _ _ c.lines.invariant.keeps tells)) in
-    subst (λ (stop : Stop).
-    EndsEarly stop (so_far c.args.merger.now) (so_far c.halt.new.self)
-    (to_come g.S.Shelf c.args.shelf.now c.args.merger.now))
-    (sym (c.halt.ensures.stop c.in-Ok.ensures.leaves.running))
-    (refused _ _ _ _ _ _ c.halt.ensures.so_far (gives_both _ _ _ _ _ _ _ _ (c.lines.invariant.taken.gives tells) next))
-
--- lines were lent
-after_lent : {S R : Type 0} (shelf : Shelf S R) (before now : S) (old merger new : Merger S R) (reader next : Held)
-    → HasScanned shelf before now old merger reader → LendsLines merger.run new.run
-    → ((tells : Bool) (first : SoFar) (all : List Event) (texts : List ℕ → Option (List ℕ)) (left : R → List ℕ)
-    → HasTaken tells first (so_far merger) all (coming texts left merger.run) reader
-    → HasTaken tells first (so_far new) all (coming texts left new.run) next)
-    → cost next ≤ 3 * ((so_far new).count.bytes + (so_far new).count.lines)
-    → HasScanned shelf before now old new next
-after_lent shelf before now old merger new reader next scanned lent taken room = record {
-  keeps = scanned.keeps;
-  failed = scanned.failed;
-  readers = λ tells known. lent.readers (shelf.opened_as now) (scanned.readers tells known);
-  blamed = scanned.blamed;
-  running = lent.stopped ∙ scanned.running;
-  before = scanned.before;
-  told = told_then _ _ _ scanned.told lent.grows.told;
-  taken = taken (shelf.tells before) (so_far old) (to_come shelf before old) (shelf.texts now) (shelf.left now)
-      scanned.taken;
-  room = room;
-}
-
-pub lines-preserved : goal.lines-preserved
-lines-preserved g c =
-    let given = rw c.in-Some-next.is at c.in-Ok.ensures.given in
-    let lent = c.in_default-take_lent.ensures in
-    after_lent g.S.Shelf c.args.shelf.now c.next_line.new.shelf c.args.merger.now c.next_line.new.self
-    c.take_lent.new.merger c.take_line.new.self c.take_lent.new.reader (record {
-      keeps = keeps_then g.S.Shelf _ _ _ c.lines.invariant.keeps c.in-Ok.ensures.keeps;
-      failed = search rules;
-      readers = λ tells known.
-          (c.in-Ok.ensures.known (keeps_told g.S.Shelf _ _ c.lines.invariant.keeps tells)
-          (c.lines.invariant.readers tells known)).readers;
-      blamed = λ tells known.
-          (c.in-Ok.ensures.known (keeps_told g.S.Shelf _ _ c.lines.invariant.keeps tells)
-          (c.lines.invariant.readers tells known)).blamed c.lines.invariant.running
-          ∙ c.lines.invariant.blamed tells known;
-      running = c.in-Ok.ensures.leaves.running;
-      before = c.lines.invariant.before;
-      told = told_then _ _ _ c.lines.invariant.told c.in-Ok.ensures.grows.told;
-      taken =
-          given_line_taken _ _ _ _ _ _ _ _ _
-          (record { bytes = c.next_line.new.line.items; place = c.in-Some-next.place })
-          c.lines.invariant.taken given (told_files _ _ c.in-Ok.ensures.grows.told)
-          (λ more.
-          subst (λ (bytes : List ℕ).
-          read_after c.take_line.new.self more
-          ≡ read_after c.lines.reader (record { bytes = bytes; place = c.in-Some-next.place } ∷ more))
-          c.deref.ensures.value (c.in_default-take_line.ensures.read more))
-          (λ tells.
-          rw c.in-Some-next.is at (c.in-Ok.ensures.next (keeps_told g.S.Shelf _ _ c.lines.invariant.keeps tells)));
-      room =
-          omega (
-            arith,
-            c.in_default-take_line.ensures.cost,
-            c.deref.ensures.len,
-            c.lines.invariant.room,
-            given.lines,
-            given.bytes_are,
-          );
-    }) lent.lent lent.taken lent.cost
-
--- whom a stop blames
-pub returns-in-Err-clause-blamed : goal.returns-in-Err-clause-blamed
-returns-in-Err-clause-blamed g c = λ tells known before.
-    let inv = c.lines.invariant in
-    (c.in-Err.ensures.known (keeps_told g.S.Shelf _ _ inv.keeps tells) (inv.readers tells known)).blamed inv.running
-    ∙ ap (λ (names : List (List ℕ)). names ++ blame (so_far c.next_line.new.self).names c.in-Err.stop)
-    (inv.blamed tells known)
-
-pub returns-in-Err-take_line-clause-blamed : goal.returns-in-Err-take_line-clause-blamed
-returns-in-Err-take_line-clause-blamed g c = λ tells known before.
-    let inv = c.lines.invariant in
-    none_blamed _ _ _ _ (c.halt.ensures.stop c.in-Ok.ensures.leaves.running)
-    ((c.in-Ok.ensures.known (keeps_told g.S.Shelf _ _ inv.keeps tells) (inv.readers tells known)).blamed inv.running
-    ∙ inv.blamed tells known)
-
-pub returns-in-Ok-finished-clause-blamed : goal.returns-in-Ok-finished-clause-blamed
-returns-in-Ok-finished-clause-blamed g c = λ tells known before.
-    let inv = c.lines.invariant in
-    (c.in-Ok.ensures.known (keeps_told g.S.Shelf _ _ inv.keeps tells) (inv.readers tells known)).blamed inv.running
-    ∙ inv.blamed tells known
+pub returns-clause-stops : goal.returns-clause-stops
+returns-clause-stops g c = λ tells before.
+    let taken = c.in_default-take_lines.ensures in
+    subst (λ (stop : Stop). EndsEarly stop (so_far c.args.merger.now) (so_far c.halt.new.self)
+    (to_come g.S.Shelf c.args.shelf.now c.args.merger.now)) (sym (c.halt.ensures.stop taken.ended.0))
+    (refused _ _ _ _ _ _ c.halt.ensures.so_far (taken.scans tells).gives)
 
 pub returns-clause-blamed : goal.returns-clause-blamed
 returns-clause-blamed g c = λ tells known before.
-    let inv = c.lines.invariant in
-    none_blamed _ _ _ _ (c.halt-in-Err-finished.ensures.stop c.in-Ok.ensures.leaves.running)
-    ((c.in-Ok.ensures.known (keeps_told g.S.Shelf _ _ inv.keeps tells) (inv.readers tells known)).blamed inv.running
-    ∙ inv.blamed tells known)
-
--- no line is left
-pub returns-in-Ok-finished-clause-scans : goal.returns-in-Ok-finished-clause-scans
-returns-in-Ok-finished-clause-scans g c = λ tells.
-    let next =
-    rw c.in_default-next.is at (c.in-Ok.ensures.next (keeps_told g.S.Shelf _ _ c.lines.invariant.keeps tells)) in
-    let taken = c.lines.invariant.taken in
-    all_scanned _ _ _ _ _ _ _ c.lines.reader _ taken.read_is taken.few
-    (taken.gives tells) c.in-Ok-finished.ensures next.0 next.1
-
-pub returns-in-Ok-finished-clause-within : goal.returns-in-Ok-finished-clause-within
-returns-in-Ok-finished-clause-within g c =
-    let limits = c.lines.merger.run.limits in
-    all_within _ _ _ _ _ _ c.lines.reader _ c.lines.invariant.taken c.in-Ok-finished.ensures
-    (told_files _ _ c.in-Ok.ensures.grows.told) limits.small limits.few
-
--- memory was refused for the store
-pub returns-clause-stops : goal.returns-clause-stops
-returns-clause-stops g c = λ tells before.
-    let next =
-    rw c.in_default-next.is at (c.in-Ok.ensures.next (keeps_told g.S.Shelf _ _ c.lines.invariant.keeps tells)) in
-    let halt = c.halt-in-Err-finished in
-    subst (λ (stop : Stop).
-    EndsEarly stop (so_far c.args.merger.now) (so_far halt.new.self)
-    (to_come g.S.Shelf c.args.shelf.now c.args.merger.now))
-    (sym (halt.ensures.stop c.in-Ok.ensures.leaves.running))
-    (refused _ _ _ _ _ _ halt.ensures.so_far (gives_both _ [] _ _ _ _ _ _ (c.lines.invariant.taken.gives tells) next.0))
-
--- a line at least was taken
-pub lines-smaller : goal.lines-smaller
-lines-smaller g c =
-    let given = rw c.in-Some-next.is at c.in-Ok.ensures.given in
-    let lent = c.in_default-take_lent.ensures.lent in
-    omega (
-      arith,
-      given.lines,
-      (lent.gives (λ _. None) (λ _. [])).1.lines_are,
-      c.next_line.new.self.run.limits.few,
-    )
+    let taken = c.in_default-take_lines.ensures in
+    none_blamed _ _ _ _ (c.halt.ensures.stop taken.ended.0) (taken.blamed tells known)

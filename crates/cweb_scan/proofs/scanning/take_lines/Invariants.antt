@@ -7,7 +7,7 @@ use Rattle.cweb_lines.specs.Whole.{KnowsReaders, to_come, so_far, stop_in}
 use Rattle.cweb_lines.specs.declared.merger.Merger.{Merger}
 use Rattle.cweb_scan.specs.Held.{Held, cost}
 use Rattle.cweb_scan.specs.Scan.{HasTaken}
-use Rattle.cweb_scan.proofs.scanning.scan.Given as goal
+use Rattle.cweb_scan.proofs.scanning.take_lines.Given as goal
 
 -- lines were taken, and nothing stopped
 pub record HasScanned {S R : Type 0} (shelf : Shelf S R) (was now : S) (old merger : Merger S R)
@@ -17,7 +17,6 @@ pub record HasScanned {S R : Type 0} (shelf : Shelf S R) (was now : S) (old merg
   pub readers : IsTrue (shelf.tells was) → KnowsReaders shelf was old → KnowsReaders shelf now merger
   pub blamed : IsTrue (shelf.tells was) → KnowsReaders shelf was old → shelf.blamed now ≡ shelf.blamed was
   pub running : stop_in merger ≡ None
-  pub before : stop_in old ≡ None
   pub told : KeepsTold (so_far old) (so_far merger)
   pub taken : HasTaken (shelf.tells was) (so_far old) (so_far merger)
       (to_come shelf was old) (to_come shelf now merger) reader
