@@ -31,13 +31,35 @@ pub fn name_faults(
     requires few { length standings.now < 2 ^ 32 }
     ensures { IfOk result (λ all. all.items ≡ told.faults table.now parts.now) }
 {
-    let used = parts.uses(alloc, standings)?;
-    let present = names_with_part(alloc, parts.runs(), standings)?;
     let mut faults = Vec::new(alloc);
     add_standing_faults(&mut faults, standings)?;
     add_prefix_faults(&mut faults, table.names())?;
-    add_missing_faults(&mut faults, table.names(), &used, files, &present)?;
+    add_faults_of_parts(alloc, &mut faults, table, parts, standings, files)?;
     Ok(faults)
+}
+
+// Adds a fault for each name of the table that wants a part and has none.
+fn add_faults_of_parts(
+    alloc: Global,
+    faults: &mut Vec<NameFault>,
+    table: &NameTable,
+    parts: &ClosedParts,
+    standings: &[Result<NameId, NameKind>],
+    files: &IndexSet<NameId>,
+) -> Result<(), AllocError>
+    requires settled { standings.now ≡ spec.standings table.now }
+    requires given { files.now.keys ≡ spec.files table.now }
+    requires few { length standings.now < 2 ^ 32 }
+    ensures { OnOk result
+        (faults.new.items
+        ≡ faults.old.items
+        ++ faults_where NotPresent
+        (λ n text. told.is_missing table.now parts.now n)
+        (spec.names table.now)) }
+{
+    let used = parts.uses(alloc, standings)?;
+    let present = names_with_part(alloc, parts.runs(), standings)?;
+    add_missing_faults(faults, table.names(), &used, files, &present)
 }
 
 // The names that have a part.
