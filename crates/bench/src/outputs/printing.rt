@@ -20,11 +20,6 @@ const TOKEN_ROOM: usize = 32;
 
 /// Plans a store, and where the step says so, expands or prints its main file.
 pub fn show(rt: &impl Print, alloc: Global, store: &Store, step: &str) -> Result<()> {
-    let mut shelf = MemoryShelf::new(alloc);
-    shelf.put(WEB, b"")?;
-    let Ok(merger) = Merger::start(alloc, &mut shelf, WEB, None, None, None) else {
-        bail!("no web");
-    };
     let Ok(plan) = plan(alloc, store, "web.c") else {
         bail!("no plan");
     };
@@ -37,15 +32,34 @@ pub fn show(rt: &impl Print, alloc: Global, store: &Store, step: &str) -> Result
             println!(rt; "{tokens} tokens expanded")?;
             Ok(())
         }
-        _ => {
-            let mut out = MemorySink::with_room(alloc, room(store))?;
-            let mut gathered = Gathered::new(alloc)?;
-            print(&mut expander, merger.names(), &mut gathered, &mut out)?;
-            let bytes = out.bytes().len();
-            println!(rt; "{bytes} bytes printed")?;
-            Ok(())
-        }
+        _ => show_printed(rt, alloc, &mut expander),
     }
+}
+
+// Prints what an expander gives, and says how much that is.
+fn show_printed(rt: &impl Print, alloc: Global, expander: &mut Expander<'_>) -> Result<()>
+    requires { Stands expander.old.store.now
+        expander.old.frames.items (vec_capacity expander.old.frames) }
+{
+    let mut shelf = MemoryShelf::new(alloc);
+    shelf.put(WEB, b"")?;
+    let Ok(merger) = Merger::start(alloc, &mut shelf, WEB, None, None, None) else {
+        bail!("no web");
+    };
+    let bytes = printed(alloc, expander, merger.names())?;
+    println!(rt; "{bytes} bytes printed")?;
+    Ok(())
+}
+
+// How many bytes are printed of what an expander gives.
+fn printed(alloc: Global, expander: &mut Expander<'_>, names: &FileNames) -> Result<usize>
+    requires { Stands expander.old.store.now
+        expander.old.frames.items (vec_capacity expander.old.frames) }
+{
+    let mut out = MemorySink::with_room(alloc, room(expander.store))?;
+    let mut gathered = Gathered::new(alloc)?;
+    print(expander, names, &mut gathered, &mut out)?;
+    Ok(out.bytes().len())
 }
 
 fn room(store: &Store) -> usize {

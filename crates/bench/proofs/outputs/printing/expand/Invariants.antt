@@ -1,4 +1,4 @@
-use Rattle.std.proofs.Common.{◌≡◌, vec_capacity}
+use Rattle.std.proofs.Common.{vec_capacity}
 use Rattle.cweb_out.specs.Frames.{Stands}
 use Rattle.bench.proofs.outputs.printing.expand.Given as goal
 
