@@ -1,15 +1,15 @@
 -- What becomes of parts that are runs of a list of tokens.
 use Rattle.std.proofs.Common.{◌≡◌, ℕ, ◌+◌, ◌-◌, ◌≤◌, ◌<◌, List, [], ◌∷◌, ◌++◌, Some, None, Option, map, length, take, drop, refl, sym, ◌∙◌, ap, subst, arith, append_assoc, append-nil, length-append, length-drop, inl, inr}
-use Rattle.std.specs.Prelude.{slice_range, option_map, option_to_list, IsSome}
+use Rattle.std.specs.Prelude.{slice_range, option_map, IsSome}
 use Rattle.std.proofs.Math.Seq.{drop-length, length-take-le}
-use Rattle.std.proofs.lemmas.List.{length-map, drop-drop, take-append-drop, drop-append-le, take-append-le, drop-take, take-take, take_all, map-append}
+use Rattle.std.proofs.lemmas.List.{drop-drop, take-append-drop, drop-append-le, take-append-le, drop-take, take-take, take_all, map-append}
 use Rattle.std.proofs.lemmas.Bool.{cases_lt}
 use Rattle.std.proofs.lemmas.Grind.{flat_map-append}
 use Rattle.cweb_store.specs.declared.parts.PartKind.{PartKind}
 use Rattle.cweb_store.specs.declared.parts.Run.{Run}
 use Rattle.cweb_store.specs.declared.parts.Open.{Open}
 use Rattle.cweb_store.specs.Parts.{Token, Part, all_tokens}
-use Rattle.cweb_store.specs.Growing.{PartsSoFar, all_parts, pushed, part_count}
+use Rattle.cweb_store.specs.Growing.{PartsSoFar, all_parts, pushed}
 use Rattle.cweb_store.specs.Calls.{too_many}
 use Rattle.cweb_store.specs.Runs.{runs_from, IsWhole, last_run, closed_in, open_in, parts_in, Follow, AreRuns}
 
@@ -182,13 +182,6 @@ pub close-cut-are : (ts : List Token) (runs : List Run) (o : Open) (places more 
 close-cut-are ts runs o places more n tied le within =
     subst (λ (k : ℕ). AreRuns (take n ts) (runs ++ last_run o k ∷ []) None more) (length-take-le n ts within)
     (close-are (take n ts) runs o places more (cut-are ts runs o places n tied le within))
-
--- how many parts there are
-pub parts-count : (ts : List Token) (runs : List Run) (current : Option Open)
-    → part_count (parts_in ts runs current) ≡ length runs + length (option_to_list current)
-parts-count ts runs None = omega (arith, length-append (map (closed_in ts) runs) [], length-map runs (closed_in ts))
-parts-count ts runs (Some o) =
-    omega (arith, length-append (map (closed_in ts) runs) (open_in ts o ∷ []), length-map runs (closed_in ts))
 
 -- all tokens of parts that are all closed
 pub whole-tokens : (ts : List Token) (runs : List Run) → IsWhole ts runs → all_tokens (map (closed_in ts) runs) ≡ ts

@@ -5,6 +5,7 @@ use Rattle.std.specs.List.{list_any}
 use Rattle.std.proofs.lemmas.List.{length-set}
 use Rattle.std.proofs.lemmas.List.Folds.{list_any-append}
 use Rattle.std.specs.Cmp.Lexicographic.{bytes_decides}
+use Rattle.std.proofs.lemmas.Bool.{eqb-true}
 use Rattle.cweb_store.specs.declared.tokens.words.key.Key.{Key}
 use Rattle.cweb_store.specs.declared.tokens.words.slot.Slot.{Slot}
 use Rattle.cweb_store.specs.Keys.{key_of, home_of}
@@ -101,6 +102,28 @@ used-not zero h = absurd (h refl)
 used-not (suc n) h = refl
 
 -- a slot that has a word is alike
+-- what a slot has in common with a word
+pub record Alike (s : Slot) (key : Key) (len : ℕ) : Type 0 where
+  pub used : is_used s.len ≡ true
+  pub len_is : s.len ≡ len
+  pub key_is : s.key ≡ key
+
+pub alike-in : (s : Slot) (key : Key) (len : ℕ) → is_alike s key len ≡ true → Alike s key len
+alike-in s key len alike =
+    let keys : Bool = nat_eq s.key.first key.first && nat_eq s.key.last key.last in
+    let some = and-both (is_used len) (nat_eq s.len len && keys) alike in
+    let sizes = and-both (nat_eq s.len len) keys some.right in
+    let halves = and-both (nat_eq s.key.first key.first) (nat_eq s.key.last key.last) sizes.right in
+    let same : s.len ≡ len = eqb-true s.len len sizes.left in
+    record {
+      used = ap is_used same ∙ some.left;
+      len_is = same;
+      key_is = λ i. record {
+        first = eqb-true s.key.first key.first halves.left i;
+        last = eqb-true s.key.last key.last halves.right i;
+      };
+    }
+
 pub slot-alike : (texts : List (List ℕ)) (q : List ℕ) (s : Slot) → (is_used s.len ≡ true → Holds texts s)
     → is_alike s (key_of q) (length q) ≡ false → slot_is texts q s ≡ false
 slot-alike texts q s hold other =
@@ -121,7 +144,8 @@ slot-alike texts q s hold other =
     alike : (s : Slot) (key : Key) (len : ℕ) → is_used s.len ≡ true → s.len ≡ len → s.key ≡ key
         → is_alike s key len ≡ true
     alike s key len used count same =
-        ap (λ b. b && (nat_eq s.len len && (nat_eq s.key.first key.first && nat_eq s.key.last key.last))) used
+        ap (λ b. b && (nat_eq s.len len && (nat_eq s.key.first key.first && nat_eq s.key.last key.last)))
+        (ap is_used (sym count) ∙ used)
         ∙ ap (λ b. b && (nat_eq s.key.first key.first && nat_eq s.key.last key.last)) (eq-same s.len len count)
         ∙ ap (λ b. b && nat_eq s.key.last key.last) (eq-same s.key.first key.first (ap (λ (x : Key). x.first) same))
         ∙ eq-same s.key.last key.last (ap (λ (x : Key). x.last) same)

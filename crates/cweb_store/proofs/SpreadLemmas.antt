@@ -1,10 +1,10 @@
 -- What becomes of words where they are spread over other slots.
-use Rattle.std.proofs.Common.{◌≡◌, ℕ, Bool, true, false, ◌||◌, List, map, Some, refl, sym, ◌∙◌, ap}
-use Rattle.std.specs.Prelude.{slice_get, bytes_eq}
+use Rattle.std.proofs.Common.{◌≡◌, ℕ, Bool, true, false, ◌||◌, List, map, refl, ◌∙◌, ap}
+use Rattle.std.specs.Prelude.{bytes_eq}
 use Rattle.std.specs.List.{list_any}
 use Rattle.cweb_store.specs.declared.tokens.words.slot.Slot.{Slot}
 use Rattle.cweb_store.specs.Slots.{Entries, IsInserted, IsPlaced, slot_is, stands_in, word_in}
-use Rattle.cweb_store.proofs.ListLemmas.{or-assoc, or-last, any-at}
+use Rattle.cweb_store.proofs.ListLemmas.{or-assoc, or-last}
 use Rattle.cweb_store.proofs.SlotLemmas.{put-any}
 use Rattle.cweb_store.proofs.MapLemmas.{insert-any}
 
@@ -36,19 +36,3 @@ pub inserted-old : (q word : List ℕ) (es new : Entries) (number : ℕ) → IsI
 inserted-old q word es new number put =
     ap (λ b. bytes_eq q word || b) (insert-any q word es new number put)
     ∙ or-absorb (bytes_eq q word) (list_any (bytes_eq q) (map word_in es))
-
-pub old-stands : (texts : List (List ℕ)) (old : List Slot) (es new : Entries) (k : ℕ) (slot : Slot) (q : List ℕ)
-    → slice_get old k ≡ Some slot
-    → (slot_is texts q slot || list_any (bytes_eq q) (map word_in new))
-    ≡ (slot_is texts q slot || list_any (bytes_eq q) (map word_in es))
-    → stands_in texts old new q ≡ stands_in texts old es q
-old-stands texts old es new k slot q there same =
-    let before = list_any (bytes_eq q) (map word_in es) in
-    let after = list_any (bytes_eq q) (map word_in new) in
-    (elim (slot_is texts q slot) as (λ b. slot_is texts q slot ≡ b → (b || after) ≡ (b || before) →
-    stands_in texts old new q ≡ stands_in texts old es q) [
-      | true ↦ λ is g.
-          let any = any-at (slot_is texts q) old k slot there is in
-          ap (λ b. b || after) any ∙ sym (ap (λ b. b || before) any)
-      | false ↦ λ is g. ap (λ b. list_any (slot_is texts q) old || b) g
-    ]) refl same

@@ -1,17 +1,12 @@
 -- Texts in one list of bytes, and how many bytes tokens and texts have.
-use Rattle.std.proofs.Common.{◌≡◌, ℕ, zero, suc, ◌+◌, ◌<◌, ◌≤◌, Bool, true, false, List, [], ◌∷◌, ◌++◌, Some, map, length, take, drop, refl, sym, ◌∙◌, ap, arith, length-append, append_assoc, append-nil, flat_map}
-use Rattle.std.specs.Prelude.{slice_get, filter, bytes_eq, if◌then◌else◌}
+use Rattle.std.proofs.Common.{◌≡◌, ℕ, zero, suc, ◌+◌, ◌<◌, ◌≤◌, Bool, true, false, List, [], ◌∷◌, ◌++◌, map, length, take, drop, refl, sym, ◌∙◌, ap, arith, length-append, append_assoc, flat_map}
+use Rattle.std.specs.Prelude.{filter, bytes_eq, if◌then◌else◌}
 use Rattle.std.specs.List.{list_any}
 use Rattle.std.proofs.lemmas.List.{take-append-drop, drop-append-le, take-append-le, take-map}
 use Rattle.std.proofs.lemmas.List.Elements.{filter-append}
-use Rattle.cweb_store.specs.Parts as spec
 use Rattle.cweb_store.specs.Parts.{Token}
-use Rattle.cweb_store.specs.declared.tokens.layout.Trailing.{Trailing}
-use Rattle.cweb_store.specs.declared.tokens.layout.Trailing.TheVariants as trailing
 use Rattle.cweb_store.specs.declared.tokens.packed.Packed.{Packed}
 use Rattle.cweb_store.specs.declared.tokens.packed.Packed.TheVariants.{Word, Number, Literal, Verbatim, Punct, Blank, Newline, Join, Defs, Name, Head, Tail, Mark}
-use Rattle.cweb_store.specs.Layout.{before_last, without_last, without_last_after, is_blank}
-use Rattle.cweb_store.specs.Trailing.{is_dropped}
 use Rattle.cweb_store.specs.PackedTexts.{text_bytes}
 use Rattle.cweb_store.specs.Words.{TextsAndWords, has}
 use Rattle.cweb_store.specs.Packed.{text_at, token_in, IsWithin, ArePacked, Packs}
@@ -19,7 +14,6 @@ use Rattle.cweb_store.specs.Texts.{token_texts, has_text, total, words_of, other
 use Rattle.cweb_store.specs.ClosedTokens.{with_text, tokens_and_texts, AreTokens, AreClosed}
 use Rattle.cweb_store.proofs.PackedLemmas.{packs-tokens, packs-all, packed-take, packed-grow, tokens-grow}
 use Rattle.cweb_store.proofs.WordLemmas.{total-append, words-push, same-words, same-bytes, same-more, same-more-bytes}
-use Rattle.cweb_store.proofs.LayoutLemmas.{take-next}
 
 stands-after : (x bytes text : List ℕ) → StandsIn bytes text → StandsIn (x ++ bytes) text
 stands-after x bytes text s = (x ++ s.0, s.1, ap (λ b. x ++ b) s.2 ∙ sym (append_assoc x s.0 (text ++ s.1)))
@@ -81,76 +75,6 @@ bytes-split own ts =
     let both : total length (take own ts ++ drop own ts) ≡ total length ts =
     ap (total length) (take-append-drop own ts) in
     omega (arith, bytes-total ts, bytes-total (take own ts), total-append length (take own ts) (drop own ts), both)
-
--- tokens that are dropped have no text
-dropped-none : (t : Trailing) (token : Token) → is_dropped t token ≡ true → has_text token ≡ false
-dropped-none trailing.Layout (spec.Word b) h = cc
-dropped-none trailing.Layout (spec.Number b) h = cc
-dropped-none trailing.Layout (spec.Literal b) h = cc
-dropped-none trailing.Layout (spec.Verbatim b) h = cc
-dropped-none trailing.Layout (spec.Punct b) h = cc
-dropped-none trailing.Newlines (spec.Word b) h = cc
-dropped-none trailing.Newlines (spec.Number b) h = cc
-dropped-none trailing.Newlines (spec.Literal b) h = cc
-dropped-none trailing.Newlines (spec.Verbatim b) h = cc
-dropped-none trailing.Newlines (spec.Punct b) h = cc
-dropped-none t spec.Blank h = refl
-dropped-none t spec.Newline h = refl
-dropped-none t spec.Join h = refl
-dropped-none t spec.Defs h = refl
-dropped-none t (spec.Name name) h = refl
-dropped-none t (spec.Head section) h = refl
-dropped-none t (spec.Tail section) h = refl
-dropped-none t (spec.Mark place) h = refl
-
-gone : (token : Token) (ts : List Token) → has_text token ≡ false → filter has_text (token ∷ ts) ≡ filter has_text ts
-gone token ts h = ap (λ b. if b then token ∷ filter has_text ts else filter has_text ts) h
-
-before_last-texts : (t : Trailing) (token : Token) (ts : List Token)
-    → filter has_text (before_last (is_dropped t) token ts) ≡ filter has_text (token ∷ ts)
-before_last-texts t token [] =
-    (elim (is_dropped t token) as (λ b.
-    is_dropped t token ≡ b → filter has_text (if b then [] else token ∷ []) ≡ filter has_text (token ∷ [])) [
-      | true ↦ λ h. sym (gone token [] (dropped-none t token h))
-      | false ↦ λ h. refl
-    ]) refl
-before_last-texts t token (u ∷ us) = refl
-
-without_last-texts : (t : Trailing) (ts : List Token)
-    → filter has_text (without_last (is_dropped t) ts) ≡ filter has_text ts
-without_last-texts t [] = refl
-without_last-texts t (x ∷ ts) =
-    before_last-texts t x (without_last (is_dropped t) ts)
-    ∙ ap (λ us. if has_text x then x ∷ us else us) (without_last-texts t ts)
-
-pub trimmed-texts : (n : ℕ) (t : Trailing) (ts : List Token)
-    → filter has_text (without_last_after n (is_dropped t) ts) ≡ filter has_text ts
-trimmed-texts n t ts =
-    filter-append has_text (take n ts) (without_last (is_dropped t) (drop n ts))
-    ∙ ap (λ us. filter has_text (take n ts) ++ us) (without_last-texts t (drop n ts))
-    ∙ sym (filter-append has_text (take n ts) (drop n ts)) ∙ ap (filter has_text) (take-append-drop n ts)
-
-blank-none : (t : Token) → is_blank t ≡ true → has_text t ≡ false
-blank-none (spec.Word b) h = cc
-blank-none (spec.Number b) h = cc
-blank-none (spec.Literal b) h = cc
-blank-none (spec.Verbatim b) h = cc
-blank-none (spec.Punct b) h = cc
-blank-none spec.Blank h = refl
-blank-none spec.Newline h = refl
-blank-none spec.Join h = refl
-blank-none spec.Defs h = refl
-blank-none (spec.Name name) h = refl
-blank-none (spec.Head section) h = refl
-blank-none (spec.Tail section) h = refl
-blank-none (spec.Mark place) h = refl
-
-pub blank-texts : (ts : List Token) (k : ℕ) (t : Token) → slice_get ts k ≡ Some t
-    → is_blank t ≡ true → filter has_text (take k ts) ≡ filter has_text (take (suc k) ts)
-blank-texts ts k t h blank =
-    sym (ap (filter has_text) (take-next ts k t h) ∙ filter-append has_text (take k ts) (t ∷ [])
-    ∙ ap (λ us. filter has_text (take k ts) ++ us) (gone t [] (blank-none t blank))
-    ∙ append-nil (filter has_text (take k ts)))
 
 -- one more token
 pub packs-are : (old new : TextsAndWords) (ps : List Packed) (t : Token) (p : Packed)

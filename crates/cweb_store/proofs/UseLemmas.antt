@@ -1,5 +1,5 @@
 -- What tokens use, and whether one passes a test, by where the next one that does stands.
-use Rattle.std.proofs.Common.{◌≡◌, ◌≤◌, ◌<◌, ◌+◌, ℕ, Bool, true, false, ◌||◌, List, [], ◌∷◌, ◌++◌, Some, refl, sym, ◌∙◌, ap, ltb-true, ltb-false}
+use Rattle.std.proofs.Common.{◌≡◌, ◌<◌, ◌+◌, ℕ, Bool, true, false, ◌||◌, List, [], ◌∷◌, ◌++◌, Some, refl, sym, ◌∙◌, ap, ltb-true, ltb-false}
 use Rattle.std.specs.Prelude.{nat_lt, slice_get, slice_range}
 use Rattle.std.specs.List.{list_any}
 use Rattle.std.proofs.lemmas.List.Folds.{list_any-append}
@@ -75,7 +75,3 @@ used-step rs ns ms ts part i next t here less more is =
     used-from-next rs ms ts (record { first = i + 1; after = part.after }) next is
     ∙ ap (λ ks. used_from rs ks (slice_range ts (i + 1) part.after)) more
     ∙ sym (ap (used_from rs ns) (range-head ts i part.after t here less))
-
-pub used-end : (rs : List Standing) (ns : List NameId) (ts : List Token) (i k : ℕ)
-    → k ≤ i → used_from rs ns (slice_range ts i k) ≡ ns
-used-end rs ns ts i k le = ap (used_from rs ns) (range-none ts i k le)

@@ -32,7 +32,8 @@ is_high b = nat_le 128 b
 
 -- one of three borders, by two tests of the last byte: it is a point, it is an operator byte
 abbrev pub last_by : Border → Border → Border → Bool → Bool → Border
-last_by plain operator point is_point is_operator = if is_point then point else (if is_operator then operator else plain)
+last_by plain operator point is_point is_operator =
+    if is_point then point else (if is_operator then operator else plain)
 
 -- the border of a punctuator, by two tests of its first byte, and those of its last one
 abbrev pub sign_by : Bool → Bool → Bool → Bool → Border
@@ -42,7 +43,8 @@ sign_by is_numeric is_operator is_point ends =
     else last_by border.PlainPlain border.PlainOperator border.PlainPoint is_point ends)
 
 abbrev pub sign_border : List ℕ → Border
-sign_border b = sign_by (first_is is_numeric b) (first_is is_operator b) (last_is (λ x. x == 46) b) (last_is is_operator b)
+sign_border b =
+    sign_by (first_is is_numeric b) (first_is is_operator b) (last_is (λ x. x == 46) b) (last_is is_operator b)
 
 -- that of a text, which is told where all its bytes are ASCII
 abbrev pub text_border : List ℕ → Border

@@ -1,5 +1,5 @@
 -- The key of a word, and where the words of a key stand in a table.
-use Rattle.std.specs.Prelude.{ℕ, ◌<◌, ◌+◌, ◌-◌, ◌*◌, ◌/◌, ◌%◌, ◌^◌, nat_lt, List, length, take, drop, slice_index_or, if◌then◌else◌}
+use Rattle.std.specs.Prelude.{ℕ, ◌<◌, ◌+◌, ◌-◌, ◌*◌, ◌/◌, ◌%◌, ◌^◌, nat_lt, List, length, take, drop, slice_index_or, if◌then◌else◌, bit_xor}
 use Rattle.std.specs.Int.{w32, w64, from_le_bytes}
 use Rattle.cweb_store.specs.declared.tokens.words.key.Key.{Key}
 
@@ -31,9 +31,12 @@ key_of word =
     if nat_lt (length word) 4 then short_key word
     else (if nat_lt (length word) 8 then middle_key word else long_key word)
 
--- the two numbers mixed into one
+abbrev pub product_of : Key → ℕ
+product_of key = ((key.first + (key.last * 0x8EBC6AF09C88C6E3) % 2 ^ 64) % 2 ^ 64) * 0x9FB21C651E98DF25
+
+-- the two numbers mixed into one: both halves of a product, so that each of their bits counts
 unfoldable pub mixed : Key → ℕ
-mixed key = ((((key.first * 0x9E3779B97F4A7C15) % 2 ^ 64 + key.last) % 2 ^ 64) * 0xD6E8FEB86659FD93) % 2 ^ 64
+mixed key = bit_xor (product_of key / 2 ^ 64) (product_of key % 2 ^ 64)
 
 -- where the window of a key begins among n slots
 unfoldable pub home_of : Key → ℕ → ℕ

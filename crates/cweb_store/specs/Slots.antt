@@ -25,7 +25,7 @@ slot_is texts word s = is_used s.len && bytes_eq word (slot_text texts s)
 
 -- a slot that isn't free has a word with the key and the length
 abbrev pub is_alike : Slot → Key → ℕ → Bool
-is_alike s key len = is_used s.len && (nat_eq s.len len && (nat_eq s.key.first key.first && nat_eq s.key.last key.last))
+is_alike s key len = is_used len && (nat_eq s.len len && (nat_eq s.key.first key.first && nat_eq s.key.last key.last))
 
 -- a slot tells the length and the key of its text
 pub record Holds (texts : List (List ℕ)) (s : Slot) : Type 0 where

@@ -87,6 +87,19 @@ impl KeptTexts {
         ensures ok { IfOk result (λ number. KeepsWord self.old sign.now number self.new) }
         ensures err { OnErr result (self.new ≡ self.old) }
     {
+        if sign.len() == 1 {
+            return self.keep_byte(sign);
+        }
+        self.keep_word(sign)
+    }
+
+    // The same, and the number of one that is a single byte is noted, so that its byte tells it from now on.
+    #[inline(never)]
+    fn keep_byte(&mut self, sign: &[u8]) -> Result<u32, AllocError>
+        requires few { length self.old.texts + 1 < too_many }
+        ensures ok { IfOk result (λ number. KeepsWord self.old sign.now number self.new) }
+        ensures err { OnErr result (self.new ≡ self.old) }
+    {
         let number = self.texts.keep_word(sign)? as u32;
         if let [byte] = sign {
             self.begin();

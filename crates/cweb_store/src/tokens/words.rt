@@ -69,20 +69,19 @@ impl WordTexts {
         ensures ok { IfOk result (λ number. KeepsWord self.old word.now number self.new) }
         ensures err { OnErr result (self.new ≡ self.old) }
     {
-        let key = Key::of(word);
-        if let Some(number) = first_slot(&self.texts, self.slots.as_slice(), key, word) {
+        if let Some(number) = first_slot(&self.texts, self.slots.as_slice(), word) {
             return Ok(number);
         }
-        self.look_up(key, word)
+        self.look_up(word)
     }
 
     // Keeps a word that the first slot of its window may not have.
     #[inline(never)]
-    fn look_up(&mut self, key: Key, word: &[u8]) -> Result<usize, AllocError>
-        requires key { key ≡ key_of word.now }
+    fn look_up(&mut self, word: &[u8]) -> Result<usize, AllocError>
         ensures ok { IfOk result (λ number. KeepsWord self.old word.now number self.new) }
         ensures err { OnErr result (self.new ≡ self.old) }
     {
+        let key = Key::of(word);
         let window = window_of(self.slots.as_slice(), key);
         if let Some(number) = find_slot(&self.texts, window, key, word) {
             return Ok(number);

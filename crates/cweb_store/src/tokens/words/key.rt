@@ -2,7 +2,7 @@
 
 ghost use Rattle.std.specs.Prelude.{◌≡◌, ◌≤◌, length, slice_index_or};
 ghost use Rattle.std.specs.Int.{w32, w64, from_le_bytes};
-ghost use Rattle.cweb_store.specs.Keys.{key_of, home_of};
+ghost use Rattle.cweb_store.specs.Keys.{key_of, home_of, mixed};
 
 /// The numbers that the first bytes of a word and its last ones make.
 #[derive(Clone, Copy)]
@@ -11,10 +11,11 @@ pub struct Key {
     pub last: u64,
 }
 
-// Odd numbers with no pattern in their bits.
-const FIRST_FACTOR: u64 = 0x9E37_79B9_7F4A_7C15;
+// Odd numbers with no pattern in their bits. Other pairs of such numbers left more Words outside their first slot, of those
+// of a web, of numbered names and of headers.
+const LAST_FACTOR: u64 = 0x8EBC_6AF0_9C88_C6E3;
 
-const LAST_FACTOR: u64 = 0xD6E8_FEB8_6659_FD93;
+const BOTH_FACTOR: u64 = 0x9FB2_1C65_1E98_DF25;
 
 impl Key {
     /// The key of a word. With its length it tells a word of at most 16 bytes.
@@ -46,12 +47,19 @@ pub fn home(key: Key, slots: usize) -> usize
     ensures is { result ≡ home_of key slots }
     ensures within { result ≤ slots }
 {
-    let mixed = key
-        .first
-        .wrapping_mul(FIRST_FACTOR)
-        .wrapping_add(key.last)
-        .wrapping_mul(LAST_FACTOR);
-    ((mixed as u128 * slots as u128) >> 64) as usize
+    ((mixed(key) as u128 * slots as u128) >> 64) as usize
+}
+
+// The two numbers of a key as one. All bits of it count in those that `home` looks at.
+#[inline(always)]
+fn mixed(key: Key) -> u64
+    ensures { result ≡ mixed key }
+{
+    let both = key.first.wrapping_add(key.last.wrapping_mul(LAST_FACTOR));
+    let product = both as u128 * BOTH_FACTOR as u128;
+    let high = (product >> 64) as u64;
+    let low = (product % (1 << 64)) as u64;
+    high ^ low
 }
 
 fn byte_at(word: &[u8], place: usize) -> u8

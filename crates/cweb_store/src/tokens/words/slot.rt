@@ -70,16 +70,17 @@ pub fn window_of(slots: &[Slot], key: Key) -> &[Slot]
 /// The number of the text of a word, if it is told by its key and the first slot of its window has it: no text is looked at,
 /// and nothing is called.
 #[inline(always)]
-pub fn first_slot(texts: &PackedTexts, slots: &[Slot], key: Key, word: &[u8]) -> Option<usize>
-    requires hold { AllHold texts.now slots.now }
-    requires key { key ≡ key_of word.now }
+pub fn first_slot(texts: &PackedTexts, slots: &[Slot], word: &[u8]) -> Option<usize>
+    requires { AllHold texts.now slots.now }
     ensures { IfSome result (λ number.
-        IsFound texts.now (window_of key slots.now) word.now number) }
+        IsFound texts.now (window_of (key_of word.now) slots.now) word.now number) }
 {
+    if word.is_empty() || word.len() > TOLD {
+        return None;
+    }
+    let key = Key::of(word);
     match slots.get(home(key, slots.len())) {
-        Some(slot) if word.len() <= TOLD && is_word(texts, *slot, key, word) => {
-            Some(slot.number as usize)
-        }
+        Some(slot) if is_word(texts, *slot, key, word) => Some(slot.number as usize),
         _ => None,
     }
 }
@@ -132,10 +133,7 @@ fn know_bytes(text: &[u8])
 fn is_alike(slot: Slot, key: Key, len: usize) -> bool
     ensures { result ≡ is_alike slot key len }
 {
-    slot.len != 0
-        && slot.len as usize == len
-        && slot.key.first == key.first
-        && slot.key.last == key.last
+    len != 0 && slot.len as usize == len && slot.key.first == key.first && slot.key.last == key.last
 }
 
 /// Puts a new word into a free slot of its window, and answers whether there was one, and its numbers fit.

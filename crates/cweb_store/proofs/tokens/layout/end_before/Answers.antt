@@ -5,7 +5,7 @@ use Rattle.cweb_store.specs.Trailing.{is_dropped}
 use Rattle.cweb_store.specs.Seen.{seen}
 use Rattle.cweb_store.specs.Texts.{has_text}
 use Rattle.cweb_store.proofs.LayoutLemmas.{trim-next}
-use Rattle.cweb_store.proofs.TextLemmas.{trimmed-texts}
+use Rattle.cweb_store.proofs.LayoutTexts.{trimmed-texts}
 use Rattle.cweb_store.proofs.tokens.layout.end_before.Goals as goal
 
 pub loop-end-preserved : goal.loop-end-preserved

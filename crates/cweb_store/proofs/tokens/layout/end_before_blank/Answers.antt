@@ -3,7 +3,7 @@ use Rattle.std.specs.Prelude.{filter}
 use Rattle.cweb_store.specs.Layout.{without_blank}
 use Rattle.cweb_store.specs.Seen.{seen}
 use Rattle.cweb_store.specs.Texts.{has_text}
-use Rattle.cweb_store.proofs.TextLemmas.{blank-texts}
+use Rattle.cweb_store.proofs.LayoutTexts.{blank-texts}
 use Rattle.cweb_store.proofs.LayoutLemmas.{blank-dropped, blank-none, drop-all}
 use Rattle.cweb_store.proofs.tokens.layout.end_before_blank.Goals as goal
 use Rattle.cweb_store.proofs.tokens.layout.end_before_blank.Goals.{else-from-end-via-then-from-end+else-is_blank, else-from-end-via-else-from-end}

@@ -1,11 +1,12 @@
-use Rattle.std.proofs.Common.{List, sym, subst}
+use Rattle.std.proofs.Common.{List, sym, subst, ap}
 use Rattle.cweb_store.specs.declared.tokens.words.slot.Slot.{Slot}
+use Rattle.cweb_store.specs.Keys.{key_of}
 use Rattle.cweb_store.specs.Slots.{AllHold, IsFound, window_of}
 use Rattle.cweb_store.proofs.KeepLemmas.{slot-known}
 use Rattle.cweb_store.proofs.tokens.words.WordTexts.keep_word.Goals as goal
 
-pub first_slot-requires-clause-hold : goal.first_slot-requires-clause-hold
-first_slot-requires-clause-hold c =
+pub first_slot-requires : goal.first_slot-requires
+first_slot-requires c =
     let s = c.self.inside in
     subst (λ (slots : List Slot). AllHold s.texts slots) (sym c.as_slice.ensures.value) c.self.invariant.in_slots.hold
 
@@ -17,4 +18,4 @@ returns-in-Some-clause-ok c =
     rw (← c.self.view_is)
     (slot-known s.texts word s.slots.items s.words.entries number
     (subst (λ (w : List Slot). IsFound s.texts w word number)
-    (λ i. window_of (c.of-key.ensures i) (c.as_slice.ensures.value i)) c.in-Some.ensures))
+    (ap (window_of (key_of word)) c.as_slice.ensures.value) c.in-Some.ensures))

@@ -15,7 +15,7 @@ use Rattle.cweb_store.proofs.tokens.words.WordTexts.look_up.Goals as goal
 pub find_slot-requires-clause-hold : goal.find_slot-requires-clause-hold
 find_slot-requires-clause-hold c =
     let s = c.self.inside in
-    let key = c.args.key in
+    let key = c.of-key.result in
     let window : c.window_of-window.result.now ≡ window_of key s.slots.items =
     c.window_of-window.ensures ∙ ap (window_of key) c.as_slice.ensures.value in
     subst (λ (w : List Slot). AllHold s.texts w) (sym window)
@@ -26,7 +26,7 @@ returns-in-Some-clause-ok c =
     let s = c.self.inside in
     let word = c.args.word.now in
     let window : c.window_of-window.result.now ≡ window_of (key_of word) s.slots.items =
-    c.window_of-window.ensures ∙ (λ i. window_of (c.requires.key i) (c.as_slice.ensures.value i)) in
+    c.window_of-window.ensures ∙ (λ i. window_of (c.of-key.ensures i) (c.as_slice.ensures.value i)) in
     rw (← c.self.view_is)
     (slot-known s.texts word s.slots.items s.words.entries c.in-Some.number
     (subst (λ (w : List Slot). IsFound s.texts w word c.in-Some.number) window c.in-Some.ensures))
@@ -45,7 +45,7 @@ keep_new-requires-clause-absent c =
     let s = c.self.inside in
     let word = c.args.word.now in
     let window : c.window_of-window.result.now ≡ window_of (key_of word) s.slots.items =
-    c.window_of-window.ensures ∙ (λ i. window_of (c.requires.key i) (c.as_slice.ensures.value i)) in
+    c.window_of-window.ensures ∙ (λ i. window_of (c.of-key.ensures i) (c.as_slice.ensures.value i)) in
     let none : list_any (slot_is s.texts word) (window_of (key_of word) s.slots.items) ≡ false =
     ap (list_any (slot_is s.texts word)) (sym window) ∙ c.in_default.ensures in
     let absent : lookup (λ (k : Vec ℕ Global). is_eq (slice_cmp nat_cmp word k.items)) s.words.entries ≡ None =

@@ -1,13 +1,11 @@
-use Rattle.std.proofs.Common.{◌≡◌, ◌&&◌, true, false, length, sym, ◌∙◌, ap, arith}
-use Rattle.std.specs.Prelude.{nat_eq, bytes_eq}
+use Rattle.std.proofs.Common.{◌≡◌, ◌&&◌, false, length, sym, ◌∙◌, ap, arith}
+use Rattle.std.specs.Prelude.{bytes_eq}
 use Rattle.std.specs.Cmp.Lexicographic.{bytes_decides}
-use Rattle.std.proofs.lemmas.Bool.{eqb-true}
 use Rattle.cweb_store.specs.Keys.{key_of}
-use Rattle.cweb_store.specs.Slots.{is_alike, is_used, slot_text}
-use Rattle.cweb_store.proofs.ListLemmas.{and-both}
+use Rattle.cweb_store.specs.Slots.{is_alike, slot_text}
 use Rattle.cweb_store.proofs.PackedLemmas.{get-text, get-within}
 use Rattle.cweb_store.proofs.KeyLemmas.{key-tells}
-use Rattle.cweb_store.proofs.SlotLemmas.{hold-text, slot-alike}
+use Rattle.cweb_store.proofs.SlotLemmas.{alike-in, hold-text, slot-alike}
 use Rattle.cweb_store.proofs.tokens.words.slot.is_word.Goals as goal
 
 pub returns-then-not-is_alike : goal.returns-then-not-is_alike
@@ -22,13 +20,9 @@ returns-then-not-is_alike c =
 pub text-text-requires : goal.text-text-requires
 text-text-requires c =
     let slot = c.args.slot in
-    let alike : is_alike slot c.args.key (length c.args.word.now) ≡ true =
-    sym c.is_alike.ensures ∙ c.if-not-is_alike.false in
-    let used =
-    and-both (is_used slot.len)
-    (nat_eq slot.len (length c.args.word.now)
-    && (nat_eq slot.key.first c.args.key.first && nat_eq slot.key.last c.args.key.last)) alike in
-    let holds = c.requires.hold used.left in
+    let alike =
+    alike-in slot c.args.key (length c.args.word.now) (sym c.is_alike.ensures ∙ c.if-not-is_alike.false) in
+    let holds = c.requires.hold alike.used in
     get-within c.args.texts.now slot.number holds.text holds.there
 
 pub returns-then-word-le-TOLD : goal.returns-then-word-le-TOLD
@@ -36,42 +30,24 @@ returns-then-word-le-TOLD c =
     let slot = c.args.slot in
     let word = c.args.word.now in
     let texts = c.args.texts.now in
-    let key = c.args.key in
-    let alike : is_alike slot key (length word) ≡ true = sym c.is_alike.ensures ∙ c.if-not-is_alike.false in
-    let used =
-    and-both (is_used slot.len)
-    (nat_eq slot.len (length word) && (nat_eq slot.key.first key.first && nat_eq slot.key.last key.last)) alike in
-    let sizes =
-    and-both (nat_eq slot.len (length word))
-    (nat_eq slot.key.first key.first && nat_eq slot.key.last key.last) used.right in
-    let halves = and-both (nat_eq slot.key.first key.first) (nat_eq slot.key.last key.last) sizes.right in
-    let holds = c.requires.hold used.left in
+    let alike = alike-in slot c.args.key (length word) (sym c.is_alike.ensures ∙ c.if-not-is_alike.false) in
+    let holds = c.requires.hold alike.used in
     let text : slot_text texts slot ≡ c.text-text.result.now =
     get-text texts slot.number c.text-text.result.now c.text-text.ensures in
     let same : c.text-text.result.now ≡ holds.text = sym text ∙ hold-text texts slot holds in
-    let keys : slot.key ≡ key = λ i. record {
-      first = eqb-true slot.key.first key.first halves.left i;
-      last = eqb-true slot.key.last key.last halves.right i;
-    } in
     let told : word ≡ c.text-text.result.now =
-    key-tells word c.text-text.result.now
-    (omega (arith, eqb-true slot.len (length word) sizes.left, holds.len, ap length same))
+    key-tells word c.text-text.result.now (omega (arith, alike.len_is, holds.len, ap length same))
     c.if-word-le-TOLD.true c.know_bytes.ensures c.know_bytes-then-word-le-TOLD.ensures
-    (sym c.requires.key ∙ sym keys ∙ holds.key ∙ ap key_of (sym same)) in
-    sym (ap (λ b. b && bytes_eq word (slot_text texts slot)) used.left
+    (sym c.requires.key ∙ sym alike.key_is ∙ holds.key ∙ ap key_of (sym same)) in
+    sym (ap (λ b. b && bytes_eq word (slot_text texts slot)) alike.used
     ∙ (bytes_decides word (slot_text texts slot)).1 (told ∙ sym text))
 
 pub returns : goal.returns
 returns c =
     let slot = c.args.slot in
     let word = c.args.word.now in
-    let alike : is_alike slot c.args.key (length word) ≡ true =
-    sym c.is_alike.ensures ∙ c.if-not-is_alike.false in
-    let used =
-    and-both (is_used slot.len)
-    (nat_eq slot.len (length word)
-    && (nat_eq slot.key.first c.args.key.first && nat_eq slot.key.last c.args.key.last)) alike in
+    let alike = alike-in slot c.args.key (length word) (sym c.is_alike.ensures ∙ c.if-not-is_alike.false) in
     let text : slot_text c.args.texts.now slot ≡ c.text-text.result.now =
     get-text c.args.texts.now slot.number c.text-text.result.now c.text-text.ensures in
     c.eq.ensures ∙ ap (bytes_eq word) (sym text)
-    ∙ ap (λ b. b && bytes_eq word (slot_text c.args.texts.now slot)) (sym used.left)
+    ∙ ap (λ b. b && bytes_eq word (slot_text c.args.texts.now slot)) (sym alike.used)

@@ -2,7 +2,7 @@ use Rattle.std.proofs.Common.{◌≡◌, ◌∷◌, [], slice_index_or, sym, sub
 use Rattle.cweb_store.specs.Signs.{IsSign}
 use Rattle.cweb_store.specs.Words.{KeepsWord}
 use Rattle.cweb_store.proofs.SignLemmas.{signs-stay-word, is-sign, one-byte}
-use Rattle.cweb_store.proofs.tokens.kept.KeptTexts.look_up.Goals as goal
+use Rattle.cweb_store.proofs.tokens.kept.KeptTexts.keep_byte.Goals as goal
 
 pub invariant_of-self : goal.invariant_of-self
 invariant_of-self c =
