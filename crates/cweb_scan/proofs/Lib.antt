@@ -60,6 +60,7 @@ pub mod PlainFirsts
 pub mod FirstTable
 pub mod Plains
 pub mod PlainTurns
+pub mod WholeLiterals
 pub mod Furthers
 pub mod FurtherLiterals
 pub mod DirectiveTexts

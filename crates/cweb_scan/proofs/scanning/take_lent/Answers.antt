@@ -1,4 +1,4 @@
-use Rattle.std.proofs.Common.{◌≡◌, ◌+◌, ◌*◌, ℕ, List, ◌∷◌, length, ap, subst, arith}
+use Rattle.std.proofs.Common.{◌≡◌, ℕ, List, ◌∷◌, length, ap, subst, arith}
 use Rattle.cweb_lines.specs.Lending.{bytes_in}
 use Rattle.cweb_lines.proofs.Fronts.{told_files}
 use Rattle.cweb_lines.proofs.Lends.{lends_more}
