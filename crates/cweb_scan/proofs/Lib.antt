@@ -61,6 +61,7 @@ pub mod FirstTable
 pub mod Plains
 pub mod PlainTurns
 pub mod WholeLiterals
+pub mod Blanks
 pub mod Furthers
 pub mod FurtherLiterals
 pub mod DirectiveTexts
