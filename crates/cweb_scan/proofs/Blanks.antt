@@ -12,7 +12,7 @@ use Rattle.cweb_scan.specs.Held.{Held, Takes, goes_on}
 use Rattle.cweb_scan.specs.Plain.{past_blank, IsPlainC, TakesPlain}
 use Rattle.cweb_scan.specs.State.{State}
 use Rattle.cweb_scan.proofs.PlainTurns.{left_line, some_goes_on, TakesSome}
-use Rattle.cweb_scan.proofs.Plains.{blanks_turn, rule_at}
+use Rattle.cweb_scan.proofs.Plains.{blanks_turn}
 use Rattle.cweb_scan.proofs.Rests.{drop_more, takes_none}
 use Rattle.cweb_scan.proofs.Turns.{between}
 
