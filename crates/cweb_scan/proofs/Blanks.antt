@@ -29,8 +29,8 @@ run_taken [] s line h = record { taken = λ g. takes_none [] (between s g) }
 run_taken (b ∷ t) s line h = (elim (is_blank b) as (λ v.
     is_blank b ≡ v → TakesPlain (if v then 1 + prefix_len is_blank t else 0) (b ∷ t) s s) [
       | true ↦ λ e.
-      blanks_turn (1 + prefix_len is_blank t) (b ∷ t) s line (omega arith) h (blank_first _ b t e)
-      (ap (λ v. if v then 1 + prefix_len is_blank t else 0) (sym e))
+          blanks_turn (1 + prefix_len is_blank t) (b ∷ t) s line (omega arith) h (blank_first _ b t e)
+          (ap (λ v. if v then 1 + prefix_len is_blank t else 0) (sym e))
       | false ↦ λ e. record { taken = λ g. takes_none (b ∷ t) (between s g) }
     ]) refl
 
@@ -60,10 +60,10 @@ blank_passed text [] a b line h f = f
 blank_passed text (x ∷ t) a b line h f = (elim (x == 32) as (λ v.
     (x == 32) ≡ v → TakesSome text (if v then t else x ∷ t) a b) [
       | true ↦ λ e.
-      let same = eqb-true x 32 e in
-      let own = left_line text (x ∷ t) a b line f in
-      some_goes_on 1 text (x ∷ t) t a b b refl f
-      (subst (λ y. TakesPlain 1 (y ∷ t) b b) (sym same)
-      (one_blank t b (subst (λ y. IsLine (y ∷ t)) same own) h))
+          let same = eqb-true x 32 e in
+          let own = left_line text (x ∷ t) a b line f in
+          some_goes_on 1 text (x ∷ t) t a b b refl f
+          (subst (λ y. TakesPlain 1 (y ∷ t) b b) (sym same)
+          (one_blank t b (subst (λ y. IsLine (y ∷ t)) same own) h))
       | false ↦ λ e. f
     ]) refl
