@@ -33,3 +33,4 @@ pub mod UnitNewlines
 pub mod Newlines
 pub mod FirstBytes
 pub mod WordTable
+pub mod WordRuns

@@ -1,8 +1,10 @@
 -- What the first byte of C text tells of the rule that fits.
-use Rattle.std.specs.Prelude.{ℕ, if◌then◌else◌}
-use Rattle.cweb_rules.specs.Bytes.{is_blank, is_word_byte}
+use Rattle.std.specs.Prelude.{ℕ, ◌==◌, if◌then◌else◌}
+use Rattle.cweb_rules.specs.Bytes.{is_blank, is_digit, is_word_byte}
 use Rattle.cweb_rules.specs.Rules.{is_settled}
 use Rattle.cweb_rules.specs.declared.rule.Lead.{Lead}
+use Rattle.cweb_rules.specs.declared.rule.Rule.{Rule}
+use Rattle.cweb_rules.specs.declared.rule.Rule.TheVariants as rule
 use Rattle.cweb_rules.specs.declared.rule.Lead.TheVariants as first
 
 -- where it leaves but one rule, that one
@@ -11,3 +13,10 @@ lead b =
     if is_blank b then first.Blank
     else (if is_settled b then (if is_word_byte b then first.Word else first.Sign)
     else first.Open)
+
+-- what the byte behind a `/` tells, and the one behind a `.`
+abbrev pub behind_slash : ℕ → Rule
+behind_slash b = if 42 == b then rule.Comment else (if 47 == b then rule.LineComment else rule.Punctuator)
+
+abbrev pub behind_dot : ℕ → Rule
+behind_dot b = if is_digit b then rule.Number else rule.Punctuator

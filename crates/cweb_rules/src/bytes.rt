@@ -1,5 +1,5 @@
 // The classes of bytes, and what a text begins with.
-ghost use Rattle.std.specs.Prelude.{◌≡◌, ◌≤◌, IsTrue, length, true};
+ghost use Rattle.std.specs.Prelude.{◌≡◌, ◌≤◌, IsTrue, length, take, true};
 ghost use Rattle.std.specs.List.{prefix_len};
 ghost use Rattle.cweb_rules.specs.Bytes as spec;
 ghost use Rattle.cweb_rules.specs.Classes.{in_class};
@@ -122,8 +122,61 @@ pub fn starts(class: Class, text: &[u8]) -> bool
     }
 }
 
+// How many of the first four bytes stand before one that is none of an identifier.
+#[inline(always)]
+fn word_len_of_four(text: &[u8]) -> usize
+    requires { 4 ≤ length text.now }
+    ensures { result ≡ prefix_len spec.is_word_byte (take 4 text.now) }
+{
+    let [first, second, third, fourth, ..] = text else {
+        return 0;
+    };
+    if !is_word_byte(*first) {
+        return 0;
+    }
+    if !is_word_byte(*second) {
+        return 1;
+    }
+    if !is_word_byte(*third) {
+        return 2;
+    }
+    if !is_word_byte(*fourth) {
+        return 3;
+    }
+    4
+}
+
+// How many bytes at a text's front are of an identifier, looked at by fours.
+#[inline(always)]
+fn word_len(text: &[u8]) -> usize
+    ensures value { result ≡ prefix_len spec.is_word_byte text.now }
+    ensures within { result ≤ length text.now }
+{
+    let mut rest = text;
+    'fours: while 4 <= rest.len() {
+        let size = word_len_of_four(rest);
+        if size < 4 {
+            return text.len() - rest.len() + size;
+        }
+        rest = rest.split_at(4).1;
+    }
+    text.len() - rest.len() + short_run_len(Class::Word, rest)
+}
+
 /// How many bytes at a text's front are of a class.
+#[inline(always)]
 pub fn run_len(class: Class, text: &[u8]) -> usize
+    ensures value { result ≡ prefix_len (in_class class) text.now }
+    ensures within { result ≤ length text.now }
+{
+    match class {
+        Class::Word => word_len(text),
+        _ => short_run_len(class, text),
+    }
+}
+
+// The same, one byte at a time.
+fn short_run_len(class: Class, text: &[u8]) -> usize
     ensures value { result ≡ prefix_len (in_class class) text.now }
     ensures within { result ≤ length text.now }
 {

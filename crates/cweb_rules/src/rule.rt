@@ -2,9 +2,9 @@
 ghost use Rattle.std.specs.Prelude.{◌≡◌, ◌<◌, length};
 ghost use Rattle.cweb_rules.specs.Fronts as spec;
 ghost use Rattle.cweb_rules.specs.Rules as rules;
-ghost use Rattle.cweb_rules.specs.Leads.{lead};
+ghost use Rattle.cweb_rules.specs.Leads.{behind_dot, behind_slash, lead};
 
-use crate::bytes::{Class, begins, is_word_byte, starts, starts_section};
+use crate::bytes::{Class, begins, is_digit, is_word_byte, starts, starts_section};
 use crate::end::End;
 use crate::items::{Item, reach};
 use crate::literals::{starts_literal, starts_raw};
@@ -96,9 +96,47 @@ pub fn c_rule(includes: bool, text: &[u8]) -> Rule
     }
 }
 
-// The first rule that fits, each tried in its turn.
+// The same where the first byte leaves it open: a `/`, a `.` and an `@` are told by the byte behind them.
 #[inline(never)]
 fn tried_rule(includes: bool, text: &[u8]) -> Rule
+    ensures { result ≡ rules.c_rule includes text.now }
+{
+    match text {
+        [b'/', second, ..] => rule_behind_slash(*second),
+        [b'.', second, ..] => rule_behind_dot(*second),
+        [b'@', ..] => {
+            if starts_section(text) {
+                return Rule::Section;
+            }
+            Rule::Code
+        }
+        _ => first_rule(includes, text),
+    }
+}
+
+// The rule of a text that begins with a `/` and this byte.
+fn rule_behind_slash(byte: u8) -> Rule
+    ensures { result ≡ behind_slash byte }
+{
+    match byte {
+        b'*' => Rule::Comment,
+        b'/' => Rule::LineComment,
+        _ => Rule::Punctuator,
+    }
+}
+
+// The rule of a text that begins with a `.` and this byte.
+fn rule_behind_dot(byte: u8) -> Rule
+    ensures { result ≡ behind_dot byte }
+{
+    if is_digit(byte) {
+        return Rule::Number;
+    }
+    Rule::Punctuator
+}
+
+// The first rule that fits, each tried in its turn.
+fn first_rule(includes: bool, text: &[u8]) -> Rule
     ensures { result ≡ rules.c_rule includes text.now }
 {
     if starts(Class::Blank, text) {

@@ -60,6 +60,8 @@ pub mod PlainFirsts
 pub mod FirstTable
 pub mod Plains
 pub mod PlainTurns
+pub mod WholeLiterals
+pub mod Blanks
 pub mod Furthers
 pub mod FurtherLiterals
 pub mod DirectiveTexts

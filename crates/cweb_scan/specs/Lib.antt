@@ -19,3 +19,4 @@ pub mod Turned
 pub mod Alone
 pub mod Standing
 pub mod Plain
+pub mod WholeLiterals

@@ -1,5 +1,5 @@
 -- Plain C text: pieces that their first bytes tell, where no directive is open.
-use Rattle.std.specs.Prelude.{◌≡◌, ℕ, Bool, ◌&&◌, false, List, codes, Option, Some, None, if◌then◌else◌}
+use Rattle.std.specs.Prelude.{◌≡◌, ℕ, Bool, ◌&&◌, ◌==◌, false, List, [], ◌∷◌, codes, Option, Some, None, if◌then◌else◌}
 use Rattle.cweb_store.specs.Parts.{Token}
 use Rattle.cweb_store.specs.Layout.{is_layout}
 use Rattle.cweb_rules.specs.Bytes.{is_blank, is_one_of, is_word_byte}
@@ -42,6 +42,11 @@ plain_by b =
     else (if is_figure b then plain.Digit
     else (if is_quote b then plain.Quote
     else (if is_less b then plain.Operator else plain.Further)))))
+
+-- what stands behind a blank at the front
+abbrev pub past_blank : List ℕ → List ℕ
+past_blank [] = []
+past_blank (b ∷ t) = if b == 32 then t else b ∷ t
 
 -- how many bytes were taken, if any
 abbrev pub taken_size : Option ℕ → ℕ

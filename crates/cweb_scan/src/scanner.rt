@@ -12,6 +12,7 @@ pub mod names;
 pub mod plain;
 pub mod sections;
 pub mod spelling;
+pub mod whole_literals;
 
 use crate::scanner::directive::{Directive, Last, Stage};
 use cweb_files::Place;

@@ -3,12 +3,14 @@ ghost use Rattle.std.specs.Prelude.{◌≡◌, ◌≤◌, ◌<◌, ◌+◌, IfOk
 ghost use Rattle.cweb_store.specs.Calls.{too_many};
 ghost use Rattle.cweb_scan.specs.Plain.{is_kept_back, IsPlainC, TakesPlain};
 
+use crate::reader::open::Quote;
 use crate::reader::opening::skipped_len;
 use crate::scanner::Scanner;
+use crate::scanner::whole_literals::quoted_len;
 use cweb_rules::End;
 use cweb_rules::bytes::{Class, run_len};
 use cweb_rules::items::{Item, reach};
-use cweb_rules::literals::{literal_prefix, quote_of};
+use cweb_rules::literals::literal_prefix;
 use cweb_rules::numbers::number_len;
 use cweb_rules::punctuators::punctuator_len;
 use cweb_rules::rule::{Rule, c_rule};
@@ -117,11 +119,10 @@ impl Scanner {
         ensures stays { OnOk result (IsPlainC self.new) }
     {
         let prefix = literal_prefix(rest);
-        let quote = quote_of(rest.split_at(prefix).1);
-        let reached = reach(Item::Literal(quote), rest.split_at(prefix + 1).1);
-        match reached.how {
-            End::Closed => {
-                let size = prefix + 1 + (reached.size + reached.close);
+        let quote = Quote::of(rest.split_at(prefix).1);
+        match quoted_len(quote, rest.split_at(prefix + 1).1) {
+            Some(inner) => {
+                let size = prefix + 1 + (inner + 1);
                 let (text, _) = rest.split_at(size);
                 if skipped_len(text) < size {
                     return Ok(0);
@@ -129,7 +130,7 @@ impl Scanner {
                 self.give_plain(Token::Literal(text))?;
                 Ok(size)
             }
-            _ => Ok(0),
+            None => Ok(0),
         }
     }
 

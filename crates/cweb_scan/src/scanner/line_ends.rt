@@ -57,7 +57,7 @@ impl Scanner {
 
     /// The line end before a line that stands at a place. Most stand in C text outside directives, between lines that follow
     /// one another: those give a Newline at once.
-    #[inline(never)]
+    #[inline(always)]
     pub fn end_line(&mut self, next: Place) -> Result<(), AllocError>
         requires { token_count self.old.contents.parts + 1 < too_many }
         ensures { OnOk result (self.new ≡ line_end next self.old) }

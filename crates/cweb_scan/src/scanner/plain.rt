@@ -2,7 +2,7 @@
 ghost use Rattle.std.specs.Prelude.{◌≡◌, ◌≤◌, ◌<◌, ◌+◌, ◌*◌, IfOk, IfSome, OnOk, OnErr, length};
 ghost use Rattle.cweb_store.specs.Calls.{too_many};
 ghost use Rattle.cweb_store.specs.Seen.{seen};
-ghost use Rattle.cweb_scan.specs.Plain.{plain_by, taken_size, IsPlainC, IsPlainToken, TakesPlain};
+ghost use Rattle.cweb_scan.specs.Plain.{past_blank, plain_by, taken_size, IsPlainC, IsPlainToken, TakesPlain};
 
 use crate::scanner::Scanner;
 use crate::scanner::directive::Directive;
@@ -53,6 +53,18 @@ pub(crate) fn plain_of(byte: u8) -> Plain
     ensures { result ≡ plain_by byte }
 {
     FIRSTS[byte as usize]
+}
+
+// What stands behind a blank at the front of a text: most pieces have one blank before them, and it gives nothing.
+#[inline(always)]
+fn past_blank(text: &[u8]) -> &[u8]
+    requires { 1 ≤ length text.now }
+    ensures { result.now ≡ past_blank text.now }
+{
+    if text[0] == b' ' {
+        return text.split_at(1).1;
+    }
+    text
 }
 
 // A piece of no bytes is none.
@@ -132,9 +144,13 @@ impl Scanner {
         }
         let mut left = rest;
         'pieces: while !left.is_empty() {
-            match self.take_piece(left)? {
-                Some(size) => left = left.split_at(size).1,
-                None => return Ok(rest.len() - left.len()),
+            let piece = past_blank(left);
+            if piece.is_empty() {
+                return Ok(rest.len() - piece.len());
+            }
+            match self.take_piece(piece)? {
+                Some(size) => left = piece.split_at(size).1,
+                None => return Ok(rest.len() - piece.len()),
             }
         }
         Ok(rest.len() - left.len())

@@ -1,14 +1,18 @@
 use Rattle.std.proofs.Common.{◌≡◌, ◌+◌, List, ℕ, false, length, drop, arith, refl, sym, ap, ◌∙◌, subst}
+use Rattle.std.proofs.lemmas.List.{length-drop}
 use Rattle.cweb_store.specs.Parts.{Literal}
 use Rattle.cweb_rules.specs.Cut.{reach}
 use Rattle.cweb_rules.specs.Fronts.{literal_prefix, quote_of}
 use Rattle.cweb_rules.specs.Items.{look_in_literal}
+use Rattle.cweb_rules.specs.Lines.{IsLine}
 use Rattle.cweb_rules.specs.Looks.{reached}
-use Rattle.cweb_rules.specs.declared.end.End.TheVariants.{Open}
+use Rattle.cweb_rules.specs.declared.end.End.TheVariants.{Closed, Open}
+use Rattle.cweb_rules.specs.declared.items.Reached.{Reached}
 use Rattle.cweb_rules.proofs.LineLiterals.{is_quoted-size}
 use Rattle.cweb_scan.specs.Plain.{IsPlainC}
 use Rattle.cweb_scan.specs.State.{give}
 use Rattle.cweb_scan.proofs.FurtherLiterals.{HasNone, literal_reach, literal_turn, none_stands}
+use Rattle.cweb_scan.proofs.PlainTurns.{is_line_drop}
 use Rattle.cweb_scan.proofs.Plains.{stays_plain}
 use Rattle.cweb_scan.proofs.Turns.{literal_seen}
 use Rattle.cweb_scan.proofs.scanner.Scanner.take_whole_literal.Goals as goal
@@ -19,27 +23,39 @@ split_at-requires-2 c =
     let seen = literal_seen false u (sym c.requires.first) in
     omega (arith, c.literal_prefix-prefix.ensures.value, is_quoted-size (literal_prefix u) u seen.2)
 
-pub returns-in_ok-give_plain-in-Closed-clause-taken : goal.returns-in_ok-give_plain-in-Closed-clause-taken
-returns-in_ok-give_plain-in-Closed-clause-taken c =
+pub quoted_len-requires : goal.quoted_len-requires
+quoted_len-requires c =
+    subst IsLine (sym c.split_at-2.ensures.back)
+    (is_line_drop (c.literal_prefix-prefix.result + 1) c.args.rest.now c.requires.line)
+
+pub split_at-requires-in-Some : goal.split_at-requires-in-Some
+split_at-requires-in-Some c =
+    let k = c.literal_prefix-prefix.result + 1 in
+    let size = ap (λ (x : List ℕ). length x) c.split_at-2.ensures.back ∙ length-drop k c.args.rest.now in
+    omega (arith, size, c.in-Some.ensures.within)
+
+pub returns-in_ok-give_plain-in-Some-clause-taken : goal.returns-in_ok-give_plain-in-Some-clause-taken
+returns-in_ok-give_plain-in-Some-clause-taken c =
     let s = c.args.self.now in
     let u = c.args.rest.now in
-    let r = c.reach-reached.result in
+    let inner = c.in-Some.inner in
+    let r : Reached = record { size = inner; close = 1; how = Closed } in
     let p = c.literal_prefix-prefix.ensures.value in
-    let n = c.literal_prefix-prefix.result + 1 + (r.size + r.close) in
-    let quote = c.quote_of-quote.ensures ∙ ap quote_of c.split_at.ensures.back in
+    let n = c.literal_prefix-prefix.result + 1 + (inner + 1) in
+    let quote = c.of-quote.ensures ∙ ap quote_of c.split_at.ensures.back in
     let seen : r ≡ reached (literal_reach u Open) =
-    c.reach-reached.ensures.value
+    sym c.in-Some.ensures.ends
     ∙ (λ i. reached (reach (look_in_literal (quote i)) Open (c.split_at-2.ensures.back i)))
     ∙ ap (λ k. reached (reach (look_in_literal (quote_of (drop k u))) Open (drop (k + 1) u))) p in
-    let front = c.split_at-in-Closed.ensures.front in
-    let clean = subst HasNone front (none_stands c.split_at-in-Closed.result.0.now
+    let front = c.split_at-in-Some.ensures.front in
+    let clean = subst HasNone front (none_stands c.split_at-in-Some.result.0.now
     (omega (arith, c.skipped_len.ensures.value, c.if-skipped_len-size.false, ap (λ (x : List ℕ). length x) front))) in
     literal_turn n u s c.give_plain.new.self r c.requires.line c.requires.some c.requires.in_c
-    c.requires.first seen c.in-Closed.is (ap (λ k. k + 1 + (r.size + r.close)) p) clean
-    (c.in_ok-give_plain-in-Closed.ensures.ok ∙ ap (λ (x : List ℕ). give (Literal x) s) front)
+    c.requires.first seen refl (ap (λ k. k + 1 + (inner + 1)) p) clean
+    (c.in_ok-give_plain-in-Some.ensures.ok ∙ ap (λ (x : List ℕ). give (Literal x) s) front)
 
-pub returns-in_ok-give_plain-in-Closed-clause-stays : goal.returns-in_ok-give_plain-in-Closed-clause-stays
-returns-in_ok-give_plain-in-Closed-clause-stays c =
-    subst IsPlainC (sym c.in_ok-give_plain-in-Closed.ensures.ok)
-    (stays_plain c.args.self.now (Literal c.split_at-in-Closed.result.0.now) c.requires.in_c
+pub returns-in_ok-give_plain-in-Some-clause-stays : goal.returns-in_ok-give_plain-in-Some-clause-stays
+returns-in_ok-give_plain-in-Some-clause-stays c =
+    subst IsPlainC (sym c.in_ok-give_plain-in-Some.ensures.ok)
+    (stays_plain c.args.self.now (Literal c.split_at-in-Some.result.0.now) c.requires.in_c
     (record { hash = refl; last = refl; solid = refl }))

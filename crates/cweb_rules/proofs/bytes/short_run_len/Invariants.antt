@@ -1,7 +1,7 @@
 use Rattle.std.proofs.Common.{◌≡◌, ◌+◌, drop}
 use Rattle.std.specs.List.{prefix_len}
 use Rattle.cweb_rules.specs.Classes.{in_class}
-use Rattle.cweb_rules.proofs.bytes.run_len.Given as goal
+use Rattle.cweb_rules.proofs.bytes.short_run_len.Given as goal
 
 abbrev pub invariant-loop-i : goal.invariant-loop-i
 invariant-loop-i l = prefix_len (in_class l.class) l.text ≡ l.i + prefix_len (in_class l.class) (drop l.i l.text)

@@ -1,0 +1,46 @@
+-- Runs of bytes of identifiers, some bytes at a time.
+use Rattle.std.proofs.Common.{◌≡◌, ◌≤◌, ◌<◌, ℕ, zero, suc, ◌+◌, ◌-◌, true, false, List, [], ◌∷◌, length, take, drop, refl, ap, arith}
+use Rattle.std.specs.Prelude.{if◌then◌else◌}
+use Rattle.std.specs.List.{prefix_len}
+use Rattle.std.proofs.lemmas.List.{length-drop}
+use Rattle.cweb_rules.specs.Bytes.{is_word_byte}
+
+-- one of the first k bytes ends the run
+pub run_short : (k : ℕ) (u : List ℕ) → k ≤ length u → prefix_len is_word_byte (take k u) < k
+    → prefix_len is_word_byte u ≡ prefix_len is_word_byte (take k u)
+run_short zero u long h = absurd (omega (arith, h))
+run_short (suc k) [] long h = absurd (omega (arith, long))
+run_short (suc k) (b ∷ t) long h = (elim (is_word_byte b) as (λ v.
+    (if v then 1 + prefix_len is_word_byte (take k t) else 0) < suc k
+    → (if v then 1 + prefix_len is_word_byte t else 0) ≡ (if v then 1 + prefix_len is_word_byte (take k t) else 0)) [
+      | true ↦ λ g. ap (λ n. 1 + n) (run_short k t (omega (arith, long)) (omega (arith, g)))
+      | false ↦ λ g. refl
+    ]) h
+
+-- none of them does
+run_full : (k : ℕ) (u : List ℕ) → k ≤ prefix_len is_word_byte (take k u)
+    → prefix_len is_word_byte u ≡ k + prefix_len is_word_byte (drop k u)
+run_full zero u h = omega arith
+run_full (suc k) [] h = absurd (omega (arith, h))
+run_full (suc k) (b ∷ t) h = (elim (is_word_byte b) as (λ v.
+    suc k ≤ (if v then 1 + prefix_len is_word_byte (take k t) else 0)
+    → (if v then 1 + prefix_len is_word_byte t else 0) ≡ suc k + prefix_len is_word_byte (drop k t)) [
+      | true ↦ λ g. omega (arith, run_full k t (omega (arith, g)))
+      | false ↦ λ g. absurd (omega (arith, g))
+    ]) h
+
+-- the run went on up to here
+pub record GoesTo (text rest : List ℕ) : Type 0 where
+  pub within : length rest ≤ length text
+  pub so_far : prefix_len is_word_byte text ≡ (length text - length rest) + prefix_len is_word_byte rest
+
+pub goes_on : (k : ℕ) (text rest after : List ℕ) → GoesTo text rest → k ≤ length rest
+    → k ≤ prefix_len is_word_byte (take k rest) → after ≡ drop k rest → GoesTo text after
+goes_on k text rest after f long all is =
+    let size = ap (λ (u : List ℕ). length u) is in
+    let more = run_full k rest all in
+    let same = ap (λ (u : List ℕ). prefix_len is_word_byte u) is in
+    record {
+      within = omega (arith, size, length-drop k rest, f.within);
+      so_far = omega (arith, size, length-drop k rest, f.within, long, f.so_far, more, same);
+    }
