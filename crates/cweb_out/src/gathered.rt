@@ -143,7 +143,7 @@ impl Gathered {
         ensures { self.new ≡ take begin self.old ++ chunk.entry }
     {
         let end = begin + N;
-        put_all(&mut self.bytes[begin..end], chunk);
+        replace_all(&mut self.bytes[begin..end], chunk);
         self.used = end;
     }
 
@@ -189,7 +189,7 @@ impl Gathered {
 
 // Puts bytes in place of as many.
 #[inline(always)]
-fn put_all<const N: usize>(bytes: &mut [u8], chunk: [u8; N])
+fn replace_all<const N: usize>(bytes: &mut [u8], chunk: [u8; N])
     requires { length bytes.old ≡ N }
     ensures { bytes.new ≡ chunk.entry }
 {
