@@ -115,7 +115,7 @@ impl Gathered {
     }
 
     // Adds a text of so many bytes to twice as many in two moves: its first bytes, and from where they reach over its last
-    // ones these.
+    // ones these. All are read before one is put, so that no question comes of which list they stand in.
     #[inline(always)]
     fn add_ends<const N: usize>(&mut self, text: &[u8])
         requires room { length self.old + length text.now ≤ ROOM }
@@ -123,15 +123,28 @@ impl Gathered {
         requires most { length text.now ≤ N + N }
         ensures { self.new ≡ self.old ++ text.now }
     {
-        let used = self.used;
         let Some(first) = text.first_chunk::<N>() else {
             unreachable!();
         };
         let Some(last) = text.last_chunk::<N>() else {
             unreachable!();
         };
-        self.put_at(used, first);
-        self.put_at(used + (text.len() - N), last);
+        let (first, last) = (*first, *last);
+        let used = self.used;
+        self.put_chunk(used, first);
+        self.put_chunk(used + (text.len() - N), last);
+    }
+
+    // Puts so many bytes behind the first ones that are gathered, in place of those that stand there.
+    #[inline(always)]
+    fn put_chunk<const N: usize>(&mut self, begin: usize, chunk: [u8; N])
+        requires behind { begin ≤ length self.old }
+        requires room { begin + N ≤ ROOM }
+        ensures { self.new ≡ take begin self.old ++ chunk.entry }
+    {
+        let end = begin + N;
+        replace_all(&mut self.bytes[begin..end], chunk);
+        self.used = end;
     }
 
     // Puts bytes behind the first ones that are gathered, in place of those that stand there.
@@ -172,6 +185,18 @@ impl Gathered {
         self.add(text);
         true
     }
+}
+
+// Puts bytes in place of as many.
+#[inline(always)]
+fn replace_all<const N: usize>(bytes: &mut [u8], chunk: [u8; N])
+    requires { length bytes.old ≡ N }
+    ensures { bytes.new ≡ chunk.entry }
+{
+    let Some(place) = bytes.as_mut_array::<N>() else {
+        unreachable!();
+    };
+    *place = chunk;
 }
 
 // Writes bytes: all of them, or so many as the error says.

@@ -6,7 +6,7 @@ use Rattle.std.proofs.Math.Seq.{drop-append_seam, take-length, length-take-le}
 use Rattle.cweb_store.specs.Parts as spec
 use Rattle.cweb_store.specs.declared.tokens.packed.Packed.{Packed}
 use Rattle.cweb_store.specs.declared.tokens.packed.Packed.TheVariants.{Word, Number, Literal, Verbatim, Punct, Blank, Newline, Join, Defs, Name, Head, Tail, Mark}
-use Rattle.cweb_store.specs.PackedTexts.{texts_from, AreEnds, begin_of, text_bytes}
+use Rattle.cweb_store.specs.PackedTexts.{texts_from, AreEnds, IsFromStart, begin_of, text_bytes}
 use Rattle.cweb_store.specs.Words.{TextsAndWords}
 use Rattle.cweb_store.specs.Packed.{text_at, token_in, IsWithin, ArePacked, Packs}
 
@@ -58,6 +58,44 @@ pub ends-at : (n all : ℕ) (ends : List ℕ) (k d : ℕ) → AreEnds n ends all
 ends-at n all [] k d tied h = absurd (let none : ⊥ = omega arith in none)
 ends-at n all (e ∷ es) zero d tied h = (tied.0, ends-le e all es tied.1)
 ends-at n all (e ∷ es) (suc k) d tied h = ends-at e all es k d tied.1 (omega arith)
+
+limit-begin : (n : ℕ) (ends : List ℕ) (k d : ℕ) → k < length ends → slice_index_or (n ∷ ends) k d ≡ begin_of n ends k
+limit-begin n [] k d h = absurd (let none : ⊥ = omega arith in none)
+limit-begin n (e ∷ es) zero d h = refl
+limit-begin n (e ∷ es) (suc k) d h = limit-begin e es k d (omega arith)
+
+-- a text begins at the limit with its number, and ends at the next one
+pub limits-begin : (limits : List ℕ) (k d : ℕ) → IsFromStart limits → k < length (drop 1 limits)
+    → slice_index_or limits k d ≡ begin_of 0 (drop 1 limits) k
+limits-begin [] k d start h = absurd (let none : ⊥ = omega arith in none)
+limits-begin (n ∷ ends) k d start h = limit-begin n ends k d h ∙ ap (λ m. begin_of m ends k) start
+
+pub limits-end : (limits : List ℕ) (k m d : ℕ) → m ≡ suc k → slice_index_or limits m d ≡ slice_index_or (drop 1 limits) k d
+limits-end [] k m d is = refl
+limits-end (n ∷ ends) k m d is = ap (λ i. slice_index_or (n ∷ ends) i d) is
+
+pub limits-length : (limits : List ℕ) (k : ℕ) → k < length (drop 1 limits) → length limits ≡ suc (length (drop 1 limits))
+limits-length [] k h = absurd (let none : ⊥ = omega arith in none)
+limits-length (n ∷ ends) k h = refl
+
+-- one more end, where the first text has a begin
+pub limits-push : (limits : List ℕ) (end : ℕ) → 0 < length limits
+    → drop 1 (limits ++ end ∷ []) ≡ drop 1 limits ++ end ∷ []
+limits-push [] end h = absurd (let none : ⊥ = omega arith in none)
+limits-push (n ∷ ends) end h = refl
+
+pub start-push : (limits : List ℕ) (end : ℕ) → 0 < length limits → IsFromStart limits → IsFromStart (limits ++ end ∷ [])
+start-push [] end h start = absurd (let none : ⊥ = omega arith in none)
+start-push (n ∷ ends) end h start = start
+
+pub limits-take : (count : ℕ) (limits : List ℕ) → drop 1 (take (suc count) limits) ≡ take count (drop 1 limits)
+limits-take zero [] = refl
+limits-take (suc count) [] = refl
+limits-take count (n ∷ ends) = refl
+
+pub start-take : (count : ℕ) (limits : List ℕ) → IsFromStart limits → IsFromStart (take (suc count) limits)
+start-take count [] start = tt
+start-take count (n ∷ ends) start = start
 
 bytes-from : (bytes : List ℕ) (n : ℕ) (ends : List ℕ) → AreEnds n ends (length bytes)
     → length (text_bytes (texts_from bytes n ends)) + n ≡ length bytes

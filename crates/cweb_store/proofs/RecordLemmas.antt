@@ -8,7 +8,9 @@ use Rattle.cweb_store.specs.declared.tokens.packed.Packed.{Packed}
 use Rattle.cweb_store.specs.declared.tokens.packed.Packed.TheVariants as packed
 use Rattle.cweb_store.specs.declared.tokens.records.Record.{Record}
 use Rattle.cweb_store.specs.declared.tokens.records.Record.TheVariants as record_of
+use Rattle.cweb_store.specs.Borders.{lends}
 use Rattle.cweb_store.specs.Packed.{token_in}
+use Rattle.cweb_store.specs.Packed as kept
 use Rattle.cweb_store.specs.Records.{packed_in, has_place, place_at, IsAt, IsWithin, places_of, AreNumbered, IsRecord, is_mark, is_mark_token}
 
 -- a token that is a Mark has a record that is one
@@ -152,3 +154,36 @@ not-mark zero (q ∷ rs) r n end there none all =
     let stays : n + places_of q ≡ n = omega (arith, ap places_of same, nothing) in
     subst (λ k. AreNumbered k rs end) stays all.1
 not-mark (suc i) (q ∷ rs) r n end there none all = not-mark i rs r n end there none all
+
+-- what a record lends is told without the places, and so is whether its text is among so many
+pub lends-alone : (texts : List (List ℕ)) (places : List Place) (r : Record)
+    → lends (token_in texts (packed_in [] r)) ≡ lends (token_in texts (packed_in places r))
+lends-alone texts places (record_of.Word n) = refl
+lends-alone texts places (record_of.Number n) = refl
+lends-alone texts places (record_of.Literal n) = refl
+lends-alone texts places (record_of.Verbatim n) = refl
+lends-alone texts places (record_of.Punct n) = refl
+lends-alone texts places record_of.Blank = refl
+lends-alone texts places record_of.Newline = refl
+lends-alone texts places record_of.Join = refl
+lends-alone texts places record_of.Defs = refl
+lends-alone texts places (record_of.Name n) = refl
+lends-alone texts places (record_of.Head n) = refl
+lends-alone texts places (record_of.Tail n) = refl
+lends-alone texts places (record_of.Mark n) = refl
+
+pub within-alone : (count : ℕ) (places : List Place) (r : Record)
+    → kept.IsWithin count (packed_in places r) → kept.IsWithin count (packed_in [] r)
+within-alone count places (record_of.Word n) h = h
+within-alone count places (record_of.Number n) h = h
+within-alone count places (record_of.Literal n) h = h
+within-alone count places (record_of.Verbatim n) h = h
+within-alone count places (record_of.Punct n) h = h
+within-alone count places record_of.Blank h = h
+within-alone count places record_of.Newline h = h
+within-alone count places record_of.Join h = h
+within-alone count places record_of.Defs h = h
+within-alone count places (record_of.Name n) h = h
+within-alone count places (record_of.Head n) h = h
+within-alone count places (record_of.Tail n) h = h
+within-alone count places (record_of.Mark n) h = h

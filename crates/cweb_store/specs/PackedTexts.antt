@@ -1,5 +1,5 @@
 -- Texts that stand one after another in a list of bytes.
-use Rattle.std.specs.Prelude.{◌≡◌, ℕ, zero, suc, ◌≤◌, List, [], ◌∷◌, flat_map, length, slice_range}
+use Rattle.std.specs.Prelude.{◌≡◌, ℕ, zero, suc, ◌≤◌, List, [], ◌∷◌, flat_map, drop, length, slice_range}
 use Rattle.cweb_store.specs.declared.tokens.borders.Border.{Border}
 use Rattle.cweb_store.specs.Borders.{AreTold}
 
@@ -23,7 +23,13 @@ begin_of n ends zero = n
 begin_of n [] (suc k) = n
 begin_of n (end ∷ ends) (suc k) = begin_of end ends k
 
--- what is kept of texts: where each ends, and of each its border, or that none is kept
-pub record AreKeptTexts (bytes ends : List ℕ) (borders : List Border) : Type 0 where
-  pub ends_at : AreEnds 0 ends (length bytes)
-  pub told : AreTold (texts_from bytes 0 ends) borders
+-- the first text begins at byte 0
+abbrev pub IsFromStart : List ℕ → Type 0
+IsFromStart [] = Unit {0}
+IsFromStart (n ∷ ends) = n ≡ 0
+
+-- what is kept of texts: where the first begins and each ends, and of each its border, or that none is kept
+pub record AreKeptTexts (bytes limits : List ℕ) (borders : List Border) : Type 0 where
+  pub start : IsFromStart limits
+  pub ends_at : AreEnds 0 (drop 1 limits) (length bytes)
+  pub told : AreTold (texts_from bytes 0 (drop 1 limits)) borders

@@ -1,10 +1,9 @@
 // What a token that lends its text is to those beside it.
 
-ghost use Rattle.std.specs.Prelude.{◌≡◌, option_map};
+ghost use Rattle.std.specs.Prelude.{◌≡◌};
 ghost use Rattle.std.specs.List.{list_any};
-ghost use Rattle.cweb_store.specs.Parts.{Punct, Word};
 ghost use Rattle.cweb_store.specs.Borders.{first_is, is_high, is_numeric, is_operator, last_by};
-ghost use Rattle.cweb_store.specs.Borders.{lends, lent_seen, sign_border, sign_by, text_border};
+ghost use Rattle.cweb_store.specs.Borders.{sign_border, sign_by, text_border};
 
 /// What decides whether a blank comes between a token that lends its text and those beside it. A punctuator is told by its
 /// first byte and by its last one: the first may be one that could go on in a number, or another operator byte, and the last
@@ -41,36 +40,6 @@ pub struct LentText<'a> {
     pub border: Border,
 }
 
-/// What a Word lends, told by all its bytes.
-#[cold]
-#[inline(never)]
-pub fn untold_word(text: &[u8]) -> Option<LentText<'_>>
-    ensures { option_map lent_seen result ≡ lends (Word text.now) }
-{
-    if has_high_byte(text) {
-        return None;
-    }
-    Some(LentText {
-        text,
-        border: Border::Word,
-    })
-}
-
-/// The same of a punctuator.
-#[cold]
-#[inline(never)]
-pub fn untold_sign(text: &[u8]) -> Option<LentText<'_>>
-    ensures { option_map lent_seen result ≡ lends (Punct text.now) }
-{
-    if has_high_byte(text) {
-        return None;
-    }
-    Some(LentText {
-        text,
-        border: sign_border(text),
-    })
-}
-
 /// The border of a text as that of a punctuator, unless it has a byte from 128 on.
 pub fn border_of(text: &[u8]) -> Border
     ensures { result ≡ text_border text.now }
@@ -81,14 +50,17 @@ pub fn border_of(text: &[u8]) -> Border
     sign_border(text)
 }
 
-fn has_high_byte(text: &[u8]) -> bool
+/// Whether a text has a byte from 128 on.
+#[inline(never)]
+pub fn has_high_byte(text: &[u8]) -> bool
     ensures { result ≡ list_any is_high text.now }
 {
     text.iter().any(|byte| *byte >= 128)
 }
 
-// The border of a punctuator.
-fn sign_border(text: &[u8]) -> Border
+/// The border of a punctuator.
+#[inline(never)]
+pub fn sign_border(text: &[u8]) -> Border
     ensures { result ≡ sign_border text.now }
 {
     let Some(last) = text.last() else {

@@ -72,8 +72,8 @@ impl ClosedTokens {
         ensures { option_map lends (slice_get self.now.tokens number)
             ≡ Some (option_map lent_seen result) }
     {
-        let packed = self.records.get(number);
-        lent(&self.texts, packed)
+        let record = self.records.record(number);
+        lent(&self.texts, record)
     }
 
     pub fn len(&self) -> usize

@@ -1,16 +1,19 @@
 // Tokens that have their texts by number.
 
-ghost use Rattle.std.specs.Prelude.{◌≡◌, ◌<◌, ◌+◌, length, IfOk, OnErr, option_map};
+ghost use Rattle.std.specs.Prelude.{◌≡◌, ◌<◌, ◌+◌, [], length, IfOk, OnErr, option_map};
 ghost use Rattle.cweb_store.specs.Borders.{lends, lent_seen};
 ghost use Rattle.cweb_store.specs.Parts as spec;
+ghost use Rattle.cweb_store.specs.declared.tokens.borders.Border.TheVariants as border_of;
 ghost use Rattle.cweb_store.specs.Calls.{too_many};
 ghost use Rattle.cweb_store.specs.Packed.{IsWithin, Packs, text_at, token_in};
+ghost use Rattle.cweb_store.specs.Records.{packed_in};
 ghost use Rattle.cweb_store.specs.Seen.{seen};
 
 use crate::names::NameRef;
 use crate::tokens::Token;
-use crate::tokens::borders::{Border, LentText, untold_sign, untold_word};
+use crate::tokens::borders::{Border, LentText, has_high_byte, sign_border};
 use crate::tokens::kept::KeptTexts;
+use crate::tokens::records::Record;
 use crate::tokens::texts::PackedTexts;
 use cweb_files::Place;
 use std::alloc::AllocError;
@@ -82,30 +85,30 @@ pub fn lend(texts: &PackedTexts, packed: Packed) -> Token<'_>
 
 /// What a record lends. No byte is looked at where the border of the text is kept.
 #[inline(always)]
-pub fn lent(texts: &PackedTexts, packed: Packed) -> Option<LentText<'_>>
-    requires { IsWithin (length texts.now) packed }
-    ensures { option_map lent_seen result ≡ lends (token_in texts.now packed) }
+pub fn lent(texts: &PackedTexts, item: Record) -> Option<LentText<'_>>
+    requires { IsWithin (length texts.now) (packed_in [] item) }
+    ensures { option_map lent_seen result ≡ lends (token_in texts.now (packed_in [] item)) }
 {
-    match packed {
-        Packed::Word(number) => lent_word(texts, number as usize),
-        Packed::Number(number) => Some(LentText {
+    match item {
+        Record::Word(number) => lent_word(texts, number as usize),
+        Record::Number(number) => Some(LentText {
             text: texts.text(number as usize),
             border: Border::Number,
         }),
-        Packed::Literal(number) => Some(LentText {
+        Record::Literal(number) => Some(LentText {
             text: texts.text(number as usize),
             border: Border::Literal,
         }),
-        Packed::Verbatim(number) => Some(LentText {
+        Record::Verbatim(number) => Some(LentText {
             text: texts.text(number as usize),
             border: Border::Glue,
         }),
-        Packed::Punct(number) => lent_sign(texts, number as usize),
-        Packed::Blank => Some(LentText {
+        Record::Punct(number) => lent_sign(texts, number as usize),
+        Record::Blank => Some(LentText {
             text: b" ",
             border: Border::Blank,
         }),
-        Packed::Newline => Some(LentText {
+        Record::Newline => Some(LentText {
             text: b"\n",
             border: Border::LineEnd,
         }),
@@ -118,13 +121,21 @@ fn lent_word(texts: &PackedTexts, number: usize) -> Option<LentText<'_>>
     requires { number < length texts.now }
     ensures { option_map lent_seen result ≡ lends (spec.Word (text_at texts.now number)) }
 {
-    let text = texts.text(number);
+    let word = texts.text(number);
     match texts.border(number) {
-        Border::Untold => untold_word(text),
-        _ => Some(LentText {
-            text,
-            border: Border::Word,
-        }),
+        Border::Untold if has_high_byte(word) => None,
+        Border::Untold => Some(word_lent(word)),
+        _ => Some(word_lent(word)),
+    }
+}
+
+#[inline(always)]
+fn word_lent(word: &[u8]) -> LentText<'_>
+    ensures { lent_seen result ≡ record { text = word.now; border = border_of.Word } }
+{
+    LentText {
+        text: word,
+        border: Border::Word,
     }
 }
 
@@ -135,7 +146,11 @@ fn lent_sign(texts: &PackedTexts, number: usize) -> Option<LentText<'_>>
 {
     let text = texts.text(number);
     match texts.border(number) {
-        Border::Untold => untold_sign(text),
+        Border::Untold if has_high_byte(text) => None,
+        Border::Untold => Some(LentText {
+            text,
+            border: sign_border(text),
+        }),
         border => Some(LentText { text, border }),
     }
 }

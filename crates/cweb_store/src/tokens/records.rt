@@ -1,7 +1,8 @@
 // Tokens that have their texts by number, in order. A Mark has its place by number too.
 
-ghost use Rattle.std.specs.Prelude.{◌≡◌, ◌<◌, ◌++◌, ◌∷◌, [], ℕ, true, length, take, Some, slice_get, OnOk};
+ghost use Rattle.std.specs.Prelude.{◌≡◌, ◌<◌, ◌++◌, ◌∷◌, [], List, ℕ, true, length, take, Some, slice_get, OnOk};
 ghost use Rattle.std.specs.Prelude.{vec_capacity, vec_len};
+ghost use Rattle.cweb_files.specs.declared.place.Place.{Place};
 ghost use Rattle.cweb_store.specs.Calls.{too_many};
 ghost use Rattle.cweb_store.specs.Records.{AreNumbered, HasRoom, IsRecord, IsWithin, is_mark, packed_in};
 ghost use Rattle.cweb_store.specs.Seen.{seen};
@@ -107,6 +108,16 @@ impl Records {
         ensures { slice_get self.now.packed number ≡ Some result }
     {
         unpack(self.places.as_slice(), self.items[number])
+    }
+
+    /// The record with a number.
+    #[inline(always)]
+    pub fn record(&self, number: usize) -> Record
+        requires { number < length self.now.packed }
+        ensures { (places : List Place)
+            × (slice_get self.now.packed number ≡ Some (packed_in places result)) }
+    {
+        self.items[number]
     }
 
     /// Keeps the first `count` tokens. It takes no memory.

@@ -1,33 +1,34 @@
 // Texts in one list of bytes.
 
-ghost use Rattle.std.specs.Prelude.{◌≡◌, ◌<◌, ◌+◌, ◌++◌, ◌∷◌, [], List, ℕ, length, take, slice_get, Some, IfOk, OnOk, OnErr};
+ghost use Rattle.std.specs.Prelude.{◌≡◌, ◌<◌, ◌+◌, ◌++◌, ◌∷◌, [], List, ℕ, length, drop, take, slice_get, Some, IfOk, OnOk, OnErr};
 ghost use Rattle.cweb_store.specs.Borders.{IsTold};
-ghost use Rattle.cweb_store.specs.PackedTexts.{begin_of, text_bytes};
+ghost use Rattle.cweb_store.specs.PackedTexts.{IsFromStart, text_bytes};
 
 use crate::reserved::put;
 use crate::tokens::borders::{Border, border_of};
 use std::alloc::{AllocError, Global};
 use std::marker::Model;
 
-/// Texts, numbered from 0. They stand one after another in a list of bytes; of each is known where it ends, and of a word its
-/// border.
+/// Texts, numbered from 0. They stand one after another in a list of bytes; of each is known where it begins and ends, and of
+/// a word its border.
 #[derive(Drop)]
 pub struct PackedTexts {
     bytes: Vec<u8>,
-    ends: Vec<usize>,
+    // where the first text begins, and where each ends: the next one begins there. Nothing where there was no text
+    limits: Vec<usize>,
     borders: Vec<Border>,
 }
 
 impl Model for PackedTexts {
-    ghost use Rattle.std.specs.Prelude.{List, ℕ};
+    ghost use Rattle.std.specs.Prelude.{List, ℕ, drop};
 
     ghost Value = { List (List ℕ) };
 
     ghost use Rattle.cweb_store.specs.PackedTexts.{texts_from, AreKeptTexts};
 
-    ghost view = { λ s. texts_from s.bytes.items 0 s.ends.items };
+    ghost view = { λ s. texts_from s.bytes.items 0 (drop 1 s.limits.items) };
 
-    ghost invariant = { λ s. AreKeptTexts s.bytes.items s.ends.items s.borders.items };
+    ghost invariant = { λ s. AreKeptTexts s.bytes.items s.limits.items s.borders.items };
 }
 
 impl PackedTexts {
@@ -36,7 +37,7 @@ impl PackedTexts {
     {
         PackedTexts {
             bytes: Vec::new(alloc),
-            ends: Vec::new(alloc),
+            limits: Vec::new(alloc),
             borders: Vec::new(alloc),
         }
     }
@@ -44,7 +45,7 @@ impl PackedTexts {
     pub fn len(&self) -> usize
         ensures { result ≡ length self.now }
     {
-        self.ends.len()
+        self.borders.len()
     }
 
     /// Adds a text, and answers its number. A refused call changes nothing.
@@ -71,11 +72,12 @@ impl PackedTexts {
         ensures added { OnOk result (self.new ≡ self.old ++ text.now ∷ []) }
         ensures err { OnErr result (self.new ≡ self.old) }
     {
-        self.ends.reserve(1)?;
+        begin(&mut self.limits)?;
+        self.limits.reserve(1)?;
         self.borders.reserve(1)?;
         self.bytes.extend_from_slice(text)?;
-        let number = self.ends.len();
-        put(&mut self.ends, self.bytes.len());
+        let number = self.borders.len();
+        put(&mut self.limits, self.bytes.len());
         put(&mut self.borders, border);
         Ok(number)
     }
@@ -85,8 +87,10 @@ impl PackedTexts {
         requires { count < length self.old }
         ensures { self.new ≡ take count self.old }
     {
-        self.bytes.truncate(begin_of(self.ends.as_slice(), count));
-        self.ends.truncate(count);
+        // the next number is at most this, so that it fits
+        let _limits = self.limits.len();
+        self.bytes.truncate(self.limits[count]);
+        self.limits.truncate(count + 1);
         self.borders.truncate(count);
     }
 
@@ -95,8 +99,11 @@ impl PackedTexts {
         requires { number < length self.now }
         ensures { slice_get self.now number ≡ Some result.now }
     {
-        let begin = begin_of(self.ends.as_slice(), number);
-        &self.bytes[begin..self.ends[number]]
+        // the next number is below this, so that it fits
+        let _limits = self.limits.len();
+        let begin = self.limits[number];
+        let end = self.limits[number + 1];
+        &self.bytes[begin..end]
     }
 
     /// What is kept of the border of the text with a number.
@@ -126,10 +133,16 @@ impl PackedTexts {
     }
 }
 
-// Where a text begins: where the one before it ends.
-fn begin_of(ends: &[usize], number: usize) -> usize
-    requires { number < length ends.now }
-    ensures { result ≡ begin_of 0 ends.now number }
+// Notes where the first text begins, unless that is noted.
+fn begin(limits: &mut Vec<usize>) -> Result<(), AllocError>
+    requires { IsFromStart limits.old.items }
+    ensures begun { OnOk result (0 < length limits.new.items) }
+    ensures start { IsFromStart limits.new.items }
+    ensures ends { drop 1 limits.new.items ≡ drop 1 limits.old.items }
 {
-    if number == 0 { 0 } else { ends[number - 1] }
+    if limits.len() == 0 {
+        limits.reserve(1)?;
+        put(limits, 0);
+    }
+    Ok(())
 }

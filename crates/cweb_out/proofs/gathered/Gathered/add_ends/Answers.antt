@@ -12,8 +12,8 @@ returns g c =
     let used : s.used ≡ length before =
     omega (arith, length-take-le s.used s.bytes.items within, ap length c.self.view_is) in
     rw (
-      c.put_at-2.ensures,
-      c.put_at.ensures,
+      c.put_chunk-2.ensures,
+      c.put_chunk.ensures,
       c.in-Some.ensures.cases.same,
       c.in-Some-last_chunk.ensures.cases.1.same,
       used,

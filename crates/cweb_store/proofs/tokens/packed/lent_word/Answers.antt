@@ -1,4 +1,4 @@
-use Rattle.std.proofs.Common.{rules, ◌≡◌, true}
+use Rattle.std.proofs.Common.{rules, ◌≡◌, ◌∙◌, Some, ap, true}
 use Rattle.cweb_store.specs.Borders.{is_told}
 use Rattle.cweb_store.proofs.BorderLemmas.{word-lends}
 use Rattle.cweb_store.proofs.PackedLemmas.{get-text}
@@ -6,7 +6,7 @@ use Rattle.cweb_store.proofs.tokens.packed.lent_word.Goals as goal
 
 pub returns-in_default : goal.returns-in_default
 returns-in_default c =
-    let t = c.text-text.result.now in
+    let t = c.text-word.result.now in
     let told : is_told c.border.result ≡ true = search rules in
-    rw (get-text c.args.texts.now c.args.number t c.text-text.ensures)
-    (word-lends t c.border.result (c.border.ensures t c.text-text.ensures) told)
+    rw (get-text c.args.texts.now c.args.number t c.text-word.ensures)
+    (ap Some c.word_lent-in_default.ensures ∙ word-lends t c.border.result (c.border.ensures t c.text-word.ensures) told)

@@ -1,4 +1,4 @@
-use Rattle.std.proofs.Common.{◌∙◌, sym, ap, subst, length, arith}
+use Rattle.std.proofs.Common.{◌∙◌, drop, sym, ap, subst, length, arith}
 use Rattle.std.specs.Prelude.{slice_get}
 use Rattle.cweb_store.specs.declared.tokens.borders.Border.{Border}
 use Rattle.cweb_store.specs.Borders.{IsTold}
@@ -13,7 +13,7 @@ index-requires c =
       arith,
       c.requires,
       ap length c.self.view_is,
-      told-count (texts_from s.bytes.items 0 s.ends.items) s.borders.items c.self.invariant.told,
+      told-count (texts_from s.bytes.items 0 (drop 1 s.limits.items)) s.borders.items c.self.invariant.told,
       s.borders.ok.0,
     )
 
@@ -21,5 +21,5 @@ pub returns : goal.returns
 returns c = λ text there.
     let s = c.self.inside in
     subst (λ (b : Border). IsTold text b) (sym c.index.ensures)
-    (told-at (texts_from s.bytes.items 0 s.ends.items) s.borders.items c.args.number text c.index.result.now
+    (told-at (texts_from s.bytes.items 0 (drop 1 s.limits.items)) s.borders.items c.args.number text c.index.result.now
     c.self.invariant.told (ap (λ ts. slice_get ts c.args.number) c.self.view_is ∙ there))

@@ -1,8 +1,11 @@
-use Rattle.std.proofs.Common.{length, sym, ◌∙◌, ap}
-use Rattle.cweb_store.proofs.PackedLemmas.{texts-count}
+use Rattle.std.proofs.Common.{drop, length, ◌∙◌, ap}
+use Rattle.cweb_store.specs.PackedTexts.{texts_from}
+use Rattle.cweb_store.proofs.BorderLemmas.{told-count}
 use Rattle.cweb_store.proofs.tokens.texts.PackedTexts.len.Goals as goal
 
 pub returns : goal.returns
 returns c =
     let s = c.self.inside in
-    c.len.ensures ∙ s.ends.ok.0 ∙ sym (texts-count s.bytes.items 0 s.ends.items) ∙ ap length c.self.view_is
+    c.len.ensures ∙ s.borders.ok.0
+    ∙ told-count (texts_from s.bytes.items 0 (drop 1 s.limits.items)) s.borders.items c.self.invariant.told
+    ∙ ap length c.self.view_is
