@@ -1,7 +1,7 @@
 -- Tokens that lend their texts, told by their borders: what they lend, their classes, and the blanks before them.
 use Rattle.std.proofs.Common.{◌≡◌, ◌==◌, ◌++◌, ◌∙◌, ℕ, Bool, true, false, cond, ◌||◌, ◌&&◌, not, List, [], ◌∷◌, Option, None, Some}
 use Rattle.std.proofs.Common.{refl, ap, sym}
-use Rattle.std.specs.Prelude.{option_map, slice_get}
+use Rattle.std.specs.Prelude.{option_map}
 use Rattle.std.specs.List.{list_any}
 use Rattle.std.proofs.lemmas.Bool.{eqb-true}
 use Rattle.cweb_store.specs.Parts.{Token, Word, Number, Literal, Verbatim, Punct, Blank, Newline, Join, Defs, Name, Head, Tail, Mark}
@@ -36,7 +36,7 @@ border_of : (b : List ℕ) (d : Border) (l : Bordered) (high : Bool)
 border_of b d l true h = cc
 border_of b d l false h = ap border_in (sym h)
 
-text-lent : (t : Token) (l : Bordered) → lends t ≡ Some l → lent_text false t ≡ Some l.text
+pub text-lent : (t : Token) (l : Bordered) → lends t ≡ Some l → lent_text false t ≡ Some l.text
 text-lent (Word b) l h = text_where b border.Word l (list_any is_high b) h
 text-lent (Number b) l h = ap (option_map (λ (m : Bordered). m.text)) h
 text-lent (Literal b) l h = ap (option_map (λ (m : Bordered). m.text)) h
@@ -62,7 +62,7 @@ sign-class false false true q = refl
 sign-class false false false true = refl
 sign-class false false false false = refl
 
-class-lent : (t : Token) (l : Bordered) → lends t ≡ Some l → class_behind l.border ≡ class_of (Some t)
+pub class-lent : (t : Token) (l : Bordered) → lends t ≡ Some l → class_behind l.border ≡ class_of (Some t)
 class-lent (Word b) l h = ap class_behind (border_of b border.Word l (list_any is_high b) h)
 class-lent (Number b) l h = ap (λ o. class_behind (border_in o)) (sym h)
 class-lent (Literal b) l h = ap (λ o. class_behind (border_in o)) (sym h)
@@ -201,7 +201,7 @@ first-numeric : (b : List ℕ) → first_is is_numeric b ≡ true → first_is i
 first-numeric [] h = h
 first-numeric (x ∷ b) h = numeric_is x (46 == x) (43 == x) (45 == x) refl refl refl h
 
-apart-lent : (c : Class) (t : Token) (l : Bordered) → lends t ≡ Some l → is_apart c t ≡ stands_apart c l.border
+pub apart-lent : (c : Class) (t : Token) (l : Bordered) → lends t ≡ Some l → is_apart c t ≡ stands_apart c l.border
 apart-lent c (Word b) l h =
     word-apart c b ∙ ap (stands_apart c) (sym (border_of b border.Word l (list_any is_high b) h))
 apart-lent c (Number b) l h = number-apart c b ∙ ap (λ o. stands_apart c (border_in o)) h
@@ -233,18 +233,3 @@ gathers-lent last t l old new h e = record {
   closed = refl;
   added = e ∙ ap (λ a. old ++ (blank_where a ++ l.text)) (sym (apart-lent (class_behind last) t l h));
 }
-
--- the token with a number lends this
-pub record LendsAt (ts : List Token) (n : ℕ) (l : Bordered) : Type 0 where
-  pub token : Token
-  pub there : slice_get ts n ≡ Some token
-  pub lent : lends token ≡ Some l
-
-lent_in : (ts : List Token) (n : ℕ) (l : Bordered) (o : Option Token) → slice_get ts n ≡ o
-    → option_map lends o ≡ Some (Some l) → LendsAt ts n l
-lent_in ts n l None there h = cc
-lent_in ts n l (Some t) there h = record { token = t; there = there; lent = cc }
-
-pub lent-at : (ts : List Token) (n : ℕ) (l : Bordered) → option_map lends (slice_get ts n) ≡ Some (Some l)
-    → LendsAt ts n l
-lent-at ts n l h = lent_in ts n l (slice_get ts n) refl h

@@ -1,20 +1,42 @@
 -- Macros as runs of token numbers.
-use Rattle.std.proofs.Common.{◌≡◌, ◌≤◌, ◌<◌, ◌+◌, ◌-◌, ℕ, suc, Bool, true, false, cond, List, [], ◌∷◌, ◌++◌, refl, sym, ◌∙◌, ap, map, take, drop, length, slice_range, arith, get_or, subst, append_assoc}
+use Rattle.std.proofs.Common.{◌≡◌, ◌≤◌, ◌<◌, ◌+◌, ◌-◌, ℕ, suc, Bool, true, false, cond, List, [], ◌∷◌, ◌++◌, refl, sym, ◌∙◌, ap, map, take, drop, length, slice_range, arith, get_or, subst, append_assoc, append-nil, codes, ◌&&◌}
 use Rattle.std.specs.Prelude.{flat_map, filter, All, slice_get, Some}
 use Rattle.std.proofs.lemmas.List.{drop-drop, take_at, drop_at, take_more, get_or-drop, length-drop}
 use Rattle.std.proofs.Math.Seq.{take-add}
 use Rattle.cweb_out.specs.declared.printer.class.Class.{Class}
 use Rattle.cweb_out.specs.declared.printer.left.Left.{Left}
-use Rattle.cweb_out.specs.Classes.{added, all_added, at_start, leaves, left_by}
+use Rattle.cweb_out.specs.declared.printer.class.Class.TheVariants as class
+use Rattle.cweb_out.specs.Classes.{added, all_added, at_start, begin_by, file_by, is_apart, leaves, left_by, separator}
 use Rattle.cweb_out.proofs.Steps.{added-append, added-push, leaves-push}
 use Rattle.cweb_out.proofs.Suffixes.{slice_get-or, slice_get-lt, slice_range-first}
 use Rattle.cweb_store.specs.declared.parts.PartKind.{PartKind}
 use Rattle.cweb_store.specs.declared.parts.Part as declared
-use Rattle.cweb_store.specs.Parts.{Token, Part, all_tokens, is_macro, numbers_from, numbers_where}
+use Rattle.cweb_store.specs.Parts.{Token, Defs, Part, all_tokens, is_macro, numbers_from, numbers_where}
 use Rattle.cweb_store.specs.Calls.{Stored}
-use Rattle.cweb_out.specs.Printing.{macro_line}
+use Rattle.cweb_out.specs.Printing.{Setting, macro_line, macro_lines}
 use Rattle.cweb_out.specs.Printers.{macros, replaced_in}
 use Rattle.cweb_out.specs.Frames.{run_tokens}
+
+no_blank : (c : Class) → is_apart c Defs ≡ false
+no_blank class.LineStart = refl
+no_blank class.Word = refl
+no_blank class.Number = refl
+no_blank class.Literal = refl
+no_blank class.Point = refl
+no_blank class.Operator = refl
+no_blank class.Glue = refl
+no_blank class.Other = refl
+
+stays : (joined : Bool) → (joined && false) ≡ false
+stays true = refl
+stays false = refl
+
+-- what stands in a file for all macros
+pub defs-added : (s : Setting) (left : Left) → added (file_by s) left Defs ≡ begin_by left.class ++ macro_lines s
+defs-added s left =
+    ap (λ b. cond b [] (separator left.class Defs ++ file_by s left.class Defs)) (stays left.joined)
+    ∙ ap (λ b. cond b (codes " ") [] ++ file_by s left.class Defs) (no_blank left.class)
+    ∙ append-nil (begin_by left.class ++ macro_lines s)
 
 -- the lines of runs
 abbrev pub lines : Stored → List declared.Part → List ℕ

@@ -4,6 +4,7 @@ use Rattle.std.proofs.lemmas.List.{take-append-drop}
 use Rattle.std.specs.Prelude.{Result, Ok, Err, IsErr, IsOk}
 use Rattle.cweb_out.specs.Gathering.{Moved}
 use Rattle.cweb_out.specs.Printed.{Adds, AddsBy}
+use Rattle.cweb_out.specs.Writing.{Wrote}
 
 pub moved_none : (old gathered : List ℕ) → Moved old gathered old gathered
 moved_none old gathered = record { front = []; written = sym (append-nil old); whole = refl }
@@ -64,3 +65,9 @@ pub adds_at : {A E : Type 0} (before after old new old' new' : List ℕ) (r : Re
 adds_at before after old new old' new' r is is' adds =
     subst (λ (t : List ℕ). AddsBy before after old' t r) is'
     (subst (λ (t : List ℕ). AddsBy before after t new r) is adds)
+
+-- the same of a text
+pub wrote_at : {A E : Type 0} (old new old' new' text : List ℕ) (r : Result A E)
+    → old ≡ old' → new ≡ new' → Wrote old new text r → Wrote old' new' text r
+wrote_at old new old' new' text r is is' wrote =
+    subst (λ (t : List ℕ). Wrote old' t text r) is' (subst (λ (t : List ℕ). Wrote t new text r) is wrote)

@@ -1,5 +1,5 @@
 -- Tokens that lend their texts: no frame is put on top for them, and printing them one after another.
-use Rattle.std.proofs.Common.{◌≡◌, ◌++◌, ◌∙◌, [], ◌∷◌, refl, sym, ap, append_assoc, append-nil, ℕ, List, Bool, true, false, ◌&&◌, Some}
+use Rattle.std.proofs.Common.{◌≡◌, ◌++◌, ◌∙◌, [], ◌∷◌, refl, sym, subst, ap, append_assoc, append-nil, ℕ, List, Bool, true, false, ◌&&◌, Some}
 use Rattle.std.specs.Prelude.{flat_map, is_some}
 use Rattle.std.specs.List.{list_all}
 use Rattle.cweb_store.specs.declared.names.NameId.{NameId}
@@ -132,3 +132,8 @@ passed_more p ts left after t old mid new passed g =
                 g.added ∙ ap (λ (u : List ℕ). u ++ more) so_far.written ∙ append_assoc old so_far.bytes more;
           };
     }
+
+-- the same where what was put is told in other words
+pub passed_same : (p : Printer) (ts : List Token) (left : Left) (old new new' : List ℕ) → new' ≡ new
+    → Passed p ts left old new → Passed p ts left old new'
+passed_same p ts left old new new' same passed = subst (λ (u : List ℕ). Passed p ts left old u) (sym same) passed

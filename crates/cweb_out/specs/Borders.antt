@@ -1,5 +1,6 @@
 -- Whether a blank comes between two tokens that lend their texts, told by their borders.
-use Rattle.std.specs.Prelude.{Bool, false, ◌||◌, ◌&&◌, not}
+use Rattle.std.specs.Prelude.{ℕ, List, Bool, true, false, ◌||◌, ◌&&◌, not, codes, if◌then◌else◌}
+use Rattle.cweb_store.specs.Borders.{Bordered}
 use Rattle.cweb_store.specs.declared.tokens.borders.Border.{Border}
 use Rattle.cweb_store.specs.declared.tokens.borders.Border.TheVariants as border
 use Rattle.cweb_out.specs.Classes.{class_is_literal, class_is_number, class_is_operator, class_is_point, class_is_wordlike}
@@ -42,3 +43,12 @@ stands_apart left border.NumericPlain = class_is_number left || class_is_operato
 stands_apart left border.NumericOperator = class_is_number left || class_is_operator left
 stands_apart left border.NumericPoint = class_is_number left || class_is_operator left
 stands_apart left b = false
+
+-- whether a token with the border ends a line
+abbrev pub is_line_end : Border → Bool
+is_line_end border.LineEnd = true
+is_line_end b = false
+
+-- the text in a macro, where a line goes on after a backslash
+abbrev pub continued_by : Bordered → List ℕ
+continued_by l = if is_line_end l.border then codes " \\\n" else l.text

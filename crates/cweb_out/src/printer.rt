@@ -10,6 +10,7 @@ ghost use Rattle.cweb_out.specs.Writing.{Wrote};
 
 pub mod borders;
 pub mod class;
+pub mod defines;
 pub mod finishing;
 pub mod gathering;
 pub mod left;

@@ -11,6 +11,7 @@ pub mod Made
 pub mod Runs
 pub mod Texts
 pub mod Borders
+pub mod Lenders
 pub mod PackedTexts
 pub mod ClosedTokens
 pub mod Next

@@ -36,3 +36,4 @@ pub use parts::{Part, PartKind};
 pub use store::Store;
 pub use tokens::Token;
 pub use tokens::borders::{Border, LentText};
+pub use tokens::lender::Lender;

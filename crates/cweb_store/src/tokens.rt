@@ -4,6 +4,7 @@ pub mod borders;
 pub mod closed;
 pub mod kept;
 pub mod layout;
+pub mod lender;
 pub mod list;
 pub mod noted;
 pub mod packed;

@@ -34,7 +34,8 @@ pub(crate) fn write_macros<W: Sink>(store: &Store, out: &mut W) -> Result<(), Si
     Ok(())
 }
 
-fn write_macro<W: Sink>(store: &Store, part: Part, out: &mut W) -> Result<(), SinkFault>
+/// Writes the line of a macro.
+pub(crate) fn write_macro<W: Sink>(store: &Store, part: Part, out: &mut W) -> Result<(), SinkFault>
     requires count { W.failed out.old + 1 < 2 ^ 64 }
     requires ordered { part.first ≤ part.after }
     requires within { part.after ≤ length (all_tokens store.now.parts) }

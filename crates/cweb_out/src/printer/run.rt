@@ -1,15 +1,26 @@
 // Stored tokens that lend their texts, printed in one loop.
-ghost use Rattle.std.specs.Prelude.{◌≤◌, ◌≡◌, length, slice_range};
+ghost use Rattle.std.specs.Prelude.{◌≤◌, ◌≡◌, false, length, slice_range, take};
 ghost use Rattle.cweb_store.specs.Parts.{all_tokens};
+ghost use Rattle.cweb_out.specs.Borders.{left_behind};
 ghost use Rattle.cweb_out.specs.Gathering.{MovesBy, PrintsBy};
 ghost use Rattle.cweb_out.specs.Lent.{AreLent};
 ghost use Rattle.cweb_out.specs.Printed.{kept_of, setting_of};
+ghost use Rattle.cweb_out.specs.declared.gathered.TheConstants.{ROOM};
 
 use crate::gathered::Gathered;
+use crate::gathered::putting::keep;
 use crate::printer::Printer;
 use crate::printer::borders::{border_of, class_behind, stands_apart};
 use crate::printer::left::Left;
-use cweb_store::{Part, Store};
+use cweb_store::{Border, Part, Store};
+
+// How far a run was printed: the number of the next token, the border of the last one, and how many bytes are used.
+#[derive(Clone, Copy)]
+struct Reached {
+    number: u32,
+    last: Border,
+    used: usize,
+}
 
 impl<'a> Printer<'a> {
     /// Prints tokens of a run to where bytes are gathered, up to one that lends no text, or for whose text there is no room,
@@ -30,22 +41,54 @@ impl<'a> Printer<'a> {
         if self.left.joined {
             return part.first;
         }
-        let mut last = border_of(self.left.class);
-        let mut number = part.first;
-        'tokens: while number < part.after {
-            let Some(lent) = store.lent(number) else {
-                break;
-            };
-            if !gathered.keep(stands_apart(last, lent.border), lent.text) {
-                break;
-            }
-            last = lent.border;
-            number += 1;
-        }
+        let reached = self.put_run(store, part, gathered.bytes.as_mut_slice(), gathered.used);
+        gathered.used = reached.used;
         self.left = Left {
-            class: class_behind(last),
+            class: class_behind(reached.last),
             joined: false,
         };
-        number
+        reached.number
+    }
+
+    // Prints them behind the first bytes. All that the loop reads stands in locals, so that no byte that is put makes it
+    // read anything again.
+    #[inline(always)]
+    fn put_run(&self, store: &Store, part: Part, bytes: &mut [u8], used: usize) -> Reached
+        requires open { (kept_of self.now).joined ≡ false }
+        requires ordered { part.first ≤ part.after }
+        requires within { part.after ≤ length (all_tokens store.now.parts) }
+        requires room { (length bytes.old ≡ ROOM) × (used ≤ ROOM) }
+        ensures from { part.first ≤ result.number }
+        ensures upto { result.number ≤ part.after }
+        ensures room { (length bytes.new ≡ ROOM) × (result.used ≤ ROOM) }
+        ensures lent { AreLent (slice_range (all_tokens store.now.parts) part.first result.number) }
+        ensures moves { MovesBy (kept_of self.now)
+            (slice_range (all_tokens store.now.parts) part.first result.number)
+            (left_behind result.last) }
+        ensures prints { PrintsBy self.now
+            (slice_range (all_tokens store.now.parts) part.first result.number)
+            (take used bytes.old) (take result.used bytes.new) }
+    {
+        let lender = store.lender();
+        let mut reached = Reached {
+            number: part.first,
+            last: border_of(self.left.class),
+            used,
+        };
+        'tokens: while reached.number < part.after {
+            let Some(lent) = lender.lent(reached.number) else {
+                break;
+            };
+            let is_apart = stands_apart(reached.last, lent.border);
+            let Some(used) = keep(bytes, reached.used, is_apart, lent.text) else {
+                break;
+            };
+            reached = Reached {
+                number: reached.number + 1,
+                last: lent.border,
+                used,
+            };
+        }
+        reached
     }
 }

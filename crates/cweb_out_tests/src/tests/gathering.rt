@@ -15,7 +15,7 @@ use std::test::Fail;
 use trial::TrialSink;
 
 // So many bytes are gathered.
-const ROOM: usize = 65_536;
+const ROOM: usize = 65_792;
 
 /// Prints what an expander still has to give, as a file whose bytes are gathered.
 fn gather_file<W: Sink>(

@@ -1,12 +1,13 @@
 // A store's tokens: how many there are, and what they lend.
 
-ghost use Rattle.std.specs.Prelude.{◌≡◌, ◌<◌, length, option_map, slice_get, Some};
+ghost use Rattle.std.specs.Prelude.{◌≡◌, ◌<◌, length, map, option_map, slice_get, Some};
 ghost use Rattle.cweb_store.specs.Borders.{lends, lent_seen};
 ghost use Rattle.cweb_store.specs.Calls.{too_many};
 ghost use Rattle.cweb_store.specs.Parts.{all_tokens};
 
 use crate::store::Store;
 use crate::tokens::borders::LentText;
+use crate::tokens::lender::Lender;
 
 impl Store {
     /// How many tokens there are, of all parts and macros.
@@ -24,6 +25,14 @@ impl Store {
         ensures { option_map lends (slice_get (all_tokens self.now.parts) number)
             ≡ Some (option_map lent_seen result) }
     {
-        self.tokens.lent(number as usize)
+        self.lender().lent(number)
+    }
+
+    /// What lends the texts of all tokens, for a loop that prints many of them.
+    #[inline(always)]
+    pub fn lender(&self) -> Lender<'_>
+        ensures { result ≡ map lends (all_tokens self.now.parts) }
+    {
+        self.tokens.lender()
     }
 }

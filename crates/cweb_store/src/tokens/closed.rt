@@ -12,9 +12,9 @@ use crate::names::standing::add_name_at;
 use crate::names::{NameId, NameKind};
 use crate::parts::Part;
 use crate::tokens::Token;
-use crate::tokens::borders::LentText;
+use crate::tokens::lender::Lender;
 use crate::tokens::noted::{Noted, next_noted};
-use crate::tokens::packed::{lend, lent};
+use crate::tokens::packed::lend;
 use crate::tokens::records::Records;
 use crate::tokens::texts::PackedTexts;
 use indexmap::IndexSet;
@@ -43,8 +43,8 @@ impl Model for ClosedTokens {
 }
 
 impl ClosedTokens {
-    ghost use Rattle.std.specs.Prelude.{◌++◌, option_map};
-    ghost use Rattle.cweb_store.specs.Borders.{lends, lent_seen};
+    ghost use Rattle.std.specs.Prelude.{◌++◌, map};
+    ghost use Rattle.cweb_store.specs.Borders.{lends};
     ghost use Rattle.cweb_store.specs.Seen.{seen};
 
     /// Adds another text. It takes the next number, from 0.
@@ -65,15 +65,15 @@ impl ClosedTokens {
         lend(&self.texts, packed)
     }
 
-    /// What the token with a number lends.
+    /// What lends the texts of the tokens.
     #[inline(always)]
-    pub fn lent(&self, number: usize) -> Option<LentText<'_>>
-        requires { number < length self.now.tokens }
-        ensures { option_map lends (slice_get self.now.tokens number)
-            ≡ Some (option_map lent_seen result) }
+    pub fn lender(&self) -> Lender<'_>
+        ensures { result ≡ map lends self.now.tokens }
     {
-        let record = self.records.record(number);
-        lent(&self.texts, record)
+        Lender {
+            records: self.records.as_slice(),
+            texts: self.texts.slices(),
+        }
     }
 
     pub fn len(&self) -> usize

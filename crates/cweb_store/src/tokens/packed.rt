@@ -13,6 +13,7 @@ use crate::names::NameRef;
 use crate::tokens::Token;
 use crate::tokens::borders::{Border, LentText, has_high_byte, sign_border};
 use crate::tokens::kept::KeptTexts;
+use crate::tokens::lender::TextSlices;
 use crate::tokens::records::Record;
 use crate::tokens::texts::PackedTexts;
 use cweb_files::Place;
@@ -85,7 +86,7 @@ pub fn lend(texts: &PackedTexts, packed: Packed) -> Token<'_>
 
 /// What a record lends. No byte is looked at where the border of the text is kept.
 #[inline(always)]
-pub fn lent(texts: &PackedTexts, item: Record) -> Option<LentText<'_>>
+pub fn lent<'a>(texts: &TextSlices<'a>, item: Record) -> Option<LentText<'a>>
     requires { IsWithin (length texts.now) (packed_in [] item) }
     ensures { option_map lent_seen result ≡ lends (token_in texts.now (packed_in [] item)) }
 {
@@ -117,7 +118,7 @@ pub fn lent(texts: &PackedTexts, item: Record) -> Option<LentText<'_>>
 }
 
 #[inline(always)]
-fn lent_word(texts: &PackedTexts, number: usize) -> Option<LentText<'_>>
+fn lent_word<'a>(texts: &TextSlices<'a>, number: usize) -> Option<LentText<'a>>
     requires { number < length texts.now }
     ensures { option_map lent_seen result ≡ lends (spec.Word (text_at texts.now number)) }
 {
@@ -140,7 +141,7 @@ fn word_lent(word: &[u8]) -> LentText<'_>
 }
 
 #[inline(always)]
-fn lent_sign(texts: &PackedTexts, number: usize) -> Option<LentText<'_>>
+fn lent_sign<'a>(texts: &TextSlices<'a>, number: usize) -> Option<LentText<'a>>
     requires { number < length texts.now }
     ensures { option_map lent_seen result ≡ lends (spec.Punct (text_at texts.now number)) }
 {

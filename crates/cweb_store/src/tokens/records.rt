@@ -1,6 +1,6 @@
 // Tokens that have their texts by number, in order. A Mark has its place by number too.
 
-ghost use Rattle.std.specs.Prelude.{◌≡◌, ◌<◌, ◌++◌, ◌∷◌, [], List, ℕ, true, length, take, Some, slice_get, OnOk};
+ghost use Rattle.std.specs.Prelude.{◌≡◌, ◌<◌, ◌++◌, ◌∷◌, [], List, ℕ, true, length, take, Some, slice_get, map, OnOk};
 ghost use Rattle.std.specs.Prelude.{vec_capacity, vec_len};
 ghost use Rattle.cweb_files.specs.declared.place.Place.{Place};
 ghost use Rattle.cweb_store.specs.Calls.{too_many};
@@ -110,14 +110,12 @@ impl Records {
         unpack(self.places.as_slice(), self.items[number])
     }
 
-    /// The record with a number.
+    /// The records.
     #[inline(always)]
-    pub fn record(&self, number: usize) -> Record
-        requires { number < length self.now.packed }
-        ensures { (places : List Place)
-            × (slice_get self.now.packed number ≡ Some (packed_in places result)) }
+    pub fn as_slice(&self) -> &[Record]
+        ensures { (places : List Place) × (self.now.packed ≡ map (packed_in places) result.now) }
     {
-        self.items[number]
+        self.items.as_slice()
     }
 
     /// Keeps the first `count` tokens. It takes no memory.

@@ -6,6 +6,7 @@ ghost use Rattle.cweb_store.specs.PackedTexts.{IsFromStart, text_bytes};
 
 use crate::reserved::put;
 use crate::tokens::borders::{Border, border_of};
+use crate::tokens::lender::TextSlices;
 use std::alloc::{AllocError, Global};
 use std::marker::Model;
 
@@ -94,25 +95,24 @@ impl PackedTexts {
         self.borders.truncate(count);
     }
 
+    /// The same texts, as slices.
+    #[inline(always)]
+    pub fn slices(&self) -> TextSlices<'_>
+        ensures { result ≡ self.now }
+    {
+        TextSlices {
+            bytes: self.bytes.as_slice(),
+            limits: self.limits.as_slice(),
+            borders: self.borders.as_slice(),
+        }
+    }
+
     /// The text with a number.
     pub fn text(&self, number: usize) -> &[u8]
         requires { number < length self.now }
         ensures { slice_get self.now number ≡ Some result.now }
     {
-        // the next number is below this, so that it fits
-        let _limits = self.limits.len();
-        let begin = self.limits[number];
-        let end = self.limits[number + 1];
-        &self.bytes[begin..end]
-    }
-
-    /// What is kept of the border of the text with a number.
-    #[inline(always)]
-    pub fn border(&self, number: usize) -> Border
-        requires { number < length self.now }
-        ensures { (text : List ℕ) → slice_get self.now number ≡ Some text → IsTold text result }
-    {
-        self.borders[number]
+        self.slices().text(number)
     }
 
     /// The text with a number, counted from another.

@@ -1,0 +1,8 @@
+use Rattle.std.proofs.Common.{◌∙◌, ap, map, sym}
+use Rattle.cweb_store.specs.Records.{packed_in}
+use Rattle.cweb_store.proofs.tokens.records.Records.as_slice.Goals as goal
+
+pub returns : goal.returns
+returns c =
+    let s = c.self.inside in
+    (s.places.items, ap (λ v. v.packed) (sym c.self.view_is) ∙ ap (map (packed_in s.places.items)) (sym c.as_slice.ensures.value))
