@@ -59,7 +59,8 @@ returns-clause-prints g c = λ tells ts is.
     let new = g.W.Sink.written c.gather_other.new.out ++ c.gather_other.new.gathered in
     let old = g.W.Sink.written c.args.out.now ++ c.args.gathered.now in
     let prints =
-    subst (λ (p : Printer). Prints p t mid new c.gather_other.result) (c.gather_rare.ensures.same c.if-gather_rare.false)
+    subst (λ (p : Printer). Prints p t mid new c.gather_other.result)
+    (c.gather_rare.ensures.same c.if-gather_rare.false)
     (c.gather_other.ensures.prints (subst IsTrue (sym c.in_ok-make_room.ensures.tells) tells)) in
     adds_at (print s ts) (print s (ts ++ t ∷ [])) mid new old new c.gather_other.result
     (ap (λ (u : List ℕ). has ++ u) (c.gather_rare.ensures.none c.if-gather_rare.false)

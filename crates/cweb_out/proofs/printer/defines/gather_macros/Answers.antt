@@ -29,6 +29,8 @@ macros-preserved g c =
     let w = c.args.store.now in
     let is : c.macros.parts ≡ c.in-Some.part ∷ c.next.new.self = c.in-Some.ensures.steps in
     let old = g.W.Sink.written c.args.out.now ++ c.args.gathered.now in
+    let had = g.W.Sink.written c.macros.out ++ c.macros.gathered in
+    let has = g.W.Sink.written c.gather_macro.new.out ++ c.gather_macro.new.gathered in
     record {
       tells = search rules;
       failed = search rules;
@@ -42,9 +44,9 @@ macros-preserved g c =
           (All-tail (λ (p : Part). p.after ≤ length (all_tokens w.parts)) c.macros.parts
           c.next.new.self c.in-Some.part is c.macros.invariant.within).1;
       written = λ tells.
-          written_more old (g.W.Sink.written c.macros.out ++ c.macros.gathered) (g.W.Sink.written c.gather_macro.new.out ++ c.gather_macro.new.gathered)
+          written_more old had has
           (all_lines w) (macro_line (replaced_in w) (run_tokens w c.in-Some.part)) (lines w c.next.new.self)
-          (subst (λ (ps : List Part). Written old (g.W.Sink.written c.macros.out ++ c.macros.gathered) (all_lines w) (lines w ps))
+          (subst (λ (ps : List Part). Written old had (all_lines w) (lines w ps))
           is (c.macros.invariant.written tells))
           (c.in_ok-gather_macro.ensures.wrote (subst IsTrue (sym c.macros.invariant.tells) tells));
     }
@@ -54,10 +56,12 @@ returns-in_err-gather_macro-clause-wrote g c = λ tells.
     let w = c.args.store.now in
     let is : c.macros.parts ≡ c.in-Some.part ∷ c.next.new.self = c.in-Some.ensures.steps in
     let old = g.W.Sink.written c.args.out.now ++ c.args.gathered.now in
-    wrote_err old (g.W.Sink.written c.gather_macro.new.out ++ c.gather_macro.new.gathered)
+    let had = g.W.Sink.written c.macros.out ++ c.macros.gathered in
+    let has = g.W.Sink.written c.gather_macro.new.out ++ c.gather_macro.new.gathered in
+    wrote_err old has
     (all_lines w) c.from_residual.result c.from_residual.ensures.0
-    (written_front old (g.W.Sink.written c.macros.out ++ c.macros.gathered) (g.W.Sink.written c.gather_macro.new.out ++ c.gather_macro.new.gathered)
+    (written_front old had has
     (all_lines w) (macro_line (replaced_in w) (run_tokens w c.in-Some.part)) (lines w c.next.new.self)
-    (subst (λ (ps : List Part). Written old (g.W.Sink.written c.macros.out ++ c.macros.gathered) (all_lines w) (lines w ps))
+    (subst (λ (ps : List Part). Written old had (all_lines w) (lines w ps))
     is (c.macros.invariant.written tells))
     (c.in_err-gather_macro.ensures.wrote (subst IsTrue (sym c.macros.invariant.tells) tells)))
