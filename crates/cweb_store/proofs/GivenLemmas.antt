@@ -3,7 +3,7 @@ use Rattle.std.proofs.Common.{◌≡◌, ℕ, zero, suc, ◌+◌, ◌<◌, List,
 use Rattle.std.specs.Prelude.{slice_get, Some}
 use Rattle.cweb_store.specs.declared.names.found.Found.{Found}
 use Rattle.cweb_store.specs.declared.names.table.GivenAs.{GivenAs}
-use Rattle.cweb_store.specs.Names.{Occurrence, Name, Standing, with_name, names_from, names, standing_among, standings_from, standings}
+use Rattle.cweb_store.specs.Names.{Occurrence, Name, with_name, names_from, names, standing_among, standings_from, standings}
 use Rattle.cweb_store.specs.Calls.{occurrence_of, too_many}
 use Rattle.cweb_store.specs.Known.{early, earlies_from, by_found}
 use Rattle.cweb_store.specs.Given.{AreGiven, settled, settled_all}

@@ -1,17 +1,17 @@
 -- A name that is a proper prefix of another is one of the next in order.
-use Rattle.std.proofs.Common.{◌≡◌, ℕ, zero, suc, Bool, true, false, cond, ◌||◌, List, [], ◌∷◌, Some, None, map, filter, refl, sym, ◌∙◌, ap, subst}
+use Rattle.std.proofs.Common.{◌≡◌, ℕ, zero, suc, Bool, true, false, cond, ◌||◌, List, [], ◌∷◌, Some, None, map, filter, refl, sym, ◌∙◌, ap}
 use Rattle.std.specs.Prelude.{nat_eq, bytes_eq, slice_get}
 use Rattle.std.specs.List.{starts_with, list_any, AllByRecursion}
 use Rattle.std.specs.List.Sorted.{IsStrictlySortedBy}
 use Rattle.std.specs.Map.{keys_of, lookup}
-use Rattle.std.specs.BTreeMap.{is_at}
-use Rattle.std.specs.Ordering.{is_eq, is_le, ordering_reverse, nat_cmp}
-use Rattle.std.specs.Cmp.Lexicographic.{slice_cmp, bytes_decides, nat_list_cmp_total}
+use Rattle.std.specs.BTreeMap.{insert_entry, is_at}
+use Rattle.std.specs.Ordering.{match_ordering, is_eq, is_le, ordering_reverse}
+use Rattle.std.specs.Cmp.Lexicographic.{bytes_decides, nat_list_cmp_total}
 use Rattle.std.specs.declared.cmp.Ordering.TheVariants.{Less, Equal, Greater}
 use Rattle.std.proofs.lemmas.Map.Text.{is_eq-slice_cmp}
 use Rattle.cweb_store.specs.declared.names.NameId.{NameId}
 use Rattle.cweb_store.specs.declared.names.found.Found.{Found}
-use Rattle.cweb_store.specs.Names.{Name, texts, beginning}
+use Rattle.cweb_store.specs.Names.{Name, texts}
 use Rattle.cweb_store.specs.Faults.{is_prefix_of_another}
 use Rattle.cweb_store.specs.Found.{Entry, order, begins, found_of, is_several, next_begins, any_next, number_of, AreKnown}
 use Rattle.cweb_store.proofs.PrefixLemmas.{none-begins, begins-le}
@@ -191,3 +191,22 @@ next-prefix es ns known sorted =
           let v = number-there n.text ns there in
           sym (longer n.text there) ∙ none-next es sorted is n.text v.0 (known.gives n.text ∙ v.1)))
     ]) refl
+
+-- a text that a map has, put into it once more with its number
+pub insert-same : (es : List Entry) (k : List ℕ) (v : NameId) → IsStrictlySortedBy order (keys_of es)
+    → lookup (is_at (order k)) es ≡ Some v → insert_entry order es k v ≡ es
+unfolding IsStrictlySortedBy
+insert-same [] k v sorted h = cc
+insert-same (e ∷ es) k v sorted h =
+    (elim (order k e.0) as (λ o. order k e.0 ≡ o → cond (is_eq o) (Some e.1) (lookup (is_at (order k)) es) ≡ Some v
+    → match_ordering o ((k, v) ∷ e ∷ es) ((e.0, v) ∷ es) (e ∷ insert_entry order es k v) ≡ e ∷ es) [
+      | Less ↦ λ is g.
+          let above : order e.0 k ≡ Less = below-found e.0 k v es sorted.0 g in
+          let greater : order k e.0 ≡ Greater = nat_list_cmp_total.antisymm k e.0 ∙ ap ordering_reverse above in
+          let none : true ≡ false = sym (ap is_le is) ∙ ap is_le greater in
+          cc
+      | Equal ↦ λ is g.
+          let same : e.1 ≡ v = cc in
+          ap (λ w. (e.0, w) ∷ es) (sym same)
+      | Greater ↦ λ is g. ap (λ xs. e ∷ xs) (insert-same es k v sorted.1 g)
+    ]) refl h

@@ -1,12 +1,14 @@
 // The names that begin with a prefix.
 
-ghost use Rattle.std.specs.Prelude.{◌≡◌};
-ghost use Rattle.std.specs.BTreeMap.{keys};
+ghost use Rattle.std.specs.Prelude.{◌≡◌, unwrap_or, IfOk, OnErr};
+ghost use Rattle.std.specs.BTreeMap.{insert_entry, is_at, keys};
 ghost use Rattle.std.specs.List.Sorted.{IsStrictlySortedBy};
+ghost use Rattle.std.specs.Map.{lookup};
 ghost use Rattle.cweb_store.specs.Found.{any_next, found_of, numbers, order};
 
 use crate::names::NameId;
 use crate::names::sorted::SortedText;
+use std::alloc::AllocError;
 use std::collections::BTreeMap;
 
 /// How many names there are, and which if it is one.
@@ -51,6 +53,23 @@ pub fn find_one(sorted: &BTreeMap<SortedText, NameId>, from: SortedText, prefix:
     } else {
         Found::One(*id)
     }
+}
+
+/// The number of a text in a map, where one that is new takes the next number. A refused call changes nothing.
+pub fn number_in(
+    sorted: &mut BTreeMap<SortedText, NameId>,
+    text: SortedText,
+    next: NameId,
+) -> Result<NameId, AllocError>
+    ensures number { IfOk result (λ id.
+        id ≡ unwrap_or (lookup (is_at (order text)) sorted.old.entries) next) }
+    ensures entries { IfOk result (λ id.
+        sorted.new.entries ≡ insert_entry order sorted.old.entries text id) }
+    ensures err { OnErr result (sorted.new.entries ≡ sorted.old.entries) }
+    ensures ordered { IsStrictlySortedBy order (keys sorted.old) }
+{
+    let id = *sorted.entry(text)?.or_insert(next);
+    Ok(id)
 }
 
 /// Whether a text of a map begins with the one before it.

@@ -8,7 +8,7 @@ ghost use Rattle.cweb_store.specs.Found.{found_of};
 ghost use Rattle.cweb_store.specs.Calls.{occurrence_of};
 ghost use Rattle.cweb_store.specs.Known.{early, has_text_at};
 
-use crate::names::found::{Found, find_one, has_prefix};
+use crate::names::found::{Found, find_one, has_prefix, number_in};
 use crate::names::sorted::SortedText;
 use crate::names::{How, NameId};
 use crate::reserved::put;
@@ -107,14 +107,14 @@ impl KnownNames {
         ensures added { OnOk result (self.new ≡ with_text first self.old text.now) }
         ensures err { OnErr result (self.new ≡ self.old) }
     {
+        let next = NameId(self.names.len() as u32);
         let key = SortedText::new(self.alloc, text)?;
-        if let Some(id) = self.sorted.get(&key).copied() {
-            return Ok(id);
-        }
-        let id = NameId(self.names.len() as u32);
         let text = Vec::from_slice(self.alloc, text)?;
         self.names.reserve(1)?;
-        self.sorted.insert(key, id)?;
+        let id = number_in(&mut self.sorted, key, next)?;
+        if id.0 != next.0 {
+            return Ok(id);
+        }
         put(&mut self.names, KnownName { text, first });
         Ok(id)
     }

@@ -1,4 +1,4 @@
-use Rattle.std.proofs.Common.{◌≡◌, ◌<◌, ◌+◌, [], ◌∷◌, ◌++◌, sym, ◌∙◌, ap, length, arith}
+use Rattle.std.proofs.Common.{◌≡◌, ◌<◌, ◌+◌, ◌∙◌, ap, length, arith}
 use Rattle.cweb_store.specs.declared.names.table.GivenAs.{GivenAs}
 use Rattle.cweb_store.specs.Calls.{occurrence_of, too_many}
 use Rattle.cweb_store.specs.Names.{with_name}
