@@ -180,7 +180,8 @@ several-longer i q (n ∷ ns) d h =
           ])
     ]) refl h
 
-pub any-there : (ns : List Name) (i : ℕ) (n : Name) → slice_get ns i ≡ Some n → list_any (bytes_eq n.text) (texts ns) ≡ true
+pub any-there : (ns : List Name) (i : ℕ) (n : Name) → slice_get ns i ≡ Some n
+    → list_any (bytes_eq n.text) (texts ns) ≡ true
 any-there [] i n h = cc
 any-there (m ∷ ns) zero n h =
     let same : m ≡ n = cc in

@@ -24,7 +24,9 @@ behind b text all = λ i. all (suc i)
 
 -- a step of one byte is worth more than all bytes behind it
 rise : (a b w x : ℕ) → a < b → x < w → a * w + x < b * w
-rise a b w x less small = omega (arith, mul-le-mul_right w (let up : suc a ≤ b = omega (arith, less) in up), suc-mul a w, small)
+rise a b w x less small =
+    let up : suc a ≤ b = omega (arith, less) in
+    omega (arith, mul-le-mul_right w up, suc-mul a w, small)
 
 some-worth : (n : ℕ) → 0 < worth n
 some-worth zero = omega arith

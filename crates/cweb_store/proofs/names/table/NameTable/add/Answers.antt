@@ -24,7 +24,8 @@ invariant_of-self-2 c =
     let s = c.self.inside in
     let t = c.args.name.now in
     let g : GivenAs = record { how = c.args.how; is_file = c.args.is_file } in
-    let number : c.in_ok-number.number ≡ length s.given.items = c.in_ok-number.ensures.number ∙ c.self.invariant.count in
+    let number : c.in_ok-number.number ≡ length s.given.items =
+    c.in_ok-number.ensures.number ∙ c.self.invariant.count in
     let few : length s.given.items + 1 < too_many =
     omega (
       arith,
