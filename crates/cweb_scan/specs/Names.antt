@@ -1,5 +1,5 @@
 -- The name that an occurrence gives, and how it gives it.
-use Rattle.std.specs.Prelude.{ℕ, ◌-◌, Bool, true, false, ◌&&◌, ◌==◌, not, nat_eq, nat_lt, List, [], ◌∷◌, ◌++◌, length, take, codes, if◌then◌else◌}
+use Rattle.std.specs.Prelude.{ℕ, ◌-◌, Bool, true, false, ◌&&◌, ◌||◌, ◌==◌, not, nat_eq, nat_lt, List, [], ◌∷◌, ◌++◌, length, take, codes, if◌then◌else◌}
 use Rattle.std.specs.List.{ends_with}
 use Rattle.cweb_store.specs.declared.names.How.TheVariants.{Full, Prefix}
 use Rattle.cweb_store.specs.Names.{Occurrence}
@@ -27,6 +27,10 @@ is_squeezed_after gap (b ∷ t) = elim (is_white b) [
 
 abbrev pub is_squeezed : List ℕ → Bool
 is_squeezed t = is_squeezed_after true t
+
+-- whether a byte stands behind another in such a text: one that is white is a blank, and behind no blank
+abbrev pub follows : ℕ → ℕ → Bool
+follows before b = not (is_white b) || ((b == 32) && not (before == 32))
 
 abbrev pub is_abbreviation : List ℕ → Bool
 is_abbreviation text = nat_lt 3 (length text) && ends_with nat_eq text (codes "...")

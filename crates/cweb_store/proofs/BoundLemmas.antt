@@ -48,7 +48,7 @@ the_one-below n [] otherwise h o = o
 the_one-below n (m ∷ []) otherwise h o = h.0
 the_one-below n (m ∷ k ∷ ns) otherwise h o = tt
 
-position-below : (p : List ℕ → Bool) (xs : List (List ℕ)) → list_any p xs ≡ true → position_or_len p xs < length xs
+pub position-below : (p : List ℕ → Bool) (xs : List (List ℕ)) → list_any p xs ≡ true → position_or_len p xs < length xs
 position-below p [] h = cc
 position-below p (x ∷ xs) h =
     (elim (p x) as (λ b. (b || list_any p xs) ≡ true → cond (not b) (1 + position_or_len p xs) 0 < length (x ∷ xs)) [

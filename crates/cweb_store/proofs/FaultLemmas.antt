@@ -15,6 +15,16 @@ use Rattle.cweb_store.specs.Faults.{fault, fault_if, faults_from, is_prefix_of_a
 use Rattle.cweb_store.proofs.InsertLemmas.{grown, found-first}
 use Rattle.cweb_store.proofs.NameLemmas.{bytes_eq-same, bytes_eq-sym, or-false}
 
+-- no fault where no name fails
+pub faults-none : (kind : NameKind) (fails : List ℕ → Bool) (i : ℕ) (ns : List Name)
+    → list_any fails (texts ns) ≡ false → faults_from i kind (λ n text. fails text) ns ≡ []
+faults-none kind fails i [] h = refl
+faults-none kind fails i (n ∷ ns) h =
+    let both = or-false (fails n.text) (list_any fails (texts ns)) h in
+    let rest = filter (λ (p : ℕ × Name). fails p.1.text) (enumerate_from (i + 1) ns) in
+    ap (λ b. map (λ (p : ℕ × Name). fault kind p.1.first) (cond b ((i, n) ∷ rest) rest)) both.left
+    ∙ faults-none kind fails (i + 1) ns both.right
+
 -- the item at an index, and what follows it
 pub record Front {X : Type 0} (xs : List X) (i : ℕ) : Type 0 where
   pub item : X
@@ -98,7 +108,7 @@ none-begins i q (n ∷ ns) h =
       | false ↦ rest
     ])
 
-starts-same : (q : List ℕ) → starts_with nat_eq q q ≡ true
+pub starts-same : (q : List ℕ) → starts_with nat_eq q q ≡ true
 starts-same q = ap (bytes_eq q) (take-length q) ∙ bytes_eq-same q
 
 -- of a name something begins with it
@@ -137,7 +147,7 @@ not-not true = refl
 not-not false = refl
 
 -- several names begin with a name where one is longer
-several-longer : (i : ℕ) (q : List ℕ) (ns : List Name) → Distinct (texts ns)
+pub several-longer : (i : ℕ) (q : List ℕ) (ns : List Name) → Distinct (texts ns)
     → list_any (bytes_eq q) (texts ns) ≡ true → is_several (found_of (beginning_from i q ns)) ≡ longer ns q
 several-longer i q [] d h = cc
 several-longer i q (n ∷ ns) d h =
@@ -170,7 +180,8 @@ several-longer i q (n ∷ ns) d h =
           ])
     ]) refl h
 
-any-there : (ns : List Name) (i : ℕ) (n : Name) → slice_get ns i ≡ Some n → list_any (bytes_eq n.text) (texts ns) ≡ true
+pub any-there : (ns : List Name) (i : ℕ) (n : Name) → slice_get ns i ≡ Some n
+    → list_any (bytes_eq n.text) (texts ns) ≡ true
 any-there [] i n h = cc
 any-there (m ∷ ns) zero n h =
     let same : m ≡ n = cc in

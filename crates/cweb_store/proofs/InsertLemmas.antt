@@ -1,12 +1,11 @@
 -- How the one name of a prefix changes with one more name in the sorted map.
 use Rattle.std.proofs.Common.{◌≡◌, ℕ, Bool, true, false, cond, List, [], ◌∷◌, map, filter, Some, None, refl, sym, ◌∙◌, ap}
-use Rattle.std.specs.Prelude.{nat_eq, Vec}
+use Rattle.std.specs.Prelude.{nat_eq}
 use Rattle.std.specs.List.{starts_with}
 use Rattle.std.specs.Map.{lookup}
 use Rattle.std.specs.BTreeMap.{insert_entry, is_at}
 use Rattle.std.specs.Ordering.{match_ordering, is_eq}
 use Rattle.std.specs.declared.cmp.Ordering.TheVariants.{Less, Equal, Greater}
-use Rattle.std.specs.declared.alloc.Global.{Global}
 use Rattle.cweb_store.specs.declared.names.NameId.{NameId}
 use Rattle.cweb_store.specs.declared.names.found.Found.{Found}
 use Rattle.cweb_store.specs.declared.names.found.Found.TheVariants.{Nothing, One, Several}
@@ -42,27 +41,27 @@ found-one : (b : Bool) (e : Entry) (es : List Entry) → found (cond b (e ∷ es
 found-one true e es = found-cons e es
 found-one false e es = refl
 
-pub found-insert : (p : List ℕ) (es : List Entry) (k : Vec ℕ Global) (v : NameId) → lookup (is_at (order k)) es ≡ None →
+pub found-insert : (p : List ℕ) (es : List Entry) (k : List ℕ) (v : NameId) → lookup (is_at (order k)) es ≡ None →
     found (filter (begins p) (insert_entry order es k v))
-    ≡ grown (starts_with nat_eq k.items p) v (found (filter (begins p) es))
-found-insert p [] k v absent = found-one (starts_with nat_eq k.items p) (k, v) []
+    ≡ grown (starts_with nat_eq k p) v (found (filter (begins p) es))
+found-insert p [] k v absent = found-one (starts_with nat_eq k p) (k, v) []
 found-insert p (e ∷ es) k v absent =
     (elim (order k e.0) as (λ o. order k e.0 ≡ o → cond (is_eq o) (Some e.1) (lookup (is_at (order k)) es) ≡ None →
     found (filter (begins p) (match_ordering o ((k, v) ∷ e ∷ es) ((e.0, v) ∷ es) (e ∷ insert_entry order es k v)))
-    ≡ grown (starts_with nat_eq k.items p) v (found (filter (begins p) (e ∷ es)))) [
-      | Less ↦ λ is h. found-one (starts_with nat_eq k.items p) (k, v) (filter (begins p) (e ∷ es))
+    ≡ grown (starts_with nat_eq k p) v (found (filter (begins p) (e ∷ es)))) [
+      | Less ↦ λ is h. found-one (starts_with nat_eq k p) (k, v) (filter (begins p) (e ∷ es))
       | Equal ↦ λ is h. cc
       | Greater ↦ λ is h.
-          (elim (starts_with nat_eq e.0.items p) as (λ b.
+          (elim (starts_with nat_eq e.0 p) as (λ b.
           found (cond b (e ∷ filter (begins p) (insert_entry order es k v))
           (filter (begins p) (insert_entry order es k v)))
-          ≡ grown (starts_with nat_eq k.items p) v
+          ≡ grown (starts_with nat_eq k p) v
           (found (cond b (e ∷ filter (begins p) es) (filter (begins p) es)))) [
             | true ↦
                 found-cons e (filter (begins p) (insert_entry order es k v))
                 ∙ ap (grown true e.1) (found-insert p es k v h)
-                ∙ grown-swap e.1 v (starts_with nat_eq k.items p) (found (filter (begins p) es))
-                ∙ ap (grown (starts_with nat_eq k.items p) v) (sym (found-cons e (filter (begins p) es)))
+                ∙ grown-swap e.1 v (starts_with nat_eq k p) (found (filter (begins p) es))
+                ∙ ap (grown (starts_with nat_eq k p) v) (sym (found-cons e (filter (begins p) es)))
             | false ↦ found-insert p es k v h
           ])
     ]) refl absent

@@ -9,8 +9,7 @@ use Rattle.std.specs.Cmp.Lexicographic.{slice_cmp, bytes_decides}
 use Rattle.std.specs.declared.cmp.Ordering.TheVariants.{Less, Equal, Greater}
 use Rattle.std.specs.declared.alloc.Global.{Global}
 use Rattle.std.proofs.lemmas.Map.Text.{is_eq-slice_cmp}
-use Rattle.cweb_store.specs.Found.{order}
-use Rattle.cweb_store.specs.Slots.{Entries, AreMapped, IsInserted, word_in}
+use Rattle.cweb_store.specs.Slots.{order, Entries, AreMapped, IsInserted, word_in}
 use Rattle.cweb_store.proofs.ListLemmas.{or-swap, or-assoc}
 use Rattle.cweb_store.proofs.PackedLemmas.{get-grow}
 

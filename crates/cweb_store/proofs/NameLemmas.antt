@@ -1,9 +1,8 @@
 -- How names stand in lists and maps.
-use Rattle.std.proofs.Common.{◌≡◌, ℕ, ◌+◌, Bool, true, false, cond, not, ◌||◌, List, [], ◌∷◌, ◌++◌, Some, None, length, refl, sym, ◌∙◌, ap, subst, arith}
-use Rattle.std.specs.Prelude.{bytes_eq, if◌then◌else◌, Vec, nat_eq}
+use Rattle.std.proofs.Common.{◌≡◌, ℕ, zero, suc, ◌+◌, Bool, true, false, cond, not, ◌||◌, List, [], ◌∷◌, ◌++◌, Some, None, length, refl, sym, ◌∙◌, ap, subst, arith}
+use Rattle.std.specs.Prelude.{bytes_eq, slice_get, if◌then◌else◌, nat_eq}
 use Rattle.std.specs.List.{list_any, starts_with, position_or_len}
 use Rattle.std.specs.Map.{lookup}
-use Rattle.std.specs.declared.alloc.Global.{Global}
 use Rattle.std.specs.BTreeMap as tree
 use Rattle.std.specs.Ordering.{match_ordering, is_eq, nat_cmp}
 use Rattle.std.specs.Cmp.Lexicographic.{slice_cmp}
@@ -13,6 +12,8 @@ use Rattle.std.proofs.lemmas.Slice.Eq.{bytes_eq-Decides}
 use Rattle.std.proofs.lemmas.List.{map-append}
 use Rattle.std.proofs.lemmas.List.Folds.{list_any-append}
 use Rattle.cweb_store.specs.declared.names.NameId.{NameId}
+use Rattle.cweb_store.specs.declared.names.known.KnownName.{KnownName}
+use Rattle.cweb_store.specs.Known.{has_text_at, names_in}
 use Rattle.cweb_store.proofs.InsertLemmas.{grown, grown-swap, found-first, found-insert}
 use Rattle.cweb_store.specs.Names.{Name, id, texts, beginning_from, beginning, with_text}
 use Rattle.cweb_store.specs.declared.names.found.Found.TheVariants.{Nothing, One}
@@ -114,6 +115,33 @@ pub with_text-new : (i : ℕ) (ns : List Name) (text : List ℕ) → list_any (b
     → with_text i ns text ≡ ns ++ (record { text = text; first = i }) ∷ []
 with_text-new i ns text h = ap (λ b. if b then ns else ns ++ (record { text = text; first = i }) ∷ []) h
 
+-- the name that has a text is the only one
+pub known-at : (ns : List Name) (i : ℕ) (q : List ℕ) → Distinct (texts ns) → has_text_at ns i q ≡ true
+    → (list_any (bytes_eq q) (texts ns) ≡ true) × (i ≡ position_or_len (bytes_eq q) (texts ns))
+known-at [] i q d h = cc
+known-at (n ∷ ns) zero q d h =
+    let same : bytes_eq q n.text ≡ true = bytes_eq-sym q n.text ∙ h in (
+      ap (λ b. b || list_any (bytes_eq q) (texts ns)) same,
+      sym (ap (λ b. cond (not b) (1 + position_or_len (bytes_eq q) (texts ns)) 0) same),
+    )
+known-at (n ∷ ns) (suc i) q d h =
+    let rest = known-at ns i q d.1 h in
+    (elim (bytes_eq q n.text) as (λ b. bytes_eq q n.text ≡ b →
+    ((b || list_any (bytes_eq q) (texts ns)) ≡ true)
+    × (suc i ≡ cond (not b) (1 + position_or_len (bytes_eq q) (texts ns)) 0)) [
+      | true ↦ λ e.
+          let text : q ≡ n.text = (bytes_eq-Decides q n.text).0 e in
+          let none : true ≡ false = sym rest.0 ∙ ap (λ t. list_any (bytes_eq t) (texts ns)) text ∙ d.0 in
+          cc
+      | false ↦ λ e. (rest.0, omega (arith, rest.1))
+    ]) refl
+
+pub has-text-in : (ns : List KnownName) (i : ℕ) (q : List ℕ)
+    → has_text_at (names_in ns) i q ≡ elim (slice_get ns i) [ Some n ↦ bytes_eq n.text.items q | None ↦ false ]
+has-text-in [] i q = refl
+has-text-in (n ∷ ns) zero q = refl
+has-text-in (n ∷ ns) (suc i) q = has-text-in ns i q
+
 -- one more name begins with a prefix, or not
 beginning-push : (i : ℕ) (p : List ℕ) (ns : List Name) (n : Name) (j : ℕ) → j ≡ i + length ns →
     found_of (beginning_from i p (ns ++ n ∷ []))
@@ -145,37 +173,37 @@ swap-conds true false x y z h = refl
 swap-conds false true x y z h = refl
 swap-conds false false x y z h = refl
 
-abbrev at : List ℕ → Vec ℕ Global → Bool
-at q k = is_eq (slice_cmp nat_cmp q k.items)
+abbrev at : List ℕ → List ℕ → Bool
+at q k = is_eq (slice_cmp nat_cmp q k)
 
-lookup-inserted : (es : List Entry) (key : Vec ℕ Global) (v : NameId) (q : List ℕ)
-    → lookup (at q) (tree.insert_entry order es key v) ≡ cond (bytes_eq q key.items) (Some v) (lookup (at q) es)
-lookup-inserted [] key v q = ap (λ b. cond b (Some v) None) (is_eq-slice_cmp q key.items)
+lookup-inserted : (es : List Entry) (key : List ℕ) (v : NameId) (q : List ℕ)
+    → lookup (at q) (tree.insert_entry order es key v) ≡ cond (bytes_eq q key) (Some v) (lookup (at q) es)
+lookup-inserted [] key v q = ap (λ b. cond b (Some v) None) (is_eq-slice_cmp q key)
 lookup-inserted (e ∷ es) key v q =
     let rest = lookup (at q) es in
-    let here : at q e.0 ≡ bytes_eq q e.0.items = is_eq-slice_cmp q e.0.items in
+    let here : at q e.0 ≡ bytes_eq q e.0 = is_eq-slice_cmp q e.0 in
     (elim (order key e.0) as (λ o. order key e.0 ≡ o →
     lookup (at q) (match_ordering o ((key, v) ∷ e ∷ es) ((e.0, v) ∷ es) (e ∷ tree.insert_entry order es key v))
-    ≡ cond (bytes_eq q key.items) (Some v) (cond (at q e.0) (Some e.1) rest)) [
+    ≡ cond (bytes_eq q key) (Some v) (cond (at q e.0) (Some e.1) rest)) [
       | Less ↦ λ is.
-          ap (λ b. cond b (Some v) (cond (at q e.0) (Some e.1) rest)) (is_eq-slice_cmp q key.items)
+          ap (λ b. cond b (Some v) (cond (at q e.0) (Some e.1) rest)) (is_eq-slice_cmp q key)
       | Equal ↦ λ is.
-          let same : key.items ≡ e.0.items =
-          (bytes_eq-Decides key.items e.0.items).0 (sym (is_eq-slice_cmp key.items e.0.items) ∙ ap is_eq is) in
-          let found : at q e.0 ≡ bytes_eq q key.items = here ∙ ap (bytes_eq q) (sym same) in
-          (elim (bytes_eq q key.items) as (λ b. at q e.0 ≡ b →
+          let same : key ≡ e.0 =
+          (bytes_eq-Decides key e.0).0 (sym (is_eq-slice_cmp key e.0) ∙ ap is_eq is) in
+          let found : at q e.0 ≡ bytes_eq q key = here ∙ ap (bytes_eq q) (sym same) in
+          (elim (bytes_eq q key) as (λ b. at q e.0 ≡ b →
           cond (at q e.0) (Some v) rest ≡ cond b (Some v) (cond (at q e.0) (Some e.1) rest)) [
             | true ↦ λ g. ap (λ b. cond b (Some v) rest) g
             | false ↦ λ g. ap (λ b. cond b (Some v) rest) g ∙ sym (ap (λ b. cond b (Some e.1) rest) g)
           ]) found
       | Greater ↦ λ is.
           ap (λ r. cond (at q e.0) (Some e.1) r) (lookup-inserted es key v q)
-          ∙ swap-conds (at q e.0) (bytes_eq q key.items) (Some e.1) (Some v) rest
+          ∙ swap-conds (at q e.0) (bytes_eq q key) (Some e.1) (Some v) rest
           (λ f g.
-          let text : key.items ≡ e.0.items =
-          sym ((bytes_eq-Decides q key.items).0 g) ∙ (bytes_eq-Decides q e.0.items).0 (sym here ∙ f) in
+          let text : key ≡ e.0 =
+          sym ((bytes_eq-Decides q key).0 g) ∙ (bytes_eq-Decides q e.0).0 (sym here ∙ f) in
           let equal : is_eq (order key e.0) ≡ true =
-          is_eq-slice_cmp key.items e.0.items ∙ (bytes_eq-Decides key.items e.0.items).1 text in
+          is_eq-slice_cmp key e.0 ∙ (bytes_eq-Decides key e.0).1 text in
           let none : false ≡ true = sym (ap is_eq is) ∙ equal in
           cc)
     ]) refl
@@ -193,20 +221,20 @@ pub texts-push : (ns : List Name) (n : Name) → texts (ns ++ n ∷ []) ≡ text
 texts-push ns n = map-append (λ (m : Name). m.text) ns (n ∷ [])
 
 -- a new name in the list and in the map
-pub known-push : (es : List Entry) (ns : List Name) (key : Vec ℕ Global) (first : ℕ) (v : NameId)
-    → AreKnown es ns → list_any (bytes_eq key.items) (texts ns) ≡ false → v ≡ id (length ns) →
-    AreKnown (tree.insert_entry order es key v) (ns ++ (record { text = key.items; first = first }) ∷ [])
+pub known-push : (es : List Entry) (ns : List Name) (key : List ℕ) (first : ℕ) (v : NameId)
+    → AreKnown es ns → list_any (bytes_eq key) (texts ns) ≡ false → v ≡ id (length ns) →
+    AreKnown (tree.insert_entry order es key v) (ns ++ (record { text = key; first = first }) ∷ [])
 known-push es ns key first v known new last =
-    let n : Name = record { text = key.items; first = first } in
+    let n : Name = record { text = key; first = first } in
     record {
       finds = λ p.
-          found-insert p es key v (known.gives key.items ∙ number-new 0 key.items ns new)
-          ∙ ap (grown (starts_with nat_eq key.items p) v) (known.finds p)
-          ∙ ap (λ w. grown (starts_with nat_eq key.items p) w (found_of (beginning p ns))) last
+          found-insert p es key v (known.gives key ∙ number-new 0 key ns new)
+          ∙ ap (grown (starts_with nat_eq key p) v) (known.finds p)
+          ∙ ap (λ w. grown (starts_with nat_eq key p) w (found_of (beginning p ns))) last
           ∙ sym (beginning-push 0 p ns n (length ns) (omega arith));
       gives = λ q.
-          lookup-inserted es key v q ∙ ap (λ r. cond (bytes_eq q key.items) (Some v) r) (known.gives q)
-          ∙ ap (λ w. cond (bytes_eq q key.items) (Some w) (number_of 0 q ns)) last
+          lookup-inserted es key v q ∙ ap (λ r. cond (bytes_eq q key) (Some v) r) (known.gives q)
+          ∙ ap (λ w. cond (bytes_eq q key) (Some w) (number_of 0 q ns)) last
           ∙ sym (number-push 0 q ns n (length ns) (omega arith) new);
-      distinct = subst Distinct (sym (texts-push ns n)) (Distinct-push (texts ns) key.items known.distinct new);
+      distinct = subst Distinct (sym (texts-push ns n)) (Distinct-push (texts ns) key known.distinct new);
     }

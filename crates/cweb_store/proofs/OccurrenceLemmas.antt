@@ -1,18 +1,15 @@
 -- What the occurrences give: names, what is found of each, and what each stands for.
-use Rattle.std.proofs.Common.{◌≡◌, ℕ, ◌+◌, ◌≤◌, ◌<◌, Bool, true, false, cond, not, ◌||◌, List, [], ◌∷◌, ◌++◌, map, length, refl, sym, ◌∙◌, ap, subst, arith, length-append, append_assoc, append-nil}
+use Rattle.std.proofs.Common.{◌≡◌, ℕ, ◌+◌, ◌≤◌, Bool, true, false, cond, not, ◌||◌, List, [], ◌∷◌, ◌++◌, length, refl, sym, ◌∙◌, ap, arith, length-append, append_assoc, append-nil}
 use Rattle.std.specs.Prelude.{Ok, Err, bytes_eq, if◌then◌else◌}
 use Rattle.std.specs.List.{list_any, position_or_len}
-use Rattle.std.proofs.lemmas.List.{map-append, length-map}
+use Rattle.std.proofs.lemmas.List.{map-append}
 use Rattle.cweb_store.specs.declared.names.How.{How}
 use Rattle.cweb_store.specs.declared.names.How.TheVariants.{Full, Prefix}
 use Rattle.cweb_store.specs.declared.names.NameId.{NameId}
 use Rattle.cweb_store.specs.declared.names.NameKind.TheVariants.{NeverFull}
-use Rattle.cweb_store.specs.declared.names.table.Given.{Given}
-use Rattle.cweb_store.specs.Names.{Occurrence, Name, Standing, id, texts, with_text, with_name, names_from, names, beginning, the_one, standing_among, standings_from, standings}
+use Rattle.cweb_store.specs.Names.{Occurrence, Name, Standing, id, texts, with_text, with_name, names_from, names, beginning, the_one, standing_among}
 use Rattle.cweb_store.specs.Found.{found_of}
-use Rattle.cweb_store.specs.Calls.{too_many}
 use Rattle.cweb_store.specs.Known.{early, earlies_from, by_found}
-use Rattle.cweb_store.specs.Given.{occurrence_in, occurrences_in, AreGiven, settled}
 use Rattle.cweb_store.proofs.NameLemmas.{bytes_eq-same}
 
 with_text-few : (i : ℕ) (ns : List Name) (text : List ℕ) → length (with_text i ns text) ≤ length ns + 1
@@ -34,34 +31,15 @@ names_from-few i ns (o ∷ os) = omega (arith, names_from-few (i + 1) (with_name
 pub names-few : (os : List Occurrence) → length (names os) ≤ length os
 names-few os = omega (arith, names_from-few 0 [] os)
 
-names_from-push : (i j : ℕ) (ns : List Name) (os : List Occurrence) (o : Occurrence)
+pub names_from-push : (i j : ℕ) (ns : List Name) (os : List Occurrence) (o : Occurrence)
     → j ≡ i + length os → names_from i ns (os ++ o ∷ []) ≡ with_name j (names_from i ns os) o
 names_from-push i j ns [] o e = ap (λ k. with_name k ns o) (let same : i ≡ j = omega arith in same)
 names_from-push i j ns (p ∷ os) o e = names_from-push (i + 1) j (with_name i ns p) os o (omega arith)
 
-earlies_from-push : (i : ℕ) (ns : List Name) (os : List Occurrence) (o : Occurrence)
+pub earlies_from-push : (i : ℕ) (ns : List Name) (os : List Occurrence) (o : Occurrence)
     → earlies_from i ns (os ++ o ∷ []) ≡ earlies_from i ns os ++ early (names_from i ns os) o ∷ []
 earlies_from-push i ns [] o = refl
 earlies_from-push i ns (p ∷ os) o = ap (λ fs. early ns p ∷ fs) (earlies_from-push (i + 1) (with_name i ns p) os o)
-
--- one more occurrence
-pub given-push : (known more : List Name) (gs : List Given) (g : Given) → AreGiven known gs
-    → length gs + 1 < too_many → g.found ≡ early known (occurrence_in g)
-    → more ≡ with_name (length gs) known (occurrence_in g) → AreGiven more (gs ++ g ∷ [])
-given-push known more gs g tied few found new =
-    let count : length gs ≡ 0 + length (occurrences_in gs) = omega (arith, length-map gs occurrence_in) in
-    record {
-      known_names =
-          new ∙ ap (λ ns. with_name (length gs) ns (occurrence_in g)) tied.known_names
-          ∙ sym (names_from-push 0 (length gs) [] (occurrences_in gs) (occurrence_in g) count)
-          ∙ ap names (sym (map-append occurrence_in gs (g ∷ [])));
-      found_early =
-          map-append (λ (h : Given). h.found) gs (g ∷ [])
-          ∙ (λ i. tied.found_early i ++ (found ∙ ap (λ ns. early ns (occurrence_in g)) tied.known_names) i ∷ [])
-          ∙ sym (earlies_from-push 0 [] (occurrences_in gs) (occurrence_in g))
-          ∙ ap (earlies_from 0 []) (sym (map-append occurrence_in gs (g ∷ [])));
-      few = omega (arith, length-append gs (g ∷ []));
-    }
 
 -- names that come later stand behind those that there are
 pub record Grows (old new : List Name) : Type 0 where
@@ -161,10 +139,10 @@ by_found-the_one [] otherwise = refl
 by_found-the_one (n ∷ []) otherwise = refl
 by_found-the_one (n ∷ m ∷ ns) otherwise = refl
 
-abbrev late : List Name → List ℕ → Standing
+abbrev pub late : List Name → List ℕ → Standing
 late all text = by_found (found_of (beginning text all)) (Err NeverFull)
 
-settled-one : (i : ℕ) (before : List Name) (os : List Occurrence) (text : List ℕ) (how : How) (is_file : Bool) →
+pub settled-one : (i : ℕ) (before : List Name) (os : List Occurrence) (text : List ℕ) (how : How) (is_file : Bool) →
     let o : Occurrence = record { text = text; how = how; is_file = is_file } in
     let all = names_from i before (o ∷ os) in
     by_found (early before o) (late all text) ≡ standing_among before all o
@@ -178,28 +156,3 @@ settled-one i before os text Prefix is_file =
     let all = names_from (i + 1) before os in
     by_found-the_one (beginning text before) (late all text)
     ∙ ap (the_one (beginning text before)) (by_found-the_one (beginning text all) (Err NeverFull))
-
-settled-from : (i : ℕ) (before : List Name) (gs : List Given) (all : List Name)
-    → all ≡ names_from i before (occurrences_in gs)
-    → map (λ (g : Given). g.found) gs ≡ earlies_from i before (occurrences_in gs) →
-    map (settled all) gs ≡ standings_from i before all (occurrences_in gs)
-settled-from i before [] all is found = refl
-settled-from i before (g ∷ gs) all is found =
-    let here : g.found ≡ early before (occurrence_in g) = cc in
-    let rest : map (λ (h : Given). h.found) gs
-    ≡ earlies_from (i + 1) (with_name i before (occurrence_in g)) (occurrences_in gs) =
-    cc in
-    let one : settled all g ≡ standing_among before all (occurrence_in g) =
-    ap (λ f. by_found f (late all g.text.items)) here
-    ∙ subst (λ (ns : List Name).
-    by_found (early before (occurrence_in g)) (late ns g.text.items)
-    ≡ standing_among before ns (occurrence_in g))
-    (sym is) (settled-one i before (occurrences_in gs) g.text.items g.how g.is_file) in
-    (λ j. one j ∷ settled-from (i + 1) (with_name i before (occurrence_in g)) gs all is rest j)
-
--- what is found early, and else late, is what each occurrence stands for
-pub settled-standings : (known : List Name) (gs : List Given)
-    → AreGiven known gs → map (settled known) gs ≡ standings (occurrences_in gs)
-settled-standings known gs tied =
-    settled-from 0 [] gs known tied.known_names tied.found_early
-    ∙ ap (λ ns. standings_from 0 [] ns (occurrences_in gs)) tied.known_names

@@ -1,6 +1,6 @@
 -- Texts with a prefix stand together in a sorted list.
 use Rattle.std.proofs.Common.{◌≡◌, ℕ, ◌<◌, Bool, true, false, cond, ◌&&◌, List, [], ◌∷◌, map, filter, refl, sym, ◌∙◌, ap, subst, arith, eq-eqb}
-use Rattle.std.specs.Prelude.{nat_eq, Vec}
+use Rattle.std.specs.Prelude.{nat_eq}
 use Rattle.std.specs.List.{starts_with, AllByRecursion}
 use Rattle.std.specs.List.Sorted.{IsStrictlySortedBy}
 use Rattle.std.specs.Map.{keys_of}
@@ -8,7 +8,6 @@ use Rattle.std.specs.Ordering.{nat_cmp, ordering_then, is_le}
 use Rattle.std.specs.Cmp.Lexicographic.{slice_cmp}
 use Rattle.std.specs.declared.cmp.Ordering.{Ordering}
 use Rattle.std.specs.declared.cmp.Ordering.TheVariants.{Less, Equal, Greater}
-use Rattle.std.specs.declared.alloc.Global.{Global}
 use Rattle.std.proofs.lemmas.Bool.{eqb-true}
 use Rattle.std.proofs.lemmas.Bool.Decides.{nat_tests}
 use Rattle.cweb_store.specs.declared.names.found.Found.TheVariants.{Nothing, One, Several}
@@ -72,34 +71,34 @@ begins-le (x ∷ p) (z ∷ b) s =
     ∙ begins-le p b front.1
 
 -- past a text that isn't below the prefix and doesn't begin with it none does
-pub none-begins : (p : List ℕ) (k : Vec ℕ Global) (es : List Entry)
-    → is_le (slice_cmp nat_cmp p k.items) ≡ true → starts_with nat_eq k.items p ≡ false
+pub none-begins : (p : List ℕ) (k : List ℕ) (es : List Entry)
+    → is_le (slice_cmp nat_cmp p k) ≡ true → starts_with nat_eq k p ≡ false
     → AllByRecursion (λ j. order k j ≡ Less) (keys_of es) → filter (begins p) es ≡ []
 none-begins p k [] low other above = refl
 none-begins p k (e ∷ es) low other above =
-    (elim (starts_with nat_eq e.0.items p)
-    as (λ v. starts_with nat_eq e.0.items p ≡ v → cond v (e ∷ filter (begins p) es) (filter (begins p) es) ≡ []) [
-      | true ↦ λ s. let t : starts_with nat_eq k.items p ≡ true = squeeze p k.items e.0.items low above.0 s in cc
+    (elim (starts_with nat_eq e.0 p)
+    as (λ v. starts_with nat_eq e.0 p ≡ v → cond v (e ∷ filter (begins p) es) (filter (begins p) es) ≡ []) [
+      | true ↦ λ s. let t : starts_with nat_eq k p ≡ true = squeeze p k e.0 low above.0 s in cc
       | false ↦ λ s. none-begins p k es low other above.1
     ]) refl
 
 -- the names that begin with a prefix are among those from the prefix on
 pub from-begins : (p : List ℕ) (es : List Entry)
-    → filter (begins p) (filter (λ (e : Entry). is_le (slice_cmp nat_cmp p e.0.items) && true) es)
+    → filter (begins p) (filter (λ (e : Entry). is_le (slice_cmp nat_cmp p e.0) && true) es)
     ≡ filter (begins p) es
 from-begins p [] = refl
 from-begins p (e ∷ es) =
-    (elim (is_le (slice_cmp nat_cmp p e.0.items)) as (λ v. is_le (slice_cmp nat_cmp p e.0.items) ≡ v →
+    (elim (is_le (slice_cmp nat_cmp p e.0)) as (λ v. is_le (slice_cmp nat_cmp p e.0) ≡ v →
     filter (begins p)
-    (cond (v && true) (e ∷ filter (λ (e : Entry). is_le (slice_cmp nat_cmp p e.0.items) && true) es)
-    (filter (λ (e : Entry). is_le (slice_cmp nat_cmp p e.0.items) && true) es))
-    ≡ cond (starts_with nat_eq e.0.items p) (e ∷ filter (begins p) es) (filter (begins p) es)) [
-      | true ↦ λ h. ap (λ xs. cond (starts_with nat_eq e.0.items p) (e ∷ xs) xs) (from-begins p es)
+    (cond (v && true) (e ∷ filter (λ (e : Entry). is_le (slice_cmp nat_cmp p e.0) && true) es)
+    (filter (λ (e : Entry). is_le (slice_cmp nat_cmp p e.0) && true) es))
+    ≡ cond (starts_with nat_eq e.0 p) (e ∷ filter (begins p) es) (filter (begins p) es)) [
+      | true ↦ λ h. ap (λ xs. cond (starts_with nat_eq e.0 p) (e ∷ xs) xs) (from-begins p es)
       | false ↦ λ h.
           from-begins p es
           ∙ ap (λ v. cond v (e ∷ filter (begins p) es) (filter (begins p) es))
-          (sym (no_begin (starts_with nat_eq e.0.items p)
-          (λ s. let t : is_le (slice_cmp nat_cmp p e.0.items) ≡ true = begins-le p e.0.items s in cc)))
+          (sym (no_begin (starts_with nat_eq e.0 p)
+          (λ s. let t : is_le (slice_cmp nat_cmp p e.0) ≡ true = begins-le p e.0 s in cc)))
     ]) refl
   where
     no_begin : (b : Bool) → (b ≡ true → b ≡ false) → b ≡ false
@@ -107,13 +106,13 @@ from-begins p (e ∷ es) =
     no_begin false f = refl
 
 abbrev from : List ℕ → List Entry → List Entry
-from p es = filter (λ (e : Entry). is_le (slice_cmp nat_cmp p e.0.items) && true) es
+from p es = filter (λ (e : Entry). is_le (slice_cmp nat_cmp p e.0) && true) es
 
-all-from : (p : List ℕ) (k : Vec ℕ Global) (es : List Entry) → AllByRecursion (λ j. order k j ≡ Less) (keys_of es)
+all-from : (p : List ℕ) (k : List ℕ) (es : List Entry) → AllByRecursion (λ j. order k j ≡ Less) (keys_of es)
     → AllByRecursion (λ j. order k j ≡ Less) (keys_of (from p es))
 all-from p k [] h = tt
 all-from p k (e ∷ es) h =
-    elim (is_le (slice_cmp nat_cmp p e.0.items))
+    elim (is_le (slice_cmp nat_cmp p e.0))
     as (λ v. AllByRecursion (λ j. order k j ≡ Less) (keys_of (cond (v && true) (e ∷ from p es) (from p es)))) [
       | true ↦ (h.0, all-from p k es h.1)
       | false ↦ all-from p k es h.1
@@ -124,19 +123,19 @@ sorted-from : (p : List ℕ) (es : List Entry) → IsStrictlySortedBy order (key
 unfolding IsStrictlySortedBy
 sorted-from p [] h = tt
 sorted-from p (e ∷ es) h =
-    elim (is_le (slice_cmp nat_cmp p e.0.items))
+    elim (is_le (slice_cmp nat_cmp p e.0))
     as (λ v. IsStrictlySortedBy order (keys_of (cond (v && true) (e ∷ from p es) (from p es)))) [
       | true ↦ (all-from p e.0 es h.0, sorted-from p es h.1)
       | false ↦ sorted-from p es h.1
     ]
 
 low-from : (p : List ℕ) (es : List Entry)
-    → AllByRecursion (λ (e : Entry). is_le (slice_cmp nat_cmp p e.0.items) ≡ true) (from p es)
+    → AllByRecursion (λ (e : Entry). is_le (slice_cmp nat_cmp p e.0) ≡ true) (from p es)
 low-from p [] = tt
 low-from p (e ∷ es) =
-    (elim (is_le (slice_cmp nat_cmp p e.0.items)) as (λ v.
-    is_le (slice_cmp nat_cmp p e.0.items) ≡ v
-    → AllByRecursion (λ (e : Entry). is_le (slice_cmp nat_cmp p e.0.items) ≡ true)
+    (elim (is_le (slice_cmp nat_cmp p e.0)) as (λ v.
+    is_le (slice_cmp nat_cmp p e.0) ≡ v
+    → AllByRecursion (λ (e : Entry). is_le (slice_cmp nat_cmp p e.0) ≡ true)
     (cond (v && true) (e ∷ from p es) (from p es))) [
       | true ↦ λ h. (h, low-from p es)
       | false ↦ λ h. low-from p es
@@ -146,7 +145,7 @@ low-from p (e ∷ es) =
 pub record Names (p : List ℕ) (es rest : List Entry) : Type 0 where
   pub is : filter (begins p) es ≡ filter (begins p) rest
   pub sorted : IsStrictlySortedBy order (keys_of rest)
-  pub low : AllByRecursion (λ (e : Entry). is_le (slice_cmp nat_cmp p e.0.items) ≡ true) rest
+  pub low : AllByRecursion (λ (e : Entry). is_le (slice_cmp nat_cmp p e.0) ≡ true) rest
 
 pub names-from : (p : List ℕ) (es : List Entry) → IsStrictlySortedBy order (keys_of es) → Names p es (from p es)
 names-from p es h = record { is = sym (from-begins p es); sorted = sorted-from p es h; low = low-from p es }
@@ -155,7 +154,7 @@ pub names-none : (p : List ℕ) (es rest : List Entry) → Names p es rest → r
 names-none p es rest h empty = ap (λ xs. found_of (map (λ (e : Entry). e.1) xs)) (h.is ∙ ap (filter (begins p)) empty)
 
 pub names-other : (p : List ℕ) (es : List Entry) (e : Entry) (rest : List Entry) → Names p es (e ∷ rest)
-    → starts_with nat_eq e.0.items p ≡ false → found_of (numbers p es) ≡ Nothing
+    → starts_with nat_eq e.0 p ≡ false → found_of (numbers p es) ≡ Nothing
 unfolding IsStrictlySortedBy
 names-other p es e rest h other =
     ap (λ xs. found_of (map (λ (e : Entry). e.1) xs))
@@ -163,18 +162,18 @@ names-other p es e rest h other =
     ∙ none-begins p e.0 rest h.low.0 other h.sorted.0)
 
 pub names-last : (p : List ℕ) (es : List Entry) (e : Entry) → Names p es (e ∷ [])
-    → starts_with nat_eq e.0.items p ≡ true → found_of (numbers p es) ≡ One e.1
+    → starts_with nat_eq e.0 p ≡ true → found_of (numbers p es) ≡ One e.1
 names-last p es e h same = ap (λ xs. found_of (map (λ (e : Entry). e.1) xs)) (h.is ∙ ap (λ v. cond v (e ∷ []) []) same)
 
 pub names-two : (p : List ℕ) (es : List Entry) (e f : Entry) (rest : List Entry) → Names p es (e ∷ f ∷ rest)
-    → starts_with nat_eq e.0.items p ≡ true → starts_with nat_eq f.0.items p ≡ true → found_of (numbers p es) ≡ Several
+    → starts_with nat_eq e.0 p ≡ true → starts_with nat_eq f.0 p ≡ true → found_of (numbers p es) ≡ Several
 names-two p es e f rest h one two =
     ap (λ xs. found_of (map (λ (e : Entry). e.1) xs))
     (h.is ∙ ap (λ v. cond v (e ∷ filter (begins p) (f ∷ rest)) (filter (begins p) (f ∷ rest))) one
     ∙ ap (λ v. e ∷ cond v (f ∷ filter (begins p) rest) (filter (begins p) rest)) two)
 
 pub names-one : (p : List ℕ) (es : List Entry) (e f : Entry) (rest : List Entry) → Names p es (e ∷ f ∷ rest)
-    → starts_with nat_eq e.0.items p ≡ true → starts_with nat_eq f.0.items p ≡ false → found_of (numbers p es) ≡ One e.1
+    → starts_with nat_eq e.0 p ≡ true → starts_with nat_eq f.0 p ≡ false → found_of (numbers p es) ≡ One e.1
 unfolding IsStrictlySortedBy
 names-one p es e f rest h one other =
     ap (λ xs. found_of (map (λ (e : Entry). e.1) xs))
@@ -183,6 +182,6 @@ names-one p es e f rest h one other =
     ∙ ap (λ xs. e ∷ xs) (none-begins p f.0 rest h.low.1.0 other h.sorted.1.0))
 
 pub names-range : (p q : List ℕ) (es rest : List Entry)
-    → rest ≡ filter (λ (e : Entry). is_le (slice_cmp nat_cmp q e.0.items) && true) es
+    → rest ≡ filter (λ (e : Entry). is_le (slice_cmp nat_cmp q e.0) && true) es
     → q ≡ p → IsStrictlySortedBy order (keys_of es) → Names p es rest
 names-range p q es rest is same h = subst (Names p es) (sym (is ∙ ap (λ r. from r es) same)) (names-from p es h)

@@ -1,5 +1,5 @@
 -- Names in order, and what is found of an occurrence when it is given.
-use Rattle.std.specs.Prelude.{ℕ, ◌+◌, List, [], ◌∷◌, Ok, Err, map, bytes_eq}
+use Rattle.std.specs.Prelude.{ℕ, ◌+◌, Bool, false, List, [], ◌∷◌, Some, None, Ok, Err, map, slice_get, bytes_eq}
 use Rattle.std.specs.List.{position_or_len}
 use Rattle.cweb_store.specs.declared.names.How.TheVariants.{Full, Prefix}
 use Rattle.cweb_store.specs.declared.names.NameKind.TheVariants.{Ambiguous}
@@ -14,6 +14,10 @@ name_in n = record { text = n.text.items; first = n.first }
 
 abbrev pub names_in : List KnownName → List Name
 names_in ns = map name_in ns
+
+-- whether the name with a number has a text
+abbrev pub has_text_at : List Name → ℕ → List ℕ → Bool
+has_text_at names i text = elim (slice_get names i) [ Some n ↦ bytes_eq n.text text | None ↦ false ]
 
 -- what the names before an occurrence, and its own where it gives one, say of it
 abbrev pub early : List Name → Occurrence → Found

@@ -17,6 +17,7 @@ pub mod ClosedTokens
 pub mod Next
 pub mod Noted
 pub mod Keys
+pub mod Fronts
 pub mod Slots
 pub mod Words
 pub mod Signs

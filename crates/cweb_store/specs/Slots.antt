@@ -2,11 +2,13 @@
 use Rattle.std.specs.Prelude.{◌≡◌, ℕ, zero, suc, ◌+◌, ◌<◌, ◌≤◌, Bool, true, false, cond, ◌&&◌, ◌||◌, List, [], ◌∷◌, map, length, take, drop, set, slice_get, slice_index_or, bytes_eq, nat_eq, Some, Vec}
 use Rattle.std.specs.List.{list_any}
 use Rattle.std.specs.BTreeMap.{insert_entry}
+use Rattle.std.specs.Ordering.{nat_cmp}
+use Rattle.std.specs.Cmp.Lexicographic.{slice_cmp}
+use Rattle.std.specs.declared.cmp.Ordering.{Ordering}
 use Rattle.std.specs.declared.alloc.Global.{Global}
 use Rattle.cweb_store.specs.declared.tokens.words.slot.Slot.{Slot}
 use Rattle.cweb_store.specs.declared.tokens.words.key.Key.{Key}
 use Rattle.cweb_store.specs.Keys.{key_of, home_of}
-use Rattle.cweb_store.specs.Found.{order}
 
 abbrev pub is_used : ℕ → Bool
 is_used zero = false
@@ -73,6 +75,9 @@ pub record IsWordPlaced (old : List Slot) (key : Key) (number len : ℕ) (new : 
 pub record IsFound (texts : List (List ℕ)) (window : List Slot) (word : List ℕ) (number : ℕ) : Type 0 where
   pub among : list_any (slot_is texts word) window ≡ true
   pub stands : slice_get texts number ≡ Some word
+
+abbrev pub order : Vec ℕ Global → Vec ℕ Global → Ordering
+order x y = slice_cmp nat_cmp x.items y.items
 
 -- the words of a map, each with the number of its text
 abbrev pub Entries : Type 0

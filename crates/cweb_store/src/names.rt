@@ -3,6 +3,7 @@
 pub mod faults;
 pub mod found;
 pub mod known;
+pub mod sorted;
 pub mod standing;
 pub mod table;
 

@@ -16,7 +16,7 @@ fn is_white(byte: u8) -> bool
 pub fn squeezed(alloc: Global, text: &[u8]) -> Result<Vec<u8>, AllocError>
     ensures { IfOk result (λ name. name.items ≡ spec.squeezed text.now) }
 {
-    let mut name = Vec::new(alloc);
+    let mut name = Vec::with_capacity(alloc, text.len())?;
     let mut gap = false;
     for byte in text {
         if is_white(*byte) {
@@ -36,17 +36,23 @@ pub fn squeezed(alloc: Global, text: &[u8]) -> Result<Vec<u8>, AllocError>
 pub fn is_squeezed(text: &[u8]) -> bool
     ensures { result ≡ spec.is_squeezed text.now }
 {
-    let mut gap = true;
+    let mut before = b' ';
     for byte in text {
-        if !is_white(*byte) {
-            gap = false;
-        } else if gap || *byte != b' ' {
+        if !follows(before, *byte) {
             return false;
-        } else {
-            gap = true;
         }
+        before = *byte;
     }
-    !gap
+    before != b' '
+}
+
+// Whether a byte stands behind another in such a name: one that is white is a blank, and behind no blank. Most bytes are above
+// a blank, and not white.
+#[inline(always)]
+fn follows(before: u8, byte: u8) -> bool
+    ensures { result ≡ spec.follows before byte }
+{
+    byte > b' ' || !is_white(byte) || (byte == b' ' && before != b' ')
 }
 
 /// Whether a name is an abbreviation: longer than three bytes, it ends in `...`.

@@ -107,6 +107,9 @@ fn add_prefix_faults(faults: &mut Vec<NameFault>, names: &KnownNames) -> Result<
         ++ faults_where PrefixOfAnother
         (λ n text. is_prefix_of_another names.now text) names.now) }
 {
+    if !names.has_prefix() {
+        return Ok(());
+    }
     for number in 0..names.len() as u32 {
         let fails = names.is_prefix(NameId(number))?;
         add_fault_if(

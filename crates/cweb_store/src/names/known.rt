@@ -1,19 +1,24 @@
 // The names so far.
 
 ghost use Rattle.std.specs.Prelude.{false, ◌≡◌, ◌<◌, ◌^◌, [], map, length, slice_get, bytes_eq, option_map, Some, IfOk, OnOk, OnErr};
-ghost use Rattle.std.specs.List.{position_or_len};
+ghost use Rattle.std.specs.List.{list_any, position_or_len};
 ghost use Rattle.cweb_store.specs.Names.{beginning, texts, with_name, with_text};
 ghost use Rattle.cweb_store.specs.Faults.{is_prefix_of_another};
 ghost use Rattle.cweb_store.specs.Found.{found_of};
 ghost use Rattle.cweb_store.specs.Calls.{occurrence_of};
-ghost use Rattle.cweb_store.specs.Known.{early};
+ghost use Rattle.cweb_store.specs.Known.{early, has_text_at};
 
-use crate::names::found::{Found, find_one};
+use crate::names::found::{Found, find_one, has_prefix, number_in};
+use crate::names::sorted::SortedText;
 use crate::names::{How, NameId};
 use crate::reserved::put;
+use crate::tokens::words::key::{Key, home};
 use std::alloc::{AllocError, Global};
 use std::collections::BTreeMap;
 use std::marker::Model;
+
+// How many homes there are for texts.
+const HOMES: usize = 1024;
 
 /// A name, and the number of its first occurrence in full.
 #[derive(Drop)]
@@ -28,7 +33,9 @@ pub struct KnownName {
 pub struct KnownNames {
     alloc: Global,
     names: Vec<KnownName>,
-    sorted: BTreeMap<Vec<u8>, NameId>,
+    sorted: BTreeMap<SortedText, NameId>,
+    // the name that was given last, of those whose texts share a home
+    latest: [NameId; HOMES],
 }
 
 impl Model for KnownNames {
@@ -53,6 +60,7 @@ impl KnownNames {
             alloc,
             names: Vec::new(alloc),
             sorted: BTreeMap::new(alloc),
+            latest: [NameId(0); HOMES],
         }
     }
 
@@ -64,21 +72,49 @@ impl KnownNames {
 
     /// Adds a name that occurrence `first` gives in full, if it is new, and answers its number. A refused call changes
     /// nothing.
-    pub fn add(&mut self, text: &[u8], first: u32) -> Result<NameId, AllocError>
+    pub fn know(&mut self, text: &[u8], first: u32) -> Result<NameId, AllocError>
         requires { length self.old < 2 ^ 32 }
         ensures number { IfOk result
             (λ id. id.0 ≡ position_or_len (bytes_eq text.now) (texts self.old)) }
         ensures added { OnOk result (self.new ≡ with_text first self.old text.now) }
         ensures err { OnErr result (self.new ≡ self.old) }
     {
-        if let Some(id) = self.sorted.get(text).copied() {
-            return Ok(id);
+        let home = home_of(text);
+        let latest = self.latest[home];
+        if self.has(latest, text) {
+            return Ok(latest);
         }
-        let id = NameId(self.names.len() as u32);
-        let key = Vec::from_slice(self.alloc, text)?;
+        let id = self.add(text, first)?;
+        self.latest[home] = id;
+        Ok(id)
+    }
+
+    // Whether the name with a number has a text.
+    fn has(&self, id: NameId, text: &[u8]) -> bool
+        ensures { result ≡ has_text_at self.now id.0 text.now }
+    {
+        match self.names.get(id.0 as usize) {
+            Some(name) => name.text.as_slice() == text,
+            None => false,
+        }
+    }
+
+    // The same as `know`, where the text is sought among all names.
+    fn add(&mut self, text: &[u8], first: u32) -> Result<NameId, AllocError>
+        requires { length self.old < 2 ^ 32 }
+        ensures number { IfOk result
+            (λ id. id.0 ≡ position_or_len (bytes_eq text.now) (texts self.old)) }
+        ensures added { OnOk result (self.new ≡ with_text first self.old text.now) }
+        ensures err { OnErr result (self.new ≡ self.old) }
+    {
+        let next = NameId(self.names.len() as u32);
+        let key = SortedText::new(self.alloc, text)?;
         let text = Vec::from_slice(self.alloc, text)?;
         self.names.reserve(1)?;
-        self.sorted.insert(key, id)?;
+        let id = number_in(&mut self.sorted, key, next)?;
+        if id.0 != next.0 {
+            return Ok(id);
+        }
         put(&mut self.names, KnownName { text, first });
         Ok(id)
     }
@@ -87,7 +123,7 @@ impl KnownNames {
     pub fn find(&self, prefix: &[u8]) -> Result<Found, AllocError>
         ensures { IfOk result (λ found. found ≡ found_of (beginning prefix.now self.now)) }
     {
-        let from = Vec::from_slice(self.alloc, prefix)?;
+        let from = SortedText::new(self.alloc, prefix)?;
         Ok(find_one(&self.sorted, from, prefix))
     }
 
@@ -102,7 +138,7 @@ impl KnownNames {
         ensures err { OnErr result (self.new ≡ self.old) }
     {
         match how {
-            How::Full => Ok(Found::One(self.add(text, number)?)),
+            How::Full => Ok(Found::One(self.know(text, number)?)),
             How::Prefix => Ok(self.find(text)?),
         }
     }
@@ -135,6 +171,13 @@ impl KnownNames {
         Ok(all)
     }
 
+    /// Whether a name is a proper prefix of another.
+    pub fn has_prefix(&self) -> bool
+        ensures { result ≡ list_any (is_prefix_of_another self.now) (texts self.now) }
+    {
+        has_prefix(&self.sorted)
+    }
+
     /// Whether a name is a proper prefix of another. Two names begin with one that is, itself and the other.
     pub fn is_prefix(&self, id: NameId) -> Result<bool, AllocError>
         requires { id.0 < length self.now }
@@ -143,8 +186,15 @@ impl KnownNames {
             ≡ Some is) }
     {
         let text = self.text(id);
-        let from = Vec::from_slice(self.alloc, text)?;
+        let from = SortedText::new(self.alloc, text)?;
         let found = find_one(&self.sorted, from, text);
         Ok(found.is_several())
     }
+}
+
+// The home of a text, by its ends and its length. Texts that share one are told apart by their bytes.
+fn home_of(text: &[u8]) -> usize
+    ensures { result < 1024 }
+{
+    (home(Key::of(text), HOMES) + text.len()) % HOMES
 }

@@ -6,7 +6,6 @@ ghost use Rattle.cweb_store.specs.Given.{settled};
 
 use crate::names::found::Found;
 use crate::names::known::KnownNames;
-use crate::names::table::Given;
 use crate::names::{NameId, NameKind};
 use indexmap::IndexSet;
 use std::alloc::AllocError;
@@ -22,11 +21,15 @@ pub fn name_at(standings: &[Result<NameId, NameKind>], occurrence: usize) -> Opt
 }
 
 /// What an occurrence stands for, where all names are known. What was found when it was given comes first.
-pub fn settled(names: &KnownNames, given: &Given) -> Result<Result<NameId, NameKind>, AllocError>
-    ensures { IfOk result (λ standing. standing ≡ settled names.now given.now) }
+pub fn settled(
+    names: &KnownNames,
+    text: &[u8],
+    found: Found,
+) -> Result<Result<NameId, NameKind>, AllocError>
+    ensures { IfOk result (λ standing. standing ≡ settled names.now text.now found) }
 {
-    let found = match given.found {
-        Found::Nothing => names.find(given.text.as_slice())?,
+    let found = match found {
+        Found::Nothing => names.find(text)?,
         found => found,
     };
     Ok(match found {

@@ -13,18 +13,10 @@ use crate::names::standing::{add_name_at, settled};
 use crate::names::{How, NameId, NameKind, NameRef};
 use crate::reserved::put;
 use crate::tokens::closed::ClosedTokens;
+use crate::tokens::texts::PackedTexts;
 use indexmap::IndexSet;
 use std::alloc::{AllocError, Global};
 use std::marker::Model;
-
-/// An occurrence of a name, and what was found of it among the names given up to it.
-#[derive(Drop)]
-pub struct Given {
-    pub text: Vec<u8>,
-    pub how: How,
-    pub is_file: bool,
-    pub found: Found,
-}
 
 /// How an occurrence is given, where its text stands elsewhere.
 #[derive(Clone, Copy)]
@@ -38,7 +30,10 @@ pub struct GivenAs {
 pub struct NameTable {
     alloc: Global,
     known: KnownNames,
-    given: Vec<Given>,
+    // of each occurrence its text, how it is given, and what was found of it among the names given up to it
+    texts: PackedTexts,
+    given: Vec<GivenAs>,
+    found: Vec<Found>,
 }
 
 impl Model for NameTable {
@@ -47,11 +42,12 @@ impl Model for NameTable {
 
     ghost Value = { List Occurrence };
 
-    ghost use Rattle.cweb_store.specs.Given.{occurrences_in, AreGiven};
+    ghost use Rattle.cweb_store.specs.Given.{AreGiven};
+    ghost use Rattle.cweb_store.specs.Stored.{occurrences_at};
 
-    ghost view = { λ s. occurrences_in s.given.items };
+    ghost view = { λ s. occurrences_at s.texts s.given.items };
 
-    ghost invariant = { λ s. AreGiven s.known s.given.items };
+    ghost invariant = { λ s. AreGiven s.known s.texts s.given.items s.found.items };
 }
 
 impl NameTable {
@@ -61,7 +57,9 @@ impl NameTable {
         NameTable {
             alloc,
             known: KnownNames::new(alloc),
+            texts: PackedTexts::new(alloc),
             given: Vec::new(alloc),
+            found: Vec::new(alloc),
         }
     }
 
@@ -73,18 +71,19 @@ impl NameTable {
             (self.new ≡ self.old ++ occurrence_of name.now how is_file ∷ []) }
         ensures err { OnErr result (self.new ≡ self.old) }
     {
-        let text = Vec::from_slice(self.alloc, name)?;
         self.given.reserve(1)?;
-        let number = self.given.len() as u32;
-        let found = self.known.take(name, how, number)?;
-        let given = Given {
-            text,
-            how,
-            is_file,
-            found,
+        self.found.reserve(1)?;
+        let number = self.texts.add(name)?;
+        let found = match self.known.take(name, how, number as u32) {
+            Ok(found) => found,
+            Err(refusal) => {
+                self.texts.truncate(number);
+                return Err(refusal);
+            }
         };
-        put(&mut self.given, given);
-        Ok(NameRef(number))
+        put(&mut self.given, GivenAs { how, is_file });
+        put(&mut self.found, found);
+        Ok(NameRef(number as u32))
     }
 
     /// The names.
@@ -100,9 +99,9 @@ impl NameTable {
         ensures standings { IfOk result (λ all. all.items ≡ standings self.now) }
         ensures few { IfOk result (λ all. length all.items < 2 ^ 32) }
     {
-        let mut all = Vec::with_capacity(self.alloc, self.given.len())?;
-        for given in &self.given {
-            all.push(settled(&self.known, given)?)?;
+        let mut all = Vec::with_capacity(self.alloc, self.found.len())?;
+        for (i, found) in self.found.iter().enumerate() {
+            all.push(settled(&self.known, self.texts.text(i), *found)?)?;
         }
         Ok(all)
     }
@@ -113,15 +112,17 @@ impl NameTable {
         ensures texts { OnOk result
             (tokens.new ≡ with_texts (map occurrence_text self) tokens.old) }
     {
-        let mut all = Vec::with_capacity(self.alloc, self.given.len())?;
-        for given in &self.given {
-            tokens.add(given.text.as_slice())?;
-            all.push(GivenAs {
-                how: given.how,
-                is_file: given.is_file,
-            })?;
+        let NameTable {
+            alloc: _,
+            known: _,
+            texts,
+            given,
+            found: _,
+        } = self;
+        for number in 0..texts.len() {
+            tokens.add(texts.text(number))?;
         }
-        Ok(all)
+        Ok(given)
     }
 
     /// The file names, in order of their first occurrence as a file's.

@@ -62,7 +62,8 @@ fn mixed(key: Key) -> u64
     high ^ low
 }
 
-fn byte_at(word: &[u8], place: usize) -> u8
+/// The byte at a place of a word, or 0 behind its end.
+pub fn byte_at(word: &[u8], place: usize) -> u8
     ensures { result ≡ slice_index_or word.now place 0 }
 {
     if place < word.len() { word[place] } else { 0 }

@@ -119,9 +119,9 @@ fn is_word(texts: &PackedTexts, slot: Slot, key: Key, word: &[u8]) -> bool
     word == text
 }
 
-// Tells that a text has bytes, as a read of one does.
+/// Tells that a text has bytes, as a read of one does.
 #[inline(always)]
-fn know_bytes(text: &[u8])
+pub fn know_bytes(text: &[u8])
     ensures { AreBytes text.now }
 {
     if let [first, ..] = text {

@@ -1,7 +1,9 @@
-use Rattle.std.proofs.Common.{◌∙◌, length, arith, ◌<◌}
+use Rattle.std.proofs.Common.{◌≡◌, ◌∙◌, ◌++◌, false, length, arith, ◌<◌, sym, ap, append-nil}
+use Rattle.std.specs.List.{list_any}
 use Rattle.cweb_store.specs.declared.names.NameKind.TheVariants.{PrefixOfAnother}
 use Rattle.cweb_store.specs.Faults.{is_prefix_of_another}
-use Rattle.cweb_store.proofs.FaultLemmas.{faults-step}
+use Rattle.cweb_store.specs.Names.{texts}
+use Rattle.cweb_store.proofs.FaultLemmas.{faults-step, faults-none}
 use Rattle.cweb_store.proofs.names.faults.add_prefix_faults.Goals as goal
 
 pub loop-number-preserved : goal.loop-number-preserved
@@ -12,3 +14,12 @@ loop-number-preserved c =
     c.in_ok-fails.fails c.loop-number.faults.items c.add_fault_if.new.faults.items within
     c.in_ok-fails.ensures c.in_ok-add_fault_if.ensures
     ∙ c.loop-number.invariant
+
+pub returns-then-not-has_prefix : goal.returns-then-not-has_prefix
+returns-then-not-has_prefix c =
+    let ns = c.args.names.now in
+    let old = c.args.faults.now.items in
+    let none : list_any (is_prefix_of_another ns) (texts ns) ≡ false =
+    sym c.has_prefix.ensures ∙ c.if-not-has_prefix.true in
+    sym (append-nil old)
+    ∙ ap (λ fs. old ++ fs) (sym (faults-none PrefixOfAnother (is_prefix_of_another ns) 0 ns none))

@@ -1,87 +1,108 @@
-use Rattle.std.proofs.Common.{◌≡◌, [], ◌∷◌, ◌++◌, Some, sym, ◌∙◌, ap, false, length, arith, rules}
+use Rattle.std.proofs.Common.{◌≡◌, [], ◌∷◌, ◌++◌, sym, ◌∙◌, ap, false, length}
 use Rattle.std.specs.Prelude.{bytes_eq}
-use Rattle.std.specs.List.{list_any}
+use Rattle.std.specs.List.{list_any, position_or_len}
 use Rattle.std.proofs.lemmas.List.{length-map, map-append}
 use Rattle.cweb_store.specs.declared.names.known.KnownName.{KnownName}
 use Rattle.cweb_store.specs.Names.{Name, id, texts}
 use Rattle.cweb_store.specs.Known.{name_in, names_in}
-use Rattle.cweb_store.specs.Found.{number_of}
-use Rattle.cweb_store.proofs.NameLemmas.{number-some, number-none, position-none, with_text-there, with_text-new, known-push}
+use Rattle.cweb_store.proofs.NameLemmas.{position-none, with_text-there, with_text-new, known-push}
+use Rattle.cweb_store.proofs.KnownLemmas.{known-old, known-new}
 use Rattle.cweb_store.proofs.names.known.KnownNames.add.Goals as goal
 
-pub returns-in-Some-clause-number : goal.returns-in-Some-clause-number
-returns-in-Some-clause-number c =
+pub returns-then-id-next-clause-number : goal.returns-then-id-next-clause-number
+returns-then-id-next-clause-number c =
     let s = c.self.inside in
+    let ns = names_in s.names.items in
     let text = c.args.text.now in
-    let found : number_of 0 text (names_in s.names.items) ≡ Some c.in-Some.id =
-    sym (c.self.invariant.gives text) ∙ sym c.get.ensures.value ∙ sym c.copied.ensures ∙ c.in-Some.is in
-    let place = (number-some 0 text (names_in s.names.items) c.in-Some.id found).1 in
-    rw (← c.self.view_is) (place ∙ omega arith)
+    let is : c.in_ok-key.key ≡ text = c.in_ok-key.ensures in
+    let stays =
+    known-old s.sorted.entries ns c.in_ok-key.key _ c.in_ok-id.id c.self.invariant
+    c.in_ok-id.ensures.ordered c.in_ok-id.ensures.number c.if-id-next.true in
+    stays.place ∙ (λ i. position_or_len (bytes_eq (is i)) (texts (c.self.view_is i)))
 
-pub returns-in-Some-clause-added : goal.returns-in-Some-clause-added
-returns-in-Some-clause-added c =
+pub returns-then-id-next-clause-added : goal.returns-then-id-next-clause-added
+returns-then-id-next-clause-added c =
     let s = c.self.inside in
+    let ns = names_in s.names.items in
     let text = c.args.text.now in
-    let found : number_of 0 text (names_in s.names.items) ≡ Some c.in-Some.id =
-    sym (c.self.invariant.gives text) ∙ sym c.get.ensures.value ∙ sym c.copied.ensures ∙ c.in-Some.is in
-    let there = (number-some 0 text (names_in s.names.items) c.in-Some.id found).0 in
-    rw (← c.self.view_is) (sym (with_text-there c.args.first (names_in s.names.items) text there))
+    let is : c.in_ok-key.key ≡ text = c.in_ok-key.ensures in
+    let stays =
+    known-old s.sorted.entries ns c.in_ok-key.key _ c.in_ok-id.id c.self.invariant
+    c.in_ok-id.ensures.ordered c.in_ok-id.ensures.number c.if-id-next.true in
+    let there = ap (λ q. list_any (bytes_eq q) (texts ns)) (sym is) ∙ stays.among in
+    rw (c.in_ok-reserve.ensures.items, ← c.self.view_is) (sym (with_text-there c.args.first ns text there))
+
+pub invariant_of-self-then-id-next : goal.invariant_of-self-then-id-next
+invariant_of-self-then-id-next c =
+    let s = c.self.inside in
+    let ns = names_in s.names.items in
+    let stays =
+    known-old s.sorted.entries ns c.in_ok-key.key _ c.in_ok-id.id c.self.invariant
+    c.in_ok-id.ensures.ordered c.in_ok-id.ensures.number c.if-id-next.true in
+    rw (c.in_ok-reserve.ensures.items, c.in_ok-id.ensures.entries, stays.same) c.self.invariant
 
 pub invariant_of-self-2 : goal.invariant_of-self-2
 invariant_of-self-2 c =
     let s = c.self.inside in
-    let ns = s.names.items in
-    let text = c.args.text.now in
+    let es = s.sorted.entries in
+    let ns = names_in s.names.items in
     let key = c.in_ok-key.key in
+    let v = c.in_ok-id.id in
+    let text = c.args.text.now in
+    let is : key ≡ text = c.in_ok-key.ensures in
+    let last : v.0 ≡ length ns =
+    c.if-id-next.false ∙ c.len.ensures ∙ s.names.ok.0 ∙ sym (length-map s.names.items name_in) in
+    let new : list_any (bytes_eq key) (texts ns) ≡ false =
+    known-new es ns key _ v c.self.invariant c.in_ok-id.ensures.ordered c.in_ok-id.ensures.number last in
+    let absent : list_any (bytes_eq text) (texts ns) ≡ false =
+    ap (λ q. list_any (bytes_eq q) (texts ns)) (sym is) ∙ new in
     let kept = c.in_ok-text.text in
-    let is : key.items ≡ text = c.in_ok-key.ensures.items in
     let kept_is : kept.items ≡ text = c.in_ok-text.ensures.items in
-    let absent : list_any (bytes_eq text) (texts (names_in ns)) ≡ false =
-    number-none 0 text (names_in ns)
-    (sym (c.self.invariant.gives text) ∙ sym c.get.ensures.value ∙ sym c.copied.ensures ∙ c.in_default.is) in
-    let number : id c.len.result ≡ id (length (names_in ns)) =
-    ap id (c.len.ensures ∙ s.names.ok.0 ∙ sym (length-map ns name_in)) in
-    let known =
-    known-push s.sorted.entries (names_in ns) key c.args.first (id c.len.result)
-    c.self.invariant (ap (λ q. list_any (bytes_eq q) (texts (names_in ns))) is ∙ absent) number in
+    let known = known-push es ns key c.args.first v c.self.invariant new (ap id last) in
     let name : KnownName = record { text = kept; first = c.args.first } in
-    let more : names_in (ns ++ name ∷ []) ≡ names_in ns ++ (record { text = key.items; first = c.args.first }) ∷ [] =
-    map-append name_in ns (name ∷ [])
-    ∙ ap (λ q. let n : Name = record { text = q; first = c.args.first } in names_in ns ++ n ∷ []) (kept_is ∙ sym is) in
-    rw (c.put.ensures, c.in_ok-reserve.ensures.items, more, c.in_ok-insert.ensures.entries) known
+    let more : names_in (s.names.items ++ name ∷ []) ≡ ns ++ (record { text = key; first = c.args.first }) ∷ [] =
+    map-append name_in s.names.items (name ∷ [])
+    ∙ ap (λ q. let n : Name = record { text = q; first = c.args.first } in ns ++ n ∷ []) (kept_is ∙ sym is) in
+    rw (c.put.ensures, c.in_ok-reserve.ensures.items, more, c.in_ok-id.ensures.entries) known
 
 pub returns-clause-number : goal.returns-clause-number
 returns-clause-number c =
     let s = c.self.inside in
-    let ns = s.names.items in
+    let es = s.sorted.entries in
+    let ns = names_in s.names.items in
+    let key = c.in_ok-key.key in
+    let v = c.in_ok-id.id in
     let text = c.args.text.now in
-    let absent : list_any (bytes_eq text) (texts (names_in ns)) ≡ false =
-    number-none 0 text (names_in ns)
-    (sym (c.self.invariant.gives text) ∙ sym c.get.ensures.value ∙ sym c.copied.ensures ∙ c.in_default.is) in
+    let is : key ≡ text = c.in_ok-key.ensures in
+    let last : v.0 ≡ length ns =
+    c.if-id-next.false ∙ c.len.ensures ∙ s.names.ok.0 ∙ sym (length-map s.names.items name_in) in
+    let new : list_any (bytes_eq key) (texts ns) ≡ false =
+    known-new es ns key _ v c.self.invariant c.in_ok-id.ensures.ordered c.in_ok-id.ensures.number last in
+    let absent : list_any (bytes_eq text) (texts ns) ≡ false =
+    ap (λ q. list_any (bytes_eq q) (texts ns)) (sym is) ∙ new in
     rw (← c.self.view_is)
-    (c.len.ensures ∙ s.names.ok.0 ∙ sym (length-map ns name_in)
-    ∙ sym (length-map (names_in ns) (λ (n : Name). n.text))
-    ∙ sym (position-none (bytes_eq text) (texts (names_in ns)) absent))
+    (last ∙ sym (length-map ns (λ (n : Name). n.text)) ∙ sym (position-none (bytes_eq text) (texts ns) absent))
 
 pub returns-clause-added : goal.returns-clause-added
 returns-clause-added c =
     let s = c.self.inside in
-    let ns = s.names.items in
+    let es = s.sorted.entries in
+    let ns = names_in s.names.items in
+    let key = c.in_ok-key.key in
+    let v = c.in_ok-id.id in
     let text = c.args.text.now in
+    let is : key ≡ text = c.in_ok-key.ensures in
+    let last : v.0 ≡ length ns =
+    c.if-id-next.false ∙ c.len.ensures ∙ s.names.ok.0 ∙ sym (length-map s.names.items name_in) in
+    let new : list_any (bytes_eq key) (texts ns) ≡ false =
+    known-new es ns key _ v c.self.invariant c.in_ok-id.ensures.ordered c.in_ok-id.ensures.number last in
+    let absent : list_any (bytes_eq text) (texts ns) ≡ false =
+    ap (λ q. list_any (bytes_eq q) (texts ns)) (sym is) ∙ new in
     let kept = c.in_ok-text.text in
     let kept_is : kept.items ≡ text = c.in_ok-text.ensures.items in
-    let absent : list_any (bytes_eq text) (texts (names_in ns)) ≡ false =
-    number-none 0 text (names_in ns)
-    (sym (c.self.invariant.gives text) ∙ sym c.get.ensures.value ∙ sym c.copied.ensures ∙ c.in_default.is) in
     let name : KnownName = record { text = kept; first = c.args.first } in
-    let more : names_in (ns ++ name ∷ []) ≡ names_in ns ++ (record { text = text; first = c.args.first }) ∷ [] =
-    map-append name_in ns (name ∷ [])
-    ∙ ap (λ q. let n : Name = record { text = q; first = c.args.first } in names_in ns ++ n ∷ []) kept_is in
+    let more : names_in (s.names.items ++ name ∷ []) ≡ ns ++ (record { text = text; first = c.args.first }) ∷ [] =
+    map-append name_in s.names.items (name ∷ [])
+    ∙ ap (λ q. let n : Name = record { text = q; first = c.args.first } in ns ++ n ∷ []) kept_is in
     rw (c.put.ensures, c.in_ok-reserve.ensures.items, ← c.self.view_is)
-    (more ∙ sym (with_text-new c.args.first (names_in ns) text absent))
-
-pub invariant_of-self-in_err-insert : goal.invariant_of-self-in_err-insert
-invariant_of-self-in_err-insert c = search rules
-
-pub returns-in_err-insert-clause-err : goal.returns-in_err-insert-clause-err
-returns-in_err-insert-clause-err c = search rules
+    (more ∙ sym (with_text-new c.args.first ns text absent))

@@ -1,11 +1,11 @@
-use Rattle.std.proofs.Common.{◌≡◌, ◌<◌, ◌+◌, sym, ◌∙◌, ap, length, arith}
-use Rattle.std.proofs.lemmas.List.{length-map}
-use Rattle.cweb_store.specs.declared.names.table.Given.{Given}
+use Rattle.std.proofs.Common.{◌≡◌, ◌<◌, ◌+◌, ◌∙◌, ap, length, arith}
+use Rattle.cweb_store.specs.declared.names.table.GivenAs.{GivenAs}
 use Rattle.cweb_store.specs.Calls.{occurrence_of, too_many}
 use Rattle.cweb_store.specs.Names.{with_name}
-use Rattle.cweb_store.specs.Known.{early}
-use Rattle.cweb_store.specs.Given.{occurrence_in, occurrences_in}
-use Rattle.cweb_store.proofs.OccurrenceLemmas.{names-few, given-push}
+use Rattle.cweb_store.specs.Stored.{occurrences_at}
+use Rattle.cweb_store.proofs.StoredLemmas.{occurrences-count}
+use Rattle.cweb_store.proofs.OccurrenceLemmas.{names-few}
+use Rattle.cweb_store.proofs.GivenLemmas.{given-push, occurrences-push}
 use Rattle.cweb_store.proofs.names.table.NameTable.add.Goals as goal
 
 pub take-requires : goal.take-requires
@@ -14,25 +14,51 @@ take-requires c =
     omega (
       arith,
       ap length c.self.invariant.known_names,
-      names-few (occurrences_in s.given.items),
-      length-map s.given.items occurrence_in,
+      names-few (occurrences_at s.texts s.given.items),
+      occurrences-count s.texts s.given.items (omega (arith, c.self.invariant.count)),
       c.self.invariant.few,
     )
 
 pub invariant_of-self-2 : goal.invariant_of-self-2
 invariant_of-self-2 c =
     let s = c.self.inside in
-    let text : c.in_ok-text.text.items ≡ c.args.name.now = c.in_ok-text.ensures.items in
-    let g : Given =
-    record { text = c.in_ok-text.text; how = c.args.how; is_file = c.args.is_file; found = c.in_ok-found.found } in
-    let count : c.len-number.result ≡ length s.given.items =
-    c.len-number.ensures ∙ c.in_ok-reserve.ensures.len ∙ s.given.ok.0 in
+    let t = c.args.name.now in
+    let g : GivenAs = record { how = c.args.how; is_file = c.args.is_file } in
+    let number : c.in_ok-number.number ≡ length s.given.items =
+    c.in_ok-number.ensures.number ∙ c.self.invariant.count in
     let few : length s.given.items + 1 < too_many =
-    omega (arith, c.requires, ap length c.self.view_is, length-map s.given.items occurrence_in) in
-    let found : g.found ≡ early s.known (occurrence_in g) =
-    c.in_ok-found.ensures.found ∙ ap (λ q. early s.known (occurrence_of q c.args.how c.args.is_file)) (sym text) in
-    let new : c.take.new.self ≡ with_name (length s.given.items) s.known (occurrence_in g) =
-    c.in_ok-found.ensures.names
-    ∙ (λ i. with_name (count i) s.known (occurrence_of (sym text i) c.args.how c.args.is_file)) in
-    rw (c.put.ensures, c.in_ok-reserve.ensures.items)
-    (given-push s.known c.take.new.self s.given.items g c.self.invariant few found new)
+    omega (
+      arith,
+      c.requires,
+      ap length c.self.view_is,
+      occurrences-count s.texts s.given.items (omega (arith, c.self.invariant.count)),
+    ) in
+    let new : c.take.new.self ≡ with_name (length s.given.items) s.known (occurrence_of t c.args.how c.args.is_file) =
+    c.in-Ok.ensures.names ∙ ap (λ k. with_name k s.known (occurrence_of t c.args.how c.args.is_file)) number in
+    rw (
+      c.put.ensures,
+      c.put-2.ensures,
+      c.in_ok-number.ensures.added,
+      c.in_ok-reserve.ensures.items,
+      c.in_ok-reserve-2.ensures.items,
+    )
+    (given-push s.known c.take.new.self s.texts s.given.items s.found.items t g
+    c.in-Ok.found c.self.invariant few c.in-Ok.ensures.found new)
+
+pub returns-clause-number : goal.returns-clause-number
+returns-clause-number c =
+    let s = c.self.inside in
+    omega (
+      arith,
+      c.in_ok-number.ensures.number,
+      c.self.invariant.count,
+      ap length c.self.view_is,
+      occurrences-count s.texts s.given.items (omega (arith, c.self.invariant.count)),
+    )
+
+pub returns-clause-added : goal.returns-clause-added
+returns-clause-added c =
+    let s = c.self.inside in
+    let g : GivenAs = record { how = c.args.how; is_file = c.args.is_file } in
+    rw (c.put.ensures, c.in_ok-number.ensures.added, c.in_ok-reserve.ensures.items, ← c.self.view_is)
+    (occurrences-push s.texts s.given.items c.args.name.now g c.self.invariant.count)

@@ -1,9 +1,11 @@
-use Rattle.std.proofs.Common.{◌≡◌, [], drop}
+use Rattle.std.proofs.Common.{◌≡◌, ℕ, List, [], drop, length}
 use Rattle.cweb_store.specs.Names.{files_from}
-use Rattle.cweb_store.specs.Given.{occurrences_in}
+use Rattle.cweb_store.specs.Stored.{occurrences_at}
 use Rattle.cweb_store.proofs.names.table.NameTable.files.Given as goal
 
+-- whatever their texts are
 abbrev pub invariant-loop-i : goal.invariant-loop-i
 invariant-loop-i l =
-    files_from l.standings l.files.keys l.i (occurrences_in (drop l.i l.given-items))
-    ≡ files_from l.standings [] 0 (occurrences_in l.given-items)
+    (ts : List (List ℕ)) → length ts ≡ length l.given-items
+    → files_from l.standings l.files.keys l.i (occurrences_at (drop l.i ts) (drop l.i l.given-items))
+    ≡ files_from l.standings [] 0 (occurrences_at ts l.given-items)

@@ -1,6 +1,8 @@
-use Rattle.std.proofs.Common.{◌≡◌, map, take}
-use Rattle.cweb_store.specs.Given.{settled}
+use Rattle.std.proofs.Common.{◌≡◌, ◌++◌, drop}
+use Rattle.cweb_store.specs.Given.{settled_all}
 use Rattle.cweb_store.proofs.names.table.NameTable.standings.Given as goal
 
-abbrev pub invariant-loop-given : goal.invariant-loop-given
-invariant-loop-given l = l.all.items ≡ map (settled l.self-inside.known) (take l.given-index l.given-items)
+abbrev pub invariant-loop-i : goal.invariant-loop-i
+invariant-loop-i l =
+    l.all.items ++ settled_all l.self-inside.known (drop l.i l.self-inside.texts) (drop l.i l.found-items)
+    ≡ settled_all l.self-inside.known l.self-inside.texts l.found-items

@@ -1,0 +1,10 @@
+use Rattle.std.proofs.Common.{◌≡◌, ◌∷◌, length}
+use Rattle.std.specs.BTreeMap.{keys}
+use Rattle.cweb_store.specs.Found.{any_next}
+use Rattle.cweb_store.proofs.names.found.has_prefix.Given as goal
+
+abbrev pub invariant-texts : goal.invariant-texts
+invariant-texts l = any_next (l.before ∷ l.texts) ≡ any_next (keys l.sorted)
+
+abbrev pub decreases-texts : goal.decreases-texts
+decreases-texts l = length l.texts

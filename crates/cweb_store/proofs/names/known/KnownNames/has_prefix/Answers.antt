@@ -1,0 +1,14 @@
+use Rattle.std.proofs.Common.{ap, ◌∙◌}
+use Rattle.std.specs.List.{list_any}
+use Rattle.cweb_store.specs.Names.{texts}
+use Rattle.cweb_store.specs.Faults.{is_prefix_of_another}
+use Rattle.cweb_store.specs.Known.{names_in}
+use Rattle.cweb_store.proofs.NeighbourLemmas.{next-prefix}
+use Rattle.cweb_store.proofs.names.known.KnownNames.has_prefix.Goals as goal
+
+pub returns : goal.returns
+returns c =
+    let s = c.self.inside in
+    c.has_prefix.ensures.value
+    ∙ next-prefix s.sorted.entries (names_in s.names.items) c.self.invariant c.has_prefix.ensures.ordered
+    ∙ ap (λ ns. list_any (is_prefix_of_another ns) (texts ns)) c.self.view_is
