@@ -7,11 +7,11 @@ use Rattle.cweb_scan.proofs.Aheads.{read_more, read_nothing}
 use Rattle.cweb_scan.proofs.scanning.read_ahead.Goals as goal
 
 -- a line is read by its bytes
-read_as : (old new : Held) (place : Place) (lent bytes : List ℕ) → lent ≡ bytes
-    → ((more : List Line) → read_after new more ≡ read_after old (record { bytes = lent; place = place } ∷ more))
-    → (more : List Line) → read_after new more ≡ read_after old (record { bytes = bytes; place = place } ∷ more)
-read_as old new place lent bytes is reads more =
-    subst (λ (b : List ℕ). read_after new more ≡ read_after old (record { bytes = b; place = place } ∷ more)) is
+read_as : (old new : Held) (p : Place) (lent bytes : List ℕ) → lent ≡ bytes
+    → ((more : List Line) → read_after new more ≡ read_after old (record { bytes = lent; place = p } ∷ more))
+    → (more : List Line) → read_after new more ≡ read_after old (record { bytes = bytes; place = p } ∷ more)
+read_as old new p lent bytes is reads more =
+    subst (λ (b : List ℕ). read_after new more ≡ read_after old (record { bytes = b; place = p } ∷ more)) is
     (reads more)
 
 pub lines-init : goal.lines-init
@@ -38,6 +38,7 @@ lines-preserved g c =
     let inv = c.lines.invariant in
     let next = c.in-Some.next in
     let new = c.take_line-in-Some.new.self in
+    let size = ap (λ (l : List ℕ). length l) c.bytes_of-in-Some.ensures in
     let looks = c.in-Some.ensures.looks inv.0 inv.1.comes in (
       inv.0 ++ looks.raw ∷ [],
       record {
@@ -45,7 +46,7 @@ lines-preserved g c =
         read = read_more run inv.0 next c.args.reader.now c.lines.reader new looks inv.1.read
             (read_as c.lines.reader new next.line.place c.bytes_of-in-Some.result.now _ c.bytes_of-in-Some.ensures
             c.in_ok-take_line-2.ensures.read)
-            (omega (arith, c.in_ok-take_line-2.ensures.cost, ap (λ (l : List ℕ). length l) c.bytes_of-in-Some.ensures));
+            (omega (arith, c.in_ok-take_line-2.ensures.cost, size));
         some = omega (arith, length-append inv.0 (looks.raw ∷ []));
         count = omega (arith, looks.count, length-append inv.0 (looks.raw ∷ []));
         is = c.in-Some.ensures.ahead;
