@@ -1,5 +1,6 @@
 -- The first newline of a text.
 use Rattle.std.proofs.Common.{◌≡◌, ◌≢◌, ◌≤◌, ◌<◌, ◌+◌, ◌-◌, ℕ, suc, true, false, List, [], ◌∷◌, ◌++◌, Option, Some, None, sym, ◌∙◌, ap, take, drop, get_or, length, zero, subst, arith, take-append-drop, append_assoc, length-append}
+use Rattle.std.proofs.Math.Seq.{drop-append-add, take-append_seam}
 use Rattle.std.proofs.lemmas.List.{drop_more, get_or-take, get_or-drop, length-take, length-drop, drop-take, drop-drop}
 use Rattle.std.proofs.lemmas.Bool.Decides.{nat_tests}
 use Rattle.memchr.specs.Find.{IsFirstByte, is_byte}
@@ -142,3 +143,29 @@ whole_line piece start end (suc at) above whole within is = (
     ten : get_or bytes (at - start) 0 ≡ 10
     ten = get_or-take (end - start) (drop start piece) (at - start) 0 (omega arith)
         ∙ get_or-drop start piece (at - start) 0 ∙ ap (λ n. get_or piece n 0) place ∙ is
+
+-- a newline behind bytes that have none
+splits_at : (a b : List ℕ) → HasNoNewline a → SplitsAt (a ++ 10 ∷ b) (length a)
+splits_at a b none = record {
+  within = omega (arith, length-append a (10 ∷ b));
+  split = λ i. sym (take-append_seam a (10 ∷ b)) i ++ 10 ∷ sym (drop-append-add a (10 ∷ b) 1) i;
+  before = subst HasNoNewline (sym (take-append_seam a (10 ∷ b))) none;
+}
+
+-- the first newline of a part of a text, before which there is none
+pub splits_behind : (text front run after : List ℕ) (at : ℕ) → text ≡ front ++ (run ++ after) → HasNoNewline front
+    → SplitsAt run at → SplitsAt text (length front + at)
+splits_behind text front run after at is none splits =
+    subst (SplitsAt text) count (subst (λ (t : List ℕ). SplitsAt t (length before)) (sym whole)
+    (splits_at before (drop (at + 1) run ++ after) (no_newline-append front (take at run) none splits.before)))
+  where
+    before : List ℕ
+    before = front ++ take at run
+
+    whole : text ≡ before ++ 10 ∷ (drop (at + 1) run ++ after)
+    whole = is ∙ ap (λ (l : List ℕ). front ++ (l ++ after)) splits.split
+        ∙ ap (λ (l : List ℕ). front ++ l) (append_assoc (take at run) (10 ∷ drop (at + 1) run) after)
+        ∙ sym (append_assoc front (take at run) (10 ∷ (drop (at + 1) run ++ after)))
+
+    count : length before ≡ length front + at
+    count = omega (arith, length-append front (take at run), length-take at run, splits.within)

@@ -114,7 +114,7 @@ joined entry may_match piece start s t u a b first whole then text ends lines = 
     split : (n : ℕ) → s.end ≤ n → slice_range piece start n ≡ slice_range piece start s.end ++ slice_range piece s.end n
     split n high = slice_split piece start s.end n (omega (arith, first.forth, first.before)) high
 
-few_lines : (lines : List (List ℕ)) → length lines ≤ length (standing lines)
+pub few_lines : (lines : List (List ℕ)) → length lines ≤ length (standing lines)
 few_lines [] = omega arith
 few_lines (line ∷ lines) = omega (arith, few_lines lines, length-append line (10 ∷ standing lines))
 
@@ -157,7 +157,7 @@ text_lines-standing entry may_match (line ∷ lines) rest passing =
     ∙ text_lines-full line (standing lines ++ rest) passing.0.clean
     ∙ ap (λ (ls : List TextLine). ended line ∷ ls) (text_lines-standing entry may_match lines rest passing.1)
 
-numbered-append : (file number : ℕ) (a b : List TextLine)
+pub numbered-append : (file number : ℕ) (a b : List TextLine)
     → numbered file number (a ++ b) ≡ numbered file number a ++ numbered file (number + length a) b
 numbered-append file number [] b =
     let same : number ≡ number + 0 = omega arith in ap (λ n. numbered file n b) same

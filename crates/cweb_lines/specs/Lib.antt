@@ -1,3 +1,4 @@
+pub mod Ahead
 pub mod Calls
 pub mod Change
 pub mod Counts

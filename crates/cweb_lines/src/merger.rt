@@ -9,6 +9,8 @@ ghost use Rattle.cweb_lines.specs.Passing.{PassesLines};
 ghost use Rattle.cweb_lines.specs.Texts.{StartStops, files_named};
 ghost use Rattle.cweb_lines.specs.Naming.{AreReadersKnown};
 
+pub mod ahead;
+
 use crate::fault::SourceFault;
 use crate::files::FileNames;
 use crate::files::find::{find_change, find_web};

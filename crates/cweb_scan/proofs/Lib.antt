@@ -22,6 +22,7 @@ pub mod LineEnds
 pub mod Taken
 pub mod LineBegins
 pub mod Scans
+pub mod Aheads
 pub mod StatePlaces
 pub mod Places
 mod RowWords
@@ -44,6 +45,7 @@ pub mod Walks
 pub mod Rests
 pub mod Texts
 pub mod CodeTurns
+pub mod TextLines
 pub mod RuleTurns
 pub mod HeadTurns
 pub mod HeadStays

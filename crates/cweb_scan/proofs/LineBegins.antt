@@ -36,7 +36,7 @@ no_newline Single = refl
 no_newline Double = refl
 
 -- a line end, whatever is open
-line_ends : (kind : Open) (d us : List ℕ) (q : Place) (s : State)
+pub line_ends : (kind : Open) (d us : List ℕ) (q : Place) (s : State)
     → TakesLineEnd q (held s (item_of kind d us)) (after_line_end q (item_of kind d us) s)
 line_ends Between d us q s = record { begun = refl; same = between_goes_on q s }
 line_ends (Comment begun) d us q s = record { begun = refl; same = comment_goes_on begun q s }

@@ -43,11 +43,11 @@ nothing_taken tells so all = record {
   gives = λ told. gives_nothing so so all all refl refl refl refl;
 }
 
-web_size-append : (a b : List Line) → web_size (a ++ b) ≡ web_size a + web_size b
+pub web_size-append : (a b : List Line) → web_size (a ++ b) ≡ web_size a + web_size b
 web_size-append [] b = omega arith
 web_size-append (line ∷ a) b = omega (arith, web_size-append a b)
 
-wider : (files more : ℕ) (lines : List Line) → files ≤ more → AreBelow files lines → AreBelow more lines
+pub wider : (files more : ℕ) (lines : List Line) → files ≤ more → AreBelow files lines → AreBelow more lines
 wider files more lines h below =
     All-weaker (λ (line : Line). line.place.file.0 < files)
     (λ line. line.place.file.0 < more) (λ line k. omega (arith, h, k)) lines below

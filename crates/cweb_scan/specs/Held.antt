@@ -85,6 +85,10 @@ pub record BeginsLine (place : Place) (old new : Held) : Type 0 where
   pub next : old.begun ≡ true → TakesLineEnd place old new
   pub adds : cost new ≤ cost old + 3
 
+-- text goes on in another line
+abbrev pub gone_to : Place → Held → Held
+gone_to place h = record h { state = moved place h.state }
+
 -- the state once no line follows: an item that is open ends
 abbrev pub text_ended : Item → State → State
 text_ended Between s = s

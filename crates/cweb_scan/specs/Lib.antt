@@ -2,6 +2,7 @@ pub mod Names
 pub mod State
 pub mod Directives
 pub mod After
+pub mod Ahead
 pub mod Run
 pub mod Law
 pub mod Bound

@@ -1,6 +1,7 @@
 // The lines of a merger, scanned.
 ghost use Rattle.std.specs.Prelude.{◌≡◌, ℕ, List, Bool, Option, [], ◌<◌, ◌+◌, ◌*◌, ◌^◌, ◌≤◌, length, IsTrue, Err, IfErr, IfOk, IfSome, OnOk, None, Some};
 ghost use Rattle.cweb_files.specs.Frames.{KeepsTexts};
+ghost use Rattle.cweb_lines.specs.Ahead.{IsAhead, LooksAt};
 ghost use Rattle.cweb_lines.specs.Lending.{LendsLines};
 ghost use Rattle.cweb_lines.specs.Merge.{Event};
 ghost use Rattle.cweb_lines.specs.Merging.{SoFar, coming};
@@ -8,6 +9,7 @@ ghost use Rattle.cweb_lines.specs.Texts.{files_named};
 ghost use Rattle.cweb_lines.specs.Naming.{BlamesFile};
 ghost use Rattle.cweb_lines.specs.Whole.{to_come, so_far, stop_in, HasEnded, Grows, KnowsReaders};
 ghost use Rattle.cweb_store.specs.Calls.{too_many};
+ghost use Rattle.cweb_scan.specs.Ahead.{ReadsAhead};
 ghost use Rattle.cweb_scan.specs.Held.{cost, unread};
 ghost use Rattle.cweb_scan.specs.Scan.{seen, made_of, Blames, EndsEarly, HasTaken, IsWithin, Scans};
 
@@ -15,7 +17,7 @@ pub mod scanned;
 
 use crate::reader::Reader;
 use crate::scanning::scanned::Scanned;
-use cweb_lines::{Merger, Shelf, Stop};
+use cweb_lines::{Ahead, Merger, Shelf, Stop};
 use std::alloc::{AllocError, Global};
 
 // No line follows.
@@ -25,6 +27,29 @@ fn finished(reader: Reader) -> Result<Scanned, AllocError>
 {
     let scanner = reader.finish()?;
     scanner.scanned()
+}
+
+// Reads lines that come next where they lie, from the first on, and answers the last one, with all of them.
+#[inline(always)]
+fn read_ahead<S: Shelf>(
+    merger: &Merger<S>,
+    first: Ahead,
+    reader: &mut Reader,
+) -> Result<Ahead, AllocError>
+    requires looks { LooksAt merger.now.run [] first }
+    requires ahead { IsAhead merger.now.run first }
+    requires cost { let so = (so_far merger.now).count in
+        cost reader.old ≤ 3 * (so.bytes + so.lines) }
+    ensures { IfOk result (λ ahead. (lines : List (List ℕ))
+        × ReadsAhead merger.now.run lines ahead reader.old reader.new) }
+{
+    reader.take_line(first.line.place, merger.bytes_of(first.line))?;
+    let mut ahead = first;
+    'lines: while let Some(next) = merger.next_ahead(ahead) {
+        reader.take_line(next.line.place, merger.bytes_of(next.line))?;
+        ahead = next;
+    }
+    Ok(ahead)
 }
 
 // Takes lines where they lie in what was read, as long as the merger lends them.
@@ -38,8 +63,9 @@ fn take_lent<S: Shelf>(merger: &mut Merger<S>, reader: &mut Reader) -> Result<()
     ensures cost { let so = (so_far merger.new).count in
         OnOk result (cost reader.new ≤ 3 * (so.bytes + so.lines)) }
 {
-    'lines: while let Some(line) = merger.lend_line() {
-        reader.take_line(line.place, merger.bytes_of(line))?;
+    'stretches: while let Some(first) = merger.first_ahead() {
+        let ahead = read_ahead(merger, first, reader)?;
+        merger.take_ahead(ahead);
     }
     Ok(())
 }

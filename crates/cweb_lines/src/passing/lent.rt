@@ -18,7 +18,7 @@ pub struct Lent {
 impl<R: Drop> Run<R> {
     // Where the line that comes next stands and lies.
     #[inline(always)]
-    fn line_at(&self, stretch: Stretch) -> Option<Lent>
+    pub(crate) fn line_at(&self, stretch: Stretch) -> Option<Lent>
         requires { (lines : List (List ℕ)) × ComesNext self.now stretch lines }
         ensures { result ≡ lent_at (top_of self.now.stack) stretch }
     {

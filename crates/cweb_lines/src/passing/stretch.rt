@@ -1,5 +1,6 @@
 // How many lines of what was read pass through at once.
-ghost use Rattle.std.specs.Prelude.{◌≡◌, ◌≤◌, ◌+◌, ◌-◌, ℕ, List, IfSome};
+ghost use Rattle.std.specs.Prelude.{◌≡◌, ◌≤◌, ◌+◌, ◌-◌, ℕ, List, IfSome, OnSome};
+ghost use Rattle.cweb_lines.specs.Ahead.{Fits, FitsAt};
 ghost use Rattle.cweb_lines.specs.Passing.{Reaches, StandsIn, ComesNext, HasRoomFor, text_at, top_of};
 ghost use Rattle.cweb_lines.specs.Stages.{pending_in};
 ghost use Rattle.cweb_lines.specs.declared.limits.TheConstants.{LINES};
@@ -28,7 +29,7 @@ pub struct Stretch {
 
 impl Stretch {
     // These lines and those behind them.
-    fn then(self, next: Stretch) -> Stretch
+    pub(crate) fn then(self, next: Stretch) -> Stretch
         requires { self.lines + next.lines ≤ LINES }
         ensures text { result.text ≡ next.text }
         ensures end { result.end ≡ next.end }
@@ -44,7 +45,7 @@ impl Stretch {
 
 // The line from a place on, where it was read whole and passes through.
 #[inline(always)]
-fn line_from<R: Drop>(
+pub(crate) fn line_from<R: Drop>(
     source: &Source<R>,
     start: usize,
     stage: Stage,
@@ -123,6 +124,7 @@ fn stretch_of<R: Drop>(
 ) -> Option<Stretch>
     ensures lines { IfSome result (λ s. (lines : List (List ℕ))
         × StandsIn (pending_in stage first.now) text.now s lines × HasRoomFor limits.now lines) }
+    ensures fits { OnSome result (Fits limits.now text.now) }
     ensures one { room ≡ 0 → IfSome result (λ s. s.lines ≡ 1) }
 {
     let source = &text.source;
@@ -138,6 +140,7 @@ impl<R: Drop> Run<R> {
     #[inline(always)]
     pub fn stretch(&self, room: usize) -> Option<Stretch>
         ensures lines { IfSome result (λ s. (lines : List (List ℕ)) × ComesNext self.now s lines) }
+        ensures fits { OnSome result (FitsAt self.now.limits (top_of self.now.stack)) }
         ensures one { room ≡ 0 → IfSome result (λ s. s.lines ≡ 1) }
     {
         if let Stage::Seeking = self.stage {

@@ -8,12 +8,37 @@ use crate::limits::LINE_LENGTH;
 use crate::text::source::{LineFault, Source, Taken};
 use cweb_files::Shelf;
 use memchr::{memchr, memrchr};
+use std::simd::prelude::*;
 
-/// Where the first newline is.
+// Where the first newline is among the first 32 bytes.
+#[inline(always)]
+fn newline_near(bytes: &[u8]) -> Option<usize>
+    requires { 32 ≤ length bytes.now }
+    ensures { IsNewlineAt (take 32 bytes.now) result }
+{
+    let lanes = u8x32::from_slice(bytes);
+    let marked = lanes.simd_eq(u8x32::splat(b'\n')).to_bitmask();
+    if marked == 0 {
+        return None;
+    }
+    Some(marked.trailing_zeros() as usize)
+}
+
+/// Where the first newline is. Most lines have less than 32 bytes.
 pub fn newline_at(bytes: &[u8]) -> Option<usize>
     ensures { IsNewlineAt bytes.now result }
 {
-    memchr(b'\n', bytes)
+    let mut rest = bytes;
+    'runs: while 32 <= rest.len() {
+        if let Some(at) = newline_near(rest) {
+            return Some(bytes.len() - rest.len() + at);
+        }
+        rest = rest.split_at(32).1;
+    }
+    match memchr(b'\n', rest) {
+        Some(at) => Some(bytes.len() - rest.len() + at),
+        None => None,
+    }
 }
 
 // Adds bytes to a line, where it does not get too long.

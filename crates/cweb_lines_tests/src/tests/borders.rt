@@ -34,6 +34,21 @@ const PLACES: &[(u32, u32, bool)] = &[
     (0, 6, false),
 ];
 
+const LOOKED_AT: &[(&str, &[u8])] = &[
+    ("a.w", b"one\ntwo\nthree\nfour\nfive \nsix\n@i b.w\nlast\n"),
+    ("b.w", b"in b\n"),
+];
+
+// How many lines are taken at once and their text, and the number of the line that is asked for behind them.
+const TAKEN_AT_ONCE: &[(u32, &[u8], Option<u32>)] = &[
+    (0, b"", Some(1)),
+    (2, b"twothree", Some(4)),
+    (1, b"five", Some(6)),
+    (0, b"", Some(1)),
+    (0, b"", Some(8)),
+    (0, b"", None),
+];
+
 // The lines in front, a line of so many bytes, and what stands behind it.
 fn text_with(alloc: Global, length: usize, tail: &[u8]) -> Result<Vec<u8>, AllocError> {
     let mut text = Vec::new(alloc);
@@ -149,6 +164,42 @@ fn places_of_lent_lines(rt: HostRuntime) -> Result<(), Fail> {
     }
     assert!(rt; merger.lend_line().is_none());
     assert!(rt; merger.next_line(&mut shelf, &mut line)? == None);
+    Ok(())
+}
+
+// Two lines at most that come next, looked at and then taken at once: how many, and their text.
+fn taken_at_once(merger: &mut Merger<MemoryShelf>, text: &mut Vec<u8>) -> Result<u32, Fail> {
+    let Some(first) = merger.first_ahead() else {
+        return Ok(0);
+    };
+    text.extend_from_slice(merger.bytes_of(first.line))?;
+    let Some(second) = merger.next_ahead(first) else {
+        merger.take_ahead(first);
+        return Ok(1);
+    };
+    text.extend_from_slice(merger.bytes_of(second.line))?;
+    merger.take_ahead(second);
+    Ok(2)
+}
+
+// Lines that are looked at are taken once: those behind them come next. None is looked at before something was read, and none
+// behind a line with blanks at its end or before an include line.
+#[test]
+fn lines_looked_at_before_they_are_taken(rt: HostRuntime) -> Result<(), Fail> {
+    let mut shelf = shelf_of(rt.alloc(), LOOKED_AT)?;
+    let mut merger = Merger::start(rt.alloc(), &mut shelf, "a.w", None, None, None)?;
+    let mut line = Vec::new(rt.alloc());
+    let mut text = Vec::new(rt.alloc());
+    for (count, wanted, number) in TAKEN_AT_ONCE {
+        text.clear();
+        let taken = taken_at_once(&mut merger, &mut text)?;
+        assert!(rt; taken == *count && text.as_slice() == *wanted, "of {count}");
+        let behind = match merger.next_line(&mut shelf, &mut line)? {
+            Some(place) => Some(place.line),
+            None => None,
+        };
+        assert!(rt; behind == *number, "behind {taken}");
+    }
     Ok(())
 }
 

@@ -4,17 +4,21 @@ ghost use Rattle.cweb_store.specs.Calls.{too_many};
 
 use crate::reader::Reader;
 use crate::reader::open::Open;
+use crate::reader::opening::skipped_len;
 use crate::scanner::Scanner;
 use cweb_files::{FileId, Place};
-use cweb_rules::End;
+use cweb_rules::{Context, End};
 use std::alloc::AllocError;
 
 impl Reader {
-    ghost use Rattle.std.specs.Prelude.{true, false};
+    ghost use Rattle.std.specs.List.{prefix_len};
+    ghost use Rattle.std.specs.Prelude.{true, false, IsTrue};
     ghost use Rattle.cweb_lines.specs.Lines.{Line};
     ghost use Rattle.cweb_rules.specs.Lines.{IsLine};
-    ghost use Rattle.cweb_scan.specs.Held.{after_line_end, cost, read_after, text_ended, BeginsLine};
+    ghost use Rattle.cweb_scan.specs.Fronted.{is_skipped, reads_c};
+    ghost use Rattle.cweb_scan.specs.Held.{after_line_end, cost, gone_to, read_after, text_ended, BeginsLine};
     ghost use Rattle.cweb_scan.specs.OpenRest.{awaits_line_end};
+    ghost use Rattle.cweb_scan.specs.Resume.{Between};
     ghost use Rattle.cweb_scan.specs.Room.{weight};
 
     // The line end before a line that stands at a place: it is passed once that place is known.
@@ -61,8 +65,49 @@ impl Reader {
         Ok(())
     }
 
-    /// Takes the next line, which stands at a place.
+    // Whether a line behind others is text that has no `@`.
+    #[inline(always)]
+    fn passes_by(&self, line: &[u8]) -> bool
+        ensures text { IsTrue result → reads_c self.now.state.context ≡ false }
+        ensures between { IsTrue result → self.now.item ≡ Between }
+        ensures begun { IsTrue result → self.now.begun ≡ true }
+        ensures plain { IsTrue result → prefix_len is_skipped line.now ≡ length line.now }
+    {
+        match self.scanner.context() {
+            Context::Limbo | Context::TeX => {
+                matches!(self.item, Open::Between) && self.begun && skipped_len(line) == line.len()
+            }
+            _ => false,
+        }
+    }
+
+    // Text goes on in another line.
+    #[inline(always)]
+    fn go_to(&mut self, place: Place)
+        ensures { self.new ≡ gone_to place self.old }
+    {
+        self.scanner.go_to(place);
+    }
+
+    /// Takes the next line, which stands at a place. Text that has no `@` gives nothing but its place.
+    #[inline(always)]
     pub fn take_line(&mut self, place: Place, line: &[u8]) -> Result<(), AllocError>
+        requires clean { IsLine line.now }
+        requires room { cost self.old + 3 * (length line.now + 1) + 8 < too_many }
+        ensures read { OnOk result ((lines : List Line) →
+            read_after self.new lines ≡ read_after self.old (record { bytes = line.now; place = place } ∷ lines)) }
+        ensures cost { OnOk result (cost self.new ≤ cost self.old + 3 * (length line.now + 1)) }
+    {
+        if self.passes_by(line) {
+            self.go_to(place);
+            return Ok(());
+        }
+        self.take_any_line(place, line)
+    }
+
+    // The same, whatever the line is.
+    #[inline(never)]
+    fn take_any_line(&mut self, place: Place, line: &[u8]) -> Result<(), AllocError>
         requires clean { IsLine line.now }
         requires room { cost self.old + 3 * (length line.now + 1) + 8 < too_many }
         ensures read { OnOk result ((lines : List Line) →

@@ -7,8 +7,8 @@ use Rattle.cweb_scan.specs.Held.{cost}
 use Rattle.cweb_scan.specs.Scan.{HasTaken}
 use Rattle.cweb_scan.proofs.scanning.take_lent.Given as goal
 
-abbrev pub invariant-lines : goal.invariant-lines
-invariant-lines g l = record {
+abbrev pub invariant-stretches : goal.invariant-stretches
+invariant-stretches g l = record {
   lent : LendsLines l.fn.merger.run l.merger.run;
   taken : (tells : Bool) (first : SoFar) (all : List Event) (texts : List ℕ → Option (List ℕ))
       (left : g.row.S-R.Denot → List ℕ)
@@ -17,5 +17,5 @@ invariant-lines g l = record {
   room : cost l.reader ≤ 3 * ((so_far l.merger).count.bytes + (so_far l.merger).count.lines);
 }
 
-abbrev pub decreases-lines : goal.decreases-lines
-decreases-lines g l = 16777216 - (so_far l.merger).count.lines
+abbrev pub decreases-stretches : goal.decreases-stretches
+decreases-stretches g l = 16777216 - (so_far l.merger).count.lines

@@ -1,5 +1,6 @@
 use Rattle.std.proofs.Common.{refl}
 use Rattle.cweb_lines.specs.Stages.{pending_in}
+use Rattle.cweb_lines.proofs.Aheads.{whatever}
 use Rattle.cweb_lines.proofs.Standing.{stands_in}
 use Rattle.cweb_lines.proofs.passing.stretch.stretch_of.Goals as goal
 
@@ -7,3 +8,9 @@ pub returns-clause-lines : goal.returns-clause-lines
 returns-clause-lines g c = stands_in (pending_in c.args.stage c.args.first.now) c.args.text.now c.args.limits.now
     c.stretch_from.result (c.if-not-has_room.ensures.lines refl) (c.if-not-has_room.ensures.bytes refl)
     c.stretch_from.ensures.lines
+
+pub returns-clause-fits : goal.returns-clause-fits
+returns-clause-fits g c = whatever c.stretch_from.result _ (record {
+  few = c.if-not-has_room.ensures.lines refl;
+  small = c.if-not-has_room.ensures.bytes refl;
+})

@@ -1,8 +1,14 @@
-use Rattle.cweb_scan.proofs.LineBegins.{line_taken}
+use Rattle.std.proofs.Common.{ap, arith}
+use Rattle.cweb_scan.specs.Held.{cost}
+use Rattle.cweb_scan.proofs.TextLines.{text_passed}
 use Rattle.cweb_scan.proofs.reader.Reader.take_line.Goals as goal
 
-pub returns-clause-read : goal.returns-clause-read
-returns-clause-read c = λ lines.
-    line_taken c.args.self.now c.begin_line.new.self c.take_bytes.new.self
-    (record { bytes = c.args.line.now; place = c.args.place }) lines
-    c.in_ok-begin_line.ensures.begins c.in_ok-take_bytes.ensures.bytes
+pub returns-then-passes_by-clause-read : goal.returns-then-passes_by-clause-read
+returns-then-passes_by-clause-read c = λ lines.
+    let passes = c.passes_by.ensures in
+    let told = c.if-passes_by.true in
+    text_passed c.args.self.now c.go_to.new.self (record { bytes = c.args.line.now; place = c.args.place }) lines
+    (passes.begun told) (passes.between told) (passes.text told) (passes.plain told) c.requires.clean c.go_to.ensures
+
+pub returns-then-passes_by-clause-cost : goal.returns-then-passes_by-clause-cost
+returns-then-passes_by-clause-cost c = omega (arith, ap cost c.go_to.ensures)

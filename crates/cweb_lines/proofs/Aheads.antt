@@ -1,0 +1,243 @@
+-- Lines that are looked at where they lie, one behind another.
+use Rattle.std.proofs.Common.{◌≡◌, ◌≤◌, ◌<◌, ◌+◌, ◌-◌, ℕ, List, [], ◌∷◌, ◌++◌, length, map, Option, None, Some, refl, sym, ◌∙◌, ap, subst, arith}
+use Rattle.std.proofs.lemmas.List.{append_cancel_right, length-append, length-map, map-append}
+use Rattle.std.specs.Prelude.{slice_range, unwrap_or, IfSome, OnSome}
+use Rattle.cweb_files.specs.declared.place.Place.{Place}
+use Rattle.cweb_lines.specs.Ahead.{Fits, FitsAt, IsAhead, LooksAt, LooksIn}
+use Rattle.cweb_lines.specs.Change.{Entry}
+use Rattle.cweb_lines.specs.Lending.{LendsLines, lent_at}
+use Rattle.cweb_lines.specs.Lines.{Line, IsOneLine, SourceLine, TextLine, numbered, trimmed}
+use Rattle.cweb_lines.specs.Merging.{pending_of, told_by}
+use Rattle.cweb_lines.specs.Passing.{ComesNext, GivesLines, HasRoomFor, IsStretch, Reaches, StandsAt, StandsIn, ended, lines_next, top_of}
+use Rattle.cweb_lines.specs.Stages.{IsSettled, floor_of}
+use Rattle.cweb_lines.specs.Texts.{files_up_to, line_number, number_of}
+use Rattle.cweb_lines.specs.declared.limits.Limits.{Limits}
+use Rattle.cweb_lines.specs.declared.limits.TheConstants.{LINES}
+use Rattle.cweb_lines.specs.declared.passing.ahead.Ahead.{Ahead}
+use Rattle.cweb_lines.specs.declared.passing.lent.Lent.{Lent}
+use Rattle.cweb_lines.specs.declared.passing.stretch.Stretch.{Stretch}
+use Rattle.cweb_lines.specs.declared.run.Run.{Run}
+use Rattle.cweb_lines.specs.declared.text.OpenText.{OpenText}
+use Rattle.cweb_lines.proofs.Fronts.{told_given, told_then}
+use Rattle.cweb_lines.proofs.Stacks.{most_at}
+use Rattle.cweb_lines.proofs.Standing.{few_lines, joined, lines_within, numbered-append}
+use Rattle.cweb_lines.proofs.Sums.{gives_both}
+use Rattle.cweb_lines.proofs.Trims.{trimmed-length, trimmed-line}
+
+-- one line behind others
+module _ {R : Type 0} (entry : Option Entry) (text : OpenText R) (lines : List (List ℕ)) (raw : List ℕ) (s : Stretch)
+    (ahead : Ahead) (is : IsStretch entry text.may_match text.source.piece.items ahead.line.from s (raw ∷ []))
+    (within : s.end ≤ text.source.end) (to : ahead.line.to ≡ s.text)
+    (place : ahead.line.place ≡ record { file = text.file; line = text.line + 1 + length lines })
+    (stands : StandsIn entry text ahead.stretch (lines ++ raw ∷ [])) where
+  bytes : slice_range text.source.piece.items ahead.line.from ahead.line.to ≡ trimmed raw
+  bytes = ap (slice_range text.source.piece.items ahead.line.from) to ∙ append_cancel_right _ _ (10 ∷ []) is.text
+
+  abbrev line_of : SourceLine → Line
+  line_of source = source.line
+
+  abbrev here : ℕ → Place
+  here n = record { file = text.file; line = n }
+
+  abbrev sources : List SourceLine
+  sources = numbered text.file.0 (text.line + 1) (map ended lines)
+
+  given : lines_next (Some text) (lines ++ raw ∷ []) ≡ lines_next (Some text) lines ++ record {
+    bytes = slice_range text.source.piece.items ahead.line.from ahead.line.to;
+    place = ahead.line.place;
+  } ∷ []
+  given =
+      let count : text.line + 1 + length (map ended lines) ≡ text.line + 1 + length lines =
+      omega (arith, length-map lines ended) in
+      let moved : here (text.line + 1 + length (map ended lines)) ≡ ahead.line.place = ap here count ∙ sym place in
+      ap (λ (ts : List TextLine). map line_of (numbered text.file.0 (text.line + 1) ts))
+      (map-append ended lines (raw ∷ []))
+      ∙ ap (λ (ls : List SourceLine). map line_of ls)
+      (numbered-append text.file.0 (text.line + 1) (map ended lines) (ended raw ∷ []))
+      ∙ map-append line_of sources (numbered text.file.0 (text.line + 1 + length (map ended lines)) (ended raw ∷ []))
+      ∙ (λ i. map line_of sources ++ record { bytes = sym bytes i; place = moved i } ∷ [])
+
+  pub looks_one : LooksIn entry (Some text) lines ahead
+  looks_one = record {
+    raw = raw;
+    stands = stands;
+    given = given;
+    order = omega (arith, is.forth, to);
+    within = omega (arith, is.before, within, to, text.source.within);
+    line = subst IsOneLine (sym bytes) (trimmed-line raw is.passing.0.clean is.passing.0.short);
+    file = omega (arith, ap (λ (p : Place). p.file.0) place);
+    size = omega (arith, ap (λ (l : List ℕ). length l) bytes, trimmed-length raw);
+    count = omega (arith, stands.is.lines, length-append lines (raw ∷ []));
+    ordered = stands.is.before;
+  }
+
+-- the first line
+pub looks_first : {R : Type 0} (entry : Option Entry) (slot : Option (OpenText R)) (s : Stretch) (line : Lent)
+    (lines : List (List ℕ)) → StandsAt entry slot s lines → s.lines ≡ 1 → Some line ≡ lent_at slot s
+    → LooksIn entry slot [] (record { line = line; stretch = s })
+looks_first entry None s line lines stands one is = absurd stands
+looks_first entry (Some text) s line [] stands one is = absurd (omega (arith, one, stands.is.lines))
+looks_first entry (Some text) s line (raw ∷ more ∷ lines) stands one is =
+    absurd (omega (arith, one, stands.is.lines))
+looks_first entry (Some text) s line (raw ∷ []) stands one is =
+    subst (λ (l : Lent). LooksIn entry (Some text) [] (record { line = l; stretch = s }))
+    (sym (ap (λ (o : Option Lent). unwrap_or o here) is))
+    (looks_one entry text [] raw s (record { line = here; stretch = s }) stands.is stands.within refl place stands)
+  where
+    here : Lent
+    here = record {
+      place = record { file = text.file; line = text.line + 1 };
+      from = text.source.start;
+      to = s.text;
+    }
+
+    count : text.line + 1 ≡ text.line + 1 + 0
+    count = omega arith
+
+    place : here.place ≡ record { file = text.file; line = text.line + 1 + 0 }
+    place = λ i. record { file = text.file; line = count i }
+
+-- a line behind others, of which the last has no blanks at its end
+pub looks_behind : {R : Type 0} (entry : Option Entry) (text : OpenText R) (before next all : Stretch)
+    (lines : List (List ℕ)) → StandsIn entry text before lines → before.text + 1 ≡ before.end
+    → Reaches entry text.may_match text.source.piece.items before.end text.source.end next → next.lines ≡ 1
+    → all.text ≡ next.text → all.end ≡ next.end → all.lines ≡ before.lines + next.lines
+    → LooksIn entry (Some text) lines (record {
+      line = record {
+        place = record { file = text.file; line = text.line + before.lines + 1 };
+        from = before.end;
+        to = next.text;
+      };
+      stretch = all;
+    })
+looks_behind entry text before next all lines stands joins reaches one text_is end_is lines_are = by reaches.0 reaches.1
+  where
+    here : Ahead
+    here = record {
+      line = record {
+        place = record { file = text.file; line = text.line + before.lines + 1 };
+        from = before.end;
+        to = next.text;
+      };
+      stretch = all;
+    }
+
+    count : text.line + before.lines + 1 ≡ text.line + 1 + length lines
+    count = omega (arith, stands.is.lines)
+
+    place : here.line.place ≡ record { file = text.file; line = text.line + 1 + length lines }
+    place = λ i. record { file = text.file; line = count i }
+
+    by : (raws : List (List ℕ)) → IsStretch entry text.may_match text.source.piece.items before.end next raws
+        → LooksIn entry (Some text) lines here
+    by [] is = absurd (omega (arith, one, is.lines))
+    by (raw ∷ more ∷ raws) is = absurd (omega (arith, one, is.lines))
+    by (raw ∷ []) is = looks_one entry text lines raw next here is reaches.2 refl place (record {
+      is = joined entry text.may_match text.source.piece.items text.source.start before next all lines (raw ∷ [])
+          stands.is joins is text_is end_is lines_are;
+      within = omega (arith, end_is, reaches.2);
+    })
+
+-- a line more passes no limit
+pub few_behind : {R : Type 0} (entry : Option Entry) (text : OpenText R) (limits : Limits) (before next : Stretch)
+    (lines : List (List ℕ)) → Fits limits text → text.line ≤ limits.lines → StandsIn entry text before lines
+    → Reaches entry text.may_match text.source.piece.items before.end text.source.end next → next.lines ≡ 1
+    → text.line + before.lines + 1 ≤ LINES
+few_behind entry text limits before next lines fits number stands reaches one = omega (
+  arith,
+  fits.few,
+  number,
+  few_lines lines,
+  stands.is.lines,
+  stands.is.size,
+  reaches.1.forth,
+  reaches.1.before,
+  reaches.2,
+)
+
+room_for : {R : Type 0} (entry : Option Entry) (limits : Limits) (slot : Option (OpenText R)) (s : Stretch)
+    (lines : List (List ℕ)) → FitsAt limits slot → StandsAt entry slot s lines → HasRoomFor limits lines
+room_for entry limits None s lines fits stands = absurd stands
+room_for entry limits (Some text) s lines fits stands = record {
+  few = omega (arith, fits.few, few_lines lines, stands.is.size, stands.within);
+  small = omega (arith, fits.small, stands.is.size, stands.within);
+}
+
+-- lines of the deepest text come next
+pub looks_at : {R : Type 0} (run : Run R) (before : List (List ℕ)) (ahead : Ahead) → IsSettled run.stage
+    → floor_of run.stage < run.stack.depth → FitsAt run.limits (top_of run.stack)
+    → LooksIn (pending_of run) (top_of run.stack) before ahead → LooksAt run before ahead
+looks_at run before ahead settled above fits looks = record {
+  raw = looks.raw;
+  comes = record {
+    settled = settled;
+    above = above;
+    stands = looks.stands;
+    room = room_for (pending_of run) run.limits (top_of run.stack) ahead.stretch _ fits looks.stands;
+  };
+  given = looks.given;
+  lies = record { some = omega (arith, above); order = looks.order; within = looks.within };
+  line = looks.line;
+  known = omega (arith, looks.file, most_at files_up_to run.stack.texts (run.stack.depth - 1), run.open_known);
+  size = looks.size;
+  count = looks.count;
+  ordered = looks.ordered;
+}
+
+pub looks_next : {R : Type 0} (run : Run R) (slot : Option (OpenText R)) (before : Stretch) (next : Option Ahead)
+    → top_of run.stack ≡ slot → FitsAt run.limits (top_of run.stack)
+    → IfSome next (λ ahead. (lines : List (List ℕ)) → StandsAt (pending_of run) slot before lines
+    → LooksIn (pending_of run) slot lines ahead)
+    → IfSome next (λ ahead. (lines : List (List ℕ)) → ComesNext run before lines → LooksAt run lines ahead)
+looks_next run slot before None same fits looks = tt
+looks_next run slot before (Some ahead) same fits looks = λ lines next.
+    looks_at run lines ahead next.settled next.above fits
+    (subst (λ s. LooksIn (pending_of run) s lines ahead) (sym same)
+    (looks lines (subst (λ s. StandsAt (pending_of run) s before lines) same next.stands)))
+
+pub is_ahead : {R : Type 0} (run : Run R) (before : List (List ℕ)) (ahead : Ahead)
+    → FitsAt run.limits (top_of run.stack) → LooksAt run before ahead → IsAhead run ahead
+is_ahead run before ahead fits looks = record {
+  lines = before ++ looks.raw ∷ [];
+  comes = looks.comes;
+  lies = looks.lies;
+  ordered = looks.ordered;
+  fits = fits;
+}
+
+pub are_ahead : {R : Type 0} (run : Run R) (before : Ahead) (next : Option Ahead) → (is : IsAhead run before)
+    → IfSome next (λ ahead. (lines : List (List ℕ)) → ComesNext run before.stretch lines → LooksAt run lines ahead)
+    → IfSome next (λ ahead. IsAhead run ahead)
+are_ahead run before None is looks = tt
+are_ahead run before (Some ahead) is looks = is_ahead run is.lines ahead is.fits (looks is.lines is.comes)
+
+-- what holds whatever is found
+pub whatever : {A : Type 0} (found : Option A) (P : Type 0) → P → OnSome found P
+whatever None P holds = tt
+whatever (Some x) P holds = holds
+
+-- lines were taken
+pub lends_lines : {R : Type 0} (old new : Run R) (lines : List Line) → GivesLines old new lines → LendsLines old new
+lends_lines old new lines given = record {
+  gives = λ texts left. (lines, given.gives texts left);
+  grows = record {
+    told = told_given _ (told_by old) (told_by new) _ _ (given.gives (λ _. None) (λ _. []));
+    lines = new.limits.few;
+    bytes = new.limits.small;
+  };
+  stopped = given.stopped;
+  readers = given.readers;
+}
+
+pub lends_then : {R : Type 0} (old mid new : Run R) → LendsLines old mid → LendsLines mid new → LendsLines old new
+lends_then old mid new first then = record {
+  gives = λ texts left.
+      (_, gives_both _ _ _ _ _ _ _ _ (first.gives texts left).1 (then.gives texts left).1);
+  grows = record {
+    told = told_then _ _ _ first.grows.told then.grows.told;
+    lines = then.grows.lines;
+    bytes = then.grows.bytes;
+  };
+  stopped = then.stopped ∙ first.stopped;
+  readers = λ opened_as known. then.readers opened_as (first.readers opened_as known);
+}

@@ -1,0 +1,18 @@
+use Rattle.std.proofs.Common.{[], refl}
+use Rattle.cweb_lines.specs.Ahead.{LooksAt}
+use Rattle.cweb_lines.specs.Merging.{pending_of}
+use Rattle.cweb_lines.specs.Passing.{top_of}
+use Rattle.cweb_lines.proofs.Aheads.{is_ahead, looks_at, looks_first}
+use Rattle.cweb_lines.proofs.run.Run.first_ahead.Goals as goal
+
+pub returns-clause-looks : goal.returns-clause-looks
+returns-clause-looks g c =
+    let run = c.args.self.now in
+    let next = c.in-Some.ensures.lines in
+    looks_at run [] _ next.1.settled next.1.above c.in-Some.ensures.fits
+    (looks_first (pending_of run) (top_of run.stack) c.in-Some.stretch c.in-Some-line_at.line next.0 next.1.stands
+    (c.in-Some.ensures.one refl) c.in-Some-line_at.ensures)
+
+pub returns-clause-ahead : goal.returns-clause-ahead
+returns-clause-ahead g c =
+    is_ahead c.args.self.now [] _ c.in-Some.ensures.fits (returns-clause-looks g c)

@@ -1,0 +1,23 @@
+use Rattle.std.proofs.Common.{arith}
+use Rattle.std.proofs.lemmas.List.{length-map}
+use Rattle.cweb_lines.specs.Merging.{pending_of}
+use Rattle.cweb_lines.specs.Passing.{sources_next, top_of}
+use Rattle.cweb_lines.proofs.Aheads.{lends_lines}
+use Rattle.cweb_lines.proofs.GivenLines.{next-length}
+use Rattle.cweb_lines.proofs.run.Run.take_ahead.Goals as goal
+
+pub returns : goal.returns
+returns g c = λ lines next.
+    let run = c.args.self.now in
+    let given = c.advance.ensures.given lines next in
+    record {
+      given = given;
+      bytes = c.advance.ensures.bytes lines next;
+      count = omega (
+        arith,
+        given.counted,
+        next-length (pending_of run) (top_of run.stack) c.args.ahead.stretch lines next.stands,
+        length-map (sources_next (top_of run.stack) lines) (λ source. source.line),
+      );
+      lends = lends_lines run c.advance.new.self _ given;
+    }

@@ -1,0 +1,58 @@
+-- A line of text that has no `@` gives nothing but its place.
+use Rattle.std.proofs.Common.{◌≡◌, ℕ, Bool, true, false, List, [], ◌∷◌, ◌++◌, drop, length, refl, ap, sym, ◌∙◌, subst, arith}
+use Rattle.std.specs.List.{prefix_len}
+use Rattle.std.proofs.Math.Seq.{drop-length}
+use Rattle.cweb_files.specs.declared.place.Place.{Place}
+use Rattle.cweb_lines.specs.Lines.{Line}
+use Rattle.cweb_rules.specs.Lines.{IsLine}
+use Rattle.cweb_rules.specs.declared.context.Context.{Context}
+use Rattle.cweb_rules.specs.declared.context.Context.TheVariants.{Limbo, TeX, Definition, Macro, CText}
+use Rattle.cweb_scan.specs.After.{line_end_in}
+use Rattle.cweb_scan.specs.Fronted.{is_skipped, reads_c}
+use Rattle.cweb_scan.specs.Held.{Held, held, after_line_end, goes_on, gone_to, read_after, TakesBytes, TakesLineEnd}
+use Rattle.cweb_scan.specs.Resume.{Between}
+use Rattle.cweb_scan.specs.State.{State, moved}
+use Rattle.cweb_scan.specs.declared.reader.open.Open.TheVariants as kind
+use Rattle.cweb_scan.proofs.CodeTurns.{skipped_at}
+use Rattle.cweb_scan.proofs.LineBegins.{line_ends}
+use Rattle.cweb_scan.proofs.Taken.{next_taken}
+
+text_ends : (c : Context) (q : Place) (s : State) → reads_c c ≡ false → line_end_in c q s ≡ moved q s
+text_ends Limbo q s text = refl
+text_ends TeX q s text = refl
+text_ends (Definition begun) q s text = refl
+text_ends Macro q s text = absurd (cc text)
+text_ends CText q s text = absurd (cc text)
+
+text_bytes : (line : List ℕ) (h : Held) → prefix_len is_skipped line ≡ length line → h.item ≡ Between
+    → reads_c h.state.context ≡ false → IsLine line → TakesBytes line h h
+text_bytes [] h plain between text clean = record { begun = refl; same = λ later more at. refl }
+text_bytes (b ∷ t) h plain between text clean = record {
+  begun = refl;
+  same = λ later more at.
+      ap (λ (u : List ℕ). goes_on h later (u ++ more)) (sym (drop-length (b ∷ t)))
+      ∙ (skipped_at (length (b ∷ t)) (b ∷ t) h (sym plain) (omega arith) between text clean).taken.same later more at;
+}
+
+pub text_passed : (h new : Held) (line : Line) (lines : List Line) → h.begun ≡ true → h.item ≡ Between
+    → reads_c h.state.context ≡ false → prefix_len is_skipped line.bytes ≡ length line.bytes → IsLine line.bytes
+    → new ≡ gone_to line.place h → read_after new lines ≡ read_after h (line ∷ lines)
+text_passed h new line lines begun between text plain clean is =
+    next_taken h new new line lines begun ended
+    (text_bytes line.bytes new plain (ap (λ (x : Held). x.item) is ∙ between)
+    (ap (λ (x : Held). reads_c x.state.context) is ∙ text) clean)
+  where
+    was : h ≡ held h.state Between
+    was = λ i. record { state = h.state; item = between i; begun = begun i }
+
+    now : new ≡ after_line_end line.place Between h.state
+    now = is ∙ (λ i. record {
+      state = sym (text_ends h.state.context line.place h.state text) i;
+      item = between i;
+      begun = begun i;
+    })
+
+    ended : TakesLineEnd line.place h new
+    ended = subst (λ (x : Held). TakesLineEnd line.place x new) (sym was)
+        (subst (λ (x : Held). TakesLineEnd line.place (held h.state Between) x) (sym now)
+        (line_ends kind.Between [] [] line.place h.state))
