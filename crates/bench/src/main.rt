@@ -74,6 +74,7 @@ fn show_small(rt: &impl Print, alloc: Global) -> Result<()> {
     store::show(rt, alloc, "distinct", SMALL_STORE, "ask")?;
     store::show(rt, alloc, "flood", SMALL_STORE, "ask")?;
     store::show(rt, alloc, "names", SMALL_STORE, "ask")?;
+    store::show(rt, alloc, "name-flood", SMALL_STORE, "ask")?;
     store::show(rt, alloc, "parts", SMALL_STORE, "ask")?;
     outputs::show(rt, alloc, "chain", SMALL_OUTPUT, "print")?;
     outputs::show(rt, alloc, "parts", SMALL_OUTPUT, "print")?;

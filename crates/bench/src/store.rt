@@ -24,6 +24,8 @@ pub enum Shape {
     Flood,
     /// Names, with as many abbreviations.
     Names,
+    /// Names that are all distinct, but alike in their first and last bytes.
+    NameFlood,
     /// Parts of one name.
     Parts,
 }
@@ -35,6 +37,7 @@ impl Shape {
             "distinct" => Some(Shape::Distinct),
             "flood" => Some(Shape::Flood),
             "names" => Some(Shape::Names),
+            "name-flood" => Some(Shape::NameFlood),
             "parts" => Some(Shape::Parts),
             _ => None,
         }
@@ -139,6 +142,7 @@ fn fill(calls: &mut Calls, shape: Shape, vocabulary: &[u8], count: u32) -> Resul
         Shape::Distinct => give_distinct(calls, count),
         Shape::Flood => give_flood(calls, count),
         Shape::Names => give_names(calls, count),
+        Shape::NameFlood => give_name_flood(calls, count),
         Shape::Parts => give_parts(calls, vocabulary, count),
     }
 }
@@ -176,6 +180,15 @@ fn give_names(calls: &mut Calls, count: u32) -> Result<()> {
     give_all(calls, 0, half, How::Prefix)?;
     give_all(calls, 0, count, How::Full)?;
     give_all(calls, half, count, How::Prefix)
+}
+
+// The names differ in the middle alone, where neither the table of the latest ones nor the front of a sorted text looks.
+fn give_name_flood(calls: &mut Calls, count: u32) -> Result<()> {
+    for number in 0..count {
+        let name = format!(in calls.alloc; "the name{number:08}the name")?;
+        calls.occur(name.as_bytes(), How::Full)?;
+    }
+    Ok(())
 }
 
 fn give_all(calls: &mut Calls, first: u32, after: u32, how: How) -> Result<()> {

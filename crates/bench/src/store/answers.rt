@@ -3,12 +3,13 @@
 use crate::store::Shape;
 use cweb_store::{NameId, NameRef, Store, Token};
 
-/// How much a store answers of what it was given much of: the bytes of all its Words, the abbreviations that stand for a name,
+/// How much a store answers of what it was given much of: the bytes of all its Words, the occurrences that stand for a name,
 /// or the parts of the name.
 pub fn of(store: &Store, shape: Shape, count: u32) -> u64 {
     match shape {
         Shape::Words | Shape::Distinct | Shape::Flood => bytes_of_words(store),
         Shape::Names => standing_abbreviations(store, count),
+        Shape::NameFlood => standing_from(store, 0, count),
         Shape::Parts => parts_of_first(store),
     }
 }
