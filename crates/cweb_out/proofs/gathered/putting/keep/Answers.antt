@@ -1,4 +1,4 @@
-use Rattle.std.proofs.Common.{◌++◌, ◌∙◌, ap, append_assoc, arith, take, List, ℕ}
+use Rattle.std.proofs.Common.{◌++◌, ◌∙◌, ap, append_assoc, arith, take, List, ℕ, rules}
 use Rattle.cweb_out.specs.Lent.{blank_where}
 use Rattle.cweb_out.proofs.Overlaps.{front_stays}
 use Rattle.cweb_out.proofs.gathered.putting.keep.Goals as goal
@@ -26,3 +26,9 @@ returns-clause-front c =
     ))
     (c.put_text.ensures.put ∙ ap (λ (t : List ℕ). t ++ text) c.put_blank-begin.ensures.put
     ∙ append_assoc (take c.args.used c.args.bytes.now) (blank_where c.args.is_apart) text)
+
+pub returns-then-used-text-ge-ROOM-clause-kept : goal.returns-then-used-text-ge-ROOM-clause-kept
+returns-then-used-text-ge-ROOM-clause-kept c = search rules
+
+pub returns-then-used-text-ge-ROOM-clause-room : goal.returns-then-used-text-ge-ROOM-clause-room
+returns-then-used-text-ge-ROOM-clause-room c = search rules

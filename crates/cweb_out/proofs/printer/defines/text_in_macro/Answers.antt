@@ -6,3 +6,6 @@ pub returns-in_default : goal.returns-in_default
 returns-in_default c =
     let goes_on : is_line_end c.args.lent.border ≡ false = search rules in
     ap (λ e. cond e (codes " \\\n") c.args.lent.text.now) (sym goes_on)
+
+pub returns-in-LineEnd : goal.returns-in-LineEnd
+returns-in-LineEnd c = search rules

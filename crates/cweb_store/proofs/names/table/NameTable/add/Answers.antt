@@ -1,4 +1,5 @@
 use Rattle.std.proofs.Common.{◌≡◌, ◌<◌, ◌+◌, ◌∙◌, ap, length, arith}
+use Rattle.std.proofs.lemmas.Grind.{common_steps}
 use Rattle.cweb_store.specs.declared.names.table.GivenAs.{GivenAs}
 use Rattle.cweb_store.specs.Calls.{occurrence_of, too_many}
 use Rattle.cweb_store.specs.Names.{with_name}
@@ -62,3 +63,9 @@ returns-clause-added c =
     let g : GivenAs = record { how = c.args.how; is_file = c.args.is_file } in
     rw (c.put.ensures, c.in_ok-number.ensures.added, c.in_ok-reserve.ensures.items, ← c.self.view_is)
     (occurrences-push s.texts s.given.items c.args.name.now g c.self.invariant.count)
+
+pub invariant_of-self-in-Err : goal.invariant_of-self-in-Err
+invariant_of-self-in-Err c = grind (arith, common_steps)
+
+pub returns-in-Err-clause-err : goal.returns-in-Err-clause-err
+returns-in-Err-clause-err c = grind (arith, common_steps)

@@ -1,4 +1,4 @@
-use Rattle.std.proofs.Common.{◌≡◌, length, map, sym, subst, arith, ap, ◌∙◌}
+use Rattle.std.proofs.Common.{◌≡◌, length, map, sym, subst, arith, ap, ◌∙◌, rules}
 use Rattle.std.proofs.lemmas.List.{length-map}
 use Rattle.cweb_store.specs.Packed.{token_in}
 use Rattle.cweb_store.specs.Records.{is_mark_token}
@@ -57,3 +57,6 @@ returns-clause-ok c =
     rw (c.put.ensures, c.in_ok-reserve.ensures.packed, ← c.self.view_is)
     (packs-tokens c.self.inside.texts c.pack.new.texts c.self.inside.records.packed
     (seen c.args.token) c.in_ok-packed.packed c.self.invariant.tokens.packed c.in_ok-packed.ensures.ok)
+
+pub invariant_of-self-in_err-packed : goal.invariant_of-self-in_err-packed
+invariant_of-self-in_err-packed c = search rules

@@ -1,0 +1,8 @@
+use Rattle.std.proofs.Common.{rules}
+use Rattle.cweb_out.proofs.gathered.Gathered.flush.Goals as goal
+
+pub returns-in-Ok-clause-moved : goal.returns-in-Ok-clause-moved
+returns-in-Ok-clause-moved c = search rules
+
+pub returns-in-Ok-clause-empty : goal.returns-in-Ok-clause-empty
+returns-in-Ok-clause-empty c = search rules
