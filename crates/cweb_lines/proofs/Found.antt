@@ -44,18 +44,9 @@ module _ (texts : List ℕ → Option (List ℕ)) (web bytes : List ℕ) (same :
       None ≡ web_at texts web second
   web_none second gone none = none ∙ ap (λ n. under n (texts n)) same ∙ ap (web_at texts web) (sym gone)
 
-  pub web_second : (second : Option (List ℕ)) (name : List ℕ) → second ≡ Some name → None ≡ under bytes (texts bytes) →
-      under name (texts name) ≡ web_at texts web second
-  web_second second name there none = ap (λ f. first_found f (under name (texts name)))
-      (none ∙ ap (λ n. under n (texts n)) same) ∙ ap (web_at texts web) (sym there)
-
 pub OnOk-map : {A E P Q : Type 0} (r : Result A E) → (P → Q) → OnOk r P → OnOk r Q
 OnOk-map (Ok x) f p = f p
 OnOk-map (Err e) f p = p
-
-pub OnErr-map : {A E P Q : Type 0} (r : Result A E) → (P → Q) → OnErr r P → OnErr r Q
-OnErr-map (Ok x) f p = p
-OnErr-map (Err e) f p = f p
 
 pub OnOk-both : {A E P Q T : Type 0} (r : Result A E) → (P → Q → T) → OnOk r P → OnOk r Q → OnOk r T
 OnOk-both (Ok x) f p q = f p q

@@ -107,27 +107,3 @@ lends_line old new s line lines next one is gives bytes more depth piece = recor
 
     same : bytes_in new line ≡ slice_range (piece_of (top_of old.stack)) line.from line.to
     same = ap (λ (p : List ℕ). slice_range p line.from line.to) piece
-
--- no line was lent
-pub lends_none : {R : Type 0} (run : Run R) → LendsLines run run
-lends_none run = record {
-  gives = λ texts left. ([], gives_nothing _ _ _ _ refl refl refl refl);
-  grows = record { told = told_same _ _ refl refl; lines = run.limits.few; bytes = run.limits.small };
-  stopped = refl;
-  readers = λ opened_as known. known;
-}
-
--- one more
-pub lends_more : {R : Type 0} (line : Lent) (old mid new : Run R) → LendsLines old mid → LendsLine line mid new
-    → LendsLines old new
-lends_more line old mid new first then = record {
-  gives = λ texts left.
-      (_, gives_both _ _ _ _ _ _ _ _ (first.gives texts left).1 (then.next texts left));
-  grows = record {
-    told = told_then _ _ _ first.grows.told then.grows.told;
-    lines = then.grows.lines;
-    bytes = then.grows.bytes;
-  };
-  stopped = then.stopped ∙ first.stopped;
-  readers = λ opened_as known. then.readers opened_as (first.readers opened_as known);
-}

@@ -7,10 +7,6 @@ use Rattle.cweb_lines.specs.Writing.{StopsWriting, WritingStops, WritesRest, lea
 use Rattle.cweb_lines.specs.declared.stop.Stop.{Stop}
 use Rattle.cweb_lines.specs.declared.stop.Stop.TheVariants.{ReadFault, LineTooLong, TooMuchText, Memory, WriteFault}
 
-pub no_read_blame : (stop : Stop) → ((file : _) → stop ≡ ReadFault file → ⊥) → read_blame stop ≡ 0
-no_read_blame (ReadFault file) other = absurd (other file refl)
-no_read_blame stop other = refl
-
 pub no_write_blame : (stop : Stop) → StopsReading stop → write_blame stop ≡ 0
 no_write_blame WriteFault reading = absurd reading
 no_write_blame stop reading = refl

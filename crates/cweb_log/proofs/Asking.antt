@@ -16,9 +16,6 @@ abbrev by_shown : List (List ℕ) → Option Shown → Option Asked
 by_shown words shown =
     option_and_then (λ (shown : Shown). option_map (with_shown shown) (names_by (others words))) shown
 
-pub unshown : (words : List (List ℕ)) → words_shown words shown_by_default ≡ None → options_by words ≡ None
-unshown words none = ap (by_shown words) none
-
 pub unnamed : (words : List (List ℕ)) (shown : Shown) → words_shown words shown_by_default ≡ Some shown
     → names_by (others words) ≡ None → options_by words ≡ None
 unnamed words shown some none = ap (by_shown words) some ∙ ap (option_map (with_shown shown)) none

@@ -60,18 +60,6 @@ stem_whole word part is none =
     sym (ap (λ p. if list_any is_dot p then before_last is_dot p else p) (sym is)
     ∙ ap (λ has. if has then before_last is_dot part else part) (has_none 46 part none))
 
--- words that name files are one, two or three
-pub no_names : (words : List (List ℕ)) → slice_get words 0 ≡ None → names_by words ≡ None
-no_names [] none = refl
-no_names (web ∷ words) none = absurd (grind (arith, none))
-
-pub too_many_names : (words : List (List ℕ)) (word : List ℕ) → slice_get words 3 ≡ Some word → names_by words ≡ None
-too_many_names [] word is = refl
-too_many_names (web ∷ []) word is = absurd (grind (arith, is))
-too_many_names (web ∷ change ∷ []) word is = absurd (grind (arith, is))
-too_many_names (web ∷ change ∷ out ∷ []) word is = absurd (grind (arith, is))
-too_many_names (web ∷ change ∷ out ∷ more ∷ rest) word is = refl
-
 some_is : (a b : List ℕ) → Some a ≡ Some b → a ≡ b
 some_is a b is = grind (arith, is)
 

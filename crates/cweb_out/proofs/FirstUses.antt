@@ -28,9 +28,6 @@ pass-on a b c x y = record {
   same = x.same ∙ ap (λ ts. x.before ++ ts) y.same ∙ sym (append_assoc x.before y.before c);
 }
 
-pub pass-none : (a b : List Token) → PassesNoUse a b → list_any is_name b ≡ false → list_any is_name a ≡ false
-pass-none a b x h = ap (list_any is_name) x.same ∙ none-append x.before b x.none h
-
 -- what a list uses does not change where no use is passed over
 not-used : (w : Stored) (t : Token) → is_name t ≡ false → use_of w t ≡ []
 not-used w (spec.Name name) h = cc
@@ -97,10 +94,3 @@ pass-to-use w f q t d x = record {
       ∙ append_assoc x.before (t ∷ run_tokens w q) (runs_tokens w f.rest)
       ∙ ap (λ b. x.before ++ (t ∷ (defs_first b ++ (run_tokens w q ++ runs_tokens w f.rest)))) (sym d);
 }
-
-pub pass-all : (w : Stored) (f : Frame) → f.defs ≡ false → list_any is_name (run_tokens w f.part) ≡ false
-    → f.rest ≡ [] → list_any is_name (suffix w f) ≡ false
-pass-all w f d none e =
-    ap (λ b. list_any is_name (defs_first b ++ (run_tokens w f.part ++ runs_tokens w f.rest))) d
-    ∙ ap (λ ps. list_any is_name (run_tokens w f.part ++ runs_tokens w ps)) e
-    ∙ ap (list_any is_name) (append-nil (run_tokens w f.part)) ∙ none

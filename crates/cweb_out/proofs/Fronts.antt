@@ -4,15 +4,6 @@ use Rattle.std.specs.Prelude.{Result, Ok, Err, IsErr, flat_map}
 use Rattle.std.proofs.lemmas.List.Concat.{flat_map-append}
 use Rattle.cweb_out.specs.Writing.{WritesFront, Wrote}
 
--- a front of a text is a front of a longer text
-pub front_of_more : (old new text rest : List ℕ) → WritesFront old new text → WritesFront old new (text ++ rest)
-front_of_more old new text rest f = record {
-  front = f.front;
-  rest = f.rest ++ rest;
-  written = f.written;
-  whole = ap (λ (t : List ℕ). t ++ rest) f.whole ∙ append_assoc f.front f.rest rest;
-}
-
 -- one text was written, and then another, or a front of it
 pub wrote_more : {A E : Type 0} (old mid new text more : List ℕ) (r : Result A E)
     → mid ≡ old ++ text → Wrote mid new more r → Wrote old new (text ++ more) r
@@ -87,9 +78,6 @@ written_front old mid new text piece rest w f = record {
   whole = w.whole ∙ ap (λ (t : List ℕ). w.front ++ (t ++ rest)) f.whole ∙ simp append_assoc;
 }
 
-pub written_all : (old new text : List ℕ) → Written old new text [] → new ≡ old ++ text
-written_all old new text w = w.written ∙ ap (λ (t : List ℕ). old ++ t) (sym (append-nil w.front) ∙ sym w.whole)
-
 -- the last piece of a text
 pub written_last : {A E : Type 0} (old mid new text piece : List ℕ) (r : Result A E)
     → Written old mid text piece → Wrote mid new piece r → Wrote old new text r
@@ -123,11 +111,6 @@ pub second_failed : {A E : Type 0} (old mid new text first piece rest : List ℕ
 second_failed old mid new text first piece rest r is wrote err f =
     wrote_err old new text r err
     (written_front old mid new text piece rest (record { front = first; written = wrote; whole = is }) f)
-
-pub second_last : {A E : Type 0} (old mid new text first piece : List ℕ) (r : Result A E)
-    → text ≡ first ++ piece → mid ≡ old ++ first → Wrote mid new piece r → Wrote old new text r
-second_last old mid new text first piece r is wrote last =
-    written_last old mid new text piece r (record { front = first; written = wrote; whole = is }) last
 
 pub third_last : {A E : Type 0} (old mid next new text first second piece : List ℕ) (r : Result A E)
     → text ≡ first ++ (second ++ piece) → mid ≡ old ++ first

@@ -15,10 +15,6 @@ use Rattle.cweb_out.specs.Search.{Fits, Looked, Meets, Passes, is_marked, is_ran
 use Rattle.cweb_out.proofs.FirstUses.{same-uses}
 use Rattle.cweb_out.proofs.Ranks.{all-append, and-first, and-second}
 
--- a use more was passed over, or none
-pub passes-none : (w : Stored) (marks : List Mark) (ts : List Token) → Passes w marks ts ts
-passes-none w marks ts = record { before = []; marked = refl; same = refl }
-
 pub passes-more : (w : Stored) (marks : List Mark) (old mid new : List Token) (t : Token) → Passes w marks old mid
     → mid ≡ t ∷ new → list_all (is_marked marks) (use_of w t) ≡ true → Passes w marks old new
 passes-more w marks old mid new t p e h = record {

@@ -6,24 +6,6 @@ use Rattle.cweb_out.specs.Gathering.{Moved}
 use Rattle.cweb_out.specs.Printed.{Adds, AddsBy}
 use Rattle.cweb_out.specs.Writing.{Wrote}
 
-pub moved_none : (old gathered : List ℕ) → Moved old gathered old gathered
-moved_none old gathered = record { front = []; written = sym (append-nil old); whole = refl }
-
-pub moved_all : (old before new after : List ℕ) → new ≡ old ++ before → after ≡ [] → Moved old before new after
-moved_all old before new after written none = record {
-  front = before;
-  written = written;
-  whole = sym (append-nil before) ∙ ap (λ (t : List ℕ). before ++ t) (sym none);
-}
-
-pub moved_some : (old before new after : List ℕ) (n : ℕ)
-    → new ≡ old ++ take n before → after ≡ drop n before → Moved old before new after
-moved_some old before new after n written rest = record {
-  front = take n before;
-  written = written;
-  whole = sym (take-append-drop n before) ∙ ap (λ (t : List ℕ). take n before ++ t) (sym rest);
-}
-
 -- what a sink has and what is gathered for it stay the same, taken together
 pub moved_same : (old before new after : List ℕ) → Moved old before new after → new ++ after ≡ old ++ before
 moved_same old before new after m =

@@ -37,9 +37,6 @@ apart_by_class (Head n) t = refl
 apart_by_class (Tail n) t = refl
 apart_by_class (Mark p) t = refl
 
-none_apart : (t : Token) → is_apart class.LineStart t ≡ false
-none_apart t = refl
-
 pub sep_by_class : (l : Option Token) (t : Token) → sep l t ≡ separator (class_of l) t
 sep_by_class None t = refl
 sep_by_class (Some u) t = ap (λ b. cond b (codes " ") []) (apart_by_class u t)

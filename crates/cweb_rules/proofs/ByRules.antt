@@ -31,8 +31,3 @@ c_front-by effect takes_sign includes t =
     (by_test f (includes && starts_include t) _ _ _
     (by_test f (starts_number t) _ _ _
     (by_test f (first_is is_word_byte t) _ _ _ refl))))))))))
-
-pub text_front-by : (effect : ℕ → Effect) (t : List ℕ) → text_front effect t ≡ text_front_by effect t (text_rule t)
-text_front-by effect t =
-    let f : TextRule → Front = text_front_by effect t in
-    by_test f (starts_section t) _ _ _ (by_test f (begins (codes "@") t) _ _ _ refl)

@@ -154,13 +154,3 @@ passed_front t p =
     else (if p.section i then section_at t
     else (if p.code i then code_at in_c false t
     else after_passed t)))))
-
--- the rules after Blanks
-abbrev pub not_blank : List ℕ → Front
-not_blank t =
-    if first_is is_line_end t then front LineEnd 1
-    else (if begins (codes "/*") t then comment_at t
-    else (if begins (codes "//") t then line_comment_at t
-    else (if starts_section t then section_at t
-    else (if begins (codes "@") t then code_at in_c false t
-    else after_passed t))))

@@ -66,11 +66,6 @@ longest_stays joins (p ∷ ps) b t more j seam =
     ap (λ v. max (cond v (length p) 1) (longest ps (b ∷ t ++ more))) (begins_stays joins p b t more js.0 seam)
     ∙ ap (λ n. max (cond (begins p (b ∷ t)) (length p) 1) n) (longest_stays joins ps b t more js.1 seam)
 
-pub run_stays : (p : ℕ → Bool) (t more : List ℕ) → first_is p more ≡ false → prefix_len p (t ++ more) ≡ prefix_len p t
-run_stays p [] [] h = refl
-run_stays p [] (b ∷ more) h = ap (λ v. cond v (1 + prefix_len p more) 0) h
-run_stays p (b ∷ t) more h = ap (λ n. cond (p b) (1 + n) 0) (run_stays p t more h)
-
 pub neither : (a b : Bool) → (a || b) ≡ false → (a ≡ false) × (b ≡ false)
 neither true b e = cc
 neither false b e = (refl, e)

@@ -35,11 +35,6 @@ before_first test xs (Some at) first =
     sym (prefix_len_is (λ b. not (test b)) xs at 0 (omega (arith, first.0.high))
     (λ k lt. not_passed (test (get_or xs k 0)) (first.0.before k (omega arith) lt)) (λ lt. ap not first.1))
 
-pub before_first-within : (test : ℕ → Bool) (xs : List ℕ) (r : Option ℕ)
-    → IsFirstByte test xs r → unwrap_or r (length xs) ≤ length xs
-before_first-within test xs r first =
-    subst (λ n. n ≤ length xs) (sym (before_first test xs r first)) (prefix_len-le-length (λ b. not (test b)) xs)
-
 -- UNITS OF ONE BYTE
 
 pub is_not : (v : Bool) → not v ≡ true → v ≡ false

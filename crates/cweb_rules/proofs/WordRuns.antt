@@ -5,18 +5,6 @@ use Rattle.std.specs.List.{prefix_len}
 use Rattle.std.proofs.lemmas.List.{length-drop}
 use Rattle.cweb_rules.specs.Bytes.{is_word_byte}
 
--- one of the first k bytes ends the run
-pub run_short : (k : ℕ) (u : List ℕ) → k ≤ length u → prefix_len is_word_byte (take k u) < k
-    → prefix_len is_word_byte u ≡ prefix_len is_word_byte (take k u)
-run_short zero u long h = absurd (omega (arith, h))
-run_short (suc k) [] long h = absurd (omega (arith, long))
-run_short (suc k) (b ∷ t) long h = (elim (is_word_byte b) as (λ v.
-    (if v then 1 + prefix_len is_word_byte (take k t) else 0) < suc k
-    → (if v then 1 + prefix_len is_word_byte t else 0) ≡ (if v then 1 + prefix_len is_word_byte (take k t) else 0)) [
-      | true ↦ λ g. ap (λ n. 1 + n) (run_short k t (omega (arith, long)) (omega (arith, g)))
-      | false ↦ λ g. refl
-    ]) h
-
 -- none of them does
 run_full : (k : ℕ) (u : List ℕ) → k ≤ prefix_len is_word_byte (take k u)
     → prefix_len is_word_byte u ≡ k + prefix_len is_word_byte (drop k u)

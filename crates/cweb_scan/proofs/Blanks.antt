@@ -35,7 +35,8 @@ run_taken (b ∷ t) s line h = (elim (is_blank b) as (λ v.
     ]) refl
 
 -- the first byte of a run that gives nothing
-first_taken : (m : ℕ) (u : List ℕ) (a : Held) → 1 ≤ length u → Takes (1 + m) u a a → Takes m (drop 1 u) a a → Takes 1 u a a
+first_taken : (m : ℕ) (u : List ℕ) (a : Held) → 1 ≤ length u
+    → Takes (1 + m) u a a → Takes m (drop 1 u) a a → Takes 1 u a a
 first_taken m u a some x y = record {
   begun = refl;
   within = some;

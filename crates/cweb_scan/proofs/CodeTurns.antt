@@ -130,57 +130,6 @@ plain_front c includes u head section at plain =
 
 -- NAMES
 
-same_name : (e : Effect) → is_named e ≡ is_name e
-same_name Named = refl
-same_name effect.Letter = refl
-same_name effect.ControlText = refl
-same_name effect.Verbatim = refl
-same_name effect.Constant = refl
-same_name Nothing = refl
-same_name Define = refl
-same_name Format = refl
-same_name Program = refl
-same_name InsertDefs = refl
-same_name Joins = refl
-same_name GiveAt = refl
-same_name (Faulty k) = refl
-
-pick : (v : Bool) (x y : Effect) → is_named x ≡ false → is_named y ≡ false → is_named (if v then x else y) ≡ false
-pick true x y f g = f
-pick false x y f g = g
-
-limbo_plain : (b : ℕ) → is_named (in_limbo b) ≡ false
-limbo_plain b =
-    pick (is_one_of (codes "@fs") (lower b)) _ _ refl
-    (pick (is_one_of (codes "q") (lower b)) _ _ refl (pick (is_one_of (codes "l") (lower b)) _ _ refl refl))
-
--- where a code names, names stand there, and its letter is one of the two
-named_letter : (c : Context) (b : ℕ) → is_named (effect_in c b) ≡ true
-    → (reads_names c ≡ true) × (((60 == b) || (40 == b)) ≡ true)
-named_letter Limbo b h = let wrong : true ≡ false = sym h ∙ limbo_plain b in cc
-named_letter TeX b h = (refl, text_named b h)
-named_letter (Definition begun) b h = (refl, text_named b h)
-named_letter Macro b h = (refl, macro_named b h)
-named_letter CText b h = (refl, c_named b h)
-
-pub name_reads : (c : Context) (b : ℕ) → is_name (effect_in c b) ≡ true → reads_names c ≡ true
-name_reads c b h = (named_letter c b (same_name (effect_in c b) ∙ h)).0
-
-other : (x y : Bool) → (x || y) ≡ true → (x && true) ≡ false → (y && true) ≡ true
-other true y h f = cc
-other false true h f = refl
-other false false h f = h
-
--- a name that isn't begun by `@<` is a file's
-pub name_or_file : (c : Context) (u : List ℕ) → starts_section u ≡ false → begins (codes "@") u ≡ true
-    → is_name (effect_in c (get_or u 1 0)) ≡ true → begins (codes "@<") u ≡ false → begins (codes "@(") u ≡ true
-name_or_file c u section at name angle =
-    let b = get_or u 1 0 in
-    let shape = code_shape u section at in
-    let f : ((60 == b) && true) ≡ false = subst (λ (x : List ℕ). begins (codes "@<") x ≡ false) (sym shape) angle in
-    subst (λ (x : List ℕ). begins (codes "@(") x ≡ true) shape
-    (other (60 == b) (40 == b) (named_letter c b (same_name (effect_in c b) ∙ name)).1 f)
-
 -- LIMBO AND TEXT
 
 text_is : (c : Context) → reads_c c ≡ false → is_text c ≡ true
@@ -211,17 +160,6 @@ skipped_at n u h is some none text line =
           subst (λ k. Takes k u (between h.state h.begun) (between h.state h.begun)) (sym is)
           (skipped_takes h.state h.begun u (text_is h.state.context text) line);
     })
-
--- nothing stands before an `@`
-pub none_skipped : (u : List ℕ) → 1 ≤ length u → prefix_len is_skipped u ≡ 0 → begins (codes "@") u ≡ true
-none_skipped [] some h = absurd (omega (arith, some))
-none_skipped (b ∷ t) some h =
-    (elim (b == 64) as (λ v.
-    (b == 64) ≡ v → (if not v then 1 + prefix_len is_skipped t else 0) ≡ 0
-    → begins (codes "@") (b ∷ t) ≡ true) [
-      | true ↦ λ e g. ap (λ n. begins (codes "@") (n ∷ t)) (eqb-true b 64 e)
-      | false ↦ λ e g. absurd (omega (arith, g))
-    ]) refl h
 
 pub section_text : (c : Context) (includes : Bool) (u : List ℕ) → reads_c c ≡ false
     → starts_section u ≡ true → (front_in c includes u ≡ section_at u) × (opens_in c u ≡ false)

@@ -85,15 +85,6 @@ begins_next kind d us s true place new h is = record {
 }
 begins_next kind d us s false place new h is = absurd (cc h)
 
--- the first line begins
-pub begins_first : (old : Held) (place : Place) (new : Held)
-    → old.begun ≡ false → new ≡ begun_at place → BeginsLine place old new
-begins_first old place new h is = record {
-  first = λ none. is;
-  next = λ begun. absurd (cc (sym h ∙ begun));
-  adds = omega (arith, ap cost is);
-}
-
 -- a line that has begun is taken once its bytes are
 pub line_taken : (old mid new : Held) (line : Line) (lines : List Line) → BeginsLine line.place old mid
     → TakesBytes line.bytes mid new → read_after new lines ≡ read_after old (line ∷ lines)

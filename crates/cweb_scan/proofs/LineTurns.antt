@@ -60,14 +60,6 @@ pub record TakesFront (line rest : List ℕ) (old new : Held) : Type 0 where
   pub taken : Takes size line old new
   pub last : awaits_line_end new.item ≡ true → length rest ≡ 0
 
-pub front_begins : (line : List ℕ) (h : Held) → awaits_line_end h.item ≡ false → TakesFront line line h h
-front_begins line h within = record {
-  size = 0;
-  rest_is = refl;
-  taken = takes_none line h;
-  last = λ e. let wrong : true ≡ false = sym e ∙ within in cc;
-}
-
 pub front_goes_on : (n : ℕ) (line rest after : List ℕ) (old mid new : Held) → after ≡ drop n rest
     → TakesFront line rest old mid → TakesTurn n rest mid new → TakesFront line after old new
 front_goes_on n line rest after old mid new is f t = record {
@@ -92,13 +84,3 @@ front_within line rest old new f some =
       | true ↦ λ e. absurd (omega (arith, f.last e, some))
       | false ↦ λ e. refl
     ]) refl
-
-pub front_cost : (line rest : List ℕ) (old new : Held)
-    → TakesFront line rest old new → cost new ≤ cost old + 3 * length line
-front_cost line rest old new f = omega (arith, f.taken.adds, f.taken.within)
-
-pub front_all : (line rest : List ℕ) (old new : Held)
-    → TakesFront line rest old new → length rest ≡ 0 → TakesBytes line old new
-front_all line rest old new f none =
-    takes_all f.size line old new
-    (omega (arith, none, ap (λ (u : List ℕ). length u) f.rest_is, length-drop f.size line)) f.taken

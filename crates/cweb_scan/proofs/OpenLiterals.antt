@@ -75,13 +75,6 @@ pub literal_stays : (begun : Place) (quote : ℕ) (us : List ℕ) (t more : List
 literal_stays begun quote us t more m stop w h =
     quoted_stays (look_in_literal quote) begun us t more m (literal-local quote more stop) w h
 
-pub literal_backslash : (begun : Place) (quote : ℕ) (us : List ℕ) (t more : List ℕ) (m : Reading)
-    → IsWhole (look_in_literal quote) 0 t → is_open (reach (look_in_literal quote) Open t).how ≡ true
-    → resume (InLiteral begun quote us) (t ++ 92 ∷ more) m
-    ≡ resume (AfterBackslash begun quote (us ++ text_in (reach (look_in_literal quote) Open t).units))
-    more (fold literal_unit m (reach (look_in_literal quote) Open t).units)
-literal_backslash begun quote us t more m w h = literal_stays begun quote us t (92 ∷ more) m refl w h
-
 -- a raw literal
 pub raw_stays : (begun : Place) (d : List ℕ) (us : List ℕ) (t more : List ℕ) (m : Reading)
     → list_all in_line (sign_of d) ≡ true → AtLineEnd more

@@ -37,46 +37,6 @@ named begun is_file us how sign n t m =
 abbrev sign_size : Reading → ℕ → ℕ
 sign_size m sign = if takes_sign m.state then sign else 0
 
--- a name that goes on after the line
-pub name_stays : (begun : Place) (is_file : Bool) (us : List ℕ) (t more : List ℕ) (m : Reading)
-    → AtLineEnd more → IsLine t → is_open (reach look_in_name Open t).how ≡ true
-    → resume (InName begun is_file us) (t ++ more) m
-    ≡ resume (InName begun is_file (us ++ text_in (reach look_in_name Open t).units)) more m
-name_stays begun is_file us t more m e line h =
-    let w = whole look_in_name name-units t in
-    let vs = (reach look_in_name Open t).units in
-    let r = items.name more in
-    let sign = sign_after r.how (drop (size_of r) more) in
-    let n = size_of r + sign_size m sign in
-    let f : length t + size_of r + sign_size m sign ≡ length t + n = omega arith in
-    ap (λ (v : Reach). end_name begun is_file us v (sign_after v.how (drop (size_of v) (t ++ more))) (t ++ more) m)
-    (reach-open look_in_name Cut t more (name-local more e) w h)
-    ∙ ap (λ k.
-    let g = sign_after r.how (drop k (t ++ more)) in
-    named begun is_file (us ++ text_in (vs ++ r.units)) r.how g (k + sign_size m g) (t ++ more) m)
-    (sizes vs t r (open_body look_in_name t w h))
-    ∙ ap (λ u.
-    let g = sign_after r.how u in
-    named begun is_file (us ++ text_in (vs ++ r.units)) r.how g
-    ((length t + size_of r) + sign_size m g) (t ++ more) m)
-    (drop-append-add t more (size_of r))
-    ∙ ap (λ k. named begun is_file (us ++ text_in (vs ++ r.units)) r.how sign k (t ++ more) m) f
-    ∙ ap (λ u.
-    run (on (occurrence is_file (us ++ text_in (vs ++ r.units)) r.how (nat_lt 0 sign) begun)
-    (each_line_end moved u m))
-    (drop (length t + n) (t ++ more)))
-    (take-append-add t more n)
-    ∙ ap (λ k.
-    run (on (occurrence is_file (us ++ text_in (vs ++ r.units)) r.how (nat_lt 0 sign) begun) k)
-    (drop (length t + n) (t ++ more)))
-    (each-line moved t (take n more) m line)
-    ∙ ap (λ u.
-    run (on (occurrence is_file (us ++ text_in (vs ++ r.units)) r.how (nat_lt 0 sign) begun)
-    (each_line_end moved (take n more) m))
-    u)
-    (drop-append-add t more n)
-    ∙ ap (λ x. named begun is_file x r.how sign n more m) (text_more us vs r.units)
-
 sign_size-fits : (m : Reading) (n : ℕ) → sign_size m n ≤ n
 sign_size-fits m n =
     elim (takes_sign m.state) as (λ v. (if v then n else 0) ≤ n) [ true ↦ omega arith | false ↦ omega arith ]

@@ -157,18 +157,6 @@ unit-weight s u =
     elim (bytes_eq u (codes "@")) as (λ v. weight (if v then fault DoubleAtInString s else s) ≤ weight s)
     [ true ↦ omega arith | false ↦ omega arith ]
 
--- a line's last byte that is a `\`
-pub literal_waits : (s : State) (g : Bool) (begun : Place) (quote : ℕ) (us u : List ℕ) → u ≡ 92 ∷ []
-    → TakesOpen 1 u (opened s g (InLiteral begun quote us)) (opened s g (AfterBackslash begun quote us))
-literal_waits s g begun quote us u is =
-    subst (λ (t : List ℕ).
-    TakesOpen 1 t (opened s g (InLiteral begun quote us)) (opened s g (AfterBackslash begun quote us)))
-    (sym is) (record {
-      takes = record { begun = refl; within = omega arith; adds = omega arith; same = λ later more e. refl };
-      moves = λ h. omega arith;
-      last = λ h. omega arith;
-    })
-
 pub literal_takes : (s : State) (g : Bool) (begun : Place) (quote : ℕ) (us : List ℕ) (v : Look) (u : List ℕ)
     → MovesOn v → IsLine u → 1 ≤ length u → look_in_literal quote u ≡ v → look_size v ≤ length u
     → TakesOpen (look_size v) u (opened s g (InLiteral begun quote us))

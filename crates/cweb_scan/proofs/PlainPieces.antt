@@ -97,12 +97,6 @@ token_gives r p t h plain e =
     subst (λ q. HasRead r.state (item p.kind p.bytes q).state (solid (t ∷ [])))
     (sym (entered r p.kind h)) (item_gives r p.kind p.bytes t h plain e)
 
--- blanks leave the reading as it is
-pub blanks_give : (r : Reading) (bytes : List ℕ) → InPlainC r.state
-    → after r (record { kind = kind.Blanks; bytes = bytes }) ≡ r
-blanks_give r bytes h =
-    ap (on blank) (entered r kind.Blanks h) ∙ ap (λ s. record r { state = s }) (blank_gives r.state h)
-
 pub line_end_gives : (r : Reading) (bytes : List ℕ) → InPlainC r.state
     → HasRead r.state (after r (record { kind = kind.LineEnd; bytes = bytes })).state []
 line_end_gives r bytes h =

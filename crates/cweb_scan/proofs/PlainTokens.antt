@@ -114,10 +114,6 @@ quiet_decimal n = quiet_onto 64 n [] refl
 
 -- TOKENS
 
-clean_closed : (v : Bool) (b : List ℕ) (u : Token) → cond v (Some (Literal b)) None ≡ Some u → Literal b ≡ u
-clean_closed true b u t = is_that (Literal b) u t
-clean_closed false b u t = cc
-
 -- the kind of a token, and what is known of it by its kind
 pub record Kinded (k : Kind) (d : List ℕ) (u : Token) : Type 0 where
   pub token : is_token k ≡ true

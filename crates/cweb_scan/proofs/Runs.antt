@@ -149,16 +149,6 @@ raw_run s g begun d us n u clean line some is = record {
   last = λ w. cc;
 }
 
--- as the code makes the text longer
-pub item_grown : (o : Open) (d t x : List ℕ)
-    → item_of o d (t ++ x) ≡ with_text (text_of (item_of o d t) ++ x) (item_of o d t)
-item_grown code.Between d t x = refl
-item_grown (code.Comment begun) d t x = refl
-item_grown (code.Name begun is_file) d t x = refl
-item_grown (code.Literal begun quote) d t x = refl
-item_grown (code.AfterBackslash begun quote) d t x = refl
-item_grown (code.Raw begun) d t x = refl
-
 pub run_at : (n : ℕ) (u : List ℕ) (h new : Held) (at : List ℕ → Item)
     → h.item ≡ at (text_of h.item) → new ≡ with_run n u h
     → with_text (text_of h.item ++ take n u) (at (text_of h.item)) ≡ at (text_of h.item ++ take n u)

@@ -49,10 +49,6 @@ moved-adds p s = record { tokens_are = omega arith; bytes_are = omega arith }
 pub fault-adds : (k : ScanKind) (p : Place) (s : State) → Adds 0 0 s (fault_at k p s)
 fault-adds k p s = record { tokens_are = omega arith; bytes_are = omega arith }
 
--- in a context in which no more is due
-enters : (c : Context) (s : State) → due c ≤ due s.context → Adds 0 0 s (record s { context = c })
-enters c s h = record { tokens_are = omega (arith, h); bytes_are = omega arith }
-
 pub opens : (kind : PartKind) (s : State) → Adds 0 0 s (record s { contents = with_open kind s.contents })
 opens kind s =
     record {

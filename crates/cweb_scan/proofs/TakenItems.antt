@@ -95,26 +95,3 @@ pub taken : (s : State) (later : List Place) (b : ℕ) (t more : List ℕ)
     ≡ run (reading (state_after s (first (reading s []) (b ∷ t))) later)
     (drop (front_of s (b ∷ t)).size (b ∷ t) ++ more)
 taken s later b t more h e ends = taken_item s later b t more e ends (stands s.context (names_include s) b t h)
-
--- a head with a literal, one that goes on after the line too: the definition is dropped, and text goes on
-no_name : (t : List ℕ) → IsPast t → text_opens in_text t ≡ false
-no_name t p = λ i. if p.section i then false else (if p.code i then opens_code in_text t else false)
-
-pub head_raw_line : (b : ℕ) (t more : List ℕ) → AtLineEnd more → IsPast (b ∷ t)
-    → starts_raw (b ∷ t) ≡ true → head_front (b ∷ t ++ more) ≡ head_front (b ∷ t)
-head_raw_line b t more e p h =
-    let u = b ∷ t in
-    ap (λ (f : Front). head_as f.kind f (u ++ more))
-    (c_front_raw in_macro true false (u ++ more) (past-line b t more e p) (starts_raw_line u more e ∙ h))
-    ∙ text_front_line in_text b t more e (no_name u p)
-    ∙ sym (ap (λ (f : Front). head_as f.kind f u) (c_front_raw in_macro true false u p h))
-
-pub head_literal_line : (b : ℕ) (t more : List ℕ) → AtLineEnd more → IsPast (b ∷ t) → starts_raw (b ∷ t) ≡ false
-    → starts_literal (b ∷ t) ≡ true → head_front (b ∷ t ++ more) ≡ head_front (b ∷ t)
-head_literal_line b t more e p g h =
-    let u = b ∷ t in
-    ap (λ (f : Front). head_as f.kind f (u ++ more))
-    (c_front_literal in_macro true false (u ++ more) (past-line b t more e p)
-    (starts_raw_line u more e ∙ g) (starts_literal_line u more e ∙ h))
-    ∙ text_front_line in_text b t more e (no_name u p)
-    ∙ sym (ap (λ (f : Front). head_as f.kind f u) (c_front_literal in_macro true false u p g h))

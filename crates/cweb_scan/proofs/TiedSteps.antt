@@ -50,13 +50,6 @@ last_twice (x ∷ ts) = before_twice x (without_last is_layout ts) (last_twice t
 
 -- WHAT IS TIED
 
-is_part : (c : Context) → spec.is_c c ≡ true → has_part c ≡ true
-is_part Limbo h = cc
-is_part TeX h = cc
-is_part (Definition begun) h = cc
-is_part Macro h = refl
-is_part CText h = refl
-
 solid_given : (d l : Directive) (ts : List Token) (t : Token)
     → d ≡ after_tokens ts → l ≡ after_tokens (without_last is_layout ts)
     → (if is_layout t then l else step d t) ≡ after_tokens (without_last is_layout (ts ++ t ∷ []))
@@ -99,19 +92,6 @@ tied_dropped d l c (Some p) tied = record {
       (sym (last_twice p.tokens) ∙ ap (without_last is_layout) (sym (dropped_tokens p (tied.is_no_macro e))));
 }
 
-pub tied_opened : (c : Context) (kind : PartKind) → has_part c ≡ true → (spec.is_c c ≡ true → is_macro kind ≡ false)
-    → IsTied outside outside c (Some (record { kind = kind; tokens = [] }))
-tied_opened c kind h k =
-    record { part_is_open = sym h; is_no_macro = k; directive_is = λ e. refl; solid_is = λ e. refl }
-
-pub tied_closed : (d l : Directive) (c : Context) → has_part c ≡ false → IsTied d l c None
-tied_closed d l c h = record {
-  part_is_open = sym h;
-  is_no_macro = λ e. let wrong : true ≡ false = sym (is_part c e) ∙ h in cc;
-  directive_is = λ e. let wrong : true ≡ false = sym (is_part c e) ∙ h in cc;
-  solid_is = λ e. let wrong : true ≡ false = sym (is_part c e) ∙ h in cc;
-}
-
 -- INCLUDED NAMES
 
 bare_includes : (ts : List Token) → is_bare ts ≡ true → is_include ts ≡ false
@@ -143,26 +123,3 @@ include-seen (Some ts) = include_when (is_bare ts) (is_include ts) (bare_include
 pub outside-seen : (o : Option (List Token)) → not (is_outside (stage_of o)) ≡ is_some o
 outside-seen None = refl
 outside-seen (Some ts) = ap not (not_outside (is_bare ts) (is_include ts))
-
-blank_last : (v : Bool) → is_blank_kept (if v then last.Backslash else last.Other) ≡ false
-blank_last true = refl
-blank_last false = refl
-
-pub blank-seen : (o : Option Token) → is_blank_kept (last_seen o) ≡ spec.is_blank o
-blank-seen None = refl
-blank-seen (Some (Punct b)) = blank_last (bytes_eq b (codes "\\"))
-blank-seen (Some Newline) = refl
-blank-seen (Some (Mark p)) = refl
-blank-seen (Some Blank) = refl
-blank-seen (Some (Word b)) = refl
-blank-seen (Some (Number b)) = refl
-blank-seen (Some (Literal b)) = refl
-blank-seen (Some (Verbatim b)) = refl
-blank-seen (Some Join) = refl
-blank-seen (Some Defs) = refl
-blank-seen (Some (Name n)) = refl
-blank-seen (Some (Head n)) = refl
-blank-seen (Some (Tail n)) = refl
-
-pub line_tests : (a b : ℕ) → (nat_lt a b && (b - a == 1)) ≡ (a + 1 == b)
-line_tests a b = grind (arith, nat_tests)

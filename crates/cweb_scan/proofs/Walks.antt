@@ -35,11 +35,6 @@ units_on look e n (b ∷ t) some moves h =
     (reach_in-drop look e (n - 1) t ∙ ap (λ k. reach look e (drop k (b ∷ t))) (sym same)
     ∙ ap (reach look e) (sym (drop_min n (b ∷ t))))
 
-pub units_ended : (look : List ℕ → Look) (e how : End) (n : ℕ) (t : List ℕ)
-    → look t ≡ Ends n how → (reach look e t).units ≡ []
-units_ended look e how n [] h = refl
-units_ended look e how n (b ∷ t) h = ap (λ v. (at_front look v (b ∷ t) e t).units) h
-
 -- the same, where the code has cut off the first unit
 pub units_from : (look : List ℕ → Look) (e : End) (n m : ℕ) (t unit after : List ℕ) → look t ≡ Goes n
     → 0 < n → 0 < length t → m ≡ min n (length t) → unit ≡ take m t → after ≡ drop m t

@@ -136,12 +136,6 @@ known-at (n ∷ ns) (suc i) q d h =
       | false ↦ λ e. (rest.0, omega (arith, rest.1))
     ]) refl
 
-pub has-text-in : (ns : List KnownName) (i : ℕ) (q : List ℕ)
-    → has_text_at (names_in ns) i q ≡ elim (slice_get ns i) [ Some n ↦ bytes_eq n.text.items q | None ↦ false ]
-has-text-in [] i q = refl
-has-text-in (n ∷ ns) zero q = refl
-has-text-in (n ∷ ns) (suc i) q = has-text-in ns i q
-
 -- one more name begins with a prefix, or not
 beginning-push : (i : ℕ) (p : List ℕ) (ns : List Name) (n : Name) (j : ℕ) → j ≡ i + length ns →
     found_of (beginning_from i p (ns ++ n ∷ []))

@@ -48,11 +48,6 @@ texts-at bytes n [] k d h = absurd (let none : ⊥ = omega arith in none)
 texts-at bytes n (e ∷ es) zero d h = refl
 texts-at bytes n (e ∷ es) (suc k) d h = texts-at bytes e es k d (omega arith)
 
-pub begin-at : (n : ℕ) (ends : List ℕ) (k d : ℕ) → k < length ends → begin_of n ends (suc k) ≡ slice_index_or ends k d
-begin-at n [] k d h = absurd (let none : ⊥ = omega arith in none)
-begin-at n (e ∷ es) zero d h = refl
-begin-at n (e ∷ es) (suc k) d h = begin-at e es k d (omega arith)
-
 pub ends-at : (n all : ℕ) (ends : List ℕ) (k d : ℕ) → AreEnds n ends all → k < length ends
     → (begin_of n ends k ≤ slice_index_or ends k d) × (slice_index_or ends k d ≤ all)
 ends-at n all [] k d tied h = absurd (let none : ⊥ = omega arith in none)
@@ -70,11 +65,13 @@ pub limits-begin : (limits : List ℕ) (k d : ℕ) → IsFromStart limits → k 
 limits-begin [] k d start h = absurd (let none : ⊥ = omega arith in none)
 limits-begin (n ∷ ends) k d start h = limit-begin n ends k d h ∙ ap (λ m. begin_of m ends k) start
 
-pub limits-end : (limits : List ℕ) (k m d : ℕ) → m ≡ suc k → slice_index_or limits m d ≡ slice_index_or (drop 1 limits) k d
+pub limits-end : (limits : List ℕ) (k m d : ℕ) → m ≡ suc k
+    → slice_index_or limits m d ≡ slice_index_or (drop 1 limits) k d
 limits-end [] k m d is = refl
 limits-end (n ∷ ends) k m d is = ap (λ i. slice_index_or (n ∷ ends) i d) is
 
-pub limits-length : (limits : List ℕ) (k : ℕ) → k < length (drop 1 limits) → length limits ≡ suc (length (drop 1 limits))
+pub limits-length : (limits : List ℕ) (k : ℕ) → k < length (drop 1 limits)
+    → length limits ≡ suc (length (drop 1 limits))
 limits-length [] k h = absurd (let none : ⊥ = omega arith in none)
 limits-length (n ∷ ends) k h = refl
 

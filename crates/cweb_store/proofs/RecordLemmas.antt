@@ -145,16 +145,6 @@ first-mark zero (r ∷ rs) k n end there all =
     subst (IsAt n) same all.0
 first-mark (suc i) (r ∷ rs) k n end there all = first-mark i rs k n end there all
 
-pub not-mark : (i : ℕ) (rs : List Record) (r : Record) (n end : ℕ) → slice_get rs i ≡ Some r → has_place r ≡ false
-    → AreNumbered n (drop i rs) end → AreNumbered n (drop (suc i) rs) end
-not-mark i [] r n end there none all = cc
-not-mark zero (q ∷ rs) r n end there none all =
-    let same : q ≡ r = cc in
-    let nothing : places_of r ≡ 0 = ap (λ b. let k : ℕ = cond b 1 0 in k) none in
-    let stays : n + places_of q ≡ n = omega (arith, ap places_of same, nothing) in
-    subst (λ k. AreNumbered k rs end) stays all.1
-not-mark (suc i) (q ∷ rs) r n end there none all = not-mark i rs r n end there none all
-
 -- what a record lends is told without the places, and so is whether its text is among so many
 pub lends-alone : (texts : List (List ℕ)) (places : List Place) (r : Record)
     → lends (token_in texts (packed_in [] r)) ≡ lends (token_in texts (packed_in places r))

@@ -221,10 +221,6 @@ pub free-any : (texts : List (List ℕ)) (n : ℕ) (q : List ℕ)
 free-any texts zero q = refl
 free-any texts (suc n) q = free-any texts n q
 
-pub free-words : (texts : List (List ℕ)) (n : ℕ) → slot_words texts (replicate n free_slot) ≡ []
-free-words texts zero = refl
-free-words texts (suc n) = free-words texts n
-
 -- the model
 any-words : (texts : List (List ℕ)) (q : List ℕ) (ss : List Slot)
     → list_any (bytes_eq q) (slot_words texts ss) ≡ list_any (slot_is texts q) ss

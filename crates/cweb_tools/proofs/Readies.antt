@@ -32,24 +32,6 @@ pub stays_on : (a b c : Expander) → StaysReady a b → StaysReady b c → Stay
 stays_on a b c first then =
     record { store = then.store ∙ first.store; plan = then.plan ∙ first.plan; stands = then.stands }
 
-pub ready_on : (a b : Expander) → IsReady a → StaysReady a b → IsReady b
-ready_on a b ready on = record {
-  made = subst (λ (plan : Planned). IsPlanOf b.store.now plan) (ap (λ (p : Bor Planned). p.now) (sym on.plan))
-      (subst (λ (store : Stored). IsPlanOf store a.plan.now)
-      (ap (λ (s : Bor Stored). s.now) (sym on.store)) ready.made);
-  stands = on.stands;
-}
-
-pub known_on : (files : FileNames) (a b : Expander) → AreMarksBelow files a → StaysReady a b → AreMarksBelow files b
-known_on files a b known on =
-    subst (λ (store : Stored). All (IsMarkBelow (length (names_of files))) (all_tokens store.parts))
-    (ap (λ (s : Bor Stored). s.now) (sym on.store)) known
-
-pub within_on : (a b : Expander) (n : ℕ) → StaysReady a b
-    → n < length a.plan.now.outputs → n < length b.plan.now.outputs
-within_on a b n on within =
-    subst (λ (plan : Planned). n < length plan.outputs) (ap (λ (p : Bor Planned). p.now) (sym on.plan)) within
-
 -- the file of an output stays the same
 pub file_on : (files : FileNames) (a b : Expander) (n : ℕ) → StaysReady a b → file_at files b n ≡ file_at files a n
 file_on files a b n on = λ i. output_file (on.store i).now (names_of files) (output_at (on.plan i).now.outputs n)
