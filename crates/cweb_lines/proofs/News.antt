@@ -108,8 +108,7 @@ module _ (world : World) (change : Change) (below : List Thing) (files : ℕ) wh
   -- the next new line can't be taken
   pub new_stops : (stop : Stop) (lines : List SourceLine) (count now : Count) → now ≡ count →
       StopsFor (FirstStops stop count lines) stop → Stopped stop count now (coming_new world change lines below files)
-  new_stops stop lines count now same stops =
-      stopped_first stop (FirstStops stop count lines) count now _ same
+  new_stops stop lines count now same stops = stopped_first stop (FirstStops stop count lines) count now _ same
       (λ first.
       let taken = new_takes first.line first.rest in (
         first.line,

@@ -24,6 +24,7 @@ pub mod LineBegins
 pub mod Scans
 pub mod Aheads
 pub mod StatePlaces
+pub mod NamePlaces
 pub mod Places
 mod RowWords
 mod RowsWorked

@@ -21,7 +21,8 @@ use Rattle.cweb_scan.specs.After.{Reading, on, line_end, comment_line_end, blank
 use Rattle.cweb_scan.specs.Run.{front_of, pieces_in, run, further, scanned, scanned_of}
 use Rattle.cweb_scan.specs.Law.{MarkPasses, PlacesPass}
 use Rattle.cweb_scan.proofs.Bounds.{all-size}
-use Rattle.cweb_scan.proofs.StatePlaces.{strange, IsBegunKnown, AreKnown, give-known, moved-known, fault-known, drop_definition-known, leave-known, begin_section-known, line_end-known, comment_line_end-known, blank-known, punctuator-known, code-known, letter-known, control_text-known, verbatim-known, constant-known, define-known, comment-known, occurrence-known, literal-known}
+use Rattle.cweb_scan.proofs.StatePlaces.{strange, IsBegunKnown, AreKnown, give-known, moved-known, fault-known, drop_definition-known, leave-known, begin_section-known, line_end-known, comment_line_end-known, blank-known, punctuator-known, code-known, letter-known, control_text-known, verbatim-known, constant-known, define-known, comment-known}
+use Rattle.cweb_scan.proofs.NamePlaces.{occurrence-known, literal-known}
 
 abbrev pub AllKnown : (Place → Bool) → List Place → Type 0
 AllKnown known [] = Unit {0}

@@ -4,10 +4,9 @@ use Rattle.std.specs.Prelude.{if◌then◌else◌, codes, All}
 use Rattle.std.specs.Fmt.{decimal}
 use Rattle.std.proofs.lemmas.List.Elements.{All-push}
 use Rattle.cweb_files.specs.declared.place.Place.{Place}
-use Rattle.cweb_store.specs.declared.names.NameRef.{NameRef}
 use Rattle.cweb_store.specs.declared.parts.PartKind.{PartKind}
 use Rattle.cweb_store.specs.declared.parts.PartKind.TheVariants as part
-use Rattle.cweb_store.specs.Parts.{Token, Word, Number, Literal, Verbatim, Punct, Blank, Newline, Join, Defs, Name, Head, Tail, Mark}
+use Rattle.cweb_store.specs.Parts.{Token, Word, Number, Verbatim, Punct, Blank, Newline, Join, Defs, Head, Tail, Mark}
 use Rattle.cweb_store.specs.Calls.{with_open, with_dropped}
 use Rattle.cweb_rules.specs.declared.context.Context.{Context}
 use Rattle.cweb_rules.specs.declared.context.Context.TheVariants.{Limbo, TeX, Definition, Macro, CText}
@@ -18,12 +17,11 @@ use Rattle.cweb_rules.specs.declared.end.End.{End}
 use Rattle.cweb_rules.specs.declared.end.End.TheVariants.{Closed, Cut, Nested, Open}
 use Rattle.cweb_rules.specs.declared.fault.ScanFault.{ScanFault}
 use Rattle.cweb_rules.specs.declared.fault.ScanKind.{ScanKind}
-use Rattle.cweb_rules.specs.declared.fault.ScanKind.TheVariants.{ReplacementTooLong, NameDidNotEnd, NamesDoNotNest, CommentDidNotEnd, StringDidNotEnd, ControlTextDidNotEnd, FaultyConstant, DefinitionDropped, MissingAt}
+use Rattle.cweb_rules.specs.declared.fault.ScanKind.TheVariants.{ReplacementTooLong, CommentDidNotEnd, ControlTextDidNotEnd, FaultyConstant, DefinitionDropped}
 use Rattle.cweb_scan.specs.Bound.{parts_size}
 use Rattle.cweb_scan.specs.Directives.{in_directive, directive, is_punct, is_blank}
-use Rattle.cweb_scan.specs.Names.{occurrence_in}
-use Rattle.cweb_scan.specs.State.{State, give, with_name, fault_at, moved, begin_part, end_part, end_macro_in, end_macro, drop_definition, leave_in, leave, begin_section}
-use Rattle.cweb_scan.specs.After.{follows, line_end_token, line_end_in, line_end, comment_line_end, blank, punctuator, code, letter, control_text, verbatim, constant, define, comment, name_fault, use_name, open_name, name_in, occurrence, literal}
+use Rattle.cweb_scan.specs.State.{State, give, fault_at, moved, begin_part, end_part, end_macro_in, end_macro, drop_definition, leave_in, leave, begin_section}
+use Rattle.cweb_scan.specs.After.{follows, line_end_token, line_end_in, line_end, comment_line_end, blank, punctuator, code, letter, control_text, verbatim, constant, define, comment}
 use Rattle.cweb_scan.proofs.Measures.{pushed-size, opened-size, closed-size, dropped-size}
 
 -- counts the Marks that stand elsewhere
@@ -61,7 +59,7 @@ module _ (known : Place → Bool) where
   not_strange : (p : Place) → known p ≡ true → strange known (Mark p) ≡ 0
   not_strange p h = ap (λ v. if v then 0 else 1) h
 
-  mark-known : (s : State) → K s → K (give (Mark s.here) s)
+  pub mark-known : (s : State) → K s → K (give (Mark s.here) s)
   mark-known s k = give-known (Mark s.here) s (not_strange s.here k.here) k
 
   pub fault-known : (kind : ScanKind) (p : Place) (s : State) → known p ≡ true → K s → K (fault_at kind p s)
@@ -89,7 +87,7 @@ module _ (known : Place → Bool) where
         begun = k.begun;
       }
 
-  begin_part-known : (kind : PartKind) (s : State) → K s → K (begin_part kind s)
+  pub begin_part-known : (kind : PartKind) (s : State) → K s → K (begin_part kind s)
   begin_part-known kind s k =
       let a = opens kind s k in
       let b = give-known (Head s.sections) (record s { contents = with_open kind s.contents }) refl a in
@@ -112,7 +110,7 @@ module _ (known : Place → Bool) where
   end_macro_in-known Macro s k = end_part-known s k
   end_macro_in-known CText s k = k
 
-  end_macro-known : (s : State) → K s → K (end_macro s)
+  pub end_macro-known : (s : State) → K s → K (end_macro s)
   end_macro-known s k = end_macro_in-known s.context s k
 
   pub drop_definition-known : (p : Place) (s : State) → known p ≡ true → K s → K (drop_definition p s)
@@ -234,44 +232,3 @@ module _ (known : Place → Bool) where
   comment-known Cut p s h k = fault-known CommentDidNotEnd p s h k
   comment-known Nested p s h k = k
   comment-known Open p s h k = k
-
-  name_fault-known : (how : End) (p : Place) (s : State) → known p ≡ true → K s → K (name_fault how p s)
-  name_fault-known Closed p s h k = k
-  name_fault-known Cut p s h k = fault-known NameDidNotEnd p s h k
-  name_fault-known Nested p s h k = fault-known NamesDoNotNest p s h k
-  name_fault-known Open p s h k = k
-
-  use_name-known : (n : NameRef) (opens : Bool) (p : Place) (s : State)
-      → known p ≡ true → K s → K (use_name n opens p s)
-  use_name-known n true p s h k =
-      fault-known MissingAt p (give (Mark s.here) (give (Name n) s)) h
-      (mark-known (give (Name n) s) (give-known (Name n) s refl k))
-  use_name-known n false p s h k = mark-known (give (Name n) s) (give-known (Name n) s refl k)
-
-  open_name-known : (n : NameRef) (opens : Bool) (s : State) → K s → K (open_name n opens s)
-  open_name-known n true s k = begin_part-known (part.Named n) (end_macro s) (end_macro-known s k)
-  open_name-known n false s k = end_macro-known s k
-
-  name_in-known : (c : Context) (n : NameRef) (opens : Bool) (p : Place) (s : State)
-      → known p ≡ true → K s → K (name_in c n opens p s)
-  name_in-known Limbo n opens p s h k = k
-  name_in-known TeX n opens p s h k = open_name-known n opens s k
-  name_in-known (Definition begun) n opens p s h k = k
-  name_in-known Macro n opens p s h k = open_name-known n opens s k
-  name_in-known CText n opens p s h k = use_name-known n opens p s h k
-
-  pub occurrence-known : (is_file : Bool) (text : List ℕ) (how : End) (opens : Bool) (p : Place) (s : State)
-      → known p ≡ true → K s → K (occurrence is_file text how opens p s)
-  occurrence-known is_file text how opens p s h k =
-      let n : NameRef = record { 0 = length s.contents.occurrences } in
-      let t = with_name (occurrence_in is_file text) s in
-      let a : K t = record { marks = k.marks; faults = k.faults; here = k.here; begun = k.begun } in
-      name_in-known s.context n opens p (name_fault how p t) h (name_fault-known how p t h a)
-
-  pub literal-known : (text : List ℕ) (how : End) (p : Place) (s : State)
-      → known p ≡ true → K s → K (literal text how p s)
-  literal-known text Closed p s h k = give-known (Literal text) s refl k
-  literal-known text Cut p s h k =
-      fault-known StringDidNotEnd p (give (Literal text) s) h (give-known (Literal text) s refl k)
-  literal-known text Nested p s h k = k
-  literal-known text Open p s h k = k

@@ -1,0 +1,5 @@
+use Rattle.std.proofs.Common.{rules}
+use Rattle.cweb_log.proofs.items.write_closing.Goals as goal
+
+pub returns : goal.returns
+returns c = search rules
