@@ -1,5 +1,6 @@
 // The store.
 
+mod all_texts;
 pub(crate) mod answers;
 pub mod lending;
 
@@ -8,7 +9,7 @@ ghost use Rattle.cweb_store.specs.Names as spec;
 ghost use Rattle.cweb_store.specs.Parts.{all_tokens, has_defs_code, is_macro, is_of, is_unnamed, joined, numbers_where, tokens_at};
 ghost use Rattle.cweb_store.specs.Faults.{faults, has_part};
 ghost use Rattle.cweb_store.specs.Replacements.{replacement};
-ghost use Rattle.cweb_store.specs.Calls.{too_many};
+ghost use Rattle.cweb_store.specs.Calls.{stored, too_many};
 ghost use Rattle.cweb_store.specs.Texts.{AreInOneList, bytes_given, bytes_kept, texts_of};
 ghost use Rattle.cweb_store.specs.Runs.{runs_from};
 ghost use Rattle.cweb_store.specs.Wanted.{wanted_in};
@@ -22,6 +23,7 @@ use crate::parts::iter::{Parts, Wanted};
 use crate::parts::links::Links;
 use crate::parts::{Part, Run};
 use crate::replacements::{Replacements, last_places};
+use crate::store::all_texts::AllTexts;
 use crate::store::answers::Answers;
 use crate::tokens::Token;
 use crate::tokens::closed::ClosedTokens;
@@ -60,7 +62,6 @@ impl Model for Store {
 }
 
 impl Store {
-    ghost use Rattle.cweb_store.specs.Calls.{stored};
     ghost use Rattle.cweb_store.specs.Seen.{seen};
 
     /// The store of occurrences, parts and replacements.
@@ -73,9 +74,13 @@ impl Store {
         ensures { IfOk result (λ store. store ≡ stored table parts replacements) }
     {
         let answers = Answers::of(alloc, &table, &parts)?;
-        let ClosedParts { mut tokens, runs } = parts;
-        let given = table.close(&mut tokens)?;
-        let replaced = replacements.close(&mut tokens)?;
+        let ClosedParts { tokens, runs } = parts;
+        let texts = AllTexts::of(tokens, table, replacements)?;
+        let AllTexts {
+            tokens,
+            given,
+            replaced,
+        } = texts;
         let Answers {
             standings,
             files,
@@ -84,14 +89,13 @@ impl Store {
             links,
             has_defs_code,
         } = answers;
-        let last_places = last_places(replaced.as_slice());
         let store = Store {
+            last_places: last_places(replaced.as_slice()),
             tokens,
             runs,
             links,
             given,
             replaced,
-            last_places,
             firsts,
             standings,
             files,

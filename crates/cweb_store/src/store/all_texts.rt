@@ -1,0 +1,44 @@
+// All texts of a store.
+
+ghost use Rattle.std.specs.Prelude.{◌≡◌, map, IfOk};
+ghost use Rattle.cweb_store.specs.ClosedTokens.{with_texts};
+ghost use Rattle.cweb_store.specs.Stored.{given_as};
+ghost use Rattle.cweb_store.specs.Texts.{occurrence_text, replacement_text};
+
+use crate::names::table::{GivenAs, NameTable};
+use crate::replacements::Replacements;
+use crate::tokens::closed::ClosedTokens;
+use std::alloc::AllocError;
+
+/// Tokens with the texts of occurrences and then of replacements behind theirs, how each occurrence is given, and the
+/// bytes that are replaced.
+#[derive(Drop)]
+pub(crate) struct AllTexts {
+    pub tokens: ClosedTokens,
+    pub given: Vec<GivenAs>,
+    pub replaced: Vec<u8>,
+}
+
+impl AllTexts {
+    /// Puts the texts of occurrences and replacements behind those of tokens.
+    pub fn of(
+        mut tokens: ClosedTokens,
+        table: NameTable,
+        replacements: Replacements,
+    ) -> Result<AllTexts, AllocError>
+        ensures texts { IfOk result (λ all. all.tokens
+            ≡ with_texts (map replacement_text replacements)
+            (with_texts (map occurrence_text table) tokens)) }
+        ensures given { IfOk result (λ all. all.given.items ≡ map given_as table) }
+        ensures bytes { IfOk result (λ all. all.replaced.items
+            ≡ map (λ r. r.byte) replacements) }
+    {
+        let given = table.close(&mut tokens)?;
+        let replaced = replacements.close(&mut tokens)?;
+        Ok(AllTexts {
+            tokens,
+            given,
+            replaced,
+        })
+    }
+}
