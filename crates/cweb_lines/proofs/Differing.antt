@@ -1,6 +1,6 @@
 -- Answers that a call can't give at once.
 use Rattle.std.proofs.Common.{◌≡◌}
-use Rattle.std.specs.Prelude.{Option, Some, None, Result, Ok, Err}
+use Rattle.std.specs.Prelude.{Bool, true, false, IsTrue, Option, Some, None, Result, Ok, Err}
 use Rattle.cweb_files.specs.declared.place.Place.{Place}
 use Rattle.cweb_lines.specs.declared.step.Turn.{Turn}
 use Rattle.cweb_lines.specs.declared.step.Turn.TheVariants.{Given, On, Ended}
@@ -21,3 +21,6 @@ ended_given answer turn place ended ok given = cc
 pub ended_on : {E : Type 0} (answer : Result Turn E) (turn : Turn)
     → answer ≡ Ok Ended → answer ≡ Ok turn → turn ≡ On → ⊥
 ended_on answer turn ended ok on = cc
+
+pub true_false : (b : Bool) → IsTrue b → b ≡ false → ⊥
+true_false b holds fails = let is : b ≡ true = holds in cc
