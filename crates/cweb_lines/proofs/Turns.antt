@@ -1,7 +1,7 @@
 -- What a turn gives: a search, a line that was taken, a change that begins.
-use Rattle.std.proofs.Common.{◌≡◌, ◌&&◌, ℕ, Bool, true, false, List, [], ◌∷◌, ◌++◌, Some, None, Option, refl, sym, ◌∙◌, ap, length, map, if◌then◌else◌}
+use Rattle.std.proofs.Common.{◌≡◌, ◌&&◌, ℕ, Bool, true, false, List, [], ◌∷◌, ◌++◌, Some, None, Option, refl, sym, ◌∙◌, ap, length, map, if◌then◌else◌, subst}
 use Rattle.std.proofs.lemmas.List.{append_assoc}
-use Rattle.std.specs.Prelude.{nat_lt}
+use Rattle.std.specs.Prelude.{nat_lt, Ok}
 use Rattle.std.specs.Str.{bytes_eq}
 use Rattle.cweb_files.specs.declared.place.Place.{Place}
 use Rattle.cweb_lines.specs.Change.{Entry, at_place, old_lines, sought}
@@ -9,12 +9,12 @@ use Rattle.cweb_lines.specs.Finding.{text_of_name, world_in}
 use Rattle.cweb_lines.specs.Include.{World}
 use Rattle.cweb_lines.specs.Lines.{Line, SourceLine}
 use Rattle.cweb_lines.specs.Merge.{Event, RawLine, Thing, after_old, at_entry, change_events, fault, fault_if, raw, seek, taking, took}
-use Rattle.cweb_lines.specs.Merging.{SoFar, change_lines, coming, coming_after, pending_of, things_of}
+use Rattle.cweb_lines.specs.Merging.{SoFar, change_lines, coming, coming_after, pending_of, things_of, told_by}
 use Rattle.cweb_lines.specs.Names.{names_of}
 use Rattle.cweb_lines.specs.Replacing.{IsChanged, faults_replaced, lines_replaced, list_if, taken_away}
 use Rattle.cweb_lines.specs.Seeking.{Searched}
-use Rattle.cweb_lines.specs.Stages.{IsOutside, begun_by, change_in, pending_in, things_in}
-use Rattle.cweb_lines.specs.Texts.{lines_at, raw_at, things_above}
+use Rattle.cweb_lines.specs.Stages.{IsOutside, begun_by, change_in, pending_in, things_in, IsSettled, floor_of}
+use Rattle.cweb_lines.specs.Texts.{lines_at, raw_at, things_above, Counted, StaysBelow, TakesAbove}
 use Rattle.cweb_lines.specs.Total.{merge, merge_next}
 use Rattle.cweb_lines.specs.declared.fault.SourceFault.{SourceFault}
 use Rattle.cweb_lines.specs.declared.fault.SourceKind.TheVariants.{EndedBeforeY, WebEnded, Unequal}
@@ -23,9 +23,11 @@ use Rattle.cweb_lines.specs.declared.text.stack.Stack.{Stack}
 use Rattle.cweb_lines.specs.declared.change.Stage.{Stage}
 use Rattle.cweb_lines.specs.declared.change.Stage.TheVariants.{Done, Seeking, Waiting, Changing}
 use Rattle.cweb_lines.specs.declared.text.LineAt.{LineAt}
+use Rattle.cweb_lines.specs.Counts.{count_of}
+use Rattle.cweb_lines.specs.Steps.{OnlyTakes}
 use Rattle.cweb_lines.proofs.Adds.{map-append}
 use Rattle.cweb_lines.proofs.Merges.{state}
-use Rattle.cweb_lines.proofs.Runs.{coming_of}
+use Rattle.cweb_lines.proofs.Runs.{coming_of, takes_in}
 
 -- an entry is sought: lines are taken, faults come, and then what the texts have left
 pub sought_first : {R : Type 0} (t : List ℕ → Option (List ℕ)) (l : R → List ℕ) (run : Run R) → run.stage ≡ Seeking →
@@ -195,3 +197,26 @@ begun_later t t' l l' run run' depth begin entry old new texts inputs names is c
     ∙ (λ i. merge (world_in (texts i) (inputs i)) (after_old (old_lines (change_lines l run)).ended
     (length (names_of (names i))) depth entry (old_lines (change_lines l run))
     (taken_away (change_lines l run) (things_above l 0 run.stack [])).rest)))
+
+-- No line was taken: what was told and what is to come are as they were.
+pub untaken : {R : Type 0} (Says : SoFar → List Event → Type 0) (t t' : List ℕ → Option (List ℕ)) (l l' : R → List ℕ)
+    (old new : Run R) (bytes : List ℕ) → t' ≡ t → l' ≡ l → IsSettled old.stage
+    → TakesAbove l l' (floor_of old.stage) old.stack new.stack None bytes (count_of old.limits) (count_of new.limits)
+    → StaysBelow (floor_of old.stage) old.stack.texts new.stack.texts → OnlyTakes old new → new.change ≡ old.change
+    → Counted (count_of old.limits) (count_of new.limits) (Ok None)
+    → Says (told_by new) (coming t' l' new) → Says (told_by old) (coming t l old)
+untaken Says t t' l l' old new bytes texts left settled takes stays only change counted said =
+    let things = takes_in l l' left old.stage (lines_at l old.change) old.stack new.stack None bytes
+    (count_of old.limits) (count_of new.limits) settled takes stays in
+    let told : told_by new ≡ told_by old = λ i. record {
+      faults = (only.faults i).items;
+      names = names_of (only.names i);
+      count = record { lines = counted.0 i; bytes = counted.1 i };
+    } in
+    let come : coming t' l' new ≡ coming t l old =
+    (λ i. coming_of (texts i) (text_of_name (only.inputs i)) (left i) (only.stage i) (change i) ((only.first i).items)
+    (length (names_of (only.names i))) (things_in l' (only.stage i) (lines_at (left i) (change i)) new.stack))
+    ∙ ap (λ (ts : List Thing). coming_of t (text_of_name old.inputs) l old.stage old.change old.first.items
+    (length (names_of old.names)) ts) (sym things) in
+    subst (λ (s : SoFar). Says s (coming t l old)) told
+    (subst (λ (es : List Event). Says (told_by new) es) come said)

@@ -6,7 +6,7 @@ use Rattle.std.proofs.lemmas.Bool.{eqb-true}
 use Rattle.cweb_rules.specs.Bytes.{begins, is_blank, is_digit, is_one_of, is_word_byte, starts_section}
 use Rattle.cweb_rules.specs.Fronts.{has_delimiter, is_closed, is_quoted, literal_prefix, raw_prefix, starts_include, starts_literal, starts_raw}
 use Rattle.cweb_rules.specs.Items.{included_name}
-use Rattle.cweb_rules.specs.Leads.{lead}
+use Rattle.cweb_rules.specs.Leads.{behind_dot, behind_slash, lead}
 use Rattle.cweb_rules.specs.Rules.{c_rule, is_settled}
 use Rattle.cweb_rules.specs.Tables.{starts_number}
 use Rattle.cweb_rules.specs.declared.rule.Lead.{Lead}
@@ -147,3 +147,39 @@ pub told-at : (includes : Bool) (t : List ℕ) (r : Lead) → 1 ≤ length t
     → r ≡ lead (slice_index_or t 0 0) → IsTold includes t r
 told-at includes [] r h e = absurd (omega (arith, h))
 told-at includes (b ∷ t) r h e = subst (IsTold includes (b ∷ t)) (sym e) (lead-told includes b t)
+
+-- what the byte behind a `/` or a `.` leaves of the rules
+slash_left : (a b includes : Bool)
+    → (if a then rule.Comment else (if b then rule.LineComment else rule.Punctuator))
+    ≡ (if a && true then rule.Comment
+    else (if b && true then rule.LineComment else (if includes && false then rule.IncludedName else rule.Punctuator)))
+slash_left true b includes = refl
+slash_left false true includes = refl
+slash_left false false true = refl
+slash_left false false false = refl
+
+dot_left : (a includes : Bool)
+    → (if a then rule.Number else rule.Punctuator)
+    ≡ (if includes && false then rule.IncludedName else (if a then rule.Number else rule.Punctuator))
+dot_left a true = refl
+dot_left a false = refl
+
+slash_rule : (includes : Bool) (d : ℕ) (t : List ℕ) → behind_slash d ≡ c_rule includes (47 ∷ d ∷ t)
+slash_rule includes d t = slash_left (42 == d) (47 == d) includes
+
+dot_rule : (includes : Bool) (d : ℕ) (t : List ℕ) → behind_dot d ≡ c_rule includes (46 ∷ d ∷ t)
+dot_rule includes d t = dot_left (is_digit d) includes
+
+pub slash-told : (includes : Bool) (t : List ℕ) → 2 ≤ length t → slice_index_or t 0 0 ≡ 47
+    → behind_slash (slice_index_or t 1 0) ≡ c_rule includes t
+slash-told includes [] h e = absurd (omega (arith, h))
+slash-told includes (b ∷ []) h e = absurd (omega (arith, h))
+slash-told includes (b ∷ d ∷ t) h e =
+    subst (λ x. behind_slash d ≡ c_rule includes (x ∷ d ∷ t)) (sym e) (slash_rule includes d t)
+
+pub dot-told : (includes : Bool) (t : List ℕ) → 2 ≤ length t → slice_index_or t 0 0 ≡ 46
+    → behind_dot (slice_index_or t 1 0) ≡ c_rule includes t
+dot-told includes [] h e = absurd (omega (arith, h))
+dot-told includes (b ∷ []) h e = absurd (omega (arith, h))
+dot-told includes (b ∷ d ∷ t) h e =
+    subst (λ x. behind_dot d ≡ c_rule includes (x ∷ d ∷ t)) (sym e) (dot_rule includes d t)

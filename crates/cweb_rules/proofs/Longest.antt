@@ -1,5 +1,5 @@
 -- In a table whose longer entries stand first, the first entry that fits is the longest.
-use Rattle.std.proofs.Common.{◌≡◌, ℕ, ◌≤◌, Bool, true, false, List, [], ◌∷◌, ◌&&◌, cond, length, max, nat_le, refl, arith}
+use Rattle.std.proofs.Common.{◌≡◌, ℕ, ◌≤◌, Bool, true, false, List, [], ◌∷◌, ◌&&◌, ◌==◌, cond, length, max, nat_le, slice_index_or, refl, sym, ◌∙◌, ap, subst, arith}
 use Rattle.std.proofs.lemmas.Bool.Decides.{nat_tests}
 use Rattle.cweb_rules.specs.Bytes.{begins}
 use Rattle.cweb_rules.specs.Tables.{longest}
@@ -8,6 +8,10 @@ use Rattle.cweb_rules.specs.Signs.{first_len, descends}
 and_left : (a b : Bool) → (a && b) ≡ true → (a ≡ true) × (b ≡ true)
 and_left true b e = (refl, e)
 and_left false b e = cc
+
+longest_pos : (ps : List (List ℕ)) (t : List ℕ) → 1 ≤ longest ps t
+longest_pos [] t = omega arith
+longest_pos (p ∷ ps) t = omega (arith, longest_pos ps t)
 
 pub longest-le : (ps : List (List ℕ)) (t : List ℕ) (m : ℕ) → descends m ps ≡ true
     → (longest ps t ≤ m) × (1 ≤ m) × (longest ps t ≡ first_len ps t)
@@ -22,7 +26,28 @@ longest-le (p ∷ ps) t m d =
       | true ↦ (omega (arith, rest.0), omega (arith, rest.1), omega (arith, rest.0))
       | false ↦ (omega (arith, rest.0, rest.1), omega (arith, rest.1), omega (arith, rest.0, rest.2, longest_pos ps t))
     ]
-  where
-    longest_pos : (ps : List (List ℕ)) (t : List ℕ) → 1 ≤ longest ps t
-    longest_pos [] t = omega arith
-    longest_pos (p ∷ ps) t = omega (arith, longest_pos ps t)
+
+-- the entries that begin with a byte
+abbrev pub starting : ℕ → List (List ℕ) → List (List ℕ)
+starting b [] = []
+starting b ([] ∷ ps) = starting b ps
+starting b ((x ∷ p) ∷ ps) = cond (x == b) ((x ∷ p) ∷ starting b ps) (starting b ps)
+
+-- no other entry fits a text that begins with it
+longest-starting : (b : ℕ) (ps : List (List ℕ)) (t : List ℕ) → longest (starting b ps) (b ∷ t) ≡ longest ps (b ∷ t)
+longest-starting b [] t = refl
+longest-starting b ([] ∷ ps) t = omega (arith, longest-starting b ps t)
+longest-starting b ((x ∷ p) ∷ ps) t =
+    (elim (x == b) as (λ v.
+    (x == b) ≡ v
+    → longest (cond v ((x ∷ p) ∷ starting b ps) (starting b ps)) (b ∷ t) ≡ longest ((x ∷ p) ∷ ps) (b ∷ t)) [
+      | true ↦ λ e. ap (max (cond ((x == b) && begins p t) (length (x ∷ p)) 1)) (longest-starting b ps t)
+      | false ↦ λ e. rw e (omega (arith, longest-starting b ps t, longest_pos ps (b ∷ t)))
+    ]) refl
+
+pub among : (ps : List (List ℕ)) (b : ℕ) (t : List ℕ) (m : ℕ) → descends m (starting b ps) ≡ true
+    → 1 ≤ length t → slice_index_or t 0 0 ≡ b → first_len (starting b ps) t ≡ longest ps t
+among ps b [] m d h e = absurd (omega (arith, h))
+among ps b (x ∷ t) m d h e =
+    sym ((longest-le (starting b ps) (x ∷ t) m d).2)
+    ∙ subst (λ y. longest (starting b ps) (y ∷ t) ≡ longest ps (y ∷ t)) (sym e) (longest-starting b ps t)

@@ -148,6 +148,11 @@ pub said_when : {A E : Type 0} (r : Result A E) (asked : Bool) (item : Item) (ol
 said_when r true item old new is writes = said r item old new writes
 said_when r false item old new is writes = absurd (cc)
 
+-- and one that isn't
+pub said_not : (asked : Bool) (item : Item) (stream : SeenStream) → asked ≡ false → DoesInLog (when asked item) None stream stream
+said_not true item stream is = absurd (cc)
+said_not false item stream is = said_none stream
+
 -- a list that isn't empty has elements
 pub some_by : (n : ℕ) → (n == 0) ≡ false → 0 < n
 some_by zero is = absurd (cc)

@@ -1,4 +1,5 @@
 pub mod Acts
+pub mod Begun
 pub mod Course
 pub mod Does
 pub mod Expanders

@@ -17,17 +17,18 @@ ghost use Rattle.cweb_tools.specs.Tangle.{CanCome, course_acts, course_status, n
 ghost use Rattle.cweb_tools.specs.TangleRun.{TanglePromises};
 ghost use Rattle.cweb_tools.specs.Web.{IsKnown, faults_of, files_of, said_faults, web_in};
 
+mod begun;
 mod unplanned;
 
 use crate::outputs::write_outputs;
 use crate::saying::{say_banner, say_end, say_no_text, say_starred};
-use crate::subjects::{folder, subject};
+use crate::subjects::folder;
+use crate::tangle::begun::tangle_begun;
 use crate::tangle::unplanned::tangle_unplanned;
 use crate::web::{Numbers, Web};
 use cweb_lines::{Merger, Shelf, Sink, SinkFault, Stop};
 use cweb_log::{Options, Shown, log_stop, write_faults, write_name_faults, write_scan_faults};
 use cweb_out::{Bins, Expander, Gathered, Plan, plan};
-use cweb_scan::scan;
 use std::alloc::Global;
 
 const USAGE: &str = "ctangle [options] webfile[.w] [{changefile[.ch]|-} [outfile[.c]]]";
@@ -63,7 +64,7 @@ pub fn run_ctangle<S: Shelf, B: Bins, L: Sink>(
     tangle_named(alloc, &options, inputs, shelf, bins, log)
 }
 
-/// Opens the web and its change file, reads them, and goes on with what they hold.
+/// Opens the web and its change file, and goes on with the merge that begins.
 fn tangle_named<S: Shelf, B: Bins, L: Sink>(
     alloc: Global,
     options: &Options,
@@ -90,27 +91,10 @@ fn tangle_named<S: Shelf, B: Bins, L: Sink>(
         options.change(),
         folder(inputs),
     );
-    let mut merger = match started {
-        Ok(merger) => merger,
-        Err(stop) => return log_stop(log, stop, start_subject(options, stop)),
-    };
-    let scanned = match scan(alloc, &mut merger, shelf) {
-        Ok(scanned) => scanned,
-        Err(stop) => return log_stop(log, stop, subject(merger.names(), stop)),
-    };
-    let web = Web {
-        names: merger.names(),
-        faults: merger.faults(),
-        scanned: &scanned,
-    };
-    tangle_web(
-        alloc,
-        options.shown(),
-        options.main.as_str(),
-        web,
-        bins,
-        log,
-    )
+    match started {
+        Ok(mut merger) => tangle_begun(alloc, options, &mut merger, shelf, bins, log),
+        Err(stop) => log_stop(log, stop, start_subject(options, stop)),
+    }
 }
 
 /// Logs what is wrong with a web that was read, plans its outputs, and goes on with the plan.

@@ -3,10 +3,12 @@ ghost use Rattle.std.specs.Prelude.{◌≡◌, ◌≢◌, ◌<◌, ◌≤◌, �
 ghost use Rattle.std.specs.Option.{option_copied};
 ghost use Rattle.cweb_lines.specs.Names as spec;
 ghost use Rattle.cweb_lines.specs.Texts.{files_named};
+ghost use Rattle.cweb_lines.specs.Whole.{stop_in};
 ghost use Rattle.cweb_log.specs.Gathering.{Logs};
 ghost use Rattle.cweb_log.specs.Log.{fault_lines, start_subject, stop_line, subject};
 ghost use Rattle.cweb_log.specs.Seen.{seen, seen_stream};
 ghost use Rattle.cweb_log.specs.Words.{asked_by, names_of};
+ghost use Rattle.cweb_tools.specs.Begun.{MergesBegun};
 ghost use Rattle.cweb_tools.specs.Course.{asked_course, change_name, fault_status, folder_of, world_of};
 ghost use Rattle.cweb_tools.specs.Run.{Merges, Promises};
 
@@ -71,11 +73,28 @@ fn merge_web<S: Shelf, W: Sink, L: Sink>(
         asked.change(),
         folder(inputs),
     );
-    let mut merger = match started {
-        Ok(merger) => merger,
-        Err(stop) => return log_stop(log, stop, start_subject(asked, stop)),
-    };
-    match write_merged_in_pieces(&mut merger, shelf, out, PIECE) {
+    match started {
+        Ok(mut merger) => merge_begun(&mut merger, shelf, out, log),
+        Err(stop) => log_stop(log, stop, start_subject(asked, stop)),
+    }
+}
+
+/// Writes the merged lines of the web whose merge has begun.
+fn merge_begun<S: Shelf, W: Sink, L: Sink>(
+    merger: &mut Merger<S>,
+    shelf: &mut S,
+    out: &mut W,
+    log: &mut L,
+) -> u8
+    requires running { stop_in merger.old ≡ None }
+    requires shelf_count { S.failed shelf.old + 1 < 2 ^ 64 }
+    requires out_count { W.failed out.old + 1 < 2 ^ 64 }
+    requires log_count { L.failed log.old + 1 < 2 ^ 64 }
+    ensures { MergesBegun S.Shelf shelf.old merger.old
+        (seen_stream W.Sink out.old) (seen_stream L.Sink log.old)
+        (seen S.Shelf W.Sink L.Sink shelf.new out.new log.new) result }
+{
+    match write_merged_in_pieces(merger, shelf, out, PIECE) {
         Ok(()) => log_faults(log, merger.names(), merger.faults()),
         Err(stop) => log_stop(log, stop, subject(merger.names(), stop)),
     }

@@ -162,6 +162,35 @@ pub fn take_turn<S: Shelf>(
         }
         return Ok(Turn::On);
     }
+    take_settled(shelf, run, line)
+}
+
+// A line is taken: it begins a change, is obeyed or given out, or none is left.
+#[inline(always)]
+fn take_settled<S: Shelf>(
+    shelf: &mut S,
+    run: &mut Run<S::R>,
+    line: &mut Vec<u8>,
+) -> Result<Turn, Stop>
+    requires count { S.failed shelf.old + 1 < 2 ^ 64 }
+    requires settled { IsSettled run.old.stage }
+    ensures keeps { KeepsTexts S.Shelf shelf.old shelf.new }
+    ensures failed { ReadBlames (S.failed shelf.old) (S.failed shelf.new) result }
+    ensures turns { Turns run.old run.new line.new.items result }
+    ensures still { KeepsTold (told_by run.old) (told_by run.new) }
+    ensures readers { KeepsReaders S.Shelf shelf.old shelf.new run.old run.new }
+    ensures blamed { BlamesReaders S.Shelf shelf.old shelf.new run.old run.new result }
+    ensures gives { IsTrue (S.tells shelf.old) →
+        IfOk result (λ turn. Gives (lines_given turn line.new.items) (told_by run.old)
+        (told_by run.new) (coming (S.texts shelf.old) (S.left shelf.old) run.old)
+        (coming (S.texts shelf.new) (S.left shelf.new) run.new)) }
+    ensures told { IsTrue (S.tells shelf.old) →
+        OnErr result (TellsFront (told_by run.old) (told_by run.new)
+        (coming (S.texts shelf.old) (S.left shelf.old) run.old)) }
+    ensures stops { IsTrue (S.tells shelf.old) →
+        IfErr result (λ stop. Stopped stop (count_of run.old.limits) (count_of run.new.limits)
+        (coming (S.texts shelf.old) (S.left shelf.old) run.old)) }
+{
     let taken = match take_raw(shelf, run, line) {
         Ok(taken) => taken,
         Err(stop) => return Err(stop),

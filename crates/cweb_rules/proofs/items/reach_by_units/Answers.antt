@@ -1,4 +1,5 @@
 use Rattle.std.proofs.Common.{◌+◌, ℕ, List, length, drop, ap, sym, ◌∙◌, arith}
+use Rattle.std.proofs.lemmas.Grind.{common_steps}
 use Rattle.std.proofs.lemmas.List.{length-drop}
 use Rattle.cweb_rules.specs.Cut.{reach}
 use Rattle.cweb_rules.specs.Looks.{look_of, reached}
@@ -27,3 +28,6 @@ units-preserved-then-plain-gt0 c =
           ∙ later_by-add size n (reached (reach look Open (drop n rest)))
           ∙ ap (λ (u : List ℕ). later_by (size + n) (reached (reach look Open u))) (sym back);
     }
+
+pub returns-clause-value : goal.returns-clause-value
+returns-clause-value c = grind (arith, common_steps)

@@ -8,3 +8,6 @@ pub returns-then-not-may_be_listed : goal.returns-then-not-may_be_listed
 returns-then-not-may_be_listed c =
     sym (longest-none (is_one_of seconds) listed c.args.text.now refl
     (sym c.may_be_listed.ensures ∙ c.if-not-may_be_listed.true))
+
+pub returns : goal.returns
+returns c = c.listed_len.ensures

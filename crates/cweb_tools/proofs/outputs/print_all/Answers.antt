@@ -1,4 +1,5 @@
-use Rattle.std.proofs.Common.{rules}
+use Rattle.std.proofs.Common.{rules, arith}
+use Rattle.std.proofs.lemmas.Grind.{common_steps}
 use Rattle.cweb_tools.proofs.Prints.{next_named, prints_all, prints_front, prints_more}
 use Rattle.cweb_tools.proofs.outputs.print_all.Goals as goal
 
@@ -30,3 +31,6 @@ returns-clause-prints g c =
 
 pub tokens-init : goal.tokens-init
 tokens-init g c = search rules
+
+pub tokens-smaller : goal.tokens-smaller
+tokens-smaller g c = grind (arith, common_steps)

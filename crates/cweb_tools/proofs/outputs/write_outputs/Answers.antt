@@ -6,9 +6,9 @@ use Rattle.cweb_tools.specs.Acts.{Act, ending}
 use Rattle.cweb_tools.specs.Does.{DoesInBoth}
 use Rattle.cweb_log.specs.Seen.{seen_bins, seen_stream}
 use Rattle.cweb_tools.specs.Tangle.{output_file}
-use Rattle.cweb_tools.proofs.Doing.{bins_counted, both_in, both_then, logs_counted}
+use Rattle.cweb_tools.proofs.Doing.{bins_counted, both_in, both_none, both_then, logs_counted}
 use Rattle.cweb_tools.proofs.OutputActs.{acts_all, acts_at, acts_more}
-use Rattle.cweb_tools.proofs.Readies.{output_on, stays_on}
+use Rattle.cweb_tools.proofs.Readies.{output_on, stays, stays_on}
 use Rattle.cweb_tools.proofs.outputs.write_outputs.Goals as goal
 
 abbrev no_output : Output
@@ -64,3 +64,6 @@ returns-clause-does g c =
     (acts_all (output_file c.args.expander.now.store.now (names_of c.args.names.now))
     c.args.progress outs c.outputs.output all)
     c.outputs.invariant.does
+
+pub outputs-init : goal.outputs-init
+outputs-init g c = record { stays = stays _ c.requires.ready; does = both_none _ _ }

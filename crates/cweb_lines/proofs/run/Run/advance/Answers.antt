@@ -1,4 +1,5 @@
 use Rattle.std.proofs.Common.{refl, arith}
+use Rattle.std.proofs.lemmas.Grind.{common_steps}
 use Rattle.std.proofs.lemmas.List.{length-map}
 use Rattle.cweb_lines.specs.Merging.{pending_of}
 use Rattle.cweb_lines.specs.Passing.{sources_next, top_of}
@@ -28,3 +29,6 @@ returns-clause-given g c = λ lines next.
 pub returns-clause-bytes : goal.returns-clause-bytes
 returns-clause-bytes g c = λ lines next.
     (c.advance_top.ensures.passes (pending_of c.args.self.now) lines next.stands).bytes
+
+pub returns-clause-more : goal.returns-clause-more
+returns-clause-more c = grind (arith, common_steps)

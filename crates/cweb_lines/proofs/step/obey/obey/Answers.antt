@@ -1,4 +1,5 @@
 use Rattle.std.proofs.Common.{◌<◌, ◌∷◌, ℕ, List, Vec, Global, length, refl, ap, sym, subst, ◌∙◌, arith, string_bytes}
+use Rattle.std.proofs.lemmas.Grind.{common_steps}
 use Rattle.cweb_lines.specs.Names.{names_of}
 use Rattle.cweb_lines.specs.Change.{at_place}
 use Rattle.cweb_lines.specs.Counts.{count_of}
@@ -127,3 +128,6 @@ returns-clause-readers g c = λ tells known.
 pub returns-in_err-opening-clause-readers : goal.returns-in_err-opening-clause-readers
 returns-in_err-opening-clause-readers g c = λ tells known.
     subst (λ f. AreReadersKnown f c.args.run.now) (sym (c.in_err-opening.ensures.keeps.names tells)) known
+
+pub returns-clause-only : goal.returns-clause-only
+returns-clause-only g c = grind (arith, common_steps)

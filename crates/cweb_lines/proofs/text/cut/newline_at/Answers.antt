@@ -1,4 +1,5 @@
 use Rattle.std.proofs.Common.{◌≡◌, ◌++◌, ◌∷◌, ◌+◌, ◌-◌, ◌∙◌, [], ℕ, List, None, Some, ap, drop, length, refl, sym, subst, take, arith, append_assoc, length-append, take-append-drop}
+use Rattle.std.proofs.lemmas.Grind.{common_steps}
 use Rattle.std.proofs.lemmas.List.{append-nil, length-take}
 use Rattle.cweb_lines.specs.Lines.{HasNoNewline, SplitsAt}
 use Rattle.cweb_lines.proofs.Newlines.{newline_at-memchr, no_newline-append, splits_behind}
@@ -63,3 +64,9 @@ returns-in-None c =
     let rest = c.runs.rest.now in
     subst HasNoNewline (sym inv.1)
     (no_newline-append inv.0 rest inv.2 (newline_at-memchr rest None c.in-None.ensures))
+
+pub overflow_sub-result : goal.overflow_sub-result
+overflow_sub-result c = grind (arith, common_steps)
+
+pub overflow_sub-result-in-Some-memchr : goal.overflow_sub-result-in-Some-memchr
+overflow_sub-result-in-Some-memchr c = grind (arith, common_steps)

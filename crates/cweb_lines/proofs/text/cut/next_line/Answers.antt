@@ -1,4 +1,5 @@
-use Rattle.std.proofs.Common.{◌≡◌, ◌++◌, [], ℕ, List, sym, ◌∙◌, ap, subst, rules, refl, Err}
+use Rattle.std.proofs.Common.{◌≡◌, ◌++◌, [], ℕ, List, sym, ◌∙◌, ap, subst, rules, refl, Err, arith}
+use Rattle.std.proofs.lemmas.Grind.{common_steps}
 use Rattle.std.specs.Prelude.{IsTrue}
 use Rattle.std.proofs.lemmas.List.{append_assoc}
 use Rattle.std.proofs.lemmas.Result.{err_from_is_err_and}
@@ -71,3 +72,9 @@ returns-then-branch-clause-clean g c =
     (pending c.take_pending.new.source)) c.if-branch.true c.in_ok-take_pending.ensures.taken in
     (taken_full _ c.pieces.line.items (pending c.refill.new.source) [] c.take_pending.new.line.items
     (pending c.take_pending.new.source) refl c.pieces.invariant.none takes).1
+
+pub returns-then-is_empty-clause-taken : goal.returns-then-is_empty-clause-taken
+returns-then-is_empty-clause-taken g c = grind (arith, common_steps)
+
+pub pieces-smaller : goal.pieces-smaller
+pieces-smaller g c = grind (arith, common_steps)

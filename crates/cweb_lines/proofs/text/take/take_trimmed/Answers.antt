@@ -1,4 +1,5 @@
 use Rattle.std.proofs.Common.{◌∙◌, ℕ, List, length, ap, subst, rules, arith, Err, Ok}
+use Rattle.std.proofs.lemmas.Grind.{common_steps}
 use Rattle.cweb_lines.specs.Source.{BlamesReader, left_of, Takes}
 use Rattle.cweb_lines.proofs.Trims.{trimmed-line, trimmed-length, whole_line-one, whole_line-gains}
 use Rattle.cweb_lines.proofs.text.take.take_trimmed.Goals as goal
@@ -48,3 +49,6 @@ returns-in-Err-clause-blamed g c = λ tells.
     subst (λ r. BlamesReader {A = ℕ} (g.S.Shelf.opened_as c.args.shelf.now r) (g.S.Shelf.blamed c.args.shelf.now)
     (g.S.Shelf.blamed c.next_line.new.shelf) (Err c.in-Err.fault)) c.in_ok-size.ensures.reader
     (c.in-Err.ensures.blamed tells)
+
+pub returns-in-Some-clause-taken : goal.returns-in-Some-clause-taken
+returns-in-Some-clause-taken g c = grind (arith, common_steps)

@@ -1,0 +1,12 @@
+use Rattle.std.proofs.Common.{arith}
+use Rattle.std.proofs.lemmas.Grind.{common_steps}
+use Rattle.cweb_lines.proofs.files.include.name_in.Goals as goal
+
+pub returns-then-bytes-i-eq34 : goal.returns-then-bytes-i-eq34
+returns-then-bytes-i-eq34 c = grind (arith, common_steps)
+
+pub loop-i-preserved : goal.loop-i-preserved
+loop-i-preserved c = grind (arith, common_steps)
+
+pub returns-then-not-is_space : goal.returns-then-not-is_space
+returns-then-not-is_space c = grind (arith, common_steps)
