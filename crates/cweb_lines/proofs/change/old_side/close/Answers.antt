@@ -1,4 +1,4 @@
-use Rattle.std.proofs.Common.{arith}
+use Rattle.std.proofs.Common.{arith, rules}
 use Rattle.std.proofs.lemmas.Grind.{common_steps}
 use Rattle.cweb_lines.proofs.change.old_side.close.Goals as goal
 
@@ -7,3 +7,6 @@ returns-clause-told g c = grind (arith, common_steps)
 
 pub returns-clause-err : goal.returns-clause-err
 returns-clause-err g c = grind (arith, common_steps)
+
+pub returns-in-Err-tell_if-clause-err : goal.returns-in-Err-tell_if-clause-err
+returns-in-Err-tell_if-clause-err c = search rules

@@ -1,4 +1,4 @@
-use Rattle.std.proofs.Common.{◌≡◌, ◌+◌, ◌-◌, ◌∷◌, ◌++◌, ℕ, List, Some, true, subst, length, length-append, string_bytes, ap, sym, ◌∙◌, arith, get_or, []}
+use Rattle.std.proofs.Common.{◌≡◌, ◌+◌, ◌-◌, ◌∷◌, ◌++◌, ℕ, List, Some, true, subst, length, length-append, string_bytes, ap, sym, ◌∙◌, arith, get_or, [], rules}
 use Rattle.cweb_lines.specs.Faults.{files_in}
 use Rattle.cweb_lines.specs.Finding.{found_as, names_found}
 use Rattle.std.specs.Prelude.{IsTrue}
@@ -98,3 +98,6 @@ returns-clause-readers g c = λ tells.
           (named_first opened_as (names_of c.open_change.new.names) c.in-Ok.web (OPEN_FILES - 1) top);
       change = c.in-Ok-open_change.ensures.named opened_as (rw c.in-Some-2.is at (c.in_ok-change.ensures.opened later));
     }
+
+pub returns-in_default-2-clause-stops : goal.returns-in_default-2-clause-stops
+returns-in_default-2-clause-stops c = search rules

@@ -1,4 +1,4 @@
-use Rattle.std.proofs.Common.{◌≡◌, ◌+◌, ◌∷◌, [], ℕ, List, length, refl, sym, arith, ap, ◌∙◌, length-append, string_bytes, ◌++◌, subst, get_or}
+use Rattle.std.proofs.Common.{◌≡◌, ◌+◌, ◌∷◌, [], ℕ, List, length, refl, sym, arith, ap, ◌∙◌, length-append, string_bytes, ◌++◌, subst, get_or, rules}
 use Rattle.std.proofs.lemmas.List.{append-nil, get_or_push}
 use Rattle.cweb_lines.specs.Names.{names_of}
 use Rattle.cweb_lines.specs.Naming.{AreNamed, IsNamed}
@@ -78,3 +78,6 @@ returns-in_err-piece-clause-readers g c = λ opened_as opened known.
 pub returns-in_err-source-clause-readers : goal.returns-in_err-source-clause-readers
 returns-in_err-source-clause-readers g c = λ opened_as opened known.
     record { texts = known.texts; change = known.change }
+
+pub returns-clause-opens : goal.returns-clause-opens
+returns-clause-opens c = search rules

@@ -1,4 +1,4 @@
-use Rattle.std.proofs.Common.{◌++◌, map, List, None, ap, ◌∙◌, refl, ◌+◌}
+use Rattle.std.proofs.Common.{◌++◌, map, List, None, ap, ◌∙◌, refl, ◌+◌, rules}
 use Rattle.cweb_lines.specs.Change.{sought}
 use Rattle.cweb_lines.specs.Merge.{Event, fault, took}
 use Rattle.cweb_lines.specs.Merging.{change_lines, told_by}
@@ -49,3 +49,6 @@ returns-in-Seeking-clause-ended g c = λ none. absurd (true_false _ (c.has_ended
 
 pub returns-clause-ended : goal.returns-clause-ended
 returns-clause-ended g c = λ none. absurd (true_false _ (c.has_ended.ensures.no none) c.if-has_ended.false)
+
+pub returns-then-has_ended-clause-turns : goal.returns-then-has_ended-clause-turns
+returns-then-has_ended-clause-turns c = search rules

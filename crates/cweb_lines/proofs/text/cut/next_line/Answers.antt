@@ -78,3 +78,6 @@ returns-then-is_empty-clause-taken g c = grind (arith, common_steps)
 
 pub pieces-smaller : goal.pieces-smaller
 pieces-smaller g c = grind (arith, common_steps)
+
+pub returns-else-is_empty-clause-taken : goal.returns-else-is_empty-clause-taken
+returns-else-is_empty-clause-taken c = search rules
