@@ -10,7 +10,7 @@ use Rattle.cweb_lines.specs.Lines.{Line, IsOneLine, SourceLine, TextLine, number
 use Rattle.cweb_lines.specs.Merging.{pending_of, told_by}
 use Rattle.cweb_lines.specs.Passing.{ComesNext, GivesLines, HasRoomFor, IsStretch, Reaches, StandsAt, StandsIn, ended, lines_next, top_of}
 use Rattle.cweb_lines.specs.Stages.{IsSettled, floor_of}
-use Rattle.cweb_lines.specs.Texts.{files_up_to, line_number, number_of}
+use Rattle.cweb_lines.specs.Texts.{files_up_to}
 use Rattle.cweb_lines.specs.declared.limits.Limits.{Limits}
 use Rattle.cweb_lines.specs.declared.limits.TheConstants.{LINES}
 use Rattle.cweb_lines.specs.declared.passing.ahead.Ahead.{Ahead}
@@ -20,7 +20,7 @@ use Rattle.cweb_lines.specs.declared.run.Run.{Run}
 use Rattle.cweb_lines.specs.declared.text.OpenText.{OpenText}
 use Rattle.cweb_lines.proofs.Fronts.{told_given, told_then}
 use Rattle.cweb_lines.proofs.Stacks.{most_at}
-use Rattle.cweb_lines.proofs.Standing.{few_lines, joined, lines_within, numbered-append}
+use Rattle.cweb_lines.proofs.Standing.{few_lines, joined, numbered-append}
 use Rattle.cweb_lines.proofs.Sums.{gives_both}
 use Rattle.cweb_lines.proofs.Trims.{trimmed-length, trimmed-line}
 

@@ -1,9 +1,8 @@
-use Rattle.std.proofs.Common.{◌≡◌, ◌-◌, ◌<◌, ℕ, List, None, get_or, arith, length, subst, sym}
+use Rattle.std.proofs.Common.{◌-◌, ◌<◌, ℕ, List, None, get_or, arith, length, subst}
 use Rattle.std.proofs.lemmas.List.{get_or_default}
 use Rattle.std.specs.Prelude.{IfSome}
 use Rattle.cweb_lines.specs.Ahead.{FitsAt, LooksIn}
-use Rattle.cweb_lines.specs.Merging.{pending_of}
-use Rattle.cweb_lines.specs.Passing.{StandsAt, top_of}
+use Rattle.cweb_lines.specs.Passing.{StandsAt}
 use Rattle.cweb_lines.specs.Stages.{pending_in}
 use Rattle.cweb_lines.specs.Texts.{line_number}
 use Rattle.cweb_lines.proofs.Stacks.{most_read}

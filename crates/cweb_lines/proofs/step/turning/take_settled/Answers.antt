@@ -1,4 +1,4 @@
-use Rattle.std.proofs.Common.{◌∷◌, ◌++◌, [], map, Vec, Global, List, Some, ap, sym, subst, ◌∙◌, ◌+◌}
+use Rattle.std.proofs.Common.{◌∷◌, ◌++◌, [], map, Vec, Global, List, Some, ap, sym, subst, ◌∙◌}
 use Rattle.std.specs.Prelude.{IsTrue, IfOk, IfErr, OnErr}
 use Rattle.cweb_lines.specs.Counts.{count_of}
 use Rattle.cweb_lines.specs.Merge.{Event, fault, took}

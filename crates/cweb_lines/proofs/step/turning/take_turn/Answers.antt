@@ -1,4 +1,4 @@
-use Rattle.std.proofs.Common.{◌++◌, map, List, None, ap, ◌∙◌, refl, ◌+◌, rules}
+use Rattle.std.proofs.Common.{◌++◌, map, List, None, ap, ◌∙◌, refl, rules}
 use Rattle.cweb_lines.specs.Change.{sought}
 use Rattle.cweb_lines.specs.Merge.{Event, fault, took}
 use Rattle.cweb_lines.specs.Merging.{change_lines, told_by}

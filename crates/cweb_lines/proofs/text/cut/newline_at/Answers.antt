@@ -1,4 +1,4 @@
-use Rattle.std.proofs.Common.{◌≡◌, ◌++◌, ◌∷◌, ◌+◌, ◌-◌, ◌∙◌, [], ℕ, List, None, Some, ap, drop, length, refl, sym, subst, take, arith, append_assoc, length-append, take-append-drop}
+use Rattle.std.proofs.Common.{◌≡◌, ◌++◌, ◌+◌, ◌-◌, ◌∙◌, [], ℕ, List, None, Some, ap, drop, length, refl, sym, subst, take, arith, append_assoc, length-append, take-append-drop}
 use Rattle.std.proofs.lemmas.Grind.{common_steps}
 use Rattle.std.proofs.lemmas.List.{append-nil, length-take}
 use Rattle.cweb_lines.specs.Lines.{HasNoNewline, SplitsAt}
