@@ -149,7 +149,8 @@ said_when r true item old new is writes = said r item old new writes
 said_when r false item old new is writes = absurd (cc)
 
 -- and one that isn't
-pub said_not : (asked : Bool) (item : Item) (stream : SeenStream) → asked ≡ false → DoesInLog (when asked item) None stream stream
+pub said_not : (asked : Bool) (item : Item) (stream : SeenStream) → asked ≡ false
+    → DoesInLog (when asked item) None stream stream
 said_not true item stream is = absurd (cc)
 said_not false item stream is = said_none stream
 

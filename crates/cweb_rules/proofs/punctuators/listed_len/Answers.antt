@@ -34,4 +34,5 @@ pub returns-in-38 : goal.returns-in-38
 returns-in-38 c = c.first_len-in-38.ensures ∙ among listed 38 c.args.text.now 3 refl c.in-38.len_at_least (omega arith)
 
 pub returns-in-124 : goal.returns-in-124
-returns-in-124 c = c.first_len-in-124.ensures ∙ among listed 124 c.args.text.now 3 refl c.in-124.len_at_least (omega arith)
+returns-in-124 c =
+    c.first_len-in-124.ensures ∙ among listed 124 c.args.text.now 3 refl c.in-124.len_at_least (omega arith)

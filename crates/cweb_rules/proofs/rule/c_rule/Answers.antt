@@ -13,7 +13,8 @@ returns-in-Sign c =
 
 pub returns-in-Blank : goal.returns-in-Blank
 returns-in-Blank c =
-    told-at c.args.includes c.args.text.now first.Blank c.in-len1-up.len_at_least (sym c.in-Blank.is ∙ c.lead_of.ensures)
+    told-at c.args.includes c.args.text.now first.Blank c.in-len1-up.len_at_least
+    (sym c.in-Blank.is ∙ c.lead_of.ensures)
 
 pub returns-in-Open : goal.returns-in-Open
 returns-in-Open c = c.tried_rule-in-Open.ensures
