@@ -1,4 +1,5 @@
-use Rattle.std.proofs.Common.{refl, None}
+use Rattle.std.proofs.Common.{refl, None, arith}
+use Rattle.std.proofs.lemmas.Grind.{common_steps}
 use Rattle.cweb_out.specs.Planning.{is_bad}
 use Rattle.cweb_out.proofs.Finds.{find-more}
 use Rattle.cweb_out.proofs.PlanLemmas.{names-err, names-more}
@@ -21,3 +22,6 @@ roots-preserved c =
           names-more w main c.args.roots.now c.roots.outputs.items c.add.new.outputs.items c.roots.root-index _ None
           c.in-Ok.output c.roots-test.true refl c.in-Ok.ensures c.roots.invariant.outputs c.in_ok-add-in-Ok.ensures;
     }
+
+pub returns : goal.returns
+returns c = grind (arith, common_steps)

@@ -24,3 +24,6 @@ returns-clause-few c =
 
 pub files-preserved : goal.files-preserved
 files-preserved c = grind (arith, common_steps)
+
+pub returns-clause-roots : goal.returns-clause-roots
+returns-clause-roots c = grind (arith, common_steps)

@@ -1,4 +1,5 @@
-use Rattle.std.proofs.Common.{ap, refl, not}
+use Rattle.std.proofs.Common.{ap, refl, not, arith}
+use Rattle.std.proofs.lemmas.Grind.{common_steps}
 use Rattle.cweb_out.specs.Planning.{is_endless}
 use Rattle.cweb_out.proofs.Finds.{find-more}
 use Rattle.cweb_out.proofs.PlanLemmas.{cycle-found}
@@ -20,3 +21,6 @@ roots-preserved c = record {
       c.roots.root-index _ _ c.roots-test.true refl c.roots.invariant.before
       (ap not (rw (c.in_default.is, c.roots.invariant.store) at c.in_ok-cycle.ensures.settles));
 }
+
+pub returns : goal.returns
+returns c = grind (arith, common_steps)

@@ -1,4 +1,5 @@
 use Rattle.std.proofs.Common.{rules, ◌≡◌, ◌∷◌, ◌∙◌, ap, sym, arith, true, false, ◌&&◌, refl}
+use Rattle.std.proofs.lemmas.Grind.{common_steps}
 use Rattle.std.specs.Prelude.{option_to_list}
 use Rattle.std.specs.List.{list_all}
 use Rattle.cweb_store.specs.Parts.{Name}
@@ -61,3 +62,9 @@ returns-clause-none c = λ none.
     let mid = suffix w c.uses.text in
     passes-all w c.args.marks.now (suffix w c.args.text.now) mid c.uses.invariant.passes
     (none-used w mid (c.in_default.ensures.none refl))
+
+pub returns-then-not-is_ranked-clause-shorter : goal.returns-then-not-is_ranked-clause-shorter
+returns-then-not-is_ranked-clause-shorter c = grind (arith, common_steps)
+
+pub uses-smaller-else-not-is_ranked : goal.uses-smaller-else-not-is_ranked
+uses-smaller-else-not-is_ranked c = grind (arith, common_steps)

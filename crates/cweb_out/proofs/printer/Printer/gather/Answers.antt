@@ -1,4 +1,5 @@
-use Rattle.std.proofs.Common.{◌++◌, ◌∷◌, [], ◌∙◌, ap, append_assoc, sym, subst, refl, List, ℕ}
+use Rattle.std.proofs.Common.{◌++◌, ◌∷◌, [], ◌∙◌, ap, append_assoc, sym, subst, refl, List, ℕ, arith}
+use Rattle.std.proofs.lemmas.Grind.{common_steps}
 use Rattle.std.specs.Prelude.{IsTrue}
 use Rattle.cweb_store.specs.Parts.{Defs}
 use Rattle.cweb_store.specs.Seen.{seen}
@@ -66,3 +67,6 @@ returns-clause-prints g c = λ tells ts is.
     (ap (λ (u : List ℕ). has ++ u) (c.gather_rare.ensures.none c.if-gather_rare.false)
     ∙ moved_same _ _ _ _ (c.in_ok-make_room.ensures.moved tells))
     refl (prints ts is)
+
+pub returns-then-gather_rare-clause-moves : goal.returns-then-gather_rare-clause-moves
+returns-then-gather_rare-clause-moves g c = grind (arith, common_steps)

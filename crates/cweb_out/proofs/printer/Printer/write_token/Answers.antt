@@ -1,4 +1,5 @@
-use Rattle.std.proofs.Common.{◌≡◌, ◌++◌, [], ◌∙◌, ap, sym, subst, cond, List, ℕ, false}
+use Rattle.std.proofs.Common.{◌≡◌, ◌++◌, [], ◌∙◌, ap, sym, subst, cond, List, ℕ, false, arith}
+use Rattle.std.proofs.lemmas.Grind.{common_steps}
 use Rattle.std.specs.Prelude.{IsTrue}
 use Rattle.cweb_store.specs.Seen.{seen}
 use Rattle.cweb_out.specs.Printing.{plain_text}
@@ -23,3 +24,6 @@ returns-in_err-write_placed-clause-wrote g c = λ tells.
     c.from_residual-in_err-write_placed.result is (c.in_ok-write_piece.ensures.wrote tells)
     c.from_residual-in_err-write_placed.ensures.0
     (c.in_err-write_placed.ensures.wrote (subst IsTrue (sym c.in_ok-write_piece.ensures.tells) tells))
+
+pub returns-clause-wrote : goal.returns-clause-wrote
+returns-clause-wrote g c = grind (arith, common_steps)

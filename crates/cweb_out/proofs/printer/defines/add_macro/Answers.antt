@@ -1,4 +1,5 @@
 use Rattle.std.proofs.Common.{◌++◌, ◌∙◌, ap, arith, length, take, List, ℕ}
+use Rattle.std.proofs.lemmas.Grind.{common_steps}
 use Rattle.cweb_out.specs.Frames.{run_tokens}
 use Rattle.cweb_out.specs.Printers.{replaced_in}
 use Rattle.cweb_out.specs.Printing.{macro_line}
@@ -28,3 +29,9 @@ returns-in-None-clause-none c = λ no.
     (whole_again s.bytes.items new s.bytes.len
     (omega (arith, c.put_macro.ensures.room, c.gathered.invariant.0, s.bytes.ok.0)))
     ∙ c.put_macro.ensures.front ∙ ap (take s.used) c.as_mut_slice.ensures.value ∙ c.gathered.view_is
+
+pub invariant_of-gathered : goal.invariant_of-gathered
+invariant_of-gathered c = grind (arith, common_steps)
+
+pub invariant_of-gathered-in-None : goal.invariant_of-gathered-in-None
+invariant_of-gathered-in-None c = grind (arith, common_steps)

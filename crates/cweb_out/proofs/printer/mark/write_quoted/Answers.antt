@@ -1,4 +1,5 @@
-use Rattle.std.proofs.Common.{take, drop, sym, subst, suc, List, ℕ}
+use Rattle.std.proofs.Common.{take, drop, sym, subst, suc, List, ℕ, arith}
+use Rattle.std.proofs.lemmas.Grind.{common_steps}
 use Rattle.std.specs.Prelude.{IsTrue}
 use Rattle.cweb_out.specs.Printing.{quoted_byte, quoted}
 use Rattle.cweb_out.proofs.Fronts.{flat_at, front_in, wrote_err}
@@ -15,3 +16,6 @@ returns-in_err-write_quoted_byte-clause-wrote g c = λ tells.
     (g.W.Sink.written c.write_quoted_byte.new.out) (text (take i bytes)) _ (text (drop (suc i) bytes))
     (text bytes) (flat_at (quoted_byte) bytes i _ c.bytes-test.true) (c.bytes.invariant.written tells)
     (c.in_err-write_quoted_byte.ensures.wrote (subst IsTrue (sym c.bytes.invariant.tells) tells)))
+
+pub bytes-preserved : goal.bytes-preserved
+bytes-preserved g c = grind (arith, common_steps)

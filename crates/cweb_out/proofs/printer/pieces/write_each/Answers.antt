@@ -1,4 +1,5 @@
-use Rattle.std.proofs.Common.{take, drop, sym, subst, suc, Bor, List, ℕ}
+use Rattle.std.proofs.Common.{take, drop, sym, subst, suc, Bor, List, ℕ, arith}
+use Rattle.std.proofs.lemmas.Grind.{common_steps}
 use Rattle.std.specs.Prelude.{IsTrue, flat_map}
 use Rattle.cweb_out.proofs.Fronts.{pieces_at, front_in, wrote_err}
 use Rattle.cweb_out.proofs.printer.pieces.write_each.Goals as goal
@@ -14,3 +15,6 @@ returns-in_err-write_piece-clause-wrote g c = λ tells.
     (g.W.Sink.written c.write_piece.new.out) (all (take i pieces)) _ (all (drop (suc i) pieces))
     (all pieces) (pieces_at pieces i _ c.pieces-test.true) (c.pieces.invariant.written tells)
     (c.in_err-write_piece.ensures.wrote (subst IsTrue (sym c.pieces.invariant.tells) tells)))
+
+pub pieces-preserved : goal.pieces-preserved
+pieces-preserved g c = grind (arith, common_steps)

@@ -1,4 +1,5 @@
-use Rattle.std.proofs.Common.{take, drop, sym, subst, suc, List, ℕ}
+use Rattle.std.proofs.Common.{take, drop, sym, subst, suc, List, ℕ, arith}
+use Rattle.std.proofs.lemmas.Grind.{common_steps}
 use Rattle.std.specs.Prelude.{IsTrue}
 use Rattle.cweb_out.specs.Printing.{word_byte, word_text}
 use Rattle.cweb_out.specs.Printers.{replaced_in}
@@ -17,3 +18,6 @@ returns-in_err-write_word_byte-clause-wrote g c = λ tells.
     (text bytes) (flat_at (word_byte (replaced_in c.args.store.now)) bytes i _ c.bytes-test.true)
     (c.bytes.invariant.written tells)
     (c.in_err-write_word_byte.ensures.wrote (subst IsTrue (sym c.bytes.invariant.tells) tells)))
+
+pub bytes-preserved : goal.bytes-preserved
+bytes-preserved g c = grind (arith, common_steps)

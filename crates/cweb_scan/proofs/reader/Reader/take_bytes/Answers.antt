@@ -1,3 +1,5 @@
+use Rattle.std.proofs.Common.{arith}
+use Rattle.std.proofs.lemmas.Grind.{common_steps}
 use Rattle.cweb_scan.proofs.LineTurns.{front_goes_on, front_line}
 use Rattle.cweb_scan.proofs.reader.Reader.take_bytes.Goals as goal
 
@@ -9,3 +11,6 @@ turns-preserved c =
 pub take_turn-requires-clause-line : goal.take_turn-requires-clause-line
 take_turn-requires-clause-line c =
     front_line c.args.line.now c.turns.rest.now c.args.self.now c.turns.self c.requires.clean c.turns.invariant
+
+pub take_turn-requires-clause-room : goal.take_turn-requires-clause-room
+take_turn-requires-clause-room c = grind (arith, common_steps)

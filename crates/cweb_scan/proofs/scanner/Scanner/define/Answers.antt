@@ -1,5 +1,9 @@
-use Rattle.std.proofs.Common.{rules}
+use Rattle.std.proofs.Common.{rules, arith}
+use Rattle.std.proofs.lemmas.Grind.{common_steps}
 use Rattle.cweb_scan.proofs.scanner.Scanner.define.Goals as goal
 
 pub returns-in_ok-give-2 : goal.returns-in_ok-give-2
 returns-in_ok-give-2 c = search rules
+
+pub give-requires-then-not-tight-clause-few : goal.give-requires-then-not-tight-clause-few
+give-requires-then-not-tight-clause-few c = grind (arith, common_steps)

@@ -1,4 +1,5 @@
-use Rattle.std.proofs.Common.{◌&&◌, List, ℕ, false, take, sym, ap, ◌∙◌, subst}
+use Rattle.std.proofs.Common.{◌&&◌, List, ℕ, false, take, sym, ap, ◌∙◌, subst, arith}
+use Rattle.std.proofs.lemmas.Grind.{common_steps}
 use Rattle.cweb_store.specs.Parts.{Word, Punct}
 use Rattle.cweb_scan.specs.Directives.{is_c, names_include}
 use Rattle.cweb_scan.specs.Plain.{IsPlainC}
@@ -75,3 +76,6 @@ pub begun_run_len-size-requires : goal.begun_run_len-size-requires
 begun_run_len-size-requires c = record {
   first = (told_at false c.args.rest.now plain.Word c.requires.some (sym c.in-Word.is ∙ c.plain_of.ensures)).1;
 }
+
+pub returns-in_ok-give_plain-in-Word-clause-stays : goal.returns-in_ok-give_plain-in-Word-clause-stays
+returns-in_ok-give_plain-in-Word-clause-stays c = grind (arith, common_steps)

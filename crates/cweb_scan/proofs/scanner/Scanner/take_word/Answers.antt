@@ -1,4 +1,5 @@
-use Rattle.std.proofs.Common.{List, ℕ, ap, ◌∙◌}
+use Rattle.std.proofs.Common.{List, ℕ, ap, ◌∙◌, arith}
+use Rattle.std.proofs.lemmas.Grind.{common_steps}
 use Rattle.cweb_store.specs.Parts.{Word}
 use Rattle.cweb_scan.specs.State.{give}
 use Rattle.cweb_scan.proofs.Plains.{word_turn}
@@ -12,3 +13,6 @@ returns-clause-taken c =
     word_turn c.run_len-size.result u s c.give_plain.new.self c.requires.line c.requires.some
     c.requires.in_c.in_c (seen_word s u c.requires.in_c c.requires.first) c.run_len-size.ensures.value
     (c.in_ok-give_plain.ensures.ok ∙ ap (λ (x : List ℕ). give (Word x) s) c.split_at.ensures.front)
+
+pub returns-clause-stays : goal.returns-clause-stays
+returns-clause-stays c = grind (arith, common_steps)

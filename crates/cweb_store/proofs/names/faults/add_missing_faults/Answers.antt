@@ -1,4 +1,5 @@
 use Rattle.std.proofs.Common.{◌≡◌, ◌∙◌, ◌&&◌, ◌||◌, not, sym, ap, length, arith, ◌<◌, Some}
+use Rattle.std.proofs.lemmas.Grind.{common_steps}
 use Rattle.std.specs.Prelude.{option_map, slice_get}
 use Rattle.std.specs.List.{list_any}
 use Rattle.cweb_store.specs.declared.names.NameKind.TheVariants.{NotPresent}
@@ -28,3 +29,6 @@ loop-number-preserved c =
     ns number c.is_missing-fails.result
     c.loop-number.faults.items c.add_fault_if.new.faults.items within test c.in_ok-add_fault_if.ensures
     ∙ c.loop-number.invariant
+
+pub returns : goal.returns
+returns c = grind (arith, common_steps)

@@ -1,4 +1,5 @@
 use Rattle.std.proofs.Common.{◌≡◌, ◌∙◌, ◌++◌, false, length, arith, ◌<◌, sym, ap, append-nil}
+use Rattle.std.proofs.lemmas.Grind.{common_steps}
 use Rattle.std.specs.List.{list_any}
 use Rattle.cweb_store.specs.declared.names.NameKind.TheVariants.{PrefixOfAnother}
 use Rattle.cweb_store.specs.Faults.{is_prefix_of_another}
@@ -23,3 +24,6 @@ returns-then-not-has_prefix c =
     sym c.has_prefix.ensures ∙ c.if-not-has_prefix.true in
     sym (append-nil old)
     ∙ ap (λ fs. old ++ fs) (sym (faults-none PrefixOfAnother (is_prefix_of_another ns) 0 ns none))
+
+pub returns : goal.returns
+returns c = grind (arith, common_steps)

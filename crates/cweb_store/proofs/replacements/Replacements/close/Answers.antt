@@ -1,4 +1,5 @@
-use Rattle.std.proofs.Common.{◌≡◌, map, sym, ◌∙◌, ap}
+use Rattle.std.proofs.Common.{◌≡◌, map, sym, ◌∙◌, ap, arith}
+use Rattle.std.proofs.lemmas.Grind.{common_steps}
 use Rattle.std.proofs.lemmas.List.{take_all, drop_all}
 use Rattle.cweb_store.specs.Replaced.{replacement_in}
 use Rattle.cweb_store.specs.Replacements.{Replacement}
@@ -26,3 +27,6 @@ returns-clause-texts c =
     ∙ ap (λ ts. with_texts ts c.args.tokens.now)
     (ap (map (λ x. replacement_text (replacement_in x))) items
     ∙ map-both replacement_text replacement_in s.given.items ∙ ap (map replacement_text) c.self.view_is)
+
+pub loop-replaced-preserved : goal.loop-replaced-preserved
+loop-replaced-preserved c = grind (arith, common_steps)

@@ -1,4 +1,5 @@
-use Rattle.std.proofs.Common.{rules, ◌∙◌, ap, sym, List, get_or}
+use Rattle.std.proofs.Common.{rules, ◌∙◌, ap, sym, List, get_or, arith}
+use Rattle.std.proofs.lemmas.Grind.{common_steps}
 use Rattle.cweb_out.specs.declared.planning.search.Waiting.{Waiting}
 use Rattle.cweb_out.specs.Search.{with_next}
 use Rattle.cweb_out.proofs.Walks.{from-more}
@@ -13,3 +14,6 @@ path-preserved c =
     ∙ sym (from-more again path i c.waiting-item.result (search rules)
     (c.waiting-item.is
     ∙ ap (λ (ps : List Waiting). get_or ps i c.waiting-item.result) c.deref-waiting-items.ensures.value))
+
+pub returns : goal.returns
+returns c = grind (arith, common_steps)

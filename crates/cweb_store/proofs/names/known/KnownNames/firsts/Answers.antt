@@ -1,4 +1,5 @@
 use Rattle.std.proofs.Common.{◌≡◌, suc, ◌+◌, [], ◌∷◌, ◌++◌, map, take, sym, ◌∙◌, ap, arith}
+use Rattle.std.proofs.lemmas.Grind.{common_steps}
 use Rattle.cweb_store.specs.Names.{Name}
 use Rattle.cweb_store.proofs.StoredTexts.{firsts-next}
 use Rattle.cweb_store.proofs.names.known.KnownNames.firsts.Goals as goal
@@ -10,3 +11,12 @@ loop-number-preserved c =
     let next : suc k ≡ k + 1 = omega arith in
     c.in_ok-push.ensures.items ∙ ap (λ xs. xs ++ c.first.result ∷ []) c.loop-number.invariant
     ∙ sym (firsts-next ns k c.first.result c.first.ensures) ∙ ap (λ j. map (λ (n : Name). n.first) (take j ns)) next
+
+pub overflow_cast-number-end : goal.overflow_cast-number-end
+overflow_cast-number-end c = grind (arith, common_steps)
+
+pub returns : goal.returns
+returns c = grind (arith, common_steps)
+
+pub first-requires : goal.first-requires
+first-requires c = grind (arith, common_steps)

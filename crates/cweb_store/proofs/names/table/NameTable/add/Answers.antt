@@ -69,3 +69,6 @@ invariant_of-self-in-Err c = grind (arith, common_steps)
 
 pub returns-in-Err-clause-err : goal.returns-in-Err-clause-err
 returns-in-Err-clause-err c = grind (arith, common_steps)
+
+pub truncate-requires : goal.truncate-requires
+truncate-requires c = grind (arith, common_steps)

@@ -1,4 +1,5 @@
 use Rattle.std.proofs.Common.{length, ap, arith}
+use Rattle.std.proofs.lemmas.Grind.{common_steps}
 use Rattle.cweb_store.proofs.RangeLemmas.{Follow-at}
 use Rattle.cweb_store.proofs.parts.closed.ClosedParts.uses.Goals as goal
 
@@ -13,3 +14,6 @@ add_uses-requires-clause-within c =
     rw c.deref-run-items.ensures.value
     (Follow-at c.self.inside.runs.items 0 (length c.self.inside.tokens.tokens) c.self.invariant.whole.follow
     c.loop-run.run-index _ (omega (arith, c.loop-run-test.true, ap length c.deref-run-items.ensures.value))).1
+
+pub loop-run-preserved : goal.loop-run-preserved
+loop-run-preserved c = grind (arith, common_steps)

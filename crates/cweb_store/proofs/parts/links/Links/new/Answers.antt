@@ -1,4 +1,5 @@
 use Rattle.std.proofs.Common.{◌≡◌, ◌-◌, ℕ, suc, [], ◌∷◌, length, drop, reverse, ◌∙◌, ap, subst, arith, length-append}
+use Rattle.std.proofs.lemmas.Grind.{common_steps}
 use Rattle.cweb_store.specs.Links.{AreLinked}
 use Rattle.cweb_store.proofs.LinkLemmas.{step-linked}
 use Rattle.cweb_store.proofs.parts.links.Links.new.Goals as goal
@@ -29,3 +30,9 @@ loop-i-preserved c =
             length-append c.loop-i.skips.items (c.put-skip.result ∷ []),
           );
     }
+
+pub loop-i-init : goal.loop-i-init
+loop-i-init c = grind (arith, common_steps)
+
+pub put-skip-requires-clause-within : goal.put-skip-requires-clause-within
+put-skip-requires-clause-within c = grind (arith, common_steps)

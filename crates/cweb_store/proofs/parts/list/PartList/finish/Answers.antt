@@ -1,4 +1,5 @@
 use Rattle.std.proofs.Common.{◌≡◌, refl, ◌∙◌, ap, subst, length, arith, [], ◌∷◌, ◌++◌, Option}
+use Rattle.std.proofs.lemmas.Grind.{common_steps}
 use Rattle.std.specs.Prelude.{vec_capacity}
 use Rattle.cweb_store.specs.declared.parts.Open.{Open}
 use Rattle.cweb_store.specs.ClosedTokens.{tokens_alone}
@@ -22,3 +23,6 @@ invariant_of-result-2 c =
     (s.runs.items ++ last_run c.in-Some.current (length s.tokens.tokens) ∷ []) =
     record { whole = whole; alone = refl } in
     rw (c.put.ensures, run, c.close-tokens.ensures) closed
+
+pub returns : goal.returns
+returns c = grind (arith, common_steps)

@@ -1,3 +1,5 @@
+use Rattle.std.proofs.Common.{arith}
+use Rattle.std.proofs.lemmas.Grind.{common_steps}
 use Rattle.cweb_store.proofs.PackedLemmas.{packed-at}
 use Rattle.cweb_store.proofs.tokens.closed.ClosedTokens.token.Goals as goal
 
@@ -13,3 +15,6 @@ returns c =
     rw (c.lend.ensures, ← c.self.view_is)
     (packed-at s.texts s.records.packed c.args.number c.get-packed.result
     c.self.invariant.tokens.packed c.get-packed.ensures).1
+
+pub get-packed-requires : goal.get-packed-requires
+get-packed-requires c = grind (arith, common_steps)

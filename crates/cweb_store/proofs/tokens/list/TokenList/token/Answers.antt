@@ -1,4 +1,5 @@
-use Rattle.std.proofs.Common.{List, ℕ, sym, subst, length}
+use Rattle.std.proofs.Common.{List, ℕ, sym, subst, length, arith}
+use Rattle.std.proofs.lemmas.Grind.{common_steps}
 use Rattle.cweb_store.specs.Packed.{IsWithin}
 use Rattle.cweb_store.proofs.PackedLemmas.{packed-at}
 use Rattle.cweb_store.proofs.tokens.list.TokenList.token.Goals as goal
@@ -17,3 +18,6 @@ returns c =
     rw (c.lend.ensures, c.texts.ensures, ← c.self.view_is)
     (packed-at s.texts.texts s.records.packed c.args.number c.get-packed.result
     c.self.invariant.tokens.packed c.get-packed.ensures).1
+
+pub get-packed-requires : goal.get-packed-requires
+get-packed-requires c = grind (arith, common_steps)

@@ -1,4 +1,5 @@
-use Rattle.std.proofs.Common.{◌≡◌, length, false, subst, ◌∙◌, ap}
+use Rattle.std.proofs.Common.{◌≡◌, length, false, subst, ◌∙◌, ap, arith}
+use Rattle.std.proofs.lemmas.Grind.{common_steps}
 use Rattle.cweb_store.specs.declared.tokens.words.key.Key.{Key}
 use Rattle.cweb_store.specs.Slots.{IsWordPlaced}
 use Rattle.cweb_store.specs.Words.{has, texts_and_words}
@@ -49,3 +50,12 @@ returns-clause-ok c =
     rw (c.if-place_word.ensures, c.in_ok-number.ensures.added, ← c.self.view_is)
     (map-keeps s.texts word s.slots.items s.words.entries c.insert_word.new.words.entries c.in_ok-number.number
     c.self.invariant c.in_default.ensures.ok c.in_ok-number.ensures.number absent)
+
+pub truncate-requires : goal.truncate-requires
+truncate-requires c = grind (arith, common_steps)
+
+pub invariant_of-self-in-Err : goal.invariant_of-self-in-Err
+invariant_of-self-in-Err c = grind (arith, common_steps)
+
+pub returns-in-Err-clause-err : goal.returns-in-Err-clause-err
+returns-in-Err-clause-err c = grind (arith, common_steps)

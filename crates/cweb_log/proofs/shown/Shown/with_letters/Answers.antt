@@ -1,0 +1,6 @@
+use Rattle.std.proofs.Common.{arith}
+use Rattle.std.proofs.lemmas.Grind.{common_steps}
+use Rattle.cweb_log.proofs.shown.Shown.with_letters.Goals as goal
+
+pub letters-preserved : goal.letters-preserved
+letters-preserved c = grind (arith, common_steps)

@@ -1,0 +1,9 @@
+use Rattle.std.proofs.Common.{arith}
+use Rattle.std.proofs.lemmas.Grind.{common_steps}
+use Rattle.cweb_scan.proofs.scanner.Scanner.begin_part.Goals as goal
+
+pub give-requires-2-clause-few : goal.give-requires-2-clause-few
+give-requires-2-clause-few c = grind (arith, common_steps)
+
+pub give-requires-clause-few : goal.give-requires-clause-few
+give-requires-clause-few c = grind (arith, common_steps)

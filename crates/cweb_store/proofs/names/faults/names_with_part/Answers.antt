@@ -1,0 +1,6 @@
+use Rattle.std.proofs.Common.{arith}
+use Rattle.std.proofs.lemmas.Grind.{common_steps}
+use Rattle.cweb_store.proofs.names.faults.names_with_part.Goals as goal
+
+pub loop-run-preserved : goal.loop-run-preserved
+loop-run-preserved c = grind (arith, common_steps)
