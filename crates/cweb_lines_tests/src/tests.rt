@@ -5,12 +5,23 @@ mod devices;
 mod failing;
 mod limits;
 mod pieces;
+mod wanted;
 mod webs;
 
 use cweb_lines::*;
 use std::alloc::{AllocError, Global};
 use std::test::Fail;
 use trial::shelf_of;
+use wanted::*;
+
+/// The count of a fault, where it has one, and the end of its line.
+fn tell_count(told: &mut String, count: u32) -> Result<(), Fail> {
+    if count > 0 {
+        write!(told, ": {count}")?;
+    }
+    told.push('\n')?;
+    Ok(())
+}
 
 /// A fault in a line, with its count where it has one.
 fn tell_fault(told: &mut String, fault: &SourceFault) -> Result<(), Fail> {
@@ -20,11 +31,7 @@ fn tell_fault(told: &mut String, fault: &SourceFault) -> Result<(), Fail> {
         "{:?} in {} at {}",
         fault.kind, place.file.0, place.line
     )?;
-    if fault.count > 0 {
-        write!(told, ": {}", fault.count)?;
-    }
-    writeln!(told)?;
-    Ok(())
+    tell_count(told, fault.count)
 }
 
 /// The faults so far, a line each.

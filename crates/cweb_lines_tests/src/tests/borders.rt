@@ -130,15 +130,31 @@ fn lent(alloc: Global, length: usize) -> Result<Vec<u8>, Fail> {
 
 fn merges_alike(rt: &(impl AllocGlobal + Abort), length: usize) -> Result<(), Fail> {
     let want = text_with(rt.alloc(), length, TAIL_MERGED)?;
-    let gathered = gathered(rt.alloc(), length, 65536)?;
-    assert!(rt;
-        gathered.as_slice() == want.as_slice(),
-        "gathered, {length}"
-    );
-    let asked = one_by_one(rt.alloc(), length)?;
-    assert!(rt; asked.as_slice() == want.as_slice(), "one by one, {length}");
-    let lent = lent(rt.alloc(), length)?;
-    assert!(rt; lent.as_slice() == want.as_slice(), "lent, {length}");
+    same_at(rt, &gathered(rt.alloc(), length, 65536)?, &want, length);
+    same_at(rt, &one_by_one(rt.alloc(), length)?, &want, length);
+    same_at(rt, &lent(rt.alloc(), length)?, &want, length);
+    Ok(())
+}
+
+// The next line is of this place, and lent or not.
+fn comes_lent(
+    rt: &impl Abort,
+    merger: &mut Merger<MemoryShelf>,
+    shelf: &mut MemoryShelf,
+    line: &mut Vec<u8>,
+    wanted: &(u32, u32, bool),
+) -> Result<(), Stop> {
+    let lent = merger.lend_line();
+    holds(rt, lent.is_some() == wanted.2);
+    let place = match lent {
+        Some(lent) => Some(lent.place),
+        None => merger.next_line(shelf, line)?,
+    };
+    let want = Place {
+        file: FileId(wanted.0),
+        line: wanted.1,
+    };
+    comes(rt, place, want);
     Ok(())
 }
 
@@ -149,21 +165,11 @@ fn places_of_lent_lines(rt: HostRuntime) -> Result<(), Fail> {
     let mut shelf = shelf_of(rt.alloc(), PLACED)?;
     let mut merger = Merger::start(rt.alloc(), &mut shelf, "a.w", None, Some("c.ch"), None)?;
     let mut line = Vec::new(rt.alloc());
-    for (file, number, is_lent) in PLACES {
-        let lent = merger.lend_line();
-        assert!(rt; lent.is_some() == *is_lent, "{file} {number}");
-        let place = match lent {
-            Some(lent) => Some(lent.place),
-            None => merger.next_line(&mut shelf, &mut line)?,
-        };
-        let want = Place {
-            file: FileId(*file),
-            line: *number,
-        };
-        assert!(rt; place == Some(want), "{file} {number}");
+    for wanted in PLACES {
+        comes_lent(&rt, &mut merger, &mut shelf, &mut line, wanted)?;
     }
-    assert!(rt; merger.lend_line().is_none());
-    assert!(rt; merger.next_line(&mut shelf, &mut line)? == None);
+    holds(&rt, merger.lend_line().is_none());
+    holds(&rt, merger.next_line(&mut shelf, &mut line)?.is_none());
     Ok(())
 }
 
@@ -182,6 +188,30 @@ fn taken_at_once(merger: &mut Merger<MemoryShelf>, text: &mut Vec<u8>) -> Result
     Ok(2)
 }
 
+// So many lines are taken at once, with this text, and then one comes of this number.
+fn takes_at_once(
+    rt: &impl Abort,
+    merger: &mut Merger<MemoryShelf>,
+    shelf: &mut MemoryShelf,
+    line: &mut Vec<u8>,
+    wanted: &(u32, &[u8], Option<u32>),
+) -> Result<(), Fail> {
+    line.clear();
+    let taken = taken_at_once(merger, line)?;
+    holds(rt, taken == wanted.0);
+    same_bytes(rt, line, wanted.1);
+    let behind = number_of(merger.next_line(shelf, line)?);
+    holds(rt, behind == wanted.2);
+    Ok(())
+}
+
+fn number_of(place: Option<Place>) -> Option<u32> {
+    match place {
+        Some(place) => Some(place.line),
+        None => None,
+    }
+}
+
 // Lines that are looked at are taken once: those behind them come next. None is looked at before something was read, and none
 // behind a line with blanks at its end or before an include line.
 #[test]
@@ -189,16 +219,8 @@ fn lines_looked_at_before_they_are_taken(rt: HostRuntime) -> Result<(), Fail> {
     let mut shelf = shelf_of(rt.alloc(), LOOKED_AT)?;
     let mut merger = Merger::start(rt.alloc(), &mut shelf, "a.w", None, None, None)?;
     let mut line = Vec::new(rt.alloc());
-    let mut text = Vec::new(rt.alloc());
-    for (count, wanted, number) in TAKEN_AT_ONCE {
-        text.clear();
-        let taken = taken_at_once(&mut merger, &mut text)?;
-        assert!(rt; taken == *count && text.as_slice() == *wanted, "of {count}");
-        let behind = match merger.next_line(&mut shelf, &mut line)? {
-            Some(place) => Some(place.line),
-            None => None,
-        };
-        assert!(rt; behind == *number, "behind {taken}");
+    for wanted in TAKEN_AT_ONCE {
+        takes_at_once(&rt, &mut merger, &mut shelf, &mut line, wanted)?;
     }
     Ok(())
 }
@@ -215,10 +237,10 @@ fn lines_around_the_end_of_a_read(rt: HostRuntime) -> Result<(), Fail> {
 // Lines are gathered until they have so many bytes, and no line is lost or comes twice where they do.
 #[test]
 fn lines_around_the_end_of_a_piece_that_is_gathered(rt: HostRuntime) -> Result<(), Fail> {
+    const ROOMS: &[usize] = &[0, 1, 64, 65, 1000, 65471, 65472, 65473];
     let want = text_with(rt.alloc(), 5, TAIL_MERGED)?;
-    for room in [0usize, 1, 64, 65, 1000, 65471, 65472, 65473] {
-        let text = gathered(rt.alloc(), 5, room)?;
-        assert!(rt; text.as_slice() == want.as_slice(), "with room {room}");
+    for room in ROOMS {
+        same_at(&rt, &gathered(rt.alloc(), 5, *room)?, &want, *room);
     }
     Ok(())
 }

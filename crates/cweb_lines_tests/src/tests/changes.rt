@@ -67,7 +67,7 @@ fn compare(
     want: &str,
 ) -> Result<(), Fail> {
     let got = merged(rt.alloc(), web, change, others)?;
-    assert_eq!(rt; got.as_str(), want, "with {change:?}");
+    same_text(rt, got.as_str(), want);
     Ok(())
 }
 
@@ -460,10 +460,10 @@ fn told_of_named(alloc: Global) -> Result<(String, MemorySink, String), Fail> {
 #[test]
 fn names_of_the_files(rt: HostRuntime) -> Result<(), Fail> {
     let (at_first, sink, at_last) = told_of_named(rt.alloc())?;
-    assert!(rt; at_first.as_str() == "0 is m.web\n1 is c.ch\n");
-    assert!(rt; sink.bytes() == b"B\nB\n".as_slice());
+    same_text(&rt, at_first.as_str(), "0 is m.web\n1 is c.ch\n");
+    same_bytes(&rt, sink.bytes(), b"B\nB\n");
     let want = "0 is m.web\n1 is c.ch\n2 is lib/b\n3 is lib/b\n";
-    assert!(rt; at_last.as_str() == want);
+    same_text(&rt, at_last.as_str(), want);
     Ok(())
 }
 
@@ -477,12 +477,14 @@ fn refused(alloc: Global, second: Option<&str>, change: &str) -> Result<Option<S
 // A change file that isn't there, which is not sought in the folder either; the web comes first.
 #[test]
 fn names_of_files_that_are_not_there(rt: HostRuntime) -> Result<(), Fail> {
-    for (second, change, stop) in [
+    const ROWS: &[(Option<&str>, &str, Stop)] = &[
         (Some("m.web"), "d.ch", Stop::ChangeNotOpened),
         (None, "d.ch", Stop::WebNotOpened),
         (None, "c.ch", Stop::WebNotOpened),
-    ] {
-        assert_eq!(rt; refused(rt.alloc(), second, change)?, Some(stop));
+    ];
+    for (second, change, stop) in ROWS {
+        let found = refused(rt.alloc(), *second, *change)?;
+        holds(&rt, found == Some(*stop));
     }
     Ok(())
 }

@@ -33,8 +33,8 @@ fn takes_lines(
     lines: u32,
 ) -> Result<(), Stop> {
     for _ in 0..lines {
-        assert!(rt; shelf.failed == 0);
-        assert!(rt; merger.next_line(shelf, line)?.is_some());
+        holds(rt, shelf.failed == 0);
+        holds(rt, merger.next_line(shelf, line)?.is_some());
     }
     Ok(())
 }
@@ -48,11 +48,10 @@ fn stops_twice(
     stop: Stop,
 ) {
     for _ in 0..2 {
-        assert!(rt; shelf.failed < 2);
-        let stopped = merger.next_line(shelf, line) == Err(stop);
-        assert!(rt; stopped, "at {}", shelf.fails_at);
-        assert!(rt; line.is_empty());
-        assert!(rt; shelf.failures() == 1);
+        holds(rt, shelf.failed < 2);
+        stops(rt, merger.next_line(shelf, line), stop);
+        holds(rt, line.is_empty());
+        same_number(rt, shelf.failures(), 1);
     }
 }
 
@@ -64,10 +63,10 @@ fn failed_in(
     file: u32,
     name: &str,
 ) {
-    assert!(rt; shelf.reads == shelf.fails_at);
-    assert_eq!(rt; shelf.failed_in, file);
-    assert!(rt; file < merger.names().count());
-    assert!(rt; merger.names().get(FileId(file)) == name);
+    same_number(rt, shelf.reads, shelf.fails_at);
+    same_number(rt, u64::from(shelf.failed_in), u64::from(file));
+    holds(rt, file < merger.names().count());
+    same_text(rt, merger.names().get(FileId(file)), name);
 }
 
 // A merger of which a read has failed writes nothing.
@@ -78,9 +77,9 @@ fn writes_nothing(
     stop: Stop,
 ) {
     let mut sink = TrialSink::new(rt.alloc());
-    assert!(rt; shelf.failed == 1);
-    assert!(rt; write_merged(merger, shelf, &mut sink) == Err(stop));
-    assert_eq!(rt; sink.writes, 0);
+    holds(rt, shelf.failed == 1);
+    ends(rt, write_merged(merger, shelf, &mut sink), Err(stop));
+    same_number(rt, sink.writes, 0);
 }
 
 fn check_read(
@@ -105,13 +104,14 @@ fn check_read(
 // Each text is read twice: its bytes, and then none.
 #[test]
 fn a_read_that_fails(rt: HostRuntime) -> Result<(), Fail> {
-    for (fails_at, file, name, lines) in [
+    const ROWS: &[(u64, u32, &str, u32)] = &[
         (1, 0, "a.w", 0),
         (2, 1, "b.w", 1),
         (3, 1, "b.w", 2),
         (4, 0, "a.w", 3),
-    ] {
-        check_read(&rt, fails_at, file, name, lines)?;
+    ];
+    for (fails_at, file, name, lines) in ROWS {
+        check_read(&rt, *fails_at, *file, *name, *lines)?;
     }
     Ok(())
 }
@@ -124,25 +124,25 @@ fn stays_stopped(
     ended: Result<(), Stop>,
 ) -> Result<(), Fail> {
     let stop = Stop::ReadFault(FileId(shelf.failed_in));
-    assert!(rt; ended == Err(stop));
+    ends(rt, ended, Err(stop));
     let mut line = vec![in rt.alloc(); b'x'; 1]?;
-    assert!(rt; shelf.failed == 1);
-    assert!(rt; merger.next_line(shelf, &mut line) == Err(stop));
-    assert!(rt; line.is_empty());
-    assert!(rt; shelf.reads == shelf.fails_at);
+    holds(rt, shelf.failed == 1);
+    stops(rt, merger.next_line(shelf, &mut line), stop);
+    holds(rt, line.is_empty());
+    same_number(rt, shelf.reads, shelf.fails_at);
     Ok(())
 }
 
 // What a run leaves: a front of the merged lines and of the faults.
 fn leaves_a_front(rt: &impl Abort, written: &[u8], faults: &str) {
-    assert!(rt; MERGED_CHANGED.starts_with(written));
-    assert!(rt; FAULTS_CHANGED.starts_with(faults));
+    holds(rt, MERGED_CHANGED.starts_with(written));
+    holds(rt, FAULTS_CHANGED.starts_with(faults));
 }
 
 // What a run leaves of which no read fails.
 fn leaves_all(rt: &impl Abort, written: &[u8], faults: &str) {
-    assert_eq!(rt; written, MERGED_CHANGED);
-    assert_eq!(rt; faults, FAULTS_CHANGED);
+    same_bytes(rt, written, MERGED_CHANGED);
+    same_text(rt, faults, FAULTS_CHANGED);
 }
 
 // A shelf of the texts, of which a read fails where a byte is read at once.
@@ -167,7 +167,7 @@ fn check_run(rt: &(impl AllocGlobal + Abort), fails_at: u64) -> Result<usize, Fa
     if fails_at < 88 {
         stays_stopped(rt, &mut merger, &mut shelf, ended)?;
     } else {
-        assert!(rt; ended == Ok(()));
+        ends(rt, ended, Ok(()));
         leaves_all(rt, &sink.bytes, faults.as_str());
     }
     Ok(sink.bytes.len())
@@ -180,7 +180,7 @@ fn each_read_that_fails(rt: HostRuntime) -> Result<(), Fail> {
     let mut least = 0;
     for fails_at in 1..89 {
         let written = check_run(&rt, fails_at)?;
-        assert!(rt; least <= written);
+        holds(&rt, least <= written);
         least = written;
     }
     Ok(())
@@ -208,19 +208,17 @@ fn gathers_as_much(
 ) -> Result<(), Fail> {
     let at_once = written(rt.alloc(), fails_at, most, 0)?;
     let gathered = written(rt.alloc(), fails_at, most, 65536)?;
-    assert!(rt;
-        gathered.as_slice() == at_once.as_slice(),
-        "at {fails_at}, {most} at once"
-    );
+    same_at(rt, &gathered, &at_once, most);
     Ok(())
 }
 
 // A read that fails loses no line that could be given before it.
 #[test]
 fn lines_gathered_before_a_read_that_fails(rt: HostRuntime) -> Result<(), Fail> {
-    for most in [7, 12, 24, usize::MAX] {
+    const MOST: &[usize] = &[7, 12, 24, usize::MAX];
+    for most in MOST {
         for fails_at in 1..19 {
-            gathers_as_much(&rt, fails_at, most)?;
+            gathers_as_much(&rt, fails_at, *most)?;
         }
     }
     Ok(())
@@ -244,11 +242,11 @@ fn fails_behind(
     sink: &mut TrialSink,
     written: &str,
 ) {
-    assert!(rt; sink.failed == 0);
+    holds(rt, sink.failed == 0);
     let ended = write_merged(merger, shelf, sink);
-    assert!(rt; ended == Err(Stop::WriteFault), "at {}", sink.fails_at);
-    assert!(rt; sink.failures() == 1);
-    assert!(rt; sink.bytes.as_slice() == written.as_bytes());
+    ends(rt, ended, Err(Stop::WriteFault));
+    same_number(rt, sink.failures(), 1);
+    same_bytes(rt, &sink.bytes, written.as_bytes());
 }
 
 // What comes behind the line that was being written.
@@ -260,7 +258,7 @@ fn goes_on(
 ) -> Result<(), Fail> {
     let mut after = TrialSink::new(rt.alloc());
     write_merged(merger, shelf, &mut after)?;
-    assert!(rt; after.bytes.as_slice() == rest.as_bytes());
+    same_bytes(rt, &after.bytes, rest.as_bytes());
     Ok(())
 }
 
@@ -281,13 +279,14 @@ fn check_write(
 #[test]
 fn a_write_that_fails(rt: HostRuntime) -> Result<(), Fail> {
     // the write that fails, what was written by then, and what comes after the line that was being written
-    for (fails_at, most, written, rest) in [
+    const ROWS: &[(u64, usize, &str, &str)] = &[
         (1, usize::MAX, "", "two\nthree\n"),
         (2, usize::MAX, "one\n", "three\n"),
         (3, usize::MAX, "one\ntwo\n", ""),
         (6, 1, "one\nt", "three\n"),
-    ] {
-        check_write(&rt, fails_at, most, written, rest)?;
+    ];
+    for (fails_at, most, written, rest) in ROWS {
+        check_write(&rt, *fails_at, *most, *written, *rest)?;
     }
     Ok(())
 }
@@ -299,10 +298,14 @@ fn stays_refused(
     shelf: &mut MemoryShelf,
 ) {
     let mut line = Vec::new(rt.alloc());
-    assert!(rt; merger.next_line(shelf, &mut line) == Err(Stop::Memory));
+    stops(rt, merger.next_line(shelf, &mut line), Stop::Memory);
     let mut after = TrialSink::new(rt.alloc());
-    assert!(rt; write_merged(merger, shelf, &mut after) == Err(Stop::Memory));
-    assert!(rt; after.writes == 0);
+    ends(
+        rt,
+        write_merged(merger, shelf, &mut after),
+        Err(Stop::Memory),
+    );
+    same_number(rt, after.writes, 0);
 }
 
 // A run that gives this text and so many faults, or a front of the text where memory is refused.
@@ -317,15 +320,27 @@ fn merge_whole(
     let mut shelf = shelf_of(alloc, files)?;
     let mut sink = MemorySink::with_room(alloc, 100)?;
     let mut merger = Merger::start(alloc, &mut shelf, "a.w", None, change, Some("lib"))?;
-    let ended = write_merged_in_pieces(&mut merger, &mut shelf, &mut sink, 6);
-    assert!(rt; merged.starts_with(sink.bytes()));
-    if ended.is_err() {
-        stays_refused(rt, &mut merger, &mut shelf);
-    }
-    ended?;
-    assert!(rt; sink.bytes() == merged);
-    assert!(rt; merger.faults().len() == faults);
+    merge_all(rt, &mut merger, &mut shelf, &mut sink, merged)?;
+    same_bytes(rt, sink.bytes(), merged);
+    holds(rt, merger.faults().len() == faults);
     Ok(())
+}
+
+// The lines of a merger, which are this text, or a front of it where memory is refused.
+fn merge_all(
+    rt: &(impl AllocGlobal + Abort),
+    merger: &mut Merger<MemoryShelf>,
+    shelf: &mut MemoryShelf,
+    sink: &mut MemorySink,
+    merged: &[u8],
+) -> Result<(), Stop> {
+    holds(rt, sink.failures() == 0);
+    let ended = write_merged_in_pieces(merger, shelf, sink, 6);
+    holds(rt, merged.starts_with(sink.bytes()));
+    if ended.is_err() {
+        stays_refused(rt, merger, shelf);
+    }
+    ended
 }
 
 // The same where memory may be refused: nothing else stops it.
@@ -337,7 +352,7 @@ fn refuse_memory(
     faults: usize,
 ) {
     let ended = merge_whole(rt, files, change, merged, faults);
-    assert!(rt; matches!(ended, Ok(()) | Err(Stop::Memory)));
+    holds(rt, matches!(ended, Ok(()) | Err(Stop::Memory)));
 }
 
 // Run by `tests/refusals`, which refuses each allocation of the runs in turn.

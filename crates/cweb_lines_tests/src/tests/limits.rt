@@ -29,8 +29,8 @@ fn takes_the_longest(
         file: FileId(1),
         line: 1,
     };
-    assert!(rt; merger.next_line(shelf, line) == Ok(Some(place)));
-    assert!(rt; line.as_slice() == longest.as_slice());
+    comes(rt, merger.next_line(shelf, line)?, place);
+    holds(rt, line.as_slice() == longest.as_slice());
     Ok(())
 }
 
@@ -41,9 +41,9 @@ fn stops_at_the_longer(
     line: &mut Vec<u8>,
 ) -> Result<(), Fail> {
     line.push(b'x')?;
-    let stop = Err(Stop::LineTooLong(FileId(2)));
-    assert!(rt; merger.next_line(shelf, line) == stop);
-    assert!(rt; line.is_empty());
+    let stop = Stop::LineTooLong(FileId(2));
+    stops(rt, merger.next_line(shelf, line), stop);
+    holds(rt, line.is_empty());
     Ok(())
 }
 
@@ -52,7 +52,8 @@ fn tells<S: Shelf>(
     merger: &Merger<S>,
     want: &str,
 ) -> Result<(), Fail> {
-    assert_eq!(rt; told(rt.alloc(), merger)?.as_str(), want);
+    let told = told(rt.alloc(), merger)?;
+    same_text(rt, told.as_str(), want);
     Ok(())
 }
 
@@ -76,9 +77,9 @@ fn a_line_that_never_ends(rt: HostRuntime) -> Result<(), Fail> {
     let mut merger = start_at(rt.alloc(), &mut shelf)?;
     let mut line = Vec::new(rt.alloc());
     for _ in 0..2 {
-        let stop = Err(Stop::LineTooLong(FileId(0)));
-        assert_eq!(rt; merger.next_line(&mut shelf, &mut line), stop);
-        assert!(rt; line.is_empty());
+        let stop = Stop::LineTooLong(FileId(0));
+        stops(&rt, merger.next_line(&mut shelf, &mut line), stop);
+        holds(&rt, line.is_empty());
     }
     Ok(())
 }
@@ -96,8 +97,8 @@ fn takes_lines(
             file: FileId(0),
             line: i + 1,
         };
-        assert!(rt; merger.next_line(shelf, line)? == Some(want));
-        assert!(rt; line.len() == shelf.length);
+        comes(rt, merger.next_line(shelf, line)?, want);
+        holds(rt, line.len() == shelf.length);
     }
     Ok(())
 }
@@ -135,7 +136,7 @@ fn takes_changed(
             file: FileId(1),
             line: u32::from(i) + 4,
         };
-        assert!(rt; merger.next_line(shelf, line)? == Some(want));
+        comes(rt, merger.next_line(shelf, line)?, want);
     }
     Ok(())
 }
@@ -148,9 +149,9 @@ fn stops_for_too_much<S: Shelf>(
     line: &mut Vec<u8>,
 ) {
     for _ in 0..2 {
-        assert!(rt; shelf.failures() == 0);
-        assert!(rt; merger.next_line(shelf, line) == Err(Stop::TooMuchText));
-        assert!(rt; line.is_empty());
+        holds(rt, shelf.failures() == 0);
+        stops(rt, merger.next_line(shelf, line), Stop::TooMuchText);
+        holds(rt, line.is_empty());
     }
 }
 
@@ -172,10 +173,24 @@ fn change_shelf(alloc: Global, front: &str) -> Result<MemoryShelf, AllocError> {
     shelf_of(alloc, &[("a.w", b"A\n"), ("c.ch", front.as_bytes())])
 }
 
+// A change file of this front and lines of so many bytes that never end, of which so many are given out.
+fn check_endless(
+    rt: &(impl AllocGlobal + Abort),
+    front: &str,
+    length: usize,
+    lines: u16,
+) -> Result<(), Fail> {
+    let mut shelf = EndlessChange {
+        shelf: change_shelf(rt.alloc(), front)?,
+        lines: Endless { length },
+    };
+    take_changed(rt, &mut shelf, lines)
+}
+
 #[test]
 fn change_files_that_never_end(rt: HostRuntime) -> Result<(), Fail> {
     // what comes before the lines that never end, how long they are, and how many of them are given out
-    for (front, length, lines) in [
+    const ROWS: &[(&str, usize, u16)] = &[
         // outside an entry
         ("", 1_048_575, 0),
         // empty ones behind an @x line
@@ -184,12 +199,9 @@ fn change_files_that_never_end(rt: HostRuntime) -> Result<(), Fail> {
         ("@x\nA\n", 0, 0),
         // new lines
         ("@x\nA\n@y\n", 1_048_575, 1023),
-    ] {
-        let mut shelf = EndlessChange {
-            shelf: change_shelf(rt.alloc(), front)?,
-            lines: Endless { length },
-        };
-        take_changed(&rt, &mut shelf, lines)?;
+    ];
+    for (front, length, lines) in ROWS {
+        check_endless(&rt, *front, *length, *lines)?;
     }
     Ok(())
 }

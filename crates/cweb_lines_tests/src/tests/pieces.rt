@@ -25,9 +25,9 @@ fn compare_written(
     writes: u64,
 ) -> Result<(), Fail> {
     let sink = written(rt.alloc(), room, most)?;
-    let want = b"one\ntwo\nthree, which is longer\n\nfive\n".as_slice();
-    assert!(rt; sink.bytes.as_slice() == want);
-    assert_eq!(rt; sink.writes, writes, "with room {room}, {most} at once");
+    let want = b"one\ntwo\nthree, which is longer\n\nfive\n";
+    same_at(rt, &sink.bytes, want, room);
+    same_number(rt, sink.writes, writes);
     Ok(())
 }
 
@@ -35,7 +35,7 @@ fn compare_written(
 fn pieces(rt: HostRuntime) -> Result<(), Fail> {
     // The room for lines that are gathered, the bytes taken at once, and the writes that it takes. Whatever the room, lines
     // are written before the include line, before the end of its file, and before the last line, whose end must be read.
-    for (room, most, writes) in [
+    const ROWS: &[(usize, usize, u64)] = &[
         (0, usize::MAX, 5),
         (1, usize::MAX, 5),
         (23, usize::MAX, 5),
@@ -44,8 +44,9 @@ fn pieces(rt: HostRuntime) -> Result<(), Fail> {
         (0, 1, 37),
         (10, 1, 37),
         (65536, 16, 5),
-    ] {
-        compare_written(&rt, room, most, writes)?;
+    ];
+    for (room, most, writes) in ROWS {
+        compare_written(&rt, *room, *most, *writes)?;
     }
     Ok(())
 }
@@ -68,13 +69,18 @@ fn written_of_reads(alloc: Global, most: usize) -> Result<TrialSink, Fail> {
     Ok(sink)
 }
 
+fn compare_reads(rt: &(impl AllocGlobal + Abort), most: usize) -> Result<(), Fail> {
+    let sink = written_of_reads(rt.alloc(), most)?;
+    let want = b"a\n\ntwo\n\n three\na longer line\ntwo\n\n three\n\nlast\n";
+    same_at(rt, &sink.bytes, want, most);
+    Ok(())
+}
+
 // Blanks, line ends and an include line stand at each place of a read, and pieces of ended texts come again.
 #[test]
 fn reads_of_all_sizes(rt: HostRuntime) -> Result<(), Fail> {
     for most in 1..=40usize {
-        let sink = written_of_reads(rt.alloc(), most)?;
-        let want = b"a\n\ntwo\n\n three\na longer line\ntwo\n\n three\n\nlast\n".as_slice();
-        assert_eq!(rt; sink.bytes.as_slice(), want, "with reads of {most} bytes");
+        compare_reads(&rt, most)?;
     }
     Ok(())
 }

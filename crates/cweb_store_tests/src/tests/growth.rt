@@ -1,17 +1,21 @@
 // What is asked of whole stores: Defs, replacements, counts, and one store that is larger than each step of growth.
 use super::*;
-use rows::Row;
-use std::alloc::AllocError;
+
+// The store of each row tells what stands beside it.
+fn count_each(rt: &impl Abort, alloc: Global, rows: &[(&str, &str)]) -> Result<(), Fail> {
+    for (row, text) in rows {
+        counts(rt, alloc, *row, *text)?;
+    }
+    Ok(())
+}
 
 #[test]
 fn defs_in_a_part_of_the_program(rt: HostRuntime) -> Result<(), Fail> {
-    for (row, text) in [
+    const ROWS: &[(&str, &str)] = &[
         ("macro; defs", "tokens 1; bytes 0"),
         ("program; defs", "tokens 1; bytes 0; defs"),
-    ] {
-        counts(&rt, rt.alloc(), row, text)?;
-    }
-    Ok(())
+    ];
+    count_each(&rt, rt.alloc(), ROWS)
 }
 
 #[test]
@@ -24,32 +28,33 @@ fn later_replacements_win(rt: HostRuntime) -> Result<(), Fail> {
     )
 }
 
-// A store where each of three bytes is replaced 40 times.
-fn replaced_often(rt: &impl Abort, alloc: Global) -> Result<Store, AllocError> {
-    let mut row = Row::new(alloc);
-    for _ in 0..39 {
-        row.make_all(rt, "byte 128 a; byte 254 b; byte 255 c")?;
+// Each of three bytes is replaced 40 times.
+#[derive(Clone, Copy)]
+struct ReplacedOften;
+
+impl Case for ReplacedOften {
+    fn fill<A: Abort>(&self, rt: &A, row: &mut Row) -> Result<(), AllocError> {
+        for _ in 0..39 {
+            row.make_all(rt, "byte 128 a; byte 254 b; byte 255 c")?;
+        }
+        row.make_all(rt, "byte 255 g; byte 254 f; byte 128 de")
     }
-    row.make_all(rt, "byte 255 g; byte 254 f; byte 128 de")?;
-    row.finish()
+
+    fn look<A: Abort>(&self, rt: &A, store: &Store) {
+        let text = "tokens 0; bytes 121; byte 128 de; byte 254 f; byte 255 g";
+        counts_store(rt, store, text);
+    }
 }
 
 #[test]
 fn many_replacements_of_a_byte(rt: HostRuntime) -> Result<(), Fail> {
-    let store = match replaced_often(&rt, rt.alloc()) {
-        Ok(store) => store,
-        Err(_) => replaced_often(&rt, rt.alloc())?,
-    };
-    let mut expected = Expected::new("tokens 0; bytes 121; byte 128 de; byte 254 f; byte 255 g");
-    expected.tell_counts(&store);
-    assert!(rt; expected.is_met());
-    Ok(())
+    check(&rt, rt.alloc(), &ReplacedOften)
 }
 
 // An equal Word or Punct is kept once; each other text as often as it is given.
 #[test]
 fn bytes_of_texts(rt: HostRuntime) -> Result<(), Fail> {
-    for (row, text) in [
+    const ROWS: &[(&str, &str)] = &[
         ("program; word foo; word foo; word foo", "tokens 3; bytes 3"),
         (
             "program; word foo; word bar; sign +; word foo; close; macro; word bar; word ba; word foo",
@@ -80,38 +85,47 @@ fn bytes_of_texts(rt: HostRuntime) -> Result<(), Fail> {
             "program; word foo; byte 200 cd",
             "tokens 1; bytes 5; byte 200 cd",
         ),
-    ] {
-        counts(&rt, rt.alloc(), row, text)?;
-    }
-    Ok(())
+    ];
+    count_each(&rt, rt.alloc(), ROWS)
 }
 
-// A store with a part of its own for each of 200 uses of a name.
-fn many(rt: &impl Abort, alloc: Global) -> Result<Store, AllocError> {
-    let mut row = Row::new(alloc);
-    row.make_all(rt, "full A")?;
-    for _ in 0..200 {
-        row.make_all(rt, "part 0; word foo; close")?;
+// A part of its own for each of 200 uses of a name.
+#[derive(Clone, Copy)]
+struct ManyParts;
+
+impl Case for ManyParts {
+    fn fill<A: Abort>(&self, rt: &A, row: &mut Row) -> Result<(), AllocError> {
+        row.make_all(rt, "full A")?;
+        for _ in 0..200 {
+            row.make_all(rt, "part 0; word foo; close")?;
+        }
+        Ok(())
     }
-    row.finish()
+
+    fn look<A: Abort>(&self, rt: &A, store: &Store) {
+        counts_store(rt, store, "tokens 200; bytes 4");
+        has_parts(rt, store, 200);
+    }
+}
+
+// A part of the token with a number alone; the number of the next one.
+fn part_is(rt: &impl Abort, part: Part, number: u32) -> u32 {
+    holds(rt, number < 200);
+    let next = number + 1;
+    holds(rt, part.first == number && part.after == next);
+    next
+}
+
+// So many parts of the first name have a token each, in order.
+fn has_parts(rt: &impl Abort, store: &Store, parts: u32) {
+    let mut count: u32 = 0;
+    for part in store.parts(NameId(0)) {
+        count = part_is(rt, part, count);
+    }
+    holds(rt, count == parts);
 }
 
 #[test]
 fn many_parts_of_a_name(rt: HostRuntime) -> Result<(), Fail> {
-    let store = match many(&rt, rt.alloc()) {
-        Ok(store) => store,
-        Err(_) => many(&rt, rt.alloc())?,
-    };
-    let mut expected = Expected::new("tokens 200; bytes 4");
-    expected.tell_counts(&store);
-    assert!(rt; expected.is_met());
-    let mut count: u32 = 0;
-    for part in store.parts(NameId(0)) {
-        assert!(rt; count < 200);
-        assert_eq!(rt; part.first, count);
-        count += 1;
-        assert_eq!(rt; part.after, count);
-    }
-    assert_eq!(rt; count, 200);
-    Ok(())
+    check(&rt, rt.alloc(), &ManyParts)
 }

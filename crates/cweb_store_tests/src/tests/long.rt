@@ -1,24 +1,36 @@
 // Texts around the length of 65,536 bytes: words are kept once, literals each time.
 use super::*;
-use rows::Row;
-use std::alloc::AllocError;
 
 // The longest text, of one letter.
 const LONGEST: usize = 65_537;
 
-// A part of a word and a literal of each of four lengths, and of them once more.
-fn pushed_long(rt: &impl Abort, alloc: Global, letters: &[u8]) -> Result<Store, AllocError> {
-    let mut row = Row::new(alloc);
-    row.make_all(rt, "program")?;
-    for _ in 0..2 {
-        for less in 0..4 {
-            if let Some(text) = letters.get(less..) {
-                row.push(rt, Token::Word(text))?;
-                row.push(rt, Token::Literal(text))?;
-            }
+// A word and a literal of each of four lengths.
+fn push_long(rt: &impl Abort, row: &mut Row, letters: &[u8]) -> Result<(), AllocError> {
+    for less in 0..4 {
+        if let Some(text) = letters.get(less..) {
+            row.push(rt, Token::Word(text))?;
+            row.push(rt, Token::Literal(text))?;
         }
     }
-    row.finish()
+    Ok(())
+}
+
+// A part of such words and literals, and of them once more.
+#[derive(Clone, Copy)]
+struct Long<'a>(&'a [u8]);
+
+impl Case for Long<'_> {
+    fn fill<A: Abort>(&self, rt: &A, row: &mut Row) -> Result<(), AllocError> {
+        row.make_all(rt, "program")?;
+        for _ in 0..2 {
+            push_long(rt, row, self.0)?;
+        }
+        Ok(())
+    }
+
+    fn look<A: Abort>(&self, rt: &A, store: &Store) {
+        has_long_texts(rt, store, self.0);
+    }
 }
 
 // The token with a number, from 0, in such a part.
@@ -31,20 +43,28 @@ fn long_token(letters: &[u8], number: u32) -> Token<'_> {
     }
 }
 
+// The longest text.
+fn longest(alloc: Global) -> Result<Vec<u8>, AllocError> {
+    match vec![in alloc; b'x'; LONGEST] {
+        Ok(letters) => Ok(letters),
+        Err(_) => vec![in alloc; b'x'; LONGEST],
+    }
+}
+
+// The store has each text as often as it is kept, and the tokens in their order.
+fn has_long_texts(rt: &impl Abort, store: &Store, letters: &[u8]) {
+    holds(
+        rt,
+        store.text_bytes() == 3 * (65_534 + 65_535 + 65_536 + 65_537),
+    );
+    holds(rt, store.tokens() == 16);
+    for number in 0..store.tokens() {
+        same_token(rt, store.token(number), long_token(letters, number));
+    }
+}
+
 #[test]
 fn texts_of_about_65536_bytes(rt: HostRuntime) -> Result<(), Fail> {
-    let letters = match vec![in rt.alloc(); b'x'; LONGEST] {
-        Ok(letters) => letters,
-        Err(_) => vec![in rt.alloc(); b'x'; LONGEST]?,
-    };
-    let store = match pushed_long(&rt, rt.alloc(), letters.as_slice()) {
-        Ok(store) => store,
-        Err(_) => pushed_long(&rt, rt.alloc(), letters.as_slice())?,
-    };
-    assert!(rt; store.text_bytes() == 3 * (65_534 + 65_535 + 65_536 + 65_537));
-    assert!(rt; store.tokens() == 16);
-    for number in 0..store.tokens() {
-        assert!(rt; store.token(number) == long_token(letters.as_slice(), number));
-    }
-    Ok(())
+    let letters = longest(rt.alloc())?;
+    check(&rt, rt.alloc(), &Long(letters.as_slice()))
 }

@@ -2,9 +2,20 @@
 use super::*;
 
 // What three occurrences stand for.
+pub fn stand_for(rt: &impl Abort, store: &Store, text: &str) {
+    let mut expected = Expected::new(text);
+    expected.tell_standings(store);
+    is_met(rt, &expected, text);
+}
+
+fn stands(rt: &impl Abort, alloc: Global, row: &str, text: &str) -> Result<(), Fail> {
+    let asked = Asked::Standings;
+    check(rt, alloc, &Telling { row, asked, text })
+}
+
 #[test]
 fn abbreviations(rt: HostRuntime) -> Result<(), Fail> {
-    for (row, text) in [
+    const ROWS: &[(&str, &str)] = &[
         (
             "prefix Glob; full Global variables; full Global variables",
             "000",
@@ -18,11 +29,9 @@ fn abbreviations(rt: HostRuntime) -> Result<(), Fail> {
             "001",
         ),
         ("prefix Glob; prefix Glob; prefix Glob", "---"),
-    ] {
-        let store = store_of(&rt, rt.alloc(), row)?;
-        let mut expected = Expected::new(text);
-        expected.tell_standings(&store);
-        assert!(rt; expected.is_met(), "{row}");
+    ];
+    for (row, text) in ROWS {
+        stands(&rt, rt.alloc(), *row, *text)?;
     }
     Ok(())
 }

@@ -65,19 +65,23 @@ fn ends_of_macros(rt: HostRuntime) -> Result<(), Fail> {
     )
 }
 
+// The first uses of these stretches.
+pub fn has_uses(rt: &impl Abort, store: &Store, text: &str) {
+    let mut expected = Expected::new(text);
+    expected.tell_next_use(store, 0, 5);
+    expected.tell_next_use(store, 3, 5);
+    expected.tell_next_use(store, 0, 1);
+    expected.tell_next_use(store, 5, 6);
+    is_met(rt, &expected, text);
+}
+
 // Of a part with two uses, of what stands behind the first of them and before it, and of a part without.
 #[test]
 fn first_uses(rt: HostRuntime) -> Result<(), Fail> {
-    let store = store_of(
-        &rt,
-        rt.alloc(),
-        "full A; program; word x; blank; name 0; blank; name 0; close; program; word y; close",
-    )?;
-    let mut expected = Expected::new(" 2 4 1 6");
-    expected.tell_next_use(&store, 0, 5);
-    expected.tell_next_use(&store, 3, 5);
-    expected.tell_next_use(&store, 0, 1);
-    expected.tell_next_use(&store, 5, 6);
-    assert!(rt; expected.is_met());
-    Ok(())
+    const CASE: Telling = Telling {
+        row: "full A; program; word x; blank; name 0; blank; name 0; close; program; word y; close",
+        asked: Asked::Uses,
+        text: " 2 4 1 6",
+    };
+    check(&rt, rt.alloc(), &CASE)
 }

@@ -55,11 +55,19 @@ impl<'a> Expected<'a> {
         self.tell(b"; macros");
         self.tell_parts(store, store.macros());
         self.tell(b"; files");
+        self.tell_files(store);
+        self.tell(b"; faults");
+        self.tell_faults(store);
+    }
+
+    fn tell_files(&mut self, store: &Store) {
         for id in store.files() {
             self.tell(b" ");
             self.tell_number(id.0);
         }
-        self.tell(b"; faults");
+    }
+
+    fn tell_faults(&mut self, store: &Store) {
         for fault in store.name_faults() {
             self.tell(kind_name(fault.kind));
             self.tell_number(fault.occurrence.0);
@@ -86,13 +94,18 @@ impl<'a> Expected<'a> {
             self.tell(b"; defs");
         }
         for byte in 128..=255 {
-            if let Some(text) = store.replacement(byte) {
-                self.tell(b"; byte ");
-                self.tell_number(u32::from(byte));
-                self.tell(b" ");
-                self.tell(text);
-            }
+            self.tell_replacement(byte, store.replacement(byte));
         }
+    }
+
+    fn tell_replacement(&mut self, byte: u8, text: Option<&[u8]>) {
+        let Some(text) = text else {
+            return;
+        };
+        self.tell(b"; byte ");
+        self.tell_number(u32::from(byte));
+        self.tell(b" ");
+        self.tell(text);
     }
 
     /// The first use in a stretch of tokens.

@@ -1,7 +1,5 @@
 // Words are kept once, how many there are, and whatever their bytes are.
 use super::*;
-use rows::Row;
-use std::alloc::AllocError;
 
 // The bytes of words that differ in the middle alone.
 fn digits(number: u32) -> [u8; 24] {
@@ -30,81 +28,99 @@ impl Words {
     }
 }
 
-// A part of words, and of the same words once more.
-fn pushed_twice(
-    rt: &impl Abort,
-    alloc: Global,
-    words: Words,
-    count: u32,
-) -> Result<Store, AllocError> {
-    let mut row = Row::new(alloc);
-    row.make_all(rt, "program")?;
-    for _ in 0..2 {
-        for number in 0..count {
-            row.push(rt, Token::Word(words.of(&digits(number))))?;
-        }
-    }
-    row.finish()
-}
-
-// A store of so many words, each pushed twice, has so many bytes of texts, and gives the words in their order.
-fn keeps_once(
-    rt: &impl Abort,
-    alloc: Global,
+// A part of so many words, and of the same words once more: its store has so many bytes of texts, and gives the words in their order.
+#[derive(Clone, Copy)]
+struct PushedTwice {
     words: Words,
     count: u32,
     bytes: u64,
-) -> Result<(), Fail> {
-    let store = match pushed_twice(rt, alloc, words, count) {
-        Ok(store) => store,
-        Err(_) => pushed_twice(rt, alloc, words, count)?,
-    };
-    assert!(rt; store.text_bytes() == bytes);
-    assert!(rt; count > 0);
-    for number in 0..store.tokens() {
-        assert!(rt; store.token(number) == Token::Word(words.of(&digits(number % count))));
+}
+
+impl Case for PushedTwice {
+    fn fill<A: Abort>(&self, rt: &A, row: &mut Row) -> Result<(), AllocError> {
+        row.make_all(rt, "program")?;
+        for _ in 0..2 {
+            for number in 0..self.count {
+                let word = digits(number);
+                row.push(rt, Token::Word(self.words.of(&word)))?;
+            }
+        }
+        Ok(())
     }
-    Ok(())
+
+    fn look<A: Abort>(&self, rt: &A, store: &Store) {
+        holds(rt, store.text_bytes() == self.bytes);
+        has_words(rt, store, self.words, self.count);
+    }
+}
+
+// The tokens of a store are so many words in their order, again and again.
+fn has_words(rt: &impl Abort, store: &Store, words: Words, count: u32) {
+    holds(rt, count > 0);
+    for number in 0..store.tokens() {
+        let word = digits(number % count);
+        same_token(rt, store.token(number), Token::Word(words.of(&word)));
+    }
 }
 
 // The table grows four times.
 #[test]
 fn many_words(rt: HostRuntime) -> Result<(), Fail> {
-    keeps_once(&rt, rt.alloc(), Words::Short, 300, 2400)
+    let words = Words::Short;
+    let case = PushedTwice {
+        words,
+        count: 300,
+        bytes: 2400,
+    };
+    check(&rt, rt.alloc(), &case)
 }
 
 // They all belong into the same eight slots.
 #[test]
 fn words_of_one_key(rt: HostRuntime) -> Result<(), Fail> {
-    keeps_once(&rt, rt.alloc(), Words::OfOneKey, 40, 960)
+    let words = Words::OfOneKey;
+    let case = PushedTwice {
+        words,
+        count: 40,
+        bytes: 960,
+    };
+    check(&rt, rt.alloc(), &case)
 }
 
 const LETTERS: &[u8; 40] = b"aaaaaaaaaaaaaaaaaaaaaaaaaaaaaaaaaaaaaaaa";
 
 // Words that begin one another, and that of no bytes.
-fn of_each_length(rt: &impl Abort, alloc: Global) -> Result<Store, AllocError> {
-    let mut row = Row::new(alloc);
-    row.make_all(rt, "program")?;
-    for _ in 0..2 {
-        for len in 0..41 {
-            row.push(rt, Token::Word(&LETTERS.as_slice()[..len]))?;
+#[derive(Clone, Copy)]
+struct EachLength;
+
+impl Case for EachLength {
+    fn fill<A: Abort>(&self, rt: &A, row: &mut Row) -> Result<(), AllocError> {
+        row.make_all(rt, "program")?;
+        for _ in 0..2 {
+            for len in 0..41 {
+                row.push(rt, Token::Word(&LETTERS.as_slice()[..len]))?;
+            }
         }
+        Ok(())
     }
-    row.finish()
+
+    fn look<A: Abort>(&self, rt: &A, store: &Store) {
+        holds(rt, store.text_bytes() == 820);
+        has_each_length(rt, store);
+    }
+}
+
+fn has_each_length(rt: &impl Abort, store: &Store) {
+    for number in 0..store.tokens() {
+        let len = number as usize % 41;
+        let word = &LETTERS.as_slice()[..len];
+        same_token(rt, store.token(number), Token::Word(word));
+    }
 }
 
 #[test]
 fn words_of_each_length(rt: HostRuntime) -> Result<(), Fail> {
-    let store = match of_each_length(&rt, rt.alloc()) {
-        Ok(store) => store,
-        Err(_) => of_each_length(&rt, rt.alloc())?,
-    };
-    assert!(rt; store.text_bytes() == 820);
-    for number in 0..store.tokens() {
-        let len = number as usize % 41;
-        assert!(rt; store.token(number) == Token::Word(&LETTERS.as_slice()[..len]));
-    }
-    Ok(())
+    check(&rt, rt.alloc(), &EachLength)
 }
 
 // The longest words that differ in one byte.
@@ -122,39 +138,58 @@ fn marked(bytes: &mut [u8; LONGEST], len: usize, place: usize) -> &[u8] {
     }
 }
 
-// Words of each length, each with another letter at each place.
-fn of_each_place(rt: &impl Abort, alloc: Global) -> Result<Store, AllocError> {
-    let mut row = Row::new(alloc);
+// The words of a length, each with another letter at each place.
+fn push_length(rt: &impl Abort, row: &mut Row, len: usize) -> Result<(), AllocError> {
     let mut bytes = [b'a'; LONGEST];
-    row.make_all(rt, "program")?;
-    for _ in 0..2 {
-        for len in 1..=LONGEST {
-            for place in 0..len {
-                row.push(rt, Token::Word(marked(&mut bytes, len, place)))?;
+    for place in 0..len {
+        row.push(rt, Token::Word(marked(&mut bytes, len, place)))?;
+    }
+    Ok(())
+}
+
+// Words of each length, and all once more.
+#[derive(Clone, Copy)]
+struct EachPlace;
+
+impl Case for EachPlace {
+    fn fill<A: Abort>(&self, rt: &A, row: &mut Row) -> Result<(), AllocError> {
+        row.make_all(rt, "program")?;
+        for _ in 0..2 {
+            for len in 1..=LONGEST {
+                push_length(rt, row, len)?;
             }
         }
+        Ok(())
     }
-    row.finish()
+
+    fn look<A: Abort>(&self, rt: &A, store: &Store) {
+        holds(rt, store.text_bytes() == 2109);
+        has_each_place(rt, store);
+    }
+}
+
+// A store has the words of a length from this token on; the number of the next one.
+fn has_length(rt: &impl Abort, store: &Store, first: u32, len: usize) -> u32 {
+    let mut bytes = [b'a'; LONGEST];
+    let mut number = first;
+    for place in 0..len {
+        let word = marked(&mut bytes, len, place);
+        number = next_is(rt, store, number, Token::Word(word));
+    }
+    number
+}
+
+fn has_each_place(rt: &impl Abort, store: &Store) {
+    let mut number: u32 = 0;
+    for _ in 0..2 {
+        for len in 1..=LONGEST {
+            number = has_length(rt, store, number, len);
+        }
+    }
+    holds(rt, number == store.tokens());
 }
 
 #[test]
 fn words_that_differ_in_one_byte(rt: HostRuntime) -> Result<(), Fail> {
-    let store = match of_each_place(&rt, rt.alloc()) {
-        Ok(store) => store,
-        Err(_) => of_each_place(&rt, rt.alloc())?,
-    };
-    assert!(rt; store.text_bytes() == 2109);
-    let mut bytes = [b'a'; LONGEST];
-    let mut number: u32 = 0;
-    for _ in 0..2 {
-        for len in 1..=LONGEST {
-            for place in 0..len {
-                assert!(rt; number < store.tokens());
-                assert!(rt; store.token(number) == Token::Word(marked(&mut bytes, len, place)));
-                number += 1;
-            }
-        }
-    }
-    assert!(rt; number == store.tokens());
-    Ok(())
+    check(&rt, rt.alloc(), &EachPlace)
 }
