@@ -1,5 +1,4 @@
 use Rattle.std.proofs.Common.{◌++◌, ◌∙◌, List, ℕ, Some, ap, append-nil, arith, length, refl, sym, take}
-use Rattle.std.proofs.lemmas.Grind.{common_steps}
 use Rattle.std.specs.Prelude.{option_map}
 use Rattle.std.proofs.lemmas.List.{length-map}
 use Rattle.cweb_store.specs.Borders.{Bordered, lends, lent_seen}
@@ -83,6 +82,3 @@ tokens-preserved c =
           c.text_in_macro.ensures
           ∙ ap (λ (u : List ℕ). mid ++ u) (sym (added-continued (replaced_in w) last at.token l at.lent)));
     }
-
-pub returns-in_err-end-clause-front : goal.returns-in_err-end-clause-front
-returns-in_err-end-clause-front c = grind (arith, common_steps)
