@@ -1,6 +1,8 @@
 // Places that keep files.
+use super::wanted::{holds, same_number};
 use cweb_files::Sink;
 use cweb_out::{BinFault, BinFile, Bins, MemoryBins};
+use std::process::Abort;
 use std::test::Fail;
 
 // A file is begun, written in pieces and committed or given up; false where a call failed.
@@ -37,44 +39,77 @@ fn is_file(file: &BinFile, name: &str, bytes: &[u8]) -> bool {
     file.name.as_str() == name && file.bytes.as_slice() == bytes
 }
 
+// Puts files, and looks at what is there then.
+fn replaces(rt: &impl Abort, bins: &mut MemoryBins) {
+    holds(rt, put(bins, "a.c", &[b"old"], true));
+    holds(rt, put(bins, "b.c", &[], true));
+    holds(rt, put(bins, "a.c", &[b"new", b"er"], true));
+    holds(rt, has_files(bins, &[("b.c", b""), ("a.c", b"newer")]));
+}
+
 #[test]
 fn a_committed_draft_takes_the_place_of_the_file_of_its_name(rt: HostRuntime) -> Result<(), Fail> {
     let mut bins = MemoryBins::with_room(rt.alloc(), 2, 8)?;
-    assert!(rt; put(&mut bins, "a.c", &[b"old"], true));
-    assert!(rt; put(&mut bins, "b.c", &[], true));
-    assert!(rt; put(&mut bins, "a.c", &[b"new", b"er"], true));
-    assert!(rt; has_files(&bins, &[("b.c", b""), ("a.c", b"newer")]));
+    replaces(&rt, &mut bins);
     Ok(())
+}
+
+fn gives_up(rt: &impl Abort, bins: &mut MemoryBins) {
+    holds(rt, put(bins, "a.c", &[b"old"], true));
+    holds(rt, put(bins, "a.c", &[b"new"], false));
+    holds(rt, has_files(bins, &[("a.c", b"old")]));
+}
+
+// A draft that was left open is given up too.
+fn leaves_open(rt: &impl Abort, bins: &mut MemoryBins) {
+    if bins.failures() < 1000 {
+        holds(rt, bins.start_file("b.c").is_ok());
+    }
+    holds(rt, put(bins, "c.c", &[b"c"], true));
+    holds(rt, has_files(bins, &[("a.c", b"old"), ("c.c", b"c")]));
 }
 
 #[test]
 fn a_draft_that_is_given_up_leaves_the_files(rt: HostRuntime) -> Result<(), Fail> {
     let mut bins = MemoryBins::with_room(rt.alloc(), 1, 8)?;
-    assert!(rt; put(&mut bins, "a.c", &[b"old"], true));
-    assert!(rt; put(&mut bins, "a.c", &[b"new"], false));
-    assert!(rt; has_files(&bins, &[("a.c", b"old")]));
-    // A draft that was left open is given up too.
-    if bins.failures() < 1000 {
-        assert!(rt; bins.start_file("b.c").is_ok());
-    }
-    assert!(rt; put(&mut bins, "c.c", &[b"c"], true));
-    assert!(rt; has_files(&bins, &[("a.c", b"old"), ("c.c", b"c")]));
+    gives_up(&rt, &mut bins);
+    leaves_open(&rt, &mut bins);
     Ok(())
+}
+
+fn fails_without_a_draft(rt: &impl Abort, bins: &mut MemoryBins) {
+    if bins.failures() < 1000 {
+        holds(rt, bins.write(b"x").is_err());
+    }
+    if bins.failures() < 1000 {
+        holds(rt, bins.commit_file() == Err(BinFault::Device));
+    }
+    bins.abandon_file();
+    same_number(rt, bins.failures(), 2);
+    holds(rt, bins.files().is_empty());
 }
 
 #[test]
 fn without_a_draft_writes_and_commits_fail(rt: HostRuntime) -> Result<(), Fail> {
     let mut bins = MemoryBins::with_room(rt.alloc(), 1, 8)?;
-    if bins.failures() < 1000 {
-        assert!(rt; bins.write(b"x").is_err());
-    }
-    if bins.failures() < 1000 {
-        assert_eq!(rt; bins.commit_file(), Err(BinFault::Device));
-    }
-    bins.abandon_file();
-    assert_eq!(rt; bins.failures(), 2);
-    assert!(rt; bins.files().is_empty());
+    fails_without_a_draft(&rt, &mut bins);
     Ok(())
+}
+
+// Whether a file is the one of its name, and whole.
+fn is_whole(file: &BinFile, has_a: bool, has_b: bool) -> bool {
+    match file.name.as_str() {
+        "a.c" => has_a && file.bytes.as_slice() == b"old".as_slice(),
+        _ => has_b && file.bytes.as_slice() == b"b".as_slice(),
+    }
+}
+
+fn are_whole(rt: &impl Abort, bins: &MemoryBins, has_a: bool, has_b: bool) {
+    let count = bins.files().len();
+    holds(rt, count == has_a as usize + has_b as usize);
+    for file in bins.files() {
+        holds(rt, is_whole(file, has_a, has_b));
+    }
 }
 
 // Nothing is lost or cut where memory ends: each call succeeds, or the files are as they were.
@@ -83,14 +118,6 @@ fn a_refused_growth_leaves_the_files(rt: HostRuntime) -> Result<(), Fail> {
     let mut bins = MemoryBins::with_room(rt.alloc(), 0, 0)?;
     let has_a = put(&mut bins, "a.c", &[b"old"], true);
     let has_b = put(&mut bins, "b.c", &[b"b"], true);
-    let count = bins.files().len();
-    assert_eq!(rt; count, has_a as usize + has_b as usize);
-    for file in bins.files() {
-        let whole = match file.name.as_str() {
-            "a.c" => has_a && file.bytes.as_slice() == b"old".as_slice(),
-            _ => has_b && file.bytes.as_slice() == b"b".as_slice(),
-        };
-        assert!(rt; whole);
-    }
+    are_whole(&rt, &bins, has_a, has_b);
     Ok(())
 }

@@ -1,10 +1,13 @@
 // Sinks that fail, and memory that is refused.
+ghost use Rattle.cweb_out.specs.Outputs.{IsPlanOf};
+
+use super::cases::{Case, check_files};
 use super::gathering::gather_all;
 use super::told::print_file;
-use super::webs::store_of;
-use cweb_files::{MemoryShelf, Sink};
-use cweb_lines::{FileNames, Merger};
-use cweb_out::{BinFault, Bins, Expander, MemoryBins, PlanFault, plan};
+use super::wanted::{holds, same_bytes, same_number};
+use cweb_files::{Sink, SinkFault};
+use cweb_lines::FileNames;
+use cweb_out::{BinFault, Bins, Expander, MemoryBins, Plan, PlanFault, plan};
 use cweb_store::Store;
 use std::alloc::{AllocError, Global};
 use std::process::Abort;
@@ -20,24 +23,6 @@ const FILE: &[u8] =
 const PRINTED: &[u8] =
     b"/*1:*/\n#line 1 \"s\\\".w\"\n\nxXC3- -10@a\n#define M 1 \\\n\"x\"\n#define N\n/*2:*/b 'c'/*:2*/\n#line 12345 \"s\\\".w\"\n;\n/*:1*/\n";
 
-// A growth that is refused is asked for once more: it is refused only once.
-fn store(rt: &impl Abort, alloc: Global) -> Result<Store, AllocError> {
-    match store_of(rt, alloc, FILE) {
-        Ok(store) => Ok(store),
-        Err(_) => store_of(rt, alloc, FILE),
-    }
-}
-
-fn merger(alloc: Global, shelf: &mut MemoryShelf) -> Result<Merger<MemoryShelf>, Fail> {
-    if shelf.put(NAME, b"").is_err() {
-        shelf.put(NAME, b"")?;
-    }
-    match Merger::start(alloc, shelf, NAME, None, None, None) {
-        Ok(merger) => Ok(merger),
-        Err(_) => Ok(Merger::start(alloc, shelf, NAME, None, None, None)?),
-    }
-}
-
 // Prints the web's main file, token by token or gathered, to a sink that fails behind so many good writes; whether all was printed.
 fn print(
     rt: &impl Abort,
@@ -47,27 +32,45 @@ fn print(
     gathers: bool,
     good: u64,
 ) -> Result<bool, PlanFault> {
-    let plan = match plan(alloc, store, "s.c") {
-        Ok(plan) => plan,
-        Err(fault) => return Err(fault),
-    };
-    assert!(rt; plan.outputs() > 0);
-    let mut expander = Expander::new(alloc, store, &plan, 0)?;
+    match plan(alloc, store, "s.c") {
+        Ok(plan) => Ok(print_plan(rt, alloc, store, &plan, names, gathers, good)?),
+        Err(fault) => Err(fault),
+    }
+}
+
+fn print_plan(
+    rt: &impl Abort,
+    alloc: Global,
+    store: &Store,
+    plan: &Plan,
+    names: &FileNames,
+    gathers: bool,
+    good: u64,
+) -> Result<bool, AllocError>
+    requires { IsPlanOf store.now plan.now }
+{
+    holds(rt, plan.outputs() > 0);
+    let mut expander = Expander::new(alloc, store, plan, 0)?;
     let mut out = TrialSink::failing_behind(alloc, 1000, good)?;
     let printed = if gathers {
         gather_all(rt, alloc, &mut expander, names, &mut out)?
     } else {
         print_file(rt, &mut expander, names, &mut out)
     };
+    Ok(is_whole(rt, printed, &out))
+}
+
+// What a sink holds that was printed to: all, or a front where a write failed; whether it is all.
+fn is_whole(rt: &impl Abort, printed: Result<(), SinkFault>, out: &TrialSink) -> bool {
     if printed.is_ok() {
-        assert_eq!(rt; out.bytes(), PRINTED);
-        assert_eq!(rt; out.failed, 0);
-        return Ok(true);
+        same_bytes(rt, out.bytes(), PRINTED);
+        same_number(rt, out.failed, 0);
+        return true;
     }
-    assert!(rt; PRINTED.starts_with(out.bytes()));
-    assert!(rt; out.bytes().len() < PRINTED.len());
-    assert_eq!(rt; out.failed, 1);
-    Ok(false)
+    holds(rt, PRINTED.starts_with(out.bytes()));
+    holds(rt, out.bytes().len() < PRINTED.len());
+    same_number(rt, out.failed, 1);
+    false
 }
 
 // The same, once more where memory was refused.
@@ -83,18 +86,11 @@ fn prints_all(
         Err(PlanFault::Memory) => print(rt, alloc, store, names, gathers, good),
         other => other,
     };
-    assert!(rt; first.is_ok());
+    holds(rt, first.is_ok());
     matches!(first, Ok(true))
 }
 
 // How many writes fail, each in turn, before all is printed.
-fn faults(rt: &impl Abort, alloc: Global, gathers: bool) -> Result<usize, Fail> {
-    let mut shelf = MemoryShelf::new(alloc);
-    let merger = merger(alloc, &mut shelf)?;
-    let store = store(rt, alloc)?;
-    Ok(faults_of(rt, alloc, &store, merger.names(), gathers))
-}
-
 fn faults_of(
     rt: &impl Abort,
     alloc: Global,
@@ -112,52 +108,95 @@ fn faults_of(
     faults
 }
 
+// Token by token, more writes fail than pieces of two bytes are printed.
+#[derive(Clone, Copy)]
+struct TokenByToken;
+
+impl Case for TokenByToken {
+    fn look<A: Abort>(
+        &self,
+        rt: &A,
+        alloc: Global,
+        store: &Store,
+        names: &FileNames,
+    ) -> Result<(), Fail> {
+        let faults = faults_of(rt, alloc, store, names, false);
+        holds(rt, faults > PRINTED.len() / 2);
+        holds(rt, faults < 1000);
+        Ok(())
+    }
+}
+
 // Run by `rt try --test --fail-alloc N` too, which refuses the Nth growth: then no token changes.
 #[test]
 fn a_front_is_written_up_to_a_fault(rt: HostRuntime) -> Result<(), Fail> {
-    let faults = faults(&rt, rt.alloc(), false)?;
-    assert!(rt; faults > PRINTED.len() / 2);
-    assert!(rt; faults < 1000);
-    Ok(())
+    check_files(&rt, rt.alloc(), (NAME, None), FILE, &TokenByToken)
 }
 
-// The sink takes two bytes a write, all of one piece.
+// Gathered, all is one piece, of which the sink takes two bytes a write.
+#[derive(Clone, Copy)]
+struct InOnePiece;
+
+impl Case for InOnePiece {
+    fn look<A: Abort>(
+        &self,
+        rt: &A,
+        alloc: Global,
+        store: &Store,
+        names: &FileNames,
+    ) -> Result<(), Fail> {
+        let faults = faults_of(rt, alloc, store, names, true);
+        holds(rt, faults == PRINTED.len() / 2 + PRINTED.len() % 2);
+        Ok(())
+    }
+}
+
 #[test]
 fn a_front_is_written_of_what_was_gathered(rt: HostRuntime) -> Result<(), Fail> {
-    assert_eq!(rt;
-        faults(&rt, rt.alloc(), true)?,
-        PRINTED.len() / 2 + PRINTED.len() % 2
-    );
-    Ok(())
+    check_files(&rt, rt.alloc(), (NAME, None), FILE, &InOnePiece)
 }
 
 // A file is begun, where memory is refused once more, and the bins are as they were.
 fn start(rt: &impl Abort, bins: &mut MemoryBins, name: &str) {
-    assert!(rt; bins.failures() == 0);
+    holds(rt, bins.failures() == 0);
     if let Err(fault) = bins.start_file(name) {
-        assert_eq!(rt; fault, BinFault::Memory);
-        assert!(rt; bins.failures() == 0);
-        assert!(rt; bins.files().is_empty());
-        assert!(rt; bins.start_file(name).is_ok());
+        holds(rt, fault == BinFault::Memory);
+        holds(rt, bins.failures() == 0);
+        holds(rt, bins.files().is_empty());
+        holds(rt, bins.start_file(name).is_ok());
+    }
+}
+
+// A file is written byte by byte.
+fn write_each(rt: &impl Abort, bins: &mut MemoryBins, bytes: &[u8]) {
+    for byte in bytes {
+        holds(rt, bins.failures() == 0);
+        holds(rt, bins.write(&[*byte]) == Ok(1));
+    }
+}
+
+fn is_committed(rt: &impl Abort, bins: &mut MemoryBins) {
+    holds(rt, bins.failures() == 0);
+    holds(rt, bins.commit_file().is_ok());
+    holds(rt, bins.files().len() == 1);
+    for file in bins.files() {
+        same_bytes(rt, &file.bytes, PRINTED);
+    }
+}
+
+// Bins with room for one text, and for no file.
+fn small_bins(alloc: Global) -> Result<MemoryBins, AllocError> {
+    match MemoryBins::with_room(alloc, 0, PRINTED.len()) {
+        Ok(bins) => Ok(bins),
+        Err(_) => MemoryBins::with_room(alloc, 0, PRINTED.len()),
     }
 }
 
 #[test]
 fn memory_that_is_refused_for_a_file(rt: HostRuntime) -> Result<(), Fail> {
-    let mut bins = match MemoryBins::with_room(rt.alloc(), 0, PRINTED.len()) {
-        Ok(bins) => bins,
-        Err(_) => MemoryBins::with_room(rt.alloc(), 0, PRINTED.len())?,
-    };
+    let mut bins = small_bins(rt.alloc())?;
     start(&rt, &mut bins, "s.c");
-    for byte in PRINTED {
-        assert!(rt; bins.failures() == 0);
-        assert_eq!(rt; bins.write(&[*byte]), Ok(1));
-    }
-    assert!(rt; bins.failures() == 0);
-    assert!(rt; bins.commit_file().is_ok());
-    assert_eq!(rt; bins.files().len(), 1);
-    for file in bins.files() {
-        assert_eq!(rt; file.bytes.as_slice(), PRINTED);
-    }
+    write_each(&rt, &mut bins, PRINTED);
+    is_committed(&rt, &mut bins);
     Ok(())
 }

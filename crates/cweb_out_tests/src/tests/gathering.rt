@@ -1,12 +1,13 @@
 // Files whose bytes are gathered in pieces: those that are written token by token, in few writes.
-ghost use Rattle.std.specs.Prelude.{vec_capacity};
+ghost use Rattle.std.specs.Prelude.{◌<◌, length, vec_capacity};
 ghost use Rattle.cweb_out.specs.Frames.{Stands};
 ghost use Rattle.cweb_out.specs.Outputs.{IsPlanOf};
 
+use super::cases::{Case, check};
 use super::told::{MANY, is_named, print_file};
-use super::webs::store_of;
-use cweb_files::{MemoryShelf, Sink, SinkFault};
-use cweb_lines::{FileNames, Merger};
+use super::wanted::{holds, same_bytes, same_number};
+use cweb_files::{Sink, SinkFault};
+use cweb_lines::FileNames;
 use cweb_out::{Expander, Gathered, Plan, Printer, plan};
 use cweb_store::Store;
 use std::alloc::{AllocError, Global};
@@ -33,11 +34,11 @@ fn gather_file<W: Sink>(
         let Some(token) = expander.next() else {
             break;
         };
-        assert!(rt; is_named(names, &token));
-        assert!(rt; out.failures() < 1000);
+        holds(rt, is_named(names, &token));
+        holds(rt, out.failures() < 1000);
         printer.gather(token, gathered, out)?;
     }
-    assert!(rt; out.failures() < 1000);
+    holds(rt, out.failures() < 1000);
     printer.finish(gathered, out)
 }
 
@@ -55,15 +56,25 @@ pub fn gather_all<W: Sink>(
     Ok(gather_file(rt, expander, names, &mut gathered, out))
 }
 
-// The sizes of the file of a web and the writes that it takes, gathered; its bytes are those that are written token by token.
-fn measured(rt: &impl Abort, alloc: Global, web: &[u8]) -> Result<(usize, u64), Fail> {
-    let mut shelf = MemoryShelf::new(alloc);
-    shelf.put("f.w", b"")?;
-    let merger = Merger::start(alloc, &mut shelf, "f.w", None, None, None)?;
-    let store = store_of(rt, alloc, web)?;
-    match plan(alloc, &store, "f.c") {
-        Ok(plan) => printed(rt, alloc, &store, &plan, merger.names()),
-        Err(_) => Ok((0, 0)),
+// The bytes of the file of a web, and the writes that it takes, gathered: its bytes are those that are written token by token.
+#[derive(Clone, Copy)]
+struct Sizes {
+    bytes: usize,
+    writes: u64,
+}
+
+impl Case for Sizes {
+    fn look<A: Abort>(
+        &self,
+        rt: &A,
+        alloc: Global,
+        store: &Store,
+        names: &FileNames,
+    ) -> Result<(), Fail> {
+        match plan(alloc, store, "f.c") {
+            Ok(plan) => printed(rt, alloc, store, &plan, names, *self),
+            Err(_) => Err(Fail::new("no plan")),
+        }
     }
 }
 
@@ -73,18 +84,66 @@ fn printed(
     store: &Store,
     plan: &Plan,
     names: &FileNames,
-) -> Result<(usize, u64), Fail>
+    sizes: Sizes,
+) -> Result<(), Fail>
     requires { IsPlanOf store.now plan.now }
 {
-    assert!(rt; plan.outputs() > 0);
+    holds(rt, plan.outputs() > 0);
+    let pieces = gathered(rt, alloc, store, plan, names)?;
+    let tokens = token_by_token(rt, alloc, store, plan, names)?;
+    same_bytes(rt, pieces.bytes(), tokens.bytes());
+    same_number(rt, pieces.bytes().len() as u64, sizes.bytes as u64);
+    same_number(rt, pieces.writes, sizes.writes);
+    Ok(())
+}
+
+// The first output of a plan, gathered.
+fn gathered(
+    rt: &impl Abort,
+    alloc: Global,
+    store: &Store,
+    plan: &Plan,
+    names: &FileNames,
+) -> Result<TrialSink, AllocError>
+    requires some { 0 < length plan.now.outputs }
+    requires made { IsPlanOf store.now plan.now }
+{
     let mut expander = Expander::new(alloc, store, plan, 0)?;
     let mut pieces = TrialSink::with_room(alloc, 4 * ROOM)?;
-    assert!(rt; gather_all(rt, alloc, &mut expander, names, &mut pieces)?.is_ok());
+    let gathered = gather_all(rt, alloc, &mut expander, names, &mut pieces)?;
+    holds(rt, gathered.is_ok());
+    Ok(pieces)
+}
+
+// The same, written token by token.
+fn token_by_token(
+    rt: &impl Abort,
+    alloc: Global,
+    store: &Store,
+    plan: &Plan,
+    names: &FileNames,
+) -> Result<TrialSink, AllocError>
+    requires some { 0 < length plan.now.outputs }
+    requires made { IsPlanOf store.now plan.now }
+{
     let mut expander = Expander::new(alloc, store, plan, 0)?;
     let mut tokens = TrialSink::with_room(alloc, 4 * ROOM)?;
-    assert!(rt; print_file(rt, &mut expander, names, &mut tokens).is_ok());
-    assert!(rt; pieces.bytes() == tokens.bytes());
-    Ok((pieces.bytes().len(), pieces.writes))
+    holds(
+        rt,
+        print_file(rt, &mut expander, names, &mut tokens).is_ok(),
+    );
+    Ok(tokens)
+}
+
+// The file of a web has so many bytes, and takes so many writes.
+fn takes(
+    rt: &impl Abort,
+    alloc: Global,
+    web: &[u8],
+    bytes: usize,
+    writes: u64,
+) -> Result<(), Fail> {
+    check(rt, alloc, web, &Sizes { bytes, writes })
 }
 
 // A web of so many tokens of a kind.
@@ -114,100 +173,119 @@ fn letters(alloc: Global, size: usize) -> Result<Vec<u8>, AllocError> {
     Ok(web)
 }
 
+fn takes_letters(rt: &impl Abort, alloc: Global, size: usize) -> Result<(), Fail> {
+    let web = letters(alloc, size)?;
+    takes(rt, alloc, &web, size.saturating_add(1), 1)
+}
+
 // A short word is gathered in one move or two, by its length.
 #[test]
 fn a_word_of_each_length(rt: HostRuntime) -> Result<(), Fail> {
-    let alloc = rt.alloc();
     for size in 1..40_usize {
-        let web = letters(alloc, size)?;
-        assert_eq!(rt; measured(&rt, alloc, &web)?, (size.saturating_add(1), 1));
+        takes_letters(&rt, rt.alloc(), size)?;
     }
     Ok(())
+}
+
+fn takes_text(rt: &impl Abort, alloc: Global, size: usize, writes: u64) -> Result<(), Fail> {
+    let web = text(alloc, size)?;
+    takes(rt, alloc, &web, size.saturating_add(2), writes)
 }
 
 // The newline at the end is gathered behind the text, unless there is no room for a short text. A text that has no room is
 // written behind what is gathered.
 #[test]
 fn a_text_at_the_end_of_the_room(rt: HostRuntime) -> Result<(), Fail> {
-    let alloc = rt.alloc();
-    let rows = [
+    const ROWS: &[(usize, u64)] = &[
         (ROOM - 257, 1),
         (ROOM - 256, 2),
         (ROOM - 2, 2),
         (ROOM - 1, 3),
         (3 * ROOM, 3),
     ];
-    for (size, writes) in rows {
-        let web = text(alloc, size)?;
-        assert_eq!(rt;
-            measured(&rt, alloc, &web)?,
-            (size.saturating_add(2), writes)
-        );
+    for (size, writes) in ROWS {
+        takes_text(&rt, rt.alloc(), *size, *writes)?;
     }
     Ok(())
+}
+
+// The file of a web of so many tokens of a kind has so many bytes, and takes so many writes.
+fn takes_repeated(
+    rt: &impl Abort,
+    alloc: Global,
+    word: &str,
+    count: u32,
+    wanted: (usize, u64),
+) -> Result<(), Fail> {
+    let web = repeated(alloc, word, count)?;
+    takes(rt, alloc, &web, wanted.0, wanted.1)
 }
 
 // Words of two bytes, with a blank between them.
 #[test]
 fn words_across_the_end_of_the_room(rt: HostRuntime) -> Result<(), Fail> {
-    let web = repeated(rt.alloc(), " wab", 50_000)?;
-    assert_eq!(rt; measured(&rt, rt.alloc(), &web)?, (150_000, 3));
-    Ok(())
+    takes_repeated(&rt, rt.alloc(), " wab", 50_000, (150_000, 3))
 }
 
 // Section comments of six bytes, a word and a newline.
 #[test]
 fn comments_across_the_end_of_the_room(rt: HostRuntime) -> Result<(), Fail> {
-    let web = repeated(rt.alloc(), " [7 wx ]7 $", 10_000)?;
-    assert_eq!(rt; measured(&rt, rt.alloc(), &web)?, (140_000, 3));
-    Ok(())
+    takes_repeated(&rt, rt.alloc(), " [7 wx ]7 $", 10_000, (140_000, 3))
 }
 
 // Names that give nothing, and a name of two parts.
 #[test]
 fn names_that_give_nothing_and_names_of_two_parts(rt: HostRuntime) -> Result<(), Fail> {
-    let web = b": <A <B p; <A =A wx <B =C =A wy <C";
-    assert_eq!(rt; measured(&rt, rt.alloc(), web)?, (8, 1));
-    Ok(())
+    takes(&rt, rt.alloc(), b": <A <B p; <A =A wx <B =C =A wy <C", 8, 1)
+}
+
+// A web that uses a name so often.
+fn uses(alloc: Global, count: u32) -> Result<Vec<u8>, AllocError> {
+    let mut web = repeated(alloc, " <A", count)?;
+    web.extend_from_slice(b" =A wx p;")?;
+    Ok(web)
 }
 
 // A name of two bytes, which is used so often.
 #[test]
 fn uses_across_the_end_of_the_room(rt: HostRuntime) -> Result<(), Fail> {
-    let mut web = repeated(rt.alloc(), " <A", 50_000)?;
-    web.extend_from_slice(b" =A wx p;")?;
-    assert_eq!(rt; measured(&rt, rt.alloc(), &web)?, (100_001, 2));
-    Ok(())
+    let web = uses(rt.alloc(), 50_000)?;
+    takes(&rt, rt.alloc(), &web, 100_001, 2)
+}
+
+// A part of a name that uses the next one.
+fn add_link(web: &mut Vec<u8>, alloc: Global, name: u32) -> Result<(), AllocError> {
+    let next = name.saturating_add(1);
+    let part = format!(in alloc; " ={name} wabcdefghi <{next}")?;
+    web.extend_from_slice(part.as_bytes())
 }
 
 // Names of one token, of which each uses the next one behind it.
-#[test]
-fn a_chain_across_the_end_of_the_room(rt: HostRuntime) -> Result<(), Fail> {
-    let mut web = Vec::from_slice(rt.alloc(), b": <0")?;
+fn links(alloc: Global) -> Result<Vec<u8>, AllocError> {
+    let mut web = Vec::from_slice(alloc, b": <0")?;
     for name in 0u32..9_999 {
-        let next = name + 1;
-        let part = format!(in rt.alloc(); " ={name} wabcdefghi <{next}")?;
-        web.extend_from_slice(part.as_bytes())?;
+        add_link(&mut web, alloc, name)?;
     }
     web.extend_from_slice(b" =9999 p;")?;
-    assert_eq!(rt; measured(&rt, rt.alloc(), &web)?, (99_991, 2));
-    Ok(())
+    Ok(web)
+}
+
+#[test]
+fn a_chain_across_the_end_of_the_room(rt: HostRuntime) -> Result<(), Fail> {
+    let web = links(rt.alloc())?;
+    takes(&rt, rt.alloc(), &web, 99_991, 2)
 }
 
 // Section comments behind operators, with a blank before each.
 #[test]
 fn comments_behind_operators(rt: HostRuntime) -> Result<(), Fail> {
-    let web = repeated(rt.alloc(), " p+ [7 p- ]7 $", 10_000)?;
-    assert_eq!(rt; measured(&rt, rt.alloc(), &web)?, (170_000, 3));
-    Ok(())
+    takes_repeated(&rt, rt.alloc(), " p+ [7 p- ]7 $", 10_000, (170_000, 3))
 }
 
 // Line marks of 14 bytes, a word and a newline; and marks behind a join, which are dropped.
 #[test]
 fn marks_across_the_end_of_the_room(rt: HostRuntime) -> Result<(), Fail> {
-    let web = repeated(rt.alloc(), " m7 wx $", 10_000)?;
-    assert_eq!(rt; measured(&rt, rt.alloc(), &web)?, (160_000, 3));
-    let joined = repeated(rt.alloc(), " m7 wx & m8 [9 m9 wy", 5_000)?;
-    assert_eq!(rt; measured(&rt, rt.alloc(), &joined)?, (120_000, 2));
-    Ok(())
+    takes_repeated(&rt, rt.alloc(), " m7 wx $", 10_000, (160_000, 3))?;
+    let joined = " m7 wx & m8 [9 m9 wy";
+    takes_repeated(&rt, rt.alloc(), joined, 5_000, (120_000, 2))
 }

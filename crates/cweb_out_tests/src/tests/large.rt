@@ -3,11 +3,13 @@ ghost use Rattle.std.specs.Prelude.{◌≡◌, ◌≤◌, ◌<◌, length, vec_c
 ghost use Rattle.cweb_out.specs.Frames.{Stands};
 ghost use Rattle.cweb_out.specs.Outputs.{IsPlanOf};
 
-use super::outputs::told;
-use super::webs::store_of;
+use super::cases::{Case, check};
+use super::outputs::tells_web;
+use super::wanted::{holds, same_number};
+use cweb_lines::FileNames;
 use cweb_out::{Expander, Plan, PlanFault, plan};
 use cweb_store::{NameId, Store, Token};
-use std::alloc::{AllocError, Global};
+use std::alloc::Global;
 use std::process::Abort;
 use std::test::Fail;
 
@@ -33,12 +35,16 @@ fn chain(alloc: Global, last: u32, uses: u32, text: &str) -> Result<Vec<u8>, Fai
     Ok(web)
 }
 
+fn gives(rt: &impl Abort, got: Option<Token<'_>>, want: Token<'_>) {
+    assert_eq!(rt; got, Some(want));
+}
+
 // How many times an expander gives the word x in so many calls behind the first, which gives Defs, and its greatest depth.
 // Other tokens are not given.
 fn counted(rt: &impl Abort, expander: &mut Expander<'_>, calls: u32) -> (u32, u32)
     requires { Stands expander.old.store.now expander.old.frames.items (vec_capacity expander.old.frames) }
 {
-    assert_eq!(rt; expander.next(), Some(Token::Defs));
+    gives(rt, expander.next(), Token::Defs);
     let mut count = 0;
     let mut depth = 0;
     'calls: for _ in 0..calls {
@@ -47,26 +53,33 @@ fn counted(rt: &impl Abort, expander: &mut Expander<'_>, calls: u32) -> (u32, u3
         if token.is_none() {
             break;
         }
-        assert_eq!(rt; token, Some(Token::Word(b"x")));
-        assert!(rt; count < 1_000_000);
+        gives(rt, token, Token::Word(b"x"));
+        holds(rt, count < 1_000_000);
         count += 1;
     }
     (count, depth)
 }
 
-fn count(rt: &impl Abort, alloc: Global, web: &[u8], calls: u32) -> Result<(u32, u32), Fail> {
-    count_store(rt, alloc, &store_of(rt, alloc, web)?, calls)
+// What is counted of the main file of a web in so many calls.
+#[derive(Clone, Copy)]
+struct Counts {
+    calls: u32,
+    count: u32,
+    depth: u32,
 }
 
-fn count_store(
-    rt: &impl Abort,
-    alloc: Global,
-    store: &Store,
-    calls: u32,
-) -> Result<(u32, u32), Fail> {
-    match plan(alloc, store, "s.c") {
-        Ok(plan) => count_plan(rt, alloc, store, &plan, calls),
-        Err(_) => Ok((0, 0)),
+impl Case for Counts {
+    fn look<A: Abort>(
+        &self,
+        rt: &A,
+        alloc: Global,
+        store: &Store,
+        _: &FileNames,
+    ) -> Result<(), Fail> {
+        match plan(alloc, store, "s.c") {
+            Ok(plan) => count_plan(rt, alloc, store, &plan, *self),
+            Err(_) => Err(Fail::new("no plan")),
+        }
     }
 }
 
@@ -75,50 +88,91 @@ fn count_plan(
     alloc: Global,
     store: &Store,
     plan: &Plan,
-    calls: u32,
-) -> Result<(u32, u32), Fail>
+    counts: Counts,
+) -> Result<(), Fail>
     requires some { 0 < length plan.now.outputs }
     requires made { IsPlanOf store.now plan.now }
 {
     let mut expander = Expander::new(alloc, store, plan, 0)?;
-    Ok(counted(rt, &mut expander, calls))
+    let (count, depth) = counted(rt, &mut expander, counts.calls);
+    same_number(rt, u64::from(count), u64::from(counts.count));
+    same_number(rt, u64::from(depth), u64::from(counts.depth));
+    Ok(())
+}
+
+// A web whose names use the next ones so often is counted so.
+fn counts_chain(
+    rt: &impl Abort,
+    alloc: Global,
+    last: u32,
+    uses: u32,
+    wanted: Counts,
+) -> Result<(), Fail>
+    requires { last ≤ 10_000 }
+{
+    let web = chain(alloc, last, uses, " wx")?;
+    check(rt, alloc, &web, &wanted)
 }
 
 // Each name uses the next one twice.
 #[test]
 fn names_that_double(rt: HostRuntime) -> Result<(), Fail> {
-    let ten = chain(rt.alloc(), 9, 2, " wx")?;
-    assert_eq!(rt; count(&rt, rt.alloc(), &ten, 2000)?, (1024, 11));
-    let sixty = chain(rt.alloc(), 59, 2, " wx")?;
-    assert_eq!(rt; count(&rt, rt.alloc(), &sixty, 1000)?, (1000, 61));
-    Ok(())
+    const TEN: Counts = Counts {
+        calls: 2000,
+        count: 1024,
+        depth: 11,
+    };
+    const SIXTY: Counts = Counts {
+        calls: 1000,
+        count: 1000,
+        depth: 61,
+    };
+    counts_chain(&rt, rt.alloc(), 9, 2, TEN)?;
+    counts_chain(&rt, rt.alloc(), 59, 2, SIXTY)
 }
 
 #[test]
 fn a_chain_of_ten_thousand_names(rt: HostRuntime) -> Result<(), Fail> {
+    const COUNTS: Counts = Counts {
+        calls: 10,
+        count: 1,
+        depth: 10_001,
+    };
     let web = chain(rt.alloc(), 9_999, 1, " wx")?;
-    assert_eq!(rt; count(&rt, rt.alloc(), &web, 10)?, (1, 10_001));
-    let out = told(&rt, rt.alloc(), &web, "s.c")?;
-    assert_eq!(rt; out.bytes(), b"s.c: x\n".as_slice());
-    Ok(())
+    check(&rt, rt.alloc(), &web, &COUNTS)?;
+    tells_web(&rt, rt.alloc(), &web, b"s.c: x\n")
 }
 
-// The names of a cycle, where a web has one.
-fn cycle(rt: &impl Abort, alloc: Global, web: &[u8]) -> Result<Vec<NameId>, AllocError> {
-    let store = store_of(rt, alloc, web)?;
-    match plan(alloc, &store, "s.c") {
-        Err(PlanFault::Cycle(names)) => Ok(names),
-        _ => Ok(Vec::new(alloc)),
+// A cycle of so many names, in their order, with the first once more at the end.
+#[derive(Clone, Copy)]
+struct Cycle(usize);
+
+impl Case for Cycle {
+    fn look<A: Abort>(
+        &self,
+        rt: &A,
+        alloc: Global,
+        store: &Store,
+        _: &FileNames,
+    ) -> Result<(), Fail> {
+        match plan(alloc, store, "s.c") {
+            Err(PlanFault::Cycle(names)) => is_cycle(rt, &names, self.0),
+            _ => return Err(Fail::new("no cycle")),
+        }
+        Ok(())
+    }
+}
+
+fn is_cycle(rt: &impl Abort, names: &[NameId], size: usize) {
+    holds(rt, size > 0 && size < 1_000_000);
+    holds(rt, names.len() == size + 1);
+    for (i, name) in names.iter().enumerate() {
+        holds(rt, name.0 as usize == i % size);
     }
 }
 
 #[test]
 fn a_cycle_of_ten_thousand_names(rt: HostRuntime) -> Result<(), Fail> {
     let web = chain(rt.alloc(), 9_999, 1, " wx <0")?;
-    let names = cycle(&rt, rt.alloc(), &web)?;
-    assert_eq!(rt; names.len(), 10_001);
-    for (i, name) in names.iter().enumerate() {
-        assert_eq!(rt; name.0 as usize, i % 10_000);
-    }
-    Ok(())
+    check(&rt, rt.alloc(), &web, &Cycle(10_000))
 }

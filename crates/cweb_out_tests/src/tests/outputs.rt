@@ -1,40 +1,51 @@
 // Webs and what is written of them. The main file is s.c, unless a row says another name.
+use super::cases::{Case, check};
 use super::told::tell_outputs;
-use super::webs::store_of;
-use cweb_files::{MemoryShelf, MemorySink};
-use cweb_lines::Merger;
+use super::wanted::same_bytes;
+use cweb_files::MemorySink;
+use cweb_lines::FileNames;
+use cweb_store::Store;
 use std::alloc::Global;
 use std::process::Abort;
 use std::test::Fail;
 
-// The files that line marks are about.
-const WEB: &str = "s.w";
+/// The name of a main file, and what is told of a web with it.
+#[derive(Clone, Copy)]
+pub struct Outputs<'a> {
+    pub main: &'a str,
+    pub text: &'a [u8],
+}
 
-const CHANGE: &str = "a\\b\".ch";
-
-/// What is told of a web, in a sink.
-pub fn told(rt: &impl Abort, alloc: Global, web: &[u8], main: &str) -> Result<MemorySink, Fail> {
-    let mut shelf = MemoryShelf::new(alloc);
-    shelf.put(WEB, b"")?;
-    shelf.put(CHANGE, b"")?;
-    let merger = Merger::start(alloc, &mut shelf, WEB, None, Some(CHANGE), None)?;
-    let store = store_of(rt, alloc, web)?;
-    let mut out = MemorySink::with_room(alloc, 1000)?;
-    tell_outputs(rt, alloc, &store, merger.names(), main, &mut out)?;
-    Ok(out)
+impl Case for Outputs<'_> {
+    fn look<A: Abort>(
+        &self,
+        rt: &A,
+        alloc: Global,
+        store: &Store,
+        names: &FileNames,
+    ) -> Result<(), Fail> {
+        let mut out = MemorySink::with_room(alloc, 1000)?;
+        tell_outputs(rt, alloc, store, names, self.main, &mut out)?;
+        same_bytes(rt, out.bytes(), self.text);
+        Ok(())
+    }
 }
 
 fn tells(rt: &impl Abort, alloc: Global, rows: &[(&str, &str)]) -> Result<(), Fail> {
     for (web, text) in rows {
-        let out = told(rt, alloc, web.as_bytes(), "s.c")?;
-        assert!(rt; out.bytes() == text.as_bytes(), "{web}");
+        tells_web(rt, alloc, web.as_bytes(), text.as_bytes())?;
     }
     Ok(())
 }
 
+/// This is told of a web whose main file is s.c.
+pub fn tells_web(rt: &impl Abort, alloc: Global, web: &[u8], text: &[u8]) -> Result<(), Fail> {
+    check(rt, alloc, web, &Outputs { main: "s.c", text })
+}
+
 #[test]
 fn blanks_between_tokens(rt: HostRuntime) -> Result<(), Fail> {
-    let rows = [
+    const ROWS: &[(&str, &str)] = &[
         (": wa wb n1 l'c' l\"d\" we", "s.c: a b 1 'c'\"d\" e\n"),
         (": n1 p. n2 p.. n3 p+= n4 p* n5", "s.c: 1 . 2 .. 3 +=4*5\n"),
         (": p( p- p- p) p<< p= wa p, p-", "s.c: (- -)<< =a,-\n"),
@@ -49,22 +60,22 @@ fn blanks_between_tokens(rt: HostRuntime) -> Result<(), Fail> {
             "s.c: /*1:*/\n#line 1 \"s.w\"\n\nx= -1;a* -b;y=0xe +1;q=a/ /*2:*/\n#line 3 \"s.w\"\nb/*:2*/\n#line 2 \"s.w\"\n;\n/*:1*/\n",
         ),
     ];
-    tells(&rt, rt.alloc(), &rows)
+    tells(&rt, rt.alloc(), ROWS)
 }
 
 #[test]
 fn layout_behind_a_join(rt: HostRuntime) -> Result<(), Fail> {
-    let rows = [
+    const ROWS: &[(&str, &str)] = &[
         (": p/ & [2 m1 wb", "s.c: / /*2:*/b\n"),
         (": wa & _ $ m2 [2 ]2 $ wb $ wc", "s.c: a /*2:*//*:2*/b\nc\n"),
         (": wa & & _ vb _ wc &", "s.c: ab c\n"),
     ];
-    tells(&rt, rt.alloc(), &rows)
+    tells(&rt, rt.alloc(), ROWS)
 }
 
 #[test]
 fn macro_lines(rt: HostRuntime) -> Result<(), Fail> {
-    let rows = [
+    const ROWS: &[(&str, &str)] = &[
         (
             "# wf p( wx p) wx p+ n1 # wg _ p( wx p) # wN # wtwo _ n1 p+ $ n2 : [1 m7 $ wf p( n3 p) ]1",
             "s.c: #define f(x)x+1\n#define g (x)\n#define N\n#define two 1 + \\\n2\n/*1:*/\n#line 7 \"s.w\"\n\nf(3)/*:1*/\n",
@@ -81,35 +92,35 @@ fn macro_lines(rt: HostRuntime) -> Result<(), Fail> {
             "s.c: #define M 1\na.h: /*1:*/\n#line 2 \"s.w\"\n\nint m=\"x/*:1*/\n",
         ),
     ];
-    tells(&rt, rt.alloc(), &rows)
+    tells(&rt, rt.alloc(), ROWS)
 }
 
 // A byte from 128 on is replaced in words, and nowhere else.
 #[test]
 fn replaced_bytes(rt: HostRuntime) -> Result<(), Fail> {
-    let rows = [
+    const ROWS: &[(&str, &str)] = &[
         (": wfür n\u{fc}", "s.c: fXC3XBCr \u{fc}\n"),
         ("%Cu %<e : wfür vü", "s.c: fuerü\n"),
         ("%Cq %< %Cu # wü wö : wü", "s.c: #define u uXB6\nu\n"),
     ];
-    tells(&rt, rt.alloc(), &rows)
+    tells(&rt, rt.alloc(), ROWS)
 }
 
 #[test]
 fn line_marks(rt: HostRuntime) -> Result<(), Fail> {
-    let rows = [
+    const ROWS: &[(&str, &str)] = &[
         (
             ": M4 wa m10 M4294",
             "s.c: #line 4 \"a\\\\b\\\".ch\"\na\n#line 10 \"s.w\"\n#line 4294 \"a\\\\b\\\".ch\"\n",
         ),
         (": wa $ m1 wb", "s.c: a\n#line 1 \"s.w\"\nb\n"),
     ];
-    tells(&rt, rt.alloc(), &rows)
+    tells(&rt, rt.alloc(), ROWS)
 }
 
 #[test]
 fn names_are_replaced_by_their_parts(rt: HostRuntime) -> Result<(), Fail> {
-    let rows = [
+    const ROWS: &[(&str, &str)] = &[
         (
             ": [1 m1 <A m1 $ ]1 =A [2 m2 wa p; $ ]2 =A [3 m3 wb p; ]3",
             "s.c: /*1:*/\n#line 1 \"s.w\"\n/*2:*/\n#line 2 \"s.w\"\na;\n/*:2*//*3:*/\n#line 3 \"s.w\"\nb;/*:3*/\n#line 1 \"s.w\"\n\n/*:1*/\n",
@@ -123,12 +134,12 @@ fn names_are_replaced_by_their_parts(rt: HostRuntime) -> Result<(), Fail> {
         (": wa ?zz wb <Q wc", "s.c: a b c\n"),
         (": wa <A wb =A <Q wx <Q", "s.c: a x b\n"),
     ];
-    tells(&rt, rt.alloc(), &rows)
+    tells(&rt, rt.alloc(), ROWS)
 }
 
 #[test]
 fn outputs_and_their_order(rt: HostRuntime) -> Result<(), Fail> {
-    let rows = [
+    const ROWS: &[(&str, &str)] = &[
         ("", "s.c: no text"),
         ("# wM", "s.c: #define M\nno text"),
         (":", "s.c: "),
@@ -139,13 +150,13 @@ fn outputs_and_their_order(rt: HostRuntime) -> Result<(), Fail> {
         ),
         ("@a.h @d/b.h : wx (d/b.h wy", "s.c: x\nd/b.h: y\n"),
     ];
-    tells(&rt, rt.alloc(), &rows)
+    tells(&rt, rt.alloc(), ROWS)
 }
 
 // A cycle is a fault where an output reaches it. A file's walk begins with its own name.
 #[test]
 fn cycles(rt: HostRuntime) -> Result<(), Fail> {
-    let rows = [
+    const ROWS: &[(&str, &str)] = &[
         (": <A =A <B =B <A", "cycle <A> <B> <A>"),
         (": wx =A <B =B <A", "s.c: x\n"),
         (": <A <A =A <B <B =B wx", "s.c: x x x x\n"),
@@ -155,13 +166,13 @@ fn cycles(rt: HostRuntime) -> Result<(), Fail> {
         ("(f <A =A <f : wx", "cycle <f> <A> <f>"),
         ("(g <g (f <A =A <f : <f", "cycle <f> <A> <f>"),
     ];
-    tells(&rt, rt.alloc(), &rows)
+    tells(&rt, rt.alloc(), ROWS)
 }
 
 // Names that no file can have come first, in the order of the outputs, then the main file's name, then cycles.
 #[test]
 fn the_first_fault_is_told(rt: HostRuntime) -> Result<(), Fail> {
-    let rows = [
+    const ROWS: &[(&str, &str)] = &[
         (": <A =A <A (a/ wx", "bad name <a/>"),
         ("@c/ (b/ wx (a/ wx", "bad name <b/>"),
         ("(s.c wx (a/ wx", "bad name <a/>"),
@@ -169,29 +180,44 @@ fn the_first_fault_is_told(rt: HostRuntime) -> Result<(), Fail> {
         ("@s.c : wx", "same name <s.c>"),
         ("(d/s.c wx : wy", "s.c: y\nd/s.c: x\n"),
     ];
-    tells(&rt, rt.alloc(), &rows)
+    tells(&rt, rt.alloc(), ROWS)
+}
+
+// A file of the web has no such name, nor has the main file.
+fn refuses_name(rt: &impl Abort, alloc: Global, name: &str) -> Result<(), Fail> {
+    let web = format!(in alloc; "({name} wx")?;
+    let text = format!(in alloc; "bad name <{name}>")?;
+    tells_web(rt, alloc, web.as_bytes(), text.as_bytes())
+}
+
+fn refuses_main(rt: &impl Abort, alloc: Global, name: &str) -> Result<(), Fail> {
+    let outputs = Outputs {
+        main: name,
+        text: b"bad main name",
+    };
+    check(rt, alloc, b": wx", &outputs)
+}
+
+// A file of the web may have this name.
+fn takes_name(rt: &impl Abort, alloc: Global, name: &str) -> Result<(), Fail> {
+    let web = format!(in alloc; "({name} wx")?;
+    let text = format!(in alloc; "s.c: {name}: x\n")?;
+    tells_web(rt, alloc, web.as_bytes(), text.as_bytes())
 }
 
 #[test]
 fn no_file_has_these_names(rt: HostRuntime) -> Result<(), Fail> {
-    for name in [
+    const REFUSED: &[&str] = &[
         "", ".", "..", "a/", "a/.", "/..", "a\n", "\u{1f}", "\u{7f}/b",
-    ] {
-        let web = format!(in rt.alloc(); "({name} wx")?;
-        let text = format!(in rt.alloc(); "bad name <{name}>")?;
-        let out = told(&rt, rt.alloc(), web.as_bytes(), "s.c")?;
-        assert!(rt; out.bytes() == text.as_bytes(), "{web}");
-        let out = told(&rt, rt.alloc(), b": wx", name)?;
-        assert!(rt; out.bytes() == b"bad main name".as_slice(), "{web}");
+    ];
+    const TAKEN: &[&str] = &["...", ".a", "a.", "a/..b", "\u{80}"];
+    for name in REFUSED {
+        refuses_name(&rt, rt.alloc(), *name)?;
+        refuses_main(&rt, rt.alloc(), *name)?;
     }
-    for name in ["...", ".a", "a.", "a/..b", "\u{80}"] {
-        let web = format!(in rt.alloc(); "({name} wx")?;
-        let text = format!(in rt.alloc(); "s.c: {name}: x\n")?;
-        let out = told(&rt, rt.alloc(), web.as_bytes(), "s.c")?;
-        assert!(rt; out.bytes() == text.as_bytes(), "{web}");
+    for name in TAKEN {
+        takes_name(&rt, rt.alloc(), *name)?;
     }
     // a name that isn't UTF-8
-    let out = told(&rt, rt.alloc(), b"(a\xff wx", "s.c")?;
-    assert_eq!(rt; out.bytes(), b"bad name <a\xff>".as_slice());
-    Ok(())
+    tells_web(&rt, rt.alloc(), b"(a\xff wx", b"bad name <a\xff>")
 }

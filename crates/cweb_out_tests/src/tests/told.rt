@@ -7,6 +7,7 @@ ghost use Rattle.cweb_out.specs.Outputs.{IsPlanOf};
 ghost use Rattle.cweb_out.specs.Printers.{IsNamed};
 ghost use Rattle.cweb_out.specs.Printing.{Setting};
 
+use super::wanted::holds;
 use cweb_files::{MemorySink, Sink, SinkFault};
 use cweb_lines::FileNames;
 use cweb_out::{Expander, Plan, PlanFault, Printer, plan};
@@ -19,8 +20,8 @@ use std::test::Fail;
 pub const MANY: u32 = 1_000_000;
 
 fn tell(rt: &impl Abort, out: &mut MemorySink, piece: &[u8]) {
-    assert!(rt; out.failures() == 0);
-    assert_eq!(rt; out.write(piece), Ok(piece.len()));
+    holds(rt, out.failures() == 0);
+    holds(rt, out.write(piece) == Ok(piece.len()));
 }
 
 pub fn is_named(names: &FileNames, token: &Token<'_>) -> bool
@@ -50,15 +51,15 @@ pub fn print_file<W: Sink>(
             break;
         };
         assert!(rt; is_named(names, &token));
-        assert!(rt; out.failures() < 1000);
+        holds(rt, out.failures() < 1000);
         printer.write(token, out)?;
     }
-    assert!(rt; out.failures() < 1000);
+    holds(rt, out.failures() < 1000);
     printer.end(out)
 }
 
 fn tell_name(rt: &impl Abort, store: &Store, name: NameId, out: &mut MemorySink) {
-    assert!(rt; name.0 < store.names());
+    holds(rt, name.0 < store.names());
     tell(rt, out, b" <");
     tell(rt, out, store.name_text(name));
     tell(rt, out, b">");
@@ -95,13 +96,13 @@ fn tell_planned(
 ) -> Result<(), Fail>
     requires { IsPlanOf store.now plan.now }
 {
-    assert!(rt; plan.outputs() > 0);
+    holds(rt, plan.outputs() > 0);
     let mut expander = Expander::new(alloc, store, plan, 0)?;
     'outputs: for number in 0..plan.outputs() {
         tell(rt, out, plan.output_name(number).as_bytes());
         tell(rt, out, b": ");
         expander.restart(number);
-        assert!(rt; print_file(rt, &mut expander, names, out).is_ok());
+        holds(rt, print_file(rt, &mut expander, names, out).is_ok());
     }
     if plan.no_text() {
         tell(rt, out, b"no text");

@@ -8,6 +8,7 @@
 ghost use Rattle.std.specs.Prelude.{◌≡◌, ◌≤◌, ◌+◌, length, is_some, IfOk, IsOk, OnOk};
 ghost use Rattle.cweb_store.specs.Growing.{part_count, token_count};
 
+use super::wanted::holds;
 use cweb_files::{FileId, Place};
 use cweb_store::{Builder, How, NameRef, PartKind, Store, Token};
 use std::alloc::{AllocError, Global};
@@ -41,14 +42,14 @@ impl Row {
         how: How,
         is_file: bool,
     ) -> Result<NameRef, AllocError> {
-        assert!(rt; self.calls < 10_000_000);
+        holds(rt, self.calls < 10_000_000);
         self.calls += 1;
         Ok(self.builder.occurrence(name, how, is_file)?)
     }
 
     #[tactic(auto, using(cweb_store::proofs::CallerLemmas::token_count_opened, cweb_store::proofs::CallerLemmas::token_count_closed, cweb_store::proofs::CallerLemmas::part_count_opened, cweb_store::proofs::CallerLemmas::part_count_closed))]
     fn open(&mut self, rt: &impl Abort, kind: PartKind) -> Result<(), AllocError> {
-        assert!(rt; self.calls < 10_000_000);
+        holds(rt, self.calls < 10_000_000);
         self.calls += 1;
         if self.is_open {
             self.builder.close_part();
@@ -61,10 +62,17 @@ impl Row {
 
     #[tactic(auto, using(cweb_store::proofs::CallerLemmas::token_count_pushed, cweb_store::proofs::CallerLemmas::part_count_pushed))]
     fn push(&mut self, rt: &impl Abort, token: Token<'_>) -> Result<(), AllocError> {
-        assert!(rt; self.calls < 10_000_000);
+        holds(rt, self.calls < 10_000_000);
         self.calls += 1;
-        assert!(rt; self.is_open);
+        holds(rt, self.is_open);
         self.builder.push(token)?;
+        Ok(())
+    }
+
+    fn read_all(&mut self, rt: &impl Abort, web: &[u8]) -> Result<(), AllocError> {
+        for word in web.split(|byte| *byte == b' ') {
+            self.read(rt, word)?;
+        }
         Ok(())
     }
 
@@ -109,7 +117,7 @@ impl Row {
         let Some((byte, text)) = rest.split_first() else {
             return Ok(());
         };
-        assert!(rt; *byte < 128);
+        holds(rt, *byte < 128);
         self.builder.transliterate(128 + *byte, text)?;
         Ok(())
     }
@@ -161,8 +169,6 @@ fn token(sign: u8, rest: &[u8]) -> Token<'_> {
 /// The store of a web.
 pub fn store_of(rt: &impl Abort, alloc: Global, web: &[u8]) -> Result<Store, AllocError> {
     let mut row = Row::new(alloc);
-    for word in web.split(|byte| *byte == b' ') {
-        row.read(rt, word)?;
-    }
+    row.read_all(rt, web)?;
     row.finish()
 }
