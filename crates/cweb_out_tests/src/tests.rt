@@ -5,6 +5,7 @@ mod cases;
 mod failing;
 mod gathering;
 mod large;
+mod long_webs;
 mod outputs;
 mod told;
 mod wanted;

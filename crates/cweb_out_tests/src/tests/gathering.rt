@@ -4,6 +4,7 @@ ghost use Rattle.cweb_out.specs.Frames.{Stands};
 ghost use Rattle.cweb_out.specs.Outputs.{IsPlanOf};
 
 use super::cases::{Case, check};
+use super::long_webs::{letters, links, repeated, text, uses};
 use super::told::{MANY, is_named, print_file};
 use super::wanted::{holds, same_bytes, same_number};
 use cweb_files::{Sink, SinkFault};
@@ -146,33 +147,6 @@ fn takes(
     check(rt, alloc, web, &Sizes { bytes, writes })
 }
 
-// A web of so many tokens of a kind.
-fn repeated(alloc: Global, word: &str, count: u32) -> Result<Vec<u8>, AllocError> {
-    let mut web = Vec::from_slice(alloc, b":")?;
-    for _ in 0..count {
-        web.extend_from_slice(word.as_bytes())?;
-    }
-    Ok(web)
-}
-
-// A web of a word and a text.
-fn text(alloc: Global, size: usize) -> Result<Vec<u8>, AllocError> {
-    let mut web = Vec::from_slice(alloc, b": wa v")?;
-    for _ in 0..size {
-        web.push(b'x')?;
-    }
-    Ok(web)
-}
-
-// A web of a word of so many letters, each another one than those beside it.
-fn letters(alloc: Global, size: usize) -> Result<Vec<u8>, AllocError> {
-    let mut web = Vec::from_slice(alloc, b": w")?;
-    for place in 0..size {
-        web.push(b"abcdefghijklmnopqrstuvwxyz"[place % 26])?;
-    }
-    Ok(web)
-}
-
 fn takes_letters(rt: &impl Abort, alloc: Global, size: usize) -> Result<(), Fail> {
     let web = letters(alloc, size)?;
     takes(rt, alloc, &web, size.saturating_add(1), 1)
@@ -239,35 +213,11 @@ fn names_that_give_nothing_and_names_of_two_parts(rt: HostRuntime) -> Result<(),
     takes(&rt, rt.alloc(), b": <A <B p; <A =A wx <B =C =A wy <C", 8, 1)
 }
 
-// A web that uses a name so often.
-fn uses(alloc: Global, count: u32) -> Result<Vec<u8>, AllocError> {
-    let mut web = repeated(alloc, " <A", count)?;
-    web.extend_from_slice(b" =A wx p;")?;
-    Ok(web)
-}
-
 // A name of two bytes, which is used so often.
 #[test]
 fn uses_across_the_end_of_the_room(rt: HostRuntime) -> Result<(), Fail> {
     let web = uses(rt.alloc(), 50_000)?;
     takes(&rt, rt.alloc(), &web, 100_001, 2)
-}
-
-// A part of a name that uses the next one.
-fn add_link(web: &mut Vec<u8>, alloc: Global, name: u32) -> Result<(), AllocError> {
-    let next = name.saturating_add(1);
-    let part = format!(in alloc; " ={name} wabcdefghi <{next}")?;
-    web.extend_from_slice(part.as_bytes())
-}
-
-// Names of one token, of which each uses the next one behind it.
-fn links(alloc: Global) -> Result<Vec<u8>, AllocError> {
-    let mut web = Vec::from_slice(alloc, b": <0")?;
-    for name in 0u32..9_999 {
-        add_link(&mut web, alloc, name)?;
-    }
-    web.extend_from_slice(b" =9999 p;")?;
-    Ok(web)
 }
 
 #[test]
