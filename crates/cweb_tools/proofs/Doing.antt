@@ -139,6 +139,9 @@ pub both_in : (why : Ending) (xs ys : List Act) (a b : SeenBins) (k l : SeenStre
     → DoesInBoth xs (Some why) a b k l → DoesInBoth (xs ++ ys) (Some why) a b k l
 both_in why xs ys a b k l does = λ shelf. does_in xs ys why _ _ (does shelf)
 
+pub both_none : (bins : SeenBins) (log : SeenStream) → DoesInBoth [] None bins bins log log
+both_none bins log = λ shelf. does_none _
+
 -- what happened to the counts of both
 pub bins_counted : (acts : List Act) (why : Option Ending) (a b : SeenBins) (k l : SeenStream)
     → DoesInBoth acts why a b k l → b.failed ≡ a.failed + rise bins_blame why
