@@ -1,46 +1,46 @@
 // What the words of a command line ask for.
-use super::merges::check_run;
+use super::merging::{Run, check_run};
+use super::wanted::{same_name, same_text};
 use cweb_tools::MergeWords;
 use std::process::Abort;
 use std::test::Fail;
 
-/// Reads words, and compares the names that they stand for.
-fn check_words(
-    rt: &(impl Abort + AllocGlobal),
-    words: &[&str],
-    web: &str,
-    second: Option<&str>,
-    change: Option<&str>,
-) -> Result<(), Fail> {
-    let read = MergeWords::read(rt.alloc(), words)?;
-    assert_eq!(rt; read.web.as_str(), web);
-    assert_eq!(rt; read.second(), second);
-    assert_eq!(rt; read.change(), change);
+/// Words, and the names that they stand for: the web's first and second, the change file's.
+type Row<'a> = (&'a [&'a str], &'a str, Option<&'a str>, Option<&'a str>);
+
+fn check_words(rt: &(impl Abort + AllocGlobal), row: &Row) -> Result<(), Fail> {
+    let read = MergeWords::read(rt.alloc(), row.0)?;
+    same_text(rt, read.web.as_str(), row.1);
+    same_name(rt, read.second(), row.2);
+    same_name(rt, read.change(), row.3);
     Ok(())
 }
 
 #[test]
 fn names_of_words(rt: HostRuntime) -> Result<(), Fail> {
-    check_words(&rt, &["m"], "m.w", Some("m.web"), None)?;
-    check_words(&rt, &["m.w"], "m.w", None, None)?;
-    check_words(&rt, &["m", "c"], "m.w", Some("m.web"), Some("c.ch"))?;
-    check_words(&rt, &["m.w", "c.x"], "m.w", None, Some("c.x"))?;
-
-    // a dot counts in the last part of a path alone
-    check_words(&rt, &["a/m.x", "d.d/c"], "a/m.x", None, Some("d.d/c.ch"))?;
-    check_words(&rt, &["m.w", "d/c."], "m.w", None, Some("d/c."))?;
-    check_words(&rt, &["m.w", "d.d/"], "m.w", None, Some("d.d/.ch"))?;
-
-    // a lone `-` means no change file, and a lone `+` is an ordinary word
-    check_words(&rt, &["m", "-"], "m.w", Some("m.web"), None)?;
-    check_words(&rt, &["+", "+"], "+.w", Some("+.web"), Some("+.ch"))?;
-    check_words(&rt, &["m.w", "c-+"], "m.w", None, Some("c-+.ch"))?;
+    const ROWS: &[Row] = &[
+        (&["m"], "m.w", Some("m.web"), None),
+        (&["m.w"], "m.w", None, None),
+        (&["m", "c"], "m.w", Some("m.web"), Some("c.ch")),
+        (&["m.w", "c.x"], "m.w", None, Some("c.x")),
+        // a dot counts in the last part of a path alone
+        (&["a/m.x", "d.d/c"], "a/m.x", None, Some("d.d/c.ch")),
+        (&["m.w", "d/c."], "m.w", None, Some("d/c.")),
+        (&["m.w", "d.d/"], "m.w", None, Some("d.d/.ch")),
+        // a lone `-` means no change file, and a lone `+` is an ordinary word
+        (&["m", "-"], "m.w", Some("m.web"), None),
+        (&["+", "+"], "+.w", Some("+.web"), Some("+.ch")),
+        (&["m.w", "c-+"], "m.w", None, Some("c-+.ch")),
+    ];
+    for row in ROWS {
+        check_words(&rt, row)?;
+    }
     Ok(())
 }
 
 #[test]
 fn words_that_are_refused(rt: HostRuntime) -> Result<(), Fail> {
-    let refused: [&[&str]; 16] = [
+    const REFUSED: &[&[&str]] = &[
         &[],
         &[""],
         &["-"],
@@ -58,10 +58,10 @@ fn words_that_are_refused(rt: HostRuntime) -> Result<(), Fail> {
         &["m", "\u{7f}"],
         &["m", "c", "x"],
     ];
-    let usage = "! Usage: wmerge webfile[.w] [{changefile[.ch]|-}]\n";
-    let texts: &[(&str, &[u8])] = &[("m.w", b"x\n"), ("c.ch", b""), ("-.w", b"x\n")];
-    for words in refused {
-        check_run(&rt, words, None, texts, "", usage, 1)?;
+    const TEXTS: &[(&str, &[u8])] = &[("m.w", b"x\n"), ("c.ch", b""), ("-.w", b"x\n")];
+    const USAGE: &str = "! Usage: wmerge webfile[.w] [{changefile[.ch]|-}]\n";
+    for words in REFUSED {
+        check_run(&rt, &(*words, None, TEXTS, "", USAGE, 1))?;
     }
     Ok(())
 }
@@ -69,8 +69,8 @@ fn words_that_are_refused(rt: HostRuntime) -> Result<(), Fail> {
 // A file under the name `-`, or `-.ch`, is no change file.
 #[test]
 fn a_dash_opens_nothing(rt: HostRuntime) -> Result<(), Fail> {
-    let change: &[u8] = b"@x\nA\n@y\n@z\n";
-    let texts: &[(&str, &[u8])] = &[("m.w", b"A\n"), ("-", change), ("-.ch", change)];
-    check_run(&rt, &["m", "-"], None, texts, "A\n", "", 0)?;
-    Ok(())
+    const CHANGE: &[u8] = b"@x\nA\n@y\n@z\n";
+    const TEXTS: &[(&str, &[u8])] = &[("m.w", b"A\n"), ("-", CHANGE), ("-.ch", CHANGE)];
+    const RUN: Run = (&["m", "-"], None, TEXTS, "A\n", "", 0);
+    Ok(check_run(&rt, &RUN)?)
 }

@@ -2,11 +2,12 @@
 // told once. Each run stands in a function of its own, which holds its devices alone.
 use super::failing::FailingBins;
 use super::told::{FILES, ROOM, told};
+use super::wanted::same_told;
 use cweb_lines::MemorySink;
 use cweb_out::{Bins, MemoryBins};
 use cweb_tools::run_ctangle;
 use std::alloc::{AllocError, Global};
-use std::test::Fail;
+use std::process::Abort;
 use trial::{TrialShelf, TrialSink, shelf_of};
 
 /// Two outputs, and a fault.
@@ -27,18 +28,44 @@ trait FailingRuns {
     fn left(&self, alloc: Global, good: u64) -> Result<String, AllocError>;
 }
 
+/// Adds what a run left, unless the run before left the same.
+fn add_new(all: &mut String, last: &str, left: &str) -> Result<(), AllocError> {
+    if left != last {
+        all.push_str(left)?;
+    }
+    Ok(())
+}
+
 /// What the runs leave, one after the other, but for those that leave what the run before left.
 fn told_once<R: FailingRuns + Drop>(alloc: Global, runs: R) -> Result<String, AllocError> {
     let mut all = String::new(alloc);
     let mut last = String::new(alloc);
     for good in 0..CALLS {
         let left = runs.left(alloc, good)?;
-        if left.as_str() != last.as_str() {
-            all.push_str(left.as_str())?;
-        }
+        add_new(&mut all, last.as_str(), left.as_str())?;
         last = left;
     }
     Ok(all)
+}
+
+/// Pieces of a text, one behind the other.
+fn joined(alloc: Global, pieces: &[&str]) -> Result<String, AllocError> {
+    let mut text = String::new(alloc);
+    for piece in pieces {
+        text.push_str(*piece)?;
+    }
+    Ok(text)
+}
+
+/// The runs leave these pieces, one behind the other.
+fn check_told<R: FailingRuns + Drop>(
+    rt: &(impl Abort + AllocGlobal),
+    runs: R,
+    pieces: &[&str],
+) -> Result<(), AllocError> {
+    let want = joined(rt.alloc(), pieces)?;
+    same_told(rt, told_once(rt.alloc(), runs)?, want.as_str());
+    Ok(())
 }
 
 /// A run over bins that fail behind so many good calls: what it logs and its status, and the bins.
@@ -71,15 +98,26 @@ impl FailingRuns for OfBins {
 }
 
 #[test]
-fn each_call_of_the_bins_fails(rt: HostRuntime) -> Result<(), Fail> {
-    let alloc = rt.alloc();
-    let stop = "! Cannot open output file";
-    let fault = "! Write fault on";
-    let want = format!(in alloc;
-        "{FAULT}{stop} f.c\n== 1\n{FAULT}{fault} f.c\n== 1\n{FAULT}{stop} a.h\n{MAIN}== 1\n{FAULT}{fault} a.h\n{MAIN}== 1\n{FAULT}{MAIN}{HEADER}== 1\n"
-    )?;
-    assert_eq!(rt; told_once(alloc, OfBins)?.as_str(), want.as_str());
-    Ok(())
+fn each_call_of_the_bins_fails(rt: HostRuntime) -> Result<(), AllocError> {
+    const WANT: &[&str] = &[
+        FAULT,
+        "! Cannot open output file f.c\n== 1\n",
+        FAULT,
+        "! Write fault on f.c\n== 1\n",
+        FAULT,
+        "! Cannot open output file a.h\n",
+        MAIN,
+        "== 1\n",
+        FAULT,
+        "! Write fault on a.h\n",
+        MAIN,
+        "== 1\n",
+        FAULT,
+        MAIN,
+        HEADER,
+        "== 1\n",
+    ];
+    check_told(&rt, OfBins, WANT)
 }
 
 /// The same over an old file of the main file's name: what is told is what stands there then.
@@ -104,11 +142,9 @@ fn old_bins(alloc: Global) -> Result<MemoryBins, AllocError> {
 }
 
 #[test]
-fn an_old_file_stands_until_the_new_one_is_whole(rt: HostRuntime) -> Result<(), Fail> {
-    let alloc = rt.alloc();
-    let want = format!(in alloc; "== f.c\n== 0\n{MAIN}== 0\n{MAIN}{HEADER}== 0\n")?;
-    assert_eq!(rt; told_once(alloc, OverOldFile)?.as_str(), want.as_str());
-    Ok(())
+fn an_old_file_stands_until_the_new_one_is_whole(rt: HostRuntime) -> Result<(), AllocError> {
+    const WANT: &[&str] = &["== f.c\n== 0\n", MAIN, "== 0\n", MAIN, HEADER, "== 0\n"];
+    check_told(&rt, OverOldFile, WANT)
 }
 
 /// The reads fail.
@@ -128,13 +164,15 @@ impl FailingRuns for OfReads {
 }
 
 #[test]
-fn each_read_fails(rt: HostRuntime) -> Result<(), Fail> {
-    let alloc = rt.alloc();
-    let want = format!(in alloc;
-        "! Read fault on i.ch\n== 1\n! Read fault on f.w\n== 1\n{FAULT}{MAIN}{HEADER}== 1\n"
-    )?;
-    assert_eq!(rt; told_once(alloc, OfReads)?.as_str(), want.as_str());
-    Ok(())
+fn each_read_fails(rt: HostRuntime) -> Result<(), AllocError> {
+    const WANT: &[&str] = &[
+        "! Read fault on i.ch\n== 1\n! Read fault on f.w\n== 1\n",
+        FAULT,
+        MAIN,
+        HEADER,
+        "== 1\n",
+    ];
+    check_told(&rt, OfReads, WANT)
 }
 
 /// The writes of the log fail: what is told is the files and the status.
@@ -152,9 +190,7 @@ impl FailingRuns for OfLog {
 }
 
 #[test]
-fn each_write_of_the_log_fails(rt: HostRuntime) -> Result<(), Fail> {
-    let alloc = rt.alloc();
-    let want = format!(in alloc; "== 1\n{MAIN}== 1\n{MAIN}{HEADER}== 1\n")?;
-    assert_eq!(rt; told_once(alloc, OfLog)?.as_str(), want.as_str());
-    Ok(())
+fn each_write_of_the_log_fails(rt: HostRuntime) -> Result<(), AllocError> {
+    const WANT: &[&str] = &["== 1\n", MAIN, "== 1\n", MAIN, HEADER, "== 1\n"];
+    check_told(&rt, OfLog, WANT)
 }

@@ -1,8 +1,10 @@
 // Many faults: their lines come in large pieces.
 use super::told::ROOM;
-use cweb_lines::{MemorySink, Merger};
+use super::wanted::{holds, same_bytes, same_number};
+use cweb_lines::{MemoryShelf, MemorySink, Merger, Sink};
 use cweb_tools::{run_wmerge, write_faults};
 use std::alloc::{AllocError, Global};
+use std::process::Abort;
 use std::test::Fail;
 use trial::{TrialSink, shelf_of};
 
@@ -15,54 +17,79 @@ fn faulty_web(alloc: Global, lines: u32) -> Result<Vec<u8>, AllocError> {
     Ok(web)
 }
 
-#[test]
-fn a_thousand_faults_are_few_writes(rt: HostRuntime) -> Result<(), Fail> {
-    let alloc = rt.alloc();
-    let mut shelf = shelf_of(alloc, &[("a.w", &faulty_web(alloc, 1000)?)])?;
+/// The log of a run over such a web.
+fn log_of(alloc: Global, lines: u32) -> Result<(TrialSink, u8), AllocError> {
+    let mut shelf = shelf_of(alloc, &[("a.w", &faulty_web(alloc, lines)?)])?;
     let mut out = MemorySink::with_room(alloc, ROOM)?;
     let mut log = TrialSink::with_room(alloc, ROOM)?;
-    assert_eq!(rt;
-        run_wmerge(alloc, &["a"], None, &mut shelf, &mut out, &mut log),
-        1
-    );
-    let mut expected = Vec::new(alloc);
-    for line in 1..1001u32 {
-        expected.extend_from_slice(b"a.w:")?;
-        expected.extend_from_slice(itoa::Buffer::new().format(line).as_bytes())?;
-        expected.extend_from_slice(b": ! Include file name not given\n")?;
-    }
-    assert_eq!(rt; log.bytes(), expected.as_slice());
+    let status = run_wmerge(alloc, &["a"], None, &mut shelf, &mut out, &mut log);
+    Ok((log, status))
+}
 
+/// The line of a fault in a line of a web.
+fn add_fault(lines: &mut Vec<u8>, name: &[u8], line: u32) -> Result<(), AllocError> {
+    lines.extend_from_slice(name)?;
+    lines.extend_from_slice(b":")?;
+    lines.extend_from_slice(itoa::Buffer::new().format(line).as_bytes())?;
+    lines.extend_from_slice(b": ! Include file name not given\n")
+}
+
+/// The lines of a fault in each of so many lines of a web.
+fn faults(alloc: Global, name: &[u8], lines: u32) -> Result<Vec<u8>, AllocError> {
+    let mut faults = Vec::new(alloc);
+    for line in 0..lines {
+        add_fault(&mut faults, name, line + 1)?;
+    }
+    Ok(faults)
+}
+
+#[test]
+fn a_thousand_faults_are_few_writes(rt: HostRuntime) -> Result<(), AllocError> {
+    let (log, status) = log_of(rt.alloc(), 1000)?;
+    same_number(&rt, u64::from(status), 1);
+    same_bytes(&rt, log.bytes(), &faults(rt.alloc(), b"a.w", 1000)?);
     // some forty bytes a line, and 4,096 a piece
-    assert!(rt; log.writes < 12, "{}", log.writes);
+    holds(&rt, log.writes < 12);
     Ok(())
+}
+
+/// A name of so many letters.
+fn long_name(alloc: Global, letters: u32) -> Result<String, AllocError> {
+    let mut name = String::new(alloc);
+    for _ in 0..letters {
+        name.push_str("n")?;
+    }
+    name.push_str(".w")?;
+    Ok(name)
+}
+
+/// The lines of the faults of a merger.
+fn check_faults(
+    rt: &(impl Abort + AllocGlobal),
+    merger: &Merger<MemoryShelf>,
+    lines: &[u8],
+) -> Result<(), AllocError> {
+    let mut log = MemorySink::with_room(rt.alloc(), 4 * ROOM)?;
+    holds(
+        rt,
+        write_faults(&mut log, merger.names(), merger.faults()).is_ok(),
+    );
+    same_bytes(rt, log.bytes(), lines);
+    Ok(())
+}
+
+/// The lines of the faults of a web of two include lines without a name.
+fn check_two_faults(rt: &(impl Abort + AllocGlobal), name: &str) -> Result<(), Fail> {
+    let mut shelf = shelf_of(rt.alloc(), &[(name, b"@i\n@i\n")])?;
+    let mut merger = Merger::start(rt.alloc(), &mut shelf, name, None, None, None)?;
+    let mut line = Vec::new(rt.alloc());
+    holds(rt, merger.next_line(&mut shelf, &mut line).is_ok());
+    let lines = faults(rt.alloc(), name.as_bytes(), 2)?;
+    Ok(check_faults(rt, &merger, &lines)?)
 }
 
 #[test]
 fn a_name_longer_than_a_piece(rt: HostRuntime) -> Result<(), Fail> {
-    let alloc = rt.alloc();
-    let mut name = String::new(alloc);
-    for _ in 0..5000 {
-        name.push_str("n")?;
-    }
-    name.push_str(".w")?;
-    let mut shelf = shelf_of(alloc, &[(&name, b"@i\n@i\n")])?;
-    let mut merger = match Merger::start(alloc, &mut shelf, &name, None, None, None) {
-        Ok(merger) => merger,
-        Err(_) => return Err(Fail::from("no web")),
-    };
-    let mut line = Vec::new(alloc);
-    assert!(rt; merger.next_line(&mut shelf, &mut line).is_ok());
-    let mut log = MemorySink::with_room(alloc, 4 * ROOM)?;
-    assert!(rt; write_faults(&mut log, merger.names(), merger.faults()).is_ok());
-    let mut expected = Vec::new(alloc);
-    for end in [
-        ":1: ! Include file name not given\n",
-        ":2: ! Include file name not given\n",
-    ] {
-        expected.extend_from_slice(name.as_bytes())?;
-        expected.extend_from_slice(end.as_bytes())?;
-    }
-    assert_eq!(rt; log.bytes(), expected.as_slice());
-    Ok(())
+    let name = long_name(rt.alloc(), 5000)?;
+    check_two_faults(&rt, name.as_str())
 }

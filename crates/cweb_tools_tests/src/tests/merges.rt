@@ -1,141 +1,113 @@
 // Runs of `wmerge` over texts in memory, and over devices that fail.
+use super::merging::{
+    Merge, Run, Texts, check_log_fails, check_refused, check_run, check_runs, merged, merged_behind,
+};
 use super::told::ROOM;
-use cweb_lines::{FileId, MemorySink, Shelf, Sink, Stop};
+use super::wanted::{holds, same_bytes, same_number};
+use cweb_lines::{FileId, MemorySink, Sink, Stop};
 use cweb_tools::{run_wmerge, write_stop};
-use std::alloc::AllocError;
+use std::alloc::{AllocError, Global};
 use std::process::Abort;
-use std::test::Fail;
-use trial::{TrialShelf, TrialSink, shelf_of};
+use trial::{TrialSink, shelf_of};
 
-/// One run over texts in memory, and what it has to leave.
-pub fn check_run(
-    rt: &(impl Abort + AllocGlobal),
-    words: &[&str],
-    inputs: Option<&str>,
-    texts: &[(&str, &[u8])],
-    out: &str,
-    log: &str,
-    status: u8,
-) -> Result<(), AllocError> {
-    let alloc = rt.alloc();
-    let mut shelf = shelf_of(alloc, texts)?;
-    let mut written = MemorySink::with_room(alloc, ROOM)?;
-    let mut logged = MemorySink::with_room(alloc, ROOM)?;
-    let answer = run_wmerge(alloc, words, inputs, &mut shelf, &mut written, &mut logged);
-    assert_eq!(rt; logged.bytes(), log.as_bytes());
-    assert_eq!(rt; written.bytes(), out.as_bytes());
-    assert_eq!(rt; answer, status);
-    Ok(())
+const USAGE: &str = "! Usage: wmerge webfile[.w] [{changefile[.ch]|-}]\n";
+
+#[test]
+fn merged_lines_and_their_log(rt: HostRuntime) -> Result<(), AllocError> {
+    const RUNS: &[Run] = &[
+        // blanks at line ends are dropped, and a last line may lack its newline
+        (&["a"], None, &[("a.w", b"x \r\n\ny\t")], "x\n\ny\n", "", 0),
+        (&["a"], None, &[("a.w", b"")], "", "", 0),
+        // the second name is tried where the first is not there, and not where the word has an extension
+        (&["a"], None, &[("a.web", b"x\n")], "x\n", "", 0),
+        (
+            &["a.w"],
+            None,
+            &[("a.w.web", b"x\n")],
+            "",
+            "! Cannot open web file a.w\n",
+            1,
+        ),
+        (
+            &["gone"],
+            None,
+            &[],
+            "",
+            "! Cannot open web file gone.w\n",
+            1,
+        ),
+        (&[], None, &[], "", USAGE, 1),
+        (&["-"], None, &[("-.w", b"x\n")], "", USAGE, 1),
+        (&["-h"], None, &[], "", USAGE, 1),
+        (&["+"], None, &[("+.w", b"x\n")], "x\n", "", 0),
+    ];
+    check_runs(&rt, RUNS)
 }
 
 #[test]
-fn merged_lines_and_their_log(rt: HostRuntime) -> Result<(), Fail> {
-    let usage = "! Usage: wmerge webfile[.w] [{changefile[.ch]|-}]\n";
-
-    // blanks at line ends are dropped, and a last line may lack its newline
-    check_run(
-        &rt,
-        &["a"],
-        None,
-        &[("a.w", b"x \r\n\ny\t")],
-        "x\n\ny\n",
-        "",
-        0,
-    )?;
-    check_run(&rt, &["a"], None, &[("a.w", b"")], "", "", 0)?;
-
-    // the second name is tried where the first is not there, and not where the word has an extension
-    check_run(&rt, &["a"], None, &[("a.web", b"x\n")], "x\n", "", 0)?;
-    check_run(
-        &rt,
-        &["a.w"],
-        None,
-        &[("a.w.web", b"x\n")],
-        "",
-        "! Cannot open web file a.w\n",
-        1,
-    )?;
-    check_run(
-        &rt,
-        &["gone"],
-        None,
-        &[],
-        "",
-        "! Cannot open web file gone.w\n",
-        1,
-    )?;
-
-    check_run(&rt, &[], None, &[], "", usage, 1)?;
-    check_run(&rt, &["-"], None, &[("-.w", b"x\n")], "", usage, 1)?;
-    check_run(&rt, &["-h"], None, &[], "", usage, 1)?;
-    check_run(&rt, &["+"], None, &[("+.w", b"x\n")], "x\n", "", 0)?;
-    Ok(())
+fn included_files(rt: HostRuntime) -> Result<(), AllocError> {
+    const RUNS: &[Run] = &[
+        (
+            &["a"],
+            Some("lib"),
+            &[
+                ("a.w", b"one\n@i b.w\nthree\n@i gone\n@i\n"),
+                ("lib/b.w", b"two\n"),
+            ],
+            "one\ntwo\nthree\n",
+            "a.w:4: ! Cannot open include file\na.w:5: ! Include file name not given\n",
+            1,
+        ),
+        // no folder is sought in where the folder's name is empty
+        (
+            &["a"],
+            Some(""),
+            &[("a.w", b"@i b.w\n"), ("/b.w", b"two\n")],
+            "",
+            "a.w:1: ! Cannot open include file\n",
+            1,
+        ),
+        // a file that includes itself, twenty deep
+        (
+            &["a"],
+            None,
+            &[("a.w", b"P\n@i a.w\nQ\n")],
+            "P\nP\nP\nP\nP\nP\nP\nP\nP\nP\nP\nP\nP\nP\nP\nP\nP\nP\nP\nP\nQ\nQ\nQ\nQ\nQ\nQ\nQ\nQ\nQ\nQ\nQ\nQ\nQ\nQ\nQ\nQ\nQ\nQ\nQ\nQ\n",
+            "a.w:2: ! Too many nested includes\n",
+            1,
+        ),
+    ];
+    check_runs(&rt, RUNS)
 }
 
-#[test]
-fn included_files(rt: HostRuntime) -> Result<(), Fail> {
-    let web: &[u8] = b"one\n@i b.w\nthree\n@i gone\n@i\n";
-    let faults = "a.w:4: ! Cannot open include file\na.w:5: ! Include file name not given\n";
-    check_run(
-        &rt,
-        &["a"],
-        Some("lib"),
-        &[("a.w", web), ("lib/b.w", b"two\n")],
-        "one\ntwo\nthree\n",
-        faults,
-        1,
-    )?;
-
-    // no folder is sought in where the folder's name is empty
-    let missing = "a.w:1: ! Cannot open include file\n";
-    check_run(
-        &rt,
-        &["a"],
-        Some(""),
-        &[("a.w", b"@i b.w\n"), ("/b.w", b"two\n")],
-        "",
-        missing,
-        1,
-    )?;
-
-    // a file that includes itself, twenty deep
-    let deep = "a.w:2: ! Too many nested includes\n";
-    let lines =
-        "P\nP\nP\nP\nP\nP\nP\nP\nP\nP\nP\nP\nP\nP\nP\nP\nP\nP\nP\nP\nQ\nQ\nQ\nQ\nQ\nQ\nQ\nQ\nQ\nQ\nQ\nQ\nQ\nQ\nQ\nQ\nQ\nQ\nQ\nQ\n";
-    check_run(
-        &rt,
-        &["a"],
-        None,
-        &[("a.w", b"P\n@i a.w\nQ\n")],
-        lines,
-        deep,
-        1,
-    )?;
-    Ok(())
-}
-
-#[test]
-fn a_line_too_long(rt: HostRuntime) -> Result<(), Fail> {
-    let mut web = Vec::new(rt.alloc());
-    web.extend_from_slice(b"short\n")?;
-    for _ in 0..1_048_576 {
-        web.push(b'x')?;
+/// A front and so many letters behind it.
+pub fn long_text(alloc: Global, front: &[u8], letters: u32) -> Result<Vec<u8>, AllocError> {
+    let mut text = Vec::new(alloc);
+    text.extend_from_slice(front)?;
+    for _ in 0..letters {
+        text.push(b'x')?;
     }
-    check_run(
-        &rt,
-        &["long"],
-        None,
-        &[("long.w", &web)],
-        "short\n",
-        "! Line too long in long.w\n",
-        1,
-    )?;
+    Ok(text)
+}
+
+#[test]
+fn a_line_too_long(rt: HostRuntime) -> Result<(), AllocError> {
+    let web = long_text(rt.alloc(), b"short\n", 1_048_576)?;
+    let texts: Texts = &[("long.w", &web)];
+    let stop = "! Line too long in long.w\n";
+    check_run(&rt, &(&["long"], None, texts, "short\n", stop, 1))
+}
+
+fn check_stop(rt: &(impl Abort + AllocGlobal), stop: Stop, line: &str) -> Result<(), AllocError> {
+    let mut log = MemorySink::with_room(rt.alloc(), ROOM)?;
+    holds(rt, write_stop(&mut log, stop, "n").is_ok());
+    same_bytes(rt, log.bytes(), line.as_bytes());
     Ok(())
 }
 
 #[test]
-fn lines_of_stops(rt: HostRuntime) -> Result<(), Fail> {
-    for (stop, line) in [
+fn lines_of_stops(rt: HostRuntime) -> Result<(), AllocError> {
+    const STOPS: &[(Stop, &str)] = &[
         (Stop::Usage, "! Usage: n\n"),
         (Stop::WebNotOpened, "! Cannot open web file n\n"),
         (Stop::ChangeNotOpened, "! Cannot open change file n\n"),
@@ -146,16 +118,18 @@ fn lines_of_stops(rt: HostRuntime) -> Result<(), Fail> {
         (Stop::OutNotOpened, "! Cannot open output file n\n"),
         (Stop::WriteFault, "! Write fault on n\n"),
         (Stop::LogFault, ""),
-    ] {
-        let mut log = MemorySink::with_room(rt.alloc(), ROOM)?;
-        assert!(rt; write_stop(&mut log, stop, "n").is_ok());
-        assert_eq!(rt; log.bytes(), line.as_bytes(), "{stop:?}");
+    ];
+    for (stop, line) in STOPS {
+        check_stop(&rt, *stop, *line)?;
     }
     Ok(())
 }
 
 /// The texts of the runs in which something fails, and what such a run prints where nothing does.
-const WEB: &[u8] = b"one\n@i b.w\nthree\n@i gone\n";
+const TEXTS: Texts = &[
+    ("a.w", b"one\n@i b.w\nthree\n@i gone\n"),
+    ("lib/b.w", b"two\n"),
+];
 
 const MERGED: &[u8] = b"one\ntwo\nthree\n";
 
@@ -164,89 +138,80 @@ const FAULTS: &[u8] = b"a.w:4: ! Cannot open include file\n";
 // Run with each allocation failing in turn, it holds each time.
 #[test]
 fn memory_refused(rt: HostRuntime) {
-    let alloc = rt.alloc();
-    let Ok(mut shelf) = shelf_of(alloc, &[("a.w", WEB), ("lib/b.w", b"two\n")]) else {
-        return;
-    };
-    let Ok(mut out) = MemorySink::with_room(alloc, ROOM) else {
-        return;
-    };
-    let Ok(mut log) = MemorySink::with_room(alloc, ROOM) else {
-        return;
-    };
-    let status = run_wmerge(alloc, &["a"], Some("lib"), &mut shelf, &mut out, &mut log);
-    assert_eq!(rt; status, 1);
-    if log.bytes() == FAULTS {
-        assert_eq!(rt; out.bytes(), MERGED);
-    } else {
-        assert_eq!(rt; log.bytes(), b"! Out of memory\n".as_slice());
-        assert!(rt; MERGED.starts_with(out.bytes()));
+    if let Ok(left) = merged(rt.alloc(), &["a"], Some("lib"), TEXTS) {
+        check_refused(&rt, &left, MERGED, FAULTS);
     }
 }
 
+/// A run of which a read fails, or one that leaves all; whether a read failed.
+fn check_read(rt: &impl Abort, left: &Merge) -> bool {
+    same_number(rt, u64::from(left.status), 1);
+    if left.failures == 0 {
+        same_bytes(rt, left.out.bytes(), MERGED);
+        same_bytes(rt, left.log.bytes(), FAULTS);
+        return false;
+    }
+    let in_web = left.logs(b"! Read fault on a.w\n");
+    holds(rt, in_web || left.logs(b"! Read fault on lib/b.w\n"));
+    holds(rt, left.writes_a_front_of(MERGED));
+    true
+}
+
+fn read_fails(rt: &(impl Abort + AllocGlobal), good: u64) -> Result<bool, AllocError> {
+    let left = merged_behind(rt.alloc(), &["a"], Some("lib"), TEXTS, good)?;
+    Ok(check_read(rt, &left))
+}
+
 #[test]
-fn a_read_fails(rt: HostRuntime) -> Result<(), Fail> {
-    let alloc = rt.alloc();
+fn a_read_fails(rt: HostRuntime) -> Result<(), AllocError> {
     let mut last_fault = 0;
     for good in 0..20 {
-        let shelf = shelf_of(alloc, &[("a.w", WEB), ("lib/b.w", b"two\n")])?;
-        let mut shelf = TrialShelf::failing_behind(shelf, good);
-        let mut out = MemorySink::with_room(alloc, ROOM)?;
-        let mut log = MemorySink::with_room(alloc, ROOM)?;
-        let status = run_wmerge(alloc, &["a"], Some("lib"), &mut shelf, &mut out, &mut log);
-        assert_eq!(rt; status, 1);
-        if shelf.failures() == 0 {
-            assert_eq!(rt; out.bytes(), MERGED);
-            assert_eq!(rt; log.bytes(), FAULTS);
-            continue;
+        if read_fails(&rt, good)? {
+            last_fault = good;
         }
-        last_fault = good;
-        let in_web = log.bytes() == b"! Read fault on a.w\n".as_slice();
-        assert!(rt; in_web || log.bytes() == b"! Read fault on lib/b.w\n".as_slice());
-        assert!(rt; MERGED.starts_with(out.bytes()));
     }
-    assert!(rt; last_fault > 5);
+    holds(&rt, last_fault > 5);
+    Ok(())
+}
+
+/// A run of which a write fails, or one that writes all; whether a write failed.
+fn check_write(rt: &impl Abort, status: u8, out: &TrialSink, log: &[u8]) -> bool {
+    if out.failures() == 0 {
+        same_number(rt, u64::from(status), 0);
+        same_bytes(rt, out.bytes(), MERGED);
+        return false;
+    }
+    same_number(rt, u64::from(status), 1);
+    same_bytes(rt, log, b"! Write fault on standard output\n");
+    holds(rt, MERGED.starts_with(out.bytes()));
+    true
+}
+
+fn write_fails(rt: &(impl Abort + AllocGlobal), good: u64) -> Result<bool, AllocError> {
+    let alloc = rt.alloc();
+    let mut shelf = shelf_of(alloc, &[("a.w", MERGED)])?;
+    let mut out = TrialSink::failing_behind(alloc, ROOM, good)?;
+    let mut log = MemorySink::with_room(alloc, ROOM)?;
+    let status = run_wmerge(alloc, &["a"], None, &mut shelf, &mut out, &mut log);
+    Ok(check_write(rt, status, &out, log.bytes()))
+}
+
+#[test]
+fn a_write_fails(rt: HostRuntime) -> Result<(), AllocError> {
+    let mut last_fault = 0;
+    for good in 0..20 {
+        if write_fails(&rt, good)? {
+            last_fault = good;
+        }
+    }
+    same_number(&rt, last_fault, 6);
     Ok(())
 }
 
 #[test]
-fn a_write_fails(rt: HostRuntime) -> Result<(), Fail> {
-    let alloc = rt.alloc();
-    let mut last_fault = 0;
-    for good in 0..20 {
-        let mut shelf = shelf_of(alloc, &[("a.w", b"one\ntwo\nthree\n")])?;
-        let mut out = TrialSink::failing_behind(alloc, ROOM, good)?;
-        let mut log = MemorySink::with_room(alloc, ROOM)?;
-        let status = run_wmerge(alloc, &["a"], None, &mut shelf, &mut out, &mut log);
-        if out.failures() == 0 {
-            assert_eq!(rt; status, 0);
-            assert_eq!(rt; out.bytes(), MERGED);
-            continue;
-        }
-        last_fault = good;
-        assert_eq!(rt; status, 1);
-        assert_eq!(rt;
-            log.bytes(),
-            b"! Write fault on standard output\n".as_slice()
-        );
-        assert!(rt; MERGED.starts_with(out.bytes()));
-    }
-    assert_eq!(rt; last_fault, 6);
-    Ok(())
-}
-
-#[test]
-fn the_log_fails(rt: HostRuntime) -> Result<(), Fail> {
-    let alloc = rt.alloc();
+fn the_log_fails(rt: HostRuntime) -> Result<(), AllocError> {
     for good in 0..10 {
-        let mut shelf = shelf_of(alloc, &[("a.w", WEB), ("lib/b.w", b"two\n")])?;
-        let mut out = MemorySink::with_room(alloc, ROOM)?;
-        let mut log = TrialSink::failing_behind(alloc, ROOM, good)?;
-        let status = run_wmerge(alloc, &["a"], Some("lib"), &mut shelf, &mut out, &mut log);
-        assert_eq!(rt; status, 1);
-        assert_eq!(rt; log.failures(), 1);
-        assert_eq!(rt; out.bytes(), MERGED);
-        assert!(rt; FAULTS.starts_with(log.bytes()));
+        check_log_fails(&rt, &["a"], Some("lib"), TEXTS, (MERGED, FAULTS), good)?;
     }
     Ok(())
 }

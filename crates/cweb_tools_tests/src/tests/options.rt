@@ -1,6 +1,8 @@
 // The words of a command line of `ctangle`.
+use super::wanted::{holds, same_name, same_text};
 use cweb_lines::Stop;
 use cweb_tools::{Options, Shown};
+use std::alloc::Global;
 use std::process::Abort;
 use std::test::Fail;
 
@@ -15,71 +17,85 @@ fn shown(words: &[&str]) -> Option<[bool; 4]> {
     ])
 }
 
-#[test]
-fn option_words_stand_anywhere_and_later_letters_win(rt: HostRuntime) {
-    assert_eq!(rt; shown(&[]), Some([true, true, true, false]));
-    assert_eq!(rt;
-        shown(&["a", "+s", "-bph"]),
-        Some([false, false, false, true])
-    );
-    assert_eq!(rt; shown(&["-b", "a", "+b", "-p+", "x"]), None);
-    assert_eq!(rt;
-        shown(&["-b", "a", "+b", "-p"]),
-        Some([true, false, true, false])
-    );
-    assert_eq!(rt; shown(&["-zQ", "a"]), shown(&["a"]));
-    assert_eq!(rt; shown(&["-b-", "a"]), None);
-
-    // words of one byte, and those that begin otherwise, are no option words
-    assert_eq!(rt; shown(&["-", "+", "b-", ""]), shown(&[]));
+fn check_shown(rt: &impl Abort, words: &[&str], want: Option<[bool; 4]>) {
+    assert_eq!(rt; shown(words), want);
 }
 
-/// Reads words, and compares the names that they stand for: the web's first and second, the change file's, the main
-/// output's.
-fn check_names(
-    rt: &(impl Abort + AllocGlobal),
-    words: &[&str],
-    web: &str,
-    second: Option<&str>,
-    change: Option<&str>,
-    main: &str,
-) -> Result<(), Fail> {
-    let read = Options::read(rt.alloc(), words)?;
-    assert_eq!(rt; read.web.as_str(), web);
-    assert_eq!(rt; read.second.as_ref().map(|name| name.as_str()), second);
-    assert_eq!(rt; read.change.as_ref().map(|name| name.as_str()), change);
-    assert_eq!(rt; read.main.as_str(), main);
+#[test]
+fn option_words_stand_anywhere_and_later_letters_win(rt: HostRuntime) {
+    const ROWS: &[(&[&str], Option<[bool; 4]>)] = &[
+        (&[], Some([true, true, true, false])),
+        (&["a", "+s", "-bph"], Some([false, false, false, true])),
+        (&["-b", "a", "+b", "-p+", "x"], None),
+        (&["-b", "a", "+b", "-p"], Some([true, false, true, false])),
+        (&["-zQ", "a"], Some([true, true, true, false])),
+        (&["a"], Some([true, true, true, false])),
+        (&["-b-", "a"], None),
+        // words of one byte, and those that begin otherwise, are no option words
+        (&["-", "+", "b-", ""], Some([true, true, true, false])),
+    ];
+    for (words, want) in ROWS {
+        check_shown(&rt, *words, *want);
+    }
+}
+
+/// Words, and the names that they stand for: the web's first and second, the change file's, the main output's.
+type Row<'a> = (
+    &'a [&'a str],
+    &'a str,
+    Option<&'a str>,
+    Option<&'a str>,
+    &'a str,
+);
+
+fn check_names(rt: &(impl Abort + AllocGlobal), row: &Row) -> Result<(), Fail> {
+    let read = Options::read(rt.alloc(), row.0)?;
+    same_text(rt, read.web.as_str(), row.1);
+    same_name(rt, text_of(&read.second), row.2);
+    same_name(rt, text_of(&read.change), row.3);
+    same_text(rt, read.main.as_str(), row.4);
     Ok(())
+}
+
+fn text_of(name: &Option<String>) -> Option<&str> {
+    name.as_ref().map(|name| name.as_str())
 }
 
 #[test]
 fn names_of_webs_and_outputs(rt: HostRuntime) -> Result<(), Fail> {
-    // the main output is named after the last part of the web's path, before its last dot
-    check_names(
-        &rt,
-        &["x.y/web"],
-        "x.y/web.w",
-        Some("x.y/web.web"),
-        None,
-        "web.c",
-    )?;
-    check_names(&rt, &["d/a.b.w"], "d/a.b.w", None, None, "a.b.c")?;
-    check_names(&rt, &["a", "-", "out"], "a.w", Some("a.web"), None, "out.c")?;
-    check_names(
-        &rt,
-        &["-b", "a", "c", "+s", "d.d/o.h"],
-        "a.w",
-        Some("a.web"),
-        Some("c.ch"),
-        "d.d/o.h",
-    )?;
-    check_names(&rt, &["/.w"], "/.w", None, None, ".c")?;
+    const ROWS: &[Row] = &[
+        // the main output is named after the last part of the web's path, before its last dot
+        (
+            &["x.y/web"],
+            "x.y/web.w",
+            Some("x.y/web.web"),
+            None,
+            "web.c",
+        ),
+        (&["d/a.b.w"], "d/a.b.w", None, None, "a.b.c"),
+        (&["a", "-", "out"], "a.w", Some("a.web"), None, "out.c"),
+        (
+            &["-b", "a", "c", "+s", "d.d/o.h"],
+            "a.w",
+            Some("a.web"),
+            Some("c.ch"),
+            "d.d/o.h",
+        ),
+        (&["/.w"], "/.w", None, None, ".c"),
+    ];
+    for row in ROWS {
+        check_names(&rt, row)?;
+    }
     Ok(())
+}
+
+fn is_refused(alloc: Global, words: &[&str]) -> bool {
+    matches!(Options::read(alloc, words), Err(Stop::Usage))
 }
 
 #[test]
 fn command_lines_that_are_refused(rt: HostRuntime) {
-    let refused: [&[&str]; 8] = [
+    const REFUSED: &[&[&str]] = &[
         &[],
         &["-b"],
         &["-b-", "a"],
@@ -89,8 +105,7 @@ fn command_lines_that_are_refused(rt: HostRuntime) {
         &["a", "c", "o\n"],
         &["a", "c", "o", "x"],
     ];
-    for words in refused {
-        let read = Options::read(rt.alloc(), words);
-        assert!(rt; matches!(read, Err(Stop::Usage)));
+    for words in REFUSED {
+        holds(&rt, is_refused(rt.alloc(), *words));
     }
 }

@@ -1,30 +1,39 @@
 // The lines of what is wrong with a web's text.
 use super::told::ROOM;
-use cweb_lines::{FileId, MemorySink, Merger, Place};
+use super::wanted::{holds, same_bytes};
+use cweb_lines::{FileId, MemoryShelf, MemorySink, Merger, Place};
 use cweb_rules::{ScanFault, ScanKind};
 use cweb_tools::write_scan_faults;
+use std::process::Abort;
 use std::test::Fail;
 use trial::shelf_of;
+
+const LINES: &[u8] = b"u.w:12: ! String did not end\nu.w:12: ! String did not end\n";
+
+fn check_lines(
+    rt: &(impl Abort + AllocGlobal),
+    merger: &Merger<MemoryShelf>,
+    fault: ScanFault,
+) -> Result<(), Fail> {
+    let mut log = MemorySink::with_room(rt.alloc(), ROOM)?;
+    holds(rt, fault.place.file.0 < merger.names().count());
+    let faults = [fault, fault];
+    holds(
+        rt,
+        write_scan_faults(&mut log, merger.names(), &faults).is_ok(),
+    );
+    same_bytes(rt, log.bytes(), LINES);
+    Ok(())
+}
 
 #[test]
 fn lines_of_faults_of_a_text(rt: HostRuntime) -> Result<(), Fail> {
     let mut shelf = shelf_of(rt.alloc(), &[("u.w", b"")])?;
-    let Ok(merger) = Merger::start(rt.alloc(), &mut shelf, "u.w", None, None, None) else {
-        return Err(Fail::from("no web"));
+    let merger = Merger::start(rt.alloc(), &mut shelf, "u.w", None, None, None)?;
+    let place = Place {
+        file: FileId(0),
+        line: 12,
     };
-    let fault = ScanFault {
-        kind: ScanKind::StringDidNotEnd,
-        place: Place {
-            file: FileId(0),
-            line: 12,
-        },
-    };
-    let mut log = MemorySink::with_room(rt.alloc(), ROOM)?;
-    assert!(rt; write_scan_faults(&mut log, merger.names(), &[fault, fault]).is_ok());
-    let line = "u.w:12: ! String did not end\n";
-    assert_eq!(rt;
-        log.bytes(),
-        format!(in rt.alloc(); "{line}{line}")?.as_bytes()
-    );
-    Ok(())
+    let kind = ScanKind::StringDidNotEnd;
+    check_lines(&rt, &merger, ScanFault { kind, place })
 }

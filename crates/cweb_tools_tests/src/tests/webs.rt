@@ -1,32 +1,50 @@
 // Webs, and what a run over each leaves.
 use super::told::tangled;
-use std::test::Fail;
+use super::wanted::same_told;
+use std::alloc::AllocError;
+use std::process::Abort;
+
+/// The words of a run, its texts, and what it leaves.
+type Run<'a> = (&'a [&'a str], &'a [(&'a str, &'a [u8])], &'a str);
+
+fn check_run(rt: &(impl Abort + AllocGlobal), run: &Run) -> Result<(), AllocError> {
+    same_told(rt, tangled(rt.alloc(), run.0, run.1)?, run.2);
+    Ok(())
+}
+
+fn check_runs(rt: &(impl Abort + AllocGlobal), runs: &[Run]) -> Result<(), AllocError> {
+    for run in runs {
+        check_run(rt, run)?;
+    }
+    Ok(())
+}
+
+const USAGE: &str =
+    "! Usage: ctangle [options] webfile[.w] [{changefile[.ch]|-} [outfile[.c]]]\n== 1\n";
+
+const HELLO: &[(&str, &[u8])] = &[(
+    "hello.w",
+    b"@ Hello.\n@c\n#include <stdio.h>\nint main(void) { @<Greet@> return 0; }\n@ @<Greet@>=\nputs(\"hi\");\n",
+)];
+
+const ONE_WORD: &[(&str, &[u8])] = &[("a.w", b"@ @c x\n")];
 
 #[test]
-fn what_is_shown(rt: HostRuntime) -> Result<(), Fail> {
-    let rows: [(&[&str], &[(&str, &[u8])], &str); 6] = [
+fn what_is_shown(rt: HostRuntime) -> Result<(), AllocError> {
+    const RUNS: &[Run] = &[
         (
             &["hello"],
-            &[(
-                "hello.w",
-                b"@ Hello.\n@c\n#include <stdio.h>\nint main(void) { @<Greet@> return 0; }\n@ @<Greet@>=\nputs(\"hi\");\n",
-            )],
+            HELLO,
             "This is CTANGLE, profile of CWEB 3\nWriting hello.c\n(No errors were found.)\n== hello.c\n/*1:*/\n#line 2 \"hello.w\"\n\n#include <stdio.h>\nint main(void){/*2:*/\n#line 5 \"hello.w\"\n\nputs(\"hi\");/*:2*/\n#line 4 \"hello.w\"\nreturn 0;}\n/*:1*/\n== 0\n",
         ),
         (
             &["+s", "hello"],
-            &[(
-                "hello.w",
-                b"@ Hello.\n@c\n#include <stdio.h>\nint main(void) { @<Greet@> return 0; }\n@ @<Greet@>=\nputs(\"hi\");\n",
-            )],
+            HELLO,
             "This is CTANGLE, profile of CWEB 3\nWriting hello.c\nSections: 2. Names: 1. Macros: 0.\n(No errors were found.)\n== hello.c\n/*1:*/\n#line 2 \"hello.w\"\n\n#include <stdio.h>\nint main(void){/*2:*/\n#line 5 \"hello.w\"\n\nputs(\"hi\");/*:2*/\n#line 4 \"hello.w\"\nreturn 0;}\n/*:1*/\n== 0\n",
         ),
         (
             &["hello", "-bph"],
-            &[(
-                "hello.w",
-                b"@ Hello.\n@c\n#include <stdio.h>\nint main(void) { @<Greet@> return 0; }\n@ @<Greet@>=\nputs(\"hi\");\n",
-            )],
+            HELLO,
             "== hello.c\n/*1:*/\n#line 2 \"hello.w\"\n\n#include <stdio.h>\nint main(void){/*2:*/\n#line 5 \"hello.w\"\n\nputs(\"hi\");/*:2*/\n#line 4 \"hello.w\"\nreturn 0;}\n/*:1*/\n== 0\n",
         ),
         (
@@ -45,48 +63,28 @@ fn what_is_shown(rt: HostRuntime) -> Result<(), Fail> {
             "k.w:1: ! Double @ in limbo\nk.w:2: ! @d, @f, @s, @c and @p are ignored in C text\nk.w:2: ! Use @l in limbo only\nk.w:2: ! Faulty ASCII constant\nk.w:2: ! Double @ in strings\n(Faults: 5.)\n== k.c\n/*1:*/\n#line 2 \"k.w\"\nint a;b \"x@y\"/*:1*/\n== 1\n",
         ),
     ];
-    for (words, texts, left) in rows {
-        let told = tangled(rt.alloc(), words, texts)?;
-        assert_eq!(rt; told.as_str(), left);
-    }
-    Ok(())
+    check_runs(&rt, RUNS)
 }
 
 #[test]
-fn no_words(rt: HostRuntime) -> Result<(), Fail> {
-    let told = tangled(rt.alloc(), &[], &[])?;
-    let usage =
-        "! Usage: ctangle [options] webfile[.w] [{changefile[.ch]|-} [outfile[.c]]]\n== 1\n";
-    assert_eq!(rt; told.as_str(), usage);
-    Ok(())
+fn no_words(rt: HostRuntime) -> Result<(), AllocError> {
+    check_run(&rt, &(&[], &[], USAGE))
 }
 
 #[test]
-fn words_that_name_files(rt: HostRuntime) -> Result<(), Fail> {
-    let rows: [(&[&str], &[(&str, &[u8])], &str); 8] = [
-        (
-            &["-bph"],
-            &[("a.w", b"@ @c x\n")],
-            "! Usage: ctangle [options] webfile[.w] [{changefile[.ch]|-} [outfile[.c]]]\n== 1\n",
-        ),
-        (
-            &["a", "-", "-"],
-            &[("a.w", b"@ @c x\n")],
-            "! Usage: ctangle [options] webfile[.w] [{changefile[.ch]|-} [outfile[.c]]]\n== 1\n",
-        ),
-        (
-            &["-b-", "a"],
-            &[("a.w", b"@ @c x\n")],
-            "! Usage: ctangle [options] webfile[.w] [{changefile[.ch]|-} [outfile[.c]]]\n== 1\n",
-        ),
+fn words_that_name_files(rt: HostRuntime) -> Result<(), AllocError> {
+    const RUNS: &[Run] = &[
+        (&["-bph"], ONE_WORD, USAGE),
+        (&["a", "-", "-"], ONE_WORD, USAGE),
+        (&["-b-", "a"], ONE_WORD, USAGE),
         (
             &["-bph", "gone"],
-            &[("a.w", b"@ @c x\n")],
+            ONE_WORD,
             "! Cannot open web file gone.w\n== 1\n",
         ),
         (
             &["-bph", "a", "gone"],
-            &[("a.w", b"@ @c x\n")],
+            ONE_WORD,
             "! Cannot open change file gone.ch\n== 1\n",
         ),
         (
@@ -96,7 +94,7 @@ fn words_that_name_files(rt: HostRuntime) -> Result<(), Fail> {
         ),
         (
             &["-bph", "a", "-", "out"],
-            &[("a.w", b"@ @c x\n")],
+            ONE_WORD,
             "== out.c\n/*1:*/\n#line 1 \"a.w\"\nx/*:1*/\n== 0\n",
         ),
         (
@@ -108,16 +106,12 @@ fn words_that_name_files(rt: HostRuntime) -> Result<(), Fail> {
             "== v.c\n/*1:*/\n#line 1 \"v.w\"\n\na;\n#line 4 \"v.ch\"\nB;\n#line 4 \"v.w\"\nc;/*:1*/\n== 0\n",
         ),
     ];
-    for (words, texts, left) in rows {
-        let told = tangled(rt.alloc(), words, texts)?;
-        assert_eq!(rt; told.as_str(), left);
-    }
-    Ok(())
+    check_runs(&rt, RUNS)
 }
 
 #[test]
-fn names(rt: HostRuntime) -> Result<(), Fail> {
-    let rows: [(&[&str], &[(&str, &[u8])], &str); 6] = [
+fn names(rt: HostRuntime) -> Result<(), AllocError> {
+    const RUNS: &[Run] = &[
         (
             &["-bph", "n"],
             &[(
@@ -158,16 +152,12 @@ fn names(rt: HostRuntime) -> Result<(), Fail> {
             "! Not present: <Q>\n== q.c\n/*1:*/\n#line 1 \"q.w\"\n#line 1 \"q.w\"\n/*:1*/\n== 1\n",
         ),
     ];
-    for (words, texts, left) in rows {
-        let told = tangled(rt.alloc(), words, texts)?;
-        assert_eq!(rt; told.as_str(), left);
-    }
-    Ok(())
+    check_runs(&rt, RUNS)
 }
 
 #[test]
-fn outputs_that_are_refused(rt: HostRuntime) -> Result<(), Fail> {
-    let rows: [(&[&str], &[(&str, &[u8])], &str); 5] = [
+fn outputs_that_are_refused(rt: HostRuntime) -> Result<(), AllocError> {
+    const RUNS: &[Run] = &[
         (
             &["-bph", "c"],
             &[("c.w", b"@ @c @<A@>\n@ @<A@>= @<B@>\n@ @<B@>= @<A@>\n")],
@@ -194,16 +184,12 @@ fn outputs_that_are_refused(rt: HostRuntime) -> Result<(), Fail> {
             "This is CTANGLE, profile of CWEB 3\n! Bad output name: <..>\n(Faults: 1.)\n== 1\n",
         ),
     ];
-    for (words, texts, left) in rows {
-        let told = tangled(rt.alloc(), words, texts)?;
-        assert_eq!(rt; told.as_str(), left);
-    }
-    Ok(())
+    check_runs(&rt, RUNS)
 }
 
 #[test]
-fn printed_text(rt: HostRuntime) -> Result<(), Fail> {
-    let rows: [(&[&str], &[(&str, &[u8])], &str); 10] = [
+fn printed_text(rt: HostRuntime) -> Result<(), AllocError> {
+    const RUNS: &[Run] = &[
         (
             &["-bph", "s"],
             &[(
@@ -270,16 +256,12 @@ fn printed_text(rt: HostRuntime) -> Result<(), Fail> {
             "== j.c\n/*1:*/\n#line 2 \"j.w\"\n\nfoobar 97 9a  bfuer/*:1*/\n== 0\n",
         ),
     ];
-    for (words, texts, left) in rows {
-        let told = tangled(rt.alloc(), words, texts)?;
-        assert_eq!(rt; told.as_str(), left);
-    }
-    Ok(())
+    check_runs(&rt, RUNS)
 }
 
 #[test]
-fn text_that_ends_too_soon(rt: HostRuntime) -> Result<(), Fail> {
-    let rows: [(&[&str], &[(&str, &[u8])], &str); 6] = [
+fn text_that_ends_too_soon(rt: HostRuntime) -> Result<(), AllocError> {
+    const RUNS: &[Run] = &[
         (
             &["-bph", "u"],
             &[("u.w", b"@ @c @<A\n")],
@@ -311,9 +293,5 @@ fn text_that_ends_too_soon(rt: HostRuntime) -> Result<(), Fail> {
             "u.w:1: ! Improper hex number after @l\n! No program text\n== u.c\n== 1\n",
         ),
     ];
-    for (words, texts, left) in rows {
-        let told = tangled(rt.alloc(), words, texts)?;
-        assert_eq!(rt; told.as_str(), left);
-    }
-    Ok(())
+    check_runs(&rt, RUNS)
 }
