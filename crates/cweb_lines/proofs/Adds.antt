@@ -1,15 +1,6 @@
 -- Lines that were taken and faults that were told, as events of a merge.
-use Rattle.std.proofs.Common.{◌≡◌, ◌+◌, ℕ, List, [], ◌∷◌, ◌++◌, refl, sym, ◌∙◌, ap, subst, arith, length, length-append, map}
-use Rattle.std.proofs.lemmas.List.{append-nil, append_assoc}
-use Rattle.cweb_files.specs.declared.place.Place.{Place}
-use Rattle.cweb_lines.specs.Lines.{Line, SourceLine}
-use Rattle.cweb_lines.specs.Merge.{Event, took, fault}
-use Rattle.cweb_lines.specs.Merging.{SoFar, Gives, TellsFront, Adds, TellsSome, StopsAmong, Stopped}
-use Rattle.cweb_lines.specs.Texts.{Count, Took, StopsFor}
-use Rattle.cweb_lines.specs.Told.{given_lines, told_faults, openings, taken_lines, size_of, AreShort}
+use Rattle.cweb_lines.proofs.Common.{◌≡◌, ◌+◌, ℕ, List, [], ◌∷◌, ◌++◌, refl, sym, ◌∙◌, ap, subst, arith, length, length-append, map, append-nil, append_assoc, Place, Line, SourceLine, Event, took, fault, SoFar, Gives, TellsFront, Adds, TellsSome, StopsAmong, Stopped, Count, Took, StopsFor, given_lines, told_faults, openings, taken_lines, size_of, AreShort, SourceFault, Stop}
 use Rattle.cweb_lines.proofs.Stacks.{stops_map}
-use Rattle.cweb_lines.specs.declared.fault.SourceFault.{SourceFault}
-use Rattle.cweb_lines.specs.declared.stop.Stop.{Stop}
 use Rattle.cweb_lines.proofs.Sums.{given-append, told-append, openings-append, taken-append, size-append, short-append, lines_taken-append, bytes_taken-append}
 
 pub given-took : (lines : List SourceLine) → given_lines (map took lines) ≡ []

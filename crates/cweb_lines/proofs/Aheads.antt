@@ -1,23 +1,5 @@
 -- Lines that are looked at where they lie, one behind another.
-use Rattle.std.proofs.Common.{◌≡◌, ◌≤◌, ◌<◌, ◌+◌, ◌-◌, ℕ, List, [], ◌∷◌, ◌++◌, length, map, Option, None, Some, refl, sym, ◌∙◌, ap, subst, arith}
-use Rattle.std.proofs.lemmas.List.{append_cancel_right, length-append, length-map, map-append}
-use Rattle.std.specs.Prelude.{slice_range, unwrap_or, IfSome, OnSome}
-use Rattle.cweb_files.specs.declared.place.Place.{Place}
-use Rattle.cweb_lines.specs.Ahead.{Fits, FitsAt, IsAhead, LooksAt, LooksIn}
-use Rattle.cweb_lines.specs.Change.{Entry}
-use Rattle.cweb_lines.specs.Lending.{LendsLines, lent_at}
-use Rattle.cweb_lines.specs.Lines.{Line, IsOneLine, SourceLine, TextLine, numbered, trimmed}
-use Rattle.cweb_lines.specs.Merging.{pending_of, told_by}
-use Rattle.cweb_lines.specs.Passing.{ComesNext, GivesLines, HasRoomFor, IsStretch, Reaches, StandsAt, StandsIn, ended, lines_next, top_of}
-use Rattle.cweb_lines.specs.Stages.{IsSettled, floor_of}
-use Rattle.cweb_lines.specs.Texts.{files_up_to}
-use Rattle.cweb_lines.specs.declared.limits.Limits.{Limits}
-use Rattle.cweb_lines.specs.declared.limits.TheConstants.{LINES}
-use Rattle.cweb_lines.specs.declared.passing.ahead.Ahead.{Ahead}
-use Rattle.cweb_lines.specs.declared.passing.lent.Lent.{Lent}
-use Rattle.cweb_lines.specs.declared.passing.stretch.Stretch.{Stretch}
-use Rattle.cweb_lines.specs.declared.run.Run.{Run}
-use Rattle.cweb_lines.specs.declared.text.OpenText.{OpenText}
+use Rattle.cweb_lines.proofs.Common.{◌≡◌, ◌≤◌, ◌<◌, ◌+◌, ◌-◌, ℕ, List, [], ◌∷◌, ◌++◌, length, map, Option, None, Some, refl, sym, ◌∙◌, ap, subst, arith, append_cancel_right, length-append, length-map, map-append, slice_range, unwrap_or, IfSome, OnSome, Place, Fits, FitsAt, IsAhead, LooksAt, LooksIn, Entry, LendsLines, lent_at, Line, IsOneLine, SourceLine, TextLine, numbered, trimmed, pending_of, told_by, ComesNext, GivesLines, HasRoomFor, IsStretch, Reaches, StandsAt, StandsIn, ended, lines_next, top_of, IsSettled, floor_of, files_up_to, Limits, LINES, Ahead, Lent, Stretch, Run, OpenText}
 use Rattle.cweb_lines.proofs.Fronts.{told_given, told_then}
 use Rattle.cweb_lines.proofs.Stacks.{most_at}
 use Rattle.cweb_lines.proofs.Standing.{few_lines, joined, numbered-append}

@@ -1,18 +1,6 @@
 -- What comes of lines where no change is pending: what stands behind them comes as if alone, and the numbers of files
 -- don't matter.
-use Rattle.std.proofs.Common.{◌≡◌, ◌+◌, ℕ, zero, suc, Bool, true, false, List, [], ◌∷◌, ◌++◌, None, Some, Option, refl, sym, ◌∙◌, ap, arith, length}
-use Rattle.std.proofs.lemmas.List.{append_assoc}
-use Rattle.std.specs.List.{AllByRecursion}
-use Rattle.cweb_lines.specs.Lines.{Line, SourceLine, lines_in}
-use Rattle.cweb_lines.specs.Include.{World, Found, found_at, include_name, is_include}
-use Rattle.cweb_lines.specs.Change.{at_place}
-use Rattle.cweb_lines.specs.Laws.{file_behind}
-use Rattle.cweb_lines.specs.Seen.{fault_renumbered, line_renumbered}
-use Rattle.cweb_lines.specs.Merge.{Event, Next, RawLine, State, Thing, at_raw, fault, given, included, obeyed, onto, opened, opening, passed, past, plain, raw, raws, run, seek, taking, told, took}
-use Rattle.cweb_lines.specs.Told.{openings}
-use Rattle.cweb_lines.specs.Total.{merge, merge_next}
-use Rattle.cweb_lines.specs.declared.fault.SourceFault.{SourceFault}
-use Rattle.cweb_lines.specs.declared.fault.SourceKind.TheVariants.{NoName, NotThere, TooDeep}
+use Rattle.cweb_lines.proofs.Common.{◌≡◌, ◌+◌, ℕ, zero, suc, Bool, true, false, List, [], ◌∷◌, ◌++◌, None, Some, Option, refl, sym, ◌∙◌, ap, arith, length, append_assoc, AllByRecursion, Line, SourceLine, lines_in, World, Found, found_at, include_name, is_include, at_place, file_behind, fault_renumbered, line_renumbered, Event, Next, RawLine, State, Thing, at_raw, fault, given, included, obeyed, onto, opened, opening, passed, past, plain, raw, raws, run, seek, taking, told, took, openings, merge, merge_next, SourceFault, NoName, NotThere, TooDeep}
 use Rattle.cweb_lines.proofs.Merges.{state}
 
 -- what a raw line comes to, where it begins no change: it is given out, is a fault, or opens a text

@@ -1,14 +1,6 @@
 -- What the code of a line says within a change.
-use Rattle.std.proofs.Common.{◌≡◌, ℕ, true, false, List, [], ◌∷◌, Some, None, Option, refl, ◌∙◌, ap}
-use Rattle.cweb_files.specs.declared.place.Place.{Place}
-use Rattle.cweb_lines.specs.Change.{OldSide, code_of, old_at, old_code, old_lines, at_place}
-use Rattle.cweb_lines.specs.Lines.{Line, SourceLine}
-use denote.Enum.Bare.{sameb}
-use Rattle.cweb_lines.specs.contracts.change.code.Code.{the_type}
-use Rattle.cweb_lines.specs.declared.change.code.Code.{Code}
+use Rattle.cweb_lines.proofs.Common.{◌≡◌, ℕ, true, false, List, [], ◌∷◌, Some, None, Option, refl, ◌∙◌, ap, Place, OldSide, code_of, old_at, old_code, old_lines, at_place, Line, SourceLine, sameb, the_type, Code, NewSide, new_at, new_things, passed, told, WantsZ}
 use Rattle.cweb_lines.specs.declared.change.code.Code.TheVariants.{OldSide as old_side, NewSide as new_side, EndSide as end_side}
-use Rattle.cweb_lines.specs.Merge.{NewSide, new_at, new_things, passed, told}
-use Rattle.cweb_lines.specs.declared.fault.SourceKind.TheVariants.{WantsZ}
 
 -- what a comparison of codes says
 pub is_new : (code : Code) → sameb the_type code new_side ≡ true → code ≡ new_side

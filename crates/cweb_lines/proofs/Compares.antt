@@ -1,13 +1,5 @@
 -- What a comparison of an old line with a raw line comes to.
-use Rattle.std.proofs.Common.{◌≡◌, ◌+◌, ◌||◌, ℕ, Bool, true, false, List, [], ◌∷◌, refl, sym, ◌∙◌, ap, subst, arith, if◌then◌else◌}
-use Rattle.std.specs.Str.{bytes_eq}
-use Rattle.cweb_lines.specs.Lines.{Line}
-use Rattle.cweb_lines.specs.Merge.{Thing, compared}
-use Rattle.cweb_lines.specs.Merging.{SoFar}
-use Rattle.cweb_lines.specs.Replacing.{Compares}
-use Rattle.cweb_lines.specs.Texts.{Took, raw_at}
-use Rattle.cweb_lines.specs.declared.change.old_side.Replaced.{Replaced}
-use Rattle.cweb_lines.specs.declared.text.LineAt.{LineAt}
+use Rattle.cweb_lines.proofs.Common.{◌≡◌, ◌+◌, ◌||◌, ℕ, Bool, true, false, List, [], ◌∷◌, refl, sym, ◌∙◌, ap, subst, arith, if◌then◌else◌, bytes_eq, Line, Thing, compared, SoFar, Compares, Took, raw_at, Replaced, LineAt}
 use Rattle.cweb_lines.proofs.Adds.{adds_none, adds_one}
 
 pub or_true : (b : Bool) → (b || true) ≡ true

@@ -1,19 +1,6 @@
 -- Lines that are cut and trimmed stay so through each step of a merge, and none that is given out begins an include.
-use Rattle.std.proofs.Common.{◌≡◌, ◌≢◌, ◌+◌, ◌==◌, ◌&&◌, ℕ, Bool, true, false, cond, List, [], ◌∷◌, ◌++◌, map, None, Some, Option, refl, sym, ◌∙◌, ap, subst, arith}
-use Rattle.std.specs.List.{AllByRecursion}
-use Rattle.std.specs.Prelude.{nat_lt, if◌then◌else◌}
-use Rattle.std.specs.Str.{bytes_eq}
-use Rattle.std.proofs.lemmas.Bool.Decides.{nat_tests}
-use Rattle.cweb_files.specs.declared.place.Place.{Place}
-use Rattle.cweb_lines.specs.Lines.{HasNoNewline, Line, SourceLine, TextLine, before_blanks, is_blank, lines, lines_in, numbered, onto_first, text_lines, trimmed}
-use Rattle.cweb_lines.specs.Include.{Found, World, found_at, include_name, is_include}
-use Rattle.cweb_lines.specs.Change.{Entry, OldSide, Sought, at_place, behind_x, code_of, old_at, old_lines, outside, sought}
-use Rattle.cweb_lines.specs.Merge.{Compared, Event, NewSide, Next, RawLine, State, Thing, after_old, at_entry, at_raw, change_events, compared, fault, fault_if, included, new_at, new_lines, obeyed, opened, passed, plain, raw, raws, seek, told, took}
-use Rattle.cweb_lines.specs.Told.{given_lines}
-use Rattle.cweb_lines.specs.declared.change.code.Code.{Code}
+use Rattle.cweb_lines.proofs.Common.{◌≡◌, ◌≢◌, ◌+◌, ◌==◌, ◌&&◌, ℕ, Bool, true, false, cond, List, [], ◌∷◌, ◌++◌, map, None, Some, Option, refl, sym, ◌∙◌, ap, subst, arith, AllByRecursion, nat_lt, if◌then◌else◌, bytes_eq, nat_tests, Place, HasNoNewline, Line, SourceLine, TextLine, before_blanks, is_blank, lines, lines_in, numbered, onto_first, text_lines, trimmed, Found, World, found_at, include_name, is_include, Entry, OldSide, Sought, at_place, behind_x, code_of, old_at, old_lines, outside, sought, Compared, Event, NewSide, Next, RawLine, State, Thing, after_old, at_entry, at_raw, change_events, compared, fault, fault_if, included, new_at, new_lines, obeyed, opened, passed, plain, raw, raws, seek, told, took, given_lines, Code, SourceFault, EndedBeforeY, Unequal, WebEnded}
 use Rattle.cweb_lines.specs.declared.change.code.Code.TheVariants.{EndSide as end_side, NewSide as new_side, OldSide as old_side}
-use Rattle.cweb_lines.specs.declared.fault.SourceFault.{SourceFault}
-use Rattle.cweb_lines.specs.declared.fault.SourceKind.TheVariants.{EndedBeforeY, Unequal, WebEnded}
 use Rattle.cweb_lines.proofs.Sums.{given-append}
 use Rattle.cweb_lines.proofs.Trims.{trimmed-clean}
 

@@ -1,14 +1,5 @@
 -- What comes of lines that lie deeper, with other numbers of files.
-use Rattle.std.proofs.Common.{◌≡◌, ◌+◌, ◌<◌, ◌⊎◌, inl, inr, ℕ, Bool, true, false, List, [], ◌∷◌, ◌++◌, map, None, Some, Option, refl, ◌∙◌, ap, arith, length}
-use Rattle.std.proofs.lemmas.Bool.Decides.{nat_tests}
-use Rattle.std.specs.Prelude.{nat_lt}
-use Rattle.cweb_lines.specs.Lines.{SourceLine, TextLine, numbered, trimmed}
-use Rattle.cweb_lines.specs.Include.{Found, World, found_at, include_name, is_include}
-use Rattle.cweb_lines.specs.Change.{at_place}
-use Rattle.cweb_lines.specs.Merge.{Event, Next, RawLine, State, Thing, at_raw, fault, given, included, obeyed, opened, opening, passed, plain, raw, raws, seek, told, took}
-use Rattle.cweb_lines.specs.Seen.{fault_renumbered, line_renumbered}
-use Rattle.cweb_lines.specs.declared.fault.SourceKind.TheVariants.{NoName, NotThere, TooDeep}
-use Rattle.cweb_lines.specs.declared.limits.TheConstants.{OPEN_FILES}
+use Rattle.cweb_lines.proofs.Common.{◌≡◌, ◌+◌, ◌<◌, ◌⊎◌, inl, inr, ℕ, Bool, true, false, List, [], ◌∷◌, ◌++◌, map, None, Some, Option, refl, ◌∙◌, ap, arith, length, nat_tests, nat_lt, SourceLine, TextLine, numbered, trimmed, Found, World, found_at, include_name, is_include, at_place, Event, Next, RawLine, State, Thing, at_raw, fault, given, included, obeyed, opened, opening, passed, plain, raw, raws, seek, told, took, fault_renumbered, line_renumbered, NoName, NotThere, TooDeep, OPEN_FILES}
 use Rattle.cweb_lines.proofs.Alone.{Kind, becomes, faults, gives, opens}
 
 -- so much deeper, and with files numbered from this number on

@@ -1,9 +1,5 @@
 -- Answers that a call can't give at once.
-use Rattle.std.proofs.Common.{◌≡◌}
-use Rattle.std.specs.Prelude.{Bool, true, false, IsTrue, Option, Some, None, Result, Ok, Err}
-use Rattle.cweb_files.specs.declared.place.Place.{Place}
-use Rattle.cweb_lines.specs.declared.step.Turn.{Turn}
-use Rattle.cweb_lines.specs.declared.step.Turn.TheVariants.{Given, On, Ended}
+use Rattle.cweb_lines.proofs.Common.{◌≡◌, Bool, true, false, IsTrue, Option, Some, None, Result, Ok, Err, Place, Turn, Given, On, Ended}
 
 pub some_none : {A : Type 0} (answer : Option A) (a : A) → answer ≡ None → answer ≡ Some a → ⊥
 some_none answer a none some = cc

@@ -1,13 +1,5 @@
 -- A change file of no entries is no change file.
-use Rattle.std.proofs.Common.{◌≡◌, ℕ, true, List, [], ◌∷◌, ◌++◌, map, None, Some, refl, sym, ◌∙◌, ap, append-nil, subst, arith}
-use Rattle.std.specs.List.{AllByRecursion, list_any}
-use Rattle.cweb_lines.specs.Lines.{lines, lines_in, text_lines}
-use Rattle.cweb_lines.specs.Change.{Sought}
-use Rattle.cweb_lines.specs.Laws.{ChangeFilesWithoutEntriesChangeNothing, file_behind, is_code}
-use Rattle.cweb_lines.specs.Seen.{fault_renumbered, line_renumbered, renumbered, seen}
-use Rattle.cweb_lines.specs.Merge.{Event, Thing, fault, given, opening, raws, started, took}
-use Rattle.cweb_lines.specs.Total.{merge, merge-run, merge_next}
-use Rattle.cweb_lines.specs.Halting.{halts}
+use Rattle.cweb_lines.proofs.Common.{◌≡◌, ℕ, true, List, [], ◌∷◌, ◌++◌, map, None, Some, refl, sym, ◌∙◌, ap, append-nil, subst, arith, AllByRecursion, list_any, lines, lines_in, text_lines, Sought, ChangeFilesWithoutEntriesChangeNothing, file_behind, is_code, fault_renumbered, line_renumbered, renumbered, seen, Event, Thing, fault, given, opening, raws, started, took, merge, merge-run, merge_next, halts}
 use Rattle.cweb_lines.proofs.Alone.{IsNoSearch, raws_seek_not}
 use Rattle.cweb_lines.proofs.Renumbered.{event_behind, raws_behind, run_behind, thing_behind}
 use Rattle.cweb_lines.proofs.Entries.{finds_none}

@@ -1,17 +1,5 @@
 -- What becomes of the lines of an entry, and of lines that begin no change.
-use Rattle.std.proofs.Common.{◌≡◌, ◌≢◌, ◌&&◌, ℕ, Bool, true, false, List, [], ◌∷◌, ◌++◌, map, None, Some, Option, refl, sym, ◌∙◌, ap, append-nil}
-use Rattle.std.proofs.lemmas.Slice.Eq.{bytes_eq-Decides}
-use Rattle.std.specs.List.{list_any}
-use Rattle.std.specs.Str.{bytes_eq}
-use Rattle.cweb_files.specs.declared.place.Place.{Place}
-use Rattle.cweb_lines.specs.Lines.{Line, SourceLine}
-use Rattle.cweb_lines.specs.Include.{World, is_include}
-use Rattle.cweb_lines.specs.Change.{Entry, Sought, behind_x, code_of, old_at, old_line, old_lines, outside, passing, sought}
-use Rattle.cweb_lines.specs.Laws.{is_code}
-use Rattle.cweb_lines.specs.Seen.{followed_by, only_lines, seen}
-use Rattle.cweb_lines.specs.Merge.{Event, RawLine, Thing, at_entry, compared, given, new_at, new_lines, new_things, one_more, passed, plain, raw, raws, taking, took}
-use Rattle.cweb_lines.specs.Total.{merge, merge_end, merge_next}
-use Rattle.cweb_lines.specs.declared.change.code.Code.{Code}
+use Rattle.cweb_lines.proofs.Common.{◌≡◌, ◌≢◌, ◌&&◌, ℕ, Bool, true, false, List, [], ◌∷◌, ◌++◌, map, None, Some, Option, refl, sym, ◌∙◌, ap, append-nil, bytes_eq-Decides, list_any, bytes_eq, Place, Line, SourceLine, World, is_include, Entry, Sought, behind_x, code_of, old_at, old_line, old_lines, outside, passing, sought, is_code, followed_by, only_lines, seen, Event, RawLine, Thing, at_entry, compared, given, new_at, new_lines, new_things, one_more, passed, plain, raw, raws, taking, took, merge, merge_end, merge_next, Code}
 use Rattle.cweb_lines.specs.declared.change.code.Code.TheVariants.{EndSide as end_side, NewSide as new_side, OldSide as old_side}
 use Rattle.cweb_lines.proofs.Merges.{state}
 use Rattle.cweb_lines.proofs.Seens.{line_first, no_code, or-false}

@@ -1,10 +1,6 @@
 -- What the two searches for a name find.
-use Rattle.std.proofs.Common.{◌≡◌, ℕ, Bool, true, false, List, Option, Some, None, Result, Ok, Err, refl, sym, ◌∙◌, ap}
-use Rattle.std.specs.Prelude.{IfOk, OnOk, OnErr}
-use Rattle.std.specs.Str.{IsUtf8, is_utf8}
-use Rattle.std.proofs.lemmas.Str.{IsUtf8-from_is_utf8, is_utf8-from_IsUtf8}
-use Rattle.cweb_lines.specs.Include.{World, Found, under, first_found, in_folder, found_if, found_at}
-use Rattle.cweb_lines.specs.Include.{web_at}
+use Rattle.cweb_lines.proofs.Common.{◌≡◌, ℕ, Bool, true, false, List, Option, Some, None, Result, Ok, Err, refl, sym, ◌∙◌, ap, IfOk, OnOk, OnErr, IsUtf8, IsUtf8-from_is_utf8, is_utf8-from_IsUtf8, World, Found, under, first_found, in_folder, found_if, found_at, web_at}
+use Rattle.std.specs.Str.{is_utf8}
 
 pub found_nothing : (world : World) (name : List ℕ) → (IsUtf8 name → ⊥) → None ≡ found_at world name
 found_nothing world name not = by (is_utf8 name) refl

@@ -1,16 +1,5 @@
 -- What was told stays in front of what is told later.
-use Rattle.std.proofs.Common.{◌≡◌, ◌≤◌, ℕ, List, [], ◌++◌, None, length, sym, ◌∙◌, ap, arith, length-append}
-use Rattle.std.specs.Prelude.{Result, Ok, Err, OnOk, OnErr}
-use Rattle.std.proofs.lemmas.List.{append-nil, append_assoc}
-use Rattle.cweb_lines.specs.Lines.{Line}
-use Rattle.cweb_lines.specs.Merge.{Event}
-use Rattle.cweb_lines.specs.Merging.{SoFar, Gives, IsFront, KeepsTold, told_by}
-use Rattle.cweb_lines.specs.Names.{names_of}
-use Rattle.cweb_lines.specs.Passing.{PassesLines}
-use Rattle.cweb_lines.specs.Steps.{OnlyTakes}
-use Rattle.cweb_lines.specs.declared.fault.SourceFault.{SourceFault}
-use Rattle.cweb_lines.specs.declared.run.Run.{Run}
-use Rattle.cweb_lines.specs.Told.{told_faults, openings}
+use Rattle.cweb_lines.proofs.Common.{◌≡◌, ◌≤◌, ℕ, List, [], ◌++◌, None, length, sym, ◌∙◌, ap, arith, length-append, Result, Ok, Err, OnOk, OnErr, append-nil, append_assoc, Line, Event, SoFar, Gives, IsFront, KeepsTold, told_by, names_of, PassesLines, OnlyTakes, SourceFault, Run, told_faults, openings}
 
 front_then : {A : Type 0} (a b c : List A) → IsFront a b → IsFront b c → IsFront a c
 front_then {A = A} a b c first then = (

@@ -1,15 +1,6 @@
 -- How lines that were given out are gathered, passed on and lost.
-use Rattle.std.proofs.Common.{◌≡◌, ◌+◌, ℕ, List, [], ◌∷◌, ◌++◌, length, refl, sym, ◌∙◌, ap, subst, inl, inr, arith, length-append}
-use Rattle.std.specs.Prelude.{IsTrue}
-use Rattle.std.proofs.lemmas.List.{append-nil, append_assoc}
+use Rattle.cweb_lines.proofs.Common.{◌≡◌, ◌+◌, ℕ, List, [], ◌∷◌, ◌++◌, length, refl, sym, ◌∙◌, ap, subst, inl, inr, arith, length-append, IsTrue, append-nil, append_assoc, KeepsPlace, Writes, Line, Event, SoFar, Gives, Held, given_lines, text_of, WritesFront, Gathered, FailsAmong, LosesLine, PassesOn}
 use Rattle.cweb_files.specs.declared.device.Sink.{Ghosts as Sink}
-use Rattle.cweb_files.specs.Frames.{KeepsPlace, Writes}
-use Rattle.cweb_lines.specs.Lines.{Line}
-use Rattle.cweb_lines.specs.Merge.{Event}
-use Rattle.cweb_lines.specs.Merging.{SoFar, Gives}
-use Rattle.cweb_lines.specs.Passing.{Held}
-use Rattle.cweb_lines.specs.Told.{given_lines}
-use Rattle.cweb_lines.specs.Writing.{text_of, WritesFront, Gathered, FailsAmong, LosesLine, PassesOn}
 use Rattle.cweb_lines.proofs.Keeps.{place_told, writes_then}
 use Rattle.cweb_lines.proofs.Sums.{gives_both}
 use Rattle.cweb_lines.proofs.Writes.{front_of_all, given_front, text_of-append}

@@ -1,18 +1,5 @@
 -- Lines that pass through, as a merge takes them and gives them out.
-use Rattle.std.proofs.Common.{◌≡◌, ◌+◌, ℕ, Bool, List, [], ◌∷◌, ◌++◌, length, map, Option, Some, None, refl, sym, ◌∙◌, ap, arith}
-use Rattle.std.proofs.lemmas.List.{length-append}
-use Rattle.cweb_files.specs.declared.place.Place.{Place}
-use Rattle.cweb_lines.specs.Change.{Entry}
-use Rattle.cweb_lines.specs.Include.{World}
-use Rattle.cweb_lines.specs.Lines.{Line, SourceLine, numbered, trimmed}
-use Rattle.cweb_lines.specs.Merge.{Event, Thing, took, given, raws}
-use Rattle.cweb_lines.specs.Passing.{ArePassing, StandsAt, ended, lines_next, printed, sources_next, standing, text_at}
-use Rattle.cweb_lines.specs.Texts.{matches_at, number_of, text_depth}
-use Rattle.cweb_lines.specs.Told.{AreShort, given_lines, openings, size_of, taken_lines, told_faults}
-use Rattle.cweb_lines.specs.Total.{merge}
-use Rattle.cweb_lines.specs.Writing.{text_of}
-use Rattle.cweb_lines.specs.declared.passing.stretch.Stretch.{Stretch}
-use Rattle.cweb_lines.specs.declared.text.OpenText.{OpenText}
+use Rattle.cweb_lines.proofs.Common.{◌≡◌, ◌+◌, ℕ, Bool, List, [], ◌∷◌, ◌++◌, length, map, Option, Some, None, refl, sym, ◌∙◌, ap, arith, length-append, Place, Entry, World, Line, SourceLine, numbered, trimmed, Event, Thing, took, given, raws, ArePassing, StandsAt, ended, lines_next, printed, sources_next, standing, text_at, matches_at, number_of, text_depth, AreShort, given_lines, openings, size_of, taken_lines, told_faults, merge, text_of, Stretch, OpenText}
 use Rattle.cweb_lines.proofs.Merges.{merge_given, state}
 
 -- each is taken and given out

@@ -1,19 +1,5 @@
 -- An include line is replaced by the merged lines of its text.
-use Rattle.std.proofs.Common.{◌≡◌, ◌≢◌, ◌<◌, ◌+◌, ℕ, Bool, true, false, List, [], ◌∷◌, ◌++◌, None, Some, refl, sym, ◌∙◌, ap, append-nil, subst, arith, length}
-use Rattle.std.proofs.lemmas.Bool.Decides.{nat_tests}
-use Rattle.std.specs.List.{AllByRecursion}
-use Rattle.std.specs.Prelude.{nat_lt}
-use Rattle.cweb_lines.specs.Lines.{SourceLine, lines_in}
-use Rattle.cweb_lines.specs.Include.{World, include_name, is_include}
-use Rattle.cweb_lines.specs.Change.{at_place}
-use Rattle.cweb_lines.specs.Laws.{IncludeLinesAreReplaced, Includes, LinesComeApart}
-use Rattle.cweb_lines.specs.Seen.{Seen, followed_by, seen, seen_in}
-use Rattle.cweb_lines.specs.Merge.{Event, Next, RawLine, State, Thing, fault, given, included, obeyed, opened, opening, plain, raw, raws, taking, took}
-use Rattle.cweb_lines.specs.Told.{openings}
-use Rattle.cweb_lines.specs.Total.{merge, merge-run, merge_end, merge_next}
-use Rattle.cweb_lines.specs.Halting.{halts}
-use Rattle.cweb_lines.specs.declared.fault.SourceKind.TheVariants.{NoName, NotThere, TooDeep}
-use Rattle.cweb_lines.specs.declared.limits.TheConstants.{OPEN_FILES}
+use Rattle.cweb_lines.proofs.Common.{◌≡◌, ◌≢◌, ◌<◌, ◌+◌, ℕ, Bool, true, false, List, [], ◌∷◌, ◌++◌, None, Some, refl, sym, ◌∙◌, ap, append-nil, subst, arith, length, nat_tests, AllByRecursion, nat_lt, SourceLine, lines_in, World, include_name, is_include, at_place, IncludeLinesAreReplaced, Includes, LinesComeApart, Seen, followed_by, seen, seen_in, Event, Next, RawLine, State, Thing, fault, given, included, obeyed, opened, opening, plain, raw, raws, taking, took, openings, merge, merge-run, merge_end, merge_next, halts, NoName, NotThere, TooDeep, OPEN_FILES}
 use Rattle.cweb_lines.proofs.Alone.{IsNoSearch, front, raws_seek_not}
 use Rattle.cweb_lines.proofs.Merges.{state}
 use Rattle.cweb_lines.proofs.Seens.{name_first, seen-append}

@@ -1,16 +1,5 @@
 -- The merged lines of an included text are those that it has as a web of its own.
-use Rattle.std.proofs.Common.{◌≡◌, ◌+◌, ◌⊎◌, inl, inr, ℕ, zero, suc, true, false, List, [], ◌∷◌, ◌++◌, map, None, Some, Option, refl, sym, ◌∙◌, ap, append-nil, subst, arith}
-use Rattle.std.specs.List.{AllByRecursion, list_any}
-use Rattle.cweb_lines.specs.Lines.{SourceLine, lines_in, text_lines}
-use Rattle.cweb_lines.specs.Include.{World}
-use Rattle.cweb_lines.specs.Change.{at_place}
-use Rattle.cweb_lines.specs.Laws.{IncludedTextsMergeAsWebs, is_too_deep}
-use Rattle.cweb_lines.specs.Merge.{Event, Next, RawLine, Thing, fault, given, onto, opening, passed, raw, raws, run, seek, started, told, took}
-use Rattle.cweb_lines.specs.Seen.{fault_renumbered, line_renumbered, renumbered, seen}
-use Rattle.cweb_lines.specs.Told.{told_faults}
-use Rattle.cweb_lines.specs.Total.{merge-run}
-use Rattle.cweb_lines.specs.Halting.{halts}
-use Rattle.cweb_lines.specs.declared.fault.SourceKind.TheVariants.{TooDeep}
+use Rattle.cweb_lines.proofs.Common.{◌≡◌, ◌+◌, ◌⊎◌, inl, inr, ℕ, zero, suc, true, false, List, [], ◌∷◌, ◌++◌, map, None, Some, Option, refl, sym, ◌∙◌, ap, append-nil, subst, arith, AllByRecursion, list_any, SourceLine, lines_in, text_lines, World, at_place, IncludedTextsMergeAsWebs, is_too_deep, Event, Next, RawLine, Thing, fault, given, onto, opening, passed, raw, raws, run, seek, started, told, took, fault_renumbered, line_renumbered, renumbered, seen, told_faults, merge-run, halts, TooDeep}
 use Rattle.cweb_lines.proofs.Alone.{IsNoSearch, Kind, becomes, faults, gives, onto_some, opens, raws_seek_not}
 use Rattle.cweb_lines.proofs.Merges.{state}
 use Rattle.cweb_lines.proofs.Seens.{fault_first, line_first, name_first, or-false}

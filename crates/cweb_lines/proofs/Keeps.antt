@@ -1,10 +1,7 @@
 -- What two calls leave alone, one after the other.
-use Rattle.std.proofs.Common.{◌++◌, List, [], ℕ, refl, sym, ◌∙◌, ap, subst}
-use Rattle.std.specs.Prelude.{IsTrue}
-use Rattle.std.proofs.lemmas.List.{append-nil, append_assoc}
+use Rattle.cweb_lines.proofs.Common.{◌++◌, List, [], ℕ, refl, sym, ◌∙◌, ap, subst, IsTrue, append-nil, append_assoc, KeepsTexts, KeepsPlace, Writes}
 use Rattle.cweb_files.specs.declared.device.Shelf.{Ghosts as Shelf}
 use Rattle.cweb_files.specs.declared.device.Sink.{Ghosts as Sink}
-use Rattle.cweb_files.specs.Frames.{KeepsTexts, KeepsPlace, Writes}
 
 module _ {S R : Type 0} (shelf : Shelf S R) where
   pub keeps_same : (s : S) → KeepsTexts shelf s s

@@ -1,16 +1,8 @@
 -- The laws' premises can be met, and what they say is computed from the definition of the merge.
-use Rattle.std.proofs.Common.{◌≡◌, ◌+◌, true, false, List, [], ◌∷◌, ◌++◌, Option, Some, None, refl, cond}
-use Rattle.std.specs.Prelude.{codes, option_map}
-use Rattle.std.specs.Str.{bytes_eq, is_utf8, chars}
+use Rattle.cweb_lines.proofs.Common.{◌≡◌, ◌+◌, true, false, List, [], ◌∷◌, ◌++◌, Option, Some, None, refl, cond, codes, option_map, bytes_eq, AllByRecursion, list_any, lines, lines_in, World, is_include, Includes, IsPlainSplice, Splice, file_behind, is_code, spliced, web_lines, Seen, only_lines, placed, renumbered, seen, Event, raws, run, started, text_of, NoMatch, NoName}
+use Rattle.std.specs.Str.{is_utf8, chars}
 use lib.Utf8.{encode}
-use Rattle.std.specs.List.{AllByRecursion, list_any}
-use Rattle.cweb_lines.specs.Lines.{lines, lines_in}
-use Rattle.cweb_lines.specs.Include.{World, is_include}
-use Rattle.cweb_lines.specs.Laws.{Includes, IsPlainSplice, Splice, change_lines, file_behind, is_code, spliced, web_lines}
-use Rattle.cweb_lines.specs.Seen.{Seen, only_lines, placed, renumbered, seen}
-use Rattle.cweb_lines.specs.Merge.{Event, raws, run, started}
-use Rattle.cweb_lines.specs.Writing.{text_of}
-use Rattle.cweb_lines.specs.declared.fault.SourceKind.TheVariants.{NoMatch, NoName}
+use Rattle.cweb_lines.specs.Laws.{change_lines}
 
 abbrev seen_by : Option (List Event) → Option Seen
 seen_by None = None

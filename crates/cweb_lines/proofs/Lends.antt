@@ -1,18 +1,5 @@
 -- A line that is lent from where it lies.
-use Rattle.std.proofs.Common.{◌≡◌, ◌≤◌, ◌<◌, ◌+◌, ◌-◌, ℕ, List, [], ◌∷◌, length, Option, None, Some, refl, sym, ◌∙◌, ap, subst, arith}
-use Rattle.std.proofs.lemmas.List.{append_cancel_right, length-append}
-use Rattle.std.specs.Prelude.{slice_range, unwrap_or}
-use Rattle.cweb_lines.specs.Change.{Entry}
-use Rattle.cweb_lines.specs.Lending.{LendsLine, LendsLines, bytes_in, lent_at}
-use Rattle.cweb_lines.specs.Lines.{Line, IsOneLine, trimmed}
-use Rattle.cweb_lines.specs.Merging.{Gives, coming, pending_of, told_by}
-use Rattle.cweb_lines.specs.Names.{names_of}
-use Rattle.cweb_lines.specs.Passing.{ComesNext, GivesLines, Passes, StandsAt, lines_next, piece_of, standing, top_of}
-use Rattle.cweb_lines.specs.Texts.{files_up_to, number_of}
-use Rattle.cweb_lines.specs.declared.passing.lent.Lent.{Lent}
-use Rattle.cweb_lines.specs.declared.passing.stretch.Stretch.{Stretch}
-use Rattle.cweb_lines.specs.declared.run.Run.{Run}
-use Rattle.cweb_lines.specs.declared.text.OpenText.{OpenText}
+use Rattle.cweb_lines.proofs.Common.{◌≡◌, ◌≤◌, ◌<◌, ◌+◌, ◌-◌, ℕ, List, [], ◌∷◌, length, Option, None, Some, refl, sym, ◌∙◌, ap, subst, arith, append_cancel_right, length-append, slice_range, unwrap_or, Entry, LendsLine, LendsLines, bytes_in, lent_at, Line, IsOneLine, trimmed, Gives, coming, pending_of, told_by, names_of, ComesNext, GivesLines, Passes, StandsAt, lines_next, piece_of, standing, top_of, files_up_to, number_of, Lent, Stretch, Run, OpenText}
 use Rattle.cweb_lines.proofs.Fronts.{told_given, told_same, told_then}
 use Rattle.cweb_lines.proofs.Merges.{gives_nothing}
 use Rattle.cweb_lines.proofs.Stacks.{most_at}

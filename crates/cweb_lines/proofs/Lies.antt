@@ -1,7 +1,5 @@
 -- Lines that lie in a file, from a number on.
-use Rattle.std.proofs.Common.{◌≡◌, ◌+◌, ℕ, suc, List, [], ◌∷◌, ◌++◌, map, refl, ◌∙◌, ap, subst, arith, length}
-use Rattle.cweb_lines.specs.Lines.{Line, SourceLine, TextLine, numbered, trimmed}
-use Rattle.cweb_lines.specs.Seen.{placed, placed_line}
+use Rattle.cweb_lines.proofs.Common.{◌≡◌, ◌+◌, ℕ, suc, List, [], ◌∷◌, ◌++◌, map, refl, ◌∙◌, ap, subst, arith, length, Line, SourceLine, TextLine, numbered, trimmed, placed, placed_line}
 use Rattle.cweb_lines.proofs.Entries.{bytes_in, lines_of}
 
 -- these lines lie in a file from this number on

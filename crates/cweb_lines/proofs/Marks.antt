@@ -1,12 +1,5 @@
 -- Newlines among 32 bytes, a bit for each.
-use Rattle.std.proofs.Common.{◌≡◌, ◌<◌, ◌≤◌, ℕ, List, Bool, true, false, cond, eqb, get_or, length, replicate, Some, refl, sym, ap, ◌∙◌, arith, ⊎_elim}
-use Rattle.std.proofs.lemmas.Bool.{cases_lt}
-use Rattle.std.proofs.lemmas.List.{get_or_past, get_or-replicate}
-use Rattle.std.proofs.lemmas.Nat.Bits.{bit_at-zero}
-use Rattle.std.proofs.lemmas.Simd.{bit_mask_l, get_or-zip2, length-zip2}
-use Rattle.std.specs.Int.{bit_at}
-use Rattle.std.specs.Simd.Lanes.{mask_l, zip2}
-use Rattle.cweb_lines.specs.Lines.{HasNoNewline, SplitsAt}
+use Rattle.cweb_lines.proofs.Common.{◌≡◌, ◌<◌, ◌≤◌, ℕ, List, Bool, true, false, cond, eqb, get_or, length, replicate, Some, refl, sym, ap, ◌∙◌, arith, ⊎_elim, cases_lt, get_or_past, get_or-replicate, bit_at-zero, bit_mask_l, get_or-zip2, length-zip2, bit_at, mask_l, zip2, HasNoNewline, SplitsAt}
 use Rattle.cweb_lines.proofs.Newlines.{newline_at-memchr, no_newline}
 
 one_true : (b : Bool) → cond {A = ℕ} b 1 0 ≡ 1 → b ≡ true

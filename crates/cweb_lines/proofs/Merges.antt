@@ -1,24 +1,5 @@
 -- What comes of a line that was taken, and how what came adds up.
-use Rattle.std.proofs.Common.{Option, if◌then◌else◌, ◌&&◌, ◌≡◌, ◌≤◌, ◌<◌, ◌+◌, ◌==◌, ℕ, Bool, true, false, List, [], ◌∷◌, ◌++◌, Some, None, refl, sym, ◌∙◌, ap, subst, arith, length}
-use Rattle.std.proofs.lemmas.List.{append-nil}
-use Rattle.std.specs.Prelude.{nat_lt}
-use Rattle.std.proofs.lemmas.Bool.Decides.{nat_tests}
-use Rattle.cweb_files.specs.declared.place.Place.{Place}
-use Rattle.std.specs.Str.{bytes_eq}
-use Rattle.cweb_lines.specs.Change.{Entry, at_place}
-use Rattle.cweb_lines.specs.Include.{World, is_include, include_name, found_at}
-use Rattle.cweb_lines.specs.Lines.{Line, SourceLine, lines_in}
-use Rattle.cweb_lines.specs.Merge.{State, RawLine, Thing, raw, Event, took, given, fault, opening, Next, at_entry, at_raw, included, opened, obeyed, plain, taking, raws}
-use Rattle.cweb_lines.specs.Stages.{begun_by}
-use Rattle.cweb_lines.specs.declared.limits.TheConstants.{OPEN_FILES}
-use Rattle.cweb_lines.specs.declared.text.LineAt.{LineAt}
-use Rattle.cweb_lines.specs.Merging.{SoFar, Gives, Stopped}
-use Rattle.cweb_lines.specs.Texts.{Count, Refuses, TopStops, StopsFor}
-use Rattle.cweb_lines.specs.Told.{taken_lines, size_of}
-use Rattle.cweb_lines.specs.Total.{merge, merge_next}
-use Rattle.cweb_lines.specs.declared.fault.SourceFault.{SourceFault}
-use Rattle.cweb_lines.specs.declared.fault.SourceKind.TheVariants.{NoName, TooDeep, NotThere}
-use Rattle.cweb_lines.specs.declared.stop.Stop.{Stop}
+use Rattle.cweb_lines.proofs.Common.{Option, if◌then◌else◌, ◌&&◌, ◌≡◌, ◌≤◌, ◌<◌, ◌+◌, ◌==◌, ℕ, Bool, true, false, List, [], ◌∷◌, ◌++◌, Some, None, refl, sym, ◌∙◌, ap, subst, arith, length, append-nil, nat_lt, nat_tests, Place, bytes_eq, Entry, at_place, World, is_include, include_name, found_at, Line, SourceLine, lines_in, State, RawLine, Thing, raw, Event, took, given, fault, opening, Next, at_entry, at_raw, included, opened, obeyed, plain, taking, raws, begun_by, OPEN_FILES, LineAt, SoFar, Gives, Stopped, Count, Refuses, TopStops, StopsFor, taken_lines, size_of, merge, merge_next, SourceFault, NoName, TooDeep, NotThere, Stop}
 use Rattle.cweb_lines.proofs.Stacks.{stops_map}
 
 abbrev pub state : List Thing → Option Entry → List SourceLine → ℕ → State

@@ -1,20 +1,7 @@
 -- Readers that stay those of their files, and what is blamed.
-use Rattle.std.proofs.Common.{◌≡◌, ◌≤◌, ◌<◌, ℕ, zero, suc, List, [], ◌∷◌, ◌++◌, Option, Some, None, refl, sym, ◌∙◌, ap, subst, arith, length, get_or, set, replicate}
-use Rattle.std.specs.Prelude.{Result, Ok, Err, IfErr}
-use Rattle.std.proofs.lemmas.List.{append-nil, get_or_default, get_or_append_left}
-use Rattle.cweb_files.specs.declared.place.FileId.{FileId}
-use Rattle.cweb_lines.specs.Names.{names_of}
-use Rattle.cweb_lines.specs.Naming.{AreNamed, AreReadersKnown, BlamesFile, IsNamed, blame, name_of_file}
-use Rattle.cweb_lines.specs.Source.{BlamesReader}
-use Rattle.cweb_lines.specs.Steps.{OnlyTells}
-use Rattle.cweb_lines.specs.Texts.{files_up_to, most, number_of, read_blame, stop_for}
-use Rattle.cweb_lines.specs.Writing.{WritesRest, leaves, writes, fails}
-use Rattle.cweb_lines.specs.declared.run.Run.{Run}
-use Rattle.cweb_lines.specs.declared.text.source.LineFault.{LineFault}
-use Rattle.cweb_lines.specs.declared.text.source.LineFault.TheVariants.{Read, TooLong, Memory as NoMemory}
-use Rattle.cweb_lines.specs.declared.stop.Stop.{Stop}
-use Rattle.cweb_lines.specs.declared.stop.Stop.TheVariants.{ReadFault, Memory}
-use Rattle.cweb_lines.specs.declared.text.OpenText.{OpenText}
+use Rattle.cweb_lines.proofs.Common.{◌≡◌, ◌≤◌, ◌<◌, ℕ, zero, suc, List, [], ◌∷◌, ◌++◌, Option, Some, None, refl, sym, ◌∙◌, ap, subst, arith, length, get_or, set, replicate, Result, Ok, Err, IfErr, append-nil, get_or_default, get_or_append_left, FileId, names_of, AreNamed, AreReadersKnown, BlamesFile, IsNamed, blame, name_of_file, BlamesReader, OnlyTells, files_up_to, number_of, read_blame, stop_for, WritesRest, leaves, writes, fails, Run, LineFault, Read, TooLong, Stop, ReadFault, Memory, OpenText}
+use Rattle.cweb_lines.specs.Texts.{most}
+use Rattle.cweb_lines.specs.declared.text.source.LineFault.TheVariants.{Memory as NoMemory}
 use Rattle.cweb_lines.proofs.Stacks.{most_at}
 
 module _ {R : Type 0} (opened_as : R → List ℕ) (names : List (List ℕ)) where

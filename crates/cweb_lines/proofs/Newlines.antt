@@ -1,12 +1,5 @@
 -- The first newline of a text.
-use Rattle.std.proofs.Common.{◌≡◌, ◌≢◌, ◌≤◌, ◌<◌, ◌+◌, ◌-◌, ℕ, suc, true, false, List, [], ◌∷◌, ◌++◌, Option, Some, None, sym, ◌∙◌, ap, take, drop, get_or, length, zero, subst, arith, take-append-drop, append_assoc, length-append}
-use Rattle.std.proofs.Math.Seq.{drop-append-add, take-append_seam}
-use Rattle.std.proofs.lemmas.List.{drop_more, get_or-take, get_or-drop, length-take, length-drop, drop-take, drop-drop}
-use Rattle.std.proofs.lemmas.Bool.Decides.{nat_tests}
-use Rattle.memchr.specs.Find.{IsFirstByte, is_byte}
-use Rattle.cweb_lines.specs.Lines.{HasNewline, HasNoNewline, SplitsAt, IsNewlineAt, TextLine, byte_before, text_lines, onto_first}
-use Rattle.cweb_lines.specs.Source.{IsLongerThan, Takes, TakesOf}
-use Rattle.cweb_lines.specs.declared.text.source.Taken.TheVariants.{Full}
+use Rattle.cweb_lines.proofs.Common.{◌≡◌, ◌≢◌, ◌≤◌, ◌<◌, ◌+◌, ◌-◌, ℕ, suc, true, false, List, [], ◌∷◌, ◌++◌, Option, Some, None, sym, ◌∙◌, ap, take, drop, get_or, length, zero, subst, arith, take-append-drop, append_assoc, length-append, drop-append-add, take-append_seam, drop_more, get_or-take, get_or-drop, length-take, length-drop, drop-take, drop-drop, nat_tests, IsFirstByte, is_byte, HasNewline, HasNoNewline, SplitsAt, IsNewlineAt, TextLine, byte_before, text_lines, onto_first, IsLongerThan, Takes, TakesOf, Full}
 
 pub no_newline : (xs : List ℕ) → ((k : ℕ) → k < length xs → get_or xs k 0 ≢ 10) → HasNoNewline xs
 no_newline [] none = tt

@@ -1,28 +1,6 @@
 -- The new side of a change, line by line.
-use Rattle.std.proofs.Common.{◌≡◌, ◌-◌, ℕ, false, List, [], ◌∷◌, ◌++◌, Some, None, Option, refl, sym, ◌∙◌, ap, arith, length}
-use denote.Enum.Bare.{sameb}
-use Rattle.cweb_files.specs.declared.place.Place.{Place}
-use Rattle.cweb_lines.specs.Change.{at_place, code_of}
-use Rattle.cweb_lines.specs.Finding.{text_of_name, world_in}
-use Rattle.cweb_lines.specs.Include.{World}
-use Rattle.cweb_lines.specs.Lines.{Line, SourceLine}
-use Rattle.cweb_lines.specs.Merge.{Event, NewSide, Thing, fault, new_at, new_lines, passed, raw, seek, told, took}
-use Rattle.cweb_lines.specs.Merging.{Gives, SoFar, Stopped, change_lines, coming, coming_after, things_of, told_by}
-use Rattle.cweb_lines.specs.Counts.{count_of}
-use Rattle.cweb_lines.specs.Names.{names_of}
-use Rattle.cweb_lines.specs.Stages.{change_in, pending_in, things_below, things_in}
-use Rattle.cweb_lines.specs.Texts.{Count, FirstStops, StopsFor, Took, raw_at, things_above, things_over}
-use Rattle.cweb_lines.specs.Total.{merge, merge_next}
-use Rattle.cweb_lines.specs.contracts.change.code.Code.{the_type}
-use Rattle.cweb_lines.specs.declared.change.code.Code.{Code}
+use Rattle.cweb_lines.proofs.Common.{◌≡◌, ◌-◌, ℕ, false, List, [], ◌∷◌, ◌++◌, Some, None, Option, refl, sym, ◌∙◌, ap, arith, length, sameb, Place, at_place, code_of, text_of_name, world_in, World, Line, SourceLine, Event, NewSide, Thing, fault, new_at, new_lines, passed, raw, seek, told, took, Gives, SoFar, Stopped, change_lines, coming, coming_after, things_of, told_by, count_of, names_of, change_in, pending_in, things_below, things_in, Count, FirstStops, StopsFor, Took, raw_at, things_above, things_over, merge, merge_next, the_type, Code, EndedBeforeZ, WantsZ, Run, Change, Changing, Stack, Stop, LineAt}
 use Rattle.cweb_lines.specs.declared.change.code.Code.TheVariants.{OldSide as old_side, NewSide as new_side, EndSide as end_side}
-use Rattle.cweb_lines.specs.declared.fault.SourceKind.TheVariants.{EndedBeforeZ, WantsZ}
-use Rattle.cweb_lines.specs.declared.run.Run.{Run}
-use Rattle.cweb_lines.specs.declared.change.Change.{Change}
-use Rattle.cweb_lines.specs.declared.change.Stage.TheVariants.{Changing}
-use Rattle.cweb_lines.specs.declared.text.stack.Stack.{Stack}
-use Rattle.cweb_lines.specs.declared.stop.Stop.{Stop}
-use Rattle.cweb_lines.specs.declared.text.LineAt.{LineAt}
 use Rattle.cweb_lines.proofs.Adds.{adds_faults, adds_one, gives_adds}
 use Rattle.cweb_lines.proofs.Merges.{gives_fault, merge_takes, state, stopped_first}
 use Rattle.cweb_lines.proofs.Stacks.{over-none}

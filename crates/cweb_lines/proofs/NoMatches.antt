@@ -1,17 +1,6 @@
 -- An entry that matches no line is told once, and changes nothing.
-use Rattle.std.proofs.Common.{◌≡◌, ◌≢◌, ◌+◌, true, false, List, [], ◌∷◌, ◌++◌, map, None, Some, refl, sym, ◌∙◌, ap, append-nil, length}
-use Rattle.std.specs.List.{list_any}
-use Rattle.std.specs.Str.{bytes_eq}
-use Rattle.cweb_lines.specs.Lines.{Line, SourceLine, lines, lines_in, text_lines}
-use Rattle.cweb_lines.specs.Include.{World, is_include}
-use Rattle.cweb_lines.specs.Change.{Sought, at_place, code_of}
-use Rattle.cweb_lines.specs.Laws.{EntriesWithoutMatchAreTold, is_code}
-use Rattle.cweb_lines.specs.Seen.{followed_by, only_fault, only_lines, placed, seen}
-use Rattle.cweb_lines.specs.Merge.{Event, Thing, fault, raws, seek, took}
-use Rattle.cweb_lines.specs.Total.{merge, merge_end, merge_next}
+use Rattle.cweb_lines.proofs.Common.{◌≡◌, ◌≢◌, ◌+◌, true, false, List, [], ◌∷◌, ◌++◌, map, None, Some, refl, sym, ◌∙◌, ap, append-nil, length, list_any, bytes_eq, Line, SourceLine, lines, lines_in, text_lines, World, is_include, Sought, at_place, code_of, EntriesWithoutMatchAreTold, is_code, followed_by, only_fault, only_lines, placed, seen, Event, Thing, fault, raws, seek, took, merge, merge_end, merge_next, SourceFault, NoMatch}
 use Rattle.cweb_lines.specs.declared.change.code.Code.TheVariants.{OldSide as old_side}
-use Rattle.cweb_lines.specs.declared.fault.SourceFault.{SourceFault}
-use Rattle.cweb_lines.specs.declared.fault.SourceKind.TheVariants.{NoMatch}
 use Rattle.cweb_lines.proofs.Entries.{bytes_in, entry_of, finds, lines_of, passes_by}
 use Rattle.cweb_lines.proofs.Lies.{bytes_of, first_of, lie_in, parts}
 use Rattle.cweb_lines.proofs.Merges.{state}

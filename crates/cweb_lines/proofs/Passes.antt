@@ -1,23 +1,5 @@
 -- Lines that pass through, for the stack and the run that they are taken from.
-use Rattle.std.proofs.Common.{◌≡◌, ◌<◌, ◌+◌, ◌-◌, ℕ, suc, List, [], ◌∷◌, ◌++◌, length, Option, None, get_or, set, refl, sym, ◌∙◌, ap, subst, arith}
-use Rattle.std.proofs.lemmas.List.{append-nil, append_assoc, get_or_default}
-use Rattle.cweb_lines.specs.Counts.{count_of}
-use Rattle.cweb_lines.specs.Finding.{text_of_name, world_in}
-use Rattle.cweb_lines.specs.Lines.{SourceLine}
-use Rattle.cweb_lines.specs.Merge.{Thing, raws}
-use Rattle.cweb_lines.specs.Merging.{Gives, told_by, coming, change_lines, pending_of}
-use Rattle.cweb_lines.specs.Names.{names_of}
-use Rattle.cweb_lines.specs.Passing.{ComesNext, GivesLines, PassesLines, PassesTop, lines_next, sources_next, text_at, top_of}
-use Rattle.cweb_lines.specs.Stages.{change_in, floor_of, things_in}
-use Rattle.cweb_lines.specs.Texts.{StaysBelow, lines_at, matches_at, number_of, text_depth, things_at, things_over}
-use Rattle.cweb_lines.specs.Told.{AreShort, size_of}
-use Rattle.cweb_lines.specs.Writing.{text_of}
-use Rattle.cweb_lines.specs.declared.fault.SourceFault.{SourceFault}
-use Rattle.cweb_lines.specs.declared.limits.Limits.{Limits}
-use Rattle.cweb_lines.specs.declared.passing.stretch.Stretch.{Stretch}
-use Rattle.cweb_lines.specs.declared.run.Run.{Run}
-use Rattle.cweb_lines.specs.declared.text.stack.Stack.{Stack}
-use Rattle.cweb_lines.specs.declared.text.OpenText.{OpenText}
+use Rattle.cweb_lines.proofs.Common.{◌≡◌, ◌<◌, ◌+◌, ◌-◌, ℕ, suc, List, [], ◌∷◌, ◌++◌, length, Option, None, get_or, set, refl, sym, ◌∙◌, ap, subst, arith, append-nil, append_assoc, get_or_default, count_of, text_of_name, world_in, SourceLine, Thing, raws, Gives, told_by, coming, change_lines, pending_of, names_of, ComesNext, GivesLines, PassesLines, PassesTop, lines_next, sources_next, text_at, top_of, change_in, floor_of, things_in, StaysBelow, lines_at, matches_at, number_of, text_depth, things_at, things_over, AreShort, size_of, text_of, SourceFault, Limits, Stretch, Run, Stack, OpenText}
 use Rattle.cweb_lines.proofs.GivenLines.{events_of, events-given, events-untold, events-unopened, events-taken, merge_next_lines, next-length, next-size, next-short, next-text}
 use Rattle.cweb_lines.proofs.IncludeLaws.{raws-append}
 use Rattle.cweb_lines.proofs.Merges.{gives_nothing}

@@ -1,17 +1,5 @@
 -- What is printed of a merge is printed again: its lines are cut and trimmed already, and none begins an include.
-use Rattle.std.proofs.Common.{◌≡◌, ◌+◌, ℕ, zero, suc, true, false, ◌||◌, List, [], ◌∷◌, ◌++◌, map, None, Some, Option, refl, sym, ◌∙◌, ap, subst}
-use Rattle.std.specs.List.{AllByRecursion, list_any}
-use Rattle.cweb_lines.specs.Lines.{Line, SourceLine, lines, lines_in, trimmed}
-use Rattle.cweb_lines.specs.Include.{World, is_include}
-use Rattle.cweb_lines.specs.Change.{Entry, at_place, sought}
-use Rattle.cweb_lines.specs.Laws.{PrintedMergesComeAgain}
-use Rattle.cweb_lines.specs.Seen.{Seen, placed}
-use Rattle.cweb_lines.specs.Merge.{Event, Next, State, Thing, at_raw, fault, onto, passed, raw, run, seek, started, told, took}
-use Rattle.cweb_lines.specs.Told.{given_lines}
-use Rattle.cweb_lines.specs.Total.{merge, merge-run}
-use Rattle.cweb_lines.specs.Halting.{halts}
-use Rattle.cweb_lines.specs.Writing.{text_of}
-use Rattle.cweb_lines.specs.declared.fault.SourceKind.TheVariants.{NoMatch}
+use Rattle.cweb_lines.proofs.Common.{◌≡◌, ◌+◌, ℕ, zero, suc, true, false, ◌||◌, List, [], ◌∷◌, ◌++◌, map, None, Some, Option, refl, sym, ◌∙◌, ap, subst, AllByRecursion, list_any, Line, SourceLine, lines, lines_in, trimmed, World, is_include, Entry, at_place, sought, PrintedMergesComeAgain, Seen, placed, Event, Next, State, Thing, at_raw, fault, onto, passed, raw, run, seek, started, told, took, given_lines, merge, merge-run, halts, text_of, NoMatch}
 use Rattle.cweb_lines.proofs.Alone.{onto_some}
 use Rattle.cweb_lines.proofs.Merges.{state}
 use Rattle.cweb_lines.proofs.Sums.{given-append}

@@ -1,12 +1,5 @@
 -- A run in which each file but the web has the next number.
-use Rattle.std.proofs.Common.{◌≡◌, ◌+◌, ◌<◌, ℕ, zero, suc, Bool, List, [], ◌∷◌, ◌++◌, map, None, Some, refl, sym, ◌∙◌, ap, arith, length}
-use Rattle.std.specs.Prelude.{option_map}
-use Rattle.std.specs.List.{AllByRecursion}
-use Rattle.cweb_lines.specs.Lines.{TextLine, lines_in, numbered, text_lines, trimmed}
-use Rattle.cweb_lines.specs.Include.{World}
-use Rattle.cweb_lines.specs.Laws.{file_behind}
-use Rattle.cweb_lines.specs.Seen.{fault_renumbered, line_renumbered}
-use Rattle.cweb_lines.specs.Merge.{Event, Next, RawLine, Thing, fault, given, onto, opening, passed, raw, raws, run, seek, told, took}
+use Rattle.cweb_lines.proofs.Common.{◌≡◌, ◌+◌, ◌<◌, ℕ, zero, suc, Bool, List, [], ◌∷◌, ◌++◌, map, None, Some, refl, sym, ◌∙◌, ap, arith, length, option_map, AllByRecursion, TextLine, lines_in, numbered, text_lines, trimmed, World, file_behind, fault_renumbered, line_renumbered, Event, Next, RawLine, Thing, fault, given, onto, opening, passed, raw, raws, run, seek, told, took}
 use Rattle.cweb_lines.proofs.Merges.{state}
 use Rattle.cweb_lines.proofs.Alone.{IsNoSearch, Kind, becomes, faults, gives, kind_behind, onto_some, opens, raw_behind, raw_goes, raws_seek_not, source_behind}
 

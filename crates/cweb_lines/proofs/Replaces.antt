@@ -1,20 +1,6 @@
 -- The old side of a change, line by line.
+use Rattle.cweb_lines.proofs.Common.{◌≡◌, ◌+◌, ◌||◌, ℕ, Bool, false, List, [], ◌∷◌, ◌++◌, Some, None, Option, refl, sym, ◌∙◌, ap, subst, arith, length, length-append, append-nil, append_assoc, Place, OldSide, at_place, code_of, old_at, old_code, old_line, old_lines, Line, SourceLine, Compared, Thing, compared, SoFar, Adds, StopsAmong, Compares, IsReplaced, Replaces, lines_replaced, taken_away, Count, FirstStops, Refuses, Took, TopStops, size_of, Code, SourceFault, WantsY, Replaced, Stop}
 use Rattle.cweb_lines.specs.declared.change.code.Code.TheVariants.{NewSide as new_side}
-use Rattle.std.proofs.Common.{◌≡◌, ◌+◌, ◌||◌, ℕ, Bool, false, List, [], ◌∷◌, ◌++◌, Some, None, Option, refl, sym, ◌∙◌, ap, subst, arith, length, length-append}
-use Rattle.std.proofs.lemmas.List.{append-nil, append_assoc}
-use Rattle.cweb_files.specs.declared.place.Place.{Place}
-use Rattle.cweb_lines.specs.Change.{OldSide, at_place, code_of, old_at, old_code, old_line, old_lines}
-use Rattle.cweb_lines.specs.Lines.{Line, SourceLine}
-use Rattle.cweb_lines.specs.Merge.{Compared, Thing, compared}
-use Rattle.cweb_lines.specs.Merging.{SoFar, Adds, StopsAmong}
-use Rattle.cweb_lines.specs.Replacing.{Compares, IsReplaced, Replaces, lines_replaced, taken_away}
-use Rattle.cweb_lines.specs.Texts.{Count, FirstStops, Refuses, Took, TopStops}
-use Rattle.cweb_lines.specs.Told.{size_of}
-use Rattle.cweb_lines.specs.declared.change.code.Code.{Code}
-use Rattle.cweb_lines.specs.declared.fault.SourceFault.{SourceFault}
-use Rattle.cweb_lines.specs.declared.fault.SourceKind.TheVariants.{WantsY}
-use Rattle.cweb_lines.specs.declared.change.old_side.Replaced.{Replaced}
-use Rattle.cweb_lines.specs.declared.stop.Stop.{Stop}
 use Rattle.cweb_lines.proofs.Adds.{adds_none, adds_within, adds_lines, adds_faults}
 use Rattle.cweb_lines.proofs.Sums.{size-append}
 use Rattle.cweb_lines.proofs.Compares.{or_false}

@@ -1,15 +1,5 @@
 -- The faults that an old side told, where something stopped it.
-use Rattle.std.proofs.Common.{◌≡◌, List, ◌++◌, sym, ◌∙◌, ap}
-use Rattle.std.proofs.lemmas.List.{append_assoc}
-use Rattle.cweb_files.specs.declared.place.Place.{Place}
-use Rattle.cweb_lines.specs.Change.{old_lines}
-use Rattle.cweb_lines.specs.Lines.{SourceLine}
-use Rattle.cweb_lines.specs.Merge.{Thing}
-use Rattle.cweb_lines.specs.Merging.{SoFar, TellsSome}
-use Rattle.cweb_lines.specs.Replacing.{IsReplaced, closing_faults, faults_replaced, taken_away}
-use Rattle.cweb_lines.specs.Seeking.{ToldFront}
-use Rattle.cweb_lines.specs.declared.fault.SourceFault.{SourceFault}
-use Rattle.cweb_lines.specs.declared.change.old_side.Replaced.{Replaced}
+use Rattle.cweb_lines.proofs.Common.{◌≡◌, List, ◌++◌, sym, ◌∙◌, ap, append_assoc, Place, old_lines, SourceLine, Thing, SoFar, TellsSome, IsReplaced, closing_faults, faults_replaced, taken_away, ToldFront, SourceFault, Replaced}
 
 -- some of the faults of the old lines were told, and none behind them
 pub tells_front : (faults more : List SourceFault) (old new : SoFar) → TellsSome faults old new →

@@ -1,17 +1,7 @@
 -- Worked examples, computed from the definition of the merge.
-use Rattle.std.proofs.Common.{◌≡◌, ◌+◌, ℕ, zero, suc, List, [], ◌∷◌, ◌++◌, Option, Some, None, refl, cond}
-use Rattle.std.specs.Prelude.{codes}
-use Rattle.std.specs.Str.{bytes_eq, is_utf8, chars}
+use Rattle.cweb_lines.proofs.Common.{◌≡◌, ◌+◌, ℕ, zero, suc, List, [], ◌∷◌, ◌++◌, Option, Some, None, refl, cond, codes, bytes_eq, Place, SourceFault, SourceKind, TooDeep, NotThere, MissingX, NoOldLines, EndedBeforeY, WebEnded, WantsY, Unequal, WantsZ, EndedBeforeZ, NoMatch, Line, lines, World, Event, run, started, given_lines, told_faults, openings, OPEN_FILES, LINE_LENGTH, LINES, BYTES}
+use Rattle.std.specs.Str.{is_utf8, chars}
 use lib.Utf8.{encode}
-use Rattle.cweb_files.specs.declared.place.Place.{Place}
-use Rattle.cweb_lines.specs.declared.fault.SourceFault.{SourceFault}
-use Rattle.cweb_lines.specs.declared.fault.SourceKind.{SourceKind}
-use Rattle.cweb_lines.specs.declared.fault.SourceKind.TheVariants.{TooDeep, NotThere, MissingX, NoOldLines, EndedBeforeY, WebEnded, WantsY, Unequal, WantsZ, EndedBeforeZ, NoMatch}
-use Rattle.cweb_lines.specs.Lines.{Line, lines}
-use Rattle.cweb_lines.specs.Include.{World}
-use Rattle.cweb_lines.specs.Merge.{Event, run, started}
-use Rattle.cweb_lines.specs.Told.{given_lines, told_faults, openings}
-use Rattle.cweb_lines.specs.declared.limits.TheConstants.{OPEN_FILES, LINE_LENGTH, LINES, BYTES}
 
 -- what comes out, without the lines taken
 record Outcome : Type 0 where

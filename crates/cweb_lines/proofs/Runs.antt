@@ -1,29 +1,6 @@
 -- What is to come of a merger's run, for its stack, its stage, its files and its faults.
-use Rattle.std.proofs.Common.{append-nil, Some, Bool, true, false, if◌then◌else◌, ◌≡◌, ◌≤◌, ◌<◌, ◌+◌, ◌-◌, ℕ, zero, suc, get_or, List, [], ◌∷◌, ◌++◌, Option, None, refl, sym, ◌∙◌, ap, subst, arith, length, length-append}
-use Rattle.std.proofs.Math.Nat.{le-max_left, le-max_right, max-le}
-use Rattle.cweb_files.specs.declared.place.Place.{Place}
-use Rattle.cweb_lines.specs.Change.{Entry, at_place}
+use Rattle.cweb_lines.proofs.Common.{append-nil, Some, Bool, true, false, if◌then◌else◌, ◌≡◌, ◌≤◌, ◌<◌, ◌+◌, ◌-◌, ℕ, zero, suc, get_or, List, [], ◌∷◌, ◌++◌, Option, None, refl, sym, ◌∙◌, ap, subst, arith, length, length-append, le-max_left, le-max_right, max-le, Place, Entry, at_place, Found, World, lines_found, names_found, text_found, text_of_name, SourceLine, lines_in, Event, Thing, fault, raws, seek, new_lines, started, Gives, NothingLeft, coming, told_by, things_of, names_of, IsSettled, begun_stage, change_in, files_begun, stage_for, floor_of, pending_in, things_below, things_in, Count, Opens, StaysBelow, StopsAbove, TakesAbove, TakesFirst, TopStops, lines_at, lines_left, things_above, things_over, merge, merge_end, merge_next, SourceFault, NoMatch, Run, Stack, Change, Stage, Done, Seeking, Waiting, Changing, Stop, LineAt, OpenText, count_of}
 use Rattle.cweb_lines.specs.Faults.{files_in}
-use Rattle.cweb_lines.specs.Include.{Found, World}
-use Rattle.cweb_lines.specs.Finding.{lines_found, names_found, text_found, text_of_name}
-use Rattle.cweb_lines.specs.Lines.{SourceLine, lines_in}
-use Rattle.cweb_lines.specs.Merge.{Event, Thing, fault, raws, seek, new_lines, started}
-use Rattle.cweb_lines.specs.Merging.{Gives, NothingLeft, coming, told_by, things_of}
-use Rattle.cweb_lines.specs.Names.{names_of}
-use Rattle.cweb_lines.specs.Stages.{IsSettled, begun_stage, change_in, files_begun, stage_for, floor_of, pending_in, things_below, things_in}
-use Rattle.cweb_lines.specs.Texts.{Count, Opens, StaysBelow, StopsAbove, TakesAbove, TakesFirst, TopStops, lines_at, lines_left, things_above, things_over}
-use Rattle.cweb_lines.specs.Total.{merge, merge_end, merge_next}
-use Rattle.cweb_lines.specs.declared.fault.SourceFault.{SourceFault}
-use Rattle.cweb_lines.specs.declared.fault.SourceKind.TheVariants.{NoMatch}
-use Rattle.cweb_lines.specs.declared.run.Run.{Run}
-use Rattle.cweb_lines.specs.declared.text.stack.Stack.{Stack}
-use Rattle.cweb_lines.specs.declared.change.Change.{Change}
-use Rattle.cweb_lines.specs.declared.change.Stage.{Stage}
-use Rattle.cweb_lines.specs.declared.change.Stage.TheVariants.{Done, Seeking, Waiting, Changing}
-use Rattle.cweb_lines.specs.declared.stop.Stop.{Stop}
-use Rattle.cweb_lines.specs.declared.text.LineAt.{LineAt}
-use Rattle.cweb_lines.specs.declared.text.OpenText.{OpenText}
-use Rattle.cweb_lines.specs.Counts.{count_of}
 use Rattle.cweb_lines.proofs.Merges.{state, gives_fault}
 use Rattle.cweb_lines.proofs.Stacks.{over-none}
 

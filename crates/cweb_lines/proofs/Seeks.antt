@@ -1,20 +1,7 @@
 -- A search for an entry, line by line.
-use Rattle.std.proofs.Common.{◌≡◌, ℕ, List, [], ◌∷◌, ◌++◌, Option, Some, None, refl, sym, ◌∙◌, ap, subst, arith, length, length-append}
-use Rattle.std.proofs.lemmas.List.{append-nil, append_assoc}
-use Rattle.cweb_files.specs.declared.place.Place.{Place}
-use Rattle.cweb_lines.specs.Change.{Sought, behind_x, code_of, sought}
-use Rattle.cweb_lines.specs.Lines.{Line, SourceLine}
-use Rattle.cweb_lines.specs.Merging.{SoFar, Adds, StopsAmong, TellsSome}
-use Rattle.cweb_lines.specs.Seeking.{LooksAt, Searched, SeeksTo, ToldFront, behind}
-use Rattle.cweb_lines.specs.Stages.{IsOutside, change_in, pending_in}
-use Rattle.cweb_lines.specs.Texts.{Count, FirstStops, Refuses, Took}
-use Rattle.cweb_lines.specs.Told.{size_of}
-use Rattle.cweb_lines.specs.declared.change.code.Code.{Code}
-use Rattle.cweb_lines.specs.declared.fault.SourceFault.{SourceFault}
+use Rattle.cweb_lines.proofs.Common.{◌≡◌, ℕ, List, [], ◌∷◌, ◌++◌, Option, Some, None, refl, sym, ◌∙◌, ap, subst, arith, length, length-append, append-nil, append_assoc, Place, Sought, behind_x, code_of, sought, Line, SourceLine, SoFar, Adds, StopsAmong, TellsSome, Searched, SeeksTo, ToldFront, behind, IsOutside, change_in, pending_in, Count, FirstStops, Refuses, Took, size_of, Code, SourceFault, Stage, Done, Waiting, Stop}
+use Rattle.cweb_lines.specs.Seeking.{LooksAt}
 use Rattle.cweb_lines.specs.declared.change.seek.Look.TheVariants.{Entry as first_line, On as goes_on}
-use Rattle.cweb_lines.specs.declared.change.Stage.{Stage}
-use Rattle.cweb_lines.specs.declared.change.Stage.TheVariants.{Done, Waiting}
-use Rattle.cweb_lines.specs.declared.stop.Stop.{Stop}
 use Rattle.cweb_lines.proofs.Adds.{adds_none, adds_line, adds_faults}
 use Rattle.cweb_lines.proofs.Sums.{size-append}
 

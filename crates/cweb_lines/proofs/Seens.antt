@@ -1,11 +1,5 @@
 -- What is seen of events, one after another.
-use Rattle.std.proofs.Common.{◌≡◌, Bool, true, false, ◌||◌, ℕ, List, [], ◌∷◌, ◌++◌, map, None, Some, Option, refl, ap}
-use Rattle.std.specs.Option.{is_some}
-use Rattle.cweb_lines.specs.Lines.{Line, SourceLine}
-use Rattle.cweb_lines.specs.Seen.{Seen, followed_by, seen}
-use Rattle.cweb_lines.specs.Merge.{Event, fault, given, opening, took}
-use Rattle.cweb_lines.specs.declared.change.code.Code.{Code}
-use Rattle.cweb_lines.specs.declared.fault.SourceFault.{SourceFault}
+use Rattle.cweb_lines.proofs.Common.{◌≡◌, Bool, true, false, ◌||◌, ℕ, List, [], ◌∷◌, ◌++◌, map, None, Some, Option, refl, ap, is_some, Line, SourceLine, Seen, followed_by, seen, Event, fault, given, opening, took, Code, SourceFault}
 
 pub or-false : (a b : Bool) → (a || b) ≡ false → (a ≡ false) × (b ≡ false)
 or-false true b is = absurd (cc)

@@ -1,14 +1,6 @@
 -- Changes that match, in order, splice.
-use Rattle.std.proofs.Common.{◌≡◌, ◌+◌, ℕ, true, false, List, [], ◌∷◌, ◌++◌, map, None, Some, sym, ◌∙◌, ap, subst, arith, length}
-use Rattle.std.specs.List.{AllByRecursion, list_any}
-use Rattle.std.specs.Str.{bytes_eq}
-use Rattle.cweb_lines.specs.Lines.{SourceLine, lines_in, text_lines}
-use Rattle.cweb_lines.specs.Include.{World, is_include}
-use Rattle.cweb_lines.specs.Change.{Sought, code_of}
-use Rattle.cweb_lines.specs.Laws.{ChangesSplice, IsPlainSplice, Splice, change_lines, is_code, spliced, web_lines}
-use Rattle.cweb_lines.specs.Seen.{followed_by, only_lines, placed, seen}
-use Rattle.cweb_lines.specs.Merge.{fault, raws, seek, took}
-use Rattle.cweb_lines.specs.Total.{merge, merge_next}
+use Rattle.cweb_lines.proofs.Common.{◌≡◌, ◌+◌, ℕ, true, false, List, [], ◌∷◌, ◌++◌, map, None, Some, sym, ◌∙◌, ap, subst, arith, length, AllByRecursion, list_any, bytes_eq, SourceLine, lines_in, text_lines, World, is_include, Sought, code_of, ChangesSplice, IsPlainSplice, Splice, is_code, spliced, web_lines, followed_by, only_lines, placed, seen, fault, raws, seek, took, merge, merge_next}
+use Rattle.cweb_lines.specs.Laws.{change_lines}
 use Rattle.cweb_lines.proofs.Merges.{state}
 use Rattle.cweb_lines.proofs.Entries.{bytes_in, finds_none, gives_alone}
 use Rattle.cweb_lines.proofs.Lies.{Lie, bytes_of, first_of, lie_in, parts}

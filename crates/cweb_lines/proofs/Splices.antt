@@ -1,16 +1,5 @@
 -- What one change makes of the lines that it stands between.
-use Rattle.std.proofs.Common.{◌≡◌, ◌≢◌, ◌&&◌, ℕ, true, false, List, [], ◌∷◌, ◌++◌, map, None, Some, refl, sym, ◌∙◌, ap}
-use Rattle.std.proofs.lemmas.List.{append_assoc}
-use Rattle.std.proofs.lemmas.Slice.Eq.{bytes_eq-Decides}
-use Rattle.std.specs.List.{list_any}
-use Rattle.std.specs.Str.{bytes_eq}
-use Rattle.cweb_lines.specs.Lines.{SourceLine}
-use Rattle.cweb_lines.specs.Include.{World, is_include}
-use Rattle.cweb_lines.specs.Change.{Entry, OldSide, Sought, code_of}
-use Rattle.cweb_lines.specs.Laws.{is_code}
-use Rattle.cweb_lines.specs.Seen.{followed_by, only_lines, seen}
-use Rattle.cweb_lines.specs.Merge.{Compared, Event, NewSide, Next, RawLine, Thing, after_old, at_entry, change_events, compared, fault, passed, raw, raws, seek, taking, took}
-use Rattle.cweb_lines.specs.Total.{merge, merge_next}
+use Rattle.cweb_lines.proofs.Common.{◌≡◌, ◌≢◌, ◌&&◌, ℕ, true, false, List, [], ◌∷◌, ◌++◌, map, None, Some, refl, sym, ◌∙◌, ap, append_assoc, bytes_eq-Decides, list_any, bytes_eq, SourceLine, World, is_include, Entry, OldSide, Sought, code_of, is_code, followed_by, only_lines, seen, Compared, Event, NewSide, Next, RawLine, Thing, after_old, at_entry, change_events, compared, fault, passed, raw, raws, seek, taking, took, merge, merge_next}
 use Rattle.cweb_lines.specs.declared.change.code.Code.TheVariants.{EndSide as end_side, NewSide as new_side, OldSide as old_side}
 use Rattle.cweb_lines.proofs.IncludeLaws.{raws-append}
 use Rattle.cweb_lines.proofs.Merges.{state}

@@ -1,15 +1,6 @@
 -- Open texts in an array.
-use Rattle.std.proofs.Common.{◌≡◌, ◌≢◌, ◌≤◌, ◌<◌, ◌+◌, ◌-◌, ℕ, zero, suc, List, [], ◌∷◌, ◌++◌, Option, Some, None, refl, sym, ◌∙◌, ap, subst, arith, length, get_or, set, get_or-set_same, get_or-set_other}
-use Rattle.std.proofs.Math.Nat.{le-max_left, le-max_right, max-le}
-use Rattle.std.proofs.lemmas.List.{get_or_default}
-use Rattle.cweb_lines.specs.Lines.{SourceLine}
-use Rattle.cweb_lines.specs.Merge.{Thing, raw, raws}
-use Rattle.cweb_lines.specs.Texts.{Count, things_at, things_over, matches_at, text_depth, lines_at, number_of, most, DeepAt, gap_at, gaps_from, StaysBelow, Pushes, TakesLine, TakesFirst, raw_at, StopsFor, FirstStops, TopStops}
-use Rattle.cweb_lines.specs.declared.text.stack.Stack.{Stack}
-use Rattle.cweb_lines.specs.declared.stop.Stop.{Stop}
-use Rattle.cweb_lines.specs.declared.stop.Stop.TheVariants.{ReadFault, LineTooLong, TooMuchText, Memory}
-use Rattle.cweb_lines.specs.declared.text.LineAt.{LineAt}
-use Rattle.cweb_lines.specs.declared.text.OpenText.{OpenText}
+use Rattle.cweb_lines.proofs.Common.{◌≡◌, ◌≢◌, ◌≤◌, ◌<◌, ◌+◌, ◌-◌, ℕ, zero, suc, List, [], ◌∷◌, ◌++◌, Option, Some, None, refl, sym, ◌∙◌, ap, subst, arith, length, get_or, set, get_or-set_same, get_or-set_other, le-max_left, le-max_right, max-le, get_or_default, SourceLine, Thing, raw, raws, Count, things_at, things_over, matches_at, text_depth, lines_at, number_of, DeepAt, gap_at, StaysBelow, Pushes, TakesLine, TakesFirst, raw_at, StopsFor, FirstStops, TopStops, Stack, Stop, ReadFault, LineTooLong, TooMuchText, Memory, LineAt, OpenText}
+use Rattle.cweb_lines.specs.Texts.{most, gaps_from}
 
 pub most_at : {R : Type 0} (number : OpenText R → ℕ) (texts : List (Option (OpenText R))) (at : ℕ) →
     number_of number (get_or texts at None) ≤ most number texts

@@ -1,17 +1,5 @@
 -- Lines that stand one behind another in a piece, and what they are in their text.
-use Rattle.std.proofs.Common.{◌≡◌, ◌≤◌, ◌<◌, ◌+◌, ◌-◌, ℕ, Bool, List, [], ◌∷◌, ◌++◌, length, map, take, drop, Option, Some, None, refl, sym, ◌∙◌, ap, arith}
-use Rattle.std.proofs.Math.Seq.{take-add}
-use Rattle.std.proofs.lemmas.List.{append_assoc, append_cancel_right, drop-drop, length-append, length-map, length-take, map-append, take-take, take_all}
-use Rattle.std.specs.Prelude.{slice_range, IfSome}
-use Rattle.cweb_lines.specs.Change.{Entry}
-use Rattle.cweb_lines.specs.Lines.{SourceLine, SplitsAt, TextLine, numbered, text_lines, trimmed}
-use Rattle.cweb_lines.specs.Passing.{ArePassing, HasRoomFor, IsStretch, Passes, Reaches, StandsIn, ended, printed, sources_next, standing}
-use Rattle.cweb_lines.specs.Source.{pending}
-use Rattle.cweb_lines.specs.Texts.{lines_at}
-use Rattle.cweb_lines.specs.declared.limits.Limits.{Limits}
-use Rattle.cweb_lines.specs.declared.limits.TheConstants.{LINES, BYTES}
-use Rattle.cweb_lines.specs.declared.passing.stretch.Stretch.{Stretch}
-use Rattle.cweb_lines.specs.declared.text.OpenText.{OpenText}
+use Rattle.cweb_lines.proofs.Common.{◌≡◌, ◌≤◌, ◌<◌, ◌+◌, ◌-◌, ℕ, Bool, List, [], ◌∷◌, ◌++◌, length, map, take, drop, Option, Some, None, refl, sym, ◌∙◌, ap, arith, take-add, append_assoc, append_cancel_right, drop-drop, length-append, length-map, length-take, map-append, take-take, take_all, slice_range, IfSome, Entry, SourceLine, SplitsAt, TextLine, numbered, text_lines, trimmed, ArePassing, HasRoomFor, IsStretch, Passes, Reaches, StandsIn, ended, printed, sources_next, standing, pending, lines_at, Limits, LINES, BYTES, Stretch, OpenText}
 use Rattle.cweb_lines.proofs.Newlines.{behind, text_lines-full}
 
 pub standing-append : (a b : List (List ℕ)) → standing (a ++ b) ≡ standing a ++ standing b

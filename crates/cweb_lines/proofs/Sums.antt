@@ -1,14 +1,5 @@
 -- How what came adds up.
-use Rattle.std.proofs.Common.{◌≡◌, ◌+◌, ℕ, List, [], ◌∷◌, ◌++◌, refl, sym, ◌∙◌, ap, subst, arith, length, length-append}
-use Rattle.std.proofs.lemmas.List.{append_assoc}
-use Rattle.cweb_files.specs.declared.place.Place.{Place}
-use Rattle.cweb_lines.specs.Lines.{Line, SourceLine}
-use Rattle.cweb_lines.specs.Merge.{Event, took, given, fault, opening}
-use Rattle.cweb_lines.specs.Merging.{SoFar, Gives, GivesBehind, Stopped, StopsBehind}
-use Rattle.cweb_lines.specs.Texts.{Count, Took}
-use Rattle.cweb_lines.specs.Told.{given_lines, told_faults, openings, taken_lines, size_of, AreShort}
-use Rattle.cweb_lines.specs.declared.fault.SourceFault.{SourceFault}
-use Rattle.cweb_lines.specs.declared.stop.Stop.{Stop}
+use Rattle.cweb_lines.proofs.Common.{◌≡◌, ◌+◌, ℕ, List, [], ◌∷◌, ◌++◌, refl, sym, ◌∙◌, ap, subst, arith, length, length-append, append_assoc, Place, Line, SourceLine, Event, took, given, fault, opening, SoFar, Gives, GivesBehind, Stopped, StopsBehind, Count, Took, given_lines, told_faults, openings, taken_lines, size_of, AreShort, SourceFault, Stop}
 use Rattle.cweb_lines.proofs.Stacks.{stops_map}
 
 -- a line was taken before

@@ -1,18 +1,7 @@
 -- Lines without the blanks at their ends, and what taking a line leaves.
-use Rattle.std.proofs.Common.{Bool, ◌≡◌, ◌≢◌, ◌+◌, ◌≤◌, ℕ, true, false, cond, List, [], ◌∷◌, ◌++◌, refl, sym, ◌∙◌, ap, subst, arith, ◌<◌, length, get_or, take, ◌⊎◌, Some}
-use Rattle.std.proofs.lemmas.List.{take_more}
-use Rattle.cweb_files.specs.declared.place.FileId.{FileId}
-use Rattle.cweb_lines.specs.Lines.{SourceLine, HasNoNewline, IsOneLine, trimmed, before_blanks, is_blank, text_lines, numbered}
-use Rattle.cweb_lines.specs.Source.{Takes, IsLongerThan}
-use Rattle.cweb_lines.specs.Taking.{TakesWhole}
-use Rattle.cweb_lines.specs.Texts.{Count, TakesLine, FirstStops, StopsFor, StopsReading, NamesFile, newline_bytes, stop_for}
-use Rattle.cweb_lines.specs.declared.limits.TheConstants.{LINE_LENGTH, LINES, BYTES}
-use Rattle.cweb_lines.specs.declared.text.source.LineFault.{LineFault}
-use Rattle.cweb_lines.specs.declared.text.source.LineFault.TheVariants.{Read, TooLong, Memory as NoMemory}
-use Rattle.cweb_lines.specs.declared.text.source.Taken.{Taken}
-use Rattle.cweb_lines.specs.declared.text.source.Taken.TheVariants.{Ended, Last, Full}
-use Rattle.cweb_lines.specs.declared.stop.Stop.{Stop}
-use Rattle.cweb_lines.specs.declared.stop.Stop.TheVariants.{LineTooLong, TooMuchText}
+use Rattle.cweb_lines.proofs.Common.{Bool, ◌≡◌, ◌≢◌, ◌+◌, ◌≤◌, ℕ, true, false, cond, List, [], ◌∷◌, ◌++◌, refl, sym, ◌∙◌, ap, subst, arith, ◌<◌, length, get_or, take, ◌⊎◌, Some, take_more, FileId, SourceLine, HasNoNewline, IsOneLine, trimmed, before_blanks, is_blank, text_lines, numbered, Takes, IsLongerThan, TakesWhole, Count, TakesLine, FirstStops, StopsFor, StopsReading, NamesFile, newline_bytes, stop_for, LINE_LENGTH, LINES, BYTES, LineFault, Read, TooLong, Taken, Last, Full, Stop, LineTooLong, TooMuchText}
+use Rattle.cweb_lines.specs.declared.text.source.LineFault.TheVariants.{Memory as NoMemory}
+use Rattle.cweb_lines.specs.declared.text.source.Taken.TheVariants.{Ended}
 use Rattle.cweb_lines.proofs.Newlines.{text_lines-full, text_lines-last, longer_first}
 
 pub trimmed-blank : (xs : List ℕ) (b : ℕ) → is_blank b ≡ true → trimmed (xs ++ b ∷ []) ≡ trimmed xs

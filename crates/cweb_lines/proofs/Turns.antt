@@ -1,30 +1,5 @@
 -- What a turn gives: a search, a line that was taken, a change that begins.
-use Rattle.std.proofs.Common.{◌≡◌, ◌&&◌, ℕ, Bool, true, false, List, [], ◌∷◌, ◌++◌, Some, None, Option, refl, sym, ◌∙◌, ap, length, map, if◌then◌else◌, subst}
-use Rattle.std.proofs.lemmas.List.{append_assoc}
-use Rattle.std.specs.Prelude.{nat_lt, Ok}
-use Rattle.std.specs.Str.{bytes_eq}
-use Rattle.cweb_files.specs.declared.place.Place.{Place}
-use Rattle.cweb_lines.specs.Change.{Entry, at_place, old_lines, sought}
-use Rattle.cweb_lines.specs.Finding.{text_of_name, world_in}
-use Rattle.cweb_lines.specs.Include.{World}
-use Rattle.cweb_lines.specs.Lines.{Line, SourceLine}
-use Rattle.cweb_lines.specs.Merge.{Event, RawLine, Thing, after_old, at_entry, change_events, fault, fault_if, raw, seek, taking, took}
-use Rattle.cweb_lines.specs.Merging.{SoFar, change_lines, coming, coming_after, pending_of, things_of, told_by}
-use Rattle.cweb_lines.specs.Names.{names_of}
-use Rattle.cweb_lines.specs.Replacing.{IsChanged, faults_replaced, lines_replaced, list_if, taken_away}
-use Rattle.cweb_lines.specs.Seeking.{Searched}
-use Rattle.cweb_lines.specs.Stages.{IsOutside, begun_by, change_in, pending_in, things_in, IsSettled, floor_of}
-use Rattle.cweb_lines.specs.Texts.{lines_at, raw_at, things_above, Counted, StaysBelow, TakesAbove}
-use Rattle.cweb_lines.specs.Total.{merge, merge_next}
-use Rattle.cweb_lines.specs.declared.fault.SourceFault.{SourceFault}
-use Rattle.cweb_lines.specs.declared.fault.SourceKind.TheVariants.{EndedBeforeY, WebEnded, Unequal}
-use Rattle.cweb_lines.specs.declared.run.Run.{Run}
-use Rattle.cweb_lines.specs.declared.text.stack.Stack.{Stack}
-use Rattle.cweb_lines.specs.declared.change.Stage.{Stage}
-use Rattle.cweb_lines.specs.declared.change.Stage.TheVariants.{Done, Seeking, Waiting, Changing}
-use Rattle.cweb_lines.specs.declared.text.LineAt.{LineAt}
-use Rattle.cweb_lines.specs.Counts.{count_of}
-use Rattle.cweb_lines.specs.Steps.{OnlyTakes}
+use Rattle.cweb_lines.proofs.Common.{◌≡◌, ◌&&◌, ℕ, Bool, true, false, List, [], ◌∷◌, ◌++◌, Some, None, Option, refl, sym, ◌∙◌, ap, length, map, if◌then◌else◌, subst, append_assoc, nat_lt, Ok, bytes_eq, Place, Entry, at_place, old_lines, sought, text_of_name, world_in, World, Line, SourceLine, Event, RawLine, Thing, after_old, at_entry, change_events, fault, fault_if, raw, seek, taking, took, SoFar, change_lines, coming, coming_after, pending_of, things_of, told_by, names_of, IsChanged, faults_replaced, lines_replaced, list_if, taken_away, Searched, IsOutside, begun_by, change_in, pending_in, things_in, IsSettled, floor_of, lines_at, raw_at, things_above, Counted, StaysBelow, TakesAbove, merge, merge_next, SourceFault, EndedBeforeY, WebEnded, Unequal, Run, Stack, Stage, Done, Seeking, Waiting, Changing, LineAt, count_of, OnlyTakes}
 use Rattle.cweb_lines.proofs.Adds.{map-append}
 use Rattle.cweb_lines.proofs.Merges.{state}
 use Rattle.cweb_lines.proofs.Runs.{coming_of, takes_in}

@@ -1,10 +1,5 @@
 -- The law of webs without include lines and without a change file.
-use Rattle.std.proofs.Common.{true, [], ◌∙◌, ap}
-use Rattle.std.specs.List.{list_any}
-use Rattle.cweb_lines.specs.Lines.{lines, lines_in, text_lines}
-use Rattle.cweb_lines.specs.Include.{is_include}
-use Rattle.cweb_lines.specs.Laws.{WebsWithoutIncludesAreTheirOwnLines}
-use Rattle.cweb_lines.specs.Seen.{only_lines}
+use Rattle.cweb_lines.proofs.Common.{true, [], ◌∙◌, ap, list_any, lines, lines_in, text_lines, is_include, WebsWithoutIncludesAreTheirOwnLines, only_lines}
 use Rattle.cweb_lines.proofs.Entries.{gives_alone}
 use Rattle.cweb_lines.proofs.Lies.{bytes_of, lie_in}
 

@@ -1,11 +1,5 @@
 -- What the end of a run blames where a read or a write failed.
-use Rattle.std.proofs.Common.{◌≡◌, ◌≤◌, ◌+◌, ℕ, List, [], length, Option, None, Some, refl, sym, ◌∙◌, ap, subst, inl, inr, arith}
-use Rattle.std.specs.Prelude.{IfSome}
-use Rattle.cweb_lines.specs.Merge.{Event}
-use Rattle.cweb_lines.specs.Texts.{Count, StopsReading, read_blame, files_named}
-use Rattle.cweb_lines.specs.Writing.{StopsWriting, WritingStops, WritesRest, leaves, writes, fails, Failed, IsOwnStop, Blames, write_blame}
-use Rattle.cweb_lines.specs.declared.stop.Stop.{Stop}
-use Rattle.cweb_lines.specs.declared.stop.Stop.TheVariants.{ReadFault, LineTooLong, TooMuchText, Memory, WriteFault}
+use Rattle.cweb_lines.proofs.Common.{◌≡◌, ◌≤◌, ◌+◌, ℕ, List, [], length, Option, None, Some, refl, sym, ◌∙◌, ap, subst, inl, inr, arith, IfSome, Event, Count, StopsReading, read_blame, files_named, StopsWriting, WritingStops, WritesRest, leaves, writes, fails, Failed, IsOwnStop, Blames, write_blame, Stop, ReadFault, LineTooLong, TooMuchText, Memory, WriteFault}
 
 pub no_write_blame : (stop : Stop) → StopsReading stop → write_blame stop ≡ 0
 no_write_blame WriteFault reading = absurd reading

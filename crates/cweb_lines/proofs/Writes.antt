@@ -1,18 +1,6 @@
 -- How lines that were given out, gathered and written add up.
-use Rattle.std.proofs.Common.{◌≡◌, ◌<◌, ℕ, List, [], ◌∷◌, ◌++◌, length, refl, sym, ◌∙◌, ap, subst, arith}
-use Rattle.std.specs.Prelude.{IsTrue}
-use Rattle.std.proofs.lemmas.List.{append-nil, append_assoc}
+use Rattle.cweb_lines.proofs.Common.{◌≡◌, ◌<◌, ℕ, List, [], ◌∷◌, ◌++◌, length, refl, sym, ◌∙◌, ap, subst, arith, IsTrue, append-nil, append_assoc, KeepsPlace, Writes, Line, Event, SoFar, Gives, Stopped, StopsBehind, TellsFront, Count, given_lines, told_faults, openings, text_of, WritesFront, WritesAll, WritesSome, WritesUpTo, Gathered, FailsAmong, StopsWriting, WritesRest, leaves, writes, fails, SourceFault, Stop, ReadFault, LineTooLong, TooMuchText, Memory}
 use Rattle.cweb_files.specs.declared.device.Sink.{Ghosts as Sink}
-use Rattle.cweb_files.specs.Frames.{KeepsPlace, Writes}
-use Rattle.cweb_lines.specs.Lines.{Line}
-use Rattle.cweb_lines.specs.Merge.{Event}
-use Rattle.cweb_lines.specs.Merging.{SoFar, Gives, Stopped, StopsBehind, TellsFront}
-use Rattle.cweb_lines.specs.Texts.{Count}
-use Rattle.cweb_lines.specs.Told.{given_lines, told_faults, openings}
-use Rattle.cweb_lines.specs.Writing.{text_of, WritesFront, WritesAll, WritesSome, WritesUpTo, Gathered, FailsAmong, StopsWriting, WritesRest, leaves, writes, fails}
-use Rattle.cweb_lines.specs.declared.fault.SourceFault.{SourceFault}
-use Rattle.cweb_lines.specs.declared.stop.Stop.{Stop}
-use Rattle.cweb_lines.specs.declared.stop.Stop.TheVariants.{ReadFault, LineTooLong, TooMuchText, Memory}
 use Rattle.cweb_lines.proofs.Keeps.{place_told, writes_then}
 use Rattle.cweb_lines.proofs.Merges.{gives_nothing}
 use Rattle.cweb_lines.proofs.Sums.{given-append, told-append, openings-append, gives_both, behind_both}

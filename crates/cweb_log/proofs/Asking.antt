@@ -1,12 +1,5 @@
 -- What a command line of `ctangle` asks for, by its option words and by those that name files.
-use Rattle.std.proofs.Common.{◌≡◌, ◌↔◌, List, ℕ, Option, None, Some, Result, Ok, Err, Bor, false, refl, sym, ◌∙◌, ap, arith}
-use Rattle.std.specs.Option.{option_copied}
-use Rattle.std.specs.Prelude.{IfOk, IsErrOf, is_some, option_and_then, option_map, slice_get}
-use Rattle.cweb_lines.specs.declared.stop.Stop.{Stop}
-use Rattle.cweb_lines.specs.declared.stop.Stop.TheVariants.{Usage}
-use Rattle.cweb_log.specs.Options.{Asked, TangleNames, named_by, names_by, options_by, options_of, others, shown_by_default, words_shown}
-use Rattle.cweb_log.specs.declared.options.Options.{Options}
-use Rattle.cweb_log.specs.declared.shown.Shown.{Shown}
+use Rattle.cweb_log.proofs.Common.{◌≡◌, ◌↔◌, List, ℕ, Option, None, Some, Result, Ok, Err, Bor, false, refl, sym, ◌∙◌, ap, arith, option_copied, IfOk, IsErrOf, is_some, option_and_then, option_map, slice_get, Stop, Usage, Asked, TangleNames, named_by, names_by, options_by, options_of, others, shown_by_default, words_shown, Options, Shown}
 use Rattle.cweb_log.proofs.Stems.{names_at}
 
 abbrev with_shown : Shown → TangleNames → Asked

@@ -1,6 +1,5 @@
 -- How many words can be read.
-use Rattle.std.proofs.Common.{◌≡◌, ◌<◌, ◌≤◌, ℕ, List, [], ◌∷◌, length, map, Bor, None, refl, arith}
-use Rattle.cweb_log.specs.Words.{asked_by}
+use Rattle.cweb_log.proofs.Common.{◌≡◌, ◌<◌, ◌≤◌, ℕ, List, [], ◌∷◌, length, map, Bor, None, refl, arith, asked_by}
 
 pub no_words : (words : List (Bor (List ℕ))) → length words < 1
     → asked_by (map (λ (word : Bor (List ℕ)). word.now) words) ≡ None

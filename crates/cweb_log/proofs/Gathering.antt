@@ -1,16 +1,5 @@
 -- Texts that come one after another, gathered and written.
-use Rattle.std.proofs.Common.{◌≡◌, ◌<◌, ◌≤◌, ◌+◌, inl, inr, ℕ, suc, List, [], ◌∷◌, ◌++◌, length, map, take, drop, get_or, refl, sym, ◌∙◌, ap, subst, append_assoc, append-nil, arith}
-use Rattle.std.proofs.lemmas.Grind.{flat_map-append}
-use Rattle.std.proofs.lemmas.List.Folds.{flat_map-map}
-use Rattle.std.proofs.lemmas.List.{take-append-drop, take_all}
-use Rattle.std.proofs.Math.Seq.{take-suc}
-use Rattle.std.specs.List.{flat_map}
-use Rattle.std.specs.Prelude.{IsTrue, Result, Ok, Err, OnOk, OnErr, IsErr}
-use Rattle.cweb_files.specs.Device.{Counts}
-use Rattle.cweb_lines.specs.Writing.{WritesFront}
-use Rattle.cweb_log.specs.Gathering.{Logs, Writes, Gathers, GathersMore}
-use Rattle.cweb_log.specs.Items.{Item, line}
-use Rattle.cweb_log.specs.Seen.{SeenStream}
+use Rattle.cweb_log.proofs.Common.{◌≡◌, ◌<◌, ◌≤◌, ◌+◌, inl, inr, ℕ, suc, List, [], ◌∷◌, ◌++◌, length, map, take, drop, get_or, refl, sym, ◌∙◌, ap, subst, append_assoc, append-nil, arith, flat_map-append, flat_map-map, take-append-drop, take_all, take-suc, flat_map, IsTrue, Result, Ok, Err, OnOk, OnErr, IsErr, Counts, WritesFront, Logs, Writes, Gathers, GathersMore, Item, line, SeenStream}
 
 on_ok : {A E : Type 0} (r : Result A E) (P Q : Type 0) → (P → Q) → OnOk r P → OnOk r Q
 on_ok (Ok x) P Q map holds = map holds

@@ -1,12 +1,5 @@
 -- Where the last byte of a kind stands in a path, and which words name files.
-use Rattle.std.proofs.Common.{◌≡◌, ◌≢◌, ◌<◌, ◌+◌, ◌-◌, ℕ, suc, true, false, not, List, [], ◌∷◌, length, take, drop, get_or, None, Some, refl, sym, ◌∙◌, ap, eq-eqb, arith}
-use Rattle.std.proofs.lemmas.Bool.{ne_eqb}
-use Rattle.std.proofs.lemmas.List.Folds.{list_any_at}
-use Rattle.std.proofs.lemmas.List.Sums.{suffix_len_is}
-use Rattle.std.specs.List.{after_last, before_last, list_any, suffix_len}
-use Rattle.std.specs.Prelude.{slice_get, ◌==◌, if◌then◌else◌}
-use Rattle.cweb_log.specs.Options.{named_by, names_by, stem}
-use Rattle.cweb_log.specs.Words.{is_dot, is_slash}
+use Rattle.cweb_log.proofs.Common.{◌≡◌, ◌≢◌, ◌<◌, ◌+◌, ◌-◌, ℕ, suc, true, false, not, List, [], ◌∷◌, length, take, drop, get_or, None, Some, refl, sym, ◌∙◌, ap, eq-eqb, arith, ne_eqb, list_any_at, suffix_len_is, after_last, before_last, list_any, suffix_len, slice_get, ◌==◌, if◌then◌else◌, named_by, names_by, stem, is_dot, is_slash}
 
 -- so many bytes stand behind the last one of a kind
 behind : (c : ℕ) (bs : List ℕ) (k : ℕ) → k < length bs → get_or bs k 0 ≡ c

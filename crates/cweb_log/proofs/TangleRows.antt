@@ -1,7 +1,5 @@
 -- Command lines of `ctangle` and what they ask for.
-use Rattle.std.proofs.Common.{◌≡◌, true, false, List, ℕ, [], ◌∷◌, None, Some, refl}
-use Rattle.std.specs.Prelude.{codes}
-use Rattle.cweb_log.specs.Options.{TangleNames, names_by, options_by, words_shown, shown_by_default}
+use Rattle.cweb_log.proofs.Common.{◌≡◌, true, false, List, ℕ, [], ◌∷◌, None, Some, refl, codes, TangleNames, names_by, options_by, words_shown, shown_by_default}
 
 abbrev names : List ℕ → List ℕ → List ℕ → TangleNames
 names web second main = record { merge = record { web = web; second = Some second; change = None }; main = main }

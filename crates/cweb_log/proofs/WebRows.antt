@@ -1,24 +1,6 @@
 -- The lines of the log for what is wrong with a web, computed.
-use Rattle.std.proofs.Common.{◌≡◌, true, false, List, ℕ, [], ◌∷◌, ◌++◌, refl}
-use Rattle.std.specs.Prelude.{codes, Some, None}
+use Rattle.cweb_log.proofs.Common.{◌≡◌, true, false, List, ℕ, [], ◌∷◌, ◌++◌, refl, codes, Some, None, flat_map, Stored, Occurrence, id, Part, Name, NameRef, PartKind, Full, Prefix, Unnamed, Named, ScanFault, ScanKind, DoubleAtInLimbo, ImproperHexNumber, ReplacementTooLong, LetterOutsideLimbo, NameDidNotEnd, NamesDoNotNest, CommentDidNotEnd, StringDidNotEnd, DoubleAtInString, ControlTextDidNotEnd, FaultyConstant, IgnoredInCText, MissingAt, DefsInMacro, DefinitionDropped, bad_name, same_name, cycle, cycle_from, first_endless, program, line, name_items, refusal_text, scan_items}
 use Rattle.std.specs.Fmt.{digits}
-use Rattle.std.specs.List.{flat_map}
-use Rattle.cweb_store.specs.Calls.{Stored}
-use Rattle.cweb_store.specs.Names.{Occurrence, id}
-use Rattle.cweb_store.specs.Parts.{Part, Name}
-use Rattle.cweb_store.specs.declared.names.NameRef.{NameRef}
-use Rattle.cweb_store.specs.declared.parts.PartKind.{PartKind}
-use Rattle.cweb_store.specs.declared.names.How.TheVariants.{Full, Prefix}
-use Rattle.cweb_store.specs.declared.parts.PartKind.TheVariants.{Unnamed, Named}
-use Rattle.cweb_rules.specs.declared.fault.ScanFault.{ScanFault}
-use Rattle.cweb_rules.specs.declared.fault.ScanKind.{ScanKind}
-use Rattle.cweb_rules.specs.declared.fault.ScanKind.TheVariants.{DoubleAtInLimbo, ImproperHexNumber, ReplacementTooLong, LetterOutsideLimbo, NameDidNotEnd, NamesDoNotNest, CommentDidNotEnd, StringDidNotEnd, DoubleAtInString, ControlTextDidNotEnd, FaultyConstant, IgnoredInCText, MissingAt, DefsInMacro, DefinitionDropped}
-use Rattle.cweb_out.specs.Outputs.{bad_name, same_name, cycle}
-use Rattle.cweb_out.specs.Cycles.{cycle_from}
-use Rattle.cweb_out.specs.Ranks.{first_endless}
-use Rattle.cweb_out.specs.Uses.{program}
-use Rattle.cweb_log.specs.Items.{line}
-use Rattle.cweb_log.specs.WebItems.{name_items, refusal_text, scan_items}
 
 abbrev met : ScanKind → ℕ → ScanFault
 met kind number = record { kind = kind; place = record { file = record { 0 = 0 }; line = number } }

@@ -1,12 +1,7 @@
 -- The table of blanks between tokens that lend their texts.
-use Rattle.std.proofs.Common.{◌≡◌, ◌<◌, ◌+◌, ◌*◌, ◌/◌, ◌%◌, ℕ, Bool, true, false, List, [], ◌∷◌, ◌++◌, replicate, slice_index_or, refl, ◌∙◌}
-use Rattle.std.proofs.Common.{arith}
-use denote.Enum.Declared.{tag_of}
+use Rattle.cweb_out.proofs.Common.{◌≡◌, ◌<◌, ◌+◌, ◌*◌, ◌/◌, ◌%◌, ℕ, Bool, true, false, List, [], ◌∷◌, ◌++◌, replicate, slice_index_or, refl, ◌∙◌, arith, tag_of, the_type, Border, class_behind, stands_apart}
 use Rattle.cweb_files.proofs.ByteTables.{told_by_table}
-use Rattle.cweb_store.specs.contracts.tokens.borders.Border.{the_type}
-use Rattle.cweb_store.specs.declared.tokens.borders.Border.{Border}
 use Rattle.cweb_store.specs.declared.tokens.borders.Border.TheVariants as border
-use Rattle.cweb_out.specs.Borders.{class_behind, stands_apart}
 
 -- the answers of all rows, as runs of equal ones
 abbrev pub apart_bits : List Bool

@@ -1,20 +1,8 @@
 -- Tokens that lend their texts, told by their borders: what they lend, their classes, and the blanks before them.
-use Rattle.std.proofs.Common.{◌≡◌, ◌==◌, ◌++◌, ◌∙◌, ℕ, Bool, true, false, cond, ◌||◌, ◌&&◌, not, List, [], ◌∷◌, Option, None, Some}
-use Rattle.std.proofs.Common.{refl, ap, sym}
-use Rattle.std.specs.Prelude.{option_map}
-use Rattle.std.specs.List.{list_any}
-use Rattle.std.proofs.lemmas.Bool.{eqb-true}
-use Rattle.cweb_store.specs.Parts.{Token, Word, Number, Literal, Verbatim, Punct, Blank, Newline, Join, Defs, Name, Head, Tail, Mark}
-use Rattle.cweb_store.specs.declared.tokens.borders.Border.{Border}
+use Rattle.cweb_out.proofs.Common.{◌≡◌, ◌==◌, ◌++◌, ◌∙◌, ℕ, Bool, true, false, cond, ◌||◌, ◌&&◌, not, List, [], ◌∷◌, Option, None, Some, refl, ap, sym, option_map, list_any, eqb-true, Token, Word, Number, Literal, Verbatim, Punct, Blank, Newline, Join, Defs, Name, Head, Tail, Mark, Border, Bordered, first_is, is_numeric, lends, sign_border, sign_by, Class, class_behind, left_behind, stands_apart, class_by, class_is_glue, class_is_literal, class_is_number, class_is_operator, class_is_point, class_is_wordlike, class_of, is_apart, Gathers, blank_where, is_high, lent_text}
 use Rattle.cweb_store.specs.declared.tokens.borders.Border.TheVariants as border
-use Rattle.cweb_store.specs.Borders.{Bordered, first_is, is_numeric, is_operator, last_is, lends, sign_border, sign_by}
-use Rattle.cweb_out.specs.declared.printer.class.Class.{Class}
+use Rattle.cweb_store.specs.Borders.{is_operator, last_is}
 use Rattle.cweb_out.specs.declared.printer.class.Class.TheVariants as class
-use Rattle.cweb_out.specs.Borders.{class_behind, left_behind, stands_apart}
-use Rattle.cweb_out.specs.Classes.{class_by, class_is_glue, class_is_literal, class_is_number, class_is_operator}
-use Rattle.cweb_out.specs.Classes.{class_is_point, class_is_wordlike, class_of, is_apart}
-use Rattle.cweb_out.specs.Gathering.{Gathers}
-use Rattle.cweb_out.specs.Lent.{blank_where, is_high, lent_text}
 
 -- the border in an answer
 abbrev border_in : Option Bordered → Border

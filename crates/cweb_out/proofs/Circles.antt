@@ -1,17 +1,5 @@
 -- Names that use one another in a circle have no rank.
-use Rattle.std.proofs.Common.{◌≡◌, ℕ, zero, suc, Bool, true, false, not, cond, ◌&&◌, ◌||◌, List, [], ◌∷◌, ◌++◌, refl, sym, ◌∙◌, ap, inl, inr, subst, Option, Some}
-use Rattle.std.specs.Prelude.{◌⊎◌, option_to_list, find}
-use Rattle.std.specs.List.{list_all, list_any}
-use Rattle.cweb_store.specs.declared.names.NameId.{NameId}
-use Rattle.cweb_store.specs.Names.{is_id}
-use Rattle.cweb_store.specs.Parts.{Token}
-use Rattle.cweb_store.specs.Calls.{Stored}
-use Rattle.cweb_out.specs.Uses.{joined, uses}
-use Rattle.cweb_out.specs.Ranks.{ends_below, has_rank, first_endless}
-use Rattle.cweb_out.specs.Frames.{suffix}
-use Rattle.cweb_out.specs.declared.expander.frame.Frame.{Frame}
-use Rattle.cweb_out.specs.declared.planning.search.Waiting.{Waiting}
-use Rattle.cweb_out.specs.Search.{Chain, Looked, next_of, path_of}
+use Rattle.cweb_out.proofs.Common.{◌≡◌, ℕ, zero, suc, Bool, true, false, not, cond, ◌&&◌, ◌||◌, List, [], ◌∷◌, ◌++◌, refl, sym, ◌∙◌, ap, inl, inr, subst, Option, Some, ◌⊎◌, option_to_list, find, list_all, list_any, NameId, is_id, Token, Stored, joined, uses, ends_below, has_rank, first_endless, suffix, Frame, Waiting, Chain, Looked, next_of, path_of}
 use Rattle.cweb_out.proofs.Ranks.{and-first, and-second, id-same, or-left, or-right}
 use Rattle.cweb_out.proofs.Paths.{is-same}
 

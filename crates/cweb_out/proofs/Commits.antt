@@ -1,11 +1,6 @@
 -- A draft that becomes a file.
-use Rattle.std.proofs.Common.{◌≡◌, ℕ, Bool, true, false, not, cond, List, [], ◌∷◌, ◌++◌, refl, ◌∙◌, ap, map, string_bytes}
-use Rattle.std.proofs.lemmas.List.{map-append}
-use Rattle.std.specs.Prelude.{filter}
+use Rattle.cweb_out.proofs.Common.{◌≡◌, ℕ, Bool, true, false, not, cond, List, [], ◌∷◌, ◌++◌, refl, ◌∙◌, ap, map, string_bytes, map-append, filter, File, without, put_file, BinFile, file_of}
 use Rattle.std.specs.Str.{bytes_eq}
-use Rattle.cweb_files.specs.Files.{File, without, put_file}
-use Rattle.cweb_out.specs.declared.bins.memory.BinFile.{BinFile}
-use Rattle.cweb_out.specs.Memory.{file_of}
 
 others : (name : List ℕ) (files : List BinFile)
     → map file_of (filter (λ (f : BinFile). not (bytes_eq (string_bytes f.name) name)) files)

@@ -1,16 +1,7 @@
 -- Tokens of a macro that lend their texts: what they add, and what is kept after them.
-use Rattle.std.proofs.Common.{◌≡◌, ◌==◌, ◌++◌, ◌∙◌, ℕ, Bool, true, false, cond, List, [], Option, None, Some, codes}
-use Rattle.std.proofs.Common.{ap, append_assoc, refl, sym}
-use Rattle.std.specs.List.{list_any}
-use Rattle.std.specs.Prelude.{IfSome}
-use Rattle.cweb_store.specs.Parts.{Token, Word, Number, Literal, Verbatim, Punct, Blank, Newline, Join, Defs, Name, Head, Tail, Mark}
-use Rattle.cweb_store.specs.declared.tokens.borders.Border.{Border}
+use Rattle.cweb_out.proofs.Common.{◌≡◌, ◌==◌, ◌++◌, ◌∙◌, ℕ, Bool, true, false, cond, List, [], Option, None, Some, codes, ap, append_assoc, refl, sym, list_any, IfSome, Token, Word, Number, Literal, Verbatim, Punct, Blank, Newline, Join, Defs, Name, Head, Tail, Mark, Border, Bordered, first_is, is_numeric, lends, sign_border, sign_by, class_behind, continued_by, is_line_end, left_behind, stands_apart, added, continued_text, left_by, macro_by, blank_where, is_high, plain_text, word_text}
 use Rattle.cweb_store.specs.declared.tokens.borders.Border.TheVariants as border
-use Rattle.cweb_store.specs.Borders.{Bordered, first_is, is_numeric, is_operator, last_is, lends, sign_border, sign_by}
-use Rattle.cweb_out.specs.Borders.{class_behind, continued_by, is_line_end, left_behind, stands_apart}
-use Rattle.cweb_out.specs.Classes.{added, continued_text, left_by, macro_by}
-use Rattle.cweb_out.specs.Lent.{blank_where, is_high}
-use Rattle.cweb_out.specs.Printing.{plain_text, word_text}
+use Rattle.cweb_store.specs.Borders.{is_operator, last_is}
 use Rattle.cweb_out.proofs.Bordered.{apart-lent, class-lent, text-lent}
 use Rattle.cweb_out.proofs.Bytes.{ascii_word}
 use Rattle.cweb_out.proofs.Lending.{leaves-lent}

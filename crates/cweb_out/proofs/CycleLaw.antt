@@ -1,20 +1,7 @@
 -- The cycle that is reported is one: the walk goes on until a name comes twice, and each name uses the next one.
-use Rattle.std.proofs.Common.{◌≡◌, ◌<◌, ◌+◌, ℕ, zero, suc, Bool, true, false, not, cond, List, [], ◌∷◌, ◌++◌, refl, sym, ◌∙◌, ap, arith, length, length-append, inl, inr, drop, map, subst, Option, Some, None}
-use Rattle.std.specs.Prelude.{All, Result, Ok, Err, find, filter, bytes_eq}
-use Rattle.std.specs.List.{list_any, position_or_len}
-use Rattle.cweb_store.specs.declared.names.NameId.{NameId}
+use Rattle.cweb_out.proofs.Common.{◌≡◌, ◌<◌, ◌+◌, ℕ, zero, suc, Bool, true, false, not, cond, List, [], ◌∷◌, ◌++◌, refl, sym, ◌∙◌, ap, arith, length, length-append, inl, inr, drop, map, subst, Option, Some, None, All, Result, Ok, Err, find, filter, bytes_eq, list_any, position_or_len, NameId, is_id, has_part, has_defs_code, Stored, names, joined, program, uses, first_endless, has_rank, list_ends, cycle_from, walk, IsRoot, Planned, Refusal, bad_name, same_name, cycle, defs_first, file_outputs, has_no_text, is_good_name, name_at, output_name, output_of, outputs, planned, planned_apart, planned_ending, root_list, start_of, AreNew, EachUsesNext, IsCycle}
 use Rattle.cweb_store.specs.Names as spec
-use Rattle.cweb_store.specs.Names.{is_id}
-use Rattle.cweb_store.specs.Faults.{has_part}
-use Rattle.cweb_store.specs.Parts.{has_defs_code}
-use Rattle.cweb_store.specs.Calls.{Stored}
 use Rattle.cweb_store.proofs.BoundLemmas.{files-within}
-use Rattle.cweb_out.specs.Uses.{names, joined, program, uses}
-use Rattle.cweb_out.specs.Ranks.{first_endless, has_rank, list_ends}
-use Rattle.cweb_out.specs.Cycles.{cycle_from, walk}
-use Rattle.cweb_out.specs.Outputs.{IsRoot, Planned, Refusal, bad_name, same_name, cycle, defs_first, file_outputs, has_no_text, is_good_name, name_at, output_name, output_of, outputs, planned, planned_apart, planned_ending, root_list, start_of}
-use Rattle.cweb_out.specs.Search.{AreNew}
-use Rattle.cweb_out.specs.Laws.{EachUsesNext, IsCycle}
 use Rattle.cweb_out.proofs.Paths.{is-same, new-push, on-pushed, split-or}
 use Rattle.cweb_out.proofs.Ranks.{few}
 use Rattle.cweb_out.proofs.CycleUses.{uses-on, failing, Endless, text-endless, name-endless, each-drop, each-push, comes}

@@ -1,16 +1,6 @@
 -- A name without a rank uses one without a rank, and each name of a way uses the next one.
-use Rattle.std.proofs.Common.{◌≡◌, ◌<◌, ◌+◌, ℕ, zero, suc, Bool, true, false, not, cond, ◌&&◌, ◌||◌, List, [], ◌∷◌, ◌++◌, refl, sym, ◌∙◌, ap, arith, inl, inr, drop, subst, Option, Some, None}
-use Rattle.std.specs.Prelude.{◌⊎◌, find, IfSome, option_to_list}
-use Rattle.std.specs.List.{list_all, list_any, position_or_len}
-use Rattle.std.proofs.lemmas.List.Folds.{list_any-append}
-use Rattle.cweb_store.specs.declared.names.NameId.{NameId}
-use Rattle.cweb_store.specs.Names.{is_id}
-use Rattle.cweb_store.specs.Parts.{Token, Name}
-use Rattle.cweb_store.specs.Calls.{Stored}
+use Rattle.cweb_out.proofs.Common.{◌≡◌, ◌<◌, ◌+◌, ℕ, zero, suc, Bool, true, false, not, cond, ◌&&◌, ◌||◌, List, [], ◌∷◌, ◌++◌, refl, sym, ◌∙◌, ap, arith, inl, inr, drop, subst, Option, Some, None, ◌⊎◌, find, IfSome, option_to_list, list_all, list_any, position_or_len, list_any-append, NameId, is_id, Token, Name, Stored, names, joined, stands, use_of, uses, has_rank, list_ends, EachUsesNext}
 use Rattle.cweb_store.proofs.BoundLemmas.{standing-within}
-use Rattle.cweb_out.specs.Uses.{names, joined, stands, use_of, uses}
-use Rattle.cweb_out.specs.Ranks.{has_rank, list_ends}
-use Rattle.cweb_out.specs.Laws.{EachUsesNext}
 use Rattle.cweb_out.proofs.Paths.{is-same, not-true}
 use Rattle.cweb_out.proofs.Ranks.{id-same, or-left, or-right, rank-grows, rank_by_uses}
 

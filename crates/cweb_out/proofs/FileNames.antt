@@ -1,16 +1,8 @@
 -- The outputs are one more than the names at most.
-use Rattle.std.proofs.Common.{◌≡◌, ◌≤◌, ◌<◌, ◌+◌, ℕ, suc, Bool, true, false, cond, ◌||◌, List, [], ◌∷◌, ◌++◌, refl, sym, arith, length, Option, Some, None, inl, inr, subst}
-use Rattle.std.specs.Prelude.{◌⊎◌, filter, All, if◌then◌else◌}
-use Rattle.std.specs.List.{list_any}
-use Rattle.std.proofs.lemmas.List.{length-map}
-use Rattle.cweb_store.specs.declared.names.NameId.{NameId}
+use Rattle.cweb_out.proofs.Common.{◌≡◌, ◌≤◌, ◌<◌, ◌+◌, ℕ, suc, Bool, true, false, cond, ◌||◌, List, [], ◌∷◌, ◌++◌, refl, sym, arith, length, Option, Some, None, inl, inr, subst, ◌⊎◌, filter, All, if◌then◌else◌, list_any, length-map, NameId, Occurrence, Standing, is_id, with_id, with_some, with_file, files_from, Stored, names, file_outputs, outputs, AreNew}
 use Rattle.cweb_store.specs.Names as spec
-use Rattle.cweb_store.specs.Names.{Occurrence, Standing, is_id, stands, with_id, with_some, with_file, files_from}
-use Rattle.cweb_store.specs.Calls.{Stored}
+use Rattle.cweb_store.specs.Names.{stands}
 use Rattle.cweb_store.proofs.BoundLemmas.{files-within}
-use Rattle.cweb_out.specs.Uses.{names}
-use Rattle.cweb_out.specs.Outputs.{file_outputs, outputs}
-use Rattle.cweb_out.specs.Search.{AreNew}
 use Rattle.cweb_out.proofs.Paths.{new-push, is-same}
 use Rattle.cweb_out.proofs.Ranks.{few}
 

@@ -1,17 +1,6 @@
 -- What comes before the first use in a list, and in a frame's.
-use Rattle.std.proofs.Common.{◌≡◌, ◌<◌, ◌||◌, Bool, true, false, List, [], ◌∷◌, ◌++◌, length, refl, sym, ◌∙◌, ap, arith, append_assoc, append-nil, length-append}
-use Rattle.std.specs.List.{list_any}
-use Rattle.std.proofs.lemmas.List.Folds.{list_any-append}
-use Rattle.std.proofs.lemmas.Grind.{flat_map-append}
-use Rattle.cweb_store.specs.declared.parts.Part.{Part}
+use Rattle.cweb_out.proofs.Common.{◌≡◌, ◌<◌, ◌||◌, Bool, true, false, List, [], ◌∷◌, ◌++◌, length, refl, sym, ◌∙◌, ap, arith, append_assoc, append-nil, length-append, list_any, list_any-append, flat_map-append, Part, Token, all_tokens, Stored, is_name, PassesNoUse, uses, use_of, defs_first, suffix, run_tokens, runs_tokens, Frame}
 use Rattle.cweb_store.specs.Parts as spec
-use Rattle.cweb_store.specs.Parts.{Token, all_tokens}
-use Rattle.cweb_store.specs.Calls.{Stored}
-use Rattle.cweb_store.specs.Next.{is_name}
-use Rattle.cweb_out.specs.Uses.{PassesNoUse, uses, use_of}
-use Rattle.cweb_out.specs.Outputs.{defs_first}
-use Rattle.cweb_out.specs.Frames.{suffix, run_tokens, runs_tokens}
-use Rattle.cweb_out.specs.declared.expander.frame.Frame.{Frame}
 
 both-none : (a b : Bool) → a ≡ false → b ≡ false → (a || b) ≡ false
 both-none a b x y = ap (λ c. c || b) x ∙ y

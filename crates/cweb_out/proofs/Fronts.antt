@@ -1,8 +1,5 @@
 -- Texts of which a front was written.
-use Rattle.std.proofs.Common.{refl, ◌≡◌, ◌<◌, ◌++◌, [], ◌∙◌, ap, sym, append_assoc, ℕ, List, length, take, drop, suc, get_or, Bor, drop-cons, take-append-drop, append-nil}
-use Rattle.std.specs.Prelude.{Result, Ok, Err, IsErr, flat_map}
-use Rattle.std.proofs.lemmas.List.Concat.{flat_map-append}
-use Rattle.cweb_out.specs.Writing.{WritesFront, Wrote}
+use Rattle.cweb_out.proofs.Common.{refl, ◌≡◌, ◌<◌, ◌++◌, [], ◌∙◌, ap, sym, append_assoc, ℕ, List, length, take, drop, suc, get_or, Bor, drop-cons, take-append-drop, append-nil, Result, Ok, Err, IsErr, flat_map, flat_map-append, WritesFront, Wrote}
 
 -- one text was written, and then another, or a front of it
 pub wrote_more : {A E : Type 0} (old mid new text more : List ℕ) (r : Result A E)

@@ -1,14 +1,5 @@
 -- Fronts of what is left that were printed one after another.
-use Rattle.std.proofs.Common.{◌≡◌, ◌++◌, ◌∙◌, [], refl, sym, ap, subst, append_assoc, ℕ, List, ◌&&◌}
-use Rattle.std.specs.List.{list_all}
-use Rattle.std.proofs.lemmas.List.Folds.{list_all-append}
-use Rattle.cweb_store.specs.Parts.{Token}
-use Rattle.cweb_out.specs.Printing.{Setting, print}
-use Rattle.cweb_out.specs.Classes.{leaves}
-use Rattle.cweb_out.specs.declared.printer.Printer.{Printer}
-use Rattle.cweb_out.specs.Lent.{AreLent, is_lent}
-use Rattle.cweb_out.specs.Printed.{Adds, setting_of}
-use Rattle.cweb_out.specs.Gathering.{PrintsFront}
+use Rattle.cweb_out.proofs.Common.{◌≡◌, ◌++◌, ◌∙◌, [], refl, sym, ap, subst, append_assoc, ℕ, List, ◌&&◌, list_all, list_all-append, Token, Setting, print, leaves, Printer, AreLent, is_lent, Adds, setting_of, PrintsFront}
 use Rattle.cweb_out.proofs.Passing.{passed_none}
 
 pub front_none : (p : Printer) (ts : List Token) (old : List ℕ) → PrintsFront p p ts ts old old

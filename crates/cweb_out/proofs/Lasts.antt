@@ -1,9 +1,6 @@
 -- The last byte of a punctuator.
-use Rattle.std.proofs.Common.{◌≡◌, ◌==◌, ◌-◌, ℕ, true, List, [], ◌∷◌, Some, ◌∙◌, ap, length, slice_get}
-use Rattle.std.proofs.lemmas.Bool.{eqb-true}
+use Rattle.cweb_out.proofs.Common.{◌≡◌, ◌==◌, ◌-◌, ℕ, true, List, [], ◌∷◌, Some, ◌∙◌, ap, length, slice_get, eqb-true, last_is, is_operator, class_by, punct_class}
 use Rattle.cweb_store.proofs.BorderLemmas.{last_is-at}
-use Rattle.cweb_out.specs.Spacing.{last_is, is_operator}
-use Rattle.cweb_out.specs.Classes.{class_by, punct_class}
 
 pub punct-last : (bs : List ℕ) (x : ℕ) → slice_get bs (length bs - 1) ≡ Some x
     → punct_class bs ≡ class_by (x == 46) (is_operator x)

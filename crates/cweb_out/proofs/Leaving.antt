@@ -1,16 +1,5 @@
 -- The top frame of a stack passes tokens that lend their texts, and then takes a use, or comes to its end.
-use Rattle.std.proofs.Common.{◌≡◌, ◌≤◌, ◌<◌, ◌+◌, ◌-◌, ◌++◌, ◌∷◌, [], ℕ, List, length, refl, sym, ◌∙◌, ap, arith, subst}
-use Rattle.std.specs.Prelude.{sum_by}
-use Rattle.std.proofs.Math.ListN.{set}
-use Rattle.std.proofs.lemmas.List.{length-set, get_or-set_same, set-set, take-set}
-use Rattle.std.proofs.lemmas.List.Sums.{sum_by-append}
-use Rattle.cweb_store.specs.Parts.{Token}
-use Rattle.cweb_store.specs.Calls.{Stored}
-use Rattle.cweb_out.specs.Uses.{names, use_of}
-use Rattle.cweb_out.specs.Expansion.{name_text, put}
-use Rattle.cweb_out.specs.declared.expander.frame.Frame.{Frame}
-use Rattle.cweb_out.specs.Frames.{suffix, left, level, work_of, list_work, name_work, token_work, AreBelow, IsWithin, Stands, UsesLower}
-use Rattle.cweb_out.specs.Lent.{AreLent}
+use Rattle.cweb_out.proofs.Common.{◌≡◌, ◌≤◌, ◌<◌, ◌+◌, ◌-◌, ◌++◌, ◌∷◌, [], ℕ, List, length, refl, sym, ◌∙◌, ap, arith, subst, sum_by, set, length-set, get_or-set_same, set-set, take-set, sum_by-append, Token, Stored, names, use_of, name_text, put, Frame, suffix, left, level, work_of, list_work, name_work, token_work, AreBelow, IsWithin, Stands, UsesLower, AreLent}
 use Rattle.cweb_out.proofs.Passes.{top_passed}
 use Rattle.cweb_out.proofs.Stack.{work_of-push}
 use Rattle.cweb_out.proofs.Tops.{HasTop, lower, top_ended, TopMoved, top_moved, top_read, top_written}

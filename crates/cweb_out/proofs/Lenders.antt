@@ -1,9 +1,5 @@
 -- Tokens that lend their texts, by their numbers.
-use Rattle.std.proofs.Common.{◌≡◌, ◌∙◌, ℕ, List, Option, None, Some, ap, map, refl, sym}
-use Rattle.std.specs.Prelude.{option_map, slice_get}
-use Rattle.std.proofs.lemmas.Option.{slice_get-map}
-use Rattle.cweb_store.specs.Parts.{Token}
-use Rattle.cweb_store.specs.Borders.{Bordered, lends}
+use Rattle.cweb_out.proofs.Common.{◌≡◌, ◌∙◌, ℕ, List, Option, None, Some, ap, map, refl, sym, option_map, slice_get, slice_get-map, Token, Bordered, lends}
 
 -- the token with a number lends this
 pub record LendsAt (ts : List Token) (n : ℕ) (l : Bordered) : Type 0 where

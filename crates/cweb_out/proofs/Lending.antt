@@ -1,12 +1,5 @@
 -- Tokens that are printed as the text that they lend: what is kept of them, and what they add.
-use Rattle.std.proofs.Common.{◌≡◌, ◌++◌, ◌∙◌, refl, ap, Bool, true, false, cond, ℕ, List, [], ◌∷◌, sym, Some, None}
-use Rattle.std.specs.List.{list_any}
-use Rattle.cweb_store.specs.Parts.{Token, Word, Number, Literal, Verbatim, Punct, Blank, Newline, Join, Defs, Name, Head, Tail, Mark}
-use Rattle.cweb_out.specs.Printing.{Setting, print, stays_joined, word_text}
-use Rattle.cweb_out.specs.declared.printer.class.Class.{Class}
-use Rattle.cweb_out.specs.declared.printer.left.Left.{Left}
-use Rattle.cweb_out.specs.Classes.{class_of, left_by, is_dropped, added, file_by, separator, is_apart, leaves}
-use Rattle.cweb_out.specs.Lent.{is_high, lent_text, blank_where}
+use Rattle.cweb_out.proofs.Common.{◌≡◌, ◌++◌, ◌∙◌, refl, ap, Bool, true, false, cond, ℕ, List, [], ◌∷◌, sym, Some, None, list_any, Token, Word, Number, Literal, Verbatim, Punct, Blank, Newline, Join, Defs, Name, Head, Tail, Mark, Setting, print, stays_joined, word_text, Class, Left, class_of, left_by, is_dropped, added, file_by, separator, is_apart, leaves, is_high, lent_text, blank_where}
 use Rattle.cweb_out.proofs.Bytes.{ascii_word}
 use Rattle.cweb_out.proofs.Steps.{print-push}
 

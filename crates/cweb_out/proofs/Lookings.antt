@@ -1,17 +1,6 @@
 -- What of a list was looked at: the uses that were passed over, up to the next name without a rank.
-use Rattle.std.proofs.Common.{◌≡◌, ◌<◌, Bool, true, false, ◌&&◌, List, [], ◌∷◌, ◌++◌, refl, sym, ◌∙◌, ap, append-nil, append_assoc, Some, None}
-use Rattle.std.specs.List.{list_all}
-use Rattle.cweb_store.specs.declared.names.NameId.{NameId}
-use Rattle.cweb_store.specs.Parts.{Token}
-use Rattle.cweb_store.specs.Calls.{Stored}
-use Rattle.cweb_out.specs.Uses.{names, uses, use_of, PassesNoUse}
-use Rattle.cweb_out.specs.Ranks.{has_rank}
-use Rattle.cweb_out.specs.Frames.{suffix}
-use Rattle.cweb_out.specs.declared.expander.frame.Frame.{Frame}
+use Rattle.cweb_out.proofs.Common.{◌≡◌, ◌<◌, Bool, true, false, ◌&&◌, List, [], ◌∷◌, ◌++◌, refl, sym, ◌∙◌, ap, append-nil, append_assoc, Some, None, list_all, NameId, Token, Stored, names, uses, use_of, PassesNoUse, has_rank, suffix, Frame, Unseen, Waits, Ranked, Waiting, Fits, Looked, Meets, Passes, is_marked, is_ranked_mark, mark_of}
 use Rattle.cweb_out.specs.declared.planning.search.Mark.{Mark}
-use Rattle.cweb_out.specs.declared.planning.search.Mark.TheVariants.{Unseen, Waits, Ranked}
-use Rattle.cweb_out.specs.declared.planning.search.Waiting.{Waiting}
-use Rattle.cweb_out.specs.Search.{Fits, Looked, Meets, Passes, is_marked, is_ranked_mark, mark_of}
 use Rattle.cweb_out.proofs.FirstUses.{same-uses}
 use Rattle.cweb_out.proofs.Ranks.{all-append, and-first, and-second}
 

@@ -1,21 +1,10 @@
 -- Macros as runs of token numbers.
-use Rattle.std.proofs.Common.{◌≡◌, ◌≤◌, ◌<◌, ◌+◌, ◌-◌, ℕ, suc, Bool, true, false, cond, List, [], ◌∷◌, ◌++◌, refl, sym, ◌∙◌, ap, map, take, drop, length, slice_range, arith, get_or, subst, append_assoc, append-nil, codes, ◌&&◌}
-use Rattle.std.specs.Prelude.{flat_map, filter, All, slice_get, Some}
-use Rattle.std.proofs.lemmas.List.{drop-drop, take_at, drop_at, take_more, get_or-drop, length-drop}
-use Rattle.std.proofs.Math.Seq.{take-add}
-use Rattle.cweb_out.specs.declared.printer.class.Class.{Class}
-use Rattle.cweb_out.specs.declared.printer.left.Left.{Left}
+use Rattle.cweb_out.proofs.Common.{◌≡◌, ◌≤◌, ◌<◌, ◌+◌, ◌-◌, ℕ, suc, Bool, true, false, cond, List, [], ◌∷◌, ◌++◌, refl, sym, ◌∙◌, ap, map, take, drop, length, slice_range, arith, get_or, subst, append_assoc, append-nil, codes, ◌&&◌, flat_map, filter, All, slice_get, Some, drop-drop, take_at, drop_at, take_more, get_or-drop, length-drop, take-add, Class, Left, added, all_added, at_start, begin_by, file_by, is_apart, leaves, left_by, separator, PartKind, Token, Defs, all_tokens, is_macro, numbers_from, numbers_where, Stored, Setting, macro_line, macro_lines, macros, replaced_in, run_tokens}
 use Rattle.cweb_out.specs.declared.printer.class.Class.TheVariants as class
-use Rattle.cweb_out.specs.Classes.{added, all_added, at_start, begin_by, file_by, is_apart, leaves, left_by, separator}
 use Rattle.cweb_out.proofs.Steps.{added-append, added-push, leaves-push}
 use Rattle.cweb_out.proofs.Suffixes.{slice_get-or, slice_get-lt, slice_range-first}
-use Rattle.cweb_store.specs.declared.parts.PartKind.{PartKind}
 use Rattle.cweb_store.specs.declared.parts.Part as declared
-use Rattle.cweb_store.specs.Parts.{Token, Defs, Part, all_tokens, is_macro, numbers_from, numbers_where}
-use Rattle.cweb_store.specs.Calls.{Stored}
-use Rattle.cweb_out.specs.Printing.{Setting, macro_line, macro_lines}
-use Rattle.cweb_out.specs.Printers.{macros, replaced_in}
-use Rattle.cweb_out.specs.Frames.{run_tokens}
+use Rattle.cweb_store.specs.Parts.{Part}
 
 no_blank : (c : Class) → is_apart c Defs ≡ false
 no_blank class.LineStart = refl

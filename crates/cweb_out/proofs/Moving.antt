@@ -1,10 +1,5 @@
 -- What was gathered goes to a sink.
-use Rattle.std.proofs.Common.{◌≡◌, ◌++◌, ◌∙◌, [], refl, sym, subst, ap, append_assoc, append-nil, ℕ, List, take, drop}
-use Rattle.std.proofs.lemmas.List.{take-append-drop}
-use Rattle.std.specs.Prelude.{Result, Ok, Err, IsErr, IsOk}
-use Rattle.cweb_out.specs.Gathering.{Moved}
-use Rattle.cweb_out.specs.Printed.{Adds, AddsBy}
-use Rattle.cweb_out.specs.Writing.{Wrote}
+use Rattle.cweb_out.proofs.Common.{◌≡◌, ◌++◌, ◌∙◌, [], refl, sym, subst, ap, append_assoc, append-nil, ℕ, List, take, drop, take-append-drop, Result, Ok, Err, IsErr, IsOk, Moved, Adds, AddsBy, Wrote}
 
 -- what a sink has and what is gathered for it stay the same, taken together
 pub moved_same : (old before new after : List ℕ) → Moved old before new after → new ++ after ≡ old ++ before

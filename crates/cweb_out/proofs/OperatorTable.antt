@@ -1,7 +1,6 @@
 -- The table of the bytes of operators.
-use Rattle.std.proofs.Common.{◌≡◌, ◌<◌, ℕ, Bool, true, false, List, ◌++◌, replicate, slice_index_or, refl}
+use Rattle.cweb_out.proofs.Common.{◌≡◌, ◌<◌, ℕ, Bool, true, false, List, ◌++◌, replicate, slice_index_or, refl, is_operator}
 use Rattle.cweb_files.proofs.ByteTables.{told_by_table}
-use Rattle.cweb_out.specs.Spacing.{is_operator}
 
 -- which bytes are of operators, as runs of equal answers
 abbrev pub operator_bytes : List Bool

@@ -1,8 +1,5 @@
 -- A text is its first bytes, up to where its last ones begin, and these.
-use Rattle.std.proofs.Common.{◌≡◌, ◌≤◌, ◌+◌, ◌-◌, ◌++◌, ◌∙◌, ℕ, List, length, take, drop, sym, ap, arith, rules, length-drop}
-use Rattle.std.proofs.lemmas.List.{append_assoc, length-take-le, take-append-drop, take-append-le, take_at}
-use Rattle.std.proofs.lemmas.Slice.{between_is}
-use Rattle.std.proofs.Math.Seq.{take-append-add}
+use Rattle.cweb_out.proofs.Common.{◌≡◌, ◌≤◌, ◌+◌, ◌-◌, ◌++◌, ◌∙◌, ℕ, List, length, take, drop, sym, ap, arith, rules, length-drop, append_assoc, length-take-le, take-append-drop, take-append-le, take_at, between_is, take-append-add}
 
 -- of the first bytes of a text those that are first
 pub taken_twice : (m n : ℕ) (text : List ℕ) → m ≤ n → n ≤ length text → take m (take n text) ≡ take m text

@@ -1,16 +1,5 @@
 -- The owners of frames: the ranks of their lists, and what of them was given.
-use Rattle.std.proofs.Common.{◌≡◌, ◌≤◌, ◌<◌, ◌+◌, ◌-◌, ℕ, zero, suc, Bool, true, false, List, [], ◌∷◌, ◌++◌, refl, sym, ◌∙◌, ap, arith, append_assoc, subst, Option, Some, None}
-use Rattle.std.specs.Prelude.{option_to_list}
-use Rattle.std.specs.List.{list_all}
-use Rattle.cweb_store.specs.declared.names.NameId.{NameId}
-use Rattle.cweb_store.specs.declared.names.NameRef.{NameRef}
-use Rattle.cweb_store.specs.Parts.{Token, Name}
-use Rattle.cweb_store.specs.Calls.{Stored}
-use Rattle.cweb_out.specs.Uses.{names, use_of, uses, stands, joined}
-use Rattle.cweb_out.specs.Ranks.{ends_below, least, list_ends, name_rank}
-use Rattle.cweb_out.specs.Outputs.{root_list}
-use Rattle.cweb_out.specs.declared.expander.frame.Frame.{Frame}
-use Rattle.cweb_out.specs.Frames.{suffix, rank, top_rank, AreBelow, AreOwned, IsOwned, UsesLower}
+use Rattle.cweb_out.proofs.Common.{◌≡◌, ◌≤◌, ◌<◌, ◌+◌, ◌-◌, ℕ, zero, suc, Bool, true, false, List, [], ◌∷◌, ◌++◌, refl, sym, ◌∙◌, ap, arith, append_assoc, subst, Option, Some, None, option_to_list, list_all, NameId, NameRef, Token, Name, Stored, names, use_of, uses, stands, joined, ends_below, least, list_ends, name_rank, root_list, Frame, suffix, rank, top_rank, AreBelow, AreOwned, IsOwned, UsesLower}
 use Rattle.cweb_out.proofs.Ranks.{all-back, all-front, and-first, grows-more}
 
 least-le : (test : ℕ → Bool) (n k : ℕ) → test k ≡ true → least test n ≤ k

@@ -1,19 +1,5 @@
 -- The top frame of a stack passes tokens that lend their texts.
-use Rattle.std.proofs.Common.{◌≡◌, ◌≤◌, ◌<◌, ◌+◌, ◌-◌, ◌++◌, ◌∷◌, [], ℕ, List, length, take, drop, slice_range, true, false, refl, sym, ◌∙◌, ap, arith, subst, append_assoc}
-use Rattle.std.specs.List.{list_all}
-use Rattle.std.proofs.Math.ListN.{set}
-use Rattle.std.proofs.Math.Seq.{take-add}
-use Rattle.std.proofs.lemmas.List.{drop-drop}
-use Rattle.cweb_store.specs.declared.names.NameId.{NameId}
-use Rattle.cweb_store.specs.Parts.{Token, all_tokens}
-use Rattle.cweb_store.specs.Calls.{Stored}
-use Rattle.cweb_out.specs.Uses.{names, uses}
-use Rattle.cweb_out.specs.Ranks.{ends_below, list_ends}
-use Rattle.cweb_out.specs.Expansion.{expand, name_text}
-use Rattle.cweb_out.specs.Outputs.{defs_first, root_list}
-use Rattle.cweb_out.specs.declared.expander.frame.Frame.{Frame}
-use Rattle.cweb_out.specs.Frames.{suffix, left, rank, top_rank, IsWithin, Stands, run_tokens, runs_tokens}
-use Rattle.cweb_out.specs.Lent.{AreLent}
+use Rattle.cweb_out.proofs.Common.{◌≡◌, ◌≤◌, ◌<◌, ◌+◌, ◌-◌, ◌++◌, ◌∷◌, [], ℕ, List, length, take, drop, slice_range, true, false, refl, sym, ◌∙◌, ap, arith, subst, append_assoc, list_all, set, take-add, drop-drop, NameId, Token, all_tokens, Stored, names, uses, ends_below, list_ends, expand, name_text, defs_first, root_list, Frame, suffix, left, rank, top_rank, IsWithin, Stands, run_tokens, runs_tokens, AreLent}
 use Rattle.cweb_out.proofs.Owners.{OnTop}
 use Rattle.cweb_out.proofs.Passing.{put-all-lent, uses-lent}
 use Rattle.cweb_out.proofs.Stack.{Stands-push, Top, left_of-push}

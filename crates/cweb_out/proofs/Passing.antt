@@ -1,19 +1,5 @@
 -- Tokens that lend their texts: no frame is put on top for them, and printing them one after another.
-use Rattle.std.proofs.Common.{◌≡◌, ◌++◌, ◌∙◌, [], ◌∷◌, refl, sym, subst, ap, append_assoc, append-nil, ℕ, List, Bool, true, false, ◌&&◌, Some}
-use Rattle.std.specs.Prelude.{flat_map, is_some}
-use Rattle.std.specs.List.{list_all}
-use Rattle.cweb_store.specs.declared.names.NameId.{NameId}
-use Rattle.cweb_store.specs.Parts.{Token, Word, Number, Literal, Verbatim, Punct, Blank, Newline, Join, Defs, Name, Head, Tail, Mark}
-use Rattle.cweb_store.specs.Calls.{Stored}
-use Rattle.cweb_out.specs.Uses.{use_of, uses}
-use Rattle.cweb_out.specs.Expansion.{put}
-use Rattle.cweb_out.specs.Printing.{print}
-use Rattle.cweb_out.specs.declared.printer.left.Left.{Left}
-use Rattle.cweb_out.specs.declared.printer.Printer.{Printer}
-use Rattle.cweb_out.specs.Classes.{is_apart, leaves, left_by}
-use Rattle.cweb_out.specs.Lent.{AreLent, blank_where, is_lent, lent_text}
-use Rattle.cweb_out.specs.Printed.{kept_of, setting_of}
-use Rattle.cweb_out.specs.Gathering.{Gathers, MovesBy, PrintsBy}
+use Rattle.cweb_out.proofs.Common.{◌≡◌, ◌++◌, ◌∙◌, [], ◌∷◌, refl, sym, subst, ap, append_assoc, append-nil, ℕ, List, Bool, true, false, ◌&&◌, Some, flat_map, is_some, list_all, NameId, Token, Word, Number, Literal, Verbatim, Punct, Blank, Newline, Join, Defs, Name, Head, Tail, Mark, Stored, use_of, uses, put, print, Left, Printer, is_apart, leaves, left_by, AreLent, blank_where, is_lent, lent_text, kept_of, setting_of, Gathers, MovesBy, PrintsBy}
 use Rattle.cweb_out.proofs.Lending.{leaves-lent, print-lent}
 use Rattle.cweb_out.proofs.Ranks.{and-first}
 use Rattle.cweb_out.proofs.Steps.{leaves-push}

@@ -1,17 +1,5 @@
 -- Paths of names that wait, each in the text of the one before it.
-use Rattle.std.proofs.Common.{◌≡◌, Bool, true, false, ◌||◌, List, [], ◌∷◌, ◌++◌, refl, sym, ◌∙◌, ap, inl, inr, append-nil, append_assoc, Option, Some, None}
-use Rattle.std.specs.Prelude.{◌⊎◌}
-use Rattle.std.specs.List.{list_any}
-use Rattle.std.proofs.lemmas.Bool.Decides.{eqb_tells}
-use Rattle.std.proofs.lemmas.List.Folds.{list_any-append}
-use Rattle.cweb_store.specs.declared.names.NameId.{NameId}
-use Rattle.cweb_store.specs.Names.{id, is_id}
-use Rattle.cweb_store.specs.Calls.{Stored}
-use Rattle.cweb_out.specs.Uses.{joined}
-use Rattle.cweb_out.specs.Ranks.{has_rank}
-use Rattle.cweb_out.specs.Frames.{IsWithin}
-use Rattle.cweb_out.specs.declared.planning.search.Waiting.{Waiting}
-use Rattle.cweb_out.specs.Search.{AreNew, AreWithin, Begins, Chain, Looked, path_of}
+use Rattle.cweb_out.proofs.Common.{◌≡◌, Bool, true, false, ◌||◌, List, [], ◌∷◌, ◌++◌, refl, sym, ◌∙◌, ap, inl, inr, append-nil, append_assoc, Option, Some, None, ◌⊎◌, list_any, eqb_tells, list_any-append, NameId, id, is_id, Stored, joined, has_rank, IsWithin, Waiting, AreNew, AreWithin, Begins, Chain, Looked, path_of}
 use Rattle.cweb_out.proofs.Lookings.{looked-on}
 
 pub chain-push : (w : Stored) (path : List Waiting) (f : Waiting) (last : Option NameId)

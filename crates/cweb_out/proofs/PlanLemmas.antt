@@ -1,23 +1,9 @@
 -- What is due, by what was found.
-use Rattle.std.proofs.Common.{◌≡◌, ◌<◌, ◌+◌, ℕ, Bool, true, false, not, ◌&&◌, List, [], ◌∷◌, ◌++◌, refl, sym, ◌∙◌, ap, arith, length, take, get_or, Option, Some, None, map, inl, inr, nat_eq}
-use Rattle.std.specs.Prelude.{Ok, Err, find, option_map}
-use Rattle.std.specs.List.{list_all, list_any, after_last}
-use Rattle.std.specs.Str.{IsUtf8, is_utf8}
-use Rattle.std.proofs.lemmas.Str.{IsUtf8-from_is_utf8, is_utf8-from_IsUtf8}
-use Rattle.std.proofs.lemmas.Bool.Decides.{eqb_tells}
-use Rattle.std.proofs.lemmas.List.{take_more, map-append, length-map}
-use Rattle.cweb_store.specs.declared.names.NameId.{NameId}
+use Rattle.cweb_out.proofs.Common.{◌≡◌, ◌<◌, ◌+◌, ℕ, Bool, true, false, not, ◌&&◌, List, [], ◌∷◌, ◌++◌, refl, sym, ◌∙◌, ap, arith, length, take, get_or, Option, Some, None, map, inl, inr, nat_eq, Ok, Err, find, option_map, list_all, list_any, after_last, IsUtf8, is_utf8, IsUtf8-from_is_utf8, is_utf8-from_IsUtf8, eqb_tells, take_more, map-append, length-map, NameId, Stored, cycle_from, Planned, Refusal, bad_name, same_name, cycle, has_no_text, is_control, is_good_name, is_slash, names_no_file, name_at, output_name, output_of, outputs, planned, planned_apart, planned_ending, start_of, output_in, NamesAll, NamesOne, first_cycle, has_one, is_bad, is_endless, is_good_path, SettlesList, PlanFault}
 use Rattle.cweb_store.specs.Parts as parts
-use Rattle.cweb_store.specs.Calls.{Stored}
 use Rattle.cweb_store.proofs.PartLemmas.{numbers-some}
-use Rattle.cweb_out.specs.Cycles.{cycle_from}
 use Rattle.cweb_out.specs.Outputs as due
-use Rattle.cweb_out.specs.Outputs.{Planned, Refusal, bad_name, same_name, cycle, has_no_text, is_control, is_good_name, is_slash, names_no_file, name_at, output_name, output_of, outputs, planned, planned_apart, planned_ending, start_of}
-use Rattle.cweb_out.specs.Plans.{output_in}
-use Rattle.cweb_out.specs.Planning.{NamesAll, NamesOne, first_cycle, has_one, is_bad, is_endless, is_good_path}
-use Rattle.cweb_out.specs.Search.{SettlesList}
 use Rattle.cweb_out.specs.declared.planning.planned.Output.{Output}
-use Rattle.cweb_out.specs.declared.planning.fault.PlanFault.{PlanFault}
 use Rattle.cweb_out.specs.declared.planning.fault.PlanFault.TheVariants as fault
 use Rattle.cweb_out.proofs.Finds.{find-at}
 

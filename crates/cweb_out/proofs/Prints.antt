@@ -1,8 +1,5 @@
 -- What a call of a printer adds, by what it wrote.
-use Rattle.std.proofs.Common.{◌≡◌, ◌++◌, ◌∙◌, ap, List, ℕ}
-use Rattle.std.specs.Prelude.{Result, Ok, Err}
-use Rattle.cweb_out.specs.Writing.{Wrote}
-use Rattle.cweb_out.specs.Printed.{AddsBy}
+use Rattle.cweb_out.proofs.Common.{◌≡◌, ◌++◌, ◌∙◌, ap, List, ℕ, Result, Ok, Err, Wrote, AddsBy}
 
 pub adds_by : {A E : Type 0} (before after old new due : List ℕ) (r : Result A E)
     → after ≡ before ++ due → Wrote old new due r → AddsBy before after old new r

@@ -1,17 +1,6 @@
 -- More depth changes nothing: a rank is below the number of names.
-use Rattle.std.proofs.Common.{◌≡◌, ◌≤◌, ◌<◌, ◌+◌, ℕ, zero, suc, Bool, true, false, cond, ◌&&◌, ◌||◌, List, [], ◌∷◌, ◌++◌, refl, sym, ◌∙◌, ap, arith, length, inl, inr}
-use Rattle.std.specs.Prelude.{◌⊎◌, Option, Some, None, IfSome, option_to_list}
-use Rattle.std.specs.List.{list_all, list_any}
-use Rattle.std.proofs.lemmas.Bool.Decides.{eqb_tells}
-use Rattle.std.proofs.lemmas.List.Folds.{list_any-append}
-use Rattle.cweb_store.specs.declared.names.NameId.{NameId}
-use Rattle.cweb_store.specs.Names.{id, is_id}
-use Rattle.cweb_store.specs.Parts.{Token, Name}
-use Rattle.cweb_store.specs.Calls.{Stored}
+use Rattle.cweb_out.proofs.Common.{◌≡◌, ◌≤◌, ◌<◌, ◌+◌, ℕ, zero, suc, Bool, true, false, cond, ◌&&◌, ◌||◌, List, [], ◌∷◌, ◌++◌, refl, sym, ◌∙◌, ap, arith, length, inl, inr, ◌⊎◌, Option, Some, None, IfSome, option_to_list, list_all, list_any, eqb_tells, list_any-append, NameId, id, is_id, Token, Name, Stored, names, joined, uses, use_of, stands, ends_below, has_rank, AreNew}
 use Rattle.cweb_store.proofs.BoundLemmas.{standing-within}
-use Rattle.cweb_out.specs.Uses.{names, joined, uses, use_of, stands}
-use Rattle.cweb_out.specs.Ranks.{ends_below, has_rank}
-use Rattle.cweb_out.specs.Search.{AreNew}
 
 -- how many numbers below n pass a test
 abbrev pub counted : (ℕ → Bool) → ℕ → ℕ

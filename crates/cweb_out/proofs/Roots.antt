@@ -1,14 +1,6 @@
 -- In a plan that was made, the names that an output's list uses have ranks.
-use Rattle.std.proofs.Common.{◌≡◌, ◌<◌, ℕ, zero, suc, Bool, true, false, not, List, [], ◌∷◌, refl, sym, ◌∙◌, ap, subst, Option, Some, None, map, length, arith, cond, slice_index_or}
-use Rattle.std.specs.Prelude.{Result, Ok, Err, find, bytes_eq}
-use Rattle.std.proofs.lemmas.List.{get_or-map, length-map}
-use Rattle.cweb_store.specs.Calls.{Stored}
+use Rattle.cweb_out.proofs.Common.{◌≡◌, ◌<◌, ℕ, zero, suc, Bool, true, false, not, List, [], ◌∷◌, refl, sym, ◌∙◌, ap, subst, Option, Some, None, map, length, arith, cond, slice_index_or, Result, Ok, Err, find, bytes_eq, get_or-map, length-map, Stored, names, uses, list_ends, AreBelow, Output, Planned, Refusal, bad_name, same_name, cycle, outputs, root_list, output_of, output_name, name_at, is_good_name, planned_apart, planned_ending, has_no_text, start_of, root_at, IsPlanOf, cycle_from}
 use Rattle.cweb_store.specs.Names as spec
-use Rattle.cweb_out.specs.Uses.{names, uses}
-use Rattle.cweb_out.specs.Ranks.{list_ends}
-use Rattle.cweb_out.specs.Frames.{AreBelow}
-use Rattle.cweb_out.specs.Outputs.{Output, Planned, Refusal, bad_name, same_name, cycle, outputs, root_list, output_of, output_name, name_at, is_good_name, planned_apart, planned_ending, has_no_text, start_of, root_at, IsPlanOf}
-use Rattle.cweb_out.specs.Cycles.{cycle_from}
 
 abbrev outcome : {A : Type 0} → Option A → (A → Refusal) → Result Planned Refusal → Result Planned Refusal
 outcome found why r = elim found [ Some x ↦ Err (why x) | None ↦ r ]

@@ -1,20 +1,7 @@
 -- The definitions, computed on small webs.
-use Rattle.std.proofs.Common.{ℕ, ◌≡◌, refl, List, [], ◌∷◌, ◌++◌, Some, codes, true, false}
-use Rattle.std.specs.Prelude.{Err}
+use Rattle.cweb_out.proofs.Common.{ℕ, ◌≡◌, refl, List, [], ◌∷◌, ◌++◌, Some, codes, true, false, Err, Full, PartKind, Unnamed, Named, Occurrence, id, Token, Word, Number, Punct, Blank, Newline, Join, Defs, Name, Head, Tail, Mark, Stored, program, ends_below, list_ends, first_endless, name_rank, cycle_from, expand, IsCycle, cycle, planned_ending, Setting, print, file}
 use Rattle.std.specs.Fmt.{digits}
-use Rattle.cweb_store.specs.declared.names.How.TheVariants.{Full}
-use Rattle.cweb_store.specs.declared.parts.PartKind.{PartKind}
-use Rattle.cweb_store.specs.declared.parts.PartKind.TheVariants.{Unnamed, Named}
-use Rattle.cweb_store.specs.Names.{Occurrence, id}
-use Rattle.cweb_store.specs.Parts.{Part, Token, Word, Number, Punct, Blank, Newline, Join, Defs, Name, Head, Tail, Mark}
-use Rattle.cweb_store.specs.Calls.{Stored}
-use Rattle.cweb_out.specs.Uses.{program}
-use Rattle.cweb_out.specs.Ranks.{ends_below, list_ends, first_endless, name_rank}
-use Rattle.cweb_out.specs.Cycles.{cycle_from}
-use Rattle.cweb_out.specs.Expansion.{expand}
-use Rattle.cweb_out.specs.Laws.{IsCycle}
-use Rattle.cweb_out.specs.Outputs.{cycle, planned_ending}
-use Rattle.cweb_out.specs.Printing.{Setting, print, file}
+use Rattle.cweb_store.specs.Parts.{Part}
 
 abbrev full : List ℕ → Occurrence
 full text = record { text = text; how = Full; is_file = false }

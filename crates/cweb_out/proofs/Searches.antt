@@ -1,23 +1,6 @@
 -- The steps of the search, and what it answers of an output.
-use Rattle.std.proofs.Common.{◌≡◌, ◌<◌, suc, Bool, true, false, not, List, [], ◌∷◌, ◌++◌, refl, sym, ◌∙◌, ap, arith, length, subst, Option, Some, None}
-use Rattle.std.specs.Prelude.{Result, Ok, Err, IfOk, option_map, find, sum_by}
-use Rattle.std.specs.List.{list_all, list_any}
-use Rattle.std.proofs.Math.ListN.{set}
-use Rattle.cweb_store.specs.declared.names.NameId.{NameId}
-use Rattle.cweb_store.specs.Names.{is_id}
-use Rattle.cweb_store.specs.Parts.{Token}
-use Rattle.cweb_store.specs.Calls.{Stored}
-use Rattle.cweb_out.specs.Outputs.{defs_first, root_list}
-use Rattle.cweb_store.specs.Parts.{has_defs_code}
-use Rattle.cweb_out.specs.Uses.{names, program, joined, uses}
-use Rattle.cweb_out.specs.Ranks.{has_rank}
-use Rattle.cweb_out.specs.Cycles.{cycle_from}
-use Rattle.cweb_out.specs.Frames.{IsWithin, suffix}
-use Rattle.cweb_out.specs.declared.expander.frame.Frame.{Frame}
+use Rattle.cweb_out.proofs.Common.{◌≡◌, ◌<◌, suc, Bool, true, false, not, List, [], ◌∷◌, ◌++◌, refl, sym, ◌∙◌, ap, arith, length, subst, Option, Some, None, Result, Ok, Err, IfOk, option_map, find, sum_by, list_all, list_any, set, NameId, is_id, Token, Stored, defs_first, root_list, has_defs_code, names, program, joined, uses, has_rank, cycle_from, IsWithin, suffix, Frame, Waits, Ranked, Waiting, Begins, Chain, Fits, Goes, IsEndless, Settles, SettlesList, Waited, Looked, Meets, is_marked, mark_of, marks_left, path_of}
 use Rattle.cweb_out.specs.declared.planning.search.Mark.{Mark}
-use Rattle.cweb_out.specs.declared.planning.search.Mark.TheVariants.{Waits, Ranked}
-use Rattle.cweb_out.specs.declared.planning.search.Waiting.{Waiting}
-use Rattle.cweb_out.specs.Search.{Begins, Chain, Fits, Goes, IsEndless, Settles, SettlesList, Waited, Looked, Meets, is_marked, mark_of, marks_left, path_of}
 use Rattle.cweb_out.proofs.Ranks.{rank-grows, rank_by_uses}
 use Rattle.cweb_out.proofs.Circles.{looked-endless}
 use Rattle.cweb_out.proofs.Lookings.{looked-all, looked-more}

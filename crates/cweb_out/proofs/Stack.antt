@@ -1,16 +1,5 @@
 -- What a stack gives, and its bounds, as a frame is put on top and taken away.
-use Rattle.std.proofs.Common.{◌≡◌, ◌≤◌, ◌<◌, ◌+◌, ◌-◌, ℕ, zero, suc, [], ◌∷◌, ◌++◌, List, length, refl, sym, ◌∙◌, ap, arith, append_assoc, append-nil, length-append, true, false, Bool, ◌&&◌, subst}
-use Rattle.std.specs.Prelude.{sum_by}
-use Rattle.std.specs.List.{list_all}
-use Rattle.std.proofs.lemmas.List.Sums.{sum_by-cons}
-use Rattle.cweb_store.specs.declared.names.NameId.{NameId}
-use Rattle.cweb_store.specs.Parts.{Token}
-use Rattle.cweb_store.specs.Calls.{Stored}
-use Rattle.cweb_out.specs.Uses.{names, use_of, uses, joined}
-use Rattle.cweb_out.specs.Ranks.{ends_below}
-use Rattle.cweb_out.specs.Expansion.{expand, name_text, put}
-use Rattle.cweb_out.specs.declared.expander.frame.Frame.{Frame}
-use Rattle.cweb_out.specs.Frames.{suffix, left_of, work_of, list_work, AreOwned, AreRanked, AreBelow, IsWithin, Stands, UsesLower, Advances, left, level, name_work, token_work}
+use Rattle.cweb_out.proofs.Common.{◌≡◌, ◌≤◌, ◌<◌, ◌+◌, ◌-◌, ℕ, zero, suc, [], ◌∷◌, ◌++◌, List, length, refl, sym, ◌∙◌, ap, arith, append_assoc, append-nil, length-append, true, false, Bool, ◌&&◌, subst, sum_by, list_all, sum_by-cons, NameId, Token, Stored, names, use_of, uses, joined, ends_below, expand, name_text, put, Frame, suffix, left_of, work_of, list_work, AreOwned, AreRanked, AreBelow, IsWithin, Stands, UsesLower, Advances, left, level, name_work, token_work}
 use Rattle.cweb_out.proofs.Owners.{OnTop, AreOwned-pop, AreOwned-push}
 
 pub left_of-push : (w : Stored) (k : ℕ) (fs : List Frame) (f : Frame)

@@ -1,18 +1,5 @@
 -- What a stack gives behind a use of a name, and behind one that gives nothing.
-use Rattle.std.proofs.Common.{◌≡◌, ◌<◌, ◌+◌, ◌-◌, ℕ, zero, suc, [], ◌∷◌, ◌++◌, List, length, refl, sym, ◌∙◌, ap, arith, Some, true, false, ◌&&◌, subst}
-use Rattle.std.specs.Prelude.{All, option_to_list}
-use Rattle.std.specs.List.{list_all}
-use Rattle.cweb_store.specs.declared.names.NameId.{NameId}
-use Rattle.cweb_store.specs.declared.names.NameRef.{NameRef}
-use Rattle.cweb_store.specs.declared.parts.Part.{Part}
-use Rattle.cweb_store.specs.Parts.{Name, all_tokens}
-use Rattle.cweb_store.specs.Calls.{Stored}
-use Rattle.cweb_out.specs.Uses.{names, use_of, uses, stands, joined}
-use Rattle.cweb_out.specs.Ranks.{ends_below}
-use Rattle.cweb_out.specs.Expansion.{expand, name_text, put, text_for}
-use Rattle.cweb_out.specs.Outputs.{root_list}
-use Rattle.cweb_out.specs.declared.expander.frame.Frame.{Frame}
-use Rattle.cweb_out.specs.Frames.{suffix, runs_tokens, work_of, list_work, AreRanked, AreBelow, IsRun, IsWithin, Stands, UsesLower, Enters, left, level, name_work, token_work, work_for}
+use Rattle.cweb_out.proofs.Common.{◌≡◌, ◌<◌, ◌+◌, ◌-◌, ℕ, zero, suc, [], ◌∷◌, ◌++◌, List, length, refl, sym, ◌∙◌, ap, arith, Some, true, false, ◌&&◌, subst, All, option_to_list, list_all, NameId, NameRef, Part, Name, all_tokens, Stored, names, use_of, uses, stands, joined, ends_below, expand, name_text, put, text_for, root_list, Frame, suffix, runs_tokens, work_of, list_work, AreRanked, AreBelow, IsRun, IsWithin, Stands, UsesLower, Enters, left, level, name_work, token_work, work_for}
 use Rattle.cweb_out.proofs.Owners.{OnTop-entered, OnTop-first}
 use Rattle.cweb_out.proofs.Stack.{left_of-push, work_of-push, Top, AreBelow-at, and-left, Stands-push, rank-step}
 

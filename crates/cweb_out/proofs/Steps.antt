@@ -1,13 +1,6 @@
 -- Printing token by token: what each adds, by what was kept of those before it.
-use Rattle.std.proofs.Common.{◌≡◌, ℕ, Bool, true, false, ◌&&◌, ◌||◌, not, cond, List, [], ◌∷◌, ◌++◌, refl, sym, ◌∙◌, ap, append_assoc, append-nil, Option, None, Some, codes, nat_eq}
-use Rattle.std.specs.Prelude.{fold}
-use Rattle.cweb_store.specs.Parts.{Token, Word, Number, Literal, Verbatim, Punct, Blank, Newline, Join, Defs, Name, Head, Tail, Mark}
-use Rattle.cweb_out.specs.Spacing.{is_operator, is_one_of, is_wordlike, is_literal, is_number, is_comment, begins_with, last_is, are_apart, sep}
-use Rattle.cweb_out.specs.Printing.{macro_text, printed, Setting, stays_joined, is_layout, kept, print_after, print, file, file_text, last_of, left_after, starts_line, begin_line, macro_lines, mark_line, file_name}
-use Rattle.cweb_out.specs.declared.printer.class.Class.{Class}
+use Rattle.cweb_out.proofs.Common.{◌≡◌, ℕ, Bool, true, false, ◌&&◌, ◌||◌, not, cond, List, [], ◌∷◌, ◌++◌, refl, sym, ◌∙◌, ap, append_assoc, append-nil, Option, None, Some, codes, nat_eq, fold, Token, Word, Number, Literal, Verbatim, Punct, Blank, Newline, Join, Defs, Name, Head, Tail, Mark, is_operator, is_one_of, is_wordlike, is_literal, is_number, is_comment, begins_with, last_is, are_apart, sep, macro_text, printed, Setting, stays_joined, is_layout, kept, print_after, print, file, file_text, last_of, left_after, starts_line, begin_line, macro_lines, mark_line, file_name, Class, Left, class_by, class_of, class_is_line_start, is_apart, separator, left_by, at_start, leaves, added, all_added, begin_by, file_by, macro_by}
 use Rattle.cweb_out.specs.declared.printer.class.Class.TheVariants as class
-use Rattle.cweb_out.specs.declared.printer.left.Left.{Left}
-use Rattle.cweb_out.specs.Classes.{class_by, class_of, class_is_line_start, is_apart, separator, left_by, at_start, leaves, added, all_added, begin_by, file_by, macro_by}
 use Rattle.cweb_out.proofs.Lasts.{point-operator}
 
 -- the tests of a punctuator on the left, by its class

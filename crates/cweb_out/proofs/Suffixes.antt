@@ -1,13 +1,6 @@
 -- How a frame's list goes on.
-use Rattle.std.proofs.Common.{◌≡◌, ◌≤◌, ◌<◌, ◌+◌, ◌-◌, ℕ, [], ◌∷◌, ◌++◌, List, Some, length, sym, ◌∙◌, ap, arith, take, drop, slice_range, slice_index_or, false, zero, suc, add-one, subst}
-use Rattle.std.specs.Prelude.{All, slice_get}
+use Rattle.cweb_out.proofs.Common.{◌≡◌, ◌≤◌, ◌<◌, ◌+◌, ◌-◌, ℕ, [], ◌∷◌, ◌++◌, List, Some, length, sym, ◌∙◌, ap, arith, take, drop, slice_range, slice_index_or, false, zero, suc, add-one, subst, All, slice_get, Part, Token, all_tokens, Stored, Frame, defs_first, suffix, IsRun, IsWithin, run_tokens, runs_tokens}
 use Rattle.std.proofs.Math.Seq.{drop-cons}
-use Rattle.cweb_store.specs.declared.parts.Part.{Part}
-use Rattle.cweb_store.specs.Parts.{Token, all_tokens}
-use Rattle.cweb_store.specs.Calls.{Stored}
-use Rattle.cweb_out.specs.declared.expander.frame.Frame.{Frame}
-use Rattle.cweb_out.specs.Outputs.{defs_first}
-use Rattle.cweb_out.specs.Frames.{suffix, IsRun, IsWithin, run_tokens, runs_tokens}
 
 pub slice_get-or : (ts : List Token) (i : ℕ) (t : Token) → slice_get ts i ≡ Some t → t ≡ slice_index_or ts i t
 slice_get-or [] i t h = cc

@@ -1,13 +1,5 @@
 -- The top frame of a stack, read and written in place. It is the last of the list.
-use Rattle.std.proofs.Common.{◌≡◌, ◌<◌, ◌≤◌, ◌+◌, ◌-◌, ◌++◌, ◌∷◌, [], ℕ, List, length, take, get_or, refl, sym, ◌∙◌, ap, arith, subst}
-use Rattle.std.proofs.Math.ListN.{set}
-use Rattle.std.proofs.Math.Seq.{take-length}
-use Rattle.std.proofs.lemmas.List.{length-set, take_more, take_more_set}
-use Rattle.cweb_store.specs.Parts.{Token}
-use Rattle.cweb_store.specs.Calls.{Stored}
-use Rattle.cweb_out.specs.Uses.{names, use_of}
-use Rattle.cweb_out.specs.declared.expander.frame.Frame.{Frame}
-use Rattle.cweb_out.specs.Frames.{suffix, left, work_of, AreBelow, IsWithin, Stands, Advances, rank, top_rank}
+use Rattle.cweb_out.proofs.Common.{◌≡◌, ◌<◌, ◌≤◌, ◌+◌, ◌-◌, ◌++◌, ◌∷◌, [], ℕ, List, length, take, get_or, refl, sym, ◌∙◌, ap, arith, subst, set, take-length, length-set, take_more, take_more_set, Token, Stored, names, use_of, Frame, suffix, left, work_of, AreBelow, IsWithin, Stands, Advances, rank, top_rank}
 use Rattle.cweb_out.proofs.Owners.{OnTop, OnTop-next, top_rank-push}
 use Rattle.cweb_out.proofs.Stack.{Top, Stands-pop, Stands-push, Top-next, advances, left-ended, work-ended}
 

@@ -1,21 +1,6 @@
 -- The marks of names, as they begin to wait and get their rank.
-use Rattle.std.proofs.Common.{◌≡◌, ◌≢◌, ◌<◌, true, false, ◌||◌, List, [], ◌∷◌, ◌++◌, sym, ◌∙◌, ap, arith, length, inl, inr, subst}
-use Rattle.std.specs.Prelude.{sum_by}
-use Rattle.std.specs.List.{list_any}
-use Rattle.std.proofs.Math.ListN.{set}
-use Rattle.std.proofs.lemmas.Bool.Decides.{eqb_tells}
-use Rattle.std.proofs.lemmas.List.{get_or-set_same, get_or-set_other, length-set, get_or_past}
-use Rattle.std.proofs.lemmas.List.Sums.{sum_by-set}
-use Rattle.cweb_store.specs.declared.names.NameId.{NameId}
-use Rattle.cweb_store.specs.Names.{is_id}
-use Rattle.cweb_store.specs.Calls.{Stored}
-use Rattle.cweb_out.specs.Uses.{names, joined}
-use Rattle.cweb_out.specs.Ranks.{has_rank}
-use Rattle.cweb_out.specs.Frames.{IsWithin, suffix}
+use Rattle.cweb_out.proofs.Common.{◌≡◌, ◌≢◌, ◌<◌, true, false, ◌||◌, List, [], ◌∷◌, ◌++◌, sym, ◌∙◌, ap, arith, length, inl, inr, subst, sum_by, list_any, set, eqb_tells, get_or-set_same, get_or-set_other, length-set, get_or_past, sum_by-set, NameId, is_id, Stored, names, joined, has_rank, IsWithin, suffix, Unseen, Waits, Ranked, Waiting, AreNew, Fits, Waited, mark_of, marks_left, path_of}
 use Rattle.cweb_out.specs.declared.planning.search.Mark.{Mark}
-use Rattle.cweb_out.specs.declared.planning.search.Mark.TheVariants.{Unseen, Waits, Ranked}
-use Rattle.cweb_out.specs.declared.planning.search.Waiting.{Waiting}
-use Rattle.cweb_out.specs.Search.{AreNew, Fits, Waited, mark_of, marks_left, path_of}
 use Rattle.cweb_out.proofs.Ranks.{either, on-front, on-last, or-left, or-right}
 use Rattle.cweb_out.proofs.Lookings.{looked-start}
 use Rattle.cweb_out.proofs.Paths.{new-pop, new-push, not-true, on-pushed, path-push, same-id, split-or, within-pop, within-push}

@@ -1,17 +1,6 @@
 -- The walk along a path that comes back to itself is its cycle.
-use Rattle.std.proofs.Common.{◌≡◌, ◌≤◌, ◌<◌, ◌+◌, ℕ, zero, suc, Bool, true, false, not, cond, List, [], ◌∷◌, ◌++◌, refl, sym, ◌∙◌, ap, arith, length, inl, inr, append-nil, append_assoc, drop, take, subst, Some, get_or}
-use Rattle.std.specs.Prelude.{◌⊎◌}
-use Rattle.std.specs.List.{list_any, position_or_len}
-use Rattle.std.proofs.lemmas.List.{length-map, take_more}
-use Rattle.cweb_store.specs.declared.names.NameId.{NameId}
-use Rattle.cweb_store.specs.Names.{is_id}
-use Rattle.cweb_store.specs.Calls.{Stored}
-use Rattle.cweb_out.specs.Uses.{names, joined}
-use Rattle.cweb_out.specs.Ranks.{has_rank, first_endless}
-use Rattle.cweb_out.specs.Cycles.{walk, cycle_from}
+use Rattle.cweb_out.proofs.Common.{◌≡◌, ◌≤◌, ◌<◌, ◌+◌, ℕ, zero, suc, Bool, true, false, not, cond, List, [], ◌∷◌, ◌++◌, refl, sym, ◌∙◌, ap, arith, length, inl, inr, append-nil, append_assoc, drop, take, subst, Some, get_or, ◌⊎◌, list_any, position_or_len, length-map, take_more, NameId, is_id, Stored, names, joined, has_rank, first_endless, walk, cycle_from, Waiting, AreNew, Begins, Chain, Fits, IsEndless, Looked, back_to, next_of, path_of, with_next}
 use Rattle.cweb_out.specs.declared.planning.search.Mark.{Mark}
-use Rattle.cweb_out.specs.declared.planning.search.Waiting.{Waiting}
-use Rattle.cweb_out.specs.Search.{AreNew, Begins, Chain, Fits, IsEndless, Looked, back_to, next_of, path_of, with_next}
 use Rattle.cweb_out.proofs.Ranks.{few, id-same, or-left, or-right}
 use Rattle.cweb_out.proofs.Circles.{chain-endless, looked-endless, next-on, next-some}
 use Rattle.cweb_out.proofs.Paths.{path-push}

@@ -1,14 +1,5 @@
 -- What stands at the front of a text is what the first rule that fits names.
-use Rattle.std.proofs.Common.{◌≡◌, ℕ, Bool, true, false, ◌&&◌, List, refl}
-use Rattle.std.specs.Prelude.{codes, if◌then◌else◌}
-use Rattle.cweb_rules.specs.Bytes.{is_blank, is_line_end, is_word_byte, begins, first_is, starts_section}
-use Rattle.cweb_rules.specs.Fronts.{c_front, text_front, starts_raw, starts_literal, starts_include}
-use Rattle.cweb_rules.specs.Kinds.{Front}
-use Rattle.cweb_rules.specs.Rules.{c_rule, c_front_by, text_rule, text_front_by}
-use Rattle.cweb_rules.specs.Tables.{starts_number}
-use Rattle.cweb_rules.specs.declared.effect.Effect.{Effect}
-use Rattle.cweb_rules.specs.declared.rule.Rule.{Rule}
-use Rattle.cweb_rules.specs.declared.rule.TextRule.{TextRule}
+use Rattle.cweb_rules.proofs.Common.{◌≡◌, ℕ, Bool, true, false, ◌&&◌, List, refl, codes, if◌then◌else◌, is_blank, is_line_end, is_word_byte, begins, first_is, starts_section, c_front, text_front, starts_raw, starts_literal, starts_include, Front, c_rule, c_front_by, text_rule, text_front_by, starts_number, Effect, Rule, TextRule}
 
 -- one test more
 by_test : {R : Type 0} (f : R → Front) (v : Bool) (x : R) (y : Front) (z : R)

@@ -1,17 +1,6 @@
 -- Which rule of C text was taken, by the kind that it names.
-use Rattle.std.proofs.Common.{◌≡◌, ℕ, Bool, true, false, List, [], ◌∷◌, Option, Some, None, refl, sym, subst}
-use Rattle.std.specs.Prelude.{codes, if◌then◌else◌, drop}
-use Rattle.std.specs.List.{prefix_len}
-use Rattle.cweb_rules.specs.Bytes.{is_blank, is_line_end, is_word_byte, begins, first_is, starts_section}
-use Rattle.cweb_rules.specs.Codes.{in_c}
-use Rattle.cweb_rules.specs.declared.effect.Effect.{Effect}
-use Rattle.cweb_rules.specs.declared.effect.Effect.TheVariants.{Nothing, Define, Format, Program, Named, InsertDefs, Joins, GiveAt, Faulty}
+use Rattle.cweb_rules.proofs.Common.{◌≡◌, ℕ, Bool, true, false, List, [], ◌∷◌, Option, Some, None, refl, sym, subst, codes, if◌then◌else◌, drop, prefix_len, is_blank, is_line_end, is_word_byte, begins, first_is, starts_section, in_c, Effect, Nothing, Define, Format, Program, Named, InsertDefs, Joins, GiveAt, Faulty, letter, Transliteration, Kind, Code, Section, Blanks, LineEnd, Quoted, Identifier, Numeral, Punctuator, Front, front, listed, longest, number_len, starts_number, section_at, letter_is, code_front, code_at, comment_at, line_comment_at, starts_literal, literal_at, starts_raw, raw_at, c_front}
 use Rattle.cweb_rules.specs.declared.effect.Effect.TheVariants as effect
-use Rattle.cweb_rules.specs.Constants.{letter}
-use Rattle.cweb_rules.specs.declared.constants.Transliteration.{Transliteration}
-use Rattle.cweb_rules.specs.Kinds.{Kind, Code, Section, Blanks, LineEnd, Quoted, Identifier, Numeral, Punctuator, Front, front}
-use Rattle.cweb_rules.specs.Tables.{listed, longest, number_len, starts_number}
-use Rattle.cweb_rules.specs.Fronts.{section_at, letter_is, code_front, code_at, comment_at, line_comment_at, starts_literal, literal_at, starts_raw, raw_at, c_front}
 
 pub data Rule : Type 0 where
   ForLiteral ForWord ForNumber ForPunct ForCode Other : Rule

@@ -1,15 +1,6 @@
 -- Where nothing is seen that opens an item, none stays open.
-use Rattle.std.proofs.Common.{◌≡◌, ◌<◌, ℕ, ◌+◌, Bool, true, false, ◌&&◌, ◌||◌, ◌==◌, List, [], ◌∷◌, refl, ap, sym, ◌∙◌, arith}
-use Rattle.std.specs.Prelude.{if◌then◌else◌, codes, nat_le}
-use Rattle.std.specs.List.{list_any}
-use Rattle.std.proofs.lemmas.Bool.{eqb-true, leb-true}
-use Rattle.cweb_rules.specs.Bytes.{begins, is_one_of, is_between, lower, first_is, is_blank, is_line_end, starts_section}
-use Rattle.cweb_rules.specs.declared.effect.Effect.{Effect}
-use Rattle.cweb_rules.specs.declared.effect.Effect.TheVariants.{Nothing, Define, Format, Program, Named, InsertDefs, Joins, GiveAt, Faulty}
-use Rattle.cweb_rules.specs.Codes.{Row, table, row_of, in_limbo, in_text, in_macro, in_c}
+use Rattle.cweb_rules.proofs.Common.{◌≡◌, ◌<◌, ℕ, ◌+◌, Bool, true, false, ◌&&◌, ◌||◌, ◌==◌, List, [], ◌∷◌, refl, ap, sym, ◌∙◌, arith, if◌then◌else◌, codes, nat_le, list_any, eqb-true, leb-true, begins, is_one_of, is_between, lower, first_is, is_blank, is_line_end, starts_section, Effect, Nothing, Define, Format, Program, Named, InsertDefs, Joins, GiveAt, Faulty, Row, table, row_of, in_limbo, in_text, in_macro, in_c, starts_raw, starts_literal, opens_effect, opens_code, opens_comment, opens_raw, opens_literal, c_opens, text_opens}
 use Rattle.cweb_rules.specs.declared.effect.Effect.TheVariants as effect
-use Rattle.cweb_rules.specs.Fronts.{starts_raw, starts_literal}
-use Rattle.cweb_rules.specs.Lines.{opens_effect, opens_code, opens_comment, opens_raw, opens_literal, c_opens, text_opens}
 use Rattle.cweb_rules.proofs.Seams.{both}
 
 abbrev pub is_named : Effect → Bool

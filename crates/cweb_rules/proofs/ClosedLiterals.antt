@@ -1,15 +1,5 @@
 -- A literal ends by itself.
-use Rattle.std.proofs.Common.{◌≡◌, ℕ, ◌+◌, ◌-◌, ◌<◌, ◌≤◌, suc, zero, Bool, true, false, cond, ◌&&◌, ◌||◌, ◌==◌, List, [], ◌∷◌, ◌++◌, length, take, drop, refl, ap, sym, ◌∙◌, subst, arith}
-use Rattle.std.specs.Prelude.{codes, if◌then◌else◌}
-use Rattle.std.proofs.lemmas.Bool.{eqb-true}
-use Rattle.cweb_rules.specs.Bytes.{begins, at_line_end}
-use Rattle.cweb_rules.specs.Codes.{in_c}
-use Rattle.cweb_rules.specs.Cut.{Reach, reach_in, with_unit, size_of}
-use Rattle.cweb_rules.specs.declared.look.Look.{Look}
-use Rattle.cweb_rules.specs.declared.look.Look.TheVariants.{Goes, Ends}
-use Rattle.cweb_rules.specs.Items.{literal, look_in_literal}
-use Rattle.cweb_rules.specs.declared.end.End.TheVariants.{Closed, Cut}
-use Rattle.cweb_rules.specs.Fronts.{c_front, literal_at, quoted, is_quoted, literal_prefix, starts_literal, quote_of, starts_raw, raw_at}
+use Rattle.cweb_rules.proofs.Common.{◌≡◌, ℕ, ◌+◌, ◌-◌, ◌<◌, ◌≤◌, suc, zero, Bool, true, false, cond, ◌&&◌, ◌||◌, ◌==◌, List, [], ◌∷◌, ◌++◌, length, take, drop, refl, ap, sym, ◌∙◌, subst, arith, codes, if◌then◌else◌, eqb-true, begins, at_line_end, in_c, Reach, reach_in, with_unit, size_of, Look, Goes, Ends, literal, look_in_literal, Closed, Cut, c_front, literal_at, quoted, is_quoted, literal_prefix, starts_literal, quote_of, starts_raw, raw_at}
 use Rattle.cweb_rules.proofs.Chosen.{Passed, passed_front, after_literals}
 use Rattle.cweb_rules.proofs.Raws.{drop_over, quoted_stays, raw_stays, ends_raw}
 use Rattle.cweb_rules.proofs.Joins.{and_false, both}

@@ -1,17 +1,5 @@
 -- A section comment ends by itself.
-use Rattle.std.proofs.Common.{◌≡◌, ℕ, ◌+◌, ◌-◌, Bool, true, false, cond, ◌&&◌, ◌==◌, not, List, [], ◌∷◌, ◌++◌, length, take, map, refl, ap, ◌∙◌}
-use Rattle.std.specs.Prelude.{codes}
-use Rattle.std.specs.List.{list_all, flat_map}
-use Rattle.cweb_rules.specs.Bytes.{begins}
-use Rattle.cweb_rules.specs.Codes.{in_c}
-use Rattle.cweb_rules.specs.Cut.{Reach, reach_in, with_unit, size_of}
-use Rattle.cweb_rules.specs.declared.look.Look.{Look}
-use Rattle.cweb_rules.specs.declared.look.Look.TheVariants.{Goes, Ends}
-use Rattle.cweb_rules.specs.Items.{look_in_comment}
-use Rattle.cweb_rules.specs.declared.end.End.TheVariants.{Closed, Cut}
-use Rattle.cweb_rules.specs.Follows.{is_quiet}
-use Rattle.cweb_rules.specs.Fronts.{c_front}
-use Rattle.cweb_rules.specs.Kinds.{front, Comment}
+use Rattle.cweb_rules.proofs.Common.{◌≡◌, ℕ, ◌+◌, ◌-◌, Bool, true, false, cond, ◌&&◌, ◌==◌, not, List, [], ◌∷◌, ◌++◌, length, take, map, refl, ap, ◌∙◌, codes, list_all, flat_map, begins, in_c, Reach, reach_in, with_unit, size_of, Look, Goes, Ends, look_in_comment, Closed, Cut, is_quiet, c_front, front, Comment}
 use Rattle.cweb_rules.proofs.Joins.{both, unlike}
 use Rattle.cweb_rules.proofs.TokensStay.{no_section}
 

@@ -1,25 +1,6 @@
 -- What the rules of codes, comments and literals name stands in the text, and its bytes pay for what it gives.
-use Rattle.std.proofs.Common.{◌≡◌, ◌≤◌, ◌<◌, ℕ, zero, suc, ◌+◌, Bool, true, false, ◌||◌, ◌&&◌, List, [], ◌∷◌, ◌++◌, Option, Some, None, length, take, drop, refl, ap, arith, length-append}
-use Rattle.std.specs.Prelude.{if◌then◌else◌, nat_lt, nat_le, codes}
-use Rattle.std.specs.List.{flat_map, prefix_len}
-use Rattle.std.proofs.lemmas.Grind.{flat_map-append}
-use Rattle.std.proofs.lemmas.List.{length-drop, length-take-le}
-use Rattle.std.proofs.lemmas.List.Sums.{prefix_len-le-length}
-use Rattle.cweb_rules.specs.declared.fault.ScanKind.TheVariants.{ImproperHexNumber}
-use Rattle.cweb_rules.specs.Bytes.{begins, starts_section, is_line_end, is_delimiter}
-use Rattle.cweb_rules.specs.declared.effect.Effect.{Effect}
-use Rattle.cweb_rules.specs.declared.effect.Effect.TheVariants.{Nothing, Define, Format, Program, Named, InsertDefs, Joins, GiveAt, Faulty}
+use Rattle.cweb_rules.proofs.Common.{◌≡◌, ◌≤◌, ◌<◌, ℕ, zero, suc, ◌+◌, Bool, true, false, ◌||◌, ◌&&◌, List, [], ◌∷◌, ◌++◌, Option, Some, None, length, take, drop, refl, ap, arith, length-append, if◌then◌else◌, nat_lt, nat_le, codes, flat_map, prefix_len, flat_map-append, length-drop, length-take-le, prefix_len-le-length, ImproperHexNumber, begins, starts_section, is_line_end, is_delimiter, Effect, Nothing, Define, Format, Program, Named, InsertDefs, Joins, GiveAt, Faulty, letter, constant, Transliteration, Reach, body, size_of, End, Cut, control_text, name, literal, included_name, look_in_control, look_in_name, look_in_literal, look_in_include, look_in_raw, raw_literal, Kind, Skipped, Section, Code, Letter, ControlText, Verbatim, Constant, Occurrence, Comment, Quoted, Front, front, Context, section_at, control_at, verbatim_at, constant_at, letter_is, letter_at, sign_after, name_at, code_front, code_at, text_front, is_quoted, literal_prefix, starts_literal, quoted, quote_of, literal_at, raw_prefix, has_delimiter, starts_raw, delimiter, closing_sign, raw_at, include_at, at_line_ends, Pays, Fair}
 use Rattle.cweb_rules.specs.declared.effect.Effect.TheVariants as effect
-use Rattle.cweb_rules.specs.Constants.{letter, constant}
-use Rattle.cweb_rules.specs.declared.constants.Transliteration.{Transliteration}
-use Rattle.cweb_rules.specs.Cut.{Reach, body, size_of}
-use Rattle.cweb_rules.specs.declared.end.End.{End}
-use Rattle.cweb_rules.specs.declared.end.End.TheVariants.{Cut}
-use Rattle.cweb_rules.specs.Items.{control_text, name, literal, included_name, look_in_control, look_in_name, look_in_literal, look_in_include, look_in_raw, raw_literal}
-use Rattle.cweb_rules.specs.Kinds.{Kind, Skipped, Section, Code, Letter, ControlText, Verbatim, Constant, Occurrence, Comment, Quoted, Front, front}
-use Rattle.cweb_rules.specs.declared.context.Context.{Context}
-use Rattle.cweb_rules.specs.Fronts.{section_at, control_at, verbatim_at, constant_at, letter_is, letter_at, sign_after, name_at, code_front, code_at, text_front, is_quoted, literal_prefix, starts_literal, quoted, quote_of, literal_at, raw_prefix, has_delimiter, starts_raw, delimiter, closing_sign, raw_at, include_at}
-use Rattle.cweb_rules.specs.Pays.{at_line_ends, Pays, Fair}
 use Rattle.cweb_rules.proofs.Sizes.{take-at_most, begins-size, units-text, reach-size, control-within, name-within, literal-within, include-within, raw-within, sign_after-size}
 use Rattle.cweb_rules.proofs.TokenSizes.{IsShort, constant-size, IsLetter, letter-size}
 

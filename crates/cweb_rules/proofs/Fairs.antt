@@ -1,21 +1,5 @@
 -- What a rule names stands in the text, and its bytes pay for what it gives.
-use Rattle.std.proofs.Common.{◌≡◌, ◌≤◌, ℕ, ◌+◌, Bool, true, false, cond, ◌||◌, ◌&&◌, ◌==◌, List, [], ◌∷◌, length, take, drop, refl, ap, arith}
-use Rattle.std.specs.Prelude.{nat_le, codes}
-use Rattle.std.specs.List.{prefix_len}
-use Rattle.std.proofs.lemmas.List.Sums.{prefix_len-le-length}
-use Rattle.cweb_files.specs.declared.place.Place.{Place}
-use Rattle.cweb_rules.specs.Bytes.{begins, starts_section, at_line_end, is_line_end, is_blank, is_digit, is_letter, is_word_byte, is_one_of}
-use Rattle.cweb_rules.specs.declared.effect.Effect.{Effect}
-use Rattle.cweb_rules.specs.Codes.{in_limbo, in_text, in_macro, in_c}
-use Rattle.cweb_rules.specs.declared.end.End.TheVariants.{Closed, Cut}
-use Rattle.cweb_rules.specs.Items.{comment, line_comment, look_in_comment}
-use Rattle.cweb_rules.specs.Kinds.{Kind, Skipped, Section, Code, Letter, ControlText, Verbatim, Constant, Occurrence, Blanks, LineEnd, Comment, Quoted, Defined, Identifier, Numeral, Punctuator, front}
-use Rattle.cweb_rules.specs.Tables.{listed, longest, number_len, goes_on_number, starts_number}
-use Rattle.cweb_rules.specs.declared.context.Context.{Context}
-use Rattle.cweb_rules.specs.declared.context.Context.TheVariants.{Limbo, TeX, Definition, Macro, CText}
-use Rattle.cweb_rules.specs.Fronts.{starts_literal, starts_raw, starts_include, c_front, macro_front, head_as}
-use Rattle.cweb_rules.specs.Fronts.{front_in}
-use Rattle.cweb_rules.specs.Pays.{Pays, Fair}
+use Rattle.cweb_rules.proofs.Common.{◌≡◌, ◌≤◌, ℕ, ◌+◌, Bool, true, false, cond, ◌||◌, ◌&&◌, ◌==◌, List, [], ◌∷◌, length, take, drop, refl, ap, arith, nat_le, codes, prefix_len, prefix_len-le-length, Place, begins, starts_section, at_line_end, is_line_end, is_blank, is_digit, is_letter, is_word_byte, is_one_of, Effect, in_limbo, in_text, in_macro, in_c, Closed, Cut, comment, line_comment, look_in_comment, Kind, Skipped, Section, Code, Letter, ControlText, Verbatim, Constant, Occurrence, Blanks, LineEnd, Comment, Quoted, Defined, Identifier, Numeral, Punctuator, front, listed, longest, number_len, goes_on_number, starts_number, Context, Limbo, TeX, Definition, Macro, CText, starts_literal, starts_raw, starts_include, c_front, macro_front, head_as, front_in, Pays, Fair}
 use Rattle.cweb_rules.proofs.Sizes.{begins-size, reach-size, comment-within}
 use Rattle.cweb_rules.proofs.TokenSizes.{number-size, longest-some, longest-size}
 use Rattle.cweb_rules.proofs.FairItems.{fair_of, choose, section_at-fair, skipped-fair, t, code_at-fair, text_front-fair, commented, literal_at-fair, raw_at-fair, include_at-fair}

@@ -1,17 +1,6 @@
 -- A first byte that leaves but one rule of C text tells it.
-use Rattle.std.proofs.Common.{◌≡◌, ℕ, ◌+◌, Bool, true, false, ◌||◌, ◌&&◌, ◌==◌, not, ◌≤◌, List, [], ◌∷◌, length, drop, slice_index_or, refl, ap, sym, ◌∙◌, subst, arith}
-use Rattle.std.specs.Prelude.{if◌then◌else◌, codes}
-use Rattle.std.specs.List.{list_all}
-use Rattle.std.proofs.lemmas.Bool.{eqb-true}
-use Rattle.cweb_rules.specs.Bytes.{begins, is_blank, is_digit, is_one_of, is_word_byte, starts_section}
-use Rattle.cweb_rules.specs.Fronts.{has_delimiter, is_closed, is_quoted, literal_prefix, raw_prefix, starts_include, starts_literal, starts_raw}
-use Rattle.cweb_rules.specs.Items.{included_name}
-use Rattle.cweb_rules.specs.Leads.{behind_dot, behind_slash, lead}
-use Rattle.cweb_rules.specs.Rules.{c_rule, is_settled}
-use Rattle.cweb_rules.specs.Tables.{starts_number}
-use Rattle.cweb_rules.specs.declared.rule.Lead.{Lead}
+use Rattle.cweb_rules.proofs.Common.{◌≡◌, ℕ, ◌+◌, Bool, true, false, ◌||◌, ◌&&◌, ◌==◌, not, ◌≤◌, List, [], ◌∷◌, length, drop, slice_index_or, refl, ap, sym, ◌∙◌, subst, arith, if◌then◌else◌, codes, list_all, eqb-true, begins, is_blank, is_digit, is_one_of, is_word_byte, starts_section, has_delimiter, is_closed, is_quoted, literal_prefix, raw_prefix, starts_include, starts_literal, starts_raw, included_name, behind_dot, behind_slash, lead, c_rule, is_settled, starts_number, Lead, Rule}
 use Rattle.cweb_rules.specs.declared.rule.Lead.TheVariants as first
-use Rattle.cweb_rules.specs.declared.rule.Rule.{Rule}
 use Rattle.cweb_rules.specs.declared.rule.Rule.TheVariants as rule
 use Rattle.cweb_rules.proofs.Seams.{both, differs}
 

@@ -1,11 +1,5 @@
 -- Tokens that stand alone, and a relation that has all bytes that join, computed.
-use Rattle.std.proofs.Common.{◌≡◌, ℕ, Bool, true, ◌||◌, ◌&&◌, ◌==◌, not, [], ◌∷◌, ◌++◌, refl, ap}
-use Rattle.std.specs.Prelude.{codes}
-use Rattle.cweb_rules.specs.Bytes.{is_one_of, is_digit}
-use Rattle.cweb_rules.specs.Follows.{JoinsAll, IsToken}
-use Rattle.cweb_rules.specs.Kinds.{Code, Quoted, Identifier, Numeral, Punctuator}
-use Rattle.cweb_rules.specs.declared.effect.Effect.TheVariants.{GiveAt}
-use Rattle.cweb_rules.specs.declared.end.End.TheVariants.{Closed}
+use Rattle.cweb_rules.proofs.Common.{◌≡◌, ℕ, Bool, true, ◌||◌, ◌&&◌, ◌==◌, not, [], ◌∷◌, ◌++◌, refl, ap, codes, is_one_of, is_digit, JoinsAll, IsToken, Code, Quoted, Identifier, Numeral, Punctuator, GiveAt, Closed}
 
 -- operator bytes, but `.` only after `.`; or `.` and a digit
 abbrev is_operator : ℕ → Bool

@@ -1,28 +1,6 @@
 -- What the rules name at the front of a line has no line end.
-use Rattle.std.proofs.Common.{◌≡◌, ℕ, zero, suc, ◌+◌, ◌-◌, Bool, true, false, ◌&&◌, List, [], ◌∷◌, ◌++◌, Option, Some, None, length, take, drop, refl, sym, ◌∙◌}
-use Rattle.std.specs.Prelude.{if◌then◌else◌, codes}
-use Rattle.std.specs.List.{prefix_len}
-use Rattle.std.proofs.lemmas.Bool.{ne_eqb}
-use Rattle.cweb_rules.specs.Bytes.{begins, is_blank, is_line_end, is_word_byte, at_line_end, starts_section}
-use Rattle.cweb_rules.specs.declared.effect.Effect.{Effect}
-use Rattle.cweb_rules.specs.declared.effect.Effect.TheVariants.{Nothing, Define, Format, Program, Named, InsertDefs, Joins, GiveAt, Faulty}
-use Rattle.cweb_rules.specs.Codes.{in_limbo, in_text, in_macro, in_c}
+use Rattle.cweb_rules.proofs.Common.{◌≡◌, ℕ, zero, suc, ◌+◌, ◌-◌, Bool, true, false, ◌&&◌, List, [], ◌∷◌, ◌++◌, Option, Some, None, length, take, drop, refl, sym, ◌∙◌, if◌then◌else◌, codes, prefix_len, ne_eqb, begins, is_blank, is_line_end, is_word_byte, at_line_end, starts_section, Effect, Nothing, Define, Format, Program, Named, InsertDefs, Joins, GiveAt, Faulty, in_limbo, in_text, in_macro, in_c, letter, Transliteration, Look, Goes, Ends, Reach, reach, reach_in, with_unit, body, End, Cut, look_in_literal, look_in_include, look_in_raw, Kind, Skipped, Section, Code, Letter, ControlText, Verbatim, Constant, Occurrence, Blanks, LineEnd, Comment, Quoted, Defined, Identifier, Numeral, Punctuator, Front, front, section_at, letter_is, name_at, code_front, code_at, text_front, comment_at, line_comment_at, literal_prefix, starts_literal, quoted, quote_of, raw_prefix, delimiter, closing_sign, starts_raw, starts_include, c_front, head_as, IsLine, front_in, Context, Limbo, TeX, Definition, Macro, CText, listed, longest, number_len, starts_number}
 use Rattle.cweb_rules.specs.declared.effect.Effect.TheVariants as effect
-use Rattle.cweb_rules.specs.Constants.{letter}
-use Rattle.cweb_rules.specs.declared.constants.Transliteration.{Transliteration}
-use Rattle.cweb_rules.specs.declared.look.Look.{Look}
-use Rattle.cweb_rules.specs.declared.look.Look.TheVariants.{Goes, Ends}
-use Rattle.cweb_rules.specs.Cut.{Reach, reach, reach_in, with_unit, body}
-use Rattle.cweb_rules.specs.declared.end.End.{End}
-use Rattle.cweb_rules.specs.declared.end.End.TheVariants.{Cut}
-use Rattle.cweb_rules.specs.Items.{look_in_literal, look_in_include, look_in_raw}
-use Rattle.cweb_rules.specs.Kinds.{Kind, Skipped, Section, Code, Letter, ControlText, Verbatim, Constant, Occurrence, Blanks, LineEnd, Comment, Quoted, Defined, Identifier, Numeral, Punctuator, Front, front}
-use Rattle.cweb_rules.specs.Fronts.{section_at, letter_is, name_at, code_front, code_at, text_front, comment_at, line_comment_at, literal_prefix, starts_literal, quoted, quote_of, raw_prefix, delimiter, closing_sign, starts_raw, starts_include, c_front, head_as}
-use Rattle.cweb_rules.specs.Lines.{IsLine}
-use Rattle.cweb_rules.specs.Fronts.{front_in}
-use Rattle.cweb_rules.specs.declared.context.Context.{Context}
-use Rattle.cweb_rules.specs.declared.context.Context.TheVariants.{Limbo, TeX, Definition, Macro, CText}
-use Rattle.cweb_rules.specs.Tables.{listed, longest, number_len, starts_number}
 
 -- a piece of one line
 abbrev pub AreLines : List (List ℕ) → Type 0

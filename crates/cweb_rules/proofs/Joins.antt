@@ -1,10 +1,5 @@
 -- What stands at the front stays, whatever follows that can't go on with it.
-use Rattle.std.proofs.Common.{◌≡◌, ℕ, ◌+◌, Bool, true, false, cond, ◌&&◌, ◌||◌, ◌==◌, not, List, [], ◌∷◌, ◌++◌, length, max, refl, ap, sym, ◌∙◌, subst}
-use Rattle.std.specs.List.{list_all, prefix_len}
-use Rattle.std.proofs.lemmas.Bool.{eqb-true}
-use Rattle.cweb_rules.specs.Bytes.{begins, first_is}
-use Rattle.cweb_rules.specs.Tables.{longest}
-use Rattle.cweb_rules.specs.Follows.{all_join}
+use Rattle.cweb_rules.proofs.Common.{◌≡◌, ℕ, ◌+◌, Bool, true, false, cond, ◌&&◌, ◌||◌, ◌==◌, not, List, [], ◌∷◌, ◌++◌, length, max, refl, ap, sym, ◌∙◌, subst, list_all, prefix_len, eqb-true, begins, first_is, longest, all_join}
 
 pub both : (a b : Bool) → (a && b) ≡ true → (a ≡ true) × (b ≡ true)
 both true b e = (refl, e)

@@ -1,14 +1,7 @@
 -- An item with its end sign stands in its text.
-use Rattle.std.proofs.Common.{◌≤◌, ℕ, List, length}
-use Rattle.std.specs.Prelude.{codes}
-use Rattle.cweb_rules.specs.Bytes.{begins, at_line_end}
-use Rattle.cweb_rules.specs.Cut.{reach, size_of}
-use Rattle.cweb_rules.specs.declared.end.End.TheVariants.{Open}
-use Rattle.cweb_rules.specs.declared.items.Item.{Item}
-use Rattle.cweb_rules.specs.declared.items.Item.TheVariants.{ControlText, Name, Comment, LineComment, Literal, IncludedName, RawLiteral}
-use Rattle.cweb_rules.specs.Looks.{look_of}
+use Rattle.cweb_rules.proofs.Common.{◌≤◌, ℕ, List, length, codes, begins, at_line_end, reach, size_of, Open, Item, Name, LineComment, Literal, IncludedName, RawLiteral, look_of, arith}
+use Rattle.cweb_rules.specs.declared.items.Item.TheVariants.{ControlText, Comment}
 use Rattle.cweb_rules.proofs.Sizes.{IsWithin, reach-size, begins-size, control-within, name-within, comment-within, literal-within, include-within, raw-within}
-use Rattle.std.proofs.Common.{arith}
 
 item-within : (item : Item) → IsWithin (look_of item)
 item-within ControlText = control-within

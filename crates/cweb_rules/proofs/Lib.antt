@@ -1,3 +1,4 @@
+pub mod Common
 pub mod Longest
 mod Seconds
 pub mod Seams

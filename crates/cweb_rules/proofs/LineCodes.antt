@@ -1,23 +1,6 @@
 -- What the rules of codes name in a line doesn't depend on what comes after it.
-use Rattle.std.proofs.Common.{◌≡◌, ◌≤◌, ℕ, ◌+◌, Bool, true, false, ◌||◌, ◌==◌, List, [], ◌∷◌, ◌++◌, Option, Some, None, length, take, drop, refl, ap, ◌∙◌, arith}
-use Rattle.std.specs.Prelude.{if◌then◌else◌, codes, nat_le, nat_lt}
-use Rattle.std.specs.List.{prefix_len}
-use Rattle.std.proofs.lemmas.List.{take-append-le, drop-append-le, length-drop}
-use Rattle.std.proofs.lemmas.List.Sums.{prefix_len-le-length}
-use Rattle.cweb_rules.specs.Bytes.{begins, is_gap}
-use Rattle.cweb_rules.specs.declared.effect.Effect.{Effect}
-use Rattle.cweb_rules.specs.declared.effect.Effect.TheVariants.{Nothing, Define, Format, Program, Named, InsertDefs, Joins, GiveAt, Faulty}
+use Rattle.cweb_rules.proofs.Common.{◌≡◌, ◌≤◌, ℕ, ◌+◌, Bool, true, false, ◌||◌, ◌==◌, List, [], ◌∷◌, ◌++◌, Option, Some, None, length, take, drop, refl, ap, ◌∙◌, arith, if◌then◌else◌, codes, nat_le, nat_lt, prefix_len, take-append-le, drop-append-le, length-drop, prefix_len-le-length, begins, is_gap, Effect, Nothing, Define, Format, Program, Named, InsertDefs, Joins, GiveAt, Faulty, letter, Transliteration, Valued, Reach, size_of, End, Closed, Cut, Nested, Open, name, opener_sign, look_in_name, Letter, ControlText, Verbatim, Constant, Occurrence, Front, front, letter_is, sign_after, name_at, code_front, code_at, AtLineEnd, opens_name, opens_effect, opens_code}
 use Rattle.cweb_rules.specs.declared.effect.Effect.TheVariants as effect
-use Rattle.cweb_rules.specs.Constants.{letter}
-use Rattle.cweb_rules.specs.declared.constants.Transliteration.{Transliteration}
-use Rattle.cweb_rules.specs.declared.constants.Valued.{Valued}
-use Rattle.cweb_rules.specs.Cut.{Reach, size_of}
-use Rattle.cweb_rules.specs.declared.end.End.{End}
-use Rattle.cweb_rules.specs.declared.end.End.TheVariants.{Closed, Cut, Nested, Open}
-use Rattle.cweb_rules.specs.Items.{name, opener_sign, look_in_name}
-use Rattle.cweb_rules.specs.Kinds.{Letter, ControlText, Verbatim, Constant, Occurrence, Front, front}
-use Rattle.cweb_rules.specs.Fronts.{letter_is, sign_after, name_at, code_front, code_at}
-use Rattle.cweb_rules.specs.Lines.{AtLineEnd, opens_name, opens_effect, opens_code}
 use Rattle.cweb_rules.proofs.Seams.{begins_line, drop_line, run_line}
 use Rattle.cweb_rules.proofs.Looks.{reach_ends, whole, name-local, name-units}
 use Rattle.cweb_rules.proofs.Sizes.{begins-size, reach-size, name-within}

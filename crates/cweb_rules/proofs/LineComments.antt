@@ -1,14 +1,5 @@
 -- What the rules of comments name in a line doesn't depend on what comes after it.
-use Rattle.std.proofs.Common.{◌≡◌, ◌≤◌, ℕ, ◌+◌, Bool, true, false, ◌&&◌, List, [], ◌∷◌, ◌++◌, length, drop, refl, ap, ◌∙◌}
-use Rattle.std.specs.Prelude.{codes}
-use Rattle.std.proofs.lemmas.List.{drop-append-le}
-use Rattle.cweb_rules.specs.Bytes.{begins, at_line_end}
-use Rattle.cweb_rules.specs.Cut.{Reach, size_of}
-use Rattle.cweb_rules.specs.declared.end.End.TheVariants.{Closed, Cut}
-use Rattle.cweb_rules.specs.Items.{comment, line_comment, look_in_comment}
-use Rattle.cweb_rules.specs.Kinds.{Comment, front}
-use Rattle.cweb_rules.specs.Fronts.{comment_at, line_comment_at}
-use Rattle.cweb_rules.specs.Lines.{AtLineEnd, opens_comment}
+use Rattle.cweb_rules.proofs.Common.{◌≡◌, ◌≤◌, ℕ, ◌+◌, Bool, true, false, ◌&&◌, List, [], ◌∷◌, ◌++◌, length, drop, refl, ap, ◌∙◌, codes, drop-append-le, begins, at_line_end, Reach, size_of, Closed, Cut, comment, line_comment, look_in_comment, Comment, front, comment_at, line_comment_at, AtLineEnd, opens_comment}
 use Rattle.cweb_rules.proofs.Seams.{begins_line}
 use Rattle.cweb_rules.proofs.Reaches.{IsLocal, reach-line}
 use Rattle.cweb_rules.proofs.Looks.{reach_ends, whole, comment-local, comment-units}

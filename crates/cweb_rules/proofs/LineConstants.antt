@@ -1,16 +1,5 @@
 -- What constants, letters and control texts are in a line doesn't depend on what comes after it.
-use Rattle.std.proofs.Common.{◌≡◌, ◌≤◌, ℕ, ◌+◌, ◌*◌, Bool, true, false, ◌&&◌, ◌||◌, ◌==◌, not, List, [], ◌∷◌, ◌++◌, Option, Some, None, length, take, drop, refl, ap, ◌∙◌, subst, arith}
-use Rattle.std.specs.Prelude.{if◌then◌else◌, codes, nat_le, min}
-use Rattle.std.specs.List.{list_all, prefix_len}
-use Rattle.std.proofs.lemmas.List.{take-append-le, drop-append-le, length-take-le}
-use Rattle.std.proofs.lemmas.List.Sums.{prefix_len-le-length}
-use Rattle.cweb_rules.specs.Bytes.{begins, is_line_end, is_gap, is_octal, is_hex, is_replacing}
-use Rattle.cweb_rules.specs.Constants.{character, escapes, escaped, octal_value, octal, after_backslash, stands_alone, character_at, faulty_size, constant_of, constant, hex_value, hex_at, letter_with, letter_after, letter}
-use Rattle.cweb_rules.specs.declared.constants.Transliteration.{Transliteration}
-use Rattle.cweb_rules.specs.declared.constants.Character.{Character}
-use Rattle.cweb_rules.specs.declared.end.End.TheVariants.{Cut}
-use Rattle.cweb_rules.specs.Items.{control_text, look_in_control}
-use Rattle.cweb_rules.specs.Lines.{AtLineEnd}
+use Rattle.cweb_rules.proofs.Common.{◌≡◌, ◌≤◌, ℕ, ◌+◌, ◌*◌, Bool, true, false, ◌&&◌, ◌||◌, ◌==◌, not, List, [], ◌∷◌, ◌++◌, Option, Some, None, length, take, drop, refl, ap, ◌∙◌, subst, arith, if◌then◌else◌, codes, nat_le, min, list_all, prefix_len, take-append-le, drop-append-le, length-take-le, prefix_len-le-length, begins, is_line_end, is_gap, is_octal, is_hex, is_replacing, character, escapes, escaped, octal_value, octal, after_backslash, stands_alone, character_at, faulty_size, constant_of, constant, hex_value, hex_at, letter_with, letter_after, letter, Transliteration, Character, Cut, control_text, look_in_control, AtLineEnd}
 use Rattle.cweb_rules.proofs.Seams.{in_line, both, begins_line, drop_line, run_line}
 use Rattle.cweb_rules.proofs.Reaches.{reach-line}
 use Rattle.cweb_rules.proofs.Looks.{whole, control-local, control-units}

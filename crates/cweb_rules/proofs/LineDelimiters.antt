@@ -1,16 +1,5 @@
 -- What the rules of raw literals and included names name in a line doesn't depend on what comes after it.
-use Rattle.std.proofs.Common.{◌≡◌, ◌≤◌, ℕ, suc, ◌+◌, Bool, true, false, cond, ◌&&◌, ◌||◌, not, List, [], ◌∷◌, ◌++◌, length, take, drop, refl, ap, sym, ◌∙◌, arith}
-use Rattle.std.specs.Prelude.{if◌then◌else◌, codes, nat_le}
-use Rattle.std.specs.List.{list_all, prefix_len}
-use Rattle.std.proofs.lemmas.List.{take-append-le, drop-append-le, length-drop, length-take-le}
-use Rattle.std.proofs.lemmas.List.Sums.{prefix_len-le-length}
-use Rattle.cweb_rules.specs.Bytes.{begins, is_blank, is_line_end, is_delimiter, is_one_of}
-use Rattle.cweb_rules.specs.Cut.{Reach}
-use Rattle.cweb_rules.specs.declared.end.End.TheVariants.{Cut}
-use Rattle.cweb_rules.specs.Items.{included_name, raw_literal, look_in_include, look_in_raw}
-use Rattle.cweb_rules.specs.Kinds.{Front}
-use Rattle.cweb_rules.specs.Fronts.{quoted, raw_prefix, has_delimiter, starts_raw, delimiter, closing_sign, raw_at, is_closed, starts_include, include_at}
-use Rattle.cweb_rules.specs.Lines.{AtLineEnd, opens_raw}
+use Rattle.cweb_rules.proofs.Common.{◌≡◌, ◌≤◌, ℕ, suc, ◌+◌, Bool, true, false, cond, ◌&&◌, ◌||◌, not, List, [], ◌∷◌, ◌++◌, length, take, drop, refl, ap, sym, ◌∙◌, arith, if◌then◌else◌, codes, nat_le, list_all, prefix_len, take-append-le, drop-append-le, length-drop, length-take-le, prefix_len-le-length, begins, is_blank, is_line_end, is_delimiter, is_one_of, Reach, Cut, included_name, raw_literal, look_in_include, look_in_raw, Front, quoted, raw_prefix, has_delimiter, starts_raw, delimiter, closing_sign, raw_at, is_closed, starts_include, include_at, AtLineEnd, opens_raw}
 use Rattle.cweb_rules.proofs.Seams.{in_line, both, begins_line, drop_line, run_line}
 use Rattle.cweb_rules.proofs.Reaches.{reach-line}
 use Rattle.cweb_rules.proofs.Looks.{whole, include-local, include-units, raw-local, raw-units}

@@ -1,18 +1,5 @@
 -- What the rules name in a line doesn't depend on what comes after it.
-use Rattle.std.proofs.Common.{◌≡◌, ◌≤◌, ℕ, Bool, true, false, ◌&&◌, ◌||◌, List, ◌∷◌, ◌++◌, length, refl, ap, ◌∙◌}
-use Rattle.std.specs.Prelude.{if◌then◌else◌, codes}
-use Rattle.std.specs.List.{prefix_len}
-use Rattle.cweb_files.specs.declared.place.Place.{Place}
-use Rattle.cweb_rules.specs.Bytes.{begins, is_blank, is_line_end, is_digit, is_word_byte, at_line_end, starts_section}
-use Rattle.cweb_rules.specs.declared.effect.Effect.{Effect}
-use Rattle.cweb_rules.specs.Codes.{in_limbo, in_text, in_macro, in_c}
-use Rattle.cweb_rules.specs.Kinds.{Kind, Skipped, Section, Code, Letter, ControlText, Verbatim, Constant, Occurrence, Blanks, LineEnd, Comment, Quoted, Defined, Identifier, Numeral, Punctuator, Front, front}
-use Rattle.cweb_rules.specs.Fronts.{section_at, text_front, starts_raw, starts_literal, starts_include, include_at, c_front, macro_front, head_as, head_front}
-use Rattle.cweb_rules.specs.Lines.{AtLineEnd, opens_comment, opens_literal, opens_raw, opens_code, text_opens, c_opens, macro_opens, opens_in}
-use Rattle.cweb_rules.specs.Fronts.{front_in}
-use Rattle.cweb_rules.specs.declared.context.Context.{Context}
-use Rattle.cweb_rules.specs.declared.context.Context.TheVariants.{Limbo, TeX, Definition, Macro, CText}
-use Rattle.cweb_rules.specs.Tables.{listed, longest, number_len, goes_on_number, starts_number}
+use Rattle.cweb_rules.proofs.Common.{◌≡◌, ◌≤◌, ℕ, Bool, true, false, ◌&&◌, ◌||◌, List, ◌∷◌, ◌++◌, length, refl, ap, ◌∙◌, if◌then◌else◌, codes, prefix_len, Place, begins, is_blank, is_line_end, is_digit, is_word_byte, at_line_end, starts_section, Effect, in_limbo, in_text, in_macro, in_c, Kind, Skipped, Section, Code, Letter, ControlText, Verbatim, Constant, Occurrence, Blanks, LineEnd, Comment, Quoted, Defined, Identifier, Numeral, Punctuator, Front, front, section_at, text_front, starts_raw, starts_literal, starts_include, include_at, c_front, macro_front, head_as, head_front, AtLineEnd, opens_comment, opens_literal, opens_raw, opens_code, text_opens, c_opens, macro_opens, opens_in, front_in, Context, Limbo, TeX, Definition, Macro, CText, listed, longest, number_len, goes_on_number, starts_number}
 use Rattle.cweb_rules.proofs.Fairs.{c_front-fair}
 use Rattle.cweb_rules.proofs.LineComments.{comment_at_line, line_comment_at_line}
 use Rattle.cweb_rules.proofs.LineCodes.{code_at_line}

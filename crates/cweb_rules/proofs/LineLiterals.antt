@@ -1,15 +1,5 @@
 -- What the rules of literals name in a line doesn't depend on what comes after it.
-use Rattle.std.proofs.Common.{◌≡◌, ◌≤◌, ℕ, ◌+◌, Bool, true, false, ◌&&◌, ◌||◌, ◌==◌, List, [], ◌∷◌, ◌++◌, length, take, drop, refl, ap, ◌∙◌, arith}
-use Rattle.std.specs.Prelude.{if◌then◌else◌, codes}
-use Rattle.std.proofs.lemmas.List.{take-append-le, drop-append-le, length-drop}
-use Rattle.cweb_rules.specs.Bytes.{begins}
-use Rattle.cweb_rules.specs.declared.look.Look.{Look}
-use Rattle.cweb_rules.specs.Cut.{Reach, reach, body, size_of}
-use Rattle.cweb_rules.specs.declared.end.End.TheVariants.{Cut, Open}
-use Rattle.cweb_rules.specs.Items.{literal, look_in_literal}
-use Rattle.cweb_rules.specs.Kinds.{Quoted, Front, front}
-use Rattle.cweb_rules.specs.Fronts.{is_quoted, literal_prefix, starts_literal, quoted, quote_of, literal_at}
-use Rattle.cweb_rules.specs.Lines.{AtLineEnd, is_open, opens_literal}
+use Rattle.cweb_rules.proofs.Common.{◌≡◌, ◌≤◌, ℕ, ◌+◌, Bool, true, false, ◌&&◌, ◌||◌, ◌==◌, List, [], ◌∷◌, ◌++◌, length, take, drop, refl, ap, ◌∙◌, arith, if◌then◌else◌, codes, take-append-le, drop-append-le, length-drop, begins, Look, Reach, reach, body, size_of, Cut, Open, literal, look_in_literal, Quoted, Front, front, is_quoted, literal_prefix, starts_literal, quoted, quote_of, literal_at, AtLineEnd, is_open, opens_literal}
 use Rattle.cweb_rules.proofs.Seams.{stops, both, begins_line, drop_line}
 use Rattle.cweb_rules.proofs.Reaches.{IsLocal, IsWhole}
 use Rattle.cweb_rules.proofs.Looks.{reach_ends, ended_whole, literal-local, literal-some}

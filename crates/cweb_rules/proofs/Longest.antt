@@ -1,9 +1,5 @@
 -- In a table whose longer entries stand first, the first entry that fits is the longest.
-use Rattle.std.proofs.Common.{◌≡◌, ℕ, ◌≤◌, Bool, true, false, List, [], ◌∷◌, ◌&&◌, ◌==◌, cond, length, max, nat_le, slice_index_or, refl, sym, ◌∙◌, ap, subst, arith}
-use Rattle.std.proofs.lemmas.Bool.Decides.{nat_tests}
-use Rattle.cweb_rules.specs.Bytes.{begins}
-use Rattle.cweb_rules.specs.Tables.{longest}
-use Rattle.cweb_rules.specs.Signs.{first_len, descends}
+use Rattle.cweb_rules.proofs.Common.{◌≡◌, ℕ, ◌≤◌, Bool, true, false, List, [], ◌∷◌, ◌&&◌, ◌==◌, cond, length, max, nat_le, slice_index_or, refl, sym, ◌∙◌, ap, subst, arith, nat_tests, begins, longest, first_len, descends}
 
 and_left : (a b : Bool) → (a && b) ≡ true → (a ≡ true) × (b ≡ true)
 and_left true b e = (refl, e)

@@ -1,17 +1,5 @@
 -- What the looks of items see in a line, and that their units stand in it.
-use Rattle.std.proofs.Common.{◌≡◌, ◌≤◌, ◌<◌, ℕ, zero, suc, ◌-◌, Bool, true, false, ◌&&◌, ◌||◌, ◌==◌, List, [], ◌∷◌, ◌++◌, length, refl, ap, sym, ◌∙◌, subst, arith}
-use Rattle.std.specs.Prelude.{if◌then◌else◌, codes}
-use Rattle.std.specs.List.{list_all}
-use Rattle.std.proofs.lemmas.Bool.{eqb-true}
-use Rattle.std.proofs.lemmas.List.{append-nil}
-use Rattle.cweb_rules.specs.Bytes.{begins, first_is, is_line_end, starts_section}
-use Rattle.cweb_rules.specs.declared.look.Look.{Look}
-use Rattle.cweb_rules.specs.declared.look.Look.TheVariants.{Goes, Ends}
-use Rattle.cweb_rules.specs.Cut.{reach, reach_in}
-use Rattle.cweb_rules.specs.declared.end.End.{End}
-use Rattle.cweb_rules.specs.declared.end.End.TheVariants.{Closed, Cut, Nested, Open}
-use Rattle.cweb_rules.specs.Items.{look_in_control, look_in_name, look_in_comment, look_in_literal, look_in_include, look_in_raw}
-use Rattle.cweb_rules.specs.Lines.{AtLineEnd, is_open}
+use Rattle.cweb_rules.proofs.Common.{◌≡◌, ◌≤◌, ◌<◌, ℕ, zero, suc, ◌-◌, Bool, true, false, ◌&&◌, ◌||◌, ◌==◌, List, [], ◌∷◌, ◌++◌, length, refl, ap, sym, ◌∙◌, subst, arith, if◌then◌else◌, codes, list_all, eqb-true, append-nil, begins, first_is, is_line_end, starts_section, Look, Goes, Ends, reach, reach_in, End, Closed, Cut, Nested, Open, look_in_control, look_in_name, look_in_comment, look_in_literal, look_in_include, look_in_raw, AtLineEnd, is_open}
 use Rattle.cweb_rules.proofs.Seams.{in_line, both, begins_stop, begins_line, starts_section_line}
 use Rattle.cweb_rules.proofs.Sizes.{begins-size}
 use Rattle.cweb_rules.proofs.Reaches.{IsLocal, IsEnd, IsWhole, ended, at_front, WholeAt, reach-ended}

@@ -1,17 +1,5 @@
 -- The line ends in the bytes that a rule names, as far as the kind of the piece tells them.
-use Rattle.std.proofs.Common.{◌≡◌, ◌≢◌, ℕ, ◌+◌, Bool, true, false, ◌&&◌, List, [], ◌∷◌, ◌++◌, length, take, drop, refl, ap, sym, ◌∙◌, subst, arith}
-use Rattle.std.specs.Prelude.{if◌then◌else◌, codes}
-use Rattle.std.proofs.lemmas.Bool.{eqb-true}
-use Rattle.cweb_rules.specs.Bytes.{begins, is_blank, is_line_end, at_line_end, starts_section}
-use Rattle.cweb_rules.specs.Codes.{in_limbo, in_text, in_macro, in_c}
-use Rattle.cweb_rules.specs.Fronts.{code_front, code_at, text_front, quote_of, literal_prefix, raw_prefix, delimiter, closing_sign, starts_raw, starts_literal, c_front, head_as, front_in}
-use Rattle.cweb_rules.specs.Items.{look_in_literal, look_in_raw}
-use Rattle.cweb_rules.specs.Kinds.{Kind, Skipped, Section, Code, Letter, ControlText, Verbatim, Constant, Occurrence, Blanks, LineEnd, Comment, Quoted, Defined, Identifier, Numeral, Punctuator, Front, front}
-use Rattle.cweb_rules.specs.Lines.{IsLine, AtLineEnd, opens_comment, opens_literal, opens_raw, opens_effect, opens_code, text_opens, c_opens}
-use Rattle.cweb_rules.specs.declared.context.Context.{Context}
-use Rattle.cweb_rules.specs.declared.context.Context.TheVariants.{Limbo, TeX, Definition, Macro, CText}
-use Rattle.cweb_rules.specs.declared.effect.Effect.{Effect}
-use Rattle.cweb_rules.specs.declared.effect.Effect.TheVariants.{Nothing, Define, Format, Program, Named, InsertDefs, Joins, GiveAt, Faulty}
+use Rattle.cweb_rules.proofs.Common.{◌≡◌, ◌≢◌, ℕ, ◌+◌, Bool, true, false, ◌&&◌, List, [], ◌∷◌, ◌++◌, length, take, drop, refl, ap, sym, ◌∙◌, subst, arith, if◌then◌else◌, codes, eqb-true, begins, is_blank, is_line_end, at_line_end, starts_section, in_limbo, in_text, in_macro, in_c, code_front, code_at, text_front, quote_of, literal_prefix, raw_prefix, delimiter, closing_sign, starts_raw, starts_literal, c_front, head_as, front_in, look_in_literal, look_in_raw, Kind, Skipped, Section, Code, Letter, ControlText, Verbatim, Constant, Occurrence, Blanks, LineEnd, Comment, Quoted, Defined, Identifier, Numeral, Punctuator, Front, front, IsLine, AtLineEnd, opens_comment, opens_literal, opens_raw, opens_effect, opens_code, text_opens, c_opens, Context, Limbo, TeX, Definition, Macro, CText, Effect, Nothing, Define, Format, Program, Named, InsertDefs, Joins, GiveAt, Faulty}
 use Rattle.cweb_rules.specs.declared.effect.Effect.TheVariants as effect
 use Rattle.cweb_rules.proofs.FairItems.{text_front-fair}
 use Rattle.cweb_rules.proofs.Fairs.{c_front-fair}

@@ -1,22 +1,6 @@
 -- Runs of bytes that are units of an item wherever they stand.
-use Rattle.std.proofs.Common.{◌≡◌, ◌≤◌, ◌<◌, ℕ, suc, ◌+◌, Bool, true, false, cond, not, ◌&&◌, ◌||◌, ◌==◌, List, [], ◌∷◌, Option, Some, None, length, drop, get_or, refl, ap, sym, ◌∙◌, subst, arith, min}
-use Rattle.std.specs.Prelude.{if◌then◌else◌, codes}
-use Rattle.std.specs.List.{prefix_len}
-use Rattle.std.specs.Option.{unwrap_or}
-use Rattle.std.proofs.lemmas.Bool.{ne_eqb, eqb-false}
-use Rattle.std.proofs.lemmas.List.Sums.{prefix_len_is, prefix_len-le-length}
-use Rattle.memchr.specs.Find.{IsFirstByte}
-use Rattle.cweb_rules.specs.Bytes.{at_line_end, begins, is_one_of, starts_section}
-use Rattle.cweb_rules.specs.Cut.{reach}
-use Rattle.cweb_rules.specs.Items.{look_in_control, look_in_name, look_in_comment, look_in_literal, look_in_include, look_in_raw}
-use Rattle.cweb_rules.specs.Looks.{look_of, reached}
-use Rattle.cweb_rules.specs.Plains.{is_raw_sign, is_sign, is_plain}
-use Rattle.cweb_rules.specs.declared.end.End.{End}
-use Rattle.cweb_rules.specs.declared.end.End.TheVariants.{Closed, Cut, Nested}
-use Rattle.cweb_rules.specs.declared.items.Item.{Item}
-use Rattle.cweb_rules.specs.declared.items.Item.TheVariants.{ControlText, Name, Comment, LineComment, Literal, IncludedName, RawLiteral}
-use Rattle.cweb_rules.specs.declared.look.Look.{Look}
-use Rattle.cweb_rules.specs.declared.look.Look.TheVariants.{Goes, Ends}
+use Rattle.cweb_rules.proofs.Common.{◌≡◌, ◌≤◌, ◌<◌, ℕ, suc, ◌+◌, Bool, true, false, cond, not, ◌&&◌, ◌||◌, ◌==◌, List, [], ◌∷◌, Option, Some, None, length, drop, get_or, refl, ap, sym, ◌∙◌, subst, arith, min, if◌then◌else◌, codes, prefix_len, unwrap_or, ne_eqb, eqb-false, prefix_len_is, prefix_len-le-length, IsFirstByte, at_line_end, begins, is_one_of, starts_section, reach, look_in_control, look_in_name, look_in_comment, look_in_literal, look_in_include, look_in_raw, look_of, reached, is_raw_sign, is_sign, is_plain, End, Closed, Cut, Nested, Item, Name, LineComment, Literal, IncludedName, RawLiteral, Look, Goes, Ends}
+use Rattle.cweb_rules.specs.declared.items.Item.TheVariants.{ControlText, Comment}
 use Rattle.cweb_rules.proofs.Ranges.{later_by, later_by-add, later_by-zero, reach_goes}
 
 -- FIRST BYTES

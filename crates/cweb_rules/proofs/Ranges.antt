@@ -1,14 +1,5 @@
 -- How far an item reaches, unit by unit.
-use Rattle.std.proofs.Common.{◌≡◌, ◌<◌, ℕ, zero, suc, ◌+◌, ◌-◌, List, [], ◌∷◌, length, take, drop, refl, ap, sym, ◌∙◌, arith, length-append, min}
-use Rattle.std.proofs.lemmas.List.{length-take, drop_min}
-use Rattle.cweb_rules.specs.Cut.{Reach, reach, reach_in, with_unit, body}
-use Rattle.cweb_rules.specs.Looks.{reached}
-use Rattle.cweb_rules.specs.declared.end.End.{End}
-use Rattle.cweb_rules.specs.Fronts.{is_closed}
-use Rattle.cweb_rules.specs.declared.end.End.TheVariants.{Open, Cut}
-use Rattle.cweb_rules.specs.declared.items.Reached.{Reached}
-use Rattle.cweb_rules.specs.declared.look.Look.{Look}
-use Rattle.cweb_rules.specs.declared.look.Look.TheVariants.{Goes, Ends}
+use Rattle.cweb_rules.proofs.Common.{◌≡◌, ◌<◌, ℕ, zero, suc, ◌+◌, ◌-◌, List, [], ◌∷◌, length, take, drop, refl, ap, sym, ◌∙◌, arith, length-append, min, length-take, drop_min, Reach, reach, reach_in, with_unit, body, reached, End, is_closed, Open, Cut, Reached, Look, Goes, Ends}
 
 -- the same end, so many bytes later
 abbrev pub later_by : ℕ → Reached → Reached

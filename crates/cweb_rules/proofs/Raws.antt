@@ -1,17 +1,5 @@
 -- A raw literal ends by itself, and no other token begins one.
-use Rattle.std.proofs.Common.{◌≡◌, ℕ, ◌+◌, ◌-◌, ◌<◌, ◌≤◌, suc, zero, Bool, true, false, cond, ◌&&◌, ◌||◌, ◌==◌, not, List, [], ◌∷◌, ◌++◌, length, take, drop, refl, ap, ◌∙◌, arith, length-append}
-use Rattle.std.specs.Prelude.{codes, if◌then◌else◌, nat_le}
-use Rattle.std.specs.List.{list_all, prefix_len}
-use Rattle.std.proofs.lemmas.List.{take-append-le, length-drop}
-use Rattle.cweb_rules.specs.Bytes.{begins, is_delimiter, first_is, starts_section, is_word_byte, is_one_of}
-use Rattle.cweb_rules.specs.Cut.{Reach, reach_in, with_unit, body, size_of}
-use Rattle.cweb_rules.specs.declared.look.Look.{Look}
-use Rattle.cweb_rules.specs.declared.look.Look.TheVariants.{Goes, Ends}
-use Rattle.cweb_rules.specs.Items.{raw_literal, look_in_raw}
-use Rattle.cweb_rules.specs.declared.end.End.TheVariants.{Closed, Cut}
-use Rattle.cweb_rules.specs.Follows.{after_word}
-use Rattle.cweb_rules.specs.Fronts.{quoted, raw_prefix, has_delimiter, starts_raw, delimiter, closing_sign, raw_at}
-use Rattle.cweb_rules.specs.Kinds.{Front, front, Quoted}
+use Rattle.cweb_rules.proofs.Common.{◌≡◌, ℕ, ◌+◌, ◌-◌, ◌<◌, ◌≤◌, suc, zero, Bool, true, false, cond, ◌&&◌, ◌||◌, ◌==◌, not, List, [], ◌∷◌, ◌++◌, length, take, drop, refl, ap, ◌∙◌, arith, length-append, codes, if◌then◌else◌, nat_le, list_all, prefix_len, take-append-le, length-drop, begins, is_delimiter, first_is, starts_section, is_word_byte, is_one_of, Reach, reach_in, with_unit, body, size_of, Look, Goes, Ends, raw_literal, look_in_raw, Closed, Cut, after_word, quoted, raw_prefix, has_delimiter, starts_raw, delimiter, closing_sign, raw_at, Front, front, Quoted}
 use Rattle.cweb_rules.proofs.Sizes.{begins-size}
 use Rattle.cweb_rules.proofs.Joins.{and_false, both, unlike, neither, begins-append}
 

@@ -1,13 +1,5 @@
 -- What stands at the front of some texts, computed.
-use Rattle.std.proofs.Common.{◌≡◌, true, false, Some, None, [], ◌∷◌, refl}
-use Rattle.std.specs.Prelude.{codes}
-use Rattle.cweb_files.specs.declared.place.Place.{Place}
-use Rattle.cweb_rules.specs.declared.context.Context.TheVariants.{Limbo, TeX, Definition, Macro, CText}
-use Rattle.cweb_rules.specs.declared.effect.Effect.TheVariants.{Faulty}
-use Rattle.cweb_rules.specs.declared.end.End.TheVariants.{Closed, Cut, Nested}
-use Rattle.cweb_rules.specs.declared.fault.ScanKind.TheVariants.{DoubleAtInLimbo, IgnoredInCText}
-use Rattle.cweb_rules.specs.Fronts.{front_in}
-use Rattle.cweb_rules.specs.Kinds.{Skipped, Section, Code, Letter, Constant, Occurrence, Comment, Quoted, Defined, Numeral, Punctuator, front}
+use Rattle.cweb_rules.proofs.Common.{◌≡◌, true, false, Some, None, [], ◌∷◌, refl, codes, Place, Limbo, TeX, Definition, Macro, CText, Faulty, Closed, Cut, Nested, DoubleAtInLimbo, IgnoredInCText, front_in, Skipped, Section, Code, Letter, Constant, Occurrence, Comment, Quoted, Defined, Numeral, Punctuator, front}
 
 abbrev here : Place
 here = record { file = record { 0 = 0 }; line = 1 }

@@ -1,12 +1,5 @@
 -- What stands at the front stays, where the byte after the seam can't go on with it.
-use Rattle.std.proofs.Common.{◌≡◌, ◌≤◌, ℕ, ◌+◌, Bool, true, false, cond, ◌&&◌, ◌||◌, ◌==◌, not, List, [], ◌∷◌, ◌++◌, length, drop, max, refl, ap, sym, ◌∙◌, subst}
-use Rattle.std.specs.Prelude.{if◌then◌else◌}
-use Rattle.std.specs.List.{list_all, prefix_len}
-use Rattle.std.proofs.lemmas.Bool.{eqb-true}
-use Rattle.std.proofs.lemmas.List.{drop-append-le}
-use Rattle.cweb_rules.specs.Bytes.{begins, first_is, is_line_end, is_digit, is_one_of, at_line_end, starts_section}
-use Rattle.cweb_rules.specs.Lines.{AtLineEnd}
-use Rattle.cweb_rules.specs.Tables.{longest, number_len, goes_on_number, starts_number}
+use Rattle.cweb_rules.proofs.Common.{◌≡◌, ◌≤◌, ℕ, ◌+◌, Bool, true, false, cond, ◌&&◌, ◌||◌, ◌==◌, not, List, [], ◌∷◌, ◌++◌, length, drop, max, refl, ap, sym, ◌∙◌, subst, if◌then◌else◌, list_all, prefix_len, eqb-true, drop-append-le, begins, first_is, is_line_end, is_digit, is_one_of, at_line_end, starts_section, AtLineEnd, longest, number_len, goes_on_number, starts_number}
 
 -- the bytes that stand in a line
 abbrev pub in_line : ℕ → Bool

@@ -1,9 +1,5 @@
 -- A text whose second byte no listed sign has in its second place begins with none of them.
-use Rattle.std.proofs.Common.{◌≡◌, ℕ, Bool, true, false, ◌&&◌, ◌==◌, List, [], ◌∷◌, refl, sym, ◌∙◌, ap}
-use Rattle.std.proofs.lemmas.Bool.{eqb-true}
-use Rattle.cweb_rules.specs.Bytes.{begins}
-use Rattle.cweb_rules.specs.Signs.{second_is}
-use Rattle.cweb_rules.specs.Tables.{longest}
+use Rattle.cweb_rules.proofs.Common.{◌≡◌, ℕ, Bool, true, false, ◌&&◌, ◌==◌, List, [], ◌∷◌, refl, sym, ◌∙◌, ap, eqb-true, begins, second_is, longest}
 
 abbrev pub all_second : (ℕ → Bool) → List (List ℕ) → Bool
 all_second test [] = true

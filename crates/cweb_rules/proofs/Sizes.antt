@@ -1,17 +1,5 @@
 -- No rule of an item with an end sign names more than there is.
-use Rattle.std.proofs.Common.{◌≡◌, ◌≤◌, ℕ, zero, suc, ◌+◌, ◌-◌, Bool, true, false, ◌||◌, ◌&&◌, ◌==◌, List, [], ◌∷◌, length, take, drop, refl, arith, length-append}
-use Rattle.std.specs.Prelude.{if◌then◌else◌, codes, bytes_eq}
-use Rattle.std.specs.List.{flat_map, prefix_len}
-use Rattle.std.proofs.lemmas.List.{length-drop}
-use Rattle.std.proofs.lemmas.List.Sums.{prefix_len-le-length}
-use Rattle.cweb_rules.specs.Bytes.{begins, starts_section, at_line_end, is_gap}
-use Rattle.cweb_rules.specs.declared.look.Look.{Look}
-use Rattle.cweb_rules.specs.declared.look.Look.TheVariants.{Goes, Ends}
-use Rattle.cweb_rules.specs.Cut.{Reach, reach, reach_in, with_unit, body, size_of}
-use Rattle.cweb_rules.specs.Fronts.{sign_after}
-use Rattle.cweb_rules.specs.declared.end.End.{End}
-use Rattle.cweb_rules.specs.declared.end.End.TheVariants.{Closed, Cut, Nested, Open}
-use Rattle.cweb_rules.specs.Items.{unit_bytes, text_in, look_in_control, look_in_name, opener_sign, look_in_comment, look_in_literal, look_in_include, look_in_raw}
+use Rattle.cweb_rules.proofs.Common.{◌≡◌, ◌≤◌, ℕ, zero, suc, ◌+◌, ◌-◌, Bool, true, false, ◌||◌, ◌&&◌, ◌==◌, List, [], ◌∷◌, length, take, drop, refl, arith, length-append, if◌then◌else◌, codes, bytes_eq, flat_map, prefix_len, length-drop, prefix_len-le-length, begins, starts_section, at_line_end, is_gap, Look, Goes, Ends, Reach, reach, reach_in, with_unit, body, size_of, sign_after, End, Closed, Cut, Nested, Open, unit_bytes, text_in, look_in_control, look_in_name, opener_sign, look_in_comment, look_in_literal, look_in_include, look_in_raw}
 
 pub take-at_most : (n : ℕ) (t : List ℕ) → length (take n t) ≤ n
 take-at_most zero t = omega arith

@@ -1,11 +1,5 @@
 -- Where literals and numbers begin, whatever follows that can't go on with them.
-use Rattle.std.proofs.Common.{◌≡◌, ℕ, ◌+◌, Bool, true, false, cond, ◌&&◌, ◌||◌, ◌==◌, not, List, [], ◌∷◌, ◌++◌, refl, ap, sym, ◌∙◌, subst}
-use Rattle.std.specs.Prelude.{codes, if◌then◌else◌}
-use Rattle.std.proofs.lemmas.Bool.{eqb-true}
-use Rattle.cweb_rules.specs.Bytes.{begins, first_is, is_one_of, is_digit, is_word_byte}
-use Rattle.cweb_rules.specs.Fronts.{is_quoted, starts_literal}
-use Rattle.cweb_rules.specs.Tables.{number_len, goes_on_number, starts_number}
-use Rattle.cweb_rules.specs.Follows.{JoinsAll, after_word, after_number}
+use Rattle.cweb_rules.proofs.Common.{◌≡◌, ℕ, ◌+◌, Bool, true, false, cond, ◌&&◌, ◌||◌, ◌==◌, not, List, [], ◌∷◌, ◌++◌, refl, ap, sym, ◌∙◌, subst, codes, if◌then◌else◌, eqb-true, begins, first_is, is_one_of, is_digit, is_word_byte, is_quoted, starts_literal, number_len, goes_on_number, starts_number, JoinsAll, after_word, after_number}
 use Rattle.cweb_rules.proofs.Joins.{and_false, neither, unlike, seam_joins}
 
 or_false : (a : Bool) → (a || false) ≡ a

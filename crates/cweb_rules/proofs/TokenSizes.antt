@@ -1,18 +1,5 @@
 -- No rule of constants, letters, numbers and punctuators names more than there is.
-use Rattle.std.proofs.Common.{◌≡◌, ◌≤◌, ◌<◌, ℕ, ◌+◌, Bool, true, false, ◌&&◌, ◌==◌, not, List, [], ◌∷◌, Option, Some, None, length, take, drop, refl, subst, arith}
-use Rattle.std.specs.Prelude.{if◌then◌else◌, nat_lt, nat_le, codes, min}
-use Rattle.std.specs.List.{prefix_len, position_or_len}
-use Rattle.std.specs.Fmt.{decimal}
-use Rattle.std.proofs.lemmas.Bool.{ltb-true, leb-true}
-use Rattle.std.proofs.lemmas.Fmt.{length-decimal-le}
-use Rattle.std.proofs.lemmas.List.{length-drop}
-use Rattle.std.proofs.lemmas.List.Sums.{prefix_len-le-length}
-use Rattle.cweb_rules.specs.Bytes.{begins, is_gap, is_octal, is_replacing}
-use Rattle.cweb_rules.specs.Constants.{ends_faulty, character, escapes, escaped, octal_value, octal, after_backslash, stands_alone, character_at, faulty_size, constant_of, constant, hex_at, letter_with, letter_after, letter}
-use Rattle.cweb_rules.specs.declared.constants.Transliteration.{Transliteration}
-use Rattle.cweb_rules.specs.declared.constants.Valued.{Valued}
-use Rattle.cweb_rules.specs.declared.constants.Character.{Character}
-use Rattle.cweb_rules.specs.Tables.{longest, number_len, goes_on_number}
+use Rattle.cweb_rules.proofs.Common.{◌≡◌, ◌≤◌, ◌<◌, ℕ, ◌+◌, Bool, true, false, ◌&&◌, ◌==◌, not, List, [], ◌∷◌, Option, Some, None, length, take, drop, refl, subst, arith, if◌then◌else◌, nat_lt, nat_le, codes, min, prefix_len, position_or_len, decimal, ltb-true, leb-true, length-decimal-le, length-drop, prefix_len-le-length, begins, is_gap, is_octal, is_replacing, ends_faulty, character, escapes, escaped, octal_value, octal, after_backslash, stands_alone, character_at, faulty_size, constant_of, constant, hex_at, letter_with, letter_after, letter, Transliteration, Valued, Character, longest, number_len, goes_on_number}
 use Rattle.cweb_rules.proofs.Sizes.{both, begins-size}
 
 -- CONSTANTS

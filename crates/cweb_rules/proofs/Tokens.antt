@@ -1,21 +1,7 @@
 -- A text that is one token of C text ends by itself, and what it begins with.
-use Rattle.std.proofs.Common.{◌≡◌, ℕ, Bool, true, false, ◌&&◌, ◌||◌, ◌==◌, not, List, [], ◌∷◌, ◌++◌, Option, Some, None, length, drop, refl, ap, sym, ◌∙◌, subst, arith}
-use Rattle.std.specs.Prelude.{codes, if◌then◌else◌}
-use Rattle.std.proofs.lemmas.Bool.{eqb-true}
-use Rattle.cweb_rules.specs.Bytes.{is_one_of, is_digit, is_word_byte, first_is, starts_section}
-use Rattle.cweb_rules.specs.Codes.{in_c}
-use Rattle.cweb_rules.specs.Constants.{letter}
-use Rattle.cweb_rules.specs.declared.constants.Transliteration.{Transliteration}
-use Rattle.cweb_rules.specs.declared.effect.Effect.{Effect}
-use Rattle.cweb_rules.specs.declared.effect.Effect.TheVariants.{Nothing, Define, Format, Program, Named, InsertDefs, Joins, GiveAt, Faulty}
+use Rattle.cweb_rules.proofs.Common.{◌≡◌, ℕ, Bool, true, false, ◌&&◌, ◌||◌, ◌==◌, not, List, [], ◌∷◌, ◌++◌, Option, Some, None, length, drop, refl, ap, sym, ◌∙◌, subst, arith, codes, if◌then◌else◌, eqb-true, is_one_of, is_digit, is_word_byte, first_is, starts_section, in_c, letter, Transliteration, Effect, Nothing, Define, Format, Program, Named, InsertDefs, Joins, GiveAt, Faulty, End, Closed, Cut, Nested, Open, JoinsAll, IsToken, joins_last, goes_on, gives_at, is_token, begins_as, c_front, code_front, letter_is, section_at, is_closed, is_quoted, starts_raw, Kind, Front, front, starts_number}
 use Rattle.cweb_rules.specs.declared.effect.Effect.TheVariants as effect
-use Rattle.cweb_rules.specs.declared.end.End.{End}
-use Rattle.cweb_rules.specs.declared.end.End.TheVariants.{Closed, Cut, Nested, Open}
-use Rattle.cweb_rules.specs.Follows.{JoinsAll, IsToken, joins_last, goes_on, gives_at, is_token, begins_as}
-use Rattle.cweb_rules.specs.Fronts.{c_front, code_front, letter_is, section_at, is_closed, is_quoted, starts_raw}
-use Rattle.cweb_rules.specs.Kinds.{Kind, Front, front}
 use Rattle.cweb_rules.specs.Kinds as kind
-use Rattle.cweb_rules.specs.Tables.{starts_number}
 use Rattle.cweb_rules.proofs.Chosen.{Passed, Coded, Opens, Facts, rule_of, chosen}
 use Rattle.cweb_rules.proofs.ClosedLiterals.{raw_front, raw_stays_whole, literal_front, literal_stays_whole, is_a_quote}
 use Rattle.cweb_rules.proofs.Joins.{both, neither, seam_joins}

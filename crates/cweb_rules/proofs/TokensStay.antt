@@ -1,13 +1,5 @@
 -- A Word, a Number and a Punct are read alike, whatever follows that can't go on with them.
-use Rattle.std.proofs.Common.{◌≡◌, ℕ, Bool, true, false, ◌&&◌, ◌==◌, List, [], ◌∷◌, ◌++◌, refl, ap, sym, ◌∙◌}
-use Rattle.std.specs.Prelude.{codes, if◌then◌else◌}
-use Rattle.std.specs.List.{list_all, prefix_len}
-use Rattle.cweb_rules.specs.Bytes.{begins, first_is, is_one_of, is_word_byte, starts_section}
-use Rattle.cweb_rules.specs.Codes.{in_c}
-use Rattle.cweb_rules.specs.Fronts.{c_front, literal_at, raw_at}
-use Rattle.cweb_rules.specs.Kinds.{front, Numeral, Identifier, Punctuator}
-use Rattle.cweb_rules.specs.Tables.{listed, longest, number_len}
-use Rattle.cweb_rules.specs.Follows.{JoinsAll, after_word, after_number}
+use Rattle.cweb_rules.proofs.Common.{◌≡◌, ℕ, Bool, true, false, ◌&&◌, ◌==◌, List, [], ◌∷◌, ◌++◌, refl, ap, sym, ◌∙◌, codes, if◌then◌else◌, list_all, prefix_len, begins, first_is, is_one_of, is_word_byte, starts_section, in_c, c_front, literal_at, raw_at, front, Numeral, Identifier, Punctuator, listed, longest, number_len, JoinsAll, after_word, after_number}
 use Rattle.cweb_rules.proofs.Chosen.{Passed, Facts, ForWord, ForNumber, ForPunct, passed_front}
 use Rattle.cweb_rules.proofs.Raws.{plain_raw, word_raw}
 use Rattle.cweb_rules.proofs.Joins.{neither, unlike, seam_joins, begins_stays, longest_stays}

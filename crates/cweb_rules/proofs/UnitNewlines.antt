@@ -1,22 +1,5 @@
 -- The line ends in the bytes of lines and of units, as far as the kind of the piece tells them.
-use Rattle.std.proofs.Common.{◌≡◌, ◌≤◌, ◌<◌, ℕ, zero, suc, ◌+◌, ◌-◌, Bool, true, false, List, [], ◌∷◌, ◌++◌, length, take, drop, refl, ap, sym, ◌∙◌, subst, arith, take-append-drop, append_assoc, append-nil}
-use Rattle.std.specs.Prelude.{if◌then◌else◌, codes}
-use Rattle.std.specs.List.{flat_map}
-use Rattle.std.proofs.Math.Seq.{take-add, drop-nil, take-append_seam}
-use Rattle.std.proofs.lemmas.Bool.{ne_eqb}
-use Rattle.std.proofs.lemmas.Grind.{flat_map-append}
-use Rattle.std.proofs.lemmas.List.{take-append-le}
-use Rattle.cweb_rules.specs.Bytes.{begins, is_line_end, starts_section}
-use Rattle.cweb_rules.specs.Cut.{Reach, reach, reach_in, with_unit, body, size_of}
-use Rattle.cweb_rules.specs.Fronts.{quoted}
-use Rattle.cweb_rules.specs.Items.{look_in_raw}
-use Rattle.cweb_rules.specs.Kinds.{Kind, Skipped, Section, Code, Letter, ControlText, Verbatim, Constant, Occurrence, Blanks, LineEnd, Comment, Quoted, Defined, Identifier, Numeral, Punctuator, Front}
-use Rattle.cweb_rules.specs.Lines.{IsLine}
-use Rattle.cweb_rules.specs.Pays.{at_line_ends}
-use Rattle.cweb_rules.specs.declared.end.End.{End}
-use Rattle.cweb_rules.specs.declared.end.End.TheVariants.{Cut}
-use Rattle.cweb_rules.specs.declared.look.Look.{Look}
-use Rattle.cweb_rules.specs.declared.look.Look.TheVariants.{Goes, Ends}
+use Rattle.cweb_rules.proofs.Common.{◌≡◌, ◌≤◌, ◌<◌, ℕ, zero, suc, ◌+◌, ◌-◌, Bool, true, false, List, [], ◌∷◌, ◌++◌, length, take, drop, refl, ap, sym, ◌∙◌, subst, arith, take-append-drop, append_assoc, append-nil, if◌then◌else◌, codes, flat_map, take-add, drop-nil, take-append_seam, ne_eqb, flat_map-append, take-append-le, begins, is_line_end, starts_section, Reach, reach, reach_in, with_unit, body, size_of, quoted, look_in_raw, Kind, Skipped, Section, Code, Letter, ControlText, Verbatim, Constant, Occurrence, Blanks, LineEnd, Comment, Quoted, Defined, Identifier, Numeral, Punctuator, Front, IsLine, at_line_ends, End, Cut, Look, Goes, Ends}
 use Rattle.cweb_rules.proofs.InLines.{InLine, AreLines, IsLine-take}
 use Rattle.cweb_rules.proofs.Looks.{IsSome, AllSome}
 

@@ -1,9 +1,5 @@
 -- Runs of bytes of identifiers, some bytes at a time.
-use Rattle.std.proofs.Common.{◌≡◌, ◌≤◌, ◌<◌, ℕ, zero, suc, ◌+◌, ◌-◌, true, false, List, [], ◌∷◌, length, take, drop, refl, ap, arith}
-use Rattle.std.specs.Prelude.{if◌then◌else◌}
-use Rattle.std.specs.List.{prefix_len}
-use Rattle.std.proofs.lemmas.List.{length-drop}
-use Rattle.cweb_rules.specs.Bytes.{is_word_byte}
+use Rattle.cweb_rules.proofs.Common.{◌≡◌, ◌≤◌, ◌<◌, ℕ, zero, suc, ◌+◌, ◌-◌, true, false, List, [], ◌∷◌, length, take, drop, refl, ap, arith, if◌then◌else◌, prefix_len, length-drop, is_word_byte}
 
 -- none of them does
 run_full : (k : ℕ) (u : List ℕ) → k ≤ prefix_len is_word_byte (take k u)

@@ -1,7 +1,6 @@
 -- The table of the bytes of words.
-use Rattle.std.proofs.Common.{◌≡◌, ◌<◌, ℕ, Bool, true, false, List, ◌++◌, replicate, slice_index_or, refl}
+use Rattle.cweb_rules.proofs.Common.{◌≡◌, ◌<◌, ℕ, Bool, true, false, List, ◌++◌, replicate, slice_index_or, refl, is_word_byte}
 use Rattle.cweb_files.proofs.ByteTables.{told_by_table}
-use Rattle.cweb_rules.specs.Bytes.{is_word_byte}
 
 -- which bytes are of words, as runs of equal answers: a dollar, digits, letters, a low line, letters and high bytes are
 abbrev pub word_bytes : List Bool

@@ -1,25 +1,9 @@
 -- How lines are read before they are taken.
-use Rattle.std.proofs.Common.{◌≡◌, ◌≤◌, ◌<◌, ℕ, ◌+◌, ◌*◌, Bool, List, [], ◌∷◌, ◌++◌, length, Option, None, Some, refl, ap, sym, ◌∙◌, subst, arith}
-use Rattle.std.specs.Prelude.{IsTrue}
-use Rattle.std.proofs.lemmas.List.{append_assoc, length-append}
-use Rattle.std.proofs.lemmas.List.Elements.{All-append, All-nil, All-push}
-use Rattle.cweb_lines.specs.Ahead.{LooksAt, TakesLines}
-use Rattle.cweb_lines.specs.Lending.{bytes_in}
-use Rattle.cweb_lines.specs.Lines.{Line}
-use Rattle.cweb_lines.specs.Merge.{Event}
-use Rattle.cweb_lines.specs.Merging.{Gives, SoFar, told_by}
-use Rattle.cweb_lines.specs.Names.{names_of}
-use Rattle.cweb_lines.specs.Passing.{lines_next, standing, top_of}
-use Rattle.cweb_lines.specs.declared.passing.ahead.Ahead.{Ahead}
-use Rattle.cweb_lines.specs.declared.run.Run.{Run}
-use Rattle.cweb_lines.specs.declared.text.OpenText.{OpenText}
+use Rattle.cweb_scan.proofs.Common.{◌≡◌, ◌≤◌, ◌<◌, ℕ, ◌+◌, ◌*◌, Bool, List, [], ◌∷◌, ◌++◌, length, Option, None, Some, refl, ap, sym, ◌∙◌, subst, arith, IsTrue, append_assoc, length-append, All-append, All-nil, All-push, LooksAt, TakesLines, bytes_in, Line, Event, SoFar, told_by, names_of, lines_next, standing, top_of, Ahead, Run, OpenText, Held, cost, read_after, web_size, read, AreBelow, HasTaken}
+use Rattle.cweb_lines.specs.Merging.{Gives}
 use Rattle.cweb_lines.proofs.Standing.{standing-append}
 use Rattle.cweb_lines.proofs.Sums.{gives_both}
 use Rattle.cweb_scan.specs.Ahead.{HasRead}
-use Rattle.cweb_scan.specs.Held.{Held, cost, read_after}
-use Rattle.cweb_scan.specs.Law.{web_size}
-use Rattle.cweb_scan.specs.Run.{read}
-use Rattle.cweb_scan.specs.Scan.{AreBelow, HasTaken}
 use Rattle.cweb_scan.proofs.Scans.{web_size-append, wider}
 
 none : {R : Type 0} (slot : Option (OpenText R)) → lines_next slot [] ≡ []

@@ -1,16 +1,6 @@
 -- Plain C text: a blank before a piece.
-use Rattle.std.proofs.Common.{◌≡◌, ◌≤◌, ℕ, ◌+◌, Bool, true, false, ◌==◌, List, [], ◌∷◌, ◌++◌, length, drop, refl, ap, sym, ◌∙◌, subst, arith}
-use Rattle.std.specs.Prelude.{if◌then◌else◌}
-use Rattle.std.specs.List.{prefix_len}
-use Rattle.std.proofs.lemmas.Bool.{eqb-true}
-use Rattle.cweb_rules.specs.Bytes.{is_blank}
-use Rattle.cweb_rules.specs.Lines.{IsLine}
-use Rattle.cweb_rules.specs.Rules.{c_rule}
-use Rattle.cweb_rules.specs.declared.rule.Rule.{Rule}
+use Rattle.cweb_scan.proofs.Common.{◌≡◌, ◌≤◌, ℕ, ◌+◌, Bool, true, false, ◌==◌, List, [], ◌∷◌, ◌++◌, length, drop, refl, ap, sym, ◌∙◌, subst, arith, if◌then◌else◌, prefix_len, eqb-true, is_blank, IsLine, c_rule, Rule, Held, Takes, goes_on, past_blank, IsPlainC, TakesPlain, State}
 use Rattle.cweb_rules.specs.declared.rule.Rule.TheVariants as rule
-use Rattle.cweb_scan.specs.Held.{Held, Takes, goes_on}
-use Rattle.cweb_scan.specs.Plain.{past_blank, IsPlainC, TakesPlain}
-use Rattle.cweb_scan.specs.State.{State}
 use Rattle.cweb_scan.proofs.PlainTurns.{left_line, some_goes_on, TakesSome}
 use Rattle.cweb_scan.proofs.Plains.{blanks_turn}
 use Rattle.cweb_scan.proofs.Rests.{drop_more, takes_none}

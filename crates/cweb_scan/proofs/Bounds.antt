@@ -1,23 +1,6 @@
 -- What is kept of a web has no more tokens, and no more bytes, than the web has bytes and lines.
-use Rattle.std.proofs.Common.{◌≡◌, ◌≤◌, ℕ, zero, suc, ◌+◌, ◌-◌, List, [], ◌∷◌, ◌++◌, Option, Some, None, length, take, map, refl, arith, length-append}
-use Rattle.std.specs.Prelude.{option_to_list}
-use Rattle.std.specs.List.{fold}
-use Rattle.std.proofs.lemmas.List.{length-take-le}
-use Rattle.cweb_lines.specs.Lines.{Line}
-use Rattle.cweb_store.specs.Names.{Occurrence}
-use Rattle.cweb_store.specs.Parts.{Token, Word, Number, Literal, Verbatim, Punct, Blank, Newline, Join, Defs, Name, Head, Tail, Mark, Part, all_tokens}
-use Rattle.cweb_store.specs.Replacements.{Replacement}
+use Rattle.cweb_scan.proofs.Common.{◌≡◌, ◌≤◌, ℕ, zero, suc, ◌+◌, ◌-◌, List, [], ◌∷◌, ◌++◌, Option, Some, None, length, take, map, refl, arith, length-append, option_to_list, fold, length-take-le, Line, Occurrence, Token, Word, Number, Literal, Verbatim, Punct, Blank, Newline, Join, Defs, Name, Head, Tail, Mark, Part, all_tokens, Replacement, PartsSoFar, all_parts, finished, Piece, State, leave, before_text, Reading, after, front_of, pieces_in, run, further, read, scanned, total, one, text_size, occurrence_size, replacement_size, part_size, open_size, parts_size, token_number, text_bytes, due, Adds, web_size, IsBounded}
 use Rattle.cweb_store.specs.Texts as kept
-use Rattle.cweb_store.specs.Growing.{PartsSoFar, all_parts}
-use Rattle.cweb_store.specs.Calls.{finished}
-use Rattle.cweb_rules.specs.Kinds.{Piece}
-use Rattle.cweb_scan.specs.State.{State, leave, before_text}
-use Rattle.cweb_scan.specs.After.{Reading, after}
-use Rattle.cweb_scan.specs.Run.{front_of, pieces_in, run, further, read, scanned}
-use Rattle.cweb_scan.specs.Bound.{total, one, text_size, occurrence_size, replacement_size, part_size, open_size, parts_size, token_number, text_bytes}
-use Rattle.cweb_rules.specs.Pays.{due}
-use Rattle.cweb_scan.specs.Bound.{Adds}
-use Rattle.cweb_scan.specs.Law.{web_size, IsBounded}
 use Rattle.cweb_scan.proofs.Measures.{total-append}
 use Rattle.cweb_scan.proofs.StateAdds.{adds_both, due_some, leave_in-adds}
 use Rattle.cweb_scan.proofs.PieceAdds.{piece-adds}

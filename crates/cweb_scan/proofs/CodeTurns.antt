@@ -1,28 +1,8 @@
 -- What is taken in one turn where no item is open: an item that ends in its line, and a code.
-use Rattle.std.proofs.Common.{◌≡◌, ◌≤◌, ℕ, Bool, true, false, ◌&&◌, ◌||◌, ◌==◌, not, ◌+◌, List, [], ◌∷◌, length, drop, get_or, refl, ap, sym, ◌∙◌, subst, arith}
-use Rattle.std.specs.Prelude.{if◌then◌else◌, codes}
-use Rattle.std.specs.List.{prefix_len}
-use Rattle.std.proofs.lemmas.Bool.{eqb-true}
-use Rattle.cweb_rules.specs.Bytes.{begins, is_one_of, lower, starts_section}
-use Rattle.cweb_rules.specs.Codes.{in_limbo, in_text, in_macro, in_c}
-use Rattle.cweb_rules.specs.Fronts.{front_in, code_at, code_front, section_at}
-use Rattle.cweb_rules.specs.Kinds.{Skipped, Front, front}
-use Rattle.cweb_rules.specs.Lines.{IsLine, opens_in, opens_code, opens_effect}
-use Rattle.cweb_rules.specs.declared.context.Context.{Context}
-use Rattle.cweb_rules.specs.declared.context.Context.TheVariants.{Limbo, TeX, Definition, Macro, CText}
-use Rattle.cweb_rules.specs.declared.effect.Effect.{Effect}
-use Rattle.cweb_rules.specs.declared.effect.Effect.TheVariants.{Nothing, Define, Format, Program, Named, InsertDefs, Joins, GiveAt, Faulty}
+use Rattle.cweb_scan.proofs.Common.{◌≡◌, ◌≤◌, ℕ, Bool, true, false, ◌&&◌, ◌||◌, ◌==◌, not, ◌+◌, List, [], ◌∷◌, length, drop, get_or, refl, ap, sym, ◌∙◌, subst, arith, if◌then◌else◌, codes, prefix_len, eqb-true, begins, is_one_of, lower, starts_section, in_limbo, in_text, in_macro, in_c, front_in, code_at, code_front, section_at, Skipped, Front, front, IsLine, opens_in, opens_code, opens_effect, Context, Limbo, TeX, Definition, Macro, CText, Effect, Nothing, Define, Format, Program, Named, InsertDefs, Joins, GiveAt, Faulty, enter_in, is_c, Gives, effect_in, is_head, is_name, is_skipped, reads_c, reads_names, Held, Takes, Passes, Between, front_of, State}
 use Rattle.cweb_rules.specs.declared.effect.Effect.TheVariants as effect
 use Rattle.cweb_rules.proofs.Closed.{is_named, c_named, macro_named, text_named}
 use Rattle.cweb_rules.proofs.Seams.{both}
-use Rattle.cweb_scan.specs.After.{enter_in}
-use Rattle.cweb_scan.specs.Directives.{is_c}
-use Rattle.cweb_scan.specs.Fronted.{Gives, effect_in, is_head, is_name, is_skipped, reads_c, reads_names}
-use Rattle.cweb_scan.specs.Held.{Held, Takes}
-use Rattle.cweb_scan.specs.Turned.{Passes}
-use Rattle.cweb_scan.specs.Resume.{Between}
-use Rattle.cweb_scan.specs.Run.{front_of}
-use Rattle.cweb_scan.specs.State.{State}
 use Rattle.cweb_scan.proofs.Fairs.{fair}
 use Rattle.cweb_scan.proofs.Rests.{is_text, skipped_takes}
 use Rattle.cweb_scan.proofs.Turns.{between, enter_same, staying_takes}

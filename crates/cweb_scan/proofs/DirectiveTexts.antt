@@ -1,27 +1,9 @@
 -- The text of a directive that has come too far for an included name: what is told of it, and what its pieces make.
-use Rattle.std.proofs.Common.{◌≡◌, ◌≤◌, ℕ, Bool, true, false, ◌&&◌, not, List, Option, Some, length, take, refl, ap, sym, ◌∙◌, subst}
-use Rattle.std.specs.Prelude.{if◌then◌else◌, codes, option_map}
-use Rattle.std.specs.List.{prefix_len}
-use Rattle.cweb_store.specs.Growing.{longer}
-use Rattle.cweb_store.specs.Parts.{Token, Punct, Part}
-use Rattle.cweb_rules.specs.Bytes.{is_blank}
-use Rattle.cweb_rules.specs.Lines.{IsLine}
-use Rattle.cweb_rules.specs.Rules.{c_rule}
-use Rattle.cweb_rules.specs.Tables.{listed, longest}
-use Rattle.cweb_rules.specs.declared.context.Context.{Context}
-use Rattle.cweb_rules.specs.declared.context.Context.TheVariants.{Limbo, TeX, Definition, Macro, CText}
-use Rattle.cweb_rules.specs.declared.rule.Rule.{Rule}
+use Rattle.cweb_scan.proofs.Common.{◌≡◌, ◌≤◌, ℕ, Bool, true, false, ◌&&◌, not, List, Option, Some, length, take, refl, ap, sym, ◌∙◌, subst, if◌then◌else◌, codes, option_map, prefix_len, longer, Token, Punct, Part, is_blank, IsLine, c_rule, listed, longest, Context, Limbo, TeX, Definition, Macro, CText, Rule, blank, punctuator, directive, directive_of, in_directive, is_c, is_punct, is_some, names_include, goes_over, has_part, is_blank_token, is_further_stage, is_include_stage, is_include_word, is_outside, stage_of, step, IsTied, in_directive_text, IsPlainToken, TakesPlain, State, give, tokens_of, Directive, Stage, Outside, Bare, Include, Further}
 use Rattle.cweb_rules.specs.declared.rule.Rule.TheVariants as rule
-use Rattle.cweb_scan.specs.After.{blank, punctuator}
-use Rattle.cweb_scan.specs.Directives.{directive, directive_of, in_directive, is_c, is_punct, is_some, names_include}
-use Rattle.cweb_scan.specs.Kept.{further, goes_over, has_part, is_blank_token, is_further_stage}
-use Rattle.cweb_scan.specs.Kept.{is_include_stage, is_include_word, is_line_end, is_outside, stage_of, step, IsTied}
-use Rattle.cweb_scan.specs.Plain.{in_directive_text, IsPlainToken, TakesPlain}
-use Rattle.cweb_scan.specs.State.{State, give, tokens_of}
-use Rattle.cweb_scan.specs.declared.scanner.directive.Directive.{Directive}
+use Rattle.cweb_scan.specs.Kept.{further}
+use Rattle.cweb_scan.specs.Kept.{is_line_end}
 use Rattle.cweb_scan.specs.declared.scanner.directive.Last.TheVariants as last
-use Rattle.cweb_scan.specs.declared.scanner.directive.Stage.{Stage}
-use Rattle.cweb_scan.specs.declared.scanner.directive.Stage.TheVariants.{Outside, Bare, Include, Further}
 use Rattle.cweb_scan.proofs.Furthers.{and_false}
 use Rattle.cweb_scan.proofs.Plains.{rule_at, turn}
 use Rattle.cweb_scan.proofs.TiedSteps.{include-seen, outside-seen, tied_given}

@@ -1,11 +1,5 @@
 -- A part without the layout that is last has no more tokens.
-use Rattle.std.proofs.Common.{◌≡◌, ◌≤◌, ◌+◌, Bool, true, false, List, [], ◌∷◌, ◌++◌, Some, None, length, take, drop, ap, arith, length-append}
-use Rattle.std.specs.Prelude.{if◌then◌else◌, option_map, option_to_list}
-use Rattle.std.proofs.lemmas.Grind.{flat_map-append}
-use Rattle.std.proofs.lemmas.List.{length-drop, length-take}
-use Rattle.cweb_store.specs.Growing.{PartsSoFar, dropped, token_count}
-use Rattle.cweb_store.specs.Layout.{is_layout, before_last, without_last, without_layout, first_kept}
-use Rattle.cweb_store.specs.Parts.{Token, Part, all_tokens}
+use Rattle.cweb_scan.proofs.Common.{◌≡◌, ◌≤◌, ◌+◌, Bool, true, false, List, [], ◌∷◌, ◌++◌, Some, None, length, take, drop, ap, arith, length-append, if◌then◌else◌, option_map, option_to_list, flat_map-append, length-drop, length-take, PartsSoFar, dropped, token_count, is_layout, before_last, without_last, without_layout, first_kept, Token, Part, all_tokens}
 
 before_last_short : (test : Token → Bool) (t : Token) (ts : List Token) → length (before_last test t ts) ≤ 1 + length ts
 before_last_short test t [] =

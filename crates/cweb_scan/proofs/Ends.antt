@@ -1,22 +1,7 @@
 -- Items that their line's end ends.
-use Rattle.std.proofs.Common.{◌≡◌, ℕ, zero, suc, ◌+◌, ◌-◌, true, false, List, [], ◌∷◌, length, take, drop, refl, ap, sym, ◌∙◌}
-use Rattle.std.specs.Prelude.{if◌then◌else◌}
-use Rattle.cweb_files.specs.declared.place.Place.{Place}
-use Rattle.cweb_rules.specs.Bytes.{is_line_end, at_line_end}
-use Rattle.cweb_rules.specs.Cut.{Reach, reach, reach_in, with_unit, size_of}
-use Rattle.cweb_rules.specs.Fronts.{control_at, line_comment_at}
-use Rattle.cweb_rules.specs.Items.{look_in_control, look_in_comment}
-use Rattle.cweb_rules.specs.Looks.{reached}
-use Rattle.cweb_rules.specs.declared.end.End.{End}
-use Rattle.cweb_rules.specs.declared.end.End.TheVariants.{Closed, Cut, Nested, Open}
-use Rattle.cweb_rules.specs.declared.items.Reached.{Reached}
-use Rattle.cweb_rules.specs.declared.look.Look.{Look}
-use Rattle.cweb_rules.specs.declared.look.Look.TheVariants.{Goes, Ends}
+use Rattle.cweb_scan.proofs.Common.{◌≡◌, ℕ, zero, suc, ◌+◌, ◌-◌, true, false, List, [], ◌∷◌, length, take, drop, refl, ap, sym, ◌∙◌, if◌then◌else◌, Place, is_line_end, at_line_end, Reach, reach, reach_in, with_unit, size_of, control_at, line_comment_at, look_in_control, look_in_comment, reached, End, Closed, Cut, Nested, Open, Reached, Look, Goes, Ends, Reading, next_line, each_line_end, comment_line_end, comment, control_text, blank, ended_as, Gives, State}
 use Rattle.cweb_rules.proofs.Reaches.{IsEnd}
 use Rattle.cweb_rules.proofs.Looks.{IsWithin, AllWithin, control-units, comment-units}
-use Rattle.cweb_scan.specs.After.{Reading, next_line, each_line_end, comment_line_end, comment, control_text, blank}
-use Rattle.cweb_scan.specs.Fronted.{ended_as, Gives}
-use Rattle.cweb_scan.specs.State.{State}
 
 abbrev pub at_end : End → Reach → Reach
 at_end e r = record { units = r.units; close = r.close; how = ended_as e r.how }

@@ -1,10 +1,6 @@
 -- The table of what first bytes tell.
-use Rattle.std.proofs.Common.{◌≡◌, ◌<◌, ℕ, zero, suc, ◌+◌, Bool, true, false, ◌&&◌, ◌==◌, List, [], ◌∷◌, ◌++◌, length, replicate}
-use Rattle.std.proofs.Common.{slice_index_or, refl, ap, sym, ◌∙◌, arith}
-use Rattle.std.proofs.lemmas.Bool.{eqb-true}
-use Rattle.cweb_scan.specs.Plain.{plain_by}
-use Rattle.cweb_scan.specs.declared.scanner.plain.Plain.{Plain}
-use Rattle.cweb_scan.specs.declared.scanner.plain.Plain.TheVariants.{Blank, Word, Sign, Operator, Digit, Quote, Further, Stop}
+use Rattle.cweb_scan.proofs.Common.{◌≡◌, ◌<◌, ℕ, zero, suc, ◌+◌, Bool, true, false, ◌&&◌, ◌==◌, List, [], ◌∷◌, ◌++◌, length, replicate, slice_index_or, refl, ap, sym, ◌∙◌, arith, eqb-true, plain_by, Plain, Sign, Operator, Digit}
+use Rattle.cweb_scan.specs.declared.scanner.plain.Plain.TheVariants.{Blank, Word, Quote, Further, Stop}
 
 -- kinds as numbers, so that two of them are compared by computing
 abbrev number : Plain → ℕ

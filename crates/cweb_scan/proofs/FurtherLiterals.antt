@@ -1,24 +1,8 @@
 -- Plain C text: literals that end in their line and have no `@`.
-use Rattle.std.proofs.Common.{◌≡◌, ◌≤◌, ℕ, ◌+◌, true, false, ◌&&◌, ◌==◌, not, List, [], ◌∷◌, ◌++◌, length, take, drop, refl, ap, sym, ◌∙◌, subst, arith}
-use Rattle.std.specs.Prelude.{if◌then◌else◌, codes, bytes_eq}
-use Rattle.std.specs.List.{flat_map, fold, prefix_len}
-use Rattle.cweb_store.specs.Parts.{Literal}
-use Rattle.cweb_rules.specs.Cut.{Reach, reach, body, size_of}
-use Rattle.cweb_rules.specs.Fronts.{literal_at, literal_prefix, quote_of}
-use Rattle.cweb_rules.specs.Items.{look_in_literal, unit_bytes, text_in}
-use Rattle.cweb_rules.specs.Lines.{IsLine, is_open}
-use Rattle.cweb_rules.specs.Looks.{reached}
-use Rattle.cweb_rules.specs.Rules.{c_rule}
-use Rattle.cweb_rules.specs.declared.end.End.{End}
-use Rattle.cweb_rules.specs.declared.end.End.TheVariants.{Closed, Cut, Open}
-use Rattle.cweb_rules.specs.declared.items.Reached.{Reached}
+use Rattle.cweb_scan.proofs.Common.{◌≡◌, ◌≤◌, ℕ, ◌+◌, true, false, ◌&&◌, ◌==◌, not, List, [], ◌∷◌, ◌++◌, length, take, drop, refl, ap, sym, ◌∙◌, subst, arith, if◌then◌else◌, codes, bytes_eq, flat_map, fold, prefix_len, Literal, Reach, reach, body, size_of, literal_at, literal_prefix, quote_of, look_in_literal, unit_bytes, text_in, IsLine, is_open, reached, c_rule, End, Closed, Cut, Open, Reached, Reading, each_line_end, literal, literal_unit, Gives, is_skipped, IsPlainC, TakesPlain, State, give, moved}
 use Rattle.cweb_rules.specs.declared.rule.Rule.TheVariants as rule
 use Rattle.cweb_rules.proofs.Looks.{ended_whole, ended_same, literal-local, literal-some}
 use Rattle.cweb_rules.proofs.UnitNewlines.{quoted-bytes}
-use Rattle.cweb_scan.specs.After.{Reading, each_line_end, literal, literal_unit}
-use Rattle.cweb_scan.specs.Fronted.{Gives, is_skipped}
-use Rattle.cweb_scan.specs.Plain.{IsPlainC, TakesPlain}
-use Rattle.cweb_scan.specs.State.{State, give, moved}
 use Rattle.cweb_scan.proofs.Ends.{none_to_come, nothing_later}
 use Rattle.cweb_scan.proofs.Furthers.{ended_turn}
 

@@ -1,32 +1,9 @@
 -- Plain C text: the pieces that their first bytes don't tell.
-use Rattle.std.proofs.Common.{◌≡◌, ◌≤◌, ℕ, zero, suc, ◌+◌, Bool, true, false, ◌||◌, ◌&&◌, ◌==◌, not, List, [], ◌∷◌, Option, Some, None, length, take, drop, refl, ap, sym, ◌∙◌, arith}
-use Rattle.std.specs.Prelude.{if◌then◌else◌, codes, bytes_eq}
-use Rattle.std.proofs.lemmas.Bool.Decides.{nat_tests}
-use Rattle.cweb_store.specs.Parts.{Token, Number, Punct, Blank}
-use Rattle.cweb_rules.specs.Bytes.{begins, first_is, at_line_end}
-use Rattle.cweb_rules.specs.Codes.{in_c}
-use Rattle.cweb_rules.specs.Cut.{reach, size_of}
-use Rattle.cweb_rules.specs.Fronts.{front_in, comment_at}
-use Rattle.cweb_rules.specs.Items.{look_in_comment}
-use Rattle.cweb_rules.specs.Lines.{IsLine, is_open, opens_in}
-use Rattle.cweb_rules.specs.Looks.{reached}
-use Rattle.cweb_rules.specs.Rules.{c_rule, c_front_by}
-use Rattle.cweb_rules.specs.Tables.{listed, longest, number_len}
-use Rattle.cweb_rules.specs.declared.context.Context.{Context}
-use Rattle.cweb_rules.specs.declared.context.Context.TheVariants.{Limbo, TeX, Definition, Macro, CText}
-use Rattle.cweb_rules.specs.declared.end.End.{End}
-use Rattle.cweb_rules.specs.declared.end.End.TheVariants.{Closed, Cut, Open}
-use Rattle.cweb_rules.specs.declared.items.Reached.{Reached}
-use Rattle.cweb_rules.specs.declared.look.Look.{Look}
-use Rattle.cweb_rules.specs.declared.rule.Rule.{Rule}
+use Rattle.cweb_scan.proofs.Common.{◌≡◌, ◌≤◌, ℕ, zero, suc, ◌+◌, Bool, true, false, ◌||◌, ◌&&◌, ◌==◌, not, List, [], ◌∷◌, Option, Some, None, length, take, drop, refl, ap, sym, ◌∙◌, arith, if◌then◌else◌, codes, bytes_eq, nat_tests, Token, Number, Punct, Blank, begins, first_is, at_line_end, in_c, reach, size_of, front_in, comment_at, look_in_comment, IsLine, is_open, opens_in, reached, c_rule, c_front_by, listed, longest, number_len, Context, Limbo, TeX, Definition, Macro, CText, End, Closed, Cut, Open, Reached, Look, Rule, Reading, blank, comment, comment_line_end, punctuator, directive, is_c, is_some, names_include, some_include, Gives, ended_as, is_head, is_kept_back, IsPlainC, IsPlainToken, TakesPlain, State, give}
 use Rattle.cweb_rules.specs.declared.rule.Rule.TheVariants as rule
 use Rattle.cweb_rules.proofs.Looks.{comment-units}
 use Rattle.cweb_rules.proofs.TokenSizes.{longest-some}
-use Rattle.cweb_scan.specs.After.{Reading, blank, comment, comment_line_end, punctuator}
-use Rattle.cweb_scan.specs.Directives.{directive, is_c, is_blank, is_some, names_include, some_include}
-use Rattle.cweb_scan.specs.Fronted.{Gives, ended_as, is_head}
-use Rattle.cweb_scan.specs.Plain.{is_kept_back, IsPlainC, IsPlainToken, TakesPlain}
-use Rattle.cweb_scan.specs.State.{State, give}
+use Rattle.cweb_scan.specs.Directives.{is_blank}
 use Rattle.cweb_scan.specs.declared.scanner.directive.Last.TheVariants as last
 use Rattle.cweb_scan.proofs.CodeTurns.{closed_at}
 use Rattle.cweb_scan.proofs.Ends.{how-at_end, line_comment_gives, none_to_come, size-at_end}

@@ -1,18 +1,6 @@
 -- Blanks between two pieces of C text.
-use Rattle.std.proofs.Common.{◌≡◌, ℕ, suc, Bool, true, false, ◌&&◌, List, [], ◌∷◌, drop, take, refl, ap, sym, ◌∙◌, arith}
-use Rattle.std.specs.Prelude.{if◌then◌else◌, not}
-use Rattle.std.specs.List.{prefix_len}
-use Rattle.cweb_rules.specs.Bytes.{is_blank}
-use Rattle.cweb_rules.specs.Fronts.{front_in}
-use Rattle.cweb_rules.specs.Kinds.{Blanks, Front, front}
-use Rattle.cweb_rules.specs.declared.context.Context.{Context}
-use Rattle.cweb_rules.specs.declared.context.Context.TheVariants.{CText}
-use Rattle.cweb_store.specs.Parts.{Blank}
-use Rattle.cweb_scan.specs.After.{Reading, after, blank, enter_in}
-use Rattle.cweb_scan.specs.Directives.{directive, in_directive, names_include}
+use Rattle.cweb_scan.proofs.Common.{◌≡◌, ℕ, suc, Bool, true, false, ◌&&◌, List, [], ◌∷◌, drop, take, refl, ap, sym, ◌∙◌, arith, if◌then◌else◌, not, prefix_len, is_blank, front_in, Blanks, Front, front, Context, CText, Blank, Reading, after, blank, enter_in, directive, in_directive, names_include, run, State, give}
 use Rattle.cweb_scan.specs.Directives as spec
-use Rattle.cweb_scan.specs.Run.{run}
-use Rattle.cweb_scan.specs.State.{State, give}
 use Rattle.cweb_scan.proofs.Openers.{run_as}
 
 if_true : (v : Bool) (x y : Front) → v ≡ true → (if v then x else y) ≡ x

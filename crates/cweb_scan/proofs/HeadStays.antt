@@ -1,28 +1,7 @@
 -- What stays in a head in one turn.
-use Rattle.std.proofs.Common.{◌≡◌, ◌≤◌, ℕ, Bool, true, false, ◌&&◌, ◌||◌, ◌==◌, not, List, [], ◌∷◌, length, refl, ap, sym, ◌∙◌, subst}
-use Rattle.std.specs.Prelude.{if◌then◌else◌, codes}
-use Rattle.std.specs.List.{prefix_len}
-use Rattle.std.proofs.lemmas.Bool.{eqb-true}
-use Rattle.cweb_files.specs.declared.place.Place.{Place}
-use Rattle.cweb_rules.specs.Bytes.{begins, is_blank, starts_section}
-use Rattle.cweb_rules.specs.Codes.{in_text, in_macro}
-use Rattle.cweb_rules.specs.Fronts.{front_in, head_as, head_front}
-use Rattle.cweb_rules.specs.Kinds.{Blanks, Front, front}
-use Rattle.cweb_rules.specs.Lines.{IsLine, opens_in, c_opens, opens_code, text_opens}
-use Rattle.cweb_rules.specs.Rules.{c_rule, c_front_by}
-use Rattle.cweb_rules.specs.declared.context.Context.{Context}
-use Rattle.cweb_rules.specs.declared.context.Context.TheVariants.{Definition}
-use Rattle.cweb_rules.specs.declared.rule.Rule.{Rule}
+use Rattle.cweb_scan.proofs.Common.{◌≡◌, ◌≤◌, ℕ, Bool, true, false, ◌&&◌, ◌||◌, ◌==◌, not, List, [], ◌∷◌, length, refl, ap, sym, ◌∙◌, subst, if◌then◌else◌, codes, prefix_len, eqb-true, Place, begins, is_blank, starts_section, in_text, in_macro, front_in, head_as, head_front, Blanks, Front, front, IsLine, opens_in, c_opens, opens_code, text_opens, c_rule, c_front_by, Context, Definition, Rule, blank, enter_in, stays_in_head, directive, is_c, is_some, names_include, Gives, Held, Passes, Between, front_of, State, drop_definition, give}
 use Rattle.cweb_rules.specs.declared.rule.Rule.TheVariants as rule
-use Rattle.cweb_scan.specs.After.{blank, enter_in, stays_in_head}
-use Rattle.cweb_scan.specs.Directives.{directive, is_c, is_some, names_include}
 use Rattle.cweb_scan.specs.Directives as directives
-use Rattle.cweb_scan.specs.Fronted.{Gives}
-use Rattle.cweb_scan.specs.Held.{Held}
-use Rattle.cweb_scan.specs.Turned.{Passes}
-use Rattle.cweb_scan.specs.Resume.{Between}
-use Rattle.cweb_scan.specs.Run.{front_of}
-use Rattle.cweb_scan.specs.State.{State, drop_definition, give}
 use Rattle.cweb_scan.proofs.CodeTurns.{at_item, staying_at}
 use Rattle.cweb_scan.proofs.Turns.{opens_by, c_opens-by, neither}
 use Rattle.cweb_store.specs.Parts as parts

@@ -1,33 +1,13 @@
 -- What leaves a head in one turn.
-use Rattle.std.proofs.Common.{◌≡◌, ◌≤◌, ℕ, Bool, true, false, List, [], ◌∷◌, ◌++◌, Option, Some, None, length, drop, take, refl, ap, sym, ◌∙◌, subst, arith}
-use Rattle.std.specs.Prelude.{if◌then◌else◌, codes}
-use Rattle.cweb_files.specs.declared.place.Place.{Place}
-use Rattle.cweb_rules.specs.Bytes.{begins, is_blank, is_line_end, is_digit, is_word_byte, starts_section}
-use Rattle.cweb_rules.specs.Codes.{in_text, in_macro}
+use Rattle.cweb_scan.proofs.Common.{◌≡◌, ◌≤◌, ℕ, Bool, true, false, List, [], ◌∷◌, ◌++◌, Option, Some, None, length, drop, take, refl, ap, sym, ◌∙◌, subst, arith, if◌then◌else◌, codes, Place, begins, is_blank, is_line_end, is_digit, is_word_byte, starts_section, in_text, in_macro, front_in, c_front, code_at, code_front, head_as, head_front, letter_is, section_at, text_front, Kind, Skipped, Section, Code, Letter, ControlText, Constant, Blanks, LineEnd, Comment, Quoted, Defined, Identifier, Numeral, Punctuator, Front, front, AtLineEnd, c_rule, c_front_by, Transliteration, Context, Definition, Effect, Nothing, Define, Format, Program, Named, InsertDefs, Joins, GiveAt, Faulty, Rule, enter_in, item, stays_in_head, names_include, Held, Passes, Between, run, State, drop_definition}
 use Rattle.cweb_rules.specs.Constants.{letter}
-use Rattle.cweb_rules.specs.Fronts.{front_in, c_front, code_at, code_front, head_as, head_front, letter_is, section_at, text_front}
-use Rattle.cweb_rules.specs.Kinds.{Kind, Skipped, Section, Code, Letter, ControlText, Verbatim, Constant, Occurrence, Blanks, LineEnd, Comment, Quoted, Defined, Identifier, Numeral, Punctuator, Front, front}
-use Rattle.cweb_rules.specs.Lines.{AtLineEnd}
-use Rattle.cweb_rules.specs.Rules.{c_rule, c_front_by}
-use Rattle.cweb_rules.specs.declared.constants.Transliteration.{Transliteration}
-use Rattle.cweb_rules.specs.declared.context.Context.{Context}
-use Rattle.cweb_rules.specs.declared.context.Context.TheVariants.{Definition}
-use Rattle.cweb_rules.specs.declared.effect.Effect.{Effect}
-use Rattle.cweb_rules.specs.declared.effect.Effect.TheVariants.{Nothing, Define, Format, Program, Named, InsertDefs, Joins, GiveAt, Faulty}
+use Rattle.cweb_rules.specs.Kinds.{Verbatim, Occurrence}
 use Rattle.cweb_rules.specs.declared.effect.Effect.TheVariants as effect
-use Rattle.cweb_rules.specs.declared.rule.Rule.{Rule}
 use Rattle.cweb_rules.specs.declared.rule.Rule.TheVariants as rule
 use Rattle.cweb_rules.proofs.ByRules.{c_front-by}
 use Rattle.cweb_rules.proofs.LineLiterals.{starts_literal_line}
 use Rattle.cweb_rules.proofs.LineDelimiters.{starts_raw_line}
 use Rattle.cweb_rules.proofs.Seams.{begins_line, starts_number_stop, starts_section_line, stops}
-use Rattle.cweb_scan.specs.After.{enter_in, item, stays_in_head}
-use Rattle.cweb_scan.specs.Directives.{names_include}
-use Rattle.cweb_scan.specs.Held.{Held}
-use Rattle.cweb_scan.specs.Turned.{Passes}
-use Rattle.cweb_scan.specs.Resume.{Between}
-use Rattle.cweb_scan.specs.Run.{run}
-use Rattle.cweb_scan.specs.State.{State, drop_definition}
 use Rattle.cweb_scan.proofs.CodeTurns.{at_item}
 use Rattle.cweb_scan.proofs.Openers.{run_as}
 use Rattle.cweb_scan.proofs.RuleTurns.{is_ended}

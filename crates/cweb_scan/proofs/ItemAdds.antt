@@ -1,26 +1,8 @@
 -- How much each item of a scan adds to what is kept.
-use Rattle.std.proofs.Common.{◌≡◌, ℕ, Bool, true, false, ◌&&◌, not, List, [], ◌∷◌, Some, length, arith}
-use Rattle.std.specs.Prelude.{if◌then◌else◌, codes}
-use Rattle.cweb_files.specs.declared.place.Place.{Place}
-use Rattle.cweb_store.specs.declared.names.NameRef.{NameRef}
+use Rattle.cweb_scan.proofs.Common.{◌≡◌, ℕ, Bool, true, false, ◌&&◌, not, List, [], ◌∷◌, Some, length, arith, if◌then◌else◌, codes, Place, NameRef, Occurrence, Word, Literal, Verbatim, Punct, Blank, Join, Defs, Name, Mark, with_dropped, with_occurrence, NameDidNotEnd, NamesDoNotNest, CommentDidNotEnd, StringDidNotEnd, ControlTextDidNotEnd, MissingAt, one, text_size, occurrence_size, replacement_size, Effect, Nothing, Define, Format, Program, Named, InsertDefs, Joins, GiveAt, Faulty, in_directive, directive, End, Closed, Cut, Nested, Open, Context, Limbo, TeX, Definition, Macro, CText, State, give, end_macro, blank, punctuator, code, letter, control_text, verbatim, define, comment, name_fault, use_name, open_name, name_in, literal, due, Adds}
 use Rattle.cweb_store.specs.declared.parts.PartKind.TheVariants as part
-use Rattle.cweb_store.specs.Names.{Occurrence}
-use Rattle.cweb_store.specs.Parts.{Word, Literal, Verbatim, Punct, Blank, Join, Defs, Name, Mark}
-use Rattle.cweb_store.specs.Calls.{with_dropped, with_occurrence}
-use Rattle.cweb_rules.specs.declared.fault.ScanKind.TheVariants.{NameDidNotEnd, NamesDoNotNest, CommentDidNotEnd, StringDidNotEnd, ControlTextDidNotEnd, MissingAt}
-use Rattle.cweb_scan.specs.Bound.{one, text_size, occurrence_size, replacement_size}
-use Rattle.cweb_rules.specs.declared.effect.Effect.{Effect}
-use Rattle.cweb_rules.specs.declared.effect.Effect.TheVariants.{Nothing, Define, Format, Program, Named, InsertDefs, Joins, GiveAt, Faulty}
 use Rattle.cweb_rules.specs.declared.effect.Effect.TheVariants as effect
-use Rattle.cweb_scan.specs.Directives.{in_directive, directive, is_blank}
-use Rattle.cweb_rules.specs.declared.end.End.{End}
-use Rattle.cweb_rules.specs.declared.end.End.TheVariants.{Closed, Cut, Nested, Open}
-use Rattle.cweb_rules.specs.declared.context.Context.{Context}
-use Rattle.cweb_rules.specs.declared.context.Context.TheVariants.{Limbo, TeX, Definition, Macro, CText}
-use Rattle.cweb_scan.specs.State.{State, give, end_macro}
-use Rattle.cweb_scan.specs.After.{blank, punctuator, code, letter, control_text, verbatim, define, comment, name_fault, use_name, open_name, name_in, literal}
-use Rattle.cweb_rules.specs.Pays.{due}
-use Rattle.cweb_scan.specs.Bound.{Adds}
+use Rattle.cweb_scan.specs.Directives.{is_blank}
 use Rattle.cweb_scan.proofs.Measures.{total-append, dropped-size}
 use Rattle.cweb_scan.proofs.StateAdds.{adds_both, adds_within, due_some, nothing_adds, give-adds, fault-adds, opens, begin_part-adds, end_macro_in-adds}
 

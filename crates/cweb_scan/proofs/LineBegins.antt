@@ -1,27 +1,9 @@
 -- How a line begins behind what is held, and how the text ends there.
-use Rattle.std.proofs.Common.{◌≡◌, ◌≤◌, ℕ, ◌+◌, Bool, true, false, List, [], ◌∷◌, ◌++◌, take, drop, refl, ap, sym, ◌∙◌, subst, arith}
-use Rattle.std.specs.Prelude.{◌==◌, if◌then◌else◌}
-use Rattle.std.proofs.lemmas.List.{append-nil}
-use Rattle.cweb_files.specs.declared.place.Place.{Place}
-use Rattle.cweb_lines.specs.Lines.{Line}
-use Rattle.cweb_rules.specs.declared.end.End.TheVariants.{Cut}
-use Rattle.cweb_rules.specs.Cut.{size_of}
-use Rattle.cweb_rules.specs.Fronts.{sign_after}
+use Rattle.cweb_scan.proofs.Common.{◌≡◌, ◌≤◌, ℕ, ◌+◌, Bool, true, false, List, [], ◌∷◌, ◌++◌, take, drop, refl, ap, sym, ◌∙◌, subst, arith, ◌==◌, if◌then◌else◌, append-nil, Place, Line, Cut, size_of, sign_after, Reading, on, each_line_end, literal, occurrence, Held, held, after_line_end, begun_at, goes_on, read_after, text_ended, BeginsLine, TakesLineEnd, TakesBytes, cost, owed, awaits_line_end, item_of, quote_byte, Item, takes_sign, weight, run, State, moved, Raw, Quote, Single, Double}
 use Rattle.cweb_rules.specs.Items as items
-use Rattle.cweb_scan.specs.After.{Reading, on, each_line_end, literal, occurrence}
-use Rattle.cweb_scan.specs.Held.{Held, held, after_line_end, begun_at, goes_on, read_after, text_ended, BeginsLine, TakesLineEnd, TakesBytes, cost, owed}
-use Rattle.cweb_scan.specs.OpenRest.{awaits_line_end}
-use Rattle.cweb_scan.specs.Opened.{item_of}
-use Rattle.cweb_scan.specs.Quotes.{quote_byte}
-use Rattle.cweb_scan.specs.Resume.{Item, takes_sign}
 use Rattle.cweb_scan.specs.Resume as item
-use Rattle.cweb_scan.specs.Room.{weight}
-use Rattle.cweb_scan.specs.Run.{run}
-use Rattle.cweb_scan.specs.State.{State, moved}
 use Rattle.cweb_scan.specs.declared.reader.open.Open.{Open}
-use Rattle.cweb_scan.specs.declared.reader.open.Open.TheVariants.{Between, Comment, Name, Literal, AfterBackslash, Raw}
-use Rattle.cweb_scan.specs.declared.reader.open.Quote.{Quote}
-use Rattle.cweb_scan.specs.declared.reader.open.Quote.TheVariants.{Single, Double}
+use Rattle.cweb_scan.specs.declared.reader.open.Open.TheVariants.{Between, Comment, Name, Literal, AfterBackslash}
 use Rattle.cweb_scan.proofs.LineEnds.{between_goes_on, comment_goes_on, name_goes_on, literal_goes_on, raw_goes_on}
 use Rattle.cweb_scan.proofs.OpenLiterals.{literal_cut}
 use Rattle.cweb_scan.proofs.Taken.{first_taken, next_taken}

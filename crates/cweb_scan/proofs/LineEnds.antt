@@ -1,23 +1,6 @@
 -- What a line end does to what is held, whatever item is open.
-use Rattle.std.proofs.Common.{◌≡◌, ℕ, suc, ◌+◌, ◌-◌, Bool, true, false, List, [], ◌∷◌, ◌++◌, length, take, drop, refl, ap, sym, ◌∙◌, arith, append_assoc}
-use Rattle.std.specs.Prelude.{nat_lt, ◌&&◌, ◌==◌, if◌then◌else◌}
-use Rattle.std.specs.List.{fold}
-use Rattle.cweb_files.specs.declared.place.Place.{Place}
-use Rattle.cweb_rules.specs.declared.context.Context.{Context}
-use Rattle.cweb_rules.specs.declared.context.Context.TheVariants.{Limbo, TeX, Definition, Macro, CText}
-use Rattle.cweb_rules.specs.declared.end.End.{End}
-use Rattle.cweb_rules.specs.declared.end.End.TheVariants.{Closed, Cut}
-use Rattle.cweb_rules.specs.declared.look.Look.TheVariants.{Goes, Ends}
-use Rattle.cweb_rules.specs.Cut.{Reach, body, size_of, with_unit, reach_in}
-use Rattle.cweb_rules.specs.Fronts.{front_in, sign_after}
+use Rattle.cweb_scan.proofs.Common.{◌≡◌, ℕ, suc, ◌+◌, ◌-◌, Bool, true, false, List, [], ◌∷◌, ◌++◌, length, take, drop, refl, ap, sym, ◌∙◌, arith, append_assoc, nat_lt, ◌&&◌, ◌==◌, if◌then◌else◌, fold, Place, Context, Limbo, TeX, Definition, Macro, CText, End, Closed, Cut, Goes, Ends, Reach, body, size_of, with_unit, reach_in, front_in, sign_after, Kind, Skipped, LineEnd, Front, front, Piece, State, moved, names_include, Reading, on, line_end_in, line_end, comment_line_end, each_line_end, comment, occurrence, literal, literal_unit, enter_in, item, after, pieces_in, run, Between, InComment, InName, InLiteral, AfterBackslash, InRaw, takes_sign, end_literal, resume, end_comment, end_name, held, after_line_end, goes_on}
 use Rattle.cweb_rules.specs.Items as items
-use Rattle.cweb_rules.specs.Kinds.{Kind, Skipped, LineEnd, Front, front, Piece}
-use Rattle.cweb_scan.specs.State.{State, moved}
-use Rattle.cweb_scan.specs.Directives.{names_include}
-use Rattle.cweb_scan.specs.After.{Reading, on, line_end_in, line_end, comment_line_end, each_line_end, comment, occurrence, literal, literal_unit, enter_in, item, after}
-use Rattle.cweb_scan.specs.Run.{pieces_in, run}
-use Rattle.cweb_scan.specs.Resume.{Between, InComment, InName, InLiteral, AfterBackslash, InRaw, takes_sign, end_literal, resume, end_comment, end_name}
-use Rattle.cweb_scan.specs.Held.{held, after_line_end, goes_on}
 use Rattle.cweb_scan.proofs.OpenLiterals.{raw_line_end}
 
 abbrev reading : State → List Place → Reading

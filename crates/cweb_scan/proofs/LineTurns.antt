@@ -1,16 +1,9 @@
 -- The bytes of a line are taken turn by turn.
-use Rattle.std.proofs.Common.{◌≡◌, ◌≤◌, ◌<◌, ℕ, zero, suc, ◌+◌, ◌*◌, Bool, true, false, List, [], ◌∷◌, length, drop, refl, ap, sym, ◌∙◌, subst, arith}
-use Rattle.std.specs.Prelude.{if◌then◌else◌}
-use Rattle.std.proofs.lemmas.List.{length-drop}
-use Rattle.cweb_rules.specs.Lines.{IsLine}
-use Rattle.cweb_scan.specs.Held.{Held, cost, Takes, TakesBytes}
-use Rattle.cweb_scan.specs.OpenRest.{awaits_line_end, is_open, TakesOpen}
-use Rattle.cweb_scan.specs.Opened.{item_of}
-use Rattle.cweb_scan.specs.Resume.{Item}
+use Rattle.cweb_scan.proofs.Common.{◌≡◌, ◌≤◌, ◌<◌, ℕ, zero, suc, ◌+◌, ◌*◌, Bool, true, false, List, [], ◌∷◌, length, drop, refl, ap, sym, ◌∙◌, subst, arith, if◌then◌else◌, length-drop, IsLine, Held, cost, Takes, TakesBytes, awaits_line_end, TakesOpen, item_of, Item, Passes, TakesTurn, to_do, Raw}
+use Rattle.cweb_scan.specs.OpenRest.{is_open}
 use Rattle.cweb_scan.specs.Resume as item
-use Rattle.cweb_scan.specs.Turned.{Passes, TakesTurn, to_do}
 use Rattle.cweb_scan.specs.declared.reader.open.Open.{Open}
-use Rattle.cweb_scan.specs.declared.reader.open.Open.TheVariants.{Between, Comment, Name, Literal, AfterBackslash, Raw}
+use Rattle.cweb_scan.specs.declared.reader.open.Open.TheVariants.{Between, Comment, Name, Literal, AfterBackslash}
 use Rattle.cweb_scan.proofs.Rests.{drop_more, takes_all, takes_both, takes_none}
 
 -- ONE TURN

@@ -1,13 +1,5 @@
 -- The units of a literal in one line: they leave the places of later lines as they are.
-use Rattle.std.proofs.Common.{◌≡◌, ℕ, true, false, List, [], ◌∷◌, refl, ap, ◌∙◌}
-use Rattle.std.specs.Prelude.{if◌then◌else◌, codes, bytes_eq}
-use Rattle.std.specs.List.{fold}
-use Rattle.cweb_files.specs.declared.place.Place.{Place}
-use Rattle.cweb_rules.specs.declared.fault.ScanKind.TheVariants.{DoubleAtInString}
-use Rattle.cweb_scan.specs.After.{Reading, on, literal_unit}
-use Rattle.cweb_rules.specs.Lines.{IsLine}
-use Rattle.cweb_scan.specs.Fronted.{unit_state}
-use Rattle.cweb_scan.specs.State.{State, fault, moved}
+use Rattle.cweb_scan.proofs.Common.{◌≡◌, ℕ, true, false, List, [], ◌∷◌, refl, ap, ◌∙◌, if◌then◌else◌, codes, bytes_eq, fold, Place, DoubleAtInString, Reading, on, literal_unit, IsLine, unit_state, State, fault, moved}
 use Rattle.cweb_rules.proofs.InLines.{AreLines}
 use Rattle.cweb_scan.proofs.OpenItems.{none-line}
 

@@ -1,32 +1,5 @@
 -- What opens a literal: what is read then is what is read with the literal open.
-use Rattle.std.proofs.Common.{◌≡◌, ◌≤◌, ◌<◌, ℕ, zero, suc, ◌+◌, Bool, true, false, ◌&&◌, ◌==◌, List, [], ◌∷◌, ◌++◌, length, take, drop, refl, ap, sym, ◌∙◌, subst, arith}
-use Rattle.std.specs.Prelude.{if◌then◌else◌, codes, bytes_eq, not}
-use Rattle.std.specs.List.{fold, prefix_len}
-use Rattle.std.proofs.lemmas.List.{take-append-le, drop-append-le, length-drop}
-use Rattle.cweb_scan.specs.After.{Reading, on, each_line_end, next_line, literal, literal_unit, enter_in}
-use Rattle.cweb_rules.specs.Bytes.{begins, first_is, is_blank, is_word_byte, at_line_end}
-use Rattle.cweb_rules.specs.declared.effect.Effect.{Effect}
-use Rattle.cweb_rules.specs.Codes.{in_macro, in_c}
-use Rattle.cweb_rules.specs.declared.look.Look.{Look}
-use Rattle.cweb_rules.specs.Cut.{reach, body, size_of}
-use Rattle.cweb_scan.specs.Directives.{names_include}
-use Rattle.cweb_scan.specs.Fronted.{reads_literals, IsPast}
-use Rattle.cweb_rules.specs.Fronts.{raw_prefix, delimiter, section_at, code_at, comment_at, line_comment_at, raw_at, literal_at, literal_prefix, quote_of, quoted, c_front, starts_raw, starts_literal, starts_include, include_at}
-use Rattle.cweb_rules.specs.declared.end.End.{End}
-use Rattle.cweb_rules.specs.declared.end.End.TheVariants.{Cut}
-use Rattle.cweb_rules.specs.Items.{text_in, look_in_raw, look_in_literal}
-use Rattle.cweb_rules.specs.Kinds.{Skipped, Blanks, LineEnd, Quoted, Identifier, Numeral, Punctuator, Front, front}
-use Rattle.cweb_scan.specs.Resume.{sign_of, InLiteral, InRaw, takes_sign, end_literal, resume}
-use Rattle.cweb_rules.specs.Lines.{IsLine}
-use Rattle.cweb_rules.specs.Fronts.{front_in}
-use Rattle.cweb_scan.specs.Run.{run}
-use Rattle.cweb_rules.specs.declared.context.Context.{Context}
-use Rattle.cweb_rules.specs.declared.context.Context.TheVariants.{Limbo, TeX, Definition, Macro, CText}
-use Rattle.cweb_scan.specs.State.{State, moved, fault}
-use Rattle.cweb_rules.specs.declared.fault.ScanKind.TheVariants.{DoubleAtInString}
-use Rattle.cweb_rules.specs.Lines.{AtLineEnd}
-use Rattle.cweb_rules.specs.Tables.{listed, longest, number_len, starts_number}
-use Rattle.std.proofs.lemmas.Bool.{ne_eqb}
+use Rattle.cweb_scan.proofs.Common.{◌≡◌, ◌≤◌, ◌<◌, ℕ, zero, suc, ◌+◌, Bool, true, false, ◌&&◌, ◌==◌, List, [], ◌∷◌, ◌++◌, length, take, drop, refl, ap, sym, ◌∙◌, subst, arith, if◌then◌else◌, codes, bytes_eq, not, fold, prefix_len, take-append-le, drop-append-le, length-drop, Reading, on, each_line_end, next_line, literal, literal_unit, enter_in, begins, first_is, is_blank, is_word_byte, at_line_end, Effect, in_macro, in_c, Look, reach, body, size_of, names_include, reads_literals, IsPast, raw_prefix, delimiter, section_at, code_at, comment_at, line_comment_at, raw_at, literal_at, literal_prefix, quote_of, quoted, c_front, starts_raw, starts_literal, starts_include, include_at, End, Cut, text_in, look_in_raw, look_in_literal, Skipped, Blanks, LineEnd, Quoted, Identifier, Numeral, Punctuator, Front, front, sign_of, InLiteral, InRaw, takes_sign, end_literal, resume, IsLine, front_in, run, Context, Limbo, TeX, Definition, Macro, CText, State, moved, fault, DoubleAtInString, AtLineEnd, listed, longest, number_len, starts_number, ne_eqb}
 use Rattle.cweb_rules.proofs.Seams.{differs, both, begins_line, drop_line, starts_section_line}
 use Rattle.cweb_rules.proofs.LineLiterals.{starts_literal_line, literal_with, literal_prefix-line, is_quoted-size}
 use Rattle.cweb_rules.proofs.LineDelimiters.{raw_from, raw_prefix-line, delimiter-line, sign-fits, has_delimiter-size, starts_raw_line}

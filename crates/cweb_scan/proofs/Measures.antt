@@ -1,11 +1,5 @@
 -- How the calls of a builder change how much it keeps.
-use Rattle.std.proofs.Common.{◌≡◌, ◌≤◌, ℕ, ◌+◌, Bool, true, false, List, [], ◌∷◌, ◌++◌, Option, Some, None, take, drop, ap, arith, take-append-drop}
-use Rattle.std.specs.Prelude.{option_map, option_to_list, if◌then◌else◌}
-use Rattle.cweb_store.specs.declared.parts.PartKind.{PartKind}
-use Rattle.cweb_store.specs.Parts.{Token, Blank, Part, is_macro}
-use Rattle.cweb_store.specs.Growing.{PartsSoFar, opened, pushed, longer, dropped, all_closed}
-use Rattle.cweb_store.specs.Layout.{before_last, without_last, without_blank, without_layout, first_kept, is_newline, is_layout, at_close}
-use Rattle.cweb_scan.specs.Bound.{total, part_size, open_size, parts_size}
+use Rattle.cweb_scan.proofs.Common.{◌≡◌, ◌≤◌, ℕ, ◌+◌, Bool, true, false, List, [], ◌∷◌, ◌++◌, Option, Some, None, take, drop, ap, arith, take-append-drop, option_map, option_to_list, if◌then◌else◌, PartKind, Token, Blank, Part, is_macro, PartsSoFar, opened, pushed, longer, dropped, all_closed, before_last, without_last, without_blank, without_layout, first_kept, is_newline, is_layout, at_close, total, part_size, open_size, parts_size}
 
 pub total-append : {A : Type 0} (f : A → ℕ) (xs ys : List A) → total f (xs ++ ys) ≡ total f xs + total f ys
 total-append f [] ys = omega arith

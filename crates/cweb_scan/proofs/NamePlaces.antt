@@ -1,17 +1,6 @@
 -- Names and literals hold no places but those that a scan is given.
-use Rattle.std.proofs.Common.{◌≡◌, ℕ, Bool, true, false, List, length, refl}
-use Rattle.cweb_files.specs.declared.place.Place.{Place}
-use Rattle.cweb_store.specs.declared.names.NameRef.{NameRef}
+use Rattle.cweb_scan.proofs.Common.{◌≡◌, ℕ, Bool, true, false, List, length, refl, Place, NameRef, Literal, Name, Mark, Context, Limbo, TeX, Definition, Macro, CText, End, Closed, Cut, Nested, Open, NameDidNotEnd, NamesDoNotNest, StringDidNotEnd, MissingAt, occurrence_in, State, give, with_name, end_macro, name_fault, use_name, open_name, name_in, occurrence, literal}
 use Rattle.cweb_store.specs.declared.parts.PartKind.TheVariants as part
-use Rattle.cweb_store.specs.Parts.{Literal, Name, Mark}
-use Rattle.cweb_rules.specs.declared.context.Context.{Context}
-use Rattle.cweb_rules.specs.declared.context.Context.TheVariants.{Limbo, TeX, Definition, Macro, CText}
-use Rattle.cweb_rules.specs.declared.end.End.{End}
-use Rattle.cweb_rules.specs.declared.end.End.TheVariants.{Closed, Cut, Nested, Open}
-use Rattle.cweb_rules.specs.declared.fault.ScanKind.TheVariants.{NameDidNotEnd, NamesDoNotNest, StringDidNotEnd, MissingAt}
-use Rattle.cweb_scan.specs.Names.{occurrence_in}
-use Rattle.cweb_scan.specs.State.{State, give, with_name, end_macro}
-use Rattle.cweb_scan.specs.After.{name_fault, use_name, open_name, name_in, occurrence, literal}
 use Rattle.cweb_scan.proofs.StatePlaces.{AreKnown, give-known, mark-known, fault-known, begin_part-known, end_macro-known}
 
 module _ (known : Place → Bool) where

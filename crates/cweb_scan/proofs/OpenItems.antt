@@ -1,26 +1,6 @@
 -- An item or a comment that is open: what a line makes of it.
-use Rattle.std.proofs.Common.{◌≡◌, ◌<◌, ℕ, zero, suc, ◌+◌, ◌-◌, Bool, true, false, List, [], ◌∷◌, ◌++◌, length, take, drop, refl, ap, sym, ◌∙◌, arith, length-append, take-append-drop}
-use Rattle.std.specs.Prelude.{if◌then◌else◌, codes}
-use Rattle.std.specs.List.{flat_map}
-use Rattle.std.proofs.lemmas.Bool.{ne_eqb}
-use Rattle.std.proofs.lemmas.Grind.{flat_map-append}
-use Rattle.std.proofs.lemmas.List.{take-append-le, drop-append-le}
-use Rattle.std.proofs.Math.Seq.{take-append-add, drop-append-add}
-use Rattle.cweb_files.specs.declared.place.Place.{Place}
-use Rattle.cweb_scan.specs.After.{Reading, on, each_line_end, next_line, comment_line_end, comment}
-use Rattle.cweb_rules.specs.Bytes.{begins}
-use Rattle.cweb_rules.specs.declared.look.Look.{Look}
-use Rattle.cweb_rules.specs.declared.look.Look.TheVariants.{Goes, Ends}
-use Rattle.cweb_rules.specs.Cut.{Reach, reach, reach_in, with_unit, body, size_of}
+use Rattle.cweb_scan.proofs.Common.{◌≡◌, ◌<◌, ℕ, zero, suc, ◌+◌, ◌-◌, Bool, true, false, List, [], ◌∷◌, ◌++◌, length, take, drop, refl, ap, sym, ◌∙◌, arith, length-append, take-append-drop, if◌then◌else◌, codes, flat_map, ne_eqb, flat_map-append, take-append-le, drop-append-le, take-append-add, drop-append-add, Place, Reading, on, each_line_end, next_line, comment_line_end, comment, begins, Look, Goes, Ends, Reach, reach, reach_in, with_unit, body, size_of, End, Closed, Cut, Nested, Open, look_in_comment, AtLineEnd, is_open, InComment, end_comment, resume, IsLine, run, State}
 use Rattle.cweb_rules.specs.Items as items
-use Rattle.cweb_rules.specs.declared.end.End.{End}
-use Rattle.cweb_rules.specs.declared.end.End.TheVariants.{Closed, Cut, Nested, Open}
-use Rattle.cweb_rules.specs.Items.{look_in_comment}
-use Rattle.cweb_rules.specs.Lines.{AtLineEnd, is_open}
-use Rattle.cweb_scan.specs.Resume.{InComment, end_comment, resume}
-use Rattle.cweb_rules.specs.Lines.{IsLine}
-use Rattle.cweb_scan.specs.Run.{run}
-use Rattle.cweb_scan.specs.State.{State}
 use Rattle.cweb_rules.proofs.InLines.{IsLine-take}
 use Rattle.cweb_rules.proofs.Reaches.{IsEnd, IsLocal, IsWhole, join, reach-append}
 use Rattle.cweb_rules.proofs.Looks.{reach_ends, whole, comment-local, comment-units}

@@ -1,24 +1,6 @@
 -- A literal that is open, raw ones too: what a line makes of it.
-use Rattle.std.proofs.Common.{◌≡◌, ◌≤◌, ℕ, zero, suc, ◌+◌, ◌-◌, ◌&&◌, true, false, ◌==◌, List, [], ◌∷◌, ◌++◌, length, take, drop, refl, ap, sym, ◌∙◌, arith, append_assoc, length-append, take-append-drop}
-use Rattle.std.specs.Prelude.{if◌then◌else◌}
-use Rattle.std.specs.List.{fold, list_all}
-use Rattle.std.proofs.lemmas.Grind.{fold-append}
-use Rattle.std.proofs.lemmas.List.{length-take-le, take-append-le, drop-append-le, length-drop}
-use Rattle.std.proofs.Math.Seq.{drop-append-add}
-use Rattle.cweb_files.specs.declared.place.Place.{Place}
-use Rattle.cweb_scan.specs.After.{Reading, on, literal, literal_unit}
-use Rattle.cweb_rules.specs.Bytes.{first_is}
-use Rattle.cweb_rules.specs.declared.look.Look.{Look}
-use Rattle.cweb_rules.specs.declared.look.Look.TheVariants.{Goes, Ends}
-use Rattle.cweb_rules.specs.Cut.{Reach, reach, reach_in, with_unit, body, size_of}
+use Rattle.cweb_scan.proofs.Common.{◌≡◌, ◌≤◌, ℕ, zero, suc, ◌+◌, ◌-◌, ◌&&◌, true, false, ◌==◌, List, [], ◌∷◌, ◌++◌, length, take, drop, refl, ap, sym, ◌∙◌, arith, append_assoc, length-append, take-append-drop, if◌then◌else◌, fold, list_all, fold-append, length-take-le, take-append-le, drop-append-le, length-drop, drop-append-add, Place, Reading, on, literal, literal_unit, first_is, Look, Goes, Ends, Reach, reach, reach_in, with_unit, body, size_of, End, Closed, Cut, Open, unit_bytes, text_in, look_in_literal, look_in_raw, AtLineEnd, is_open, InLiteral, AfterBackslash, InRaw, end_literal, sign_of, resume, run, State, moved}
 use Rattle.cweb_rules.specs.Items as items
-use Rattle.cweb_rules.specs.declared.end.End.{End}
-use Rattle.cweb_rules.specs.declared.end.End.TheVariants.{Closed, Cut, Open}
-use Rattle.cweb_rules.specs.Items.{unit_bytes, text_in, look_in_literal, look_in_raw}
-use Rattle.cweb_rules.specs.Lines.{AtLineEnd, is_open}
-use Rattle.cweb_scan.specs.Resume.{InLiteral, AfterBackslash, InRaw, end_literal, sign_of, resume}
-use Rattle.cweb_scan.specs.Run.{run}
-use Rattle.cweb_scan.specs.State.{State, moved}
 use Rattle.cweb_rules.proofs.Reaches.{IsLocal, IsWhole}
 use Rattle.cweb_rules.proofs.Looks.{reach_ends, whole, ended_whole, raw-local, raw-units, literal-local, literal-some}
 use Rattle.cweb_rules.proofs.Seams.{in_line, stops}

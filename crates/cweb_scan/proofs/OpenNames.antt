@@ -1,22 +1,6 @@
 -- A name that is open: what a line makes of it.
-use Rattle.std.proofs.Common.{◌≡◌, ◌≤◌, ℕ, ◌+◌, Bool, true, false, List, [], ◌++◌, length, take, drop, ap, sym, ◌∙◌, arith, append_assoc}
-use Rattle.std.specs.Prelude.{if◌then◌else◌, nat_lt}
-use Rattle.std.proofs.lemmas.Grind.{flat_map-append}
-use Rattle.std.proofs.lemmas.List.{take-append-le, drop-append-le, length-drop}
-use Rattle.std.proofs.Math.Seq.{take-append-add, drop-append-add}
-use Rattle.cweb_files.specs.declared.place.Place.{Place}
-use Rattle.cweb_scan.specs.After.{Reading, on, each_line_end, occurrence}
-use Rattle.cweb_rules.specs.Cut.{Reach, reach, size_of}
-use Rattle.cweb_rules.specs.Fronts.{sign_after}
+use Rattle.cweb_scan.proofs.Common.{◌≡◌, ◌≤◌, ℕ, ◌+◌, Bool, true, false, List, [], ◌++◌, length, take, drop, ap, sym, ◌∙◌, arith, append_assoc, if◌then◌else◌, nat_lt, flat_map-append, take-append-le, drop-append-le, length-drop, take-append-add, drop-append-add, Place, Reading, on, each_line_end, occurrence, Reach, reach, size_of, sign_after, End, Cut, Open, unit_bytes, text_in, look_in_name, AtLineEnd, is_open, InName, takes_sign, end_name, resume, IsLine, run, moved}
 use Rattle.cweb_rules.specs.Items as items
-use Rattle.cweb_rules.specs.declared.end.End.{End}
-use Rattle.cweb_rules.specs.declared.end.End.TheVariants.{Cut, Open}
-use Rattle.cweb_rules.specs.Items.{unit_bytes, text_in, look_in_name}
-use Rattle.cweb_rules.specs.Lines.{AtLineEnd, is_open}
-use Rattle.cweb_scan.specs.Resume.{InName, takes_sign, end_name, resume}
-use Rattle.cweb_rules.specs.Lines.{IsLine}
-use Rattle.cweb_scan.specs.Run.{run}
-use Rattle.cweb_scan.specs.State.{moved}
 use Rattle.cweb_rules.proofs.InLines.{IsLine-take}
 use Rattle.cweb_rules.proofs.Looks.{reach_ends, whole, name-local, name-units}
 use Rattle.cweb_rules.proofs.Sizes.{reach-size, name-within, sign_after-size}

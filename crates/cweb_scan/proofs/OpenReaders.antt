@@ -1,18 +1,7 @@
 -- The open item as the code keeps it: what a turn leaves of it, seen through the reader's fields.
-use Rattle.std.proofs.Common.{◌≡◌, ℕ, Bool, true, false, List, ◌++◌, refl, ap, sym, ◌∙◌, subst}
-use Rattle.std.specs.List.{list_all}
-use Rattle.cweb_files.specs.declared.place.Place.{Place}
-use Rattle.cweb_rules.specs.Fronts.{delimiter}
-use Rattle.cweb_rules.specs.Items.{unit_bytes}
-use Rattle.cweb_rules.specs.declared.context.Context.{Context}
-use Rattle.cweb_rules.specs.declared.look.Look.{Look}
+use Rattle.cweb_scan.proofs.Common.{◌≡◌, ℕ, Bool, true, false, List, ◌++◌, refl, ap, sym, ◌∙◌, subst, list_all, Place, delimiter, unit_bytes, Context, Look, Held, has_part, text_of, with_text, delimiter_of, literal_turn, look_size, TakesOpen, item_of, is_raw, IsSigned, Item, Between, InComment, InName, InLiteral, AfterBackslash, InRaw, sign_of}
 use Rattle.cweb_rules.proofs.LineDelimiters.{closing_sign-in_line}
 use Rattle.cweb_rules.proofs.Seams.{in_line}
-use Rattle.cweb_scan.specs.Held.{Held}
-use Rattle.cweb_scan.specs.Kept.{has_part}
-use Rattle.cweb_scan.specs.OpenRest.{text_of, with_text, delimiter_of, literal_turn, look_size, TakesOpen}
-use Rattle.cweb_scan.specs.Opened.{item_of, is_raw, IsSigned}
-use Rattle.cweb_scan.specs.Resume.{Item, Between, InComment, InName, InLiteral, AfterBackslash, InRaw, sign_of}
 use Rattle.cweb_scan.specs.declared.reader.open.Open.{Open}
 use Rattle.cweb_scan.specs.declared.reader.open.Open.TheVariants as code
 use Rattle.cweb_scan.proofs.Opens.{opened}

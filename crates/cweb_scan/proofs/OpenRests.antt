@@ -1,31 +1,9 @@
 -- The rest of an item that is open: what a turn of it takes.
-use Rattle.std.proofs.Common.{◌≡◌, ◌≤◌, ◌<◌, ℕ, ◌+◌, Bool, true, false, List, [], ◌∷◌, ◌++◌, length, take, drop, refl, ap, sym, ◌∙◌, subst, arith}
-use Rattle.std.specs.Prelude.{if◌then◌else◌, codes, bytes_eq, nat_lt}
-use Rattle.std.specs.List.{list_all}
-use Rattle.std.proofs.lemmas.List.{length-drop, drop_all}
-use Rattle.cweb_files.specs.declared.place.Place.{Place}
-use Rattle.cweb_rules.specs.Bytes.{begins}
-use Rattle.cweb_rules.specs.Cut.{Reach, reach, size_of}
-use Rattle.cweb_rules.specs.Fronts.{sign_after}
-use Rattle.cweb_rules.specs.Items.{unit_bytes, look_in_comment, look_in_name, look_in_literal, look_in_raw}
-use Rattle.cweb_rules.specs.Lines.{IsLine, is_open as stays}
-use Rattle.cweb_rules.specs.Looks.{reached, MovesOn}
-use Rattle.cweb_rules.specs.declared.end.End.{End}
-use Rattle.cweb_rules.specs.declared.end.End.TheVariants.{Closed, Cut, Nested, Open}
-use Rattle.cweb_rules.specs.declared.items.Reached.{Reached}
-use Rattle.cweb_rules.specs.declared.look.Look.{Look}
-use Rattle.cweb_rules.specs.declared.look.Look.TheVariants.{Goes, Ends}
-use Rattle.cweb_rules.specs.declared.fault.ScanKind.TheVariants.{DoubleAtInString}
+use Rattle.cweb_scan.proofs.Common.{◌≡◌, ◌≤◌, ◌<◌, ℕ, ◌+◌, Bool, true, false, List, [], ◌∷◌, ◌++◌, length, take, drop, refl, ap, sym, ◌∙◌, subst, arith, if◌then◌else◌, codes, bytes_eq, nat_lt, list_all, length-drop, drop_all, Place, begins, Reach, reach, size_of, sign_after, unit_bytes, look_in_comment, look_in_name, look_in_literal, look_in_raw, IsLine, reached, MovesOn, End, Closed, Cut, Nested, Open, Reached, Look, Goes, Ends, DoubleAtInString, comment, occurrence, ended_as, unit_state, literal_turn, look_size, TakesOpen, InComment, InName, InLiteral, AfterBackslash, InRaw, resume, sign_of, takes_sign, weight, run, State, fault}
+use Rattle.cweb_rules.specs.Lines.{is_open as stays}
 use Rattle.cweb_rules.proofs.Looks.{IsWithin, comment-units, name-units, raw-units}
 use Rattle.cweb_rules.proofs.Sizes.{end_size, name-within, raw-within, comment-within, begins-size, reach-size, sign_after-size}
 use Rattle.cweb_rules.proofs.Seams.{in_line}
-use Rattle.cweb_scan.specs.After.{comment, occurrence}
-use Rattle.cweb_scan.specs.Fronted.{ended_as, unit_state}
-use Rattle.cweb_scan.specs.OpenRest.{literal_turn, look_size, TakesOpen}
-use Rattle.cweb_scan.specs.Resume.{InComment, InName, InLiteral, AfterBackslash, InRaw, resume, sign_of, takes_sign}
-use Rattle.cweb_scan.specs.Room.{weight}
-use Rattle.cweb_scan.specs.Run.{run}
-use Rattle.cweb_scan.specs.State.{State, fault}
 use Rattle.cweb_scan.proofs.Ends.{size-at_end, how-at_end}
 use Rattle.cweb_scan.proofs.OpenItems.{comment_stays, comment_ends}
 use Rattle.cweb_scan.proofs.Opens.{opened}

@@ -1,23 +1,7 @@
 -- What opens a comment or a name: what is read then is what is read with the item open.
-use Rattle.std.proofs.Common.{◌≡◌, ℕ, suc, ◌+◌, Bool, true, false, List, [], ◌∷◌, take, drop, refl, ap, sym, ◌∙◌, arith}
-use Rattle.std.specs.Prelude.{if◌then◌else◌, codes, nat_lt}
-use Rattle.std.specs.List.{fold}
-use Rattle.cweb_scan.specs.After.{Reading, on, each_line_end, next_line, comment_line_end, comment, occurrence, enter_in, after, blank}
-use Rattle.cweb_rules.specs.Bytes.{begins, is_line_end}
-use Rattle.cweb_rules.specs.Cut.{Reach, size_of}
-use Rattle.cweb_scan.specs.Directives.{names_include}
-use Rattle.cweb_scan.specs.Fronted.{reads_c, reads_names}
-use Rattle.cweb_rules.specs.Fronts.{name_at, sign_after, comment_at}
+use Rattle.cweb_scan.proofs.Common.{◌≡◌, ℕ, suc, ◌+◌, Bool, true, false, List, [], ◌∷◌, take, drop, refl, ap, sym, ◌∙◌, arith, if◌then◌else◌, codes, nat_lt, fold, Reading, on, each_line_end, next_line, comment_line_end, comment, occurrence, enter_in, after, blank, begins, is_line_end, Reach, size_of, names_include, reads_c, reads_names, name_at, sign_after, comment_at, End, text_in, Comment, Front, front, InComment, InName, takes_sign, resume, front_in, run, Context, Limbo, TeX, Definition, Macro, CText, State, drop_definition, moved}
 use Rattle.cweb_rules.specs.Items as items
-use Rattle.cweb_rules.specs.declared.end.End.{End}
-use Rattle.cweb_rules.specs.Items.{text_in}
-use Rattle.cweb_rules.specs.Kinds.{Occurrence, Comment, Front, front}
-use Rattle.cweb_scan.specs.Resume.{InComment, InName, takes_sign, resume}
-use Rattle.cweb_rules.specs.Fronts.{front_in}
-use Rattle.cweb_scan.specs.Run.{run}
-use Rattle.cweb_rules.specs.declared.context.Context.{Context}
-use Rattle.cweb_rules.specs.declared.context.Context.TheVariants.{Limbo, TeX, Definition, Macro, CText}
-use Rattle.cweb_scan.specs.State.{State, drop_definition, moved}
+use Rattle.cweb_rules.specs.Kinds.{Occurrence}
 use Rattle.cweb_scan.proofs.Fairs.{fair}
 use Rattle.cweb_scan.proofs.Pieces.{pieces_first}
 

@@ -1,23 +1,9 @@
 -- What opens an item is taken as the code takes it.
-use Rattle.std.proofs.Common.{◌≡◌, ◌≤◌, ℕ, ◌+◌, Bool, true, false, ◌&&◌, ◌==◌, List, [], ◌∷◌, ◌++◌, length, take, drop, refl, ap, sym, ◌∙◌, subst, arith}
-use Rattle.std.specs.Prelude.{codes}
-use Rattle.std.proofs.lemmas.Bool.{eqb-true}
-use Rattle.std.proofs.lemmas.List.{length-drop}
-use Rattle.cweb_rules.specs.Bytes.{begins}
-use Rattle.cweb_rules.specs.Fronts.{starts_raw, starts_literal, literal_prefix, quote_of, raw_prefix, delimiter}
-use Rattle.cweb_rules.specs.Lines.{IsLine}
-use Rattle.cweb_rules.specs.declared.context.Context.{Context}
-use Rattle.cweb_rules.specs.declared.context.Context.TheVariants.{Limbo, TeX, Definition, Macro, CText}
+use Rattle.cweb_scan.proofs.Common.{◌≡◌, ◌≤◌, ℕ, ◌+◌, Bool, true, false, ◌&&◌, ◌==◌, List, [], ◌∷◌, ◌++◌, length, take, drop, refl, ap, sym, ◌∙◌, subst, arith, codes, eqb-true, length-drop, begins, starts_raw, starts_literal, literal_prefix, quote_of, raw_prefix, delimiter, IsLine, Context, Limbo, TeX, Definition, Macro, CText, blank, is_head, Held, Takes, Item, InComment, InName, InLiteral, InRaw, resume, State, IsPast, reads_c, reads_names, reads_literals}
 use Rattle.cweb_rules.proofs.LineLiterals.{is_quoted-size}
 use Rattle.cweb_rules.proofs.LineDelimiters.{sign-fits, has_delimiter-size}
 use Rattle.cweb_rules.proofs.Seams.{both}
-use Rattle.cweb_scan.specs.After.{blank}
-use Rattle.cweb_scan.specs.Fronted.{is_head}
-use Rattle.cweb_scan.specs.Held.{Held, Takes}
 use Rattle.cweb_scan.specs.Resume as item
-use Rattle.cweb_scan.specs.Resume.{Item, InComment, InName, InLiteral, InRaw, resume}
-use Rattle.cweb_scan.specs.State.{State}
-use Rattle.cweb_scan.specs.Fronted.{IsPast, reads_c, reads_names, reads_literals}
 use Rattle.cweb_scan.proofs.Openers.{leave_head_in, opened_comment, opened_name, opened_file}
 use Rattle.cweb_scan.proofs.LiteralOpeners.{opened_raw, opened_literal}
 use Rattle.cweb_scan.proofs.TakenItems.{reading}

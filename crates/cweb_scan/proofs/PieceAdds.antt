@@ -1,22 +1,7 @@
 -- How much each piece adds to what is kept.
-use Rattle.std.proofs.Common.{◌≡◌, ◌≤◌, ℕ, zero, suc, ◌+◌, ◌-◌, Bool, true, false, List, [], ◌∷◌, ◌++◌, Some, None, length, take, refl, ap, ◌∙◌, arith, length-append}
-use Rattle.std.specs.Prelude.{if◌then◌else◌, codes, bytes_eq, fold}
-use Rattle.std.specs.Fmt.{decimal}
-use Rattle.cweb_files.specs.declared.place.Place.{Place}
-use Rattle.cweb_store.specs.declared.names.NameRef.{NameRef}
-use Rattle.cweb_store.specs.Parts.{Word, Number}
-use Rattle.cweb_rules.specs.declared.fault.ScanKind.TheVariants.{ReplacementTooLong, DoubleAtInString, FaultyConstant}
-use Rattle.cweb_rules.specs.Bytes.{is_white, is_line_end}
-use Rattle.cweb_rules.specs.declared.end.End.{End}
-use Rattle.cweb_rules.specs.Items.{text_in}
-use Rattle.cweb_rules.specs.Kinds.{Kind, Piece, Skipped, Section, Code, Letter, ControlText, Verbatim, Constant, Occurrence as OccurrenceKind, Blanks, LineEnd, Comment, Quoted, Defined, Identifier, Numeral, Punctuator}
-use Rattle.cweb_scan.specs.Names.{squeezed_after, squeezed, is_abbreviation, full, prefix, given, occurrence_in}
-use Rattle.cweb_rules.specs.declared.context.Context.{Context}
-use Rattle.cweb_rules.specs.declared.context.Context.TheVariants.{Limbo, TeX, Definition, Macro, CText}
-use Rattle.cweb_scan.specs.State.{State, fault, moved, drop_definition}
-use Rattle.cweb_scan.specs.After.{Reading, on, next_line, each_line_end, literal_unit, line_end, comment_line_end, blank, occurrence, stays_in_head, enter_in, enter, item, after}
-use Rattle.cweb_rules.specs.Pays.{due, at_line_ends, Pays}
-use Rattle.cweb_scan.specs.Bound.{Adds}
+use Rattle.cweb_scan.proofs.Common.{◌≡◌, ◌≤◌, ℕ, zero, suc, ◌+◌, ◌-◌, Bool, true, false, List, [], ◌∷◌, ◌++◌, Some, None, length, take, refl, ap, ◌∙◌, arith, length-append, if◌then◌else◌, codes, bytes_eq, decimal, Place, NameRef, Word, Number, ReplacementTooLong, DoubleAtInString, FaultyConstant, is_white, is_line_end, End, text_in, Kind, Piece, Skipped, Section, Code, Letter, ControlText, Constant, Blanks, LineEnd, Comment, Quoted, Defined, Identifier, Numeral, Punctuator, squeezed_after, squeezed, is_abbreviation, full, prefix, given, occurrence_in, Context, Limbo, TeX, Definition, Macro, CText, State, fault, moved, drop_definition, Reading, on, next_line, each_line_end, literal_unit, line_end, comment_line_end, blank, occurrence, stays_in_head, enter_in, enter, item, after, due, at_line_ends, Pays, Adds}
+use Rattle.std.specs.Prelude.{fold}
+use Rattle.cweb_rules.specs.Kinds.{Verbatim, Occurrence as OccurrenceKind}
 use Rattle.cweb_scan.proofs.StateAdds.{adds_both, adds_within, nothing_adds, give-adds, moved-adds, fault-adds, drop_definition-adds, begin_section-adds, line_end-adds, comment_line_end-adds}
 use Rattle.cweb_scan.proofs.ItemAdds.{blank-adds, punctuator-adds, code-adds, letter-adds, control_text-adds, verbatim-adds, define-adds, comment-adds, name_in-adds, occurs, literal-adds}
 

@@ -1,20 +1,8 @@
 -- How much each piece adds to the tokens, parts, occurrences and sections, taken together.
+use Rattle.cweb_scan.proofs.Common.{◌≡◌, ◌≤◌, ℕ, ◌+◌, ◌*◌, true, false, List, [], ◌∷◌, length, refl, arith, if◌then◌else◌, codes, bytes_eq, Place, Word, Number, Punct, Context, Limbo, TeX, Definition, Macro, CText, DoubleAtInString, is_line_end, text_in, Kind, Piece, Skipped, Section, Code, Letter, ControlText, Constant, Blanks, LineEnd, Comment, Quoted, Defined, Identifier, Numeral, Punctuator, at_line_ends, Pays, State, fault, moved, drop_definition, Reading, on, next_line, each_line_end, literal_unit, line_end, comment_line_end, blank, stays_in_head, enter_in, enter, item, after, weight}
 use Rattle.cweb_rules.specs.Kinds.{Occurrence as OccurrenceKind}
 use Rattle.cweb_rules.specs.Kinds.{Verbatim as VerbatimKind}
-use Rattle.std.proofs.Common.{◌≡◌, ◌≤◌, ℕ, ◌+◌, ◌*◌, true, false, List, [], ◌∷◌, length, refl, arith}
-use Rattle.std.specs.Prelude.{if◌then◌else◌, codes, bytes_eq, fold}
-use Rattle.cweb_files.specs.declared.place.Place.{Place}
-use Rattle.cweb_store.specs.Parts.{Word, Number, Punct}
-use Rattle.cweb_rules.specs.declared.context.Context.{Context}
-use Rattle.cweb_rules.specs.declared.context.Context.TheVariants.{Limbo, TeX, Definition, Macro, CText}
-use Rattle.cweb_rules.specs.declared.fault.ScanKind.TheVariants.{DoubleAtInString}
-use Rattle.cweb_rules.specs.Bytes.{is_line_end}
-use Rattle.cweb_rules.specs.Items.{text_in}
-use Rattle.cweb_rules.specs.Kinds.{Kind, Piece, Skipped, Section, Code, Letter, ControlText, Constant, Blanks, LineEnd, Comment, Quoted, Defined, Identifier, Numeral, Punctuator}
-use Rattle.cweb_rules.specs.Pays.{at_line_ends, Pays}
-use Rattle.cweb_scan.specs.State.{State, fault, moved, drop_definition}
-use Rattle.cweb_scan.specs.After.{Reading, on, next_line, each_line_end, literal_unit, line_end, comment_line_end, blank, stays_in_head, enter_in, enter, item, after}
-use Rattle.cweb_scan.specs.Room.{weight}
+use Rattle.std.specs.Prelude.{fold}
 use Rattle.cweb_scan.proofs.Weights.{give-weight, begin_section-weight, line_end-weight, comment_line_end-weight, blank-weight, code-weight, letter-weight, control_text-weight, verbatim-weight, constant-weight, define-weight, comment-weight, occurrence-weight, literal-weight}
 
 -- LINE ENDS IN A PIECE, AND UNITS

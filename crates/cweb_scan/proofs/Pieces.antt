@@ -1,11 +1,5 @@
 -- The pieces of a text are the one list of what the rules name.
-use Rattle.std.proofs.Common.{◌≡◌, ℕ, ◌-◌, ◌<◌, ◌≤◌, suc, zero, List, [], ◌∷◌, ◌++◌, length, take, drop, refl, ap, sym, ◌∙◌, arith, take-append-drop, length-append, subst}
-use Rattle.std.proofs.Math.Seq.{take-append_seam, drop-append_seam}
-use Rattle.std.proofs.lemmas.List.{length-drop, length-take-le}
-use Rattle.cweb_rules.specs.Kinds.{Piece}
-use Rattle.cweb_scan.specs.After.{Reading, after}
-use Rattle.cweb_scan.specs.Run.{front_of, pieces, pieces_in}
-use Rattle.cweb_scan.specs.Law.{ArePieces}
+use Rattle.cweb_scan.proofs.Common.{◌≡◌, ℕ, ◌-◌, ◌<◌, ◌≤◌, suc, zero, List, [], ◌∷◌, ◌++◌, length, take, drop, refl, ap, sym, ◌∙◌, arith, take-append-drop, length-append, subst, take-append_seam, drop-append_seam, length-drop, length-take-le, Piece, Reading, after, front_of, pieces, pieces_in, ArePieces}
 use Rattle.cweb_scan.proofs.Fairs.{fair}
 
 pieces_in-drop : (k : ℕ) (r : Reading) (t : List ℕ) → pieces_in k r t ≡ pieces_in 0 r (drop k t)

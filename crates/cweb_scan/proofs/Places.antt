@@ -1,25 +1,6 @@
 -- Marks and faults stand where lines of the web stand.
-use Rattle.std.proofs.Common.{◌≡◌, ◌≤◌, ℕ, zero, suc, ◌-◌, Bool, true, false, List, [], ◌∷◌, ◌++◌, take, map, refl, arith}
-use Rattle.std.specs.Prelude.{if◌then◌else◌, codes, bytes_eq, All}
-use Rattle.std.specs.List.{fold}
-use Rattle.std.proofs.lemmas.List.Elements.{All-nil, All-cons, All-head, All-tail}
-use Rattle.cweb_files.specs.declared.place.Place.{Place}
-use Rattle.cweb_lines.specs.Lines.{Line}
-use Rattle.cweb_store.specs.Parts.{Token, Word, Number, Mark, all_tokens}
-use Rattle.cweb_store.specs.Growing.{all_parts}
-use Rattle.cweb_rules.specs.Bytes.{is_line_end}
-use Rattle.cweb_rules.specs.Items.{text_in}
-use Rattle.cweb_rules.specs.Kinds.{Kind, Piece}
+use Rattle.cweb_scan.proofs.Common.{◌≡◌, ◌≤◌, ℕ, zero, suc, ◌-◌, Bool, true, false, List, [], ◌∷◌, ◌++◌, take, map, refl, arith, if◌then◌else◌, codes, bytes_eq, All, fold, All-nil, All-cons, All-head, All-tail, Place, Line, Token, Word, Number, Mark, all_tokens, all_parts, is_line_end, text_in, Kind, Piece, Context, Limbo, TeX, Definition, Macro, CText, ScanFault, DoubleAtInString, total, State, before_text, give, fault, moved, drop_definition, leave, begin_section, Reading, on, line_end, comment_line_end, blank, punctuator, code, letter, control_text, verbatim, constant, define, comment, occurrence, literal, next_line, each_line_end, literal_unit, stays_in_head, enter_in, enter, item, after, front_of, pieces_in, run, further, scanned, scanned_of, MarkPasses, PlacesPass}
 use Rattle.cweb_rules.specs.Kinds as kind
-use Rattle.cweb_rules.specs.declared.context.Context.{Context}
-use Rattle.cweb_rules.specs.declared.context.Context.TheVariants.{Limbo, TeX, Definition, Macro, CText}
-use Rattle.cweb_rules.specs.declared.fault.ScanFault.{ScanFault}
-use Rattle.cweb_rules.specs.declared.fault.ScanKind.TheVariants.{DoubleAtInString}
-use Rattle.cweb_scan.specs.Bound.{total}
-use Rattle.cweb_scan.specs.State.{State, before_text, give, fault, moved, drop_definition, leave, begin_section}
-use Rattle.cweb_scan.specs.After.{Reading, on, line_end, comment_line_end, blank, punctuator, code, letter, control_text, verbatim, constant, define, comment, occurrence, literal, next_line, each_line_end, literal_unit, stays_in_head, enter_in, enter, item, after}
-use Rattle.cweb_scan.specs.Run.{front_of, pieces_in, run, further, scanned, scanned_of}
-use Rattle.cweb_scan.specs.Law.{MarkPasses, PlacesPass}
 use Rattle.cweb_scan.proofs.Bounds.{all-size}
 use Rattle.cweb_scan.proofs.StatePlaces.{strange, IsBegunKnown, AreKnown, give-known, moved-known, fault-known, drop_definition-known, leave-known, begin_section-known, line_end-known, comment_line_end-known, blank-known, punctuator-known, code-known, letter-known, control_text-known, verbatim-known, constant-known, define-known, comment-known}
 use Rattle.cweb_scan.proofs.NamePlaces.{occurrence-known, literal-known}

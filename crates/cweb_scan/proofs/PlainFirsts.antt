@@ -1,18 +1,7 @@
 -- Plain C text: what a first byte tells.
-use Rattle.std.proofs.Common.{◌≡◌, ◌≤◌, ℕ, Bool, true, false, ◌||◌, ◌==◌, List, [], ◌∷◌, Some, length, take, slice_index_or, refl, sym, subst, arith}
-use Rattle.std.specs.Prelude.{if◌then◌else◌, codes}
-use Rattle.std.proofs.lemmas.Bool.{eqb-true}
-use Rattle.cweb_store.specs.Parts.{Word, Punct}
-use Rattle.cweb_rules.specs.Bytes.{first_is, is_blank, is_one_of, is_word_byte}
-use Rattle.cweb_rules.specs.Rules.{c_rule, is_settled}
-use Rattle.cweb_rules.specs.Tables.{listed, longest}
-use Rattle.cweb_rules.specs.declared.rule.Rule.{Rule}
+use Rattle.cweb_scan.proofs.Common.{◌≡◌, ◌≤◌, ℕ, Bool, true, false, ◌||◌, ◌==◌, List, [], ◌∷◌, Some, length, take, slice_index_or, refl, sym, subst, arith, if◌then◌else◌, codes, eqb-true, Word, Punct, first_is, is_blank, is_one_of, is_word_byte, c_rule, is_settled, listed, longest, Rule, is_punct, last_of, is_alone, is_figure, is_kept_back, is_less, is_quote, plain_by, IsPlainToken, Plain}
 use Rattle.cweb_rules.specs.declared.rule.Rule.TheVariants as rule
 use Rattle.cweb_rules.proofs.FirstBytes.{settled-rule}
-use Rattle.cweb_scan.specs.Directives.{is_punct}
-use Rattle.cweb_scan.specs.Kept.{last_of}
-use Rattle.cweb_scan.specs.Plain.{is_alone, is_figure, is_kept_back, is_less, is_quote, plain_by, IsPlainToken}
-use Rattle.cweb_scan.specs.declared.scanner.plain.Plain.{Plain}
 use Rattle.cweb_scan.specs.declared.scanner.plain.Plain.TheVariants as plain
 
 -- FIRST BYTES

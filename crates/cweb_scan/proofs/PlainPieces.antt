@@ -1,18 +1,7 @@
 -- What one item of the law makes of a reading.
-use Rattle.std.proofs.Common.{◌≡◌, ℕ, Bool, true, false, cond, ◌&&◌, List, [], ◌∷◌, Option, Some, None, refl, ap, sym, ◌∙◌, subst}
-use Rattle.std.specs.List.{fold}
-use Rattle.cweb_store.specs.Parts.{Token, Word, Number, Literal, Punct}
-use Rattle.cweb_scan.specs.After.{Reading, after, item, on, each_line_end, comment_line_end, blank, punctuator, literal, literal_unit, next_line, line_end, enter_in, enter}
-use Rattle.cweb_rules.specs.declared.effect.Effect.{Effect}
-use Rattle.cweb_rules.specs.declared.effect.Effect.TheVariants.{Nothing, Define, Format, Program, Named, InsertDefs, Joins, GiveAt, Faulty}
+use Rattle.cweb_scan.proofs.Common.{◌≡◌, ℕ, Bool, true, false, cond, ◌&&◌, List, [], ◌∷◌, Option, Some, None, refl, ap, sym, ◌∙◌, subst, fold, Token, Word, Number, Literal, Punct, Reading, after, item, on, each_line_end, comment_line_end, blank, punctuator, literal, literal_unit, next_line, line_end, enter_in, enter, Effect, Nothing, Define, Format, Program, Named, InsertDefs, Joins, GiveAt, Faulty, in_directive, text_in, Closed, Cut, Nested, Open, Kind, Piece, give, InPlainC, HasRead, solid, is_hash, is_clean, token_of, code_of}
 use Rattle.cweb_rules.specs.declared.effect.Effect.TheVariants as effect
-use Rattle.cweb_scan.specs.Directives.{in_directive}
-use Rattle.cweb_rules.specs.Items.{text_in}
-use Rattle.cweb_rules.specs.declared.end.End.TheVariants.{Closed, Cut, Nested, Open}
-use Rattle.cweb_rules.specs.Kinds.{Kind, Piece}
 use Rattle.cweb_rules.specs.Kinds as kind
-use Rattle.cweb_scan.specs.State.{give}
-use Rattle.cweb_scan.specs.Alone.{InPlainC, HasRead, solid, is_hash, is_clean, token_of, code_of}
 use Rattle.cweb_scan.proofs.PlainStates.{blank_gives, and_then, given, placed, line_ends, comment_line_ends, next_gives, each_gives, units_give}
 
 -- a head is left by no item of C text

@@ -1,18 +1,6 @@
 -- What the items of the law make of a state in plain C text.
-use Rattle.std.proofs.Common.{◌≡◌, ℕ, Bool, true, false, cond, ◌&&◌, ◌||◌, not, List, [], ◌∷◌, ◌++◌, Some, None, refl, ap, sym, ◌∙◌, subst, append_assoc}
-use Rattle.std.specs.Prelude.{codes, bytes_eq, option_map}
-use Rattle.std.specs.List.{fold}
-use Rattle.std.proofs.lemmas.Grind.{fold-append}
-use Rattle.std.proofs.lemmas.List.Elements.{filter-append}
-use Rattle.std.proofs.lemmas.List.{append-nil}
-use Rattle.cweb_files.specs.declared.place.Place.{Place}
-use Rattle.cweb_store.specs.Growing.{longer}
-use Rattle.cweb_store.specs.Parts.{Token, Blank, Newline, Mark}
-use Rattle.cweb_scan.specs.After.{Reading, next_line, each_line_end, line_end, line_end_in, line_end_token, comment_line_end, blank, literal_unit, follows}
-use Rattle.cweb_rules.specs.Bytes.{is_line_end}
-use Rattle.cweb_scan.specs.Directives.{directive, directive_of, directive_tokens, with_next, in_directive, is_c, is_some, is_punct, ends_line, is_blank}
-use Rattle.cweb_scan.specs.State.{State, give, moved, part_tokens, tokens_of}
-use Rattle.cweb_scan.specs.Alone.{InPlainC, HasRead, solid, is_between, is_hash, is_clean}
+use Rattle.cweb_scan.proofs.Common.{◌≡◌, ℕ, Bool, true, false, cond, ◌&&◌, ◌||◌, not, List, [], ◌∷◌, ◌++◌, Some, None, refl, ap, sym, ◌∙◌, subst, append_assoc, codes, bytes_eq, option_map, fold, fold-append, filter-append, append-nil, Place, longer, Token, Blank, Newline, Mark, Reading, next_line, each_line_end, line_end, line_end_in, line_end_token, comment_line_end, blank, literal_unit, follows, is_line_end, directive, directive_of, directive_tokens, with_next, in_directive, is_c, is_some, is_punct, ends_line, State, give, moved, part_tokens, tokens_of, InPlainC, HasRead, solid, is_between, is_hash, is_clean}
+use Rattle.cweb_scan.specs.Directives.{is_blank}
 
 and_false : (a : Bool) → (a && false) ≡ false
 and_false true = refl

@@ -1,29 +1,13 @@
 -- What a run makes of a token's bytes and what follows.
-use Rattle.std.proofs.Common.{◌≡◌, ℕ, ◌+◌, ◌<◌, ◌/◌, ◌%◌, suc, zero, Bool, true, false, cond, ◌&&◌, ◌==◌, List, [], ◌∷◌, ◌++◌, Some, None, length, take, drop, refl, ap, ◌∙◌, arith, append_assoc, length-append}
-use Rattle.std.specs.Prelude.{codes}
-use Rattle.std.specs.Fmt.{decimal, digit_glyph, digits_onto, digits}
-use Rattle.std.specs.List.{list_all, fold}
-use Rattle.std.proofs.Math.Seq.{take-append_seam, drop-append_seam}
-use Rattle.cweb_store.specs.Parts.{Token, Word, Number, Literal, Punct}
-use Rattle.cweb_rules.specs.Bytes.{first_is}
-use Rattle.cweb_rules.specs.Follows.{JoinsAll, IsToken, is_token, is_quiet, begins_as, joins_last}
+use Rattle.cweb_scan.proofs.Common.{◌≡◌, ℕ, ◌+◌, ◌<◌, ◌/◌, ◌%◌, suc, zero, Bool, true, false, cond, ◌&&◌, ◌==◌, List, [], ◌∷◌, ◌++◌, Some, None, length, take, drop, refl, ap, ◌∙◌, arith, append_assoc, length-append, codes, decimal, digit_glyph, digits_onto, list_all, fold, take-append_seam, drop-append_seam, Token, Word, Number, Literal, Punct, first_is, JoinsAll, IsToken, is_token, is_quiet, begins_as, joins_last, front_in, Kind, Front, front, CText, Effect, Nothing, Define, Format, Program, Named, InsertDefs, Joins, GiveAt, Faulty, End, Closed, Cut, Nested, Open, Reading, after, some_include, names_include, front_of, run, InPlainC, IsRead, ReadsAlone, doubled, solid, token_of, literal_of, bytes_of, is_hash}
+use Rattle.std.specs.Fmt.{digits}
 use Rattle.cweb_rules.specs.Follows as rules
-use Rattle.cweb_rules.specs.Fronts.{front_in}
-use Rattle.cweb_rules.specs.Kinds.{Kind, Front, front}
 use Rattle.cweb_rules.specs.Kinds as kind
-use Rattle.cweb_rules.specs.declared.context.Context.TheVariants.{CText}
-use Rattle.cweb_rules.specs.declared.effect.Effect.{Effect}
-use Rattle.cweb_rules.specs.declared.effect.Effect.TheVariants.{Nothing, Define, Format, Program, Named, InsertDefs, Joins, GiveAt, Faulty}
 use Rattle.cweb_rules.specs.declared.effect.Effect.TheVariants as effect
-use Rattle.cweb_rules.specs.declared.end.End.{End}
-use Rattle.cweb_rules.specs.declared.end.End.TheVariants.{Closed, Cut, Nested, Open}
 use Rattle.cweb_rules.proofs.Comments.{comment_front}
 use Rattle.cweb_rules.proofs.Tokens.{tokens_stay, tokens_begin}
-use Rattle.cweb_scan.specs.After.{Reading, after}
-use Rattle.cweb_scan.specs.Directives.{some_include, names_include}
-use Rattle.cweb_scan.specs.Run.{front_of, run}
 use Rattle.cweb_scan.proofs.Pieces.{pieces_first}
-use Rattle.cweb_scan.specs.Alone.{InPlainC, IsRead, ReadsAlone, doubled, solid, token_of, literal_of, bytes_of, goes_on, is_hash}
+use Rattle.cweb_scan.specs.Alone.{goes_on}
 use Rattle.cweb_scan.proofs.PlainPieces.{is_that, token_gives, line_end_gives, comment_gives}
 
 -- ONE PIECE

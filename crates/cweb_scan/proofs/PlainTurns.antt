@@ -1,15 +1,5 @@
 -- Plain C text: pieces one after another, and the turn behind them.
-use Rattle.std.proofs.Common.{◌≡◌, ◌≤◌, ◌<◌, ℕ, zero, suc, ◌+◌, ◌-◌, ◌*◌, false, List, [], ◌∷◌, Option, Some, None, length, drop, ap, sym, ◌∙◌, subst, arith}
-use Rattle.std.proofs.lemmas.List.{length-drop}
-use Rattle.cweb_store.specs.Calls.{too_many}
-use Rattle.cweb_rules.specs.Lines.{IsLine}
-use Rattle.cweb_scan.specs.Held.{Held, cost, Takes}
-use Rattle.cweb_scan.specs.OpenRest.{awaits_line_end}
-use Rattle.cweb_scan.specs.Plain.{taken_size, TakesPlain}
-use Rattle.cweb_scan.specs.Resume.{Item, Between}
-use Rattle.cweb_scan.specs.Room.{weight, HasRoom}
-use Rattle.cweb_scan.specs.State.{State}
-use Rattle.cweb_scan.specs.Turned.{Passes}
+use Rattle.cweb_scan.proofs.Common.{◌≡◌, ◌≤◌, ◌<◌, ℕ, zero, suc, ◌+◌, ◌-◌, ◌*◌, false, List, [], ◌∷◌, Option, Some, None, length, drop, ap, sym, ◌∙◌, subst, arith, length-drop, too_many, IsLine, Held, cost, Takes, awaits_line_end, taken_size, TakesPlain, Item, Between, weight, HasRoom, State, Passes}
 use Rattle.cweb_scan.proofs.CodeTurns.{at_item}
 use Rattle.cweb_scan.proofs.Rests.{drop_more, takes_both}
 use Rattle.cweb_scan.proofs.Turns.{between}

@@ -1,30 +1,10 @@
 -- Plain C text: that a piece that its first byte tells is taken rightly.
-use Rattle.std.proofs.Common.{◌≡◌, ◌≤◌, ℕ, Bool, true, false, ◌&&◌, not, List, [], ◌∷◌, Option, Some, None, length, take, refl, ap, sym, ◌∙◌, subst}
-use Rattle.std.specs.Prelude.{if◌then◌else◌, codes, option_map}
-use Rattle.std.specs.List.{prefix_len}
+use Rattle.cweb_scan.proofs.Common.{◌≡◌, ◌≤◌, ℕ, Bool, true, false, ◌&&◌, not, List, [], ◌∷◌, Option, Some, None, length, take, refl, ap, sym, ◌∙◌, subst, if◌then◌else◌, codes, option_map, prefix_len, longer, Token, Word, Punct, Blank, Newline, Part, is_blank, is_word_byte, in_c, IsLine, c_rule, c_front_by, Context, CText, Rule, punctuator, directive, directive_of, directive_tokens, ends_line, is_c, is_punct, is_some, names_include, with_next, Gives, is_head, goes_over, has_part, is_outside, last_of, next_stage, outside, step, IsTied, IsPlainC, IsPlainToken, TakesPlain, ends_macro_line, State, give, tokens_of, Directive, Stage, Outside, Bare, Include, Further}
 use Rattle.std.proofs.lemmas.List.Sums.{fold-append}
-use Rattle.cweb_store.specs.Growing.{longer}
-use Rattle.cweb_store.specs.Parts.{Token, Word, Punct, Blank, Newline, Part}
-use Rattle.cweb_rules.specs.Bytes.{is_blank, is_word_byte}
-use Rattle.cweb_rules.specs.Codes.{in_c}
-use Rattle.cweb_rules.specs.Lines.{IsLine}
-use Rattle.cweb_rules.specs.Rules.{c_rule, c_front_by}
-use Rattle.cweb_rules.specs.declared.context.Context.{Context}
-use Rattle.cweb_rules.specs.declared.context.Context.TheVariants.{CText}
-use Rattle.cweb_rules.specs.declared.rule.Rule.{Rule}
 use Rattle.cweb_rules.specs.declared.rule.Rule.TheVariants as rule
-use Rattle.cweb_scan.specs.After.{punctuator}
 use Rattle.cweb_scan.specs.Directives as spec
-use Rattle.cweb_scan.specs.Directives.{directive, directive_of, directive_tokens, ends_line, is_c, is_punct, is_some, names_include, with_next}
-use Rattle.cweb_scan.specs.Fronted.{Gives, is_head}
-use Rattle.cweb_scan.specs.Kept.{further, goes_over, has_part, is_line_end, is_outside, last_of, next_stage, outside, step, IsTied}
-use Rattle.cweb_scan.specs.Plain.{IsPlainC, IsPlainToken, TakesPlain}
-use Rattle.cweb_scan.specs.Ruled.{ends_macro_line}
-use Rattle.cweb_scan.specs.State.{State, give, tokens_of}
-use Rattle.cweb_scan.specs.declared.scanner.directive.Directive.{Directive}
+use Rattle.cweb_scan.specs.Kept.{further, is_line_end}
 use Rattle.cweb_scan.specs.declared.scanner.directive.Last.TheVariants as last
-use Rattle.cweb_scan.specs.declared.scanner.directive.Stage.{Stage}
-use Rattle.cweb_scan.specs.declared.scanner.directive.Stage.TheVariants.{Outside, Bare, Include, Further}
 use Rattle.cweb_scan.proofs.CodeTurns.{closed_at}
 use Rattle.cweb_scan.proofs.PlainFirsts.{IsSign}
 use Rattle.cweb_scan.proofs.RuleTurns.{closes, rule_closed}

@@ -1,23 +1,6 @@
 -- The rest of a line is taken piece by piece.
-use Rattle.std.proofs.Common.{◌≡◌, ◌≤◌, ℕ, zero, suc, ◌+◌, Bool, true, false, ◌&&◌, ◌==◌, not, List, [], ◌∷◌, ◌++◌, length, drop, refl, ap, sym, ◌∙◌, arith}
-use Rattle.std.specs.Prelude.{if◌then◌else◌, codes}
-use Rattle.std.specs.List.{prefix_len}
-use Rattle.std.proofs.lemmas.Bool.Decides.{nat_tests}
-use Rattle.std.proofs.lemmas.List.{length-drop, drop_all}
-use Rattle.cweb_rules.specs.Bytes.{begins, at_line_end, starts_section}
-use Rattle.cweb_rules.specs.Codes.{in_limbo, in_text, in_macro, in_c}
-use Rattle.cweb_rules.specs.Fronts.{front_in, c_front, section_at, code_at}
-use Rattle.cweb_rules.specs.Kinds.{Skipped, front}
-use Rattle.cweb_rules.specs.Lines.{IsLine, opens_in, opens_code}
-use Rattle.cweb_rules.specs.Rules.{c_rule, c_front_by}
-use Rattle.cweb_rules.specs.declared.context.Context.{Context}
-use Rattle.cweb_rules.specs.declared.context.Context.TheVariants.{Limbo, TeX, Definition, Macro, CText}
+use Rattle.cweb_scan.proofs.Common.{◌≡◌, ◌≤◌, ℕ, zero, suc, ◌+◌, Bool, true, false, ◌&&◌, ◌==◌, not, List, [], ◌∷◌, ◌++◌, length, drop, refl, ap, sym, ◌∙◌, arith, if◌then◌else◌, codes, prefix_len, nat_tests, length-drop, drop_all, begins, at_line_end, starts_section, in_limbo, in_text, in_macro, in_c, front_in, c_front, section_at, code_at, Skipped, front, IsLine, opens_in, opens_code, c_rule, c_front_by, Context, Limbo, TeX, Definition, Macro, CText, Reading, names_include, is_head, is_skipped, Held, goes_on, Takes, TakesBytes, State, moved}
 use Rattle.cweb_rules.proofs.ByRules.{c_front-by}
-use Rattle.cweb_scan.specs.After.{Reading}
-use Rattle.cweb_scan.specs.Directives.{names_include}
-use Rattle.cweb_scan.specs.Fronted.{is_head, is_skipped}
-use Rattle.cweb_scan.specs.Held.{Held, goes_on, Takes, TakesBytes}
-use Rattle.cweb_scan.specs.State.{State, moved}
 use Rattle.cweb_scan.proofs.Ends.{none_to_come}
 use Rattle.cweb_scan.proofs.Turns.{between, closed_takes, opens_by, c_opens-by}
 

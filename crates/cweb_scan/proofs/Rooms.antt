@@ -1,15 +1,6 @@
 -- Room that stays where a macro ends and where a name is faulty.
-use Rattle.std.proofs.Common.{arith}
-use Rattle.cweb_rules.specs.declared.context.Context.{Context}
-use Rattle.cweb_rules.specs.declared.context.Context.TheVariants.{Limbo, TeX, Definition, Macro, CText}
-use Rattle.cweb_rules.specs.declared.end.End.{End}
-use Rattle.cweb_rules.specs.declared.end.End.TheVariants.{Closed, Cut, Nested, Open}
-use Rattle.cweb_files.specs.declared.place.Place.{Place}
-use Rattle.cweb_store.specs.Names.{Occurrence}
+use Rattle.cweb_scan.proofs.Common.{arith, Context, Limbo, TeX, Definition, Macro, CText, End, Closed, Cut, Nested, Open, Place, Occurrence, name_fault, HasRoom, HasPartRoom, State, end_macro_in, end_macro, with_name}
 use Rattle.cweb_store.proofs.CallerLemmas.{token_count_closed, part_count_closed}
-use Rattle.cweb_scan.specs.After.{name_fault}
-use Rattle.cweb_scan.specs.Room.{HasRoom, HasPartRoom}
-use Rattle.cweb_scan.specs.State.{State, end_macro_in, end_macro, with_name}
 
 macro_room : (c : Context) (s : State) → HasPartRoom s → HasPartRoom (end_macro_in c s)
 macro_room Limbo s h = h

@@ -1,16 +1,5 @@
 -- Short words for computed webs.
-use Rattle.std.proofs.Common.{ℕ, Bool, List}
-use Rattle.cweb_files.specs.declared.place.Place.{Place}
-use Rattle.cweb_lines.specs.Lines.{Line}
-use Rattle.cweb_store.specs.declared.names.How.{How}
-use Rattle.cweb_store.specs.declared.names.NameRef.{NameRef}
-use Rattle.cweb_store.specs.declared.parts.PartKind.{PartKind}
-use Rattle.cweb_store.specs.Names.{Occurrence}
-use Rattle.cweb_store.specs.Parts.{Part, Token}
-use Rattle.cweb_store.specs.Replacements.{Replacement}
-use Rattle.cweb_rules.specs.declared.fault.ScanFault.{ScanFault}
-use Rattle.cweb_rules.specs.declared.fault.ScanKind.{ScanKind}
-use Rattle.cweb_scan.specs.Run.{Scanned}
+use Rattle.cweb_scan.proofs.Common.{ℕ, Bool, List, Place, Line, How, NameRef, PartKind, Occurrence, Part, Token, Replacement, ScanFault, ScanKind, Scanned}
 
 abbrev pub at : ℕ → ℕ → Place
 at file line = record { file = record { 0 = file }; line = line }

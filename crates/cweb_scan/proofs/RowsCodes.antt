@@ -1,10 +1,6 @@
 -- Control codes in each context, computed on small webs.
-use Rattle.std.proofs.Common.{◌≡◌, [], ◌∷◌, refl}
-use Rattle.std.specs.Prelude.{codes}
-use Rattle.cweb_store.specs.declared.parts.PartKind.TheVariants.{Unnamed, Macro}
-use Rattle.cweb_store.specs.Parts.{Word, Punct, Blank, Newline, Defs, Head, Tail, Mark}
-use Rattle.cweb_rules.specs.declared.fault.ScanKind.TheVariants.{DoubleAtInLimbo, ImproperHexNumber, ReplacementTooLong, LetterOutsideLimbo, ControlTextDidNotEnd, IgnoredInCText}
-use Rattle.cweb_scan.specs.Run.{scanned}
+use Rattle.cweb_scan.proofs.Common.{◌≡◌, [], ◌∷◌, refl, codes, Unnamed, Word, Punct, Blank, Newline, Defs, Head, Tail, Mark, DoubleAtInLimbo, ImproperHexNumber, ReplacementTooLong, LetterOutsideLimbo, ControlTextDidNotEnd, IgnoredInCText, scanned}
+use Rattle.cweb_store.specs.declared.parts.PartKind.TheVariants.{Macro}
 use Rattle.cweb_scan.proofs.RowWords.{at, line, part, repl, fault, wanted}
 
 -- letters in limbo

@@ -1,10 +1,5 @@
 -- Directives and marks, computed on small webs.
-use Rattle.std.proofs.Common.{◌≡◌, [], ◌∷◌, refl, false}
-use Rattle.std.specs.Prelude.{codes}
-use Rattle.cweb_store.specs.declared.names.How.TheVariants.{Full}
-use Rattle.cweb_store.specs.declared.parts.PartKind.TheVariants.{Unnamed}
-use Rattle.cweb_store.specs.Parts.{Word, Literal, Punct, Blank, Newline, Join, Defs, Name, Head, Tail, Mark}
-use Rattle.cweb_scan.specs.Run.{scanned}
+use Rattle.cweb_scan.proofs.Common.{◌≡◌, [], ◌∷◌, refl, false, codes, Full, Unnamed, Word, Literal, Punct, Blank, Newline, Join, Defs, Name, Head, Tail, Mark, scanned}
 use Rattle.cweb_scan.proofs.RowWords.{at, ref, line, occ, part, wanted}
 
 -- a double number sign begins no directive

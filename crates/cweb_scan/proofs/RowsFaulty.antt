@@ -1,11 +1,6 @@
 -- Webs with faults, computed.
-use Rattle.std.proofs.Common.{◌≡◌, [], ◌∷◌, refl, false}
-use Rattle.std.specs.Prelude.{codes}
-use Rattle.cweb_store.specs.declared.names.How.TheVariants.{Full}
-use Rattle.cweb_store.specs.declared.parts.PartKind.TheVariants.{Unnamed, Macro}
-use Rattle.cweb_store.specs.Parts.{Word, Literal, Punct, Newline, Name, Head, Tail, Mark}
-use Rattle.cweb_rules.specs.declared.fault.ScanKind.TheVariants.{DoubleAtInLimbo, ImproperHexNumber, ReplacementTooLong, LetterOutsideLimbo, NameDidNotEnd, NamesDoNotNest, CommentDidNotEnd, DoubleAtInString, ControlTextDidNotEnd, FaultyConstant, IgnoredInCText, MissingAt, DefsInMacro, DefinitionDropped}
-use Rattle.cweb_scan.specs.Run.{scanned}
+use Rattle.cweb_scan.proofs.Common.{◌≡◌, [], ◌∷◌, refl, false, codes, Full, Unnamed, Word, Literal, Punct, Newline, Name, Head, Tail, Mark, DoubleAtInLimbo, ImproperHexNumber, ReplacementTooLong, LetterOutsideLimbo, NameDidNotEnd, NamesDoNotNest, CommentDidNotEnd, DoubleAtInString, ControlTextDidNotEnd, FaultyConstant, IgnoredInCText, MissingAt, DefsInMacro, DefinitionDropped, scanned}
+use Rattle.cweb_store.specs.declared.parts.PartKind.TheVariants.{Macro}
 use Rattle.cweb_scan.proofs.RowWords.{at, ref, line, occ, part, fault, wanted}
 
 codes_where_they_have_no_place : scanned (line (codes "me@@x @c") (at 0 1)

@@ -1,11 +1,6 @@
 -- Items of C text, computed on small webs.
-use Rattle.std.proofs.Common.{◌≡◌, [], ◌∷◌, refl}
-use Rattle.std.specs.Prelude.{codes}
+use Rattle.cweb_scan.proofs.Common.{◌≡◌, [], ◌∷◌, refl, codes, Unnamed, Word, Number, Literal, Verbatim, Punct, Blank, Newline, Head, Tail, Mark, CommentDidNotEnd, StringDidNotEnd, DoubleAtInString, ControlTextDidNotEnd, FaultyConstant, IgnoredInCText, scanned}
 use Rattle.std.specs.Fmt.{digits}
-use Rattle.cweb_store.specs.declared.parts.PartKind.TheVariants.{Unnamed}
-use Rattle.cweb_store.specs.Parts.{Word, Number, Literal, Verbatim, Punct, Blank, Newline, Head, Tail, Mark}
-use Rattle.cweb_rules.specs.declared.fault.ScanKind.TheVariants.{CommentDidNotEnd, StringDidNotEnd, DoubleAtInString, ControlTextDidNotEnd, FaultyConstant, IgnoredInCText}
-use Rattle.cweb_scan.specs.Run.{scanned}
 use Rattle.cweb_scan.proofs.RowWords.{at, line, part, fault, wanted}
 
 -- comments: `/*/`, a pair, a section start

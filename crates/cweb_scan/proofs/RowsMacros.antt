@@ -1,12 +1,7 @@
 -- Macros and heads, computed on small webs.
-use Rattle.std.proofs.Common.{◌≡◌, [], ◌∷◌, refl, false}
-use Rattle.std.specs.Prelude.{codes}
+use Rattle.cweb_scan.proofs.Common.{◌≡◌, [], ◌∷◌, refl, false, codes, Full, Unnamed, Word, Number, Verbatim, Punct, Blank, Newline, Join, Head, Tail, Mark, LetterOutsideLimbo, CommentDidNotEnd, DefsInMacro, DefinitionDropped, scanned}
 use Rattle.std.specs.Fmt.{digits}
-use Rattle.cweb_store.specs.declared.names.How.TheVariants.{Full}
-use Rattle.cweb_store.specs.declared.parts.PartKind.TheVariants.{Unnamed, Named, Macro}
-use Rattle.cweb_store.specs.Parts.{Word, Number, Verbatim, Punct, Blank, Newline, Join, Head, Tail, Mark}
-use Rattle.cweb_rules.specs.declared.fault.ScanKind.TheVariants.{LetterOutsideLimbo, CommentDidNotEnd, DefsInMacro, DefinitionDropped}
-use Rattle.cweb_scan.specs.Run.{scanned}
+use Rattle.cweb_store.specs.declared.parts.PartKind.TheVariants.{Named, Macro}
 use Rattle.cweb_scan.proofs.RowWords.{at, ref, line, occ, part, fault, wanted}
 
 -- a literal with a prefix in a head

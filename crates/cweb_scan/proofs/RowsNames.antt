@@ -1,11 +1,6 @@
 -- Names of sections, computed on small webs.
-use Rattle.std.proofs.Common.{◌≡◌, [], ◌∷◌, refl, true, false}
-use Rattle.std.specs.Prelude.{codes}
-use Rattle.cweb_store.specs.declared.names.How.TheVariants.{Full, Prefix}
-use Rattle.cweb_store.specs.declared.parts.PartKind.TheVariants.{Unnamed, Named}
-use Rattle.cweb_store.specs.Parts.{Word, Punct, Newline, Name, Head, Tail, Mark}
-use Rattle.cweb_rules.specs.declared.fault.ScanKind.TheVariants.{NameDidNotEnd, NamesDoNotNest, MissingAt}
-use Rattle.cweb_scan.specs.Run.{scanned}
+use Rattle.cweb_scan.proofs.Common.{◌≡◌, [], ◌∷◌, refl, true, false, codes, Full, Prefix, Unnamed, Word, Punct, Newline, Name, Head, Tail, Mark, NameDidNotEnd, NamesDoNotNest, MissingAt, scanned}
+use Rattle.cweb_store.specs.declared.parts.PartKind.TheVariants.{Named}
 use Rattle.cweb_scan.proofs.RowWords.{at, ref, line, occ, part, fault, wanted}
 
 -- a faulty use ends on the line of the `@` that ends it

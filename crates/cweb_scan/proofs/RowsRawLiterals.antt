@@ -1,10 +1,6 @@
 -- Raw literals and long replacements, computed.
-use Rattle.std.proofs.Common.{◌≡◌, [], ◌∷◌, ◌++◌, refl}
-use Rattle.std.specs.Prelude.{codes}
-use Rattle.cweb_store.specs.declared.parts.PartKind.TheVariants.{Unnamed, Macro}
-use Rattle.cweb_store.specs.Parts.{Word, Number, Literal, Punct, Blank, Newline, Join, Head, Tail, Mark}
-use Rattle.cweb_rules.specs.declared.fault.ScanKind.TheVariants.{ReplacementTooLong, StringDidNotEnd, DoubleAtInString, DefinitionDropped}
-use Rattle.cweb_scan.specs.Run.{scanned}
+use Rattle.cweb_scan.proofs.Common.{◌≡◌, [], ◌∷◌, ◌++◌, refl, codes, Unnamed, Word, Number, Literal, Punct, Blank, Newline, Join, Head, Tail, Mark, ReplacementTooLong, StringDidNotEnd, DoubleAtInString, DefinitionDropped, scanned}
+use Rattle.cweb_store.specs.declared.parts.PartKind.TheVariants.{Macro}
 use Rattle.cweb_scan.proofs.RowWords.{at, line, part, repl, fault, wanted}
 
 two_raw_literals : scanned (line (codes "@ @c") (at 0 1) ∷ line (codes "s=R\"d(a\"b @@") (at 0 2)

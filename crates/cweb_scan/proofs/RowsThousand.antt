@@ -1,7 +1,5 @@
 -- A thousand openers of names, one after another: each but the last is ended by the next.
-use Rattle.std.proofs.Common.{◌≡◌, ℕ, zero, suc, List, [], ◌∷◌, ◌++◌, length, refl}
-use Rattle.std.specs.Prelude.{codes}
-use Rattle.cweb_scan.specs.Run.{scanned}
+use Rattle.cweb_scan.proofs.Common.{◌≡◌, ℕ, zero, suc, List, [], ◌∷◌, ◌++◌, length, refl, codes, scanned}
 use Rattle.cweb_scan.proofs.RowWords.{at, line}
 
 openers : ℕ → List ℕ

@@ -1,12 +1,7 @@
 -- Webs of all kinds, computed.
-use Rattle.std.proofs.Common.{◌≡◌, [], ◌∷◌, refl, true, false}
-use Rattle.std.specs.Prelude.{codes}
+use Rattle.cweb_scan.proofs.Common.{◌≡◌, [], ◌∷◌, refl, true, false, codes, Full, Prefix, Unnamed, Word, Number, Literal, Verbatim, Punct, Blank, Newline, Join, Defs, Name, Head, Tail, Mark, StringDidNotEnd, scanned}
 use Rattle.std.specs.Fmt.{digits}
-use Rattle.cweb_store.specs.declared.names.How.TheVariants.{Full, Prefix}
-use Rattle.cweb_store.specs.declared.parts.PartKind.TheVariants.{Unnamed, Named, Macro}
-use Rattle.cweb_store.specs.Parts.{Word, Number, Literal, Verbatim, Punct, Blank, Newline, Join, Defs, Name, Head, Tail, Mark}
-use Rattle.cweb_rules.specs.declared.fault.ScanKind.TheVariants.{StringDidNotEnd}
-use Rattle.cweb_scan.specs.Run.{scanned}
+use Rattle.cweb_store.specs.declared.parts.PartKind.TheVariants.{Named, Macro}
 use Rattle.cweb_scan.proofs.RowWords.{at, ref, line, occ, part, repl, fault, wanted}
 
 two_sections : scanned (line (codes "@ Hello.") (at 0 1) ∷ line (codes "@c") (at 0 2)

@@ -1,29 +1,7 @@
 -- What is taken in one turn in a macro and in C text, by the first rule that fits.
-use Rattle.std.proofs.Common.{◌≡◌, ◌≤◌, ℕ, Bool, true, false, ◌&&◌, List, [], ◌∷◌, length, drop, take, refl, ap, sym, ◌∙◌}
-use Rattle.std.specs.Prelude.{if◌then◌else◌, codes}
-use Rattle.std.proofs.lemmas.Bool.{ne_eqb}
-use Rattle.cweb_rules.specs.Bytes.{begins, first_is, is_blank, is_line_end, is_word_byte, at_line_end, starts_section}
-use Rattle.cweb_rules.specs.Codes.{in_macro, in_c}
-use Rattle.cweb_rules.specs.Fronts.{front_in, c_front, starts_raw, starts_literal, starts_include}
-use Rattle.cweb_rules.specs.Kinds.{Skipped, front}
-use Rattle.cweb_rules.specs.Lines.{IsLine, opens_in, c_opens}
-use Rattle.cweb_rules.specs.Rules.{c_rule, c_front_by}
-use Rattle.cweb_rules.specs.Tables.{starts_number}
-use Rattle.cweb_rules.specs.declared.context.Context.{Context}
-use Rattle.cweb_rules.specs.declared.context.Context.TheVariants.{Limbo, TeX, Definition, Macro, CText}
-use Rattle.cweb_rules.specs.declared.effect.Effect.{Effect}
-use Rattle.cweb_rules.specs.declared.rule.Rule.{Rule}
+use Rattle.cweb_scan.proofs.Common.{◌≡◌, ◌≤◌, ℕ, Bool, true, false, ◌&&◌, List, [], ◌∷◌, length, drop, take, refl, ap, sym, ◌∙◌, if◌then◌else◌, codes, ne_eqb, begins, first_is, is_blank, is_line_end, is_word_byte, at_line_end, starts_section, in_macro, in_c, front_in, c_front, starts_raw, starts_literal, starts_include, Skipped, front, IsLine, opens_in, c_opens, c_rule, c_front_by, starts_number, Context, Limbo, TeX, Definition, Macro, CText, Effect, Rule, Reading, is_c, names_include, ends_in_line, is_head, needs_two, Held, Passes, has_part, Between, ends_macro_line, moved}
 use Rattle.cweb_rules.specs.declared.rule.Rule.TheVariants as rule
 use Rattle.cweb_rules.proofs.Sizes.{begins-size}
-use Rattle.cweb_scan.specs.After.{Reading}
-use Rattle.cweb_scan.specs.Directives.{is_c, names_include}
-use Rattle.cweb_scan.specs.Fronted.{ends_in_line, is_head, needs_two}
-use Rattle.cweb_scan.specs.Held.{Held}
-use Rattle.cweb_scan.specs.Turned.{Passes}
-use Rattle.cweb_scan.specs.Kept.{has_part}
-use Rattle.cweb_scan.specs.Resume.{Between}
-use Rattle.cweb_scan.specs.Ruled.{ends_macro_line}
-use Rattle.cweb_scan.specs.State.{moved}
 use Rattle.cweb_scan.proofs.CodeTurns.{closed_at}
 use Rattle.cweb_scan.proofs.Ends.{none_to_come}
 use Rattle.cweb_scan.proofs.Rests.{c_is, c_opens_is, macro_is}

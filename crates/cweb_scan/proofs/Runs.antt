@@ -1,22 +1,8 @@
 -- A run of bytes of an open item, each a unit of its own, is taken at once.
-use Rattle.std.proofs.Common.{◌≡◌, ◌<◌, ℕ, suc, ◌+◌, Bool, true, false, cond, not, ◌&&◌, ◌==◌, List, [], ◌∷◌, ◌++◌, take, refl, ap, sym, ◌∙◌, subst, arith, append_assoc}
-use Rattle.std.specs.Prelude.{if◌then◌else◌, codes}
-use Rattle.std.specs.List.{list_all, prefix_len}
-use Rattle.cweb_files.specs.declared.place.Place.{Place}
-use Rattle.cweb_rules.specs.Items.{unit_bytes}
-use Rattle.cweb_rules.specs.Lines.{IsLine}
-use Rattle.cweb_rules.specs.Plains.{is_plain, is_raw_sign, is_sign}
-use Rattle.cweb_rules.specs.declared.fault.ScanKind.TheVariants.{DoubleAtInString}
+use Rattle.cweb_scan.proofs.Common.{◌≡◌, ◌<◌, ℕ, suc, ◌+◌, Bool, true, false, cond, not, ◌&&◌, ◌==◌, List, [], ◌∷◌, ◌++◌, take, refl, ap, sym, ◌∙◌, subst, arith, append_assoc, if◌then◌else◌, codes, list_all, prefix_len, Place, unit_bytes, IsLine, is_plain, is_raw_sign, is_sign, DoubleAtInString, Goes, unit_state, Held, Takes, text_of, with_text, with_run, TakesOpen, item_of, Item, InName, InLiteral, InRaw, sign_of, State, fault}
 use Rattle.cweb_rules.specs.declared.items.Item.TheVariants.{Name, Literal}
-use Rattle.cweb_rules.specs.declared.look.Look.TheVariants.{Goes}
 use Rattle.cweb_rules.proofs.PlainRuns.{plain_goes, raw_goes, is_not, no_at_in_literal, no_at_in_raw}
 use Rattle.cweb_rules.proofs.Seams.{in_line}
-use Rattle.cweb_scan.specs.Fronted.{unit_state}
-use Rattle.cweb_scan.specs.Held.{Held, Takes}
-use Rattle.cweb_scan.specs.OpenRest.{text_of, with_text, with_run, TakesOpen}
-use Rattle.cweb_scan.specs.Opened.{item_of}
-use Rattle.cweb_scan.specs.Resume.{Item, InName, InLiteral, InRaw, sign_of}
-use Rattle.cweb_scan.specs.State.{State, fault}
 use Rattle.cweb_scan.specs.declared.reader.open.Open.{Open}
 use Rattle.cweb_scan.specs.declared.reader.open.Open.TheVariants as code
 use Rattle.cweb_scan.proofs.OpenItems.{append-nil'}

@@ -1,32 +1,11 @@
 -- How the lines that a merger gives out are scanned.
-use Rattle.std.proofs.Common.{◌≡◌, ◌≤◌, ◌<◌, ℕ, ◌+◌, Bool, true, List, [], ◌∷◌, ◌++◌, length, refl, ap, sym, ◌∙◌, subst, arith}
-use Rattle.std.specs.Prelude.{IsTrue, nat_lt}
-use Rattle.std.proofs.lemmas.Bool.{ltb-true, lt-ltb}
-use Rattle.std.proofs.lemmas.List.{append-nil, append_assoc}
-use Rattle.std.proofs.lemmas.List.Elements.{All-nil, All-push, All-weaker}
-use Rattle.cweb_files.specs.declared.place.Place.{Place}
-use Rattle.cweb_lines.specs.Lines.{Line, HasNoNewline}
-use Rattle.cweb_lines.specs.Merge.{Event}
-use Rattle.cweb_lines.specs.Merging.{KeepsTold, SoFar, Gives, StopsBehind}
-use Rattle.cweb_lines.specs.Naming.{blame}
-use Rattle.cweb_lines.specs.Told.{given_lines}
-use Rattle.cweb_lines.specs.Whole.{GivesOut, Grows, StopsThere}
-use Rattle.cweb_lines.specs.declared.limits.TheConstants.{LINES, BYTES}
-use Rattle.cweb_lines.specs.declared.stop.Stop.{Stop}
-use Rattle.cweb_lines.specs.declared.stop.Stop.TheVariants.{Memory}
+use Rattle.cweb_scan.proofs.Common.{◌≡◌, ◌≤◌, ◌<◌, ℕ, ◌+◌, Bool, true, List, [], ◌∷◌, ◌++◌, length, refl, ap, sym, ◌∙◌, subst, arith, IsTrue, nat_lt, ltb-true, lt-ltb, append-nil, append_assoc, All-nil, All-push, All-weaker, Place, Line, HasNoNewline, Event, KeepsTold, SoFar, StopsBehind, blame, given_lines, GivesOut, Grows, StopsThere, LINES, BYTES, Stop, Memory, Token, Mark, all_tokens, IsLine, ScanFault, Reading, Held, read_after, unread, IsBounded, MarkPasses, web_size, Scanned, read, scanned, scanned_of, AreBelow, IsBelow, IsMarkBelow, HasTaken, IsWithin, Scans, EndsEarly}
+use Rattle.cweb_lines.specs.Merging.{Gives}
 use Rattle.cweb_lines.proofs.Fronts.{told_then}
 use Rattle.cweb_lines.proofs.Merges.{gives_nothing}
 use Rattle.cweb_lines.proofs.Sums.{gives_both, behind_both}
 use Rattle.cweb_lines.proofs.Stacks.{stops_map}
 use Rattle.cweb_lines.proofs.Writes.{given_front, gives_all, tells_some, tells_more, tells_same}
-use Rattle.cweb_store.specs.Parts.{Token, Mark, all_tokens}
-use Rattle.cweb_rules.specs.Lines.{IsLine}
-use Rattle.cweb_rules.specs.declared.fault.ScanFault.{ScanFault}
-use Rattle.cweb_scan.specs.After.{Reading}
-use Rattle.cweb_scan.specs.Held.{Held, read_after, unread}
-use Rattle.cweb_scan.specs.Law.{IsBounded, MarkPasses, web_size}
-use Rattle.cweb_scan.specs.Run.{Scanned, read, scanned, scanned_of}
-use Rattle.cweb_scan.specs.Scan.{AreBelow, IsBelow, IsMarkBelow, HasTaken, IsWithin, Scans, EndsEarly}
 use Rattle.cweb_scan.proofs.Bounds.{bounded}
 use Rattle.cweb_scan.proofs.Places.{scanned-pass}
 

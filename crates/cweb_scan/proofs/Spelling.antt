@@ -1,10 +1,6 @@
 -- A name that is being squeezed.
-use Rattle.std.proofs.Common.{◌≡◌, ℕ, Bool, true, false, ◌&&◌, ◌==◌, not, List, [], ◌∷◌, ◌++◌, refl, ap, sym, ◌∙◌}
-use Rattle.std.specs.Prelude.{codes, if◌then◌else◌}
-use Rattle.std.proofs.lemmas.Bool.{eqb-true}
-use Rattle.cweb_rules.specs.Bytes.{is_white}
+use Rattle.cweb_scan.proofs.Common.{◌≡◌, ℕ, Bool, true, false, ◌&&◌, ◌==◌, not, List, [], ◌∷◌, ◌++◌, refl, ap, sym, ◌∙◌, codes, if◌then◌else◌, eqb-true, is_white, is_squeezed, is_squeezed_after, squeezed, squeezed_after}
 use Rattle.cweb_rules.proofs.Seams.{both}
-use Rattle.cweb_scan.specs.Names.{is_squeezed, is_squeezed_after, squeezed, squeezed_after}
 
 -- whether there is a byte
 abbrev pub is_some : List ℕ → Bool

@@ -1,26 +1,8 @@
 -- What a piece does within a line leaves the place, and its line ends move it.
-use Rattle.std.proofs.Common.{◌≡◌, ◌≤◌, ℕ, suc, ◌+◌, Bool, true, false, not, ◌&&◌, ◌==◌, List, [], ◌∷◌, Option, Some, None, length, drop, refl, ap, sym, ◌∙◌, arith}
-use Rattle.std.specs.Prelude.{if◌then◌else◌, codes, bytes_eq}
-use Rattle.std.specs.List.{flat_map, fold}
-use Rattle.std.proofs.lemmas.List.{length-drop}
-use Rattle.cweb_files.specs.declared.place.Place.{Place}
-use Rattle.cweb_store.specs.Parts.{Blank}
-use Rattle.cweb_store.specs.declared.names.NameRef.{NameRef}
-use Rattle.cweb_rules.specs.Bytes.{is_line_end}
-use Rattle.cweb_rules.specs.Kinds.{Kind}
-use Rattle.cweb_rules.specs.Pays.{at_line_ends}
-use Rattle.cweb_rules.specs.declared.context.Context.{Context}
-use Rattle.cweb_rules.specs.declared.context.Context.TheVariants.{Limbo, TeX, Definition, Macro, CText}
-use Rattle.cweb_rules.specs.declared.effect.Effect.{Effect}
-use Rattle.cweb_rules.specs.declared.effect.Effect.TheVariants.{Nothing, Define, Format, Program, Named, InsertDefs, Joins, GiveAt, Faulty}
+use Rattle.cweb_scan.proofs.Common.{◌≡◌, ◌≤◌, ℕ, suc, ◌+◌, Bool, true, false, not, ◌&&◌, ◌==◌, List, [], ◌∷◌, Option, Some, None, length, drop, refl, ap, sym, ◌∙◌, arith, if◌then◌else◌, codes, bytes_eq, flat_map, fold, length-drop, Place, Blank, NameRef, is_line_end, Kind, at_line_ends, Context, Limbo, TeX, Definition, Macro, CText, Effect, Nothing, Define, Format, Program, Named, InsertDefs, Joins, GiveAt, Faulty, End, Closed, Cut, Nested, Open, DoubleAtInString, Reading, on, line_end_in, line_end, comment_line_end, blank, code, letter, control_text, verbatim, constant, define, comment, name_fault, open_name, use_name, name_in, occurrence, literal, next_line, each_line_end, literal_unit, stays_in_head, enter_in, in_directive, directive, State, give, fault, moved, end_macro_in, end_macro, drop_definition, leave_in}
 use Rattle.cweb_rules.specs.declared.effect.Effect.TheVariants as effect
-use Rattle.cweb_rules.specs.declared.end.End.{End}
-use Rattle.cweb_rules.specs.declared.end.End.TheVariants.{Closed, Cut, Nested, Open}
-use Rattle.cweb_rules.specs.declared.fault.ScanKind.TheVariants.{DoubleAtInString}
 use Rattle.cweb_rules.proofs.UnitNewlines.{none-ends, ends-append, drop-sum}
-use Rattle.cweb_scan.specs.After.{Reading, on, line_end_in, line_end, comment_line_end, blank, code, letter, control_text, verbatim, constant, define, comment, name_fault, open_name, use_name, name_in, occurrence, literal, next_line, each_line_end, literal_unit, stays_in_head, enter_in}
-use Rattle.cweb_scan.specs.Directives.{in_directive, directive, is_blank}
-use Rattle.cweb_scan.specs.State.{State, give, fault, moved, end_macro_in, end_macro, drop_definition, leave_in}
+use Rattle.cweb_scan.specs.Directives.{is_blank}
 
 -- the line on which a text goes on, and those that are still to come
 abbrev pub places_in : Reading → List Place

@@ -1,26 +1,9 @@
 -- Each piece is given the place of the line in which its first byte stands.
-use Rattle.std.proofs.Common.{◌≡◌, ◌≤◌, ◌<◌, ℕ, zero, suc, List, [], ◌∷◌, ◌++◌, Some, length, take, drop, refl, ap, sym, ◌∙◌, subst, arith, length-append}
-use Rattle.std.specs.Prelude.{All}
-use Rattle.std.specs.List.{flat_map, fold, slice_get}
-use Rattle.std.proofs.Math.Seq.{take-append_seam, drop-nil}
-use Rattle.std.proofs.lemmas.List.{length-map}
-use Rattle.std.proofs.lemmas.List.Elements.{All-head, All-tail}
-use Rattle.cweb_files.specs.declared.place.Place.{Place}
-use Rattle.cweb_lines.specs.Lines.{Line, HasNoNewline}
-use Rattle.cweb_store.specs.Parts.{Word, Number}
-use Rattle.cweb_rules.specs.Items.{text_in}
-use Rattle.cweb_rules.specs.Kinds.{Kind, Piece}
+use Rattle.cweb_scan.proofs.Common.{◌≡◌, ◌≤◌, ◌<◌, ℕ, zero, suc, List, [], ◌∷◌, ◌++◌, Some, length, take, drop, refl, ap, sym, ◌∙◌, subst, arith, length-append, All, flat_map, fold, slice_get, take-append_seam, drop-nil, length-map, All-head, All-tail, Place, Line, HasNoNewline, Word, Number, text_in, Kind, Piece, at_line_ends, Reading, on, line_end, comment_line_end, blank, punctuator, code, letter, control_text, verbatim, constant, define, comment, occurrence, literal, each_line_end, literal_unit, enter, item, after, names_include, places, ArePieces, front_of, further, unread_text, newlines, StandOnTheirLines, State, give, moved, begin_section}
 use Rattle.cweb_rules.specs.Kinds as kind
-use Rattle.cweb_rules.specs.Pays.{at_line_ends}
 use Rattle.cweb_rules.proofs.UnitNewlines.{Tells, none-ends, ends-append}
 use Rattle.cweb_rules.proofs.Newlines.{told}
-use Rattle.cweb_scan.specs.After.{Reading, on, line_end, comment_line_end, blank, punctuator, code, letter, control_text, verbatim, constant, define, comment, occurrence, literal, each_line_end, literal_unit, enter, item, after}
-use Rattle.cweb_scan.specs.Directives.{names_include}
-use Rattle.cweb_scan.specs.Held.{places}
-use Rattle.cweb_scan.specs.Law.{ArePieces}
-use Rattle.cweb_scan.specs.Run.{front_of, further}
-use Rattle.cweb_scan.specs.Standing.{unread_text, text_of, newlines, StandOnTheirLines}
-use Rattle.cweb_scan.specs.State.{State, give, moved, begin_section}
+use Rattle.cweb_scan.specs.Standing.{text_of}
 use Rattle.cweb_scan.proofs.Pieces.{are_pieces}
 use Rattle.cweb_scan.proofs.Scans.{is_line}
 use Rattle.cweb_scan.proofs.Standing.{places_in, Stays, leave_in-stays, code-stays, letter-stays, control_text-stays, verbatim-stays, constant-stays, define-stays, comment-stays, occurrence-stays, literal-stays, blank-stays, enter_in-stays, line_end-moves, comment-moves, next_in, each-places, left, drop-more, units-places}

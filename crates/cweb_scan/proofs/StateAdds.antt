@@ -1,19 +1,5 @@
 -- How much each step of a scan adds to what is kept.
-use Rattle.std.proofs.Common.{◌≡◌, ◌≤◌, ℕ, ◌+◌, Bool, true, false, ◌||◌, ◌&&◌, not, refl, arith}
-use Rattle.std.specs.Prelude.{if◌then◌else◌, codes}
-use Rattle.cweb_files.specs.declared.place.Place.{Place}
-use Rattle.cweb_store.specs.declared.parts.PartKind.{PartKind}
-use Rattle.cweb_store.specs.Parts.{Token, Newline, Head, Tail, Mark}
-use Rattle.cweb_store.specs.Calls.{with_open}
-use Rattle.cweb_rules.specs.declared.fault.ScanKind.{ScanKind}
-use Rattle.cweb_scan.specs.Bound.{one, text_size}
-use Rattle.cweb_scan.specs.Directives.{in_directive, directive, is_punct}
-use Rattle.cweb_rules.specs.declared.context.Context.{Context}
-use Rattle.cweb_rules.specs.declared.context.Context.TheVariants.{Limbo, TeX, Definition, Macro, CText}
-use Rattle.cweb_scan.specs.State.{State, give, fault_at, moved, begin_part, end_part, end_macro_in, drop_definition, leave_in, leave, begin_section}
-use Rattle.cweb_scan.specs.After.{follows, line_end_token, line_end_in, line_end, comment_line_end}
-use Rattle.cweb_rules.specs.Pays.{due}
-use Rattle.cweb_scan.specs.Bound.{Adds}
+use Rattle.cweb_scan.proofs.Common.{◌≡◌, ◌≤◌, ℕ, ◌+◌, Bool, true, false, ◌||◌, ◌&&◌, not, refl, arith, if◌then◌else◌, codes, Place, PartKind, Token, Newline, Head, Tail, Mark, with_open, ScanKind, one, text_size, in_directive, directive, is_punct, Context, Limbo, TeX, Definition, Macro, CText, State, give, fault_at, moved, begin_part, end_part, end_macro_in, drop_definition, leave_in, leave, begin_section, follows, line_end_token, line_end_in, line_end, comment_line_end, due, Adds}
 use Rattle.cweb_scan.proofs.Measures.{pushed-size, opened-size, closed-size}
 
 pub adds_both : {a b c d : ℕ} {s t u : State} → Adds a b s t → Adds c d t u → Adds (a + c) (b + d) s u

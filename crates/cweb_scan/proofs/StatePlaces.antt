@@ -1,27 +1,8 @@
 -- A step of a scan holds no places but those that it is given.
-use Rattle.std.proofs.Common.{◌≡◌, ◌≤◌, ℕ, Bool, true, false, ◌||◌, ◌&&◌, not, List, Option, Some, None, length, refl, ap, arith}
-use Rattle.std.specs.Prelude.{if◌then◌else◌, codes, All}
-use Rattle.std.specs.Fmt.{decimal}
-use Rattle.std.proofs.lemmas.List.Elements.{All-push}
-use Rattle.cweb_files.specs.declared.place.Place.{Place}
-use Rattle.cweb_store.specs.declared.parts.PartKind.{PartKind}
+use Rattle.cweb_scan.proofs.Common.{◌≡◌, ◌≤◌, ℕ, Bool, true, false, ◌||◌, ◌&&◌, not, List, Option, Some, None, length, refl, ap, arith, if◌then◌else◌, codes, All, decimal, All-push, Place, PartKind, Token, Word, Number, Verbatim, Punct, Blank, Newline, Join, Defs, Head, Tail, Mark, with_open, with_dropped, Context, Limbo, TeX, Definition, Macro, CText, Effect, Nothing, Define, Format, Program, Named, InsertDefs, Joins, GiveAt, Faulty, End, Closed, Cut, Nested, Open, ScanFault, ScanKind, ReplacementTooLong, CommentDidNotEnd, ControlTextDidNotEnd, FaultyConstant, DefinitionDropped, parts_size, in_directive, directive, is_punct, State, give, fault_at, moved, begin_part, end_part, end_macro_in, end_macro, drop_definition, leave_in, leave, begin_section, follows, line_end_token, line_end_in, line_end, comment_line_end, blank, punctuator, code, letter, control_text, verbatim, constant, define, comment}
 use Rattle.cweb_store.specs.declared.parts.PartKind.TheVariants as part
-use Rattle.cweb_store.specs.Parts.{Token, Word, Number, Verbatim, Punct, Blank, Newline, Join, Defs, Head, Tail, Mark}
-use Rattle.cweb_store.specs.Calls.{with_open, with_dropped}
-use Rattle.cweb_rules.specs.declared.context.Context.{Context}
-use Rattle.cweb_rules.specs.declared.context.Context.TheVariants.{Limbo, TeX, Definition, Macro, CText}
-use Rattle.cweb_rules.specs.declared.effect.Effect.{Effect}
-use Rattle.cweb_rules.specs.declared.effect.Effect.TheVariants.{Nothing, Define, Format, Program, Named, InsertDefs, Joins, GiveAt, Faulty}
 use Rattle.cweb_rules.specs.declared.effect.Effect.TheVariants as effect
-use Rattle.cweb_rules.specs.declared.end.End.{End}
-use Rattle.cweb_rules.specs.declared.end.End.TheVariants.{Closed, Cut, Nested, Open}
-use Rattle.cweb_rules.specs.declared.fault.ScanFault.{ScanFault}
-use Rattle.cweb_rules.specs.declared.fault.ScanKind.{ScanKind}
-use Rattle.cweb_rules.specs.declared.fault.ScanKind.TheVariants.{ReplacementTooLong, CommentDidNotEnd, ControlTextDidNotEnd, FaultyConstant, DefinitionDropped}
-use Rattle.cweb_scan.specs.Bound.{parts_size}
-use Rattle.cweb_scan.specs.Directives.{in_directive, directive, is_punct, is_blank}
-use Rattle.cweb_scan.specs.State.{State, give, fault_at, moved, begin_part, end_part, end_macro_in, end_macro, drop_definition, leave_in, leave, begin_section}
-use Rattle.cweb_scan.specs.After.{follows, line_end_token, line_end_in, line_end, comment_line_end, blank, punctuator, code, letter, control_text, verbatim, constant, define, comment}
+use Rattle.cweb_scan.specs.Directives.{is_blank}
 use Rattle.cweb_scan.proofs.Measures.{pushed-size, opened-size, closed-size, dropped-size}
 
 -- counts the Marks that stand elsewhere

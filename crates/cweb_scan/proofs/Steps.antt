@@ -1,16 +1,11 @@
 -- The code's directive follows that of the tokens.
-use Rattle.std.proofs.Common.{◌≡◌, Bool, true, false, ◌&&◌, not, List, [], ◌∷◌, ◌++◌, Option, Some, None, refl, ap, sym, ◌∙◌}
-use Rattle.std.specs.Prelude.{codes, bytes_eq, if◌then◌else◌}
+use Rattle.cweb_scan.proofs.Common.{◌≡◌, Bool, true, false, ◌&&◌, not, List, [], ◌∷◌, ◌++◌, Option, Some, None, refl, ap, sym, ◌∙◌, codes, bytes_eq, if◌then◌else◌, Token, Word, Number, Literal, Verbatim, Punct, Blank, Newline, Join, Defs, Name, Head, Tail, Mark, Stage, Outside, Bare, Include, Further, is_bare, is_include, is_punct, ends_line, directive_tokens, with_next, directive_of, last_of, last_seen, stage_of, seen_directive, is_backslash, is_outside, is_bare_stage, next_stage, step}
 use Rattle.std.proofs.lemmas.List.Sums.{fold-append}
-use Rattle.cweb_store.specs.Parts.{Token, Word, Number, Literal, Verbatim, Punct, Blank, Newline, Join, Defs, Name, Head, Tail, Mark}
 use Rattle.cweb_scan.specs.declared.scanner.directive.Last.TheVariants as last
-use Rattle.cweb_scan.specs.declared.scanner.directive.Stage.{Stage}
-use Rattle.cweb_scan.specs.declared.scanner.directive.Stage.TheVariants.{Outside, Bare, Include, Further}
 use Rattle.cweb_scan.specs.Directives as spec
-use Rattle.cweb_scan.specs.Directives.{is_bare, is_include, is_punct, ends_line, directive_tokens, with_next, directive_of}
 use Rattle.cweb_scan.specs.Directives.{goes_over}
 use Rattle.cweb_scan.specs.Kept as kept
-use Rattle.cweb_scan.specs.Kept.{last_of, last_seen, stage_of, seen_directive, is_line_end, is_backslash, is_outside, is_bare_stage, further, next_stage, step}
+use Rattle.cweb_scan.specs.Kept.{is_line_end, further}
 
 other_last : (v : Bool) → is_line_end (if v then last.Backslash else last.Other) ≡ false
 other_last true = refl

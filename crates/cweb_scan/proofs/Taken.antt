@@ -1,10 +1,5 @@
 -- A line is its line end and its bytes.
-use Rattle.std.proofs.Common.{◌≡◌, List, [], ◌∷◌, ◌++◌, true, false, refl, ap, sym, ◌∙◌}
-use Rattle.cweb_lines.specs.Lines.{Line}
-use Rattle.cweb_scan.specs.After.{Reading}
-use Rattle.cweb_rules.specs.Lines.{AtLineEnd}
-use Rattle.cweb_scan.specs.Run.{further, read}
-use Rattle.cweb_scan.specs.Held.{Held, goes_on, places, read_after, begun_at, TakesLineEnd, TakesBytes}
+use Rattle.cweb_scan.proofs.Common.{◌≡◌, List, [], ◌∷◌, ◌++◌, true, false, refl, ap, sym, ◌∙◌, Line, Reading, AtLineEnd, further, read, Held, goes_on, places, read_after, begun_at, TakesLineEnd, TakesBytes}
 
 pub AtLineEnd-further : (lines : List Line) → AtLineEnd (further lines)
 AtLineEnd-further [] = tt

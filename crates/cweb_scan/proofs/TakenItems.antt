@@ -1,25 +1,11 @@
 -- An item of a line that ends in it: the state after it, whatever lines follow.
-use Rattle.std.proofs.Common.{◌≡◌, ℕ, true, false, List, [], ◌∷◌, ◌++◌, take, drop, refl, ap, sym, ◌∙◌}
-use Rattle.std.specs.Prelude.{if◌then◌else◌}
-use Rattle.cweb_files.specs.declared.place.Place.{Place}
-use Rattle.cweb_scan.specs.After.{Reading, on, comment_line_end, comment, blank, occurrence, literal, enter, item, after}
-use Rattle.cweb_rules.specs.Codes.{in_text, in_macro}
-use Rattle.cweb_rules.specs.Fronts.{head_as, head_front, starts_raw, starts_literal}
-use Rattle.cweb_rules.specs.Items.{text_in}
-use Rattle.cweb_rules.specs.Kinds.{Kind, Skipped, Section, Code, Letter, ControlText, Verbatim, Constant, Occurrence, Blanks, LineEnd, Comment, Quoted, Defined, Identifier, Numeral, Punctuator, Front, Piece}
-use Rattle.cweb_rules.specs.Lines.{AtLineEnd, text_opens, opens_code, opens_in}
-use Rattle.cweb_rules.specs.Lines.{IsLine}
-use Rattle.cweb_scan.specs.Run.{front_of, run}
-use Rattle.std.specs.List.{fold}
-use Rattle.std.proofs.lemmas.List.{take-append-le, drop-append-le}
-use Rattle.cweb_scan.specs.Directives.{names_include}
-use Rattle.cweb_scan.specs.State.{State, moved}
+use Rattle.cweb_scan.proofs.Common.{◌≡◌, ℕ, true, false, List, [], ◌∷◌, ◌++◌, take, drop, refl, ap, sym, ◌∙◌, if◌then◌else◌, Place, Reading, on, comment_line_end, comment, blank, occurrence, literal, enter, item, after, in_text, in_macro, head_as, head_front, starts_raw, starts_literal, text_in, Kind, Skipped, Section, Code, Letter, ControlText, Constant, Blanks, LineEnd, Comment, Quoted, Defined, Identifier, Numeral, Punctuator, Front, Piece, AtLineEnd, text_opens, opens_code, opens_in, IsLine, front_of, run, fold, take-append-le, drop-append-le, names_include, State, moved, IsPast}
+use Rattle.cweb_rules.specs.Kinds.{Verbatim, Occurrence}
 use Rattle.cweb_rules.proofs.LineFronts.{text_front_line, front_line}
 use Rattle.cweb_rules.proofs.InLines.{InLine, stands}
 use Rattle.cweb_scan.proofs.Fairs.{fair}
 use Rattle.cweb_scan.proofs.LineUnits.{units_line}
 use Rattle.cweb_scan.proofs.OpenItems.{none-line}
-use Rattle.cweb_scan.specs.Fronted.{IsPast}
 use Rattle.cweb_scan.proofs.LiteralOpeners.{past-line, c_front_raw, c_front_literal}
 use Rattle.cweb_rules.proofs.LineLiterals.{starts_literal_line}
 use Rattle.cweb_rules.proofs.LineDelimiters.{starts_raw_line}

@@ -1,17 +1,5 @@
 -- A line of text that has no `@` gives nothing but its place.
-use Rattle.std.proofs.Common.{◌≡◌, ℕ, Bool, true, false, List, [], ◌∷◌, ◌++◌, drop, length, refl, ap, sym, ◌∙◌, subst, arith}
-use Rattle.std.specs.List.{prefix_len}
-use Rattle.std.proofs.Math.Seq.{drop-length}
-use Rattle.cweb_files.specs.declared.place.Place.{Place}
-use Rattle.cweb_lines.specs.Lines.{Line}
-use Rattle.cweb_rules.specs.Lines.{IsLine}
-use Rattle.cweb_rules.specs.declared.context.Context.{Context}
-use Rattle.cweb_rules.specs.declared.context.Context.TheVariants.{Limbo, TeX, Definition, Macro, CText}
-use Rattle.cweb_scan.specs.After.{line_end_in}
-use Rattle.cweb_scan.specs.Fronted.{is_skipped, reads_c}
-use Rattle.cweb_scan.specs.Held.{Held, held, after_line_end, goes_on, gone_to, read_after, TakesBytes, TakesLineEnd}
-use Rattle.cweb_scan.specs.Resume.{Between}
-use Rattle.cweb_scan.specs.State.{State, moved}
+use Rattle.cweb_scan.proofs.Common.{◌≡◌, ℕ, Bool, true, false, List, [], ◌∷◌, ◌++◌, drop, length, refl, ap, sym, ◌∙◌, subst, arith, prefix_len, drop-length, Place, Line, IsLine, Context, Limbo, TeX, Definition, Macro, CText, line_end_in, is_skipped, reads_c, Held, held, after_line_end, goes_on, gone_to, read_after, TakesBytes, TakesLineEnd, Between, State, moved}
 use Rattle.cweb_scan.specs.declared.reader.open.Open.TheVariants as kind
 use Rattle.cweb_scan.proofs.CodeTurns.{skipped_at}
 use Rattle.cweb_scan.proofs.LineBegins.{line_ends}

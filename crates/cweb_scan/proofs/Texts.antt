@@ -1,23 +1,7 @@
 -- Texts that are given as they stand, and included names.
-use Rattle.std.proofs.Common.{◌≡◌, true, false, ℕ, ◌+◌, List, [], ◌∷◌, ◌++◌, length, take, drop, refl, ap, sym, ◌∙◌, append_assoc}
-use Rattle.std.specs.Prelude.{codes, bytes_eq, if◌then◌else◌}
-use Rattle.std.specs.List.{fold}
-use Rattle.std.proofs.lemmas.Grind.{flat_map-append, fold-append}
-use Rattle.cweb_rules.specs.Cut.{Reach, reach, body}
-use Rattle.cweb_rules.specs.Fronts.{verbatim_at, include_at}
-use Rattle.cweb_rules.specs.Items.{unit_bytes, text_in, look_in_control, look_in_include}
-use Rattle.cweb_rules.specs.Lines.{IsLine}
-use Rattle.cweb_rules.specs.Looks.{reached}
-use Rattle.cweb_rules.specs.declared.end.End.TheVariants.{Cut, Open}
-use Rattle.cweb_rules.specs.declared.items.Reached.{Reached}
+use Rattle.cweb_scan.proofs.Common.{◌≡◌, true, false, ℕ, ◌+◌, List, [], ◌∷◌, ◌++◌, length, take, drop, refl, ap, sym, ◌∙◌, append_assoc, codes, bytes_eq, if◌then◌else◌, fold, flat_map-append, fold-append, Reach, reach, body, verbatim_at, include_at, unit_bytes, text_in, look_in_control, look_in_include, IsLine, reached, Cut, Open, Reached, verbatim, literal, literal_unit, ended_as, Gives, unit_state, DoubleAtInString, has_part, HasRoom, State, fault}
 use Rattle.cweb_rules.proofs.InLines.{AreLines, IsLine-take, IsLine-drop, units-lines}
 use Rattle.cweb_rules.proofs.Looks.{control-units, include-units}
-use Rattle.cweb_scan.specs.After.{verbatim, literal, literal_unit}
-use Rattle.cweb_scan.specs.Fronted.{ended_as, Gives, unit_state}
-use Rattle.cweb_rules.specs.declared.fault.ScanKind.TheVariants.{DoubleAtInString}
-use Rattle.cweb_scan.specs.Kept.{has_part}
-use Rattle.cweb_scan.specs.Room.{HasRoom}
-use Rattle.cweb_scan.specs.State.{State, fault}
 use Rattle.cweb_scan.proofs.Ends.{at_end, reach-at_end, size-at_end, how-at_end, nothing_later}
 use Rattle.cweb_scan.proofs.LineUnits.{units_line}
 use Rattle.cweb_scan.proofs.OpenItems.{append-nil'}

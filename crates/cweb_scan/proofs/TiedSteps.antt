@@ -1,20 +1,7 @@
 -- What is tied to the tokens of the part that is open: the layout that is last, and included names.
-use Rattle.std.proofs.Common.{◌≡◌, ℕ, ◌+◌, ◌-◌, ◌==◌, arith, Bool, true, false, ◌&&◌, not, List, [], ◌∷◌, ◌++◌, Option, Some, None, refl, ap, sym, ◌∙◌, take, drop}
-use Rattle.std.specs.Prelude.{codes, bytes_eq, option_map, nat_lt, if◌then◌else◌}
-use Rattle.std.proofs.lemmas.Bool.Decides.{nat_tests}
-use Rattle.cweb_store.specs.Parts.{Token, Word, Number, Literal, Verbatim, Punct, Blank, Newline, Join, Defs, Name, Head, Tail, Mark, Part}
-use Rattle.cweb_store.specs.Growing.{longer}
+use Rattle.cweb_scan.proofs.Common.{◌≡◌, ℕ, ◌+◌, ◌-◌, ◌==◌, arith, Bool, true, false, ◌&&◌, not, List, [], ◌∷◌, ◌++◌, Option, Some, None, refl, ap, sym, ◌∙◌, take, drop, codes, bytes_eq, option_map, nat_lt, if◌then◌else◌, nat_tests, Token, Word, Number, Literal, Verbatim, Punct, Blank, Newline, Join, Defs, Name, Head, Tail, Mark, Part, longer, Bare, Include, Further, Directive, Context, is_bare, is_include, is_some, some_include, last_seen, stage_of, is_blank_kept, is_outside, is_include_stage, step, outside, after_tokens, has_part, IsTied, Limbo, TeX, Definition, Macro, CText, PartKind, is_macro, is_layout, before_last, without_last, without_layout}
 use Rattle.cweb_scan.specs.declared.scanner.directive.Last.TheVariants as last
-use Rattle.cweb_scan.specs.declared.scanner.directive.Stage.TheVariants.{Bare, Include, Further}
-use Rattle.cweb_scan.specs.declared.scanner.directive.Directive.{Directive}
-use Rattle.cweb_rules.specs.declared.context.Context.{Context}
 use Rattle.cweb_scan.specs.Directives as spec
-use Rattle.cweb_scan.specs.Directives.{is_bare, is_include, is_some, some_include}
-use Rattle.cweb_scan.specs.Kept.{last_seen, stage_of, is_blank_kept, is_outside, is_include_stage, step, outside, after_tokens, has_part, IsTied}
-use Rattle.cweb_rules.specs.declared.context.Context.TheVariants.{Limbo, TeX, Definition, Macro, CText}
-use Rattle.cweb_store.specs.declared.parts.PartKind.{PartKind}
-use Rattle.cweb_store.specs.Parts.{is_macro}
-use Rattle.cweb_store.specs.Layout.{is_layout, before_last, without_last, without_layout}
 use Rattle.cweb_scan.proofs.Steps.{not_outside, directive-pushed}
 
 -- LAYOUT THAT IS LAST

@@ -1,25 +1,6 @@
 -- What is at the front of the rest of a line, once the code has seen its rule; and that taking it is right.
-use Rattle.std.proofs.Common.{◌≡◌, ℕ, Bool, true, false, ◌&&◌, List, [], ◌∷◌, ◌++◌, take, drop, refl, ap, sym, ◌∙◌, arith}
-use Rattle.std.specs.Prelude.{if◌then◌else◌, codes}
-use Rattle.std.proofs.lemmas.List.{length-take-le}
-use Rattle.cweb_rules.specs.Bytes.{begins, first_is, is_blank, is_line_end, is_word_byte, starts_section}
-use Rattle.cweb_rules.specs.Fronts.{starts_raw, starts_literal, starts_include}
-use Rattle.cweb_rules.specs.Kinds.{Kind, Front}
-use Rattle.cweb_rules.specs.Lines.{IsLine, opens_in, opens_code, opens_comment, opens_raw, opens_literal, c_opens}
-use Rattle.cweb_rules.specs.Rules.{c_rule}
-use Rattle.cweb_rules.specs.Tables.{starts_number}
-use Rattle.cweb_rules.specs.declared.context.Context.{Context}
-use Rattle.cweb_rules.specs.declared.context.Context.TheVariants.{Limbo, TeX, Definition, Macro, CText}
-use Rattle.cweb_rules.specs.declared.effect.Effect.{Effect}
-use Rattle.cweb_rules.specs.declared.rule.Rule.{Rule}
+use Rattle.cweb_scan.proofs.Common.{◌≡◌, ℕ, Bool, true, false, ◌&&◌, List, [], ◌∷◌, ◌++◌, take, drop, refl, ap, sym, ◌∙◌, arith, if◌then◌else◌, codes, length-take-le, begins, first_is, is_blank, is_line_end, is_word_byte, starts_section, starts_raw, starts_literal, starts_include, Kind, Front, IsLine, opens_in, opens_code, opens_comment, opens_raw, opens_literal, c_opens, c_rule, starts_number, Context, Limbo, TeX, Definition, Macro, CText, Effect, Rule, enter_in, item, with_front, Gives, is_head, IsPast, Held, Takes, Between, weight, front_of, run, State}
 use Rattle.cweb_rules.specs.declared.rule.Rule.TheVariants as rule
-use Rattle.cweb_scan.specs.After.{enter_in, item}
-use Rattle.cweb_scan.specs.Fronted.{with_front, Gives, is_head, IsPast}
-use Rattle.cweb_scan.specs.Held.{Held, Takes}
-use Rattle.cweb_scan.specs.Resume.{Between}
-use Rattle.cweb_scan.specs.Room.{weight}
-use Rattle.cweb_scan.specs.Run.{front_of, run}
-use Rattle.cweb_scan.specs.State.{State}
 use Rattle.cweb_scan.proofs.Fairs.{fair}
 use Rattle.cweb_scan.proofs.Pieces.{first}
 use Rattle.cweb_scan.proofs.TakenItems.{reading, state_after, taken}

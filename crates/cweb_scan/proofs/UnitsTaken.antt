@@ -1,29 +1,11 @@
 -- One unit of an item that is open, and the end of one, in a line.
-use Rattle.std.proofs.Common.{◌≡◌, ◌≤◌, ◌<◌, ℕ, zero, suc, ◌+◌, ◌-◌, Bool, true, false, ◌==◌, List, [], ◌∷◌, ◌++◌, length, take, drop, refl, ap, sym, ◌∙◌, subst, arith, append_assoc, length-append, take-append-drop}
-use Rattle.std.specs.Prelude.{if◌then◌else◌, nat_lt}
-use Rattle.std.specs.List.{fold, list_all}
-use Rattle.std.proofs.lemmas.List.{take-append-le, drop-append-le}
-use Rattle.std.proofs.Math.Seq.{take-append-add, drop-append-add}
-use Rattle.cweb_files.specs.declared.place.Place.{Place}
-use Rattle.cweb_rules.specs.Cut.{Reach, reach, reach_in, with_unit, body, size_of}
-use Rattle.cweb_rules.specs.Fronts.{sign_after}
+use Rattle.cweb_scan.proofs.Common.{◌≡◌, ◌≤◌, ◌<◌, ℕ, zero, suc, ◌+◌, ◌-◌, Bool, true, false, ◌==◌, List, [], ◌∷◌, ◌++◌, length, take, drop, refl, ap, sym, ◌∙◌, subst, arith, append_assoc, length-append, take-append-drop, if◌then◌else◌, nat_lt, fold, list_all, take-append-le, drop-append-le, take-append-add, drop-append-add, Place, Reach, reach, reach_in, with_unit, body, size_of, sign_after, unit_bytes, text_in, look_in_name, look_in_literal, look_in_raw, IsLine, AtLineEnd, is_open, End, Cut, Open, Look, Goes, Ends, Reading, on, each_line_end, occurrence, literal, literal_unit, unit_state, InName, InLiteral, InRaw, takes_sign, end_name, end_literal, sign_of, resume, run, State, moved}
 use Rattle.cweb_rules.specs.Items as items
-use Rattle.cweb_rules.specs.Items.{unit_bytes, text_in, look_in_name, look_in_literal, look_in_raw}
-use Rattle.cweb_rules.specs.Lines.{IsLine, AtLineEnd, is_open}
-use Rattle.cweb_rules.specs.declared.end.End.{End}
-use Rattle.cweb_rules.specs.declared.end.End.TheVariants.{Cut, Open}
-use Rattle.cweb_rules.specs.declared.look.Look.{Look}
-use Rattle.cweb_rules.specs.declared.look.Look.TheVariants.{Goes, Ends}
 use Rattle.cweb_rules.proofs.InLines.{IsLine-take}
 use Rattle.cweb_rules.proofs.Ranges.{reach_in-drop}
 use Rattle.cweb_rules.proofs.Reaches.{IsLocal, IsEnd}
 use Rattle.cweb_rules.proofs.Looks.{IsWithin, AllWithin, AllSome, IsSome, name-local, name-units, raw-local, raw-units, literal-local, literal-some}
 use Rattle.cweb_rules.proofs.Seams.{in_line, stops}
-use Rattle.cweb_scan.specs.After.{Reading, on, each_line_end, occurrence, literal, literal_unit}
-use Rattle.cweb_scan.specs.Fronted.{unit_state}
-use Rattle.cweb_scan.specs.Resume.{InName, InLiteral, InRaw, takes_sign, end_name, end_literal, sign_of, resume}
-use Rattle.cweb_scan.specs.Run.{run}
-use Rattle.cweb_scan.specs.State.{State, moved}
 use Rattle.cweb_scan.proofs.LineUnits.{one-unit}
 use Rattle.cweb_scan.proofs.OpenItems.{append-nil', each-line, whole-end, after_units, sizes}
 use Rattle.cweb_scan.proofs.OpenNames.{name_ends}

@@ -1,27 +1,9 @@
 -- How much each step of a scan adds to the tokens, parts, occurrences and sections, taken together.
-use Rattle.std.proofs.Common.{◌≡◌, ◌≤◌, ℕ, ◌+◌, Bool, true, false, ◌&&◌, not, List, [], ◌∷◌, ◌++◌, Option, Some, None, length, refl, ap, arith, append-nil, length-append}
-use Rattle.std.specs.Prelude.{if◌then◌else◌, codes, option_map, option_to_list}
-use Rattle.std.specs.Fmt.{decimal}
-use Rattle.cweb_files.specs.declared.place.Place.{Place}
-use Rattle.cweb_store.specs.declared.names.NameRef.{NameRef}
-use Rattle.cweb_store.specs.declared.parts.PartKind.{PartKind}
+use Rattle.cweb_scan.proofs.Common.{◌≡◌, ◌≤◌, ℕ, ◌+◌, Bool, true, false, ◌&&◌, not, List, [], ◌∷◌, ◌++◌, Option, Some, None, length, refl, ap, arith, append-nil, length-append, if◌then◌else◌, codes, option_map, option_to_list, decimal, Place, NameRef, PartKind, Token, Part, all_tokens, Word, Number, Literal, Verbatim, Punct, Blank, Newline, Join, Defs, Name, Head, Tail, Mark, PartsSoFar, opened, pushed, longer, token_count, part_count, with_open, with_dropped, with_occurrence, Context, Limbo, TeX, Definition, Macro, CText, Effect, Nothing, Define, Format, Program, Named, InsertDefs, Joins, GiveAt, Faulty, End, Closed, Cut, Nested, Open, in_directive, directive, occurrence_in, State, give, moved, begin_part, end_part, end_macro_in, end_macro, leave_in, begin_section, line_end_token, line_end_in, line_end, comment_line_end, blank, code, letter, control_text, verbatim, constant, define, comment, name_fault, use_name, open_name, name_in, occurrence, literal, weight}
 use Rattle.cweb_store.specs.declared.parts.PartKind.TheVariants as part
-use Rattle.cweb_store.specs.Parts.{Token, Part, all_tokens, Word, Number, Literal, Verbatim, Punct, Blank, Newline, Join, Defs, Name, Head, Tail, Mark}
-use Rattle.cweb_store.specs.Growing.{PartsSoFar, opened, pushed, longer, token_count, part_count}
-use Rattle.cweb_store.specs.Calls.{with_open, with_dropped, with_occurrence}
 use Rattle.cweb_store.proofs.CallerLemmas.{part_count_pushed, part_count_dropped, part_count_closed, token_count_closed, token_count_dropped}
-use Rattle.cweb_rules.specs.declared.context.Context.{Context}
-use Rattle.cweb_rules.specs.declared.context.Context.TheVariants.{Limbo, TeX, Definition, Macro, CText}
-use Rattle.cweb_rules.specs.declared.effect.Effect.{Effect}
-use Rattle.cweb_rules.specs.declared.effect.Effect.TheVariants.{Nothing, Define, Format, Program, Named, InsertDefs, Joins, GiveAt, Faulty}
 use Rattle.cweb_rules.specs.declared.effect.Effect.TheVariants as effect
-use Rattle.cweb_rules.specs.declared.end.End.{End}
-use Rattle.cweb_rules.specs.declared.end.End.TheVariants.{Closed, Cut, Nested, Open}
-use Rattle.cweb_scan.specs.Directives.{in_directive, directive, is_blank}
-use Rattle.cweb_scan.specs.Names.{occurrence_in}
-use Rattle.cweb_scan.specs.State.{State, give, moved, begin_part, end_part, end_macro_in, end_macro, leave_in, begin_section}
-use Rattle.cweb_scan.specs.After.{line_end_token, line_end_in, line_end, comment_line_end, blank, code, letter, control_text, verbatim, constant, define, comment, name_fault, use_name, open_name, name_in, occurrence, literal}
-use Rattle.cweb_scan.specs.Room.{weight}
+use Rattle.cweb_scan.specs.Directives.{is_blank}
 use Rattle.cweb_scan.proofs.Drops.{tokens_last}
 
 -- PARTS AND TOKENS

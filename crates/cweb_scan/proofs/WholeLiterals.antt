@@ -1,17 +1,6 @@
 -- Literals that end in their line: the units behind the quote.
-use Rattle.std.proofs.Common.{◌≡◌, ◌≤◌, ◌<◌, ℕ, ◌+◌, ◌-◌, List, length, drop, ap, sym, ◌∙◌, subst, arith, min}
-use Rattle.std.proofs.lemmas.List.{length-drop}
-use Rattle.cweb_rules.specs.Cut.{reach}
-use Rattle.cweb_rules.specs.Items.{look_in_literal}
-use Rattle.cweb_rules.specs.Lines.{IsLine}
-use Rattle.cweb_rules.specs.Looks.{reached}
-use Rattle.cweb_rules.specs.declared.end.End.TheVariants.{Closed, Open}
-use Rattle.cweb_rules.specs.declared.items.Reached.{Reached}
-use Rattle.cweb_rules.specs.declared.look.Look.TheVariants.{Ends}
+use Rattle.cweb_scan.proofs.Common.{◌≡◌, ◌≤◌, ◌<◌, ℕ, ◌+◌, ◌-◌, List, length, drop, ap, sym, ◌∙◌, subst, arith, min, length-drop, reach, look_in_literal, IsLine, reached, Closed, Open, Reached, Ends, quote_byte, ClosesAt, IsGoing, Quote}
 use Rattle.cweb_rules.proofs.Ranges.{later_by, later_by-add, reach_goes, reach_ended}
-use Rattle.cweb_scan.specs.Quotes.{quote_byte}
-use Rattle.cweb_scan.specs.WholeLiterals.{ClosesAt, IsGoing}
-use Rattle.cweb_scan.specs.declared.reader.open.Quote.{Quote}
 use Rattle.cweb_scan.proofs.PlainTurns.{is_line_drop}
 
 -- ALL UNITS

@@ -1,13 +1,6 @@
 -- Borders of texts, and what is kept of them.
-use Rattle.std.proofs.Common.{◌≡◌, ◌==◌, ◌-◌, ℕ, zero, suc, Bool, true, false, cond, List, [], ◌∷◌, ◌++◌, Option, None, Some, ◌∙◌}
-use Rattle.std.proofs.Common.{refl, ap, sym, subst, arith, length, take}
-use Rattle.std.specs.Prelude.{slice_get, slice_index_or}
-use Rattle.std.specs.List.{list_any}
-use Rattle.cweb_store.specs.Parts.{Word, Punct}
-use Rattle.cweb_store.specs.declared.tokens.borders.Border.{Border}
+use Rattle.cweb_store.proofs.Common.{◌≡◌, ◌==◌, ◌-◌, ℕ, zero, suc, Bool, true, false, cond, List, [], ◌∷◌, ◌++◌, Option, None, Some, ◌∙◌, refl, ap, sym, subst, arith, length, take, slice_get, slice_index_or, list_any, Word, Punct, Border, AreTold, Bordered, IsTold, first_is, is_high, is_numeric, is_operator, is_told, last_is, lends, sign_border, sign_by}
 use Rattle.cweb_store.specs.declared.tokens.borders.Border.TheVariants as border
-use Rattle.cweb_store.specs.Borders.{AreTold, Bordered, IsTold, first_is, is_high, is_numeric, is_operator, is_told}
-use Rattle.cweb_store.specs.Borders.{last_is, lends, sign_border, sign_by}
 
 last_of_list : (p : ℕ → Bool) (b : ℕ) (bs : List ℕ) (x : ℕ)
     → slice_get (b ∷ bs) (length bs) ≡ Some x → last_is p (b ∷ bs) ≡ p x

@@ -1,18 +1,5 @@
 -- Names, files and faults are in range.
-use Rattle.std.proofs.Common.{◌≡◌, ℕ, zero, suc, ◌+◌, ◌≤◌, ◌<◌, Bool, true, false, cond, not, ◌||◌, List, [], ◌∷◌, ◌++◌, Some, None, Option, length, refl, ap, arith, length-append}
-use Rattle.std.specs.Prelude.{Ok, Err, IfSome, All, bytes_eq, if◌then◌else◌, nat_eq, map, filter}
-use Rattle.std.specs.List.{AllByRecursion, list_any, starts_with, position_or_len, enumerate_from}
-use Rattle.std.proofs.lemmas.List.{length-map}
-use Rattle.std.proofs.lemmas.List.Elements.{All-from_recursion}
-use Rattle.cweb_store.specs.declared.names.How.{How}
-use Rattle.cweb_store.specs.declared.names.How.TheVariants.{Full, Prefix}
-use Rattle.cweb_store.specs.declared.names.NameId.{NameId}
-use Rattle.cweb_store.specs.declared.names.NameFault.{NameFault}
-use Rattle.cweb_store.specs.declared.names.NameKind.{NameKind}
-use Rattle.cweb_store.specs.declared.names.NameKind.TheVariants.{NeverFull, PrefixOfAnother, NotPresent}
-use Rattle.cweb_store.specs.Names.{Occurrence, Name, Standing, id, texts, with_text, with_name, names_from, names, beginning_from, the_one, standing_among, standings_from, standings, stands, with_some, with_file, files_from, files, is_id}
-use Rattle.cweb_store.specs.Parts.{Part}
-use Rattle.cweb_store.specs.Faults.{fault, standing_faults_from, standing_faults, faults_from, faults_where, faults, is_prefix_of_another, is_missing}
+use Rattle.cweb_store.proofs.Common.{◌≡◌, ℕ, zero, suc, ◌+◌, ◌≤◌, ◌<◌, Bool, true, false, cond, not, ◌||◌, List, [], ◌∷◌, ◌++◌, Some, None, Option, length, refl, ap, arith, length-append, Ok, Err, IfSome, All, bytes_eq, if◌then◌else◌, nat_eq, map, filter, AllByRecursion, list_any, starts_with, position_or_len, enumerate_from, length-map, All-from_recursion, How, Full, Prefix, NameId, NameFault, NameKind, NeverFull, PrefixOfAnother, NotPresent, Occurrence, Name, Standing, id, texts, with_text, with_name, names_from, names, beginning_from, the_one, standing_among, standings_from, standings, stands, with_some, with_file, files_from, files, is_id, Part, fault, standing_faults_from, standing_faults, faults_from, faults_where, faults, is_prefix_of_another, is_missing}
 use Rattle.cweb_store.proofs.OccurrenceLemmas.{Grows, names_from-grows, with_text-has}
 use Rattle.cweb_store.proofs.LawLemmas.{any-grows}
 

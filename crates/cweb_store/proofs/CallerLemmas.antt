@@ -1,12 +1,5 @@
 -- How many tokens and parts a builder holds after a call: what its callers need for its conditions.
-use Rattle.std.proofs.Common.{◌≡◌, ◌≤◌, Bool, true, false, take, drop, refl, ◌+◌, List, [], ◌∷◌, ◌++◌, Some, None, length, ◌∙◌, ap, arith, append-nil, length-append}
-use Rattle.std.specs.Prelude.{IsSome, IsNone, option_map, option_to_list, if◌then◌else◌}
-use Rattle.std.proofs.lemmas.List.{take-append-drop}
-use Rattle.std.proofs.lemmas.Grind.{flat_map-append}
-use Rattle.cweb_store.specs.declared.parts.PartKind.{PartKind}
-use Rattle.cweb_store.specs.Parts.{Token, Part, all_tokens, is_macro}
-use Rattle.cweb_store.specs.Layout.{before_last, without_last, without_blank, without_layout, at_close, first_kept, is_layout, is_newline, is_blank}
-use Rattle.cweb_store.specs.Growing.{PartsSoFar, all_closed, dropped, opened, pushed, longer, part_count, token_count}
+use Rattle.cweb_store.proofs.Common.{◌≡◌, ◌≤◌, Bool, true, false, take, drop, refl, ◌+◌, List, [], ◌∷◌, ◌++◌, Some, None, length, ◌∙◌, ap, arith, append-nil, length-append, IsSome, IsNone, option_map, option_to_list, if◌then◌else◌, take-append-drop, flat_map-append, PartKind, Token, Part, all_tokens, is_macro, before_last, without_last, without_blank, without_layout, at_close, first_kept, is_layout, is_newline, is_blank, PartsSoFar, all_closed, dropped, opened, pushed, longer, part_count, token_count}
 
 tokens-last : (ps : List Part) (p : Part)
     → length (all_tokens (ps ++ p ∷ [])) ≡ length (all_tokens ps) + length p.tokens

@@ -1,8 +1,6 @@
 -- The first texts of a list of bytes, where the others are cut off.
-use Rattle.std.proofs.Common.{◌≡◌, ℕ, zero, suc, ◌≤◌, List, [], ◌∷◌, length, take, drop, refl, sym, subst, ◌∙◌, ap, arith}
-use Rattle.std.specs.Prelude.{slice_range}
-use Rattle.std.proofs.lemmas.List.{take-append-drop, length-take-le}
-use Rattle.cweb_store.specs.PackedTexts.{texts_from, AreEnds, begin_of}
+use Rattle.cweb_store.proofs.Common.{◌≡◌, ℕ, zero, suc, ◌≤◌, List, [], ◌∷◌, length, take, drop, refl, sym, subst, ◌∙◌, ap, arith, slice_range, take-append-drop, texts_from, AreEnds, begin_of}
+use Rattle.std.proofs.lemmas.List.{length-take-le}
 use Rattle.cweb_store.proofs.PackedLemmas.{range-grow, ends-le}
 
 begin-from : (n all : ℕ) (ends : List ℕ) (k : ℕ) → AreEnds n ends all → n ≤ begin_of n ends k

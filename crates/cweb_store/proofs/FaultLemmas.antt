@@ -1,17 +1,5 @@
 -- Faults of names, name by name.
-use Rattle.std.proofs.Common.{◌≡◌, ℕ, zero, suc, ◌+◌, ◌<◌, Bool, true, false, cond, not, ◌||◌, ◌&&◌, List, [], ◌∷◌, ◌++◌, Some, map, length, drop, refl, sym, ◌∙◌, ap, arith, append_assoc}
-use Rattle.std.specs.Prelude.{bytes_eq, if◌then◌else◌, nat_eq, slice_get, option_map, filter}
-use Rattle.std.specs.List.{list_any, starts_with, enumerate_from}
-use Rattle.std.proofs.Math.Seq.{take-length}
-use Rattle.std.proofs.lemmas.Slice.Eq.{bytes_eq-Decides}
-use Rattle.cweb_store.specs.declared.names.NameId.{NameId}
-use Rattle.cweb_store.specs.declared.names.NameKind.{NameKind}
-use Rattle.cweb_store.specs.declared.names.NameFault.{NameFault}
-use Rattle.cweb_store.specs.declared.names.found.Found.{Found}
-use Rattle.cweb_store.specs.declared.names.found.Found.TheVariants.{Nothing, One, Several}
-use Rattle.cweb_store.specs.Names.{Name, id, texts, beginning_from, beginning}
-use Rattle.cweb_store.specs.Found.{found_of, is_several, Distinct}
-use Rattle.cweb_store.specs.Faults.{fault, fault_if, faults_from, is_prefix_of_another}
+use Rattle.cweb_store.proofs.Common.{◌≡◌, ℕ, zero, suc, ◌+◌, ◌<◌, Bool, true, false, cond, not, ◌||◌, ◌&&◌, List, [], ◌∷◌, ◌++◌, Some, map, length, drop, refl, sym, ◌∙◌, ap, arith, append_assoc, bytes_eq, if◌then◌else◌, nat_eq, slice_get, option_map, filter, list_any, starts_with, enumerate_from, take-length, bytes_eq-Decides, NameId, NameKind, NameFault, Found, Nothing, One, Several, Name, id, texts, beginning_from, beginning, found_of, is_several, Distinct, fault, fault_if, faults_from, is_prefix_of_another}
 use Rattle.cweb_store.proofs.InsertLemmas.{grown, found-first}
 use Rattle.cweb_store.proofs.NameLemmas.{bytes_eq-same, bytes_eq-sym, or-false}
 

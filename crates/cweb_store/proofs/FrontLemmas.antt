@@ -1,12 +1,5 @@
 -- Fronts are ordered as their texts are.
-use Rattle.std.proofs.Common.{◌≡◌, ℕ, zero, suc, ◌+◌, ◌*◌, ◌<◌, ◌≤◌, List, [], ◌∷◌, refl, sym, ◌∙◌, ap, arith}
-use Rattle.std.specs.Ordering.{nat_cmp, ordering_then}
-use Rattle.std.specs.Cmp.Lexicographic.{slice_cmp}
-use Rattle.std.specs.declared.cmp.Ordering.TheVariants.{Less, Equal, Greater}
-use Rattle.std.proofs.lemmas.Bool.Decides.{nat_tests}
-use Rattle.std.proofs.Math.Nat.{suc-mul, mul-le-mul_right}
-use Rattle.cweb_store.specs.Keys.{AreBytes}
-use Rattle.cweb_store.specs.Fronts.{front_of}
+use Rattle.cweb_store.proofs.Common.{◌≡◌, ℕ, zero, suc, ◌+◌, ◌*◌, ◌<◌, ◌≤◌, List, [], ◌∷◌, refl, sym, ◌∙◌, ap, arith, nat_cmp, ordering_then, slice_cmp, Less, Equal, Greater, nat_tests, suc-mul, mul-le-mul_right, AreBytes, front_of}
 
 -- what a byte is worth with n bytes behind it
 abbrev worth : ℕ → ℕ

@@ -1,18 +1,6 @@
 -- Which names are among those that are gathered from tokens and parts.
-use Rattle.std.proofs.Common.{◌≡◌, ℕ, ◌+◌, Bool, true, false, cond, ◌||◌, List, [], ◌∷◌, ◌++◌, Some, None, Option, length, refl, sym, ◌∙◌, ap}
-use Rattle.std.specs.Prelude.{if◌then◌else◌, nat_eq, filter}
-use Rattle.std.specs.List.{list_any}
-use Rattle.std.proofs.lemmas.Bool.{eqb-true}
-use Rattle.std.proofs.lemmas.List.Folds.{list_any-append}
-use Rattle.cweb_store.specs.declared.names.NameId.{NameId}
-use Rattle.cweb_store.specs.declared.parts.PartKind.{PartKind}
-use Rattle.cweb_store.specs.declared.parts.PartKind.TheVariants.{Unnamed, Named, Macro}
-use Rattle.cweb_store.specs.Names.{Standing, stands, is_id, with_id, with_some}
+use Rattle.cweb_store.proofs.Common.{◌≡◌, ℕ, ◌+◌, Bool, true, false, cond, ◌||◌, List, [], ◌∷◌, ◌++◌, Some, None, Option, length, refl, sym, ◌∙◌, ap, if◌then◌else◌, nat_eq, filter, list_any, eqb-true, list_any-append, NameId, PartKind, Unnamed, Named, Macro, Standing, stands, is_id, with_id, with_some, Token, Part, all_tokens, joined, is_code, is_some_id, is_of, runs_from, is_use, is_used, has_part, with_use, used_from, used_in, with_part, present_from}
 use Rattle.cweb_store.specs.Parts as spec
-use Rattle.cweb_store.specs.Parts.{Token, Part, all_tokens, joined, is_code, is_some_id, is_of}
-use Rattle.cweb_store.specs.Runs.{runs_from}
-use Rattle.cweb_store.specs.Faults.{is_use, is_used, has_part}
-use Rattle.cweb_store.specs.Gathered.{with_use, used_from, used_in, with_part, present_from}
 
 or-none : (b : Bool) → (b || false) ≡ b
 or-none true = refl

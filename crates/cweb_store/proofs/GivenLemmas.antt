@@ -1,14 +1,5 @@
 -- What is kept of occurrences: texts, how they are given, and what was found of each.
-use Rattle.std.proofs.Common.{◌≡◌, ℕ, zero, suc, ◌+◌, ◌<◌, List, [], ◌∷◌, ◌++◌, map, length, drop, refl, sym, ◌∙◌, ap, subst, arith, length-append}
-use Rattle.std.specs.Prelude.{slice_get, Some}
-use Rattle.cweb_store.specs.declared.names.found.Found.{Found}
-use Rattle.cweb_store.specs.declared.names.table.GivenAs.{GivenAs}
-use Rattle.cweb_store.specs.Names.{Occurrence, Name, with_name, names_from, names, standing_among, standings_from, standings}
-use Rattle.cweb_store.specs.Calls.{occurrence_of, too_many}
-use Rattle.cweb_store.specs.Known.{early, earlies_from, by_found}
-use Rattle.cweb_store.specs.Given.{AreGiven, settled, settled_all}
-use Rattle.cweb_store.specs.Stored.{given_as, occurrences_at}
-use Rattle.cweb_store.specs.Texts.{occurrence_text}
+use Rattle.cweb_store.proofs.Common.{◌≡◌, ℕ, zero, suc, ◌+◌, ◌<◌, List, [], ◌∷◌, ◌++◌, map, length, drop, refl, sym, ◌∙◌, ap, subst, arith, length-append, slice_get, Some, Found, GivenAs, Occurrence, Name, with_name, names_from, names, standing_among, standings_from, standings, occurrence_of, too_many, early, earlies_from, by_found, AreGiven, settled, settled_all, given_as, occurrences_at, occurrence_text}
 use Rattle.cweb_store.proofs.FaultLemmas.{front_at}
 use Rattle.cweb_store.proofs.StoredLemmas.{occurrences-count}
 use Rattle.cweb_store.proofs.OccurrenceLemmas.{names_from-push, earlies_from-push, late, settled-one}

@@ -1,15 +1,5 @@
 -- How the one name of a prefix changes with one more name in the sorted map.
-use Rattle.std.proofs.Common.{◌≡◌, ℕ, Bool, true, false, cond, List, [], ◌∷◌, map, filter, Some, None, refl, sym, ◌∙◌, ap}
-use Rattle.std.specs.Prelude.{nat_eq}
-use Rattle.std.specs.List.{starts_with}
-use Rattle.std.specs.Map.{lookup}
-use Rattle.std.specs.BTreeMap.{insert_entry, is_at}
-use Rattle.std.specs.Ordering.{match_ordering, is_eq}
-use Rattle.std.specs.declared.cmp.Ordering.TheVariants.{Less, Equal, Greater}
-use Rattle.cweb_store.specs.declared.names.NameId.{NameId}
-use Rattle.cweb_store.specs.declared.names.found.Found.{Found}
-use Rattle.cweb_store.specs.declared.names.found.Found.TheVariants.{Nothing, One, Several}
-use Rattle.cweb_store.specs.Found.{Entry, order, begins, found_of}
+use Rattle.cweb_store.proofs.Common.{◌≡◌, ℕ, Bool, true, false, cond, List, [], ◌∷◌, map, filter, Some, None, refl, sym, ◌∙◌, ap, nat_eq, starts_with, lookup, insert_entry, is_at, match_ordering, is_eq, Less, Equal, Greater, NameId, Found, Nothing, One, Several, Entry, order, begins, found_of}
 
 -- the one that there is, with one more number that counts or not
 abbrev pub grown : Bool → NameId → Found → Found

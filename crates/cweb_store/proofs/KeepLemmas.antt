@@ -1,17 +1,6 @@
 -- What a call to keep a word does, by where the word is found or put.
-use Rattle.std.proofs.Common.{◌≡◌, ℕ, true, false, ◌||◌, ◌&&◌, List, [], ◌∷◌, ◌++◌, map, length, Some, None, refl, sym, ◌∙◌, ap, arith, length-append, append-nil}
-use Rattle.std.specs.Prelude.{slice_get, bytes_eq, Vec, if◌then◌else◌}
-use Rattle.std.specs.List.{list_any}
-use Rattle.std.specs.Map.{lookup}
-use Rattle.std.specs.Ordering.{is_eq, nat_cmp}
-use Rattle.std.specs.Cmp.Lexicographic.{slice_cmp}
-use Rattle.std.specs.declared.alloc.Global.{Global}
-use Rattle.std.proofs.lemmas.Bool.{or_from}
-use Rattle.cweb_store.specs.declared.tokens.words.slot.Slot.{Slot}
+use Rattle.cweb_store.proofs.Common.{◌≡◌, ℕ, true, false, ◌||◌, ◌&&◌, List, [], ◌∷◌, ◌++◌, map, length, Some, None, refl, sym, ◌∙◌, ap, arith, length-append, append-nil, slice_get, bytes_eq, Vec, if◌then◌else◌, list_any, lookup, is_eq, nat_cmp, slice_cmp, Global, or_from, Slot, total, with_word, Entries, Holds, IsFound, IsWordPlaced, IsInserted, IsTable, slot_is, slot_text, window_of, word_in, TextsAndWords, KeepsWord, has, texts_and_words}
 use Rattle.cweb_store.specs.Keys.{key_of}
-use Rattle.cweb_store.specs.Texts.{total, with_word}
-use Rattle.cweb_store.specs.Slots.{Entries, Holds, IsFound, IsWordPlaced, IsInserted, IsTable, slot_is, slot_text, window_of, word_in}
-use Rattle.cweb_store.specs.Words.{TextsAndWords, KeepsWord, has, texts_and_words}
 use Rattle.cweb_store.proofs.ListLemmas.{or-swap, or-assoc, or-last}
 use Rattle.cweb_store.proofs.PackedLemmas.{get-last, get-text}
 use Rattle.cweb_store.proofs.WordLemmas.{total-append, with-word-any}

@@ -1,13 +1,6 @@
 -- The key of a word, by its length.
-use Rattle.std.proofs.Common.{◌≡◌, ℕ, zero, suc, ◌+◌, ◌-◌, ◌<◌, ◌≤◌, true, false, List, [], ◌∷◌, ◌++◌, length, take, drop, get_or, refl, sym, ◌∙◌, ap, arith, length-drop, ltb-true, ltb-false}
-use Rattle.std.specs.Prelude.{nat_lt, slice_range, if◌then◌else◌}
-use Rattle.std.specs.Int.{w32, w64, from_le_bytes}
-use Rattle.std.proofs.lemmas.List.{take_all, take-append-drop, drop-drop}
-use Rattle.std.proofs.lemmas.Grind.{same_number_lists}
-use Rattle.std.proofs.lemmas.Nat.{le_bytes_4, le_bytes_8}
-use Rattle.std.proofs.Math.Seq.{length-take-le}
-use Rattle.cweb_store.specs.declared.tokens.words.key.Key.{Key}
-use Rattle.cweb_store.specs.Keys.{AreBytes, key_of, short_key, middle_key, long_key}
+use Rattle.cweb_store.proofs.Common.{◌≡◌, ℕ, zero, suc, ◌+◌, ◌-◌, ◌<◌, ◌≤◌, true, false, List, [], ◌∷◌, ◌++◌, length, take, drop, get_or, refl, sym, ◌∙◌, ap, arith, length-drop, ltb-true, ltb-false, nat_lt, slice_range, if◌then◌else◌, w32, w64, from_le_bytes, take_all, take-append-drop, drop-drop, same_number_lists, le_bytes_4, le_bytes_8, length-take-le, Key, AreBytes, short_key, middle_key, long_key}
+use Rattle.cweb_store.specs.Keys.{key_of}
 
 less : (n m : ℕ) → n < m → nat_lt n m ≡ true
 less n m h = grind (arith, h)

@@ -1,14 +1,6 @@
 -- A text that is put into a map with its number, or with the next one.
-use Rattle.std.proofs.Common.{◌≡◌, ℕ, ◌<◌, true, false, List, Some, None, length, refl, sym, ◌∙◌, ap, arith}
-use Rattle.std.specs.Prelude.{bytes_eq, unwrap_or}
-use Rattle.std.specs.List.{list_any, position_or_len}
+use Rattle.cweb_store.proofs.Common.{◌≡◌, ℕ, ◌<◌, true, false, List, Some, None, length, refl, sym, ◌∙◌, ap, arith, bytes_eq, unwrap_or, list_any, position_or_len, keys_of, lookup, insert_entry, is_at, length-map, NameId, Name, texts, Entry, order, AreKnown}
 use Rattle.std.specs.List.Sorted.{IsStrictlySortedBy}
-use Rattle.std.specs.Map.{keys_of, lookup}
-use Rattle.std.specs.BTreeMap.{insert_entry, is_at}
-use Rattle.std.proofs.lemmas.List.{length-map}
-use Rattle.cweb_store.specs.declared.names.NameId.{NameId}
-use Rattle.cweb_store.specs.Names.{Name, texts}
-use Rattle.cweb_store.specs.Found.{Entry, order, AreKnown}
 use Rattle.cweb_store.proofs.NameLemmas.{number-some, number-none}
 use Rattle.cweb_store.proofs.BoundLemmas.{position-below}
 use Rattle.cweb_store.proofs.NeighbourLemmas.{insert-same}

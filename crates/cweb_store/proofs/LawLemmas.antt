@@ -1,19 +1,5 @@
 -- The laws of names and parts.
-use Rattle.std.proofs.Common.{◌≡◌, ℕ, zero, suc, ◌+◌, Bool, true, false, cond, not, ◌||◌, List, [], ◌∷◌, ◌++◌, Some, None, Option, length, take, refl, sym, ◌∙◌, ap, arith, append_assoc, append-nil}
-use Rattle.std.specs.Prelude.{Ok, Err, bytes_eq, if◌then◌else◌, nat_eq, slice_get, option_map, option_and_then, filter, fold, filter_map}
-use Rattle.std.specs.List.{list_any, starts_with, position_or_len}
-use Rattle.std.proofs.lemmas.List.{map-append}
-use Rattle.std.proofs.lemmas.Slice.Eq.{bytes_eq-Decides}
-use Rattle.std.proofs.lemmas.List.Folds.{list_any-append}
-use Rattle.cweb_store.specs.declared.names.How.{How}
-use Rattle.cweb_store.specs.declared.names.How.TheVariants.{Full, Prefix}
-use Rattle.cweb_store.specs.declared.names.NameId.{NameId}
-use Rattle.cweb_store.specs.declared.names.NameKind.TheVariants.{NeverFull}
-use Rattle.cweb_store.specs.declared.parts.PartKind.{PartKind}
-use Rattle.cweb_store.specs.Names.{Occurrence, Name, Standing, id, texts, with_text, with_name, names_from, names, beginning_from, beginning, the_one, standing_among, standings_from, standings, stands}
-use Rattle.cweb_store.specs.Parts.{Part, all_tokens, joined}
-use Rattle.cweb_store.specs.Calls.{Call, Occurs, Opens, Pushes, Drops, Closes, Transliterates, Contents, after, empty}
-use Rattle.cweb_store.specs.Laws.{gives_beginning, AbbreviationsStay, EarlierNamesDecide, FullNamesStandForThemselves, JoiningConcatenates, OccurrencesAreThoseOfCalls, occurrence_in}
+use Rattle.cweb_store.proofs.Common.{◌≡◌, ℕ, zero, suc, ◌+◌, Bool, true, false, cond, not, ◌||◌, List, [], ◌∷◌, ◌++◌, Some, None, Option, length, take, refl, sym, ◌∙◌, ap, arith, append_assoc, append-nil, Ok, Err, bytes_eq, if◌then◌else◌, nat_eq, slice_get, option_map, option_and_then, filter, fold, filter_map, list_any, starts_with, position_or_len, map-append, bytes_eq-Decides, list_any-append, How, Full, Prefix, NameId, NeverFull, PartKind, Occurrence, Name, Standing, id, texts, with_text, with_name, names_from, names, beginning_from, beginning, the_one, standing_among, standings_from, standings, stands, Part, all_tokens, joined, Call, Occurs, Opens, Pushes, Drops, Closes, Transliterates, Contents, after, empty, gives_beginning, AbbreviationsStay, EarlierNamesDecide, FullNamesStandForThemselves, JoiningConcatenates, OccurrencesAreThoseOfCalls, occurrence_in}
 use Rattle.cweb_store.proofs.NameLemmas.{or-false}
 use Rattle.cweb_store.proofs.OccurrenceLemmas.{Grows, names_from-grows, with_text-has}
 

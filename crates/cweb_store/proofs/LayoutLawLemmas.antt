@@ -1,11 +1,5 @@
 -- Laws of the layout that is dropped, and of the tokens that stay.
-use Rattle.std.proofs.Common.{◌≡◌, ℕ, zero, suc, Bool, true, false, List, [], ◌∷◌, ◌++◌, take, drop, refl, sym, ◌∙◌, ap, append_assoc}
-use Rattle.std.specs.Prelude.{if◌then◌else◌}
-use Rattle.std.proofs.lemmas.List.{take-append-drop}
-use Rattle.cweb_store.specs.Parts.{Token}
-use Rattle.cweb_store.specs.Layout.{before_last, without_last, without_last_after, first_kept, is_layout}
-use Rattle.cweb_store.specs.declared.parts.PartKind.TheVariants.{Macro}
-use Rattle.cweb_store.specs.MoreLaws.{AllPass, IsFront, DroppingKeepsTheFront, MacrosKeepTwoTokens}
+use Rattle.cweb_store.proofs.Common.{◌≡◌, ℕ, zero, suc, Bool, true, false, List, [], ◌∷◌, ◌++◌, take, drop, refl, sym, ◌∙◌, ap, append_assoc, if◌then◌else◌, take-append-drop, Token, before_last, without_last, without_last_after, first_kept, is_layout, Macro, AllPass, IsFront, DroppingKeepsTheFront, MacrosKeepTwoTokens}
 
 before_last-front : (test : Token → Bool) (t : Token) (ts us rest : List Token)
     → ts ≡ us ++ rest → AllPass test rest → IsFront test (t ∷ ts) (before_last test t us)

@@ -1,8 +1,5 @@
 -- Lists of tokens that lose their last ones.
-use Rattle.std.proofs.Common.{◌≡◌, ℕ, zero, suc, ◌+◌, ◌≤◌, Bool, true, false, List, [], ◌∷◌, ◌++◌, Some, length, take, drop, refl, sym, ◌∙◌, ap, arith}
-use Rattle.std.specs.Prelude.{slice_get, if◌then◌else◌}
-use Rattle.cweb_store.specs.Parts.{Token}
-use Rattle.cweb_store.specs.Layout.{before_last, without_last, without_last_after, without_blank, is_blank}
+use Rattle.cweb_store.proofs.Common.{◌≡◌, ℕ, zero, suc, ◌+◌, ◌≤◌, Bool, true, false, List, [], ◌∷◌, ◌++◌, Some, length, take, drop, refl, sym, ◌∙◌, ap, arith, slice_get, if◌then◌else◌, Token, before_last, without_last, without_last_after, without_blank, is_blank}
 
 before_last-some : (test : Token → Bool) (x : Token) (xs : List Token) (t : Token)
     → before_last test x (xs ++ t ∷ []) ≡ x ∷ xs ++ t ∷ []

@@ -1,15 +1,7 @@
 -- The texts of tokens without the layout at their end.
-use Rattle.std.proofs.Common.{◌≡◌, ℕ, suc, true, false, List, [], ◌∷◌, ◌++◌, Some, take, drop, refl, sym, ◌∙◌, ap, append-nil}
-use Rattle.std.specs.Prelude.{slice_get, filter, if◌then◌else◌}
-use Rattle.std.proofs.lemmas.List.{take-append-drop}
-use Rattle.std.proofs.lemmas.List.Elements.{filter-append}
+use Rattle.cweb_store.proofs.Common.{◌≡◌, ℕ, suc, true, false, List, [], ◌∷◌, ◌++◌, Some, take, drop, refl, sym, ◌∙◌, ap, append-nil, slice_get, filter, if◌then◌else◌, take-append-drop, filter-append, Token, Trailing, before_last, without_last, without_last_after, is_blank, is_dropped, has_text}
 use Rattle.cweb_store.specs.Parts as spec
-use Rattle.cweb_store.specs.Parts.{Token}
-use Rattle.cweb_store.specs.declared.tokens.layout.Trailing.{Trailing}
 use Rattle.cweb_store.specs.declared.tokens.layout.Trailing.TheVariants as trailing
-use Rattle.cweb_store.specs.Layout.{before_last, without_last, without_last_after, is_blank}
-use Rattle.cweb_store.specs.Trailing.{is_dropped}
-use Rattle.cweb_store.specs.Texts.{has_text}
 use Rattle.cweb_store.proofs.LayoutLemmas.{take-next}
 
 -- tokens that are dropped have no text

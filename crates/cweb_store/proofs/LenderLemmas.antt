@@ -1,13 +1,5 @@
 -- What tokens lend, told from their records and the texts.
-use Rattle.std.proofs.Common.{◌≡◌, ℕ, List, [], ◌∷◌, Some, map, length, ◌∙◌, ap}
-use Rattle.std.specs.Prelude.{option_map, slice_get}
-use Rattle.std.proofs.lemmas.Option.{slice_get-map}
-use Rattle.cweb_files.specs.declared.place.Place.{Place}
-use Rattle.cweb_store.specs.declared.tokens.records.Record.{Record}
-use Rattle.cweb_store.specs.Borders.{lends}
-use Rattle.cweb_store.specs.Lenders.{AreLentBy, lends_by, lent_by}
-use Rattle.cweb_store.specs.Packed.{ArePacked, IsWithin, token_in}
-use Rattle.cweb_store.specs.Records.{packed_in}
+use Rattle.cweb_store.proofs.Common.{◌≡◌, ℕ, List, [], ◌∷◌, Some, map, length, ◌∙◌, ap, option_map, slice_get, slice_get-map, Place, Record, lends, AreLentBy, lends_by, lent_by, ArePacked, IsWithin, token_in, packed_in}
 use Rattle.cweb_store.proofs.PackedLemmas.{packed-at}
 use Rattle.cweb_store.proofs.RecordLemmas.{lends-alone, within-alone}
 

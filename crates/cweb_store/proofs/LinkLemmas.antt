@@ -1,18 +1,5 @@
 -- Who follows parts that are linked meets those that are wanted.
-use Rattle.std.proofs.Common.{◌≡◌, ℕ, zero, suc, ◌+◌, ◌-◌, ◌≤◌, Bool, true, false, cond, List, [], ◌∷◌, Option, Some, None, map, length, drop, reverse, ◌++◌, get_or, refl, sym, ◌∙◌, ap, subst, arith, length-drop, drop-cons}
-use Rattle.std.specs.Prelude.{slice_get, slice_index, slice_range, filter, if◌then◌else◌}
-use Rattle.std.proofs.lemmas.Bool.{eqb-true}
-use Rattle.std.proofs.lemmas.List.{take_all, reverse-append}
-use Rattle.cweb_store.specs.declared.parts.PartKind.{PartKind}
-use Rattle.cweb_store.specs.declared.parts.PartKind.TheVariants.{Unnamed, Named, Macro}
-use Rattle.cweb_store.specs.declared.parts.Run.{Run}
-use Rattle.cweb_store.specs.declared.parts.iter.Wanted.{Wanted}
-use Rattle.cweb_store.specs.declared.parts.iter.Wanted.TheVariants.{Program, OfName, Macros}
-use Rattle.cweb_store.specs.declared.parts.links.Heads.{Heads}
-use Rattle.cweb_store.specs.Names.{Standing, stands}
-use Rattle.cweb_store.specs.Parts.{is_some_id}
-use Rattle.cweb_store.specs.Wanted.{is_wanted}
-use Rattle.cweb_store.specs.Links.{followed, group_of, is_same, is_group, head_of, skip_of, IsPut, AreLinked}
+use Rattle.cweb_store.proofs.Common.{◌≡◌, ℕ, zero, suc, ◌+◌, ◌-◌, ◌≤◌, Bool, true, false, cond, List, [], ◌∷◌, Option, Some, None, map, length, drop, reverse, ◌++◌, get_or, refl, sym, ◌∙◌, ap, subst, arith, length-drop, drop-cons, slice_get, slice_index, slice_range, filter, if◌then◌else◌, eqb-true, take_all, reverse-append, PartKind, Unnamed, Named, Macro, Run, Wanted, Program, OfName, Macros, Heads, Standing, stands, is_some_id, is_wanted, followed, group_of, is_same, is_group, head_of, skip_of, IsPut, AreLinked}
 
 -- a part is wanted where its group is
 wanted-group : (rs : List Standing) (w : Wanted) (kind : PartKind) → is_wanted rs w kind ≡ is_group w (group_of rs kind)

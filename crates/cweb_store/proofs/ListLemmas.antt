@@ -1,7 +1,5 @@
 -- Lists, by index, and tests of their items.
-use Rattle.std.proofs.Common.{◌≡◌, ℕ, zero, suc, ◌+◌, ◌<◌, Bool, true, false, ◌||◌, ◌&&◌, List, [], ◌∷◌, ◌⊎◌, inl, inr, Some, refl, sym, ◌∙◌, ap, arith, take, drop, set}
-use Rattle.std.specs.Prelude.{slice_get}
-use Rattle.std.specs.List.{list_any}
+use Rattle.cweb_store.proofs.Common.{◌≡◌, ℕ, zero, suc, ◌+◌, ◌<◌, Bool, true, false, ◌||◌, ◌&&◌, List, [], ◌∷◌, ◌⊎◌, inl, inr, Some, refl, sym, ◌∙◌, ap, arith, take, drop, set, slice_get, list_any}
 
 pub record Both (a b : Bool) : Type 0 where
   pub left : a ≡ true

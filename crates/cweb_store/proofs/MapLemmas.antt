@@ -1,15 +1,6 @@
 -- Words in the sorted map behind a table.
-use Rattle.std.proofs.Common.{◌≡◌, ℕ, Bool, true, false, cond, ◌||◌, List, [], ◌∷◌, ◌++◌, map, Some, None, refl, sym, subst, ◌∙◌, ap}
-use Rattle.std.specs.Prelude.{slice_get, bytes_eq, Vec}
-use Rattle.std.specs.List.{list_any}
-use Rattle.std.specs.Map.{lookup}
-use Rattle.std.specs.BTreeMap.{insert_entry}
-use Rattle.std.specs.Ordering.{match_ordering, is_eq, nat_cmp}
-use Rattle.std.specs.Cmp.Lexicographic.{slice_cmp, bytes_decides}
-use Rattle.std.specs.declared.cmp.Ordering.TheVariants.{Less, Equal, Greater}
-use Rattle.std.specs.declared.alloc.Global.{Global}
-use Rattle.std.proofs.lemmas.Map.Text.{is_eq-slice_cmp}
-use Rattle.cweb_store.specs.Slots.{order, Entries, AreMapped, IsInserted, word_in}
+use Rattle.cweb_store.proofs.Common.{◌≡◌, ℕ, Bool, true, false, cond, ◌||◌, List, [], ◌∷◌, ◌++◌, map, Some, None, refl, sym, subst, ◌∙◌, ap, slice_get, bytes_eq, Vec, list_any, lookup, insert_entry, match_ordering, is_eq, nat_cmp, slice_cmp, bytes_decides, Less, Equal, Greater, Global, is_eq-slice_cmp, Entries, AreMapped, IsInserted, word_in}
+use Rattle.cweb_store.specs.Slots.{order}
 use Rattle.cweb_store.proofs.ListLemmas.{or-swap, or-assoc}
 use Rattle.cweb_store.proofs.PackedLemmas.{get-grow}
 

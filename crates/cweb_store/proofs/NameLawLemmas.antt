@@ -1,16 +1,6 @@
 -- Laws of names, abbreviations and their faults.
-use Rattle.std.proofs.Common.{◌≡◌, ℕ, zero, suc, ◌+◌, ◌<◌, true, false, cond, List, [], ◌∷◌, ◌++◌, Some, None, Option, length, take, drop, refl, sym, ◌∙◌, ap, subst, arith, ◌⊎◌, inl, inr, eq-eqb}
-use Rattle.std.specs.Prelude.{Ok, Err, bytes_eq, if◌then◌else◌, nat_eq, slice_get, option_map, option_and_then, filter, option_to_list}
-use Rattle.std.specs.List.{list_any, starts_with}
-use Rattle.std.proofs.lemmas.Bool.{eqb-true}
-use Rattle.std.proofs.lemmas.List.{take-append-drop}
-use Rattle.cweb_store.specs.declared.names.How.TheVariants.{Full, Prefix}
-use Rattle.cweb_store.specs.declared.names.NameId.{NameId}
-use Rattle.cweb_store.specs.declared.names.NameKind.TheVariants.{NeverFull}
-use Rattle.cweb_store.specs.Names.{Occurrence, Name, Standing, id, texts, with_text, with_name, names_from, names, beginning_from, beginning, the_one, standing_among, standings}
-use Rattle.cweb_store.specs.Faults.{fault, standing_fault, standing_faults_from}
-use Rattle.cweb_store.specs.Found.{Distinct}
-use Rattle.cweb_store.specs.MoreLaws.{NamesAreDistinct, AbbreviationsBeginTheirNames, OneFaultForNoName, is_at}
+use Rattle.cweb_store.proofs.Common.{◌≡◌, ℕ, zero, suc, ◌+◌, ◌<◌, true, false, cond, List, [], ◌∷◌, ◌++◌, Some, None, Option, length, take, drop, refl, sym, ◌∙◌, ap, subst, arith, ◌⊎◌, inl, inr, eq-eqb, Ok, Err, bytes_eq, if◌then◌else◌, nat_eq, slice_get, option_map, option_and_then, filter, option_to_list, list_any, starts_with, eqb-true, take-append-drop, Full, Prefix, NameId, NeverFull, Occurrence, Name, Standing, id, texts, with_text, with_name, names_from, names, beginning_from, beginning, the_one, standing_among, standings, fault, standing_fault, standing_faults_from, Distinct, NamesAreDistinct, AbbreviationsBeginTheirNames, OneFaultForNoName}
+use Rattle.cweb_store.specs.MoreLaws.{is_at}
 use Rattle.cweb_store.proofs.NameLemmas.{Distinct-push, texts-push}
 use Rattle.cweb_store.proofs.OccurrenceLemmas.{Grows, names_from-grows}
 use Rattle.cweb_store.proofs.LawLemmas.{standings-at, among-prefix, names_from-append}

@@ -1,23 +1,7 @@
 -- How names stand in lists and maps.
-use Rattle.std.proofs.Common.{◌≡◌, ℕ, zero, suc, ◌+◌, Bool, true, false, cond, not, ◌||◌, List, [], ◌∷◌, ◌++◌, Some, None, length, refl, sym, ◌∙◌, ap, subst, arith}
-use Rattle.std.specs.Prelude.{bytes_eq, slice_get, if◌then◌else◌, nat_eq}
-use Rattle.std.specs.List.{list_any, starts_with, position_or_len}
-use Rattle.std.specs.Map.{lookup}
+use Rattle.cweb_store.proofs.Common.{◌≡◌, ℕ, zero, suc, ◌+◌, Bool, true, false, cond, not, ◌||◌, List, [], ◌∷◌, ◌++◌, Some, None, length, refl, sym, ◌∙◌, ap, subst, arith, bytes_eq, slice_get, if◌then◌else◌, nat_eq, list_any, starts_with, position_or_len, lookup, match_ordering, is_eq, nat_cmp, slice_cmp, Less, Equal, Greater, is_eq-slice_cmp, bytes_eq-Decides, map-append, list_any-append, NameId, KnownName, has_text_at, names_in, Name, id, texts, beginning_from, beginning, with_text, Nothing, One, Entry, order, found_of, number_of, Distinct, AreKnown}
 use Rattle.std.specs.BTreeMap as tree
-use Rattle.std.specs.Ordering.{match_ordering, is_eq, nat_cmp}
-use Rattle.std.specs.Cmp.Lexicographic.{slice_cmp}
-use Rattle.std.specs.declared.cmp.Ordering.TheVariants.{Less, Equal, Greater}
-use Rattle.std.proofs.lemmas.Map.Text.{is_eq-slice_cmp}
-use Rattle.std.proofs.lemmas.Slice.Eq.{bytes_eq-Decides}
-use Rattle.std.proofs.lemmas.List.{map-append}
-use Rattle.std.proofs.lemmas.List.Folds.{list_any-append}
-use Rattle.cweb_store.specs.declared.names.NameId.{NameId}
-use Rattle.cweb_store.specs.declared.names.known.KnownName.{KnownName}
-use Rattle.cweb_store.specs.Known.{has_text_at, names_in}
 use Rattle.cweb_store.proofs.InsertLemmas.{grown, grown-swap, found-first, found-insert}
-use Rattle.cweb_store.specs.Names.{Name, id, texts, beginning_from, beginning, with_text}
-use Rattle.cweb_store.specs.declared.names.found.Found.TheVariants.{Nothing, One}
-use Rattle.cweb_store.specs.Found.{Entry, order, found_of, number_of, Distinct, AreKnown}
 
 pub bytes_eq-same : (a : List ℕ) → bytes_eq a a ≡ true
 bytes_eq-same a = (bytes_eq-Decides a a).1 refl

@@ -1,19 +1,6 @@
 -- A name that is a proper prefix of another is one of the next in order.
-use Rattle.std.proofs.Common.{◌≡◌, ℕ, zero, suc, Bool, true, false, cond, ◌||◌, List, [], ◌∷◌, Some, None, map, filter, refl, sym, ◌∙◌, ap}
-use Rattle.std.specs.Prelude.{nat_eq, bytes_eq, slice_get}
-use Rattle.std.specs.List.{starts_with, list_any, AllByRecursion}
+use Rattle.cweb_store.proofs.Common.{◌≡◌, ℕ, zero, suc, Bool, true, false, cond, ◌||◌, List, [], ◌∷◌, Some, None, map, filter, refl, sym, ◌∙◌, ap, nat_eq, bytes_eq, slice_get, starts_with, list_any, AllByRecursion, keys_of, lookup, insert_entry, is_at, match_ordering, is_eq, is_le, ordering_reverse, bytes_decides, nat_list_cmp_total, Less, Equal, Greater, is_eq-slice_cmp, NameId, Found, Name, texts, is_prefix_of_another, Entry, order, begins, found_of, is_several, next_begins, any_next, number_of, AreKnown}
 use Rattle.std.specs.List.Sorted.{IsStrictlySortedBy}
-use Rattle.std.specs.Map.{keys_of, lookup}
-use Rattle.std.specs.BTreeMap.{insert_entry, is_at}
-use Rattle.std.specs.Ordering.{match_ordering, is_eq, is_le, ordering_reverse}
-use Rattle.std.specs.Cmp.Lexicographic.{bytes_decides, nat_list_cmp_total}
-use Rattle.std.specs.declared.cmp.Ordering.TheVariants.{Less, Equal, Greater}
-use Rattle.std.proofs.lemmas.Map.Text.{is_eq-slice_cmp}
-use Rattle.cweb_store.specs.declared.names.NameId.{NameId}
-use Rattle.cweb_store.specs.declared.names.found.Found.{Found}
-use Rattle.cweb_store.specs.Names.{Name, texts}
-use Rattle.cweb_store.specs.Faults.{is_prefix_of_another}
-use Rattle.cweb_store.specs.Found.{Entry, order, begins, found_of, is_several, next_begins, any_next, number_of, AreKnown}
 use Rattle.cweb_store.proofs.PrefixLemmas.{none-begins, begins-le}
 use Rattle.cweb_store.proofs.NameLemmas.{bytes_eq-same, or-false, number-some, number-none}
 use Rattle.cweb_store.proofs.FaultLemmas.{any-there, several-longer, starts-same}

@@ -1,12 +1,6 @@
 -- The first number that is noted from a part's first token on.
-use Rattle.std.proofs.Common.{◌≡◌, ◌≤◌, ◌<◌, ◌+◌, ◌-◌, ℕ, zero, suc, Bool, true, false, ◌||◌, List, [], ◌∷◌, length, get_or, take, drop, drop-cons, drop_of_length-le, refl, sym, ◌∙◌, ap, subst, arith}
-use Rattle.std.specs.Prelude.{nat_lt, if◌then◌else◌}
-use Rattle.std.specs.List.{list_any, prefix_len}
-use Rattle.std.specs.List.Sorted.{IsNonDecreasing}
+use Rattle.cweb_store.proofs.Common.{◌≡◌, ◌≤◌, ◌<◌, ◌+◌, ◌-◌, ℕ, zero, suc, Bool, true, false, ◌||◌, List, [], ◌∷◌, length, get_or, take, drop, drop-cons, drop_of_length-le, refl, sym, ◌∙◌, ap, subst, arith, nat_lt, if◌then◌else◌, list_any, prefix_len, IsNonDecreasing, Token, Passes, IsNext, token_numbers}
 use Rattle.cweb_store.specs.declared.parts.Part.{Part}
-use Rattle.cweb_store.specs.Parts.{Token}
-use Rattle.cweb_store.specs.Next.{Passes, IsNext}
-use Rattle.cweb_store.specs.Noted.{token_numbers}
 use Rattle.cweb_store.proofs.NotedLemmas.{numbers-rise, numbers-cut}
 
 -- the first of some numbers, if there is one, is no lower than a bound

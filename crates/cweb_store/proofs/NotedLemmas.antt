@@ -1,10 +1,5 @@
 -- The numbers of the tokens that pass a test: of more tokens, of the first ones, and of those behind.
-use Rattle.std.proofs.Common.{◌≡◌, ◌≤◌, ◌<◌, ◌+◌, ℕ, zero, suc, Bool, true, false, cond, List, [], ◌∷◌, ◌++◌, length, take, drop, get_or, refl, sym, ◌∙◌, ap, subst, arith, ltb, lt-ltb, le-ltb, one-add, append-nil}
-use Rattle.std.specs.Prelude.{nat_lt, if◌then◌else◌}
-use Rattle.std.specs.List.{prefix_len}
-use Rattle.std.specs.List.Sorted.{IsNonDecreasing, IsPartitionPoint}
-use Rattle.cweb_store.specs.Parts.{Token}
-use Rattle.cweb_store.specs.Noted.{token_numbers}
+use Rattle.cweb_store.proofs.Common.{◌≡◌, ◌≤◌, ◌<◌, ◌+◌, ℕ, zero, suc, Bool, true, false, cond, List, [], ◌∷◌, ◌++◌, length, take, drop, get_or, refl, sym, ◌∙◌, ap, subst, arith, ltb, lt-ltb, le-ltb, one-add, append-nil, nat_lt, if◌then◌else◌, prefix_len, IsNonDecreasing, IsPartitionPoint, Token, token_numbers}
 
 -- one more token
 pub numbers-push : (test : Token → Bool) (n : ℕ) (ts : List Token) (t : Token)

@@ -1,15 +1,5 @@
 -- What the occurrences give: names, what is found of each, and what each stands for.
-use Rattle.std.proofs.Common.{◌≡◌, ℕ, ◌+◌, ◌≤◌, Bool, true, false, cond, not, ◌||◌, List, [], ◌∷◌, ◌++◌, length, refl, sym, ◌∙◌, ap, arith, length-append, append_assoc, append-nil}
-use Rattle.std.specs.Prelude.{Ok, Err, bytes_eq, if◌then◌else◌}
-use Rattle.std.specs.List.{list_any, position_or_len}
-use Rattle.std.proofs.lemmas.List.{map-append}
-use Rattle.cweb_store.specs.declared.names.How.{How}
-use Rattle.cweb_store.specs.declared.names.How.TheVariants.{Full, Prefix}
-use Rattle.cweb_store.specs.declared.names.NameId.{NameId}
-use Rattle.cweb_store.specs.declared.names.NameKind.TheVariants.{NeverFull}
-use Rattle.cweb_store.specs.Names.{Occurrence, Name, Standing, id, texts, with_text, with_name, names_from, names, beginning, the_one, standing_among}
-use Rattle.cweb_store.specs.Found.{found_of}
-use Rattle.cweb_store.specs.Known.{early, earlies_from, by_found}
+use Rattle.cweb_store.proofs.Common.{◌≡◌, ℕ, ◌+◌, ◌≤◌, Bool, true, false, cond, not, ◌||◌, List, [], ◌∷◌, ◌++◌, length, refl, sym, ◌∙◌, ap, arith, length-append, append_assoc, append-nil, Ok, Err, bytes_eq, if◌then◌else◌, list_any, position_or_len, map-append, How, Full, Prefix, NameId, NeverFull, Occurrence, Name, Standing, id, texts, with_text, with_name, names_from, names, beginning, the_one, standing_among, found_of, early, earlies_from, by_found}
 use Rattle.cweb_store.proofs.NameLemmas.{bytes_eq-same}
 
 with_text-few : (i : ℕ) (ns : List Name) (text : List ℕ) → length (with_text i ns text) ≤ length ns + 1

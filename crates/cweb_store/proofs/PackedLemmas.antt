@@ -1,14 +1,7 @@
 -- What becomes of texts and of records that name them where texts are added.
-use Rattle.std.proofs.Common.{◌≡◌, ℕ, zero, suc, ◌+◌, ◌-◌, ◌≤◌, ◌<◌, List, [], ◌∷◌, ◌++◌, Some, map, length, take, drop, refl, sym, ◌∙◌, ap, subst, arith, length-append, length-drop, slice_get}
-use Rattle.std.specs.Prelude.{slice_range, slice_index_or}
-use Rattle.std.proofs.lemmas.List.{drop-append-le, take-append-le, map-append}
-use Rattle.std.proofs.Math.Seq.{drop-append_seam, take-length, length-take-le}
+use Rattle.cweb_store.proofs.Common.{◌≡◌, ℕ, zero, suc, ◌+◌, ◌-◌, ◌≤◌, ◌<◌, List, [], ◌∷◌, ◌++◌, Some, map, length, take, drop, refl, sym, ◌∙◌, ap, subst, arith, length-append, length-drop, slice_get, slice_range, slice_index_or, drop-append-le, take-append-le, map-append, drop-append_seam, take-length, length-take-le, Packed, Number, Literal, Verbatim, Join, Defs, Head, Tail, texts_from, AreEnds, IsFromStart, begin_of, text_bytes, TextsAndWords, text_at, token_in, IsWithin, ArePacked, Packs}
 use Rattle.cweb_store.specs.Parts as spec
-use Rattle.cweb_store.specs.declared.tokens.packed.Packed.{Packed}
-use Rattle.cweb_store.specs.declared.tokens.packed.Packed.TheVariants.{Word, Number, Literal, Verbatim, Punct, Blank, Newline, Join, Defs, Name, Head, Tail, Mark}
-use Rattle.cweb_store.specs.PackedTexts.{texts_from, AreEnds, IsFromStart, begin_of, text_bytes}
-use Rattle.cweb_store.specs.Words.{TextsAndWords}
-use Rattle.cweb_store.specs.Packed.{text_at, token_in, IsWithin, ArePacked, Packs}
+use Rattle.cweb_store.specs.declared.tokens.packed.Packed.TheVariants.{Word, Punct, Blank, Newline, Name, Mark}
 
 pub ends-le : (n all : ℕ) (ends : List ℕ) → AreEnds n ends all → n ≤ all
 ends-le n all [] h = omega arith

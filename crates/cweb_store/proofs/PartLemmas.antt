@@ -1,15 +1,6 @@
 -- Parts by the numbers of their tokens.
-use Rattle.std.proofs.Common.{◌≡◌, ℕ, ◌+◌, ◌-◌, ◌≤◌, ◌<◌, ◌||◌, Bool, true, false, cond, List, [], ◌∷◌, ◌++◌, map, filter, length, take, drop, refl, sym, ◌∙◌, ap, arith, length-append}
-use Rattle.std.specs.Prelude.{slice_range, All}
-use Rattle.std.specs.List.{AllByRecursion, list_any}
-use Rattle.std.proofs.Math.Seq.{take-append_seam, drop-append_seam}
-use Rattle.std.proofs.lemmas.List.{drop-drop}
-use Rattle.std.proofs.lemmas.List.Elements.{All-from_recursion}
-use Rattle.cweb_store.specs.declared.parts.PartKind.{PartKind}
+use Rattle.cweb_store.proofs.Common.{◌≡◌, ℕ, ◌+◌, ◌-◌, ◌≤◌, ◌<◌, ◌||◌, Bool, true, false, cond, List, [], ◌∷◌, ◌++◌, map, filter, length, take, drop, refl, sym, ◌∙◌, ap, arith, length-append, slice_range, All, AllByRecursion, list_any, take-append_seam, drop-append_seam, drop-drop, All-from_recursion, PartKind, Run, Token, Part, all_tokens, joined, numbers_from, numbers_where, tokens_at, runs_from}
 use Rattle.cweb_store.specs.declared.parts.Part as declared
-use Rattle.cweb_store.specs.declared.parts.Run.{Run}
-use Rattle.cweb_store.specs.Parts.{Token, Part, all_tokens, joined, numbers_from, numbers_where, tokens_at}
-use Rattle.cweb_store.specs.Runs.{runs_from}
 
 -- the runs that a test keeps have the numbers of the parts that it keeps
 pub part-runs : (test : PartKind → Bool) (n : ℕ) (ps : List Part)

@@ -1,17 +1,6 @@
 -- Texts with a prefix stand together in a sorted list.
-use Rattle.std.proofs.Common.{◌≡◌, ℕ, ◌<◌, Bool, true, false, cond, ◌&&◌, List, [], ◌∷◌, map, filter, refl, sym, ◌∙◌, ap, subst, arith, eq-eqb}
-use Rattle.std.specs.Prelude.{nat_eq}
-use Rattle.std.specs.List.{starts_with, AllByRecursion}
+use Rattle.cweb_store.proofs.Common.{◌≡◌, ℕ, ◌<◌, Bool, true, false, cond, ◌&&◌, List, [], ◌∷◌, map, filter, refl, sym, ◌∙◌, ap, subst, arith, eq-eqb, nat_eq, starts_with, AllByRecursion, keys_of, nat_cmp, ordering_then, is_le, slice_cmp, Ordering, Less, Equal, Greater, eqb-true, nat_tests, Nothing, One, Several, Entry, order, begins, numbers, found_of}
 use Rattle.std.specs.List.Sorted.{IsStrictlySortedBy}
-use Rattle.std.specs.Map.{keys_of}
-use Rattle.std.specs.Ordering.{nat_cmp, ordering_then, is_le}
-use Rattle.std.specs.Cmp.Lexicographic.{slice_cmp}
-use Rattle.std.specs.declared.cmp.Ordering.{Ordering}
-use Rattle.std.specs.declared.cmp.Ordering.TheVariants.{Less, Equal, Greater}
-use Rattle.std.proofs.lemmas.Bool.{eqb-true}
-use Rattle.std.proofs.lemmas.Bool.Decides.{nat_tests}
-use Rattle.cweb_store.specs.declared.names.found.Found.TheVariants.{Nothing, One, Several}
-use Rattle.cweb_store.specs.Found.{Entry, order, begins, numbers, found_of}
 
 nat_less : (x y : ℕ) → nat_cmp x y ≡ Less → x < y
 nat_less x y h = grind (arith, nat_tests)

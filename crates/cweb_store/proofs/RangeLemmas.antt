@@ -1,9 +1,5 @@
 -- Ranges of lists.
-use Rattle.std.proofs.Common.{◌≡◌, ℕ, zero, suc, ◌+◌, ◌-◌, ◌≤◌, ◌<◌, List, [], ◌∷◌, ◌++◌, Some, take, drop, refl, sym, ◌∙◌, ap, arith, add-one, length}
-use Rattle.std.specs.Prelude.{slice_get, slice_range, slice_index_or}
-use Rattle.cweb_store.specs.declared.parts.Run.{Run}
-use Rattle.cweb_store.specs.Parts.{Token}
-use Rattle.cweb_store.specs.Runs.{Follow}
+use Rattle.cweb_store.proofs.Common.{◌≡◌, ℕ, zero, suc, ◌+◌, ◌-◌, ◌≤◌, ◌<◌, List, [], ◌∷◌, ◌++◌, Some, take, drop, refl, sym, ◌∙◌, ap, arith, add-one, length, slice_get, slice_range, slice_index_or, Run, Token, Follow}
 use Rattle.cweb_store.proofs.RunLemmas.{Follow-le}
 
 take-none : {X : Type 0} (k : ℕ) → take {A = X} k [] ≡ []

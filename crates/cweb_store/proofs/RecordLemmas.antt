@@ -1,17 +1,9 @@
 -- Records whose places are numbered in order.
-use Rattle.std.proofs.Common.{◌≡◌, ℕ, zero, suc, ◌+◌, ◌-◌, ◌≤◌, ◌<◌, true, false, cond, List, [], ◌∷◌, ◌++◌, Some, map, length, take, drop, refl, sym, subst, ◌∙◌, ap, arith, length-drop}
-use Rattle.std.specs.Prelude.{slice_get}
-use Rattle.std.proofs.lemmas.List.{map-append, take_all}
-use Rattle.std.proofs.Math.Seq.{take-append_seam}
-use Rattle.cweb_files.specs.declared.place.Place.{Place}
-use Rattle.cweb_store.specs.declared.tokens.packed.Packed.{Packed}
+use Rattle.cweb_store.proofs.Common.{◌≡◌, ℕ, zero, suc, ◌+◌, ◌-◌, ◌≤◌, ◌<◌, true, false, cond, List, [], ◌∷◌, ◌++◌, Some, map, length, take, drop, refl, sym, subst, ◌∙◌, ap, arith, length-drop, slice_get, map-append, take_all, take-append_seam, Place, Packed, Record, lends, token_in, packed_in, has_place, place_at, IsAt, places_of, AreNumbered, IsRecord, is_mark, is_mark_token}
 use Rattle.cweb_store.specs.declared.tokens.packed.Packed.TheVariants as packed
-use Rattle.cweb_store.specs.declared.tokens.records.Record.{Record}
 use Rattle.cweb_store.specs.declared.tokens.records.Record.TheVariants as record_of
-use Rattle.cweb_store.specs.Borders.{lends}
-use Rattle.cweb_store.specs.Packed.{token_in}
 use Rattle.cweb_store.specs.Packed as kept
-use Rattle.cweb_store.specs.Records.{packed_in, has_place, place_at, IsAt, IsWithin, places_of, AreNumbered, IsRecord, is_mark, is_mark_token}
+use Rattle.cweb_store.specs.Records.{IsWithin}
 
 -- a token that is a Mark has a record that is one
 pub mark-same : (texts : List (List ℕ)) (p : Packed) → is_mark p ≡ is_mark_token (token_in texts p)

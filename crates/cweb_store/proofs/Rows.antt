@@ -1,22 +1,6 @@
 -- The definitions, computed on small lists of calls.
-use Rattle.std.proofs.Common.{◌≡◌, ℕ, List, [], ◌∷◌, ◌++◌, Some, None, map, refl, true, false}
-use Rattle.std.specs.Prelude.{codes, Ok, Err}
-use Rattle.cweb_store.specs.declared.names.How.{How}
-use Rattle.cweb_store.specs.declared.names.How.TheVariants.{Full, Prefix}
-use Rattle.cweb_store.specs.declared.names.NameFault.{NameFault}
-use Rattle.cweb_store.specs.declared.names.NameKind.TheVariants.{Ambiguous, NeverFull, PrefixOfAnother, NotPresent}
-use Rattle.cweb_store.specs.declared.names.NameRef.{NameRef}
-use Rattle.cweb_store.specs.declared.parts.PartKind.{PartKind}
-use Rattle.cweb_store.specs.declared.parts.PartKind.TheVariants.{Unnamed, Named, Macro}
-use Rattle.cweb_store.specs.Names.{Occurrence, id, names, texts, standings, files}
-use Rattle.cweb_store.specs.Parts.{Token, Word, Number, Punct, Name, Mark, Blank, Newline, Join, Defs, joined, is_of, is_unnamed, is_macro, numbers_where, has_defs_code, is_defs}
-use Rattle.cweb_store.specs.Replacements.{replacement, replacement_of}
-use Rattle.cweb_store.specs.Faults.{fault, faults}
-use Rattle.cweb_store.specs.MoreLaws.{left_of_macro}
-use Rattle.cweb_store.specs.Next.{is_name}
-use Rattle.cweb_store.specs.Noted.{token_numbers}
-use Rattle.cweb_store.specs.Texts.{bytes_given, bytes_kept}
-use Rattle.cweb_store.specs.Calls.{Call, Occurs, Opens, Pushes, Drops, Closes, Transliterates, Stored, contents, finished, occurrence_of}
+use Rattle.cweb_store.proofs.Common.{◌≡◌, ℕ, List, [], ◌∷◌, ◌++◌, Some, None, map, refl, true, false, codes, Ok, Err, How, Full, Prefix, NameFault, Ambiguous, NeverFull, PrefixOfAnother, NotPresent, NameRef, PartKind, Unnamed, Named, Macro, Occurrence, id, names, texts, standings, files, Token, Word, Punct, Mark, Blank, Newline, joined, is_of, is_unnamed, is_macro, numbers_where, has_defs_code, is_defs, replacement, replacement_of, fault, faults, left_of_macro, is_name, token_numbers, bytes_given, bytes_kept, Call, Occurs, Opens, Pushes, Drops, Closes, Transliterates, Stored, contents, finished, occurrence_of}
+use Rattle.cweb_store.specs.Parts.{Number, Name, Join, Defs}
 
 abbrev stored : List Call → Stored
 stored calls = finished (contents calls)

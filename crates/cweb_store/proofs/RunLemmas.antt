@@ -1,17 +1,5 @@
 -- What becomes of parts that are runs of a list of tokens.
-use Rattle.std.proofs.Common.{◌≡◌, ℕ, ◌+◌, ◌-◌, ◌≤◌, ◌<◌, List, [], ◌∷◌, ◌++◌, Some, None, Option, map, length, take, drop, refl, sym, ◌∙◌, ap, subst, arith, append_assoc, append-nil, length-append, length-drop, inl, inr}
-use Rattle.std.specs.Prelude.{slice_range, option_map, IsSome}
-use Rattle.std.proofs.Math.Seq.{drop-length, length-take-le}
-use Rattle.std.proofs.lemmas.List.{drop-drop, take-append-drop, drop-append-le, take-append-le, drop-take, take-take, take_all, map-append}
-use Rattle.std.proofs.lemmas.Bool.{cases_lt}
-use Rattle.std.proofs.lemmas.Grind.{flat_map-append}
-use Rattle.cweb_store.specs.declared.parts.PartKind.{PartKind}
-use Rattle.cweb_store.specs.declared.parts.Run.{Run}
-use Rattle.cweb_store.specs.declared.parts.Open.{Open}
-use Rattle.cweb_store.specs.Parts.{Token, Part, all_tokens}
-use Rattle.cweb_store.specs.Growing.{PartsSoFar, all_parts, pushed}
-use Rattle.cweb_store.specs.Calls.{too_many}
-use Rattle.cweb_store.specs.Runs.{runs_from, IsWhole, last_run, closed_in, open_in, parts_in, Follow, AreRuns}
+use Rattle.cweb_store.proofs.Common.{◌≡◌, ℕ, ◌+◌, ◌-◌, ◌≤◌, ◌<◌, List, [], ◌∷◌, ◌++◌, Some, None, Option, map, length, take, drop, refl, sym, ◌∙◌, ap, subst, arith, append_assoc, append-nil, length-append, length-drop, inl, inr, slice_range, option_map, IsSome, drop-length, length-take-le, drop-drop, take-append-drop, drop-append-le, take-append-le, drop-take, take-take, take_all, map-append, cases_lt, flat_map-append, PartKind, Run, Open, Token, Part, all_tokens, PartsSoFar, all_parts, pushed, too_many, runs_from, IsWhole, last_run, closed_in, open_in, parts_in, Follow, AreRuns}
 
 -- a range that ends within the first n tokens is a range of these
 slice_range-take : (ts : List Token) (n i j : ℕ) → j ≤ n → slice_range (take n ts) i j ≡ slice_range ts i j

@@ -1,9 +1,5 @@
 -- Texts that are one byte, which are found by it.
-use Rattle.std.proofs.Common.{◌≡◌, ℕ, ◌+◌, ◌≤◌, ◌<◌, true, ◌||◌, List, [], ◌∷◌, Some, inl, inr, set, refl, sym, subst, ◌∙◌, ap, arith}
-use Rattle.std.specs.Prelude.{Result, Ok, Err, IfOk, OnErr, length, slice_get, slice_index_or, bytes_eq}
-use Rattle.std.specs.Cmp.Lexicographic.{bytes_decides}
-use Rattle.cweb_store.specs.Signs.{IsSign, AreSigns}
-use Rattle.cweb_store.specs.Words.{TextsAndWords, Keeps, KeepsWord, has}
+use Rattle.cweb_store.proofs.Common.{◌≡◌, ℕ, ◌+◌, ◌≤◌, ◌<◌, true, ◌||◌, List, [], ◌∷◌, Some, inl, inr, set, refl, sym, subst, ◌∙◌, ap, arith, Result, Ok, Err, IfOk, OnErr, length, slice_get, slice_index_or, bytes_eq, bytes_decides, IsSign, AreSigns, TextsAndWords, Keeps, KeepsWord, has}
 use Rattle.cweb_store.proofs.ListLemmas.{get-set, or-swap}
 use Rattle.cweb_store.proofs.PackedLemmas.{get-grow}
 use Rattle.cweb_store.proofs.WordLemmas.{with-word-any}

@@ -1,16 +1,7 @@
 -- Words in the slots of a table.
-use Rattle.std.proofs.Common.{◌≡◌, ℕ, zero, suc, ◌+◌, ◌-◌, ◌<◌, Bool, true, false, cond, ◌||◌, ◌&&◌, List, [], ◌∷◌, ◌++◌, inl, inr, map, length, drop, set, replicate, Some, refl, sym, subst, ◌∙◌, ap, arith}
-use Rattle.std.specs.Prelude.{slice_get, bytes_eq, nat_eq}
-use Rattle.std.specs.List.{list_any}
-use Rattle.std.proofs.lemmas.List.{length-set}
-use Rattle.std.proofs.lemmas.List.Folds.{list_any-append}
-use Rattle.std.specs.Cmp.Lexicographic.{bytes_decides}
-use Rattle.std.proofs.lemmas.Bool.{eqb-true}
-use Rattle.cweb_store.specs.declared.tokens.words.key.Key.{Key}
-use Rattle.cweb_store.specs.declared.tokens.words.slot.Slot.{Slot}
+use Rattle.cweb_store.proofs.Common.{◌≡◌, ℕ, zero, suc, ◌+◌, ◌-◌, ◌<◌, Bool, true, false, cond, ◌||◌, ◌&&◌, List, [], ◌∷◌, ◌++◌, inl, inr, map, length, drop, set, replicate, Some, refl, sym, subst, ◌∙◌, ap, arith, slice_get, bytes_eq, nat_eq, list_any, length-set, list_any-append, bytes_decides, eqb-true, Key, Slot, Entries, Holds, AllHold, AreSlots, IsFound, IsPlaced, free_slot, is_alike, slot_text, slot_is, slot_words, stands_in, window_of, word_in, has, texts_and_words}
 use Rattle.cweb_store.specs.Keys.{key_of, home_of}
-use Rattle.cweb_store.specs.Slots.{Entries, Holds, AllHold, AreSlots, IsFound, IsPlaced, free_slot, is_used, is_alike, slot_text, slot_is, slot_words, stands_in, window_of, word_in}
-use Rattle.cweb_store.specs.Words.{has, texts_and_words}
+use Rattle.cweb_store.specs.Slots.{is_used}
 use Rattle.cweb_store.proofs.ListLemmas.{and-both, get-drop, get-take, take-get, any-at, any-some, any-set, get-set}
 use Rattle.cweb_store.proofs.PackedLemmas.{get-grow, get-text}
 

@@ -1,9 +1,5 @@
 -- What becomes of words where they are spread over other slots.
-use Rattle.std.proofs.Common.{◌≡◌, ℕ, Bool, true, false, ◌||◌, List, map, refl, ◌∙◌, ap}
-use Rattle.std.specs.Prelude.{bytes_eq}
-use Rattle.std.specs.List.{list_any}
-use Rattle.cweb_store.specs.declared.tokens.words.slot.Slot.{Slot}
-use Rattle.cweb_store.specs.Slots.{Entries, IsInserted, IsPlaced, slot_is, stands_in, word_in}
+use Rattle.cweb_store.proofs.Common.{◌≡◌, ℕ, Bool, true, false, ◌||◌, List, map, refl, ◌∙◌, ap, bytes_eq, list_any, Slot, Entries, IsInserted, IsPlaced, slot_is, stands_in, word_in}
 use Rattle.cweb_store.proofs.ListLemmas.{or-assoc, or-last}
 use Rattle.cweb_store.proofs.SlotLemmas.{put-any}
 use Rattle.cweb_store.proofs.MapLemmas.{insert-any}

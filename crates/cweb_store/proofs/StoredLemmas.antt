@@ -1,25 +1,5 @@
 -- What a store stands for, by what it keeps: tokens, occurrences and names.
-use Rattle.std.proofs.Common.{◌≡◌, ℕ, zero, suc, ◌+◌, ◌≤◌, ◌<◌, Bool, true, false, List, [], ◌∷◌, ◌++◌, Option, Some, map, length, drop, refl, sym, ◌∙◌, ap, subst, arith, length-append, append_assoc, append-nil, get_or}
-use Rattle.std.specs.Prelude.{slice_get, option_map, bytes_eq, if◌then◌else◌}
-use Rattle.std.specs.List.{list_any}
-use Rattle.std.proofs.lemmas.List.{length-map}
-use Rattle.std.proofs.Math.Seq.{drop-append_seam}
-use Rattle.cweb_store.specs.declared.names.How.TheVariants.{Full, Prefix}
-use Rattle.cweb_store.specs.declared.names.NameId.{NameId}
-use Rattle.cweb_store.specs.declared.names.NameFault.{NameFault}
-use Rattle.cweb_store.specs.declared.names.table.GivenAs.{GivenAs}
-use Rattle.cweb_store.specs.declared.parts.Run.{Run}
-use Rattle.cweb_store.specs.declared.parts.links.Links.{Links}
-use Rattle.cweb_store.specs.Names.{Occurrence, Name, Standing, texts, with_text, with_name, names_from, names}
-use Rattle.cweb_store.specs.Parts.{Token}
-use Rattle.cweb_store.specs.Replacements.{Replacement}
-use Rattle.cweb_store.specs.Runs.{IsWhole, closed_in}
-use Rattle.cweb_store.specs.Calls.{stored, too_many}
-use Rattle.cweb_store.specs.Answers.{AreAnswers}
-use Rattle.cweb_store.specs.Links.{AreLinked}
-use Rattle.cweb_store.specs.Texts.{occurrence_text, replacement_text}
-use Rattle.cweb_store.specs.ClosedTokens.{TokensAndTexts, tokens_alone, with_texts}
-use Rattle.cweb_store.specs.Stored.{given_as, occurrences_at, replacements_at, stored_in, AreLast, AreStored}
+use Rattle.cweb_store.proofs.Common.{◌≡◌, ℕ, zero, suc, ◌+◌, ◌≤◌, ◌<◌, Bool, true, false, List, [], ◌∷◌, ◌++◌, Option, Some, map, length, drop, refl, sym, ◌∙◌, ap, subst, arith, length-append, append_assoc, append-nil, get_or, slice_get, option_map, bytes_eq, if◌then◌else◌, list_any, length-map, drop-append_seam, Full, Prefix, NameId, NameFault, GivenAs, Run, Links, Occurrence, Name, Standing, texts, with_text, with_name, names_from, names, Token, Replacement, IsWhole, closed_in, stored, too_many, AreAnswers, AreLinked, occurrence_text, replacement_text, TokensAndTexts, tokens_alone, with_texts, given_as, occurrences_at, replacements_at, stored_in, AreLast, AreStored}
 
 with_texts-is : (ts : List (List ℕ)) (c : TokensAndTexts)
     → with_texts ts c ≡ record { tokens = c.tokens; others = c.others ++ ts }

@@ -1,16 +1,5 @@
 -- The texts of a store: what bytes are replaced by, and how many bytes all texts have.
-use Rattle.std.proofs.Common.{◌≡◌, ℕ, zero, suc, ◌+◌, ◌≤◌, ◌<◌, Bool, true, false, List, [], ◌∷◌, ◌++◌, Option, Some, None, map, length, take, drop, refl, sym, ◌∙◌, ap, subst, arith, flat_map}
-use Rattle.std.specs.Prelude.{slice_get, option_map, option_and_then, nat_eq, if◌then◌else◌}
-use Rattle.cweb_store.specs.declared.names.table.GivenAs.{GivenAs}
-use Rattle.cweb_store.specs.declared.parts.Run.{Run}
-use Rattle.cweb_store.specs.Names.{Name}
-use Rattle.cweb_store.specs.Parts.{Token, all_tokens}
-use Rattle.cweb_store.specs.Replacements.{replaced_by, replacement}
-use Rattle.cweb_store.specs.Runs.{IsWhole, closed_in}
-use Rattle.cweb_store.specs.Calls.{Stored}
-use Rattle.cweb_store.specs.Texts.{token_texts, token_bytes_kept, occurrence_text, replacement_text, texts_of, bytes_given, bytes_kept, total, AllStandIn, AreInOneList}
-use Rattle.cweb_store.specs.ClosedTokens.{TokensAndTexts}
-use Rattle.cweb_store.specs.Stored.{occurrences_at, replacements_at, last_from, stored_in}
+use Rattle.cweb_store.proofs.Common.{◌≡◌, ℕ, zero, suc, ◌+◌, ◌≤◌, ◌<◌, Bool, true, false, List, [], ◌∷◌, ◌++◌, Option, Some, None, map, length, take, drop, refl, sym, ◌∙◌, ap, subst, arith, flat_map, slice_get, option_map, option_and_then, nat_eq, if◌then◌else◌, GivenAs, Run, Name, Token, all_tokens, replaced_by, replacement, IsWhole, closed_in, Stored, token_texts, token_bytes_kept, occurrence_text, replacement_text, texts_of, bytes_given, bytes_kept, total, AllStandIn, AreInOneList, TokensAndTexts, occurrences_at, replacements_at, last_from, stored_in}
 use Rattle.cweb_store.proofs.WordLemmas.{kept-few}
 use Rattle.cweb_store.proofs.TextLemmas.{all-drop, all-both}
 use Rattle.cweb_store.proofs.RunLemmas.{whole-tokens}

@@ -1,17 +1,7 @@
 -- Texts in one list of bytes, and how many bytes tokens and texts have.
-use Rattle.std.proofs.Common.{◌≡◌, ℕ, zero, suc, ◌+◌, ◌<◌, ◌≤◌, Bool, true, false, List, [], ◌∷◌, ◌++◌, map, length, take, drop, refl, sym, ◌∙◌, ap, arith, length-append, append_assoc, flat_map}
-use Rattle.std.specs.Prelude.{filter, bytes_eq, if◌then◌else◌}
-use Rattle.std.specs.List.{list_any}
-use Rattle.std.proofs.lemmas.List.{take-append-drop, drop-append-le, take-append-le, take-map}
-use Rattle.std.proofs.lemmas.List.Elements.{filter-append}
-use Rattle.cweb_store.specs.Parts.{Token}
-use Rattle.cweb_store.specs.declared.tokens.packed.Packed.{Packed}
-use Rattle.cweb_store.specs.declared.tokens.packed.Packed.TheVariants.{Word, Number, Literal, Verbatim, Punct, Blank, Newline, Join, Defs, Name, Head, Tail, Mark}
-use Rattle.cweb_store.specs.PackedTexts.{text_bytes}
-use Rattle.cweb_store.specs.Words.{TextsAndWords, has}
-use Rattle.cweb_store.specs.Packed.{text_at, token_in, IsWithin, ArePacked, Packs}
-use Rattle.cweb_store.specs.Texts.{token_texts, has_text, total, words_of, other_bytes, token_bytes_kept, StandsIn, AllStandIn, AreInOneList}
-use Rattle.cweb_store.specs.ClosedTokens.{with_text, tokens_and_texts, AreTokens, AreClosed}
+use Rattle.cweb_store.proofs.Common.{◌≡◌, ℕ, zero, suc, ◌+◌, ◌<◌, ◌≤◌, Bool, true, false, List, [], ◌∷◌, ◌++◌, map, length, take, drop, refl, sym, ◌∙◌, ap, arith, length-append, append_assoc, flat_map, filter, bytes_eq, if◌then◌else◌, list_any, take-append-drop, drop-append-le, take-append-le, take-map, filter-append, Token, Packed, Number, Literal, Verbatim, Join, Defs, Head, Tail, text_bytes, TextsAndWords, has, text_at, token_in, IsWithin, ArePacked, Packs, token_texts, has_text, total, words_of, other_bytes, token_bytes_kept, StandsIn, AllStandIn, AreInOneList, tokens_and_texts, AreTokens, AreClosed}
+use Rattle.cweb_store.specs.declared.tokens.packed.Packed.TheVariants.{Word, Punct, Blank, Newline, Name, Mark}
+use Rattle.cweb_store.specs.ClosedTokens.{with_text}
 use Rattle.cweb_store.proofs.PackedLemmas.{packs-tokens, packs-all, packed-take, packed-grow, tokens-grow}
 use Rattle.cweb_store.proofs.WordLemmas.{total-append, words-push, same-words, same-bytes, same-more, same-more-bytes}
 

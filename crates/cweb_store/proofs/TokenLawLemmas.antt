@@ -1,14 +1,6 @@
 -- The tokens of a builder's parts are those that were pushed, but for layout that was dropped.
-use Rattle.std.proofs.Common.{◌≡◌, inl, inr, Bool, true, false, List, [], ◌∷◌, ◌++◌, Some, None, refl, sym, ◌∙◌, ap, subst, append_assoc, append-nil}
-use Rattle.std.specs.Prelude.{IsSome, IsNone, if◌then◌else◌, fold, filter_map, option_map, option_to_list}
-use Rattle.std.proofs.lemmas.Grind.{flat_map-append}
-use Rattle.cweb_store.specs.declared.parts.PartKind.{PartKind}
-use Rattle.cweb_store.specs.Parts.{Token, Blank, Newline, Mark, Part, all_tokens, is_macro}
-use Rattle.cweb_store.specs.Layout.{without_last, without_blank, without_layout, at_close, is_layout, is_newline, is_blank}
-use Rattle.cweb_store.specs.Growing.{PartsSoFar, all_parts, opened, pushed, dropped, all_closed, longer}
-use Rattle.cweb_store.specs.Calls.{Call, Occurs, Opens, Pushes, Drops, Closes, Transliterates, Contents, after, empty}
-use Rattle.cweb_store.specs.MoreLaws.{AllPass, IsFront}
-use Rattle.cweb_store.specs.TokenLaws.{token_in, AreInPlace, IsLeft, TokensAreThosePushed}
+use Rattle.cweb_store.proofs.Common.{◌≡◌, inl, inr, Bool, true, false, List, [], ◌∷◌, ◌++◌, Some, None, refl, sym, ◌∙◌, ap, subst, append_assoc, append-nil, IsSome, IsNone, if◌then◌else◌, fold, filter_map, option_map, option_to_list, flat_map-append, PartKind, Token, Blank, Newline, Mark, Part, all_tokens, is_macro, without_last, without_blank, without_layout, at_close, is_layout, is_newline, is_blank, PartsSoFar, all_parts, opened, pushed, dropped, all_closed, longer, Call, Occurs, Opens, Pushes, Drops, Closes, Transliterates, Contents, after, empty, AllPass, IsFront, AreInPlace, IsLeft, TokensAreThosePushed}
+use Rattle.cweb_store.specs.TokenLaws.{token_in}
 use Rattle.cweb_store.proofs.LayoutLawLemmas.{without_last-front, dropping_keeps_the_front}
 
 left-same : (us : List Token) → IsLeft us us

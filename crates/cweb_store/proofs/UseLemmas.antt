@@ -1,15 +1,7 @@
 -- What tokens use, and whether one passes a test, by where the next one that does stands.
-use Rattle.std.proofs.Common.{◌≡◌, ◌<◌, ◌+◌, ℕ, Bool, true, false, ◌||◌, List, [], ◌∷◌, ◌++◌, Some, refl, sym, ◌∙◌, ap, ltb-true, ltb-false}
-use Rattle.std.specs.Prelude.{nat_lt, slice_get, slice_range}
-use Rattle.std.specs.List.{list_any}
-use Rattle.std.proofs.lemmas.List.Folds.{list_any-append}
-use Rattle.cweb_store.specs.declared.names.NameId.{NameId}
+use Rattle.cweb_store.proofs.Common.{◌≡◌, ◌<◌, ◌+◌, ℕ, Bool, true, false, ◌||◌, List, [], ◌∷◌, ◌++◌, Some, refl, sym, ◌∙◌, ap, ltb-true, ltb-false, nat_lt, slice_get, slice_range, list_any, list_any-append, NameId, Standing, Token, with_use, used_from, is_name, IsNext}
 use Rattle.cweb_store.specs.declared.parts.Part.{Part}
-use Rattle.cweb_store.specs.Names.{Standing}
 use Rattle.cweb_store.specs.Parts as spec
-use Rattle.cweb_store.specs.Parts.{Token}
-use Rattle.cweb_store.specs.Gathered.{with_use, used_from}
-use Rattle.cweb_store.specs.Next.{is_name, IsNext}
 use Rattle.cweb_store.proofs.RangeLemmas.{range-split, range-head, range-none}
 
 -- a token of a part passes where the next one that does is in the part

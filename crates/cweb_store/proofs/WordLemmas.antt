@@ -1,12 +1,6 @@
 -- Words and punctuators that are kept once, and how many bytes of tokens are kept.
-use Rattle.std.proofs.Common.{◌≡◌, ℕ, ◌+◌, ◌≤◌, true, false, cond, ◌||◌, List, [], ◌∷◌, ◌++◌, length, refl, sym, ◌∙◌, ap, arith}
-use Rattle.std.specs.Prelude.{bytes_eq, filter, fold, if◌then◌else◌}
-use Rattle.std.specs.List.{list_any}
-use Rattle.std.specs.Cmp.Lexicographic.{bytes_decides}
-use Rattle.std.proofs.lemmas.List.Sums.{fold-append}
-use Rattle.std.proofs.lemmas.List.Folds.{list_any-append}
-use Rattle.cweb_store.specs.Parts.{Token, Word, Number, Literal, Verbatim, Punct, Blank, Newline, Join, Defs, Name, Head, Tail, Mark}
-use Rattle.cweb_store.specs.Texts.{has_text, token_bytes, total, with_word, with_word_of, words_of, other_bytes, token_bytes_kept}
+use Rattle.cweb_store.proofs.Common.{◌≡◌, ℕ, ◌+◌, ◌≤◌, true, false, cond, ◌||◌, List, [], ◌∷◌, ◌++◌, length, refl, sym, ◌∙◌, ap, arith, bytes_eq, filter, fold, if◌then◌else◌, list_any, bytes_decides, fold-append, list_any-append, Token, Word, Punct, Blank, Newline, Mark, has_text, token_bytes, total, with_word, with_word_of, words_of, other_bytes, token_bytes_kept}
+use Rattle.cweb_store.specs.Parts.{Number, Literal, Verbatim, Join, Defs, Name, Head, Tail}
 use Rattle.cweb_store.proofs.ListLemmas.{or-swap}
 
 pub total-append : {A : Type 0} (f : A → ℕ) (xs ys : List A) → total f (xs ++ ys) ≡ total f xs + total f ys

@@ -1,11 +1,5 @@
 -- What acts leave that were all done.
-use Rattle.std.proofs.Common.{◌≡◌, inl, inr, List, [], ◌∷◌, ◌++◌, sym, ◌∙◌, ap, append-nil, append_assoc}
-use Rattle.std.specs.Prelude.{None}
-use Rattle.std.specs.List.{flat_map}
-use Rattle.cweb_log.specs.Items.{line}
-use Rattle.cweb_tools.specs.Acts.{Held, Act, judges, says, opens, reads, plans, reserves, writes, after_act, Runs}
-use Rattle.cweb_tools.specs.Leaves.{put_files}
-use Rattle.cweb_tools.specs.Script.{files_in, items_in}
+use Rattle.cweb_tools.proofs.Common.{◌≡◌, inl, inr, List, [], ◌∷◌, ◌++◌, sym, ◌∙◌, ap, append-nil, append_assoc, None, flat_map, line, Held, Act, judges, says, opens, reads, plans, reserves, writes, after_act, Runs, put_files, files_in, items_in}
 
 -- the files after acts that were all done
 pub files_all : (acts : List Act) (old new : Held) → Runs acts None old new

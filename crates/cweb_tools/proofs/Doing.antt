@@ -1,12 +1,5 @@
 -- Calls one after another, and what they leave in the devices.
-use Rattle.std.proofs.Common.{◌≡◌, inl, inr, ◌+◌, ℕ, List, [], ◌∷◌, ◌++◌, refl, sym, ◌∙◌, ap, add-zero}
-use Rattle.std.specs.Prelude.{false, Option, Some, None, IsErr, IsTrue, Result, Ok, Err}
-use Rattle.cweb_files.specs.Files.{Beside, always_open}
-use Rattle.cweb_lines.specs.Texts.{read_blame}
-use Rattle.cweb_lines.specs.declared.stop.Stop.TheVariants.{LogFault}
-use Rattle.cweb_log.specs.Seen.{SeenBins, SeenRun, SeenShelf, SeenStream}
-use Rattle.cweb_tools.specs.Acts.{Act, Breaks, Ending, ending, Held, Runs, after_act, says}
-use Rattle.cweb_tools.specs.Does.{AsTold, Closes, ClosesLog, Does, DoesInBins, DoesInBoth, DoesInLog, bins_blame, done, halted, log_blame, rise, told}
+use Rattle.cweb_tools.proofs.Common.{◌≡◌, inl, inr, ◌+◌, ℕ, List, [], ◌∷◌, ◌++◌, refl, sym, ◌∙◌, ap, add-zero, false, Option, Some, None, IsErr, IsTrue, Result, Ok, Err, Beside, always_open, read_blame, LogFault, SeenBins, SeenRun, SeenShelf, SeenStream, Act, Breaks, Ending, ending, Held, Runs, after_act, says, AsTold, Closes, ClosesLog, Does, DoesInBins, DoesInBoth, DoesInLog, bins_blame, done, halted, log_blame, rise, told}
 use Rattle.cweb_tools.proofs.Running.{runs_on, stops_in}
 
 -- nothing was done

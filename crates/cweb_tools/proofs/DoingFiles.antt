@@ -1,17 +1,5 @@
 -- A file that was begun, printed and committed, and how a run ends behind calls.
-use Rattle.std.proofs.Common.{◌≡◌, inl, inr, ◌+◌, ℕ, Bool, List, [], ◌∷◌, ◌++◌, refl, sym, ◌∙◌, ap, subst, add-zero}
-use Rattle.std.specs.Prelude.{Option, Some, None, IsTrue, Result, Ok, Err}
-use Rattle.cweb_files.specs.Files.{Beside, committed, with_draft}
-use Rattle.cweb_lines.specs.Texts.{read_blame}
-use Rattle.cweb_lines.specs.declared.stop.Stop.{Stop}
-use Rattle.cweb_lines.specs.declared.stop.Stop.TheVariants.{LogFault, Memory}
-use Rattle.cweb_log.specs.Log.{stop_line}
-use Rattle.cweb_log.specs.Gathering.{Logs}
-use Rattle.cweb_log.specs.Seen.{SeenBins, SeenStream}
-use Rattle.cweb_log.specs.declared.shown.Shown.{Shown}
-use Rattle.cweb_tools.specs.Acts.{Act, Breaks, Ending, ending, Held, after_act, plans, reserves, writes}
-use Rattle.cweb_tools.specs.Does.{ClosesInBoth, ClosesInLog, DoesInBins, DoesInBoth, DoesInLog, LogsEnding, bins_blame, done, halted, log_blame, told}
-use Rattle.cweb_tools.specs.Script.{Numbers, closing_acts}
+use Rattle.cweb_tools.proofs.Common.{◌≡◌, inl, inr, ◌+◌, ℕ, Bool, List, [], ◌∷◌, ◌++◌, refl, sym, ◌∙◌, ap, subst, add-zero, Option, Some, None, IsTrue, Result, Ok, Err, Beside, committed, with_draft, read_blame, Stop, LogFault, Memory, stop_line, Logs, SeenBins, SeenStream, Shown, Act, Breaks, Ending, ending, Held, after_act, plans, reserves, writes, ClosesInBoth, ClosesInLog, DoesInBins, DoesInBoth, DoesInLog, LogsEnding, bins_blame, done, halted, log_blame, told, Numbers, closing_acts}
 use Rattle.cweb_tools.proofs.Doing.{closes_on, closes_in, beside_of, bins_told}
 
 -- a file was begun, printed and committed

@@ -1,10 +1,5 @@
 -- What the promises of a run say of its endings.
-use Rattle.std.proofs.Common.{◌≡◌, inl, inr, ℕ, List, [], ◌∷◌, refl, ap, arith}
-use Rattle.std.specs.Prelude.{Some, None}
-use Rattle.cweb_lines.specs.declared.stop.Stop.{Stop}
-use Rattle.cweb_lines.specs.declared.stop.Stop.TheVariants.{Usage, WebNotOpened, ChangeNotOpened, ReadFault, LineTooLong, TooMuchText, Memory, OutNotOpened, WriteFault, LogFault}
-use Rattle.cweb_tools.specs.Acts.{Held, Act, judges, says, opens, reads, plans, reserves, writes, after_act, ending, Breaks, Runs, TangleEnds, completes, stops}
-use Rattle.cweb_tools.specs.TangleRun.{RunsFreely, DoesAll, IsStopped, IsEnded, KeepLimits}
+use Rattle.cweb_tools.proofs.Common.{◌≡◌, inl, inr, ℕ, List, [], ◌∷◌, refl, ap, arith, Some, None, Stop, Usage, WebNotOpened, ChangeNotOpened, ReadFault, LineTooLong, TooMuchText, Memory, OutNotOpened, WriteFault, LogFault, Held, Act, judges, says, opens, reads, plans, reserves, writes, after_act, ending, Breaks, Runs, TangleEnds, completes, stops, RunsFreely, DoesAll, IsStopped, IsEnded, KeepLimits}
 use Rattle.cweb_tools.proofs.AllDone.{files_all, log_all}
 use Rattle.cweb_tools.proofs.Limits.{long_beyond, much_beyond}
 use Rattle.cweb_tools.proofs.Stopping.{is_stopped}

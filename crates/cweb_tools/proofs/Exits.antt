@@ -1,26 +1,8 @@
 -- How the exits of a run that come before it writes are its ends.
-use Rattle.std.proofs.Common.{◌≤◌, ◌≡◌, ◌⊎◌, ◌+◌, inl, inr, ℕ, List, [], ◌∷◌, ◌++◌, refl, sym, ◌∙◌, ap, subst, append-nil, append_assoc, arith}
-use Rattle.std.specs.Prelude.{Option, Some, None, IsTrue}
-use Rattle.cweb_lines.specs.Finding.{names_found}
-use Rattle.cweb_lines.specs.Include.{World, Found}
-use Rattle.cweb_lines.specs.Lines.{Line}
-use Rattle.cweb_lines.specs.Merge.{Event}
-use Rattle.cweb_lines.specs.Merging.{SoFar, Gives, StopsBehind, TellsFront}
-use Rattle.cweb_lines.specs.Naming.{blame}
-use Rattle.cweb_lines.specs.Texts.{Count, StartStops, files_named, read_blame}
-use Rattle.cweb_lines.specs.Told.{given_lines, told_faults, openings, taken_lines, IsWithinLimits}
-use Rattle.cweb_lines.specs.Whole.{Begins, StopsAtStart}
-use Rattle.cweb_lines.specs.Writing.{StopsWriting, WritingStops, WritesFront, write_blame}
-use Rattle.cweb_lines.specs.declared.limits.TheConstants.{LINES, BYTES}
-use Rattle.cweb_lines.specs.declared.stop.Stop.{Stop}
-use Rattle.cweb_lines.specs.declared.stop.Stop.TheVariants.{Usage, WebNotOpened, ChangeNotOpened, ReadFault, LineTooLong, TooMuchText, Memory, WriteFault}
+use Rattle.cweb_tools.proofs.Common.{◌≤◌, ◌≡◌, ◌⊎◌, ◌+◌, inl, inr, ℕ, List, [], ◌∷◌, ◌++◌, refl, sym, ◌∙◌, ap, subst, append-nil, append_assoc, arith, Option, Some, None, IsTrue, names_found, World, Found, Line, Event, SoFar, Gives, StopsBehind, TellsFront, blame, Count, StartStops, files_named, read_blame, given_lines, told_faults, openings, taken_lines, IsWithinLimits, Begins, StopsAtStart, StopsWriting, WritingStops, WritesFront, write_blame, LINES, BYTES, Stop, Usage, WebNotOpened, ChangeNotOpened, ReadFault, LineTooLong, TooMuchText, Memory, WriteFault, Logs, stop_line, start_subject, subject, Seen, SeenStream, WebNames, Course, merging, asked_course, change_name, found_course, merged, usage, about, AreOpened, CanStop, Comes, Ends, Merges, PassesSums, Refuses}
 use Rattle.cweb_lines.proofs.Sums.{openings-append}
-use Rattle.cweb_log.specs.Gathering.{Logs}
-use Rattle.cweb_log.specs.Log.{stop_line, start_subject, subject}
-use Rattle.cweb_log.specs.Seen.{Seen, SeenStream}
-use Rattle.cweb_log.specs.Words.{WebNames}
-use Rattle.cweb_tools.specs.Course.{Course, unread, not_there, change_not_there, merging, asked_course, change_name, found_course, merged, usage}
-use Rattle.cweb_tools.specs.Run.{about, AreOpened, CanStop, Comes, Ends, Merges, PassesSums, Refuses, stops}
+use Rattle.cweb_tools.specs.Course.{unread, not_there, change_not_there}
+use Rattle.cweb_tools.specs.Run.{stops}
 
 none_written : (bytes text : List ℕ) → WritesFront bytes bytes text
 none_written bytes text = record { front = []; rest = text; written = sym (append-nil bytes); whole = refl }

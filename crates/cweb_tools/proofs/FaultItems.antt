@@ -1,25 +1,6 @@
 -- The faults of a web as items: how many there are, and that they are written.
-use Rattle.std.proofs.Common.{◌≡◌, ◌<◌, ◌+◌, ℕ, zero, suc, Bool, true, false, cond, List, [], ◌∷◌, ◌++◌, length, map, refl, sym, ◌∙◌, ap, subst, append_assoc, arith, length-append}
-use Rattle.std.proofs.lemmas.Grind.{flat_map-append}
-use Rattle.std.proofs.lemmas.List.{length-map}
-use Rattle.std.proofs.lemmas.List.Sums.{sum_by-append, sum_by-cons}
-use Rattle.std.specs.List.{flat_map}
-use Rattle.std.specs.Prelude.{IsTrue, IsErr, None, Result, Ok, Err, count_by, decimal, codes}
-use Rattle.cweb_lines.specs.declared.fault.SourceFault.{SourceFault}
-use Rattle.cweb_lines.specs.declared.fault.SourceKind.{SourceKind}
-use Rattle.cweb_lines.specs.declared.fault.SourceKind.TheVariants.{Unequal}
+use Rattle.cweb_tools.proofs.Common.{◌≡◌, ◌<◌, ◌+◌, ℕ, zero, suc, Bool, true, false, cond, List, [], ◌∷◌, ◌++◌, length, map, refl, sym, ◌∙◌, ap, subst, append_assoc, arith, length-append, flat_map-append, length-map, sum_by-append, sum_by-cons, flat_map, IsTrue, IsErr, None, Result, Ok, Err, count_by, decimal, codes, SourceFault, SourceKind, Unequal, Part, is_macro, numbers_from, numbers_where, PartKind, Scanned, Writes, Item, counted_text, fault_count, is_fault, line, source_item, count_end, fault_line, fault_lines, kind_text, located_line, name_at, SeenStream, name_item, name_items, scan_item, scan_items, says, DoesInLog, told, fault_items}
 use Rattle.cweb_store.specs.Faults as store
-use Rattle.cweb_store.specs.Parts.{Part, is_macro, numbers_from, numbers_where}
-use Rattle.cweb_store.specs.declared.parts.PartKind.{PartKind}
-use Rattle.cweb_scan.specs.Run.{Scanned}
-use Rattle.cweb_log.specs.Gathering.{Writes}
-use Rattle.cweb_log.specs.Items.{Item, counted_text, fault_count, is_fault, line, source_item}
-use Rattle.cweb_log.specs.Log.{count_end, fault_line, fault_lines, kind_text, located_line, name_at}
-use Rattle.cweb_log.specs.Seen.{SeenStream}
-use Rattle.cweb_log.specs.WebItems.{name_item, name_items, scan_item, scan_items}
-use Rattle.cweb_tools.specs.Acts.{says}
-use Rattle.cweb_tools.specs.Does.{DoesInLog, told}
-use Rattle.cweb_tools.specs.Tangle.{fault_items}
 use Rattle.cweb_tools.proofs.Logging.{said_all, said_none}
 
 -- items that are all faults

@@ -1,15 +1,5 @@
 -- Files and drafts behind a run, act by act.
-use Rattle.std.proofs.Common.{◌≡◌, inl, inr, ℕ, ◌+◌, Bool, true, false, List, [], ◌∷◌, ◌++◌, map, refl, sym, ◌∙◌, ap, append-nil}
-use Rattle.std.specs.Prelude.{Option, Some, None}
-use Rattle.cweb_files.specs.Files.{File}
-use Rattle.cweb_lines.specs.Merge.{Event}
-use Rattle.cweb_lines.specs.declared.stop.Stop.{Stop}
-use Rattle.cweb_lines.specs.declared.stop.Stop.TheVariants.{Usage, WebNotOpened, ChangeNotOpened, ReadFault, LineTooLong, TooMuchText, Memory, OutNotOpened, WriteFault, LogFault}
-use Rattle.cweb_log.specs.Items.{Item, fault_count}
-use Rattle.cweb_log.specs.declared.shown.Shown.{Shown}
-use Rattle.cweb_tools.specs.Acts.{Held, Act, judges, says, opens, reads, plans, reserves, writes, after_act, Ending, ending, Breaks, Runs, LogsLine, LogsStop, TangleEnds, completes, stops}
-use Rattle.cweb_tools.specs.Leaves.{LeavesFiles, put_files}
-use Rattle.cweb_tools.specs.Script.{Numbers, Planning, refused, Web, closing_acts, files_in, planned_acts, script, starred_acts, tangle_files, tangling, when}
+use Rattle.cweb_tools.proofs.Common.{◌≡◌, inl, inr, ℕ, ◌+◌, Bool, true, false, List, [], ◌∷◌, ◌++◌, map, refl, sym, ◌∙◌, ap, append-nil, Option, Some, None, File, Event, Stop, Usage, WebNotOpened, ChangeNotOpened, ReadFault, LineTooLong, TooMuchText, Memory, OutNotOpened, WriteFault, LogFault, Item, fault_count, Shown, Held, Act, judges, says, opens, reads, plans, reserves, writes, after_act, Ending, ending, Breaks, Runs, LogsLine, LogsStop, TangleEnds, completes, stops, LeavesFiles, put_files, Numbers, Planning, refused, Web, closing_acts, files_in, planned_acts, script, starred_acts, tangle_files, tangling, when}
 
 -- what stops an act changes no file
 pub break_files : (act : Act) (stop : Stop) (about : List ℕ) (old new : Held)

@@ -1,3 +1,4 @@
+pub mod Common
 pub mod AllDone
 pub mod Doing
 pub mod DoingFiles

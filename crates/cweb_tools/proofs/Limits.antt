@@ -1,12 +1,6 @@
 -- What passes the limits, and is not within them.
-use Rattle.std.proofs.Common.{◌≤◌, inl, inr, List, [], ◌∷◌, ◌++◌, subst, arith}
-use Rattle.cweb_files.specs.declared.place.FileId.{FileId}
-use Rattle.cweb_lines.specs.Lines.{SourceLine}
-use Rattle.cweb_lines.specs.Merge.{Event, took, given, fault, opening}
-use Rattle.cweb_lines.specs.Told.{AreShort, IsWithinLimits, taken_lines}
-use Rattle.cweb_lines.specs.Writing.{LongIn}
-use Rattle.cweb_lines.specs.declared.limits.TheConstants.{LINE_LENGTH}
-use Rattle.cweb_tools.specs.Run.{PassesSums}
+use Rattle.cweb_tools.proofs.Common.{◌≤◌, inl, inr, List, [], ◌∷◌, ◌++◌, subst, arith, FileId, SourceLine, Event, took, given, opening, AreShort, IsWithinLimits, taken_lines, LongIn, LINE_LENGTH, PassesSums}
+use Rattle.cweb_lines.specs.Merge.{fault}
 
 -- a line that is taken among others has no more bytes than it may
 short_at : (events : List Event) (line : SourceLine) (later : List Event)

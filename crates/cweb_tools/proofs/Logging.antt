@@ -1,15 +1,5 @@
 -- Items that are logged are acts that are done.
-use Rattle.std.proofs.Common.{◌≡◌, ◌<◌, ◌+◌, ◌⊎◌, inl, inr, ℕ, zero, suc, List, [], ◌∷◌, ◌++◌, map, refl, sym, ◌∙◌, ap, subst, append_assoc, append-nil, add-zero, length, arith}
-use Rattle.std.specs.List.{flat_map}
-use Rattle.std.specs.Prelude.{◌==◌, Bool, true, false, IsTrue, None, Some, Result, Ok, Err}
-use Rattle.cweb_lines.specs.Writing.{WritesFront}
-use Rattle.cweb_lines.specs.declared.stop.Stop.TheVariants.{LogFault}
-use Rattle.cweb_log.specs.Gathering.{Writes}
-use Rattle.cweb_log.specs.Items.{Item, line, starred}
-use Rattle.cweb_log.specs.Seen.{SeenBins, SeenRun, SeenShelf, SeenStream}
-use Rattle.cweb_tools.specs.Acts.{ending, Held, Runs, after_act, says}
-use Rattle.cweb_tools.specs.Does.{AsTold, DoesInLog, told}
-use Rattle.cweb_tools.specs.Script.{starred_acts, when}
+use Rattle.cweb_tools.proofs.Common.{◌≡◌, ◌<◌, ◌+◌, ◌⊎◌, inl, inr, ℕ, zero, suc, List, [], ◌∷◌, ◌++◌, map, refl, sym, ◌∙◌, ap, subst, append_assoc, append-nil, add-zero, length, arith, flat_map, ◌==◌, Bool, true, false, IsTrue, None, Some, Result, Ok, Err, WritesFront, LogFault, Writes, Item, line, starred, SeenBins, SeenRun, SeenShelf, SeenStream, ending, Held, Runs, after_act, says, AsTold, DoesInLog, told, starred_acts, when}
 use Rattle.cweb_tools.proofs.Doing.{does_none}
 
 -- two ways to cut a text in two: the first front ends within the second's, or the second's within it

@@ -1,19 +1,8 @@
 -- Line marks: those of an expansion are among those of the parts.
-use Rattle.std.proofs.Common.{ℕ, zero, suc, Bool, true, false, cond, not, List, [], ◌∷◌, ◌++◌, length}
-use Rattle.std.proofs.lemmas.List.Elements.{All-nil, All-cons, All-head, All-tail, All-append}
-use Rattle.std.specs.Prelude.{All, Option, None, Some, flat_map}
-use Rattle.cweb_store.specs.Calls.{Stored}
+use Rattle.cweb_tools.proofs.Common.{ℕ, zero, suc, Bool, true, false, cond, not, List, [], ◌∷◌, ◌++◌, length, All-nil, All-cons, All-head, All-tail, All-append, All, Option, None, Some, Stored, Token, Mark, Name, Defs, Part, all_tokens, is_of, is_unnamed, NameId, PartKind, IsMarkBelow, expand, name_text, put, text_for, defs_first, root_list, IsNamed, Setting, joined, names, program, stands}
+use Rattle.std.specs.Prelude.{flat_map}
 use Rattle.cweb_store.specs.Parts as parts
-use Rattle.cweb_store.specs.Parts.{Token, Mark, Name, Defs, Part, all_tokens, is_of, is_unnamed}
 use Rattle.cweb_store.specs.Names as spec
-use Rattle.cweb_store.specs.declared.names.NameId.{NameId}
-use Rattle.cweb_store.specs.declared.parts.PartKind.{PartKind}
-use Rattle.cweb_scan.specs.Scan.{IsMarkBelow}
-use Rattle.cweb_out.specs.Expansion.{expand, name_text, put, text_for}
-use Rattle.cweb_out.specs.Outputs.{defs_first, root_list}
-use Rattle.cweb_out.specs.Printers.{IsNamed}
-use Rattle.cweb_out.specs.Printing.{Setting}
-use Rattle.cweb_out.specs.Uses.{joined, names, program, stands}
 
 -- the file of a mark has a name
 pub mark_named : (s : Setting) (t : Token) → IsMarkBelow (length s.files) t → IsNamed s t

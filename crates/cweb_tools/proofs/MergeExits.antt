@@ -1,24 +1,6 @@
 -- How the exits of a run that begins a merge are its ends.
-use Rattle.std.proofs.Common.{◌≤◌, ◌≡◌, ◌≢◌, ◌+◌, ℕ, List, [], ◌∷◌, ◌++◌, length, sym, ◌∙◌, ap, subst}
-use Rattle.std.specs.Prelude.{Option, IsTrue}
-use Rattle.cweb_lines.specs.Finding.{names_found}
-use Rattle.cweb_lines.specs.Include.{World, Found}
-use Rattle.cweb_lines.specs.Merge.{Event}
-use Rattle.cweb_lines.specs.Merging.{SoFar, Gives, TellsFront}
-use Rattle.cweb_lines.specs.Naming.{blame}
-use Rattle.cweb_lines.specs.Texts.{files_named, read_blame}
-use Rattle.cweb_lines.specs.Told.{given_lines}
-use Rattle.cweb_lines.specs.Whole.{Begins}
-use Rattle.cweb_lines.specs.Writing.{text_of, StopsWriting, WritingStops, WritesFront, write_blame}
-use Rattle.cweb_lines.specs.declared.fault.SourceFault.{SourceFault}
-use Rattle.cweb_lines.specs.declared.limits.TheConstants.{LINES, BYTES}
-use Rattle.cweb_lines.specs.declared.stop.Stop.{Stop}
-use Rattle.cweb_log.specs.Gathering.{Logs}
-use Rattle.cweb_log.specs.Log.{fault_lines, stop_line, subject}
-use Rattle.cweb_log.specs.Seen.{Seen}
-use Rattle.cweb_log.specs.Words.{WebNames}
-use Rattle.cweb_tools.specs.Course.{Course, merging, found_course, fault_status, merged}
-use Rattle.cweb_tools.specs.Run.{AreOpened, CanStop, completes, HasMerged, Merges, stops}
+use Rattle.cweb_tools.proofs.Common.{◌≤◌, ◌≡◌, ◌≢◌, ◌+◌, ℕ, List, [], ◌∷◌, ◌++◌, length, sym, ◌∙◌, ap, subst, Option, IsTrue, names_found, World, Found, Event, SoFar, Gives, TellsFront, blame, files_named, read_blame, given_lines, Begins, text_of, StopsWriting, WritingStops, WritesFront, write_blame, SourceFault, LINES, BYTES, Stop, Logs, fault_lines, stop_line, subject, Seen, WebNames, Course, merging, found_course, fault_status, merged, AreOpened, CanStop, HasMerged, Merges}
+use Rattle.cweb_tools.specs.Run.{completes, stops}
 use Rattle.cweb_tools.proofs.Exits.{begins_course, opened_by, names_told, faults_told, limits_kept, writing_cause, writing_comes, writing_about}
 
 -- a run that begins a merge, of which all this comes

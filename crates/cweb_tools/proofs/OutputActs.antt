@@ -1,10 +1,5 @@
 -- The acts of outputs, one after another.
-use Rattle.std.proofs.Common.{◌≡◌, ◌<◌, ◌≤◌, ◌+◌, ℕ, suc, Bool, List, [], ◌∷◌, ◌++◌, length, map, take, drop, get_or, sym, ◌∙◌, ap, append-nil, drop-cons}
-use Rattle.std.proofs.lemmas.Grind.{flat_map-append}
-use Rattle.std.proofs.lemmas.List.{take-append-drop, take_more, take_all, map-append}
-use Rattle.cweb_files.specs.Files.{File}
-use Rattle.cweb_tools.specs.Acts.{Act}
-use Rattle.cweb_tools.specs.Script.{output_acts, outputs_acts}
+use Rattle.cweb_tools.proofs.Common.{◌≡◌, ◌<◌, ◌≤◌, ◌+◌, ℕ, suc, Bool, List, [], ◌∷◌, ◌++◌, length, map, take, drop, get_or, sym, ◌∙◌, ap, append-nil, drop-cons, flat_map-append, take-append-drop, take_more, take_all, map-append, File, Act, output_acts, outputs_acts}
 
 -- outputs with the file of each
 module _ {X : Type 0} (file : X → File) (progress : Bool) where

@@ -1,20 +1,7 @@
 -- Tokens of an expander that are printed, one after another.
-use Rattle.std.proofs.Common.{◌≡◌, ℕ, List, [], ◌∷◌, ◌++◌, length, sym, ◌∙◌, ap, subst, append_assoc, append-nil}
-use Rattle.std.proofs.lemmas.List.Elements.{All-head}
-use Rattle.std.specs.Borrow.{Bor}
-use Rattle.std.specs.Prelude.{All, IsTrue, OnOk, Result, Ok, Err}
+use Rattle.cweb_tools.proofs.Common.{◌≡◌, ℕ, List, [], ◌∷◌, ◌++◌, length, sym, ◌∙◌, ap, subst, append_assoc, append-nil, All-head, Bor, All, IsTrue, OnOk, Result, Ok, Err, Stored, Token, IsMarkBelow, left, PrintsFront, Adds, Moves, Prints, kept_of, setting_of, IsNamed, setting, Setting, file, print, Expander, Printer, PrintsSoFar, StaysReady, left_in}
 use Rattle.cweb_files.specs.declared.device.Sink.{Ghosts as Sink}
-use Rattle.cweb_store.specs.Calls.{Stored}
-use Rattle.cweb_store.specs.Parts.{Token}
-use Rattle.cweb_scan.specs.Scan.{IsMarkBelow}
-use Rattle.cweb_out.specs.Frames.{left}
-use Rattle.cweb_out.specs.Gathering.{PrintsFront}
-use Rattle.cweb_out.specs.Printed.{Adds, Ends, Moves, Prints, kept_of, setting_of}
-use Rattle.cweb_out.specs.Printers.{IsNamed, setting}
-use Rattle.cweb_out.specs.Printing.{Setting, file, print}
-use Rattle.cweb_out.specs.declared.expander.Expander.{Expander}
-use Rattle.cweb_out.specs.declared.printer.Printer.{Printer}
-use Rattle.cweb_tools.specs.Expanders.{PrintsSoFar, StaysReady, left_in}
+use Rattle.cweb_out.specs.Printed.{Ends}
 use Rattle.cweb_tools.proofs.Marks.{all_back, mark_named}
 use Rattle.cweb_tools.proofs.Readies.{stays_on}
 

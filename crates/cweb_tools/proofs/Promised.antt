@@ -1,24 +1,5 @@
 -- What a run of `ctangle` promises, by how it ends.
-use Rattle.std.proofs.Common.{◌≡◌, ◌+◌, ◌⊎◌, inl, inr, ℕ, List, ◌++◌, refl, sym, ◌∙◌, ap, subst, add-zero, arith}
-use Rattle.std.specs.List.{flat_map}
-use Rattle.std.specs.Prelude.{IsTrue, Option}
-use Rattle.cweb_files.specs.Files.{File}
-use Rattle.cweb_lines.specs.Include.{World}
-use Rattle.cweb_lines.specs.Texts.{read_blame}
-use Rattle.cweb_lines.specs.Writing.{WritesFront}
-use Rattle.cweb_lines.specs.declared.stop.Stop.{Stop}
-use Rattle.cweb_lines.specs.declared.stop.Stop.TheVariants.{Usage, WebNotOpened, ChangeNotOpened, ReadFault, LineTooLong, TooMuchText, Memory, OutNotOpened, WriteFault, LogFault}
-use Rattle.cweb_log.specs.Items.{line}
-use Rattle.cweb_log.specs.Log.{stop_line}
-use Rattle.cweb_log.specs.Options.{Asked}
-use Rattle.cweb_log.specs.Seen.{SeenBins, SeenRun, SeenShelf, SeenStream}
-use Rattle.cweb_log.specs.declared.shown.Shown.{Shown}
-use Rattle.cweb_tools.specs.Acts.{Act, ending, Held, TangleEnds}
-use Rattle.cweb_tools.specs.Does.{AsTold, Closes, ClosesLog, Follows, bins_blame, done, halted, held, log_blame}
-use Rattle.cweb_tools.specs.Leaves.{LeavesFiles}
-use Rattle.cweb_tools.specs.Script.{TangleCourse, files_in, items_in, script, tangle_status}
-use Rattle.cweb_tools.specs.Tangle.{CanCome, shown_by, tangle_course}
-use Rattle.cweb_tools.specs.TangleRun.{FailOnce, FaultsShow, IsEnded, LogEnds, RisesOnce, TanglePromises, TellingRun, Tells, cut, said}
+use Rattle.cweb_tools.proofs.Common.{◌≡◌, ◌+◌, ◌⊎◌, inl, inr, ℕ, List, ◌++◌, refl, sym, ◌∙◌, ap, subst, add-zero, arith, flat_map, IsTrue, Option, File, World, read_blame, WritesFront, Stop, Usage, WebNotOpened, ChangeNotOpened, ReadFault, LineTooLong, TooMuchText, Memory, OutNotOpened, WriteFault, LogFault, line, stop_line, Asked, SeenBins, SeenRun, SeenShelf, SeenStream, Shown, Act, ending, Held, TangleEnds, AsTold, Closes, ClosesLog, Follows, bins_blame, done, halted, held, log_blame, LeavesFiles, TangleCourse, files_in, items_in, script, tangle_status, CanCome, shown_by, tangle_course, FailOnce, FaultsShow, IsEnded, LogEnds, RisesOnce, TanglePromises, TellingRun, Tells, cut, said}
 use Rattle.cweb_tools.proofs.Endings.{ends_freely, ends_so, ends_within}
 use Rattle.cweb_tools.proofs.Leaving.{ends_draft, ends_files}
 use Rattle.cweb_tools.proofs.ReadAlls.{ends_read}

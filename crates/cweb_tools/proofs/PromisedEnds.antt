@@ -1,14 +1,5 @@
 -- What the devices hold at the end of a run of `ctangle`, as far as they tell it.
-use Rattle.std.proofs.Common.{◌≡◌, ◌+◌, inl, inr, ℕ, List, ◌++◌, refl, sym, ◌∙◌, ap, subst}
-use Rattle.std.specs.Prelude.{IsTrue, Some}
-use Rattle.cweb_lines.specs.declared.stop.Stop.{Stop}
-use Rattle.cweb_lines.specs.declared.stop.Stop.TheVariants.{Usage, WebNotOpened, ChangeNotOpened, ReadFault, LineTooLong, TooMuchText, Memory, OutNotOpened, WriteFault, LogFault}
-use Rattle.cweb_log.specs.Items.{line}
-use Rattle.cweb_log.specs.Log.{stop_line}
-use Rattle.cweb_log.specs.Gathering.{Logs}
-use Rattle.cweb_log.specs.Seen.{SeenBins, SeenRun, SeenShelf, SeenStream}
-use Rattle.cweb_tools.specs.Acts.{Act, ending, Held, LogsLine, LogsStop, Runs, TangleEnds, completes, stops}
-use Rattle.cweb_tools.specs.Does.{AsTold, Closes, ClosesLog, LogsEnding, done, halted}
+use Rattle.cweb_tools.proofs.Common.{◌≡◌, ◌+◌, inl, inr, ℕ, List, ◌++◌, refl, sym, ◌∙◌, ap, subst, IsTrue, Some, Stop, Usage, WebNotOpened, ChangeNotOpened, ReadFault, LineTooLong, TooMuchText, Memory, OutNotOpened, WriteFault, LogFault, line, stop_line, Logs, SeenBins, SeenRun, SeenShelf, SeenStream, Act, ending, Held, LogsLine, LogsStop, Runs, TangleEnds, completes, stops, AsTold, Closes, ClosesLog, LogsEnding, done, halted}
 use Rattle.cweb_tools.proofs.Logging.{at, front_told, log_told}
 
 -- what the devices hold behind a line of the log, as far as they tell it

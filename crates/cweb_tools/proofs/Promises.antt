@@ -1,19 +1,6 @@
 -- What the ends of a run come to, in the words of its promises.
-use Rattle.std.proofs.Common.{◌≤◌, ◌≡◌, inl, inr, ℕ, ◌+◌, List, [], ◌∷◌, ◌++◌, refl, sym, ◌∙◌, ap, subst, append-nil, arith}
-use Rattle.std.specs.Prelude.{Option, Some, None, IsTrue}
-use Rattle.cweb_files.specs.declared.place.FileId.{FileId}
-use Rattle.cweb_lines.specs.Include.{World, Found, web_at, change_at}
-use Rattle.cweb_lines.specs.Texts.{read_blame}
-use Rattle.cweb_lines.specs.Writing.{WritesFront, write_blame}
-use Rattle.cweb_lines.specs.declared.fault.SourceFault.{SourceFault}
-use Rattle.cweb_lines.specs.declared.stop.Stop.{Stop}
-use Rattle.cweb_lines.specs.declared.stop.Stop.TheVariants.{Usage, WebNotOpened, ChangeNotOpened, ReadFault, LineTooLong, TooMuchText, Memory, OutNotOpened, WriteFault, LogFault}
-use Rattle.cweb_log.specs.Gathering.{Logs}
-use Rattle.cweb_log.specs.Log.{fault_lines, stop_line}
-use Rattle.cweb_log.specs.Seen.{Seen, SeenStream, Tell}
-use Rattle.cweb_log.specs.Words.{WebNames}
-use Rattle.cweb_tools.specs.Course.{Course, merging, asked_course, fault_status, found_course, merged, StaysWithin}
-use Rattle.cweb_tools.specs.Run.{about, Blames, CanStop, Completes, completes, Ends, FailsOnce, HasMerged, IsMerge, Merges, Prints, Promises, RanFreely, stops, TellsFaults}
+use Rattle.cweb_tools.proofs.Common.{◌≤◌, ◌≡◌, inl, inr, ℕ, ◌+◌, List, [], ◌∷◌, ◌++◌, refl, sym, ◌∙◌, ap, subst, append-nil, arith, Option, Some, None, IsTrue, FileId, World, Found, web_at, change_at, read_blame, WritesFront, write_blame, SourceFault, Stop, Usage, WebNotOpened, ChangeNotOpened, ReadFault, LineTooLong, TooMuchText, Memory, OutNotOpened, WriteFault, LogFault, Logs, fault_lines, stop_line, Seen, SeenStream, Tell, WebNames, Course, merging, asked_course, fault_status, found_course, merged, StaysWithin, about, Blames, CanStop, Completes, Ends, FailsOnce, HasMerged, IsMerge, Merges, Promises, RanFreely, TellsFaults}
+use Rattle.cweb_tools.specs.Run.{completes, Prints, stops}
 use Rattle.cweb_tools.proofs.Limits.{long_beyond, much_beyond}
 
 -- a course that a limit stops does not stay within them

@@ -1,14 +1,5 @@
 -- Where a run changed the files, all was read.
-use Rattle.std.proofs.Common.{◌≡◌, ◌≢◌, inl, inr, ℕ, ◌+◌, Bool, true, false, List, [], ◌∷◌, ◌++◌, map, ◌∙◌, ap}
-use Rattle.std.specs.Prelude.{Some}
-use Rattle.cweb_files.specs.Files.{File}
-use Rattle.cweb_lines.specs.declared.stop.Stop.{Stop}
-use Rattle.cweb_lines.specs.declared.stop.Stop.TheVariants.{Usage, WebNotOpened, ChangeNotOpened, ReadFault, LineTooLong, TooMuchText, Memory, OutNotOpened, WriteFault, LogFault}
-use Rattle.cweb_log.specs.Items.{Item, fault_count}
-use Rattle.cweb_log.specs.declared.shown.Shown.{Shown}
-use Rattle.cweb_tools.specs.Acts.{Held, Act, judges, says, opens, reads, plans, reserves, writes, after_act, ending, Breaks, Runs, LogsLine, LogsStop, TangleEnds, completes, stops}
-use Rattle.cweb_tools.specs.Script.{Numbers, outputs_acts, when, TangleCourse, unread, not_there, change_not_there, tangling, script, web_acts, planned_acts, starred_acts, closing_acts, Planning, refused, planned, Web}
-use Rattle.cweb_tools.specs.TangleRun.{KeepLimits, ReadsNone, ReadsFirst, ReadAll}
+use Rattle.cweb_tools.proofs.Common.{◌≡◌, ◌≢◌, inl, inr, ℕ, ◌+◌, Bool, true, false, List, [], ◌∷◌, ◌++◌, map, ◌∙◌, ap, Some, File, Stop, Usage, WebNotOpened, ChangeNotOpened, ReadFault, LineTooLong, TooMuchText, Memory, OutNotOpened, WriteFault, LogFault, Item, fault_count, Shown, Held, Act, judges, says, opens, reads, plans, reserves, writes, after_act, ending, Breaks, Runs, LogsLine, LogsStop, TangleEnds, completes, stops, Numbers, outputs_acts, when, TangleCourse, unread, not_there, change_not_there, tangling, script, web_acts, planned_acts, starred_acts, closing_acts, Planning, refused, planned, Web, KeepLimits, ReadsNone, ReadsFirst, ReadAll}
 use Rattle.cweb_tools.proofs.Leaving.{break_files, stop_files}
 use Rattle.cweb_tools.proofs.Endings.{counts_all, limits_all}
 

@@ -1,28 +1,5 @@
 -- An expander that goes on with its store and its plan.
-use Rattle.std.proofs.Common.{◌≡◌, ◌<◌, ℕ, Bool, List, length, map, refl, sym, ◌∙◌, ap, subst}
-use Rattle.std.specs.Borrow.{Bor}
-use Rattle.std.specs.Prelude.{All, Result}
-use Rattle.cweb_files.specs.Files.{File}
-use Rattle.cweb_lines.specs.Names.{names_of}
-use Rattle.cweb_lines.specs.declared.files.FileNames.{FileNames}
-use Rattle.cweb_lines.specs.declared.stop.Stop.{Stop}
-use Rattle.cweb_store.specs.Calls.{Stored}
-use Rattle.cweb_store.specs.Parts.{Token, all_tokens}
-use Rattle.cweb_scan.specs.Scan.{IsMarkBelow}
-use Rattle.cweb_out.specs.Expansion.{expand}
-use Rattle.cweb_out.specs.Frames.{left}
-use Rattle.cweb_out.specs.Outputs.{IsPlanOf, Planned, name_of, output_at, root_at, root_list}
-use Rattle.cweb_out.specs.Printers.{setting}
-use Rattle.cweb_out.specs.Printing.{file}
-use Rattle.cweb_out.specs.Uses.{names}
-use Rattle.cweb_out.specs.declared.expander.Expander.{Expander}
-use Rattle.cweb_log.specs.Seen.{SeenBins, SeenStream}
-use Rattle.cweb_tools.specs.Acts.{ended}
-use Rattle.cweb_tools.specs.Does.{DoesInBoth}
-use Rattle.cweb_tools.specs.Expanders.{AreMarksBelow, IsReady, StaysReady, ended_at, file_at, files_due, left_in}
-use Rattle.cweb_tools.specs.Script.{output_acts, outputs_acts}
-use Rattle.cweb_tools.specs.Tangle.{output_file}
-use Rattle.cweb_tools.specs.declared.outputs.Failed.{Failed}
+use Rattle.cweb_tools.proofs.Common.{◌≡◌, ◌<◌, ℕ, Bool, List, length, map, refl, sym, ◌∙◌, ap, subst, Bor, All, Result, File, names_of, FileNames, Stop, Stored, Token, all_tokens, IsMarkBelow, expand, left, IsPlanOf, Planned, name_of, output_at, root_at, root_list, setting, file, names, Expander, SeenBins, SeenStream, ended, DoesInBoth, AreMarksBelow, IsReady, StaysReady, ended_at, file_at, files_due, left_in, output_acts, outputs_acts, output_file, Failed}
 use Rattle.cweb_tools.proofs.Marks.{expansion_all}
 
 pub stays : (e : Expander) → IsReady e → StaysReady e e

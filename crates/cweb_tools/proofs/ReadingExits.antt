@@ -1,29 +1,5 @@
 -- How the exits of a run of `ctangle` that has begun its merge are its ends.
-use Rattle.std.proofs.Common.{◌≤◌, ◌≡◌, ◌+◌, inl, inr, ℕ, List, [], ◌∷◌, ◌++◌, length, refl, sym, ◌∙◌, ap, subst, add-zero}
-use Rattle.std.specs.Prelude.{IsTrue, Option, Some, None}
-use Rattle.cweb_lines.specs.Finding.{names_found}
-use Rattle.cweb_lines.specs.Include.{World, Found}
-use Rattle.cweb_lines.specs.Merge.{Event}
-use Rattle.cweb_lines.specs.Merging.{SoFar}
-use Rattle.cweb_lines.specs.Naming.{blame}
-use Rattle.cweb_lines.specs.Texts.{StopsReading, files_named, read_blame}
-use Rattle.cweb_lines.specs.Told.{given_lines, told_faults, openings, taken_lines, IsWithinLimits}
-use Rattle.cweb_lines.specs.Total.{merge}
-use Rattle.cweb_lines.specs.Whole.{Begins}
-use Rattle.cweb_lines.specs.declared.fault.SourceFault.{SourceFault}
-use Rattle.cweb_lines.specs.declared.limits.TheConstants.{LINES, BYTES}
-use Rattle.cweb_lines.specs.declared.stop.Stop.{Stop}
-use Rattle.cweb_scan.specs.Run.{Scanned, scanned}
-use Rattle.cweb_scan.specs.Scan.{EndsEarly, Scans}
-use Rattle.cweb_log.specs.Log.{stop_line, subject}
-use Rattle.cweb_log.specs.Options.{Asked}
-use Rattle.cweb_log.specs.Gathering.{Logs}
-use Rattle.cweb_log.specs.Seen.{SeenBins, SeenRun, SeenShelf, SeenStream}
-use Rattle.cweb_tools.specs.Acts.{Act, Breaks, ending, Held, opens, reads}
-use Rattle.cweb_tools.specs.Course.{Course, found_course, merging}
-use Rattle.cweb_tools.specs.Does.{Closes, Does, halted}
-use Rattle.cweb_tools.specs.Script.{TangleCourse, tangling, web_acts}
-use Rattle.cweb_tools.specs.Tangle.{course_acts, course_status, tangled, web_of, web_status}
+use Rattle.cweb_tools.proofs.Common.{◌≤◌, ◌≡◌, ◌+◌, inl, inr, ℕ, List, [], ◌∷◌, ◌++◌, length, refl, sym, ◌∙◌, ap, subst, add-zero, IsTrue, Option, Some, None, names_found, World, Found, Event, SoFar, blame, StopsReading, files_named, read_blame, given_lines, told_faults, openings, taken_lines, IsWithinLimits, merge, Begins, SourceFault, LINES, BYTES, Stop, Scanned, scanned, EndsEarly, Scans, stop_line, subject, Asked, Logs, SeenBins, SeenRun, SeenShelf, SeenStream, Act, Breaks, ending, Held, opens, reads, Course, found_course, merging, Closes, Does, halted, TangleCourse, tangling, web_acts, course_acts, course_status, tangled, web_of, web_status}
 use Rattle.cweb_tools.proofs.Doing.{closes_on}
 use Rattle.cweb_tools.proofs.Exits.{begins_course, faults_told, limits_kept, names_told, opened_by}
 use Rattle.cweb_tools.proofs.Logging.{at}

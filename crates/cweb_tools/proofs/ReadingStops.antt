@@ -1,24 +1,5 @@
 -- What a stop of reading leaves, and why reading ended before its end.
-use Rattle.std.proofs.Common.{◌≤◌, ◌<◌, ◌≡◌, ◌+◌, inr, ℕ, List, [], ◌∷◌, ◌++◌, length, length-append, refl, sym, ◌∙◌, ap, subst, add-zero, append-nil, arith}
-use Rattle.std.proofs.Math.ListN.{get_or-append}
-use Rattle.std.specs.Prelude.{IsTrue}
-use Rattle.cweb_files.specs.declared.place.FileId.{FileId}
-use Rattle.cweb_lines.specs.Lines.{SourceLine}
-use Rattle.cweb_lines.specs.Merge.{Event, took}
-use Rattle.cweb_lines.specs.Merging.{SoFar}
-use Rattle.cweb_lines.specs.Naming.{blame}
-use Rattle.cweb_lines.specs.Texts.{Count, StopsFor, StopsReading, files_named, read_blame}
-use Rattle.cweb_lines.specs.Told.{openings, IsWithinLimits}
-use Rattle.cweb_lines.specs.declared.limits.TheConstants.{LINE_LENGTH, BYTES}
-use Rattle.cweb_lines.specs.declared.stop.Stop.{Stop}
-use Rattle.cweb_lines.specs.declared.stop.Stop.TheVariants.{ReadFault, LineTooLong, TooMuchText, Memory}
-use Rattle.cweb_scan.specs.Scan.{StopsAfter}
-use Rattle.cweb_log.specs.Items.{line}
-use Rattle.cweb_log.specs.Log.{name_at, stop_line, subject}
-use Rattle.cweb_log.specs.Gathering.{Logs}
-use Rattle.cweb_log.specs.Seen.{SeenBins, SeenShelf, SeenStream}
-use Rattle.cweb_tools.specs.Acts.{Breaks, ending, Held, IsOfFile, reads, read_fails}
-use Rattle.cweb_tools.specs.Does.{AsTold, LogsEnding, bins_blame, log_blame}
+use Rattle.cweb_tools.proofs.Common.{◌≤◌, ◌<◌, ◌≡◌, ◌+◌, inr, ℕ, List, [], ◌∷◌, ◌++◌, length, length-append, refl, sym, ◌∙◌, ap, subst, add-zero, append-nil, arith, get_or-append, IsTrue, FileId, SourceLine, Event, took, SoFar, blame, Count, StopsFor, StopsReading, files_named, read_blame, openings, IsWithinLimits, LINE_LENGTH, BYTES, Stop, ReadFault, LineTooLong, TooMuchText, Memory, StopsAfter, line, name_at, stop_line, subject, Logs, SeenBins, SeenShelf, SeenStream, Breaks, ending, Held, IsOfFile, reads, read_fails, AsTold, LogsEnding, bins_blame, log_blame}
 use Rattle.cweb_tools.proofs.Exits.{begun_with, passes_sums}
 use Rattle.cweb_tools.proofs.Logging.{at}
 use Rattle.cweb_tools.proofs.TangleExits.{shelf_told, opened}

@@ -1,17 +1,7 @@
 -- Plans that are refused, and those that are made.
-use Rattle.std.proofs.Common.{◌≡◌, ℕ, List, refl, ap, subst}
-use Rattle.std.specs.Prelude.{IfSome, Option, None, Some, Ok, Err}
-use Rattle.cweb_store.specs.Calls.{Stored}
+use Rattle.cweb_tools.proofs.Common.{◌≡◌, ℕ, List, refl, ap, subst, IfSome, Option, None, Some, Ok, Err, Stored, Planned, Refusal, bad_name, same_name, cycle, IsDue, PlanFault, Cycle, SameName, BadName, fault, line, plan_item, refusal_text, refused, plan_made, planning, planning_by, refusal_in}
 use Rattle.cweb_out.specs.Outputs as out
-use Rattle.cweb_out.specs.Outputs.{Planned, Refusal, bad_name, same_name, cycle}
-use Rattle.cweb_out.specs.Planning.{IsDue}
-use Rattle.cweb_out.specs.declared.planning.fault.PlanFault.{PlanFault}
-use Rattle.cweb_out.specs.declared.planning.fault.PlanFault.TheVariants.{Cycle, SameName, BadName, Memory}
-use Rattle.cweb_log.specs.Items.{fault, line}
-use Rattle.cweb_log.specs.WebItems.{plan_item, refusal_text}
-use Rattle.cweb_tools.specs.Script.{refused}
-use Rattle.cweb_tools.specs.Tangle.{plan_made, planning, planning_by}
-use Rattle.cweb_tools.specs.Web.{refusal_in}
+use Rattle.cweb_out.specs.declared.planning.fault.PlanFault.TheVariants.{Memory}
 
 pub each_some : {A : Type 0} (o : Option A) (P : A → Type 0) → ((x : A) → o ≡ Some x → P x) → IfSome o P
 each_some None P each = tt

@@ -1,17 +1,7 @@
 -- Worked examples, computed from the definitions.
-use Rattle.std.proofs.Common.{◌≡◌, ℕ, List, [], ◌∷◌, Option, Some, None, refl, ap, cond}
-use Rattle.std.specs.Prelude.{codes}
+use Rattle.cweb_tools.proofs.Common.{◌≡◌, ℕ, List, [], ◌∷◌, Option, Some, None, refl, ap, cond, codes, bytes_eq, Place, NotThere, Unequal, Usage, WebNotOpened, ChangeNotOpened, LineTooLong, WriteFault, Memory, World, Event, State, run, started, merge-run, fault_line, fault_lines, stop_line, subject, asked_by, Course, merging, course_of, merged, merge_log, merge_status, usage}
 use Rattle.std.specs.Fmt.{digits}
-use Rattle.std.specs.Str.{bytes_eq}
-use Rattle.cweb_files.specs.declared.place.Place.{Place}
-use Rattle.cweb_lines.specs.declared.fault.SourceKind.TheVariants.{NotThere, Unequal}
-use Rattle.cweb_lines.specs.declared.stop.Stop.TheVariants.{Usage, WebNotOpened, ChangeNotOpened, LineTooLong, WriteFault, Memory}
-use Rattle.cweb_lines.specs.Include.{World}
-use Rattle.cweb_lines.specs.Merge.{Event, State, run, started}
-use Rattle.cweb_lines.specs.Total.{merge-run}
-use Rattle.cweb_log.specs.Log.{fault_line, fault_lines, stop_line, subject}
-use Rattle.cweb_log.specs.Words.{asked_by}
-use Rattle.cweb_tools.specs.Course.{Course, unread, change_not_there, merging, course_of, merged, merge_log, merge_status, usage}
+use Rattle.cweb_tools.specs.Course.{unread, change_not_there}
 
 -- a word without a dot in its last path part is given `.w`, and `.web` as a second try
 web_without_extension : asked_by (codes "lib.d/hello" ∷ [])

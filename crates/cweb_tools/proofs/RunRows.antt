@@ -1,17 +1,9 @@
 -- Whole runs of `ctangle`, computed: from texts and words to log, files and status.
-use Rattle.std.proofs.Common.{◌≡◌, ℕ, List, [], ◌∷◌, ◌++◌, Option, Some, None, refl, ap, ◌∙◌, cond}
-use Rattle.std.specs.Prelude.{codes}
+use Rattle.cweb_tools.proofs.Common.{◌≡◌, ℕ, List, [], ◌∷◌, ◌++◌, Option, Some, None, refl, ap, ◌∙◌, cond, codes, bytes_eq, File, World, Event, State, run, started, merge-run, Asked, options_by, TangleCourse, tangle_files, tangle_log, tangle_status, shown_by, tangle_course, tangled}
 use Rattle.std.specs.Fmt.{digits}
-use Rattle.std.specs.Str.{bytes_eq, is_utf8, chars}
+use Rattle.std.specs.Str.{is_utf8, chars}
 use lib.Utf8.{encode}
-use Rattle.cweb_files.specs.Files.{File}
-use Rattle.cweb_lines.specs.Include.{World}
-use Rattle.cweb_lines.specs.Merge.{Event, State, run, started}
-use Rattle.cweb_lines.specs.Total.{merge-run}
-use Rattle.cweb_log.specs.Options.{Asked, options_by}
 use Rattle.cweb_tools.specs.Course as course
-use Rattle.cweb_tools.specs.Script.{TangleCourse, tangle_files, tangle_log, tangle_status}
-use Rattle.cweb_tools.specs.Tangle.{shown_by, tangle_course, tangled}
 
 -- what a run leaves
 record Left : Type 0 where

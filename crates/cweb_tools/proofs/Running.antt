@@ -1,7 +1,5 @@
 -- Runs one after another.
-use Rattle.std.proofs.Common.{inl, inr, List, [], ◌∷◌, ◌++◌, subst}
-use Rattle.std.specs.Prelude.{Option, Some, None}
-use Rattle.cweb_tools.specs.Acts.{Held, Act, after_act, Ending, Runs}
+use Rattle.cweb_tools.proofs.Common.{inl, inr, List, [], ◌∷◌, ◌++◌, subst, Option, Some, None, Held, Act, after_act, Ending, Runs}
 
 -- the first acts were done, and then the others
 pub runs_on : (xs ys : List Act) (why : Option Ending) (old mid new : Held)

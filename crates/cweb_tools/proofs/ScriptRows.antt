@@ -1,12 +1,6 @@
 -- The scripts of some runs of `ctangle`: what they log, which files they write, and how they end.
-use Rattle.std.proofs.Common.{◌≡◌, true, false, List, ℕ, [], ◌∷◌, ◌++◌, refl}
-use Rattle.std.specs.Prelude.{codes}
+use Rattle.cweb_tools.proofs.Common.{◌≡◌, true, false, List, ℕ, [], ◌∷◌, ◌++◌, refl, codes, File, Item, fault, located, shown_by_default, Shown, Planning, TangleCourse, change_not_there, not_there, planned, refused, tangling, tangle_files, tangle_log, tangle_status, unread}
 use Rattle.std.specs.Fmt.{digits}
-use Rattle.cweb_files.specs.Files.{File}
-use Rattle.cweb_log.specs.Items.{Item, fault, located}
-use Rattle.cweb_log.specs.Options.{shown_by_default}
-use Rattle.cweb_log.specs.declared.shown.Shown.{Shown}
-use Rattle.cweb_tools.specs.Script.{Planning, TangleCourse, change_not_there, not_there, planned, refused, tangling, tangle_files, tangle_log, tangle_status, unread}
 
 -- no options, and -bph
 abbrev quiet : Shown

@@ -1,23 +1,10 @@
 -- The spacing law, by induction on the list.
-use Rattle.std.proofs.Common.{◌≡◌, ℕ, Bool, true, false, cond, ◌==◌, not, List, [], ◌∷◌, ◌++◌, Option, Some, None, All, refl, ap, sym, ◌∙◌, subst, append_assoc}
-use Rattle.std.specs.Prelude.{codes, if◌then◌else◌, nat_le, decimal}
-use Rattle.std.specs.List.{list_all}
-use Rattle.std.proofs.lemmas.Grind.{flat_map-append}
-use Rattle.std.proofs.lemmas.List.Elements.{All-head, All-tail}
-use Rattle.std.proofs.lemmas.List.Folds.{list_all-append}
-use Rattle.cweb_store.specs.Parts.{Token, Word, Number, Literal, Verbatim, Punct, Blank, Newline, Join, Defs, Name, Head, Tail, Mark}
-use Rattle.cweb_rules.specs.Bytes.{first_is}
-use Rattle.cweb_rules.specs.Follows.{is_quiet}
+use Rattle.cweb_tools.proofs.Common.{◌≡◌, ℕ, Bool, true, false, cond, ◌==◌, not, List, [], ◌∷◌, ◌++◌, Option, Some, None, All, refl, ap, sym, ◌∙◌, subst, append_assoc, codes, if◌then◌else◌, nat_le, decimal, list_all, flat_map-append, All-head, All-tail, list_all-append, Token, Word, Number, Literal, Verbatim, Punct, Blank, Newline, Join, Defs, Name, Head, Tail, Mark, first_is, is_quiet, Reading, InPlainC, HasRead, IsRead, ReadsAlone, solid, is_between, doubled, at_doubled, is_hash, bytes_of, goes_on, Setting, print_after, file_text, word_text, kept, sep, are_apart, IsPlain, Spacing, is_ascii}
 use Rattle.cweb_rules.proofs.Joins.{both, unlike}
-use Rattle.cweb_scan.specs.After.{Reading}
 use Rattle.cweb_scan.specs.Run.{run}
-use Rattle.cweb_scan.specs.Alone.{InPlainC, HasRead, IsRead, ReadsAlone, solid, is_between, doubled, at_doubled, is_hash, bytes_of, goes_on}
 use Rattle.cweb_scan.proofs.Gaps.{one_more}
 use Rattle.cweb_scan.proofs.PlainStates.{nothing, and_then, no_directive}
 use Rattle.cweb_scan.proofs.PlainTokens.{newline_read, comment_read, comment_of, token_read, quiet_decimal, all_if}
-use Rattle.cweb_out.specs.Printing.{Setting, print_after, file_text, word_text, kept}
-use Rattle.cweb_out.specs.Spacing.{sep, are_apart}
-use Rattle.cweb_tools.specs.Spacing.{IsPlain, Spacing, is_ascii}
 use Rattle.cweb_tools.proofs.SpacingStarts.{First, first_of, is_false, joins, operators_join}
 use Rattle.cweb_tools.proofs.SpacingSeam.{seam, blank_after}
 

@@ -1,19 +1,8 @@
 -- Rows of the spacing law, computed, and tokens that meet its premise.
-use Rattle.std.proofs.Common.{◌++◌, ◌≡◌, List, [], ◌∷◌, refl}
-use Rattle.std.specs.Prelude.{codes}
+use Rattle.cweb_tools.proofs.Common.{◌++◌, ◌≡◌, List, [], ◌∷◌, refl, codes, empty, with_open, Token, Word, Number, Literal, Punct, Head, Quoted, Numeral, Punctuator, Code, CText, GiveAt, Closed, Reading, ReadsAlone, InPlainC, doubled, before_text, part_tokens, Setting, print}
 use Rattle.std.specs.Fmt.{digits}
 use Rattle.cweb_store.specs.declared.parts.PartKind.TheVariants as part
-use Rattle.cweb_store.specs.Calls.{empty, with_open}
-use Rattle.cweb_store.specs.Parts.{Token, Word, Number, Literal, Punct, Head}
-use Rattle.cweb_rules.specs.Kinds.{Quoted, Numeral, Punctuator, Code}
-use Rattle.cweb_rules.specs.declared.context.Context.TheVariants.{CText}
-use Rattle.cweb_rules.specs.declared.effect.Effect.TheVariants.{GiveAt}
-use Rattle.cweb_rules.specs.declared.end.End.TheVariants.{Closed}
-use Rattle.cweb_scan.specs.After.{Reading}
-use Rattle.cweb_scan.specs.Alone.{ReadsAlone, InPlainC, doubled}
 use Rattle.cweb_scan.specs.Run.{run}
-use Rattle.cweb_scan.specs.State.{before_text, part_tokens}
-use Rattle.cweb_out.specs.Printing.{Setting, print}
 
 abbrev in_c_part : Reading
 in_c_part =

@@ -1,24 +1,11 @@
 -- The first byte of what is printed of a token.
-use Rattle.std.proofs.Common.{◌≡◌, ℕ, Bool, true, false, cond, ◌&&◌, ◌||◌, ◌==◌, not, List, [], ◌∷◌, Some, None, refl, ap, sym, ◌∙◌, subst}
-use Rattle.std.specs.Prelude.{codes}
-use Rattle.std.specs.List.{list_all}
-use Rattle.cweb_store.specs.Parts.{Token, Word, Number, Literal, Verbatim, Punct, Blank, Newline, Head, Tail}
-use Rattle.cweb_rules.specs.Bytes.{is_one_of, is_digit, is_word_byte, is_white, first_is}
-use Rattle.cweb_rules.specs.Follows.{JoinsAll, after_word, begins_as}
-use Rattle.cweb_rules.specs.Items.{text_in}
-use Rattle.cweb_rules.specs.Kinds.{Kind}
+use Rattle.cweb_tools.proofs.Common.{◌≡◌, ℕ, Bool, true, false, cond, ◌&&◌, ◌||◌, ◌==◌, not, List, [], ◌∷◌, Some, None, refl, ap, sym, ◌∙◌, subst, codes, list_all, Token, Word, Number, Literal, Verbatim, Punct, Blank, Newline, Head, Tail, is_one_of, is_digit, is_word_byte, is_white, first_is, JoinsAll, after_word, begins_as, text_in, Kind, Effect, Nothing, Define, Format, Program, Named, InsertDefs, Joins, GiveAt, Faulty, End, Closed, Cut, Nested, Open, ReadsAlone, doubled, token_of, bytes_of, literal_of, is_clean, is_operator}
 use Rattle.cweb_rules.specs.Kinds as kind
-use Rattle.cweb_rules.specs.declared.effect.Effect.{Effect}
-use Rattle.cweb_rules.specs.declared.effect.Effect.TheVariants.{Nothing, Define, Format, Program, Named, InsertDefs, Joins, GiveAt, Faulty}
 use Rattle.cweb_rules.specs.declared.effect.Effect.TheVariants as effect
-use Rattle.cweb_rules.specs.declared.end.End.{End}
-use Rattle.cweb_rules.specs.declared.end.End.TheVariants.{Closed, Cut, Nested, Open}
 use Rattle.cweb_rules.proofs.Joins.{both, neither, unlike}
 use Rattle.cweb_rules.proofs.Stays.{begins_number}
-use Rattle.cweb_scan.specs.Alone.{ReadsAlone, doubled, token_of, bytes_of, literal_of, is_clean}
 use Rattle.cweb_scan.proofs.PlainPieces.{is_that}
 use Rattle.cweb_scan.proofs.PlainTokens.{begins, text_of}
-use Rattle.cweb_out.specs.Spacing.{is_operator}
 
 -- operator bytes, but `.` only after `.`; or `.` and a digit
 abbrev pub joins : ℕ → ℕ → Bool

@@ -1,16 +1,5 @@
 -- The status of a run that nothing stops.
-use Rattle.std.proofs.Common.{◌≡◌, ◌<◌, ◌+◌, ℕ, Bool, true, false, cond, ◌||◌, List, [], ◌∷◌, ◌++◌, map, refl, sym, ◌∙◌, ap, append-nil, arith}
-use Rattle.std.proofs.lemmas.Bool.Decides.{nat_tests}
-use Rattle.std.proofs.lemmas.List.Sums.{sum_by-cons}
-use Rattle.std.specs.Prelude.{◌==◌, count_by, if◌then◌else◌}
-use Rattle.std.specs.List.{list_any}
-use Rattle.cweb_files.specs.Files.{File}
-use Rattle.cweb_lines.specs.declared.stop.Stop.TheVariants.{WebNotOpened, ChangeNotOpened}
-use Rattle.cweb_log.specs.Items.{Item, banner, closing, fault_count, faults, is_fault, no_errors, no_text, see_warning, stopped}
-use Rattle.cweb_log.specs.declared.shown.Shown.{Shown}
-use Rattle.cweb_tools.specs.Acts.{Act, opens, reads, says}
-use Rattle.cweb_tools.specs.Script.{Numbers, Planning, TangleCourse, closing_acts, items_in, outputs_acts, planned, planned_acts, refused, starred_acts, tangle_status, tangling, unread, not_there, change_not_there, web_acts, when}
-use Rattle.cweb_tools.specs.Tangle.{course_status, status_by}
+use Rattle.cweb_tools.proofs.Common.{◌≡◌, ◌<◌, ◌+◌, ℕ, Bool, true, false, cond, ◌||◌, List, [], ◌∷◌, ◌++◌, map, refl, sym, ◌∙◌, ap, append-nil, arith, nat_tests, sum_by-cons, ◌==◌, count_by, if◌then◌else◌, list_any, File, WebNotOpened, ChangeNotOpened, Item, banner, closing, fault_count, faults, is_fault, no_errors, no_text, see_warning, stopped, Shown, Act, opens, reads, says, Numbers, Planning, TangleCourse, closing_acts, items_in, outputs_acts, planned, planned_acts, refused, starred_acts, tangle_status, tangling, unread, not_there, change_not_there, web_acts, when, course_status, status_by}
 
 -- whether acts log a fault
 abbrev has_fault : List Act → Bool

@@ -1,16 +1,5 @@
 -- What is logged where something stops a run, and which counts rise.
-use Rattle.std.proofs.Common.{◌≡◌, inl, inr, ℕ, ◌+◌, List, [], ◌∷◌, ◌++◌, refl, sym, ◌∙◌, ap, append-nil, append_assoc, arith, add-zero}
-use Rattle.std.specs.Prelude.{Some}
-use Rattle.std.specs.List.{flat_map}
-use Rattle.cweb_lines.specs.declared.stop.Stop.{Stop}
-use Rattle.cweb_lines.specs.declared.stop.Stop.TheVariants.{ReadFault, LineTooLong, TooMuchText, Memory, OutNotOpened, WriteFault, LogFault}
-use Rattle.cweb_lines.specs.Texts.{read_blame}
-use Rattle.cweb_log.specs.Log.{stop_line}
-use Rattle.cweb_log.specs.Items.{Item, line}
-use Rattle.cweb_tools.specs.Acts.{Held, Act, judges, says, opens, reads, plans, reserves, writes, after_act, ending, Breaks, Runs, FailsLog, LogsLine, LogsStop}
-use Rattle.cweb_tools.specs.Script.{items_in}
-use Rattle.cweb_tools.specs.Does.{bins_blame}
-use Rattle.cweb_tools.specs.TangleRun.{LogsUpTo, IsStopped}
+use Rattle.cweb_tools.proofs.Common.{◌≡◌, inl, inr, ℕ, ◌+◌, List, [], ◌∷◌, ◌++◌, refl, sym, ◌∙◌, ap, append-nil, append_assoc, arith, add-zero, Some, flat_map, Stop, ReadFault, LineTooLong, TooMuchText, Memory, OutNotOpened, WriteFault, LogFault, read_blame, stop_line, Item, line, Held, Act, judges, says, opens, reads, plans, reserves, writes, after_act, ending, Breaks, Runs, FailsLog, LogsLine, LogsStop, items_in, bins_blame, LogsUpTo, IsStopped}
 
 -- the stop's line was logged, or the log failed at it, where nothing was logged before
 told : (items : List Item) (stop : Stop) (about : List ℕ) (old mid new : Held) → mid.log ≡ old.log

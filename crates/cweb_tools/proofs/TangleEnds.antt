@@ -1,18 +1,5 @@
 -- How a whole run of `ctangle` ends, by what became of its words.
-use Rattle.std.proofs.Common.{◌≡◌, ◌⊎◌, ◌+◌, inl, inr, ℕ, List, [], ◌∷◌, ◌++◌, refl, sym, subst, add-zero}
-use Rattle.std.specs.Prelude.{Option, Some, None}
-use Rattle.cweb_lines.specs.Include.{World}
-use Rattle.cweb_lines.specs.declared.stop.Stop.{Stop}
-use Rattle.cweb_lines.specs.declared.stop.Stop.TheVariants.{Usage, Memory, LogFault}
-use Rattle.cweb_log.specs.Items.{banner, stopped}
-use Rattle.cweb_log.specs.Log.{stop_line}
-use Rattle.cweb_log.specs.Options.{Asked}
-use Rattle.cweb_log.specs.Gathering.{Logs}
-use Rattle.cweb_log.specs.Seen.{SeenBins, SeenRun, SeenShelf, SeenStream}
-use Rattle.cweb_tools.specs.Acts.{Act, ending, judges, says}
-use Rattle.cweb_tools.specs.Does.{Closes, Does, DoesInLog, Follows, halted}
-use Rattle.cweb_tools.specs.Script.{TangleCourse, change_not_there, not_there, script, tangle_status, tangle_usage, tangling, unread, when}
-use Rattle.cweb_tools.specs.Tangle.{CanCome, course_acts, course_status, shown_by, tangle_course}
+use Rattle.cweb_tools.proofs.Common.{◌≡◌, ◌⊎◌, ◌+◌, inl, inr, ℕ, List, [], ◌∷◌, ◌++◌, refl, sym, subst, add-zero, Option, Some, None, World, Stop, Usage, Memory, LogFault, banner, stopped, stop_line, Asked, Logs, SeenBins, SeenRun, SeenShelf, SeenStream, Act, ending, judges, says, Closes, Does, DoesInLog, Follows, halted, TangleCourse, change_not_there, not_there, script, tangle_status, tangle_usage, tangling, unread, when, CanCome, course_acts, course_status, shown_by, tangle_course}
 use Rattle.cweb_tools.proofs.Doing.{closes_on, does_in, does_on}
 use Rattle.cweb_tools.proofs.Logging.{at}
 use Rattle.cweb_tools.proofs.Statuses.{status_is}

@@ -1,26 +1,5 @@
 -- How the exits of a run of `ctangle` that come before its web is read are its ends.
-use Rattle.std.proofs.Common.{◌≡◌, ◌⊎◌, ◌+◌, inl, inr, ℕ, List, [], ◌∷◌, ◌++◌, refl, sym, ◌∙◌, ap, subst, add-zero}
-use Rattle.std.specs.Prelude.{Bool, true, false, IsTrue, Option, Some, None}
-use Rattle.cweb_lines.specs.Finding.{text_found}
-use Rattle.cweb_lines.specs.Include.{World, Found}
-use Rattle.cweb_lines.specs.Merge.{Event, started}
-use Rattle.cweb_lines.specs.Texts.{StartStops}
-use Rattle.cweb_lines.specs.Told.{given_lines, told_faults}
-use Rattle.cweb_lines.specs.Total.{merge}
-use Rattle.cweb_lines.specs.Whole.{StopsAtStart}
-use Rattle.cweb_lines.specs.declared.stop.Stop.{Stop}
-use Rattle.cweb_lines.specs.declared.stop.Stop.TheVariants.{WebNotOpened, ChangeNotOpened, Memory, LogFault}
-use Rattle.cweb_scan.specs.Run.{scanned}
-use Rattle.cweb_log.specs.Items.{Item, line, stopped}
-use Rattle.cweb_log.specs.Log.{start_subject, stop_line}
-use Rattle.cweb_log.specs.Options.{Asked}
-use Rattle.cweb_log.specs.Gathering.{Logs}
-use Rattle.cweb_log.specs.Seen.{SeenBins, SeenRun, SeenShelf, SeenStream}
-use Rattle.cweb_tools.specs.Acts.{Act, ending, Held, opens, says}
-use Rattle.cweb_tools.specs.Course.{change_name, found_course}
-use Rattle.cweb_tools.specs.Does.{AsTold, Closes, Does, Follows, done, halted}
-use Rattle.cweb_tools.specs.Script.{TangleCourse, change_not_there, not_there}
-use Rattle.cweb_tools.specs.Tangle.{CanCome, course_acts, course_status, tangled}
+use Rattle.cweb_tools.proofs.Common.{◌≡◌, ◌⊎◌, ◌+◌, inl, inr, ℕ, List, [], ◌∷◌, ◌++◌, refl, sym, ◌∙◌, ap, subst, add-zero, Bool, true, false, IsTrue, Option, Some, None, text_found, World, Found, Event, started, StartStops, given_lines, told_faults, merge, StopsAtStart, Stop, WebNotOpened, ChangeNotOpened, Memory, LogFault, scanned, Item, line, stopped, start_subject, stop_line, Asked, Logs, SeenBins, SeenRun, SeenShelf, SeenStream, Act, ending, Held, opens, says, change_name, found_course, AsTold, Closes, Does, Follows, done, halted, TangleCourse, change_not_there, not_there, CanCome, course_acts, course_status, tangled}
 use Rattle.cweb_tools.proofs.Doing.{closes_on}
 use Rattle.cweb_tools.proofs.Logging.{at, front_told, log_told}
 

@@ -1,6 +1,4 @@
-use Rattle.std.proofs.Common.{sym}
-use Rattle.cweb_lines.specs.Total.{merge-run}
-use Rattle.cweb_lines.specs.Halting.{halts}
+use Rattle.cweb_lines.proofs.Common.{sym, merge-run, halts}
 use Rattle.cweb_lines.proofs.laws.merge_has_one_answer.Goals as goal
 
 pub returns : goal.returns

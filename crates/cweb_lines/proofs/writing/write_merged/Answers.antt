@@ -1,4 +1,4 @@
-use Rattle.std.proofs.Common.{refl}
+use Rattle.cweb_lines.proofs.Common.{refl}
 use Rattle.cweb_lines.proofs.Gathers.{loses_line}
 use Rattle.cweb_lines.proofs.writing.write_merged.Goals as goal
 

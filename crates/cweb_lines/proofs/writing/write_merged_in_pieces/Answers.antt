@@ -1,7 +1,4 @@
-use Rattle.std.proofs.Common.{rules, ◌+◌, [], refl, ap, sym, ◌∙◌, arith}
-use Rattle.cweb_files.specs.Frames.{Writes}
-use Rattle.cweb_lines.specs.Texts.{read_blame}
-use Rattle.cweb_lines.specs.Writing.{write_blame}
+use Rattle.cweb_lines.proofs.Common.{rules, ◌+◌, [], refl, ap, sym, ◌∙◌, arith, Writes, read_blame, write_blame}
 use Rattle.cweb_lines.proofs.Named.{blames_none, blames_rest, stop_after}
 use Rattle.cweb_lines.proofs.Fronts.{told_halted, told_passed, told_same, told_then}
 use Rattle.cweb_lines.proofs.Gathers.{emptied, held, held_on, passed_on, fails_front, fails_among}

@@ -1,9 +1,4 @@
-use Rattle.std.proofs.Common.{◌≡◌, ◌-◌, None, []}
-use Rattle.std.specs.Prelude.{IsTrue}
-use Rattle.cweb_files.specs.Frames.{KeepsTexts, KeepsPlace, Writes}
-use Rattle.cweb_lines.specs.Merging.{KeepsTold}
-use Rattle.cweb_lines.specs.Whole.{to_come, so_far, stop_in, KnowsReaders}
-use Rattle.cweb_lines.specs.Writing.{Gathered}
+use Rattle.cweb_lines.proofs.Common.{◌≡◌, ◌-◌, None, [], IsTrue, KeepsTexts, KeepsPlace, Writes, KeepsTold, to_come, so_far, stop_in, KnowsReaders, Gathered}
 use Rattle.cweb_lines.proofs.writing.write_merged_in_pieces.Given as goal
 
 abbrev pub invariant-lines : goal.invariant-lines

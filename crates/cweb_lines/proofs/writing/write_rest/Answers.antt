@@ -1,6 +1,4 @@
-use Rattle.std.proofs.Common.{[], refl, sym, arith}
-use Rattle.std.proofs.lemmas.List.{append-nil}
-use Rattle.cweb_lines.specs.Writing.{leaves, writes}
+use Rattle.cweb_lines.proofs.Common.{[], refl, sym, arith, append-nil, leaves, writes}
 use Rattle.cweb_lines.proofs.Keeps.{writes_none}
 use Rattle.cweb_lines.proofs.WriteStops.{no_write_blame}
 use Rattle.cweb_lines.proofs.writing.write_rest.Goals as goal

@@ -1,7 +1,4 @@
-use Rattle.std.proofs.Common.{refl, arith}
-use Rattle.cweb_lines.specs.Names.{names_of}
-use Rattle.cweb_lines.specs.declared.fault.SourceFault.{SourceFault}
-use Rattle.cweb_log.specs.Log.{fault_line}
+use Rattle.cweb_log.proofs.Common.{refl, arith, names_of, SourceFault, fault_line}
 use Rattle.cweb_log.proofs.Gathering.{gathers_none, gathers_next, gathers_failed, gathers_all, writes_all, writes_front}
 use Rattle.cweb_log.proofs.faults.write_faults.Goals as goal
 

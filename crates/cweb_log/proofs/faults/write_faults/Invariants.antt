@@ -1,10 +1,4 @@
-use Rattle.std.proofs.Common.{[], Ok, take}
-use Rattle.cweb_files.specs.declared.device.SinkFault.{SinkFault}
-use Rattle.cweb_lines.specs.Names.{names_of}
-use Rattle.cweb_log.specs.Gathered.{pending}
-use Rattle.cweb_log.specs.Gathering.{GathersMore}
-use Rattle.cweb_log.specs.Log.{fault_lines}
-use Rattle.cweb_log.specs.Seen.{seen_stream}
+use Rattle.cweb_log.proofs.Common.{[], Ok, take, SinkFault, names_of, pending, GathersMore, fault_lines, seen_stream}
 use Rattle.cweb_log.proofs.faults.write_faults.Given as goal
 
 abbrev pub invariant-faults : goal.invariant-faults

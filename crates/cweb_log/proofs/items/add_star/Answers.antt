@@ -1,4 +1,4 @@
-use Rattle.std.proofs.Common.{[], ◌∷◌, decimal}
+use Rattle.cweb_log.proofs.Common.{[], ◌∷◌, decimal}
 use Rattle.cweb_log.proofs.Gathering.{gathers_front, gathers_on}
 use Rattle.cweb_log.proofs.items.add_star.Goals as goal
 

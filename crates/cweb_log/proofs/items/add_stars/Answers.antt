@@ -1,5 +1,4 @@
-use Rattle.std.proofs.Common.{arith}
-use Rattle.cweb_log.specs.Items.{star}
+use Rattle.cweb_log.proofs.Common.{arith, star}
 use Rattle.cweb_log.proofs.Gathering.{gathers_none, gathers_next, gathers_failed, gathers_all}
 use Rattle.cweb_log.proofs.items.add_stars.Goals as goal
 

@@ -1,10 +1,4 @@
-use Rattle.std.proofs.Common.{Ok, take}
-use Rattle.std.specs.List.{flat_map}
-use Rattle.cweb_files.specs.declared.device.SinkFault.{SinkFault}
-use Rattle.cweb_log.specs.Gathered.{pending}
-use Rattle.cweb_log.specs.Gathering.{GathersMore}
-use Rattle.cweb_log.specs.Items.{star}
-use Rattle.cweb_log.specs.Seen.{seen_stream}
+use Rattle.cweb_log.proofs.Common.{Ok, take, flat_map, SinkFault, pending, GathersMore, star, seen_stream}
 use Rattle.cweb_log.proofs.items.add_stars.Given as goal
 
 abbrev pub invariant-numbers : goal.invariant-numbers

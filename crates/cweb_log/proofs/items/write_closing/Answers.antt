@@ -1,4 +1,4 @@
-use Rattle.std.proofs.Common.{rules}
+use Rattle.cweb_log.proofs.Common.{rules}
 use Rattle.cweb_log.proofs.items.write_closing.Goals as goal
 
 pub returns : goal.returns

@@ -1,6 +1,4 @@
-use Rattle.std.proofs.Common.{Err, [], ◌∷◌, refl}
-use Rattle.std.specs.List.{flat_map}
-use Rattle.cweb_log.specs.Items.{star}
+use Rattle.cweb_log.proofs.Common.{Err, [], ◌∷◌, refl, flat_map, star}
 use Rattle.cweb_log.proofs.Gathering.{gathers_front, gathers_on, writes_all, writes_front}
 use Rattle.cweb_log.proofs.items.write_starred.Goals as goal
 

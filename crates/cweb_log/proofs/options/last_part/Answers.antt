@@ -1,5 +1,4 @@
-use Rattle.std.proofs.Common.{Some, None, sym, ◌∙◌, arith}
-use Rattle.std.proofs.lemmas.Str.Pattern.{rfind_char}
+use Rattle.cweb_log.proofs.Common.{Some, None, sym, ◌∙◌, arith, rfind_char}
 use Rattle.cweb_log.proofs.Stems.{after_found, after_none}
 use Rattle.cweb_log.proofs.options.last_part.Goals as goal
 

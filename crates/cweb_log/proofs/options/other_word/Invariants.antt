@@ -1,6 +1,4 @@
-use Rattle.std.proofs.Common.{◌≡◌, drop, map}
-use Rattle.std.specs.Prelude.{slice_get}
-use Rattle.cweb_log.specs.Options.{others}
+use Rattle.cweb_log.proofs.Common.{◌≡◌, drop, map, slice_get, others}
 use Rattle.cweb_log.proofs.options.other_word.Given as goal
 
 abbrev pub invariant-words : goal.invariant-words

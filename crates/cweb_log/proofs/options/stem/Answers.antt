@@ -1,6 +1,4 @@
-use Rattle.std.proofs.Common.{◌≡◌, Some, None, take, ◌∙◌, ap, arith}
-use Rattle.std.proofs.lemmas.Str.Pattern.{rfind_char}
-use Rattle.std.specs.Prelude.{slice_range}
+use Rattle.cweb_log.proofs.Common.{◌≡◌, Some, None, take, ◌∙◌, ap, arith, rfind_char, slice_range}
 use Rattle.cweb_log.proofs.Stems.{stem_found, stem_whole}
 use Rattle.cweb_log.proofs.options.stem.Goals as goal
 

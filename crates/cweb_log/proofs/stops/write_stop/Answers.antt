@@ -1,4 +1,4 @@
-use Rattle.std.proofs.Common.{rules}
+use Rattle.cweb_log.proofs.Common.{rules}
 use Rattle.cweb_log.proofs.stops.write_stop.Goals as goal
 
 pub returns-in-LineTooLong : goal.returns-in-LineTooLong

@@ -1,8 +1,4 @@
-use Rattle.std.proofs.Common.{◌≡◌, ◌∙◌, ℕ, List, [], map}
-use Rattle.std.specs.Prelude.{Some, slice_get, option_map}
-use Rattle.std.proofs.lemmas.Option.{get_or_from_slice_get, slice_get-map}
-use Rattle.cweb_store.specs.Names.{Occurrence}
-use Rattle.cweb_log.specs.WebItems.{text_given}
+use Rattle.cweb_log.proofs.Common.{◌≡◌, ◌∙◌, ℕ, List, [], map, Some, slice_get, option_map, get_or_from_slice_get, slice_get-map, Occurrence, text_given}
 use Rattle.cweb_log.proofs.web_faults.add_name_fault.Goals as goal
 
 text_of : (os : List Occurrence) (n : ℕ) (text : List ℕ)

@@ -1,5 +1,4 @@
-use Rattle.std.proofs.Common.{arith}
-use Rattle.std.proofs.lemmas.Grind.{common_steps}
+use Rattle.cweb_log.proofs.Common.{arith, common_steps}
 use Rattle.cweb_log.proofs.web_faults.add_named.Goals as goal
 
 pub returns : goal.returns

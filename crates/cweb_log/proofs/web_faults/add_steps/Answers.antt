@@ -1,5 +1,4 @@
-use Rattle.std.proofs.Common.{arith}
-use Rattle.cweb_log.specs.WebItems.{cycle_step}
+use Rattle.cweb_log.proofs.Common.{arith, cycle_step}
 use Rattle.cweb_log.proofs.Gathering.{gathers_none, gathers_next, gathers_failed, gathers_all}
 use Rattle.cweb_log.proofs.web_faults.add_steps.Goals as goal
 

@@ -1,7 +1,4 @@
-use Rattle.std.proofs.Common.{ℕ, List, Err, [], ◌∷◌, ◌++◌, refl}
-use Rattle.std.specs.Prelude.{codes}
-use Rattle.std.specs.List.{flat_map}
-use Rattle.cweb_log.specs.WebItems.{cycle_step}
+use Rattle.cweb_log.proofs.Common.{ℕ, List, Err, [], ◌∷◌, ◌++◌, refl, codes, flat_map, cycle_step}
 use Rattle.cweb_log.proofs.Gathering.{gathers_front, gathers_on, writes_all, writes_front}
 use Rattle.cweb_log.proofs.web_faults.write_cycle.Goals as goal
 

@@ -1,7 +1,4 @@
-use Rattle.std.proofs.Common.{refl, sym, arith}
-use Rattle.cweb_store.specs.declared.names.NameFault.{NameFault}
-use Rattle.cweb_log.specs.Items.{line}
-use Rattle.cweb_log.specs.WebItems.{name_item}
+use Rattle.cweb_log.proofs.Common.{refl, sym, arith, NameFault, line, name_item}
 use Rattle.cweb_log.proofs.Gathering.{gathers_none, gathers_next, gathers_failed, gathers_all, writes_all, writes_front, writes_items}
 use Rattle.cweb_log.proofs.web_faults.write_name_faults.Goals as goal
 

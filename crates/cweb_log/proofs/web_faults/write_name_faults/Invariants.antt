@@ -1,12 +1,4 @@
-use Rattle.std.proofs.Common.{[], Ok, take}
-use Rattle.std.specs.List.{flat_map}
-use Rattle.cweb_files.specs.declared.device.SinkFault.{SinkFault}
-use Rattle.cweb_store.specs.declared.names.NameFault.{NameFault}
-use Rattle.cweb_log.specs.Gathered.{pending}
-use Rattle.cweb_log.specs.Gathering.{GathersMore}
-use Rattle.cweb_log.specs.Items.{line}
-use Rattle.cweb_log.specs.Seen.{seen_stream}
-use Rattle.cweb_log.specs.WebItems.{name_item}
+use Rattle.cweb_log.proofs.Common.{[], Ok, take, flat_map, SinkFault, NameFault, pending, GathersMore, line, seen_stream, name_item}
 use Rattle.cweb_log.proofs.web_faults.write_name_faults.Given as goal
 
 abbrev pub invariant-faults : goal.invariant-faults

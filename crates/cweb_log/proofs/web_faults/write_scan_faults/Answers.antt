@@ -1,8 +1,4 @@
-use Rattle.std.proofs.Common.{refl, arith}
-use Rattle.cweb_lines.specs.Names.{names_of}
-use Rattle.cweb_rules.specs.declared.fault.ScanFault.{ScanFault}
-use Rattle.cweb_log.specs.Items.{line}
-use Rattle.cweb_log.specs.WebItems.{scan_item}
+use Rattle.cweb_log.proofs.Common.{refl, arith, names_of, ScanFault, line, scan_item}
 use Rattle.cweb_log.proofs.Gathering.{gathers_none, gathers_next, gathers_failed, gathers_all, writes_all, writes_front, writes_items}
 use Rattle.cweb_log.proofs.web_faults.write_scan_faults.Goals as goal
 

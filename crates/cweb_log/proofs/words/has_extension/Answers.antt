@@ -1,5 +1,4 @@
-use Rattle.std.proofs.Common.{arith}
-use Rattle.std.proofs.lemmas.Grind.{common_steps}
+use Rattle.cweb_log.proofs.Common.{arith, common_steps}
 use Rattle.cweb_log.proofs.words.has_extension.Goals as goal
 
 pub bytes-preserved : goal.bytes-preserved

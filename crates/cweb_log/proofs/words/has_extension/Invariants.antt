@@ -1,5 +1,4 @@
-use Rattle.std.proofs.Common.{◌≡◌, take}
-use Rattle.cweb_log.specs.Words.{has_extension}
+use Rattle.cweb_log.proofs.Common.{◌≡◌, take, has_extension}
 use Rattle.cweb_log.proofs.words.has_extension.Given as goal
 
 abbrev pub invariant-bytes : goal.invariant-bytes

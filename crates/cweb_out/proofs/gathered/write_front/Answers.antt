@@ -1,7 +1,4 @@
-use Rattle.std.proofs.Common.{rules, ◌-◌, ◌++◌, List, ℕ, length, take, drop, ap, sym, subst, ◌∙◌, arith, length-drop, append_assoc}
-use Rattle.std.specs.Prelude.{IsTrue}
-use Rattle.std.proofs.lemmas.List.{take_all}
-use Rattle.std.proofs.Math.Seq.{take-add}
+use Rattle.cweb_out.proofs.Common.{rules, ◌-◌, ◌++◌, List, ℕ, length, take, drop, ap, sym, subst, ◌∙◌, arith, length-drop, append_assoc, IsTrue, take_all, take-add}
 use Rattle.cweb_out.proofs.gathered.write_front.Goals as goal
 
 pub pieces-preserved : goal.pieces-preserved

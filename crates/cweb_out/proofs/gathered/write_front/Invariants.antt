@@ -1,5 +1,4 @@
-use Rattle.std.proofs.Common.{◌≡◌, ◌≤◌, ◌-◌, ◌++◌, length, take}
-use Rattle.std.specs.Prelude.{IsTrue}
+use Rattle.cweb_out.proofs.Common.{◌≡◌, ◌≤◌, ◌-◌, ◌++◌, length, take, IsTrue}
 use Rattle.cweb_out.proofs.gathered.write_front.Given as goal
 
 abbrev pub invariant-pieces : goal.invariant-pieces

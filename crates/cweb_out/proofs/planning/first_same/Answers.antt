@@ -1,8 +1,5 @@
-use Rattle.std.proofs.Common.{◌<◌, ◌∙◌, ap, sym, arith, refl, length}
-use Rattle.std.specs.Prelude.{bytes_eq}
+use Rattle.cweb_out.proofs.Common.{◌<◌, ◌∙◌, ap, sym, arith, refl, length, bytes_eq, id, name_at}
 use Rattle.cweb_store.specs.Names as spec
-use Rattle.cweb_store.specs.Names.{id}
-use Rattle.cweb_out.specs.Outputs.{name_at}
 use Rattle.cweb_out.proofs.Finds.{find-at, find-more}
 use Rattle.cweb_out.proofs.planning.first_same.Goals as goal
 

@@ -1,4 +1,4 @@
-use Rattle.std.proofs.Common.{◌∙◌, sym}
+use Rattle.cweb_out.proofs.Common.{◌∙◌, sym}
 use Rattle.cweb_out.proofs.PlanLemmas.{no-text, some-text}
 use Rattle.cweb_out.proofs.planning.has_no_text.Goals as goal
 

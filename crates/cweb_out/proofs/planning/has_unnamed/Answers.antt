@@ -1,5 +1,4 @@
-use Rattle.std.proofs.Common.{◌∙◌, ap}
-use Rattle.cweb_out.specs.Planning.{has_one}
+use Rattle.cweb_out.proofs.Common.{◌∙◌, ap, has_one}
 use Rattle.cweb_out.proofs.PlanLemmas.{unnamed-one}
 use Rattle.cweb_out.proofs.planning.has_unnamed.Goals as goal
 

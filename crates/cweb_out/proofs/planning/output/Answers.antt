@@ -1,7 +1,4 @@
-use Rattle.std.proofs.Common.{rules, ◌≡◌, ◌∙◌, ap, refl, true, List, ℕ}
-use Rattle.cweb_store.specs.Calls.{Stored}
-use Rattle.cweb_out.specs.Outputs.{Output}
-use Rattle.cweb_out.specs.Planning.{is_good_path}
+use Rattle.cweb_out.proofs.Common.{rules, ◌≡◌, ◌∙◌, ap, refl, true, List, ℕ, Stored, Output, is_good_path}
 use Rattle.cweb_out.proofs.PlanLemmas.{bad-utf8, good-name}
 use Rattle.cweb_out.proofs.planning.output.Goals as goal
 

@@ -1,8 +1,4 @@
-use Rattle.std.proofs.Common.{◌≡◌, None, take, map}
-use Rattle.std.specs.Prelude.{find}
-use Rattle.cweb_out.specs.Outputs.{output_of}
-use Rattle.cweb_out.specs.Planning.{is_bad}
-use Rattle.cweb_out.specs.Plans.{output_in}
+use Rattle.cweb_out.proofs.Common.{◌≡◌, None, take, map, find, output_of, is_bad, output_in}
 use Rattle.cweb_out.proofs.planning.outputs.Given as goal
 
 abbrev pub invariant-roots : goal.invariant-roots

@@ -1,6 +1,4 @@
-use Rattle.std.proofs.Common.{◌≡◌, ℕ, List, [], ◌∷◌, ◌&&◌, ◌==◌, refl, ap, ◌∙◌, eqb}
-use Rattle.std.specs.List.{starts_with}
-use Rattle.cweb_rules.specs.Bytes.{begins}
+use Rattle.cweb_rules.proofs.Common.{◌≡◌, ℕ, List, [], ◌∷◌, ◌&&◌, ◌==◌, refl, ap, ◌∙◌, eqb, starts_with, begins}
 use Rattle.cweb_rules.proofs.bytes.begins.Goals as goal
 
 starts_with-begins : (s t : List ℕ) → starts_with eqb t s ≡ begins s t

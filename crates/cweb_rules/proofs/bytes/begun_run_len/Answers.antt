@@ -1,4 +1,4 @@
-use Rattle.std.proofs.Common.{rules}
+use Rattle.cweb_rules.proofs.Common.{rules}
 use Rattle.cweb_rules.proofs.bytes.begun_run_len.Goals as goal
 
 pub returns-clause-value : goal.returns-clause-value

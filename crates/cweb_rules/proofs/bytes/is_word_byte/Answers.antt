@@ -1,4 +1,4 @@
-use Rattle.std.proofs.Common.{◌<◌, arith}
+use Rattle.cweb_rules.proofs.Common.{◌<◌, arith}
 use Rattle.cweb_rules.proofs.WordTable.{word_told}
 use Rattle.cweb_rules.proofs.bytes.is_word_byte.Goals as goal
 

@@ -1,5 +1,4 @@
-use Rattle.std.proofs.Common.{arith}
-use Rattle.std.proofs.lemmas.Grind.{common_steps}
+use Rattle.cweb_rules.proofs.Common.{arith, common_steps}
 use Rattle.cweb_rules.proofs.bytes.short_run_len.Goals as goal
 
 pub loop-i-preserved : goal.loop-i-preserved

@@ -1,6 +1,4 @@
-use Rattle.std.proofs.Common.{◌≡◌, ◌+◌, drop}
-use Rattle.std.specs.List.{prefix_len}
-use Rattle.cweb_rules.specs.Classes.{in_class}
+use Rattle.cweb_rules.proofs.Common.{◌≡◌, ◌+◌, drop, prefix_len, in_class}
 use Rattle.cweb_rules.proofs.bytes.short_run_len.Given as goal
 
 abbrev pub invariant-loop-i : goal.invariant-loop-i

@@ -1,4 +1,4 @@
-use Rattle.std.proofs.Common.{rules}
+use Rattle.cweb_rules.proofs.Common.{rules}
 use Rattle.cweb_rules.proofs.bytes.starts_section.Goals as goal
 
 pub returns-in-32 : goal.returns-in-32

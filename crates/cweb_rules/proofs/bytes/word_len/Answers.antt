@@ -1,4 +1,4 @@
-use Rattle.std.proofs.Common.{arith}
+use Rattle.cweb_rules.proofs.Common.{arith}
 use Rattle.cweb_rules.proofs.WordRuns.{goes_on}
 use Rattle.cweb_rules.proofs.bytes.word_len.Goals as goal
 

@@ -1,4 +1,4 @@
-use Rattle.std.proofs.Common.{length}
+use Rattle.cweb_rules.proofs.Common.{length}
 use Rattle.cweb_rules.proofs.WordRuns.{GoesTo}
 use Rattle.cweb_rules.proofs.bytes.word_len.Given as goal
 

@@ -1,6 +1,4 @@
-use Rattle.std.proofs.Common.{◌≡◌, ◌+◌, drop}
-use Rattle.std.specs.List.{position_or_len}
-use Rattle.cweb_rules.specs.Constants.{ends_faulty}
+use Rattle.cweb_rules.proofs.Common.{◌≡◌, ◌+◌, drop, position_or_len, ends_faulty}
 use Rattle.cweb_rules.proofs.constants.faulty_len.Given as goal
 
 abbrev pub invariant-loop-i : goal.invariant-loop-i

@@ -1,4 +1,4 @@
-use Rattle.std.proofs.Common.{rules}
+use Rattle.cweb_rules.proofs.Common.{rules}
 use Rattle.cweb_rules.proofs.constants.hex_at.Goals as goal
 
 pub returns-clause-value : goal.returns-clause-value

@@ -1,4 +1,4 @@
-use Rattle.std.proofs.Common.{rules}
+use Rattle.cweb_rules.proofs.Common.{rules}
 use Rattle.cweb_rules.proofs.constants.octal.Goals as goal
 
 pub overflow_cast-result : goal.overflow_cast-result

@@ -1,6 +1,4 @@
-use Rattle.std.proofs.Common.{◌≡◌, ◌≤◌, ◌+◌, ◌*◌, ◌-◌, drop}
-use Rattle.std.specs.List.{fold}
-use Rattle.cweb_rules.specs.Constants.{octal_value}
+use Rattle.cweb_rules.proofs.Common.{◌≡◌, ◌≤◌, ◌+◌, ◌*◌, ◌-◌, drop, fold, octal_value}
 use Rattle.cweb_rules.proofs.constants.octal_value.Given as goal
 
 abbrev pub invariant-loop-digit : goal.invariant-loop-digit

@@ -1,4 +1,4 @@
-use Rattle.std.proofs.Common.{rules}
+use Rattle.cweb_rules.proofs.Common.{rules}
 use Rattle.cweb_rules.proofs.items.look_in_control.Goals as goal
 
 pub returns : goal.returns

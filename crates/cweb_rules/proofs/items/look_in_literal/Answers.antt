@@ -1,4 +1,4 @@
-use Rattle.std.proofs.Common.{rules}
+use Rattle.cweb_rules.proofs.Common.{rules}
 use Rattle.cweb_rules.proofs.items.look_in_literal.Goals as goal
 
 pub returns-then-begins-3 : goal.returns-then-begins-3

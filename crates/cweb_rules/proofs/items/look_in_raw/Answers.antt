@@ -1,4 +1,4 @@
-use Rattle.std.proofs.Common.{rules}
+use Rattle.cweb_rules.proofs.Common.{rules}
 use Rattle.cweb_rules.proofs.items.look_in_raw.Goals as goal
 
 pub returns-then-begins : goal.returns-then-begins

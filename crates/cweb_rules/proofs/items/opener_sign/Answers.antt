@@ -1,4 +1,4 @@
-use Rattle.std.proofs.Common.{rules}
+use Rattle.cweb_rules.proofs.Common.{rules}
 use Rattle.cweb_rules.proofs.items.opener_sign.Goals as goal
 
 pub returns-then-begins-3-clause-value : goal.returns-then-begins-3-clause-value

@@ -1,5 +1,4 @@
-use Rattle.std.proofs.Common.{◌≤◌, ◌+◌, length, sym, subst}
-use Rattle.cweb_rules.specs.declared.items.Reached.{Reached}
+use Rattle.cweb_rules.proofs.Common.{◌≤◌, ◌+◌, length, sym, subst, Reached}
 use Rattle.cweb_rules.proofs.Lasts.{reach-fits}
 use Rattle.cweb_rules.proofs.items.reach.Goals as goal
 

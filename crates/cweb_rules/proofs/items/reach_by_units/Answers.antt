@@ -1,10 +1,4 @@
-use Rattle.std.proofs.Common.{◌+◌, ℕ, List, length, drop, ap, sym, ◌∙◌, arith}
-use Rattle.std.proofs.lemmas.Grind.{common_steps}
-use Rattle.std.proofs.lemmas.List.{length-drop}
-use Rattle.cweb_rules.specs.Cut.{reach}
-use Rattle.cweb_rules.specs.Looks.{look_of, reached}
-use Rattle.cweb_rules.specs.declared.end.End.TheVariants.{Open}
-use Rattle.cweb_rules.specs.declared.items.Reached.{Reached}
+use Rattle.cweb_rules.proofs.Common.{◌+◌, ℕ, List, length, drop, ap, sym, ◌∙◌, arith, common_steps, length-drop, reach, look_of, reached, Open, Reached}
 use Rattle.cweb_rules.proofs.PlainRuns.{reach_plain}
 use Rattle.cweb_rules.proofs.Ranges.{later_by, later_by-add}
 use Rattle.cweb_rules.proofs.items.reach_by_units.Goals as goal

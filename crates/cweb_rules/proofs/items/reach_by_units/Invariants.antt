@@ -1,7 +1,4 @@
-use Rattle.std.proofs.Common.{◌≡◌, ◌+◌, length}
-use Rattle.cweb_rules.specs.Cut.{reach}
-use Rattle.cweb_rules.specs.Looks.{look_of, reached}
-use Rattle.cweb_rules.specs.declared.end.End.TheVariants.{Open}
+use Rattle.cweb_rules.proofs.Common.{◌≡◌, ◌+◌, length, reach, look_of, reached, Open}
 use Rattle.cweb_rules.proofs.Ranges.{later_by}
 use Rattle.cweb_rules.proofs.items.reach_by_units.Given as goal
 

@@ -1,4 +1,4 @@
-use Rattle.std.proofs.Common.{rules}
+use Rattle.cweb_rules.proofs.Common.{rules}
 use Rattle.cweb_rules.proofs.numbers.goes_on.Goals as goal
 
 pub returns-in_default-matches : goal.returns-in_default-matches

@@ -1,5 +1,4 @@
-use Rattle.std.proofs.Common.{◌≡◌, ◌+◌, drop}
-use Rattle.cweb_rules.specs.Tables.{number_len}
+use Rattle.cweb_rules.proofs.Common.{◌≡◌, ◌+◌, drop, number_len}
 use Rattle.cweb_rules.proofs.numbers.number_len.Given as goal
 
 abbrev pub invariant-loop-i : goal.invariant-loop-i

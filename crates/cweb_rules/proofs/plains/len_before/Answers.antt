@@ -1,5 +1,4 @@
-use Rattle.std.proofs.Common.{◌∙◌}
-use Rattle.memchr.specs.Find.{is_byte}
+use Rattle.cweb_rules.proofs.Common.{◌∙◌, is_byte}
 use Rattle.cweb_rules.proofs.PlainRuns.{before_first}
 use Rattle.cweb_rules.proofs.plains.len_before.Goals as goal
 

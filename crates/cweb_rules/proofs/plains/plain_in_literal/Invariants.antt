@@ -1,5 +1,4 @@
-use Rattle.std.proofs.Common.{◌≡◌, ◌+◌, ◌||◌, ◌==◌, not, drop}
-use Rattle.std.specs.List.{prefix_len}
+use Rattle.cweb_rules.proofs.Common.{◌≡◌, ◌+◌, ◌||◌, ◌==◌, not, drop, prefix_len}
 use Rattle.cweb_rules.proofs.plains.plain_in_literal.Given as goal
 
 abbrev pub invariant-loop-i : goal.invariant-loop-i

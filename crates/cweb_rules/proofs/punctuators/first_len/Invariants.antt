@@ -1,5 +1,4 @@
-use Rattle.std.proofs.Common.{◌≡◌, drop, map}
-use Rattle.cweb_rules.specs.Signs.{first_len}
+use Rattle.cweb_rules.proofs.Common.{◌≡◌, drop, map, first_len}
 use Rattle.cweb_rules.proofs.punctuators.first_len.Given as goal
 
 abbrev pub invariant-loop-sign : goal.invariant-loop-sign

@@ -1,5 +1,4 @@
-use Rattle.std.proofs.Common.{sym, refl, ◌∙◌, arith}
-use Rattle.cweb_rules.specs.Tables.{listed}
+use Rattle.cweb_rules.proofs.Common.{sym, refl, ◌∙◌, arith, listed}
 use Rattle.cweb_rules.proofs.Longest.{among, longest-le}
 use Rattle.cweb_rules.proofs.punctuators.listed_len.Goals as goal
 

@@ -1,6 +1,4 @@
-use Rattle.std.proofs.Common.{sym, refl, ◌∙◌}
-use Rattle.cweb_rules.specs.Bytes.{is_one_of}
-use Rattle.cweb_rules.specs.Tables.{listed, seconds}
+use Rattle.cweb_rules.proofs.Common.{sym, refl, ◌∙◌, is_one_of, listed, seconds}
 use Rattle.cweb_rules.proofs.Seconds.{longest-none}
 use Rattle.cweb_rules.proofs.punctuators.punctuator_len.Goals as goal
 

@@ -1,4 +1,4 @@
-use Rattle.std.proofs.Common.{sym, ◌∙◌}
+use Rattle.cweb_rules.proofs.Common.{sym, ◌∙◌}
 use Rattle.cweb_rules.specs.declared.rule.Lead.TheVariants as first
 use Rattle.cweb_rules.proofs.FirstBytes.{told-at}
 use Rattle.cweb_rules.proofs.rule.c_rule.Goals as goal

@@ -1,4 +1,4 @@
-use Rattle.std.proofs.Common.{rules}
+use Rattle.cweb_rules.proofs.Common.{rules}
 use Rattle.cweb_rules.proofs.rule.lead_of.Goals as goal
 
 pub returns-then-is_word_byte : goal.returns-then-is_word_byte

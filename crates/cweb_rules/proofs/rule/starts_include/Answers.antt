@@ -1,9 +1,4 @@
-use Rattle.std.proofs.Common.{◌&&◌, drop, ap, sym, ◌∙◌}
-use Rattle.cweb_rules.specs.Cut.{reach}
-use Rattle.cweb_rules.specs.Fronts.{is_closed}
-use Rattle.cweb_rules.specs.Items.{look_in_include}
-use Rattle.cweb_rules.specs.declared.end.End.TheVariants.{Open, Cut}
-use Rattle.cweb_rules.specs.declared.items.Reached.{Reached}
+use Rattle.cweb_rules.proofs.Common.{◌&&◌, drop, ap, sym, ◌∙◌, reach, is_closed, look_in_include, Open, Cut, Reached}
 use Rattle.cweb_rules.proofs.Ranges.{closed_same}
 use Rattle.cweb_rules.proofs.rule.starts_include.Goals as goal
 

@@ -1,4 +1,4 @@
-use Rattle.std.proofs.Common.{◌∙◌, arith}
+use Rattle.cweb_rules.proofs.Common.{◌∙◌, arith}
 use Rattle.cweb_rules.proofs.FirstBytes.{dot-told, slash-told}
 use Rattle.cweb_rules.proofs.rule.tried_rule.Goals as goal
 

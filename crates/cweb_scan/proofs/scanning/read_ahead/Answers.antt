@@ -1,8 +1,4 @@
-use Rattle.std.proofs.Common.{◌≡◌, ◌∷◌, ◌++◌, [], List, ℕ, ap, length, subst, arith}
-use Rattle.std.proofs.lemmas.List.{length-append}
-use Rattle.cweb_files.specs.declared.place.Place.{Place}
-use Rattle.cweb_lines.specs.Lines.{Line}
-use Rattle.cweb_scan.specs.Held.{Held, read_after}
+use Rattle.cweb_scan.proofs.Common.{◌≡◌, ◌∷◌, ◌++◌, [], List, ℕ, ap, length, subst, arith, length-append, Place, Line, Held, read_after}
 use Rattle.cweb_scan.proofs.Aheads.{read_more, read_nothing}
 use Rattle.cweb_scan.proofs.scanning.read_ahead.Goals as goal
 

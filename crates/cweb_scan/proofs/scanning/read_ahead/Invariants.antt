@@ -1,5 +1,4 @@
-use Rattle.std.proofs.Common.{ℕ, ◌-◌, List}
-use Rattle.cweb_scan.specs.Ahead.{ReadsAhead}
+use Rattle.cweb_scan.proofs.Common.{ℕ, ◌-◌, List, ReadsAhead}
 use Rattle.cweb_scan.proofs.scanning.read_ahead.Given as goal
 
 abbrev pub invariant-lines : goal.invariant-lines

@@ -1,8 +1,4 @@
-use Rattle.std.proofs.Common.{sym, subst}
-use Rattle.cweb_lines.specs.Whole.{so_far, to_come}
-use Rattle.cweb_lines.specs.declared.stop.Stop.{Stop}
-use Rattle.cweb_scan.specs.Run.{Scanned}
-use Rattle.cweb_scan.specs.Scan.{EndsEarly, IsWithin, Scans}
+use Rattle.cweb_scan.proofs.Common.{sym, subst, so_far, to_come, Stop, Scanned, EndsEarly, IsWithin, Scans}
 use Rattle.cweb_scan.proofs.Scans.{grows_to, none_blamed, refused}
 use Rattle.cweb_scan.proofs.scanning.scan.Goals as goal
 

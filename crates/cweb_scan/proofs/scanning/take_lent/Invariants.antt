@@ -1,10 +1,4 @@
-use Rattle.std.proofs.Common.{◌≤◌, ◌+◌, ◌*◌, ◌-◌, ℕ, List, Bool, Option}
-use Rattle.cweb_lines.specs.Lending.{LendsLines}
-use Rattle.cweb_lines.specs.Merge.{Event}
-use Rattle.cweb_lines.specs.Merging.{SoFar, coming}
-use Rattle.cweb_lines.specs.Whole.{so_far}
-use Rattle.cweb_scan.specs.Held.{cost}
-use Rattle.cweb_scan.specs.Scan.{HasTaken}
+use Rattle.cweb_scan.proofs.Common.{◌≤◌, ◌+◌, ◌*◌, ◌-◌, ℕ, List, Bool, Option, LendsLines, Event, SoFar, coming, so_far, cost, HasTaken}
 use Rattle.cweb_scan.proofs.scanning.take_lent.Given as goal
 
 abbrev pub invariant-stretches : goal.invariant-stretches

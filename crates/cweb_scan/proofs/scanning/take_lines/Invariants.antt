@@ -1,12 +1,5 @@
-use Rattle.std.proofs.Common.{◌≡◌, ◌≤◌, ◌+◌, ◌*◌, ◌-◌, None}
-use Rattle.std.specs.Prelude.{IsTrue}
+use Rattle.cweb_scan.proofs.Common.{◌≡◌, ◌≤◌, ◌+◌, ◌*◌, ◌-◌, None, IsTrue, KeepsTexts, KeepsTold, KnowsReaders, to_come, so_far, stop_in, Merger, Held, cost, HasTaken}
 use Rattle.cweb_files.specs.declared.device.Shelf.{Ghosts as Shelf}
-use Rattle.cweb_files.specs.Frames.{KeepsTexts}
-use Rattle.cweb_lines.specs.Merging.{KeepsTold}
-use Rattle.cweb_lines.specs.Whole.{KnowsReaders, to_come, so_far, stop_in}
-use Rattle.cweb_lines.specs.declared.merger.Merger.{Merger}
-use Rattle.cweb_scan.specs.Held.{Held, cost}
-use Rattle.cweb_scan.specs.Scan.{HasTaken}
 use Rattle.cweb_scan.proofs.scanning.take_lines.Given as goal
 
 -- lines were taken, and nothing stopped

@@ -1,5 +1,4 @@
-use Rattle.std.proofs.Common.{arith}
-use Rattle.std.proofs.lemmas.Grind.{common_steps}
+use Rattle.cweb_store.proofs.Common.{arith, common_steps}
 use Rattle.cweb_store.proofs.laws.builder_holds_contents.Goals as goal
 
 pub loop-call-preserved : goal.loop-call-preserved

@@ -1,7 +1,4 @@
-use Rattle.std.proofs.Common.{◌≡◌, drop, map}
-use Rattle.std.specs.Prelude.{fold}
-use Rattle.cweb_store.specs.Calls.{after, contents}
-use Rattle.cweb_store.specs.Made.{given, TakesAll}
+use Rattle.cweb_store.proofs.Common.{◌≡◌, drop, map, fold, after, contents, given, TakesAll}
 use Rattle.cweb_store.proofs.laws.builder_holds_contents.Given as goal
 
 abbrev pub invariant-loop-call : goal.invariant-loop-call

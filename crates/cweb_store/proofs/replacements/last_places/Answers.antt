@@ -1,8 +1,4 @@
-use Rattle.std.proofs.Common.{None, Some, sym, ◌∙◌, ap, refl, arith}
-use Rattle.std.proofs.lemmas.Grind.{common_steps}
-use Rattle.std.proofs.lemmas.List.{drop_all, get_or-replicate}
-use Rattle.std.proofs.lemmas.Option.{slice_get-get_or}
-use Rattle.cweb_store.specs.Stored.{last_from}
+use Rattle.cweb_store.proofs.Common.{None, Some, sym, ◌∙◌, ap, refl, arith, common_steps, drop_all, get_or-replicate, slice_get-get_or, last_from}
 use Rattle.cweb_store.proofs.replacements.last_places.Goals as goal
 
 pub loop-i-init : goal.loop-i-init

@@ -1,5 +1,4 @@
-use Rattle.std.proofs.Common.{◌≡◌, ◌<◌, ℕ, None, drop, length, get_or}
-use Rattle.cweb_store.specs.Stored.{last_from}
+use Rattle.cweb_store.proofs.Common.{◌≡◌, ◌<◌, ℕ, None, drop, length, get_or, last_from}
 use Rattle.cweb_store.proofs.replacements.last_places.Given as goal
 
 abbrev pub invariant-loop-i : goal.invariant-loop-i

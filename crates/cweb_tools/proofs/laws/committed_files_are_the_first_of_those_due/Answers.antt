@@ -1,4 +1,4 @@
-use Rattle.cweb_tools.specs.Script.{script}
+use Rattle.cweb_tools.proofs.Common.{script}
 use Rattle.cweb_tools.proofs.Leaving.{ends_files}
 use Rattle.cweb_tools.proofs.laws.committed_files_are_the_first_of_those_due.Goals as goal
 

@@ -1,4 +1,4 @@
-use Rattle.cweb_tools.specs.Script.{script}
+use Rattle.cweb_tools.proofs.Common.{script}
 use Rattle.cweb_tools.proofs.Leaving.{ends_draft}
 use Rattle.cweb_tools.proofs.laws.no_draft_remains.Goals as goal
 

@@ -1,5 +1,4 @@
-use Rattle.std.proofs.Common.{rules, arith}
-use Rattle.std.proofs.lemmas.Grind.{common_steps}
+use Rattle.cweb_tools.proofs.Common.{rules, arith, common_steps}
 use Rattle.cweb_tools.proofs.Prints.{next_named, prints_all, prints_front, prints_more}
 use Rattle.cweb_tools.proofs.outputs.print_all.Goals as goal
 

@@ -1,6 +1,4 @@
-use Rattle.std.proofs.Common.{length}
-use Rattle.cweb_lines.specs.Names.{names_of}
-use Rattle.cweb_tools.specs.Expanders.{PrintsSoFar, left_in}
+use Rattle.cweb_tools.proofs.Common.{length, names_of, PrintsSoFar, left_in}
 use Rattle.cweb_tools.proofs.outputs.print_all.Given as goal
 
 abbrev pub invariant-tokens : goal.invariant-tokens

@@ -1,11 +1,5 @@
-use Rattle.std.proofs.Common.{◌+◌, ◌++◌, List, ℕ, refl, sym, ◌∙◌, ap, add-zero}
-use Rattle.std.specs.Prelude.{IsTrue}
+use Rattle.cweb_tools.proofs.Common.{◌+◌, ◌++◌, List, ℕ, refl, sym, ◌∙◌, ap, add-zero, IsTrue, Beside, no_device, no_memory, with_draft, without_draft, Memory, OutNotOpened, WriteFault, name_of, seen_bins, Held, bins_fail, given_up, not_begun}
 use Rattle.cweb_files.specs.Files as files
-use Rattle.cweb_files.specs.Files.{Beside, no_device, no_memory, with_draft, without_draft}
-use Rattle.cweb_lines.specs.declared.stop.Stop.TheVariants.{Memory, OutNotOpened, WriteFault}
-use Rattle.cweb_out.specs.Outputs.{name_of}
-use Rattle.cweb_log.specs.Seen.{seen_bins}
-use Rattle.cweb_tools.specs.Acts.{Held, bins_fail, given_up, not_begun}
 use Rattle.cweb_tools.proofs.DoingFiles.{file_done, file_failed}
 use Rattle.cweb_tools.proofs.Readies.{left_known, text_on}
 use Rattle.cweb_tools.proofs.outputs.write_file.Goals as goal

@@ -1,11 +1,4 @@
-use Rattle.std.proofs.Common.{◌<◌, ◌≤◌, [], List, length, sym, subst, arith}
-use Rattle.std.specs.Prelude.{None, Some, Ok, Err}
-use Rattle.cweb_lines.specs.Names.{names_of}
-use Rattle.cweb_out.specs.Outputs.{Output, name_of}
-use Rattle.cweb_tools.specs.Acts.{Act, ending}
-use Rattle.cweb_tools.specs.Does.{DoesInBoth}
-use Rattle.cweb_log.specs.Seen.{seen_bins, seen_stream}
-use Rattle.cweb_tools.specs.Tangle.{output_file}
+use Rattle.cweb_tools.proofs.Common.{◌<◌, ◌≤◌, [], List, length, sym, subst, arith, None, Some, Ok, Err, names_of, Output, name_of, Act, ending, DoesInBoth, seen_bins, seen_stream, output_file}
 use Rattle.cweb_tools.proofs.Doing.{bins_counted, both_in, both_none, both_then, logs_counted}
 use Rattle.cweb_tools.proofs.OutputActs.{acts_all, acts_at, acts_more}
 use Rattle.cweb_tools.proofs.Readies.{output_on, stays, stays_on}

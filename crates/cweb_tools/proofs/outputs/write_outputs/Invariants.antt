@@ -1,11 +1,4 @@
-use Rattle.std.proofs.Common.{map, take}
-use Rattle.std.specs.Prelude.{None}
-use Rattle.cweb_lines.specs.Names.{names_of}
-use Rattle.cweb_tools.specs.Does.{DoesInBoth}
-use Rattle.cweb_tools.specs.Expanders.{StaysReady}
-use Rattle.cweb_tools.specs.Script.{outputs_acts}
-use Rattle.cweb_log.specs.Seen.{seen_bins, seen_stream}
-use Rattle.cweb_tools.specs.Tangle.{output_file}
+use Rattle.cweb_tools.proofs.Common.{map, take, None, names_of, DoesInBoth, StaysReady, outputs_acts, seen_bins, seen_stream, output_file}
 use Rattle.cweb_tools.proofs.outputs.write_outputs.Given as goal
 
 abbrev pub invariant-outputs : goal.invariant-outputs

@@ -1,4 +1,4 @@
-use Rattle.std.proofs.Common.{arith}
+use Rattle.cweb_tools.proofs.Common.{arith}
 use Rattle.cweb_tools.proofs.Doing.{log_counted, log_fails, log_on}
 use Rattle.cweb_tools.proofs.saying.say_end.Goals as goal
 

@@ -1,4 +1,4 @@
-use Rattle.std.proofs.Common.{sym, ◌∙◌}
+use Rattle.cweb_tools.proofs.Common.{sym, ◌∙◌}
 use Rattle.cweb_tools.proofs.Logging.{said_starred, some_by}
 use Rattle.cweb_tools.proofs.saying.say_starred.Goals as goal
 

@@ -1,4 +1,4 @@
-use Rattle.std.proofs.Common.{rules}
+use Rattle.cweb_tools.proofs.Common.{rules}
 use Rattle.cweb_tools.proofs.tangle.log_failed.Goals as goal
 
 pub log_stop-requires : goal.log_stop-requires

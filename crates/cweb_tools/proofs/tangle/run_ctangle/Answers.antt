@@ -1,11 +1,4 @@
-use Rattle.std.proofs.Common.{◌≡◌, ap, refl, arith}
-use Rattle.std.specs.Prelude.{Result, Err, Some}
-use Rattle.std.specs.Option.{option_copied}
-use Rattle.cweb_lines.specs.Include.{World}
-use Rattle.cweb_lines.specs.declared.stop.Stop.{Stop}
-use Rattle.cweb_log.specs.Options.{Asked, options_of}
-use Rattle.cweb_log.specs.Seen.{seen_bins, seen_run, seen_shelf, seen_stream}
-use Rattle.cweb_tools.specs.Course.{world_of}
+use Rattle.cweb_tools.proofs.Common.{◌≡◌, ap, refl, arith, Result, Err, Some, option_copied, World, Stop, Asked, options_of, seen_bins, seen_run, seen_shelf, seen_stream, world_of}
 use Rattle.cweb_tools.proofs.Doing.{log_counted}
 use Rattle.cweb_tools.proofs.Promised.{promised}
 use Rattle.cweb_tools.proofs.TangleEnds.{banner_ends, named_ends, words_end}

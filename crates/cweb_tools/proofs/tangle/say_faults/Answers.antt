@@ -1,6 +1,4 @@
-use Rattle.std.proofs.Common.{◌<◌, length, sym, ◌∙◌, arith}
-use Rattle.cweb_scan.specs.Scan.{seen}
-use Rattle.cweb_tools.specs.Web.{faults_of, files_of}
+use Rattle.cweb_tools.proofs.Common.{◌<◌, length, sym, ◌∙◌, arith, seen, faults_of, files_of}
 use Rattle.cweb_tools.proofs.FaultItems.{counted_all, none_said, some_from, some_said}
 use Rattle.cweb_tools.proofs.tangle.say_faults.Goals as goal
 

@@ -1,8 +1,4 @@
-use Rattle.std.specs.Option.{option_copied}
-use Rattle.cweb_lines.specs.Include.{World}
-use Rattle.cweb_log.specs.Options.{Asked, options_of}
-use Rattle.cweb_log.specs.Seen.{seen_bins, seen_shelf, seen_stream}
-use Rattle.cweb_tools.specs.Course.{world_of}
+use Rattle.cweb_tools.proofs.Common.{option_copied, World, Asked, options_of, seen_bins, seen_shelf, seen_stream, world_of}
 use Rattle.cweb_tools.proofs.TangleExits.{start_ends}
 use Rattle.cweb_tools.proofs.tangle.tangle_named.Goals as goal
 

@@ -1,9 +1,4 @@
-use Rattle.std.proofs.Common.{[], ◌∷◌, refl, ◌∙◌, ap, arith}
-use Rattle.std.specs.Borrow.{Bor}
-use Rattle.std.specs.Prelude.{◌==◌, if◌then◌else◌, ℕ, Ok, Err}
-use Rattle.cweb_store.specs.Calls.{Stored}
-use Rattle.cweb_out.specs.Outputs.{Planned}
-use Rattle.cweb_tools.specs.Acts.{reserves}
+use Rattle.cweb_tools.proofs.Common.{[], ◌∷◌, refl, ◌∙◌, ap, arith, Bor, ◌==◌, if◌then◌else◌, ℕ, Ok, Err, Stored, Planned, reserves}
 use Rattle.cweb_tools.proofs.Doing.{log_counted, logs_counted}
 use Rattle.cweb_tools.proofs.DoingFiles.{both_closes_on, both_halts, closes_log, closes_stop, closes_then, closes_done, closing_on, log_halts_all, memory_halts, not_of_log, reserved_so}
 use Rattle.cweb_tools.proofs.Readies.{all_on}

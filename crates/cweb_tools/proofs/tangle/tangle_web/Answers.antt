@@ -1,12 +1,4 @@
-use Rattle.std.proofs.Common.{[], ◌∷◌, refl, sym, subst, arith}
-use Rattle.cweb_scan.specs.Scan.{seen}
-use Rattle.cweb_log.specs.Items.{fault_count}
-use Rattle.cweb_log.specs.Seen.{seen_bins, seen_stream}
-use Rattle.cweb_tools.specs.Acts.{plans}
-use Rattle.cweb_tools.specs.Does.{ClosesInBoth}
-use Rattle.cweb_tools.specs.Script.{Planning, planned_acts}
-use Rattle.cweb_tools.specs.Tangle.{numbers_of, status_by}
-use Rattle.cweb_tools.specs.Web.{faults_of, files_of}
+use Rattle.cweb_tools.proofs.Common.{[], ◌∷◌, refl, sym, subst, arith, seen, fault_count, seen_bins, seen_stream, plans, ClosesInBoth, Planning, planned_acts, numbers_of, status_by, faults_of, files_of}
 use Rattle.cweb_tools.proofs.Doing.{log_counted}
 use Rattle.cweb_tools.proofs.DoingFiles.{both_closes_on, both_halts, closes_log, closes_then, planned_so}
 use Rattle.cweb_tools.proofs.Refusals.{planning_made}

@@ -1,8 +1,4 @@
-use Rattle.std.proofs.Common.{List, ℕ, sym, subst}
-use Rattle.cweb_scan.specs.Scan.{seen}
-use Rattle.cweb_log.specs.Gathering.{Writes}
-use Rattle.cweb_log.specs.Seen.{seen_stream}
-use Rattle.cweb_tools.specs.Web.{files_of}
+use Rattle.cweb_tools.proofs.Common.{List, ℕ, sym, subst, seen, Writes, seen_stream, files_of}
 use Rattle.cweb_tools.proofs.FaultItems.{fault_text, writes_in, writes_on}
 use Rattle.cweb_tools.proofs.tangle.write_web_faults.Goals as goal
 

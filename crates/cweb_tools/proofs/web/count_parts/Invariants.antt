@@ -1,4 +1,4 @@
-use Rattle.std.proofs.Common.{◌≡◌, ◌+◌, length}
+use Rattle.cweb_tools.proofs.Common.{◌≡◌, ◌+◌, length}
 use Rattle.cweb_tools.proofs.web.count_parts.Given as goal
 
 abbrev pub invariant-parts : goal.invariant-parts

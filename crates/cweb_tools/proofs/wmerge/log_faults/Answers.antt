@@ -1,4 +1,4 @@
-use Rattle.std.proofs.Common.{rules}
+use Rattle.cweb_tools.proofs.Common.{rules}
 use Rattle.cweb_tools.proofs.wmerge.log_faults.Goals as goal
 
 pub returns-clause-answered : goal.returns-clause-answered

@@ -1,9 +1,5 @@
-use Rattle.std.proofs.Common.{◌+◌, ◌++◌, List, ℕ, sym, ◌∙◌, ap, subst}
-use Rattle.std.specs.Prelude.{IsTrue}
+use Rattle.cweb_tools.proofs.Common.{◌+◌, ◌++◌, List, ℕ, sym, ◌∙◌, ap, subst, IsTrue, blame, read_blame, so_far}
 use Rattle.cweb_files.specs.Frames.{Writes}
-use Rattle.cweb_lines.specs.Naming.{blame}
-use Rattle.cweb_lines.specs.Texts.{read_blame}
-use Rattle.cweb_lines.specs.Whole.{so_far}
 use Rattle.cweb_tools.proofs.MergeExits.{completed, stopped}
 use Rattle.cweb_tools.proofs.wmerge.merge_begun.Goals as goal
 

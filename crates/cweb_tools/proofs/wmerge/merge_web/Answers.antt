@@ -1,9 +1,5 @@
-use Rattle.std.proofs.Common.{refl}
-use Rattle.std.specs.Option.{option_copied}
-use Rattle.cweb_lines.specs.Include.{World}
-use Rattle.cweb_log.specs.Seen.{seen_shelf}
-use Rattle.cweb_log.specs.Words.{WebNames, names_of}
-use Rattle.cweb_tools.specs.Course.{world_of}
+use Rattle.cweb_tools.proofs.Common.{refl, option_copied, World, seen_shelf, WebNames, world_of}
+use Rattle.cweb_log.specs.Words.{names_of}
 use Rattle.cweb_tools.proofs.Exits.{start_stopped}
 use Rattle.cweb_tools.proofs.wmerge.merge_web.Goals as goal
 

@@ -1,6 +1,4 @@
-use Rattle.std.proofs.Common.{◌≡◌, ap, refl}
-use Rattle.std.specs.Prelude.{Result, Err}
-use Rattle.cweb_lines.specs.declared.stop.Stop.{Stop}
+use Rattle.cweb_tools.proofs.Common.{◌≡◌, ap, refl, Result, Err, Stop}
 use Rattle.cweb_tools.proofs.Exits.{words_stopped}
 use Rattle.cweb_tools.proofs.Promises.{promises}
 use Rattle.cweb_tools.proofs.wmerge.run_wmerge.Goals as goal

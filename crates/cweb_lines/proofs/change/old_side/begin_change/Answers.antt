@@ -1,6 +1,4 @@
-use Rattle.std.proofs.Common.{ap}
-use Rattle.cweb_lines.specs.Names.{names_of}
-use Rattle.cweb_lines.specs.Texts.{read_blame}
+use Rattle.cweb_lines.proofs.Common.{ap, names_of, read_blame}
 use Rattle.cweb_lines.proofs.Named.{blames_none, knows_only}
 use Rattle.cweb_lines.proofs.Fronts.{told_behind, told_then}
 use Rattle.cweb_lines.proofs.ReplacesTold.{tells_front, closes_some}

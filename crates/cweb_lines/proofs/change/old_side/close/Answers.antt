@@ -1,5 +1,4 @@
-use Rattle.std.proofs.Common.{arith, rules}
-use Rattle.std.proofs.lemmas.Grind.{common_steps}
+use Rattle.cweb_lines.proofs.Common.{arith, rules, common_steps}
 use Rattle.cweb_lines.proofs.change.old_side.close.Goals as goal
 
 pub returns-clause-told : goal.returns-clause-told

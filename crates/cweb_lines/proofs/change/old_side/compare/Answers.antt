@@ -1,7 +1,4 @@
-use Rattle.std.proofs.Common.{Ok, ◌≡◌, ◌+◌, [], true, false, Vec, Global, ℕ, refl, ap, sym, ◌∙◌, arith, if◌then◌else◌}
-use Rattle.std.specs.Str.{bytes_eq}
-use Rattle.cweb_lines.specs.Names.{names_of}
-use Rattle.cweb_lines.specs.declared.fault.SourceFault.{SourceFault}
+use Rattle.cweb_lines.proofs.Common.{Ok, ◌≡◌, ◌+◌, [], true, false, Vec, Global, ℕ, refl, ap, sym, ◌∙◌, arith, if◌then◌else◌, bytes_eq, names_of, SourceFault}
 use Rattle.cweb_lines.proofs.Compares.{compares_none, compares_some}
 use Rattle.cweb_lines.proofs.Stacks.{over-none}
 use Rattle.cweb_lines.proofs.change.old_side.compare.Goals as goal

@@ -1,15 +1,5 @@
-use Rattle.std.proofs.Common.{rules, ◌≡◌, [], ℕ, List, Vec, Global, Some, None, refl, ap, sym, subst, ◌∙◌, arith}
-use Rattle.std.specs.Prelude.{IsTrue, Bool}
-use Rattle.cweb_lines.specs.Change.{code_of}
-use Rattle.cweb_lines.specs.Counts.{count_of}
-use Rattle.cweb_lines.specs.Lines.{SourceLine}
-use Rattle.cweb_lines.specs.Merge.{Thing}
-use Rattle.cweb_lines.specs.Merging.{change_lines, told_by}
-use Rattle.cweb_lines.specs.Names.{names_of}
-use Rattle.cweb_lines.specs.Replacing.{Compares, IsReplaced, Replaces}
-use Rattle.cweb_lines.specs.Texts.{lines_at, things_above, TopStops, read_blame}
+use Rattle.cweb_lines.proofs.Common.{rules, ◌≡◌, [], ℕ, List, Vec, Global, Some, None, refl, ap, sym, subst, ◌∙◌, arith, IsTrue, Bool, code_of, count_of, SourceLine, Thing, change_lines, told_by, names_of, Compares, IsReplaced, Replaces, lines_at, things_above, TopStops, read_blame, SourceFault}
 use Rattle.cweb_lines.specs.declared.change.code.Code.TheVariants.{NewSide as new_side}
-use Rattle.cweb_lines.specs.declared.fault.SourceFault.{SourceFault}
 use Rattle.cweb_lines.proofs.Named.{blames_none, knows_only, stop_after}
 use Rattle.cweb_lines.proofs.Fronts.{told_behind, told_same, told_then, told_took}
 use Rattle.cweb_lines.proofs.Replaces.{replaces_from, replaces_stop, replaces_new, replaces_code, replaces_line, replaces_raw_stop}

@@ -1,9 +1,4 @@
-use Rattle.std.proofs.Common.{◌≡◌, ◌≤◌, ◌-◌, [], false}
-use Rattle.std.specs.Prelude.{IsTrue}
-use Rattle.cweb_lines.specs.Merging.{KeepsTold, change_lines, told_by}
-use Rattle.cweb_lines.specs.Naming.{AreReadersKnown, KeepsReaders}
-use Rattle.cweb_lines.specs.Replacing.{Replaces}
-use Rattle.cweb_lines.specs.Texts.{things_above}
+use Rattle.cweb_lines.proofs.Common.{◌≡◌, ◌≤◌, ◌-◌, [], false, IsTrue, KeepsTold, change_lines, told_by, AreReadersKnown, KeepsReaders, Replaces, things_above}
 use Rattle.cweb_lines.proofs.change.old_side.replace.Given as goal
 
 abbrev pub invariant-lines : goal.invariant-lines

@@ -1,14 +1,4 @@
-use Rattle.std.proofs.Common.{rules, ℕ, [], ◌∷◌, ◌++◌, List, Vec, Global, None, refl, ap, sym, subst, ◌∙◌, arith}
-use Rattle.std.specs.Prelude.{IsTrue}
-use Rattle.cweb_lines.specs.Change.{sought}
-use Rattle.cweb_lines.specs.Counts.{count_of}
-use Rattle.cweb_lines.specs.Lines.{SourceLine}
-use Rattle.cweb_lines.specs.Merging.{change_lines, told_by}
-use Rattle.cweb_lines.specs.Names.{names_of}
-use Rattle.cweb_lines.specs.Seeking.{Searched, SeeksTo, ToldFront}
-use Rattle.cweb_lines.specs.Texts.{lines_at, read_blame}
-use Rattle.cweb_lines.specs.declared.fault.SourceFault.{SourceFault}
-use Rattle.cweb_lines.specs.declared.change.Stage.TheVariants.{Waiting}
+use Rattle.cweb_lines.proofs.Common.{rules, ℕ, [], ◌∷◌, ◌++◌, List, Vec, Global, None, refl, ap, sym, subst, ◌∙◌, arith, IsTrue, sought, count_of, SourceLine, change_lines, told_by, names_of, Searched, SeeksTo, ToldFront, lines_at, read_blame, SourceFault, Waiting}
 use Rattle.cweb_lines.proofs.Named.{blames_memory, blames_none, knows_only, knows_same, stop_after}
 use Rattle.cweb_lines.proofs.Found.{OnOk-both}
 use Rattle.cweb_lines.proofs.Fronts.{told_behind, told_if, told_same, told_then, told_took}

@@ -1,10 +1,4 @@
-use Rattle.std.proofs.Common.{◌≡◌, ◌≤◌, ◌-◌, length, None}
-use Rattle.std.specs.Prelude.{IsTrue}
-use Rattle.cweb_lines.specs.Change.{sought}
-use Rattle.cweb_lines.specs.Merging.{KeepsTold, change_lines, told_by}
-use Rattle.cweb_lines.specs.Names.{names_of}
-use Rattle.cweb_lines.specs.Naming.{AreReadersKnown, KeepsReaders}
-use Rattle.cweb_lines.specs.Seeking.{BegunKnown, SeeksTo}
+use Rattle.cweb_lines.proofs.Common.{◌≡◌, ◌≤◌, ◌-◌, length, None, IsTrue, sought, KeepsTold, change_lines, told_by, names_of, AreReadersKnown, KeepsReaders, BegunKnown, SeeksTo}
 use Rattle.cweb_lines.proofs.change.seek.seek.Given as goal
 
 abbrev pub invariant-lines : goal.invariant-lines

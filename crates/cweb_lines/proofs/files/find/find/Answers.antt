@@ -1,7 +1,4 @@
-use Rattle.std.proofs.Common.{◌≡◌, ◌∷◌, ◌++◌, ℕ, List, string_bytes, Some, ap, sym, ◌∙◌, subst}
-use Rattle.std.specs.Prelude.{IsTrue}
-use Rattle.cweb_lines.specs.Include.{under, in_folder}
-use Rattle.cweb_lines.specs.Finding.{found_as, text_of_name}
+use Rattle.cweb_lines.proofs.Common.{◌≡◌, ◌∷◌, ◌++◌, ℕ, List, string_bytes, Some, ap, sym, ◌∙◌, subst, IsTrue, under, in_folder, found_as, text_of_name}
 use Rattle.cweb_lines.proofs.Found.{found_nothing, found_first, found_second, IfOk-map}
 use Rattle.cweb_lines.proofs.files.find.find.Goals as goal
 

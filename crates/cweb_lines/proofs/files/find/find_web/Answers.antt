@@ -1,4 +1,4 @@
-use Rattle.std.proofs.Common.{rules}
+use Rattle.cweb_lines.proofs.Common.{rules}
 use Rattle.cweb_lines.proofs.files.find.find_web.Goals as goal
 
 pub returns-in_default-clause-found : goal.returns-in_default-clause-found

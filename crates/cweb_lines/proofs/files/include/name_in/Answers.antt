@@ -1,5 +1,4 @@
-use Rattle.std.proofs.Common.{arith}
-use Rattle.std.proofs.lemmas.Grind.{common_steps}
+use Rattle.cweb_lines.proofs.Common.{arith, common_steps}
 use Rattle.cweb_lines.proofs.files.include.name_in.Goals as goal
 
 pub returns-then-bytes-i-eq34 : goal.returns-then-bytes-i-eq34

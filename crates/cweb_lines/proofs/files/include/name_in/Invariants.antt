@@ -1,5 +1,4 @@
-use Rattle.std.proofs.Common.{◌≡◌, drop}
-use Rattle.cweb_lines.specs.Include.{name_in}
+use Rattle.cweb_lines.proofs.Common.{◌≡◌, drop, name_in}
 use Rattle.cweb_lines.proofs.files.include.name_in.Given as goal
 
 abbrev pub invariant-loop-i : goal.invariant-loop-i

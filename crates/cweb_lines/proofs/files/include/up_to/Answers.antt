@@ -1,5 +1,4 @@
-use Rattle.std.proofs.Common.{arith}
-use Rattle.std.proofs.lemmas.Grind.{common_steps}
+use Rattle.cweb_lines.proofs.Common.{arith, common_steps}
 use Rattle.cweb_lines.proofs.files.include.up_to.Goals as goal
 
 pub returns-then-ends_name : goal.returns-then-ends_name

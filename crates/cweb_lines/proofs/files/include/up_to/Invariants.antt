@@ -1,5 +1,4 @@
-use Rattle.std.proofs.Common.{◌≡◌, ◌++◌, take, drop}
-use Rattle.cweb_lines.specs.Include.{up_to}
+use Rattle.cweb_lines.proofs.Common.{◌≡◌, ◌++◌, take, drop, up_to}
 use Rattle.cweb_lines.proofs.files.include.up_to.Given as goal
 
 abbrev pub invariant-loop-i : goal.invariant-loop-i

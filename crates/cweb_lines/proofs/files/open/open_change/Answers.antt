@@ -1,7 +1,4 @@
-use Rattle.std.proofs.Common.{List, [], ℕ, ap, sym, ◌∙◌, get_or, string_bytes, arith}
-use Rattle.std.proofs.lemmas.Grind.{common_steps}
-use Rattle.std.proofs.lemmas.List.{get_or_push}
-use Rattle.cweb_lines.specs.Names.{names_of}
+use Rattle.cweb_lines.proofs.Common.{List, [], ℕ, ap, sym, ◌∙◌, get_or, string_bytes, arith, common_steps, get_or_push, names_of}
 use Rattle.cweb_lines.proofs.files.open.open_change.Goals as goal
 
 pub returns-clause-named : goal.returns-clause-named

@@ -1,4 +1,4 @@
-use Rattle.std.proofs.Common.{rules}
+use Rattle.cweb_lines.proofs.Common.{rules}
 use Rattle.cweb_lines.proofs.limits.Limits.add.Goals as goal
 
 pub returns-clause-lines : goal.returns-clause-lines

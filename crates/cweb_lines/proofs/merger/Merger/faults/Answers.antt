@@ -1,4 +1,4 @@
-use Rattle.std.proofs.Common.{arith}
+use Rattle.cweb_lines.proofs.Common.{arith}
 use Rattle.cweb_lines.proofs.Runs.{files_in-at}
 use Rattle.cweb_lines.proofs.merger.Merger.faults.Goals as goal
 

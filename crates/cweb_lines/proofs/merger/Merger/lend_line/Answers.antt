@@ -1,4 +1,4 @@
-use Rattle.std.proofs.Common.{rules}
+use Rattle.cweb_lines.proofs.Common.{rules}
 use Rattle.cweb_lines.proofs.merger.Merger.lend_line.Goals as goal
 
 pub returns-clause-running : goal.returns-clause-running

@@ -1,17 +1,5 @@
-use Rattle.std.proofs.Common.{◌≡◌, ◌+◌, ◌-◌, ◌∷◌, ◌++◌, ℕ, List, Some, true, subst, length, length-append, string_bytes, ap, sym, ◌∙◌, arith, get_or, [], rules}
+use Rattle.cweb_lines.proofs.Common.{◌≡◌, ◌+◌, ◌-◌, ◌∷◌, ◌++◌, ℕ, List, Some, true, subst, length, length-append, string_bytes, ap, sym, ◌∙◌, arith, get_or, [], rules, found_as, names_found, IsTrue, option_copied, change_at, SourceLine, raws, names_of, AreNamed, IsNamed, change_in, pending_in, things_in, lines_at, merge, OPEN_FILES}
 use Rattle.cweb_lines.specs.Faults.{files_in}
-use Rattle.cweb_lines.specs.Finding.{found_as, names_found}
-use Rattle.std.specs.Prelude.{IsTrue}
-use Rattle.std.specs.Option.{option_copied}
-use Rattle.cweb_lines.specs.Include.{change_at}
-use Rattle.cweb_lines.specs.Lines.{SourceLine}
-use Rattle.cweb_lines.specs.Merge.{raws}
-use Rattle.cweb_lines.specs.Names.{names_of}
-use Rattle.cweb_lines.specs.Naming.{AreNamed, IsNamed}
-use Rattle.cweb_lines.specs.Stages.{change_in, pending_in, things_in}
-use Rattle.cweb_lines.specs.Texts.{lines_at}
-use Rattle.cweb_lines.specs.Total.{merge}
-use Rattle.cweb_lines.specs.declared.limits.TheConstants.{OPEN_FILES}
 use Rattle.cweb_lines.proofs.Named.{named_first}
 use Rattle.cweb_lines.proofs.Merges.{state}
 use Rattle.cweb_lines.proofs.Runs.{begins_low, begun, begun_coming}

@@ -1,4 +1,4 @@
-use Rattle.std.proofs.Common.{arith}
+use Rattle.cweb_lines.proofs.Common.{arith}
 use Rattle.cweb_lines.proofs.Standing.{takes_lines}
 use Rattle.cweb_lines.proofs.passing.advance.advance_text.Goals as goal
 

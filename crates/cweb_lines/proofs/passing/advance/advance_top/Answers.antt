@@ -1,7 +1,5 @@
-use Rattle.std.proofs.Common.{◌≡◌, ◌+◌, ◌<◌, ◌-◌, ◌∙◌, None, ap, length, refl, sym, subst, arith, get_or-set_same}
-use Rattle.std.proofs.lemmas.List.{get_or_default}
-use Rattle.cweb_lines.specs.Passing.{KeepsLevel, PassesSlot, StandsAt, piece_of, sources_next, top_of}
-use Rattle.cweb_lines.specs.Texts.{line_number, files_up_to, most}
+use Rattle.cweb_lines.proofs.Common.{◌≡◌, ◌+◌, ◌<◌, ◌-◌, ◌∙◌, None, ap, length, refl, sym, subst, arith, get_or-set_same, get_or_default, KeepsLevel, PassesSlot, StandsAt, piece_of, sources_next, top_of, line_number, files_up_to}
+use Rattle.cweb_lines.specs.Texts.{most}
 use Rattle.cweb_lines.proofs.Named.{named_at, named_set}
 use Rattle.cweb_lines.proofs.Passes.{top_passed}
 use Rattle.cweb_lines.proofs.Stacks.{most_read, most_set, stays_below, deep-at, deep-set}

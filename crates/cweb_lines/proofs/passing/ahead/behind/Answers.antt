@@ -1,6 +1,4 @@
-use Rattle.std.proofs.Common.{ap, subst, arith}
-use Rattle.cweb_lines.specs.Ahead.{FitsAt}
-use Rattle.cweb_lines.specs.Texts.{line_number, number_of}
+use Rattle.cweb_lines.proofs.Common.{ap, subst, arith, FitsAt, line_number, number_of}
 use Rattle.cweb_lines.proofs.passing.ahead.behind.Goals as goal
 
 pub line_behind-requires-clause-fits : goal.line_behind-requires-clause-fits

@@ -1,5 +1,4 @@
-use Rattle.std.proofs.Common.{arith}
-use Rattle.cweb_lines.specs.Stages.{pending_in}
+use Rattle.cweb_lines.proofs.Common.{arith, pending_in}
 use Rattle.cweb_lines.proofs.Aheads.{few_behind, looks_behind}
 use Rattle.cweb_lines.proofs.passing.ahead.line_behind.Goals as goal
 

@@ -1,10 +1,4 @@
-use Rattle.std.proofs.Common.{ℕ, List, [], ◌∷◌, ◌+◌, ◌-◌, ◌∙◌, drop, take, ap, sym, subst, refl, arith}
-use Rattle.std.proofs.lemmas.List.{length-take}
-use Rattle.std.specs.Prelude.{slice_range}
-use Rattle.cweb_lines.specs.Include.{is_include}
-use Rattle.cweb_lines.specs.Passing.{Reaches}
-use Rattle.cweb_lines.specs.Stages.{begun_by, pending_in}
-use Rattle.cweb_lines.specs.declared.passing.stretch.Stretch.{Stretch}
+use Rattle.cweb_lines.proofs.Common.{ℕ, List, [], ◌∷◌, ◌+◌, ◌-◌, ◌∙◌, drop, take, ap, sym, subst, refl, arith, length-take, slice_range, is_include, Reaches, begun_by, pending_in, Stretch}
 use Rattle.cweb_lines.proofs.Standing.{one_line}
 use Rattle.cweb_lines.proofs.passing.stretch.line_from.Goals as goal
 

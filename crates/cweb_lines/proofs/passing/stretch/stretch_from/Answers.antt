@@ -1,4 +1,4 @@
-use Rattle.std.proofs.Common.{arith}
+use Rattle.cweb_lines.proofs.Common.{arith}
 use Rattle.cweb_lines.proofs.Standing.{lines_within, reaches_more}
 use Rattle.cweb_lines.proofs.passing.stretch.stretch_from.Goals as goal
 

@@ -1,6 +1,4 @@
-use Rattle.std.proofs.Common.{◌≡◌, ◌-◌}
-use Rattle.cweb_lines.specs.Passing.{Reaches}
-use Rattle.cweb_lines.specs.Stages.{pending_in}
+use Rattle.cweb_lines.proofs.Common.{◌≡◌, ◌-◌, Reaches, pending_in}
 use Rattle.cweb_lines.proofs.passing.stretch.stretch_from.Given as goal
 
 abbrev pub invariant-lines : goal.invariant-lines

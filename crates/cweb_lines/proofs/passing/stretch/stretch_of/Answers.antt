@@ -1,5 +1,4 @@
-use Rattle.std.proofs.Common.{refl}
-use Rattle.cweb_lines.specs.Stages.{pending_in}
+use Rattle.cweb_lines.proofs.Common.{refl, pending_in}
 use Rattle.cweb_lines.proofs.Aheads.{whatever}
 use Rattle.cweb_lines.proofs.Standing.{stands_in}
 use Rattle.cweb_lines.proofs.passing.stretch.stretch_of.Goals as goal

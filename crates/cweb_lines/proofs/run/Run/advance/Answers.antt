@@ -1,8 +1,4 @@
-use Rattle.std.proofs.Common.{refl, arith}
-use Rattle.std.proofs.lemmas.Grind.{common_steps}
-use Rattle.std.proofs.lemmas.List.{length-map}
-use Rattle.cweb_lines.specs.Merging.{pending_of}
-use Rattle.cweb_lines.specs.Passing.{sources_next, top_of}
+use Rattle.cweb_lines.proofs.Common.{refl, arith, common_steps, length-map, pending_of, sources_next, top_of}
 use Rattle.cweb_lines.proofs.GivenLines.{next-length}
 use Rattle.cweb_lines.proofs.Passes.{gives_next}
 use Rattle.cweb_lines.proofs.run.Run.advance.Goals as goal

@@ -1,6 +1,4 @@
-use Rattle.std.proofs.Common.{[], refl}
-use Rattle.cweb_lines.specs.Merging.{pending_of}
-use Rattle.cweb_lines.specs.Passing.{top_of}
+use Rattle.cweb_lines.proofs.Common.{[], refl, pending_of, top_of}
 use Rattle.cweb_lines.proofs.Aheads.{is_ahead, looks_at, looks_first}
 use Rattle.cweb_lines.proofs.run.Run.first_ahead.Goals as goal
 

@@ -1,4 +1,4 @@
-use Rattle.std.proofs.Common.{refl}
+use Rattle.cweb_lines.proofs.Common.{refl}
 use Rattle.cweb_lines.proofs.Lends.{lends_line}
 use Rattle.cweb_lines.proofs.run.Run.lend_line.Goals as goal
 

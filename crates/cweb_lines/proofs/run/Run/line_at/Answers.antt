@@ -1,5 +1,4 @@
-use Rattle.std.proofs.Common.{◌<◌, ◌-◌, ap, length, arith}
-use Rattle.cweb_lines.specs.Texts.{line_number, number_of}
+use Rattle.cweb_lines.proofs.Common.{◌<◌, ◌-◌, ap, length, arith, line_number, number_of}
 use Rattle.cweb_lines.proofs.Stacks.{most_read}
 use Rattle.cweb_lines.proofs.run.Run.line_at.Goals as goal
 

@@ -1,10 +1,4 @@
-use Rattle.std.proofs.Common.{◌-◌, ◌<◌, ℕ, List, None, get_or, arith, length, subst}
-use Rattle.std.proofs.lemmas.List.{get_or_default}
-use Rattle.std.specs.Prelude.{IfSome}
-use Rattle.cweb_lines.specs.Ahead.{FitsAt, LooksIn}
-use Rattle.cweb_lines.specs.Passing.{StandsAt}
-use Rattle.cweb_lines.specs.Stages.{pending_in}
-use Rattle.cweb_lines.specs.Texts.{line_number}
+use Rattle.cweb_lines.proofs.Common.{◌-◌, ◌<◌, ℕ, List, None, get_or, arith, length, subst, get_or_default, IfSome, FitsAt, LooksIn, StandsAt, pending_in, line_number}
 use Rattle.cweb_lines.proofs.Stacks.{most_read}
 use Rattle.cweb_lines.proofs.Aheads.{are_ahead, looks_next}
 use Rattle.cweb_lines.proofs.run.Run.next_ahead.Goals as goal

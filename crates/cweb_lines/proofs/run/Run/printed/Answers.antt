@@ -1,5 +1,4 @@
-use Rattle.std.proofs.Common.{arith}
-use Rattle.std.proofs.lemmas.Grind.{common_steps}
+use Rattle.cweb_lines.proofs.Common.{arith, common_steps}
 use Rattle.cweb_lines.proofs.run.Run.printed.Goals as goal
 
 pub slice_bounds-result-count : goal.slice_bounds-result-count

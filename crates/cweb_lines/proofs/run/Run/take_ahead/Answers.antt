@@ -1,7 +1,4 @@
-use Rattle.std.proofs.Common.{arith}
-use Rattle.std.proofs.lemmas.List.{length-map}
-use Rattle.cweb_lines.specs.Merging.{pending_of}
-use Rattle.cweb_lines.specs.Passing.{sources_next, top_of}
+use Rattle.cweb_lines.proofs.Common.{arith, length-map, pending_of, sources_next, top_of}
 use Rattle.cweb_lines.proofs.Aheads.{lends_lines}
 use Rattle.cweb_lines.proofs.GivenLines.{next-length}
 use Rattle.cweb_lines.proofs.run.Run.take_ahead.Goals as goal

@@ -1,6 +1,4 @@
-use Rattle.std.proofs.Common.{length}
-use Rattle.std.specs.Prelude.{is_ok}
-use Rattle.cweb_lines.specs.Names.{names_of}
+use Rattle.cweb_lines.proofs.Common.{length, is_ok, names_of}
 use Rattle.cweb_lines.proofs.Runs.{files_in-if}
 use Rattle.cweb_lines.proofs.run.Run.tell.Goals as goal
 

@@ -1,4 +1,4 @@
-use Rattle.std.proofs.Common.{refl, sym, ◌∙◌}
+use Rattle.cweb_lines.proofs.Common.{refl, sym, ◌∙◌}
 use Rattle.cweb_lines.proofs.Fronts.{told_same}
 use Rattle.cweb_lines.proofs.Merges.{gives_line, merge_given}
 use Rattle.cweb_lines.proofs.step.obey.give.Goals as goal

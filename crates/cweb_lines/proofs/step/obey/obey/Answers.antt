@@ -1,14 +1,4 @@
-use Rattle.std.proofs.Common.{◌<◌, ◌∷◌, ℕ, List, Vec, Global, length, refl, ap, sym, subst, ◌∙◌, arith, string_bytes}
-use Rattle.std.proofs.lemmas.Grind.{common_steps}
-use Rattle.cweb_lines.specs.Names.{names_of}
-use Rattle.cweb_lines.specs.Change.{at_place}
-use Rattle.cweb_lines.specs.Counts.{count_of}
-use Rattle.cweb_lines.specs.Finding.{world_in}
-use Rattle.cweb_lines.specs.Include.{found_at}
-use Rattle.cweb_lines.specs.Merge.{Event, opening}
-use Rattle.cweb_lines.specs.Naming.{AreReadersKnown}
-use Rattle.cweb_lines.specs.declared.fault.SourceFault.{SourceFault}
-use Rattle.cweb_lines.specs.declared.fault.SourceKind.TheVariants.{NoName, TooDeep, NotThere}
+use Rattle.cweb_lines.proofs.Common.{◌<◌, ◌∷◌, ℕ, List, Vec, Global, length, refl, ap, sym, subst, ◌∙◌, arith, string_bytes, common_steps, names_of, at_place, count_of, world_in, found_at, Event, opening, AreReadersKnown, SourceFault, NoName, TooDeep, NotThere}
 use Rattle.cweb_lines.proofs.Named.{knows_only}
 use Rattle.cweb_lines.proofs.Fronts.{told_if, told_same}
 use Rattle.cweb_lines.proofs.Found.{OnOk-map}

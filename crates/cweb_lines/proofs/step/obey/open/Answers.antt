@@ -1,8 +1,4 @@
-use Rattle.std.proofs.Common.{◌≡◌, ◌+◌, ◌∷◌, [], ℕ, List, length, refl, sym, arith, ap, ◌∙◌, length-append, string_bytes, ◌++◌, subst, get_or, rules}
-use Rattle.std.proofs.lemmas.List.{append-nil, get_or_push}
-use Rattle.cweb_lines.specs.Names.{names_of}
-use Rattle.cweb_lines.specs.Naming.{AreNamed, IsNamed}
-use Rattle.cweb_lines.specs.Texts.{line_number, files_up_to}
+use Rattle.cweb_lines.proofs.Common.{◌≡◌, ◌+◌, ◌∷◌, [], ℕ, List, length, refl, sym, arith, ap, ◌∙◌, length-append, string_bytes, ◌++◌, subst, get_or, rules, append-nil, get_or_push, names_of, AreNamed, IsNamed, line_number, files_up_to}
 use Rattle.cweb_lines.proofs.Named.{change_more, named_more, named_set}
 use Rattle.cweb_lines.proofs.Fronts.{told_more, told_same}
 use Rattle.cweb_lines.proofs.Stacks.{most_set}

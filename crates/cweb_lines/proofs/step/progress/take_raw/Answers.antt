@@ -1,6 +1,4 @@
-use Rattle.std.proofs.Common.{sym, subst}
-use Rattle.cweb_lines.specs.Names.{names_of}
-use Rattle.cweb_lines.specs.Naming.{IsNamed}
+use Rattle.cweb_lines.proofs.Common.{sym, subst, names_of, IsNamed}
 use Rattle.cweb_lines.proofs.step.progress.take_raw.Goals as goal
 
 pub returns-clause-readers : goal.returns-clause-readers

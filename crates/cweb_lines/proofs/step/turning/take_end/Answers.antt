@@ -1,13 +1,4 @@
-use Rattle.std.proofs.Common.{◌∷◌, List, length, ap, sym, ◌∙◌, refl}
-use Rattle.cweb_lines.specs.Change.{at_place}
-use Rattle.cweb_lines.specs.Counts.{count_of}
-use Rattle.cweb_lines.specs.Finding.{world_in}
-use Rattle.cweb_lines.specs.Merge.{Event, fault}
-use Rattle.cweb_lines.specs.Merging.{told_by}
-use Rattle.cweb_lines.specs.Names.{names_of}
-use Rattle.cweb_lines.specs.Stages.{floor_of}
-use Rattle.cweb_lines.specs.Texts.{read_blame}
-use Rattle.cweb_lines.specs.declared.fault.SourceKind.TheVariants.{NoMatch}
+use Rattle.cweb_lines.proofs.Common.{◌∷◌, List, length, ap, sym, ◌∙◌, refl, at_place, count_of, world_in, Event, fault, told_by, names_of, floor_of, read_blame, NoMatch}
 use Rattle.cweb_lines.proofs.Named.{blames_none, knows_only}
 use Rattle.cweb_lines.proofs.Fronts.{told_behind, told_same}
 use Rattle.cweb_lines.proofs.Merges.{gives_fault}

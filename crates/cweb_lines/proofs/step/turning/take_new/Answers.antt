@@ -1,13 +1,4 @@
-use Rattle.std.proofs.Common.{[], ◌++◌, ◌∷◌, length, Vec, Global, Some, ap, sym, subst, ◌∙◌}
-use Rattle.std.specs.Prelude.{IsTrue}
-use Rattle.cweb_lines.specs.Change.{at_place, code_of}
-use Rattle.cweb_lines.specs.Counts.{count_of}
-use Rattle.cweb_lines.specs.Merging.{Stopped, change_lines, told_by}
-use Rattle.cweb_lines.specs.Finding.{text_of_name}
-use Rattle.cweb_lines.specs.Texts.{lines_at, read_blame}
-use Rattle.cweb_lines.specs.Names.{names_of}
-use Rattle.cweb_lines.specs.declared.fault.SourceFault.{SourceFault}
-use Rattle.cweb_lines.specs.declared.fault.SourceKind.TheVariants.{EndedBeforeZ}
+use Rattle.cweb_lines.proofs.Common.{[], ◌++◌, ◌∷◌, length, Vec, Global, Some, ap, sym, subst, ◌∙◌, IsTrue, at_place, code_of, count_of, Stopped, change_lines, told_by, text_of_name, lines_at, read_blame, names_of, SourceFault, EndedBeforeZ}
 use Rattle.cweb_lines.proofs.Named.{blames_memory, blames_none, knows_only}
 use Rattle.cweb_lines.proofs.Fronts.{told_behind, told_same, told_then, told_took}
 use Rattle.cweb_lines.proofs.Found.{IfOk-map}

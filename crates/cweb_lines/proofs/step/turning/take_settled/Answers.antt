@@ -1,13 +1,4 @@
-use Rattle.std.proofs.Common.{◌∷◌, ◌++◌, [], map, Vec, Global, List, Some, ap, sym, subst, ◌∙◌}
-use Rattle.std.specs.Prelude.{IsTrue, IfOk, IfErr, OnErr}
-use Rattle.cweb_lines.specs.Counts.{count_of}
-use Rattle.cweb_lines.specs.Merge.{Event, fault, took}
-use Rattle.cweb_lines.specs.Merging.{change_lines, pending_of, things_of, told_by, Gives, Stopped, SoFar, TellsFront, coming, lines_given}
-use Rattle.cweb_lines.specs.Replacing.{faults_replaced, lines_replaced}
-use Rattle.cweb_lines.specs.Texts.{things_above}
-use Rattle.cweb_lines.specs.Names.{names_of}
-use Rattle.cweb_lines.specs.Stages.{begun_by, pending_in}
-use Rattle.cweb_lines.specs.declared.fault.SourceFault.{SourceFault}
+use Rattle.cweb_lines.proofs.Common.{◌∷◌, ◌++◌, [], map, Vec, Global, List, Some, ap, sym, subst, ◌∙◌, IsTrue, IfOk, IfErr, OnErr, count_of, Event, fault, took, change_lines, pending_of, things_of, told_by, Gives, Stopped, SoFar, TellsFront, coming, lines_given, faults_replaced, lines_replaced, things_above, names_of, begun_by, pending_in, SourceFault}
 use Rattle.cweb_lines.proofs.Named.{blames_after, blames_memory, stop_after}
 use Rattle.cweb_lines.proofs.Fronts.{told_then, told_took}
 use Rattle.cweb_lines.proofs.Adds.{adds_both, adds_one, among_after, gives_adds, stopped_among, tells_after, tells_some}

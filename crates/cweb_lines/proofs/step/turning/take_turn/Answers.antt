@@ -1,7 +1,4 @@
-use Rattle.std.proofs.Common.{◌++◌, map, List, None, ap, ◌∙◌, refl, rules}
-use Rattle.cweb_lines.specs.Change.{sought}
-use Rattle.cweb_lines.specs.Merge.{Event, fault, took}
-use Rattle.cweb_lines.specs.Merging.{change_lines, told_by}
+use Rattle.cweb_lines.proofs.Common.{◌++◌, map, List, None, ap, ◌∙◌, refl, rules, sought, Event, fault, took, change_lines, told_by}
 use Rattle.cweb_lines.proofs.Fronts.{told_same}
 use Rattle.cweb_lines.proofs.Adds.{gives_adds, stopped_among, tells_some}
 use Rattle.cweb_lines.proofs.Turns.{searched_later, sought_first}

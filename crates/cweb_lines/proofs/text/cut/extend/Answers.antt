@@ -1,4 +1,4 @@
-use Rattle.std.proofs.Common.{rules}
+use Rattle.cweb_lines.proofs.Common.{rules}
 use Rattle.cweb_lines.proofs.text.cut.extend.Goals as goal
 
 pub returns-clause-within : goal.returns-clause-within

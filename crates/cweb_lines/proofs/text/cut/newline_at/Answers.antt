@@ -1,7 +1,4 @@
-use Rattle.std.proofs.Common.{◌≡◌, ◌++◌, ◌+◌, ◌-◌, ◌∙◌, [], ℕ, List, None, Some, ap, drop, length, refl, sym, subst, take, arith, append_assoc, length-append, take-append-drop}
-use Rattle.std.proofs.lemmas.Grind.{common_steps}
-use Rattle.std.proofs.lemmas.List.{append-nil, length-take}
-use Rattle.cweb_lines.specs.Lines.{HasNoNewline, SplitsAt}
+use Rattle.cweb_lines.proofs.Common.{◌≡◌, ◌++◌, ◌+◌, ◌-◌, ◌∙◌, [], ℕ, List, None, Some, ap, drop, length, refl, sym, subst, take, arith, append_assoc, length-append, take-append-drop, common_steps, append-nil, length-take, HasNoNewline, SplitsAt}
 use Rattle.cweb_lines.proofs.Newlines.{newline_at-memchr, no_newline-append, splits_behind}
 use Rattle.cweb_lines.proofs.text.cut.newline_at.Goals as goal
 

@@ -1,5 +1,4 @@
-use Rattle.std.proofs.Common.{◌≡◌, ◌++◌, ℕ, List, length}
-use Rattle.cweb_lines.specs.Lines.{HasNoNewline}
+use Rattle.cweb_lines.proofs.Common.{◌≡◌, ◌++◌, ℕ, List, length, HasNoNewline}
 use Rattle.cweb_lines.proofs.text.cut.newline_at.Given as goal
 
 abbrev pub invariant-runs : goal.invariant-runs

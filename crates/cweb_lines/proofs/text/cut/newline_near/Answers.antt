@@ -1,9 +1,4 @@
-use Rattle.std.proofs.Common.{◌≡◌, ◌%◌, ◌^◌, ◌∙◌, ℕ, Bool, List, ap, cond, eqb, length, map, replicate, sym, take, arith, w8, w64}
-use Rattle.std.proofs.lemmas.List.{length-take}
-use Rattle.std.proofs.lemmas.Nat.Bits.{bit_at-trailing_zeros}
-use Rattle.std.proofs.lemmas.Simd.{length-zip2, mask_l-mod, tops_compared}
-use Rattle.std.specs.Int.{bit_at, trailing_zeros}
-use Rattle.std.specs.Simd.Lanes.{mask_l, top, zip2}
+use Rattle.cweb_lines.proofs.Common.{◌≡◌, ◌%◌, ◌^◌, ◌∙◌, ℕ, Bool, List, ap, cond, eqb, length, map, replicate, sym, take, arith, w8, w64, length-take, bit_at-trailing_zeros, length-zip2, mask_l-mod, tops_compared, bit_at, trailing_zeros, mask_l, top, zip2}
 use Rattle.cweb_lines.proofs.Marks.{first_marked, none_marked}
 use Rattle.cweb_lines.proofs.text.cut.newline_near.Goals as goal
 

@@ -1,11 +1,4 @@
-use Rattle.std.proofs.Common.{◌≡◌, ◌++◌, [], ℕ, List, sym, ◌∙◌, ap, subst, rules, refl, Err, arith}
-use Rattle.std.proofs.lemmas.Grind.{common_steps}
-use Rattle.std.specs.Prelude.{IsTrue}
-use Rattle.std.proofs.lemmas.List.{append_assoc}
-use Rattle.std.proofs.lemmas.Result.{err_from_is_err_and}
-use Rattle.cweb_lines.specs.Source.{left_of, pending, IsLongerThan, TakesOf}
-use Rattle.cweb_lines.specs.declared.text.source.LineFault.TheVariants.{TooLong}
-use Rattle.cweb_lines.specs.declared.limits.TheConstants.{LINE_LENGTH}
+use Rattle.cweb_lines.proofs.Common.{◌≡◌, ◌++◌, [], ℕ, List, sym, ◌∙◌, ap, subst, rules, refl, Err, arith, common_steps, IsTrue, append_assoc, err_from_is_err_and, left_of, pending, IsLongerThan, TakesOf, TooLong, LINE_LENGTH}
 use Rattle.cweb_lines.proofs.Newlines.{longer_more, taken_full, taken_more}
 use Rattle.cweb_lines.proofs.text.cut.next_line.Given as given
 use Rattle.cweb_lines.proofs.text.cut.next_line.Goals as goal

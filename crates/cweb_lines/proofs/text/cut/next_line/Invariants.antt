@@ -1,8 +1,4 @@
-use Rattle.std.proofs.Common.{◌≡◌, ◌≤◌, ◌-◌, ◌++◌, length}
-use Rattle.std.specs.Prelude.{IsTrue}
-use Rattle.cweb_lines.specs.Lines.{HasNoNewline}
-use Rattle.cweb_lines.specs.Source.{left_of}
-use Rattle.cweb_lines.specs.declared.limits.TheConstants.{LINE_LENGTH}
+use Rattle.cweb_lines.proofs.Common.{◌≡◌, ◌≤◌, ◌-◌, ◌++◌, length, IsTrue, HasNoNewline, left_of, LINE_LENGTH}
 use Rattle.cweb_lines.proofs.text.cut.next_line.Given as goal
 
 abbrev pub invariant-pieces : goal.invariant-pieces

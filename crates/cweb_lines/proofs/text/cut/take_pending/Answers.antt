@@ -1,10 +1,4 @@
-use Rattle.std.proofs.Common.{◌≡◌, ◌++◌, [], ℕ, List, take, drop, ◌∙◌, ap, subst, take-append-drop, Err}
-use Rattle.std.proofs.lemmas.List.{append-nil}
-use Rattle.std.proofs.lemmas.Result.{err_from_is_err_and}
-use Rattle.std.specs.Prelude.{slice_range}
-use Rattle.cweb_lines.specs.Source.{IsLongerThan}
-use Rattle.cweb_lines.specs.declared.text.source.LineFault.TheVariants.{TooLong}
-use Rattle.cweb_lines.specs.declared.limits.TheConstants.{LINE_LENGTH}
+use Rattle.cweb_lines.proofs.Common.{◌≡◌, ◌++◌, [], ℕ, List, take, drop, ◌∙◌, ap, subst, take-append-drop, Err, append-nil, err_from_is_err_and, slice_range, IsLongerThan, TooLong, LINE_LENGTH}
 use Rattle.cweb_lines.proofs.Newlines.{longer, behind}
 use Rattle.cweb_lines.proofs.text.cut.take_pending.Goals as goal
 

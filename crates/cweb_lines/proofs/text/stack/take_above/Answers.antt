@@ -1,5 +1,4 @@
-use Rattle.std.proofs.Common.{rules, Some, sym, subst, ◌∙◌, arith}
-use Rattle.std.specs.Prelude.{IsTrue}
+use Rattle.cweb_lines.proofs.Common.{rules, Some, sym, subst, ◌∙◌, arith, IsTrue}
 use Rattle.cweb_lines.proofs.Named.{stop_after}
 use Rattle.cweb_lines.proofs.Stacks.{takes_same}
 use Rattle.cweb_lines.proofs.text.stack.take_above.Goals as goal

@@ -1,9 +1,5 @@
-use Rattle.std.proofs.Common.{◌≡◌, ◌≤◌, List, ℕ}
-use Rattle.std.specs.Prelude.{IsTrue}
-use Rattle.cweb_lines.specs.Counts.{count_of}
-use Rattle.cweb_lines.specs.Merge.{Thing}
-use Rattle.cweb_lines.specs.Naming.{AreNamed, KeepsNames}
-use Rattle.cweb_lines.specs.Texts.{AreDeep, StaysBelow, files_up_to, line_number, most, things_above}
+use Rattle.cweb_lines.proofs.Common.{◌≡◌, ◌≤◌, List, ℕ, IsTrue, count_of, Thing, AreNamed, KeepsNames, AreDeep, StaysBelow, files_up_to, line_number, things_above}
+use Rattle.cweb_lines.specs.Texts.{most}
 use Rattle.cweb_lines.proofs.text.stack.take_above.Given as goal
 
 abbrev pub invariant-texts : goal.invariant-texts

@@ -1,8 +1,5 @@
-use Rattle.std.proofs.Common.{rules, ◌<◌, ◌≡◌, ◌-◌, ◌+◌, length, refl, sym, subst, ◌∙◌, arith, set, None}
-use Rattle.std.proofs.lemmas.List.{set-set}
-use Rattle.cweb_lines.specs.Counts.{count_of}
-use Rattle.cweb_lines.specs.Naming.{AreNamed}
-use Rattle.cweb_lines.specs.Texts.{line_number, files_up_to, most}
+use Rattle.cweb_lines.proofs.Common.{rules, ◌<◌, ◌≡◌, ◌-◌, ◌+◌, length, refl, sym, subst, ◌∙◌, arith, set, None, set-set, count_of, AreNamed, line_number, files_up_to}
+use Rattle.cweb_lines.specs.Texts.{most}
 use Rattle.cweb_lines.proofs.Named.{named_at, named_set}
 use Rattle.cweb_lines.proofs.Stacks.{most_read, most_set, top_taken, top_closed, top_stops, stops_map, stays_below, deep-at, deep-set}
 use Rattle.cweb_lines.proofs.text.stack.take_top.Goals as goal

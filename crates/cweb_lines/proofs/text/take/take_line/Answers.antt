@@ -1,7 +1,4 @@
-use Rattle.std.proofs.Common.{rules, ◌+◌, ◌∙◌, ap, Err}
-use Rattle.cweb_lines.specs.Counts.{count_of}
-use Rattle.cweb_lines.specs.Source.{left_of}
-use Rattle.cweb_lines.specs.Texts.{read_blame}
+use Rattle.cweb_lines.proofs.Common.{rules, ◌+◌, ◌∙◌, ap, Err, count_of, left_of, read_blame}
 use Rattle.cweb_lines.proofs.Named.{blames_line, blames_none}
 use Rattle.cweb_lines.proofs.Trims.{takes_first, line_stops, line_reads, line_names, first_passes}
 use Rattle.cweb_lines.proofs.text.take.take_line.Goals as goal

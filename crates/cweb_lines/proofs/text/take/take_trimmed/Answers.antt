@@ -1,6 +1,4 @@
-use Rattle.std.proofs.Common.{◌∙◌, ℕ, List, length, ap, subst, rules, arith, Err, Ok}
-use Rattle.std.proofs.lemmas.Grind.{common_steps}
-use Rattle.cweb_lines.specs.Source.{BlamesReader, left_of, Takes}
+use Rattle.cweb_lines.proofs.Common.{◌∙◌, ℕ, List, length, ap, subst, rules, arith, Err, Ok, common_steps, BlamesReader, left_of, Takes}
 use Rattle.cweb_lines.proofs.Trims.{trimmed-line, trimmed-length, whole_line-one, whole_line-gains}
 use Rattle.cweb_lines.proofs.text.take.take_trimmed.Goals as goal
 

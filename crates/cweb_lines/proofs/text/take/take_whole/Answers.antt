@@ -1,6 +1,4 @@
-use Rattle.std.proofs.Common.{take, ◌∙◌, arith}
-use Rattle.std.proofs.lemmas.List.{length-take}
-use Rattle.std.specs.Prelude.{slice_range}
+use Rattle.cweb_lines.proofs.Common.{take, ◌∙◌, arith, length-take, slice_range}
 use Rattle.cweb_lines.proofs.Newlines.{behind}
 use Rattle.cweb_lines.proofs.text.take.take_whole.Goals as goal
 

@@ -1,5 +1,4 @@
-use Rattle.std.proofs.Common.{◌≡◌, ◌+◌, ◌-◌, ◌<◌, length, take, sym, ◌∙◌, ap, subst, arith}
-use Rattle.cweb_lines.specs.Lines.{trimmed}
+use Rattle.cweb_lines.proofs.Common.{◌≡◌, ◌+◌, ◌-◌, ◌<◌, length, take, sym, ◌∙◌, ap, subst, arith, trimmed}
 use Rattle.cweb_lines.proofs.Trims.{trims_more, trims_all}
 use Rattle.cweb_lines.proofs.text.take.trimmed_length.Goals as goal
 

@@ -1,5 +1,4 @@
-use Rattle.std.proofs.Common.{◌≡◌, ◌≤◌, length, take}
-use Rattle.cweb_lines.specs.Lines.{trimmed}
+use Rattle.cweb_lines.proofs.Common.{◌≡◌, ◌≤◌, length, take, trimmed}
 use Rattle.cweb_lines.proofs.text.take.trimmed_length.Given as goal
 
 abbrev pub invariant-blanks : goal.invariant-blanks

@@ -1,4 +1,4 @@
-use Rattle.std.proofs.Common.{ℕ, List, [], ◌∷◌, ◌++◌, ◌∙◌, ap, refl, arith}
+use Rattle.cweb_lines.proofs.Common.{ℕ, List, [], ◌∷◌, ◌++◌, ◌∙◌, ap, refl, arith}
 use Rattle.cweb_lines.proofs.Passes.{passes_next, passes_nothing, passes_then}
 use Rattle.cweb_lines.proofs.writing.pass.pass_lines.Goals as goal
 

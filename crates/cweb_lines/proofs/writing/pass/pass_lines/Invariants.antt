@@ -1,5 +1,4 @@
-use Rattle.std.proofs.Common.{◌≡◌, ◌-◌}
-use Rattle.cweb_lines.specs.Passing.{PassesLines}
+use Rattle.cweb_lines.proofs.Common.{◌≡◌, ◌-◌, PassesLines}
 use Rattle.cweb_lines.proofs.writing.pass.pass_lines.Given as goal
 
 abbrev pub invariant-lines : goal.invariant-lines

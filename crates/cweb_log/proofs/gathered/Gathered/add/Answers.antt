@@ -1,5 +1,4 @@
-use Rattle.std.proofs.Common.{arith}
-use Rattle.std.proofs.lemmas.Grind.{common_steps}
+use Rattle.cweb_log.proofs.Common.{arith, common_steps}
 use Rattle.cweb_log.proofs.gathered.Gathered.add.Goals as goal
 
 pub returns-then-part-self-2 : goal.returns-then-part-self-2

@@ -1,4 +1,4 @@
-use Rattle.std.proofs.Common.{Bor, List, ℕ, arith}
+use Rattle.cweb_log.proofs.Common.{Bor, List, ℕ, arith}
 use Rattle.cweb_log.proofs.Gathering.{gathers_none, gathers_next, gathers_failed, gathers_all}
 use Rattle.cweb_log.proofs.gathered.Gathered.add_line.Goals as goal
 

@@ -1,8 +1,4 @@
-use Rattle.std.proofs.Common.{Ok, take}
-use Rattle.cweb_files.specs.declared.device.SinkFault.{SinkFault}
-use Rattle.cweb_log.specs.Gathered.{pending}
-use Rattle.cweb_log.specs.Gathering.{GathersMore, joined}
-use Rattle.cweb_log.specs.Seen.{seen_stream}
+use Rattle.cweb_log.proofs.Common.{Ok, take, SinkFault, pending, GathersMore, joined, seen_stream}
 use Rattle.cweb_log.proofs.gathered.Gathered.add_line.Given as goal
 
 abbrev pub invariant-parts : goal.invariant-parts

@@ -1,6 +1,5 @@
-use Rattle.std.proofs.Common.{◌≡◌, sym, ◌∙◌, ap, map}
-use Rattle.std.specs.Option.{option_copied, option_map}
-use Rattle.cweb_log.specs.Options.{TangleNames, named_by, options_by}
+use Rattle.cweb_log.proofs.Common.{◌≡◌, sym, ◌∙◌, ap, map, option_copied, TangleNames, named_by, options_by}
+use Rattle.std.specs.Option.{option_map}
 use Rattle.cweb_log.proofs.Asking.{asks, copied_none, ok_from, usage_from}
 use Rattle.cweb_log.proofs.options.Options.read.Goals as goal
 

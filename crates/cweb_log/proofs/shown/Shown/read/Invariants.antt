@@ -1,5 +1,4 @@
-use Rattle.std.proofs.Common.{◌≡◌, drop, map}
-use Rattle.cweb_log.specs.Options.{words_shown, shown_by_default}
+use Rattle.cweb_log.proofs.Common.{◌≡◌, drop, map, words_shown, shown_by_default}
 use Rattle.cweb_log.proofs.shown.Shown.read.Given as goal
 
 abbrev pub invariant-words : goal.invariant-words

@@ -1,5 +1,4 @@
-use Rattle.std.proofs.Common.{◌≡◌, drop}
-use Rattle.cweb_log.specs.Options.{letters_shown}
+use Rattle.cweb_log.proofs.Common.{◌≡◌, drop, letters_shown}
 use Rattle.cweb_log.proofs.shown.Shown.with_letters.Given as goal
 
 abbrev pub invariant-letters : goal.invariant-letters

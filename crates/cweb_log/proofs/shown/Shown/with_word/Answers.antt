@@ -1,5 +1,4 @@
-use Rattle.std.proofs.Common.{arith}
-use Rattle.std.proofs.lemmas.Grind.{common_steps}
+use Rattle.cweb_log.proofs.Common.{arith, common_steps}
 use Rattle.cweb_log.proofs.shown.Shown.with_word.Goals as goal
 
 pub returns-in-len1-up : goal.returns-in-len1-up

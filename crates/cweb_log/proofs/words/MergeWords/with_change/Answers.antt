@@ -1,4 +1,4 @@
-use Rattle.std.proofs.Common.{rules}
+use Rattle.cweb_log.proofs.Common.{rules}
 use Rattle.cweb_log.proofs.words.MergeWords.with_change.Goals as goal
 
 pub returns-clause-ok : goal.returns-clause-ok

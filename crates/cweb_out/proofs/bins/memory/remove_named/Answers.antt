@@ -1,5 +1,4 @@
-use Rattle.std.proofs.Common.{rules}
-use Rattle.std.proofs.lemmas.Fn.{filter_same}
+use Rattle.cweb_out.proofs.Common.{rules, filter_same}
 use Rattle.cweb_out.proofs.bins.memory.remove_named.Goals as goal
 
 pub returns-clause-others : goal.returns-clause-others

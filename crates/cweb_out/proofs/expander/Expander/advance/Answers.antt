@@ -1,9 +1,4 @@
-use Rattle.std.proofs.Common.{◌≡◌, ◌-◌, arith, ◌∙◌, subst, sym, vec_capacity, refl}
-use Rattle.std.specs.Prelude.{vec_len, slice_set}
-use Rattle.std.proofs.lemmas.List.{take-set}
-use Rattle.cweb_store.specs.Calls.{Stored}
-use Rattle.cweb_store.specs.Seen.{seen}
-use Rattle.cweb_out.specs.Frames.{Stands}
+use Rattle.cweb_out.proofs.Common.{◌≡◌, ◌-◌, arith, ◌∙◌, subst, sym, vec_capacity, refl, vec_len, slice_set, take-set, Stored, seen, Stands}
 use Rattle.cweb_out.proofs.Tops.{HasTop, TopMoved, lower, stands_lower, top_ended, top_moved}
 use Rattle.cweb_out.proofs.expander.Expander.advance.Goals as goal
 

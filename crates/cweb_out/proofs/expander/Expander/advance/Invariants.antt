@@ -1,6 +1,4 @@
-use Rattle.std.proofs.Common.{◌≡◌, ◌≤◌, length, vec_capacity}
-use Rattle.cweb_out.specs.Uses.{names}
-use Rattle.cweb_out.specs.Frames.{Stands, left, work_of}
+use Rattle.cweb_out.proofs.Common.{◌≡◌, ◌≤◌, length, vec_capacity, names, Stands, left, work_of}
 use Rattle.cweb_out.proofs.expander.Expander.advance.Given as goal
 
 abbrev pub invariant-frames : goal.invariant-frames

@@ -1,9 +1,4 @@
-use Rattle.std.proofs.Common.{◌≡◌, ◌∷◌, vec_capacity, sym, ap, ◌∙◌, subst, Some, length, rules}
-use Rattle.std.specs.Prelude.{All}
-use Rattle.cweb_store.specs.Parts.{all_tokens}
-use Rattle.cweb_store.specs.Calls.{Stored}
-use Rattle.cweb_out.specs.Uses.{stands, joined}
-use Rattle.cweb_out.specs.Frames.{IsRun, runs_tokens}
+use Rattle.cweb_out.proofs.Common.{◌≡◌, ◌∷◌, vec_capacity, sym, ap, ◌∙◌, subst, Some, length, rules, All, all_tokens, Stored, stands, joined, IsRun, runs_tokens}
 use Rattle.cweb_out.proofs.StackUses.{Entered, entered}
 use Rattle.cweb_out.proofs.expander.Expander.enter.Goals as goal
 

@@ -1,9 +1,4 @@
-use Rattle.std.proofs.Common.{◌≡◌, ◌∙◌, ◌++◌, ◌-◌, ap, arith, refl, subst, sym, vec_capacity, List}
-use Rattle.std.specs.Prelude.{vec_len, slice_set}
-use Rattle.std.proofs.lemmas.List.{take-set}
-use Rattle.cweb_store.specs.Calls.{Stored}
-use Rattle.cweb_store.specs.Parts.{Token, Name}
-use Rattle.cweb_out.specs.Frames.{Stands, left}
+use Rattle.cweb_out.proofs.Common.{◌≡◌, ◌∙◌, ◌++◌, ◌-◌, ap, arith, refl, subst, sym, vec_capacity, List, vec_len, slice_set, take-set, Stored, Token, Name, Stands, left}
 use Rattle.cweb_out.proofs.Gathers.{front_more, front_of}
 use Rattle.cweb_out.proofs.Leaving.{TopGone, TopUsed, top_gone, top_used}
 use Rattle.cweb_out.proofs.Passes.{TopPassed, top_passed}

@@ -1,8 +1,4 @@
-use Rattle.std.proofs.Common.{◌≡◌, vec_capacity}
-use Rattle.cweb_out.specs.Uses.{names}
-use Rattle.cweb_out.specs.Frames.{Stands, left, work_of}
-use Rattle.cweb_out.specs.Gathering.{PrintsFront}
-use Rattle.cweb_out.specs.Printed.{setting_of}
+use Rattle.cweb_out.proofs.Common.{◌≡◌, vec_capacity, names, Stands, left, work_of, PrintsFront, setting_of}
 use Rattle.cweb_out.proofs.expander.Expander.gather.Given as goal
 
 abbrev pub invariant-frames : goal.invariant-frames

@@ -1,10 +1,4 @@
-use Rattle.std.proofs.Common.{◌≡◌, ◌+◌, ◌++◌, ◌∷◌, [], arith, ap, sym, ◌∙◌, vec_capacity}
-use Rattle.std.specs.List.{list_all}
-use Rattle.cweb_store.specs.Calls.{Stored}
-use Rattle.cweb_out.specs.Uses.{names, uses}
-use Rattle.cweb_out.specs.Ranks.{ends_below}
-use Rattle.cweb_out.specs.Frames.{suffix, AreBelow}
-use Rattle.cweb_out.specs.Outputs.{root_list}
+use Rattle.cweb_out.proofs.Common.{◌≡◌, ◌+◌, ◌++◌, ◌∷◌, [], arith, ap, sym, ◌∙◌, vec_capacity, list_all, Stored, names, uses, ends_below, suffix, AreBelow, root_list}
 use Rattle.cweb_out.proofs.StackUses.{Stands-one}
 use Rattle.cweb_out.proofs.Roots.{root_below}
 use Rattle.cweb_out.proofs.expander.Expander.new.Goals as goal

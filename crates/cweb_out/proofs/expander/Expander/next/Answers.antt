@@ -1,4 +1,4 @@
-use Rattle.std.proofs.Common.{rules}
+use Rattle.cweb_out.proofs.Common.{rules}
 use Rattle.cweb_out.proofs.expander.Expander.next.Goals as goal
 
 pub enter-requires-clause-some : goal.enter-requires-clause-some

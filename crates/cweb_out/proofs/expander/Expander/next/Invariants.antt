@@ -1,6 +1,4 @@
-use Rattle.std.proofs.Common.{◌≡◌, vec_capacity}
-use Rattle.cweb_out.specs.Uses.{names}
-use Rattle.cweb_out.specs.Frames.{Stands, left, work_of}
+use Rattle.cweb_out.proofs.Common.{◌≡◌, vec_capacity, names, Stands, left, work_of}
 use Rattle.cweb_out.proofs.expander.Expander.next.Given as goal
 
 abbrev pub invariant-tokens : goal.invariant-tokens

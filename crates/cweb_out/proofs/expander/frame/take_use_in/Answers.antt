@@ -1,7 +1,4 @@
-use Rattle.std.proofs.Common.{◌++◌, ◌∙◌, [], ap, arith, refl, Some}
-use Rattle.std.specs.Prelude.{slice_range}
-use Rattle.cweb_store.specs.Parts.{Name, all_tokens}
-use Rattle.cweb_store.specs.Seen.{seen}
+use Rattle.cweb_out.proofs.Common.{◌++◌, ◌∙◌, [], ap, arith, refl, Some, slice_range, Name, all_tokens, seen}
 use Rattle.cweb_store.proofs.RangeLemmas.{range-split, range-head}
 use Rattle.cweb_out.proofs.expander.frame.take_use_in.Goals as goal
 

@@ -1,5 +1,4 @@
-use Rattle.std.proofs.Common.{◌≤◌, ◌++◌, ◌∙◌, ap, arith, length, take, List, ℕ}
-use Rattle.std.proofs.lemmas.List.{length-take-le}
+use Rattle.cweb_out.proofs.Common.{◌≤◌, ◌++◌, ◌∙◌, ap, arith, length, take, List, ℕ, length-take-le}
 use Rattle.cweb_out.proofs.Overlaps.{whole_again}
 use Rattle.cweb_out.proofs.gathered.Gathered.add.Goals as goal
 

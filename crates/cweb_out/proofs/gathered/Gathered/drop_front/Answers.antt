@@ -1,5 +1,4 @@
-use Rattle.std.proofs.Common.{◌≤◌, ◌∙◌, ap, drop, length, arith}
-use Rattle.std.proofs.lemmas.List.{length-take-le}
+use Rattle.cweb_out.proofs.Common.{◌≤◌, ◌∙◌, ap, drop, length, arith, length-take-le}
 use Rattle.cweb_out.proofs.Overlaps.{rest_in_front}
 use Rattle.cweb_out.proofs.gathered.Gathered.drop_front.Goals as goal
 

@@ -1,5 +1,4 @@
-use Rattle.std.proofs.Common.{◌++◌, ◌∙◌, ap, append_assoc, arith, take, List, ℕ, rules}
-use Rattle.cweb_out.specs.Lent.{blank_where}
+use Rattle.cweb_out.proofs.Common.{◌++◌, ◌∙◌, ap, append_assoc, arith, take, List, ℕ, rules, blank_where}
 use Rattle.cweb_out.proofs.Overlaps.{front_stays}
 use Rattle.cweb_out.proofs.gathered.putting.keep.Goals as goal
 

@@ -1,5 +1,4 @@
-use Rattle.std.proofs.Common.{arith}
-use Rattle.std.proofs.lemmas.Grind.{common_steps}
+use Rattle.cweb_out.proofs.Common.{arith, common_steps}
 use Rattle.cweb_out.proofs.gathered.putting.put_blank.Goals as goal
 
 pub returns-else-is_wanted-clause-put : goal.returns-else-is_wanted-clause-put

@@ -1,5 +1,4 @@
-use Rattle.std.proofs.Common.{arith, rules}
-use Rattle.std.proofs.lemmas.Grind.{common_steps}
+use Rattle.cweb_out.proofs.Common.{arith, rules, common_steps}
 use Rattle.cweb_out.proofs.gathered.putting.put_chunk.Goals as goal
 
 pub returns-clause-end : goal.returns-clause-end

@@ -1,5 +1,4 @@
-use Rattle.std.proofs.Common.{◌≡◌, ◌+◌, ◌-◌, ◌++◌, ◌∙◌, ap, length, take, drop, arith, sym, List, ℕ}
-use Rattle.std.proofs.lemmas.List.{length-take-le}
+use Rattle.cweb_out.proofs.Common.{◌≡◌, ◌+◌, ◌-◌, ◌++◌, ◌∙◌, ap, length, take, drop, arith, sym, List, ℕ, length-take-le}
 use Rattle.cweb_out.proofs.Overlaps.{overlapped, taken_twice}
 use Rattle.cweb_out.proofs.gathered.putting.put_ends.Goals as goal
 

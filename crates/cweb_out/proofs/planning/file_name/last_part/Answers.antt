@@ -1,7 +1,4 @@
-use Rattle.std.proofs.Common.{◌≡◌, ◌≤◌, ◌-◌, ◌∙◌, sym, ap, arith, length, drop, not, length-drop}
-use Rattle.std.specs.List.{suffix_len}
-use Rattle.std.proofs.lemmas.List.Sums.{suffix_len_is}
-use Rattle.cweb_out.specs.Outputs.{is_slash}
+use Rattle.cweb_out.proofs.Common.{◌≡◌, ◌≤◌, ◌-◌, ◌∙◌, sym, ap, arith, length, drop, not, length-drop, suffix_len, suffix_len_is, is_slash}
 use Rattle.cweb_out.proofs.Finds.{take-whole}
 use Rattle.cweb_out.proofs.planning.file_name.last_part.Goals as goal
 

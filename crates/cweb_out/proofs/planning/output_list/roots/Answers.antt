@@ -1,11 +1,5 @@
-use Rattle.std.proofs.Common.{◌≡◌, ◌∷◌, ◌∙◌, ap, arith, length, Some, None, map, List}
-use Rattle.std.proofs.lemmas.Grind.{common_steps}
-use Rattle.std.specs.Prelude.{filter}
-use Rattle.cweb_store.specs.declared.names.NameId.{NameId}
-use Rattle.cweb_store.specs.Calls.{Stored}
+use Rattle.cweb_out.proofs.Common.{◌≡◌, ◌∷◌, ◌∙◌, ap, arith, length, Some, None, map, List, common_steps, filter, NameId, Stored, has_part, outputs}
 use Rattle.cweb_store.specs.Names as spec
-use Rattle.cweb_store.specs.Faults.{has_part}
-use Rattle.cweb_out.specs.Outputs.{outputs}
 use Rattle.cweb_out.proofs.FileNames.{outputs-few}
 use Rattle.cweb_out.proofs.Finds.{take-whole}
 use Rattle.cweb_out.proofs.planning.output_list.roots.Goals as goal

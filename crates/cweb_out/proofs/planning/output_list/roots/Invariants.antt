@@ -1,8 +1,5 @@
-use Rattle.std.proofs.Common.{◌≡◌, ◌∷◌, take, Some, None, map}
-use Rattle.std.specs.Prelude.{All, filter}
+use Rattle.cweb_out.proofs.Common.{◌≡◌, ◌∷◌, take, Some, None, map, All, filter, has_part, IsRoot}
 use Rattle.cweb_store.specs.Names as spec
-use Rattle.cweb_store.specs.Faults.{has_part}
-use Rattle.cweb_out.specs.Outputs.{IsRoot}
 use Rattle.cweb_out.proofs.planning.output_list.roots.Given as goal
 
 abbrev pub invariant-files : goal.invariant-files

@@ -1,7 +1,4 @@
-use Rattle.std.proofs.Common.{◌≡◌, None, [], take}
-use Rattle.std.specs.Prelude.{find}
-use Rattle.cweb_out.specs.Search.{Fits}
-use Rattle.cweb_out.specs.Planning.{is_endless}
+use Rattle.cweb_out.proofs.Common.{◌≡◌, None, [], take, find, Fits, is_endless}
 use Rattle.cweb_out.proofs.planning.search.first_cycle.Given as goal
 
 abbrev pub invariant-roots : goal.invariant-roots

@@ -1,10 +1,4 @@
-use Rattle.std.proofs.Common.{rules, ◌≡◌, ◌∷◌, ◌∙◌, ap, sym, arith, true, false, ◌&&◌, refl}
-use Rattle.std.proofs.lemmas.Grind.{common_steps}
-use Rattle.std.specs.Prelude.{option_to_list}
-use Rattle.std.specs.List.{list_all}
-use Rattle.cweb_store.specs.Parts.{Name}
-use Rattle.cweb_out.specs.Frames.{suffix}
-use Rattle.cweb_out.specs.Search.{is_marked}
+use Rattle.cweb_out.proofs.Common.{rules, ◌≡◌, ◌∷◌, ◌∙◌, ap, sym, arith, true, false, ◌&&◌, refl, common_steps, option_to_list, list_all, Name, suffix, is_marked}
 use Rattle.cweb_out.proofs.FirstUses.{none-used, use-shorter}
 use Rattle.cweb_out.proofs.Lookings.{passes-on, passes-more, passes-all, meets}
 use Rattle.cweb_out.proofs.planning.search.next_unranked.Goals as goal

@@ -1,6 +1,4 @@
-use Rattle.std.proofs.Common.{◌≤◌, length}
-use Rattle.cweb_out.specs.Frames.{IsWithin, suffix}
-use Rattle.cweb_out.specs.Search.{Passes}
+use Rattle.cweb_out.proofs.Common.{◌≤◌, length, IsWithin, suffix, Passes}
 use Rattle.cweb_out.proofs.planning.search.next_unranked.Given as goal
 
 abbrev pub invariant-uses : goal.invariant-uses

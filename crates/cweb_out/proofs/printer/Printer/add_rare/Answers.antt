@@ -1,5 +1,4 @@
-use Rattle.std.proofs.Common.{◌∙◌, sym, rules, arith}
-use Rattle.std.proofs.lemmas.Grind.{common_steps}
+use Rattle.cweb_out.proofs.Common.{◌∙◌, sym, rules, arith, common_steps}
 use Rattle.cweb_out.proofs.Bytes.{plain_name}
 use Rattle.cweb_out.proofs.printer.Printer.add_rare.Goals as goal
 

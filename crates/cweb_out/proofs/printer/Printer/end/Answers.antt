@@ -1,6 +1,4 @@
-use Rattle.std.proofs.Common.{◌≡◌, ◌++◌, ◌∙◌, ap, sym, List, ℕ, rules}
-use Rattle.cweb_out.specs.Printing.{print, file}
-use Rattle.cweb_out.specs.Printed.{kept_of, setting_of}
+use Rattle.cweb_out.proofs.Common.{◌≡◌, ◌++◌, ◌∙◌, ap, sym, List, ℕ, rules, print, file, kept_of, setting_of}
 use Rattle.cweb_out.proofs.Fronts.{wrote_err}
 use Rattle.cweb_out.proofs.Prints.{adds_by}
 use Rattle.cweb_out.proofs.Steps.{file-end}

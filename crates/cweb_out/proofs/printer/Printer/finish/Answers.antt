@@ -1,7 +1,4 @@
-use Rattle.std.proofs.Common.{◌≡◌, ◌++◌, ◌∙◌, [], ap, append-nil, sym, subst, List, ℕ}
-use Rattle.std.specs.Prelude.{IsTrue}
-use Rattle.cweb_out.specs.Printing.{print, file}
-use Rattle.cweb_out.specs.Printed.{kept_of, setting_of}
+use Rattle.cweb_out.proofs.Common.{◌≡◌, ◌++◌, ◌∙◌, [], ap, append-nil, sym, subst, List, ℕ, IsTrue, print, file, kept_of, setting_of}
 use Rattle.cweb_out.proofs.Fronts.{wrote_err}
 use Rattle.cweb_out.proofs.Moving.{adds_none, behind, moved_same}
 use Rattle.cweb_out.proofs.Prints.{adds_by}

@@ -1,12 +1,4 @@
-use Rattle.std.proofs.Common.{◌++◌, ◌∷◌, [], ◌∙◌, ap, append_assoc, sym, subst, refl, List, ℕ, arith}
-use Rattle.std.proofs.lemmas.Grind.{common_steps}
-use Rattle.std.specs.Prelude.{IsTrue}
-use Rattle.cweb_store.specs.Parts.{Defs}
-use Rattle.cweb_store.specs.Seen.{seen}
-use Rattle.cweb_out.specs.Printing.{print}
-use Rattle.cweb_out.specs.Classes.{added, file_by}
-use Rattle.cweb_out.specs.declared.printer.Printer.{Printer}
-use Rattle.cweb_out.specs.Printed.{Prints, kept_of, setting_of}
+use Rattle.cweb_out.proofs.Common.{◌++◌, ◌∷◌, [], ◌∙◌, ap, append_assoc, sym, subst, refl, List, ℕ, arith, common_steps, IsTrue, Defs, seen, print, added, file_by, Printer, Prints, kept_of, setting_of}
 use Rattle.cweb_out.proofs.Moving.{adds_at, adds_none, moved_same}
 use Rattle.cweb_out.proofs.Steps.{print-push}
 use Rattle.cweb_out.proofs.printer.Printer.gather.Goals as goal

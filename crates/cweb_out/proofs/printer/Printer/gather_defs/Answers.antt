@@ -1,8 +1,4 @@
-use Rattle.std.proofs.Common.{◌++◌, ◌∷◌, [], ◌∙◌, ap, append_assoc, sym, List, ℕ}
-use Rattle.cweb_store.specs.Parts.{Defs}
-use Rattle.cweb_out.specs.Classes.{added, file_by, left_by}
-use Rattle.cweb_out.specs.Printed.{kept_of, setting_of}
-use Rattle.cweb_out.specs.Printing.{macro_lines, print}
+use Rattle.cweb_out.proofs.Common.{◌++◌, ◌∷◌, [], ◌∙◌, ap, append_assoc, sym, List, ℕ, Defs, added, file_by, left_by, kept_of, setting_of, macro_lines, print}
 use Rattle.cweb_out.proofs.Fronts.{wrote_err, wrote_more, wrote_same}
 use Rattle.cweb_out.proofs.MacroLines.{defs-added}
 use Rattle.cweb_out.proofs.Prints.{adds_by}

@@ -1,10 +1,4 @@
-use Rattle.std.proofs.Common.{rules, ◌≡◌, ◌++◌, ◌∷◌, [], ◌∙◌, ap, append-nil, sym, subst, refl, List, ℕ}
-use Rattle.std.specs.Prelude.{IsTrue}
-use Rattle.cweb_store.specs.Seen.{seen}
-use Rattle.cweb_out.specs.Printing.{print}
-use Rattle.cweb_out.specs.Classes.{added, file_by}
-use Rattle.cweb_out.specs.declared.printer.Printer.{Printer}
-use Rattle.cweb_out.specs.Printed.{Prints, kept_of, setting_of}
+use Rattle.cweb_out.proofs.Common.{rules, ◌≡◌, ◌++◌, ◌∷◌, [], ◌∙◌, ap, append-nil, sym, subst, refl, List, ℕ, IsTrue, seen, print, added, file_by, Printer, Prints, kept_of, setting_of}
 use Rattle.cweb_out.proofs.Moving.{adds_at, adds_behind, adds_none, adds_ok, moved_same}
 use Rattle.cweb_out.proofs.Steps.{print-push}
 use Rattle.cweb_out.proofs.printer.Printer.gather_other.Goals as goal

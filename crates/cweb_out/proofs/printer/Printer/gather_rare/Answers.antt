@@ -1,4 +1,4 @@
-use Rattle.std.proofs.Common.{rules}
+use Rattle.cweb_out.proofs.Common.{rules}
 use Rattle.cweb_out.proofs.printer.Printer.gather_rare.Goals as goal
 
 pub returns-clause-left : goal.returns-clause-left

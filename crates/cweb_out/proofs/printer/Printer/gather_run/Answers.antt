@@ -1,6 +1,4 @@
-use Rattle.std.proofs.Common.{◌∙◌, ap, arith, length, slice_range, subst, sym, take, List, ℕ}
-use Rattle.cweb_store.specs.Parts.{all_tokens}
-use Rattle.cweb_out.specs.Gathering.{PrintsBy}
+use Rattle.cweb_out.proofs.Common.{◌∙◌, ap, arith, length, slice_range, subst, sym, take, List, ℕ, all_tokens, PrintsBy}
 use Rattle.cweb_out.proofs.Overlaps.{whole_again}
 use Rattle.cweb_out.proofs.printer.Printer.gather_run.Goals as goal
 

@@ -1,8 +1,4 @@
-use Rattle.std.proofs.Common.{◌++◌, ◌∷◌, []}
-use Rattle.cweb_store.specs.Seen.{seen}
-use Rattle.cweb_out.specs.Printing.{print}
-use Rattle.cweb_out.specs.Classes.{added, file_by}
-use Rattle.cweb_out.specs.Printed.{kept_of, setting_of}
+use Rattle.cweb_out.proofs.Common.{◌++◌, ◌∷◌, [], seen, print, added, file_by, kept_of, setting_of}
 use Rattle.cweb_out.proofs.Fronts.{wrote_err}
 use Rattle.cweb_out.proofs.Prints.{adds_by}
 use Rattle.cweb_out.proofs.Steps.{print-push}

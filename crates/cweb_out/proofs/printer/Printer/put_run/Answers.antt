@@ -1,11 +1,4 @@
-use Rattle.std.proofs.Common.{◌++◌, ◌∙◌, [], List, Some, ap, slice_range, sym, subst, take, arith, length}
-use Rattle.std.specs.Prelude.{option_map}
-use Rattle.std.proofs.lemmas.List.{length-map}
-use Rattle.cweb_store.specs.Borders.{Bordered, lends, lent_seen}
-use Rattle.cweb_store.specs.Parts.{Token, all_tokens}
-use Rattle.cweb_out.specs.declared.printer.left.Left.{Left}
-use Rattle.cweb_out.specs.Borders.{left_behind}
-use Rattle.cweb_out.specs.Lent.{blank_where}
+use Rattle.cweb_out.proofs.Common.{◌++◌, ◌∙◌, [], List, Some, ap, slice_range, sym, subst, take, arith, length, option_map, length-map, Bordered, lends, lent_seen, Token, all_tokens, Left, left_behind, blank_where}
 use Rattle.cweb_out.proofs.Bordered.{gathers-lent}
 use Rattle.cweb_out.proofs.Lenders.{lent-at}
 use Rattle.cweb_out.proofs.MacroLines.{range_more}

@@ -1,7 +1,4 @@
-use Rattle.std.proofs.Common.{◌≡◌, ◌≤◌, ◌-◌, length, slice_range, take}
-use Rattle.cweb_store.specs.Parts.{all_tokens}
-use Rattle.cweb_out.specs.Borders.{left_behind}
-use Rattle.cweb_out.specs.declared.gathered.TheConstants.{ROOM}
+use Rattle.cweb_out.proofs.Common.{◌≡◌, ◌≤◌, ◌-◌, length, slice_range, take, all_tokens, left_behind, ROOM}
 use Rattle.cweb_out.proofs.Passing.{Passed}
 use Rattle.cweb_out.proofs.printer.Printer.put_run.Given as goal
 

@@ -1,10 +1,4 @@
-use Rattle.std.proofs.Common.{◌≡◌, ◌++◌, [], ◌∙◌, ap, sym, subst, cond, List, ℕ, false, arith}
-use Rattle.std.proofs.lemmas.Grind.{common_steps}
-use Rattle.std.specs.Prelude.{IsTrue}
-use Rattle.cweb_store.specs.Seen.{seen}
-use Rattle.cweb_out.specs.Printing.{plain_text}
-use Rattle.cweb_out.specs.Classes.{added, file_by, is_dropped, placed_text, separator}
-use Rattle.cweb_out.specs.Printed.{kept_of, setting_of}
+use Rattle.cweb_out.proofs.Common.{◌≡◌, ◌++◌, [], ◌∙◌, ap, sym, subst, cond, List, ℕ, false, arith, common_steps, IsTrue, seen, plain_text, added, file_by, is_dropped, placed_text, separator, kept_of, setting_of}
 use Rattle.cweb_out.proofs.Fronts.{second_failed}
 use Rattle.cweb_out.proofs.printer.Printer.write_token.Goals as goal
 

@@ -1,4 +1,4 @@
-use Rattle.std.proofs.Common.{◌<◌, arith}
+use Rattle.cweb_out.proofs.Common.{◌<◌, arith}
 use Rattle.cweb_out.proofs.OperatorTable.{operator_told}
 use Rattle.cweb_out.proofs.printer.class.is_operator.Goals as goal
 

@@ -1,4 +1,4 @@
-use Rattle.std.proofs.Common.{sym, ◌∙◌}
+use Rattle.cweb_out.proofs.Common.{sym, ◌∙◌}
 use Rattle.cweb_out.proofs.Lasts.{punct-last}
 use Rattle.cweb_out.proofs.printer.class.of_punctuator.Goals as goal
 

@@ -1,8 +1,4 @@
-use Rattle.std.proofs.Common.{◌++◌, ◌∙◌, ap, arith, length, take, List, ℕ}
-use Rattle.std.proofs.lemmas.Grind.{common_steps}
-use Rattle.cweb_out.specs.Frames.{run_tokens}
-use Rattle.cweb_out.specs.Printers.{replaced_in}
-use Rattle.cweb_out.specs.Printing.{macro_line}
+use Rattle.cweb_out.proofs.Common.{◌++◌, ◌∙◌, ap, arith, length, take, List, ℕ, common_steps, run_tokens, replaced_in, macro_line}
 use Rattle.cweb_out.proofs.Overlaps.{whole_again}
 use Rattle.cweb_out.proofs.printer.defines.add_macro.Goals as goal
 

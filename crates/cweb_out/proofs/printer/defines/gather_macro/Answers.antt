@@ -1,8 +1,4 @@
-use Rattle.std.proofs.Common.{◌≡◌, ◌++◌, ◌∙◌, [], List, ℕ, ap, append_assoc, append-nil, refl, subst, sym}
-use Rattle.std.specs.Prelude.{IsTrue}
-use Rattle.cweb_out.specs.Frames.{run_tokens}
-use Rattle.cweb_out.specs.Printers.{replaced_in}
-use Rattle.cweb_out.specs.Printing.{macro_line}
+use Rattle.cweb_out.proofs.Common.{◌≡◌, ◌++◌, ◌∙◌, [], List, ℕ, ap, append_assoc, append-nil, refl, subst, sym, IsTrue, run_tokens, replaced_in, macro_line}
 use Rattle.cweb_out.proofs.Fronts.{wrote_err}
 use Rattle.cweb_out.proofs.Moving.{moved_same, wrote_at}
 use Rattle.cweb_out.proofs.printer.defines.gather_macro.Goals as goal

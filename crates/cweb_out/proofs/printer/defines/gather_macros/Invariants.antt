@@ -1,6 +1,4 @@
-use Rattle.std.proofs.Common.{◌≡◌, ◌≤◌, ◌++◌, length}
-use Rattle.std.specs.Prelude.{IsTrue, All}
-use Rattle.cweb_store.specs.Parts.{all_tokens}
+use Rattle.cweb_out.proofs.Common.{◌≡◌, ◌≤◌, ◌++◌, length, IsTrue, All, all_tokens}
 use Rattle.cweb_out.proofs.Fronts.{Written}
 use Rattle.cweb_out.proofs.MacroLines.{lines, all_lines}
 use Rattle.cweb_out.proofs.printer.defines.gather_macros.Given as goal

@@ -1,8 +1,4 @@
-use Rattle.std.proofs.Common.{◌≡◌, ◌≤◌, ◌++◌, ◌∙◌, ap, arith, codes, sym, take, List, ℕ}
-use Rattle.cweb_out.specs.Classes.{all_added, at_start, macro_by}
-use Rattle.cweb_out.specs.Frames.{run_tokens}
-use Rattle.cweb_out.specs.Printers.{replaced_in}
-use Rattle.cweb_out.specs.Printing.{macro_line}
+use Rattle.cweb_out.proofs.Common.{◌≡◌, ◌≤◌, ◌++◌, ◌∙◌, ap, arith, codes, sym, take, List, ℕ, all_added, at_start, macro_by, run_tokens, replaced_in, macro_line}
 use Rattle.cweb_out.proofs.Continued.{if_some, three_put}
 use Rattle.cweb_out.proofs.Overlaps.{front_within}
 use Rattle.cweb_out.proofs.Steps.{macro-printed}

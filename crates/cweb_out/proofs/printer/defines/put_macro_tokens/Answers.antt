@@ -1,12 +1,4 @@
-use Rattle.std.proofs.Common.{◌++◌, ◌∙◌, List, ℕ, Some, ap, append-nil, arith, length, refl, sym, take}
-use Rattle.std.specs.Prelude.{option_map}
-use Rattle.std.proofs.lemmas.List.{length-map}
-use Rattle.cweb_store.specs.Borders.{Bordered, lends, lent_seen}
-use Rattle.cweb_store.specs.Parts.{Token, all_tokens}
-use Rattle.cweb_out.specs.Borders.{class_behind, left_behind, stands_apart}
-use Rattle.cweb_out.specs.Classes.{all_added, at_start, leaves, macro_by}
-use Rattle.cweb_out.specs.Lent.{blank_where}
-use Rattle.cweb_out.specs.Printers.{replaced_in}
+use Rattle.cweb_out.proofs.Common.{◌++◌, ◌∙◌, List, ℕ, Some, ap, append-nil, arith, length, refl, sym, take, option_map, length-map, Bordered, lends, lent_seen, Token, all_tokens, class_behind, left_behind, stands_apart, all_added, at_start, leaves, macro_by, blank_where, replaced_in}
 use Rattle.cweb_out.proofs.Continued.{added-continued, left-continued}
 use Rattle.cweb_out.proofs.Lenders.{lent-at}
 use Rattle.cweb_out.proofs.MacroLines.{left_more, tokens_more}

@@ -1,9 +1,4 @@
-use Rattle.std.proofs.Common.{◌≡◌, ◌≤◌, ◌++◌, length, slice_range, take}
-use Rattle.cweb_store.specs.Parts.{all_tokens}
-use Rattle.cweb_out.specs.Borders.{left_behind}
-use Rattle.cweb_out.specs.Classes.{all_added, at_start, leaves, macro_by}
-use Rattle.cweb_out.specs.Printers.{replaced_in}
-use Rattle.cweb_out.specs.declared.gathered.TheConstants.{ROOM}
+use Rattle.cweb_out.proofs.Common.{◌≡◌, ◌≤◌, ◌++◌, length, slice_range, take, all_tokens, left_behind, all_added, at_start, leaves, macro_by, replaced_in, ROOM}
 use Rattle.cweb_out.proofs.printer.defines.put_macro_tokens.Given as goal
 
 abbrev pub invariant-tokens : goal.invariant-tokens

@@ -1,5 +1,4 @@
-use Rattle.std.proofs.Common.{rules, ◌≡◌, false, ap, codes, cond, sym}
-use Rattle.cweb_out.specs.Borders.{is_line_end}
+use Rattle.cweb_out.proofs.Common.{rules, ◌≡◌, false, ap, codes, cond, sym, is_line_end}
 use Rattle.cweb_out.proofs.printer.defines.text_in_macro.Goals as goal
 
 pub returns-in_default : goal.returns-in_default

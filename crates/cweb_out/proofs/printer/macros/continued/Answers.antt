@@ -1,4 +1,4 @@
-use Rattle.std.proofs.Common.{rules}
+use Rattle.cweb_out.proofs.Common.{rules}
 use Rattle.cweb_out.proofs.printer.macros.continued.Goals as goal
 
 pub returns-in-Newline : goal.returns-in-Newline

@@ -1,9 +1,4 @@
-use Rattle.std.proofs.Common.{◌++◌, ap, sym, subst, List, ℕ, codes, refl}
-use Rattle.std.specs.Prelude.{IsTrue}
-use Rattle.cweb_out.specs.Printing.{macro_line, macro_text, printed}
-use Rattle.cweb_out.specs.Classes.{all_added, at_start, macro_by}
-use Rattle.cweb_out.specs.Printers.{replaced_in}
-use Rattle.cweb_out.specs.Frames.{run_tokens}
+use Rattle.cweb_out.proofs.Common.{◌++◌, ap, sym, subst, List, ℕ, codes, refl, IsTrue, macro_line, macro_text, printed, all_added, at_start, macro_by, replaced_in, run_tokens}
 use Rattle.cweb_out.proofs.Fronts.{first_failed, second_failed, third_last}
 use Rattle.cweb_out.proofs.Steps.{macro-printed}
 use Rattle.cweb_out.proofs.printer.macros.write_macro.Goals as goal

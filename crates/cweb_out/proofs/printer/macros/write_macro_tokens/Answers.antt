@@ -1,10 +1,4 @@
-use Rattle.std.proofs.Common.{rules, ◌<◌, ◌+◌, ◌∙◌, sym, subst, arith}
-use Rattle.std.specs.Prelude.{IsTrue, slice_range}
-use Rattle.cweb_store.specs.Parts.{all_tokens}
-use Rattle.cweb_store.specs.Seen.{seen}
-use Rattle.cweb_out.specs.Classes.{added, all_added, at_start, left_by, macro_by}
-use Rattle.cweb_out.specs.Printers.{replaced_in}
-use Rattle.cweb_out.specs.Frames.{run_tokens}
+use Rattle.cweb_out.proofs.Common.{rules, ◌<◌, ◌+◌, ◌∙◌, sym, subst, arith, IsTrue, slice_range, all_tokens, seen, added, all_added, at_start, left_by, macro_by, replaced_in, run_tokens}
 use Rattle.cweb_out.proofs.Fronts.{second_failed}
 use Rattle.cweb_out.proofs.MacroLines.{left_more, tokens_at, tokens_more}
 use Rattle.cweb_out.proofs.printer.macros.write_macro_tokens.Goals as goal

@@ -1,8 +1,4 @@
-use Rattle.std.proofs.Common.{◌≡◌, ◌≤◌, ◌++◌}
-use Rattle.std.specs.Prelude.{IsTrue, slice_range}
-use Rattle.cweb_store.specs.Parts.{all_tokens}
-use Rattle.cweb_out.specs.Classes.{all_added, at_start, leaves, macro_by}
-use Rattle.cweb_out.specs.Printers.{replaced_in}
+use Rattle.cweb_out.proofs.Common.{◌≡◌, ◌≤◌, ◌++◌, IsTrue, slice_range, all_tokens, all_added, at_start, leaves, macro_by, replaced_in}
 use Rattle.cweb_out.proofs.printer.macros.write_macro_tokens.Given as goal
 
 abbrev pub invariant-tokens : goal.invariant-tokens

@@ -1,10 +1,4 @@
-use Rattle.std.proofs.Common.{rules, ◌≡◌, ◌≤◌, ◌∷◌, ◌∙◌, ap, sym, subst, refl, length, List, ℕ}
-use Rattle.std.specs.Prelude.{IsTrue}
-use Rattle.cweb_store.specs.declared.parts.Part.{Part}
-use Rattle.cweb_store.specs.Parts.{all_tokens}
-use Rattle.cweb_out.specs.Printing.{macro_line}
-use Rattle.cweb_out.specs.Printers.{replaced_in}
-use Rattle.cweb_out.specs.Frames.{run_tokens}
+use Rattle.cweb_out.proofs.Common.{rules, ◌≡◌, ◌≤◌, ◌∷◌, ◌∙◌, ap, sym, subst, refl, length, List, ℕ, IsTrue, Part, all_tokens, macro_line, replaced_in, run_tokens}
 use Rattle.cweb_out.proofs.Fronts.{Written, written_none, written_more, written_front, wrote_err}
 use Rattle.cweb_out.proofs.MacroLines.{All-tail, all_lines, lines, lines_are}
 use Rattle.cweb_out.proofs.printer.macros.write_macros.Goals as goal

@@ -1,5 +1,4 @@
-use Rattle.std.proofs.Common.{rules, ◌≡◌, ◌++◌, ◌∙◌, ap, sym, List, ℕ, codes, decimal}
-use Rattle.cweb_out.specs.Printing.{mark_line, quoted}
+use Rattle.cweb_out.proofs.Common.{rules, ◌≡◌, ◌++◌, ◌∙◌, ap, sym, List, ℕ, codes, decimal, mark_line, quoted}
 use Rattle.cweb_out.proofs.Fronts.{wrote_same}
 use Rattle.cweb_out.proofs.Bytes.{plain_name}
 use Rattle.cweb_out.proofs.printer.mark.write_mark.Goals as goal

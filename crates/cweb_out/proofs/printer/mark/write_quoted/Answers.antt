@@ -1,7 +1,4 @@
-use Rattle.std.proofs.Common.{take, drop, sym, subst, suc, List, ℕ, arith}
-use Rattle.std.proofs.lemmas.Grind.{common_steps}
-use Rattle.std.specs.Prelude.{IsTrue}
-use Rattle.cweb_out.specs.Printing.{quoted_byte, quoted}
+use Rattle.cweb_out.proofs.Common.{take, drop, sym, subst, suc, List, ℕ, arith, common_steps, IsTrue, quoted_byte, quoted}
 use Rattle.cweb_out.proofs.Fronts.{flat_at, front_in, wrote_err}
 use Rattle.cweb_out.proofs.printer.mark.write_quoted.Goals as goal
 

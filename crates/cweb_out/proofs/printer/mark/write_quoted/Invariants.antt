@@ -1,6 +1,4 @@
-use Rattle.std.proofs.Common.{◌≡◌, ◌++◌, take}
-use Rattle.std.specs.Prelude.{IsTrue}
-use Rattle.cweb_out.specs.Printing.{quoted}
+use Rattle.cweb_out.proofs.Common.{◌≡◌, ◌++◌, take, IsTrue, quoted}
 use Rattle.cweb_out.proofs.printer.mark.write_quoted.Given as goal
 
 abbrev pub invariant-bytes : goal.invariant-bytes

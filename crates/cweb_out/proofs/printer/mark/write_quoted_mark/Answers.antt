@@ -1,6 +1,4 @@
-use Rattle.std.proofs.Common.{◌≡◌, ◌++◌, [], ◌∙◌, ap, sym, subst, List, ℕ, codes, decimal, append_assoc}
-use Rattle.std.specs.Prelude.{IsTrue}
-use Rattle.cweb_out.specs.Printing.{mark_line, quoted}
+use Rattle.cweb_out.proofs.Common.{◌≡◌, ◌++◌, [], ◌∙◌, ap, sym, subst, List, ℕ, codes, decimal, append_assoc, IsTrue, mark_line, quoted}
 use Rattle.cweb_out.proofs.Fronts.{Written, written_none, written_more, written_front, written_last, wrote_err}
 use Rattle.cweb_out.proofs.printer.mark.write_quoted_mark.Goals as goal
 

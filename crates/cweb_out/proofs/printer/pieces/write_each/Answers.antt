@@ -1,6 +1,4 @@
-use Rattle.std.proofs.Common.{take, drop, sym, subst, suc, Bor, List, ℕ, arith}
-use Rattle.std.proofs.lemmas.Grind.{common_steps}
-use Rattle.std.specs.Prelude.{IsTrue, flat_map}
+use Rattle.cweb_out.proofs.Common.{take, drop, sym, subst, suc, Bor, List, ℕ, arith, common_steps, IsTrue, flat_map}
 use Rattle.cweb_out.proofs.Fronts.{pieces_at, front_in, wrote_err}
 use Rattle.cweb_out.proofs.printer.pieces.write_each.Goals as goal
 

@@ -1,5 +1,4 @@
-use Rattle.std.proofs.Common.{◌≡◌, ◌++◌, take}
-use Rattle.std.specs.Prelude.{IsTrue, flat_map}
+use Rattle.cweb_out.proofs.Common.{◌≡◌, ◌++◌, take, IsTrue, flat_map}
 use Rattle.cweb_out.proofs.printer.pieces.write_each.Given as goal
 
 abbrev pub invariant-pieces : goal.invariant-pieces

@@ -1,6 +1,4 @@
-use Rattle.std.proofs.Common.{rules, sym}
-use Rattle.cweb_out.specs.Printing.{word_text}
-use Rattle.cweb_out.specs.Printers.{replaced_in}
+use Rattle.cweb_out.proofs.Common.{rules, sym, word_text, replaced_in}
 use Rattle.cweb_out.proofs.Fronts.{wrote_same}
 use Rattle.cweb_out.proofs.Bytes.{ascii_word}
 use Rattle.cweb_out.proofs.printer.text.write_word.Goals as goal

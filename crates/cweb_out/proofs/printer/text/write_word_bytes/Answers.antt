@@ -1,8 +1,4 @@
-use Rattle.std.proofs.Common.{take, drop, sym, subst, suc, List, ℕ, arith}
-use Rattle.std.proofs.lemmas.Grind.{common_steps}
-use Rattle.std.specs.Prelude.{IsTrue}
-use Rattle.cweb_out.specs.Printing.{word_byte, word_text}
-use Rattle.cweb_out.specs.Printers.{replaced_in}
+use Rattle.cweb_out.proofs.Common.{take, drop, sym, subst, suc, List, ℕ, arith, common_steps, IsTrue, word_byte, word_text, replaced_in}
 use Rattle.cweb_out.proofs.Fronts.{flat_at, front_in, wrote_err}
 use Rattle.cweb_out.proofs.printer.text.write_word_bytes.Goals as goal
 

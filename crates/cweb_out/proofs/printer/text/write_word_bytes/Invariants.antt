@@ -1,7 +1,4 @@
-use Rattle.std.proofs.Common.{◌≡◌, ◌++◌, take}
-use Rattle.std.specs.Prelude.{IsTrue}
-use Rattle.cweb_out.specs.Printing.{word_text}
-use Rattle.cweb_out.specs.Printers.{replaced_in}
+use Rattle.cweb_out.proofs.Common.{◌≡◌, ◌++◌, take, IsTrue, word_text, replaced_in}
 use Rattle.cweb_out.proofs.printer.text.write_word_bytes.Given as goal
 
 abbrev pub invariant-bytes : goal.invariant-bytes

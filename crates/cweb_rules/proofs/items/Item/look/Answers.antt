@@ -1,4 +1,4 @@
-use Rattle.std.proofs.Common.{rules}
+use Rattle.cweb_rules.proofs.Common.{rules}
 use Rattle.cweb_rules.proofs.items.Item.look.Goals as goal
 
 pub returns-in-Comment-clause-value : goal.returns-in-Comment-clause-value

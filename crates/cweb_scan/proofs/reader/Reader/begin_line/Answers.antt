@@ -1,6 +1,4 @@
-use Rattle.std.proofs.Common.{ap, sym, subst, ◌∙◌}
-use Rattle.cweb_scan.specs.Held.{Held, after_line_end, BeginsLine}
-use Rattle.cweb_scan.specs.OpenRest.{awaits_line_end}
+use Rattle.cweb_scan.proofs.Common.{ap, sym, subst, ◌∙◌, Held, after_line_end, BeginsLine, awaits_line_end}
 use Rattle.cweb_scan.proofs.LineBegins.{begins_next, never_awaits}
 use Rattle.cweb_scan.proofs.reader.Reader.begin_line.Goals as goal
 

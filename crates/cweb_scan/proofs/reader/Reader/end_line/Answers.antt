@@ -1,5 +1,4 @@
-use Rattle.std.proofs.Common.{rules, arith}
-use Rattle.std.proofs.lemmas.Grind.{common_steps}
+use Rattle.cweb_scan.proofs.Common.{rules, arith, common_steps}
 use Rattle.cweb_scan.proofs.reader.Reader.end_line.Goals as goal
 
 pub returns-in_ok-push-in-Name : goal.returns-in_ok-push-in-Name

@@ -1,4 +1,4 @@
-use Rattle.std.proofs.Common.{rules}
+use Rattle.cweb_scan.proofs.Common.{rules}
 use Rattle.cweb_scan.proofs.reader.Reader.end_text.Goals as goal
 
 pub returns-in-Comment : goal.returns-in-Comment

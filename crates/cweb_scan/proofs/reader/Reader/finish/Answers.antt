@@ -1,7 +1,4 @@
-use Rattle.std.proofs.Common.{◌≡◌, [], ap, sym, subst, ◌∙◌, arith}
-use Rattle.cweb_scan.specs.Held.{Held, read_after, text_ended}
-use Rattle.cweb_scan.specs.Room.{weight}
-use Rattle.cweb_scan.specs.State.{State}
+use Rattle.cweb_scan.proofs.Common.{◌≡◌, [], ap, sym, subst, ◌∙◌, arith, Held, read_after, text_ended, weight, State}
 use Rattle.cweb_scan.proofs.LineBegins.{text_read, text_ended-weight}
 use Rattle.cweb_scan.proofs.reader.Reader.finish.Goals as goal
 

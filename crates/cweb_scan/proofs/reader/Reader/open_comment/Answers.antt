@@ -1,8 +1,4 @@
-use Rattle.std.proofs.Common.{refl, arith, ◌≡◌, true, sym}
-use Rattle.cweb_scan.specs.Fronted.{reads_c}
-use Rattle.cweb_scan.specs.State.{State}
-use Rattle.cweb_scan.specs.After.{blank}
-use Rattle.cweb_scan.specs.Resume.{InComment}
+use Rattle.cweb_scan.proofs.Common.{refl, arith, ◌≡◌, true, sym, reads_c, State, blank, InComment}
 use Rattle.cweb_scan.proofs.Opens.{opened, comment_opens, takes_at, at_state}
 use Rattle.cweb_scan.proofs.reader.Reader.open_comment.Goals as goal
 

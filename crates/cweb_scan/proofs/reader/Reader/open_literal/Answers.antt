@@ -1,8 +1,4 @@
-use Rattle.std.proofs.Common.{refl, arith, ◌≡◌, true, sym, ap, ◌∙◌, ◌++◌, ◌+◌, take, drop}
-use Rattle.cweb_scan.specs.Fronted.{reads_literals}
-use Rattle.cweb_scan.specs.State.{State}
-use Rattle.cweb_rules.specs.Fronts.{quote_of}
-use Rattle.cweb_scan.specs.Resume.{InLiteral}
+use Rattle.cweb_scan.proofs.Common.{refl, arith, ◌≡◌, true, sym, ap, ◌∙◌, ◌++◌, ◌+◌, take, drop, reads_literals, State, quote_of, InLiteral}
 use Rattle.cweb_scan.proofs.Opens.{opened, literal_opens_at, takes_at, at_state}
 use Rattle.cweb_scan.proofs.reader.Reader.open_literal.Goals as goal
 

@@ -1,7 +1,4 @@
-use Rattle.std.proofs.Common.{refl, arith, ◌≡◌, true, false, [], sym}
-use Rattle.cweb_scan.specs.Fronted.{is_head, reads_names}
-use Rattle.cweb_scan.specs.State.{State}
-use Rattle.cweb_scan.specs.Resume.{InName}
+use Rattle.cweb_scan.proofs.Common.{refl, arith, ◌≡◌, true, false, [], sym, is_head, reads_names, State, InName}
 use Rattle.cweb_scan.proofs.Opens.{opened, name_opens, takes_at, at_state}
 use Rattle.cweb_scan.proofs.reader.Reader.open_name.Goals as goal
 

@@ -1,8 +1,4 @@
-use Rattle.std.proofs.Common.{refl, arith, ◌≡◌, true, [], sym, ap, ◌∙◌, ◌++◌, ◌+◌, ◌∷◌, length, take, drop}
-use Rattle.cweb_scan.specs.Fronted.{reads_literals, literals_in_part}
-use Rattle.cweb_scan.specs.State.{State}
-use Rattle.cweb_rules.specs.Fronts.{delimiter}
-use Rattle.cweb_scan.specs.Resume.{InRaw}
+use Rattle.cweb_scan.proofs.Common.{refl, arith, ◌≡◌, true, [], sym, ap, ◌∙◌, ◌++◌, ◌+◌, ◌∷◌, length, take, drop, reads_literals, literals_in_part, State, delimiter, InRaw}
 use Rattle.cweb_scan.proofs.OpenReaders.{raw_signed}
 use Rattle.cweb_scan.proofs.Opens.{opened, raw_opens_at, raw_fits_at, takes_at, at_state}
 use Rattle.cweb_scan.proofs.reader.Reader.open_raw.Goals as goal

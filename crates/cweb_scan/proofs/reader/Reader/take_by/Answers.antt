@@ -1,8 +1,4 @@
-use Rattle.std.proofs.Common.{◌&&◌, false, ap, sym, ◌∙◌}
-use Rattle.cweb_rules.specs.Fronts.{section_at}
-use Rattle.cweb_rules.specs.Codes.{in_c}
-use Rattle.cweb_rules.specs.Rules.{c_front_by}
-use Rattle.cweb_scan.specs.Directives.{is_c, names_include}
+use Rattle.cweb_scan.proofs.Common.{◌&&◌, false, ap, sym, ◌∙◌, section_at, in_c, c_front_by, is_c, names_include}
 use Rattle.cweb_scan.proofs.CodeTurns.{closed_at}
 use Rattle.cweb_scan.proofs.RuleTurns.{closes, ends_closes, is_ended, left_ends, part_head, rule_closed, rule_in_line, two_fit}
 use Rattle.cweb_scan.proofs.Turns.{comment_seen, code_seen, raw_seen, literal_seen}

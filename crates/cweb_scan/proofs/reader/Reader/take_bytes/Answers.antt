@@ -1,5 +1,4 @@
-use Rattle.std.proofs.Common.{arith}
-use Rattle.std.proofs.lemmas.Grind.{common_steps}
+use Rattle.cweb_scan.proofs.Common.{arith, common_steps}
 use Rattle.cweb_scan.proofs.LineTurns.{front_goes_on, front_line}
 use Rattle.cweb_scan.proofs.reader.Reader.take_bytes.Goals as goal
 

@@ -1,4 +1,4 @@
-use Rattle.cweb_scan.specs.Turned.{to_do}
+use Rattle.cweb_scan.proofs.Common.{to_do}
 use Rattle.cweb_scan.proofs.LineTurns.{TakesFront}
 use Rattle.cweb_scan.proofs.reader.Reader.take_bytes.Given as goal
 

@@ -1,9 +1,4 @@
-use Rattle.std.proofs.Common.{◌≡◌, ◌≤◌, true, false, length, get_or, ap, sym, ◌∙◌, subst, arith}
-use Rattle.cweb_rules.specs.Fronts.{code_front}
-use Rattle.cweb_rules.specs.declared.effect.Effect.{Effect}
-use Rattle.cweb_scan.specs.Directives.{names_include}
-use Rattle.cweb_scan.specs.Fronted.{Gives, effect_in, is_name}
-use Rattle.cweb_scan.specs.Held.{Held}
+use Rattle.cweb_scan.proofs.Common.{◌≡◌, ◌≤◌, true, false, length, get_or, ap, sym, ◌∙◌, subst, arith, code_front, Effect, names_include, Gives, effect_in, is_name, Held}
 use Rattle.cweb_scan.proofs.CodeTurns.{closed_at, code_size, plain_front}
 use Rattle.cweb_scan.proofs.reader.Reader.take_code.Goals as goal
 

@@ -1,6 +1,4 @@
-use Rattle.std.proofs.Common.{◌+◌, length, refl, sym, ◌∙◌}
-use Rattle.cweb_scan.specs.Held.{Held}
-use Rattle.cweb_scan.specs.Resume.{InComment}
+use Rattle.cweb_scan.proofs.Common.{◌+◌, length, refl, sym, ◌∙◌, Held, InComment}
 use Rattle.cweb_scan.proofs.OpenReaders.{open_at}
 use Rattle.cweb_scan.proofs.OpenRests.{comment_goes, comment_over}
 use Rattle.cweb_scan.proofs.Opens.{opened}

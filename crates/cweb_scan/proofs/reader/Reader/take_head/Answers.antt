@@ -1,5 +1,4 @@
-use Rattle.std.proofs.Common.{ℕ, false, List, refl, ap, sym, ◌∙◌}
-use Rattle.cweb_rules.specs.Fronts.{line_comment_at}
+use Rattle.cweb_scan.proofs.Common.{ℕ, false, List, refl, ap, sym, ◌∙◌, line_comment_at}
 use Rattle.cweb_rules.specs.declared.rule.Rule.TheVariants as rule
 use Rattle.cweb_scan.proofs.HeadTurns.{dropped_at, foreign_rule}
 use Rattle.cweb_scan.proofs.HeadStays.{blanks_pass, head_passes}

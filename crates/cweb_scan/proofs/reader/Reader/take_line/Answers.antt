@@ -1,5 +1,4 @@
-use Rattle.std.proofs.Common.{ap, arith}
-use Rattle.cweb_scan.specs.Held.{cost}
+use Rattle.cweb_scan.proofs.Common.{ap, arith, cost}
 use Rattle.cweb_scan.proofs.TextLines.{text_passed}
 use Rattle.cweb_scan.proofs.reader.Reader.take_line.Goals as goal
 

@@ -1,12 +1,5 @@
-use Rattle.std.proofs.Common.{◌≤◌, ℕ, List, length, refl, sym, ap, ◌∙◌, subst, rules}
-use Rattle.std.specs.List.{prefix_len}
-use Rattle.cweb_rules.specs.Items.{look_in_literal}
-use Rattle.cweb_rules.specs.Plains.{is_plain}
+use Rattle.cweb_scan.proofs.Common.{◌≤◌, ℕ, List, length, refl, sym, ap, ◌∙◌, subst, rules, prefix_len, look_in_literal, is_plain, Held, text_of, quote_byte, InLiteral}
 use Rattle.cweb_rules.specs.declared.items.Item.TheVariants.{Literal}
-use Rattle.cweb_scan.specs.Held.{Held}
-use Rattle.cweb_scan.specs.OpenRest.{text_of}
-use Rattle.cweb_scan.specs.Quotes.{quote_byte}
-use Rattle.cweb_scan.specs.Resume.{InLiteral}
 use Rattle.cweb_scan.proofs.OpenReaders.{turn_at}
 use Rattle.cweb_scan.proofs.OpenRests.{literal_takes}
 use Rattle.cweb_scan.proofs.Runs.{run_at, literal_run}

@@ -1,5 +1,4 @@
-use Rattle.std.proofs.Common.{ap, sym, ◌∙◌}
-use Rattle.cweb_rules.specs.Bytes.{at_line_end}
+use Rattle.cweb_scan.proofs.Common.{ap, sym, ◌∙◌, at_line_end}
 use Rattle.cweb_scan.proofs.RuleTurns.{backslash_passes}
 use Rattle.cweb_scan.proofs.reader.Reader.take_macro.Goals as goal
 

@@ -1,10 +1,5 @@
-use Rattle.std.proofs.Common.{◌≡◌, take, drop, refl, ap, sym, ◌∙◌}
-use Rattle.std.specs.Prelude.{codes}
-use Rattle.std.specs.List.{prefix_len}
-use Rattle.cweb_rules.specs.Bytes.{begins, is_word_byte}
-use Rattle.cweb_rules.specs.Kinds.{Defined, front}
+use Rattle.cweb_scan.proofs.Common.{◌≡◌, take, drop, refl, ap, sym, ◌∙◌, codes, prefix_len, begins, is_word_byte, Defined, front, define}
 use Rattle.cweb_rules.specs.declared.rule.Rule.TheVariants as rule
-use Rattle.cweb_scan.specs.After.{define}
 use Rattle.cweb_scan.proofs.HeadStays.{head_passes}
 use Rattle.cweb_scan.proofs.reader.Reader.take_macro_name.Goals as goal
 

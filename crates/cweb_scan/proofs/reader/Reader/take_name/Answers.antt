@@ -1,11 +1,4 @@
-use Rattle.std.proofs.Common.{ℕ, List, ◌+◌, ◌++◌, take, refl, sym, ap, ◌∙◌}
-use Rattle.std.specs.Prelude.{nat_lt}
-use Rattle.cweb_rules.specs.Fronts.{sign_after}
-use Rattle.cweb_rules.specs.Items.{unit_bytes}
-use Rattle.cweb_scan.specs.After.{occurrence}
-use Rattle.cweb_scan.specs.Held.{Held}
-use Rattle.cweb_scan.specs.OpenRest.{text_of}
-use Rattle.cweb_scan.specs.Resume.{InName}
+use Rattle.cweb_scan.proofs.Common.{ℕ, List, ◌+◌, ◌++◌, take, refl, sym, ap, ◌∙◌, nat_lt, sign_after, unit_bytes, occurrence, Held, text_of, InName}
 use Rattle.cweb_scan.proofs.OpenReaders.{open_at, text_kept, has_text, name_texted}
 use Rattle.cweb_scan.proofs.OpenRests.{name_goes, name_over}
 use Rattle.cweb_scan.proofs.Opens.{opened}

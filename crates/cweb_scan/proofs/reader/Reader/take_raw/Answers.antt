@@ -1,10 +1,4 @@
-use Rattle.std.proofs.Common.{◌≤◌, ℕ, not, List, length, refl, sym, ap, ◌∙◌, subst}
-use Rattle.std.specs.List.{prefix_len}
-use Rattle.cweb_rules.specs.Items.{look_in_raw}
-use Rattle.cweb_rules.specs.Plains.{is_raw_sign}
-use Rattle.cweb_scan.specs.Held.{Held}
-use Rattle.cweb_scan.specs.OpenRest.{text_of, delimiter_of}
-use Rattle.cweb_scan.specs.Resume.{InRaw}
+use Rattle.cweb_scan.proofs.Common.{◌≤◌, ℕ, not, List, length, refl, sym, ap, ◌∙◌, subst, prefix_len, look_in_raw, is_raw_sign, Held, text_of, delimiter_of, InRaw}
 use Rattle.cweb_scan.proofs.OpenReaders.{turn_at, sign_kept}
 use Rattle.cweb_scan.proofs.OpenRests.{raw_fits, raw_takes}
 use Rattle.cweb_scan.proofs.Runs.{run_at, raw_run}

@@ -1,4 +1,4 @@
-use Rattle.std.proofs.Common.{rules}
+use Rattle.cweb_scan.proofs.Common.{rules}
 use Rattle.cweb_scan.proofs.reader.Reader.take_run.Goals as goal
 
 pub returns : goal.returns

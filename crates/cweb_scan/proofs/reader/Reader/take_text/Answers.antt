@@ -1,6 +1,4 @@
-use Rattle.std.proofs.Common.{sym, ◌∙◌}
-use Rattle.cweb_rules.specs.Fronts.{section_at}
-use Rattle.cweb_scan.specs.Directives.{names_include}
+use Rattle.cweb_scan.proofs.Common.{sym, ◌∙◌, section_at, names_include}
 use Rattle.cweb_scan.proofs.CodeTurns.{closed_at, section_text, skipped_at, text_head}
 use Rattle.cweb_scan.proofs.reader.Reader.take_text.Goals as goal
 

@@ -1,9 +1,5 @@
-use Rattle.std.proofs.Common.{ℕ, ◌+◌, List, length, ap, sym, ◌∙◌, subst}
-use Rattle.std.proofs.lemmas.Bool.{eqb-true}
-use Rattle.cweb_rules.specs.Lines.{IsLine}
-use Rattle.cweb_scan.specs.Held.{Held}
-use Rattle.cweb_scan.specs.OpenRest.{awaits_line_end, is_open}
-use Rattle.cweb_scan.specs.Opened.{item_of}
+use Rattle.cweb_scan.proofs.Common.{ℕ, ◌+◌, List, length, ap, sym, ◌∙◌, subst, eqb-true, IsLine, Held, awaits_line_end, item_of}
+use Rattle.cweb_scan.specs.OpenRest.{is_open}
 use Rattle.cweb_scan.specs.declared.reader.open.Open.{Open}
 use Rattle.cweb_scan.proofs.LineTurns.{between_turn, open_turn, kept_open}
 use Rattle.cweb_scan.proofs.PlainTurns.{is_line_drop, piece_within, plain_all, plain_held, plain_room, plain_then}

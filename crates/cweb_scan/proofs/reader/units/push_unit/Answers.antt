@@ -1,4 +1,4 @@
-use Rattle.std.proofs.Common.{rules}
+use Rattle.cweb_scan.proofs.Common.{rules}
 use Rattle.cweb_scan.proofs.reader.units.push_unit.Goals as goal
 
 pub returns-then-eq : goal.returns-then-eq

@@ -1,8 +1,4 @@
-use Rattle.std.proofs.Common.{List, ℕ, ◌++◌, sym, ap, ◌∙◌, append_assoc}
-use Rattle.cweb_rules.specs.Cut.{reach}
-use Rattle.cweb_rules.specs.Items.{unit_bytes, text_in}
-use Rattle.cweb_rules.specs.Looks.{look_of}
-use Rattle.cweb_rules.specs.declared.end.End.TheVariants.{Open}
+use Rattle.cweb_scan.proofs.Common.{List, ℕ, ◌++◌, sym, ap, ◌∙◌, append_assoc, reach, unit_bytes, text_in, look_of, Open}
 use Rattle.cweb_scan.proofs.Walks.{nonempty, units_from}
 use Rattle.cweb_scan.proofs.reader.units.push_units.Goals as goal
 

@@ -1,8 +1,4 @@
-use Rattle.std.proofs.Common.{◌≡◌, ◌++◌, length}
-use Rattle.cweb_rules.specs.Cut.{reach}
-use Rattle.cweb_rules.specs.Items.{text_in}
-use Rattle.cweb_rules.specs.Looks.{look_of}
-use Rattle.cweb_rules.specs.declared.end.End.TheVariants.{Open}
+use Rattle.cweb_scan.proofs.Common.{◌≡◌, ◌++◌, length, reach, text_in, look_of, Open}
 use Rattle.cweb_scan.proofs.reader.units.push_units.Given as goal
 
 abbrev pub invariant-units : goal.invariant-units

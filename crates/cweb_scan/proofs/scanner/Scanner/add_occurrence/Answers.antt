@@ -1,6 +1,4 @@
-use Rattle.std.proofs.Common.{◌≡◌, List, ℕ, OnOk, sym, ◌∙◌, subst}
-use Rattle.cweb_scan.specs.Names.{given}
-use Rattle.cweb_scan.specs.State.{with_name}
+use Rattle.cweb_scan.proofs.Common.{◌≡◌, List, ℕ, OnOk, sym, ◌∙◌, subst, given, with_name}
 use Rattle.cweb_scan.proofs.Spelling.{squeezed_stays}
 use Rattle.cweb_scan.proofs.scanner.Scanner.add_occurrence.Goals as goal
 

@@ -1,5 +1,4 @@
-use Rattle.std.proofs.Common.{arith}
-use Rattle.std.proofs.lemmas.Grind.{common_steps}
+use Rattle.cweb_scan.proofs.Common.{arith, common_steps}
 use Rattle.cweb_scan.proofs.scanner.Scanner.begin_part.Goals as goal
 
 pub give-requires-2-clause-few : goal.give-requires-2-clause-few

@@ -1,4 +1,4 @@
-use Rattle.std.proofs.Common.{rules}
+use Rattle.cweb_scan.proofs.Common.{rules}
 use Rattle.cweb_scan.proofs.scanner.Scanner.begin_section.Goals as goal
 
 pub returns-in_ok-push : goal.returns-in_ok-push

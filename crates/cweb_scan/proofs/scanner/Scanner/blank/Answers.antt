@@ -1,4 +1,4 @@
-use Rattle.std.proofs.Common.{rules}
+use Rattle.cweb_scan.proofs.Common.{rules}
 use Rattle.cweb_scan.proofs.scanner.Scanner.blank.Goals as goal
 
 pub returns-in_ok-give : goal.returns-in_ok-give

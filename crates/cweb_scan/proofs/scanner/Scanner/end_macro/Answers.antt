@@ -1,4 +1,4 @@
-use Rattle.std.proofs.Common.{rules}
+use Rattle.cweb_scan.proofs.Common.{rules}
 use Rattle.cweb_scan.proofs.scanner.Scanner.end_macro.Goals as goal
 
 pub returns-then-matches : goal.returns-then-matches

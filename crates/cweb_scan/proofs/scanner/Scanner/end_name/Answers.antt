@@ -1,7 +1,4 @@
-use Rattle.std.proofs.Common.{sym, ap, ◌∙◌, subst}
-use Rattle.cweb_scan.specs.After.{name_fault}
-use Rattle.cweb_scan.specs.Names.{occurrence_in}
-use Rattle.cweb_scan.specs.Room.{HasPartRoom}
+use Rattle.cweb_scan.proofs.Common.{sym, ap, ◌∙◌, subst, name_fault, occurrence_in, HasPartRoom}
 use Rattle.cweb_scan.proofs.Rooms.{end_macro_room, name_room}
 use Rattle.cweb_scan.proofs.scanner.Scanner.end_name.Goals as goal
 

@@ -1,11 +1,4 @@
-use Rattle.std.proofs.Common.{◌≡◌, true, sym, ap, ◌∙◌, subst}
-use Rattle.std.specs.Prelude.{if◌then◌else◌}
-use Rattle.cweb_store.specs.Calls.{Contents}
-use Rattle.cweb_store.specs.Layout.{is_layout}
-use Rattle.cweb_store.specs.Seen.{seen}
-use Rattle.cweb_scan.specs.Kept.{IsTied, has_part, step}
-use Rattle.cweb_scan.specs.State.{State}
-use Rattle.cweb_scan.specs.declared.scanner.directive.Directive.{Directive}
+use Rattle.cweb_scan.proofs.Common.{◌≡◌, true, sym, ap, ◌∙◌, subst, if◌then◌else◌, Contents, is_layout, seen, IsTied, has_part, step, State, Directive}
 use Rattle.cweb_scan.proofs.TiedSteps.{tied_given}
 use Rattle.cweb_scan.proofs.scanner.Scanner.give.Goals as goal
 

@@ -1,13 +1,4 @@
-use Rattle.std.proofs.Common.{◌≡◌, sym, ap, subst}
-use Rattle.cweb_store.specs.Calls.{Contents}
-use Rattle.cweb_store.specs.Seen.{seen}
-use Rattle.cweb_rules.specs.declared.context.Context.TheVariants.{CText}
-use Rattle.cweb_scan.specs.Directives.{directive, is_c}
-use Rattle.cweb_scan.specs.Kept.{has_part, stage_of, IsTied}
-use Rattle.cweb_scan.specs.State.{State}
-use Rattle.cweb_scan.specs.declared.scanner.directive.Directive.{Directive}
-use Rattle.cweb_scan.specs.declared.scanner.directive.Last.TheVariants.{Other}
-use Rattle.cweb_scan.specs.declared.scanner.directive.Stage.TheVariants.{Further}
+use Rattle.cweb_scan.proofs.Common.{◌≡◌, sym, ap, subst, Contents, seen, CText, directive, is_c, has_part, stage_of, IsTied, State, Directive, Other, Further}
 use Rattle.cweb_scan.proofs.DirectiveTexts.{text_in_c, text_stage, tied_text}
 use Rattle.cweb_scan.proofs.scanner.Scanner.give_in_directive.Goals as goal
 

@@ -1,8 +1,4 @@
-use Rattle.std.proofs.Common.{sym, ap, subst}
-use Rattle.cweb_store.specs.Calls.{Contents}
-use Rattle.cweb_scan.specs.Directives.{is_c}
-use Rattle.cweb_scan.specs.Kept.{has_part, IsTied}
-use Rattle.cweb_scan.specs.Plain.{IsPlainC}
+use Rattle.cweb_scan.proofs.Common.{sym, ap, subst, Contents, is_c, has_part, IsTied, IsPlainC}
 use Rattle.cweb_scan.specs.declared.scanner.directive.Last.TheVariants.{LineEnd}
 use Rattle.cweb_scan.proofs.Plains.{none_open, tied_newline}
 use Rattle.cweb_scan.proofs.scanner.Scanner.give_newline.Goals as goal

@@ -1,10 +1,4 @@
-use Rattle.std.proofs.Common.{sym, ap, subst}
-use Rattle.cweb_store.specs.Calls.{Contents}
-use Rattle.cweb_store.specs.Seen.{seen}
-use Rattle.cweb_scan.specs.Directives.{is_c}
-use Rattle.cweb_scan.specs.Kept.{has_part, outside, IsTied}
-use Rattle.cweb_scan.specs.Plain.{IsPlainC}
-use Rattle.cweb_scan.specs.declared.scanner.directive.Directive.{Directive}
+use Rattle.cweb_scan.proofs.Common.{sym, ap, subst, Contents, seen, is_c, has_part, outside, IsTied, IsPlainC, Directive}
 use Rattle.cweb_scan.proofs.Plains.{none_open, tied_plain}
 use Rattle.cweb_scan.proofs.scanner.Scanner.give_plain.Goals as goal
 

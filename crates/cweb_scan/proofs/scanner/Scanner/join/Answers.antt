@@ -1,8 +1,4 @@
-use Rattle.std.proofs.Common.{sym, ap, subst, arith}
-use Rattle.cweb_store.specs.Calls.{Contents}
-use Rattle.cweb_store.specs.Growing.{token_count}
-use Rattle.cweb_scan.specs.Kept.{IsTied}
-use Rattle.cweb_scan.specs.State.{State}
+use Rattle.cweb_scan.proofs.Common.{sym, ap, subst, arith, Contents, token_count, IsTied, State}
 use Rattle.cweb_scan.proofs.Drops.{dropped_count}
 use Rattle.cweb_scan.proofs.TiedSteps.{tied_dropped}
 use Rattle.cweb_scan.proofs.scanner.Scanner.join.Goals as goal

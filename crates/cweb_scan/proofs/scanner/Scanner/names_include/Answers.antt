@@ -1,8 +1,4 @@
-use Rattle.std.proofs.Common.{◌≡◌, true, sym, ap, ◌∙◌, subst}
-use Rattle.cweb_scan.specs.Directives.{directive_of, is_c, names_include}
-use Rattle.cweb_scan.specs.Kept.{is_include_stage}
-use Rattle.cweb_scan.specs.State.{State, tokens_of}
-use Rattle.cweb_scan.specs.declared.scanner.directive.Directive.{Directive}
+use Rattle.cweb_scan.proofs.Common.{◌≡◌, true, sym, ap, ◌∙◌, subst, directive_of, is_c, names_include, is_include_stage, State, tokens_of, Directive}
 use Rattle.cweb_scan.proofs.TiedSteps.{include-seen}
 use Rattle.cweb_scan.proofs.scanner.Scanner.names_include.Goals as goal
 

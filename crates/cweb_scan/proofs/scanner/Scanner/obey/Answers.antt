@@ -1,5 +1,4 @@
-use Rattle.std.proofs.Common.{sym, subst}
-use Rattle.cweb_scan.specs.Room.{HasPartRoom}
+use Rattle.cweb_scan.proofs.Common.{sym, subst, HasPartRoom}
 use Rattle.cweb_scan.proofs.Rooms.{end_macro_room}
 use Rattle.cweb_scan.proofs.scanner.Scanner.obey.Goals as goal
 

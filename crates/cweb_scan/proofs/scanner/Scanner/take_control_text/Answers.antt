@@ -1,6 +1,4 @@
-use Rattle.std.proofs.Common.{ap, ◌∙◌}
-use Rattle.cweb_rules.specs.declared.end.End.{End}
-use Rattle.cweb_scan.specs.After.{control_text}
+use Rattle.cweb_scan.proofs.Common.{ap, ◌∙◌, End, control_text}
 use Rattle.cweb_scan.proofs.Ends.{control_gives}
 use Rattle.cweb_scan.proofs.scanner.Scanner.take_control_text.Goals as goal
 

@@ -1,9 +1,5 @@
-use Rattle.std.proofs.Common.{◌&&◌, List, ℕ, false, arith, sym, ap, ◌∙◌, subst}
-use Rattle.cweb_store.specs.Parts.{Number, Punct, Word}
+use Rattle.cweb_scan.proofs.Common.{◌&&◌, List, ℕ, false, arith, sym, ap, ◌∙◌, subst, Number, Punct, Word, is_c, names_include, IsPlainToken, TakesPlain, give}
 use Rattle.cweb_rules.specs.declared.rule.Rule.TheVariants as rule
-use Rattle.cweb_scan.specs.Directives.{is_c, names_include}
-use Rattle.cweb_scan.specs.Plain.{IsPlainToken, TakesPlain}
-use Rattle.cweb_scan.specs.State.{give}
 use Rattle.cweb_scan.specs.declared.scanner.plain.Plain.TheVariants as plain
 use Rattle.cweb_scan.proofs.DirectiveTexts.{text_blanks, text_in_c, text_rule, text_sign}
 use Rattle.cweb_scan.proofs.Furthers.{numeral_turn, operator_token}

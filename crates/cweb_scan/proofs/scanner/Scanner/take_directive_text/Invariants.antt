@@ -1,4 +1,4 @@
-use Rattle.std.proofs.Common.{length}
+use Rattle.cweb_scan.proofs.Common.{length}
 use Rattle.cweb_scan.proofs.PlainTurns.{TakesSome}
 use Rattle.cweb_scan.proofs.scanner.Scanner.take_directive_text.Given as goal
 

@@ -1,11 +1,4 @@
-use Rattle.std.proofs.Common.{◌≡◌, true, ◌+◌, ◌++◌, take, drop, refl, sym, ap, ◌∙◌, subst}
-use Rattle.cweb_rules.specs.Cut.{reach}
-use Rattle.cweb_rules.specs.Items.{unit_bytes, text_in, look_in_include}
-use Rattle.cweb_rules.specs.declared.end.End.TheVariants.{Open}
-use Rattle.cweb_scan.specs.After.{literal}
-use Rattle.cweb_scan.specs.Kept.{has_part}
-use Rattle.cweb_scan.specs.Room.{HasRoom}
-use Rattle.cweb_scan.specs.State.{State}
+use Rattle.cweb_scan.proofs.Common.{◌≡◌, true, ◌+◌, ◌++◌, take, drop, refl, sym, ap, ◌∙◌, subst, reach, unit_bytes, text_in, look_in_include, Open, literal, has_part, HasRoom, State}
 use Rattle.cweb_scan.proofs.Texts.{include_gives, name_kept, told}
 use Rattle.cweb_scan.proofs.scanner.Scanner.take_included_name.Goals as goal
 

@@ -1,9 +1,4 @@
-use Rattle.std.proofs.Common.{ap, ◌∙◌}
-use Rattle.cweb_rules.specs.declared.end.End.{End}
-use Rattle.cweb_scan.specs.After.{comment}
-use Rattle.cweb_rules.specs.declared.end.End.TheVariants.{Closed}
-use Rattle.cweb_scan.specs.Fronted.{ended_as}
-use Rattle.cweb_scan.specs.State.{State}
+use Rattle.cweb_scan.proofs.Common.{ap, ◌∙◌, End, comment, Closed, ended_as, State}
 use Rattle.cweb_scan.proofs.Ends.{line_comment_gives}
 use Rattle.cweb_scan.proofs.scanner.Scanner.take_line_comment.Goals as goal
 

@@ -1,7 +1,4 @@
-use Rattle.std.proofs.Common.{List, ℕ, ap, ◌∙◌, refl, subst, sym}
-use Rattle.cweb_store.specs.Parts.{Number}
-use Rattle.cweb_scan.specs.Plain.{IsPlainC}
-use Rattle.cweb_scan.specs.State.{give}
+use Rattle.cweb_scan.proofs.Common.{List, ℕ, ap, ◌∙◌, refl, subst, sym, Number, IsPlainC, give}
 use Rattle.cweb_scan.proofs.Plains.{stays_plain}
 use Rattle.cweb_scan.proofs.Furthers.{number_turn}
 use Rattle.cweb_scan.proofs.scanner.Scanner.take_number.Goals as goal

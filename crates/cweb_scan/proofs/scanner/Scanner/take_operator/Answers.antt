@@ -1,7 +1,4 @@
-use Rattle.std.proofs.Common.{List, ℕ, false, take, arith, sym, ap, ◌∙◌, subst}
-use Rattle.cweb_store.specs.Parts.{Punct}
-use Rattle.cweb_scan.specs.Plain.{IsPlainC, IsPlainToken}
-use Rattle.cweb_scan.specs.State.{State, give}
+use Rattle.cweb_scan.proofs.Common.{List, ℕ, false, take, arith, sym, ap, ◌∙◌, subst, Punct, IsPlainC, IsPlainToken, State, give}
 use Rattle.cweb_scan.proofs.Furthers.{operator_token, operator_turn}
 use Rattle.cweb_scan.proofs.Plains.{stays_plain}
 use Rattle.cweb_scan.proofs.Walks.{punctuator_fits}

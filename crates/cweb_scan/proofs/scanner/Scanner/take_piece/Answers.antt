@@ -1,9 +1,4 @@
-use Rattle.std.proofs.Common.{◌&&◌, List, ℕ, false, take, sym, ap, ◌∙◌, subst, arith}
-use Rattle.std.proofs.lemmas.Grind.{common_steps}
-use Rattle.cweb_store.specs.Parts.{Word, Punct}
-use Rattle.cweb_scan.specs.Directives.{is_c, names_include}
-use Rattle.cweb_scan.specs.Plain.{IsPlainC}
-use Rattle.cweb_scan.specs.State.{State, give}
+use Rattle.cweb_scan.proofs.Common.{◌&&◌, List, ℕ, false, take, sym, ap, ◌∙◌, subst, arith, common_steps, Word, Punct, is_c, names_include, IsPlainC, State, give}
 use Rattle.cweb_scan.specs.declared.scanner.plain.Plain.TheVariants as plain
 use Rattle.cweb_scan.proofs.PlainFirsts.{told_at}
 use Rattle.cweb_scan.proofs.Plains.{stays_plain, blanks_turn, word_turn, sign_turn}

@@ -1,4 +1,4 @@
-use Rattle.std.proofs.Common.{rules, sym, subst}
+use Rattle.cweb_scan.proofs.Common.{rules, sym, subst}
 use Rattle.cweb_scan.proofs.Blanks.{blank_passed}
 use Rattle.cweb_scan.proofs.PlainTurns.{left_line, none_taken, piece_within, some_ended, some_goes_on, some_taken, TakesSome}
 use Rattle.cweb_scan.proofs.scanner.Scanner.take_plain.Goals as goal

@@ -1,5 +1,4 @@
-use Rattle.std.proofs.Common.{length}
-use Rattle.cweb_scan.specs.Plain.{IsPlainC}
+use Rattle.cweb_scan.proofs.Common.{length, IsPlainC}
 use Rattle.cweb_scan.proofs.PlainTurns.{TakesSome}
 use Rattle.cweb_scan.proofs.scanner.Scanner.take_plain.Given as goal
 

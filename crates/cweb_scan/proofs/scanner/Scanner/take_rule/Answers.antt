@@ -1,4 +1,4 @@
-use Rattle.std.proofs.Common.{arith}
+use Rattle.cweb_scan.proofs.Common.{arith}
 use Rattle.cweb_scan.proofs.Walks.{punctuator_fits}
 use Rattle.cweb_scan.proofs.scanner.Scanner.take_rule.Goals as goal
 

@@ -1,10 +1,4 @@
-use Rattle.std.proofs.Common.{List, ℕ, ◌++◌, ap, ◌∙◌}
-use Rattle.cweb_rules.specs.Cut.{reach}
-use Rattle.cweb_rules.specs.Items.{text_in, look_in_control}
-use Rattle.cweb_rules.specs.declared.end.End.{End}
-use Rattle.cweb_rules.specs.declared.end.End.TheVariants.{Cut, Open}
-use Rattle.cweb_scan.specs.After.{verbatim}
-use Rattle.cweb_scan.specs.Fronted.{ended_as}
+use Rattle.cweb_scan.proofs.Common.{List, ℕ, ◌++◌, ap, ◌∙◌, reach, text_in, look_in_control, End, Cut, Open, verbatim, ended_as}
 use Rattle.cweb_scan.proofs.Texts.{verbatim_gives}
 use Rattle.cweb_scan.proofs.scanner.Scanner.take_verbatim.Goals as goal
 

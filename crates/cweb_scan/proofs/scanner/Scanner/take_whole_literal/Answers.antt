@@ -1,16 +1,5 @@
-use Rattle.std.proofs.Common.{◌≡◌, ◌+◌, List, ℕ, false, length, drop, arith, refl, sym, ap, ◌∙◌, subst}
-use Rattle.std.proofs.lemmas.List.{length-drop}
-use Rattle.cweb_store.specs.Parts.{Literal}
-use Rattle.cweb_rules.specs.Cut.{reach}
-use Rattle.cweb_rules.specs.Fronts.{literal_prefix, quote_of}
-use Rattle.cweb_rules.specs.Items.{look_in_literal}
-use Rattle.cweb_rules.specs.Lines.{IsLine}
-use Rattle.cweb_rules.specs.Looks.{reached}
-use Rattle.cweb_rules.specs.declared.end.End.TheVariants.{Closed, Open}
-use Rattle.cweb_rules.specs.declared.items.Reached.{Reached}
+use Rattle.cweb_scan.proofs.Common.{◌≡◌, ◌+◌, List, ℕ, false, length, drop, arith, refl, sym, ap, ◌∙◌, subst, length-drop, Literal, reach, literal_prefix, quote_of, look_in_literal, IsLine, reached, Closed, Open, Reached, IsPlainC, give}
 use Rattle.cweb_rules.proofs.LineLiterals.{is_quoted-size}
-use Rattle.cweb_scan.specs.Plain.{IsPlainC}
-use Rattle.cweb_scan.specs.State.{give}
 use Rattle.cweb_scan.proofs.FurtherLiterals.{HasNone, literal_reach, literal_turn, none_stands}
 use Rattle.cweb_scan.proofs.PlainTurns.{is_line_drop}
 use Rattle.cweb_scan.proofs.Plains.{stays_plain}

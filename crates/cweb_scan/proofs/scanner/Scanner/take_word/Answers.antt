@@ -1,7 +1,4 @@
-use Rattle.std.proofs.Common.{List, ℕ, ap, ◌∙◌, arith}
-use Rattle.std.proofs.lemmas.Grind.{common_steps}
-use Rattle.cweb_store.specs.Parts.{Word}
-use Rattle.cweb_scan.specs.State.{give}
+use Rattle.cweb_scan.proofs.Common.{List, ℕ, ap, ◌∙◌, arith, common_steps, Word, give}
 use Rattle.cweb_scan.proofs.Plains.{word_turn}
 use Rattle.cweb_scan.proofs.Furthers.{seen_word}
 use Rattle.cweb_scan.proofs.scanner.Scanner.take_word.Goals as goal

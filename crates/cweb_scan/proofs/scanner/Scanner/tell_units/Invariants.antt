@@ -1,9 +1,4 @@
-use Rattle.std.proofs.Common.{◌≡◌, length}
-use Rattle.std.specs.List.{fold}
-use Rattle.cweb_rules.specs.Cut.{reach}
-use Rattle.cweb_rules.specs.Looks.{look_of}
-use Rattle.cweb_rules.specs.declared.end.End.TheVariants.{Open}
-use Rattle.cweb_scan.specs.Fronted.{unit_state}
+use Rattle.cweb_scan.proofs.Common.{◌≡◌, length, fold, reach, look_of, Open, unit_state}
 use Rattle.cweb_scan.proofs.scanner.Scanner.tell_units.Given as goal
 
 abbrev pub invariant-units : goal.invariant-units

@@ -1,4 +1,4 @@
-use Rattle.std.proofs.Common.{rules}
+use Rattle.cweb_scan.proofs.Common.{rules}
 use Rattle.cweb_scan.proofs.scanner.directive.goes_over.Goals as goal
 
 pub returns-in-Backslash : goal.returns-in-Backslash

@@ -1,4 +1,4 @@
-use Rattle.std.proofs.Common.{rules}
+use Rattle.cweb_scan.proofs.Common.{rules}
 use Rattle.cweb_scan.proofs.scanner.directive.opens.Goals as goal
 
 pub returns-in-Punct : goal.returns-in-Punct

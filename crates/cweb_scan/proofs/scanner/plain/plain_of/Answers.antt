@@ -1,4 +1,4 @@
-use Rattle.std.proofs.Common.{◌<◌, arith}
+use Rattle.cweb_scan.proofs.Common.{◌<◌, arith}
 use Rattle.cweb_scan.proofs.FirstTable.{first_told}
 use Rattle.cweb_scan.proofs.scanner.plain.plain_of.Goals as goal
 

@@ -1,4 +1,4 @@
-use Rattle.std.proofs.Common.{rules}
+use Rattle.cweb_scan.proofs.Common.{rules}
 use Rattle.cweb_scan.proofs.scanner.spelling.is_squeezed.Goals as goal
 
 pub loop-byte-init : goal.loop-byte-init

@@ -1,5 +1,4 @@
-use Rattle.std.proofs.Common.{◌≡◌, ◌==◌, drop}
-use Rattle.cweb_scan.specs.Names.{is_squeezed, is_squeezed_after}
+use Rattle.cweb_scan.proofs.Common.{◌≡◌, ◌==◌, drop, is_squeezed, is_squeezed_after}
 use Rattle.cweb_scan.proofs.scanner.spelling.is_squeezed.Given as goal
 
 abbrev pub invariant-loop-byte : goal.invariant-loop-byte

@@ -1,5 +1,4 @@
-use Rattle.std.proofs.Common.{arith}
-use Rattle.std.proofs.lemmas.Grind.{common_steps}
+use Rattle.cweb_scan.proofs.Common.{arith, common_steps}
 use Rattle.cweb_scan.proofs.scanner.spelling.squeezed.Goals as goal
 
 pub loop-byte-preserved : goal.loop-byte-preserved

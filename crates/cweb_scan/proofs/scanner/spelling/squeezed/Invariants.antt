@@ -1,6 +1,4 @@
-use Rattle.std.proofs.Common.{◌≡◌, ◌++◌, drop}
-use Rattle.std.specs.Prelude.{codes, if◌then◌else◌, []}
-use Rattle.cweb_scan.specs.Names.{squeezed, squeezed_after}
+use Rattle.cweb_scan.proofs.Common.{◌≡◌, ◌++◌, drop, codes, if◌then◌else◌, [], squeezed, squeezed_after}
 use Rattle.cweb_scan.proofs.Spelling.{is_some}
 use Rattle.cweb_scan.proofs.scanner.spelling.squeezed.Given as goal
 

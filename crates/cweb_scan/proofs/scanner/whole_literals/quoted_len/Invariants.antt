@@ -1,4 +1,4 @@
-use Rattle.std.proofs.Common.{length}
+use Rattle.cweb_scan.proofs.Common.{length}
 use Rattle.cweb_scan.proofs.WholeLiterals.{GoesTo}
 use Rattle.cweb_scan.proofs.scanner.whole_literals.quoted_len.Given as goal
 

@@ -1,4 +1,4 @@
-use Rattle.std.proofs.Common.{rules}
+use Rattle.cweb_scan.proofs.Common.{rules}
 use Rattle.cweb_scan.proofs.scanner.whole_literals.unit_of_sign.Goals as goal
 
 pub returns-else-second-eq64 : goal.returns-else-second-eq64

@@ -1,7 +1,4 @@
-use Rattle.std.proofs.Common.{◌≡◌, ap, ◌∙◌, Some, sym, [], ◌∷◌, ◌++◌, append-nil}
-use Rattle.std.specs.Prelude.{option_map}
-use Rattle.cweb_store.specs.Names.{Name}
-use Rattle.cweb_store.specs.Faults.{fault, fault_if}
+use Rattle.cweb_store.proofs.Common.{◌≡◌, ap, ◌∙◌, Some, sym, [], ◌∷◌, ◌++◌, append-nil, option_map, Name, fault, fault_if}
 use Rattle.cweb_store.proofs.FaultLemmas.{front_at}
 use Rattle.cweb_store.proofs.names.faults.add_fault_if.Goals as goal
 

@@ -1,13 +1,5 @@
-use Rattle.std.proofs.Common.{◌≡◌, ◌∙◌, ◌&&◌, ◌||◌, ◌++◌, [], List, not, ap, subst}
-use Rattle.std.specs.Prelude.{OnOk}
-use Rattle.std.specs.List.{list_any}
-use Rattle.cweb_store.specs.declared.names.NameFault.{NameFault}
-use Rattle.cweb_store.specs.declared.names.NameId.{NameId}
-use Rattle.cweb_store.specs.declared.names.NameKind.TheVariants.{NotPresent}
+use Rattle.cweb_store.proofs.Common.{◌≡◌, ◌∙◌, ◌&&◌, ◌||◌, ◌++◌, [], List, not, ap, subst, OnOk, list_any, NameFault, NameId, NotPresent, is_id, faults_where, is_missing, is_used, has_part, present_from}
 use Rattle.cweb_store.specs.Names as spec
-use Rattle.cweb_store.specs.Names.{is_id}
-use Rattle.cweb_store.specs.Faults.{faults_where, is_missing, is_used, has_part}
-use Rattle.cweb_store.specs.Gathered.{present_from}
 use Rattle.cweb_store.proofs.GatherLemmas.{any-used, any-present}
 use Rattle.cweb_store.proofs.names.faults.add_faults_of_parts.Goals as goal
 

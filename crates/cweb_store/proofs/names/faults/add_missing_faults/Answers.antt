@@ -1,9 +1,4 @@
-use Rattle.std.proofs.Common.{◌≡◌, ◌∙◌, ◌&&◌, ◌||◌, not, sym, ap, length, arith, ◌<◌, Some}
-use Rattle.std.proofs.lemmas.Grind.{common_steps}
-use Rattle.std.specs.Prelude.{option_map, slice_get}
-use Rattle.std.specs.List.{list_any}
-use Rattle.cweb_store.specs.declared.names.NameKind.TheVariants.{NotPresent}
-use Rattle.cweb_store.specs.Names.{Name, id, is_id}
+use Rattle.cweb_store.proofs.Common.{◌≡◌, ◌∙◌, ◌&&◌, ◌||◌, not, sym, ap, length, arith, ◌<◌, Some, common_steps, option_map, slice_get, list_any, NotPresent, Name, id, is_id}
 use Rattle.cweb_store.proofs.FaultLemmas.{front_at, faults-step}
 use Rattle.cweb_store.proofs.names.faults.add_missing_faults.Goals as goal
 

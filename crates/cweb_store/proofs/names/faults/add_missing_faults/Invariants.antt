@@ -1,8 +1,4 @@
-use Rattle.std.proofs.Common.{◌≡◌, ◌++◌, ◌&&◌, ◌||◌, not, drop}
-use Rattle.std.specs.List.{list_any}
-use Rattle.cweb_store.specs.declared.names.NameKind.TheVariants.{NotPresent}
-use Rattle.cweb_store.specs.Names.{is_id}
-use Rattle.cweb_store.specs.Faults.{faults_where, faults_from}
+use Rattle.cweb_store.proofs.Common.{◌≡◌, ◌++◌, ◌&&◌, ◌||◌, not, drop, list_any, NotPresent, is_id, faults_where, faults_from}
 use Rattle.cweb_store.proofs.names.faults.add_missing_faults.Given as goal
 
 abbrev pub invariant-loop-number : goal.invariant-loop-number

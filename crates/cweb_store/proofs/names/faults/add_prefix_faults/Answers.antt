@@ -1,9 +1,4 @@
-use Rattle.std.proofs.Common.{◌≡◌, ◌∙◌, ◌++◌, false, length, arith, ◌<◌, sym, ap, append-nil}
-use Rattle.std.proofs.lemmas.Grind.{common_steps}
-use Rattle.std.specs.List.{list_any}
-use Rattle.cweb_store.specs.declared.names.NameKind.TheVariants.{PrefixOfAnother}
-use Rattle.cweb_store.specs.Faults.{is_prefix_of_another}
-use Rattle.cweb_store.specs.Names.{texts}
+use Rattle.cweb_store.proofs.Common.{◌≡◌, ◌∙◌, ◌++◌, false, length, arith, ◌<◌, sym, ap, append-nil, common_steps, list_any, PrefixOfAnother, is_prefix_of_another, texts}
 use Rattle.cweb_store.proofs.FaultLemmas.{faults-step, faults-none}
 use Rattle.cweb_store.proofs.names.faults.add_prefix_faults.Goals as goal
 

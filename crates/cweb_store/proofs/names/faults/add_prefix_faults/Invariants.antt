@@ -1,6 +1,4 @@
-use Rattle.std.proofs.Common.{◌≡◌, ◌++◌, drop}
-use Rattle.cweb_store.specs.declared.names.NameKind.TheVariants.{PrefixOfAnother}
-use Rattle.cweb_store.specs.Faults.{faults_where, faults_from, is_prefix_of_another}
+use Rattle.cweb_store.proofs.Common.{◌≡◌, ◌++◌, drop, PrefixOfAnother, faults_where, faults_from, is_prefix_of_another}
 use Rattle.cweb_store.proofs.names.faults.add_prefix_faults.Given as goal
 
 abbrev pub invariant-loop-number : goal.invariant-loop-number

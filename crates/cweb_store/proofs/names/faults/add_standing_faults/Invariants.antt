@@ -1,5 +1,4 @@
-use Rattle.std.proofs.Common.{◌≡◌, ◌++◌, drop}
-use Rattle.cweb_store.specs.Faults.{standing_faults, standing_faults_from}
+use Rattle.cweb_store.proofs.Common.{◌≡◌, ◌++◌, drop, standing_faults, standing_faults_from}
 use Rattle.cweb_store.proofs.names.faults.add_standing_faults.Given as goal
 
 abbrev pub invariant-loop-i : goal.invariant-loop-i

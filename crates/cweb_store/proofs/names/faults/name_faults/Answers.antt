@@ -1,7 +1,5 @@
-use Rattle.std.proofs.Common.{◌≡◌, ◌∙◌, ◌++◌}
-use Rattle.cweb_store.specs.declared.names.NameKind.TheVariants.{PrefixOfAnother, NotPresent}
+use Rattle.cweb_store.proofs.Common.{◌≡◌, ◌∙◌, ◌++◌, PrefixOfAnother, NotPresent, faults_where, is_prefix_of_another, is_missing, standing_faults}
 use Rattle.cweb_store.specs.Names as spec
-use Rattle.cweb_store.specs.Faults.{faults_where, is_prefix_of_another, is_missing, standing_faults}
 use Rattle.cweb_store.proofs.names.faults.name_faults.Goals as goal
 
 pub returns : goal.returns

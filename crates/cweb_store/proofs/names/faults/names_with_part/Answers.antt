@@ -1,5 +1,4 @@
-use Rattle.std.proofs.Common.{arith}
-use Rattle.std.proofs.lemmas.Grind.{common_steps}
+use Rattle.cweb_store.proofs.Common.{arith, common_steps}
 use Rattle.cweb_store.proofs.names.faults.names_with_part.Goals as goal
 
 pub loop-run-preserved : goal.loop-run-preserved

@@ -1,5 +1,4 @@
-use Rattle.std.proofs.Common.{◌≡◌, [], drop}
-use Rattle.cweb_store.specs.Gathered.{present_from}
+use Rattle.cweb_store.proofs.Common.{◌≡◌, [], drop, present_from}
 use Rattle.cweb_store.proofs.names.faults.names_with_part.Given as goal
 
 abbrev pub invariant-loop-run : goal.invariant-loop-run

@@ -1,6 +1,4 @@
-use Rattle.std.proofs.Common.{◌≡◌, ◌∷◌, true, false, sym, ◌∙◌, ap, subst}
-use Rattle.std.specs.Prelude.{nat_eq}
-use Rattle.std.specs.List.{starts_with}
+use Rattle.cweb_store.proofs.Common.{◌≡◌, ◌∷◌, true, false, sym, ◌∙◌, ap, subst, nat_eq, starts_with}
 use Rattle.cweb_store.proofs.PrefixLemmas.{Names, names-range, names-none, names-other, names-last, names-two, names-one}
 use Rattle.cweb_store.proofs.names.found.find_one.Goals as goal
 

@@ -1,6 +1,4 @@
-use Rattle.std.proofs.Common.{◌≡◌, ◌∷◌, length}
-use Rattle.std.specs.BTreeMap.{keys}
-use Rattle.cweb_store.specs.Found.{any_next}
+use Rattle.cweb_store.proofs.Common.{◌≡◌, ◌∷◌, length, keys, any_next}
 use Rattle.cweb_store.proofs.names.found.has_prefix.Given as goal
 
 abbrev pub invariant-texts : goal.invariant-texts

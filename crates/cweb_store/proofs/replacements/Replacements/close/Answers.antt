@@ -1,10 +1,4 @@
-use Rattle.std.proofs.Common.{◌≡◌, map, sym, ◌∙◌, ap, arith}
-use Rattle.std.proofs.lemmas.Grind.{common_steps}
-use Rattle.std.proofs.lemmas.List.{take_all, drop_all}
-use Rattle.cweb_store.specs.Replaced.{replacement_in}
-use Rattle.cweb_store.specs.Replacements.{Replacement}
-use Rattle.cweb_store.specs.Texts.{replacement_text}
-use Rattle.cweb_store.specs.ClosedTokens.{with_texts}
+use Rattle.cweb_store.proofs.Common.{◌≡◌, map, sym, ◌∙◌, ap, arith, common_steps, take_all, drop_all, replacement_in, Replacement, replacement_text, with_texts}
 use Rattle.cweb_store.proofs.StoredTexts.{map-both}
 use Rattle.cweb_store.proofs.replacements.Replacements.close.Goals as goal
 

@@ -1,7 +1,4 @@
-use Rattle.std.proofs.Common.{◌≡◌, map, take, drop}
-use Rattle.cweb_store.specs.Texts.{replacement_text}
-use Rattle.cweb_store.specs.ClosedTokens.{with_texts}
-use Rattle.cweb_store.specs.Replaced.{replacement_in}
+use Rattle.cweb_store.proofs.Common.{◌≡◌, map, take, drop, replacement_text, with_texts, replacement_in}
 use Rattle.cweb_store.proofs.replacements.Replacements.close.Given as goal
 
 abbrev pub invariant-loop-replaced : goal.invariant-loop-replaced

@@ -1,6 +1,4 @@
-use Rattle.std.proofs.Common.{◌≡◌, ◌<◌, List, length, sym, ◌∙◌, ap, subst}
-use Rattle.std.specs.Prelude.{All}
-use Rattle.cweb_store.specs.declared.names.NameId.{NameId}
+use Rattle.cweb_store.proofs.Common.{◌≡◌, ◌<◌, List, length, sym, ◌∙◌, ap, subst, All, NameId}
 use Rattle.cweb_store.specs.Names as spec
 use Rattle.cweb_store.proofs.BoundLemmas.{files-within}
 use Rattle.cweb_store.proofs.store.Store.files.Goals as goal

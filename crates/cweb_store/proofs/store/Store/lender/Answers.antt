@@ -1,6 +1,4 @@
-use Rattle.std.proofs.Common.{sym, ◌∙◌, ap, map}
-use Rattle.cweb_store.specs.Borders.{lends}
-use Rattle.cweb_store.specs.Parts.{all_tokens}
+use Rattle.cweb_store.proofs.Common.{sym, ◌∙◌, ap, map, lends, all_tokens}
 use Rattle.cweb_store.proofs.RunLemmas.{whole-tokens}
 use Rattle.cweb_store.proofs.store.Store.lender.Goals as goal
 

@@ -1,9 +1,4 @@
-use Rattle.std.proofs.Common.{◌∙◌, ap, arith, length, sym}
-use Rattle.std.specs.Prelude.{slice_get}
-use Rattle.std.proofs.lemmas.List.{length-map}
-use Rattle.std.proofs.lemmas.Option.{slice_get-map}
-use Rattle.cweb_store.specs.Borders.{lends}
-use Rattle.cweb_store.specs.Parts.{all_tokens}
+use Rattle.cweb_store.proofs.Common.{◌∙◌, ap, arith, length, sym, slice_get, length-map, slice_get-map, lends, all_tokens}
 use Rattle.cweb_store.proofs.store.Store.lent.Goals as goal
 
 pub lent-requires : goal.lent-requires

@@ -1,7 +1,4 @@
-use Rattle.std.proofs.Common.{◌≡◌, ◌<◌, List, length, sym, ◌∙◌, ap, subst}
-use Rattle.std.specs.Prelude.{All}
-use Rattle.cweb_store.specs.declared.names.NameFault.{NameFault}
-use Rattle.cweb_store.specs.Faults.{faults}
+use Rattle.cweb_store.proofs.Common.{◌≡◌, ◌<◌, List, length, sym, ◌∙◌, ap, subst, All, NameFault, faults}
 use Rattle.cweb_store.proofs.BoundLemmas.{faults-within}
 use Rattle.cweb_store.proofs.store.Store.name_faults.Goals as goal
 

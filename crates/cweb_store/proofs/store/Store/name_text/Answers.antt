@@ -1,7 +1,5 @@
-use Rattle.std.proofs.Common.{◌≡◌, ◌≤◌, length, get_or, sym, ◌∙◌, ap, arith}
-use Rattle.std.specs.Prelude.{slice_get, option_map}
+use Rattle.cweb_store.proofs.Common.{◌≡◌, ◌≤◌, length, get_or, sym, ◌∙◌, ap, arith, slice_get, option_map, occurrences_at}
 use Rattle.cweb_store.specs.Names as spec
-use Rattle.cweb_store.specs.Stored.{occurrences_at}
 use Rattle.cweb_store.proofs.StoredLemmas.{first-place, occurrences-count, occurrence-text}
 use Rattle.cweb_store.proofs.store.Store.name_text.Goals as goal
 

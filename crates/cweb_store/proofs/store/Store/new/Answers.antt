@@ -1,13 +1,4 @@
-use Rattle.std.proofs.Common.{◌≡◌, List, map, sym, ◌∙◌, ap, subst}
-use Rattle.cweb_store.specs.declared.parts.Run.{Run}
-use Rattle.cweb_store.specs.Parts.{Part}
-use Rattle.cweb_store.specs.Runs.{runs_from}
-use Rattle.cweb_store.specs.Links.{AreLinked}
-use Rattle.cweb_store.specs.Stored.{AreLast}
-use Rattle.cweb_store.specs.Calls.{stored}
-use Rattle.cweb_store.specs.Answers.{AreAnswers}
-use Rattle.cweb_store.specs.Texts.{occurrence_text, replacement_text}
-use Rattle.cweb_store.specs.ClosedTokens.{with_texts}
+use Rattle.cweb_store.proofs.Common.{◌≡◌, List, map, sym, ◌∙◌, ap, subst, Run, Part, runs_from, AreLinked, AreLast, stored, AreAnswers, occurrence_text, replacement_text, with_texts}
 use Rattle.cweb_store.proofs.RunLemmas.{stored-runs}
 use Rattle.cweb_store.proofs.StoredLemmas.{all_texts, stored-is, stored-are}
 use Rattle.cweb_store.proofs.store.Store.new.Goals as goal

@@ -1,6 +1,4 @@
-use Rattle.std.proofs.Common.{List, sym, ◌∙◌, ap, subst}
-use Rattle.cweb_store.specs.Parts.{Token, all_tokens}
-use Rattle.cweb_store.specs.Next.{IsNext, is_name}
+use Rattle.cweb_store.proofs.Common.{List, sym, ◌∙◌, ap, subst, Token, all_tokens, IsNext, is_name}
 use Rattle.cweb_store.proofs.RunLemmas.{whole-tokens}
 use Rattle.cweb_store.proofs.store.Store.next_use.Goals as goal
 

@@ -1,7 +1,4 @@
-use Rattle.std.proofs.Common.{◌≡◌, ◌≤◌, length, sym, ◌∙◌, ap, arith}
-use Rattle.std.specs.Prelude.{slice_get, option_map}
-use Rattle.cweb_store.specs.Names.{Occurrence}
-use Rattle.cweb_store.specs.Stored.{occurrences_at}
+use Rattle.cweb_store.proofs.Common.{◌≡◌, ◌≤◌, length, sym, ◌∙◌, ap, arith, slice_get, option_map, Occurrence, occurrences_at}
 use Rattle.cweb_store.proofs.StoredLemmas.{occurrences-count, occurrence-text}
 use Rattle.cweb_store.proofs.store.Store.occurrence_text.Goals as goal
 

@@ -1,9 +1,6 @@
-use Rattle.std.proofs.Common.{◌≤◌, ◌<◌, ◌↔◌, List, length, sym, ◌∙◌, ap, subst}
-use Rattle.std.specs.Prelude.{All, IsTrue}
+use Rattle.cweb_store.proofs.Common.{◌≤◌, ◌<◌, ◌↔◌, List, length, sym, ◌∙◌, ap, subst, All, IsTrue, all_tokens, is_of, tokens_at, has_part}
 use Rattle.cweb_store.specs.declared.parts.Part.{Part}
 use Rattle.cweb_store.specs.Names as spec
-use Rattle.cweb_store.specs.Parts.{all_tokens, is_of, tokens_at}
-use Rattle.cweb_store.specs.Faults.{has_part}
 use Rattle.cweb_store.proofs.PartLemmas.{part-runs, tokens_at-numbers, numbers-within, numbers-ordered, numbers-some}
 use Rattle.cweb_store.proofs.store.Store.parts.Goals as goal
 

@@ -1,8 +1,4 @@
-use Rattle.std.proofs.Common.{◌≡◌, ◌+◌, Some, None, length, drop, sym, ◌∙◌, ap, arith, length-drop}
-use Rattle.std.specs.Prelude.{slice_get}
-use Rattle.std.proofs.lemmas.Option.{get_or_from_slice_get}
-use Rattle.cweb_store.specs.Replacements.{replacement}
-use Rattle.cweb_store.specs.Stored.{last_from}
+use Rattle.cweb_store.proofs.Common.{◌≡◌, ◌+◌, Some, None, length, drop, sym, ◌∙◌, ap, arith, length-drop, slice_get, get_or_from_slice_get, replacement, last_from}
 use Rattle.cweb_store.proofs.ListLemmas.{get-drop}
 use Rattle.cweb_store.proofs.StoredTexts.{at_last, last-is, last-within}
 use Rattle.cweb_store.proofs.store.Store.replacement.Goals as goal

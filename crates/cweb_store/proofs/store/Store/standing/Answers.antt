@@ -1,6 +1,4 @@
-use Rattle.std.proofs.Common.{◌≡◌, ◌<◌, Option, length, sym, ◌∙◌, ap, subst}
-use Rattle.std.specs.Prelude.{IfSome}
-use Rattle.cweb_store.specs.declared.names.NameId.{NameId}
+use Rattle.cweb_store.proofs.Common.{◌≡◌, ◌<◌, Option, length, sym, ◌∙◌, ap, subst, IfSome, NameId}
 use Rattle.cweb_store.specs.Names as spec
 use Rattle.cweb_store.proofs.BoundLemmas.{standing-within}
 use Rattle.cweb_store.proofs.store.Store.standing.Goals as goal

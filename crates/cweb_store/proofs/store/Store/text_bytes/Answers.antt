@@ -1,6 +1,4 @@
-use Rattle.std.proofs.Common.{◌∙◌, ap, subst, arith}
-use Rattle.cweb_store.specs.Calls.{Stored}
-use Rattle.cweb_store.specs.Texts.{AreInOneList, bytes_kept, texts_of}
+use Rattle.cweb_store.proofs.Common.{◌∙◌, ap, subst, arith, Stored, AreInOneList, bytes_kept, texts_of}
 use Rattle.cweb_store.proofs.StoredTexts.{store-texts, store-bytes, bytes-few}
 use Rattle.cweb_store.proofs.store.Store.text_bytes.Goals as goal
 

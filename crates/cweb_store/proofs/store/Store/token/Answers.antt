@@ -1,6 +1,4 @@
-use Rattle.std.proofs.Common.{sym, ◌∙◌, ap}
-use Rattle.std.specs.Prelude.{slice_get}
-use Rattle.cweb_store.specs.Parts.{all_tokens}
+use Rattle.cweb_store.proofs.Common.{sym, ◌∙◌, ap, slice_get, all_tokens}
 use Rattle.cweb_store.proofs.RunLemmas.{whole-tokens}
 use Rattle.cweb_store.proofs.store.Store.token.Goals as goal
 

@@ -1,5 +1,4 @@
-use Rattle.std.proofs.Common.{length, sym, ◌∙◌, ap}
-use Rattle.cweb_store.specs.Parts.{all_tokens}
+use Rattle.cweb_store.proofs.Common.{length, sym, ◌∙◌, ap, all_tokens}
 use Rattle.cweb_store.proofs.RunLemmas.{whole-tokens}
 use Rattle.cweb_store.proofs.store.Store.tokens.Goals as goal
 

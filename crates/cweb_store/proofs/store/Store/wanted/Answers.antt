@@ -1,11 +1,5 @@
-use Rattle.std.proofs.Common.{◌≡◌, ◌-◌, filter, length, ◌∙◌, ap, arith}
-use Rattle.std.proofs.lemmas.List.{length-map}
-use Rattle.std.proofs.lemmas.List.Sums.{length-filter, count_by-le-length}
+use Rattle.cweb_store.proofs.Common.{◌≡◌, ◌-◌, filter, length, ◌∙◌, ap, arith, length-map, length-filter, count_by-le-length, runs_from, is_wanted, wanted_in, followed, Run}
 use Rattle.cweb_store.specs.Names as spec
-use Rattle.cweb_store.specs.Runs.{runs_from}
-use Rattle.cweb_store.specs.Wanted.{is_wanted, wanted_in}
-use Rattle.cweb_store.specs.Links.{followed}
-use Rattle.cweb_store.specs.declared.parts.Run.{Run}
 use Rattle.cweb_store.proofs.RunLemmas.{stored-runs}
 use Rattle.cweb_store.proofs.store.Store.wanted.Goals as goal
 

@@ -1,4 +1,4 @@
-use Rattle.std.proofs.Common.{sym}
+use Rattle.cweb_store.proofs.Common.{sym}
 use Rattle.cweb_store.proofs.BorderLemmas.{border-last}
 use Rattle.cweb_store.proofs.tokens.borders.sign_border.Goals as goal
 

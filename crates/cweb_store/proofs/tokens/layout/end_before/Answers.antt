@@ -1,9 +1,4 @@
-use Rattle.std.proofs.Common.{◌≡◌, suc, ◌-◌, true, false, take, sym, ◌∙◌, ap, arith}
-use Rattle.std.specs.Prelude.{filter, if◌then◌else◌}
-use Rattle.cweb_store.specs.Layout.{without_last_after}
-use Rattle.cweb_store.specs.Trailing.{is_dropped}
-use Rattle.cweb_store.specs.Seen.{seen}
-use Rattle.cweb_store.specs.Texts.{has_text}
+use Rattle.cweb_store.proofs.Common.{◌≡◌, suc, ◌-◌, true, false, take, sym, ◌∙◌, ap, arith, filter, if◌then◌else◌, without_last_after, is_dropped, seen, has_text}
 use Rattle.cweb_store.proofs.LayoutLemmas.{trim-next}
 use Rattle.cweb_store.proofs.LayoutTexts.{trimmed-texts}
 use Rattle.cweb_store.proofs.tokens.layout.end_before.Goals as goal

@@ -1,6 +1,4 @@
-use Rattle.std.proofs.Common.{◌≡◌, ◌≤◌, ℕ, length, take}
-use Rattle.cweb_store.specs.Layout.{without_last_after}
-use Rattle.cweb_store.specs.Trailing.{is_dropped}
+use Rattle.cweb_store.proofs.Common.{◌≡◌, ◌≤◌, ℕ, length, take, without_last_after, is_dropped}
 use Rattle.cweb_store.proofs.tokens.layout.end_before.Given as goal
 
 abbrev pub invariant-loop-end : goal.invariant-loop-end

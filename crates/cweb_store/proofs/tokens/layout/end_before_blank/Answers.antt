@@ -1,8 +1,4 @@
-use Rattle.std.proofs.Common.{◌≡◌, suc, ◌-◌, take, drop, sym, ◌∙◌, ap, arith}
-use Rattle.std.specs.Prelude.{filter}
-use Rattle.cweb_store.specs.Layout.{without_blank}
-use Rattle.cweb_store.specs.Seen.{seen}
-use Rattle.cweb_store.specs.Texts.{has_text}
+use Rattle.cweb_store.proofs.Common.{◌≡◌, suc, ◌-◌, take, drop, sym, ◌∙◌, ap, arith, filter, without_blank, seen, has_text}
 use Rattle.cweb_store.proofs.LayoutTexts.{blank-texts}
 use Rattle.cweb_store.proofs.LayoutLemmas.{blank-dropped, blank-none, drop-all}
 use Rattle.cweb_store.proofs.tokens.layout.end_before_blank.Goals as goal

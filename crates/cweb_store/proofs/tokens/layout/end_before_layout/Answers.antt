@@ -1,7 +1,4 @@
-use Rattle.std.proofs.Common.{◌≡◌, ℕ, ◌+◌, take, drop, sym, ◌∙◌, ap}
-use Rattle.std.specs.Prelude.{if◌then◌else◌}
-use Rattle.cweb_store.specs.Parts.{Part}
-use Rattle.cweb_store.specs.Layout.{first_kept, is_layout, without_last_after}
+use Rattle.cweb_store.proofs.Common.{◌≡◌, ℕ, ◌+◌, take, drop, sym, ◌∙◌, ap, if◌then◌else◌, Part, first_kept, is_layout, without_last_after}
 use Rattle.cweb_store.proofs.LayoutLemmas.{trim-drop}
 use Rattle.cweb_store.proofs.tokens.layout.end_before_layout.Goals as goal
 use Rattle.cweb_store.proofs.tokens.layout.end_before_layout.Goals.{then-is_macro, else-is_macro}

@@ -1,4 +1,4 @@
-use Rattle.std.proofs.Common.{rules}
+use Rattle.cweb_store.proofs.Common.{rules}
 use Rattle.cweb_store.proofs.tokens.layout.is_dropped.Goals as goal
 
 pub returns-in-Layout-Mark : goal.returns-in-Layout-Mark

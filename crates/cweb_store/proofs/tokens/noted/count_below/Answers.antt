@@ -1,5 +1,4 @@
-use Rattle.std.proofs.Common.{rules, ltb}
-use Rattle.std.proofs.lemmas.List.Sorted.{IsPartitionPoint-from_clause, IsPartitionedBy-ltb}
+use Rattle.cweb_store.proofs.Common.{rules, ltb, IsPartitionPoint-from_clause, IsPartitionedBy-ltb}
 use Rattle.cweb_store.proofs.NotedLemmas.{point-is}
 use Rattle.cweb_store.proofs.tokens.noted.count_below.Goals as goal
 

@@ -1,4 +1,4 @@
-use Rattle.std.proofs.Common.{arith, length, sym, ltb-true, ltb-false}
+use Rattle.cweb_store.proofs.Common.{arith, length, sym, ltb-true, ltb-false}
 use Rattle.cweb_store.proofs.NextLemmas.{next-is, next-none, next-past}
 use Rattle.cweb_store.proofs.tokens.noted.next_noted.Goals as goal
 

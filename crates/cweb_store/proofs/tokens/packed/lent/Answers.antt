@@ -1,4 +1,4 @@
-use Rattle.std.proofs.Common.{rules}
+use Rattle.cweb_store.proofs.Common.{rules}
 use Rattle.cweb_store.proofs.tokens.packed.lent.Goals as goal
 
 pub returns-in-Blank : goal.returns-in-Blank

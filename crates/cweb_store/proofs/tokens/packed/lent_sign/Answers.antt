@@ -1,5 +1,4 @@
-use Rattle.std.proofs.Common.{rules, ◌≡◌, true}
-use Rattle.cweb_store.specs.Borders.{is_told}
+use Rattle.cweb_store.proofs.Common.{rules, ◌≡◌, true, is_told}
 use Rattle.cweb_store.proofs.BorderLemmas.{sign-lends}
 use Rattle.cweb_store.proofs.PackedLemmas.{get-text}
 use Rattle.cweb_store.proofs.tokens.packed.lent_sign.Goals as goal

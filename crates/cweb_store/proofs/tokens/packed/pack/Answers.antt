@@ -1,7 +1,5 @@
-use Rattle.std.proofs.Common.{ap, arith}
+use Rattle.cweb_store.proofs.Common.{ap, arith, Packs, Number, Literal, Verbatim}
 use Rattle.cweb_store.specs.Parts as spec
-use Rattle.cweb_store.specs.Packed.{Packs}
-use Rattle.cweb_store.specs.declared.tokens.packed.Packed.TheVariants.{Number, Literal, Verbatim}
 use Rattle.cweb_store.proofs.PackedLemmas.{get-text, get-within}
 use Rattle.cweb_store.proofs.tokens.packed.pack.Goals as goal
 

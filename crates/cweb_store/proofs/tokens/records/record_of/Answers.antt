@@ -1,5 +1,4 @@
-use Rattle.std.proofs.Common.{arith}
-use Rattle.std.proofs.lemmas.Grind.{common_steps}
+use Rattle.cweb_store.proofs.Common.{arith, common_steps}
 use Rattle.cweb_store.proofs.tokens.records.record_of.Goals as goal
 
 pub returns-in-Mark : goal.returns-in-Mark

@@ -1,11 +1,4 @@
-use Rattle.std.proofs.Common.{◌+◌, ◌++◌, List, ℕ, refl, sym, ◌∙◌, ap, subst}
-use Rattle.std.specs.Prelude.{IsTrue}
-use Rattle.cweb_lines.specs.Naming.{blame}
-use Rattle.cweb_lines.specs.Texts.{read_blame}
-use Rattle.cweb_lines.specs.Whole.{so_far}
-use Rattle.cweb_scan.specs.Scan.{seen}
-use Rattle.cweb_log.specs.Options.{Asked, options_of}
-use Rattle.cweb_log.specs.Seen.{seen_bins, seen_shelf, seen_stream}
+use Rattle.cweb_tools.proofs.Common.{◌+◌, ◌++◌, List, ℕ, refl, sym, ◌∙◌, ap, subst, IsTrue, blame, read_blame, so_far, seen, Asked, options_of, seen_bins, seen_shelf, seen_stream}
 use Rattle.cweb_tools.proofs.ReadingExits.{read_stops, read_whole}
 use Rattle.cweb_tools.proofs.tangle.begun.tangle_begun.Goals as goal
 

@@ -1,11 +1,4 @@
-use Rattle.std.proofs.Common.{[], ◌∷◌, List, ℕ, false, refl, ap, ◌+◌, subst}
-use Rattle.std.specs.Prelude.{Ok, Err}
-use Rattle.cweb_files.specs.declared.device.SinkFault.{SinkFault}
-use Rattle.cweb_log.specs.Gathering.{Writes}
-use Rattle.cweb_log.specs.Items.{fault}
-use Rattle.cweb_log.specs.Seen.{seen_stream}
-use Rattle.cweb_log.specs.WebItems.{refusal_text}
-use Rattle.cweb_tools.specs.Acts.{says}
+use Rattle.cweb_tools.proofs.Common.{[], ◌∷◌, List, ℕ, false, refl, ap, ◌+◌, subst, Ok, Err, SinkFault, Writes, fault, seen_stream, refusal_text, says}
 use Rattle.cweb_tools.proofs.DoingFiles.{closes_told, closing_on, log_closes_on, log_halts}
 use Rattle.cweb_tools.proofs.Logging.{said}
 use Rattle.cweb_tools.proofs.Refusals.{each_some, refusal_line}

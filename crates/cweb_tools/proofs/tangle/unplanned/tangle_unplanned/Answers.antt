@@ -1,12 +1,4 @@
-use Rattle.std.proofs.Common.{[], ◌∷◌, refl, sym, subst}
-use Rattle.cweb_scan.specs.Scan.{seen}
-use Rattle.cweb_log.specs.Items.{fault_count}
-use Rattle.cweb_log.specs.Seen.{seen_stream}
-use Rattle.cweb_tools.specs.Acts.{plans}
-use Rattle.cweb_tools.specs.Does.{ClosesInLog}
-use Rattle.cweb_tools.specs.Script.{Planning, planned_acts}
-use Rattle.cweb_tools.specs.Tangle.{numbers_of, status_by}
-use Rattle.cweb_tools.specs.Web.{faults_of, files_of}
+use Rattle.cweb_tools.proofs.Common.{[], ◌∷◌, refl, sym, subst, seen, fault_count, seen_stream, plans, ClosesInLog, Planning, planned_acts, numbers_of, status_by, faults_of, files_of}
 use Rattle.cweb_tools.proofs.DoingFiles.{log_closes_on, log_memory_halts, log_planned}
 use Rattle.cweb_tools.proofs.Refusals.{IsRefused, of_some, planning_refused, refused_by}
 use Rattle.cweb_tools.proofs.tangle.unplanned.tangle_unplanned.Goals as goal

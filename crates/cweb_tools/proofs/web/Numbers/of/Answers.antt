@@ -1,4 +1,4 @@
-use Rattle.std.proofs.Common.{length, ◌∙◌, ap}
+use Rattle.cweb_tools.proofs.Common.{length, ◌∙◌, ap}
 use Rattle.cweb_tools.proofs.FaultItems.{macros_counted}
 use Rattle.cweb_tools.proofs.web.Numbers.of.Goals as goal
 

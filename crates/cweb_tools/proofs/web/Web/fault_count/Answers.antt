@@ -1,6 +1,4 @@
-use Rattle.std.proofs.Common.{length, ap, arith}
-use Rattle.cweb_scan.specs.Scan.{seen}
-use Rattle.cweb_tools.specs.Web.{files_of}
+use Rattle.cweb_tools.proofs.Common.{length, ap, arith, seen, files_of}
 use Rattle.cweb_tools.proofs.FaultItems.{all_counted}
 use Rattle.cweb_tools.proofs.web.Web.fault_count.Goals as goal
 

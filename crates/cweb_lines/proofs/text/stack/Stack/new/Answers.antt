@@ -1,4 +1,4 @@
-use Rattle.std.proofs.Common.{arith}
+use Rattle.cweb_lines.proofs.Common.{arith}
 use Rattle.cweb_lines.specs.Texts.{gaps_from, most}
 use Rattle.cweb_lines.proofs.text.stack.Stack.new.Goals as goal
 

@@ -1,4 +1,4 @@
-use Rattle.std.proofs.Common.{◌<◌, ◌≡◌, ◌+◌, Some, length, refl, set, arith}
+use Rattle.cweb_lines.proofs.Common.{◌<◌, ◌≡◌, ◌+◌, Some, length, refl, set, arith}
 use Rattle.cweb_lines.proofs.Stacks.{pushed, stays_below, deep-set}
 use Rattle.cweb_lines.proofs.text.stack.Stack.push.Goals as goal
 

@@ -1,4 +1,4 @@
-use Rattle.std.proofs.Common.{rules}
+use Rattle.cweb_out.proofs.Common.{rules}
 use Rattle.cweb_out.proofs.bins.memory.MemoryBinsBins.abandon_file.Goals as goal
 
 pub returns-clause-gone : goal.returns-clause-gone

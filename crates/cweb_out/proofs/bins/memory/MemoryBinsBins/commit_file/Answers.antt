@@ -1,7 +1,4 @@
-use Rattle.std.proofs.Common.{◌≡◌, sym, ◌∙◌, ap, Some, None, map, List, Option, option_map, ℕ}
-use Rattle.cweb_files.specs.Files.{File, Beside, committed}
-use Rattle.cweb_out.specs.declared.bins.memory.BinFile.{BinFile}
-use Rattle.cweb_out.specs.Memory.{file_of, name_of, bytes_of, refusal_kept}
+use Rattle.cweb_out.proofs.Common.{◌≡◌, sym, ◌∙◌, ap, Some, None, map, List, Option, option_map, ℕ, File, Beside, committed, BinFile, file_of, name_of, bytes_of, refusal_kept}
 use Rattle.cweb_out.proofs.Commits.{commits}
 use Rattle.cweb_out.proofs.bins.memory.MemoryBinsBins.commit_file.Goals as goal
 

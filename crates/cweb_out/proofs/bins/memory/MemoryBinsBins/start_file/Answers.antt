@@ -1,4 +1,4 @@
-use Rattle.std.proofs.Common.{rules}
+use Rattle.cweb_out.proofs.Common.{rules}
 use Rattle.cweb_out.proofs.bins.memory.MemoryBinsBins.start_file.Goals as goal
 
 pub returns-in_default-clause-err : goal.returns-in_default-clause-err

@@ -1,4 +1,4 @@
-use Rattle.std.proofs.Common.{rules}
+use Rattle.cweb_out.proofs.Common.{rules}
 use Rattle.cweb_out.proofs.bins.memory.MemoryBinsSink.write.Goals as goal
 
 pub returns-then-is_err-clause-err : goal.returns-then-is_err-clause-err

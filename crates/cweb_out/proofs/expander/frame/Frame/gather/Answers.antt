@@ -1,6 +1,4 @@
-use Rattle.std.proofs.Common.{◌≡◌, ◌∷◌, ◌∙◌, List, ap, sym}
-use Rattle.cweb_store.specs.declared.parts.Part.{Part}
-use Rattle.cweb_out.specs.Frames.{suffix}
+use Rattle.cweb_out.proofs.Common.{◌≡◌, ◌∷◌, ◌∙◌, List, ap, sym, Part, suffix}
 use Rattle.cweb_out.proofs.Gathers.{front_more, front_to}
 use Rattle.cweb_out.proofs.Suffixes.{suffix-next, IsWithin-next}
 use Rattle.cweb_out.proofs.expander.frame.Frame.gather.Goals as goal

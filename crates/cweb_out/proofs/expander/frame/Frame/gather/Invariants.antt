@@ -1,7 +1,4 @@
-use Rattle.std.proofs.Common.{◌≡◌, length, false}
-use Rattle.cweb_out.specs.Frames.{suffix, IsWithin}
-use Rattle.cweb_out.specs.Gathering.{PrintsFront}
-use Rattle.cweb_out.specs.Printed.{setting_of}
+use Rattle.cweb_out.proofs.Common.{◌≡◌, length, false, suffix, IsWithin, PrintsFront, setting_of}
 use Rattle.cweb_out.proofs.expander.frame.Frame.gather.Given as goal
 
 abbrev pub invariant-parts : goal.invariant-parts

@@ -1,6 +1,4 @@
-use Rattle.std.proofs.Common.{slice_range}
-use Rattle.cweb_store.specs.Parts.{all_tokens}
-use Rattle.cweb_out.specs.Frames.{suffix}
+use Rattle.cweb_out.proofs.Common.{slice_range, all_tokens, suffix}
 use Rattle.cweb_out.proofs.Gathers.{front_none}
 use Rattle.cweb_out.proofs.Passes.{suffix-passed}
 use Rattle.cweb_out.proofs.expander.frame.Frame.gather_part.Goals as goal

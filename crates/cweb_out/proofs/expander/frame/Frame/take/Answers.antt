@@ -1,4 +1,4 @@
-use Rattle.std.proofs.Common.{arith, ◌∙◌, ◌≡◌, ◌∷◌, rules}
+use Rattle.cweb_out.proofs.Common.{arith, ◌∙◌, ◌≡◌, ◌∷◌, rules}
 use Rattle.cweb_out.proofs.Suffixes.{suffix-first, suffix-next, IsWithin-next}
 use Rattle.cweb_out.proofs.expander.frame.Frame.take.Goals as goal
 

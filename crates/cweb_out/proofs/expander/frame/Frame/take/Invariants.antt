@@ -1,5 +1,4 @@
-use Rattle.std.proofs.Common.{◌≡◌, length, false}
-use Rattle.cweb_out.specs.Frames.{suffix, IsWithin}
+use Rattle.cweb_out.proofs.Common.{◌≡◌, length, false, suffix, IsWithin}
 use Rattle.cweb_out.proofs.expander.frame.Frame.take.Given as goal
 
 abbrev pub invariant-parts : goal.invariant-parts

@@ -1,5 +1,4 @@
-use Rattle.std.proofs.Common.{arith}
-use Rattle.cweb_store.specs.Parts.{Name}
+use Rattle.cweb_out.proofs.Common.{arith, Name}
 use Rattle.cweb_out.proofs.Suffixes.{suffix-first}
 use Rattle.cweb_out.proofs.expander.frame.Frame.take_name.Goals as goal
 

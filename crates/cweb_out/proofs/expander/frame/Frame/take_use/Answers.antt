@@ -1,5 +1,4 @@
-use Rattle.std.proofs.Common.{◌≡◌, ◌∷◌, refl}
-use Rattle.cweb_store.specs.Parts.{Name}
+use Rattle.cweb_out.proofs.Common.{◌≡◌, ◌∷◌, refl, Name}
 use Rattle.cweb_out.proofs.Suffixes.{IsWithin-next}
 use Rattle.cweb_out.proofs.FirstUses.{pass-on, pass-part, pass-to-use}
 use Rattle.cweb_out.proofs.expander.frame.Frame.take_use.Goals as goal

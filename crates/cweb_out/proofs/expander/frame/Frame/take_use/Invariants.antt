@@ -1,6 +1,4 @@
-use Rattle.std.proofs.Common.{◌≡◌, length, false}
-use Rattle.cweb_out.specs.Frames.{suffix, IsWithin}
-use Rattle.cweb_out.specs.Uses.{PassesNoUse}
+use Rattle.cweb_out.proofs.Common.{◌≡◌, length, false, suffix, IsWithin, PassesNoUse}
 use Rattle.cweb_out.proofs.expander.frame.Frame.take_use.Given as goal
 
 abbrev pub invariant-parts : goal.invariant-parts

@@ -1,7 +1,4 @@
-use Rattle.std.proofs.Common.{rules, ◌∙◌, ap, sym, List, get_or, arith}
-use Rattle.std.proofs.lemmas.Grind.{common_steps}
-use Rattle.cweb_out.specs.declared.planning.search.Waiting.{Waiting}
-use Rattle.cweb_out.specs.Search.{with_next}
+use Rattle.cweb_out.proofs.Common.{rules, ◌∙◌, ap, sym, List, get_or, arith, common_steps, Waiting, with_next}
 use Rattle.cweb_out.proofs.Walks.{from-more}
 use Rattle.cweb_out.proofs.planning.search.Search.back_to.Goals as goal
 

@@ -1,9 +1,4 @@
-use Rattle.std.proofs.Common.{◌≡◌, ◌++◌, ◌∷◌, [], List, sym, subst, true}
-use Rattle.std.specs.List.{list_any}
-use Rattle.cweb_store.specs.Names.{is_id}
-use Rattle.cweb_store.specs.Calls.{Stored}
-use Rattle.cweb_out.specs.Search.{Begins, IsEndless, path_of}
-use Rattle.cweb_out.specs.declared.planning.search.Waiting.{Waiting}
+use Rattle.cweb_out.proofs.Common.{◌≡◌, ◌++◌, ◌∷◌, [], List, sym, subst, true, list_any, is_id, Stored, Begins, IsEndless, path_of, Waiting}
 use Rattle.cweb_out.proofs.Waits.{top-name, on-top}
 use Rattle.cweb_out.proofs.Walks.{path-cycle}
 use Rattle.cweb_out.proofs.planning.search.Search.settle.Goals as goal

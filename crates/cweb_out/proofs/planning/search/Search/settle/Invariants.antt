@@ -1,6 +1,4 @@
-use Rattle.std.proofs.Common.{◌≡◌, None}
-use Rattle.std.specs.Prelude.{sum_by}
-use Rattle.cweb_out.specs.Search.{Begins, Chain, Fits, marks_left}
+use Rattle.cweb_out.proofs.Common.{◌≡◌, None, sum_by, Begins, Chain, Fits, marks_left}
 use Rattle.cweb_out.proofs.planning.search.Search.settle.Given as goal
 
 abbrev pub invariant-names : goal.invariant-names

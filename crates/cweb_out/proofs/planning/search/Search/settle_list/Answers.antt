@@ -1,4 +1,4 @@
-use Rattle.cweb_store.specs.Calls.{Stored}
+use Rattle.cweb_out.proofs.Common.{Stored}
 use Rattle.cweb_out.proofs.Searches.{settled}
 use Rattle.cweb_out.proofs.planning.search.Search.settle_list.Goals as goal
 

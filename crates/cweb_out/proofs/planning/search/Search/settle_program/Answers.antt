@@ -1,8 +1,4 @@
-use Rattle.std.proofs.Common.{refl, None, [], ◌∙◌}
-use Rattle.cweb_store.specs.Calls.{Stored}
-use Rattle.cweb_out.specs.Frames.{suffix}
-use Rattle.cweb_out.specs.Outputs.{root_list}
-use Rattle.cweb_out.specs.Search.{Meets}
+use Rattle.cweb_out.proofs.Common.{refl, None, [], ◌∙◌, Stored, suffix, root_list, Meets}
 use Rattle.cweb_out.proofs.Lookings.{looked-more, looked-on, looked-all}
 use Rattle.cweb_out.proofs.Searches.{program-endless}
 use Rattle.cweb_out.proofs.planning.search.Search.settle_program.Goals as goal

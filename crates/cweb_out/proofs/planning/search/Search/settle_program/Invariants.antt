@@ -1,7 +1,4 @@
-use Rattle.std.proofs.Common.{◌≡◌, None, [], length}
-use Rattle.cweb_out.specs.Frames.{IsWithin, suffix}
-use Rattle.cweb_out.specs.Outputs.{root_list}
-use Rattle.cweb_out.specs.Search.{Fits, Looked}
+use Rattle.cweb_out.proofs.Common.{◌≡◌, None, [], length, IsWithin, suffix, root_list, Fits, Looked}
 use Rattle.cweb_out.proofs.planning.search.Search.settle_program.Given as goal
 
 abbrev pub invariant-names : goal.invariant-names

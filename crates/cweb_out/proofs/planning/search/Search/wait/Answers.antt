@@ -1,6 +1,4 @@
-use Rattle.std.proofs.Common.{refl}
-use Rattle.cweb_store.specs.Calls.{Stored}
-use Rattle.cweb_out.specs.declared.planning.search.Waiting.{Waiting}
+use Rattle.cweb_out.proofs.Common.{refl, Stored, Waiting}
 use Rattle.cweb_out.proofs.Waits.{waited-fits}
 use Rattle.cweb_out.proofs.planning.search.Search.wait.Goals as goal
 

@@ -1,10 +1,4 @@
-use Rattle.std.proofs.Common.{◌≡◌, [], ◌∷◌, ◌++◌, sym, ◌∙◌, ap, false, length}
-use Rattle.std.specs.Prelude.{bytes_eq}
-use Rattle.std.specs.List.{list_any, position_or_len}
-use Rattle.std.proofs.lemmas.List.{length-map, map-append}
-use Rattle.cweb_store.specs.declared.names.known.KnownName.{KnownName}
-use Rattle.cweb_store.specs.Names.{Name, id, texts}
-use Rattle.cweb_store.specs.Known.{name_in, names_in}
+use Rattle.cweb_store.proofs.Common.{◌≡◌, [], ◌∷◌, ◌++◌, sym, ◌∙◌, ap, false, length, bytes_eq, list_any, position_or_len, length-map, map-append, KnownName, Name, id, texts, name_in, names_in}
 use Rattle.cweb_store.proofs.NameLemmas.{position-none, with_text-there, with_text-new, known-push}
 use Rattle.cweb_store.proofs.KnownLemmas.{known-old, known-new}
 use Rattle.cweb_store.proofs.names.known.KnownNames.add.Goals as goal

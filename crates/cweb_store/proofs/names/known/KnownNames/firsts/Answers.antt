@@ -1,6 +1,4 @@
-use Rattle.std.proofs.Common.{◌≡◌, suc, ◌+◌, [], ◌∷◌, ◌++◌, map, take, sym, ◌∙◌, ap, arith}
-use Rattle.std.proofs.lemmas.Grind.{common_steps}
-use Rattle.cweb_store.specs.Names.{Name}
+use Rattle.cweb_store.proofs.Common.{◌≡◌, suc, ◌+◌, [], ◌∷◌, ◌++◌, map, take, sym, ◌∙◌, ap, arith, common_steps, Name}
 use Rattle.cweb_store.proofs.StoredTexts.{firsts-next}
 use Rattle.cweb_store.proofs.names.known.KnownNames.firsts.Goals as goal
 

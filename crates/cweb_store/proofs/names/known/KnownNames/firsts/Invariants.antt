@@ -1,4 +1,4 @@
-use Rattle.std.proofs.Common.{◌≡◌, map, take}
+use Rattle.cweb_store.proofs.Common.{◌≡◌, map, take}
 use Rattle.cweb_store.proofs.names.known.KnownNames.firsts.Given as goal
 
 abbrev pub invariant-loop-number : goal.invariant-loop-number

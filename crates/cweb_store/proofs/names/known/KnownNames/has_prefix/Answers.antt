@@ -1,8 +1,4 @@
-use Rattle.std.proofs.Common.{ap, ◌∙◌}
-use Rattle.std.specs.List.{list_any}
-use Rattle.cweb_store.specs.Names.{texts}
-use Rattle.cweb_store.specs.Faults.{is_prefix_of_another}
-use Rattle.cweb_store.specs.Known.{names_in}
+use Rattle.cweb_store.proofs.Common.{ap, ◌∙◌, list_any, texts, is_prefix_of_another, names_in}
 use Rattle.cweb_store.proofs.NeighbourLemmas.{next-prefix}
 use Rattle.cweb_store.proofs.names.known.KnownNames.has_prefix.Goals as goal
 

@@ -1,6 +1,4 @@
-use Rattle.std.proofs.Common.{ap, ◌∙◌, Some, sym, subst, List}
-use Rattle.cweb_store.specs.Names.{Name, texts, beginning}
-use Rattle.cweb_store.specs.Found.{Distinct, found_of, is_several}
+use Rattle.cweb_store.proofs.Common.{ap, ◌∙◌, Some, sym, subst, List, Name, texts, beginning, Distinct, found_of, is_several}
 use Rattle.cweb_store.proofs.FaultLemmas.{prefix-several}
 use Rattle.cweb_store.proofs.names.known.KnownNames.is_prefix.Goals as goal
 

@@ -1,9 +1,4 @@
-use Rattle.std.proofs.Common.{◌≡◌, List, true, sym, ◌∙◌, ap, subst}
-use Rattle.std.specs.Prelude.{bytes_eq}
-use Rattle.std.specs.List.{list_any}
-use Rattle.cweb_store.specs.Names.{Name, texts}
-use Rattle.cweb_store.specs.Found.{Distinct}
-use Rattle.cweb_store.specs.Known.{names_in}
+use Rattle.cweb_store.proofs.Common.{◌≡◌, List, true, sym, ◌∙◌, ap, subst, bytes_eq, list_any, Name, texts, Distinct, names_in}
 use Rattle.cweb_store.proofs.NameLemmas.{known-at, with_text-there}
 use Rattle.cweb_store.proofs.names.known.KnownNames.know.Goals as goal
 

@@ -1,6 +1,5 @@
-use Rattle.std.proofs.Common.{◌≡◌, sym, ◌∙◌, nat_cmp}
-use Rattle.std.specs.Cmp.Lexicographic.{slice_cmp}
-use Rattle.cweb_store.specs.Fronts.{front_of}
+use Rattle.cweb_store.proofs.Common.{◌≡◌, sym, ◌∙◌, slice_cmp, front_of}
+use Rattle.std.proofs.Common.{nat_cmp}
 use Rattle.cweb_store.proofs.FrontLemmas.{fronts-tell}
 use Rattle.cweb_store.proofs.names.sorted.SortedTextOrd.cmp.Goals as goal
 

@@ -1,9 +1,4 @@
-use Rattle.std.proofs.Common.{◌≡◌, ◌<◌, ◌+◌, ◌∙◌, ap, length, arith}
-use Rattle.std.proofs.lemmas.Grind.{common_steps}
-use Rattle.cweb_store.specs.declared.names.table.GivenAs.{GivenAs}
-use Rattle.cweb_store.specs.Calls.{occurrence_of, too_many}
-use Rattle.cweb_store.specs.Names.{with_name}
-use Rattle.cweb_store.specs.Stored.{occurrences_at}
+use Rattle.cweb_store.proofs.Common.{◌≡◌, ◌<◌, ◌+◌, ◌∙◌, ap, length, arith, common_steps, GivenAs, occurrence_of, too_many, with_name, occurrences_at}
 use Rattle.cweb_store.proofs.StoredLemmas.{occurrences-count}
 use Rattle.cweb_store.proofs.OccurrenceLemmas.{names-few}
 use Rattle.cweb_store.proofs.GivenLemmas.{given-push, occurrences-push}

@@ -1,8 +1,4 @@
-use Rattle.std.proofs.Common.{◌≡◌, ◌+◌, [], ◌∷◌, map, drop, sym, ◌∙◌, ap, refl, arith}
-use Rattle.std.proofs.lemmas.List.{drop_all}
-use Rattle.cweb_store.specs.ClosedTokens.{with_texts}
-use Rattle.cweb_store.specs.Stored.{given_as}
-use Rattle.cweb_store.specs.Texts.{occurrence_text}
+use Rattle.cweb_store.proofs.Common.{◌≡◌, ◌+◌, [], ◌∷◌, map, drop, sym, ◌∙◌, ap, refl, arith, drop_all, with_texts, given_as, occurrence_text}
 use Rattle.cweb_store.proofs.GivenLemmas.{drop-at, texts-back, given-back}
 use Rattle.cweb_store.proofs.names.table.NameTable.close.Goals as goal
 

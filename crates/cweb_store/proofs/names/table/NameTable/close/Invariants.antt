@@ -1,5 +1,4 @@
-use Rattle.std.proofs.Common.{◌≡◌, drop}
-use Rattle.cweb_store.specs.ClosedTokens.{with_texts}
+use Rattle.cweb_store.proofs.Common.{◌≡◌, drop, with_texts}
 use Rattle.cweb_store.proofs.names.table.NameTable.close.Given as goal
 
 abbrev pub invariant-loop-number : goal.invariant-loop-number

@@ -1,8 +1,4 @@
-use Rattle.std.proofs.Common.{◌≡◌, ◌+◌, [], ◌∷◌, drop, length, sym, ◌∙◌, ap, arith}
-use Rattle.std.proofs.lemmas.Grind.{common_steps}
-use Rattle.std.proofs.lemmas.List.{drop_all}
-use Rattle.cweb_store.specs.Names.{files_from}
-use Rattle.cweb_store.specs.Stored.{occurrences_at}
+use Rattle.cweb_store.proofs.Common.{◌≡◌, ◌+◌, [], ◌∷◌, drop, length, sym, ◌∙◌, ap, arith, common_steps, drop_all, files_from, occurrences_at}
 use Rattle.cweb_store.proofs.FaultLemmas.{front_at}
 use Rattle.cweb_store.proofs.GivenLemmas.{drop-at}
 use Rattle.cweb_store.proofs.names.table.NameTable.files.Goals as goal

@@ -1,6 +1,4 @@
-use Rattle.std.proofs.Common.{◌≡◌, ℕ, List, [], drop, length}
-use Rattle.cweb_store.specs.Names.{files_from}
-use Rattle.cweb_store.specs.Stored.{occurrences_at}
+use Rattle.cweb_store.proofs.Common.{◌≡◌, ℕ, List, [], drop, length, files_from, occurrences_at}
 use Rattle.cweb_store.proofs.names.table.NameTable.files.Given as goal
 
 -- whatever their texts are

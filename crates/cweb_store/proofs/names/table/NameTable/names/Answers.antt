@@ -1,4 +1,4 @@
-use Rattle.std.proofs.Common.{length, ap, arith}
+use Rattle.cweb_store.proofs.Common.{length, ap, arith}
 use Rattle.cweb_store.proofs.StoredLemmas.{occurrences-count}
 use Rattle.cweb_store.proofs.OccurrenceLemmas.{names-few}
 use Rattle.cweb_store.proofs.names.table.NameTable.names.Goals as goal

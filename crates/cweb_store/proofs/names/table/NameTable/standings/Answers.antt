@@ -1,8 +1,4 @@
-use Rattle.std.proofs.Common.{◌≡◌, ◌+◌, [], ◌∷◌, ◌++◌, sym, ◌∙◌, ap, drop, length, arith, append-nil, append_assoc}
-use Rattle.std.proofs.lemmas.Grind.{common_steps}
-use Rattle.std.proofs.lemmas.List.{drop_all}
-use Rattle.cweb_store.specs.Names.{standings}
-use Rattle.cweb_store.specs.Given.{settled_all}
+use Rattle.cweb_store.proofs.Common.{◌≡◌, ◌+◌, [], ◌∷◌, ◌++◌, sym, ◌∙◌, ap, drop, length, arith, append-nil, append_assoc, common_steps, drop_all, standings, settled_all}
 use Rattle.cweb_store.proofs.GivenLemmas.{drop-at, found-count, settled-none, settled-standings, settled-count}
 use Rattle.cweb_store.proofs.names.table.NameTable.standings.Goals as goal
 

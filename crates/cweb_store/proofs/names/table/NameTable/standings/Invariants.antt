@@ -1,5 +1,4 @@
-use Rattle.std.proofs.Common.{◌≡◌, ◌++◌, drop}
-use Rattle.cweb_store.specs.Given.{settled_all}
+use Rattle.cweb_store.proofs.Common.{◌≡◌, ◌++◌, drop, settled_all}
 use Rattle.cweb_store.proofs.names.table.NameTable.standings.Given as goal
 
 abbrev pub invariant-loop-i : goal.invariant-loop-i

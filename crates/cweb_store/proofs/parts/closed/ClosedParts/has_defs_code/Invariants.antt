@@ -1,6 +1,4 @@
-use Rattle.std.proofs.Common.{◌≡◌, drop, map}
-use Rattle.cweb_store.specs.Parts.{has_defs_code}
-use Rattle.cweb_store.specs.Runs.{closed_in}
+use Rattle.cweb_store.proofs.Common.{◌≡◌, drop, map, has_defs_code, closed_in}
 use Rattle.cweb_store.proofs.parts.closed.ClosedParts.has_defs_code.Given as goal
 
 abbrev pub invariant-loop-run : goal.invariant-loop-run

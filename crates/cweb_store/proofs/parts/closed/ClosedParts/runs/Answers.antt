@@ -1,5 +1,4 @@
-use Rattle.std.proofs.Common.{length, sym, ◌∙◌, ap, arith}
-use Rattle.cweb_store.specs.Runs.{runs_from}
+use Rattle.cweb_store.proofs.Common.{length, sym, ◌∙◌, ap, arith, runs_from}
 use Rattle.cweb_store.proofs.RunLemmas.{runs_from-parts}
 use Rattle.cweb_store.proofs.parts.closed.ClosedParts.runs.Goals as goal
 

@@ -1,5 +1,4 @@
-use Rattle.std.proofs.Common.{length, ap, arith}
-use Rattle.std.proofs.lemmas.Grind.{common_steps}
+use Rattle.cweb_store.proofs.Common.{length, ap, arith, common_steps}
 use Rattle.cweb_store.proofs.RangeLemmas.{Follow-at}
 use Rattle.cweb_store.proofs.parts.closed.ClosedParts.uses.Goals as goal
 

@@ -1,6 +1,4 @@
-use Rattle.std.proofs.Common.{◌≡◌, [], drop, map}
-use Rattle.cweb_store.specs.Runs.{closed_in}
-use Rattle.cweb_store.specs.Gathered.{used_in}
+use Rattle.cweb_store.proofs.Common.{◌≡◌, [], drop, map, closed_in, used_in}
 use Rattle.cweb_store.proofs.parts.closed.ClosedParts.uses.Given as goal
 
 abbrev pub invariant-loop-run : goal.invariant-loop-run

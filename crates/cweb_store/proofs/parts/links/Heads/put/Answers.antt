@@ -1,4 +1,4 @@
-use Rattle.std.proofs.Common.{rules}
+use Rattle.cweb_store.proofs.Common.{rules}
 use Rattle.cweb_store.proofs.parts.links.Heads.put.Goals as goal
 
 pub returns-in-Program : goal.returns-in-Program

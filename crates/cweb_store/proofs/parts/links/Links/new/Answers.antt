@@ -1,6 +1,4 @@
-use Rattle.std.proofs.Common.{◌≡◌, ◌-◌, ℕ, suc, [], ◌∷◌, length, drop, reverse, ◌∙◌, ap, subst, arith, length-append}
-use Rattle.std.proofs.lemmas.Grind.{common_steps}
-use Rattle.cweb_store.specs.Links.{AreLinked}
+use Rattle.cweb_store.proofs.Common.{◌≡◌, ◌-◌, ℕ, suc, [], ◌∷◌, length, drop, reverse, ◌∙◌, ap, subst, arith, length-append, common_steps, AreLinked}
 use Rattle.cweb_store.proofs.LinkLemmas.{step-linked}
 use Rattle.cweb_store.proofs.parts.links.Links.new.Goals as goal
 

@@ -1,5 +1,4 @@
-use Rattle.std.proofs.Common.{◌≡◌, ◌+◌, length, drop, reverse}
-use Rattle.cweb_store.specs.Links.{AreLinked}
+use Rattle.cweb_store.proofs.Common.{◌≡◌, ◌+◌, length, drop, reverse, AreLinked}
 use Rattle.cweb_store.proofs.parts.links.Links.new.Given as goal
 
 abbrev pub invariant-loop-i : goal.invariant-loop-i

@@ -1,9 +1,4 @@
-use Rattle.std.proofs.Common.{sym, ◌∙◌, ap, subst, take, [], ◌∷◌, ◌++◌, Option, None}
-use Rattle.std.specs.Prelude.{vec_capacity}
-use Rattle.cweb_store.specs.declared.parts.Open.{Open}
-use Rattle.cweb_store.specs.declared.parts.Run.{Run}
-use Rattle.cweb_store.specs.Growing.{all_closed}
-use Rattle.cweb_store.specs.Runs.{AreRuns, parts_in}
+use Rattle.cweb_store.proofs.Common.{sym, ◌∙◌, ap, subst, take, [], ◌∷◌, ◌++◌, Option, None, vec_capacity, Open, Run, all_closed, AreRuns, parts_in}
 use Rattle.cweb_store.proofs.RunLemmas.{close-cut, close-cut-are}
 use Rattle.cweb_store.proofs.parts.list.PartList.close.Goals as goal
 

@@ -1,8 +1,4 @@
-use Rattle.std.proofs.Common.{sym, ◌∙◌, ap, subst, take, Option}
-use Rattle.std.specs.Prelude.{vec_capacity}
-use Rattle.cweb_store.specs.declared.parts.Open.{Open}
-use Rattle.cweb_store.specs.Growing.{dropped}
-use Rattle.cweb_store.specs.Runs.{AreRuns, parts_in}
+use Rattle.cweb_store.proofs.Common.{sym, ◌∙◌, ap, subst, take, Option, vec_capacity, Open, dropped, AreRuns, parts_in}
 use Rattle.cweb_store.proofs.RunLemmas.{cut-parts}
 use Rattle.cweb_store.proofs.parts.list.PartList.drop_layout.Goals as goal
 

@@ -1,9 +1,4 @@
-use Rattle.std.proofs.Common.{◌≡◌, refl, ◌∙◌, ap, subst, length, arith, [], ◌∷◌, ◌++◌, Option}
-use Rattle.std.proofs.lemmas.Grind.{common_steps}
-use Rattle.std.specs.Prelude.{vec_capacity}
-use Rattle.cweb_store.specs.declared.parts.Open.{Open}
-use Rattle.cweb_store.specs.ClosedTokens.{tokens_alone}
-use Rattle.cweb_store.specs.Runs.{AreRuns, AreClosedRuns, IsWhole, last_run}
+use Rattle.cweb_store.proofs.Common.{◌≡◌, refl, ◌∙◌, ap, subst, length, arith, [], ◌∷◌, ◌++◌, Option, common_steps, vec_capacity, Open, tokens_alone, AreRuns, AreClosedRuns, IsWhole, last_run}
 use Rattle.cweb_store.proofs.RunLemmas.{close-are}
 use Rattle.cweb_store.proofs.parts.list.PartList.finish.Goals as goal
 

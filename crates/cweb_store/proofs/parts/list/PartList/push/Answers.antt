@@ -1,9 +1,4 @@
-use Rattle.std.proofs.Common.{◌≡◌, ◌<◌, ◌+◌, length, sym, ◌∙◌, ap, subst, arith}
-use Rattle.cweb_store.specs.Calls.{too_many}
-use Rattle.std.specs.Prelude.{IsSome}
-use Rattle.cweb_store.specs.Seen.{seen}
-use Rattle.cweb_store.specs.Growing.{token_count}
-use Rattle.cweb_store.specs.Rooms.{PartsInRooms}
+use Rattle.cweb_store.proofs.Common.{◌≡◌, ◌<◌, ◌+◌, length, sym, ◌∙◌, ap, subst, arith, too_many, IsSome, seen, token_count, PartsInRooms}
 use Rattle.cweb_store.proofs.RunLemmas.{push-parts, push-are, tokens-whole}
 use Rattle.cweb_store.proofs.parts.list.PartList.push.Goals as goal
 

@@ -1,10 +1,4 @@
-use Rattle.std.proofs.Common.{◌≡◌, ◌<◌, ℕ, List, [], map, length, sym, ◌∙◌, ap, subst, arith}
-use Rattle.std.specs.Prelude.{IfSome}
-use Rattle.std.proofs.lemmas.List.{length-map}
-use Rattle.cweb_store.specs.declared.names.NameId.{NameId}
-use Rattle.cweb_store.specs.declared.parts.Run.{Run}
-use Rattle.cweb_store.specs.Names.{Name, Standing, files_from, names, stands}
-use Rattle.cweb_store.specs.Links.{AreLinked}
+use Rattle.cweb_store.proofs.Common.{◌≡◌, ◌<◌, ℕ, List, [], map, length, sym, ◌∙◌, ap, subst, arith, IfSome, length-map, NameId, Run, Name, Standing, files_from, names, stands, AreLinked}
 use Rattle.cweb_store.proofs.BoundLemmas.{standing-within}
 use Rattle.cweb_store.proofs.store.answers.Answers.of.Goals as goal
 

@@ -1,6 +1,4 @@
-use Rattle.std.proofs.Common.{◌∷◌, [], List, sym, subst}
-use Rattle.cweb_store.specs.Parts.{Token}
-use Rattle.cweb_store.specs.Noted.{AreNoted}
+use Rattle.cweb_store.proofs.Common.{◌∷◌, [], List, sym, subst, Token, AreNoted}
 use Rattle.cweb_store.proofs.PackedLemmas.{tokens-grow}
 use Rattle.cweb_store.proofs.TextLemmas.{closed-add, closed-added}
 use Rattle.cweb_store.proofs.tokens.closed.ClosedTokens.add.Goals as goal

@@ -1,7 +1,4 @@
-use Rattle.std.proofs.Common.{rules, ◌≡◌, ◌∙◌, ap, sym, false, arith}
-use Rattle.cweb_store.specs.Gathered.{with_use}
-use Rattle.cweb_store.specs.Next.{is_name}
-use Rattle.cweb_store.specs.Seen.{seen}
+use Rattle.cweb_store.proofs.Common.{rules, ◌≡◌, ◌∙◌, ap, sym, false, arith, with_use, is_name, seen}
 use Rattle.cweb_store.proofs.UseLemmas.{not-used, used-from-next, used-step}
 use Rattle.cweb_store.proofs.tokens.closed.ClosedTokens.add_uses.Goals as goal
 use Rattle.cweb_store.proofs.tokens.closed.ClosedTokens.add_uses.Goals.{in-Name+in_ok-add_name_at, in_default}

@@ -1,6 +1,4 @@
-use Rattle.std.proofs.Common.{◌≡◌, ◌≤◌, ◌-◌}
-use Rattle.std.specs.Prelude.{slice_range}
-use Rattle.cweb_store.specs.Gathered.{used_from}
+use Rattle.cweb_store.proofs.Common.{◌≡◌, ◌≤◌, ◌-◌, slice_range, used_from}
 use Rattle.cweb_store.proofs.tokens.closed.ClosedTokens.add_uses.Given as goal
 
 abbrev pub invariant-uses : goal.invariant-uses

@@ -1,8 +1,4 @@
-use Rattle.std.proofs.Common.{map, subst, ◌∙◌}
-use Rattle.cweb_store.specs.Parts.{is_defs}
-use Rattle.cweb_store.specs.Next.{IsNext}
-use Rattle.cweb_store.specs.ClosedTokens.{TokensAndTexts}
-use Rattle.cweb_store.specs.Packed.{token_in}
+use Rattle.cweb_store.proofs.Common.{map, subst, ◌∙◌, is_defs, IsNext, TokensAndTexts, token_in}
 use Rattle.cweb_store.proofs.UseLemmas.{next-any}
 use Rattle.cweb_store.proofs.tokens.closed.ClosedTokens.has_defs.Goals as goal
 

@@ -1,6 +1,4 @@
-use Rattle.std.proofs.Common.{◌∙◌, ap, map, sym, subst}
-use Rattle.cweb_store.specs.Borders.{lends}
-use Rattle.cweb_store.specs.Packed.{ArePacked, token_in}
+use Rattle.cweb_store.proofs.Common.{◌∙◌, ap, map, sym, subst, lends, ArePacked, token_in}
 use Rattle.cweb_store.proofs.LenderLemmas.{lent-by, packed-alone}
 use Rattle.cweb_store.proofs.tokens.closed.ClosedTokens.lender.Goals as goal
 

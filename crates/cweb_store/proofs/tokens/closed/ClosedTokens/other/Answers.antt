@@ -1,5 +1,4 @@
-use Rattle.std.proofs.Common.{◌≡◌, length, drop, ◌∙◌, ap, sym, arith, length-drop}
-use Rattle.std.specs.Prelude.{slice_get}
+use Rattle.cweb_store.proofs.Common.{◌≡◌, length, drop, ◌∙◌, ap, sym, arith, length-drop, slice_get}
 use Rattle.cweb_store.proofs.ListLemmas.{get-drop}
 use Rattle.cweb_store.proofs.tokens.closed.ClosedTokens.other.Goals as goal
 

@@ -1,6 +1,4 @@
-use Rattle.std.proofs.Common.{◌≡◌, ◌∷◌, [], slice_index_or, sym, subst, ◌∙◌, arith}
-use Rattle.cweb_store.specs.Signs.{IsSign}
-use Rattle.cweb_store.specs.Words.{KeepsWord}
+use Rattle.cweb_store.proofs.Common.{◌≡◌, ◌∷◌, [], slice_index_or, sym, subst, ◌∙◌, arith, IsSign, KeepsWord}
 use Rattle.cweb_store.proofs.SignLemmas.{signs-stay-word, is-sign, one-byte}
 use Rattle.cweb_store.proofs.tokens.kept.KeptTexts.keep_byte.Goals as goal
 

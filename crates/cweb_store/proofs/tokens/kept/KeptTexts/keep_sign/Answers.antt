@@ -1,5 +1,4 @@
-use Rattle.std.proofs.Common.{◌≡◌, ◌+◌, Some, slice_get, slice_index_or, sym, subst, ◌∙◌, ap, arith}
-use Rattle.cweb_store.specs.Words.{KeepsWord}
+use Rattle.cweb_store.proofs.Common.{◌≡◌, ◌+◌, Some, slice_get, slice_index_or, sym, subst, ◌∙◌, ap, arith, KeepsWord}
 use Rattle.cweb_store.proofs.SignLemmas.{sign-known, one-byte}
 use Rattle.cweb_store.proofs.tokens.kept.KeptTexts.keep_sign.Goals as goal
 

@@ -1,7 +1,4 @@
-use Rattle.std.proofs.Common.{◌<◌, ◌∙◌, Some, ap, arith, length, sym}
-use Rattle.std.proofs.lemmas.List.{length-map}
-use Rattle.std.proofs.lemmas.Option.{slice_get-get_or}
-use Rattle.cweb_store.specs.Lenders.{lends_by}
+use Rattle.cweb_store.proofs.Common.{◌<◌, ◌∙◌, Some, ap, arith, length, sym, length-map, slice_get-get_or, lends_by}
 use Rattle.cweb_store.proofs.LenderLemmas.{record-lends, record-within}
 use Rattle.cweb_store.proofs.tokens.lender.Lender.lent.Goals as goal
 

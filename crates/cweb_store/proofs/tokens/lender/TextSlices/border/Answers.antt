@@ -1,6 +1,4 @@
-use Rattle.std.proofs.Common.{◌∙◌, drop, ap, length, arith}
-use Rattle.std.specs.Prelude.{slice_get}
-use Rattle.cweb_store.specs.PackedTexts.{texts_from}
+use Rattle.cweb_store.proofs.Common.{◌∙◌, drop, ap, length, arith, slice_get, texts_from}
 use Rattle.cweb_store.proofs.BorderLemmas.{told-at, told-count}
 use Rattle.cweb_store.proofs.tokens.lender.TextSlices.border.Goals as goal
 

@@ -1,6 +1,4 @@
-use Rattle.std.proofs.Common.{◌≡◌, ◌<◌, ◌+◌, drop, length, get_or, sym, ◌∙◌, ap, arith, Some}
-use Rattle.std.specs.Prelude.{slice_get, slice_index_or, slice_range}
-use Rattle.cweb_store.specs.PackedTexts.{begin_of}
+use Rattle.cweb_store.proofs.Common.{◌≡◌, ◌<◌, ◌+◌, drop, length, get_or, sym, ◌∙◌, ap, arith, Some, slice_get, slice_index_or, slice_range, begin_of}
 use Rattle.cweb_store.proofs.PackedLemmas.{texts-count, texts-at, ends-at, limits-begin, limits-end, limits-length}
 use Rattle.cweb_store.proofs.tokens.lender.TextSlices.text.Goals as goal
 

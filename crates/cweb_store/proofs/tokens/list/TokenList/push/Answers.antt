@@ -1,9 +1,4 @@
-use Rattle.std.proofs.Common.{◌≡◌, length, map, sym, subst, arith, ap, ◌∙◌, rules}
-use Rattle.std.proofs.lemmas.List.{length-map}
-use Rattle.cweb_store.specs.Packed.{token_in}
-use Rattle.cweb_store.specs.Records.{is_mark_token}
-use Rattle.cweb_store.specs.Noted.{AreNoted}
-use Rattle.cweb_store.specs.Seen.{seen}
+use Rattle.cweb_store.proofs.Common.{◌≡◌, length, map, sym, subst, arith, ap, ◌∙◌, rules, length-map, token_in, is_mark_token, AreNoted, seen}
 use Rattle.cweb_store.proofs.PackedLemmas.{packs-tokens}
 use Rattle.cweb_store.proofs.RecordLemmas.{mark-same}
 use Rattle.cweb_store.proofs.TextLemmas.{packs-are, texts-few}

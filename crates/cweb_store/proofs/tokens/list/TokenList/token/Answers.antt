@@ -1,6 +1,4 @@
-use Rattle.std.proofs.Common.{List, ℕ, sym, subst, length, arith}
-use Rattle.std.proofs.lemmas.Grind.{common_steps}
-use Rattle.cweb_store.specs.Packed.{IsWithin}
+use Rattle.cweb_store.proofs.Common.{List, ℕ, sym, subst, length, arith, common_steps, IsWithin}
 use Rattle.cweb_store.proofs.PackedLemmas.{packed-at}
 use Rattle.cweb_store.proofs.tokens.list.TokenList.token.Goals as goal
 

@@ -1,10 +1,4 @@
-use Rattle.std.proofs.Common.{◌≡◌, map, take, sym, subst, ap, ◌∙◌}
-use Rattle.std.specs.Prelude.{filter}
-use Rattle.std.proofs.lemmas.List.{take-map}
-use Rattle.cweb_store.specs.Rooms.{TokensInRoom}
-use Rattle.cweb_store.specs.Texts.{has_text}
-use Rattle.cweb_store.specs.Packed.{token_in}
-use Rattle.cweb_store.specs.Noted.{AreNoted}
+use Rattle.cweb_store.proofs.Common.{◌≡◌, map, take, sym, subst, ap, ◌∙◌, filter, take-map, TokensInRoom, has_text, token_in, AreNoted}
 use Rattle.cweb_store.proofs.TextLemmas.{truncate-are}
 use Rattle.cweb_store.proofs.tokens.list.TokenList.truncate.Goals as goal
 

@@ -1,7 +1,4 @@
-use Rattle.std.proofs.Common.{rules, ◌≡◌, true, false}
-use Rattle.cweb_store.specs.Parts.{is_defs}
-use Rattle.cweb_store.specs.Seen.{seen}
-use Rattle.cweb_store.specs.Next.{is_name}
+use Rattle.cweb_store.proofs.Common.{rules, ◌≡◌, true, false, is_defs, seen, is_name}
 use Rattle.cweb_store.proofs.NotedLemmas.{noted-push, noted-here, noted-not}
 use Rattle.cweb_store.proofs.tokens.noted.Noted.note.Goals as goal
 

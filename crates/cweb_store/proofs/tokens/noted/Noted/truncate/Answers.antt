@@ -1,6 +1,4 @@
-use Rattle.std.proofs.Common.{◌∙◌}
-use Rattle.cweb_store.specs.Parts.{is_defs}
-use Rattle.cweb_store.specs.Next.{is_name}
+use Rattle.cweb_store.proofs.Common.{◌∙◌, is_defs, is_name}
 use Rattle.cweb_store.proofs.NotedLemmas.{noted-take}
 use Rattle.cweb_store.proofs.tokens.noted.Noted.truncate.Goals as goal
 

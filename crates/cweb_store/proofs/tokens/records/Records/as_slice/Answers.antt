@@ -1,5 +1,4 @@
-use Rattle.std.proofs.Common.{◌∙◌, ap, map, sym}
-use Rattle.cweb_store.specs.Records.{packed_in}
+use Rattle.cweb_store.proofs.Common.{◌∙◌, ap, map, sym, packed_in}
 use Rattle.cweb_store.proofs.tokens.records.Records.as_slice.Goals as goal
 
 pub returns : goal.returns

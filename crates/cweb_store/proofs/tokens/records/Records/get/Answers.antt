@@ -1,8 +1,5 @@
-use Rattle.std.proofs.Common.{◌≡◌, ◌<◌, map, length, Some, slice_get, sym, subst, ◌∙◌, ap, arith, List}
-use Rattle.std.proofs.lemmas.List.{length-map}
-use Rattle.std.proofs.lemmas.Option.{slice_get-get_or}
-use Rattle.cweb_files.specs.declared.place.Place.{Place}
-use Rattle.cweb_store.specs.Records.{IsWithin, packed_in}
+use Rattle.cweb_store.proofs.Common.{◌≡◌, ◌<◌, map, length, Some, slice_get, sym, subst, ◌∙◌, ap, arith, List, length-map, slice_get-get_or, Place, packed_in}
+use Rattle.cweb_store.specs.Records.{IsWithin}
 use Rattle.cweb_store.proofs.RecordLemmas.{record-at}
 use Rattle.cweb_store.proofs.tokens.records.Records.get.Goals as goal
 

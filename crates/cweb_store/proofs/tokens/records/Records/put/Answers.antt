@@ -1,6 +1,4 @@
-use Rattle.std.proofs.Common.{◌≡◌, map, length, ap, arith}
-use Rattle.std.proofs.lemmas.List.{length-map}
-use Rattle.cweb_store.specs.Records.{packed_in}
+use Rattle.cweb_store.proofs.Common.{◌≡◌, map, length, ap, arith, length-map, packed_in}
 use Rattle.cweb_store.proofs.RecordLemmas.{numbered-few, push-numbered, push-packed}
 use Rattle.cweb_store.proofs.tokens.records.Records.put.Goals as goal
 

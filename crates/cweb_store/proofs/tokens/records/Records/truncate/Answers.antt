@@ -1,8 +1,4 @@
-use Rattle.std.proofs.Common.{◌≡◌, length, take, drop, sym, subst, ◌∙◌, ap, List}
-use Rattle.std.proofs.lemmas.List.{take-map}
-use Rattle.std.proofs.Math.Seq.{length-take-le}
-use Rattle.cweb_store.specs.declared.tokens.records.Record.{Record}
-use Rattle.cweb_store.specs.Records.{AreNumbered, packed_in}
+use Rattle.cweb_store.proofs.Common.{◌≡◌, length, take, drop, sym, subst, ◌∙◌, ap, List, take-map, length-take-le, Record, AreNumbered, packed_in}
 use Rattle.cweb_store.proofs.RecordLemmas.{split, tail, numbered-le, cut}
 use Rattle.cweb_store.proofs.tokens.records.Records.truncate.Goals as goal
 

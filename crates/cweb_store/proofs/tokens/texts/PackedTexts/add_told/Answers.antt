@@ -1,6 +1,4 @@
-use Rattle.std.proofs.Common.{◌≡◌, ◌<◌, ◌≤◌, ◌++◌, ◌∷◌, [], ℕ, List, drop, length, subst, sym, ◌∙◌, ap, arith, length-append}
-use Rattle.cweb_store.specs.Borders.{AreTold}
-use Rattle.cweb_store.specs.PackedTexts.{AreEnds, texts_from}
+use Rattle.cweb_store.proofs.Common.{◌≡◌, ◌<◌, ◌≤◌, ◌++◌, ◌∷◌, [], ℕ, List, drop, length, subst, sym, ◌∙◌, ap, arith, length-append, AreTold, AreEnds, texts_from}
 use Rattle.cweb_store.proofs.BorderLemmas.{told-count, told-push}
 use Rattle.cweb_store.proofs.PackedLemmas.{ends-push, limits-push, start-push, texts-push}
 use Rattle.cweb_store.proofs.tokens.texts.PackedTexts.add_told.Goals as goal

@@ -1,5 +1,4 @@
-use Rattle.std.proofs.Common.{drop, length, ◌∙◌, ap}
-use Rattle.cweb_store.specs.PackedTexts.{texts_from}
+use Rattle.cweb_store.proofs.Common.{drop, length, ◌∙◌, ap, texts_from}
 use Rattle.cweb_store.proofs.BorderLemmas.{told-count}
 use Rattle.cweb_store.proofs.tokens.texts.PackedTexts.len.Goals as goal
 

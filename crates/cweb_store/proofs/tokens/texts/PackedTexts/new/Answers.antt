@@ -1,4 +1,4 @@
-use Rattle.std.proofs.Common.{refl}
+use Rattle.cweb_store.proofs.Common.{refl}
 use Rattle.cweb_store.proofs.tokens.texts.PackedTexts.new.Goals as goal
 
 pub invariant_of-result : goal.invariant_of-result

@@ -1,5 +1,4 @@
-use Rattle.std.proofs.Common.{drop, length, ◌∙◌, ap}
-use Rattle.cweb_store.specs.PackedTexts.{text_bytes}
+use Rattle.cweb_store.proofs.Common.{drop, length, ◌∙◌, ap, text_bytes}
 use Rattle.cweb_store.proofs.PackedLemmas.{bytes-count}
 use Rattle.cweb_store.proofs.tokens.texts.PackedTexts.text_bytes.Goals as goal
 

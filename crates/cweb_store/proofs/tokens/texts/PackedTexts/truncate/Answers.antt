@@ -1,6 +1,4 @@
-use Rattle.std.proofs.Common.{◌≡◌, ◌<◌, ◌+◌, ℕ, List, drop, length, suc, take, sym, subst, ◌∙◌, ap, arith}
-use Rattle.cweb_store.specs.Borders.{AreTold}
-use Rattle.cweb_store.specs.PackedTexts.{AreEnds, IsFromStart, begin_of, texts_from}
+use Rattle.cweb_store.proofs.Common.{◌≡◌, ◌<◌, ◌+◌, ℕ, List, drop, length, suc, take, sym, subst, ◌∙◌, ap, arith, AreTold, AreEnds, IsFromStart, begin_of, texts_from}
 use Rattle.cweb_store.proofs.BorderLemmas.{told-take}
 use Rattle.cweb_store.proofs.CutLemmas.{texts-cut, ends-are-cut}
 use Rattle.cweb_store.proofs.PackedLemmas.{limits-begin, limits-length, limits-take, start-take, texts-count}

@@ -1,7 +1,4 @@
-use Rattle.std.proofs.Common.{List, sym, ◌∙◌, ap}
-use Rattle.cweb_store.specs.declared.tokens.words.slot.Slot.{Slot}
-use Rattle.cweb_store.specs.Slots.{stands_in}
-use Rattle.cweb_store.specs.Words.{has}
+use Rattle.cweb_store.proofs.Common.{List, sym, ◌∙◌, ap, Slot, stands_in, has}
 use Rattle.cweb_store.proofs.SlotLemmas.{has-stands}
 use Rattle.cweb_store.proofs.tokens.words.WordTexts.grow.Goals as goal
 

@@ -1,8 +1,4 @@
-use Rattle.std.proofs.Common.{◌++◌, ◌∷◌, [], refl, List, ℕ, arith, length-append, sym, ◌∙◌, ap, ◌||◌, map}
-use Rattle.std.specs.Prelude.{bytes_eq}
-use Rattle.std.specs.List.{list_any}
-use Rattle.cweb_store.specs.Slots.{word_in}
-use Rattle.cweb_store.specs.Words.{Keeps, texts_and_words}
+use Rattle.cweb_store.proofs.Common.{◌++◌, ◌∷◌, [], refl, List, ℕ, arith, length-append, sym, ◌∙◌, ap, ◌||◌, map, bytes_eq, list_any, word_in, Keeps, texts_and_words}
 use Rattle.cweb_store.proofs.PackedLemmas.{get-last}
 use Rattle.cweb_store.proofs.SlotLemmas.{any-grow, slots-grow, has-stands}
 use Rattle.cweb_store.proofs.MapLemmas.{mapped-grow}

@@ -1,7 +1,5 @@
-use Rattle.std.proofs.Common.{List, sym, subst, ap}
-use Rattle.cweb_store.specs.declared.tokens.words.slot.Slot.{Slot}
+use Rattle.cweb_store.proofs.Common.{List, sym, subst, ap, Slot, AllHold, IsFound, window_of}
 use Rattle.cweb_store.specs.Keys.{key_of}
-use Rattle.cweb_store.specs.Slots.{AllHold, IsFound, window_of}
 use Rattle.cweb_store.proofs.KeepLemmas.{slot-known}
 use Rattle.cweb_store.proofs.tokens.words.WordTexts.keep_word.Goals as goal
 

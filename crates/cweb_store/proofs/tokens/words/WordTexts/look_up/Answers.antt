@@ -1,13 +1,5 @@
-use Rattle.std.proofs.Common.{◌≡◌, Some, None, ℕ, List, Vec, false, sym, subst, ◌∙◌, ap}
-use Rattle.std.specs.List.{list_any}
-use Rattle.std.specs.Map.{lookup}
-use Rattle.std.specs.Ordering.{is_eq, nat_cmp}
-use Rattle.std.specs.Cmp.Lexicographic.{slice_cmp}
-use Rattle.std.specs.declared.alloc.Global.{Global}
-use Rattle.cweb_store.specs.declared.tokens.words.slot.Slot.{Slot}
+use Rattle.cweb_store.proofs.Common.{◌≡◌, Some, None, ℕ, List, Vec, false, sym, subst, ◌∙◌, ap, list_any, lookup, is_eq, nat_cmp, slice_cmp, Global, Slot, AllHold, IsFound, slot_is, window_of, has}
 use Rattle.cweb_store.specs.Keys.{key_of}
-use Rattle.cweb_store.specs.Slots.{AllHold, IsFound, slot_is, window_of}
-use Rattle.cweb_store.specs.Words.{has}
 use Rattle.cweb_store.proofs.SlotLemmas.{window-hold}
 use Rattle.cweb_store.proofs.KeepLemmas.{slot-known, word-known, not-kept}
 use Rattle.cweb_store.proofs.tokens.words.WordTexts.look_up.Goals as goal

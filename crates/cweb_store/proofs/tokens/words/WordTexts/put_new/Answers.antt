@@ -1,8 +1,4 @@
-use Rattle.std.proofs.Common.{◌≡◌, length, false, subst, ◌∙◌, ap, arith}
-use Rattle.std.proofs.lemmas.Grind.{common_steps}
-use Rattle.cweb_store.specs.declared.tokens.words.key.Key.{Key}
-use Rattle.cweb_store.specs.Slots.{IsWordPlaced}
-use Rattle.cweb_store.specs.Words.{has, texts_and_words}
+use Rattle.cweb_store.proofs.Common.{◌≡◌, length, false, subst, ◌∙◌, ap, arith, common_steps, Key, IsWordPlaced, has, texts_and_words}
 use Rattle.cweb_store.proofs.KeepLemmas.{slot-table, slot-keeps, map-table, map-keeps}
 use Rattle.cweb_store.proofs.tokens.words.WordTexts.put_new.Goals as goal
 

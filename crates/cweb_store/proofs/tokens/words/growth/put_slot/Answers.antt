@@ -1,8 +1,4 @@
-use Rattle.std.proofs.Common.{◌≡◌, ◌||◌, ◌&&◌, map, List, sym, ◌∙◌, ap}
-use Rattle.std.specs.Prelude.{bytes_eq}
-use Rattle.std.specs.List.{list_any}
-use Rattle.cweb_store.specs.declared.tokens.words.slot.Slot.{Slot}
-use Rattle.cweb_store.specs.Slots.{Entries, slot_is, slot_text, stands_in, word_in}
+use Rattle.cweb_store.proofs.Common.{◌≡◌, ◌||◌, ◌&&◌, map, List, sym, ◌∙◌, ap, bytes_eq, list_any, Slot, Entries, slot_is, slot_text, stands_in, word_in}
 use Rattle.cweb_store.proofs.PackedLemmas.{get-text, get-within}
 use Rattle.cweb_store.proofs.SlotLemmas.{used-not, put-slots}
 use Rattle.cweb_store.proofs.MapLemmas.{insert-mapped}

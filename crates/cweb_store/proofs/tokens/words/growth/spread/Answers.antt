@@ -1,6 +1,4 @@
-use Rattle.std.proofs.Common.{arith}
-use Rattle.std.proofs.lemmas.Grind.{common_steps}
-use Rattle.std.proofs.lemmas.Option.{slice_get-get_or}
+use Rattle.cweb_store.proofs.Common.{arith, common_steps, slice_get-get_or}
 use Rattle.cweb_store.proofs.tokens.words.growth.spread.Goals as goal
 
 pub put_slot-requires-clause-hold : goal.put_slot-requires-clause-hold

@@ -1,5 +1,4 @@
-use Rattle.std.proofs.Common.{◌≡◌, take, List, ℕ}
-use Rattle.cweb_store.specs.Slots.{AreSlots, AreMapped, stands_in}
+use Rattle.cweb_store.proofs.Common.{◌≡◌, take, List, ℕ, AreSlots, AreMapped, stands_in}
 use Rattle.cweb_store.proofs.tokens.words.growth.spread.Given as goal
 
 abbrev pub invariant-loop-slot : goal.invariant-loop-slot

@@ -1,6 +1,4 @@
-use Rattle.std.proofs.Common.{◌∙◌, ◌*◌, length, ap}
-use Rattle.std.specs.List.{list_any}
-use Rattle.cweb_store.specs.Slots.{slot_is}
+use Rattle.cweb_store.proofs.Common.{◌∙◌, ◌*◌, length, ap, list_any, slot_is}
 use Rattle.cweb_store.proofs.SlotLemmas.{free-any}
 use Rattle.cweb_store.proofs.tokens.words.growth.spread_wider.Goals as goal
 

@@ -1,4 +1,4 @@
-use Rattle.std.proofs.Common.{◌*◌, ◌/◌, ◌^◌, ap}
+use Rattle.cweb_store.proofs.Common.{◌*◌, ◌/◌, ◌^◌, ap}
 use Rattle.cweb_store.specs.Keys.{home_of}
 use Rattle.cweb_store.proofs.tokens.words.key.home.Goals as goal
 

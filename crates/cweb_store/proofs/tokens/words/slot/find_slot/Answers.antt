@@ -1,5 +1,4 @@
-use Rattle.std.proofs.Common.{sym}
-use Rattle.std.proofs.lemmas.Option.{slice_get-get_or}
+use Rattle.cweb_store.proofs.Common.{sym, slice_get-get_or}
 use Rattle.cweb_store.proofs.SlotLemmas.{found-slot}
 use Rattle.cweb_store.proofs.tokens.words.slot.find_slot.Goals as goal
 

@@ -1,6 +1,4 @@
-use Rattle.std.proofs.Common.{◌≡◌, false, take}
-use Rattle.std.specs.List.{list_any}
-use Rattle.cweb_store.specs.Slots.{slot_is}
+use Rattle.cweb_store.proofs.Common.{◌≡◌, false, take, list_any, slot_is}
 use Rattle.cweb_store.proofs.tokens.words.slot.find_slot.Given as goal
 
 abbrev pub invariant-loop-slot : goal.invariant-loop-slot

@@ -1,7 +1,5 @@
-use Rattle.std.proofs.Common.{◌≡◌, Some, length, slice_get, sym, subst, ◌∙◌, ap, ltb-true, rules}
-use Rattle.std.proofs.lemmas.Option.{slice_get-get_or}
+use Rattle.cweb_store.proofs.Common.{◌≡◌, Some, length, slice_get, sym, subst, ◌∙◌, ap, ltb-true, rules, slice_get-get_or, IsFound, window_of}
 use Rattle.cweb_store.specs.Keys.{home_of}
-use Rattle.cweb_store.specs.Slots.{IsFound, window_of}
 use Rattle.cweb_store.proofs.SlotLemmas.{found-slot, home-slot, window-hold}
 use Rattle.cweb_store.proofs.tokens.words.slot.first_slot.Goals as goal
 

@@ -1,4 +1,4 @@
-use Rattle.std.proofs.Common.{rules}
+use Rattle.cweb_store.proofs.Common.{rules}
 use Rattle.cweb_store.proofs.tokens.words.slot.is_alike.Goals as goal
 
 pub returns-then-slot-key : goal.returns-then-slot-key

@@ -1,8 +1,5 @@
-use Rattle.std.proofs.Common.{◌≡◌, ◌&&◌, false, length, sym, ◌∙◌, ap, arith}
-use Rattle.std.specs.Prelude.{bytes_eq}
-use Rattle.std.specs.Cmp.Lexicographic.{bytes_decides}
+use Rattle.cweb_store.proofs.Common.{◌≡◌, ◌&&◌, false, length, sym, ◌∙◌, ap, arith, bytes_eq, bytes_decides, is_alike, slot_text}
 use Rattle.cweb_store.specs.Keys.{key_of}
-use Rattle.cweb_store.specs.Slots.{is_alike, slot_text}
 use Rattle.cweb_store.proofs.PackedLemmas.{get-text, get-within}
 use Rattle.cweb_store.proofs.KeyLemmas.{key-tells}
 use Rattle.cweb_store.proofs.SlotLemmas.{alike-in, hold-text, slot-alike}

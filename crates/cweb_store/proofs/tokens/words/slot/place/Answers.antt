@@ -1,8 +1,5 @@
-use Rattle.std.proofs.Common.{◌≡◌, ◌+◌, ◌<◌, length, refl, sym, ◌∙◌, ap, arith}
-use Rattle.std.specs.Prelude.{slice_get}
-use Rattle.std.proofs.lemmas.Option.{slice_get_within}
+use Rattle.cweb_store.proofs.Common.{◌≡◌, ◌+◌, ◌<◌, length, refl, sym, ◌∙◌, ap, arith, slice_get, slice_get_within, window_of}
 use Rattle.cweb_store.specs.Keys.{home_of}
-use Rattle.cweb_store.specs.Slots.{window_of}
 use Rattle.cweb_store.proofs.SlotLemmas.{window-slot}
 use Rattle.cweb_store.proofs.tokens.words.slot.place.Goals as goal
 

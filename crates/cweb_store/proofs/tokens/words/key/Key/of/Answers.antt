@@ -1,7 +1,4 @@
-use Rattle.std.proofs.Common.{◌≡◌, ◌+◌, ◌-◌, ◌*◌, length, sym, ◌∙◌, ap}
-use Rattle.std.specs.Int.{w32, w64, from_le_bytes}
-use Rattle.cweb_store.specs.declared.tokens.words.key.Key.{Key}
-use Rattle.cweb_store.specs.Keys.{short_key, middle_key, long_key}
+use Rattle.cweb_store.proofs.Common.{◌≡◌, ◌+◌, ◌-◌, ◌*◌, length, sym, ◌∙◌, ap, w32, w64, from_le_bytes, Key, short_key, middle_key, long_key}
 use Rattle.cweb_store.proofs.KeyLemmas.{key-short, key-middle, key-long, tail}
 use Rattle.cweb_store.proofs.tokens.words.key.Key.of.Goals as goal
 

@@ -1,0 +1,56 @@
+-- The names that the proofs of this crate cite, passed on from one place. Declares nothing.
+pub use Rattle.std.proofs.Common.{◌≡◌, ◌↔◌, List, ℕ, Option, None, Some, Result, Ok, Err, Bor, false, refl, sym, ◌∙◌}
+pub use Rattle.std.proofs.Common.{ap, arith, ◌<◌, ◌≤◌, [], ◌∷◌, length, map, ◌+◌, inl, inr, suc, ◌++◌, take, drop}
+pub use Rattle.std.proofs.Common.{get_or, subst, append_assoc, append-nil, ◌≢◌, ◌-◌, true, not, eq-eqb, rules, decimal}
+pub use Rattle.std.proofs.Math.Seq.{take-suc}
+pub use Rattle.std.proofs.lemmas.Bool.{ne_eqb}
+pub use Rattle.std.proofs.lemmas.Grind.{flat_map-append, common_steps}
+pub use Rattle.std.proofs.lemmas.List.{take-append-drop, take_all}
+pub use Rattle.std.proofs.lemmas.List.Folds.{flat_map-map, list_any_at}
+pub use Rattle.std.proofs.lemmas.List.Sums.{suffix_len_is}
+pub use Rattle.std.proofs.lemmas.Option.{get_or_from_slice_get, slice_get-map}
+pub use Rattle.std.proofs.lemmas.Str.Pattern.{rfind_char}
+pub use Rattle.std.specs.List.{flat_map, after_last, before_last, list_any, suffix_len}
+pub use Rattle.std.specs.Option.{option_copied}
+pub use Rattle.std.specs.Prelude.{IfOk, IsErrOf, is_some, option_and_then, option_map, slice_get, IsTrue, OnOk, OnErr}
+pub use Rattle.std.specs.Prelude.{IsErr, ◌==◌, if◌then◌else◌, codes, slice_range}
+pub use Rattle.cweb_files.specs.Device.{Counts}
+pub use Rattle.cweb_files.specs.declared.device.SinkFault.{SinkFault}
+pub use Rattle.cweb_lines.specs.Names.{names_of}
+pub use Rattle.cweb_lines.specs.Writing.{WritesFront}
+pub use Rattle.cweb_lines.specs.declared.fault.SourceFault.{SourceFault}
+pub use Rattle.cweb_lines.specs.declared.stop.Stop.{Stop}
+pub use Rattle.cweb_lines.specs.declared.stop.Stop.TheVariants.{Usage}
+pub use Rattle.cweb_log.specs.Gathered.{pending}
+pub use Rattle.cweb_log.specs.Gathering.{Logs, Writes, Gathers, GathersMore, joined}
+pub use Rattle.cweb_log.specs.Items.{Item, line, star}
+pub use Rattle.cweb_log.specs.Log.{fault_line, fault_lines}
+pub use Rattle.cweb_log.specs.Options.{Asked, TangleNames, named_by, names_by, options_by, options_of, others}
+pub use Rattle.cweb_log.specs.Options.{shown_by_default, words_shown, stem, letters_shown}
+pub use Rattle.cweb_log.specs.Seen.{SeenStream, seen_stream}
+pub use Rattle.cweb_log.specs.WebItems.{name_items, refusal_text, scan_items, cycle_step, scan_item, text_given}
+pub use Rattle.cweb_log.specs.WebItems.{name_item}
+pub use Rattle.cweb_log.specs.Words.{asked_by, is_dot, is_slash, has_extension}
+pub use Rattle.cweb_log.specs.declared.options.Options.{Options}
+pub use Rattle.cweb_log.specs.declared.shown.Shown.{Shown}
+pub use Rattle.cweb_out.specs.Cycles.{cycle_from}
+pub use Rattle.cweb_out.specs.Outputs.{bad_name, same_name, cycle}
+pub use Rattle.cweb_out.specs.Ranks.{first_endless}
+pub use Rattle.cweb_out.specs.Uses.{program}
+pub use Rattle.cweb_rules.specs.declared.fault.ScanFault.{ScanFault}
+pub use Rattle.cweb_rules.specs.declared.fault.ScanKind.{ScanKind}
+pub use Rattle.cweb_rules.specs.declared.fault.ScanKind.TheVariants.{DoubleAtInLimbo, ImproperHexNumber}
+pub use Rattle.cweb_rules.specs.declared.fault.ScanKind.TheVariants.{ReplacementTooLong, LetterOutsideLimbo}
+pub use Rattle.cweb_rules.specs.declared.fault.ScanKind.TheVariants.{NameDidNotEnd, NamesDoNotNest, CommentDidNotEnd}
+pub use Rattle.cweb_rules.specs.declared.fault.ScanKind.TheVariants.{StringDidNotEnd, DoubleAtInString}
+pub use Rattle.cweb_rules.specs.declared.fault.ScanKind.TheVariants.{ControlTextDidNotEnd, FaultyConstant}
+pub use Rattle.cweb_rules.specs.declared.fault.ScanKind.TheVariants.{IgnoredInCText, MissingAt, DefsInMacro}
+pub use Rattle.cweb_rules.specs.declared.fault.ScanKind.TheVariants.{DefinitionDropped}
+pub use Rattle.cweb_store.specs.Calls.{Stored}
+pub use Rattle.cweb_store.specs.Names.{Occurrence, id}
+pub use Rattle.cweb_store.specs.Parts.{Part, Name}
+pub use Rattle.cweb_store.specs.declared.names.How.TheVariants.{Full, Prefix}
+pub use Rattle.cweb_store.specs.declared.names.NameFault.{NameFault}
+pub use Rattle.cweb_store.specs.declared.names.NameRef.{NameRef}
+pub use Rattle.cweb_store.specs.declared.parts.PartKind.{PartKind}
+pub use Rattle.cweb_store.specs.declared.parts.PartKind.TheVariants.{Unnamed, Named}
