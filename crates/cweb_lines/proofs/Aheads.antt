@@ -59,11 +59,9 @@ pub looks_first : {R : Type 0} (entry : Option Entry) (slot : Option (OpenText R
     → LooksIn entry slot [] (record { line = line; stretch = s })
 looks_first entry None s line lines stands one is = absurd stands
 looks_first entry (Some text) s line [] stands one is = absurd (omega (arith, one, stands.is.lines))
-looks_first entry (Some text) s line (raw ∷ more ∷ lines) stands one is =
-    absurd (omega (arith, one, stands.is.lines))
-looks_first entry (Some text) s line (raw ∷ []) stands one is =
-    subst (λ (l : Lent). LooksIn entry (Some text) [] (record { line = l; stretch = s }))
-    (sym (ap (λ (o : Option Lent). unwrap_or o here) is))
+looks_first entry (Some text) s line (raw ∷ more ∷ lines) stands one is = absurd (omega (arith, one, stands.is.lines))
+looks_first entry (Some text) s line (raw ∷ []) stands one is = subst (λ (l : Lent). LooksIn entry
+    (Some text) [] (record { line = l; stretch = s })) (sym (ap (λ (o : Option Lent). unwrap_or o here) is))
     (looks_one entry text [] raw s (record { line = here; stretch = s }) stands.is stands.within refl place stands)
   where
     here : Lent
@@ -167,15 +165,13 @@ looks_at run before ahead settled above fits looks = record {
 }
 
 pub looks_next : {R : Type 0} (run : Run R) (slot : Option (OpenText R)) (before : Stretch) (next : Option Ahead)
-    → top_of run.stack ≡ slot → FitsAt run.limits (top_of run.stack)
-    → IfSome next (λ ahead. (lines : List (List ℕ)) → StandsAt (pending_of run) slot before lines
-    → LooksIn (pending_of run) slot lines ahead)
+    → top_of run.stack ≡ slot → FitsAt run.limits (top_of run.stack) → IfSome next (λ ahead.
+    (lines : List (List ℕ)) → StandsAt (pending_of run) slot before lines → LooksIn (pending_of run) slot lines ahead)
     → IfSome next (λ ahead. (lines : List (List ℕ)) → ComesNext run before lines → LooksAt run lines ahead)
 looks_next run slot before None same fits looks = tt
-looks_next run slot before (Some ahead) same fits looks = λ lines next.
-    looks_at run lines ahead next.settled next.above fits
-    (subst (λ s. LooksIn (pending_of run) s lines ahead) (sym same)
-    (looks lines (subst (λ s. StandsAt (pending_of run) s before lines) same next.stands)))
+looks_next run slot before (Some ahead) same fits looks =
+    λ lines next. looks_at run lines ahead next.settled next.above fits (subst (λ s. LooksIn (pending_of run)
+    s lines ahead) (sym same) (looks lines (subst (λ s. StandsAt (pending_of run) s before lines) same next.stands)))
 
 pub is_ahead : {R : Type 0} (run : Run R) (before : List (List ℕ)) (ahead : Ahead)
     → FitsAt run.limits (top_of run.stack) → LooksAt run before ahead → IsAhead run ahead

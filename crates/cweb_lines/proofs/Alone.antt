@@ -107,9 +107,8 @@ module _ (world : World) (later : List Thing) (change : List SourceLine) where
 
   -- behind a raw line, where so many steps do for what is behind it
   front_raw : (n : ℕ) (r : RawLine) (things : List Thing) (files : ℕ) (events : List Event)
-      → AllByRecursion IsNoSearch things
-      → ((f : ℕ) (ts : List Thing) (es : List Event) → AllByRecursion IsNoSearch ts → Runs n f ts es → Comes f ts es)
-      → (kind : Kind) →
+      → AllByRecursion IsNoSearch things → ((f : ℕ) (ts : List Thing) (es : List Event)
+      → AllByRecursion IsNoSearch ts → Runs n f ts es → Comes f ts es) → (kind : Kind) →
       let next = becomes kind (state (raw r ∷ things) None change files) r things in
       let next' = becomes kind (state (raw r ∷ things ++ later) None change files) r (things ++ later) in
       onto (took r.source ∷ next.0) (run n world next.1) ≡ Some events

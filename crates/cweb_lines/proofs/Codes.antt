@@ -35,10 +35,9 @@ is_end old_side same = absurd (cc)
 is_end new_side same = absurd (cc)
 is_end end_side same = refl
 
-pub is_faulty_new : (code : Code) (depth : ℕ) (line : SourceLine) (lines : List SourceLine) (later : NewSide) →
-    sameb the_type code end_side ≡ false
-    → new_at (Some code) depth line lines later ≡ new_things
-    (passed line ∷ told (at_place WantsZ line.line.place) ∷ []) later
+pub is_faulty_new : (code : Code) (depth : ℕ) (line : SourceLine) (lines : List SourceLine) (later : NewSide)
+    → sameb the_type code end_side ≡ false → new_at (Some code) depth line lines later
+    ≡ new_things (passed line ∷ told (at_place WantsZ line.line.place) ∷ []) later
 is_faulty_new old_side depth line lines later other = refl
 is_faulty_new new_side depth line lines later other = refl
 is_faulty_new end_side depth line lines later other = absurd (cc)

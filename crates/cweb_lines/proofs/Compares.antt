@@ -34,10 +34,9 @@ compares_empty bytes before old new same = record {
   adds = adds_none old new same;
 }
 
-pub compares_none : (bytes : List ℕ) (before : Replaced) (things things' : List Thing) (old new : SoFar) →
-    things ≡ things' → things' ≡ [] → new ≡ old
-    → Compares bytes before (record { unequal = before.unequal; ran_out = true; ended = before.ended }) things things'
-    old new
+pub compares_none : (bytes : List ℕ) (before : Replaced) (things things' : List Thing) (old new : SoFar)
+    → things ≡ things' → things' ≡ [] → new ≡ old → Compares
+    bytes before (record { unequal = before.unequal; ran_out = true; ended = before.ended }) things things' old new
 compares_none bytes before things things' old new is none same =
     subst (λ (ts : List Thing). Compares bytes before (record {
       unequal = before.unequal;
@@ -61,9 +60,8 @@ compares_some bytes raw_bytes before after at things things' old new t is told n
     subst (λ (ts : List Thing). Compares bytes before after ts things' old new) (sym is) (record {
       taken = t.line ∷ [];
       taken_are = λ olds. refl;
-      unequal = λ olds.
-          ap (λ (l : Line). before.unequal + (if bytes_eq l.bytes bytes then (compared olds things').unequal
-          else (compared olds things').unequal + 1)) t.is
+      unequal = λ olds. ap (λ (l : Line). before.unequal + (if bytes_eq l.bytes bytes then
+          (compared olds things').unequal else (compared olds things').unequal + 1)) t.is
           ∙ by (bytes_eq raw_bytes bytes) unequal (compared olds things').unequal;
       ran_out = λ olds. ap (λ b. b || (compared olds things').ran_out) (sym ran_out);
       rest = λ olds. refl;

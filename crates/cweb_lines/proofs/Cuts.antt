@@ -95,9 +95,8 @@ sought-cut [] None cut = tt
 sought-cut [] (Some begin) cut = tt
 sought-cut (line ∷ lines) None cut = outside-cut (code_of line.line.bytes) line.line.place
     (λ begin. sought lines begin) (λ p. sought-cut lines p cut.1)
-sought-cut (line ∷ lines) (Some begin) cut =
-    behind-cut line.line.bytes (code_of line.line.bytes) begin line lines (λ next. sought lines next) cut.1
-    (λ p. sought-cut lines p cut.1)
+sought-cut (line ∷ lines) (Some begin) cut = behind-cut line.line.bytes
+    (code_of line.line.bytes) begin line lines (λ next. sought lines next) cut.1 (λ p. sought-cut lines p cut.1)
 
 old_at-cut : (code : Option Code) (line : SourceLine) (lines : List SourceLine) (later : OldSide)
     → AllByRecursion IsCutLine lines → AllByRecursion IsCutLine later.rest
@@ -164,15 +163,12 @@ change-silent entry old by =
     let told = lines ++ map fault old.faults in
     let ended = told ++ fault_if old.ended (at_place EndedBeforeY entry.begin) in
     let ran_out = ended ++ fault_if by.ran_out (at_place WebEnded entry.begin) in
-    silent-append ran_out (fault_if (nat_lt 0 by.unequal) unequal)
-    (silent-append ended (fault_if by.ran_out (at_place WebEnded entry.begin))
-    (silent-append told (fault_if old.ended (at_place EndedBeforeY entry.begin))
-    (silent-append lines (map fault old.faults)
-    (silent-append (map took old.taken) (map took by.taken) (took-silent old.taken) (took-silent by.taken))
-    (faults-silent old.faults))
-    (fault_if-silent old.ended (at_place EndedBeforeY entry.begin)))
-    (fault_if-silent by.ran_out (at_place WebEnded entry.begin)))
-    (fault_if-silent (nat_lt 0 by.unequal) unequal)
+    silent-append ran_out
+    (fault_if (nat_lt 0 by.unequal) unequal) (silent-append ended (fault_if by.ran_out (at_place WebEnded entry.begin))
+    (silent-append told (fault_if old.ended (at_place EndedBeforeY entry.begin)) (silent-append lines
+    (map fault old.faults) (silent-append (map took old.taken) (map took by.taken) (took-silent old.taken)
+    (took-silent by.taken)) (faults-silent old.faults)) (fault_if-silent old.ended (at_place EndedBeforeY entry.begin)))
+    (fault_if-silent by.ran_out (at_place WebEnded entry.begin))) (fault_if-silent (nat_lt 0 by.unequal) unequal)
 
 -- a state of cut lines
 abbrev pub IsCutState : State → Type 0
@@ -225,9 +221,8 @@ module _ (world : World) (r : RawLine) (things : List Thing) (s : State) (first 
       let old = old_lines s.change in
       let by = compared old.lines things in
       silent_keeps (change_events entry old by) (after_old old.ended s.files r.depth entry old by.rest)
-      (change-silent entry old by)
-      (after_old-cut old.ended s.files r.depth entry old by.rest (old_lines-cut s.change change)
-      (compared-cut old.lines things cut))
+      (change-silent entry old by) (after_old-cut old.ended s.files r.depth entry old by.rest
+      (old_lines-cut s.change change) (compared-cut old.lines things cut))
   entry_keeps false entry = plain_keeps (is_include r.source.line.bytes) refl
 
   pub raw_keeps : (pending : Option Entry) → Keeps (at_raw pending world s r things)

@@ -129,10 +129,9 @@ module _ (world : World) (by first : ℕ) where
     may_match = may_match;
   })
 
-  pub raws_from : (depth depth' : ℕ) (may_match : Bool) (file file' number : ℕ) (texts : List TextLine)
-      (things : List Thing) → depth + by ≡ depth' → first + file ≡ file'
-      → map thing_from (raws depth may_match (numbered file number texts) ++ things)
-      ≡ raws depth' may_match (numbered file' number texts) ++ map thing_from things
+  pub raws_from : (depth depth' : ℕ) (may_match : Bool) (file file' number : ℕ) (texts : List TextLine) (things :
+      List Thing) → depth + by ≡ depth' → first + file ≡ file' → map thing_from (raws depth may_match (numbered file
+      number texts) ++ things) ≡ raws depth' may_match (numbered file' number texts) ++ map thing_from things
   raws_from depth depth' may_match file file' number [] things deep is = refl
   raws_from depth depth' may_match file file' number (text ∷ texts) things deep is =
       let rest = raws depth may_match (numbered file (number + 1) texts) ++ things in

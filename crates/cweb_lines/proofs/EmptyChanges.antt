@@ -31,9 +31,8 @@ change_files_without_entries world web change none =
     let changes_are = bytes_of 1 1 (lines change) changes (lie_in 1 1 (text_lines change)) in
     let no_codes = ap (list_any is_code) changes_are ∙ none in
     let alone = halts world (started web None) in
-    ap seen (merge_next world (started web (Some change)) (map took changes ++ [], state things None [] 2)
-    (ap (λ (found : Sought).
-    Some (map took found.taken ++ map fault found.faults, state things found.entry found.rest 2))
+    ap seen (merge_next world (started web (Some change)) (map took changes ++ [], state things None [] 2) (ap
+    (λ (found : Sought). Some (map took found.taken ++ map fault found.faults, state things found.entry found.rest 2))
     (finds_none changes no_codes)))
     ∙ took_unseen changes (merge world (state things None [] 2))
     ∙ ap (λ (ts : List Thing). seen (merge world (state ts None [] 2))) (sym (web_stays web))

@@ -25,8 +25,7 @@ abbrev pub entry_of : SourceLine → SourceLine → Entry
 entry_of x first = record { begin = x.line.place; first = first.line.bytes }
 
 first_old : (bytes : List ℕ) (code : Option Code) (begin : Place) (first : SourceLine) (rest : List SourceLine)
-    (later : Option Place → Sought) → bytes ≢ [] → code ≡ None
-    → behind_x bytes code begin first rest later
+    (later : Option Place → Sought) → bytes ≢ [] → code ≡ None → behind_x bytes code begin first rest later
     ≡ record {
       faults = [];
       taken = first ∷ [];
@@ -39,8 +38,7 @@ first_old (b ∷ bs) code begin first rest later some none = ap (λ c. behind_x 
 -- a search passes over a comment, and finds the entry behind it
 pub finds : (comment : List SourceLine) (x first : SourceLine) (rest : List SourceLine)
     → list_any is_code (bytes_in comment) ≡ false → code_of x.line.bytes ≡ Some old_side
-    → first.line.bytes ≢ [] → code_of first.line.bytes ≡ None
-    → sought (comment ++ (x ∷ first ∷ rest)) None
+    → first.line.bytes ≢ [] → code_of first.line.bytes ≡ None → sought (comment ++ (x ∷ first ∷ rest)) None
     ≡ record { faults = []; taken = comment ++ (x ∷ first ∷ []); entry = Some (entry_of x first); rest = rest }
 finds [] x first rest no_codes begins some none =
     ap (λ code. passing x (outside code x.line.place (λ begin. sought (first ∷ rest) begin))) begins
@@ -69,9 +67,8 @@ pub compares : (depth : ℕ) (may_match : Bool) (lines : List SourceLine) (later
     → compared (bytes_in lines) (raws depth may_match lines ++ later)
     ≡ record { unequal = 0; taken = lines; ran_out = false; rest = later }
 compares depth may_match [] later = refl
-compares depth may_match (line ∷ lines) later =
-    ap (λ equal. one_more equal line (compared (bytes_in lines) (raws depth may_match lines ++ later)))
-    ((bytes_eq-Decides line.line.bytes line.line.bytes).1 refl)
+compares depth may_match (line ∷ lines) later = ap (λ equal. one_more equal line (compared (bytes_in lines)
+    (raws depth may_match lines ++ later))) ((bytes_eq-Decides line.line.bytes line.line.bytes).1 refl)
     ∙ ap (one_more true line) (compares depth may_match lines later)
 
 -- the new lines go up to the @z line
@@ -105,9 +102,8 @@ gives_out world depth may_match (line ∷ lines) later change files plain_lines 
 pub gives_alone : (world : World) (depth : ℕ) (may_match : Bool) (lines : List SourceLine) (change : List SourceLine)
     (files : ℕ) → list_any is_include (bytes_in lines) ≡ false
     → seen (merge world (state (raws depth may_match lines) None change files)) ≡ only_lines (lines_of lines)
-gives_alone world depth may_match lines change files plain_lines =
-    ap (λ (ts : List Thing). seen (merge world (state ts None change files)))
-    (sym (append-nil (raws depth may_match lines)))
+gives_alone world depth may_match lines change files plain_lines = ap (λ (ts : List Thing).
+    seen (merge world (state ts None change files))) (sym (append-nil (raws depth may_match lines)))
     ∙ gives_out world depth may_match lines [] change files plain_lines
     ∙ ap (λ (es : List Event). followed_by (only_lines (lines_of lines)) (seen es))
     (merge_end world (state [] None change files) refl)

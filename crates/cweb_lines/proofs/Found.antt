@@ -15,8 +15,7 @@ module _ (texts : List ℕ → Option (List ℕ)) (inputs : Option (List ℕ)) (
   world = record { texts = texts; inputs = inputs }
 
   pub found_first : (found : Found) → Some found ≡ under bytes (texts bytes) → Some found ≡ found_at world name
-  found_first found is =
-      ap (λ f. first_found f (in_folder inputs texts name)) (is ∙ ap (λ n. under n (texts n)) same)
+  found_first found is = ap (λ f. first_found f (in_folder inputs texts name)) (is ∙ ap (λ n. under n (texts n)) same)
       ∙ ap (λ b. found_if b world name) (sym (is_utf8-from_IsUtf8 name text))
 
   pub found_second : (found : Option (Found)) → None ≡ under bytes (texts bytes) → found ≡ in_folder inputs texts name →

@@ -79,18 +79,15 @@ module _ {W : Type 0} (sink : Sink W) (first mid : W) (keeps : KeepsPlace sink f
     alone = λ none. refl;
   }
 
-  pub fails_front : (new : W) → (IsTrue (sink.tells mid) → WritesFront (sink.written mid) (sink.written new) piece) →
-      IsTrue (sink.tells first)
-      → WritesFront (sink.written first) (sink.written new) (text_of (given_lines all))
+  pub fails_front : (new : W) → (IsTrue (sink.tells mid) → WritesFront (sink.written mid) (sink.written new) piece)
+      → IsTrue (sink.tells first) → WritesFront (sink.written first) (sink.written new) (text_of (given_lines all))
   fails_front new front tells =
       front_of_all (given_lines all) h.done h.gathered (given_lines now) (sink.written first) (sink.written mid)
-      (sink.written new) piece
-      (given_front (h.done ++ h.gathered) old so all now h.gives ∙ append_assoc h.done h.gathered (given_lines now))
-      (h.wrote tells) h.piece_is (front (place_told sink first mid keeps tells))
+      (sink.written new) piece (given_front (h.done ++ h.gathered) old so all now h.gives ∙ append_assoc
+      h.done h.gathered (given_lines now)) (h.wrote tells) h.piece_is (front (place_told sink first mid keeps tells))
 
-  pub fails_among : (new : W) → IsTrue (sink.tells first) → (IsTrue (sink.tells mid) →
-      WritesFront (sink.written mid) (sink.written new) piece)
-      → FailsAmong room old so all now (sink.written first) (sink.written new)
+  pub fails_among : (new : W) → IsTrue (sink.tells first) → (IsTrue (sink.tells mid) → WritesFront (sink.written mid)
+      (sink.written new) piece) → FailsAmong room old so all now (sink.written first) (sink.written new)
   fails_among new tells front = record {
     done = h.done;
     gathered = h.gathered;

@@ -24,9 +24,8 @@ events-taken [] = refl
 events-taken (source ∷ sources) = ap (λ (ls : List SourceLine). source ∷ ls) (events-taken sources)
 
 -- what a merge gives of lines that pass through
-merge_lines : (world : World) (entry : Option Entry) (may_match : Bool) (depth file number : ℕ)
-    (lines : List (List ℕ)) (things : List Thing) (change : List SourceLine) (files : ℕ)
-    → ArePassing entry may_match lines
+merge_lines : (world : World) (entry : Option Entry) (may_match : Bool) (depth file number : ℕ) (lines : List (List ℕ))
+    (things : List Thing) (change : List SourceLine) (files : ℕ) → ArePassing entry may_match lines
     → merge world (state (raws depth may_match (numbered file number (map ended lines)) ++ things) entry change files)
     ≡ events_of (numbered file number (map ended lines)) ++ merge world (state things entry change files)
 merge_lines world entry may_match depth file number [] things change files passing = refl
@@ -49,9 +48,8 @@ pub merge_next_lines : {R : Type 0} (world : World) (entry : Option Entry) (slot
     → merge world (state (raws (number_of text_depth slot) (matches_at slot) (sources_next slot lines) ++ things) entry
     change files) ≡ events_of (sources_next slot lines) ++ merge world (state things entry change files)
 merge_next_lines world entry None s lines things change files stands = absurd stands
-merge_next_lines world entry (Some text) s lines things change files stands =
-    merge_lines world entry text.may_match text.depth text.file.0 (text.line + 1) lines things change files
-    stands.is.passing
+merge_next_lines world entry (Some text) s lines things change files stands = merge_lines
+    world entry text.may_match text.depth text.file.0 (text.line + 1) lines things change files stands.is.passing
 
 numbered-length : (file number : ℕ) (lines : List (List ℕ))
     → length (numbered file number (map ended lines)) ≡ length lines
@@ -61,8 +59,7 @@ numbered-length file number (line ∷ lines) = omega (arith, numbered-length fil
 numbered-size : (file number : ℕ) (lines : List (List ℕ))
     → size_of (numbered file number (map ended lines)) ≡ length (standing lines)
 numbered-size file number [] = refl
-numbered-size file number (line ∷ lines) =
-    omega (arith, numbered-size file (number + 1) lines, length_line)
+numbered-size file number (line ∷ lines) = omega (arith, numbered-size file (number + 1) lines, length_line)
   where
     length_line : length (line ++ 10 ∷ standing lines) ≡ length line + (1 + length (standing lines))
     length_line = omega (arith, length-append line (10 ∷ standing lines))

@@ -6,16 +6,14 @@ use Rattle.cweb_lines.proofs.Seens.{name_first, seen-append}
 
 pub raws_seek_none : (depth : ℕ) (may_match : Bool) (lines : List SourceLine)
     → AllByRecursion IsNoSearch (raws depth may_match lines)
-raws_seek_none depth may_match lines =
-    subst (AllByRecursion IsNoSearch) (append-nil (raws depth may_match lines))
-    (raws_seek_not depth may_match lines [] tt)
+raws_seek_none depth may_match lines = subst
+    (AllByRecursion IsNoSearch) (append-nil (raws depth may_match lines)) (raws_seek_not depth may_match lines [] tt)
 
 pub raws-append : (depth : ℕ) (may_match : Bool) (before behind : List SourceLine)
     → raws depth may_match (before ++ behind) ≡ raws depth may_match before ++ raws depth may_match behind
 raws-append depth may_match [] behind = refl
-raws-append depth may_match (line ∷ before) behind =
-    ap (λ (ts : List Thing). raw (record { source = line; depth = depth; may_match = may_match }) ∷ ts)
-    (raws-append depth may_match before behind)
+raws-append depth may_match (line ∷ before) behind = ap (λ (ts : List Thing). raw
+    (record { source = line; depth = depth; may_match = may_match }) ∷ ts) (raws-append depth may_match before behind)
 
 -- what stands behind some things comes as if alone
 pub in_two : (world : World) (things later : List Thing) (change : List SourceLine) (files : ℕ)
@@ -70,8 +68,7 @@ lines_apart = record {
       let things = raws depth true before in
       ap (λ (ts : List Thing). seen (merge world (state ts None [] files))) (raws-append depth true before behind)
       ∙ ap seen (in_two world things (raws depth true behind) [] files (raws_seek_none depth true before))
-      ∙ seen-append (merge world (state things None [] files))
-      (merge world (state (raws depth true behind) None []
+      ∙ seen-append (merge world (state things None [] files)) (merge world (state (raws depth true behind) None []
       (files + length (openings (merge world (state things None [] files))))));
   plain = λ world depth files line plain_line.
       let r : RawLine = record { source = line; depth = depth; may_match = true } in
@@ -105,13 +102,12 @@ include_lines world depth files before behind line name text includes shallow =
     let inside = merge world (state lines None [] (file + 1)) in
     let last = merge world (state rest None [] (file + 1 + length (openings inside))) in
     let s = state (raw r ∷ rest) None [] file in
-    ap (λ (ts : List Thing). seen (merge world (state ts None [] files)))
-    (raws-append depth true before (line ∷ behind))
+    ap
+    (λ (ts : List Thing). seen (merge world (state ts None [] files))) (raws-append depth true before (line ∷ behind))
     ∙ ap seen (in_two world (raws depth true before) (raw r ∷ rest) [] files (raws_seek_none depth true before))
-    ∙ ap (λ (es : List Event). seen (first ++ es))
-    (merge_next world s (taking line (obeyed (Some (name, text)) s r rest))
-    (ap (λ (next : Next). Some (taking line next)) (opens_text world r rest s name text includes shallow))
-    ∙ ap (λ (es : List Event). took line ∷ opening name ∷ es)
+    ∙ ap (λ (es : List Event). seen (first ++ es)) (merge_next world s
+    (taking line (obeyed (Some (name, text)) s r rest)) (ap (λ (next : Next). Some (taking line next))
+    (opens_text world r rest s name text includes shallow)) ∙ ap (λ (es : List Event). took line ∷ opening name ∷ es)
     (in_two world lines rest [] (file + 1) (raws_seek_none (depth + 1) true (lines_in file text))))
     ∙ seen-append first (took line ∷ opening name ∷ (inside ++ last))
     ∙ ap (λ (later : Seen). followed_by (seen first) (name_first name later)) (seen-append inside last)

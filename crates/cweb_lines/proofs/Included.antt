@@ -56,12 +56,10 @@ module _ (world : World) (by first : ℕ) where
       (or-false (is_too_deep f.kind) (list_any (λ fault. is_too_deep fault.kind) (told_faults events)) is).1
   shallow_tail (opening name) events is = is
 
-  shallow_raw : (n : ℕ) (r : RawLine) (things : List Thing) (files : ℕ) (deep : List Event)
-      → AllByRecursion IsNoSearch things → IsShallow deep
-      → ((f : ℕ) (ts : List Thing) (es : List Event) → AllByRecursion IsNoSearch ts → IsShallow es → RunsDeep n f ts es
-      → Shallow n f ts es)
-      → (kind deeper : Kind) → (deeper ≡ kind_at world by first kind) ⊎ (deeper ≡ too_deep_at world by first r)
-      → deep_raw n r things files deeper ≡ Some deep
+  shallow_raw : (n : ℕ) (r : RawLine) (things : List Thing) (files : ℕ) (deep : List Event) → AllByRecursion IsNoSearch
+      things → IsShallow deep → ((f : ℕ) (ts : List Thing) (es : List Event) → AllByRecursion IsNoSearch ts → IsShallow
+      es → RunsDeep n f ts es → Shallow n f ts es) → (kind deeper : Kind) → (deeper ≡ kind_at world by first kind) ⊎
+      (deeper ≡ too_deep_at world by first r) → deep_raw n r things files deeper ≡ Some deep
       → (events : List Event) × (shallow_from n r things files kind ≡ Some events) × (map event_from events ≡ deep)
   shallow_raw n r things files deep none shallow each kind deeper (inr too) is =
       let d = sym (ap (deep_raw n r things files) too) ∙ is in
@@ -168,8 +166,7 @@ included_texts world by file text shallow =
     ∙ append-nil (raws (1 + by) true (lines_in file text)) in
     let all = halts world deep in
     let none = subst (AllByRecursion IsNoSearch) (append-nil things) (raws_seek_not 1 true (lines_in 0 text) [] tt) in
-    let few : IsShallow all.events =
-    subst IsShallow (merge-run all.steps world deep all.events all.comes) shallow in
+    let few : IsShallow all.events = subst IsShallow (merge-run all.steps world deep all.events all.comes) shallow in
     let runs = ap (λ (ts : List Thing). run all.steps world (state ts None [] (file + 1))) moved ∙ all.comes in
     let found = shallow_run world by file all.steps 1 things all.events none few runs in
     ap seen (merge-run all.steps world deep all.events all.comes ∙ sym found.same)

@@ -136,9 +136,8 @@ file_of_two_changes : lines (codes "why\n@x that\nB\n@i gone\n@y\nb\nbb\n@z\n@X\
     ≡ change_lines two_changes (codes "end" ∷ [])
 file_of_two_changes = refl
 
-they_splice : seen_by (run 30 no_texts
-    (started (codes "A\nB\n@i gone\nC\nD\n")
-    (Some (codes "why\n@x that\nB\n@i gone\n@y\nb\nbb\n@z\n@X\nC\n@Y\n@Z\nend"))))
+they_splice : seen_by (run 30 no_texts (started
+    (codes "A\nB\n@i gone\nC\nD\n") (Some (codes "why\n@x that\nB\n@i gone\n@y\nb\nbb\n@z\n@X\nC\n@Y\n@Z\nend"))))
     ≡ Some (only_lines (spliced 1 1 two_changes (codes "D" ∷ [])))
 they_splice = refl
 
@@ -157,8 +156,7 @@ entry_without_match = refl
 
 -- the text of an include line as it comes at depth 2, as file 1, and as it comes of a web of its own
 it_merges_as_a_web : seen_by (run 20 a_file_included
-    (record { things = raws 2 true (lines_in 1 (codes "A\n@i b\n")); pending = None; change = []; files = 2 }))
-    ≡ option_map (renumbered (λ number. 1 + number))
-    (seen_by (run 20 a_file_included (started (codes "A\n@i b\n") None)))
+    (record { things = raws 2 true (lines_in 1 (codes "A\n@i b\n")); pending = None; change = []; files = 2 })) ≡
+    option_map (renumbered (λ number. 1 + number)) (seen_by (run 20 a_file_included (started (codes "A\n@i b\n") None)))
 unfolding is_utf8 chars encode
 it_merges_as_a_web = refl

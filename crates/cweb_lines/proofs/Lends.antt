@@ -55,10 +55,9 @@ lies_at entry (Some text) s line (raw ∷ []) files stands one is known =
 -- the first line is lent
 pub lends_line : {R : Type 0} (old new : Run R) (s : Stretch) (line : Lent) (lines : List (List ℕ))
     → ComesNext old s lines → s.lines ≡ 1 → Some line ≡ lent_at (top_of old.stack) s
-    → GivesLines old new (lines_next (top_of old.stack) lines)
-    → new.limits.bytes ≡ old.limits.bytes + length (standing lines) → old.limits.lines < new.limits.lines
-    → new.stack.depth ≡ old.stack.depth → piece_of (top_of new.stack) ≡ piece_of (top_of old.stack)
-    → LendsLine line old new
+    → GivesLines old new (lines_next (top_of old.stack) lines) → new.limits.bytes
+    ≡ old.limits.bytes + length (standing lines) → old.limits.lines < new.limits.lines → new.stack.depth
+    ≡ old.stack.depth → piece_of (top_of new.stack) ≡ piece_of (top_of old.stack) → LendsLine line old new
 lends_line old new s line lines next one is gives bytes more depth piece = record {
   lies = record {
     some = omega (arith, depth, next.above);

@@ -29,10 +29,8 @@ module _ (world : World) (source : SourceLine) (bytes : List ℕ) (at : LineAt)
   passes : (p : Option Entry) → begun_by p at.may_match bytes ≡ None →
       at_raw p world before r things ≡ plain (is_include source.line.bytes) world before r things
   passes None unbegun = refl
-  passes (Some entry) unbegun =
-      ap (λ b. at_entry b entry world before r things)
-      (as_read (λ b. at.may_match && bytes_eq b entry.first) false
-      (not_begun (at.may_match && bytes_eq bytes entry.first) entry.begin unbegun))
+  passes (Some entry) unbegun = ap (λ b. at_entry b entry world before r things) (as_read (λ b. at.may_match
+      && bytes_eq b entry.first) false (not_begun (at.may_match && bytes_eq bytes entry.first) entry.begin unbegun))
 
   merge_plain : (next : Next) → plain (is_include source.line.bytes) world before r things ≡ next →
       merge world before ≡ took source ∷ next.0 ++ merge world next.1
@@ -41,17 +39,15 @@ module _ (world : World) (source : SourceLine) (bytes : List ℕ) (at : LineAt)
 
   pub merge_given : is_include bytes ≡ false → merge world before ≡ took source ∷ given
       (record { bytes = bytes; place = at.place }) ∷ merge world after
-  merge_given test =
-      merge_plain (given source.line ∷ [], after) (ap (λ b. plain b world before r things)
-      (as_read is_include false test))
+  merge_given test = merge_plain
+      (given source.line ∷ [], after) (ap (λ b. plain b world before r things) (as_read is_include false test))
       ∙ ap (λ (l : Line). took source ∷ given l ∷ merge world after) is
 
   pub merge_no_name : is_include bytes ≡ true → include_name bytes ≡ [] →
       merge world before ≡ took source ∷ fault (at_place NoName at.place) ∷ merge world after
   merge_no_name test empty =
-      merge_plain (fault (at_place NoName source.line.place) ∷ [], after)
-      (ap (λ b. plain b world before r things) (as_read is_include true test)
-      ∙ ap (λ n. included n world before r things) (as_read include_name [] empty))
+      merge_plain (fault (at_place NoName source.line.place) ∷ [], after) (ap (λ b. plain b world before r things)
+      (as_read is_include true test) ∙ ap (λ n. included n world before r things) (as_read include_name [] empty))
       ∙ ap (λ (l : Line). took source ∷ fault (at_place NoName l.place) ∷ merge world after) is
 
   merge_named : (name : List ℕ) (next : Next) → is_include bytes ≡ true → include_name bytes ≡ name → 0 < length name →
@@ -59,8 +55,7 @@ module _ (world : World) (source : SourceLine) (bytes : List ℕ) (at : LineAt)
       → merge world before ≡ took source ∷ next.0 ++ merge world next.1
   merge_named [] next test named some opens = absurd (omega arith)
   merge_named (b ∷ bs) next test named some opens =
-      merge_plain next
-      (ap (λ b. plain b world before r things) (as_read is_include true test)
+      merge_plain next (ap (λ b. plain b world before r things) (as_read is_include true test)
       ∙ ap (λ n. included n world before r things) (as_read include_name (b ∷ bs) named) ∙ opens)
 
   pub merge_too_deep : is_include bytes ≡ true → 0 < length (include_name bytes) → OPEN_FILES ≤ at.depth →
@@ -76,9 +71,8 @@ module _ (world : World) (source : SourceLine) (bytes : List ℕ) (at : LineAt)
       → merge world before ≡ took source ∷ fault (at_place NotThere at.place) ∷ merge world after
   merge_not_there test some deep gone =
       let room : nat_lt at.depth OPEN_FILES ≡ true = grind (arith, nat_tests) in
-      merge_named (include_name bytes) (fault (at_place NotThere source.line.place) ∷ [], after) test refl some
-      (ap (λ t. opened t world (include_name bytes) before r things) room
-      ∙ ap (λ o. obeyed o before r things) (sym gone))
+      merge_named (include_name bytes) (fault (at_place NotThere source.line.place) ∷ [], after) test refl some (ap
+      (λ t. opened t world (include_name bytes) before r things) room ∙ ap (λ o. obeyed o before r things) (sym gone))
       ∙ ap (λ (l : Line). took source ∷ fault (at_place NotThere l.place) ∷ merge world after) is
 
   pub merge_opens : (name text : List ℕ) → is_include bytes ≡ true → 0 < length (include_name bytes) →
@@ -194,8 +188,7 @@ pub stopped_by : (stop : Stop) (count now : Count) (world : World) (things : Lis
     (change : List SourceLine) (files : ℕ) → now ≡ count → StopsFor (TopStops stop count things) stop
     → Stopped stop count now (merge world (state things pending change files))
 stopped_by stop count now world things pending change files same stops =
-    stopped_first stop (TopStops stop count things) count now _ same
-    (λ top.
+    stopped_first stop (TopStops stop count things) count now _ same (λ top.
     let taken = merge_takes world top.raw_line top.rest pending change files in (
       top.raw_line.source,
       (

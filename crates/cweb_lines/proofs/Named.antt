@@ -25,9 +25,8 @@ module _ {R : Type 0} (opened_as : R → List ℕ) (names : List (List ℕ)) whe
   slot_more more None known is = tt
   slot_more more (Some text) known is = is ∙ sym (get_or_append_left names more [] text.file.0 (omega (arith, known)))
 
-  pub named_more : (more : List (List ℕ)) (texts : List (Option (OpenText R)))
-      → most files_up_to texts ≤ length names → AreNamed opened_as names texts
-      → AreNamed opened_as (names ++ more) texts
+  pub named_more : (more : List (List ℕ)) (texts : List (Option (OpenText R))) → most files_up_to texts ≤ length names
+      → AreNamed opened_as names texts → AreNamed opened_as (names ++ more) texts
   named_more more texts known each = λ place. slot_more more (get_or texts place None)
       (omega (arith, known, most_at files_up_to texts place)) (each place)
 
@@ -98,8 +97,7 @@ named_first opened_as names text n top (suc place) = nones opened_as names n pla
 
 -- what was gathered is written behind a stop: the same reader is blamed, or none where a write fails
 pub blames_rest : (names before now : List (List ℕ)) (stop result : Stop) (piece : List ℕ) (Wrote : List ℕ → Type 0)
-    → WritesRest stop result piece Wrote
-    → now ≡ before ++ blame names stop → now ≡ before ++ blame names result
+    → WritesRest stop result piece Wrote → now ≡ before ++ blame names stop → now ≡ before ++ blame names result
 blames_rest names before now stop result piece Wrote (leaves file was is wrote) blames = blames
     ∙ ap (λ s. before ++ blame names s) (sym is)
 blames_rest names before now stop result piece Wrote (writes is wrote) blames = blames

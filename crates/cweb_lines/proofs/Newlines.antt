@@ -79,30 +79,26 @@ longer_more limit text rest long =
 pub taken_full : (all line old rest after new : List ℕ) → all ≡ line ++ (old ++ rest) → HasNoNewline line →
     TakesOf old line true after new → Takes all Full after (new ++ rest)
 taken_full all line old rest after new is none takes = (
-  is ∙ ap (λ (l : List ℕ). line ++ (l ++ rest)) takes.2
-      ∙ (simp append_assoc)
+  is ∙ ap (λ (l : List ℕ). line ++ (l ++ rest)) takes.2 ∙ (simp append_assoc)
       ∙ ap (λ (l : List ℕ). l ++ 10 ∷ (new ++ rest)) (sym takes.3),
   subst HasNoNewline (sym takes.3) (no_newline-append line takes.0 none takes.1),
 )
 
-pub taken_more : (all line old rest after new : List ℕ) → all ≡ line ++ (old ++ rest) → HasNoNewline line →
-    TakesOf old line false after new
-    → (all ≡ after ++ (new ++ rest)) × HasNoNewline after
+pub taken_more : (all line old rest after new : List ℕ) → all ≡ line ++ (old ++ rest)
+    → HasNoNewline line → TakesOf old line false after new → (all ≡ after ++ (new ++ rest)) × HasNoNewline after
 taken_more all line old rest after new is none takes = (
   is ∙ sym (append_assoc line old rest) ∙ (λ i. sym takes.1 i ++ (sym takes.2 i ++ rest)),
   subst HasNoNewline (sym takes.1) (no_newline-append line old none takes.0),
 )
 
 -- the first line of a text that begins with bytes other than newlines has those bytes at least
-pub longer_first : (front rest : List ℕ) → HasNoNewline front → 0 < length front
-    → (line : TextLine) × (lines : List TextLine) × (text_lines (front ++ rest) ≡ line ∷ lines)
-    × (length front ≤ length line.bytes)
+pub longer_first : (front rest : List ℕ) → HasNoNewline front → 0 < length front → (line : TextLine) ×
+    (lines : List TextLine) × (text_lines (front ++ rest) ≡ line ∷ lines) × (length front ≤ length line.bytes)
 longer_first [] rest none some = absurd (omega arith)
 longer_first (b ∷ []) rest none some = by (text_lines rest) (no_more b none.0 rest [])
   where
-    by : (lines : List TextLine) → text_lines (b ∷ rest) ≡ onto_first b lines
-        → (line : TextLine) × (lines' : List TextLine) × (text_lines (b ∷ rest) ≡ line ∷ lines')
-        × (1 ≤ length line.bytes)
+    by : (lines : List TextLine) → text_lines (b ∷ rest) ≡ onto_first b lines → (line : TextLine) ×
+        (lines' : List TextLine) × (text_lines (b ∷ rest) ≡ line ∷ lines') × (1 ≤ length line.bytes)
     by [] is = (record { bytes = b ∷ []; size = 1 }, [], is, omega arith)
     by (line ∷ lines) is = (record { bytes = b ∷ line.bytes; size = line.size + 1 }, lines, is, omega arith)
 longer_first (b ∷ c ∷ front) rest none some =

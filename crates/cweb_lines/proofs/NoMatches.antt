@@ -26,8 +26,7 @@ module _ (world : World) (web comment : List SourceLine) (x first : SourceLine) 
       let things = raws 1 true web in
       let taken = comment ++ (x ∷ first ∷ []) in
       ap seen (merge_next world (state (seek ∷ things) None (comment ++ (x ∷ first ∷ rest)) 2)
-      (map took taken ++ [], state things (Some entry) rest 2)
-      (ap (λ (found : Sought).
+      (map took taken ++ [], state things (Some entry) rest 2) (ap (λ (found : Sought).
       Some (map took found.taken ++ map fault found.faults, state things found.entry found.rest 2))
       (finds comment x first rest no_codes begins some no_first)))
       ∙ took_unseen taken (merge world (state things (Some entry) rest 2))
@@ -45,16 +44,12 @@ entries_without_match world web change comment begin first rest is no_codes begi
     let b = first_of 1 (1 + length comment) begin (first ∷ rest) a.rest a.rest_lies in
     let c = first_of 1 (1 + length comment + 1) first rest b.rest b.rest_lies in
     let comment_is = bytes_of 1 1 comment a.front a.front_lies in
-    let whole = a.whole ∙ ap (λ (ls : List SourceLine). a.front ++ ls)
-    (b.whole ∙ ap (λ (ls : List SourceLine). b.line ∷ ls) c.whole) in
+    let whole = a.whole
+    ∙ ap (λ (ls : List SourceLine). a.front ++ ls) (b.whole ∙ ap (λ (ls : List SourceLine). b.line ∷ ls) c.whole) in
     ap (λ (changes : List SourceLine). seen (merge world (state (seek ∷ raws 1 true source) None changes 2))) whole
-    ∙ told_once world source a.front b.line c.line c.rest
-    (ap (list_any is_code) comment_is ∙ no_codes)
-    (ap code_of b.bytes ∙ begins)
-    (λ none. some (sym c.bytes ∙ none))
-    (ap code_of c.bytes ∙ no_first)
-    (ap (list_any is_include) web_is ∙ plain_web)
-    ((λ i. list_any (λ line. bytes_eq line (c.bytes i)) (web_is i)) ∙ others)
+    ∙ told_once world source a.front b.line c.line c.rest (ap (list_any is_code) comment_is ∙ no_codes) (ap code_of
+    b.bytes ∙ begins) (λ none. some (sym c.bytes ∙ none)) (ap code_of c.bytes ∙ no_first) (ap (list_any is_include)
+    web_is ∙ plain_web) ((λ i. list_any (λ line. bytes_eq line (c.bytes i)) (web_is i)) ∙ others)
     ∙ (λ i. followed_by (only_lines (lie i)) (only_fault NoMatch (b.place i)))
     ∙ ap (λ (ls : List Line). record { lines = ls; faults = told; included = [] }) (append-nil (placed 0 1 (lines web)))
   where

@@ -12,11 +12,10 @@ use Rattle.cweb_lines.proofs.Writes.{text_of-append}
 pub top_passed : {R : Type 0} (left : R → List ℕ) (texts : List (Option (OpenText R))) (d slot' : Option (OpenText R))
     (depth : ℕ) (within : depth - 1 < length texts) (low : ℕ) (above : low < depth) (rest : List Thing)
     (sources : List SourceLine) → number_of text_depth slot' ≡ number_of text_depth (get_or texts (depth - 1) d)
-    → matches_at slot' ≡ matches_at (get_or texts (depth - 1) d)
-    → lines_at left (get_or texts (depth - 1) d) ≡ sources ++ lines_at left slot'
-    → things_over left low (depth - low) texts rest
-    ≡ raws (number_of text_depth (get_or texts (depth - 1) d)) (matches_at (get_or texts (depth - 1) d)) sources
-    ++ things_over left low (depth - low) (set texts (depth - 1) slot') rest
+    → matches_at slot' ≡ matches_at (get_or texts (depth - 1) d) → lines_at left (get_or texts (depth - 1) d)
+    ≡ sources ++ lines_at left slot' → things_over left low (depth - low) texts rest
+    ≡ raws (number_of text_depth (get_or texts (depth - 1) d)) (matches_at (get_or texts (depth - 1) d))
+    sources ++ things_over left low (depth - low) (set texts (depth - 1) slot') rest
 top_passed left texts d slot' depth within low above rest sources deep' matches' takes =
     let deep : depth - low ≡ suc (depth - 1 - low) = omega arith in
     let top : low + (depth - 1 - low) ≡ depth - 1 = omega arith in
@@ -55,11 +54,10 @@ module _ {R : Type 0} (run : Run R) (stack : Stack R) (limits : Limits) (s : Str
       (things_in l run.stage (lines_at l run.change) stack))
   gives_next t l = record {
     events = events_of sources;
-    whole = ap (λ (ts : List Thing). coming_of t (text_of_name run.inputs) l run.stage run.change run.first.items
-        (length (names_of run.names)) ts)
-        (passes_in l run.stage (change_lines l run) run.stack stack _ next.settled
-        (passes.takes l (floor_of run.stage) next.above)
-        (λ left n le rest. below left n (omega (arith, le, next.above)) rest))
+    whole = ap (λ (ts : List Thing).
+        coming_of t (text_of_name run.inputs) l run.stage run.change run.first.items (length (names_of run.names)) ts)
+        (passes_in l run.stage (change_lines l run) run.stack stack _ next.settled (passes.takes l
+        (floor_of run.stage) next.above) (λ left n le rest. below left n (omega (arith, le, next.above)) rest))
         ∙ merge_next_lines (world_in t run.inputs) (pending_of run) (top_of run.stack) s lines
         (things_in l run.stage (lines_at l run.change) stack) (change_in run.stage (lines_at l run.change))
         (length (names_of run.names)) next.stands;

@@ -39,10 +39,9 @@ module _ (world : World) where
       let found = sought change None in
       let first = map took found.taken ++ map fault found.faults in
       let next = state things found.entry found.rest files in
-      let silent = silent-append (map took found.taken) (map fault found.faults) (took-silent found.taken)
-      (faults-silent found.faults) in
-      step_prints n (first, next) events each
-      (silent_keeps first next silent (cut.1, sought-cut change None cut')) is
+      let silent = silent-append
+      (map took found.taken) (map fault found.faults) (took-silent found.taken) (faults-silent found.faults) in
+      step_prints n (first, next) events each (silent_keeps first next silent (cut.1, sought-cut change None cut')) is
   thing_prints n (told f ∷ things) pending change files events each cut cut' is =
       step_prints n (fault f ∷ [], state things pending change files) events each (tt, (cut.1, cut')) is
   thing_prints n (passed line ∷ things) pending change files events each cut cut' is =

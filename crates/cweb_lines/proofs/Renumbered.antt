@@ -29,8 +29,7 @@ raw_of depth may_match file number text = raw (record {
 })
 
 pub raws_behind : (depth : ℕ) (may_match : Bool) (file file' number : ℕ) (texts : List TextLine) (things : List Thing)
-    → file_behind file ≡ file'
-    → map thing_behind (raws depth may_match (numbered file number texts) ++ things)
+    → file_behind file ≡ file' → map thing_behind (raws depth may_match (numbered file number texts) ++ things)
     ≡ raws depth may_match (numbered file' number texts) ++ map thing_behind things
 raws_behind depth may_match file file' number [] things is = refl
 raws_behind depth may_match file file' number (text ∷ texts) things is =
@@ -54,10 +53,8 @@ module _ (world : World) where
 
   -- behind a raw line, where it holds of so many steps
   raw_behind_run : (n : ℕ) (r : RawLine) (things : List Thing) (files : ℕ) (events : List Event)
-      → 0 < files → AllByRecursion IsNoSearch things
-      → ((f : ℕ) (ts : List Thing) (es : List Event) → 0 < f → AllByRecursion IsNoSearch ts → Runs n f ts es
-      → RunsBehind n f ts es)
-      → (kind : Kind) →
+      → 0 < files → AllByRecursion IsNoSearch things → ((f : ℕ) (ts : List Thing) (es : List Event)
+      → 0 < f → AllByRecursion IsNoSearch ts → Runs n f ts es → RunsBehind n f ts es) → (kind : Kind) →
       let next = becomes kind (state (raw r ∷ things) None [] files) r things in
       let things' = map thing_behind things in
       let before' = state (raw (raw_behind r) ∷ things') None [] (files + 1) in

@@ -72,11 +72,10 @@ module _ (change : List SourceLine) (things : List Thing) (so_far : Replaced) (l
       }
 
   -- the old side ends here, behind these lines
-  pub replaces_done : (new : SoFar) (last rest : List SourceLine) (ended : Bool) →
-      old_lines lines ≡ record { faults = []; lines = []; taken = last; ended = ended; rest = rest } →
-      Adds r.told ((r.taken ++ last) ++ r.raw_taken) old new
-      → IsReplaced change things (record { unequal = so_far.unequal; ran_out = so_far.ran_out; ended = ended }) rest
-      raws old new
+  pub replaces_done : (new : SoFar) (last rest : List SourceLine) (ended : Bool)
+      → old_lines lines ≡ record { faults = []; lines = []; taken = last; ended = ended; rest = rest }
+      → Adds r.told ((r.taken ++ last) ++ r.raw_taken) old new → IsReplaced change things
+      (record { unequal = so_far.unequal; ran_out = so_far.ran_out; ended = ended }) rest raws old new
   replaces_done new last rest ended is adds =
       let faults : (old_lines change).faults ≡ r.told = r.faults_are ∙ ap (λ (s : OldSide). r.told ++ s.faults) is
       ∙ append-nil r.told in
@@ -106,10 +105,9 @@ module _ (change : List SourceLine) (things : List Thing) (so_far : Replaced) (l
     side code test = ap old_lines is ∙ old_code_at code t.line rest bytes place t.is test
 
     -- it is an @x or @z line
-    pub replaces_code : (code : Code) (new : SoFar) → code_of bytes ≡ Some code →
-        old_at (Some code) t.line rest (old_lines rest) ≡ old_code t.line (old_lines rest) →
-        new.faults ≡ now.faults ++ at_place WantsY place ∷ [] → new.names ≡ now.names
-        → new.count ≡ now.count → Replaces change things so_far rest raws old new
+    pub replaces_code : (code : Code) (new : SoFar) → code_of bytes ≡ Some code → old_at (Some code) t.line rest
+        (old_lines rest) ≡ old_code t.line (old_lines rest) → new.faults ≡ now.faults ++ at_place WantsY place ∷ []
+        → new.names ≡ now.names → new.count ≡ now.count → Replaces change things so_far rest raws old new
     replaces_code code new test faulty told' names' count =
         let s : old_lines lines ≡ old_code t.line (old_lines rest) = side (Some code) test ∙ faulty in
         let fault : at_place WantsY t.line.line.place ≡ at_place WantsY place =
@@ -169,14 +167,13 @@ module _ (change : List SourceLine) (things : List Thing) (so_far : Replaced) (l
         let s : old_lines lines ≡ old_line t.line (old_lines rest) = side None test in
         let olds = (old_lines rest).lines in
         let more = (compared olds stops.rest).taken in
-        let raw_taken : (taken_away change things).taken ≡ r.raw_taken ++ stops.raw_line.source ∷ more =
-        r.raw_taken_are ∙ ap (λ (o : OldSide). r.raw_taken ++ (compared o.lines raws).taken) s
+        let raw_taken : (taken_away change things).taken ≡ r.raw_taken ++ stops.raw_line.source ∷ more = r.raw_taken_are
+        ∙ ap (λ (o : OldSide). r.raw_taken ++ (compared o.lines raws).taken) s
         ∙ ap (λ (ts : List Thing). r.raw_taken ++ (compared (t.line.line.bytes ∷ olds) ts).taken) stops.first in
         let taken : (old_lines change).taken ≡ r.taken ++ t.line ∷ (old_lines rest).taken = r.taken_are
         ∙ ap (λ (o : OldSide). r.taken ++ o.taken) s in
         let among : lines_replaced change things ≡ ((old_lines change).taken ++ r.raw_taken)
-        ++ stops.raw_line.source ∷ more =
-        ap (λ (ls : List SourceLine). (old_lines change).taken ++ ls) raw_taken
+        ++ stops.raw_line.source ∷ more = ap (λ (ls : List SourceLine). (old_lines change).taken ++ ls) raw_taken
         ∙ sym (append_assoc (old_lines change).taken r.raw_taken (stops.raw_line.source ∷ more)) in
         let now_lines = ap (λ (c : Count). c.lines) same in
         let now_bytes = ap (λ (c : Count). c.bytes) same in
@@ -185,8 +182,8 @@ module _ (change : List SourceLine) (things : List Thing) (so_far : Replaced) (l
         let taken_bytes_are = ap size_of taken ∙ size-append r.taken (t.line ∷ (old_lines rest).taken) in
         let all_lines = ap (λ (ls : List SourceLine). length ls) among
         ∙ length-append ((old_lines change).taken ++ r.raw_taken) (stops.raw_line.source ∷ more) in
-        let all_bytes = ap size_of among ∙ size-append ((old_lines change).taken ++ r.raw_taken)
-        (stops.raw_line.source ∷ more) in
+        let all_bytes = ap size_of among
+        ∙ size-append ((old_lines change).taken ++ r.raw_taken) (stops.raw_line.source ∷ more) in
         record {
           front = (old_lines change).taken ++ r.raw_taken;
           line = stops.raw_line.source;

@@ -58,16 +58,13 @@ takes_in left left' same (Changing change) lines old new at bytes before after s
 
 -- things came in front, above the texts that stay open
 pub passes_in : {R : Type 0} (left : R → List ℕ) (stage : Stage) (lines : List SourceLine) (old new : Stack R)
-    (first : List Thing) → IsSettled stage
-    → ((rest : List Thing) → things_above left (floor_of stage) old rest
-    ≡ first ++ things_above left (floor_of stage) new rest)
-    → StaysBelow (floor_of stage) old.texts new.texts
+    (first : List Thing) → IsSettled stage → ((rest : List Thing) → things_above left (floor_of stage)
+    old rest ≡ first ++ things_above left (floor_of stage) new rest) → StaysBelow (floor_of stage) old.texts new.texts
     → things_in left stage lines old ≡ first ++ things_in left stage lines new
 passes_in left Done lines old new first settled takes stays = takes []
 passes_in left Seeking lines old new first settled takes stays = absurd (settled refl)
 passes_in left (Waiting begin) lines old new first settled takes stays = takes []
-passes_in left (Changing change) lines old new first settled takes stays =
-    takes (things_below left change lines old)
+passes_in left (Changing change) lines old new first settled takes stays = takes (things_below left change lines old)
     ∙ ap (λ (rest : List Thing). first ++ things_above left change.below new rest)
     (below_same left left refl change lines old new stays)
 
@@ -94,10 +91,9 @@ opened_in left (Changing change) lines old new reader file at settled floor open
     (sym (below_same left left refl change lines old new (λ l n le. stays l n (omega (arith, le, floor)))))
 
 -- the same for a run of which nothing has changed that is to come
-pub coming_same : {R : Type 0} (t t' : List ℕ → Option (List ℕ)) (l l' : R → List ℕ) (run run' : Run R) → t' ≡ t →
-    l' ≡ l → run'.inputs ≡ run.inputs → run'.stack ≡ run.stack → run'.change ≡ run.change
-    → run'.stage ≡ run.stage → run'.first ≡ run.first → names_of run'.names ≡ names_of run.names →
-    coming t' l' run' ≡ coming t l run
+pub coming_same : {R : Type 0} (t t' : List ℕ → Option (List ℕ)) (l l' : R → List ℕ) (run run' : Run R) → t' ≡ t
+    → l' ≡ l → run'.inputs ≡ run.inputs → run'.stack ≡ run.stack → run'.change ≡ run.change → run'.stage ≡ run.stage
+    → run'.first ≡ run.first → names_of run'.names ≡ names_of run.names → coming t' l' run' ≡ coming t l run
 coming_same t t' l l' run run' texts left inputs stack change stage first names =
     λ i. coming_of (texts i) (text_of_name (inputs i)) (left i) (stage i) (change i) ((first i).items)
     (length (names i)) (things_in (left i) (stage i) (lines_at (left i) (change i)) (stack i))
@@ -105,14 +101,12 @@ coming_same t t' l l' run run' texts left inputs stack change stage first names 
 -- nothing is left
 pub coming_none : {R : Type 0} (t : List ℕ → Option (List ℕ)) (l : R → List ℕ) (run : Run R) → NothingLeft run →
     coming t l run ≡ []
-coming_none t l run none =
-    (λ i. coming_of t (text_of_name run.inputs) l (none.1 i) run.change run.first.items (length (names_of run.names))
-    (things_in l (none.1 i) (lines_at l run.change) run.stack))
-    ∙ ap (λ (things : List Thing). coming_of t (text_of_name run.inputs) l Done run.change run.first.items
-    (length (names_of run.names)) things)
-    (over-none l 0 (run.stack.depth - 0) run.stack.texts [] (omega (arith, none.0)))
-    ∙ merge_end (record { texts = t; inputs = text_of_name run.inputs })
-    (state [] None [] (length (names_of run.names))) refl
+coming_none t l run none = (λ i. coming_of t (text_of_name run.inputs) l (none.1 i) run.change run.first.items
+    (length (names_of run.names)) (things_in l (none.1 i) (lines_at l run.change) run.stack))
+    ∙ ap (λ (things : List Thing). coming_of t (text_of_name run.inputs) l Done run.change run.first.items (length
+    (names_of run.names)) things) (over-none l 0 (run.stack.depth - 0) run.stack.texts [] (omega (arith, none.0)))
+    ∙ merge_end
+    (record { texts = t; inputs = text_of_name run.inputs }) (state [] None [] (length (names_of run.names))) refl
 
 -- a text was opened, by what the calls say of shelf and run
 pub coming_opened : {R : Type 0} (t t' : List ℕ → Option (List ℕ)) (l l' : R → List ℕ) (run run' : Run R) (reader : R)
@@ -136,21 +130,18 @@ coming_opened t t' l l' run run' reader name at texts left inputs change stage f
     ++ things_of l run) (sym left)))
 
 -- a fault came, and nothing else has changed
-pub gives_told : {R : Type 0} (t t' : List ℕ → Option (List ℕ)) (l l' : R → List ℕ) (run run' : Run R)
-    (f : SourceFault) → t' ≡ t → l' ≡ l → run'.inputs ≡ run.inputs → run'.stack ≡ run.stack → run'.change ≡ run.change
-    → run'.stage ≡ run.stage → run'.first ≡ run.first → run'.names ≡ run.names → run'.limits ≡ run.limits →
-    run'.faults.items ≡ run.faults.items ++ f ∷ []
-    → Gives [] (told_by run) (told_by run') (fault f ∷ coming t l run) (coming t' l' run')
-gives_told t t' l l' run run' f texts left inputs stack change stage first names limits told =
-    gives_fault (told_by run) (told_by run') _ _ (ap count_of limits) f
-    (ap (λ (es : List Event). fault f ∷ es) (sym (coming_same t t' l l' run run' texts left inputs stack change stage
-    first (ap names_of names)))) told (ap names_of names)
+pub gives_told : {R : Type 0} (t t' : List ℕ → Option (List ℕ)) (l l' : R → List ℕ) (run run' : Run R) (f : SourceFault)
+    → t' ≡ t → l' ≡ l → run'.inputs ≡ run.inputs → run'.stack ≡ run.stack → run'.change ≡ run.change → run'.stage
+    ≡ run.stage → run'.first ≡ run.first → run'.names ≡ run.names → run'.limits ≡ run.limits → run'.faults.items
+    ≡ run.faults.items ++ f ∷ [] → Gives [] (told_by run) (told_by run') (fault f ∷ coming t l run) (coming t' l' run')
+gives_told t t' l l' run run' f texts left inputs stack change stage first names limits told = gives_fault
+    (told_by run) (told_by run') _ _ (ap count_of limits) f (ap (λ (es : List Event). fault f ∷ es) (sym (coming_same t
+    t' l l' run run' texts left inputs stack change stage first (ap names_of names)))) told (ap names_of names)
 
 -- no text has lines left, and no entry is left
 pub nothing_above : {R : Type 0} (world : World) (l : R → List ℕ) (stack : Stack R) (files : ℕ) → stack.depth ≡ 0 →
     merge world (state (things_above l 0 stack []) None [] files) ≡ []
-nothing_above world l stack files none =
-    ap (λ (things : List Thing). merge world (state things None [] files))
+nothing_above world l stack files none = ap (λ (things : List Thing). merge world (state things None [] files))
     (over-none l 0 (stack.depth - 0) stack.texts [] (omega (arith, none)))
     ∙ merge_end world (state [] None [] files) refl
 
@@ -182,8 +173,7 @@ begins_low (Some text) stage is = (ap floor_of is, ap files_begun is)
 pub begun : {R : Type 0} (left : R → List ℕ) (stack : Stack R) (text : OpenText R) (rest : List (Option (OpenText R))) →
     stack.depth ≡ 1 → stack.texts ≡ Some text ∷ rest → text.depth ≡ 1 → text.may_match ≡ true
     → things_above left 0 stack [] ≡ raws 1 true (lines_left left text)
-begun left stack text rest depth texts deep matches =
-    (λ i. things_over left 0 (depth i - 0) (texts i) [])
+begun left stack text rest depth texts deep matches = (λ i. things_over left 0 (depth i - 0) (texts i) [])
     ∙ append-nil (raws text.depth text.may_match (lines_left left text))
     ∙ (λ i. raws (deep i) (matches i) (lines_left left text))
 
@@ -193,11 +183,9 @@ pub begun_coming : {R : Type 0} (world : World) (left : R → List ℕ) (stack :
     → files ≡ suc (length (names_found change)) → things_above left 0 stack [] ≡ raws 1 true (lines_in 0 text)
     → merge world (state (things_in left stage lines stack) (pending_in stage first) (change_in stage lines) files)
     ≡ merge world (started text (text_found change))
-begun_coming world left stack None stage lines first files text at are count things =
-    (λ i. merge world (state (things_in left (at i) lines stack) (pending_in (at i) first) (change_in (at i) lines)
-    (count i)))
+begun_coming world left stack None stage lines first files text at are count things = (λ i. merge world
+    (state (things_in left (at i) lines stack) (pending_in (at i) first) (change_in (at i) lines) (count i)))
     ∙ ap (λ (ts : List Thing). merge world (state ts None [] 1)) things
-begun_coming world left stack (Some found) stage lines first files text at are count things =
-    (λ i. merge world (state (things_in left (at i) lines stack) (pending_in (at i) first) (change_in (at i) lines)
-    (count i)))
+begun_coming world left stack (Some found) stage lines first files text at are count things = (λ i. merge world
+    (state (things_in left (at i) lines stack) (pending_in (at i) first) (change_in (at i) lines) (count i)))
     ∙ (λ i. merge world (state (seek ∷ things i) None (are i) 2))

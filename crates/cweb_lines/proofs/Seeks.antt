@@ -37,8 +37,7 @@ module _ (all : Sought) (lines : List SourceLine) (begin : Option Place) (old mi
       StopsAmong stop old.count now all.taken
   seeks_stop stop now same stops =
       let takes = sought_takes stops.line stops.rest begin in
-      let among : all.taken ≡ seeks.taken ++ stops.line ∷ takes.0 =
-      ap (λ (s : Sought). s.taken) seeks.whole
+      let among : all.taken ≡ seeks.taken ++ stops.line ∷ takes.0 = ap (λ (s : Sought). s.taken) seeks.whole
       ∙ ap (λ (ls : List SourceLine). seeks.taken ++ (sought ls begin).taken) stops.first
       ∙ ap (λ (ls : List SourceLine). seeks.taken ++ ls) takes.1 in
       let now_lines = ap (λ (c : Count). c.lines) same in
@@ -121,8 +120,7 @@ sought_none (Some place) = (refl, refl, refl)
 pub seeks_ended : (all : Sought) (lines : List SourceLine) (begin : Option Place) (old mid : SoFar)
     → SeeksTo all (sought lines begin) old mid → lines ≡ [] → (new : SoFar)
     → new.faults ≡ mid.faults ++ (sought [] begin).faults → new.names ≡ mid.names → new.count ≡ mid.count
-    → (stage : Stage) → stage ≡ Done → (first : List ℕ) (left : List SourceLine)
-    → Searched all old new stage first left
+    → (stage : Stage) → stage ≡ Done → (first : List ℕ) (left : List SourceLine) → Searched all old new stage first left
 seeks_ended all lines begin old mid seeks none new faults names count stage done first left =
     let last = sought [] begin in
     let ends = sought_none begin in

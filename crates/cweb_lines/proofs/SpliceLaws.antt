@@ -35,9 +35,7 @@ web_parts number s later lines lie =
       stays_lie = a.front_lies;
       first = b.bytes;
       further = bytes_of 0 (number + length s.stays + 1) s.further c.front c.front_lies;
-      behind_lies =
-          subst (λ n. Lie 0 n later c.rest)
-          (let same : number + length s.stays + 1 + length s.further
+      behind_lies = subst (λ n. Lie 0 n later c.rest) (let same : number + length s.stays + 1 + length s.further
           ≡ number + length s.stays + length s.further + 1 = omega arith in same) c.rest_lies;
     }
 

@@ -86,23 +86,20 @@ module _ (world : World) (files : ℕ) (e : Edit) (plain_edit : IsPlain e) (chan
   by_is = record { unequal = 0; taken = e.old; ran_out = false; rest = rest }
 
   compares_so : compared (bytes_in e.further) (raws 1 true (e.old ++ behind)) ≡ by_is
-  compares_so =
-      ap (compared (bytes_in e.further)) (raws-append 1 true e.old behind)
+  compares_so = ap (compared (bytes_in e.further)) (raws-append 1 true e.old behind)
       ∙ ap (λ (olds : List (List ℕ)). compared olds (raws 1 true e.old ++ rest)) (sym plain_edit.same_old)
       ∙ compares 1 true e.old rest
 
   -- the new lines come, and then the next entry is sought
   new_come : seen (merge world (after_old false files 1 entry side_is rest))
       ≡ followed_by (only_lines (lines_of e.new)) (seen (merge world (state (seek ∷ rest) None change files)))
-  new_come =
-      ap (λ (side : NewSide). seen (merge world (state (side.things ++ (seek ∷ rest)) None side.rest files)))
+  new_come = ap (λ (side : NewSide). seen (merge world (state (side.things ++ (seek ∷ rest)) None side.rest files)))
       (new_splits 1 e.x.line.place e.new e.z change plain_edit.no_new plain_edit.ends)
       ∙ ap (λ (ts : List Thing). seen (merge world (state ts None change files)))
       (append_assoc (raws 1 false e.new) (passed e.z ∷ []) (seek ∷ rest))
       ∙ gives_out world 1 false e.new (passed e.z ∷ seek ∷ rest) change files plain_edit.new_plain
-      ∙ ap (λ (events : List Event). followed_by (only_lines (lines_of e.new)) (seen events))
-      (merge_next world (state (passed e.z ∷ seek ∷ rest) None change files)
-      (took e.z ∷ [], state (seek ∷ rest) None change files) refl)
+      ∙ ap (λ (events : List Event). followed_by (only_lines (lines_of e.new)) (seen events)) (merge_next world
+      (state (passed e.z ∷ seek ∷ rest) None change files) (took e.z ∷ [], state (seek ∷ rest) None change files) refl)
 
   replaces : seen (merge world (state (raws 1 true replaced_on) (Some entry) old_on files))
       ≡ followed_by (only_lines (lines_of e.new)) (seen (merge world (state (seek ∷ rest) None change files)))
@@ -113,26 +110,22 @@ module _ (world : World) (files : ℕ) (e : Edit) (plain_edit : IsPlain e) (chan
       let equal = (bytes_eq-Decides e.line.line.bytes e.first.line.bytes).1 plain_edit.same_first in
       ap seen (merge_next world s (taking e.line (next_by side_is by_is))
       (ap (λ b. Some (taking e.line (at_entry (true && b) entry world s r things))) equal
-      ∙ ap (λ side. Some (taking e.line (next_by side (compared side.lines things))))
-      (old_splits e.further e.y new_on plain_edit.no_old plain_edit.turns)
-      ∙ ap (λ by. Some (taking e.line (next_by side_is by))) compares_so))
+      ∙ ap (λ side. Some (taking e.line (next_by side (compared side.lines things)))) (old_splits e.further e.y
+      new_on plain_edit.no_old plain_edit.turns) ∙ ap (λ by. Some (taking e.line (next_by side_is by))) compares_so))
       ∙ lines_unseen (e.further ++ (e.y ∷ [])) e.old (merge world (after_old false files 1 entry side_is rest))
       ∙ new_come
 
   -- one change: the search for it, the lines before it, the new lines, and what comes behind
-  pub splices_one :
-      seen (merge world (state (seek ∷ raws 1 true (web_from e behind)) None (change_from e change) files))
-      ≡ followed_by (only_lines (lines_of e.stays)) (followed_by (only_lines (lines_of e.new))
-      (seen (merge world (state (seek ∷ rest) None change files))))
+  pub splices_one : seen (merge world (state (seek ∷ raws 1 true (web_from e behind)) None
+      (change_from e change) files)) ≡ followed_by (only_lines (lines_of e.stays))
+      (followed_by (only_lines (lines_of e.new)) (seen (merge world (state (seek ∷ rest) None change files))))
   splices_one =
       let things = raws 1 true (web_from e behind) in
       let taken = e.comment ++ (e.x ∷ e.first ∷ []) in
       ap seen (merge_next world (state (seek ∷ things) None (change_from e change) files)
-      (map took taken ++ [], state things (Some entry) old_on files)
-      (ap (λ (found : Sought).
+      (map took taken ++ [], state things (Some entry) old_on files) (ap (λ (found : Sought).
       Some (map took found.taken ++ map fault found.faults, state things found.entry found.rest files))
-      (finds e.comment e.x e.first old_on plain_edit.no_comment plain_edit.begins plain_edit.some
-      plain_edit.no_first)))
+      (finds e.comment e.x e.first old_on plain_edit.no_comment plain_edit.begins plain_edit.some plain_edit.no_first)))
       ∙ took_unseen taken (merge world (state things (Some entry) old_on files))
       ∙ ap (λ (ts : List Thing). seen (merge world (state ts (Some entry) old_on files)))
       (raws-append 1 true e.stays replaced_on)

@@ -13,9 +13,8 @@ most_at number (text ∷ texts) (suc at) = omega (
   most_at number texts at,
 )
 
-pub most_read : {R : Type 0} (number : OpenText R → ℕ) (texts : List (Option (OpenText R))) (at : ℕ)
-    (d : Option (OpenText R)) → at < length texts
-    → number_of number (get_or texts at d) ≤ most number texts
+pub most_read : {R : Type 0} (number : OpenText R → ℕ) (texts : List (Option (OpenText R)))
+    (at : ℕ) (d : Option (OpenText R)) → at < length texts → number_of number (get_or texts at d) ≤ most number texts
 most_read number texts at d within =
     let same = ap (number_of number) (get_or_default texts at None d within) in
     omega (arith, same, most_at number texts at)
@@ -29,13 +28,11 @@ most_set number (text ∷ texts) zero slot bound each top = max-le top
     (omega (arith, le-max_right (number_of number text) (most number texts)))
 most_set number (text ∷ texts) (suc at) slot bound each top =
     max-le (omega (arith, le-max_left (number_of number text) (most number texts)))
-    (most_set number texts at slot bound (omega (arith, le-max_right (number_of number text) (most number texts)))
-    top)
+    (most_set number texts at slot bound (omega (arith, le-max_right (number_of number text) (most number texts))) top)
 
 module _ {R : Type 0} (left : R → List ℕ) where
-  pub over-set : (low n : ℕ) (texts : List (Option (OpenText R))) (at : ℕ) (slot : Option (OpenText R))
-      (rest : List Thing) → low + n ≤ at
-      → things_over left low n (set texts at slot) rest ≡ things_over left low n texts rest
+  pub over-set : (low n : ℕ) (texts : List (Option (OpenText R))) (at : ℕ) (slot : Option (OpenText R)) (rest :
+      List Thing) → low + n ≤ at → things_over left low n (set texts at slot) rest ≡ things_over left low n texts rest
   over-set low zero texts at slot rest le = refl
   over-set low (suc n) texts at slot rest le =
       let other : low + n ≢ at = omega arith in
@@ -44,13 +41,11 @@ module _ {R : Type 0} (left : R → List ℕ) where
       ∙ ap (λ (ts : List Thing). things_at left (get_or texts (low + n) None) ++ ts)
       (over-set low n texts at slot rest (omega arith))
 
-  pub over-top : (low n : ℕ) (texts : List (Option (OpenText R))) (slot : Option (OpenText R)) (rest : List Thing) →
-      low + n < length texts
-      → things_over left low (suc n) (set texts (low + n) slot) rest ≡ things_at left slot
-      ++ things_over left low n texts rest
-  over-top low n texts slot rest within =
-      ap (λ t. things_at left t ++ things_over left low n (set texts (low + n) slot) rest)
-      (get_or-set_same texts (low + n) slot None within)
+  pub over-top : (low n : ℕ) (texts : List (Option (OpenText R))) (slot : Option (OpenText R)) (rest : List Thing)
+      → low + n < length texts → things_over left low (suc n) (set texts (low + n) slot) rest
+      ≡ things_at left slot ++ things_over left low n texts rest
+  over-top low n texts slot rest within = ap (λ t. things_at left t
+      ++ things_over left low n (set texts (low + n) slot) rest) (get_or-set_same texts (low + n) slot None within)
       ∙ ap (λ (ts : List Thing). things_at left slot ++ ts) (over-set low n texts (low + n) slot rest (omega arith))
 
 -- no place above a low one, so nothing stands over the rest
@@ -76,39 +71,34 @@ module _ {R : Type 0} (left left' : R → List ℕ) (same : left' ≡ left) (tex
   top = omega arith
 
   open_now : things_over left low (depth - low) texts rest ≡ things_at left slot ++ under
-  open_now =
-      ap (λ n. things_over left low n texts rest) deep
-      ∙ ap (λ t. things_at left t ++ under) (ap (λ p. get_or texts p None) top
-      ∙ get_or_default texts (depth - 1) None d within)
+  open_now = ap (λ n. things_over left low n texts rest) deep
+      ∙ ap (λ t. things_at left t ++ under)
+      (ap (λ p. get_or texts p None) top ∙ get_or_default texts (depth - 1) None d within)
 
   with_lines : (lines : List SourceLine) → lines_at left slot ≡ lines →
       things_over left low (depth - low) texts rest ≡ raws (number_of text_depth slot) (matches_at slot) lines ++ under
   with_lines lines are = open_now ∙ ap (λ (ls : List SourceLine). raws (number_of text_depth slot) (matches_at slot) ls
       ++ under) are
 
-  pub top_taken : (at : LineAt) → at.depth ≡ number_of text_depth slot → at.may_match ≡ matches_at slot →
-      number_of text_depth slot' ≡ number_of text_depth slot → matches_at slot' ≡ matches_at slot
-      → TakesLine (lines_at left slot) (Some at) bytes (lines_at left' slot') before after
-      → TakesFirst (things_over left low (depth - low) texts rest) (Some at) bytes
-      (things_over left' low (depth - low) (set texts (depth - 1) slot') rest) before after
+  pub top_taken : (at : LineAt) → at.depth ≡ number_of text_depth slot → at.may_match ≡ matches_at slot → number_of
+      text_depth slot' ≡ number_of text_depth slot → matches_at slot' ≡ matches_at slot → TakesLine (lines_at left slot)
+      (Some at) bytes (lines_at left' slot') before after → TakesFirst (things_over left low (depth - low) texts rest)
+      (Some at) bytes (things_over left' low (depth - low) (set texts (depth - 1) slot') rest) before after
   top_taken at deep_at matches deep' matches' takes = (
     takes.0,
     with_lines (takes.0.line ∷ lines_at left' slot') takes.1
-        ∙ (λ i. raw (record { source = takes.0.line; depth = sym deep_at i; may_match = sym matches i }) ∷ raws
-        (sym deep' i) (sym matches' i) (lines_at left' slot')
-        ++ things_over (sym same i) low (depth - 1 - low) texts rest)
+        ∙ (λ i. raw (record { source = takes.0.line; depth = sym deep_at i; may_match = sym matches i }) ∷ raws (sym
+        deep' i) (sym matches' i) (lines_at left' slot') ++ things_over (sym same i) low (depth - 1 - low) texts rest)
         ∙ ap (λ (ts : List Thing). raw_at at takes.0.line ∷ ts)
         (sym (over-top left' low (depth - 1 - low) texts slot' rest (omega (arith, within))))
         ∙ ap (λ p. raw_at at takes.0.line ∷ things_over left' low (suc (depth - 1 - low)) (set texts p slot') rest) top
         ∙ ap (λ n. raw_at at takes.0.line ∷ things_over left' low n (set texts (depth - 1) slot') rest) (sym deep),
   )
 
-  pub top_closed : (texts' : List (Option (OpenText R))) → texts' ≡ set texts (depth - 1) None →
-      TakesLine (lines_at left slot) None bytes (lines_at left' slot') before after
-      → TakesFirst (things_over left low (depth - low) texts rest) None bytes
-      (things_over left' low (depth - 1 - low) texts' rest) before after
-  top_closed texts' are takes =
-      with_lines [] takes.0
+  pub top_closed : (texts' : List (Option (OpenText R))) → texts' ≡ set texts (depth - 1) None
+      → TakesLine (lines_at left slot) None bytes (lines_at left' slot') before after → TakesFirst (things_over left low
+      (depth - low) texts rest) None bytes (things_over left' low (depth - 1 - low) texts' rest) before after
+  top_closed texts' are takes = with_lines [] takes.0
       ∙ ap (λ l. things_over l low (depth - 1 - low) texts rest) (sym same)
       ∙ sym (over-set left' low (depth - 1 - low) texts (depth - 1) None rest (omega arith))
       ∙ ap (λ (ts : List (Option (OpenText R))). things_over left' low (depth - 1 - low) ts rest) (sym are)

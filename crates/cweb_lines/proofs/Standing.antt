@@ -13,8 +13,7 @@ printed-append a b = ap standing (map-append trimmed a b) ∙ standing-append (m
 passing-append : (entry : Option Entry) (may_match : Bool) (a b : List (List ℕ)) → ArePassing entry may_match a
     → ArePassing entry may_match b → ArePassing entry may_match (a ++ b)
 passing-append entry may_match [] b first then = then
-passing-append entry may_match (line ∷ a) b first then =
-    (first.0, passing-append entry may_match a b first.1 then)
+passing-append entry may_match (line ∷ a) b first then = (first.0, passing-append entry may_match a b first.1 then)
 
 -- what stands from one place to another, by a place between
 pub slice_split : (piece : List ℕ) (i j k : ℕ) → i ≤ j → j ≤ k
@@ -43,11 +42,9 @@ module _ (entry : Option Entry) (may_match : Bool) (piece : List ℕ) (start end
   stands : slice_range piece start s.end ≡ raw ++ 10 ∷ []
   stands =
       let place : start + (at + 1) ≡ s.end = omega (arith, ends) in
-      append_cancel_right _ _ (slice_range piece s.end end)
-      (sym (slice_split piece start s.end end (omega (arith, ends)) (omega (arith, ends, near, le)))
-      ∙ behind piece start end at splits le
-      ∙ ap (λ n. raw ++ 10 ∷ slice_range piece n end) place
-      ∙ sym (append_assoc raw (10 ∷ []) (slice_range piece s.end end)))
+      append_cancel_right _ _ (slice_range piece s.end end) (sym (slice_split piece start s.end end
+      (omega (arith, ends)) (omega (arith, ends, near, le))) ∙ behind piece start end at splits le ∙ ap
+      (λ n. raw ++ 10 ∷ slice_range piece n end) place ∙ sym (append_assoc raw (10 ∷ []) (slice_range piece s.end end)))
 
   printed_is : slice_range piece start s.text ≡ trimmed raw
   printed_is =

@@ -3,10 +3,9 @@ use Rattle.cweb_lines.proofs.Common.{◌≡◌, ◌+◌, ℕ, List, [], ◌∷�
 use Rattle.cweb_lines.proofs.Stacks.{stops_map}
 
 -- a line was taken before
-pub gives_took : (lines : List Line) (old mid new : SoFar) (bytes : List ℕ) (place : Place)
-    (t : Took bytes place old.count mid.count) (first all later : List Event)
-    → mid.faults ≡ old.faults → mid.names ≡ old.names → first ≡ all → GivesBehind t.line lines mid new all later →
-    Gives lines old new first later
+pub gives_took : (lines : List Line) (old mid new : SoFar) (bytes : List ℕ)
+    (place : Place) (t : Took bytes place old.count mid.count) (first all later : List Event) → mid.faults ≡ old.faults
+    → mid.names ≡ old.names → first ≡ all → GivesBehind t.line lines mid new all later → Gives lines old new first later
 gives_took lines old mid new bytes place t first all later faults names is g = record {
   events = took t.line ∷ g.gives.events;
   whole = is ∙ g.first ∙ ap (λ (es : List Event). took t.line ∷ es) g.gives.whole;

@@ -39,8 +39,7 @@ takes_line Last old new bytes file number not takes =
       size = n;
     } ∷ []) none
     ∙ ap (λ (t : List ℕ). source_line file number bytes Last ∷ numbered file (number + 1) (text_lines t)) (sym takes.3)
-takes_line Full old new bytes file number not takes =
-    ap (λ (t : List ℕ). numbered file number (text_lines t)) takes.0
+takes_line Full old new bytes file number not takes = ap (λ (t : List ℕ). numbered file number (text_lines t)) takes.0
     ∙ ap (numbered file number) (text_lines-full bytes new takes.1)
 
 pub takes_first : (bytes raw old new : List ℕ) (file number depth : ℕ) (may_match : Bool) (taken : Taken)
@@ -48,8 +47,7 @@ pub takes_first : (bytes raw old new : List ℕ) (file number depth : ℕ) (may_
     → after.lines ≡ before.lines + 1 → after.bytes ≡ before.bytes + (length raw + newline_bytes taken)
     → TakesLine (numbered file number (text_lines old)) (Some
     (record { place = record { file = record { 0 = file }; line = number }; depth = depth; may_match = may_match }))
-    bytes
-    (numbered file (number + 1) (text_lines new)) before after
+    bytes (numbered file (number + 1) (text_lines new)) before after
 takes_first bytes raw old new file number depth may_match taken before after not takes is short lines size = (
   record {
     line = source_line file number raw taken;
@@ -77,15 +75,13 @@ first_too_long text file number count long =
       why = (refl, omega (arith, long.4, first.3));
     }
 
-pub line_stops : (fault : LineFault) (stop : Stop) (text : List ℕ) (file : FileId) (number : ℕ) (count : Count) →
-    stop ≡ stop_for fault file
-    → (fault ≡ TooLong → IsLongerThan LINE_LENGTH text) → StopsFor
-    (FirstStops stop count (numbered file.0 number (text_lines text))) stop
+pub line_stops : (fault : LineFault) (stop : Stop) (text : List ℕ) (file : FileId) (number : ℕ) (count : Count)
+    → stop ≡ stop_for fault file → (fault ≡ TooLong → IsLongerThan LINE_LENGTH text)
+    → StopsFor (FirstStops stop count (numbered file.0 number (text_lines text))) stop
 line_stops Read stop text file number count is long = subst (λ s. StopsFor
     (FirstStops s count (numbered file.0 number (text_lines text))) s) (sym is) tt
-line_stops TooLong stop text file number count is long =
-    subst (λ s. StopsFor (FirstStops s count (numbered file.0 number (text_lines text))) s) (sym is)
-    (first_too_long text file number count (long refl))
+line_stops TooLong stop text file number count is long = subst (λ s. StopsFor (FirstStops s count
+    (numbered file.0 number (text_lines text))) s) (sym is) (first_too_long text file number count (long refl))
 line_stops NoMemory stop text file number count is long = subst
     (λ s. StopsFor (FirstStops s count (numbered file.0 number (text_lines text))) s) (sym is) tt
 
@@ -99,10 +95,9 @@ line_names Read stop file is = subst (NamesFile file) (sym is) refl
 line_names TooLong stop file is = subst (NamesFile file) (sym is) refl
 line_names NoMemory stop file is = subst (NamesFile file) (sym is) tt
 
-pub first_passes : (stop : Stop) (taken : Taken) (old new bytes : List ℕ) (file number : ℕ) (count : Count) →
-    taken ≢ Ended → Takes old taken bytes new
-    → length bytes ≤ LINE_LENGTH → stop ≡ TooMuchText → (count.lines ≡ LINES)
-    ⊎ (BYTES < count.bytes + (length bytes + newline_bytes taken))
+pub first_passes : (stop : Stop) (taken : Taken) (old new bytes : List ℕ) (file number : ℕ) (count : Count)
+    → taken ≢ Ended → Takes old taken bytes new → length bytes ≤ LINE_LENGTH
+    → stop ≡ TooMuchText → (count.lines ≡ LINES) ⊎ (BYTES < count.bytes + (length bytes + newline_bytes taken))
     → StopsFor (FirstStops stop count (numbered file number (text_lines old))) stop
 first_passes stop taken old new bytes file number count not takes short is passes =
     subst (λ s. StopsFor (FirstStops s count (numbered file number (text_lines old))) s) (sym is) (record {

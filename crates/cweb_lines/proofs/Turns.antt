@@ -5,11 +5,10 @@ use Rattle.cweb_lines.proofs.Merges.{state}
 use Rattle.cweb_lines.proofs.Runs.{coming_of, takes_in}
 
 -- an entry is sought: lines are taken, faults come, and then what the texts have left
-pub sought_first : {R : Type 0} (t : List ℕ → Option (List ℕ)) (l : R → List ℕ) (run : Run R) → run.stage ≡ Seeking →
-    coming t l run
-    ≡ map took (sought (change_lines l run) None).taken ++ (map fault (sought (change_lines l run) None).faults
-    ++ merge (world_in t run.inputs) (state (things_above l 0 run.stack []) (sought (change_lines l run) None).entry
-    (sought (change_lines l run) None).rest (length (names_of run.names))))
+pub sought_first : {R : Type 0} (t : List ℕ → Option (List ℕ)) (l : R → List ℕ) (run : Run R)
+    → run.stage ≡ Seeking → coming t l run ≡ map took (sought (change_lines l run) None).taken ++ (map fault
+    (sought (change_lines l run) None).faults ++ merge (world_in t run.inputs) (state (things_above l 0 run.stack [])
+    (sought (change_lines l run) None).entry (sought (change_lines l run) None).rest (length (names_of run.names))))
 sought_first t l run stage =
     let found = sought (change_lines l run) None in
     let world = world_in t run.inputs in
@@ -49,11 +48,10 @@ pub taken_first : {R : Type 0} (t t' : List ℕ → Option (List ℕ)) (l l' : R
     → run'.names ≡ run.names → things_of l run ≡ raw_at at source ∷ things_in l' run.stage
     (change_lines l run) run'.stack → coming t l run ≡ coming_after t' l' run' at source
 taken_first t t' l l' run run' at source texts left inputs change stage first names things =
-    ap (λ (ts : List Thing). coming_of t (text_of_name run.inputs) l run.stage run.change run.first.items
-    (length (names_of run.names)) ts) things
+    ap (λ (ts : List Thing). coming_of t
+    (text_of_name run.inputs) l run.stage run.change run.first.items (length (names_of run.names)) ts) things
     ∙ sym (λ i. coming_of (texts i) (text_of_name (inputs i)) (left i) (stage i) (change i) ((first i).items)
-    (length (names_of (names i))) (raw_at at source ∷ things_in l' (stage i)
-    (lines_at (left i) (change i)) run'.stack))
+    (length (names_of (names i))) (raw_at at source ∷ things_in l' (stage i) (lines_at (left i) (change i)) run'.stack))
 
 fault_list : (b : Bool) (f : SourceFault) → fault_if b f ≡ map fault (list_if b f)
 fault_list true f = refl
@@ -78,13 +76,12 @@ events_are entry change things =
     let ended = at_place EndedBeforeY entry.begin in
     let ran_out = at_place WebEnded entry.begin in
     let unequal : SourceFault = record { kind = Unequal; place = entry.begin; count = by.unequal } in
-    (λ i. map took old.taken ++ map took by.taken ++ map fault old.faults ++ fault_list old.ended ended i
-    ++ fault_list by.ran_out ran_out i ++ fault_list (nat_lt 0 by.unequal) unequal i)
+    (λ i. map took old.taken ++ map took by.taken ++ map fault old.faults
+    ++ fault_list old.ended ended i ++ fault_list by.ran_out ran_out i ++ fault_list (nat_lt 0 by.unequal) unequal i)
     ∙ re_assoc (map took old.taken ++ map took by.taken) (map fault old.faults) (map fault (list_if old.ended ended))
     (map fault (list_if by.ran_out ran_out)) (map fault (list_if (nat_lt 0 by.unequal) unequal))
-    ∙ (λ i. sym (map-append took old.taken by.taken) i ++ sym
-    (map-appends fault old.faults (list_if old.ended ended) (list_if by.ran_out ran_out)
-    (list_if (nat_lt 0 by.unequal) unequal)) i)
+    ∙ (λ i. sym (map-append took old.taken by.taken) i ++ sym (map-appends fault old.faults
+    (list_if old.ended ended) (list_if by.ran_out ran_out) (list_if (nat_lt 0 by.unequal) unequal)) i)
 
 -- a change begins
 begun_entry : (p : Option Entry) (may_match : Bool) (bytes : List ℕ) (place : Place) →
@@ -93,28 +90,25 @@ begun_entry : (p : Option Entry) (may_match : Bool) (bytes : List ℕ) (place : 
 begun_entry None may_match bytes place is = absurd (cc)
 begun_entry (Some entry) may_match bytes place is = by (may_match && bytes_eq bytes entry.first) refl is
   where
-    by : (b : Bool) → (may_match && bytes_eq bytes entry.first) ≡ b →
-        (if b then Some entry.begin else None) ≡ Some place
-        → (e : Entry) × (Some entry ≡ Some e) × (e.begin ≡ place) × ((may_match && bytes_eq bytes e.first) ≡ true)
+    by : (b : Bool) → (may_match && bytes_eq bytes entry.first) ≡ b → (if b then Some entry.begin else None) ≡ Some
+        place → (e : Entry) × (Some entry ≡ Some e) × (e.begin ≡ place) × ((may_match && bytes_eq bytes e.first) ≡ true)
     by true test found = (entry, refl, cc, test)
     by false test found = absurd (cc)
 
 -- a line that equals the first old line, and the change that it begins
-begin_step : (world : World) (entry : Entry) (source : SourceLine) (bytes : List ℕ) (at : LineAt) →
-    source.line ≡ record { bytes = bytes; place = at.place } → (at.may_match && bytes_eq bytes entry.first) ≡ true
-    → (things : List Thing) (lines : List SourceLine) (files : ℕ) →
-    merge world (state (raw_at at source ∷ things) (Some entry) lines files)
-    ≡ map took (source ∷ lines_replaced lines things) ++ (map fault (faults_replaced entry.begin lines things)
-    ++ merge world (after_old (old_lines lines).ended files at.depth entry (old_lines lines)
-    (taken_away lines things).rest))
+begin_step : (world : World) (entry : Entry) (source : SourceLine) (bytes : List ℕ) (at : LineAt)
+    → source.line ≡ record { bytes = bytes; place = at.place }
+    → (at.may_match && bytes_eq bytes entry.first) ≡ true → (things : List Thing) (lines : List SourceLine) (files : ℕ)
+    → merge world (state (raw_at at source ∷ things) (Some entry) lines files)
+    ≡ map took (source ∷ lines_replaced lines things) ++ (map fault (faults_replaced entry.begin lines things) ++ merge
+    world (after_old (old_lines lines).ended files at.depth entry (old_lines lines) (taken_away lines things).rest))
 begin_step world entry source bytes at is test things lines files =
     let r : RawLine = record { source = source; depth = at.depth; may_match = at.may_match } in
     let s = state (raw r ∷ things) (Some entry) lines files in
     let events = change_events entry (old_lines lines) (taken_away lines things) in
-    let later = after_old (old_lines lines).ended files at.depth entry (old_lines lines)
-    (taken_away lines things).rest in
-    merge_next world s (took source ∷ events, later)
-    (ap (λ b. Some (taking source (at_entry b entry world s r things)))
+    let later =
+    after_old (old_lines lines).ended files at.depth entry (old_lines lines) (taken_away lines things).rest in
+    merge_next world s (took source ∷ events, later) (ap (λ b. Some (taking source (at_entry b entry world s r things)))
     (ap (λ (l : Line). at.may_match && bytes_eq l.bytes entry.first) is ∙ test))
     ∙ ap (λ (es : List Event). took source ∷ es ++ merge world later) (events_are entry lines things)
     ∙ append_assoc (map took (source ∷ lines_replaced lines things))
@@ -131,13 +125,11 @@ waits (Changing change) first entry is = absurd (cc)
 -- all that comes from the line on that begins a change, by the run that took it
 pub begins_here : {R : Type 0} (t : List ℕ → Option (List ℕ)) (l : R → List ℕ) (run : Run R) (at : LineAt)
     (source : SourceLine) (bytes : List ℕ) (begin : Place) → source.line ≡ record { bytes = bytes; place = at.place }
-    → begun_by (pending_of run) at.may_match bytes ≡ Some begin
-    → (entry : Entry) × (entry.begin ≡ begin) × (coming_after t l run at source
-    ≡ map took (source ∷ lines_replaced (change_lines l run) (things_above l 0 run.stack []))
-    ++ (map fault (faults_replaced begin (change_lines l run) (things_above l 0 run.stack []))
-    ++ merge (world_in t run.inputs) (after_old (old_lines (change_lines l run)).ended
-    (length (names_of run.names)) at.depth entry (old_lines (change_lines l run))
-    (taken_away (change_lines l run) (things_above l 0 run.stack [])).rest)))
+    → begun_by (pending_of run) at.may_match bytes ≡ Some begin → (entry : Entry) × (entry.begin ≡ begin)
+    × (coming_after t l run at source ≡ map took (source ∷ lines_replaced (change_lines l run) (things_above l
+    0 run.stack [])) ++ (map fault (faults_replaced begin (change_lines l run) (things_above l 0 run.stack [])) ++ merge
+    (world_in t run.inputs) (after_old (old_lines (change_lines l run)).ended (length (names_of run.names)) at.depth
+    entry (old_lines (change_lines l run)) (taken_away (change_lines l run) (things_above l 0 run.stack [])).rest)))
 begins_here t l run at source bytes begin is begun =
     let found = begun_entry (pending_of run) at.may_match bytes begin begun in
     let entry = found.0 in
@@ -158,14 +150,12 @@ begins_here t l run at source bytes begin is begun =
     )
 
 -- and what is to come behind its old side
-pub begun_later : {R : Type 0} (t t' : List ℕ → Option (List ℕ)) (l l' : R → List ℕ) (run run' : Run R) (depth : ℕ)
-    (begin : Place) (entry : Entry) (old new : SoFar) → t' ≡ t → run'.inputs ≡ run.inputs → run'.names ≡ run.names →
-    entry.begin ≡ begin
-    → IsChanged begin depth (change_lines l run) (things_above l 0 run.stack []) run'.stage (change_lines l' run')
-    (things_of l' run') old new
-    → merge (world_in t run.inputs) (after_old (old_lines (change_lines l run)).ended
-    (length (names_of run.names)) depth entry (old_lines (change_lines l run))
-    (taken_away (change_lines l run) (things_above l 0 run.stack [])).rest)
+pub begun_later : {R : Type 0} (t t' : List ℕ → Option (List ℕ))
+    (l l' : R → List ℕ) (run run' : Run R) (depth : ℕ) (begin : Place) (entry : Entry) (old new : SoFar)
+    → t' ≡ t → run'.inputs ≡ run.inputs → run'.names ≡ run.names → entry.begin ≡ begin → IsChanged begin depth
+    (change_lines l run) (things_above l 0 run.stack []) run'.stage (change_lines l' run') (things_of l' run') old new
+    → merge (world_in t run.inputs) (after_old (old_lines (change_lines l run)).ended (length (names_of run.names))
+    depth entry (old_lines (change_lines l run)) (taken_away (change_lines l run) (things_above l 0 run.stack [])).rest)
     ≡ coming t' l' run'
 begun_later t t' l l' run run' depth begin entry old new texts inputs names is changed = sym (
     ap (λ s. merge (world_in t' run'.inputs) s) (changed.after entry is (length (names_of run'.names)) run'.first.items)

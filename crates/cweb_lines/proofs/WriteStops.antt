@@ -29,11 +29,10 @@ names_rest stop result piece Wrote files (writes is wrote) named = omega (arith,
 names_rest stop result piece Wrote files (fails is some blame) named = omega (arith, ap files_named is)
 
 -- what the end of a run whose merger stopped leaves over all devices
-pub blamed : (room : ℕ) (stop result : Stop) (piece : List ℕ) (Wrote : List ℕ → Type 0) (kept : Option Stop) (files : ℕ)
-    (before after : Failed) → WritesRest stop result piece Wrote
-    → StopsReading stop → kept ≡ Some stop → files_named stop ≤ files → (room ≡ 0 → piece ≡ [])
-    → after.shelf ≡ before.shelf + read_blame stop → after.out ≡ before.out + write_blame result →
-    Blames room result before after kept files
+pub blamed : (room : ℕ) (stop result : Stop) (piece : List ℕ) (Wrote : List ℕ → Type 0) (kept : Option Stop)
+    (files : ℕ) (before after : Failed) → WritesRest stop result piece Wrote → StopsReading stop → kept ≡ Some stop
+    → files_named stop ≤ files → (room ≡ 0 → piece ≡ []) → after.shelf ≡ before.shelf + read_blame stop
+    → after.out ≡ before.out + write_blame result → Blames room result before after kept files
 blamed room stop result piece Wrote kept files before after rest reading keeps named empty shelf out = by rest
   where
     goes_on : room ≡ 0 → result ≡ WriteFault → kept ≡ None

@@ -74,9 +74,8 @@ module _ {W : Type 0} (sink : Sink W) (first mid : W) (keeps : KeepsPlace sink f
       (writes_then sink first mid new (text_of g.done) piece keeps g.wrote wrote)
 
   -- a front of it was
-  pub ends_front : (new : W) → (IsTrue (sink.tells mid) → WritesFront (sink.written mid) (sink.written new) piece) →
-      IsTrue (sink.tells first)
-      → WritesFront (sink.written first) (sink.written new) (text_of (given_lines all))
+  pub ends_front : (new : W) → (IsTrue (sink.tells mid) → WritesFront (sink.written mid) (sink.written new) piece)
+      → IsTrue (sink.tells first) → WritesFront (sink.written first) (sink.written new) (text_of (given_lines all))
   ends_front new front tells =
       front_of_all (given_lines all) g.done g.gathered (given_lines now) (sink.written first) (sink.written mid)
       (sink.written new) piece lines_are (g.wrote tells) g.piece_is (front (place_told sink first mid keeps tells))
@@ -87,10 +86,9 @@ module _ {W : Type 0} (sink : Sink W) (first mid : W) (keeps : KeepsPlace sink f
       let gives = gives_both (g.done ++ g.gathered) [] old so so' all now later g.gives next in
       record {
         gives = gives_all ((g.done ++ g.gathered) ++ []) old so' all later gives none;
-        wrote = subst (λ (ls : List Line). Writes sink first new (text_of ls))
-            (sym (given_front ((g.done ++ g.gathered) ++ []) old so' all later gives
-            ∙ ap (λ (es : List Event). ((g.done ++ g.gathered) ++ []) ++ given_lines es) none
-            ∙ append-nil ((g.done ++ g.gathered) ++ []) ∙ append-nil (g.done ++ g.gathered)))
+        wrote = subst (λ (ls : List Line). Writes sink first new (text_of ls)) (sym (given_front ((g.done ++ g.gathered)
+            ++ []) old so' all later gives ∙ ap (λ (es : List Event). ((g.done ++ g.gathered) ++ []) ++ given_lines es)
+            none ∙ append-nil ((g.done ++ g.gathered) ++ []) ∙ append-nil (g.done ++ g.gathered)))
             (wrote_all new wrote);
       }
 
@@ -129,14 +127,12 @@ module _ {W : Type 0} (sink : Sink W) (first mid : W) (keeps : KeepsPlace sink f
   written_by stop count new stopped wrote = absurd stopped
 
   -- the merger stopped
-  pub ended_early : (stop result : Stop) (count : Count) (new : W) → Stopped stop so.count count now →
-      WritesRest stop result piece (Writes sink mid new) → StopsWriting result old.count count all
-      (Writes sink first new)
+  pub ended_early : (stop result : Stop) (count : Count) (new : W) → Stopped stop so.count count now → WritesRest
+      stop result piece (Writes sink mid new) → StopsWriting result old.count count all (Writes sink first new)
   ended_early stop result count new stopped (leaves file was is wrote) =
       subst (λ s. StopsWriting s old.count count all (Writes sink first new)) (sym (is ∙ was)) (done_written new wrote)
-  ended_early stop result count new stopped (writes is wrote) =
-      subst (λ s. StopsWriting s old.count count all (Writes sink first new)) (sym is)
-      (written_by stop count new stopped wrote)
+  ended_early stop result count new stopped (writes is wrote) = subst (λ s.
+      StopsWriting s old.count count all (Writes sink first new)) (sym is) (written_by stop count new stopped wrote)
   ended_early stop result count new stopped (fails is some blame) =
       subst (λ s. StopsWriting s old.count count all (Writes sink first new)) (sym is) tt
 
@@ -150,10 +146,9 @@ module _ {W : Type 0} (sink : Sink W) (first mid : W) (keeps : KeepsPlace sink f
       (Writes sink first new)) (sym is) tt
 
   -- nothing more comes, and a write of what was gathered failed
-  pub fails_last : (new : W) (so' : SoFar) (later : List Event) → Gives [] so so' now later → 0 < length piece →
-      IsTrue (sink.tells first)
-      → (IsTrue (sink.tells mid) → WritesFront (sink.written mid) (sink.written new) piece) →
-      FailsAmong room old so' all later (sink.written first) (sink.written new)
+  pub fails_last : (new : W) (so' : SoFar) (later : List Event) → Gives [] so so' now later → 0 < length piece
+      → IsTrue (sink.tells first) → (IsTrue (sink.tells mid) → WritesFront (sink.written mid) (sink.written new) piece)
+      → FailsAmong room old so' all later (sink.written first) (sink.written new)
   fails_last new so' later next some tells front =
       let more = some_lines g.gathered (subst (λ (t : List ℕ). 0 < length t) g.piece_is some) in
       record {

@@ -15,19 +15,15 @@ unnamed words shown some none = ap (by_shown words) some ∙ ap (option_map (wit
 
 pub asks : (words : List (List ℕ)) (shown : Shown) (web : List ℕ) (change out : Option (List ℕ))
     → words_shown words shown_by_default ≡ Some shown
-    → slice_get (others words) 0 ≡ Some web → change ≡ slice_get (others words) 1
-    → out ≡ slice_get (others words) 2 → slice_get (others words) 3 ≡ None
-    → options_by words ≡ option_map (with_shown shown) (named_by web change out)
-asks words shown web change out some first second third few =
-    ap (by_shown words) some
+    → slice_get (others words) 0 ≡ Some web → change ≡ slice_get (others words) 1 → out ≡ slice_get (others words) 2
+    → slice_get (others words) 3 ≡ None → options_by words ≡ option_map (with_shown shown) (named_by web change out)
+asks words shown web change out some first second third few = ap (by_shown words) some
     ∙ ap (option_map (with_shown shown)) (names_at (others words) web first few
-    ∙ ap (λ c. named_by web c (slice_get (others words) 2)) (sym second)
-    ∙ ap (λ o. named_by web change o) (sym third))
+    ∙ ap (λ c. named_by web c (slice_get (others words) 2)) (sym second) ∙ ap (λ o. named_by web change o) (sym third))
 
 pub ok_from : (r : Result Options Stop) (asked : Option Asked) (names : Option TangleNames) (shown : Shown)
-    → asked ≡ option_map (with_shown shown) names
-    → IfOk r (λ read. names ≡ Some (options_of read).names) → IfOk r (λ read. (options_of read).shown ≡ shown)
-    → IfOk r (λ read. asked ≡ Some (options_of read))
+    → asked ≡ option_map (with_shown shown) names → IfOk r (λ read. names ≡ Some (options_of read).names)
+    → IfOk r (λ read. (options_of read).shown ≡ shown) → IfOk r (λ read. asked ≡ Some (options_of read))
 ok_from (Ok read) asked names shown is named shows =
     is ∙ ap (option_map (with_shown shown)) named ∙ ap (λ s. Some (with_shown s (options_of read).names)) (sym shows)
 ok_from (Err stop) asked names shown is named shows = tt
@@ -36,9 +32,8 @@ names_none : (shown : Shown) (names : Option TangleNames) → option_map (with_s
 names_none shown None is = refl
 names_none shown (Some n) is = absurd (grind (arith, is))
 
-pub usage_from : (r : Result Options Stop) (asked : Option Asked) (names : Option TangleNames) (shown : Shown)
-    → asked ≡ option_map (with_shown shown) names
-    → (IsErrOf r Usage ↔ (names ≡ None)) → (IsErrOf r Usage ↔ (asked ≡ None))
+pub usage_from : (r : Result Options Stop) (asked : Option Asked) (names : Option TangleNames) (shown : Shown) → asked
+    ≡ option_map (with_shown shown) names → (IsErrOf r Usage ↔ (names ≡ None)) → (IsErrOf r Usage ↔ (asked ≡ None))
 usage_from r asked names shown is both = (
   λ usage. is ∙ ap (option_map (with_shown shown)) (both.0 usage),
   λ none. both.1 (names_none shown names (sym is ∙ none)),

@@ -26,9 +26,8 @@ gathers_none stream held x = record {
 }
 
 -- what came behind that
-pub gathers_on : {A E B F : Type 0} (x : A) (r : Result B F) (old more : List ℕ)
-    (before mid after : SeenStream) (held between now : List ℕ)
-    → GathersMore {A = A} {E = E} old before mid held between (Ok x)
+pub gathers_on : {A E B F : Type 0} (x : A) (r : Result B F) (old more : List ℕ) (before mid after : SeenStream)
+    (held between now : List ℕ) → GathersMore {A = A} {E = E} old before mid held between (Ok x)
     → GathersMore more mid after between now r → GathersMore (old ++ more) before after held now r
 gathers_on x r old more before mid after held between now came comes = record {
   tells = comes.tells ∙ came.tells;
@@ -51,11 +50,9 @@ behind : (old mid new text held : List ℕ) → Gathers old text mid held
 behind old mid new text held gathered front = record {
   front = gathered.done ++ front.front;
   rest = front.rest;
-  written =
-      front.written ∙ ap (λ (t : List ℕ). t ++ front.front) gathered.written_is
+  written = front.written ∙ ap (λ (t : List ℕ). t ++ front.front) gathered.written_is
       ∙ append_assoc old gathered.done front.front;
-  whole =
-      gathered.whole ∙ ap (λ (t : List ℕ). gathered.done ++ t) front.whole
+  whole = gathered.whole ∙ ap (λ (t : List ℕ). gathered.done ++ t) front.whole
       ∙ sym (append_assoc gathered.done front.front front.rest);
 }
 
@@ -68,9 +65,8 @@ longer old new text rest front = record {
 }
 
 -- a fault in a front of a text is one in the text
-pub gathers_front : {A E B F : Type 0} (e : E) (r : Result B F)
-    (text rest : List ℕ) (before after : SeenStream) (held now : List ℕ)
-    → GathersMore {A = A} text before after held now (Err e)
+pub gathers_front : {A E B F : Type 0} (e : E) (r : Result B F) (text rest : List ℕ)
+    (before after : SeenStream) (held now : List ℕ) → GathersMore {A = A} text before after held now (Err e)
     → IsErr r → GathersMore (text ++ rest) before after held now r
 gathers_front e (Ok x) text rest before after held now fails is = absurd (cc)
 gathers_front e (Err f) text rest before after held now fails is = record {
@@ -102,13 +98,10 @@ pub gathers_failed : {A E B F X : Type 0} (f : X → List ℕ) (xs : List X) (i 
     → GathersMore {A = A} (f (get_or xs i d)) mid after between now (Err e) → IsErr r
     → GathersMore (flat_map f xs) before after held now r
 gathers_failed f xs i d x e r before mid after held between now lt came fails is =
-    subst (λ (t : List ℕ). GathersMore t before after held now r)
-    (sym (joined_split f xs (i + 1)
-    ∙ ap (λ (t : List ℕ). t ++ flat_map f (drop (i + 1) xs)) (joined_next f xs i d lt)))
-    (gathers_front e r (flat_map f (take i xs) ++ f (get_or xs i d))
-    (flat_map f (drop (i + 1) xs)) before after held now
-    (gathers_on x (Err e) (flat_map f (take i xs)) (f (get_or xs i d)) before mid after held between now came fails)
-    is)
+    subst (λ (t : List ℕ). GathersMore t before after held now r) (sym (joined_split f xs (i + 1)
+    ∙ ap (λ (t : List ℕ). t ++ flat_map f (drop (i + 1) xs)) (joined_next f xs i d lt))) (gathers_front e r
+    (flat_map f (take i xs) ++ f (get_or xs i d)) (flat_map f (drop (i + 1) xs)) before after held now
+    (gathers_on x (Err e) (flat_map f (take i xs)) (f (get_or xs i d)) before mid after held between now came fails) is)
 
 -- one more piece of a list came
 pub gathers_next : {A E X : Type 0} (f : X → List ℕ) (xs : List X) (i : ℕ) (d : X)
@@ -137,19 +130,16 @@ writes_all x r text before mid after held came writes =
     came.whole tells before.bytes [] (begins before.bytes) in record {
       tells = writes.tells ∙ came.tells;
       counts = counts_from r before.failed mid.failed after.failed came.counts writes.counts;
-      whole = λ tells. on_ok r _ _ (λ (is : after.bytes ≡ mid.bytes ++ held). is
-          ∙ ap (λ (t : List ℕ). t ++ held) (gathered tells).written_is
-          ∙ append_assoc before.bytes (gathered tells).done held
+      whole = λ tells. on_ok r _ _ (λ (is : after.bytes ≡ mid.bytes ++ held). is ∙ ap
+          (λ (t : List ℕ). t ++ held) (gathered tells).written_is ∙ append_assoc before.bytes (gathered tells).done held
           ∙ ap (λ (t : List ℕ). before.bytes ++ t) (sym (gathered tells).whole)) (writes.whole (tells_mid tells));
-      front = λ tells.
-          on_err r _ _ (behind before.bytes mid.bytes after.bytes text held (gathered tells))
+      front = λ tells. on_err r _ _ (behind before.bytes mid.bytes after.bytes text held (gathered tells))
           (writes.front (tells_mid tells));
     }
 
 -- nothing was gathered before, and a part of the text fails
-pub writes_front : {A E B F : Type 0} (e : E) (r : Result B F)
-    (text : List ℕ) (before after : SeenStream) (held : List ℕ)
-    → GathersMore {A = A} text before after [] held (Err e) → IsErr r → Writes text before after r
+pub writes_front : {A E B F : Type 0} (e : E) (r : Result B F) (text : List ℕ) (before after : SeenStream)
+    (held : List ℕ) → GathersMore {A = A} text before after [] held (Err e) → IsErr r → Writes text before after r
 writes_front e (Ok x) text before after held fails is = absurd (cc)
 writes_front e (Err f) text before after held fails is = record {
   tells = fails.tells;

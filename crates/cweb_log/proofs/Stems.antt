@@ -3,22 +3,18 @@ use Rattle.cweb_log.proofs.Common.{◌≡◌, ◌≢◌, ◌<◌, ◌+◌, ◌-�
 
 -- so many bytes stand behind the last one of a kind
 behind : (c : ℕ) (bs : List ℕ) (k : ℕ) → k < length bs → get_or bs k 0 ≡ c
-    → ((i : ℕ) → k < i → i < length bs → get_or bs i 0 ≢ c)
-    → suffix_len (λ b. not (b == c)) bs ≡ length bs - (k + 1)
+    → ((i : ℕ) → k < i → i < length bs → get_or bs i 0 ≢ c) → suffix_len (λ b. not (b == c)) bs ≡ length bs - (k + 1)
 behind c bs k within is none =
-    suffix_len_is (λ b. not (b == c)) bs (k + 1) 0 (omega (arith, within))
-    (λ i from l. ap not (ne_eqb _ c (none i (omega (arith, from)) l)))
-    (λ _. ap not (eq-eqb _ c (ap (λ n. get_or bs n 0) (omega arith) ∙ is)))
+    suffix_len_is (λ b. not (b == c)) bs (k + 1) 0 (omega (arith, within)) (λ i from l. ap not (ne_eqb _ c
+    (none i (omega (arith, from)) l))) (λ _. ap not (eq-eqb _ c (ap (λ n. get_or bs n 0) (omega arith) ∙ is)))
 
 all_behind : (c : ℕ) (bs : List ℕ) → ((i : ℕ) → i < length bs → get_or bs i 0 ≢ c)
     → suffix_len (λ b. not (b == c)) bs ≡ length bs - 0
-all_behind c bs none =
-    suffix_len_is (λ b. not (b == c)) bs 0 0 (omega arith)
-    (λ i from l. ap not (ne_eqb _ c (none i l))) (λ some. absurd (omega (arith, some)))
+all_behind c bs none = suffix_len_is (λ b. not (b == c)) bs 0 0
+    (omega arith) (λ i from l. ap not (ne_eqb _ c (none i l))) (λ some. absurd (omega (arith, some)))
 
-pub after_found : (c : ℕ) (bs : List ℕ) (k : ℕ) → k < length bs
-    → get_or bs k 0 ≡ c → ((i : ℕ) → k < i → i < length bs → get_or bs i 0 ≢ c)
-    → after_last (λ b. b == c) bs ≡ drop (k + 1) bs
+pub after_found : (c : ℕ) (bs : List ℕ) (k : ℕ) → k < length bs → get_or bs k 0 ≡ c
+    → ((i : ℕ) → k < i → i < length bs → get_or bs i 0 ≢ c) → after_last (λ b. b == c) bs ≡ drop (k + 1) bs
 after_found c bs k within is none = ap (λ n. drop n bs) (omega (arith, within, behind c bs k within is none))
 
 pub after_none : (c : ℕ) (bs : List ℕ) → ((i : ℕ) → i < length bs → get_or bs i 0 ≢ c)
@@ -27,9 +23,8 @@ after_none c bs none =
     let all : length bs - suffix_len (λ b. not (b == c)) bs ≡ 0 = omega (arith, all_behind c bs none) in
     ap (λ n. drop n bs) all
 
-pub before_found : (c : ℕ) (bs : List ℕ) (k : ℕ) → k < length bs
-    → get_or bs k 0 ≡ c → ((i : ℕ) → k < i → i < length bs → get_or bs i 0 ≢ c)
-    → before_last (λ b. b == c) bs ≡ take k bs
+pub before_found : (c : ℕ) (bs : List ℕ) (k : ℕ) → k < length bs → get_or bs k 0 ≡ c
+    → ((i : ℕ) → k < i → i < length bs → get_or bs i 0 ≢ c) → before_last (λ b. b == c) bs ≡ take k bs
 before_found c bs k within is none = ap (λ n. take n bs) (omega (arith, within, behind c bs k within is none))
 
 pub has_found : (c : ℕ) (bs : List ℕ) (k : ℕ) → k < length bs → get_or bs k 0 ≡ c → list_any (λ b. b == c) bs ≡ true
@@ -43,14 +38,12 @@ has_none c (b ∷ bs) none =
 pub stem_found : (word part : List ℕ) (k : ℕ) → part ≡ after_last is_slash word → k < length part → get_or part k 0 ≡ 46
     → ((i : ℕ) → k < i → i < length part → get_or part i 0 ≢ 46) → take k part ≡ stem word
 stem_found word part k is within at none =
-    sym (ap (λ p. if list_any is_dot p then before_last is_dot p else p) (sym is)
-    ∙ ap (λ has. if has then before_last is_dot part else part) (has_found 46 part k within at)
-    ∙ before_found 46 part k within at none)
+    sym (ap (λ p. if list_any is_dot p then before_last is_dot p else p) (sym is) ∙ ap (λ has. if
+    has then before_last is_dot part else part) (has_found 46 part k within at) ∙ before_found 46 part k within at none)
 
 pub stem_whole : (word part : List ℕ) → part ≡ after_last is_slash word
     → ((i : ℕ) → i < length part → get_or part i 0 ≢ 46) → part ≡ stem word
-stem_whole word part is none =
-    sym (ap (λ p. if list_any is_dot p then before_last is_dot p else p) (sym is)
+stem_whole word part is none = sym (ap (λ p. if list_any is_dot p then before_last is_dot p else p) (sym is)
     ∙ ap (λ has. if has then before_last is_dot part else part) (has_none 46 part none))
 
 some_is : (a b : List ℕ) → Some a ≡ Some b → a ≡ b

@@ -7,13 +7,10 @@ met kind number = record { kind = kind; place = record { file = record { 0 = 0 }
 
 -- one of each kind
 abbrev faults : List ScanFault
-faults =
-    met DoubleAtInLimbo 1 ∷ met ImproperHexNumber 2 ∷ met ReplacementTooLong 3
-    ∷ met LetterOutsideLimbo 4 ∷ met NameDidNotEnd 5
-    ∷ met NamesDoNotNest 6 ∷ met CommentDidNotEnd 7 ∷ met StringDidNotEnd 8
-    ∷ met DoubleAtInString 9 ∷ met ControlTextDidNotEnd 10
-    ∷ met FaultyConstant 11 ∷ met IgnoredInCText 12 ∷ met MissingAt 13
-    ∷ met DefsInMacro 14 ∷ met DefinitionDropped 15 ∷ []
+faults = met DoubleAtInLimbo 1 ∷ met
+    ImproperHexNumber 2 ∷ met ReplacementTooLong 3 ∷ met LetterOutsideLimbo 4 ∷ met NameDidNotEnd 5 ∷ met NamesDoNotNest
+    6 ∷ met CommentDidNotEnd 7 ∷ met StringDidNotEnd 8 ∷ met DoubleAtInString 9 ∷ met ControlTextDidNotEnd 10 ∷ met
+    FaultyConstant 11 ∷ met IgnoredInCText 12 ∷ met MissingAt 13 ∷ met DefsInMacro 14 ∷ met DefinitionDropped 15 ∷ []
 
 scan_lines : flat_map line (scan_items (codes "u.w" ∷ []) faults)
     ≡ codes "u.w:1: ! Double @ in limbo\nu.w:2: ! Improper hex number after @l\n"
@@ -46,8 +43,7 @@ faulty =
       replacements = [];
     }
 
-name_lines : flat_map line (name_items faulty)
-    ≡ codes "! Ambiguous prefix: <a...>\n! Never given in full: <z...>\n"
+name_lines : flat_map line (name_items faulty) ≡ codes "! Ambiguous prefix: <a...>\n! Never given in full: <z...>\n"
     ++ codes "! Name is a prefix of another: <ab>\n! Not present: <q.h>\n"
 name_lines = refl
 

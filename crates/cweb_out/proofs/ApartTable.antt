@@ -5,13 +5,11 @@ use Rattle.cweb_store.specs.declared.tokens.borders.Border.TheVariants as border
 
 -- the answers of all rows, as runs of equal ones
 abbrev pub apart_bits : List Bool
-apart_bits =
-    replicate 3 true ++ replicate 13 false ++ replicate 3 true ++ replicate 7 false ++ replicate 3 true
+apart_bits = replicate 3 true ++ replicate 13 false ++ replicate 3 true ++ replicate 7 false ++ replicate 3 true
     ++ replicate 3 false ++ replicate 2 true ++ replicate 53 false ++ replicate 6 true ++ replicate 4 false
     ++ replicate 1 true ++ replicate 5 false ++ replicate 6 true ++ replicate 26 false ++ replicate 6 true
-    ++ replicate 4 false ++ replicate 1 true ++ replicate 5 false ++ replicate 6 true ++ replicate 26 false
-    ++ replicate 6 true ++ replicate 4 false ++ replicate 1 true ++ replicate 5 false ++ replicate 6 true
-    ++ replicate 51 false
+    ++ replicate 4 false ++ replicate 1 true ++ replicate 5 false ++ replicate 6 true ++ replicate 26 false ++ replicate
+    6 true ++ replicate 4 false ++ replicate 1 true ++ replicate 5 false ++ replicate 6 true ++ replicate 51 false
 
 -- borders by number
 abbrev pub border_at : ℕ → Border

@@ -55,8 +55,7 @@ class-lent (Word b) l h = ap class_behind (border_of b border.Word l (list_any i
 class-lent (Number b) l h = ap (λ o. class_behind (border_in o)) (sym h)
 class-lent (Literal b) l h = ap (λ o. class_behind (border_in o)) (sym h)
 class-lent (Verbatim b) l h = ap (λ o. class_behind (border_in o)) (sym h)
-class-lent (Punct b) l h =
-    ap class_behind (border_of b (sign_border b) l (list_any is_high b) h)
+class-lent (Punct b) l h = ap class_behind (border_of b (sign_border b) l (list_any is_high b) h)
     ∙ sign-class (first_is is_numeric b) (first_is is_operator b) (last_is (λ x. x == 46) b) (last_is is_operator b)
 class-lent Blank l h = ap (λ o. class_behind (border_in o)) (sym h)
 class-lent Newline l h = ap (λ o. class_behind (border_in o)) (sym h)
@@ -129,8 +128,7 @@ line_end-apart class.Other = refl
 
 -- whether a blank comes before a punctuator, by two tests of its first byte
 abbrev before_sign : Class → Bool → Bool → Bool
-before_sign c s o =
-    (class_is_wordlike c && false && not (class_is_literal c && false))
+before_sign c s o = (class_is_wordlike c && false && not (class_is_literal c && false))
     || (class_is_number c && s)
     || (class_is_point c && false)
     || (class_is_operator c && (o || false))

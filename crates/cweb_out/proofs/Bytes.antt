@@ -12,15 +12,13 @@ rest_false false b h = h
 pub ascii_word : (replaced : ℕ → List ℕ) (bytes : List ℕ)
     → list_any (λ b. nat_le 128 b) bytes ≡ false → word_text replaced bytes ≡ bytes
 ascii_word replaced [] h = refl
-ascii_word replaced (b ∷ bytes) h =
-    ap (λ t. cond t (replaced b) (b ∷ []) ++ word_text replaced bytes)
+ascii_word replaced (b ∷ bytes) h = ap (λ t. cond t (replaced b) (b ∷ []) ++ word_text replaced bytes)
     (first_false (nat_le 128 b) (list_any (λ c. nat_le 128 c) bytes) h)
     ∙ ap (λ (t : List ℕ). b ∷ t)
     (ascii_word replaced bytes (rest_false (nat_le 128 b) (list_any (λ c. nat_le 128 c) bytes) h))
 
 pub plain_name : (bytes : List ℕ) → list_any wants_backslash bytes ≡ false → quoted bytes ≡ bytes
 plain_name [] h = refl
-plain_name (b ∷ bytes) h =
-    ap (λ t. cond t (92 ∷ b ∷ []) (b ∷ []) ++ quoted bytes)
+plain_name (b ∷ bytes) h = ap (λ t. cond t (92 ∷ b ∷ []) (b ∷ []) ++ quoted bytes)
     (first_false (wants_backslash b) (list_any wants_backslash bytes) h)
     ∙ ap (λ (t : List ℕ). b ∷ t) (plain_name bytes (rest_false (wants_backslash b) (list_any wants_backslash bytes) h))

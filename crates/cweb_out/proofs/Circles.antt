@@ -5,9 +5,8 @@ use Rattle.cweb_out.proofs.Paths.{is-same}
 
 -- each name of a path uses one of the path, where the last one uses the first again
 abbrev UsesOne : Stored → List NameId → NameId → Type 0
-UsesOne w path n =
-    (m : NameId) × (before : List NameId) × (rest : List NameId)
-    × (uses w (joined w n) ≡ before ++ (m ∷ rest)) × (list_any (is_id m) path ≡ true)
+UsesOne w path n = (m : NameId) × (before : List NameId) ×
+    (rest : List NameId) × (uses w (joined w n) ≡ before ++ (m ∷ rest)) × (list_any (is_id m) path ≡ true)
 
 pub next-on : (path : List Waiting) (again : NameId) (n : NameId)
     → next_of path (Some again) ≡ Some n → (n ≡ again) ⊎ (list_any (is_id n) (path_of path) ≡ true)
@@ -21,9 +20,8 @@ next-some [] again = (again, refl)
 next-some (f ∷ path) again = (f.name, refl)
 
 looked-next : (w : Stored) (whole : List NameId) (path : List Waiting) (f : Waiting) (again : NameId)
-    → Looked w (joined w f.name) f.text (next_of path (Some again)) → list_any (is_id again) whole ≡ true
-    → ((m : NameId) → list_any (is_id m) (path_of path) ≡ true → list_any (is_id m) whole ≡ true)
-    → UsesOne w whole f.name
+    → Looked w (joined w f.name) f.text (next_of path (Some again)) → list_any (is_id again) whole ≡ true →
+    ((m : NameId) → list_any (is_id m) (path_of path) ≡ true → list_any (is_id m) whole ≡ true) → UsesOne w whole f.name
 looked-next w whole path f again l a sub =
     let n = next-some path again in (
       n.0,
@@ -54,9 +52,8 @@ chain-uses w whole (f ∷ path) again n c a sub h =
 all-fails : (p : NameId → Bool) (before rest : List NameId) (m : NameId)
     → p m ≡ false → list_all p (before ++ (m ∷ rest)) ≡ false
 all-fails p [] rest m h = ap (λ b. b && list_all p rest) h
-all-fails p (x ∷ before) rest m h =
-    elim (p x) as (λ b. (b && list_all p (before ++ (m ∷ rest))) ≡ false)
-    [ true ↦ all-fails p before rest m h | false ↦ refl ]
+all-fails p (x ∷ before) rest m h = elim (p x) as
+    (λ b. (b && list_all p (before ++ (m ∷ rest))) ≡ false) [ true ↦ all-fails p before rest m h | false ↦ refl ]
 
 -- names that use one another in a circle have no rank
 circle : (w : Stored) (whole : List NameId) → ((n : NameId) → list_any (is_id n) whole ≡ true → UsesOne w whole n)

@@ -12,8 +12,7 @@ continued_in None = []
 continued_in (Some l) = continued_by l
 
 word-continued : (replaced : ℕ → List ℕ) (b : List ℕ) (l : Bordered) (high : Bool) → list_any is_high b ≡ high
-    → cond high None (Some (record { text = b; border = border.Word })) ≡ Some l
-    → word_text replaced b ≡ continued_by l
+    → cond high None (Some (record { text = b; border = border.Word })) ≡ Some l → word_text replaced b ≡ continued_by l
 word-continued replaced b l true e h = cc
 word-continued replaced b l false e h = ascii_word replaced b e ∙ ap continued_in h
 
@@ -31,10 +30,8 @@ sign-goes_on false false false false = refl
 sign-continued : (b : List ℕ) (l : Bordered) (high : Bool)
     → cond high None (Some (record { text = b; border = sign_border b })) ≡ Some l → b ≡ continued_by l
 sign-continued b l true h = cc
-sign-continued b l false h =
-    ap (λ e. cond e (codes " \\\n") b)
-    (sym
-    (sign-goes_on (first_is is_numeric b) (first_is is_operator b) (last_is (λ x. x == 46) b) (last_is is_operator b)))
+sign-continued b l false h = ap (λ e. cond e (codes " \\\n") b) (sym (sign-goes_on (first_is is_numeric b)
+    (first_is is_operator b) (last_is (λ x. x == 46) b) (last_is is_operator b)))
     ∙ ap continued_in h
 
 text-continued : (replaced : ℕ → List ℕ) (t : Token) (l : Bordered) → lends t ≡ Some l
@@ -59,13 +56,11 @@ pub added-continued : (replaced : ℕ → List ℕ) (last : Border) (t : Token) 
     ≡ blank_where (stands_apart (class_behind last) l.border) ++ continued_by l
 added-continued replaced last t l h =
     ap (λ a. blank_where a ++ (continued_text t ++ plain_text replaced t)) (apart-lent (class_behind last) t l h)
-    ∙ ap (λ (u : List ℕ). blank_where (stands_apart (class_behind last) l.border) ++ u)
-    (text-continued replaced t l h)
+    ∙ ap (λ (u : List ℕ). blank_where (stands_apart (class_behind last) l.border) ++ u) (text-continued replaced t l h)
 
 pub left-continued : (last : Border) (t : Token) (l : Bordered) → lends t ≡ Some l
     → left_by (left_behind last) t ≡ left_behind l.border
-left-continued last t l h =
-    leaves-lent (left_behind last) t l.text (text-lent t l h)
+left-continued last t l h = leaves-lent (left_behind last) t l.text (text-lent t l h)
     ∙ (λ i. record { class = sym (class-lent t l h) i; joined = false })
 
 -- what an answer says, in other words

@@ -50,8 +50,7 @@ walks-in-a-cycle w (suc k) before n l c =
     (λ e. walks-in-a-cycle w k (before ++ n ∷ []) next.name (omega (arith, l, size)) (came-on w before n c e next))
   where
     by : (next : Endless w (joined w n)) (b : Bool) → list_any (is_id n) before ≡ b
-        → (list_any (is_id n) before ≡ false → IsCycle w (walk w k (before ++ n ∷ []) (Some next.name)))
-        → IsCycle w
+        → (list_any (is_id n) before ≡ false → IsCycle w (walk w k (before ++ n ∷ []) (Some next.name))) → IsCycle w
         (elim b [
           | true ↦ drop (position_or_len (is_id n) before) before ++ n ∷ []
           | false ↦ walk w k (before ++ n ∷ []) (first_endless w (joined w n))
@@ -61,9 +60,8 @@ walks-in-a-cycle w (suc k) before n l c =
         subst (λ (o : Option NameId). IsCycle w (walk w k (before ++ n ∷ []) o)) (sym next.first) (later e)
 
 walk-cycle : (w : Stored) (n : NameId) → has_rank w n ≡ false → n.0 < names w → IsCycle w (cycle_from w (Some n))
-walk-cycle w n h l =
-    walks-in-a-cycle w (suc (names w)) [] n (omega arith)
-    (record { new = tt; within = λ m e. cc; each = tt; rankless = h; name = l })
+walk-cycle w n h l = walks-in-a-cycle w
+    (suc (names w)) [] n (omega arith) (record { new = tt; within = λ m e. cc; each = tt; rankless = h; name = l })
 
 -- OUTPUTS
 
@@ -84,8 +82,7 @@ stuck-first : (w : Stored) (p : NameId → Bool) (ns : List NameId) (o : Option 
 stuck-first w p [] o a h = cc
 stuck-first w p (n ∷ ns) o a h = by (p n) h (λ e. stuck-first w p ns o (λ k d l. a (suc k) d (omega (arith, l))) e)
   where
-    here : (b : Bool) → stuck w (Some n) ≡ b
-        → cond b (Some (Some n)) (find (stuck w) (map Some (filter p ns))) ≡ Some o
+    here : (b : Bool) → stuck w (Some n) ≡ b → cond b (Some (Some n)) (find (stuck w) (map Some (filter p ns))) ≡ Some o
         → (find (stuck w) (map Some (filter p ns)) ≡ Some o → Stuck w o) → Stuck w o
     here true e h later =
         let is : Some n ≡ o = cc in
@@ -99,10 +96,8 @@ stuck-first w p (n ∷ ns) o a h = by (p n) h (λ e. stuck-first w p ns o (λ k 
     by false h later = later h
 
 stuck-output : (w : Stored) (o : Option NameId) → find (stuck w) (outputs w) ≡ Some o → Stuck w o
-stuck-output w o h =
-    by (stuck w None) refl h
-    (stuck-first w (has_part (spec.standings w.occurrences) w.parts)
-    (spec.files w.occurrences) o (files-within w.occurrences))
+stuck-output w o h = by (stuck w None) refl h (stuck-first w
+    (has_part (spec.standings w.occurrences) w.parts) (spec.files w.occurrences) o (files-within w.occurrences))
   where
     by : (b : Bool) → stuck w None ≡ b → cond b (Some None) (find (stuck w) (map Some (file_outputs w))) ≡ Some o
         → (find (stuck w) (map Some (file_outputs w)) ≡ Some o → Stuck w o) → Stuck w o
@@ -140,13 +135,10 @@ ended w p ns None h = cc
 pub refused_cycles_are_cycles : (w : Stored) (main : List ℕ) (ns : List NameId) → planned w main ≡ Err (cycle ns)
     → IsCycle w ns
 refused_cycles_are_cycles w main ns h =
-    let apart =
-    passed (find (λ o. not (is_good_name (output_name w main o))) (outputs w))
+    let apart = passed (find (λ o. not (is_good_name (output_name w main o))) (outputs w))
     (λ o. bad_name o) (planned_apart w main) ns (λ o e. cc) h in
-    let ending =
-    passed (find (λ n. bytes_eq (name_at w n) main) (spec.files w.occurrences))
+    let ending = passed (find (λ n. bytes_eq (name_at w n) main) (spec.files w.occurrences))
     (λ n. same_name n) (planned_ending w main) ns (λ n e. cc) apart in
-    let end =
-    ended w (record { outputs = map (output_of w main) (outputs w); no_text = has_no_text w })
-    ns (find (stuck w) (outputs w)) ending in
+    let end = ended w (record { outputs = map (output_of w main) (outputs w); no_text = has_no_text w }) ns
+    (find (stuck w) (outputs w)) ending in
     subst (IsCycle w) end.2 (stuck-cycle w end.0 (stuck-output w end.0 end.1))

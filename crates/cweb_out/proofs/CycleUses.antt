@@ -13,8 +13,7 @@ either-true false b h = inr h
 option-on : (count : ℕ) (o : Option NameId) (m : NameId) → IfSome o (λ (k : NameId). k.0 < count)
     → list_any (is_id m) (option_to_list o) ≡ true → m.0 < count
 option-on count None m b h = cc
-option-on count (Some k) m b h =
-    elim (either-true (is_id m k) false h)
+option-on count (Some k) m b h = elim (either-true (is_id m k) false h)
     [ inl e ↦ subst (λ (i : NameId). i.0 < count) (sym (is-same m k e)) b | inr e ↦ cc ]
 
 use-on : (w : Stored) (t : Token) (m : NameId) → list_any (is_id m) (use_of w t) ≡ true → m.0 < names w
@@ -24,8 +23,7 @@ use-on w t m h = cc
 -- a name that is used is one of the names
 pub uses-on : (w : Stored) (ts : List Token) (m : NameId) → list_any (is_id m) (uses w ts) ≡ true → m.0 < names w
 uses-on w [] m h = cc
-uses-on w (t ∷ ts) m h =
-    elim (either-true (list_any (is_id m) (use_of w t)) (list_any (is_id m) (uses w ts))
+uses-on w (t ∷ ts) m h = elim (either-true (list_any (is_id m) (use_of w t)) (list_any (is_id m) (uses w ts))
     (sym (list_any-append (is_id m) (use_of w t) (uses w ts)) ∙ h)) [
       | inl e ↦ use-on w t m e
       | inr e ↦ uses-on w ts m e
@@ -67,14 +65,11 @@ different : (a b : Bool) → a ≡ true → b ≡ false → a ≡ b → ⊥
 different a b t f e = let bad : true ≡ false = sym t ∙ e ∙ f in cc
 
 pub text-endless : (w : Stored) (n : NameId) → n.0 < names w → has_rank w n ≡ false → Endless w (joined w n)
-text-endless w n l h =
-    failing (has_rank w) (uses w (joined w n))
-    (not-true (list_ends w (joined w n))
-    (λ e. different (has_rank w n) (has_rank w n) (rank_by_uses w n l e) h refl))
+text-endless w n l h = failing (has_rank w) (uses w (joined w n))
+    (not-true (list_ends w (joined w n)) (λ e. different (has_rank w n) (has_rank w n) (rank_by_uses w n l e) h refl))
 
 pub name-endless : (w : Stored) (n : NameId) → list_ends w (joined w n) ≡ false → has_rank w n ≡ false
-name-endless w n h =
-    not-true (has_rank w n)
+name-endless w n h = not-true (has_rank w n)
     (λ e. different (list_ends w (joined w n)) (list_ends w (joined w n)) (rank-grows w (names w) n e) h refl)
 
 -- EACH USES THE NEXT

@@ -51,8 +51,7 @@ filter-few p (n ∷ ns) =
 pub outputs-few : (w : Stored) → length (outputs w) ≤ names w + 1
 outputs-few w =
     let files = spec.files w.occurrences in
-    let le =
-    few (names w) files (files_from-new (spec.standings w.occurrences) [] 0 w.occurrences tt)
+    let le = few (names w) files (files_from-new (spec.standings w.occurrences) [] 0 w.occurrences tt)
     (λ n h. at-any (names w) files n (files-within w.occurrences) h) in
     let part = filter-few (Rattle.cweb_store.specs.Faults.has_part (spec.standings w.occurrences) w.parts) files in
     omega (arith, le, part, length-map (file_outputs w) (λ n. Some n))

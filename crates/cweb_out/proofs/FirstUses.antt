@@ -7,8 +7,7 @@ both-none a b x y = ap (λ c. c || b) x ∙ y
 
 none-append : (ts us : List Token) → list_any is_name ts ≡ false
     → list_any is_name us ≡ false → list_any is_name (ts ++ us) ≡ false
-none-append ts us a b =
-    list_any-append is_name ts us ∙ both-none (list_any is_name ts) (list_any is_name us) a b
+none-append ts us a b = list_any-append is_name ts us ∙ both-none (list_any is_name ts) (list_any is_name us) a b
 
 pub pass-on : (a b c : List Token) → PassesNoUse a b → PassesNoUse b c → PassesNoUse a c
 pass-on a b c x y = record {
@@ -51,8 +50,7 @@ use-shorter old new t x = omega (arith, ap length x.same, length-append x.before
 
 -- the steps of a frame: its Defs is passed over, a part without a use, and a part up to its first use
 pub pass-defs : (w : Stored) (f : Frame)
-    → PassesNoUse (suffix w f)
-    (suffix w (record { owner = f.owner; defs = false; part = f.part; rest = f.rest }))
+    → PassesNoUse (suffix w f) (suffix w (record { owner = f.owner; defs = false; part = f.part; rest = f.rest }))
 pass-defs w f = record { before = defs_first f.defs; none = no-use f.defs; same = refl }
   where
     no-use : (b : Bool) → list_any is_name (defs_first b) ≡ false
@@ -65,8 +63,7 @@ pub pass-part : (w : Stored) (f : Frame) (q : Part) (more : List Part) → f.def
 pass-part w f q more d none e = record {
   before = run_tokens w f.part;
   none = none;
-  same =
-      ap (λ b. defs_first b ++ (run_tokens w f.part ++ runs_tokens w f.rest)) d
+  same = ap (λ b. defs_first b ++ (run_tokens w f.part ++ runs_tokens w f.rest)) d
       ∙ ap (λ ps. run_tokens w f.part ++ runs_tokens w ps) e
       ∙ ap (λ b. run_tokens w f.part ++ (defs_first b ++ runs_tokens w (q ∷ more))) (sym d);
 }
@@ -77,8 +74,7 @@ pub pass-to-use : (w : Stored) (f : Frame) (q : Part) (t : Token) → f.defs ≡
 pass-to-use w f q t d x = record {
   before = x.before;
   none = x.none;
-  same =
-      ap (λ b. defs_first b ++ (run_tokens w f.part ++ runs_tokens w f.rest)) d
+  same = ap (λ b. defs_first b ++ (run_tokens w f.part ++ runs_tokens w f.rest)) d
       ∙ ap (λ ts. ts ++ runs_tokens w f.rest) x.same
       ∙ append_assoc x.before (t ∷ run_tokens w q) (runs_tokens w f.rest)
       ∙ ap (λ b. x.before ++ (t ∷ (defs_first b ++ (run_tokens w q ++ runs_tokens w f.rest)))) (sym d);

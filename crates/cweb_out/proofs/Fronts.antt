@@ -25,12 +25,10 @@ pub pieces_at : (pieces : List (Bor (List ℕ))) (i : ℕ) (d : Bor (List ℕ)) 
     → flat_map (λ (p : Bor (List ℕ)). p.now) pieces
     ≡ (flat_map (λ (p : Bor (List ℕ)). p.now) (take i pieces) ++ (get_or pieces i d).now)
     ++ flat_map (λ (p : Bor (List ℕ)). p.now) (drop (suc i) pieces)
-pieces_at pieces i d lt =
-    ap (flat_map (λ (p : Bor (List ℕ)). p.now)) (sym (take-append-drop i pieces))
+pieces_at pieces i d lt = ap (flat_map (λ (p : Bor (List ℕ)). p.now)) (sym (take-append-drop i pieces))
     ∙ flat_map-append (λ (p : Bor (List ℕ)). p.now) (take i pieces) (drop i pieces)
-    ∙ ap (λ (ps : List (Bor (List ℕ))).
-    flat_map (λ (p : Bor (List ℕ)). p.now) (take i pieces) ++ flat_map (λ (p : Bor (List ℕ)). p.now) ps)
-    (drop-cons pieces i d lt)
+    ∙ ap (λ (ps : List (Bor (List ℕ))). flat_map (λ (p : Bor (List ℕ)). p.now) (take i pieces)
+    ++ flat_map (λ (p : Bor (List ℕ)). p.now) ps) (drop-cons pieces i d lt)
     ∙ sym (append_assoc (flat_map (λ (p : Bor (List ℕ)). p.now) (take i pieces))
     (get_or pieces i d).now (flat_map (λ (p : Bor (List ℕ)). p.now) (drop (suc i) pieces)))
 
@@ -98,20 +96,16 @@ flat_at f xs i d lt =
 -- a text of several pieces: the first failed, or the second, or the last one was written or failed
 pub first_failed : {A E : Type 0} (old new text piece rest : List ℕ) (r : Result A E)
     → text ≡ piece ++ rest → IsErr r → WritesFront old new piece → Wrote old new text r
-first_failed old new text piece rest r is err f =
-    wrote_err old new text r err
-    (written_front old old new text piece rest
-    (record { front = []; written = sym (append-nil old); whole = is }) f)
+first_failed old new text piece rest r is err f = wrote_err old new text r err
+    (written_front old old new text piece rest (record { front = []; written = sym (append-nil old); whole = is }) f)
 
 pub second_failed : {A E : Type 0} (old mid new text first piece rest : List ℕ) (r : Result A E)
     → text ≡ first ++ (piece ++ rest) → mid ≡ old ++ first → IsErr r → WritesFront mid new piece → Wrote old new text r
-second_failed old mid new text first piece rest r is wrote err f =
-    wrote_err old new text r err
+second_failed old mid new text first piece rest r is wrote err f = wrote_err old new text r err
     (written_front old mid new text piece rest (record { front = first; written = wrote; whole = is }) f)
 
 pub third_last : {A E : Type 0} (old mid next new text first second piece : List ℕ) (r : Result A E)
     → text ≡ first ++ (second ++ piece) → mid ≡ old ++ first
     → next ≡ mid ++ second → Wrote next new piece r → Wrote old new text r
-third_last old mid next new text first second piece r is wrote more last =
-    written_last old next new text piece r
+third_last old mid next new text first second piece r is wrote more last = written_last old next new text piece r
     (written_more old mid next text second piece (record { front = first; written = wrote; whole = is }) more) last

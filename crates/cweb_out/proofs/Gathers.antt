@@ -23,16 +23,13 @@ front_more p q r a b c old mid new same f g =
           ap leaves (sym (append_assoc done f.done g.done)) ∙ g.moves (done ++ f.done) (f.moves done is);
       prints = λ done is.
           let one = f.prints done is in
-          let two =
-          subst (λ (t : Setting). Adds (print t (done ++ f.done)) (print t ((done ++ f.done) ++ g.done)) mid new)
-          same (g.prints (done ++ f.done) (f.moves done is)) in
+          let two = subst (λ (t : Setting). Adds (print t (done ++ f.done))
+          (print t ((done ++ f.done) ++ g.done)) mid new) same (g.prints (done ++ f.done) (f.moves done is)) in
           record {
             bytes = one.bytes ++ two.bytes;
-            due =
-                ap (print s) (sym (append_assoc done f.done g.done)) ∙ two.due
+            due = ap (print s) (sym (append_assoc done f.done g.done)) ∙ two.due
                 ∙ ap (λ (u : List ℕ). u ++ two.bytes) one.due ∙ append_assoc (print s done) one.bytes two.bytes;
-            written =
-                two.written ∙ ap (λ (u : List ℕ). u ++ two.bytes) one.written
+            written = two.written ∙ ap (λ (u : List ℕ). u ++ two.bytes) one.written
                 ∙ append_assoc old one.bytes two.bytes;
           };
     }

@@ -4,8 +4,7 @@ use Rattle.cweb_store.proofs.BorderLemmas.{last_is-at}
 
 pub punct-last : (bs : List ℕ) (x : ℕ) → slice_get bs (length bs - 1) ≡ Some x
     → punct_class bs ≡ class_by (x == 46) (is_operator x)
-punct-last bs x h =
-    ap (λ b. class_by b (last_is is_operator bs)) (last_is-at (λ x. x == 46) bs x h)
+punct-last bs x h = ap (λ b. class_by b (last_is is_operator bs)) (last_is-at (λ x. x == 46) bs x h)
     ∙ ap (λ b. class_by (x == 46) b) (last_is-at is_operator bs x h)
 
 -- a point is an operator byte

@@ -9,9 +9,8 @@ use Rattle.cweb_out.proofs.Steps.{sep_by_class}
 texts-append : (xs ys : List Token) → list_all is_text xs ≡ true
     → list_all is_text ys ≡ true → list_all is_text (xs ++ ys) ≡ true
 texts-append [] ys a b = b
-texts-append (x ∷ xs) ys a b =
-    and-true (is_text x) (list_all is_text (xs ++ ys)) (and-first (is_text x) (list_all is_text xs) a)
-    (texts-append xs ys (and-second (is_text x) (list_all is_text xs) a) b)
+texts-append (x ∷ xs) ys a b = and-true (is_text x) (list_all is_text (xs ++ ys)) (and-first (is_text x)
+    (list_all is_text xs) a) (texts-append xs ys (and-second (is_text x) (list_all is_text xs) a) b)
 
 text_for-text : (f : NameId → List Token) (o : Option NameId)
     → ((n : NameId) → list_all is_text (f n) ≡ true) → list_all is_text (text_for f o) ≡ true
@@ -39,13 +38,11 @@ put-same w f t h = refl
 pub replaces_uses : (w : Stored) (k : ℕ) → ReplacesUses w k
 replaces_uses w k = record {
   no_use = λ ts. puts-text w (name_text w k) ts (name-text w k);
-  kept = λ before behind t h.
-      flat_map-append (put w (name_text w k)) before (t ∷ behind)
+  kept = λ before behind t h. flat_map-append (put w (name_text w k)) before (t ∷ behind)
       ∙ ap (λ (u : List Token). expand w k before ++ (u ++ expand w k behind)) (put-same w (name_text w k) t h);
-  replaced = λ before behind r n e.
-      flat_map-append (put w (name_text w (suc k))) before (Name r ∷ behind)
-      ∙ ap (λ (o : Option NameId).
-      expand w (suc k) before ++ (text_for (name_text w (suc k)) o ++ expand w (suc k) behind))
+  replaced = λ before behind r n e. flat_map-append (put w (name_text w (suc k))) before (Name r ∷ behind)
+      ∙ ap
+      (λ (o : Option NameId). expand w (suc k) before ++ (text_for (name_text w (suc k)) o ++ expand w (suc k) behind))
       e;
 }
 
@@ -66,9 +63,8 @@ puts-use w p f g t same h = refl
 puts-same : (w : Stored) (p : NameId → Bool) (f g : NameId → List Token) (ts : List Token)
     → AreSame p f g → list_all p (uses w ts) ≡ true → flat_map (put w f) ts ≡ flat_map (put w g) ts
 puts-same w p f g [] same h = refl
-puts-same w p f g (t ∷ ts) same h =
-    ap (λ (u : List Token). u ++ flat_map (put w f) ts)
-    (puts-use w p f g t same (all-front p (use_of w t) (uses w ts) h))
+puts-same w p f g (t ∷ ts) same h = ap
+    (λ (u : List Token). u ++ flat_map (put w f) ts) (puts-use w p f g t same (all-front p (use_of w t) (uses w ts) h))
     ∙ ap (λ (u : List Token). put w g t ++ u) (puts-same w p f g ts same (all-back p (use_of w t) (uses w ts) h))
 
 name-same : (w : Stored) (k : ℕ) (n : NameId) → ends_below w k n ≡ true → name_text w (suc k) n ≡ name_text w k n
@@ -104,12 +100,10 @@ kept-append : (joined : Bool) (xs ys : List Token)
 kept-append joined [] ys = refl
 kept-append joined (x ∷ xs) ys = cases (joined && is_layout x) (kept-append (stays_joined joined x) xs ys)
   where
-    cases : (b : Bool)
-        → kept (stays_joined joined x) (xs ++ ys)
-        ≡ kept (stays_joined joined x) xs ++ kept (fold stays_joined (stays_joined joined x) xs) ys
-        → cond b (kept (stays_joined joined x) (xs ++ ys)) (x ∷ kept (stays_joined joined x) (xs ++ ys))
-        ≡ cond b (kept (stays_joined joined x) xs) (x ∷ kept (stays_joined joined x) xs)
-        ++ kept (fold stays_joined (stays_joined joined x) xs) ys
+    cases : (b : Bool) → kept (stays_joined joined x) (xs ++ ys) ≡ kept (stays_joined joined x) xs
+        ++ kept (fold stays_joined (stays_joined joined x) xs) ys → cond b (kept (stays_joined joined x) (xs ++ ys))
+        (x ∷ kept (stays_joined joined x) (xs ++ ys)) ≡ cond b (kept (stays_joined joined x) xs)
+        (x ∷ kept (stays_joined joined x) xs) ++ kept (fold stays_joined (stays_joined joined x) xs) ys
     cases true later = later
     cases false later = ap (λ (ts : List Token). x ∷ ts) later
 
@@ -123,8 +117,7 @@ print_after-append text l (x ∷ xs) ys =
 
 pub print_goes_on : (s : Setting) (before ts : List Token)
     → print s (before ++ ts) ≡ print s before ++ print_behind s before ts
-print_goes_on s before ts =
-    ap (print_after (file_text s) None) (kept-append false before ts)
+print_goes_on s before ts = ap (print_after (file_text s) None) (kept-append false before ts)
     ∙ print_after-append (file_text s) None (kept false before) (kept (is_joined before) ts)
 
 -- LINES
@@ -157,17 +150,15 @@ macro-ended replaced ts =
 macros-whole : (replaced : ℕ → List ℕ) (macros : List (List Token))
     → is_whole_lines (flat_map (macro_line replaced) macros) ≡ true
 macros-whole replaced [] = refl
-macros-whole replaced (ts ∷ macros) =
-    whole-append (macro_line replaced ts) (flat_map (macro_line replaced) macros)
+macros-whole replaced (ts ∷ macros) = whole-append (macro_line replaced ts) (flat_map (macro_line replaced) macros)
     (whole-ended (macro_line replaced ts) (macro-ended replaced ts)) (macros-whole replaced macros)
 
 mark-ended : (name : List ℕ) (line : ℕ) → is_ended (mark_line name line) ≡ true
 mark-ended name line =
     let end = codes "\"\n" in
     let quote = codes " \"" in
-    ended-behind (codes "#line ") (decimal line ++ (quote ++ (quoted name ++ end)))
-    (ended-behind (decimal line) (quote ++ (quoted name ++ end))
-    (ended-behind quote (quoted name ++ end) (ended-behind (quoted name) end refl)))
+    ended-behind (codes "#line ") (decimal line ++ (quote ++ (quoted name ++ end))) (ended-behind (decimal line)
+    (quote ++ (quoted name ++ end)) (ended-behind quote (quoted name ++ end) (ended-behind (quoted name) end refl)))
 
 separator-none : (c : Class) → separator c Defs ≡ []
 separator-none class.LineStart = refl
@@ -182,8 +173,7 @@ separator-none class.Other = refl
 defs-whole : (s : Setting) (bytes : List ℕ) (v : Bool) → (v ≡ true → is_whole_lines bytes ≡ true)
     → is_whole_lines (bytes ++ (cond v [] newline ++ macro_lines s)) ≡ true
 defs-whole s bytes true h = whole-append bytes (macro_lines s) (h refl) (macros-whole s.replaced s.macros)
-defs-whole s bytes false h =
-    ap is_whole_lines (sym (append_assoc bytes newline (macro_lines s)))
+defs-whole s bytes false h = ap is_whole_lines (sym (append_assoc bytes newline (macro_lines s)))
     ∙ whole-append (bytes ++ newline) (macro_lines s)
     (whole-ended (bytes ++ newline) (ended-behind bytes newline refl)) (macros-whole s.replaced s.macros)
 
@@ -191,17 +181,14 @@ defs-whole s bytes false h =
 token-whole : (s : Setting) (l : Option Token) (bytes : List ℕ) (t : Token)
     → (starts_line l ≡ true → is_whole_lines bytes ≡ true) → starts_line (Some t) ≡ true
     → is_whole_lines (bytes ++ (sep l t ++ file_text s l t)) ≡ true
-token-whole s l bytes Newline h k =
-    whole-ended (bytes ++ (sep l Newline ++ newline))
+token-whole s l bytes Newline h k = whole-ended (bytes ++ (sep l Newline ++ newline))
     (ended-behind bytes (sep l Newline ++ newline) (ended-behind (sep l Newline) newline refl))
 token-whole s l bytes (Mark p) h k =
     let mark = mark_line (file_name s p) p.line in
     whole-ended (bytes ++ (sep l (Mark p) ++ (begin_line l ++ mark)))
-    (ended-behind bytes (sep l (Mark p) ++ (begin_line l ++ mark))
-    (ended-behind (sep l (Mark p)) (begin_line l ++ mark)
-    (ended-behind (begin_line l) mark (mark-ended (file_name s p) p.line))))
-token-whole s l bytes Defs h k =
-    ap (λ (u : List ℕ). is_whole_lines (bytes ++ (u ++ (begin_line l ++ macro_lines s))))
+    (ended-behind bytes (sep l (Mark p) ++ (begin_line l ++ mark)) (ended-behind (sep l (Mark p))
+    (begin_line l ++ mark) (ended-behind (begin_line l) mark (mark-ended (file_name s p) p.line))))
+token-whole s l bytes Defs h k = ap (λ (u : List ℕ). is_whole_lines (bytes ++ (u ++ (begin_line l ++ macro_lines s))))
     (sep_by_class l Defs ∙ separator-none (class_of l))
     ∙ defs-whole s bytes (starts_line l) h
 token-whole s l bytes t h k = cc

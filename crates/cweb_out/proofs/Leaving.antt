@@ -42,15 +42,13 @@ pub record TopUsed (w : Stored) (fs new : List Frame) (ts : List Token) (t : Tok
   pub some : 0 < length new
 
 pub top_used : (w : Stored) (n : ℕ) (fs : List Frame) (f g h : Frame) (ts : List Token) (t : Token) (room : ℕ)
-    → Stands w fs room → HasTop n fs f → suffix w f ≡ ts ++ suffix w g → AreLent ts → IsWithin w g
-    → g.owner ≡ f.owner → suffix w g ≡ t ∷ suffix w h → IsWithin w h → h.owner ≡ g.owner
-    → TopUsed w fs (set fs (n - 1) h) ts t room
+    → Stands w fs room → HasTop n fs f → suffix w f ≡ ts ++ suffix w g → AreLent ts → IsWithin w g → g.owner ≡ f.owner
+    → suffix w g ≡ t ∷ suffix w h → IsWithin w h → h.owner ≡ g.owner → TopUsed w fs (set fs (n - 1) h) ts t room
 top_used w n fs f g h ts t room stands top s lent within owner goes within' owner' =
     let mid = set fs (n - 1) g in
     let passed = top_passed w n fs f g ts room stands top s lent within owner in
     let same : set mid (n - 1) h ≡ set fs (n - 1) h = set-set fs (n - 1) g h in
-    let moved : TopMoved w mid (set fs (n - 1) h) t room =
-    subst (λ (new : List Frame). TopMoved w mid new t room) same
+    let moved : TopMoved w mid (set fs (n - 1) h) t room = subst (λ (new : List Frame). TopMoved w mid new t room) same
     (top_moved w n mid mid g h t room passed.stands refl (omega arith) (top_again n fs f g top) goes within' owner') in
     let less = work-passed w n fs f g ts top s in
     let more = moved.advances.work in
@@ -76,12 +74,11 @@ top_gone w n fs new f g ts room stands top s lent within owner none is =
     let mid = set fs (n - 1) g in
     let passed = top_passed w n fs f g ts room stands top s lent within owner in
     let same : lower n mid ≡ lower n fs = take-set fs (n - 1) g in
-    let ended =
-    top_ended w n mid new g room passed.stands (top_again n fs f g top) none (is ∙ sym same) in
+    let ended = top_ended w n mid new g room passed.stands (top_again n fs f g top) none (is ∙ sym same) in
     let below = lower n fs in
-    let whole : work_of w (names w) fs
-    ≡ list_work w (names w - length below) (suffix w f) + work_of w (names w) below =
-    ap (work_of w (names w)) (top_read n fs f top) ∙ work_of-push w (names w) below f in
+    let whole : work_of w (names w) fs ≡ list_work w (names w - length below) (suffix w f) + work_of w (names w) below =
+    ap (work_of w (names w)) (top_read n fs f top)
+    ∙ work_of-push w (names w) below f in
     let rest = ap (work_of w (names w)) is in
     record {
       stands = ended.stands;

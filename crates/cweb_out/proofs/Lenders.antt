@@ -15,6 +15,5 @@ lent_in ts n l (Some t) there h = record { token = t; there = there; lent = cc }
 -- by what lends the texts of all tokens
 pub lent-at : (lenders : List (Option Bordered)) (ts : List Token) (n : ℕ) (l : Bordered) → lenders ≡ map lends ts
     → slice_get lenders n ≡ Some (Some l) → LendsAt ts n l
-lent-at lenders ts n l are h =
-    lent_in ts n l (slice_get ts n) refl
+lent-at lenders ts n l are h = lent_in ts n l (slice_get ts n) refl
     (sym (slice_get-map lends ts n) ∙ ap (λ (ls : List (Option Bordered)). slice_get ls n) (sym are) ∙ h)

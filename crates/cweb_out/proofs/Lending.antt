@@ -4,8 +4,7 @@ use Rattle.cweb_out.proofs.Bytes.{ascii_word}
 use Rattle.cweb_out.proofs.Steps.{print-push}
 
 word-lent : (replaced : ℕ → List ℕ) (b text : List ℕ) (a : Bool)
-    → list_any is_high b ≡ a → cond a None (Some b) ≡ Some text
-    → word_text replaced b ≡ text
+    → list_any is_high b ≡ a → cond a None (Some b) ≡ Some text → word_text replaced b ≡ text
 word-lent replaced b text true e h = cc
 word-lent replaced b text false e h = let same : b ≡ text = cc in ascii_word replaced b e ∙ same
 
@@ -77,9 +76,7 @@ added-lent s left t text h =
 
 -- one more token, which is lent
 pub print-lent : (s : Setting) (left : Left) (ts : List Token) (t : Token) (apart : Bool) (text : List ℕ)
-    → leaves ts ≡ left
-    → apart ≡ is_apart left.class t → lent_text left.joined t ≡ Some text
-    → print s (ts ++ t ∷ []) ≡ print s ts ++ (blank_where apart ++ text)
-print-lent s left ts t apart text is blank h =
-    print-push s left ts t is
+    → leaves ts ≡ left → apart ≡ is_apart left.class t
+    → lent_text left.joined t ≡ Some text → print s (ts ++ t ∷ []) ≡ print s ts ++ (blank_where apart ++ text)
+print-lent s left ts t apart text is blank h = print-push s left ts t is
     ∙ ap (λ (u : List ℕ). print s ts ++ u) (added-lent s left t text h ∙ ap (λ b. blank_where b ++ text) (sym blank))

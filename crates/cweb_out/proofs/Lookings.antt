@@ -46,10 +46,8 @@ marked-rank Ranked b f h = f refl
 pub all-ranked : (w : Stored) (marks : List Mark) (path : List Waiting) (ns : List NameId)
     → Fits w marks path → list_all (is_marked marks) ns ≡ true → list_all (has_rank w) ns ≡ true
 all-ranked w marks path [] f h = refl
-all-ranked w marks path (n ∷ ns) f h =
-    ap (λ b. b && list_all (has_rank w) ns)
-    (marked-rank (mark_of marks n) (has_rank w n) (f.ranked n)
-    (and-first (is_marked marks n) (list_all (is_marked marks) ns) h))
+all-ranked w marks path (n ∷ ns) f h = ap (λ b. b && list_all (has_rank w) ns) (marked-rank (mark_of marks n)
+    (has_rank w n) (f.ranked n) (and-first (is_marked marks n) (list_all (is_marked marks) ns) h))
     ∙ all-ranked w marks path ns f (and-second (is_marked marks n) (list_all (is_marked marks) ns) h)
 
 -- a list was looked at up to a name, and then as far as the next one
@@ -75,10 +73,9 @@ looked-on w list frame n h l = record {
 pub looked-all : (w : Stored) (list : List Token) (frame : Frame) (marks : List Mark) (path : List Waiting)
     → Fits w marks path → Looked w list frame None
     → list_all (is_marked marks) (uses w (suffix w frame)) ≡ true → list_all (has_rank w) (uses w list) ≡ true
-looked-all w list frame marks path f l h =
-    ap (list_all (has_rank w)) l.same
-    ∙ all-append (has_rank w) l.before (uses w (suffix w frame))
-    l.ranked (all-ranked w marks path (uses w (suffix w frame)) f h)
+looked-all w list frame marks path f l h = ap (list_all (has_rank w)) l.same
+    ∙ all-append
+    (has_rank w) l.before (uses w (suffix w frame)) l.ranked (all-ranked w marks path (uses w (suffix w frame)) f h)
 
 pub looked-start : (w : Stored) (list : List Token) (frame : Frame) → suffix w frame ≡ list → Looked w list frame None
 looked-start w list frame e = record { before = []; ranked = refl; same = ap (uses w) (sym e) }

@@ -22,8 +22,7 @@ stays false = refl
 
 -- what stands in a file for all macros
 pub defs-added : (s : Setting) (left : Left) → added (file_by s) left Defs ≡ begin_by left.class ++ macro_lines s
-defs-added s left =
-    ap (λ b. cond b [] (separator left.class Defs ++ file_by s left.class Defs)) (stays left.joined)
+defs-added s left = ap (λ b. cond b [] (separator left.class Defs ++ file_by s left.class Defs)) (stays left.joined)
     ∙ ap (λ b. cond b (codes " ") [] ++ file_by s left.class Defs) (no_blank left.class)
     ∙ append-nil (begin_by left.class ++ macro_lines s)
 
@@ -35,8 +34,7 @@ abbrev pub all_lines : Stored → List ℕ
 all_lines w = flat_map (macro_line (replaced_in w)) (macros w)
 
 lines_from : (w : Stored) (test : PartKind → Bool) (ps : List Part) (n : ℕ)
-    → drop n (all_tokens w.parts) ≡ all_tokens ps
-    → lines w (numbers_from test n ps)
+    → drop n (all_tokens w.parts) ≡ all_tokens ps → lines w (numbers_from test n ps)
     ≡ flat_map (macro_line (replaced_in w)) (map (λ (p : Part). p.tokens) (filter (λ (p : Part). test p.kind) ps))
 lines_from w test [] n h = refl
 lines_from w test (p ∷ ps) n h =
@@ -44,16 +42,14 @@ lines_from w test (p ∷ ps) n h =
     let gap : n + size - n ≡ size = omega arith in
     let here : slice_range (all_tokens w.parts) n (n + size) ≡ p.tokens =
     ap (λ k. take k (drop n (all_tokens w.parts))) gap
-    ∙ ap (take size) h ∙ take_at p.tokens (all_tokens ps) size refl in
-    let others : drop (n + size) (all_tokens w.parts) ≡ all_tokens ps =
-    sym (drop-drop size n (all_tokens w.parts)) ∙ ap (drop size) h ∙ drop_at p.tokens (all_tokens ps) size refl in
+    ∙ ap (take size) h
+    ∙ take_at p.tokens (all_tokens ps) size refl in
+    let others : drop (n + size) (all_tokens w.parts) ≡ all_tokens ps = sym (drop-drop size n (all_tokens w.parts))
+    ∙ ap (drop size) h
+    ∙ drop_at p.tokens (all_tokens ps) size refl in
     let later = lines_from w test ps (n + size) others in
-    elim (test p.kind) as (λ b.
-    lines w
-    (cond b ((record { first = n; after = n + size }) ∷ numbers_from test (n + size) ps)
-    (numbers_from test (n + size) ps))
-    ≡ flat_map (macro_line (replaced_in w))
-    (map (λ (q : Part). q.tokens)
+    elim (test p.kind) as (λ b. lines w (cond b ((record { first = n; after = n + size }) ∷ numbers_from test (n + size)
+    ps) (numbers_from test (n + size) ps)) ≡ flat_map (macro_line (replaced_in w)) (map (λ (q : Part). q.tokens)
     (cond b (p ∷ filter (λ (q : Part). test q.kind) ps) (filter (λ (q : Part). test q.kind) ps)))) [
       | true ↦ (λ i. macro_line (replaced_in w) (here i) ++ later i)
       | false ↦ later
@@ -93,23 +89,18 @@ range_split ts a n b t le lt within is =
 
 -- the tokens of a macro: those that were printed, the next one, and the rest
 pub tokens_at : (by : Class → Token → List ℕ) (ts : List Token) (a n b : ℕ) (t : Token) (left : Left)
-    → a ≤ n → n < b → b ≤ length ts → slice_get ts n ≡ Some t → left ≡ leaves (slice_range ts a n)
-    → all_added by at_start (slice_range ts a b)
-    ≡ all_added by at_start (slice_range ts a n)
-    ++ (added by left t ++ all_added by (left_by left t) (slice_range ts (n + 1) b))
-tokens_at by ts a n b t left le lt within is now =
-    ap (all_added by at_start) (range_split ts a n b t le lt within is)
+    → a ≤ n → n < b → b ≤ length ts → slice_get ts n ≡ Some t
+    → left ≡ leaves (slice_range ts a n) → all_added by at_start (slice_range ts a b) ≡ all_added
+    by at_start (slice_range ts a n) ++ (added by left t ++ all_added by (left_by left t) (slice_range ts (n + 1) b))
+tokens_at by ts a n b t left le lt within is now = ap (all_added by at_start) (range_split ts a n b t le lt within is)
     ∙ added-append by at_start (slice_range ts a n) (t ∷ slice_range ts (n + 1) b)
-    ∙ ap (λ (l : Left).
-    all_added by at_start (slice_range ts a n)
-    ++ (added by l t ++ all_added by (left_by l t) (slice_range ts (n + 1) b)))
-    (sym now)
+    ∙ ap (λ (l : Left). all_added by at_start (slice_range ts a n)
+    ++ (added by l t ++ all_added by (left_by l t) (slice_range ts (n + 1) b))) (sym now)
 
-pub tokens_more : (by : Class → Token → List ℕ) (ts : List Token)
-    (a n : ℕ) (t : Token) (left : Left) (old mid new : List ℕ) → a ≤ n
-    → slice_get ts n ≡ Some t → left ≡ leaves (slice_range ts a n)
-    → mid ≡ old ++ all_added by at_start (slice_range ts a n) → new ≡ mid ++ added by left t
-    → new ≡ old ++ all_added by at_start (slice_range ts a (n + 1))
+pub tokens_more : (by : Class → Token → List ℕ)
+    (ts : List Token) (a n : ℕ) (t : Token) (left : Left) (old mid new : List ℕ) → a ≤ n → slice_get ts n ≡ Some t
+    → left ≡ leaves (slice_range ts a n) → mid ≡ old ++ all_added by at_start (slice_range ts a n)
+    → new ≡ mid ++ added by left t → new ≡ old ++ all_added by at_start (slice_range ts a (n + 1))
 tokens_more by ts a n t left old mid new le is now before wrote =
     wrote ∙ ap (λ (u : List ℕ). u ++ added by left t) before
     ∙ append_assoc old (all_added by at_start (slice_range ts a n)) (added by left t)

@@ -25,8 +25,7 @@ pub adds_behind : (before after none text old mid piece piece' : List ℕ) → A
 adds_behind before after none text old mid piece piece' adds empty same is = record {
   bytes = adds.bytes;
   due = adds.due;
-  written =
-      ap (λ (t : List ℕ). mid ++ t) is ∙ sym (append_assoc mid piece text) ∙ ap (λ (t : List ℕ). t ++ text) same
+  written = ap (λ (t : List ℕ). mid ++ t) is ∙ sym (append_assoc mid piece text) ∙ ap (λ (t : List ℕ). t ++ text) same
       ∙ ap (λ (t : List ℕ). old ++ t) (adds.written ∙ ap (λ (t : List ℕ). t ++ adds.bytes) empty);
 }
 
@@ -39,9 +38,8 @@ behind old mid piece piece' new after text same is moved =
 -- what a sink has and what is gathered, told in other words
 pub adds_at : {A E : Type 0} (before after old new old' new' : List ℕ) (r : Result A E)
     → old ≡ old' → new ≡ new' → AddsBy before after old new r → AddsBy before after old' new' r
-adds_at before after old new old' new' r is is' adds =
-    subst (λ (t : List ℕ). AddsBy before after old' t r) is'
-    (subst (λ (t : List ℕ). AddsBy before after t new r) is adds)
+adds_at before after old new old' new' r is is' adds = subst
+    (λ (t : List ℕ). AddsBy before after old' t r) is' (subst (λ (t : List ℕ). AddsBy before after t new r) is adds)
 
 -- the same of a text
 pub wrote_at : {A E : Type 0} (old new old' new' text : List ℕ) (r : Result A E)

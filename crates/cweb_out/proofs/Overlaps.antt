@@ -12,8 +12,7 @@ taken_behind : (bytes : List ℕ) (used count : ℕ) → take (used - count) (dr
 taken_behind bytes used count = search (rules, between_is)
 
 pub overlapped : (before text : List ℕ) (n : ℕ) → n ≤ length text → length text ≤ n + n
-    → take (length before + (length text - n)) (before ++ take n text) ++ drop (length text - n) text
-    ≡ before ++ text
+    → take (length before + (length text - n)) (before ++ take n text) ++ drop (length text - n) text ≡ before ++ text
 overlapped before text n least most =
     let m : ℕ = length text - n in
     ap (λ (front : List ℕ). front ++ drop m text) (take-append-add before (take n text) m

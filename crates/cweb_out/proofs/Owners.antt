@@ -6,9 +6,8 @@ least-le : (test : ℕ → Bool) (n k : ℕ) → test k ≡ true → least test 
 least-le test zero k h = omega arith
 least-le test (suc n) k h = by (test zero) refl k h (λ j e. least-le (λ i. test (suc i)) n j e)
   where
-    by : (b : Bool) → test zero ≡ b → (k : ℕ) → test k ≡ true
-        → ((j : ℕ) → test (suc j) ≡ true → least (λ i. test (suc i)) n ≤ j)
-        → (elim b [ true ↦ zero | false ↦ suc (least (λ i. test (suc i)) n) ]) ≤ k
+    by : (b : Bool) → test zero ≡ b → (k : ℕ) → test k ≡ true → ((j : ℕ) → test (suc j) ≡ true
+        → least (λ i. test (suc i)) n ≤ j) → (elim b [ true ↦ zero | false ↦ suc (least (λ i. test (suc i)) n) ]) ≤ k
     by true e k h later = omega arith
     by false e zero h later = cc
     by false e (suc k) h later = let le = later k h in omega (arith, le)
@@ -62,14 +61,12 @@ AreOwned-pop w above (g ∷ fs) f h =
 
 uses-append : (w : Stored) (xs ys : List Token) → uses w (xs ++ ys) ≡ uses w xs ++ uses w ys
 uses-append w [] ys = refl
-uses-append w (x ∷ xs) ys =
-    ap (λ (ns : List NameId). use_of w x ++ ns) (uses-append w xs ys)
+uses-append w (x ∷ xs) ys = ap (λ (ns : List NameId). use_of w x ++ ns) (uses-append w xs ys)
     ∙ sym (append_assoc (use_of w x) (uses w xs) (uses w ys))
 
 -- a token of the list was given
 pub OnTop-next : (w : Stored) (above : ℕ) (fs : List Frame) (f g : Frame) (t : Token) → suffix w f ≡ t ∷ suffix w g
-    → g.owner ≡ f.owner → OnTop w above fs f
-    → OnTop w above fs g × AreBelow w (rank w g.owner) (use_of w t)
+    → g.owner ≡ f.owner → OnTop w above fs f → OnTop w above fs g × AreBelow w (rank w g.owner) (use_of w t)
 OnTop-next w above fs f g t s o h =
     let list : root_list w g.owner ≡ h.owned.given ++ (t ∷ suffix w g) =
     ap (root_list w) o ∙ h.owned.list ∙ ap (λ (ts : List Token). h.owned.given ++ ts) s in
@@ -119,11 +116,9 @@ OnTop-entered w fs g r m k below le ends lower e o text =
       owned = record {
         given = [];
         list = ap (root_list w) o ∙ text;
-        ends =
-            ap (λ (p : Option NameId). list_ends w (root_list w p)) o ∙ ap (λ j. ends_below w j m) deep
+        ends = ap (λ (p : Option NameId). list_ends w (root_list w p)) o ∙ ap (λ j. ends_below w j m) deep
             ∙ grows-more w (suc (names w) - k) k m ends;
       };
-      lower =
-          subst (λ (p : Option NameId). rank w p < top) (sym o)
+      lower = subst (λ (p : Option NameId). rank w p < top) (sym o)
           (rank-below w top m (and-first (ends_below w top m) true used));
     }

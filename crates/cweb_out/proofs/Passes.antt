@@ -47,8 +47,7 @@ OnTop-passed w above fs f g ts s o h = record {
   below = h.below;
   owned = record {
     given = h.owned.given ++ ts;
-    list =
-        ap (root_list w) o ∙ h.owned.list ∙ ap (λ (us : List Token). h.owned.given ++ us) s
+    list = ap (root_list w) o ∙ h.owned.list ∙ ap (λ (us : List Token). h.owned.given ++ us) s
         ∙ sym (append_assoc h.owned.given ts (suffix w g));
     ends = subst (λ p. list_ends w (root_list w p) ≡ true) (sym o) h.owned.ends;
   };
@@ -70,9 +69,8 @@ top_passed w n fs f g ts room s h goes lent i o =
     let p = stands_lower w n fs f room s h in
     let k : ℕ = names w - length below in
     record {
-      stands =
-          Stands-push w (set fs (n - 1) g) below g room room after refl p.0
-          (Top-passed w (names w) below f g ts goes lent i p.1) p.2
+      stands = Stands-push w
+          (set fs (n - 1) g) below g room room after refl p.0 (Top-passed w (names w) below f g ts goes lent i p.1) p.2
           (OnTop-passed w (names w + 1) below f g ts goes o p.3);
       left =
           ap (left w) both ∙ left_of-push w (names w) below f

@@ -58,8 +58,7 @@ and-rest false b h = cc
 pub put-all-lent : (w : Stored) (text : NameId → List Token) (ts rest : List Token) → AreLent ts
     → flat_map (put w text) (ts ++ rest) ≡ ts ++ flat_map (put w text) rest
 put-all-lent w text [] rest h = refl
-put-all-lent w text (t ∷ ts) rest h =
-    ap (λ (us : List Token). us ++ flat_map (put w text) (ts ++ rest))
+put-all-lent w text (t ∷ ts) rest h = ap (λ (us : List Token). us ++ flat_map (put w text) (ts ++ rest))
     (put-lent w text t (and-first (is_lent t) (list_all is_lent ts) h))
     ∙ ap (λ (us : List Token). t ∷ us) (put-all-lent w text ts rest (and-rest (is_lent t) (list_all is_lent ts) h))
 
@@ -103,15 +102,13 @@ passed_more p ts left after t old mid new passed g =
     leaves-lent left t g.text g.lent ∙ (λ i. record { class = sym g.class i; joined = sym g.closed i }) in
     record {
       lent = lent-push ts t passed.lent (lent-open left.joined t g.text g.lent);
-      moves = λ done is.
-          ap leaves (sym (append_assoc done ts (t ∷ []))) ∙ leaves-push (done ++ ts) t
+      moves = λ done is. ap leaves (sym (append_assoc done ts (t ∷ []))) ∙ leaves-push (done ++ ts) t
           ∙ ap (λ (l : Left). left_by l t) (passed.moves done is) ∙ is_after;
       prints = λ done is.
           let so_far = passed.prints done is in
           record {
             bytes = so_far.bytes ++ more;
-            due =
-                ap (print s) (sym (append_assoc done ts (t ∷ [])))
+            due = ap (print s) (sym (append_assoc done ts (t ∷ [])))
                 ∙ print-lent s left (done ++ ts) t (is_apart left.class t) g.text (passed.moves done is) refl g.lent
                 ∙ ap (λ (u : List ℕ). u ++ more) so_far.due ∙ append_assoc (print s done) so_far.bytes more;
             written =

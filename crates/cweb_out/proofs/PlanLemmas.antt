@@ -9,9 +9,8 @@ use Rattle.cweb_out.proofs.Finds.{find-at}
 
 -- the first output whose name is bad
 pub names-err : (w : Stored) (main : List ℕ) (roots : List (Option NameId))
-    (i : ℕ) (root d : Option NameId) (f : PlanFault) → i < length roots
-    → root ≡ get_or roots i d → find (is_bad w main) (take i roots) ≡ None
-    → NamesOne w main root (Err f) → NamesAll w main roots (Err f)
+    (i : ℕ) (root d : Option NameId) (f : PlanFault) → i < length roots → root ≡ get_or roots i d
+    → find (is_bad w main) (take i roots) ≡ None → NamesOne w main root (Err f) → NamesAll w main roots (Err f)
 names-err w main roots i root d (fault.BadName other) l e h n =
     find-at (is_bad w main) roots i root d l e h n.0 ∙ ap (λ o. Some o) (sym n.1)
 names-err w main roots i root d fault.Memory l e h n = tt
@@ -19,11 +18,10 @@ names-err w main roots i root d (fault.Cycle ns) l e h n = absurd n
 names-err w main roots i root d (fault.SameName m) l e h n = absurd n
 
 -- an output more
-pub names-more : (w : Stored) (main : List ℕ) (roots : List (Option NameId))
-    (old new : List Output) (i : ℕ) (root d : Option NameId) (output : Output)
-    → i < length roots → root ≡ get_or roots i d → NamesOne w main root (Ok output)
-    → map output_in old ≡ map (output_of w main) (take i roots) → new ≡ old ++ output ∷ []
-    → map output_in new ≡ map (output_of w main) (take (i + 1) roots)
+pub names-more : (w : Stored) (main : List ℕ) (roots : List (Option NameId)) (old new : List Output)
+    (i : ℕ) (root d : Option NameId) (output : Output) → i < length roots → root ≡ get_or roots i d
+    → NamesOne w main root (Ok output) → map output_in old ≡ map (output_of w main) (take i roots)
+    → new ≡ old ++ output ∷ [] → map output_in new ≡ map (output_of w main) (take (i + 1) roots)
 names-more w main roots old new i root d output l e n h p =
     ap (map output_in) p ∙ map-append output_in old (output ∷ []) ∙ ap (λ os. os ++ output_in output ∷ []) h
     ∙ ap (λ o. map (output_of w main) (take i roots) ++ o ∷ []) (n.1 ∙ ap (output_of w main) e)
@@ -38,8 +36,7 @@ cycle-found w roots i root d names l e h s =
     ap (option_map (λ o. cycle_from w (start_of w o))) (find-at (is_endless w) roots i root d l e h (ap not s.0))
     ∙ ap (λ ns. Some ns) (sym s.1)
 
-pub unnamed-one : (w : Stored)
-    → has_one (parts.numbers_where parts.is_unnamed w.parts)
+pub unnamed-one : (w : Stored) → has_one (parts.numbers_where parts.is_unnamed w.parts)
     ≡ list_any (λ (p : parts.Part). parts.is_unnamed p.kind) w.parts
 unnamed-one w =
     let some = numbers-some parts.is_unnamed w.parts in
@@ -58,11 +55,9 @@ pub one-output : (w : Stored) (n : ℕ) → n ≡ length (outputs w) → nat_eq 
 one-output w n e =
     let size = length-map (due.file_outputs w) (λ m. Some m) in
     elim (eqb_tells n 1) [
-      | inl a ↦
-          elim (eqb_tells (length (due.file_outputs w)) 0)
+      | inl a ↦ elim (eqb_tells (length (due.file_outputs w)) 0)
           [ inl b ↦ a.0 ∙ sym b.0 | inr b ↦ absurd (omega (arith, a.1, b.1, size, e)) ]
-      | inr a ↦
-          elim (eqb_tells (length (due.file_outputs w)) 0)
+      | inr a ↦ elim (eqb_tells (length (due.file_outputs w)) 0)
           [ inl b ↦ absurd (omega (arith, a.1, b.1, size, e)) | inr b ↦ a.0 ∙ sym b.0 ]
     ]
 
@@ -80,8 +75,7 @@ be-false false h = refl
 
 pub bad-utf8 : (w : Stored) (main : List ℕ) (root : Option NameId) (bytes : List ℕ)
     → bytes ≡ output_name w main root → (IsUtf8 bytes → ⊥) → is_bad w main root ≡ true
-bad-utf8 w main root bytes e n =
-    ap (λ b. not (is_good_name b)) (sym e)
+bad-utf8 w main root bytes e n = ap (λ b. not (is_good_name b)) (sym e)
     ∙ ap (λ b. not ((b && list_all (λ x. not (is_control x)) bytes) && not (names_no_file (after_last is_slash bytes))))
     (be-false (is_utf8 bytes) (λ h. n (IsUtf8-from_is_utf8 bytes h)))
 

@@ -32,21 +32,18 @@ step-new false false x y e f h = cc
 
 counted-grows : (f g : ℕ → Bool) (n : ℕ) → ((i : ℕ) → i < n → f i ≡ true → g i ≡ true) → counted f n ≤ counted g n
 counted-grows f g zero w = omega arith
-counted-grows f g (suc n) w =
-    step-le (f n) (g n) (counted f n) (counted g n) (w n (omega arith))
-    (counted-grows f g n (λ i l. w i (omega (arith, l))))
+counted-grows f g (suc n) w = step-le
+    (f n) (g n) (counted f n) (counted g n) (w n (omega arith)) (counted-grows f g n (λ i l. w i (omega (arith, l))))
 
 -- a weaker test that one number more passes
 counted-more : (f g : ℕ → Bool) (n j : ℕ) → ((i : ℕ) → i < n → f i ≡ true → g i ≡ true)
     → j < n → f j ≡ false → g j ≡ true → counted f n < counted g n
 counted-more f g zero j w l a b = absurd (omega (arith, l))
 counted-more f g (suc n) j w l a b = elim (eqb_tells j n) [
-  | inl e ↦
-      step-new (f n) (g n) (counted f n) (counted g n) (ap f (sym e.1) ∙ a)
-      (ap g (sym e.1) ∙ b) (counted-grows f g n (λ i k. w i (omega (arith, k))))
-  | inr e ↦
-      step-lt (f n) (g n) (counted f n) (counted g n) (w n (omega arith))
-      (counted-more f g n j (λ i k. w i (omega (arith, k))) (omega (arith, l, e.1)) a b)
+  | inl e ↦ step-new (f n) (g n) (counted f n)
+      (counted g n) (ap f (sym e.1) ∙ a) (ap g (sym e.1) ∙ b) (counted-grows f g n (λ i k. w i (omega (arith, k))))
+  | inr e ↦ step-lt (f n) (g n) (counted f n) (counted g n)
+      (w n (omega arith)) (counted-more f g n j (λ i k. w i (omega (arith, k))) (omega (arith, l, e.1)) a b)
 ]
 
 pub and-first : (a b : Bool) → (a && b) ≡ true → a ≡ true
@@ -75,15 +72,13 @@ use-weaker w p q t f h = refl
 pub all-append : (p : NameId → Bool) (xs ys : List NameId)
     → list_all p xs ≡ true → list_all p ys ≡ true → list_all p (xs ++ ys) ≡ true
 all-append p [] ys a b = b
-all-append p (x ∷ xs) ys a b =
-    and-true (p x) (list_all p (xs ++ ys)) (and-first (p x) (list_all p xs) a)
-    (all-append p xs ys (and-second (p x) (list_all p xs) a) b)
+all-append p (x ∷ xs) ys a b = and-true (p x) (list_all p (xs ++ ys))
+    (and-first (p x) (list_all p xs) a) (all-append p xs ys (and-second (p x) (list_all p xs) a) b)
 
 pub all-front : (p : NameId → Bool) (xs ys : List NameId) → list_all p (xs ++ ys) ≡ true → list_all p xs ≡ true
 all-front p [] ys h = refl
-all-front p (x ∷ xs) ys h =
-    and-true (p x) (list_all p xs) (and-first (p x) (list_all p (xs ++ ys)) h)
-    (all-front p xs ys (and-second (p x) (list_all p (xs ++ ys)) h))
+all-front p (x ∷ xs) ys h = and-true (p x) (list_all p xs)
+    (and-first (p x) (list_all p (xs ++ ys)) h) (all-front p xs ys (and-second (p x) (list_all p (xs ++ ys)) h))
 
 pub all-back : (p : NameId → Bool) (xs ys : List NameId) → list_all p (xs ++ ys) ≡ true → list_all p ys ≡ true
 all-back p [] ys h = h
@@ -94,9 +89,8 @@ pub uses-weaker : (w : Stored) (p q : NameId → Bool) (ts : List Token)
     → ((m : NameId) → m.0 < names w → p m ≡ true → q m ≡ true)
     → list_all p (uses w ts) ≡ true → list_all q (uses w ts) ≡ true
 uses-weaker w p q [] f h = refl
-uses-weaker w p q (t ∷ ts) f h =
-    all-append q (use_of w t) (uses w ts) (use-weaker w p q t f (all-front p (use_of w t) (uses w ts) h))
-    (uses-weaker w p q ts f (all-back p (use_of w t) (uses w ts) h))
+uses-weaker w p q (t ∷ ts) f h = all-append q (use_of w t) (uses w ts) (use-weaker w p q t f
+    (all-front p (use_of w t) (uses w ts) h)) (uses-weaker w p q ts f (all-back p (use_of w t) (uses w ts) h))
 
 -- what has a rank below k + 1 has one below k
 abbrev IsStill : Stored → ℕ → Type 0
@@ -120,11 +114,9 @@ by-test false b h e = absurd (h refl e)
 
 -- where no name more has a rank, none has at any greater depth
 still-at : (w : Stored) (k : ℕ) → ranked_below w (suc k) ≤ ranked_below w k → IsStill w k
-still-at w k le m l =
-    by-test (ends_below w k m) (ends_below w (suc k) m) (λ a b.
-    let more =
-    counted-more (λ i. ends_below w k (id i)) (λ i. ends_below w (suc k) (id i))
-    (names w) m.0 (λ i j. rank-grows w k (id i)) l a b in
+still-at w k le m l = by-test (ends_below w k m) (ends_below w (suc k) m) (λ a b.
+    let more = counted-more (λ i. ends_below w k (id i))
+    (λ i. ends_below w (suc k) (id i)) (names w) m.0 (λ i j. rank-grows w k (id i)) l a b in
     omega (arith, le, more))
 
 pub either : (a b : ℕ) → (a ≤ b) ⊎ (b < a)
@@ -134,13 +126,11 @@ either (suc a) (suc b) = elim (either a b) [ inl h ↦ inl (omega (arith, h)) | 
 
 -- with each depth a name more has a rank, until none has
 reach : (w : Stored) (k : ℕ) → IsStill w k ⊎ (k < ranked_below w (suc k))
-reach w zero =
-    elim (either (ranked_below w 1) (ranked_below w 0))
-    [ inl h ↦ inl (still-at w zero h) | inr h ↦ inr (omega (arith, h)) ]
+reach w zero = elim
+    (either (ranked_below w 1) (ranked_below w 0)) [ inl h ↦ inl (still-at w zero h) | inr h ↦ inr (omega (arith, h)) ]
 reach w (suc k) = elim (reach w k) [
   | inl s ↦ inl (still-next w k s)
-  | inr h ↦
-      elim (either (ranked_below w (suc (suc k))) (ranked_below w (suc k)))
+  | inr h ↦ elim (either (ranked_below w (suc (suc k))) (ranked_below w (suc k)))
       [ inl e ↦ inl (still-at w (suc k) e) | inr e ↦ inr (omega (arith, h, e)) ]
 ]
 
@@ -198,8 +188,7 @@ pub id-same : (n : NameId) → is_id n n ≡ true
 id-same n = elim (eqb_tells n.0 n.0) [ inl e ↦ e.0 | inr e ↦ absurd (e.1 refl) ]
 
 pub on-last : (seen : List NameId) (n : NameId) → list_any (is_id n) (seen ++ n ∷ []) ≡ true
-on-last seen n =
-    list_any-append (is_id n) seen (n ∷ [])
+on-last seen n = list_any-append (is_id n) seen (n ∷ [])
     ∙ or-right (list_any (is_id n) seen) (is_id n n || false) (or-left (is_id n n) false (id-same n))
 
 pub on-front : (seen more : List NameId) (n : NameId)
@@ -211,8 +200,7 @@ few-from : (count : ℕ) (seen ns : List NameId) → AreNew seen ns
     → ((n : NameId) → list_any (is_id n) ns ≡ true → n.0 < count) → counted (on seen) count + length ns ≤ count
 few-from count seen [] a b = let h = counted-le (on seen) count in omega (arith, h)
 few-from count seen (n ∷ ns) a b =
-    let less =
-    counted-more (on seen) (on (seen ++ n ∷ [])) count n.0 (λ i l. on-front seen (n ∷ []) (id i))
+    let less = counted-more (on seen) (on (seen ++ n ∷ [])) count n.0 (λ i l. on-front seen (n ∷ []) (id i))
     (b n (or-left (is_id n n) (list_any (is_id n) ns) (id-same n))) a.0 (on-last seen n) in
     let rest = few-from count (seen ++ n ∷ []) ns a.1 (λ m h. b m (or-right (is_id m n) (list_any (is_id m) ns) h)) in
     omega (arith, less, rest)

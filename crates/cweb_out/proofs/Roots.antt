@@ -17,9 +17,8 @@ found_none : {A : Type 0} (test : A → Bool) (xs : List A) (i : ℕ) (d : A)
 found_none test [] i d h lt = absurd (omega arith)
 found_none test (x ∷ xs) i d h lt = by i lt (test x) refl h (λ j l e. found_none test xs j d e l)
   where
-    by : (i : ℕ) → i < length (x ∷ xs) → (b : Bool) → test x ≡ b
-        → cond (not b) (Some x) (find (λ y. not (test y)) xs) ≡ None
-        → ((j : ℕ) → j < length xs → find (λ y. not (test y)) xs ≡ None → test (slice_index_or xs j d) ≡ true)
+    by : (i : ℕ) → i < length (x ∷ xs) → (b : Bool) → test x ≡ b → cond (not b) (Some x) (find (λ y. not (test y)) xs)
+        ≡ None → ((j : ℕ) → j < length xs → find (λ y. not (test y)) xs ≡ None → test (slice_index_or xs j d) ≡ true)
         → test (slice_index_or (x ∷ xs) i d) ≡ true
     by i lt false e h later = cc
     by zero lt true e h later = e
@@ -29,11 +28,9 @@ pub root_below : (w : Stored) (p : Planned) (number : ℕ) → IsPlanOf w p → 
     → AreBelow w (names w) (uses w (root_list w (root_at p.outputs number)))
 root_below w p number made lt =
     let main = made.0 in
-    let apart =
-    unrefused (find (λ o. not (is_good_name (output_name w main o))) (outputs w))
+    let apart = unrefused (find (λ o. not (is_good_name (output_name w main o))) (outputs w))
     (λ o. bad_name o) (planned_apart w main) p made.1 in
-    let ending =
-    unrefused (find (λ n. bytes_eq (name_at w n) main) (spec.files w.occurrences))
+    let ending = unrefused (find (λ n. bytes_eq (name_at w n) main) (spec.files w.occurrences))
     (λ n. same_name n) (planned_ending w main) p apart.1 in
     let ends =
     unrefused (find (λ o. not (list_ends w (root_list w o))) (outputs w)) (λ o. cycle (cycle_from w (start_of w o)))
@@ -45,5 +42,5 @@ root_below w p number made lt =
     ap (λ (os : List Output). root_at os number) (sym are)
     ∙ ap (λ (o : Output). o.root)
     (get_or-map (output_of w main) (outputs w) number None (record { name = []; root = None }) within) in
-    subst (λ o. AreBelow w (names w) (uses w (root_list w o))) (sym root)
-    (found_none (λ o. list_ends w (root_list w o)) (outputs w) number None ends.0 within)
+    subst (λ o. AreBelow w (names w) (uses w (root_list w o)))
+    (sym root) (found_none (λ o. list_ends w (root_list w o)) (outputs w) number None ends.0 within)

@@ -43,8 +43,7 @@ a_name_that_does_not_use_itself_is_no_cycle c = let used : false ≡ true = c.ea
 abbrev twice : Stored
 twice = record {
   occurrences = full (codes "A") ∷ full (codes "B") ∷ full (codes "C") ∷ full (codes "D") ∷ [];
-  parts =
-      part Unnamed (use_ 0 ∷ use_ 0 ∷ []) ∷ part (of 0) (use_ 1 ∷ use_ 1 ∷ [])
+  parts = part Unnamed (use_ 0 ∷ use_ 0 ∷ []) ∷ part (of 0) (use_ 1 ∷ use_ 1 ∷ [])
       ∷ part (of 1) (use_ 2 ∷ use_ 2 ∷ []) ∷ part (of 2) (Punct (codes ";") ∷ use_ 3 ∷ []) ∷ [];
   replacements = [];
 }
@@ -79,12 +78,11 @@ a_section_comment_stays_after_a_join : print plain (Punct (codes "/") ∷ Join �
 unfolding digits
 a_section_comment_stays_after_a_join = refl
 
-operators_and_numbers_stay_apart : file plain
-    (Head 1 ∷ at 1 ∷ Newline ∷ Word (codes "x") ∷ Punct (codes "=") ∷ Blank ∷ Punct (codes "-") ∷ Number (codes "1")
-    ∷ semicolon ∷ Word (codes "a") ∷ Punct (codes "*") ∷ Punct (codes "-") ∷ Word (codes "b") ∷ semicolon
-    ∷ Word (codes "y") ∷ Punct (codes "=") ∷ Number (codes "0xe") ∷ Punct (codes "+") ∷ Number (codes "1")
-    ∷ semicolon ∷ Word (codes "q") ∷ Punct (codes "=") ∷ Word (codes "a") ∷ Punct (codes "/") ∷ Head 2 ∷ at 3
-    ∷ Word (codes "b") ∷ Tail 2 ∷ at 2 ∷ semicolon ∷ Newline ∷ Tail 1 ∷ [])
+operators_and_numbers_stay_apart : file plain (Head 1 ∷ at 1 ∷ Newline ∷ Word (codes "x") ∷ Punct
+    (codes "=") ∷ Blank ∷ Punct (codes "-") ∷ Number (codes "1") ∷ semicolon ∷ Word (codes "a") ∷ Punct (codes "*")
+    ∷ Punct (codes "-") ∷ Word (codes "b") ∷ semicolon ∷ Word (codes "y") ∷ Punct (codes "=") ∷ Number (codes "0xe")
+    ∷ Punct (codes "+") ∷ Number (codes "1") ∷ semicolon ∷ Word (codes "q") ∷ Punct (codes "=") ∷ Word (codes "a")
+    ∷ Punct (codes "/") ∷ Head 2 ∷ at 3 ∷ Word (codes "b") ∷ Tail 2 ∷ at 2 ∷ semicolon ∷ Newline ∷ Tail 1 ∷ [])
     ≡ codes "/*1:*/\n#line 1 \"s.w\"\n\nx= -1;a* -b;y=0xe +1;q=a/ /*2:*/\n"
     ++ codes "#line 3 \"s.w\"\nb/*:2*/\n#line 2 \"s.w\"\n;\n/*:1*/\n"
 unfolding digits
@@ -93,10 +91,8 @@ operators_and_numbers_stay_apart = refl
 -- `f(x) x+1`, `N`, and `two 1+` on two lines
 abbrev with_macros : Setting
 with_macros = record plain {
-  macros =
-      (Word (codes "f") ∷ Punct (codes "(") ∷ Word (codes "x") ∷ Punct (codes ")")
-      ∷ Word (codes "x") ∷ Punct (codes "+") ∷ Number (codes "1") ∷ [])
-      ∷ (Word (codes "N") ∷ [])
+  macros = (Word (codes "f") ∷ Punct (codes "(") ∷ Word (codes "x") ∷ Punct
+      (codes ")") ∷ Word (codes "x") ∷ Punct (codes "+") ∷ Number (codes "1") ∷ []) ∷ (Word (codes "N") ∷ [])
       ∷ (Word (codes "two") ∷ Blank ∷ Number (codes "1") ∷ Punct (codes "+") ∷ Newline ∷ Number (codes "2") ∷ []) ∷ [];
 }
 

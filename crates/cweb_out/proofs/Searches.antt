@@ -25,8 +25,7 @@ goes-ranked w marks more path f text t c a m =
       chain = chain-on w path f.name rank pop.0;
       begins = λ n b. begins-pop w path f n b rank;
       back = tt;
-      less = λ e.
-          subst (λ (ms : List Mark). sum_by marks_left ms < sum_by marks_left marks)
+      less = λ e. subst (λ (ms : List Mark). sum_by marks_left ms < sum_by marks_left marks)
           (sym m) (left-less marks f.name Ranked lt one);
     }
 
@@ -39,9 +38,8 @@ goes-back w marks path after f g n t c e i m p is =
     let pop = chain-pop w path f None c in
     let fits : Fits w marks (path ++ g ∷ []) = fits-swap w marks path f g e i t in
     let looked = looked-more w (joined w f.name) marks (path ++ f ∷ []) f.text g.text n t pop.1 m in
-    let chain : Chain w (path ++ g ∷ []) (Some n) =
-    chain-push w path g (Some n) (subst (λ k. Chain w path (Some k)) (sym e) pop.0)
-    (subst (λ k. Looked w (joined w k) g.text (Some n)) (sym e) looked) in
+    let chain : Chain w (path ++ g ∷ []) (Some n) = chain-push w path g (Some n) (subst (λ k. Chain w path (Some k))
+    (sym e) pop.0) (subst (λ k. Looked w (joined w k) g.text (Some n)) (sym e) looked) in
     record {
       fits = subst (Fits w marks) (sym p) fits;
       chain = subst (λ (ps : List Waiting). Chain w ps (Some n)) (sym p) chain;
@@ -58,9 +56,8 @@ pub goes-on : (w : Stored) (marks more : List Mark) (path mid after : List Waiti
 goes-on w marks more path mid after f g n t c e i m p x =
     let pop = chain-pop w path f None c in
     let looked = looked-more w (joined w f.name) marks (path ++ f ∷ []) f.text g.text n t pop.1 m in
-    let chain : Chain w (path ++ g ∷ []) (Some n) =
-    chain-push w path g (Some n) (subst (λ k. Chain w path (Some k)) (sym e) pop.0)
-    (subst (λ k. Looked w (joined w k) g.text (Some n)) (sym e) looked) in
+    let chain : Chain w (path ++ g ∷ []) (Some n) = chain-push w path g (Some n) (subst (λ k. Chain w path (Some k))
+    (sym e) pop.0) (subst (λ k. Looked w (joined w k) g.text (Some n)) (sym e) looked) in
     let long : after ≡ (path ++ g ∷ []) ++ x.top ∷ [] = x.long ∙ ap (λ (ps : List Waiting). ps ++ x.top ∷ []) p in
     let longer : Chain w ((path ++ g ∷ []) ++ x.top ∷ []) None =
     chain-push w (path ++ g ∷ []) x.top None (subst (λ k. Chain w (path ++ g ∷ []) (Some k)) (sym x.name) chain)
@@ -68,8 +65,7 @@ goes-on w marks more path mid after f g n t c e i m p x =
     record {
       fits = x.fits;
       chain = subst (λ (ps : List Waiting). Chain w ps None) (sym long) longer;
-      begins = λ k b.
-          subst (λ (ps : List Waiting). Begins w ps k) (sym long)
+      begins = λ k b. subst (λ (ps : List Waiting). Begins w ps k) (sym long)
           (begins-more w path g x.top k (begins-push w path f g k e b));
       back = tt;
       less = λ k. x.less;

@@ -99,8 +99,7 @@ and-right false b h = cc
 
 all-front : {X : Type 0} (p : X → Bool) (xs ys : List X) → list_all p (xs ++ ys) ≡ true → list_all p xs ≡ true
 all-front p [] ys h = refl
-all-front p (x ∷ xs) ys h =
-    ap (λ b. b && list_all p xs) (and-left (p x) (list_all p (xs ++ ys)) h)
+all-front p (x ∷ xs) ys h = ap (λ b. b && list_all p xs) (and-left (p x) (list_all p (xs ++ ys)) h)
     ∙ all-front p xs ys (and-right (p x) (list_all p (xs ++ ys)) h)
 
 all-back : {X : Type 0} (p : X → Bool) (xs ys : List X) → list_all p (xs ++ ys) ≡ true → list_all p ys ≡ true
@@ -117,9 +116,8 @@ Stands-pop w all fs f room more e r s =
     let d = s.depth in
     (record { owned = o.below; ranked = t.ranked; depth = omega arith; room = r ∙ s.room }, t, omega arith, o)
 
-pub Stands-push : (w : Stored) (all fs : List Frame) (f : Frame) (room more : ℕ) → all ≡ fs ++ f ∷ []
-    → more ≡ room → Stands w fs room → Top w (names w) fs f → length fs < names w + 1
-    → OnTop w (names w + 1) fs f → Stands w all more
+pub Stands-push : (w : Stored) (all fs : List Frame) (f : Frame) (room more : ℕ) → all ≡ fs ++ f ∷ [] → more ≡ room
+    → Stands w fs room → Top w (names w) fs f → length fs < names w + 1 → OnTop w (names w + 1) fs f → Stands w all more
 Stands-push w all fs f room more e r s t n o =
     let l = ap length e ∙ length-append fs (f ∷ []) in
     record {
@@ -151,10 +149,9 @@ list_work-first w k t ts =
     let f : Token → ℕ = token_work w (name_work w k) in
     let e : sum_by f (t ∷ ts) ≡ f t + sum_by f ts = sum_by-cons f t ts in omega (arith, e)
 
-pub advances : (w : Stored) (old fs new : List Frame) (f g : Frame) (t : Token)
-    → left w old ≡ left w (fs ++ f ∷ []) → work_of w (names w) (fs ++ f ∷ []) ≤ work_of w (names w) old
-    → suffix w f ≡ t ∷ suffix w g → AreBelow w (names w - length fs) (use_of w t)
-    → UsesLower w new t → new ≡ fs ++ g ∷ [] → Advances w old new t
+pub advances : (w : Stored) (old fs new : List Frame) (f g : Frame) (t : Token) → left w old ≡ left w (fs ++ f ∷ [])
+    → work_of w (names w) (fs ++ f ∷ []) ≤ work_of w (names w) old → suffix w f ≡ t ∷ suffix w g
+    → AreBelow w (names w - length fs) (use_of w t) → UsesLower w new t → new ≡ fs ++ g ∷ [] → Advances w old new t
 advances w old fs new f g t e m s b u is =
     let k = names w - length fs in
     let l : names w - length fs ≡ level w new = sym (ap (level w) is ∙ level-push w fs g) in

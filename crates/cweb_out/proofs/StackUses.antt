@@ -40,8 +40,7 @@ entered w fs new r m room more q rest s grows b lower e text a is =
     record {
       stands = Stands-push w new fs g room more is grows s top d on;
       enters = record {
-        left =
-            ap (left w) is ∙ left_of-push w (names w) fs g ∙ ap (λ n. expand w n (suffix w g) ++ left w fs) j
+        left = ap (left w) is ∙ left_of-push w (names w) fs g ∙ ap (λ n. expand w n (suffix w g) ++ left w fs) j
             ∙ ap (λ ts. expand w t.0 ts ++ left w fs) text ∙ ap (λ ts. ts ++ left w fs) (sym one);
         work = omega (arith, two, three, four);
       };

@@ -71,14 +71,12 @@ file_agrees s l (Punct b) = refl
 file_agrees s l Blank = refl
 file_agrees s l Newline = refl
 file_agrees s l Join = refl
-file_agrees s l Defs =
-    ap (λ (t : List ℕ). t ++ macro_lines s) (begin_by_class l)
+file_agrees s l Defs = ap (λ (t : List ℕ). t ++ macro_lines s) (begin_by_class l)
     ∙ sym (append-nil (begin_by (class_of l) ++ macro_lines s))
 file_agrees s l (Name r) = refl
 file_agrees s l (Head n) = refl
 file_agrees s l (Tail n) = refl
-file_agrees s l (Mark p) =
-    ap (λ (t : List ℕ). t ++ mark_line (file_name s p) p.line) (begin_by_class l)
+file_agrees s l (Mark p) = ap (λ (t : List ℕ). t ++ mark_line (file_name s p) p.line) (begin_by_class l)
     ∙ sym (append-nil (begin_by (class_of l) ++ mark_line (file_name s p) p.line))
 
 macro_agrees : (replaced : ℕ → List ℕ) → Agrees (λ left. macro_text replaced) (macro_by replaced)
@@ -123,15 +121,11 @@ printed_by text by agrees l joined [] = refl
 printed_by text by agrees l joined (t ∷ ts) =
     cases (λ m j. printed_by text by agrees m j ts) (joined && is_layout t) refl
   where
-    cases : ((m : Option Token) (j : Bool)
-        → print_after text m (kept j ts) ≡ all_added by (record { class = class_of m; joined = j }) ts)
-        → (b : Bool) → (joined && is_layout t) ≡ b
-        → print_after text l (cond b (kept (stays_joined joined t) ts) (t ∷ kept (stays_joined joined t) ts))
-        ≡ cond b [] (separator (class_of l) t ++ by (class_of l) t)
-        ++ all_added by
-        (cond b (record { class = class_of l; joined = joined })
-        (record { class = class_of (Some t); joined = stays_joined joined t }))
-        ts
+    cases : ((m : Option Token) (j : Bool) → print_after text m (kept j ts) ≡ all_added by
+        (record { class = class_of m; joined = j }) ts) → (b : Bool) → (joined && is_layout t) ≡ b → print_after text l
+        (cond b (kept (stays_joined joined t) ts) (t ∷ kept (stays_joined joined t) ts)) ≡ cond b [] (separator
+        (class_of l) t ++ by (class_of l) t) ++ all_added by (cond b (record { class = class_of l; joined = joined })
+        (record { class = class_of (Some t); joined = stays_joined joined t })) ts
     cases later true e =
         ap (λ j. print_after text l (kept j ts)) (layout_stays joined t (dropped_layout joined (is_layout t) e))
         ∙ later l joined
@@ -143,14 +137,11 @@ pub kept_by : (l : Option Token) (joined : Bool) (ts : List Token)
 kept_by l joined [] = refl
 kept_by l joined (t ∷ ts) = cases (λ m j. kept_by m j ts) (joined && is_layout t) refl
   where
-    cases : ((m : Option Token) (j : Bool)
-        → class_of (last_of m (kept j ts)) ≡ (fold left_by (record { class = class_of m; joined = j }) ts).class)
-        → (b : Bool) → (joined && is_layout t) ≡ b
-        → class_of (last_of l (cond b (kept (stays_joined joined t) ts) (t ∷ kept (stays_joined joined t) ts)))
-        ≡ (fold left_by
-        (cond b (record { class = class_of l; joined = joined })
-        (record { class = class_of (Some t); joined = stays_joined joined t }))
-        ts).class
+    cases : ((m : Option Token) (j : Bool) → class_of (last_of m (kept j ts))
+        ≡ (fold left_by (record { class = class_of m; joined = j }) ts).class) → (b : Bool) → (joined && is_layout t)
+        ≡ b → class_of (last_of l (cond b (kept (stays_joined joined t) ts) (t ∷ kept (stays_joined joined t) ts)))
+        ≡ (fold left_by (cond b (record { class = class_of l; joined = joined })
+        (record { class = class_of (Some t); joined = stays_joined joined t })) ts).class
     cases later true e =
         ap (λ j. class_of (last_of l (kept j ts))) (layout_stays joined t (dropped_layout joined (is_layout t) e))
         ∙ later l joined
@@ -159,10 +150,9 @@ kept_by l joined (t ∷ ts) = cases (λ m j. kept_by m j ts) (joined && is_layou
 pub added-append : (by : Class → Token → List ℕ) (left : Left) (xs ys : List Token)
     → all_added by left (xs ++ ys) ≡ all_added by left xs ++ all_added by (fold left_by left xs) ys
 added-append by left [] ys = refl
-added-append by left (x ∷ xs) ys =
-    ap (λ (t : List ℕ). added by left x ++ t) (added-append by (left_by left x) xs ys)
-    ∙ sym (append_assoc (added by left x) (all_added by (left_by left x) xs)
-    (all_added by (fold left_by (left_by left x) xs) ys))
+added-append by left (x ∷ xs) ys = ap (λ (t : List ℕ). added by left x ++ t) (added-append by (left_by left x) xs ys)
+    ∙ sym (append_assoc (added by left x)
+    (all_added by (left_by left x) xs) (all_added by (fold left_by (left_by left x) xs) ys))
 
 fold-append : (left : Left) (xs ys : List Token) → fold left_by left (xs ++ ys) ≡ fold left_by (fold left_by left xs) ys
 fold-append left [] ys = refl
@@ -171,8 +161,7 @@ fold-append left (x ∷ xs) ys = fold-append (left_by left x) xs ys
 -- one list is printed, and then another by what is kept of the first
 pub print-append : (s : Setting) (xs ys : List Token)
     → print s (xs ++ ys) ≡ print s xs ++ all_added (file_by s) (leaves xs) ys
-print-append s xs ys =
-    printed_by (file_text s) (file_by s) (file_agrees s) None false (xs ++ ys)
+print-append s xs ys = printed_by (file_text s) (file_by s) (file_agrees s) None false (xs ++ ys)
     ∙ added-append (file_by s) at_start xs ys
     ∙ ap (λ (t : List ℕ). t ++ all_added (file_by s) (leaves xs) ys)
     (sym (printed_by (file_text s) (file_by s) (file_agrees s) None false xs))
@@ -190,8 +179,7 @@ print-push s left ts t is =
 -- the end of a file
 pub file-end : (s : Setting) (left : Left) (ts : List Token)
     → leaves ts ≡ left → file s ts ≡ print s ts ++ begin_by left.class
-file-end s left ts is =
-    ap (λ (t : List ℕ). print s ts ++ t)
+file-end s left ts is = ap (λ (t : List ℕ). print s ts ++ t)
     (begin_by_class (left_after ts) ∙ ap begin_by (kept_by None false ts) ∙ ap (λ (l : Left). begin_by l.class) is)
 
 -- the tokens of a macro
@@ -202,6 +190,5 @@ macro-printed replaced ts =
 
 pub added-push : (by : Class → Token → List ℕ) (ts : List Token) (t : Token)
     → all_added by at_start (ts ++ t ∷ []) ≡ all_added by at_start ts ++ added by (leaves ts) t
-added-push by ts t =
-    added-append by at_start ts (t ∷ [])
+added-push by ts t = added-append by at_start ts (t ∷ [])
     ∙ ap (λ (u : List ℕ). all_added by at_start ts ++ u) (append-nil (added by (leaves ts) t))

@@ -28,10 +28,7 @@ slice_range-none ts a b e = let n : b - a ≡ 0 = omega arith in ap (λ n. take 
 
 -- a frame that has a run begins with that run's first token
 pub suffix-first : (w : Stored) (f : Frame) (t : Token) → f.defs ≡ false → f.part.first < f.part.after
-    → IsWithin w f → slice_get (all_tokens w.parts) f.part.first ≡ Some t →
-    suffix w f
-    ≡ t
-    ∷ suffix w
+    → IsWithin w f → slice_get (all_tokens w.parts) f.part.first ≡ Some t → suffix w f ≡ t ∷ suffix w
     (record {
       owner = f.owner;
       defs = f.defs;
@@ -39,21 +36,16 @@ pub suffix-first : (w : Stored) (f : Frame) (t : Token) → f.defs ≡ false →
       rest = f.rest;
     })
 suffix-first w f t d n k e =
-    let h =
-    slice_range-first (all_tokens w.parts) f.part.first f.part.after t n
-    k.part (slice_get-or (all_tokens w.parts) f.part.first t e) in
+    let h = slice_range-first
+    (all_tokens w.parts) f.part.first f.part.after t n k.part (slice_get-or (all_tokens w.parts) f.part.first t e) in
     ap (λ b. defs_first b ++ (run_tokens w f.part ++ runs_tokens w f.rest)) d
     ∙ ap (λ xs. xs ++ runs_tokens w f.rest) h
-    ∙ ap (λ b.
-    t
-    ∷ (defs_first b
-    ++ (slice_range (all_tokens w.parts) (f.part.first + 1) f.part.after ++ runs_tokens w f.rest)))
-    (sym d)
+    ∙ ap (λ b. t ∷ (defs_first b
+    ++ (slice_range (all_tokens w.parts) (f.part.first + 1) f.part.after ++ runs_tokens w f.rest))) (sym d)
 
 pub suffix-next : (w : Stored) (f : Frame) (q : Part) (more : List Part) → f.part.after ≤ f.part.first
     → f.rest ≡ q ∷ more → suffix w f ≡ suffix w (record { owner = f.owner; defs = f.defs; part = q; rest = more })
-suffix-next w f q more n e =
-    ap (λ xs. defs_first f.defs ++ (xs ++ runs_tokens w f.rest))
+suffix-next w f q more n e = ap (λ xs. defs_first f.defs ++ (xs ++ runs_tokens w f.rest))
     (slice_range-none (all_tokens w.parts) f.part.first f.part.after n)
     ∙ ap (λ ps. defs_first f.defs ++ runs_tokens w ps) e
 

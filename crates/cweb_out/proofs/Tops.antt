@@ -42,9 +42,8 @@ pub record TopMoved (w : Stored) (old new : List Frame) (t : Token) (room : ℕ)
   pub advances : Advances w old new t
 
 pub top_moved : (w : Stored) (n : ℕ) (old fs : List Frame) (f g : Frame) (t : Token) (room : ℕ)
-    → Stands w fs room → left w old ≡ left w fs → work_of w (names w) fs ≤ work_of w (names w) old
-    → HasTop n fs f → suffix w f ≡ t ∷ suffix w g → IsWithin w g
-    → g.owner ≡ f.owner → TopMoved w old (set fs (n - 1) g) t room
+    → Stands w fs room → left w old ≡ left w fs → work_of w (names w) fs ≤ work_of w (names w) old → HasTop n fs f
+    → suffix w f ≡ t ∷ suffix w g → IsWithin w g → g.owner ≡ f.owner → TopMoved w old (set fs (n - 1) g) t room
 top_moved w n old fs f g t room s e m h goes i o =
     let both : fs ≡ lower n fs ++ f ∷ [] = top_read n fs f h in
     let after : set fs (n - 1) g ≡ lower n fs ++ g ∷ [] = top_written n fs f g h in
@@ -55,9 +54,8 @@ top_moved w n old fs f g t room s e m h goes i o =
     ap (top_rank w (names w + 1)) after ∙ top_rank-push w (names w + 1) (lower n fs) g in
     record {
       stands = Stands-push w (set fs (n - 1) g) (lower n fs) g room room after refl p.0 q.0 p.2 v.0;
-      advances =
-          advances w old (lower n fs) (set fs (n - 1) g) f g t (e ∙ ap (left w) both)
-          (subst (λ k. k ≤ work_of w (names w) old) (ap (work_of w (names w)) both) m)
+      advances = advances w old (lower n fs) (set fs (n - 1) g) f g t
+          (e ∙ ap (left w) both) (subst (λ k. k ≤ work_of w (names w) old) (ap (work_of w (names w)) both) m)
           goes q.1 (subst (λ k. AreBelow w k (use_of w t)) (sym top) v.1) after;
     }
 

@@ -35,22 +35,17 @@ fits-push w marks path f t u l i =
             cc
         | inr e ↦ t.ranked n (sym (mark-other marks f.name n Waits e.1) ∙ h)
       ];
-      waits = λ n h.
-          ap (list_any (is_id n)) (path-push path f)
+      waits = λ n h. ap (list_any (is_id n)) (path-push path f)
           ∙ on-pushed (path_of path) n f.name ∙ elim (eqb_tells n.0 f.name.0) [
-            | inl e ↦
-                or-right (list_any (is_id n) (path_of path)) (is_id n f.name || false)
-                (or-left (is_id n f.name) false e.0)
-            | inr e ↦
-                or-left (list_any (is_id n) (path_of path)) (is_id n f.name || false)
-                (t.waits n (sym (mark-other marks f.name n Waits e.1) ∙ h))
+            | inl e ↦ or-right
+                (list_any (is_id n) (path_of path)) (is_id n f.name || false) (or-left (is_id n f.name) false e.0)
+            | inr e ↦ or-left (list_any (is_id n) (path_of path))
+                (is_id n f.name || false) (t.waits n (sym (mark-other marks f.name n Waits e.1) ∙ h))
           ];
       marked = λ n h. elim (eqb_tells n.0 f.name.0) [
         | inl e ↦ ap (mark_of (set marks f.name.0 Waits)) (same-id n f.name e.1) ∙ mark-same marks f.name Waits lt
-        | inr e ↦
-            mark-other marks f.name n Waits e.1
-            ∙ t.marked n
-            (elim (split-or (list_any (is_id n) (path_of path)) (is_id n f.name)
+        | inr e ↦ mark-other marks f.name n Waits e.1
+            ∙ t.marked n (elim (split-or (list_any (is_id n) (path_of path)) (is_id n f.name)
             (sym (on-pushed (path_of path) n f.name) ∙ ap (list_any (is_id n)) (sym (path-push path f)) ∙ h)) [
               | inl a ↦ a
               | inr b ↦ let bad : true ≡ false = sym b ∙ e.0 in cc
@@ -78,9 +73,8 @@ fits-pop w marks path f t l r =
             sym (mark-same marks f.name Ranked lt)
             ∙ ap (mark_of (set marks f.name.0 Ranked)) (sym (same-id n f.name e.1)) ∙ h in
             cc
-        | inr e ↦
-            elim (split-or (list_any (is_id n) (path_of path)) (is_id n f.name)
-            (sym (on-pushed (path_of path) n f.name) ∙ ap (list_any (is_id n)) (sym (path-push path f))
+        | inr e ↦ elim (split-or (list_any (is_id n) (path_of path))
+            (is_id n f.name) (sym (on-pushed (path_of path) n f.name) ∙ ap (list_any (is_id n)) (sym (path-push path f))
             ∙ t.waits n (sym (mark-other marks f.name n Ranked e.1) ∙ h))) [
               | inl a ↦ a
               | inr b ↦ let bad : true ≡ false = sym b ∙ e.0 in cc
@@ -91,8 +85,7 @@ fits-pop w marks path f t l r =
             let bad : true ≡ false =
             sym h ∙ ap (λ m. list_any (is_id m) (path_of path)) (same-id n f.name e.1) ∙ split.1 in
             cc
-        | inr e ↦
-            mark-other marks f.name n Ranked e.1
+        | inr e ↦ mark-other marks f.name n Ranked e.1
             ∙ t.marked n (ap (list_any (is_id n)) (path-push path f) ∙ on-front (path_of path) (f.name ∷ []) n h)
       ];
       new = split.0;
@@ -134,9 +127,8 @@ left-less marks n m l h = let e = sum_by-set marks_left marks n.0 m Unseen l in 
 
 -- what a name that waits looks like, first
 pub waited-fits : (w : Stored) (marks more : List Mark) (path longer : List Waiting) (n : NameId) (f : Waiting)
-    → Fits w marks path → mark_of marks n ≡ Unseen → n.0 < names w
-    → f.name ≡ n → IsWithin w f.text → suffix w f.text ≡ joined w n
-    → more ≡ set marks n.0 Waits → longer ≡ path ++ f ∷ [] → Waited w marks path n more longer
+    → Fits w marks path → mark_of marks n ≡ Unseen → n.0 < names w → f.name ≡ n → IsWithin w f.text → suffix w f.text
+    ≡ joined w n → more ≡ set marks n.0 Waits → longer ≡ path ++ f ∷ [] → Waited w marks path n more longer
 waited-fits w marks more path longer n f t u l e i s m p =
     let fits =
     fits-push w marks path f t (ap (mark_of marks) e ∙ u) (subst (λ (k : NameId). k.0 < names w) (sym e) l) i in
@@ -147,11 +139,9 @@ waited-fits w marks more path longer n f t u l e i s m p =
       top = f;
       name = e;
       long = p;
-      fits =
-          subst (λ (ms : List Mark). Fits w ms longer) (ap (λ (k : NameId). set marks k.0 Waits) e ∙ sym m)
+      fits = subst (λ (ms : List Mark). Fits w ms longer) (ap (λ (k : NameId). set marks k.0 Waits) e ∙ sym m)
           (subst (λ (ps : List Waiting). Fits w (set marks f.name.0 Waits) ps) (sym p) fits);
       looked = looked-start w (joined w n) f.text s;
-      less =
-          subst (λ (ms : List Mark). sum_by marks_left ms < sum_by marks_left marks)
+      less = subst (λ (ms : List Mark). sum_by marks_left ms < sum_by marks_left marks)
           (sym m) (left-less marks n Waits lt two);
     }

@@ -30,8 +30,7 @@ walks w seen (f ∷ path) again (suc k) le c a h e =
     let s : (seen ++ f.name ∷ []) ++ path_of path ≡ seen ++ path_of (f ∷ path) =
     append_assoc seen (f.name ∷ []) (path_of path) in
     let n = next-some path again in
-    let endless =
-    e n.0
+    let endless = e n.0
     (elim (next-on path again n.0 n.1) [
       | inl g ↦ inl g
       | inr g ↦ inr (or-right (is_id n.0 f.name) (list_any (is_id n.0) (path_of path)) g)
@@ -68,8 +67,7 @@ path-cycle w marks (f ∷ path) start again t c a b =
     let size : length (path_of (f ∷ path)) ≡ length (f ∷ path) = length-map (f ∷ path) (λ (g : Waiting). g.name) in
     let le = few (names w) (path_of (f ∷ path)) t.new (λ n h. top-name w marks (f ∷ path) n t h) in
     let fits : length (f ∷ path) ≤ names w = omega (arith, le, size) in
-    let steps =
-    walks w [] (f ∷ path) again (names w) fits c t.new a
+    let steps = walks w [] (f ∷ path) again (names w) fits c t.new a
     (λ n o. elim o [ inl e ↦ ap (has_rank w) e ∙ none (names w) again a | inr h ↦ none (names w) n h ]) in
     record {
       endless = λ k. none k start on;
@@ -81,12 +79,10 @@ abbrev pub from_first : NameId → List NameId → List NameId
 from_first n ns = drop (position_or_len (is_id n) ns) ns
 
 from-cons : (n m : NameId) (ns : List NameId) → from_first n (m ∷ ns) ≡ cond (is_id n m) (m ∷ ns) (from_first n ns)
-from-cons n m ns =
-    elim (is_id n m) as (λ b.
+from-cons n m ns = elim (is_id n m) as (λ b.
     drop (cond (not b) (1 + position_or_len (is_id n) ns) 0) (m ∷ ns) ≡ cond b (m ∷ ns) (from_first n ns)) [
       | true ↦ refl
-      | false ↦
-          (let e : 1 + position_or_len (is_id n) ns ≡ suc (position_or_len (is_id n) ns) = omega arith in
+      | false ↦ (let e : 1 + position_or_len (is_id n) ns ≡ suc (position_or_len (is_id n) ns) = omega arith in
           ap (λ k. drop k (m ∷ ns)) e)
     ]
 

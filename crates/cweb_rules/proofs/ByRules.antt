@@ -11,14 +11,7 @@ pub c_front-by : (effect : ℕ → Effect) (takes_sign includes : Bool) (t : Lis
     → c_front effect takes_sign includes t ≡ c_front_by effect takes_sign t (c_rule includes t)
 c_front-by effect takes_sign includes t =
     let f : Rule → Front = c_front_by effect takes_sign t in
-    by_test f (first_is is_blank t) _ _ _
-    (by_test f (first_is is_line_end t) _ _ _
-    (by_test f (begins (codes "/*") t) _ _ _
-    (by_test f (begins (codes "//") t) _ _ _
-    (by_test f (starts_section t) _ _ _
-    (by_test f (begins (codes "@") t) _ _ _
-    (by_test f (starts_raw t) _ _ _
-    (by_test f (starts_literal t) _ _ _
-    (by_test f (includes && starts_include t) _ _ _
-    (by_test f (starts_number t) _ _ _
-    (by_test f (first_is is_word_byte t) _ _ _ refl))))))))))
+    by_test f (first_is is_blank t) _ _ _ (by_test f (first_is is_line_end t) _ _ _ (by_test f (begins (codes "/*") t)
+    _ _ _ (by_test f (begins (codes "//") t) _ _ _ (by_test f (starts_section t) _ _ _ (by_test f (begins (codes "@") t)
+    _ _ _ (by_test f (starts_raw t) _ _ _ (by_test f (starts_literal t) _ _ _ (by_test f (includes && starts_include t)
+    _ _ _ (by_test f (starts_number t) _ _ _ (by_test f (first_is is_word_byte t) _ _ _ refl))))))))))

@@ -37,12 +37,10 @@ Coded t = (starts_section t ≡ false) × (begins (codes "@") t ≡ true)
 abbrev pub Facts : List ℕ → Rule → Type 0
 Facts t ForLiteral = Passed t × Opens t (starts_raw t)
 Facts t ForNumber = (Passed t × (starts_raw t ≡ false)) × (starts_literal t ≡ false) × (starts_number t ≡ true)
-Facts t ForWord =
-    (Passed t × (starts_raw t ≡ false)) × (starts_literal t ≡ false)
-    × (starts_number t ≡ false) × (first_is is_word_byte t ≡ true)
-Facts t ForPunct =
-    (Passed t × (starts_raw t ≡ false)) × (starts_literal t ≡ false)
-    × (starts_number t ≡ false) × (first_is is_word_byte t ≡ false)
+Facts t ForWord = (Passed t × (starts_raw t ≡ false)) ×
+    (starts_literal t ≡ false) × (starts_number t ≡ false) × (first_is is_word_byte t ≡ true)
+Facts t ForPunct = (Passed t × (starts_raw t ≡ false)) ×
+    (starts_literal t ≡ false) × (starts_number t ≡ false) × (first_is is_word_byte t ≡ false)
 Facts t ForCode = Coded t
 Facts t Other = Unit {0}
 
@@ -88,20 +86,11 @@ chosen t =
     let y3 = if begins (codes "//") t then line_comment_at t else y4 in
     let y2 = if begins (codes "/*") t then comment_at t else y3 in
     let y1 = if first_is is_line_end t then front LineEnd 1 else y2 in
-    choose P (first_is is_blank t)
-    (front Blanks (prefix_len is_blank t)) y1 (λ h. tt) (λ a.
-    choose P (first_is is_line_end t) (front LineEnd 1) y2 (λ h. tt) (λ b.
-    choose P (begins (codes "/*") t)
-    (comment_at t) y3 (λ h. tt) (λ c.
-    choose P (begins (codes "//") t)
-    (line_comment_at t) y4 (λ h. tt) (λ d.
-    choose P (starts_section t)
-    (section_at t) y5 (λ h.
-    choose P (begins (codes "@*") t) (front (Section true) 2)
-    (front (Section false) 1) (λ i. tt) (λ i. tt))
-    (λ e.
-    choose P (begins (codes "@") t) (code_at in_c false t)
-    y6 (λ h. code_facts t (e, h)) (λ f.
+    choose P (first_is is_blank t) (front Blanks (prefix_len is_blank t)) y1 (λ h. tt) (λ a. choose P
+    (first_is is_line_end t) (front LineEnd 1) y2 (λ h. tt) (λ b. choose P (begins (codes "/*") t) (comment_at t) y3
+    (λ h. tt) (λ c. choose P (begins (codes "//") t) (line_comment_at t) y4 (λ h. tt) (λ d. choose P (starts_section t)
+    (section_at t) y5 (λ h. choose P (begins (codes "@*") t) (front (Section true) 2) (front (Section false) 1) (λ i.
+    tt) (λ i. tt)) (λ e. choose P (begins (codes "@") t) (code_at in_c false t) y6 (λ h. code_facts t (e, h)) (λ f.
     let passed : Passed t =
     record {
       blank = a;
@@ -126,20 +115,13 @@ chosen t =
     (λ v. ((passed, w), q, m, v)))))))))))
 
 abbrev pub after_literals : List ℕ → Front
-after_literals t =
-    if starts_number t then front Numeral (number_len 0 t)
-    else (if first_is is_word_byte t then front Identifier (prefix_len is_word_byte t)
-    else front Punctuator (longest listed t))
+after_literals t = if starts_number t then front Numeral (number_len 0 t) else (if first_is
+    is_word_byte t then front Identifier (prefix_len is_word_byte t) else front Punctuator (longest listed t))
 
 abbrev pub after_passed : List ℕ → Front
 after_passed t = if starts_raw t then raw_at t else (if starts_literal t then literal_at t else after_literals t)
 
 pub passed_front : (t : List ℕ) → Passed t → c_front in_c false false t ≡ after_passed t
-passed_front t p =
-    λ i. if p.blank i then front Blanks (prefix_len is_blank t)
-    else (if p.line_end i then front LineEnd 1
-    else (if p.comment i then comment_at t
-    else (if p.line_comment i then line_comment_at t
-    else (if p.section i then section_at t
-    else (if p.code i then code_at in_c false t
-    else after_passed t)))))
+passed_front t p = λ i. if p.blank i then front Blanks (prefix_len is_blank t) else (if p.line_end
+    i then front LineEnd 1 else (if p.comment i then comment_at t else (if p.line_comment i then line_comment_at t else
+    (if p.section i then section_at t else (if p.code i then code_at in_c false t else after_passed t)))))

@@ -12,8 +12,7 @@ row-named : (col : Row → Effect) (rs : List Row) (l : ℕ) → col (row_of [] 
     → is_named (col (row_of rs l)) ≡ true → list_any (λ r. is_named (col r) && is_one_of r.letters l) rs ≡ true
 row-named col [] l none h = sym (ap is_named none) ∙ h
 row-named col (r ∷ rs) l none h =
-    (elim (is_one_of r.letters l) as (λ v.
-    is_named (col (if v then r else row_of rs l)) ≡ true
+    (elim (is_one_of r.letters l) as (λ v. is_named (col (if v then r else row_of rs l)) ≡ true
     → ((is_named (col r) && v) || list_any (λ r. is_named (col r) && is_one_of r.letters l) rs) ≡ true) [
       | true ↦ λ g. ap (λ v. (v && true) || list_any (λ r. is_named (col r) && is_one_of r.letters l) rs) g
       | false ↦ λ g. or_right (is_named (col r) && false) _ (row-named col rs l none g)
@@ -29,8 +28,7 @@ or_elim false b c h f g = g h
 
 -- letters in upper case are none of the two
 lowered : (n b : ℕ) → n < 97 → (n == lower b) ≡ true → (n == b) ≡ true
-lowered n b small h =
-    (elim (is_between 65 90 b)
+lowered n b small h = (elim (is_between 65 90 b)
     as (λ v. is_between 65 90 b ≡ v → (n == (if v then b + 32 else b)) ≡ true → (n == b) ≡ true) [
       | true ↦ λ e g.
           absurd (omega (arith, small, eqb-true n (b + 32) g, leb-true 65 b (both (nat_le 65 b) (nat_le b 90) e).0))
@@ -38,9 +36,8 @@ lowered n b small h =
     ]) refl h
 
 two : (b : ℕ) → ((60 == lower b) || ((40 == lower b) || false)) ≡ true → ((60 == b) || (40 == b)) ≡ true
-two b h =
-    or_elim (60 == lower b) ((40 == lower b) || false) _ h
-    (λ g. ap (λ v. v || (40 == b)) (lowered 60 b (omega arith) g))
+two b h = or_elim
+    (60 == lower b) ((40 == lower b) || false) _ h (λ g. ap (λ v. v || (40 == b)) (lowered 60 b (omega arith) g))
     (λ g. or_elim (40 == lower b) false _ g (λ k. or_true (60 == b) (40 == b) (lowered 40 b (omega arith) k)) (λ k. cc))
   where
     or_true : (a b : Bool) → b ≡ true → (a || b) ≡ true

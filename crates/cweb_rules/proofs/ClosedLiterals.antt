@@ -30,9 +30,8 @@ last_byte look false false false false x' p' b more h = cc
 
 further_byte : (look : List ℕ → Look) (q e x p : Bool) (b c : ℕ) (t more : List ℕ)
     → (at_front look (seen q e x p) (b ∷ c ∷ t) (c ∷ t)).how ≡ Closed
-    → ((k : ℕ) → (reach_in look Cut k (c ∷ t)).how ≡ Closed
-    → reach_in look Cut k (c ∷ t ++ more) ≡ reach_in look Cut k (c ∷ t))
-    → at_front look (seen q e x p) (b ∷ c ∷ t ++ more) (c ∷ t ++ more)
+    → ((k : ℕ) → (reach_in look Cut k (c ∷ t)).how ≡ Closed → reach_in look Cut
+    k (c ∷ t ++ more) ≡ reach_in look Cut k (c ∷ t)) → at_front look (seen q e x p) (b ∷ c ∷ t ++ more) (c ∷ t ++ more)
     ≡ at_front look (seen q e x p) (b ∷ c ∷ t) (c ∷ t)
 further_byte look true e x p b c t more h ih = refl
 further_byte look false true x p b c t more h ih = refl
@@ -53,8 +52,7 @@ closed_stays quote zero (b ∷ c ∷ t) more h =
     let look = look_in_literal quote in
     let u = b ∷ c ∷ t in
     further_byte look (begins (quote ∷ []) u) (at_line_end u) (begins (codes "\\@") u)
-    (begins (codes "\\") u || begins (codes "@@") u) b c t more h
-    (λ k g. closed_stays quote k (c ∷ t) more g)
+    (begins (codes "\\") u || begins (codes "@@") u) b c t more h (λ k g. closed_stays quote k (c ∷ t) more g)
 
 -- ITS PREFIX
 
@@ -63,10 +61,8 @@ either true b P h f g = f refl
 either false b P h f g = g h
 
 pub is_a_quote : (b : ℕ) (P : ℕ → Type 0) → is_quoted 0 (b ∷ []) ≡ true → P 34 → P 39 → P b
-is_a_quote b P h x y =
-    either ((34 == b) && true) ((39 == b) && true) (P b) h
-    (λ e. subst P (eqb-true 34 b (both (34 == b) true e).0) x)
-    (λ e. subst P (eqb-true 39 b (both (39 == b) true e).0) y)
+is_a_quote b P h x y = either ((34 == b) && true) ((39 == b) && true) (P b) h (λ e.
+    subst P (eqb-true 34 b (both (34 == b) true e).0) x) (λ e. subst P (eqb-true 39 b (both (39 == b) true e).0) y)
 
 abbrev prefix_of : Bool → Bool → ℕ
 prefix_of v w = if v then 2 else (if w then 1 else 0)
@@ -76,8 +72,7 @@ quote_first b t u h = is_a_quote b (λ n. literal_prefix (n ∷ t) ≡ literal_p
 
 prefix_one : (b : ℕ) (more : List ℕ) (c : ℕ) → is_quoted 0 (c ∷ []) ≡ true
     → literal_prefix (b ∷ c ∷ more) ≡ literal_prefix (b ∷ c ∷ [])
-prefix_one b more c h =
-    is_a_quote c (λ n. literal_prefix (b ∷ n ∷ more) ≡ literal_prefix (b ∷ n ∷ [])) h
+prefix_one b more c h = is_a_quote c (λ n. literal_prefix (b ∷ n ∷ more) ≡ literal_prefix (b ∷ n ∷ [])) h
     (ap (λ v. prefix_of (v && is_quoted 2 (b ∷ 34 ∷ more)) (is_letter_first (b ∷ []) && true)) (and_false (117 == b))
     ∙ sym (ap (λ v. prefix_of (v && false) (is_letter_first (b ∷ []) && true)) (and_false (117 == b))))
     (ap (λ v. prefix_of (v && is_quoted 2 (b ∷ 39 ∷ more)) (is_letter_first (b ∷ []) && true)) (and_false (117 == b))
@@ -103,11 +98,10 @@ prefix_stays b (c ∷ []) more h =
     let e : cond (is_letter_first t && is_quoted 1 t) (is_quoted 1 t) (is_quoted 0 t) ≡ true =
     sym (ap (λ v. cond v false (cond (is_letter_first t && is_quoted 1 t) (is_quoted 1 t) (is_quoted 0 t)))
     (and_false (begins (codes "u8") t)))
-    ∙ sym (opening t) ∙ h in
-    by_second (is_letter_first t) (is_quoted 1 t) (is_quoted 0 t)
-    (literal_prefix (b ∷ c ∷ more) ≡ literal_prefix (b ∷ c ∷ [])) e
-    (λ q. prefix_one b more c q)
-    (λ q. quote_first b (c ∷ more) (c ∷ []) q)
+    ∙ sym (opening t)
+    ∙ h in
+    by_second (is_letter_first t) (is_quoted 1 t) (is_quoted 0 t) (literal_prefix (b ∷ c ∷ more)
+    ≡ literal_prefix (b ∷ c ∷ [])) e (λ q. prefix_one b more c q) (λ q. quote_first b (c ∷ more) (c ∷ []) q)
 prefix_stays b (c ∷ e ∷ t) more h = refl
 
 -- THE WHOLE LITERAL
@@ -127,8 +121,7 @@ literal_with : (n : ℕ) (t more : List ℕ) → is_quoted n t ≡ true
     → quoted (n + 1) (inside n (t ++ more)) (t ++ more) ≡ quoted (n + 1) (inside n t) t
 literal_with n t more q closed within =
     let w = quote_within n t more q in
-    let same : inside n (t ++ more) ≡ inside n t =
-    ap (λ k. literal k (drop (n + 1) (t ++ more))) w.2
+    let same : inside n (t ++ more) ≡ inside n t = ap (λ k. literal k (drop (n + 1) (t ++ more))) w.2
     ∙ ap (literal (quote_of (drop n t))) (drop_over (n + 1) t more (omega (arith, w.0)))
     ∙ closed_stays (quote_of (drop n t)) 0 (drop (n + 1) t) more closed in
     ap (λ r. quoted (n + 1) r (t ++ more)) same ∙ quoted_stays (n + 1) (inside n t) t more within
@@ -172,9 +165,8 @@ after_u8 (b ∷ []) u q = cc
 after_u8 (b ∷ c ∷ []) u q = cc
 after_u8 (b ∷ c ∷ e ∷ t) u q =
     let h = both (117 == b) ((56 == c) && true) u in
-    let at : (n : ℕ) → starts_raw (117 ∷ 56 ∷ n ∷ t) ≡ false → starts_raw (b ∷ c ∷ n ∷ t) ≡ false =
-    λ n r.
-    subst (λ x. starts_raw (x ∷ c ∷ n ∷ t) ≡ false) (eqb-true 117 b h.0)
+    let at : (n : ℕ) → starts_raw (117 ∷ 56 ∷ n ∷ t) ≡ false
+    → starts_raw (b ∷ c ∷ n ∷ t) ≡ false = λ n r. subst (λ x. starts_raw (x ∷ c ∷ n ∷ t) ≡ false) (eqb-true 117 b h.0)
     (subst (λ y. starts_raw (117 ∷ y ∷ n ∷ t) ≡ false) (eqb-true 56 c (both (56 == c) true h.1).0) r) in
     is_a_quote e (λ n. starts_raw (b ∷ c ∷ n ∷ t) ≡ false) q (at 34 refl) (at 39 refl)
 
@@ -183,10 +175,9 @@ after_letter [] l q = cc
 after_letter (b ∷ []) l q = cc
 after_letter (b ∷ c ∷ t) l q =
     let P : ℕ → ℕ → Type 0 = λ x y. starts_raw (x ∷ y ∷ t) ≡ false in
-    let at : (y : ℕ) → P 76 y → P 117 y → P 85 y → P b y =
-    λ y m n o. either (((76 == b) && true) || ((117 == b) && true)) ((85 == b) && true) (P b y) l
-    (λ e. either ((76 == b) && true) ((117 == b) && true) (P b y) e
-    (λ f. subst (λ x. P x y) (eqb-true 76 b (both (76 == b) true f).0) m)
+    let at : (y : ℕ) → P 76 y → P 117 y → P 85 y → P b y = λ y m n o.
+    either (((76 == b) && true) || ((117 == b) && true)) ((85 == b) && true) (P b y) l (λ e. either ((76 == b) && true)
+    ((117 == b) && true) (P b y) e (λ f. subst (λ x. P x y) (eqb-true 76 b (both (76 == b) true f).0) m)
     (λ f. subst (λ x. P x y) (eqb-true 117 b (both (117 == b) true f).0) n))
     (λ e. subst (λ x. P x y) (eqb-true 85 b (both (85 == b) true e).0) o) in
     is_a_quote c (P b) q (at 34 refl refl refl) (at 39 refl refl refl)
@@ -196,10 +187,8 @@ after_quote [] q = cc
 after_quote (b ∷ t) q = quote_no_raw b t q
 
 literal_not_raw : (t : List ℕ) → starts_literal t ≡ true → starts_raw t ≡ false
-literal_not_raw t h =
-    by_prefix (begins (codes "u8") t) (is_letter_first t) (is_quoted 2 t)
-    (is_quoted 1 t) (is_quoted 0 t) (starts_raw t ≡ false) (sym (opening t) ∙ h)
-    (after_u8 t) (after_letter t) (after_quote t)
+literal_not_raw t h = by_prefix (begins (codes "u8") t) (is_letter_first t) (is_quoted 2 t) (is_quoted 1 t)
+    (is_quoted 0 t) (starts_raw t ≡ false) (sym (opening t) ∙ h) (after_u8 t) (after_letter t) (after_quote t)
 
 -- a literal that isn't raw doesn't become raw: its prefix ends in a quote
 pub literal_stays_whole : (b : ℕ) (t more : List ℕ) → Passed (b ∷ t)

@@ -45,6 +45,5 @@ singles (b ∷ x) = ap (λ t. b ∷ t) (singles x)
 -- a comment of quiet bytes is read alike, whatever follows
 pub comment_front : (x more : List ℕ) → list_all is_quiet x ≡ true
     → c_front in_c false false (47 ∷ 42 ∷ x ++ 42 ∷ 47 ∷ more) ≡ front (Comment Closed) (2 + (length x + 2))
-comment_front x more h =
-    ap (λ r. front (Comment r.how) (2 + size_of r)) (comment_ends x more h)
+comment_front x more h = ap (λ r. front (Comment r.how) (2 + size_of r)) (comment_ends x more h)
     ∙ ap (λ t. front (Comment Closed) (2 + (length t + 2))) (singles x)

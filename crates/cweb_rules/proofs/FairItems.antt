@@ -15,10 +15,9 @@ choose c t true x y f g = f refl
 choose c t false x y f g = g refl
 
 pub section_at-fair : (c : Context) (b : ℕ) (t : List ℕ) → Fair c (b ∷ t) (section_at (b ∷ t))
-section_at-fair c b t =
-    choose c (b ∷ t) (begins (codes "@*") (b ∷ t)) (front (Section true) 2) (front (Section false) 1)
-    (λ h. fair_of c (b ∷ t) (Section true) 2 (omega arith) (begins-size (codes "@*") (b ∷ t) h) (λ e. omega (arith, e)))
-    (λ h. fair_of c (b ∷ t) (Section false) 1 (omega arith) (omega arith) (λ e. omega (arith, e)))
+section_at-fair c b t = choose c (b ∷ t) (begins (codes "@*") (b ∷ t)) (front (Section true) 2) (front (Section false)
+    1) (λ h. fair_of c (b ∷ t) (Section true) 2 (omega arith) (begins-size (codes "@*") (b ∷ t) h) (λ e.
+    omega (arith, e))) (λ h. fair_of c (b ∷ t) (Section false) 1 (omega arith) (omega arith) (λ e. omega (arith, e)))
 
 pub skipped-fair : (c : Context) (b : ℕ) (t : List ℕ) → Fair c (b ∷ t) (front Skipped 1)
 skipped-fair c b t = fair_of c (b ∷ t) Skipped 1 (omega arith) (omega arith) (λ e. tt)
@@ -67,10 +66,8 @@ module _ (c : Context) (a b : ℕ) (u : List ℕ) where
   letter_is-fair (Some l) h =
       let n = 2 + (l.start + l.size) in
       let text = take l.size (drop (2 + l.start) t) in
-      fair_of c t _ n (omega arith) (omega (arith, h))
-      (λ e.
-      text_pays l.byte (nat_le l.size 31) text (take n t)
-      (omega (arith, e, take-at_most l.size (drop (2 + l.start) t))))
+      fair_of c t _ n (omega arith) (omega (arith, h)) (λ e. text_pays l.byte
+      (nat_le l.size 31) text (take n t) (omega (arith, e, take-at_most l.size (drop (2 + l.start) t))))
 
   letter_at-fair : Fair c t (letter_at t)
   letter_at-fair = letter_is-fair (letter u) (letter-size u)
@@ -113,19 +110,15 @@ code_at-fair c effect takes_sign a (b ∷ u) = code_front-fair c a b u (effect b
 
 pub text_front-fair : (c : Context) (effect : ℕ → Effect) (b : ℕ) (t : List ℕ)
     → Fair c (b ∷ t) (text_front effect (b ∷ t))
-text_front-fair c effect b t =
-    choose c (b ∷ t) (starts_section (b ∷ t)) _ _ (λ h. section_at-fair c b t)
-    (λ h.
-    choose c (b ∷ t) (begins (codes "@") (b ∷ t)) _ _
-    (λ k. code_at-fair c effect true b t) (λ k. skipped-fair c b t))
+text_front-fair c effect b t = choose c (b ∷ t) (starts_section (b ∷ t)) _ _ (λ h. section_at-fair c b t) (λ h.
+    choose c (b ∷ t) (begins (codes "@") (b ∷ t)) _ _ (λ k. code_at-fair c effect true b t) (λ k. skipped-fair c b t))
 
 -- COMMENTS
 
 ends-size : (t : List ℕ) → at_line_ends 1 t ≤ length t
 ends-size [] = omega arith
-ends-size (b ∷ t) =
-    elim (is_line_end b) as (λ v. (if v then 1 + at_line_ends 1 t else at_line_ends 1 t) ≤ length (b ∷ t))
-    [ true ↦ omega (arith, ends-size t) | false ↦ omega (arith, ends-size t) ]
+ends-size (b ∷ t) = elim (is_line_end b) as (λ v. (if v then 1 + at_line_ends 1 t else at_line_ends 1 t) ≤ length
+    (b ∷ t)) [ true ↦ omega (arith, ends-size t) | false ↦ omega (arith, ends-size t) ]
 
 comment_pays : (n b : ℕ) (t : List ℕ) → 0 < n → is_line_end b ≡ false
     → at_line_ends 1 (take n (b ∷ t)) + 1 ≤ length (take n (b ∷ t))
@@ -139,8 +132,7 @@ comment_pays (suc n) b t some h =
 
 pub commented : (c : Context) (how : End) (b : ℕ) (t : List ℕ) (r : Reach) → is_line_end b ≡ false → 2 ≤ length (b ∷ t)
     → size_of r ≤ length (drop 2 (b ∷ t)) → Fair c (b ∷ t) (front (Comment how) (2 + size_of r))
-commented c how b t r h two within =
-    fair_of c (b ∷ t) (Comment how) (2 + size_of r) (omega arith)
+commented c how b t r h two within = fair_of c (b ∷ t) (Comment how) (2 + size_of r) (omega arith)
     (omega (arith, two, within, length-drop 2 (b ∷ t))) (λ e. comment_pays (2 + size_of r) b t (omega arith) h)
 
 -- LITERALS
@@ -173,9 +165,8 @@ one_of false b n h f g = g h
 
 is_quoted-size : (n : ℕ) (t : List ℕ) → is_quoted n t ≡ true → n + 1 ≤ length t
 is_quoted-size n t h =
-    let some =
-    one_of (begins (codes "\"") (drop n t)) (begins (codes "'") (drop n t)) (length (drop n t))
-    h (begins-size (codes "\"") (drop n t)) (begins-size (codes "'") (drop n t)) in
+    let some = one_of (begins (codes "\"") (drop n t)) (begins (codes "'") (drop n t))
+    (length (drop n t)) h (begins-size (codes "\"") (drop n t)) (begins-size (codes "'") (drop n t)) in
     omega (arith, some, length-drop n t)
 
 pub literal_at-fair : (c : Context) (t : List ℕ) → starts_literal t ≡ true → Fair c t (literal_at t)
@@ -195,13 +186,11 @@ raw_at-fair c t h =
     let m = raw_prefix t + 2 in
     let n = m + length (delimiter (drop m t)) + 1 in
     let sign = closing_sign (drop m t) in
-    let some =
-    has_delimiter-size (drop m t)
-    (and_right (begins (codes "R\"") (drop (raw_prefix t) t)) (has_delimiter (drop m t)) h) in
-    quoted-fair c t n (raw_literal sign (drop n t)) (omega arith) (omega (arith, some, length-drop m t))
-    (reach-size (look_in_raw sign) Cut (raw-within sign) (drop n t))
+    let some = has_delimiter-size
+    (drop m t) (and_right (begins (codes "R\"") (drop (raw_prefix t) t)) (has_delimiter (drop m t)) h) in
+    quoted-fair c t n (raw_literal sign (drop n t)) (omega arith)
+    (omega (arith, some, length-drop m t)) (reach-size (look_in_raw sign) Cut (raw-within sign) (drop n t))
 
 pub include_at-fair : (c : Context) (b : ℕ) (t : List ℕ) → Fair c (b ∷ t) (include_at (b ∷ t))
-include_at-fair c b t =
-    quoted-fair c (b ∷ t) 1 (included_name t) (omega arith)
-    (omega arith) (reach-size look_in_include Cut include-within t)
+include_at-fair c b t = quoted-fair c
+    (b ∷ t) 1 (included_name t) (omega arith) (omega arith) (reach-size look_in_include Cut include-within t)

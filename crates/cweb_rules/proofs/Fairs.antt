@@ -23,12 +23,9 @@ or_right true b h = refl
 or_right false b h = h
 
 digit_goes : (last b : ℕ) → is_digit b ≡ true → goes_on_number last b ≡ true
-digit_goes last b h =
-    or_left (is_word_byte b || (b == 46)) _
-    (or_left (is_word_byte b) (b == 46)
-    (or_left (is_letter b || is_digit b || is_one_of (codes "_$") b) (nat_le 128 b)
-    (or_left (is_letter b || is_digit b) (is_one_of (codes "_$") b)
-    (or_right (is_letter b) (is_digit b) h))))
+digit_goes last b h = or_left (is_word_byte b || (b == 46)) _
+    (or_left (is_word_byte b) (b == 46) (or_left (is_letter b || is_digit b || is_one_of (codes "_$") b) (nat_le 128 b)
+    (or_left (is_letter b || is_digit b) (is_one_of (codes "_$") b) (or_right (is_letter b) (is_digit b) h))))
 
 dot_goes : (last b : ℕ) → (b == 46) ≡ true → goes_on_number last b ≡ true
 dot_goes last b h = or_left (is_word_byte b || (b == 46)) _ (or_right (is_word_byte b) (b == 46) h)
@@ -59,62 +56,30 @@ number-fair c b t h =
 pub c_front-fair : (c : Context) (effect : ℕ → Effect) (takes_sign includes : Bool) (b : ℕ) (t : List ℕ)
     → Fair c (b ∷ t) (c_front effect takes_sign includes (b ∷ t))
 c_front-fair c effect takes_sign includes b t =
-    choose c (b ∷ t) (is_blank b) _ _ (λ h. run-fair c Blanks is_blank b t h (λ e. e))
-    (λ h0.
-    choose c (b ∷ t) (is_line_end b) _ _
-    (λ h. fair_of c (b ∷ t) LineEnd 1 (omega arith) (omega arith) (λ e. omega (arith, e)))
-    (λ no_end.
-    choose c (b ∷ t) (begins (codes "/*") (b ∷ t)) _ _ (λ h.
-    commented c _ b t (comment (drop 2 (b ∷ t))) no_end (begins-size (codes "/*") (b ∷ t) h)
-    (reach-size (look_in_comment (begins (codes "*/")) 2) Cut
-    (comment-within (begins (codes "*/")) 2 (begins-size (codes "*/"))) (drop 2 (b ∷ t))))
-    (λ h2.
-    choose c (b ∷ t) (begins (codes "//") (b ∷ t)) _ _ (λ h.
-    commented c _ b t (line_comment (drop 2 (b ∷ t)))
-    no_end (begins-size (codes "//") (b ∷ t) h)
-    (reach-size (look_in_comment at_line_end 0) Closed
-    (comment-within at_line_end 0 (λ w k. omega arith)) (drop 2 (b ∷ t))))
-    (λ h3.
-    choose c (b ∷ t) (starts_section (b ∷ t))
-    _ _ (λ h. section_at-fair c b t) (λ h4.
-    choose c (b ∷ t) (begins (codes "@") (b ∷ t)) _ _
-    (λ h. code_at-fair c effect takes_sign b t)
-    (λ h5.
-    choose c (b ∷ t) (starts_raw (b ∷ t)) _ _ (λ h. raw_at-fair c (b ∷ t) h)
-    (λ h5r.
-    choose c (b ∷ t) (starts_literal (b ∷ t))
-    _ _ (λ h. literal_at-fair c (b ∷ t) h)
-    (λ h6.
-    choose c (b ∷ t) (includes && starts_include (b ∷ t))
-    _ _ (λ h. include_at-fair c b t)
-    (λ h7.
-    choose c (b ∷ t) (starts_number (b ∷ t))
-    _ _ (λ h. number-fair c b t h)
-    (λ h8.
-    choose c (b ∷ t) (is_word_byte b) _ _
-    (λ h.
-    run-fair c Identifier
-    is_word_byte b t h (λ e. e))
-    (λ h9.
-    fair_of c (b ∷ t) Punctuator
-    (longest listed (b ∷ t))
-    (longest-some listed
-    (b ∷ t))
-    (longest-size listed b t)
-    (λ e.
+    choose c (b ∷ t) (is_blank b) _ _ (λ h. run-fair c Blanks is_blank b t h (λ e. e)) (λ h0. choose c
+    (b ∷ t) (is_line_end b) _ _ (λ h. fair_of c (b ∷ t) LineEnd 1 (omega arith) (omega arith) (λ e. omega (arith, e)))
+    (λ no_end. choose c (b ∷ t) (begins (codes "/*") (b ∷ t)) _ _ (λ h. commented c _ b t (comment (drop 2 (b ∷ t)))
+    no_end (begins-size (codes "/*") (b ∷ t) h) (reach-size (look_in_comment (begins (codes "*/")) 2) Cut
+    (comment-within (begins (codes "*/")) 2 (begins-size (codes "*/"))) (drop 2 (b ∷ t)))) (λ h2. choose c (b ∷ t)
+    (begins (codes "//") (b ∷ t)) _ _ (λ h. commented c _ b t (line_comment (drop 2 (b ∷ t))) no_end (begins-size
+    (codes "//") (b ∷ t) h) (reach-size (look_in_comment at_line_end 0) Closed (comment-within at_line_end 0 (λ w k.
+    omega arith)) (drop 2 (b ∷ t)))) (λ h3. choose c (b ∷ t) (starts_section (b ∷ t)) _ _ (λ h. section_at-fair c b t)
+    (λ h4. choose c (b ∷ t) (begins (codes "@") (b ∷ t)) _ _ (λ h. code_at-fair c effect takes_sign b t) (λ h5. choose c
+    (b ∷ t) (starts_raw (b ∷ t)) _ _ (λ h. raw_at-fair c (b ∷ t) h) (λ h5r. choose c (b ∷ t) (starts_literal (b ∷ t))
+    _ _ (λ h. literal_at-fair c (b ∷ t) h) (λ h6. choose c (b ∷ t) (includes && starts_include (b ∷ t)) _ _
+    (λ h. include_at-fair c b t) (λ h7. choose c (b ∷ t) (starts_number (b ∷ t)) _ _ (λ h. number-fair c b t h)
+    (λ h8. choose c (b ∷ t) (is_word_byte b) _ _ (λ h. run-fair c Identifier is_word_byte b t h (λ e. e)) (λ h9.
+    fair_of c (b ∷ t) Punctuator (longest listed (b ∷ t)) (longest-some listed (b ∷ t)) (longest-size listed b t) (λ e.
     omega (
       arith,
       e,
-      longest-some
-          listed
-          (b
+      longest-some listed (b
           ∷ t),
     )))))))))))))
 
 macro_front-fair : (c : Context) (b : ℕ) (t : List ℕ) → Fair c (b ∷ t) (macro_front (b ∷ t))
-macro_front-fair c b t =
-    choose c (b ∷ t) (begins (codes "\\") (b ∷ t) && at_line_end (drop 1 (b ∷ t)))
-    _ _ (λ h. skipped-fair c b t) (λ h. c_front-fair c in_macro true false b t)
+macro_front-fair c b t = choose c (b ∷ t) (begins (codes "\\") (b ∷ t) && at_line_end (drop 1 (b ∷ t))) _ _
+    (λ h. skipped-fair c b t) (λ h. c_front-fair c in_macro true false b t)
 
 head_as-fair : (begun : Place) (k : Kind) (n : ℕ) (b : ℕ) (t : List ℕ)
     → Fair (Definition begun) (b ∷ t) (front k n) → Fair (Definition begun) (b ∷ t) (head_as k (front k n) (b ∷ t))

@@ -35,9 +35,8 @@ module _ (b : ℕ) (settled : is_settled b ≡ true) where
       ap (λ v. v || is_one_of set b) (differ x p.0) ∙ none set p.1
 
   no_digit : is_digit b ≡ false
-  no_digit =
-      last_false (is_one_of (32 ∷ 9 ∷ 13 ∷ 11 ∷ 12 ∷ 10 ∷ []) b || is_one_of (codes "/@RLuU\"'<.") b)
-      (is_digit b) settled
+  no_digit = last_false
+      (is_one_of (32 ∷ 9 ∷ 13 ∷ 11 ∷ 12 ∷ 10 ∷ []) b || is_one_of (codes "/@RLuU\"'<.") b) (is_digit b) settled
 
   no_section : (t : List ℕ) → starts_section (b ∷ t) ≡ false
   no_section [] = differ_back 64 refl
@@ -47,21 +46,17 @@ module _ (b : ℕ) (settled : is_settled b ≡ true) where
   no_sign x s t h = ap (λ v. v && begins s t) (differ x h)
 
   no_raw_prefix : (t : List ℕ) → raw_prefix (b ∷ t) ≡ 0
-  no_raw_prefix t = λ i.
-      if no_sign 117 (codes "8R\"") t refl i then 2
-      else (if no_sign 76 (codes "R\"") t refl i
+  no_raw_prefix t = λ i. if no_sign 117 (codes "8R\"") t refl i then 2 else (if no_sign 76 (codes "R\"") t refl i
       || no_sign 117 (codes "R\"") t refl i || no_sign 85 (codes "R\"") t refl i then 1 else 0)
 
   no_raw : (t : List ℕ) → starts_raw (b ∷ t) ≡ false
-  no_raw t =
-      ap (λ n. begins (codes "R\"") (drop n (b ∷ t)) && has_delimiter (drop (n + 2) (b ∷ t))) (no_raw_prefix t)
+  no_raw t = ap (λ n. begins (codes "R\"") (drop n (b ∷ t)) && has_delimiter (drop (n + 2) (b ∷ t))) (no_raw_prefix t)
       ∙ ap (λ v. v && has_delimiter (drop (0 + 2) (b ∷ t))) (no_sign 82 (codes "\"") t refl)
 
   no_prefix : (t : List ℕ) → literal_prefix (b ∷ t) ≡ 0
-  no_prefix t = λ i.
-      if no_sign 117 (codes "8") t refl i && is_quoted 2 (b ∷ t) then 2
-      else (if (no_sign 76 [] t refl i || no_sign 117 [] t refl i || no_sign 85 [] t refl i) && is_quoted 1 (b ∷ t)
-      then 1 else 0)
+  no_prefix t = λ i. if no_sign 117 (codes "8") t refl i && is_quoted 2
+      (b ∷ t) then 2 else (if (no_sign 76 [] t refl i || no_sign 117 [] t refl i || no_sign 85 [] t refl i)
+      && is_quoted 1 (b ∷ t) then 1 else 0)
 
   no_literal : (t : List ℕ) → starts_literal (b ∷ t) ≡ false
   no_literal t = ap (λ n. is_quoted n (b ∷ t)) (no_prefix t) ∙ (λ i. no_sign 34 [] t refl i || no_sign 39 [] t refl i)
@@ -76,19 +71,12 @@ module _ (b : ℕ) (settled : is_settled b ≡ true) where
 
   pub settled-rule : (includes : Bool) (t : List ℕ)
       → c_rule includes (b ∷ t) ≡ (if is_word_byte b then rule.Identifier else rule.Punctuator)
-  settled-rule includes t = λ i.
-      if none (32 ∷ 9 ∷ 13 ∷ 11 ∷ 12 ∷ []) refl i then rule.Blanks
-      else (if differ_back 10 refl i then rule.LineEnd
-      else (if no_sign 47 (codes "*") t refl i then rule.Comment
-      else (if no_sign 47 (codes "/") t refl i then rule.LineComment
-      else (if no_section t i then rule.Section
-      else (if no_sign 64 [] t refl i then rule.Code
-      else (if no_raw t i then rule.RawLiteral
-      else (if no_literal t i then rule.Literal
-      else (if no_include includes t i then rule.IncludedName
-      else (if no_number t i then rule.Number
-      else (if is_word_byte b then rule.Identifier
-      else rule.Punctuator))))))))))
+  settled-rule includes t = λ i. if none (32 ∷ 9 ∷ 13 ∷ 11 ∷ 12 ∷ []) refl i then rule.Blanks else
+      (if differ_back 10 refl i then rule.LineEnd else (if no_sign 47 (codes "*") t refl i then rule.Comment else
+      (if no_sign 47 (codes "/") t refl i then rule.LineComment else (if no_section t i then rule.Section else
+      (if no_sign 64 [] t refl i then rule.Code else (if no_raw t i then rule.RawLiteral else
+      (if no_literal t i then rule.Literal else (if no_include includes t i then rule.IncludedName else
+      (if no_number t i then rule.Number else (if is_word_byte b then rule.Identifier else rule.Punctuator))))))))))
 
 if_true : (v : Bool) (x y : Rule) → v ≡ true → (if v then x else y) ≡ x
 if_true true x y e = refl
@@ -104,8 +92,7 @@ IsTold includes t first.Open = Unit {0}
 told-settled : (includes : Bool) (b : ℕ) (t : List ℕ) → is_settled b ≡ true
     → IsTold includes (b ∷ t) (if is_word_byte b then first.Word else first.Sign)
 told-settled includes b t settled =
-    (elim (is_word_byte b) as (λ v.
-    c_rule includes (b ∷ t) ≡ (if v then rule.Identifier else rule.Punctuator)
+    (elim (is_word_byte b) as (λ v. c_rule includes (b ∷ t) ≡ (if v then rule.Identifier else rule.Punctuator)
     → IsTold includes (b ∷ t) (if v then first.Word else first.Sign)) [
       | true ↦ λ e. sym e
       | false ↦ λ e. sym e
@@ -113,20 +100,14 @@ told-settled includes b t settled =
 
 told-unblank : (includes : Bool) (b : ℕ) (t : List ℕ)
     → IsTold includes (b ∷ t) (if is_settled b then (if is_word_byte b then first.Word else first.Sign) else first.Open)
-told-unblank includes b t =
-    (elim (is_settled b) as (λ v.
-    is_settled b ≡ v
+told-unblank includes b t = (elim (is_settled b) as (λ v. is_settled b ≡ v
     → IsTold includes (b ∷ t) (if v then (if is_word_byte b then first.Word else first.Sign) else first.Open)) [
       | true ↦ λ e. told-settled includes b t e
       | false ↦ λ e. tt
     ]) refl
 
 pub lead-told : (includes : Bool) (b : ℕ) (t : List ℕ) → IsTold includes (b ∷ t) (lead b)
-lead-told includes b t =
-    (elim (is_blank b) as (λ v.
-    is_blank b ≡ v
-    → IsTold includes (b ∷ t)
-    (if v then first.Blank
+lead-told includes b t = (elim (is_blank b) as (λ v. is_blank b ≡ v → IsTold includes (b ∷ t) (if v then first.Blank
     else (if is_settled b then (if is_word_byte b then first.Word else first.Sign) else first.Open))) [
       | true ↦ λ e. sym (if_true (is_blank b) rule.Blanks _ e)
       | false ↦ λ e. told-unblank includes b t
@@ -139,16 +120,14 @@ told-at includes (b ∷ t) r h e = subst (IsTold includes (b ∷ t)) (sym e) (le
 
 -- what the byte behind a `/` or a `.` leaves of the rules
 slash_left : (a b includes : Bool)
-    → (if a then rule.Comment else (if b then rule.LineComment else rule.Punctuator))
-    ≡ (if a && true then rule.Comment
+    → (if a then rule.Comment else (if b then rule.LineComment else rule.Punctuator)) ≡ (if a && true then rule.Comment
     else (if b && true then rule.LineComment else (if includes && false then rule.IncludedName else rule.Punctuator)))
 slash_left true b includes = refl
 slash_left false true includes = refl
 slash_left false false true = refl
 slash_left false false false = refl
 
-dot_left : (a includes : Bool)
-    → (if a then rule.Number else rule.Punctuator)
+dot_left : (a includes : Bool) → (if a then rule.Number else rule.Punctuator)
     ≡ (if includes && false then rule.IncludedName else (if a then rule.Number else rule.Punctuator))
 dot_left a true = refl
 dot_left a false = refl

@@ -52,9 +52,8 @@ IsLine-drop (suc n) [] h = tt
 IsLine-drop (suc n) (b ∷ t) h = IsLine-drop n t h.1
 
 section-stands : (t : List ℕ) → IsLine t → Stands t (section_at t)
-section-stands t h =
-    choose t (begins (codes "@*") t) (front (Section true) 2)
-    (front (Section false) 1) (λ v. IsLine-take 2 t h) (λ v. IsLine-take 1 t h)
+section-stands t h = choose t (begins (codes "@*") t)
+    (front (Section true) 2) (front (Section false) 1) (λ v. IsLine-take 2 t h) (λ v. IsLine-take 1 t h)
 
 letter-stands : (o : Option Transliteration) (t : List ℕ) → IsLine t → Stands t (letter_is o t)
 letter-stands None t h = IsLine-take 2 t h
@@ -82,8 +81,7 @@ code_at-stands effect takes_sign (a ∷ []) h = h
 code_at-stands effect takes_sign (a ∷ b ∷ t) h = code-stands (effect b) takes_sign (a ∷ b ∷ t) h
 
 pub text-stands : (effect : ℕ → Effect) (t : List ℕ) → IsLine t → Stands t (text_front effect t)
-text-stands effect t h =
-    choose t (starts_section t) _ _ (λ v. section-stands t h)
+text-stands effect t h = choose t (starts_section t) _ _ (λ v. section-stands t h)
     (λ v. choose t (begins (codes "@") t) _ _ (λ w. code_at-stands effect true t h) (λ w. IsLine-take 1 t h))
 
 lines-append : (us : List (List ℕ)) (u : List ℕ) → AreLines us → IsLine u → AreLines (us ++ u ∷ [])
@@ -104,44 +102,18 @@ pub c-stands : (effect : ℕ → Effect) (takes_sign includes : Bool) (b : ℕ) 
     → IsLine (b ∷ t) → Stands (b ∷ t) (c_front effect takes_sign includes (b ∷ t))
 c-stands effect takes_sign includes b t h =
     let u = b ∷ t in
-    choose u (is_blank b) _ _ (λ v. IsLine-take (prefix_len is_blank u) u h)
-    (λ v0.
-    choose u (is_line_end b) _ _
-    (λ v. let f : true ≡ false = sym v ∙ ne_eqb b 10 h.0 in cc) (λ v1.
-    choose u (begins (codes "/*") u) _ _
-    (λ v. IsLine-take (comment_at u).size u h) (λ v2.
-    choose u (begins (codes "//") u) _ _
-    (λ v. IsLine-take (line_comment_at u).size u h) (λ v3.
-    choose u (starts_section u) _ _
-    (λ v. section-stands u h) (λ v4.
-    choose u (begins (codes "@") u) _ _ (λ v. code_at-stands effect takes_sign u h)
-    (λ v5.
-    choose u (starts_raw u) _ _ (λ v.
+    choose u (is_blank b) _ _ (λ v. IsLine-take (prefix_len is_blank u) u h) (λ v0. choose u (is_line_end b) _ _ (λ v.
+    let f : true ≡ false = sym v ∙ ne_eqb b 10 h.0 in
+    cc) (λ v1. choose u (begins (codes "/*") u) _ _ (λ v. IsLine-take (comment_at u).size u h)
+    (λ v2. choose u (begins (codes "//") u) _ _ (λ v. IsLine-take (line_comment_at u).size u h)
+    (λ v3. choose u (starts_section u) _ _ (λ v. section-stands u h) (λ v4. choose u
+    (begins (codes "@") u) _ _ (λ v. code_at-stands effect takes_sign u h) (λ v5. choose u (starts_raw u) _ _ (λ v.
     let m = raw_prefix u + 2 in
-    quoted-stands (look_in_raw (closing_sign (drop m u)))
-    (m + length (delimiter (drop m u)) + 1) u h)
-    (λ v6.
-    choose u (starts_literal u)
-    _ _ (λ v.
-    quoted-stands
-    (look_in_literal
-    (quote_of (drop (literal_prefix u) u)))
-    (literal_prefix u + 1) u h)
-    (λ v7.
-    choose u (includes && starts_include u) _ _
-    (λ v. quoted-stands look_in_include 1 u h)
-    (λ v8.
-    choose u (starts_number u) _ _
-    (λ v. IsLine-take (number_len 0 u) u h)
-    (λ v9.
-    choose u (is_word_byte b) _ _
-    (λ v.
-    IsLine-take
-    (prefix_len is_word_byte u)
-    u h)
-    (λ va.
-    IsLine-take (longest listed u)
-    u h)))))))))))
+    quoted-stands (look_in_raw (closing_sign (drop m u))) (m + length (delimiter (drop m u)) + 1) u h)
+    (λ v6. choose u (starts_literal u) _ _ (λ v. quoted-stands (look_in_literal (quote_of (drop (literal_prefix u) u)))
+    (literal_prefix u + 1) u h) (λ v7. choose u (includes && starts_include u) _ _ (λ v. quoted-stands look_in_include 1
+    u h) (λ v8. choose u (starts_number u) _ _ (λ v. IsLine-take (number_len 0 u) u h) (λ v9. choose u (is_word_byte b)
+    _ _ (λ v. IsLine-take (prefix_len is_word_byte u) u h) (λ va. IsLine-take (longest listed u) u h)))))))))))
 
 head-stands : (k : Kind) (f : Front) (t : List ℕ) → IsLine t → f.kind ≡ k → Stands t f → Stands t (head_as k f t)
 head-stands Blanks f t h e s = s
@@ -168,7 +140,6 @@ stands TeX includes b t h = text-stands in_text (b ∷ t) h
 stands (Definition begun) includes b t h =
     let f = c_front in_macro true false (b ∷ t) in
     head-stands f.kind f (b ∷ t) h refl (c-stands in_macro true false b t h)
-stands Macro includes b t h =
-    choose (b ∷ t) (begins (codes "\\") (b ∷ t) && at_line_end t) _ _
+stands Macro includes b t h = choose (b ∷ t) (begins (codes "\\") (b ∷ t) && at_line_end t) _ _
     (λ v. IsLine-take 1 (b ∷ t) h) (λ v. c-stands in_macro true false b t h)
 stands CText includes b t h = c-stands in_c false includes b t h

@@ -48,13 +48,11 @@ by_cases false false f g = refl
 
 pub begins_stays : (joins : ℕ → ℕ → Bool) (p : List ℕ) (b : ℕ) (t more : List ℕ) → all_join joins p ≡ true
     → seam_joins joins b t more ≡ false → begins p (b ∷ t ++ more) ≡ begins p (b ∷ t)
-begins_stays joins p b t more j seam =
-    by_cases (begins p (b ∷ t)) (begins p (b ∷ t ++ more)) (begins-append p (b ∷ t) more)
-    (λ fits misses. sym (crosses joins p b t more j fits misses) ∙ seam)
+begins_stays joins p b t more j seam = by_cases (begins p (b ∷ t)) (begins p (b ∷ t ++ more))
+    (begins-append p (b ∷ t) more) (λ fits misses. sym (crosses joins p b t more j fits misses) ∙ seam)
 
-pub longest_stays : (joins : ℕ → ℕ → Bool) (ps : List (List ℕ)) (b : ℕ) (t more : List ℕ)
-    → list_all (all_join joins) ps ≡ true → seam_joins joins b t more ≡ false
-    → longest ps (b ∷ t ++ more) ≡ longest ps (b ∷ t)
+pub longest_stays : (joins : ℕ → ℕ → Bool) (ps : List (List ℕ)) (b : ℕ) (t more : List ℕ) → list_all (all_join joins) ps
+    ≡ true → seam_joins joins b t more ≡ false → longest ps (b ∷ t ++ more) ≡ longest ps (b ∷ t)
 longest_stays joins [] b t more j seam = refl
 longest_stays joins (p ∷ ps) b t more j seam =
     let js = both (all_join joins p) (list_all (all_join joins) ps) j in

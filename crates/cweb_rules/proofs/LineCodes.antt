@@ -28,21 +28,16 @@ abbrev sign_from : ℕ → List ℕ → ℕ
 sign_from gap u = sign_of gap (size_in u) u
 
 size_in-fits : (u : List ℕ) → size_in u ≤ length u
-size_in-fits u =
-    (elim (begins (codes "=") u)
+size_in-fits u = (elim (begins (codes "=") u)
     as (λ v. begins (codes "=") u ≡ v → (if v then 1 else (if begins (codes "+=") u then 2 else 0)) ≤ length u) [
       | true ↦ λ h. begins-size (codes "=") u h
-      | false ↦ λ h.
-          (elim (begins (codes "+=") u) as (λ w. begins (codes "+=") u ≡ w → (if w then 2 else 0) ≤ length u)
-          [ true ↦ λ k. begins-size (codes "+=") u k | false ↦ λ k. omega arith ])
-          refl
+      | false ↦ λ h. (elim (begins (codes "+=") u) as (λ w. begins (codes "+=") u ≡ w → (if w then 2 else 0) ≤ length u)
+          [ true ↦ λ k. begins-size (codes "+=") u k | false ↦ λ k. omega arith ]) refl
     ]) refl
 
 sign_from-line : (gap : ℕ) (u more : List ℕ) → AtLineEnd more → sign_from gap (u ++ more) ≡ sign_from gap u
-sign_from-line gap u more e =
-    ap (λ n. sign_of gap n (u ++ more)) (λ i.
-    if begins_line (codes "=") u more refl e i then 1
-    else (if begins_line (codes "+=") u more refl e i then 2 else 0))
+sign_from-line gap u more e = ap (λ n. sign_of gap n (u ++ more)) (λ i.
+    if begins_line (codes "=") u more refl e i then 1 else (if begins_line (codes "+=") u more refl e i then 2 else 0))
     ∙ ap (λ v. if (size_in u == 0) || v then 0 else gap + size_in u)
     (drop_line (codes "=") (size_in u) u more refl e (size_in-fits u))
 
@@ -61,9 +56,8 @@ sign_after-line Nested t more e = refl
 sign_after-line Open t more e = refl
 
 abbrev named : Bool → Bool → Reach → ℕ → Front
-named is_file takes_sign r sign =
-    front (Occurrence is_file r.units r.how (nat_lt 0 sign))
-    (if takes_sign then (2 + size_of r) + sign else 2 + size_of r)
+named is_file takes_sign r sign = front
+    (Occurrence is_file r.units r.how (nat_lt 0 sign)) (if takes_sign then (2 + size_of r) + sign else 2 + size_of r)
 
 name_at-line : (takes_sign : Bool) (a b : ℕ) (t more : List ℕ) → AtLineEnd more
     → opens_name (a ∷ b ∷ t) ≡ false → name_at takes_sign (a ∷ b ∷ t ++ more) ≡ name_at takes_sign (a ∷ b ∷ t)
@@ -71,11 +65,10 @@ name_at-line takes_sign a b t more e ends =
     let r = name t in
     let u = a ∷ b ∷ t in
     let same : name (t ++ more) ≡ r =
-    reach_ends look_in_name Cut t more (name-local more e)
-    (name-local [] tt) (whole look_in_name name-units t) ends in
+    reach_ends look_in_name Cut t more (name-local more e) (name-local [] tt) (whole look_in_name name-units t) ends in
     let fits = reach-size look_in_name Cut name-within t in
-    ap (λ (r : Reach). named (begins (codes "@(") u) takes_sign r (sign_after r.how (drop (2 + size_of r) (u ++ more))))
-    same
+    ap (λ (r : Reach).
+    named (begins (codes "@(") u) takes_sign r (sign_after r.how (drop (2 + size_of r) (u ++ more)))) same
     ∙ ap (λ w. named (begins (codes "@(") u) takes_sign r (sign_after r.how w))
     (drop-append-le (2 + size_of r) u more (omega (arith, fits)))
     ∙ ap (λ n. named (begins (codes "@(") u) takes_sign r n) (sign_after-line r.how (drop (2 + size_of r) u) more e)

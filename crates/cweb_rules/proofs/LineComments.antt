@@ -14,12 +14,11 @@ pub comment_at_line : (t more : List ℕ) → AtLineEnd more → 2 ≤ length t
     → opens_comment t ≡ false → comment_at (t ++ more) ≡ comment_at t
 comment_at_line t more e two ends =
     let look = look_in_comment (begins (codes "*/")) 2 in
-    let local : (m : List ℕ) → AtLineEnd m → IsLocal look m = λ m f.
-    comment-local (begins (codes "*/")) 2 m f (λ b u. begins_line (codes "*/") (b ∷ u) m refl f) in
-    let same : comment (drop 2 (t ++ more)) ≡ comment (drop 2 t) =
-    ap comment (drop-append-le 2 t more two)
-    ∙ reach_ends look Cut (drop 2 t) more (local more e) (local [] tt)
-    (whole look (comment-units (begins (codes "*/")) 2) (drop 2 t)) ends in
+    let local : (m : List ℕ) → AtLineEnd m → IsLocal look m =
+    λ m f. comment-local (begins (codes "*/")) 2 m f (λ b u. begins_line (codes "*/") (b ∷ u) m refl f) in
+    let same : comment (drop 2 (t ++ more)) ≡ comment (drop 2 t) = ap comment (drop-append-le 2 t more two)
+    ∙ reach_ends look Cut
+    (drop 2 t) more (local more e) (local [] tt) (whole look (comment-units (begins (codes "*/")) 2) (drop 2 t)) ends in
     ap (λ (r : Reach). front (Comment r.how) (2 + size_of r)) same
 
 line_comment-stops : (more : List ℕ) → AtLineEnd more

@@ -12,18 +12,16 @@ control-stops [] e = refl
 control-stops (b ∷ more) e = ap (λ n. control_text (n ∷ more)) e
 
 pub control_text-line : (t more : List ℕ) → AtLineEnd more → control_text (t ++ more) ≡ control_text t
-control_text-line t more e =
-    reach-line look_in_control Cut t more (control-local more e) (control-local [] tt)
-    (whole look_in_control control-units t) (control-stops more e)
+control_text-line t more e = reach-line look_in_control Cut t more
+    (control-local more e) (control-local [] tt) (whole look_in_control control-units t) (control-stops more e)
 
 escaped-line : (es : List (ℕ × ℕ)) (t more : List ℕ) → list_all (λ e. in_line e.0) es ≡ true
     → AtLineEnd more → escaped es (t ++ more) ≡ escaped es t
 escaped-line [] t more h e = refl
 escaped-line (x ∷ es) t more h e =
     let hs = both (in_line x.0) (list_all (λ e. in_line e.0) es) h in
-    λ i.
-    if begins_line (x.0 ∷ []) t more (ap (λ v. v && true) hs.0) e i
-    then character x.1 2 else escaped-line es t more hs.1 e i
+    λ i. if begins_line
+    (x.0 ∷ []) t more (ap (λ v. v && true) hs.0) e i then character x.1 2 else escaped-line es t more hs.1 e i
 
 after_backslash-line : (t more : List ℕ) → AtLineEnd more → after_backslash (t ++ more) ≡ after_backslash t
 after_backslash-line t more e =
@@ -38,10 +36,9 @@ after_backslash-line t more e =
 character_at-line : (t more : List ℕ) → AtLineEnd more → character_at (t ++ more) ≡ character_at t
 character_at-line [] [] e = refl
 character_at-line [] (b ∷ more) e = ap (λ n. character_at (n ∷ more)) e
-character_at-line (b ∷ t) more e = λ i.
-    if begins_line (codes "@@") (b ∷ t) more refl e i then character 64 2
-    else (if begins_line (codes "\\") (b ∷ t) more refl e i then after_backslash-line t more e i
-    else (if stands_alone b then character b 1 else None))
+character_at-line (b ∷ t) more e =
+    λ i. if begins_line (codes "@@") (b ∷ t) more refl e i then character 64 2 else (if begins_line (codes "\\")
+    (b ∷ t) more refl e i then after_backslash-line t more e i else (if stands_alone b then character b 1 else None))
 
 abbrev IsFit : Option Character → ℕ → Type 0
 IsFit None n = Unit {0}
@@ -49,8 +46,7 @@ IsFit (Some c) n = c.size ≤ n
 
 escaped-fits : (es : List (ℕ × ℕ)) (t : List ℕ) → IsFit (escaped es t) (1 + length t)
 escaped-fits [] t = tt
-escaped-fits (e ∷ es) t =
-    (elim (begins (e.0 ∷ []) t)
+escaped-fits (e ∷ es) t = (elim (begins (e.0 ∷ []) t)
     as (λ v. begins (e.0 ∷ []) t ≡ v → IsFit (if v then character e.1 2 else escaped es t) (1 + length t)) [
       | true ↦ λ h. omega (arith, begins-size (e.0 ∷ []) t h)
       | false ↦ λ h. escaped-fits es t
@@ -58,9 +54,8 @@ escaped-fits (e ∷ es) t =
 
 octal-fits : (n : ℕ) (t : List ℕ) → n ≤ length t → IsFit (octal (take n t)) (1 + length t)
 octal-fits n t h =
-    elim (nat_le (octal_value (take n t)) 255)
-    as (λ v. IsFit (if v then character (octal_value (take n t)) (1 + length (take n t)) else None) (1 + length t))
-    [ true ↦ omega (arith, h, length-take-le n t h) | false ↦ tt ]
+    elim (nat_le (octal_value (take n t)) 255) as (λ v. IsFit (if v then character (octal_value (take n t))
+    (1 + length (take n t)) else None) (1 + length t)) [ true ↦ omega (arith, h, length-take-le n t h) | false ↦ tt ]
 
 after_backslash-fits : (t : List ℕ) → IsFit (after_backslash t) (1 + length t)
 after_backslash-fits t =
@@ -71,23 +66,18 @@ after_backslash-fits t =
 character_at-fits : (t : List ℕ) → IsFit (character_at t) (length t)
 character_at-fits [] = tt
 character_at-fits (b ∷ t) =
-    (elim (begins (codes "@@") (b ∷ t)) as (λ v.
-    begins (codes "@@") (b ∷ t) ≡ v
-    → IsFit (if v then character 64 2
-    else (if begins (codes "\\") (b ∷ t) then after_backslash t
-    else (if stands_alone b then character b 1 else None)))
+    (elim (begins (codes "@@") (b ∷ t)) as (λ v. begins (codes "@@") (b ∷ t) ≡ v → IsFit (if v then character 64 2 else
+    (if begins (codes "\\") (b ∷ t) then after_backslash t else (if stands_alone b then character b 1 else None)))
     (length (b ∷ t))) [
       | true ↦ λ h. begins-size (codes "@@") (b ∷ t) h
-      | false ↦ λ h.
-          elim (begins (codes "\\") (b ∷ t)) as (λ v.
-          IsFit (if v then after_backslash t else (if stands_alone b then character b 1 else None))
+      | false ↦ λ h. elim (begins (codes "\\") (b ∷ t)) as
+          (λ v. IsFit (if v then after_backslash t else (if stands_alone b then character b 1 else None))
           (length (b ∷ t))) [
             | true ↦
                 let e : 1 + length t ≡ length (b ∷ t) = omega arith in
                 subst (IsFit (after_backslash t)) e (after_backslash-fits t)
-            | false ↦
-                elim (stands_alone b) as (λ v. IsFit (if v then character b 1 else None) (length (b ∷ t)))
-                [ true ↦ omega arith | false ↦ tt ]
+            | false ↦ elim (stands_alone b) as
+                (λ v. IsFit (if v then character b 1 else None) (length (b ∷ t))) [ true ↦ omega arith | false ↦ tt ]
           ]
     ]) refl
 
@@ -101,13 +91,11 @@ faulty-line t more e =
 constant_of-line : (o : Option Character) (t more : List ℕ) → AtLineEnd more
     → IsFit o (length t) → constant_of o (t ++ more) ≡ constant_of o t
 constant_of-line None t more e h = λ i. record { value = None; size = faulty-line t more e i }
-constant_of-line (Some c) t more e h = λ i.
-    if drop_line (codes "'") c.size t more refl e h i then record { value = Some c.code; size = c.size + 1 }
-    else record { value = None; size = faulty-line t more e i }
+constant_of-line (Some c) t more e h = λ i. if drop_line (codes "'") c.size t more refl e h
+    i then record { value = Some c.code; size = c.size + 1 } else record { value = None; size = faulty-line t more e i }
 
 pub constant-line : (t more : List ℕ) → AtLineEnd more → constant (t ++ more) ≡ constant t
-constant-line t more e =
-    ap (λ o. constant_of o (t ++ more)) (character_at-line t more e)
+constant-line t more e = ap (λ o. constant_of o (t ++ more)) (character_at-line t more e)
     ∙ constant_of-line (character_at t) t more e (character_at-fits t)
 
 and_false : (a : Bool) → (a && false) ≡ false
@@ -121,27 +109,22 @@ letter_with-line byte start gap t more e h =
     ap (prefix_len is_replacing) (drop-append-le gap t more h) ∙ run_line is_replacing (drop gap t) more refl e in
     λ i. if gap == 0 then None else Some (record { byte = byte; start = start + gap; size = same i })
 
-letter_of-line : (o : Option ℕ) (start : ℕ) (t more : List ℕ) → AtLineEnd more
-    → (elim o as (λ w. Option Transliteration)
-    [ None ↦ None | Some byte ↦ letter_with byte start (prefix_len is_gap (t ++ more)) (t ++ more) ])
-    ≡ (elim o as (λ w. Option Transliteration)
-    [ None ↦ None | Some byte ↦ letter_with byte start (prefix_len is_gap t) t ])
+letter_of-line : (o : Option ℕ) (start : ℕ) (t more : List ℕ)
+    → AtLineEnd more → (elim o as (λ w. Option Transliteration)
+    [ None ↦ None | Some byte ↦ letter_with byte start (prefix_len is_gap (t ++ more)) (t ++ more) ]) ≡ (elim
+    o as (λ w. Option Transliteration) [ None ↦ None | Some byte ↦ letter_with byte start (prefix_len is_gap t) t ])
 letter_of-line None start t more e = refl
 letter_of-line (Some byte) start t more e =
     ap (λ g. letter_with byte start g (t ++ more)) (run_line is_gap t more refl e)
     ∙ letter_with-line byte start (prefix_len is_gap t) t more e (prefix_len-le-length is_gap t)
 
 hex_none : (a : ℕ) (t more : List ℕ) → hex_at (a ∷ 10 ∷ more) ≡ None
-hex_none a t more =
-    ap (λ v. if v && nat_le 128 (16 * hex_value a + hex_value 10) then Some (16 * hex_value a + hex_value 10) else None)
-    (and_false (is_hex a))
+hex_none a t more = ap (λ v. if v && nat_le 128
+    (16 * hex_value a + hex_value 10) then Some (16 * hex_value a + hex_value 10) else None) (and_false (is_hex a))
 
 letter_after-none : (gap : ℕ) (t : List ℕ) → hex_at t ≡ None → letter_after gap t ≡ None
-letter_after-none gap t h =
-    ap (λ (o : Option ℕ).
-    elim o as (λ w. Option Transliteration)
-    [ None ↦ None | Some byte ↦ letter_with byte (gap + 2) (prefix_len is_gap (drop 2 t)) (drop 2 t) ])
-    h
+letter_after-none gap t h = ap (λ (o : Option ℕ). elim o as (λ w. Option Transliteration)
+    [ None ↦ None | Some byte ↦ letter_with byte (gap + 2) (prefix_len is_gap (drop 2 t)) (drop 2 t) ]) h
 
 letter_after-line : (gap : ℕ) (t more : List ℕ) → AtLineEnd more → letter_after gap (t ++ more) ≡ letter_after gap t
 letter_after-line gap [] [] e = refl

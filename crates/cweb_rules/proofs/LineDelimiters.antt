@@ -10,33 +10,24 @@ use Rattle.cweb_rules.proofs.LineLiterals.{quoted-line, quoted_ends, or_size}
 -- RAW LITERALS
 
 pub raw_prefix-line : (t more : List ℕ) → AtLineEnd more → raw_prefix (t ++ more) ≡ raw_prefix t
-raw_prefix-line t more e = λ i.
-    if begins_line (codes "u8R\"") t more refl e i then 2
-    else (if begins_line (codes "LR\"") t more refl e i
+raw_prefix-line t more e =
+    λ i. if begins_line (codes "u8R\"") t more refl e i then 2 else (if begins_line (codes "LR\"") t more refl e i
     || begins_line (codes "uR\"") t more refl e i || begins_line (codes "UR\"") t more refl e i then 1 else 0)
 
 raw_letter : (t : List ℕ)
     → (begins (codes "LR\"") t || begins (codes "uR\"") t || begins (codes "UR\"") t) ≡ true → 1 ≤ length t
-raw_letter t h =
-    or_size (begins (codes "LR\"") t || begins (codes "uR\"") t) (begins (codes "UR\"") t) (length t) h
-    (λ k.
-    or_size (begins (codes "LR\"") t) (begins (codes "uR\"") t)
-    (length t) k (λ l. omega (arith, begins-size (codes "LR\"") t l))
-    (λ l. omega (arith, begins-size (codes "uR\"") t l)))
+raw_letter t h = or_size (begins (codes "LR\"") t || begins (codes "uR\"") t) (begins (codes "UR\"") t)
+    (length t) h (λ k. or_size (begins (codes "LR\"") t) (begins (codes "uR\"") t) (length t) k
+    (λ l. omega (arith, begins-size (codes "LR\"") t l)) (λ l. omega (arith, begins-size (codes "uR\"") t l)))
     (λ l. omega (arith, begins-size (codes "UR\"") t l))
 
 raw_prefix-fits : (t : List ℕ) → raw_prefix t ≤ length t
-raw_prefix-fits t =
-    (elim (begins (codes "u8R\"") t) as (λ v.
-    begins (codes "u8R\"") t ≡ v
-    → (if v then 2
-    else (if begins (codes "LR\"") t || begins (codes "uR\"") t || begins (codes "UR\"") t
+raw_prefix-fits t = (elim (begins (codes "u8R\"") t) as (λ v. begins (codes "u8R\"") t ≡ v
+    → (if v then 2 else (if begins (codes "LR\"") t || begins (codes "uR\"") t || begins (codes "UR\"") t
     then 1 else 0)) ≤ length t) [
       | true ↦ λ h. omega (arith, begins-size (codes "u8R\"") t h)
-      | false ↦ λ h.
-          (elim (begins (codes "LR\"") t || begins (codes "uR\"") t || begins (codes "UR\"") t)
-          as (λ v.
-          (begins (codes "LR\"") t || begins (codes "uR\"") t || begins (codes "UR\"") t) ≡ v
+      | false ↦ λ h. (elim (begins (codes "LR\"") t || begins (codes "uR\"") t || begins (codes "UR\"") t) as
+          (λ v. (begins (codes "LR\"") t || begins (codes "uR\"") t || begins (codes "UR\"") t) ≡ v
           → (if v then 1 else 0) ≤ length t) [
             | true ↦ λ k. raw_letter t k
             | false ↦ λ k. omega arith
@@ -57,22 +48,19 @@ starts_raw_line t more e =
     let n = raw_prefix t in
     ap (λ n. begins (codes "R\"") (drop n (t ++ more)) && has_delimiter (drop (n + 2) (t ++ more)))
     (raw_prefix-line t more e)
-    ∙ and_same (begins (codes "R\"") (drop n (t ++ more))) (begins (codes "R\"") (drop n t))
-    (has_delimiter (drop (n + 2) (t ++ more))) (has_delimiter (drop (n + 2) t))
-    (drop_line (codes "R\"") n t more refl e (raw_prefix-fits t))
+    ∙ and_same (begins (codes "R\"") (drop n (t ++ more))) (begins (codes "R\"") (drop n t)) (has_delimiter (drop (n +
+    2) (t ++ more))) (has_delimiter (drop (n + 2) t)) (drop_line (codes "R\"") n t more refl e (raw_prefix-fits t))
     (λ h. ap has_delimiter (drop-append-le (n + 2) t more (sign-fits t h)) ∙ has_delimiter-line (drop (n + 2) t) more e)
 
 pub delimiter-line : (t more : List ℕ) → AtLineEnd more → delimiter (t ++ more) ≡ delimiter t
-delimiter-line t more e =
-    ap (λ n. take n (t ++ more)) (run_line is_delimiter t more refl e)
+delimiter-line t more e = ap (λ n. take n (t ++ more)) (run_line is_delimiter t more refl e)
     ∙ take-append-le (prefix_len is_delimiter t) t more (prefix_len-le-length is_delimiter t)
 
 -- no line end stands in a delimiter
 delimits : (b : ℕ) → is_delimiter b ≡ true → in_line b ≡ true
 delimits b h = (elim (is_line_end b) as (λ v. is_line_end b ≡ v → not v ≡ true) [
   | true ↦ λ e.
-      let f : is_delimiter b ≡ false =
-      (λ i. not ((is_blank b || e i) || is_one_of (codes "()\\\"@") b))
+      let f : is_delimiter b ≡ false = (λ i. not ((is_blank b || e i) || is_one_of (codes "()\\\"@") b))
       ∙ ap (λ v. not (v || is_one_of (codes "()\\\"@") b)) (or_true (is_blank b)) in
       sym (sym h ∙ f)
   | false ↦ λ e. refl
@@ -84,8 +72,7 @@ delimits b h = (elim (is_line_end b) as (λ v. is_line_end b ≡ v → not v ≡
 
 delimiter-in_line : (t : List ℕ) → list_all in_line (delimiter t) ≡ true
 delimiter-in_line [] = refl
-delimiter-in_line (b ∷ t) =
-    (elim (is_delimiter b) as (λ v.
+delimiter-in_line (b ∷ t) = (elim (is_delimiter b) as (λ v.
     is_delimiter b ≡ v → list_all in_line (take (cond v (1 + prefix_len is_delimiter t) 0) (b ∷ t)) ≡ true) [
       | true ↦ λ h. let e : 1 + prefix_len is_delimiter t ≡ suc (prefix_len is_delimiter t) = omega arith in
           ap (λ n. list_all in_line (take n (b ∷ t))) e
@@ -135,9 +122,8 @@ include-stops [] e = refl
 include-stops (b ∷ more) e = ap (λ n. included_name (n ∷ more)) e
 
 included-line : (t more : List ℕ) → AtLineEnd more → included_name (t ++ more) ≡ included_name t
-included-line t more e =
-    reach-line look_in_include Cut t more (include-local more e) (include-local [] tt)
-    (whole look_in_include include-units t) (include-stops more e)
+included-line t more e = reach-line look_in_include Cut t more
+    (include-local more e) (include-local [] tt) (whole look_in_include include-units t) (include-stops more e)
 
 pub starts_include_line : (b : ℕ) (t more : List ℕ) → AtLineEnd more
     → starts_include (b ∷ t ++ more) ≡ starts_include (b ∷ t)
@@ -145,6 +131,5 @@ starts_include_line b t more e = λ i.
     begins_line (codes "<") (b ∷ t) more refl e i && is_closed (ap (λ (r : Reach). r.how) (included-line t more e) i)
 
 pub include_at_line : (b : ℕ) (t more : List ℕ) → AtLineEnd more → include_at (b ∷ t ++ more) ≡ include_at (b ∷ t)
-include_at_line b t more e =
-    ap (λ r. quoted 1 r (b ∷ t ++ more)) (included-line t more e)
+include_at_line b t more e = ap (λ r. quoted 1 r (b ∷ t ++ more)) (included-line t more e)
     ∙ quoted-line 1 (included_name t) (b ∷ t) more (omega arith) (reach-size look_in_include Cut include-within t)

@@ -21,31 +21,24 @@ section_at_line t more e = λ i.
 
 pub text_front_line : (effect : ℕ → Effect) (b : ℕ) (t more : List ℕ) → AtLineEnd more
     → text_opens effect (b ∷ t) ≡ false → text_front effect (b ∷ t ++ more) ≡ text_front effect (b ∷ t)
-text_front_line effect b t more e h =
-    step (starts_section (b ∷ t ++ more)) (starts_section (b ∷ t)) _ _ _ _ false
-    (if begins (codes "@") (b ∷ t) then opens_code effect (b ∷ t) else false)
-    (starts_section_line b t more e) (λ v p. section_at_line (b ∷ t) more e)
-    (λ v q.
-    step (begins (codes "@") (b ∷ t ++ more)) (begins (codes "@") (b ∷ t)) _ _ _ _
-    (opens_code effect (b ∷ t)) false (begins_line (codes "@") (b ∷ t) more refl e)
-    (λ w p. code_at_line effect true b t more e (at_fits b t v w) p) (λ w r. refl) q)
-    h
+text_front_line effect b t more e h = step (starts_section (b ∷ t ++ more)) (starts_section (b ∷ t)) _ _ _ _ false
+    (if begins (codes "@") (b ∷ t) then opens_code effect (b ∷ t) else false) (starts_section_line b t more e)
+    (λ v p. section_at_line (b ∷ t) more e) (λ v q. step (begins (codes "@") (b ∷ t ++ more))
+    (begins (codes "@") (b ∷ t)) _ _ _ _ (opens_code effect (b ∷ t)) false (begins_line (codes "@") (b ∷ t) more refl e)
+    (λ w p. code_at_line effect true b t more e (at_fits b t v w) p) (λ w r. refl) q) h
 
-rest_line : (includes : Bool) (b : ℕ) (t more : List ℕ) → AtLineEnd more
-    → (if includes && starts_include (b ∷ t ++ more) then include_at (b ∷ t ++ more)
-    else (if starts_number (b ∷ t ++ more) then front Numeral (number_len 0 (b ∷ t ++ more))
-    else (if is_word_byte b then front Identifier (prefix_len is_word_byte (b ∷ t ++ more))
-    else front Punctuator (longest listed (b ∷ t ++ more)))))
-    ≡ (if includes && starts_include (b ∷ t) then include_at (b ∷ t)
-    else (if starts_number (b ∷ t) then front Numeral (number_len 0 (b ∷ t))
-    else (if is_word_byte b then front Identifier (prefix_len is_word_byte (b ∷ t))
-    else front Punctuator (longest listed (b ∷ t)))))
-rest_line includes b t more e = λ i.
-    if includes && starts_include_line b t more e i then include_at_line b t more e i
-    else (if starts_number_stop b t more (stops is_digit more refl e) i
-    then front Numeral (number_stop 0 (b ∷ t) more (λ last. stops (goes_on_number last) more refl e) i)
-    else (if is_word_byte b then front Identifier (run_line is_word_byte (b ∷ t) more refl e i)
-    else front Punctuator (longest_stop in_line listed (b ∷ t) more refl (stops in_line more refl e) i)))
+rest_line : (includes : Bool) (b : ℕ) (t more : List ℕ)
+    → AtLineEnd more → (if includes && starts_include (b ∷ t ++ more) then include_at (b ∷ t ++ more) else
+    (if starts_number (b ∷ t ++ more) then front Numeral (number_len 0 (b ∷ t ++ more)) else (if is_word_byte b then
+    front Identifier (prefix_len is_word_byte (b ∷ t ++ more)) else front Punctuator (longest listed (b ∷ t ++ more)))))
+    ≡ (if includes && starts_include (b ∷ t) then
+    include_at (b ∷ t) else (if starts_number (b ∷ t) then front Numeral (number_len 0 (b ∷ t)) else (if is_word_byte
+    b then front Identifier (prefix_len is_word_byte (b ∷ t)) else front Punctuator (longest listed (b ∷ t)))))
+rest_line includes b t more e =
+    λ i. if includes && starts_include_line b t more e i then include_at_line b t more e i else (if starts_number_stop
+    b t more (stops is_digit more refl e) i then front Numeral (number_stop 0 (b ∷ t) more (λ last. stops
+    (goes_on_number last) more refl e) i) else (if is_word_byte b then front Identifier (run_line is_word_byte (b ∷ t)
+    more refl e i) else front Punctuator (longest_stop in_line listed (b ∷ t) more refl (stops in_line more refl e) i)))
 
 pub c_front_line : (effect : ℕ → Effect) (takes_sign includes : Bool) (b : ℕ) (t more : List ℕ)
     → AtLineEnd more → c_opens effect (b ∷ t) ≡ false
@@ -53,46 +46,25 @@ pub c_front_line : (effect : ℕ → Effect) (takes_sign includes : Bool) (b : �
 c_front_line effect takes_sign includes b t more e h =
     let u = b ∷ t in
     step (is_blank b) (is_blank b) _ _ _ _ false _ refl (λ v p. ap (front Blanks) (run_line is_blank u more refl e))
-    (λ v0 h0.
-    step (is_line_end b) (is_line_end b) _
-    _ _ _ false _ refl (λ v p. refl) (λ v1 h1.
-    step (begins (codes "/*") (u ++ more)) (begins (codes "/*") u) _ _ _
-    _ (opens_comment u) _ (begins_line (codes "/*") u more refl e)
-    (λ v p. comment_at_line u more e (begins-size (codes "/*") u v) p)
-    (λ v2 h2.
-    step (begins (codes "//") (u ++ more)) (begins (codes "//") u)
-    _ _ _ _ false _ (begins_line (codes "//") u more refl e)
-    (λ v p. line_comment_at_line u more e (begins-size (codes "//") u v))
-    (λ v3 h3.
-    step (starts_section (u ++ more)) (starts_section u)
-    _ _ _ _ false _ (starts_section_line b t more e)
-    (λ v p. section_at_line u more e) (λ v4 h4.
-    step (begins (codes "@") (u ++ more)) (begins (codes "@") u) _ _ _ _
-    (opens_code effect u) _ (begins_line (codes "@") u more refl e)
-    (λ v p. code_at_line effect takes_sign b t more e (at_fits b t v4 v) p)
-    (λ v5 h5.
-    step (starts_raw (u ++ more)) (starts_raw u) _ _ _ _ (opens_raw u)
-    _ (starts_raw_line u more e) (λ v p. raw_at_line u more e v p)
-    (λ v6 h6.
-    step (starts_literal (u ++ more)) (starts_literal u) _ _ _ _
-    (opens_literal u) false (starts_literal_line u more e)
-    (λ v p. literal_at_line u more e v p)
-    (λ v7 h7. rest_line includes b t more e) h6)
-    h5)
-    h4)
-    h3)
-    h2)
-    h1)
-    h0)
-    h
+    (λ v0 h0. step (is_line_end b) (is_line_end b) _ _ _ _ false _ refl
+    (λ v p. refl) (λ v1 h1. step (begins (codes "/*") (u ++ more)) (begins (codes "/*") u) _ _ _ _ (opens_comment u) _
+    (begins_line (codes "/*") u more refl e) (λ v p. comment_at_line u more e (begins-size (codes "/*") u v) p)
+    (λ v2 h2. step (begins (codes "//") (u ++ more)) (begins (codes "//") u) _ _ _ _ false _
+    (begins_line (codes "//") u more refl e) (λ v p. line_comment_at_line u more e (begins-size (codes "//") u v))
+    (λ v3 h3. step (starts_section (u ++ more)) (starts_section u) _ _ _ _ false _
+    (starts_section_line b t more e) (λ v p. section_at_line u more e) (λ v4 h4. step (begins (codes "@") (u ++ more))
+    (begins (codes "@") u) _ _ _ _ (opens_code effect u) _ (begins_line (codes "@") u more refl e)
+    (λ v p. code_at_line effect takes_sign b t more e (at_fits b t v4 v) p) (λ v5 h5. step (starts_raw (u ++ more))
+    (starts_raw u) _ _ _ _ (opens_raw u) _ (starts_raw_line u more e) (λ v p. raw_at_line u more e v p) (λ v6 h6.
+    step (starts_literal (u ++ more)) (starts_literal u) _ _ _ _ (opens_literal u) false (starts_literal_line u more e)
+    (λ v p. literal_at_line u more e v p) (λ v7 h7. rest_line includes b t more e) h6) h5) h4) h3) h2) h1) h0) h
 
 macro_front_line : (b : ℕ) (t more : List ℕ) → AtLineEnd more
     → macro_opens (b ∷ t) ≡ false → macro_front (b ∷ t ++ more) ≡ macro_front (b ∷ t)
 macro_front_line b t more e h =
-    step (begins (codes "\\") (b ∷ t ++ more) && at_line_end (t ++ more))
-    (begins (codes "\\") (b ∷ t) && at_line_end t) _ _ _ _ false (c_opens in_macro (b ∷ t))
-    (λ i. begins_line (codes "\\") (b ∷ t) more refl e i && at_line_end_line t more e i)
-    (λ v p. refl) (λ v q. c_front_line in_macro true false b t more e q) h
+    step (begins (codes "\\") (b ∷ t ++ more) && at_line_end (t ++ more)) (begins (codes "\\") (b ∷ t) && at_line_end t)
+    _ _ _ _ false (c_opens in_macro (b ∷ t)) (λ i. begins_line (codes "\\") (b ∷ t) more refl e i
+    && at_line_end_line t more e i) (λ v p. refl) (λ v q. c_front_line in_macro true false b t more e q) h
 
 head_as_line : (k : Kind) (f : Front) (b : ℕ) (t more : List ℕ) → AtLineEnd more → f.size ≤ length (b ∷ t)
     → text_opens in_text (b ∷ t) ≡ false → head_as k f (b ∷ t ++ more) ≡ head_as k f (b ∷ t)

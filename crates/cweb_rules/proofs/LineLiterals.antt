@@ -37,59 +37,44 @@ or_size true b n h f g = f refl
 or_size false b n h f g = g h
 
 one_letter : (t : List ℕ) → (begins (codes "L") t || begins (codes "u") t || begins (codes "U") t) ≡ true → 1 ≤ length t
-one_letter t h =
-    or_size (begins (codes "L") t || begins (codes "u") t) (begins (codes "U") t) (length t) h
-    (λ k.
-    or_size (begins (codes "L") t) (begins (codes "u") t) (length t)
-    k (begins-size (codes "L") t) (begins-size (codes "u") t))
-    (begins-size (codes "U") t)
+one_letter t h = or_size (begins (codes "L") t || begins (codes "u") t)
+    (begins (codes "U") t) (length t) h (λ k. or_size (begins (codes "L") t) (begins (codes "u") t)
+    (length t) k (begins-size (codes "L") t) (begins-size (codes "u") t)) (begins-size (codes "U") t)
 
 pub literal_prefix-line : (t more : List ℕ) → AtLineEnd more → literal_prefix (t ++ more) ≡ literal_prefix t
 literal_prefix-line t more e =
-    let two =
-    and_same (begins (codes "u8") (t ++ more)) (begins (codes "u8") t)
-    (is_quoted 2 (t ++ more)) (is_quoted 2 t) (begins_line (codes "u8") t more refl e)
-    (λ h. is_quoted-line 2 t more e (begins-size (codes "u8") t h)) in
+    let two = and_same (begins (codes "u8") (t ++ more)) (begins (codes "u8") t) (is_quoted 2 (t ++ more)) (is_quoted 2
+    t) (begins_line (codes "u8") t more refl e) (λ h. is_quoted-line 2 t more e (begins-size (codes "u8") t h)) in
     let one =
     and_same (begins (codes "L") (t ++ more) || begins (codes "u") (t ++ more) || begins (codes "U") (t ++ more))
     (begins (codes "L") t || begins (codes "u") t || begins (codes "U") t) (is_quoted 1 (t ++ more))
-    (is_quoted 1 t)
-    (λ i.
-    begins_line (codes "L") t more refl e i || begins_line (codes "u") t more refl e i
+    (is_quoted 1 t) (λ i. begins_line (codes "L") t more refl e i || begins_line (codes "u") t more refl e i
     || begins_line (codes "U") t more refl e i)
     (λ h. is_quoted-line 1 t more e (one_letter t h)) in
     λ i. if two i then 2 else (if one i then 1 else 0)
 
 literal_prefix-fits : (t : List ℕ) → literal_prefix t ≤ length t
-literal_prefix-fits t =
-    (elim (begins (codes "u8") t && is_quoted 2 t) as (λ v.
-    (begins (codes "u8") t && is_quoted 2 t) ≡ v
-    → (if v then 2
-    else (if (begins (codes "L") t || begins (codes "u") t || begins (codes "U") t) && is_quoted 1 t
+literal_prefix-fits t = (elim (begins (codes "u8") t && is_quoted 2 t) as (λ v. (begins (codes "u8") t && is_quoted 2 t)
+    ≡ v → (if v then 2 else (if (begins (codes "L") t || begins (codes "u") t || begins (codes "U") t) && is_quoted 1 t
     then 1 else 0)) ≤ length t) [
       | true ↦ λ h. begins-size (codes "u8") t (both (begins (codes "u8") t) (is_quoted 2 t) h).0
-      | false ↦ λ h.
-          (elim ((begins (codes "L") t || begins (codes "u") t || begins (codes "U") t) && is_quoted 1 t)
-          as (λ v.
-          ((begins (codes "L") t || begins (codes "u") t || begins (codes "U") t) && is_quoted 1 t) ≡ v
+      | false ↦ λ h. (elim ((begins (codes "L") t || begins (codes "u") t || begins (codes "U") t) && is_quoted 1 t) as
+          (λ v. ((begins (codes "L") t || begins (codes "u") t || begins (codes "U") t) && is_quoted 1 t) ≡ v
           → (if v then 1 else 0) ≤ length t) [
-            | true ↦ λ k.
-                one_letter t
+            | true ↦ λ k. one_letter t
                 (both (begins (codes "L") t || begins (codes "u") t || begins (codes "U") t) (is_quoted 1 t) k).0
             | false ↦ λ k. omega arith
           ]) refl
     ]) refl
 
 pub starts_literal_line : (t more : List ℕ) → AtLineEnd more → starts_literal (t ++ more) ≡ starts_literal t
-starts_literal_line t more e =
-    ap (λ n. is_quoted n (t ++ more)) (literal_prefix-line t more e)
+starts_literal_line t more e = ap (λ n. is_quoted n (t ++ more)) (literal_prefix-line t more e)
     ∙ is_quoted-line (literal_prefix t) t more e (literal_prefix-fits t)
 
 pub is_quoted-size : (n : ℕ) (t : List ℕ) → is_quoted n t ≡ true → n + 1 ≤ length t
 is_quoted-size n t h =
-    let some =
-    or_size (begins (codes "\"") (drop n t)) (begins (codes "'") (drop n t)) (length (drop n t))
-    h (begins-size (codes "\"") (drop n t)) (begins-size (codes "'") (drop n t)) in
+    let some = or_size (begins (codes "\"") (drop n t)) (begins (codes "'") (drop n t))
+    (length (drop n t)) h (begins-size (codes "\"") (drop n t)) (begins-size (codes "'") (drop n t)) in
     omega (arith, some, length-drop n t)
 
 abbrev pub literal_with : ℕ → ℕ → List ℕ → Front

@@ -36,21 +36,16 @@ goes n len h k = (h, k)
 
 -- control texts
 pub control-local : (more : List ℕ) → AtLineEnd more → IsLocal look_in_control more
-control-local more e b t = λ i.
-    if begins_line (codes "@>") (b ∷ t) more refl e i then Ends 2 Closed
-    else (if begins_line (codes "@@") (b ∷ t) more refl e i then Goes 2
-    else (if begins_line (codes "@") (b ∷ t) more refl e i || is_line_end b then Ends 0 Cut
-    else Goes 1))
+control-local more e b t = λ i. if begins_line (codes "@>")
+    (b ∷ t) more refl e i then Ends 2 Closed else (if begins_line (codes "@@") (b ∷ t) more refl e i then Goes 2 else
+    (if begins_line (codes "@") (b ∷ t) more refl e i || is_line_end b then Ends 0 Cut else Goes 1))
 
 pub control-units : AllWithin look_in_control
 control-units b t =
     let n = length (b ∷ t) in
-    within_if (begins (codes "@>") (b ∷ t)) _ _ n (λ h. tt) (λ h.
-    within_if (begins (codes "@@") (b ∷ t)) _ _ n
-    (λ k. goes 2 n (omega arith) (begins-size (codes "@@") (b ∷ t) k))
-    (λ k.
-    within_if (begins (codes "@") (b ∷ t) || is_line_end b) _ _ n
-    (λ l. tt) (λ l. goes 1 n (omega arith) (omega arith))))
+    within_if (begins (codes "@>") (b ∷ t)) _ _ n (λ h. tt) (λ h. within_if (begins (codes "@@") (b ∷ t)) _ _ n
+    (λ k. goes 2 n (omega arith) (begins-size (codes "@@") (b ∷ t) k)) (λ k. within_if
+    (begins (codes "@") (b ∷ t) || is_line_end b) _ _ n (λ l. tt) (λ l. goes 1 n (omega arith) (omega arith))))
 
 -- `@` that begins no section has a byte after it
 pub at_fits : (b : ℕ) (t : List ℕ) → starts_section (b ∷ t) ≡ false
@@ -61,12 +56,10 @@ at_fits b (c ∷ t) s h = omega arith
 
 -- names
 pub name-local : (more : List ℕ) → AtLineEnd more → IsLocal look_in_name more
-name-local more e b t = λ i.
-    if begins_line (codes "@>") (b ∷ t) more refl e i then Ends 2 Closed
-    else (if begins_line (codes "@<") (b ∷ t) more refl e i || begins_line (codes "@(") (b ∷ t) more refl e i
-    then Ends 0 Nested
-    else (if starts_section_line b t more e i then Ends 0 Cut
-    else (if begins_line (codes "@") (b ∷ t) more refl e i then Goes 2 else Goes 1)))
+name-local more e b t =
+    λ i. if begins_line (codes "@>") (b ∷ t) more refl e i then Ends 2 Closed else (if begins_line (codes "@<") (b ∷ t)
+    more refl e i || begins_line (codes "@(") (b ∷ t) more refl e i then Ends 0 Nested else (if starts_section_line
+    b t more e i then Ends 0 Cut else (if begins_line (codes "@") (b ∷ t) more refl e i then Goes 2 else Goes 1)))
 
 at-units : (b : ℕ) (t : List ℕ) → starts_section (b ∷ t) ≡ false
     → IsWithin (if begins (codes "@") (b ∷ t) then Goes 2 else Goes 1) (length (b ∷ t))
@@ -85,10 +78,8 @@ name-units b t =
 -- comments
 pub comment-local : (closes : List ℕ → Bool) (size : ℕ) (more : List ℕ) → AtLineEnd more
     → ((b : ℕ) (t : List ℕ) → closes (b ∷ t ++ more) ≡ closes (b ∷ t)) → IsLocal (look_in_comment closes size) more
-comment-local closes size more e same b t = λ i.
-    if same b t i then Ends size Closed
-    else (if starts_section_line b t more e i then Ends 0 Cut
-    else (if begins_line (codes "@") (b ∷ t) more refl e i then Goes 2 else Goes 1))
+comment-local closes size more e same b t = λ i. if same b t i then Ends size Closed else (if starts_section_line
+    b t more e i then Ends 0 Cut else (if begins_line (codes "@") (b ∷ t) more refl e i then Goes 2 else Goes 1))
 
 pub comment-units : (closes : List ℕ → Bool) (size : ℕ) → AllWithin (look_in_comment closes size)
 comment-units closes size b t =
@@ -105,10 +96,8 @@ doubled-units b t =
 
 -- included names
 pub include-local : (more : List ℕ) → AtLineEnd more → IsLocal look_in_include more
-include-local more e b t = λ i.
-    if begins_line (codes ">") (b ∷ t) more refl e i then Ends 1 Closed
-    else (if is_line_end b then Ends 0 Cut
-    else (if begins_line (codes "@@") (b ∷ t) more refl e i then Goes 2 else Goes 1))
+include-local more e b t = λ i. if begins_line (codes ">") (b ∷ t) more refl e i then Ends 1 Closed else
+    (if is_line_end b then Ends 0 Cut else (if begins_line (codes "@@") (b ∷ t) more refl e i then Goes 2 else Goes 1))
 
 pub include-units : AllWithin look_in_include
 include-units b t =
@@ -118,10 +107,9 @@ include-units b t =
 
 -- raw literals: their closing sign can't go over a line end
 pub raw-local : (sign more : List ℕ) → list_all in_line sign ≡ true → AtLineEnd more → IsLocal (look_in_raw sign) more
-raw-local sign more a e b t = λ i.
-    if begins_line sign (b ∷ t) more a e i then Ends (length sign) Closed
-    else (if starts_section_line b t more e i then Ends 0 Cut
-    else (if begins_line (codes "@@") (b ∷ t) more refl e i then Goes 2 else Goes 1))
+raw-local sign more a e b t =
+    λ i. if begins_line sign (b ∷ t) more a e i then Ends (length sign) Closed else (if starts_section_line
+    b t more e i then Ends 0 Cut else (if begins_line (codes "@@") (b ∷ t) more refl e i then Goes 2 else Goes 1))
 
 pub raw-units : (sign : List ℕ) → AllWithin (look_in_raw sign)
 raw-units sign b t =
@@ -134,10 +122,8 @@ pub literal-local : (quote : ℕ) (more : List ℕ)
     → first_is (λ b. b == 64) more ≡ false → IsLocal (look_in_literal quote) more
 literal-local quote more stop b t = λ i.
     let at : Bool = begins_stop (λ x. x == 64) (codes "@") t more refl stop i in
-    if begins (quote ∷ []) (b ∷ t) then Ends 1 Closed
-    else (if is_line_end b then Ends 0 Cut
-    else (if (92 == b) && at then Goes 1
-    else (if ((92 == b) && true) || ((64 == b) && at) then Goes 2 else Goes 1)))
+    if begins (quote ∷ []) (b ∷ t) then Ends 1 Closed else (if is_line_end b then Ends 0 Cut else
+    (if (92 == b) && at then Goes 1 else (if ((92 == b) && true) || ((64 == b) && at) then Goes 2 else Goes 1)))
 
 -- UNITS THAT ARE NOT EMPTY: what ends before a seam has no unit over it
 
@@ -169,10 +155,8 @@ some_if true x y f g = f
 some_if false x y f g = g
 
 pub literal-some : (quote : ℕ) → AllSome (look_in_literal quote)
-literal-some quote b t =
-    some_if (begins (quote ∷ []) (b ∷ t)) _ _ tt
-    (some_if (is_line_end b) _ _ tt
-    (some_if (begins (codes "\\@") (b ∷ t)) _ _ (omega arith)
+literal-some quote b t = some_if (begins (quote ∷ []) (b ∷ t)) _ _ tt
+    (some_if (is_line_end b) _ _ tt (some_if (begins (codes "\\@") (b ∷ t)) _ _ (omega arith)
     (some_if (begins (codes "\\") (b ∷ t) || begins (codes "@@") (b ∷ t)) _ _ (omega arith) (omega arith))))
 
 -- what ends in a text ends so, however the text ends

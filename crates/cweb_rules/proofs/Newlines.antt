@@ -47,74 +47,44 @@ text-opened : (effect : ℕ → Effect) (b : ℕ) (u more : List ℕ) → AtLine
 text-opened effect b u more e h =
     let t = b ∷ u ++ more in
     pick t (starts_section t) (starts_section (b ∷ u)) _ _ false _ (starts_section_line b u more e) (λ v k. no k)
-    (λ v0 h0.
-    pick t (begins (codes "@") t) (begins (codes "@") (b ∷ u)) _ _
-    (opens_code effect (b ∷ u)) false (begins_line (codes "@") (b ∷ u) more refl e)
-    (λ v k. code_at-opened effect true b u more k) (λ v1 h1. no h1) h0)
-    h
+    (λ v0 h0. pick t (begins (codes "@") t) (begins (codes "@") (b ∷ u)) _ _ (opens_code effect (b ∷ u)) false
+    (begins_line (codes "@") (b ∷ u) more refl e) (λ v k. code_at-opened effect true b u more k) (λ v1 h1. no h1) h0) h
 
 c-opened : (effect : ℕ → Effect) (takes_sign includes : Bool) (b : ℕ) (u more : List ℕ) → AtLineEnd more
     → c_opens effect (b ∷ u) ≡ true → Told (b ∷ u ++ more) (c_front effect takes_sign includes (b ∷ u ++ more))
 c-opened effect takes_sign includes b u more e h =
     let w = b ∷ u in
     let t = w ++ more in
-    pick t (is_blank b) (is_blank b) _ _ false _ refl (λ v k. no k)
-    (λ v0 h0.
-    pick t (is_line_end b) (is_line_end b)
-    _ _ false _ refl (λ v k. no k) (λ v1 h1.
-    pick t (begins (codes "/*") t) (begins (codes "/*") w) _ _ (opens_comment w)
-    _ (begins_line (codes "/*") w more refl e) (λ v k. tt) (λ v2 h2.
-    pick t (begins (codes "//") t) (begins (codes "//") w) _
-    _ false _ (begins_line (codes "//") w more refl e)
-    (λ v k. no k) (λ v3 h3.
-    pick t (starts_section t) (starts_section w) _
-    _ false _ (starts_section_line b u more e)
-    (λ v k. no k) (λ v4 h4.
-    pick t (begins (codes "@") t) (begins (codes "@") w) _ _
-    (opens_code effect w) _ (begins_line (codes "@") w more refl e)
-    (λ v k. code_at-opened effect takes_sign b u more k)
-    (λ v5 h5.
-    pick t (starts_raw t) (starts_raw w) _ _
-    (opens_raw w) _ (starts_raw_line w more e)
-    (λ v k.
+    pick t (is_blank b) (is_blank b) _ _ false _ refl (λ v k. no k) (λ v0 h0.
+    pick t (is_line_end b) (is_line_end b) _ _ false _ refl (λ v k. no k) (λ v1 h1. pick t (begins (codes "/*") t)
+    (begins (codes "/*") w) _ _ (opens_comment w) _ (begins_line (codes "/*") w more refl e) (λ v k. tt) (λ v2 h2.
+    pick t (begins (codes "//") t) (begins (codes "//") w) _ _ false _ (begins_line (codes "//") w more refl e)
+    (λ v k. no k) (λ v3 h3. pick t (starts_section t) (starts_section w) _ _ false _
+    (starts_section_line b u more e) (λ v k. no k) (λ v4 h4. pick t (begins (codes "@") t) (begins (codes "@") w) _ _
+    (opens_code effect w) _ (begins_line (codes "@") w more refl e) (λ v k. code_at-opened effect takes_sign b u more k)
+    (λ v5 h5. pick t (starts_raw t) (starts_raw w) _ _ (opens_raw w) _ (starts_raw_line w more e) (λ v k.
     let m = raw_prefix t + 2 in
     let sign = closing_sign (drop m t) in
-    quoted-told (look_in_raw sign) (raw-some sign)
-    (m + length (delimiter (drop m t)) + 1) t)
-    (λ v6 h6.
-    pick t (starts_literal t) (starts_literal w) _ _
-    (opens_literal w) false (starts_literal_line w more e)
-    (λ v k.
+    quoted-told (look_in_raw sign) (raw-some sign) (m + length (delimiter (drop m t)) + 1) t) (λ v6 h6.
+    pick t (starts_literal t) (starts_literal w) _ _ (opens_literal w) false (starts_literal_line w more e) (λ v k.
     let n = literal_prefix t in
     let quote = quote_of (drop n t) in
-    quoted-told (look_in_literal quote)
-    (literal-some quote) (n + 1) t)
-    (λ v7 h7. no h7) h6)
-    h5)
-    h4)
-    h3)
-    h2)
-    h1)
-    h0)
-    h
+    quoted-told (look_in_literal quote) (literal-some quote) (n + 1) t) (λ v7 h7. no h7) h6) h5) h4) h3) h2) h1) h0) h
 
 -- WHAT A RULE NAMES
 
 text-told : (effect : ℕ → Effect) (b : ℕ) (u more : List ℕ) → AtLineEnd more
     → IsLine (b ∷ u) → Told (b ∷ u ++ more) (text_front effect (b ∷ u ++ more))
-text-told effect b u more e l =
-    (elim (text_opens effect (b ∷ u))
+text-told effect b u more e l = (elim (text_opens effect (b ∷ u))
     as (λ v. text_opens effect (b ∷ u) ≡ v → Told (b ∷ u ++ more) (text_front effect (b ∷ u ++ more))) [
       | true ↦ λ h. text-opened effect b u more e h
-      | false ↦ λ h. subst (Told (b ∷ u ++ more)) (sym (text_front_line effect b u more e h))
-          (in_line-told (text_front effect (b ∷ u)) (b ∷ u) more l
-          (text-stands effect (b ∷ u) l) (text_front-fair TeX effect b u).within)
+      | false ↦ λ h. subst (Told (b ∷ u ++ more)) (sym (text_front_line effect b u more e h)) (in_line-told (text_front
+          effect (b ∷ u)) (b ∷ u) more l (text-stands effect (b ∷ u) l) (text_front-fair TeX effect b u).within)
     ]) refl
 
 c-told : (effect : ℕ → Effect) (takes_sign includes : Bool) (b : ℕ) (u more : List ℕ) → AtLineEnd more
     → IsLine (b ∷ u) → Told (b ∷ u ++ more) (c_front effect takes_sign includes (b ∷ u ++ more))
-c-told effect takes_sign includes b u more e l =
-    (elim (c_opens effect (b ∷ u)) as (λ v.
+c-told effect takes_sign includes b u more e l = (elim (c_opens effect (b ∷ u)) as (λ v.
     c_opens effect (b ∷ u) ≡ v → Told (b ∷ u ++ more) (c_front effect takes_sign includes (b ∷ u ++ more))) [
       | true ↦ λ h. c-opened effect takes_sign includes b u more e h
       | false ↦ λ h. subst (Told (b ∷ u ++ more)) (sym (c_front_line effect takes_sign includes b u more e h))

@@ -12,11 +12,9 @@ not_passed false h = refl
 -- what stands before the first byte that passes a test
 pub before_first : (test : ℕ → Bool) (xs : List ℕ) (r : Option ℕ) → IsFirstByte test xs r
     → unwrap_or r (length xs) ≡ prefix_len (λ b. not (test b)) xs
-before_first test xs None none =
-    sym (prefix_len_is (λ b. not (test b)) xs (length xs) 0 (omega arith)
+before_first test xs None none = sym (prefix_len_is (λ b. not (test b)) xs (length xs) 0 (omega arith)
     (λ k lt. not_passed (test (get_or xs k 0)) (none k (omega arith) lt)) (λ lt. absurd (omega (arith, lt))))
-before_first test xs (Some at) first =
-    sym (prefix_len_is (λ b. not (test b)) xs at 0 (omega (arith, first.0.high))
+before_first test xs (Some at) first = sym (prefix_len_is (λ b. not (test b)) xs at 0 (omega (arith, first.0.high))
     (λ k lt. not_passed (test (get_or xs k 0)) (first.0.before k (omega arith) lt)) (λ lt. ap not first.1))
 
 -- UNITS OF ONE BYTE
@@ -42,20 +40,16 @@ three false true w h = cc
 three false false w h = (refl, refl, h)
 
 control_goes : (b : ℕ) (t : List ℕ) → (64 == b) ≡ false → (b == 10) ≡ false → look_in_control (b ∷ t) ≡ Goes 1
-control_goes b t at line =
-    λ i.
-    if at i && begins (codes ">") t then Ends 2 Closed
-    else (if at i && begins (codes "@") t then Goes 2
-    else (if (at i && true) || line i then Ends 0 Cut else Goes 1))
+control_goes b t at line = λ i. if at i && begins (codes ">") t then Ends 2 Closed else
+    (if at i && begins (codes "@") t then Goes 2 else (if (at i && true) || line i then Ends 0 Cut else Goes 1))
 
 name_goes : (b : ℕ) (t : List ℕ) → (b == 64) ≡ false → look_in_name (b ∷ t) ≡ Goes 1
 name_goes b t h =
     let at = turned 64 b h in
     let section = no_section b t h in
-    λ i.
-    if at i && begins (codes ">") t then Ends 2 Closed
-    else (if (at i && begins (codes "<") t) || (at i && begins (codes "(") t) then Ends 0 Nested
-    else (if section i then Ends 0 Cut else (if at i && true then Goes 2 else Goes 1)))
+    λ i. if at i && begins (codes ">") t then Ends 2 Closed else
+    (if (at i && begins (codes "<") t) || (at i && begins (codes "(") t) then Ends 0 Nested else
+    (if section i then Ends 0 Cut else (if at i && true then Goes 2 else Goes 1)))
 
 comment_goes : (closes : List ℕ → Bool) (n b : ℕ) (t : List ℕ) → closes (b ∷ t) ≡ false
     → (b == 64) ≡ false → look_in_comment closes n (b ∷ t) ≡ Goes 1
@@ -67,17 +61,13 @@ comment_goes closes n b t on h =
 literal_goes : (quote b : ℕ) (t : List ℕ) → (quote == b) ≡ false → (92 == b) ≡ false
     → (64 == b) ≡ false → (b == 10) ≡ false → look_in_literal quote (b ∷ t) ≡ Goes 1
 literal_goes quote b t on back at line =
-    λ i.
-    if on i && true then Ends 1 Closed
-    else (if line i then Ends 0 Cut
-    else (if back i && begins (codes "@") t then Goes 1
-    else (if (back i && true) || (at i && begins (codes "@") t) then Goes 2 else Goes 1)))
+    λ i. if on i && true then Ends 1 Closed else (if line i then Ends 0 Cut else (if back i && begins
+    (codes "@") t then Goes 1 else (if (back i && true) || (at i && begins (codes "@") t) then Goes 2 else Goes 1)))
 
 include_goes : (b : ℕ) (t : List ℕ) → (62 == b) ≡ false → (64 == b) ≡ false
     → (b == 10) ≡ false → look_in_include (b ∷ t) ≡ Goes 1
-include_goes b t on at line = λ i.
-    if on i && true then Ends 1 Closed
-    else (if line i then Ends 0 Cut else (if at i && begins (codes "@") t then Goes 2 else Goes 1))
+include_goes b t on at line = λ i. if on i && true then Ends 1 Closed else
+    (if line i then Ends 0 Cut else (if at i && begins (codes "@") t then Goes 2 else Goes 1))
 
 pub raw_goes : (sign : List ℕ) (b : ℕ) (t : List ℕ) → is_raw_sign sign b ≡ false → look_in_raw sign (b ∷ t) ≡ Goes 1
 raw_goes [] b t h = cc
@@ -86,9 +76,8 @@ raw_goes (first ∷ rest) b t h =
     let at = turned 64 b off.0 in
     let on = turned first b off.1 in
     let section = no_section b t off.0 in
-    λ i.
-    if on i && begins rest t then Ends (length (first ∷ rest)) Closed
-    else (if section i then Ends 0 Cut else (if at i && begins (codes "@") t then Goes 2 else Goes 1))
+    λ i. if on i && begins rest t then Ends (length (first ∷ rest)) Closed else
+    (if section i then Ends 0 Cut else (if at i && begins (codes "@") t then Goes 2 else Goes 1))
 
 -- such a byte is a unit, whatever stands behind it
 pub plain_goes : (item : Item) (b : ℕ) (t : List ℕ) → is_sign item b ≡ false → look_of item (b ∷ t) ≡ Goes 1
@@ -117,8 +106,7 @@ no_at_in_raw [] b h = cc
 no_at_in_raw (first ∷ rest) b h = (neither (b == 64) (b == first) h).0
 
 -- how far an item reaches behind a run of them
-pub reach_plain : (item : Item) (e : End) (t : List ℕ)
-    → reached (reach (look_of item) e t)
+pub reach_plain : (item : Item) (e : End) (t : List ℕ) → reached (reach (look_of item) e t)
     ≡ later_by (prefix_len (is_plain item) t) (reached (reach (look_of item) e (drop (prefix_len (is_plain item) t) t)))
 reach_plain item e [] = later_by-zero (reached (reach (look_of item) e []))
 reach_plain item e (b ∷ t) = by (is_plain item b) refl (reach_plain item e t)

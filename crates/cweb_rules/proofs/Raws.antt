@@ -43,8 +43,7 @@ plain_raw p v b t w hL hu hU hR =
     let eu = unlike p 117 b v w hu in
     let eU = unlike p 85 b v w hU in
     let eR = unlike p 82 b v w hR in
-    raw_none (b ∷ t)
-    (λ i. eu i && begins (codes "8R\"") t)
+    raw_none (b ∷ t) (λ i. eu i && begins (codes "8R\"") t)
     (λ i. (eL i && begins (codes "R\"") t) || (eu i && begins (codes "R\"") t) || (eU i && begins (codes "R\"") t))
     (λ i. eR i && begins (codes "\"") t)
 
@@ -64,9 +63,8 @@ no_mark (x ∷ w) [] (c ∷ more) a all h =
     let in_word : is_word_byte x ≡ true = (both (is_word_byte x) (list_all is_word_byte w) a).0 in
     ap (λ v. v && begins (w ++ 34 ∷ []) more) (unlike is_word_byte x c false out in_word)
 no_mark (x ∷ w) (b ∷ d) more a all h =
-    let rest =
-    no_mark w d more (both (is_word_byte x) (list_all is_word_byte w) a).1
-    (both (is_word_byte b) (list_all is_word_byte d) all).1 h in
+    let rest = no_mark w d more
+    (both (is_word_byte x) (list_all is_word_byte w) a).1 (both (is_word_byte b) (list_all is_word_byte d) all).1 h in
     ap (λ v. (x == b) && v) rest ∙ and_false (x == b)
 
 pub word_raw : (d more : List ℕ) → list_all is_word_byte d ≡ true
@@ -115,15 +113,13 @@ long : (close : List ℕ) (k : ℕ) (t : List ℕ)
     → (reach_in (look_in_raw close) Cut k t).how ≡ Closed → length close ≤ length t
 long close k [] h = cc
 long close (suc k) (b ∷ t) h = let i = long close k t h in omega (arith, i)
-long close zero (b ∷ t) h =
-    one_long close b t (begins close (b ∷ t)) (starts_section (b ∷ t))
-    (begins (codes "@@") (b ∷ t)) (begins-size close (b ∷ t)) h (λ k g. long close k t g)
+long close zero (b ∷ t) h = one_long close b t (begins close (b ∷ t))
+    (starts_section (b ∷ t)) (begins (codes "@@") (b ∷ t)) (begins-size close (b ∷ t)) h (λ k g. long close k t g)
 
 further_byte : (look : List ℕ → Look) (n : ℕ) (q e p : Bool) (b c : ℕ) (t more : List ℕ)
     → (at_front look (seen n q e p) (b ∷ c ∷ t) (c ∷ t)).how ≡ Closed
-    → ((k : ℕ) → (reach_in look Cut k (c ∷ t)).how ≡ Closed
-    → reach_in look Cut k (c ∷ t ++ more) ≡ reach_in look Cut k (c ∷ t))
-    → at_front look (seen n q e p) (b ∷ c ∷ t ++ more) (c ∷ t ++ more)
+    → ((k : ℕ) → (reach_in look Cut k (c ∷ t)).how ≡ Closed → reach_in look Cut
+    k (c ∷ t ++ more) ≡ reach_in look Cut k (c ∷ t)) → at_front look (seen n q e p) (b ∷ c ∷ t ++ more) (c ∷ t ++ more)
     ≡ at_front look (seen n q e p) (b ∷ c ∷ t) (c ∷ t)
 further_byte look n true e p b c t more h ih = refl
 further_byte look n false true p b c t more h ih = refl
@@ -138,20 +134,16 @@ closed_stays close two (suc k) (b ∷ t) more h = closed_stays close two k t mor
 closed_stays close two zero (b ∷ []) more h = let l = long close 0 (b ∷ []) h in absurd (omega (arith, l, two))
 closed_stays close two zero (b ∷ c ∷ t) more h =
     let u = b ∷ c ∷ t in
-    ap (λ v.
-    at_front (look_in_raw close) (seen (length close) v (starts_section u) (begins (codes "@@") u))
-    (u ++ more) (c ∷ t ++ more))
-    (begins_fits close u more (long close 0 u h))
-    ∙ further_byte (look_in_raw close) (length close) (begins close u) (starts_section u)
-    (begins (codes "@@") u) b c t more h (λ k g. closed_stays close two k (c ∷ t) more g)
+    ap (λ v. at_front (look_in_raw close) (seen (length close) v (starts_section u) (begins (codes "@@") u))
+    (u ++ more) (c ∷ t ++ more)) (begins_fits close u more (long close 0 u h))
+    ∙ further_byte (look_in_raw close) (length close) (begins close u)
+    (starts_section u) (begins (codes "@@") u) b c t more h (λ k g. closed_stays close two k (c ∷ t) more g)
 
 -- THE WHOLE RAW LITERAL
 
 prefix_within : (p : ℕ → Bool) (t more : List ℕ) → prefix_len p t < length t → prefix_len p (t ++ more) ≡ prefix_len p t
 prefix_within p [] more h = absurd (omega (arith, h))
-prefix_within p (b ∷ t) more h =
-    elim (p b) as (λ v.
-    cond v (1 + prefix_len p t) 0 < length (b ∷ t)
+prefix_within p (b ∷ t) more h = elim (p b) as (λ v. cond v (1 + prefix_len p t) 0 < length (b ∷ t)
     → cond v (1 + prefix_len p (t ++ more)) 0 ≡ cond v (1 + prefix_len p t) 0) [
       | true ↦ λ l. ap (λ n. 1 + n) (prefix_within p t more (omega (arith, l)))
       | false ↦ λ l. refl

@@ -54,9 +54,8 @@ at_front look v u f w =
 abbrev pub WholeAt : (List ℕ → Look) → Look → List ℕ → Type 0
 WholeAt look v t = elim v [ Goes n ↦ (0 < n) × IsWhole look (n - 1) t | Ends n how ↦ IsEnd how ]
 
-one_unit : (look : List ℕ → Look) (e : End) (b : ℕ) (t more : List ℕ) (w : Look) → WholeAt look w t
-    → ((k : ℕ) → IsWhole look k t
-    → reach_in look e k (t ++ more) ≡ join (reach_in look Open k t) (reach_in look e 0 more))
+one_unit : (look : List ℕ → Look) (e : End) (b : ℕ) (t more : List ℕ) (w : Look) → WholeAt look w t → ((k : ℕ)
+    → IsWhole look k t → reach_in look e k (t ++ more) ≡ join (reach_in look Open k t) (reach_in look e 0 more))
     → at_front look w (b ∷ t ++ more) e (t ++ more) ≡ join (at_front look w (b ∷ t) Open t) (reach_in look e 0 more)
 one_unit look e b t more (Ends n how) h ih = ended n how (reach_in look e 0 more) h
 one_unit look e b t more (Goes n) h ih =
@@ -71,8 +70,7 @@ seam_in : (look : List ℕ → Look) (e : End) (more : List ℕ) → IsLocal loo
     → IsWhole look k t → reach_in look e k (t ++ more) ≡ join (reach_in look Open k t) (reach_in look e 0 more)
 seam_in look e more local k [] h = ap (λ n. reach_in look e n more) h
 seam_in look e more local (suc k) (b ∷ t) h = seam_in look e more local k t h
-seam_in look e more local zero (b ∷ t) h =
-    ap (λ v. at_front look v (b ∷ t ++ more) e (t ++ more)) (local b t)
+seam_in look e more local zero (b ∷ t) h = ap (λ v. at_front look v (b ∷ t ++ more) e (t ++ more)) (local b t)
     ∙ one_unit look e b t more (look (b ∷ t)) h (λ k f. seam_in look e more local k t f)
 
 -- the item before the seam, and after it

@@ -35,9 +35,8 @@ units-text (u ∷ us) =
   where
     unit : (u : List ℕ) → length (unit_bytes u) ≤ length u
     unit [] = omega arith
-    unit (x ∷ xs) =
-        elim (bytes_eq (x ∷ xs) (codes "@@")) as (λ v. length (if v then codes "@" else x ∷ xs) ≤ length (x ∷ xs))
-        [ true ↦ omega arith | false ↦ omega arith ]
+    unit (x ∷ xs) = elim (bytes_eq (x ∷ xs) (codes "@@")) as
+        (λ v. length (if v then codes "@" else x ∷ xs) ≤ length (x ∷ xs)) [ true ↦ omega arith | false ↦ omega arith ]
 
 -- ITEMS WITH AN END SIGN
 
@@ -56,9 +55,8 @@ at_front look v how b t =
       | Ends n e ↦ record { units = []; close = n; how = e }
     ]
 
-at_front-size : (look : List ℕ → Look) (how : End) (b : ℕ) (t : List ℕ) (v : Look)
-    → end_size v ≤ length (b ∷ t) → ((k : ℕ) → size_of (reach_in look how k t) ≤ length t - k)
-    → size_of (at_front look v how b t) ≤ length (b ∷ t)
+at_front-size : (look : List ℕ → Look) (how : End) (b : ℕ) (t : List ℕ) (v : Look) → end_size v ≤ length (b ∷ t)
+    → ((k : ℕ) → size_of (reach_in look how k t) ≤ length t - k) → size_of (at_front look v how b t) ≤ length (b ∷ t)
 at_front-size look how b t (Ends n e) h rest = omega (arith, h)
 at_front-size look how b t (Goes n) h rest =
     let r = reach_in look how (n - 1) t in
@@ -87,21 +85,18 @@ goes false x y n f g = g
 
 pub control-within : IsWithin look_in_control
 control-within t =
-    either (begins (codes "@>") t) _ _ (length t) (begins-size (codes "@>") t)
-    (goes (begins (codes "@@") t) _ _ (length t) (omega arith)
-    (goes (begins (codes "@") t || at_line_end t) _ _ (length t) (omega arith) (omega arith)))
+    either (begins (codes "@>") t) _ _ (length t) (begins-size (codes "@>") t) (goes (begins (codes "@@") t) _ _
+    (length t) (omega arith) (goes (begins (codes "@") t || at_line_end t) _ _ (length t) (omega arith) (omega arith)))
 
 pub name-within : IsWithin look_in_name
 name-within t = either (begins (codes "@>") t) _ _ (length t) (begins-size (codes "@>") t)
-    (goes (begins (codes "@<") t || begins (codes "@(") t) _ _ (length t) (omega arith)
-    (goes (starts_section t) _ _ (length t) (omega arith)
-    (goes (begins (codes "@") t) _ _ (length t) (omega arith) (omega arith))))
+    (goes (begins (codes "@<") t || begins (codes "@(") t) _ _ (length t) (omega arith) (goes (starts_section t) _ _
+    (length t) (omega arith) (goes (begins (codes "@") t) _ _ (length t) (omega arith) (omega arith))))
 
 pub comment-within : (closes : List ℕ → Bool) (n : ℕ)
     → ((t : List ℕ) → closes t ≡ true → n ≤ length t) → IsWithin (look_in_comment closes n)
-comment-within closes n sign t = either (closes t) _ _ (length t) (sign t)
-    (goes (starts_section t) _ _ (length t) (omega arith)
-    (goes (begins (codes "@") t) _ _ (length t) (omega arith) (omega arith)))
+comment-within closes n sign t = either (closes t) _ _ (length t) (sign t) (goes (starts_section t) _ _
+    (length t) (omega arith) (goes (begins (codes "@") t) _ _ (length t) (omega arith) (omega arith)))
 
 pub literal-within : (quote : ℕ) → IsWithin (look_in_literal quote)
 literal-within quote t = either (begins (quote ∷ []) t) _ _ (length t) (begins-size (quote ∷ []) t)
@@ -109,26 +104,21 @@ literal-within quote t = either (begins (quote ∷ []) t) _ _ (length t) (begins
     (goes (begins (codes "\\") t || begins (codes "@@") t) _ _ (length t) (omega arith) (omega arith))))
 
 pub include-within : IsWithin look_in_include
-include-within t = either (begins (codes ">") t) _ _ (length t) (begins-size (codes ">") t)
-    (goes (at_line_end t) _ _ (length t) (omega arith)
-    (goes (begins (codes "@@") t) _ _ (length t) (omega arith) (omega arith)))
+include-within t = either (begins (codes ">") t) _ _ (length t) (begins-size (codes ">") t) (goes (at_line_end t) _ _
+    (length t) (omega arith) (goes (begins (codes "@@") t) _ _ (length t) (omega arith) (omega arith)))
 
 pub raw-within : (sign : List ℕ) → IsWithin (look_in_raw sign)
-raw-within sign t = either (begins sign t) _ _ (length t) (begins-size sign t)
-    (goes (starts_section t) _ _ (length t) (omega arith)
-    (goes (begins (codes "@@") t) _ _ (length t) (omega arith) (omega arith)))
+raw-within sign t = either (begins sign t) _ _ (length t) (begins-size sign t) (goes (starts_section t) _ _
+    (length t) (omega arith) (goes (begins (codes "@@") t) _ _ (length t) (omega arith) (omega arith)))
 
 -- OPENER SIGNS
 
 sign_size : (u : List ℕ) → (if begins (codes "=") u then 1 else (if begins (codes "+=") u then 2 else 0)) ≤ length u
-sign_size u =
-    (elim (begins (codes "=") u)
+sign_size u = (elim (begins (codes "=") u)
     as (λ v. begins (codes "=") u ≡ v → (if v then 1 else (if begins (codes "+=") u then 2 else 0)) ≤ length u) [
       | true ↦ λ h. begins-size (codes "=") u h
-      | false ↦ λ h.
-          (elim (begins (codes "+=") u) as (λ w. begins (codes "+=") u ≡ w → (if w then 2 else 0) ≤ length u)
-          [ true ↦ λ k. begins-size (codes "+=") u k | false ↦ λ k. omega arith ])
-          refl
+      | false ↦ λ h. (elim (begins (codes "+=") u) as (λ w. begins (codes "+=") u ≡ w → (if w then 2 else 0) ≤ length u)
+          [ true ↦ λ k. begins-size (codes "+=") u k | false ↦ λ k. omega arith ]) refl
     ]) refl
 
 pub opener_sign-size : (t : List ℕ) → opener_sign t ≤ length t

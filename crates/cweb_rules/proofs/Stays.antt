@@ -41,9 +41,8 @@ literal_stays b [] (c ∷ more) h =
     let e = unlike is_word_byte 56 c false n.0 refl in
     let t = b ∷ c ∷ more in
     opening t
-    ∙ (λ i.
-    opens ((117 == b) && (e i && true)) (is_letter_first t) (is_quoted 2 t)
-    ((q.0 i && true) || (q.1 i && true)) (is_quoted 0 t))
+    ∙ (λ i. opens ((117 == b) && (e i && true))
+    (is_letter_first t) (is_quoted 2 t) ((q.0 i && true) || (q.1 i && true)) (is_quoted 0 t))
     ∙ ap (λ v. opens v (is_letter_first t) (is_quoted 2 t) false (is_quoted 0 t)) (and_false (117 == b))
     ∙ sym (ap (λ v. opens v (is_letter_first t) false false (is_quoted 0 t)) (and_false (117 == b)))
     ∙ sym (opening (b ∷ []))
@@ -53,9 +52,8 @@ literal_stays b (c ∷ []) (e ∷ more) h =
     let q = no_quote e n.1 in
     let t = b ∷ c ∷ e ∷ more in
     opening t
-    ∙ (λ i.
-    opens (begins (codes "u8") t) (is_letter_first t)
-    ((q.0 i && true) || (q.1 i && true)) (is_quoted 1 t) (is_quoted 0 t))
+    ∙ (λ i. opens
+    (begins (codes "u8") t) (is_letter_first t) ((q.0 i && true) || (q.1 i && true)) (is_quoted 1 t) (is_quoted 0 t))
     ∙ sym (opening (b ∷ c ∷ []))
 literal_stays b (c ∷ e ∷ t) more h = opening (b ∷ c ∷ e ∷ t ++ more) ∙ sym (opening (b ∷ c ∷ e ∷ t))
 
@@ -68,9 +66,8 @@ plain_with p v b t w hL hu hU =
     let eU = unlike p 85 b v w hU in
     let u = b ∷ t in
     opening u
-    ∙ (λ i.
-    opens (eu i && begins (codes "8") t) ((eL i && true) || (eu i && true) || (eU i && true))
-    (is_quoted 2 u) (is_quoted 1 u) (is_quoted 0 u))
+    ∙ (λ i. opens (eu i && begins (codes "8") t)
+    ((eL i && true) || (eu i && true) || (eU i && true)) (is_quoted 2 u) (is_quoted 1 u) (is_quoted 0 u))
 
 -- where no Word begins, only a quote begins a literal
 pub plain_literal : (b : ℕ) (t : List ℕ) → is_word_byte b ≡ false → starts_literal (b ∷ t) ≡ is_quoted 0 (b ∷ [])

@@ -25,9 +25,7 @@ escaped-is (e ∷ es) t h =
     ]
 
 octal-is : (digits : List ℕ) → IsCharacter (octal digits)
-octal-is digits =
-    (elim (nat_le (octal_value digits) 255) as (λ v.
-    nat_le (octal_value digits) 255 ≡ v
+octal-is digits = (elim (nat_le (octal_value digits) 255) as (λ v. nat_le (octal_value digits) 255 ≡ v
     → IsCharacter (if v then character (octal_value digits) (1 + length digits) else None)) [
       | true ↦ λ h. (omega (arith, leb-true (octal_value digits) 255 h), omega arith)
       | false ↦ λ h. tt
@@ -44,14 +42,11 @@ alone-is b h = ltb-true b 128 (both (nat_lt b 128) _ h).0
 
 character_at-is : (t : List ℕ) → IsCharacter (character_at t)
 character_at-is [] = tt
-character_at-is (b ∷ t) =
-    elim (begins (codes "@@") (b ∷ t)) as (λ v.
-    IsCharacter (if v then character 64 2
-    else (if begins (codes "\\") (b ∷ t) then after_backslash t
+character_at-is (b ∷ t) = elim (begins (codes "@@") (b ∷ t)) as
+    (λ v. IsCharacter (if v then character 64 2 else (if begins (codes "\\") (b ∷ t) then after_backslash t
     else (if stands_alone b then character b 1 else None)))) [
       | true ↦ (omega arith, omega arith)
-      | false ↦
-          elim (begins (codes "\\") (b ∷ t))
+      | false ↦ elim (begins (codes "\\") (b ∷ t))
           as (λ v. IsCharacter (if v then after_backslash t else (if stands_alone b then character b 1 else None))) [
             | true ↦ after_backslash-is t
             | false ↦
@@ -85,8 +80,7 @@ IsValued v n = (v.size ≤ n) × IsShort v.value (2 + v.size)
 constant_of-size : (o : Option Character) (t : List ℕ) → IsCharacter o → IsValued (constant_of o t) (length t)
 constant_of-size None t h = (faulty-size t, tt)
 constant_of-size (Some c) t h =
-    (elim (begins (codes "'") (drop c.size t)) as (λ v. begins (codes "'") (drop c.size t) ≡ v →
-    IsValued
+    (elim (begins (codes "'") (drop c.size t)) as (λ v. begins (codes "'") (drop c.size t) ≡ v → IsValued
     (if v then record { value = Some c.code; size = c.size + 1 } else record { value = None; size = faulty_size t })
     (length t)) [
       | true ↦ λ e. (
@@ -107,19 +101,15 @@ IsLetter (Some l) n = l.start + l.size ≤ n
 
 letter_with-size : (byte start gap : ℕ) (t : List ℕ) → gap ≤ length t
     → IsLetter (letter_with byte start gap t) (start + length t)
-letter_with-size byte start gap t h =
-    elim (gap == 0) as (λ v.
-    IsLetter (if v then None
-    else Some
+letter_with-size byte start gap t h = elim (gap == 0) as (λ v. IsLetter (if v then None else Some
     (record { byte = byte; start = start + gap; size = prefix_len is_replacing (drop gap t) }))
     (start + length t)) [
       | true ↦ tt
       | false ↦ omega (arith, h, length-drop gap t, prefix_len-le-length is_replacing (drop gap t))
     ]
 
-letter_of-size : (gap : ℕ) (a b : ℕ) (t : List ℕ) (o : Option ℕ)
-    → IsLetter (elim o [ None ↦ None | Some byte ↦ letter_with byte (gap + 2) (prefix_len is_gap t) t ])
-    (gap + length (a ∷ b ∷ t))
+letter_of-size : (gap : ℕ) (a b : ℕ) (t : List ℕ) (o : Option ℕ) → IsLetter
+    (elim o [ None ↦ None | Some byte ↦ letter_with byte (gap + 2) (prefix_len is_gap t) t ]) (gap + length (a ∷ b ∷ t))
 letter_of-size gap a b t None = tt
 letter_of-size gap a b t (Some byte) =
     let h = letter_with-size byte (gap + 2) (prefix_len is_gap t) t (prefix_len-le-length is_gap t) in
@@ -142,9 +132,8 @@ letter-size t =
 pub number-size : (last : ℕ) (t : List ℕ) → number_len last t ≤ length t
 number-size last [] = omega arith
 number-size last (b ∷ t) =
-    elim (goes_on_number last b)
-    as (λ v. (elim v as (λ w. ℕ) [ true ↦ 1 + number_len b t | false ↦ 0 ]) ≤ length (b ∷ t))
-    [ true ↦ omega (arith, number-size b t) | false ↦ omega arith ]
+    elim (goes_on_number last b) as (λ v. (elim v as (λ w. ℕ) [ true ↦ 1 + number_len b t | false ↦ 0 ]) ≤ length
+    (b ∷ t)) [ true ↦ omega (arith, number-size b t) | false ↦ omega arith ]
 
 pub longest-some : (ps : List (List ℕ)) (t : List ℕ) → 1 ≤ longest ps t
 longest-some [] t = omega arith
@@ -155,7 +144,5 @@ longest-size [] b t = omega arith
 longest-size (p ∷ ps) b t = omega (arith, longest-size ps b t, entry)
   where
     entry : (if begins p (b ∷ t) then length p else 1) ≤ length (b ∷ t)
-    entry =
-        (elim (begins p (b ∷ t)) as (λ v. begins p (b ∷ t) ≡ v → (if v then length p else 1) ≤ length (b ∷ t))
-        [ true ↦ λ h. begins-size p (b ∷ t) h | false ↦ λ h. omega arith ])
-        refl
+    entry = (elim (begins p (b ∷ t)) as (λ v. begins p (b ∷ t) ≡ v → (if v then length p else 1) ≤ length (b ∷ t))
+        [ true ↦ λ h. begins-size p (b ∷ t) h | false ↦ λ h. omega arith ]) refl

@@ -58,11 +58,8 @@ at_of (Faulty k) t u h = cc
 
 code_is : (a b : ℕ) (t : List ℕ) → (64 == a) ≡ true → starts_section (a ∷ b ∷ t) ≡ false
     → c_front in_c false false (a ∷ b ∷ t) ≡ code_front (in_c b) false (a ∷ b ∷ t)
-code_is a b t at section =
-    subst (λ x.
-    starts_section (x ∷ b ∷ t) ≡ false
-    → c_front in_c false false (x ∷ b ∷ t) ≡ code_front (in_c b) false (x ∷ b ∷ t))
-    (eqb-true 64 a at)
+code_is a b t at section = subst (λ x. starts_section (x ∷ b ∷ t) ≡ false
+    → c_front in_c false false (x ∷ b ∷ t) ≡ code_front (in_c b) false (x ∷ b ∷ t)) (eqb-true 64 a at)
     (λ s. λ i. if s i then section_at (64 ∷ b ∷ t) else code_front (in_c b) false (64 ∷ b ∷ t)) section
 
 at_from : (a : ℕ) (d more : List ℕ) → Coded (a ∷ d) → Names (kind.Code GiveAt) (a ∷ d) (length (a ∷ d))
@@ -104,9 +101,8 @@ ended Nested h = cc
 ended Open h = cc
 
 literal_case : (v : Bool) (units : List (List ℕ)) (how : End) (b : ℕ) (d more : List ℕ)
-    → Passed (b ∷ d) → Opens (b ∷ d) v
-    → Names (kind.Quoted units how) (b ∷ d) (length (b ∷ d)) → is_closed how ≡ true
-    → Names (kind.Quoted units how) (b ∷ d ++ more) (length (b ∷ d))
+    → Passed (b ∷ d) → Opens (b ∷ d) v → Names (kind.Quoted units how) (b ∷ d) (length (b ∷ d))
+    → is_closed how ≡ true → Names (kind.Quoted units how) (b ∷ d ++ more) (length (b ∷ d))
 literal_case true units how b d more p o e h =
     let at = sym (raw_front (b ∷ d) p o) ∙ e in
     let closed = ap (λ g. how_of g.kind) at ∙ ended how h in

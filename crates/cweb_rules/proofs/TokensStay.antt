@@ -51,14 +51,9 @@ not_number (c ∷ more) h = (neither (after_word c) (is_one_of (codes ".+-") c) 
 
 pub word_front : (t : List ℕ) → Facts t ForWord
     → c_front in_c false false t ≡ front Identifier (prefix_len is_word_byte t)
-word_front t f =
-    passed_front t f.0.0
-    ∙ (λ i.
-    if f.0.1 i then raw_at t
-    else (if f.1 i then literal_at t
-    else (if f.2 i then front Numeral (number_len 0 t)
-    else (if f.3 i then front Identifier (prefix_len is_word_byte t)
-    else front Punctuator (longest listed t)))))
+word_front t f = passed_front t f.0.0
+    ∙ (λ i. if f.0.1 i then raw_at t else (if f.1 i then literal_at t else (if f.2 i then front Numeral (number_len 0 t)
+    else (if f.3 i then front Identifier (prefix_len is_word_byte t) else front Punctuator (longest listed t)))))
 
 pub word_stays : (b : ℕ) (t more : List ℕ) → Facts (b ∷ t) ForWord → list_all is_word_byte (b ∷ t) ≡ true
     → first_is after_word more ≡ false → c_front in_c false false (b ∷ t ++ more) ≡ c_front in_c false false (b ∷ t)
@@ -73,14 +68,10 @@ word_stays b t more f all h =
     ∙ sym (word_front (b ∷ t) f)
 
 number_front : (t : List ℕ) → Facts t ForNumber → c_front in_c false false t ≡ front Numeral (number_len 0 t)
-number_front t f =
-    passed_front t f.0.0
-    ∙ (λ i.
-    if f.0.1 i then raw_at t
-    else (if f.1 i then literal_at t
-    else (if f.2 i then front Numeral (number_len 0 t)
-    else (if first_is is_word_byte t then front Identifier (prefix_len is_word_byte t)
-    else front Punctuator (longest listed t)))))
+number_front t f = passed_front t f.0.0
+    ∙ (λ i. if f.0.1 i then raw_at t else
+    (if f.1 i then literal_at t else (if f.2 i then front Numeral (number_len 0 t) else (if first_is
+    is_word_byte t then front Identifier (prefix_len is_word_byte t) else front Punctuator (longest listed t)))))
 
 pub number_stays : (b : ℕ) (t more : List ℕ) → Facts (b ∷ t) ForNumber → first_is after_number more ≡ false
     → c_front in_c false false (b ∷ t ++ more) ≡ c_front in_c false false (b ∷ t)
@@ -97,14 +88,9 @@ number_stays b t more f h =
     ∙ sym (number_front (b ∷ t) f)
 
 punct_front : (t : List ℕ) → Facts t ForPunct → c_front in_c false false t ≡ front Punctuator (longest listed t)
-punct_front t f =
-    passed_front t f.0.0
-    ∙ (λ i.
-    if f.0.1 i then raw_at t
-    else (if f.1 i then literal_at t
-    else (if f.2 i then front Numeral (number_len 0 t)
-    else (if f.3 i then front Identifier (prefix_len is_word_byte t)
-    else front Punctuator (longest listed t)))))
+punct_front t f = passed_front t f.0.0
+    ∙ (λ i. if f.0.1 i then raw_at t else (if f.1 i then literal_at t else (if f.2 i then front Numeral (number_len 0 t)
+    else (if f.3 i then front Identifier (prefix_len is_word_byte t) else front Punctuator (longest listed t)))))
 
 pub punct_stays : (joins : ℕ → ℕ → Bool) → JoinsAll joins → (b : ℕ) (t more : List ℕ) → Facts (b ∷ t) ForPunct
     → seam_joins joins b t more ≡ false → c_front in_c false false (b ∷ t ++ more) ≡ c_front in_c false false (b ∷ t)

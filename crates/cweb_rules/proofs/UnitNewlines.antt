@@ -26,8 +26,7 @@ none-ends (b ∷ t) h = ap (λ v. if v then 1 + at_line_ends 1 t else at_line_en
 pub ends-append : (t u : List ℕ) → at_line_ends 1 (t ++ u) ≡ at_line_ends 1 t + at_line_ends 1 u
 ends-append [] u = let e : at_line_ends 1 u ≡ 0 + at_line_ends 1 u = omega arith in e
 ends-append (b ∷ t) u =
-    elim (is_line_end b) as (λ v.
-    (if v then 1 + at_line_ends 1 (t ++ u) else at_line_ends 1 (t ++ u))
+    elim (is_line_end b) as (λ v. (if v then 1 + at_line_ends 1 (t ++ u) else at_line_ends 1 (t ++ u))
     ≡ (if v then 1 + at_line_ends 1 t else at_line_ends 1 t) + at_line_ends 1 u) [
       | true ↦ omega (arith, ends-append t u)
       | false ↦ ends-append t u
@@ -58,9 +57,8 @@ line-told Punctuator bytes h l = none-ends bytes l
 -- what a line's front names is told, whatever follows the line
 pub in_line-told : (f : Front) (u more : List ℕ) → IsLine u
     → InLine f.kind (take f.size u) → f.size ≤ length u → Told (u ++ more) f
-in_line-told f u more l h fits =
-    subst (Tells f.kind) (sym (take-append-le f.size u more fits))
-    (line-told f.kind (take f.size u) h (IsLine-take f.size u l))
+in_line-told f u more l h fits = subst (Tells f.kind)
+    (sym (take-append-le f.size u more fits)) (line-told f.kind (take f.size u) h (IsLine-take f.size u l))
 
 -- THE UNITS OF AN ITEM
 
@@ -83,8 +81,7 @@ begins_at look e (Goes n) b t some f =
     let r = reach_in look e (n - 1) t in
     let h = f (n - 1) in (
       h.0,
-      sym (take-append-drop n (b ∷ t))
-          ∙ ap (λ u. take n (b ∷ t) ++ u) (sym (drop-pred n b t some) ∙ h.1)
+      sym (take-append-drop n (b ∷ t)) ∙ ap (λ u. take n (b ∷ t) ++ u) (sym (drop-pred n b t some) ∙ h.1)
           ∙ sym (append_assoc (take n (b ∷ t)) (body r) h.0),
     )
 begins_at look e (Ends n how) b t some f = (b ∷ t, refl)
@@ -111,8 +108,7 @@ drop-sum (suc n) m (b ∷ t) =
     let e : suc n + m ≡ suc (n + m) = omega arith in ap (λ k. drop k (b ∷ t)) e ∙ drop-sum n m t
 
 -- the units of a literal are its bytes
-pub quoted-bytes : (look : List ℕ → Look) → AllSome look → (n : ℕ) (t : List ℕ)
-    → (let r = reach look Cut (drop n t) in
+pub quoted-bytes : (look : List ℕ → Look) → AllSome look → (n : ℕ) (t : List ℕ) → (let r = reach look Cut (drop n t) in
     flat_map (λ u. u) (take n t ∷ r.units ++ take r.close (drop (n + length (body r)) t) ∷ []))
     ≡ take (n + size_of (reach look Cut (drop n t))) t
 quoted-bytes look some n t =
@@ -135,7 +131,5 @@ some_if true x y f g = f
 some_if false x y f g = g
 
 pub raw-some : (sign : List ℕ) → AllSome (look_in_raw sign)
-raw-some sign b t =
-    some_if (begins sign (b ∷ t)) _ _ tt
-    (some_if (starts_section (b ∷ t)) _ _ tt
-    (some_if (begins (codes "@@") (b ∷ t)) _ _ (omega arith) (omega arith)))
+raw-some sign b t = some_if (begins sign (b ∷ t)) _ _ tt
+    (some_if (starts_section (b ∷ t)) _ _ tt (some_if (begins (codes "@@") (b ∷ t)) _ _ (omega arith) (omega arith)))

@@ -4,10 +4,9 @@ use Rattle.cweb_files.proofs.ByteTables.{told_by_table}
 
 -- which bytes are of words, as runs of equal answers: a dollar, digits, letters, a low line, letters and high bytes are
 abbrev pub word_bytes : List Bool
-word_bytes =
-    replicate 36 false ++ replicate 1 true ++ replicate 11 false ++ replicate 10 true ++ replicate 7 false
-    ++ replicate 26 true ++ replicate 4 false ++ replicate 1 true ++ replicate 1 false ++ replicate 26 true
-    ++ replicate 5 false ++ replicate 128 true
+word_bytes = replicate 36 false ++ replicate 1 true
+    ++ replicate 11 false ++ replicate 10 true ++ replicate 7 false ++ replicate 26 true ++ replicate 4 false
+    ++ replicate 1 true ++ replicate 1 false ++ replicate 26 true ++ replicate 5 false ++ replicate 128 true
 
 pub word_told : (b : ℕ) → b < 256 → slice_index_or word_bytes b false ≡ is_word_byte b
 word_told b small = told_by_table is_word_byte word_bytes refl b small

@@ -22,11 +22,9 @@ read_nothing run held = record {
 
 -- one more
 pub read_more : {R : Type 0} (run : Run R) (lines : List (List ℕ)) (ahead : Ahead) (old mid new : Held)
-    → (looks : LooksAt run lines ahead) → HasRead run lines old mid
-    → ((more : List Line) → read_after new more
-    ≡ read_after mid (record { bytes = bytes_in run ahead.line; place = ahead.line.place } ∷ more))
-    → cost new ≤ cost mid + 3 * (length (bytes_in run ahead.line) + 1)
-    → HasRead run (lines ++ looks.raw ∷ []) old new
+    → (looks : LooksAt run lines ahead) → HasRead run lines old mid → ((more : List Line) →
+    read_after new more ≡ read_after mid (record { bytes = bytes_in run ahead.line; place = ahead.line.place } ∷ more))
+    → cost new ≤ cost mid + 3 * (length (bytes_in run ahead.line) + 1) → HasRead run (lines ++ looks.raw ∷ []) old new
 read_more run lines ahead old mid new looks first reads adds = record {
   read = λ more.
       reads more ∙ first.read (line ∷ more)

@@ -18,9 +18,8 @@ run_taken : (t : List ℕ) (s : State) → IsLine t → IsPlainC s → TakesPlai
 run_taken [] s line h = record { taken = λ g. takes_none [] (between s g) }
 run_taken (b ∷ t) s line h = (elim (is_blank b) as (λ v.
     is_blank b ≡ v → TakesPlain (if v then 1 + prefix_len is_blank t else 0) (b ∷ t) s s) [
-      | true ↦ λ e.
-          blanks_turn (1 + prefix_len is_blank t) (b ∷ t) s line (omega arith) h (blank_first _ b t e)
-          (ap (λ v. if v then 1 + prefix_len is_blank t else 0) (sym e))
+      | true ↦ λ e. blanks_turn (1 + prefix_len is_blank t) (b ∷ t) s line
+          (omega arith) h (blank_first _ b t e) (ap (λ v. if v then 1 + prefix_len is_blank t else 0) (sym e))
       | false ↦ λ e. record { taken = λ g. takes_none (b ∷ t) (between s g) }
     ]) refl
 
@@ -31,8 +30,7 @@ first_taken m u a some x y = record {
   begun = refl;
   within = some;
   adds = omega arith;
-  same = λ later more e.
-      sym (y.same later more e)
+  same = λ later more e. sym (y.same later more e)
       ∙ sym (ap (λ (t : List ℕ). goes_on a later (t ++ more)) (drop_more 1 m u)) ∙ x.same later more e;
 }
 
@@ -54,7 +52,6 @@ blank_passed text (x ∷ t) a b line h f = (elim (x == 32) as (λ v.
           let same = eqb-true x 32 e in
           let own = left_line text (x ∷ t) a b line f in
           some_goes_on 1 text (x ∷ t) t a b b refl f
-          (subst (λ y. TakesPlain 1 (y ∷ t) b b) (sym same)
-          (one_blank t b (subst (λ y. IsLine (y ∷ t)) same own) h))
+          (subst (λ y. TakesPlain 1 (y ∷ t) b b) (sym same) (one_blank t b (subst (λ y. IsLine (y ∷ t)) same own) h))
       | false ↦ λ e. f
     ]) refl

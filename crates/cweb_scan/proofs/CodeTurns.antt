@@ -29,18 +29,14 @@ pub staying_at : (n : ℕ) (u : List ℕ) (h v : Held) (new : State) (f : Front)
     → front_of h.state u ≡ f → opens_in h.state.context u ≡ false
     → Gives f u n v.state new → Passes n u h (at_item v new)
 staying_at n u h v new f is none stays line some front ends =
-    subst (λ (k : Held). Gives f u n k.state new → Passes n u h (at_item k new)) (sym is)
-    (λ gives.
-    subst (λ i.
-    Passes n u (record { state = h.state; item = i; begun = h.begun })
-    (record { state = new; item = i; begun = h.begun }))
+    subst (λ (k : Held). Gives f u n k.state new → Passes n u h (at_item k new)) (sym is) (λ gives. subst (λ i. Passes
+    n u (record { state = h.state; item = i; begun = h.begun }) (record { state = new; item = i; begun = h.begun }))
     (sym none) (passed n u h.state new h.begun f stays line some front ends gives))
 
 pub closed_at : (n : ℕ) (u : List ℕ) (h v : Held) (new : State) (f : Front) → v ≡ h → h.item ≡ Between
     → is_head h.state.context ≡ false → IsLine u → 1 ≤ length u → front_of h.state u ≡ f
     → opens_in h.state.context u ≡ false → Gives f u n v.state new → Passes n u h (at_item v new)
-closed_at n u h v new f is none head line some front ends gives =
-    staying_at n u h v new f is none
+closed_at n u h v new f is none head line some front ends gives = staying_at n u h v new f is none
     (enter_same h.state.context (front_of h.state u).kind h.state head) line some front ends gives
 
 -- CODES
@@ -129,15 +125,12 @@ text_head CText h = refl
 -- what stands before the next `@`
 pub skipped_at : (n : ℕ) (u : List ℕ) (h : Held) → n ≡ prefix_len is_skipped u → 1 ≤ n
     → h.item ≡ Between → reads_c h.state.context ≡ false → IsLine u → Passes n u h h
-skipped_at n u h is some none text line =
-    subst (λ i.
-    Passes n u (record { state = h.state; item = i; begun = h.begun })
-    (record { state = h.state; item = i; begun = h.begun }))
+skipped_at n u h is some none text line = subst (λ i. Passes n u
+    (record { state = h.state; item = i; begun = h.begun }) (record { state = h.state; item = i; begun = h.begun }))
     (sym none) (record {
       some = some;
       within = refl;
-      taken =
-          subst (λ k. Takes k u (between h.state h.begun) (between h.state h.begun)) (sym is)
+      taken = subst (λ k. Takes k u (between h.state h.begun) (between h.state h.begun)) (sym is)
           (skipped_takes h.state h.begun u (text_is h.state.context text) line);
     })
 

@@ -27,9 +27,8 @@ pub text_in_c : (s : State) → in_directive_text s ≡ true → s.context ≡ C
 text_in_c s h = (c_and s.context (is_further_stage (stage_of (directive s).tokens)) h).0
 
 pub text_stage : (s : State) → in_directive_text s ≡ true → stage_of (directive s).tokens ≡ Further
-text_stage s h =
-    stage_further (stage_of (directive s).tokens)
-    (c_and s.context (is_further_stage (stage_of (directive s).tokens)) h).1
+text_stage s h = stage_further
+    (stage_of (directive s).tokens) (c_and s.context (is_further_stage (stage_of (directive s).tokens)) h).1
 
 -- the directive is open, and no included name may follow
 text_open : (s : State) → in_directive_text s ≡ true → in_directive s ≡ true
@@ -56,8 +55,7 @@ stays_further false false = refl
 step_text : (d : Directive) (t : Token) → d.stage ≡ Further → IsPlainToken t → step d t ≡ text
 step_text d t h plain =
     (λ i. record {
-      stage = if is_outside (h i)
-          then (if is_punct (codes "#") (Some t) && is_line_end d.last then Bare else Outside)
+      stage = if is_outside (h i) then (if is_punct (codes "#") (Some t) && is_line_end d.last then Bare else Outside)
           else (if is_line_end (plain.last i) && not (goes_over d.last t) then Outside else further (h i) t);
       last = plain.last i;
     }) ∙ ap (λ g. record { stage = g; last = last.Other }) (stays_further (is_blank_token t) (is_include_word t))
@@ -80,8 +78,7 @@ text_blanks n u s new line some h is size made =
 
 pub text_sign : (n : ℕ) (u : List ℕ) (s new : State) → IsLine u → 1 ≤ length u → in_directive_text s ≡ true
     → rule.Punctuator ≡ rule_at s u → n ≡ longest listed u → new ≡ give (Punct (take n u)) s → TakesPlain n u s new
-text_sign n u s new line some h is size made =
-    turn n u s new rule.Punctuator line some (text_in_c s h) is refl
+text_sign n u s new line some h is size made = turn n u s new rule.Punctuator line some (text_in_c s h) is refl
     (record {
       size = size;
       state = made ∙ ap (λ v. record (give (Punct (take n u)) s) { folded = v && s.folded }) (sym (text_open s h))

@@ -33,9 +33,7 @@ tokens_last ps p =
     )
 
 pub dropped_count : (v : PartsSoFar) → token_count (dropped v) ≤ token_count v
-dropped_count v =
-    elim v.current as (λ o.
-    length (all_tokens (v.closed ++ option_to_list (option_map without_layout o)))
+dropped_count v = elim v.current as (λ o. length (all_tokens (v.closed ++ option_to_list (option_map without_layout o)))
     ≤ length (all_tokens (v.closed ++ option_to_list o))) [
       | None ↦ omega arith
       | Some p ↦ omega (arith, tokens_last v.closed (without_layout p), tokens_last v.closed p, layout_short p)

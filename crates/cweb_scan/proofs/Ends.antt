@@ -48,9 +48,8 @@ pub how-at_end : (look : List ℕ → Look) → AllWithin look → (e : End) (t 
 how-at_end look within e t r is =
     ap (λ (v : Reached). ended_as e v.how) is ∙ ap (λ (v : Reach). v.how) (sym (reach-at_end look within e t))
 
-pub control_gives : (t : List ℕ) (r : Reached) (s new : State)
-    → r ≡ reached (reach look_in_control Open (drop 2 t)) → new ≡ control_text (ended_as Cut r.how) s
-    → Gives (control_at t) t (2 + (r.size + r.close)) s new
+pub control_gives : (t : List ℕ) (r : Reached) (s new : State) → r ≡ reached (reach look_in_control Open (drop 2 t))
+    → new ≡ control_text (ended_as Cut r.how) s → Gives (control_at t) t (2 + (r.size + r.close)) s new
 control_gives t r s new is made = record {
   size = ap (λ n. 2 + n) (size-at_end look_in_control control-units Cut (drop 2 t) r is);
   state = made ∙ ap (λ (e : End). control_text e s) (how-at_end look_in_control control-units Cut (drop 2 t) r is);
@@ -63,17 +62,15 @@ nothing_later s = record { state = s; later = [] }
 pub none_to_come : (f : Place → State → State) (t : List ℕ) (s : State)
     → each_line_end f t (nothing_later s) ≡ nothing_later s
 none_to_come f [] s = refl
-none_to_come f (b ∷ t) s =
-    elim (is_line_end b)
+none_to_come f (b ∷ t) s = elim (is_line_end b)
     as (λ v. each_line_end f t (if v then next_line f (nothing_later s) else nothing_later s) ≡ nothing_later s) [
       | true ↦ none_to_come f t s
       | false ↦ none_to_come f t s
     ]
 
 pub line_comment_gives : (t : List ℕ) (r : Reached) (s new : State)
-    → r ≡ reached (reach (look_in_comment at_line_end 0) Open (drop 2 t))
-    → new ≡ comment (ended_as Closed r.how) s.here (blank s)
-    → Gives (line_comment_at t) t (2 + (r.size + r.close)) s new
+    → r ≡ reached (reach (look_in_comment at_line_end 0) Open (drop 2 t)) → new
+    ≡ comment (ended_as Closed r.how) s.here (blank s) → Gives (line_comment_at t) t (2 + (r.size + r.close)) s new
 line_comment_gives t r s new is made =
     let look = look_in_comment at_line_end 0 in
     let units = comment-units at_line_end 0 in

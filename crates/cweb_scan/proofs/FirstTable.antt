@@ -45,22 +45,20 @@ told_from (x ∷ xs) k zero b d h within e =
     let test = number x == number (plain_by k) in
     let same = eqb-true (number x) (number (plain_by k)) (both test (agrees (suc k) xs) h).0 in
     sym (kind_back x) ∙ ap kind same ∙ kind_back (plain_by k) ∙ ap plain_by here
-told_from (x ∷ xs) k (suc i) b d h within e =
-    told_from xs (suc k) i b d (both (number x == number (plain_by k)) (agrees (suc k) xs) h).1
-    (omega (arith, within)) (omega (arith, e))
+told_from (x ∷ xs) k (suc i) b d h within e = told_from xs (suc k) i b d
+    (both (number x == number (plain_by k)) (agrees (suc k) xs) h).1 (omega (arith, within)) (omega (arith, e))
 
 -- the table, as runs of equal kinds
 abbrev pub firsts : List Plain
-firsts =
-    replicate 9 Operator ++ replicate 1 Blank ++ replicate 1 Further ++ replicate 3 Blank ++ replicate 18 Operator
-    ++ replicate 1 Blank ++ replicate 1 Operator ++ replicate 1 Quote ++ replicate 1 Stop ++ replicate 1 Word
-    ++ replicate 2 Operator ++ replicate 1 Quote ++ replicate 2 Sign ++ replicate 2 Operator ++ replicate 1 Sign
-    ++ replicate 1 Operator ++ replicate 2 Further ++ replicate 10 Digit ++ replicate 1 Operator ++ replicate 1 Sign
-    ++ replicate 3 Operator ++ replicate 1 Sign ++ replicate 1 Stop ++ replicate 11 Word ++ replicate 1 Further
-    ++ replicate 5 Word ++ replicate 1 Further ++ replicate 2 Word ++ replicate 1 Further ++ replicate 5 Word
-    ++ replicate 1 Sign ++ replicate 1 Stop ++ replicate 1 Sign ++ replicate 1 Operator ++ replicate 1 Word
-    ++ replicate 1 Operator ++ replicate 20 Word ++ replicate 1 Further ++ replicate 5 Word ++ replicate 1 Sign
-    ++ replicate 1 Operator ++ replicate 2 Sign ++ replicate 1 Operator ++ replicate 128 Word
+firsts = replicate 9 Operator ++ replicate 1 Blank ++ replicate 1 Further ++ replicate 3 Blank
+    ++ replicate 18 Operator ++ replicate 1 Blank ++ replicate 1 Operator ++ replicate 1 Quote ++ replicate 1 Stop
+    ++ replicate 1 Word ++ replicate 2 Operator ++ replicate 1 Quote ++ replicate 2 Sign ++ replicate 2 Operator
+    ++ replicate 1 Sign ++ replicate 1 Operator ++ replicate 2 Further ++ replicate 10 Digit ++ replicate 1 Operator
+    ++ replicate 1 Sign ++ replicate 3 Operator ++ replicate 1 Sign ++ replicate 1 Stop ++ replicate 11 Word
+    ++ replicate 1 Further ++ replicate 5 Word ++ replicate 1 Further ++ replicate 2 Word ++ replicate 1 Further
+    ++ replicate 5 Word ++ replicate 1 Sign ++ replicate 1 Stop ++ replicate 1 Sign ++ replicate 1 Operator
+    ++ replicate 1 Word ++ replicate 1 Operator ++ replicate 20 Word ++ replicate 1 Further ++ replicate 5 Word
+    ++ replicate 1 Sign ++ replicate 1 Operator ++ replicate 2 Sign ++ replicate 1 Operator ++ replicate 128 Word
 
 pub first_told : (b : ℕ) (d : Plain) → b < 256 → slice_index_or firsts b d ≡ plain_by b
 first_told b d small = told_from firsts 0 b b d refl small (omega arith)

@@ -14,8 +14,7 @@ HasNone (b ∷ t) = ((b == 64) ≡ false) × HasNone t
 
 pub none_stands : (t : List ℕ) → length t ≤ prefix_len is_skipped t → HasNone t
 none_stands [] h = tt
-none_stands (b ∷ t) h =
-    (elim (b == 64) as (λ v.
+none_stands (b ∷ t) h = (elim (b == 64) as (λ v.
     (b == 64) ≡ v → length (b ∷ t) ≤ (if not v then 1 + prefix_len is_skipped t else 0) → HasNone (b ∷ t)) [
       | true ↦ λ e g. absurd (omega (arith, g))
       | false ↦ λ e g. (e, none_stands t (omega (arith, g)))
@@ -36,9 +35,8 @@ text_stays (u ∷ us) h =
 
 unit_told : (u : List ℕ) (s : State) → HasNone u → literal_unit (nothing_later s) u ≡ nothing_later s
 unit_told [] s h = refl
-unit_told (b ∷ t) s h =
-    ap (λ v. if v && bytes_eq t [] then literal_unit (nothing_later s) (codes "@")
-    else each_line_end moved (b ∷ t) (nothing_later s)) h.0
+unit_told (b ∷ t) s h = ap (λ v. if v && bytes_eq t [] then literal_unit
+    (nothing_later s) (codes "@") else each_line_end moved (b ∷ t) (nothing_later s)) h.0
     ∙ none_to_come moved (b ∷ t) s
 
 units_told : (us : List (List ℕ)) (s : State) → HasNone (flat_map (λ u. u) us)
@@ -88,6 +86,5 @@ pub literal_turn : (n : ℕ) (u : List ℕ) (s new : State) (r : Reached) → Is
     → n ≡ literal_prefix u + 1 + (r.size + r.close) → HasNone (take n u) → new ≡ give (Literal (take n u)) s
     → TakesPlain n u s new
 literal_turn n u s new r line some h is reach closed size none made =
-    ended_turn n u s new rule.Literal line some h is
-    (sym (ap (λ (v : Reached). is_open v.how) reach) ∙ ap is_open closed)
-    (literal_gives n u s new r reach closed size none made)
+    ended_turn n u s new rule.Literal line some h is (sym (ap (λ (v : Reached). is_open v.how) reach)
+    ∙ ap is_open closed) (literal_gives n u s new r reach closed size none made)

@@ -23,14 +23,12 @@ and_false false = refl
 
 -- where no directive is open no included name is a rule
 rule_plain : (s : State) (u : List ℕ) (r : Rule) → IsPlainC s → r ≡ c_rule false u → r ≡ rule_at s u
-rule_plain s u r h is =
-    is ∙ ap (λ v. c_rule v u)
-    (sym (ap (λ v. is_c s.context && v) (none_included (directive s).tokens (none_open s h))
+rule_plain s u r h is = is
+    ∙ ap (λ v. c_rule v u) (sym (ap (λ v. is_c s.context && v) (none_included (directive s).tokens (none_open s h))
     ∙ and_false (is_c s.context)))
 
-ends_by : (c : Context) (includes : Bool) (u : List ℕ) (r : Rule) → c ≡ CText
-    → r ≡ c_rule (is_c c && includes) u → opens_by in_c u r ≡ false
-    → (front_in c includes u ≡ c_front_by in_c false u r) × (opens_in c u ≡ false)
+ends_by : (c : Context) (includes : Bool) (u : List ℕ) (r : Rule) → c ≡ CText → r ≡ c_rule (is_c c && includes) u
+    → opens_by in_c u r ≡ false → (front_in c includes u ≡ c_front_by in_c false u r) × (opens_in c u ≡ false)
 ends_by Limbo includes u r h is ends = cc
 ends_by TeX includes u r h is ends = cc
 ends_by (Definition begun) includes u r h is ends = cc
@@ -41,9 +39,8 @@ ends_by CText includes u r h is ends = (
 )
 
 -- an item that may go over its line, and ends in it
-pub ended_turn : (n : ℕ) (u : List ℕ) (s new : State) (r : Rule) → IsLine u → 1 ≤ length u → IsPlainC s
-    → r ≡ c_rule false u → opens_by in_c u r ≡ false → Gives (c_front_by in_c false u r) u n s new
-    → TakesPlain n u s new
+pub ended_turn : (n : ℕ) (u : List ℕ) (s new : State) (r : Rule) → IsLine u → 1 ≤ length u → IsPlainC s → r
+    ≡ c_rule false u → opens_by in_c u r ≡ false → Gives (c_front_by in_c false u r) u n s new → TakesPlain n u s new
 ended_turn n u s new r line some h is ends gives =
     let f = ends_by s.context (names_include s) u r h.in_c (rule_plain s u r h is) ends in
     record {
@@ -55,8 +52,7 @@ ended_turn n u s new r line some h is ends gives =
 
 pub numeral_turn : (n : ℕ) (u : List ℕ) (s new : State) → IsLine u → 1 ≤ length u → s.context ≡ CText
     → rule.Number ≡ rule_at s u → n ≡ number_len 0 u → new ≡ give (Number (take n u)) s → TakesPlain n u s new
-numeral_turn n u s new line some c_text is size made =
-    turn n u s new rule.Number line some c_text is refl
+numeral_turn n u s new line some c_text is size made = turn n u s new rule.Number line some c_text is refl
     (record { size = size; state = made ∙ ap (λ k. give (Number (take k u)) s) size })
 
 pub number_turn : (n : ℕ) (u : List ℕ) (s new : State) → IsLine u → 1 ≤ length u → IsPlainC s
@@ -64,8 +60,7 @@ pub number_turn : (n : ℕ) (u : List ℕ) (s new : State) → IsLine u → 1 �
 number_turn n u s new line some h is size made =
     numeral_turn n u s new line some h.in_c (rule_plain s u rule.Number h is) size made
 
-pub seen_word : (s : State) (u : List ℕ) → IsPlainC s → rule.Identifier ≡ c_rule false u
-    → rule.Identifier ≡ rule_at s u
+pub seen_word : (s : State) (u : List ℕ) → IsPlainC s → rule.Identifier ≡ c_rule false u → rule.Identifier ≡ rule_at s u
 seen_word s u h is = rule_plain s u rule.Identifier h is
 
 pub operator_turn : (n : ℕ) (u : List ℕ) (s new : State) → IsLine u → 1 ≤ length u → IsPlainC s
@@ -110,9 +105,8 @@ blank_is s h = ap (λ v. if v && not (is_blank (directive s).last) then give Bla
 pub line_comment_turn : (u : List ℕ) (s : State) (r : Reached) → IsLine u → 1 ≤ length u → IsPlainC s
     → rule.LineComment ≡ c_rule false u → r ≡ reached (reach (look_in_comment at_line_end 0) Open (drop 2 u))
     → r.how ≡ Open → TakesPlain (2 + (r.size + r.close)) u s s
-line_comment_turn u s r line some h is reach ends =
-    turn (2 + (r.size + r.close)) u s s rule.LineComment line some h.in_c (rule_plain s u rule.LineComment h is) refl
-    (line_comment_gives u r s s reach
+line_comment_turn u s r line some h is reach ends = turn (2 + (r.size + r.close)) u
+    s s rule.LineComment line some h.in_c (rule_plain s u rule.LineComment h is) refl (line_comment_gives u r s s reach
     (sym (blank_is s h) ∙ ap (λ (e : End). comment (ended_as Closed e) s.here (blank s)) (sym ends)))
 
 abbrev comment_look : List ℕ → Look
@@ -136,6 +130,5 @@ pub comment_turn : (u : List ℕ) (s : State) (r : Reached) → IsLine u → 1 �
     → rule.Comment ≡ c_rule false u → r ≡ reached (reach (look_in_comment (begins (codes "*/")) 2) Open (drop 2 u))
     → r.how ≡ Closed → TakesPlain (2 + (r.size + r.close)) u s s
 comment_turn u s r line some h is reach closed =
-    ended_turn (2 + (r.size + r.close)) u s s rule.Comment line some h is
-    (sym (ap (λ (v : Reached). is_open v.how) reach) ∙ ap is_open closed)
-    (comment_gives u r s reach closed (blank_is s h))
+    ended_turn (2 + (r.size + r.close)) u s s rule.Comment line some h is (sym (ap (λ (v : Reached).
+    is_open v.how) reach) ∙ ap is_open closed) (comment_gives u r s reach closed (blank_is s h))

@@ -32,8 +32,7 @@ passed r b t h d e =
 pub one_more : (r : Reading) (b : ℕ) (t : List ℕ) → r.state.context ≡ CText
     → in_directive r.state ≡ false → is_blank b ≡ true → run r (b ∷ t) ≡ run r t
 one_more r b [] h d e = passed r b [] h d e
-one_more r b (c ∷ t) h d e =
-    passed r b (c ∷ t) h d e
+one_more r b (c ∷ t) h d e = passed r b (c ∷ t) h d e
     ∙ (elim (is_blank c) as (λ v. is_blank c ≡ v → run r (drop (prefix_len is_blank (c ∷ t)) (c ∷ t)) ≡ run r (c ∷ t)) [
       | true ↦ λ f. ap (λ k. run r (drop k (c ∷ t))) (longer_prefix c t f) ∙ sym (passed r c t h d f)
       | false ↦ λ f. ap (λ k. run r (drop k (c ∷ t))) (none_there c t f)

@@ -25,15 +25,13 @@ unless true x h = refl
 unless false x h = h
 
 -- its item ends in its line
-head_closed : (is : Rule → Bool) (u : List ℕ) (r : Rule) → r ≡ c_rule false u → is r ≡ true
-    → is rule.Section ≡ false → is rule.Code ≡ false → opens_by in_macro u r ≡ false
-    → (c_opens in_macro u || text_opens in_text u) ≡ false
+head_closed : (is : Rule → Bool) (u : List ℕ) (r : Rule) → r ≡ c_rule false u → is r ≡ true → is rule.Section ≡ false
+    → is rule.Code ≡ false → opens_by in_macro u r ≡ false → (c_opens in_macro u || text_opens in_text u) ≡ false
 head_closed is u r same fits s c ends =
     let at : begins (codes "@") u ≡ false = no_at is u s c (ap is (sym same) ∙ fits) in
     let x : c_opens in_macro u ≡ false = c_opens-by in_macro false u ∙ ap (opens_by in_macro u) (sym same) ∙ ends in
-    let y : text_opens in_text u ≡ false =
-    unless (starts_section u) (if begins (codes "@") u then opens_code in_text u else false)
-    (ap (λ v. if v then opens_code in_text u else false) at) in
+    let y : text_opens in_text u ≡ false = unless (starts_section u) (if begins
+    (codes "@") u then opens_code in_text u else false) (ap (λ v. if v then opens_code in_text u else false) at) in
     λ i. x i || y i
 
 abbrev pub stays : Rule → Bool
@@ -67,10 +65,7 @@ pub blanks_pass : (n : ℕ) (u : List ℕ) (h : Held) (begun : Place) (r : Rule)
     → 1 ≤ length u → r ≡ c_rule false u → n ≡ prefix_len is_blank u → Passes n u h h
 blanks_pass n u h begun r blanks none in_head line some is size =
     let s = h.state in
-    let same : s ≡ blank s =
-    sym (ap (λ v.
-    if (v && is_some (directive s).tokens) && not (directives.is_blank (directive s).last)
-    then give parts.Blank s else s)
-    (ap is_c in_head)) in
-    head_passes n u h h s begun rule.Blanks (front Blanks (prefix_len is_blank u)) refl none in_head
-    line some (sym blanks ∙ is) refl refl refl refl (record { size = size; state = same })
+    let same : s ≡ blank s = sym (ap (λ v. if (v && is_some (directive s).tokens)
+    && not (directives.is_blank (directive s).last) then give parts.Blank s else s) (ap is_c in_head)) in
+    head_passes n u h h s begun rule.Blanks (front Blanks (prefix_len is_blank u)) refl none in_head line some
+    (sym blanks ∙ is) refl refl refl refl (record { size = size; state = same })

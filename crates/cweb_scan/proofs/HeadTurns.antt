@@ -95,9 +95,8 @@ foreign_code effect takes (a ∷ []) = refl
 foreign_code effect takes (a ∷ b ∷ t) = foreign_effect (effect b) takes (a ∷ b ∷ t)
 
 foreign_text : (effect : ℕ → Effect) (t : List ℕ) → foreign (text_front effect t) ≡ true
-foreign_text effect t =
-    either foreign (starts_section t) _ _ (foreign_section t)
-    (either foreign (begins (codes "@") t) _ (front Skipped 1) (foreign_code effect true t) refl)
+foreign_text effect t = either foreign (starts_section t) _ _
+    (foreign_section t) (either foreign (begins (codes "@") t) _ (front Skipped 1) (foreign_code effect true t) refl)
 
 pub foreign_rule : (v : List ℕ) (r : Rule) → (r ≡ rule.Blanks → ⊥) → (r ≡ rule.Comment → ⊥) → (r ≡ rule.LineComment → ⊥)
     → (r ≡ rule.Identifier → ⊥) → is_ended r ≡ false → foreign (c_front_by in_macro true v r) ≡ true
@@ -120,18 +119,12 @@ by_rule v r is = c_front-by in_macro true false v ∙ ap (c_front_by in_macro tr
 
 -- which rule fits in a line doesn't depend on what comes after it
 rule_line : (b : ℕ) (t more : List ℕ) → AtLineEnd more → c_rule false (b ∷ t ++ more) ≡ c_rule false (b ∷ t)
-rule_line b t more e = λ i.
-    if is_blank b then rule.Blanks
-    else (if is_line_end b then rule.LineEnd
-    else (if begins_line (codes "/*") (b ∷ t) more refl e i then rule.Comment
-    else (if begins_line (codes "//") (b ∷ t) more refl e i then rule.LineComment
-    else (if starts_section_line b t more e i then rule.Section
-    else (if begins_line (codes "@") (b ∷ t) more refl e i then rule.Code
-    else (if starts_raw_line (b ∷ t) more e i then rule.RawLiteral
-    else (if starts_literal_line (b ∷ t) more e i then rule.Literal
-    else (if starts_number_stop b t more (stops is_digit more refl e) i then rule.Number
-    else (if is_word_byte b then rule.Identifier
-    else rule.Punctuator)))))))))
+rule_line b t more e = λ i. if is_blank b then rule.Blanks else (if is_line_end b then rule.LineEnd else
+    (if begins_line (codes "/*") (b ∷ t) more refl e i then rule.Comment else (if begins_line (codes "//") (b ∷ t)
+    more refl e i then rule.LineComment else (if starts_section_line b t more e i then rule.Section else (if begins_line
+    (codes "@") (b ∷ t) more refl e i then rule.Code else (if starts_raw_line (b ∷ t) more e i then rule.RawLiteral else
+    (if starts_literal_line (b ∷ t) more e i then rule.Literal else (if starts_number_stop b t more (stops is_digit
+    more refl e) i then rule.Number else (if is_word_byte b then rule.Identifier else rule.Punctuator)))))))))
 
 -- what has left a head is what text makes of it, once the definition is dropped
 dropped_run : (s : State) (begun : Place) (later : List Place) (b : ℕ) (t : List ℕ)
@@ -141,8 +134,7 @@ dropped_run s begun later b t in_head left =
     let u = b ∷ t in
     let f = text_front in_text u in
     let k = f.kind in
-    let entered : enter_in s.context k s ≡ drop_definition begun s =
-    ap (λ (c : Context). enter_in c k s) in_head
+    let entered : enter_in s.context k s ≡ drop_definition begun s = ap (λ (c : Context). enter_in c k s) in_head
     ∙ ap (λ v. if v then s else drop_definition begun s) (foreign_leaves k (foreign_text in_text u)) in
     run_as (reading (drop_definition begun s) later) b t f refl
     ∙ sym (ap (λ (v : State). run (item k (take f.size u) (reading v later)) (drop f.size u)) entered)
@@ -165,11 +157,10 @@ dropped_passes : (n : ℕ) (u : List ℕ) (h v new : Held) (begun : Place) (r : 
     → Passes n u (at_item v (drop_definition begun v.state)) new → Passes n u h new
 dropped_passes n u h v new begun r same none in_head some is left passes =
     let p = subst (λ (k : Held). Passes n u (at_item k (drop_definition begun k.state)) new) same passes in
-    let old : record { state = h.state; item = Between; begun = h.begun } ≡ h = λ i.
-    record { state = h.state; item = sym none i; begun = h.begun } in
+    let old : record { state = h.state; item = Between; begun = h.begun } ≡ h =
+    λ i. record { state = h.state; item = sym none i; begun = h.begun } in
     let q =
-    subst (λ i. Passes n u (record { state = drop_definition begun h.state; item = i; begun = h.begun }) new)
-    none p in
+    subst (λ i. Passes n u (record { state = drop_definition begun h.state; item = i; begun = h.begun }) new) none p in
     subst (λ (k : Held). Passes n u k new) old (record {
       some = q.some;
       within = q.within;
@@ -186,6 +177,5 @@ pub dropped_at : (n : ℕ) (u : List ℕ) (h v new : Held) (dropped : State) (be
     → v ≡ h → h.item ≡ Between → h.state.context ≡ Definition begun → 1 ≤ length u → r ≡ c_rule false u
     → ((w : List ℕ) → foreign (c_front_by in_macro true w r) ≡ true)
     → dropped ≡ drop_definition begun v.state → Passes n u (at_item v dropped) new → Passes n u h new
-dropped_at n u h v new dropped begun r same none in_head some is left made passes =
-    dropped_passes n u h v new begun r same none in_head some is left
-    (subst (λ (x : State). Passes n u (at_item v x) new) made passes)
+dropped_at n u h v new dropped begun r same none in_head some is left made passes = dropped_passes
+    n u h v new begun r same none in_head some is left (subst (λ (x : State). Passes n u (at_item v x) new) made passes)

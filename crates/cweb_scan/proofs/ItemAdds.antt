@@ -38,9 +38,8 @@ code-adds Define s =
       bytes_are = omega (arith, a.bytes_are);
     }
 code-adds Format s = quiet s _ (end_macro_in-adds s.context s)
-code-adds Program s =
-    adds_within 2 1 (adds_both (end_macro_in-adds s.context s) (begin_part-adds part.Unnamed _))
-    (omega arith) (omega arith)
+code-adds Program s = adds_within 2 1
+    (adds_both (end_macro_in-adds s.context s) (begin_part-adds part.Unnamed _)) (omega arith) (omega arith)
 code-adds InsertDefs s =
     adds_within 2 1 (adds_both (give-adds Defs s) (give-adds (Mark s.here) _)) (omega arith) (omega arith)
 code-adds Joins s = adds_within 2 1 (adds_both (drops s) (give-adds Join _)) (omega arith) (omega arith)
@@ -122,8 +121,7 @@ occurs o how p s =
 
 pub literal-adds : (text : List ℕ) (how : End) (p : Place) (s : State) → Adds 1 (length text) s (literal text how p s)
 literal-adds text Closed p s = give-adds (Literal text) s
-literal-adds text Cut p s =
-    adds_within 1 (length text) (adds_both (give-adds (Literal text) s) (fault-adds StringDidNotEnd p _))
-    (omega arith) (omega arith)
+literal-adds text Cut p s = adds_within 1
+    (length text) (adds_both (give-adds (Literal text) s) (fault-adds StringDidNotEnd p _)) (omega arith) (omega arith)
 literal-adds text Nested p s = adds_within 1 (length text) (nothing_adds s) (omega arith) (omega arith)
 literal-adds text Open p s = adds_within 1 (length text) (nothing_adds s) (omega arith) (omega arith)

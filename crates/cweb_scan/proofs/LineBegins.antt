@@ -25,8 +25,7 @@ line_ends (Comment begun) d us q s = record { begun = refl; same = comment_goes_
 line_ends (Name begun is_file) d us q s = record { begun = refl; same = name_goes_on begun is_file us q s }
 line_ends (Literal begun quote) d us q s = record {
   begun = refl;
-  same = λ later t.
-      between_goes_on q (literal us Cut begun s) later t
+  same = λ later t. between_goes_on q (literal us Cut begun s) later t
       ∙ sym (literal_cut begun (quote_byte quote) us (10 ∷ t)
       (record { state = s; later = q ∷ later }) (no_newline quote) refl);
 }
@@ -86,17 +85,14 @@ no_sign true = refl
 no_sign false = refl
 
 abbrev named_end : Place → Bool → List ℕ → ℕ → State → Reading
-named_end begun is_file us n s =
-    run (on (occurrence is_file (us ++ []) Cut false begun)
-    (each_line_end moved (take n []) (record { state = s; later = [] })))
-    (drop n [])
+named_end begun is_file us n s = run (on (occurrence is_file (us ++ []) Cut false begun)
+    (each_line_end moved (take n []) (record { state = s; later = [] }))) (drop n [])
 
 text_ends : (kind : Open) (d us : List ℕ) (s : State)
     → (goes_on (held s (item_of kind d us)) [] []).state ≡ text_ended (item_of kind d us) s
 text_ends Between d us s = refl
 text_ends (Comment begun) d us s = refl
-text_ends (Name begun is_file) d us s =
-    ap (λ (n : ℕ). (named_end begun is_file us n s).state) (no_sign (takes_sign s))
+text_ends (Name begun is_file) d us s = ap (λ (n : ℕ). (named_end begun is_file us n s).state) (no_sign (takes_sign s))
     ∙ ap (λ (t : List ℕ). occurrence is_file t Cut false begun s) (append-nil us)
 text_ends (Literal begun quote) d us s = ap (λ (t : List ℕ). literal t Cut begun s) (append-nil us)
 text_ends (AfterBackslash begun Single) d us s = refl

@@ -39,8 +39,7 @@ from_front r t f =
 -- between two items
 run-newline : (q : Place) (s : State) (later : List Place) (t : List ℕ)
     → run (reading s (q ∷ later)) (10 ∷ t) ≡ run (reading (line_end q s) later) t
-run-newline q s later t =
-    ap (from_front (reading s (q ∷ later)) t) (front-newline s.context (names_include s) t)
+run-newline q s later t = ap (from_front (reading s (q ∷ later)) t) (front-newline s.context (names_include s) t)
     ∙ ap (λ (r : Reading). run r t) (item-newline s.context q s later refl)
 
 comment-newline : (t : List ℕ) → items.comment (10 ∷ t) ≡ with_unit (10 ∷ []) (items.comment t)
@@ -92,17 +91,14 @@ resume-name begun is_file us q s later t =
     let f : suc (size_of r) + sign_size s sign ≡ suc (size_of r + sign_size s sign) = omega arith in
     ap (λ (v : Reach). end_name begun is_file us v (sign_after v.how (drop (size_of v) (10 ∷ t))) (10 ∷ t) m)
     (name-newline t)
-    ∙ ap (λ n.
-    named begun is_file (us ++ items.text_in one.units) r.how (sign_after r.how (drop n (10 ∷ t)))
-    (n + sign_size s (sign_after r.how (drop n (10 ∷ t)))) (10 ∷ t) m)
-    e
+    ∙ ap (λ n. named begun is_file (us ++ items.text_in one.units) r.how
+    (sign_after r.how (drop n (10 ∷ t))) (n + sign_size s (sign_after r.how (drop n (10 ∷ t)))) (10 ∷ t) m) e
     ∙ ap (λ n. named begun is_file (us ++ items.text_in one.units) r.how sign n (10 ∷ t) m) f
     ∙ ap (λ vs. named begun is_file vs r.how sign (size_of r + sign_size s sign) t (reading (moved q s) later))
     (sym (append_assoc us (10 ∷ []) (items.text_in r.units)))
 
-pub name_goes_on : (begun : Place) (is_file : Bool) (us : List ℕ)
-    (q : Place) (s : State) (later : List Place) (t : List ℕ)
-    → goes_on (after_line_end q (InName begun is_file us) s) later t
+pub name_goes_on : (begun : Place) (is_file : Bool) (us : List ℕ) (q : Place)
+    (s : State) (later : List Place) (t : List ℕ) → goes_on (after_line_end q (InName begun is_file us) s) later t
     ≡ goes_on (held s (InName begun is_file us)) (q ∷ later) (10 ∷ t)
 name_goes_on begun is_file us q s later t = sym (resume-name begun is_file us q s later t)
 
@@ -118,8 +114,7 @@ abbrev ended : Place → List ℕ → List (List ℕ) → End → ℕ → List �
 ended begun all rest how size t m = run (on (literal all how begun) (fold literal_unit m rest)) (drop size t)
 
 resume-literal : (begun : Place) (quote : ℕ) (us : List ℕ) (q : Place) (s : State) (later : List Place) (t : List ℕ)
-    → (quote == 92) ≡ false
-    → resume (AfterBackslash begun quote us) (10 ∷ t) (reading s (q ∷ later))
+    → (quote == 92) ≡ false → resume (AfterBackslash begun quote us) (10 ∷ t) (reading s (q ∷ later))
     ≡ resume (InLiteral begun quote (us ++ 92 ∷ 10 ∷ [])) t (reading (moved q s) later)
 resume-literal begun quote us q s later t h =
     let r = items.literal quote t in
@@ -133,9 +128,8 @@ resume-literal begun quote us q s later t h =
     ∙ ap (λ vs. ended begun vs rest r.how (size_of r) t (reading (moved q s) later))
     (sym (append_assoc us unit (items.text_in rest)))
 
-pub literal_goes_on : (begun : Place) (quote : ℕ) (us : List ℕ)
-    (q : Place) (s : State) (later : List Place) (t : List ℕ) → (quote == 92) ≡ false
-    → goes_on (after_line_end q (AfterBackslash begun quote us) s) later t
+pub literal_goes_on : (begun : Place) (quote : ℕ) (us : List ℕ) (q : Place) (s : State) (later : List Place)
+    (t : List ℕ) → (quote == 92) ≡ false → goes_on (after_line_end q (AfterBackslash begun quote us) s) later t
     ≡ goes_on (held s (AfterBackslash begun quote us)) (q ∷ later) (10 ∷ t)
 literal_goes_on begun quote us q s later t h = sym (resume-literal begun quote us q s later t h)
 

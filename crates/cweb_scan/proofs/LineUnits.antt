@@ -8,13 +8,10 @@ reading s later = record { state = s; later = later }
 
 pub one-unit : (s : State) (later : List Place) (u : List ℕ) → IsLine u
     → literal_unit (reading s later) u ≡ reading (unit_state s u) later
-one-unit s later u h =
-    ap (λ (r : Reading). if bytes_eq u (codes "@") then on (fault DoubleAtInString) (reading s later) else r)
-    (none-line moved u (reading s later) h)
-    ∙ (elim (bytes_eq u (codes "@")) as (λ v.
-    (if v then on (fault DoubleAtInString) (reading s later) else reading s later)
-    ≡ reading (if v then fault DoubleAtInString s else s) later)
-    [ true ↦ refl | false ↦ refl ])
+one-unit s later u h = ap (λ (r : Reading). if bytes_eq u
+    (codes "@") then on (fault DoubleAtInString) (reading s later) else r) (none-line moved u (reading s later) h)
+    ∙ (elim (bytes_eq u (codes "@")) as (λ v. (if v then on (fault DoubleAtInString) (reading s later)
+    else reading s later) ≡ reading (if v then fault DoubleAtInString s else s) later) [ true ↦ refl | false ↦ refl ])
 
 -- within a line the units make of the state what they make, whatever lines follow
 pub units_line : (s : State) (later : List Place) (us : List (List ℕ)) → AreLines us

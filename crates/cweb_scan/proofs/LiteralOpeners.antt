@@ -49,56 +49,38 @@ opened_quoted look r n b t c line no_at h =
     let close = take m.close (drop (n + length (body m)) u) in
     let us = opener ∷ m.units ++ close ∷ [] in
     run_as r b t (quoted n m u) h
-    ∙ ap (λ (s : State).
-    run (on (literal (text_in us) m.how s.here) (fold literal_unit (on (λ v. s) r) us))
-    (drop (n + size_of m) u))
-    (enter_quoted r.state.context us m.how r.state c)
-    ∙ ap (λ k.
-    run (on (literal (text_in us) m.how r.state.here) (fold literal_unit k (m.units ++ close ∷ [])))
-    (drop (n + size_of m) u))
-    (opener-unit r opener line no_at.single)
-    ∙ ap (λ (v : Bool).
-    run (on (literal ((if v then codes "@" else opener) ++ text_in (m.units ++ close ∷ [])) m.how r.state.here)
-    (fold literal_unit r (m.units ++ close ∷ [])))
-    (drop (n + size_of m) u))
-    no_at.double
+    ∙ ap (λ (s : State). run (on (literal (text_in us) m.how s.here) (fold literal_unit (on (λ v. s) r) us))
+    (drop (n + size_of m) u)) (enter_quoted r.state.context us m.how r.state c)
+    ∙ ap (λ k. run (on (literal (text_in us) m.how r.state.here) (fold literal_unit k (m.units ++ close ∷ [])))
+    (drop (n + size_of m) u)) (opener-unit r opener line no_at.single)
+    ∙ ap (λ (v : Bool). run (on (literal ((if v then codes "@" else opener) ++ text_in (m.units ++ close ∷ []))
+    m.how r.state.here) (fold literal_unit r (m.units ++ close ∷ []))) (drop (n + size_of m) u)) no_at.double
     ∙ ap (λ v.
     let x = m.units ++ take m.close v ∷ [] in
-    run (on (literal (opener ++ text_in x) m.how r.state.here) (fold literal_unit r x))
-    (drop (n + size_of m) u))
+    run (on (literal (opener ++ text_in x) m.how r.state.here) (fold literal_unit r x)) (drop (n + size_of m) u))
     (drop-add n (length (body m)) u)
     ∙ ap (λ v.
     let x = m.units ++ take m.close (drop (length (body m)) w) ∷ [] in
-    run (on (literal (opener ++ text_in x) m.how r.state.here) (fold literal_unit r x)) v)
-    (drop-add n (size_of m) u)
+    run (on (literal (opener ++ text_in x) m.how r.state.here) (fold literal_unit r x)) v) (drop-add n (size_of m) u)
 
 abbrev past : (effect : ℕ → Effect) (takes_sign includes : Bool) (t : List ℕ)
     → Bool → Bool → Bool → Bool → Bool → Bool → Bool → Bool → Front
 past effect takes_sign includes t v0 v1 v2 v3 v4 v5 v6 v7 =
-    if v0 then front Blanks (prefix_len is_blank t)
-    else (if v1 then front LineEnd 1
-    else (if v2 then comment_at t
-    else (if v3 then line_comment_at t
-    else (if v4 then section_at t
-    else (if v5 then code_at effect takes_sign t
-    else (if v6 then raw_at t
-    else (if v7 then literal_at t
-    else (if includes && starts_include t then include_at t
-    else (if starts_number t then front Numeral (number_len 0 t)
-    else (if first_is is_word_byte t then front Identifier (prefix_len is_word_byte t)
-    else front Punctuator (longest listed t)))))))))))
+    if v0 then front Blanks (prefix_len is_blank t) else (if v1 then front LineEnd 1 else
+    (if v2 then comment_at t else (if v3 then line_comment_at t else (if v4 then section_at t else
+    (if v5 then code_at effect takes_sign t else (if v6 then raw_at t else (if v7 then literal_at t else (if includes
+    && starts_include t then include_at t else (if starts_number t then front Numeral (number_len 0 t) else (if first_is
+    is_word_byte t then front Identifier (prefix_len is_word_byte t) else front Punctuator (longest listed t)))))))))))
 
 pub c_front_raw : (effect : ℕ → Effect) (takes_sign includes : Bool) (t : List ℕ)
     → IsPast t → starts_raw t ≡ true → c_front effect takes_sign includes t ≡ raw_at t
-c_front_raw effect takes_sign includes t p h = λ i.
-    past effect takes_sign includes t (p.blank i) (p.line_end i) (p.comment i)
-    (p.line_comment i) (p.section i) (p.code i) (h i) (starts_literal t)
+c_front_raw effect takes_sign includes t p h = λ i. past effect takes_sign includes t
+    (p.blank i) (p.line_end i) (p.comment i) (p.line_comment i) (p.section i) (p.code i) (h i) (starts_literal t)
 
 pub c_front_literal : (effect : ℕ → Effect) (takes_sign includes : Bool) (t : List ℕ) → IsPast t
     → starts_raw t ≡ false → starts_literal t ≡ true → c_front effect takes_sign includes t ≡ literal_at t
-c_front_literal effect takes_sign includes t p g h = λ i.
-    past effect takes_sign includes t (p.blank i) (p.line_end i)
-    (p.comment i) (p.line_comment i) (p.section i) (p.code i) (g i) (h i)
+c_front_literal effect takes_sign includes t p g h = λ i. past effect takes_sign includes t
+    (p.blank i) (p.line_end i) (p.comment i) (p.line_comment i) (p.section i) (p.code i) (g i) (h i)
 
 pub past-line : (b : ℕ) (t more : List ℕ) → AtLineEnd more → IsPast (b ∷ t) → IsPast (b ∷ t ++ more)
 past-line b t more e p = record {
@@ -142,11 +124,10 @@ plain (suc n) b t some h =
     }
 
 -- the same, before a line end
-opened_in_line : (look : List ℕ → Look) (r : Reading) (n b : ℕ) (t more : List ℕ) → 0 < n → n ≤ length (b ∷ t)
-    → reads_literals r.state.context ≡ true → IsLine (b ∷ t) → begins (codes "@") (b ∷ t) ≡ false
-    → front_in r.state.context (names_include r.state) (b ∷ t ++ more)
-    ≡ quoted n (reach look Cut (drop n (b ∷ t ++ more))) (b ∷ t ++ more)
-    → run r (b ∷ t ++ more)
+opened_in_line : (look : List ℕ → Look) (r : Reading) (n b : ℕ) (t more : List ℕ)
+    → 0 < n → n ≤ length (b ∷ t) → reads_literals r.state.context ≡ true → IsLine (b ∷ t)
+    → begins (codes "@") (b ∷ t) ≡ false → front_in r.state.context (names_include r.state) (b ∷ t ++ more)
+    ≡ quoted n (reach look Cut (drop n (b ∷ t ++ more))) (b ∷ t ++ more) → run r (b ∷ t ++ more)
     ≡ end_literal r.state.here (take n (b ∷ t)) (reach look Cut (drop n (b ∷ t) ++ more)) (drop n (b ∷ t) ++ more) r
 opened_in_line look r n b t more some fits c line code h =
     let u = b ∷ t in
@@ -173,23 +154,18 @@ opened_raw r b t more e c line p back starts =
     let some = has_delimiter-size (drop m u) start.1 in
     let same : raw_at (u ++ more) ≡ raw_from m d (u ++ more) =
     ap (λ n. raw_from (n + 2) (delimiter (drop (n + 2) (u ++ more))) (u ++ more)) (raw_prefix-line u more e)
-    ∙ ap (λ d. raw_from m d (u ++ more))
-    (ap delimiter (drop-append-le m u more two) ∙ delimiter-line (drop m u) more e) in
+    ∙ ap
+    (λ d. raw_from m d (u ++ more)) (ap delimiter (drop-append-le m u more two) ∙ delimiter-line (drop m u) more e) in
     opened_in_line (look_in_raw (sign_of d)) r n b t more (omega arith)
-    (omega (arith, some, two, length-drop m u)) c line p.code
-    (literal_front r.state.context (names_include r.state)
-    b (t ++ more) (raw_from m d (u ++ more)) c back (λ effect takes_sign includes.
-    c_front_raw effect takes_sign includes (u ++ more)
-    (past-line b t more e p) (starts_raw_line u more e ∙ starts) ∙ same))
+    (omega (arith, some, two, length-drop m u)) c line p.code (literal_front r.state.context (names_include r.state) b
+    (t ++ more) (raw_from m d (u ++ more)) c back (λ effect takes_sign includes. c_front_raw effect takes_sign includes
+    (u ++ more) (past-line b t more e p) (starts_raw_line u more e ∙ starts) ∙ same))
 
 -- a quote
-pub opened_literal : (r : Reading) (b : ℕ) (t more : List ℕ) → AtLineEnd more
-    → reads_literals r.state.context ≡ true → IsLine (b ∷ t) → IsPast (b ∷ t)
-    → begins (codes "\\") (b ∷ t) ≡ false → starts_raw (b ∷ t) ≡ false → starts_literal (b ∷ t) ≡ true
-    → run r (b ∷ t ++ more)
-    ≡ (let n = literal_prefix (b ∷ t) in
-    resume (InLiteral r.state.here (quote_of (drop n (b ∷ t))) (take (n + 1) (b ∷ t)))
-    (drop (n + 1) (b ∷ t) ++ more) r)
+pub opened_literal : (r : Reading) (b : ℕ) (t more : List ℕ) → AtLineEnd more → reads_literals r.state.context ≡ true
+    → IsLine (b ∷ t) → IsPast (b ∷ t) → begins (codes "\\") (b ∷ t) ≡ false → starts_raw (b ∷ t) ≡ false
+    → starts_literal (b ∷ t) ≡ true → run r (b ∷ t ++ more) ≡ (let n = literal_prefix (b ∷ t) in
+    resume (InLiteral r.state.here (quote_of (drop n (b ∷ t))) (take (n + 1) (b ∷ t))) (drop (n + 1) (b ∷ t) ++ more) r)
 opened_literal r b t more e c line p back raw starts =
     let u = b ∷ t in
     let n = literal_prefix u in
@@ -200,7 +176,6 @@ opened_literal r b t more e c line p back raw starts =
     ∙ ap (λ v. literal_with n (if v then 39 else 34) (u ++ more))
     (drop_line (codes "'") n u more refl e (omega (arith, fits))) in
     opened_in_line (look_in_literal quote) r (n + 1) b t more (omega arith) fits c line p.code
-    (literal_front r.state.context (names_include r.state) b
-    (t ++ more) (literal_with n quote (u ++ more)) c back (λ effect takes_sign includes.
-    c_front_literal effect takes_sign includes (u ++ more) (past-line b t more e p)
-    (starts_raw_line u more e ∙ raw) (starts_literal_line u more e ∙ starts) ∙ same))
+    (literal_front r.state.context (names_include r.state) b (t ++ more) (literal_with n quote (u ++ more)) c back
+    (λ effect takes_sign includes. c_front_literal effect takes_sign includes (u ++ more)
+    (past-line b t more e p) (starts_raw_line u more e ∙ raw) (starts_literal_line u more e ∙ starts) ∙ same))

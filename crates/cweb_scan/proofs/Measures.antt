@@ -34,9 +34,8 @@ module _ (f : Token → ℕ) where
   without_blank-size (t ∷ []) = omega arith
 
   at_close-size : (p : Part) → part_size f (at_close p) ≤ part_size f p
-  at_close-size p =
-      elim (is_macro p.kind) as (λ v.
-      part_size f (if v then record p { tokens = without_blank (without_last is_newline p.tokens) } else p)
+  at_close-size p = elim (is_macro p.kind) as
+      (λ v. part_size f (if v then record p { tokens = without_blank (without_last is_newline p.tokens) } else p)
       ≤ part_size f p) [
         | true ↦
             omega (arith, without_blank-size (without_last is_newline p.tokens), without_last-size is_newline p.tokens)

@@ -15,9 +15,8 @@ module _ (known : Place → Bool) where
 
   use_name-known : (n : NameRef) (opens : Bool) (p : Place) (s : State)
       → known p ≡ true → K s → K (use_name n opens p s)
-  use_name-known n true p s h k =
-      fault-known known MissingAt p (give (Mark s.here) (give (Name n) s)) h
-      (mark-known known (give (Name n) s) (give-known known (Name n) s refl k))
+  use_name-known n true p s h k = fault-known known MissingAt p
+      (give (Mark s.here) (give (Name n) s)) h (mark-known known (give (Name n) s) (give-known known (Name n) s refl k))
   use_name-known n false p s h k = mark-known known (give (Name n) s) (give-known known (Name n) s refl k)
 
   open_name-known : (n : NameRef) (opens : Bool) (s : State) → K s → K (open_name n opens s)

@@ -35,9 +35,8 @@ at_front look v u f w =
 -- its units are all bytes before the seam
 body_at : (look : List ℕ → Look) (b : ℕ) (t : List ℕ) (v : Look)
     → (elim v as (λ w. Type 0) [ Goes n ↦ (0 < n) × IsWhole look (n - 1) t | Ends n how ↦ is_open how ≡ false ])
-    → ((k : ℕ) → IsWhole look k t → is_open (reach_in look Open k t).how ≡ true
-    → body (reach_in look Open k t) ≡ drop k t)
-    → is_open (at_front look v (b ∷ t) Open t).how ≡ true → body (at_front look v (b ∷ t) Open t) ≡ b ∷ t
+    → ((k : ℕ) → IsWhole look k t → is_open (reach_in look Open k t).how ≡ true → body (reach_in look Open k t)
+    ≡ drop k t) → is_open (at_front look v (b ∷ t) Open t).how ≡ true → body (at_front look v (b ∷ t) Open t) ≡ b ∷ t
 body_at look b t (Ends n how) h f g = absurd (clash (is_open how) g h)
   where
     clash : (v : Bool) → v ≡ true → v ≡ false → ⊥
@@ -136,9 +135,8 @@ comment_ends begun t more m e line h =
     let r = items.comment t in
     let n = size_of r in
     let fits = reach-size look Cut (comment-within (begins (codes "*/")) 2 (begins-size (codes "*/"))) t in
-    ap (λ (v : Reach). end_comment begun v (t ++ more) m)
-    (reach_ends look Cut t more (comment-sees more e) (comment-sees [] tt)
-    (whole look (comment-units (begins (codes "*/")) 2) t) h)
+    ap (λ (v : Reach). end_comment begun v (t ++ more) m) (reach_ends look Cut t more
+    (comment-sees more e) (comment-sees [] tt) (whole look (comment-units (begins (codes "*/")) 2) t) h)
     ∙ ap (λ u. run (on (comment r.how begun) (each_line_end comment_line_end u m)) (drop n (t ++ more)))
     (take-append-le n t more fits)
     ∙ ap (λ k. run (on (comment r.how begun) k) (drop n (t ++ more)))

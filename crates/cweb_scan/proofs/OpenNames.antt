@@ -28,8 +28,7 @@ sign_size-fits m n =
 -- a name that ends in the line, with its opener sign
 pub name_ends : (begun : Place) (is_file : Bool) (us : List ℕ) (t more : List ℕ) (m : Reading)
     → AtLineEnd more → IsLine t → is_open (reach look_in_name Open t).how ≡ false
-    → resume (InName begun is_file us) (t ++ more) m
-    ≡ (let r = items.name t in
+    → resume (InName begun is_file us) (t ++ more) m ≡ (let r = items.name t in
     let sign = sign_after r.how (drop (size_of r) t) in
     run (on (occurrence is_file (us ++ text_in r.units) r.how (nat_lt 0 sign) begun) m)
     (drop (size_of r + sign_size m sign) t ++ more))
@@ -49,10 +48,8 @@ name_ends begun is_file us t more m e line h =
     (drop-append-le (size_of r) t more within)
     ∙ ap (λ g. named begun is_file (us ++ text_in r.units) r.how g (size_of r + sign_size m g) (t ++ more) m)
     (sign_after-line r.how rest more e)
-    ∙ ap (λ u.
-    run (on (occurrence is_file (us ++ text_in r.units) r.how (nat_lt 0 sign) begun) (each_line_end moved u m))
-    (drop n (t ++ more)))
-    (take-append-le n t more fits)
+    ∙ ap (λ u. run (on (occurrence is_file (us ++ text_in r.units) r.how (nat_lt 0 sign) begun)
+    (each_line_end moved u m)) (drop n (t ++ more))) (take-append-le n t more fits)
     ∙ ap (λ k. run (on (occurrence is_file (us ++ text_in r.units) r.how (nat_lt 0 sign) begun) k) (drop n (t ++ more)))
     (none-line moved (take n t) m (IsLine-take n t line))
     ∙ ap (λ u. run (on (occurrence is_file (us ++ text_in r.units) r.how (nat_lt 0 sign) begun) m) u)

@@ -9,8 +9,7 @@ use Rattle.cweb_scan.proofs.Opens.{opened}
 pub open_at : (n : ℕ) (u : List ℕ) (h v : Held) → v ≡ h → (i : Item) → h.item ≡ i → (new made : Held)
     → new ≡ made → TakesOpen n u (opened v.state v.begun i) made → TakesOpen n u h new
 open_at n u h v is i item new made same takes =
-    let old : opened v.state v.begun i ≡ h =
-    ap (λ (k : Held). opened k.state k.begun i) is
+    let old : opened v.state v.begun i ≡ h = ap (λ (k : Held). opened k.state k.begun i) is
     ∙ (λ j. record { state = h.state; item = sym item j; begun = h.begun }) in
     subst (λ (k : Held). TakesOpen n u k new) old
     (subst (λ (k : Held). TakesOpen n u (opened v.state v.begun i) k) (sym same) takes)
@@ -87,9 +86,8 @@ pub turn_at : (n : ℕ) (look : Look) (begun : Place) (u : List ℕ) (h new : He
     → TakesOpen n u h new
 turn_at n look begun u h new i item size made takes =
     let old : opened h.state h.begun i ≡ h = (λ j. record { state = h.state; item = sym item j; begun = h.begun }) in
-    subst (λ (k : ℕ). TakesOpen k u h new) (sym size)
-    (subst (λ (k : Held). TakesOpen (look_size look) u h k) (sym made)
-    (subst (λ (k : Held). TakesOpen (look_size look) u k (literal_turn look begun u k)) old takes))
+    subst (λ (k : ℕ). TakesOpen k u h new) (sym size) (subst (λ (k : Held). TakesOpen (look_size look) u h k)
+    (sym made) (subst (λ (k : Held). TakesOpen (look_size look) u k (literal_turn look begun u k)) old takes))
 
 -- a raw literal's closing sign as the code makes it
 pub raw_signed : (c : Context) (p : Place) (t d kept sign : List ℕ) → d ≡ delimiter t

@@ -26,9 +26,8 @@ comment_goes s g begun u r line some is still = record {
     begun = refl;
     within = omega arith;
     adds = omega arith;
-    same = λ later more e.
-        ap (λ (t : List ℕ). resume (InComment begun) (t ++ more) (reading s later))
-        (drop_all (length u) u (omega arith))
+    same = λ later more e. ap
+        (λ (t : List ℕ). resume (InComment begun) (t ++ more) (reading s later)) (drop_all (length u) u (omega arith))
         ∙ sym
         (comment_stays begun u more (reading s later) e line (sym (ap (λ (v : Reached). stays v.how) is) ∙ still));
   };
@@ -61,8 +60,7 @@ comment_over s g begun u r line is ends =
               reach-size look Cut (comment-within (begins (codes "*/")) 2 (begins-size (codes "*/"))) u,
             );
         adds = omega (arith, comment-weight r.how begun s);
-        same = λ later more e.
-            (λ i. run (reading (comment (how i) begun s) later) (drop (size i) u ++ more))
+        same = λ later more e. (λ i. run (reading (comment (how i) begun s) later) (drop (size i) u ++ more))
             ∙ sym (comment_ends begun u more (reading s later) e line
             (sym (ap (λ (v : Reached). stays v.how) is) ∙ ends));
       };
@@ -82,9 +80,8 @@ ends_within look n how u within h = subst (λ (v : Look). end_size v ≤ length 
 
 -- a unit of one
 pub name_goes : (s : State) (g : Bool) (begun : Place) (is_file : Bool) (us : List ℕ) (n : ℕ) (u : List ℕ)
-    → IsLine u → 1 ≤ length u → look_in_name u ≡ Goes n
-    → TakesOpen n u (opened s g (InName begun is_file us))
-    (opened s g (InName begun is_file (us ++ unit_bytes (take n u))))
+    → IsLine u → 1 ≤ length u → look_in_name u ≡ Goes n → TakesOpen
+    n u (opened s g (InName begun is_file us)) (opened s g (InName begun is_file (us ++ unit_bytes (take n u))))
 name_goes s g begun is_file us n [] line some h = absurd (omega (arith, some))
 name_goes s g begun is_file us n (b ∷ t) line some h =
     let fits = fits_as look_in_name n b t (name-units b t) h in
@@ -100,9 +97,8 @@ name_goes s g begun is_file us n (b ∷ t) line some h =
     }
 
 -- the end of one, with its opener sign
-pub name_over : (s : State) (g : Bool) (begun : Place) (is_file : Bool) (us : List ℕ)
-    (n : ℕ) (how : End) (u : List ℕ) (sign taken : ℕ) (opens : Bool)
-    → IsLine u → 1 ≤ length u → look_in_name u ≡ Ends n how
+pub name_over : (s : State) (g : Bool) (begun : Place) (is_file : Bool) (us : List ℕ) (n : ℕ)
+    (how : End) (u : List ℕ) (sign taken : ℕ) (opens : Bool) → IsLine u → 1 ≤ length u → look_in_name u ≡ Ends n how
     → sign ≡ sign_after how (drop n u) → taken ≡ n + (if takes_sign s then sign else 0) → opens ≡ nat_lt 0 sign
     → TakesOpen taken u (opened s g (InName begun is_file us)) (between (occurrence is_file us how opens begun s) g)
 name_over s g begun is_file us n how [] sign taken opens line some h is size opened_is = absurd (omega (arith, some))
@@ -119,8 +115,7 @@ name_over s g begun is_file us n how (b ∷ t) sign taken opens line some h is s
         adds = omega (arith, occurrence-weight is_file us how opens begun s);
         same = λ later more e.
             (λ i. run (reading (occurrence is_file us how (opened_is i) begun s) later) (drop (size i) u ++ more))
-            ∙ (λ i.
-            run (reading (occurrence is_file us how (nat_lt 0 (is i)) begun s) later)
+            ∙ (λ i. run (reading (occurrence is_file us how (nat_lt 0 (is i)) begun s) later)
             (drop (n + (if takes_sign s then is i else 0)) u ++ more))
             ∙ sym (name_end begun is_file us n b how t more (reading s later) e line h);
       };
@@ -131,14 +126,12 @@ name_over s g begun is_file us n how (b ∷ t) sign taken opens line some h is s
 -- LITERALS
 
 unit-weight : (s : State) (u : List ℕ) → weight (unit_state s u) ≤ weight s
-unit-weight s u =
-    elim (bytes_eq u (codes "@")) as (λ v. weight (if v then fault DoubleAtInString s else s) ≤ weight s)
-    [ true ↦ omega arith | false ↦ omega arith ]
+unit-weight s u = elim (bytes_eq u (codes "@")) as
+    (λ v. weight (if v then fault DoubleAtInString s else s) ≤ weight s) [ true ↦ omega arith | false ↦ omega arith ]
 
-pub literal_takes : (s : State) (g : Bool) (begun : Place) (quote : ℕ) (us : List ℕ) (v : Look) (u : List ℕ)
-    → MovesOn v → IsLine u → 1 ≤ length u → look_in_literal quote u ≡ v → look_size v ≤ length u
-    → TakesOpen (look_size v) u (opened s g (InLiteral begun quote us))
-    (literal_turn v begun u (opened s g (InLiteral begun quote us)))
+pub literal_takes : (s : State) (g : Bool) (begun : Place) (quote : ℕ) (us : List ℕ) (v : Look) (u : List ℕ) → MovesOn v
+    → IsLine u → 1 ≤ length u → look_in_literal quote u ≡ v → look_size v ≤ length u → TakesOpen (look_size v)
+    u (opened s g (InLiteral begun quote us)) (literal_turn v begun u (opened s g (InLiteral begun quote us)))
 literal_takes s g begun quote us v [] moves line some h fits = absurd (omega (arith, some))
 literal_takes s g begun quote us (Goes n) (b ∷ t) moves line some h fits = record {
   takes = record {

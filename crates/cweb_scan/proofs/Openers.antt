@@ -37,10 +37,8 @@ opened_comment r w h =
     let e : 2 + n ≡ suc (suc n) = omega arith in
     run_as r 47 (42 ∷ w) (comment_at (47 ∷ 42 ∷ w)) (comment_front r.state.context (names_include r.state) w h)
     ∙ ap (λ k. with_front r (47 ∷ 42 ∷ w) (front (Comment m.how) k)) e
-    ∙ ap (λ (s : State).
-    run (on (comment m.how s.here) (each_line_end comment_line_end (take n w) (on blank (on (λ u. s) r))))
-    (drop n w))
-    (enter_comment r.state.context m.how r.state)
+    ∙ ap (λ (s : State). run (on (comment m.how s.here) (each_line_end comment_line_end
+    (take n w) (on blank (on (λ u. s) r)))) (drop n w)) (enter_comment r.state.context m.how r.state)
 
 -- what belongs to no head leaves it
 abbrev pub leave_head_in : Context → State → State
@@ -92,10 +90,8 @@ enter_name Macro is_file us how opens s = refl
 enter_name CText is_file us how opens s = refl
 
 abbrev named : Bool → Reach → ℕ → ℕ → List ℕ → Reading → Reading
-named is_file m sign n t r =
-    run (on (occurrence is_file (text_in m.units) m.how (nat_lt 0 sign) r.state.here)
-    (each_line_end moved (take n t) r))
-    (drop n t)
+named is_file m sign n t r = run (on (occurrence is_file (text_in m.units) m.how (nat_lt 0 sign) r.state.here)
+    (each_line_end moved (take n t) r)) (drop n t)
 
 abbrev name_size : Bool → ℕ → ℕ → ℕ
 name_size takes n sign = if takes then n + sign else n
@@ -128,38 +124,22 @@ opened_as r a is_file w file in_line h =
     let s = leave_head_in c r.state in
     let size = n + (if takes then sign else 0) in
     run_as r 64 (a ∷ w) (name_at takes t) h
-    ∙ ap (λ v.
-    with_front r t
-    (front (Occurrence v m.units m.how (nat_lt 0 (sign_after m.how (drop (2 + n) t))))
-    (name_size takes (2 + n) (sign_after m.how (drop (2 + n) t)))))
-    file
-    ∙ ap (λ k.
-    with_front r t
-    (front (Occurrence is_file m.units m.how (nat_lt 0 (sign_after m.how (drop k t))))
-    (name_size takes k (sign_after m.how (drop k t)))))
-    e
+    ∙ ap (λ v. with_front r t (front (Occurrence v m.units m.how (nat_lt 0 (sign_after m.how (drop (2 + n) t))))
+    (name_size takes (2 + n) (sign_after m.how (drop (2 + n) t))))) file
+    ∙ ap (λ k. with_front r t (front (Occurrence is_file m.units m.how (nat_lt 0 (sign_after m.how (drop k t))))
+    (name_size takes k (sign_after m.how (drop k t))))) e
     ∙ ap (λ k. with_front r t (front (Occurrence is_file m.units m.how (nat_lt 0 sign)) k)) (name_size-two takes n sign)
-    ∙ ap (λ (u : State).
-    run (on (occurrence is_file (text_in m.units) m.how (nat_lt 0 sign) u.here)
-    (each_line_end moved (take (suc (suc size)) t) (on (λ v. u) r)))
-    (drop size w))
+    ∙ ap (λ (u : State). run (on (occurrence is_file (text_in m.units) m.how (nat_lt 0 sign) u.here)
+    (each_line_end moved (take (suc (suc size)) t) (on (λ v. u) r))) (drop size w))
     (enter_name c is_file m.units m.how (nat_lt 0 sign) r.state)
-    ∙ ap (λ v.
-    run (on (occurrence is_file (text_in m.units) m.how (nat_lt 0 sign) s.here)
-    (each_line_end moved (take size w) (if v then next_line moved (on (λ v. s) r) else on (λ v. s) r)))
-    (drop size w))
-    in_line
-    ∙ ap (λ p.
-    run (on (occurrence is_file (text_in m.units) m.how (nat_lt 0 sign) p)
-    (each_line_end moved (take size w) (on (λ v. s) r)))
-    (drop size w))
-    (here_same c r.state)
+    ∙ ap (λ v. run (on (occurrence is_file (text_in m.units) m.how (nat_lt 0 sign) s.here) (each_line_end moved
+    (take size w) (if v then next_line moved (on (λ v. s) r) else on (λ v. s) r))) (drop size w)) in_line
+    ∙ ap (λ p. run (on (occurrence is_file (text_in m.units) m.how (nat_lt 0 sign) p)
+    (each_line_end moved (take size w) (on (λ v. s) r))) (drop size w)) (here_same c r.state)
     ∙ ap (λ v.
     let k = n + (if v then sign else 0) in
     run (on (occurrence is_file (text_in m.units) m.how (nat_lt 0 sign) r.state.here)
-    (each_line_end moved (take k w) (on (λ v. s) r)))
-    (drop k w))
-    (sym (takes_same c r.state refl))
+    (each_line_end moved (take k w) (on (λ v. s) r))) (drop k w)) (sym (takes_same c r.state refl))
 
 pub opened_name : (r : Reading) (w : List ℕ) → reads_names r.state.context ≡ true
     → run r (64 ∷ 60 ∷ w) ≡ resume (InName r.state.here false []) w (on leave_head r)

@@ -49,8 +49,7 @@ name_opens s g u head c h =
       begun = refl;
       within = omega arith;
       adds = omega arith;
-      same = λ later more e.
-          sym (opened_name (reading s later) (p.0 ++ more) c
+      same = λ later more e. sym (opened_name (reading s later) (p.0 ++ more) c
           ∙ ap (λ (v : State). resume (InName s.here false []) (p.0 ++ more) (reading v later))
           (no_head s.context s head));
     })
@@ -64,8 +63,7 @@ file_opens s g u head c h =
       begun = refl;
       within = omega arith;
       adds = omega arith;
-      same = λ later more e.
-          sym (opened_file (reading s later) (p.0 ++ more) c
+      same = λ later more e. sym (opened_file (reading s later) (p.0 ++ more) c
           ∙ ap (λ (v : State). resume (InName s.here true []) (p.0 ++ more) (reading v later))
           (no_head s.context s head));
     })
@@ -84,11 +82,10 @@ raw_plain b t h = (elim (92 == b) as (λ v. (92 == b) ≡ v → (v && true) ≡ 
 ]) refl
 
 -- a quote
-pub literal_opens : (s : State) (g : Bool) (b : ℕ) (t : List ℕ) → reads_literals s.context ≡ true
-    → IsLine (b ∷ t) → IsPast (b ∷ t) → starts_raw (b ∷ t) ≡ false → starts_literal (b ∷ t) ≡ true
-    → (let n = literal_prefix (b ∷ t) in
-    Takes (n + 1) (b ∷ t) (between s g)
-    (opened s g (InLiteral s.here (quote_of (drop n (b ∷ t))) (take (n + 1) (b ∷ t)))))
+pub literal_opens : (s : State) (g : Bool) (b : ℕ) (t : List ℕ) → reads_literals s.context ≡ true → IsLine (b ∷ t)
+    → IsPast (b ∷ t) → starts_raw (b ∷ t) ≡ false → starts_literal (b ∷ t) ≡ true → (let n = literal_prefix (b ∷ t) in
+    Takes
+    (n + 1) (b ∷ t) (between s g) (opened s g (InLiteral s.here (quote_of (drop n (b ∷ t))) (take (n + 1) (b ∷ t)))))
 literal_opens s g b t c line past raw starts = record {
   begun = refl;
   within = is_quoted-size (literal_prefix (b ∷ t)) (b ∷ t) starts;
@@ -119,11 +116,10 @@ raw_opens s g b t c line past starts =
 pub takes_at : (n : ℕ) (rest : List ℕ) (h v : Held) → v ≡ h → h.item ≡ item.Between → (new made : Held)
     → new ≡ made → Takes n rest (between v.state v.begun) new → Takes n rest h made
 takes_at n rest h v is none new made same takes =
-    let old : between v.state v.begun ≡ h =
-    ap (λ (k : Held). between k.state k.begun) is
+    let old : between v.state v.begun ≡ h = ap (λ (k : Held). between k.state k.begun) is
     ∙ (λ i. record { state = h.state; item = sym none i; begun = h.begun }) in
-    subst (λ (k : Held). Takes n rest k made) old
-    (subst (λ (k : Held). Takes n rest (between v.state v.begun) k) same takes)
+    subst
+    (λ (k : Held). Takes n rest k made) old (subst (λ (k : Held). Takes n rest (between v.state v.begun) k) same takes)
 
 pub at_state : (P : State → Type 0) (h v : Held) → v ≡ h → P h.state → P v.state
 at_state P h v is p = subst (λ (k : Held). P k.state) (sym is) p
@@ -133,10 +129,8 @@ pub literal_opens_at : (s : State) (g : Bool) (u : List ℕ) (n : ℕ) → n ≡
     → Takes (n + 1) u (between s g) (opened s g (InLiteral s.here (quote_of (drop n u)) (take (n + 1) u)))
 literal_opens_at s g [] n is c line past raw starts = let wrong : false ≡ true = starts in cc
 literal_opens_at s g (b ∷ t) n is c line past raw starts =
-    subst (λ k.
-    Takes (k + 1) (b ∷ t) (between s g)
-    (opened s g (InLiteral s.here (quote_of (drop k (b ∷ t))) (take (k + 1) (b ∷ t)))))
-    (sym is) (literal_opens s g b t c line past raw starts)
+    subst (λ k. Takes (k + 1) (b ∷ t) (between s g) (opened s g (InLiteral s.here
+    (quote_of (drop k (b ∷ t))) (take (k + 1) (b ∷ t))))) (sym is) (literal_opens s g b t c line past raw starts)
 
 pub raw_fits_at : (u : List ℕ) (p : ℕ) (d : List ℕ) → p ≡ raw_prefix u
     → d ≡ delimiter (drop (p + 2) u) → starts_raw u ≡ true → p + 2 + length d + 1 ≤ length u
@@ -160,10 +154,6 @@ raw_opens_at s g [] p d is name c line past starts = let wrong : false ≡ true 
 raw_opens_at s g (b ∷ t) p d is name c line past starts =
     let u = b ∷ t in
     let same = name ∙ ap (λ k. delimiter (drop (k + 2) u)) is in
-    subst (λ (k : ℕ).
-    Takes (k + 2 + length d + 1) u (between s g) (opened s g (InRaw s.here d (take (k + 2 + length d + 1) u))))
-    (sym is)
-    (subst (λ (x : List ℕ).
-    Takes (raw_prefix u + 2 + length x + 1) u (between s g)
-    (opened s g (InRaw s.here x (take (raw_prefix u + 2 + length x + 1) u))))
-    (sym same) (raw_opens s g b t c line past starts))
+    subst (λ (k : ℕ). Takes (k + 2 + length d + 1) u (between s g) (opened s g (InRaw s.here d (take (k + 2 + length
+    d + 1) u)))) (sym is) (subst (λ (x : List ℕ). Takes (raw_prefix u + 2 + length x + 1) u (between s g) (opened s g
+    (InRaw s.here x (take (raw_prefix u + 2 + length x + 1) u)))) (sym same) (raw_opens s g b t c line past starts))

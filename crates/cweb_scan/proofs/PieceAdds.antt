@@ -17,8 +17,7 @@ each-adds : (f : Place → State → State) (n : ℕ) → ((p : Place) (s : Stat
     → (bytes : List ℕ) (r : Reading) → Adds (at_line_ends n bytes) 0 r.state (each_line_end f bytes r).state
 each-adds f n adds [] r = nothing_adds r.state
 each-adds f n adds (b ∷ t) r =
-    elim (is_line_end b) as (λ v.
-    Adds (if v then n + at_line_ends n t else at_line_ends n t) 0 r.state
+    elim (is_line_end b) as (λ v. Adds (if v then n + at_line_ends n t else at_line_ends n t) 0 r.state
     (each_line_end f t (if v then next_line f r else r)).state) [
       | true ↦ adds_both (next_line-adds f n adds r.state r.later) (each-adds f n adds t (next_line f r))
       | false ↦ each-adds f n adds t r
@@ -26,16 +25,14 @@ each-adds f n adds (b ∷ t) r =
 
 no_line_ends : (t : List ℕ) → at_line_ends 0 t ≡ 0
 no_line_ends [] = refl
-no_line_ends (b ∷ t) =
-    elim (is_line_end b) as (λ v. (if v then 0 + at_line_ends 0 t else at_line_ends 0 t) ≡ 0)
+no_line_ends (b ∷ t) = elim (is_line_end b) as (λ v. (if v then 0 + at_line_ends 0 t else at_line_ends 0 t) ≡ 0)
     [ true ↦ omega (arith, no_line_ends t) | false ↦ no_line_ends t ]
 
 moves : (bytes : List ℕ) (r : Reading) → Adds 0 0 r.state (each_line_end moved bytes r).state
 moves bytes r = adds_within 0 0 (each-adds moved 0 moved-adds bytes r) (omega (arith, no_line_ends bytes)) (omega arith)
 
 unit-adds : (r : Reading) (u : List ℕ) → Adds 0 0 r.state (literal_unit r u).state
-unit-adds r u =
-    elim (bytes_eq u (codes "@"))
+unit-adds r u = elim (bytes_eq u (codes "@"))
     as (λ v. Adds 0 0 r.state (if v then on (fault DoubleAtInString) r else each_line_end moved u r).state) [
       | true ↦ fault-adds DoubleAtInString r.state.here r.state
       | false ↦ moves u r
@@ -53,8 +50,7 @@ gap-size false = omega arith
 
 squeezed-size : (begun : Bool) (gap t : List ℕ) → length (squeezed_after begun gap t) ≤ length gap + length t
 squeezed-size begun gap [] = omega arith
-squeezed-size begun gap (b ∷ t) =
-    elim (is_white b) as (λ v.
+squeezed-size begun gap (b ∷ t) = elim (is_white b) as (λ v.
     length (elim v as (λ w. List ℕ) [
       | true ↦ squeezed_after begun (if begun then codes " " else []) t
       | false ↦ gap ++ b ∷ squeezed_after true [] t
@@ -69,8 +65,7 @@ take-size (suc n) [] = omega arith
 take-size (suc n) (b ∷ t) = omega (arith, take-size n t)
 
 given-size : (is_file : Bool) (text : List ℕ) → length (given is_file text).text ≤ length text
-given-size is_file text =
-    elim (is_abbreviation text) as (λ v.
+given-size is_file text = elim (is_abbreviation text) as (λ v.
     length (if v then prefix is_file (take (length text - 3) text) else full is_file text).text ≤ length text) [
       | true ↦ take-size (length text - 3) text
       | false ↦ omega arith
@@ -83,9 +78,8 @@ occurrence-adds : (is_file : Bool) (text : List ℕ) (how : End) (opens : Bool) 
     → Adds 2 (length text) s (occurrence is_file text how opens p s)
 occurrence-adds is_file text how opens p s =
     let n : NameRef = record { 0 = length s.contents.occurrences } in
-    adds_within 2 (length text)
-    (adds_both (occurs (occurrence_in is_file text) how p s) (name_in-adds s.context n opens p _))
-    (omega arith) (omega (arith, occurrence-size is_file text))
+    adds_within 2 (length text) (adds_both (occurs (occurrence_in is_file text) how p s)
+    (name_in-adds s.context n opens p _)) (omega arith) (omega (arith, occurrence-size is_file text))
 
 -- THE PIECES
 
@@ -107,41 +101,34 @@ item-adds (Section starred) bytes r pays =
     adds_within (length bytes) (length bytes) (begin_section-adds starred r.state) pays (omega arith)
 item-adds (Code effect) bytes r pays =
     adds_within (length bytes) (length bytes) (code-adds effect r.state) pays (omega (arith, pays))
-item-adds (Letter byte None) bytes r pays =
-    adds_within (length bytes) (length bytes)
-    (fault-adds ReplacementTooLong r.state.here r.state) (omega arith) (omega arith)
+item-adds (Letter byte None) bytes r pays = adds_within
+    (length bytes) (length bytes) (fault-adds ReplacementTooLong r.state.here r.state) (omega arith) (omega arith)
 item-adds (Letter byte (Some text)) bytes r pays =
     adds_within (length bytes) (length bytes) (letter-adds byte text r.state) (omega arith) pays
 item-adds (ControlText how) bytes r pays =
     adds_within (length bytes) (length bytes) (control_text-adds how r.state) (omega arith) (omega arith)
 item-adds (Verbatim units how) bytes r pays =
     adds_within (length bytes) (length bytes) (verbatim-adds (text_in units) how r.state) pays.0 pays.1
-item-adds (Constant None) bytes r pays =
-    adds_within (length bytes) (length bytes)
-    (fault-adds FaultyConstant r.state.here r.state) (omega arith) (omega arith)
+item-adds (Constant None) bytes r pays = adds_within
+    (length bytes) (length bytes) (fault-adds FaultyConstant r.state.here r.state) (omega arith) (omega arith)
 item-adds (Constant (Some n)) bytes r pays =
     adds_within (length bytes) (length bytes) (give-adds (Number (decimal n)) r.state) pays.0 pays.1
 item-adds (OccurrenceKind is_file units how opens) bytes r pays =
     let m = each_line_end moved bytes r in
-    adds_within (length bytes) (length bytes)
-    (adds_both (moves bytes r) (occurrence-adds is_file (text_in units) how opens r.state.here m.state))
-    (omega (arith, pays.0)) (omega (arith, pays.1))
+    adds_within (length bytes) (length bytes) (adds_both (moves bytes r) (occurrence-adds is_file
+    (text_in units) how opens r.state.here m.state)) (omega (arith, pays.0)) (omega (arith, pays.1))
 item-adds Blanks bytes r pays = adds_within (length bytes) (length bytes) (blank-adds r.state) pays (omega arith)
-item-adds LineEnd bytes r pays =
-    adds_within (length bytes) (length bytes)
-    (next_line-adds line_end 1 line_end-adds r.state r.later) pays (omega arith)
+item-adds LineEnd bytes r pays = adds_within
+    (length bytes) (length bytes) (next_line-adds line_end 1 line_end-adds r.state r.later) pays (omega arith)
 item-adds (Comment how) bytes r pays =
     let m = each_line_end comment_line_end bytes (on blank r) in
     adds_within (length bytes) (length bytes)
-    (adds_both (blank-adds r.state)
-    (adds_both (each-adds comment_line_end 1 comment_line_end-adds bytes (on blank r))
-    (comment-adds how r.state.here m.state)))
-    (omega (arith, pays)) (omega arith)
+    (adds_both (blank-adds r.state) (adds_both (each-adds comment_line_end 1 comment_line_end-adds bytes (on blank r))
+    (comment-adds how r.state.here m.state))) (omega (arith, pays)) (omega arith)
 item-adds (Quoted units how) bytes r pays =
     let m = fold literal_unit r units in
-    adds_within (length bytes) (length bytes)
-    (adds_both (units-add units r) (literal-adds (text_in units) how r.state.here m.state))
-    (omega (arith, pays.0)) (omega (arith, pays.1))
+    adds_within (length bytes) (length bytes) (adds_both (units-add units r)
+    (literal-adds (text_in units) how r.state.here m.state)) (omega (arith, pays.0)) (omega (arith, pays.1))
 item-adds (Defined tight) bytes r pays =
     adds_within (length bytes) (length bytes) (define-adds bytes tight r.state pays.1) pays.0 (omega arith)
 item-adds Identifier bytes r pays =
@@ -184,7 +171,5 @@ pays_entered Punctuator bytes s pays = pays
 pub piece-adds : (r : Reading) (p : Piece) → Pays r.state.context p.kind p.bytes
     → Adds (length p.bytes) (length p.bytes) r.state (after r p).state
 piece-adds r p pays =
-    adds_within (length p.bytes) (length p.bytes)
-    (adds_both (enter_in-adds r.state.context p.kind r.state)
-    (item-adds p.kind p.bytes (on (enter p.kind) r) (pays_entered p.kind p.bytes r.state pays)))
-    (omega arith) (omega arith)
+    adds_within (length p.bytes) (length p.bytes) (adds_both (enter_in-adds r.state.context p.kind r.state) (item-adds
+    p.kind p.bytes (on (enter p.kind) r) (pays_entered p.kind p.bytes r.state pays))) (omega arith) (omega arith)

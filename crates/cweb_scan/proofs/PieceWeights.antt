@@ -7,19 +7,16 @@ use Rattle.cweb_scan.proofs.Weights.{give-weight, begin_section-weight, line_end
 
 -- LINE ENDS IN A PIECE, AND UNITS
 
-next_line-weight : (f : Place → State → State) (n : ℕ)
-    → ((p : Place) (s : State) → weight (f p s) ≤ weight s + n) → (s : State) (later : List Place)
-    → weight (next_line f (record { state = s; later = later })).state ≤ weight s + n
+next_line-weight : (f : Place → State → State) (n : ℕ) → ((p : Place) (s : State) → weight (f p s) ≤ weight s + n)
+    → (s : State) (later : List Place) → weight (next_line f (record { state = s; later = later })).state ≤ weight s + n
 next_line-weight f n adds s [] = omega arith
 next_line-weight f n adds s (p ∷ later) = adds p s
 
-each-weight : (f : Place → State → State) (n : ℕ)
-    → ((p : Place) (s : State) → weight (f p s) ≤ weight s + n) → (bytes : List ℕ) (r : Reading)
-    → weight (each_line_end f bytes r).state ≤ weight r.state + at_line_ends n bytes
+each-weight : (f : Place → State → State) (n : ℕ) → ((p : Place) (s : State) → weight (f p s) ≤ weight s + n)
+    → (bytes : List ℕ) (r : Reading) → weight (each_line_end f bytes r).state ≤ weight r.state + at_line_ends n bytes
 each-weight f n adds [] r = omega arith
 each-weight f n adds (b ∷ t) r =
-    elim (is_line_end b) as (λ v.
-    weight (each_line_end f t (if v then next_line f r else r)).state
+    elim (is_line_end b) as (λ v. weight (each_line_end f t (if v then next_line f r else r)).state
     ≤ weight r.state + (if v then n + at_line_ends n t else at_line_ends n t)) [
       | true ↦ omega (arith, next_line-weight f n adds r.state r.later, each-weight f n adds t (next_line f r))
       | false ↦ each-weight f n adds t r
@@ -27,8 +24,7 @@ each-weight f n adds (b ∷ t) r =
 
 no_line_ends : (t : List ℕ) → at_line_ends 0 t ≡ 0
 no_line_ends [] = refl
-no_line_ends (b ∷ t) =
-    elim (is_line_end b) as (λ v. (if v then 0 + at_line_ends 0 t else at_line_ends 0 t) ≡ 0)
+no_line_ends (b ∷ t) = elim (is_line_end b) as (λ v. (if v then 0 + at_line_ends 0 t else at_line_ends 0 t) ≡ 0)
     [ true ↦ omega (arith, no_line_ends t) | false ↦ no_line_ends t ]
 
 moved-weight : (p : Place) (s : State) → weight (moved p s) ≤ weight s + 0
@@ -38,10 +34,8 @@ moves : (bytes : List ℕ) (r : Reading) → weight (each_line_end moved bytes r
 moves bytes r = omega (arith, each-weight moved 0 moved-weight bytes r, no_line_ends bytes)
 
 pub unit-weight : (r : Reading) (u : List ℕ) → weight (literal_unit r u).state ≤ weight r.state
-unit-weight r u =
-    elim (bytes_eq u (codes "@"))
-    as (λ v. weight (if v then on (fault DoubleAtInString) r else each_line_end moved u r).state ≤ weight r.state)
-    [ true ↦ omega arith | false ↦ moves u r ]
+unit-weight r u = elim (bytes_eq u (codes "@")) as (λ v. weight (if v then on (fault DoubleAtInString)
+    r else each_line_end moved u r).state ≤ weight r.state) [ true ↦ omega arith | false ↦ moves u r ]
 
 units-weight : (us : List (List ℕ)) (r : Reading) → weight (fold literal_unit r us).state ≤ weight r.state
 units-weight [] r = omega arith
@@ -52,9 +46,8 @@ units-weight (u ∷ us) r = omega (arith, unit-weight r u, units-weight us (lite
 enter_in-weight : (c : Context) (k : Kind) (s : State) → weight (enter_in c k s) ≤ weight s
 enter_in-weight Limbo k s = omega arith
 enter_in-weight TeX k s = omega arith
-enter_in-weight (Definition begun) k s =
-    elim (stays_in_head k) as (λ v. weight (if v then s else drop_definition begun s) ≤ weight s)
-    [ true ↦ omega arith | false ↦ omega arith ]
+enter_in-weight (Definition begun) k s = elim (stays_in_head k) as
+    (λ v. weight (if v then s else drop_definition begun s) ≤ weight s) [ true ↦ omega arith | false ↦ omega arith ]
 enter_in-weight Macro k s = omega arith
 enter_in-weight CText k s = omega arith
 

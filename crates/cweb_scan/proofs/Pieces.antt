@@ -14,8 +14,7 @@ drop-pred : (n : ℕ) (b : ℕ) (t : List ℕ) → 0 < n → drop (n - 1) t ≡ 
 drop-pred n b t h = let e : n ≡ suc (n - 1) = omega arith in sym (ap (λ m. drop m (b ∷ t)) e)
 
 -- the pieces of a text are what stands at its front, and the pieces of the rest
-pub pieces_first : (r : Reading) (b : ℕ) (t : List ℕ) → 0 < (front_of r.state (b ∷ t)).size
-    → pieces r (b ∷ t)
+pub pieces_first : (r : Reading) (b : ℕ) (t : List ℕ) → 0 < (front_of r.state (b ∷ t)).size → pieces r (b ∷ t)
     ≡ first r (b ∷ t) ∷ pieces (after r (first r (b ∷ t))) (drop (front_of r.state (b ∷ t)).size (b ∷ t))
 pieces_first r b t h =
     let n = (front_of r.state (b ∷ t)).size in

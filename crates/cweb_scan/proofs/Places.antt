@@ -47,9 +47,8 @@ module _ (known : Place → Bool) where
   unit-known : (r : Reading) (u : List ℕ) → R r → R (literal_unit r u)
   unit-known r u k =
       elim (bytes_eq u (codes "@")) as (λ v. R (if v then on (fault DoubleAtInString) r else each_line_end moved u r)) [
-        | true ↦
-            on-known (fault DoubleAtInString) r
-            (fault-known known DoubleAtInString r.state.here r.state k.state.here k.state) k
+        | true ↦ on-known
+            (fault DoubleAtInString) r (fault-known known DoubleAtInString r.state.here r.state k.state.here k.state) k
         | false ↦ each-known moved (moved-known known) u r k
       ]
 
@@ -107,8 +106,7 @@ module _ (known : Place → Bool) where
   enter_in-known CText k s h a = a
 
   after-known : (r : Reading) (p : Piece) → R r → R (after r p)
-  after-known r p k =
-      item-known p.kind p.bytes (on (enter p.kind) r)
+  after-known r p k = item-known p.kind p.bytes (on (enter p.kind) r)
       (on-known (enter p.kind) r (enter_in-known r.state.context p.kind r.state k.state.begun k.state) k)
 
   pieces-known : (n : ℕ) (r : Reading) (t : List ℕ) → R r → R (fold after r (pieces_in n r t))

@@ -82,9 +82,8 @@ figure_rule b t h =
       ),
     ) b h
   where
-    figure : (n : ℕ) → rule.Number ≡ c_rule false (n ∷ [])
-        → ((d : ℕ) (u : List ℕ) → rule.Number ≡ c_rule false (n ∷ d ∷ u))
-        → (u : List ℕ) → rule.Number ≡ c_rule false (n ∷ u)
+    figure : (n : ℕ) → rule.Number ≡ c_rule false (n ∷ []) → ((d : ℕ) (u : List ℕ)
+        → rule.Number ≡ c_rule false (n ∷ d ∷ u)) → (u : List ℕ) → rule.Number ≡ c_rule false (n ∷ u)
     figure n one more [] = one
     figure n one more (d ∷ u) = more d u
 
@@ -96,13 +95,11 @@ less_rule b t h = from_set (λ n. rule.Punctuator ≡ c_rule false (n ∷ t)) (c
     less (d ∷ u) = refl
 
 quote_rule : (b : ℕ) (t : List ℕ) → is_quote b ≡ true → rule.Literal ≡ c_rule false (b ∷ t)
-quote_rule b t h =
-    from_set (λ n. rule.Literal ≡ c_rule false (n ∷ t)) (codes "\"'")
-    (quoted 34 refl (λ d u. refl) t, (quoted 39 refl (λ d u. refl) t, tt)) b h
+quote_rule b t h = from_set (λ n. rule.Literal ≡ c_rule false (n ∷ t))
+    (codes "\"'") (quoted 34 refl (λ d u. refl) t, (quoted 39 refl (λ d u. refl) t, tt)) b h
   where
-    quoted : (n : ℕ) → rule.Literal ≡ c_rule false (n ∷ [])
-        → ((d : ℕ) (u : List ℕ) → rule.Literal ≡ c_rule false (n ∷ d ∷ u))
-        → (u : List ℕ) → rule.Literal ≡ c_rule false (n ∷ u)
+    quoted : (n : ℕ) → rule.Literal ≡ c_rule false (n ∷ []) → ((d : ℕ) (u : List ℕ)
+        → rule.Literal ≡ c_rule false (n ∷ d ∷ u)) → (u : List ℕ) → rule.Literal ≡ c_rule false (n ∷ u)
     quoted n one more [] = one
     quoted n one more (d ∷ u) = more d u
 
@@ -152,10 +149,8 @@ module _ (includes : Bool) (b : ℕ) (t : List ℕ) (kept : is_kept_back b ≡ f
   ]) refl
 
   told_settled : is_settled b ≡ true → IsTold includes (b ∷ t) (settled_by b (is_word_byte b))
-  told_settled settled =
-      (elim (is_word_byte b) as (λ v. is_word_byte b ≡ v
-      → c_rule includes (b ∷ t) ≡ (if v then rule.Identifier else rule.Punctuator)
-      → c_rule false (b ∷ t) ≡ (if v then rule.Identifier else rule.Punctuator)
+  told_settled settled = (elim (is_word_byte b) as (λ v. is_word_byte b ≡ v → c_rule includes (b ∷ t) ≡ (if v then
+      rule.Identifier else rule.Punctuator) → c_rule false (b ∷ t) ≡ (if v then rule.Identifier else rule.Punctuator)
       → IsTold includes (b ∷ t) (settled_by b v)) [
         | true ↦ λ word e f. (sym e, word)
         | false ↦ λ word e f. told_sign (sym e) (sym f)
@@ -193,8 +188,7 @@ module _ (includes : Bool) (b : ℕ) (t : List ℕ) (kept : is_kept_back b ≡ f
   ]) refl
 
 plain_told : (includes : Bool) (b : ℕ) (t : List ℕ) → IsTold includes (b ∷ t) (plain_by b)
-plain_told includes b t =
-    (elim (is_kept_back b) as (λ v. is_kept_back b ≡ v
+plain_told includes b t = (elim (is_kept_back b) as (λ v. is_kept_back b ≡ v
     → IsTold includes (b ∷ t) (if v then plain.Stop else taken_by b (is_blank b))) [
       | true ↦ λ e. tt
       | false ↦ λ e. told_taken includes b t e

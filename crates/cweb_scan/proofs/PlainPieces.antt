@@ -18,9 +18,8 @@ is_that a b e = ap (λ o. from_some o a) e
 abbrev Gives : Reading → (Reading → Reading) → Token → Type 0
 Gives r f t = HasRead r.state (f r).state (solid (t ∷ []))
 
-literal_gives : (r : Reading) (units : List (List ℕ)) (v : Bool) (t : Token)
-    → InPlainC r.state → is_hash t ≡ false → (v ≡ true → is_clean units ≡ true)
-    → cond v (Some (Literal (text_in units))) None ≡ Some t
+literal_gives : (r : Reading) (units : List (List ℕ)) (v : Bool) (t : Token) → InPlainC r.state
+    → is_hash t ≡ false → (v ≡ true → is_clean units ≡ true) → cond v (Some (Literal (text_in units))) None ≡ Some t
     → Gives r (λ q. on (literal (text_in units) Closed q.state.here) (fold literal_unit q units)) t
 literal_gives r units false t h plain clean e = cc
 literal_gives r units true t h plain clean e =
@@ -82,14 +81,12 @@ item_gives r (kind.Defined tight) bytes t h plain e = cc
 -- an item that is a token gives it, and no fault
 pub token_gives : (r : Reading) (p : Piece) (t : Token) → InPlainC r.state → is_hash t ≡ false
     → token_of p.kind p.bytes ≡ Some t → HasRead r.state (after r p).state (solid (t ∷ []))
-token_gives r p t h plain e =
-    subst (λ q. HasRead r.state (item p.kind p.bytes q).state (solid (t ∷ [])))
+token_gives r p t h plain e = subst (λ q. HasRead r.state (item p.kind p.bytes q).state (solid (t ∷ [])))
     (sym (entered r p.kind h)) (item_gives r p.kind p.bytes t h plain e)
 
 pub line_end_gives : (r : Reading) (bytes : List ℕ) → InPlainC r.state
     → HasRead r.state (after r (record { kind = kind.LineEnd; bytes = bytes })).state []
-line_end_gives r bytes h =
-    subst (λ q. HasRead r.state (next_line line_end q).state [])
+line_end_gives r bytes h = subst (λ q. HasRead r.state (next_line line_end q).state [])
     (sym (entered r kind.LineEnd h)) (next_gives line_end line_ends r h)
 
 -- a comment that ended gives layout alone

@@ -37,15 +37,12 @@ given s t h plain =
         part = longer t p;
         open_part = is_open;
         in_c = h.in_c;
-        no_directive =
-            ap (λ ts. (directive_of ts).tokens) now
+        no_directive = ap (λ ts. (directive_of ts).tokens) now
             ∙ ap (λ e. e.tokens) (fold-append with_next (record { tokens = None; last = None }) p.tokens (t ∷ []))
             ∙ ap (λ o. directive_tokens o d.last t) none
             ∙ ap (λ v. cond (v && ends_line d.last) (Some []) None) plain;
       };
-      tokens =
-          ap solid now
-          ∙ filter-append (λ u. not (is_between u)) p.tokens (t ∷ [])
+      tokens = ap solid now ∙ filter-append (λ u. not (is_between u)) p.tokens (t ∷ [])
           ∙ sym (ap (λ ts. solid ts ++ solid (t ∷ [])) before);
       faults = refl;
     }
@@ -77,12 +74,11 @@ pub line_ends : (p : Place) (s : State) → InPlainC s → HasRead s (line_end p
 line_ends p s h =
     let none = no_directive s h in
     let token : line_end_token p s ≡ cond (not (follows s.here p)) (Mark p) Newline =
-    ap (λ v.
-    cond (v && is_punct (codes "\\") (directive s).last) Newline
-    (cond ((v && s.folded) || not (follows s.here p)) (Mark p) Newline))
-    none in
+    ap (λ v. cond (v && is_punct (codes "\\") (directive s).last) Newline
+    (cond ((v && s.folded) || not (follows s.here p)) (Mark p) Newline)) none in
     let is : line_end p s ≡ moved p (give (cond (not (follows s.here p)) (Mark p) Newline) s) =
-    ap (λ c. line_end_in c p s) h.in_c ∙ ap (λ t. moved p (give t s)) token in
+    ap (λ c. line_end_in c p s) h.in_c
+    ∙ ap (λ t. moved p (give t s)) token in
     subst (λ t. HasRead s t []) (sym is) (ends p s (not (follows s.here p)) h)
 
 pub comment_line_ends : (p : Place) (s : State) → InPlainC s → HasRead s (comment_line_end p s) []

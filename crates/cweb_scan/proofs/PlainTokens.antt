@@ -16,9 +16,8 @@ in_plain_c : (r : Reading) (t : List ℕ) → InPlainC r.state → front_of r.st
 in_plain_c r t h =
     ap (λ c. front_in c (names_include r.state) t) h.in_c ∙ ap (λ o. front_in CText (some_include o) t) h.no_directive
 
-run_step : (r : Reading) (b : ℕ) (x : List ℕ) (k : Kind) (n : ℕ)
-    → InPlainC r.state → front_in CText false (b ∷ x) ≡ front k n → 0 < n
-    → run r (b ∷ x) ≡ run (after r (record { kind = k; bytes = take n (b ∷ x) })) (drop n (b ∷ x))
+run_step : (r : Reading) (b : ℕ) (x : List ℕ) (k : Kind) (n : ℕ) → InPlainC r.state → front_in CText false (b ∷ x)
+    ≡ front k n → 0 < n → run r (b ∷ x) ≡ run (after r (record { kind = k; bytes = take n (b ∷ x) })) (drop n (b ∷ x))
 run_step r b x k n h is some =
     let t = b ∷ x in
     let e = in_plain_c r t h ∙ is in
@@ -175,8 +174,7 @@ token_read joins r u rest all plain h hash seam =
     let k = kinded h.kind d u h.token in
     record {
       next = after r (record { kind = h.kind; bytes = d });
-      goes_on =
-          run_over r d rest h.kind plain (some_byte (begins_as h.kind) d (begins u h))
+      goes_on = run_over r d rest h.kind plain (some_byte (begins_as h.kind) d (begins u h))
           (tokens_stay joins h.kind d rest all (alone u h) (k.goes joins rest seam));
       read = token_gives r (record { kind = h.kind; bytes = d }) u plain hash h.token;
     }

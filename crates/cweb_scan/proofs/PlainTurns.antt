@@ -39,8 +39,7 @@ is_line_drop (suc n) [] h = h
 is_line_drop (suc n) (b ∷ t) h = is_line_drop n t h.1
 
 pub left_line : (text left : List ℕ) (a b : State) → IsLine text → TakesSome text left a b → IsLine left
-left_line text left a b line f =
-    subst IsLine (sym f.left_is) (is_line_drop (length text - length left) text line)
+left_line text left a b line f = subst IsLine (sym f.left_is) (is_line_drop (length text - length left) text line)
 
 -- a piece of no bytes ends them
 pub some_ended : (text left : List ℕ) (a b c : State) → TakesSome text left a b

@@ -34,8 +34,7 @@ none_open s h = ap (λ (c : Context). is_c c && is_some (directive s).tokens) (s
 pub stays_plain : (s : State) (t : Token) → IsPlainC s → IsPlainToken t → IsPlainC (give t s)
 stays_plain s t h plain = record {
   in_c = h.in_c;
-  outside =
-      ap (λ (c : Context). is_c c && is_some (directive (give t s)).tokens) h.in_c
+  outside = ap (λ (c : Context). is_c c && is_some (directive (give t s)).tokens) h.in_c
       ∙ no_more s.contents.parts.current t (none_open s h) plain.hash;
 }
 
@@ -76,8 +75,7 @@ step_newline d h = λ i. record { stage = (stays h ∙ sym (stage_outside d.stag
   where
     stays : is_outside d.stage ≡ true → next_stage d Newline ≡ Outside
     stays h =
-        ap (λ v. if v then Outside
-        else (if not (goes_over d.last Newline) then Outside else further d.stage Newline)) h
+        ap (λ v. if v then Outside else (if not (goes_over d.last Newline) then Outside else further d.stage Newline)) h
 
 pub tied_newline : (d l : Directive) (c : Context) (o : Option Part) → IsTied d l c o → is_c c ≡ true
     → has_part c ≡ true → is_some (directive_of (tokens_of o)).tokens ≡ false
@@ -106,25 +104,20 @@ turn n u s new r line some c_text is closed gives =
 
 pub blanks_turn : (n : ℕ) (u : List ℕ) (s : State) → IsLine u → 1 ≤ length u → IsPlainC s
     → rule.Blanks ≡ rule_at s u → n ≡ prefix_len is_blank u → TakesPlain n u s s
-blanks_turn n u s line some h is size =
-    turn n u s s rule.Blanks line some h.in_c is refl
+blanks_turn n u s line some h is size = turn n u s s rule.Blanks line some h.in_c is refl
     (record {
       size = size;
       state = sym (ap (λ v. if v && not (spec.is_blank (directive s).last) then give Blank s else s) h.outside);
     })
 
-pub word_turn : (n : ℕ) (u : List ℕ) (s new : State) → IsLine u → 1 ≤ length u → s.context ≡ CText
-    → rule.Identifier ≡ rule_at s u → n ≡ prefix_len is_word_byte u
-    → new ≡ give (Word (take n u)) s → TakesPlain n u s new
-word_turn n u s new line some c_text is size made =
-    turn n u s new rule.Identifier line some c_text is refl
+pub word_turn : (n : ℕ) (u : List ℕ) (s new : State) → IsLine u → 1 ≤ length u → s.context ≡ CText → rule.Identifier
+    ≡ rule_at s u → n ≡ prefix_len is_word_byte u → new ≡ give (Word (take n u)) s → TakesPlain n u s new
+word_turn n u s new line some c_text is size made = turn n u s new rule.Identifier line some c_text is refl
     (record { size = size; state = made ∙ ap (λ k. give (Word (take k u)) s) size })
 
-pub sign_turn : (u : List ℕ) (s new : State) → IsLine u → 1 ≤ length u → IsPlainC s
-    → rule.Punctuator ≡ rule_at s u → IsSign u
-    → new ≡ record (give (Punct (take 1 u)) s) { folded = false } → TakesPlain 1 u s new
-sign_turn u s new line some h is sign made =
-    turn 1 u s new rule.Punctuator line some h.in_c is refl
+pub sign_turn : (u : List ℕ) (s new : State) → IsLine u → 1 ≤ length u → IsPlainC s → rule.Punctuator ≡ rule_at s u
+    → IsSign u → new ≡ record (give (Punct (take 1 u)) s) { folded = false } → TakesPlain 1 u s new
+sign_turn u s new line some h is sign made = turn 1 u s new rule.Punctuator line some h.in_c is refl
     (record {
       size = sym sign.size;
       state = made ∙ ap (λ v. record (give (Punct (take 1 u)) s) { folded = v && s.folded }) (sym h.outside)

@@ -84,14 +84,11 @@ sides x b h = grind (arith, nat_tests)
 pub skipped_takes : (s : State) (g : Bool) (u : List ℕ) → is_text s.context ≡ true
     → IsLine u → Takes (prefix_len is_skipped u) u (between s g) (between s g)
 skipped_takes s g [] c line = takes_none [] (between s g)
-skipped_takes s g (b ∷ t) c line =
-    (elim (b == 64) as (λ v.
-    (b == 64) ≡ v
+skipped_takes s g (b ∷ t) c line = (elim (b == 64) as (λ v. (b == 64) ≡ v
     → Takes (if not v then 1 + prefix_len is_skipped t else 0) (b ∷ t) (between s g) (between s g)) [
       | true ↦ λ h. takes_none (b ∷ t) (between s g)
-      | false ↦ λ h.
-          takes_both 1 (prefix_len is_skipped t) (b ∷ t) _ _ _
-          (one_skipped s g b t c line h (sides 64 b h)) (skipped_takes s g t c line.1)
+      | false ↦ λ h. takes_both 1 (prefix_len is_skipped t)
+          (b ∷ t) _ _ _ (one_skipped s g b t c line h (sides 64 b h)) (skipped_takes s g t c line.1)
     ]) refl
 
 -- C TEXT AND MACROS, by the first rule that fits

@@ -91,39 +91,27 @@ no_line_end [] h = refl
 no_line_end (b ∷ t) h = ne_eqb b 10 h.0
 
 from_code : (is : Rule → Bool) (includes : Bool) (u : List ℕ) → is rule.Code ≡ false → is rule.RawLiteral ≡ false
-    → is rule.Literal ≡ false → is rule.IncludedName ≡ false → is rule.Number ≡ false
-    → is rule.Identifier ≡ false → is rule.Punctuator ≡ false
-    → is (if begins (codes "@") u then rule.Code
-    else (if starts_raw u then rule.RawLiteral
-    else (if starts_literal u then rule.Literal
-    else (if includes && starts_include u then rule.IncludedName
-    else (if starts_number u then rule.Number
-    else (if first_is is_word_byte u then rule.Identifier else rule.Punctuator)))))) ≡ false
+    → is rule.Literal ≡ false → is rule.IncludedName ≡ false → is rule.Number ≡ false → is rule.Identifier ≡ false
+    → is rule.Punctuator ≡ false → is (if begins (codes "@") u then rule.Code else (if starts_raw u then rule.RawLiteral
+    else (if starts_literal u then rule.Literal else (if includes && starts_include u then rule.IncludedName else (if
+    starts_number u then rule.Number else (if first_is is_word_byte u then rule.Identifier else rule.Punctuator))))))
+    ≡ false
 from_code is includes u c r l n m i p =
-    neither is (begins (codes "@") u) _ _ c
-    (neither is (starts_raw u) _ _ r
-    (neither is (starts_literal u) _ _ l
+    neither is (begins (codes "@") u) _ _ c (neither is (starts_raw u) _ _ r (neither is (starts_literal u) _ _ l
     (tail_is is (includes && starts_include u) (starts_number u) (first_is is_word_byte u) n m i p)))
 
 -- no line end stands in a line
 pub rule_in_line : (includes : Bool) (u : List ℕ) → IsLine u → is_ended (c_rule includes u) ≡ false
 rule_in_line includes u line =
     let is = is_ended in
-    let y : Rule =
-    if begins (codes "/*") u then rule.Comment
-    else (if begins (codes "//") u then rule.LineComment
-    else (if starts_section u then rule.Section
-    else (if begins (codes "@") u then rule.Code
-    else (if starts_raw u then rule.RawLiteral
-    else (if starts_literal u then rule.Literal
-    else (if includes && starts_include u then rule.IncludedName
-    else (if starts_number u then rule.Number
-    else (if first_is is_word_byte u then rule.Identifier
-    else rule.Punctuator)))))))) in
+    let y : Rule = if begins (codes "/*") u then rule.Comment else
+    (if begins (codes "//") u then rule.LineComment else (if starts_section u then rule.Section else
+    (if begins (codes "@") u then rule.Code else (if starts_raw u then rule.RawLiteral else (if starts_literal
+    u then rule.Literal else (if includes && starts_include u then rule.IncludedName else (if starts_number
+    u then rule.Number else (if first_is is_word_byte u then rule.Identifier else rule.Punctuator)))))))) in
     neither is (first_is is_blank u) rule.Blanks (if first_is is_line_end u then rule.LineEnd else y) refl
     (ap (λ v. is_ended (if v then rule.LineEnd else y)) (no_line_end u line)
-    ∙ neither is (begins (codes "/*") u) _ _ refl
-    (neither is (begins (codes "//") u) _ _ refl
+    ∙ neither is (begins (codes "/*") u) _ _ refl (neither is (begins (codes "//") u) _ _ refl
     (neither is (starts_section u) _ _ refl (from_code is includes u refl refl refl refl refl refl refl))))
 
 pub line_comment_seen : (includes : Bool) (u : List ℕ)
@@ -133,9 +121,8 @@ line_comment_seen includes u h =
     let h0 = later is (first_is is_blank u) _ _ refl h in
     let h1 = later is (first_is is_line_end u) _ _ refl h0.1 in
     let h2 = later is (begins (codes "/*") u) _ _ refl h1.1 in
-    now is (begins (codes "//") u) rule.LineComment _
-    (neither is (starts_section u) rule.Section _ refl (from_code is includes u refl refl refl refl refl refl refl))
-    h2.1
+    now is (begins (codes "//") u) rule.LineComment _ (neither is
+    (starts_section u) rule.Section _ refl (from_code is includes u refl refl refl refl refl refl refl)) h2.1
 
 two_same : (r : Rule) → needs_two r ≡ is_line_comment r
 two_same rule.Blanks = refl
@@ -178,8 +165,7 @@ pub backslash_passes : (u : List ℕ) (h : Held) → h.item ≡ Between → h.st
     → 1 ≤ length u → begins (codes "\\") u ≡ true → at_line_end (drop 1 u) ≡ true → Passes 1 u h h
 backslash_passes u h none is line some sign ended =
     let v : (begins (codes "\\") u && at_line_end (drop 1 u)) ≡ true = λ i. sign i && ended i in
-    closed_at 1 u h h h.state (front Skipped 1) refl none (ap is_head is) line some
-    (ap (λ (c : Context). front_in c (names_include h.state) u) is
-    ∙ ap (λ w. if w then front Skipped 1 else c_front in_macro true false u) v)
+    closed_at 1 u h h h.state (front Skipped 1) refl none (ap is_head is) line some (ap (λ (c : Context).
+    front_in c (names_include h.state) u) is ∙ ap (λ w. if w then front Skipped 1 else c_front in_macro true false u) v)
     (ap (λ (c : Context). opens_in c u) is ∙ ap (λ w. if w then false else c_opens in_macro u) v)
     (record { size = refl; state = sym (ap (λ (r : Reading). r.state) (none_to_come moved (take 1 u) h.state)) })

@@ -66,18 +66,14 @@ name_goes_on s g begun is_file us b t line plain =
     let off = is_not (is_sign Name b) plain in
     subst (λ (v : List ℕ).
     Takes 1 (b ∷ t) (opened s g (InName begun is_file us)) (opened s g (InName begun is_file (us ++ v))))
-    (plain-bytes b off)
-    (name_goes s g begun is_file us 1 (b ∷ t) line (omega arith) (plain_goes Name b t off)).takes
+    (plain-bytes b off) (name_goes s g begun is_file us 1 (b ∷ t) line (omega arith) (plain_goes Name b t off)).takes
 
 pub name_run : (s : State) (g : Bool) (begun : Place) (is_file : Bool) (us : List ℕ) (n : ℕ) (u : List ℕ)
     → IsLine u → 0 < n → n ≡ prefix_len (is_plain Name) u
     → TakesOpen n u (opened s g (InName begun is_file us)) (opened s g (InName begun is_file (us ++ take n u)))
 name_run s g begun is_file us n u line some is = record {
-  takes =
-      subst (λ (k : ℕ).
-      Takes k u (opened s g (InName begun is_file us)) (opened s g (InName begun is_file (us ++ take k u))))
-      (sym is)
-      (run_taken (is_plain Name) (λ us. opened s g (InName begun is_file us))
+  takes = subst (λ (k : ℕ). Takes k u (opened s g (InName begun is_file us)) (opened s g (InName begun is_file
+      (us ++ take k u)))) (sym is) (run_taken (is_plain Name) (λ us. opened s g (InName begun is_file us))
       (name_goes_on s g begun is_file) us u line);
   moves = λ w. some;
   last = λ w. cc;
@@ -87,10 +83,9 @@ name_run s g begun is_file us n u line some is = record {
 literal_one : (s : State) (g : Bool) (b : ℕ) (t : List ℕ) (at : List ℕ → Item) (us : List ℕ) → (b == 64) ≡ false
     → Takes 1 (b ∷ t) (opened s g (at us)) (opened (unit_state s (b ∷ [])) g (at (us ++ unit_bytes (b ∷ []))))
     → Takes 1 (b ∷ t) (opened s g (at us)) (opened s g (at (us ++ b ∷ [])))
-literal_one s g b t at us h takes =
-    subst (λ (k : State). Takes 1 (b ∷ t) (opened s g (at us)) (opened k g (at (us ++ b ∷ [])))) (plain-state s b h)
-    (subst (λ (v : List ℕ). Takes 1 (b ∷ t) (opened s g (at us)) (opened (unit_state s (b ∷ [])) g (at (us ++ v))))
-    (plain-bytes b h) takes)
+literal_one s g b t at us h takes = subst (λ (k : State).
+    Takes 1 (b ∷ t) (opened s g (at us)) (opened k g (at (us ++ b ∷ [])))) (plain-state s b h) (subst (λ (v : List ℕ).
+    Takes 1 (b ∷ t) (opened s g (at us)) (opened (unit_state s (b ∷ [])) g (at (us ++ v)))) (plain-bytes b h) takes)
 
 literal_goes_on : (s : State) (g : Bool) (begun : Place) (quote : ℕ)
     → GoesOn (is_plain (Literal quote)) (λ us. opened s g (InLiteral begun quote us))
@@ -104,11 +99,8 @@ pub literal_run : (s : State) (g : Bool) (begun : Place) (quote : ℕ) (us : Lis
     → IsLine u → 0 < n → n ≡ prefix_len (is_plain (Literal quote)) u
     → TakesOpen n u (opened s g (InLiteral begun quote us)) (opened s g (InLiteral begun quote (us ++ take n u)))
 literal_run s g begun quote us n u line some is = record {
-  takes =
-      subst (λ (k : ℕ).
-      Takes k u (opened s g (InLiteral begun quote us)) (opened s g (InLiteral begun quote (us ++ take k u))))
-      (sym is)
-      (run_taken (is_plain (Literal quote)) (λ us. opened s g (InLiteral begun quote us))
+  takes = subst (λ (k : ℕ). Takes k u (opened s g (InLiteral begun quote us)) (opened s g (InLiteral begun quote
+      (us ++ take k u)))) (sym is) (run_taken (is_plain (Literal quote)) (λ us. opened s g (InLiteral begun quote us))
       (literal_goes_on s g begun quote) us u line);
   moves = λ w. some;
   last = λ w. cc;
@@ -118,30 +110,25 @@ raw_goes_on : (s : State) (g : Bool) (begun : Place) (d : List ℕ) → list_all
     → GoesOn (λ b. not (is_raw_sign (sign_of d) b)) (λ us. opened s g (InRaw begun d us))
 raw_goes_on s g begun d clean us b t line plain =
     let off = is_not (is_raw_sign (sign_of d) b) plain in
-    literal_one s g b t (λ (v : List ℕ). InRaw begun d v) us (no_at_in_raw (sign_of d) b off)
-    (raw_takes s g begun d us (Goes 1) (b ∷ t) (omega arith) clean line
-    (omega arith) (raw_goes (sign_of d) b t off) (omega arith)).takes
+    literal_one s g b t (λ (v : List ℕ). InRaw begun d v) us (no_at_in_raw (sign_of d) b off) (raw_takes s g begun d us
+    (Goes 1) (b ∷ t) (omega arith) clean line (omega arith) (raw_goes (sign_of d) b t off) (omega arith)).takes
 
 pub raw_run : (s : State) (g : Bool) (begun : Place) (d us : List ℕ) (n : ℕ) (u : List ℕ)
     → list_all in_line (sign_of d) ≡ true → IsLine u → 0 < n → n ≡ prefix_len (λ b. not (is_raw_sign (sign_of d) b)) u
     → TakesOpen n u (opened s g (InRaw begun d us)) (opened s g (InRaw begun d (us ++ take n u)))
 raw_run s g begun d us n u clean line some is = record {
-  takes =
-      subst (λ (k : ℕ). Takes k u (opened s g (InRaw begun d us)) (opened s g (InRaw begun d (us ++ take k u))))
-      (sym is)
-      (run_taken (λ b. not (is_raw_sign (sign_of d) b))
+  takes = subst (λ (k : ℕ). Takes k u (opened s g (InRaw begun d us)) (opened s g (InRaw begun d (us ++ take k u))))
+      (sym is) (run_taken (λ b. not (is_raw_sign (sign_of d) b))
       (λ us. opened s g (InRaw begun d us)) (raw_goes_on s g begun d clean) us u line);
   moves = λ w. some;
   last = λ w. cc;
 }
 
 pub run_at : (n : ℕ) (u : List ℕ) (h new : Held) (at : List ℕ → Item)
-    → h.item ≡ at (text_of h.item) → new ≡ with_run n u h
-    → with_text (text_of h.item ++ take n u) (at (text_of h.item)) ≡ at (text_of h.item ++ take n u)
-    → TakesOpen n u (opened h.state h.begun (at (text_of h.item)))
+    → h.item ≡ at (text_of h.item) → new ≡ with_run n u h → with_text (text_of h.item ++ take n u) (at (text_of h.item))
+    ≡ at (text_of h.item ++ take n u) → TakesOpen n u (opened h.state h.begun (at (text_of h.item)))
     (opened h.state h.begun (at (text_of h.item ++ take n u))) → TakesOpen n u h new
 run_at n u h new at item made same takes =
     open_at n u h h refl (at (text_of h.item)) item new (opened h.state h.begun (at (text_of h.item ++ take n u)))
     (made ∙ (λ j. record { state = h.state; item = with_text (text_of h.item ++ take n u) (item j); begun = h.begun })
-    ∙ (λ j. record { state = h.state; item = same j; begun = h.begun }))
-    takes
+    ∙ (λ j. record { state = h.state; item = same j; begun = h.begun })) takes

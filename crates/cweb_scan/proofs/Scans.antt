@@ -27,23 +27,19 @@ web_size-append [] b = omega arith
 web_size-append (line ∷ a) b = omega (arith, web_size-append a b)
 
 pub wider : (files more : ℕ) (lines : List Line) → files ≤ more → AreBelow files lines → AreBelow more lines
-wider files more lines h below =
-    All-weaker (λ (line : Line). line.place.file.0 < files)
+wider files more lines h below = All-weaker (λ (line : Line). line.place.file.0 < files)
     (λ line. line.place.file.0 < more) (λ line k. omega (arith, h, k)) lines below
 
 -- one more line
 pub given_line_taken : (tells : Bool) (old so new : SoFar) (all now later : List Event) (held next : Held) (line : Line)
-    → HasTaken tells old so all now held
-    → GivesOut line.place line.bytes so new → length so.names ≤ length new.names
-    → ((more : List Line) → read_after next more ≡ read_after held (line ∷ more))
-    → (IsTrue tells → Gives (line ∷ []) so new now later)
-    → HasTaken tells old new all later next
+    → HasTaken tells old so all now held → GivesOut line.place line.bytes so new
+    → length so.names ≤ length new.names → ((more : List Line) → read_after next more ≡ read_after held (line ∷ more))
+    → (IsTrue tells → Gives (line ∷ []) so new now later) → HasTaken tells old new all later next
 given_line_taken tells old so new all now later held next line taken given names reads gives = record {
   lines = taken.lines ++ line ∷ [];
   read_is = λ more.
       reads more ∙ taken.read_is (line ∷ more) ∙ ap read (sym (append_assoc taken.lines (line ∷ []) more));
-  below =
-      All-push (λ (line : Line). line.place.file.0 < length new.names) taken.lines line
+  below = All-push (λ (line : Line). line.place.file.0 < length new.names) taken.lines line
       (wider (length so.names) (length new.names) taken.lines names taken.below) given.known;
   few = omega (arith, web_size-append taken.lines (line ∷ []), taken.few, given.lines, given.bytes_are);
   gives = λ told. gives_both taken.lines (line ∷ []) old so new all now later (taken.gives told) (gives told);
@@ -59,16 +55,13 @@ mark_below files t h = tt
 
 scanned-below : (files : ℕ) (lines : List Line) → AreBelow files lines → IsBelow files (scanned lines)
 scanned-below files lines below =
-    let known =
-    All-weaker (λ (l : Line). l.place.file.0 < files) (λ l. among files l.place ≡ true)
-    (λ l h. lt-ltb l.place.file.0 files h) lines below in
+    let known = All-weaker (λ (l : Line). l.place.file.0 < files)
+    (λ l. among files l.place ≡ true) (λ l h. lt-ltb l.place.file.0 files h) lines below in
     let pass = scanned-pass (among files) lines known in
     record {
-      marks =
-          All-weaker (MarkPasses (among files)) (IsMarkBelow files)
+      marks = All-weaker (MarkPasses (among files)) (IsMarkBelow files)
           (mark_below files) (all_tokens (scanned lines).store.parts) pass.marks;
-      faults =
-          All-weaker (λ (f : ScanFault). among files f.place ≡ true) (λ f. f.place.file.0 < files)
+      faults = All-weaker (λ (f : ScanFault). among files f.place ≡ true) (λ f. f.place.file.0 < files)
           (λ f h. ltb-true f.place.file.0 files h) (scanned lines).faults pass.faults;
     }
 
@@ -95,9 +88,8 @@ all_within tells old so new all now held s taken is names few_bytes few_lines =
 -- no line is left
 pub all_scanned : (old so new : SoFar) (all now later : List Event) (lines : List Line) (held : Held) (s : Scanned)
     → ((more : List Line) → read_after held more ≡ read (lines ++ more))
-    → web_size lines ≤ so.count.bytes + so.count.lines
-    → Gives lines old so all now → s ≡ scanned_of (read_after held []).state
-    → Gives [] so new now later → later ≡ [] → Scans s old new all
+    → web_size lines ≤ so.count.bytes + so.count.lines → Gives lines old so all now
+    → s ≡ scanned_of (read_after held []).state → Gives [] so new now later → later ≡ [] → Scans s old new all
 all_scanned old so new all now later lines held s reads few gives is last none =
     let whole = gives_both lines [] old so new all now later gives last in
     let here : given_lines all ≡ lines =

@@ -25,12 +25,10 @@ fits_by white gap b t =
 
 -- behind a byte that isn't white, and behind a blank
 abbrev Stays : List ℕ → Type 0
-Stays t =
-    (is_squeezed_after false t ≡ true → squeezed_after true [] t ≡ t)
-    × (is_squeezed_after true t ≡ true → squeezed_after true (codes " ") t ≡ 32 ∷ t)
+Stays t = (is_squeezed_after false t ≡ true → squeezed_after true [] t ≡ t) ×
+    (is_squeezed_after true t ≡ true → squeezed_after true (codes " ") t ≡ 32 ∷ t)
 
-behind_byte : (w : Bool) (b : ℕ) (t : List ℕ) → Stays t → fits_by w false b t ≡ true
-    → squeezed_by w true [] b t ≡ b ∷ t
+behind_byte : (w : Bool) (b : ℕ) (t : List ℕ) → Stays t → fits_by w false b t ≡ true → squeezed_by w true [] b t ≡ b ∷ t
 behind_byte true b t s h =
     let p = both (b == 32) (is_squeezed_after true t) h in s.1 p.1 ∙ ap (λ n. n ∷ t) (sym (eqb-true b 32 p.0))
 behind_byte false b t s h = ap (λ u. b ∷ u) (s.0 h)
@@ -45,8 +43,7 @@ stays [] = (λ h. refl, λ h. cc)
 stays (b ∷ t) =
     let s = stays t in (λ h. behind_byte (is_white b) b t s h, λ h. behind_blank (is_white b) b t s h)
 
-first_stays : (w : Bool) (b : ℕ) (t : List ℕ) → Stays t → fits_by w true b t ≡ true
-    → squeezed_by w false [] b t ≡ b ∷ t
+first_stays : (w : Bool) (b : ℕ) (t : List ℕ) → Stays t → fits_by w true b t ≡ true → squeezed_by w false [] b t ≡ b ∷ t
 first_stays true b t s h = cc
 first_stays false b t s h = ap (λ u. b ∷ u) (s.0 h)
 

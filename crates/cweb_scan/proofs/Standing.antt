@@ -109,16 +109,14 @@ literal-stays text Nested begun s = refl
 literal-stays text Open begun s = refl
 
 pub blank-stays : (s : State) → Stays blank s
-blank-stays s =
-    elim (in_directive s && not (is_blank (directive s).last))
-    as (λ v. (if v then give Blank s else s).here ≡ s.here) [ true ↦ refl | false ↦ refl ]
+blank-stays s = elim (in_directive s && not (is_blank (directive s).last)) as
+    (λ v. (if v then give Blank s else s).here ≡ s.here) [ true ↦ refl | false ↦ refl ]
 
 pub enter_in-stays : (c : Context) (k : Kind) (s : State) → Stays (enter_in c k) s
 enter_in-stays Limbo k s = refl
 enter_in-stays TeX k s = refl
-enter_in-stays (Definition begun) k s =
-    elim (stays_in_head k) as (λ v. (if v then s else drop_definition begun s).here ≡ s.here)
-    [ true ↦ refl | false ↦ refl ]
+enter_in-stays (Definition begun) k s = elim
+    (stays_in_head k) as (λ v. (if v then s else drop_definition begun s).here ≡ s.here) [ true ↦ refl | false ↦ refl ]
 enter_in-stays Macro k s = refl
 enter_in-stays CText k s = refl
 
@@ -138,9 +136,8 @@ pub line_end-moves : Moves line_end
 line_end-moves p s = line_end_in-moves s.context p s
 
 pub comment-moves : Moves comment_line_end
-comment-moves p s =
-    elim (in_directive s) as (λ v. (if v then moved p s else line_end p s).here ≡ p)
-    [ true ↦ refl | false ↦ line_end-moves p s ]
+comment-moves p s = elim (in_directive s) as
+    (λ v. (if v then moved p s else line_end p s).here ≡ p) [ true ↦ refl | false ↦ line_end-moves p s ]
 
 pub next_in : (f : Place → State → State) → Moves f → (s : State) (later : List Place)
     → 1 ≤ length later → places_in (next_line f (record { state = s; later = later })) ≡ later
@@ -154,9 +151,8 @@ pub each-places : (f : Place → State → State) → Moves f
     → (bytes : List ℕ) (r : Reading) → at_line_ends 1 bytes ≤ length r.later
     → places_in (each_line_end f bytes r) ≡ drop (at_line_ends 1 bytes) (places_in r)
 each-places f moves [] r h = refl
-each-places f moves (b ∷ t) r h =
-    (elim (is_line_end b) as (λ v. (if v then 1 + at_line_ends 1 t else at_line_ends 1 t) ≤ length r.later
-    → places_in (each_line_end f t (if v then next_line f r else r))
+each-places f moves (b ∷ t) r h = (elim (is_line_end b) as (λ v. (if v then 1 + at_line_ends 1 t else at_line_ends 1 t)
+    ≤ length r.later → places_in (each_line_end f t (if v then next_line f r else r))
     ≡ drop (if v then 1 + at_line_ends 1 t else at_line_ends 1 t) (places_in r)) [
       | true ↦ λ k.
           let e = next_in f moves r.state r.later (omega (arith, k)) in
@@ -171,16 +167,13 @@ sign-none : (u : List ℕ) → bytes_eq u (codes "@") ≡ true → at_line_ends 
 sign-none [] h = refl
 sign-none (b ∷ []) h =
     none-ends (b ∷ []) ((λ e. let wrong : false ≡ true = sym (ap (λ x. bytes_eq (x ∷ []) (codes "@")) e) ∙ h in cc), tt)
-sign-none (b ∷ d ∷ u) h =
-    (elim (b == 64) as (λ v. (v && false) ≡ true → at_line_ends 1 (b ∷ d ∷ u) ≡ 0) [ true ↦ λ k. cc | false ↦ λ k. cc ])
-    h
+sign-none (b ∷ d ∷ u) h = (elim (b == 64) as
+    (λ v. (v && false) ≡ true → at_line_ends 1 (b ∷ d ∷ u) ≡ 0) [ true ↦ λ k. cc | false ↦ λ k. cc ]) h
 
 unit-places : (r : Reading) (u : List ℕ) → at_line_ends 1 u ≤ length r.later
     → places_in (literal_unit r u) ≡ drop (at_line_ends 1 u) (places_in r)
-unit-places r u h =
-    (elim (bytes_eq u (codes "@")) as (λ v.
-    bytes_eq u (codes "@") ≡ v
-    → places_in (if v then on (fault DoubleAtInString) r else each_line_end moved u r)
+unit-places r u h = (elim (bytes_eq u (codes "@")) as
+    (λ v. bytes_eq u (codes "@") ≡ v → places_in (if v then on (fault DoubleAtInString) r else each_line_end moved u r)
     ≡ drop (at_line_ends 1 u) (places_in r)) [
       | true ↦ λ e. ap (λ k. drop k (places_in r)) (sym (sign-none u e))
       | false ↦ λ e. each-places moved (λ p s. refl) u r h

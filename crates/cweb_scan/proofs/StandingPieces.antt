@@ -58,8 +58,7 @@ item-places kind.Punctuator bytes r tells h = here-still (punctuator bytes) byte
 
 after-places : (r : Reading) (p : Piece) → Tells p.kind p.bytes → at_line_ends 1 p.bytes ≤ length r.later
     → places_in (after r p) ≡ drop (at_line_ends 1 p.bytes) (places_in r)
-after-places r p tells h =
-    item-places p.kind p.bytes (on (enter p.kind) r) tells h
+after-places r p tells h = item-places p.kind p.bytes (on (enter p.kind) r) tells h
     ∙ ap (drop (at_line_ends 1 p.bytes)) (on-places (enter p.kind) r (enter_in-stays r.state.context p.kind r.state))
 
 -- what the rules name at the front of a text tells its line ends

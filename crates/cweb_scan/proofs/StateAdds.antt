@@ -86,8 +86,7 @@ no_text false true p = refl
 no_text false false p = refl
 
 line_end_token-text : (p : Place) (s : State) → text_size (line_end_token p s) ≡ 0
-line_end_token-text p s =
-    no_text (in_directive s && is_punct (codes "\\") (directive s).last)
+line_end_token-text p s = no_text (in_directive s && is_punct (codes "\\") (directive s).last)
     ((in_directive s && s.folded) || not (follows s.here p)) p
 
 line_end_in-adds : (c : Context) (p : Place) (s : State) → Adds 1 0 s (line_end_in c p s)
@@ -95,8 +94,7 @@ line_end_in-adds Limbo p s = adds_within 1 0 (moved-adds p s) (omega arith) (ome
 line_end_in-adds TeX p s = adds_within 1 0 (moved-adds p s) (omega arith) (omega arith)
 line_end_in-adds (Definition begun) p s = adds_within 1 0 (moved-adds p s) (omega arith) (omega arith)
 line_end_in-adds Macro p s = adds_both (give-adds Newline s) (moved-adds p _)
-line_end_in-adds CText p s =
-    adds_within 1 0 (adds_both (give-adds (line_end_token p s) s) (moved-adds p _))
+line_end_in-adds CText p s = adds_within 1 0 (adds_both (give-adds (line_end_token p s) s) (moved-adds p _))
     (omega arith) (omega (arith, line_end_token-text p s))
 
 pub line_end-adds : (p : Place) (s : State) → Adds 1 0 s (line_end p s)

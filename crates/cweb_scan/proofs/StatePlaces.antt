@@ -120,8 +120,7 @@ module _ (known : Place → Bool) where
   token-known false false p h = refl
 
   line_end_token-known : (p : Place) (s : State) → known p ≡ true → strange known (line_end_token p s) ≡ 0
-  line_end_token-known p s h =
-      token-known (in_directive s && is_punct (codes "\\") (directive s).last)
+  line_end_token-known p s h = token-known (in_directive s && is_punct (codes "\\") (directive s).last)
       ((in_directive s && s.folded) || not (follows s.here p)) p h
 
   line_end_in-known : (c : Context) (p : Place) (s : State) → known p ≡ true → K s → K (line_end_in c p s)

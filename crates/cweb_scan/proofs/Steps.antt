@@ -78,9 +78,8 @@ bare_is false false = refl
 
 stage_of_some : (ts : List Token) (t : Token) → stage_of (Some (t ∷ ts)) ≡ further (stage_of (Some ts)) t
 stage_of_some ts Blank = refl
-stage_of_some ts (Word b) =
-    ap (λ v. if bytes_eq b (codes "include") && v then Include else Further)
-    (sym (bare_is (is_bare ts) (is_include ts)))
+stage_of_some ts (Word b) = ap
+    (λ v. if bytes_eq b (codes "include") && v then Include else Further) (sym (bare_is (is_bare ts) (is_include ts)))
 stage_of_some ts (Punct b) = refl
 stage_of_some ts Newline = refl
 stage_of_some ts (Mark p) = refl
@@ -100,18 +99,14 @@ choice false ts t = stage_of_some ts t
 
 stage-seen : (o : Option (List Token)) (l : Option Token) (t : Token)
     → stage_of (directive_tokens o l t) ≡ next_stage (record { stage = stage_of o; last = last_seen l }) t
-stage-seen None l t =
-    stage_when (is_punct (codes "#") (Some t) && ends_line l)
+stage-seen None l t = stage_when (is_punct (codes "#") (Some t) && ends_line l)
     ∙ ap (λ v. if is_punct (codes "#") (Some t) && v then Bare else Outside) (sym (ends-seen l))
-stage-seen (Some ts) l t =
-    choice (ends_line (Some t) && not (goes_over l t)) ts t
+stage-seen (Some ts) l t = choice (ends_line (Some t) && not (goes_over l t)) ts t
     ∙ (λ i.
     if sym (ends-seen (Some t)) i && not (sym (over-seen l t) i) then Outside else further (stage_of (Some ts)) t)
-    ∙ ap (λ v.
-    if v then (if is_punct (codes "#") (Some t) && is_line_end (last_seen l) then Bare else Outside)
-    else (if is_line_end (last_of t) && not (kept.goes_over (last_seen l) t)
-    then Outside else further (stage_of (Some ts)) t))
-    (sym (not_outside (is_bare ts) (is_include ts)))
+    ∙ ap (λ v. if v then (if is_punct (codes "#") (Some t) && is_line_end (last_seen l) then Bare else Outside) else
+    (if is_line_end (last_of t) && not (kept.goes_over (last_seen l) t) then Outside else further
+    (stage_of (Some ts)) t)) (sym (not_outside (is_bare ts) (is_include ts)))
 
 step-seen : (d : spec.Directive) (t : Token) → seen_directive (with_next d t) ≡ step (seen_directive d) t
 step-seen d t = ap (λ (g : Stage). record { stage = g; last = last_of t }) (stage-seen d.tokens d.last t)

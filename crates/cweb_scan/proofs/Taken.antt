@@ -17,16 +17,14 @@ fresh_after h lines e =
 pub next_taken : (old mid new : Held) (line : Line) (lines : List Line)
     → old.begun ≡ true → TakesLineEnd line.place old mid → TakesBytes line.bytes mid new
     → read_after new lines ≡ read_after old (line ∷ lines)
-next_taken old mid new line lines begun ended took =
-    begun_after new lines (took.begun ∙ ended.begun)
+next_taken old mid new line lines begun ended took = begun_after new lines (took.begun ∙ ended.begun)
     ∙ took.same (places lines) (further lines) (AtLineEnd-further lines)
     ∙ ended.same (places lines) (line.bytes ++ further lines)
     ∙ sym (begun_after old (line ∷ lines) begun)
 
 pub first_taken : (old mid new : Held) (line : Line) (lines : List Line) → old.begun ≡ false
     → mid ≡ begun_at line.place → TakesBytes line.bytes mid new → read_after new lines ≡ read_after old (line ∷ lines)
-first_taken old mid new line lines fresh is took =
-    begun_after new lines (took.begun ∙ ap (λ (h : Held). h.begun) is)
+first_taken old mid new line lines fresh is took = begun_after new lines (took.begun ∙ ap (λ (h : Held). h.begun) is)
     ∙ took.same (places lines) (further lines) (AtLineEnd-further lines)
     ∙ ap (λ (h : Held). goes_on h (places lines) (line.bytes ++ further lines)) is
     ∙ sym (fresh_after old (line ∷ lines) fresh)

@@ -19,8 +19,7 @@ state_after s p = (after (reading s []) p).state
 
 item_line : (k : Kind) (bytes : List ℕ) (s : State) (later : List Place) → InLine k bytes
     → item k bytes (reading s later) ≡ reading (item k bytes (reading s [])).state later
-item_line Skipped bytes s later h =
-    none-line moved bytes (reading s later) h
+item_line Skipped bytes s later h = none-line moved bytes (reading s later) h
     ∙ ap (λ (r : Reading). reading r.state later) (sym (none-line moved bytes (reading s []) h))
 item_line (Section starred) bytes s later h = refl
 item_line (Code e) bytes s later h = refl
@@ -38,8 +37,7 @@ item_line (Comment how) bytes s later h =
     ap (on (comment how s.here)) (none-line comment_line_end bytes (reading (blank s) later) h)
     ∙ ap (λ (r : Reading). reading (comment how s.here r.state) later)
     (sym (none-line comment_line_end bytes (reading (blank s) []) h))
-item_line (Quoted us how) bytes s later h =
-    ap (on (literal (text_in us) how s.here)) (units_line s later us h)
+item_line (Quoted us how) bytes s later h = ap (on (literal (text_in us) how s.here)) (units_line s later us h)
     ∙ ap (λ (r : Reading). reading (literal (text_in us) how s.here r.state) later) (sym (units_line s [] us h))
 item_line (Defined tight) bytes s later h = refl
 item_line Identifier bytes s later h = refl
@@ -62,12 +60,10 @@ run_line_item r b t more e h =
     ∙ ap (λ u. run (after r (first r (b ∷ t))) u) (drop-append-le f.size (b ∷ t) more fits)
 
 -- what is read after a whole item of a line, and what follows
-pub taken_item : (s : State) (later : List Place) (b : ℕ) (t more : List ℕ)
-    → AtLineEnd more → opens_in s.context (b ∷ t) ≡ false
-    → InLine (front_of s (b ∷ t)).kind (take (front_of s (b ∷ t)).size (b ∷ t))
-    → run (reading s later) (b ∷ t ++ more)
-    ≡ run (reading (state_after s (first (reading s []) (b ∷ t))) later)
-    (drop (front_of s (b ∷ t)).size (b ∷ t) ++ more)
+pub taken_item : (s : State) (later : List Place) (b : ℕ) (t more : List ℕ) → AtLineEnd more
+    → opens_in s.context (b ∷ t) ≡ false → InLine (front_of s (b ∷ t)).kind (take (front_of s (b ∷ t)).size (b ∷ t))
+    → run (reading s later) (b ∷ t ++ more) ≡
+    run (reading (state_after s (first (reading s []) (b ∷ t))) later) (drop (front_of s (b ∷ t)).size (b ∷ t) ++ more)
 taken_item s later b t more e ends h =
     let f = front_of s (b ∷ t) in
     run_line_item (reading s later) b t more e ends
@@ -76,8 +72,6 @@ taken_item s later b t more e ends h =
 
 -- an item that ends in its line
 pub taken : (s : State) (later : List Place) (b : ℕ) (t more : List ℕ)
-    → IsLine (b ∷ t) → AtLineEnd more → opens_in s.context (b ∷ t) ≡ false
-    → run (reading s later) (b ∷ t ++ more)
-    ≡ run (reading (state_after s (first (reading s []) (b ∷ t))) later)
-    (drop (front_of s (b ∷ t)).size (b ∷ t) ++ more)
+    → IsLine (b ∷ t) → AtLineEnd more → opens_in s.context (b ∷ t) ≡ false → run (reading s later) (b ∷ t ++ more) ≡
+    run (reading (state_after s (first (reading s []) (b ∷ t))) later) (drop (front_of s (b ∷ t)).size (b ∷ t) ++ more)
 taken s later b t more h e ends = taken_item s later b t more e ends (stands s.context (names_include s) b t h)

@@ -17,8 +17,7 @@ text_bytes : (line : List ℕ) (h : Held) → prefix_len is_skipped line ≡ len
 text_bytes [] h plain between text clean = record { begun = refl; same = λ later more at. refl }
 text_bytes (b ∷ t) h plain between text clean = record {
   begun = refl;
-  same = λ later more at.
-      ap (λ (u : List ℕ). goes_on h later (u ++ more)) (sym (drop-length (b ∷ t)))
+  same = λ later more at. ap (λ (u : List ℕ). goes_on h later (u ++ more)) (sym (drop-length (b ∷ t)))
       ∙ (skipped_at (length (b ∷ t)) (b ∷ t) h (sym plain) (omega arith) between text clean).taken.same later more at;
 }
 
@@ -26,9 +25,8 @@ pub text_passed : (h new : Held) (line : Line) (lines : List Line) → h.begun �
     → reads_c h.state.context ≡ false → prefix_len is_skipped line.bytes ≡ length line.bytes → IsLine line.bytes
     → new ≡ gone_to line.place h → read_after new lines ≡ read_after h (line ∷ lines)
 text_passed h new line lines begun between text plain clean is =
-    next_taken h new new line lines begun ended
-    (text_bytes line.bytes new plain (ap (λ (x : Held). x.item) is ∙ between)
-    (ap (λ (x : Held). reads_c x.state.context) is ∙ text) clean)
+    next_taken h new new line lines begun ended (text_bytes line.bytes new plain
+    (ap (λ (x : Held). x.item) is ∙ between) (ap (λ (x : Held). reads_c x.state.context) is ∙ text) clean)
   where
     was : h ≡ held h.state Between
     was = λ i. record { state = h.state; item = between i; begun = begun i }
@@ -41,6 +39,5 @@ text_passed h new line lines begun between text plain clean is =
     })
 
     ended : TakesLineEnd line.place h new
-    ended = subst (λ (x : Held). TakesLineEnd line.place x new) (sym was)
-        (subst (λ (x : Held). TakesLineEnd line.place (held h.state Between) x) (sym now)
-        (line_ends kind.Between [] [] line.place h.state))
+    ended = subst (λ (x : Held). TakesLineEnd line.place x new) (sym was) (subst (λ (x : Held).
+        TakesLineEnd line.place (held h.state Between) x) (sym now) (line_ends kind.Between [] [] line.place h.state))

@@ -26,13 +26,9 @@ lines_last (v ∷ us) u h k = (h.0, lines_last us u h.1 k)
 -- an included name: its sign, its units and its closing sign, all in one line
 pub include_gives : (t x : List ℕ) (r : Reached) (s new : State)
     → IsLine t → r ≡ reached (reach look_in_include Open (drop 1 t))
-    → x
-    ≡ (unit_bytes (take 1 t) ++ text_in (reach look_in_include Open (drop 1 t)).units)
-    ++ unit_bytes (take r.close (drop (1 + r.size) t))
-    → new
-    ≡ literal x (ended_as Cut r.how) s.here
-    (unit_state (fold unit_state (unit_state s (take 1 t)) (reach look_in_include Open (drop 1 t)).units)
-    (take r.close (drop (1 + r.size) t)))
+    → x ≡ (unit_bytes (take 1 t) ++ text_in (reach look_in_include Open (drop 1 t)).units) ++ unit_bytes
+    (take r.close (drop (1 + r.size) t)) → new ≡ literal x (ended_as Cut r.how) s.here (unit_state (fold unit_state
+    (unit_state s (take 1 t)) (reach look_in_include Open (drop 1 t)).units) (take r.close (drop (1 + r.size) t)))
     → Gives (include_at t) t (1 + (r.size + r.close)) s new
 include_gives t x r s new line is text made =
     let u = drop 1 t in
@@ -61,14 +57,11 @@ include_gives t x r s new line is text made =
     ap (λ (w : Reached). first ∷ o.units ++ take w.close (drop (1 + w.size) t) ∷ []) (sym is) in
     record {
       size = ap (λ n. 1 + n) (size-at_end look_in_include include-units Cut u r is);
-      state =
-          made
-          ∙ (λ i.
-          literal ((text ∙ sym joined) i) (how-at_end look_in_include include-units Cut u r is i)
-          s.here (sym state i).state)
+      state = made
+          ∙ (λ i. literal
+          ((text ∙ sym joined) i) (how-at_end look_in_include include-units Cut u r is i) s.here (sym state i).state)
           ∙ (λ i. literal (text_in (sym same i)) m.how s.here (fold literal_unit (nothing_later s) (sym same i)).state)
-          ∙ (λ i.
-          literal (text_in (given (sym end i))) m.how s.here
+          ∙ (λ i. literal (text_in (given (sym end i))) m.how s.here
           (fold literal_unit (nothing_later s) (given (sym end i))).state);
     }
 
@@ -116,8 +109,7 @@ name_kept s a c us =
 pub told : (s a b d : State) (x l y f u z : List ℕ) → a ≡ unit_state s x
     → b ≡ fold unit_state a (reach look_in_include Open l).units → d ≡ unit_state b y → x ≡ f → l ≡ u → y ≡ z
     → d ≡ unit_state (fold unit_state (unit_state s f) (reach look_in_include Open u).units) z
-told s a b d x l y f u z first units close front line back =
-    close
+told s a b d x l y f u z first units close front line back = close
     ∙ (λ i. unit_state (units i) (back i))
     ∙ (λ i. unit_state (fold unit_state (first i) (reach look_in_include Open (line i)).units) z)
     ∙ (λ i. unit_state (fold unit_state (unit_state s (front i)) (reach look_in_include Open u).units) z)

@@ -23,8 +23,7 @@ last_solid (x ∷ ts) t h = ap (before_last is_layout x) (last_solid ts t h) ∙
 
 before_twice : (x : Token) (ts : List Token) → without_last is_layout ts ≡ ts
     → without_last is_layout (before_last is_layout x ts) ≡ before_last is_layout x ts
-before_twice x [] h =
-    elim (is_layout x)
+before_twice x [] h = elim (is_layout x)
     as (λ v. is_layout x ≡ v → without_last is_layout (if v then [] else x ∷ []) ≡ (if v then [] else x ∷ [])) [
       | true ↦ λ e. refl
       | false ↦ λ e. ap (λ v. if v then [] else x ∷ []) e
@@ -40,8 +39,7 @@ last_twice (x ∷ ts) = before_twice x (without_last is_layout ts) (last_twice t
 solid_given : (d l : Directive) (ts : List Token) (t : Token)
     → d ≡ after_tokens ts → l ≡ after_tokens (without_last is_layout ts)
     → (if is_layout t then l else step d t) ≡ after_tokens (without_last is_layout (ts ++ t ∷ []))
-solid_given d l ts t h k =
-    (elim (is_layout t)
+solid_given d l ts t h k = (elim (is_layout t)
     as (λ v. is_layout t ≡ v → (if v then l else step d t) ≡ after_tokens (without_last is_layout (ts ++ t ∷ []))) [
       | true ↦ λ e. k ∙ ap after_tokens (sym (last_layout ts t e))
       | false ↦ λ e. ap (λ d. step d t) h ∙ sym (directive-pushed ts t) ∙ ap after_tokens (sym (last_solid ts t e))
@@ -73,9 +71,7 @@ tied_dropped d l c (Some p) tied = record {
   part_is_open = tied.part_is_open;
   is_no_macro = tied.is_no_macro;
   directive_is = λ e. tied.solid_is e ∙ ap after_tokens (sym (dropped_tokens p (tied.is_no_macro e)));
-  solid_is = λ e.
-      tied.solid_is e
-      ∙ ap after_tokens
+  solid_is = λ e. tied.solid_is e ∙ ap after_tokens
       (sym (last_twice p.tokens) ∙ ap (without_last is_layout) (sym (dropped_tokens p (tied.is_no_macro e))));
 }
 

@@ -37,8 +37,7 @@ staying_takes s new g n b t f line stays is ends gives =
       begun = refl;
       within = omega (arith, size, fits.within);
       adds = omega (arith, adds, ap (λ (v : State). weight v) same, size, long);
-      same = λ later more e.
-          ap (λ (v : State). run (reading v later) (drop n u ++ more)) (sym same)
+      same = λ later more e. ap (λ (v : State). run (reading v later) (drop n u ++ more)) (sym same)
           ∙ ap (λ k. run (reading (state_after s p) later) (drop k u ++ more)) size
           ∙ sym (taken s later b t more line e ends);
     }
@@ -64,11 +63,8 @@ opens_by effect t rule.RawLiteral = opens_raw t
 opens_by effect t rule.Literal = opens_literal t
 opens_by effect t r = false
 
-rest_closed : (effect : ℕ → Effect) (t : List ℕ) (a b c : Bool)
-    → false
-    ≡ opens_by effect t
-    (if a then rule.IncludedName
-    else (if b then rule.Number else (if c then rule.Identifier else rule.Punctuator)))
+rest_closed : (effect : ℕ → Effect) (t : List ℕ) (a b c : Bool) → false ≡ opens_by effect
+    t (if a then rule.IncludedName else (if b then rule.Number else (if c then rule.Identifier else rule.Punctuator)))
 rest_closed effect t true b c = refl
 rest_closed effect t false true c = refl
 rest_closed effect t false false true = refl
@@ -78,16 +74,11 @@ pub c_opens-by : (effect : ℕ → Effect) (includes : Bool) (t : List ℕ)
     → c_opens effect t ≡ opens_by effect t (c_rule includes t)
 c_opens-by effect includes t =
     let f : Rule → Bool = opens_by effect t in
-    by_test f (first_is is_blank t) rule.Blanks _ _
-    (by_test f (first_is is_line_end t) rule.LineEnd _ _
-    (by_test f (begins (codes "/*") t) rule.Comment _ _
-    (by_test f (begins (codes "//") t) rule.LineComment _ _
-    (by_test f (starts_section t) rule.Section _ _
-    (by_test f (begins (codes "@") t) rule.Code _ _
-    (by_test f (starts_raw t) rule.RawLiteral _ _
-    (by_test f (starts_literal t) rule.Literal _ _
-    (rest_closed effect t (includes && starts_include t)
-    (starts_number t) (first_is is_word_byte t)))))))))
+    by_test f (first_is is_blank t) rule.Blanks _ _ (by_test f (first_is is_line_end t) rule.LineEnd _ _
+    (by_test f (begins (codes "/*") t) rule.Comment _ _ (by_test f (begins (codes "//") t) rule.LineComment _ _
+    (by_test f (starts_section t) rule.Section _ _ (by_test f (begins (codes "@") t) rule.Code _ _
+    (by_test f (starts_raw t) rule.RawLiteral _ _ (by_test f (starts_literal t) rule.Literal _ _
+    (rest_closed effect t (includes && starts_include t) (starts_number t) (first_is is_word_byte t)))))))))
 
 -- WHAT A RULE SAYS OF THE TEXT
 
@@ -121,14 +112,9 @@ is_literal rule.Literal = true
 is_literal r = false
 
 abbrev after_section : Bool → List ℕ → Rule
-after_section includes t =
-    if begins (codes "@") t then rule.Code
-    else (if starts_raw t then rule.RawLiteral
-    else (if starts_literal t then rule.Literal
-    else (if includes && starts_include t then rule.IncludedName
-    else (if starts_number t then rule.Number
-    else (if first_is is_word_byte t then rule.Identifier
-    else rule.Punctuator)))))
+after_section includes t = if begins (codes "@") t then rule.Code else (if starts_raw t then rule.RawLiteral else
+    (if starts_literal t then rule.Literal else (if includes && starts_include t then rule.IncludedName else
+    (if starts_number t then rule.Number else (if first_is is_word_byte t then rule.Identifier else rule.Punctuator)))))
 
 -- no rule before the codes fits
 pub record IsPastSigns (t : List ℕ) : Type 0 where
@@ -150,10 +136,8 @@ past_signs is includes t b e c l s h =
     (record { blank = h0.0; line_end = h1.0; comment = h2.0; line_comment = h3.0; section = h4.0 }, h4.1)
 
 pub tail_is : (is : Rule → Bool) (a b c : Bool) → is rule.IncludedName ≡ false
-    → is rule.Number ≡ false → is rule.Identifier ≡ false → is rule.Punctuator ≡ false
-    → is
-    (if a then rule.IncludedName else (if b then rule.Number else (if c then rule.Identifier else rule.Punctuator)))
-    ≡ false
+    → is rule.Number ≡ false → is rule.Identifier ≡ false → is rule.Punctuator ≡ false → is (if
+    a then rule.IncludedName else (if b then rule.Number else (if c then rule.Identifier else rule.Punctuator))) ≡ false
 tail_is is a b c f g h k = neither is a _ _ f (neither is b _ _ g (neither is c _ _ h k))
 
 pub comment_seen : (includes : Bool) (t : List ℕ) → c_rule includes t ≡ rule.Comment → begins (codes "/*") t ≡ true
@@ -161,25 +145,19 @@ comment_seen includes t h =
     let h0 = later is_comment (first_is is_blank t) _ _ refl (ap is_comment h) in
     let h1 = later is_comment (first_is is_line_end t) _ _ refl h0.1 in
     now is_comment (begins (codes "/*") t) rule.Comment _
-    (neither is_comment (begins (codes "//") t) rule.LineComment _ refl
-    (neither is_comment (starts_section t) rule.Section _ refl
-    (neither is_comment (begins (codes "@") t) rule.Code _ refl
-    (neither is_comment (starts_raw t) rule.RawLiteral _ refl
-    (neither is_comment (starts_literal t) rule.Literal _ refl
-    (tail_is is_comment (includes && starts_include t) (starts_number t)
-    (first_is is_word_byte t) refl refl refl refl))))))
-    h1.1
+    (neither is_comment (begins (codes "//") t) rule.LineComment _ refl (neither is_comment (starts_section t)
+    rule.Section _ refl (neither is_comment (begins (codes "@") t) rule.Code _ refl (neither is_comment
+    (starts_raw t) rule.RawLiteral _ refl (neither is_comment (starts_literal t) rule.Literal _ refl (tail_is is_comment
+    (includes && starts_include t) (starts_number t) (first_is is_word_byte t) refl refl refl refl)))))) h1.1
 
 pub code_seen : (includes : Bool) (t : List ℕ) → c_rule includes t ≡ rule.Code
     → (starts_section t ≡ false) × (begins (codes "@") t ≡ true)
 code_seen includes t h =
     let p = past_signs is_code includes t refl refl refl refl refl (ap is_code h) in (
       p.0.section,
-      now is_code (begins (codes "@") t) rule.Code _
-          (neither is_code (starts_raw t) rule.RawLiteral _ refl
-          (neither is_code (starts_literal t) rule.Literal _ refl
-          (tail_is is_code (includes && starts_include t) (starts_number t)
-          (first_is is_word_byte t) refl refl refl refl)))
+      now is_code (begins (codes "@") t) rule.Code _ (neither is_code
+          (starts_raw t) rule.RawLiteral _ refl (neither is_code (starts_literal t) rule.Literal _ refl (tail_is is_code
+          (includes && starts_include t) (starts_number t) (first_is is_word_byte t) refl refl refl refl)))
           p.1,
     )
 
@@ -195,10 +173,8 @@ raw_seen includes t h =
         section = p.0.section;
         code = q.0;
       },
-      now is_raw (starts_raw t) rule.RawLiteral _
-          (neither is_raw (starts_literal t) rule.Literal _ refl
-          (tail_is is_raw (includes && starts_include t) (starts_number t)
-          (first_is is_word_byte t) refl refl refl refl))
+      now is_raw (starts_raw t) rule.RawLiteral _ (neither is_raw (starts_literal t) rule.Literal _ refl (tail_is is_raw
+          (includes && starts_include t) (starts_number t) (first_is is_word_byte t) refl refl refl refl))
           q.1,
     )
 
@@ -217,8 +193,7 @@ literal_seen includes t h =
         code = q.0;
       },
       w.0,
-      now is_literal (starts_literal t) rule.Literal _
-          (tail_is is_literal (includes && starts_include t) (starts_number t)
-          (first_is is_word_byte t) refl refl refl refl)
+      now is_literal (starts_literal t) rule.Literal _ (tail_is is_literal
+          (includes && starts_include t) (starts_number t) (first_is is_word_byte t) refl refl refl refl)
           w.1,
     )

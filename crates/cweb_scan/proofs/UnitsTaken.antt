@@ -65,28 +65,17 @@ name_after begun is_file us t more m line =
     let g : size_of (after_units vs r) ≡ length t + size_of r = sizes vs t r (append-nil' t) in
     ap (λ k.
     let g = sign_after r.how (drop k (t ++ more)) in
-    named begun is_file (us ++ text_in (vs ++ r.units)) r.how g (k + sign_size m g) (t ++ more) m)
-    g
-    ∙ ap (λ u.
+    named begun is_file (us ++ text_in (vs ++ r.units)) r.how g (k + sign_size m g) (t ++ more) m) g ∙ ap (λ u.
     let g = sign_after r.how u in
-    named begun is_file (us ++ text_in (vs ++ r.units)) r.how g
-    ((length t + size_of r) + sign_size m g) (t ++ more) m)
+    named begun is_file (us ++ text_in (vs ++ r.units)) r.how g ((length t + size_of r) + sign_size m g) (t ++ more) m)
     (drop-append-add t more (size_of r))
     ∙ ap (λ k. named begun is_file (us ++ text_in (vs ++ r.units)) r.how sign k (t ++ more) m) f
-    ∙ ap (λ u.
-    run (on (occurrence is_file (us ++ text_in (vs ++ r.units)) r.how (nat_lt 0 sign) begun)
-    (each_line_end moved u m))
-    (drop (length t + n) (t ++ more)))
-    (take-append-add t more n)
-    ∙ ap (λ k.
-    run (on (occurrence is_file (us ++ text_in (vs ++ r.units)) r.how (nat_lt 0 sign) begun) k)
-    (drop (length t + n) (t ++ more)))
-    (each-line moved t (take n more) m line)
-    ∙ ap (λ u.
-    run (on (occurrence is_file (us ++ text_in (vs ++ r.units)) r.how (nat_lt 0 sign) begun)
-    (each_line_end moved (take n more) m))
-    u)
-    (drop-append-add t more n)
+    ∙ ap (λ u. run (on (occurrence is_file (us ++ text_in (vs ++ r.units)) r.how (nat_lt 0 sign) begun)
+    (each_line_end moved u m)) (drop (length t + n) (t ++ more))) (take-append-add t more n)
+    ∙ ap (λ k. run (on (occurrence is_file (us ++ text_in (vs ++ r.units)) r.how (nat_lt 0 sign) begun) k)
+    (drop (length t + n) (t ++ more))) (each-line moved t (take n more) m line)
+    ∙ ap (λ u. run (on (occurrence is_file (us ++ text_in (vs ++ r.units)) r.how (nat_lt 0 sign) begun)
+    (each_line_end moved (take n more) m)) u) (drop-append-add t more n)
     ∙ ap (λ x. named begun is_file x r.how sign n more m) (sym (append_assoc us (unit_bytes t) (text_in r.units)))
 
 -- a unit of a name
@@ -100,23 +89,21 @@ name_unit begun is_file us (suc n) b t more m e line h some fits =
     let unit = take (suc n) u in
     let first : take (suc n) (u ++ more) ≡ unit = take-append-le (suc n) u more fits in
     let rest : drop (suc n) (u ++ more) ≡ drop (suc n) u ++ more = drop-append-le (suc n) u more fits in
-    let cut : u ++ more ≡ unit ++ (drop (suc n) u ++ more) =
-    sym (take-append-drop (suc n) (u ++ more)) ∙ (λ i. first i ++ rest i) in
+    let cut : u ++ more ≡ unit ++ (drop (suc n) u ++ more) = sym (take-append-drop (suc n) (u ++ more))
+    ∙ (λ i. first i ++ rest i) in
     let seen : items.name (u ++ more) ≡ with_unit unit (items.name (drop (suc n) u ++ more)) =
     reach_unit look_in_name Cut n b (t ++ more) (name-local more e b t ∙ h)
     ∙ (λ i. with_unit (first i) (items.name (rest i))) in
     ap (λ (w : Reach). end_name begun is_file us w (sign_after w.how (drop (size_of w) (u ++ more))) (u ++ more) m) seen
     ∙ ap (λ v.
     let w = with_unit unit (items.name (drop (suc n) u ++ more)) in
-    end_name begun is_file us w (sign_after w.how (drop (size_of w) v)) v m)
-    cut
+    end_name begun is_file us w (sign_after w.how (drop (size_of w) v)) v m) cut
     ∙ name_after begun is_file us unit (drop (suc n) u ++ more) m (IsLine-take (suc n) u line)
 
 -- a name's end
 pub name_end : (begun : Place) (is_file : Bool) (us : List ℕ) (n b : ℕ) (how : End) (t more : List ℕ) (m : Reading)
     → AtLineEnd more → IsLine (b ∷ t) → look_in_name (b ∷ t) ≡ Ends n how
-    → resume (InName begun is_file us) (b ∷ t ++ more) m
-    ≡ (let sign = sign_after how (drop n (b ∷ t)) in
+    → resume (InName begun is_file us) (b ∷ t ++ more) m ≡ (let sign = sign_after how (drop n (b ∷ t)) in
     run (on (occurrence is_file us how (nat_lt 0 sign) begun) m) (drop (n + sign_size m sign) (b ∷ t) ++ more))
 name_end begun is_file us n b how t more m e line h =
     let u = b ∷ t in
@@ -126,13 +113,10 @@ name_end begun is_file us n b how t more m e line h =
     ∙ ap (λ (r : Reach).
     let sign = sign_after r.how (drop (size_of r) u) in
     run (on (occurrence is_file (us ++ text_in r.units) r.how (nat_lt 0 sign) begun) m)
-    (drop (size_of r + sign_size m sign) u ++ more))
-    (reach_end look_in_name Cut how n b t h)
+    (drop (size_of r + sign_size m sign) u ++ more)) (reach_end look_in_name Cut how n b t h)
     ∙ ap (λ k.
     let sign = sign_after how (drop k u) in
-    run (on (occurrence is_file (us ++ []) how (nat_lt 0 sign) begun) m)
-    (drop (k + sign_size m sign) u ++ more))
-    z
+    run (on (occurrence is_file (us ++ []) how (nat_lt 0 sign) begun) m) (drop (k + sign_size m sign) u ++ more)) z
     ∙ ap (λ x.
     let sign = sign_after how (drop n u) in
     run (on (occurrence is_file x how (nat_lt 0 sign) begun) m) (drop (n + sign_size m sign) u ++ more))
@@ -140,47 +124,37 @@ name_end begun is_file us n b how t more m e line h =
 
 -- LITERALS
 
-quoted_unit : (look : List ℕ → Look) (begun : Place) (us : List ℕ)
-    (k b : ℕ) (t more : List ℕ) (s : State) (later : List Place) → IsLocal look more
-    → IsLine (b ∷ t) → look (b ∷ t) ≡ Goes k → 0 < k → k ≤ length (b ∷ t)
-    → end_literal begun us (reach look Cut (b ∷ t ++ more)) (b ∷ t ++ more) (reading s later)
-    ≡ end_literal begun (us ++ unit_bytes (take k (b ∷ t))) (reach look Cut (drop k (b ∷ t) ++ more))
-    (drop k (b ∷ t) ++ more) (reading (unit_state s (take k (b ∷ t))) later)
+quoted_unit : (look : List ℕ → Look) (begun : Place) (us : List ℕ) (k b : ℕ) (t more : List ℕ)
+    (s : State) (later : List Place) → IsLocal look more → IsLine (b ∷ t) → look (b ∷ t) ≡ Goes k → 0 < k
+    → k ≤ length (b ∷ t) → end_literal begun us (reach look Cut (b ∷ t ++ more)) (b ∷ t ++ more) (reading s later)
+    ≡ end_literal begun (us ++ unit_bytes (take k (b ∷ t)))
+    (reach look Cut (drop k (b ∷ t) ++ more)) (drop k (b ∷ t) ++ more) (reading (unit_state s (take k (b ∷ t))) later)
 quoted_unit look begun us zero b t more s later local line h some fits = absurd (omega (arith, some))
 quoted_unit look begun us (suc n) b t more s later local line h some fits =
     let u = b ∷ t in
     let unit = take (suc n) u in
     let first : take (suc n) (u ++ more) ≡ unit = take-append-le (suc n) u more fits in
     let rest : drop (suc n) (u ++ more) ≡ drop (suc n) u ++ more = drop-append-le (suc n) u more fits in
-    unit_passes look begun us n b (t ++ more) (reading s later)
-    (local b t ∙ h) (omega (arith, fits, length-append t more))
-    ∙ (λ i.
-    end_literal begun (us ++ unit_bytes (first i)) (reach look Cut (rest i))
-    (rest i) (literal_unit (reading s later) (first i)))
-    ∙ ap (λ (r : Reading).
-    end_literal begun (us ++ unit_bytes unit)
-    (reach look Cut (drop (suc n) u ++ more)) (drop (suc n) u ++ more) r)
-    (one-unit s later unit (IsLine-take (suc n) u line))
+    unit_passes look begun us n b
+    (t ++ more) (reading s later) (local b t ∙ h) (omega (arith, fits, length-append t more))
+    ∙ (λ i. end_literal begun
+    (us ++ unit_bytes (first i)) (reach look Cut (rest i)) (rest i) (literal_unit (reading s later) (first i)))
+    ∙ ap (λ (r : Reading). end_literal begun (us ++ unit_bytes unit) (reach look Cut (drop (suc n) u ++ more))
+    (drop (suc n) u ++ more) r) (one-unit s later unit (IsLine-take (suc n) u line))
 
-pub literal_unit_taken : (begun : Place) (quote : ℕ) (us : List ℕ)
-    (k b : ℕ) (t more : List ℕ) (s : State) (later : List Place) → AtLineEnd more
-    → IsLine (b ∷ t) → look_in_literal quote (b ∷ t) ≡ Goes k → 0 < k → k ≤ length (b ∷ t)
-    → resume (InLiteral begun quote us) (b ∷ t ++ more) (reading s later)
-    ≡ resume (InLiteral begun quote (us ++ unit_bytes (take k (b ∷ t))))
-    (drop k (b ∷ t) ++ more) (reading (unit_state s (take k (b ∷ t))) later)
-literal_unit_taken begun quote us k b t more s later e line h some fits =
-    quoted_unit (look_in_literal quote) begun us k b t more s later
-    (literal-local quote more (stops (λ x. x == 64) more refl e)) line h some fits
+pub literal_unit_taken : (begun : Place) (quote : ℕ) (us : List ℕ) (k b : ℕ) (t more : List ℕ)
+    (s : State) (later : List Place) → AtLineEnd more → IsLine (b ∷ t) → look_in_literal quote (b ∷ t) ≡ Goes k → 0 < k
+    → k ≤ length (b ∷ t) → resume (InLiteral begun quote us) (b ∷ t ++ more) (reading s later) ≡ resume (InLiteral begun
+    quote (us ++ unit_bytes (take k (b ∷ t)))) (drop k (b ∷ t) ++ more) (reading (unit_state s (take k (b ∷ t))) later)
+literal_unit_taken begun quote us k b t more s later e line h some fits = quoted_unit (look_in_literal quote)
+    begun us k b t more s later (literal-local quote more (stops (λ x. x == 64) more refl e)) line h some fits
 
 pub raw_unit_taken : (begun : Place) (d us : List ℕ) (k b : ℕ) (t more : List ℕ) (s : State) (later : List Place)
-    → list_all in_line (sign_of d) ≡ true → AtLineEnd more → IsLine (b ∷ t)
-    → look_in_raw (sign_of d) (b ∷ t) ≡ Goes k → 0 < k → k ≤ length (b ∷ t)
-    → resume (InRaw begun d us) (b ∷ t ++ more) (reading s later)
-    ≡ resume (InRaw begun d (us ++ unit_bytes (take k (b ∷ t))))
-    (drop k (b ∷ t) ++ more) (reading (unit_state s (take k (b ∷ t))) later)
-raw_unit_taken begun d us k b t more s later clean e line h some fits =
-    quoted_unit (look_in_raw (sign_of d)) begun us k b t more s
-    later (raw-local (sign_of d) more clean e) line h some fits
+    → list_all in_line (sign_of d) ≡ true → AtLineEnd more → IsLine (b ∷ t) → look_in_raw (sign_of d) (b ∷ t) ≡ Goes k
+    → 0 < k → k ≤ length (b ∷ t) → resume (InRaw begun d us) (b ∷ t ++ more) (reading s later) ≡ resume (InRaw begun
+    d (us ++ unit_bytes (take k (b ∷ t)))) (drop k (b ∷ t) ++ more) (reading (unit_state s (take k (b ∷ t))) later)
+raw_unit_taken begun d us k b t more s later clean e line h some fits = quoted_unit
+    (look_in_raw (sign_of d)) begun us k b t more s later (raw-local (sign_of d) more clean e) line h some fits
 
 abbrev closed_quoted : Place → List ℕ → Reach → List ℕ → List ℕ → Reading → Reading
 closed_quoted begun us r u more m =
@@ -189,29 +163,24 @@ closed_quoted begun us r u more m =
 
 quoted_end : (look : List ℕ → Look) (begun : Place) (us : List ℕ) (n b : ℕ)
     (how : End) (t more : List ℕ) (s : State) (later : List Place) → IsLine (b ∷ t) → look (b ∷ t) ≡ Ends n how
-    → closed_quoted begun us (reach look Cut (b ∷ t)) (b ∷ t) more (reading s later)
-    ≡ run (reading (literal (us ++ unit_bytes (take n (b ∷ t))) how begun (unit_state s (take n (b ∷ t)))) later)
-    (drop n (b ∷ t) ++ more)
+    → closed_quoted begun us (reach look Cut (b ∷ t)) (b ∷ t) more (reading s later) ≡ run (reading (literal
+    (us ++ unit_bytes (take n (b ∷ t))) how begun (unit_state s (take n (b ∷ t)))) later) (drop n (b ∷ t) ++ more)
 quoted_end look begun us n b how t more s later line h =
     let u = b ∷ t in
     let unit = take n u in
     let z : 0 + n ≡ n = omega arith in
     ap (λ (r : Reach). closed_quoted begun us r u more (reading s later)) (reach_end look Cut how n b t h)
-    ∙ ap (λ k.
-    run (on (literal (us ++ (unit_bytes unit ++ [])) how begun) (literal_unit (reading s later) unit))
-    (drop k u ++ more))
-    z
+    ∙ ap (λ k. run
+    (on (literal (us ++ (unit_bytes unit ++ [])) how begun) (literal_unit (reading s later) unit)) (drop k u ++ more)) z
     ∙ ap (λ x. run (on (literal (us ++ x) how begun) (literal_unit (reading s later) unit)) (drop n u ++ more))
     (append-nil' (unit_bytes unit))
     ∙ ap (λ (r : Reading). run (on (literal (us ++ unit_bytes unit) how begun) r) (drop n u ++ more))
     (one-unit s later unit (IsLine-take n u line))
 
-pub literal_end : (begun : Place) (quote : ℕ) (us : List ℕ) (n b : ℕ)
-    (how : End) (t more : List ℕ) (s : State) (later : List Place)
-    → AtLineEnd more → IsLine (b ∷ t) → look_in_literal quote (b ∷ t) ≡ Ends n how
-    → resume (InLiteral begun quote us) (b ∷ t ++ more) (reading s later)
-    ≡ run (reading (literal (us ++ unit_bytes (take n (b ∷ t))) how begun (unit_state s (take n (b ∷ t)))) later)
-    (drop n (b ∷ t) ++ more)
+pub literal_end : (begun : Place) (quote : ℕ) (us : List ℕ) (n b : ℕ) (how : End) (t more : List ℕ)
+    (s : State) (later : List Place) → AtLineEnd more → IsLine (b ∷ t) → look_in_literal quote (b ∷ t) ≡ Ends n how
+    → resume (InLiteral begun quote us) (b ∷ t ++ more) (reading s later) ≡ run (reading (literal
+    (us ++ unit_bytes (take n (b ∷ t))) how begun (unit_state s (take n (b ∷ t)))) later) (drop n (b ∷ t) ++ more)
 literal_end begun quote us n b how t more s later e line h =
     let look = look_in_literal quote in
     literal_ends begun quote us (b ∷ t) more (reading s later) e
@@ -219,11 +188,9 @@ literal_end begun quote us n b how t more s later e line h =
     ∙ quoted_end look begun us n b how t more s later line h
 
 pub raw_end : (begun : Place) (d us : List ℕ) (n b : ℕ) (how : End) (t more : List ℕ) (s : State) (later : List Place)
-    → list_all in_line (sign_of d) ≡ true → AtLineEnd more
-    → IsLine (b ∷ t) → look_in_raw (sign_of d) (b ∷ t) ≡ Ends n how
-    → resume (InRaw begun d us) (b ∷ t ++ more) (reading s later)
-    ≡ run (reading (literal (us ++ unit_bytes (take n (b ∷ t))) how begun (unit_state s (take n (b ∷ t)))) later)
-    (drop n (b ∷ t) ++ more)
+    → list_all in_line (sign_of d) ≡ true → AtLineEnd more → IsLine (b ∷ t) → look_in_raw (sign_of d) (b ∷ t)
+    ≡ Ends n how → resume (InRaw begun d us) (b ∷ t ++ more) (reading s later) ≡ run (reading (literal
+    (us ++ unit_bytes (take n (b ∷ t))) how begun (unit_state s (take n (b ∷ t)))) later) (drop n (b ∷ t) ++ more)
 raw_end begun d us n b how t more s later clean e line h =
     let look = look_in_raw (sign_of d) in
     raw_ends begun d us (b ∷ t) more (reading s later) clean e

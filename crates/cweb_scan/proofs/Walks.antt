@@ -25,16 +25,14 @@ units_on look e n (b ∷ t) some moves h =
     let same : n ≡ suc (n - 1) = omega arith in
     ap (λ v. (at_front look v (b ∷ t) e t).units) h
     ∙ ap (λ u. u ∷ (reach_in look e (n - 1) t).units) (take_min n (b ∷ t))
-    ∙ ap (λ (r : Reach). take (min n (length (b ∷ t))) (b ∷ t) ∷ r.units)
-    (reach_in-drop look e (n - 1) t ∙ ap (λ k. reach look e (drop k (b ∷ t))) (sym same)
-    ∙ ap (reach look e) (sym (drop_min n (b ∷ t))))
+    ∙ ap (λ (r : Reach). take (min n (length (b ∷ t))) (b ∷ t) ∷ r.units) (reach_in-drop look e (n - 1) t
+    ∙ ap (λ k. reach look e (drop k (b ∷ t))) (sym same) ∙ ap (reach look e) (sym (drop_min n (b ∷ t))))
 
 -- the same, where the code has cut off the first unit
 pub units_from : (look : List ℕ → Look) (e : End) (n m : ℕ) (t unit after : List ℕ) → look t ≡ Goes n
     → 0 < n → 0 < length t → m ≡ min n (length t) → unit ≡ take m t → after ≡ drop m t
     → (reach look e t).units ≡ unit ∷ (reach look e after).units
-units_from look e n m t unit after h moves some is front back =
-    units_on look e n t some moves h
+units_from look e n m t unit after h moves some is front back = units_on look e n t some moves h
     ∙ (λ i. take (sym is i) t ∷ (reach look e (drop (sym is i) t)).units)
     ∙ (λ i. sym front i ∷ (reach look e (sym back i)).units)
 

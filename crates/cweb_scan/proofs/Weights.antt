@@ -9,9 +9,7 @@ use Rattle.cweb_scan.proofs.Drops.{tokens_last}
 -- PARTS AND TOKENS
 
 token_pushed : (t : Token) (v : PartsSoFar) → token_count (pushed t v) ≤ token_count v + 1
-token_pushed t v =
-    elim v.current as (λ o.
-    length (all_tokens (v.closed ++ option_to_list (option_map (longer t) o)))
+token_pushed t v = elim v.current as (λ o. length (all_tokens (v.closed ++ option_to_list (option_map (longer t) o)))
     ≤ length (all_tokens (v.closed ++ option_to_list o)) + 1) [
       | None ↦ omega arith
       | Some p ↦
@@ -22,9 +20,7 @@ abbrev empty_part : PartKind → Part
 empty_part kind = record { kind = kind; tokens = [] }
 
 token_opened : (kind : PartKind) (v : PartsSoFar) → token_count (opened kind v) ≤ token_count v
-token_opened kind v =
-    elim v.current as (λ o.
-    length (all_tokens (v.closed ++ (empty_part kind) ∷ []))
+token_opened kind v = elim v.current as (λ o. length (all_tokens (v.closed ++ (empty_part kind) ∷ []))
     ≤ length (all_tokens (v.closed ++ option_to_list o))) [
       | None ↦
           omega (
@@ -94,15 +90,12 @@ pub line_end-weight : (p : Place) (s : State) → weight (line_end p s) ≤ weig
 line_end-weight p s = line_end_in-weight s.context p s
 
 pub comment_line_end-weight : (p : Place) (s : State) → weight (comment_line_end p s) ≤ weight s + 1
-comment_line_end-weight p s =
-    elim (in_directive s) as (λ v. weight (if v then moved p s else line_end p s) ≤ weight s + 1)
-    [ true ↦ omega arith | false ↦ line_end-weight p s ]
+comment_line_end-weight p s = elim (in_directive s) as (λ v.
+    weight (if v then moved p s else line_end p s) ≤ weight s + 1) [ true ↦ omega arith | false ↦ line_end-weight p s ]
 
 pub blank-weight : (s : State) → weight (blank s) ≤ weight s + 1
-blank-weight s =
-    elim (in_directive s && not (is_blank (directive s).last))
-    as (λ v. weight (if v then give Blank s else s) ≤ weight s + 1)
-    [ true ↦ give-weight Blank s | false ↦ omega arith ]
+blank-weight s = elim (in_directive s && not (is_blank (directive s).last)) as
+    (λ v. weight (if v then give Blank s else s) ≤ weight s + 1) [ true ↦ give-weight Blank s | false ↦ omega arith ]
 
 pub code-weight : (e : Effect) (s : State) → weight (code e s) ≤ weight s + 3
 code-weight Nothing s = omega arith

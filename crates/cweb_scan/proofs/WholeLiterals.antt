@@ -21,14 +21,12 @@ goes_on quote text rest after n f g is =
     let fits : min n (length rest) ≡ n = omega (arith, g.within) in
     let some : 0 < length rest = omega (arith, g.some, g.within) in
     let size = ap (λ (u : List ℕ). length u) is ∙ length-drop n rest in
-    let all : (length text - length rest) + n ≡ length text - length after =
-    omega (arith, size, g.within, f.within) in
+    let all : (length text - length rest) + n ≡ length text - length after = omega (arith, size, g.within, f.within) in
     record {
       line = subst IsLine (sym is) (is_line_drop n rest f.line);
       within = omega (arith, size, f.within);
       so_far = f.so_far
-          ∙ ap (later_by (length text - length rest))
-          (reach_goes look Open n rest some g.some g.goes
+          ∙ ap (later_by (length text - length rest)) (reach_goes look Open n rest some g.some g.goes
           ∙ ap (λ k. later_by k (reached (reach look Open (drop k rest)))) fits
           ∙ ap (λ u. later_by n (reached (reach look Open u))) (sym is))
           ∙ later_by-add (length text - length rest) n (reach_of quote after)
@@ -41,8 +39,7 @@ closes_here quote text rest f some h =
     let n = length text - length rest in
     let size : n + 0 ≡ n = omega arith in
     record {
-      ends = f.so_far
-          ∙ ap (later_by n) (reach_ended (look_in_literal (quote_byte quote)) Open Closed 1 rest some h)
+      ends = f.so_far ∙ ap (later_by n) (reach_ended (look_in_literal (quote_byte quote)) Open Closed 1 rest some h)
           ∙ ap (λ k. record { size = k; close = 1; how = Closed }) size;
       within = omega (arith, some, f.within);
     }

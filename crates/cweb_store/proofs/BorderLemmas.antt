@@ -15,8 +15,7 @@ last_is-at p (b ∷ bs) x h =
 
 pub border-last : (bs : List ℕ) (x : ℕ) → slice_get bs (length bs - 1) ≡ Some x
     → sign_by (first_is is_numeric bs) (first_is is_operator bs) (x == 46) (is_operator x) ≡ sign_border bs
-border-last bs x h =
-    ap (λ b. sign_by (first_is is_numeric bs) (first_is is_operator bs) b (is_operator x))
+border-last bs x h = ap (λ b. sign_by (first_is is_numeric bs) (first_is is_operator bs) b (is_operator x))
     (sym (last_is-at (λ x. x == 46) bs x h))
     ∙ ap (λ b. sign_by (first_is is_numeric bs) (first_is is_operator bs) (last_is (λ x. x == 46) bs) b)
     (sym (last_is-at is_operator bs x h))
@@ -74,5 +73,4 @@ sign-lends t b told some =
     let ascii = told-ascii t b (list_any is_high t) refl told some in
     let l : Bordered = record { text = t; border = sign_border t } in
     let is : b ≡ sign_border t = told some ∙ ap (λ a. cond a border.Untold (sign_border t)) ascii in
-    ap (lent_as t) is
-    ∙ sym (ap (λ a. cond a None (Some l)) ascii)
+    ap (lent_as t) is ∙ sym (ap (λ a. cond a None (Some l)) ascii)

@@ -56,9 +56,8 @@ among-below i before text Full is_file all g =
     )
 among-below i before text Prefix is_file all g =
     the_one-below (length all) (beginning_from 0 text before) (the_one (beginning_from 0 text all) (Err NeverFull))
-    (beginning-below 0 (length all) text before (omega (arith, grows-length before all g)))
-    (the_one-below (length all) (beginning_from 0 text all) (Err NeverFull)
-    (beginning-below 0 (length all) text all (omega arith)) tt)
+    (beginning-below 0 (length all) text before (omega (arith, grows-length before all g))) (the_one-below (length all)
+    (beginning_from 0 text all) (Err NeverFull) (beginning-below 0 (length all) text all (omega arith)) tt)
 
 standings-below : (i : ℕ) (before : List Name) (os : List Occurrence)
     → let all = names_from i before os in AllByRecursion (StandsBelow (length all)) (standings_from i before all os)
@@ -87,8 +86,7 @@ with_some-below n ns (Some m) h o =
 files-below : (n : ℕ) (rs : List Standing) (fs : List NameId) (i : ℕ) (os : List Occurrence)
     → AllByRecursion (StandsBelow n) rs → AllByRecursion (Below n) fs → AllByRecursion (Below n) (files_from rs fs i os)
 files-below n rs fs i [] h g = g
-files-below n rs fs i (o ∷ os) h g =
-    files-below n rs (with_file rs fs i o) (i + 1) os h
+files-below n rs fs i (o ∷ os) h g = files-below n rs (with_file rs fs i o) (i + 1) os h
     (elim o.is_file as (λ b. AllByRecursion (Below n) (if b then with_some fs (stands rs i) else fs)) [
       | true ↦ with_some-below n fs (stands rs i) g (stands-below n rs i h)
       | false ↦ g
@@ -111,9 +109,7 @@ name_faults-below : (n i : ℕ) (kind : NameKind) (fails : NameId → List ℕ �
 name_faults-below n i kind fails [] h = tt
 name_faults-below n i kind fails (m ∷ ns) h =
     let rest = name_faults-below n (i + 1) kind fails ns h.1 in
-    elim (fails (id i) m.text) as (λ b.
-    AllByRecursion (At n)
-    (map (λ (p : ℕ × Name). fault kind p.1.first)
+    elim (fails (id i) m.text) as (λ b. AllByRecursion (At n) (map (λ (p : ℕ × Name). fault kind p.1.first)
     (cond b ((i, m) ∷ filter (λ (p : ℕ × Name). fails (id p.0) p.1.text) (enumerate_from (i + 1) ns))
     (filter (λ (p : ℕ × Name). fails (id p.0) p.1.text) (enumerate_from (i + 1) ns))))) [
       | true ↦ (h.0, rest)
@@ -138,9 +134,8 @@ with_name-first n i ns text Prefix is_file less h = h
 names-first : (n i : ℕ) (ns : List Name) (os : List Occurrence) → AllByRecursion (First n) ns
     → i + length os ≤ n → AllByRecursion (First n) (names_from i ns os)
 names-first n i ns [] h le = h
-names-first n i ns (o ∷ os) h le =
-    names-first n (i + 1) (with_name i ns o) os
-    (with_name-first n i ns o.text o.how o.is_file (omega arith) h) (omega arith)
+names-first n i ns (o ∷ os) h le = names-first n
+    (i + 1) (with_name i ns o) os (with_name-first n i ns o.text o.how o.is_file (omega arith) h) (omega arith)
 
 standings-length : (i : ℕ) (before all : List Name) (os : List Occurrence)
     → length (standings_from i before all os) ≡ length os
@@ -154,9 +149,8 @@ standing-within os i = stands-below (length (names os)) (standings os) i (standi
 
 -- files are names
 pub files-within : (os : List Occurrence) → All (λ (n : NameId). n.0 < length (names os)) (files os)
-files-within os =
-    All-from_recursion (Below (length (names os))) (files os)
-    (files-below (length (names os)) (standings os) [] 0 os (standings-below 0 [] os) tt)
+files-within os = All-from_recursion (Below (length (names os)))
+    (files os) (files-below (length (names os)) (standings os) [] 0 os (standings-below 0 [] os) tt)
 
 -- a fault is told at one of the occurrences
 pub faults-within : (os : List Occurrence) (ps : List Part)
@@ -168,12 +162,7 @@ faults-within os ps =
     let prefixes =
     name_faults-below n 0 PrefixOfAnother (λ n text. is_prefix_of_another (names os) text) (names os) firsts in
     let missing = name_faults-below n 0 NotPresent (λ n text. is_missing os ps n) (names os) firsts in
-    All-from_recursion (At n) (faults os ps)
-    (all-both (At n)
-    (standing_faults (standings os)
-    ++ faults_where PrefixOfAnother (λ n text. is_prefix_of_another (names os) text) (names os))
-    (faults_where NotPresent (λ n text. is_missing os ps n) (names os))
-    (all-both (At n) (standing_faults (standings os))
-    (faults_where PrefixOfAnother (λ n text. is_prefix_of_another (names os) text) (names os))
-    early prefixes)
-    missing)
+    All-from_recursion (At n) (faults os ps) (all-both (At n) (standing_faults (standings os) ++
+    faults_where PrefixOfAnother (λ n text. is_prefix_of_another (names os) text) (names os)) (faults_where NotPresent
+    (λ n text. is_missing os ps n) (names os)) (all-both (At n) (standing_faults (standings os))
+    (faults_where PrefixOfAnother (λ n text. is_prefix_of_another (names os) text) (names os)) early prefixes) missing)

@@ -8,21 +8,16 @@ tokens-last ps p = simp (flat_map-append {X = Part} {A = Token}, append-nil, len
 pub token_count_opened : (kind : PartKind) (v : PartsSoFar)
     → IsNone v.current → token_count (opened kind v) ≡ token_count v
 token_count_opened kind v none =
-    (elim v.current as (λ o.
-    IsNone o
-    → length (all_tokens (v.closed ++ (record { kind = kind; tokens = [] }) ∷ []))
+    (elim v.current as (λ o. IsNone o → length (all_tokens (v.closed ++ (record { kind = kind; tokens = [] }) ∷ []))
     ≡ length (all_tokens (v.closed ++ option_to_list o))) [
-      | None ↦ λ h.
-          tokens-last v.closed (record { kind = kind; tokens = [] })
+      | None ↦ λ h. tokens-last v.closed (record { kind = kind; tokens = [] })
           ∙ omega (arith, ap (λ ps. length (all_tokens ps)) (append-nil v.closed))
       | Some p ↦ λ h. cc
     ]) none
 
 pub token_count_pushed : (t : Token) (v : PartsSoFar) → IsSome v.current → token_count (pushed t v) ≡ token_count v + 1
 token_count_pushed t v some =
-    (elim v.current as (λ o.
-    IsSome o
-    → length (all_tokens (v.closed ++ option_to_list (option_map (longer t) o)))
+    (elim v.current as (λ o. IsSome o → length (all_tokens (v.closed ++ option_to_list (option_map (longer t) o)))
     ≡ length (all_tokens (v.closed ++ option_to_list o)) + 1) [
       | None ↦ λ h. cc
       | Some p ↦ λ h.
@@ -58,10 +53,8 @@ without_layout-length p =
     )
 
 at_close-length : (p : Part) → length (at_close p).tokens ≤ length p.tokens
-at_close-length p =
-    elim (is_macro p.kind) as (λ b.
-    length (let q : Part =
-    if b then record p { tokens = without_blank (without_last is_newline p.tokens) } else p in
+at_close-length p = elim (is_macro p.kind) as (λ b.
+    length (let q : Part = if b then record p { tokens = without_blank (without_last is_newline p.tokens) } else p in
     q).tokens ≤ length p.tokens) [
       | true ↦
           omega (
@@ -74,8 +67,7 @@ at_close-length p =
 
 pub token_count_dropped : (v : PartsSoFar) → token_count (dropped v) ≤ token_count v
 token_count_dropped v =
-    elim v.current as (λ o.
-    length (all_tokens (v.closed ++ option_to_list (option_map without_layout o)))
+    elim v.current as (λ o. length (all_tokens (v.closed ++ option_to_list (option_map without_layout o)))
     ≤ length (all_tokens (v.closed ++ option_to_list o))) [
       | None ↦ omega arith
       | Some p ↦ omega (arith, tokens-last v.closed (without_layout p), tokens-last v.closed p, without_layout-length p)
@@ -83,8 +75,7 @@ token_count_dropped v =
 
 pub token_count_closed : (v : PartsSoFar) → token_count (all_closed v) ≤ token_count v
 token_count_closed v =
-    elim v.current as (λ o.
-    length (all_tokens ((v.closed ++ option_to_list (option_map at_close o)) ++ []))
+    elim v.current as (λ o. length (all_tokens ((v.closed ++ option_to_list (option_map at_close o)) ++ []))
     ≤ length (all_tokens (v.closed ++ option_to_list o))) [
       | None ↦ omega (arith, ap (λ ps. length (all_tokens ps)) (append-nil (v.closed ++ [])))
       | Some p ↦
@@ -100,9 +91,7 @@ token_count_closed v =
 pub part_count_opened : (kind : PartKind) (v : PartsSoFar)
     → IsNone v.current → part_count (opened kind v) ≡ part_count v + 1
 part_count_opened kind v none =
-    (elim v.current as (λ o.
-    IsNone o
-    → length (v.closed ++ (record { kind = kind; tokens = [] }) ∷ [])
+    (elim v.current as (λ o. IsNone o → length (v.closed ++ (record { kind = kind; tokens = [] }) ∷ [])
     ≡ length (v.closed ++ option_to_list o) + 1) [
       | None ↦ λ h.
           omega (
@@ -114,25 +103,21 @@ part_count_opened kind v none =
     ]) none
 
 pub part_count_pushed : (t : Token) (v : PartsSoFar) → part_count (pushed t v) ≡ part_count v
-part_count_pushed t v =
-    elim v.current as (λ o.
+part_count_pushed t v = elim v.current as (λ o.
     length (v.closed ++ option_to_list (option_map (longer t) o)) ≡ length (v.closed ++ option_to_list o)) [
       | None ↦ refl
       | Some p ↦ omega (arith, length-append v.closed (longer t p ∷ []), length-append v.closed (p ∷ []))
     ]
 
 pub part_count_dropped : (v : PartsSoFar) → part_count (dropped v) ≡ part_count v
-part_count_dropped v =
-    elim v.current as (λ o.
+part_count_dropped v = elim v.current as (λ o.
     length (v.closed ++ option_to_list (option_map without_layout o)) ≡ length (v.closed ++ option_to_list o)) [
       | None ↦ refl
       | Some p ↦ omega (arith, length-append v.closed (without_layout p ∷ []), length-append v.closed (p ∷ []))
     ]
 
 pub part_count_closed : (v : PartsSoFar) → part_count (all_closed v) ≡ part_count v
-part_count_closed v =
-    elim v.current as (λ o.
-    length ((v.closed ++ option_to_list (option_map at_close o)) ++ [])
+part_count_closed v = elim v.current as (λ o. length ((v.closed ++ option_to_list (option_map at_close o)) ++ [])
     ≡ length (v.closed ++ option_to_list o)) [
       | None ↦ ap length (append-nil (v.closed ++ []))
       | Some p ↦

@@ -26,11 +26,10 @@ front_at (x ∷ xs) (suc i) h =
     let rest = front_at xs i (omega arith) in record { item = rest.item; there = rest.there; front = rest.front }
 
 -- the faults from a name on are its own and those from the next on
-pub faults-step : (kind : NameKind) (fails : NameId → List ℕ → Bool)
-    (ns : List Name) (i : ℕ) (b : Bool) (old new : List NameFault) → i < length ns →
-    option_map (λ (n : Name). fails (id i) n.text) (slice_get ns i) ≡ Some b
-    → option_map (λ (n : Name). old ++ fault_if b kind n.first) (slice_get ns i) ≡ Some new →
-    new ++ faults_from (i + 1) kind fails (drop (i + 1) ns) ≡ old ++ faults_from i kind fails (drop i ns)
+pub faults-step : (kind : NameKind) (fails : NameId → List ℕ → Bool) (ns : List Name) (i : ℕ) (b : Bool)
+    (old new : List NameFault) → i < length ns → option_map (λ (n : Name). fails (id i) n.text) (slice_get ns i)
+    ≡ Some b → option_map (λ (n : Name). old ++ fault_if b kind n.first) (slice_get ns i) ≡ Some new
+    → new ++ faults_from (i + 1) kind fails (drop (i + 1) ns) ≡ old ++ faults_from i kind fails (drop i ns)
 faults-step kind fails ns i b old new h test step =
     let f = front_at ns i h in
     let n = f.item in
@@ -50,9 +49,8 @@ faults-step kind fails ns i b old new h test step =
     some_same : {X : Type 0} {x y : X} → Some x ≡ Some y → x ≡ y
     some_same h = cc
 
-    one : (v : Bool) (n : Name) (i : ℕ) (others : List (ℕ × Name))
-        → fault_if v kind n.first ++ map (λ (p : ℕ × Name). fault kind p.1.first) others
-        ≡ map (λ (p : ℕ × Name). fault kind p.1.first) (cond v ((i, n) ∷ others) others)
+    one : (v : Bool) (n : Name) (i : ℕ) (others : List (ℕ × Name)) → fault_if v kind n.first ++ map (λ (p : ℕ × Name).
+        fault kind p.1.first) others ≡ map (λ (p : ℕ × Name). fault kind p.1.first) (cond v ((i, n) ∷ others) others)
     one true n i others = refl
     one false n i others = refl
 
@@ -89,8 +87,7 @@ none-begins i q (n ∷ ns) h =
     (elim (starts_with nat_eq n.text q) as (λ b.
     is_nothing (found_of (if b then id i ∷ beginning_from (i + 1) q ns else beginning_from (i + 1) q ns))
     ≡ not ((b && not (bytes_eq n.text q)) || longer ns q)) [
-      | true ↦
-          ap is_nothing (found-first (id i) (beginning_from (i + 1) q ns))
+      | true ↦ ap is_nothing (found-first (id i) (beginning_from (i + 1) q ns))
           ∙ grown-nothing (id i) (found_of (beginning_from (i + 1) q ns))
           ∙ ap (λ b. not (not b || longer ns q)) (sym other)
       | false ↦ rest
@@ -105,26 +102,21 @@ some-begins : (i : ℕ) (q : List ℕ) (ns : List Name) → list_any (bytes_eq q
 unfolding is_nothing
 some-begins i q [] h = cc
 some-begins i q (n ∷ ns) h =
-    (elim (bytes_eq q n.text) as (λ e.
-    bytes_eq q n.text ≡ e → (e || list_any (bytes_eq q) (texts ns)) ≡ true
-    → is_nothing (found_of
-    (if starts_with nat_eq n.text q then id i ∷ beginning_from (i + 1) q ns
+    (elim (bytes_eq q n.text) as (λ e. bytes_eq q n.text ≡ e → (e || list_any (bytes_eq q) (texts ns)) ≡ true
+    → is_nothing (found_of (if starts_with nat_eq n.text q then id i ∷ beginning_from (i + 1) q ns
     else beginning_from (i + 1) q ns)) ≡ false) [
       | true ↦ λ e g.
           let same : q ≡ n.text = (bytes_eq-Decides q n.text).0 e in
-          let begins : starts_with nat_eq n.text q ≡ true =
-          ap (λ t. starts_with nat_eq t q) (sym same) ∙ starts-same q in
+          let begins : starts_with nat_eq n.text q ≡ true = ap (λ t. starts_with nat_eq t q) (sym same)
+          ∙ starts-same q in
           ap (λ b.
-          is_nothing (found_of (if b then id i ∷ beginning_from (i + 1) q ns else beginning_from (i + 1) q ns)))
-          begins
+          is_nothing (found_of (if b then id i ∷ beginning_from (i + 1) q ns else beginning_from (i + 1) q ns))) begins
           ∙ ap is_nothing (found-first (id i) (beginning_from (i + 1) q ns))
           ∙ grown-nothing (id i) (found_of (beginning_from (i + 1) q ns))
-      | false ↦ λ e g.
-          (elim (starts_with nat_eq n.text q) as (λ b.
-          is_nothing (found_of (if b then id i ∷ beginning_from (i + 1) q ns else beginning_from (i + 1) q ns))
+      | false ↦ λ e g. (elim (starts_with nat_eq n.text q) as
+          (λ b. is_nothing (found_of (if b then id i ∷ beginning_from (i + 1) q ns else beginning_from (i + 1) q ns))
           ≡ false) [
-            | true ↦
-                ap is_nothing (found-first (id i) (beginning_from (i + 1) q ns))
+            | true ↦ ap is_nothing (found-first (id i) (beginning_from (i + 1) q ns))
                 ∙ grown-nothing (id i) (found_of (beginning_from (i + 1) q ns))
             | false ↦ some-begins (i + 1) q ns g
           ])
@@ -175,15 +167,13 @@ any-there (m ∷ ns) zero n h =
     let same : m ≡ n = cc in
     ap (λ (k : Name). bytes_eq n.text k.text || list_any (bytes_eq n.text) (texts ns)) same
     ∙ ap (λ b. b || list_any (bytes_eq n.text) (texts ns)) (bytes_eq-same n.text)
-any-there (m ∷ ns) (suc i) n h =
-    ap (λ b. bytes_eq n.text m.text || b) (any-there ns i n h)
+any-there (m ∷ ns) (suc i) n h = ap (λ b. bytes_eq n.text m.text || b) (any-there ns i n h)
     ∙ elim (bytes_eq n.text m.text) as (λ b. (b || true) ≡ true) [ true ↦ refl | false ↦ refl ]
 
 -- a name is a proper prefix of another where several names begin with it
-pub prefix-several : (ns : List Name) (i : ℕ) (text : List ℕ) → Distinct (texts ns)
-    → i < length ns → option_map (λ (n : Name). n.text) (slice_get ns i) ≡ Some text →
-    option_map (λ (n : Name). is_prefix_of_another ns n.text) (slice_get ns i)
-    ≡ Some (is_several (found_of (beginning text ns)))
+pub prefix-several : (ns : List Name) (i : ℕ) (text : List ℕ)
+    → Distinct (texts ns) → i < length ns → option_map (λ (n : Name). n.text) (slice_get ns i) ≡ Some text → option_map
+    (λ (n : Name). is_prefix_of_another ns n.text) (slice_get ns i) ≡ Some (is_several (found_of (beginning text ns)))
 prefix-several ns i text d h is =
     let f = front_at ns i h in
     let same : f.item.text ≡ text =

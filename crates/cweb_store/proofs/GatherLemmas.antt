@@ -12,9 +12,7 @@ or-assoc false b c = refl
 
 any-with_id : (n m : NameId) (ns : List NameId)
     → list_any (is_id n) (with_id ns m) ≡ (list_any (is_id n) ns || is_id n m)
-any-with_id n m ns =
-    (elim (list_any (is_id m) ns) as (λ b.
-    list_any (is_id m) ns ≡ b
+any-with_id n m ns = (elim (list_any (is_id m) ns) as (λ b. list_any (is_id m) ns ≡ b
     → list_any (is_id n) (if b then ns else ns ++ m ∷ []) ≡ (list_any (is_id n) ns || is_id n m)) [
       | true ↦ λ h. (elim (is_id n m) as (λ e. is_id n m ≡ e → list_any (is_id n) ns ≡ (list_any (is_id n) ns || e)) [
         | true ↦ λ e.
@@ -57,15 +55,12 @@ any-used_from rs n ns (t ∷ ts) =
 used-joined : (rs : List Standing) (n : NameId) (ns : List NameId) (ps : List Part)
     → list_any (is_id n) (used_in rs ns ps) ≡ (list_any (is_id n) ns || is_used rs ps n)
 used-joined rs n ns [] = sym (or-none (list_any (is_id n) ns))
-used-joined rs n ns (p ∷ ps) =
-    elim (is_code p.kind) as (λ b.
-    list_any (is_id n) (used_in rs (if b then used_from rs ns p.tokens else ns) ps)
-    ≡ (list_any (is_id n) ns
+used-joined rs n ns (p ∷ ps) = elim (is_code p.kind) as
+    (λ b. list_any (is_id n) (used_in rs (if b then used_from rs ns p.tokens else ns) ps) ≡ (list_any (is_id n) ns
     || list_any (is_use rs n)
     (all_tokens (cond b (p ∷ filter (λ (q : Part). is_code q.kind) ps)
     (filter (λ (q : Part). is_code q.kind) ps))))) [
-      | true ↦
-          used-joined rs n (used_from rs ns p.tokens) ps
+      | true ↦ used-joined rs n (used_from rs ns p.tokens) ps
           ∙ ap (λ b. b || is_used rs ps n) (any-used_from rs n ns p.tokens)
           ∙ or-assoc (list_any (is_id n) ns) (list_any (is_use rs n) p.tokens) (is_used rs ps n)
           ∙ ap (λ b. list_any (is_id n) ns || b) (sym (list_any-append (is_use rs n) p.tokens (joined is_code ps)))
@@ -86,8 +81,7 @@ any-with_part rs n Macro ns = sym (or-none (list_any (is_id n) ns))
 any-present_from : (rs : List Standing) (n : NameId) (ns : List NameId) (k : ℕ) (ps : List Part)
     → list_any (is_id n) (present_from rs ns (runs_from k ps)) ≡ (list_any (is_id n) ns || has_part rs ps n)
 any-present_from rs n ns k [] = sym (or-none (list_any (is_id n) ns))
-any-present_from rs n ns k (p ∷ ps) =
-    any-present_from rs n (with_part rs ns p.kind) (k + length p.tokens) ps
+any-present_from rs n ns k (p ∷ ps) = any-present_from rs n (with_part rs ns p.kind) (k + length p.tokens) ps
     ∙ ap (λ b. b || has_part rs ps n) (any-with_part rs n p.kind ns)
     ∙ or-assoc (list_any (is_id n) ns) (is_of rs n p.kind) (has_part rs ps n)
 

@@ -22,15 +22,12 @@ pub given-push : (known more : List Name) (ts : List (List ℕ)) (gs : List Give
 given-push known more ts gs fs t g f tied few found new =
     let o = occurrence_of t g.how g.is_file in
     let os = occurrences_at ts gs in
-    let count : length gs ≡ 0 + length os =
-    omega (arith, occurrences-count ts gs (omega (arith, tied.count))) in
+    let count : length gs ≡ 0 + length os = omega (arith, occurrences-count ts gs (omega (arith, tied.count))) in
     let push = occurrences-push ts gs t g tied.count in
     record {
-      known_names =
-          new ∙ ap (λ ns. with_name (length gs) ns o) tied.known_names
+      known_names = new ∙ ap (λ ns. with_name (length gs) ns o) tied.known_names
           ∙ sym (names_from-push 0 (length gs) [] os o count) ∙ ap names (sym push);
-      found_early =
-          (λ i. tied.found_early i ++ (found ∙ ap (λ ns. early ns o) tied.known_names) i ∷ [])
+      found_early = (λ i. tied.found_early i ++ (found ∙ ap (λ ns. early ns o) tied.known_names) i ∷ [])
           ∙ sym (earlies_from-push 0 [] os o) ∙ ap (earlies_from 0 []) (sym push);
       count = omega (arith, length-append ts (t ∷ []), length-append gs (g ∷ []), tied.count);
       few = omega (arith, length-append gs (g ∷ []));
@@ -77,17 +74,15 @@ settled-from i before (t ∷ ts) (g ∷ gs) fs all e is found =
     let o = occurrence_of t g.how g.is_file in
     let next = with_name i before o in
     let os = occurrences_at ts gs in
-    let one : settled all t (early before o) ≡ standing_among before all o =
-    subst (λ (ns : List Name). by_found (early before o) (late ns t) ≡ standing_among before ns o)
-    (sym is) (settled-one i before os t g.how g.is_file) in
+    let one : settled all t (early before o) ≡ standing_among before all o = subst (λ (ns : List Name). by_found
+    (early before o) (late ns t) ≡ standing_among before ns o) (sym is) (settled-one i before os t g.how g.is_file) in
     ap (settled_all all (t ∷ ts)) found
     ∙ (λ j. one j ∷ settled-from (i + 1) next ts gs (earlies_from (i + 1) next os) all (omega arith) is refl j)
 
 -- what is found early, and else late, is what each occurrence stands for
 pub settled-standings : (known : List Name) (ts : List (List ℕ)) (gs : List GivenAs) (fs : List Found)
     → AreGiven known ts gs fs → settled_all known ts fs ≡ standings (occurrences_at ts gs)
-settled-standings known ts gs fs tied =
-    settled-from 0 [] ts gs fs known tied.count tied.known_names tied.found_early
+settled-standings known ts gs fs tied = settled-from 0 [] ts gs fs known tied.count tied.known_names tied.found_early
     ∙ ap (λ ns. standings_from 0 [] ns (occurrences_at ts gs)) tied.known_names
 
 pub settled-none : (known : List Name) (ts : List (List ℕ)) → settled_all known ts [] ≡ []

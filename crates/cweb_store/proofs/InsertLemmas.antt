@@ -41,14 +41,11 @@ found-insert p (e ∷ es) k v absent =
     ≡ grown (starts_with nat_eq k p) v (found (filter (begins p) (e ∷ es)))) [
       | Less ↦ λ is h. found-one (starts_with nat_eq k p) (k, v) (filter (begins p) (e ∷ es))
       | Equal ↦ λ is h. cc
-      | Greater ↦ λ is h.
-          (elim (starts_with nat_eq e.0 p) as (λ b.
-          found (cond b (e ∷ filter (begins p) (insert_entry order es k v))
-          (filter (begins p) (insert_entry order es k v)))
-          ≡ grown (starts_with nat_eq k p) v
+      | Greater ↦
+          λ is h. (elim (starts_with nat_eq e.0 p) as (λ b. found (cond b (e ∷ filter (begins p) (insert_entry order
+          es k v)) (filter (begins p) (insert_entry order es k v))) ≡ grown (starts_with nat_eq k p) v
           (found (cond b (e ∷ filter (begins p) es) (filter (begins p) es)))) [
-            | true ↦
-                found-cons e (filter (begins p) (insert_entry order es k v))
+            | true ↦ found-cons e (filter (begins p) (insert_entry order es k v))
                 ∙ ap (grown true e.1) (found-insert p es k v h)
                 ∙ grown-swap e.1 v (starts_with nat_eq k p) (found (filter (begins p) es))
                 ∙ ap (grown (starts_with nat_eq k p) v) (sym (found-cons e (filter (begins p) es)))

@@ -11,8 +11,7 @@ use Rattle.cweb_store.proofs.MapLemmas.{mapped-grow, find-word, no-word, insert-
 pub known : (old : TextsAndWords) (word : List ℕ) (number : ℕ) → has old word ≡ true
     → slice_get old.texts number ≡ Some word → KeepsWord old word number old
 known old word number h stands =
-    let same : with_word old.words word ≡ old.words =
-    ap (λ b. if b then old.words else old.words ++ word ∷ []) h in
+    let same : with_word old.words word ≡ old.words = ap (λ b. if b then old.words else old.words ++ word ∷ []) h in
     record {
       more = [];
       grows = sym (append-nil old.texts);
@@ -25,29 +24,24 @@ known old word number h stands =
 pub slot-known : (texts : List (List ℕ)) (word : List ℕ) (ss : List Slot) (es : Entries) (number : ℕ)
     → IsFound texts (window_of (key_of word) ss) word number
     → KeepsWord (texts_and_words texts ss es) word number (texts_and_words texts ss es)
-slot-known texts word ss es number found =
-    known (texts_and_words texts ss es) word number
-    (has-stands texts ss es word
-    ∙ ap (λ b. b || list_any (bytes_eq word) (map word_in es))
+slot-known texts word ss es number found = known (texts_and_words texts ss es) word number
+    (has-stands texts ss es word ∙ ap (λ b. b || list_any (bytes_eq word) (map word_in es))
     (from-window (slot_is texts word) (key_of word) ss found.among)) found.stands
 
 pub word-known : (texts : List (List ℕ)) (word : List ℕ) (ss : List Slot) (es : Entries) (number : ℕ)
-    → IsTable texts ss es
-    → lookup (λ (k : Vec ℕ Global). is_eq (slice_cmp nat_cmp word k.items)) es ≡ Some number
+    → IsTable texts ss es → lookup (λ (k : Vec ℕ Global). is_eq (slice_cmp nat_cmp word k.items)) es ≡ Some number
     → KeepsWord (texts_and_words texts ss es) word number (texts_and_words texts ss es)
 word-known texts word ss es number table found =
     let f = find-word texts word es number found table.in_map in
-    known (texts_and_words texts ss es) word number
-    (has-stands texts ss es word ∙ ap (λ b. list_any (slot_is texts word) ss || b) f.among
-    ∙ or-swap (list_any (slot_is texts word) ss) true) f.stands
+    known (texts_and_words texts ss es) word number (has-stands texts ss es word ∙ ap
+    (λ b. list_any (slot_is texts word) ss || b) f.among ∙ or-swap (list_any (slot_is texts word) ss) true) f.stands
 
 -- a word that stands neither in its window nor in the map isn't kept
 pub not-kept : (texts : List (List ℕ)) (word : List ℕ) (ss : List Slot) (es : Entries) → IsTable texts ss es
     → list_any (slot_is texts word) (window_of (key_of word) ss) ≡ false
     → lookup (λ (k : Vec ℕ Global). is_eq (slice_cmp nat_cmp word k.items)) es ≡ None
     → has (texts_and_words texts ss es) word ≡ false
-not-kept texts word ss es table none absent =
-    has-stands texts ss es word
+not-kept texts word ss es table none absent = has-stands texts ss es word
     ∙ or_from (list_any (slot_is texts word) ss) (list_any (bytes_eq word) (map word_in es))
     (not-in-window texts word ss table.in_slots none) (no-word word es absent)
 
@@ -88,8 +82,7 @@ pub slot-table : (texts : List (List ℕ)) (word : List ℕ) (ss new : List Slot
     → IsTable texts ss es → IsWordPlaced ss (key_of word) number (length word) new → number ≡ length texts
     → IsTable (texts ++ word ∷ []) new es
 slot-table texts word ss new es number table put last = record {
-  in_slots =
-      put-slots (texts ++ word ∷ []) ss new put.slot (slots-grow texts (word ∷ []) ss table.in_slots)
+  in_slots = put-slots (texts ++ word ∷ []) ss new put.slot (slots-grow texts (word ∷ []) ss table.in_slots)
       (new-holds texts word ss new number put last) put.put;
   in_map = mapped-grow texts (word ∷ []) es table.in_map;
 }
@@ -101,30 +94,26 @@ pub slot-keeps : (texts : List (List ℕ)) (word : List ℕ) (ss new : List Slot
 slot-keeps texts word ss new es number table put last absent =
     let more = texts ++ word ∷ [] in
     let text : slot_text more put.slot ≡ word =
-    get-text more put.slot.number word
-    (ap (slice_get more) put.number_is ∙ get-last texts word number last) in
-    new-keeps (texts_and_words texts ss es) word number (texts_and_words more new es) absent refl last
-    (λ q.
+    get-text more put.slot.number word (ap (slice_get more) put.number_is ∙ get-last texts word number last) in
+    new-keeps (texts_and_words texts ss es) word number (texts_and_words more new es) absent refl last (λ q.
     let was = list_any (slot_is texts q) ss in
     let keys = list_any (bytes_eq q) (map word_in es) in
     let one : slot_is more q put.slot ≡ bytes_eq q word =
-    ap (λ u. u && bytes_eq q (slot_text more put.slot))
-    (used-not put.slot.len (λ none. let no : ⊥ = omega (arith, none, put.len_is, put.some) in no))
-    ∙ ap (bytes_eq q) text in
+    ap (λ u. u && bytes_eq q (slot_text more put.slot)) (used-not put.slot.len (λ none.
+    let no : ⊥ = omega (arith, none, put.len_is, put.some) in
+    no)) ∙ ap (bytes_eq q) text in
     has-stands more new es q
-    ∙ ap (λ b. b || keys)
-    (put-any more ss new put.slot put.put q ∙ ap (λ b. b || slot_is more q put.slot)
-    (any-grow texts (word ∷ []) q ss table.in_slots.hold) ∙ ap (λ b. was || b) one)
-    ∙ or-last was (bytes_eq q word) keys ∙ ap (λ b. b || bytes_eq q word) (sym (has-stands texts ss es q)))
+    ∙ ap (λ b. b || keys) (put-any more ss new put.slot put.put q ∙ ap
+    (λ b. b || slot_is more q put.slot) (any-grow texts (word ∷ []) q ss table.in_slots.hold) ∙ ap (λ b. was || b) one)
+    ∙ or-last was (bytes_eq q word) keys
+    ∙ ap (λ b. b || bytes_eq q word) (sym (has-stands texts ss es q)))
 
 -- in the map
 pub map-table : (texts : List (List ℕ)) (word : List ℕ) (ss : List Slot) (es new : Entries) (number : ℕ)
-    → IsTable texts ss es → IsInserted es word number new → number ≡ length texts
-    → IsTable (texts ++ word ∷ []) ss new
+    → IsTable texts ss es → IsInserted es word number new → number ≡ length texts → IsTable (texts ++ word ∷ []) ss new
 map-table texts word ss es new number table put last = record {
   in_slots = slots-grow texts (word ∷ []) ss table.in_slots;
-  in_map =
-      insert-mapped (texts ++ word ∷ []) word es new number (get-last texts word number last)
+  in_map = insert-mapped (texts ++ word ∷ []) word es new number (get-last texts word number last)
       (mapped-grow texts (word ∷ []) es table.in_map) put;
 }
 

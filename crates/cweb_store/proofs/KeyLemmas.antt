@@ -14,22 +14,19 @@ tail word n = take_all (length word - n) (drop n word) (omega (arith, length-dro
 
 pub key-short : (word : List ℕ) → length word < 4 → key_of word ≡ short_key word
 unfolding key_of
-key-short word h =
-    ap (λ b. if b then short_key word else (if nat_lt (length word) 8 then middle_key word else long_key word))
-    (less (length word) 4 h)
+key-short word h = ap (λ b. if b then short_key word else
+    (if nat_lt (length word) 8 then middle_key word else long_key word)) (less (length word) 4 h)
 
 pub key-middle : (word : List ℕ) → 4 ≤ length word → length word < 8 → key_of word ≡ middle_key word
 unfolding key_of
-key-middle word h g =
-    ap (λ b. if b then short_key word else (if nat_lt (length word) 8 then middle_key word else long_key word))
-    (not-less (length word) 4 h)
+key-middle word h g = ap (λ b. if b then short_key word else
+    (if nat_lt (length word) 8 then middle_key word else long_key word)) (not-less (length word) 4 h)
     ∙ ap (λ b. if b then middle_key word else long_key word) (less (length word) 8 g)
 
 pub key-long : (word : List ℕ) → 8 ≤ length word → key_of word ≡ long_key word
 unfolding key_of
-key-long word h =
-    ap (λ b. if b then short_key word else (if nat_lt (length word) 8 then middle_key word else long_key word))
-    (not-less (length word) 4 (omega (arith, h)))
+key-long word h = ap (λ b. if b then short_key word else
+    (if nat_lt (length word) 8 then middle_key word else long_key word)) (not-less (length word) 4 (omega (arith, h)))
     ∙ ap (λ b. if b then middle_key word else long_key word) (not-less (length word) 8 h)
 
 -- A key tells a word of at most 16 bytes by its length.
@@ -116,9 +113,8 @@ key-tells q w len few all_q all_w same =
           (elim (nat_lt (length q) 8) as (λ b. nat_lt (length q) 8 ≡ b → q ≡ w) [
             | true ↦ λ g.
                 let middle : length q < 8 = ltb-true (length q) 8 g in
-                middle-same q w len four (omega (arith, middle)) all_q all_w
-                (sym (key-middle q four middle) ∙ same
-                ∙ key-middle w (omega (arith, len, four)) (omega (arith, len, middle)))
+                middle-same q w len four (omega (arith, middle)) all_q all_w (sym (key-middle q four middle)
+                ∙ same ∙ key-middle w (omega (arith, len, four)) (omega (arith, len, middle)))
             | false ↦ λ g.
                 let eight : 8 ≤ length q = ltb-false (length q) 8 g in
                 long-same q w len eight few all_q all_w

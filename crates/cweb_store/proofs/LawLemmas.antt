@@ -76,8 +76,7 @@ abbreviations_stay os later i o there prefix none =
     ∙ beginning-later (length os) o.text (names os) later none in
     standings-at 0 [] (names (os ++ later)) (os ++ later) i o (get-append os later i o there)
     ∙ ap (λ xs. Some (standing_among (names_from 0 [] xs) (names (os ++ later)) o)) (take-before os later i o there)
-    ∙ ap Some
-    (among-prefix before (names (os ++ later)) o.text o.how o.is_file prefix
+    ∙ ap Some (among-prefix before (names (os ++ later)) o.text o.how o.is_file prefix
     ∙ ap (λ ns. the_one (beginning o.text before) (the_one ns (Err NeverFull))) all
     ∙ sym (among-prefix before (names os) o.text o.how o.is_file prefix))
     ∙ sym (standings-at 0 [] (names os) os i o there)
@@ -96,8 +95,7 @@ earlier_names_decide earlier later o n prefix only =
     let os = earlier ++ o ∷ later in
     standings-at 0 [] (names os) os (length earlier) o (get-middle earlier later o)
     ∙ ap (λ xs. Some (standing_among (names_from 0 [] xs) (names os) o)) (take-middle earlier (o ∷ later))
-    ∙ ap Some
-    (among-prefix (names earlier) (names os) o.text o.how o.is_file prefix
+    ∙ ap Some (among-prefix (names earlier) (names os) o.text o.how o.is_file prefix
     ∙ ap (λ ns. the_one ns (the_one (beginning o.text (names os)) (Err NeverFull))) only)
 
 pub any-grows : (p : List ℕ → Bool) (old new : List Name) → Grows old new
@@ -130,8 +128,7 @@ text_at-position : (text : List ℕ) (ns : List Name) → list_any (bytes_eq tex
 text_at-position text [] h = cc
 text_at-position text (n ∷ ns) h =
     let rest = position_or_len (bytes_eq text) (texts ns) in
-    (elim (bytes_eq text n.text) as (λ b.
-    bytes_eq text n.text ≡ b → (b || list_any (bytes_eq text) (texts ns)) ≡ true
+    (elim (bytes_eq text n.text) as (λ b. bytes_eq text n.text ≡ b → (b || list_any (bytes_eq text) (texts ns)) ≡ true
     → option_map (λ (m : Name). m.text) (slice_get (n ∷ ns) (cond (not b) (1 + rest) 0)) ≡ Some text) [
       | true ↦ λ e g. ap Some (sym ((bytes_eq-Decides text n.text).0 e))
       | false ↦ λ e g.
@@ -142,15 +139,11 @@ text_at-position text (n ∷ ns) h =
 pub full_names_stand_for_themselves : FullNamesStandForThemselves
 full_names_stand_for_themselves os i o there full =
     let n = id (position_or_len (bytes_eq o.text) (texts (names os))) in
-    let at : slice_get (standings os) i ≡ Some (Ok n) =
-    standings-at 0 [] (names os) os i o there
+    let at : slice_get (standings os) i ≡ Some (Ok n) = standings-at 0 [] (names os) os i o there
     ∙ ap Some (among-full (names_from 0 [] (take i os)) (names os) o.text o.how o.is_file full) in
-    let here : stands (standings os) i ≡ Some n =
-    ap (λ (r : Option Standing).
-    let found : Option NameId =
-    elim r [ Some v ↦ elim v [ Ok m ↦ Some m | Err kind ↦ None ] | None ↦ None ] in
-    found)
-    at in
+    let here : stands (standings os) i ≡ Some n = ap (λ (r : Option Standing).
+    let found : Option NameId = elim r [ Some v ↦ elim v [ Ok m ↦ Some m | Err kind ↦ None ] | None ↦ None ] in
+    found) at in
     ap (option_and_then (λ (m : NameId). option_map (λ (k : Name). k.text) (slice_get (names os) m.0))) here
     ∙ text_at-position o.text (names os) (names-has 0 [] os i o there full)
 
@@ -158,9 +151,8 @@ joined-append : (test : PartKind → Bool) (ps qs : List Part) → joined test (
 joined-append test [] qs = refl
 joined-append test (p ∷ ps) qs =
     let rest = joined-append test ps qs in
-    elim (test p.kind) as (λ b.
-    all_tokens (cond b (p ∷ filter (λ (q : Part). test q.kind) (ps ++ qs))
-    (filter (λ (q : Part). test q.kind) (ps ++ qs)))
+    elim (test p.kind) as (λ b. all_tokens
+    (cond b (p ∷ filter (λ (q : Part). test q.kind) (ps ++ qs)) (filter (λ (q : Part). test q.kind) (ps ++ qs)))
     ≡ all_tokens (cond b (p ∷ filter (λ (q : Part). test q.kind) ps) (filter (λ (q : Part). test q.kind) ps))
     ++ joined test qs) [
       | true ↦ ap (λ ts. p.tokens ++ ts) rest ∙ sym (append_assoc p.tokens (joined test ps) (joined test qs))
@@ -169,8 +161,7 @@ joined-append test (p ∷ ps) qs =
 
 pub joining_concatenates : JoiningConcatenates
 joining_concatenates = record {
-  alone = λ test p.
-      elim (test p.kind) as (λ b. all_tokens (cond b (p ∷ []) []) ≡ (if b then p.tokens else []))
+  alone = λ test p. elim (test p.kind) as (λ b. all_tokens (cond b (p ∷ []) []) ≡ (if b then p.tokens else []))
       [ true ↦ append-nil p.tokens | false ↦ refl ];
   in_order = joined-append;
 }

@@ -22,8 +22,7 @@ trimmed-front n test ts =
     let f = without_last-front test (drop n ts) in
     record {
       rest = f.rest;
-      splits =
-          sym (take-append-drop n ts) ∙ ap (λ xs. take n ts ++ xs) f.splits
+      splits = sym (take-append-drop n ts) ∙ ap (λ xs. take n ts ++ xs) f.splits
           ∙ sym (append_assoc (take n ts) (without_last test (drop n ts)) f.rest);
       passes = f.passes;
     }

@@ -10,8 +10,7 @@ pub without_last-push : (test : Token → Bool) (xs : List Token) (t : Token)
     → without_last test (xs ++ t ∷ []) ≡ (if test t then without_last test xs else xs ++ t ∷ [])
 without_last-push test [] t = refl
 without_last-push test (x ∷ xs) t = ap (before_last test x) (without_last-push test xs t)
-    ∙ (elim (test t) as (λ b.
-    before_last test x (if b then without_last test xs else xs ++ t ∷ [])
+    ∙ (elim (test t) as (λ b. before_last test x (if b then without_last test xs else xs ++ t ∷ [])
     ≡ (if b then before_last test x (without_last test xs) else x ∷ xs ++ t ∷ [])) [
       | true ↦ refl
       | false ↦ before_last-some test x xs t
@@ -32,8 +31,7 @@ trim-next zero test (x ∷ ts) k t h le =
     ∙ ap (λ us. if test t then without_last test (take k (x ∷ ts)) else us) (sym (take-next (x ∷ ts) k t h))
 trim-next (suc n) test (x ∷ ts) zero t h le = absurd (let none : ⊥ = omega arith in none)
 trim-next (suc n) test (x ∷ ts) (suc k) t h le = ap (λ us. x ∷ us) (trim-next n test ts k t h (omega arith))
-    ∙ (elim (test t) as (λ b.
-    x ∷ (if b then without_last_after n test (take k ts) else take (suc k) ts)
+    ∙ (elim (test t) as (λ b. x ∷ (if b then without_last_after n test (take k ts) else take (suc k) ts)
     ≡ (if b then x ∷ without_last_after n test (take k ts) else x ∷ take (suc k) ts)) [
       | true ↦ refl
       | false ↦ refl
@@ -54,8 +52,7 @@ trim-drop (suc first) n test [] = trim-none-both n
   where
     trim-none-both : (n : ℕ)
         → drop (suc first) (without_last_after (suc first + n) test []) ≡ without_last_after n test []
-    trim-none-both n =
-        ap (drop (suc first)) (trim-none (suc first + n) test [] (omega arith))
+    trim-none-both n = ap (drop (suc first)) (trim-none (suc first + n) test [] (omega arith))
         ∙ sym (trim-none n test [] (omega arith))
 trim-drop (suc first) n test (t ∷ ts) =
     let next : suc first + n ≡ suc (first + n) = omega arith in
@@ -81,20 +78,17 @@ drop-all (suc from) (t ∷ ts) (suc n) le = drop-all from ts n (omega arith)
 pub blank-push : (xs : List Token) (t : Token)
     → without_blank (xs ++ t ∷ []) ≡ (if is_blank t then xs else xs ++ t ∷ [])
 blank-push [] t = refl
-blank-push (x ∷ []) t =
-    elim (is_blank t) as (λ b. x ∷ (if b then [] else t ∷ []) ≡ (if b then x ∷ [] else x ∷ t ∷ []))
-    [ true ↦ refl | false ↦ refl ]
+blank-push (x ∷ []) t = elim (is_blank t) as
+    (λ b. x ∷ (if b then [] else t ∷ []) ≡ (if b then x ∷ [] else x ∷ t ∷ [])) [ true ↦ refl | false ↦ refl ]
 blank-push (x ∷ y ∷ ys) t = ap (λ us. x ∷ us) (blank-push (y ∷ ys) t)
-    ∙ (elim (is_blank t)
-    as (λ b. x ∷ (if b then y ∷ ys else y ∷ ys ++ t ∷ []) ≡ (if b then x ∷ y ∷ ys else x ∷ y ∷ ys ++ t ∷ []))
-    [ true ↦ refl | false ↦ refl ])
+    ∙ (elim (is_blank t) as (λ b. x ∷ (if b then y ∷ ys else y ∷ ys ++ t ∷ [])
+    ≡ (if b then x ∷ y ∷ ys else x ∷ y ∷ ys ++ t ∷ [])) [ true ↦ refl | false ↦ refl ])
 
 -- the last token, where it is a Blank or not
 pub blank-dropped : (from : ℕ) (ts : List Token) (k : ℕ) (t : Token) → slice_get ts k ≡ Some t
     → from ≤ k → is_blank t ≡ true → drop from (take k ts) ≡ without_blank (drop from (take (suc k) ts))
-blank-dropped from ts k t h le blank =
-    sym (ap without_blank (drop-next from ts k t h le) ∙ blank-push (drop from (take k ts)) t
-    ∙ ap (λ b. if b then drop from (take k ts) else drop from (take k ts) ++ t ∷ []) blank)
+blank-dropped from ts k t h le blank = sym (ap without_blank (drop-next from ts k t h le) ∙ blank-push
+    (drop from (take k ts)) t ∙ ap (λ b. if b then drop from (take k ts) else drop from (take k ts) ++ t ∷ []) blank)
 
 pub blank-none : (from : ℕ) (ts : List Token) (k : ℕ) (t : Token) → slice_get ts k ≡ Some t → from ≤ k
     → is_blank t ≡ false → drop from (take (suc k) ts) ≡ without_blank (drop from (take (suc k) ts))

@@ -30,8 +30,7 @@ gone token ts h = ap (λ b. if b then token ∷ filter has_text ts else filter h
 
 before_last-texts : (t : Trailing) (token : Token) (ts : List Token)
     → filter has_text (before_last (is_dropped t) token ts) ≡ filter has_text (token ∷ ts)
-before_last-texts t token [] =
-    (elim (is_dropped t token) as (λ b.
+before_last-texts t token [] = (elim (is_dropped t token) as (λ b.
     is_dropped t token ≡ b → filter has_text (if b then [] else token ∷ []) ≡ filter has_text (token ∷ [])) [
       | true ↦ λ h. sym (gone token [] (dropped-none t token h))
       | false ↦ λ h. refl
@@ -41,8 +40,7 @@ before_last-texts t token (u ∷ us) = refl
 without_last-texts : (t : Trailing) (ts : List Token)
     → filter has_text (without_last (is_dropped t) ts) ≡ filter has_text ts
 without_last-texts t [] = refl
-without_last-texts t (x ∷ ts) =
-    before_last-texts t x (without_last (is_dropped t) ts)
+without_last-texts t (x ∷ ts) = before_last-texts t x (without_last (is_dropped t) ts)
     ∙ ap (λ us. if has_text x then x ∷ us else us) (without_last-texts t ts)
 
 pub trimmed-texts : (n : ℕ) (t : Trailing) (ts : List Token)
@@ -70,6 +68,5 @@ blank-none (spec.Mark place) h = refl
 pub blank-texts : (ts : List Token) (k : ℕ) (t : Token) → slice_get ts k ≡ Some t
     → is_blank t ≡ true → filter has_text (take k ts) ≡ filter has_text (take (suc k) ts)
 blank-texts ts k t h blank =
-    sym (ap (filter has_text) (take-next ts k t h) ∙ filter-append has_text (take k ts) (t ∷ [])
-    ∙ ap (λ us. filter has_text (take k ts) ++ us) (gone t [] (blank-none t blank))
-    ∙ append-nil (filter has_text (take k ts)))
+    sym (ap (filter has_text) (take-next ts k t h) ∙ filter-append has_text (take k ts) (t ∷ []) ∙ ap (λ us.
+    filter has_text (take k ts) ++ us) (gone t [] (blank-none t blank)) ∙ append-nil (filter has_text (take k ts)))

@@ -18,9 +18,8 @@ packed-alone texts places (r ∷ rs) all =
 -- the record with a number has its text, and lends this
 pub record-within : (texts : List (List ℕ)) (rs : List Record) (n : ℕ) (r : Record)
     → AreLentBy texts rs → slice_get rs n ≡ Some r → IsWithin (length texts) (packed_in [] r)
-record-within texts rs n r all there =
-    (packed-at texts (map (packed_in []) rs) n (packed_in [] r) all
-    (slice_get-map (packed_in []) rs n ∙ ap (option_map (packed_in [])) there)).0
+record-within texts rs n r all there = (packed-at texts (map (packed_in []) rs) n
+    (packed_in [] r) all (slice_get-map (packed_in []) rs n ∙ ap (option_map (packed_in [])) there)).0
 
 pub record-lends : (texts : List (List ℕ)) (rs : List Record) (n : ℕ) (r : Record)
     → slice_get rs n ≡ Some r → slice_get (lent_by texts rs) n ≡ Some (lends_by texts r)

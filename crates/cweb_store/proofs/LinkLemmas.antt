@@ -4,20 +4,16 @@ use Rattle.cweb_store.proofs.Common.{◌≡◌, ℕ, zero, suc, ◌+◌, ◌-◌
 -- a part is wanted where its group is
 wanted-group : (rs : List Standing) (w : Wanted) (kind : PartKind) → is_wanted rs w kind ≡ is_group w (group_of rs kind)
 wanted-group rs Program Unnamed = refl
-wanted-group rs Program (Named name) =
-    elim (stands rs name.0) as (λ o. false ≡ is_group Program (elim o [ None ↦ None | Some n ↦ Some (OfName n) ]))
-    [ None ↦ refl | Some n ↦ refl ]
+wanted-group rs Program (Named name) = elim (stands rs name.0) as
+    (λ o. false ≡ is_group Program (elim o [ None ↦ None | Some n ↦ Some (OfName n) ])) [ None ↦ refl | Some n ↦ refl ]
 wanted-group rs Program Macro = refl
 wanted-group rs (OfName n) Unnamed = refl
-wanted-group rs (OfName n) (Named name) =
-    elim (stands rs name.0)
-    as (λ o. is_some_id n o ≡ is_group (OfName n) (elim o [ None ↦ None | Some m ↦ Some (OfName m) ]))
-    [ None ↦ refl | Some m ↦ refl ]
+wanted-group rs (OfName n) (Named name) = elim (stands rs name.0) as (λ o. is_some_id n o
+    ≡ is_group (OfName n) (elim o [ None ↦ None | Some m ↦ Some (OfName m) ])) [ None ↦ refl | Some m ↦ refl ]
 wanted-group rs (OfName n) Macro = refl
 wanted-group rs Macros Unnamed = refl
-wanted-group rs Macros (Named name) =
-    elim (stands rs name.0) as (λ o. false ≡ is_group Macros (elim o [ None ↦ None | Some n ↦ Some (OfName n) ]))
-    [ None ↦ refl | Some n ↦ refl ]
+wanted-group rs Macros (Named name) = elim (stands rs name.0) as
+    (λ o. false ≡ is_group Macros (elim o [ None ↦ None | Some n ↦ Some (OfName n) ])) [ None ↦ refl | Some n ↦ refl ]
 wanted-group rs Macros Macro = refl
 
 head-same : (heads : Heads) (w v : Wanted) → is_same w v ≡ true → head_of heads v ≡ head_of heads w
@@ -53,22 +49,17 @@ put-linked rs r runs skips old skip new put linked = record {
       );
   follow = λ w.
       let others = filter (λ (x : Run). is_wanted rs w x.kind) runs in
-      (elim (is_group w (group_of rs r.kind)) as (λ b.
-      is_group w (group_of rs r.kind) ≡ b → head_of new w ≡ (if b then length runs + 1 else head_of old w) →
-      followed (r ∷ runs) (skip ∷ skips) (length (r ∷ runs) - head_of new w)
+      (elim (is_group w (group_of rs r.kind)) as (λ b. is_group w (group_of rs r.kind) ≡ b → head_of new w ≡ (if b
+      then length runs + 1 else head_of old w) → followed (r ∷ runs) (skip ∷ skips) (length (r ∷ runs) - head_of new w)
       ≡ map (λ (x : Run). x.part) (cond b (r ∷ others) others)) [
-        | true ↦ λ e first.
-            ap (followed (r ∷ runs) (skip ∷ skips))
-            (let here : length (r ∷ runs) - head_of new w ≡ zero = omega (arith, first) in here)
-            ∙ ap (λ ps. r.part ∷ ps)
-            (ap (followed runs skips) (put.skips ∙ skip-same old (length runs) w (group_of rs r.kind) e)
-            ∙ linked.follow w)
-        | false ↦ λ e first.
-            ap (followed (r ∷ runs) (skip ∷ skips))
-            (let later : length (r ∷ runs) - head_of new w ≡ suc (length runs - head_of old w) =
-            omega (arith, first, linked.within w) in
-            later)
-            ∙ linked.follow w
+        | true ↦ λ e first. ap (followed (r ∷ runs) (skip ∷ skips))
+            (let here : length (r ∷ runs) - head_of new w ≡ zero = omega (arith, first) in
+            here)
+            ∙ ap (λ ps. r.part ∷ ps) (ap (followed runs skips)
+            (put.skips ∙ skip-same old (length runs) w (group_of rs r.kind) e) ∙ linked.follow w)
+        | false ↦ λ e first. ap (followed (r ∷ runs) (skip ∷ skips)) (let later : length (r ∷ runs) - head_of new w
+            ≡ suc (length runs - head_of old w) = omega (arith, first, linked.within w) in
+            later) ∙ linked.follow w
       ]) refl (put.heads w)
       ∙ ap (λ b. map (λ (x : Run). x.part) (cond b (r ∷ others) others)) (sym (wanted-group rs w r.kind));
 }
@@ -104,19 +95,16 @@ range-end xs n =
     ∙ ap (λ k. slice_range xs k (length xs)) next
 
 pub followed-next : (runs : List Run) (skips : List ℕ) (n : ℕ) (r : Run) (skip : ℕ)
-    → slice_get runs n ≡ Some r → slice_get skips n ≡ Some skip →
-    followed runs skips n
+    → slice_get runs n ≡ Some r → slice_get skips n ≡ Some skip → followed runs skips n
     ≡ r.part ∷ followed (slice_range runs (n + 1) (length runs)) (slice_range skips (n + 1) (length skips)) skip
-followed-next runs skips n r skip here there =
-    followed-some runs skips n r skip here there
+followed-next runs skips n r skip here there = followed-some runs skips n r skip here there
     ∙ (λ i. r.part ∷ followed (range-end runs n i) (range-end skips n i) skip)
 
 -- one more part in front, where the links are gathered from the last part on
-pub step-linked : (rs : List Standing) (runs : List Run) (i behind skip : ℕ)
-    (d : Run) (kept more : List ℕ) (group : Option Wanted) (old new : Heads) →
-    group ≡ group_of rs (get_or runs i d).kind → suc i + behind ≡ length runs
-    → IsPut group behind old skip new → more ≡ kept ++ skip ∷ [] →
-    AreLinked rs (drop (suc i) runs) (reverse kept) old → AreLinked rs (drop i runs) (reverse more) new
+pub step-linked : (rs : List Standing) (runs : List Run) (i behind skip : ℕ) (d : Run)
+    (kept more : List ℕ) (group : Option Wanted) (old new : Heads) → group ≡ group_of rs (get_or runs i d).kind
+    → suc i + behind ≡ length runs → IsPut group behind old skip new → more ≡ kept ++ skip ∷ []
+    → AreLinked rs (drop (suc i) runs) (reverse kept) old → AreLinked rs (drop i runs) (reverse more) new
 step-linked rs runs i behind skip d kept more group old new belongs count put is linked =
     let others = drop (suc i) runs in
     let size : behind ≡ length others = omega (arith, length-drop (suc i) runs, count) in

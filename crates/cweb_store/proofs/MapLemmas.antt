@@ -6,8 +6,7 @@ use Rattle.cweb_store.proofs.PackedLemmas.{get-grow}
 
 pub mapped-grow : (texts more : List (List ℕ)) (es : Entries) → AreMapped texts es → AreMapped (texts ++ more) es
 mapped-grow texts more [] h = tt
-mapped-grow texts more (e ∷ es) h =
-    (get-grow texts more e.1 e.0.items h.0, mapped-grow texts more es h.1)
+mapped-grow texts more (e ∷ es) h = (get-grow texts more e.1 e.0.items h.0, mapped-grow texts more es h.1)
 
 same-bytes : (q k : List ℕ) → is_eq (slice_cmp nat_cmp q k) ≡ true → q ≡ k
 same-bytes q k h = (bytes_decides q k).0 (sym (is_eq-slice_cmp q k) ∙ h)
@@ -37,23 +36,19 @@ find-word texts q (e ∷ es) number h m =
           let r = find-word texts q es number g m.1 in
           record {
             stands = r.stands;
-            among =
-                ap (λ b. b || list_any (bytes_eq q) (map word_in es)) (sym (is_eq-slice_cmp q e.0.items) ∙ is)
+            among = ap (λ b. b || list_any (bytes_eq q) (map word_in es)) (sym (is_eq-slice_cmp q e.0.items) ∙ is)
                 ∙ r.among;
           }
     ]) refl h
 
-pub no-word : (q : List ℕ) (es : Entries)
-    → lookup (λ (k : Vec ℕ Global). is_eq (slice_cmp nat_cmp q k.items)) es ≡ None
+pub no-word : (q : List ℕ) (es : Entries) → lookup (λ (k : Vec ℕ Global). is_eq (slice_cmp nat_cmp q k.items)) es ≡ None
     → list_any (bytes_eq q) (map word_in es) ≡ false
 no-word q [] h = refl
-no-word q (e ∷ es) h =
-    (elim (is_eq (slice_cmp nat_cmp q e.0.items)) as (λ b. is_eq (slice_cmp nat_cmp q e.0.items) ≡ b →
-    cond b (Some e.1) (lookup (λ (k : Vec ℕ Global). is_eq (slice_cmp nat_cmp q k.items)) es) ≡ None
+no-word q (e ∷ es) h = (elim (is_eq (slice_cmp nat_cmp q e.0.items)) as (λ b. is_eq (slice_cmp nat_cmp q e.0.items) ≡ b
+    → cond b (Some e.1) (lookup (λ (k : Vec ℕ Global). is_eq (slice_cmp nat_cmp q k.items)) es) ≡ None
     → list_any (bytes_eq q) (map word_in (e ∷ es)) ≡ false) [
       | true ↦ λ is g. cc
-      | false ↦ λ is g.
-          ap (λ b. b || list_any (bytes_eq q) (map word_in es)) (sym (is_eq-slice_cmp q e.0.items) ∙ is)
+      | false ↦ λ is g. ap (λ b. b || list_any (bytes_eq q) (map word_in es)) (sym (is_eq-slice_cmp q e.0.items) ∙ is)
           ∙ no-word q es g
     ]) refl h
 
@@ -72,24 +67,18 @@ entry-any q [] key number = or-swap (bytes_eq q key.items) false
 entry-any q (e ∷ es) key number =
     let here = bytes_eq q e.0.items in
     let rest = list_any (bytes_eq q) (map word_in es) in
-    (elim (order key e.0) as (λ o. order key e.0 ≡ o →
-    list_any (bytes_eq q) (map word_in
+    (elim (order key e.0) as (λ o. order key e.0 ≡ o → list_any (bytes_eq q) (map word_in
     (match_ordering o ((key, number) ∷ e ∷ es) ((e.0, number) ∷ es) (e ∷ insert_entry order es key number)))
     ≡ ((here || rest) || bytes_eq q key.items)) [
       | Less ↦ λ is. or-swap (bytes_eq q key.items) (here || rest)
-      | Equal ↦ λ is.
-          or-again here rest ∙ ap (λ k. (here || rest) || bytes_eq q k) (sym (equal-key key e is))
-      | Greater ↦ λ is.
-          ap (λ b. here || b) (entry-any q es key number) ∙ or-assoc here rest (bytes_eq q key.items)
+      | Equal ↦ λ is. or-again here rest ∙ ap (λ k. (here || rest) || bytes_eq q k) (sym (equal-key key e is))
+      | Greater ↦ λ is. ap (λ b. here || b) (entry-any q es key number) ∙ or-assoc here rest (bytes_eq q key.items)
     ]) refl
 
 entry-mapped : (texts : List (List ℕ)) (es : Entries) (key : Vec ℕ Global) (number : ℕ)
-    → slice_get texts number ≡ Some key.items → AreMapped texts es
-    → AreMapped texts (insert_entry order es key number)
+    → slice_get texts number ≡ Some key.items → AreMapped texts es → AreMapped texts (insert_entry order es key number)
 entry-mapped texts [] key number stands m = (stands, tt)
-entry-mapped texts (e ∷ es) key number stands m =
-    (elim (order key e.0) as (λ o. order key e.0 ≡ o →
-    AreMapped texts
+entry-mapped texts (e ∷ es) key number stands m = (elim (order key e.0) as (λ o. order key e.0 ≡ o → AreMapped texts
     (match_ordering o ((key, number) ∷ e ∷ es) ((e.0, number) ∷ es) (e ∷ insert_entry order es key number))) [
       | Less ↦ λ is. (stands, m)
       | Equal ↦ λ is. (stands ∙ ap Some (equal-key key e is), m.1)
@@ -106,5 +95,4 @@ insert-any q word es new number put =
 pub insert-mapped : (texts : List (List ℕ)) (word : List ℕ) (es new : Entries) (number : ℕ)
     → slice_get texts number ≡ Some word → AreMapped texts es → IsInserted es word number new → AreMapped texts new
 insert-mapped texts word es new number stands m put =
-    subst (AreMapped texts) (sym put.now)
-    (entry-mapped texts es put.key number (stands ∙ ap Some (sym put.is)) m)
+    subst (AreMapped texts) (sym put.now) (entry-mapped texts es put.key number (stands ∙ ap Some (sym put.is)) m)

@@ -17,9 +17,8 @@ with_text-distinct i ns text d =
 
 with_name-distinct : (i : ℕ) (ns : List Name) (o : Occurrence)
     → Distinct (texts ns) → Distinct (texts (with_name i ns o))
-with_name-distinct i ns o d =
-    elim o.how as (λ how. Distinct (texts (elim how [ Full ↦ with_text i ns o.text | Prefix ↦ ns ])))
-    [ Full ↦ with_text-distinct i ns o.text d | Prefix ↦ d ]
+with_name-distinct i ns o d = elim o.how as (λ how. Distinct (texts (elim how
+    [ Full ↦ with_text i ns o.text | Prefix ↦ ns ]))) [ Full ↦ with_text-distinct i ns o.text d | Prefix ↦ d ]
 
 distinct-from : (i : ℕ) (ns : List Name) (os : List Occurrence)
     → Distinct (texts ns) → Distinct (texts (names_from i ns os))
@@ -76,8 +75,7 @@ stands-begins : (p : List ℕ) (before all : List Name) (n : NameId) → Grows b
     → the_one (beginning p before) (the_one (beginning p all) (Err NeverFull)) ≡ Ok n → Begins p all n
 stands-begins p before all n g h = elim (one-of (beginning p before) (the_one (beginning p all) (Err NeverFull)) n h) [
   | inl early ↦ begins-grows p before all n g (first-begins before before 0 p n [] refl early)
-  | inr late ↦
-      elim (one-of (beginning p all) (Err NeverFull) n late)
+  | inr late ↦ elim (one-of (beginning p all) (Err NeverFull) n late)
       [ inl one ↦ first-begins all all 0 p n [] refl one | inr none ↦ cc ]
 ]
 
@@ -112,20 +110,15 @@ abbreviations_begin_their_names os i o text there prefix is =
     let at : slice_get (standings os) i ≡ Some r = standings-at 0 [] all os i o there in
     let found : option_and_then (λ (n : NameId). option_map (λ (m : Name). m.text) (slice_get all n.0))
     (elim r [ Ok n ↦ Some n | Err kind ↦ None ]) ≡ Some text =
-    sym (ap (λ (x : Option Standing).
-    option_and_then (λ (n : NameId). option_map (λ (m : Name). m.text) (slice_get all n.0))
-    (elim x [ Some v ↦ elim v [ Ok m ↦ Some m | Err kind ↦ None ] | None ↦ None ]))
-    at) ∙ is in
-    standing-begins o.text all r text (λ n e.
-    stands-begins o.text before all n (front-grows i os)
-    (sym (among-prefix before all o.text o.how o.is_file prefix) ∙ e))
-    found
+    sym (ap (λ (x : Option Standing). option_and_then (λ (n : NameId). option_map (λ (m : Name). m.text)
+    (slice_get all n.0)) (elim x [ Some v ↦ elim v [ Ok m ↦ Some m | Err kind ↦ None ] | None ↦ None ])) at)
+    ∙ is in
+    standing-begins o.text all r text (λ n e. stands-begins o.text before all n
+    (front-grows i os) (sym (among-prefix before all o.text o.how o.is_file prefix) ∙ e)) found
 
 differs : (j k : ℕ) → (j ≡ k → ⊥) → nat_eq j k ≡ false
-differs j k apart =
-    (elim (nat_eq j k) as (λ b. nat_eq j k ≡ b → b ≡ false)
-    [ true ↦ λ h. absurd (apart (eqb-true j k h)) | false ↦ λ h. refl ])
-    refl
+differs j k apart = (elim (nat_eq j k) as
+    (λ b. nat_eq j k ≡ b → b ≡ false) [ true ↦ λ h. absurd (apart (eqb-true j k h)) | false ↦ λ h. refl ]) refl
 
 no-faults : (k j : ℕ) (rs : List Standing) → k < j → filter (is_at k) (standing_faults_from j rs) ≡ []
 no-faults k j [] h = refl

@@ -30,9 +30,8 @@ or-false false b h = record { left = refl; right = h }
 pub number-some : (i : ℕ) (q : List ℕ) (ns : List Name) (n : NameId) → number_of i q ns ≡ Some n
     → (list_any (bytes_eq q) (texts ns) ≡ true) × (n.0 ≡ i + position_or_len (bytes_eq q) (texts ns))
 number-some i q [] n h = cc
-number-some i q (m ∷ ns) n h =
-    (elim (bytes_eq q m.text) as (λ b. (if b then Some (id i) else number_of (i + 1) q ns) ≡ Some n →
-    ((b || list_any (bytes_eq q) (texts ns)) ≡ true)
+number-some i q (m ∷ ns) n h = (elim (bytes_eq q m.text) as (λ b.
+    (if b then Some (id i) else number_of (i + 1) q ns) ≡ Some n → ((b || list_any (bytes_eq q) (texts ns)) ≡ true)
     × (n.0 ≡ i + cond (not b) (1 + position_or_len (bytes_eq q) (texts ns)) 0)) [
       | true ↦ λ g.
           let is : id i ≡ n = cc in
@@ -110,8 +109,7 @@ known-at (n ∷ ns) zero q d h =
     )
 known-at (n ∷ ns) (suc i) q d h =
     let rest = known-at ns i q d.1 h in
-    (elim (bytes_eq q n.text) as (λ b. bytes_eq q n.text ≡ b →
-    ((b || list_any (bytes_eq q) (texts ns)) ≡ true)
+    (elim (bytes_eq q n.text) as (λ b. bytes_eq q n.text ≡ b → ((b || list_any (bytes_eq q) (texts ns)) ≡ true)
     × (suc i ≡ cond (not b) (1 + position_or_len (bytes_eq q) (texts ns)) 0)) [
       | true ↦ λ e.
           let text : q ≡ n.text = (bytes_eq-Decides q n.text).0 e in
@@ -131,10 +129,8 @@ beginning-push i p [] n j e =
     ])
 beginning-push i p (m ∷ ns) n j e =
     let rest = beginning-push (i + 1) p ns n j (omega arith) in
-    (elim (starts_with nat_eq m.text p) as (λ b.
-    found_of
-    (if b then id i ∷ beginning_from (i + 1) p (ns ++ n ∷ []) else beginning_from (i + 1) p (ns ++ n ∷ []))
-    ≡ grown (starts_with nat_eq n.text p) (id j)
+    (elim (starts_with nat_eq m.text p) as (λ b. found_of (if b then id i ∷ beginning_from
+    (i + 1) p (ns ++ n ∷ []) else beginning_from (i + 1) p (ns ++ n ∷ [])) ≡ grown (starts_with nat_eq n.text p) (id j)
     (found_of (if b then id i ∷ beginning_from (i + 1) p ns else beginning_from (i + 1) p ns))) [
       | true ↦
           found-first (id i) (beginning_from (i + 1) p (ns ++ n ∷ [])) ∙ ap (grown true (id i)) rest
@@ -163,25 +159,19 @@ lookup-inserted (e ∷ es) key v q =
     (elim (order key e.0) as (λ o. order key e.0 ≡ o →
     lookup (at q) (match_ordering o ((key, v) ∷ e ∷ es) ((e.0, v) ∷ es) (e ∷ tree.insert_entry order es key v))
     ≡ cond (bytes_eq q key) (Some v) (cond (at q e.0) (Some e.1) rest)) [
-      | Less ↦ λ is.
-          ap (λ b. cond b (Some v) (cond (at q e.0) (Some e.1) rest)) (is_eq-slice_cmp q key)
+      | Less ↦ λ is. ap (λ b. cond b (Some v) (cond (at q e.0) (Some e.1) rest)) (is_eq-slice_cmp q key)
       | Equal ↦ λ is.
-          let same : key ≡ e.0 =
-          (bytes_eq-Decides key e.0).0 (sym (is_eq-slice_cmp key e.0) ∙ ap is_eq is) in
+          let same : key ≡ e.0 = (bytes_eq-Decides key e.0).0 (sym (is_eq-slice_cmp key e.0) ∙ ap is_eq is) in
           let found : at q e.0 ≡ bytes_eq q key = here ∙ ap (bytes_eq q) (sym same) in
           (elim (bytes_eq q key) as (λ b. at q e.0 ≡ b →
           cond (at q e.0) (Some v) rest ≡ cond b (Some v) (cond (at q e.0) (Some e.1) rest)) [
             | true ↦ λ g. ap (λ b. cond b (Some v) rest) g
             | false ↦ λ g. ap (λ b. cond b (Some v) rest) g ∙ sym (ap (λ b. cond b (Some e.1) rest) g)
           ]) found
-      | Greater ↦ λ is.
-          ap (λ r. cond (at q e.0) (Some e.1) r) (lookup-inserted es key v q)
-          ∙ swap-conds (at q e.0) (bytes_eq q key) (Some e.1) (Some v) rest
-          (λ f g.
-          let text : key ≡ e.0 =
-          sym ((bytes_eq-Decides q key).0 g) ∙ (bytes_eq-Decides q e.0).0 (sym here ∙ f) in
-          let equal : is_eq (order key e.0) ≡ true =
-          is_eq-slice_cmp key e.0 ∙ (bytes_eq-Decides key e.0).1 text in
+      | Greater ↦ λ is. ap (λ r. cond (at q e.0) (Some e.1) r) (lookup-inserted es key v q)
+          ∙ swap-conds (at q e.0) (bytes_eq q key) (Some e.1) (Some v) rest (λ f g.
+          let text : key ≡ e.0 = sym ((bytes_eq-Decides q key).0 g) ∙ (bytes_eq-Decides q e.0).0 (sym here ∙ f) in
+          let equal : is_eq (order key e.0) ≡ true = is_eq-slice_cmp key e.0 ∙ (bytes_eq-Decides key e.0).1 text in
           let none : false ≡ true = sym (ap is_eq is) ∙ equal in
           cc)
     ]) refl
@@ -205,8 +195,7 @@ pub known-push : (es : List Entry) (ns : List Name) (key : List ℕ) (first : �
 known-push es ns key first v known new last =
     let n : Name = record { text = key; first = first } in
     record {
-      finds = λ p.
-          found-insert p es key v (known.gives key ∙ number-new 0 key ns new)
+      finds = λ p. found-insert p es key v (known.gives key ∙ number-new 0 key ns new)
           ∙ ap (grown (starts_with nat_eq key p) v) (known.finds p)
           ∙ ap (λ w. grown (starts_with nat_eq key p) w (found_of (beginning p ns))) last
           ∙ sym (beginning-push 0 p ns n (length ns) (omega arith));

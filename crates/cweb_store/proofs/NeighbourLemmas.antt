@@ -17,8 +17,7 @@ next-some : (p : List ℕ) (es : List Entry) → AllByRecursion (λ k. order p k
     → IsStrictlySortedBy order (keys_of es) → next_begins p (keys_of es) ≡ is_some (filter (begins p) es)
 unfolding IsStrictlySortedBy
 next-some p [] above sorted = refl
-next-some p (e ∷ es) above sorted =
-    (elim (starts_with nat_eq e.0 p) as (λ b. starts_with nat_eq e.0 p ≡ b →
+next-some p (e ∷ es) above sorted = (elim (starts_with nat_eq e.0 p) as (λ b. starts_with nat_eq e.0 p ≡ b →
     b ≡ is_some (cond b (e ∷ filter (begins p) es) (filter (begins p) es))) [
       | true ↦ λ is. refl
       | false ↦ λ is. ap is_some (sym (none-begins p e.0 es (ap is_le above.0) is sorted.0))
@@ -50,8 +49,7 @@ at-itself p = is_eq-slice_cmp p p ∙ bytes_eq-same p
 below-found : (k p : List ℕ) (v : NameId) (es : List Entry) → AllByRecursion (λ j. order k j ≡ Less) (keys_of es)
     → lookup (is_at (order p)) es ≡ Some v → order k p ≡ Less
 below-found k p v [] above h = cc
-below-found k p v (e ∷ es) above h =
-    (elim (is_eq (order p e.0)) as (λ b. is_eq (order p e.0) ≡ b
+below-found k p v (e ∷ es) above h = (elim (is_eq (order p e.0)) as (λ b. is_eq (order p e.0) ≡ b
     → cond b (Some e.1) (lookup (is_at (order p)) es) ≡ Some v → order k p ≡ Less) [
       | true ↦ λ is g. ap (order k) (same-key p e.0 is) ∙ above.0
       | false ↦ λ is g. below-found k p v es above.1 g
@@ -69,16 +67,14 @@ not-begins k p less =
     ]) refl
 
 -- where no text begins with the one before it, no several begin with one of them
-none-next : (es : List Entry) → IsStrictlySortedBy order (keys_of es) → any_next (keys_of es) ≡ false
-    → (p : List ℕ) (v : NameId) → lookup (is_at (order p)) es ≡ Some v
-    → is_several (found (filter (begins p) es)) ≡ false
+none-next : (es : List Entry) → IsStrictlySortedBy order (keys_of es) → any_next (keys_of es) ≡ false →
+    (p : List ℕ) (v : NameId) → lookup (is_at (order p)) es ≡ Some v → is_several (found (filter (begins p) es)) ≡ false
 unfolding IsStrictlySortedBy
 none-next [] sorted none p v h = cc
 none-next (e ∷ es) sorted none p v h =
     let both = or-false (next_begins e.0 (keys_of es)) (any_next (keys_of es)) none in
-    (elim (is_eq (order p e.0)) as (λ b. is_eq (order p e.0) ≡ b
-    → cond b (Some e.1) (lookup (is_at (order p)) es) ≡ Some v
-    → is_several
+    (elim (is_eq (order p e.0)) as
+    (λ b. is_eq (order p e.0) ≡ b → cond b (Some e.1) (lookup (is_at (order p)) es) ≡ Some v → is_several
     (found (cond (starts_with nat_eq e.0 p) (e ∷ filter (begins p) es) (filter (begins p) es))) ≡ false) [
       | true ↦ λ is g.
           let here : is_some (filter (begins p) es) ≡ false =
@@ -100,15 +96,13 @@ pub record Several (es : List Entry) : Type 0 where
 
 still-there : (p : List ℕ) (e : Entry) (es : List Entry) (v : NameId) → lookup (is_at (order p)) es ≡ Some v
     → (w : NameId) × (lookup (is_at (order p)) (e ∷ es) ≡ Some w)
-still-there p e es v h =
-    elim (is_eq (order p e.0)) as (λ b. (w : NameId) × (cond b (Some e.1) (lookup (is_at (order p)) es) ≡ Some w))
-    [ true ↦ (e.1, refl) | false ↦ (v, h) ]
+still-there p e es v h = elim (is_eq (order p e.0)) as (λ b.
+    (w : NameId) × (cond b (Some e.1) (lookup (is_at (order p)) es) ≡ Some w)) [ true ↦ (e.1, refl) | false ↦ (v, h) ]
 
 some-next : (es : List Entry) → IsStrictlySortedBy order (keys_of es) → any_next (keys_of es) ≡ true → Several es
 unfolding IsStrictlySortedBy
 some-next [] sorted some = cc
-some-next (e ∷ es) sorted some =
-    (elim (next_begins e.0 (keys_of es)) as (λ b. next_begins e.0 (keys_of es) ≡ b
+some-next (e ∷ es) sorted some = (elim (next_begins e.0 (keys_of es)) as (λ b. next_begins e.0 (keys_of es) ≡ b
     → (b || any_next (keys_of es)) ≡ true → Several (e ∷ es)) [
       | true ↦ λ is g.
           let behind : is_some (filter (begins e.0) es) ≡ true = sym (next-some e.0 es sorted.0 sorted.1) ∙ is in
@@ -116,8 +110,7 @@ some-next (e ∷ es) sorted some =
             text = e.0;
             value = e.1;
             there = ap (λ b. cond b (Some e.1) (lookup (is_at (order e.0)) es)) (at-itself e.0);
-            several =
-                ap (λ b. is_several (found (cond b (e ∷ filter (begins e.0) es) (filter (begins e.0) es))))
+            several = ap (λ b. is_several (found (cond b (e ∷ filter (begins e.0) es) (filter (begins e.0) es))))
                 (starts-same e.0) ∙ two e (filter (begins e.0) es) behind;
           }
       | false ↦ λ is g.
@@ -140,13 +133,10 @@ any-none fails (n ∷ ns) h =
 any-same : (p : List ℕ) (fails : List ℕ → Bool) (ts : List (List ℕ)) → fails p ≡ true
     → list_any (bytes_eq p) ts ≡ true → list_any fails ts ≡ true
 any-same p fails [] f h = cc
-any-same p fails (t ∷ ts) f h =
-    (elim (bytes_eq p t) as (λ b. bytes_eq p t ≡ b → (b || list_any (bytes_eq p) ts) ≡ true
+any-same p fails (t ∷ ts) f h = (elim (bytes_eq p t) as (λ b. bytes_eq p t ≡ b → (b || list_any (bytes_eq p) ts) ≡ true
     → (fails t || list_any fails ts) ≡ true) [
-      | true ↦ λ is g.
-          ap (λ b. b || list_any fails ts) (ap fails (sym ((bytes_decides p t).0 is)) ∙ f)
-      | false ↦ λ is g.
-          ap (λ b. fails t || b) (any-same p fails ts f g)
+      | true ↦ λ is g. ap (λ b. b || list_any fails ts) (ap fails (sym ((bytes_decides p t).0 is)) ∙ f)
+      | false ↦ λ is g. ap (λ b. fails t || b) (any-same p fails ts f g)
           ∙ elim (fails t) as (λ b. (b || true) ≡ true) [ true ↦ refl | false ↦ refl ]
     ]) refl h
 
@@ -172,8 +162,7 @@ next-prefix es ns known sorted =
           let there : list_any (bytes_eq s.text) (texts ns) ≡ true =
           (number-some 0 s.text ns s.value (sym (known.gives s.text) ∙ s.there)).0 in
           sym (any-same s.text (is_prefix_of_another ns) (texts ns) (sym (longer s.text there) ∙ s.several) there)
-      | false ↦ λ is.
-          sym (any-none (is_prefix_of_another ns) ns (λ i n here.
+      | false ↦ λ is. sym (any-none (is_prefix_of_another ns) ns (λ i n here.
           let there = any-there ns i n here in
           let v = number-there n.text ns there in
           sym (longer n.text there) ∙ none-next es sorted is n.text v.0 (known.gives n.text ∙ v.1)))

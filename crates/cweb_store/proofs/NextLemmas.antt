@@ -44,8 +44,7 @@ first-passes test n m (t ∷ ts) xs is =
           )
     ]) refl is
 
-passes-behind : (test : Token → Bool) (ts : List Token) (n k : ℕ)
-    → Passes test (drop n ts) k → Passes test ts (n + k)
+passes-behind : (test : Token → Bool) (ts : List Token) (n k : ℕ) → Passes test (drop n ts) k → Passes test ts (n + k)
 passes-behind test ts zero k p = subst (Passes test ts) (let e : k ≡ 0 + k = omega arith in e) p
 passes-behind test [] (suc n) k p = absurd (let none : ⊥ = cc in none)
 passes-behind test (t ∷ ts) (suc n) k p =
@@ -77,8 +76,7 @@ next-is test ts part xs i m are count some here less =
     record {
       begins = first.0;
       within = omega (arith, less);
-      before =
-          none-before test n (m - n) (drop n ts)
+      before = none-before test n (m - n) (drop n ts)
           (subst (BeginsFrom (n + (m - n))) (sym head) (omega (arith, first.0)));
       found = λ l. subst (Passes test ts) place (passes-behind test ts n (m - n) first.1);
     }
@@ -90,8 +88,7 @@ none-found test ts part le from =
     record {
       begins = le;
       within = omega arith;
-      before =
-          none-before test part.first (part.after - part.first) (drop part.first ts)
+      before = none-before test part.first (part.after - part.first) (drop part.first ts)
           (subst (λ m. BeginsFrom m (token_numbers test part.first (drop part.first ts))) (sym place) from);
       found = λ l. absurd (let none : ⊥ = omega (arith, l) in none);
     }

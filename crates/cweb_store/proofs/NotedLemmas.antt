@@ -3,8 +3,7 @@ use Rattle.cweb_store.proofs.Common.{◌≡◌, ◌≤◌, ◌<◌, ◌+◌, ℕ
 
 -- one more token
 pub numbers-push : (test : Token → Bool) (n : ℕ) (ts : List Token) (t : Token)
-    → token_numbers test n (ts ++ t ∷ [])
-    ≡ token_numbers test n ts ++ (if test t then (n + length ts) ∷ [] else [])
+    → token_numbers test n (ts ++ t ∷ []) ≡ token_numbers test n ts ++ (if test t then (n + length ts) ∷ [] else [])
 numbers-push test n [] t =
     let here : n ≡ n + 0 = omega arith in
     ap (λ k. if test t then k ∷ [] else []) here
@@ -62,8 +61,7 @@ point-is (x ∷ xs) bound (suc i) le p =
     let later = point-is xs bound i (omega arith)
     (λ k d l h. p.0 (suc k) d (omega arith) (omega arith), λ k d l h. p.1 (suc k) d (omega arith) (omega arith)) in
     let here : 1 + prefix_len (λ y. nat_lt y bound) xs ≡ suc i = omega (arith, later) in
-    sym here
-    ∙ ap (λ b. cond b (1 + prefix_len (λ y. nat_lt y bound) xs) 0) (sym (p.0 0 0 (omega arith) (omega arith)))
+    sym here ∙ ap (λ b. cond b (1 + prefix_len (λ y. nat_lt y bound) xs) 0) (sym (p.0 0 0 (omega arith) (omega arith)))
 
 none-below : (test : Token → Bool) (n bound : ℕ) (ts : List Token) → bound ≤ n
     → prefix_len (λ x. nat_lt x bound) (token_numbers test n ts) ≡ 0
@@ -82,8 +80,7 @@ pub record AreCut (test : Token → Bool) (n k bound : ℕ) (ts : List Token) : 
   pub back : drop (prefix_len (λ x. nat_lt x bound) (token_numbers test n ts)) (token_numbers test n ts)
       ≡ token_numbers test bound (drop k ts)
 
-pub numbers-cut : (test : Token → Bool) (n k bound : ℕ) (ts : List Token)
-    → bound ≡ n + k → AreCut test n k bound ts
+pub numbers-cut : (test : Token → Bool) (n k bound : ℕ) (ts : List Token) → bound ≡ n + k → AreCut test n k bound ts
 numbers-cut test n zero bound ts e =
     let xs = token_numbers test n ts in
     let none = none-below test n bound ts (omega arith) in
@@ -99,18 +96,16 @@ numbers-cut test n (suc k) bound (t ∷ ts) e =
     let i = prefix_len (λ x. nat_lt x bound) rest in
     let here : nat_lt n bound ≡ true = lt-ltb n bound (omega arith) in
     record {
-      front =
-          elim (test t) as (λ b.
-          take (prefix_len (λ x. nat_lt x bound) (if b then n ∷ rest else rest)) (if b then n ∷ rest else rest)
+      front = elim (test t) as
+          (λ b. take (prefix_len (λ x. nat_lt x bound) (if b then n ∷ rest else rest)) (if b then n ∷ rest else rest)
           ≡ (if b then n ∷ token_numbers test (n + 1) (take k ts) else token_numbers test (n + 1) (take k ts))) [
             | true ↦
                 ap (λ b. take (cond b (1 + i) 0) (n ∷ rest)) here ∙ ap (λ j. take j (n ∷ rest)) (one-add i)
                 ∙ ap (λ xs. n ∷ xs) later.front
             | false ↦ later.front
           ];
-      back =
-          elim (test t) as (λ b.
-          drop (prefix_len (λ x. nat_lt x bound) (if b then n ∷ rest else rest)) (if b then n ∷ rest else rest)
+      back = elim (test t) as
+          (λ b. drop (prefix_len (λ x. nat_lt x bound) (if b then n ∷ rest else rest)) (if b then n ∷ rest else rest)
           ≡ token_numbers test bound (drop k ts)) [
             | true ↦
                 ap (λ b. drop (cond b (1 + i) 0) (n ∷ rest)) here ∙ ap (λ j. drop j (n ∷ rest)) (one-add i)
@@ -123,9 +118,8 @@ numbers-cut test n (suc k) bound (t ∷ ts) e =
 abbrev pub with-number : List ℕ → Bool → ℕ → List ℕ
 with-number xs b k = xs ++ (if b then k ∷ [] else [])
 
-pub noted-push : (test : Token → Bool) (old new : List ℕ) (ts : List Token) (t : Token) (k : ℕ)
-    → length ts ≡ k → old ≡ token_numbers test 0 ts → new ≡ with-number old (test t) k
-    → new ≡ token_numbers test 0 (ts ++ t ∷ [])
+pub noted-push : (test : Token → Bool) (old new : List ℕ) (ts : List Token) (t : Token) (k : ℕ) → length ts ≡ k
+    → old ≡ token_numbers test 0 ts → new ≡ with-number old (test t) k → new ≡ token_numbers test 0 (ts ++ t ∷ [])
 noted-push test old new ts t k size are is =
     let last : k ≡ 0 + length ts = omega (arith, size) in
     is ∙ ap (λ xs. with-number xs (test t) k) are ∙ ap (with-number (token_numbers test 0 ts) (test t)) last

@@ -9,9 +9,8 @@ with_text-few i ns text =
     [ true ↦ omega arith | false ↦ omega (arith, length-append ns (n ∷ [])) ]
 
 with_name-few : (i : ℕ) (ns : List Name) (o : Occurrence) → length (with_name i ns o) ≤ length ns + 1
-with_name-few i ns o =
-    elim o.how as (λ how. length {A = Name} (elim how [ Full ↦ with_text i ns o.text | Prefix ↦ ns ]) ≤ length ns + 1)
-    [ Full ↦ with_text-few i ns o.text | Prefix ↦ omega arith ]
+with_name-few i ns o = elim o.how as (λ how. length {A = Name} (elim how [ Full ↦ with_text i ns o.text | Prefix ↦ ns ])
+    ≤ length ns + 1) [ Full ↦ with_text-few i ns o.text | Prefix ↦ omega arith ]
 
 names_from-few : (i : ℕ) (ns : List Name) (os : List Occurrence) → length (names_from i ns os) ≤ length ns + length os
 names_from-few i ns [] = omega arith
@@ -43,8 +42,7 @@ with_text-grows i ns text =
     [ true ↦ record { more = []; grows = sym (append-nil ns) } | false ↦ record { more = n ∷ []; grows = refl } ]
 
 pub with_name-grows : (i : ℕ) (ns : List Name) (o : Occurrence) → Grows ns (with_name i ns o)
-with_name-grows i ns o =
-    elim o.how as (λ how. Grows ns (elim how [ Full ↦ with_text i ns o.text | Prefix ↦ ns ]))
+with_name-grows i ns o = elim o.how as (λ how. Grows ns (elim how [ Full ↦ with_text i ns o.text | Prefix ↦ ns ]))
     [ Full ↦ with_text-grows i ns o.text | Prefix ↦ record { more = []; grows = sym (append-nil ns) } ]
 
 pub names_from-grows : (i : ℕ) (ns : List Name) (os : List Occurrence) → Grows ns (names_from i ns os)
@@ -63,9 +61,7 @@ texts-append ns ms = map-append (λ (m : Name). m.text) ns ms
 position-append : (p : List ℕ → Bool) (xs ys : List (List ℕ))
     → list_any p xs ≡ true → position_or_len p (xs ++ ys) ≡ position_or_len p xs
 position-append p [] ys h = cc
-position-append p (x ∷ xs) ys h =
-    (elim (p x) as (λ b.
-    (b || list_any p xs) ≡ true
+position-append p (x ∷ xs) ys h = (elim (p x) as (λ b. (b || list_any p xs) ≡ true
     → cond (not b) (1 + position_or_len p (xs ++ ys)) 0 ≡ cond (not b) (1 + position_or_len p xs) 0) [
       | true ↦ λ g. refl
       | false ↦ λ g. ap (λ n. 1 + n) (position-append p xs ys g)
@@ -79,9 +75,7 @@ any-last p (x ∷ xs) y h =
 position-last : (p : List ℕ → Bool) (xs : List (List ℕ)) (y : List ℕ) → p y ≡ true
     → list_any p xs ≡ false → position_or_len p (xs ++ y ∷ []) ≡ position_or_len p xs
 position-last p [] y h none = ap (λ b. cond (not b) 1 0) h
-position-last p (x ∷ xs) y h none =
-    (elim (p x) as (λ b.
-    (b || list_any p xs) ≡ false
+position-last p (x ∷ xs) y h none = (elim (p x) as (λ b. (b || list_any p xs) ≡ false
     → cond (not b) (1 + position_or_len p (xs ++ y ∷ [])) 0 ≡ cond (not b) (1 + position_or_len p xs) 0) [
       | true ↦ λ g. cc
       | false ↦ λ g. ap (λ n. 1 + n) (position-last p xs y h g)
@@ -92,12 +86,10 @@ pub with_text-has : (i : ℕ) (ns : List Name) (text : List ℕ)
     → list_any (bytes_eq text) (texts (with_text i ns text)) ≡ true
 with_text-has i ns text =
     let n : Name = record { text = text; first = i } in
-    (elim (list_any (bytes_eq text) (texts ns)) as (λ b.
-    list_any (bytes_eq text) (texts ns) ≡ b
+    (elim (list_any (bytes_eq text) (texts ns)) as (λ b. list_any (bytes_eq text) (texts ns) ≡ b
     → list_any (bytes_eq text) (texts (if b then ns else ns ++ n ∷ [])) ≡ true) [
       | true ↦ λ h. h
-      | false ↦ λ h.
-          ap (list_any (bytes_eq text)) (texts-append ns (n ∷ []))
+      | false ↦ λ h. ap (list_any (bytes_eq text)) (texts-append ns (n ∷ []))
           ∙ any-last (bytes_eq text) (texts ns) text (bytes_eq-same text)
     ]) refl
 
@@ -107,20 +99,17 @@ with_text-position : (i : ℕ) (ns : List Name) (text : List ℕ)
 with_text-position i ns text =
     let n : Name = record { text = text; first = i } in
     (elim (list_any (bytes_eq text) (texts ns)) as (λ b.
-    list_any (bytes_eq text) (texts ns) ≡ b
-    → position_or_len (bytes_eq text) (texts (if b then ns else ns ++ n ∷ []))
+    list_any (bytes_eq text) (texts ns) ≡ b → position_or_len (bytes_eq text) (texts (if b then ns else ns ++ n ∷ []))
     ≡ position_or_len (bytes_eq text) (texts ns)) [
       | true ↦ λ h. refl
-      | false ↦ λ h.
-          ap (position_or_len (bytes_eq text)) (texts-append ns (n ∷ []))
+      | false ↦ λ h. ap (position_or_len (bytes_eq text)) (texts-append ns (n ∷ []))
           ∙ position-last (bytes_eq text) (texts ns) text (bytes_eq-same text) h
     ]) refl
 
 -- a name keeps its number
 pub position-grows : (text : List ℕ) (old new : List Name) → Grows old new → list_any (bytes_eq text) (texts old) ≡ true
     → position_or_len (bytes_eq text) (texts new) ≡ position_or_len (bytes_eq text) (texts old)
-position-grows text old new g there =
-    ap (λ ns. position_or_len (bytes_eq text) (texts ns)) g.grows
+position-grows text old new g there = ap (λ ns. position_or_len (bytes_eq text) (texts ns)) g.grows
     ∙ ap (position_or_len (bytes_eq text)) (texts-append old g.more)
     ∙ position-append (bytes_eq text) (texts old) (texts g.more) there
 
@@ -138,10 +127,8 @@ pub settled-one : (i : ℕ) (before : List Name) (os : List Occurrence) (text : 
     by_found (early before o) (late all text) ≡ standing_among before all o
 settled-one i before os text Full is_file =
     let grown = names_from-grows (i + 1) (with_text i before text) os in
-    ap (λ n. Ok (id n))
-    (sym (position-grows text (with_text i before text)
-    (names_from (i + 1) (with_text i before text) os) grown (with_text-has i before text)
-    ∙ with_text-position i before text))
+    ap (λ n. Ok (id n)) (sym (position-grows text (with_text i before text) (names_from (i + 1)
+    (with_text i before text) os) grown (with_text-has i before text) ∙ with_text-position i before text))
 settled-one i before os text Prefix is_file =
     let all = names_from (i + 1) before os in
     by_found-the_one (beginning text before) (late all text)

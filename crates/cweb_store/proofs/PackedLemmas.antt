@@ -9,16 +9,14 @@ ends-le n all (e ∷ es) h = omega (arith, h.0, ends-le e all es h.1)
 
 pub range-grow : (bytes more : List ℕ) (i j : ℕ) → i ≤ j → j ≤ length bytes
     → slice_range (bytes ++ more) i j ≡ slice_range bytes i j
-range-grow bytes more i j le within =
-    ap (take (j - i)) (drop-append-le i bytes more (omega arith))
+range-grow bytes more i j le within = ap (take (j - i)) (drop-append-le i bytes more (omega arith))
     ∙ take-append-le (j - i) (drop i bytes) more (omega (arith, length-drop i bytes))
 
 range-end : (bytes text : List ℕ) → slice_range (bytes ++ text) (length bytes) (length (bytes ++ text)) ≡ text
-range-end bytes text =
-    ap (take (length (bytes ++ text) - length bytes)) (drop-append_seam bytes text)
+range-end bytes text = ap (take (length (bytes ++ text) - length bytes)) (drop-append_seam bytes text)
     ∙ ap (λ n. take n text)
-    (let e : length (bytes ++ text) - length bytes ≡ length text = omega (arith, length-append bytes text) in e)
-    ∙ take-length text
+    (let e : length (bytes ++ text) - length bytes ≡ length text = omega (arith, length-append bytes text) in
+    e) ∙ take-length text
 
 pub texts-push : (bytes text : List ℕ) (n : ℕ) (ends : List ℕ) → AreEnds n ends (length bytes)
     → texts_from (bytes ++ text) n (ends ++ length (bytes ++ text) ∷ []) ≡ texts_from bytes n ends ++ text ∷ []
@@ -194,14 +192,12 @@ packs-tokens old new ps t p all packs =
 pub packs-all : (old new : TextsAndWords) (ps : List Packed) (t : spec.Token) (p : Packed)
     → ArePacked old.texts ps → Packs old t p new → ArePacked new.texts (ps ++ p ∷ [])
 packs-all old new ps t p all packs =
-    subst (λ (b : List (List ℕ)). ArePacked b (ps ++ p ∷ [])) (sym packs.grows)
-    (ArePacked-grow old.texts packs.more ps p all
-    (subst (λ (b : List (List ℕ)). IsWithin (length b) p) packs.grows packs.within))
+    subst (λ (b : List (List ℕ)). ArePacked b (ps ++ p ∷ [])) (sym packs.grows) (ArePacked-grow old.texts
+    packs.more ps p all (subst (λ (b : List (List ℕ)). IsWithin (length b) p) packs.grows packs.within))
 
 -- a record at a place
-pub packed-at : (texts : List (List ℕ)) (ps : List Packed) (i : ℕ) (p : Packed) → ArePacked texts ps
-    → slice_get ps i ≡ Some p
-    → IsWithin (length texts) p × (slice_get (map (token_in texts) ps) i ≡ Some (token_in texts p))
+pub packed-at : (texts : List (List ℕ)) (ps : List Packed) (i : ℕ) (p : Packed) → ArePacked texts ps → slice_get ps i
+    ≡ Some p → IsWithin (length texts) p × (slice_get (map (token_in texts) ps) i ≡ Some (token_in texts p))
 packed-at texts [] i p all there = cc
 packed-at texts (q ∷ ps) zero p all there =
     let same : q ≡ p = cc in

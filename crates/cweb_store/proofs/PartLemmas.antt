@@ -26,15 +26,14 @@ text_from test (p ∷ parts) n ts h =
     let size = length p.tokens in
     let rest = numbers_from test (n + size) parts in
     let here : slice_range ts n (n + size) ≡ p.tokens =
-    ap (λ k. take k (drop n ts)) (let e : n + size - n ≡ size = omega arith in e)
-    ∙ ap (take size) h ∙ take-append_seam p.tokens (all_tokens parts) in
-    let others : drop (n + size) ts ≡ all_tokens parts =
-    sym (drop-drop size n ts) ∙ ap (drop size) h ∙ drop-append_seam p.tokens (all_tokens parts) in
+    ap (λ k. take k (drop n ts)) (let e : n + size - n ≡ size = omega arith in
+    e) ∙ ap (take size) h ∙ take-append_seam p.tokens (all_tokens parts) in
+    let others : drop (n + size) ts ≡ all_tokens parts = sym (drop-drop size n ts)
+    ∙ ap (drop size) h
+    ∙ drop-append_seam p.tokens (all_tokens parts) in
     let later = text_from test parts (n + size) ts others in
-    elim (test p.kind) as (λ b.
-    tokens_at ts
-    (cond b ((record { first = n; after = n + size }) ∷ numbers_from test (n + size) parts)
-    (numbers_from test (n + size) parts))
+    elim (test p.kind) as (λ b. tokens_at ts (cond b ((record { first = n; after = n + size }) ∷ numbers_from test
+    (n + size) parts) (numbers_from test (n + size) parts))
     ≡ all_tokens (cond b (p ∷ filter (λ (q : Part). test q.kind) parts) (filter (λ (q : Part). test q.kind) parts))) [
       | true ↦ (λ i. here i ++ later i)
       | false ↦ later
@@ -53,8 +52,7 @@ within_from test (p ∷ parts) n end h =
     let fits : n + size + length (all_tokens parts) ≤ end =
     omega (arith, h, length-append p.tokens (all_tokens parts)) in
     let later = within_from test parts (n + size) end fits in
-    elim (test p.kind) as (λ b.
-    AllByRecursion (λ (q : declared.Part). q.after ≤ end)
+    elim (test p.kind) as (λ b. AllByRecursion (λ (q : declared.Part). q.after ≤ end)
     (cond b ((record { first = n; after = n + size }) ∷ numbers_from test (n + size) parts)
     (numbers_from test (n + size) parts))) [
       | true ↦ (omega arith, later)
@@ -64,8 +62,7 @@ within_from test (p ∷ parts) n end h =
 -- these numbers are those of tokens
 pub numbers-within : (test : PartKind → Bool) (parts : List Part)
     → All (λ (p : declared.Part). p.after ≤ length (all_tokens parts)) (numbers_where test parts)
-numbers-within test parts =
-    All-from_recursion (λ (p : declared.Part). p.after ≤ length (all_tokens parts))
+numbers-within test parts = All-from_recursion (λ (p : declared.Part). p.after ≤ length (all_tokens parts))
     (numbers_where test parts) (within_from test parts 0 (length (all_tokens parts)) (omega arith))
 
 ordered_from : (test : PartKind → Bool) (parts : List Part) (n : ℕ)
@@ -73,11 +70,8 @@ ordered_from : (test : PartKind → Bool) (parts : List Part) (n : ℕ)
 ordered_from test [] n = tt
 ordered_from test (p ∷ parts) n =
     let later = ordered_from test parts (n + length p.tokens) in
-    elim (test p.kind) as (λ b.
-    AllByRecursion (λ (q : declared.Part). q.first ≤ q.after)
-    (cond b
-    ((record { first = n; after = n + length p.tokens })
-    ∷ numbers_from test (n + length p.tokens) parts)
+    elim (test p.kind) as (λ b. AllByRecursion (λ (q : declared.Part). q.first ≤ q.after)
+    (cond b ((record { first = n; after = n + length p.tokens }) ∷ numbers_from test (n + length p.tokens) parts)
     (numbers_from test (n + length p.tokens) parts))) [
       | true ↦ (omega arith, later)
       | false ↦ later
@@ -94,17 +88,11 @@ some_from : (test : PartKind → Bool) (parts : List Part) (n : ℕ)
 some_from test [] n = (λ h. cc, λ h. absurd (let none : ⊥ = omega arith in none))
 some_from test (p ∷ parts) n =
     let later = some_from test parts (n + length p.tokens) in
-    elim (test p.kind) as (λ b.
-    ((b || list_any (λ (q : Part). test q.kind) parts) ≡ true
-    → 0
-    < length (cond b
-    ((record { first = n; after = n + length p.tokens })
-    ∷ numbers_from test (n + length p.tokens) parts)
-    (numbers_from test (n + length p.tokens) parts)))
-    × (0
-    < length (cond b
-    ((record { first = n; after = n + length p.tokens }) ∷ numbers_from test (n + length p.tokens) parts)
-    (numbers_from test (n + length p.tokens) parts))
+    elim (test p.kind) as (λ b. ((b || list_any (λ (q : Part). test q.kind) parts) ≡ true → 0 < length
+    (cond b ((record { first = n; after = n + length p.tokens }) ∷ numbers_from test (n + length p.tokens) parts)
+    (numbers_from test (n + length p.tokens) parts))) ×
+    (0 < length (cond b ((record { first = n; after = n + length p.tokens }) ∷ numbers_from test
+    (n + length p.tokens) parts) (numbers_from test (n + length p.tokens) parts))
     → (b || list_any (λ (q : Part). test q.kind) parts) ≡ true)) [
       | true ↦ (λ h. omega arith, λ h. refl)
       | false ↦ later

@@ -60,12 +60,10 @@ begins-le (x ∷ p) (z ∷ b) s =
     ∙ begins-le p b front.1
 
 -- past a text that isn't below the prefix and doesn't begin with it none does
-pub none-begins : (p : List ℕ) (k : List ℕ) (es : List Entry)
-    → is_le (slice_cmp nat_cmp p k) ≡ true → starts_with nat_eq k p ≡ false
-    → AllByRecursion (λ j. order k j ≡ Less) (keys_of es) → filter (begins p) es ≡ []
+pub none-begins : (p : List ℕ) (k : List ℕ) (es : List Entry) → is_le (slice_cmp nat_cmp p k) ≡ true
+    → starts_with nat_eq k p ≡ false → AllByRecursion (λ j. order k j ≡ Less) (keys_of es) → filter (begins p) es ≡ []
 none-begins p k [] low other above = refl
-none-begins p k (e ∷ es) low other above =
-    (elim (starts_with nat_eq e.0 p)
+none-begins p k (e ∷ es) low other above = (elim (starts_with nat_eq e.0 p)
     as (λ v. starts_with nat_eq e.0 p ≡ v → cond v (e ∷ filter (begins p) es) (filter (begins p) es) ≡ []) [
       | true ↦ λ s. let t : starts_with nat_eq k p ≡ true = squeeze p k e.0 low above.0 s in cc
       | false ↦ λ s. none-begins p k es low other above.1
@@ -73,13 +71,10 @@ none-begins p k (e ∷ es) low other above =
 
 -- the names that begin with a prefix are among those from the prefix on
 pub from-begins : (p : List ℕ) (es : List Entry)
-    → filter (begins p) (filter (λ (e : Entry). is_le (slice_cmp nat_cmp p e.0) && true) es)
-    ≡ filter (begins p) es
+    → filter (begins p) (filter (λ (e : Entry). is_le (slice_cmp nat_cmp p e.0) && true) es) ≡ filter (begins p) es
 from-begins p [] = refl
-from-begins p (e ∷ es) =
-    (elim (is_le (slice_cmp nat_cmp p e.0)) as (λ v. is_le (slice_cmp nat_cmp p e.0) ≡ v →
-    filter (begins p)
-    (cond (v && true) (e ∷ filter (λ (e : Entry). is_le (slice_cmp nat_cmp p e.0) && true) es)
+from-begins p (e ∷ es) = (elim (is_le (slice_cmp nat_cmp p e.0)) as (λ v. is_le (slice_cmp nat_cmp p e.0) ≡ v
+    → filter (begins p) (cond (v && true) (e ∷ filter (λ (e : Entry). is_le (slice_cmp nat_cmp p e.0) && true) es)
     (filter (λ (e : Entry). is_le (slice_cmp nat_cmp p e.0) && true) es))
     ≡ cond (starts_with nat_eq e.0 p) (e ∷ filter (begins p) es) (filter (begins p) es)) [
       | true ↦ λ h. ap (λ xs. cond (starts_with nat_eq e.0 p) (e ∷ xs) xs) (from-begins p es)
@@ -100,8 +95,7 @@ from p es = filter (λ (e : Entry). is_le (slice_cmp nat_cmp p e.0) && true) es
 all-from : (p : List ℕ) (k : List ℕ) (es : List Entry) → AllByRecursion (λ j. order k j ≡ Less) (keys_of es)
     → AllByRecursion (λ j. order k j ≡ Less) (keys_of (from p es))
 all-from p k [] h = tt
-all-from p k (e ∷ es) h =
-    elim (is_le (slice_cmp nat_cmp p e.0))
+all-from p k (e ∷ es) h = elim (is_le (slice_cmp nat_cmp p e.0))
     as (λ v. AllByRecursion (λ j. order k j ≡ Less) (keys_of (cond (v && true) (e ∷ from p es) (from p es)))) [
       | true ↦ (h.0, all-from p k es h.1)
       | false ↦ all-from p k es h.1
@@ -111,8 +105,7 @@ sorted-from : (p : List ℕ) (es : List Entry) → IsStrictlySortedBy order (key
     → IsStrictlySortedBy order (keys_of (from p es))
 unfolding IsStrictlySortedBy
 sorted-from p [] h = tt
-sorted-from p (e ∷ es) h =
-    elim (is_le (slice_cmp nat_cmp p e.0))
+sorted-from p (e ∷ es) h = elim (is_le (slice_cmp nat_cmp p e.0))
     as (λ v. IsStrictlySortedBy order (keys_of (cond (v && true) (e ∷ from p es) (from p es)))) [
       | true ↦ (all-from p e.0 es h.0, sorted-from p es h.1)
       | false ↦ sorted-from p es h.1
@@ -121,10 +114,8 @@ sorted-from p (e ∷ es) h =
 low-from : (p : List ℕ) (es : List Entry)
     → AllByRecursion (λ (e : Entry). is_le (slice_cmp nat_cmp p e.0) ≡ true) (from p es)
 low-from p [] = tt
-low-from p (e ∷ es) =
-    (elim (is_le (slice_cmp nat_cmp p e.0)) as (λ v.
-    is_le (slice_cmp nat_cmp p e.0) ≡ v
-    → AllByRecursion (λ (e : Entry). is_le (slice_cmp nat_cmp p e.0) ≡ true)
+low-from p (e ∷ es) = (elim (is_le (slice_cmp nat_cmp p e.0)) as
+    (λ v. is_le (slice_cmp nat_cmp p e.0) ≡ v → AllByRecursion (λ (e : Entry). is_le (slice_cmp nat_cmp p e.0) ≡ true)
     (cond (v && true) (e ∷ from p es) (from p es))) [
       | true ↦ λ h. (h, low-from p es)
       | false ↦ λ h. low-from p es
@@ -145,10 +136,8 @@ names-none p es rest h empty = ap (λ xs. found_of (map (λ (e : Entry). e.1) xs
 pub names-other : (p : List ℕ) (es : List Entry) (e : Entry) (rest : List Entry) → Names p es (e ∷ rest)
     → starts_with nat_eq e.0 p ≡ false → found_of (numbers p es) ≡ Nothing
 unfolding IsStrictlySortedBy
-names-other p es e rest h other =
-    ap (λ xs. found_of (map (λ (e : Entry). e.1) xs))
-    (h.is ∙ ap (λ v. cond v (e ∷ filter (begins p) rest) (filter (begins p) rest)) other
-    ∙ none-begins p e.0 rest h.low.0 other h.sorted.0)
+names-other p es e rest h other = ap (λ xs. found_of (map (λ (e : Entry). e.1) xs)) (h.is ∙ ap (λ v. cond v
+    (e ∷ filter (begins p) rest) (filter (begins p) rest)) other ∙ none-begins p e.0 rest h.low.0 other h.sorted.0)
 
 pub names-last : (p : List ℕ) (es : List Entry) (e : Entry) → Names p es (e ∷ [])
     → starts_with nat_eq e.0 p ≡ true → found_of (numbers p es) ≡ One e.1
@@ -156,19 +145,16 @@ names-last p es e h same = ap (λ xs. found_of (map (λ (e : Entry). e.1) xs)) (
 
 pub names-two : (p : List ℕ) (es : List Entry) (e f : Entry) (rest : List Entry) → Names p es (e ∷ f ∷ rest)
     → starts_with nat_eq e.0 p ≡ true → starts_with nat_eq f.0 p ≡ true → found_of (numbers p es) ≡ Several
-names-two p es e f rest h one two =
-    ap (λ xs. found_of (map (λ (e : Entry). e.1) xs))
+names-two p es e f rest h one two = ap (λ xs. found_of (map (λ (e : Entry). e.1) xs))
     (h.is ∙ ap (λ v. cond v (e ∷ filter (begins p) (f ∷ rest)) (filter (begins p) (f ∷ rest))) one
     ∙ ap (λ v. e ∷ cond v (f ∷ filter (begins p) rest) (filter (begins p) rest)) two)
 
 pub names-one : (p : List ℕ) (es : List Entry) (e f : Entry) (rest : List Entry) → Names p es (e ∷ f ∷ rest)
     → starts_with nat_eq e.0 p ≡ true → starts_with nat_eq f.0 p ≡ false → found_of (numbers p es) ≡ One e.1
 unfolding IsStrictlySortedBy
-names-one p es e f rest h one other =
-    ap (λ xs. found_of (map (λ (e : Entry). e.1) xs))
-    (h.is ∙ ap (λ v. cond v (e ∷ filter (begins p) (f ∷ rest)) (filter (begins p) (f ∷ rest))) one
-    ∙ ap (λ v. e ∷ cond v (f ∷ filter (begins p) rest) (filter (begins p) rest)) other
-    ∙ ap (λ xs. e ∷ xs) (none-begins p f.0 rest h.low.1.0 other h.sorted.1.0))
+names-one p es e f rest h one other = ap (λ xs. found_of (map (λ (e : Entry). e.1) xs)) (h.is ∙ ap (λ v. cond v
+    (e ∷ filter (begins p) (f ∷ rest)) (filter (begins p) (f ∷ rest))) one ∙ ap (λ v. e ∷ cond v (f ∷ filter (begins p)
+    rest) (filter (begins p) rest)) other ∙ ap (λ xs. e ∷ xs) (none-begins p f.0 rest h.low.1.0 other h.sorted.1.0))
 
 pub names-range : (p q : List ℕ) (es rest : List Entry)
     → rest ≡ filter (λ (e : Entry). is_le (slice_cmp nat_cmp q e.0) && true) es

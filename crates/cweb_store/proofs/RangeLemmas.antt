@@ -9,9 +9,8 @@ take-none (suc k) = refl
 take-split : {X : Type 0} (k m : ℕ) (xs : List X) → take (k + m) xs ≡ take k xs ++ take m (drop k xs)
 take-split zero m xs = ap (λ n. take n xs) (let e : 0 + m ≡ m = omega arith in e)
 take-split (suc k) m [] = take-none (suc k + m) ∙ sym (take-none m)
-take-split (suc k) m (x ∷ xs) =
-    ap (λ n. take n (x ∷ xs)) (let e : suc k + m ≡ suc (k + m) = omega arith in e)
-    ∙ ap (λ ys. x ∷ ys) (take-split k m xs)
+take-split (suc k) m (x ∷ xs) = ap (λ n. take n (x ∷ xs)) (let e : suc k + m ≡ suc (k + m) = omega arith in
+    e) ∙ ap (λ ys. x ∷ ys) (take-split k m xs)
 
 drop-none : {X : Type 0} (k : ℕ) → drop {A = X} k [] ≡ []
 drop-none zero = refl

@@ -83,9 +83,8 @@ packed-take places n from (record_of.Mark k) at h = ap packed.Mark (at-take plac
 pub cut : (places : List Place) (from n : ℕ) (rs : List Record) → AreNumbered from rs n
     → map (packed_in (take n places)) rs ≡ map (packed_in places) rs
 cut places from n [] h = refl
-cut places from n (r ∷ rs) h = λ i.
-    packed-take places n from r h.0 (numbered-le (from + places_of r) n rs h.1) i
-    ∷ cut places (from + places_of r) n rs h.1 i
+cut places from n (r ∷ rs) h = λ i. packed-take places n from r h.0
+    (numbered-le (from + places_of r) n rs h.1) i ∷ cut places (from + places_of r) n rs h.1 i
 
 -- one more
 pub push-packed : (old new : List Place) (rs : List Record) (token : Packed) (r : Record)
@@ -103,8 +102,7 @@ push-numbered old new rs token r all is =
 
 -- a record at a number
 pub record-at : (places : List Place) (from end : ℕ) (rs : List Record) (i : ℕ) (r : Record) → AreNumbered from rs end
-    → slice_get rs i ≡ Some r
-    → IsWithin end r × (slice_get (map (packed_in places) rs) i ≡ Some (packed_in places r))
+    → slice_get rs i ≡ Some r → IsWithin end r × (slice_get (map (packed_in places) rs) i ≡ Some (packed_in places r))
 record-at places from end [] i r all h = cc
 record-at places from end (q ∷ rs) zero r all h =
     let same : q ≡ r = cc in (

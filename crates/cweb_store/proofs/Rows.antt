@@ -53,9 +53,8 @@ given_twice : texts (names (variables ∷ types ∷ variables ∷ [])) ≡ codes
 given_twice = refl
 
 -- a file name may be given in full elsewhere, and as a file's by an abbreviation
-by_abbreviation : files
-    (occurrence_of (codes "a.h") Full false ∷ header Full (codes "b.h")
-    ∷ header Prefix (codes "a") ∷ header Full (codes "b.h") ∷ []) ≡ id 1 ∷ id 0 ∷ []
+by_abbreviation : files (occurrence_of (codes "a.h") Full
+    false ∷ header Full (codes "b.h") ∷ header Prefix (codes "a") ∷ header Full (codes "b.h") ∷ []) ≡ id 1 ∷ id 0 ∷ []
 by_abbreviation = refl
 
 abbrev prefixed : List Call
@@ -86,10 +85,9 @@ order_of_faults = refl
 
 -- a part of A, a part of the program, and a part of A that is still open
 abbrev joins : List Call
-joins =
-    Occurs (occurrence_of (codes "A") Full false) ∷ Opens (named 0) ∷ Pushes (Word (codes "a")) ∷ Pushes Blank ∷ Closes
-    ∷ Opens Unnamed ∷ Occurs (occurrence_of (codes "A") Full false) ∷ Pushes (Name (ref 1)) ∷ Closes
-    ∷ Occurs (occurrence_of (codes "A") Full false) ∷ Opens (named 2) ∷ Pushes (Word (codes "b")) ∷ []
+joins = Occurs (occurrence_of (codes "A") Full false) ∷ Opens (named 0) ∷ Pushes (Word (codes "a")) ∷ Pushes Blank
+    ∷ Closes ∷ Opens Unnamed ∷ Occurs (occurrence_of (codes "A") Full false) ∷ Pushes (Name (ref 1)) ∷ Closes ∷ Occurs
+    (occurrence_of (codes "A") Full false) ∷ Opens (named 2) ∷ Pushes (Word (codes "b")) ∷ []
 
 joined_in_order : joined_of joins 0 ≡ Word (codes "a") ∷ Blank ∷ Word (codes "b") ∷ []
 joined_in_order = refl
@@ -159,15 +157,13 @@ use_in_a_macro = refl
 defs_of_a_part : has_defs_code (stored (Opens (named 7) ∷ Pushes Defs ∷ [])).parts ≡ true
 defs_of_a_part = refl
 
-macros_in_order : joined is_macro
-    (stored (Opens Macro ∷ Pushes x ∷ Closes ∷ Opens Unnamed ∷ Pushes Join
-    ∷ Closes ∷ Opens Macro ∷ Pushes Blank ∷ [])).parts ≡ x ∷ Blank ∷ []
+macros_in_order : joined is_macro (stored (Opens Macro ∷
+    Pushes x ∷ Closes ∷ Opens Unnamed ∷ Pushes Join ∷ Closes ∷ Opens Macro ∷ Pushes Blank ∷ [])).parts ≡ x ∷ Blank ∷ []
 macros_in_order = refl
 
 abbrev replaced : List Call
-replaced =
-    Transliterates (replacement_of 196 (codes "Ae")) ∷ Transliterates (replacement_of 228 (codes "ae"))
-    ∷ Transliterates (replacement_of 196 (codes "A")) ∷ []
+replaced = Transliterates (replacement_of 196 (codes "Ae")) ∷ Transliterates
+    (replacement_of 228 (codes "ae")) ∷ Transliterates (replacement_of 196 (codes "A")) ∷ []
 
 a_later_replacement_wins : replacement (stored replaced).replacements 196 ≡ Some (codes "A")
 a_later_replacement_wins = refl
@@ -196,9 +192,8 @@ signs_kept_once = refl
 words_given : bytes_given (stored three_times) ≡ 3
 words_given = refl
 
-texts_kept_each : bytes_kept
-    (stored (Occurs glob ∷ Occurs glob ∷ three_times
-    ++ Pushes (Number (codes "x")) ∷ Pushes (Word (codes "xy")) ∷ replaced)) ≡ 17
+texts_kept_each : bytes_kept (stored (Occurs
+    glob ∷ Occurs glob ∷ three_times ++ Pushes (Number (codes "x")) ∷ Pushes (Word (codes "xy")) ∷ replaced)) ≡ 17
 texts_kept_each = refl
 
 -- what is noted of tokens

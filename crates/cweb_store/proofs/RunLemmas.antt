@@ -38,15 +38,12 @@ pub runs_from-parts : (runs : List Run) (ts : List Token) (n end : ℕ)
 runs_from-parts [] ts n end h within = refl
 runs_from-parts (r ∷ runs) ts n end h within =
     let last = Follow-le r.part.after end runs h.2 in
-    let size : length (slice_range ts r.part.first r.part.after) ≡ r.part.after - r.part.first =
-    length-take-le (r.part.after - r.part.first) (drop r.part.first ts)
-    (omega (arith, last, within, length-drop r.part.first ts)) in
+    let size : length (slice_range ts r.part.first r.part.after) ≡ r.part.after - r.part.first = length-take-le
+    (r.part.after - r.part.first) (drop r.part.first ts) (omega (arith, last, within, length-drop r.part.first ts)) in
     let e : n + length (slice_range ts r.part.first r.part.after) ≡ r.part.after = omega (arith, size, h.0, h.1) in
     ap (λ after.
     let run : Run = record { kind = r.kind; part = record { first = n; after = after } } in
-    run ∷ runs_from after (map (closed_in ts) runs))
-    e
-    ∙ (λ i.
+    run ∷ runs_from after (map (closed_in ts) runs)) e ∙ (λ i.
     let run : Run = record { kind = r.kind; part = record { first = sym h.0 i; after = r.part.after } } in
     run ∷ runs_from-parts runs ts r.part.after end h.2 within i)
 
@@ -111,11 +108,9 @@ close-parts ts runs o places tied =
     take_all (length ts - o.first) (drop o.first ts) (omega (arith, length-drop o.first ts)) in
     λ i.
     record {
-      closed =
-          (map-append (closed_in ts) runs (last_run o (length ts) ∷ [])
-          ∙ ap (λ us.
-          let p : Part = record { kind = o.kind; tokens = us } in map (closed_in ts) runs ++ p ∷ [])
-          last)
+      closed = (map-append (closed_in ts) runs (last_run o (length ts) ∷ []) ∙ ap (λ us.
+          let p : Part = record { kind = o.kind; tokens = us } in
+          map (closed_in ts) runs ++ p ∷ []) last)
           i;
       current = None;
     }
@@ -173,8 +168,7 @@ close-cut-are ts runs o places more n tied le within =
 
 -- all tokens of parts that are all closed
 pub whole-tokens : (ts : List Token) (runs : List Run) → IsWhole ts runs → all_tokens (map (closed_in ts) runs) ≡ ts
-whole-tokens ts runs tied =
-    sym (append-nil (all_tokens (map (closed_in ts) runs)))
+whole-tokens ts runs tied = sym (append-nil (all_tokens (map (closed_in ts) runs)))
     ∙ ap (λ us. all_tokens (map (closed_in ts) runs) ++ us) (sym (drop-length ts))
     ∙ closed-whole runs ts 0 (length ts) tied.follow (omega arith)
 

@@ -34,8 +34,7 @@ pub is-sign : (old new : TextsAndWords) (byte number : ℕ) → KeepsWord old (b
     → IsSign new byte number
 is-sign old new byte number keeps = record {
   stands = keeps.stands;
-  among =
-      has-more old new (byte ∷ []) (byte ∷ []) number keeps
+  among = has-more old new (byte ∷ []) (byte ∷ []) number keeps
       ∙ ap (λ b. has old (byte ∷ []) || b) ((bytes_decides (byte ∷ []) (byte ∷ [])).1 refl)
       ∙ or-swap (has old (byte ∷ [])) true;
 }

@@ -134,9 +134,8 @@ slot-alike texts q s hold other =
 
     alike : (s : Slot) (key : Key) (len : ℕ) → is_used s.len ≡ true → s.len ≡ len → s.key ≡ key
         → is_alike s key len ≡ true
-    alike s key len used count same =
-        ap (λ b. b && (nat_eq s.len len && (nat_eq s.key.first key.first && nat_eq s.key.last key.last)))
-        (ap is_used (sym count) ∙ used)
+    alike s key len used count same = ap (λ b. b && (nat_eq s.len len
+        && (nat_eq s.key.first key.first && nat_eq s.key.last key.last))) (ap is_used (sym count) ∙ used)
         ∙ ap (λ b. b && (nat_eq s.key.first key.first && nat_eq s.key.last key.last)) (eq-same s.len len count)
         ∙ ap (λ b. b && nat_eq s.key.last key.last) (eq-same s.key.first key.first (ap (λ (x : Key). x.first) same))
         ∙ eq-same s.key.last key.last (ap (λ (x : Key). x.last) same)
@@ -187,8 +186,7 @@ put-slots texts ss new slot slots holds put =
 
 pub put-any : (texts : List (List ℕ)) (ss new : List Slot) (slot : Slot) → IsPlaced ss slot new → (q : List ℕ)
     → list_any (slot_is texts q) new ≡ (list_any (slot_is texts q) ss || slot_is texts q slot)
-put-any texts ss new slot put q =
-    ap (list_any (slot_is texts q)) put.now
+put-any texts ss new slot put q = ap (list_any (slot_is texts q)) put.now
     ∙ any-set (slot_is texts q) ss put.place put.was slot put.there
     (ap (λ n. is_used n && bytes_eq q (slot_text texts put.was)) put.free)
 
@@ -207,8 +205,7 @@ free-slots texts n = record {
     not-used : (k : ℕ) (s : Slot) → slice_get (replicate n free_slot) k ≡ Some s → is_used s.len ≡ true → ⊥
     not-used k s g u = let none : false ≡ true = sym (ap is_used (get-free n k s g)) ∙ u in cc
 
-pub free-any : (texts : List (List ℕ)) (n : ℕ) (q : List ℕ)
-    → list_any (slot_is texts q) (replicate n free_slot) ≡ false
+pub free-any : (texts : List (List ℕ)) (n : ℕ) (q : List ℕ) → list_any (slot_is texts q) (replicate n free_slot) ≡ false
 free-any texts zero q = refl
 free-any texts (suc n) q = free-any texts n q
 
@@ -216,9 +213,8 @@ free-any texts (suc n) q = free-any texts n q
 any-words : (texts : List (List ℕ)) (q : List ℕ) (ss : List Slot)
     → list_any (bytes_eq q) (slot_words texts ss) ≡ list_any (slot_is texts q) ss
 any-words texts q [] = refl
-any-words texts q (s ∷ ss) =
-    elim (is_used s.len) as (λ u.
-    list_any (bytes_eq q) (cond u (slot_text texts s ∷ slot_words texts ss) (slot_words texts ss))
+any-words texts q (s ∷ ss) = elim (is_used s.len) as
+    (λ u. list_any (bytes_eq q) (cond u (slot_text texts s ∷ slot_words texts ss) (slot_words texts ss))
     ≡ ((u && bytes_eq q (slot_text texts s)) || list_any (slot_is texts q) ss)) [
       | true ↦ ap (λ r. bytes_eq q (slot_text texts s) || r) (any-words texts q ss)
       | false ↦ any-words texts q ss
@@ -226,6 +222,5 @@ any-words texts q (s ∷ ss) =
 
 pub has-stands : (texts : List (List ℕ)) (ss : List Slot) (es : Entries) (q : List ℕ)
     → has (texts_and_words texts ss es) q ≡ stands_in texts ss es q
-has-stands texts ss es q =
-    list_any-append (bytes_eq q) (slot_words texts ss) (map word_in es)
+has-stands texts ss es q = list_any-append (bytes_eq q) (slot_words texts ss) (map word_in es)
     ∙ ap (λ r. r || list_any (bytes_eq q) (map word_in es)) (any-words texts q ss)

@@ -29,6 +29,5 @@ or-absorb false false = refl
 pub inserted-old : (q word : List ℕ) (es new : Entries) (number : ℕ) → IsInserted es word number new
     → (bytes_eq q word || list_any (bytes_eq q) (map word_in new))
     ≡ (bytes_eq q word || list_any (bytes_eq q) (map word_in es))
-inserted-old q word es new number put =
-    ap (λ b. bytes_eq q word || b) (insert-any q word es new number put)
+inserted-old q word es new number put = ap (λ b. bytes_eq q word || b) (insert-any q word es new number put)
     ∙ or-absorb (bytes_eq q word) (list_any (bytes_eq q) (map word_in es))

@@ -4,8 +4,7 @@ use Rattle.cweb_store.proofs.Common.{◌≡◌, ℕ, zero, suc, ◌+◌, ◌≤�
 with_texts-is : (ts : List (List ℕ)) (c : TokensAndTexts)
     → with_texts ts c ≡ record { tokens = c.tokens; others = c.others ++ ts }
 with_texts-is [] c = λ i. record { tokens = c.tokens; others = sym (append-nil c.others) i }
-with_texts-is (t ∷ ts) c =
-    with_texts-is ts (record c { others = c.others ++ t ∷ [] })
+with_texts-is (t ∷ ts) c = with_texts-is ts (record c { others = c.others ++ t ∷ [] })
     ∙ (λ i. record { tokens = c.tokens; others = append_assoc c.others (t ∷ []) ts i })
 
 occurrences-back : (os : List Occurrence) (more : List (List ℕ))
@@ -17,9 +16,8 @@ replacements-back : (rs : List Replacement) → replacements_at (map replacement
 replacements-back [] = refl
 replacements-back (r ∷ rs) = ap (λ rest. r ∷ rest) (replacements-back rs)
 
-replacements-behind : (os : List Occurrence) (rs : List Replacement)
-    → replacements_at (drop (length (map given_as os)) (map occurrence_text os ++ map replacement_text rs))
-    (map (λ r. r.byte) rs) ≡ rs
+replacements-behind : (os : List Occurrence) (rs : List Replacement) → replacements_at
+    (drop (length (map given_as os)) (map occurrence_text os ++ map replacement_text rs)) (map (λ r. r.byte) rs) ≡ rs
 replacements-behind os rs =
     let same : length (map given_as os) ≡ length (map occurrence_text os) =
     length-map os given_as ∙ sym (length-map os occurrence_text) in
@@ -40,20 +38,17 @@ all_texts-are ts os rs =
 pub stored-is : (ts : List Token) (runs : List Run) (os : List Occurrence) (rs : List Replacement)
     → stored_in (all_texts ts os rs) runs (map given_as os) (map (λ r. r.byte) rs)
     ≡ stored os (map (closed_in ts) runs) rs
-stored-is ts runs os rs =
-    ap (λ c. stored_in c runs (map given_as os) (map (λ r. r.byte) rs)) (all_texts-are ts os rs)
+stored-is ts runs os rs = ap (λ c. stored_in c runs (map given_as os) (map (λ r. r.byte) rs)) (all_texts-are ts os rs)
     ∙ (λ i.
-    stored (occurrences-back os (map replacement_text rs) i)
-    (map (closed_in ts) runs) (replacements-behind os rs i))
+    stored (occurrences-back os (map replacement_text rs) i) (map (closed_in ts) runs) (replacements-behind os rs i))
 
-pub stored-are : (ts : List Token) (runs : List Run) (links : Links) (os : List Occurrence)
-    (rs : List Replacement) (last_places : List (Option ℕ)) (firsts : List ℕ)
-    (standings : List Standing) (files : List NameId) (faults : List NameFault) (has_defs : Bool) →
-    IsWhole ts runs → AreLinked standings runs links.skips.items links.heads
-    → AreLast last_places (map (λ r. r.byte) rs) → firsts ≡ map (λ n. n.first) (names os)
-    → length (names os) < too_many → AreAnswers os (map (closed_in ts) runs) standings files faults has_defs →
-    AreStored (all_texts ts os rs) runs links (map given_as os)
-    (map (λ r. r.byte) rs) last_places firsts standings files faults has_defs
+pub stored-are : (ts : List Token)
+    (runs : List Run) (links : Links) (os : List Occurrence) (rs : List Replacement) (last_places : List (Option ℕ))
+    (firsts : List ℕ) (standings : List Standing) (files : List NameId) (faults : List NameFault) (has_defs : Bool)
+    → IsWhole ts runs → AreLinked standings runs links.skips.items links.heads
+    → AreLast last_places (map (λ r. r.byte) rs) → firsts ≡ map (λ n. n.first) (names os) → length (names os) < too_many
+    → AreAnswers os (map (closed_in ts) runs) standings files faults has_defs → AreStored (all_texts ts os rs)
+    runs links (map given_as os) (map (λ r. r.byte) rs) last_places firsts standings files faults has_defs
 stored-are ts runs links os rs last_places firsts standings files faults has_defs whole linked last places few answers =
     let back = occurrences-back os (map replacement_text rs) in
     let flat : AreStored (record { tokens = ts; others = map occurrence_text os ++ map replacement_text rs })
@@ -118,9 +113,8 @@ text-gives os i ns text h here =
 
 name-gives : (os : List Occurrence) (i : ℕ) (ns : List Name) (o : Occurrence) → FirstsGive os ns
     → option_map (λ (o : Occurrence). o.text) (slice_get os i) ≡ Some o.text → FirstsGive os (with_name i ns o)
-name-gives os i ns o h here =
-    elim o.how as (λ how. FirstsGive os (elim how [ Full ↦ with_text i ns o.text | Prefix ↦ ns ]))
-    [ Full ↦ text-gives os i ns o.text h here | Prefix ↦ h ]
+name-gives os i ns o h here = elim o.how as (λ how. FirstsGive os
+    (elim how [ Full ↦ with_text i ns o.text | Prefix ↦ ns ])) [ Full ↦ text-gives os i ns o.text h here | Prefix ↦ h ]
 
 drop-here : (os : List Occurrence) (i : ℕ) (o : Occurrence) (rest : List Occurrence)
     → drop i os ≡ o ∷ rest → (slice_get os i ≡ Some o) × (drop (suc i) os ≡ rest)

@@ -8,22 +8,19 @@ use Rattle.cweb_store.proofs.RunLemmas.{whole-tokens}
 abbrev pub at_last : List (List ℕ) → Option ℕ → Option (List ℕ)
 at_last ts found = option_and_then (slice_get ts) found
 
-last-replaces : (all ts : List (List ℕ)) (bs : List ℕ) (byte i : ℕ) (found : Option ℕ)
-    → drop i all ≡ ts → length ts ≡ length bs
-    → replaced_by byte (at_last all found) (replacements_at ts bs) ≡ at_last all (last_from byte found i bs)
+last-replaces : (all ts : List (List ℕ)) (bs : List ℕ) (byte i : ℕ) (found : Option ℕ) → drop i all ≡ ts → length ts
+    ≡ length bs → replaced_by byte (at_last all found) (replacements_at ts bs) ≡ at_last all (last_from byte found i bs)
 last-replaces all ts [] byte i found h size = refl
 last-replaces all [] (b ∷ bs) byte i found h size = absurd (let none : ⊥ = omega arith in none)
 last-replaces all (t ∷ ts) (b ∷ bs) byte i found h size =
     let here = text-here all i t ts h in
     let next : suc i ≡ i + 1 = omega arith in
-    let step : (if nat_eq b byte then Some t else at_last all found)
-    ≡ at_last all (if nat_eq b byte then Some i else found) =
-    elim (nat_eq b byte)
-    as (λ v. (if v then Some t else at_last all found) ≡ at_last all (if v then Some i else found))
-    [ true ↦ sym here.0 | false ↦ refl ] in
+    let step : (if nat_eq b byte then Some t else at_last all found) ≡ at_last all
+    (if nat_eq b byte then Some i else found) = elim (nat_eq b byte) as (λ v. (if v then Some t else at_last all found)
+    ≡ at_last all (if v then Some i else found)) [ true ↦ sym here.0 | false ↦ refl ] in
     ap (λ x. replaced_by byte x (replacements_at ts bs)) step
-    ∙ last-replaces all ts bs byte (i + 1) (if nat_eq b byte then Some i else found)
-    (ap (λ k. drop k all) (sym next) ∙ here.1) (omega arith)
+    ∙ last-replaces all ts bs byte
+    (i + 1) (if nat_eq b byte then Some i else found) (ap (λ k. drop k all) (sym next) ∙ here.1) (omega arith)
   where
     text-here : (all : List (List ℕ)) (i : ℕ) (t : List ℕ) (rest : List (List ℕ))
         → drop i all ≡ t ∷ rest → (slice_get all i ≡ Some t) × (drop (suc i) all ≡ rest)
@@ -39,9 +36,8 @@ last-is ts bs byte size = last-replaces ts ts bs byte 0 None refl size
 last_from-within : (byte i n : ℕ) (found : Option ℕ) (bs : List ℕ) (k : ℕ)
     → ((j : ℕ) → found ≡ Some j → j < n) → i + length bs ≤ n → last_from byte found i bs ≡ Some k → k < n
 last_from-within byte i n found [] k early h is = early k is
-last_from-within byte i n found (b ∷ bs) k early h is =
-    last_from-within byte (i + 1) n (if nat_eq b byte then Some i else found)
-    bs k (step (nat_eq b byte)) (omega arith) is
+last_from-within byte i n found (b ∷ bs) k early h is = last_from-within byte
+    (i + 1) n (if nat_eq b byte then Some i else found) bs k (step (nat_eq b byte)) (omega arith) is
   where
     step : (v : Bool) (j : ℕ) → (if v then Some i else found) ≡ Some j → j < n
     step true j e = let same : i ≡ j = cc in omega (arith, same, h)
@@ -77,19 +73,15 @@ store-texts n c runs given replaced whole all =
     let both = front-stands all.bytes (flat_map token_texts c.tokens) c.others all.runs in
     let os = occurrences_at c.others given in
     let rs = replacements_at (drop (length given) c.others) replaced in
-    let others =
-    all-both all.bytes (map occurrence_text os) (map replacement_text rs)
-    (occurrences-stand all.bytes c.others given both.1)
-    (replacements-stand all.bytes (drop (length given) c.others)
-    replaced (all-drop all.bytes (length given) c.others both.1)) in
-    let tokens =
-    subst (λ (ts : List Token). AllStandIn all.bytes (flat_map token_texts ts))
+    let others = all-both all.bytes (map occurrence_text os)
+    (map replacement_text rs) (occurrences-stand all.bytes c.others given both.1) (replacements-stand all.bytes
+    (drop (length given) c.others) replaced (all-drop all.bytes (length given) c.others both.1)) in
+    let tokens = subst (λ (ts : List Token). AllStandIn all.bytes (flat_map token_texts ts))
     (sym (whole-tokens c.tokens runs whole)) both.0 in
     record {
       bytes = all.bytes;
       count = all.count;
-      runs =
-          all-both all.bytes (flat_map token_texts (all_tokens (map (closed_in c.tokens) runs)))
+      runs = all-both all.bytes (flat_map token_texts (all_tokens (map (closed_in c.tokens) runs)))
           (map occurrence_text os ++ map replacement_text rs) tokens others;
     }
 
@@ -101,9 +93,8 @@ replacements-total [] (b ∷ bs) h = refl
 replacements-total (t ∷ ts) [] h = absurd (let none : ⊥ = omega arith in none)
 replacements-total (t ∷ ts) (b ∷ bs) h = ap (λ n. length t + n) (replacements-total ts bs (omega arith))
 
-others-total : (ts : List (List ℕ)) (gs : List GivenAs) (bs : List ℕ) → length ts ≡ length gs + length bs
-    → total length ts
-    ≡ total length (map occurrence_text (occurrences_at ts gs))
+others-total : (ts : List (List ℕ)) (gs : List GivenAs) (bs : List ℕ)
+    → length ts ≡ length gs + length bs → total length ts ≡ total length (map occurrence_text (occurrences_at ts gs))
     + total length (map replacement_text (replacements_at (drop (length gs) ts) bs))
 others-total [] [] bs h = omega (arith, replacements-total [] bs (omega arith))
 others-total (t ∷ ts) [] bs h = omega (arith, replacements-total (t ∷ ts) bs (omega arith))

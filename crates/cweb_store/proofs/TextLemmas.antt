@@ -51,8 +51,7 @@ token-stands ts (Mark place) h = tt
 tokens-stand : (ts : List (List ℕ)) (ps : List Packed) → ArePacked ts ps
     → AllStandIn (text_bytes ts) (flat_map token_texts (map (token_in ts) ps))
 tokens-stand ts [] h = tt
-tokens-stand ts (p ∷ ps) h =
-    all-both (text_bytes ts) (token_texts (token_in ts p))
+tokens-stand ts (p ∷ ps) h = all-both (text_bytes ts) (token_texts (token_in ts p))
     (flat_map token_texts (map (token_in ts) ps)) (token-stands ts p h.0) (tokens-stand ts ps h.1)
 
 bytes-total : (ts : List (List ℕ)) → length (text_bytes ts) ≡ total length ts
@@ -163,8 +162,7 @@ pub all-texts : (texts : List (List ℕ)) (ps : List Packed) (own n : ℕ) → A
 all-texts texts ps own n all count = record {
   bytes = text_bytes texts;
   count = sym count;
-  runs =
-      all-both (text_bytes texts) (flat_map token_texts (map (token_in texts) ps)) (drop own texts)
+  runs = all-both (text_bytes texts) (flat_map token_texts (map (token_in texts) ps)) (drop own texts)
       (tokens-stand texts ps all.packed) (all-drop (text_bytes texts) own texts (texts-stand texts));
 }
 

@@ -65,16 +65,12 @@ left-dropped : (p : Part) → IsLeft p.tokens (without_layout p).tokens
 left-dropped p = left-front is_layout p.tokens (without_layout p).tokens (λ t h. h) (dropping_keeps_the_front p).front
 
 left-closed : (p : Part) → IsLeft p.tokens (at_close p).tokens
-left-closed p =
-    elim (is_macro p.kind) as (λ b.
-    IsLeft p.tokens
-    (let q : Part =
-    if b then record p { tokens = without_blank (without_last is_newline p.tokens) } else p in
+left-closed p = elim (is_macro p.kind) as (λ b. IsLeft p.tokens
+    (let q : Part = if b then record p { tokens = without_blank (without_last is_newline p.tokens) } else p in
     q).tokens) [
       | true ↦ left-then p.tokens (without_last is_newline p.tokens) (without_blank (without_last is_newline p.tokens))
-          (left-front is_newline p.tokens (without_last is_newline p.tokens)
-          newline-layout (without_last-front is_newline p.tokens))
-          (left-blank (without_last is_newline p.tokens))
+          (left-front is_newline p.tokens (without_last is_newline p.tokens) newline-layout
+          (without_last-front is_newline p.tokens)) (left-blank (without_last is_newline p.tokens))
       | false ↦ left-same p.tokens
     ]
 
@@ -95,14 +91,10 @@ left-nothing ts = left-equal (ts ++ []) ts (append-nil ts)
 
 left-opens : (kind : PartKind) (v : PartsSoFar) → IsNone v.current
     → IsLeft (all_tokens (all_parts v) ++ []) (all_tokens (all_parts (opened kind v)))
-left-opens kind v none =
-    (elim v.current as (λ o.
-    IsNone o
-    → IsLeft (all_tokens (v.closed ++ option_to_list o) ++ [])
+left-opens kind v none = (elim v.current as (λ o. IsNone o → IsLeft (all_tokens (v.closed ++ option_to_list o) ++ [])
     (all_tokens (v.closed ++ (record { kind = kind; tokens = [] }) ∷ []))) [
-      | None ↦ λ h.
-          left-equal (all_tokens (v.closed ++ []) ++ [])
-          (all_tokens (v.closed ++ (record { kind = kind; tokens = [] }) ∷ []))
+      | None ↦ λ h. left-equal
+          (all_tokens (v.closed ++ []) ++ []) (all_tokens (v.closed ++ (record { kind = kind; tokens = [] }) ∷ []))
           (append-nil (all_tokens (v.closed ++ [])) ∙ ap all_tokens (append-nil v.closed)
           ∙ sym (append-nil (all_tokens v.closed)) ∙ sym (tokens-last v.closed (record { kind = kind; tokens = [] })))
       | Some p ↦ λ h. cc
@@ -110,10 +102,7 @@ left-opens kind v none =
 
 left-pushes : (t : Token) (v : PartsSoFar) → IsSome v.current
     → IsLeft (all_tokens (all_parts v) ++ t ∷ []) (all_tokens (all_parts (pushed t v)))
-left-pushes t v some =
-    (elim v.current as (λ o.
-    IsSome o
-    → IsLeft (all_tokens (v.closed ++ option_to_list o) ++ t ∷ [])
+left-pushes t v some = (elim v.current as (λ o. IsSome o → IsLeft (all_tokens (v.closed ++ option_to_list o) ++ t ∷ [])
     (all_tokens (v.closed ++ option_to_list (option_map (longer t) o)))) [
       | None ↦ λ h. cc
       | Some p ↦ λ h. left-equal (all_tokens (v.closed ++ p ∷ []) ++ t ∷ []) (all_tokens (v.closed ++ longer t p ∷ []))
@@ -122,32 +111,25 @@ left-pushes t v some =
     ]) some
 
 left-drops : (v : PartsSoFar) → IsLeft (all_tokens (all_parts v) ++ []) (all_tokens (all_parts (dropped v)))
-left-drops v =
-    elim v.current as (λ o.
-    IsLeft (all_tokens (v.closed ++ option_to_list o) ++ [])
+left-drops v = elim v.current as (λ o. IsLeft (all_tokens (v.closed ++ option_to_list o) ++ [])
     (all_tokens (v.closed ++ option_to_list (option_map without_layout o)))) [
       | None ↦ left-nothing (all_tokens (v.closed ++ []))
       | Some p ↦ left-last v.closed p (without_layout p) (left-dropped p)
     ]
 
 left-closes : (v : PartsSoFar) → IsLeft (all_tokens (all_parts v) ++ []) (all_tokens (all_parts (all_closed v)))
-left-closes v =
-    elim v.current as (λ o.
-    IsLeft (all_tokens (v.closed ++ option_to_list o) ++ [])
+left-closes v = elim v.current as (λ o. IsLeft (all_tokens (v.closed ++ option_to_list o) ++ [])
     (all_tokens ((v.closed ++ option_to_list (option_map at_close o)) ++ []))) [
-      | None ↦
-          subst (λ (ps : List Part). IsLeft (all_tokens (v.closed ++ []) ++ []) (all_tokens ps))
+      | None ↦ subst (λ (ps : List Part). IsLeft (all_tokens (v.closed ++ []) ++ []) (all_tokens ps))
           (sym (append-nil (v.closed ++ []))) (left-nothing (all_tokens (v.closed ++ [])))
-      | Some p ↦
-          subst (λ (ps : List Part). IsLeft (all_tokens (v.closed ++ p ∷ []) ++ []) (all_tokens ps))
+      | Some p ↦ subst (λ (ps : List Part). IsLeft (all_tokens (v.closed ++ p ∷ []) ++ []) (all_tokens ps))
           (sym (append-nil (v.closed ++ at_close p ∷ []))) (left-last v.closed p (at_close p) (left-closed p))
     ]
 
 left-step : (ts os fs us rs : List Token) → IsLeft (ts ++ os) us → IsLeft (us ++ fs) rs → IsLeft (ts ++ (os ++ fs)) rs
 left-step ts os fs us rs h g =
-    let first =
-    subst (λ (xs : List Token). IsLeft xs (us ++ fs)) (append_assoc ts os fs)
-    (left-more (ts ++ os) us fs fs h (left-same fs)) in
+    let first = subst (λ (xs : List Token). IsLeft xs (us ++ fs))
+    (append_assoc ts os fs) (left-more (ts ++ os) us fs fs h (left-same fs)) in
     left-then (ts ++ (os ++ fs)) (us ++ fs) rs first g
 
 abbrev tokens_of : Contents → List Token
@@ -156,28 +138,21 @@ tokens_of c = all_tokens (all_parts c.parts)
 left-calls : (c : Contents) (calls : List Call) → AreInPlace c calls
     → IsLeft (tokens_of c ++ filter_map token_in calls) (tokens_of (fold after c calls))
 left-calls c [] h = left-nothing (tokens_of c)
-left-calls c (Occurs o ∷ calls) h =
-    left-step (tokens_of c) [] (filter_map token_in calls) (tokens_of c)
-    (tokens_of (fold after (after c (Occurs o)) calls))
-    (left-nothing (tokens_of c)) (left-calls (after c (Occurs o)) calls h.1)
+left-calls c (Occurs o ∷ calls) h = left-step (tokens_of c) [] (filter_map token_in calls) (tokens_of c) (tokens_of
+    (fold after (after c (Occurs o)) calls)) (left-nothing (tokens_of c)) (left-calls (after c (Occurs o)) calls h.1)
 left-calls c (Opens kind ∷ calls) h =
-    left-step (tokens_of c) [] (filter_map token_in calls) (tokens_of (after c (Opens kind)))
-    (tokens_of (fold after (after c (Opens kind)) calls)) (left-opens kind c.parts h.0)
-    (left-calls (after c (Opens kind)) calls h.1)
+    left-step (tokens_of c) [] (filter_map token_in calls) (tokens_of (after c (Opens kind))) (tokens_of (fold after
+    (after c (Opens kind)) calls)) (left-opens kind c.parts h.0) (left-calls (after c (Opens kind)) calls h.1)
 left-calls c (Pushes t ∷ calls) h =
-    left-step (tokens_of c) (t ∷ []) (filter_map token_in calls)
-    (tokens_of (after c (Pushes t))) (tokens_of (fold after (after c (Pushes t)) calls))
-    (left-pushes t c.parts h.0) (left-calls (after c (Pushes t)) calls h.1)
-left-calls c (Drops ∷ calls) h =
-    left-step (tokens_of c) [] (filter_map token_in calls) (tokens_of (after c Drops))
+    left-step (tokens_of c) (t ∷ []) (filter_map token_in calls) (tokens_of (after c (Pushes t))) (tokens_of (fold after
+    (after c (Pushes t)) calls)) (left-pushes t c.parts h.0) (left-calls (after c (Pushes t)) calls h.1)
+left-calls c (Drops ∷ calls) h = left-step (tokens_of c) [] (filter_map token_in calls) (tokens_of (after c Drops))
     (tokens_of (fold after (after c Drops) calls)) (left-drops c.parts) (left-calls (after c Drops) calls h.1)
-left-calls c (Closes ∷ calls) h =
-    left-step (tokens_of c) [] (filter_map token_in calls) (tokens_of (after c Closes))
+left-calls c (Closes ∷ calls) h = left-step (tokens_of c) [] (filter_map token_in calls) (tokens_of (after c Closes))
     (tokens_of (fold after (after c Closes) calls)) (left-closes c.parts) (left-calls (after c Closes) calls h.1)
 left-calls c (Transliterates r ∷ calls) h =
-    left-step (tokens_of c) [] (filter_map token_in calls) (tokens_of c)
-    (tokens_of (fold after (after c (Transliterates r)) calls))
-    (left-nothing (tokens_of c)) (left-calls (after c (Transliterates r)) calls h.1)
+    left-step (tokens_of c) [] (filter_map token_in calls) (tokens_of c) (tokens_of (fold after (after c
+    (Transliterates r)) calls)) (left-nothing (tokens_of c)) (left-calls (after c (Transliterates r)) calls h.1)
 
 pub tokens_are_those_pushed : TokensAreThosePushed
 tokens_are_those_pushed calls h = left-calls empty calls h

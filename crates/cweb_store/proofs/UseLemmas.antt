@@ -8,8 +8,7 @@ use Rattle.cweb_store.proofs.RangeLemmas.{range-split, range-head, range-none}
 pub next-any : (test : Token → Bool) (ts : List Token) (part : Part) (next : ℕ) → IsNext test ts part next
     → nat_lt next part.after ≡ list_any test (slice_range ts part.first part.after)
 next-any test ts part next is =
-    let split =
-    ap (list_any test) (range-split ts part.first next part.after is.begins is.within)
+    let split = ap (list_any test) (range-split ts part.first next part.after is.begins is.within)
     ∙ list_any-append test (slice_range ts part.first next) (slice_range ts next part.after)
     ∙ ap (λ b. b || list_any test (slice_range ts next part.after)) is.before in
     (elim (nat_lt next part.after) as (λ b.
@@ -41,22 +40,18 @@ not-used rs ns (spec.Mark place) h = refl
 used-before : (rs : List Standing) (ns : List NameId) (ts us : List Token)
     → list_any is_name ts ≡ false → used_from rs ns (ts ++ us) ≡ used_from rs ns us
 used-before rs ns [] us h = refl
-used-before rs ns (t ∷ ts) us h =
-    (elim (is_name t) as (λ b.
-    is_name t ≡ b → (b || list_any is_name ts) ≡ false
+used-before rs ns (t ∷ ts) us h = (elim (is_name t) as (λ b. is_name t ≡ b → (b || list_any is_name ts) ≡ false
     → used_from rs (with_use rs ns t) (ts ++ us) ≡ used_from rs ns us) [
       | true ↦ λ e some. cc
-      | false ↦ λ e none.
-          ap (λ ms. used_from rs ms (ts ++ us)) (not-used rs ns t e) ∙ used-before rs ns ts us none
+      | false ↦ λ e none. ap (λ ms. used_from rs ms (ts ++ us)) (not-used rs ns t e) ∙ used-before rs ns ts us none
     ]) refl h
 
 -- what is used from the next use on is what is used
 pub used-from-next : (rs : List Standing) (ns : List NameId) (ts : List Token) (part : Part) (next : ℕ)
     → IsNext is_name ts part next
     → used_from rs ns (slice_range ts next part.after) ≡ used_from rs ns (slice_range ts part.first part.after)
-used-from-next rs ns ts part next is =
-    sym (ap (used_from rs ns) (range-split ts part.first next part.after is.begins is.within)
-    ∙ used-before rs ns (slice_range ts part.first next) (slice_range ts next part.after) is.before)
+used-from-next rs ns ts part next is = sym (ap (used_from rs ns) (range-split ts part.first next part.after is.begins
+    is.within) ∙ used-before rs ns (slice_range ts part.first next) (slice_range ts next part.after) is.before)
 
 -- a use is passed
 pub used-step : (rs : List Standing) (ns ms : List NameId) (ts : List Token) (part : Part) (i next : ℕ) (t : Token)

@@ -10,19 +10,16 @@ total-append f (x ∷ xs) ys = omega (arith, total-append f xs ys)
 -- a word is among words with one more where it is among them or is that one
 pub with-word-any : (q : List ℕ) (ws : List (List ℕ)) (w : List ℕ)
     → list_any (bytes_eq q) (with_word ws w) ≡ (list_any (bytes_eq q) ws || bytes_eq q w)
-with-word-any q ws w =
-    (elim (list_any (bytes_eq w) ws) as (λ b. list_any (bytes_eq w) ws ≡ b →
+with-word-any q ws w = (elim (list_any (bytes_eq w) ws) as (λ b. list_any (bytes_eq w) ws ≡ b →
     list_any (bytes_eq q) (if b then ws else ws ++ w ∷ []) ≡ (list_any (bytes_eq q) ws || bytes_eq q w)) [
-      | true ↦ λ h.
-          (elim (bytes_eq q w) as (λ b. bytes_eq q w ≡ b →
+      | true ↦ λ h. (elim (bytes_eq q w) as (λ b. bytes_eq q w ≡ b →
           list_any (bytes_eq q) ws ≡ (list_any (bytes_eq q) ws || b)) [
             | true ↦ λ e.
                 ap (λ v. list_any (bytes_eq v) ws) ((bytes_decides q w).0 e) ∙ h
                 ∙ sym (or-swap (list_any (bytes_eq q) ws) true)
             | false ↦ λ e. sym (or-swap (list_any (bytes_eq q) ws) false)
           ]) refl
-      | false ↦ λ h.
-          list_any-append (bytes_eq q) ws (w ∷ [])
+      | false ↦ λ h. list_any-append (bytes_eq q) ws (w ∷ [])
           ∙ ap (λ b. list_any (bytes_eq q) ws || b) (or-swap (bytes_eq q w) false)
     ]) refl
 
@@ -48,8 +45,7 @@ same-more ws vs (Mark place) same = same
 
 word-bytes : (ws : List (List ℕ)) (w : List ℕ)
     → total length (with_word ws w) ≡ total length ws + cond (list_any (bytes_eq w) ws) 0 (length w)
-word-bytes ws w =
-    elim (list_any (bytes_eq w) ws) as (λ b.
+word-bytes ws w = elim (list_any (bytes_eq w) ws) as (λ b.
     total length (if b then ws else ws ++ w ∷ []) ≡ total length ws + cond b 0 (length w)) [
       | true ↦ omega arith
       | false ↦ omega (arith, total-append length ws (w ∷ []))
@@ -118,14 +114,12 @@ same-words ts us same = sym (words-texts [] ts) ∙ ap words_of same ∙ words-t
 
 pub same-bytes : (ts us : List Token) → filter has_text ts ≡ filter has_text us
     → token_bytes_kept ts ≡ token_bytes_kept us
-same-bytes ts us same =
-    omega
+same-bytes ts us same = omega
     (arith, ap (total length) (same-words ts us same), other-texts ts, other-texts us, ap (total other_bytes) same)
 
 -- no more bytes are kept than were given
 word-few : (ws : List (List ℕ)) (b : List ℕ) → total length (with_word ws b) ≤ total length ws + length b
-word-few ws b =
-    elim (list_any (bytes_eq b) ws)
+word-few ws b = elim (list_any (bytes_eq b) ws)
     as (λ v. total length (if v then ws else ws ++ b ∷ []) ≤ total length ws + length b) [
       | true ↦ omega arith
       | false ↦ omega (arith, total-append length ws (b ∷ []))

@@ -19,8 +19,7 @@ pub log_all : (acts : List Act) (old new : Held) → Runs acts None old new
     → new.log ≡ old.log ++ flat_map line (items_in acts)
 log_all [] old new is = ap (λ (d : Held). d.log) is ∙ sym (append-nil old.log)
 log_all (judges ∷ acts) old new (inl run) = log_all acts old new run.1
-log_all (says item ∷ acts) old new (inl run) =
-    log_all acts (after_act (says item) old) new run.1
+log_all (says item ∷ acts) old new (inl run) = log_all acts (after_act (says item) old) new run.1
     ∙ append_assoc old.log (line item) (flat_map line (items_in acts))
 log_all (opens ∷ acts) old new (inl run) = log_all acts old new run.1
 log_all (reads names events ∷ acts) old new (inl run) = log_all acts old new run.1

@@ -59,8 +59,7 @@ closes_on xs ys due before mid after status first (halted why then does logs ans
 
 -- something stopped the first acts, and that was logged
 pub closes_in : (xs ys : List Act) (due : ℕ) (why : Ending) (before then after : SeenRun) (status : ℕ)
-    → Does xs (Some why) before then → ClosesLog why then after → status ≡ 1
-    → Closes (xs ++ ys) due before after status
+    → Does xs (Some why) before then → ClosesLog why then after → status ≡ 1 → Closes (xs ++ ys) due before after status
 closes_in xs ys due why before then after status does logs answered =
     halted why then (does_in xs ys why before then does) logs answered
 
@@ -160,8 +159,7 @@ pub bins_told : (now left : Held) (shelf : SeenShelf) (a d : SeenBins) (log : Se
     } → AsTold left (record { shelf = shelf; bins = d; log = log })
 bins_told now left shelf a d log change told tells beside count is =
     let first : IsTrue d.tells → IsTrue a.tells = λ tell. sym tells ∙ tell in
-    let same : IsTrue d.tells → change (beside_of now) ≡ d.beside = λ tell.
-    ap change (λ i.
+    let same : IsTrue d.tells → change (beside_of now) ≡ d.beside = λ tell. ap change (λ i.
     record {
       files = told.files (first tell) i;
       draft = told.draft (first tell) i;

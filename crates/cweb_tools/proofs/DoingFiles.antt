@@ -4,12 +4,10 @@ use Rattle.cweb_tools.proofs.Doing.{closes_on, closes_in, beside_of, bins_told}
 
 -- a file was begun, printed and committed
 pub file_done : (name text : List ℕ) (a b c d : SeenBins)
-    → b.tells ≡ a.tells → b.failed ≡ a.failed
-    → (IsTrue a.tells → b.beside ≡ with_draft name a.beside) → (IsTrue a.tells → b.bytes ≡ [])
-    → c.tells ≡ b.tells → c.failed ≡ b.failed → (IsTrue b.tells → c.beside ≡ b.beside)
-    → (IsTrue b.tells → c.bytes ≡ b.bytes ++ text)
-    → d.tells ≡ c.tells → d.failed ≡ c.failed → (IsTrue c.tells → d.beside ≡ committed c.beside c.bytes)
-    → DoesInBins (writes name text ∷ []) None a d
+    → b.tells ≡ a.tells → b.failed ≡ a.failed → (IsTrue a.tells → b.beside ≡ with_draft name a.beside)
+    → (IsTrue a.tells → b.bytes ≡ []) → c.tells ≡ b.tells → c.failed ≡ b.failed → (IsTrue b.tells → c.beside ≡ b.beside)
+    → (IsTrue b.tells → c.bytes ≡ b.bytes ++ text) → d.tells ≡ c.tells → d.failed ≡ c.failed
+    → (IsTrue c.tells → d.beside ≡ committed c.beside c.bytes) → DoesInBins (writes name text ∷ []) None a d
 file_done name text a b c d tells failed begun empty tells' failed' beside printed tells'' failed'' commits =
     λ shelf log. record {
       shelf_tells = refl;
@@ -23,14 +21,12 @@ file_done name text a b c d tells failed begun empty tells' failed' beside print
           let tell-b : IsTrue b.tells = tells ∙ tell in
           let tell-c : IsTrue c.tells = tells' ∙ tell-b in
           commits tell-c
-          ∙ (λ i.
-          committed ((beside tell-b ∙ begun tell) i)
-          ((printed tell-b ∙ ap (λ (t : List ℕ). t ++ text) (empty tell)) i)) in
+          ∙ (λ i. committed
+          ((beside tell-b ∙ begun tell) i) ((printed tell-b ∙ ap (λ (t : List ℕ). t ++ text) (empty tell)) i)) in
           record {
             left = after_act (writes name text) now;
-            told =
-                bins_told now _ shelf a d log (λ (b : Beside). committed (with_draft name b) text)
-                told (tells'' ∙ tells' ∙ tells) is
+            told = bins_told now _ shelf a d log
+                (λ (b : Beside). committed (with_draft name b) text) told (tells'' ∙ tells' ∙ tells) is
                 (told.bins_failed ∙ sym (failed'' ∙ failed' ∙ failed)) refl;
             runs = inl (tt, refl);
           };
@@ -57,8 +53,7 @@ file_failed name text stop leaves change a d tells failed no_read no_log beside 
   log = sym (add-zero log.failed) ∙ ap (λ (n : ℕ). log.failed + n) (sym no_log);
   runs = λ now told. record {
     left = leaves now;
-    told =
-        bins_told now (leaves now) shelf a d log change told tells beside
+    told = bins_told now (leaves now) shelf a d log change told tells beside
         (count now ∙ ap (λ (n : ℕ). n + bins_blame stop) told.bins_failed ∙ sym failed) (are now);
     runs = inr (breaks now);
   };
@@ -74,9 +69,8 @@ closes_told (Err e) acts due status old new does is one = λ shelf bins.
 -- the log failed, and so the run ends
 pub log_halts : (xs ys : List Act) (due status : ℕ) (old new : SeenStream)
     → DoesInLog xs (Some (ending LogFault [])) old new → status ≡ 1 → ClosesInLog (xs ++ ys) due old new status
-log_halts xs ys due status old new does one = λ shelf bins.
-    closes_in xs ys due (ending LogFault []) _ _ _ status (does shelf bins)
-    (record { shelf = refl; bins = refl; log = refl }) one
+log_halts xs ys due status old new does one = λ shelf bins. closes_in xs ys due
+    (ending LogFault []) _ _ _ status (does shelf bins) (record { shelf = refl; bins = refl; log = refl }) one
 
 pub log_halts_all : (acts : List Act) (due status : ℕ) (old new : SeenStream)
     → DoesInLog acts (Some (ending LogFault [])) old new → status ≡ 1 → ClosesInLog acts due old new status
@@ -148,14 +142,12 @@ memory_halts act acts due status bins old new breaks logs one = λ shelf.
     }) (record { shelf = refl; bins = refl; log = logs }) one
 
 -- what comes last, by equal numbers
-pub closing_on : (shown : Shown) (n n' : Numbers) (count count' : ℕ)
-    (missing missing' : Bool) (why : Option Ending) (old new : SeenStream)
-    → n ≡ n' → count ≡ count' → missing ≡ missing'
-    → DoesInLog (closing_acts shown n count missing) why old new
+pub closing_on : (shown : Shown)
+    (n n' : Numbers) (count count' : ℕ) (missing missing' : Bool) (why : Option Ending) (old new : SeenStream)
+    → n ≡ n' → count ≡ count' → missing ≡ missing' → DoesInLog (closing_acts shown n count missing) why old new
     → DoesInLog (closing_acts shown n' count' missing') why old new
-closing_on shown n n' count count' missing missing' why old new of_web of_faults of_text does =
-    subst (λ (acts : List Act). DoesInLog acts why old new)
-    (λ i. closing_acts shown (of_web i) (of_faults i) (of_text i)) does
+closing_on shown n n' count count' missing missing' why old new of_web of_faults of_text does = subst (λ (acts :
+    List Act). DoesInLog acts why old new) (λ i. closing_acts shown (of_web i) (of_faults i) (of_text i)) does
 
 -- a stop that isn't the log's doesn't raise its count
 pub not_of_log : (stop : Stop) → (stop ≡ LogFault → ⊥) → log_blame stop ≡ 0

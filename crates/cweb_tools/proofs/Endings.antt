@@ -29,8 +29,7 @@ does_all acts due old new status run answered =
 
 pub ends_so : (acts : List Act) (due : ℕ) (old new : Held) (status : ℕ)
     → TangleEnds acts due old new status → IsEnded acts due old new status
-ends_so acts due old new status (completes run answered) =
-    inl (does_all acts due old new status run answered)
+ends_so acts due old new status (completes run answered) = inl (does_all acts due old new status run answered)
 ends_so acts due old new status (stops (ending stop about) then run logs answered) =
     inr (stop, about, is_stopped acts stop about old then new run logs, answered)
 
@@ -67,9 +66,8 @@ cause_at act acts stop about old new broke = absurd broke
 cause_of : (acts : List Act) (stop : Stop) (about : List ℕ) (old new : Held)
     → Runs acts (Some (ending stop about)) old new → Cause stop (KeepLimits acts)
 cause_of [] stop about old new none = absurd none
-cause_of (act ∷ acts) stop about old new (inl run) =
-    cause_more stop (KeepLimits acts) (KeepLimits (act ∷ acts)) (λ all. all.1)
-    (cause_of acts stop about (after_act act old) new run.1)
+cause_of (act ∷ acts) stop about old new (inl run) = cause_more stop
+    (KeepLimits acts) (KeepLimits (act ∷ acts)) (λ all. all.1) (cause_of acts stop about (after_act act old) new run.1)
 cause_of (act ∷ acts) stop about old new (inr here) = cause_at act acts stop about old new here
 
 -- a run that something stopped did not run freely
@@ -87,9 +85,8 @@ not_free acts stop about old new cause is free = absurd cause
 pub ends_freely : (acts : List Act) (due : ℕ) (old new : Held) (status : ℕ)
     → TangleEnds acts due old new status → RunsFreely acts old new → DoesAll acts due old new status
 ends_freely acts due old new status (completes run answered) free = does_all acts due old new status run answered
-ends_freely acts due old new status (stops (ending stop about) then run logs answered) free =
-    absurd (not_free acts stop about old new (cause_of acts stop about old then run)
-    (is_stopped acts stop about old then new run logs) free)
+ends_freely acts due old new status (stops (ending stop about) then run logs answered) free = absurd (not_free acts
+    stop about old new (cause_of acts stop about old then run) (is_stopped acts stop about old then new run logs) free)
 
 pub ends_within : (acts : List Act) (due : ℕ) (old new : Held) (status : ℕ)
     → TangleEnds acts due old new status → ¬ KeepLimits acts → status ≡ 1

@@ -18,8 +18,7 @@ some_none names is = cc
 
 -- why a merge could not begin
 start_cause : (world : World) (names : WebNames) (found : Option Found) (changes : Option (Option Found)) (stop : Stop)
-    → StopsAtStart stop found changes
-    → CanStop stop (found_course world names found changes)
+    → StopsAtStart stop found changes → CanStop stop (found_course world names found changes)
 start_cause world names None changes WebNotOpened why = tt
 start_cause world names (Some web) changes WebNotOpened why = absurd (cc)
 start_cause world names None changes ChangeNotOpened why = absurd (cc)
@@ -50,9 +49,8 @@ module _ (before after : Seen) (status : ℕ) (read : after.shelf.failed ≡ bef
       record { read = read; printed = out_count; written = out_bytes; logged = logs; answered = answered }
   refused stop is logs = absurd (cc)
 
-  not_begun : (names : WebNames) (course : Course) (stop : Stop) → Comes stop
-      → files_named stop ≤ 0 → read_blame stop ≡ 0 → write_blame stop ≡ 0
-      → blame [] stop ≡ [] → (IsTrue before.shelf.tells → CanStop stop course)
+  not_begun : (names : WebNames) (course : Course) (stop : Stop) → Comes stop → files_named stop ≤ 0 → read_blame stop
+      ≡ 0 → write_blame stop ≡ 0 → blame [] stop ≡ [] → (IsTrue before.shelf.tells → CanStop stop course)
       → Logs (stop_line stop (about names [] stop)) before.log after.log → Merges names course before after status
   not_begun names course stop comes named no_read no_write none cause logs = stops (record {
     stop = stop;
@@ -62,11 +60,9 @@ module _ (before after : Seen) (status : ℕ) (read : after.shelf.failed ≡ bef
     named = named;
     opened = λ tells. none_opened course;
     blames = record { shelf = omega (arith, read, no_read); out = omega (arith, out_count, no_write) };
-    blamed = λ tells.
-        blamed tells ∙ sym (append-nil before.shelf.blamed)
+    blamed = λ tells. blamed tells ∙ sym (append-nil before.shelf.blamed)
         ∙ ap (λ (ns : List (List ℕ)). before.shelf.blamed ++ ns) (sym none);
-    written = λ tells told.
-        subst (λ (bytes : List ℕ). WritesFront before.out.bytes bytes (merged course))
+    written = λ tells told. subst (λ (bytes : List ℕ). WritesFront before.out.bytes bytes (merged course))
         (sym out_bytes) (none_written before.out.bytes (merged course));
     logged = logs;
     answered = answered;
@@ -74,31 +70,26 @@ module _ (before after : Seen) (status : ℕ) (read : after.shelf.failed ≡ bef
 
   out_of_memory : (names : WebNames) (course : Course) (stop : Stop) → stop ≡ Memory
       → Logs (stop_line stop usage) before.log after.log → Merges names course before after status
-  out_of_memory names course stop is logs =
-      not_begun names course Memory tt (omega arith) refl refl refl (λ tells. tt)
-      (subst (λ (s : Stop). Logs (stop_line s usage) before.log after.log) is logs)
+  out_of_memory names course stop is logs = not_begun names course Memory tt (omega arith) refl refl refl
+      (λ tells. tt) (subst (λ (s : Stop). Logs (stop_line s usage) before.log after.log) is logs)
 
   -- the words can't be read, or memory was wanting for their names
   pub words_stopped : (world : World) (asked : Option WebNames) (stop : Stop) → (stop ≡ Usage) ⊎ (stop ≡ Memory)
       → (stop ≡ Usage → asked ≡ None) → (asked ≡ None → stop ≡ Usage) → Logs (stop_line stop usage) before.log after.log
       → Ends world asked before after status
   words_stopped world None stop why none_by is_usage logs = refused stop (is_usage refl) logs
-  words_stopped world (Some names) stop why none_by is_usage logs =
-      out_of_memory names (asked_course world (Some names)) stop
-      (elim why [ inl is ↦ absurd (some_none names (none_by is)) | inr is ↦ is ]) logs
+  words_stopped world (Some names) stop why none_by is_usage logs = out_of_memory names (asked_course world
+      (Some names)) stop (elim why [ inl is ↦ absurd (some_none names (none_by is)) | inr is ↦ is ]) logs
 
   -- a merge could not begin
-  pub start_stopped : (world : World) (names : WebNames) (found : Option Found)
-      (changes : Option (Option Found)) (stop : Stop) → StartStops stop
-      → (IsTrue before.shelf.tells → StopsAtStart stop found changes)
+  pub start_stopped : (world : World) (names : WebNames) (found : Option Found) (changes : Option (Option Found))
+      (stop : Stop) → StartStops stop → (IsTrue before.shelf.tells → StopsAtStart stop found changes)
       → Logs (stop_line stop (start_subject names.web (change_name names.change) stop)) before.log after.log
       → Merges names (found_course world names found changes) before after status
-  start_stopped world names found changes WebNotOpened comes why logs =
-      not_begun names _ WebNotOpened tt (omega arith) refl refl refl
-      (λ tells. start_cause world names found changes WebNotOpened (why tells)) logs
-  start_stopped world names found changes ChangeNotOpened comes why logs =
-      not_begun names _ ChangeNotOpened tt (omega arith) refl refl refl
-      (λ tells. start_cause world names found changes ChangeNotOpened (why tells)) logs
+  start_stopped world names found changes WebNotOpened comes why logs = not_begun names _ WebNotOpened tt
+      (omega arith) refl refl refl (λ tells. start_cause world names found changes WebNotOpened (why tells)) logs
+  start_stopped world names found changes ChangeNotOpened comes why logs = not_begun names _ ChangeNotOpened tt
+      (omega arith) refl refl refl (λ tells. start_cause world names found changes ChangeNotOpened (why tells)) logs
   start_stopped world names found changes Memory comes why logs =
       not_begun names _ Memory tt (omega arith) refl refl refl (λ tells. tt) logs
   start_stopped world names found changes stop comes why logs = absurd comes
@@ -142,8 +133,7 @@ module _ (first : List (List ℕ)) (all : List Event) (old new : SoFar)
 
 -- with one more line than was taken a sum would pass its limit, and that line is among all
 pub passes_sums : (first : List (List ℕ)) (old : SoFar) (now : Count) (lines : List Line) (events : List Event)
-    → old ≡ begun_with first
-    → StopsBehind lines TooMuchText old.count now events → PassesSums events
+    → old ≡ begun_with first → StopsBehind lines TooMuchText old.count now events → PassesSums events
 passes_sums first old now lines events began ahead =
     let no_lines : old.count.lines ≡ 0 = ap (λ (s : SoFar). s.count.lines) began in
     let no_bytes : old.count.bytes ≡ 0 = ap (λ (s : SoFar). s.count.bytes) began in
@@ -152,10 +142,9 @@ passes_sums first old now lines events began ahead =
       | inr bytes ↦ inr (omega (arith, bytes, ahead.small, no_bytes))
     ]
 
-pub writing_cause : (stop : Stop) (first : List (List ℕ)) (old : SoFar)
-    (now : Count) (events : List Event) (Wrote : List ℕ → Type 0) → old ≡ begun_with first → WritingStops stop
-    → StopsWriting stop old.count now events Wrote
-    → CanStop stop (merging first events)
+pub writing_cause : (stop : Stop) (first : List (List ℕ))
+    (old : SoFar) (now : Count) (events : List Event) (Wrote : List ℕ → Type 0) → old ≡ begun_with first
+    → WritingStops stop → StopsWriting stop old.count now events Wrote → CanStop stop (merging first events)
 writing_cause (ReadFault file) first old now events Wrote began kind why = tt
 writing_cause (LineTooLong file) first old now events Wrote began kind why =
     record {

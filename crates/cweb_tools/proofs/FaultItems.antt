@@ -22,13 +22,10 @@ all_counted files faults made =
     all_count (scan_item files) made.faults (λ x. refl) in
     let last : fault_count (name_items made.store) ≡ length names =
     all_count (name_item made.store.occurrences) names (λ x. refl) in
-    sum_by-append (λ (item : Item). cond (is_fault item) 1 0) (map (source_item files) faults)
-    (scan_items files made.faults ++ name_items made.store)
-    ∙ (λ i.
-    first i
-    + (sum_by-append (λ (item : Item). cond (is_fault item) 1 0)
-    (scan_items files made.faults) (name_items made.store) ∙ (λ j. next j + last j))
-    i)
+    sum_by-append (λ (item : Item). cond (is_fault item) 1 0)
+    (map (source_item files) faults) (scan_items files made.faults ++ name_items made.store)
+    ∙ (λ i. first i + (sum_by-append (λ (item : Item). cond (is_fault item) 1 0)
+    (scan_items files made.faults) (name_items made.store) ∙ (λ j. next j + last j)) i)
 
 -- all of them count
 pub counted_all : (files : List (List ℕ)) (faults : List SourceFault) (made : Scanned)
@@ -66,8 +63,7 @@ pub writes_on : {A E B F : Type 0} (x : A) (r : Result B F) (a b : List ℕ) (ol
 writes_on x (Ok y) a b old mid new first then = record {
   tells = then.tells ∙ first.tells;
   counts = then.counts ∙ first.counts;
-  whole = λ tells.
-      then.whole (subst IsTrue (sym first.tells) tells)
+  whole = λ tells. then.whole (subst IsTrue (sym first.tells) tells)
       ∙ ap (λ (t : List ℕ). t ++ b) (first.whole tells) ∙ append_assoc old.bytes a b;
   front = λ tells. tt;
 }
@@ -78,8 +74,7 @@ writes_on x (Err e) a b old mid new first then = record {
   front = λ tells. let front = then.front (subst IsTrue (sym first.tells) tells) in record {
     front = a ++ front.front;
     rest = front.rest;
-    written =
-        front.written ∙ ap (λ (t : List ℕ). t ++ front.front) (first.whole tells)
+    written = front.written ∙ ap (λ (t : List ℕ). t ++ front.front) (first.whole tells)
         ∙ append_assoc old.bytes a front.front;
     whole = ap (λ (t : List ℕ). a ++ t) front.whole ∙ sym (append_assoc a front.front front.rest);
   };
@@ -103,8 +98,7 @@ writes_in e (Err f) a b old new fails is = record {
 -- the line of a fault of a file is that of its item
 end_text : (kind : SourceKind) (count : ℕ)
     → kind_text kind ++ count_end kind count ≡ counted_text kind count ++ codes "\n"
-end_text Unequal count =
-    sym (append_assoc (kind_text Unequal) (codes ": " ++ decimal count) (codes "\n")
+end_text Unequal count = sym (append_assoc (kind_text Unequal) (codes ": " ++ decimal count) (codes "\n")
     ∙ ap (λ (t : List ℕ). kind_text Unequal ++ t) (append_assoc (codes ": ") (decimal count) (codes "\n")))
 end_text kind count = refl
 
@@ -119,14 +113,12 @@ same_lines files (met ∷ faults) = λ i. same_line files met i ++ same_lines fi
 
 -- the lines of all faults of a web are those of its files, of its text and of its names
 pub fault_text : (files : List (List ℕ)) (faults : List SourceFault) (made : Scanned)
-    → flat_map line (fault_items files faults made)
-    ≡ fault_lines files faults
-    ++ (flat_map line (scan_items files made.faults) ++ flat_map line (name_items made.store))
+    → flat_map line (fault_items files faults made) ≡
+    fault_lines files faults ++ (flat_map line (scan_items files made.faults) ++ flat_map line (name_items made.store))
 fault_text files faults made =
     flat_map-append line (map (source_item files) faults) (scan_items files made.faults ++ name_items made.store)
     ∙ (λ i.
-    sym (same_lines files faults) i
-    ++ flat_map-append line (scan_items files made.faults) (name_items made.store) i)
+    sym (same_lines files faults) i ++ flat_map-append line (scan_items files made.faults) (name_items made.store) i)
 
 -- how many parts are macros
 numbers_counted : (test : PartKind → Bool) (parts : List Part) (n : ℕ)
@@ -134,14 +126,10 @@ numbers_counted : (test : PartKind → Bool) (parts : List Part) (n : ℕ)
 numbers_counted test [] n = refl
 numbers_counted test (p ∷ parts) n =
     let rest : length (numbers_from test (n + length p.tokens) parts)
-    ≡ count_by (λ (part : Part). test part.kind) parts =
-    numbers_counted test parts (n + length p.tokens) in
+    ≡ count_by (λ (part : Part). test part.kind) parts = numbers_counted test parts (n + length p.tokens) in
     let split = sum_by-cons (λ (part : Part). cond (test part.kind) 1 0) p parts in
-    (elim (test p.kind) as (λ b.
-    length (cond b
-    ((record { first = n; after = n + length p.tokens })
-    ∷ numbers_from test (n + length p.tokens) parts)
-    (numbers_from test (n + length p.tokens) parts))
+    (elim (test p.kind) as (λ b. length (cond b ((record { first = n; after = n + length p.tokens }) ∷ numbers_from test
+    (n + length p.tokens) parts) (numbers_from test (n + length p.tokens) parts))
     ≡ cond b 1 0 + count_by (λ (part : Part). test part.kind) parts) [
       | true ↦ omega (arith, rest)
       | false ↦ omega (arith, rest)

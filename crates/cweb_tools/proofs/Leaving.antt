@@ -155,8 +155,7 @@ files_in-closing shown numbers count missing =
     ∙ files_in-when shown.closing _ []
 
 refused_files : (shown : Shown) (names : List (List ℕ)) (events : List Event) (web : Web) (text : List ℕ)
-    → web.plan ≡ refused text
-    → files_in (script shown (tangling names events web)) ≡ []
+    → web.plan ≡ refused text → files_in (script shown (tangling names events web)) ≡ []
 refused_files shown names events web text is =
     files_in-when shown.banner _ _ ∙ files_in-starred shown.progress web.starred _ ∙ files_in-said web.faults _
     ∙ ap (λ (plan : Planning). files_in (planned_acts shown web.numbers (fault_count web.faults) plan)) is
@@ -171,10 +170,8 @@ none_due due old new none leaves = nothing leaves.done leaves.undone (sym none �
     nothing (file ∷ done) undone whole is = cc
 
 pub refused_stays : (shown : Shown) (names : List (List ℕ)) (events : List Event) (web : Web) (text : List ℕ)
-    → web.plan ≡ refused text
-    → (due : ℕ) (old new : Held) (status : ℕ)
+    → web.plan ≡ refused text → (due : ℕ) (old new : Held) (status : ℕ)
     → TangleEnds (script shown (tangling names events web)) due old new status → new.files ≡ old.files
 refused_stays shown names events web text is due old new status ends =
-    none_due (tangle_files shown (tangling names events web)) old.files
-    new.files (refused_files shown names events web text is)
-    (ends_files (script shown (tangling names events web)) due old new status ends)
+    none_due (tangle_files shown (tangling names events web)) old.files new.files (refused_files shown
+    names events web text is) (ends_files (script shown (tangling names events web)) due old new status ends)

@@ -19,9 +19,8 @@ cuts (x ∷ a) b (y ∷ front) rest is =
 
 -- a front of the lines of items was logged, and the log failed: at one of the items, with those before it logged
 front_stops : (item : Item) (items : List Item) (front rest : List ℕ) (old : Held)
-    → flat_map line (item ∷ items) ≡ front ++ rest
-    → Runs (map says (item ∷ items)) (Some (ending LogFault [])) old
-    (record old { log_failed = old.log_failed + 1; log = old.log ++ front })
+    → flat_map line (item ∷ items) ≡ front ++ rest → Runs (map says (item ∷ items))
+    (Some (ending LogFault [])) old (record old { log_failed = old.log_failed + 1; log = old.log ++ front })
 front_stops item [] front rest old is =
     inr (record { front = front; rest = rest; whole = sym (append-nil (line item)) ∙ is; is = refl })
 front_stops item (next ∷ items) front rest old is =
@@ -29,10 +28,8 @@ front_stops item (next ∷ items) front rest old is =
       | inl cut ↦ inr (record { front = front; rest = cut.0; whole = cut.1; is = refl })
       | inr cut ↦ inl (
         tt,
-        subst
-            (λ (t : List ℕ).
-            Runs (map says (next ∷ items)) (Some (ending LogFault [])) (after_act (says item) old)
-            (record old { log_failed = old.log_failed + 1; log = t }))
+        subst (λ (t : List ℕ). Runs (map says (next ∷ items)) (Some (ending LogFault []))
+            (after_act (says item) old) (record old { log_failed = old.log_failed + 1; log = t }))
             (append_assoc old.log (line item) cut.0 ∙ ap (λ (t : List ℕ). old.log ++ t) (sym cut.1))
             (front_stops next items cut.0 rest (after_act (says item) old) cut.2),
       )
@@ -44,8 +41,7 @@ all_said : (items : List Item) (old : Held)
 all_said [] old = λ i. record old { log = append-nil old.log i }
 all_said (item ∷ items) old = inl (
   tt,
-  subst
-      (λ (t : List ℕ). Runs (map says items) None (after_act (says item) old) (record old { log = t }))
+  subst (λ (t : List ℕ). Runs (map says items) None (after_act (says item) old) (record old { log = t }))
       (append_assoc old.log (line item) (flat_map line items))
       (all_said items (after_act (says item) old)),
 )
@@ -69,9 +65,8 @@ front_told false old new text writes = record { front = []; rest = text; whole =
 
 -- what the devices hold where the log alone has changed
 pub log_told : (now left : Held) (shelf : SeenShelf) (bins : SeenBins) (old new : SeenStream)
-    → AsTold now (at shelf bins old)
-    → left ≡ record now { log_failed = left.log_failed; log = left.log } → left.log_failed ≡ new.failed
-    → (IsTrue new.tells → left.log ≡ new.bytes) → AsTold left (at shelf bins new)
+    → AsTold now (at shelf bins old) → left ≡ record now { log_failed = left.log_failed; log = left.log }
+    → left.log_failed ≡ new.failed → (IsTrue new.tells → left.log ≡ new.bytes) → AsTold left (at shelf bins new)
 log_told now left shelf bins old new told is count bytes = record {
   shelf_failed = ap (λ (h : Held). h.shelf_failed) is ∙ told.shelf_failed;
   bins_failed = ap (λ (h : Held). h.bins_failed) is ∙ told.bins_failed;
@@ -85,8 +80,7 @@ log_told now left shelf bins old new told is count bytes = record {
 
 -- writing the lines of items, of which there are some, is logging them
 pub said_all : {A E : Type 0} (r : Result A E) (item : Item) (items : List Item) (old new : SeenStream)
-    → Writes (flat_map line (item ∷ items)) old new r
-    → DoesInLog (map says (item ∷ items)) (told r) old new
+    → Writes (flat_map line (item ∷ items)) old new r → DoesInLog (map says (item ∷ items)) (told r) old new
 said_all (Ok x) item items old new writes = λ shelf bins. record {
   shelf_tells = refl;
   bins_tells = refl;
@@ -96,8 +90,7 @@ said_all (Ok x) item items old new writes = λ shelf bins. record {
   log = writes.counts ∙ sym (add-zero old.failed);
   runs = λ now told. let text : List ℕ = flat_map line (item ∷ items) in record {
     left = record now { log = now.log ++ text };
-    told = log_told now _ shelf bins old new told refl (told.log_failed ∙ sym writes.counts)
-        (λ tell.
+    told = log_told now _ shelf bins old new told refl (told.log_failed ∙ sym writes.counts) (λ tell.
         let first : IsTrue old.tells = sym writes.tells ∙ tell in
         ap (λ (t : List ℕ). t ++ text) (told.log first) ∙ sym (writes.whole first));
     runs = all_said (item ∷ items) now;
@@ -133,8 +126,7 @@ said_none stream = λ shelf bins. does_none (at shelf bins stream)
 
 -- a line that is asked for
 pub said_when : {A E : Type 0} (r : Result A E) (asked : Bool) (item : Item) (old new : SeenStream)
-    → asked ≡ true → Writes (line item) old new r
-    → DoesInLog (when asked item) (told r) old new
+    → asked ≡ true → Writes (line item) old new r → DoesInLog (when asked item) (told r) old new
 said_when r true item old new is writes = said r item old new writes
 said_when r false item old new is writes = absurd (cc)
 

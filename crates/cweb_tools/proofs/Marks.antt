@@ -27,9 +27,8 @@ module _ (P : Token → Type 0) where
 
   some_parts : (test : PartKind → Bool) (ps : List Part) → All P (all_tokens ps) → All P (parts.joined test ps)
   some_parts test [] all = All-nil P
-  some_parts test (p ∷ ps) all =
-      kept (test p.kind) p _ (all_front P p.tokens (all_tokens ps) all)
-      (some_parts test ps (all_back P p.tokens (all_tokens ps) all))
+  some_parts test (p ∷ ps) all = kept (test p.kind) p _
+      (all_front P p.tokens (all_tokens ps) all) (some_parts test ps (all_back P p.tokens (all_tokens ps) all))
 
   module _ (w : Stored) (all : All P (all_tokens w.parts)) where
     for_all : (text : NameId → List Token) → ((n : NameId) → All P (text n))
@@ -44,24 +43,21 @@ module _ (P : Token → Type 0) where
     all_put : (text : NameId → List Token) → ((n : NameId) → All P (text n))
         → (ts : List Token) → All P ts → All P (flat_map (put w text) ts)
     all_put text texts [] holds = All-nil P
-    all_put text texts (t ∷ ts) holds =
-        All-append P (put w text t) (flat_map (put w text) ts)
+    all_put text texts (t ∷ ts) holds = All-append P (put w text t) (flat_map (put w text) ts)
         (put_all text texts t (All-head P t ts holds)) (all_put text texts ts (All-tail P t ts holds))
 
     text_all : (k : ℕ) (n : NameId) → All P (name_text w k n)
     text_all zero n = All-nil P
-    text_all (suc k) n =
-        all_put (name_text w k) (text_all k) (joined w n)
-        (some_parts (is_of (spec.standings w.occurrences) n) w.parts all)
+    text_all (suc k) n = all_put
+        (name_text w k) (text_all k) (joined w n) (some_parts (is_of (spec.standings w.occurrences) n) w.parts all)
 
     first_all : P Defs → (b : Bool) → All P (defs_first b)
     first_all defs true = All-cons P Defs [] defs (All-nil P)
     first_all defs false = All-nil P
 
     root_all : P Defs → (root : Option NameId) → All P (root_list w root)
-    root_all defs None =
-        All-append P (defs_first (not (parts.has_defs_code w.parts))) (program w)
-        (first_all defs (not (parts.has_defs_code w.parts))) (some_parts is_unnamed w.parts all)
+    root_all defs None = All-append P (defs_first (not (parts.has_defs_code w.parts)))
+        (program w) (first_all defs (not (parts.has_defs_code w.parts))) (some_parts is_unnamed w.parts all)
     root_all defs (Some n) = some_parts (is_of (spec.standings w.occurrences) n) w.parts all
 
     pub expansion_all : P Defs → (root : Option NameId) → All P (expand w (names w) (root_list w root))

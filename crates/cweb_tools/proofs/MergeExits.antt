@@ -16,17 +16,13 @@ module _ (world : World) (names : WebNames) (found : Option Found) (changes : Op
   printed_all tells = ap merged (sym (begun tells))
 
   pub completed : (new : SoFar) (files : List (List ℕ)) (faults : List SourceFault)
-      → files ≡ new.names → faults ≡ new.faults
-      → (IsTrue before.shelf.tells → Gives (given_lines all) old new all [])
-      → new.count.lines ≤ LINES → new.count.bytes ≤ BYTES
-      → after.shelf.failed ≡ before.shelf.failed
-      → (IsTrue before.shelf.tells → after.shelf.blamed ≡ before.shelf.blamed) → after.out.failed ≡ before.out.failed
-      → (IsTrue before.shelf.tells → IsTrue before.out.tells
-      → after.out.bytes ≡ before.out.bytes ++ text_of (given_lines all))
-      → Logs (fault_lines files faults) before.log after.log
-      → (after.log.failed ≡ before.log.failed → status ≡ fault_status faults)
-      → (after.log.failed ≢ before.log.failed → status ≡ 1)
-      → Merges names (found_course world names found changes) before after status
+      → files ≡ new.names → faults ≡ new.faults → (IsTrue before.shelf.tells → Gives (given_lines all) old new all [])
+      → new.count.lines ≤ LINES → new.count.bytes ≤ BYTES → after.shelf.failed ≡ before.shelf.failed
+      → (IsTrue before.shelf.tells → after.shelf.blamed ≡ before.shelf.blamed)
+      → after.out.failed ≡ before.out.failed → (IsTrue before.shelf.tells → IsTrue before.out.tells → after.out.bytes
+      ≡ before.out.bytes ++ text_of (given_lines all)) → Logs (fault_lines files faults) before.log after.log
+      → (after.log.failed ≡ before.log.failed → status ≡ fault_status faults) → (after.log.failed ≢ before.log.failed
+      → status ≡ 1) → Merges names (found_course world names found changes) before after status
   completed new files faults files_are faults_are gives few small read none out written logs answered failed =
       completes (record {
         files = files;
@@ -46,35 +42,28 @@ module _ (world : World) (names : WebNames) (found : Option Found) (changes : Op
         failed = failed;
       })
 
-  pub stopped : (stop : Stop) (new : SoFar) (files : List (List ℕ)) (Wrote : List ℕ → Type 0)
-      → files ≡ new.names → WritingStops stop
-      → (IsTrue before.shelf.tells → StopsWriting stop old.count new.count all Wrote)
-      → files_named stop ≤ length new.names → (IsTrue before.shelf.tells → TellsFront old new all)
-      → after.shelf.failed ≡ before.shelf.failed + read_blame stop
-      → (IsTrue before.shelf.tells → after.shelf.blamed ≡ before.shelf.blamed ++ blame new.names stop)
-      → after.out.failed ≡ before.out.failed + write_blame stop
-      → (IsTrue before.shelf.tells → IsTrue before.out.tells
-      → WritesFront before.out.bytes after.out.bytes (text_of (given_lines all)))
-      → Logs (stop_line stop (subject files stop)) before.log after.log → status ≡ 1
-      → Merges names (found_course world names found changes) before after status
+  pub stopped : (stop : Stop) (new : SoFar) (files : List (List ℕ)) (Wrote : List ℕ → Type 0) → files ≡ new.names
+      → WritingStops stop → (IsTrue before.shelf.tells → StopsWriting stop old.count new.count all Wrote)
+      → files_named stop ≤ length new.names → (IsTrue before.shelf.tells → TellsFront old new all) → after.shelf.failed
+      ≡ before.shelf.failed + read_blame stop → (IsTrue before.shelf.tells → after.shelf.blamed ≡ before.shelf.blamed
+      ++ blame new.names stop) → after.out.failed ≡ before.out.failed + write_blame stop → (IsTrue before.shelf.tells
+      → IsTrue before.out.tells → WritesFront before.out.bytes after.out.bytes (text_of (given_lines all)))
+      → Logs (stop_line stop (subject files stop)) before.log after.log
+      → status ≡ 1 → Merges names (found_course world names found changes) before after status
   stopped stop new files Wrote files_are kind why named front read whose out written logs answered = stops (record {
     stop = stop;
     comes = writing_comes stop kind;
-    cause = λ tells.
-        subst (λ (course : Course). CanStop stop course) (sym (begun tells))
+    cause = λ tells. subst (λ (course : Course). CanStop stop course) (sym (begun tells))
         (writing_cause stop _ old new.count all Wrote (begins tells).so_far_is kind (why tells));
     files = files;
     named = rw files_are named;
-    opened = λ tells.
-        subst (λ (course : Course). AreOpened files course) (sym (begun tells))
+    opened = λ tells. subst (λ (course : Course). AreOpened files course) (sym (begun tells))
         (opened_by _ old new all (begins tells).so_far_is (front tells) files files_are);
     blames = record { shelf = read; out = out };
     blamed = λ tells. whose tells ∙ ap (λ (ns : List (List ℕ)). before.shelf.blamed ++ blame ns stop) (sym files_are);
-    written = λ tells told.
-        subst (λ (text : List ℕ). WritesFront before.out.bytes after.out.bytes text)
+    written = λ tells told. subst (λ (text : List ℕ). WritesFront before.out.bytes after.out.bytes text)
         (printed_all tells) (written tells told);
-    logged =
-        subst (λ (name : List ℕ). Logs (stop_line stop name) before.log after.log)
+    logged = subst (λ (name : List ℕ). Logs (stop_line stop name) before.log after.log)
         (writing_about names files stop kind) logs;
     answered = answered;
   })

@@ -7,8 +7,7 @@ module _ {X : Type 0} (file : X → File) (progress : Bool) where
   acts xs = outputs_acts progress (map file xs)
 
   joined : (xs ys : List X) → acts (xs ++ ys) ≡ acts xs ++ acts ys
-  joined xs ys =
-      ap (outputs_acts progress) (map-append file xs ys)
+  joined xs ys = ap (outputs_acts progress) (map-append file xs ys)
       ∙ flat_map-append (output_acts progress) (map file xs) (map file ys)
 
   -- the acts of the outputs before one, of that one, and of those behind it

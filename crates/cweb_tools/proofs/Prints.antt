@@ -6,23 +6,20 @@ use Rattle.cweb_tools.proofs.Marks.{all_back, mark_named}
 use Rattle.cweb_tools.proofs.Readies.{stays_on}
 
 -- the marks of what is left are named where those of all were
-pub next_named : {W : Type 0} {sink : Sink W} {files : List (List ℕ)} {first now : Expander}
-    {printer : Printer} {old new : W} {gathered : List ℕ}
-    (so_far : PrintsSoFar sink files first now printer old new gathered)
-    (t : Token) (rest : List Token) → All (IsMarkBelow (length files)) (left_in first)
-    → left_in now ≡ t ∷ rest → IsNamed (setting_of printer) t
+pub next_named : {W : Type 0}
+    {sink : Sink W} {files : List (List ℕ)} {first now : Expander} {printer : Printer} {old new : W} {gathered : List ℕ}
+    (so_far : PrintsSoFar sink files first now printer old new gathered) (t : Token) (rest : List Token)
+    → All (IsMarkBelow (length files)) (left_in first) → left_in now ≡ t ∷ rest → IsNamed (setting_of printer) t
 next_named {files = files} {first = first} {now = now} so_far t rest all gives =
-    let behind : All (IsMarkBelow (length files)) (left_in now) =
-    all_back (IsMarkBelow (length files)) so_far.done (left_in now)
-    (subst (All (IsMarkBelow (length files))) so_far.whole all) in
+    let behind : All (IsMarkBelow (length files)) (left_in now) = all_back (IsMarkBelow (length files)) so_far.done
+    (left_in now) (subst (All (IsMarkBelow (length files))) so_far.whole all) in
     let here : IsMarkBelow (length files) t =
     All-head (IsMarkBelow (length files)) t rest (subst (All (IsMarkBelow (length files))) gives behind) in
     subst (λ (s : Setting). IsNamed s t) (sym so_far.setting_is) (mark_named (setting first.store.now files) t here)
 
 -- what is written and gathered, with what was added to it
-more_written : (old new new' : List ℕ) (s s' : Setting) (done more : List Token) → s ≡ s'
-    → new ≡ old ++ print s' done → Adds (print s done) (print s (done ++ more)) new new'
-    → new' ≡ old ++ print s' (done ++ more)
+more_written : (old new new' : List ℕ) (s s' : Setting) (done more : List Token) → s ≡ s' → new ≡ old ++ print s' done
+    → Adds (print s done) (print s (done ++ more)) new new' → new' ≡ old ++ print s' (done ++ more)
 more_written old new new' s s' done more same written adds =
     adds.written
     ∙ ap (λ (b : List ℕ). b ++ adds.bytes) (written ∙ ap (λ (s : Setting). old ++ print s done) (sym same))
@@ -45,16 +42,14 @@ prints_front {sink = sink} {files = files} {first = first} {mid = mid} {printer 
       failed = so_far.failed;
       beside = so_far.beside;
       done = so_far.done ++ front.done;
-      whole =
-          so_far.whole
+      whole = so_far.whole
           ∙ ap (λ (ts : List Token). so_far.done ++ ts)
           (front.whole ∙ ap (λ (s : Bor Stored). front.done ++ left s.now now.frames.items) (sym ready.store))
           ∙ sym (append_assoc so_far.done front.done (left_in now));
       kept = front.moves so_far.done so_far.kept;
-      written = λ told.
-          more_written (sink.written old) (sink.written new ++ gathered) (sink.written new ++ gathered')
-          (setting_of printer) (setting first.store.now files) so_far.done front.done so_far.setting_is
-          (so_far.written told)
+      written = λ told. more_written
+          (sink.written old) (sink.written new ++ gathered) (sink.written new ++ gathered') (setting_of printer)
+          (setting first.store.now files) so_far.done front.done so_far.setting_is (so_far.written told)
           (adds_behind (sink.written new) gathered gathered' (front.prints so_far.done so_far.kept));
     }
   where
@@ -70,14 +65,11 @@ prints_front {sink = sink} {files = files} {first = first} {mid = mid} {printer 
 pub prints_more : {W : Type 0} (sink : Sink W) (files : List (List ℕ))
     (first mid now : Expander) (printer printer' : Printer) (old new new' : W) (gathered gathered' : List ℕ) (t : Token)
     → PrintsSoFar sink files first mid printer old new gathered → StaysReady mid now
-    → left_in mid ≡ t ∷ left mid.store.now now.frames.items
-    → setting_of printer' ≡ setting_of printer → Moves (kept_of printer) t (kept_of printer')
-    → sink.tells new' ≡ sink.tells new → sink.failed new' ≡ sink.failed new
-    → (IsTrue (sink.tells new) → sink.beside new' ≡ sink.beside new)
-    → (IsTrue (sink.tells new)
-    → Prints {A = Unit {0}} {E = Unit {0}} printer t
-    (sink.written new ++ gathered) (sink.written new' ++ gathered') (Ok tt))
-    → PrintsSoFar sink files first now printer' old new' gathered'
+    → left_in mid ≡ t ∷ left mid.store.now now.frames.items → setting_of printer' ≡ setting_of printer
+    → Moves (kept_of printer) t (kept_of printer') → sink.tells new' ≡ sink.tells new
+    → sink.failed new' ≡ sink.failed new → (IsTrue (sink.tells new) → sink.beside new' ≡ sink.beside new)
+    → (IsTrue (sink.tells new) → Prints {A = Unit {0}} {E = Unit {0}} printer t (sink.written new ++ gathered)
+    (sink.written new' ++ gathered') (Ok tt)) → PrintsSoFar sink files first now printer' old new' gathered'
 prints_more sink files first mid now printer printer' old new new' gathered gathered'
     t so_far ready gives same moves tells failed beside prints =
     let tell : IsTrue (sink.tells old) → IsTrue (sink.tells new) = λ told. subst IsTrue (sym so_far.tells) told in
@@ -88,14 +80,12 @@ prints_more sink files first mid now printer printer' old new new' gathered gath
       failed = failed ∙ so_far.failed;
       beside = λ told. beside (tell told) ∙ so_far.beside told;
       done = so_far.done ++ t ∷ [];
-      whole =
-          so_far.whole
+      whole = so_far.whole
           ∙ ap (λ (ts : List Token). so_far.done ++ ts)
           (gives ∙ ap (λ (s : Bor Stored). t ∷ left s.now now.frames.items) (sym ready.store))
           ∙ sym (append_assoc so_far.done (t ∷ []) (left_in now));
       kept = moves so_far.done so_far.kept;
-      written = λ told.
-          more_written (sink.written old) (sink.written new ++ gathered) (sink.written new' ++ gathered')
+      written = λ told. more_written (sink.written old) (sink.written new ++ gathered) (sink.written new' ++ gathered')
           (setting_of printer) (setting first.store.now files) so_far.done (t ∷ []) so_far.setting_is
           (so_far.written told) (prints (tell told) so_far.done so_far.kept);
     }

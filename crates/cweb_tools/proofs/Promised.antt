@@ -25,8 +25,7 @@ line_once old mid new is (inr rose) = inr (omega (arith, is, rose))
 
 -- the log fails at an item or at the line of the stop, not at both
 log_once : (stop : Stop) (about : List ℕ) (old : ℕ) (then after : SeenRun)
-    → then.log.failed ≡ old + log_blame stop → ClosesLog (ending stop about)
-    then after → RisesOnce old after.log.failed
+    → then.log.failed ≡ old + log_blame stop → ClosesLog (ending stop about) then after → RisesOnce old after.log.failed
 log_once LogFault about old then after failed logs = inr (ap (λ (l : SeenStream). l.failed) logs.log ∙ failed)
 log_once Usage about old then after failed logs = line_once old then.log.failed after.log.failed failed logs.log.once
 log_once WebNotOpened about old then after failed logs =
@@ -53,11 +52,9 @@ fail_once acts due before after status (done does answered) = record {
   log = inl (does.log ∙ add-zero before.log.failed);
 }
 fail_once acts due before after status (halted (ending stop about) then does logs answered) = record {
-  shelf =
-      blamed_once before.shelf.failed after.shelf.failed (read_blame stop)
+  shelf = blamed_once before.shelf.failed after.shelf.failed (read_blame stop)
       (ap (λ (s : SeenShelf). s.failed) logs.shelf ∙ does.shelf) (read_once stop);
-  bins =
-      blamed_once before.bins.failed after.bins.failed (bins_blame stop)
+  bins = blamed_once before.bins.failed after.bins.failed (bins_blame stop)
       (ap (λ (b : SeenBins). b.failed) logs.bins ∙ does.bins) (bins_once stop);
   log = log_once stop about before.log.failed then after does.log logs;
 }
@@ -106,9 +103,8 @@ log_ends acts due before after status new told tells (inl all) = said (sym (told
 log_ends acts due before after status new told tells (inr why) =
     let log = why.2.log in
     let text : List ℕ = flat_map line log.before ++ stop_line why.0 why.1 in
-    cut why.0 why.1 log.before log.later log.whole
-    (subst (λ (bytes : List ℕ). WritesFront before.log.bytes bytes text) (told.log tells) log.front)
-    (λ same. sym (told.log tells) ∙ log.all (told.log_failed ∙ same)) why.3
+    cut why.0 why.1 log.before log.later log.whole (subst (λ (bytes : List ℕ). WritesFront before.log.bytes bytes text)
+    (told.log tells) log.front) (λ same. sym (told.log tells) ∙ log.all (told.log_failed ∙ same)) why.3
 
 -- a run whose acts are those of its script keeps all promises
 pub promised : (world : World) (asked : Option Asked) (before after : SeenRun) (status : ℕ)
@@ -130,8 +126,7 @@ promised world asked before after status follows =
       can = follows.can;
       is = follows.is;
       telling = tells;
-      logged = λ tell.
-          log_ends acts due before after status all.new all.told
+      logged = λ tell. log_ends acts due before after status all.new all.told
           (log_tells acts due before after status follows.closes ∙ tell) all.run.ended;
       filed = λ tell. subst (λ (files : List File). LeavesFiles (files_in acts) before.bins.beside.files files)
           (all.told.files (bins_tell acts due before after status follows.closes ∙ tell)) all.run.files;

@@ -11,34 +11,25 @@ record LineLeft (text : List ℕ) (now : Held) (after : SeenRun) : Type 0 where
 -- the other devices were left alone
 beside_told : (left : Held) (then after : SeenRun) → after.shelf ≡ then.shelf
     → after.bins ≡ then.bins → AsTold left (at then.shelf then.bins after.log) → AsTold left after
-beside_told left then after shelf bins told =
-    subst (λ (b : SeenBins). AsTold left (at after.shelf b after.log)) (sym bins)
-    (subst (λ (s : SeenShelf). AsTold left (at s then.bins after.log)) (sym shelf) told)
+beside_told left then after shelf bins told = subst (λ (b : SeenBins). AsTold left (at after.shelf b after.log))
+    (sym bins) (subst (λ (s : SeenShelf). AsTold left (at s then.bins after.log)) (sym shelf) told)
 
 -- a line was logged behind a run
 line_left : (text : List ℕ) (then after : SeenRun) → after.shelf ≡ then.shelf
-    → after.bins ≡ then.bins → Logs text then.log after.log → (now : Held) → AsTold now
-    then → LineLeft text now after
+    → after.bins ≡ then.bins → Logs text then.log after.log → (now : Held) → AsTold now then → LineLeft text now after
 line_left text then after shelf bins logs now told = elim logs.once [
   | inl kept ↦ record {
     left = record now { log = now.log ++ text };
-    told =
-        beside_told _
-        then after shelf bins
-        (log_told now _ then.shelf then.bins then.log after.log told refl (told.log_failed ∙ sym kept)
-        (λ tell.
+    told = beside_told _ then after shelf bins
+        (log_told now _ then.shelf then.bins then.log after.log told refl (told.log_failed ∙ sym kept) (λ tell.
         let first : IsTrue then.log.tells = sym logs.tells ∙ tell in
         ap (λ (t : List ℕ). t ++ text) (told.log first) ∙ sym (logs.whole first kept)));
     is = inl refl;
   }
   | inr rose ↦ let front = front_told then.log.tells then.log.bytes after.log.bytes text logs.front in record {
     left = record now { log_failed = now.log_failed + 1; log = now.log ++ front.front };
-    told =
-        beside_told _
-        then after shelf bins
-        (log_told now _ then.shelf then.bins then.log after.log told
-        refl (ap (λ (n : ℕ). n + 1) told.log_failed ∙ sym rose)
-        (λ tell.
+    told = beside_told _ then after shelf bins (log_told now _ then.shelf then.bins then.log after.log told refl
+        (ap (λ (n : ℕ). n + 1) told.log_failed ∙ sym rose) (λ tell.
         let first : IsTrue then.log.tells = sym logs.tells ∙ tell in
         ap (λ (t : List ℕ). t ++ front.front) (told.log first) ∙ sym (front.written first)));
     is = inr (record { front = front.front; rest = front.rest; whole = front.whole; is = refl });
@@ -52,21 +43,17 @@ pub record EndsTold (acts : List Act) (due : ℕ) (now : Held) (after : SeenRun)
   pub ends : TangleEnds acts due now left status
 
 line_ends : (stop : Stop) (about : List ℕ) (acts : List Act) (due : ℕ) (first now : Held) (after : SeenRun) (status : ℕ)
-    → Runs acts (Some (ending stop about)) first now → status ≡ 1
-    → (line : LineLeft (stop_line stop about) now after)
+    → Runs acts (Some (ending stop about)) first now → status ≡ 1 → (line : LineLeft (stop_line stop about) now after)
     → LogsStop (ending stop about) now line.left → EndsTold acts due first after status
 line_ends stop about acts due first now after status runs answered line logs =
     record { left = line.left; told = line.told; ends = stops (ending stop about) now runs logs answered }
 
-stop_ends : (stop : Stop) (about : List ℕ) (acts : List Act) (due : ℕ)
-    (first now : Held) (then after : SeenRun) (status : ℕ)
-    → Runs acts (Some (ending stop about)) first now → AsTold now then
-    → ClosesLog (ending stop about) then after → status ≡ 1 → EndsTold acts due first after status
+stop_ends : (stop : Stop) (about : List ℕ) (acts : List Act)
+    (due : ℕ) (first now : Held) (then after : SeenRun) (status : ℕ) → Runs acts (Some (ending stop about)) first now
+    → AsTold now then → ClosesLog (ending stop about) then after → status ≡ 1 → EndsTold acts due first after status
 stop_ends LogFault about acts due first now then after status runs told logs answered = record {
   left = now;
-  told =
-      beside_told now
-      then after logs.shelf logs.bins
+  told = beside_told now then after logs.shelf logs.bins
       (subst (λ (l : SeenStream). AsTold now (at then.shelf then.bins l)) (sym logs.log) told);
   ends = stops (ending LogFault about) now runs refl answered;
 }

@@ -34,11 +34,10 @@ module _ (world : World) (names : WebNames) (before after : Seen) (status : ℕ)
 
   -- a run that did not run freely but for its words and files
   freely_stopped : (found : Option Found) (changes : Option (Option Found)) (stop : Stop) (files : List (List ℕ))
-      → CanStop stop (found_course world names found changes)
-      → Blames stop before after → Logs (stop_line stop (about names files stop)) before.log after.log
-      → WritesFront before.out.bytes after.out.bytes (merged (found_course world names found changes)) → status ≡ 1
-      → RanFreely (found_course world names found changes) before after
-      → IsMerge (found_course world names found changes) before after status
+      → CanStop stop (found_course world names found changes) → Blames stop before after → Logs
+      (stop_line stop (about names files stop)) before.log after.log → WritesFront before.out.bytes after.out.bytes
+      (merged (found_course world names found changes)) → status ≡ 1 → RanFreely (found_course world
+      names found changes) before after → IsMerge (found_course world names found changes) before after status
   freely_stopped None changes WebNotOpened files cause blames logs front answered free =
       record { written = front_of_nothing _ _ front; logged = logs.whole tell.2 free.told; answered = answered }
   freely_stopped (Some web) None ChangeNotOpened files cause blames logs front answered free =
@@ -64,26 +63,22 @@ module _ (world : World) (names : WebNames) (before after : Seen) (status : ℕ)
       → RanFreely course before after → IsMerge course before after status
   freely_ended course found changes is (completes whole) free = freely_merged course whole (whole.all tell.0) free
   freely_ended course found changes is (stops stop) free =
-      subst (λ (c : Course). IsMerge c before after status) (sym is)
-      (freely_stopped found changes stop.stop stop.files
+      subst (λ (c : Course). IsMerge c before after status) (sym is) (freely_stopped found changes stop.stop stop.files
       (subst (λ (c : Course). CanStop stop.stop c) is (stop.cause tell.0)) stop.blames stop.logged
-      (subst (λ (c : Course). WritesFront before.out.bytes after.out.bytes (merged c))
-      is (stop.written tell.0 tell.1))
+      (subst (λ (c : Course). WritesFront before.out.bytes after.out.bytes (merged c)) is (stop.written tell.0 tell.1))
       stop.answered (subst (λ (c : Course). RanFreely c before after) is free))
 
 ran_freely : (world : World) (asked : Option WebNames) (before after : Seen) (status : ℕ)
-    → Ends world asked before after status
-    → Tell before → RanFreely (asked_course world asked) before after
-    → IsMerge (asked_course world asked) before after status
+    → Ends world asked before after status → Tell before
+    → RanFreely (asked_course world asked) before after → IsMerge (asked_course world asked) before after status
 ran_freely world None before after status ends tell free =
     record {
       written = ends.written ∙ sym (append-nil before.out.bytes);
       logged = ends.logged.whole tell.2 free.told;
       answered = ends.answered;
     }
-ran_freely world (Some names) before after status ends tell free =
-    freely_ended world names before after status tell _ (web_at world.texts names.web names.second)
-    (change_at world.texts names.change) refl ends free
+ran_freely world (Some names) before after status ends tell free = freely_ended world names before after status tell _
+    (web_at world.texts names.web names.second) (change_at world.texts names.change) refl ends free
 
 stays_within : (course : Course) (files : List (List ℕ)) (faults : List SourceFault)
     → HasMerged course files faults → StaysWithin course

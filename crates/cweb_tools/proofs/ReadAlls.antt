@@ -104,24 +104,21 @@ reads_none-planned : (shown : Shown) (numbers : Numbers) (count : ℕ) (plan : P
     → ReadsNone (planned_acts shown numbers count plan)
 reads_none-planned shown numbers count (refused text) = reads_none-closing shown numbers (count + 1) false
 reads_none-planned shown numbers count (planned files missing) =
-    reads_none-append (when missing _) _ (reads_none-when missing _)
-    (reads_none-append (outputs_acts shown.progress files) _
-    (reads_none-outputs shown.progress files) (reads_none-closing shown numbers count missing))
+    reads_none-append (when missing _) _ (reads_none-when missing _) (reads_none-append (outputs_acts shown.progress
+    files) _ (reads_none-outputs shown.progress files) (reads_none-closing shown numbers count missing))
 
 pub reads_none-web : (shown : Shown) (web : Web) → ReadsNone (web_acts shown web)
-reads_none-web shown web =
-    reads_none-append (starred_acts shown.progress web.starred) _ (reads_none-starred shown.progress web.starred)
-    (reads_none-append (map says web.faults) _ (reads_none-said web.faults)
-    (reads_none-planned shown web.numbers (fault_count web.faults) web.plan))
+reads_none-web shown web = reads_none-append (starred_acts shown.progress web.starred) _
+    (reads_none-starred shown.progress web.starred) (reads_none-append (map says web.faults) _
+    (reads_none-said web.faults) (reads_none-planned shown web.numbers (fault_count web.faults) web.plan))
 
 -- a script reads nothing once a file is written
 pub script_reads_first : (shown : Shown) (course : TangleCourse) → ReadsFirst (script shown course)
 script_reads_first shown unread = tt
 script_reads_first shown (not_there web) = reads_first-when shown.banner _ (opens ∷ says _ ∷ []) tt
 script_reads_first shown (change_not_there change) = reads_first-when shown.banner _ (opens ∷ says _ ∷ []) tt
-script_reads_first shown (tangling files events web) =
-    reads_first-when shown.banner _ (opens ∷ reads files events ∷ web_acts shown web)
-    (reads_first (web_acts shown web) (reads_none-web shown web))
+script_reads_first shown (tangling files events web) = reads_first-when shown.banner _
+    (opens ∷ reads files events ∷ web_acts shown web) (reads_first (web_acts shown web) (reads_none-web shown web))
 
 all_read : (acts : List Act) (stop : Stop) (about : List ℕ) (old new : Held) → ReadsFirst acts
     → Runs acts (Some (ending stop about)) old new → new.files ≢ old.files → ReadAll acts old new
@@ -193,7 +190,6 @@ ends_read shown course due old new status (completes run answered) changed =
       within = limits_all (script shown course) old new run;
     }
 ends_read shown course due old new status (stops (ending stop about) then run logs answered) changed =
-    let rest : ReadAll (script shown course) old then =
-    all_read (script shown course) stop about old
-    then (script_reads_first shown course) run (λ same. changed (stop_files stop about then new logs ∙ same)) in
+    let rest : ReadAll (script shown course) old then = all_read (script shown course) stop about old then
+    (script_reads_first shown course) run (λ same. changed (stop_files stop about then new logs ∙ same)) in
     record { shelf = stop_shelf stop about then new logs ∙ rest.shelf; within = rest.within }

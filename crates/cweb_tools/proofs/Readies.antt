@@ -14,9 +14,8 @@ pub file_on : (files : FileNames) (a b : Expander) (n : ℕ) → StaysReady a b 
 file_on files a b n on = λ i. output_file (on.store i).now (names_of files) (output_at (on.plan i).now.outputs n)
 
 -- the marks of an output are about files with names
-pub root_known : (files : FileNames) (e : Expander) (n : ℕ) → AreMarksBelow files e
-    → All (IsMarkBelow (length (names_of files)))
-    (expand e.store.now (names e.store.now) (root_list e.store.now (root_at e.plan.now.outputs n)))
+pub root_known : (files : FileNames) (e : Expander) (n : ℕ) → AreMarksBelow files e → All (IsMarkBelow (length
+    (names_of files))) (expand e.store.now (names e.store.now) (root_list e.store.now (root_at e.plan.now.outputs n)))
 root_known files e n known =
     expansion_all (IsMarkBelow (length (names_of files))) e.store.now known tt (root_at e.plan.now.outputs n)
 
@@ -24,8 +23,7 @@ pub left_known : (files : FileNames) (a b : Expander) (n : ℕ) → AreMarksBelo
     → left a.store.now b.frames.items
     ≡ expand a.store.now (names a.store.now) (root_list a.store.now (root_at a.plan.now.outputs n))
     → All (IsMarkBelow (length (names_of files))) (left_in b)
-left_known files a b n known same gives =
-    subst (All (IsMarkBelow (length (names_of files))))
+left_known files a b n known same gives = subst (All (IsMarkBelow (length (names_of files))))
     (sym (ap (λ (s : Bor Stored). left s.now b.frames.items) same ∙ gives)) (root_known files a n known)
 
 -- what is printed of the tokens of an output is its file
@@ -41,26 +39,16 @@ pub output_on : {A : Type 0} (progress : Bool) (files : FileNames) (a b : Expand
     (n : ℕ) (r : Result A Stop) (x y : SeenBins) (k l : SeenStream) → StaysReady a b
     → DoesInBoth (output_acts progress (file_at files b n)) (ended (name_of b.plan.now.outputs n) r) x y k l
     → DoesInBoth (output_acts progress (file_at files a n)) (ended (name_of a.plan.now.outputs n) r) x y k l
-output_on progress files a b n r x y k l on does =
-    subst (λ (f : File). DoesInBoth (output_acts progress f) (ended (name_of a.plan.now.outputs n) r) x y k l)
-    (file_on files a b n on)
-    (subst (λ (p : Bor Planned).
-    DoesInBoth (output_acts progress (file_at files b n)) (ended (name_of p.now.outputs n) r) x y k l)
-    on.plan does)
+output_on progress files a b n r x y k l on does = subst (λ (f : File). DoesInBoth (output_acts progress f)
+    (ended (name_of a.plan.now.outputs n) r) x y k l) (file_on files a b n on) (subst (λ (p : Bor Planned).
+    DoesInBoth (output_acts progress (file_at files b n)) (ended (name_of p.now.outputs n) r) x y k l) on.plan does)
 
 -- the acts of all outputs are those of the store and the plan that the expander was made for
 pub all_on : {A : Type 0} (progress : Bool) (files : FileNames) (e : Expander) (store : Stored)
-    (plan : Planned) (r : Result A Failed) (x y : SeenBins) (k l : SeenStream)
-    → e.store.now ≡ store → e.plan.now ≡ plan
-    → DoesInBoth (outputs_acts progress (files_due files e)) (ended_at e.plan.now.outputs r) x y k l
-    → DoesInBoth (outputs_acts progress (map (output_file store (names_of files)) plan.outputs))
-    (ended_at plan.outputs r) x y k l
+    (plan : Planned) (r : Result A Failed) (x y : SeenBins) (k l : SeenStream) → e.store.now ≡ store → e.plan.now ≡ plan
+    → DoesInBoth (outputs_acts progress (files_due files e)) (ended_at e.plan.now.outputs r) x y k l → DoesInBoth
+    (outputs_acts progress (map (output_file store (names_of files)) plan.outputs)) (ended_at plan.outputs r) x y k l
 all_on progress files e store plan r x y k l of_store of_plan does =
-    subst (λ (p : Planned).
-    DoesInBoth (outputs_acts progress (map (output_file store (names_of files)) p.outputs))
-    (ended_at p.outputs r) x y k l)
-    of_plan
-    (subst (λ (w : Stored).
-    DoesInBoth (outputs_acts progress (map (output_file w (names_of files)) e.plan.now.outputs))
-    (ended_at e.plan.now.outputs r) x y k l)
-    of_store does)
+    subst (λ (p : Planned). DoesInBoth (outputs_acts progress (map (output_file store (names_of files)) p.outputs))
+    (ended_at p.outputs r) x y k l) of_plan (subst (λ (w : Stored). DoesInBoth (outputs_acts progress
+    (map (output_file w (names_of files)) e.plan.now.outputs)) (ended_at e.plan.now.outputs r) x y k l) of_store does)

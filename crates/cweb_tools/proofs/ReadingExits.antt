@@ -19,11 +19,9 @@ module _ (asked : Asked) (world : World) (found : Option Found) (changes : Optio
 
   -- files were opened, and reading them broke: those that were opened by then are named
   breaks_so : (stop : Stop) (opened files : List (List ℕ)) (events : List Event) (acts : List Act) → StopsReading stop
-      → shelf'.failed ≡ shelf.failed + read_blame stop
-      → (IsTrue shelf.tells → shelf'.blamed ≡ shelf.blamed ++ blame opened stop)
-      → ((now : Held)
-      → Breaks (reads files events) (ending stop (subject opened stop)) now (left_by stop (subject opened stop) now))
-      → Does (opens ∷ reads files events ∷ acts)
+      → shelf'.failed ≡ shelf.failed + read_blame stop → (IsTrue shelf.tells → shelf'.blamed ≡ shelf.blamed
+      ++ blame opened stop) → ((now : Held) → Breaks (reads files events) (ending stop (subject opened stop)) now
+      (left_by stop (subject opened stop) now)) → Does (opens ∷ reads files events ∷ acts)
       (Some (ending stop (subject opened stop))) (at shelf bins l) (at shelf' bins l)
   breaks_so stop opened files events acts kind failed blamed breaks = record {
     shelf_tells = tells;
@@ -43,17 +41,15 @@ module _ (asked : Asked) (world : World) (found : Option Found) (changes : Optio
       → StopsReading stop → Logs (stop_line stop about) l l' → status ≡ 1
       → Does (course_acts asked.shown course) (Some (ending stop about)) (at shelf bins l) (at shelf' bins l)
       → Closes (course_acts asked.shown course) (course_status course) (at shelf bins l) (at shelf' bins l') status
-  halts stop about l' course kind logs answered does =
-      halted (ending stop about) (at shelf' bins l) does
+  halts stop about l' course kind logs answered does = halted (ending stop about) (at shelf' bins l) does
       (record { shelf = refl; bins = refl; log = reading_ends stop about l l' kind logs }) answered
 
   -- reading ended before its end
-  pub read_stops : (stop : Stop) (opened : List (List ℕ)) (l' : SeenStream) → opened ≡ new.names
-      → StopsReading stop → (IsTrue shelf.tells → EndsEarly stop old new all)
-      → shelf'.failed ≡ shelf.failed + read_blame stop
+  pub read_stops : (stop : Stop) (opened : List (List ℕ)) (l' : SeenStream) → opened ≡ new.names → StopsReading stop
+      → (IsTrue shelf.tells → EndsEarly stop old new all) → shelf'.failed ≡ shelf.failed + read_blame stop
       → (IsTrue shelf.tells → shelf'.blamed ≡ shelf.blamed ++ blame new.names stop)
-      → files_named stop ≤ length new.names → Logs (stop_line stop (subject opened stop)) l l' → status ≡ 1
-      → EndsAs asked (tangled asked.names.main merged) (at shelf bins l) (at shelf' bins l') status
+      → files_named stop ≤ length new.names → Logs (stop_line stop (subject opened stop)) l l'
+      → status ≡ 1 → EndsAs asked (tangled asked.names.main merged) (at shelf bins l) (at shelf' bins l') status
   read_stops stop opened l' opened_are kind why failed blamed named logs answered =
       let whose : IsTrue shelf.tells → shelf'.blamed ≡ shelf.blamed ++ blame opened stop = λ tell.
       blamed tell ∙ ap (λ (ns : List (List ℕ)). shelf.blamed ++ blame ns stop) (sym opened_are) in
@@ -66,13 +62,9 @@ module _ (asked : Asked) (world : World) (found : Option Found) (changes : Optio
               can = can_come asked world found changes;
               is = λ tell. refl;
               closes = halts stop (subject opened stop) l' (tangled asked.names.main merged) kind logs answered
-                  (subst (λ (c : Course).
-                  Does (course_acts asked.shown (tangled asked.names.main c))
-                  (Some (ending stop (subject opened stop))) (at shelf bins l) (at shelf' bins l))
-                  (sym (begun told))
-                  (breaks_so stop opened _ all _ kind failed whose
-                  (λ now.
-                  reads_broke stop _ opened front.0 old new.count all now
+                  (subst (λ (c : Course). Does (course_acts asked.shown (tangled asked.names.main c)) (Some (ending stop
+                  (subject opened stop))) (at shelf bins l) (at shelf' bins l)) (sym (begun told)) (breaks_so stop
+                  opened _ all _ kind failed whose (λ now. reads_broke stop _ opened front.0 old new.count all now
                   (begins told).so_far_is kind (why told).why front.1 known)));
             }
         | inr silent ↦
@@ -106,10 +98,9 @@ module _ (asked : Asked) (world : World) (found : Option Found) (changes : Optio
   }
 
   -- and the run went on with what it holds
-  pub read_whole : (files : List (List ℕ)) (faults : List SourceFault) (made : Scanned) (after : SeenRun)
-      → files ≡ new.names → faults ≡ new.faults → (IsTrue shelf.tells → Scans made old new all)
-      → new.count.lines ≤ LINES → new.count.bytes ≤ BYTES → shelf'.failed ≡ shelf.failed
-      → (IsTrue shelf.tells → shelf'.blamed ≡ shelf.blamed)
+  pub read_whole : (files : List (List ℕ)) (faults : List SourceFault) (made : Scanned) (after : SeenRun) → files
+      ≡ new.names → faults ≡ new.faults → (IsTrue shelf.tells → Scans made old new all) → new.count.lines ≤ LINES
+      → new.count.bytes ≤ BYTES → shelf'.failed ≡ shelf.failed → (IsTrue shelf.tells → shelf'.blamed ≡ shelf.blamed)
       → Closes (web_acts asked.shown (web_of files faults made asked.names.main))
       (web_status (web_of files faults made asked.names.main)) (at shelf' bins l) after status
       → EndsAs asked (tangled asked.names.main merged) (at shelf bins l) after status
@@ -118,9 +109,8 @@ module _ (asked : Asked) (world : World) (found : Option Found) (changes : Optio
       let web = web_of files faults made main in
       let goes_on : (events : List Event) → IsWithinLimits (taken_lines events)
       → Closes (course_acts asked.shown (tangling files events web)) (web_status web) (at shelf bins l) after status =
-      λ events within.
-      closes_on (opens ∷ reads files events ∷ []) (web_acts asked.shown web) (web_status web) (at shelf bins l)
-      (at shelf' bins l) after status (reads_so files events within failed blamed) closes in
+      λ events within. closes_on (opens ∷ reads files events ∷ []) (web_acts asked.shown web) (web_status web)
+      (at shelf bins l) (at shelf' bins l) after status (reads_so files events within failed blamed) closes in
       elim (either shelf.tells) [
         | inl told ↦
             let first = (begins told).name ∷ names_found (begins told).change in
@@ -132,8 +122,7 @@ module _ (asked : Asked) (world : World) (found : Option Found) (changes : Optio
             let of_text : made ≡ scanned (given_lines all) = (scans told).made in record {
               taken = tangling files all web;
               can = record { faults = faults; made = made; is = refl };
-              is = λ tell.
-                  (λ i. tangling (of_files i) all (web_of (of_files i) (of_faults i) (of_text i) main))
+              is = λ tell. (λ i. tangling (of_files i) all (web_of (of_files i) (of_faults i) (of_text i) main))
                   ∙ ap (λ (c : Course). tangled main c) (sym (begun told));
               closes = goes_on all (limits_kept _ all old new (begins told).so_far_is gives few small);
             }

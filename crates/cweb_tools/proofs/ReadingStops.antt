@@ -9,8 +9,7 @@ of_file : (files opened rest : List (List ℕ)) (file : ℕ) → files ≡ opene
     → file + 1 ≤ length opened → IsOfFile files file (name_at opened file)
 of_file files opened rest file are known = record {
   known = subst (λ (ns : List (List ℕ)). file < length ns) (sym are) (omega (arith, known, length-append opened rest));
-  named =
-      sym (get_or-append opened rest [] file (omega (arith, known)))
+  named = sym (get_or-append opened rest [] file (omega (arith, known)))
       ∙ ap (λ (ns : List (List ℕ)). name_at ns file) (sym are);
 }
 
@@ -27,34 +26,27 @@ abbrev pub left_by : Stop → List ℕ → Held → Held
 left_by (ReadFault file) about now = read_fails about now
 left_by stop about now = now
 
-pub left_told : (stop : Stop) (files : List (List ℕ)) (now : Held)
-    (shelf shelf' : SeenShelf) (bins : SeenBins) (l : SeenStream) → StopsReading stop → AsTold now (at shelf bins l)
-    → shelf'.tells ≡ shelf.tells → shelf'.failed ≡ shelf.failed + read_blame stop
-    → (IsTrue shelf.tells → shelf'.blamed ≡ shelf.blamed ++ blame files stop)
+pub left_told : (stop : Stop) (files : List (List ℕ)) (now : Held) (shelf shelf' : SeenShelf) (bins : SeenBins)
+    (l : SeenStream) → StopsReading stop → AsTold now (at shelf bins l) → shelf'.tells ≡ shelf.tells → shelf'.failed
+    ≡ shelf.failed + read_blame stop → (IsTrue shelf.tells → shelf'.blamed ≡ shelf.blamed ++ blame files stop)
     → AsTold (left_by stop (subject files stop) now) (at shelf' bins l)
 left_told (ReadFault file) files now shelf shelf' bins l kind told tells blames blamed =
-    shelf_told now _ shelf shelf' bins l told refl (ap (λ (n : ℕ). n + 1) told.shelf_failed ∙ sym blames)
-    (λ tell.
+    shelf_told now _ shelf shelf' bins l told refl (ap (λ (n : ℕ). n + 1) told.shelf_failed ∙ sym blames) (λ tell.
     let first : IsTrue shelf.tells = sym tells ∙ tell in
     ap (λ (names : List (List ℕ)). names ++ name_at files file.0 ∷ []) (told.blamed first) ∙ sym (blamed first))
-left_told (LineTooLong file) files now shelf shelf' bins l kind told tells blames blamed =
-    left_quiet now shelf shelf' bins l told tells (blames ∙ add-zero shelf.failed)
-    (λ tell. blamed tell ∙ append-nil shelf.blamed)
-left_told TooMuchText files now shelf shelf' bins l kind told tells blames blamed =
-    left_quiet now shelf shelf' bins l told tells (blames ∙ add-zero shelf.failed)
-    (λ tell. blamed tell ∙ append-nil shelf.blamed)
-left_told Memory files now shelf shelf' bins l kind told tells blames blamed =
-    left_quiet now shelf shelf' bins l told tells (blames ∙ add-zero shelf.failed)
-    (λ tell. blamed tell ∙ append-nil shelf.blamed)
+left_told (LineTooLong file) files now shelf shelf' bins l kind told tells blames blamed = left_quiet
+    now shelf shelf' bins l told tells (blames ∙ add-zero shelf.failed) (λ tell. blamed tell ∙ append-nil shelf.blamed)
+left_told TooMuchText files now shelf shelf' bins l kind told tells blames blamed = left_quiet
+    now shelf shelf' bins l told tells (blames ∙ add-zero shelf.failed) (λ tell. blamed tell ∙ append-nil shelf.blamed)
+left_told Memory files now shelf shelf' bins l kind told tells blames blamed = left_quiet
+    now shelf shelf' bins l told tells (blames ∙ add-zero shelf.failed) (λ tell. blamed tell ∙ append-nil shelf.blamed)
 left_told stop files now shelf shelf' bins l kind told tells blames blamed = absurd kind
 
 -- why reading ended before its end
-pub reads_broke : (stop : Stop) (first opened rest : List (List ℕ))
-    (old : SoFar) (count : Count) (all : List Event) (now : Held)
-    → old ≡ begun_with first → StopsReading stop → StopsFor (StopsAfter stop old.count count all) stop
-    → first ++ openings all ≡ opened ++ rest → files_named stop ≤ length opened
-    → Breaks (reads (first ++ openings all) all) (ending stop (subject opened stop))
-    now (left_by stop (subject opened stop) now)
+pub reads_broke : (stop : Stop) (first opened rest : List (List ℕ)) (old : SoFar) (count : Count) (all : List Event)
+    (now : Held) → old ≡ begun_with first → StopsReading stop → StopsFor (StopsAfter stop old.count count all) stop
+    → first ++ openings all ≡ opened ++ rest → files_named stop ≤ length opened → Breaks
+    (reads (first ++ openings all) all) (ending stop (subject opened stop)) now (left_by stop (subject opened stop) now)
 reads_broke (ReadFault file) first opened rest old count all now began kind why names known =
     (of_file _ opened rest file.0 names known, refl)
 reads_broke (LineTooLong file) first opened rest old count all now began kind why names known = (

@@ -78,9 +78,8 @@ unequal_lines : fault_line (codes "m.w" ∷ codes "c.ch" ∷ []) (record { kind 
 unfolding digits
 unequal_lines = refl
 
-two_faults : fault_lines (codes "m.w" ∷ codes "c.ch" ∷ [])
-    (record { kind = Unequal; place = place 1 10; count = 1 }
-    ∷ record { kind = NotThere; place = place 0 3; count = 0 } ∷ [])
+two_faults : fault_lines (codes "m.w" ∷ codes "c.ch" ∷ []) (record
+    { kind = Unequal; place = place 1 10; count = 1 } ∷ record { kind = NotThere; place = place 0 3; count = 0 } ∷ [])
     ≡ codes "c.ch:10: ! Lines that failed to match: 1\nm.w:3: ! Cannot open include file\n"
 unfolding digits
 two_faults = refl
@@ -120,8 +119,7 @@ misread = refl
 
 -- a folder with a web and a change file, of whose entries the first replaces a line and the second matches none
 abbrev web_and_change : List ℕ → Option (List ℕ)
-web_and_change name =
-    cond (bytes_eq name (codes "m.w")) (Some (codes "A\nB\n"))
+web_and_change name = cond (bytes_eq name (codes "m.w")) (Some (codes "A\nB\n"))
     (cond (bytes_eq name (codes "c.ch")) (Some (codes "@x\nA\n@y\nN\n@z\n@x\nZ\n@y\n@z\n")) None)
 
 abbrev there : World
@@ -138,8 +136,7 @@ abbrev changed_course : Course
 changed_course = merging (codes "m.w" ∷ codes "c.ch" ∷ []) (events_of (run 20 there begun))
 
 changed_run : course_of web_and_change (codes "m" ∷ codes "c" ∷ []) None ≡ changed_course
-changed_run =
-    ap (λ (events : List Event). merging (codes "m.w" ∷ codes "c.ch" ∷ []) events)
+changed_run = ap (λ (events : List Event). merging (codes "m.w" ∷ codes "c.ch" ∷ []) events)
     (merge-run 20 there begun (events_of (run 20 there begun)) refl)
 
 changed_text : merged changed_course ≡ codes "N\nB\n"

@@ -55,15 +55,13 @@ hello = codes "hello" ∷ []
 
 hello_course : tangle_course hello_there (options_by hello)
     ≡ merging hello_there (started hello_text None) (codes "hello.w" ∷ []) (codes "hello.c")
-hello_course =
-    ap (λ (events : List Event). tangled (codes "hello.c") (course.merging (codes "hello.w" ∷ []) events))
+hello_course = ap (λ (events : List Event). tangled (codes "hello.c") (course.merging (codes "hello.w" ∷ []) events))
     (merge-run 40 hello_there (started hello_text None) (events_of (run 40 hello_there (started hello_text None))) refl)
 
 abbrev hello_left : Left
 hello_left = record {
   log = codes "This is CTANGLE, profile of CWEB 3\nWriting hello.c\n(No errors were found.)\n";
-  files = file (codes "hello.c")
-      (codes "/*1:*/\n#line 2 \"hello.w\"\n\n#include <stdio.h>\nint main(void){/*2:*/\n"
+  files = file (codes "hello.c") (codes "/*1:*/\n#line 2 \"hello.w\"\n\n#include <stdio.h>\nint main(void){/*2:*/\n"
       ++ codes "#line 5 \"hello.w\"\n\nputs(\"hi\");/*:2*/\n#line 4 \"hello.w\"\nreturn 0;}\n/*:1*/\n")
       ∷ [];
   status = 0;
@@ -89,8 +87,7 @@ two = codes "-bph" ∷ codes "f" ∷ []
 
 two_course : tangle_course two_there (options_by two)
     ≡ merging two_there (started two_text None) (codes "f.w" ∷ []) (codes "f.c")
-two_course =
-    ap (λ (events : List Event). tangled (codes "f.c") (course.merging (codes "f.w" ∷ []) events))
+two_course = ap (λ (events : List Event). tangled (codes "f.c") (course.merging (codes "f.w" ∷ []) events))
     (merge-run 40 two_there (started two_text None) (events_of (run 40 two_there (started two_text None))) refl)
 
 abbrev two_left : Left
@@ -121,8 +118,7 @@ cycle = codes "c" ∷ []
 
 cycle_course : tangle_course cycle_there (options_by cycle)
     ≡ merging cycle_there (started cycle_text None) (codes "c.w" ∷ []) (codes "c.c")
-cycle_course =
-    ap (λ (events : List Event). tangled (codes "c.c") (course.merging (codes "c.w" ∷ []) events))
+cycle_course = ap (λ (events : List Event). tangled (codes "c.c") (course.merging (codes "c.w" ∷ []) events))
     (merge-run 40 cycle_there (started cycle_text None) (events_of (run 40 cycle_there (started cycle_text None))) refl)
 
 abbrev cycle_left : Left
@@ -143,9 +139,8 @@ cycle_run = ap (left_of (options_by cycle)) cycle_course ∙ cycle_computed
 
 -- a line that a change file replaces, with marks to where each line stands
 abbrev changed_texts : List ℕ → Option (List ℕ)
-changed_texts sought =
-    cond (bytes_eq sought (codes "v.w")) (Some (codes "@ @c\na;\nb;\nc;\n"))
-    (text_in (codes "v.ch") (codes "@x\nb;\n@y\nB;\n@z\n") sought)
+changed_texts sought = cond (bytes_eq sought (codes "v.w"))
+    (Some (codes "@ @c\na;\nb;\nc;\n")) (text_in (codes "v.ch") (codes "@x\nb;\n@y\nB;\n@z\n") sought)
 
 abbrev changed_there : World
 changed_there = record { texts = changed_texts; inputs = None }
@@ -158,15 +153,13 @@ changed = codes "-bph" ∷ codes "v" ∷ codes "v" ∷ []
 
 changed_course : tangle_course changed_there (options_by changed)
     ≡ merging changed_there changed_begun (codes "v.w" ∷ codes "v.ch" ∷ []) (codes "v.c")
-changed_course =
-    ap (λ (events : List Event). tangled (codes "v.c") (course.merging (codes "v.w" ∷ codes "v.ch" ∷ []) events))
-    (merge-run 40 changed_there changed_begun (events_of (run 40 changed_there changed_begun)) refl)
+changed_course = ap (λ (events : List Event). tangled (codes "v.c") (course.merging (codes "v.w" ∷ codes "v.ch" ∷ [])
+    events)) (merge-run 40 changed_there changed_begun (events_of (run 40 changed_there changed_begun)) refl)
 
 abbrev changed_left : Left
 changed_left = record {
   log = [];
-  files =
-      file (codes "v.c") (codes "/*1:*/\n#line 1 \"v.w\"\n\na;\n#line 4 \"v.ch\"\nB;\n#line 4 \"v.w\"\nc;/*:1*/\n")
+  files = file (codes "v.c") (codes "/*1:*/\n#line 1 \"v.w\"\n\na;\n#line 4 \"v.ch\"\nB;\n#line 4 \"v.w\"\nc;/*:1*/\n")
       ∷ [];
   status = 0;
 }

@@ -15,8 +15,7 @@ file name bytes = record { name = name; bytes = bytes }
 
 -- a web of so many sections and names, with these starred sections, faults and plan
 abbrev course : ℕ → ℕ → List ℕ → List Item → Planning → TangleCourse
-course sections names stars faults plan =
-    tangling [] []
+course sections names stars faults plan = tangling [] []
     (record {
       starred = stars;
       faults = faults;
@@ -28,8 +27,7 @@ course sections names stars faults plan =
 abbrev plain : TangleCourse
 plain = course 2 1 (1 ∷ []) [] (planned (file (codes "hello.c") (codes "x\n") ∷ []) false)
 
-plain_log : tangle_log all_shown plain
-    ≡ codes "This is CTANGLE, profile of CWEB 3\n*1\nWriting hello.c\n"
+plain_log : tangle_log all_shown plain ≡ codes "This is CTANGLE, profile of CWEB 3\n*1\nWriting hello.c\n"
     ++ codes "Sections: 2. Names: 1. Macros: 0.\n(No errors were found.)\n"
 unfolding digits
 plain_log = refl

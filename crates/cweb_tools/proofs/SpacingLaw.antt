@@ -28,10 +28,8 @@ quiet_doubled (b ∷ x) h =
 head_text : (n : ℕ) → doubled (47 ∷ 42 ∷ decimal n ++ 58 ∷ 42 ∷ 47 ∷ []) ≡ comment_of (decimal n ++ 58 ∷ [])
 head_text n =
     let d = decimal n in
-    ap (λ t. 47 ∷ 42 ∷ t)
-    (flat_map-append at_doubled d (58 ∷ 42 ∷ 47 ∷ [])
-    ∙ ap (λ t. t ++ 58 ∷ 42 ∷ 47 ∷ []) (quiet_doubled d (quiet_decimal n))
-    ∙ sym (append_assoc d (58 ∷ []) (42 ∷ 47 ∷ [])))
+    ap (λ t. 47 ∷ 42 ∷ t) (flat_map-append at_doubled d (58 ∷ 42 ∷ 47 ∷ []) ∙ ap
+    (λ t. t ++ 58 ∷ 42 ∷ 47 ∷ []) (quiet_doubled d (quiet_decimal n)) ∙ sym (append_assoc d (58 ∷ []) (42 ∷ 47 ∷ [])))
 
 tail_text : (n : ℕ) → doubled (47 ∷ 42 ∷ 58 ∷ decimal n ++ 42 ∷ 47 ∷ []) ≡ comment_of (58 ∷ decimal n)
 tail_text n =
@@ -72,20 +70,17 @@ solid_read : (r : Reading) (u : Token) (rest : List ℕ) → ReadsAlone u → is
 solid_read r u rest h plain in_plain goes = token_read joins r u rest operators_join in_plain h plain goes
 
 -- what is read of a token's text, whatever follows that can't go on with it
-step : (s : Setting) (left : Option Token) (r : Reading) (u : Token) (rest : List ℕ)
-    → IsPlain u → InPlainC r.state → first_is (goes_on joins u) rest ≡ false
-    → IsRead r (doubled (file_text s left u)) rest (solid (u ∷ []))
+step : (s : Setting) (left : Option Token) (r : Reading) (u : Token) (rest : List ℕ) → IsPlain u → InPlainC r.state
+    → first_is (goes_on joins u) rest ≡ false → IsRead r (doubled (file_text s left u)) rest (solid (u ∷ []))
 step s left r Blank rest h plain goes =
     record { next = r; goes_on = run_blank r rest plain; read = nothing r.state plain }
 step s left r Newline rest h plain goes = newline_read r rest plain
-step s left r (Head n) rest h plain goes =
-    subst (λ t. IsRead r t rest []) (sym (head_text n))
-    (comment_read r (decimal n ++ 58 ∷ []) rest (quiet_head n) plain)
+step s left r (Head n) rest h plain goes = subst
+    (λ t. IsRead r t rest []) (sym (head_text n)) (comment_read r (decimal n ++ 58 ∷ []) rest (quiet_head n) plain)
 step s left r (Tail n) rest h plain goes =
     subst (λ t. IsRead r t rest []) (sym (tail_text n)) (comment_read r (58 ∷ decimal n) rest (quiet_decimal n) plain)
-step s left r (Word b) rest h plain goes =
-    subst (λ t. IsRead r (doubled t) rest (Word b ∷ [])) (sym (ascii_text s b h.0))
-    (solid_read r (Word b) rest h.1 refl plain goes)
+step s left r (Word b) rest h plain goes = subst (λ t. IsRead r (doubled t) rest (Word b ∷ []))
+    (sym (ascii_text s b h.0)) (solid_read r (Word b) rest h.1 refl plain goes)
 step s left r (Number b) rest h plain goes = solid_read r (Number b) rest h refl plain goes
 step s left r (Literal b) rest h plain goes = solid_read r (Literal b) rest h refl plain goes
 step s left r (Punct b) rest h plain goes = solid_read r (Punct b) rest h.2 h.0 plain goes

@@ -7,8 +7,7 @@ use Rattle.cweb_scan.specs.Run.{run}
 abbrev in_c_part : Reading
 in_c_part =
     record {
-      state =
-          record (before_text (record { file = record { 0 = 0 }; line = 1 }))
+      state = record (before_text (record { file = record { 0 = 0 }; line = 1 }))
           { context = CText; contents = with_open part.Unnamed empty };
       later = [];
     }
@@ -24,9 +23,8 @@ abbrev reread : List Token → List Token
 reread ts = part_tokens (run in_c_part (doubled (print settled ts))).state
 
 abbrev row : List Token
-row =
-    Number (codes "0xe") ∷ Punct (codes "+") ∷ Number (codes "1") ∷ Punct (codes ".") ∷ Number (codes ".5")
-    ∷ Literal (codes "\"a\"") ∷ Literal (codes "R\"(b)\"") ∷ Word (codes "R") ∷ Literal (codes "\"(c)\"") ∷ []
+row = Number (codes "0xe") ∷ Punct (codes "+") ∷ Number (codes "1") ∷ Punct (codes ".") ∷ Number (codes ".5") ∷ Literal
+    (codes "\"a\"") ∷ Literal (codes "R\"(b)\"") ∷ Word (codes "R") ∷ Literal (codes "\"(c)\"") ∷ []
 
 row_printed : print settled row ≡ codes "0xe +1 . .5 \"a\"R\"(b)\" R \"(c)\""
 row_printed = refl
@@ -43,9 +41,8 @@ unfolding digits
 comment_read = refl
 
 abbrev signs : List Token
-signs =
-    Punct (codes "@") ∷ Word (codes "d") ∷ Punct (codes "-")
-    ∷ Punct (codes "->") ∷ Punct (codes ".") ∷ Punct (codes "...") ∷ []
+signs = Punct (codes "@") ∷ Word
+    (codes "d") ∷ Punct (codes "-") ∷ Punct (codes "->") ∷ Punct (codes ".") ∷ Punct (codes "...") ∷ []
 
 signs_read : reread signs ≡ signs
 signs_read = refl

@@ -27,10 +27,9 @@ number_byte false false op h f x = cc
 before_number : (b : List ℕ) (c : ℕ) → begins_number c ≡ true
     → last_is (λ x. x == 46) b ≡ false → joins_last joins b c ≡ false
 before_number [] c n h = refl
-before_number (x ∷ []) c n h =
-    (λ i. (h i && is_digit c) || (is_operator x && is_operator c && (not (c == 46) || h i)))
-    ∙ number_byte (is_digit c) (c == 46) (is_operator c) n
-    (λ e. none_of is_digit (codes "+-*/%&|^!=<>.:#?") c refl e) (is_operator x)
+before_number (x ∷ []) c n h = (λ i. (h i && is_digit c) || (is_operator x && is_operator c && (not (c == 46) || h i)))
+    ∙ number_byte
+    (is_digit c) (c == 46) (is_operator c) n (λ e. none_of is_digit (codes "+-*/%&|^!=<>.:#?") c refl e) (is_operator x)
 before_number (x ∷ y ∷ b) c n h = before_number (y ∷ b) c n h
 
 word_not_operator : (c : ℕ) → is_word_byte c ≡ true → is_operator c ≡ false

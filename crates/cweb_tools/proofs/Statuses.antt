@@ -28,8 +28,7 @@ or_false false = refl
 fault-said : (items : List Item) (acts : List Act)
     → has_fault (map says items ++ acts) ≡ (list_any is_fault items || has_fault acts)
 fault-said [] acts = refl
-fault-said (item ∷ items) acts =
-    ap (λ (f : Bool). is_fault item || f) (fault-said items acts)
+fault-said (item ∷ items) acts = ap (λ (f : Bool). is_fault item || f) (fault-said items acts)
     ∙ or_assoc (is_fault item) (list_any is_fault items) (has_fault acts)
 
 fault-starred : (progress : Bool) (numbers : List ℕ) (acts : List Act)
@@ -85,10 +84,9 @@ by_count false n some none = ap (λ (m : ℕ). if m == 0 then 0 else 1) (sym (no
 status_planned : (items : List Item) (plan : Planning)
     → status_for (list_any is_fault items || is_refused plan) ≡ status_by (fault_count items) plan
 status_planned items (refused text) = ap status_for (or_true (list_any is_fault items))
-status_planned items (planned files missing) =
-    ap status_for (or_false (list_any is_fault items))
-    ∙ by_count (list_any is_fault items) (fault_count items)
-    (counted_some is_fault items).0 (counted_some is_fault items).1
+status_planned items (planned files missing) = ap status_for (or_false (list_any is_fault items))
+    ∙ by_count
+    (list_any is_fault items) (fault_count items) (counted_some is_fault items).0 (counted_some is_fault items).1
 
 pub status_is : (shown : Shown) (course : TangleCourse) → tangle_status shown course ≡ course_status course
 status_is shown unread = refl
@@ -97,9 +95,7 @@ status_is shown (not_there web) =
 status_is shown (change_not_there change) =
     ap status_for (fault-when shown.banner banner (opens ∷ says (stopped ChangeNotOpened change) ∷ []) refl)
 status_is shown (tangling names events web) =
-    ap status_for
-    (fault-when shown.banner banner (opens ∷ reads names events ∷ web_acts shown web) refl
-    ∙ fault-starred shown.progress web.starred _ ∙ fault-said web.faults _
-    ∙ ap (λ (f : Bool). list_any is_fault web.faults || f)
+    ap status_for (fault-when shown.banner banner (opens ∷ reads names events ∷ web_acts shown web) refl ∙ fault-starred
+    shown.progress web.starred _ ∙ fault-said web.faults _ ∙ ap (λ (f : Bool). list_any is_fault web.faults || f)
     (fault-planned shown web.numbers (fault_count web.faults) web.plan))
     ∙ status_planned web.faults web.plan

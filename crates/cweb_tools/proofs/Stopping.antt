@@ -51,13 +51,10 @@ counted stop about old mid new shelf bins log failed (inr fails) acts never = re
 quietly : (stop : Stop) (about : List ℕ) (old mid new : Held) → read_blame stop ≡ 0
     → bins_blame stop ≡ 0 → mid ≡ old → LogsLine (stop_line stop about) mid new
     → (acts : List Act) → (stop ≡ LogFault → ⊥) → IsStopped acts stop about old new
-quietly stop about old mid new no_shelf no_bins is logs acts never =
-    counted stop about old mid new
-    (ap (λ (d : Held). d.shelf_failed) is ∙ sym (add-zero old.shelf_failed)
-    ∙ ap (λ (n : ℕ). old.shelf_failed + n) (sym no_shelf))
-    (ap (λ (d : Held). d.bins_failed) is ∙ sym (add-zero old.bins_failed)
-    ∙ ap (λ (n : ℕ). old.bins_failed + n) (sym no_bins))
-    (ap (λ (d : Held). d.log) is) (ap (λ (d : Held). d.log_failed) is) logs acts never
+quietly stop about old mid new no_shelf no_bins is logs acts never = counted stop about old mid new (ap (λ (d : Held).
+    d.shelf_failed) is ∙ sym (add-zero old.shelf_failed) ∙ ap (λ (n : ℕ). old.shelf_failed + n) (sym no_shelf))
+    (ap (λ (d : Held). d.bins_failed) is ∙ sym (add-zero old.bins_failed) ∙ ap (λ (n : ℕ). old.bins_failed + n)
+    (sym no_bins)) (ap (λ (d : Held). d.log) is) (ap (λ (d : Held). d.log_failed) is) logs acts never
 
 -- the log failed at an item
 log_failed : (item : Item) (about : List ℕ) (old mid new : Held) → FailsLog (line item) old mid
@@ -94,9 +91,8 @@ stopped_at reserves Memory about old mid new broke logs acts =
 stopped_at (says item) LogFault about old mid new broke logs acts = log_failed item about old mid new broke logs acts
 stopped_at (reads names events) (ReadFault file) about old mid new broke logs acts =
     counted (ReadFault file) about old mid new (ap (λ (d : Held). d.shelf_failed) broke.1)
-    (ap (λ (d : Held). d.bins_failed) broke.1 ∙ sym (add-zero old.bins_failed))
-    (ap (λ (d : Held). d.log) broke.1) (ap (λ (d : Held). d.log_failed) broke.1)
-    logs (reads names events ∷ acts) (λ is. cc)
+    (ap (λ (d : Held). d.bins_failed) broke.1 ∙ sym (add-zero old.bins_failed)) (ap (λ (d : Held). d.log) broke.1)
+    (ap (λ (d : Held). d.log_failed) broke.1) logs (reads names events ∷ acts) (λ is. cc)
 stopped_at (reads names events) (LineTooLong file) about old mid new broke logs acts =
     quietly (LineTooLong file) about old mid new refl refl broke.2 logs (reads names events ∷ acts) (λ is. cc)
 stopped_at (reads names events) TooMuchText about old mid new broke logs acts =
@@ -109,14 +105,12 @@ stopped_at (writes name text) Memory about old mid new broke logs acts =
     (ap (λ (d : Held). d.log) broke) (ap (λ (d : Held). d.log_failed) broke) logs (writes name text ∷ acts) (λ is. cc)
 stopped_at (writes name text) OutNotOpened about old mid new broke logs acts =
     counted OutNotOpened about old mid new (ap (λ (d : Held). d.shelf_failed) broke.1 ∙ sym (add-zero old.shelf_failed))
-    (ap (λ (d : Held). d.bins_failed) broke.1)
-    (ap (λ (d : Held). d.log) broke.1) (ap (λ (d : Held). d.log_failed) broke.1)
-    logs (writes name text ∷ acts) (λ is. cc)
+    (ap (λ (d : Held). d.bins_failed) broke.1) (ap (λ (d : Held). d.log) broke.1)
+    (ap (λ (d : Held). d.log_failed) broke.1) logs (writes name text ∷ acts) (λ is. cc)
 stopped_at (writes name text) WriteFault about old mid new broke logs acts =
     counted WriteFault about old mid new (ap (λ (d : Held). d.shelf_failed) broke.1 ∙ sym (add-zero old.shelf_failed))
-    (ap (λ (d : Held). d.bins_failed) broke.1)
-    (ap (λ (d : Held). d.log) broke.1) (ap (λ (d : Held). d.log_failed) broke.1)
-    logs (writes name text ∷ acts) (λ is. cc)
+    (ap (λ (d : Held). d.bins_failed) broke.1) (ap (λ (d : Held). d.log) broke.1)
+    (ap (λ (d : Held). d.log_failed) broke.1) logs (writes name text ∷ acts) (λ is. cc)
 stopped_at act stop about old mid new broke logs acts = absurd broke
 
 -- one more line was logged before that
@@ -131,8 +125,7 @@ said_before item acts stop about old new rest = record {
       front = line item ++ rest.log.front.front;
       rest = rest.log.front.rest;
       written = rest.log.front.written ∙ append_assoc old.log (line item) rest.log.front.front;
-      whole =
-          append_assoc (line item) (flat_map line rest.log.before) (stop_line stop about)
+      whole = append_assoc (line item) (flat_map line rest.log.before) (stop_line stop about)
           ∙ ap (λ (t : List ℕ). line item ++ t) rest.log.front.whole
           ∙ sym (append_assoc (line item) rest.log.front.front rest.log.front.rest);
     };
@@ -147,9 +140,8 @@ said_before item acts stop about old new rest = record {
 }
 
 -- an act that logs nothing was done before that
-done_before : (act : Act) (acts : List Act) (stop : Stop) (about : List ℕ) (old new : Held)
-    → items_in (act ∷ acts) ≡ items_in acts
-    → (after_act act old).log ≡ old.log → (after_act act old).log_failed ≡ old.log_failed
+done_before : (act : Act) (acts : List Act) (stop : Stop) (about : List ℕ) (old new : Held) → items_in (act ∷ acts)
+    ≡ items_in acts → (after_act act old).log ≡ old.log → (after_act act old).log_failed ≡ old.log_failed
     → (after_act act old).shelf_failed ≡ old.shelf_failed → (after_act act old).bins_failed ≡ old.bins_failed
     → IsStopped acts stop about (after_act act old) new → IsStopped (act ∷ acts) stop about old new
 done_before act acts stop about old new items log failed shelf bins rest = record {
@@ -164,8 +156,7 @@ done_before act acts stop about old new items log failed shelf bins rest = recor
           written = rest.log.front.written ∙ ap (λ (t : List ℕ). t ++ rest.log.front.front) log;
           whole = rest.log.front.whole;
         };
-    all = λ same.
-        rest.log.all (same ∙ sym failed)
+    all = λ same. rest.log.all (same ∙ sym failed)
         ∙ ap (λ (t : List ℕ). t ++ (flat_map line rest.log.before ++ stop_line stop about)) log;
   };
   shelf = rest.shelf ∙ ap (λ (n : ℕ). n + read_blame stop) shelf;
@@ -177,21 +168,16 @@ pub is_stopped : (acts : List Act) (stop : Stop) (about : List ℕ) (old mid new
     → Runs acts (Some (ending stop about)) old mid
     → LogsStop (ending stop about) mid new → IsStopped acts stop about old new
 is_stopped [] stop about old mid new none logs = absurd none
-is_stopped (judges ∷ acts) stop about old mid new (inl run) logs =
-    done_before judges acts stop about old new refl refl refl refl
-    refl (is_stopped acts stop about old mid new run.1 logs)
-is_stopped (opens ∷ acts) stop about old mid new (inl run) logs =
-    done_before opens acts stop about old new refl refl refl refl
-    refl (is_stopped acts stop about old mid new run.1 logs)
-is_stopped (plans ∷ acts) stop about old mid new (inl run) logs =
-    done_before plans acts stop about old new refl refl refl refl
-    refl (is_stopped acts stop about old mid new run.1 logs)
-is_stopped (reserves ∷ acts) stop about old mid new (inl run) logs =
-    done_before reserves acts stop about old new refl refl refl refl
-    refl (is_stopped acts stop about old mid new run.1 logs)
-is_stopped (reads names events ∷ acts) stop about old mid new (inl run) logs =
-    done_before (reads names events) acts stop about old new refl refl
-    refl refl refl (is_stopped acts stop about old mid new run.1 logs)
+is_stopped (judges ∷ acts) stop about old mid new (inl run) logs = done_before
+    judges acts stop about old new refl refl refl refl refl (is_stopped acts stop about old mid new run.1 logs)
+is_stopped (opens ∷ acts) stop about old mid new (inl run) logs = done_before
+    opens acts stop about old new refl refl refl refl refl (is_stopped acts stop about old mid new run.1 logs)
+is_stopped (plans ∷ acts) stop about old mid new (inl run) logs = done_before
+    plans acts stop about old new refl refl refl refl refl (is_stopped acts stop about old mid new run.1 logs)
+is_stopped (reserves ∷ acts) stop about old mid new (inl run) logs = done_before
+    reserves acts stop about old new refl refl refl refl refl (is_stopped acts stop about old mid new run.1 logs)
+is_stopped (reads names events ∷ acts) stop about old mid new (inl run) logs = done_before (reads names events)
+    acts stop about old new refl refl refl refl refl (is_stopped acts stop about old mid new run.1 logs)
 is_stopped (writes name text ∷ acts) stop about old mid new (inl run) logs =
     done_before (writes name text) acts stop about old new refl refl refl refl refl
     (is_stopped acts stop about (after_act (writes name text) old) mid new run.1 logs)

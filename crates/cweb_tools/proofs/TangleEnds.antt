@@ -41,9 +41,8 @@ script_is asked (tangling names events web) can = refl
 
 -- how a whole run ends
 abbrev EndsRun : World → Option Asked → SeenRun → SeenRun → ℕ → Type 0
-EndsRun world asked before after status =
-    Follows (script (shown_by asked)) (tangle_status (shown_by asked))
-    (CanCome asked) (tangle_course world asked) before after status
+EndsRun world asked before after status = Follows (script (shown_by asked))
+    (tangle_status (shown_by asked)) (CanCome asked) (tangle_course world asked) before after status
 
 some_none : (asked : Asked) → Some asked ≡ None → ⊥
 some_none asked is = cc
@@ -55,18 +54,15 @@ memory_is asked stop (inr is) none_by = is
 
 -- the words can't be read, or memory was wanting for their names
 pub words_end : (world : World) (asked : Option Asked) (stop : Stop)
-    (shelf : SeenShelf) (bins : SeenBins) (l l' : SeenStream) (status : ℕ)
-    → (stop ≡ Usage) ⊎ (stop ≡ Memory) → (stop ≡ Usage → asked ≡ None) → (asked ≡ None → stop ≡ Usage)
-    → Logs (stop_line stop tangle_usage) l l' → status ≡ 1
-    → EndsRun world asked (at shelf bins l) (at shelf bins l') status
+    (shelf : SeenShelf) (bins : SeenBins) (l l' : SeenStream) (status : ℕ) → (stop ≡ Usage) ⊎ (stop ≡ Memory)
+    → (stop ≡ Usage → asked ≡ None) → (asked ≡ None → stop ≡ Usage) → Logs (stop_line stop tangle_usage) l l'
+    → status ≡ 1 → EndsRun world asked (at shelf bins l) (at shelf bins l') status
 words_end world None stop shelf bins l l' status why none_by is_usage logs answered = record {
   taken = unread;
   can = tt;
   is = λ tell. refl;
-  closes =
-      subst (λ (n : ℕ). Closes (says (stopped Usage tangle_usage) ∷ []) 1 (at shelf bins l) (at shelf bins l') n)
-      (sym answered)
-      (told_last (stopped Usage tangle_usage) shelf bins l l'
+  closes = subst (λ (n : ℕ). Closes (says (stopped Usage tangle_usage) ∷ []) 1 (at shelf bins l) (at shelf bins l') n)
+      (sym answered) (told_last (stopped Usage tangle_usage) shelf bins l l'
       (subst (λ (s : Stop). Logs (stop_line s tangle_usage) l l') (is_usage refl) logs));
 }
 words_end world (Some asked) stop shelf bins l l' status why none_by is_usage logs answered =
@@ -74,14 +70,12 @@ words_end world (Some asked) stop shelf bins l l' status why none_by is_usage lo
       taken = tangle_course world (Some asked);
       can = can;
       is = λ tell. refl;
-      closes = halted (ending Memory []) (at shelf bins l)
-          (subst (λ (acts : List Act). Does acts (Some (ending Memory [])) (at shelf bins l) (at shelf bins l))
-          (sym (script_is asked _ can)) (not_judged _ shelf bins l))
+      closes = halted (ending Memory []) (at shelf bins l) (subst (λ (acts : List Act). Does acts (Some (ending Memory
+          [])) (at shelf bins l) (at shelf bins l)) (sym (script_is asked _ can)) (not_judged _ shelf bins l))
           (record {
             shelf = refl;
             bins = refl;
-            log =
-                subst (λ (s : Stop). Logs (stop_line s tangle_usage) l l')
+            log = subst (λ (s : Stop). Logs (stop_line s tangle_usage) l l')
                 (memory_is asked stop why none_by) logs;
           })
           answered;
@@ -98,16 +92,14 @@ banner_ends world asked shelf bins l l' does =
       is = λ tell. refl;
       closes = halted (ending LogFault []) (at shelf bins l')
           (subst (λ (acts : List Act). Does acts (Some (ending LogFault [])) (at shelf bins l) (at shelf bins l'))
-          (sym (script_is asked _ can))
-          (does_on (judges ∷ []) _ (Some (ending LogFault [])) _ _ _ (judged shelf bins l)
-          (does_in _ _ (ending LogFault []) _ _ (does shelf bins))))
+          (sym (script_is asked _ can)) (does_on (judges ∷ []) _ (Some (ending LogFault [])) _ _ _
+          (judged shelf bins l) (does_in _ _ (ending LogFault []) _ _ (does shelf bins))))
           (record { shelf = refl; bins = refl; log = refl }) refl;
     }
 
 -- the run went on behind the banner
-pub named_ends : (world : World) (asked : Asked) (shelf : SeenShelf)
-    (bins : SeenBins) (l l' : SeenStream) (after : SeenRun) (status : ℕ)
-    → DoesInLog (when asked.shown.banner banner) None l l'
+pub named_ends : (world : World) (asked : Asked) (shelf : SeenShelf) (bins : SeenBins)
+    (l l' : SeenStream) (after : SeenRun) (status : ℕ) → DoesInLog (when asked.shown.banner banner) None l l'
     → EndsAs asked (tangle_course world (Some asked)) (at shelf bins l') after status
     → EndsRun world (Some asked) (at shelf bins l) after status
 named_ends world asked shelf bins l l' after status does follows =
@@ -117,11 +109,9 @@ named_ends world asked shelf bins l l' after status does follows =
       taken = follows.taken;
       can = follows.can;
       is = follows.is;
-      closes =
-          subst (λ (due : ℕ). Closes (script asked.shown follows.taken) due (at shelf bins l) after status)
-          (sym (status_is asked.shown follows.taken))
-          (subst (λ (acts : List Act). Closes acts (course_status follows.taken) (at shelf bins l) after status)
-          (sym (script_is asked follows.taken follows.can))
-          (closes_on (judges ∷ when asked.shown.banner banner) (course_acts asked.shown follows.taken)
+      closes = subst (λ (due : ℕ). Closes (script asked.shown follows.taken) due (at shelf bins l) after status)
+          (sym (status_is asked.shown follows.taken)) (subst (λ (acts : List Act).
+          Closes acts (course_status follows.taken) (at shelf bins l) after status) (sym (script_is asked follows.taken
+          follows.can)) (closes_on (judges ∷ when asked.shown.banner banner) (course_acts asked.shown follows.taken)
           (course_status follows.taken) _ _ _ status first follows.closes));
     }

@@ -21,8 +21,7 @@ told_last item shelf bins l l' logs = elim logs.once [
     log = kept ∙ sym (add-zero l.failed);
     runs = λ now told. record {
       left = record now { log = now.log ++ line item };
-      told = log_told now _ shelf bins l l' told refl (told.log_failed ∙ sym kept)
-          (λ tell.
+      told = log_told now _ shelf bins l l' told refl (told.log_failed ∙ sym kept) (λ tell.
           let first : IsTrue l.tells = sym logs.tells ∙ tell in
           ap (λ (t : List ℕ). t ++ line item) (told.log first) ∙ sym (logs.whole first kept));
       runs = inl (tt, refl);
@@ -37,8 +36,7 @@ told_last item shelf bins l l' logs = elim logs.once [
     log = rose;
     runs = λ now told. let front = front_told l.tells l.bytes l'.bytes (line item) logs.front in record {
       left = record now { log_failed = now.log_failed + 1; log = now.log ++ front.front };
-      told = log_told now _ shelf bins l l' told refl (ap (λ (n : ℕ). n + 1) told.log_failed ∙ sym rose)
-          (λ tell.
+      told = log_told now _ shelf bins l l' told refl (ap (λ (n : ℕ). n + 1) told.log_failed ∙ sym rose) (λ tell.
           let first : IsTrue l.tells = sym logs.tells ∙ tell in
           ap (λ (t : List ℕ). t ++ front.front) (told.log first) ∙ sym (front.written first));
       runs = inr (record { front = front.front; rest = front.rest; whole = front.whole; is = refl });
@@ -49,9 +47,8 @@ told_last item shelf bins l l' logs = elim logs.once [
 -- what the devices hold where the shelf alone was read
 pub shelf_told : (now left : Held) (shelf shelf' : SeenShelf) (bins : SeenBins) (l : SeenStream)
     → AsTold now (at shelf bins l)
-    → left ≡ record now { shelf_failed = left.shelf_failed; blamed = left.blamed }
-    → left.shelf_failed ≡ shelf'.failed → (IsTrue shelf'.tells → left.blamed ≡ shelf'.blamed)
-    → AsTold left (at shelf' bins l)
+    → left ≡ record now { shelf_failed = left.shelf_failed; blamed = left.blamed } → left.shelf_failed ≡ shelf'.failed
+    → (IsTrue shelf'.tells → left.blamed ≡ shelf'.blamed) → AsTold left (at shelf' bins l)
 shelf_told now left shelf shelf' bins l told same count blamed = record {
   shelf_failed = count;
   blamed = blamed;
@@ -117,9 +114,8 @@ module _ (shelf shelf' : SeenShelf) (tells : shelf'.tells ≡ shelf.tells)
     no_web None changes is = refl
     no_web (Some web) changes is = absurd (cc)
 
-    no_change : (found : Option Found) (changes : Option (Option Found))
-        → (web : Found) × (found ≡ Some web) → changes ≡ None
-        → change_not_there (change_name asked.names.merge.change) ≡ course found changes
+    no_change : (found : Option Found) (changes : Option (Option Found)) → (web : Found) × (found ≡ Some web)
+        → changes ≡ None → change_not_there (change_name asked.names.merge.change) ≡ course found changes
     no_change None changes web is = absurd (no_some web)
       where
         no_some : (web : Found) × (None ≡ Some web) → ⊥
@@ -130,13 +126,11 @@ module _ (shelf shelf' : SeenShelf) (tells : shelf'.tells ≡ shelf.tells)
     ends_said : (item : Item) → Logs (line item) l l'
         → Closes (opens ∷ says item ∷ []) 1 (at shelf bins l) (at shelf' bins l') status
     ends_said item logs =
-        closes_on (opens ∷ []) (says item ∷ []) 1 _ _ _ status opened
-        (subst (λ (n : ℕ). Closes (says item ∷ []) 1 (at shelf' bins l) (at shelf' bins l') n)
-        (sym answered) (told_last item shelf' bins l l' logs))
+        closes_on (opens ∷ []) (says item ∷ []) 1 _ _ _ status opened (subst (λ (n : ℕ). Closes (says item ∷ []) 1
+        (at shelf' bins l) (at shelf' bins l') n) (sym answered) (told_last item shelf' bins l l' logs))
 
-    memory_out : (found : Option Found) (changes : Option (Option Found))
-        → Does (course_acts asked.shown (course found changes))
-        (Some (ending Memory [])) (at shelf bins l) (at shelf' bins l)
+    memory_out : (found : Option Found) (changes : Option (Option Found)) → Does
+        (course_acts asked.shown (course found changes)) (Some (ending Memory [])) (at shelf bins l) (at shelf' bins l)
     memory_out None changes = not_opened _
     memory_out (Some web) None = not_opened _
     memory_out (Some web) (Some change) = not_opened _
@@ -162,8 +156,7 @@ module _ (shelf shelf' : SeenShelf) (tells : shelf'.tells ≡ shelf.tells)
       taken = course found changes;
       can = can_come asked world found changes;
       is = λ tell. refl;
-      closes =
-          halted (ending Memory []) (at shelf' bins l) (memory_out found changes)
+      closes = halted (ending Memory []) (at shelf' bins l) (memory_out found changes)
           (record { shelf = refl; bins = refl; log = logs }) answered;
     }
     start_ends found changes stop comes why logs = absurd comes

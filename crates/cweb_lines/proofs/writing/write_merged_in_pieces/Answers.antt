@@ -30,9 +30,8 @@ returns-in-Err-clause-keeps g c = (
 )
 
 pub returns-in-Err-clause-front : goal.returns-in-Err-clause-front
-returns-in-Err-clause-front g c = λ tells.
-    ends_front g.W.Sink _ _ c.lines.invariant.place _ _ _ _ _ _ (c.lines.invariant.gathered tells) c.write_rest.new.out
-    (rw c.deref.ensures.value at c.write_rest.ensures.front)
+returns-in-Err-clause-front g c = λ tells. ends_front g.W.Sink _ _ c.lines.invariant.place _ _ _ _ _ _
+    (c.lines.invariant.gathered tells) c.write_rest.new.out (rw c.deref.ensures.value at c.write_rest.ensures.front)
 
 pub returns-in-Err-clause-stops : goal.returns-in-Err-clause-stops
 returns-in-Err-clause-stops g c = λ tells before.
@@ -48,10 +47,9 @@ returns-in-Err-clause-stops g c = λ tells before.
 pub returns-in-Err-clause-blames : goal.returns-in-Err-clause-blames
 returns-in-Err-clause-blames g c = λ before.
     let blames = c.in-Err.ensures.blames c.lines.invariant.running in
-    blamed c.args.room c.in-Err.stop c.write_rest.result _ _ _ _ _ _ c.write_rest.ensures.rest blames.reading
-    c.in-Err.ensures.leaves.kept c.in-Err.ensures.leaves.named
-    (λ none. rw c.deref.ensures.value (c.lines.invariant.empty none))
-    (blames.failed ∙ ap (λ n. n + read_blame c.in-Err.stop) c.lines.invariant.failed)
+    blamed c.args.room c.in-Err.stop c.write_rest.result _ _ _ _ _ _ c.write_rest.ensures.rest
+    blames.reading c.in-Err.ensures.leaves.kept c.in-Err.ensures.leaves.named (λ none. rw c.deref.ensures.value
+    (c.lines.invariant.empty none)) (blames.failed ∙ ap (λ n. n + read_blame c.in-Err.stop) c.lines.invariant.failed)
     (c.write_rest.ensures.failed ∙ ap (λ n. n + write_blame c.write_rest.result) c.lines.invariant.out_failed)
 
 -- no line was left
@@ -71,25 +69,22 @@ returns-in-Err-write_piece-clause-stops g c = λ tells before.
 
 pub returns-in-Err-write_piece-clause-fault : goal.returns-in-Err-write_piece-clause-fault
 returns-in-Err-write_piece-clause-fault g c = λ tells out before is running.
-    let next = rw c.in_default-next.is at (c.in-Ok.ensures.next
-    (keeps_told g.S.Shelf _ _ c.lines.invariant.keeps tells)) in
-    fails_last g.W.Sink _ _ c.lines.invariant.place _ _ _ _ _ _
-    (c.lines.invariant.gathered tells) c.write_piece.new.out _ _ next.0
-    (rw c.deref-in_default-next.ensures.value at c.in-Err-write_piece.ensures.some) out
+    let next =
+    rw c.in_default-next.is at (c.in-Ok.ensures.next (keeps_told g.S.Shelf _ _ c.lines.invariant.keeps tells)) in
+    fails_last g.W.Sink _ _ c.lines.invariant.place _ _ _ _ _ _ (c.lines.invariant.gathered tells)
+    c.write_piece.new.out _ _ next.0 (rw c.deref-in_default-next.ensures.value at c.in-Err-write_piece.ensures.some) out
     (rw c.deref-in_default-next.ensures.value at c.in-Err-write_piece.ensures.err)
 
 pub returns-in_default-next-clause-ok : goal.returns-in_default-next-clause-ok
 returns-in_default-next-clause-ok g c = λ tells.
-    let next = rw c.in_default-next.is at (c.in-Ok.ensures.next
-    (keeps_told g.S.Shelf _ _ c.lines.invariant.keeps tells)) in
-    ends_whole g.W.Sink _ _ c.lines.invariant.place _ _ _ _ _ _
-    (c.lines.invariant.gathered tells) c.write_piece.new.out _ _ next.0 next.1
-    (rw c.deref-in_default-next.ensures.value at c.in_default-write_piece.ensures.ok)
+    let next =
+    rw c.in_default-next.is at (c.in-Ok.ensures.next (keeps_told g.S.Shelf _ _ c.lines.invariant.keeps tells)) in
+    ends_whole g.W.Sink _ _ c.lines.invariant.place _ _ _ _ _ _ (c.lines.invariant.gathered tells) c.write_piece.new.out
+    _ _ next.0 next.1 (rw c.deref-in_default-next.ensures.value at c.in_default-write_piece.ensures.ok)
 
 -- memory was refused for a line
 pub returns-in-Err-gather-clause-front : goal.returns-in-Err-gather-clause-front
-returns-in-Err-gather-clause-front g c = λ tells.
-    ends_front g.W.Sink _ _ c.lines.invariant.place _ _ _ _ _ _
+returns-in-Err-gather-clause-front g c = λ tells. ends_front g.W.Sink _ _ c.lines.invariant.place _ _ _ _ _ _
     (c.lines.invariant.gathered tells) c.write_rest-in-Err-gather.new.out
     (rw (c.deref-in-Err-gather.ensures.value, c.in-Err-gather.ensures.err) at c.write_rest-in-Err-gather.ensures.front)
 
@@ -158,10 +153,9 @@ returns-in-Err-pass_on-clause-fault g c = λ tells out before is running.
 pub returns-in-Err-pass_on-clause-blames : goal.returns-in-Err-pass_on-clause-blames
 returns-in-Err-pass_on-clause-blames g c = λ before.
     let blames = c.in-Ok.ensures.blames c.lines.invariant.running in
-    blames_write _ _ _ _ _ _ c.in-Err-pass_on.ensures.stop (c.pass_lines.ensures.passes.stopped
-    ∙ c.in-Ok.ensures.leaves.running)
-    (blames.failed ∙ c.lines.invariant.failed) (c.in-Err-pass_on.ensures.failed
-    ∙ ap (λ n. n + 1) c.lines.invariant.out_failed)
+    blames_write _ _ _ _ _ _ c.in-Err-pass_on.ensures.stop
+    (c.pass_lines.ensures.passes.stopped ∙ c.in-Ok.ensures.leaves.running) (blames.failed ∙ c.lines.invariant.failed)
+    (c.in-Err-pass_on.ensures.failed ∙ ap (λ n. n + 1) c.lines.invariant.out_failed)
 
 pub lines-preserved : goal.lines-preserved
 lines-preserved g c = record {

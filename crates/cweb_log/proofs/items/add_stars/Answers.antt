@@ -9,14 +9,12 @@ pub add_star-requires : goal.add_star-requires
 add_star-requires g c = omega (arith, c.numbers.invariant.counts, c.requires)
 
 pub returns-in_err-add_star : goal.returns-in_err-add_star
-returns-in_err-add_star g c =
-    gathers_failed star c.args.numbers.now c.numbers.number-index _ _ _ _ _ _ _ _ _ _
-    c.numbers-test.true c.numbers.invariant c.in_err-add_star.ensures c.from_residual.ensures.0
+returns-in_err-add_star g c = gathers_failed star c.args.numbers.now c.numbers.number-index
+    _ _ _ _ _ _ _ _ _ _ c.numbers-test.true c.numbers.invariant c.in_err-add_star.ensures c.from_residual.ensures.0
 
 pub numbers-preserved : goal.numbers-preserved
-numbers-preserved g c =
-    gathers_next star c.args.numbers.now c.numbers.number-index _ _ _ _ _ _ _
-    _ _ c.numbers-test.true c.numbers.invariant c.in_ok-add_star.ensures
+numbers-preserved g c = gathers_next star c.args.numbers.now
+    c.numbers.number-index _ _ _ _ _ _ _ _ _ c.numbers-test.true c.numbers.invariant c.in_ok-add_star.ensures
 
 pub returns : goal.returns
 returns g c =

@@ -9,27 +9,19 @@ pub add_name_fault-requires-clause-count : goal.add_name_fault-requires-clause-c
 add_name_fault-requires-clause-count g c = omega (arith, c.faults.invariant.counts, c.requires)
 
 pub returns-in_err-add_name_fault : goal.returns-in_err-add_name_fault
-returns-in_err-add_name_fault g c =
-    rw (sym c.name_faults-faults.ensures.faults)
+returns-in_err-add_name_fault g c = rw (sym c.name_faults-faults.ensures.faults)
     (writes_items (name_item c.args.store.now.occurrences) c.name_faults-faults.result.now _ _ _
-    (writes_front {A = Unit {0}} c.in_err-add_name_fault.field-0.0 _ _ _ _ _
-    (gathers_failed (λ (fault : NameFault). line (name_item c.args.store.now.occurrences fault))
-    c.name_faults-faults.result.now c.faults.fault-index _ _ _ _ _ _ _ _ _ _
-    c.faults-test.true c.faults.invariant c.in_err-add_name_fault.ensures refl)
-    c.from_residual.ensures.0))
+    (writes_front {A = Unit {0}} c.in_err-add_name_fault.field-0.0 _ _ _ _ _ (gathers_failed (λ (fault : NameFault).
+    line (name_item c.args.store.now.occurrences fault)) c.name_faults-faults.result.now c.faults.fault-index _ _ _ _
+    _ _ _ _ _ _ c.faults-test.true c.faults.invariant c.in_err-add_name_fault.ensures refl) c.from_residual.ensures.0))
 
 pub faults-preserved : goal.faults-preserved
-faults-preserved g c =
-    gathers_next (λ (fault : NameFault). line (name_item c.args.store.now.occurrences fault))
-    c.name_faults-faults.result.now c.faults.fault-index _ _ _ _ _ _ _ _ _
-    c.faults-test.true c.faults.invariant c.in_ok-add_name_fault.ensures
+faults-preserved g c = gathers_next
+    (λ (fault : NameFault). line (name_item c.args.store.now.occurrences fault)) c.name_faults-faults.result.now
+    c.faults.fault-index _ _ _ _ _ _ _ _ _ c.faults-test.true c.faults.invariant c.in_ok-add_name_fault.ensures
 
 pub returns : goal.returns
-returns g c =
-    rw (sym c.name_faults-faults.ensures.faults)
-    (writes_items (name_item c.args.store.now.occurrences) c.name_faults-faults.result.now _ _ _
-    (writes_all _ _ _ _ _ _ _
-    (gathers_all (λ (fault : NameFault). line (name_item c.args.store.now.occurrences fault))
-    c.name_faults-faults.result.now c.faults.fault-index _ _ _ _ _ c.faults-test.false
-    c.faults.invariant)
-    c.pass_on.ensures.writes))
+returns g c = rw (sym c.name_faults-faults.ensures.faults) (writes_items (name_item c.args.store.now.occurrences)
+    c.name_faults-faults.result.now _ _ _ (writes_all _ _ _ _ _ _ _ (gathers_all (λ (fault : NameFault).
+    line (name_item c.args.store.now.occurrences fault)) c.name_faults-faults.result.now
+    c.faults.fault-index _ _ _ _ _ c.faults-test.false c.faults.invariant) c.pass_on.ensures.writes))

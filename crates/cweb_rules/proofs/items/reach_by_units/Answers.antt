@@ -15,9 +15,7 @@ units-preserved-then-plain-gt0 c =
           omega (arith, c.units.invariant.within, ap length back, length-drop n rest, c.plain_len-plain.ensures.within);
       so_far = c.units.invariant.so_far
           ∙ ap (λ (r : Reached). later_by size r)
-          (reach_plain c.args.item Open rest
-          ∙ (λ i.
-          later_by (sym c.plain_len-plain.ensures.value i)
+          (reach_plain c.args.item Open rest ∙ (λ i. later_by (sym c.plain_len-plain.ensures.value i)
           (reached (reach look Open (drop (sym c.plain_len-plain.ensures.value i) rest)))))
           ∙ later_by-add size n (reached (reach look Open (drop n rest)))
           ∙ ap (λ (u : List ℕ). later_by (size + n) (reached (reach look Open u))) (sym back);

@@ -3,6 +3,5 @@ use Rattle.cweb_rules.proofs.PlainRuns.{before_first}
 use Rattle.cweb_rules.proofs.plains.len_before2.Goals as goal
 
 pub returns-clause-value : goal.returns-clause-value
-returns-clause-value c =
-    c.unwrap_or.ensures
+returns-clause-value c = c.unwrap_or.ensures
     ∙ before_first (is_byte2 c.args.one c.args.other) c.args.text.now c.memchr2.result c.memchr2.ensures

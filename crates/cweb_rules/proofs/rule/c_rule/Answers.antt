@@ -12,8 +12,7 @@ returns-in-Sign c =
     told-at c.args.includes c.args.text.now first.Sign c.in-len1-up.len_at_least (sym c.in-Sign.is ∙ c.lead_of.ensures)
 
 pub returns-in-Blank : goal.returns-in-Blank
-returns-in-Blank c =
-    told-at c.args.includes c.args.text.now first.Blank c.in-len1-up.len_at_least
+returns-in-Blank c = told-at c.args.includes c.args.text.now first.Blank c.in-len1-up.len_at_least
     (sym c.in-Blank.is ∙ c.lead_of.ensures)
 
 pub returns-in-Open : goal.returns-in-Open

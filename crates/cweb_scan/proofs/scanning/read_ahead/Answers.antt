@@ -6,9 +6,8 @@ use Rattle.cweb_scan.proofs.scanning.read_ahead.Goals as goal
 read_as : (old new : Held) (p : Place) (lent bytes : List ℕ) → lent ≡ bytes
     → ((more : List Line) → read_after new more ≡ read_after old (record { bytes = lent; place = p } ∷ more))
     → (more : List Line) → read_after new more ≡ read_after old (record { bytes = bytes; place = p } ∷ more)
-read_as old new p lent bytes is reads more =
-    subst (λ (b : List ℕ). read_after new more ≡ read_after old (record { bytes = b; place = p } ∷ more)) is
-    (reads more)
+read_as old new p lent bytes is reads more = subst
+    (λ (b : List ℕ). read_after new more ≡ read_after old (record { bytes = b; place = p } ∷ more)) is (reads more)
 
 pub lines-init : goal.lines-init
 lines-init g c =

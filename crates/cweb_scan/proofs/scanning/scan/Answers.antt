@@ -4,15 +4,13 @@ use Rattle.cweb_scan.proofs.scanning.scan.Goals as goal
 
 -- no line is left
 pub returns-in-Ok-clause-scans : goal.returns-in-Ok-clause-scans
-returns-in-Ok-clause-scans g c = λ tells.
-    subst (λ (s : Scanned). Scans s (so_far c.args.merger.now) (so_far c.take_lines.new.merger)
-    (to_come g.S.Shelf c.args.shelf.now c.args.merger.now)) (sym c.in-Ok.ensures)
-    (c.in_default-take_lines.ensures.scans tells)
+returns-in-Ok-clause-scans g c =
+    λ tells. subst (λ (s : Scanned). Scans s (so_far c.args.merger.now) (so_far c.take_lines.new.merger) (to_come
+    g.S.Shelf c.args.shelf.now c.args.merger.now)) (sym c.in-Ok.ensures) (c.in_default-take_lines.ensures.scans tells)
 
 pub returns-in-Ok-clause-within : goal.returns-in-Ok-clause-within
-returns-in-Ok-clause-within g c =
-    subst (λ (s : Scanned). IsWithin (so_far c.take_lines.new.merger) s) (sym c.in-Ok.ensures)
-    c.in_default-take_lines.ensures.within
+returns-in-Ok-clause-within g c = subst (λ (s : Scanned). IsWithin (so_far c.take_lines.new.merger) s)
+    (sym c.in-Ok.ensures) c.in_default-take_lines.ensures.within
 
 -- memory was refused for the store
 pub returns-clause-grows : goal.returns-clause-grows

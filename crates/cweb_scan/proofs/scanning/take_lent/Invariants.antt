@@ -4,9 +4,8 @@ use Rattle.cweb_scan.proofs.scanning.take_lent.Given as goal
 abbrev pub invariant-stretches : goal.invariant-stretches
 invariant-stretches g l = record {
   lent : LendsLines l.fn.merger.run l.merger.run;
-  taken : (tells : Bool) (first : SoFar) (all : List Event) (texts : List ℕ → Option (List ℕ))
-      (left : g.row.S-R.Denot → List ℕ)
-      → HasTaken tells first (so_far l.fn.merger) all (coming texts left l.fn.merger.run) l.fn.reader
+  taken : (tells : Bool) (first : SoFar) (all : List Event) (texts : List ℕ → Option (List ℕ)) (left : g.row.S-R.Denot
+      → List ℕ) → HasTaken tells first (so_far l.fn.merger) all (coming texts left l.fn.merger.run) l.fn.reader
       → HasTaken tells first (so_far l.merger) all (coming texts left l.merger.run) l.reader;
   room : cost l.reader ≤ 3 * ((so_far l.merger).count.bytes + (so_far l.merger).count.lines);
 }

@@ -28,22 +28,18 @@ returns-in-Err-take_line-clause-grows g c =
 
 -- memory was refused for a line that was lent
 pub returns-in-Err-take_lent-clause-grows : goal.returns-in-Err-take_lent-clause-grows
-returns-in-Err-take_lent-clause-grows g c =
-    grows_to _ _ _ c.halt-in-Err-take_lent.ensures.so_far (grows_then _ _ _
+returns-in-Err-take_lent-clause-grows g c = grows_to _ _ _ c.halt-in-Err-take_lent.ensures.so_far (grows_then _ _ _
     (told_then _ _ _ c.lines.invariant.told c.in-Ok.ensures.grows.told) c.in-Err-take_lent.ensures.lent.grows)
 
 pub returns-in-Err-take_lent-clause-stops : goal.returns-in-Err-take_lent-clause-stops
 returns-in-Err-take_lent-clause-stops g c = λ tells.
-    let next =
-    rw c.in-Some.is at (c.in-Ok.ensures.next (keeps_told g.S.Shelf _ _ c.lines.invariant.keeps tells)) in
+    let next = rw c.in-Some.is at (c.in-Ok.ensures.next (keeps_told g.S.Shelf _ _ c.lines.invariant.keeps tells)) in
     let lent = c.in-Err-take_lent.ensures.lent in
     let halt = c.halt-in-Err-take_lent in
-    subst (λ (stop : Stop).
-    EndsEarly stop (so_far c.args.merger.now) (so_far halt.new.self)
-    (to_come g.S.Shelf c.args.shelf.now c.args.merger.now))
-    (sym (halt.ensures.stop (lent.stopped ∙ c.in-Ok.ensures.leaves.running)))
-    (refused _ _ _ _ _ _ halt.ensures.so_far (gives_both _ _ _ _ _ _ _ _
-    (gives_both _ _ _ _ _ _ _ _ (c.lines.invariant.taken.gives tells) next)
+    subst (λ (stop : Stop). EndsEarly stop
+    (so_far c.args.merger.now) (so_far halt.new.self) (to_come g.S.Shelf c.args.shelf.now c.args.merger.now))
+    (sym (halt.ensures.stop (lent.stopped ∙ c.in-Ok.ensures.leaves.running))) (refused _ _ _ _ _ _ halt.ensures.so_far
+    (gives_both _ _ _ _ _ _ _ _ (gives_both _ _ _ _ _ _ _ _ (c.lines.invariant.taken.gives tells) next)
     (lent.gives (g.S.Shelf.texts c.next_line.new.shelf) (g.S.Shelf.left c.next_line.new.shelf)).1))
 
 pub returns-in-Err-take_lent-clause-blamed : goal.returns-in-Err-take_lent-clause-blamed
@@ -56,8 +52,7 @@ returns-in-Err-take_lent-clause-blamed g c = λ tells known.
 
 -- the merger stopped
 pub returns-in-Err-clause-stops : goal.returns-in-Err-clause-stops
-returns-in-Err-clause-stops g c = λ tells.
-    ends_early _ _ _ _ _ _ _ (c.lines.invariant.taken.gives tells)
+returns-in-Err-clause-stops g c = λ tells. ends_early _ _ _ _ _ _ _ (c.lines.invariant.taken.gives tells)
     (c.in-Err.ensures.stops (keeps_told g.S.Shelf _ _ c.lines.invariant.keeps tells) c.lines.invariant.running)
 
 pub returns-in-Err-clause-blames : goal.returns-in-Err-clause-blames
@@ -72,22 +67,17 @@ returns-in-Err-clause-blames g c =
 -- memory was refused for a line
 pub returns-in-Err-take_line-clause-stops : goal.returns-in-Err-take_line-clause-stops
 returns-in-Err-take_line-clause-stops g c = λ tells.
-    let next =
-    rw c.in-Some.is at (c.in-Ok.ensures.next (keeps_told g.S.Shelf _ _ c.lines.invariant.keeps tells)) in
-    subst (λ (stop : Stop).
-    EndsEarly stop (so_far c.args.merger.now) (so_far c.halt.new.self)
-    (to_come g.S.Shelf c.args.shelf.now c.args.merger.now))
-    (sym (c.halt.ensures.stop c.in-Ok.ensures.leaves.running))
+    let next = rw c.in-Some.is at (c.in-Ok.ensures.next (keeps_told g.S.Shelf _ _ c.lines.invariant.keeps tells)) in
+    subst (λ (stop : Stop). EndsEarly stop (so_far c.args.merger.now) (so_far c.halt.new.self)
+    (to_come g.S.Shelf c.args.shelf.now c.args.merger.now)) (sym (c.halt.ensures.stop c.in-Ok.ensures.leaves.running))
     (refused _ _ _ _ _ _ c.halt.ensures.so_far (gives_both _ _ _ _ _ _ _ _ (c.lines.invariant.taken.gives tells) next))
 
 -- lines were lent
 after_lent : {S R : Type 0} (shelf : Shelf S R) (before now : S) (old merger new : Merger S R) (reader next : Held)
-    → HasScanned shelf before now old merger reader → LendsLines merger.run new.run
-    → ((tells : Bool) (first : SoFar) (all : List Event) (texts : List ℕ → Option (List ℕ)) (left : R → List ℕ)
-    → HasTaken tells first (so_far merger) all (coming texts left merger.run) reader
-    → HasTaken tells first (so_far new) all (coming texts left new.run) next)
-    → cost next ≤ 3 * ((so_far new).count.bytes + (so_far new).count.lines)
-    → HasScanned shelf before now old new next
+    → HasScanned shelf before now old merger reader → LendsLines merger.run new.run → ((tells : Bool) (first : SoFar)
+    (all : List Event) (texts : List ℕ → Option (List ℕ)) (left : R → List ℕ) → HasTaken tells first (so_far merger)
+    all (coming texts left merger.run) reader → HasTaken tells first (so_far new) all (coming texts left new.run) next)
+    → cost next ≤ 3 * ((so_far new).count.bytes + (so_far new).count.lines) → HasScanned shelf before now old new next
 after_lent shelf before now old merger new reader next scanned lent taken room = record {
   keeps = scanned.keeps;
   failed = scanned.failed;
@@ -108,25 +98,18 @@ lines-preserved g c =
     c.take_lent.new.merger c.take_line.new.self c.take_lent.new.reader (record {
       keeps = keeps_then g.S.Shelf _ _ _ c.lines.invariant.keeps c.in-Ok.ensures.keeps;
       failed = search rules;
-      readers = λ tells known.
-          (c.in-Ok.ensures.known (keeps_told g.S.Shelf _ _ c.lines.invariant.keeps tells)
+      readers = λ tells known. (c.in-Ok.ensures.known (keeps_told g.S.Shelf _ _ c.lines.invariant.keeps tells)
           (c.lines.invariant.readers tells known)).readers;
-      blamed = λ tells known.
-          (c.in-Ok.ensures.known (keeps_told g.S.Shelf _ _ c.lines.invariant.keeps tells)
+      blamed = λ tells known. (c.in-Ok.ensures.known (keeps_told g.S.Shelf _ _ c.lines.invariant.keeps tells)
           (c.lines.invariant.readers tells known)).blamed c.lines.invariant.running
           ∙ c.lines.invariant.blamed tells known;
       running = c.in-Ok.ensures.leaves.running;
       told = told_then _ _ _ c.lines.invariant.told c.in-Ok.ensures.grows.told;
-      taken =
-          given_line_taken _ _ _ _ _ _ _ _ _
-          (record { bytes = c.next_line.new.line.items; place = c.in-Some.place })
-          c.lines.invariant.taken given (told_files _ _ c.in-Ok.ensures.grows.told)
-          (λ more.
-          subst (λ (bytes : List ℕ).
-          read_after c.take_line.new.self more
-          ≡ read_after c.lines.reader (record { bytes = bytes; place = c.in-Some.place } ∷ more))
-          c.deref.ensures.value (c.in_default-take_line.ensures.read more))
-          (λ tells.
+      taken = given_line_taken _ _ _ _ _ _ _ _ _
+          (record { bytes = c.next_line.new.line.items; place = c.in-Some.place }) c.lines.invariant.taken given
+          (told_files _ _ c.in-Ok.ensures.grows.told) (λ more. subst (λ (bytes : List ℕ). read_after
+          c.take_line.new.self more ≡ read_after c.lines.reader (record { bytes = bytes; place = c.in-Some.place }
+          ∷ more)) c.deref.ensures.value (c.in_default-take_line.ensures.read more)) (λ tells.
           rw c.in-Some.is at (c.in-Ok.ensures.next (keeps_told g.S.Shelf _ _ c.lines.invariant.keeps tells)));
       room =
           omega (
@@ -150,9 +133,8 @@ returns-in-Err-clause-blamed g c = λ tells known.
 pub returns-in-Err-take_line-clause-blamed : goal.returns-in-Err-take_line-clause-blamed
 returns-in-Err-take_line-clause-blamed g c = λ tells known.
     let inv = c.lines.invariant in
-    none_blamed _ _ _ _ (c.halt.ensures.stop c.in-Ok.ensures.leaves.running)
-    ((c.in-Ok.ensures.known (keeps_told g.S.Shelf _ _ inv.keeps tells) (inv.readers tells known)).blamed inv.running
-    ∙ inv.blamed tells known)
+    none_blamed _ _ _ _ (c.halt.ensures.stop c.in-Ok.ensures.leaves.running) ((c.in-Ok.ensures.known
+    (keeps_told g.S.Shelf _ _ inv.keeps tells) (inv.readers tells known)).blamed inv.running ∙ inv.blamed tells known)
 
 -- no line is left
 -- memory was refused for the store
@@ -171,8 +153,7 @@ lines-smaller g c =
 -- no line is left
 pub returns-in_default-clause-scans : goal.returns-in_default-clause-scans
 returns-in_default-clause-scans g c = λ tells.
-    let next =
-    rw c.in_default.is at (c.in-Ok.ensures.next (keeps_told g.S.Shelf _ _ c.lines.invariant.keeps tells)) in
+    let next = rw c.in_default.is at (c.in-Ok.ensures.next (keeps_told g.S.Shelf _ _ c.lines.invariant.keeps tells)) in
     let taken = c.lines.invariant.taken in
     all_scanned _ _ _ _ _ _ _ c.lines.reader _ taken.read_is taken.few (taken.gives tells) refl next.0 next.1
 

@@ -5,19 +5,17 @@ use Rattle.cweb_tools.proofs.Readies.{left_known, text_on}
 use Rattle.cweb_tools.proofs.outputs.write_file.Goals as goal
 
 pub print_all-requires-clause-left : goal.print_all-requires-clause-left
-print_all-requires-clause-left g c =
-    left_known c.args.names.now c.args.expander.now c.restart.new.self c.args.output
-    c.requires.known c.restart.ensures.store c.restart.ensures.left
+print_all-requires-clause-left g c = left_known c.args.names.now
+    c.args.expander.now c.restart.new.self c.args.output c.requires.known c.restart.ensures.store c.restart.ensures.left
 
 -- the file could not be begun
 pub returns-in-Err-Memory-clause-does : goal.returns-in-Err-Memory-clause-does
 returns-in-Err-Memory-clause-does g c =
     let began = c.in-Err-Memory.ensures in
-    file_failed _ _ Memory (not_begun no_memory) (files.not_begun no_memory)
-    (seen_bins g.B.Sink c.args.bins.now) (seen_bins g.B.Sink c.start_file.new.self)
-    began.tells ((rw c.in-Err-Memory.field-0-is at began.failed) ∙ sym (add-zero (g.B.Sink.failed c.args.bins.now)))
-    refl refl (λ tell. rw c.in-Err-Memory.field-0-is at (began.err tell)) (λ now. refl)
-    (λ now. sym (add-zero now.bins_failed)) (λ now. refl)
+    file_failed _ _ Memory (not_begun no_memory) (files.not_begun no_memory) (seen_bins g.B.Sink c.args.bins.now)
+    (seen_bins g.B.Sink c.start_file.new.self) began.tells ((rw c.in-Err-Memory.field-0-is at began.failed) ∙ sym
+    (add-zero (g.B.Sink.failed c.args.bins.now))) refl refl (λ tell. rw c.in-Err-Memory.field-0-is at (began.err tell))
+    (λ now. refl) (λ now. sym (add-zero now.bins_failed)) (λ now. refl)
 
 pub returns-in-Err-Device-clause-does : goal.returns-in-Err-Device-clause-does
 returns-in-Err-Device-clause-does g c =
@@ -35,15 +33,12 @@ returns-in-Err-clause-does g c =
     let printed = c.in-Err.ensures in
     let gone = c.abandon_file.ensures in
     file_failed name _ WriteFault (λ (now : Held). bins_fail (given_up now))
-    (λ (b : Beside). without_draft (with_draft name b))
-    (seen_bins g.B.Sink c.args.bins.now) (seen_bins g.B.Sink c.abandon_file.new.self)
-    (gone.tells ∙ printed.tells ∙ began.tells)
-    (gone.failed ∙ printed.failed ∙ ap (λ (n : ℕ). n + 1) began.failed) refl refl
-    (λ tell.
+    (λ (b : Beside). without_draft (with_draft name b)) (seen_bins g.B.Sink c.args.bins.now)
+    (seen_bins g.B.Sink c.abandon_file.new.self) (gone.tells ∙ printed.tells ∙ began.tells)
+    (gone.failed ∙ printed.failed ∙ ap (λ (n : ℕ). n + 1) began.failed) refl refl (λ tell.
     let told : IsTrue (g.B.Sink.tells c.start_file.new.self) = began.tells ∙ tell in
-    gone.gone (printed.tells ∙ told)
-    ∙ ap without_draft (printed.beside told ∙ (rw c.output_name.ensures at began.begun) tell))
-    (λ now. (refl, refl)) (λ now. refl) (λ now. refl)
+    gone.gone (printed.tells ∙ told) ∙ ap without_draft (printed.beside told
+    ∙ (rw c.output_name.ensures at began.begun) tell)) (λ now. (refl, refl)) (λ now. refl) (λ now. refl)
 
 -- it was printed, and could not be committed
 pub returns-in-Err-commit_file-clause-does : goal.returns-in-Err-commit_file-clause-does
@@ -53,23 +48,18 @@ returns-in-Err-commit_file-clause-does g c =
     let printed = c.in_default.ensures in
     let kept = c.in-Err-commit_file.ensures in
     file_failed name _ WriteFault (λ (now : Held). bins_fail (given_up now))
-    (λ (b : Beside). without_draft (with_draft name b))
-    (seen_bins g.B.Sink c.args.bins.now) (seen_bins g.B.Sink c.commit_file.new.self)
-    (kept.tells ∙ printed.tells ∙ began.tells)
-    (kept.failed ∙ ap (λ (n : ℕ). n + 1) (printed.failed ∙ began.failed)) refl refl
-    (λ tell.
+    (λ (b : Beside). without_draft (with_draft name b)) (seen_bins g.B.Sink c.args.bins.now)
+    (seen_bins g.B.Sink c.commit_file.new.self) (kept.tells ∙ printed.tells ∙ began.tells)
+    (kept.failed ∙ ap (λ (n : ℕ). n + 1) (printed.failed ∙ began.failed)) refl refl (λ tell.
     let told : IsTrue (g.B.Sink.tells c.start_file.new.self) = began.tells ∙ tell in
-    kept.err (printed.tells ∙ told)
-    ∙ ap without_draft (printed.beside told ∙ (rw c.output_name.ensures at began.begun) tell))
-    (λ now. (refl, refl)) (λ now. refl) (λ now. refl)
+    kept.err (printed.tells ∙ told) ∙ ap without_draft (printed.beside told
+    ∙ (rw c.output_name.ensures at began.begun) tell)) (λ now. (refl, refl)) (λ now. refl) (λ now. refl)
 
 pub returns-clause-does : goal.returns-clause-does
-returns-clause-does g c =
-    file_done _ _ (seen_bins g.B.Sink c.args.bins.now) (seen_bins g.B.Sink c.start_file.new.self)
+returns-clause-does g c = file_done _ _ (seen_bins g.B.Sink c.args.bins.now) (seen_bins g.B.Sink c.start_file.new.self)
     (seen_bins g.B.Sink c.print_all.new.out) (seen_bins g.B.Sink c.commit_file.new.self)
-    c.in-Ok.ensures.tells c.in-Ok.ensures.failed
-    (rw c.output_name.ensures at c.in-Ok.ensures.begun) c.in-Ok.ensures.empty
-    c.in_default.ensures.tells c.in_default.ensures.failed c.in_default.ensures.beside
+    c.in-Ok.ensures.tells c.in-Ok.ensures.failed (rw c.output_name.ensures at c.in-Ok.ensures.begun)
+    c.in-Ok.ensures.empty c.in_default.ensures.tells c.in_default.ensures.failed c.in_default.ensures.beside
     (λ tells. c.in_default.ensures.prints tells ∙ ap (λ (t : List ℕ). g.B.Sink.written c.start_file.new.self ++ t)
     (text_on c.args.names.now c.args.expander.now c.restart.new.self _ c.restart.ensures.store c.restart.ensures.left))
     c.in_default-commit_file.ensures.tells c.in_default-commit_file.ensures.failed c.in_default-commit_file.ensures.ok

@@ -3,10 +3,8 @@ use Rattle.cweb_tools.proofs.FaultItems.{counted_all, none_said, some_from, some
 use Rattle.cweb_tools.proofs.tangle.say_faults.Goals as goal
 
 pub returns-then-fault_count-eq0 : goal.returns-then-fault_count-eq0
-returns-then-fault_count-eq0 g c =
-    none_said (faults_of c.args.web) _
-    (sym (counted_all (files_of c.args.web) c.args.web.faults.now (seen c.args.web.scanned.now))
-    ∙ sym c.fault_count.ensures.count ∙ c.if-fault_count-eq0.true)
+returns-then-fault_count-eq0 g c = none_said (faults_of c.args.web) _ (sym (counted_all (files_of c.args.web)
+    c.args.web.faults.now (seen c.args.web.scanned.now)) ∙ sym c.fault_count.ensures.count ∙ c.if-fault_count-eq0.true)
 
 pub returns : goal.returns
 returns g c =

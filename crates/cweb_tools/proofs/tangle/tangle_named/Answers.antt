@@ -20,8 +20,7 @@ returns-in-Ok g c =
       tells = c.in-Ok.ensures.keeps.tells;
       failed = c.in-Ok.ensures.failed;
       blamed = c.in-Ok.ensures.blamed;
-      begins = λ tells.
-          rw (c.as_str.ensures.value, c.second.ensures, c.change.ensures, c.folder.ensures)
+      begins = λ tells. rw (c.as_str.ensures.value, c.second.ensures, c.change.ensures, c.folder.ensures)
           at (c.in-Ok.ensures.begins tells);
       known = c.in-Ok.ensures.readers;
     })

@@ -11,8 +11,7 @@ pub log_stop-requires : goal.log_stop-requires
 log_stop-requires g c = omega (arith, log_counted _ _ _ _ c.in_default.ensures, c.requires.log_count)
 
 pub returns-in_default-new : goal.returns-in_default-new
-returns-in_default-new g c =
-    both_closes_on _ _ _ _ _ _ _ _ _ (rw c.no_text.ensures at c.in_default.ensures)
+returns-in_default-new g c = both_closes_on _ _ _ _ _ _ _ _ _ (rw c.no_text.ensures at c.in_default.ensures)
     (memory_halts reserves _ _ _ _ _ _ (λ now. refl) c.log_stop.ensures.logs c.log_stop.ensures.status)
 
 pub log_stop-requires-in_default-new-2 : goal.log_stop-requires-in_default-new-2
@@ -20,9 +19,8 @@ log_stop-requires-in_default-new-2 g c = omega (arith, log_counted _ _ _ _ c.in_
 
 pub returns-in_default-new-2 : goal.returns-in_default-new-2
 returns-in_default-new-2 g c =
-    both_closes_on _ _ _ _ _ _ _ _ _ (rw c.no_text.ensures at c.in_default.ensures)
-    (memory_halts reserves _ _ _ _ _ _ (λ now. refl) c.log_stop-in_default-new-2.ensures.logs
-    c.log_stop-in_default-new-2.ensures.status)
+    both_closes_on _ _ _ _ _ _ _ _ _ (rw c.no_text.ensures at c.in_default.ensures) (memory_halts reserves _ _ _ _ _ _
+    (λ now. refl) c.log_stop-in_default-new-2.ensures.logs c.log_stop-in_default-new-2.ensures.status)
 
 pub write_outputs-requires-clause-log_count : goal.write_outputs-requires-clause-log_count
 write_outputs-requires-clause-log_count g c =
@@ -39,14 +37,11 @@ log_failed-requires g c = λ never.
     )
 
 pub returns-in-Err-write_outputs : goal.returns-in-Err-write_outputs
-returns-in-Err-write_outputs g c =
-    both_closes_on _ _ _ _ _ _ _ _ _ (rw c.no_text.ensures at c.in_default.ensures)
-    (closes_then (reserves ∷ []) _ _ _ _ _ _ _ _ _ (reserved_so _ _)
-    (closes_stop _ _ _ _ _ _ _ _ _ _
-    (all_on {A = Unit {0}} c.args.shown.progress c.args.web.names.now c.in-Ok.expander
-    c.args.web.scanned.now.store c.args.plan.now (Err c.in-Err-write_outputs.failed) _ _ _ _
-    (ap (λ (s : Bor Stored). s.now) c.in-Ok.ensures.store ∙ c.store.ensures)
-    (ap (λ (p : Bor Planned). p.now) c.in-Ok.ensures.plan) c.in-Err-write_outputs.ensures.does)
+returns-in-Err-write_outputs g c = both_closes_on _ _ _ _ _ _ _ _ _ (rw c.no_text.ensures at c.in_default.ensures)
+    (closes_then (reserves ∷ []) _ _ _ _ _ _ _ _ _ (reserved_so _ _) (closes_stop _ _ _ _ _ _ _ _ _ _
+    (all_on {A = Unit {0}} c.args.shown.progress c.args.web.names.now c.in-Ok.expander c.args.web.scanned.now.store
+    c.args.plan.now (Err c.in-Err-write_outputs.failed) _ _ _ _ (ap (λ (s : Bor Stored). s.now) c.in-Ok.ensures.store
+    ∙ c.store.ensures) (ap (λ (p : Bor Planned). p.now) c.in-Ok.ensures.plan) c.in-Err-write_outputs.ensures.does)
     (rw c.output_name.ensures at c.log_failed.ensures.logs) c.log_failed.ensures.status))
 
 pub say_end-requires : goal.say_end-requires
@@ -59,31 +54,20 @@ say_end-requires g c =
     )
 
 pub returns-in-Err-say_end : goal.returns-in-Err-say_end
-returns-in-Err-say_end g c =
-    both_closes_on _ _ _ _ _ _ _ _ _ (rw c.no_text.ensures at c.in_default.ensures)
-    (closes_then (reserves ∷ []) _ _ _ _ _ _ _ _ _ (reserved_so _ _)
-    (closes_then _ _ _ _ _ _ _ _ _ _
-    (all_on {A = Unit {0}} c.args.shown.progress c.args.web.names.now c.in-Ok.expander
-    c.args.web.scanned.now.store c.args.plan.now (Ok tt) _ _ _ _
-    (ap (λ (s : Bor Stored). s.now) c.in-Ok.ensures.store ∙ c.store.ensures)
-    (ap (λ (p : Bor Planned). p.now) c.in-Ok.ensures.plan) c.in_default-write_outputs.ensures.does)
-    (closes_log _ _ _ _ _ _
-    (log_halts_all _ _ _ _ _
-    (closing_on c.args.shown _ _ _ _ _ _ _ _ _ c.of.ensures
-    c.fault_count-count.ensures.count c.no_text-2.ensures c.in-Err-say_end.ensures)
-    refl))))
+returns-in-Err-say_end g c = both_closes_on _ _ _ _ _ _ _ _ _
+    (rw c.no_text.ensures at c.in_default.ensures) (closes_then (reserves ∷ []) _ _ _ _ _ _ _ _ _ (reserved_so _ _)
+    (closes_then _ _ _ _ _ _ _ _ _ _ (all_on {A = Unit {0}} c.args.shown.progress c.args.web.names.now c.in-Ok.expander
+    c.args.web.scanned.now.store c.args.plan.now (Ok tt) _ _ _ _ (ap (λ (s : Bor Stored). s.now) c.in-Ok.ensures.store
+    ∙ c.store.ensures) (ap (λ (p : Bor Planned). p.now) c.in-Ok.ensures.plan) c.in_default-write_outputs.ensures.does)
+    (closes_log _ _ _ _ _ _ (log_halts_all _ _ _ _ _ (closing_on c.args.shown _ _
+    _ _ _ _ _ _ _ c.of.ensures c.fault_count-count.ensures.count c.no_text-2.ensures c.in-Err-say_end.ensures) refl))))
 
 pub returns : goal.returns
 returns g c =
-    both_closes_on _ _ _ _ _ _ _ _ _ (rw c.no_text.ensures at c.in_default.ensures)
-    (closes_then (reserves ∷ []) _ _ _ _ _ _ _ _ _ (reserved_so _ _)
-    (closes_then _ _ _ _ _ _ _ _ _ _
-    (all_on {A = Unit {0}} c.args.shown.progress c.args.web.names.now c.in-Ok.expander
-    c.args.web.scanned.now.store c.args.plan.now (Ok tt) _ _ _ _
-    (ap (λ (s : Bor Stored). s.now) c.in-Ok.ensures.store ∙ c.store.ensures)
-    (ap (λ (p : Bor Planned). p.now) c.in-Ok.ensures.plan) c.in_default-write_outputs.ensures.does)
-    (closes_log _ _ _ _ _ _
-    (closes_done _ _ _ _ _
-    (closing_on c.args.shown _ _ _ _ _ _ _ _ _ c.of.ensures
-    c.fault_count-count.ensures.count c.no_text-2.ensures c.in_default-say_end.ensures)
+    both_closes_on _ _ _ _ _ _ _ _ _ (rw c.no_text.ensures at c.in_default.ensures) (closes_then (reserves ∷ [])
+    _ _ _ _ _ _ _ _ _ (reserved_so _ _) (closes_then _ _ _ _ _ _ _ _ _ _ (all_on {A = Unit {0}} c.args.shown.progress
+    c.args.web.names.now c.in-Ok.expander c.args.web.scanned.now.store c.args.plan.now (Ok tt) _ _ _ _ (ap (λ (s :
+    Bor Stored). s.now) c.in-Ok.ensures.store ∙ c.store.ensures) (ap (λ (p : Bor Planned). p.now) c.in-Ok.ensures.plan)
+    c.in_default-write_outputs.ensures.does) (closes_log _ _ _ _ _ _ (closes_done _ _ _ _ _ (closing_on c.args.shown
+    _ _ _ _ _ _ _ _ _ c.of.ensures c.fault_count-count.ensures.count c.no_text-2.ensures c.in_default-say_end.ensures)
     (c.status.ensures ∙ ap (λ (n : ℕ). if n == 0 then 0 else 1) c.fault_count-count.ensures.count)))))

@@ -5,39 +5,30 @@ use Rattle.cweb_tools.proofs.wmerge.merge_begun.Goals as goal
 
 pub returns-in-Ok : goal.returns-in-Ok
 returns-in-Ok g c = λ names first world found changes begun.
-    let tells-2 : IsTrue first.tells → IsTrue (g.S.Shelf.tells c.args.shelf.now) =
-    λ tells. subst IsTrue (sym begun.tells) tells in
+    let tells-2 : IsTrue first.tells
+    → IsTrue (g.S.Shelf.tells c.args.shelf.now) = λ tells. subst IsTrue (sym begun.tells) tells in
     let wrote = c.in-Ok.ensures in
-    completed world names found changes _ _ _ _ _ begun.begins
-    _ _ _ c.names.ensures c.faults.ensures.value
+    completed world names found changes _ _ _ _ _ begun.begins _ _ _ c.names.ensures c.faults.ensures.value
     (λ tells. (wrote.ok (tells-2 tells)).gives) wrote.grows.lines wrote.grows.bytes
-    (wrote.ended.2 ∙ begun.failed)
-    (λ tells. (wrote.known (tells-2 tells) (begun.known tells)).blamed c.requires.running ∙ begun.blamed tells)
-    wrote.ended.3
-    (λ tells told. (wrote.ok (tells-2 tells)).wrote told)
+    (wrote.ended.2 ∙ begun.failed) (λ tells. (wrote.known (tells-2 tells) (begun.known tells)).blamed c.requires.running
+    ∙ begun.blamed tells) wrote.ended.3 (λ tells told. (wrote.ok (tells-2 tells)).wrote told)
     c.log_faults.ensures.logs c.log_faults.ensures.answered c.log_faults.ensures.failed
 
 pub returns-in-Err : goal.returns-in-Err
 returns-in-Err g c = λ names first world found changes begun.
-    let tells-2 : IsTrue first.tells → IsTrue (g.S.Shelf.tells c.args.shelf.now) =
-    λ tells. subst IsTrue (sym begun.tells) tells in
+    let tells-2 : IsTrue first.tells
+    → IsTrue (g.S.Shelf.tells c.args.shelf.now) = λ tells. subst IsTrue (sym begun.tells) tells in
     let stop = c.in-Err.stop in
     let wrote = c.in-Err.ensures in
     let running = c.requires.running in
     let blames = wrote.blames running in
-    stopped world names found changes _ _ _ _ _ begun.begins
-    stop _ _ (Writes g.W.Sink c.args.out.now c.write_merged_in_pieces.new.out)
-    c.names-in-Err.ensures blames.kind
-    (λ tells. (wrote.stops (tells-2 tells) running).why) blames.named
-    (λ tells. (wrote.stops (tells-2 tells) running).told)
-    (blames.shelf ∙ ap (λ (n : ℕ). n + read_blame stop) begun.failed)
-    (λ tells.
-    (wrote.known (tells-2 tells) (begun.known tells)).blamed running
-    ∙ ap (λ (files : List (List ℕ)). files ++ blame (so_far c.write_merged_in_pieces.new.merger).names stop)
-    (begun.blamed tells))
-    blames.out
-    (λ tells told. wrote.front (tells-2 tells) told)
-    (rw c.subject.ensures at c.log_stop.ensures.logs) c.log_stop.ensures.status
+    stopped world names found changes _ _ _ _ _ begun.begins stop _ _
+    (Writes g.W.Sink c.args.out.now c.write_merged_in_pieces.new.out) c.names-in-Err.ensures blames.kind
+    (λ tells. (wrote.stops (tells-2 tells) running).why) blames.named (λ tells.
+    (wrote.stops (tells-2 tells) running).told) (blames.shelf ∙ ap (λ (n : ℕ). n + read_blame stop) begun.failed)
+    (λ tells. (wrote.known (tells-2 tells) (begun.known tells)).blamed running ∙ ap (λ (files : List (List ℕ)). files
+    ++ blame (so_far c.write_merged_in_pieces.new.merger).names stop) (begun.blamed tells)) blames.out (λ tells told.
+    wrote.front (tells-2 tells) told) (rw c.subject.ensures at c.log_stop.ensures.logs) c.log_stop.ensures.status
 
 pub log_faults-requires-clause-known : goal.log_faults-requires-clause-known
 log_faults-requires-clause-known g c = rw c.names.ensures c.faults.ensures.known

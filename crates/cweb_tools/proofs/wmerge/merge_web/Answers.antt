@@ -7,10 +7,9 @@ pub returns-in-Err : goal.returns-in-Err
 returns-in-Err g c =
     let world : World = world_of (g.S.Shelf.texts c.args.shelf.now) (option_copied c.args.inputs) in
     let names : WebNames = names_of c.args.asked.now in
-    start_stopped _ _ _ c.in-Err.ensures.failed c.in-Err.ensures.blamed refl
-    c.log_stop.ensures.status world names _ _ c.in-Err.stop c.in-Err.ensures.only
-    (λ tells. rw (c.as_str.ensures.value, c.second.ensures, c.change.ensures) at (c.in-Err.ensures.stops tells))
-    (rw c.start_subject.ensures at c.log_stop.ensures.logs)
+    start_stopped _ _ _ c.in-Err.ensures.failed c.in-Err.ensures.blamed refl c.log_stop.ensures.status world names
+    _ _ c.in-Err.stop c.in-Err.ensures.only (λ tells. rw (c.as_str.ensures.value, c.second.ensures, c.change.ensures) at
+    (c.in-Err.ensures.stops tells)) (rw c.start_subject.ensures at c.log_stop.ensures.logs)
 
 pub returns-in-Ok : goal.returns-in-Ok
 returns-in-Ok g c =
@@ -19,8 +18,7 @@ returns-in-Ok g c =
       tells = c.in-Ok.ensures.keeps.tells;
       failed = c.in-Ok.ensures.failed;
       blamed = c.in-Ok.ensures.blamed;
-      begins = λ tells.
-          rw (c.as_str.ensures.value, c.second.ensures, c.change.ensures, c.folder.ensures)
+      begins = λ tells. rw (c.as_str.ensures.value, c.second.ensures, c.change.ensures, c.folder.ensures)
           at (c.in-Ok.ensures.begins tells);
       known = c.in-Ok.ensures.readers;
     })

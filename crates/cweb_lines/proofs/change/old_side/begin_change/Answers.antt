@@ -13,9 +13,8 @@ returns-in-Err-close-clause-told g c = λ tells. closes_some c.args.begin _ _ _ 
 
 -- what was told stays
 pub returns-in-Err-close-clause-still : goal.returns-in-Err-close-clause-still
-returns-in-Err-close-clause-still g c =
-    told_then _ _ _ c.in-Ok.ensures.still (told_behind _ _ _ c.in-Err-close.ensures.err.told
-    (ap names_of c.in-Err-close.ensures.only.names))
+returns-in-Err-close-clause-still g c = told_then _ _ _ c.in-Ok.ensures.still
+    (told_behind _ _ _ c.in-Err-close.ensures.err.told (ap names_of c.in-Err-close.ensures.only.names))
 
 pub returns-clause-still : goal.returns-clause-still
 returns-clause-still g c = told_then _ _ _ c.in-Ok.ensures.still

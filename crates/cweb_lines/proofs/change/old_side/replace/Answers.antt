@@ -30,10 +30,8 @@ lines-init g c = record {
 }
 
 pub returns-in-Err-clause-stops : goal.returns-in-Err-clause-stops
-returns-in-Err-clause-stops g c = λ tells.
-    stops_map c.in-Err.stop
-    (replaces_stop _ _ c.lines.so_far _ _ _ _ (c.lines.invariant.replaces tells) c.in-Err.stop
-    (count_of c.take_change.new.run.limits)
+returns-in-Err-clause-stops g c = λ tells. stops_map c.in-Err.stop (replaces_stop _ _ c.lines.so_far _ _ _ _
+    (c.lines.invariant.replaces tells) c.in-Err.stop (count_of c.take_change.new.run.limits)
     (λ i. record { lines = c.in-Err.ensures.answers.counted.0 i; bytes = c.in-Err.ensures.answers.counted.1 i }))
     (c.in-Err.ensures.stops (subst IsTrue (sym c.lines.invariant.tells) tells))
 
@@ -42,16 +40,15 @@ returns-in-Err-compare-clause-stops g c = λ tells.
     let still = subst IsTrue (sym c.lines.invariant.tells) tells in
     let taken = rw c.in-Some.is at (c.in-Ok.ensures.taken still) in
     let test : code_of c.take_change.new.line.items ≡ None = ap code_of (sym c.deref.ensures.value)
-    ∙ sym c.code_of.ensures ∙ c.in-None.is in
-    let raws : things_above (g.S.Shelf.left c.take_change.new.shelf) 0 c.take_change.new.run.stack [] ≡ things_above
-    (g.S.Shelf.left c.lines.shelf) 0 c.lines.run.stack [] =
+    ∙ sym c.code_of.ensures
+    ∙ c.in-None.is in
+    let raws : things_above (g.S.Shelf.left c.take_change.new.shelf) 0 c.take_change.new.run.stack []
+    ≡ things_above (g.S.Shelf.left c.lines.shelf) 0 c.lines.run.stack [] =
     λ i. things_above (c.in-Ok.ensures.keeps.left still i) 0 (c.in-Ok.ensures.stack i) [] in
-    stops_map c.in-Err-compare.stop
-    (λ top. replaces_raw_stop _ _ c.lines.so_far _ _ _ _ (c.lines.invariant.replaces tells)
-    (told_by c.take_change.new.run) c.take_change.new.line.items c.in-Some.at.place taken.0 _ taken.1
-    (ap (λ (v : Vec SourceFault Global). v.items) c.in-Ok.ensures.only.faults)
-    (ap names_of c.in-Ok.ensures.only.names) c.in-Err-compare.stop
-    (count_of c.compare.new.run.limits) c.in-Err-compare.ensures.away.same test
+    stops_map c.in-Err-compare.stop (λ top. replaces_raw_stop _ _ c.lines.so_far _ _ _ _ (c.lines.invariant.replaces
+    tells) (told_by c.take_change.new.run) c.take_change.new.line.items c.in-Some.at.place taken.0 _ taken.1
+    (ap (λ (v : Vec SourceFault Global). v.items) c.in-Ok.ensures.only.faults) (ap names_of c.in-Ok.ensures.only.names)
+    c.in-Err-compare.stop (count_of c.compare.new.run.limits) c.in-Err-compare.ensures.away.same test
     (subst (λ (ts : List Thing). TopStops c.in-Err-compare.stop (count_of c.take_change.new.run.limits) ts) raws top))
     (c.in-Err-compare.ensures.stops (subst IsTrue (sym c.in-Ok.ensures.keeps.tells) still))
 
@@ -60,30 +57,28 @@ returns-then-eq-clause-replaced g c = λ tells.
     let still = subst IsTrue (sym c.lines.invariant.tells) tells in
     let taken = rw c.in-Some.is at (c.in-Ok.ensures.taken still) in
     let test : code_of c.take_change.new.line.items ≡ Some new_side = ap code_of (sym c.deref.ensures.value)
-    ∙ sym c.code_of.ensures ∙ c.in-Some-code_of.is ∙ ap Some
-    (is_new c.in-Some-code_of.code (sym c.eq.ensures ∙ c.if-eq.true)) in
-    let raws : things_above (g.S.Shelf.left c.lines.shelf) 0 c.lines.run.stack [] ≡ things_above
-    (g.S.Shelf.left c.take_change.new.shelf) 0 c.take_change.new.run.stack [] =
+    ∙ sym c.code_of.ensures
+    ∙ c.in-Some-code_of.is
+    ∙ ap Some (is_new c.in-Some-code_of.code (sym c.eq.ensures ∙ c.if-eq.true)) in
+    let raws : things_above (g.S.Shelf.left c.lines.shelf) 0 c.lines.run.stack []
+    ≡ things_above (g.S.Shelf.left c.take_change.new.shelf) 0 c.take_change.new.run.stack [] =
     λ i. things_above (sym (c.in-Ok.ensures.keeps.left still) i) 0 (sym c.in-Ok.ensures.stack i) [] in
     let done = replaces_new (change_lines (g.S.Shelf.left c.args.shelf.now) c.args.run.now)
     (things_above (g.S.Shelf.left c.args.shelf.now) 0 c.args.run.now.stack []) c.lines.so_far
     (change_lines (g.S.Shelf.left c.lines.shelf) c.lines.run)
     (things_above (g.S.Shelf.left c.lines.shelf) 0 c.lines.run.stack []) (told_by c.args.run.now) (told_by c.lines.run)
-    (c.lines.invariant.replaces tells)
-    (told_by c.take_change.new.run) c.take_change.new.line.items c.in-Some.at.place taken.0
-    (change_lines (g.S.Shelf.left c.take_change.new.shelf) c.take_change.new.run) taken.1
-    (ap (λ (v : Vec SourceFault Global). v.items) c.in-Ok.ensures.only.faults)
-    (ap names_of c.in-Ok.ensures.only.names) test in
+    (c.lines.invariant.replaces tells) (told_by c.take_change.new.run) c.take_change.new.line.items c.in-Some.at.place
+    taken.0 (change_lines (g.S.Shelf.left c.take_change.new.shelf) c.take_change.new.run) taken.1 (ap (λ (v :
+    Vec SourceFault Global). v.items) c.in-Ok.ensures.only.faults) (ap names_of c.in-Ok.ensures.only.names) test in
     subst (λ (ts : List Thing). IsReplaced (change_lines (g.S.Shelf.left c.args.shelf.now) c.args.run.now)
     (things_above (g.S.Shelf.left c.args.shelf.now) 0 c.args.run.now.stack []) c.lines.so_far
-    (change_lines (g.S.Shelf.left c.take_change.new.shelf) c.take_change.new.run) ts (told_by c.args.run.now)
-    (told_by c.take_change.new.run)) raws
-    (subst (λ (b : Bool). IsReplaced (change_lines (g.S.Shelf.left c.args.shelf.now) c.args.run.now)
-    (things_above (g.S.Shelf.left c.args.shelf.now) 0 c.args.run.now.stack [])
-    (record { unequal = c.lines.so_far.unequal; ran_out = c.lines.so_far.ran_out; ended = b })
+    (change_lines (g.S.Shelf.left c.take_change.new.shelf) c.take_change.new.run) ts
+    (told_by c.args.run.now) (told_by c.take_change.new.run)) raws (subst (λ (b : Bool). IsReplaced
+    (change_lines (g.S.Shelf.left c.args.shelf.now) c.args.run.now) (things_above (g.S.Shelf.left c.args.shelf.now) 0
+    c.args.run.now.stack []) (record { unequal = c.lines.so_far.unequal; ran_out = c.lines.so_far.ran_out; ended = b })
     (change_lines (g.S.Shelf.left c.take_change.new.shelf) c.take_change.new.run)
-    (things_above (g.S.Shelf.left c.lines.shelf) 0 c.lines.run.stack []) (told_by c.args.run.now)
-    (told_by c.take_change.new.run)) (sym c.lines.invariant.goes_on) done)
+    (things_above (g.S.Shelf.left c.lines.shelf) 0 c.lines.run.stack [])
+    (told_by c.args.run.now) (told_by c.take_change.new.run)) (sym c.lines.invariant.goes_on) done)
 
 pub lines-preserved : goal.lines-preserved
 lines-preserved g c = record {
@@ -171,9 +166,8 @@ lines-preserved-in-None g c = record {
   blamed = λ tells known.
       let taken = (c.in-Ok.ensures.readers (subst IsTrue (sym c.lines.invariant.tells) tells)
       (c.lines.invariant.readers tells known)) in
-      c.in-Ok-compare.ensures.blamed
-      (subst IsTrue (sym c.in-Ok.ensures.keeps.tells) (subst IsTrue (sym c.lines.invariant.tells) tells))
-      (record { texts = taken.texts; change = taken.change })
+      c.in-Ok-compare.ensures.blamed (subst IsTrue (sym c.in-Ok.ensures.keeps.tells)
+      (subst IsTrue (sym c.lines.invariant.tells) tells)) (record { texts = taken.texts; change = taken.change })
       ∙ c.in-Ok.ensures.blamed (subst IsTrue (sym c.lines.invariant.tells) tells)
       (c.lines.invariant.readers tells known) ∙ c.lines.invariant.blamed tells known;
   still = told_then _ _ _ c.lines.invariant.still (told_then _ _ _ (told_took c.in-Ok.ensures.only)
@@ -185,26 +179,25 @@ lines-preserved-in-None g c = record {
       let later = subst IsTrue (sym c.in-Ok.ensures.keeps.tells) still in
       let taken = rw c.in-Some.is at (c.in-Ok.ensures.taken still) in
       let test : code_of c.take_change.new.line.items ≡ None = ap code_of (sym c.deref.ensures.value)
-      ∙ sym c.code_of.ensures ∙ c.in-None.is in
-      let change : change_lines (g.S.Shelf.left c.take_change.new.shelf) c.take_change.new.run ≡ change_lines
-      (g.S.Shelf.left c.compare.new.shelf) c.compare.new.run =
+      ∙ sym c.code_of.ensures
+      ∙ c.in-None.is in
+      let change : change_lines (g.S.Shelf.left c.take_change.new.shelf) c.take_change.new.run
+      ≡ change_lines (g.S.Shelf.left c.compare.new.shelf) c.compare.new.run =
       λ i. lines_at (sym (c.in-Ok-compare.ensures.keeps.left later) i) (sym c.in-Ok-compare.ensures.change i) in
-      let raws : things_above (g.S.Shelf.left c.take_change.new.shelf) 0 c.take_change.new.run.stack [] ≡ things_above
-      (g.S.Shelf.left c.lines.shelf) 0 c.lines.run.stack [] =
+      let raws : things_above (g.S.Shelf.left c.take_change.new.shelf) 0 c.take_change.new.run.stack []
+      ≡ things_above (g.S.Shelf.left c.lines.shelf) 0 c.lines.run.stack [] =
       λ i. things_above (c.in-Ok.ensures.keeps.left still i) 0 (c.in-Ok.ensures.stack i) [] in
-      let compares = subst (λ (ts : List Thing). Compares c.take_change.new.line.items c.lines.so_far
-      c.in-Ok-compare.replaced ts (things_above (g.S.Shelf.left c.compare.new.shelf) 0 c.compare.new.run.stack [])
-      (told_by c.take_change.new.run) (told_by c.compare.new.run)) raws
-      (subst (λ (v : Vec ℕ Global). Compares v.items c.lines.so_far c.in-Ok-compare.replaced
-      (things_above (g.S.Shelf.left c.take_change.new.shelf) 0 c.take_change.new.run.stack [])
-      (things_above (g.S.Shelf.left c.compare.new.shelf) 0 c.compare.new.run.stack [])
-      (told_by c.take_change.new.run) (told_by c.compare.new.run)) c.swap.ensures.x_after
-      (c.in-Ok-compare.ensures.compares later)) in
+      let compares =
+      subst (λ (ts : List Thing). Compares c.take_change.new.line.items c.lines.so_far c.in-Ok-compare.replaced ts
+      (things_above (g.S.Shelf.left c.compare.new.shelf) 0 c.compare.new.run.stack []) (told_by c.take_change.new.run)
+      (told_by c.compare.new.run)) raws (subst (λ (v : Vec ℕ Global). Compares v.items c.lines.so_far
+      c.in-Ok-compare.replaced (things_above (g.S.Shelf.left c.take_change.new.shelf) 0 c.take_change.new.run.stack [])
+      (things_above (g.S.Shelf.left c.compare.new.shelf) 0 c.compare.new.run.stack []) (told_by c.take_change.new.run)
+      (told_by c.compare.new.run)) c.swap.ensures.x_after (c.in-Ok-compare.ensures.compares later)) in
       subst (λ (ls : List SourceLine). Replaces (change_lines (g.S.Shelf.left c.args.shelf.now) c.args.run.now)
-      (things_above (g.S.Shelf.left c.args.shelf.now) 0 c.args.run.now.stack []) c.in-Ok-compare.replaced
-      ls (things_above (g.S.Shelf.left c.compare.new.shelf) 0 c.compare.new.run.stack []) (told_by c.args.run.now)
-      (told_by c.compare.new.run)) change
-      (replaces_line _ _ c.lines.so_far _ _ _ _ (c.lines.invariant.replaces tells)
+      (things_above (g.S.Shelf.left c.args.shelf.now) 0 c.args.run.now.stack []) c.in-Ok-compare.replaced ls
+      (things_above (g.S.Shelf.left c.compare.new.shelf) 0 c.compare.new.run.stack []) (told_by c.args.run.now)
+      (told_by c.compare.new.run)) change (replaces_line _ _ c.lines.so_far _ _ _ _ (c.lines.invariant.replaces tells)
       (told_by c.take_change.new.run) c.take_change.new.line.items c.in-Some.at.place taken.0 _ taken.1
       (ap (λ (v : Vec SourceFault Global). v.items) c.in-Ok.ensures.only.faults)
       (ap names_of c.in-Ok.ensures.only.names) c.in-Ok-compare.replaced _
@@ -220,9 +213,8 @@ returns-in_default-clause-still g c = told_then _ _ _ c.lines.invariant.still (t
 
 pub returns-in-Err-compare-clause-still : goal.returns-in-Err-compare-clause-still
 returns-in-Err-compare-clause-still g c =
-    told_then _ _ _ c.lines.invariant.still (told_then _ _ _ (told_took c.in-Ok.ensures.only)
-    (told_same _ _ (λ i. (c.in-Err-compare.ensures.only.faults i).items)
-    (ap names_of c.in-Err-compare.ensures.only.names)))
+    told_then _ _ _ c.lines.invariant.still (told_then _ _ _ (told_took c.in-Ok.ensures.only) (told_same _ _
+    (λ i. (c.in-Err-compare.ensures.only.faults i).items) (ap names_of c.in-Err-compare.ensures.only.names)))
 
 pub returns-then-eq-clause-still : goal.returns-then-eq-clause-still
 returns-then-eq-clause-still g c = told_then _ _ _ c.lines.invariant.still (told_took c.in-Ok.ensures.only)
@@ -238,10 +230,9 @@ returns-in-Err-clause-readers g c = λ tells known. c.in-Err.ensures.readers
     (subst IsTrue (sym c.lines.invariant.tells) tells) (c.lines.invariant.readers tells known)
 
 pub returns-in-Err-clause-blamed : goal.returns-in-Err-clause-blamed
-returns-in-Err-clause-blamed g c = λ tells known.
-    stop_after c.in-Err.stop _ _ _ _ (c.lines.invariant.blamed tells known)
-    (c.in-Err.ensures.blamed (subst IsTrue (sym c.lines.invariant.tells) tells)
-    (c.lines.invariant.readers tells known))
+returns-in-Err-clause-blamed g c =
+    λ tells known. stop_after c.in-Err.stop _ _ _ _ (c.lines.invariant.blamed tells known)
+    (c.in-Err.ensures.blamed (subst IsTrue (sym c.lines.invariant.tells) tells) (c.lines.invariant.readers tells known))
 
 pub returns-in_default-clause-readers : goal.returns-in_default-clause-readers
 returns-in_default-clause-readers g c = λ tells known. c.in-Ok.ensures.readers
@@ -254,22 +245,19 @@ returns-in_default-clause-blamed g c = λ tells known. c.in-Ok.ensures.blamed
 
 pub returns-in-Err-compare-clause-readers : goal.returns-in-Err-compare-clause-readers
 returns-in-Err-compare-clause-readers g c = λ tells known.
-    let taken = c.in-Ok.ensures.readers (subst IsTrue (sym c.lines.invariant.tells) tells)
-    (c.lines.invariant.readers tells known) in
-    c.in-Err-compare.ensures.readers
-    (subst IsTrue (sym c.in-Ok.ensures.keeps.tells) (subst IsTrue (sym c.lines.invariant.tells) tells))
-    (record { texts = taken.texts; change = taken.change })
+    let taken = c.in-Ok.ensures.readers
+    (subst IsTrue (sym c.lines.invariant.tells) tells) (c.lines.invariant.readers tells known) in
+    c.in-Err-compare.ensures.readers (subst IsTrue (sym c.in-Ok.ensures.keeps.tells)
+    (subst IsTrue (sym c.lines.invariant.tells) tells)) (record { texts = taken.texts; change = taken.change })
 
 pub returns-in-Err-compare-clause-blamed : goal.returns-in-Err-compare-clause-blamed
 returns-in-Err-compare-clause-blamed g c = λ tells known.
-    let taken = c.in-Ok.ensures.readers (subst IsTrue (sym c.lines.invariant.tells) tells)
-    (c.lines.invariant.readers tells known) in
-    stop_after c.in-Err-compare.stop _ _ _ _
-    (c.in-Ok.ensures.blamed (subst IsTrue (sym c.lines.invariant.tells) tells)
+    let taken = c.in-Ok.ensures.readers
+    (subst IsTrue (sym c.lines.invariant.tells) tells) (c.lines.invariant.readers tells known) in
+    stop_after c.in-Err-compare.stop _ _ _ _ (c.in-Ok.ensures.blamed (subst IsTrue (sym c.lines.invariant.tells) tells)
     (c.lines.invariant.readers tells known) ∙ c.lines.invariant.blamed tells known)
-    (c.in-Err-compare.ensures.blamed
-    (subst IsTrue (sym c.in-Ok.ensures.keeps.tells) (subst IsTrue (sym c.lines.invariant.tells) tells))
-    (record { texts = taken.texts; change = taken.change }))
+    (c.in-Err-compare.ensures.blamed (subst IsTrue (sym c.in-Ok.ensures.keeps.tells)
+    (subst IsTrue (sym c.lines.invariant.tells) tells)) (record { texts = taken.texts; change = taken.change }))
 
 pub returns-then-eq-clause-readers : goal.returns-then-eq-clause-readers
 returns-then-eq-clause-readers g c = λ tells known. c.in-Ok.ensures.readers
@@ -285,7 +273,6 @@ returns-in-Err-tell-clause-readers g c = λ tells known. knows_only c.in-Err-tel
     (c.in-Ok.ensures.readers (subst IsTrue (sym c.lines.invariant.tells) tells) (c.lines.invariant.readers tells known))
 
 pub returns-in-Err-tell-clause-blamed : goal.returns-in-Err-tell-clause-blamed
-returns-in-Err-tell-clause-blamed g c = λ tells known.
-    blames_none _ _ _ _ (ap read_blame c.in-Err-tell.ensures.memory)
-    (c.in-Ok.ensures.blamed (subst IsTrue (sym c.lines.invariant.tells) tells)
-    (c.lines.invariant.readers tells known) ∙ c.lines.invariant.blamed tells known)
+returns-in-Err-tell-clause-blamed g c = λ tells known. blames_none _ _ _ _ (ap read_blame c.in-Err-tell.ensures.memory)
+    (c.in-Ok.ensures.blamed (subst IsTrue (sym c.lines.invariant.tells) tells) (c.lines.invariant.readers tells known)
+    ∙ c.lines.invariant.blamed tells known)

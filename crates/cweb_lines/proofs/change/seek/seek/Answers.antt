@@ -28,8 +28,7 @@ lines-init g c = record {
 }
 
 pub returns-in-Err-clause-stops : goal.returns-in-Err-clause-stops
-returns-in-Err-clause-stops g c = λ tells.
-    stops_map c.in-Err.stop
+returns-in-Err-clause-stops g c = λ tells. stops_map c.in-Err.stop
     (seeks_stop _ _ _ _ _ (c.lines.invariant.seeks tells) c.in-Err.stop (count_of c.take_change.new.run.limits)
     (λ i. record { lines = c.in-Err.ensures.answers.counted.0 i; bytes = c.in-Err.ensures.answers.counted.1 i }))
     (c.in-Err.ensures.stops (subst IsTrue (sym c.lines.invariant.tells) tells))
@@ -37,15 +36,14 @@ returns-in-Err-clause-stops g c = λ tells.
 pub returns-in-Err-look_at-clause-told : goal.returns-in-Err-look_at-clause-told
 returns-in-Err-look_at-clause-told g c = λ tells.
     let taken = rw c.in-Some.is at (c.in-Ok.ensures.taken (subst IsTrue (sym c.lines.invariant.tells) tells)) in
-    let front = c.in-Err-look_at.ensures.err taken.0.line (taken.0.is
-    ∙ ap (λ b. record { bytes = b; place = c.in-Some.at.place }) (sym c.deref.ensures.value)) (lines_at
-    (g.S.Shelf.left c.take_change.new.shelf) c.take_change.new.run.change) in
+    let front = c.in-Err-look_at.ensures.err taken.0.line
+    (taken.0.is ∙ ap (λ b. record { bytes = b; place = c.in-Some.at.place }) (sym c.deref.ensures.value))
+    (lines_at (g.S.Shelf.left c.take_change.new.shelf) c.take_change.new.run.change) in
     seeks_told_more _ (change_lines (g.S.Shelf.left c.lines.shelf) c.lines.run) c.lines.begin _ _
-    (c.lines.invariant.seeks tells) (told_by c.look_at.new.run)
-    (subst (λ (ls : List SourceLine). ToldFront (sought ls c.lines.begin).faults c.lines.run.faults.items
-    c.look_at.new.run.faults.items) (sym taken.1)
-    (subst (λ (v : Vec SourceFault Global). ToldFront (sought
-    (taken.0.line ∷ lines_at (g.S.Shelf.left c.take_change.new.shelf) c.take_change.new.run.change)
+    (c.lines.invariant.seeks tells) (told_by c.look_at.new.run) (subst (λ (ls : List SourceLine).
+    ToldFront (sought ls c.lines.begin).faults c.lines.run.faults.items c.look_at.new.run.faults.items)
+    (sym taken.1) (subst (λ (v : Vec SourceFault Global).
+    ToldFront (sought (taken.0.line ∷ lines_at (g.S.Shelf.left c.take_change.new.shelf) c.take_change.new.run.change)
     c.lines.begin).faults v.items c.look_at.new.run.faults.items) c.in-Ok.ensures.only.faults front))
     (ap names_of (c.in-Err-look_at.ensures.only.names ∙ c.in-Ok.ensures.only.names))
 
@@ -75,15 +73,14 @@ lines-preserved g c = record {
   seeks = λ tells.
       let taken = rw c.in-Some.is at (c.in-Ok.ensures.taken (subst IsTrue (sym c.lines.invariant.tells) tells)) in
       subst (λ ch. SeeksTo (sought (change_lines (g.S.Shelf.left c.args.shelf.now) c.args.run.now) None)
-      (sought (lines_at (g.S.Shelf.left c.take_change.new.shelf) ch) c.in-On.next) (told_by c.args.run.now)
-      (told_by c.look_at.new.run)) (sym c.in-Ok-look_at.ensures.only.change)
+      (sought (lines_at (g.S.Shelf.left c.take_change.new.shelf) ch) c.in-On.next)
+      (told_by c.args.run.now) (told_by c.look_at.new.run)) (sym c.in-Ok-look_at.ensures.only.change)
       (seeks_on (sought (change_lines (g.S.Shelf.left c.args.shelf.now) c.args.run.now) None)
       (change_lines (g.S.Shelf.left c.lines.shelf) c.lines.run) c.lines.begin (told_by c.args.run.now)
-      (told_by c.lines.run) (c.lines.invariant.seeks tells) (told_by c.take_change.new.run)
-      (told_by c.look_at.new.run) c.take_change.new.line.items c.in-Some.at.place taken.0 _ taken.1
-      (ap (λ (v : Vec SourceFault Global). v.items) c.in-Ok.ensures.only.faults)
-      (ap names_of c.in-Ok.ensures.only.names) (ap names_of c.in-Ok-look_at.ensures.only.names)
-      (ap count_of c.in-Ok-look_at.ensures.only.limits) c.in-On.next
+      (told_by c.lines.run) (c.lines.invariant.seeks tells) (told_by c.take_change.new.run) (told_by c.look_at.new.run)
+      c.take_change.new.line.items c.in-Some.at.place taken.0 _ taken.1 (ap (λ (v : Vec SourceFault Global).
+      v.items) c.in-Ok.ensures.only.faults) (ap names_of c.in-Ok.ensures.only.names)
+      (ap names_of c.in-Ok-look_at.ensures.only.names) (ap count_of c.in-Ok-look_at.ensures.only.limits) c.in-On.next
       (rw (c.deref.ensures.value, c.in-On.is) at c.in-Ok-look_at.ensures.looks));
 }
 
@@ -91,22 +88,18 @@ pub returns-in-Entry-clause-searched : goal.returns-in-Entry-clause-searched
 returns-in-Entry-clause-searched g c = λ tells.
     let taken = rw c.in-Some.is at (c.in-Ok.ensures.taken (subst IsTrue (sym c.lines.invariant.tells) tells)) in
     let found = seeks_found (sought (change_lines (g.S.Shelf.left c.args.shelf.now) c.args.run.now) None)
-    (change_lines (g.S.Shelf.left c.lines.shelf) c.lines.run) c.lines.begin (told_by c.args.run.now)
-    (told_by c.lines.run) (c.lines.invariant.seeks tells)
-    (told_by c.take_change.new.run) (told_by c.look_at.new.run) c.take_change.new.line.items c.in-Some.at.place taken.0
-    _ taken.1
+    (change_lines (g.S.Shelf.left c.lines.shelf) c.lines.run) c.lines.begin
+    (told_by c.args.run.now) (told_by c.lines.run) (c.lines.invariant.seeks tells) (told_by c.take_change.new.run)
+    (told_by c.look_at.new.run) c.take_change.new.line.items c.in-Some.at.place taken.0 _ taken.1
     (ap (λ (v : Vec SourceFault Global). v.items) c.in-Ok.ensures.only.faults) (ap names_of c.in-Ok.ensures.only.names)
-    (ap names_of c.in-Ok-look_at.ensures.only.names) (ap count_of c.in-Ok-look_at.ensures.only.limits)
-    c.in-Entry.place
+    (ap names_of c.in-Ok-look_at.ensures.only.names) (ap count_of c.in-Ok-look_at.ensures.only.limits) c.in-Entry.place
     (rw (c.deref.ensures.value, c.in-Entry.is) at c.in-Ok-look_at.ensures.looks) in
     subst (λ ch. Searched (sought (change_lines (g.S.Shelf.left c.args.shelf.now) c.args.run.now) None)
     (told_by c.args.run.now) (told_by c.look_at.new.run) (Waiting c.in-Entry.place) c.swap.new.x.items
-    (lines_at (g.S.Shelf.left c.take_change.new.shelf) ch))
-    (sym c.in-Ok-look_at.ensures.only.change)
+    (lines_at (g.S.Shelf.left c.take_change.new.shelf) ch)) (sym c.in-Ok-look_at.ensures.only.change)
     (subst (λ (v : Vec ℕ Global). Searched (sought (change_lines (g.S.Shelf.left c.args.shelf.now) c.args.run.now) None)
-    (told_by c.args.run.now) (told_by c.look_at.new.run) (Waiting c.in-Entry.place) v.items
-    (lines_at (g.S.Shelf.left c.take_change.new.shelf) c.take_change.new.run.change))
-    (sym c.swap.ensures.x_after) found)
+    (told_by c.args.run.now) (told_by c.look_at.new.run) (Waiting c.in-Entry.place) v.items (lines_at
+    (g.S.Shelf.left c.take_change.new.shelf) c.take_change.new.run.change)) (sym c.swap.ensures.x_after) found)
 
 -- what was told stays
 pub returns-in-Err-clause-still : goal.returns-in-Err-clause-still
@@ -114,9 +107,8 @@ returns-in-Err-clause-still g c = told_then _ _ _ c.lines.invariant.still (told_
 
 pub returns-in_default-clause-still : goal.returns-in_default-clause-still
 returns-in_default-clause-still g c =
-    told_then _ _ _ c.lines.invariant.still (told_then _ _ _ (told_took c.in-Ok.ensures.only)
-    (told_if c.end.result _ _ (sought [] c.lines.begin).faults c.end.ensures.told c.end.ensures.err
-    (ap names_of c.end.ensures.names)))
+    told_then _ _ _ c.lines.invariant.still (told_then _ _ _ (told_took c.in-Ok.ensures.only) (told_if c.end.result _ _
+    (sought [] c.lines.begin).faults c.end.ensures.told c.end.ensures.err (ap names_of c.end.ensures.names)))
 
 pub returns-in-Err-look_at-clause-still : goal.returns-in-Err-look_at-clause-still
 returns-in-Err-look_at-clause-still g c =
@@ -130,22 +122,20 @@ returns-in-Err-look_at-clause-still g c =
     (told_behind _ _ front.front front.told (ap names_of c.in-Err-look_at.ensures.only.names)))
 
 pub returns-in-Entry-clause-still : goal.returns-in-Entry-clause-still
-returns-in-Entry-clause-still g c =
-    told_then _ _ _ c.lines.invariant.still (told_then _ _ _ (told_took c.in-Ok.ensures.only)
-    (told_behind _ _ c.in-Ok-look_at.ensures.looks.told c.in-Ok-look_at.ensures.looks.faults
-    (ap names_of c.in-Ok-look_at.ensures.only.names)))
+returns-in-Entry-clause-still g c = told_then _ _ _ c.lines.invariant.still
+    (told_then _ _ _ (told_took c.in-Ok.ensures.only) (told_behind _ _ c.in-Ok-look_at.ensures.looks.told
+    c.in-Ok-look_at.ensures.looks.faults (ap names_of c.in-Ok-look_at.ensures.only.names)))
 
 -- the change file has ended
 pub returns-in_default-clause-searched : goal.returns-in_default-clause-searched
 returns-in_default-clause-searched g c = λ tells.
     let taken = rw c.in_default.is at (c.in-Ok.ensures.taken (subst IsTrue (sym c.lines.invariant.tells) tells)) in
     let counted = rw c.in_default.is at c.in-Ok.ensures.answers.counted in
-    OnOk-both c.end.result (λ told done. seeks_ended _ _ c.lines.begin _ (told_by c.lines.run)
-    (c.lines.invariant.seeks tells) taken.0 _
-    (told ∙ ap (λ (v : Vec SourceFault Global). v.items ++ (sought [] c.lines.begin).faults)
-    c.in-Ok.ensures.only.faults) (ap names_of (c.end.ensures.names ∙ c.in-Ok.ensures.only.names))
-    (ap count_of c.end.ensures.limits ∙ (λ i. record { lines = counted.0 i; bytes = counted.1 i })) _ done _ _)
-    c.end.ensures.told c.end.ensures.stage
+    OnOk-both c.end.result (λ told done.
+    seeks_ended _ _ c.lines.begin _ (told_by c.lines.run) (c.lines.invariant.seeks tells) taken.0 _ (told ∙ ap
+    (λ (v : Vec SourceFault Global). v.items ++ (sought [] c.lines.begin).faults) c.in-Ok.ensures.only.faults)
+    (ap names_of (c.end.ensures.names ∙ c.in-Ok.ensures.only.names)) (ap count_of c.end.ensures.limits
+    ∙ (λ i. record { lines = counted.0 i; bytes = counted.1 i })) _ done _ _) c.end.ensures.told c.end.ensures.stage
 
 -- the readers
 pub returns-in-Err-clause-readers : goal.returns-in-Err-clause-readers
@@ -153,10 +143,9 @@ returns-in-Err-clause-readers g c = λ tells known. c.in-Err.ensures.readers
     (subst IsTrue (sym c.lines.invariant.tells) tells) (c.lines.invariant.readers tells known)
 
 pub returns-in-Err-clause-blamed : goal.returns-in-Err-clause-blamed
-returns-in-Err-clause-blamed g c = λ tells known.
-    stop_after c.in-Err.stop _ _ _ _ (c.lines.invariant.blamed tells known)
-    (c.in-Err.ensures.blamed (subst IsTrue (sym c.lines.invariant.tells) tells)
-    (c.lines.invariant.readers tells known))
+returns-in-Err-clause-blamed g c =
+    λ tells known. stop_after c.in-Err.stop _ _ _ _ (c.lines.invariant.blamed tells known)
+    (c.in-Err.ensures.blamed (subst IsTrue (sym c.lines.invariant.tells) tells) (c.lines.invariant.readers tells known))
 
 pub returns-in_default-clause-readers : goal.returns-in_default-clause-readers
 returns-in_default-clause-readers g c = λ tells known.
@@ -172,10 +161,8 @@ returns-in_default-clause-blamed g c = λ tells known.
     blames_memory c.end.result _ _ _ c.end.ensures.memory (taken ∙ c.lines.invariant.blamed tells known)
 
 pub returns-in-Err-look_at-clause-readers : goal.returns-in-Err-look_at-clause-readers
-returns-in-Err-look_at-clause-readers g c = λ tells known.
-    knows_only c.in-Err-look_at.ensures.only
-    (c.in-Ok.ensures.readers (subst IsTrue (sym c.lines.invariant.tells) tells)
-    (c.lines.invariant.readers tells known))
+returns-in-Err-look_at-clause-readers g c = λ tells known. knows_only c.in-Err-look_at.ensures.only
+    (c.in-Ok.ensures.readers (subst IsTrue (sym c.lines.invariant.tells) tells) (c.lines.invariant.readers tells known))
 
 pub returns-in-Err-look_at-clause-blamed : goal.returns-in-Err-look_at-clause-blamed
 returns-in-Err-look_at-clause-blamed g c = λ tells known.
@@ -185,9 +172,8 @@ returns-in-Err-look_at-clause-blamed g c = λ tells known.
 
 pub returns-in-Entry-clause-readers : goal.returns-in-Entry-clause-readers
 returns-in-Entry-clause-readers g c = λ tells known.
-    let looked = knows_only c.in-Ok-look_at.ensures.only
-    (c.in-Ok.ensures.readers (subst IsTrue (sym c.lines.invariant.tells) tells)
-    (c.lines.invariant.readers tells known)) in
+    let looked = knows_only c.in-Ok-look_at.ensures.only (c.in-Ok.ensures.readers (subst IsTrue
+    (sym c.lines.invariant.tells) tells) (c.lines.invariant.readers tells known)) in
     record { texts = looked.texts; change = looked.change }
 
 pub returns-in-Entry-clause-blamed : goal.returns-in-Entry-clause-blamed

@@ -57,14 +57,12 @@ returns-clause-begins g c = λ tells.
       };
       whole = (λ i. merge (record { texts = texts i; inputs = c.in_ok-inputs.ensures i })
           (state (things_in left c.first_stage.result (lines_at left c.in-Ok-open_change.change) c.new.result)
-          (pending_in c.first_stage.result c.new-2.result.items)
-          (change_in c.first_stage.result (lines_at left c.in-Ok-open_change.change))
-          (length (names_of c.open_change.new.names))))
+          (pending_in c.first_stage.result c.new-2.result.items) (change_in c.first_stage.result
+          (lines_at left c.in-Ok-open_change.change)) (length (names_of c.open_change.new.names))))
           ∙ begun_coming _ left c.new.result change c.first_stage.result
-          (lines_at left c.in-Ok-open_change.change) c.new-2.result.items
-          (length (names_of c.open_change.new.names)) (left c.in-Some.web.reader)
-          (c.first_stage.ensures ∙ c.in-Ok-open_change.ensures.stage left) (c.in-Ok-open_change.ensures.lines left)
-          (ap (λ (ns : List (List ℕ)). length ns) names)
+          (lines_at left c.in-Ok-open_change.change) c.new-2.result.items (length (names_of c.open_change.new.names))
+          (left c.in-Some.web.reader) (c.first_stage.ensures ∙ c.in-Ok-open_change.ensures.stage left)
+          (c.in-Ok-open_change.ensures.lines left) (ap (λ (ns : List (List ℕ)). length ns) names)
           (begun left c.new.result c.in-Ok.web _ c.new.ensures.depth c.new.ensures.texts c.in-Ok.ensures.level.2
           c.in-Ok.ensures.level.3 ∙ ap (λ (ls : List SourceLine). raws 1 true ls) (c.in-Ok.ensures.lines left));
     }

@@ -20,12 +20,11 @@ returns-clause-passes g c = λ entry lines stands.
     let texts = c.args.stack.now.texts in
     let within : c.args.stack.now.depth - 1 < length texts = omega arith in
     let same = get_or_default texts (c.args.stack.now.depth - 1) None c.index-stack-top.result within in
-    let passes = c.advance_slot.ensures.passes entry lines
-    (subst (λ slot. StandsAt entry slot c.args.stretch lines) same stands) in
+    let passes =
+    c.advance_slot.ensures.passes entry lines (subst (λ slot. StandsAt entry slot c.args.stretch lines) same stands) in
     let level = c.advance_slot.ensures.level in
-    let takes = subst (λ slot. PassesSlot slot c.advance_slot.new.slot c.args.limits.now c.advance_slot.new.limits
-    lines)
-    (sym same) passes in
+    let takes = subst (λ slot.
+    PassesSlot slot c.advance_slot.new.slot c.args.limits.now c.advance_slot.new.limits lines) (sym same) passes in
     let kept = subst (λ slot. KeepsLevel slot c.advance_slot.new.slot) (sym same) level in
     record {
       takes = λ left low above rest. top_passed left texts None c.advance_slot.new.slot c.args.stack.now.depth within
@@ -44,23 +43,20 @@ returns-clause-keeps g c =
     record {
       depth = refl;
       below = stays_below texts _ place place c.advance_slot.new.slot (omega arith) refl;
-      named = λ opened_as names each.
-          named_set opened_as names texts place c.advance_slot.new.slot each
+      named = λ opened_as names each. named_set opened_as names texts place c.advance_slot.new.slot each
           (level.named opened_as names (named_at opened_as names texts place c.index-stack-top.result within each));
       files = most_set files_up_to texts place c.advance_slot.new.slot (most files_up_to texts) (omega arith) (omega (
         arith,
         level.file,
         most_read files_up_to texts place c.index-stack-top.result within,
       ));
-      deep = λ each.
-          deep-set 0 place place texts _ top each
+      deep = λ each. deep-set 0 place place texts _ top each
           (level.deep place (deep-at 0 place place texts c.index-stack-top.result top within each));
       piece = ap piece_of (get_or-set_same texts place c.advance_slot.new.slot None within) ∙ level.piece
           ∙ ap piece_of (sym (get_or_default texts place None c.index-stack-top.result within));
     }
 
 pub returns-clause-numbers : goal.returns-clause-numbers
-returns-clause-numbers g c =
-    most_set line_number c.args.stack.now.texts (c.args.stack.now.depth - 1) c.advance_slot.new.slot
-    c.advance_slot.new.limits.lines (omega (arith, c.requires.numbers, c.advance_slot.ensures.more))
-    c.advance_slot.ensures.number
+returns-clause-numbers g c = most_set line_number c.args.stack.now.texts
+    (c.args.stack.now.depth - 1) c.advance_slot.new.slot c.advance_slot.new.limits.lines
+    (omega (arith, c.requires.numbers, c.advance_slot.ensures.more)) c.advance_slot.ensures.number

@@ -34,7 +34,6 @@ then-requires g c =
     )
 
 pub returns : goal.returns
-returns g c = λ lines stands.
-    looks_behind (pending_in c.args.stage c.args.first.now) c.args.text.now c.args.before c.in-Some.next c.then.result
-    lines stands c.requires.joins c.in-Some.ensures.line c.in-Some.ensures.one c.then.ensures.text c.then.ensures.end
-    c.then.ensures.lines
+returns g c = λ lines stands. looks_behind (pending_in c.args.stage c.args.first.now)
+    c.args.text.now c.args.before c.in-Some.next c.then.result lines stands c.requires.joins
+    c.in-Some.ensures.line c.in-Some.ensures.one c.then.ensures.text c.then.ensures.end c.then.ensures.lines

@@ -11,5 +11,4 @@ returns-clause-looks g c =
     (c.in-Some.ensures.one refl) c.in-Some-line_at.ensures)
 
 pub returns-clause-ahead : goal.returns-clause-ahead
-returns-clause-ahead g c =
-    is_ahead c.args.self.now [] _ c.in-Some.ensures.fits (returns-clause-looks g c)
+returns-clause-ahead g c = is_ahead c.args.self.now [] _ c.in-Some.ensures.fits (returns-clause-looks g c)

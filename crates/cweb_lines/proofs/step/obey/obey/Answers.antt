@@ -68,12 +68,11 @@ returns-clause-obeys g c = λ tells. OnOk-map c.open.result (λ names source is.
           (there ∙ ap (found_at (world_in (g.S.Shelf.texts c.args.shelf.now) c.args.run.now.inputs))
           c.include_name-name.ensures);
       gives = gives_opening _ _ _ _ (ap count_of c.open.ensures.only.limits) (string_bytes c.in-Some.opening.name)
-          (ap (λ (es : List Event). opening (string_bytes c.in-Some.opening.name) ∷ es)
-          (coming_opened (g.S.Shelf.texts c.args.shelf.now) (g.S.Shelf.texts c.find.new.shelf)
-          (g.S.Shelf.left c.args.shelf.now) (g.S.Shelf.left c.find.new.shelf)
-          c.args.run.now c.open.new.run c.in-Some.opening.reader (string_bytes c.in-Some.opening.name) c.args.at
-          (c.in_ok-opening.ensures.keeps.texts tells) (c.in_ok-opening.ensures.keeps.left tells)
-          c.open.ensures.only.inputs c.open.ensures.only.change
+          (ap (λ (es : List Event). opening (string_bytes c.in-Some.opening.name) ∷ es) (coming_opened
+          (g.S.Shelf.texts c.args.shelf.now) (g.S.Shelf.texts c.find.new.shelf) (g.S.Shelf.left c.args.shelf.now)
+          (g.S.Shelf.left c.find.new.shelf) c.args.run.now c.open.new.run c.in-Some.opening.reader
+          (string_bytes c.in-Some.opening.name) c.args.at (c.in_ok-opening.ensures.keeps.texts tells)
+          (c.in_ok-opening.ensures.keeps.left tells) c.open.ensures.only.inputs c.open.ensures.only.change
           c.open.ensures.only.stage c.open.ensures.only.first names.0 c.requires.settled names.1 c.open.ensures.below))
           (ap (λ (v : Vec SourceFault Global). v.items) c.open.ensures.only.faults) names.0;
     }) c.open.ensures.opens
@@ -105,14 +104,12 @@ returns-then-at-ge-OPEN_FILES-clause-readers g c = λ tells known. knows_only
     c.tell-then-at-ge-OPEN_FILES.ensures.only known
 
 pub returns-in_default-clause-readers : goal.returns-in_default-clause-readers
-returns-in_default-clause-readers g c = λ tells known.
-    knows_only c.tell-in_default.ensures.only
+returns-in_default-clause-readers g c = λ tells known. knows_only c.tell-in_default.ensures.only
     (subst (λ f. AreReadersKnown f c.args.run.now) (sym (c.in_ok-opening.ensures.keeps.names tells)) known)
 
 pub returns-clause-readers : goal.returns-clause-readers
-returns-clause-readers g c = λ tells known.
-    c.open.ensures.readers (g.S.Shelf.opened_as c.find.new.shelf)
-    (rw c.in-Some.is at (c.in_ok-opening.ensures.opened tells))
+returns-clause-readers g c = λ tells known. c.open.ensures.readers
+    (g.S.Shelf.opened_as c.find.new.shelf) (rw c.in-Some.is at (c.in_ok-opening.ensures.opened tells))
     (subst (λ f. AreReadersKnown f c.args.run.now) (sym (c.in_ok-opening.ensures.keeps.names tells)) known)
 
 pub returns-in_err-opening-clause-readers : goal.returns-in_err-opening-clause-readers

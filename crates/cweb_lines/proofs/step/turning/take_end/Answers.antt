@@ -9,14 +9,11 @@ pub returns-in_default-clause-gives : goal.returns-in_default-clause-gives
 returns-in_default-clause-gives g c = λ tells.
     let none = c.requires.floor ∙ ap floor_of c.in-Waiting.is in
     gives_fault (told_by c.args.run.now) (told_by c.tell.new.self) _ _ (ap count_of c.in_default.ensures.only.limits)
-    (at_place NoMatch c.in-Waiting.begin)
-    (no_match (g.S.Shelf.texts c.args.shelf.now) (g.S.Shelf.left c.args.shelf.now) c.args.run.now c.in-Waiting.begin
-    c.in-Waiting.is none
-    ∙ ap (λ (es : List Event). fault (at_place NoMatch c.in-Waiting.begin) ∷ es)
-    (sym (nothing_above (world_in (g.S.Shelf.texts c.args.shelf.now) c.tell.new.self.inputs)
-    (g.S.Shelf.left c.args.shelf.now) c.tell.new.self.stack (length (names_of c.tell.new.self.names))
-    (ap (λ s. s.depth) c.in_default.ensures.only.stack ∙ none))))
-    c.in_default.ensures.told (ap names_of c.in_default.ensures.only.names)
+    (at_place NoMatch c.in-Waiting.begin) (no_match (g.S.Shelf.texts c.args.shelf.now) (g.S.Shelf.left c.args.shelf.now)
+    c.args.run.now c.in-Waiting.begin c.in-Waiting.is none ∙ ap (λ (es : List Event). fault (at_place NoMatch
+    c.in-Waiting.begin) ∷ es) (sym (nothing_above (world_in (g.S.Shelf.texts c.args.shelf.now) c.tell.new.self.inputs)
+    (g.S.Shelf.left c.args.shelf.now) c.tell.new.self.stack (length (names_of c.tell.new.self.names)) (ap (λ s. s.depth)
+    c.in_default.ensures.only.stack ∙ none)))) c.in_default.ensures.told (ap names_of c.in_default.ensures.only.names)
 
 -- what was told stays
 pub returns-in-Err-clause-still : goal.returns-in-Err-clause-still

@@ -8,10 +8,9 @@ use Rattle.cweb_lines.proofs.Codes.{is_end}
 use Rattle.cweb_lines.proofs.step.turning.take_new.Goals as goal
 
 pub returns-in-Err-clause-stops : goal.returns-in-Err-clause-stops
-returns-in-Err-clause-stops g c = λ tells.
-    subst (λ es. Stopped c.in-Err.stop (count_of c.args.run.now.limits) (count_of c.take_change.new.run.limits) es)
-    (sym (coming_is (g.S.Shelf.texts c.args.shelf.now) (g.S.Shelf.left c.args.shelf.now) c.args.run.now c.args.change
-    c.requires.changing c.requires.below))
+returns-in-Err-clause-stops g c = λ tells. subst (λ es. Stopped c.in-Err.stop (count_of c.args.run.now.limits)
+    (count_of c.take_change.new.run.limits) es) (sym (coming_is (g.S.Shelf.texts c.args.shelf.now)
+    (g.S.Shelf.left c.args.shelf.now) c.args.run.now c.args.change c.requires.changing c.requires.below))
     (new_stops _ c.args.change _ _ c.in-Err.stop (change_lines (g.S.Shelf.left c.args.shelf.now) c.args.run.now) _ _
     (λ i. record { lines = c.in-Err.ensures.answers.counted.0 i; bytes = c.in-Err.ensures.answers.counted.1 i })
     (c.in-Err.ensures.stops tells))
@@ -21,49 +20,42 @@ returns-in_default-clause-gives g c = λ tells.
     let taken = rw c.in_default.is at (c.in-Ok.ensures.taken tells) in
     let counted = rw c.in_default.is at c.in-Ok.ensures.answers.counted in
     new_ended _ _ _ _ c.args.run.now c.args.change c.requires.changing c.requires.below
-    (c.in-Ok.ensures.keeps.texts tells) (c.in-Ok.ensures.keeps.left tells)
-    (text_of_name c.tell.new.self.inputs) c.tell.new.self.stack (length (names_of c.tell.new.self.names))
-    (told_by c.tell.new.self)
+    (c.in-Ok.ensures.keeps.texts tells) (c.in-Ok.ensures.keeps.left tells) (text_of_name c.tell.new.self.inputs)
+    c.tell.new.self.stack (length (names_of c.tell.new.self.names)) (told_by c.tell.new.self)
     (ap (λ i. text_of_name i) (c.in_default-tell.ensures.only.inputs ∙ c.in-Ok.ensures.only.inputs))
     (c.in_default-tell.ensures.only.stack ∙ c.in-Ok.ensures.stack)
-    (ap (λ n. length (names_of n)) (c.in_default-tell.ensures.only.names ∙ c.in-Ok.ensures.only.names))
-    taken.0 (ap count_of c.in_default-tell.ensures.only.limits
-    ∙ (λ i. record { lines = counted.0 i; bytes = counted.1 i }))
-    (c.in_default-tell.ensures.told ∙ ap (λ (v : Vec SourceFault Global). v.items
-    ++ at_place EndedBeforeZ c.args.change.begin ∷ []) c.in-Ok.ensures.only.faults) (ap names_of
-    (c.in_default-tell.ensures.only.names ∙ c.in-Ok.ensures.only.names))
+    (ap (λ n. length (names_of n)) (c.in_default-tell.ensures.only.names ∙ c.in-Ok.ensures.only.names)) taken.0
+    (ap count_of c.in_default-tell.ensures.only.limits ∙ (λ i. record { lines = counted.0 i; bytes = counted.1 i }))
+    (c.in_default-tell.ensures.told ∙ ap (λ (v : Vec SourceFault Global).
+    v.items ++ at_place EndedBeforeZ c.args.change.begin ∷ []) c.in-Ok.ensures.only.faults)
+    (ap names_of (c.in_default-tell.ensures.only.names ∙ c.in-Ok.ensures.only.names))
 
 pub returns-then-eq-clause-gives : goal.returns-then-eq-clause-gives
 returns-then-eq-clause-gives g c = λ tells.
     let taken = rw c.in-Some.is at (c.in-Ok.ensures.taken tells) in
-    let test = ap code_of (sym c.deref.ensures.value) ∙ sym c.code_of.ensures ∙ c.in-Some-code_of.is
+    let test = ap code_of (sym c.deref.ensures.value)
+    ∙ sym c.code_of.ensures
+    ∙ c.in-Some-code_of.is
     ∙ ap Some (is_end c.in-Some-code_of.code (sym c.eq.ensures ∙ c.if-eq.true)) in
     new_side_ended _ _ _ _ c.args.run.now c.args.change c.requires.changing c.requires.below
-    (c.in-Ok.ensures.keeps.texts tells) (c.in-Ok.ensures.keeps.left tells)
-    (text_of_name c.take_change.new.run.inputs) c.take_change.new.run.stack
-    (length (names_of c.take_change.new.run.names)) (told_by c.take_change.new.run)
-    (ap (λ i. text_of_name i) c.in-Ok.ensures.only.inputs) c.in-Ok.ensures.stack
-    (ap (λ n. length (names_of n)) c.in-Ok.ensures.only.names)
-    c.take_change.new.line.items c.in-Some.at.place taken.0 _ taken.1
-    (ap (λ (v : Vec SourceFault Global). v.items) c.in-Ok.ensures.only.faults)
-    (ap names_of c.in-Ok.ensures.only.names) test
+    (c.in-Ok.ensures.keeps.texts tells) (c.in-Ok.ensures.keeps.left tells) (text_of_name c.take_change.new.run.inputs)
+    c.take_change.new.run.stack (length (names_of c.take_change.new.run.names)) (told_by c.take_change.new.run)
+    (ap (λ i. text_of_name i) c.in-Ok.ensures.only.inputs) c.in-Ok.ensures.stack (ap (λ n. length (names_of n))
+    c.in-Ok.ensures.only.names) c.take_change.new.line.items c.in-Some.at.place taken.0 _ taken.1 (ap (λ (v :
+    Vec SourceFault Global). v.items) c.in-Ok.ensures.only.faults) (ap names_of c.in-Ok.ensures.only.names) test
 
 pub returns-in-None-clause-gives : goal.returns-in-None-clause-gives
 returns-in-None-clause-gives g c = λ tells.
     let taken = rw c.in-Some.is at (c.in-Ok.ensures.taken tells) in
     let test = ap code_of (sym c.deref.ensures.value) ∙ sym c.code_of.ensures ∙ c.in-None.is in
-    IfOk-map c.give.result
-    (λ turn gives. gives_took _ (told_by c.args.run.now) _ _ c.take_change.new.line.items c.in-Some.at.place taken.0 _ _
-    _ (ap (λ (v : Vec SourceFault Global). v.items) c.in-Ok.ensures.only.faults)
-    (ap names_of c.in-Ok.ensures.only.names)
-    (new_first _ _ _ _ c.args.run.now c.args.change c.requires.changing c.requires.below
-    (c.in-Ok.ensures.keeps.texts tells) (c.in-Ok.ensures.keeps.left tells) c.take_change.new.run
-    c.in-Ok.ensures.only.inputs c.in-Ok.ensures.stack (ap names_of c.in-Ok.ensures.only.names)
-    c.in-Ok.ensures.only.stage
-    (told_by c.take_change.new.run) c.take_change.new.line.items c.in-Some.at.place taken.0 taken.1
-    (ap (λ (v : Vec SourceFault Global). v.items) c.in-Ok.ensures.only.faults)
-    (ap names_of c.in-Ok.ensures.only.names) test)
-    (gives taken.0.line taken.0.is))
+    IfOk-map c.give.result (λ turn gives. gives_took _ (told_by c.args.run.now) _ _ c.take_change.new.line.items
+    c.in-Some.at.place taken.0 _ _ _ (ap (λ (v : Vec SourceFault Global). v.items) c.in-Ok.ensures.only.faults)
+    (ap names_of c.in-Ok.ensures.only.names) (new_first _ _ _ _ c.args.run.now c.args.change
+    c.requires.changing c.requires.below (c.in-Ok.ensures.keeps.texts tells) (c.in-Ok.ensures.keeps.left tells)
+    c.take_change.new.run c.in-Ok.ensures.only.inputs c.in-Ok.ensures.stack (ap names_of c.in-Ok.ensures.only.names)
+    c.in-Ok.ensures.only.stage (told_by c.take_change.new.run) c.take_change.new.line.items
+    c.in-Some.at.place taken.0 taken.1 (ap (λ (v : Vec SourceFault Global). v.items) c.in-Ok.ensures.only.faults)
+    (ap names_of c.in-Ok.ensures.only.names) test) (gives taken.0.line taken.0.is))
     (rw c.deref-in-None.ensures.value at (c.give.ensures.gives (subst IsTrue (sym c.in-Ok.ensures.keeps.tells) tells)))
 
 pub returns-in_default-tell-2-clause-gives : goal.returns-in_default-tell-2-clause-gives
@@ -72,14 +64,12 @@ returns-in_default-tell-2-clause-gives g c = λ tells.
     let test = ap code_of (sym c.deref.ensures.value) ∙ sym c.code_of.ensures ∙ c.in-Some-code_of.is in
     new_faulty _ _ _ _ c.args.run.now c.args.change c.requires.changing c.requires.below
     (c.in-Ok.ensures.keeps.texts tells) (c.in-Ok.ensures.keeps.left tells) c.tell-in-Some-code_of.new.self
-    (c.in_default-tell-2.ensures.only.inputs ∙ c.in-Ok.ensures.only.inputs)
-    (c.in_default-tell-2.ensures.only.stack ∙ c.in-Ok.ensures.stack)
-    (ap names_of (c.in_default-tell-2.ensures.only.names ∙ c.in-Ok.ensures.only.names))
+    (c.in_default-tell-2.ensures.only.inputs ∙ c.in-Ok.ensures.only.inputs) (c.in_default-tell-2.ensures.only.stack
+    ∙ c.in-Ok.ensures.stack) (ap names_of (c.in_default-tell-2.ensures.only.names ∙ c.in-Ok.ensures.only.names))
     (c.in_default-tell-2.ensures.only.stage ∙ c.in-Ok.ensures.only.stage)
-    (told_by c.take_change.new.run) c.take_change.new.line.items c.in-Some.at.place taken.0
-    (taken.1 ∙ ap (λ ch. taken.0.line ∷ lines_at (g.S.Shelf.left c.take_change.new.shelf) ch)
-    (sym c.in_default-tell-2.ensures.only.change)) (ap (λ (v : Vec SourceFault Global). v.items)
-    c.in-Ok.ensures.only.faults) (ap names_of c.in-Ok.ensures.only.names)
+    (told_by c.take_change.new.run) c.take_change.new.line.items c.in-Some.at.place taken.0 (taken.1 ∙ ap (λ ch.
+    taken.0.line ∷ lines_at (g.S.Shelf.left c.take_change.new.shelf) ch) (sym c.in_default-tell-2.ensures.only.change))
+    (ap (λ (v : Vec SourceFault Global). v.items) c.in-Ok.ensures.only.faults) (ap names_of c.in-Ok.ensures.only.names)
     c.in-Some-code_of.code test (sym c.eq.ensures ∙ c.if-eq.false) c.in_default-tell-2.ensures.told
     (ap names_of c.in_default-tell-2.ensures.only.names) (ap count_of c.in_default-tell-2.ensures.only.limits)
 
@@ -88,13 +78,11 @@ pub returns-in-Err-clause-still : goal.returns-in-Err-clause-still
 returns-in-Err-clause-still g c = told_took c.in-Err.ensures.only
 
 pub returns-in-Err-tell-clause-still : goal.returns-in-Err-tell-clause-still
-returns-in-Err-tell-clause-still g c =
-    told_then _ _ _ (told_took c.in-Ok.ensures.only)
+returns-in-Err-tell-clause-still g c = told_then _ _ _ (told_took c.in-Ok.ensures.only)
     (told_same _ _ c.in-Err-tell.ensures.err (ap names_of c.in-Err-tell.ensures.only.names))
 
 pub returns-in_default-clause-still : goal.returns-in_default-clause-still
-returns-in_default-clause-still g c =
-    told_then _ _ _ (told_took c.in-Ok.ensures.only)
+returns-in_default-clause-still g c = told_then _ _ _ (told_took c.in-Ok.ensures.only)
     (told_behind _ _ _ c.in_default-tell.ensures.told (ap names_of c.in_default-tell.ensures.only.names))
 
 pub returns-in-None-clause-still : goal.returns-in-None-clause-still
@@ -104,14 +92,12 @@ pub returns-then-eq-clause-still : goal.returns-then-eq-clause-still
 returns-then-eq-clause-still g c = told_took c.in-Ok.ensures.only
 
 pub returns-in-Err-tell-2-clause-still : goal.returns-in-Err-tell-2-clause-still
-returns-in-Err-tell-2-clause-still g c =
-    told_then _ _ _ (told_took c.in-Ok.ensures.only)
+returns-in-Err-tell-2-clause-still g c = told_then _ _ _ (told_took c.in-Ok.ensures.only)
     (told_same _ _ c.in-Err-tell-2.ensures.err (ap names_of c.in-Err-tell-2.ensures.only.names))
 
 pub returns-in_default-tell-2-clause-still : goal.returns-in_default-tell-2-clause-still
-returns-in_default-tell-2-clause-still g c =
-    told_then _ _ _ (told_took c.in-Ok.ensures.only) (told_behind _ _ _ c.in_default-tell-2.ensures.told
-    (ap names_of c.in_default-tell-2.ensures.only.names))
+returns-in_default-tell-2-clause-still g c = told_then _ _ _ (told_took c.in-Ok.ensures.only)
+    (told_behind _ _ _ c.in_default-tell-2.ensures.told (ap names_of c.in_default-tell-2.ensures.only.names))
 
 -- the readers
 pub returns-in-Err-tell-clause-readers : goal.returns-in-Err-tell-clause-readers
@@ -132,10 +118,8 @@ returns-in-None-clause-readers g c = λ tells known. c.give.ensures.readers
     (subst IsTrue (sym c.in-Ok.ensures.keeps.tells) tells) (c.in-Ok.ensures.readers tells known)
 
 pub returns-in-None-clause-blamed : goal.returns-in-None-clause-blamed
-returns-in-None-clause-blamed g c = λ tells known.
-    blames_memory c.give.result _ _ _ c.give.ensures.only.memory
-    (c.give.ensures.blamed (subst IsTrue (sym c.in-Ok.ensures.keeps.tells) tells)
-    ∙ c.in-Ok.ensures.blamed tells known)
+returns-in-None-clause-blamed g c = λ tells known. blames_memory c.give.result _ _ _ c.give.ensures.only.memory
+    (c.give.ensures.blamed (subst IsTrue (sym c.in-Ok.ensures.keeps.tells) tells) ∙ c.in-Ok.ensures.blamed tells known)
 
 pub returns-then-eq-clause-readers : goal.returns-then-eq-clause-readers
 returns-then-eq-clause-readers g c = λ tells known.

@@ -19,8 +19,7 @@ runs-preserved c =
 -- what stands before the rest
 front_size : (bytes front rest : List ℕ) (at : ℕ) → bytes ≡ front ++ rest
     → length front + at ≡ length bytes - length rest + at
-front_size bytes front rest at is =
-    omega (arith, ap (λ (l : List ℕ). length l) is, length-append front rest)
+front_size bytes front rest at is = omega (arith, ap (λ (l : List ℕ). length l) is, length-append front rest)
 
 pub overflow_add-result : goal.overflow_add-result
 overflow_add-result c =
@@ -51,16 +50,14 @@ returns-in-Some-memchr c =
     let rest = c.runs.rest.now in
     let at = c.in-Some-memchr.at in
     subst (SplitsAt c.args.bytes.now) (front_size c.args.bytes.now inv.0 rest at inv.1)
-    (splits_behind c.args.bytes.now inv.0 rest [] at
-    (inv.1 ∙ ap (λ (l : List ℕ). inv.0 ++ l) (sym (append-nil rest))) inv.2
-    (newline_at-memchr rest (Some at) c.in-Some-memchr.ensures))
+    (splits_behind c.args.bytes.now inv.0 rest [] at (inv.1 ∙ ap (λ (l : List ℕ). inv.0 ++ l) (sym (append-nil rest)))
+    inv.2 (newline_at-memchr rest (Some at) c.in-Some-memchr.ensures))
 
 pub returns-in-None : goal.returns-in-None
 returns-in-None c =
     let inv = c.runs.invariant in
     let rest = c.runs.rest.now in
-    subst HasNoNewline (sym inv.1)
-    (no_newline-append inv.0 rest inv.2 (newline_at-memchr rest None c.in-None.ensures))
+    subst HasNoNewline (sym inv.1) (no_newline-append inv.0 rest inv.2 (newline_at-memchr rest None c.in-None.ensures))
 
 pub overflow_sub-result : goal.overflow_sub-result
 overflow_sub-result c = grind (arith, common_steps)

@@ -22,5 +22,4 @@ returns c =
     let same = mask_is v long in
     let h = bit_at-trailing_zeros w64 (mask v) (omega (arith, c.if-marked-eq0.false)) (omega arith) in
     let at = trailing_zeros w64 (mask v) in
-    first_marked v long at (ap (λ n. bit_at n at) (sym same) ∙ h.1)
-    (λ k lt. ap (λ n. bit_at n k) (sym same) ∙ h.2 k lt)
+    first_marked v long at (ap (λ n. bit_at n at) (sym same) ∙ h.1) (λ k lt. ap (λ n. bit_at n k) (sym same) ∙ h.2 k lt)

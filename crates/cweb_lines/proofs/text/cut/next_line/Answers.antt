@@ -15,14 +15,13 @@ so_far g c tells =
 
 pub returns-in_err-take_pending-clause-too_long : goal.returns-in_err-take_pending-clause-too_long
 returns-in_err-take_pending-clause-too_long g c = λ tells is.
-    let p = err_from_is_err_and c.from_residual-in_err-take_pending.result
-    c.from_residual-in_err-take_pending.ensures.1 in
+    let p =
+    err_from_is_err_and c.from_residual-in_err-take_pending.result c.from_residual-in_err-take_pending.ensures.1 in
     let fault : c.in_err-take_pending.field-0.0 ≡ TooLong = cc (p.1, p.2, is) in
     let long = c.in_err-take_pending.ensures.too_long c.pieces.invariant.none (ap Err fault) in
     let rest = g.S.Shelf.left c.refill.new.shelf c.refill.new.source.reader.value in
-    subst (λ (l : List ℕ). IsLongerThan LINE_LENGTH l)
-    (append_assoc c.pieces.line.items (pending c.refill.new.source) rest
-    ∙ sym (so_far g (goal.at.returns-in_err-take_pending-clause-too_long g c).In_ok-refill tells))
+    subst (λ (l : List ℕ). IsLongerThan LINE_LENGTH l) (append_assoc c.pieces.line.items (pending c.refill.new.source)
+    rest ∙ sym (so_far g (goal.at.returns-in_err-take_pending-clause-too_long g c).In_ok-refill tells))
     (longer_more LINE_LENGTH (c.pieces.line.items ++ pending c.refill.new.source) rest long)
 
 pub returns-then-branch-clause-taken : goal.returns-then-branch-clause-taken
@@ -50,9 +49,8 @@ pieces-preserved g c =
           ∙ c.in_ok-refill.ensures.opened still ∙ c.pieces.invariant.opened tells;
       blamed = search rules;
       bytes = λ tells. rw c.in_ok-take_pending.ensures.reader
-          ((taken_more _ c.pieces.line.items (pending c.refill.new.source)
-          (g.S.Shelf.left c.refill.new.shelf c.refill.new.source.reader.value) c.take_pending.new.line.items
-          (pending c.take_pending.new.source)
+          ((taken_more _ c.pieces.line.items (pending c.refill.new.source) (g.S.Shelf.left c.refill.new.shelf
+          c.refill.new.source.reader.value) c.take_pending.new.line.items (pending c.take_pending.new.source)
           (so_far g (goal.at.pieces-preserved g c).In_ok-refill tells) c.pieces.invariant.none takes).0);
       none = (taken_more _ c.pieces.line.items (pending c.refill.new.source) [] c.take_pending.new.line.items
           (pending c.take_pending.new.source) refl c.pieces.invariant.none takes).1;

@@ -11,9 +11,8 @@ returns-in-texts-clause-taken g c = λ tells rest.
 
 -- the readers of the texts
 pub returns-in-Err-clause-named : goal.returns-in-Err-clause-named
-returns-in-Err-clause-named g c = λ tells names each.
-    c.in-Err.ensures.named (subst IsTrue (sym c.texts.invariant.tells) tells) names
-    (c.texts.invariant.named tells names each)
+returns-in-Err-clause-named g c = λ tells names each. c.in-Err.ensures.named
+    (subst IsTrue (sym c.texts.invariant.tells) tells) names (c.texts.invariant.named tells names each)
 
 pub returns-in-Err-clause-blamed : goal.returns-in-Err-clause-blamed
 returns-in-Err-clause-blamed g c = λ tells names each.
@@ -22,9 +21,8 @@ returns-in-Err-clause-blamed g c = λ tells names each.
     (c.in-Err.ensures.blamed still names (c.texts.invariant.named tells names each))
 
 pub returns-in-texts-clause-named : goal.returns-in-texts-clause-named
-returns-in-texts-clause-named g c = λ tells names each.
-    c.in-Ok.ensures.named (subst IsTrue (sym c.texts.invariant.tells) tells) names
-    (c.texts.invariant.named tells names each)
+returns-in-texts-clause-named g c = λ tells names each. c.in-Ok.ensures.named
+    (subst IsTrue (sym c.texts.invariant.tells) tells) names (c.texts.invariant.named tells names each)
 
 pub returns-in-texts-clause-blamed : goal.returns-in-texts-clause-blamed
 returns-in-texts-clause-blamed g c = λ tells names each.
@@ -44,8 +42,7 @@ texts-preserved g c =
       names = search rules;
       named = λ tells names each. c.in-Ok.ensures.named (subst IsTrue (sym c.texts.invariant.tells) tells) names
           (c.texts.invariant.named tells names each);
-      blamed = λ tells names each.
-          c.in-Ok.ensures.blamed (subst IsTrue (sym c.texts.invariant.tells) tells) names
+      blamed = λ tells names each. c.in-Ok.ensures.blamed (subst IsTrue (sym c.texts.invariant.tells) tells) names
           (c.texts.invariant.named tells names each) ∙ c.texts.invariant.blamed tells names each;
       low = omega (arith, depth, c.texts-test.true);
       shallow = omega (arith, depth, c.texts.invariant.shallow);

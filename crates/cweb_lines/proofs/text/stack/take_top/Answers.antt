@@ -17,13 +17,10 @@ take_from-requires-clause-number g c =
 pub returns-in-Err-clause-stops : goal.returns-in-Err-clause-stops
 returns-in-Err-clause-stops g c = λ tells.
     let within : c.args.stack.now.depth - 1 < length c.args.stack.now.texts = omega arith in
-    stops_map c.in-Err.stop
-    (λ first low above rest. top_stops (g.S.Shelf.left c.args.shelf.now)
-    (g.S.Shelf.left c.args.shelf.now) refl c.args.stack.now.texts c.index-stack-top.result c.take_from.new.slot
-    c.args.stack.now.depth
-    within (count_of c.args.limits.now) (count_of c.take_from.new.limits) c.take_from.new.line.items low above rest
-    c.in-Err.stop first)
-    (c.in-Err.ensures.stops tells)
+    stops_map c.in-Err.stop (λ first low above rest. top_stops (g.S.Shelf.left c.args.shelf.now)
+    (g.S.Shelf.left c.args.shelf.now) refl c.args.stack.now.texts c.index-stack-top.result
+    c.take_from.new.slot c.args.stack.now.depth within (count_of c.args.limits.now) (count_of c.take_from.new.limits)
+    c.take_from.new.line.items low above rest c.in-Err.stop first) (c.in-Err.ensures.stops tells)
 
 pub returns-in-Err-clause-closes : goal.returns-in-Err-clause-closes
 returns-in-Err-clause-closes g c = record {
@@ -35,9 +32,8 @@ returns-in-Err-clause-closes g c = record {
 
 pub returns-in-Err-clause-stack : goal.returns-in-Err-clause-stack
 returns-in-Err-clause-stack g c = record {
-  numbers =
-      most_set line_number c.args.stack.now.texts (c.args.stack.now.depth - 1) c.take_from.new.slot
-      c.take_from.new.limits.lines
+  numbers = most_set line_number c.args.stack.now.texts
+      (c.args.stack.now.depth - 1) c.take_from.new.slot c.take_from.new.limits.lines
       (omega (arith, c.requires.numbers, c.in-Err.ensures.answers.counted.0)) c.in-Err.ensures.text.number;
   files =
       let within : c.args.stack.now.depth - 1 < length c.args.stack.now.texts = omega arith in
@@ -76,18 +72,16 @@ pub returns-in_default-clause-taken : goal.returns-in_default-clause-taken
 returns-in_default-clause-taken g c = λ tells low above rest.
     let within : c.args.stack.now.depth - 1 < length c.args.stack.now.texts = omega arith in
     top_closed (g.S.Shelf.left c.args.shelf.now) (g.S.Shelf.left c.take_from.new.shelf)
-    (c.in-Ok.ensures.keeps.left tells) c.args.stack.now.texts c.index-stack-top.result c.take_from.new.slot
-    c.args.stack.now.depth
-    within (count_of c.args.limits.now) (count_of c.take_from.new.limits) c.take_from.new.line.items low above rest _
-    (c.close.ensures.texts ∙ set-set c.args.stack.now.texts (c.args.stack.now.depth - 1) c.take_from.new.slot None)
-    (rw c.in_default.is at (c.in-Ok.ensures.taken tells))
+    (c.in-Ok.ensures.keeps.left tells) c.args.stack.now.texts c.index-stack-top.result
+    c.take_from.new.slot c.args.stack.now.depth within (count_of c.args.limits.now) (count_of c.take_from.new.limits)
+    c.take_from.new.line.items low above rest _ (c.close.ensures.texts ∙ set-set c.args.stack.now.texts
+    (c.args.stack.now.depth - 1) c.take_from.new.slot None) (rw c.in_default.is at (c.in-Ok.ensures.taken tells))
 
 pub returns-in_default-clause-closes : goal.returns-in_default-clause-closes
 returns-in_default-clause-closes g c = record {
   depth = search rules;
-  below = λ low above.
-      stays_below c.args.stack.now.texts _ (c.args.stack.now.depth - 1) low None (omega arith)
-      (c.close.ensures.texts ∙ set-set c.args.stack.now.texts
+  below = λ low above. stays_below c.args.stack.now.texts _
+      (c.args.stack.now.depth - 1) low None (omega arith) (c.close.ensures.texts ∙ set-set c.args.stack.now.texts
       (c.args.stack.now.depth - 1) c.take_from.new.slot None);
   deeper = search rules;
 }
@@ -97,18 +91,16 @@ returns-in_default-clause-stack g c = record {
   numbers =
       let counted = rw c.in_default.is at c.in-Ok.ensures.answers.counted in
       rw c.close.ensures.texts (most_set line_number (set c.args.stack.now.texts
-      (c.args.stack.now.depth - 1) c.take_from.new.slot)
-      (c.args.stack.now.depth - 1) None c.take_from.new.limits.lines
+      (c.args.stack.now.depth - 1) c.take_from.new.slot) (c.args.stack.now.depth - 1) None c.take_from.new.limits.lines
       (most_set line_number c.args.stack.now.texts (c.args.stack.now.depth - 1) c.take_from.new.slot
       c.take_from.new.limits.lines (omega (arith, c.requires.numbers, counted.0)) c.in-Ok.ensures.text.number)
       (omega arith));
   files =
       let within : c.args.stack.now.depth - 1 < length c.args.stack.now.texts = omega arith in
-      rw c.close.ensures.texts (most_set files_up_to (set c.args.stack.now.texts
-      (c.args.stack.now.depth - 1) c.take_from.new.slot) (c.args.stack.now.depth - 1) None
-      (most files_up_to c.args.stack.now.texts)
-      (most_set files_up_to c.args.stack.now.texts (c.args.stack.now.depth - 1) c.take_from.new.slot
-      (most files_up_to c.args.stack.now.texts)
+      rw c.close.ensures.texts
+      (most_set files_up_to (set c.args.stack.now.texts (c.args.stack.now.depth - 1) c.take_from.new.slot)
+      (c.args.stack.now.depth - 1) None (most files_up_to c.args.stack.now.texts) (most_set files_up_to
+      c.args.stack.now.texts (c.args.stack.now.depth - 1) c.take_from.new.slot (most files_up_to c.args.stack.now.texts)
       (omega arith) (omega (
         arith,
         c.in-Ok.ensures.text.file,
@@ -129,12 +121,11 @@ pub returns-clause-taken : goal.returns-clause-taken
 returns-clause-taken g c = λ tells low above rest.
     let within : c.args.stack.now.depth - 1 < length c.args.stack.now.texts = omega arith in
     let level = rw c.in-Some.is at c.in-Ok.ensures.text.level in
-    top_taken (g.S.Shelf.left c.args.shelf.now) (g.S.Shelf.left c.take_from.new.shelf)
-    (c.in-Ok.ensures.keeps.left tells) c.args.stack.now.texts c.index-stack-top.result c.take_from.new.slot
-    c.args.stack.now.depth
-    within (count_of c.args.limits.now) (count_of c.take_from.new.limits) c.take_from.new.line.items low above rest
-    c.in-Some.at level.0 level.1 c.in-Ok.ensures.text.depth c.in-Ok.ensures.text.may_match
-    (rw c.in-Some.is at (c.in-Ok.ensures.taken tells))
+    top_taken (g.S.Shelf.left c.args.shelf.now)
+    (g.S.Shelf.left c.take_from.new.shelf) (c.in-Ok.ensures.keeps.left tells) c.args.stack.now.texts
+    c.index-stack-top.result c.take_from.new.slot c.args.stack.now.depth within (count_of c.args.limits.now)
+    (count_of c.take_from.new.limits) c.take_from.new.line.items low above rest c.in-Some.at level.0
+    level.1 c.in-Ok.ensures.text.depth c.in-Ok.ensures.text.may_match (rw c.in-Some.is at (c.in-Ok.ensures.taken tells))
 
 pub returns-clause-closes : goal.returns-clause-closes
 returns-clause-closes g c = record {
@@ -211,11 +202,10 @@ returns-in_default-clause-named g c = λ tells names each.
     let slot = c.in-Ok.ensures.named tells names
     (named_at _ names c.args.stack.now.texts (c.args.stack.now.depth - 1) c.index-stack-top.result within each) in
     let others = subst (λ f. AreNamed f names c.args.stack.now.texts) (sym (c.in-Ok.ensures.keeps.names tells)) each in
-    rw c.close.ensures.texts
-    (named_set (g.S.Shelf.opened_as c.take_from.new.shelf) names
+    rw c.close.ensures.texts (named_set (g.S.Shelf.opened_as c.take_from.new.shelf) names
     (set c.args.stack.now.texts (c.args.stack.now.depth - 1) c.take_from.new.slot) (c.args.stack.now.depth - 1) None
-    (named_set (g.S.Shelf.opened_as c.take_from.new.shelf) names c.args.stack.now.texts (c.args.stack.now.depth - 1)
-    c.take_from.new.slot others slot) tt)
+    (named_set (g.S.Shelf.opened_as c.take_from.new.shelf) names c.args.stack.now.texts
+    (c.args.stack.now.depth - 1) c.take_from.new.slot others slot) tt)
 
 pub returns-in_default-clause-blamed : goal.returns-in_default-clause-blamed
 returns-in_default-clause-blamed g c = λ tells names each.

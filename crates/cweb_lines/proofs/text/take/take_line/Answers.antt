@@ -24,19 +24,17 @@ pub returns-in-Err-add-clause-stops : goal.returns-in-Err-add-clause-stops
 returns-in-Err-add-clause-stops g c = λ tells.
     let line = rw c.in-Some.is at (c.in-Ok.ensures.taken tells) in
     first_passes c.in-Err-add.stop line.taken (left_of g.S.Shelf.left c.args.shelf.now c.args.text.now.source)
-    (left_of g.S.Shelf.left c.take_trimmed.new.shelf c.take_trimmed.new.source) line.raw
-    c.args.text.now.file.0 (c.args.text.now.line + 1) (count_of c.args.limits.now) line.some line.takes line.short
-    c.in-Err-add.ensures.stop
+    (left_of g.S.Shelf.left c.take_trimmed.new.shelf c.take_trimmed.new.source) line.raw c.args.text.now.file.0
+    (c.args.text.now.line + 1) (count_of c.args.limits.now) line.some line.takes line.short c.in-Err-add.ensures.stop
     (rw line.size_is at c.in-Err-add.ensures.passed)
 
 pub returns-clause-taken : goal.returns-clause-taken
 returns-clause-taken g c = λ tells.
     let line = rw c.in-Some.is at (c.in-Ok.ensures.taken tells) in
     takes_first c.take_trimmed.new.line.items line.raw (left_of g.S.Shelf.left c.args.shelf.now c.args.text.now.source)
-    (left_of g.S.Shelf.left c.take_trimmed.new.shelf c.take_trimmed.new.source)
-    c.args.text.now.file.0 (c.args.text.now.line + 1) c.args.text.now.depth c.args.text.now.may_match line.taken
-    (count_of c.args.limits.now) (count_of c.add.new.self)
-    line.some line.takes line.bytes_are line.short c.in_default-add.ensures.lines
+    (left_of g.S.Shelf.left c.take_trimmed.new.shelf c.take_trimmed.new.source) c.args.text.now.file.0
+    (c.args.text.now.line + 1) c.args.text.now.depth c.args.text.now.may_match line.taken (count_of c.args.limits.now)
+    (count_of c.add.new.self) line.some line.takes line.bytes_are line.short c.in_default-add.ensures.lines
     (rw line.size_is at c.in_default-add.ensures.bytes)
 
 -- the reader stays the one of the file, and is blamed where a read of it failed

@@ -43,10 +43,9 @@ returns-in-Err-clause-opened g c = λ tells. c.in-Err.ensures.opened tells ∙ a
     c.in_ok-size.ensures.reader
 
 pub returns-in-Err-clause-blamed : goal.returns-in-Err-clause-blamed
-returns-in-Err-clause-blamed g c = λ tells.
-    subst (λ r. BlamesReader {A = ℕ} (g.S.Shelf.opened_as c.args.shelf.now r) (g.S.Shelf.blamed c.args.shelf.now)
-    (g.S.Shelf.blamed c.next_line.new.shelf) (Err c.in-Err.fault)) c.in_ok-size.ensures.reader
-    (c.in-Err.ensures.blamed tells)
+returns-in-Err-clause-blamed g c = λ tells. subst (λ r. BlamesReader {A = ℕ} (g.S.Shelf.opened_as c.args.shelf.now r)
+    (g.S.Shelf.blamed c.args.shelf.now) (g.S.Shelf.blamed c.next_line.new.shelf) (Err c.in-Err.fault))
+    c.in_ok-size.ensures.reader (c.in-Err.ensures.blamed tells)
 
 pub returns-in-Some-clause-taken : goal.returns-in-Some-clause-taken
 returns-in-Some-clause-taken g c = grind (arith, common_steps)

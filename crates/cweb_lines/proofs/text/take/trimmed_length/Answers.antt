@@ -7,9 +7,8 @@ blanks-preserved c =
     let back : c.blanks.end - 1 + 1 ≡ c.blanks.end = omega (arith, c.blanks-test.true) in
     record {
       within = omega (arith, c.blanks.invariant.within);
-      trimmed = trims_more c.args.line.now (c.blanks.end - 1)
-          (omega (arith, c.blanks.invariant.within, c.blanks-test.true))
-          (sym c.is_blank.ensures ∙ c.if-not-is_blank.false)
+      trimmed = trims_more c.args.line.now (c.blanks.end - 1) (omega
+          (arith, c.blanks.invariant.within, c.blanks-test.true)) (sym c.is_blank.ensures ∙ c.if-not-is_blank.false)
           ∙ ap (λ n. trimmed (take n c.args.line.now)) back ∙ c.blanks.invariant.trimmed;
     }
 

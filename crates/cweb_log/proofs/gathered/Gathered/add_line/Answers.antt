@@ -9,16 +9,13 @@ pub add-requires : goal.add-requires
 add-requires g c = omega (arith, c.parts.invariant.counts, c.requires)
 
 pub returns-in_err-add : goal.returns-in_err-add
-returns-in_err-add g c =
-    gathers_failed (λ (part : Bor (List ℕ)). part.now) c.args.parts.now c.parts.part-index _ _ _ _ _
-    _ _ _ _ _ c.parts-test.true c.parts.invariant c.in_err-add.ensures c.from_residual.ensures.0
+returns-in_err-add g c = gathers_failed (λ (part : Bor (List ℕ)). part.now) c.args.parts.now c.parts.part-index
+    _ _ _ _ _ _ _ _ _ _ c.parts-test.true c.parts.invariant c.in_err-add.ensures c.from_residual.ensures.0
 
 pub parts-preserved : goal.parts-preserved
-parts-preserved g c =
-    gathers_next (λ (part : Bor (List ℕ)). part.now) c.args.parts.now c.parts.part-index
-    _ _ _ _ _ _ _ _ _ c.parts-test.true c.parts.invariant c.in_ok-add.ensures
+parts-preserved g c = gathers_next (λ (part : Bor (List ℕ)). part.now)
+    c.args.parts.now c.parts.part-index _ _ _ _ _ _ _ _ _ c.parts-test.true c.parts.invariant c.in_ok-add.ensures
 
 pub returns : goal.returns
-returns g c =
-    gathers_all (λ (part : Bor (List ℕ)). part.now) c.args.parts.now
-    c.parts.part-index _ _ _ _ _ c.parts-test.false c.parts.invariant
+returns g c = gathers_all (λ (part : Bor (List ℕ)).
+    part.now) c.args.parts.now c.parts.part-index _ _ _ _ _ c.parts-test.false c.parts.invariant

@@ -11,17 +11,15 @@ take-requires c =
     c.in-Some.frame.now (vec_capacity frames) c.frames.invariant.stands top).1.within
 
 abbrev moved : (c : goal.In-Some-take)
-    → TopMoved c.args.self.now.store.now c.args.self.now.frames.items
-    (slice_set c.frames.self.frames.items (vec_len c.frames.self.frames - 1) c.take.new.self)
-    (seen c.in-Some-take.token) (vec_capacity c.frames.self.frames)
+    → TopMoved c.args.self.now.store.now c.args.self.now.frames.items (slice_set c.frames.self.frames.items
+    (vec_len c.frames.self.frames - 1) c.take.new.self) (seen c.in-Some-take.token) (vec_capacity c.frames.self.frames)
 moved c =
     let frames = c.frames.self.frames in
     let top : HasTop (vec_len frames) frames.items c.in-Some.frame.now =
     record { count = frames.ok.0; some = c.in-Some.ensures.item.3.0; is = c.in-Some.ensures.value } in
-    top_moved c.args.self.now.store.now (vec_len frames) c.args.self.now.frames.items frames.items
-    c.in-Some.frame.now c.take.new.self (seen c.in-Some-take.token) (vec_capacity frames)
-    c.frames.invariant.stands c.frames.invariant.left c.frames.invariant.work top
-    c.in-Some-take.ensures.some c.in-Some-take.ensures.within c.take.ensures.owner
+    top_moved c.args.self.now.store.now (vec_len frames) c.args.self.now.frames.items frames.items c.in-Some.frame.now
+    c.take.new.self (seen c.in-Some-take.token) (vec_capacity frames) c.frames.invariant.stands c.frames.invariant.left
+    c.frames.invariant.work top c.in-Some-take.ensures.some c.in-Some-take.ensures.within c.take.ensures.owner
 
 pub returns-in-Some-take-clause-stands : goal.returns-in-Some-take-clause-stands
 returns-in-Some-take-clause-stands c = rw c.frames.invariant.store (moved c).stands
@@ -35,10 +33,9 @@ frames-preserved c =
     let frames = c.frames.self.frames in
     let top : HasTop (vec_len frames) frames.items c.in-Some.frame.now =
     record { count = frames.ok.0; some = c.in-Some.ensures.item.3.0; is = c.in-Some.ensures.value } in
-    let is : c.pop.new.self.items ≡ lower (vec_len frames) frames.items =
-    c.pop.ensures.rest ∙ take-set frames.items (vec_len frames - 1) c.take.new.self in
-    let ended =
-    top_ended w (vec_len frames) frames.items c.pop.new.self.items c.in-Some.frame.now
+    let is : c.pop.new.self.items ≡ lower (vec_len frames) frames.items = c.pop.ensures.rest
+    ∙ take-set frames.items (vec_len frames - 1) c.take.new.self in
+    let ended = top_ended w (vec_len frames) frames.items c.pop.new.self.items c.in-Some.frame.now
     (vec_capacity frames) c.frames.invariant.stands top (c.in_default-take.ensures.none refl) is in
     let less = ended.work in
     let earlier = c.frames.invariant.work in

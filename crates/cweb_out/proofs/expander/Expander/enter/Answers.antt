@@ -2,9 +2,8 @@ use Rattle.cweb_out.proofs.Common.{◌≡◌, ◌∷◌, vec_capacity, sym, ap, 
 use Rattle.cweb_out.proofs.StackUses.{Entered, entered}
 use Rattle.cweb_out.proofs.expander.Expander.enter.Goals as goal
 
-abbrev all : (c : goal.After-put)
-    → Entered c.args.self.now.store.now c.args.self.now.frames.items
-    c.put.new.self.frames.items c.args.name (vec_capacity c.put.new.self.frames)
+abbrev all : (c : goal.After-put) → Entered c.args.self.now.store.now
+    c.args.self.now.frames.items c.put.new.self.frames.items c.args.name (vec_capacity c.put.new.self.frames)
 all c =
     let w : Stored = c.args.self.now.store.now in
     let h : c.parts-rest.result ≡ c.in-Some-next.part ∷ c.next.new.self = c.in-Some-next.ensures.steps in

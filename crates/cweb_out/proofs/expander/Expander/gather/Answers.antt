@@ -17,9 +17,8 @@ gather-requires c =
     (stands_lower c.args.self.now.store.now (vec_len c.frames.self.frames) c.frames.self.frames.items
     c.in-Some.frame.now (vec_capacity c.frames.self.frames) c.frames.invariant.stands top).1.within
 
-abbrev gone : (c : After-pop)
-    → TopGone c.args.self.now.store.now c.frames.self.frames.items c.pop.new.self.items
-    c.gather.ensures.prints.done (vec_capacity c.frames.self.frames)
+abbrev gone : (c : After-pop) → TopGone c.args.self.now.store.now
+    c.frames.self.frames.items c.pop.new.self.items c.gather.ensures.prints.done (vec_capacity c.frames.self.frames)
 gone c =
     let frames = c.frames.self.frames in
     let top : HasTop (vec_len frames) frames.items c.in-Some.frame.now =
@@ -47,17 +46,14 @@ frames-preserved-then-gather c =
       store = c.frames.invariant.store;
       plan = c.frames.invariant.plan;
       setting = c.gather.ensures.setting ∙ c.frames.invariant.setting;
-      prints =
-          front_more c.args.printer.now c.frames.printer c.gather.new.printer
-          (left w c.args.self.now.frames.items) (left w c.frames.self.frames.items) (left w c.pop.new.self.items)
-          c.args.gathered.now c.frames.gathered c.gather.new.gathered c.frames.invariant.setting
-          c.frames.invariant.prints
+      prints = front_more c.args.printer.now c.frames.printer c.gather.new.printer (left w c.args.self.now.frames.items)
+          (left w c.frames.self.frames.items) (left w c.pop.new.self.items) c.args.gathered.now
+          c.frames.gathered c.gather.new.gathered c.frames.invariant.setting c.frames.invariant.prints
           (front_of c.frames.printer c.gather.new.printer _ _ _ _ c.frames.gathered c.gather.new.gathered
           c.gather.ensures.prints (gone c).left);
     }
 
-abbrev taken : (c : goal.After-enter-arg-1)
-    → TopUsed c.args.self.now.store.now c.frames.self.frames.items
+abbrev taken : (c : goal.After-enter-arg-1) → TopUsed c.args.self.now.store.now c.frames.self.frames.items
     (slice_set c.frames.self.frames.items (vec_len c.frames.self.frames - 1) c.take_name.new.self)
     c.gather.ensures.prints.done (Name c.in-Some-take_name.name) (vec_capacity c.frames.self.frames)
 taken c =
@@ -83,8 +79,7 @@ enter-requires-clause-below c = rw c.frames.invariant.store (taken c).below
 pub enter-requires-clause-lower : goal.enter-requires-clause-lower
 enter-requires-clause-lower c = rw c.frames.invariant.store (taken c).lower
 
-abbrev used : (c : goal.After-enter)
-    → TopUsed c.args.self.now.store.now c.frames.self.frames.items
+abbrev used : (c : goal.After-enter) → TopUsed c.args.self.now.store.now c.frames.self.frames.items
     (slice_set c.frames.self.frames.items (vec_len c.frames.self.frames - 1) c.take_name.new.self)
     c.gather.ensures.prints.done (Name c.in-Some-take_name.name) (vec_capacity c.frames.self.frames)
 used c =
@@ -117,22 +112,17 @@ frames-preserved c =
       store = c.enter.ensures.store ∙ c.frames.invariant.store;
       plan = c.enter.ensures.plan ∙ c.frames.invariant.plan;
       setting = c.gather.ensures.setting ∙ c.frames.invariant.setting;
-      prints =
-          front_more c.args.printer.now c.frames.printer c.gather.new.printer
-          (left w c.args.self.now.frames.items) (left w c.frames.self.frames.items)
-          (left w c.enter.new.self.frames.items)
-          c.args.gathered.now c.frames.gathered c.gather.new.gathered c.frames.invariant.setting
-          c.frames.invariant.prints
-          (front_of c.frames.printer c.gather.new.printer _ _ _ _ c.frames.gathered c.gather.new.gathered
-          c.gather.ensures.prints
+      prints = front_more c.args.printer.now c.frames.printer c.gather.new.printer (left w c.args.self.now.frames.items)
+          (left w c.frames.self.frames.items) (left w c.enter.new.self.frames.items) c.args.gathered.now
+          c.frames.gathered c.gather.new.gathered c.frames.invariant.setting c.frames.invariant.prints (front_of
+          c.frames.printer c.gather.new.printer _ _ _ _ c.frames.gathered c.gather.new.gathered c.gather.ensures.prints
           ((used c).left ∙ ap (λ (ts : List Token). c.gather.ensures.prints.done ++ ts) (sym entered)));
     }
 
 -- where no use comes next
 abbrev passed : (c : In_default-take_name)
-    → TopPassed c.args.self.now.store.now c.frames.self.frames.items
-    (slice_set c.frames.self.frames.items (vec_len c.frames.self.frames - 1) c.take_name.new.self)
-    c.gather.ensures.prints.done (vec_capacity c.frames.self.frames)
+    → TopPassed c.args.self.now.store.now c.frames.self.frames.items (slice_set c.frames.self.frames.items (vec_len
+    c.frames.self.frames - 1) c.take_name.new.self) c.gather.ensures.prints.done (vec_capacity c.frames.self.frames)
 passed c =
     let w : Stored = c.args.self.now.store.now in
     let frames = c.frames.self.frames in
@@ -158,8 +148,6 @@ returns-in_default-take_name-clause-prints c =
     let frames = c.frames.self.frames in
     front_more c.args.printer.now c.frames.printer c.gather.new.printer
     (left w c.args.self.now.frames.items) (left w frames.items)
-    (left w (slice_set frames.items (vec_len frames - 1) c.take_name.new.self))
-    c.args.gathered.now c.frames.gathered c.gather.new.gathered c.frames.invariant.setting
-    c.frames.invariant.prints
-    (front_of c.frames.printer c.gather.new.printer _ _ _ _ c.frames.gathered c.gather.new.gathered
-    c.gather.ensures.prints (passed c).left)
+    (left w (slice_set frames.items (vec_len frames - 1) c.take_name.new.self)) c.args.gathered.now c.frames.gathered
+    c.gather.new.gathered c.frames.invariant.setting c.frames.invariant.prints (front_of c.frames.printer
+    c.gather.new.printer _ _ _ _ c.frames.gathered c.gather.new.gathered c.gather.ensures.prints (passed c).left)

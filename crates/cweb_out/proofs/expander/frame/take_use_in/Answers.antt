@@ -8,8 +8,7 @@ returns-in-Name-clause-some c =
     record {
       before = [];
       none = refl;
-      same =
-          range-head (all_tokens c.args.store.now.parts) c.args.part.now.first c.args.part.now.after
+      same = range-head (all_tokens c.args.store.now.parts) c.args.part.now.first c.args.part.now.after
           (Name c.in-Name.name) here (omega (arith, c.if-part.false));
     }
 
@@ -23,8 +22,7 @@ returns-in-Name-token-clause-some c =
     record {
       before = slice_range ts first next;
       none = c.next_use-next.ensures.before;
-      same =
-          range-split ts first next after c.next_use-next.ensures.begins c.next_use-next.ensures.within
+      same = range-split ts first next after c.next_use-next.ensures.begins c.next_use-next.ensures.within
           ∙ ap (λ us. slice_range ts first next ++ us)
           (range-head ts next after (Name c.in-Name-token.name) here (omega (arith, c.if-next-part.false)));
     }

@@ -19,8 +19,7 @@ pub invariant_of-self : goal.invariant_of-self
 invariant_of-self c =
     let s = c.self.inside in
     let within : s.used ≤ length s.bytes.items = omega (arith, c.self.invariant.0, c.self.invariant.1) in (
-      ap length
-          (whole_again s.bytes.items c.put_text-self-inside.new.bytes s.bytes.len
+      ap length (whole_again s.bytes.items c.put_text-self-inside.new.bytes s.bytes.len
           (omega (arith, c.put_text-self-inside.ensures.size, ap length c.as_mut_slice.ensures.value, s.bytes.ok.0)))
           ∙ c.put_text-self-inside.ensures.size ∙ ap length c.as_mut_slice.ensures.value ∙ c.self.invariant.0,
       omega (
@@ -38,8 +37,7 @@ returns c =
     let text = c.args.text.now in
     let new = c.put_text-self-inside.new.bytes in
     let within : s.used ≤ length s.bytes.items = omega (arith, c.self.invariant.0, c.self.invariant.1) in
-    ap (take c.put_text-self-inside.result)
-    (whole_again s.bytes.items new s.bytes.len
+    ap (take c.put_text-self-inside.result) (whole_again s.bytes.items new s.bytes.len
     (omega (arith, c.put_text-self-inside.ensures.size, ap length c.as_mut_slice.ensures.value, s.bytes.ok.0)))
     ∙ c.put_text-self-inside.ensures.put
     ∙ ap (λ (t : List ℕ). take s.used t ++ text) c.as_mut_slice.ensures.value

@@ -11,9 +11,8 @@ returns-clause-kept c =
 pub returns-clause-front : goal.returns-clause-front
 returns-clause-front c =
     let text = c.args.text.now in
-    front_stays c.args.bytes.now c.put_text.new.bytes (blank_where c.args.is_apart ++ text) c.args.used
-    c.put_text.result
-    (omega (arith, c.put_text.ensures.end, c.put_blank-begin.ensures.within.0))
+    front_stays c.args.bytes.now c.put_text.new.bytes (blank_where c.args.is_apart ++ text)
+    c.args.used c.put_text.result (omega (arith, c.put_text.ensures.end, c.put_blank-begin.ensures.within.0))
     (omega (arith, c.requires.size, c.requires.within))
     (omega (
       arith,

@@ -7,13 +7,10 @@ use Rattle.cweb_out.proofs.planning.output_list.roots.Goals as goal
 pub returns-clause-few : goal.returns-clause-few
 returns-clause-few c =
     let w : Stored = c.args.store.now in
-    let all =
-    take-whole c.files.name-index (spec.files w.occurrences)
-    (omega (arith, c.files-test.false, ap length c.files-name-items.ensures.files)) in
-    let is : c.files.roots.items ≡ outputs w =
-    c.files.invariant.roots
-    ∙ ap (λ (ns : List NameId). None ∷ map Some (filter (has_part (spec.standings w.occurrences) w.parts) ns))
-    all in
+    let all = take-whole c.files.name-index
+    (spec.files w.occurrences) (omega (arith, c.files-test.false, ap length c.files-name-items.ensures.files)) in
+    let is : c.files.roots.items ≡ outputs w = c.files.invariant.roots
+    ∙ ap (λ (ns : List NameId). None ∷ map Some (filter (has_part (spec.standings w.occurrences) w.parts) ns)) all in
     omega (arith, ap length is, outputs-few w, c.names-names.ensures.count, c.names-names.ensures.few)
 
 pub files-preserved : goal.files-preserved

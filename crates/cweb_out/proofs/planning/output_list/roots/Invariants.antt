@@ -4,10 +4,7 @@ use Rattle.cweb_out.proofs.planning.output_list.roots.Given as goal
 
 abbrev pub invariant-files : goal.invariant-files
 invariant-files l = record {
-  roots : l.roots.items
-      ≡ None
-      ∷ map Some
-      (filter (has_part (spec.standings l.store.occurrences) l.store.parts)
+  roots : l.roots.items ≡ None ∷ map Some (filter (has_part (spec.standings l.store.occurrences) l.store.parts)
       (take l.name-index (spec.files l.store.occurrences)));
   within : All (IsRoot l.store) l.roots.items;
 }

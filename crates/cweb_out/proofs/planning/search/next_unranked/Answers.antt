@@ -29,8 +29,7 @@ uses-preserved-else-not-is_ranked c =
     record {
       within = c.take_use.ensures.within;
       shorter = omega (arith, use-shorter mid new t c.in-Some.ensures.some, c.uses.invariant.shorter);
-      passes =
-          passes-more w marks old (t ∷ new) new t at refl
+      passes = passes-more w marks old (t ∷ new) new t at refl
           (ap (list_all (is_marked marks)) (sym used) ∙ ap (λ b. b && true) ranked);
     }
 

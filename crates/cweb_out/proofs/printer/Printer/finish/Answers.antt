@@ -25,11 +25,9 @@ returns-in_err-flush-clause-ends g c = λ tells ts is.
     (record {
       front = end;
       rest = [];
-      written =
-          behind old (g.W.Sink.written c.make_room.new.out) c.make_room.new.self c.add.new.self
+      written = behind old (g.W.Sink.written c.make_room.new.out) c.make_room.new.self c.add.new.self
           (g.W.Sink.written c.flush.new.out) c.flush.new.self end
-          (moved_same _ _ _ _ (c.in_ok-make_room.ensures.moved tells)) c.add.ensures
-          (moved_same _ _ _ _
+          (moved_same _ _ _ _ (c.in_ok-make_room.ensures.moved tells)) c.add.ensures (moved_same _ _ _ _
           (c.in_err-flush.ensures.moved (subst IsTrue (sym c.in_ok-make_room.ensures.tells) tells)));
       whole = sym (append-nil end);
     }))
@@ -42,10 +40,8 @@ returns-clause-ends g c = λ tells ts is.
       bytes = end;
       due =
           file-end s (kept_of c.args.self.now) ts is ∙ ap (λ (t : List ℕ). print s ts ++ t) (sym c.begin_line.ensures);
-      written =
-          behind (g.W.Sink.written c.args.out.now ++ c.args.gathered.now) (g.W.Sink.written c.make_room.new.out)
+      written = behind (g.W.Sink.written c.args.out.now ++ c.args.gathered.now) (g.W.Sink.written c.make_room.new.out)
           c.make_room.new.self c.add.new.self (g.W.Sink.written c.flush.new.out) c.flush.new.self end
-          (moved_same _ _ _ _ (c.in_ok-make_room.ensures.moved tells)) c.add.ensures
-          (moved_same _ _ _ _
+          (moved_same _ _ _ _ (c.in_ok-make_room.ensures.moved tells)) c.add.ensures (moved_same _ _ _ _
           (c.in_ok-flush.ensures.moved (subst IsTrue (sym c.in_ok-make_room.ensures.tells) tells)));
     }

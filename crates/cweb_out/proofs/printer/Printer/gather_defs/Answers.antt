@@ -15,17 +15,14 @@ returns-in_err-gather_macros-clause-prints g c = λ tells ts is.
     let new = g.W.Sink.written c.gather_macros.new.out ++ c.gather_macros.new.gathered in
     let r = c.from_residual.result in
     adds_by (print s ts) (print s (ts ++ Defs ∷ [])) old new (added (file_by s) left Defs) r
-    (print-push s left ts Defs is)
-    (wrote_same old new (begin ++ macro_lines s) (added (file_by s) left Defs) r
+    (print-push s left ts Defs is) (wrote_same old new (begin ++ macro_lines s) (added (file_by s) left Defs) r
     (ap (λ (u : List ℕ). u ++ macro_lines s) c.begin_line.ensures ∙ sym (defs-added s left))
-    (wrote_more old (has ++ c.add.new.self) new begin (macro_lines s) r
-    (ap (λ (u : List ℕ). has ++ u) c.add.ensures ∙ sym (append_assoc has c.args.gathered.now begin))
-    (wrote_err (has ++ c.add.new.self) new (macro_lines s) r c.from_residual.ensures.0
-    (c.in_err-gather_macros.ensures.wrote tells))))
+    (wrote_more old (has ++ c.add.new.self) new begin (macro_lines s) r (ap (λ (u : List ℕ). has ++ u) c.add.ensures
+    ∙ sym (append_assoc has c.args.gathered.now begin)) (wrote_err (has ++ c.add.new.self) new
+    (macro_lines s) r c.from_residual.ensures.0 (c.in_err-gather_macros.ensures.wrote tells))))
 
 pub returns-clause-moves : goal.returns-clause-moves
-returns-clause-moves g c = λ ts is.
-    leaves-push ts Defs ∙ ap (λ l. left_by l Defs) is ∙ sym c.after-self.ensures
+returns-clause-moves g c = λ ts is. leaves-push ts Defs ∙ ap (λ l. left_by l Defs) is ∙ sym c.after-self.ensures
 
 pub returns-clause-prints : goal.returns-clause-prints
 returns-clause-prints g c = λ tells ts is.
@@ -37,8 +34,7 @@ returns-clause-prints g c = λ tells ts is.
     record {
       bytes = added (file_by s) left Defs;
       due = print-push s left ts Defs is;
-      written =
-          c.in_ok-gather_macros.ensures.wrote tells
+      written = c.in_ok-gather_macros.ensures.wrote tells
           ∙ ap (λ (u : List ℕ). u ++ macro_lines s)
           (ap (λ (u : List ℕ). has ++ u) c.add.ensures ∙ sym (append_assoc has c.args.gathered.now begin))
           ∙ append_assoc old begin (macro_lines s)

@@ -10,9 +10,8 @@ returns-in_err-write_token-clause-prints g c = λ tells ts is.
     let left = kept_of c.args.self.now in
     let t = seen c.args.token.now in
     adds_by (print s ts) (print s (ts ++ t ∷ [])) (g.W.Sink.written c.args.out.now)
-    (g.W.Sink.written c.write_token.new.out) (added (file_by s) left t)
-    c.from_residual.result (print-push s left ts t is)
-    (wrote_err (g.W.Sink.written c.args.out.now) (g.W.Sink.written c.write_token.new.out) (added (file_by s) left t)
+    (g.W.Sink.written c.write_token.new.out) (added (file_by s) left t) c.from_residual.result (print-push s left ts t
+    is) (wrote_err (g.W.Sink.written c.args.out.now) (g.W.Sink.written c.write_token.new.out) (added (file_by s) left t)
     c.from_residual.result c.from_residual.ensures.0 (c.in_err-write_token.ensures.wrote tells))
 
 pub returns-clause-prints : goal.returns-clause-prints

@@ -16,10 +16,8 @@ tokens-init c =
       upto = c.requires.ordered;
       size = c.requires.room.0;
       within = c.requires.room.1;
-      passed =
-          subst (λ (us : List Token). Passed p us (left_behind c.border_of.result) old old)
-          (sym (slice_range-none (all_tokens c.args.store.now.parts) first first (omega arith)))
-          (subst (λ (l : Left). Passed p [] l old old)
+      passed = subst (λ (us : List Token). Passed p us (left_behind c.border_of.result) old old) (sym (slice_range-none
+          (all_tokens c.args.store.now.parts) first first (omega arith))) (subst (λ (l : Left). Passed p [] l old old)
           (λ i. record { class = sym c.border_of.ensures i; joined = c.requires.open i }) (passed_none p old));
     }
 
@@ -43,20 +41,17 @@ tokens-preserved c =
     let l : Bordered = lent_seen lent in
     let mid = take c.tokens.reached.used c.tokens.bytes in
     let new = take c.in-Some-keep.used c.keep.new.bytes in
-    let at =
-    lent-at c.lender-lender.result ts n l c.lender-lender.ensures
+    let at = lent-at c.lender-lender.result ts n l c.lender-lender.ensures
     (c.lent.ensures ∙ ap (λ o. Some (option_map lent_seen o)) c.in-Some.is) in
-    let gathers =
-    gathers-lent c.tokens.reached.last at.token l mid new at.lent
+    let gathers = gathers-lent c.tokens.reached.last at.token l mid new at.lent
     (c.in-Some-keep.ensures.kept ∙ ap (λ a. mid ++ (blank_where a ++ l.text)) c.stands_apart-is_apart.ensures) in
     record {
       from = omega (arith, c.tokens.invariant.from);
       upto = omega (arith, c.tokens-test.true);
       size = c.keep.ensures.size;
       within = c.in-Some-keep.ensures.within.1;
-      passed =
-          subst (λ (us : List Token). Passed p us (left_behind lent.border) (take c.args.used c.args.bytes.now) new)
-          (sym (range_more ts first n at.token c.tokens.invariant.from at.there))
+      passed = subst (λ (us : List Token). Passed p us (left_behind lent.border) (take c.args.used c.args.bytes.now)
+          new) (sym (range_more ts first n at.token c.tokens.invariant.from at.there))
           (passed_more p (slice_range ts first n) (left_behind c.tokens.reached.last) (left_behind lent.border) at.token
           (take c.args.used c.args.bytes.now) mid new c.tokens.invariant.passed gathers);
     }

@@ -21,8 +21,7 @@ returns-in_err-flush-clause-wrote g c = λ tells.
     (record {
       front = [];
       rest = line;
-      written =
-          moved_same _ _ _ _ (c.in_err-flush.ensures.moved tells)
+      written = moved_same _ _ _ _ (c.in_err-flush.ensures.moved tells)
           ∙ ap (λ (u : List ℕ). has ++ u) (c.add_macro.ensures.none c.if-add_macro.false) ∙ sym (append-nil old);
       whole = refl;
     })
@@ -36,8 +35,6 @@ returns-clause-wrote g c = λ tells.
     let new = g.W.Sink.written c.write_macro.new.out in
     let empty : [] ≡ c.flush.new.self = sym c.in_ok-flush.ensures.empty in
     wrote_at mid new (has ++ c.args.gathered.now) (new ++ c.flush.new.self) line c.write_macro.result
-    (sym (append-nil mid) ∙ ap (λ (u : List ℕ). mid ++ u) empty
-    ∙ moved_same _ _ _ _ (c.in_ok-flush.ensures.moved tells)
-    ∙ ap (λ (u : List ℕ). has ++ u) (c.add_macro.ensures.none c.if-add_macro.false))
-    (sym (append-nil new) ∙ ap (λ (u : List ℕ). new ++ u) empty)
-    (c.write_macro.ensures.wrote (subst IsTrue (sym c.in_ok-flush.ensures.tells) tells))
+    (sym (append-nil mid) ∙ ap (λ (u : List ℕ). mid ++ u) empty ∙ moved_same _ _ _ _ (c.in_ok-flush.ensures.moved tells)
+    ∙ ap (λ (u : List ℕ). has ++ u) (c.add_macro.ensures.none c.if-add_macro.false)) (sym (append-nil new) ∙ ap (λ (u :
+    List ℕ). new ++ u) empty) (c.write_macro.ensures.wrote (subst IsTrue (sym c.in_ok-flush.ensures.tells) tells))

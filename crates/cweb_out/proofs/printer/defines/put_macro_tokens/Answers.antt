@@ -48,8 +48,7 @@ tokens-preserved c =
     let old = take c.args.used c.args.bytes.now in
     let mid = take c.tokens.reached c.tokens.bytes in
     let new = take c.in_ok-end.end c.keep.new.bytes in
-    let at =
-    lent-at c.lender-lender.result ts n l c.lender-lender.ensures
+    let at = lent-at c.lender-lender.result ts n l c.lender-lender.ensures
     (c.lent.ensures ∙ ap (λ o. Some (option_map lent_seen o)) c.in_ok-lent.was) in
     record {
       from = omega (arith, c.tokens.invariant.from);
@@ -57,20 +56,15 @@ tokens-preserved c =
       size = c.keep.ensures.size;
       least = omega (arith, c.in_ok-end.ensures.within.0, c.tokens.invariant.least);
       most = c.in_ok-end.ensures.within.1;
-      front =
-          front_within c.tokens.bytes c.keep.new.bytes c.args.used c.tokens.reached c.tokens.invariant.least
+      front = front_within c.tokens.bytes c.keep.new.bytes c.args.used c.tokens.reached c.tokens.invariant.least
           (omega (arith, c.tokens.invariant.size, c.tokens.invariant.most))
           (omega (arith, c.keep.ensures.size, c.tokens.invariant.most)) c.keep.ensures.front
           ∙ c.tokens.invariant.front;
-      left =
-          left_more ts first n at.token (left_behind last) (left_behind lent.border) c.tokens.invariant.from at.there
+      left = left_more ts first n at.token (left_behind last) (left_behind lent.border) c.tokens.invariant.from at.there
           c.tokens.invariant.left (sym (left-continued last at.token l at.lent));
-      put =
-          tokens_more by ts first n at.token (left_behind last) old mid new c.tokens.invariant.from at.there
-          c.tokens.invariant.left c.tokens.invariant.put
-          (c.in_ok-end.ensures.kept
-          ∙ ap (λ a. mid ++ (blank_where a ++ c.text_in_macro.result.now)) c.stands_apart-is_apart.ensures
-          ∙ ap (λ (u : List ℕ). mid ++ (blank_where (stands_apart (class_behind last) lent.border) ++ u))
-          c.text_in_macro.ensures
+      put = tokens_more by ts first n at.token (left_behind last) old mid new c.tokens.invariant.from
+          at.there c.tokens.invariant.left c.tokens.invariant.put (c.in_ok-end.ensures.kept ∙ ap (λ a.
+          mid ++ (blank_where a ++ c.text_in_macro.result.now)) c.stands_apart-is_apart.ensures ∙ ap (λ (u : List ℕ).
+          mid ++ (blank_where (stands_apart (class_behind last) lent.border) ++ u)) c.text_in_macro.ensures
           ∙ ap (λ (u : List ℕ). mid ++ u) (sym (added-continued (replaced_in w) last at.token l at.lent)));
     }

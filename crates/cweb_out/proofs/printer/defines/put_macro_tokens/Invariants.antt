@@ -10,8 +10,6 @@ invariant-tokens l = record {
   most : l.reached ≤ ROOM;
   front : take l.fn.used l.bytes ≡ take l.fn.used l.fn.bytes;
   left : left_behind l.last ≡ leaves (slice_range (all_tokens l.store.parts) l.fn.part.first l.number);
-  put : take l.reached l.bytes
-      ≡ take l.fn.used l.fn.bytes
-      ++ all_added (macro_by (replaced_in l.store)) at_start
+  put : take l.reached l.bytes ≡ take l.fn.used l.fn.bytes ++ all_added (macro_by (replaced_in l.store)) at_start
       (slice_range (all_tokens l.store.parts) l.fn.part.first l.number);
 }

@@ -16,12 +16,10 @@ returns-in_err-write_macro_tokens-clause-wrote g c = λ tells.
     let ts = run_tokens c.args.store.now c.args.part in
     let replaced = replaced_in c.args.store.now in
     second_failed (g.W.Sink.written c.args.out.now) (g.W.Sink.written c.write_piece.new.out)
-    (g.W.Sink.written c.write_macro_tokens.new.out) (macro_line replaced ts)
-    (codes "#define ") (all_added (macro_by replaced) at_start ts)
-    (codes "\n") c.from_residual-in_err-write_macro_tokens.result
+    (g.W.Sink.written c.write_macro_tokens.new.out) (macro_line replaced ts) (codes "#define ")
+    (all_added (macro_by replaced) at_start ts) (codes "\n") c.from_residual-in_err-write_macro_tokens.result
     (ap (λ (t : List ℕ). codes "#define " ++ (t ++ codes "\n")) (macro-printed replaced ts))
-    (c.in_ok-write_piece.ensures.wrote tells)
-    c.from_residual-in_err-write_macro_tokens.ensures.0
+    (c.in_ok-write_piece.ensures.wrote tells) c.from_residual-in_err-write_macro_tokens.ensures.0
     (c.in_err-write_macro_tokens.ensures.wrote (subst IsTrue (sym c.in_ok-write_piece.ensures.tells) tells))
 
 pub returns-clause-wrote : goal.returns-clause-wrote
@@ -31,9 +29,7 @@ returns-clause-wrote g c = λ tells.
     let tells_mid = subst IsTrue (sym c.in_ok-write_piece.ensures.tells) tells in
     let tells_next = subst IsTrue (sym c.in_ok-write_macro_tokens.ensures.tells) tells_mid in
     third_last (g.W.Sink.written c.args.out.now) (g.W.Sink.written c.write_piece.new.out)
-    (g.W.Sink.written c.write_macro_tokens.new.out)
-    (g.W.Sink.written c.write_piece-2.new.out) (macro_line replaced ts)
-    (codes "#define ") (all_added (macro_by replaced) at_start ts) (codes "\n") c.write_piece-2.result
-    (ap (λ (t : List ℕ). codes "#define " ++ (t ++ codes "\n")) (macro-printed replaced ts))
-    (c.in_ok-write_piece.ensures.wrote tells)
+    (g.W.Sink.written c.write_macro_tokens.new.out) (g.W.Sink.written c.write_piece-2.new.out) (macro_line replaced ts)
+    (codes "#define ") (all_added (macro_by replaced) at_start ts) (codes "\n") c.write_piece-2.result (ap (λ (t : List
+    ℕ). codes "#define " ++ (t ++ codes "\n")) (macro-printed replaced ts)) (c.in_ok-write_piece.ensures.wrote tells)
     (c.in_ok-write_macro_tokens.ensures.wrote tells_mid) (c.write_piece-2.ensures.wrote tells_next)

@@ -10,8 +10,6 @@ invariant-tokens g l = record {
   end : l.number-end ≡ l.fn.part.after;
   left : l.left ≡ leaves (slice_range (all_tokens l.store.parts) l.fn.part.first l.number);
   written : IsTrue (g.W.Sink.tells l.fn.out)
-      → g.W.Sink.written l.out
-      ≡ g.W.Sink.written l.fn.out
-      ++ all_added (macro_by (replaced_in l.store)) at_start
+      → g.W.Sink.written l.out ≡ g.W.Sink.written l.fn.out ++ all_added (macro_by (replaced_in l.store)) at_start
       (slice_range (all_tokens l.store.parts) l.fn.part.first l.number);
 }

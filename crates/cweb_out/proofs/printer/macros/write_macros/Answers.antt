@@ -13,8 +13,7 @@ macros-init g c =
       beside = λ tells. refl;
       ordered = c.macros-parts.ensures.ordered;
       within = c.macros-parts.ensures.within;
-      written = λ tells.
-          subst (λ (t : List ℕ). Written old old (all_lines w) t)
+      written = λ tells. subst (λ (t : List ℕ). Written old old (all_lines w) t)
           (sym (ap (lines w) c.macros-parts.ensures.numbers ∙ lines_are w)) (written_none old (all_lines w));
     }
 
@@ -26,20 +25,16 @@ macros-preserved g c =
     record {
       tells = search rules;
       failed = search rules;
-      beside = λ tells.
-          c.in_ok-write_macro.ensures.beside (subst IsTrue (sym c.macros.invariant.tells) tells)
+      beside = λ tells. c.in_ok-write_macro.ensures.beside (subst IsTrue (sym c.macros.invariant.tells) tells)
           ∙ c.macros.invariant.beside tells;
-      ordered =
-          (All-tail (λ (p : Part). p.first ≤ p.after) c.macros.parts
+      ordered = (All-tail (λ (p : Part). p.first ≤ p.after) c.macros.parts
           c.next.new.self c.in-Some.part is c.macros.invariant.ordered).1;
-      within =
-          (All-tail (λ (p : Part). p.after ≤ length (all_tokens w.parts)) c.macros.parts
+      within = (All-tail (λ (p : Part). p.after ≤ length (all_tokens w.parts)) c.macros.parts
           c.next.new.self c.in-Some.part is c.macros.invariant.within).1;
-      written = λ tells.
-          written_more old (g.W.Sink.written c.macros.out) (g.W.Sink.written c.write_macro.new.out)
+      written = λ tells. written_more old (g.W.Sink.written c.macros.out) (g.W.Sink.written c.write_macro.new.out)
           (all_lines w) (macro_line (replaced_in w) (run_tokens w c.in-Some.part)) (lines w c.next.new.self)
-          (subst (λ (ps : List Part). Written old (g.W.Sink.written c.macros.out) (all_lines w) (lines w ps))
-          is (c.macros.invariant.written tells))
+          (subst (λ (ps : List Part). Written old (g.W.Sink.written c.macros.out) (all_lines w) (lines w ps)) is
+          (c.macros.invariant.written tells))
           (c.in_ok-write_macro.ensures.wrote (subst IsTrue (sym c.macros.invariant.tells) tells));
     }
 
@@ -48,10 +43,9 @@ returns-in_err-write_macro-clause-wrote g c = λ tells.
     let w = c.args.store.now in
     let is : c.macros.parts ≡ c.in-Some.part ∷ c.next.new.self = c.in-Some.ensures.steps in
     let old = g.W.Sink.written c.args.out.now in
-    wrote_err old (g.W.Sink.written c.write_macro.new.out)
-    (all_lines w) c.from_residual.result c.from_residual.ensures.0
-    (written_front old (g.W.Sink.written c.macros.out) (g.W.Sink.written c.write_macro.new.out)
-    (all_lines w) (macro_line (replaced_in w) (run_tokens w c.in-Some.part)) (lines w c.next.new.self)
-    (subst (λ (ps : List Part). Written old (g.W.Sink.written c.macros.out) (all_lines w) (lines w ps))
-    is (c.macros.invariant.written tells))
+    wrote_err old
+    (g.W.Sink.written c.write_macro.new.out) (all_lines w) c.from_residual.result c.from_residual.ensures.0
+    (written_front old (g.W.Sink.written c.macros.out) (g.W.Sink.written c.write_macro.new.out) (all_lines w)
+    (macro_line (replaced_in w) (run_tokens w c.in-Some.part)) (lines w c.next.new.self) (subst (λ (ps : List Part).
+    Written old (g.W.Sink.written c.macros.out) (all_lines w) (lines w ps)) is (c.macros.invariant.written tells))
     (c.in_err-write_macro.ensures.wrote (subst IsTrue (sym c.macros.invariant.tells) tells)))

@@ -13,13 +13,9 @@ in_six begin name digits line is plain =
 
 pub returns-clause-wrote : goal.returns-clause-wrote
 returns-clause-wrote g c = λ tells.
-    let text =
-    c.args.begin.now
+    let text = c.args.begin.now
     ++ (codes "#line " ++ (c.as_bytes.result.now ++ (codes " \"" ++ (c.args.name.now ++ codes "\"\n")))) in
-    let same =
-    in_six c.args.begin.now c.args.name.now c.as_bytes.result.now
-    c.args.line (c.as_bytes.ensures.value ∙ c.format.ensures.text)
-    (plain_name c.args.name.now (search rules)) in
-    wrote_same (g.W.Sink.written c.args.out.now) (g.W.Sink.written c.write_pieces.new.out)
-    text (c.args.begin.now ++ mark_line c.args.name.now c.args.line)
-    c.write_pieces.result same (c.write_pieces.ensures.wrote tells)
+    let same = in_six c.args.begin.now c.args.name.now c.as_bytes.result.now c.args.line
+    (c.as_bytes.ensures.value ∙ c.format.ensures.text) (plain_name c.args.name.now (search rules)) in
+    wrote_same (g.W.Sink.written c.args.out.now) (g.W.Sink.written c.write_pieces.new.out) text (c.args.begin.now ++
+    mark_line c.args.name.now c.args.line) c.write_pieces.result same (c.write_pieces.ensures.wrote tells)

@@ -6,7 +6,6 @@ invariant-bytes g l = record {
   tells : g.W.Sink.tells l.out ≡ g.W.Sink.tells l.fn.out;
   failed : g.W.Sink.failed l.out ≡ g.W.Sink.failed l.fn.out;
   beside : IsTrue (g.W.Sink.tells l.fn.out) → g.W.Sink.beside l.out ≡ g.W.Sink.beside l.fn.out;
-  written : IsTrue (g.W.Sink.tells l.fn.out)
-      → g.W.Sink.written l.out
+  written : IsTrue (g.W.Sink.tells l.fn.out) → g.W.Sink.written l.out
       ≡ g.W.Sink.written l.fn.out ++ word_text (replaced_in l.store) (take l.byte-index l.bytes);
 }

@@ -14,10 +14,8 @@ returns c =
     record {
       some = omega arith;
       within = refl;
-      taken =
-          takes_at (n + 1) u _ _ c.self.view_is c.requires.between
-          (opened s g (InLiteral s.here (quote_of (drop n u)) (take (n + 1) u))) _
-          (λ i. opened s g (InLiteral (sym c.here.ensures i) (sym quote i) (sym text i)))
-          (literal_opens_at s g u n c.literal_prefix-prefix.ensures.value reads
+      taken = takes_at (n + 1) u _ _ c.self.view_is c.requires.between (opened s g (InLiteral s.here
+          (quote_of (drop n u)) (take (n + 1) u))) _ (λ i. opened s g (InLiteral (sym c.here.ensures i)
+          (sym quote i) (sym text i))) (literal_opens_at s g u n c.literal_prefix-prefix.ensures.value reads
           c.requires.line c.requires.past c.requires.plain c.requires.sign);
     }

@@ -16,13 +16,12 @@ invariant_of-self-2 c =
     let reads = at_state (λ (u : State). reads_literals u.context ≡ true) _ _ c.self.view_is c.requires.reads in
     let name = c.delimiter-name.ensures ∙ ap delimiter c.split_at.ensures.back in
     let kept = c.in_ok-extend_from_slice-2.ensures.items ∙ (λ i. c.clear-2.ensures.items i ++ d) in
-    let sign =
-    c.in_ok-push-2.ensures.items
+    let sign = c.in_ok-push-2.ensures.items
     ∙ (λ i. c.in_ok-extend_from_slice-3.ensures.items i ++ 34 ∷ [])
     ∙ (λ i. (c.in_ok-push.ensures.items i ++ d) ++ 34 ∷ [])
     ∙ (λ i. ((c.clear-3.ensures.items i ++ 41 ∷ []) ++ d) ++ 34 ∷ []) in
-    raw_signed s.context c.here.result (drop (c.raw_prefix-start.result + 2) c.args.rest.now)
-    d _ _ name kept sign (literals_in_part s.context reads)
+    raw_signed s.context c.here.result
+    (drop (c.raw_prefix-start.result + 2) c.args.rest.now) d _ _ name kept sign (literals_in_part s.context reads)
 
 pub returns : goal.returns
 returns c =

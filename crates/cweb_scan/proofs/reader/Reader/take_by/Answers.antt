@@ -32,11 +32,10 @@ open_literal-requires-clause-sign c =
 pub take_rule-requires-clause-ends : goal.take_rule-requires-clause-ends
 take_rule-requires-clause-ends c =
     let s = c.args.self.now.state in
-    let no_end =
-    ap is_ended c.requires.first
+    let no_end = ap is_ended c.requires.first
     ∙ rule_in_line (is_c s.context && names_include s) c.args.rest.now c.requires.line in
-    left_ends c.args.rule c.in_default.not-Comment c.in_default.not-Section
-    c.in_default.not-Code c.in_default.not-RawLiteral c.in_default.not-Literal no_end
+    left_ends c.args.rule c.in_default.not-Comment
+    c.in_default.not-Section c.in_default.not-Code c.in_default.not-RawLiteral c.in_default.not-Literal no_end
 
 pub take_rule-requires-clause-two : goal.take_rule-requires-clause-two
 take_rule-requires-clause-two c =
@@ -47,9 +46,8 @@ pub returns-in_ok-size-in-Section : goal.returns-in_ok-size-in-Section
 returns-in_ok-size-in-Section c =
     let u = c.args.rest.now in
     let h = c.args.self.now in
-    let f =
-    rule_closed h.state.context (names_include h.state) u c.args.rule c.requires.part
-    c.requires.plain c.requires.first (ap closes c.in-Section.is) in
+    let f = rule_closed h.state.context (names_include h.state)
+    u c.args.rule c.requires.part c.requires.plain c.requires.first (ap closes c.in-Section.is) in
     closed_at c.in_ok-size-in-Section.size u h _ _ (section_at u) c.self.view_is c.requires.between
     (part_head h.state.context c.requires.part) c.requires.line c.requires.some
     (f.0 ∙ ap (c_front_by in_c false u) c.in-Section.is) f.1 c.in_ok-size-in-Section.ensures
@@ -61,12 +59,10 @@ returns-in_ok-size-in_default c =
     let s = h.state in
     let r = c.args.rule in
     let no_end = ap is_ended c.requires.first ∙ rule_in_line (is_c s.context && names_include s) u c.requires.line in
-    let ends =
-    left_ends r c.in_default.not-Comment c.in_default.not-Section c.in_default.not-Code
-    c.in_default.not-RawLiteral c.in_default.not-Literal no_end in
-    let f =
-    rule_closed s.context (names_include s) u r c.requires.part
-    c.requires.plain c.requires.first (ends_closes r ends) in
-    closed_at c.in_ok-size-in_default.size u h _ _ (c_front_by in_c false u r) c.self-in_default.view_is
-    c.requires.between (part_head s.context c.requires.part) c.requires.line c.requires.some
-    f.0 f.1 c.in_ok-size-in_default.ensures
+    let ends = left_ends r c.in_default.not-Comment
+    c.in_default.not-Section c.in_default.not-Code c.in_default.not-RawLiteral c.in_default.not-Literal no_end in
+    let f = rule_closed s.context
+    (names_include s) u r c.requires.part c.requires.plain c.requires.first (ends_closes r ends) in
+    closed_at c.in_ok-size-in_default.size u h _ _
+    (c_front_by in_c false u r) c.self-in_default.view_is c.requires.between
+    (part_head s.context c.requires.part) c.requires.line c.requires.some f.0 f.1 c.in_ok-size-in_default.ensures

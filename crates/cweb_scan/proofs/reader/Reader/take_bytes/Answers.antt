@@ -3,9 +3,8 @@ use Rattle.cweb_scan.proofs.LineTurns.{front_goes_on, front_line}
 use Rattle.cweb_scan.proofs.reader.Reader.take_bytes.Goals as goal
 
 pub turns-preserved : goal.turns-preserved
-turns-preserved c =
-    front_goes_on c.in_ok-size.size c.args.line.now c.turns.rest.now _ c.args.self.now
-    c.turns.self _ c.split_at.ensures.back c.turns.invariant c.in_ok-size.ensures
+turns-preserved c = front_goes_on c.in_ok-size.size c.args.line.now
+    c.turns.rest.now _ c.args.self.now c.turns.self _ c.split_at.ensures.back c.turns.invariant c.in_ok-size.ensures
 
 pub take_turn-requires-clause-line : goal.take_turn-requires-clause-line
 take_turn-requires-clause-line c =

@@ -12,10 +12,8 @@ returns c =
     let same : c.effect_of-effect.result ≡ e = c.effect_of-effect.ensures.value ∙ ap (λ k. effect_in k b) place in
     let plain : is_name e ≡ false = ap is_name (sym same) ∙ sym c.is_name.ensures ∙ c.if-is_name.false in
     let f =
-    plain_front h.state.context (names_include h.state) u
-    c.requires.head c.requires.section c.requires.sign plain in
+    plain_front h.state.context (names_include h.state) u c.requires.head c.requires.section c.requires.sign plain in
     let some : 1 ≤ length u = omega (arith, code_size u c.requires.section c.requires.sign) in
-    closed_at c.in_ok-size.size u h _ _ (code_front e true u) c.self.view_is
-    c.requires.between c.requires.head c.requires.line some f.0 f.1
-    (subst (λ (k : Effect). Gives (code_front k true u) u c.in_ok-size.size c.self.inside.scanner c.take_item.new.self)
-    same c.in_ok-size.ensures)
+    closed_at c.in_ok-size.size u h _ _ (code_front e true u)
+    c.self.view_is c.requires.between c.requires.head c.requires.line some f.0 f.1 (subst (λ (k : Effect). Gives
+    (code_front k true u) u c.in_ok-size.size c.self.inside.scanner c.take_item.new.self) same c.in_ok-size.ensures)

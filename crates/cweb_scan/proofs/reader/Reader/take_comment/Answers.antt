@@ -20,7 +20,6 @@ returns c =
     let r = c.reach-reached.result in
     let s = c.self.inside.scanner in
     let g = c.self.inside.begun in
-    open_at (r.size + r.close) c.args.rest.now _ _ c.self.view_is (InComment c.args.begun)
-    c.requires.open _ _ (λ j. between (c.in_ok-pass_comment.ensures j) g)
-    (comment_over s g c.args.begun c.args.rest.now r c.requires.line
-    c.reach-reached.ensures.value (sym c.goes_on.ensures ∙ c.if-goes_on.false))
+    open_at (r.size + r.close) c.args.rest.now _ _ c.self.view_is (InComment c.args.begun) c.requires.open _ _
+    (λ j. between (c.in_ok-pass_comment.ensures j) g) (comment_over s g c.args.begun
+    c.args.rest.now r c.requires.line c.reach-reached.ensures.value (sym c.goes_on.ensures ∙ c.if-goes_on.false))

@@ -15,9 +15,8 @@ take_line_comment-requires-clause-two c =
 
 pub returns-in-Blanks : goal.returns-in-Blanks
 returns-in-Blanks c =
-    blanks_pass c.run_len.result c.args.rest.now c.args.self.now c.args.begun c.c_rule-rule.result
-    c.in-Blanks.is c.requires.between c.requires.in_head c.requires.line c.requires.some
-    c.c_rule-rule.ensures c.run_len.ensures.value
+    blanks_pass c.run_len.result c.args.rest.now c.args.self.now c.args.begun c.c_rule-rule.result c.in-Blanks.is
+    c.requires.between c.requires.in_head c.requires.line c.requires.some c.c_rule-rule.ensures c.run_len.ensures.value
 
 pub returns-in_ok-size-in-LineComment : goal.returns-in_ok-size-in-LineComment
 returns-in_ok-size-in-LineComment c =
@@ -31,9 +30,8 @@ returns-in_ok-size-in_default c =
     let u = c.args.rest.now in
     let r = c.c_rule-rule.result in
     let no_end = ap is_ended c.c_rule-rule.ensures ∙ rule_in_line false u c.requires.line in
-    let left = λ (w : List ℕ).
-    foreign_rule w r c.in_default.not-Blanks c.in_default.not-Comment
-    c.in_default.not-LineComment c.in_default.not-Identifier no_end in
-    dropped_at c.in_ok-size-in_default.size u c.args.self.now _ _ c.drop_definition.new.self c.args.begun r
-    c.self-in_default.view_is c.requires.between c.requires.in_head c.requires.some c.c_rule-rule.ensures left
-    c.in_ok-drop_definition-in_default.ensures c.in_ok-size-in_default.ensures
+    let left = λ (w : List ℕ). foreign_rule w r
+    c.in_default.not-Blanks c.in_default.not-Comment c.in_default.not-LineComment c.in_default.not-Identifier no_end in
+    dropped_at c.in_ok-size-in_default.size u c.args.self.now _ _ c.drop_definition.new.self
+    c.args.begun r c.self-in_default.view_is c.requires.between c.requires.in_head c.requires.some
+    c.c_rule-rule.ensures left c.in_ok-drop_definition-in_default.ensures c.in_ok-size-in_default.ensures

@@ -14,16 +14,13 @@ returns-in_ok-push_unit-in-Goes c =
     let n = c.in-Goes.size in
     let us = text_of h.item in
     let item = ap (λ (k : Held). k.item) c.self.view_is in
-    let longer =
-    c.in_ok-push_unit-in-Goes.ensures
+    let longer = c.in_ok-push_unit-in-Goes.ensures
     ∙ ap (λ (x : List ℕ). r.text.items ++ unit_bytes x) c.split_at.ensures.front in
-    let named =
-    name_texted r.item r.delimiter.items r.text.items c.push_unit.new.text.items
-    h c.args.begun c.args.is_file (take n u) item c.requires.open longer in
-    open_at n u h _ c.self.view_is (InName c.args.begun c.args.is_file us)
-    c.requires.open _ _ (λ j. opened r.scanner r.begun (named j))
-    (name_goes r.scanner r.begun c.args.begun c.args.is_file us n u
-    c.requires.line c.requires.some (sym c.look.ensures.value ∙ c.in-Goes.is))
+    let named = name_texted r.item r.delimiter.items
+    r.text.items c.push_unit.new.text.items h c.args.begun c.args.is_file (take n u) item c.requires.open longer in
+    open_at n u h _ c.self.view_is (InName c.args.begun c.args.is_file us) c.requires.open _ _
+    (λ j. opened r.scanner r.begun (named j)) (name_goes r.scanner r.begun
+    c.args.begun c.args.is_file us n u c.requires.line c.requires.some (sym c.look.ensures.value ∙ c.in-Goes.is))
 
 pub returns-in_ok-end_name-in-Ends : goal.returns-in_ok-end_name-in-Ends
 returns-in_ok-end_name-in-Ends c =
@@ -34,16 +31,14 @@ returns-in_ok-end_name-in-Ends c =
     let sign = c.sign_after-sign.result in
     let us = text_of h.item in
     let item = ap (λ (k : Held). k.item) c.self.view_is in
-    let kept =
-    c.deref.ensures.value
-    ∙ text_kept r.item r.delimiter.items r.text.items (ap has_text (item ∙ c.requires.open)) ∙ ap text_of item in
-    let made =
-    c.in_ok-end_name-in-Ends.ensures
+    let kept = c.deref.ensures.value
+    ∙ text_kept r.item r.delimiter.items r.text.items (ap has_text (item ∙ c.requires.open))
+    ∙ ap text_of item in
+    let made = c.in_ok-end_name-in-Ends.ensures
     ∙ ap (λ (x : List ℕ). occurrence c.args.is_file x c.in-Ends.how (nat_lt 0 sign) c.args.begun r.scanner) kept in
-    open_at (n + c.sign_taken.result) u h _ c.self.view_is (InName c.args.begun c.args.is_file us)
-    c.requires.open _ _ (λ j. between (made j) r.begun)
-    (name_over r.scanner r.begun c.args.begun c.args.is_file us n c.in-Ends.how u sign (n + c.sign_taken.result)
-    (nat_lt 0 sign) c.requires.line c.requires.some (sym c.look.ensures.value ∙ c.in-Ends.is)
+    open_at (n + c.sign_taken.result) u h _ c.self.view_is (InName c.args.begun c.args.is_file us) c.requires.open _ _
+    (λ j. between (made j) r.begun) (name_over r.scanner r.begun c.args.begun c.args.is_file us n c.in-Ends.how u sign
+    (n + c.sign_taken.result) (nat_lt 0 sign) c.requires.line c.requires.some (sym c.look.ensures.value ∙ c.in-Ends.is)
     (c.sign_after-sign.ensures.value ∙ ap (sign_after c.in-Ends.how) c.split_at-in-Ends.ensures.back)
     (ap (λ k. n + k) c.sign_taken.ensures) refl)
 

@@ -16,13 +16,12 @@ returns c =
     let d = delimiter_of h.item in
     let us = text_of h.item in
     let look = c.look-look.result in
-    let kept =
-    sign_kept r.item r.scanner.context r.delimiter.items r.text.items r.sign.items h c.args.begun
+    let kept = sign_kept r.item r.scanner.context r.delimiter.items r.text.items r.sign.items h c.args.begun
     (ap (λ (k : Held). k.item) c.self.view_is) c.requires.open c.self.invariant in
-    let seen =
-    ap (λ (x : List ℕ). look_in_raw x u) (sym (c.deref-2.ensures.value ∙ kept.0)) ∙ sym c.look-look.ensures.value in
-    turn_at c.in_ok-size.size look c.args.begun u h _ (InRaw c.args.begun d us)
-    c.requires.open c.in_ok-size.ensures.size c.in_ok-size.ensures.turn
+    let seen = ap (λ (x : List ℕ). look_in_raw x u) (sym (c.deref-2.ensures.value ∙ kept.0))
+    ∙ sym c.look-look.ensures.value in
+    turn_at c.in_ok-size.size look c.args.begun u h _
+    (InRaw c.args.begun d us) c.requires.open c.in_ok-size.ensures.size c.in_ok-size.ensures.turn
     (raw_takes h.state h.begun c.args.begun d us look u c.look-look.ensures.some kept.1 c.requires.line
     c.requires.some seen (subst (λ k. k ≤ length u) c.in_ok-size.ensures.size c.in_ok-size.ensures.within))
 
@@ -33,11 +32,9 @@ returns-then-plain-gt0 c =
     let u = c.args.rest.now in
     let d = delimiter_of h.item in
     let n = c.plain_len-plain.result in
-    let kept =
-    sign_kept r.item r.scanner.context r.delimiter.items r.text.items r.sign.items h c.args.begun
+    let kept = sign_kept r.item r.scanner.context r.delimiter.items r.text.items r.sign.items h c.args.begun
     (ap (λ (k : Held). k.item) c.self.view_is) c.requires.open c.self.invariant in
-    let is =
-    c.plain_len-plain.ensures.value
+    let is = c.plain_len-plain.ensures.value
     ∙ ap (λ (x : List ℕ). prefix_len (λ b. not (is_raw_sign x b)) u) (c.deref.ensures.value ∙ kept.0) in
     run_at n u h _ (λ (x : List ℕ). InRaw c.args.begun d x) c.requires.open c.in_ok-take_run.ensures refl
     (raw_run h.state h.begun c.args.begun d (text_of h.item) n u kept.1 c.requires.line c.if-plain-gt0.true is)

@@ -15,14 +15,12 @@ returns-in_ok-size-in-Between c =
     let item = ap (λ (k : Open). item_of k r.delimiter.items r.text.items) c.in-Between.is in
     let none = sym (ap (λ (h : Held). h.item) c.self.view_is) ∙ item in
     let t = plain_held n u h _ c.take_plain.new.self c.self.view_is none c.in_ok-plain-in-Between.ensures in
-    between_turn (n + m) u h c.take_between.new.self none
-    (plain_then n m u c.split_at.result.1.now h _ c.take_between.new.self t c.split_at.ensures.back
-    c.in_ok-size-in-Between.ensures)
+    between_turn (n + m) u h c.take_between.new.self none (plain_then n
+    m u c.split_at.result.1.now h _ c.take_between.new.self t c.split_at.ensures.back c.in_ok-size-in-Between.ensures)
 
 pub split_at-requires : goal.split_at-requires
 split_at-requires c =
-    piece_within c.in_ok-plain-in-Between.plain c.args.rest.now _ c.take_plain.new.self
-    c.in_ok-plain-in-Between.ensures
+    piece_within c.in_ok-plain-in-Between.plain c.args.rest.now _ c.take_plain.new.self c.in_ok-plain-in-Between.ensures
 
 pub returns-then-is_empty : goal.returns-then-is_empty
 returns-then-is_empty c =
@@ -38,9 +36,8 @@ returns-then-is_empty c =
     (sym (ap (λ (w : List ℕ). length w) c.split_at.ensures.back) ∙ empty) c.requires.some)
 
 pub take_between-requires-clause-line : goal.take_between-requires-clause-line
-take_between-requires-clause-line c =
-    subst IsLine (sym c.split_at.ensures.back)
-    (is_line_drop c.in_ok-plain-in-Between.plain c.args.rest.now c.requires.line)
+take_between-requires-clause-line c = subst IsLine
+    (sym c.split_at.ensures.back) (is_line_drop c.in_ok-plain-in-Between.plain c.args.rest.now c.requires.line)
 
 pub take_between-requires-clause-room : goal.take_between-requires-clause-room
 take_between-requires-clause-room c =
@@ -58,5 +55,4 @@ returns-in_ok-size-in_default c =
     let r = c.self.inside in
     open_turn c.in_ok-size-in_default.size c.args.rest.now c.args.self.now c.take_open.new.self
     (ap (λ (h : Held). is_open h.item) (sym c.self.view_is)
-    ∙ kept_open r.item r.delimiter.items r.text.items c.in_default.not-Between)
-    c.in_ok-size-in_default.ensures
+    ∙ kept_open r.item r.delimiter.items r.text.items c.in_default.not-Between) c.in_ok-size-in_default.ensures

@@ -11,9 +11,6 @@ invariant_of-self-2 c =
     let next = c.step-next.ensures in
     let solid = c.solid_after-self-inside.ensures ∙ ap (λ (d : Directive). if is_layout t then s.solid else d) next in
     subst (λ (d : Directive). IsTied d c.solid_after-self-inside.result s.context c.push.new.self.parts.current)
-    (sym next)
-    (subst (λ (d : Directive). IsTied (step s.directive t) d s.context c.push.new.self.parts.current) (sym solid)
-    (subst (λ (v : Contents).
-    IsTied (step s.directive t) (if is_layout t then s.solid else step s.directive t)
-    s.context v.parts.current)
-    (sym c.in_ok-push.ensures.ok) tied))
+    (sym next) (subst (λ (d : Directive). IsTied (step s.directive t) d s.context c.push.new.self.parts.current)
+    (sym solid) (subst (λ (v : Contents). IsTied (step s.directive t) (if is_layout
+    t then s.solid else step s.directive t) s.context v.parts.current) (sym c.in_ok-push.ensures.ok) tied))

@@ -42,12 +42,11 @@ pub returns-in_ok-give_in_directive-in-Sign-clause-taken : goal.returns-in_ok-gi
 returns-in_ok-give_in_directive-in-Sign-clause-taken c =
     let s = c.args.self.now in
     let u = c.args.rest.now in
-    let told = told_at (is_c s.context && names_include s) u plain.Sign c.requires.some
-    (sym c.in-Sign.is ∙ c.plain_of.ensures) in
-    text_sign 1 u s c.give_in_directive-in-Sign.new.self c.requires.line c.requires.some c.requires.within
-    told.0 (sym told.1.size)
-    (c.in_ok-give_in_directive-in-Sign.ensures.ok
-    ∙ ap (λ (x : List ℕ). give (Punct x) s) c.split_at-in-Sign.ensures.front)
+    let told =
+    told_at (is_c s.context && names_include s) u plain.Sign c.requires.some (sym c.in-Sign.is ∙ c.plain_of.ensures) in
+    text_sign 1 u s c.give_in_directive-in-Sign.new.self c.requires.line c.requires.some c.requires.within told.0
+    (sym told.1.size) (c.in_ok-give_in_directive-in-Sign.ensures.ok ∙ ap
+    (λ (x : List ℕ). give (Punct x) s) c.split_at-in-Sign.ensures.front)
 
 pub returns-in_ok-give_in_directive-in-Operator-clause-taken :
     goal.returns-in_ok-give_in_directive-in-Operator-clause-taken
@@ -56,11 +55,10 @@ returns-in_ok-give_in_directive-in-Operator-clause-taken c =
     let u = c.args.rest.now in
     let new = c.give_in_directive-in-Operator.new.self in
     let told = told_at false u plain.Operator c.requires.some (sym c.in-Operator.is ∙ c.plain_of.ensures) in
-    subst (λ n. TakesPlain n u s new) (sym c.piece_of.ensures.size)
-    (text_sign c.punctuator_len-size.result u s new c.requires.line c.requires.some c.requires.within
-    (text_rule s u rule.Punctuator c.requires.within told.0) c.punctuator_len-size.ensures
-    (c.in_ok-give_in_directive-in-Operator.ensures.ok
-    ∙ ap (λ (x : List ℕ). give (Punct x) s) c.split_at-in-Operator.ensures.front))
+    subst (λ n. TakesPlain n u s new) (sym c.piece_of.ensures.size) (text_sign c.punctuator_len-size.result
+    u s new c.requires.line c.requires.some c.requires.within (text_rule s u rule.Punctuator c.requires.within told.0)
+    c.punctuator_len-size.ensures (c.in_ok-give_in_directive-in-Operator.ensures.ok ∙ ap
+    (λ (x : List ℕ). give (Punct x) s) c.split_at-in-Operator.ensures.front))
 
 pub returns-in_ok-give_in_directive-in-Digit-clause-taken : goal.returns-in_ok-give_in_directive-in-Digit-clause-taken
 returns-in_ok-give_in_directive-in-Digit-clause-taken c =
@@ -68,12 +66,10 @@ returns-in_ok-give_in_directive-in-Digit-clause-taken c =
     let u = c.args.rest.now in
     let new = c.give_in_directive-in-Digit.new.self in
     let told = told_at false u plain.Digit c.requires.some (sym c.in-Digit.is ∙ c.plain_of.ensures) in
-    subst (λ n. TakesPlain n u s new) (sym c.piece_of-in-Digit.ensures.size)
-    (numeral_turn c.number_len-size.result u s new c.requires.line c.requires.some
-    (text_in_c s c.requires.within) (text_rule s u rule.Number c.requires.within told)
-    c.number_len-size.ensures.value
-    (c.in_ok-give_in_directive-in-Digit.ensures.ok
-    ∙ ap (λ (x : List ℕ). give (Number x) s) c.split_at-in-Digit.ensures.front))
+    subst (λ n. TakesPlain n u s new) (sym c.piece_of-in-Digit.ensures.size) (numeral_turn c.number_len-size.result
+    u s new c.requires.line c.requires.some (text_in_c s c.requires.within) (text_rule s u rule.Number
+    c.requires.within told) c.number_len-size.ensures.value (c.in_ok-give_in_directive-in-Digit.ensures.ok ∙ ap
+    (λ (x : List ℕ). give (Number x) s) c.split_at-in-Digit.ensures.front))
 
 pub begun_run_len-requires : goal.begun_run_len-requires
 begun_run_len-requires c = record {

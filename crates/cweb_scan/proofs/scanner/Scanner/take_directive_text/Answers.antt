@@ -18,9 +18,8 @@ pieces-preserved c =
     let n = c.in-Some.size in
     let u = c.pieces.left.now in
     let new = c.take_directive_piece.new.self in
-    some_goes_on n c.args.rest.now u c.split_at.result.1.now c.args.self.now c.pieces.self new
-    c.split_at.ensures.back c.pieces.invariant
-    (some_taken n c.in_ok-size.field-0 u c.pieces.self new c.in-Some.is c.in_ok-size.ensures.taken)
+    some_goes_on n c.args.rest.now u c.split_at.result.1.now c.args.self.now c.pieces.self new c.split_at.ensures.back
+    c.pieces.invariant (some_taken n c.in_ok-size.field-0 u c.pieces.self new c.in-Some.is c.in_ok-size.ensures.taken)
 
 pub returns-in-None : goal.returns-in-None
 returns-in-None c =

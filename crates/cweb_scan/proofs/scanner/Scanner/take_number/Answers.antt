@@ -11,7 +11,5 @@ returns-clause-taken c =
     (c.in_ok-give_plain.ensures.ok ∙ ap (λ (x : List ℕ). give (Number x) s) c.split_at.ensures.front)
 
 pub returns-clause-stays : goal.returns-clause-stays
-returns-clause-stays c =
-    subst IsPlainC (sym c.in_ok-give_plain.ensures.ok)
-    (stays_plain c.args.self.now (Number c.split_at.result.0.now) c.requires.in_c
-    (record { hash = refl; last = refl; solid = refl }))
+returns-clause-stays c = subst IsPlainC (sym c.in_ok-give_plain.ensures.ok) (stays_plain c.args.self.now
+    (Number c.split_at.result.0.now) c.requires.in_c (record { hash = refl; last = refl; solid = refl }))

@@ -5,14 +5,12 @@ use Rattle.cweb_scan.proofs.Walks.{punctuator_fits}
 use Rattle.cweb_scan.proofs.scanner.Scanner.take_operator.Goals as goal
 
 pub split_at-requires : goal.split_at-requires
-split_at-requires c =
-    omega (arith, c.punctuator_len-size.ensures, punctuator_fits c.args.rest.now c.requires.some)
+split_at-requires c = omega (arith, c.punctuator_len-size.ensures, punctuator_fits c.args.rest.now c.requires.some)
 
 pub give_plain-requires-clause-plain : goal.give_plain-requires-clause-plain
 give_plain-requires-clause-plain c =
-    subst (λ (x : List ℕ). IsPlainToken (Punct x)) (sym c.split_at.ensures.front)
-    (operator_token c.punctuator_len-size.result c.args.rest.now c.punctuator_len-size.ensures c.requires.some
-    c.requires.kept)
+    subst (λ (x : List ℕ). IsPlainToken (Punct x)) (sym c.split_at.ensures.front) (operator_token
+    c.punctuator_len-size.result c.args.rest.now c.punctuator_len-size.ensures c.requires.some c.requires.kept)
 
 pub returns-clause-taken : goal.returns-clause-taken
 returns-clause-taken c =

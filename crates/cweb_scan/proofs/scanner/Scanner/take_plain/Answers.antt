@@ -40,8 +40,7 @@ returns-in-None c =
     let u = c.past_blank-piece.result.now in
     let new = c.take_piece.new.self in
     let before = subst (λ t. TakesSome text t old c.pieces.self) (sym c.past_blank-piece.ensures)
-    (blank_passed text c.pieces.left.now old c.pieces.self c.requires.line c.pieces.invariant.1
-    c.pieces.invariant.0) in
+    (blank_passed text c.pieces.left.now old c.pieces.self c.requires.line c.pieces.invariant.1 c.pieces.invariant.0) in
     some_ended text u old c.pieces.self new before
     (none_taken c.in_ok-size.field-0 u c.pieces.self new c.in-None.is c.in_ok-size.ensures.taken)
 
@@ -49,9 +48,8 @@ pub returns-then-is_empty : goal.returns-then-is_empty
 returns-then-is_empty c =
     let text = c.args.rest.now in
     let old = c.args.self.now in
-    (subst (λ t. TakesSome text t old c.pieces.self) (sym c.past_blank-piece.ensures)
-    (blank_passed text c.pieces.left.now old c.pieces.self c.requires.line c.pieces.invariant.1
-    c.pieces.invariant.0)).taken
+    (subst (λ t. TakesSome text t old c.pieces.self) (sym c.past_blank-piece.ensures) (blank_passed text
+    c.pieces.left.now old c.pieces.self c.requires.line c.pieces.invariant.1 c.pieces.invariant.0)).taken
 
 pub pieces-init : goal.pieces-init
 pieces-init c = search rules

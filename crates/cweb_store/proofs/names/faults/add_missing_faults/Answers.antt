@@ -8,8 +8,7 @@ loop-number-preserved c =
     let number = c.loop-number.number in
     let within : number < length ns = omega (arith, c.loop-number-test.true, c.len-number-end.ensures) in
     let f = front_at ns number within in
-    let test : option_map (λ (n : Name).
-    (list_any (is_id (id number)) c.args.used.now.keys
+    let test : option_map (λ (n : Name). (list_any (is_id (id number)) c.args.used.now.keys
     || list_any (is_id (id number)) c.args.files.now.keys)
     && not (list_any (is_id (id number)) c.args.present.now.keys))
     (slice_get ns number) ≡ Some c.is_missing-fails.result =

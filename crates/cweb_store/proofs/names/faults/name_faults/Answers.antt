@@ -8,13 +8,10 @@ returns c =
     let first : c.add_standing_faults.new.faults.items ≡ standing_faults (spec.standings os) =
     c.in_ok-add_standing_faults.ensures
     ∙ (λ i. c.new-faults.ensures.items i ++ standing_faults (c.requires.settled i)) in
-    let second : c.add_prefix_faults.new.faults.items
-    ≡ standing_faults (spec.standings os)
+    let second : c.add_prefix_faults.new.faults.items ≡ standing_faults (spec.standings os)
     ++ faults_where PrefixOfAnother (λ n text. is_prefix_of_another (spec.names os) text) (spec.names os) =
     c.in_ok-add_prefix_faults.ensures
-    ∙ (λ i.
-    first i
-    ++ faults_where PrefixOfAnother (λ n text. is_prefix_of_another (c.names.ensures.names i) text)
-    (c.names.ensures.names i)) in
+    ∙ (λ i. first i ++ faults_where PrefixOfAnother
+    (λ n text. is_prefix_of_another (c.names.ensures.names i) text) (c.names.ensures.names i)) in
     c.in_ok-add_faults_of_parts.ensures
     ∙ (λ i. second i ++ faults_where NotPresent (λ n text. is_missing os c.args.parts.now n) (spec.names os))

@@ -18,8 +18,7 @@ returns-clause-texts c =
     let none = drop_all c.loop-replaced.replaced-index c.deref-replaced-items.result.now c.loop-replaced-test.false in
     ap (λ xs. with_texts (map (λ x. replacement_text (replacement_in x)) xs) c.loop-replaced.tokens) (sym none)
     ∙ c.loop-replaced.invariant.texts
-    ∙ ap (λ ts. with_texts ts c.args.tokens.now)
-    (ap (map (λ x. replacement_text (replacement_in x))) items
+    ∙ ap (λ ts. with_texts ts c.args.tokens.now) (ap (map (λ x. replacement_text (replacement_in x))) items
     ∙ map-both replacement_text replacement_in s.given.items ∙ ap (map replacement_text) c.self.view_is)
 
 pub loop-replaced-preserved : goal.loop-replaced-preserved

@@ -12,21 +12,15 @@ invariant_of-store c =
     let all = c.in_ok-answers.answers in
     let found = c.in_ok-answers.ensures in
     let texts = c.in_ok-texts.ensures in
-    let tokens : c.in_ok-texts.texts.tokens ≡ all_texts ts os rs =
-    texts.texts
+    let tokens : c.in_ok-texts.texts.tokens ≡ all_texts ts os rs = texts.texts
     ∙ ap (λ t. with_texts (map replacement_text rs) (with_texts (map occurrence_text os) t)) c.parts.invariant.alone in
-    let answers =
-    subst (λ (ps : List Part). AreAnswers os ps all.standings.items all.files.keys all.faults.items all.has_defs_code)
-    (sym c.parts.view_is) found.answers in
-    let linked =
-    subst (λ (xs : List Run). AreLinked all.standings.items xs all.links.skips.items all.links.heads)
+    let answers = subst (λ (ps : List Part). AreAnswers
+    os ps all.standings.items all.files.keys all.faults.items all.has_defs_code) (sym c.parts.view_is) found.answers in
+    let linked = subst (λ (xs : List Run). AreLinked all.standings.items xs all.links.skips.items all.links.heads)
     (ap (runs_from 0) (sym c.parts.view_is) ∙ sym (stored-runs ts runs c.parts.invariant.whole)) found.linked in
-    let last =
-    subst (AreLast c.last_places.result)
-    (c.as_slice.ensures.value ∙ texts.bytes) c.last_places.ensures in
+    let last = subst (AreLast c.last_places.result) (c.as_slice.ensures.value ∙ texts.bytes) c.last_places.ensures in
     rw (tokens, texts.given, texts.bytes)
-    (stored-are ts runs all.links os rs _ _ _ _ _ _ c.parts.invariant.whole
-    linked last found.firsts found.few answers)
+    (stored-are ts runs all.links os rs _ _ _ _ _ _ c.parts.invariant.whole linked last found.firsts found.few answers)
 
 pub returns : goal.returns
 returns c =
@@ -35,8 +29,6 @@ returns c =
     let os = c.args.table in
     let rs = c.args.replacements in
     let texts = c.in_ok-texts.ensures in
-    let tokens : c.in_ok-texts.texts.tokens ≡ all_texts ts os rs =
-    texts.texts
+    let tokens : c.in_ok-texts.texts.tokens ≡ all_texts ts os rs = texts.texts
     ∙ ap (λ t. with_texts (map replacement_text rs) (with_texts (map occurrence_text os) t)) c.parts.invariant.alone in
-    rw (tokens, texts.given, texts.bytes)
-    (stored-is ts runs os rs ∙ ap (λ ps. stored os ps rs) c.parts.view_is)
+    rw (tokens, texts.given, texts.bytes) (stored-is ts runs os rs ∙ ap (λ ps. stored os ps rs) c.parts.view_is)

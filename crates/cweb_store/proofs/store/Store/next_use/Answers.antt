@@ -5,7 +5,6 @@ use Rattle.cweb_store.proofs.store.Store.next_use.Goals as goal
 pub returns : goal.returns
 returns c =
     let s = c.self.inside in
-    let whole =
-    ap (λ v. all_tokens v.parts) (sym c.self.view_is)
+    let whole = ap (λ v. all_tokens v.parts) (sym c.self.view_is)
     ∙ whole-tokens s.tokens.tokens s.runs.items c.self.invariant.whole in
     subst (λ (ts : List Token). IsNext is_name ts c.args.part c.next_use.result) (sym whole) c.next_use.ensures

@@ -5,8 +5,7 @@ use Rattle.cweb_store.proofs.PartLemmas.{part-runs, tokens_at-numbers, numbers-w
 use Rattle.cweb_store.proofs.store.Store.parts.Goals as goal
 
 pub returns-clause-numbers : goal.returns-clause-numbers
-returns-clause-numbers c =
-    c.wanted.ensures.value
+returns-clause-numbers c = c.wanted.ensures.value
     ∙ part-runs (is_of (spec.standings c.args.self.now.occurrences) c.args.name) 0 c.args.self.now.parts
 
 pub returns-clause-text : goal.returns-clause-text
@@ -16,8 +15,7 @@ returns-clause-text c =
     ∙ tokens_at-numbers (is_of (spec.standings c.args.self.now.occurrences) c.args.name) ps
 
 pub returns-clause-ordered : goal.returns-clause-ordered
-returns-clause-ordered c =
-    subst (λ (xs : List Part). All (λ p. p.first ≤ p.after) xs) (sym (returns-clause-numbers c))
+returns-clause-ordered c = subst (λ (xs : List Part). All (λ p. p.first ≤ p.after) xs) (sym (returns-clause-numbers c))
     (numbers-ordered (is_of (spec.standings c.args.self.now.occurrences) c.args.name) c.args.self.now.parts)
 
 pub returns-clause-within : goal.returns-clause-within
@@ -29,7 +27,6 @@ returns-clause-within c =
 pub returns-clause-some : goal.returns-clause-some
 returns-clause-some c =
     let ps = c.args.self.now.parts in
-    subst (λ (xs : List Part).
-    IsTrue (has_part (spec.standings c.args.self.now.occurrences) ps c.args.name) ↔ 0 < length xs)
-    (sym (returns-clause-numbers c))
-    (numbers-some (is_of (spec.standings c.args.self.now.occurrences) c.args.name) ps)
+    subst
+    (λ (xs : List Part). IsTrue (has_part (spec.standings c.args.self.now.occurrences) ps c.args.name) ↔ 0 < length xs)
+    (sym (returns-clause-numbers c)) (numbers-some (is_of (spec.standings c.args.self.now.occurrences) c.args.name) ps)

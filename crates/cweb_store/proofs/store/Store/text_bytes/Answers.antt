@@ -19,8 +19,7 @@ returns-clause-once c =
 pub returns-clause-few : goal.returns-clause-few
 returns-clause-few c =
     let s = c.self.inside in
-    let once =
-    c.text_bytes.ensures.once
+    let once = c.text_bytes.ensures.once
     ∙ store-bytes s.tokens s.runs.items s.given.items s.replaced.items c.self.invariant.whole c.self.invariant.texts
     ∙ ap bytes_kept c.self.view_is in
     omega (arith, once, bytes-few c.args.self.now)

@@ -12,8 +12,7 @@ returns-clause-text c =
     ap (tokens_at (all_tokens ps)) (returns-clause-numbers c) ∙ tokens_at-numbers is_unnamed ps
 
 pub returns-clause-ordered : goal.returns-clause-ordered
-returns-clause-ordered c =
-    subst (λ (xs : List Part). All (λ p. p.first ≤ p.after) xs)
+returns-clause-ordered c = subst (λ (xs : List Part). All (λ p. p.first ≤ p.after) xs)
     (sym (returns-clause-numbers c)) (numbers-ordered is_unnamed c.args.self.now.parts)
 
 pub returns-clause-within : goal.returns-clause-within

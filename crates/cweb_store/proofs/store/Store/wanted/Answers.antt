@@ -16,8 +16,7 @@ met c =
 pub returns-clause-value : goal.returns-clause-value
 returns-clause-value c =
     let s = c.self.inside in
-    let runs =
-    stored-runs s.tokens.tokens s.runs.items c.self.invariant.whole
+    let runs = stored-runs s.tokens.tokens s.runs.items c.self.invariant.whole
     ∙ ap (λ v. runs_from 0 v.parts) c.self.view_is in
     let standings = c.self.invariant.answers.settled ∙ ap (λ v. spec.standings v.occurrences) c.self.view_is in
     met c ∙ (λ i. wanted_in (standings i) c.args.wanted (runs i))

@@ -16,8 +16,7 @@ loop-end-preserved c =
     record {
       within = omega (arith, c.loop-end.invariant.within);
       begins = λ n low all. omega (arith, c.loop-end-test.true, low);
-      same =
-          sym (ap (λ b. if b then without_last_after from test (take k ts) else take (suc k) ts) dropped)
+      same = sym (ap (λ b. if b then without_last_after from test (take k ts) else take (suc k) ts) dropped)
           ∙ sym step ∙ ap (λ n. without_last_after from test (take n ts)) next ∙ c.loop-end.invariant.same;
     }
 

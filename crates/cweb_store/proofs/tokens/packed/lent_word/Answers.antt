@@ -7,6 +7,5 @@ pub returns-in_default : goal.returns-in_default
 returns-in_default c =
     let t = c.text-word.result.now in
     let told : is_told c.border.result ≡ true = search rules in
-    rw (get-text c.args.texts.now c.args.number t c.text-word.ensures)
-    (ap Some c.word_lent-in_default.ensures
+    rw (get-text c.args.texts.now c.args.number t c.text-word.ensures) (ap Some c.word_lent-in_default.ensures
     ∙ word-lends t c.border.result (c.border.ensures t c.text-word.ensures) told)

@@ -12,10 +12,8 @@ returns-clause-closes g c =
     let why : IsRefused c.args.web.scanned.now.store c.args.main.now c.args.fault =
     refused_by c.args.web.scanned.now.store c.args.main.now c.args.fault c.requires.due c.in_default.not-Memory in
     log_closes_on (plans ∷ []) _ _ _ _ _ _ (log_planned _)
-    (subst (λ (plan : Planning).
-    ClosesInLog (planned_acts c.args.shown (numbers_of (seen c.args.web.scanned.now))
-    (fault_count (faults_of c.args.web)) plan)
-    (status_by (fault_count (faults_of c.args.web)) plan) (seen_stream g.L.Sink c.args.log.now)
-    (seen_stream g.L.Sink c.tangle_refused.new.log) c.tangle_refused.result)
+    (subst (λ (plan : Planning). ClosesInLog (planned_acts c.args.shown (numbers_of (seen c.args.web.scanned.now))
+    (fault_count (faults_of c.args.web)) plan) (status_by (fault_count (faults_of c.args.web)) plan)
+    (seen_stream g.L.Sink c.args.log.now) (seen_stream g.L.Sink c.tangle_refused.new.log) c.tangle_refused.result)
     (sym (planning_refused c.args.web.scanned.now.store (files_of c.args.web) c.args.main.now why.refusal why.due))
     (of_some _ why.refusal _ why.told c.tangle_refused.ensures))

@@ -7,8 +7,7 @@ returns-clause-ok c =
     let files = c.args.self.now.files.items in
     let was : c.args.self.now.draft ≡ Some c.in-Some.file = sym c.take.ensures.value ∙ c.in-Some.is in
     let none : c.take.new.self ≡ None = c.take.ensures.after in
-    let put =
-    commits files c.remove_named.new.files.items c.put.new.list.items c.in-Some.file
+    let put = commits files c.remove_named.new.files.items c.put.new.list.items c.in-Some.file
     (rw c.as_str.ensures.value at c.remove_named.ensures.others) c.put.ensures.items in
     let beside : List File → Option (List ℕ) → Beside = λ (fs : List File) (draft : Option (List ℕ)).
     record { files = fs; draft = draft; refused = refusal_kept c.args.self.now } in

@@ -28,10 +28,8 @@ parts-preserved c =
       within = record { part = within.0; rest = within.1 };
       started = c.gather_part.ensures.started;
       setting = c.gather_part.ensures.setting ∙ c.parts.invariant.setting;
-      prints =
-          front_to c.args.printer.now c.gather_part.new.printer (suffix w c.args.self.now) (suffix w f) _
-          c.args.gathered.now c.gather_part.new.gathered
-          (suffix-next w f _ _ c.if-self-2.false h)
+      prints = front_to c.args.printer.now c.gather_part.new.printer (suffix w c.args.self.now)
+          (suffix w f) _ c.args.gathered.now c.gather_part.new.gathered (suffix-next w f _ _ c.if-self-2.false h)
           (front_more _ _ _ _ _ _ _ _ _ c.parts.invariant.setting c.parts.invariant.prints
           c.gather_part.ensures.prints);
     }

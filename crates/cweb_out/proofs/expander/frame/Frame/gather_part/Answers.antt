@@ -8,8 +8,7 @@ returns-then-self-clause-prints c =
     let run = c.gather_run-self in
     record {
       done = slice_range (all_tokens c.args.store.now.parts) c.args.self.now.part.first run.result;
-      whole =
-          suffix-passed c.args.store.now c.args.self.now run.result
+      whole = suffix-passed c.args.store.now c.args.self.now run.result
           c.requires.started run.ensures.from run.ensures.upto;
       lent = run.ensures.lent;
       moves = run.ensures.moves;

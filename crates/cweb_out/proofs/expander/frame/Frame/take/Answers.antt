@@ -15,8 +15,7 @@ parts-preserved c =
     }
 
 pub returns-clause-some : goal.returns-clause-some
-returns-clause-some c =
-    c.parts.invariant.same
+returns-clause-some c = c.parts.invariant.same
     ∙ suffix-first c.args.store.now c.parts.self _ c.parts.invariant.started
     (omega (arith, c.parts-test.false)) c.parts.invariant.within c.token-token.ensures
 

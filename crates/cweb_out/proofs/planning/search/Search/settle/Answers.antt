@@ -7,9 +7,8 @@ pub go_on-requires-clause-name : goal.go_on-requires-clause-name
 go_on-requires-clause-name c =
     let w : Stored = c.args.self.now.store.now in
     let top = c.in-Some.top in
-    rw c.names.invariant.store
-    (top-name w c.names.self.marks.items c.names.self.waiting.items top.name c.names.invariant.fits
-    (subst (λ (ps : List Waiting). list_any (is_id top.name) (path_of ps) ≡ true)
+    rw c.names.invariant.store (top-name w c.names.self.marks.items c.names.self.waiting.items
+    top.name c.names.invariant.fits (subst (λ (ps : List Waiting). list_any (is_id top.name) (path_of ps) ≡ true)
     (sym c.in-Some.ensures.items) (on-top c.pop.new.self.items top)))
 
 pub returns-in-Some-2-clause-settles : goal.returns-in-Some-2-clause-settles

@@ -7,30 +7,25 @@ pub returns-in-Some-2-clause-settles : goal.returns-in-Some-2-clause-settles
 returns-in-Some-2-clause-settles c =
     let w : Stored = c.args.self.now.store.now in
     let i = c.names.invariant in
-    let meets : Meets w c.names.self.marks.items (suffix w c.names.text)
-    c.in-Some.name (suffix w c.next_unranked.new.text) =
-    rw c.as_slice.ensures.value at c.in-Some.ensures.meets in
+    let meets : Meets w c.names.self.marks.items (suffix w c.names.text) c.in-Some.name
+    (suffix w c.next_unranked.new.text) = rw c.as_slice.ensures.value at c.in-Some.ensures.meets in
     let settles = rw (c.in-Some-2.is, c.names.invariant.store) at c.in_ok-cycle.ensures.settles in
-    program-endless w c.next_unranked.new.text c.in-Some.name c.in-Some-2.cycle.items
-    (looked-more w (root_list w None) c.names.self.marks.items [] c.names.text
-    c.next_unranked.new.text c.in-Some.name i.fits i.looked meets)
-    settles
+    program-endless w c.next_unranked.new.text c.in-Some.name c.in-Some-2.cycle.items (looked-more w (root_list w None)
+    c.names.self.marks.items [] c.names.text c.next_unranked.new.text c.in-Some.name i.fits i.looked meets) settles
 
 pub names-preserved : goal.names-preserved
 names-preserved c =
     let w : Stored = c.args.self.now.store.now in
     let i = c.names.invariant in
-    let meets : Meets w c.names.self.marks.items (suffix w c.names.text)
-    c.in-Some.name (suffix w c.next_unranked.new.text) =
-    rw c.as_slice.ensures.value at c.in-Some.ensures.meets in
+    let meets : Meets w c.names.self.marks.items (suffix w c.names.text) c.in-Some.name
+    (suffix w c.next_unranked.new.text) = rw c.as_slice.ensures.value at c.in-Some.ensures.meets in
     let settles = rw (c.in_default-2.is, c.names.invariant.store) at c.in_ok-cycle.ensures.settles in
     record {
       store = c.in_ok-cycle.ensures.store ∙ i.store;
       fits = rw c.names.invariant.store at (c.in_ok-cycle.ensures.fits c.in_default-2.is);
       path = c.in_ok-cycle.ensures.path c.in_default-2.is;
       within = c.next_unranked.ensures.within;
-      looked =
-          looked-on w (root_list w None) c.next_unranked.new.text c.in-Some.name settles
+      looked = looked-on w (root_list w None) c.next_unranked.new.text c.in-Some.name settles
           (looked-more w (root_list w None) c.names.self.marks.items [] c.names.text
           c.next_unranked.new.text c.in-Some.name i.fits i.looked meets);
     }

@@ -9,9 +9,8 @@ returns-then-id-next-clause-number c =
     let ns = names_in s.names.items in
     let text = c.args.text.now in
     let is : c.in_ok-key.key ≡ text = c.in_ok-key.ensures in
-    let stays =
-    known-old s.sorted.entries ns c.in_ok-key.key _ c.in_ok-id.id c.self.invariant
-    c.in_ok-id.ensures.ordered c.in_ok-id.ensures.number c.if-id-next.true in
+    let stays = known-old s.sorted.entries ns c.in_ok-key.key
+    _ c.in_ok-id.id c.self.invariant c.in_ok-id.ensures.ordered c.in_ok-id.ensures.number c.if-id-next.true in
     stays.place ∙ (λ i. position_or_len (bytes_eq (is i)) (texts (c.self.view_is i)))
 
 pub returns-then-id-next-clause-added : goal.returns-then-id-next-clause-added
@@ -20,9 +19,8 @@ returns-then-id-next-clause-added c =
     let ns = names_in s.names.items in
     let text = c.args.text.now in
     let is : c.in_ok-key.key ≡ text = c.in_ok-key.ensures in
-    let stays =
-    known-old s.sorted.entries ns c.in_ok-key.key _ c.in_ok-id.id c.self.invariant
-    c.in_ok-id.ensures.ordered c.in_ok-id.ensures.number c.if-id-next.true in
+    let stays = known-old s.sorted.entries ns c.in_ok-key.key
+    _ c.in_ok-id.id c.self.invariant c.in_ok-id.ensures.ordered c.in_ok-id.ensures.number c.if-id-next.true in
     let there = ap (λ q. list_any (bytes_eq q) (texts ns)) (sym is) ∙ stays.among in
     rw (c.in_ok-reserve.ensures.items, ← c.self.view_is) (sym (with_text-there c.args.first ns text there))
 
@@ -30,9 +28,8 @@ pub invariant_of-self-then-id-next : goal.invariant_of-self-then-id-next
 invariant_of-self-then-id-next c =
     let s = c.self.inside in
     let ns = names_in s.names.items in
-    let stays =
-    known-old s.sorted.entries ns c.in_ok-key.key _ c.in_ok-id.id c.self.invariant
-    c.in_ok-id.ensures.ordered c.in_ok-id.ensures.number c.if-id-next.true in
+    let stays = known-old s.sorted.entries ns c.in_ok-key.key
+    _ c.in_ok-id.id c.self.invariant c.in_ok-id.ensures.ordered c.in_ok-id.ensures.number c.if-id-next.true in
     rw (c.in_ok-reserve.ensures.items, c.in_ok-id.ensures.entries, stays.same) c.self.invariant
 
 pub invariant_of-self-2 : goal.invariant_of-self-2

@@ -4,9 +4,8 @@ use Rattle.cweb_store.proofs.GivenLemmas.{drop-at}
 use Rattle.cweb_store.proofs.names.table.NameTable.files.Goals as goal
 
 pub loop-i-init : goal.loop-i-init
-loop-i-init c = λ ts e.
-    ap (λ ns. files_from c.args.standings.now ns 0 (occurrences_at ts c.deref-given-items.result.now))
-    c.new-files.ensures.empty
+loop-i-init c = λ ts e. ap (λ ns.
+    files_from c.args.standings.now ns 0 (occurrences_at ts c.deref-given-items.result.now)) c.new-files.ensures.empty
 
 pub loop-i-preserved : goal.loop-i-preserved
 loop-i-preserved c = λ ts e.

@@ -2,6 +2,5 @@ use Rattle.cweb_store.proofs.Common.{◌≡◌, drop, map, has_defs_code, closed
 use Rattle.cweb_store.proofs.parts.closed.ClosedParts.has_defs_code.Given as goal
 
 abbrev pub invariant-loop-run : goal.invariant-loop-run
-invariant-loop-run l =
-    has_defs_code (map (closed_in l.self-inside.tokens.tokens) (drop l.run-index l.run-items))
+invariant-loop-run l = has_defs_code (map (closed_in l.self-inside.tokens.tokens) (drop l.run-index l.run-items))
     ≡ has_defs_code (map (closed_in l.self-inside.tokens.tokens) l.run-items)

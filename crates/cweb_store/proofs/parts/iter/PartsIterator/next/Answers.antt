@@ -20,11 +20,9 @@ returns-clause-steps c =
     let run = c.in-Some.run'.now in
     let next = c.in-Some-get.next.now in
     sym c.self.view_is
-    ∙ followed-next s.runs.now s.skips.now s.skip run next
-    (slice_get_read s.runs.now (length s.runs.now) s.skip run refl
-    c.in-Some.ensures.lookup.3.0 c.in-Some.ensures.lookup.1)
-    (slice_get_read s.skips.now (length s.skips.now) s.skip next refl
-    c.in-Some-get.ensures.lookup.3.0 c.in-Some-get.ensures.lookup.1)
+    ∙ followed-next s.runs.now s.skips.now s.skip run next (slice_get_read s.runs.now (length s.runs.now)
+    s.skip run refl c.in-Some.ensures.lookup.3.0 c.in-Some.ensures.lookup.1) (slice_get_read s.skips.now
+    (length s.skips.now) s.skip next refl c.in-Some-get.ensures.lookup.3.0 c.in-Some-get.ensures.lookup.1)
 
 pub returns-clause-goes : goal.returns-clause-goes
 returns-clause-goes c = record {

@@ -9,14 +9,12 @@ loop-i-preserved c =
     let before = c.loop-i.invariant in
     let next : c.loop-i.i ≡ suc i = omega (arith, c.loop-i-test.true) in
     let size : c.len.result ≡ length c.loop-i.skips.items = omega (arith, c.len.ensures, c.loop-i.skips.ok.0) in
-    let linked =
-    subst (λ (k : ℕ). AreLinked c.args.standings.now (drop k runs) (reverse c.loop-i.skips.items) c.loop-i.heads)
-    next before.linked in
+    let linked = subst (λ (k : ℕ).
+    AreLinked c.args.standings.now (drop k runs) (reverse c.loop-i.skips.items) c.loop-i.heads) next before.linked in
     record {
-      linked =
-          step-linked c.args.standings.now runs i c.len.result c.put-skip.result _ c.loop-i.skips.items
-          c.push.new.self.items c.group_of-group.result c.loop-i.heads c.put-skip.new.self
-          c.group_of-group.ensures (omega (arith, next, size, before.count))
+      linked = step-linked c.args.standings.now runs i c.len.result c.put-skip.result _ c.loop-i.skips.items
+          c.push.new.self.items c.group_of-group.result c.loop-i.heads c.put-skip.new.self c.group_of-group.ensures
+          (omega (arith, next, size, before.count))
           c.put-skip.ensures c.in_ok-push.ensures.items linked;
       names = c.put-skip.ensures.names ∙ before.names;
       count =

@@ -5,18 +5,15 @@ use Rattle.cweb_store.proofs.parts.list.PartList.finish.Goals as goal
 pub invariant_of-result-2 : goal.invariant_of-result-2
 invariant_of-result-2 c =
     let s = c.self.inside in
-    let tied =
-    subst (λ (current : Option Open). AreRuns s.tokens.tokens s.runs.items current (vec_capacity s.runs))
-    c.in-Some.is c.self.invariant in
-    let run : c.closed_run-run.result ≡ last_run c.in-Some.current (length s.tokens.tokens) =
-    c.closed_run-run.ensures
+    let tied = subst (λ (current : Option Open).
+    AreRuns s.tokens.tokens s.runs.items current (vec_capacity s.runs)) c.in-Some.is c.self.invariant in
+    let run : c.closed_run-run.result ≡ last_run c.in-Some.current (length s.tokens.tokens) = c.closed_run-run.ensures
     ∙ ap (last_run c.in-Some.current) (c.len.ensures ∙ ap (λ v. length v.tokens) c.close-tokens.ensures) in
     let after = close-are s.tokens.tokens s.runs.items c.in-Some.current _ (length s.runs.items) tied in
     let whole : IsWhole s.tokens.tokens (s.runs.items ++ last_run c.in-Some.current (length s.tokens.tokens) ∷ []) =
     record { follow = after.follow; few_tokens = after.few_tokens; few_parts = omega (arith, after.few_parts) } in
-    let closed : AreClosedRuns (tokens_alone s.tokens.tokens)
-    (s.runs.items ++ last_run c.in-Some.current (length s.tokens.tokens) ∷ []) =
-    record { whole = whole; alone = refl } in
+    let closed : AreClosedRuns (tokens_alone s.tokens.tokens) (s.runs.items ++ last_run c.in-Some.current
+    (length s.tokens.tokens) ∷ []) = record { whole = whole; alone = refl } in
     rw (c.put.ensures, run, c.close-tokens.ensures) closed
 
 pub returns : goal.returns

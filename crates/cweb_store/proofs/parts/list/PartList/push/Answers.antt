@@ -18,13 +18,11 @@ invariant_of-self-2 c =
     ∙ ap length (tokens-whole s.tokens.tokens s.runs.items s.current _ c.self.invariant) in
     let few : length s.tokens.tokens + 1 < too_many = omega (arith, count, c.requires.few) in
     let some = subst (λ (v : PartsInRooms). IsSome v.parts.current) (sym c.self.view_is) c.requires.open in
-    rw c.in_ok-push.ensures.ok
-    (push-are c.self.inside.tokens.tokens (seen c.args.token)
-    c.self.inside.runs.items c.self.inside.current _ few some c.self.invariant)
+    rw c.in_ok-push.ensures.ok (push-are c.self.inside.tokens.tokens
+    (seen c.args.token) c.self.inside.runs.items c.self.inside.current _ few some c.self.invariant)
 
 pub returns-clause-ok : goal.returns-clause-ok
 returns-clause-ok c =
     let some = subst (λ (v : PartsInRooms). IsSome v.parts.current) (sym c.self.view_is) c.requires.open in
-    rw (c.in_ok-push.ensures.ok, ← c.self.view_is)
-    (push-parts c.self.inside.tokens.tokens (seen c.args.token)
-    c.self.inside.runs.items c.self.inside.current _ some c.self.invariant)
+    rw (c.in_ok-push.ensures.ok, ← c.self.view_is) (push-parts c.self.inside.tokens.tokens
+    (seen c.args.token) c.self.inside.runs.items c.self.inside.current _ some c.self.invariant)

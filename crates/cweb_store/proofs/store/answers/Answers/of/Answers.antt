@@ -5,9 +5,7 @@ use Rattle.cweb_store.proofs.store.answers.Answers.of.Goals as goal
 pub returns-clause-answers : goal.returns-clause-answers
 returns-clause-answers c = record {
   settled = c.in_ok-standings.ensures.standings;
-  given =
-      c.in_ok-files.ensures
-      ∙ ap (λ ss. files_from ss [] 0 c.args.table.now)
+  given = c.in_ok-files.ensures ∙ ap (λ ss. files_from ss [] 0 c.args.table.now)
       (c.as_slice.ensures.value ∙ c.in_ok-standings.ensures.standings);
   found = c.in_ok-faults.ensures;
   defs = c.has_defs_code.ensures;
@@ -17,9 +15,8 @@ pub returns-clause-linked : goal.returns-clause-linked
 returns-clause-linked c =
     let links = c.in_ok-links.links in
     subst (λ (xs : List Run). AreLinked c.in_ok-standings.standings.items xs links.skips.items links.heads)
-    c.runs.ensures.runs
-    (subst (λ (ss : List Standing). AreLinked ss c.runs.result.now links.skips.items links.heads)
-    c.as_slice-3.ensures.value c.in_ok-links.ensures)
+    c.runs.ensures.runs (subst (λ (ss : List Standing).
+    AreLinked ss c.runs.result.now links.skips.items links.heads) c.as_slice-3.ensures.value c.in_ok-links.ensures)
 
 pub returns-clause-firsts : goal.returns-clause-firsts
 returns-clause-firsts c = c.in_ok-firsts.ensures ∙ ap (map (λ (n : Name). n.first)) c.names.ensures.names

@@ -10,8 +10,7 @@ invariant_of-self-2 c =
     rw c.in_ok-add.ensures.added
     (record {
       tokens = closed-add s.texts text s.records.packed s.own c.self.invariant.tokens;
-      notes =
-          subst (λ (ts : List Token). AreNoted s.noted ts)
+      notes = subst (λ (ts : List Token). AreNoted s.noted ts)
           (sym (tokens-grow s.texts (text ∷ []) s.records.packed c.self.invariant.tokens.packed))
           c.self.invariant.notes;
     })

@@ -6,8 +6,7 @@ use Rattle.cweb_store.proofs.tokens.closed.ClosedTokens.add_uses.Goals.{in-Name+
 pub uses-init : goal.uses-init
 uses-init c = record {
   within = c.next_use-next.ensures.within;
-  same =
-      used-from-next c.args.standings.now c.args.used.now.keys c.args.self.now.tokens c.args.part
+  same = used-from-next c.args.standings.now c.args.used.now.keys c.args.self.now.tokens c.args.part
       c.next_use-next.result c.next_use-next.ensures;
 }
 
@@ -27,8 +26,7 @@ uses-preserved c =
     ] in
     record {
       within = c.next_use-next-in-uses.ensures.within;
-      same =
-          used-step rs c.uses.used.keys c.match-token.used.keys ts c.args.part c.uses.next
-          c.next_use-next-in-uses.result t c.token.ensures (omega (arith, c.uses-test.true)) more
+      same = used-step rs c.uses.used.keys c.match-token.used.keys ts c.args.part
+          c.uses.next c.next_use-next-in-uses.result t c.token.ensures (omega (arith, c.uses-test.true)) more
           c.next_use-next-in-uses.ensures ∙ c.uses.invariant.same;
     }

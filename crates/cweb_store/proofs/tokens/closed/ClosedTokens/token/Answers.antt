@@ -11,9 +11,8 @@ lend-requires c =
 pub returns : goal.returns
 returns c =
     let s = c.self.inside in
-    rw (c.lend.ensures, ← c.self.view_is)
-    (packed-at s.texts s.records.packed c.args.number c.get-packed.result
-    c.self.invariant.tokens.packed c.get-packed.ensures).1
+    rw (c.lend.ensures, ← c.self.view_is) (packed-at s.texts
+    s.records.packed c.args.number c.get-packed.result c.self.invariant.tokens.packed c.get-packed.ensures).1
 
 pub get-packed-requires : goal.get-packed-requires
 get-packed-requires c = grind (arith, common_steps)

@@ -3,24 +3,20 @@ use Rattle.cweb_store.proofs.SignLemmas.{signs-stay-word, is-sign, one-byte}
 use Rattle.cweb_store.proofs.tokens.kept.KeptTexts.keep_byte.Goals as goal
 
 pub invariant_of-self : goal.invariant_of-self
-invariant_of-self c =
-    signs-stay-word c.keep_word.result c.self.inside.texts c.keep_word.new.self c.self.inside.signs.items
-    c.args.sign.now c.keep_word.ensures.ok c.keep_word.ensures.err c.self.invariant
+invariant_of-self c = signs-stay-word c.keep_word.result c.self.inside.texts c.keep_word.new.self
+    c.self.inside.signs.items c.args.sign.now c.keep_word.ensures.ok c.keep_word.ensures.err c.self.invariant
 
 pub invariant_of-self-then-sign-lt1 : goal.invariant_of-self-then-sign-lt1
-invariant_of-self-then-sign-lt1 c =
-    signs-stay-word c.keep_word.result c.self.inside.texts c.keep_word.new.self c.self.inside.signs.items
-    c.args.sign.now c.keep_word.ensures.ok c.keep_word.ensures.err c.self.invariant
+invariant_of-self-then-sign-lt1 c = signs-stay-word c.keep_word.result c.self.inside.texts c.keep_word.new.self
+    c.self.inside.signs.items c.args.sign.now c.keep_word.ensures.ok c.keep_word.ensures.err c.self.invariant
 
 pub invariant_of-self-in-len1 : goal.invariant_of-self-in-len1
-invariant_of-self-in-len1 c =
-    signs-stay-word c.keep_word.result c.self.inside.texts c.keep_word.new.self c.self.inside.signs.items
-    c.args.sign.now c.keep_word.ensures.ok c.keep_word.ensures.err c.self.invariant
+invariant_of-self-in-len1 c = signs-stay-word c.keep_word.result c.self.inside.texts c.keep_word.new.self
+    c.self.inside.signs.items c.args.sign.now c.keep_word.ensures.ok c.keep_word.ensures.err c.self.invariant
 
 pub invariant_of-self-else-sign-lt2 : goal.invariant_of-self-else-sign-lt2
-invariant_of-self-else-sign-lt2 c =
-    signs-stay-word c.keep_word.result c.self.inside.texts c.keep_word.new.self c.self.inside.signs.items
-    c.args.sign.now c.keep_word.ensures.ok c.keep_word.ensures.err c.self.invariant
+invariant_of-self-else-sign-lt2 c = signs-stay-word c.keep_word.result c.self.inside.texts c.keep_word.new.self
+    c.self.inside.signs.items c.args.sign.now c.keep_word.ensures.ok c.keep_word.ensures.err c.self.invariant
 
 pub invariant_of-self-then-sign-lt2 : goal.invariant_of-self-then-sign-lt2
 invariant_of-self-then-sign-lt2 c =

@@ -31,6 +31,5 @@ returns c =
     let s = c.self.inside in
     let within : c.args.number < length s.records.now =
     omega (arith, c.requires, ap length c.self.view_is, length-map s.records.now (lends_by s.texts)) in
-    rw (← c.self.view_is)
-    (record-lends s.texts s.records.now c.args.number _ (slice_get-get_or s.records.now c.args.number _ within)
-    ∙ ap Some (sym c.lent.ensures))
+    rw (← c.self.view_is) (record-lends s.texts s.records.now c.args.number _
+    (slice_get-get_or s.records.now c.args.number _ within) ∙ ap Some (sym c.lent.ensures))

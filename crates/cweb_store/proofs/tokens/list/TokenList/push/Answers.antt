@@ -14,10 +14,8 @@ pack-requires c =
     }
 
 pub put-requires-clause-place : goal.put-requires-clause-place
-put-requires-clause-place c = λ mark.
-    c.in_ok-reserve.ensures.room.place
-    (ap is_mark_token (sym c.in_ok-packed.ensures.ok.stands)
-    ∙ sym (mark-same c.pack.new.texts.texts c.in_ok-packed.packed) ∙ mark)
+put-requires-clause-place c = λ mark. c.in_ok-reserve.ensures.room.place (ap is_mark_token
+    (sym c.in_ok-packed.ensures.ok.stands) ∙ sym (mark-same c.pack.new.texts.texts c.in_ok-packed.packed) ∙ mark)
 
 pub put-requires-clause-few : goal.put-requires-clause-few
 put-requires-clause-few c =
@@ -39,17 +37,14 @@ invariant_of-self-2 c =
     (record {
       tokens =
           packs-are s.texts c.pack.new.texts s.records.packed t p c.self.invariant.tokens c.in_ok-packed.ensures.ok;
-      notes =
-          subst (AreNoted c.note.new.self)
-          (sym (packs-tokens s.texts c.pack.new.texts s.records.packed t p c.self.invariant.tokens.packed
-          c.in_ok-packed.ensures.ok))
+      notes = subst (AreNoted c.note.new.self) (sym (packs-tokens s.texts
+          c.pack.new.texts s.records.packed t p c.self.invariant.tokens.packed c.in_ok-packed.ensures.ok))
           (c.note.ensures tokens (omega (arith, size, c.len.ensures, ap length c.in_ok-reserve.ensures.packed))
           (c.in_ok-reserve-2.ensures.noted tokens c.self.invariant.notes));
     })
 
 pub returns-clause-ok : goal.returns-clause-ok
-returns-clause-ok c =
-    rw (c.put.ensures, c.in_ok-reserve.ensures.packed, ← c.self.view_is)
+returns-clause-ok c = rw (c.put.ensures, c.in_ok-reserve.ensures.packed, ← c.self.view_is)
     (packs-tokens c.self.inside.texts c.pack.new.texts c.self.inside.records.packed
     (seen c.args.token) c.in_ok-packed.packed c.self.invariant.tokens.packed c.in_ok-packed.ensures.ok)
 

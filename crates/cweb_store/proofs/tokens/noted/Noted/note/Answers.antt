@@ -11,8 +11,7 @@ returns-in-Name c = λ tokens size are.
     let used : is_name t ≡ true = search rules in
     let other : is_defs t ≡ false = search rules in
     record {
-      uses =
-          noted-push is_name uses c.put.new.list.items tokens t k size are.uses
+      uses = noted-push is_name uses c.put.new.list.items tokens t k size are.uses
           (noted-here uses c.put.new.list.items (is_name t) k c.put.ensures used);
       defs = noted-push is_defs defs defs tokens t k size are.defs (noted-not defs (is_defs t) k other);
     }
@@ -27,8 +26,7 @@ returns-in-Defs c = λ tokens size are.
     let def : is_defs t ≡ true = search rules in
     record {
       uses = noted-push is_name uses uses tokens t k size are.uses (noted-not uses (is_name t) k other);
-      defs =
-          noted-push is_defs defs c.put-in-Defs.new.list.items tokens t k size are.defs
+      defs = noted-push is_defs defs c.put-in-Defs.new.list.items tokens t k size are.defs
           (noted-here defs c.put-in-Defs.new.list.items (is_defs t) k c.put-in-Defs.ensures def);
     }
 

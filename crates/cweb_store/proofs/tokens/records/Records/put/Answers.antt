@@ -18,13 +18,11 @@ record_of-record-requires-clause-few c =
 pub invariant_of-self : goal.invariant_of-self
 invariant_of-self c =
     let s = c.self.inside in
-    rw c.put.ensures
-    (push-numbered s.places.items c.record_of-record.new.places.items s.items.items c.args.packed
-    c.record_of-record.result c.self.invariant c.record_of-record.ensures)
+    rw c.put.ensures (push-numbered s.places.items c.record_of-record.new.places.items
+    s.items.items c.args.packed c.record_of-record.result c.self.invariant c.record_of-record.ensures)
 
 pub returns : goal.returns
 returns c =
     let s = c.self.inside in
-    rw (c.put.ensures, ← c.self.view_is)
-    (push-packed s.places.items c.record_of-record.new.places.items s.items.items c.args.packed
-    c.record_of-record.result c.self.invariant c.record_of-record.ensures)
+    rw (c.put.ensures, ← c.self.view_is) (push-packed s.places.items c.record_of-record.new.places.items
+    s.items.items c.args.packed c.record_of-record.result c.self.invariant c.record_of-record.ensures)

@@ -28,12 +28,10 @@ invariant_of-self-2 c =
     )
     (record {
       start = start-push limits (length (bytes ++ text)) some c.in_ok-begin.ensures.start;
-      ends_at =
-          subst (λ (es : List ℕ). AreEnds 0 es (length (bytes ++ text))) (sym all)
+      ends_at = subst (λ (es : List ℕ). AreEnds 0 es (length (bytes ++ text))) (sym all)
           (ends-push 0 (length bytes) (length (bytes ++ text)) ends c.self.invariant.ends_at longer);
-      told =
-          subst (λ (es : List ℕ). AreTold (texts_from (bytes ++ text) 0 es) (borders ++ c.args.border ∷ [])) (sym all)
-          (subst (λ (ts : List (List ℕ)). AreTold ts (borders ++ c.args.border ∷ []))
+      told = subst (λ (es : List ℕ). AreTold (texts_from (bytes ++ text) 0 es) (borders ++ c.args.border ∷ []))
+          (sym all) (subst (λ (ts : List (List ℕ)). AreTold ts (borders ++ c.args.border ∷ []))
           (sym (texts-push bytes text 0 ends c.self.invariant.ends_at))
           (told-push (texts_from bytes 0 ends) borders text c.args.border c.self.invariant.told c.requires));
     })

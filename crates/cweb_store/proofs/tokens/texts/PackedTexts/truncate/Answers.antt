@@ -27,16 +27,12 @@ invariant_of-self c =
     sym (limits-take c.args.count s.limits.items) ∙ ap (λ n. drop 1 (take n s.limits.items)) next in
     rw (c.truncate.ensures.items, c.truncate-2.ensures.items, c.truncate-3.ensures.items, begin)
     (record {
-      start =
-          subst (λ n. IsFromStart (take n s.limits.items)) next
+      start = subst (λ n. IsFromStart (take n s.limits.items)) next
           (start-take c.args.count s.limits.items c.self.invariant.start);
-      ends_at =
-          subst (λ (es : List ℕ). AreEnds 0 es (length bytes)) cut
+      ends_at = subst (λ (es : List ℕ). AreEnds 0 es (length bytes)) cut
           (ends-are-cut s.bytes.items ends c.args.count c.self.invariant.ends_at);
-      told =
-          subst (λ (es : List ℕ). AreTold (texts_from bytes 0 es) borders) cut
-          (subst (λ (ts : List (List ℕ)). AreTold ts borders)
-          (sym (texts-cut s.bytes.items ends c.args.count c.self.invariant.ends_at))
+      told = subst (λ (es : List ℕ). AreTold (texts_from bytes 0 es) borders) cut (subst (λ (ts : List (List ℕ)).
+          AreTold ts borders) (sym (texts-cut s.bytes.items ends c.args.count c.self.invariant.ends_at))
           (told-take c.args.count (texts_from s.bytes.items 0 ends) s.borders.items c.self.invariant.told));
     })
 

@@ -25,8 +25,7 @@ returns-clause-ok c =
       more = text ∷ [];
       grows = refl;
       stands = get-last texts text c.in_ok-number.number c.in_ok-number.ensures.number;
-      words = λ q.
-          has-stands (texts ++ text ∷ []) slots entries q
+      words = λ q. has-stands (texts ++ text ∷ []) slots entries q
           ∙ ap (λ b. b || list_any (bytes_eq q) (map word_in entries))
           (any-grow texts (text ∷ []) q slots c.self.invariant.in_slots.hold)
           ∙ sym (has-stands texts slots entries q);

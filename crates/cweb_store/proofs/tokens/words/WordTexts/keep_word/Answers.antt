@@ -13,7 +13,5 @@ returns-in-Some-clause-ok c =
     let s = c.self.inside in
     let word = c.args.word.now in
     let number = c.in-Some.number in
-    rw (← c.self.view_is)
-    (slot-known s.texts word s.slots.items s.words.entries number
-    (subst (λ (w : List Slot). IsFound s.texts w word number)
-    (ap (window_of (key_of word)) c.as_slice.ensures.value) c.in-Some.ensures))
+    rw (← c.self.view_is) (slot-known s.texts word s.slots.items s.words.entries number (subst (λ (w : List Slot).
+    IsFound s.texts w word number) (ap (window_of (key_of word)) c.as_slice.ensures.value) c.in-Some.ensures))

@@ -17,10 +17,9 @@ pub returns-in-Some-clause-ok : goal.returns-in-Some-clause-ok
 returns-in-Some-clause-ok c =
     let s = c.self.inside in
     let word = c.args.word.now in
-    let window : c.window_of-window.result.now ≡ window_of (key_of word) s.slots.items =
-    c.window_of-window.ensures ∙ (λ i. window_of (c.of-key.ensures i) (c.as_slice.ensures.value i)) in
-    rw (← c.self.view_is)
-    (slot-known s.texts word s.slots.items s.words.entries c.in-Some.number
+    let window : c.window_of-window.result.now ≡ window_of (key_of word) s.slots.items = c.window_of-window.ensures
+    ∙ (λ i. window_of (c.of-key.ensures i) (c.as_slice.ensures.value i)) in
+    rw (← c.self.view_is) (slot-known s.texts word s.slots.items s.words.entries c.in-Some.number
     (subst (λ (w : List Slot). IsFound s.texts w word c.in-Some.number) window c.in-Some.ensures))
 
 pub returns-in-Some-copied-clause-ok : goal.returns-in-Some-copied-clause-ok

@@ -9,11 +9,9 @@ invariant_of-self-then-place_word c =
     let number = c.in_ok-number.number in
     let new = c.place_word.new.slots.items in
     let put =
-    subst (λ (k : Key). IsWordPlaced s.slots.items k number (length word) new) c.requires.key
-    c.if-place_word.ensures in
-    rw c.in_ok-number.ensures.added
-    (slot-table s.texts word s.slots.items new s.words.entries number c.self.invariant put
-    c.in_ok-number.ensures.number)
+    subst (λ (k : Key). IsWordPlaced s.slots.items k number (length word) new) c.requires.key c.if-place_word.ensures in
+    rw c.in_ok-number.ensures.added (slot-table s.texts
+    word s.slots.items new s.words.entries number c.self.invariant put c.in_ok-number.ensures.number)
 
 pub returns-then-place_word-clause-ok : goal.returns-then-place_word-clause-ok
 returns-then-place_word-clause-ok c =
@@ -22,13 +20,12 @@ returns-then-place_word-clause-ok c =
     let number = c.in_ok-number.number in
     let new = c.place_word.new.slots.items in
     let absent : has (texts_and_words s.texts s.slots.items s.words.entries) word ≡ false =
-    ap (λ k. has k word) c.self.view_is ∙ c.requires.absent in
+    ap (λ k. has k word) c.self.view_is
+    ∙ c.requires.absent in
     let put =
-    subst (λ (k : Key). IsWordPlaced s.slots.items k number (length word) new) c.requires.key
-    c.if-place_word.ensures in
-    rw (c.in_ok-number.ensures.added, ← c.self.view_is)
-    (slot-keeps s.texts word s.slots.items new s.words.entries number c.self.invariant put
-    c.in_ok-number.ensures.number absent)
+    subst (λ (k : Key). IsWordPlaced s.slots.items k number (length word) new) c.requires.key c.if-place_word.ensures in
+    rw (c.in_ok-number.ensures.added, ← c.self.view_is) (slot-keeps s.texts
+    word s.slots.items new s.words.entries number c.self.invariant put c.in_ok-number.ensures.number absent)
 
 pub invariant_of-self-in_default : goal.invariant_of-self-in_default
 invariant_of-self-in_default c =

@@ -11,19 +11,16 @@ text-requires c =
     get-within c.args.texts.now c.args.slot.number holds.text holds.there
 
 pub returns-then-place-clause-slots : goal.returns-then-place-clause-slots
-returns-then-place-clause-slots c =
-    put-slots c.args.texts.now c.args.slots.now.items c.place.new.slots.items c.args.slot c.requires.slots
-    (c.requires.hold (used-not c.args.slot.len c.if-slot-eq0.false)) c.if-place.ensures
+returns-then-place-clause-slots c = put-slots c.args.texts.now c.args.slots.now.items c.place.new.slots.items
+    c.args.slot c.requires.slots (c.requires.hold (used-not c.args.slot.len c.if-slot-eq0.false)) c.if-place.ensures
 
 pub returns-then-place-clause-words : goal.returns-then-place-clause-words
-returns-then-place-clause-words c =
-    placed-stands c.args.texts.now c.args.slots.now.items c.place.new.slots.items c.args.words.now.entries
-    c.args.slot c.if-place.ensures
+returns-then-place-clause-words c = placed-stands c.args.texts.now
+    c.args.slots.now.items c.place.new.slots.items c.args.words.now.entries c.args.slot c.if-place.ensures
 
 pub returns-clause-mapped : goal.returns-clause-mapped
-returns-clause-mapped c =
-    insert-mapped c.args.texts.now c.text.result.now c.args.words.now.entries c.insert_word.new.words.entries
-    c.args.slot.number c.text.ensures c.requires.mapped c.in_ok-insert_word.ensures.ok
+returns-clause-mapped c = insert-mapped c.args.texts.now c.text.result.now c.args.words.now.entries
+    c.insert_word.new.words.entries c.args.slot.number c.text.ensures c.requires.mapped c.in_ok-insert_word.ensures.ok
 
 pub returns-clause-words : goal.returns-clause-words
 returns-clause-words c = λ q.

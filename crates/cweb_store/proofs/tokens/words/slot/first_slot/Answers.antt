@@ -9,10 +9,8 @@ returns-in-Some c =
     let slots = c.args.slots.now in
     let key = c.of-key.result in
     let slot = c.in-Some.slot.now in
-    let there : slice_get slots (home_of key (length slots)) ≡ Some slot =
-    ap (slice_get slots) (sym c.home.ensures.is)
-    ∙ slice_get-get_or slots c.home.result slot
-    (ltb-true c.home.result (length slots) (sym c.in-Some.ensures.lookup.0))
+    let there : slice_get slots (home_of key (length slots)) ≡ Some slot = ap (slice_get slots) (sym c.home.ensures.is)
+    ∙ slice_get-get_or slots c.home.result slot (ltb-true c.home.result (length slots) (sym c.in-Some.ensures.lookup.0))
     ∙ ap Some (sym c.in-Some.ensures.lookup.1) in
     subst (λ k. IsFound texts (window_of k slots) c.args.word.now slot.number) c.of-key.ensures
     (found-slot texts (window_of key slots) c.args.word.now 0 slot (window-hold texts key slots c.requires)

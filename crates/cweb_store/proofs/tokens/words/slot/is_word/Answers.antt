@@ -17,8 +17,7 @@ returns-then-not-is_alike c =
 pub text-text-requires : goal.text-text-requires
 text-text-requires c =
     let slot = c.args.slot in
-    let alike =
-    alike-in slot c.args.key (length c.args.word.now) (sym c.is_alike.ensures ∙ c.if-not-is_alike.false) in
+    let alike = alike-in slot c.args.key (length c.args.word.now) (sym c.is_alike.ensures ∙ c.if-not-is_alike.false) in
     let holds = c.requires.hold alike.used in
     get-within c.args.texts.now slot.number holds.text holds.there
 
@@ -32,10 +31,9 @@ returns-then-word-le-TOLD c =
     let text : slot_text texts slot ≡ c.text-text.result.now =
     get-text texts slot.number c.text-text.result.now c.text-text.ensures in
     let same : c.text-text.result.now ≡ holds.text = sym text ∙ hold-text texts slot holds in
-    let told : word ≡ c.text-text.result.now =
-    key-tells word c.text-text.result.now (omega (arith, alike.len_is, holds.len, ap length same))
-    c.if-word-le-TOLD.true c.know_bytes.ensures c.know_bytes-then-word-le-TOLD.ensures
-    (sym c.requires.key ∙ sym alike.key_is ∙ holds.key ∙ ap key_of (sym same)) in
+    let told : word ≡ c.text-text.result.now = key-tells word c.text-text.result.now
+    (omega (arith, alike.len_is, holds.len, ap length same)) c.if-word-le-TOLD.true c.know_bytes.ensures
+    c.know_bytes-then-word-le-TOLD.ensures (sym c.requires.key ∙ sym alike.key_is ∙ holds.key ∙ ap key_of (sym same)) in
     sym (ap (λ b. b && bytes_eq word (slot_text texts slot)) alike.used
     ∙ (bytes_decides word (slot_text texts slot)).1 (told ∙ sym text))
 

@@ -9,13 +9,12 @@ index_mut-requires c =
     let slots = c.args.slots.now.items in
     let i = c.in-Some.i in
     let free = c.in-Some.ensures in
-    let window : c.window_of-window.result.now ≡ window_of key slots =
-    c.window_of-window.ensures ∙ ap (window_of key) c.as_slice.ensures.value in
+    let window : c.window_of-window.result.now ≡ window_of key slots = c.window_of-window.ensures
+    ∙ ap (window_of key) c.as_slice.ensures.value in
     let slot = window-slot key slots i free.0 (ap (λ w. slice_get w i) (sym window) ∙ free.1) in
     let count : c.len.result ≡ length slots =
     omega (arith, c.as_slice.ensures.len, ap length c.as_slice.ensures.value) in
-    let home : c.home-home.result ≡ home_of key (length slots) =
-    c.home-home.ensures.is ∙ ap (home_of key) count in
+    let home : c.home-home.result ≡ home_of key (length slots) = c.home-home.ensures.is ∙ ap (home_of key) count in
     let below : home_of key (length slots) + i < length slots =
     slice_get_within slots (home_of key (length slots) + i) free.0 slot.there in
     omega (arith, home, below, c.as_slice.ensures.len, ap length c.as_slice.ensures.value)
@@ -26,13 +25,12 @@ returns c =
     let slots = c.args.slots.now.items in
     let i = c.in-Some.i in
     let free = c.in-Some.ensures in
-    let window : c.window_of-window.result.now ≡ window_of key slots =
-    c.window_of-window.ensures ∙ ap (window_of key) c.as_slice.ensures.value in
+    let window : c.window_of-window.result.now ≡ window_of key slots = c.window_of-window.ensures
+    ∙ ap (window_of key) c.as_slice.ensures.value in
     let slot = window-slot key slots i free.0 (ap (λ w. slice_get w i) (sym window) ∙ free.1) in
     let count : c.len.result ≡ length slots =
     omega (arith, c.as_slice.ensures.len, ap length c.as_slice.ensures.value) in
-    let home : c.home-home.result ≡ home_of key (length slots) =
-    c.home-home.ensures.is ∙ ap (home_of key) count in
+    let home : c.home-home.result ≡ home_of key (length slots) = c.home-home.ensures.is ∙ ap (home_of key) count in
     record {
       place = c.home-home.result + i;
       was = free.0;
