@@ -1,6 +1,6 @@
 -- Fronts of what is left that were printed one after another.
 use Rattle.cweb_out.proofs.Common.{◌≡◌, ◌++◌, ◌∙◌, [], refl, sym, ap, subst, append_assoc, ℕ, List, ◌&&◌, list_all, list_all-append, Token, Setting, print, leaves, Printer, AreLent, is_lent, Adds, setting_of, PrintsFront}
-use Rattle.cweb_out.proofs.Passing.{passed_none}
+use Rattle.cweb_print.proofs.Passing.{passed_none}
 
 pub front_none : (p : Printer) (ts : List Token) (old : List ℕ) → PrintsFront p p ts ts old old
 front_none p ts old =

@@ -1,6 +1,5 @@
 -- What of a list was looked at: the uses that were passed over, up to the next name without a rank.
-use Rattle.cweb_out.proofs.Common.{◌≡◌, ◌<◌, Bool, true, false, ◌&&◌, List, [], ◌∷◌, ◌++◌, refl, sym, ◌∙◌, ap, append-nil, append_assoc, Some, None, list_all, NameId, Token, Stored, names, uses, use_of, PassesNoUse, has_rank, suffix, Frame, Unseen, Waits, Ranked, Waiting, Fits, Looked, Meets, Passes, is_marked, is_ranked_mark, mark_of}
-use Rattle.cweb_out.specs.declared.planning.search.Mark.{Mark}
+use Rattle.cweb_out.proofs.Common.{◌≡◌, ◌<◌, Bool, true, false, ◌&&◌, List, [], ◌∷◌, ◌++◌, refl, sym, ◌∙◌, ap, append-nil, append_assoc, Some, None, list_all, NameId, Token, Stored, names, uses, use_of, PassesNoUse, has_rank, suffix, Frame, Mark, Unseen, Waits, Ranked, Waiting, Fits, Looked, Meets, Passes, is_marked, is_ranked_mark, mark_of}
 use Rattle.cweb_out.proofs.FirstUses.{same-uses}
 use Rattle.cweb_out.proofs.Ranks.{all-append, and-first, and-second}
 

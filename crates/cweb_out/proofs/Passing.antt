@@ -1,24 +1,9 @@
--- Tokens that lend their texts: no frame is put on top for them, and printing them one after another.
-use Rattle.cweb_out.proofs.Common.{◌≡◌, ◌++◌, ◌∙◌, [], ◌∷◌, refl, sym, subst, ap, append_assoc, append-nil, ℕ, List, Bool, true, false, ◌&&◌, Some, flat_map, is_some, list_all, NameId, Token, Word, Number, Literal, Verbatim, Punct, Blank, Newline, Join, Defs, Name, Head, Tail, Mark, Stored, use_of, uses, put, print, Left, Printer, is_apart, leaves, left_by, AreLent, blank_where, is_lent, lent_text, kept_of, setting_of, Gathers, MovesBy, PrintsBy}
-use Rattle.cweb_out.proofs.Lending.{leaves-lent, print-lent}
+-- Tokens that lend their texts: no frame is put on top for them.
+use Rattle.cweb_out.proofs.Common.{◌≡◌, ◌++◌, ◌∙◌, [], ◌∷◌, refl, sym, subst, ap, append_assoc, append-nil, ℕ, List, Bool, true, false, ◌&&◌, Some, flat_map, is_some, list_all, NameId, Token, Word, Number, Literal, Verbatim, Punct, Blank, Newline, Join, Defs, Name, Head, Tail, Stored, use_of, uses, put, print, Left, Printer, is_apart, leaves, left_by, AreLent, blank_where, is_lent, lent_text, kept_of, setting_of, Gathers, MovesBy, PrintsBy}
+use Rattle.cweb_store.specs.Parts.{Mark}
+use Rattle.cweb_print.proofs.Lending.{leaves-lent, print-lent}
 use Rattle.cweb_out.proofs.Ranks.{and-first}
-use Rattle.cweb_out.proofs.Steps.{leaves-push}
-
--- what is lent in one place is lent where no join is open
-lent-open : (joined : Bool) (t : Token) (text : List ℕ) → lent_text joined t ≡ Some text → is_lent t ≡ true
-lent-open joined (Word b) text h = ap is_some h
-lent-open joined (Number b) text h = refl
-lent-open joined (Literal b) text h = refl
-lent-open joined (Verbatim b) text h = refl
-lent-open joined (Punct b) text h = refl
-lent-open joined Blank text h = refl
-lent-open joined Newline text h = refl
-lent-open joined Join text h = cc
-lent-open joined Defs text h = cc
-lent-open joined (Name r) text h = cc
-lent-open joined (Head n) text h = cc
-lent-open joined (Tail n) text h = cc
-lent-open joined (Mark p) text h = cc
+use Rattle.cweb_print.proofs.Steps.{leaves-push}
 
 put-lent : (w : Stored) (text : NameId → List Token) (t : Token) → is_lent t ≡ true → put w text t ≡ t ∷ []
 put-lent w text (Word b) h = refl
@@ -68,55 +53,3 @@ uses-lent w [] rest h = refl
 uses-lent w (t ∷ ts) rest h =
     ap (λ (ns : List NameId). ns ++ uses w (ts ++ rest)) (use-lent w t (and-first (is_lent t) (list_all is_lent ts) h))
     ∙ uses-lent w ts rest (and-rest (is_lent t) (list_all is_lent ts) h)
-
-lent-push : (ts : List Token) (t : Token) → AreLent ts → is_lent t ≡ true → AreLent (ts ++ t ∷ [])
-lent-push [] t h e = ap (λ b. b && true) e
-lent-push (x ∷ xs) t h e =
-    ap (λ b. b && list_all is_lent (xs ++ t ∷ [])) (and-first (is_lent x) (list_all is_lent xs) h)
-    ∙ lent-push xs t (and-rest (is_lent x) (list_all is_lent xs) h) e
-
--- tokens were printed one after another, and this is kept after them
-pub record Passed (p : Printer) (ts : List Token) (left : Left) (old new : List ℕ) : Type 0 where
-  pub lent : AreLent ts
-  pub moves : MovesBy (kept_of p) ts left
-  pub prints : PrintsBy p ts old new
-
-pub passed_none : (p : Printer) (old : List ℕ) → Passed p [] (kept_of p) old old
-passed_none p old = record {
-  lent = refl;
-  moves = λ done is. ap leaves (append-nil done) ∙ is;
-  prints = λ done is. record {
-    bytes = [];
-    due =
-        ap (print (setting_of p)) (append-nil done) ∙ sym (append-nil (print (setting_of p) done));
-    written = sym (append-nil old);
-  };
-}
-
-pub passed_more : (p : Printer) (ts : List Token) (left after : Left) (t : Token) (old mid new : List ℕ)
-    → Passed p ts left old mid → Gathers left t after mid new → Passed p (ts ++ t ∷ []) after old new
-passed_more p ts left after t old mid new passed g =
-    let s = setting_of p in
-    let more : List ℕ = blank_where (is_apart left.class t) ++ g.text in
-    let is_after : left_by left t ≡ after =
-    leaves-lent left t g.text g.lent ∙ (λ i. record { class = sym g.class i; joined = sym g.closed i }) in
-    record {
-      lent = lent-push ts t passed.lent (lent-open left.joined t g.text g.lent);
-      moves = λ done is. ap leaves (sym (append_assoc done ts (t ∷ []))) ∙ leaves-push (done ++ ts) t
-          ∙ ap (λ (l : Left). left_by l t) (passed.moves done is) ∙ is_after;
-      prints = λ done is.
-          let so_far = passed.prints done is in
-          record {
-            bytes = so_far.bytes ++ more;
-            due = ap (print s) (sym (append_assoc done ts (t ∷ [])))
-                ∙ print-lent s left (done ++ ts) t (is_apart left.class t) g.text (passed.moves done is) refl g.lent
-                ∙ ap (λ (u : List ℕ). u ++ more) so_far.due ∙ append_assoc (print s done) so_far.bytes more;
-            written =
-                g.added ∙ ap (λ (u : List ℕ). u ++ more) so_far.written ∙ append_assoc old so_far.bytes more;
-          };
-    }
-
--- the same where what was put is told in other words
-pub passed_same : (p : Printer) (ts : List Token) (left : Left) (old new new' : List ℕ) → new' ≡ new
-    → Passed p ts left old new → Passed p ts left old new'
-passed_same p ts left old new new' same passed = subst (λ (u : List ℕ). Passed p ts left old u) (sym same) passed

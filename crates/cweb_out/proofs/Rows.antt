@@ -1,7 +1,7 @@
 -- The definitions, computed on small webs.
-use Rattle.cweb_out.proofs.Common.{ℕ, ◌≡◌, refl, List, [], ◌∷◌, ◌++◌, Some, codes, true, false, Err, Full, PartKind, Unnamed, Named, Occurrence, id, Token, Word, Number, Punct, Blank, Newline, Join, Defs, Name, Head, Tail, Mark, Stored, program, ends_below, list_ends, first_endless, name_rank, cycle_from, expand, IsCycle, cycle, planned_ending, Setting, print, file}
+use Rattle.cweb_out.proofs.Common.{ℕ, ◌≡◌, refl, List, [], ◌∷◌, ◌++◌, Some, codes, true, false, Err, Full, PartKind, Unnamed, Named, Occurrence, id, Token, Word, Number, Punct, Blank, Newline, Join, Defs, Name, Head, Tail, Stored, program, ends_below, list_ends, first_endless, name_rank, cycle_from, expand, IsCycle, cycle, planned_ending, Setting, print, file}
 use Rattle.std.specs.Fmt.{digits}
-use Rattle.cweb_store.specs.Parts.{Part}
+use Rattle.cweb_store.specs.Parts.{Part, Mark}
 
 abbrev full : List ℕ → Occurrence
 full text = record { text = text; how = Full; is_file = false }

@@ -1,6 +1,5 @@
 -- The steps of the search, and what it answers of an output.
-use Rattle.cweb_out.proofs.Common.{◌≡◌, ◌<◌, suc, Bool, true, false, not, List, [], ◌∷◌, ◌++◌, refl, sym, ◌∙◌, ap, arith, length, subst, Option, Some, None, Result, Ok, Err, IfOk, option_map, find, sum_by, list_all, list_any, set, NameId, is_id, Token, Stored, defs_first, root_list, has_defs_code, names, program, joined, uses, has_rank, cycle_from, IsWithin, suffix, Frame, Waits, Ranked, Waiting, Begins, Chain, Fits, Goes, IsEndless, Settles, SettlesList, Waited, Looked, Meets, is_marked, mark_of, marks_left, path_of}
-use Rattle.cweb_out.specs.declared.planning.search.Mark.{Mark}
+use Rattle.cweb_out.proofs.Common.{◌≡◌, ◌<◌, suc, Bool, true, false, not, List, [], ◌∷◌, ◌++◌, refl, sym, ◌∙◌, ap, arith, length, subst, Option, Some, None, Result, Ok, Err, IfOk, option_map, find, sum_by, list_all, list_any, set, NameId, is_id, Token, Stored, defs_first, root_list, has_defs_code, names, program, joined, uses, has_rank, cycle_from, IsWithin, suffix, Frame, Mark, Waits, Ranked, Waiting, Begins, Chain, Fits, Goes, IsEndless, Settles, SettlesList, Waited, Looked, Meets, is_marked, mark_of, marks_left, path_of}
 use Rattle.cweb_out.proofs.Ranks.{rank-grows, rank_by_uses}
 use Rattle.cweb_out.proofs.Circles.{looked-endless}
 use Rattle.cweb_out.proofs.Lookings.{looked-all, looked-more}

@@ -1,6 +1,5 @@
 -- The marks of names, as they begin to wait and get their rank.
-use Rattle.cweb_out.proofs.Common.{◌≡◌, ◌≢◌, ◌<◌, true, false, ◌||◌, List, [], ◌∷◌, ◌++◌, sym, ◌∙◌, ap, arith, length, inl, inr, subst, sum_by, list_any, set, eqb_tells, get_or-set_same, get_or-set_other, length-set, get_or_past, sum_by-set, NameId, is_id, Stored, names, joined, has_rank, IsWithin, suffix, Unseen, Waits, Ranked, Waiting, AreNew, Fits, Waited, mark_of, marks_left, path_of}
-use Rattle.cweb_out.specs.declared.planning.search.Mark.{Mark}
+use Rattle.cweb_out.proofs.Common.{◌≡◌, ◌≢◌, ◌<◌, true, false, ◌||◌, List, [], ◌∷◌, ◌++◌, sym, ◌∙◌, ap, arith, length, inl, inr, subst, sum_by, list_any, set, eqb_tells, get_or-set_same, get_or-set_other, length-set, get_or_past, sum_by-set, NameId, is_id, Stored, names, joined, has_rank, IsWithin, suffix, Mark, Unseen, Waits, Ranked, Waiting, AreNew, Fits, Waited, mark_of, marks_left, path_of}
 use Rattle.cweb_out.proofs.Ranks.{either, on-front, on-last, or-left, or-right}
 use Rattle.cweb_out.proofs.Lookings.{looked-start}
 use Rattle.cweb_out.proofs.Paths.{new-pop, new-push, not-true, on-pushed, path-push, same-id, split-or, within-pop, within-push}

@@ -1,6 +1,5 @@
 -- The walk along a path that comes back to itself is its cycle.
-use Rattle.cweb_out.proofs.Common.{◌≡◌, ◌≤◌, ◌<◌, ◌+◌, ℕ, zero, suc, Bool, true, false, not, cond, List, [], ◌∷◌, ◌++◌, refl, sym, ◌∙◌, ap, arith, length, inl, inr, append-nil, append_assoc, drop, take, subst, Some, get_or, ◌⊎◌, list_any, position_or_len, length-map, take_more, NameId, is_id, Stored, names, joined, has_rank, first_endless, walk, cycle_from, Waiting, AreNew, Begins, Chain, Fits, IsEndless, Looked, back_to, next_of, path_of, with_next}
-use Rattle.cweb_out.specs.declared.planning.search.Mark.{Mark}
+use Rattle.cweb_out.proofs.Common.{◌≡◌, ◌≤◌, ◌<◌, ◌+◌, ℕ, zero, suc, Bool, true, false, not, cond, List, [], ◌∷◌, ◌++◌, refl, sym, ◌∙◌, ap, arith, length, inl, inr, append-nil, append_assoc, drop, take, subst, Some, get_or, ◌⊎◌, list_any, position_or_len, length-map, take_more, NameId, is_id, Stored, names, joined, has_rank, first_endless, walk, cycle_from, Mark, Waiting, AreNew, Begins, Chain, Fits, IsEndless, Looked, back_to, next_of, path_of, with_next}
 use Rattle.cweb_out.proofs.Ranks.{few, id-same, or-left, or-right}
 use Rattle.cweb_out.proofs.Circles.{chain-endless, looked-endless, next-on, next-some}
 use Rattle.cweb_out.proofs.Paths.{path-push}

@@ -6,18 +6,12 @@ use Rattle.cweb_store.specs.declared.names.NameRef.{NameRef}
 use Rattle.cweb_store.specs.declared.parts.Part.{Part}
 use Rattle.cweb_store.specs.Parts.{Token, Name, all_tokens, tokens_at}
 use Rattle.cweb_store.specs.Calls.{Stored}
+use Rattle.cweb_print.specs.Runs.{run_tokens, runs_tokens}
 use Rattle.cweb_out.specs.Uses.{names, joined, uses, use_of, stands}
 use Rattle.cweb_out.specs.Ranks.{ends_below, list_ends, name_rank}
 use Rattle.cweb_out.specs.Expansion.{expand, name_text, put}
 use Rattle.cweb_out.specs.Outputs.{defs_first, root_list}
 use Rattle.cweb_out.specs.declared.expander.frame.Frame.{Frame}
-
--- the tokens of a run of numbers
-abbrev pub run_tokens : Stored → Part → List Token
-run_tokens w part = slice_range (all_tokens w.parts) part.first part.after
-
-abbrev pub runs_tokens : Stored → List Part → List Token
-runs_tokens w runs = tokens_at (all_tokens w.parts) runs
 
 -- what is still to come of the owner's list
 abbrev pub suffix : Stored → Frame → List Token

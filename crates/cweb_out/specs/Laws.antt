@@ -10,8 +10,8 @@ use Rattle.cweb_out.specs.Uses.{joined, stands, uses}
 use Rattle.cweb_out.specs.Ranks.{ends_below}
 use Rattle.cweb_out.specs.Expansion.{expand}
 use Rattle.cweb_out.specs.Outputs.{cycle, planned}
-use Rattle.cweb_out.specs.Spacing.{last_is}
-use Rattle.cweb_out.specs.Printing.{Setting, file, file_text, kept, left_after, print, print_after, stays_joined}
+use Rattle.cweb_print.specs.Spacing.{last_is}
+use Rattle.cweb_print.specs.Printing.{Setting, file, file_text, kept, left_after, print, print_after, stays_joined}
 
 -- any token but the use of a name
 abbrev pub is_text : Token → Bool

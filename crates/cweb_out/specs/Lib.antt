@@ -3,15 +3,6 @@ pub mod Ranks
 pub mod Expansion
 pub mod Cycles
 pub mod Outputs
-pub mod Spacing
-pub mod Printing
-pub mod Writing
-pub mod Classes
-pub mod Borders
-pub mod Lent
-pub mod Printers
-pub mod Printed
-pub mod Gathering
 pub mod Plans
 pub mod Frames
 pub mod Bins

@@ -1,4 +1,4 @@
-//! The outputs of a web: which files there are, the text of each with all names replaced, and how it is printed.
+//! The outputs of a web: which files there are, the text of each with all names replaced, and where files are kept.
 #![tactic(auto)]
 
 // which outputs there are
@@ -6,12 +6,6 @@ mod planning;
 
 // the tokens of an output, its names replaced
 mod expander;
-
-// how tokens are printed
-mod printer;
-
-// what was printed and is still to be written
-mod gathered;
 
 // where files are kept
 mod bins;
@@ -24,10 +18,9 @@ pub mod laws;
 
 pub use bins::memory::{BinFile, MemoryBins};
 pub use bins::{BinFault, Bins};
+pub use cweb_print::{Gathered, Printer};
 pub use expander::Expander;
 pub use expander::frame::Frame;
-pub use gathered::Gathered;
 pub use planning::fault::PlanFault;
 pub use planning::plan;
 pub use planning::planned::Plan;
-pub use printer::Printer;

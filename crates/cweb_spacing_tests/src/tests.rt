@@ -2,8 +2,8 @@
 ghost use Rattle.std.specs.Prelude.{◌≡◌, true};
 ghost use Rattle.cweb_lines.specs.Names.{names_of};
 ghost use Rattle.cweb_store.specs.Seen.{seen};
-ghost use Rattle.cweb_out.specs.Printers.{IsNamed};
-ghost use Rattle.cweb_out.specs.Printing.{Setting};
+ghost use Rattle.cweb_print.specs.Printers.{IsNamed};
+ghost use Rattle.cweb_print.specs.Printing.{Setting};
 
 use cweb_files::{MemoryShelf, MemorySink, Sink};
 use cweb_lines::{FileNames, Merger};

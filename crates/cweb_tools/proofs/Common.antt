@@ -55,19 +55,19 @@ pub use Rattle.cweb_log.specs.Words.{WebNames, asked_by}
 pub use Rattle.cweb_log.specs.declared.shown.Shown.{Shown}
 pub use Rattle.cweb_out.specs.Expansion.{expand, name_text, put, text_for}
 pub use Rattle.cweb_out.specs.Frames.{left}
-pub use Rattle.cweb_out.specs.Gathering.{PrintsFront}
+pub use Rattle.cweb_print.specs.Gathering.{PrintsFront}
 pub use Rattle.cweb_out.specs.Outputs.{defs_first, root_list, IsPlanOf, Planned, name_of, output_at, root_at, Refusal}
 pub use Rattle.cweb_out.specs.Outputs.{bad_name, same_name, cycle, Output}
 pub use Rattle.cweb_out.specs.Planning.{IsDue}
-pub use Rattle.cweb_out.specs.Printed.{Adds, Moves, Prints, kept_of, setting_of}
-pub use Rattle.cweb_out.specs.Printers.{IsNamed, setting}
-pub use Rattle.cweb_out.specs.Printing.{Setting, file, print, print_after, file_text, word_text, kept}
-pub use Rattle.cweb_out.specs.Spacing.{sep, are_apart, is_operator, last_is}
+pub use Rattle.cweb_print.specs.Printed.{Adds, Moves, Prints, kept_of, setting_of}
+pub use Rattle.cweb_print.specs.Printers.{IsNamed, setting}
+pub use Rattle.cweb_print.specs.Printing.{Setting, file, print, print_after, file_text, word_text, kept}
+pub use Rattle.cweb_print.specs.Spacing.{sep, are_apart, is_operator, last_is}
 pub use Rattle.cweb_out.specs.Uses.{joined, names, program, stands}
 pub use Rattle.cweb_out.specs.declared.expander.Expander.{Expander}
 pub use Rattle.cweb_out.specs.declared.planning.fault.PlanFault.{PlanFault}
 pub use Rattle.cweb_out.specs.declared.planning.fault.PlanFault.TheVariants.{Cycle, SameName, BadName}
-pub use Rattle.cweb_out.specs.declared.printer.Printer.{Printer}
+pub use Rattle.cweb_print.specs.declared.printer.Printer.{Printer}
 pub use Rattle.cweb_rules.specs.Bytes.{first_is, is_one_of, is_digit, is_letter, is_word_byte, is_white}
 pub use Rattle.cweb_rules.specs.Follows.{is_quiet, after_word, after_number, joins_last, JoinsAll, begins_as}
 pub use Rattle.cweb_rules.specs.Items.{text_in}

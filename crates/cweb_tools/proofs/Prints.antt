@@ -1,7 +1,7 @@
 -- Tokens of an expander that are printed, one after another.
 use Rattle.cweb_tools.proofs.Common.{◌≡◌, ℕ, List, [], ◌∷◌, ◌++◌, length, sym, ◌∙◌, ap, subst, append_assoc, append-nil, All-head, Bor, All, IsTrue, OnOk, Result, Ok, Err, Stored, Token, IsMarkBelow, left, PrintsFront, Adds, Moves, Prints, kept_of, setting_of, IsNamed, setting, Setting, file, print, Expander, Printer, PrintsSoFar, StaysReady, left_in}
 use Rattle.cweb_files.specs.declared.device.Sink.{Ghosts as Sink}
-use Rattle.cweb_out.specs.Printed.{Ends}
+use Rattle.cweb_print.specs.Printed.{Ends}
 use Rattle.cweb_tools.proofs.Marks.{all_back, mark_named}
 use Rattle.cweb_tools.proofs.Readies.{stays_on}
 

@@ -2,7 +2,7 @@
 use Rattle.cweb_tools.proofs.Common.{◌≡◌, ℕ, Bool, true, false, ◌&&◌, ◌||◌, ◌==◌, not, List, [], ◌∷◌, refl, ap, sym, ◌∙◌, codes, nat_le, Token, Word, Number, Literal, Verbatim, Punct, Blank, Newline, Join, Defs, Name, Head, Tail, Mark, is_one_of, is_digit, is_letter, is_word_byte, first_is, after_word, after_number, joins_last, goes_on, is_operator, last_is, are_apart}
 use Rattle.cweb_rules.proofs.Joins.{and_false, neither}
 use Rattle.cweb_rules.proofs.Stays.{begins_number, and_true}
-use Rattle.cweb_out.specs.Spacing as print
+use Rattle.cweb_print.specs.Spacing as print
 use Rattle.cweb_tools.proofs.SpacingStarts.{joins, Starts, none_of}
 
 -- THE SEAM

@@ -6,14 +6,14 @@ use Rattle.cweb_lines.specs.Names.{names_of}
 use Rattle.cweb_lines.specs.declared.files.FileNames.{FileNames}
 use Rattle.cweb_store.specs.Parts.{Token, all_tokens}
 use Rattle.cweb_scan.specs.Scan.{IsMarkBelow}
-use Rattle.cweb_out.specs.Classes.{leaves}
+use Rattle.cweb_print.specs.Classes.{leaves}
 use Rattle.cweb_out.specs.Frames.{Stands, left}
 use Rattle.cweb_out.specs.Outputs.{IsPlanOf, Output, name_of, output_at}
-use Rattle.cweb_out.specs.Printed.{kept_of, setting_of}
-use Rattle.cweb_out.specs.Printers.{setting}
-use Rattle.cweb_out.specs.Printing.{print}
+use Rattle.cweb_print.specs.Printed.{kept_of, setting_of}
+use Rattle.cweb_print.specs.Printers.{setting}
+use Rattle.cweb_print.specs.Printing.{print}
 use Rattle.cweb_out.specs.declared.expander.Expander.{Expander}
-use Rattle.cweb_out.specs.declared.printer.Printer.{Printer}
+use Rattle.cweb_print.specs.declared.printer.Printer.{Printer}
 use Rattle.cweb_tools.specs.Acts.{Ending, ending}
 use Rattle.cweb_tools.specs.Tangle.{output_file}
 use Rattle.cweb_tools.specs.declared.outputs.Failed.{Failed}

@@ -7,7 +7,7 @@ use Rattle.cweb_scan.specs.After.{Reading}
 use Rattle.cweb_scan.specs.Directives.{is_punct}
 use Rattle.cweb_scan.specs.Run.{run}
 use Rattle.cweb_scan.specs.Alone.{ReadsAlone, InPlainC, HasRead, doubled, solid, is_hash}
-use Rattle.cweb_out.specs.Printing.{Setting, print}
+use Rattle.cweb_print.specs.Printing.{Setting, print}
 
 abbrev pub is_ascii : List ℕ → Bool
 is_ascii bytes = list_all (λ b. not (nat_le 128 b)) bytes

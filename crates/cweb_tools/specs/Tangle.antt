@@ -11,8 +11,8 @@ use Rattle.cweb_scan.specs.Run.{Scanned, scanned}
 use Rattle.cweb_out.specs.Expansion.{expand}
 use Rattle.cweb_out.specs.Outputs as out
 use Rattle.cweb_out.specs.Outputs.{Output, Planned, Refusal, root_list}
-use Rattle.cweb_out.specs.Printers.{setting}
-use Rattle.cweb_out.specs.Printing.{file}
+use Rattle.cweb_print.specs.Printers.{setting}
+use Rattle.cweb_print.specs.Printing.{file}
 use Rattle.cweb_out.specs.Uses.{names}
 use Rattle.cweb_log.specs.Items.{Item, fault_count, source_item, stopped}
 use Rattle.cweb_log.specs.Options.{Asked, shown_by_default}

@@ -3,8 +3,8 @@ ghost use Rattle.std.specs.Prelude.{◌≡◌, ◌<◌, length, vec_capacity, tr
 ghost use Rattle.cweb_lines.specs.Names.{names_of};
 ghost use Rattle.cweb_store.specs.Seen.{seen};
 ghost use Rattle.cweb_out.specs.Frames.{Stands};
-ghost use Rattle.cweb_out.specs.Printers.{IsNamed};
-ghost use Rattle.cweb_out.specs.Printing.{Setting};
+ghost use Rattle.cweb_print.specs.Printers.{IsNamed};
+ghost use Rattle.cweb_print.specs.Printing.{Setting};
 
 use anyhow::{Result, bail, ensure};
 use cweb_files::{MemoryShelf, MemorySink, Sink};

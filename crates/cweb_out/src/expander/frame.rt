@@ -4,7 +4,8 @@ ghost use Rattle.std.specs.List.{list_any};
 ghost use Rattle.cweb_store.specs.Next.{is_name};
 ghost use Rattle.cweb_store.specs.Parts.{Name, all_tokens};
 ghost use Rattle.cweb_store.specs.Seen.{seen};
-ghost use Rattle.cweb_out.specs.Frames.{IsRun, IsWithin, run_tokens, suffix};
+ghost use Rattle.cweb_out.specs.Frames.{IsRun, IsWithin, suffix};
+ghost use Rattle.cweb_print.specs.Runs.{run_tokens};
 ghost use Rattle.cweb_out.specs.Outputs.{root_list};
 ghost use Rattle.cweb_out.specs.Uses.{PassesNoUse};
 

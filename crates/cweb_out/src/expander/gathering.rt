@@ -2,13 +2,12 @@
 ghost use Rattle.std.specs.Prelude.{◌≡◌, ◌∷◌, [], None, IfSome, true, vec_capacity, false};
 ghost use Rattle.cweb_store.specs.Parts.{Name};
 ghost use Rattle.cweb_out.specs.Frames.{IsWithin, Stands, left, suffix};
-ghost use Rattle.cweb_out.specs.Gathering.{PrintsFront};
-ghost use Rattle.cweb_out.specs.Printed.{setting_of};
+ghost use Rattle.cweb_print.specs.Gathering.{PrintsFront};
+ghost use Rattle.cweb_print.specs.Printed.{setting_of};
 
 use crate::expander::Expander;
 use crate::expander::frame::Frame;
-use crate::gathered::Gathered;
-use crate::printer::Printer;
+use cweb_print::{Gathered, Printer};
 use cweb_store::{NameRef, Store, Token};
 
 impl<'a> Expander<'a> {

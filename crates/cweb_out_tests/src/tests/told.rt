@@ -4,8 +4,8 @@ ghost use Rattle.cweb_lines.specs.Names.{names_of};
 ghost use Rattle.cweb_store.specs.Seen.{seen};
 ghost use Rattle.cweb_out.specs.Frames.{Stands};
 ghost use Rattle.cweb_out.specs.Outputs.{IsPlanOf};
-ghost use Rattle.cweb_out.specs.Printers.{IsNamed};
-ghost use Rattle.cweb_out.specs.Printing.{Setting};
+ghost use Rattle.cweb_print.specs.Printers.{IsNamed};
+ghost use Rattle.cweb_print.specs.Printing.{Setting};
 
 use super::wanted::holds;
 use cweb_files::{MemorySink, Sink, SinkFault};

@@ -1,6 +1,6 @@
 use Rattle.std.proofs.Common.{rules, ◌∙◌, ap}
-use Rattle.cweb_out.specs.Printed.{setting_of}
-use Rattle.cweb_out.specs.Printing.{Setting}
+use Rattle.cweb_print.specs.Printed.{setting_of}
+use Rattle.cweb_print.specs.Printing.{Setting}
 use Rattle.cweb_out_tests.proofs.tests.gathering.gather_file.Goals as goal
 
 pub gather-requires-in-tokens-clause-named : goal.gather-requires-in-tokens-clause-named

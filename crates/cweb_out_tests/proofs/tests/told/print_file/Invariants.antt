@@ -1,7 +1,7 @@
 use Rattle.std.proofs.Common.{◌≡◌, vec_capacity}
 use Rattle.cweb_lines.specs.Names.{names_of}
 use Rattle.cweb_out.specs.Frames.{Stands}
-use Rattle.cweb_out.specs.Printed.{setting_of}
+use Rattle.cweb_print.specs.Printed.{setting_of}
 use Rattle.cweb_out_tests.proofs.tests.told.print_file.Given as goal
 
 abbrev pub invariant-tokens : goal.invariant-tokens

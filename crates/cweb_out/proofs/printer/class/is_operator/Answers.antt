@@ -1,6 +1,0 @@
-use Rattle.cweb_out.proofs.Common.{◌<◌, arith}
-use Rattle.cweb_out.proofs.OperatorTable.{operator_told}
-use Rattle.cweb_out.proofs.printer.class.is_operator.Goals as goal
-
-pub returns : goal.returns
-returns c = let small : c.args.byte < 256 = omega (arith, c.ranges.byte.fits) in operator_told c.args.byte small

@@ -1,5 +1,0 @@
-use Rattle.cweb_out.proofs.Common.{arith, common_steps}
-use Rattle.cweb_out.proofs.printer.macros.write_macro_token.Goals as goal
-
-pub returns-clause-wrote : goal.returns-clause-wrote
-returns-clause-wrote g c = grind (arith, common_steps)

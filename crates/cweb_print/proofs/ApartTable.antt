@@ -1,0 +1,70 @@
+-- The table of blanks between tokens that lend their texts.
+use Rattle.cweb_print.proofs.Common.{◌≡◌, ◌<◌, ◌+◌, ◌*◌, ◌/◌, ◌%◌, ℕ, Bool, true, false, List, [], ◌∷◌, ◌++◌, replicate, slice_index_or, refl, ◌∙◌, arith, tag_of, the_type, Border, class_behind, stands_apart}
+use Rattle.cweb_files.proofs.ByteTables.{told_by_table}
+use Rattle.cweb_store.specs.declared.tokens.borders.Border.TheVariants as border
+
+-- the answers of all rows, as runs of equal ones
+abbrev pub apart_bits : List Bool
+apart_bits = replicate 3 true ++ replicate 13 false ++ replicate 3 true ++ replicate 7 false ++ replicate 3 true
+    ++ replicate 3 false ++ replicate 2 true ++ replicate 53 false ++ replicate 6 true ++ replicate 4 false
+    ++ replicate 1 true ++ replicate 5 false ++ replicate 6 true ++ replicate 26 false ++ replicate 6 true
+    ++ replicate 4 false ++ replicate 1 true ++ replicate 5 false ++ replicate 6 true ++ replicate 26 false ++ replicate
+    6 true ++ replicate 4 false ++ replicate 1 true ++ replicate 5 false ++ replicate 6 true ++ replicate 51 false
+
+-- borders by number
+abbrev pub border_at : ℕ → Border
+border_at n = slice_index_or (
+    border.Word ∷ border.Number ∷ border.Literal ∷ border.Glue ∷ border.PlainPlain
+    ∷ border.PlainOperator ∷ border.PlainPoint ∷ border.OperatorPlain ∷ border.OperatorOperator
+    ∷ border.OperatorPoint ∷ border.NumericPlain ∷ border.NumericOperator ∷ border.NumericPoint
+    ∷ border.Blank ∷ border.LineEnd ∷ []) n border.Untold
+
+at_number : (b : Border) → border_at (tag_of the_type b) ≡ b
+at_number border.Word = refl
+at_number border.Number = refl
+at_number border.Literal = refl
+at_number border.Glue = refl
+at_number border.PlainPlain = refl
+at_number border.PlainOperator = refl
+at_number border.PlainPoint = refl
+at_number border.OperatorPlain = refl
+at_number border.OperatorOperator = refl
+at_number border.OperatorPoint = refl
+at_number border.NumericPlain = refl
+at_number border.NumericOperator = refl
+at_number border.NumericPoint = refl
+at_number border.Blank = refl
+at_number border.LineEnd = refl
+at_number border.Untold = refl
+
+abbrev pub test : ℕ → Bool
+test n = stands_apart (class_behind (border_at (n / 16))) (border_at (n % 16))
+
+small : (b : Border) → tag_of the_type b < 16
+small border.Word = omega arith
+small border.Number = omega arith
+small border.Literal = omega arith
+small border.Glue = omega arith
+small border.PlainPlain = omega arith
+small border.PlainOperator = omega arith
+small border.PlainPoint = omega arith
+small border.OperatorPlain = omega arith
+small border.OperatorOperator = omega arith
+small border.OperatorPoint = omega arith
+small border.NumericPlain = omega arith
+small border.NumericOperator = omega arith
+small border.NumericPoint = omega arith
+small border.Blank = omega arith
+small border.LineEnd = omega arith
+small border.Untold = omega arith
+
+pub apart_told : (l r : Border) → slice_index_or apart_bits (16 * tag_of the_type l + tag_of the_type r) false
+    ≡ stands_apart (class_behind l) r
+apart_told l r =
+    let a = tag_of the_type l in
+    let b = tag_of the_type r in
+    let row : (16 * a + b) / 16 ≡ a = omega (arith, small r) in
+    let place : (16 * a + b) % 16 ≡ b = omega (arith, small r) in
+    told_by_table test apart_bits refl (16 * a + b) (omega (arith, small l, small r))
+    ∙ (λ i. stands_apart (class_behind (border_at (row i))) (border_at (place i)))
+    ∙ (λ i. stands_apart (class_behind (at_number l i)) (at_number r i))

@@ -1,0 +1,221 @@
+-- Tokens that lend their texts, told by their borders: what they lend, their classes, and the blanks before them.
+use Rattle.cweb_print.proofs.Common.{◌≡◌, ◌==◌, ◌++◌, ◌∙◌, ℕ, Bool, true, false, cond, ◌||◌, ◌&&◌, not, List, [], ◌∷◌, Option, None, Some, refl, ap, sym, option_map, list_any, eqb-true, Token, Word, Number, Literal, Verbatim, Punct, Blank, Newline, Join, Defs, Name, Head, Tail, Mark, Border, Bordered, first_is, is_numeric, last_is, lends, sign_border, sign_by, Class, class_behind, left_behind, stands_apart, class_by, class_is_glue, class_is_literal, class_is_number, class_is_operator, class_is_point, class_is_wordlike, class_of, is_apart, Gathers, blank_where, is_high, lent_text}
+use Rattle.cweb_store.specs.declared.tokens.borders.Border.TheVariants as border
+use Rattle.cweb_store.specs.Borders.{is_operator}
+use Rattle.cweb_print.specs.declared.printer.class.Class.TheVariants as class
+
+-- the border in an answer
+abbrev border_in : Option Bordered → Border
+border_in None = border.Untold
+border_in (Some l) = l.border
+
+text_where : (b : List ℕ) (d : Border) (l : Bordered) (high : Bool)
+    → cond high None (Some (record { text = b; border = d })) ≡ Some l → cond high None (Some b) ≡ Some l.text
+text_where b d l true h = cc
+text_where b d l false h = ap (option_map (λ (m : Bordered). m.text)) h
+
+text_of : (b : List ℕ) (d : Border) (l : Bordered) (high : Bool)
+    → cond high None (Some (record { text = b; border = d })) ≡ Some l → Some b ≡ Some l.text
+text_of b d l true h = cc
+text_of b d l false h = ap (option_map (λ (m : Bordered). m.text)) h
+
+border_of : (b : List ℕ) (d : Border) (l : Bordered) (high : Bool)
+    → cond high None (Some (record { text = b; border = d })) ≡ Some l → l.border ≡ d
+border_of b d l true h = cc
+border_of b d l false h = ap border_in (sym h)
+
+pub text-lent : (t : Token) (l : Bordered) → lends t ≡ Some l → lent_text false t ≡ Some l.text
+text-lent (Word b) l h = text_where b border.Word l (list_any is_high b) h
+text-lent (Number b) l h = ap (option_map (λ (m : Bordered). m.text)) h
+text-lent (Literal b) l h = ap (option_map (λ (m : Bordered). m.text)) h
+text-lent (Verbatim b) l h = ap (option_map (λ (m : Bordered). m.text)) h
+text-lent (Punct b) l h = text_of b (sign_border b) l (list_any is_high b) h
+text-lent Blank l h = ap (option_map (λ (m : Bordered). m.text)) h
+text-lent Newline l h = ap (option_map (λ (m : Bordered). m.text)) h
+text-lent Join l h = cc
+text-lent Defs l h = cc
+text-lent (Name r) l h = cc
+text-lent (Head n) l h = cc
+text-lent (Tail n) l h = cc
+text-lent (Mark p) l h = cc
+
+sign-class : (s o p q : Bool) → class_behind (sign_by s o p q) ≡ class_by p q
+sign-class true o true q = refl
+sign-class true o false true = refl
+sign-class true o false false = refl
+sign-class false true true q = refl
+sign-class false true false true = refl
+sign-class false true false false = refl
+sign-class false false true q = refl
+sign-class false false false true = refl
+sign-class false false false false = refl
+
+pub class-lent : (t : Token) (l : Bordered) → lends t ≡ Some l → class_behind l.border ≡ class_of (Some t)
+class-lent (Word b) l h = ap class_behind (border_of b border.Word l (list_any is_high b) h)
+class-lent (Number b) l h = ap (λ o. class_behind (border_in o)) (sym h)
+class-lent (Literal b) l h = ap (λ o. class_behind (border_in o)) (sym h)
+class-lent (Verbatim b) l h = ap (λ o. class_behind (border_in o)) (sym h)
+class-lent (Punct b) l h = ap class_behind (border_of b (sign_border b) l (list_any is_high b) h)
+    ∙ sign-class (first_is is_numeric b) (first_is is_operator b) (last_is (λ x. x == 46) b) (last_is is_operator b)
+class-lent Blank l h = ap (λ o. class_behind (border_in o)) (sym h)
+class-lent Newline l h = ap (λ o. class_behind (border_in o)) (sym h)
+class-lent Join l h = cc
+class-lent Defs l h = cc
+class-lent (Name r) l h = cc
+class-lent (Head n) l h = cc
+class-lent (Tail n) l h = cc
+class-lent (Mark p) l h = cc
+
+word-apart : (c : Class) (b : List ℕ) → is_apart c (Word b) ≡ stands_apart c border.Word
+word-apart class.LineStart b = refl
+word-apart class.Word b = refl
+word-apart class.Number b = refl
+word-apart class.Literal b = refl
+word-apart class.Point b = refl
+word-apart class.Operator b = refl
+word-apart class.Glue b = refl
+word-apart class.Other b = refl
+
+number-apart : (c : Class) (b : List ℕ) → is_apart c (Number b) ≡ stands_apart c border.Number
+number-apart class.LineStart b = refl
+number-apart class.Word b = refl
+number-apart class.Number b = refl
+number-apart class.Literal b = refl
+number-apart class.Point b = refl
+number-apart class.Operator b = refl
+number-apart class.Glue b = refl
+number-apart class.Other b = refl
+
+literal-apart : (c : Class) (b : List ℕ) → is_apart c (Literal b) ≡ stands_apart c border.Literal
+literal-apart class.LineStart b = refl
+literal-apart class.Word b = refl
+literal-apart class.Number b = refl
+literal-apart class.Literal b = refl
+literal-apart class.Point b = refl
+literal-apart class.Operator b = refl
+literal-apart class.Glue b = refl
+literal-apart class.Other b = refl
+
+glue-apart : (c : Class) (b : List ℕ) → is_apart c (Verbatim b) ≡ stands_apart c border.Glue
+glue-apart class.LineStart b = refl
+glue-apart class.Word b = refl
+glue-apart class.Number b = refl
+glue-apart class.Literal b = refl
+glue-apart class.Point b = refl
+glue-apart class.Operator b = refl
+glue-apart class.Glue b = refl
+glue-apart class.Other b = refl
+
+blank-apart : (c : Class) → is_apart c Blank ≡ stands_apart c border.Blank
+blank-apart class.LineStart = refl
+blank-apart class.Word = refl
+blank-apart class.Number = refl
+blank-apart class.Literal = refl
+blank-apart class.Point = refl
+blank-apart class.Operator = refl
+blank-apart class.Glue = refl
+blank-apart class.Other = refl
+
+line_end-apart : (c : Class) → is_apart c Newline ≡ stands_apart c border.LineEnd
+line_end-apart class.LineStart = refl
+line_end-apart class.Word = refl
+line_end-apart class.Number = refl
+line_end-apart class.Literal = refl
+line_end-apart class.Point = refl
+line_end-apart class.Operator = refl
+line_end-apart class.Glue = refl
+line_end-apart class.Other = refl
+
+-- whether a blank comes before a punctuator, by two tests of its first byte
+abbrev before_sign : Class → Bool → Bool → Bool
+before_sign c s o = (class_is_wordlike c && false && not (class_is_literal c && false))
+    || (class_is_number c && s)
+    || (class_is_point c && false)
+    || (class_is_operator c && (o || false))
+    || (class_is_glue c && false)
+
+abbrev before_border : Class → Bool → Bool → Bool
+before_border c s o = cond s (class_is_number c || class_is_operator c) (cond o (class_is_operator c) false)
+
+sign-first : (c : Class) (s o p q : Bool) → before_border c s o ≡ stands_apart c (sign_by s o p q)
+sign-first c true o true q = refl
+sign-first c true o false true = refl
+sign-first c true o false false = refl
+sign-first c false true true q = refl
+sign-first c false true false true = refl
+sign-first c false true false false = refl
+sign-first c false false true q = refl
+sign-first c false false false true = refl
+sign-first c false false false false = refl
+
+sign-told : (c : Class) (s o : Bool) → (s ≡ true → o ≡ true) → before_sign c s o ≡ before_border c s o
+sign-told c true false h = let no : false ≡ true = h refl in cc
+sign-told class.LineStart true true h = refl
+sign-told class.Word true true h = refl
+sign-told class.Number true true h = refl
+sign-told class.Literal true true h = refl
+sign-told class.Point true true h = refl
+sign-told class.Operator true true h = refl
+sign-told class.Glue true true h = refl
+sign-told class.Other true true h = refl
+sign-told class.LineStart false true h = refl
+sign-told class.Word false true h = refl
+sign-told class.Number false true h = refl
+sign-told class.Literal false true h = refl
+sign-told class.Point false true h = refl
+sign-told class.Operator false true h = refl
+sign-told class.Glue false true h = refl
+sign-told class.Other false true h = refl
+sign-told class.LineStart false false h = refl
+sign-told class.Word false false h = refl
+sign-told class.Number false false h = refl
+sign-told class.Literal false false h = refl
+sign-told class.Point false false h = refl
+sign-told class.Operator false false h = refl
+sign-told class.Glue false false h = refl
+sign-told class.Other false false h = refl
+
+numeric_is : (x : ℕ) (p q r : Bool) → (46 == x) ≡ p → (43 == x) ≡ q → (45 == x) ≡ r → (p || (q || (r || false))) ≡ true
+    → is_operator x ≡ true
+numeric_is x true q r e f g h = ap is_operator (sym (eqb-true 46 x e))
+numeric_is x false true r e f g h = ap is_operator (sym (eqb-true 43 x f))
+numeric_is x false false true e f g h = ap is_operator (sym (eqb-true 45 x g))
+numeric_is x false false false e f g h = cc
+
+-- a byte that could go on in a number is an operator byte
+first-numeric : (b : List ℕ) → first_is is_numeric b ≡ true → first_is is_operator b ≡ true
+first-numeric [] h = h
+first-numeric (x ∷ b) h = numeric_is x (46 == x) (43 == x) (45 == x) refl refl refl h
+
+pub apart-lent : (c : Class) (t : Token) (l : Bordered) → lends t ≡ Some l → is_apart c t ≡ stands_apart c l.border
+apart-lent c (Word b) l h =
+    word-apart c b ∙ ap (stands_apart c) (sym (border_of b border.Word l (list_any is_high b) h))
+apart-lent c (Number b) l h = number-apart c b ∙ ap (λ o. stands_apart c (border_in o)) h
+apart-lent c (Literal b) l h = literal-apart c b ∙ ap (λ o. stands_apart c (border_in o)) h
+apart-lent c (Verbatim b) l h = glue-apart c b ∙ ap (λ o. stands_apart c (border_in o)) h
+apart-lent c (Punct b) l h =
+    let s = first_is is_numeric b in
+    let o = first_is is_operator b in
+    sign-told c s o (first-numeric b)
+    ∙ sign-first c s o (last_is (λ x. x == 46) b) (last_is is_operator b)
+    ∙ ap (stands_apart c) (sym (border_of b (sign_border b) l (list_any is_high b) h))
+apart-lent c Blank l h = blank-apart c ∙ ap (λ o. stands_apart c (border_in o)) h
+apart-lent c Newline l h = line_end-apart c ∙ ap (λ o. stands_apart c (border_in o)) h
+apart-lent c Join l h = cc
+apart-lent c Defs l h = cc
+apart-lent c (Name r) l h = cc
+apart-lent c (Head n) l h = cc
+apart-lent c (Tail n) l h = cc
+apart-lent c (Mark p) l h = cc
+
+-- what a token lends was added behind one with a border
+pub gathers-lent : (last : Border) (t : Token) (l : Bordered) (old new : List ℕ) → lends t ≡ Some l
+    → new ≡ old ++ (blank_where (stands_apart (class_behind last) l.border) ++ l.text)
+    → Gathers (left_behind last) t (left_behind l.border) old new
+gathers-lent last t l old new h e = record {
+  text = l.text;
+  lent = text-lent t l h;
+  class = class-lent t l h;
+  closed = refl;
+  added = e ∙ ap (λ a. old ++ (blank_where a ++ l.text)) (sym (apart-lent (class_behind last) t l h));
+}

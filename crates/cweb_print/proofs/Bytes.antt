@@ -1,0 +1,24 @@
+-- Bytes that are written as they are.
+use Rattle.cweb_print.proofs.Common.{◌≡◌, ℕ, Bool, true, false, ◌||◌, cond, List, [], ◌∷◌, ◌++◌, refl, ◌∙◌, ap, nat_le, list_any, word_text, wants_backslash, quoted}
+
+first_false : (a b : Bool) → (a || b) ≡ false → a ≡ false
+first_false true b h = h
+first_false false b h = refl
+
+rest_false : (a b : Bool) → (a || b) ≡ false → b ≡ false
+rest_false true b h = cc
+rest_false false b h = h
+
+pub ascii_word : (replaced : ℕ → List ℕ) (bytes : List ℕ)
+    → list_any (λ b. nat_le 128 b) bytes ≡ false → word_text replaced bytes ≡ bytes
+ascii_word replaced [] h = refl
+ascii_word replaced (b ∷ bytes) h = ap (λ t. cond t (replaced b) (b ∷ []) ++ word_text replaced bytes)
+    (first_false (nat_le 128 b) (list_any (λ c. nat_le 128 c) bytes) h)
+    ∙ ap (λ (t : List ℕ). b ∷ t)
+    (ascii_word replaced bytes (rest_false (nat_le 128 b) (list_any (λ c. nat_le 128 c) bytes) h))
+
+pub plain_name : (bytes : List ℕ) → list_any wants_backslash bytes ≡ false → quoted bytes ≡ bytes
+plain_name [] h = refl
+plain_name (b ∷ bytes) h = ap (λ t. cond t (92 ∷ b ∷ []) (b ∷ []) ++ quoted bytes)
+    (first_false (wants_backslash b) (list_any wants_backslash bytes) h)
+    ∙ ap (λ (t : List ℕ). b ∷ t) (plain_name bytes (rest_false (wants_backslash b) (list_any wants_backslash bytes) h))

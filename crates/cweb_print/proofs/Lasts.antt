@@ -1,0 +1,15 @@
+-- The last byte of a punctuator.
+use Rattle.cweb_print.proofs.Common.{◌≡◌, ◌==◌, ◌-◌, ℕ, true, List, [], ◌∷◌, Some, ◌∙◌, ap, length, slice_get, eqb-true, is_operator, class_by, punct_class}
+use Rattle.cweb_store.proofs.BorderLemmas.{last_is-at}
+use Rattle.cweb_print.specs.Spacing.{last_is}
+
+pub punct-last : (bs : List ℕ) (x : ℕ) → slice_get bs (length bs - 1) ≡ Some x
+    → punct_class bs ≡ class_by (x == 46) (is_operator x)
+punct-last bs x h = ap (λ b. class_by b (last_is is_operator bs)) (last_is-at (λ x. x == 46) bs x h)
+    ∙ ap (λ b. class_by (x == 46) b) (last_is-at is_operator bs x h)
+
+-- a point is an operator byte
+pub point-operator : (b : List ℕ) → last_is (λ x. x == 46) b ≡ true → last_is is_operator b ≡ true
+point-operator [] h = h
+point-operator (x ∷ []) h = ap is_operator (eqb-true x 46 h)
+point-operator (x ∷ y ∷ b) h = point-operator (y ∷ b) h

@@ -1,0 +1,17 @@
+pub mod Common
+pub mod Fronts
+pub mod Lasts
+pub mod Steps
+pub mod Bytes
+pub mod Overlaps
+pub mod OperatorTable
+pub mod Ranges
+pub mod MacroLines
+pub mod Prints
+pub mod Lending
+pub mod Moving
+pub mod ApartTable
+pub mod Bordered
+pub mod Lenders
+pub mod Continued
+pub mod Passing

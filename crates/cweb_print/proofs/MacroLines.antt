@@ -1,0 +1,115 @@
+-- Macros as runs of token numbers.
+use Rattle.cweb_print.proofs.Common.{◌≡◌, ◌≤◌, ◌<◌, ◌+◌, ◌-◌, ℕ, suc, Bool, true, false, cond, List, [], ◌∷◌, ◌++◌, refl, sym, ◌∙◌, ap, map, take, drop, length, slice_range, arith, get_or, subst, append_assoc, append-nil, codes, ◌&&◌, flat_map, filter, All, slice_get, Some, drop-drop, take_at, drop_at, take_more, get_or-drop, length-drop, take-add, Class, Left, added, all_added, at_start, begin_by, file_by, is_apart, leaves, left_by, separator, PartKind, Token, Defs, all_tokens, is_macro, numbers_from, numbers_where, Stored, Setting, macro_line, macro_lines, macros, replaced_in, run_tokens}
+use Rattle.cweb_print.specs.declared.printer.class.Class.TheVariants as class
+use Rattle.cweb_print.proofs.Steps.{added-append, added-push, leaves-push}
+use Rattle.cweb_print.proofs.Ranges.{slice_get-or, slice_get-lt, slice_range-first}
+use Rattle.cweb_store.specs.declared.parts.Part as declared
+use Rattle.cweb_store.specs.Parts.{Part}
+
+no_blank : (c : Class) → is_apart c Defs ≡ false
+no_blank class.LineStart = refl
+no_blank class.Word = refl
+no_blank class.Number = refl
+no_blank class.Literal = refl
+no_blank class.Point = refl
+no_blank class.Operator = refl
+no_blank class.Glue = refl
+no_blank class.Other = refl
+
+stays : (joined : Bool) → (joined && false) ≡ false
+stays true = refl
+stays false = refl
+
+-- what stands in a file for all macros
+pub defs-added : (s : Setting) (left : Left) → added (file_by s) left Defs ≡ begin_by left.class ++ macro_lines s
+defs-added s left = ap (λ b. cond b [] (separator left.class Defs ++ file_by s left.class Defs)) (stays left.joined)
+    ∙ ap (λ b. cond b (codes " ") [] ++ file_by s left.class Defs) (no_blank left.class)
+    ∙ append-nil (begin_by left.class ++ macro_lines s)
+
+-- the lines of runs
+abbrev pub lines : Stored → List declared.Part → List ℕ
+lines w runs = flat_map (λ run. macro_line (replaced_in w) (run_tokens w run)) runs
+
+abbrev pub all_lines : Stored → List ℕ
+all_lines w = flat_map (macro_line (replaced_in w)) (macros w)
+
+lines_from : (w : Stored) (test : PartKind → Bool) (ps : List Part) (n : ℕ)
+    → drop n (all_tokens w.parts) ≡ all_tokens ps → lines w (numbers_from test n ps)
+    ≡ flat_map (macro_line (replaced_in w)) (map (λ (p : Part). p.tokens) (filter (λ (p : Part). test p.kind) ps))
+lines_from w test [] n h = refl
+lines_from w test (p ∷ ps) n h =
+    let size = length p.tokens in
+    let gap : n + size - n ≡ size = omega arith in
+    let here : slice_range (all_tokens w.parts) n (n + size) ≡ p.tokens =
+    ap (λ k. take k (drop n (all_tokens w.parts))) gap
+    ∙ ap (take size) h
+    ∙ take_at p.tokens (all_tokens ps) size refl in
+    let others : drop (n + size) (all_tokens w.parts) ≡ all_tokens ps = sym (drop-drop size n (all_tokens w.parts))
+    ∙ ap (drop size) h
+    ∙ drop_at p.tokens (all_tokens ps) size refl in
+    let later = lines_from w test ps (n + size) others in
+    elim (test p.kind) as (λ b. lines w (cond b ((record { first = n; after = n + size }) ∷ numbers_from test (n + size)
+    ps) (numbers_from test (n + size) ps)) ≡ flat_map (macro_line (replaced_in w)) (map (λ (q : Part). q.tokens)
+    (cond b (p ∷ filter (λ (q : Part). test q.kind) ps) (filter (λ (q : Part). test q.kind) ps)))) [
+      | true ↦ (λ i. macro_line (replaced_in w) (here i) ++ later i)
+      | false ↦ later
+    ]
+
+pub lines_are : (w : Stored) → lines w (numbers_where is_macro w.parts) ≡ all_lines w
+lines_are w = lines_from w is_macro w.parts 0 refl
+
+-- a run with one token more
+pub range_more : (ts : List Token) (a n : ℕ) (t : Token) → a ≤ n
+    → slice_get ts n ≡ Some t → slice_range ts a (n + 1) ≡ slice_range ts a n ++ t ∷ []
+range_more ts a n t le is =
+    let gap : n + 1 - a ≡ (n - a) + 1 = omega arith in
+    let lt : n < length ts = slice_get-lt ts n t is in
+    let fits : n - a < length (drop a ts) = omega (arith, length-drop a ts) in
+    let at : a + (n - a) ≡ n = omega arith in
+    ap (λ k. take k (drop a ts)) gap ∙ take_more (drop a ts) (n - a) t fits
+    ∙ ap (λ x. take (n - a) (drop a ts) ++ x ∷ [])
+    (get_or-drop a ts (n - a) t ∙ ap (λ k. get_or ts k t) at ∙ sym (slice_get-or ts n t is))
+
+pub All-tail : (P : declared.Part → Type 0) (xs ys : List declared.Part) (x : declared.Part)
+    → xs ≡ x ∷ ys → All P xs → P x × All P ys
+All-tail P xs ys x is all =
+    let both : All P (x ∷ ys) = subst (All P) is all in
+    (both 0 x (omega arith), λ k d l. both (suc k) d (omega arith))
+
+range_split : (ts : List Token) (a n b : ℕ) (t : Token) → a ≤ n → n < b → b ≤ length ts
+    → slice_get ts n ≡ Some t → slice_range ts a b ≡ slice_range ts a n ++ t ∷ slice_range ts (n + 1) b
+range_split ts a n b t le lt within is =
+    let gap : b - a ≡ (n - a) + (b - n) = omega arith in
+    let at : a + (n - a) ≡ n = omega arith in
+    ap (λ k. take k (drop a ts)) gap ∙ take-add (n - a) (b - n) (drop a ts)
+    ∙ ap (λ (us : List Token). take (n - a) (drop a ts) ++ take (b - n) us)
+    (drop-drop (n - a) a ts ∙ ap (λ k. drop k ts) at)
+    ∙ ap (λ (us : List Token). take (n - a) (drop a ts) ++ us)
+    (slice_range-first ts n b t lt within (slice_get-or ts n t is))
+
+-- the tokens of a macro: those that were printed, the next one, and the rest
+pub tokens_at : (by : Class → Token → List ℕ) (ts : List Token) (a n b : ℕ) (t : Token) (left : Left)
+    → a ≤ n → n < b → b ≤ length ts → slice_get ts n ≡ Some t
+    → left ≡ leaves (slice_range ts a n) → all_added by at_start (slice_range ts a b) ≡ all_added
+    by at_start (slice_range ts a n) ++ (added by left t ++ all_added by (left_by left t) (slice_range ts (n + 1) b))
+tokens_at by ts a n b t left le lt within is now = ap (all_added by at_start) (range_split ts a n b t le lt within is)
+    ∙ added-append by at_start (slice_range ts a n) (t ∷ slice_range ts (n + 1) b)
+    ∙ ap (λ (l : Left). all_added by at_start (slice_range ts a n)
+    ++ (added by l t ++ all_added by (left_by l t) (slice_range ts (n + 1) b))) (sym now)
+
+pub tokens_more : (by : Class → Token → List ℕ)
+    (ts : List Token) (a n : ℕ) (t : Token) (left : Left) (old mid new : List ℕ) → a ≤ n → slice_get ts n ≡ Some t
+    → left ≡ leaves (slice_range ts a n) → mid ≡ old ++ all_added by at_start (slice_range ts a n)
+    → new ≡ mid ++ added by left t → new ≡ old ++ all_added by at_start (slice_range ts a (n + 1))
+tokens_more by ts a n t left old mid new le is now before wrote =
+    wrote ∙ ap (λ (u : List ℕ). u ++ added by left t) before
+    ∙ append_assoc old (all_added by at_start (slice_range ts a n)) (added by left t)
+    ∙ ap (λ (l : Left). old ++ (all_added by at_start (slice_range ts a n) ++ added by l t)) now
+    ∙ ap (λ (u : List ℕ). old ++ u)
+    (sym (added-push by (slice_range ts a n) t) ∙ ap (all_added by at_start) (sym (range_more ts a n t le is)))
+
+pub left_more : (ts : List Token) (a n : ℕ) (t : Token) (left next : Left) → a ≤ n → slice_get ts n ≡ Some t
+    → left ≡ leaves (slice_range ts a n) → next ≡ left_by left t → next ≡ leaves (slice_range ts a (n + 1))
+left_more ts a n t left next le is now after =
+    after ∙ ap (λ (l : Left). left_by l t) now ∙ sym (leaves-push (slice_range ts a n) t)
+    ∙ ap leaves (sym (range_more ts a n t le is))

@@ -1,0 +1,194 @@
+-- Printing token by token: what each adds, by what was kept of those before it.
+use Rattle.cweb_print.proofs.Common.{◌≡◌, ℕ, Bool, true, false, ◌&&◌, ◌||◌, not, cond, List, [], ◌∷◌, ◌++◌, refl, sym, ◌∙◌, ap, append_assoc, append-nil, Option, None, Some, codes, nat_eq, fold, Token, Word, Number, Literal, Verbatim, Punct, Blank, Newline, Join, Defs, Name, Head, Tail, Mark, is_operator, is_one_of, is_wordlike, is_literal, is_number, is_comment, begins_with, are_apart, sep, macro_text, printed, Setting, stays_joined, is_layout, kept, print_after, print, file, file_text, last_of, left_after, starts_line, begin_line, macro_lines, mark_line, file_name, Class, Left, class_by, class_of, class_is_line_start, is_apart, separator, left_by, at_start, leaves, added, all_added, begin_by, file_by, macro_by}
+use Rattle.cweb_print.specs.Spacing.{last_is}
+use Rattle.cweb_print.proofs.Lasts.{point-operator}
+
+-- the tests of a punctuator on the left, by its class
+punct_apart : (d o : Bool) (t : Token) → (d ≡ true → o ≡ true) →
+    ((false && is_wordlike t && not (false && is_literal t))
+    || (false && begins_with (is_one_of (codes ".+-")) t)
+    || (d && is_number t)
+    || (o && (begins_with is_operator t || is_comment t))
+    || (false && is_comment t)) ≡ is_apart (class_by d o) t
+punct_apart true true t h = refl
+punct_apart true false t h = cc (h refl)
+punct_apart false true t h = refl
+punct_apart false false t h = refl
+
+apart_by_class : (u t : Token) → are_apart u t ≡ is_apart (class_of (Some u)) t
+apart_by_class (Word b) t = refl
+apart_by_class (Number b) t = refl
+apart_by_class (Literal b) t = refl
+apart_by_class (Verbatim b) t = refl
+apart_by_class (Punct b) t = punct_apart (last_is (λ x. nat_eq x 46) b) (last_is is_operator b) t (point-operator b)
+apart_by_class Blank t = refl
+apart_by_class Newline t = refl
+apart_by_class Join t = refl
+apart_by_class Defs t = refl
+apart_by_class (Name r) t = refl
+apart_by_class (Head n) t = refl
+apart_by_class (Tail n) t = refl
+apart_by_class (Mark p) t = refl
+
+pub sep_by_class : (l : Option Token) (t : Token) → sep l t ≡ separator (class_of l) t
+sep_by_class None t = refl
+sep_by_class (Some u) t = ap (λ b. cond b (codes " ") []) (apart_by_class u t)
+
+class_by_starts : (d o : Bool) → false ≡ class_is_line_start (class_by d o)
+class_by_starts true o = refl
+class_by_starts false true = refl
+class_by_starts false false = refl
+
+starts_by_class : (l : Option Token) → starts_line l ≡ class_is_line_start (class_of l)
+starts_by_class None = refl
+starts_by_class (Some (Word b)) = refl
+starts_by_class (Some (Number b)) = refl
+starts_by_class (Some (Literal b)) = refl
+starts_by_class (Some (Verbatim b)) = refl
+starts_by_class (Some (Punct b)) = class_by_starts (last_is (λ x. nat_eq x 46) b) (last_is is_operator b)
+starts_by_class (Some Blank) = refl
+starts_by_class (Some Newline) = refl
+starts_by_class (Some Join) = refl
+starts_by_class (Some Defs) = refl
+starts_by_class (Some (Name r)) = refl
+starts_by_class (Some (Head n)) = refl
+starts_by_class (Some (Tail n)) = refl
+starts_by_class (Some (Mark p)) = refl
+
+pub begin_by_class : (l : Option Token) → begin_line l ≡ begin_by (class_of l)
+begin_by_class l = ap (λ b. cond b [] (codes "\n")) (starts_by_class l)
+
+-- a text by the token to the left, and the same by its class
+abbrev pub Agrees : (Option Token → Token → List ℕ) → (Class → Token → List ℕ) → Type 0
+Agrees text by = (l : Option Token) (t : Token) → text l t ≡ by (class_of l) t
+
+pub file_agrees : (s : Setting) → Agrees (file_text s) (file_by s)
+file_agrees s l (Word b) = refl
+file_agrees s l (Number b) = refl
+file_agrees s l (Literal b) = refl
+file_agrees s l (Verbatim b) = refl
+file_agrees s l (Punct b) = refl
+file_agrees s l Blank = refl
+file_agrees s l Newline = refl
+file_agrees s l Join = refl
+file_agrees s l Defs = ap (λ (t : List ℕ). t ++ macro_lines s) (begin_by_class l)
+    ∙ sym (append-nil (begin_by (class_of l) ++ macro_lines s))
+file_agrees s l (Name r) = refl
+file_agrees s l (Head n) = refl
+file_agrees s l (Tail n) = refl
+file_agrees s l (Mark p) = ap (λ (t : List ℕ). t ++ mark_line (file_name s p) p.line) (begin_by_class l)
+    ∙ sym (append-nil (begin_by (class_of l) ++ mark_line (file_name s p) p.line))
+
+macro_agrees : (replaced : ℕ → List ℕ) → Agrees (λ left. macro_text replaced) (macro_by replaced)
+macro_agrees replaced l (Word b) = refl
+macro_agrees replaced l (Number b) = refl
+macro_agrees replaced l (Literal b) = refl
+macro_agrees replaced l (Verbatim b) = refl
+macro_agrees replaced l (Punct b) = refl
+macro_agrees replaced l Blank = refl
+macro_agrees replaced l Newline = refl
+macro_agrees replaced l Join = refl
+macro_agrees replaced l Defs = refl
+macro_agrees replaced l (Name r) = refl
+macro_agrees replaced l (Head n) = refl
+macro_agrees replaced l (Tail n) = refl
+macro_agrees replaced l (Mark p) = refl
+
+layout_stays : (joined : Bool) (t : Token) → is_layout t ≡ true → stays_joined joined t ≡ joined
+layout_stays joined Blank h = refl
+layout_stays joined Newline h = refl
+layout_stays joined (Mark p) h = refl
+layout_stays joined Join h = cc
+layout_stays joined Defs h = cc
+layout_stays joined (Word b) h = cc
+layout_stays joined (Number b) h = cc
+layout_stays joined (Literal b) h = cc
+layout_stays joined (Verbatim b) h = cc
+layout_stays joined (Punct b) h = cc
+layout_stays joined (Name n) h = cc
+layout_stays joined (Head n) h = refl
+layout_stays joined (Tail n) h = refl
+
+dropped_layout : (a b : Bool) → (a && b) ≡ true → b ≡ true
+dropped_layout true b h = h
+dropped_layout false b h = cc
+
+-- THE STEP: what is printed of a list after a token is what its tokens add, by what was kept
+pub printed_by : (text : Option Token → Token → List ℕ) (by : Class → Token → List ℕ)
+    → Agrees text by → (l : Option Token) (joined : Bool) (ts : List Token)
+    → print_after text l (kept joined ts) ≡ all_added by (record { class = class_of l; joined = joined }) ts
+printed_by text by agrees l joined [] = refl
+printed_by text by agrees l joined (t ∷ ts) =
+    cases (λ m j. printed_by text by agrees m j ts) (joined && is_layout t) refl
+  where
+    cases : ((m : Option Token) (j : Bool) → print_after text m (kept j ts) ≡ all_added by
+        (record { class = class_of m; joined = j }) ts) → (b : Bool) → (joined && is_layout t) ≡ b → print_after text l
+        (cond b (kept (stays_joined joined t) ts) (t ∷ kept (stays_joined joined t) ts)) ≡ cond b [] (separator
+        (class_of l) t ++ by (class_of l) t) ++ all_added by (cond b (record { class = class_of l; joined = joined })
+        (record { class = class_of (Some t); joined = stays_joined joined t })) ts
+    cases later true e =
+        ap (λ j. print_after text l (kept j ts)) (layout_stays joined t (dropped_layout joined (is_layout t) e))
+        ∙ later l joined
+    cases later false e = (λ i. (sep_by_class l t i ++ agrees l t i) ++ later (Some t) (stays_joined joined t) i)
+
+-- the same of what is kept
+pub kept_by : (l : Option Token) (joined : Bool) (ts : List Token)
+    → class_of (last_of l (kept joined ts)) ≡ (fold left_by (record { class = class_of l; joined = joined }) ts).class
+kept_by l joined [] = refl
+kept_by l joined (t ∷ ts) = cases (λ m j. kept_by m j ts) (joined && is_layout t) refl
+  where
+    cases : ((m : Option Token) (j : Bool) → class_of (last_of m (kept j ts))
+        ≡ (fold left_by (record { class = class_of m; joined = j }) ts).class) → (b : Bool) → (joined && is_layout t)
+        ≡ b → class_of (last_of l (cond b (kept (stays_joined joined t) ts) (t ∷ kept (stays_joined joined t) ts)))
+        ≡ (fold left_by (cond b (record { class = class_of l; joined = joined })
+        (record { class = class_of (Some t); joined = stays_joined joined t })) ts).class
+    cases later true e =
+        ap (λ j. class_of (last_of l (kept j ts))) (layout_stays joined t (dropped_layout joined (is_layout t) e))
+        ∙ later l joined
+    cases later false e = later (Some t) (stays_joined joined t)
+
+pub added-append : (by : Class → Token → List ℕ) (left : Left) (xs ys : List Token)
+    → all_added by left (xs ++ ys) ≡ all_added by left xs ++ all_added by (fold left_by left xs) ys
+added-append by left [] ys = refl
+added-append by left (x ∷ xs) ys = ap (λ (t : List ℕ). added by left x ++ t) (added-append by (left_by left x) xs ys)
+    ∙ sym (append_assoc (added by left x)
+    (all_added by (left_by left x) xs) (all_added by (fold left_by (left_by left x) xs) ys))
+
+fold-append : (left : Left) (xs ys : List Token) → fold left_by left (xs ++ ys) ≡ fold left_by (fold left_by left xs) ys
+fold-append left [] ys = refl
+fold-append left (x ∷ xs) ys = fold-append (left_by left x) xs ys
+
+-- one list is printed, and then another by what is kept of the first
+pub print-append : (s : Setting) (xs ys : List Token)
+    → print s (xs ++ ys) ≡ print s xs ++ all_added (file_by s) (leaves xs) ys
+print-append s xs ys = printed_by (file_text s) (file_by s) (file_agrees s) None false (xs ++ ys)
+    ∙ added-append (file_by s) at_start xs ys
+    ∙ ap (λ (t : List ℕ). t ++ all_added (file_by s) (leaves xs) ys)
+    (sym (printed_by (file_text s) (file_by s) (file_agrees s) None false xs))
+
+pub leaves-push : (ts : List Token) (t : Token) → leaves (ts ++ t ∷ []) ≡ left_by (leaves ts) t
+leaves-push ts t = fold-append at_start ts (t ∷ [])
+
+-- one more token
+pub print-push : (s : Setting) (left : Left) (ts : List Token) (t : Token)
+    → leaves ts ≡ left → print s (ts ++ t ∷ []) ≡ print s ts ++ added (file_by s) left t
+print-push s left ts t is =
+    print-append s ts (t ∷ []) ∙ ap (λ (u : List ℕ). print s ts ++ u) (append-nil (added (file_by s) (leaves ts) t))
+    ∙ ap (λ l. print s ts ++ added (file_by s) l t) is
+
+-- the end of a file
+pub file-end : (s : Setting) (left : Left) (ts : List Token)
+    → leaves ts ≡ left → file s ts ≡ print s ts ++ begin_by left.class
+file-end s left ts is = ap (λ (t : List ℕ). print s ts ++ t)
+    (begin_by_class (left_after ts) ∙ ap begin_by (kept_by None false ts) ∙ ap (λ (l : Left). begin_by l.class) is)
+
+-- the tokens of a macro
+pub macro-printed : (replaced : ℕ → List ℕ) (ts : List Token)
+    → printed (λ left. macro_text replaced) ts ≡ all_added (macro_by replaced) at_start ts
+macro-printed replaced ts =
+    printed_by (λ left. macro_text replaced) (macro_by replaced) (macro_agrees replaced) None false ts
+
+pub added-push : (by : Class → Token → List ℕ) (ts : List Token) (t : Token)
+    → all_added by at_start (ts ++ t ∷ []) ≡ all_added by at_start ts ++ added by (leaves ts) t
+added-push by ts t = added-append by at_start ts (t ∷ [])
+    ∙ ap (λ (u : List ℕ). all_added by at_start ts ++ u) (append-nil (added by (leaves ts) t))

@@ -1,0 +1,26 @@
+use Rattle.cweb_print.proofs.Common.{◌++◌, ◌∷◌, [], seen, print, added, file_by, kept_of, setting_of}
+use Rattle.cweb_print.proofs.Fronts.{wrote_err}
+use Rattle.cweb_print.proofs.Prints.{adds_by}
+use Rattle.cweb_print.proofs.Steps.{print-push}
+use Rattle.cweb_print.proofs.printer.Printer.print_other.Goals as goal
+
+pub returns-in_err-write_token-clause-prints : goal.returns-in_err-write_token-clause-prints
+returns-in_err-write_token-clause-prints g c = λ tells ts is.
+    let s = setting_of c.args.self.now in
+    let left = kept_of c.args.self.now in
+    let t = seen c.args.token.now in
+    adds_by (print s ts) (print s (ts ++ t ∷ [])) (g.W.Sink.written c.args.out.now)
+    (g.W.Sink.written c.write_token.new.out) (added (file_by s) left t) c.from_residual.result (print-push s left ts t
+    is) (wrote_err (g.W.Sink.written c.args.out.now) (g.W.Sink.written c.write_token.new.out) (added (file_by s) left t)
+    c.from_residual.result c.from_residual.ensures.0 (c.in_err-write_token.ensures.wrote tells))
+
+pub returns-clause-prints : goal.returns-clause-prints
+returns-clause-prints g c = λ tells ts is.
+    let s = setting_of c.args.self.now in
+    let left = kept_of c.args.self.now in
+    let t = seen c.args.token.now in
+    record {
+      bytes = added (file_by s) left t;
+      due = print-push s left ts t is;
+      written = c.in_ok-write_token.ensures.wrote tells;
+    }

@@ -1,0 +1,21 @@
+use Rattle.cweb_print.proofs.Common.{rules, ◌≡◌, ◌++◌, ◌∙◌, ap, sym, List, ℕ, codes, decimal, mark_line, quoted}
+use Rattle.cweb_print.proofs.Fronts.{wrote_same}
+use Rattle.cweb_print.proofs.Bytes.{plain_name}
+use Rattle.cweb_print.proofs.printer.mark.write_mark.Goals as goal
+
+-- the text in its six pieces
+in_six : (begin name digits : List ℕ) (line : ℕ) → digits ≡ decimal line → quoted name ≡ name →
+    begin ++ (codes "#line " ++ (digits ++ (codes " \"" ++ (name ++ codes "\"\n")))) ≡ begin ++ mark_line name line
+in_six begin name digits line is plain =
+    ap (λ (d : List ℕ). begin ++ (codes "#line " ++ (d ++ (codes " \"" ++ (name ++ codes "\"\n"))))) is
+    ∙ ap (λ (n : List ℕ). begin ++ (codes "#line " ++ (decimal line ++ (codes " \"" ++ (n ++ codes "\"\n")))))
+    (sym plain)
+
+pub returns-clause-wrote : goal.returns-clause-wrote
+returns-clause-wrote g c = λ tells.
+    let text = c.args.begin.now
+    ++ (codes "#line " ++ (c.as_bytes.result.now ++ (codes " \"" ++ (c.args.name.now ++ codes "\"\n")))) in
+    let same = in_six c.args.begin.now c.args.name.now c.as_bytes.result.now c.args.line
+    (c.as_bytes.ensures.value ∙ c.format.ensures.text) (plain_name c.args.name.now (search rules)) in
+    wrote_same (g.W.Sink.written c.args.out.now) (g.W.Sink.written c.write_pieces.new.out) text (c.args.begin.now ++
+    mark_line c.args.name.now c.args.line) c.write_pieces.result same (c.write_pieces.ensures.wrote tells)

@@ -1,0 +1,10 @@
+pub mod Runs
+pub mod Spacing
+pub mod Printing
+pub mod Writing
+pub mod Classes
+pub mod Borders
+pub mod Lent
+pub mod Printers
+pub mod Printed
+pub mod Gathering

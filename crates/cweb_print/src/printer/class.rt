@@ -1,0 +1,138 @@
+// Classes of tokens: what decides whether a blank comes between two of them.
+ghost use Rattle.std.specs.Prelude.{◌≡◌, ◌==◌, Some};
+ghost use Rattle.cweb_store.specs.Seen.{seen};
+ghost use Rattle.cweb_print.specs.Spacing.{is_operator, is_one_of, first_is};
+ghost use Rattle.cweb_print.specs.Classes.{class_by, class_of, is_apart, punct_class};
+ghost use Rattle.std.specs.Prelude.{codes};
+
+use cweb_store::Token;
+
+/// What a printer keeps of the token to the left.
+#[derive(Clone, Copy)]
+pub(crate) enum Class {
+    /// Nothing, or a token that ends a line.
+    LineStart,
+    Word,
+    Number,
+    Literal,
+    /// A punctuator that ends in a point.
+    Point,
+    /// A punctuator that ends in another operator byte.
+    Operator,
+    /// A join or a verbatim text.
+    Glue,
+    Other,
+}
+
+impl Class {
+    /// The class of a token.
+    #[inline(always)]
+    pub fn of(token: &Token<'_>) -> Class
+        ensures { result ≡ class_of (Some (seen token.now)) }
+    {
+        match token {
+            Token::Word(_) => Class::Word,
+            Token::Number(_) => Class::Number,
+            Token::Literal(_) => Class::Literal,
+            Token::Verbatim(_) | Token::Join => Class::Glue,
+            Token::Punct(bytes) => of_punctuator(bytes),
+            Token::Newline | Token::Mark(_) | Token::Defs => Class::LineStart,
+            _ => Class::Other,
+        }
+    }
+
+    /// Whether a blank comes between a token of this class and the one that follows it.
+    #[inline(always)]
+    pub fn is_apart(self, token: &Token<'_>) -> bool
+        ensures { result ≡ is_apart self (seen token.now) }
+    {
+        match token {
+            Token::Word(_) => matches!(self, Class::Word | Class::Number | Class::Literal),
+            Token::Number(_) => matches!(
+                self,
+                Class::Word | Class::Number | Class::Literal | Class::Point
+            ),
+            Token::Literal(_) => matches!(self, Class::Word | Class::Number),
+            Token::Punct(bytes) => match self {
+                Class::Number => goes_on_in_number(bytes),
+                Class::Point | Class::Operator => begins_with_operator(bytes),
+                _ => false,
+            },
+            Token::Head(_) | Token::Tail(_) => {
+                matches!(self, Class::Point | Class::Operator | Class::Glue)
+            }
+            _ => false,
+        }
+    }
+}
+
+// The class of a punctuator, by its last byte.
+fn of_punctuator(bytes: &[u8]) -> Class
+    ensures { result ≡ punct_class bytes.now }
+{
+    match bytes.last() {
+        None => Class::Other,
+        Some(last) => of_last(*last),
+    }
+}
+
+fn of_last(last: u8) -> Class
+    ensures { result ≡ class_by (last == 46) (is_operator last) }
+{
+    if last == b'.' {
+        Class::Point
+    } else if is_operator(last) {
+        Class::Operator
+    } else {
+        Class::Other
+    }
+}
+
+// Which bytes may join with one another to a longer operator: one look a byte.
+const OPERATOR_BYTES: [bool; 256] = [
+    false, false, false, false, false, false, false, false, false, false, false, false, false,
+    false, false, false, false, false, false, false, false, false, false, false, false, false,
+    false, false, false, false, false, false, false, true, false, true, false, true, true, false,
+    false, false, true, true, false, true, true, true, false, false, false, false, false, false,
+    false, false, false, false, true, false, true, true, true, true, false, false, false, false,
+    false, false, false, false, false, false, false, false, false, false, false, false, false,
+    false, false, false, false, false, false, false, false, false, false, false, false, false,
+    true, false, false, false, false, false, false, false, false, false, false, false, false,
+    false, false, false, false, false, false, false, false, false, false, false, false, false,
+    false, false, false, false, true, false, false, false, false, false, false, false, false,
+    false, false, false, false, false, false, false, false, false, false, false, false, false,
+    false, false, false, false, false, false, false, false, false, false, false, false, false,
+    false, false, false, false, false, false, false, false, false, false, false, false, false,
+    false, false, false, false, false, false, false, false, false, false, false, false, false,
+    false, false, false, false, false, false, false, false, false, false, false, false, false,
+    false, false, false, false, false, false, false, false, false, false, false, false, false,
+    false, false, false, false, false, false, false, false, false, false, false, false, false,
+    false, false, false, false, false, false, false, false, false, false, false, false, false,
+    false, false, false, false, false, false, false, false, false, false, false, false, false,
+    false, false, false, false, false, false,
+];
+
+fn is_operator(byte: u8) -> bool
+    ensures { result ≡ is_operator byte }
+{
+    OPERATOR_BYTES[byte as usize]
+}
+
+fn begins_with_operator(bytes: &[u8]) -> bool
+    ensures { result ≡ first_is is_operator bytes.now }
+{
+    match bytes {
+        [] => false,
+        [first, ..] => is_operator(*first),
+    }
+}
+
+// What could go on in a number that stands before it.
+fn goes_on_in_number(bytes: &[u8]) -> bool
+    ensures { result ≡ first_is (is_one_of (codes ".+-")) bytes.now }
+{
+    match bytes {
+        [] => false,
+        [first, ..] => matches!(*first, b'.' | b'+' | b'-'),
+    }
+}

@@ -1,0 +1,78 @@
+// What a printer keeps of the tokens that it has printed.
+ghost use Rattle.std.specs.Prelude.{◌≡◌, ◌&&◌};
+ghost use Rattle.cweb_store.specs.Seen.{seen};
+ghost use Rattle.cweb_print.specs.Printing.{is_layout, stays_joined};
+ghost use Rattle.cweb_print.specs.Classes.{at_start, is_dropped, left_by, separator};
+
+use crate::printer::class::Class;
+use cweb_store::Token;
+
+/// The class of the last token that was printed, and whether only layout and section comments stand between the last join
+/// and what comes next.
+#[derive(Clone, Copy)]
+pub(crate) struct Left {
+    pub class: Class,
+    pub joined: bool,
+}
+
+impl Left {
+    /// No token was printed.
+    pub fn start() -> Left
+        ensures { result ≡ at_start }
+    {
+        Left {
+            class: Class::LineStart,
+            joined: false,
+        }
+    }
+
+    /// Layout after a join is not printed.
+    pub fn drops(self, token: &Token<'_>) -> bool
+        ensures { result ≡ is_dropped self (seen token.now) }
+    {
+        self.joined && is_layout(token)
+    }
+
+    /// What is printed before a token.
+    pub fn separator(self, token: &Token<'_>) -> &'static [u8]
+        ensures { result.now ≡ separator self.class (seen token.now) }
+    {
+        if self.class.is_apart(token) {
+            b" "
+        } else {
+            b""
+        }
+    }
+
+    /// What is kept after a token.
+    pub fn after(self, token: &Token<'_>) -> Left
+        ensures { result ≡ left_by self (seen token.now) }
+    {
+        if self.drops(token) {
+            return self;
+        }
+        Left {
+            class: Class::of(token),
+            joined: stays_joined(self.joined, token),
+        }
+    }
+}
+
+fn is_layout(token: &Token<'_>) -> bool
+    ensures { result ≡ is_layout (seen token.now) }
+{
+    match token {
+        Token::Blank | Token::Newline | Token::Mark(_) => true,
+        _ => false,
+    }
+}
+
+fn stays_joined(joined: bool, token: &Token<'_>) -> bool
+    ensures { result ≡ stays_joined joined (seen token.now) }
+{
+    match token {
+        Token::Join => true,
+        Token::Blank | Token::Newline | Token::Mark(_) | Token::Head(_) | Token::Tail(_) => joined,
+        _ => false,
+    }
+}

@@ -1,0 +1,105 @@
+// Macro lines.
+ghost use Rattle.std.specs.Prelude.{◌≡◌, ◌≤◌, ◌<◌, ◌+◌, ◌^◌, ◌++◌, IsTrue, length, slice_range};
+ghost use Rattle.cweb_files.specs.Device.{Counts};
+ghost use Rattle.cweb_store.specs.Seen.{seen};
+ghost use Rattle.cweb_store.specs.Parts.{all_tokens};
+ghost use Rattle.cweb_print.specs.Printing.{macro_line};
+ghost use Rattle.cweb_print.specs.Classes.{added, all_added, at_start, continued_text, macro_by};
+ghost use Rattle.cweb_print.specs.Printers.{macros, replaced_in};
+ghost use Rattle.cweb_print.specs.Runs.{run_tokens};
+ghost use Rattle.cweb_print.specs.Writing.{Wrote};
+ghost use Rattle.std.specs.Prelude.{flat_map};
+
+use crate::printer::left::Left;
+use crate::printer::pieces::write_piece;
+use crate::printer::text::write_plain;
+use cweb_files::{Sink, SinkFault};
+use cweb_store::{Part, Store, Token};
+
+/// Writes the lines of all macros, in their order.
+#[inline(never)]
+pub(crate) fn write_macros<W: Sink>(store: &Store, out: &mut W) -> Result<(), SinkFault>
+    requires { W.failed out.old + 1 < 2 ^ 64 }
+    ensures tells { W.tells out.new ≡ W.tells out.old }
+    ensures failed { Counts (W.failed out.old) (W.failed out.new) result }
+    ensures beside { IsTrue (W.tells out.old) → W.beside out.new ≡ W.beside out.old }
+    ensures wrote { IsTrue (W.tells out.old)
+        → Wrote (W.written out.old) (W.written out.new)
+        (flat_map (macro_line (replaced_in store.now)) (macros store.now)) result }
+{
+    let mut parts = store.macros();
+    'macros: while let Some(part) = parts.next() {
+        write_macro(store, part, out)?;
+    }
+    Ok(())
+}
+
+/// Writes the line of a macro.
+pub(crate) fn write_macro<W: Sink>(store: &Store, part: Part, out: &mut W) -> Result<(), SinkFault>
+    requires count { W.failed out.old + 1 < 2 ^ 64 }
+    requires ordered { part.first ≤ part.after }
+    requires within { part.after ≤ length (all_tokens store.now.parts) }
+    ensures tells { W.tells out.new ≡ W.tells out.old }
+    ensures failed { Counts (W.failed out.old) (W.failed out.new) result }
+    ensures beside { IsTrue (W.tells out.old) → W.beside out.new ≡ W.beside out.old }
+    ensures wrote { IsTrue (W.tells out.old)
+        → Wrote (W.written out.old) (W.written out.new)
+        (macro_line (replaced_in store.now) (run_tokens store.now part)) result }
+{
+    write_piece(out, b"#define ")?;
+    write_macro_tokens(store, part, out)?;
+    write_piece(out, b"\n")
+}
+
+fn write_macro_tokens<W: Sink>(store: &Store, part: Part, out: &mut W) -> Result<(), SinkFault>
+    requires count { W.failed out.old + 1 < 2 ^ 64 }
+    requires ordered { part.first ≤ part.after }
+    requires within { part.after ≤ length (all_tokens store.now.parts) }
+    ensures tells { W.tells out.new ≡ W.tells out.old }
+    ensures failed { Counts (W.failed out.old) (W.failed out.new) result }
+    ensures beside { IsTrue (W.tells out.old) → W.beside out.new ≡ W.beside out.old }
+    ensures wrote { IsTrue (W.tells out.old)
+        → Wrote (W.written out.old) (W.written out.new)
+        (all_added (macro_by (replaced_in store.now)) at_start (run_tokens store.now part))
+        result }
+{
+    let mut left = Left::start();
+    'tokens: for number in part.first..part.after {
+        let token = store.token(number);
+        write_macro_token(store, left, &token, out)?;
+        left = left.after(&token);
+    }
+    Ok(())
+}
+
+fn write_macro_token<W: Sink>(
+    store: &Store,
+    left: Left,
+    token: &Token<'_>,
+    out: &mut W,
+) -> Result<(), SinkFault>
+    requires { W.failed out.old + 1 < 2 ^ 64 }
+    ensures tells { W.tells out.new ≡ W.tells out.old }
+    ensures failed { Counts (W.failed out.old) (W.failed out.new) result }
+    ensures beside { IsTrue (W.tells out.old) → W.beside out.new ≡ W.beside out.old }
+    ensures wrote { IsTrue (W.tells out.old)
+        → Wrote (W.written out.old) (W.written out.new)
+        (added (macro_by (replaced_in store.now)) left (seen token.now)) result }
+{
+    if left.drops(token) {
+        return Ok(());
+    }
+    write_piece(out, left.separator(token))?;
+    write_piece(out, continued(token))?;
+    write_plain(store, token, out)
+}
+
+// In a macro a line goes on after a backslash.
+fn continued(token: &Token<'_>) -> &'static [u8]
+    ensures { result.now ≡ continued_text (seen token.now) }
+{
+    match token {
+        Token::Newline => b" \\",
+        _ => b"",
+    }
+}

@@ -1,0 +1,109 @@
+// Line marks.
+ghost use Rattle.std.specs.Prelude.{◌≡◌, ◌<◌, ◌+◌, ◌^◌, ◌++◌, IsTrue};
+ghost use Rattle.std.specs.List.{list_any};
+ghost use Rattle.cweb_files.specs.Device.{Counts};
+ghost use Rattle.cweb_print.specs.Printing.{mark_line, quoted, quoted_byte, wants_backslash};
+ghost use Rattle.cweb_print.specs.Writing.{Wrote};
+
+use crate::printer::pieces::{write_piece, write_pieces};
+use cweb_files::{Sink, SinkFault};
+use itoa::Buffer;
+
+/// Writes what begins the line, and the mark of a line of a file.
+#[inline(never)]
+pub(crate) fn write_mark<W: Sink>(
+    begin: &[u8],
+    name: &[u8],
+    line: u32,
+    out: &mut W,
+) -> Result<(), SinkFault>
+    requires { W.failed out.old + 1 < 2 ^ 64 }
+    ensures tells { W.tells out.new ≡ W.tells out.old }
+    ensures failed { Counts (W.failed out.old) (W.failed out.new) result }
+    ensures beside { IsTrue (W.tells out.old) → W.beside out.new ≡ W.beside out.old }
+    ensures wrote { IsTrue (W.tells out.old)
+        → Wrote (W.written out.old) (W.written out.new)
+        (begin.now ++ mark_line name.now line) result }
+{
+    if has_quotable(name) {
+        return write_quoted_mark(begin, name, line, out);
+    }
+    let mut digits = Buffer::new();
+    write_pieces(
+        out,
+        &[
+            begin,
+            b"#line ",
+            digits.format(line).as_bytes(),
+            b" \"",
+            name,
+            b"\"\n",
+        ],
+    )
+}
+
+// The same for a name with a quote or a backslash, which few files have.
+#[inline(never)]
+fn write_quoted_mark<W: Sink>(
+    begin: &[u8],
+    name: &[u8],
+    line: u32,
+    out: &mut W,
+) -> Result<(), SinkFault>
+    requires { W.failed out.old + 1 < 2 ^ 64 }
+    ensures tells { W.tells out.new ≡ W.tells out.old }
+    ensures failed { Counts (W.failed out.old) (W.failed out.new) result }
+    ensures beside { IsTrue (W.tells out.old) → W.beside out.new ≡ W.beside out.old }
+    ensures wrote { IsTrue (W.tells out.old)
+        → Wrote (W.written out.old) (W.written out.new)
+        (begin.now ++ mark_line name.now line) result }
+{
+    let mut digits = Buffer::new();
+    write_pieces(
+        out,
+        &[begin, b"#line ", digits.format(line).as_bytes(), b" \""],
+    )?;
+    write_quoted(name, out)?;
+    write_piece(out, b"\"\n")
+}
+
+fn write_quoted<W: Sink>(name: &[u8], out: &mut W) -> Result<(), SinkFault>
+    requires { W.failed out.old + 1 < 2 ^ 64 }
+    ensures tells { W.tells out.new ≡ W.tells out.old }
+    ensures failed { Counts (W.failed out.old) (W.failed out.new) result }
+    ensures beside { IsTrue (W.tells out.old) → W.beside out.new ≡ W.beside out.old }
+    ensures wrote { IsTrue (W.tells out.old)
+        → Wrote (W.written out.old) (W.written out.new) (quoted name.now) result }
+{
+    'bytes: for byte in name {
+        write_quoted_byte(*byte, out)?;
+    }
+    Ok(())
+}
+
+fn write_quoted_byte<W: Sink>(byte: u8, out: &mut W) -> Result<(), SinkFault>
+    requires { W.failed out.old + 1 < 2 ^ 64 }
+    ensures tells { W.tells out.new ≡ W.tells out.old }
+    ensures failed { Counts (W.failed out.old) (W.failed out.new) result }
+    ensures beside { IsTrue (W.tells out.old) → W.beside out.new ≡ W.beside out.old }
+    ensures wrote { IsTrue (W.tells out.old)
+        → Wrote (W.written out.old) (W.written out.new) (quoted_byte byte) result }
+{
+    if wants_backslash(byte) {
+        write_piece(out, &[b'\\', byte])
+    } else {
+        write_piece(out, &[byte])
+    }
+}
+
+pub(crate) fn has_quotable(name: &[u8]) -> bool
+    ensures { result ≡ list_any wants_backslash name.now }
+{
+    name.iter().any(|byte| wants_backslash(*byte))
+}
+
+fn wants_backslash(byte: u8) -> bool
+    ensures { result ≡ wants_backslash byte }
+{
+    matches!(byte, b'"' | b'\\')
+}
