@@ -1,7 +1,7 @@
 -- The table of blanks between tokens that lend their texts.
 use Rattle.cweb_print.proofs.Common.{◌≡◌, ◌<◌, ◌+◌, ◌*◌, ◌/◌, ◌%◌, ℕ, Bool, true, false, List, [], ◌∷◌, ◌++◌, replicate, slice_index_or, refl, ◌∙◌, arith, tag_of, the_type, Border, class_behind, stands_apart}
 use Rattle.cweb_files.proofs.ByteTables.{told_by_table}
-use Rattle.cweb_store.specs.declared.tokens.borders.Border.TheVariants as border
+use Rattle.cweb_texts.specs.declared.borders.Border.TheVariants as border
 
 -- the answers of all rows, as runs of equal ones
 abbrev pub apart_bits : List Bool

@@ -1,7 +1,7 @@
 -- Tokens that lend their texts, told by their borders: what they lend, their classes, and the blanks before them.
 use Rattle.cweb_print.proofs.Common.{◌≡◌, ◌==◌, ◌++◌, ◌∙◌, ℕ, Bool, true, false, cond, ◌||◌, ◌&&◌, not, List, [], ◌∷◌, Option, None, Some, refl, ap, sym, option_map, list_any, eqb-true, Token, Word, Number, Literal, Verbatim, Punct, Blank, Newline, Join, Defs, Name, Head, Tail, Mark, Border, Bordered, first_is, is_numeric, last_is, lends, sign_border, sign_by, Class, class_behind, left_behind, stands_apart, class_by, class_is_glue, class_is_literal, class_is_number, class_is_operator, class_is_point, class_is_wordlike, class_of, is_apart, Gathers, blank_where, is_high, lent_text}
-use Rattle.cweb_store.specs.declared.tokens.borders.Border.TheVariants as border
-use Rattle.cweb_store.specs.Borders.{is_operator}
+use Rattle.cweb_texts.specs.declared.borders.Border.TheVariants as border
+use Rattle.cweb_texts.specs.Borders.{is_operator}
 use Rattle.cweb_print.specs.declared.printer.class.Class.TheVariants as class
 
 -- the border in an answer

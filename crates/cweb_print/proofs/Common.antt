@@ -36,8 +36,9 @@ pub use Rattle.cweb_print.specs.declared.gathered.TheConstants.{ROOM}
 pub use Rattle.cweb_print.specs.declared.printer.Printer.{Printer}
 pub use Rattle.cweb_print.specs.declared.printer.class.Class.{Class}
 pub use Rattle.cweb_print.specs.declared.printer.left.Left.{Left}
-pub use Rattle.cweb_store.specs.Borders.{Bordered, first_is, is_numeric, last_is, lends, sign_border, sign_by}
-pub use Rattle.cweb_store.specs.Borders.{lent_seen}
+pub use Rattle.cweb_store.specs.Lends.{lends}
+pub use Rattle.cweb_texts.specs.Borders.{Bordered, first_is, is_numeric, last_is, sign_border, sign_by}
+pub use Rattle.cweb_texts.specs.Borders.{lent_seen}
 pub use Rattle.cweb_store.specs.Calls.{Stored}
 pub use Rattle.cweb_store.specs.Parts.{Token, Word, Number, Literal, Verbatim, Punct, Blank, Newline, Join, Defs, Name}
 pub use Rattle.cweb_store.specs.Parts.{Head, Tail, Mark, all_tokens, is_macro, numbers_from, numbers_where}
@@ -46,4 +47,4 @@ pub use Rattle.cweb_store.specs.contracts.tokens.borders.Border.{the_type}
 pub use Rattle.cweb_store.specs.declared.names.NameId.{NameId}
 pub use Rattle.cweb_store.specs.declared.parts.Part.{Part}
 pub use Rattle.cweb_store.specs.declared.parts.PartKind.{PartKind}
-pub use Rattle.cweb_store.specs.declared.tokens.borders.Border.{Border}
+pub use Rattle.cweb_texts.specs.declared.borders.Border.{Border}

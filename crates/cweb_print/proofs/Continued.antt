@@ -1,7 +1,7 @@
 -- Tokens of a macro that lend their texts: what they add, and what is kept after them.
 use Rattle.cweb_print.proofs.Common.{◌≡◌, ◌==◌, ◌++◌, ◌∙◌, ℕ, Bool, true, false, cond, List, [], Option, None, Some, codes, ap, append_assoc, refl, sym, list_any, IfSome, Token, Word, Number, Literal, Verbatim, Punct, Blank, Newline, Join, Defs, Name, Head, Tail, Mark, Border, Bordered, first_is, is_numeric, last_is, lends, sign_border, sign_by, class_behind, continued_by, is_line_end, left_behind, stands_apart, added, continued_text, left_by, macro_by, blank_where, is_high, plain_text, word_text}
-use Rattle.cweb_store.specs.declared.tokens.borders.Border.TheVariants as border
-use Rattle.cweb_store.specs.Borders.{is_operator}
+use Rattle.cweb_texts.specs.declared.borders.Border.TheVariants as border
+use Rattle.cweb_texts.specs.Borders.{is_operator}
 use Rattle.cweb_print.proofs.Bordered.{apart-lent, class-lent, text-lent}
 use Rattle.cweb_print.proofs.Bytes.{ascii_word}
 use Rattle.cweb_print.proofs.Lending.{leaves-lent}

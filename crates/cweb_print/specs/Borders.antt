@@ -1,8 +1,8 @@
 -- Whether a blank comes between two tokens that lend their texts, told by their borders.
 use Rattle.std.specs.Prelude.{ℕ, List, Bool, true, false, ◌||◌, ◌&&◌, not, codes, if◌then◌else◌}
-use Rattle.cweb_store.specs.Borders.{Bordered}
-use Rattle.cweb_store.specs.declared.tokens.borders.Border.{Border}
-use Rattle.cweb_store.specs.declared.tokens.borders.Border.TheVariants as border
+use Rattle.cweb_texts.specs.Borders.{Bordered}
+use Rattle.cweb_texts.specs.declared.borders.Border.{Border}
+use Rattle.cweb_texts.specs.declared.borders.Border.TheVariants as border
 use Rattle.cweb_print.specs.Classes.{class_is_literal, class_is_number, class_is_operator, class_is_point, class_is_wordlike}
 use Rattle.cweb_print.specs.declared.printer.class.Class.{Class}
 use Rattle.cweb_print.specs.declared.printer.class.Class.TheVariants as class

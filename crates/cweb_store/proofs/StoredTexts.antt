@@ -1,5 +1,5 @@
 -- The texts of a store: what bytes are replaced by, and how many bytes all texts have.
-use Rattle.cweb_store.proofs.Common.{◌≡◌, ℕ, zero, suc, ◌+◌, ◌≤◌, ◌<◌, Bool, true, false, List, [], ◌∷◌, ◌++◌, Option, Some, None, map, length, take, drop, refl, sym, ◌∙◌, ap, subst, arith, flat_map, slice_get, option_map, option_and_then, nat_eq, if◌then◌else◌, GivenAs, Run, Name, Token, all_tokens, replaced_by, replacement, IsWhole, closed_in, Stored, token_texts, token_bytes_kept, occurrence_text, replacement_text, texts_of, bytes_given, bytes_kept, total, AllStandIn, AreInOneList, TokensAndTexts, occurrences_at, replacements_at, last_from, stored_in}
+use Rattle.cweb_store.proofs.Common.{◌≡◌, ℕ, zero, suc, ◌+◌, ◌≤◌, ◌<◌, Bool, true, false, List, [], ◌∷◌, ◌++◌, Option, Some, None, map, length, take, drop, refl, sym, ◌∙◌, ap, subst, arith, flat_map, slice_get, option_map, option_and_then, nat_eq, if◌then◌else◌, GivenAs, Run, Name, Token, all_tokens, replaced_by, replacement, IsWhole, closed_in, Stored, total, token_texts, token_bytes_kept, occurrence_text, replacement_text, texts_of, bytes_given, bytes_kept, AllStandIn, AreInOneList, TokensAndTexts, occurrences_at, replacements_at, last_from, stored_in}
 use Rattle.cweb_store.proofs.WordLemmas.{kept-few}
 use Rattle.cweb_store.proofs.TextLemmas.{all-drop, all-both}
 use Rattle.cweb_store.proofs.RunLemmas.{whole-tokens}

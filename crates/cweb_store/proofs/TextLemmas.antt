@@ -1,9 +1,10 @@
 -- Texts in one list of bytes, and how many bytes tokens and texts have.
-use Rattle.cweb_store.proofs.Common.{◌≡◌, ℕ, zero, suc, ◌+◌, ◌<◌, ◌≤◌, Bool, true, false, List, [], ◌∷◌, ◌++◌, map, length, take, drop, refl, sym, ◌∙◌, ap, arith, length-append, append_assoc, flat_map, filter, bytes_eq, if◌then◌else◌, list_any, take-append-drop, drop-append-le, take-append-le, take-map, filter-append, Token, Packed, Number, Literal, Verbatim, Join, Defs, Head, Tail, text_bytes, TextsAndWords, has, text_at, token_in, IsWithin, ArePacked, Packs, token_texts, has_text, total, words_of, other_bytes, token_bytes_kept, StandsIn, AllStandIn, AreInOneList, tokens_and_texts, AreTokens, AreClosed}
+use Rattle.cweb_store.proofs.Common.{◌≡◌, ℕ, zero, suc, ◌+◌, ◌<◌, ◌≤◌, Bool, true, false, List, [], ◌∷◌, ◌++◌, map, length, take, drop, refl, sym, ◌∙◌, ap, arith, length-append, append_assoc, flat_map, filter, bytes_eq, if◌then◌else◌, list_any, take-append-drop, drop-append-le, take-append-le, take-map, filter-append, Token, Packed, Number, Literal, Verbatim, Join, Defs, Head, Tail, text_bytes, TextsAndWords, has, text_at, token_in, IsWithin, ArePacked, Packs, total, token_texts, has_text, words_of, other_bytes, token_bytes_kept, StandsIn, AllStandIn, AreInOneList, tokens_and_texts, AreTokens, AreClosed}
 use Rattle.cweb_store.specs.declared.tokens.packed.Packed.TheVariants.{Word, Punct, Blank, Newline, Name, Mark}
 use Rattle.cweb_store.specs.ClosedTokens.{with_text}
 use Rattle.cweb_store.proofs.PackedLemmas.{packs-tokens, packs-all, packed-take, packed-grow, tokens-grow}
-use Rattle.cweb_store.proofs.WordLemmas.{total-append, words-push, same-words, same-bytes, same-more, same-more-bytes}
+use Rattle.cweb_texts.proofs.WordLemmas.{total-append}
+use Rattle.cweb_store.proofs.WordLemmas.{words-push, same-words, same-bytes, same-more, same-more-bytes}
 
 stands-after : (x bytes text : List ℕ) → StandsIn bytes text → StandsIn (x ++ bytes) text
 stands-after x bytes text s = (x ++ s.0, s.1, ap (λ b. x ++ b) s.2 ∙ sym (append_assoc x s.0 (text ++ s.1)))

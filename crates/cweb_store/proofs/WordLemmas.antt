@@ -1,27 +1,8 @@
 -- Words and punctuators that are kept once, and how many bytes of tokens are kept.
-use Rattle.cweb_store.proofs.Common.{◌≡◌, ℕ, ◌+◌, ◌≤◌, true, false, cond, ◌||◌, List, [], ◌∷◌, ◌++◌, length, refl, sym, ◌∙◌, ap, arith, bytes_eq, filter, fold, if◌then◌else◌, list_any, bytes_decides, fold-append, list_any-append, Token, Word, Punct, Blank, Newline, Mark, has_text, token_bytes, total, with_word, with_word_of, words_of, other_bytes, token_bytes_kept}
+use Rattle.cweb_store.proofs.Common.{◌≡◌, ℕ, ◌+◌, ◌≤◌, true, false, cond, ◌||◌, List, [], ◌∷◌, ◌++◌, length, refl, sym, ◌∙◌, ap, arith, bytes_eq, filter, fold, if◌then◌else◌, list_any, bytes_decides, fold-append, list_any-append, Token, Word, Punct, Blank, Newline, Mark, total, with_word, has_text, token_bytes, with_word_of, words_of, other_bytes, token_bytes_kept}
 use Rattle.cweb_store.specs.Parts.{Number, Literal, Verbatim, Join, Defs, Name, Head, Tail}
-use Rattle.cweb_store.proofs.ListLemmas.{or-swap}
-
-pub total-append : {A : Type 0} (f : A → ℕ) (xs ys : List A) → total f (xs ++ ys) ≡ total f xs + total f ys
-total-append f [] ys = omega arith
-total-append f (x ∷ xs) ys = omega (arith, total-append f xs ys)
-
--- a word is among words with one more where it is among them or is that one
-pub with-word-any : (q : List ℕ) (ws : List (List ℕ)) (w : List ℕ)
-    → list_any (bytes_eq q) (with_word ws w) ≡ (list_any (bytes_eq q) ws || bytes_eq q w)
-with-word-any q ws w = (elim (list_any (bytes_eq w) ws) as (λ b. list_any (bytes_eq w) ws ≡ b →
-    list_any (bytes_eq q) (if b then ws else ws ++ w ∷ []) ≡ (list_any (bytes_eq q) ws || bytes_eq q w)) [
-      | true ↦ λ h. (elim (bytes_eq q w) as (λ b. bytes_eq q w ≡ b →
-          list_any (bytes_eq q) ws ≡ (list_any (bytes_eq q) ws || b)) [
-            | true ↦ λ e.
-                ap (λ v. list_any (bytes_eq v) ws) ((bytes_decides q w).0 e) ∙ h
-                ∙ sym (or-swap (list_any (bytes_eq q) ws) true)
-            | false ↦ λ e. sym (or-swap (list_any (bytes_eq q) ws) false)
-          ]) refl
-      | false ↦ λ h. list_any-append (bytes_eq q) ws (w ∷ [])
-          ∙ ap (λ b. list_any (bytes_eq q) ws || b) (or-swap (bytes_eq q w) false)
-    ]) refl
+use Rattle.cweb_texts.proofs.ListLemmas.{or-swap}
+use Rattle.cweb_texts.proofs.WordLemmas.{total-append, with-word-any}
 
 -- where words are the same in some order, one more token makes the same of them
 pub same-more : (ws vs : List (List ℕ)) (t : Token)

@@ -4,9 +4,9 @@ use Rattle.std.specs.List.{list_any}
 use Rattle.cweb_store.specs.Parts.{Token}
 use Rattle.cweb_store.specs.declared.tokens.packed.Packed.{Packed}
 use Rattle.cweb_store.specs.Packed.{token_in, ArePacked}
-use Rattle.cweb_store.specs.PackedTexts.{text_bytes}
+use Rattle.cweb_texts.specs.PackedTexts.{text_bytes}
 use Rattle.cweb_store.specs.Texts.{has_text, token_bytes_kept, words_of}
-use Rattle.cweb_store.specs.Words.{TextsAndWords, has}
+use Rattle.cweb_texts.specs.Words.{TextsAndWords, has}
 
 pub record TokensAndTexts : Type 0 where
   pub tokens : List Token

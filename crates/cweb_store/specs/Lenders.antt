@@ -1,6 +1,7 @@
 -- What tokens lend, by their records and by texts.
 use Rattle.std.specs.Prelude.{List, ℕ, Option, [], map}
-use Rattle.cweb_store.specs.Borders.{Bordered, lends}
+use Rattle.cweb_store.specs.Lends.{lends}
+use Rattle.cweb_texts.specs.Borders.{Bordered}
 use Rattle.cweb_store.specs.Packed.{ArePacked, token_in}
 use Rattle.cweb_store.specs.Records.{packed_in}
 use Rattle.cweb_store.specs.declared.tokens.records.Record.{Record}

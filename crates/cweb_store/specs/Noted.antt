@@ -5,7 +5,7 @@ use Rattle.cweb_store.specs.declared.tokens.packed.Packed.{Packed}
 use Rattle.cweb_store.specs.Parts.{Token, Name, Defs, is_defs}
 use Rattle.cweb_store.specs.Next.{is_name}
 use Rattle.cweb_store.specs.Packed.{token_in}
-use Rattle.cweb_store.specs.Words.{TextsAndWords}
+use Rattle.cweb_texts.specs.Words.{TextsAndWords}
 use Rattle.cweb_store.specs.ClosedTokens.{AreTokens, AreClosed}
 
 -- the numbers of the tokens that pass a test, in order, where the first token has number n

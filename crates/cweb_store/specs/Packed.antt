@@ -2,14 +2,11 @@
 use Rattle.std.specs.Prelude.{◌≡◌, ℕ, ◌<◌, ◌≤◌, ◌+◌, List, [], ◌∷◌, ◌++◌, length, filter, slice_index_or, bytes_eq}
 use Rattle.std.specs.List.{list_any}
 use Rattle.cweb_store.specs.Parts as spec
-use Rattle.cweb_store.specs.PackedTexts.{text_bytes}
-use Rattle.cweb_store.specs.Texts.{has_text, total, with_word_of, other_bytes}
-use Rattle.cweb_store.specs.Words.{TextsAndWords, has}
+use Rattle.cweb_texts.specs.PackedTexts.{text_at, text_bytes}
+use Rattle.cweb_store.specs.Texts.{has_text, with_word_of, other_bytes}
+use Rattle.cweb_texts.specs.Words.{TextsAndWords, has, total}
 use Rattle.cweb_store.specs.declared.tokens.packed.Packed.{Packed}
 use Rattle.cweb_store.specs.declared.tokens.packed.Packed.TheVariants.{Word, Number, Literal, Verbatim, Punct, Blank, Newline, Join, Defs, Name, Head, Tail, Mark}
-
-abbrev pub text_at : List (List ℕ) → ℕ → List ℕ
-text_at texts number = slice_index_or texts number []
 
 -- the token that a record stands for
 abbrev pub token_in : List (List ℕ) → Packed → spec.Token

@@ -1,6 +1,7 @@
 -- The texts that a store answers, and how many bytes they have.
 use Rattle.std.specs.Prelude.{◌≡◌, ℕ, ◌+◌, Bool, true, false, List, [], ◌∷◌, ◌++◌, map, flat_map, fold, length, bytes_eq, if◌then◌else◌}
 use Rattle.std.specs.List.{list_any}
+use Rattle.cweb_texts.specs.Words.{total, with_word}
 use Rattle.cweb_store.specs.Names.{Occurrence}
 use Rattle.cweb_store.specs.Parts.{Token, Word, Number, Literal, Verbatim, Punct, all_tokens}
 use Rattle.cweb_store.specs.Replacements.{Replacement}
@@ -17,10 +18,6 @@ token_texts token = []
 
 abbrev pub has_text : Token → Bool
 has_text token = elim (token_texts token) [ [] ↦ false | text ∷ texts ↦ true ]
-
-abbrev pub total : {A : Type 0} → (A → ℕ) → List A → ℕ
-total f [] = 0
-total f (x ∷ xs) = f x + total f xs
 
 -- how many bytes the text of a token has
 abbrev pub token_bytes : Token → ℕ
@@ -39,10 +36,6 @@ texts_of s = flat_map token_texts (all_tokens s.parts) ++ (map occurrence_text s
 -- the bytes of all texts, where a text counts as often as it was given
 abbrev pub bytes_given : Stored → ℕ
 bytes_given s = total token_bytes (all_tokens s.parts) + (total length (map occurrence_text s.occurrences) + total length (map replacement_text s.replacements))
-
--- words with one more, unless it is among them
-abbrev pub with_word : List (List ℕ) → List ℕ → List (List ℕ)
-with_word words word = if list_any (bytes_eq word) words then words else words ++ word ∷ []
 
 abbrev pub with_word_of : List (List ℕ) → Token → List (List ℕ)
 with_word_of words (Word b) = with_word words b

@@ -22,18 +22,15 @@ mod call;
 // what came of them
 mod store;
 
-// adding where room was set aside
-mod reserved;
-
 // what holds whatever the calls are
 pub mod laws;
 
 pub use builder::Builder;
 pub use call::Call;
+pub use cweb_texts::{Border, LentText};
 pub use names::{How, NameFault, NameId, NameKind, NameRef};
 pub use parts::iter::Parts;
 pub use parts::{Part, PartKind};
 pub use store::Store;
 pub use tokens::Token;
-pub use tokens::borders::{Border, LentText};
 pub use tokens::lender::Lender;

@@ -1,16 +1,12 @@
 // Tokens, as they are handed in and lent out.
 
-pub mod borders;
 pub mod closed;
-pub mod kept;
 pub mod layout;
 pub mod lender;
 pub mod list;
 pub mod noted;
 pub mod packed;
 pub mod records;
-pub mod texts;
-pub mod words;
 
 use crate::names::NameRef;
 use cweb_files::Place;

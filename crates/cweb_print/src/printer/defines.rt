@@ -1,7 +1,7 @@
 // Macro lines, printed to where bytes are gathered for a sink.
 ghost use Rattle.std.specs.Prelude.{◌≡◌, ◌≤◌, ◌<◌, ◌+◌, ◌^◌, ◌++◌, flat_map, length, take, true, false, IfSome, IsTrue};
 ghost use Rattle.cweb_files.specs.Device.{Counts};
-ghost use Rattle.cweb_store.specs.Borders.{lent_seen};
+ghost use Rattle.cweb_texts.specs.Borders.{lent_seen};
 ghost use Rattle.cweb_store.specs.Parts.{all_tokens};
 ghost use Rattle.cweb_print.specs.Borders.{continued_by};
 ghost use Rattle.cweb_print.specs.Classes.{all_added, at_start, macro_by};

@@ -7,8 +7,7 @@ ghost use Rattle.std.specs.Cmp.Lexicographic.{slice_cmp, nat_list_eq_equiv, nat_
 ghost use Rattle.std.specs.Cmp.Lexicographic.{texts_ties, texts_po};
 ghost use Rattle.cweb_store.specs.Fronts.{front_of};
 
-use crate::tokens::words::key::byte_at;
-use crate::tokens::words::slot::know_bytes;
+use cweb_texts::{byte_at, know_bytes};
 use std::alloc::{AllocError, Global};
 use std::cmp::Ordering;
 use std::marker::Model;
@@ -24,7 +23,7 @@ pub struct SortedText {
 impl Model for SortedText {
     ghost use Rattle.std.specs.Prelude.{◌≡◌, List, ℕ};
     ghost use Rattle.cweb_store.specs.Fronts.{front_of};
-    ghost use Rattle.cweb_store.specs.Keys.{AreBytes};
+    ghost use Rattle.cweb_texts.specs.Keys.{AreBytes};
 
     ghost Value = { List ℕ };
 

@@ -7,10 +7,10 @@ ghost use Rattle.cweb_store.specs.Runs.{last_run};
 
 use crate::parts::closed::ClosedParts;
 use crate::parts::{Open, Part, PartKind, Run};
-use crate::reserved::{put, put_in_room};
 use crate::tokens::Token;
 use crate::tokens::layout::{end_at_close, end_before_layout};
 use crate::tokens::list::TokenList;
+use cweb_texts::{put, put_in_room};
 use std::alloc::{AllocError, Global};
 use std::marker::Model;
 

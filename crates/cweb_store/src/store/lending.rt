@@ -1,13 +1,14 @@
 // A store's tokens: how many there are, and what they lend.
 
 ghost use Rattle.std.specs.Prelude.{◌≡◌, ◌<◌, length, map, option_map, slice_get, Some};
-ghost use Rattle.cweb_store.specs.Borders.{lends, lent_seen};
+ghost use Rattle.cweb_store.specs.Lends.{lends};
+ghost use Rattle.cweb_texts.specs.Borders.{lent_seen};
 ghost use Rattle.cweb_store.specs.Calls.{too_many};
 ghost use Rattle.cweb_store.specs.Parts.{all_tokens};
 
 use crate::store::Store;
-use crate::tokens::borders::LentText;
 use crate::tokens::lender::Lender;
+use cweb_texts::LentText;
 
 impl Store {
     /// How many tokens there are, of all parts and macros.

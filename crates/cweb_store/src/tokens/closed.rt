@@ -4,7 +4,8 @@ ghost use Rattle.std.specs.Prelude.{◌≡◌, ◌<◌, ◌≤◌, ◌+◌, leng
 ghost use Rattle.std.specs.List.{list_any};
 ghost use Rattle.cweb_store.specs.Parts.{is_defs};
 ghost use Rattle.cweb_store.specs.Gathered.{used_from};
-ghost use Rattle.cweb_store.specs.Texts.{AreInOneList, token_bytes_kept, token_texts, total};
+ghost use Rattle.cweb_texts.specs.Words.{total};
+ghost use Rattle.cweb_store.specs.Texts.{AreInOneList, token_bytes_kept, token_texts};
 ghost use Rattle.cweb_store.specs.ClosedTokens.{with_text};
 ghost use Rattle.cweb_store.specs.Next.{IsNext, is_name};
 
@@ -16,7 +17,7 @@ use crate::tokens::lender::Lender;
 use crate::tokens::noted::{Noted, next_noted};
 use crate::tokens::packed::lend;
 use crate::tokens::records::Records;
-use crate::tokens::texts::PackedTexts;
+use cweb_texts::PackedTexts;
 use indexmap::IndexSet;
 use std::alloc::AllocError;
 use std::marker::Model;
@@ -44,7 +45,7 @@ impl Model for ClosedTokens {
 
 impl ClosedTokens {
     ghost use Rattle.std.specs.Prelude.{◌++◌, map};
-    ghost use Rattle.cweb_store.specs.Borders.{lends};
+    ghost use Rattle.cweb_store.specs.Lends.{lends};
     ghost use Rattle.cweb_store.specs.Seen.{seen};
 
     /// Adds another text. It takes the next number, from 0.

@@ -7,10 +7,10 @@ ghost use Rattle.cweb_store.specs.ClosedTokens.{tokens_alone};
 
 use crate::tokens::Token;
 use crate::tokens::closed::ClosedTokens;
-use crate::tokens::kept::KeptTexts;
 use crate::tokens::noted::Noted;
 use crate::tokens::packed::{lend, pack};
 use crate::tokens::records::Records;
+use cweb_texts::KeptTexts;
 use std::alloc::{AllocError, Global};
 use std::marker::Model;
 

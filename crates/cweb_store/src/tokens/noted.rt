@@ -9,8 +9,8 @@ ghost use Rattle.cweb_store.specs.Next.{IsNext};
 ghost use Rattle.cweb_store.specs.Noted.{AreNoted, HasRoom, token_numbers};
 
 use crate::parts::Part;
-use crate::reserved::put;
 use crate::tokens::Token;
+use cweb_texts::put;
 use std::alloc::{AllocError, Global};
 
 /// The numbers of the tokens that use a name, and of those that are Defs, in order.

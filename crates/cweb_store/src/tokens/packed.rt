@@ -1,22 +1,23 @@
 // Tokens that have their texts by number.
 
 ghost use Rattle.std.specs.Prelude.{◌≡◌, ◌<◌, ◌+◌, [], length, IfOk, OnErr, option_map};
-ghost use Rattle.cweb_store.specs.Borders.{lends, lent_seen};
+ghost use Rattle.cweb_store.specs.Lends.{lends};
+ghost use Rattle.cweb_texts.specs.Borders.{lent_seen};
 ghost use Rattle.cweb_store.specs.Parts as spec;
-ghost use Rattle.cweb_store.specs.declared.tokens.borders.Border.TheVariants as border_of;
+ghost use Rattle.cweb_texts.specs.declared.borders.Border.TheVariants as border_of;
 ghost use Rattle.cweb_store.specs.Calls.{too_many};
-ghost use Rattle.cweb_store.specs.Packed.{IsWithin, Packs, text_at, token_in};
+ghost use Rattle.cweb_texts.specs.PackedTexts.{text_at};
+ghost use Rattle.cweb_store.specs.Packed.{IsWithin, Packs, token_in};
 ghost use Rattle.cweb_store.specs.Records.{packed_in};
 ghost use Rattle.cweb_store.specs.Seen.{seen};
 
 use crate::names::NameRef;
 use crate::tokens::Token;
-use crate::tokens::borders::{Border, LentText, has_high_byte, sign_border};
-use crate::tokens::kept::KeptTexts;
-use crate::tokens::lender::TextSlices;
 use crate::tokens::records::Record;
-use crate::tokens::texts::PackedTexts;
 use cweb_files::Place;
+use cweb_texts::{
+    Border, KeptTexts, LentText, PackedTexts, TextSlices, has_high_byte, sign_border,
+};
 use std::alloc::AllocError;
 
 /// A token that has its text by number.

@@ -8,10 +8,10 @@ ghost use Rattle.cweb_store.specs.Records.{AreNumbered, HasRoom, IsRecord, IsWit
 ghost use Rattle.cweb_store.specs.Seen.{seen};
 
 use crate::names::NameRef;
-use crate::reserved::put;
 use crate::tokens::Token;
 use crate::tokens::packed::Packed;
 use cweb_files::Place;
+use cweb_texts::put;
 use std::alloc::{AllocError, Global};
 use std::marker::Model;
 

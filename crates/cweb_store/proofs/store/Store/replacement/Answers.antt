@@ -1,5 +1,5 @@
 use Rattle.cweb_store.proofs.Common.{◌≡◌, ◌+◌, Some, None, length, drop, sym, ◌∙◌, ap, arith, length-drop, slice_get, get_or_from_slice_get, replacement, last_from}
-use Rattle.cweb_store.proofs.ListLemmas.{get-drop}
+use Rattle.cweb_texts.proofs.ListLemmas.{get-drop}
 use Rattle.cweb_store.proofs.StoredTexts.{at_last, last-is, last-within}
 use Rattle.cweb_store.proofs.store.Store.replacement.Goals as goal
 

@@ -1,6 +1,6 @@
 use Rattle.cweb_store.proofs.Common.{ap, arith, Packs, Number, Literal, Verbatim}
 use Rattle.cweb_store.specs.Parts as spec
-use Rattle.cweb_store.proofs.PackedLemmas.{get-text, get-within}
+use Rattle.cweb_texts.proofs.PackedTextLemmas.{get-text, get-within}
 use Rattle.cweb_store.proofs.tokens.packed.pack.Goals as goal
 
 pub returns-in_ok-keep-in-Number-clause-ok : goal.returns-in_ok-keep-in-Number-clause-ok

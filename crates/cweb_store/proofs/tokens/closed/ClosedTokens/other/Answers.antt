@@ -1,5 +1,5 @@
 use Rattle.cweb_store.proofs.Common.{◌≡◌, length, drop, ◌∙◌, ap, sym, arith, length-drop, slice_get}
-use Rattle.cweb_store.proofs.ListLemmas.{get-drop}
+use Rattle.cweb_texts.proofs.ListLemmas.{get-drop}
 use Rattle.cweb_store.proofs.tokens.closed.ClosedTokens.other.Goals as goal
 
 pub text_behind-requires : goal.text_behind-requires

@@ -1,4 +1,4 @@
-use Rattle.cweb_store.proofs.Common.{◌+◌, ◌++◌, ◌∙◌, ap, length, flat_map, subst, AreInOneList, token_bytes_kept, token_texts, total, TokensAndTexts}
+use Rattle.cweb_store.proofs.Common.{◌+◌, ◌++◌, ◌∙◌, ap, length, flat_map, subst, total, AreInOneList, token_bytes_kept, token_texts, TokensAndTexts}
 use Rattle.cweb_store.proofs.TextLemmas.{all-texts, all-bytes}
 use Rattle.cweb_store.proofs.tokens.closed.ClosedTokens.text_bytes.Goals as goal
 

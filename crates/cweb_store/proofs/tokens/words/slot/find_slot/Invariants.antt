@@ -1,5 +1,0 @@
-use Rattle.cweb_store.proofs.Common.{◌≡◌, false, take, list_any, slot_is}
-use Rattle.cweb_store.proofs.tokens.words.slot.find_slot.Given as goal
-
-abbrev pub invariant-loop-slot : goal.invariant-loop-slot
-invariant-loop-slot l = list_any (slot_is l.texts l.word) (take l.slot-index l.window) ≡ false

@@ -1,0 +1,37 @@
+-- The names that the proofs of this crate cite, passed on from one place. Declares nothing.
+pub use Rattle.std.proofs.Common.{◌≡◌, ◌==◌, ◌-◌, ℕ, zero, suc, Bool, true, false, cond, List, [], ◌∷◌, ◌++◌, Option}
+pub use Rattle.std.proofs.Common.{None, Some, ◌∙◌, refl, ap, sym, subst, arith, length, take, ◌≤◌, drop, ◌||◌, ◌&&◌}
+pub use Rattle.std.proofs.Common.{map, length-append, append-nil, ◌+◌, ◌<◌, get_or, length-drop, ltb-true, ltb-false}
+pub use Rattle.std.proofs.Common.{◌⊎◌, inl, inr, set, replicate, ◌*◌, ◌/◌, ◌^◌, rules}
+pub use Rattle.std.proofs.Math.Seq.{length-take-le, drop-append_seam, take-length}
+pub use Rattle.std.proofs.lemmas.Bool.{or_from, eqb-true}
+pub use Rattle.std.proofs.lemmas.Grind.{same_number_lists, common_steps}
+pub use Rattle.std.proofs.lemmas.List.{take-append-drop, take_all, drop-drop, drop-append-le, take-append-le}
+pub use Rattle.std.proofs.lemmas.List.{map-append, length-set}
+pub use Rattle.std.proofs.lemmas.List.Folds.{list_any-append}
+pub use Rattle.std.proofs.lemmas.List.Sums.{fold-append}
+pub use Rattle.std.proofs.lemmas.Map.Text.{is_eq-slice_cmp}
+pub use Rattle.std.proofs.lemmas.Nat.{le_bytes_4, le_bytes_8}
+pub use Rattle.std.proofs.lemmas.Option.{slice_get-get_or, slice_get_within}
+pub use Rattle.std.specs.BTreeMap.{insert_entry}
+pub use Rattle.std.specs.Cmp.Lexicographic.{slice_cmp, bytes_decides}
+pub use Rattle.std.specs.Int.{w32, w64, from_le_bytes}
+pub use Rattle.std.specs.List.{list_any}
+pub use Rattle.std.specs.Map.{lookup}
+pub use Rattle.std.specs.Ordering.{is_eq, nat_cmp, match_ordering}
+pub use Rattle.std.specs.Prelude.{slice_get, slice_index_or, slice_range, bytes_eq, Vec, if◌then◌else◌, nat_lt, Result}
+pub use Rattle.std.specs.Prelude.{Ok, Err, IfOk, OnErr, nat_eq, filter, fold}
+pub use Rattle.std.specs.declared.alloc.Global.{Global}
+pub use Rattle.std.specs.declared.cmp.Ordering.TheVariants.{Less, Equal, Greater}
+pub use Rattle.cweb_texts.specs.Borders.{AreTold, Bordered, IsTold, first_is, is_high, is_numeric, is_operator, is_told}
+pub use Rattle.cweb_texts.specs.Borders.{last_is, sign_border, sign_by}
+pub use Rattle.cweb_texts.specs.Keys.{AreBytes, short_key, middle_key, long_key}
+pub use Rattle.cweb_texts.specs.PackedTexts.{texts_from, AreEnds, begin_of, IsFromStart, text_bytes, text_at}
+pub use Rattle.cweb_texts.specs.Signs.{IsSign, AreSigns}
+pub use Rattle.cweb_texts.specs.Slots.{Entries, Holds, IsFound, IsWordPlaced, IsInserted, IsTable, slot_is, slot_text}
+pub use Rattle.cweb_texts.specs.Slots.{window_of, word_in, order, AreMapped, AllHold, AreSlots, IsPlaced, free_slot}
+pub use Rattle.cweb_texts.specs.Slots.{is_used, is_alike, slot_words, stands_in}
+pub use Rattle.cweb_texts.specs.Words.{total, with_word, TextsAndWords, KeepsWord, has, texts_and_words, Keeps}
+pub use Rattle.cweb_texts.specs.declared.borders.Border.{Border}
+pub use Rattle.cweb_texts.specs.declared.words.key.Key.{Key}
+pub use Rattle.cweb_texts.specs.declared.words.slot.Slot.{Slot}

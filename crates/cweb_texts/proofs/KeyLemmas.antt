@@ -1,0 +1,123 @@
+-- The key of a word, by its length.
+use Rattle.cweb_texts.proofs.Common.{◌≡◌, ℕ, zero, suc, ◌+◌, ◌-◌, ◌<◌, ◌≤◌, true, false, List, [], ◌∷◌, ◌++◌, length, take, drop, get_or, refl, sym, ◌∙◌, ap, arith, length-drop, ltb-true, ltb-false, nat_lt, slice_range, if◌then◌else◌, w32, w64, from_le_bytes, take_all, take-append-drop, drop-drop, same_number_lists, le_bytes_4, le_bytes_8, length-take-le, Key, AreBytes, short_key, middle_key, long_key}
+use Rattle.cweb_texts.specs.Keys.{key_of}
+
+less : (n m : ℕ) → n < m → nat_lt n m ≡ true
+less n m h = grind (arith, h)
+
+not-less : (n m : ℕ) → m ≤ n → nat_lt n m ≡ false
+not-less n m h = grind (arith, h)
+
+-- the last bytes
+pub tail : (word : List ℕ) (n : ℕ) → slice_range word n (length word) ≡ drop n word
+tail word n = take_all (length word - n) (drop n word) (omega (arith, length-drop n word))
+
+pub key-short : (word : List ℕ) → length word < 4 → key_of word ≡ short_key word
+unfolding key_of
+key-short word h = ap (λ b. if b then short_key word else
+    (if nat_lt (length word) 8 then middle_key word else long_key word)) (less (length word) 4 h)
+
+pub key-middle : (word : List ℕ) → 4 ≤ length word → length word < 8 → key_of word ≡ middle_key word
+unfolding key_of
+key-middle word h g = ap (λ b. if b then short_key word else
+    (if nat_lt (length word) 8 then middle_key word else long_key word)) (not-less (length word) 4 h)
+    ∙ ap (λ b. if b then middle_key word else long_key word) (less (length word) 8 g)
+
+pub key-long : (word : List ℕ) → 8 ≤ length word → key_of word ≡ long_key word
+unfolding key_of
+key-long word h = ap (λ b. if b then short_key word else
+    (if nat_lt (length word) 8 then middle_key word else long_key word)) (not-less (length word) 4 (omega (arith, h)))
+    ∙ ap (λ b. if b then middle_key word else long_key word) (not-less (length word) 8 h)
+
+-- A key tells a word of at most 16 bytes by its length.
+take-bytes : (n : ℕ) (bytes : List ℕ) → AreBytes bytes → AreBytes (take n bytes)
+take-bytes n bytes all = λ i. at n bytes i all
+  where
+    at : (n : ℕ) (bytes : List ℕ) (i : ℕ) → AreBytes bytes → get_or (take n bytes) i 0 < 256
+    at zero [] i all = omega arith
+    at zero (b ∷ bs) i all = omega arith
+    at (suc n) [] i all = omega arith
+    at (suc n) (b ∷ bs) zero all = all 0
+    at (suc n) (b ∷ bs) (suc i) all = at n bs i (λ k. all (suc k))
+
+drop-bytes : (n : ℕ) (bytes : List ℕ) → AreBytes bytes → AreBytes (drop n bytes)
+drop-bytes zero bytes all = all
+drop-bytes (suc n) [] all = all
+drop-bytes (suc n) (b ∷ bs) all = drop-bytes n bs (λ k. all (suc k))
+
+eight-same : (a b : List ℕ) → length a ≡ 8 → length b ≡ 8 → AreBytes a → AreBytes b
+    → from_le_bytes w64 a ≡ from_le_bytes w64 b → a ≡ b
+eight-same a b long_a long_b all_a all_b same =
+    sym (le_bytes_8 a (from_le_bytes w64 a) long_a all_a refl) ∙ le_bytes_8 b (from_le_bytes w64 a) long_b all_b same
+
+four-same : (a b : List ℕ) → length a ≡ 4 → length b ≡ 4 → AreBytes a → AreBytes b
+    → from_le_bytes w32 a ≡ from_le_bytes w32 b → a ≡ b
+four-same a b long_a long_b all_a all_b same =
+    sym (le_bytes_4 a (from_le_bytes w32 a) long_a all_a refl) ∙ le_bytes_4 b (from_le_bytes w32 a) long_b all_b same
+
+-- the first n bytes and the last n of at most 2 n
+ends-same : (q w : List ℕ) (n : ℕ) → length q ≡ length w → n ≤ length q → length q ≤ n + n
+    → take n q ≡ take n w → drop (length q - n) q ≡ drop (length w - n) w → q ≡ w
+ends-same q w n len long few front back =
+    let k = length q - n in
+    let k_is : k ≡ length w - n = omega (arith, len) in
+    let whole : k + (n - k) ≡ n = omega (arith, long, few) in
+    let rest : drop n q ≡ drop n w =
+    ap (λ m. drop m q) (sym whole) ∙ sym (drop-drop (n - k) k q)
+    ∙ ap (drop (n - k)) (back ∙ ap (λ m. drop m w) (sym k_is))
+    ∙ drop-drop (n - k) k w ∙ ap (λ m. drop m w) whole in
+    sym (take-append-drop n q) ∙ (λ i. front i ++ rest i) ∙ take-append-drop n w
+
+short-same : (q w : List ℕ) → length q ≡ length w → length q < 4 → AreBytes q → AreBytes w
+    → short_key q ≡ short_key w → q ≡ w
+short-same q w len few all_q all_w same = same_number_lists q w len at
+  where
+    at : (k : ℕ) → k < length q → get_or q k 0 ≡ get_or w k 0
+    at zero h = omega (arith, ap (λ (x : Key). x.first) same, all_q 0, all_w 0)
+    at (suc zero) h = omega (arith, ap (λ (x : Key). x.first) same, all_q 0, all_w 0)
+    at (suc (suc zero)) h = ap (λ (x : Key). x.last) same
+    at (suc (suc (suc k))) h = absurd (let none : ⊥ = omega (arith, few, h) in none)
+
+middle-same : (q w : List ℕ) → length q ≡ length w → 4 ≤ length q → length q ≤ 8 → AreBytes q → AreBytes w
+    → middle_key q ≡ middle_key w → q ≡ w
+middle-same q w len long few all_q all_w same =
+    let last : (v : List ℕ) → 4 ≤ length v → length (drop (length v - 4) v) ≡ 4 = λ v h.
+    omega (arith, length-drop (length v - 4) v, h) in
+    ends-same q w 4 len long (omega (arith, few))
+    (four-same (take 4 q) (take 4 w) (length-take-le 4 q long) (length-take-le 4 w (omega (arith, len, long)))
+    (take-bytes 4 q all_q) (take-bytes 4 w all_w) (ap (λ (x : Key). x.first) same))
+    (four-same (drop (length q - 4) q) (drop (length w - 4) w) (last q long) (last w (omega (arith, len, long)))
+    (drop-bytes (length q - 4) q all_q) (drop-bytes (length w - 4) w all_w) (ap (λ (x : Key). x.last) same))
+
+long-same : (q w : List ℕ) → length q ≡ length w → 8 ≤ length q → length q ≤ 16 → AreBytes q → AreBytes w
+    → long_key q ≡ long_key w → q ≡ w
+long-same q w len long few all_q all_w same =
+    let last : (v : List ℕ) → 8 ≤ length v → length (drop (length v - 8) v) ≡ 8 = λ v h.
+    omega (arith, length-drop (length v - 8) v, h) in
+    ends-same q w 8 len long (omega (arith, few))
+    (eight-same (take 8 q) (take 8 w) (length-take-le 8 q long) (length-take-le 8 w (omega (arith, len, long)))
+    (take-bytes 8 q all_q) (take-bytes 8 w all_w) (ap (λ (x : Key). x.first) same))
+    (eight-same (drop (length q - 8) q) (drop (length w - 8) w) (last q long) (last w (omega (arith, len, long)))
+    (drop-bytes (length q - 8) q all_q) (drop-bytes (length w - 8) w all_w) (ap (λ (x : Key). x.last) same))
+
+pub key-tells : (q w : List ℕ) → length q ≡ length w → length q ≤ 16 → AreBytes q → AreBytes w
+    → key_of q ≡ key_of w → q ≡ w
+key-tells q w len few all_q all_w same =
+    (elim (nat_lt (length q) 4) as (λ b. nat_lt (length q) 4 ≡ b → q ≡ w) [
+      | true ↦ λ h.
+          let short : length q < 4 = ltb-true (length q) 4 h in
+          short-same q w len short all_q all_w
+          (sym (key-short q short) ∙ same ∙ key-short w (omega (arith, len, short)))
+      | false ↦ λ h.
+          let four : 4 ≤ length q = ltb-false (length q) 4 h in
+          (elim (nat_lt (length q) 8) as (λ b. nat_lt (length q) 8 ≡ b → q ≡ w) [
+            | true ↦ λ g.
+                let middle : length q < 8 = ltb-true (length q) 8 g in
+                middle-same q w len four (omega (arith, middle)) all_q all_w (sym (key-middle q four middle)
+                ∙ same ∙ key-middle w (omega (arith, len, four)) (omega (arith, len, middle)))
+            | false ↦ λ g.
+                let eight : 8 ≤ length q = ltb-false (length q) 8 g in
+                long-same q w len eight few all_q all_w
+                (sym (key-long q eight) ∙ same ∙ key-long w (omega (arith, len, eight)))
+          ]) refl
+    ]) refl

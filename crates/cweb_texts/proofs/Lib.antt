@@ -1,0 +1,12 @@
+pub mod Common
+pub mod ListLemmas
+pub mod BorderLemmas
+pub mod PackedTextLemmas
+pub mod CutLemmas
+pub mod WordLemmas
+pub mod KeyLemmas
+pub mod SlotLemmas
+pub mod MapLemmas
+pub mod KeepLemmas
+pub mod SignLemmas
+pub mod SpreadLemmas

@@ -1,0 +1,17 @@
+use Rattle.cweb_texts.proofs.Common.{List, sym, subst, ap, Slot, AllHold, IsFound, window_of}
+use Rattle.cweb_texts.specs.Keys.{key_of}
+use Rattle.cweb_texts.proofs.KeepLemmas.{slot-known}
+use Rattle.cweb_texts.proofs.words.WordTexts.keep_word.Goals as goal
+
+pub first_slot-requires : goal.first_slot-requires
+first_slot-requires c =
+    let s = c.self.inside in
+    subst (λ (slots : List Slot). AllHold s.texts slots) (sym c.as_slice.ensures.value) c.self.invariant.in_slots.hold
+
+pub returns-in-Some-clause-ok : goal.returns-in-Some-clause-ok
+returns-in-Some-clause-ok c =
+    let s = c.self.inside in
+    let word = c.args.word.now in
+    let number = c.in-Some.number in
+    rw (← c.self.view_is) (slot-known s.texts word s.slots.items s.words.entries number (subst (λ (w : List Slot).
+    IsFound s.texts w word number) (ap (window_of (key_of word)) c.as_slice.ensures.value) c.in-Some.ensures))
