@@ -43,7 +43,7 @@ pub use Rattle.cweb_store.specs.Calls.{Stored}
 pub use Rattle.cweb_store.specs.Parts.{Token, Word, Number, Literal, Verbatim, Punct, Blank, Newline, Join, Defs, Name}
 pub use Rattle.cweb_store.specs.Parts.{Head, Tail, Mark, all_tokens, is_macro, numbers_from, numbers_where}
 pub use Rattle.cweb_store.specs.Seen.{seen}
-pub use Rattle.cweb_store.specs.contracts.tokens.borders.Border.{the_type}
+pub use Rattle.cweb_texts.specs.contracts.borders.Border.{the_type}
 pub use Rattle.cweb_store.specs.declared.names.NameId.{NameId}
 pub use Rattle.cweb_store.specs.declared.parts.Part.{Part}
 pub use Rattle.cweb_store.specs.declared.parts.PartKind.{PartKind}
