@@ -2,7 +2,7 @@ use Rattle.cweb_lines.proofs.Common.{rules, ◌≡◌, [], ℕ, List, Vec, Globa
 use Rattle.cweb_lines.specs.declared.change.code.Code.TheVariants.{NewSide as new_side}
 use Rattle.cweb_lines.proofs.Named.{blames_none, knows_only, stop_after}
 use Rattle.cweb_lines.proofs.Fronts.{told_behind, told_same, told_then, told_took}
-use Rattle.cweb_lines.proofs.Replaces.{replaces_from, replaces_stop, replaces_new, replaces_code, replaces_line, replaces_raw_stop}
+use Rattle.cweb_lines.proofs.Replaces.{compares_same, is_replaced_same, replaces_same, replaces_from, replaces_stop, replaces_new, replaces_code, replaces_line, replaces_raw_stop}
 use Rattle.cweb_lines.proofs.Codes.{is_new, is_faulty}
 use Rattle.cweb_lines.proofs.Stacks.{stops_map}
 use Rattle.cweb_lines.proofs.change.old_side.replace.Goals as goal
@@ -63,22 +63,10 @@ returns-then-eq-clause-replaced g c = λ tells.
     let raws : things_above (g.S.Shelf.left c.lines.shelf) 0 c.lines.run.stack []
     ≡ things_above (g.S.Shelf.left c.take_change.new.shelf) 0 c.take_change.new.run.stack [] =
     λ i. things_above (sym (c.in-Ok.ensures.keeps.left still) i) 0 (sym c.in-Ok.ensures.stack i) [] in
-    let done = replaces_new (change_lines (g.S.Shelf.left c.args.shelf.now) c.args.run.now)
-    (things_above (g.S.Shelf.left c.args.shelf.now) 0 c.args.run.now.stack []) c.lines.so_far
-    (change_lines (g.S.Shelf.left c.lines.shelf) c.lines.run)
-    (things_above (g.S.Shelf.left c.lines.shelf) 0 c.lines.run.stack []) (told_by c.args.run.now) (told_by c.lines.run)
-    (c.lines.invariant.replaces tells) (told_by c.take_change.new.run) c.take_change.new.line.items c.in-Some.at.place
-    taken.0 (change_lines (g.S.Shelf.left c.take_change.new.shelf) c.take_change.new.run) taken.1 (ap (λ (v :
+    let done = replaces_new _ _ c.lines.so_far _ _ _ _ (c.lines.invariant.replaces tells)
+    (told_by c.take_change.new.run) c.take_change.new.line.items c.in-Some.at.place taken.0 _ taken.1 (ap (λ (v :
     Vec SourceFault Global). v.items) c.in-Ok.ensures.only.faults) (ap names_of c.in-Ok.ensures.only.names) test in
-    subst (λ (ts : List Thing). IsReplaced (change_lines (g.S.Shelf.left c.args.shelf.now) c.args.run.now)
-    (things_above (g.S.Shelf.left c.args.shelf.now) 0 c.args.run.now.stack []) c.lines.so_far
-    (change_lines (g.S.Shelf.left c.take_change.new.shelf) c.take_change.new.run) ts
-    (told_by c.args.run.now) (told_by c.take_change.new.run)) raws (subst (λ (b : Bool). IsReplaced
-    (change_lines (g.S.Shelf.left c.args.shelf.now) c.args.run.now) (things_above (g.S.Shelf.left c.args.shelf.now) 0
-    c.args.run.now.stack []) (record { unequal = c.lines.so_far.unequal; ran_out = c.lines.so_far.ran_out; ended = b })
-    (change_lines (g.S.Shelf.left c.take_change.new.shelf) c.take_change.new.run)
-    (things_above (g.S.Shelf.left c.lines.shelf) 0 c.lines.run.stack [])
-    (told_by c.args.run.now) (told_by c.take_change.new.run)) (sym c.lines.invariant.goes_on) done)
+    is_replaced_same _ _ _ _ _ _ _ _ _ (sym c.lines.invariant.goes_on) raws done
 
 pub lines-preserved : goal.lines-preserved
 lines-preserved g c = record {
@@ -106,31 +94,24 @@ lines-preserved g c = record {
   replaces = λ tells.
       let still = subst IsTrue (sym c.lines.invariant.tells) tells in
       let taken = rw c.in-Some.is at (c.in-Ok.ensures.taken still) in
-      let change : change_lines (g.S.Shelf.left c.take_change.new.shelf) c.take_change.new.run ≡ change_lines
-      (g.S.Shelf.left c.take_change.new.shelf) c.tell.new.self =
+      let change : change_lines (g.S.Shelf.left c.take_change.new.shelf) c.take_change.new.run
+      ≡ change_lines (g.S.Shelf.left c.take_change.new.shelf) c.tell.new.self =
       ap (λ ch. lines_at (g.S.Shelf.left c.take_change.new.shelf) ch) (sym c.in_default-tell.ensures.only.change) in
-      let raws : things_above (g.S.Shelf.left c.lines.shelf) 0 c.lines.run.stack [] ≡ things_above
-      (g.S.Shelf.left c.take_change.new.shelf) 0 c.tell.new.self.stack [] =
+      let raws : things_above (g.S.Shelf.left c.lines.shelf) 0 c.lines.run.stack []
+      ≡ things_above (g.S.Shelf.left c.take_change.new.shelf) 0 c.tell.new.self.stack [] =
       λ i. things_above (sym (c.in-Ok.ensures.keeps.left still) i) 0
       (sym (c.in_default-tell.ensures.only.stack ∙ c.in-Ok.ensures.stack) i) [] in
-      let told = ap (λ (v : Vec SourceFault Global). v.items) c.in-Ok.ensures.only.faults in
-      let names = ap names_of c.in-Ok.ensures.only.names in
       let test : code_of c.take_change.new.line.items ≡ Some c.in-Some-code_of.code =
-      ap code_of (sym c.deref.ensures.value) ∙ sym c.code_of.ensures ∙ c.in-Some-code_of.is in
+      ap code_of (sym c.deref.ensures.value)
+      ∙ sym c.code_of.ensures
+      ∙ c.in-Some-code_of.is in
       let at = replaces_code _ _ c.lines.so_far _ _ _ _ (c.lines.invariant.replaces tells)
-      (told_by c.take_change.new.run) c.take_change.new.line.items c.in-Some.at.place taken.0 _ taken.1 told names
-      c.in-Some-code_of.code (told_by c.tell.new.self) test
-      (is_faulty c.in-Some-code_of.code taken.0.line _ _ (sym c.eq.ensures ∙ c.if-eq.false))
-      c.in_default-tell.ensures.told (ap names_of c.in_default-tell.ensures.only.names)
-      (ap count_of c.in_default-tell.ensures.only.limits) in
-      subst (λ (ls : List SourceLine). Replaces (change_lines (g.S.Shelf.left c.args.shelf.now) c.args.run.now)
-      (things_above (g.S.Shelf.left c.args.shelf.now) 0 c.args.run.now.stack []) c.lines.so_far
-      ls (things_above (g.S.Shelf.left c.take_change.new.shelf) 0 c.tell.new.self.stack []) (told_by c.args.run.now)
-      (told_by c.tell.new.self)) change
-      (subst (λ (ts : List Thing). Replaces (change_lines (g.S.Shelf.left c.args.shelf.now) c.args.run.now)
-      (things_above (g.S.Shelf.left c.args.shelf.now) 0 c.args.run.now.stack []) c.lines.so_far
-      (change_lines (g.S.Shelf.left c.take_change.new.shelf) c.take_change.new.run) ts (told_by c.args.run.now)
-      (told_by c.tell.new.self)) raws at);
+      (told_by c.take_change.new.run) c.take_change.new.line.items c.in-Some.at.place taken.0 _ taken.1
+      (ap (λ (v : Vec SourceFault Global). v.items) c.in-Ok.ensures.only.faults)
+      (ap names_of c.in-Ok.ensures.only.names) c.in-Some-code_of.code (told_by c.tell.new.self) test (is_faulty
+      c.in-Some-code_of.code taken.0.line _ _ (sym c.eq.ensures ∙ c.if-eq.false)) c.in_default-tell.ensures.told
+      (ap names_of c.in_default-tell.ensures.only.names) (ap count_of c.in_default-tell.ensures.only.limits) in
+      replaces_same _ _ _ _ _ _ _ _ _ change raws at;
 }
 
 pub lines-preserved-in-None : goal.lines-preserved-in-None
@@ -187,19 +168,11 @@ lines-preserved-in-None g c = record {
       let raws : things_above (g.S.Shelf.left c.take_change.new.shelf) 0 c.take_change.new.run.stack []
       ≡ things_above (g.S.Shelf.left c.lines.shelf) 0 c.lines.run.stack [] =
       λ i. things_above (c.in-Ok.ensures.keeps.left still i) 0 (c.in-Ok.ensures.stack i) [] in
-      let compares =
-      subst (λ (ts : List Thing). Compares c.take_change.new.line.items c.lines.so_far c.in-Ok-compare.replaced ts
-      (things_above (g.S.Shelf.left c.compare.new.shelf) 0 c.compare.new.run.stack []) (told_by c.take_change.new.run)
-      (told_by c.compare.new.run)) raws (subst (λ (v : Vec ℕ Global). Compares v.items c.lines.so_far
-      c.in-Ok-compare.replaced (things_above (g.S.Shelf.left c.take_change.new.shelf) 0 c.take_change.new.run.stack [])
-      (things_above (g.S.Shelf.left c.compare.new.shelf) 0 c.compare.new.run.stack []) (told_by c.take_change.new.run)
-      (told_by c.compare.new.run)) c.swap.ensures.x_after (c.in-Ok-compare.ensures.compares later)) in
-      subst (λ (ls : List SourceLine). Replaces (change_lines (g.S.Shelf.left c.args.shelf.now) c.args.run.now)
-      (things_above (g.S.Shelf.left c.args.shelf.now) 0 c.args.run.now.stack []) c.in-Ok-compare.replaced ls
-      (things_above (g.S.Shelf.left c.compare.new.shelf) 0 c.compare.new.run.stack []) (told_by c.args.run.now)
-      (told_by c.compare.new.run)) change (replaces_line _ _ c.lines.so_far _ _ _ _ (c.lines.invariant.replaces tells)
-      (told_by c.take_change.new.run) c.take_change.new.line.items c.in-Some.at.place taken.0 _ taken.1
-      (ap (λ (v : Vec SourceFault Global). v.items) c.in-Ok.ensures.only.faults)
+      let compares = compares_same _ _ _ _ _ _ _ _ _
+      (ap (λ (v : Vec ℕ Global). v.items) c.swap.ensures.x_after) raws (c.in-Ok-compare.ensures.compares later) in
+      replaces_same _ _ _ _ _ _ _ _ _ change refl (replaces_line _ _ c.lines.so_far _ _ _ _
+      (c.lines.invariant.replaces tells) (told_by c.take_change.new.run) c.take_change.new.line.items
+      c.in-Some.at.place taken.0 _ taken.1 (ap (λ (v : Vec SourceFault Global). v.items) c.in-Ok.ensures.only.faults)
       (ap names_of c.in-Ok.ensures.only.names) c.in-Ok-compare.replaced _
       (told_by c.compare.new.run) test compares);
 }
