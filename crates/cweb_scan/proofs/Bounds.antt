@@ -4,7 +4,7 @@ use Rattle.cweb_store.specs.Texts as kept
 use Rattle.cweb_scan.proofs.Measures.{total-append}
 use Rattle.cweb_scan.proofs.StateAdds.{adds_both, due_some, leave_in-adds}
 use Rattle.cweb_scan.proofs.PieceAdds.{piece-adds}
-use Rattle.cweb_scan.proofs.Fairs.{fair}
+use Rattle.cweb_scanner.proofs.Fairs.{fair}
 
 -- so much is added, where `inner` bytes of the text are paid for already
 pub record AddsLess (inner bytes : ℕ) (old new : State) : Type 0 where

@@ -1,9 +1,9 @@
 -- What stays in a head in one turn.
 use Rattle.cweb_scan.proofs.Common.{◌≡◌, ◌≤◌, ℕ, Bool, true, false, ◌&&◌, ◌||◌, ◌==◌, not, List, [], ◌∷◌, length, refl, ap, sym, ◌∙◌, subst, if◌then◌else◌, codes, prefix_len, eqb-true, Place, begins, is_blank, starts_section, in_text, in_macro, front_in, head_as, head_front, Blanks, Front, front, IsLine, opens_in, c_opens, opens_code, text_opens, c_rule, c_front_by, Context, Definition, Rule, blank, enter_in, stays_in_head, directive, is_c, is_some, names_include, Gives, Held, Passes, Between, front_of, State, drop_definition, give}
 use Rattle.cweb_rules.specs.declared.rule.Rule.TheVariants as rule
-use Rattle.cweb_scan.specs.Directives as directives
-use Rattle.cweb_scan.proofs.CodeTurns.{at_item, staying_at}
-use Rattle.cweb_scan.proofs.Turns.{opens_by, c_opens-by, neither}
+use Rattle.cweb_scanner.specs.Directives as directives
+use Rattle.cweb_scanner.proofs.CodeTurns.{at_item, staying_at}
+use Rattle.cweb_scanner.proofs.Turns.{opens_by, c_opens-by, neither}
 use Rattle.cweb_store.specs.Parts as parts
 use Rattle.cweb_scan.proofs.HeadTurns.{by_rule}
 

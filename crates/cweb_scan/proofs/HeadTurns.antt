@@ -8,10 +8,10 @@ use Rattle.cweb_rules.proofs.ByRules.{c_front-by}
 use Rattle.cweb_rules.proofs.LineLiterals.{starts_literal_line}
 use Rattle.cweb_rules.proofs.LineDelimiters.{starts_raw_line}
 use Rattle.cweb_rules.proofs.Seams.{begins_line, starts_number_stop, starts_section_line, stops}
-use Rattle.cweb_scan.proofs.CodeTurns.{at_item}
+use Rattle.cweb_scanner.proofs.CodeTurns.{at_item}
 use Rattle.cweb_scan.proofs.Openers.{run_as}
 use Rattle.cweb_scan.proofs.RuleTurns.{is_ended}
-use Rattle.cweb_scan.proofs.TakenItems.{reading}
+use Rattle.cweb_scanner.proofs.TakenItems.{reading}
 
 -- WHAT LEAVES A HEAD
 

@@ -2,7 +2,7 @@
 use Rattle.cweb_scan.proofs.Common.{◌≡◌, ℕ, Bool, true, false, ◌&&◌, not, List, [], ◌∷◌, Some, length, arith, if◌then◌else◌, codes, Place, NameRef, Occurrence, Word, Literal, Verbatim, Punct, Blank, Join, Defs, Name, Mark, with_dropped, with_occurrence, NameDidNotEnd, NamesDoNotNest, CommentDidNotEnd, StringDidNotEnd, ControlTextDidNotEnd, MissingAt, one, text_size, occurrence_size, replacement_size, Effect, Nothing, Define, Format, Program, Named, InsertDefs, Joins, GiveAt, Faulty, in_directive, directive, End, Closed, Cut, Nested, Open, Context, Limbo, TeX, Definition, Macro, CText, State, give, end_macro, blank, punctuator, code, letter, control_text, verbatim, define, comment, name_fault, use_name, open_name, name_in, literal, due, Adds}
 use Rattle.cweb_store.specs.declared.parts.PartKind.TheVariants as part
 use Rattle.cweb_rules.specs.declared.effect.Effect.TheVariants as effect
-use Rattle.cweb_scan.specs.Directives.{is_blank}
+use Rattle.cweb_scanner.specs.Directives.{is_blank}
 use Rattle.cweb_scan.proofs.Measures.{total-append, dropped-size}
 use Rattle.cweb_scan.proofs.StateAdds.{adds_both, adds_within, due_some, nothing_adds, give-adds, fault-adds, opens, begin_part-adds, end_macro_in-adds}
 

@@ -1,10 +1,4 @@
 pub mod Common
-pub mod Steps
-pub mod TiedSteps
-pub mod Rooms
-pub mod Spelling
-pub mod Drops
-pub mod Fairs
 pub mod Measures
 pub mod StateAdds
 pub mod ItemAdds
@@ -17,8 +11,6 @@ pub mod OpenLiterals
 pub mod Openers
 pub mod LiteralOpeners
 pub mod Gaps
-pub mod LineUnits
-pub mod TakenItems
 pub mod LineEnds
 pub mod Taken
 pub mod LineBegins
@@ -37,15 +29,10 @@ mod RowsItems
 mod RowsCodes
 mod RowsRawLiterals
 mod RowsThousand
-pub mod Weights
-pub mod PieceWeights
 pub mod Turns
-pub mod Ends
 pub mod Opens
 pub mod UnitsTaken
-pub mod Walks
 pub mod Rests
-pub mod Texts
 pub mod CodeTurns
 pub mod TextLines
 pub mod RuleTurns
@@ -60,12 +47,4 @@ pub mod PlainPieces
 pub mod PlainTokens
 pub mod Standing
 pub mod StandingPieces
-pub mod PlainFirsts
-pub mod FirstTable
-pub mod Plains
 pub mod PlainTurns
-pub mod WholeLiterals
-pub mod Blanks
-pub mod Furthers
-pub mod FurtherLiterals
-pub mod DirectiveTexts

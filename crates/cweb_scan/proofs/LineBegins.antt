@@ -1,13 +1,13 @@
 -- How a line begins behind what is held, and how the text ends there.
-use Rattle.cweb_scan.proofs.Common.{◌≡◌, ◌≤◌, ℕ, ◌+◌, Bool, true, false, List, [], ◌∷◌, ◌++◌, take, drop, refl, ap, sym, ◌∙◌, subst, arith, ◌==◌, if◌then◌else◌, append-nil, Place, Line, Cut, size_of, sign_after, Reading, on, each_line_end, literal, occurrence, Held, held, after_line_end, begun_at, goes_on, read_after, text_ended, BeginsLine, TakesLineEnd, TakesBytes, cost, owed, awaits_line_end, item_of, quote_byte, Item, takes_sign, weight, run, State, moved, Raw, Quote, Single, Double}
+use Rattle.cweb_scan.proofs.Common.{◌≡◌, ◌≤◌, ℕ, ◌+◌, Bool, true, false, List, [], ◌∷◌, ◌++◌, take, drop, refl, ap, sym, ◌∙◌, subst, arith, ◌==◌, if◌then◌else◌, append-nil, Place, Line, Cut, size_of, sign_after, Reading, on, each_line_end, literal, occurrence, Held, held, after_line_end, goes_on, read_after, text_ended, BeginsLine, TakesLineEnd, TakesBytes, cost, owed, awaits_line_end, item_of, quote_byte, Item, takes_sign, weight, run, State, moved, AfterBackslash, Raw, Quote, Single, Double}
 use Rattle.cweb_rules.specs.Items as items
-use Rattle.cweb_scan.specs.Resume as item
+use Rattle.cweb_scanner.specs.Resume as item
 use Rattle.cweb_scan.specs.declared.reader.open.Open.{Open}
-use Rattle.cweb_scan.specs.declared.reader.open.Open.TheVariants.{Between, Comment, Name, Literal, AfterBackslash}
+use Rattle.cweb_scan.specs.declared.reader.open.Open.TheVariants.{Between, Comment, Name, Literal}
 use Rattle.cweb_scan.proofs.LineEnds.{between_goes_on, comment_goes_on, name_goes_on, literal_goes_on, raw_goes_on}
 use Rattle.cweb_scan.proofs.OpenLiterals.{literal_cut}
 use Rattle.cweb_scan.proofs.Taken.{first_taken, next_taken}
-use Rattle.cweb_scan.proofs.Weights.{line_end-weight, comment_line_end-weight, comment-weight, occurrence-weight, literal-weight}
+use Rattle.cweb_scanner.proofs.Weights.{line_end-weight, comment_line_end-weight, comment-weight, occurrence-weight, literal-weight}
 
 no_backslash : (quote : Quote) → (quote_byte quote == 92) ≡ false
 no_backslash Single = refl

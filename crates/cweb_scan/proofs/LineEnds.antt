@@ -1,6 +1,7 @@
 -- What a line end does to what is held, whatever item is open.
-use Rattle.cweb_scan.proofs.Common.{◌≡◌, ℕ, suc, ◌+◌, ◌-◌, Bool, true, false, List, [], ◌∷◌, ◌++◌, length, take, drop, refl, ap, sym, ◌∙◌, arith, append_assoc, nat_lt, ◌&&◌, ◌==◌, if◌then◌else◌, fold, Place, Context, Limbo, TeX, Definition, Macro, CText, End, Closed, Cut, Goes, Ends, Reach, body, size_of, with_unit, reach_in, front_in, sign_after, Kind, Skipped, LineEnd, Front, front, Piece, State, moved, names_include, Reading, on, line_end_in, line_end, comment_line_end, each_line_end, comment, occurrence, literal, literal_unit, enter_in, item, after, pieces_in, run, Between, InComment, InName, InLiteral, AfterBackslash, InRaw, takes_sign, end_literal, resume, end_comment, end_name, held, after_line_end, goes_on}
+use Rattle.cweb_scan.proofs.Common.{◌≡◌, ℕ, suc, ◌+◌, ◌-◌, Bool, true, false, List, [], ◌∷◌, ◌++◌, length, take, drop, refl, ap, sym, ◌∙◌, arith, append_assoc, nat_lt, ◌&&◌, ◌==◌, if◌then◌else◌, fold, Place, Context, Limbo, TeX, Definition, Macro, CText, End, Closed, Cut, Goes, Ends, Reach, body, size_of, with_unit, reach_in, front_in, sign_after, Kind, Skipped, LineEnd, Front, front, Piece, State, moved, names_include, Reading, on, line_end_in, line_end, comment_line_end, each_line_end, comment, occurrence, literal, literal_unit, enter_in, item, after, pieces_in, run, Between, InComment, InName, InLiteral, InRaw, takes_sign, end_literal, resume, end_comment, end_name, held, after_line_end, goes_on}
 use Rattle.cweb_rules.specs.Items as items
+use Rattle.cweb_scanner.specs.Resume.{AfterBackslash}
 use Rattle.cweb_scan.proofs.OpenLiterals.{raw_line_end}
 
 abbrev reading : State → List Place → Reading

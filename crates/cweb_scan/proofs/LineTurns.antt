@@ -1,10 +1,10 @@
 -- The bytes of a line are taken turn by turn.
-use Rattle.cweb_scan.proofs.Common.{◌≡◌, ◌≤◌, ◌<◌, ℕ, zero, suc, ◌+◌, ◌*◌, Bool, true, false, List, [], ◌∷◌, length, drop, refl, ap, sym, ◌∙◌, subst, arith, if◌then◌else◌, length-drop, IsLine, Held, cost, Takes, TakesBytes, awaits_line_end, TakesOpen, item_of, Item, Passes, TakesTurn, to_do, Raw}
-use Rattle.cweb_scan.specs.OpenRest.{is_open}
-use Rattle.cweb_scan.specs.Resume as item
+use Rattle.cweb_scan.proofs.Common.{◌≡◌, ◌≤◌, ◌<◌, ℕ, zero, suc, ◌+◌, Bool, true, false, List, [], ◌∷◌, length, drop, refl, ap, sym, ◌∙◌, subst, arith, if◌then◌else◌, length-drop, IsLine, Held, Takes, awaits_line_end, TakesOpen, item_of, Item, Passes, TakesTurn, to_do, AfterBackslash, Raw}
+use Rattle.cweb_scanner.specs.OpenRest.{is_open}
+use Rattle.cweb_scanner.specs.Resume as item
 use Rattle.cweb_scan.specs.declared.reader.open.Open.{Open}
-use Rattle.cweb_scan.specs.declared.reader.open.Open.TheVariants.{Between, Comment, Name, Literal, AfterBackslash}
-use Rattle.cweb_scan.proofs.Rests.{drop_more, takes_all, takes_both, takes_none}
+use Rattle.cweb_scan.specs.declared.reader.open.Open.TheVariants.{Between, Comment, Name, Literal}
+use Rattle.cweb_scanner.proofs.Rests.{drop_more, takes_both}
 
 -- ONE TURN
 

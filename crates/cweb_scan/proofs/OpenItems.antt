@@ -1,27 +1,12 @@
 -- An item or a comment that is open: what a line makes of it.
-use Rattle.cweb_scan.proofs.Common.{◌≡◌, ◌<◌, ℕ, zero, suc, ◌+◌, ◌-◌, Bool, true, false, List, [], ◌∷◌, ◌++◌, length, take, drop, refl, ap, sym, ◌∙◌, arith, length-append, take-append-drop, if◌then◌else◌, codes, flat_map, ne_eqb, flat_map-append, take-append-le, drop-append-le, take-append-add, drop-append-add, Place, Reading, on, each_line_end, next_line, comment_line_end, comment, begins, Look, Goes, Ends, Reach, reach, reach_in, with_unit, body, size_of, End, Closed, Cut, Nested, Open, look_in_comment, AtLineEnd, is_open, InComment, end_comment, resume, IsLine, run, State}
+use Rattle.cweb_scan.proofs.Common.{◌≡◌, ◌<◌, ℕ, zero, suc, ◌+◌, ◌-◌, Bool, true, false, List, [], ◌∷◌, ◌++◌, length, take, drop, refl, ap, sym, ◌∙◌, arith, length-append, take-append-drop, codes, flat_map, flat_map-append, take-append-le, drop-append-le, take-append-add, drop-append-add, Place, Reading, on, each_line_end, comment_line_end, comment, begins, Look, Goes, Ends, Reach, reach, reach_in, with_unit, body, size_of, End, Closed, Cut, Nested, Open, look_in_comment, AtLineEnd, is_open, InComment, end_comment, resume, IsLine, run}
 use Rattle.cweb_rules.specs.Items as items
 use Rattle.cweb_rules.proofs.InLines.{IsLine-take}
 use Rattle.cweb_rules.proofs.Reaches.{IsEnd, IsLocal, IsWhole, join, reach-append}
 use Rattle.cweb_rules.proofs.Looks.{reach_ends, whole, comment-local, comment-units}
 use Rattle.cweb_rules.proofs.Seams.{begins_line}
 use Rattle.cweb_rules.proofs.Sizes.{reach-size, comment-within, begins-size}
-
--- LINE ENDS
-
--- no line end among the bytes of a line
-pub each-line : (f : Place → State → State) (t u : List ℕ) (m : Reading)
-    → IsLine t → each_line_end f (t ++ u) m ≡ each_line_end f u m
-each-line f [] u m h = refl
-each-line f (b ∷ t) u m h =
-    ap (λ v. each_line_end f (t ++ u) (if v then next_line f m else m)) (ne_eqb b 10 h.0) ∙ each-line f t u m h.1
-
-pub append-nil' : (t : List ℕ) → t ++ [] ≡ t
-append-nil' [] = refl
-append-nil' (b ∷ t) = ap (λ u. b ∷ u) (append-nil' t)
-
-pub none-line : (f : Place → State → State) (t : List ℕ) (m : Reading) → IsLine t → each_line_end f t m ≡ m
-none-line f t m h = ap (λ u. each_line_end f u m) (sym (append-nil' t)) ∙ each-line f t [] m h
+use Rattle.cweb_scanner.proofs.OpenItems.{each-line, none-line}
 
 -- AN ITEM THAT STAYS OPEN
 

@@ -1,11 +1,12 @@
 -- A literal that is open, raw ones too: what a line makes of it.
-use Rattle.cweb_scan.proofs.Common.{◌≡◌, ◌≤◌, ℕ, zero, suc, ◌+◌, ◌-◌, ◌&&◌, true, false, ◌==◌, List, [], ◌∷◌, ◌++◌, length, take, drop, refl, ap, sym, ◌∙◌, arith, append_assoc, length-append, take-append-drop, if◌then◌else◌, fold, list_all, fold-append, length-take-le, take-append-le, drop-append-le, length-drop, drop-append-add, Place, Reading, on, literal, literal_unit, first_is, Look, Goes, Ends, Reach, reach, reach_in, with_unit, body, size_of, End, Closed, Cut, Open, unit_bytes, text_in, look_in_literal, look_in_raw, AtLineEnd, is_open, InLiteral, AfterBackslash, InRaw, end_literal, sign_of, resume, run, State, moved}
+use Rattle.cweb_scan.proofs.Common.{◌≡◌, ◌≤◌, ℕ, zero, suc, ◌+◌, ◌-◌, ◌&&◌, true, false, ◌==◌, List, [], ◌∷◌, ◌++◌, length, take, drop, refl, ap, sym, ◌∙◌, arith, append_assoc, length-append, take-append-drop, if◌then◌else◌, fold, list_all, fold-append, length-take-le, take-append-le, drop-append-le, length-drop, drop-append-add, Place, Reading, on, literal, literal_unit, first_is, Look, Goes, Ends, Reach, reach, reach_in, with_unit, body, size_of, End, Closed, Cut, Open, unit_bytes, text_in, look_in_literal, look_in_raw, AtLineEnd, is_open, InLiteral, InRaw, end_literal, sign_of, resume, run, State, moved}
 use Rattle.cweb_rules.specs.Items as items
 use Rattle.cweb_rules.proofs.Reaches.{IsLocal, IsWhole}
 use Rattle.cweb_rules.proofs.Looks.{reach_ends, whole, ended_whole, raw-local, raw-units, literal-local, literal-some}
 use Rattle.cweb_rules.proofs.Seams.{in_line, stops}
 use Rattle.cweb_rules.proofs.Sizes.{IsWithin, reach-size, literal-within, raw-within}
-use Rattle.cweb_scan.proofs.OpenItems.{append-nil', at_front, open_body, after_units, reach-open, size-open, sizes}
+use Rattle.cweb_scanner.proofs.OpenItems.{append-nil'}
+use Rattle.cweb_scan.proofs.OpenItems.{at_front, open_body, after_units, reach-open, size-open, sizes}
 use Rattle.cweb_scan.proofs.OpenNames.{text_more}
 
 -- LITERALS, raw ones too: by what is seen in them

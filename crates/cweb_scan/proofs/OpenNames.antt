@@ -1,11 +1,11 @@
 -- A name that is open: what a line makes of it.
-use Rattle.cweb_scan.proofs.Common.{◌≡◌, ◌≤◌, ℕ, ◌+◌, Bool, true, false, List, [], ◌++◌, length, take, drop, ap, sym, ◌∙◌, arith, append_assoc, if◌then◌else◌, nat_lt, flat_map-append, take-append-le, drop-append-le, length-drop, take-append-add, drop-append-add, Place, Reading, on, each_line_end, occurrence, Reach, reach, size_of, sign_after, End, Cut, Open, unit_bytes, text_in, look_in_name, AtLineEnd, is_open, InName, takes_sign, end_name, resume, IsLine, run, moved}
+use Rattle.cweb_scan.proofs.Common.{◌≡◌, ◌≤◌, ℕ, ◌+◌, Bool, true, false, List, [], ◌++◌, length, take, drop, ap, sym, ◌∙◌, arith, append_assoc, if◌then◌else◌, nat_lt, flat_map-append, take-append-le, drop-append-le, length-drop, Place, Reading, on, each_line_end, occurrence, Reach, reach, size_of, sign_after, End, Cut, Open, unit_bytes, text_in, look_in_name, AtLineEnd, is_open, InName, takes_sign, end_name, resume, IsLine, run, moved}
 use Rattle.cweb_rules.specs.Items as items
 use Rattle.cweb_rules.proofs.InLines.{IsLine-take}
 use Rattle.cweb_rules.proofs.Looks.{reach_ends, whole, name-local, name-units}
 use Rattle.cweb_rules.proofs.Sizes.{reach-size, name-within, sign_after-size}
 use Rattle.cweb_rules.proofs.LineCodes.{sign_after-line}
-use Rattle.cweb_scan.proofs.OpenItems.{each-line, none-line, open_body, reach-open, sizes}
+use Rattle.cweb_scanner.proofs.OpenItems.{none-line}
 
 -- NAMES
 

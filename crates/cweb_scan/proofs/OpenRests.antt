@@ -1,16 +1,16 @@
 -- The rest of an item that is open: what a turn of it takes.
-use Rattle.cweb_scan.proofs.Common.{◌≡◌, ◌≤◌, ◌<◌, ℕ, ◌+◌, Bool, true, false, List, [], ◌∷◌, ◌++◌, length, take, drop, refl, ap, sym, ◌∙◌, subst, arith, if◌then◌else◌, codes, bytes_eq, nat_lt, list_all, length-drop, drop_all, Place, begins, Reach, reach, size_of, sign_after, unit_bytes, look_in_comment, look_in_name, look_in_literal, look_in_raw, IsLine, reached, MovesOn, End, Closed, Cut, Nested, Open, Reached, Look, Goes, Ends, DoubleAtInString, comment, occurrence, ended_as, unit_state, literal_turn, look_size, TakesOpen, InComment, InName, InLiteral, AfterBackslash, InRaw, resume, sign_of, takes_sign, weight, run, State, fault}
+use Rattle.cweb_scan.proofs.Common.{◌≡◌, ◌≤◌, ◌<◌, ℕ, ◌+◌, Bool, true, false, List, [], ◌∷◌, ◌++◌, length, take, drop, refl, ap, sym, ◌∙◌, subst, arith, if◌then◌else◌, codes, bytes_eq, nat_lt, list_all, length-drop, drop_all, Place, begins, Reach, reach, size_of, sign_after, unit_bytes, look_in_comment, look_in_name, look_in_literal, look_in_raw, IsLine, reached, MovesOn, End, Closed, Cut, Nested, Open, Reached, Look, Goes, Ends, DoubleAtInString, comment, occurrence, ended_as, unit_state, literal_turn, look_size, TakesOpen, InComment, InName, InLiteral, InRaw, resume, sign_of, takes_sign, weight, run, State, fault}
 use Rattle.cweb_rules.specs.Lines.{is_open as stays}
 use Rattle.cweb_rules.proofs.Looks.{IsWithin, comment-units, name-units, raw-units}
 use Rattle.cweb_rules.proofs.Sizes.{end_size, name-within, raw-within, comment-within, begins-size, reach-size, sign_after-size}
 use Rattle.cweb_rules.proofs.Seams.{in_line}
-use Rattle.cweb_scan.proofs.Ends.{size-at_end, how-at_end}
+use Rattle.cweb_scanner.proofs.Ends.{size-at_end, how-at_end}
 use Rattle.cweb_scan.proofs.OpenItems.{comment_stays, comment_ends}
 use Rattle.cweb_scan.proofs.Opens.{opened}
-use Rattle.cweb_scan.proofs.TakenItems.{reading}
-use Rattle.cweb_scan.proofs.Turns.{between}
+use Rattle.cweb_scanner.proofs.TakenItems.{reading}
+use Rattle.cweb_scanner.proofs.Turns.{between}
 use Rattle.cweb_scan.proofs.UnitsTaken.{name_unit, name_end, literal_unit_taken, literal_end, raw_unit_taken, raw_end}
-use Rattle.cweb_scan.proofs.Weights.{comment-weight, occurrence-weight, literal-weight}
+use Rattle.cweb_scanner.proofs.Weights.{comment-weight, occurrence-weight, literal-weight}
 
 -- COMMENTS
 

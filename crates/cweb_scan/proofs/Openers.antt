@@ -2,8 +2,8 @@
 use Rattle.cweb_scan.proofs.Common.{◌≡◌, ℕ, suc, ◌+◌, Bool, true, false, List, [], ◌∷◌, take, drop, refl, ap, sym, ◌∙◌, arith, if◌then◌else◌, codes, nat_lt, fold, Reading, on, each_line_end, next_line, comment_line_end, comment, occurrence, enter_in, after, blank, begins, is_line_end, Reach, size_of, names_include, reads_c, reads_names, name_at, sign_after, comment_at, End, text_in, Comment, Front, front, InComment, InName, takes_sign, resume, front_in, run, Context, Limbo, TeX, Definition, Macro, CText, State, drop_definition, moved}
 use Rattle.cweb_rules.specs.Items as items
 use Rattle.cweb_rules.specs.Kinds.{Occurrence}
-use Rattle.cweb_scan.proofs.Fairs.{fair}
-use Rattle.cweb_scan.proofs.Pieces.{pieces_first}
+use Rattle.cweb_scanner.proofs.Fairs.{fair}
+use Rattle.cweb_scanner.proofs.Pieces.{pieces_first}
 
 abbrev with_front : Reading → List ℕ → Front → Reading
 with_front r t f = run (after r (record { kind = f.kind; bytes = take f.size t })) (drop f.size t)

@@ -3,12 +3,12 @@ use Rattle.cweb_scan.proofs.Common.{◌≡◌, ◌≤◌, ℕ, ◌+◌, Bool, tr
 use Rattle.cweb_rules.proofs.LineLiterals.{is_quoted-size}
 use Rattle.cweb_rules.proofs.LineDelimiters.{sign-fits, has_delimiter-size}
 use Rattle.cweb_rules.proofs.Seams.{both}
-use Rattle.cweb_scan.specs.Resume as item
+use Rattle.cweb_scanner.specs.Resume as item
 use Rattle.cweb_scan.proofs.Openers.{leave_head_in, opened_comment, opened_name, opened_file}
 use Rattle.cweb_scan.proofs.LiteralOpeners.{opened_raw, opened_literal}
-use Rattle.cweb_scan.proofs.TakenItems.{reading}
-use Rattle.cweb_scan.proofs.Turns.{between}
-use Rattle.cweb_scan.proofs.Weights.{blank-weight}
+use Rattle.cweb_scanner.proofs.TakenItems.{reading}
+use Rattle.cweb_scanner.proofs.Turns.{between}
+use Rattle.cweb_scanner.proofs.Weights.{blank-weight}
 
 abbrev pub opened : State → Bool → Item → Held
 opened s g item = record { state = s; item = item; begun = g }

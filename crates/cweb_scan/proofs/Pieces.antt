@@ -1,25 +1,7 @@
 -- The pieces of a text are the one list of what the rules name.
-use Rattle.cweb_scan.proofs.Common.{◌≡◌, ℕ, ◌-◌, ◌<◌, ◌≤◌, suc, zero, List, [], ◌∷◌, ◌++◌, length, take, drop, refl, ap, sym, ◌∙◌, arith, take-append-drop, length-append, subst, take-append_seam, drop-append_seam, length-drop, length-take-le, Piece, Reading, after, front_of, pieces, pieces_in, ArePieces}
-use Rattle.cweb_scan.proofs.Fairs.{fair}
-
-pieces_in-drop : (k : ℕ) (r : Reading) (t : List ℕ) → pieces_in k r t ≡ pieces_in 0 r (drop k t)
-pieces_in-drop zero r t = refl
-pieces_in-drop (suc k) r [] = refl
-pieces_in-drop (suc k) r (b ∷ t) = pieces_in-drop k r t
-
-abbrev pub first : Reading → List ℕ → Piece
-first r t = record { kind = (front_of r.state t).kind; bytes = take (front_of r.state t).size t }
-
-drop-pred : (n : ℕ) (b : ℕ) (t : List ℕ) → 0 < n → drop (n - 1) t ≡ drop n (b ∷ t)
-drop-pred n b t h = let e : n ≡ suc (n - 1) = omega arith in sym (ap (λ m. drop m (b ∷ t)) e)
-
--- the pieces of a text are what stands at its front, and the pieces of the rest
-pub pieces_first : (r : Reading) (b : ℕ) (t : List ℕ) → 0 < (front_of r.state (b ∷ t)).size → pieces r (b ∷ t)
-    ≡ first r (b ∷ t) ∷ pieces (after r (first r (b ∷ t))) (drop (front_of r.state (b ∷ t)).size (b ∷ t))
-pieces_first r b t h =
-    let n = (front_of r.state (b ∷ t)).size in
-    let u = after r (first r (b ∷ t)) in
-    ap (λ ps. first r (b ∷ t) ∷ ps) (pieces_in-drop (n - 1) u t ∙ ap (pieces_in 0 u) (drop-pred n b t h))
+use Rattle.cweb_scan.proofs.Common.{◌≡◌, ℕ, ◌≤◌, suc, zero, List, [], ◌∷◌, ◌++◌, length, take, drop, refl, ap, sym, ◌∙◌, arith, take-append-drop, length-append, subst, take-append_seam, drop-append_seam, length-drop, length-take-le, Piece, Reading, after, front_of, pieces, ArePieces}
+use Rattle.cweb_scanner.proofs.Fairs.{fair}
+use Rattle.cweb_scanner.proofs.Pieces.{first, pieces_first}
 
 -- a list of pieces of a text is the pieces of the text
 pub ArePieces-unique : (r : Reading) (t : List ℕ) (ps : List Piece) → ArePieces r t ps → ps ≡ pieces r t

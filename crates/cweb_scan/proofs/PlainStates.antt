@@ -1,6 +1,6 @@
 -- What the items of the law make of a state in plain C text.
 use Rattle.cweb_scan.proofs.Common.{◌≡◌, ℕ, Bool, true, false, cond, ◌&&◌, ◌||◌, not, List, [], ◌∷◌, ◌++◌, Some, None, refl, ap, sym, ◌∙◌, subst, append_assoc, codes, bytes_eq, option_map, fold, fold-append, filter-append, append-nil, Place, longer, Token, Blank, Newline, Mark, Reading, next_line, each_line_end, line_end, line_end_in, line_end_token, comment_line_end, blank, literal_unit, follows, is_line_end, directive, directive_of, directive_tokens, with_next, in_directive, is_c, is_some, is_punct, ends_line, State, give, moved, part_tokens, tokens_of, InPlainC, HasRead, solid, is_between, is_hash, is_clean}
-use Rattle.cweb_scan.specs.Directives.{is_blank}
+use Rattle.cweb_scanner.specs.Directives.{is_blank}
 
 and_false : (a : Bool) → (a && false) ≡ false
 and_false true = refl

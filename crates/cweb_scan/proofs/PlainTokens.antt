@@ -1,12 +1,12 @@
 -- What a run makes of a token's bytes and what follows.
-use Rattle.cweb_scan.proofs.Common.{◌≡◌, ℕ, ◌+◌, ◌<◌, ◌/◌, ◌%◌, suc, zero, Bool, true, false, cond, ◌&&◌, ◌==◌, List, [], ◌∷◌, ◌++◌, Some, None, length, take, drop, refl, ap, ◌∙◌, arith, append_assoc, length-append, codes, decimal, digit_glyph, digits_onto, list_all, fold, take-append_seam, drop-append_seam, Token, Word, Number, Literal, Punct, first_is, JoinsAll, IsToken, is_token, is_quiet, begins_as, joins_last, front_in, Kind, Front, front, CText, Effect, Nothing, Define, Format, Program, Named, InsertDefs, Joins, GiveAt, Faulty, End, Closed, Cut, Nested, Open, Reading, after, some_include, names_include, front_of, run, InPlainC, IsRead, ReadsAlone, doubled, solid, token_of, literal_of, bytes_of, is_hash}
+use Rattle.cweb_scan.proofs.Common.{◌≡◌, ℕ, ◌+◌, ◌<◌, ◌/◌, ◌%◌, suc, zero, Bool, true, false, cond, ◌&&◌, ◌==◌, List, [], ◌∷◌, ◌++◌, Some, length, take, drop, refl, ap, ◌∙◌, arith, append_assoc, length-append, codes, decimal, digit_glyph, digits_onto, list_all, fold, take-append_seam, drop-append_seam, Token, Word, Number, Punct, first_is, JoinsAll, IsToken, is_token, is_quiet, begins_as, front_in, Kind, front, CText, Effect, Nothing, Define, Format, Program, Named, InsertDefs, Joins, GiveAt, Faulty, End, Closed, Cut, Nested, Open, Reading, after, some_include, names_include, front_of, run, InPlainC, IsRead, ReadsAlone, doubled, solid, token_of, literal_of, bytes_of, is_hash}
 use Rattle.std.specs.Fmt.{digits}
 use Rattle.cweb_rules.specs.Follows as rules
 use Rattle.cweb_rules.specs.Kinds as kind
 use Rattle.cweb_rules.specs.declared.effect.Effect.TheVariants as effect
 use Rattle.cweb_rules.proofs.Comments.{comment_front}
 use Rattle.cweb_rules.proofs.Tokens.{tokens_stay, tokens_begin}
-use Rattle.cweb_scan.proofs.Pieces.{pieces_first}
+use Rattle.cweb_scanner.proofs.Pieces.{pieces_first}
 use Rattle.cweb_scan.specs.Alone.{goes_on}
 use Rattle.cweb_scan.proofs.PlainPieces.{is_that, token_gives, line_end_gives, comment_gives}
 

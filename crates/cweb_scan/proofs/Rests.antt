@@ -1,29 +1,11 @@
--- The rest of a line is taken piece by piece.
-use Rattle.cweb_scan.proofs.Common.{◌≡◌, ◌≤◌, ℕ, zero, suc, ◌+◌, Bool, true, false, ◌&&◌, ◌==◌, not, List, [], ◌∷◌, ◌++◌, length, drop, refl, ap, sym, ◌∙◌, arith, if◌then◌else◌, codes, prefix_len, nat_tests, length-drop, drop_all, begins, at_line_end, starts_section, in_limbo, in_text, in_macro, in_c, front_in, c_front, section_at, code_at, Skipped, front, IsLine, opens_in, opens_code, c_rule, c_front_by, Context, Limbo, TeX, Definition, Macro, CText, Reading, names_include, is_head, is_skipped, Held, goes_on, Takes, TakesBytes, State, moved}
-use Rattle.cweb_rules.proofs.ByRules.{c_front-by}
-use Rattle.cweb_scan.proofs.Ends.{none_to_come}
-use Rattle.cweb_scan.proofs.Turns.{between, closed_takes, opens_by, c_opens-by}
+-- The rest of a line: all of it, and text before the next `@`.
+use Rattle.cweb_scan.proofs.Common.{◌≡◌, ◌≤◌, ℕ, ◌+◌, Bool, true, false, ◌&&◌, ◌==◌, not, List, [], ◌∷◌, ◌++◌, length, refl, ap, sym, ◌∙◌, arith, if◌then◌else◌, prefix_len, nat_tests, drop_all, starts_section, in_limbo, in_text, front_in, section_at, code_at, Skipped, front, IsLine, opens_in, opens_code, Context, Limbo, TeX, Definition, Macro, CText, Reading, names_include, is_head, is_skipped, Held, goes_on, Takes, TakesBytes, State, moved}
+use Rattle.cweb_scanner.proofs.Ends.{none_to_come}
+use Rattle.cweb_scanner.proofs.Turns.{between}
+use Rattle.cweb_scan.proofs.Turns.{closed_takes}
+use Rattle.cweb_scanner.proofs.Rests.{takes_none, takes_both}
 
 -- ONE PIECE AND THEN ANOTHER
-
-pub drop_more : (m n : ℕ) (t : List ℕ) → drop (m + n) t ≡ drop n (drop m t)
-drop_more zero n t = let e : 0 + n ≡ n = omega arith in ap (λ k. drop k t) e
-drop_more (suc m) zero [] = let e : suc m + 0 ≡ suc m = omega arith in ap (λ k. drop k []) e
-drop_more (suc m) (suc n) [] = let e : suc m + suc n ≡ suc (m + suc n) = omega arith in ap (λ k. drop k []) e
-drop_more (suc m) n (b ∷ t) =
-    let e : suc m + n ≡ suc (m + n) = omega arith in ap (λ k. drop k (b ∷ t)) e ∙ drop_more m n t
-
-pub takes_none : (u : List ℕ) (h : Held) → Takes 0 u h h
-takes_none u h = record { begun = refl; within = omega arith; adds = omega arith; same = λ later more e. refl }
-
-pub takes_both : (n m : ℕ) (u : List ℕ) (a b c : Held) → Takes n u a b → Takes m (drop n u) b c → Takes (n + m) u a c
-takes_both n m u a b c x y = record {
-  begun = y.begun ∙ x.begun;
-  within = omega (arith, x.within, y.within, length-drop n u);
-  adds = omega (arith, x.adds, y.adds);
-  same = λ later more e.
-      ap (λ (t : List ℕ). goes_on c later (t ++ more)) (drop_more n m u) ∙ y.same later more e ∙ x.same later more e;
-}
 
 -- a line of which all was taken
 pub takes_all : (n : ℕ) (u : List ℕ) (a b : Held) → length u ≤ n → Takes n u a b → TakesBytes u a b
@@ -90,16 +72,3 @@ skipped_takes s g (b ∷ t) c line = (elim (b == 64) as (λ v. (b == 64) ≡ v
       | false ↦ λ h. takes_both 1 (prefix_len is_skipped t)
           (b ∷ t) _ _ _ (one_skipped s g b t c line h (sides 64 b h)) (skipped_takes s g t c line.1)
     ]) refl
-
--- C TEXT AND MACROS, by the first rule that fits
-
-pub c_is : (includes : Bool) (u : List ℕ) → front_in CText includes u ≡ c_front_by in_c false u (c_rule includes u)
-c_is includes u = c_front-by in_c false includes u
-
-pub c_opens_is : (includes : Bool) (u : List ℕ) → opens_in CText u ≡ opens_by in_c u (c_rule includes u)
-c_opens_is includes u = c_opens-by in_c includes u
-
-pub macro_is : (includes : Bool) (u : List ℕ) → (begins (codes "\\") u && at_line_end (drop 1 u)) ≡ false
-    → front_in Macro includes u ≡ c_front_by in_macro true u (c_rule false u)
-macro_is includes u h =
-    ap (λ v. if v then front Skipped 1 else c_front in_macro true false u) h ∙ c_front-by in_macro true false u

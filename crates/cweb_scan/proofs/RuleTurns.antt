@@ -1,11 +1,11 @@
 -- What is taken in one turn in a macro and in C text, by the first rule that fits.
-use Rattle.cweb_scan.proofs.Common.{◌≡◌, ◌≤◌, ℕ, Bool, true, false, ◌&&◌, List, [], ◌∷◌, length, drop, take, refl, ap, sym, ◌∙◌, if◌then◌else◌, codes, ne_eqb, begins, first_is, is_blank, is_line_end, is_word_byte, at_line_end, starts_section, in_macro, in_c, front_in, c_front, starts_raw, starts_literal, starts_include, Skipped, front, IsLine, opens_in, c_opens, c_rule, c_front_by, starts_number, Context, Limbo, TeX, Definition, Macro, CText, Effect, Rule, Reading, is_c, names_include, ends_in_line, is_head, needs_two, Held, Passes, has_part, Between, ends_macro_line, moved}
+use Rattle.cweb_scan.proofs.Common.{◌≡◌, ◌≤◌, ℕ, Bool, true, false, ◌&&◌, List, [], ◌∷◌, length, drop, take, refl, ap, sym, ◌∙◌, if◌then◌else◌, codes, ne_eqb, begins, first_is, is_blank, is_line_end, is_word_byte, at_line_end, starts_section, in_macro, front_in, c_front, starts_raw, starts_literal, starts_include, Skipped, front, IsLine, opens_in, c_opens, c_rule, starts_number, Context, Limbo, TeX, Definition, Macro, CText, Rule, Reading, names_include, ends_in_line, is_head, needs_two, Held, Passes, has_part, Between, moved}
 use Rattle.cweb_rules.specs.declared.rule.Rule.TheVariants as rule
 use Rattle.cweb_rules.proofs.Sizes.{begins-size}
-use Rattle.cweb_scan.proofs.CodeTurns.{closed_at}
-use Rattle.cweb_scan.proofs.Ends.{none_to_come}
-use Rattle.cweb_scan.proofs.Rests.{c_is, c_opens_is, macro_is}
-use Rattle.cweb_scan.proofs.Turns.{opens_by, c_opens-by, later, now, neither, tail_is}
+use Rattle.cweb_scanner.proofs.CodeTurns.{closed_at}
+use Rattle.cweb_scanner.proofs.Ends.{none_to_come}
+use Rattle.cweb_scanner.proofs.Turns.{later, now, neither, tail_is}
+use Rattle.cweb_scanner.proofs.RuleTurns.{closes}
 
 -- in a part no head is open
 pub part_head : (c : Context) → has_part c ≡ true → is_head c ≡ false
@@ -16,17 +16,6 @@ part_head Macro h = refl
 part_head CText h = refl
 
 -- RULES WHOSE ITEMS END IN THEIR LINE
-
--- those of `ends_in_line`, and section starts
-abbrev pub closes : Rule → Bool
-closes rule.Section = true
-closes rule.Blanks = true
-closes rule.LineComment = true
-closes rule.Number = true
-closes rule.Identifier = true
-closes rule.Punctuator = true
-closes rule.IncludedName = true
-closes r = false
 
 pub ends_closes : (r : Rule) → ends_in_line r ≡ true → closes r ≡ true
 ends_closes rule.Blanks h = refl
@@ -41,40 +30,6 @@ ends_closes rule.IncludedName h = refl
 ends_closes rule.Number h = refl
 ends_closes rule.Identifier h = refl
 ends_closes rule.Punctuator h = refl
-
--- the codes don't matter to them
-closed_front : (e : ℕ → Effect) (takes : Bool) (u : List ℕ) (r : Rule) → closes r ≡ true
-    → (c_front_by e takes u r ≡ c_front_by in_c false u r) × (opens_by e u r ≡ false)
-closed_front e takes u rule.Blanks h = (refl, refl)
-closed_front e takes u rule.LineEnd h = cc
-closed_front e takes u rule.Comment h = cc
-closed_front e takes u rule.LineComment h = (refl, refl)
-closed_front e takes u rule.Section h = (refl, refl)
-closed_front e takes u rule.Code h = cc
-closed_front e takes u rule.RawLiteral h = cc
-closed_front e takes u rule.Literal h = cc
-closed_front e takes u rule.IncludedName h = (refl, refl)
-closed_front e takes u rule.Number h = (refl, refl)
-closed_front e takes u rule.Identifier h = (refl, refl)
-closed_front e takes u rule.Punctuator h = (refl, refl)
-
-pub rule_closed : (c : Context) (includes : Bool) (u : List ℕ) (r : Rule) → has_part c ≡ true
-    → ends_macro_line c u ≡ false → r ≡ c_rule (is_c c && includes) u → closes r ≡ true
-    → (front_in c includes u ≡ c_front_by in_c false u r) × (opens_in c u ≡ false)
-rule_closed Limbo includes u r part plain is h = cc
-rule_closed TeX includes u r part plain is h = cc
-rule_closed (Definition begun) includes u r part plain is h = cc
-rule_closed Macro includes u r part plain is h =
-    let p = closed_front in_macro true u r h in (
-      macro_is includes u plain ∙ ap (c_front_by in_macro true u) (sym is) ∙ p.0,
-      ap (λ v. if v then false else c_opens in_macro u) plain
-          ∙ c_opens-by in_macro false u ∙ ap (opens_by in_macro u) (sym is) ∙ p.1,
-    )
-rule_closed CText includes u r part plain is h =
-    let p = closed_front in_c false u r h in (
-      c_is includes u ∙ ap (c_front_by in_c false u) (sym is),
-      c_opens_is includes u ∙ ap (opens_by in_c u) (sym is) ∙ p.1,
-    )
 
 -- WHICH RULES FIT IN A LINE
 

@@ -1,11 +1,9 @@
 -- A run of bytes of an open item, each a unit of its own, is taken at once.
-use Rattle.cweb_scan.proofs.Common.{◌≡◌, ◌<◌, ℕ, suc, ◌+◌, Bool, true, false, cond, not, ◌&&◌, ◌==◌, List, [], ◌∷◌, ◌++◌, take, refl, ap, sym, ◌∙◌, subst, arith, append_assoc, if◌then◌else◌, codes, list_all, prefix_len, Place, unit_bytes, IsLine, is_plain, is_raw_sign, is_sign, DoubleAtInString, Goes, unit_state, Held, Takes, text_of, with_text, with_run, TakesOpen, item_of, Item, InName, InLiteral, InRaw, sign_of, State, fault}
+use Rattle.cweb_scan.proofs.Common.{◌≡◌, ◌<◌, ℕ, suc, ◌+◌, Bool, true, false, cond, not, ◌&&◌, ◌==◌, List, [], ◌∷◌, ◌++◌, take, refl, ap, sym, ◌∙◌, subst, arith, append_assoc, if◌then◌else◌, codes, list_all, prefix_len, Place, unit_bytes, IsLine, is_plain, is_raw_sign, is_sign, DoubleAtInString, Goes, unit_state, Held, Takes, text_of, with_text, with_run, TakesOpen, Item, InName, InLiteral, InRaw, sign_of, State, fault}
 use Rattle.cweb_rules.specs.declared.items.Item.TheVariants.{Name, Literal}
 use Rattle.cweb_rules.proofs.PlainRuns.{plain_goes, raw_goes, is_not, no_at_in_literal, no_at_in_raw}
 use Rattle.cweb_rules.proofs.Seams.{in_line}
-use Rattle.cweb_scan.specs.declared.reader.open.Open.{Open}
-use Rattle.cweb_scan.specs.declared.reader.open.Open.TheVariants as code
-use Rattle.cweb_scan.proofs.OpenItems.{append-nil'}
+use Rattle.cweb_scanner.proofs.OpenItems.{append-nil'}
 use Rattle.cweb_scan.proofs.OpenReaders.{open_at}
 use Rattle.cweb_scan.proofs.OpenRests.{name_goes, literal_takes, raw_takes}
 use Rattle.cweb_scan.proofs.Opens.{opened}

@@ -2,7 +2,7 @@
 use Rattle.cweb_scan.proofs.Common.{◌≡◌, ◌≤◌, ℕ, suc, ◌+◌, Bool, true, false, not, ◌&&◌, ◌==◌, List, [], ◌∷◌, Option, Some, None, length, drop, refl, ap, sym, ◌∙◌, arith, if◌then◌else◌, codes, bytes_eq, flat_map, fold, length-drop, Place, Blank, NameRef, is_line_end, Kind, at_line_ends, Context, Limbo, TeX, Definition, Macro, CText, Effect, Nothing, Define, Format, Program, Named, InsertDefs, Joins, GiveAt, Faulty, End, Closed, Cut, Nested, Open, DoubleAtInString, Reading, on, line_end_in, line_end, comment_line_end, blank, code, letter, control_text, verbatim, constant, define, comment, name_fault, open_name, use_name, name_in, occurrence, literal, next_line, each_line_end, literal_unit, stays_in_head, enter_in, in_directive, directive, State, give, fault, moved, end_macro_in, end_macro, drop_definition, leave_in}
 use Rattle.cweb_rules.specs.declared.effect.Effect.TheVariants as effect
 use Rattle.cweb_rules.proofs.UnitNewlines.{none-ends, ends-append, drop-sum}
-use Rattle.cweb_scan.specs.Directives.{is_blank}
+use Rattle.cweb_scanner.specs.Directives.{is_blank}
 
 -- the line on which a text goes on, and those that are still to come
 abbrev pub places_in : Reading → List Place

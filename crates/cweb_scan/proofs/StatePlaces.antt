@@ -1,8 +1,8 @@
 -- A step of a scan holds no places but those that it is given.
-use Rattle.cweb_scan.proofs.Common.{◌≡◌, ◌≤◌, ℕ, Bool, true, false, ◌||◌, ◌&&◌, not, List, Option, Some, None, length, refl, ap, arith, if◌then◌else◌, codes, All, decimal, All-push, Place, PartKind, Token, Word, Number, Verbatim, Punct, Blank, Newline, Join, Defs, Head, Tail, Mark, with_open, with_dropped, Context, Limbo, TeX, Definition, Macro, CText, Effect, Nothing, Define, Format, Program, Named, InsertDefs, Joins, GiveAt, Faulty, End, Closed, Cut, Nested, Open, ScanFault, ScanKind, ReplacementTooLong, CommentDidNotEnd, ControlTextDidNotEnd, FaultyConstant, DefinitionDropped, parts_size, in_directive, directive, is_punct, State, give, fault_at, moved, begin_part, end_part, end_macro_in, end_macro, drop_definition, leave_in, leave, begin_section, follows, line_end_token, line_end_in, line_end, comment_line_end, blank, punctuator, code, letter, control_text, verbatim, constant, define, comment}
+use Rattle.cweb_scan.proofs.Common.{◌≡◌, ◌≤◌, ℕ, Bool, true, false, ◌||◌, ◌&&◌, not, List, Option, Some, None, refl, ap, arith, if◌then◌else◌, codes, All, decimal, All-push, Place, PartKind, Token, Word, Number, Verbatim, Punct, Blank, Newline, Join, Defs, Head, Tail, Mark, with_open, with_dropped, Context, Limbo, TeX, Definition, Macro, CText, Effect, Nothing, Define, Format, Program, Named, InsertDefs, Joins, GiveAt, Faulty, End, Closed, Cut, Nested, Open, ScanFault, ScanKind, ReplacementTooLong, CommentDidNotEnd, ControlTextDidNotEnd, FaultyConstant, DefinitionDropped, parts_size, in_directive, directive, is_punct, State, give, fault_at, moved, begin_part, end_part, end_macro_in, end_macro, drop_definition, leave_in, leave, begin_section, follows, line_end_token, line_end_in, line_end, comment_line_end, blank, punctuator, code, letter, control_text, verbatim, constant, define, comment}
 use Rattle.cweb_store.specs.declared.parts.PartKind.TheVariants as part
 use Rattle.cweb_rules.specs.declared.effect.Effect.TheVariants as effect
-use Rattle.cweb_scan.specs.Directives.{is_blank}
+use Rattle.cweb_scanner.specs.Directives.{is_blank}
 use Rattle.cweb_scan.proofs.Measures.{pushed-size, opened-size, closed-size, dropped-size}
 
 -- counts the Marks that stand elsewhere

@@ -6,11 +6,12 @@ use Rattle.cweb_rules.proofs.Ranges.{reach_in-drop}
 use Rattle.cweb_rules.proofs.Reaches.{IsLocal, IsEnd}
 use Rattle.cweb_rules.proofs.Looks.{IsWithin, AllWithin, AllSome, IsSome, name-local, name-units, raw-local, raw-units, literal-local, literal-some}
 use Rattle.cweb_rules.proofs.Seams.{in_line, stops}
-use Rattle.cweb_scan.proofs.LineUnits.{one-unit}
-use Rattle.cweb_scan.proofs.OpenItems.{append-nil', each-line, whole-end, after_units, sizes}
+use Rattle.cweb_scanner.proofs.LineUnits.{one-unit}
+use Rattle.cweb_scanner.proofs.OpenItems.{append-nil', each-line}
+use Rattle.cweb_scan.proofs.OpenItems.{whole-end, after_units, sizes}
 use Rattle.cweb_scan.proofs.OpenNames.{name_ends}
 use Rattle.cweb_scan.proofs.OpenLiterals.{literal_ends, raw_ends, unit_passes}
-use Rattle.cweb_scan.proofs.TakenItems.{reading}
+use Rattle.cweb_scanner.proofs.TakenItems.{reading}
 
 abbrev at_front : (List ℕ → Look) → Look → List ℕ → End → List ℕ → Reach
 at_front look v u e t =

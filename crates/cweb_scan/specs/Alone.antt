@@ -11,10 +11,10 @@ use Rattle.cweb_rules.specs.declared.effect.Effect.{Effect}
 use Rattle.cweb_rules.specs.declared.effect.Effect.TheVariants.{GiveAt}
 use Rattle.cweb_rules.specs.declared.end.End.{End}
 use Rattle.cweb_rules.specs.declared.end.End.TheVariants.{Closed}
-use Rattle.cweb_scan.specs.After.{Reading}
-use Rattle.cweb_scan.specs.Directives.{directive, is_punct}
-use Rattle.cweb_scan.specs.Run.{run}
-use Rattle.cweb_scan.specs.State.{State, part_tokens}
+use Rattle.cweb_scanner.specs.After.{Reading}
+use Rattle.cweb_scanner.specs.Directives.{directive, is_punct}
+use Rattle.cweb_scanner.specs.Run.{run}
+use Rattle.cweb_scanner.specs.State.{State, part_tokens}
 
 abbrev pub at_doubled : ℕ → List ℕ
 at_doubled b = if b == 64 then codes "@@" else b ∷ []

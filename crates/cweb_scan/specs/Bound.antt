@@ -6,7 +6,7 @@ use Rattle.cweb_store.specs.Growing.{PartsSoFar}
 use Rattle.cweb_store.specs.Calls.{Contents}
 use Rattle.cweb_store.specs.Replacements.{Replacement}
 use Rattle.cweb_rules.specs.Pays.{due}
-use Rattle.cweb_scan.specs.State.{State}
+use Rattle.cweb_scanner.specs.State.{State}
 
 abbrev pub total : {A : Type 0} → (A → ℕ) → List A → ℕ
 total f [] = 0

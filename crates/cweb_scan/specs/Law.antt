@@ -6,8 +6,8 @@ use Rattle.cweb_store.specs.Parts.{Token, Mark, all_tokens}
 use Rattle.cweb_store.specs.Calls.{Stored}
 use Rattle.cweb_store.specs.Texts.{bytes_given}
 use Rattle.cweb_rules.specs.Kinds.{Piece}
-use Rattle.cweb_scan.specs.After.{Reading, after}
-use Rattle.cweb_scan.specs.Run.{front_of, Scanned}
+use Rattle.cweb_scanner.specs.After.{Reading, after}
+use Rattle.cweb_scanner.specs.Run.{front_of, Scanned}
 
 -- the piece stands at the front of a text, and is what the rules name there
 pub record Fits (r : Reading) (t : List ℕ) (p : Piece) : Type 0 where

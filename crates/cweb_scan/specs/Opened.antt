@@ -3,12 +3,12 @@ use Rattle.std.specs.Prelude.{◌≡◌, ℕ, Bool, true, false, not, List}
 use Rattle.std.specs.List.{list_all}
 use Rattle.cweb_rules.specs.Bytes.{is_line_end}
 use Rattle.cweb_rules.specs.declared.context.Context.{Context}
-use Rattle.cweb_scan.specs.Kept.{has_part}
-use Rattle.cweb_scan.specs.Resume.{Item, sign_of}
-use Rattle.cweb_scan.specs.Resume as item
+use Rattle.cweb_scanner.specs.Kept.{has_part}
+use Rattle.cweb_scanner.specs.Resume.{Item, sign_of}
+use Rattle.cweb_scanner.specs.Resume as item
 use Rattle.cweb_scan.specs.declared.reader.open.Open.{Open}
 use Rattle.cweb_scan.specs.declared.reader.open.Open.TheVariants.{Between, Comment, Name, Literal, AfterBackslash, Raw}
-use Rattle.cweb_scan.specs.Quotes.{quote_byte}
+use Rattle.cweb_scanner.specs.Quotes.{quote_byte}
 
 abbrev pub item_of : Open → List ℕ → List ℕ → Item
 item_of Between delimiter text = item.Between

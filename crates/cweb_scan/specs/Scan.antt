@@ -8,14 +8,9 @@ use Rattle.cweb_lines.specs.Told.{given_lines}
 use Rattle.cweb_lines.specs.declared.limits.TheConstants.{LINES, BYTES}
 use Rattle.cweb_lines.specs.declared.stop.Stop.{Stop}
 use Rattle.cweb_store.specs.Parts.{Token, Mark, all_tokens}
-use Rattle.cweb_scan.specs.Held.{Held, read_after}
+use Rattle.cweb_scanner.specs.Held.{Held, read_after}
 use Rattle.cweb_scan.specs.Law.{IsBounded, web_size}
-use Rattle.cweb_scan.specs.Run.{Scanned, read, scanned, scanned_of}
-use Rattle.cweb_scan.specs.declared.scanning.scanned.Scanned as code
-
--- what the result of a scan stands for
-abbrev pub seen : code.Scanned → Scanned
-seen s = record { store = s.store; faults = s.faults.items; sections = s.sections; starred = s.starred.items }
+use Rattle.cweb_scanner.specs.Run.{Scanned, read, scanned, scanned_of}
 
 -- what is made of what was read, where no line follows
 abbrev pub made_of : Held → Scanned

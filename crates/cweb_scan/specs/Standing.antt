@@ -5,10 +5,10 @@ use Rattle.cweb_files.specs.declared.place.Place.{Place}
 use Rattle.cweb_lines.specs.Lines.{Line}
 use Rattle.cweb_rules.specs.Kinds.{Piece}
 use Rattle.cweb_rules.specs.Pays.{at_line_ends}
-use Rattle.cweb_scan.specs.After.{Reading, after}
-use Rattle.cweb_scan.specs.Held.{places}
-use Rattle.cweb_scan.specs.Run.{further, pieces}
-use Rattle.cweb_scan.specs.State.{before_text}
+use Rattle.cweb_scanner.specs.After.{Reading, after}
+use Rattle.cweb_scanner.specs.Held.{places}
+use Rattle.cweb_scanner.specs.Run.{further, pieces}
+use Rattle.cweb_scanner.specs.State.{before_text}
 
 -- before the first piece of the text of some lines
 abbrev pub unread_text : Line → List Line → Reading

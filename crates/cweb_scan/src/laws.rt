@@ -8,11 +8,11 @@ ghost use Rattle.cweb_rules.specs.Bytes.{first_is, is_blank};
 ghost use Rattle.cweb_rules.specs.Follows.{JoinsAll, is_quiet};
 ghost use Rattle.cweb_rules.specs.Kinds.{Piece};
 ghost use Rattle.cweb_rules.specs.declared.context.Context.TheVariants.{CText};
-ghost use Rattle.cweb_scan.specs.After.{Reading};
+ghost use Rattle.cweb_scanner.specs.After.{Reading};
 ghost use Rattle.cweb_scan.specs.Alone.{InPlainC, IsRead, ReadsAlone, bytes_of, doubled, goes_on, is_hash, solid};
-ghost use Rattle.cweb_scan.specs.Directives.{in_directive};
+ghost use Rattle.cweb_scanner.specs.Directives.{in_directive};
 ghost use Rattle.cweb_scan.specs.Law.{ArePieces, IsBounded, PlacesPass, web_size};
-ghost use Rattle.cweb_scan.specs.Run.{pieces, run, scanned};
+ghost use Rattle.cweb_scanner.specs.Run.{pieces, run, scanned};
 ghost use Rattle.cweb_scan.specs.Standing.{StandOnTheirLines};
 ghost use Rattle.cweb_store.specs.Parts.{Token};
 

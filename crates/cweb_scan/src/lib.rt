@@ -2,9 +2,6 @@
 //! The CWEB manual, "Control codes".
 #![tactic(auto)]
 
-// what was made of the text so far, and the steps
-mod scanner;
-
 // the lines, and the item that is open
 mod reader;
 
@@ -15,5 +12,5 @@ mod scanning;
 pub mod laws;
 
 pub use cweb_rules::{ScanFault, ScanKind};
+pub use cweb_scanner::Scanned;
 pub use scanning::scan;
-pub use scanning::scanned::Scanned;

@@ -9,12 +9,10 @@ pub mod open;
 pub mod opened;
 pub mod opening;
 pub mod rest;
-pub mod rule;
-pub mod units;
 
 use crate::reader::open::Open;
-use crate::scanner::Scanner;
 use cweb_files::{FileId, Place};
+use cweb_scanner::Scanner;
 use std::alloc::{AllocError, Global};
 use std::marker::Model;
 
@@ -31,7 +29,7 @@ pub struct Reader {
 }
 
 impl Model for Reader {
-    ghost use Rattle.cweb_scan.specs.Held.{Held};
+    ghost use Rattle.cweb_scanner.specs.Held.{Held};
     ghost use Rattle.cweb_scan.specs.Opened.{item_of, IsSigned};
 
     ghost Value = { Held };
@@ -47,7 +45,7 @@ impl Model for Reader {
 }
 
 impl Reader {
-    ghost use Rattle.cweb_scan.specs.Held.{unread};
+    ghost use Rattle.cweb_scanner.specs.Held.{unread};
 
     /// Before the first line.
     pub fn new(alloc: Global) -> Reader

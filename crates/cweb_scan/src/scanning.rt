@@ -10,14 +10,13 @@ ghost use Rattle.cweb_lines.specs.Naming.{BlamesFile};
 ghost use Rattle.cweb_lines.specs.Whole.{to_come, so_far, stop_in, HasEnded, Grows, KnowsReaders};
 ghost use Rattle.cweb_store.specs.Calls.{too_many};
 ghost use Rattle.cweb_scan.specs.Ahead.{ReadsAhead};
-ghost use Rattle.cweb_scan.specs.Held.{cost, unread};
-ghost use Rattle.cweb_scan.specs.Scan.{seen, made_of, Blames, EndsEarly, HasTaken, IsWithin, Scans};
-
-pub mod scanned;
+ghost use Rattle.cweb_scanner.specs.Held.{cost, unread};
+ghost use Rattle.cweb_scanner.specs.Seen.{seen};
+ghost use Rattle.cweb_scan.specs.Scan.{made_of, Blames, EndsEarly, HasTaken, IsWithin, Scans};
 
 use crate::reader::Reader;
-use crate::scanning::scanned::Scanned;
 use cweb_lines::{Ahead, Merger, Shelf, Stop};
+use cweb_scanner::Scanned;
 use std::alloc::{AllocError, Global};
 
 // No line follows.

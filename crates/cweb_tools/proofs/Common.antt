@@ -78,12 +78,13 @@ pub use Rattle.cweb_rules.specs.declared.effect.Effect.TheVariants.{GiveAt, Noth
 pub use Rattle.cweb_rules.specs.declared.effect.Effect.TheVariants.{InsertDefs, Joins, Faulty}
 pub use Rattle.cweb_rules.specs.declared.end.End.{End}
 pub use Rattle.cweb_rules.specs.declared.end.End.TheVariants.{Closed, Cut, Nested, Open}
-pub use Rattle.cweb_scan.specs.After.{Reading}
+pub use Rattle.cweb_scanner.specs.After.{Reading}
 pub use Rattle.cweb_scan.specs.Alone.{InPlainC, HasRead, IsRead, ReadsAlone, solid, is_between, doubled, at_doubled}
 pub use Rattle.cweb_scan.specs.Alone.{is_hash, bytes_of, goes_on, token_of, literal_of, is_clean}
-pub use Rattle.cweb_scan.specs.Run.{Scanned, scanned}
-pub use Rattle.cweb_scan.specs.Scan.{IsMarkBelow, EndsEarly, Scans, StopsAfter, seen}
-pub use Rattle.cweb_scan.specs.State.{before_text, part_tokens}
+pub use Rattle.cweb_scanner.specs.Run.{Scanned, scanned}
+pub use Rattle.cweb_scanner.specs.Seen.{seen}
+pub use Rattle.cweb_scan.specs.Scan.{IsMarkBelow, EndsEarly, Scans, StopsAfter}
+pub use Rattle.cweb_scanner.specs.State.{before_text, part_tokens}
 pub use Rattle.cweb_store.specs.Calls.{Stored, empty, with_open}
 pub use Rattle.cweb_store.specs.Parts.{Part, is_macro, numbers_from, numbers_where, Token, Mark, Name, Defs, all_tokens}
 pub use Rattle.cweb_store.specs.Parts.{is_of, is_unnamed, Word, Number, Literal, Verbatim, Punct, Blank, Newline, Join}

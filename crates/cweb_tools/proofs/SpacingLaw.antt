@@ -1,7 +1,7 @@
 -- The spacing law, by induction on the list.
 use Rattle.cweb_tools.proofs.Common.{◌≡◌, ℕ, Bool, true, false, cond, ◌==◌, not, List, [], ◌∷◌, ◌++◌, Option, Some, None, All, refl, ap, sym, ◌∙◌, subst, append_assoc, codes, if◌then◌else◌, nat_le, decimal, list_all, flat_map-append, All-head, All-tail, list_all-append, Token, Word, Number, Literal, Verbatim, Punct, Blank, Newline, Join, Defs, Name, Head, Tail, Mark, first_is, is_quiet, Reading, InPlainC, HasRead, IsRead, ReadsAlone, solid, is_between, doubled, at_doubled, is_hash, bytes_of, goes_on, Setting, print_after, file_text, word_text, kept, sep, are_apart, IsPlain, Spacing, is_ascii}
 use Rattle.cweb_rules.proofs.Joins.{both, unlike}
-use Rattle.cweb_scan.specs.Run.{run}
+use Rattle.cweb_scanner.specs.Run.{run}
 use Rattle.cweb_scan.proofs.Gaps.{one_more}
 use Rattle.cweb_scan.proofs.PlainStates.{nothing, and_then, no_directive}
 use Rattle.cweb_scan.proofs.PlainTokens.{newline_read, comment_read, comment_of, token_read, quiet_decimal, all_if}

@@ -3,9 +3,9 @@ use Rattle.std.specs.Prelude.{◌≡◌, Bool, true, false, nat_le, not, List, c
 use Rattle.std.specs.Prelude.{ℕ}
 use Rattle.std.specs.List.{list_all}
 use Rattle.cweb_store.specs.Parts.{Token, Word, Number, Literal, Punct, Blank, Newline, Head, Tail}
-use Rattle.cweb_scan.specs.After.{Reading}
-use Rattle.cweb_scan.specs.Directives.{is_punct}
-use Rattle.cweb_scan.specs.Run.{run}
+use Rattle.cweb_scanner.specs.After.{Reading}
+use Rattle.cweb_scanner.specs.Directives.{is_punct}
+use Rattle.cweb_scanner.specs.Run.{run}
 use Rattle.cweb_scan.specs.Alone.{ReadsAlone, InPlainC, HasRead, doubled, solid, is_hash}
 use Rattle.cweb_print.specs.Printing.{Setting, print}
 

@@ -7,7 +7,7 @@ use Rattle.cweb_lines.specs.declared.fault.SourceFault.{SourceFault}
 use Rattle.cweb_lines.specs.declared.stop.Stop.TheVariants.{WebNotOpened, ChangeNotOpened}
 use Rattle.cweb_store.specs.Calls.{Stored}
 use Rattle.cweb_store.specs.Parts.{Part, is_macro}
-use Rattle.cweb_scan.specs.Run.{Scanned, scanned}
+use Rattle.cweb_scanner.specs.Run.{Scanned, scanned}
 use Rattle.cweb_out.specs.Expansion.{expand}
 use Rattle.cweb_out.specs.Outputs as out
 use Rattle.cweb_out.specs.Outputs.{Output, Planned, Refusal, root_list}

@@ -1,7 +1,8 @@
 -- A web that was read, as the code holds it.
 use Rattle.std.specs.Prelude.{ℕ, List, All, ◌<◌, length, map, Option, Some, None}
 use Rattle.cweb_lines.specs.Names.{names_of}
-use Rattle.cweb_scan.specs.Scan.{IsBelow, seen}
+use Rattle.cweb_scanner.specs.Seen.{seen}
+use Rattle.cweb_scan.specs.Scan.{IsBelow}
 use Rattle.cweb_out.specs.Outputs.{Refusal, bad_name, same_name, cycle}
 use Rattle.cweb_out.specs.declared.planning.fault.PlanFault.{PlanFault}
 use Rattle.cweb_out.specs.declared.planning.fault.PlanFault.TheVariants as fault

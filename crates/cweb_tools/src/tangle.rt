@@ -2,7 +2,7 @@
 ghost use Rattle.std.specs.Prelude.{◌≡◌, ◌≢◌, ◌<◌, ◌+◌, ◌^◌, ◌∷◌, ◌==◌, if◌then◌else◌, None, Some, map};
 ghost use Rattle.std.specs.List.{flat_map};
 ghost use Rattle.std.specs.Option.{option_copied};
-ghost use Rattle.cweb_scan.specs.Scan.{seen};
+ghost use Rattle.cweb_scanner.specs.Seen.{seen};
 ghost use Rattle.cweb_out.specs.Outputs.{IsPlanOf};
 ghost use Rattle.cweb_log.specs.Gathering.{Writes};
 ghost use Rattle.cweb_log.specs.Items.{fault_count, line};

@@ -1,6 +1,6 @@
 // A web that was read, and how much it holds.
 ghost use Rattle.std.specs.Prelude.{◌≡◌, ◌<◌, ◌^◌, length};
-ghost use Rattle.cweb_scan.specs.Scan.{seen};
+ghost use Rattle.cweb_scanner.specs.Seen.{seen};
 ghost use Rattle.cweb_log.specs.Items.{fault_count};
 ghost use Rattle.cweb_tools.specs.Tangle.{numbers_of};
 ghost use Rattle.cweb_tools.specs.Web.{counted, faults_of};

@@ -3,25 +3,25 @@ ghost use Rattle.std.specs.Prelude.{◌≡◌, ◌≤◌, IfOk, codes, length, t
 
 use crate::reader::Reader;
 use crate::reader::codes::{effect_of, is_name};
-use crate::reader::opening::skipped_len;
 use cweb_files::Place;
 use cweb_rules::Context;
 use cweb_rules::bytes::{Class, at_line_end, begins, run_len, starts_section};
 use cweb_rules::rule::{Rule, c_rule};
+use cweb_scanner::skipped_len;
 use std::alloc::AllocError;
 
 impl Reader {
     ghost use Rattle.cweb_rules.specs.Bytes as bytes;
     ghost use Rattle.cweb_rules.specs.Lines.{IsLine};
-    ghost use Rattle.cweb_scan.specs.Fronted.{is_head, reads_c};
-    ghost use Rattle.cweb_scan.specs.Turned.{Passes};
-    ghost use Rattle.cweb_scan.specs.Resume.{Between};
-    ghost use Rattle.cweb_scan.specs.Room.{HasRoom};
+    ghost use Rattle.cweb_scanner.specs.Fronted.{is_head, reads_c};
+    ghost use Rattle.cweb_scanner.specs.Turned.{Passes};
+    ghost use Rattle.cweb_scanner.specs.Resume.{Between};
+    ghost use Rattle.cweb_scanner.specs.Room.{HasRoom};
     ghost use Rattle.cweb_rules.specs.declared.context.Context.TheVariants as context;
     ghost use Rattle.cweb_rules.specs.Rules as spec;
     ghost use Rattle.cweb_rules.specs.declared.rule.Rule.TheVariants as rule;
-    ghost use Rattle.cweb_scan.specs.Kept.{has_part};
-    ghost use Rattle.cweb_scan.specs.Ruled.{ends_macro_line, rule_in};
+    ghost use Rattle.cweb_scanner.specs.Kept.{has_part};
+    ghost use Rattle.cweb_scanner.specs.Ruled.{ends_macro_line, rule_in};
 
     // A code at the front, which is no section start.
     #[inline(never)]

@@ -8,9 +8,9 @@ use std::alloc::AllocError;
 
 impl Reader {
     ghost use Rattle.cweb_rules.specs.Lines.{IsLine};
-    ghost use Rattle.cweb_scan.specs.Held.{cost, TakesBytes};
-    ghost use Rattle.cweb_scan.specs.OpenRest.{awaits_line_end};
-    ghost use Rattle.cweb_scan.specs.Turned.{TakesTurn};
+    ghost use Rattle.cweb_scanner.specs.Held.{cost, TakesBytes};
+    ghost use Rattle.cweb_scanner.specs.OpenRest.{awaits_line_end};
+    ghost use Rattle.cweb_scanner.specs.Turned.{TakesTurn};
 
     // One turn: the plain C text at the front of the rest of a line and the piece behind it, or a part of the item that is open.
     fn take_turn(&mut self, rest: &[u8]) -> Result<usize, AllocError>

@@ -4,10 +4,9 @@ ghost use Rattle.cweb_store.specs.Calls.{too_many};
 
 use crate::reader::Reader;
 use crate::reader::open::Open;
-use crate::reader::opening::skipped_len;
-use crate::scanner::Scanner;
 use cweb_files::{FileId, Place};
 use cweb_rules::{Context, End};
+use cweb_scanner::{Scanner, skipped_len};
 use std::alloc::AllocError;
 
 impl Reader {
@@ -15,11 +14,11 @@ impl Reader {
     ghost use Rattle.std.specs.Prelude.{true, false, IsTrue};
     ghost use Rattle.cweb_lines.specs.Lines.{Line};
     ghost use Rattle.cweb_rules.specs.Lines.{IsLine};
-    ghost use Rattle.cweb_scan.specs.Fronted.{is_skipped, reads_c};
-    ghost use Rattle.cweb_scan.specs.Held.{after_line_end, cost, gone_to, read_after, text_ended, BeginsLine};
-    ghost use Rattle.cweb_scan.specs.OpenRest.{awaits_line_end};
-    ghost use Rattle.cweb_scan.specs.Resume.{Between};
-    ghost use Rattle.cweb_scan.specs.Room.{weight};
+    ghost use Rattle.cweb_scanner.specs.Fronted.{is_skipped, reads_c};
+    ghost use Rattle.cweb_scanner.specs.Held.{after_line_end, cost, gone_to, read_after, text_ended, BeginsLine};
+    ghost use Rattle.cweb_scanner.specs.OpenRest.{awaits_line_end};
+    ghost use Rattle.cweb_scanner.specs.Resume.{Between};
+    ghost use Rattle.cweb_scanner.specs.Room.{weight};
 
     // The line end before a line that stands at a place: it is passed once that place is known.
     fn end_line(&mut self, next: Place) -> Result<(), AllocError>

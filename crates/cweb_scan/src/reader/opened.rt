@@ -1,11 +1,10 @@
 // The item that is open, in the rest of a line.
-ghost use Rattle.std.specs.Prelude.{◌≡◌, ◌≤◌, if◌then◌else◌, length};
+ghost use Rattle.std.specs.Prelude.{◌≡◌, ◌≤◌, length};
 ghost use Rattle.cweb_rules.specs.Fronts as rules;
 ghost use Rattle.cweb_rules.specs.Lines.{is_open};
 
-use crate::scanner::Scanner;
+use cweb_rules::End;
 use cweb_rules::items::opener_sign;
-use cweb_rules::{Context, End};
 
 /// Whether an item goes on behind its line.
 pub fn goes_on(how: End) -> bool
@@ -22,19 +21,5 @@ pub fn sign_after(how: End, rest: &[u8]) -> usize
     match how {
         End::Closed => opener_sign(rest),
         _ => 0,
-    }
-}
-
-impl Scanner {
-    ghost use Rattle.cweb_scan.specs.Resume.{takes_sign};
-
-    /// How many bytes of an opener sign belong to the name before it: in C text none.
-    pub fn sign_taken(&self, sign: usize) -> usize
-        ensures { result ≡ (if takes_sign self.now then sign else 0) }
-    {
-        match self.context {
-            Context::CText => 0,
-            _ => sign,
-        }
     }
 }

@@ -1,31 +1,21 @@
 // Pieces of a line, where no item is open: what opens one.
-ghost use Rattle.std.specs.Prelude.{◌≡◌, ◌≤◌, ◌<◌, ◌+◌, ◌*◌, IfOk, codes, length, true, false};
-ghost use Rattle.std.specs.List.{prefix_len};
-ghost use Rattle.cweb_scan.specs.Fronted.{is_skipped};
+ghost use Rattle.std.specs.Prelude.{◌≡◌, IfOk, codes, true, false};
 
 use crate::reader::Reader;
-use crate::reader::open::{Open, Quote};
+use crate::reader::open::Open;
 use cweb_rules::bytes::begins;
 use cweb_rules::literals::{delimiter, literal_prefix, raw_prefix};
-use cweb_rules::plains::len_before;
+use cweb_scanner::Quote;
 use std::alloc::AllocError;
-
-/// How many bytes stand before the first `@`.
-pub fn skipped_len(text: &[u8]) -> usize
-    ensures value { result ≡ prefix_len is_skipped text.now }
-    ensures within { result ≤ length text.now }
-{
-    len_before(b'@', text)
-}
 
 impl Reader {
     ghost use Rattle.cweb_rules.specs.Bytes as spec;
     ghost use Rattle.cweb_rules.specs.Fronts.{starts_raw, starts_literal};
     ghost use Rattle.cweb_rules.specs.Lines.{IsLine};
-    ghost use Rattle.cweb_scan.specs.Fronted.{is_head, reads_c, reads_names, reads_literals, IsPast};
-    ghost use Rattle.cweb_scan.specs.Turned.{Passes};
-    ghost use Rattle.cweb_scan.specs.Resume.{Between};
-    ghost use Rattle.cweb_scan.specs.Room.{HasRoom};
+    ghost use Rattle.cweb_scanner.specs.Fronted.{is_head, reads_c, reads_names, reads_literals, IsPast};
+    ghost use Rattle.cweb_scanner.specs.Turned.{Passes};
+    ghost use Rattle.cweb_scanner.specs.Resume.{Between};
+    ghost use Rattle.cweb_scanner.specs.Room.{HasRoom};
 
     /// `/*`
     #[inline(never)]

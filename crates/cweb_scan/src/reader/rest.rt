@@ -3,19 +3,19 @@ ghost use Rattle.std.specs.Prelude.{◌≡◌, ◌≤◌, ◌<◌, ◌+◌, IfOk
 ghost use Rattle.cweb_store.specs.Calls.{too_many};
 
 use crate::reader::Reader;
-use crate::reader::open::{Open, Quote};
+use crate::reader::open::Open;
 use crate::reader::opened::{goes_on, sign_after};
-use crate::reader::units::push_unit;
 use cweb_files::Place;
 use cweb_rules::Look;
 use cweb_rules::items::{Item, reach};
+use cweb_scanner::{Quote, push_unit};
 use std::alloc::AllocError;
 
 impl Reader {
     ghost use Rattle.cweb_rules.specs.Lines.{IsLine};
-    ghost use Rattle.cweb_scan.specs.Held.{cost};
-    ghost use Rattle.cweb_scan.specs.OpenRest.{awaits_line_end, is_literal, is_open, literal_of, literal_turn, look_size, raw_of, text_of, with_run, TakesOpen};
-    ghost use Rattle.cweb_scan.specs.Resume.{InComment, InName};
+    ghost use Rattle.cweb_scanner.specs.Held.{cost};
+    ghost use Rattle.cweb_scanner.specs.OpenRest.{awaits_line_end, is_literal, is_open, literal_of, literal_turn, look_size, raw_of, text_of, with_run, TakesOpen};
+    ghost use Rattle.cweb_scanner.specs.Resume.{InComment, InName};
 
     // A comment, up to its end or that of the line.
     fn take_comment(&mut self, begun: Place, rest: &[u8]) -> Result<usize, AllocError>

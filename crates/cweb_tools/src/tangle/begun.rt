@@ -1,7 +1,8 @@
 // A run of `ctangle` behind the start of its merge.
 ghost use Rattle.std.specs.Prelude.{◌≡◌, ◌<◌, ◌+◌, ◌^◌, None, length};
 ghost use Rattle.cweb_lines.specs.Whole.{so_far, stop_in};
-ghost use Rattle.cweb_scan.specs.Scan.{IsBelow, seen};
+ghost use Rattle.cweb_scanner.specs.Seen.{seen};
+ghost use Rattle.cweb_scan.specs.Scan.{IsBelow};
 ghost use Rattle.cweb_log.specs.Options.{options_of};
 ghost use Rattle.cweb_log.specs.Seen.{seen_bins, seen_run, seen_stream};
 ghost use Rattle.cweb_tools.specs.Begun.{EndsBegun};

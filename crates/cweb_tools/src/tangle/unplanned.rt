@@ -1,6 +1,6 @@
 // How a run of `ctangle` ends whose outputs can't be planned.
 ghost use Rattle.std.specs.Prelude.{◌≡◌, ◌<◌, ◌+◌, ◌^◌, ◌∷◌, IfSome};
-ghost use Rattle.cweb_scan.specs.Scan.{seen};
+ghost use Rattle.cweb_scanner.specs.Seen.{seen};
 ghost use Rattle.cweb_out.specs.Outputs.{planned};
 ghost use Rattle.cweb_out.specs.Planning.{IsDue};
 ghost use Rattle.cweb_log.specs.Items.{fault_count};

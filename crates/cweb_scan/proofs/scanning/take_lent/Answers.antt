@@ -1,4 +1,4 @@
-use Rattle.cweb_scan.proofs.Common.{◌≡◌, ap, length, arith}
+use Rattle.cweb_scan.proofs.Common.{arith}
 use Rattle.cweb_lines.proofs.Aheads.{lends_then}
 use Rattle.cweb_scan.proofs.Aheads.{read_taken}
 use Rattle.cweb_scan.proofs.scanning.take_lent.Goals as goal

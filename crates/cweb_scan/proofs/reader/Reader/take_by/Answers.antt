@@ -1,7 +1,9 @@
 use Rattle.cweb_scan.proofs.Common.{◌&&◌, false, ap, sym, ◌∙◌, section_at, in_c, c_front_by, is_c, names_include}
-use Rattle.cweb_scan.proofs.CodeTurns.{closed_at}
-use Rattle.cweb_scan.proofs.RuleTurns.{closes, ends_closes, is_ended, left_ends, part_head, rule_closed, rule_in_line, two_fit}
-use Rattle.cweb_scan.proofs.Turns.{comment_seen, code_seen, raw_seen, literal_seen}
+use Rattle.cweb_scanner.proofs.CodeTurns.{closed_at}
+use Rattle.cweb_scanner.proofs.RuleTurns.{closes, rule_closed}
+use Rattle.cweb_scan.proofs.RuleTurns.{ends_closes, is_ended, left_ends, part_head, rule_in_line, two_fit}
+use Rattle.cweb_scanner.proofs.Turns.{literal_seen}
+use Rattle.cweb_scan.proofs.Turns.{comment_seen, code_seen, raw_seen}
 use Rattle.cweb_scan.proofs.reader.Reader.take_by.Goals as goal
 
 pub open_comment-requires-clause-sign : goal.open_comment-requires-clause-sign

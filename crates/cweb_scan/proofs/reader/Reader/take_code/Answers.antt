@@ -1,5 +1,6 @@
 use Rattle.cweb_scan.proofs.Common.{◌≡◌, ◌≤◌, true, false, length, get_or, ap, sym, ◌∙◌, subst, arith, code_front, Effect, names_include, Gives, effect_in, is_name, Held}
-use Rattle.cweb_scan.proofs.CodeTurns.{closed_at, code_size, plain_front}
+use Rattle.cweb_scanner.proofs.CodeTurns.{closed_at}
+use Rattle.cweb_scan.proofs.CodeTurns.{code_size, plain_front}
 use Rattle.cweb_scan.proofs.reader.Reader.take_code.Goals as goal
 
 pub returns : goal.returns

@@ -2,7 +2,7 @@ use Rattle.cweb_scan.proofs.Common.{◌+◌, length, refl, sym, ◌∙◌, Held,
 use Rattle.cweb_scan.proofs.OpenReaders.{open_at}
 use Rattle.cweb_scan.proofs.OpenRests.{comment_goes, comment_over}
 use Rattle.cweb_scan.proofs.Opens.{opened}
-use Rattle.cweb_scan.proofs.Turns.{between}
+use Rattle.cweb_scanner.proofs.Turns.{between}
 use Rattle.cweb_scan.proofs.reader.Reader.take_comment.Goals as goal
 
 pub returns-then-goes_on : goal.returns-then-goes_on

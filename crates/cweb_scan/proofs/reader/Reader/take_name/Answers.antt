@@ -3,7 +3,7 @@ use Rattle.cweb_scan.proofs.OpenReaders.{open_at, text_kept, has_text, name_text
 use Rattle.cweb_scan.proofs.OpenRests.{name_goes, name_over}
 use Rattle.cweb_scan.proofs.Opens.{opened}
 use Rattle.cweb_scan.proofs.Runs.{run_at, name_run}
-use Rattle.cweb_scan.proofs.Turns.{between}
+use Rattle.cweb_scanner.proofs.Turns.{between}
 use Rattle.cweb_scan.proofs.reader.Reader.take_name.Goals as goal
 
 pub returns-in_ok-push_unit-in-Goes : goal.returns-in_ok-push_unit-in-Goes

@@ -1,5 +1,6 @@
 use Rattle.cweb_scan.proofs.Common.{sym, ◌∙◌, section_at, names_include}
-use Rattle.cweb_scan.proofs.CodeTurns.{closed_at, section_text, skipped_at, text_head}
+use Rattle.cweb_scanner.proofs.CodeTurns.{closed_at}
+use Rattle.cweb_scan.proofs.CodeTurns.{section_text, skipped_at, text_head}
 use Rattle.cweb_scan.proofs.reader.Reader.take_text.Goals as goal
 
 pub returns-then-skipped-gt0 : goal.returns-then-skipped-gt0

@@ -1,8 +1,9 @@
 use Rattle.cweb_scan.proofs.Common.{ℕ, ◌+◌, List, length, ap, sym, ◌∙◌, subst, eqb-true, IsLine, Held, awaits_line_end, item_of}
-use Rattle.cweb_scan.specs.OpenRest.{is_open}
+use Rattle.cweb_scanner.specs.OpenRest.{is_open}
 use Rattle.cweb_scan.specs.declared.reader.open.Open.{Open}
 use Rattle.cweb_scan.proofs.LineTurns.{between_turn, open_turn, kept_open}
-use Rattle.cweb_scan.proofs.PlainTurns.{is_line_drop, piece_within, plain_all, plain_held, plain_room, plain_then}
+use Rattle.cweb_scanner.proofs.PlainTurns.{is_line_drop, piece_within}
+use Rattle.cweb_scan.proofs.PlainTurns.{plain_all, plain_held, plain_room, plain_then}
 use Rattle.cweb_scan.proofs.reader.Reader.take_turn.Goals as goal
 
 pub returns-in_ok-size-in-Between : goal.returns-in_ok-size-in-Between

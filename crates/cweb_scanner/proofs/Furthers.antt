@@ -1,0 +1,134 @@
+-- Plain C text: the pieces that their first bytes don't tell.
+use Rattle.cweb_scanner.proofs.Common.{◌≡◌, ◌≤◌, ℕ, zero, suc, ◌+◌, Bool, true, false, ◌||◌, ◌&&◌, ◌==◌, not, List, [], ◌∷◌, Option, Some, None, length, take, drop, refl, ap, sym, ◌∙◌, arith, if◌then◌else◌, codes, bytes_eq, nat_tests, Token, Number, Punct, Blank, begins, first_is, at_line_end, in_c, reach, size_of, front_in, comment_at, look_in_comment, IsLine, is_open, opens_in, reached, c_rule, c_front_by, listed, longest, number_len, Context, Limbo, TeX, Definition, Macro, CText, End, Closed, Cut, Open, Reached, Look, Rule, Reading, blank, comment, comment_line_end, punctuator, directive, is_c, is_some, names_include, some_include, Gives, ended_as, is_head, is_kept_back, IsPlainC, IsPlainToken, TakesPlain, State, give}
+use Rattle.cweb_rules.specs.declared.rule.Rule.TheVariants as rule
+use Rattle.cweb_rules.proofs.Looks.{comment-units}
+use Rattle.cweb_rules.proofs.TokenSizes.{longest-some}
+use Rattle.cweb_scanner.specs.Directives.{is_blank}
+use Rattle.cweb_scanner.specs.declared.scanner.directive.Last.TheVariants as last
+use Rattle.cweb_scanner.proofs.CodeTurns.{closed_at}
+use Rattle.cweb_scanner.proofs.Ends.{how-at_end, line_comment_gives, none_to_come, size-at_end}
+use Rattle.cweb_scanner.proofs.Plains.{none_open, rule_at, turn}
+use Rattle.cweb_scanner.proofs.Rests.{c_is, c_opens_is}
+use Rattle.cweb_scanner.proofs.Turns.{between, opens_by}
+
+-- RULES
+
+none_included : (o : Option (List Token)) → is_some o ≡ false → some_include o ≡ false
+none_included None h = refl
+none_included (Some ts) h = cc
+
+pub and_false : (a : Bool) → (a && false) ≡ false
+and_false true = refl
+and_false false = refl
+
+-- where no directive is open no included name is a rule
+rule_plain : (s : State) (u : List ℕ) (r : Rule) → IsPlainC s → r ≡ c_rule false u → r ≡ rule_at s u
+rule_plain s u r h is = is
+    ∙ ap (λ v. c_rule v u) (sym (ap (λ v. is_c s.context && v) (none_included (directive s).tokens (none_open s h))
+    ∙ and_false (is_c s.context)))
+
+ends_by : (c : Context) (includes : Bool) (u : List ℕ) (r : Rule) → c ≡ CText → r ≡ c_rule (is_c c && includes) u
+    → opens_by in_c u r ≡ false → (front_in c includes u ≡ c_front_by in_c false u r) × (opens_in c u ≡ false)
+ends_by Limbo includes u r h is ends = cc
+ends_by TeX includes u r h is ends = cc
+ends_by (Definition begun) includes u r h is ends = cc
+ends_by Macro includes u r h is ends = cc
+ends_by CText includes u r h is ends = (
+  c_is includes u ∙ ap (c_front_by in_c false u) (sym is),
+  c_opens_is includes u ∙ ap (opens_by in_c u) (sym is) ∙ ends,
+)
+
+-- an item that may go over its line, and ends in it
+pub ended_turn : (n : ℕ) (u : List ℕ) (s new : State) (r : Rule) → IsLine u → 1 ≤ length u → IsPlainC s → r
+    ≡ c_rule false u → opens_by in_c u r ≡ false → Gives (c_front_by in_c false u r) u n s new → TakesPlain n u s new
+ended_turn n u s new r line some h is ends gives =
+    let f = ends_by s.context (names_include s) u r h.in_c (rule_plain s u r h is) ends in
+    record {
+      taken = λ g. (closed_at n u (between s g) (between s g) new (c_front_by in_c false u r) refl refl
+          (ap is_head h.in_c) line some f.0 f.1 gives).taken;
+    }
+
+-- NUMBERS, WORDS AND PUNCTUATORS
+
+pub numeral_turn : (n : ℕ) (u : List ℕ) (s new : State) → IsLine u → 1 ≤ length u → s.context ≡ CText
+    → rule.Number ≡ rule_at s u → n ≡ number_len 0 u → new ≡ give (Number (take n u)) s → TakesPlain n u s new
+numeral_turn n u s new line some c_text is size made = turn n u s new rule.Number line some c_text is refl
+    (record { size = size; state = made ∙ ap (λ k. give (Number (take k u)) s) size })
+
+pub number_turn : (n : ℕ) (u : List ℕ) (s new : State) → IsLine u → 1 ≤ length u → IsPlainC s
+    → rule.Number ≡ c_rule false u → n ≡ number_len 0 u → new ≡ give (Number (take n u)) s → TakesPlain n u s new
+number_turn n u s new line some h is size made =
+    numeral_turn n u s new line some h.in_c (rule_plain s u rule.Number h is) size made
+
+pub seen_word : (s : State) (u : List ℕ) → IsPlainC s → rule.Identifier ≡ c_rule false u → rule.Identifier ≡ rule_at s u
+seen_word s u h is = rule_plain s u rule.Identifier h is
+
+pub operator_turn : (n : ℕ) (u : List ℕ) (s new : State) → IsLine u → 1 ≤ length u → IsPlainC s
+    → rule.Punctuator ≡ c_rule false u → n ≡ longest listed u
+    → new ≡ record (give (Punct (take n u)) s) { folded = false } → TakesPlain n u s new
+operator_turn n u s new line some h is size made =
+    turn n u s new rule.Punctuator line some h.in_c (rule_plain s u rule.Punctuator h is) refl
+    (record {
+      size = size;
+      state = made ∙ ap (λ v. record (give (Punct (take n u)) s) { folded = v && s.folded }) (sym h.outside)
+          ∙ ap (λ k. punctuator (take k u) s) size;
+    })
+
+other_side : (x b : ℕ) → (x == b) ≡ false → (b == x) ≡ false
+other_side x b h = grind (arith, nat_tests)
+
+either : (a b : Bool) → (a || b) ≡ false → (a ≡ false) × (b ≡ false)
+either true b h = cc
+either false b h = (refl, h)
+
+plain_punct : (n b : ℕ) (t : List ℕ) → is_kept_back b ≡ false → IsPlainToken (Punct (take (suc n) (b ∷ t)))
+plain_punct n b t kept =
+    let hash = (either (35 == b) _ (either (64 == b) _ kept).1).0 in
+    let back = (either (92 == b) _ (either (35 == b) _ (either (64 == b) _ kept).1).1).0 in
+    record {
+      hash = ap (λ v. v && bytes_eq (take n t) []) (other_side 35 b hash);
+      last = ap (λ v. if v && bytes_eq (take n t) [] then last.Backslash else last.Other) (other_side 92 b back);
+      solid = refl;
+    }
+
+pub operator_token : (n : ℕ) (u : List ℕ) → n ≡ longest listed u → 1 ≤ length u → first_is is_kept_back u ≡ false
+    → IsPlainToken (Punct (take n u))
+operator_token n [] size some kept = absurd (omega (arith, some))
+operator_token zero (b ∷ t) size some kept = absurd (omega (arith, size, longest-some listed (b ∷ t)))
+operator_token (suc n) (b ∷ t) size some kept = plain_punct n b t kept
+
+-- COMMENTS
+
+blank_is : (s : State) → IsPlainC s → blank s ≡ s
+blank_is s h = ap (λ v. if v && not (is_blank (directive s).last) then give Blank s else s) h.outside
+
+pub line_comment_turn : (u : List ℕ) (s : State) (r : Reached) → IsLine u → 1 ≤ length u → IsPlainC s
+    → rule.LineComment ≡ c_rule false u → r ≡ reached (reach (look_in_comment at_line_end 0) Open (drop 2 u))
+    → r.how ≡ Open → TakesPlain (2 + (r.size + r.close)) u s s
+line_comment_turn u s r line some h is reach ends = turn (2 + (r.size + r.close)) u
+    s s rule.LineComment line some h.in_c (rule_plain s u rule.LineComment h is) refl (line_comment_gives u r s s reach
+    (sym (blank_is s h) ∙ ap (λ (e : End). comment (ended_as Closed e) s.here (blank s)) (sym ends)))
+
+abbrev comment_look : List ℕ → Look
+comment_look = look_in_comment (begins (codes "*/")) 2
+
+comment_gives : (t : List ℕ) (r : Reached) (s : State) → r ≡ reached (reach comment_look Open (drop 2 t))
+    → r.how ≡ Closed → blank s ≡ s → Gives (comment_at t) t (2 + (r.size + r.close)) s s
+comment_gives t r s is closed stays =
+    let look = comment_look in
+    let units = comment-units (begins (codes "*/")) 2 in
+    let m = reach look Cut (drop 2 t) in
+    let how : m.how ≡ Closed = sym (how-at_end look units Cut (drop 2 t) r is) ∙ ap (ended_as Cut) closed in
+    record {
+      size = ap (λ k. 2 + k) (size-at_end look units Cut (drop 2 t) r is);
+      state = sym stays ∙ ap (λ (e : End). comment e s.here (blank s)) (sym how)
+          ∙ ap (λ (q : Reading). comment m.how s.here q.state)
+          (sym (none_to_come comment_line_end (take (2 + size_of m) t) (blank s)));
+    }
+
+pub comment_turn : (u : List ℕ) (s : State) (r : Reached) → IsLine u → 1 ≤ length u → IsPlainC s
+    → rule.Comment ≡ c_rule false u → r ≡ reached (reach (look_in_comment (begins (codes "*/")) 2) Open (drop 2 u))
+    → r.how ≡ Closed → TakesPlain (2 + (r.size + r.close)) u s s
+comment_turn u s r line some h is reach closed =
+    ended_turn (2 + (r.size + r.close)) u s s rule.Comment line some h is (sym (ap (λ (v : Reached).
+    is_open v.how) reach) ∙ ap is_open closed) (comment_gives u r s reach closed (blank_is s h))

@@ -1,0 +1,123 @@
+-- Plain C text: that a piece that its first byte tells is taken rightly.
+use Rattle.cweb_scanner.proofs.Common.{◌≡◌, ◌≤◌, ℕ, Bool, true, false, ◌&&◌, not, List, [], ◌∷◌, Option, Some, None, length, take, refl, ap, sym, ◌∙◌, subst, if◌then◌else◌, codes, option_map, prefix_len, fold-append, longer, Token, Word, Punct, Blank, Newline, Part, is_blank, is_word_byte, in_c, IsLine, c_rule, c_front_by, Context, CText, Rule, punctuator, directive, directive_of, directive_tokens, ends_line, is_c, is_punct, is_some, names_include, with_next, Gives, is_head, further, goes_over, has_part, is_line_end, is_outside, last_of, next_stage, outside, step, IsTied, IsPlainC, IsPlainToken, TakesPlain, ends_macro_line, State, give, tokens_of, Directive, Stage, Outside, Bare, Include, Further}
+use Rattle.cweb_rules.specs.declared.rule.Rule.TheVariants as rule
+use Rattle.cweb_scanner.specs.Directives as spec
+use Rattle.cweb_scanner.specs.declared.scanner.directive.Last.TheVariants as last
+use Rattle.cweb_scanner.proofs.CodeTurns.{closed_at}
+use Rattle.cweb_scanner.proofs.PlainFirsts.{IsSign}
+use Rattle.cweb_scanner.proofs.RuleTurns.{closes, rule_closed}
+use Rattle.cweb_scanner.proofs.TiedSteps.{outside-seen, tied_given}
+use Rattle.cweb_scanner.proofs.Turns.{between}
+
+-- DIRECTIVES
+
+no_more : (o : Option Part) (t : Token) → is_some (directive_of (tokens_of o)).tokens ≡ false
+    → is_punct (codes "#") (Some t) ≡ false
+    → is_some (directive_of (tokens_of (option_map (longer t) o))).tokens ≡ false
+no_more None t h plain = h
+no_more (Some p) t h plain =
+    let d = directive_of p.tokens in
+    ap (λ (e : spec.Directive). is_some e.tokens)
+    (fold-append with_next (record { tokens = None; last = None }) p.tokens (t ∷ []))
+    ∙ none_opens d.tokens d.last t h plain
+  where
+    none_opens : (o : Option (List Token)) (l : Option Token) (t : Token) → is_some o ≡ false
+        → is_punct (codes "#") (Some t) ≡ false → is_some (directive_tokens o l t) ≡ false
+    none_opens None l t h plain = ap (λ v. is_some (if v && ends_line l then Some [] else None)) plain
+    none_opens (Some ts) l t h plain = cc
+
+pub none_open : (s : State) → IsPlainC s → is_some (directive s).tokens ≡ false
+none_open s h = ap (λ (c : Context). is_c c && is_some (directive s).tokens) (sym h.in_c) ∙ h.outside
+
+pub stays_plain : (s : State) (t : Token) → IsPlainC s → IsPlainToken t → IsPlainC (give t s)
+stays_plain s t h plain = record {
+  in_c = h.in_c;
+  outside = ap (λ (c : Context). is_c c && is_some (directive (give t s)).tokens) h.in_c
+      ∙ no_more s.contents.parts.current t (none_open s h) plain.hash;
+}
+
+stage_outside : (g : Stage) → is_outside g ≡ true → g ≡ Outside
+stage_outside Outside h = refl
+stage_outside Bare h = cc
+stage_outside Include h = cc
+stage_outside Further h = cc
+
+not_true : (v : Bool) → not v ≡ false → v ≡ true
+not_true true h = refl
+not_true false h = cc
+
+step_plain : (d : Directive) (t : Token) → is_outside d.stage ≡ true → IsPlainToken t → step d t ≡ outside
+step_plain d t h plain =
+    (λ i. record {
+      stage = if h i then (if is_punct (codes "#") (Some t) && is_line_end d.last then Bare else Outside)
+          else (if is_line_end (last_of t) && not (goes_over d.last t) then Outside else further d.stage t);
+      last = plain.last i;
+    }) ∙ ap (λ v. record { stage = if v && is_line_end d.last then Bare else Outside; last = outside.last }) plain.hash
+
+-- what is kept after a plain token
+pub tied_plain : (d l : Directive) (c : Context) (o : Option Part) (t : Token) → IsTied d l c o → is_c c ≡ true
+    → has_part c ≡ true → is_some (directive_of (tokens_of o)).tokens ≡ false → IsPlainToken t
+    → IsTied outside outside c (option_map (longer t) o)
+tied_plain d l c o t tied in_c part none plain =
+    let is_out = ap (λ (e : Directive). is_outside e.stage) (tied.directive_is in_c)
+    ∙ not_true _ (outside-seen (directive_of (tokens_of o)).tokens ∙ none) in
+    let stepped = step_plain d t is_out plain in
+    subst (λ (e : Directive). IsTied e outside c (option_map (longer t) o)) stepped
+    (subst (λ (e : Directive). IsTied (step d t) e c (option_map (longer t) o))
+    (ap (λ v. if v then l else step d t) plain.solid ∙ stepped) (tied_given d l c o t tied part))
+
+-- what is kept after a line end where no directive is open
+step_newline : (d : Directive) → is_outside d.stage ≡ true
+    → step d Newline ≡ record { stage = d.stage; last = last.LineEnd }
+step_newline d h = λ i. record { stage = (stays h ∙ sym (stage_outside d.stage h)) i; last = last.LineEnd }
+  where
+    stays : is_outside d.stage ≡ true → next_stage d Newline ≡ Outside
+    stays h =
+        ap (λ v. if v then Outside else (if not (goes_over d.last Newline) then Outside else further d.stage Newline)) h
+
+pub tied_newline : (d l : Directive) (c : Context) (o : Option Part) → IsTied d l c o → is_c c ≡ true
+    → has_part c ≡ true → is_some (directive_of (tokens_of o)).tokens ≡ false
+    → IsTied (record { stage = d.stage; last = last.LineEnd }) l c (option_map (longer Newline) o)
+tied_newline d l c o tied in_c part none =
+    let is_out = ap (λ (e : Directive). is_outside e.stage) (tied.directive_is in_c)
+    ∙ not_true _ (outside-seen (directive_of (tokens_of o)).tokens ∙ none) in
+    subst (λ (e : Directive). IsTied e l c (option_map (longer Newline) o)) (step_newline d is_out)
+    (tied_given d l c o Newline tied part)
+
+-- PIECES
+
+-- the rule that fits in C text where this was read before
+abbrev pub rule_at : State → List ℕ → Rule
+rule_at s u = c_rule (is_c s.context && names_include s) u
+
+pub turn : (n : ℕ) (u : List ℕ) (s new : State) (r : Rule) → IsLine u → 1 ≤ length u → s.context ≡ CText
+    → r ≡ rule_at s u → closes r ≡ true → Gives (c_front_by in_c false u r) u n s new → TakesPlain n u s new
+turn n u s new r line some c_text is closed gives =
+    let f = rule_closed s.context (names_include s) u r (ap has_part c_text)
+    (ap (λ (c : Context). ends_macro_line c u) c_text) is closed in
+    record {
+      taken = λ g. (closed_at n u (between s g) (between s g) new (c_front_by in_c false u r) refl refl
+          (ap is_head c_text) line some f.0 f.1 gives).taken;
+    }
+
+pub blanks_turn : (n : ℕ) (u : List ℕ) (s : State) → IsLine u → 1 ≤ length u → IsPlainC s
+    → rule.Blanks ≡ rule_at s u → n ≡ prefix_len is_blank u → TakesPlain n u s s
+blanks_turn n u s line some h is size = turn n u s s rule.Blanks line some h.in_c is refl
+    (record {
+      size = size;
+      state = sym (ap (λ v. if v && not (spec.is_blank (directive s).last) then give Blank s else s) h.outside);
+    })
+
+pub word_turn : (n : ℕ) (u : List ℕ) (s new : State) → IsLine u → 1 ≤ length u → s.context ≡ CText → rule.Identifier
+    ≡ rule_at s u → n ≡ prefix_len is_word_byte u → new ≡ give (Word (take n u)) s → TakesPlain n u s new
+word_turn n u s new line some c_text is size made = turn n u s new rule.Identifier line some c_text is refl
+    (record { size = size; state = made ∙ ap (λ k. give (Word (take k u)) s) size })
+
+pub sign_turn : (u : List ℕ) (s new : State) → IsLine u → 1 ≤ length u → IsPlainC s → rule.Punctuator ≡ rule_at s u
+    → IsSign u → new ≡ record (give (Punct (take 1 u)) s) { folded = false } → TakesPlain 1 u s new
+sign_turn u s new line some h is sign made = turn 1 u s new rule.Punctuator line some h.in_c is refl
+    (record {
+      size = sym sign.size;
+      state = made ∙ ap (λ v. record (give (Punct (take 1 u)) s) { folded = v && s.folded }) (sym h.outside)
+          ∙ ap (λ k. punctuator (take k u) s) (sym sign.size);
+    })

@@ -1,0 +1,38 @@
+-- The rest of a line is taken piece by piece.
+use Rattle.cweb_scanner.proofs.Common.{◌≡◌, ℕ, zero, suc, ◌+◌, Bool, true, false, ◌&&◌, List, [], ◌∷◌, ◌++◌, drop, refl, ap, ◌∙◌, arith, if◌then◌else◌, codes, length-drop, begins, at_line_end, in_macro, in_c, front_in, c_front, Skipped, front, opens_in, c_rule, c_front_by, Macro, CText, Held, goes_on, Takes}
+use Rattle.cweb_rules.proofs.ByRules.{c_front-by}
+use Rattle.cweb_scanner.proofs.Turns.{opens_by, c_opens-by}
+
+-- ONE PIECE AND THEN ANOTHER
+
+pub drop_more : (m n : ℕ) (t : List ℕ) → drop (m + n) t ≡ drop n (drop m t)
+drop_more zero n t = let e : 0 + n ≡ n = omega arith in ap (λ k. drop k t) e
+drop_more (suc m) zero [] = let e : suc m + 0 ≡ suc m = omega arith in ap (λ k. drop k []) e
+drop_more (suc m) (suc n) [] = let e : suc m + suc n ≡ suc (m + suc n) = omega arith in ap (λ k. drop k []) e
+drop_more (suc m) n (b ∷ t) =
+    let e : suc m + n ≡ suc (m + n) = omega arith in ap (λ k. drop k (b ∷ t)) e ∙ drop_more m n t
+
+pub takes_none : (u : List ℕ) (h : Held) → Takes 0 u h h
+takes_none u h = record { begun = refl; within = omega arith; adds = omega arith; same = λ later more e. refl }
+
+pub takes_both : (n m : ℕ) (u : List ℕ) (a b c : Held) → Takes n u a b → Takes m (drop n u) b c → Takes (n + m) u a c
+takes_both n m u a b c x y = record {
+  begun = y.begun ∙ x.begun;
+  within = omega (arith, x.within, y.within, length-drop n u);
+  adds = omega (arith, x.adds, y.adds);
+  same = λ later more e.
+      ap (λ (t : List ℕ). goes_on c later (t ++ more)) (drop_more n m u) ∙ y.same later more e ∙ x.same later more e;
+}
+
+-- C TEXT AND MACROS, by the first rule that fits
+
+pub c_is : (includes : Bool) (u : List ℕ) → front_in CText includes u ≡ c_front_by in_c false u (c_rule includes u)
+c_is includes u = c_front-by in_c false includes u
+
+pub c_opens_is : (includes : Bool) (u : List ℕ) → opens_in CText u ≡ opens_by in_c u (c_rule includes u)
+c_opens_is includes u = c_opens-by in_c includes u
+
+pub macro_is : (includes : Bool) (u : List ℕ) → (begins (codes "\\") u && at_line_end (drop 1 u)) ≡ false
+    → front_in Macro includes u ≡ c_front_by in_macro true u (c_rule false u)
+macro_is includes u h =
+    ap (λ v. if v then front Skipped 1 else c_front in_macro true false u) h ∙ c_front-by in_macro true false u

@@ -1,0 +1,24 @@
+-- Room that stays where a macro ends and where a name is faulty.
+use Rattle.cweb_scanner.proofs.Common.{arith, Context, Limbo, TeX, Definition, Macro, CText, End, Closed, Cut, Nested, Open, Place, Occurrence, name_fault, HasRoom, HasPartRoom, State, end_macro_in, end_macro, with_name}
+use Rattle.cweb_store.proofs.CallerLemmas.{token_count_closed, part_count_closed}
+
+macro_room : (c : Context) (s : State) → HasPartRoom s → HasPartRoom (end_macro_in c s)
+macro_room Limbo s h = h
+macro_room TeX s h = h
+macro_room (Definition begun) s h = h
+macro_room CText s h = h
+macro_room Macro s h = record {
+  for_tokens = omega (arith, h.for_tokens, token_count_closed s.contents.parts);
+  for_a_part = omega (arith, h.for_a_part, part_count_closed s.contents.parts);
+}
+
+pub end_macro_room : (s : State) → HasPartRoom s → HasPartRoom (end_macro s)
+end_macro_room s h = macro_room s.context s h
+
+-- a name's occurrence and its fault leave the parts alone
+pub name_room : (how : End) (begun : Place) (o : Occurrence) (s : State)
+    → HasRoom 2 s → HasPartRoom (name_fault how begun (with_name o s))
+name_room Closed begun o s h = record { for_tokens = h.for_tokens; for_a_part = h.for_a_part }
+name_room Cut begun o s h = record { for_tokens = h.for_tokens; for_a_part = h.for_a_part }
+name_room Nested begun o s h = record { for_tokens = h.for_tokens; for_a_part = h.for_a_part }
+name_room Open begun o s h = record { for_tokens = h.for_tokens; for_a_part = h.for_a_part }

@@ -1,0 +1,74 @@
+-- An item of a line that ends in it: the state after it, whatever lines follow.
+use Rattle.cweb_scanner.proofs.Common.{◌≡◌, ℕ, false, List, [], ◌∷◌, ◌++◌, take, drop, refl, ap, sym, ◌∙◌, Place, Reading, on, comment_line_end, comment, blank, occurrence, literal, enter, item, after, text_in, Kind, Skipped, Section, Code, Letter, ControlText, Constant, Blanks, LineEnd, Comment, Quoted, Defined, Identifier, Numeral, Punctuator, Front, Piece, AtLineEnd, opens_in, IsLine, front_of, run, fold, take-append-le, drop-append-le, names_include, State, moved}
+use Rattle.cweb_rules.specs.Kinds.{Verbatim, Occurrence}
+use Rattle.cweb_rules.proofs.LineFronts.{front_line}
+use Rattle.cweb_rules.proofs.InLines.{InLine, stands}
+use Rattle.cweb_scanner.proofs.Fairs.{fair}
+use Rattle.cweb_scanner.proofs.LineUnits.{units_line}
+use Rattle.cweb_scanner.proofs.OpenItems.{none-line}
+use Rattle.cweb_scanner.proofs.Pieces.{first, pieces_first}
+
+abbrev pub reading : State → List Place → Reading
+reading s later = record { state = s; later = later }
+
+abbrev pub state_after : State → Piece → State
+state_after s p = (after (reading s []) p).state
+
+item_line : (k : Kind) (bytes : List ℕ) (s : State) (later : List Place) → InLine k bytes
+    → item k bytes (reading s later) ≡ reading (item k bytes (reading s [])).state later
+item_line Skipped bytes s later h = none-line moved bytes (reading s later) h
+    ∙ ap (λ (r : Reading). reading r.state later) (sym (none-line moved bytes (reading s []) h))
+item_line (Section starred) bytes s later h = refl
+item_line (Code e) bytes s later h = refl
+item_line (Letter byte text) bytes s later h = refl
+item_line (ControlText how) bytes s later h = refl
+item_line (Verbatim us how) bytes s later h = refl
+item_line (Constant v) bytes s later h = refl
+item_line (Occurrence is_file us how opens) bytes s later h =
+    ap (on (occurrence is_file (text_in us) how opens s.here)) (none-line moved bytes (reading s later) h)
+    ∙ ap (λ (r : Reading). reading (occurrence is_file (text_in us) how opens s.here r.state) later)
+    (sym (none-line moved bytes (reading s []) h))
+item_line Blanks bytes s later h = refl
+item_line LineEnd bytes s later h = absurd h
+item_line (Comment how) bytes s later h =
+    ap (on (comment how s.here)) (none-line comment_line_end bytes (reading (blank s) later) h)
+    ∙ ap (λ (r : Reading). reading (comment how s.here r.state) later)
+    (sym (none-line comment_line_end bytes (reading (blank s) []) h))
+item_line (Quoted us how) bytes s later h = ap (on (literal (text_in us) how s.here)) (units_line s later us h)
+    ∙ ap (λ (r : Reading). reading (literal (text_in us) how s.here r.state) later) (sym (units_line s [] us h))
+item_line (Defined tight) bytes s later h = refl
+item_line Identifier bytes s later h = refl
+item_line Numeral bytes s later h = refl
+item_line Punctuator bytes s later h = refl
+
+abbrev with_front : Reading → List ℕ → Front → Reading
+with_front r t f = run (after r (record { kind = f.kind; bytes = take f.size t })) (drop f.size t)
+
+-- what is read after a whole item of a line, and what follows
+pub run_line_item : (r : Reading) (b : ℕ) (t more : List ℕ) → AtLineEnd more → opens_in r.state.context (b ∷ t) ≡ false
+    → run r (b ∷ t ++ more) ≡ run (after r (first r (b ∷ t))) (drop (front_of r.state (b ∷ t)).size (b ∷ t) ++ more)
+run_line_item r b t more e h =
+    let f = front_of r.state (b ∷ t) in
+    let fits = (fair r.state b t).within in
+    ap (fold after r) (pieces_first r b (t ++ more) (fair r.state b (t ++ more)).some)
+    ∙ ap (with_front r (b ∷ t ++ more)) (front_line r.state.context (names_include r.state) b t more e h)
+    ∙ ap (λ u. run (after r (record { kind = f.kind; bytes = u })) (drop f.size (b ∷ t ++ more)))
+    (take-append-le f.size (b ∷ t) more fits)
+    ∙ ap (λ u. run (after r (first r (b ∷ t))) u) (drop-append-le f.size (b ∷ t) more fits)
+
+-- what is read after a whole item of a line, and what follows
+pub taken_item : (s : State) (later : List Place) (b : ℕ) (t more : List ℕ) → AtLineEnd more
+    → opens_in s.context (b ∷ t) ≡ false → InLine (front_of s (b ∷ t)).kind (take (front_of s (b ∷ t)).size (b ∷ t))
+    → run (reading s later) (b ∷ t ++ more) ≡
+    run (reading (state_after s (first (reading s []) (b ∷ t))) later) (drop (front_of s (b ∷ t)).size (b ∷ t) ++ more)
+taken_item s later b t more e ends h =
+    let f = front_of s (b ∷ t) in
+    run_line_item (reading s later) b t more e ends
+    ∙ ap (λ (r : Reading). run r (drop f.size (b ∷ t) ++ more))
+    (item_line f.kind (take f.size (b ∷ t)) (enter f.kind s) later h)
+
+-- an item that ends in its line
+pub taken : (s : State) (later : List Place) (b : ℕ) (t more : List ℕ)
+    → IsLine (b ∷ t) → AtLineEnd more → opens_in s.context (b ∷ t) ≡ false → run (reading s later) (b ∷ t ++ more) ≡
+    run (reading (state_after s (first (reading s []) (b ∷ t))) later) (drop (front_of s (b ∷ t)).size (b ∷ t) ++ more)
+taken s later b t more h e ends = taken_item s later b t more e ends (stands s.context (names_include s) b t h)

@@ -1,0 +1,17 @@
+use Rattle.cweb_scanner.proofs.Common.{sym, ap, subst, arith, Contents, token_count, IsTied, State}
+use Rattle.cweb_scanner.proofs.Drops.{dropped_count}
+use Rattle.cweb_scanner.proofs.TiedSteps.{tied_dropped}
+use Rattle.cweb_scanner.proofs.scanner.Scanner.join.Goals as goal
+
+pub invariant_of-self : goal.invariant_of-self
+invariant_of-self c =
+    let s = c.self.inside in
+    subst (λ (v : Contents). IsTied s.solid s.solid s.context v.parts.current) (sym c.drop_layout.ensures)
+    (tied_dropped s.directive s.solid s.context s.builder.parts.current c.self.invariant)
+
+pub give-requires-clause-few : goal.give-requires-clause-few
+give-requires-clause-few c =
+    let s = c.self.inside in
+    let same = ap (λ (v : Contents). token_count v.parts) c.drop_layout.ensures in
+    let view = ap (λ (u : State). token_count u.contents.parts) c.self.view_is in
+    omega (arith, same, dropped_count s.builder.parts, view, c.requires.room.for_tokens)

@@ -1,0 +1,17 @@
+pub mod Names
+pub mod State
+pub mod Directives
+pub mod After
+pub mod Run
+pub mod Resume
+pub mod Held
+pub mod Kept
+pub mod Room
+pub mod Fronted
+pub mod Quotes
+pub mod Ruled
+pub mod OpenRest
+pub mod Turned
+pub mod Plain
+pub mod WholeLiterals
+pub mod Seen

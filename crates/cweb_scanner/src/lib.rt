@@ -1,0 +1,12 @@
+//! What the pieces of a web's text give, one after another: the parts and names that a store keeps, the faults, the sections.
+//! The CWEB manual, "Control codes".
+#![tactic(auto)]
+
+// what was made of the text so far, and the steps
+mod scanner;
+
+pub use scanner::Scanner;
+pub use scanner::quote::Quote;
+pub use scanner::scanned::Scanned;
+pub use scanner::skipped::skipped_len;
+pub use scanner::units::push_unit;

@@ -1,0 +1,102 @@
+// Line ends.
+ghost use Rattle.std.specs.Prelude.{◌≡◌, ◌<◌, ◌+◌, OnOk, true};
+ghost use Rattle.cweb_scanner.specs.After as after;
+
+use crate::scanner::Scanner;
+use crate::scanner::directive::Last;
+use cweb_files::Place;
+use cweb_rules::Context;
+use cweb_store::Token;
+use std::alloc::AllocError;
+
+// Whether a line is the next one of the same file.
+fn follows(here: Place, next: Place) -> bool
+    ensures { result ≡ after.follows here next }
+{
+    here.file.0 == next.file.0 && here.line < next.line && next.line - here.line == 1
+}
+
+impl Scanner {
+    ghost use Rattle.cweb_store.specs.Calls.{too_many};
+    ghost use Rattle.cweb_store.specs.Growing.{token_count};
+    ghost use Rattle.cweb_scanner.specs.After.{line_end, comment_line_end, line_end_token};
+    ghost use Rattle.cweb_scanner.specs.Directives.{is_c};
+    ghost use Rattle.cweb_scanner.specs.Plain.{IsPlainC};
+    ghost use Rattle.cweb_store.specs.Parts.{Newline};
+    ghost use Rattle.cweb_scanner.specs.State as spec;
+
+    // What a line end before a line at a place gives in C text.
+    fn give_line_end(&mut self, next: Place) -> Result<(), AllocError>
+        requires in_c { is_c self.old.context ≡ true }
+        requires few { token_count self.old.contents.parts + 1 < too_many }
+        ensures { OnOk result (self.new ≡ spec.give (line_end_token next self.old) self.old) }
+    {
+        if self.in_directive() && matches!(self.directive.last, Last::Backslash) {
+            self.give(Token::Newline)?;
+            return Ok(());
+        }
+        if (self.in_directive() && self.folded) || !follows(self.here, next) {
+            self.give(Token::Mark(next))?;
+            return Ok(());
+        }
+        self.give(Token::Newline)?;
+        Ok(())
+    }
+
+    // A Newline where no directive is open: none is open behind it.
+    #[inline(always)]
+    fn give_newline(&mut self) -> Result<(), AllocError>
+        requires in_c { IsPlainC self.old }
+        requires few { token_count self.old.contents.parts + 1 < too_many }
+        ensures { OnOk result (self.new ≡ spec.give Newline self.old) }
+    {
+        self.builder.push(Token::Newline)?;
+        self.directive.last = Last::LineEnd;
+        Ok(())
+    }
+
+    /// The line end before a line that stands at a place. Most stand in C text outside directives, between lines that follow
+    /// one another: those give a Newline at once.
+    #[inline(always)]
+    pub fn end_line(&mut self, next: Place) -> Result<(), AllocError>
+        requires { token_count self.old.contents.parts + 1 < too_many }
+        ensures { OnOk result (self.new ≡ line_end next self.old) }
+    {
+        if matches!(self.context, Context::CText)
+            && !self.in_directive()
+            && follows(self.here, next)
+        {
+            self.give_newline()?;
+            self.go_to(next);
+            return Ok(());
+        }
+        self.end_any_line(next)
+    }
+
+    // The same, whatever it gives.
+    #[inline(never)]
+    fn end_any_line(&mut self, next: Place) -> Result<(), AllocError>
+        requires { token_count self.old.contents.parts + 1 < too_many }
+        ensures { OnOk result (self.new ≡ line_end next self.old) }
+    {
+        if matches!(self.context, Context::CText) {
+            self.give_line_end(next)?;
+        } else if matches!(self.context, Context::Macro) {
+            self.give(Token::Newline)?;
+        }
+        self.go_to(next);
+        Ok(())
+    }
+
+    /// A line end in a comment, which gives nothing in a directive.
+    pub fn end_comment_line(&mut self, next: Place) -> Result<(), AllocError>
+        requires { token_count self.old.contents.parts + 1 < too_many }
+        ensures { OnOk result (self.new ≡ comment_line_end next self.old) }
+    {
+        if self.in_directive() {
+            self.go_to(next);
+            return Ok(());
+        }
+        self.end_line(next)
+    }
+}

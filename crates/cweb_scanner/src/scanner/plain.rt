@@ -1,0 +1,158 @@
+// Plain C text, where no item and no directive is open: the pieces that their first bytes tell, one after another.
+ghost use Rattle.std.specs.Prelude.{◌≡◌, ◌≤◌, ◌<◌, ◌+◌, ◌*◌, IfOk, IfSome, OnOk, OnErr, length};
+ghost use Rattle.cweb_store.specs.Calls.{too_many};
+ghost use Rattle.cweb_store.specs.Seen.{seen};
+ghost use Rattle.cweb_scanner.specs.Plain.{past_blank, plain_by, taken_size, IsPlainC, IsPlainToken, TakesPlain};
+
+use crate::scanner::Scanner;
+use crate::scanner::directive::Directive;
+use crate::scanner::plain::Plain::{Blank, Digit, Further, Operator, Quote, Sign, Stop, Word};
+use cweb_rules::Context;
+use cweb_rules::bytes::{Class, begun_run_len};
+use cweb_store::Token;
+use std::alloc::AllocError;
+
+// What a first byte tells of its piece.
+#[derive(Clone, Copy)]
+pub(crate) enum Plain {
+    Blank,
+    Word,
+    Sign,
+    Operator,
+    Digit,
+    Quote,
+    Further,
+    Stop,
+}
+
+// The same for each byte: one look a piece.
+static FIRSTS: [Plain; 256] = [
+    Operator, Operator, Operator, Operator, Operator, Operator, Operator, Operator, Operator,
+    Blank, Further, Blank, Blank, Blank, Operator, Operator, Operator, Operator, Operator,
+    Operator, Operator, Operator, Operator, Operator, Operator, Operator, Operator, Operator,
+    Operator, Operator, Operator, Operator, Blank, Operator, Quote, Stop, Word, Operator, Operator,
+    Quote, Sign, Sign, Operator, Operator, Sign, Operator, Further, Further, Digit, Digit, Digit,
+    Digit, Digit, Digit, Digit, Digit, Digit, Digit, Operator, Sign, Operator, Operator, Operator,
+    Sign, Stop, Word, Word, Word, Word, Word, Word, Word, Word, Word, Word, Word, Further, Word,
+    Word, Word, Word, Word, Further, Word, Word, Further, Word, Word, Word, Word, Word, Sign, Stop,
+    Sign, Operator, Word, Operator, Word, Word, Word, Word, Word, Word, Word, Word, Word, Word,
+    Word, Word, Word, Word, Word, Word, Word, Word, Word, Word, Further, Word, Word, Word, Word,
+    Word, Sign, Operator, Sign, Sign, Operator, Word, Word, Word, Word, Word, Word, Word, Word,
+    Word, Word, Word, Word, Word, Word, Word, Word, Word, Word, Word, Word, Word, Word, Word, Word,
+    Word, Word, Word, Word, Word, Word, Word, Word, Word, Word, Word, Word, Word, Word, Word, Word,
+    Word, Word, Word, Word, Word, Word, Word, Word, Word, Word, Word, Word, Word, Word, Word, Word,
+    Word, Word, Word, Word, Word, Word, Word, Word, Word, Word, Word, Word, Word, Word, Word, Word,
+    Word, Word, Word, Word, Word, Word, Word, Word, Word, Word, Word, Word, Word, Word, Word, Word,
+    Word, Word, Word, Word, Word, Word, Word, Word, Word, Word, Word, Word, Word, Word, Word, Word,
+    Word, Word, Word, Word, Word, Word, Word, Word, Word, Word, Word, Word, Word, Word, Word, Word,
+    Word, Word, Word, Word, Word, Word, Word, Word,
+];
+
+#[inline(always)]
+pub(crate) fn plain_of(byte: u8) -> Plain
+    ensures { result ≡ plain_by byte }
+{
+    FIRSTS[byte as usize]
+}
+
+// What stands behind a blank at the front of a text: most pieces have one blank before them, and it gives nothing.
+#[inline(always)]
+fn past_blank(text: &[u8]) -> &[u8]
+    requires { 1 ≤ length text.now }
+    ensures { result.now ≡ past_blank text.now }
+{
+    if text[0] == b' ' {
+        return text.split_at(1).1;
+    }
+    text
+}
+
+// A piece of no bytes is none.
+#[inline(always)]
+pub(crate) fn piece_of(size: usize) -> Option<usize>
+    ensures size { taken_size result ≡ size }
+    ensures some { IfSome result (λ n. 1 ≤ n) }
+{
+    if size == 0 { None } else { Some(size) }
+}
+
+impl Scanner {
+    ghost use Rattle.cweb_store.specs.Growing.{token_count};
+    ghost use Rattle.cweb_rules.specs.Lines.{IsLine};
+    ghost use Rattle.cweb_scanner.specs.Room.{weight};
+    ghost use Rattle.cweb_scanner.specs.State as spec;
+
+    // A token that leaves no directive open. A refused call changes nothing.
+    #[inline(always)]
+    pub(crate) fn give_plain(&mut self, token: Token<'_>) -> Result<(), AllocError>
+        requires in_c { IsPlainC self.old }
+        requires plain { IsPlainToken (seen token) }
+        requires few { token_count self.old.contents.parts + 1 < too_many }
+        ensures ok { OnOk result (self.new ≡ spec.give (seen token.entry) self.old) }
+        ensures err { OnErr result (self.new ≡ self.old) }
+    {
+        self.builder.push(token)?;
+        let next = Directive::new();
+        self.solid = next;
+        self.directive = next;
+        Ok(())
+    }
+
+    // The piece at the front of the rest of a line, where its first byte tells it; else nothing.
+    #[inline(always)]
+    fn take_piece(&mut self, rest: &[u8]) -> Result<Option<usize>, AllocError>
+        requires in_c { IsPlainC self.old }
+        requires line { IsLine rest.now }
+        requires some { 1 ≤ length rest.now }
+        requires room { weight self.old + 1 < too_many }
+        ensures taken { IfOk result (λ o. TakesPlain (taken_size o) rest.now self.old self.new) }
+        ensures some { IfOk result (λ o. IfSome o (λ n. 1 ≤ n)) }
+        ensures stays { OnOk result (IsPlainC self.new) }
+    {
+        match plain_of(rest[0]) {
+            Plain::Blank => Ok(Some(begun_run_len(Class::Blank, rest))),
+            Plain::Word => {
+                let size = begun_run_len(Class::Word, rest);
+                self.give_plain(Token::Word(rest.split_at(size).0))?;
+                Ok(Some(size))
+            }
+            Plain::Sign => {
+                self.give_plain(Token::Punct(rest.split_at(1).0))?;
+                self.folded = false;
+                Ok(Some(1))
+            }
+            Plain::Operator => Ok(piece_of(self.take_operator(rest)?)),
+            Plain::Digit => Ok(piece_of(self.take_number(rest)?)),
+            Plain::Quote => Ok(piece_of(self.take_whole_literal(rest)?)),
+            Plain::Further => Ok(piece_of(self.take_further(rest)?)),
+            Plain::Stop => Ok(None),
+        }
+    }
+
+    /// Takes the pieces at the front of the rest of a line that their first bytes tell, in C text. Answers how many bytes they
+    /// have.
+    pub fn take_plain(&mut self, rest: &[u8]) -> Result<usize, AllocError>
+        requires line { IsLine rest.now }
+        requires room { weight self.old + 3 * length rest.now + 8 < too_many }
+        ensures { IfOk result (λ n. TakesPlain n rest.now self.old self.new) }
+    {
+        if !matches!(self.context(), Context::CText) {
+            return Ok(0);
+        }
+        if self.in_directive() {
+            return self.take_directive_text(rest);
+        }
+        let mut left = rest;
+        'pieces: while !left.is_empty() {
+            let piece = past_blank(left);
+            if piece.is_empty() {
+                return Ok(rest.len() - piece.len());
+            }
+            match self.take_piece(piece)? {
+                Some(size) => left = piece.split_at(size).1,
+                None => return Ok(rest.len() - piece.len()),
+            }
+        }
+        Ok(rest.len() - left.len())
+    }
+}

@@ -1,0 +1,45 @@
+// What a scan gives.
+ghost use Rattle.std.specs.Prelude.{◌≡◌, IfOk};
+ghost use Rattle.cweb_scanner.specs.Room.{HasRoom};
+ghost use Rattle.cweb_scanner.specs.Run.{scanned_of};
+ghost use Rattle.cweb_scanner.specs.Seen.{seen};
+
+use crate::scanner::Scanner;
+use cweb_rules::ScanFault;
+use cweb_store::Store;
+use std::alloc::AllocError;
+
+/// What a scan makes of the merged lines of a web: its parts, names and replacements, the faults in the order of the items
+/// that have them, how many sections there are, and the numbers of the starred ones.
+#[derive(Drop)]
+pub struct Scanned {
+    pub store: Store,
+    pub faults: Vec<ScanFault>,
+    pub sections: u32,
+    pub starred: Vec<u32>,
+}
+
+impl Scanner {
+    /// What was made of the whole text.
+    pub fn scanned(self) -> Result<Scanned, AllocError>
+        requires { HasRoom 1 self }
+        ensures { IfOk result (λ made. seen made ≡ scanned_of self) }
+    {
+        let mut scanner = self;
+        scanner.leave()?;
+        let Scanner {
+            builder,
+            faults,
+            sections,
+            starred,
+            ..
+        } = scanner;
+        let store = builder.finish()?;
+        Ok(Scanned {
+            store,
+            faults,
+            sections,
+            starred,
+        })
+    }
+}

@@ -1,0 +1,122 @@
+// Units of the items that last to an end sign.
+ghost use Rattle.std.specs.Prelude.{◌≡◌, ◌≤◌, ◌<◌, ◌+◌, ◌++◌, IfOk, OnErr, OnOk, length, fold, true};
+ghost use Rattle.cweb_rules.specs.Cut as cut;
+ghost use Rattle.cweb_rules.specs.Items as items;
+ghost use Rattle.cweb_rules.specs.Looks.{look_of, reached};
+ghost use Rattle.cweb_rules.specs.declared.end.End.TheVariants as how;
+ghost use Rattle.cweb_scanner.specs.Fronted.{unit_state};
+
+use crate::scanner::Scanner;
+use crate::scanner::codes::ended;
+use cweb_rules::items::{Item, reach};
+use cweb_rules::{End, Look, ScanKind};
+use std::alloc::AllocError;
+
+/// Adds a unit to a text: `@@` stands for `@`.
+pub fn push_unit(text: &mut Vec<u8>, unit: &[u8]) -> Result<(), AllocError>
+    ensures { OnOk result (text.new.items ≡ text.old.items ++ items.unit_bytes unit.now) }
+{
+    if unit == b"@@".as_slice() {
+        text.push(b'@')?;
+        return Ok(());
+    }
+    text.extend_from_slice(unit)?;
+    Ok(())
+}
+
+/// Adds the text of an item's units in a line.
+pub fn push_units(text: &mut Vec<u8>, item: Item<'_>, line: &[u8]) -> Result<(), AllocError>
+    ensures { OnOk result
+        (text.new.items
+        ≡ text.old.items
+        ++ items.text_in (cut.reach (look_of item.entry) how.Open line.now).units) }
+{
+    let mut rest = line;
+    'units: while !rest.is_empty() {
+        let Look::Goes(size) = item.look(rest) else {
+            return Ok(());
+        };
+        let (unit, after) = rest.split_at(size.min(rest.len()));
+        push_unit(text, unit)?;
+        rest = after;
+    }
+    Ok(())
+}
+
+impl Scanner {
+    ghost use Rattle.cweb_rules.specs.Fronts.{include_at, verbatim_at};
+    ghost use Rattle.cweb_rules.specs.Lines.{IsLine};
+    ghost use Rattle.cweb_scanner.specs.Fronted.{Gives};
+    ghost use Rattle.cweb_scanner.specs.Kept.{has_part};
+    ghost use Rattle.cweb_scanner.specs.Room.{HasRoom};
+
+    /// A unit of a literal: an `@` that isn't doubled is a fault. A refused call changes nothing.
+    pub fn tell_unit(&mut self, unit: &[u8]) -> Result<(), AllocError>
+        ensures ok { OnOk result (self.new ≡ unit_state self.old unit.now) }
+        ensures err { OnErr result (self.new ≡ self.old) }
+    {
+        if unit == b"@".as_slice() {
+            self.fault(ScanKind::DoubleAtInString, self.here)?;
+        }
+        Ok(())
+    }
+
+    /// The faults of a literal's units in a line.
+    pub fn tell_units(&mut self, item: Item<'_>, line: &[u8]) -> Result<(), AllocError>
+        ensures { OnOk result
+            (self.new
+            ≡ fold unit_state self.old
+            (cut.reach (look_of item.entry) how.Open line.now).units) }
+    {
+        let mut rest = line;
+        'units: while !rest.is_empty() {
+            let Look::Goes(size) = item.look(rest) else {
+                return Ok(());
+            };
+            let (unit, after) = rest.split_at(size.min(rest.len()));
+            self.tell_unit(unit)?;
+            rest = after;
+        }
+        Ok(())
+    }
+
+    /// `@=`: a text up to `@>` that is given as it stands.
+    pub fn take_verbatim(&mut self, rest: &[u8]) -> Result<usize, AllocError>
+        requires two { 2 ≤ length rest.now }
+        requires part { has_part self.old.context ≡ true }
+        requires room { HasRoom 1 self.old }
+        ensures { IfOk result (λ n. Gives (verbatim_at rest.now) rest.now n self.old self.new) }
+    {
+        let (_, line) = rest.split_at(2);
+        let reached = reach(Item::ControlText, line);
+        let mut text = Vec::new(self.alloc);
+        push_units(&mut text, Item::ControlText, line)?;
+        self.give_verbatim(&text, ended(End::Cut, reached.how))?;
+        Ok(2 + (reached.size + reached.close))
+    }
+
+    /// An included name in a directive, with its signs.
+    #[inline(never)]
+    pub fn take_included_name(&mut self, rest: &[u8]) -> Result<usize, AllocError>
+        requires line { IsLine rest.now }
+        requires some { 1 ≤ length rest.now }
+        requires part { has_part self.old.context ≡ true }
+        requires room { HasRoom 1 self.old }
+        ensures { IfOk result (λ n. Gives (include_at rest.now) rest.now n self.old self.new) }
+    {
+        let begun = self.here();
+        let (sign, line) = rest.split_at(1);
+        let reached = reach(Item::IncludedName, line);
+        let (_, closing) = rest.split_at(1 + reached.size);
+        let (close, _) = closing.split_at(reached.close);
+        let mut text = Vec::new(self.alloc);
+        push_unit(&mut text, sign)?;
+        push_units(&mut text, Item::IncludedName, line)?;
+        push_unit(&mut text, close)?;
+        self.tell_unit(sign)?;
+        self.tell_units(Item::IncludedName, line)?;
+        self.tell_unit(close)?;
+        self.give_literal(&text, ended(End::Cut, reached.how), begun)?;
+        Ok(1 + (reached.size + reached.close))
+    }
+}
