@@ -1,17 +1,24 @@
 // What no clause says: worked webs and changes, the limits, and devices that fail, that take little at once or that never end.
+mod ahead;
 mod borders;
+mod changed_files;
+mod changed_lines;
 mod changes;
 mod devices;
 mod failing;
+mod failing_writes;
 mod limits;
+mod mergers;
 mod pieces;
 mod wanted;
 mod webs;
 
 use cweb_lines::*;
+use mergers::*;
 use std::alloc::{AllocError, Global};
+use std::process::Abort;
 use std::test::Fail;
-use trial::shelf_of;
+use trial::{TrialSink, shelf_of};
 use wanted::*;
 
 /// The count of a fault, where it has one, and the end of its line.
@@ -51,15 +58,28 @@ fn tell_names<S: Shelf>(told: &mut String, merger: &Merger<S>, from: u32) -> Res
     Ok(())
 }
 
-fn faults_told<S: Shelf>(alloc: Global, merger: &Merger<S>) -> Result<String, Fail> {
-    let mut told = String::new(alloc);
+/// A merger tells these faults and the names of these files, a line each.
+fn tells<S: Shelf>(
+    rt: &(impl AllocGlobal + Abort),
+    merger: &Merger<S>,
+    want: &str,
+) -> Result<(), Fail> {
+    let mut told = String::new(rt.alloc());
     tell_faults(&mut told, merger)?;
-    Ok(told)
+    tell_names(&mut told, merger, 0)?;
+    same_text(rt, told.as_str(), want);
+    Ok(())
 }
 
-/// The faults and the names of the files so far, a line each.
-fn told<S: Shelf>(alloc: Global, merger: &Merger<S>) -> Result<String, Fail> {
-    let mut told = faults_told(alloc, merger)?;
-    tell_names(&mut told, merger, 0)?;
-    Ok(told)
+/// A merger still has this to write.
+fn writes(
+    rt: &(impl AllocGlobal + Abort),
+    merger: &mut Merger<MemoryShelf>,
+    shelf: &mut MemoryShelf,
+    want: &[u8],
+) -> Result<(), Fail> {
+    let mut sink = TrialSink::new(rt.alloc());
+    write_merged(merger, shelf, &mut sink)?;
+    same_bytes(rt, &sink.bytes, want);
+    Ok(())
 }

@@ -3,11 +3,6 @@ use super::devices::{Endless, EndlessChange};
 use super::*;
 use std::process::Abort;
 
-// Opens the web `a.w`.
-fn start_at<S: Shelf>(alloc: Global, shelf: &mut S) -> Result<Merger<S>, Stop> {
-    Merger::start(alloc, shelf, "a.w", None, None, None)
-}
-
 fn long_shelf(alloc: Global) -> Result<MemoryShelf, AllocError> {
     let longest = vec![in alloc; b'x'; 1_048_575]?;
     let longer = vec![in alloc; b'x'; 1_048_576]?;
@@ -47,125 +42,127 @@ fn stops_at_the_longer(
     Ok(())
 }
 
-fn tells<S: Shelf>(
-    rt: &(impl AllocGlobal + Abort),
-    merger: &Merger<S>,
-    want: &str,
-) -> Result<(), Fail> {
-    let told = told(rt.alloc(), merger)?;
-    same_text(rt, told.as_str(), want);
-    Ok(())
+// The longest line comes, and then no longer one.
+#[derive(Clone, Copy)]
+struct Longest;
+
+impl Case<MemoryShelf, Fail> for Longest {
+    fn ask<A: AllocGlobal + Abort>(
+        &mut self,
+        rt: &A,
+        merger: &mut Merger<MemoryShelf>,
+        shelf: &mut MemoryShelf,
+    ) -> Result<(), Fail> {
+        let mut line = Vec::new(rt.alloc());
+        takes_the_longest(rt, merger, shelf, &mut line)?;
+        for _ in 0..2 {
+            stops_at_the_longer(rt, merger, shelf, &mut line)?;
+            let want = "NoName in 0 at 2\n0 is a.w\n1 is longest\n2 is longer\n";
+            tells(rt, merger, want)?;
+        }
+        Ok(())
+    }
 }
 
 #[test]
 fn lines_as_long_as_they_may_be(rt: HostRuntime) -> Result<(), Fail> {
     let mut shelf = long_shelf(rt.alloc())?;
-    let mut merger = start_at(rt.alloc(), &mut shelf)?;
-    let mut line = Vec::new(rt.alloc());
-    takes_the_longest(&rt, &mut merger, &mut shelf, &mut line)?;
-    let want = "NoName in 0 at 2\n0 is a.w\n1 is longest\n2 is longer\n";
-    for _ in 0..2 {
-        stops_at_the_longer(&rt, &mut merger, &mut shelf, &mut line)?;
-        tells(&rt, &merger, want)?;
+    merge(&rt, &mut shelf, &WEB, &mut Longest)
+}
+
+// So many lines of so many bytes come, from this place on, and then none for this cause. This is told then.
+#[derive(Clone, Copy)]
+struct Lines {
+    first: Place,
+    length: usize,
+    lines: u32,
+    stop: Stop,
+    told: &'static str,
+}
+
+impl Lines {
+    fn come<S: Shelf>(
+        &self,
+        rt: &impl Abort,
+        merger: &mut Merger<S>,
+        shelf: &mut S,
+        line: &mut Vec<u8>,
+    ) -> Result<(), Stop> {
+        for i in 0..self.lines {
+            let want = Place {
+                file: self.first.file,
+                line: self.first.line.wrapping_add(i),
+            };
+            holds(rt, shelf.failures() == 0);
+            comes(rt, merger.next_line(shelf, line)?, want);
+            holds(rt, line.len() == self.length);
+        }
+        Ok(())
     }
-    Ok(())
+
+    // None comes, and there stays none.
+    fn stop<S: Shelf>(
+        &self,
+        rt: &impl Abort,
+        merger: &mut Merger<S>,
+        shelf: &mut S,
+        line: &mut Vec<u8>,
+    ) {
+        for _ in 0..2 {
+            holds(rt, shelf.failures() == 0);
+            stops(rt, merger.next_line(shelf, line), self.stop);
+            holds(rt, line.is_empty());
+        }
+    }
+}
+
+impl<S: Shelf> Case<S, Fail> for Lines {
+    fn ask<A: AllocGlobal + Abort>(
+        &mut self,
+        rt: &A,
+        merger: &mut Merger<S>,
+        shelf: &mut S,
+    ) -> Result<(), Fail> {
+        let mut line = Vec::new(rt.alloc());
+        self.come(rt, merger, shelf, &mut line)?;
+        self.stop(rt, merger, shelf, &mut line);
+        tells(rt, merger, self.told)
+    }
+}
+
+// As many lines of so many bytes of a web as may be taken, and then a stop.
+fn take_all(
+    rt: &(impl AllocGlobal + Abort),
+    length: usize,
+    lines: u32,
+    stop: Stop,
+) -> Result<(), Fail> {
+    let mut case = Lines {
+        first: Place {
+            file: FileId(0),
+            line: 1,
+        },
+        length,
+        lines,
+        stop,
+        told: "0 is a.w\n",
+    };
+    merge(rt, &mut Endless { length }, &WEB, &mut case)
 }
 
 #[test]
 fn a_line_that_never_ends(rt: HostRuntime) -> Result<(), Fail> {
-    let mut shelf = Endless { length: usize::MAX };
-    let mut merger = start_at(rt.alloc(), &mut shelf)?;
-    let mut line = Vec::new(rt.alloc());
-    for _ in 0..2 {
-        let stop = Stop::LineTooLong(FileId(0));
-        stops(&rt, merger.next_line(&mut shelf, &mut line), stop);
-        holds(&rt, line.is_empty());
-    }
-    Ok(())
-}
-
-// So many lines of so many bytes come.
-fn takes_lines(
-    rt: &impl Abort,
-    merger: &mut Merger<Endless>,
-    shelf: &mut Endless,
-    line: &mut Vec<u8>,
-    lines: u32,
-) -> Result<(), Stop> {
-    for i in 0..lines {
-        let want = Place {
-            file: FileId(0),
-            line: i + 1,
-        };
-        comes(rt, merger.next_line(shelf, line)?, want);
-        holds(rt, line.len() == shelf.length);
-    }
-    Ok(())
-}
-
-// As many lines of so many bytes as may be taken, and then a stop.
-fn take_all(rt: &(impl AllocGlobal + Abort), length: usize, lines: u32) -> Result<(), Fail> {
-    let mut shelf = Endless { length };
-    let mut merger = start_at(rt.alloc(), &mut shelf)?;
-    let mut line = Vec::new(rt.alloc());
-    takes_lines(rt, &mut merger, &mut shelf, &mut line, lines)?;
-    stops_for_too_much(rt, &mut merger, &mut shelf, &mut line);
-    Ok(())
+    take_all(&rt, usize::MAX, 0, Stop::LineTooLong(FileId(0)))
 }
 
 #[test]
 fn empty_lines_that_never_end(rt: HostRuntime) -> Result<(), Fail> {
-    take_all(&rt, 0, 16_777_216)
+    take_all(&rt, 0, 16_777_216, Stop::TooMuchText)
 }
 
 #[test]
 fn long_lines_that_never_end(rt: HostRuntime) -> Result<(), Fail> {
-    take_all(&rt, 1_048_575, 1024)
-}
-
-// So many lines of an endless change file come.
-fn takes_changed(
-    rt: &impl Abort,
-    merger: &mut Merger<EndlessChange>,
-    shelf: &mut EndlessChange,
-    line: &mut Vec<u8>,
-    lines: u16,
-) -> Result<(), Stop> {
-    for i in 0..lines {
-        let want = Place {
-            file: FileId(1),
-            line: u32::from(i) + 4,
-        };
-        comes(rt, merger.next_line(shelf, line)?, want);
-    }
-    Ok(())
-}
-
-// There is too much text, and there stays too much.
-fn stops_for_too_much<S: Shelf>(
-    rt: &impl Abort,
-    merger: &mut Merger<S>,
-    shelf: &mut S,
-    line: &mut Vec<u8>,
-) {
-    for _ in 0..2 {
-        holds(rt, shelf.failures() == 0);
-        stops(rt, merger.next_line(shelf, line), Stop::TooMuchText);
-        holds(rt, line.is_empty());
-    }
-}
-
-// So many lines of an endless change file, and then a stop.
-fn take_changed(
-    rt: &(impl AllocGlobal + Abort),
-    shelf: &mut EndlessChange,
-    lines: u16,
-) -> Result<(), Fail> {
-    let mut merger = Merger::start(rt.alloc(), shelf, "a.w", None, Some("c.ch"), None)?;
-    let mut line = Vec::new(rt.alloc());
-    takes_changed(rt, &mut merger, shelf, &mut line, lines)?;
-    stops_for_too_much(rt, &mut merger, shelf, &mut line);
-    tells(rt, &merger, "0 is a.w\n1 is c.ch\n")
+    take_all(&rt, 1_048_575, 1024, Stop::TooMuchText)
 }
 
 // The web, and a change file that has this front.
@@ -178,19 +175,29 @@ fn check_endless(
     rt: &(impl AllocGlobal + Abort),
     front: &str,
     length: usize,
-    lines: u16,
+    lines: u32,
 ) -> Result<(), Fail> {
     let mut shelf = EndlessChange {
         shelf: change_shelf(rt.alloc(), front)?,
         lines: Endless { length },
     };
-    take_changed(rt, &mut shelf, lines)
+    let mut case = Lines {
+        first: Place {
+            file: FileId(1),
+            line: 4,
+        },
+        length,
+        lines,
+        stop: Stop::TooMuchText,
+        told: "0 is a.w\n1 is c.ch\n",
+    };
+    merge(rt, &mut shelf, &CHANGED_WEB, &mut case)
 }
 
 #[test]
 fn change_files_that_never_end(rt: HostRuntime) -> Result<(), Fail> {
     // what comes before the lines that never end, how long they are, and how many of them are given out
-    const ROWS: &[(&str, usize, u16)] = &[
+    const ROWS: &[(&str, usize, u32)] = &[
         // outside an entry
         ("", 1_048_575, 0),
         // empty ones behind an @x line

@@ -2,19 +2,25 @@
 use super::*;
 use std::process::Abort;
 
-// The merged text of the web `a.w`, and then what was told of it.
-fn merged(
-    alloc: Global,
-    files: &[(&str, &[u8])],
-    second: Option<&str>,
-    inputs: Option<&str>,
-) -> Result<String, Fail> {
-    let mut shelf = shelf_of(alloc, files)?;
-    let mut merger = Merger::start(alloc, &mut shelf, "a.w", second, None, inputs)?;
-    let mut text = written(alloc, &mut merger, &mut shelf)?;
-    tell_faults(&mut text, &merger)?;
-    tell_names(&mut text, &merger, 0)?;
-    Ok(text)
+// This is written, and then told of the faults and the files.
+#[derive(Clone, Copy)]
+struct Telling<'a> {
+    text: &'a str,
+}
+
+impl Case<MemoryShelf, Fail> for Telling<'_> {
+    fn ask<A: AllocGlobal + Abort>(
+        &mut self,
+        rt: &A,
+        merger: &mut Merger<MemoryShelf>,
+        shelf: &mut MemoryShelf,
+    ) -> Result<(), Fail> {
+        let mut text = written(rt.alloc(), merger, shelf)?;
+        tell_faults(&mut text, merger)?;
+        tell_names(&mut text, merger, 0)?;
+        same_text(rt, text.as_str(), self.text);
+        Ok(())
+    }
 }
 
 // What a merger still has to write.
@@ -28,16 +34,19 @@ fn written(
     Ok(String::from_utf8_lossy(alloc, sink.bytes())?)
 }
 
-fn compare(
+fn compare<'a>(
     rt: &(impl AllocGlobal + Abort),
     files: &[(&str, &[u8])],
-    second: Option<&str>,
-    inputs: Option<&str>,
-    want: &str,
+    second: Option<&'a str>,
+    inputs: Option<&'a str>,
+    text: &str,
 ) -> Result<(), Fail> {
-    let got = merged(rt.alloc(), files, second, inputs)?;
-    same_text(rt, got.as_str(), want);
-    Ok(())
+    let names = Names {
+        second,
+        inputs,
+        ..WEB
+    };
+    merge_files(rt, files, &names, &mut Telling { text })
 }
 
 #[test]
@@ -94,31 +103,53 @@ fn a_file_that_includes_itself(rt: HostRuntime) -> Result<(), Fail> {
     compare(&rt, &[("a.w", b"P\n@i a.w\nQ\n")], None, None, want)
 }
 
-// The kinds of the faults in the deepest file, and how many faults there are.
-fn deepest_faults(alloc: Global, web: &[u8]) -> Result<(Vec<SourceKind>, usize), Fail> {
-    let mut shelf = shelf_of(alloc, &[("a.w", web)])?;
-    let mut merger = Merger::start(alloc, &mut shelf, "a.w", None, None, None)?;
-    let mut line = Vec::new(alloc);
-    if merger.next_line(&mut shelf, &mut line)?.is_some() {
-        return Err(Fail::new("a line"));
-    }
+// The kinds of the faults in the deepest file.
+fn deepest_faults<S: Shelf>(
+    alloc: Global,
+    merger: &Merger<S>,
+) -> Result<Vec<SourceKind>, AllocError> {
     let mut deepest = Vec::new(alloc);
     for fault in merger.faults() {
         if fault.place.file == FileId(19) {
             deepest.push(fault.kind)?;
         }
     }
-    Ok((deepest, merger.faults().len()))
+    Ok(deepest)
+}
+
+// There is no line, but so many faults, and of these kinds in the deepest file.
+#[derive(Clone, Copy)]
+struct Deepest<'a> {
+    faults: usize,
+    deepest: &'a [SourceKind],
+}
+
+impl Case<MemoryShelf, Fail> for Deepest<'_> {
+    fn ask<A: AllocGlobal + Abort>(
+        &mut self,
+        rt: &A,
+        merger: &mut Merger<MemoryShelf>,
+        shelf: &mut MemoryShelf,
+    ) -> Result<(), Fail> {
+        let mut line = Vec::new(rt.alloc());
+        holds(rt, merger.next_line(shelf, &mut line)?.is_none());
+        holds(rt, merger.faults().len() == self.faults);
+        let deepest = deepest_faults(rt.alloc(), merger)?;
+        holds(rt, deepest.as_slice() == self.deepest);
+        Ok(())
+    }
 }
 
 // In the deepest file a missing name comes before the depth, and the depth before a missing text.
 #[test]
 fn faults_at_the_full_depth(rt: HostRuntime) -> Result<(), Fail> {
-    let (deepest, count) = deepest_faults(rt.alloc(), b"@i a.w\n@i\n@i gone\n")?;
-    let want = [SourceKind::TooDeep, SourceKind::NoName, SourceKind::TooDeep];
-    holds(&rt, deepest.as_slice() == want.as_slice());
-    holds(&rt, count == 41);
-    Ok(())
+    const FILES: &[(&str, &[u8])] = &[("a.w", b"@i a.w\n@i\n@i gone\n")];
+    const DEEPEST: &[SourceKind] = &[SourceKind::TooDeep, SourceKind::NoName, SourceKind::TooDeep];
+    let mut case = Deepest {
+        faults: 41,
+        deepest: DEEPEST,
+    };
+    merge_files(&rt, FILES, &WEB, &mut case)
 }
 
 #[test]
@@ -135,27 +166,35 @@ fn folders(rt: HostRuntime) -> Result<(), Fail> {
     compare(&rt, BOTH, None, Some("lib"), first)
 }
 
-// Whether a web of these names isn't found in a folder that has the first name.
-fn is_not_opened(alloc: Global, second: Option<&str>) -> Result<bool, AllocError> {
-    let mut shelf = shelf_of(alloc, &[("lib/a.w", b"folder\n")])?;
-    let started = Merger::start(alloc, &mut shelf, "a.w", second, None, Some("lib"));
-    Ok(started.err() == Some(Stop::WebNotOpened))
-}
+// The web is not sought in the folder.
+const NOT_OPENED: &[(Names<'static>, Stop)] = &[
+    (
+        Names {
+            web: "a.w",
+            second: None,
+            change: None,
+            inputs: Some("lib"),
+        },
+        Stop::WebNotOpened,
+    ),
+    (
+        Names {
+            web: "a.w",
+            second: Some("a.web"),
+            change: None,
+            inputs: Some("lib"),
+        },
+        Stop::WebNotOpened,
+    ),
+];
 
 #[test]
 fn names_of_the_web(rt: HostRuntime) -> Result<(), Fail> {
     const FIRST: (&str, &[u8]) = ("a.w", b"first\n");
     const SECOND: (&str, &[u8]) = ("a.web", b"second\n");
+    const BOTH: &[(&str, &[u8])] = &[SECOND, FIRST];
     compare(&rt, &[SECOND], Some("a.web"), None, "second\n0 is a.web\n")?;
-    compare(
-        &rt,
-        &[SECOND, FIRST],
-        Some("a.web"),
-        None,
-        "first\n0 is a.w\n",
-    )?;
-    // the web is not sought in the folder
-    holds(&rt, is_not_opened(rt.alloc(), None)?);
-    holds(&rt, is_not_opened(rt.alloc(), Some("a.web"))?);
+    compare(&rt, BOTH, Some("a.web"), None, "first\n0 is a.w\n")?;
+    are_refused(&rt, &[("lib/a.w", b"folder\n")], NOT_OPENED);
     Ok(())
 }

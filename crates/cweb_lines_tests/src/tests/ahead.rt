@@ -1,0 +1,151 @@
+// Lines that are lent, and lines that are looked at before they are taken.
+use super::*;
+use std::process::Abort;
+
+const PLACED: &[(&str, &[u8])] = &[
+    ("a.w", b"one\ntwo \n@i b.w\nold\nfive\nlast"),
+    ("b.w", b"in b\nbehind\n"),
+    ("c.ch", b"@x\nold\n@y\nnew\nnewer\n@z\n"),
+];
+
+// The file and the number of each of their merged lines, and whether it is lent.
+const PLACES: &[(u32, u32, bool)] = &[
+    (0, 1, false),
+    (0, 2, true),
+    (2, 1, false),
+    (2, 2, true),
+    (1, 4, false),
+    (1, 5, false),
+    (0, 5, false),
+    (0, 6, false),
+];
+
+const LOOKED_AT: &[(&str, &[u8])] = &[
+    ("a.w", b"one\ntwo\nthree\nfour\nfive \nsix\n@i b.w\nlast\n"),
+    ("b.w", b"in b\n"),
+];
+
+// How many lines are taken at once and their text, and the number of the line that is asked for behind them.
+const TAKEN_AT_ONCE: &[(u32, &[u8], Option<u32>)] = &[
+    (0, b"", Some(1)),
+    (2, b"twothree", Some(4)),
+    (1, b"five", Some(6)),
+    (0, b"", Some(1)),
+    (0, b"", Some(8)),
+    (0, b"", None),
+];
+
+// The next line is of this place, and lent or not.
+fn comes_lent(
+    rt: &impl Abort,
+    merger: &mut Merger<MemoryShelf>,
+    shelf: &mut MemoryShelf,
+    line: &mut Vec<u8>,
+    wanted: &(u32, u32, bool),
+) -> Result<(), Stop> {
+    let lent = merger.lend_line();
+    holds(rt, lent.is_some() == wanted.2);
+    let place = match lent {
+        Some(lent) => Some(lent.place),
+        None => merger.next_line(shelf, line)?,
+    };
+    let want = Place {
+        file: FileId(wanted.0),
+        line: wanted.1,
+    };
+    comes(rt, place, want);
+    Ok(())
+}
+
+// The lines have these places.
+#[derive(Clone, Copy)]
+struct Placing;
+
+impl Case<MemoryShelf, Fail> for Placing {
+    fn ask<A: AllocGlobal + Abort>(
+        &mut self,
+        rt: &A,
+        merger: &mut Merger<MemoryShelf>,
+        shelf: &mut MemoryShelf,
+    ) -> Result<(), Fail> {
+        let mut line = Vec::new(rt.alloc());
+        for wanted in PLACES {
+            comes_lent(rt, merger, shelf, &mut line, wanted)?;
+        }
+        holds(rt, merger.lend_line().is_none());
+        holds(rt, merger.next_line(shelf, &mut line)?.is_none());
+        Ok(())
+    }
+}
+
+// The places of lines that are lent are those of lines that are asked for; none is lent before something was read, or where
+// an include line or the old line of a change comes next.
+#[test]
+fn places_of_lent_lines(rt: HostRuntime) -> Result<(), Fail> {
+    merge_files(&rt, PLACED, &CHANGED_WEB, &mut Placing)
+}
+
+// Two lines at most that come next, looked at and then taken at once: how many, and their text.
+fn taken_at_once(merger: &mut Merger<MemoryShelf>, text: &mut Vec<u8>) -> Result<u32, Stop> {
+    let Some(first) = merger.first_ahead() else {
+        return Ok(0);
+    };
+    text.extend_from_slice(merger.bytes_of(first.line))?;
+    let Some(second) = merger.next_ahead(first) else {
+        merger.take_ahead(first);
+        return Ok(1);
+    };
+    text.extend_from_slice(merger.bytes_of(second.line))?;
+    merger.take_ahead(second);
+    Ok(2)
+}
+
+// So many lines are taken at once, with this text, and then one comes of this number.
+fn takes_at_once(
+    rt: &impl Abort,
+    merger: &mut Merger<MemoryShelf>,
+    shelf: &mut MemoryShelf,
+    line: &mut Vec<u8>,
+    wanted: &(u32, &[u8], Option<u32>),
+) -> Result<(), Fail> {
+    line.clear();
+    let taken = taken_at_once(merger, line)?;
+    holds(rt, taken == wanted.0);
+    same_bytes(rt, line, wanted.1);
+    let behind = number_of(merger.next_line(shelf, line)?);
+    holds(rt, behind == wanted.2);
+    Ok(())
+}
+
+fn number_of(place: Option<Place>) -> Option<u32> {
+    match place {
+        Some(place) => Some(place.line),
+        None => None,
+    }
+}
+
+// So many lines are taken at once, again and again.
+#[derive(Clone, Copy)]
+struct Taking;
+
+impl Case<MemoryShelf, Fail> for Taking {
+    fn ask<A: AllocGlobal + Abort>(
+        &mut self,
+        rt: &A,
+        merger: &mut Merger<MemoryShelf>,
+        shelf: &mut MemoryShelf,
+    ) -> Result<(), Fail> {
+        let mut line = Vec::new(rt.alloc());
+        for wanted in TAKEN_AT_ONCE {
+            takes_at_once(rt, merger, shelf, &mut line, wanted)?;
+        }
+        Ok(())
+    }
+}
+
+// Lines that are looked at are taken once: those behind them come next. None is looked at before something was read, and none
+// behind a line with blanks at its end or before an include line.
+#[test]
+fn lines_looked_at_before_they_are_taken(rt: HostRuntime) -> Result<(), Fail> {
+    merge_files(&rt, LOOKED_AT, &WEB, &mut Taking)
+}

@@ -1,0 +1,146 @@
+// A write or an allocation that fails in the midst of a run.
+use super::*;
+use failing::{CHANGED, FILES, MERGED_CHANGED};
+use std::process::Abort;
+use trial::TrialSink;
+
+const MERGED: &[u8] = b"one\ntwo\nthree\n";
+
+// A write fails behind these bytes.
+fn fails_behind(
+    rt: &impl Abort,
+    merger: &mut Merger<MemoryShelf>,
+    shelf: &mut MemoryShelf,
+    sink: &mut TrialSink,
+    written: &str,
+) {
+    holds(rt, sink.failed == 0);
+    let ended = write_merged(merger, shelf, sink);
+    ends(rt, ended, Err(Stop::WriteFault));
+    same_number(rt, sink.failures(), 1);
+    same_bytes(rt, &sink.bytes, written.as_bytes());
+}
+
+// A write fails of a sink that takes at most so many bytes at once. What is written by then, and what comes behind the line that
+// was being written.
+#[derive(Clone, Copy)]
+struct Failing {
+    fails_at: u64,
+    most: usize,
+    written: &'static str,
+    rest: &'static str,
+}
+
+impl Case<MemoryShelf, Fail> for Failing {
+    fn ask<A: AllocGlobal + Abort>(
+        &mut self,
+        rt: &A,
+        merger: &mut Merger<MemoryShelf>,
+        shelf: &mut MemoryShelf,
+    ) -> Result<(), Fail> {
+        let mut sink = TrialSink::new(rt.alloc());
+        sink.most = self.most;
+        sink.fails_at = self.fails_at;
+        fails_behind(rt, merger, shelf, &mut sink, self.written);
+        writes(rt, merger, shelf, self.rest.as_bytes())
+    }
+}
+
+#[test]
+fn a_write_that_fails(rt: HostRuntime) -> Result<(), Fail> {
+    const ROWS: &[(u64, usize, &str, &str)] = &[
+        (1, usize::MAX, "", "two\nthree\n"),
+        (2, usize::MAX, "one\n", "three\n"),
+        (3, usize::MAX, "one\ntwo\n", ""),
+        (6, 1, "one\nt", "three\n"),
+    ];
+    for (fails_at, most, written, rest) in ROWS {
+        let mut case = Failing {
+            fails_at: *fails_at,
+            most: *most,
+            written: *written,
+            rest: *rest,
+        };
+        merge_files(&rt, FILES, &WEB, &mut case)?;
+    }
+    Ok(())
+}
+
+// A merger that was refused memory: it answers that stop, and writes nothing.
+fn stays_refused(
+    rt: &(impl AllocGlobal + Abort),
+    merger: &mut Merger<MemoryShelf>,
+    shelf: &mut MemoryShelf,
+) {
+    let mut line = Vec::new(rt.alloc());
+    stops(rt, merger.next_line(shelf, &mut line), Stop::Memory);
+    let mut after = TrialSink::new(rt.alloc());
+    ends(
+        rt,
+        write_merged(merger, shelf, &mut after),
+        Err(Stop::Memory),
+    );
+    same_number(rt, after.writes, 0);
+}
+
+// A run that gives this text and so many faults, or a front of the text where memory is refused.
+#[derive(Clone, Copy)]
+struct Refusing {
+    merged: &'static [u8],
+    faults: usize,
+}
+
+impl Case<MemoryShelf, Stop> for Refusing {
+    fn ask<A: AllocGlobal + Abort>(
+        &mut self,
+        rt: &A,
+        merger: &mut Merger<MemoryShelf>,
+        shelf: &mut MemoryShelf,
+    ) -> Result<(), Stop> {
+        let mut sink = MemorySink::with_room(rt.alloc(), 100)?;
+        let ended = write_merged_in_pieces(merger, shelf, &mut sink, 6);
+        holds(rt, self.merged.starts_with(sink.bytes()));
+        if ended.is_ok() {
+            same_bytes(rt, sink.bytes(), self.merged);
+            holds(rt, merger.faults().len() == self.faults);
+        } else {
+            stays_refused(rt, merger, shelf);
+        }
+        ended
+    }
+}
+
+// The same where memory may be refused: nothing else stops it.
+fn refuse_memory(
+    rt: &(impl AllocGlobal + Abort),
+    files: &[(&str, &[u8])],
+    change: Option<&str>,
+    case: &mut Refusing,
+) {
+    let names = Names {
+        change,
+        inputs: Some("lib"),
+        ..WEB
+    };
+    let ended = merge_files(rt, files, &names, case);
+    holds(rt, matches!(ended, Ok(()) | Err(Stop::Memory)));
+}
+
+// Run by `tests/refusals`, which refuses each allocation of the runs in turn.
+#[test]
+fn memory_that_is_refused(rt: HostRuntime) {
+    let mut case = Refusing {
+        merged: MERGED,
+        faults: 1,
+    };
+    refuse_memory(&rt, FILES, None, &mut case);
+}
+
+#[test]
+fn memory_that_is_refused_within_changes(rt: HostRuntime) {
+    let mut case = Refusing {
+        merged: MERGED_CHANGED,
+        faults: 4,
+    };
+    refuse_memory(&rt, CHANGED, Some("c.ch"), &mut case);
+}

@@ -1,0 +1,110 @@
+// What holds a merger: one function for all cases, which borrow it. A function that holds one takes ten times as long to prove as
+// one that borrows it.
+use super::*;
+use std::process::Abort;
+use trial::TrialShelf;
+
+/// The names that a merger is started with.
+#[derive(Clone, Copy)]
+pub struct Names<'a> {
+    pub web: &'a str,
+    pub second: Option<&'a str>,
+    pub change: Option<&'a str>,
+    pub inputs: Option<&'a str>,
+}
+
+/// The web `a.w` alone.
+pub const WEB: Names<'static> = Names {
+    web: "a.w",
+    second: None,
+    change: None,
+    inputs: None,
+};
+
+/// The web `a.w` with the change file `c.ch`.
+pub const CHANGED_WEB: Names<'static> = Names {
+    web: "a.w",
+    second: None,
+    change: Some("c.ch"),
+    inputs: None,
+};
+
+/// What is asked of a merger that has started, and of its shelf.
+pub trait Case<S: Shelf, E> {
+    fn ask<A: AllocGlobal + Abort>(
+        &mut self,
+        rt: &A,
+        merger: &mut Merger<S>,
+        shelf: &mut S,
+    ) -> Result<(), E>;
+}
+
+/// Starts a merger of a shelf for a case.
+pub fn merge<S: Shelf, E: From<Stop>, C: Case<S, E>>(
+    rt: &(impl AllocGlobal + Abort),
+    shelf: &mut S,
+    names: &Names<'_>,
+    case: &mut C,
+) -> Result<(), E> {
+    let Names {
+        web,
+        second,
+        change,
+        inputs,
+    } = *names;
+    let mut merger = Merger::start(rt.alloc(), shelf, web, second, change, inputs)?;
+    case.ask(rt, &mut merger, shelf)
+}
+
+/// Starts a merger of a shelf with these texts.
+pub fn merge_files<E: From<Stop> + From<AllocError>, C: Case<MemoryShelf, E>>(
+    rt: &(impl AllocGlobal + Abort),
+    files: &[(&str, &[u8])],
+    names: &Names<'_>,
+    case: &mut C,
+) -> Result<(), E> {
+    let mut shelf = shelf_of(rt.alloc(), files)?;
+    merge(rt, &mut shelf, names, case)
+}
+
+/// The same where at most so many bytes are read at once, and a read fails.
+pub fn merge_reads<C: Case<TrialShelf, Fail>>(
+    rt: &(impl AllocGlobal + Abort),
+    files: &[(&str, &[u8])],
+    names: &Names<'_>,
+    most: usize,
+    fails_at: u64,
+    case: &mut C,
+) -> Result<(), Fail> {
+    let mut shelf = TrialShelf::new(shelf_of(rt.alloc(), files)?);
+    shelf.most = most;
+    shelf.fails_at = fails_at;
+    merge(rt, &mut shelf, names, case)
+}
+
+// A merger that started is asked for nothing.
+#[derive(Clone, Copy)]
+struct Unasked;
+
+impl<S: Shelf> Case<S, Stop> for Unasked {
+    fn ask<A: AllocGlobal + Abort>(
+        &mut self,
+        _: &A,
+        _: &mut Merger<S>,
+        _: &mut S,
+    ) -> Result<(), Stop> {
+        Ok(())
+    }
+}
+
+/// Of these texts no merger starts under any of these names, for the cause beside them.
+pub fn are_refused(
+    rt: &(impl AllocGlobal + Abort),
+    files: &[(&str, &[u8])],
+    rows: &[(Names<'_>, Stop)],
+) {
+    for (names, stop) in rows {
+        let started = merge_files(rt, files, names, &mut Unasked);
+        ends(rt, started, Err(*stop));
+    }
+}
