@@ -1,6 +1,7 @@
 // What no clause says: webs and what is made of them, told as text; limits; memory that is refused.
 
 mod c_text;
+mod cases;
 mod codes;
 mod directives;
 mod ends;
@@ -14,39 +15,38 @@ mod names;
 mod plain;
 mod sections;
 mod told;
+mod wanted;
 mod worked;
 
+use cases::{Case, check};
 use cweb_lines::Merger;
 use cweb_scan::{Scanned, scan};
-use std::alloc::{AllocGlobal, Global};
+use std::alloc::{AllocError, Global};
 use std::process::Abort;
 use std::test::Fail;
-use told::told;
+use told::tell;
 use trial::shelf_of;
+use wanted::*;
 
-/// What a scan makes of the web `a.w` of these files, with a change file or without.
-fn scanned(alloc: Global, files: &[(&str, &[u8])], change: Option<&str>) -> Result<Scanned, Fail> {
-    let mut shelf = shelf_of(alloc, files)?;
-    let mut merger = Merger::start(alloc, &mut shelf, "a.w", None, change, None)?;
-    let made = scan(alloc, &mut merger, &mut shelf)?;
-    Ok(made)
+/// This is told of what a scan made.
+#[derive(Clone, Copy)]
+struct Telling<'a> {
+    text: &'a str,
 }
 
-/// What is told of the web `a.w` of these files.
-fn told_of(alloc: Global, files: &[(&str, &[u8])], change: Option<&str>) -> Result<String, Fail> {
-    let made = scanned(alloc, files, change)?;
-    told(alloc, &made)
-}
-
-/// What is told of a web of one file.
-fn told_of_web(alloc: Global, web: &[u8]) -> Result<String, Fail> {
-    told_of(alloc, &[("a.w", web)], None)
+impl Case<Fail> for Telling<'_> {
+    fn look<A: AllocGlobal + Abort>(&self, rt: &A, made: &Scanned) -> Result<(), Fail> {
+        let mut told = String::new(rt.alloc());
+        tell(&mut told, made)?;
+        same_text(rt, told.as_str(), self.text);
+        Ok(())
+    }
 }
 
 /// Of each web of one file is told what stands beside it.
 fn tell_each(rt: &(impl AllocGlobal + Abort), rows: &[(&[u8], &str)]) -> Result<(), Fail> {
-    for (web, want) in rows {
-        assert_eq!(rt; told_of_web(rt.alloc(), web)?.as_str(), *want);
+    for (web, text) in rows {
+        check(rt, &[("a.w", *web)], None, &Telling { text: *text })?;
     }
     Ok(())
 }

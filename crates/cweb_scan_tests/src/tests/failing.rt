@@ -1,7 +1,6 @@
 // Memory that is refused in the midst of a scan.
 use super::*;
-use cweb_lines::{Shelf, Stop};
-use std::process::Abort;
+use cweb_lines::Stop;
 
 const NAMES: &[u8] = b"@ @c\n@<Glob...@> @<a  b@>\n@ @<Global@>=\nint g;\n@ @(a b@>= \"x\\\ny\"\n";
 
@@ -9,33 +8,25 @@ const MACROS: &[u8] = b"@l fc ue\n@* @d f(x) R\"(a\nb)\" @'a'\n@d g @=v@>\n@c @h
 
 const FAULTS: &[u8] = b"@x\n@ @d 1\n@c @^a\n@<A@<B\n@* @c \"x@y\n/* z\n";
 
-// A scan that makes this many tokens and faults of the text where no memory is refused. The merger keeps the stop of one that was
-// refused memory.
-fn scan_whole(
-    rt: &(impl AllocGlobal + Abort),
-    web: &[u8],
+// A scan makes so many tokens and faults of the text.
+#[derive(Clone, Copy)]
+struct Sizes {
     tokens: u32,
     faults: usize,
-) -> Result<(), Stop> {
-    let alloc = rt.alloc();
-    let mut shelf = shelf_of(alloc, &[("a.w", web)])?;
-    let mut merger = Merger::start(alloc, &mut shelf, "a.w", None, None, None)?;
-    let scanned = scan(alloc, &mut merger, &mut shelf);
-    assert!(rt; shelf.failures() == 0);
-    assert!(rt; merger.stopped() == scanned.as_ref().err().copied());
-    has_sizes(rt, &scanned?, tokens, faults);
-    Ok(())
 }
 
-fn has_sizes(rt: &impl Abort, made: &Scanned, tokens: u32, faults: usize) {
-    assert!(rt; made.store.tokens() == tokens);
-    assert!(rt; made.faults.len() == faults);
+impl Case<Stop> for Sizes {
+    fn look<A: AllocGlobal + Abort>(&self, rt: &A, made: &Scanned) -> Result<(), Stop> {
+        holds(rt, made.store.tokens() == self.tokens);
+        holds(rt, made.faults.len() == self.faults);
+        Ok(())
+    }
 }
 
-// The same where memory may be refused: nothing else stops it.
+// The same where memory may be refused: nothing else stops the scan.
 fn refuse_memory(rt: &(impl AllocGlobal + Abort), web: &[u8], tokens: u32, faults: usize) {
-    let ended = scan_whole(rt, web, tokens, faults);
-    assert!(rt; matches!(ended, Ok(()) | Err(Stop::Memory)));
+    let ended = check(rt, &[("a.w", web)], None, &Sizes { tokens, faults });
+    holds(rt, matches!(ended, Ok(()) | Err(Stop::Memory)));
 }
 
 // Run by `tests/refusals`, which refuses each allocation of the scans in turn, one a run.

@@ -1,7 +1,6 @@
 // Webs of a thousand nested names, of long lines, of many lines, and of every byte.
 use super::*;
 use cweb_rules::{ScanFault, ScanKind};
-use std::alloc::AllocError;
 
 // A text again and again.
 fn repeated(alloc: Global, text: &[u8], times: usize) -> Result<Vec<u8>, AllocError> {
@@ -27,35 +26,53 @@ fn long_web(
     Ok(web)
 }
 
-// How many tokens and faults a scan makes of a web, and how many bytes of text.
-fn sizes(alloc: Global, web: &[u8]) -> Result<(u32, usize, u64), Fail> {
-    let made = scanned(alloc, &[("a.w", web)], None)?;
-    let tokens = made.store.tokens();
-    Ok((tokens, made.faults.len(), made.store.text_bytes()))
+// A scan makes so many tokens and faults and so many bytes of text of a web with this front.
+#[derive(Clone, Copy)]
+struct Sizes<'a> {
+    front: &'a [u8],
+    sizes: (u32, usize, u64),
+}
+
+impl Case<Fail> for Sizes<'_> {
+    fn look<A: AllocGlobal + Abort>(&self, rt: &A, made: &Scanned) -> Result<(), Fail> {
+        let store = &made.store;
+        let sizes = (store.tokens(), made.faults.len(), store.text_bytes());
+        same_sizes(rt, sizes, self.sizes, self.front);
+        Ok(())
+    }
 }
 
 // All but the last of the faults are of names in names.
 fn names_nest(rt: &impl Abort, faults: &[ScanFault]) {
-    assert!(rt; faults.len() == 1000);
+    holds(rt, faults.len() == 1000);
     for (number, fault) in faults.iter().enumerate() {
         let kind = if number < 999 {
             ScanKind::NamesDoNotNest
         } else {
             ScanKind::NameDidNotEnd
         };
-        assert!(rt; fault.kind == kind);
+        holds(rt, fault.kind == kind);
+    }
+}
+
+// A thousand names in one another.
+#[derive(Clone, Copy)]
+struct Nested;
+
+impl Case<Fail> for Nested {
+    fn look<A: AllocGlobal + Abort>(&self, rt: &A, made: &Scanned) -> Result<(), Fail> {
+        names_nest(rt, made.faults.as_slice());
+        holds(rt, made.store.tokens() == 2003);
+        holds(rt, made.store.names() == 1);
+        holds(rt, made.store.name_faults().len() == 1);
+        Ok(())
     }
 }
 
 #[test]
 fn a_thousand_nested_names(rt: HostRuntime) -> Result<(), Fail> {
-    let alloc = rt.alloc();
-    let web = long_web(alloc, b"@ @c ", b"@<", 1000, b"\n")?;
-    let made = scanned(alloc, &[("a.w", &web)], None)?;
-    names_nest(&rt, made.faults.as_slice());
-    let names = (made.store.names(), made.store.name_faults().len());
-    assert_eq!(rt; (made.store.tokens(), names), (2003, (1, 1)));
-    Ok(())
+    let web = long_web(rt.alloc(), b"@ @c ", b"@<", 1000, b"\n")?;
+    check(&rt, &[("a.w", &web)], None, &Nested)
 }
 
 // The longest line that a merger takes.
@@ -100,36 +117,39 @@ const LONG_LINES: &[LongLine] = &[
     (b"@ @d m ", b"x", LONGEST - 7, b"", 3, 0, LONGEST - 6),
 ];
 
+// A scan of such a web makes so much; the length of the web.
+fn check_sizes(rt: &(impl AllocGlobal + Abort), line: &LongLine) -> Result<usize, Fail> {
+    let (front, middle, times, back, tokens, faults, bytes) = *line;
+    let web = long_web(rt.alloc(), front, middle, times, back)?;
+    let sizes = (tokens, faults, bytes as u64);
+    check(rt, &[("a.w", &web)], None, &Sizes { front, sizes })?;
+    Ok(web.len())
+}
+
 #[test]
 fn lines_of_a_million_bytes(rt: HostRuntime) -> Result<(), Fail> {
-    let alloc = rt.alloc();
-    for (front, middle, times, back, tokens, faults, bytes) in LONG_LINES {
-        let web = long_web(alloc, front, middle, *times, back)?;
-        assert_eq!(rt; web.len(), LONGEST);
-        let want = (*tokens, *faults, *bytes as u64);
-        assert_eq!(rt; sizes(alloc, &web)?, want, "behind {front:?}");
+    for line in LONG_LINES {
+        let length = check_sizes(&rt, line)?;
+        holds(&rt, length == LONGEST);
     }
     Ok(())
 }
 
-// What stands in front of a million empty lines; tokens and faults.
-const EMPTY_LINES: &[(&[u8], u32, usize)] = &[
-    (b"", 0, 0),
-    (b"@ @c", 1_000_002, 0),
-    (b"@ @c /*", 1_000_002, 1),
-    (b"@ @c @<", 5, 1),
-    (b"@ @c R\"(", 4, 1),
-    (b"@ @d m", 1, 0),
-    (b"@ @d", 0, 1),
+// What stands in front of a million empty lines; tokens, faults and bytes of text.
+const EMPTY_LINES: &[LongLine] = &[
+    (b"", b"\n", 1_000_000, b"", 0, 0, 0),
+    (b"@ @c", b"\n", 1_000_000, b"", 1_000_002, 0, 0),
+    (b"@ @c /*", b"\n", 1_000_000, b"", 1_000_002, 1, 0),
+    (b"@ @c @<", b"\n", 1_000_000, b"", 5, 1, 0),
+    (b"@ @c R\"(", b"\n", 1_000_000, b"", 4, 1, 1_000_002),
+    (b"@ @d m", b"\n", 1_000_000, b"", 1, 0, 1),
+    (b"@ @d", b"\n", 1_000_000, b"", 0, 1, 0),
 ];
 
 #[test]
 fn many_empty_lines(rt: HostRuntime) -> Result<(), Fail> {
-    let alloc = rt.alloc();
-    for (front, tokens, faults) in EMPTY_LINES {
-        let web = long_web(alloc, front, b"\n", 1_000_000, b"")?;
-        let (given, told, _) = sizes(alloc, &web)?;
-        assert_eq!(rt; (given, told), (*tokens, *faults), "behind {front:?}");
+    for line in EMPTY_LINES {
+        check_sizes(&rt, line)?;
     }
     Ok(())
 }

@@ -62,11 +62,13 @@ const LINES_OF_FILES: &[(&[u8], &str)] = &[
 
 #[test]
 fn lines_of_files(rt: HostRuntime) -> Result<(), Fail> {
-    let change = b"@x\nb;\n@y\nB;\n@z\n".as_slice();
-    for (web, want) in LINES_OF_FILES {
-        let files = [("a.w", *web), ("d", b"x\ny\n"), ("c.ch", change)];
-        let got = told_of(rt.alloc(), &files, Some("c.ch"))?;
-        assert_eq!(rt; got.as_str(), *want);
+    for (web, text) in LINES_OF_FILES {
+        let files: [(&str, &[u8]); 3] = [
+            ("a.w", *web),
+            ("d", b"x\ny\n"),
+            ("c.ch", b"@x\nb;\n@y\nB;\n@z\n"),
+        ];
+        check(&rt, &files, Some("c.ch"), &Telling { text: *text })?;
     }
     Ok(())
 }

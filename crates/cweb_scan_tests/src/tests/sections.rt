@@ -2,22 +2,28 @@
 use super::*;
 
 // How many sections there are, and the numbers of the starred ones.
-fn sections_told(
-    alloc: Global,
-    files: &[(&str, &[u8])],
-    change: Option<&str>,
-) -> Result<String, Fail> {
-    let made = scanned(alloc, files, change)?;
-    tell_sections(alloc, made.sections, made.starred.as_slice())
-}
-
-fn tell_sections(alloc: Global, sections: u32, starred: &[u32]) -> Result<String, Fail> {
-    let mut told = String::new(alloc);
+fn tell_sections(told: &mut String, sections: u32, starred: &[u32]) -> Result<(), AllocError> {
     write!(told, "{sections}")?;
     for number in starred {
         write!(told, " *{number}")?;
     }
-    Ok(told)
+    Ok(())
+}
+
+// A web has these sections.
+#[derive(Clone, Copy)]
+struct Sections<'a> {
+    web: &'a [u8],
+    sections: &'a str,
+}
+
+impl Case<Fail> for Sections<'_> {
+    fn look<A: AllocGlobal + Abort>(&self, rt: &A, made: &Scanned) -> Result<(), Fail> {
+        let mut told = String::new(rt.alloc());
+        tell_sections(&mut told, made.sections, made.starred.as_slice())?;
+        same_text_of(rt, told.as_str(), self.sections, self.web);
+        Ok(())
+    }
 }
 
 const SECTION_STARTS: &[(&[u8], &str)] = &[
@@ -47,24 +53,32 @@ const SECTION_STARTS: &[(&[u8], &str)] = &[
 
 #[test]
 fn section_starts(rt: HostRuntime) -> Result<(), Fail> {
-    for (web, want) in SECTION_STARTS {
-        let got = sections_told(rt.alloc(), &[("a.w", web)], None)?;
-        assert_eq!(rt; got.as_str(), *want, "of {web:?}");
+    for (web, sections) in SECTION_STARTS {
+        let case = Sections {
+            web: *web,
+            sections: *sections,
+        };
+        check(&rt, &[("a.w", *web)], None, &case)?;
     }
     Ok(())
 }
 
+const OTHER_FILES: &[(&str, &[u8])] = &[
+    ("a.w", b"@ a\n@ b\n@i d\n@ e\n"),
+    ("c.ch", b"@x\n@ b\n@y\n@* b\n@ c\n@z\n"),
+    ("d", b"@* d\n"),
+];
+
 // Sections of a change file and of an included file count too.
 #[test]
 fn sections_of_other_files(rt: HostRuntime) -> Result<(), Fail> {
-    let files = [
-        ("a.w", b"@ a\n@ b\n@i d\n@ e\n".as_slice()),
-        ("c.ch", b"@x\n@ b\n@y\n@* b\n@ c\n@z\n"),
-        ("d", b"@* d\n"),
-    ];
-    let got = sections_told(rt.alloc(), &files, Some("c.ch"))?;
-    assert_eq!(rt; got.as_str(), "5 *2 *4");
-    let got = sections_told(rt.alloc(), &files, None)?;
-    assert_eq!(rt; got.as_str(), "4 *3");
+    const ROWS: &[(Option<&str>, &str)] = &[(Some("c.ch"), "5 *2 *4"), (None, "4 *3")];
+    for (change, sections) in ROWS {
+        let case = Sections {
+            web: b"a.w",
+            sections: *sections,
+        };
+        check(&rt, OTHER_FILES, *change, &case)?;
+    }
     Ok(())
 }

@@ -2,10 +2,11 @@
 // the faults of the text and of names.
 use super::*;
 use cweb_files::Place;
-use cweb_store::{NameId, NameRef, Store, Token};
+use cweb_rules::ScanFault;
+use cweb_store::{NameId, NameRef, Parts, Store, Token};
 
 // Bytes; those that aren't printed as they stand, by their numbers in braces.
-fn tell_bytes(told: &mut String, bytes: &[u8]) -> Result<(), Fail> {
+fn tell_bytes(told: &mut String, bytes: &[u8]) -> Result<(), AllocError> {
     for byte in bytes {
         if matches!(*byte, b' '..=b'~') {
             told.push(char::from(*byte))?;
@@ -17,131 +18,145 @@ fn tell_bytes(told: &mut String, bytes: &[u8]) -> Result<(), Fail> {
 }
 
 // A place by its line, and by its file where that isn't the web.
-fn tell_place(told: &mut String, place: Place) -> Result<(), Fail> {
+fn tell_place(told: &mut String, place: Place) -> Result<(), AllocError> {
     if place.file.0 > 0 {
         write!(told, "{}.", place.file.0)?;
     }
-    write!(told, "{}", place.line)?;
-    Ok(())
+    write!(told, "{}", place.line)
+}
+
+// Bytes between a front and a back.
+fn tell_between(
+    told: &mut String,
+    front: &str,
+    bytes: &[u8],
+    back: &str,
+) -> Result<(), AllocError> {
+    told.push_str(front)?;
+    tell_bytes(told, bytes)?;
+    told.push_str(back)
 }
 
 // A name in angle brackets.
-fn tell_name(told: &mut String, name: &[u8]) -> Result<(), Fail> {
-    told.push_str("<")?;
-    tell_bytes(told, name)?;
-    told.push_str(">")?;
-    Ok(())
+fn tell_name(told: &mut String, name: &[u8]) -> Result<(), AllocError> {
+    tell_between(told, "<", name, ">")
 }
 
 // A use, by the name that it stands for.
-fn tell_use(told: &mut String, store: &Store, name: NameRef) -> Result<(), Fail> {
+fn tell_use(told: &mut String, store: &Store, name: NameRef) -> Result<(), AllocError> {
     match store.standing(name) {
         Some(id) => tell_name(told, store.name_text(id)),
-        None => {
-            told.push_str("<?>")?;
-            Ok(())
-        }
+        None => told.push_str("<?>"),
     }
 }
 
+fn tell_mark(told: &mut String, place: Place) -> Result<(), AllocError> {
+    told.push_str("at:")?;
+    tell_place(told, place)
+}
+
 // The letter of a kind of token, and the bytes of the token.
-fn tell_text(told: &mut String, letter: &str, bytes: &[u8]) -> Result<(), Fail> {
+fn tell_text(told: &mut String, letter: &str, bytes: &[u8]) -> Result<(), AllocError> {
     told.push_str(letter)?;
     tell_bytes(told, bytes)
 }
 
-fn tell_token(told: &mut String, store: &Store, token: Token<'_>) -> Result<(), Fail> {
+fn tell_token(told: &mut String, store: &Store, token: Token<'_>) -> Result<(), AllocError> {
     match token {
-        Token::Word(bytes) => tell_text(told, "w:", bytes)?,
-        Token::Number(bytes) => tell_text(told, "n:", bytes)?,
-        Token::Literal(bytes) => tell_text(told, "l:", bytes)?,
-        Token::Verbatim(bytes) => tell_text(told, "v:", bytes)?,
-        Token::Punct(bytes) => tell_text(told, "p:", bytes)?,
-        Token::Blank => told.push_str("_")?,
-        Token::Newline => told.push_str("/")?,
-        Token::Join => told.push_str("&")?,
-        Token::Defs => told.push_str("defs")?,
-        Token::Name(name) => tell_use(told, store, name)?,
-        Token::Head(section) => write!(told, "head:{section}")?,
-        Token::Tail(section) => write!(told, "tail:{section}")?,
-        Token::Mark(place) => {
-            told.push_str("at:")?;
-            tell_place(told, place)?;
+        Token::Word(bytes) => tell_text(told, "w:", bytes),
+        Token::Number(bytes) => tell_text(told, "n:", bytes),
+        Token::Literal(bytes) => tell_text(told, "l:", bytes),
+        Token::Verbatim(bytes) => tell_text(told, "v:", bytes),
+        Token::Punct(bytes) => tell_text(told, "p:", bytes),
+        Token::Blank => told.push_str("_"),
+        Token::Newline => told.push_str("/"),
+        Token::Join => told.push_str("&"),
+        Token::Defs => told.push_str("defs"),
+        Token::Name(name) => tell_use(told, store, name),
+        Token::Head(section) => write!(told, "head:{section}"),
+        Token::Tail(section) => write!(told, "tail:{section}"),
+        Token::Mark(place) => tell_mark(told, place),
+    }
+}
+
+// The kind of each of these parts that begins with a token, between a front and a back.
+fn tell_parts(
+    told: &mut String,
+    parts: Parts<'_>,
+    number: u32,
+    kind: &[u8],
+    signs: (&str, &str),
+) -> Result<(), AllocError> {
+    for part in parts {
+        if part.first == number {
+            tell_between(told, signs.0, kind, signs.1)?;
         }
     }
-    told.push_str(" ")?;
     Ok(())
 }
 
 // The kind of the part that begins with a token, in brackets.
-fn tell_kind(told: &mut String, store: &Store, number: u32) -> Result<(), Fail> {
-    for part in store.macros() {
-        if part.first == number {
-            told.push_str("[macro] ")?;
-        }
-    }
-    for part in store.unnamed() {
-        if part.first == number {
-            told.push_str("[program] ")?;
-        }
-    }
+fn tell_kind(told: &mut String, store: &Store, number: u32) -> Result<(), AllocError> {
+    tell_parts(told, store.macros(), number, b"macro", ("[", "] "))?;
+    tell_parts(told, store.unnamed(), number, b"program", ("[", "] "))?;
     for id in 0..store.names() {
-        for part in store.parts(NameId(id)) {
-            if part.first == number {
-                told.push_str("[")?;
-                tell_name(told, store.name_text(NameId(id)))?;
-                told.push_str("] ")?;
-            }
-        }
+        let id = NameId(id);
+        let name = store.name_text(id);
+        tell_parts(told, store.parts(id), number, name, ("[<", ">] "))?;
     }
     Ok(())
 }
 
-fn tell_replacements(told: &mut String, store: &Store) -> Result<(), Fail> {
+// The tokens, each with a blank behind it.
+fn tell_tokens(told: &mut String, store: &Store) -> Result<(), AllocError> {
+    for number in 0..store.tokens() {
+        tell_kind(told, store, number)?;
+        tell_token(told, store, store.token(number))?;
+        told.push_str(" ")?;
+    }
+    Ok(())
+}
+
+fn tell_replacements(told: &mut String, store: &Store) -> Result<(), AllocError> {
     for byte in 128..=255 {
         if let Some(text) = store.replacement(byte) {
-            write!(told, "{byte:02x}=")?;
-            tell_bytes(told, text)?;
-            told.push_str(" ")?;
+            write!(told, "{byte:02x}")?;
+            tell_between(told, "=", text, " ")?;
         }
     }
     Ok(())
 }
 
-fn tell_files(told: &mut String, store: &Store) -> Result<(), Fail> {
+fn tell_files(told: &mut String, store: &Store) -> Result<(), AllocError> {
     for id in store.files() {
-        told.push_str("file ")?;
-        tell_name(told, store.name_text(*id))?;
+        tell_between(told, "file <", store.name_text(*id), "> ")?;
+    }
+    Ok(())
+}
+
+fn tell_faults(told: &mut String, faults: &[ScanFault]) -> Result<(), AllocError> {
+    for fault in faults {
+        write!(told, "{:?} ", fault.kind)?;
+        tell_place(told, fault.place)?;
         told.push_str(" ")?;
     }
     Ok(())
 }
 
 // The faults of names, each with the name or the prefix that shows it.
-fn tell_name_faults(told: &mut String, store: &Store) -> Result<(), Fail> {
+fn tell_name_faults(told: &mut String, store: &Store) -> Result<(), AllocError> {
     for fault in store.name_faults() {
-        write!(told, "{:?} ", fault.kind)?;
-        tell_name(told, store.occurrence_text(fault.occurrence))?;
-        told.push_str(" ")?;
+        write!(told, "{:?}", fault.kind)?;
+        tell_between(told, " <", store.occurrence_text(fault.occurrence), "> ")?;
     }
     Ok(())
 }
 
 /// All of it, each piece with a blank behind it.
-pub fn told(alloc: Global, made: &Scanned) -> Result<String, Fail> {
-    let mut told = String::new(alloc);
-    let store = &made.store;
-    for number in 0..store.tokens() {
-        tell_kind(&mut told, store, number)?;
-        tell_token(&mut told, store, store.token(number))?;
-    }
-    tell_replacements(&mut told, store)?;
-    tell_files(&mut told, store)?;
-    for fault in &made.faults {
-        write!(told, "{:?} ", fault.kind)?;
-        tell_place(&mut told, fault.place)?;
-        told.push_str(" ")?;
-    }
-    tell_name_faults(&mut told, store)?;
-    Ok(told)
+pub fn tell(told: &mut String, made: &Scanned) -> Result<(), AllocError> {
+    tell_tokens(told, &made.store)?;
+    tell_replacements(told, &made.store)?;
+    tell_files(told, &made.store)?;
+    tell_faults(told, made.faults.as_slice())?;
+    tell_name_faults(told, &made.store)
 }
