@@ -1,6 +1,7 @@
 -- What is kept of a web has no more tokens, and no more bytes, than the web has bytes and lines.
 use Rattle.cweb_scan.proofs.Common.{◌≡◌, ◌≤◌, ℕ, zero, suc, ◌+◌, ◌-◌, List, [], ◌∷◌, ◌++◌, Option, Some, None, length, take, map, refl, arith, length-append, option_to_list, fold, length-take-le, Line, Occurrence, Token, Word, Number, Literal, Verbatim, Punct, Blank, Newline, Join, Defs, Name, Head, Tail, Mark, Part, all_tokens, Replacement, PartsSoFar, all_parts, finished, Piece, State, leave, before_text, Reading, after, front_of, pieces_in, run, further, read, scanned, total, one, text_size, occurrence_size, replacement_size, part_size, open_size, parts_size, token_number, text_bytes, due, Adds, web_size, IsBounded}
 use Rattle.cweb_store.specs.Texts as kept
+use Rattle.cweb_texts.specs.Words as words
 use Rattle.cweb_scan.proofs.Measures.{total-append}
 use Rattle.cweb_scan.proofs.StateAdds.{adds_both, due_some, leave_in-adds}
 use Rattle.cweb_scan.proofs.PieceAdds.{piece-adds}
@@ -79,16 +80,17 @@ token-bytes (Head n) = refl
 token-bytes (Tail n) = refl
 token-bytes (Mark p) = refl
 
-tokens-bytes : (ts : List Token) → kept.total kept.token_bytes ts ≡ total text_size ts
+tokens-bytes : (ts : List Token) → words.total kept.token_bytes ts ≡ total text_size ts
 tokens-bytes [] = refl
 tokens-bytes (t ∷ ts) = omega (arith, token-bytes t, tokens-bytes ts)
 
-occurrences-bytes : (os : List Occurrence) → kept.total length (map kept.occurrence_text os) ≡ total occurrence_size os
+occurrences-bytes : (os : List Occurrence)
+    → words.total length (map kept.occurrence_text os) ≡ total occurrence_size os
 occurrences-bytes [] = refl
 occurrences-bytes (o ∷ os) = omega (arith, occurrences-bytes os)
 
 replacements-bytes : (rs : List Replacement)
-    → kept.total length (map kept.replacement_text rs) ≡ total replacement_size rs
+    → words.total length (map kept.replacement_text rs) ≡ total replacement_size rs
 replacements-bytes [] = refl
 replacements-bytes (r ∷ rs) = omega (arith, replacements-bytes rs)
 
