@@ -1,3 +1,5 @@
 // Files of real folders, and streams that take and give as much as they like.
 mod folder;
+mod puts;
 mod streams;
+mod wanted;

@@ -1,8 +1,11 @@
 // Streams and files of the system, and streams that take and give a part, or are broken off.
-use cweb_lines::{Shelf, Sink, write_all};
+use super::wanted::*;
+use cweb_lines::{Shelf, ShelfFault, Sink, write_all};
 use cweb_tools::{FolderShelf, StdSink, read_once};
 use std::io;
 use std::io::{Error, ErrorKind, Read, Write};
+use std::process::Abort;
+use std::rt::Files;
 use std::test::Fail;
 
 /// Takes two bytes at most, and each other call of it is broken off by a signal.
@@ -30,17 +33,23 @@ impl Write for Dripping {
     }
 }
 
+/// Two bytes are taken of the first three, and all that is written whole.
+fn takes_parts<S: Sink>(rt: &impl Abort, sink: &mut S) {
+    holds(rt, sink.failures() == 0);
+    takes(rt, sink.write(b"abc"), Ok(2));
+    holds(rt, sink.failures() == 0);
+    holds(rt, write_all(sink, b"cdefg").is_ok());
+    same_number(rt, sink.failures(), 0);
+}
+
 #[test]
 fn a_stream_that_takes_parts_loses_nothing(rt: HostRuntime) {
     let mut dripping = Dripping {
         taken: Vec::new(rt.alloc()),
         broken_off: false,
     };
-    let mut sink = StdSink::new(&mut dripping);
-    assert_eq!(rt; sink.write(b"abc"), Ok(2));
-    assert!(rt; write_all(&mut sink, b"cdefg").is_ok());
-    assert_eq!(rt; sink.failures(), 0);
-    assert_eq!(rt; dripping.taken.as_slice(), b"abcdefg".as_slice());
+    takes_parts(&rt, &mut StdSink::new(&mut dripping));
+    same_bytes(&rt, &dripping.taken, b"abcdefg");
 }
 
 /// Gives three bytes at most, and each other call of it is broken off by a signal.
@@ -64,20 +73,23 @@ impl Read for Trickling<'_> {
     }
 }
 
+/// So many bytes are given, and then the piece holds these.
+fn gives_part<F: Read>(rt: &impl Abort, file: &mut F, piece: &mut [u8], count: usize, held: &[u8]) {
+    gives(rt, read_once(file, piece), Ok(count));
+    same_bytes(rt, piece, held);
+}
+
 #[test]
 fn a_file_that_gives_parts_loses_nothing(rt: HostRuntime) {
+    const PARTS: &[(usize, &[u8])] = &[(3, b"abc--"), (3, b"def--"), (2, b"ghf--"), (0, b"ghf--")];
     let mut file = Trickling {
         left: b"abcdefgh",
         broken_off: false,
     };
     let mut piece = [b'-'; 5];
-    assert_eq!(rt; read_once(&mut file, &mut piece), Ok(3));
-    assert_eq!(rt; piece, *b"abc--");
-    assert_eq!(rt; read_once(&mut file, &mut piece), Ok(3));
-    assert_eq!(rt; piece, *b"def--");
-    assert_eq!(rt; read_once(&mut file, &mut piece), Ok(2));
-    assert_eq!(rt; piece, *b"ghf--");
-    assert_eq!(rt; read_once(&mut file, &mut piece), Ok(0));
+    for (count, held) in PARTS {
+        gives_part(&rt, &mut file, &mut piece, *count, *held);
+    }
 }
 
 /// Takes nothing, and says so.
@@ -94,29 +106,44 @@ impl Write for Full {
     }
 }
 
+/// No byte is taken, and one that should be is a failure.
+fn takes_nothing<S: Sink>(rt: &impl Abort, sink: &mut S) {
+    holds(rt, sink.failures() == 0);
+    takes(rt, sink.write(b""), Ok(0));
+    holds(rt, sink.failures() == 0);
+    holds(rt, sink.write(b"x").is_err());
+    same_number(rt, sink.failures(), 1);
+}
+
 #[test]
 fn a_stream_that_takes_nothing_has_failed(rt: HostRuntime) {
-    let mut sink = StdSink::new(Full);
-    assert_eq!(rt; sink.write(b""), Ok(0));
-    assert!(rt; sink.write(b"x").is_err());
-    assert_eq!(rt; sink.failures(), 1);
+    takes_nothing(&rt, &mut StdSink::new(Full));
+}
+
+/// A file can be opened, and its first read gives so many bytes or fails.
+fn gives_at_first<R: Files + Drop>(
+    rt: &impl Abort,
+    shelf: &mut FolderShelf<'_, R>,
+    name: &str,
+    want: Result<usize, ShelfFault>,
+) -> Result<(), Fail> {
+    let Some(mut file) = shelf.fetch(name)? else {
+        return Err(Fail::new("not there"));
+    };
+    let mut piece = [0; 8];
+    holds(rt, shelf.failures() < 2);
+    gives(rt, shelf.read(&mut file, &mut piece), want);
+    Ok(())
 }
 
 #[test]
 fn files_of_the_system(rt: HostRuntime) -> Result<(), Fail> {
     let mut shelf = FolderShelf::new(&rt);
-    assert!(rt; shelf.fetch("/no/such/file")?.is_none());
-    assert!(rt; shelf.fetch("")?.is_none());
-
+    holds(&rt, shelf.fetch("/no/such/file")?.is_none());
+    holds(&rt, shelf.fetch("")?.is_none());
     // a folder can be opened, and its first read fails
-    let mut folder = shelf.fetch("/")?.ok_or("no folder")?;
-    let mut piece = [0; 8];
-    assert!(rt; shelf.read(&mut folder, &mut piece).is_err());
-    assert_eq!(rt; shelf.failures(), 1);
-
-    let mut zeros = shelf.fetch("/dev/zero")?.ok_or("no /dev/zero")?;
-    assert_eq!(rt; shelf.read(&mut zeros, &mut piece), Ok(8));
-    let mut nothing = shelf.fetch("/dev/null")?.ok_or("no /dev/null")?;
-    assert_eq!(rt; shelf.read(&mut nothing, &mut piece), Ok(0));
-    Ok(())
+    gives_at_first(&rt, &mut shelf, "/", Err(ShelfFault))?;
+    same_number(&rt, shelf.failures(), 1);
+    gives_at_first(&rt, &mut shelf, "/dev/zero", Ok(8))?;
+    gives_at_first(&rt, &mut shelf, "/dev/null", Ok(0))
 }
