@@ -2,12 +2,38 @@
 ghost use Rattle.std.specs.Prelude.{◌≡◌, ◌≤◌, length, is_some};
 ghost use Rattle.cweb_store.specs.Growing.{part_count, token_count};
 
-use anyhow::{Result, ensure};
 use cweb_store::{Builder, How, NameRef, PartKind, Store, Token};
 use std::alloc::{AllocError, Global};
+use std::error::Error;
+use std::fmt;
+use std::fmt::{Display, Formatter, Write};
 
 // A builder takes at most so many calls here.
 const MOST: u32 = 20_000_000;
+
+/// Why a builder takes no more. An error of `anyhow` has 288 bytes, and an answer that may hold one costs more than a call.
+#[derive(Clone, Copy, Debug)]
+pub enum Refusal {
+    TooManyCalls,
+    Memory,
+}
+
+impl Display for Refusal {
+    fn fmt<W: Write>(&self, f: &mut Formatter<W>) -> fmt::Result {
+        match self {
+            Refusal::TooManyCalls => f.write_str("too many calls"),
+            Refusal::Memory => f.write_str("out of memory"),
+        }
+    }
+}
+
+impl Error for Refusal {}
+
+impl From<AllocError> for Refusal {
+    fn from(_: AllocError) -> Self {
+        Refusal::Memory
+    }
+}
 
 /// A builder that knows how many calls it had, and whether a part is open.
 #[derive(Drop)]
@@ -33,16 +59,20 @@ impl Calls {
     }
 
     /// Gives an occurrence of a name.
-    pub fn occur(&mut self, name: &[u8], how: How) -> Result<NameRef> {
-        ensure!(self.calls < MOST, "too many calls");
+    pub fn occur(&mut self, name: &[u8], how: How) -> Result<NameRef, Refusal> {
+        if self.calls >= MOST {
+            return Err(Refusal::TooManyCalls);
+        }
         self.calls += 1;
         Ok(self.builder.occurrence(name, how, false)?)
     }
 
     /// Opens a part, and closes the one that was open.
     #[tactic(auto, using(cweb_store::proofs::CallerLemmas::token_count_opened, cweb_store::proofs::CallerLemmas::token_count_closed, cweb_store::proofs::CallerLemmas::part_count_opened, cweb_store::proofs::CallerLemmas::part_count_closed))]
-    pub fn open(&mut self, kind: PartKind) -> Result<()> {
-        ensure!(self.calls < MOST, "too many calls");
+    pub fn open(&mut self, kind: PartKind) -> Result<(), Refusal> {
+        if self.calls >= MOST {
+            return Err(Refusal::TooManyCalls);
+        }
         self.calls += 1;
         if self.is_open {
             self.builder.close_part();
@@ -53,8 +83,7 @@ impl Calls {
         Ok(())
     }
 
-    /// Gives a token to the part that is open. One call too many is answered as if memory were refused: an error of `anyhow`
-    /// has 288 bytes, and an answer that may hold one costs more than the push.
+    /// Gives a token to the part that is open. One call too many is answered as if memory were refused.
     #[tactic(auto, using(cweb_store::proofs::CallerLemmas::token_count_pushed, cweb_store::proofs::CallerLemmas::part_count_pushed))]
     pub fn push(&mut self, token: Token<'_>) -> Result<(), AllocError> {
         if self.calls >= MOST || !self.is_open {
@@ -65,13 +94,13 @@ impl Calls {
     }
 
     /// The store of what was given.
-    pub fn finish(self) -> Result<Store> {
+    pub fn finish(self) -> Result<Store, AllocError> {
         let Calls {
             alloc: _,
             builder,
             calls: _,
             is_open: _,
         } = self;
-        Ok(builder.finish()?)
+        builder.finish()
     }
 }

@@ -10,6 +10,9 @@ mod scan;
 // builders that know how many calls they had
 mod calls;
 
+// the stores of shapes
+mod given;
+
 // what a store is given and asked
 mod store;
 
@@ -18,7 +21,8 @@ mod outputs;
 
 use anyhow::{Context, Result, bail};
 use cweb_lines::MemoryShelf;
-use std::alloc::Global;
+use std::alloc::{AllocError, Global};
+use std::env::Args;
 use std::{env, fs};
 
 const SMALL_WEB: &[u8] =
@@ -28,20 +32,34 @@ const SMALL_STORE: u32 = 500;
 
 const SMALL_OUTPUT: u32 = 60;
 
+// A layer, a shape, a count and a step.
+const SMALL: &[(&str, &str, u32, &str)] = &[
+    ("store", "words", SMALL_STORE, "ask"),
+    ("store", "distinct", SMALL_STORE, "ask"),
+    ("store", "flood", SMALL_STORE, "ask"),
+    ("store", "names", SMALL_STORE, "ask"),
+    ("store", "name-flood", SMALL_STORE, "ask"),
+    ("store", "parts", SMALL_STORE, "ask"),
+    ("out", "chain", SMALL_OUTPUT, "print"),
+    ("out", "parts", SMALL_OUTPUT, "print"),
+    ("out", "uses", SMALL_OUTPUT, "print"),
+];
+
 fn main(rt: HostRuntime) -> Result<()> {
     let mut words = env::args(&rt)?;
     let _program = words.next();
-    let Some(layer) = words.next() else {
-        return show_small(&rt, rt.alloc());
-    };
-    let what = words.next().context("a file or a shape is missing")?;
-    if matches!(layer.as_str(), "scan" | "merge") {
-        return show_web(&rt, layer.as_str(), what.as_str());
+    match words.next() {
+        Some(layer) => show_layer(&rt, layer.as_str(), &mut words),
+        None => show_small(&rt, rt.alloc()),
     }
-    let count = words.next().context("a number is missing")?;
-    let step = words.next().context("a step is missing")?;
-    let (layer, shape) = (layer.as_str(), what.as_str());
-    show(&rt, layer, shape, count.as_str(), step.as_str())
+}
+
+fn show_layer(rt: &HostRuntime, layer: &str, words: &mut Args) -> Result<()> {
+    let what = words.next().context("a file or a shape is missing")?;
+    match layer {
+        "scan" | "merge" => show_web(rt, layer, what.as_str()),
+        _ => show_counted(rt, layer, what.as_str(), words),
+    }
 }
 
 // Reads a web, and scans it or merges its lines.
@@ -54,41 +72,51 @@ fn show_web(rt: &HostRuntime, layer: &str, file: &str) -> Result<()> {
 }
 
 fn show_merged(rt: &impl Print, alloc: Global, text: &[u8]) -> Result<()> {
-    let bytes = scan::merged(alloc, shelf_of(alloc, text)?, text.len())?;
+    let mut shelf = shelf_of(alloc, text)?;
+    let bytes = scan::merged(alloc, &mut shelf, text.len())?;
     println!(rt; "{bytes} bytes")?;
     Ok(())
 }
 
-fn show(rt: &HostRuntime, layer: &str, shape: &str, count: &str, step: &str) -> Result<()> {
+fn show_counted(rt: &HostRuntime, layer: &str, shape: &str, words: &mut Args) -> Result<()> {
+    let count = words.next().context("a number is missing")?;
+    let step = words.next().context("a step is missing")?;
     let count = count.parse::<u32>().context("reading the number")?;
+    show(rt, rt.alloc(), layer, shape, count, step.as_str())
+}
+
+fn show(
+    rt: &impl Print,
+    alloc: Global,
+    layer: &str,
+    shape: &str,
+    count: u32,
+    step: &str,
+) -> Result<()> {
     match layer {
-        "store" => store::show(rt, rt.alloc(), shape, count, step),
-        "out" => outputs::show(rt, rt.alloc(), shape, count, step),
+        "store" => store::show(rt, alloc, shape, count, step),
+        "out" => outputs::show(rt, alloc, shape, count, step),
         _ => bail!("scan, merge, store or out is wanted"),
     }
 }
 
 fn show_small(rt: &impl Print, alloc: Global) -> Result<()> {
     show_scanned(rt, alloc, SMALL_WEB)?;
-    store::show(rt, alloc, "words", SMALL_STORE, "ask")?;
-    store::show(rt, alloc, "distinct", SMALL_STORE, "ask")?;
-    store::show(rt, alloc, "flood", SMALL_STORE, "ask")?;
-    store::show(rt, alloc, "names", SMALL_STORE, "ask")?;
-    store::show(rt, alloc, "name-flood", SMALL_STORE, "ask")?;
-    store::show(rt, alloc, "parts", SMALL_STORE, "ask")?;
-    outputs::show(rt, alloc, "chain", SMALL_OUTPUT, "print")?;
-    outputs::show(rt, alloc, "parts", SMALL_OUTPUT, "print")?;
-    outputs::show(rt, alloc, "uses", SMALL_OUTPUT, "print")
+    for (layer, shape, count, step) in SMALL {
+        show(rt, alloc, *layer, *shape, *count, *step)?;
+    }
+    Ok(())
 }
 
 fn show_scanned(rt: &impl Print, alloc: Global, text: &[u8]) -> Result<()> {
-    let counts = scan::scanned(alloc, shelf_of(alloc, text)?)?;
+    let mut shelf = shelf_of(alloc, text)?;
+    let counts = scan::scanned(alloc, &mut shelf)?;
     println!(rt; "{counts}")?;
     Ok(())
 }
 
 // A shelf with this web.
-fn shelf_of(alloc: Global, text: &[u8]) -> Result<MemoryShelf> {
+fn shelf_of(alloc: Global, text: &[u8]) -> Result<MemoryShelf, AllocError> {
     let mut shelf = MemoryShelf::new(alloc);
     shelf.put(scan::WEB, text)?;
     Ok(shelf)

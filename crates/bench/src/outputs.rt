@@ -2,7 +2,8 @@
 
 mod printing;
 
-use crate::calls::Calls;
+use crate::calls::{Calls, Refusal};
+use crate::given;
 use anyhow::{Result, bail};
 use cweb_files::{FileId, Place};
 use cweb_store::{How, NameRef, PartKind, Store, Token};
@@ -13,7 +14,7 @@ const SHARED: u32 = 500;
 
 /// How a web's names use one another.
 #[derive(Clone, Copy)]
-enum Shape {
+enum Web {
     /// Each name uses the next one.
     Chain,
     /// Names of many parts, each used once.
@@ -22,52 +23,54 @@ enum Shape {
     Uses,
 }
 
-impl Shape {
-    fn of(word: &str) -> Option<Shape> {
+impl Web {
+    fn of(word: &str) -> Option<Web> {
         match word {
-            "chain" => Some(Shape::Chain),
-            "parts" => Some(Shape::Parts),
-            "uses" => Some(Shape::Uses),
+            "chain" => Some(Web::Chain),
+            "parts" => Some(Web::Parts),
+            "uses" => Some(Web::Uses),
             _ => None,
+        }
+    }
+}
+
+impl given::Shape for Web {
+    fn give(&self, calls: &mut Calls, count: u32) -> Result<(), Refusal> {
+        calls.open(PartKind::Unnamed)?;
+        match self {
+            Web::Chain => chain(calls, count),
+            Web::Parts => parts(calls, count),
+            Web::Uses => uses(calls, count),
+        }
+    }
+
+    fn show<P: Print>(
+        &self,
+        rt: &P,
+        alloc: Global,
+        store: &Store,
+        _: u32,
+        step: &str,
+    ) -> Result<()> {
+        let tokens = store.tokens();
+        let names = store.names();
+        println!(rt; "{names} names, {tokens} tokens")?;
+        match step {
+            "build" => Ok(()),
+            _ => printing::show(rt, alloc, store, step),
         }
     }
 }
 
 /// Goes up to a step with a store, and says what came out.
 pub fn show(rt: &impl Print, alloc: Global, shape: &str, count: u32, step: &str) -> Result<()> {
-    let Some(shape) = Shape::of(shape) else {
-        bail!("no such shape");
-    };
-    show_store(rt, alloc, &store(alloc, shape, count)?, step)
-}
-
-fn show_store(rt: &impl Print, alloc: Global, store: &Store, step: &str) -> Result<()> {
-    let tokens = store.tokens();
-    let names = store.names();
-    println!(rt; "{names} names, {tokens} tokens")?;
-    if step == "build" {
-        return Ok(());
-    }
-    printing::show(rt, alloc, store, step)
-}
-
-// A store of a shape, with so many names, parts or uses.
-fn store(alloc: Global, shape: Shape, count: u32) -> Result<Store> {
-    let mut calls = Calls::new(alloc);
-    fill(&mut calls, shape, count)?;
-    calls.finish()
-}
-
-fn fill(calls: &mut Calls, shape: Shape, count: u32) -> Result<()> {
-    calls.open(PartKind::Unnamed)?;
-    match shape {
-        Shape::Chain => chain(calls, count),
-        Shape::Parts => parts(calls, count),
-        Shape::Uses => uses(calls, count),
+    match Web::of(shape) {
+        Some(shape) => given::show(rt, alloc, &shape, count, step),
+        None => bail!("no such shape"),
     }
 }
 
-fn chain(calls: &mut Calls, count: u32) -> Result<()> {
+fn chain(calls: &mut Calls, count: u32) -> Result<(), Refusal> {
     for number in 0..count {
         put_use(calls, number)?;
         open_named(calls, number)?;
@@ -76,7 +79,7 @@ fn chain(calls: &mut Calls, count: u32) -> Result<()> {
     Ok(())
 }
 
-fn parts(calls: &mut Calls, count: u32) -> Result<()> {
+fn parts(calls: &mut Calls, count: u32) -> Result<(), Refusal> {
     for number in 0..count.min(SHARED) {
         put_use(calls, number)?;
     }
@@ -87,7 +90,7 @@ fn parts(calls: &mut Calls, count: u32) -> Result<()> {
     Ok(())
 }
 
-fn uses(calls: &mut Calls, count: u32) -> Result<()> {
+fn uses(calls: &mut Calls, count: u32) -> Result<(), Refusal> {
     for _ in 0..count {
         put_use(calls, 0)?;
     }
@@ -97,47 +100,61 @@ fn uses(calls: &mut Calls, count: u32) -> Result<()> {
     Ok(())
 }
 
-fn occur(calls: &mut Calls, number: u32) -> Result<NameRef> {
+fn occur(calls: &mut Calls, number: u32) -> Result<NameRef, Refusal> {
     let name = format!(in calls.alloc; "{number:07}")?;
     calls.occur(name.as_bytes(), How::Full)
 }
 
-fn open_named(calls: &mut Calls, number: u32) -> Result<()> {
+fn open_named(calls: &mut Calls, number: u32) -> Result<(), Refusal> {
     let name = occur(calls, number)?;
     calls.open(PartKind::Named(name))
 }
 
-fn put_use(calls: &mut Calls, number: u32) -> Result<()> {
+fn put_use(calls: &mut Calls, number: u32) -> Result<(), Refusal> {
     let name = occur(calls, number)?;
     calls.push(Token::Name(name))?;
     Ok(())
 }
 
+// What stands in each part: a `static`, since a constant is made anew at each look into it.
+static STATEMENTS: [Token<'static>; 17] = [
+    Token::Word(b"while"),
+    Token::Punct(b"("),
+    Token::Word(b"count"),
+    Token::Punct(b"<"),
+    Token::Number(b"1024"),
+    Token::Word(b"total"),
+    Token::Punct(b"="),
+    Token::Word(b"weight"),
+    Token::Punct(b"*"),
+    Token::Number(b"1024"),
+    Token::Word(b"return"),
+    Token::Punct(b"&"),
+    Token::Word(b"table"),
+    Token::Punct(b"+"),
+    Token::Number(b"1024"),
+    Token::Newline,
+    Token::Literal(b"\"a literal\""),
+];
+
 // Twenty tokens of a program's text.
 fn put_text(calls: &mut Calls, section: u32) -> Result<(), AllocError> {
     calls.push(Token::Head(section))?;
-    calls.push(Token::Mark(Place {
-        file: FileId(0),
-        line: section,
-    }))?;
-    put_statement(calls, b"while", b"(", b"count", b"<")?;
-    put_statement(calls, b"total", b"=", b"weight", b"*")?;
-    put_statement(calls, b"return", b"&", b"table", b"+")?;
-    calls.push(Token::Newline)?;
-    calls.push(Token::Literal(b"\"a literal\""))?;
+    calls.push(mark(section))?;
+    put_all(calls, &STATEMENTS)?;
     calls.push(Token::Tail(section))
 }
 
-fn put_statement(
-    calls: &mut Calls,
-    a: &[u8],
-    b: &[u8],
-    c: &[u8],
-    d: &[u8],
-) -> Result<(), AllocError> {
-    calls.push(Token::Word(a))?;
-    calls.push(Token::Punct(b))?;
-    calls.push(Token::Word(c))?;
-    calls.push(Token::Punct(d))?;
-    calls.push(Token::Number(b"1024"))
+fn mark(line: u32) -> Token<'static> {
+    Token::Mark(Place {
+        file: FileId(0),
+        line,
+    })
+}
+
+fn put_all(calls: &mut Calls, tokens: &[Token<'_>]) -> Result<(), AllocError> {
+    for token in tokens {
+        calls.push(*token)?;
+    }
+    Ok(())
 }

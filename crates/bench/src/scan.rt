@@ -1,7 +1,6 @@
 // What there is of a web.
 
-use anyhow::Result;
-use cweb_lines::{MemoryShelf, MemorySink, Merger, write_merged};
+use cweb_lines::{MemoryShelf, MemorySink, Merger, Stop, write_merged};
 use cweb_scan::{Scanned, scan};
 use std::alloc::Global;
 use std::fmt;
@@ -11,7 +10,7 @@ use std::fmt::{Display, Formatter, Write};
 pub const WEB: &str = "web.w";
 
 /// What a scan made.
-#[derive(Drop)]
+#[derive(Clone, Copy)]
 pub struct Counts {
     sections: u32,
     tokens: u32,
@@ -43,17 +42,32 @@ impl Display for Counts {
 }
 
 /// Scans the web of a shelf.
-pub fn scanned(alloc: Global, shelf: MemoryShelf) -> Result<Counts> {
-    let mut shelf = shelf;
-    let mut merger = Merger::start(alloc, &mut shelf, WEB, None, None, None)?;
-    Ok(Counts::of(&scan(alloc, &mut merger, &mut shelf)?))
+pub fn scanned(alloc: Global, shelf: &mut MemoryShelf) -> Result<Counts, Stop> {
+    let mut merger = Merger::start(alloc, shelf, WEB, None, None, None)?;
+    counted(alloc, &mut merger, shelf)
+}
+
+fn counted(
+    alloc: Global,
+    merger: &mut Merger<MemoryShelf>,
+    shelf: &mut MemoryShelf,
+) -> Result<Counts, Stop> {
+    Ok(Counts::of(&scan(alloc, merger, shelf)?))
 }
 
 /// Writes the merged lines of the web of a shelf, and says how many bytes they have with their line ends.
-pub fn merged(alloc: Global, shelf: MemoryShelf, room: usize) -> Result<usize> {
-    let mut shelf = shelf;
-    let mut merger = Merger::start(alloc, &mut shelf, WEB, None, None, None)?;
+pub fn merged(alloc: Global, shelf: &mut MemoryShelf, room: usize) -> Result<usize, Stop> {
+    let mut merger = Merger::start(alloc, shelf, WEB, None, None, None)?;
+    written(alloc, &mut merger, shelf, room)
+}
+
+fn written(
+    alloc: Global,
+    merger: &mut Merger<MemoryShelf>,
+    shelf: &mut MemoryShelf,
+    room: usize,
+) -> Result<usize, Stop> {
     let mut sink = MemorySink::with_room(alloc, room)?;
-    write_merged(&mut merger, &mut shelf, &mut sink)?;
+    write_merged(merger, shelf, &mut sink)?;
     Ok(sink.bytes().len())
 }

@@ -2,10 +2,11 @@
 
 mod answers;
 
-use crate::calls::Calls;
+use crate::calls::{Calls, Refusal};
+use crate::given;
 use anyhow::{Result, bail};
 use cweb_store::{How, NameRef, PartKind, Store, Token};
-use std::alloc::Global;
+use std::alloc::{AllocError, Global};
 
 // So many Words are drawn from.
 const WORDS: u32 = 1000;
@@ -15,7 +16,7 @@ const LENGTH: usize = 8;
 
 /// What there is much of.
 #[derive(Clone, Copy)]
-pub enum Shape {
+pub enum Filling {
     /// Words of a vocabulary.
     Words,
     /// Words that are all distinct.
@@ -30,45 +31,60 @@ pub enum Shape {
     Parts,
 }
 
-impl Shape {
-    fn of(word: &str) -> Option<Shape> {
+impl Filling {
+    fn of(word: &str) -> Option<Filling> {
         match word {
-            "words" => Some(Shape::Words),
-            "distinct" => Some(Shape::Distinct),
-            "flood" => Some(Shape::Flood),
-            "names" => Some(Shape::Names),
-            "name-flood" => Some(Shape::NameFlood),
-            "parts" => Some(Shape::Parts),
+            "words" => Some(Filling::Words),
+            "distinct" => Some(Filling::Distinct),
+            "flood" => Some(Filling::Flood),
+            "names" => Some(Filling::Names),
+            "name-flood" => Some(Filling::NameFlood),
+            "parts" => Some(Filling::Parts),
             _ => None,
         }
     }
 }
 
+impl given::Shape for Filling {
+    fn give(&self, calls: &mut Calls, count: u32) -> Result<(), Refusal> {
+        let vocabulary = vocabulary(calls.alloc)?;
+        match self {
+            Filling::Words => give_words(calls, &vocabulary, count),
+            Filling::Distinct => give_distinct(calls, count),
+            Filling::Flood => give_flood(calls, count),
+            Filling::Names => give_names(calls, count),
+            Filling::NameFlood => give_name_flood(calls, count),
+            Filling::Parts => give_parts(calls, &vocabulary, count),
+        }
+    }
+
+    fn show<P: Print>(
+        &self,
+        rt: &P,
+        _: Global,
+        store: &Store,
+        count: u32,
+        step: &str,
+    ) -> Result<()> {
+        show_store(rt, store)?;
+        if step != "finish" {
+            let answered = answers::of(store, *self, count);
+            println!(rt; "{answered} answered")?;
+        }
+        Ok(())
+    }
+}
+
 /// Goes up to a step, and says what there is then.
 pub fn show(rt: &impl Print, alloc: Global, shape: &str, count: u32, step: &str) -> Result<()> {
-    let Some(shape) = Shape::of(shape) else {
+    let Some(shape) = Filling::of(shape) else {
         bail!("no such shape");
     };
     match step {
         "draw" => show_drawn(rt, alloc, count),
-        "give" => give(alloc, shape, count),
-        "finish" => show_finished(rt, alloc, shape, count),
-        _ => show_asked(rt, alloc, shape, count),
+        "give" => Ok(given::give(alloc, &shape, count)?),
+        _ => given::show(rt, alloc, &shape, count, step),
     }
-}
-
-// Gives all, and lets it go.
-fn give(alloc: Global, shape: Shape, count: u32) -> Result<()> {
-    filled(alloc, shape, count)?;
-    Ok(())
-}
-
-fn show_finished(rt: &impl Print, alloc: Global, shape: Shape, count: u32) -> Result<()> {
-    show_store(rt, &finished(alloc, shape, count)?)
-}
-
-fn show_asked(rt: &impl Print, alloc: Global, shape: Shape, count: u32) -> Result<()> {
-    show_answers(rt, &finished(alloc, shape, count)?, shape, count)
 }
 
 fn show_drawn(rt: &impl Print, alloc: Global, count: u32) -> Result<()> {
@@ -86,15 +102,8 @@ fn show_store(rt: &impl Print, store: &Store) -> Result<()> {
     Ok(())
 }
 
-fn show_answers(rt: &impl Print, store: &Store, shape: Shape, count: u32) -> Result<()> {
-    show_store(rt, store)?;
-    let answered = answers::of(store, shape, count);
-    println!(rt; "{answered} answered")?;
-    Ok(())
-}
-
 // The Words that are drawn from, one behind another.
-fn vocabulary(alloc: Global) -> Result<Vec<u8>> {
+fn vocabulary(alloc: Global) -> Result<Vec<u8>, AllocError> {
     let mut all = Vec::new(alloc);
     for number in 0..WORDS {
         let word = format!(in alloc; "word{number:04}")?;
@@ -123,31 +132,7 @@ fn drawn_bytes(vocabulary: &[u8], count: u32) -> u64 {
     sum
 }
 
-// A builder that was given so many Words, names or parts.
-fn filled(alloc: Global, shape: Shape, count: u32) -> Result<Calls> {
-    let vocabulary = vocabulary(alloc)?;
-    let mut calls = Calls::new(alloc);
-    fill(&mut calls, shape, &vocabulary, count)?;
-    Ok(calls)
-}
-
-// The store of so many Words, names or parts.
-fn finished(alloc: Global, shape: Shape, count: u32) -> Result<Store> {
-    filled(alloc, shape, count)?.finish()
-}
-
-fn fill(calls: &mut Calls, shape: Shape, vocabulary: &[u8], count: u32) -> Result<()> {
-    match shape {
-        Shape::Words => give_words(calls, vocabulary, count),
-        Shape::Distinct => give_distinct(calls, count),
-        Shape::Flood => give_flood(calls, count),
-        Shape::Names => give_names(calls, count),
-        Shape::NameFlood => give_name_flood(calls, count),
-        Shape::Parts => give_parts(calls, vocabulary, count),
-    }
-}
-
-fn give_words(calls: &mut Calls, vocabulary: &[u8], count: u32) -> Result<()> {
+fn give_words(calls: &mut Calls, vocabulary: &[u8], count: u32) -> Result<(), Refusal> {
     calls.open(PartKind::Unnamed)?;
     for number in 0..count {
         calls.push(Token::Word(drawn(vocabulary, number)))?;
@@ -155,7 +140,7 @@ fn give_words(calls: &mut Calls, vocabulary: &[u8], count: u32) -> Result<()> {
     Ok(())
 }
 
-fn give_distinct(calls: &mut Calls, count: u32) -> Result<()> {
+fn give_distinct(calls: &mut Calls, count: u32) -> Result<(), Refusal> {
     calls.open(PartKind::Unnamed)?;
     for number in 0..count {
         let word = format!(in calls.alloc; "{number:08}wordword")?;
@@ -165,7 +150,7 @@ fn give_distinct(calls: &mut Calls, count: u32) -> Result<()> {
 }
 
 // The Words differ in the middle alone, where a store's table doesn't look.
-fn give_flood(calls: &mut Calls, count: u32) -> Result<()> {
+fn give_flood(calls: &mut Calls, count: u32) -> Result<(), Refusal> {
     calls.open(PartKind::Unnamed)?;
     for number in 0..count {
         let word = format!(in calls.alloc; "wordword{number:08}wordword")?;
@@ -175,7 +160,7 @@ fn give_flood(calls: &mut Calls, count: u32) -> Result<()> {
 }
 
 // One half of the abbreviations comes before the names, so that only `finish` can say what they stand for.
-fn give_names(calls: &mut Calls, count: u32) -> Result<()> {
+fn give_names(calls: &mut Calls, count: u32) -> Result<(), Refusal> {
     let half = count / 2;
     give_all(calls, 0, half, How::Prefix)?;
     give_all(calls, 0, count, How::Full)?;
@@ -183,7 +168,7 @@ fn give_names(calls: &mut Calls, count: u32) -> Result<()> {
 }
 
 // The names differ in the middle alone, where neither the table of the latest ones nor the front of a sorted text looks.
-fn give_name_flood(calls: &mut Calls, count: u32) -> Result<()> {
+fn give_name_flood(calls: &mut Calls, count: u32) -> Result<(), Refusal> {
     for number in 0..count {
         let name = format!(in calls.alloc; "the name{number:08}the name")?;
         calls.occur(name.as_bytes(), How::Full)?;
@@ -191,14 +176,14 @@ fn give_name_flood(calls: &mut Calls, count: u32) -> Result<()> {
     Ok(())
 }
 
-fn give_all(calls: &mut Calls, first: u32, after: u32, how: How) -> Result<()> {
+fn give_all(calls: &mut Calls, first: u32, after: u32, how: How) -> Result<(), Refusal> {
     for number in first..after {
         occur(calls, number, how)?;
     }
     Ok(())
 }
 
-fn give_parts(calls: &mut Calls, vocabulary: &[u8], count: u32) -> Result<()> {
+fn give_parts(calls: &mut Calls, vocabulary: &[u8], count: u32) -> Result<(), Refusal> {
     let name = occur(calls, 0, How::Full)?;
     for number in 0..count {
         calls.open(PartKind::Named(name))?;
@@ -208,7 +193,7 @@ fn give_parts(calls: &mut Calls, vocabulary: &[u8], count: u32) -> Result<()> {
 }
 
 // Gives the name with a number, or its abbreviation.
-fn occur(calls: &mut Calls, number: u32, how: How) -> Result<NameRef> {
+fn occur(calls: &mut Calls, number: u32, how: How) -> Result<NameRef, Refusal> {
     let name = match how {
         How::Full => format!(in calls.alloc; "{number:07} of many names")?,
         How::Prefix => format!(in calls.alloc; "{number:07} of")?,

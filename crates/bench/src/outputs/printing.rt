@@ -3,13 +3,14 @@ ghost use Rattle.std.specs.Prelude.{◌≡◌, ◌<◌, length, vec_capacity, tr
 ghost use Rattle.cweb_lines.specs.Names.{names_of};
 ghost use Rattle.cweb_store.specs.Seen.{seen};
 ghost use Rattle.cweb_out.specs.Frames.{Stands};
+ghost use Rattle.cweb_out.specs.Outputs.{IsPlanOf};
 ghost use Rattle.cweb_print.specs.Printers.{IsNamed};
 ghost use Rattle.cweb_print.specs.Printing.{Setting};
 
 use anyhow::{Result, bail, ensure};
 use cweb_files::{MemoryShelf, MemorySink, Sink};
 use cweb_lines::{FileNames, Merger};
-use cweb_out::{Expander, Gathered, Printer, plan};
+use cweb_out::{Expander, Gathered, Plan, Printer, plan};
 use cweb_store::{Store, Token};
 use std::alloc::Global;
 
@@ -20,20 +21,37 @@ const TOKEN_ROOM: usize = 32;
 
 /// Plans a store, and where the step says so, expands or prints its main file.
 pub fn show(rt: &impl Print, alloc: Global, store: &Store, step: &str) -> Result<()> {
-    let Ok(plan) = plan(alloc, store, "web.c") else {
-        bail!("no plan");
-    };
+    match plan(alloc, store, "web.c") {
+        Ok(plan) => show_planned(rt, alloc, store, &plan, step),
+        Err(_) => bail!("no plan"),
+    }
+}
+
+fn show_planned(
+    rt: &impl Print,
+    alloc: Global,
+    store: &Store,
+    plan: &Plan,
+    step: &str,
+) -> Result<()>
+    requires { IsPlanOf store.now plan.now }
+{
     ensure!(plan.outputs() > 0, "no output");
-    let mut expander = Expander::new(alloc, store, &plan, 0)?;
+    let mut expander = Expander::new(alloc, store, plan, 0)?;
     match step {
         "plan" => Ok(()),
-        "expand" => {
-            let tokens = expand(&mut expander);
-            println!(rt; "{tokens} tokens expanded")?;
-            Ok(())
-        }
+        "expand" => show_expanded(rt, &mut expander),
         _ => show_printed(rt, alloc, &mut expander),
     }
+}
+
+fn show_expanded(rt: &impl Print, expander: &mut Expander<'_>) -> Result<()>
+    requires { Stands expander.old.store.now
+        expander.old.frames.items (vec_capacity expander.old.frames) }
+{
+    let tokens = expand(expander);
+    println!(rt; "{tokens} tokens expanded")?;
+    Ok(())
 }
 
 // Prints what an expander gives, and says how much that is.

@@ -1,16 +1,16 @@
 // What stores are asked.
 
-use crate::store::Shape;
+use crate::store::Filling;
 use cweb_store::{NameId, NameRef, Store, Token};
 
 /// How much a store answers of what it was given much of: the bytes of all its Words, the occurrences that stand for a name,
 /// or the parts of the name.
-pub fn of(store: &Store, shape: Shape, count: u32) -> u64 {
+pub fn of(store: &Store, shape: Filling, count: u32) -> u64 {
     match shape {
-        Shape::Words | Shape::Distinct | Shape::Flood => bytes_of_words(store),
-        Shape::Names => standing_abbreviations(store, count),
-        Shape::NameFlood => standing_from(store, 0, count),
-        Shape::Parts => parts_of_first(store),
+        Filling::Words | Filling::Distinct | Filling::Flood => bytes_of_words(store),
+        Filling::Names => standing_abbreviations(store, count),
+        Filling::NameFlood => standing_from(store, 0, count),
+        Filling::Parts => parts_of_first(store),
     }
 }
 
