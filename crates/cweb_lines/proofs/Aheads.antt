@@ -65,11 +65,7 @@ looks_first entry (Some text) s line (raw ∷ []) stands one is = subst (λ (l :
     (looks_one entry text [] raw s (record { line = here; stretch = s }) stands.is stands.within refl place stands)
   where
     here : Lent
-    here = record {
-      place = record { file = text.file; line = text.line + 1 };
-      from = text.source.start;
-      to = s.text;
-    }
+    here = record { place = record { file = text.file; line = text.line + 1 }; from = text.source.start; to = s.text }
 
     count : text.line + 1 ≡ text.line + 1 + 0
     count = omega arith

@@ -26,12 +26,7 @@ entry_of x first = record { begin = x.line.place; first = first.line.bytes }
 
 first_old : (bytes : List ℕ) (code : Option Code) (begin : Place) (first : SourceLine) (rest : List SourceLine)
     (later : Option Place → Sought) → bytes ≢ [] → code ≡ None → behind_x bytes code begin first rest later
-    ≡ record {
-      faults = [];
-      taken = first ∷ [];
-      entry = Some (record { begin = begin; first = bytes });
-      rest = rest;
-    }
+    ≡ record { faults = []; taken = first ∷ []; entry = Some (record { begin = begin; first = bytes }); rest = rest }
 first_old [] code begin first rest later some none = absurd (some refl)
 first_old (b ∷ bs) code begin first rest later some none = ap (λ c. behind_x (b ∷ bs) c begin first rest later) none
 

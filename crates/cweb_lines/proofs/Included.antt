@@ -142,11 +142,7 @@ module _ (world : World) (by first : ℕ) where
       (goes.is (state (raw r ∷ things) None [] files) things) in
       let x = shallow_raw n r things files deep none.1 shallow (λ f ts es no few i. shallow_run n f ts es no few i)
       goes.kind goes.deeper goes.same (sym deep_is ∙ is) in
-      record {
-        events = x.0;
-        runs = is_so ∙ x.1;
-        same = x.2;
-      }
+      record { events = x.0; runs = is_so ∙ x.1; same = x.2 }
 
   seen_from : (events : List Event) → seen (map event_from events) ≡ renumbered from (seen events)
   seen_from [] = refl

@@ -31,20 +31,11 @@ lies_at entry (Some text) s line (raw ∷ []) files stands one is known =
       one = ap (λ (b : List ℕ). record { bytes = b; place = here.place } ∷ []) (sym bytes);
       whole = subst IsOneLine (sym bytes) (trimmed-line raw passes.clean passes.short);
       known = omega (arith, known);
-      size = omega (
-        arith,
-        ap (λ (l : List ℕ). length l) bytes,
-        trimmed-length raw,
-        length-append raw (10 ∷ []),
-      );
+      size = omega (arith, ap (λ (l : List ℕ). length l) bytes, trimmed-length raw, length-append raw (10 ∷ []));
     })
   where
     here : Lent
-    here = record {
-      place = record { file = text.file; line = text.line + 1 };
-      from = text.source.start;
-      to = s.text;
-    }
+    here = record { place = record { file = text.file; line = text.line + 1 }; from = text.source.start; to = s.text }
 
     passes : Passes entry text.may_match raw
     passes = stands.is.passing.0

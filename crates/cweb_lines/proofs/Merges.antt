@@ -191,11 +191,7 @@ stopped_by stop count now world things pending change files same stops =
     stopped_first stop (TopStops stop count things) count now _ same (λ top.
     let taken = merge_takes world top.raw_line top.rest pending change files in (
       top.raw_line.source,
-      (
-        taken.0,
-        ap (λ (ts : List Thing). merge world (state ts pending change files)) top.first
-            ∙ taken.1,
-      ),
+      (taken.0, ap (λ (ts : List Thing). merge world (state ts pending change files)) top.first ∙ taken.1),
       top.why,
     ))
     stops

@@ -84,11 +84,7 @@ module _ (world : World) (change : Change) (below : List Thing) (files : ℕ) wh
       (λ first.
       let taken = new_takes first.line first.rest in (
         first.line,
-        (
-          taken.0,
-          ap (λ (ls : List SourceLine). coming_new world change ls below files) first.first
-              ∙ taken.1,
-        ),
+        (taken.0, ap (λ (ls : List SourceLine). coming_new world change ls below files) first.first ∙ taken.1),
         first.why,
       ))
       stops

@@ -27,23 +27,21 @@ replaces_from change things old = record {
 pub replaces_same : (change : List SourceLine) (things : List Thing) (so_far : Replaced) (ls ls' : List SourceLine)
     (ts ts' : List Thing) (old new : SoFar) → ls ≡ ls' → ts ≡ ts' → Replaces change things so_far ls ts old new
     → Replaces change things so_far ls' ts' old new
-replaces_same change things so_far ls ls' ts ts' old new l t r =
-    subst (λ (xs : List SourceLine). Replaces change things so_far xs ts' old new) l
-    (subst (λ (ys : List Thing). Replaces change things so_far ls ys old new) t r)
+replaces_same change things so_far ls ls' ts ts' old new l t r = subst (λ (xs : List SourceLine). Replaces change
+    things so_far xs ts' old new) l (subst (λ (ys : List Thing). Replaces change things so_far ls ys old new) t r)
 
-pub is_replaced_same : (change : List SourceLine) (things : List Thing) (so_far : Replaced) (ended : Bool)
-    (ls : List SourceLine) (ts ts' : List Thing) (old new : SoFar) → ended ≡ so_far.ended → ts ≡ ts'
-    → IsReplaced change things (record { unequal = so_far.unequal; ran_out = so_far.ran_out; ended = ended }) ls ts old new
-    → IsReplaced change things so_far ls ts' old new
+pub is_replaced_same : (change : List SourceLine) (things : List Thing) (so_far : Replaced)
+    (ended : Bool) (ls : List SourceLine) (ts ts' : List Thing) (old new : SoFar) → ended ≡ so_far.ended
+    → ts ≡ ts' → IsReplaced change things (record { unequal = so_far.unequal; ran_out = so_far.ran_out; ended = ended })
+    ls ts old new → IsReplaced change things so_far ls ts' old new
 is_replaced_same change things so_far ended ls ts ts' old new e t r =
     subst (λ (ys : List Thing). IsReplaced change things so_far ls ys old new) t (subst (λ (b : Bool). IsReplaced change
     things (record { unequal = so_far.unequal; ran_out = so_far.ran_out; ended = b }) ls ts old new) e r)
 
-pub compares_same : (bytes bytes' : List ℕ) (so_far after : Replaced) (ts ts' us : List Thing) (old new : SoFar)
-    → bytes ≡ bytes' → ts ≡ ts' → Compares bytes so_far after ts us old new → Compares bytes' so_far after ts' us old new
-compares_same bytes bytes' so_far after ts ts' us old new b t r =
-    subst (λ (ys : List Thing). Compares bytes' so_far after ys us old new) t
-    (subst (λ (v : List ℕ). Compares v so_far after ts us old new) b r)
+pub compares_same : (bytes bytes' : List ℕ) (so_far after : Replaced) (ts ts' us : List Thing) (old new : SoFar) → bytes
+    ≡ bytes' → ts ≡ ts' → Compares bytes so_far after ts us old new → Compares bytes' so_far after ts' us old new
+compares_same bytes bytes' so_far after ts ts' us old new b t r = subst (λ (ys : List Thing).
+    Compares bytes' so_far after ys us old new) t (subst (λ (v : List ℕ). Compares v so_far after ts us old new) b r)
 
 module _ (change : List SourceLine) (things : List Thing) (so_far : Replaced) (lines : List SourceLine)
     (raws : List Thing) (old mid : SoFar) (r : Replaces change things so_far lines raws old mid) where

@@ -30,11 +30,7 @@ takes_line Last old new bytes file number not takes =
     ap (λ (t : List ℕ). numbered file number (text_lines t)) takes.0
     ∙ ap (numbered file number) (text_lines-last bytes takes.1 takes.2)
     ∙ ap (λ n. record {
-      line = record {
-        bytes = trimmed bytes;
-        place =
-            record { file = record { 0 = file }; line = number };
-      };
+      line = record { bytes = trimmed bytes; place = record { file = record { 0 = file }; line = number } };
       length = length bytes;
       size = n;
     } ∷ []) none

@@ -11,11 +11,7 @@ top_again n fs f g h =
     let some = h.some in
     let same = length-set fs (n - 1) g in
     let lt : n - 1 < length fs = omega arith in
-    record {
-      count = omega arith;
-      some = omega arith;
-      is = sym (get_or-set_same fs (n - 1) g g lt);
-    }
+    record { count = omega arith; some = omega arith; is = sym (get_or-set_same fs (n - 1) g g lt) }
 
 -- there is less to do for what is still to come of the top
 work-passed : (w : Stored) (n : ℕ) (fs : List Frame) (f g : Frame) (ts : List Token) → HasTop n fs f

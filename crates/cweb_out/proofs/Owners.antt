@@ -92,11 +92,7 @@ OnTop-next w above fs f g t s o h =
 -- the first frame
 pub OnTop-first : (w : Stored) (f : Frame) → root_list w f.owner ≡ suffix w f
     → AreBelow w (names w) (uses w (root_list w f.owner)) → OnTop w (names w + 1) [] f
-OnTop-first w f l b = record {
-  below = tt;
-  owned = record { given = []; list = l; ends = b };
-  lower = within f.owner b;
-}
+OnTop-first w f l b = record { below = tt; owned = record { given = []; list = l; ends = b }; lower = within f.owner b }
   where
     within : (o : Option NameId) → AreBelow w (names w) (uses w (root_list w o)) → rank w o < names w + 1
     within None h = omega arith

@@ -49,10 +49,7 @@ entered w fs new r m room more q rest s grows b lower e text a is =
 -- a use that gives nothing
 pub passed_none : (w : Stored) (fs : List Frame) (r : NameRef)
     → put w (name_text w (level w fs)) (Name r) ≡ [] → Enters w fs fs r
-passed_none w fs r none = record {
-  left = ap (λ ts. ts ++ left w fs) (sym none);
-  work = omega arith;
-}
+passed_none w fs r none = record { left = ap (λ ts. ts ++ left w fs) (sym none); work = omega arith }
 
 -- a name without parts has no text
 pub no_parts : (w : Stored) (fs : List Frame) (r : NameRef) (m : NameId)

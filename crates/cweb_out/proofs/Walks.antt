@@ -68,10 +68,7 @@ path-cycle w marks (f ∷ path) start again t c a b =
     let fits : length (f ∷ path) ≤ names w = omega (arith, le, size) in
     let steps = walks w [] (f ∷ path) again (names w) fits c t.new a
     (λ n o. elim o [ inl e ↦ ap (has_rank w) e ∙ none (names w) again a | inr h ↦ none (names w) n h ]) in
-    record {
-      endless = λ k. none k start on;
-      walk = sym (ap (λ n. cycle_from w (Some n)) (sym b) ∙ steps);
-    }
+    record { endless = λ k. none k start on; walk = sym (ap (λ n. cycle_from w (Some n)) (sym b) ∙ steps) }
 
 -- a list from the first coming of a name on
 abbrev pub from_first : NameId → List NameId → List NameId

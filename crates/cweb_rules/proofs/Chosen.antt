@@ -91,28 +91,11 @@ chosen t =
     (λ h. tt) (λ c. choose P (begins (codes "//") t) (line_comment_at t) y4 (λ h. tt) (λ d. choose P (starts_section t)
     (section_at t) y5 (λ h. choose P (begins (codes "@*") t) (front (Section true) 2) (front (Section false) 1) (λ i.
     tt) (λ i. tt)) (λ e. choose P (begins (codes "@") t) (code_at in_c false t) y6 (λ h. code_facts t (e, h)) (λ f.
-    let passed : Passed t =
-    record {
-      blank = a;
-      line_end = b;
-      comment = c;
-      line_comment = d;
-      section = e;
-      code = f;
-    } in
-    choose P (starts_raw t) (raw_at t) y7
-    (λ h. (passed, subst (Opens t) (sym h) h))
-    (λ w.
-    choose P (starts_literal t) (literal_at t) y8
-    (λ h. (passed, subst (Opens t) (sym w) (w, h)))
-    (λ q.
-    choose P (starts_number t)
-    (front Numeral (number_len 0 t))
-    y9 (λ h. ((passed, w), q, h))
-    (λ m.
-    choose P (first_is is_word_byte t) words
-    puncts (λ h. ((passed, w), q, m, h))
-    (λ v. ((passed, w), q, m, v)))))))))))
+    let passed : Passed t = record { blank = a; line_end = b; comment = c; line_comment = d; section = e; code = f } in
+    choose P (starts_raw t) (raw_at t) y7 (λ h. (passed, subst (Opens t) (sym h) h))
+    (λ w. choose P (starts_literal t) (literal_at t) y8 (λ h. (passed, subst (Opens t) (sym w) (w, h)))
+    (λ q. choose P (starts_number t) (front Numeral (number_len 0 t)) y9 (λ h. ((passed, w), q, h)) (λ m.
+    choose P (first_is is_word_byte t) words puncts (λ h. ((passed, w), q, m, h)) (λ v. ((passed, w), q, m, v)))))))))))
 
 abbrev pub after_literals : List ℕ → Front
 after_literals t = if starts_number t then front Numeral (number_len 0 t) else (if first_is

@@ -70,12 +70,7 @@ c_front-fair c effect takes_sign includes b t =
     (λ h. include_at-fair c b t) (λ h7. choose c (b ∷ t) (starts_number (b ∷ t)) _ _ (λ h. number-fair c b t h)
     (λ h8. choose c (b ∷ t) (is_word_byte b) _ _ (λ h. run-fair c Identifier is_word_byte b t h (λ e. e)) (λ h9.
     fair_of c (b ∷ t) Punctuator (longest listed (b ∷ t)) (longest-some listed (b ∷ t)) (longest-size listed b t) (λ e.
-    omega (
-      arith,
-      e,
-      longest-some listed (b
-          ∷ t),
-    )))))))))))))
+    omega (arith, e, longest-some listed (b ∷ t))))))))))))))
 
 macro_front-fair : (c : Context) (b : ℕ) (t : List ℕ) → Fair c (b ∷ t) (macro_front (b ∷ t))
 macro_front-fair c b t = choose c (b ∷ t) (begins (codes "\\") (b ∷ t) && at_line_end (drop 1 (b ∷ t))) _ _

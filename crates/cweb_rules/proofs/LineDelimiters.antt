@@ -28,10 +28,7 @@ raw_prefix-fits t = (elim (begins (codes "u8R\"") t) as (λ v. begins (codes "u8
       | true ↦ λ h. omega (arith, begins-size (codes "u8R\"") t h)
       | false ↦ λ h. (elim (begins (codes "LR\"") t || begins (codes "uR\"") t || begins (codes "UR\"") t) as
           (λ v. (begins (codes "LR\"") t || begins (codes "uR\"") t || begins (codes "UR\"") t) ≡ v
-          → (if v then 1 else 0) ≤ length t) [
-            | true ↦ λ k. raw_letter t k
-            | false ↦ λ k. omega arith
-          ]) refl
+          → (if v then 1 else 0) ≤ length t) [ true ↦ λ k. raw_letter t k | false ↦ λ k. omega arith ]) refl
     ]) refl
 
 has_delimiter-line : (t more : List ℕ) → AtLineEnd more → has_delimiter (t ++ more) ≡ has_delimiter t

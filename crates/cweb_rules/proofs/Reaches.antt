@@ -19,10 +19,7 @@ IsWhole look zero (b ∷ t) = elim (look (b ∷ t)) [ Goes n ↦ (0 < n) × IsWh
 
 -- an item's part before the seam, and its part after it where it is still open
 abbrev pub join : Reach → Reach → Reach
-join r m = elim r.how [
-  | Open ↦ record { units = r.units ++ m.units; close = m.close; how = m.how }
-  | _ ↦ r
-]
+join r m = elim r.how [ Open ↦ record { units = r.units ++ m.units; close = m.close; how = m.how } | _ ↦ r ]
 
 join-with_unit : (u : List ℕ) (us : List (List ℕ)) (n : ℕ) (how : End) (m : Reach)
     → join (with_unit u (record { units = us; close = n; how = how })) m

@@ -70,14 +70,7 @@ read_taken old new lines tells first all now later held next takes reads gives t
   below = All-append (λ (line : Line). line.place.file.0 < length (names_of new.names)) taken.lines more_lines
       (wider (length (names_of old.names)) (length (names_of new.names)) taken.lines names taken.below)
       (wider (length (names_of old.names)) (length (names_of new.names)) more_lines names reads.below);
-  few = omega (
-    arith,
-    web_size-append taken.lines more_lines,
-    taken.few,
-    reads.few,
-    takes.bytes,
-    takes.count,
-  );
+  few = omega (arith, web_size-append taken.lines more_lines, taken.few, reads.few, takes.bytes, takes.count);
   gives = λ told. gives_both taken.lines more_lines first (told_by old) (told_by new) all now later (taken.gives told)
       (gives told);
 }

@@ -84,8 +84,7 @@ tokens-bytes : (ts : List Token) → words.total kept.token_bytes ts ≡ total t
 tokens-bytes [] = refl
 tokens-bytes (t ∷ ts) = omega (arith, token-bytes t, tokens-bytes ts)
 
-occurrences-bytes : (os : List Occurrence)
-    → words.total length (map kept.occurrence_text os) ≡ total occurrence_size os
+occurrences-bytes : (os : List Occurrence) → words.total length (map kept.occurrence_text os) ≡ total occurrence_size os
 occurrences-bytes [] = refl
 occurrences-bytes (o ∷ os) = omega (arith, occurrences-bytes os)
 

@@ -4,16 +4,7 @@ use Rattle.cweb_scanner.specs.declared.scanner.plain.Plain.TheVariants.{Blank, W
 
 -- kinds as numbers, so that two of them are compared by computing
 abbrev number : Plain → ℕ
-number p = elim p [
-  | Blank ↦ 0
-  | Word ↦ 1
-  | Sign ↦ 2
-  | Operator ↦ 3
-  | Digit ↦ 4
-  | Quote ↦ 5
-  | Further ↦ 6
-  | Stop ↦ 7
-]
+number p = elim p [ Blank ↦ 0 | Word ↦ 1 | Sign ↦ 2 | Operator ↦ 3 | Digit ↦ 4 | Quote ↦ 5 | Further ↦ 6 | Stop ↦ 7 ]
 
 abbrev kind : ℕ → Plain
 kind n = slice_index_or (Blank ∷ Word ∷ Sign ∷ Operator ∷ Digit ∷ Quote ∷ Further ∷ []) n Stop

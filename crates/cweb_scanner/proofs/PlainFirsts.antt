@@ -39,13 +39,7 @@ alone_sign b t h =
               one 123 refl refl refl,
               (
                 one 125 refl refl refl,
-                (
-                  one 59 refl refl refl,
-                  (
-                    one 44 refl refl refl,
-                    (one 63 refl refl refl, (one 126 refl refl refl, tt)),
-                  ),
-                ),
+                (one 59 refl refl refl, (one 44 refl refl refl, (one 63 refl refl refl, (one 126 refl refl refl, tt)))),
               ),
             ),
           ),

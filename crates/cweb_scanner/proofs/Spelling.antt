@@ -18,10 +18,7 @@ squeezed_by white begun gap b t =
 
 abbrev fits_by : Bool → Bool → ℕ → List ℕ → Bool
 fits_by white gap b t =
-    elim white [
-      | true ↦ not gap && (b == 32) && is_squeezed_after true t
-      | false ↦ is_squeezed_after false t
-    ]
+    elim white [ true ↦ not gap && (b == 32) && is_squeezed_after true t | false ↦ is_squeezed_after false t ]
 
 -- behind a byte that isn't white, and behind a blank
 abbrev Stays : List ℕ → Type 0

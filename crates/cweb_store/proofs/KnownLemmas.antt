@@ -22,12 +22,7 @@ stays es ns text v known sorted there =
       among = some.0;
       place = place;
       below =
-          omega (
-            arith,
-            place,
-            position-below (bytes_eq text) (texts ns) some.0,
-            length-map ns (λ (n : Name). n.text),
-          );
+          omega (arith, place, position-below (bytes_eq text) (texts ns) some.0, length-map ns (λ (n : Name). n.text));
     }
 
 -- of a number that isn't the next one

@@ -32,10 +32,7 @@ trim-next zero test (x ∷ ts) k t h le =
 trim-next (suc n) test (x ∷ ts) zero t h le = absurd (let none : ⊥ = omega arith in none)
 trim-next (suc n) test (x ∷ ts) (suc k) t h le = ap (λ us. x ∷ us) (trim-next n test ts k t h (omega arith))
     ∙ (elim (test t) as (λ b. x ∷ (if b then without_last_after n test (take k ts) else take (suc k) ts)
-    ≡ (if b then x ∷ without_last_after n test (take k ts) else x ∷ take (suc k) ts)) [
-      | true ↦ refl
-      | false ↦ refl
-    ])
+    ≡ (if b then x ∷ without_last_after n test (take k ts) else x ∷ take (suc k) ts)) [ true ↦ refl | false ↦ refl ])
 
 -- tokens that all stay
 pub trim-none : (n : ℕ) (test : Token → Bool) (ts : List Token) → length ts ≤ n → without_last_after n test ts ≡ ts

@@ -47,10 +47,7 @@ pub number-none : (i : ℕ) (q : List ℕ) (ns : List Name) → number_of i q ns
 number-none i q [] h = refl
 number-none i q (m ∷ ns) h =
     (elim (bytes_eq q m.text) as (λ b. (if b then Some (id i) else number_of (i + 1) q ns) ≡ None →
-    (b || list_any (bytes_eq q) (texts ns)) ≡ false) [
-      | true ↦ λ g. cc
-      | false ↦ λ g. number-none (i + 1) q ns g
-    ]) h
+    (b || list_any (bytes_eq q) (texts ns)) ≡ false) [ true ↦ λ g. cc | false ↦ λ g. number-none (i + 1) q ns g ]) h
 
 pub number-new : (i : ℕ) (q : List ℕ) (ns : List Name) → list_any (bytes_eq q) (texts ns) ≡ false
     → number_of i q ns ≡ None

@@ -12,12 +12,8 @@ part-runs test n (p ∷ ps) =
     let rest = numbers_from test after ps in
     let number : declared.Part = record { first = n; after = after } in
     let later = part-runs test after ps in
-    elim (test p.kind) as (λ b.
-    map (λ (r : Run). r.part) (cond b ((record { kind = p.kind; part = number }) ∷ runs) runs)
-    ≡ cond b (number ∷ rest) rest) [
-      | true ↦ ap (λ ns. number ∷ ns) later
-      | false ↦ later
-    ]
+    elim (test p.kind) as (λ b. map (λ (r : Run). r.part) (cond b ((record { kind = p.kind; part = number }) ∷ runs)
+    runs) ≡ cond b (number ∷ rest) rest) [ true ↦ ap (λ ns. number ∷ ns) later | false ↦ later ]
 
 text_from : (test : PartKind → Bool) (parts : List Part) (n : ℕ) (ts : List Token)
     → drop n ts ≡ all_tokens parts → tokens_at ts (numbers_from test n parts) ≡ joined test parts
@@ -54,10 +50,7 @@ within_from test (p ∷ parts) n end h =
     let later = within_from test parts (n + size) end fits in
     elim (test p.kind) as (λ b. AllByRecursion (λ (q : declared.Part). q.after ≤ end)
     (cond b ((record { first = n; after = n + size }) ∷ numbers_from test (n + size) parts)
-    (numbers_from test (n + size) parts))) [
-      | true ↦ (omega arith, later)
-      | false ↦ later
-    ]
+    (numbers_from test (n + size) parts))) [ true ↦ (omega arith, later) | false ↦ later ]
 
 -- these numbers are those of tokens
 pub numbers-within : (test : PartKind → Bool) (parts : List Part)
@@ -72,10 +65,7 @@ ordered_from test (p ∷ parts) n =
     let later = ordered_from test parts (n + length p.tokens) in
     elim (test p.kind) as (λ b. AllByRecursion (λ (q : declared.Part). q.first ≤ q.after)
     (cond b ((record { first = n; after = n + length p.tokens }) ∷ numbers_from test (n + length p.tokens) parts)
-    (numbers_from test (n + length p.tokens) parts))) [
-      | true ↦ (omega arith, later)
-      | false ↦ later
-    ]
+    (numbers_from test (n + length p.tokens) parts))) [ true ↦ (omega arith, later) | false ↦ later ]
 
 pub numbers-ordered : (test : PartKind → Bool) (parts : List Part)
     → All (λ (p : declared.Part). p.first ≤ p.after) (numbers_where test parts)

@@ -143,12 +143,7 @@ pub lines-smaller : goal.lines-smaller
 lines-smaller g c =
     let given = rw c.in-Some.is at c.in-Ok.ensures.given in
     let lent = c.in_default-take_lent.ensures.lent in
-    omega (
-      arith,
-      given.lines,
-      (lent.gives (λ _. None) (λ _. [])).1.lines_are,
-      c.next_line.new.self.run.limits.few,
-    )
+    omega (arith, given.lines, (lent.gives (λ _. None) (λ _. [])).1.lines_are, c.next_line.new.self.run.limits.few)
 
 -- no line is left
 pub returns-in_default-clause-scans : goal.returns-in_default-clause-scans

@@ -40,8 +40,7 @@ returns-in-Err-compare-clause-stops g c = λ tells.
     let still = subst IsTrue (sym c.lines.invariant.tells) tells in
     let taken = rw c.in-Some.is at (c.in-Ok.ensures.taken still) in
     let test : code_of c.take_change.new.line.items ≡ None = ap code_of (sym c.deref.ensures.value)
-    ∙ sym c.code_of.ensures
-    ∙ c.in-None.is in
+    ∙ sym c.code_of.ensures ∙ c.in-None.is in
     let raws : things_above (g.S.Shelf.left c.take_change.new.shelf) 0 c.take_change.new.run.stack []
     ≡ things_above (g.S.Shelf.left c.lines.shelf) 0 c.lines.run.stack [] =
     λ i. things_above (c.in-Ok.ensures.keeps.left still i) 0 (c.in-Ok.ensures.stack i) [] in
@@ -57,8 +56,7 @@ returns-then-eq-clause-replaced g c = λ tells.
     let still = subst IsTrue (sym c.lines.invariant.tells) tells in
     let taken = rw c.in-Some.is at (c.in-Ok.ensures.taken still) in
     let test : code_of c.take_change.new.line.items ≡ Some new_side = ap code_of (sym c.deref.ensures.value)
-    ∙ sym c.code_of.ensures
-    ∙ c.in-Some-code_of.is
+    ∙ sym c.code_of.ensures ∙ c.in-Some-code_of.is
     ∙ ap Some (is_new c.in-Some-code_of.code (sym c.eq.ensures ∙ c.if-eq.true)) in
     let raws : things_above (g.S.Shelf.left c.lines.shelf) 0 c.lines.run.stack []
     ≡ things_above (g.S.Shelf.left c.take_change.new.shelf) 0 c.take_change.new.run.stack [] =

@@ -12,18 +12,13 @@ use Rattle.cweb_lines.proofs.Keeps.{keeps_then}
 use Rattle.cweb_lines.proofs.step.turning.take_settled.Goals as goal
 
 pub returns-in-Err-clause-stops : goal.returns-in-Err-clause-stops
-returns-in-Err-clause-stops g c = λ tells.
-    stopped_by c.in-Err.stop (count_of c.args.run.now.limits) (count_of c.take_raw.new.run.limits) _
+returns-in-Err-clause-stops g c =
+    λ tells. stopped_by c.in-Err.stop (count_of c.args.run.now.limits) (count_of c.take_raw.new.run.limits) _
     (things_of (g.S.Shelf.left c.args.shelf.now) c.args.run.now) (pending_of c.args.run.now) _ _
-    (λ i. record {
-      lines = c.in-Err.ensures.answers.counted.0 i;
-      bytes = c.in-Err.ensures.answers.counted.1 i;
-    })
-    (stops_map c.in-Err.stop
-    (stops_in (g.S.Shelf.left c.args.shelf.now) c.args.run.now.stage
+    (λ i. record { lines = c.in-Err.ensures.answers.counted.0 i; bytes = c.in-Err.ensures.answers.counted.1 i })
+    (stops_map c.in-Err.stop (stops_in (g.S.Shelf.left c.args.shelf.now) c.args.run.now.stage
     (change_lines (g.S.Shelf.left c.args.shelf.now) c.args.run.now) c.args.run.now.stack c.in-Err.stop
-    (count_of c.args.run.now.limits) c.requires.settled)
-    (c.in-Err.ensures.stops tells))
+    (count_of c.args.run.now.limits) c.requires.settled) (c.in-Err.ensures.stops tells))
 
 pub returns-in_default-begun_at-clause-gives : goal.returns-in_default-begun_at-clause-gives
 returns-in_default-begun_at-clause-gives g c = λ tells.

@@ -9,11 +9,7 @@ use Rattle.cweb_out.proofs.expander.Expander.gather.Goals.{After-pop, In_default
 pub gather-requires : goal.gather-requires
 gather-requires c =
     let top : HasTop (vec_len c.frames.self.frames) c.frames.self.frames.items c.in-Some.frame.now =
-    record {
-      count = c.frames.self.frames.ok.0;
-      some = c.in-Some.ensures.item.3.0;
-      is = c.in-Some.ensures.value;
-    } in
+    record { count = c.frames.self.frames.ok.0; some = c.in-Some.ensures.item.3.0; is = c.in-Some.ensures.value } in
     (stands_lower c.args.self.now.store.now (vec_len c.frames.self.frames) c.frames.self.frames.items
     c.in-Some.frame.now (vec_capacity c.frames.self.frames) c.frames.invariant.stands top).1.within
 
@@ -22,11 +18,7 @@ abbrev gone : (c : After-pop) → TopGone c.args.self.now.store.now
 gone c =
     let frames = c.frames.self.frames in
     let top : HasTop (vec_len frames) frames.items c.in-Some.frame.now =
-    record {
-      count = c.frames.self.frames.ok.0;
-      some = c.in-Some.ensures.item.3.0;
-      is = c.in-Some.ensures.value;
-    } in
+    record { count = c.frames.self.frames.ok.0; some = c.in-Some.ensures.item.3.0; is = c.in-Some.ensures.value } in
     let is : c.pop.new.self.items ≡ lower (vec_len frames) frames.items =
     c.pop.ensures.rest ∙ take-set frames.items (vec_len frames - 1) c.gather.new.self in
     top_gone c.args.self.now.store.now (vec_len frames) frames.items c.pop.new.self.items
@@ -59,16 +51,11 @@ abbrev taken : (c : goal.After-enter-arg-1) → TopUsed c.args.self.now.store.no
 taken c =
     let frames = c.frames.self.frames in
     let top : HasTop (vec_len frames) frames.items c.in-Some.frame.now =
-    record {
-      count = c.frames.self.frames.ok.0;
-      some = c.in-Some.ensures.item.3.0;
-      is = c.in-Some.ensures.value;
-    } in
-    top_used c.args.self.now.store.now (vec_len frames) frames.items
-    c.in-Some.frame.now c.gather.new.self c.take_name.new.self c.gather.ensures.prints.done
-    (Name c.in-Some-take_name.name) (vec_capacity frames) c.frames.invariant.stands top
-    c.gather.ensures.prints.whole c.gather.ensures.prints.lent c.gather.ensures.within c.gather.ensures.owner
-    c.in-Some-take_name.ensures.some c.take_name.ensures.within c.take_name.ensures.owner
+    record { count = c.frames.self.frames.ok.0; some = c.in-Some.ensures.item.3.0; is = c.in-Some.ensures.value } in
+    top_used c.args.self.now.store.now (vec_len frames) frames.items c.in-Some.frame.now c.gather.new.self
+    c.take_name.new.self c.gather.ensures.prints.done (Name c.in-Some-take_name.name) (vec_capacity frames)
+    c.frames.invariant.stands top c.gather.ensures.prints.whole c.gather.ensures.prints.lent c.gather.ensures.within
+    c.gather.ensures.owner c.in-Some-take_name.ensures.some c.take_name.ensures.within c.take_name.ensures.owner
 
 pub enter-requires-clause-stands : goal.enter-requires-clause-stands
 enter-requires-clause-stands c = rw c.frames.invariant.store (taken c).stands
@@ -85,16 +72,11 @@ abbrev used : (c : goal.After-enter) → TopUsed c.args.self.now.store.now c.fra
 used c =
     let frames = c.frames.self.frames in
     let top : HasTop (vec_len frames) frames.items c.in-Some.frame.now =
-    record {
-      count = c.frames.self.frames.ok.0;
-      some = c.in-Some.ensures.item.3.0;
-      is = c.in-Some.ensures.value;
-    } in
-    top_used c.args.self.now.store.now (vec_len frames) frames.items
-    c.in-Some.frame.now c.gather.new.self c.take_name.new.self c.gather.ensures.prints.done
-    (Name c.in-Some-take_name.name) (vec_capacity frames) c.frames.invariant.stands top
-    c.gather.ensures.prints.whole c.gather.ensures.prints.lent c.gather.ensures.within c.gather.ensures.owner
-    c.in-Some-take_name.ensures.some c.take_name.ensures.within c.take_name.ensures.owner
+    record { count = c.frames.self.frames.ok.0; some = c.in-Some.ensures.item.3.0; is = c.in-Some.ensures.value } in
+    top_used c.args.self.now.store.now (vec_len frames) frames.items c.in-Some.frame.now c.gather.new.self
+    c.take_name.new.self c.gather.ensures.prints.done (Name c.in-Some-take_name.name) (vec_capacity frames)
+    c.frames.invariant.stands top c.gather.ensures.prints.whole c.gather.ensures.prints.lent c.gather.ensures.within
+    c.gather.ensures.owner c.in-Some-take_name.ensures.some c.take_name.ensures.within c.take_name.ensures.owner
 
 pub frames-smaller : goal.frames-smaller
 frames-smaller c =
@@ -127,17 +109,11 @@ passed c =
     let w : Stored = c.args.self.now.store.now in
     let frames = c.frames.self.frames in
     let top : HasTop (vec_len frames) frames.items c.in-Some.frame.now =
-    record {
-      count = c.frames.self.frames.ok.0;
-      some = c.in-Some.ensures.item.3.0;
-      is = c.in-Some.ensures.value;
-    } in
-    subst (λ f. TopPassed w frames.items (slice_set frames.items (vec_len frames - 1) f)
-    c.gather.ensures.prints.done (vec_capacity frames))
-    (sym (c.in_default-take_name.ensures.none refl))
-    (top_passed w (vec_len frames) frames.items c.in-Some.frame.now c.gather.new.self
-    c.gather.ensures.prints.done (vec_capacity frames) c.frames.invariant.stands top
-    c.gather.ensures.prints.whole c.gather.ensures.prints.lent c.gather.ensures.within c.gather.ensures.owner)
+    record { count = c.frames.self.frames.ok.0; some = c.in-Some.ensures.item.3.0; is = c.in-Some.ensures.value } in
+    subst (λ f. TopPassed w frames.items (slice_set frames.items (vec_len frames - 1) f) c.gather.ensures.prints.done
+    (vec_capacity frames)) (sym (c.in_default-take_name.ensures.none refl)) (top_passed w (vec_len frames) frames.items
+    c.in-Some.frame.now c.gather.new.self c.gather.ensures.prints.done (vec_capacity frames) c.frames.invariant.stands
+    top c.gather.ensures.prints.whole c.gather.ensures.prints.lent c.gather.ensures.within c.gather.ensures.owner)
 
 pub returns-in_default-take_name-clause-stands : goal.returns-in_default-take_name-clause-stands
 returns-in_default-take_name-clause-stands c = rw c.frames.invariant.store (passed c).stands

@@ -13,7 +13,4 @@ returns c =
     head_passes c.run_len-size.result u c.args.self.now _ _ c.args.begun rule.Identifier
     (front (Defined (begins (codes "(") (drop m u))) m) c.self.view_is
     c.requires.between c.requires.in_head c.requires.line c.requires.some (sym c.requires.first) refl refl refl refl
-    (record {
-      size = size;
-      state = c.in_ok-define.ensures ∙ (λ i. define (name i) (tight i) c.self.inside.scanner);
-    })
+    (record { size = size; state = c.in_ok-define.ensures ∙ (λ i. define (name i) (tight i) c.self.inside.scanner) })

@@ -10,13 +10,7 @@ bounds-self-inside-number c =
 pub offset_bounds-self-inside-number : goal.offset_bounds-self-inside-number
 offset_bounds-self-inside-number c =
     let s = c.self.inside in
-    omega (
-      arith,
-      c.requires,
-      ap length c.self.view_is,
-      length-map s.records.now (lends_by s.texts),
-      c.self.told,
-    )
+    omega (arith, c.requires, ap length c.self.view_is, length-map s.records.now (lends_by s.texts), c.self.told)
 
 pub lent-requires : goal.lent-requires
 lent-requires c =

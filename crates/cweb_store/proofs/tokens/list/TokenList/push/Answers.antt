@@ -9,9 +9,7 @@ pack-requires c =
     let s = c.self.inside in
     let count : length (map (token_in s.texts.texts) s.records.packed) ≡ length c.args.self.now.tokens =
     ap (λ v. length v.tokens) c.self.view_is in
-    record {
-      few = omega (arith, texts-few s.texts s.records.packed c.self.invariant.tokens, count, c.requires.few);
-    }
+    record { few = omega (arith, texts-few s.texts s.records.packed c.self.invariant.tokens, count, c.requires.few) }
 
 pub put-requires-clause-place : goal.put-requires-clause-place
 put-requires-clause-place c = λ mark. c.in_ok-reserve.ensures.room.place (ap is_mark_token
