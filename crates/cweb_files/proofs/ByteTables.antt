@@ -1,10 +1,7 @@
 -- A table with an entry for each byte tells what a test of bytes does.
+use Rattle.std.proofs.lemmas.Bool.{and_parts}
 use Rattle.std.proofs.Common.{◌≡◌, ◌<◌, ℕ, zero, suc, ◌+◌, Bool, true, false, ◌&&◌, not, List, [], ◌∷◌, length}
 use Rattle.std.proofs.Common.{slice_index_or, refl, ap, sym, ◌∙◌, arith}
-
-both : (a b : Bool) → (a && b) ≡ true → (a ≡ true) × (b ≡ true)
-both true b e = (refl, e)
-both false b e = cc
 
 abbrev pub same : Bool → Bool → Bool
 same true b = b
@@ -25,9 +22,9 @@ told_from : (test : ℕ → Bool) (xs : List Bool) (k i b : ℕ) → agrees test
 told_from test [] k i b h within e = absurd (omega (arith, within))
 told_from test (x ∷ xs) k zero b h within e =
     let here : k ≡ b = omega (arith, e) in
-    same_is x (test k) (both (same x (test k)) (agrees test (suc k) xs) h).0 ∙ ap test here
+    same_is x (test k) (and_parts (same x (test k)) (agrees test (suc k) xs) h).0 ∙ ap test here
 told_from test (x ∷ xs) k (suc i) b h within e =
-    told_from test xs (suc k) i b (both (same x (test k)) (agrees test (suc k) xs) h).1
+    told_from test xs (suc k) i b (and_parts (same x (test k)) (agrees test (suc k) xs) h).1
     (omega (arith, within)) (omega (arith, e))
 
 -- a table that agrees with the test from byte 0 on tells it of each byte that has an entry

@@ -1,5 +1,5 @@
 -- Lines that were taken and faults that were told, as events of a merge.
-use Rattle.cweb_lines.proofs.Common.{◌≡◌, ◌+◌, ℕ, List, [], ◌∷◌, ◌++◌, refl, sym, ◌∙◌, ap, subst, arith, length, length-append, map, append-nil, append_assoc, Place, Line, SourceLine, Event, took, fault, SoFar, Gives, TellsFront, Adds, TellsSome, StopsAmong, Stopped, Count, Took, StopsFor, given_lines, told_faults, openings, taken_lines, size_of, AreShort, SourceFault, Stop}
+use Rattle.cweb_lines.proofs.Common.{◌≡◌, ◌+◌, ℕ, List, [], ◌∷◌, ◌++◌, refl, sym, ◌∙◌, ap, subst, arith, length, length-append, map, append-nil, append_assoc, Place, Line, SourceLine, Event, took, fault, SoFar, Gives, TellsFront, Adds, TellsSome, StopsAmong, Stopped, Count, Took, StopsFor, given_lines, told_faults, openings, taken_lines, size_of, AreShort, SourceFault, Stop, map-append}
 use Rattle.cweb_lines.proofs.Stacks.{stops_map}
 use Rattle.cweb_lines.proofs.Sums.{given-append, told-append, openings-append, taken-append, size-append, short-append, lines_taken-append, bytes_taken-append}
 
@@ -68,10 +68,6 @@ module _ (lines : List SourceLine) (faults : List SourceFault) where
     bytes_are = adds.bytes_are ∙ ap (λ (ls : List SourceLine). old.count.bytes + size_of ls) (sym taken_all);
     short = subst AreShort (sym taken_all) adds.short;
   }
-
-pub map-append : {A B : Type 0} (f : A → B) (xs ys : List A) → map f (xs ++ ys) ≡ map f xs ++ map f ys
-map-append f [] ys = refl
-map-append {B = B} f (x ∷ xs) ys = ap (λ (zs : List B). f x ∷ zs) (map-append f xs ys)
 
 -- some of the faults of a step were told
 pub tells_some : (lines : List SourceLine) (faults : List SourceFault) (old new : SoFar) (all later : List Event) →

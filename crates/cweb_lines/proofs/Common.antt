@@ -5,9 +5,10 @@ pub use Rattle.std.proofs.Common.{length-append, map, ◌≤◌, ◌<◌, ◌-�
 pub use Rattle.std.proofs.Common.{◌||◌, if◌then◌else◌, ◌≢◌, ◌==◌, ◌&&◌, cond, ◌⊎◌, inl, inr, Err, eqb, get_or}
 pub use Rattle.std.proofs.Common.{replicate, ⊎_elim, set, take, drop, take-append-drop, get_or-set_same}
 pub use Rattle.std.proofs.Common.{get_or-set_other, rules, ◌%◌, ◌^◌, w8, w64, string_bytes, Vec, Global}
+pub use Rattle.std.proofs.Math.Bool.{or-true, or-false}
 pub use Rattle.std.proofs.Math.Nat.{le-max_left, le-max_right, max-le}
 pub use Rattle.std.proofs.Math.Seq.{drop-append-add, take-append_seam, take-add}
-pub use Rattle.std.proofs.lemmas.Bool.{cases_lt}
+pub use Rattle.std.proofs.lemmas.Bool.{cases_lt, or_parts}
 pub use Rattle.std.proofs.lemmas.Bool.Decides.{nat_tests}
 pub use Rattle.std.proofs.lemmas.Grind.{common_steps}
 pub use Rattle.std.proofs.lemmas.List.{append-nil, append_assoc, append_cancel_right, length-map, map-append}

@@ -1,14 +1,6 @@
 -- What a comparison of an old line with a raw line comes to.
-use Rattle.cweb_lines.proofs.Common.{◌≡◌, ◌+◌, ◌||◌, ℕ, Bool, true, false, List, [], ◌∷◌, refl, sym, ◌∙◌, ap, subst, arith, if◌then◌else◌, bytes_eq, Line, Thing, compared, SoFar, Compares, Took, raw_at, Replaced, LineAt}
+use Rattle.cweb_lines.proofs.Common.{◌≡◌, ◌+◌, ◌||◌, ℕ, Bool, true, false, List, [], ◌∷◌, refl, sym, ◌∙◌, ap, subst, arith, if◌then◌else◌, bytes_eq, Line, Thing, compared, SoFar, Compares, Took, raw_at, Replaced, LineAt, or-true}
 use Rattle.cweb_lines.proofs.Adds.{adds_none, adds_one}
-
-pub or_true : (b : Bool) → (b || true) ≡ true
-or_true true = refl
-or_true false = refl
-
-pub or_false : (b : Bool) → (b || false) ≡ b
-or_false true = refl
-or_false false = refl
 
 -- where no raw line is left, old lines take none
 none_taken : (olds : List (List ℕ)) → (compared olds []).taken ≡ []
@@ -29,7 +21,7 @@ compares_empty bytes before old new same = record {
   taken = [];
   taken_are = λ olds. sym (none_taken olds);
   unequal = λ olds. omega (arith, none_unequal olds);
-  ran_out = λ olds. or_true before.ran_out;
+  ran_out = λ olds. or-true before.ran_out;
   rest = λ olds. sym (none_rest olds);
   adds = adds_none old new same;
 }

@@ -1,8 +1,8 @@
 -- What becomes of the lines of an entry, and of lines that begin no change.
-use Rattle.cweb_lines.proofs.Common.{◌≡◌, ◌≢◌, ◌&&◌, ℕ, Bool, true, false, List, [], ◌∷◌, ◌++◌, map, None, Some, Option, refl, sym, ◌∙◌, ap, append-nil, bytes_eq-Decides, list_any, bytes_eq, Place, Line, SourceLine, World, is_include, Entry, Sought, behind_x, code_of, old_at, old_line, old_lines, outside, passing, sought, is_code, followed_by, only_lines, seen, Event, RawLine, Thing, at_entry, compared, given, new_at, new_lines, new_things, one_more, passed, plain, raw, raws, taking, took, merge, merge_end, merge_next, Code}
+use Rattle.cweb_lines.proofs.Common.{◌≡◌, ◌≢◌, ◌&&◌, ℕ, Bool, true, false, List, [], ◌∷◌, ◌++◌, map, None, Some, Option, refl, sym, ◌∙◌, ap, append-nil, bytes_eq-Decides, list_any, bytes_eq, Place, Line, SourceLine, World, is_include, Entry, Sought, behind_x, code_of, old_at, old_line, old_lines, outside, passing, sought, is_code, followed_by, only_lines, seen, Event, RawLine, Thing, at_entry, compared, given, new_at, new_lines, new_things, one_more, passed, plain, raw, raws, taking, took, merge, merge_end, merge_next, Code, or_parts}
 use Rattle.cweb_lines.specs.declared.change.code.Code.TheVariants.{EndSide as end_side, NewSide as new_side, OldSide as old_side}
 use Rattle.cweb_lines.proofs.Merges.{state}
-use Rattle.cweb_lines.proofs.Seens.{line_first, no_code, or-false}
+use Rattle.cweb_lines.proofs.Seens.{line_first, no_code}
 
 abbrev pub bytes_in : List SourceLine → List (List ℕ)
 bytes_in lines = map (λ source. source.line.bytes) lines
@@ -15,7 +15,7 @@ pub finds_none : (lines : List SourceLine) → list_any is_code (bytes_in lines)
     → sought lines None ≡ record { faults = []; taken = lines; entry = None; rest = [] }
 finds_none [] none = refl
 finds_none (line ∷ lines) none =
-    let parts = or-false (is_code line.line.bytes) (list_any is_code (bytes_in lines)) none in
+    let parts = or_parts (is_code line.line.bytes) (list_any is_code (bytes_in lines)) none in
     ap (λ code. passing line (outside code line.line.place (λ begin. sought lines begin)))
     (no_code (code_of line.line.bytes) parts.0)
     ∙ ap (passing line) (finds_none lines parts.1)
@@ -40,7 +40,7 @@ finds [] x first rest no_codes begins some none =
     ∙ ap (passing x) (first_old first.line.bytes (code_of first.line.bytes) x.line.place first rest
     (λ next. sought rest next) some none)
 finds (line ∷ comment) x first rest no_codes begins some none =
-    let parts = or-false (is_code line.line.bytes) (list_any is_code (bytes_in comment)) no_codes in
+    let parts = or_parts (is_code line.line.bytes) (list_any is_code (bytes_in comment)) no_codes in
     ap (λ code. passing line (outside code line.line.place (λ begin. sought (comment ++ (x ∷ first ∷ rest)) begin)))
     (no_code (code_of line.line.bytes) parts.0)
     ∙ ap (passing line) (finds comment x first rest parts.1 begins some none)
@@ -52,7 +52,7 @@ pub old_splits : (further : List SourceLine) (y : SourceLine) (rest : List Sourc
     ≡ record { faults = []; lines = bytes_in further; taken = further ++ (y ∷ []); ended = false; rest = rest }
 old_splits [] y rest no_codes turns = ap (λ code. old_at code y rest (old_lines rest)) turns
 old_splits (line ∷ further) y rest no_codes turns =
-    let parts = or-false (is_code line.line.bytes) (list_any is_code (bytes_in further)) no_codes in
+    let parts = or_parts (is_code line.line.bytes) (list_any is_code (bytes_in further)) no_codes in
     ap (λ code. old_at code line (further ++ (y ∷ rest)) (old_lines (further ++ (y ∷ rest))))
     (no_code (code_of line.line.bytes) parts.0)
     ∙ ap (old_line line) (old_splits further y rest parts.1 turns)
@@ -73,7 +73,7 @@ pub new_splits : (depth : ℕ) (begin : Place) (new : List SourceLine) (z : Sour
     ≡ record { things = raws depth false new ++ (passed z ∷ []); rest = rest }
 new_splits depth begin [] z rest no_codes ends = ap (λ code. new_at code depth z rest (new_lines depth begin rest)) ends
 new_splits depth begin (line ∷ new) z rest no_codes ends =
-    let parts = or-false (is_code line.line.bytes) (list_any is_code (bytes_in new)) no_codes in
+    let parts = or_parts (is_code line.line.bytes) (list_any is_code (bytes_in new)) no_codes in
     ap (λ code. new_at code depth line (new ++ (z ∷ rest)) (new_lines depth begin (new ++ (z ∷ rest))))
     (no_code (code_of line.line.bytes) parts.0)
     ∙ ap (new_things (raw (record { source = line; depth = depth; may_match = false }) ∷ []))
@@ -86,7 +86,7 @@ pub gives_out : (world : World) (depth : ℕ) (may_match : Bool) (lines : List S
     ≡ followed_by (only_lines (lines_of lines)) (seen (merge world (state later None change files)))
 gives_out world depth may_match [] later change files plain_lines = refl
 gives_out world depth may_match (line ∷ lines) later change files plain_lines =
-    let parts = or-false (is_include line.line.bytes) (list_any is_include (bytes_in lines)) plain_lines in
+    let parts = or_parts (is_include line.line.bytes) (list_any is_include (bytes_in lines)) plain_lines in
     let r : RawLine = record { source = line; depth = depth; may_match = may_match } in
     let rest = raws depth may_match lines ++ later in
     let s = state (raw r ∷ rest) None change files in
@@ -112,8 +112,8 @@ pub passes_by : (world : World) (depth : ℕ) (entry : Entry) (lines : List Sour
     ≡ followed_by (only_lines (lines_of lines)) (seen (merge world (state later (Some entry) change files)))
 passes_by world depth entry [] later change files plain_lines others = refl
 passes_by world depth entry (line ∷ lines) later change files plain_lines others =
-    let parts = or-false (is_include line.line.bytes) (list_any is_include (bytes_in lines)) plain_lines in
-    let differ = or-false (bytes_eq line.line.bytes entry.first)
+    let parts = or_parts (is_include line.line.bytes) (list_any is_include (bytes_in lines)) plain_lines in
+    let differ = or_parts (bytes_eq line.line.bytes entry.first)
     (list_any (λ line. bytes_eq line entry.first) (bytes_in lines)) others in
     let r : RawLine = record { source = line; depth = depth; may_match = true } in
     let rest = raws depth true lines ++ later in

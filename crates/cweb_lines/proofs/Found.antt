@@ -29,12 +29,6 @@ IfOk-map (Ok x) f p = f x p
 IfOk-map (Err e) f p = p
 
 module _ (texts : List ℕ → Option (List ℕ)) (web bytes : List ℕ) (same : bytes ≡ web) where
-  pub web_first : (second : Option (List ℕ)) (found : Found) → Some found ≡ under bytes (texts bytes) →
-      Some found ≡ web_at texts web second
-  web_first None found is = is ∙ ap (λ n. under n (texts n)) same
-  web_first (Some second) found is = ap (λ f. first_found f (under second (texts second)))
-      (is ∙ ap (λ n. under n (texts n)) same)
-
   pub web_none : (second : Option (List ℕ)) → second ≡ None → None ≡ under bytes (texts bytes) →
       None ≡ web_at texts web second
   web_none second gone none = none ∙ ap (λ n. under n (texts n)) same ∙ ap (web_at texts web) (sym gone)

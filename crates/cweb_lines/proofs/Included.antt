@@ -1,8 +1,8 @@
 -- The merged lines of an included text are those that it has as a web of its own.
-use Rattle.cweb_lines.proofs.Common.{◌≡◌, ◌+◌, ◌⊎◌, inl, inr, ℕ, zero, suc, true, false, List, [], ◌∷◌, ◌++◌, map, None, Some, Option, refl, sym, ◌∙◌, ap, append-nil, subst, arith, AllByRecursion, list_any, SourceLine, lines_in, text_lines, World, at_place, IncludedTextsMergeAsWebs, is_too_deep, Event, Next, RawLine, Thing, fault, given, onto, opening, passed, raw, raws, run, seek, started, told, took, fault_renumbered, line_renumbered, renumbered, seen, told_faults, merge-run, halts, TooDeep}
+use Rattle.cweb_lines.proofs.Common.{◌≡◌, ◌+◌, ◌⊎◌, inl, inr, ℕ, zero, suc, true, false, List, [], ◌∷◌, ◌++◌, map, None, Some, Option, refl, sym, ◌∙◌, ap, append-nil, subst, arith, AllByRecursion, list_any, SourceLine, lines_in, text_lines, World, at_place, IncludedTextsMergeAsWebs, is_too_deep, Event, Next, RawLine, Thing, fault, given, onto, opening, passed, raw, raws, run, seek, started, told, took, fault_renumbered, line_renumbered, renumbered, seen, told_faults, merge-run, halts, TooDeep, or_parts}
 use Rattle.cweb_lines.proofs.Alone.{IsNoSearch, Kind, becomes, faults, gives, onto_some, opens, raws_seek_not}
 use Rattle.cweb_lines.proofs.Merges.{state}
-use Rattle.cweb_lines.proofs.Seens.{fault_first, line_first, name_first, or-false}
+use Rattle.cweb_lines.proofs.Seens.{fault_first, line_first, name_first}
 use Rattle.cweb_lines.proofs.Deeper.{event_from as event_at, from as from_at, kind_from as kind_at, raw_from as raw_at, raw_goes as goes_at, raws_from as raws_at, source_from as source_at, thing_from as thing_at, too_deep as too_deep_at}
 
 -- no include line lies too deep
@@ -53,7 +53,7 @@ module _ (world : World) (by first : ℕ) where
   shallow_tail (took source) events is = is
   shallow_tail (given line) events is = is
   shallow_tail (fault f) events is =
-      (or-false (is_too_deep f.kind) (list_any (λ fault. is_too_deep fault.kind) (told_faults events)) is).1
+      (or_parts (is_too_deep f.kind) (list_any (λ fault. is_too_deep fault.kind) (told_faults events)) is).1
   shallow_tail (opening name) events is = is
 
   shallow_raw : (n : ℕ) (r : RawLine) (things : List Thing) (files : ℕ) (deep : List Event) → AllByRecursion IsNoSearch

@@ -11,16 +11,6 @@ seen_by (Some events) = Some (seen events)
 abbrev no_texts : World
 no_texts = record { texts = λ _. None; inputs = None }
 
-web_without_includes : list_any is_include (lines (codes "one \n\n@ two")) ≡ false
-web_without_includes = refl
-
-its_own_lines : seen_by (run 10 no_texts (started (codes "one \n\n@ two") None))
-    ≡ Some (only_lines (placed 0 1 (codes "one" ∷ [] ∷ codes "@ two" ∷ [])))
-its_own_lines = refl
-
-change_file_without_entries : list_any is_code (lines (codes "a comment\n@ alone\n")) ≡ false
-change_file_without_entries = refl
-
 abbrev a_file_included : World
 a_file_included = record {
   texts = λ asked. cond (bytes_eq asked (codes "b")) (Some (codes "B\n@i\n")) None;
@@ -28,33 +18,9 @@ a_file_included = record {
       None;
 }
 
--- the included file is file 2 in place of 1, with its fault too
-it_changes_nothing : seen_by (run 20 a_file_included
-    (started (codes "A\n@i b\n") (Some (codes "a comment\n@ alone\n"))))
-    ≡ option_map (renumbered file_behind) (seen_by (run 20 a_file_included (started (codes "A\n@i b\n") None)))
-unfolding is_utf8 chars encode
-it_changes_nothing = refl
-
-it_shows : option_map (renumbered file_behind) (seen_by (run 20 a_file_included (started (codes "A\n@i b\n") None)))
-    ≡ Some (record {
-      lines = placed 0 1 (codes "A" ∷ []) ++ placed 2 1 (codes "B" ∷ []);
-      faults = record { kind = NoName; place = record { file = record { 0 = 2 }; line = 2 }; count = 0 } ∷ [];
-      included = codes "b" ∷ [];
-    })
-unfolding is_utf8 chars encode
-it_shows = refl
-
 -- a change that includes a file: what it prints, and what is printed again
 abbrev changed_web : Option Seen
 changed_web = seen_by (run 30 a_file_included (started (codes "A\nC\n") (Some (codes "@x\nA\n@y\n@i b\n@z\n"))))
-
-it_prints : option_map (λ s. text_of s.lines) changed_web ≡ Some (codes "B\nC\n")
-unfolding is_utf8 chars encode
-it_prints = refl
-
-it_prints_again : option_map (λ s. text_of s.lines) (seen_by (run 30 no_texts (started (codes "B\nC\n") None)))
-    ≡ Some (codes "B\nC\n")
-it_prints_again = refl
 
 include_line : Includes a_file_included (codes "@i b") (codes "b") (codes "B\n@i\n")
 unfolding is_utf8 chars encode
@@ -67,10 +33,6 @@ before_and_behind = record {
   faults = record { kind = NoName; place = record { file = record { 0 = 1 }; line = 2 }; count = 0 } ∷ [];
   included = codes "b" ∷ [];
 }
-
-it_is_replaced : seen_by (run 20 a_file_included (started (codes "A\n@i b\nC\n") None)) ≡ Some before_and_behind
-unfolding is_utf8 chars encode
-it_is_replaced = refl
 
 -- a change of two lines, the second an include line, and one that only drops a line
 abbrev two_changes : List Splice
@@ -129,34 +91,46 @@ they_are_plain = (
   ),
 )
 
-web_of_two_changes : lines (codes "A\nB\n@i gone\nC\nD\n") ≡ web_lines two_changes (codes "D" ∷ [])
-web_of_two_changes = refl
+record Computed : Type 0 where
+  web_without_includes : list_any is_include (lines (codes "one \n\n@ two")) ≡ false
+  its_own_lines : seen_by (run 10 no_texts (started (codes "one \n\n@ two") None))
+      ≡ Some (only_lines (placed 0 1 (codes "one" ∷ [] ∷ codes "@ two" ∷ [])))
+  change_file_without_entries : list_any is_code (lines (codes "a comment\n@ alone\n")) ≡ false
+  -- the included file is file 2 in place of 1, with its fault too
+  it_changes_nothing : seen_by (run 20 a_file_included
+      (started (codes "A\n@i b\n") (Some (codes "a comment\n@ alone\n"))))
+      ≡ option_map (renumbered file_behind) (seen_by (run 20 a_file_included (started (codes "A\n@i b\n") None)))
+  it_shows : option_map (renumbered file_behind) (seen_by (run 20 a_file_included (started (codes "A\n@i b\n") None)))
+      ≡ Some (record {
+        lines = placed 0 1 (codes "A" ∷ []) ++ placed 2 1 (codes "B" ∷ []);
+        faults = record { kind = NoName; place = record { file = record { 0 = 2 }; line = 2 }; count = 0 } ∷ [];
+        included = codes "b" ∷ [];
+      })
+  it_prints : option_map (λ s. text_of s.lines) changed_web ≡ Some (codes "B\nC\n")
+  it_prints_again : option_map (λ s. text_of s.lines) (seen_by (run 30 no_texts (started (codes "B\nC\n") None)))
+      ≡ Some (codes "B\nC\n")
+  it_is_replaced : seen_by (run 20 a_file_included (started (codes "A\n@i b\nC\n") None)) ≡ Some before_and_behind
+  web_of_two_changes : lines (codes "A\nB\n@i gone\nC\nD\n") ≡ web_lines two_changes (codes "D" ∷ [])
+  file_of_two_changes : lines (codes "why\n@x that\nB\n@i gone\n@y\nb\nbb\n@z\n@X\nC\n@Y\n@Z\nend")
+      ≡ change_lines two_changes (codes "end" ∷ [])
+  they_splice : seen_by (run 30 no_texts (started
+      (codes "A\nB\n@i gone\nC\nD\n") (Some (codes "why\n@x that\nB\n@i gone\n@y\nb\nbb\n@z\n@X\nC\n@Y\n@Z\nend"))))
+      ≡ Some (only_lines (spliced 1 1 two_changes (codes "D" ∷ [])))
+  they_show : spliced 1 1 two_changes (codes "D" ∷ []) ≡ placed 0 1 (codes "A" ∷ []) ++ placed 1 6
+      (codes "b" ∷ codes "bb" ∷ []) ++ placed 0 5 (codes "D" ∷ [])
+  -- the second entry is never looked at
+  entry_without_match : seen_by
+      (run 30 no_texts (started (codes "A\n") (Some (codes "why\n@x\nZ\n@z\n@x\nA\n@y\n@z\n"))))
+      ≡ Some (record {
+        lines = placed 0 1 (codes "A" ∷ []);
+        faults = record { kind = NoMatch; place = record { file = record { 0 = 1 }; line = 2 }; count = 0 } ∷ [];
+        included = [];
+      })
+  -- the text of an include line as it comes at depth 2, as file 1, and as it comes of a web of its own
+  it_merges_as_a_web : seen_by (run 20 a_file_included (record
+      { things = raws 2 true (lines_in 1 (codes "A\n@i b\n")); pending = None; change = []; files = 2 })) ≡ option_map
+      (renumbered (λ number. 1 + number)) (seen_by (run 20 a_file_included (started (codes "A\n@i b\n") None)))
 
-file_of_two_changes : lines (codes "why\n@x that\nB\n@i gone\n@y\nb\nbb\n@z\n@X\nC\n@Y\n@Z\nend")
-    ≡ change_lines two_changes (codes "end" ∷ [])
-file_of_two_changes = refl
-
-they_splice : seen_by (run 30 no_texts (started
-    (codes "A\nB\n@i gone\nC\nD\n") (Some (codes "why\n@x that\nB\n@i gone\n@y\nb\nbb\n@z\n@X\nC\n@Y\n@Z\nend"))))
-    ≡ Some (only_lines (spliced 1 1 two_changes (codes "D" ∷ [])))
-they_splice = refl
-
-they_show : spliced 1 1 two_changes (codes "D" ∷ []) ≡ placed 0 1 (codes "A" ∷ []) ++ placed 1 6
-    (codes "b" ∷ codes "bb" ∷ []) ++ placed 0 5 (codes "D" ∷ [])
-they_show = refl
-
--- the second entry is never looked at
-entry_without_match : seen_by (run 30 no_texts (started (codes "A\n") (Some (codes "why\n@x\nZ\n@z\n@x\nA\n@y\n@z\n"))))
-    ≡ Some (record {
-      lines = placed 0 1 (codes "A" ∷ []);
-      faults = record { kind = NoMatch; place = record { file = record { 0 = 1 }; line = 2 }; count = 0 } ∷ [];
-      included = [];
-    })
-entry_without_match = refl
-
--- the text of an include line as it comes at depth 2, as file 1, and as it comes of a web of its own
-it_merges_as_a_web : seen_by (run 20 a_file_included
-    (record { things = raws 2 true (lines_in 1 (codes "A\n@i b\n")); pending = None; change = []; files = 2 })) ≡
-    option_map (renumbered (λ number. 1 + number)) (seen_by (run 20 a_file_included (started (codes "A\n@i b\n") None)))
+computed : Computed
 unfolding is_utf8 chars encode
-it_merges_as_a_web = refl
+computed = search refl

@@ -52,9 +52,7 @@ pub blames_line : (fault : LineFault) (stop : Stop) (file : FileId) (name : List
     → BlamesReader {A = FileId} name before now (Err fault) → now ≡ before ++ blame names stop
 blames_line Read stop file name names before now is named read = read ∙ ap (λ (n : List ℕ). before ++ n ∷ []) named
     ∙ sym (ap (λ s. before ++ blame names s) is)
-blames_line TooLong stop file name names before now is named read = read
-    ∙ sym (ap (λ s. before ++ blame names s) is ∙ append-nil before)
-blames_line NoMemory stop file name names before now is named read = read
+blames_line _ stop file name names before now is named read = read
     ∙ sym (ap (λ s. before ++ blame names s) is ∙ append-nil before)
 
 pub stop_after : (stop : Stop) (names before mid now : List (List ℕ)) → mid ≡ before → now ≡ mid ++ blame names stop

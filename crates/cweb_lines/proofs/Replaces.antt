@@ -1,9 +1,8 @@
 -- The old side of a change, line by line.
-use Rattle.cweb_lines.proofs.Common.{◌≡◌, ◌+◌, ◌||◌, ℕ, Bool, false, List, [], ◌∷◌, ◌++◌, Some, None, Option, refl, sym, ◌∙◌, ap, subst, arith, length, length-append, append-nil, append_assoc, Place, OldSide, at_place, code_of, old_at, old_code, old_line, old_lines, Line, SourceLine, Compared, Thing, compared, SoFar, Adds, StopsAmong, Compares, IsReplaced, Replaces, lines_replaced, taken_away, Count, FirstStops, Refuses, Took, TopStops, size_of, Code, SourceFault, WantsY, Replaced, Stop}
+use Rattle.cweb_lines.proofs.Common.{◌≡◌, ◌+◌, ◌||◌, ℕ, Bool, false, List, [], ◌∷◌, ◌++◌, Some, None, Option, refl, sym, ◌∙◌, ap, subst, arith, length, length-append, append-nil, append_assoc, Place, OldSide, at_place, code_of, old_at, old_code, old_line, old_lines, Line, SourceLine, Compared, Thing, compared, SoFar, Adds, StopsAmong, Compares, IsReplaced, Replaces, lines_replaced, taken_away, Count, FirstStops, Refuses, Took, TopStops, size_of, Code, SourceFault, WantsY, Replaced, Stop, or-false}
 use Rattle.cweb_lines.specs.declared.change.code.Code.TheVariants.{NewSide as new_side}
 use Rattle.cweb_lines.proofs.Adds.{adds_none, adds_within, adds_lines, adds_faults}
 use Rattle.cweb_lines.proofs.Sums.{size-append}
-use Rattle.cweb_lines.proofs.Compares.{or_false}
 use Rattle.cweb_lines.proofs.Codes.{old_code_at, taken_at}
 
 pub replaces_from : (change : List SourceLine) (things : List Thing) (old : SoFar) →
@@ -110,7 +109,7 @@ module _ (change : List SourceLine) (things : List Thing) (so_far : Replaced) (l
         rest = r.rest ∙ ap (λ (s : OldSide). s.rest) is;
         unequal = omega (arith, r.unequal, ap (λ (s : OldSide). (compared s.lines raws).unequal) is);
         ran_out = r.ran_out ∙ ap (λ (s : OldSide). so_far.ran_out || (compared s.lines raws).ran_out) is
-            ∙ or_false so_far.ran_out;
+            ∙ or-false so_far.ran_out;
         raw_rest = r.raw_rest ∙ ap (λ (s : OldSide). (compared s.lines raws).rest) is;
       }
 

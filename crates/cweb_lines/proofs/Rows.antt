@@ -36,51 +36,6 @@ no_texts = record { texts = λ _. None; inputs = None }
 abbrev one_text : List ℕ → List ℕ → World
 one_text name text = record { texts = λ asked. cond (bytes_eq asked name) (Some text) None; inputs = None }
 
--- blanks at the ends of lines are dropped, and nothing stands behind the last newline
-blanks_at_line_ends : lines (120 ∷ 32 ∷ 13 ∷ 10 ∷ 10 ∷ 121 ∷ 9 ∷ []) ≡ codes "x" ∷ [] ∷ codes "y" ∷ []
-blanks_at_line_ends = refl
-
--- a last line of blanks alone, without newline, is an empty line
-last_line_of_blanks : lines (codes "x\n  ") ≡ codes "x" ∷ [] ∷ []
-last_line_of_blanks = refl
-
-blanks_merged : outcome_of (run 10 no_texts (started (120 ∷ 32 ∷ 13 ∷ 10 ∷ 10 ∷ 121 ∷ 9 ∷ []) None))
-    ≡ Some (record { lines = line (codes "x") 0 1 ∷ line [] 0 2 ∷ line (codes "y") 0 3 ∷ []; faults = []; names = [] })
-blanks_merged = refl
-
-empty_web : outcome_of (run 10 no_texts (started [] None)) ≡ Some (record { lines = []; faults = []; names = [] })
-empty_web = refl
-
--- an include line is compared with the first old line before it is obeyed
-include_line_replaced : outcome_of (run 20 no_texts (started (codes "A\n@i gone.w\nB\n")
-    (Some (codes "@x\n@i gone.w\n@y\nnew\n@z\n"))))
-    ≡ Some (record {
-      lines = line (codes "A") 0 1 ∷ line (codes "new") 1 4 ∷ line (codes "B") 0 3 ∷ [];
-      faults = [];
-      names = [];
-    })
-include_line_replaced = refl
-
--- further old lines are taken over the end of an included file, unequal ones too
-change_over_a_file_end : outcome_of (run 20 (one_text (codes "inc.w") (codes "I1\nI2\n"))
-    (started (codes "@i inc.w\nL2\nL3\n") (Some (codes "@x\nI2\nLX\n@y\nN\n@z\n"))))
-    ≡ Some (record {
-      lines = line (codes "I1") 2 1 ∷ line (codes "N") 1 5 ∷ line (codes "L3") 0 3 ∷ [];
-      faults =
-          unequal 1 1 1 ∷ [];
-      names = codes "inc.w" ∷ [];
-    })
-unfolding is_utf8 chars encode
-change_over_a_file_end = refl
-
-entry_without_old_lines : outcome_of (run 20 no_texts (started (codes "A\n") (Some (codes "@x\n"))))
-    ≡ Some (record { lines = line (codes "A") 0 1 ∷ []; faults = fault NoOldLines 1 1 ∷ []; names = [] })
-entry_without_old_lines = refl
-
-entry_that_matches_nothing : outcome_of (run 20 no_texts (started (codes "A\n") (Some (codes "@x\nZ\n@y\n@z\n"))))
-    ≡ Some (record { lines = line (codes "A") 0 1 ∷ []; faults = fault NoMatch 1 1 ∷ []; names = [] })
-entry_that_matches_nothing = refl
-
 -- the files 0 to n that are the same file, each opened by the one before
 abbrev firsts : ℕ → ℕ → List Line
 firsts zero from = []
@@ -94,13 +49,6 @@ abbrev copies : ℕ → List (List ℕ)
 copies zero = []
 copies (suc n) = codes "a.w" ∷ copies n
 
--- no more than `OPEN_FILES` are open: the include line of the deepest is a fault
-file_that_includes_itself : outcome_of (run 90 (one_text (codes "a.w") (codes "P\n@i a.w\nQ\n"))
-    (started (codes "P\n@i a.w\nQ\n") None))
-    ≡ Some (record { lines = firsts 20 0 ++ lasts 20; faults = fault TooDeep 19 2 ∷ []; names = copies 19 })
-unfolding is_utf8 chars encode
-file_that_includes_itself = refl
-
 abbrev in_lib : World
 in_lib = record {
   texts = λ asked. cond (bytes_eq asked (codes "lib/b.w")) (Some (codes "two\n")) None;
@@ -108,56 +56,75 @@ in_lib = record {
       Some (codes "lib");
 }
 
--- a file is sought as it is named, then in the folder
-include_in_a_folder : outcome_of (run 20 in_lib (started (codes "one\n@i b.w\nthree\n@i gone\n") None))
-    ≡ Some (record {
-      lines = line (codes "one") 0 1 ∷ line (codes "two") 1 1 ∷ line (codes "three") 0 3 ∷ [];
-      faults =
-          fault NotThere 0 4 ∷ [];
-      names = codes "lib/b.w" ∷ [];
-    })
+record Computed : Type 0 where
+  -- blanks at the ends of lines are dropped, and nothing stands behind the last newline
+  blanks_at_line_ends : lines (120 ∷ 32 ∷ 13 ∷ 10 ∷ 10 ∷ 121 ∷ 9 ∷ []) ≡ codes "x" ∷ [] ∷ codes "y" ∷ []
+  -- a last line of blanks alone, without newline, is an empty line
+  last_line_of_blanks : lines (codes "x\n  ") ≡ codes "x" ∷ [] ∷ []
+  blanks_merged : outcome_of (run 10 no_texts (started (120 ∷ 32 ∷ 13 ∷ 10 ∷ 10 ∷ 121 ∷ 9 ∷ []) None)) ≡ Some
+      (record { lines = line (codes "x") 0 1 ∷ line [] 0 2 ∷ line (codes "y") 0 3 ∷ []; faults = []; names = [] })
+  empty_web : outcome_of (run 10 no_texts (started [] None)) ≡ Some (record { lines = []; faults = []; names = [] })
+  -- an include line is compared with the first old line before it is obeyed
+  include_line_replaced : outcome_of (run 20 no_texts (started (codes "A\n@i gone.w\nB\n")
+      (Some (codes "@x\n@i gone.w\n@y\nnew\n@z\n"))))
+      ≡ Some (record {
+        lines = line (codes "A") 0 1 ∷ line (codes "new") 1 4 ∷ line (codes "B") 0 3 ∷ [];
+        faults = [];
+        names = [];
+      })
+  -- further old lines are taken over the end of an included file, unequal ones too
+  change_over_a_file_end : outcome_of (run 20 (one_text (codes "inc.w") (codes "I1\nI2\n"))
+      (started (codes "@i inc.w\nL2\nL3\n") (Some (codes "@x\nI2\nLX\n@y\nN\n@z\n"))))
+      ≡ Some (record {
+        lines = line (codes "I1") 2 1 ∷ line (codes "N") 1 5 ∷ line (codes "L3") 0 3 ∷ [];
+        faults =
+            unequal 1 1 1 ∷ [];
+        names = codes "inc.w" ∷ [];
+      })
+  entry_without_old_lines : outcome_of (run 20 no_texts (started (codes "A\n") (Some (codes "@x\n"))))
+      ≡ Some (record { lines = line (codes "A") 0 1 ∷ []; faults = fault NoOldLines 1 1 ∷ []; names = [] })
+  entry_that_matches_nothing : outcome_of (run 20 no_texts (started (codes "A\n") (Some (codes "@x\nZ\n@y\n@z\n"))))
+      ≡ Some (record { lines = line (codes "A") 0 1 ∷ []; faults = fault NoMatch 1 1 ∷ []; names = [] })
+  -- no more than `OPEN_FILES` are open: the include line of the deepest is a fault
+  file_that_includes_itself : outcome_of (run 90 (one_text (codes "a.w") (codes "P\n@i a.w\nQ\n"))
+      (started (codes "P\n@i a.w\nQ\n") None))
+      ≡ Some (record { lines = firsts 20 0 ++ lasts 20; faults = fault TooDeep 19 2 ∷ []; names = copies 19 })
+  -- a file is sought as it is named, then in the folder
+  include_in_a_folder : outcome_of (run 20 in_lib (started (codes "one\n@i b.w\nthree\n@i gone\n") None))
+      ≡ Some (record {
+        lines = line (codes "one") 0 1 ∷ line (codes "two") 1 1 ∷ line (codes "three") 0 3 ∷ [];
+        faults =
+            fault NotThere 0 4 ∷ [];
+        names = codes "lib/b.w" ∷ [];
+      })
+  -- codes out of place
+  stray_codes : outcome_of (run 30 no_texts (started (codes "A\nB\n")
+      (Some (codes "@y\n@x\nA\n@x\nQ\n@y\nN\n@y\nM\n@z\n"))))
+      ≡ Some (record {
+        lines = line (codes "N") 1 7 ∷ line (codes "M") 1 9 ∷ [];
+        faults = fault MissingX 1 1 ∷ fault WantsY 1 4 ∷ unequal 1 2 1 ∷ fault WantsZ 1 8 ∷ [];
+        names = [];
+      })
+  change_file_ends_among_old_lines : outcome_of (run 30 no_texts (started (codes "A\n") (Some (codes "@x\nA\nB\nC\n"))))
+      ≡ Some (record { lines = []; faults = fault EndedBeforeY 1 1 ∷ fault WebEnded 1 1 ∷ []; names = [] })
+  change_file_ends_among_new_lines : outcome_of
+      (run 30 no_texts (started (codes "A\n") (Some (codes "@x\nA\n@y\nN\n"))))
+      ≡ Some (record { lines = line (codes "N") 1 4 ∷ []; faults = fault EndedBeforeZ 1 1 ∷ []; names = [] })
+  -- lines that a new line includes do not match
+  new_lines_do_not_match : outcome_of (run 30 (one_text (codes "inc.w") (codes "B\n"))
+      (started (codes "A\nB\n") (Some (codes "@x\nA\n@y\n@i inc.w\n@z\n@x\nB\n@y\nC\n@z\n"))))
+      ≡ Some (record {
+        lines = line (codes "B") 2 1 ∷ line (codes "C") 1 9 ∷ [];
+        faults = [];
+        names =
+            codes "inc.w" ∷ [];
+      })
+  -- the limits
+  longest : LINE_LENGTH ≡ 1048575
+  most_lines : LINES ≡ 16777216
+  most_bytes : BYTES ≡ 1073741824
+  most_open_files : OPEN_FILES ≡ 20
+
+computed : Computed
 unfolding is_utf8 chars encode
-include_in_a_folder = refl
-
--- codes out of place
-stray_codes : outcome_of (run 30 no_texts (started (codes "A\nB\n")
-    (Some (codes "@y\n@x\nA\n@x\nQ\n@y\nN\n@y\nM\n@z\n"))))
-    ≡ Some (record {
-      lines = line (codes "N") 1 7 ∷ line (codes "M") 1 9 ∷ [];
-      faults = fault MissingX 1 1 ∷ fault WantsY 1 4 ∷ unequal 1 2 1 ∷ fault WantsZ 1 8 ∷ [];
-      names = [];
-    })
-stray_codes = refl
-
-change_file_ends_among_old_lines : outcome_of (run 30 no_texts (started (codes "A\n") (Some (codes "@x\nA\nB\nC\n"))))
-    ≡ Some (record { lines = []; faults = fault EndedBeforeY 1 1 ∷ fault WebEnded 1 1 ∷ []; names = [] })
-change_file_ends_among_old_lines = refl
-
-change_file_ends_among_new_lines : outcome_of (run 30 no_texts (started (codes "A\n") (Some (codes "@x\nA\n@y\nN\n"))))
-    ≡ Some (record { lines = line (codes "N") 1 4 ∷ []; faults = fault EndedBeforeZ 1 1 ∷ []; names = [] })
-change_file_ends_among_new_lines = refl
-
--- lines that a new line includes do not match
-new_lines_do_not_match : outcome_of (run 30 (one_text (codes "inc.w") (codes "B\n"))
-    (started (codes "A\nB\n") (Some (codes "@x\nA\n@y\n@i inc.w\n@z\n@x\nB\n@y\nC\n@z\n"))))
-    ≡ Some (record {
-      lines = line (codes "B") 2 1 ∷ line (codes "C") 1 9 ∷ [];
-      faults = [];
-      names =
-          codes "inc.w" ∷ [];
-    })
-unfolding is_utf8 chars encode
-new_lines_do_not_match = refl
-
--- the limits
-longest : LINE_LENGTH ≡ 1048575
-longest = refl
-
-most_lines : LINES ≡ 16777216
-most_lines = refl
-
-most_bytes : BYTES ≡ 1073741824
-most_bytes = refl
-
-most_open_files : OPEN_FILES ≡ 20
-most_open_files = refl
+computed = search refl

@@ -48,47 +48,43 @@ pub takes_in : {R : Type 0} (left left' : R → List ℕ) (same : left' ≡ left
     → TakesAbove left left' (floor_of stage) old new at bytes before after →
     StaysBelow (floor_of stage) old.texts new.texts
     → TakesFirst (things_in left stage lines old) at bytes (things_in left' stage lines new) before after
-takes_in left left' same Done lines old new at bytes before after settled takes stays = takes []
 takes_in left left' same Seeking lines old new at bytes before after settled takes stays = absurd (settled refl)
-takes_in left left' same (Waiting begin) lines old new at bytes before after settled takes stays = takes []
 takes_in left left' same (Changing change) lines old new at bytes before after settled takes stays =
     subst (λ (rest : List Thing). TakesFirst (things_above left change.below old (things_below left change lines old))
     at bytes (things_above left' change.below new rest) before after)
     (below_same left left' same change lines old new stays) (takes (things_below left change lines old))
+takes_in left left' same _ lines old new at bytes before after settled takes stays = takes []
 
 -- things came in front, above the texts that stay open
 pub passes_in : {R : Type 0} (left : R → List ℕ) (stage : Stage) (lines : List SourceLine) (old new : Stack R)
     (first : List Thing) → IsSettled stage → ((rest : List Thing) → things_above left (floor_of stage)
     old rest ≡ first ++ things_above left (floor_of stage) new rest) → StaysBelow (floor_of stage) old.texts new.texts
     → things_in left stage lines old ≡ first ++ things_in left stage lines new
-passes_in left Done lines old new first settled takes stays = takes []
 passes_in left Seeking lines old new first settled takes stays = absurd (settled refl)
-passes_in left (Waiting begin) lines old new first settled takes stays = takes []
 passes_in left (Changing change) lines old new first settled takes stays = takes (things_below left change lines old)
     ∙ ap (λ (rest : List Thing). first ++ things_above left change.below new rest)
     (below_same left left refl change lines old new stays)
+passes_in left _ lines old new first settled takes stays = takes []
 
 pub stops_in : {R : Type 0} (left : R → List ℕ) (stage : Stage) (lines : List SourceLine) (stack : Stack R)
     (stop : Stop) (count : Count) → IsSettled stage → StopsAbove left (floor_of stage) stack stop count
     → TopStops stop count (things_in left stage lines stack)
-stops_in left Done lines stack stop count settled stops = stops []
 stops_in left Seeking lines stack stop count settled stops = absurd (settled refl)
-stops_in left (Waiting begin) lines stack stop count settled stops = stops []
 stops_in left (Changing change) lines stack stop count settled stops = stops (things_below left change lines stack)
+stops_in left _ lines stack stop count settled stops = stops []
 
 -- a text was opened
 pub opened_in : {R : Type 0} (left : R → List ℕ) (stage : Stage) (lines : List SourceLine) (old new : Stack R)
     (reader : R) (file : ℕ) (at : LineAt) → IsSettled stage → floor_of stage ≤ old.depth → Opens old new reader file at
     → StaysBelow old.depth old.texts new.texts → things_in left stage lines new ≡ raws (at.depth + 1) at.may_match
     (lines_in file (left reader)) ++ things_in left stage lines old
-opened_in left Done lines old new reader file at settled floor opens stays = opens left 0 (omega arith) []
 opened_in left Seeking lines old new reader file at settled floor opens stays = absurd (settled refl)
-opened_in left (Waiting begin) lines old new reader file at settled floor opens stays = opens left 0 (omega arith) []
 opened_in left (Changing change) lines old new reader file at settled floor opens stays =
     opens left change.below floor (things_below left change lines new)
     ∙ ap (λ (rest : List Thing). raws (at.depth + 1) at.may_match (lines_in file (left reader))
     ++ things_above left change.below old rest)
     (sym (below_same left left refl change lines old new (λ l n le. stays l n (omega (arith, le, floor)))))
+opened_in left _ lines old new reader file at settled floor opens stays = opens left 0 (omega arith) []
 
 -- the same for a run of which nothing has changed that is to come
 pub coming_same : {R : Type 0} (t t' : List ℕ → Option (List ℕ)) (l l' : R → List ℕ) (run run' : Run R) → t' ≡ t

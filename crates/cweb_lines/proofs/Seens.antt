@@ -1,10 +1,6 @@
 -- What is seen of events, one after another.
 use Rattle.cweb_lines.proofs.Common.{◌≡◌, Bool, true, false, ◌||◌, ℕ, List, [], ◌∷◌, ◌++◌, map, None, Some, Option, refl, ap, is_some, Line, SourceLine, Seen, followed_by, seen, Event, fault, given, opening, took, Code, SourceFault}
 
-pub or-false : (a b : Bool) → (a || b) ≡ false → (a ≡ false) × (b ≡ false)
-or-false true b is = absurd (cc)
-or-false false b is = (refl, is)
-
 pub no_code : (code : Option Code) → is_some code ≡ false → code ≡ None
 no_code None is = refl
 no_code (Some code) is = absurd (cc)

@@ -1,11 +1,11 @@
 -- Changes that match, in order, splice.
-use Rattle.cweb_lines.proofs.Common.{◌≡◌, ◌+◌, ℕ, true, false, List, [], ◌∷◌, ◌++◌, map, None, Some, sym, ◌∙◌, ap, subst, arith, length, AllByRecursion, list_any, bytes_eq, SourceLine, lines_in, text_lines, World, is_include, Sought, code_of, ChangesSplice, IsPlainSplice, Splice, is_code, spliced, web_lines, followed_by, only_lines, placed, seen, fault, raws, seek, took, merge, merge_next}
+use Rattle.cweb_lines.proofs.Common.{◌≡◌, ◌+◌, ℕ, true, false, List, [], ◌∷◌, ◌++◌, map, None, Some, sym, ◌∙◌, ap, subst, arith, length, AllByRecursion, list_any, bytes_eq, SourceLine, lines_in, text_lines, World, is_include, Sought, code_of, ChangesSplice, IsPlainSplice, Splice, is_code, spliced, web_lines, followed_by, only_lines, placed, seen, fault, raws, seek, took, merge, merge_next, or_parts}
 use Rattle.cweb_lines.specs.Laws.{change_lines}
 use Rattle.cweb_lines.proofs.Merges.{state}
 use Rattle.cweb_lines.proofs.Entries.{bytes_in, finds_none, gives_alone}
 use Rattle.cweb_lines.proofs.Lies.{Lie, bytes_of, first_of, lie_in, parts}
 use Rattle.cweb_lines.proofs.Splices.{Edit, IsPlain, splices_one}
-use Rattle.cweb_lines.proofs.Seens.{no_code, or-false, took_unseen}
+use Rattle.cweb_lines.proofs.Seens.{no_code, took_unseen}
 
 -- the lines of a web up to the last that a change replaces, and what stands behind them
 record WebParts (number : ℕ) (s : Splice) (later : List (List ℕ)) (lines : List SourceLine) : Type 0 where
@@ -140,7 +140,7 @@ plain_edit : (web change : ℕ) (s : Splice) (later later' : List (List ℕ)) (l
     (w : WebParts web s later lines) (c : ChangeParts change s later' changes)
     → IsPlainSplice s → IsPlain (edit_of web change s later later' lines changes w c)
 plain_edit web change s later later' lines changes w c is =
-    let old = or-false (is_code s.first) (list_any is_code s.further) is.old in
+    let old = or_parts (is_code s.first) (list_any is_code s.further) is.old in
     let stays_is = bytes_of 0 web s.stays w.stays w.stays_lie in
     let new_is = bytes_of 1 (change + length s.comment + length s.further + 3) s.new c.new c.new_lies in
     record {

@@ -83,13 +83,11 @@ line_stops NoMemory stop text file number count is long = subst
 
 pub line_reads : (fault : LineFault) (stop : Stop) (file : FileId) → stop ≡ stop_for fault file → StopsReading stop
 line_reads Read stop file is = subst StopsReading (sym is) tt
-line_reads TooLong stop file is = subst StopsReading (sym is) tt
-line_reads NoMemory stop file is = subst StopsReading (sym is) tt
+line_reads _ stop file is = subst StopsReading (sym is) tt
 
 pub line_names : (fault : LineFault) (stop : Stop) (file : FileId) → stop ≡ stop_for fault file → NamesFile file stop
-line_names Read stop file is = subst (NamesFile file) (sym is) refl
-line_names TooLong stop file is = subst (NamesFile file) (sym is) refl
 line_names NoMemory stop file is = subst (NamesFile file) (sym is) tt
+line_names _ stop file is = subst (NamesFile file) (sym is) refl
 
 pub first_passes : (stop : Stop) (taken : Taken) (old new bytes : List ℕ) (file number : ℕ) (count : Count)
     → taken ≢ Ended → Takes old taken bytes new → length bytes ≤ LINE_LENGTH

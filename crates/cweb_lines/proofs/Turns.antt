@@ -1,6 +1,5 @@
 -- What a turn gives: a search, a line that was taken, a change that begins.
-use Rattle.cweb_lines.proofs.Common.{◌≡◌, ◌&&◌, ℕ, Bool, true, false, List, [], ◌∷◌, ◌++◌, Some, None, Option, refl, sym, ◌∙◌, ap, length, map, if◌then◌else◌, subst, append_assoc, nat_lt, Ok, bytes_eq, Place, Entry, at_place, old_lines, sought, text_of_name, world_in, World, Line, SourceLine, Event, RawLine, Thing, after_old, at_entry, change_events, fault, fault_if, raw, seek, taking, took, SoFar, change_lines, coming, coming_after, pending_of, things_of, told_by, names_of, IsChanged, faults_replaced, lines_replaced, list_if, taken_away, Searched, IsOutside, begun_by, change_in, pending_in, things_in, IsSettled, floor_of, lines_at, raw_at, things_above, Counted, StaysBelow, TakesAbove, merge, merge_next, SourceFault, EndedBeforeY, WebEnded, Unequal, Run, Stack, Stage, Done, Seeking, Waiting, Changing, LineAt, count_of, OnlyTakes}
-use Rattle.cweb_lines.proofs.Adds.{map-append}
+use Rattle.cweb_lines.proofs.Common.{◌≡◌, ◌&&◌, ℕ, Bool, true, false, List, [], ◌∷◌, ◌++◌, Some, None, Option, refl, sym, ◌∙◌, ap, length, map, if◌then◌else◌, subst, append_assoc, nat_lt, Ok, bytes_eq, Place, Entry, at_place, old_lines, sought, text_of_name, world_in, World, Line, SourceLine, Event, RawLine, Thing, after_old, at_entry, change_events, fault, fault_if, raw, seek, taking, took, SoFar, change_lines, coming, coming_after, pending_of, things_of, told_by, names_of, IsChanged, faults_replaced, lines_replaced, list_if, taken_away, Searched, IsOutside, begun_by, change_in, pending_in, things_in, IsSettled, floor_of, lines_at, raw_at, things_above, Counted, StaysBelow, TakesAbove, merge, merge_next, SourceFault, EndedBeforeY, WebEnded, Unequal, Run, Stack, Stage, Done, Seeking, Waiting, Changing, LineAt, count_of, OnlyTakes, map-append}
 use Rattle.cweb_lines.proofs.Merges.{state}
 use Rattle.cweb_lines.proofs.Runs.{coming_of, takes_in}
 
@@ -23,10 +22,9 @@ sought_first t l run stage =
 -- outside a change the texts alone are to come
 outside_things : {R : Type 0} (l : R → List ℕ) (stage : Stage) (lines : List SourceLine) (stack : Stack R) →
     IsOutside stage → things_in l stage lines stack ≡ things_above l 0 stack []
-outside_things l Done lines stack outside = refl
 outside_things l Seeking lines stack outside = absurd outside
-outside_things l (Waiting begin) lines stack outside = refl
 outside_things l (Changing change) lines stack outside = absurd outside
+outside_things l _ lines stack outside = refl
 
 -- the search has ended
 pub searched_later : {R : Type 0} (t t' : List ℕ → Option (List ℕ)) (l l' : R → List ℕ) (run run' : Run R)
@@ -117,10 +115,8 @@ begin_step world entry source bytes at is test things lines files =
 -- an entry waits where its first old line was found
 waits : (stage : Stage) (first : List ℕ) (entry : Entry) → pending_in stage first ≡ Some entry →
     (begin : Place) × (stage ≡ Waiting begin)
-waits Done first entry is = absurd (cc)
-waits Seeking first entry is = absurd (cc)
 waits (Waiting begin) first entry is = (begin, refl)
-waits (Changing change) first entry is = absurd (cc)
+waits _ first entry is = absurd (cc)
 
 -- all that comes from the line on that begins a change, by the run that took it
 pub begins_here : {R : Type 0} (t : List ℕ → Option (List ℕ)) (l : R → List ℕ) (run : Run R) (at : LineAt)

@@ -8,7 +8,7 @@ pub use Rattle.std.proofs.lemmas.Grind.{flat_map-append, common_steps}
 pub use Rattle.std.proofs.lemmas.List.{take-append-drop, take_all}
 pub use Rattle.std.proofs.lemmas.List.Folds.{flat_map-map, list_any_at}
 pub use Rattle.std.proofs.lemmas.List.Sums.{suffix_len_is}
-pub use Rattle.std.proofs.lemmas.Option.{get_or_from_slice_get, slice_get-map}
+pub use Rattle.std.proofs.lemmas.Option.{get_or_from_slice_get, slice_get-map, same_Some}
 pub use Rattle.std.proofs.lemmas.Str.Pattern.{rfind_char}
 pub use Rattle.std.specs.List.{flat_map, after_last, before_last, list_any, suffix_len}
 pub use Rattle.std.specs.Option.{option_copied}

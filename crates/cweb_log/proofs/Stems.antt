@@ -1,5 +1,5 @@
 -- Where the last byte of a kind stands in a path, and which words name files.
-use Rattle.cweb_log.proofs.Common.{◌≡◌, ◌≢◌, ◌<◌, ◌+◌, ◌-◌, ℕ, suc, true, false, not, List, [], ◌∷◌, length, take, drop, get_or, None, Some, refl, sym, ◌∙◌, ap, eq-eqb, arith, ne_eqb, list_any_at, suffix_len_is, after_last, before_last, list_any, suffix_len, slice_get, ◌==◌, if◌then◌else◌, named_by, names_by, stem, is_dot, is_slash}
+use Rattle.cweb_log.proofs.Common.{◌≡◌, ◌≢◌, ◌<◌, ◌+◌, ◌-◌, ℕ, suc, true, false, not, List, [], ◌∷◌, length, take, drop, get_or, None, Some, refl, sym, ◌∙◌, ap, eq-eqb, arith, ne_eqb, list_any_at, suffix_len_is, after_last, before_last, list_any, suffix_len, slice_get, ◌==◌, if◌then◌else◌, named_by, names_by, stem, is_dot, is_slash, same_Some}
 
 -- so many bytes stand behind the last one of a kind
 behind : (c : ℕ) (bs : List ℕ) (k : ℕ) → k < length bs → get_or bs k 0 ≡ c
@@ -46,13 +46,10 @@ pub stem_whole : (word part : List ℕ) → part ≡ after_last is_slash word
 stem_whole word part is none = sym (ap (λ p. if list_any is_dot p then before_last is_dot p else p) (sym is)
     ∙ ap (λ has. if has then before_last is_dot part else part) (has_none 46 part none))
 
-some_is : (a b : List ℕ) → Some a ≡ Some b → a ≡ b
-some_is a b is = grind (arith, is)
-
 pub names_at : (words : List (List ℕ)) (web : List ℕ) → slice_get words 0 ≡ Some web → slice_get words 3 ≡ None
     → names_by words ≡ named_by web (slice_get words 1) (slice_get words 2)
 names_at [] web is few = absurd (grind (arith, is))
-names_at (first ∷ []) web is few = ap (λ w. named_by w None None) (some_is first web is)
-names_at (first ∷ change ∷ []) web is few = ap (λ w. named_by w (Some change) None) (some_is first web is)
-names_at (first ∷ change ∷ out ∷ []) web is few = ap (λ w. named_by w (Some change) (Some out)) (some_is first web is)
+names_at (first ∷ []) web is few = ap (λ w. named_by w None None) (same_Some first web is)
+names_at (first ∷ change ∷ []) web is few = ap (λ w. named_by w (Some change) None) (same_Some first web is)
+names_at (first ∷ change ∷ out ∷ []) web is few = ap (λ w. named_by w (Some change) (Some out)) (same_Some first web is)
 names_at (first ∷ change ∷ out ∷ more ∷ rest) web is few = absurd (grind (arith, few))

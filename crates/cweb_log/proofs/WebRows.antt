@@ -12,18 +12,6 @@ faults = met DoubleAtInLimbo 1 ∷ met
     6 ∷ met CommentDidNotEnd 7 ∷ met StringDidNotEnd 8 ∷ met DoubleAtInString 9 ∷ met ControlTextDidNotEnd 10 ∷ met
     FaultyConstant 11 ∷ met IgnoredInCText 12 ∷ met MissingAt 13 ∷ met DefsInMacro 14 ∷ met DefinitionDropped 15 ∷ []
 
-scan_lines : flat_map line (scan_items (codes "u.w" ∷ []) faults)
-    ≡ codes "u.w:1: ! Double @ in limbo\nu.w:2: ! Improper hex number after @l\n"
-    ++ codes "u.w:3: ! Replacement after @l too long\nu.w:4: ! Use @l in limbo only\n"
-    ++ codes "u.w:5: ! Section name did not end\nu.w:6: ! Section names do not nest\n"
-    ++ codes "u.w:7: ! Comment did not end\nu.w:8: ! String did not end\nu.w:9: ! Double @ in strings\n"
-    ++ codes "u.w:10: ! Control text did not end\nu.w:11: ! Faulty ASCII constant\n"
-    ++ codes "u.w:12: ! @d, @f, @s, @c and @p are ignored in C text\n"
-    ++ codes "u.w:13: ! Missing @ before a named section\nu.w:14: ! @h is ignored in a macro\n"
-    ++ codes "u.w:15: ! Definition dropped, no identifier\n"
-unfolding digits
-scan_lines = refl
-
 abbrev full : List ℕ → Occurrence
 full text = record { text = text; how = Full; is_file = false }
 
@@ -43,10 +31,6 @@ faulty =
       replacements = [];
     }
 
-name_lines : flat_map line (name_items faulty) ≡ codes "! Ambiguous prefix: <a...>\n! Never given in full: <z...>\n"
-    ++ codes "! Name is a prefix of another: <ab>\n! Not present: <q.h>\n"
-name_lines = refl
-
 abbrev use_of : ℕ → NameRef
 use_of n = record { 0 = n }
 
@@ -61,10 +45,6 @@ endless = record {
   replacements = [];
 }
 
-cycle_told : refusal_text endless (codes "c.c") (cycle (cycle_from endless (first_endless endless (program endless))))
-    ≡ codes "Cycle: <A> <B> <A>"
-cycle_told = refl
-
 -- a file's name that is the main file's, and outputs whose names no file can have
 abbrev one_file : Stored
 one_file =
@@ -74,11 +54,24 @@ one_file =
       replacements = [];
     }
 
-same_name_told : refusal_text one_file (codes "h.c") (same_name (id 0)) ≡ codes "Two outputs with one name: <h.c>"
-same_name_told = refl
+record Computed : Type 0 where
+  scan_lines : flat_map line (scan_items (codes "u.w" ∷ []) faults)
+      ≡ codes "u.w:1: ! Double @ in limbo\nu.w:2: ! Improper hex number after @l\n"
+      ++ codes "u.w:3: ! Replacement after @l too long\nu.w:4: ! Use @l in limbo only\n"
+      ++ codes "u.w:5: ! Section name did not end\nu.w:6: ! Section names do not nest\n"
+      ++ codes "u.w:7: ! Comment did not end\nu.w:8: ! String did not end\nu.w:9: ! Double @ in strings\n"
+      ++ codes "u.w:10: ! Control text did not end\nu.w:11: ! Faulty ASCII constant\n"
+      ++ codes "u.w:12: ! @d, @f, @s, @c and @p are ignored in C text\n"
+      ++ codes "u.w:13: ! Missing @ before a named section\nu.w:14: ! @h is ignored in a macro\n"
+      ++ codes "u.w:15: ! Definition dropped, no identifier\n"
+  name_lines : flat_map line (name_items faulty) ≡ codes "! Ambiguous prefix: <a...>\n! Never given in full: <z...>\n"
+      ++ codes "! Name is a prefix of another: <ab>\n! Not present: <q.h>\n"
+  cycle_told : refusal_text endless (codes "c.c") (cycle (cycle_from endless (first_endless endless (program endless))))
+      ≡ codes "Cycle: <A> <B> <A>"
+  same_name_told : refusal_text one_file (codes "h.c") (same_name (id 0)) ≡ codes "Two outputs with one name: <h.c>"
+  bad_name_told : refusal_text one_file (codes "c.c") (bad_name (Some (id 0))) ≡ codes "Bad output name: <h.c>"
+  bad_main_told : refusal_text one_file (codes "..") (bad_name None) ≡ codes "Bad output name: <..>"
 
-bad_name_told : refusal_text one_file (codes "c.c") (bad_name (Some (id 0))) ≡ codes "Bad output name: <h.c>"
-bad_name_told = refl
-
-bad_main_told : refusal_text one_file (codes "..") (bad_name None) ≡ codes "Bad output name: <..>"
-bad_main_told = refl
+computed : Computed
+unfolding digits
+computed = search refl

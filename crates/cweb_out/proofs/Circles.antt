@@ -1,6 +1,6 @@
 -- Names that use one another in a circle have no rank.
-use Rattle.cweb_out.proofs.Common.{◌≡◌, ℕ, zero, suc, Bool, true, false, not, cond, ◌&&◌, ◌||◌, List, [], ◌∷◌, ◌++◌, refl, sym, ◌∙◌, ap, inl, inr, subst, Option, Some, ◌⊎◌, option_to_list, find, list_all, list_any, NameId, is_id, Token, Stored, joined, uses, ends_below, has_rank, first_endless, suffix, Frame, Waiting, Chain, Looked, next_of, path_of}
-use Rattle.cweb_out.proofs.Ranks.{and-first, and-second, id-same, or-left, or-right}
+use Rattle.cweb_out.proofs.Common.{◌≡◌, ℕ, zero, suc, Bool, true, false, not, cond, ◌&&◌, ◌||◌, List, [], ◌∷◌, ◌++◌, refl, sym, ◌∙◌, ap, inl, inr, subst, Option, Some, ◌⊎◌, option_to_list, find, list_all, list_any, NameId, is_id, Token, Stored, joined, uses, ends_below, has_rank, first_endless, suffix, Frame, Waiting, Chain, Looked, next_of, path_of, or_cases, first_so, second_so, or_left, or_right}
+use Rattle.cweb_out.proofs.Ranks.{id-same}
 use Rattle.cweb_out.proofs.Paths.{is-same}
 
 -- each name of a path uses one of the path, where the last one uses the first again
@@ -13,7 +13,7 @@ pub next-on : (path : List Waiting) (again : NameId) (n : NameId)
 next-on [] again n h = let e : again ≡ n = cc in inl (sym e)
 next-on (f ∷ path) again n h =
     let e : f.name ≡ n = cc in
-    inr (or-left (is_id n f.name) (list_any (is_id n) (path_of path)) (ap (is_id n) e ∙ id-same n))
+    inr (or_left (is_id n f.name) (list_any (is_id n) (path_of path)) (ap (is_id n) e ∙ id-same n))
 
 pub next-some : (path : List Waiting) (again : NameId) → (n : NameId) × (next_of path (Some again) ≡ Some n)
 next-some [] again = (again, refl)
@@ -38,15 +38,11 @@ chain-uses : (w : Stored) (whole : List NameId) (path : List Waiting) (again n :
 chain-uses w whole [] again n c a sub h = cc
 chain-uses w whole (f ∷ path) again n c a sub h =
     let later : (m : NameId) → list_any (is_id m) (path_of path) ≡ true → list_any (is_id m) whole ≡ true = λ m k.
-    sub m (or-right (is_id m f.name) (list_any (is_id m) (path_of path)) k) in
-    elim (split-two (is_id n f.name) (list_any (is_id n) (path_of path)) h) [
+    sub m (or_right (is_id m f.name) (list_any (is_id m) (path_of path)) k) in
+    elim (or_cases (is_id n f.name) (list_any (is_id n) (path_of path)) h) [
       | inl e ↦ subst (UsesOne w whole) (sym (is-same n f.name e)) (looked-next w whole path f again c.0 a later)
       | inr e ↦ chain-uses w whole path again n c.1 a later e
     ]
-  where
-    split-two : (a b : Bool) → (a || b) ≡ true → (a ≡ true) ⊎ (b ≡ true)
-    split-two true b h = inl refl
-    split-two false b h = inr h
 
 -- a use without a rank below k
 all-fails : (p : NameId → Bool) (before rest : List NameId) (m : NameId)
@@ -74,7 +70,7 @@ find-first : (p : NameId → Bool) (before rest : List NameId) (n : NameId) → 
 find-first p [] rest n a h = ap (λ b. cond (not b) (Some n) (find (λ m. not (p m)) rest)) h
 find-first p (x ∷ before) rest n a h =
     ap (λ b. cond (not b) (Some x) (find (λ m. not (p m)) (before ++ (n ∷ rest))))
-    (and-first (p x) (list_all p before) a) ∙ find-first p before rest n (and-second (p x) (list_all p before) a) h
+    (first_so (p x) (list_all p before) a) ∙ find-first p before rest n (second_so (p x) (list_all p before) a) h
 
 pub looked-endless : (w : Stored) (list : List Token) (frame : Frame) (n : NameId) → Looked w list frame (Some n)
     → has_rank w n ≡ false → (first_endless w list ≡ Some n) × (list_all (has_rank w) (uses w list) ≡ false)

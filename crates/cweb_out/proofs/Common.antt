@@ -6,14 +6,17 @@ pub use Rattle.std.proofs.Common.{◌==◌, codes, decimal, slice_range, nat_eq,
 pub use Rattle.std.proofs.Common.{length-drop, vec_capacity}
 pub use Rattle.std.proofs.Math.ListN.{set}
 pub use Rattle.std.proofs.Math.Seq.{take-add, drop-cons, take-length}
+pub use Rattle.std.proofs.lemmas.Bool.{or_cases, not-true, or_from, false_from_ne_true, and_from, or_left, or_right}
 pub use Rattle.std.proofs.lemmas.Bool.Decides.{eqb_tells}
 pub use Rattle.std.proofs.lemmas.Fn.{filter_same}
 pub use Rattle.std.proofs.lemmas.Grind.{flat_map-append, common_steps}
+pub use Rattle.std.proofs.lemmas.List.{take_all}
 pub use Rattle.std.proofs.lemmas.List.{map-append, length-map, take_more, length-set, get_or-set_same, set-set}
 pub use Rattle.std.proofs.lemmas.List.{take-set, drop-drop, get_or-map, take_more_set, get_or-set_other, get_or_past}
 pub use Rattle.std.proofs.lemmas.List.Folds.{list_any-append, find-append, list_all-append}
 pub use Rattle.std.proofs.lemmas.List.Sums.{sum_by-append, sum_by-cons, sum_by-set, suffix_len_is}
 pub use Rattle.std.proofs.lemmas.Str.{IsUtf8-from_is_utf8, is_utf8-from_IsUtf8}
+pub use Rattle.std.specs.Cmp.{second_so, first_so}
 pub use Rattle.std.specs.List.{list_all, list_any, position_or_len, after_last, suffix_len}
 pub use Rattle.std.specs.Option.{option_or}
 pub use Rattle.std.specs.Prelude.{◌⊎◌, option_to_list, find, filter, bytes_eq, All, Result, Ok, Err, IfSome}

@@ -1,5 +1,5 @@
 -- The cycle that is reported is one: the walk goes on until a name comes twice, and each name uses the next one.
-use Rattle.cweb_out.proofs.Common.{◌≡◌, ◌<◌, ◌+◌, ℕ, zero, suc, Bool, true, false, not, cond, List, [], ◌∷◌, ◌++◌, refl, sym, ◌∙◌, ap, arith, length, length-append, inl, inr, drop, map, subst, Option, Some, None, All, Result, Ok, Err, find, filter, bytes_eq, list_any, position_or_len, NameId, is_id, has_part, has_defs_code, Stored, names, joined, program, uses, first_endless, has_rank, list_ends, cycle_from, walk, IsRoot, Planned, Refusal, bad_name, same_name, cycle, defs_first, file_outputs, has_no_text, is_good_name, name_at, output_name, output_of, outputs, planned, planned_apart, planned_ending, root_list, start_of, AreNew, EachUsesNext, IsCycle}
+use Rattle.cweb_out.proofs.Common.{◌≡◌, ◌<◌, ◌+◌, ℕ, zero, suc, Bool, true, false, not, cond, List, [], ◌∷◌, ◌++◌, refl, sym, ◌∙◌, ap, arith, length, length-append, inl, inr, drop, map, subst, Option, Some, None, All, Result, Ok, Err, find, filter, bytes_eq, list_any, position_or_len, NameId, is_id, has_part, has_defs_code, Stored, names, joined, program, uses, first_endless, has_rank, list_ends, cycle_from, walk, IsRoot, Planned, Refusal, bad_name, same_name, cycle, defs_first, file_outputs, has_no_text, is_good_name, name_at, output_name, output_of, outputs, planned, planned_apart, planned_ending, root_list, start_of, AreNew, EachUsesNext, IsCycle, not-true}
 use Rattle.cweb_store.specs.Names as spec
 use Rattle.cweb_store.proofs.BoundLemmas.{files-within}
 use Rattle.cweb_out.proofs.Paths.{is-same, new-push, on-pushed, split-or}
@@ -70,10 +70,6 @@ record Stuck (w : Stored) (o : Option NameId) : Type 0 where
   pub root : IsRoot w o
   pub ends : list_ends w (root_list w o) ≡ false
 
-not-ends : (b : Bool) → not b ≡ true → b ≡ false
-not-ends true h = cc
-not-ends false h = refl
-
 abbrev stuck : Stored → Option NameId → Bool
 stuck w o = not (list_ends w (root_list w o))
 
@@ -87,7 +83,7 @@ stuck-first w p (n ∷ ns) o a h = by (p n) h (λ e. stuck-first w p ns o (λ k 
     here true e h later =
         let is : Some n ≡ o = cc in
         subst (Stuck w) is
-        (record { root = a 0 n (omega arith); ends = not-ends (list_ends w (root_list w (Some n))) e })
+        (record { root = a 0 n (omega arith); ends = not-true (list_ends w (root_list w (Some n))) e })
     here false e h later = later h
 
     by : (b : Bool) → find (stuck w) (map Some (cond b (n ∷ filter p ns) (filter p ns))) ≡ Some o
@@ -103,7 +99,7 @@ stuck-output w o h = by (stuck w None) refl h (stuck-first w
         → (find (stuck w) (map Some (file_outputs w)) ≡ Some o → Stuck w o) → Stuck w o
     by true e h later =
         let is : None ≡ o = cc in
-        subst (Stuck w) is (record { root = tt; ends = not-ends (list_ends w (root_list w None)) e })
+        subst (Stuck w) is (record { root = tt; ends = not-true (list_ends w (root_list w None)) e })
     by false e h later = later h
 
 program-ends : (w : Stored) (b : Bool) → list_ends w (defs_first b ++ program w) ≡ list_ends w (program w)

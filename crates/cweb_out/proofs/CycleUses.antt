@@ -1,19 +1,15 @@
 -- A name without a rank uses one without a rank, and each name of a way uses the next one.
-use Rattle.cweb_out.proofs.Common.{◌≡◌, ◌<◌, ◌+◌, ℕ, zero, suc, Bool, true, false, not, cond, ◌&&◌, ◌||◌, List, [], ◌∷◌, ◌++◌, refl, sym, ◌∙◌, ap, arith, inl, inr, drop, subst, Option, Some, None, ◌⊎◌, find, IfSome, option_to_list, list_all, list_any, position_or_len, list_any-append, NameId, is_id, Token, Name, Stored, names, joined, stands, use_of, uses, has_rank, list_ends, EachUsesNext}
+use Rattle.cweb_out.proofs.Common.{◌≡◌, ◌<◌, ◌+◌, ℕ, zero, suc, Bool, true, false, not, cond, ◌&&◌, ◌||◌, List, [], ◌∷◌, ◌++◌, refl, sym, ◌∙◌, ap, arith, inl, inr, drop, subst, Option, Some, None, ◌⊎◌, find, IfSome, option_to_list, list_all, list_any, position_or_len, list_any-append, NameId, is_id, Token, Name, Stored, names, joined, stands, use_of, uses, has_rank, list_ends, EachUsesNext, or_cases, false_from_ne_true, or_left, or_right}
 use Rattle.cweb_store.proofs.BoundLemmas.{standing-within}
-use Rattle.cweb_out.proofs.Paths.{is-same, not-true}
-use Rattle.cweb_out.proofs.Ranks.{id-same, or-left, or-right, rank-grows, rank_by_uses}
+use Rattle.cweb_out.proofs.Paths.{is-same}
+use Rattle.cweb_out.proofs.Ranks.{id-same, rank-grows, rank_by_uses}
 
 -- USES
-
-either-true : (a b : Bool) → (a || b) ≡ true → (a ≡ true) ⊎ (b ≡ true)
-either-true true b h = inl refl
-either-true false b h = inr h
 
 option-on : (count : ℕ) (o : Option NameId) (m : NameId) → IfSome o (λ (k : NameId). k.0 < count)
     → list_any (is_id m) (option_to_list o) ≡ true → m.0 < count
 option-on count None m b h = cc
-option-on count (Some k) m b h = elim (either-true (is_id m k) false h)
+option-on count (Some k) m b h = elim (or_cases (is_id m k) false h)
     [ inl e ↦ subst (λ (i : NameId). i.0 < count) (sym (is-same m k e)) b | inr e ↦ cc ]
 
 use-on : (w : Stored) (t : Token) (m : NameId) → list_any (is_id m) (use_of w t) ≡ true → m.0 < names w
@@ -23,7 +19,7 @@ use-on w t m h = cc
 -- a name that is used is one of the names
 pub uses-on : (w : Stored) (ts : List Token) (m : NameId) → list_any (is_id m) (uses w ts) ≡ true → m.0 < names w
 uses-on w [] m h = cc
-uses-on w (t ∷ ts) m h = elim (either-true (list_any (is_id m) (use_of w t)) (list_any (is_id m) (uses w ts))
+uses-on w (t ∷ ts) m h = elim (or_cases (list_any (is_id m) (use_of w t)) (list_any (is_id m) (uses w ts))
     (sym (list_any-append (is_id m) (use_of w t) (uses w ts)) ∙ h)) [
       | inl e ↦ use-on w t m e
       | inr e ↦ uses-on w ts m e
@@ -48,13 +44,13 @@ failing p (n ∷ ns) h = by (p n) refl h (λ e. failing p ns e)
           name = f.name;
           first = ap (λ b. cond (not b) (Some n) (find (λ m. not (p m)) ns)) e ∙ f.first;
           rankless = f.rankless;
-          used = or-right (is_id f.name n) (list_any (is_id f.name) ns) f.used;
+          used = or_right (is_id f.name n) (list_any (is_id f.name) ns) f.used;
         }
     by false e h later = record {
       name = n;
       first = ap (λ b. cond (not b) (Some n) (find (λ m. not (p m)) ns)) e;
       rankless = e;
-      used = or-left (is_id n n) (list_any (is_id n) ns) (id-same n);
+      used = or_left (is_id n n) (list_any (is_id n) ns) (id-same n);
     }
 
 -- a name without a rank that a list uses
@@ -65,11 +61,11 @@ different : (a b : Bool) → a ≡ true → b ≡ false → a ≡ b → ⊥
 different a b t f e = let bad : true ≡ false = sym t ∙ e ∙ f in cc
 
 pub text-endless : (w : Stored) (n : NameId) → n.0 < names w → has_rank w n ≡ false → Endless w (joined w n)
-text-endless w n l h = failing (has_rank w) (uses w (joined w n))
-    (not-true (list_ends w (joined w n)) (λ e. different (has_rank w n) (has_rank w n) (rank_by_uses w n l e) h refl))
+text-endless w n l h = failing (has_rank w) (uses w (joined w n)) (false_from_ne_true (list_ends w (joined w n))
+    (λ e. different (has_rank w n) (has_rank w n) (rank_by_uses w n l e) h refl))
 
 pub name-endless : (w : Stored) (n : NameId) → list_ends w (joined w n) ≡ false → has_rank w n ≡ false
-name-endless w n h = not-true (has_rank w n)
+name-endless w n h = false_from_ne_true (has_rank w n)
     (λ e. different (list_ends w (joined w n)) (list_ends w (joined w n)) (rank-grows w (names w) n e) h refl)
 
 -- EACH USES THE NEXT

@@ -1,10 +1,11 @@
 -- The outputs are one more than the names at most.
-use Rattle.cweb_out.proofs.Common.{◌≡◌, ◌≤◌, ◌<◌, ◌+◌, ℕ, suc, Bool, true, false, cond, ◌||◌, List, [], ◌∷◌, ◌++◌, refl, sym, arith, length, Option, Some, None, inl, inr, subst, ◌⊎◌, filter, All, if◌then◌else◌, list_any, length-map, NameId, Occurrence, Standing, is_id, with_id, with_some, with_file, files_from, Stored, names, file_outputs, outputs, AreNew}
+use Rattle.cweb_out.proofs.Common.{◌≡◌, ◌≤◌, ◌<◌, ◌+◌, ℕ, suc, Bool, true, false, cond, ◌||◌, List, [], ◌∷◌, ◌++◌, refl, sym, arith, length, Option, Some, None, inl, inr, subst, ◌⊎◌, filter, All, if◌then◌else◌, list_any, length-map, NameId, Occurrence, Standing, is_id, with_id, with_some, with_file, files_from, Stored, names, file_outputs, outputs, AreNew, or_cases}
 use Rattle.cweb_store.specs.Names as spec
 use Rattle.cweb_store.specs.Names.{stands}
 use Rattle.cweb_store.proofs.BoundLemmas.{files-within}
 use Rattle.cweb_out.proofs.Paths.{new-push, is-same}
 use Rattle.cweb_out.proofs.Ranks.{few}
+use Rattle.cweb_store.proofs.TextLemmas.{filter-few}
 
 with_id-new : (ns : List NameId) (n : NameId) → AreNew [] ns → AreNew [] (with_id ns n)
 with_id-new ns n a = by (list_any (is_id n) ns) refl
@@ -28,25 +29,14 @@ files_from-new rs ns i [] a = a
 files_from-new rs ns i (o ∷ os) a =
     files_from-new rs (with_file rs ns i o) (i + 1) os (with_file-new rs ns i o.is_file a)
 
-either-true : (a b : Bool) → (a || b) ≡ true → (a ≡ true) ⊎ (b ≡ true)
-either-true true b h = inl refl
-either-true false b h = inr h
-
 -- an element of a list where each passes
 at-any : (count : ℕ) (ns : List NameId) (n : NameId)
     → All (λ (m : NameId). m.0 < count) ns → list_any (is_id n) ns ≡ true → n.0 < count
 at-any count [] n a h = cc
-at-any count (m ∷ ns) n a h = elim (either-true (is_id n m) (list_any (is_id n) ns) h) [
+at-any count (m ∷ ns) n a h = elim (or_cases (is_id n m) (list_any (is_id n) ns) h) [
   | inl e ↦ subst (λ (k : NameId). k.0 < count) (sym (is-same n m e)) (a 0 m (omega arith))
   | inr e ↦ at-any count ns n (λ k d l. a (suc k) d (omega (arith, l))) e
 ]
-
-filter-few : (p : NameId → Bool) (ns : List NameId) → length (filter p ns) ≤ length ns
-filter-few p [] = omega arith
-filter-few p (n ∷ ns) =
-    let h = filter-few p ns in
-    elim (p n) as (λ b. length (cond b (n ∷ filter p ns) (filter p ns)) ≤ suc (length ns))
-    [ true ↦ omega (arith, h) | false ↦ omega (arith, h) ]
 
 pub outputs-few : (w : Stored) → length (outputs w) ≤ names w + 1
 outputs-few w =

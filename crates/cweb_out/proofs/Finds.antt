@@ -1,12 +1,6 @@
 -- The first element that passes a test, looked for from the front.
 use Rattle.cweb_out.proofs.Common.{◌≡◌, ◌≤◌, ◌<◌, ◌+◌, ℕ, zero, suc, Bool, true, false, cond, List, [], ◌∷◌, ◌++◌, refl, sym, ◌∙◌, ap, arith, length, take, get_or, Option, Some, None, find, option_or, take_more, find-append}
 
-pub take-whole : {X : Type 0} (n : ℕ) (xs : List X) → length xs ≤ n → take n xs ≡ xs
-take-whole zero [] h = refl
-take-whole (suc n) [] h = refl
-take-whole zero (x ∷ xs) h = absurd (omega (arith, h))
-take-whole (suc n) (x ∷ xs) h = ap (λ ys. x ∷ ys) (take-whole n xs (omega (arith, h)))
-
 or-none : {X : Type 0} (o later : Option X) → o ≡ None → later ≡ None → option_or o later ≡ None
 or-none None later a b = b
 or-none (Some y) later a b = cc

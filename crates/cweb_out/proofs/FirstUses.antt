@@ -1,13 +1,10 @@
 -- What comes before the first use in a list, and in a frame's.
-use Rattle.cweb_out.proofs.Common.{◌≡◌, ◌<◌, ◌||◌, Bool, true, false, List, [], ◌∷◌, ◌++◌, length, refl, sym, ◌∙◌, ap, arith, append_assoc, append-nil, length-append, list_any, list_any-append, flat_map-append, Part, Token, all_tokens, Stored, is_name, PassesNoUse, uses, use_of, defs_first, suffix, run_tokens, runs_tokens, Frame}
+use Rattle.cweb_out.proofs.Common.{◌≡◌, ◌<◌, ◌||◌, Bool, true, false, List, [], ◌∷◌, ◌++◌, length, refl, sym, ◌∙◌, ap, arith, append_assoc, append-nil, length-append, list_any, list_any-append, flat_map-append, Part, Token, all_tokens, Stored, is_name, PassesNoUse, uses, use_of, defs_first, suffix, run_tokens, runs_tokens, Frame, or_from}
 use Rattle.cweb_store.specs.Parts as spec
-
-both-none : (a b : Bool) → a ≡ false → b ≡ false → (a || b) ≡ false
-both-none a b x y = ap (λ c. c || b) x ∙ y
 
 none-append : (ts us : List Token) → list_any is_name ts ≡ false
     → list_any is_name us ≡ false → list_any is_name (ts ++ us) ≡ false
-none-append ts us a b = list_any-append is_name ts us ∙ both-none (list_any is_name ts) (list_any is_name us) a b
+none-append ts us a b = list_any-append is_name ts us ∙ or_from (list_any is_name ts) (list_any is_name us) a b
 
 pub pass-on : (a b c : List Token) → PassesNoUse a b → PassesNoUse b c → PassesNoUse a c
 pass-on a b c x y = record {
@@ -19,18 +16,7 @@ pass-on a b c x y = record {
 -- what a list uses does not change where no use is passed over
 not-used : (w : Stored) (t : Token) → is_name t ≡ false → use_of w t ≡ []
 not-used w (spec.Name name) h = cc
-not-used w (spec.Word bytes) h = refl
-not-used w (spec.Number bytes) h = refl
-not-used w (spec.Literal bytes) h = refl
-not-used w (spec.Verbatim bytes) h = refl
-not-used w (spec.Punct bytes) h = refl
-not-used w spec.Blank h = refl
-not-used w spec.Newline h = refl
-not-used w spec.Join h = refl
-not-used w spec.Defs h = refl
-not-used w (spec.Head section) h = refl
-not-used w (spec.Tail section) h = refl
-not-used w (spec.Mark place) h = refl
+not-used w _ h = refl
 
 pub none-used : (w : Stored) (ts : List Token) → list_any is_name ts ≡ false → uses w ts ≡ []
 none-used w [] h = refl
@@ -47,15 +33,6 @@ same-uses w old new x =
 
 pub use-shorter : (old new : List Token) (t : Token) → PassesNoUse old (t ∷ new) → length new < length old
 use-shorter old new t x = omega (arith, ap length x.same, length-append x.before (t ∷ new))
-
--- the steps of a frame: its Defs is passed over, a part without a use, and a part up to its first use
-pub pass-defs : (w : Stored) (f : Frame)
-    → PassesNoUse (suffix w f) (suffix w (record { owner = f.owner; defs = false; part = f.part; rest = f.rest }))
-pass-defs w f = record { before = defs_first f.defs; none = no-use f.defs; same = refl }
-  where
-    no-use : (b : Bool) → list_any is_name (defs_first b) ≡ false
-    no-use true = refl
-    no-use false = refl
 
 pub pass-part : (w : Stored) (f : Frame) (q : Part) (more : List Part) → f.defs ≡ false
     → list_any is_name (run_tokens w f.part) ≡ false → f.rest ≡ q ∷ more

@@ -1,8 +1,8 @@
 -- What holds of expansion and of print whatever the web is.
-use Rattle.cweb_out.proofs.Common.{◌≡◌, ◌≤◌, ◌+◌, ◌-◌, ◌==◌, ◌&&◌, ℕ, zero, suc, Bool, true, false, cond, List, [], ◌∷◌, ◌++◌, refl, sym, ◌∙◌, ap, arith, append_assoc, append-nil, Option, None, Some, codes, decimal, fold, flat_map, option_to_list, list_all, flat_map-append, NameId, Token, Newline, Defs, Name, Stored, joined, stands, uses, use_of, ends_below, expand, name_text, put, text_for, last_is, sep, Setting, begin_line, file, file_text, kept, last_of, left_after, macro_line, macro_lines, mark_line, file_name, macro_text, is_layout, print, print_after, printed, quoted, starts_line, stays_joined, Class, class_of, separator, ReplacesUses, is_text, is_joined, print_behind, is_whole_lines}
+use Rattle.cweb_out.proofs.Common.{◌≡◌, ◌≤◌, ◌+◌, ◌-◌, ◌==◌, ◌&&◌, ℕ, zero, suc, Bool, true, false, cond, List, [], ◌∷◌, ◌++◌, refl, sym, ◌∙◌, ap, arith, append_assoc, append-nil, Option, None, Some, codes, decimal, fold, flat_map, option_to_list, list_all, flat_map-append, NameId, Token, Newline, Defs, Name, Stored, joined, stands, uses, use_of, ends_below, expand, name_text, put, text_for, last_is, sep, Setting, begin_line, file, file_text, kept, last_of, left_after, macro_line, macro_lines, mark_line, file_name, macro_text, is_layout, print, print_after, printed, quoted, starts_line, stays_joined, Class, class_of, separator, ReplacesUses, is_text, is_joined, print_behind, is_whole_lines, first_so, second_so, and_from}
 use Rattle.cweb_store.specs.Parts.{Mark}
 use Rattle.cweb_print.specs.declared.printer.class.Class.TheVariants as class
-use Rattle.cweb_out.proofs.Ranks.{all-back, all-front, and-first, and-second, and-true, rank-grows, uses-weaker}
+use Rattle.cweb_out.proofs.Ranks.{all-back, all-front, rank-grows, uses-weaker}
 use Rattle.cweb_print.proofs.Steps.{sep_by_class}
 
 -- EXPANSION
@@ -10,8 +10,8 @@ use Rattle.cweb_print.proofs.Steps.{sep_by_class}
 texts-append : (xs ys : List Token) → list_all is_text xs ≡ true
     → list_all is_text ys ≡ true → list_all is_text (xs ++ ys) ≡ true
 texts-append [] ys a b = b
-texts-append (x ∷ xs) ys a b = and-true (is_text x) (list_all is_text (xs ++ ys)) (and-first (is_text x)
-    (list_all is_text xs) a) (texts-append xs ys (and-second (is_text x) (list_all is_text xs) a) b)
+texts-append (x ∷ xs) ys a b = and_from (is_text x) (list_all is_text (xs ++ ys)) (first_so (is_text x)
+    (list_all is_text xs) a) (texts-append xs ys (second_so (is_text x) (list_all is_text xs) a) b)
 
 text_for-text : (f : NameId → List Token) (o : Option NameId)
     → ((n : NameId) → list_all is_text (f n) ≡ true) → list_all is_text (text_for f o) ≡ true
@@ -54,7 +54,7 @@ AreSame p f g = (n : NameId) → p n ≡ true → f n ≡ g n
 text_for-same : (p : NameId → Bool) (f g : NameId → List Token) → AreSame p f g
     → (o : Option NameId) → list_all p (option_to_list o) ≡ true → text_for f o ≡ text_for g o
 text_for-same p f g same None h = refl
-text_for-same p f g same (Some n) h = same n (and-first (p n) true h)
+text_for-same p f g same (Some n) h = same n (first_so (p n) true h)
 
 puts-use : (w : Stored) (p : NameId → Bool) (f g : NameId → List Token) (t : Token)
     → AreSame p f g → list_all p (use_of w t) ≡ true → put w f t ≡ put w g t
@@ -163,13 +163,7 @@ mark-ended name line =
 
 separator-none : (c : Class) → separator c Defs ≡ []
 separator-none class.LineStart = refl
-separator-none class.Word = refl
-separator-none class.Number = refl
-separator-none class.Literal = refl
-separator-none class.Point = refl
-separator-none class.Operator = refl
-separator-none class.Glue = refl
-separator-none class.Other = refl
+separator-none _ = refl
 
 defs-whole : (s : Setting) (bytes : List ℕ) (v : Bool) → (v ≡ true → is_whole_lines bytes ≡ true)
     → is_whole_lines (bytes ++ (cond v [] newline ++ macro_lines s)) ≡ true

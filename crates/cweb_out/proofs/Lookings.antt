@@ -1,7 +1,7 @@
 -- What of a list was looked at: the uses that were passed over, up to the next name without a rank.
-use Rattle.cweb_out.proofs.Common.{◌≡◌, ◌<◌, Bool, true, false, ◌&&◌, List, [], ◌∷◌, ◌++◌, refl, sym, ◌∙◌, ap, append-nil, append_assoc, Some, None, list_all, NameId, Token, Stored, names, uses, use_of, PassesNoUse, has_rank, suffix, Frame, Mark, Unseen, Waits, Ranked, Waiting, Fits, Looked, Meets, Passes, is_marked, is_ranked_mark, mark_of}
+use Rattle.cweb_out.proofs.Common.{◌≡◌, ◌<◌, Bool, true, false, ◌&&◌, List, [], ◌∷◌, ◌++◌, refl, sym, ◌∙◌, ap, append-nil, append_assoc, Some, None, list_all, NameId, Token, Stored, names, uses, use_of, PassesNoUse, has_rank, suffix, Frame, Mark, Unseen, Waits, Ranked, Waiting, Fits, Looked, Meets, Passes, is_marked, is_ranked_mark, mark_of, first_so, second_so}
 use Rattle.cweb_out.proofs.FirstUses.{same-uses}
-use Rattle.cweb_out.proofs.Ranks.{all-append, and-first, and-second}
+use Rattle.cweb_out.proofs.Ranks.{all-append}
 
 pub passes-more : (w : Stored) (marks : List Mark) (old mid new : List Token) (t : Token) → Passes w marks old mid
     → mid ≡ t ∷ new → list_all (is_marked marks) (use_of w t) ≡ true → Passes w marks old new
@@ -38,16 +38,15 @@ passes-all w marks old new p e =
 
 -- marks that are ranked stand for ranks
 marked-rank : (m : Mark) (b : Bool) → (m ≡ Ranked → b ≡ true) → is_ranked_mark m ≡ true → b ≡ true
-marked-rank Unseen b f h = cc
-marked-rank Waits b f h = cc
 marked-rank Ranked b f h = f refl
+marked-rank _ b f h = cc
 
 pub all-ranked : (w : Stored) (marks : List Mark) (path : List Waiting) (ns : List NameId)
     → Fits w marks path → list_all (is_marked marks) ns ≡ true → list_all (has_rank w) ns ≡ true
 all-ranked w marks path [] f h = refl
 all-ranked w marks path (n ∷ ns) f h = ap (λ b. b && list_all (has_rank w) ns) (marked-rank (mark_of marks n)
-    (has_rank w n) (f.ranked n) (and-first (is_marked marks n) (list_all (is_marked marks) ns) h))
-    ∙ all-ranked w marks path ns f (and-second (is_marked marks n) (list_all (is_marked marks) ns) h)
+    (has_rank w n) (f.ranked n) (first_so (is_marked marks n) (list_all (is_marked marks) ns) h))
+    ∙ all-ranked w marks path ns f (second_so (is_marked marks n) (list_all (is_marked marks) ns) h)
 
 -- a list was looked at up to a name, and then as far as the next one
 pub looked-more : (w : Stored) (list : List Token) (marks : List Mark)

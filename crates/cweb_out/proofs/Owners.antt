@@ -1,6 +1,6 @@
 -- The owners of frames: the ranks of their lists, and what of them was given.
-use Rattle.cweb_out.proofs.Common.{◌≡◌, ◌≤◌, ◌<◌, ◌+◌, ◌-◌, ℕ, zero, suc, Bool, true, false, List, [], ◌∷◌, ◌++◌, refl, sym, ◌∙◌, ap, arith, append_assoc, subst, Option, Some, None, option_to_list, list_all, NameId, NameRef, Token, Name, Stored, names, use_of, uses, stands, joined, ends_below, least, list_ends, name_rank, root_list, Frame, suffix, rank, top_rank, AreBelow, AreOwned, IsOwned, UsesLower}
-use Rattle.cweb_out.proofs.Ranks.{all-back, all-front, and-first, grows-more}
+use Rattle.cweb_out.proofs.Common.{◌≡◌, ◌≤◌, ◌<◌, ◌+◌, ◌-◌, ℕ, zero, suc, Bool, true, false, List, [], ◌∷◌, ◌++◌, refl, sym, ◌∙◌, ap, arith, append_assoc, subst, Option, Some, None, option_to_list, list_all, NameId, NameRef, Token, Name, Stored, names, use_of, uses, stands, joined, ends_below, least, list_ends, name_rank, root_list, Frame, suffix, rank, top_rank, AreBelow, AreOwned, IsOwned, UsesLower, first_so}
+use Rattle.cweb_out.proofs.Ranks.{all-back, all-front, grows-more}
 
 least-le : (test : ℕ → Bool) (n k : ℕ) → test k ≡ true → least test n ≤ k
 least-le test zero k h = omega arith
@@ -116,5 +116,5 @@ OnTop-entered w fs g r m k below le ends lower e o text =
             ∙ grows-more w (suc (names w) - k) k m ends;
       };
       lower = subst (λ (p : Option NameId). rank w p < top) (sym o)
-          (rank-below w top m (and-first (ends_below w top m) true used));
+          (rank-below w top m (first_so (ends_below w top m) true used));
     }

@@ -1,18 +1,10 @@
 -- The top frame of a stack passes tokens that lend their texts.
 use Rattle.cweb_out.proofs.Common.{◌≡◌, ◌≤◌, ◌<◌, ◌+◌, ◌-◌, ◌++◌, ◌∷◌, [], ℕ, List, length, take, drop, slice_range, true, false, refl, sym, ◌∙◌, ap, arith, subst, append_assoc, list_all, set, take-add, drop-drop, NameId, Token, all_tokens, Stored, names, uses, ends_below, list_ends, expand, name_text, defs_first, root_list, Frame, suffix, left, rank, top_rank, IsWithin, Stands, run_tokens, runs_tokens, AreLent}
+use Rattle.cweb_store.proofs.RangeLemmas.{range-split}
 use Rattle.cweb_out.proofs.Owners.{OnTop}
 use Rattle.cweb_out.proofs.Passing.{put-all-lent, uses-lent}
 use Rattle.cweb_out.proofs.Stack.{Stands-push, Top, left_of-push}
 use Rattle.cweb_out.proofs.Tops.{HasTop, lower, stands_lower, top_read, top_written}
-
-range_split : (ts : List Token) (a b c : ℕ) → a ≤ b → b ≤ c
-    → slice_range ts a c ≡ slice_range ts a b ++ slice_range ts b c
-range_split ts a b c ab bc =
-    let whole : c - a ≡ (b - a) + (c - b) = omega (arith, ab, bc) in
-    let at : a + (b - a) ≡ b = omega (arith, ab) in
-    ap (λ n. take n (drop a ts)) whole ∙ take-add (b - a) (c - b) (drop a ts)
-    ∙ ap (λ (us : List Token). slice_range ts a b ++ take (c - b) us)
-    (drop-drop (b - a) a ts ∙ ap (λ n. drop n ts) at)
 
 -- the part goes on at a later token
 pub suffix-passed : (w : Stored) (f : Frame) (n : ℕ) → f.defs ≡ false → f.part.first ≤ n → n ≤ f.part.after
@@ -28,7 +20,7 @@ suffix-passed w f n none from upto =
     let still = slice_range (all_tokens w.parts) n f.part.after in
     ap (λ b. defs_first b ++ (run_tokens w f.part ++ runs_tokens w f.rest)) none
     ∙ ap (λ (ts : List Token). ts ++ runs_tokens w f.rest)
-    (range_split (all_tokens w.parts) f.part.first n f.part.after from upto)
+    (range-split (all_tokens w.parts) f.part.first n f.part.after from upto)
     ∙ append_assoc passed still (runs_tokens w f.rest)
     ∙ ap (λ b. passed ++ (defs_first b ++ (still ++ runs_tokens w f.rest))) (sym none)
 

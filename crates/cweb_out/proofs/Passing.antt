@@ -1,55 +1,28 @@
 -- Tokens that lend their texts: no frame is put on top for them.
-use Rattle.cweb_out.proofs.Common.{◌≡◌, ◌++◌, ◌∙◌, [], ◌∷◌, refl, sym, subst, ap, append_assoc, append-nil, ℕ, List, Bool, true, false, ◌&&◌, Some, flat_map, is_some, list_all, NameId, Token, Word, Number, Literal, Verbatim, Punct, Blank, Newline, Join, Defs, Name, Head, Tail, Stored, use_of, uses, put, print, Left, Printer, is_apart, leaves, left_by, AreLent, blank_where, is_lent, lent_text, kept_of, setting_of, Gathers, MovesBy, PrintsBy}
+use Rattle.cweb_out.proofs.Common.{◌≡◌, ◌++◌, ◌∙◌, [], ◌∷◌, refl, sym, subst, ap, append_assoc, append-nil, ℕ, List, Bool, true, false, ◌&&◌, Some, flat_map, is_some, list_all, NameId, Token, Word, Number, Literal, Verbatim, Punct, Blank, Newline, Join, Defs, Name, Head, Tail, Stored, use_of, uses, put, print, Left, Printer, is_apart, leaves, left_by, AreLent, blank_where, is_lent, lent_text, kept_of, setting_of, Gathers, MovesBy, PrintsBy, second_so, first_so}
 use Rattle.cweb_store.specs.Parts.{Mark}
 use Rattle.cweb_print.proofs.Lending.{leaves-lent, print-lent}
-use Rattle.cweb_out.proofs.Ranks.{and-first}
 use Rattle.cweb_print.proofs.Steps.{leaves-push}
 
 put-lent : (w : Stored) (text : NameId → List Token) (t : Token) → is_lent t ≡ true → put w text t ≡ t ∷ []
-put-lent w text (Word b) h = refl
-put-lent w text (Number b) h = refl
-put-lent w text (Literal b) h = refl
-put-lent w text (Verbatim b) h = refl
-put-lent w text (Punct b) h = refl
-put-lent w text Blank h = refl
-put-lent w text Newline h = refl
-put-lent w text Join h = refl
-put-lent w text Defs h = refl
 put-lent w text (Name r) h = cc
-put-lent w text (Head n) h = refl
-put-lent w text (Tail n) h = refl
-put-lent w text (Mark p) h = refl
+put-lent w text _ h = refl
 
 use-lent : (w : Stored) (t : Token) → is_lent t ≡ true → use_of w t ≡ []
-use-lent w (Word b) h = refl
-use-lent w (Number b) h = refl
-use-lent w (Literal b) h = refl
-use-lent w (Verbatim b) h = refl
-use-lent w (Punct b) h = refl
-use-lent w Blank h = refl
-use-lent w Newline h = refl
-use-lent w Join h = refl
-use-lent w Defs h = refl
 use-lent w (Name r) h = cc
-use-lent w (Head n) h = refl
-use-lent w (Tail n) h = refl
-use-lent w (Mark p) h = refl
-
-and-rest : (a b : Bool) → (a && b) ≡ true → b ≡ true
-and-rest true b h = h
-and-rest false b h = cc
+use-lent w _ h = refl
 
 -- such tokens stay as they are
 pub put-all-lent : (w : Stored) (text : NameId → List Token) (ts rest : List Token) → AreLent ts
     → flat_map (put w text) (ts ++ rest) ≡ ts ++ flat_map (put w text) rest
 put-all-lent w text [] rest h = refl
 put-all-lent w text (t ∷ ts) rest h = ap (λ (us : List Token). us ++ flat_map (put w text) (ts ++ rest))
-    (put-lent w text t (and-first (is_lent t) (list_all is_lent ts) h))
-    ∙ ap (λ (us : List Token). t ∷ us) (put-all-lent w text ts rest (and-rest (is_lent t) (list_all is_lent ts) h))
+    (put-lent w text t (first_so (is_lent t) (list_all is_lent ts) h))
+    ∙ ap (λ (us : List Token). t ∷ us) (put-all-lent w text ts rest (second_so (is_lent t) (list_all is_lent ts) h))
 
 -- and use no name
 pub uses-lent : (w : Stored) (ts rest : List Token) → AreLent ts → uses w (ts ++ rest) ≡ uses w rest
 uses-lent w [] rest h = refl
 uses-lent w (t ∷ ts) rest h =
-    ap (λ (ns : List NameId). ns ++ uses w (ts ++ rest)) (use-lent w t (and-first (is_lent t) (list_all is_lent ts) h))
-    ∙ uses-lent w ts rest (and-rest (is_lent t) (list_all is_lent ts) h)
+    ap (λ (ns : List NameId). ns ++ uses w (ts ++ rest)) (use-lent w t (first_so (is_lent t) (list_all is_lent ts) h))
+    ∙ uses-lent w ts rest (second_so (is_lent t) (list_all is_lent ts) h)

@@ -68,10 +68,6 @@ split-or true b h = inl refl
 split-or false true h = inr refl
 split-or false false h = cc
 
-pub not-true : (b : Bool) → (b ≡ true → ⊥) → b ≡ false
-not-true true h = absurd (h refl)
-not-true false h = refl
-
 pub within-push : (w : Stored) (path : List Waiting) (f : Waiting)
     → AreWithin w path → IsWithin w f.text → AreWithin w (path ++ f ∷ [])
 within-push w [] f a h = (h, tt)

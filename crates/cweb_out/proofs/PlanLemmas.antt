@@ -1,5 +1,5 @@
 -- What is due, by what was found.
-use Rattle.cweb_out.proofs.Common.{◌≡◌, ◌<◌, ◌+◌, ℕ, Bool, true, false, not, ◌&&◌, List, [], ◌∷◌, ◌++◌, refl, sym, ◌∙◌, ap, arith, length, take, get_or, Option, Some, None, map, inl, inr, nat_eq, Ok, Err, find, option_map, list_all, list_any, after_last, IsUtf8, is_utf8, IsUtf8-from_is_utf8, is_utf8-from_IsUtf8, eqb_tells, take_more, map-append, length-map, NameId, Stored, cycle_from, Planned, Refusal, bad_name, same_name, cycle, has_no_text, is_control, is_good_name, is_slash, names_no_file, name_at, output_name, output_of, outputs, planned, planned_apart, planned_ending, start_of, output_in, NamesAll, NamesOne, first_cycle, has_one, is_bad, is_endless, is_good_path, SettlesList, PlanFault}
+use Rattle.cweb_out.proofs.Common.{◌≡◌, ◌<◌, ◌+◌, ℕ, Bool, true, false, not, ◌&&◌, List, [], ◌∷◌, ◌++◌, refl, sym, ◌∙◌, ap, arith, length, take, get_or, Option, Some, None, map, inl, inr, nat_eq, Ok, Err, find, option_map, list_all, list_any, after_last, IsUtf8, is_utf8, IsUtf8-from_is_utf8, is_utf8-from_IsUtf8, eqb_tells, take_more, map-append, length-map, NameId, Stored, cycle_from, Planned, Refusal, bad_name, same_name, cycle, has_no_text, is_control, is_good_name, is_slash, names_no_file, name_at, output_name, output_of, outputs, planned, planned_apart, planned_ending, start_of, output_in, NamesAll, NamesOne, first_cycle, has_one, is_bad, is_endless, is_good_path, SettlesList, PlanFault, false_from_ne_true}
 use Rattle.cweb_store.specs.Parts as parts
 use Rattle.cweb_store.proofs.PartLemmas.{numbers-some}
 use Rattle.cweb_out.specs.Outputs as due
@@ -14,8 +14,7 @@ pub names-err : (w : Stored) (main : List ℕ) (roots : List (Option NameId))
 names-err w main roots i root d (fault.BadName other) l e h n =
     find-at (is_bad w main) roots i root d l e h n.0 ∙ ap (λ o. Some o) (sym n.1)
 names-err w main roots i root d fault.Memory l e h n = tt
-names-err w main roots i root d (fault.Cycle ns) l e h n = absurd n
-names-err w main roots i root d (fault.SameName m) l e h n = absurd n
+names-err w main roots i root d _ l e h n = absurd n
 
 -- an output more
 pub names-more : (w : Stored) (main : List ℕ) (roots : List (Option NameId)) (old new : List Output)
@@ -69,15 +68,11 @@ pub some-text : (w : Stored)
     → list_any (λ (p : parts.Part). parts.is_unnamed p.kind) w.parts ≡ true → false ≡ has_no_text w
 some-text w u = ap (λ b. not b && nat_eq (length (due.file_outputs w)) 0) (sym u)
 
-be-false : (b : Bool) → (b ≡ true → ⊥) → b ≡ false
-be-false true h = absurd (h refl)
-be-false false h = refl
-
 pub bad-utf8 : (w : Stored) (main : List ℕ) (root : Option NameId) (bytes : List ℕ)
     → bytes ≡ output_name w main root → (IsUtf8 bytes → ⊥) → is_bad w main root ≡ true
 bad-utf8 w main root bytes e n = ap (λ b. not (is_good_name b)) (sym e)
     ∙ ap (λ b. not ((b && list_all (λ x. not (is_control x)) bytes) && not (names_no_file (after_last is_slash bytes))))
-    (be-false (is_utf8 bytes) (λ h. n (IsUtf8-from_is_utf8 bytes h)))
+    (false_from_ne_true (is_utf8 bytes) (λ h. n (IsUtf8-from_is_utf8 bytes h)))
 
 pub good-name : (w : Stored) (main : List ℕ) (root : Option NameId) (bytes : List ℕ)
     → bytes ≡ output_name w main root → IsUtf8 bytes → is_good_path bytes ≡ true → is_bad w main root ≡ false

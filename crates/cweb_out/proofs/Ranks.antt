@@ -1,5 +1,5 @@
 -- More depth changes nothing: a rank is below the number of names.
-use Rattle.cweb_out.proofs.Common.{◌≡◌, ◌≤◌, ◌<◌, ◌+◌, ℕ, zero, suc, Bool, true, false, cond, ◌&&◌, ◌||◌, List, [], ◌∷◌, ◌++◌, refl, sym, ◌∙◌, ap, arith, length, inl, inr, ◌⊎◌, Option, Some, None, IfSome, option_to_list, list_all, list_any, eqb_tells, list_any-append, NameId, id, is_id, Token, Name, Stored, names, joined, uses, use_of, stands, ends_below, has_rank, AreNew}
+use Rattle.cweb_out.proofs.Common.{◌≡◌, ◌≤◌, ◌<◌, ◌+◌, ℕ, zero, suc, Bool, true, false, cond, ◌&&◌, ◌||◌, List, [], ◌∷◌, ◌++◌, refl, sym, ◌∙◌, ap, arith, length, inl, inr, ◌⊎◌, Option, Some, None, IfSome, option_to_list, list_all, list_any, eqb_tells, list_any-append, NameId, id, is_id, Token, Name, Stored, names, joined, uses, use_of, stands, ends_below, has_rank, AreNew, first_so, second_so, and_from, or_left, or_right}
 use Rattle.cweb_store.proofs.BoundLemmas.{standing-within}
 
 -- how many numbers below n pass a test
@@ -46,23 +46,11 @@ counted-more f g (suc n) j w l a b = elim (eqb_tells j n) [
       (w n (omega arith)) (counted-more f g n j (λ i k. w i (omega (arith, k))) (omega (arith, l, e.1)) a b)
 ]
 
-pub and-first : (a b : Bool) → (a && b) ≡ true → a ≡ true
-and-first true b h = refl
-and-first false b h = h
-
-pub and-second : (a b : Bool) → (a && b) ≡ true → b ≡ true
-and-second true b h = h
-and-second false b h = cc
-
-pub and-true : (a b : Bool) → a ≡ true → b ≡ true → (a && b) ≡ true
-and-true true b h k = k
-and-true false b h k = cc
-
 option-weaker : (p q : NameId → Bool) (n : ℕ) (o : Option NameId)
     → IfSome o (λ (m : NameId). m.0 < n) → ((m : NameId) → m.0 < n → p m ≡ true → q m ≡ true)
     → list_all p (option_to_list o) ≡ true → list_all q (option_to_list o) ≡ true
 option-weaker p q n None b w h = refl
-option-weaker p q n (Some m) b w h = and-true (q m) true (w m b (and-first (p m) true h)) refl
+option-weaker p q n (Some m) b w h = and_from (q m) true (w m b (first_so (p m) true h)) refl
 
 use-weaker : (w : Stored) (p q : NameId → Bool) (t : Token) → ((m : NameId) → m.0 < names w → p m ≡ true → q m ≡ true)
     → list_all p (use_of w t) ≡ true → list_all q (use_of w t) ≡ true
@@ -72,17 +60,17 @@ use-weaker w p q t f h = refl
 pub all-append : (p : NameId → Bool) (xs ys : List NameId)
     → list_all p xs ≡ true → list_all p ys ≡ true → list_all p (xs ++ ys) ≡ true
 all-append p [] ys a b = b
-all-append p (x ∷ xs) ys a b = and-true (p x) (list_all p (xs ++ ys))
-    (and-first (p x) (list_all p xs) a) (all-append p xs ys (and-second (p x) (list_all p xs) a) b)
+all-append p (x ∷ xs) ys a b = and_from (p x) (list_all p (xs ++ ys))
+    (first_so (p x) (list_all p xs) a) (all-append p xs ys (second_so (p x) (list_all p xs) a) b)
 
 pub all-front : (p : NameId → Bool) (xs ys : List NameId) → list_all p (xs ++ ys) ≡ true → list_all p xs ≡ true
 all-front p [] ys h = refl
-all-front p (x ∷ xs) ys h = and-true (p x) (list_all p xs)
-    (and-first (p x) (list_all p (xs ++ ys)) h) (all-front p xs ys (and-second (p x) (list_all p (xs ++ ys)) h))
+all-front p (x ∷ xs) ys h = and_from (p x) (list_all p xs)
+    (first_so (p x) (list_all p (xs ++ ys)) h) (all-front p xs ys (second_so (p x) (list_all p (xs ++ ys)) h))
 
 pub all-back : (p : NameId → Bool) (xs ys : List NameId) → list_all p (xs ++ ys) ≡ true → list_all p ys ≡ true
 all-back p [] ys h = h
-all-back p (x ∷ xs) ys h = all-back p xs ys (and-second (p x) (list_all p (xs ++ ys)) h)
+all-back p (x ∷ xs) ys h = all-back p xs ys (second_so (p x) (list_all p (xs ++ ys)) h)
 
 -- what holds of each name holds of the names that a list uses
 pub uses-weaker : (w : Stored) (p q : NameId → Bool) (ts : List Token)
@@ -176,33 +164,25 @@ rank_by_uses w n l h = rank_below_names w (suc (names w)) n l h
 abbrev on : List NameId → ℕ → Bool
 on ns i = list_any (is_id (id i)) ns
 
-pub or-left : (a b : Bool) → a ≡ true → (a || b) ≡ true
-or-left true b h = refl
-or-left false b h = cc
-
-pub or-right : (a b : Bool) → b ≡ true → (a || b) ≡ true
-or-right true b h = refl
-or-right false b h = h
-
 pub id-same : (n : NameId) → is_id n n ≡ true
 id-same n = elim (eqb_tells n.0 n.0) [ inl e ↦ e.0 | inr e ↦ absurd (e.1 refl) ]
 
 pub on-last : (seen : List NameId) (n : NameId) → list_any (is_id n) (seen ++ n ∷ []) ≡ true
 on-last seen n = list_any-append (is_id n) seen (n ∷ [])
-    ∙ or-right (list_any (is_id n) seen) (is_id n n || false) (or-left (is_id n n) false (id-same n))
+    ∙ or_right (list_any (is_id n) seen) (is_id n n || false) (or_left (is_id n n) false (id-same n))
 
 pub on-front : (seen more : List NameId) (n : NameId)
     → list_any (is_id n) seen ≡ true → list_any (is_id n) (seen ++ more) ≡ true
 on-front seen more n h =
-    list_any-append (is_id n) seen more ∙ or-left (list_any (is_id n) seen) (list_any (is_id n) more) h
+    list_any-append (is_id n) seen more ∙ or_left (list_any (is_id n) seen) (list_any (is_id n) more) h
 
 few-from : (count : ℕ) (seen ns : List NameId) → AreNew seen ns
     → ((n : NameId) → list_any (is_id n) ns ≡ true → n.0 < count) → counted (on seen) count + length ns ≤ count
 few-from count seen [] a b = let h = counted-le (on seen) count in omega (arith, h)
 few-from count seen (n ∷ ns) a b =
     let less = counted-more (on seen) (on (seen ++ n ∷ [])) count n.0 (λ i l. on-front seen (n ∷ []) (id i))
-    (b n (or-left (is_id n n) (list_any (is_id n) ns) (id-same n))) a.0 (on-last seen n) in
-    let rest = few-from count (seen ++ n ∷ []) ns a.1 (λ m h. b m (or-right (is_id m n) (list_any (is_id m) ns) h)) in
+    (b n (or_left (is_id n n) (list_any (is_id n) ns) (id-same n))) a.0 (on-last seen n) in
+    let rest = few-from count (seen ++ n ∷ []) ns a.1 (λ m h. b m (or_right (is_id m n) (list_any (is_id m) ns) h)) in
     omega (arith, less, rest)
 
 -- new names are no more than names

@@ -23,15 +23,6 @@ two = record {
   replacements = [];
 }
 
-two_names_that_use_each_other : cycle_from two (first_endless two (program two)) ≡ id 0 ∷ id 1 ∷ id 0 ∷ []
-two_names_that_use_each_other = refl
-
-from_the_second : cycle_from two (Some (id 1)) ≡ id 1 ∷ id 0 ∷ id 1 ∷ []
-from_the_second = refl
-
-the_plan_is_refused : planned_ending two (codes "a.c") ≡ Err (cycle (id 0 ∷ id 1 ∷ id 0 ∷ []))
-the_plan_is_refused = refl
-
 -- the law of refused cycles, where it says which names use which
 each_uses_the_other : IsCycle two (id 0 ∷ id 1 ∷ id 0 ∷ [])
 each_uses_the_other = record { first = id 0; between = id 1 ∷ []; closed = refl; each = (refl, (refl, tt)) }
@@ -51,42 +42,11 @@ twice = record {
 abbrev semicolon : Token
 semicolon = Punct (codes ";")
 
-each_use_is_replaced : expand twice 4 (program twice)
-    ≡ semicolon ∷ semicolon ∷ semicolon ∷ semicolon ∷ semicolon ∷ semicolon ∷ semicolon ∷ semicolon ∷ []
-each_use_is_replaced = refl
-
-a_name_used_twice_is_no_cycle : list_ends twice (program twice) ≡ true
-a_name_used_twice_is_no_cycle = refl
-
-the_rank_of_the_first_is_three : name_rank twice (id 0) ≡ 3
-the_rank_of_the_first_is_three = refl
-
-it_is_not_below_three : ends_below twice 3 (id 0) ≡ false
-it_is_not_below_three = refl
-
-the_rank_of_the_first_is_below_four : ends_below twice 4 (id 0) ≡ true
-the_rank_of_the_first_is_below_four = refl
-
 abbrev plain : Setting
 plain = record { replaced = λ b. b ∷ []; files = codes "s.w" ∷ []; macros = [] }
 
 abbrev at : ℕ → Token
 at line = Mark (record { file = record { 0 = 0 }; line = line })
-
-a_section_comment_stays_after_a_join : print plain (Punct (codes "/") ∷ Join ∷ Head 2 ∷ at 3 ∷ Word (codes "b") ∷ [])
-    ≡ codes "/ /*2:*/b"
-unfolding digits
-a_section_comment_stays_after_a_join = refl
-
-operators_and_numbers_stay_apart : file plain (Head 1 ∷ at 1 ∷ Newline ∷ Word (codes "x") ∷ Punct
-    (codes "=") ∷ Blank ∷ Punct (codes "-") ∷ Number (codes "1") ∷ semicolon ∷ Word (codes "a") ∷ Punct (codes "*")
-    ∷ Punct (codes "-") ∷ Word (codes "b") ∷ semicolon ∷ Word (codes "y") ∷ Punct (codes "=") ∷ Number (codes "0xe")
-    ∷ Punct (codes "+") ∷ Number (codes "1") ∷ semicolon ∷ Word (codes "q") ∷ Punct (codes "=") ∷ Word (codes "a")
-    ∷ Punct (codes "/") ∷ Head 2 ∷ at 3 ∷ Word (codes "b") ∷ Tail 2 ∷ at 2 ∷ semicolon ∷ Newline ∷ Tail 1 ∷ [])
-    ≡ codes "/*1:*/\n#line 1 \"s.w\"\n\nx= -1;a* -b;y=0xe +1;q=a/ /*2:*/\n"
-    ++ codes "#line 3 \"s.w\"\nb/*:2*/\n#line 2 \"s.w\"\n;\n/*:1*/\n"
-unfolding digits
-operators_and_numbers_stay_apart = refl
 
 -- `f(x) x+1`, `N`, and `two 1+` on two lines
 abbrev with_macros : Setting
@@ -96,14 +56,31 @@ with_macros = record plain {
       ∷ (Word (codes "two") ∷ Blank ∷ Number (codes "1") ∷ Punct (codes "+") ∷ Newline ∷ Number (codes "2") ∷ []) ∷ [];
 }
 
-macro_lines_begin_a_line : print with_macros (semicolon ∷ Defs ∷ semicolon ∷ [])
-    ≡ codes ";\n#define f(x)x+1\n#define N\n#define two 1 + \\\n2\n;"
-macro_lines_begin_a_line = refl
+record Computed : Type 0 where
+  two_names_that_use_each_other : cycle_from two (first_endless two (program two)) ≡ id 0 ∷ id 1 ∷ id 0 ∷ []
+  from_the_second : cycle_from two (Some (id 1)) ≡ id 1 ∷ id 0 ∷ id 1 ∷ []
+  the_plan_is_refused : planned_ending two (codes "a.c") ≡ Err (cycle (id 0 ∷ id 1 ∷ id 0 ∷ []))
+  each_use_is_replaced : expand twice 4 (program twice)
+      ≡ semicolon ∷ semicolon ∷ semicolon ∷ semicolon ∷ semicolon ∷ semicolon ∷ semicolon ∷ semicolon ∷ []
+  a_name_used_twice_is_no_cycle : list_ends twice (program twice) ≡ true
+  the_rank_of_the_first_is_three : name_rank twice (id 0) ≡ 3
+  it_is_not_below_three : ends_below twice 3 (id 0) ≡ false
+  the_rank_of_the_first_is_below_four : ends_below twice 4 (id 0) ≡ true
+  a_section_comment_stays_after_a_join : print plain (Punct (codes "/") ∷ Join ∷ Head 2 ∷ at 3 ∷ Word (codes "b") ∷ [])
+      ≡ codes "/ /*2:*/b"
+  operators_and_numbers_stay_apart : file plain (Head 1 ∷ at 1 ∷ Newline ∷ Word (codes "x") ∷ Punct
+      (codes "=") ∷ Blank ∷ Punct (codes "-") ∷ Number (codes "1") ∷ semicolon ∷ Word (codes "a") ∷ Punct (codes "*")
+      ∷ Punct (codes "-") ∷ Word (codes "b") ∷ semicolon ∷ Word (codes "y") ∷ Punct (codes "=") ∷ Number (codes "0xe")
+      ∷ Punct (codes "+") ∷ Number (codes "1") ∷ semicolon ∷ Word (codes "q") ∷ Punct (codes "=") ∷ Word (codes "a")
+      ∷ Punct (codes "/") ∷ Head 2 ∷ at 3 ∷ Word (codes "b") ∷ Tail 2 ∷ at 2 ∷ semicolon ∷ Newline ∷ Tail 1 ∷ [])
+      ≡ codes "/*1:*/\n#line 1 \"s.w\"\n\nx= -1;a* -b;y=0xe +1;q=a/ /*2:*/\n"
+      ++ codes "#line 3 \"s.w\"\nb/*:2*/\n#line 2 \"s.w\"\n;\n/*:1*/\n"
+  macro_lines_begin_a_line : print with_macros (semicolon ∷ Defs ∷ semicolon ∷ [])
+      ≡ codes ";\n#define f(x)x+1\n#define N\n#define two 1 + \\\n2\n;"
+  file_names_are_quoted : print (record plain { files = codes "a\"\\b" ∷ [] }) (at 7 ∷ [])
+      ≡ codes "#line 7 \"a\\\"\\\\b\"\n"
+  an_empty_list_gives_an_empty_file : file plain [] ≡ []
 
-file_names_are_quoted : print (record plain { files = codes "a\"\\b" ∷ [] }) (at 7 ∷ [])
-    ≡ codes "#line 7 \"a\\\"\\\\b\"\n"
+computed : Computed
 unfolding digits
-file_names_are_quoted = refl
-
-an_empty_list_gives_an_empty_file : file plain [] ≡ []
-an_empty_list_gives_an_empty_file = refl
+computed = search refl

@@ -1,6 +1,7 @@
 -- What a stack gives, and its bounds, as a frame is put on top and taken away.
-use Rattle.cweb_out.proofs.Common.{◌≡◌, ◌≤◌, ◌<◌, ◌+◌, ◌-◌, ℕ, zero, suc, [], ◌∷◌, ◌++◌, List, length, refl, sym, ◌∙◌, ap, arith, append_assoc, append-nil, length-append, true, false, Bool, ◌&&◌, subst, sum_by, list_all, sum_by-cons, NameId, Token, Stored, names, use_of, uses, joined, ends_below, expand, name_text, put, Frame, suffix, left_of, work_of, list_work, AreOwned, AreRanked, AreBelow, IsWithin, Stands, UsesLower, Advances, left, level, name_work, token_work}
+use Rattle.cweb_out.proofs.Common.{◌≡◌, ◌≤◌, ◌<◌, ◌+◌, ◌-◌, ℕ, zero, suc, [], ◌∷◌, ◌++◌, List, length, refl, sym, ◌∙◌, ap, arith, append_assoc, append-nil, length-append, true, false, Bool, ◌&&◌, subst, sum_by, list_all, sum_by-cons, NameId, Token, Stored, names, use_of, uses, joined, ends_below, expand, name_text, put, Frame, suffix, left_of, work_of, list_work, AreOwned, AreRanked, AreBelow, IsWithin, Stands, UsesLower, Advances, left, level, name_work, token_work, first_so, second_so}
 use Rattle.cweb_out.proofs.Owners.{OnTop, AreOwned-pop, AreOwned-push}
+use Rattle.cweb_out.proofs.Ranks.{all-front, all-back}
 
 pub left_of-push : (w : Stored) (k : ℕ) (fs : List Frame) (f : Frame)
     → left_of w k (fs ++ f ∷ []) ≡ expand w (k - length fs) (suffix w f) ++ left_of w k fs
@@ -88,23 +89,6 @@ AreRanked-pop w (suc k) (g ∷ fs) f r =
       within = t.within;
       below = AreBelow-at w (k - length fs) (suc k - suc (length fs)) (uses w (suffix w f)) n t.below;
     }
-
-pub and-left : (a b : Bool) → (a && b) ≡ true → a ≡ true
-and-left true b h = refl
-and-left false b h = h
-
-and-right : (a b : Bool) → (a && b) ≡ true → b ≡ true
-and-right true b h = h
-and-right false b h = cc
-
-all-front : {X : Type 0} (p : X → Bool) (xs ys : List X) → list_all p (xs ++ ys) ≡ true → list_all p xs ≡ true
-all-front p [] ys h = refl
-all-front p (x ∷ xs) ys h = ap (λ b. b && list_all p xs) (and-left (p x) (list_all p (xs ++ ys)) h)
-    ∙ all-front p xs ys (and-right (p x) (list_all p (xs ++ ys)) h)
-
-all-back : {X : Type 0} (p : X → Bool) (xs ys : List X) → list_all p (xs ++ ys) ≡ true → list_all p ys ≡ true
-all-back p [] ys h = h
-all-back p (x ∷ xs) ys h = all-back p xs ys (and-right (p x) (list_all p (xs ++ ys)) h)
 
 pub Stands-pop : (w : Stored) (all fs : List Frame) (f : Frame) (room more : ℕ)
     → all ≡ fs ++ f ∷ [] → more ≡ room → Stands w all room

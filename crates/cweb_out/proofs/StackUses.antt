@@ -1,7 +1,7 @@
 -- What a stack gives behind a use of a name, and behind one that gives nothing.
-use Rattle.cweb_out.proofs.Common.{◌≡◌, ◌<◌, ◌+◌, ◌-◌, ℕ, zero, suc, [], ◌∷◌, ◌++◌, List, length, refl, sym, ◌∙◌, ap, arith, Some, true, false, ◌&&◌, subst, All, option_to_list, list_all, NameId, NameRef, Part, Name, all_tokens, Stored, names, use_of, uses, stands, joined, ends_below, expand, name_text, put, text_for, root_list, Frame, suffix, runs_tokens, work_of, list_work, AreRanked, AreBelow, IsRun, IsWithin, Stands, UsesLower, Enters, left, level, name_work, token_work, work_for}
+use Rattle.cweb_out.proofs.Common.{◌≡◌, ◌<◌, ◌+◌, ◌-◌, ℕ, zero, suc, [], ◌∷◌, ◌++◌, List, length, refl, sym, ◌∙◌, ap, arith, Some, true, false, ◌&&◌, subst, All, option_to_list, list_all, NameId, NameRef, Part, Name, all_tokens, Stored, names, use_of, uses, stands, joined, ends_below, expand, name_text, put, text_for, root_list, Frame, suffix, runs_tokens, work_of, list_work, AreRanked, AreBelow, IsRun, IsWithin, Stands, UsesLower, Enters, left, level, name_work, token_work, work_for, first_so}
 use Rattle.cweb_out.proofs.Owners.{OnTop-entered, OnTop-first}
-use Rattle.cweb_out.proofs.Stack.{left_of-push, work_of-push, Top, AreBelow-at, and-left, Stands-push, rank-step}
+use Rattle.cweb_out.proofs.Stack.{left_of-push, work_of-push, Top, AreBelow-at, Stands-push, rank-step}
 
 -- a frame on top
 pub record Entered (w : Stored) (fs new : List Frame) (r : NameRef) (more : ℕ) : Type 0 where
@@ -17,7 +17,7 @@ entered w fs new r m room more q rest s grows b lower e text a is =
     let g : Frame = record { owner = Some m; defs = false; part = q; rest = rest } in
     let h : ends_below w (level w fs) m && true ≡ true =
     subst (λ o. list_all (ends_below w (level w fs)) (option_to_list o) ≡ true) e b in
-    let t = rank-step w (level w fs) m (and-left (ends_below w (level w fs) m) true h) in
+    let t = rank-step w (level w fs) m (first_so (ends_below w (level w fs) m) true h) in
     let k : ℕ = names w - length fs in
     let j : k ≡ t.0 = omega (arith, t.1) in
     let d : length fs < names w + 1 = omega (arith, t.1) in
@@ -28,7 +28,7 @@ entered w fs new r m room more q rest s grows b lower e text a is =
     let top : Top w (names w) fs g = record { ranked = s.ranked; within = within; below = below } in
     let on =
     OnTop-entered w fs g r m (level w fs) s.owned (omega arith)
-    (and-left (ends_below w (level w fs) m) true h) lower e refl (sym text) in
+    (first_so (ends_below w (level w fs) m) true h) lower e refl (sym text) in
     let one : put w (name_text w (level w fs)) (Name r) ≡ expand w t.0 (joined w m) =
     ap (text_for (name_text w (level w fs))) e ∙ ap (λ n. name_text w n m) t.1 in
     let two : token_work w (name_work w (level w fs)) (Name r) ≡ 1 + list_work w t.0 (joined w m) =

@@ -1,6 +1,7 @@
 -- How a frame's list goes on.
 use Rattle.cweb_out.proofs.Common.{◌≡◌, ◌≤◌, ◌<◌, ◌+◌, ◌-◌, ℕ, [], ◌∷◌, ◌++◌, List, Some, length, sym, ◌∙◌, ap, arith, take, drop, slice_range, slice_index_or, false, zero, suc, add-one, subst, All, slice_get, drop-cons, Part, Token, all_tokens, Stored, Frame, defs_first, suffix, IsRun, IsWithin, run_tokens, runs_tokens}
-use Rattle.cweb_print.proofs.Ranges.{slice_get-or, slice_range-first, slice_range-none}
+use Rattle.cweb_print.proofs.Ranges.{slice_get-or, slice_range-first}
+use Rattle.cweb_store.proofs.RangeLemmas.{range-none}
 
 -- a frame that has a run begins with that run's first token
 pub suffix-first : (w : Stored) (f : Frame) (t : Token) → f.defs ≡ false → f.part.first < f.part.after
@@ -22,7 +23,7 @@ suffix-first w f t d n k e =
 pub suffix-next : (w : Stored) (f : Frame) (q : Part) (more : List Part) → f.part.after ≤ f.part.first
     → f.rest ≡ q ∷ more → suffix w f ≡ suffix w (record { owner = f.owner; defs = f.defs; part = q; rest = more })
 suffix-next w f q more n e = ap (λ xs. defs_first f.defs ++ (xs ++ runs_tokens w f.rest))
-    (slice_range-none (all_tokens w.parts) f.part.first f.part.after n)
+    (range-none (all_tokens w.parts) f.part.first f.part.after n)
     ∙ ap (λ ps. defs_first f.defs ++ runs_tokens w ps) e
 
 pub IsWithin-next : (w : Stored) (f : Frame) (q : Part) (more : List Part) → f.rest ≡ q ∷ more

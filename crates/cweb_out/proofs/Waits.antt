@@ -1,8 +1,8 @@
 -- The marks of names, as they begin to wait and get their rank.
-use Rattle.cweb_out.proofs.Common.{◌≡◌, ◌≢◌, ◌<◌, true, false, ◌||◌, List, [], ◌∷◌, ◌++◌, sym, ◌∙◌, ap, arith, length, inl, inr, subst, sum_by, list_any, set, eqb_tells, get_or-set_same, get_or-set_other, length-set, get_or_past, sum_by-set, NameId, is_id, Stored, names, joined, has_rank, IsWithin, suffix, Mark, Unseen, Waits, Ranked, Waiting, AreNew, Fits, Waited, mark_of, marks_left, path_of}
-use Rattle.cweb_out.proofs.Ranks.{either, on-front, on-last, or-left, or-right}
+use Rattle.cweb_out.proofs.Common.{◌≡◌, ◌≢◌, ◌<◌, true, false, ◌||◌, List, [], ◌∷◌, ◌++◌, sym, ◌∙◌, ap, arith, length, inl, inr, subst, sum_by, list_any, set, eqb_tells, get_or-set_same, get_or-set_other, length-set, get_or_past, sum_by-set, NameId, is_id, Stored, names, joined, has_rank, IsWithin, suffix, Mark, Unseen, Waits, Ranked, Waiting, AreNew, Fits, Waited, mark_of, marks_left, path_of, false_from_ne_true, or_left, or_right}
+use Rattle.cweb_out.proofs.Ranks.{either, on-front, on-last}
 use Rattle.cweb_out.proofs.Lookings.{looked-start}
-use Rattle.cweb_out.proofs.Paths.{new-pop, new-push, not-true, on-pushed, path-push, same-id, split-or, within-pop, within-push}
+use Rattle.cweb_out.proofs.Paths.{new-pop, new-push, on-pushed, path-push, same-id, split-or, within-pop, within-push}
 
 -- a name that waits no more, or one that waits from now on
 mark-same : (marks : List Mark) (n : NameId) (m : Mark) → n.0 < length marks → mark_of (set marks n.0 m) n ≡ m
@@ -22,7 +22,7 @@ pub fits-push : (w : Stored) (marks : List Mark) (path : List Waiting) (f : Wait
 fits-push w marks path f t u l i =
     let lt : f.name.0 < length marks = omega (arith, l, t.all) in
     let absent : list_any (is_id f.name) (path_of path) ≡ false =
-    not-true (list_any (is_id f.name) (path_of path))
+    false_from_ne_true (list_any (is_id f.name) (path_of path))
     (λ h. let bad : Unseen ≡ Waits = sym u ∙ t.marked f.name h in cc) in
     record {
       all = length-set marks f.name.0 Waits ∙ t.all;
@@ -36,9 +36,9 @@ fits-push w marks path f t u l i =
       ];
       waits = λ n h. ap (list_any (is_id n)) (path-push path f)
           ∙ on-pushed (path_of path) n f.name ∙ elim (eqb_tells n.0 f.name.0) [
-            | inl e ↦ or-right
-                (list_any (is_id n) (path_of path)) (is_id n f.name || false) (or-left (is_id n f.name) false e.0)
-            | inr e ↦ or-left (list_any (is_id n) (path_of path))
+            | inl e ↦ or_right
+                (list_any (is_id n) (path_of path)) (is_id n f.name || false) (or_left (is_id n f.name) false e.0)
+            | inr e ↦ or_left (list_any (is_id n) (path_of path))
                 (is_id n f.name || false) (t.waits n (sym (mark-other marks f.name n Waits e.1) ∙ h))
           ];
       marked = λ n h. elim (eqb_tells n.0 f.name.0) [

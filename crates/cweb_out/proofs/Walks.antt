@@ -1,6 +1,6 @@
 -- The walk along a path that comes back to itself is its cycle.
-use Rattle.cweb_out.proofs.Common.{◌≡◌, ◌≤◌, ◌<◌, ◌+◌, ℕ, zero, suc, Bool, true, false, not, cond, List, [], ◌∷◌, ◌++◌, refl, sym, ◌∙◌, ap, arith, length, inl, inr, append-nil, append_assoc, drop, take, subst, Some, get_or, ◌⊎◌, list_any, position_or_len, length-map, take_more, NameId, is_id, Stored, names, joined, has_rank, first_endless, walk, cycle_from, Mark, Waiting, AreNew, Begins, Chain, Fits, IsEndless, Looked, back_to, next_of, path_of, with_next}
-use Rattle.cweb_out.proofs.Ranks.{few, id-same, or-left, or-right}
+use Rattle.cweb_out.proofs.Common.{◌≡◌, ◌≤◌, ◌<◌, ◌+◌, ℕ, zero, suc, Bool, true, false, not, cond, List, [], ◌∷◌, ◌++◌, refl, sym, ◌∙◌, ap, arith, length, inl, inr, append-nil, append_assoc, drop, take, subst, Some, get_or, ◌⊎◌, list_any, position_or_len, length-map, take_more, NameId, is_id, Stored, names, joined, has_rank, first_endless, walk, cycle_from, Mark, Waiting, AreNew, Begins, Chain, Fits, IsEndless, Looked, back_to, next_of, path_of, with_next, or_left, or_right}
+use Rattle.cweb_out.proofs.Ranks.{few, id-same}
 use Rattle.cweb_out.proofs.Circles.{chain-endless, looked-endless, next-on, next-some}
 use Rattle.cweb_out.proofs.Paths.{path-push}
 use Rattle.cweb_out.proofs.Waits.{top-name}
@@ -32,7 +32,7 @@ walks w seen (f ∷ path) again (suc k) le c a h e =
     let endless = e n.0
     (elim (next-on path again n.0 n.1) [
       | inl g ↦ inl g
-      | inr g ↦ inr (or-right (is_id n.0 f.name) (list_any (is_id n.0) (path_of path)) g)
+      | inr g ↦ inr (or_right (is_id n.0 f.name) (list_any (is_id n.0) (path_of path)) g)
     ]) in
     let first =
     (looked-endless w (joined w f.name) f.text n.0 (subst (Looked w (joined w f.name) f.text) n.1 c.0) endless).0 in
@@ -41,7 +41,7 @@ walks w seen (f ∷ path) again (suc k) le c a h e =
     (λ m o.
     e m
     (elim o
-    [ inl g ↦ inl g | inr g ↦ inr (or-right (is_id m f.name) (list_any (is_id m) (path_of path)) g) ])) in
+    [ inl g ↦ inl g | inr g ↦ inr (or_right (is_id m f.name) (list_any (is_id m) (path_of path)) g) ])) in
     goes (list_any (is_id f.name) seen) a.0 ∙ ap (walk w (suc k) (seen ++ f.name ∷ [])) (first ∙ sym n.1) ∙ rest
     ∙ ap (λ (ns : List NameId). drop (position_or_len (is_id again) ns) ns ++ again ∷ []) s
   where
@@ -62,7 +62,7 @@ path-cycle w marks [] start again t c a b = cc
 path-cycle w marks (f ∷ path) start again t c a b =
     let none = chain-endless w (f ∷ path) again c a in
     let on : list_any (is_id start) (path_of (f ∷ path)) ≡ true =
-    or-left (is_id start f.name) (list_any (is_id start) (path_of path)) (ap (is_id start) b ∙ id-same start) in
+    or_left (is_id start f.name) (list_any (is_id start) (path_of path)) (ap (is_id start) b ∙ id-same start) in
     let size : length (path_of (f ∷ path)) ≡ length (f ∷ path) = length-map (f ∷ path) (λ (g : Waiting). g.name) in
     let le = few (names w) (path_of (f ∷ path)) t.new (λ n h. top-name w marks (f ∷ path) n t h) in
     let fits : length (f ∷ path) ≤ names w = omega (arith, le, size) in

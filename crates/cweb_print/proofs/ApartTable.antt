@@ -21,42 +21,14 @@ border_at n = slice_index_or (
 
 at_number : (b : Border) → border_at (tag_of the_type b) ≡ b
 at_number border.Word = refl
-at_number border.Number = refl
-at_number border.Literal = refl
-at_number border.Glue = refl
-at_number border.PlainPlain = refl
-at_number border.PlainOperator = refl
-at_number border.PlainPoint = refl
-at_number border.OperatorPlain = refl
-at_number border.OperatorOperator = refl
-at_number border.OperatorPoint = refl
-at_number border.NumericPlain = refl
-at_number border.NumericOperator = refl
-at_number border.NumericPoint = refl
-at_number border.Blank = refl
-at_number border.LineEnd = refl
-at_number border.Untold = refl
+at_number _ = refl
 
 abbrev pub test : ℕ → Bool
 test n = stands_apart (class_behind (border_at (n / 16))) (border_at (n % 16))
 
 small : (b : Border) → tag_of the_type b < 16
 small border.Word = omega arith
-small border.Number = omega arith
-small border.Literal = omega arith
-small border.Glue = omega arith
-small border.PlainPlain = omega arith
-small border.PlainOperator = omega arith
-small border.PlainPoint = omega arith
-small border.OperatorPlain = omega arith
-small border.OperatorOperator = omega arith
-small border.OperatorPoint = omega arith
-small border.NumericPlain = omega arith
-small border.NumericOperator = omega arith
-small border.NumericPoint = omega arith
-small border.Blank = omega arith
-small border.LineEnd = omega arith
-small border.Untold = omega arith
+small _ = omega arith
 
 pub apart_told : (l r : Border) → slice_index_or apart_bits (16 * tag_of the_type l + tag_of the_type r) false
     ≡ stands_apart (class_behind l) r

@@ -32,12 +32,7 @@ text-lent (Verbatim b) l h = ap (option_map (λ (m : Bordered). m.text)) h
 text-lent (Punct b) l h = text_of b (sign_border b) l (list_any is_high b) h
 text-lent Blank l h = ap (option_map (λ (m : Bordered). m.text)) h
 text-lent Newline l h = ap (option_map (λ (m : Bordered). m.text)) h
-text-lent Join l h = cc
-text-lent Defs l h = cc
-text-lent (Name r) l h = cc
-text-lent (Head n) l h = cc
-text-lent (Tail n) l h = cc
-text-lent (Mark p) l h = cc
+text-lent _ l h = cc
 
 sign-class : (s o p q : Bool) → class_behind (sign_by s o p q) ≡ class_by p q
 sign-class true o true q = refl
@@ -59,72 +54,31 @@ class-lent (Punct b) l h = ap class_behind (border_of b (sign_border b) l (list_
     ∙ sign-class (first_is is_numeric b) (first_is is_operator b) (last_is (λ x. x == 46) b) (last_is is_operator b)
 class-lent Blank l h = ap (λ o. class_behind (border_in o)) (sym h)
 class-lent Newline l h = ap (λ o. class_behind (border_in o)) (sym h)
-class-lent Join l h = cc
-class-lent Defs l h = cc
-class-lent (Name r) l h = cc
-class-lent (Head n) l h = cc
-class-lent (Tail n) l h = cc
-class-lent (Mark p) l h = cc
+class-lent _ l h = cc
 
 word-apart : (c : Class) (b : List ℕ) → is_apart c (Word b) ≡ stands_apart c border.Word
 word-apart class.LineStart b = refl
-word-apart class.Word b = refl
-word-apart class.Number b = refl
-word-apart class.Literal b = refl
-word-apart class.Point b = refl
-word-apart class.Operator b = refl
-word-apart class.Glue b = refl
-word-apart class.Other b = refl
+word-apart _ b = refl
 
 number-apart : (c : Class) (b : List ℕ) → is_apart c (Number b) ≡ stands_apart c border.Number
 number-apart class.LineStart b = refl
-number-apart class.Word b = refl
-number-apart class.Number b = refl
-number-apart class.Literal b = refl
-number-apart class.Point b = refl
-number-apart class.Operator b = refl
-number-apart class.Glue b = refl
-number-apart class.Other b = refl
+number-apart _ b = refl
 
 literal-apart : (c : Class) (b : List ℕ) → is_apart c (Literal b) ≡ stands_apart c border.Literal
 literal-apart class.LineStart b = refl
-literal-apart class.Word b = refl
-literal-apart class.Number b = refl
-literal-apart class.Literal b = refl
-literal-apart class.Point b = refl
-literal-apart class.Operator b = refl
-literal-apart class.Glue b = refl
-literal-apart class.Other b = refl
+literal-apart _ b = refl
 
 glue-apart : (c : Class) (b : List ℕ) → is_apart c (Verbatim b) ≡ stands_apart c border.Glue
 glue-apart class.LineStart b = refl
-glue-apart class.Word b = refl
-glue-apart class.Number b = refl
-glue-apart class.Literal b = refl
-glue-apart class.Point b = refl
-glue-apart class.Operator b = refl
-glue-apart class.Glue b = refl
-glue-apart class.Other b = refl
+glue-apart _ b = refl
 
 blank-apart : (c : Class) → is_apart c Blank ≡ stands_apart c border.Blank
 blank-apart class.LineStart = refl
-blank-apart class.Word = refl
-blank-apart class.Number = refl
-blank-apart class.Literal = refl
-blank-apart class.Point = refl
-blank-apart class.Operator = refl
-blank-apart class.Glue = refl
-blank-apart class.Other = refl
+blank-apart _ = refl
 
 line_end-apart : (c : Class) → is_apart c Newline ≡ stands_apart c border.LineEnd
 line_end-apart class.LineStart = refl
-line_end-apart class.Word = refl
-line_end-apart class.Number = refl
-line_end-apart class.Literal = refl
-line_end-apart class.Point = refl
-line_end-apart class.Operator = refl
-line_end-apart class.Glue = refl
-line_end-apart class.Other = refl
+line_end-apart _ = refl
 
 -- whether a blank comes before a punctuator, by two tests of its first byte
 abbrev before_sign : Class → Bool → Bool → Bool
@@ -151,29 +105,11 @@ sign-first c false false false false = refl
 sign-told : (c : Class) (s o : Bool) → (s ≡ true → o ≡ true) → before_sign c s o ≡ before_border c s o
 sign-told c true false h = let no : false ≡ true = h refl in cc
 sign-told class.LineStart true true h = refl
-sign-told class.Word true true h = refl
-sign-told class.Number true true h = refl
-sign-told class.Literal true true h = refl
-sign-told class.Point true true h = refl
-sign-told class.Operator true true h = refl
-sign-told class.Glue true true h = refl
-sign-told class.Other true true h = refl
 sign-told class.LineStart false true h = refl
-sign-told class.Word false true h = refl
-sign-told class.Number false true h = refl
-sign-told class.Literal false true h = refl
-sign-told class.Point false true h = refl
-sign-told class.Operator false true h = refl
-sign-told class.Glue false true h = refl
-sign-told class.Other false true h = refl
 sign-told class.LineStart false false h = refl
-sign-told class.Word false false h = refl
-sign-told class.Number false false h = refl
-sign-told class.Literal false false h = refl
-sign-told class.Point false false h = refl
-sign-told class.Operator false false h = refl
-sign-told class.Glue false false h = refl
-sign-told class.Other false false h = refl
+sign-told _ true true h = refl
+sign-told _ false true h = refl
+sign-told _ false false h = refl
 
 numeric_is : (x : ℕ) (p q r : Bool) → (46 == x) ≡ p → (43 == x) ≡ q → (45 == x) ≡ r → (p || (q || (r || false))) ≡ true
     → is_operator x ≡ true
@@ -201,12 +137,7 @@ apart-lent c (Punct b) l h =
     ∙ ap (stands_apart c) (sym (border_of b (sign_border b) l (list_any is_high b) h))
 apart-lent c Blank l h = blank-apart c ∙ ap (λ o. stands_apart c (border_in o)) h
 apart-lent c Newline l h = line_end-apart c ∙ ap (λ o. stands_apart c (border_in o)) h
-apart-lent c Join l h = cc
-apart-lent c Defs l h = cc
-apart-lent c (Name r) l h = cc
-apart-lent c (Head n) l h = cc
-apart-lent c (Tail n) l h = cc
-apart-lent c (Mark p) l h = cc
+apart-lent c _ l h = cc
 
 -- what a token lends was added behind one with a border
 pub gathers-lent : (last : Border) (t : Token) (l : Bordered) (old new : List ℕ) → lends t ≡ Some l

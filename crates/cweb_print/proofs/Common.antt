@@ -3,14 +3,16 @@ pub use Rattle.std.proofs.Common.{◌≡◌, ◌<◌, ◌+◌, ◌*◌, ◌/◌,
 pub use Rattle.std.proofs.Common.{slice_index_or, refl, ◌∙◌, arith, ◌==◌, cond, ◌||◌, ◌&&◌, not, Option, None, Some, ap}
 pub use Rattle.std.proofs.Common.{sym, codes, append_assoc, length, take, drop, suc, get_or, Bor, drop-cons, append-nil}
 pub use Rattle.std.proofs.Common.{◌-◌, map, ◌≤◌, slice_range, subst, length-drop, rules, zero, add-one, nat_eq, decimal}
+pub use Rattle.std.proofs.Math.Bool.{and-false}
 pub use Rattle.std.proofs.Math.Seq.{take-add, take-append-add}
 pub use Rattle.std.proofs.lemmas.Bool.{eqb-true}
 pub use Rattle.std.proofs.lemmas.Grind.{common_steps}
 pub use Rattle.std.proofs.lemmas.List.{take-append-drop, drop-drop, take_at, drop_at, take_more, get_or-drop}
 pub use Rattle.std.proofs.lemmas.List.{length-take-le, take-append-le, length-map, take_all}
 pub use Rattle.std.proofs.lemmas.List.Concat.{flat_map-append}
-pub use Rattle.std.proofs.lemmas.Option.{slice_get-map}
+pub use Rattle.std.proofs.lemmas.Option.{slice_get-map, slice_get_within}
 pub use Rattle.std.proofs.lemmas.Slice.{between_is}
+pub use Rattle.std.specs.Cmp.{first_so, second_so}
 pub use Rattle.std.specs.List.{list_any, list_all}
 pub use Rattle.std.specs.Prelude.{option_map, nat_le, IfSome, Result, Ok, Err, IsErr, flat_map, slice_get, filter, All}
 pub use Rattle.std.specs.Prelude.{IsOk, is_some, fold, IsTrue}

@@ -43,12 +43,7 @@ text-continued replaced (Verbatim b) l h = ap continued_in h
 text-continued replaced (Punct b) l h = sign-continued b l (list_any is_high b) h
 text-continued replaced Blank l h = ap continued_in h
 text-continued replaced Newline l h = ap continued_in h
-text-continued replaced Join l h = cc
-text-continued replaced Defs l h = cc
-text-continued replaced (Name r) l h = cc
-text-continued replaced (Head n) l h = cc
-text-continued replaced (Tail n) l h = cc
-text-continued replaced (Mark p) l h = cc
+text-continued replaced _ l h = cc
 
 -- what one adds behind a token with a border
 pub added-continued : (replaced : ℕ → List ℕ) (last : Border) (t : Token) (l : Bordered) → lends t ≡ Some l

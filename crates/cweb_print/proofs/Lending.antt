@@ -11,55 +11,31 @@ word-lent replaced b text false e h = let same : b ≡ text = cc in ascii_word r
 file-lent : (s : Setting) (c : Class) (joined : Bool) (t : Token) (text : List ℕ) → lent_text joined t ≡ Some text
     → file_by s c t ≡ text
 file-lent s c joined (Word b) text h = word-lent s.replaced b text (list_any is_high b) refl h
-file-lent s c joined (Number b) text h = cc
-file-lent s c joined (Literal b) text h = cc
-file-lent s c joined (Verbatim b) text h = cc
-file-lent s c joined (Punct b) text h = cc
 file-lent s c true Blank text h = cc
 file-lent s c false Blank text h = cc
 file-lent s c true Newline text h = cc
 file-lent s c false Newline text h = cc
-file-lent s c joined Join text h = cc
-file-lent s c joined Defs text h = cc
-file-lent s c joined (Name r) text h = cc
-file-lent s c joined (Head n) text h = cc
-file-lent s c joined (Tail n) text h = cc
-file-lent s c joined (Mark p) text h = cc
+file-lent s c joined _ text h = cc
 
 closes-lent : (joined : Bool) (t : Token) (text : List ℕ) → lent_text joined t ≡ Some text
     → stays_joined joined t ≡ false
-closes-lent joined (Word b) text h = refl
-closes-lent joined (Number b) text h = refl
-closes-lent joined (Literal b) text h = refl
-closes-lent joined (Verbatim b) text h = refl
-closes-lent joined (Punct b) text h = refl
 closes-lent true Blank text h = cc
 closes-lent false Blank text h = refl
 closes-lent true Newline text h = cc
 closes-lent false Newline text h = refl
 closes-lent joined Join text h = cc
-closes-lent joined Defs text h = refl
-closes-lent joined (Name r) text h = refl
 closes-lent joined (Head n) text h = cc
 closes-lent joined (Tail n) text h = cc
 closes-lent joined (Mark p) text h = cc
+closes-lent joined _ text h = refl
 
 keeps-lent : (c : Class) (joined : Bool) (t : Token) (text : List ℕ) → lent_text joined t ≡ Some text
     → is_dropped (record { class = c; joined = joined }) t ≡ false
 keeps-lent c false t text h = refl
-keeps-lent c true (Word b) text h = refl
-keeps-lent c true (Number b) text h = refl
-keeps-lent c true (Literal b) text h = refl
-keeps-lent c true (Verbatim b) text h = refl
-keeps-lent c true (Punct b) text h = refl
 keeps-lent c true Blank text h = cc
 keeps-lent c true Newline text h = cc
-keeps-lent c true Join text h = refl
-keeps-lent c true Defs text h = refl
-keeps-lent c true (Name r) text h = refl
-keeps-lent c true (Head n) text h = refl
-keeps-lent c true (Tail n) text h = refl
 keeps-lent c true (Mark p) text h = cc
+keeps-lent c true _ text h = refl
 
 pub leaves-lent : (left : Left) (t : Token) (text : List ℕ) → lent_text left.joined t ≡ Some text
     → left_by left t ≡ record { class = class_of (Some t); joined = false }

@@ -1,28 +1,18 @@
 -- Macros as runs of token numbers.
-use Rattle.cweb_print.proofs.Common.{◌≡◌, ◌≤◌, ◌<◌, ◌+◌, ◌-◌, ℕ, suc, Bool, true, false, cond, List, [], ◌∷◌, ◌++◌, refl, sym, ◌∙◌, ap, map, take, drop, length, slice_range, arith, get_or, subst, append_assoc, append-nil, codes, ◌&&◌, flat_map, filter, All, slice_get, Some, drop-drop, take_at, drop_at, take_more, get_or-drop, length-drop, take-add, Class, Left, added, all_added, at_start, begin_by, file_by, is_apart, leaves, left_by, separator, PartKind, Token, Defs, all_tokens, is_macro, numbers_from, numbers_where, Stored, Setting, macro_line, macro_lines, macros, replaced_in, run_tokens}
+use Rattle.cweb_print.proofs.Common.{◌≡◌, ◌≤◌, ◌<◌, ◌+◌, ◌-◌, ℕ, suc, Bool, true, false, cond, List, [], ◌∷◌, ◌++◌, refl, sym, ◌∙◌, ap, map, take, drop, length, slice_range, arith, get_or, subst, append_assoc, append-nil, codes, ◌&&◌, flat_map, filter, All, slice_get, Some, drop-drop, take_at, drop_at, take_more, get_or-drop, length-drop, take-add, Class, Left, added, all_added, at_start, begin_by, file_by, is_apart, leaves, left_by, separator, PartKind, Token, Defs, all_tokens, is_macro, numbers_from, numbers_where, Stored, Setting, macro_line, macro_lines, macros, replaced_in, run_tokens, and-false, slice_get_within}
 use Rattle.cweb_print.specs.declared.printer.class.Class.TheVariants as class
 use Rattle.cweb_print.proofs.Steps.{added-append, added-push, leaves-push}
-use Rattle.cweb_print.proofs.Ranges.{slice_get-or, slice_get-lt, slice_range-first}
+use Rattle.cweb_print.proofs.Ranges.{slice_get-or, slice_range-first}
 use Rattle.cweb_store.specs.declared.parts.Part as declared
 use Rattle.cweb_store.specs.Parts.{Part}
 
 no_blank : (c : Class) → is_apart c Defs ≡ false
 no_blank class.LineStart = refl
-no_blank class.Word = refl
-no_blank class.Number = refl
-no_blank class.Literal = refl
-no_blank class.Point = refl
-no_blank class.Operator = refl
-no_blank class.Glue = refl
-no_blank class.Other = refl
-
-stays : (joined : Bool) → (joined && false) ≡ false
-stays true = refl
-stays false = refl
+no_blank _ = refl
 
 -- what stands in a file for all macros
 pub defs-added : (s : Setting) (left : Left) → added (file_by s) left Defs ≡ begin_by left.class ++ macro_lines s
-defs-added s left = ap (λ b. cond b [] (separator left.class Defs ++ file_by s left.class Defs)) (stays left.joined)
+defs-added s left = ap (λ b. cond b [] (separator left.class Defs ++ file_by s left.class Defs)) (and-false left.joined)
     ∙ ap (λ b. cond b (codes " ") [] ++ file_by s left.class Defs) (no_blank left.class)
     ∙ append-nil (begin_by left.class ++ macro_lines s)
 
@@ -63,7 +53,7 @@ pub range_more : (ts : List Token) (a n : ℕ) (t : Token) → a ≤ n
     → slice_get ts n ≡ Some t → slice_range ts a (n + 1) ≡ slice_range ts a n ++ t ∷ []
 range_more ts a n t le is =
     let gap : n + 1 - a ≡ (n - a) + 1 = omega arith in
-    let lt : n < length ts = slice_get-lt ts n t is in
+    let lt : n < length ts = slice_get_within ts n t is in
     let fits : n - a < length (drop a ts) = omega (arith, length-drop a ts) in
     let at : a + (n - a) ≡ n = omega arith in
     ap (λ k. take k (drop a ts)) gap ∙ take_more (drop a ts) (n - a) t fits

@@ -1,37 +1,24 @@
 -- Tokens that lend their texts: printing them one after another.
-use Rattle.cweb_print.proofs.Common.{◌≡◌, ◌++◌, ◌∙◌, [], ◌∷◌, refl, sym, subst, ap, append_assoc, append-nil, ℕ, List, Bool, true, false, ◌&&◌, Some, is_some, list_all, Token, Word, Number, Literal, Verbatim, Punct, Blank, Newline, Join, Defs, Name, Head, Tail, Mark, print, Left, Printer, is_apart, leaves, left_by, AreLent, blank_where, is_lent, lent_text, kept_of, setting_of, Gathers, MovesBy, PrintsBy}
+use Rattle.cweb_print.proofs.Common.{◌≡◌, ◌++◌, ◌∙◌, [], ◌∷◌, refl, sym, subst, ap, append_assoc, append-nil, ℕ, List, Bool, true, false, ◌&&◌, Some, is_some, list_all, Token, Word, Number, Literal, Verbatim, Punct, Blank, Newline, Join, Defs, Name, Head, Tail, Mark, print, Left, Printer, is_apart, leaves, left_by, AreLent, blank_where, is_lent, lent_text, kept_of, setting_of, Gathers, MovesBy, PrintsBy, first_so, second_so}
 use Rattle.cweb_print.proofs.Lending.{leaves-lent, print-lent}
 use Rattle.cweb_print.proofs.Steps.{leaves-push}
 
 -- what is lent in one place is lent where no join is open
 lent-open : (joined : Bool) (t : Token) (text : List ℕ) → lent_text joined t ≡ Some text → is_lent t ≡ true
 lent-open joined (Word b) text h = ap is_some h
-lent-open joined (Number b) text h = refl
-lent-open joined (Literal b) text h = refl
-lent-open joined (Verbatim b) text h = refl
-lent-open joined (Punct b) text h = refl
-lent-open joined Blank text h = refl
-lent-open joined Newline text h = refl
 lent-open joined Join text h = cc
 lent-open joined Defs text h = cc
 lent-open joined (Name r) text h = cc
 lent-open joined (Head n) text h = cc
 lent-open joined (Tail n) text h = cc
 lent-open joined (Mark p) text h = cc
-
-and-first : (a b : Bool) → (a && b) ≡ true → a ≡ true
-and-first true b h = refl
-and-first false b h = h
-
-and-rest : (a b : Bool) → (a && b) ≡ true → b ≡ true
-and-rest true b h = h
-and-rest false b h = cc
+lent-open joined _ text h = refl
 
 lent-push : (ts : List Token) (t : Token) → AreLent ts → is_lent t ≡ true → AreLent (ts ++ t ∷ [])
 lent-push [] t h e = ap (λ b. b && true) e
 lent-push (x ∷ xs) t h e =
-    ap (λ b. b && list_all is_lent (xs ++ t ∷ [])) (and-first (is_lent x) (list_all is_lent xs) h)
-    ∙ lent-push xs t (and-rest (is_lent x) (list_all is_lent xs) h) e
+    ap (λ b. b && list_all is_lent (xs ++ t ∷ [])) (first_so (is_lent x) (list_all is_lent xs) h)
+    ∙ lent-push xs t (second_so (is_lent x) (list_all is_lent xs) h) e
 
 -- tokens were printed one after another, and this is kept after them
 pub record Passed (p : Printer) (ts : List Token) (left : Left) (old new : List ℕ) : Type 0 where

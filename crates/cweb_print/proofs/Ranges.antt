@@ -7,11 +7,6 @@ slice_get-or [] i t h = cc
 slice_get-or (x ∷ ts) zero t h = cc
 slice_get-or (x ∷ ts) (suc i) t h = slice_get-or ts i t h
 
-pub slice_get-lt : (ts : List Token) (i : ℕ) (t : Token) → slice_get ts i ≡ Some t → i < length ts
-slice_get-lt [] i t h = cc
-slice_get-lt (x ∷ ts) zero t h = omega arith
-slice_get-lt (x ∷ ts) (suc i) t h = let lt = slice_get-lt ts i t h in omega arith
-
 -- a run that is not empty begins with its first token
 pub slice_range-first : (ts : List Token) (a b : ℕ) (t : Token) → a < b → b ≤ length ts
     → t ≡ slice_index_or ts a t → slice_range ts a b ≡ t ∷ slice_range ts (a + 1) b
@@ -22,6 +17,3 @@ slice_range-first ts a b t h k e =
     ∙ ap (take (suc (b - (a + 1)))) (drop-cons ts a t m)
     ∙ ap (λ x. x ∷ take (b - (a + 1)) (drop (suc a) ts)) (sym e)
     ∙ ap (λ i. t ∷ take (b - (a + 1)) (drop i ts)) (sym (add-one a))
-
-pub slice_range-none : (ts : List Token) (a b : ℕ) → b ≤ a → slice_range ts a b ≡ []
-slice_range-none ts a b e = let n : b - a ≡ 0 = omega arith in ap (λ n. take n (drop a ts)) n

@@ -1,5 +1,5 @@
 -- Printing token by token: what each adds, by what was kept of those before it.
-use Rattle.cweb_print.proofs.Common.{◌≡◌, ℕ, Bool, true, false, ◌&&◌, ◌||◌, not, cond, List, [], ◌∷◌, ◌++◌, refl, sym, ◌∙◌, ap, append_assoc, append-nil, Option, None, Some, codes, nat_eq, fold, Token, Word, Number, Literal, Verbatim, Punct, Blank, Newline, Join, Defs, Name, Head, Tail, Mark, is_operator, is_one_of, is_wordlike, is_literal, is_number, is_comment, begins_with, are_apart, sep, macro_text, printed, Setting, stays_joined, is_layout, kept, print_after, print, file, file_text, last_of, left_after, starts_line, begin_line, macro_lines, mark_line, file_name, Class, Left, class_by, class_of, class_is_line_start, is_apart, separator, left_by, at_start, leaves, added, all_added, begin_by, file_by, macro_by}
+use Rattle.cweb_print.proofs.Common.{◌≡◌, ℕ, Bool, true, false, ◌&&◌, ◌||◌, not, cond, List, [], ◌∷◌, ◌++◌, refl, sym, ◌∙◌, ap, append_assoc, append-nil, Option, None, Some, codes, nat_eq, fold, Token, Word, Number, Literal, Verbatim, Punct, Blank, Newline, Join, Defs, Name, Head, Tail, Mark, is_operator, is_one_of, is_wordlike, is_literal, is_number, is_comment, begins_with, are_apart, sep, macro_text, printed, Setting, stays_joined, is_layout, kept, print_after, print, file, file_text, last_of, left_after, starts_line, begin_line, macro_lines, mark_line, file_name, Class, Left, class_by, class_of, class_is_line_start, is_apart, separator, left_by, at_start, leaves, added, all_added, begin_by, file_by, macro_by, second_so}
 use Rattle.cweb_print.specs.Spacing.{last_is}
 use Rattle.cweb_print.proofs.Lasts.{point-operator}
 
@@ -16,19 +16,8 @@ punct_apart false true t h = refl
 punct_apart false false t h = refl
 
 apart_by_class : (u t : Token) → are_apart u t ≡ is_apart (class_of (Some u)) t
-apart_by_class (Word b) t = refl
-apart_by_class (Number b) t = refl
-apart_by_class (Literal b) t = refl
-apart_by_class (Verbatim b) t = refl
 apart_by_class (Punct b) t = punct_apart (last_is (λ x. nat_eq x 46) b) (last_is is_operator b) t (point-operator b)
-apart_by_class Blank t = refl
-apart_by_class Newline t = refl
-apart_by_class Join t = refl
-apart_by_class Defs t = refl
-apart_by_class (Name r) t = refl
-apart_by_class (Head n) t = refl
-apart_by_class (Tail n) t = refl
-apart_by_class (Mark p) t = refl
+apart_by_class _ t = refl
 
 pub sep_by_class : (l : Option Token) (t : Token) → sep l t ≡ separator (class_of l) t
 sep_by_class None t = refl
@@ -63,55 +52,23 @@ abbrev pub Agrees : (Option Token → Token → List ℕ) → (Class → Token �
 Agrees text by = (l : Option Token) (t : Token) → text l t ≡ by (class_of l) t
 
 pub file_agrees : (s : Setting) → Agrees (file_text s) (file_by s)
-file_agrees s l (Word b) = refl
-file_agrees s l (Number b) = refl
-file_agrees s l (Literal b) = refl
-file_agrees s l (Verbatim b) = refl
-file_agrees s l (Punct b) = refl
-file_agrees s l Blank = refl
-file_agrees s l Newline = refl
-file_agrees s l Join = refl
 file_agrees s l Defs = ap (λ (t : List ℕ). t ++ macro_lines s) (begin_by_class l)
     ∙ sym (append-nil (begin_by (class_of l) ++ macro_lines s))
-file_agrees s l (Name r) = refl
-file_agrees s l (Head n) = refl
-file_agrees s l (Tail n) = refl
 file_agrees s l (Mark p) = ap (λ (t : List ℕ). t ++ mark_line (file_name s p) p.line) (begin_by_class l)
     ∙ sym (append-nil (begin_by (class_of l) ++ mark_line (file_name s p) p.line))
+file_agrees s l _ = refl
 
 macro_agrees : (replaced : ℕ → List ℕ) → Agrees (λ left. macro_text replaced) (macro_by replaced)
 macro_agrees replaced l (Word b) = refl
-macro_agrees replaced l (Number b) = refl
-macro_agrees replaced l (Literal b) = refl
-macro_agrees replaced l (Verbatim b) = refl
-macro_agrees replaced l (Punct b) = refl
-macro_agrees replaced l Blank = refl
-macro_agrees replaced l Newline = refl
-macro_agrees replaced l Join = refl
-macro_agrees replaced l Defs = refl
-macro_agrees replaced l (Name r) = refl
-macro_agrees replaced l (Head n) = refl
-macro_agrees replaced l (Tail n) = refl
-macro_agrees replaced l (Mark p) = refl
+macro_agrees replaced l _ = refl
 
 layout_stays : (joined : Bool) (t : Token) → is_layout t ≡ true → stays_joined joined t ≡ joined
 layout_stays joined Blank h = refl
 layout_stays joined Newline h = refl
 layout_stays joined (Mark p) h = refl
-layout_stays joined Join h = cc
-layout_stays joined Defs h = cc
-layout_stays joined (Word b) h = cc
-layout_stays joined (Number b) h = cc
-layout_stays joined (Literal b) h = cc
-layout_stays joined (Verbatim b) h = cc
-layout_stays joined (Punct b) h = cc
-layout_stays joined (Name n) h = cc
 layout_stays joined (Head n) h = refl
 layout_stays joined (Tail n) h = refl
-
-dropped_layout : (a b : Bool) → (a && b) ≡ true → b ≡ true
-dropped_layout true b h = h
-dropped_layout false b h = cc
+layout_stays joined _ h = cc
 
 -- THE STEP: what is printed of a list after a token is what its tokens add, by what was kept
 pub printed_by : (text : Option Token → Token → List ℕ) (by : Class → Token → List ℕ)
@@ -127,7 +84,7 @@ printed_by text by agrees l joined (t ∷ ts) =
         (class_of l) t ++ by (class_of l) t) ++ all_added by (cond b (record { class = class_of l; joined = joined })
         (record { class = class_of (Some t); joined = stays_joined joined t })) ts
     cases later true e =
-        ap (λ j. print_after text l (kept j ts)) (layout_stays joined t (dropped_layout joined (is_layout t) e))
+        ap (λ j. print_after text l (kept j ts)) (layout_stays joined t (second_so joined (is_layout t) e))
         ∙ later l joined
     cases later false e = (λ i. (sep_by_class l t i ++ agrees l t i) ++ later (Some t) (stays_joined joined t) i)
 
@@ -143,7 +100,7 @@ kept_by l joined (t ∷ ts) = cases (λ m j. kept_by m j ts) (joined && is_layou
         ≡ (fold left_by (cond b (record { class = class_of l; joined = joined })
         (record { class = class_of (Some t); joined = stays_joined joined t })) ts).class
     cases later true e =
-        ap (λ j. class_of (last_of l (kept j ts))) (layout_stays joined t (dropped_layout joined (is_layout t) e))
+        ap (λ j. class_of (last_of l (kept j ts))) (layout_stays joined t (second_so joined (is_layout t) e))
         ∙ later l joined
     cases later false e = later (Some t) (stays_joined joined t)
 

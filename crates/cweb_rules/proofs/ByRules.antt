@@ -2,7 +2,7 @@
 use Rattle.cweb_rules.proofs.Common.{◌≡◌, ℕ, Bool, true, false, ◌&&◌, List, refl, codes, if◌then◌else◌, is_blank, is_line_end, is_word_byte, begins, first_is, starts_section, c_front, text_front, starts_raw, starts_literal, starts_include, Front, c_rule, c_front_by, text_rule, text_front_by, starts_number, Effect, Rule, TextRule}
 
 -- one test more
-by_test : {R : Type 0} (f : R → Front) (v : Bool) (x : R) (y : Front) (z : R)
+pub by_test : {R S : Type 0} (f : R → S) (v : Bool) (x : R) (y : S) (z : R)
     → y ≡ f z → (if v then f x else y) ≡ f (if v then x else z)
 by_test f true x y z h = refl
 by_test f false x y z h = h

@@ -53,19 +53,12 @@ letter_facts None t u h = h
 letter_facts (Some l) t u h = tt
 
 effect_facts : (e : Effect) (t u : List ℕ) → Coded u → Facts u (rule_of (code_front e false t).kind)
-effect_facts Nothing t u h = h
-effect_facts Define t u h = h
-effect_facts Format t u h = h
-effect_facts Program t u h = h
 effect_facts Named t u h = tt
 effect_facts effect.Letter t u h = letter_facts (letter (drop 2 t)) t u h
 effect_facts effect.ControlText t u h = tt
 effect_facts effect.Verbatim t u h = tt
 effect_facts effect.Constant t u h = tt
-effect_facts InsertDefs t u h = h
-effect_facts Joins t u h = h
-effect_facts GiveAt t u h = h
-effect_facts (Faulty k) t u h = h
+effect_facts _ t u h = h
 
 code_facts : (t : List ℕ) → Coded t → Facts t (rule_of (code_at in_c false t).kind)
 code_facts [] h = tt

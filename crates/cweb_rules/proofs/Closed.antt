@@ -1,7 +1,6 @@
 -- Where nothing is seen that opens an item, none stays open.
-use Rattle.cweb_rules.proofs.Common.{◌≡◌, ◌<◌, ℕ, ◌+◌, Bool, true, false, ◌&&◌, ◌||◌, ◌==◌, List, [], ◌∷◌, refl, ap, sym, ◌∙◌, arith, if◌then◌else◌, codes, nat_le, list_any, eqb-true, leb-true, begins, is_one_of, is_between, lower, first_is, is_blank, is_line_end, starts_section, Effect, Nothing, Define, Format, Program, Named, InsertDefs, Joins, GiveAt, Faulty, Row, table, row_of, in_limbo, in_text, in_macro, in_c, starts_raw, starts_literal, opens_effect, opens_code, opens_comment, opens_raw, opens_literal, c_opens, text_opens}
+use Rattle.cweb_rules.proofs.Common.{◌≡◌, ◌<◌, ℕ, ◌+◌, Bool, true, false, ◌&&◌, ◌||◌, ◌==◌, List, [], ◌∷◌, refl, ap, sym, ◌∙◌, arith, if◌then◌else◌, codes, nat_le, list_any, eqb-true, leb-true, begins, is_one_of, is_between, lower, first_is, is_blank, is_line_end, starts_section, Effect, Nothing, Define, Format, Program, Named, InsertDefs, Joins, GiveAt, Faulty, Row, table, row_of, in_limbo, in_text, in_macro, in_c, starts_raw, starts_literal, opens_effect, opens_code, opens_comment, opens_raw, opens_literal, c_opens, text_opens, or_right, and_parts}
 use Rattle.cweb_rules.specs.declared.effect.Effect.TheVariants as effect
-use Rattle.cweb_rules.proofs.Seams.{both}
 
 abbrev pub is_named : Effect → Bool
 is_named Named = true
@@ -17,10 +16,6 @@ row-named col (r ∷ rs) l none h =
       | true ↦ λ g. ap (λ v. (v && true) || list_any (λ r. is_named (col r) && is_one_of r.letters l) rs) g
       | false ↦ λ g. or_right (is_named (col r) && false) _ (row-named col rs l none g)
     ]) h
-  where
-    or_right : (a b : Bool) → b ≡ true → (a || b) ≡ true
-    or_right true b h = refl
-    or_right false b h = h
 
 or_elim : (a b : Bool) (c : Bool) → (a || b) ≡ true → (a ≡ true → c ≡ true) → (b ≡ true → c ≡ true) → c ≡ true
 or_elim true b c h f g = f refl
@@ -30,19 +25,15 @@ or_elim false b c h f g = g h
 lowered : (n b : ℕ) → n < 97 → (n == lower b) ≡ true → (n == b) ≡ true
 lowered n b small h = (elim (is_between 65 90 b)
     as (λ v. is_between 65 90 b ≡ v → (n == (if v then b + 32 else b)) ≡ true → (n == b) ≡ true) [
-      | true ↦ λ e g.
-          absurd (omega (arith, small, eqb-true n (b + 32) g, leb-true 65 b (both (nat_le 65 b) (nat_le b 90) e).0))
+      | true ↦ λ e g. absurd
+          (omega (arith, small, eqb-true n (b + 32) g, leb-true 65 b (and_parts (nat_le 65 b) (nat_le b 90) e).0))
       | false ↦ λ e g. g
     ]) refl h
 
 two : (b : ℕ) → ((60 == lower b) || ((40 == lower b) || false)) ≡ true → ((60 == b) || (40 == b)) ≡ true
 two b h = or_elim
-    (60 == lower b) ((40 == lower b) || false) _ h (λ g. ap (λ v. v || (40 == b)) (lowered 60 b (omega arith) g))
-    (λ g. or_elim (40 == lower b) false _ g (λ k. or_true (60 == b) (40 == b) (lowered 40 b (omega arith) k)) (λ k. cc))
-  where
-    or_true : (a b : Bool) → b ≡ true → (a || b) ≡ true
-    or_true true b h = refl
-    or_true false b h = h
+    (60 == lower b) ((40 == lower b) || false) _ h (λ g. ap (λ v. v || (40 == b)) (lowered 60 b (omega arith) g)) (λ g.
+    or_elim (40 == lower b) false _ g (λ k. or_right (60 == b) (40 == b) (lowered 40 b (omega arith) k)) (λ k. cc))
 
 pub c_named : (b : ℕ) → is_named (in_c b) ≡ true → ((60 == b) || (40 == b)) ≡ true
 c_named b h = two b (or_elim _ _ _ (row-named (λ r. r.in_c) table (lower b) refl h) (λ g. g) (λ g. cc))
@@ -55,15 +46,4 @@ text_named b h = two b (or_elim _ _ _ (row-named (λ r. r.in_text) table (lower 
 
 pub unnamed : (e : Effect) (t : List ℕ) → is_named e ≡ false → opens_effect e t ≡ false
 unnamed Named t h = cc
-unnamed effect.Letter t h = refl
-unnamed effect.ControlText t h = refl
-unnamed effect.Verbatim t h = refl
-unnamed effect.Constant t h = refl
-unnamed Nothing t h = refl
-unnamed Define t h = refl
-unnamed Format t h = refl
-unnamed Program t h = refl
-unnamed InsertDefs t h = refl
-unnamed Joins t h = refl
-unnamed GiveAt t h = refl
-unnamed (Faulty k) t h = refl
+unnamed _ t h = refl

@@ -1,8 +1,7 @@
 -- A literal ends by itself.
-use Rattle.cweb_rules.proofs.Common.{◌≡◌, ℕ, ◌+◌, ◌-◌, ◌<◌, ◌≤◌, suc, zero, Bool, true, false, cond, ◌&&◌, ◌||◌, ◌==◌, List, [], ◌∷◌, ◌++◌, length, take, drop, refl, ap, sym, ◌∙◌, subst, arith, codes, if◌then◌else◌, eqb-true, begins, at_line_end, in_c, Reach, reach_in, with_unit, size_of, Look, Goes, Ends, literal, look_in_literal, Closed, Cut, c_front, literal_at, quoted, is_quoted, literal_prefix, starts_literal, quote_of, starts_raw, raw_at}
+use Rattle.cweb_rules.proofs.Common.{◌≡◌, ℕ, ◌+◌, ◌-◌, ◌<◌, ◌≤◌, suc, zero, Bool, true, false, cond, ◌&&◌, ◌||◌, ◌==◌, List, [], ◌∷◌, ◌++◌, length, take, drop, refl, ap, sym, ◌∙◌, subst, arith, codes, if◌then◌else◌, eqb-true, begins, at_line_end, in_c, Reach, reach_in, with_unit, size_of, Look, Goes, Ends, literal, look_in_literal, Closed, Cut, c_front, literal_at, quoted, is_quoted, literal_prefix, starts_literal, quote_of, starts_raw, raw_at, and_parts, and-false, drop-append-le}
 use Rattle.cweb_rules.proofs.Chosen.{Passed, passed_front, after_literals}
-use Rattle.cweb_rules.proofs.Raws.{drop_over, quoted_stays, raw_stays, ends_raw}
-use Rattle.cweb_rules.proofs.Joins.{and_false, both}
+use Rattle.cweb_rules.proofs.Raws.{quoted_stays, raw_stays, ends_raw}
 use Rattle.cweb_rules.proofs.Stays.{opening, opens, is_letter_first}
 use Rattle.cweb_rules.proofs.TokensStay.{passes}
 
@@ -61,8 +60,8 @@ either true b P h f g = f refl
 either false b P h f g = g h
 
 pub is_a_quote : (b : ℕ) (P : ℕ → Type 0) → is_quoted 0 (b ∷ []) ≡ true → P 34 → P 39 → P b
-is_a_quote b P h x y = either ((34 == b) && true) ((39 == b) && true) (P b) h (λ e.
-    subst P (eqb-true 34 b (both (34 == b) true e).0) x) (λ e. subst P (eqb-true 39 b (both (39 == b) true e).0) y)
+is_a_quote b P h x y = either ((34 == b) && true) ((39 == b) && true) (P b) h (λ e. subst P
+    (eqb-true 34 b (and_parts (34 == b) true e).0) x) (λ e. subst P (eqb-true 39 b (and_parts (39 == b) true e).0) y)
 
 abbrev prefix_of : Bool → Bool → ℕ
 prefix_of v w = if v then 2 else (if w then 1 else 0)
@@ -73,10 +72,10 @@ quote_first b t u h = is_a_quote b (λ n. literal_prefix (n ∷ t) ≡ literal_p
 prefix_one : (b : ℕ) (more : List ℕ) (c : ℕ) → is_quoted 0 (c ∷ []) ≡ true
     → literal_prefix (b ∷ c ∷ more) ≡ literal_prefix (b ∷ c ∷ [])
 prefix_one b more c h = is_a_quote c (λ n. literal_prefix (b ∷ n ∷ more) ≡ literal_prefix (b ∷ n ∷ [])) h
-    (ap (λ v. prefix_of (v && is_quoted 2 (b ∷ 34 ∷ more)) (is_letter_first (b ∷ []) && true)) (and_false (117 == b))
-    ∙ sym (ap (λ v. prefix_of (v && false) (is_letter_first (b ∷ []) && true)) (and_false (117 == b))))
-    (ap (λ v. prefix_of (v && is_quoted 2 (b ∷ 39 ∷ more)) (is_letter_first (b ∷ []) && true)) (and_false (117 == b))
-    ∙ sym (ap (λ v. prefix_of (v && false) (is_letter_first (b ∷ []) && true)) (and_false (117 == b))))
+    (ap (λ v. prefix_of (v && is_quoted 2 (b ∷ 34 ∷ more)) (is_letter_first (b ∷ []) && true)) (and-false (117 == b))
+    ∙ sym (ap (λ v. prefix_of (v && false) (is_letter_first (b ∷ []) && true)) (and-false (117 == b))))
+    (ap (λ v. prefix_of (v && is_quoted 2 (b ∷ 39 ∷ more)) (is_letter_first (b ∷ []) && true)) (and-false (117 == b))
+    ∙ sym (ap (λ v. prefix_of (v && false) (is_letter_first (b ∷ []) && true)) (and-false (117 == b))))
 
 by_second : (letter q1 q0 : Bool) (P : Type 0)
     → cond (letter && q1) q1 q0 ≡ true → (q1 ≡ true → P) → (q0 ≡ true → P) → P
@@ -89,15 +88,15 @@ prefix_stays : (b : ℕ) (t more : List ℕ) → starts_literal (b ∷ t) ≡ tr
 prefix_stays b [] more h =
     let t = b ∷ [] in
     let e : is_quoted 0 t ≡ true =
-    sym (ap (λ v. cond v false (is_quoted 0 t)) (and_false (is_letter_first t)))
-    ∙ sym (ap (λ v. opens v (is_letter_first t) false false (is_quoted 0 t)) (and_false (117 == b)))
+    sym (ap (λ v. cond v false (is_quoted 0 t)) (and-false (is_letter_first t)))
+    ∙ sym (ap (λ v. opens v (is_letter_first t) false false (is_quoted 0 t)) (and-false (117 == b)))
     ∙ sym (opening t) ∙ h in
     quote_first b more [] e
 prefix_stays b (c ∷ []) more h =
     let t = b ∷ c ∷ [] in
     let e : cond (is_letter_first t && is_quoted 1 t) (is_quoted 1 t) (is_quoted 0 t) ≡ true =
     sym (ap (λ v. cond v false (cond (is_letter_first t && is_quoted 1 t) (is_quoted 1 t) (is_quoted 0 t)))
-    (and_false (begins (codes "u8") t)))
+    (and-false (begins (codes "u8") t)))
     ∙ sym (opening t)
     ∙ h in
     by_second (is_letter_first t) (is_quoted 1 t) (is_quoted 0 t) (literal_prefix (b ∷ c ∷ more)
@@ -122,7 +121,7 @@ literal_with : (n : ℕ) (t more : List ℕ) → is_quoted n t ≡ true
 literal_with n t more q closed within =
     let w = quote_within n t more q in
     let same : inside n (t ++ more) ≡ inside n t = ap (λ k. literal k (drop (n + 1) (t ++ more))) w.2
-    ∙ ap (literal (quote_of (drop n t))) (drop_over (n + 1) t more (omega (arith, w.0)))
+    ∙ ap (literal (quote_of (drop n t))) (drop-append-le (n + 1) t more (omega (arith, w.0)))
     ∙ closed_stays (quote_of (drop n t)) 0 (drop (n + 1) t) more closed in
     ap (λ r. quoted (n + 1) r (t ++ more)) same ∙ quoted_stays (n + 1) (inside n t) t more within
 
@@ -164,10 +163,10 @@ after_u8 [] u q = cc
 after_u8 (b ∷ []) u q = cc
 after_u8 (b ∷ c ∷ []) u q = cc
 after_u8 (b ∷ c ∷ e ∷ t) u q =
-    let h = both (117 == b) ((56 == c) && true) u in
+    let h = and_parts (117 == b) ((56 == c) && true) u in
     let at : (n : ℕ) → starts_raw (117 ∷ 56 ∷ n ∷ t) ≡ false
     → starts_raw (b ∷ c ∷ n ∷ t) ≡ false = λ n r. subst (λ x. starts_raw (x ∷ c ∷ n ∷ t) ≡ false) (eqb-true 117 b h.0)
-    (subst (λ y. starts_raw (117 ∷ y ∷ n ∷ t) ≡ false) (eqb-true 56 c (both (56 == c) true h.1).0) r) in
+    (subst (λ y. starts_raw (117 ∷ y ∷ n ∷ t) ≡ false) (eqb-true 56 c (and_parts (56 == c) true h.1).0) r) in
     is_a_quote e (λ n. starts_raw (b ∷ c ∷ n ∷ t) ≡ false) q (at 34 refl) (at 39 refl)
 
 after_letter : (t : List ℕ) → is_letter_first t ≡ true → is_quoted 1 t ≡ true → starts_raw t ≡ false
@@ -177,9 +176,9 @@ after_letter (b ∷ c ∷ t) l q =
     let P : ℕ → ℕ → Type 0 = λ x y. starts_raw (x ∷ y ∷ t) ≡ false in
     let at : (y : ℕ) → P 76 y → P 117 y → P 85 y → P b y = λ y m n o.
     either (((76 == b) && true) || ((117 == b) && true)) ((85 == b) && true) (P b y) l (λ e. either ((76 == b) && true)
-    ((117 == b) && true) (P b y) e (λ f. subst (λ x. P x y) (eqb-true 76 b (both (76 == b) true f).0) m)
-    (λ f. subst (λ x. P x y) (eqb-true 117 b (both (117 == b) true f).0) n))
-    (λ e. subst (λ x. P x y) (eqb-true 85 b (both (85 == b) true e).0) o) in
+    ((117 == b) && true) (P b y) e (λ f. subst (λ x. P x y) (eqb-true 76 b (and_parts (76 == b) true f).0) m)
+    (λ f. subst (λ x. P x y) (eqb-true 117 b (and_parts (117 == b) true f).0) n))
+    (λ e. subst (λ x. P x y) (eqb-true 85 b (and_parts (85 == b) true e).0) o) in
     is_a_quote c (P b) q (at 34 refl refl refl) (at 39 refl refl refl)
 
 after_quote : (t : List ℕ) → is_quoted 0 t ≡ true → starts_raw t ≡ false

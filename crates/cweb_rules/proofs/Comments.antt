@@ -1,11 +1,7 @@
 -- A section comment ends by itself.
-use Rattle.cweb_rules.proofs.Common.{◌≡◌, ℕ, ◌+◌, ◌-◌, Bool, true, false, cond, ◌&&◌, ◌==◌, not, List, [], ◌∷◌, ◌++◌, length, take, map, refl, ap, ◌∙◌, codes, list_all, flat_map, begins, in_c, Reach, reach_in, with_unit, size_of, Look, Goes, Ends, look_in_comment, Closed, Cut, is_quiet, c_front, front, Comment}
-use Rattle.cweb_rules.proofs.Joins.{both, unlike}
+use Rattle.cweb_rules.proofs.Common.{◌≡◌, ℕ, ◌+◌, ◌-◌, Bool, true, false, cond, ◌&&◌, ◌==◌, not, List, [], ◌∷◌, ◌++◌, length, take, map, refl, ap, ◌∙◌, codes, list_all, flat_map, begins, in_c, Reach, reach_in, with_unit, size_of, Look, Goes, Ends, look_in_comment, Closed, Cut, is_quiet, c_front, front, Comment, not-true, and_parts}
+use Rattle.cweb_rules.proofs.Joins.{unlike}
 use Rattle.cweb_rules.proofs.TokensStay.{no_section}
-
-is_false : (a : Bool) → not a ≡ true → a ≡ false
-is_false true h = cc
-is_false false h = refl
 
 abbrev looks : Bool → Bool → Bool → Look
 looks closes section at = cond closes (Ends 2 Closed) (cond section (Ends 0 Cut) (cond at (Goes 2) (Goes 1)))
@@ -15,9 +11,9 @@ look t = look_in_comment (begins (codes "*/")) 2 t
 
 quiet_look : (b : ℕ) (t : List ℕ) → is_quiet b ≡ true → look (b ∷ t) ≡ Goes 1
 quiet_look b t h =
-    let q = both (not (42 == b)) (not (64 == b)) h in
-    let star = is_false (42 == b) q.0 in
-    let at = is_false (64 == b) q.1 in
+    let q = and_parts (not (42 == b)) (not (64 == b)) h in
+    let star = not-true (42 == b) q.0 in
+    let at = not-true (64 == b) q.1 in
     let section = no_section b t (unlike (λ x. 64 == x) b 64 true refl at) in
     λ i. looks (star i && begins (codes "/") t) (section i) (at i && true)
 
@@ -34,7 +30,7 @@ at_front v u w =
 comment_ends : (x more : List ℕ) → list_all is_quiet x ≡ true → reach_in look Cut 0 (x ++ 42 ∷ 47 ∷ more) ≡ ended x
 comment_ends [] more h = refl
 comment_ends (b ∷ x) more h =
-    let q = both (is_quiet b) (list_all is_quiet x) h in
+    let q = and_parts (is_quiet b) (list_all is_quiet x) h in
     let u = x ++ 42 ∷ 47 ∷ more in
     ap (λ v. at_front v (b ∷ u) u) (quiet_look b u q.0) ∙ ap (with_unit (b ∷ [])) (comment_ends x more q.1)
 

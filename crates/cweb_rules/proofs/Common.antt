@@ -4,14 +4,17 @@ pub use Rattle.std.proofs.Common.{◌≡◌, ℕ, Bool, true, false, ◌&&◌, L
 pub use Rattle.std.proofs.Common.{drop, ◌<◌, ◌+◌, ◌||◌, ◌==◌, ap, ◌∙◌, arith, ◌-◌, ◌≤◌, suc, zero, cond, ◌++◌, length}
 pub use Rattle.std.proofs.Common.{take, not, map, length-append, slice_index_or, max, ◌*◌, ◌≢◌, get_or}
 pub use Rattle.std.proofs.Common.{take-append-drop, append_assoc, replicate, rules, eqb}
+pub use Rattle.std.proofs.Math.Bool.{and-false, or-true, or-false, and-true}
 pub use Rattle.std.proofs.Math.Seq.{take-add, drop-nil, take-append_seam}
-pub use Rattle.std.proofs.lemmas.Bool.{eqb-true, leb-true, ne_eqb, eqb-false, ltb-true}
+pub use Rattle.std.proofs.lemmas.Bool.{and_parts, or_parts, not-false}
+pub use Rattle.std.proofs.lemmas.Bool.{eqb-true, leb-true, ne_eqb, eqb-false, ltb-true, or_right, not-true, or_left}
 pub use Rattle.std.proofs.lemmas.Bool.Decides.{nat_tests}
 pub use Rattle.std.proofs.lemmas.Fmt.{length-decimal-le}
 pub use Rattle.std.proofs.lemmas.Grind.{flat_map-append, common_steps}
 pub use Rattle.std.proofs.lemmas.List.{length-drop, length-take-le, take-append-le, drop-append-le, append-nil}
 pub use Rattle.std.proofs.lemmas.List.{length-take, drop_min}
 pub use Rattle.std.proofs.lemmas.List.Sums.{prefix_len-le-length, prefix_len_is}
+pub use Rattle.std.specs.Cmp.{second_so, first_so}
 pub use Rattle.std.specs.Fmt.{decimal}
 pub use Rattle.std.specs.List.{prefix_len, list_any, list_all, flat_map, position_or_len, fold, starts_with}
 pub use Rattle.std.specs.Option.{unwrap_or}

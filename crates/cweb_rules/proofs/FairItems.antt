@@ -1,5 +1,5 @@
 -- What the rules of codes, comments and literals name stands in the text, and its bytes pay for what it gives.
-use Rattle.cweb_rules.proofs.Common.{◌≡◌, ◌≤◌, ◌<◌, ℕ, zero, suc, ◌+◌, Bool, true, false, ◌||◌, ◌&&◌, List, [], ◌∷◌, ◌++◌, Option, Some, None, length, take, drop, refl, ap, arith, length-append, if◌then◌else◌, nat_lt, nat_le, codes, flat_map, prefix_len, flat_map-append, length-drop, length-take-le, prefix_len-le-length, ImproperHexNumber, begins, starts_section, is_line_end, is_delimiter, Effect, Nothing, Define, Format, Program, Named, InsertDefs, Joins, GiveAt, Faulty, letter, constant, Transliteration, Reach, body, size_of, End, Cut, control_text, name, literal, included_name, look_in_control, look_in_name, look_in_literal, look_in_include, look_in_raw, raw_literal, Kind, Skipped, Section, Code, Letter, ControlText, Verbatim, Constant, Occurrence, Comment, Quoted, Front, front, Context, section_at, control_at, verbatim_at, constant_at, letter_is, letter_at, sign_after, name_at, code_front, code_at, text_front, is_quoted, literal_prefix, starts_literal, quoted, quote_of, literal_at, raw_prefix, has_delimiter, starts_raw, delimiter, closing_sign, raw_at, include_at, at_line_ends, Pays, Fair}
+use Rattle.cweb_rules.proofs.Common.{◌≡◌, ◌≤◌, ◌<◌, ℕ, zero, suc, ◌+◌, Bool, true, false, ◌||◌, ◌&&◌, List, [], ◌∷◌, ◌++◌, Option, Some, None, length, take, drop, refl, ap, arith, length-append, if◌then◌else◌, nat_lt, nat_le, codes, flat_map, prefix_len, flat_map-append, length-drop, length-take-le, prefix_len-le-length, ImproperHexNumber, begins, starts_section, is_line_end, is_delimiter, Effect, Nothing, Define, Format, Program, Named, InsertDefs, Joins, GiveAt, Faulty, letter, constant, Transliteration, Reach, body, size_of, End, Cut, control_text, name, literal, included_name, look_in_control, look_in_name, look_in_literal, look_in_include, look_in_raw, raw_literal, Kind, Skipped, Section, Code, Letter, ControlText, Verbatim, Constant, Occurrence, Comment, Quoted, Front, front, Context, section_at, control_at, verbatim_at, constant_at, letter_is, letter_at, sign_after, name_at, code_front, code_at, text_front, is_quoted, literal_prefix, starts_literal, quoted, quote_of, literal_at, raw_prefix, has_delimiter, starts_raw, delimiter, closing_sign, raw_at, include_at, at_line_ends, Pays, Fair, second_so}
 use Rattle.cweb_rules.specs.declared.effect.Effect.TheVariants as effect
 use Rattle.cweb_rules.proofs.Sizes.{take-at_most, begins-size, units-text, reach-size, control-within, name-within, literal-within, include-within, raw-within, sign_after-size}
 use Rattle.cweb_rules.proofs.TokenSizes.{IsShort, constant-size, IsLetter, letter-size}
@@ -155,10 +155,6 @@ quoted-fair c t n r some fits within =
     fair_of c t (Quoted us r.how) (n + size_of r) (omega (arith, some)) (omega (arith, fits, within, length-drop n t))
     (λ e. (omega (arith, e, some), omega (arith, e, units-text us, whole)))
 
-and_right : (a b : Bool) → (a && b) ≡ true → b ≡ true
-and_right true b h = h
-and_right false b h = cc
-
 one_of : (a b : Bool) (n : ℕ) → (a || b) ≡ true → (a ≡ true → 1 ≤ n) → (b ≡ true → 1 ≤ n) → 1 ≤ n
 one_of true b n h f g = f refl
 one_of false b n h f g = g h
@@ -178,7 +174,7 @@ literal_at-fair c t h =
 has_delimiter-size : (t : List ℕ) → has_delimiter t ≡ true → length (delimiter t) + 1 ≤ length t
 has_delimiter-size t h =
     let n : ℕ = prefix_len is_delimiter t in
-    let sign = begins-size (codes "(") (drop n t) (and_right (nat_le n 16) (begins (codes "(") (drop n t)) h) in
+    let sign = begins-size (codes "(") (drop n t) (second_so (nat_le n 16) (begins (codes "(") (drop n t)) h) in
     omega (arith, sign, length-drop n t, length-take-le n t (prefix_len-le-length is_delimiter t))
 
 pub raw_at-fair : (c : Context) (t : List ℕ) → starts_raw t ≡ true → Fair c t (raw_at t)
@@ -187,7 +183,7 @@ raw_at-fair c t h =
     let n = m + length (delimiter (drop m t)) + 1 in
     let sign = closing_sign (drop m t) in
     let some = has_delimiter-size
-    (drop m t) (and_right (begins (codes "R\"") (drop (raw_prefix t) t)) (has_delimiter (drop m t)) h) in
+    (drop m t) (second_so (begins (codes "R\"") (drop (raw_prefix t) t)) (has_delimiter (drop m t)) h) in
     quoted-fair c t n (raw_literal sign (drop n t)) (omega arith)
     (omega (arith, some, length-drop m t)) (reach-size (look_in_raw sign) Cut (raw-within sign) (drop n t))
 

@@ -1,8 +1,9 @@
 -- What a rule names stands in the text, and its bytes pay for what it gives.
-use Rattle.cweb_rules.proofs.Common.{◌≡◌, ◌≤◌, ℕ, ◌+◌, Bool, true, false, cond, ◌||◌, ◌&&◌, ◌==◌, List, [], ◌∷◌, length, take, drop, refl, ap, arith, nat_le, codes, prefix_len, prefix_len-le-length, Place, begins, starts_section, at_line_end, is_line_end, is_blank, is_digit, is_letter, is_word_byte, is_one_of, Effect, in_limbo, in_text, in_macro, in_c, Closed, Cut, comment, line_comment, look_in_comment, Kind, Skipped, Section, Code, Letter, ControlText, Verbatim, Constant, Occurrence, Blanks, LineEnd, Comment, Quoted, Defined, Identifier, Numeral, Punctuator, front, listed, longest, number_len, goes_on_number, starts_number, Context, Limbo, TeX, Definition, Macro, CText, starts_literal, starts_raw, starts_include, c_front, macro_front, head_as, front_in, Pays, Fair}
+use Rattle.cweb_rules.proofs.Common.{◌≡◌, ◌≤◌, ℕ, ◌+◌, Bool, true, false, cond, ◌||◌, ◌&&◌, ◌==◌, List, [], ◌∷◌, length, take, drop, refl, ap, arith, nat_le, codes, prefix_len, prefix_len-le-length, Place, begins, starts_section, at_line_end, is_line_end, is_blank, is_digit, is_letter, is_word_byte, is_one_of, Effect, in_limbo, in_text, in_macro, in_c, Closed, Cut, comment, line_comment, look_in_comment, Kind, Skipped, Section, Code, Letter, ControlText, Verbatim, Constant, Occurrence, Blanks, LineEnd, Comment, Quoted, Defined, Identifier, Numeral, Punctuator, front, listed, longest, number_len, goes_on_number, starts_number, Context, Limbo, TeX, Definition, Macro, CText, starts_literal, starts_raw, starts_include, c_front, macro_front, head_as, front_in, Pays, Fair, or_left, or_right, first_so}
 use Rattle.cweb_rules.proofs.Sizes.{begins-size, reach-size, comment-within}
-use Rattle.cweb_rules.proofs.TokenSizes.{number-size, longest-some, longest-size}
+use Rattle.cweb_rules.proofs.TokenSizes.{number-size, longest-size}
 use Rattle.cweb_rules.proofs.FairItems.{fair_of, choose, section_at-fair, skipped-fair, t, code_at-fair, text_front-fair, commented, literal_at-fair, raw_at-fair, include_at-fair}
+use Rattle.cweb_rules.proofs.Longest.{longest_pos}
 
 -- C TEXT
 
@@ -14,14 +15,6 @@ run-fair c k p b t h pays =
     fair_of c (b ∷ t) k (prefix_len p (b ∷ t)) some
     (prefix_len-le-length p (b ∷ t)) (λ e. pays (omega (arith, e, some)))
 
-or_left : (a b : Bool) → a ≡ true → (a || b) ≡ true
-or_left true b h = refl
-or_left false b h = cc
-
-or_right : (a b : Bool) → b ≡ true → (a || b) ≡ true
-or_right true b h = refl
-or_right false b h = h
-
 digit_goes : (last b : ℕ) → is_digit b ≡ true → goes_on_number last b ≡ true
 digit_goes last b h = or_left (is_word_byte b || (b == 46)) _
     (or_left (is_word_byte b) (b == 46) (or_left (is_letter b || is_digit b || is_one_of (codes "_$") b) (nat_le 128 b)
@@ -30,16 +23,12 @@ digit_goes last b h = or_left (is_word_byte b || (b == 46)) _
 dot_goes : (last b : ℕ) → (b == 46) ≡ true → goes_on_number last b ≡ true
 dot_goes last b h = or_left (is_word_byte b || (b == 46)) _ (or_right (is_word_byte b) (b == 46) h)
 
-and_left : (a b : Bool) → (a && b) ≡ true → a ≡ true
-and_left true b h = refl
-and_left false b h = cc
-
 begins_number : (b : ℕ) (t : List ℕ) → starts_number (b ∷ t) ≡ true → goes_on_number 0 b ≡ true
 begins_number b [] h = digit_goes 0 b h
 begins_number b (d ∷ t) h =
     (elim (is_digit b) as (λ v. is_digit b ≡ v → (v || ((b == 46) && is_digit d)) ≡ true → goes_on_number 0 b ≡ true) [
       | true ↦ λ e k. digit_goes 0 b e
-      | false ↦ λ e k. dot_goes 0 b (and_left (b == 46) (is_digit d) k)
+      | false ↦ λ e k. dot_goes 0 b (first_so (b == 46) (is_digit d) k)
     ]) refl h
 
 number-fair : (c : Context) (b : ℕ) (t : List ℕ) → starts_number (b ∷ t) ≡ true
@@ -69,8 +58,8 @@ c_front-fair c effect takes_sign includes b t =
     _ _ (λ h. literal_at-fair c (b ∷ t) h) (λ h6. choose c (b ∷ t) (includes && starts_include (b ∷ t)) _ _
     (λ h. include_at-fair c b t) (λ h7. choose c (b ∷ t) (starts_number (b ∷ t)) _ _ (λ h. number-fair c b t h)
     (λ h8. choose c (b ∷ t) (is_word_byte b) _ _ (λ h. run-fair c Identifier is_word_byte b t h (λ e. e)) (λ h9.
-    fair_of c (b ∷ t) Punctuator (longest listed (b ∷ t)) (longest-some listed (b ∷ t)) (longest-size listed b t) (λ e.
-    omega (arith, e, longest-some listed (b ∷ t))))))))))))))
+    fair_of c (b ∷ t) Punctuator (longest listed (b ∷ t)) (longest_pos listed (b ∷ t)) (longest-size listed b t) (λ e.
+    omega (arith, e, longest_pos listed (b ∷ t))))))))))))))
 
 macro_front-fair : (c : Context) (b : ℕ) (t : List ℕ) → Fair c (b ∷ t) (macro_front (b ∷ t))
 macro_front-fair c b t = choose c (b ∷ t) (begins (codes "\\") (b ∷ t) && at_line_end (drop 1 (b ∷ t))) _ _
@@ -83,18 +72,7 @@ head_as-fair begun LineEnd n b t f = f
 head_as-fair begun (Comment how) n b t f = f
 head_as-fair begun Identifier n b t f =
     fair_of (Definition begun) (b ∷ t) _ n f.some f.within (λ e. (omega (arith, e, f.some), refl))
-head_as-fair begun Skipped n b t f = text_front-fair (Definition begun) in_text b t
-head_as-fair begun (Section starred) n b t f = text_front-fair (Definition begun) in_text b t
-head_as-fair begun (Code e) n b t f = text_front-fair (Definition begun) in_text b t
-head_as-fair begun (Letter byte text) n b t f = text_front-fair (Definition begun) in_text b t
-head_as-fair begun (ControlText how) n b t f = text_front-fair (Definition begun) in_text b t
-head_as-fair begun (Verbatim us how) n b t f = text_front-fair (Definition begun) in_text b t
-head_as-fair begun (Constant v) n b t f = text_front-fair (Definition begun) in_text b t
-head_as-fair begun (Occurrence is_file us how opens) n b t f = text_front-fair (Definition begun) in_text b t
-head_as-fair begun (Quoted us how) n b t f = text_front-fair (Definition begun) in_text b t
-head_as-fair begun (Defined tight) n b t f = text_front-fair (Definition begun) in_text b t
-head_as-fair begun Numeral n b t f = text_front-fair (Definition begun) in_text b t
-head_as-fair begun Punctuator n b t f = text_front-fair (Definition begun) in_text b t
+head_as-fair begun _ n b t f = text_front-fair (Definition begun) in_text b t
 
 pub front_in-fair : (c : Context) (includes : Bool) (b : ℕ) (t : List ℕ) → Fair c (b ∷ t) (front_in c includes (b ∷ t))
 front_in-fair Limbo includes b t = text_front-fair Limbo in_limbo b t

@@ -1,8 +1,8 @@
 -- A first byte that leaves but one rule of C text tells it.
-use Rattle.cweb_rules.proofs.Common.{◌≡◌, ℕ, ◌+◌, Bool, true, false, ◌||◌, ◌&&◌, ◌==◌, not, ◌≤◌, List, [], ◌∷◌, length, drop, slice_index_or, refl, ap, sym, ◌∙◌, subst, arith, if◌then◌else◌, codes, list_all, eqb-true, begins, is_blank, is_digit, is_one_of, is_word_byte, starts_section, has_delimiter, is_closed, is_quoted, literal_prefix, raw_prefix, starts_include, starts_literal, starts_raw, included_name, behind_dot, behind_slash, lead, c_rule, is_settled, starts_number, Lead, Rule}
+use Rattle.cweb_rules.proofs.Common.{◌≡◌, ℕ, ◌+◌, Bool, true, false, ◌||◌, ◌&&◌, ◌==◌, not, ◌≤◌, List, [], ◌∷◌, length, drop, slice_index_or, refl, ap, sym, ◌∙◌, subst, arith, if◌then◌else◌, codes, list_all, eqb-true, begins, is_blank, is_digit, is_one_of, is_word_byte, starts_section, has_delimiter, is_closed, is_quoted, literal_prefix, raw_prefix, starts_include, starts_literal, starts_raw, included_name, behind_dot, behind_slash, lead, c_rule, is_settled, starts_number, Lead, Rule, and-false, and_parts}
 use Rattle.cweb_rules.specs.declared.rule.Lead.TheVariants as first
 use Rattle.cweb_rules.specs.declared.rule.Rule.TheVariants as rule
-use Rattle.cweb_rules.proofs.Seams.{both, differs}
+use Rattle.cweb_rules.proofs.Seams.{differs}
 
 abbrev is_unsettled : ℕ → Bool
 is_unsettled b = not (is_settled b)
@@ -11,10 +11,6 @@ last_false : (a b : Bool) → not (a || b) ≡ true → b ≡ false
 last_false true b h = cc
 last_false false true h = cc
 last_false false false h = refl
-
-and_false : (a : Bool) → (a && false) ≡ false
-and_false true = refl
-and_false false = refl
 
 module _ (b : ℕ) (settled : is_settled b ≡ true) where
   differ : (x : ℕ) → is_unsettled x ≡ true → (x == b) ≡ false
@@ -31,7 +27,7 @@ module _ (b : ℕ) (settled : is_settled b ≡ true) where
   none : (set : List ℕ) → list_all is_unsettled set ≡ true → is_one_of set b ≡ false
   none [] h = refl
   none (x ∷ set) h =
-      let p = both (is_unsettled x) (list_all is_unsettled set) h in
+      let p = and_parts (is_unsettled x) (list_all is_unsettled set) h in
       ap (λ v. v || is_one_of set b) (differ x p.0) ∙ none set p.1
 
   no_digit : is_digit b ≡ false
@@ -63,7 +59,7 @@ module _ (b : ℕ) (settled : is_settled b ≡ true) where
 
   no_include : (includes : Bool) (t : List ℕ) → (includes && starts_include (b ∷ t)) ≡ false
   no_include includes t =
-      ap (λ v. includes && (v && is_closed (included_name t).how)) (no_sign 60 [] t refl) ∙ and_false includes
+      ap (λ v. includes && (v && is_closed (included_name t).how)) (no_sign 60 [] t refl) ∙ and-false includes
 
   no_number : (t : List ℕ) → starts_number (b ∷ t) ≡ false
   no_number [] = no_digit
@@ -78,9 +74,9 @@ module _ (b : ℕ) (settled : is_settled b ≡ true) where
       (if no_literal t i then rule.Literal else (if no_include includes t i then rule.IncludedName else
       (if no_number t i then rule.Number else (if is_word_byte b then rule.Identifier else rule.Punctuator))))))))))
 
-if_true : (v : Bool) (x y : Rule) → v ≡ true → (if v then x else y) ≡ x
-if_true true x y e = refl
-if_true false x y e = cc
+pub if_true : {A : Type 0} (v : Bool) (x y : A) → v ≡ true → (if v then x else y) ≡ x
+if_true true x y h = refl
+if_true false x y h = cc
 
 -- the rule that a first byte leaves
 abbrev pub IsTold : Bool → List ℕ → Lead → Type 0

@@ -1,5 +1,5 @@
 -- Tokens that stand alone, and a relation that has all bytes that join, computed.
-use Rattle.cweb_rules.proofs.Common.{◌≡◌, ℕ, Bool, true, ◌||◌, ◌&&◌, ◌==◌, not, [], ◌∷◌, ◌++◌, refl, ap, codes, is_one_of, is_digit, JoinsAll, IsToken, Code, Quoted, Identifier, Numeral, Punctuator, GiveAt, Closed}
+use Rattle.cweb_rules.proofs.Common.{◌≡◌, ℕ, Bool, true, ◌||◌, ◌&&◌, ◌==◌, not, [], ◌∷◌, ◌++◌, refl, ap, codes, is_one_of, is_digit, JoinsAll, IsToken, Code, Quoted, Identifier, Numeral, Punctuator, GiveAt, Closed, or_left}
 
 -- operator bytes, but `.` only after `.`; or `.` and a digit
 abbrev is_operator : ℕ → Bool
@@ -8,15 +8,12 @@ is_operator b = is_one_of (codes "+-*/%&|^!=<>.:#") b
 abbrev joins : ℕ → ℕ → Bool
 joins x y = (x == 46 && is_digit y) || (is_operator x && is_operator y && (not (y == 46) || x == 46))
 
-or_true : (v : Bool) (more : Bool) → v ≡ true → (v || more) ≡ true
-or_true v more h = ap (λ w. w || more) h
-
 operators_join : JoinsAll joins
 operators_join = record {
   punctuators = refl;
   comment = refl;
   line_comment = refl;
-  number = λ digit h. or_true (is_digit digit) (is_operator digit && (not (digit == 46) || true)) h;
+  number = λ digit h. or_left (is_digit digit) (is_operator digit && (not (digit == 46) || true)) h;
 }
 
 number : IsToken Numeral (codes "0xe+")

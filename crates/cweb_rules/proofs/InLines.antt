@@ -65,14 +65,7 @@ code-stands effect.Letter takes_sign t h = letter-stands (letter (drop 2 t)) t h
 code-stands effect.ControlText takes_sign t h = IsLine-take (code_front effect.ControlText takes_sign t).size t h
 code-stands effect.Verbatim takes_sign t h = IsLine-take (code_front effect.Verbatim takes_sign t).size t h
 code-stands effect.Constant takes_sign t h = IsLine-take (code_front effect.Constant takes_sign t).size t h
-code-stands Nothing takes_sign t h = IsLine-take 2 t h
-code-stands Define takes_sign t h = IsLine-take 2 t h
-code-stands Format takes_sign t h = IsLine-take 2 t h
-code-stands Program takes_sign t h = IsLine-take 2 t h
-code-stands InsertDefs takes_sign t h = IsLine-take 2 t h
-code-stands Joins takes_sign t h = IsLine-take 2 t h
-code-stands GiveAt takes_sign t h = IsLine-take 2 t h
-code-stands (Faulty k) takes_sign t h = IsLine-take 2 t h
+code-stands _ takes_sign t h = IsLine-take 2 t h
 
 code_at-stands : (effect : ℕ → Effect) (takes_sign : Bool) (t : List ℕ)
     → IsLine t → Stands t (code_at effect takes_sign t)
@@ -120,18 +113,7 @@ head-stands Blanks f t h e s = s
 head-stands LineEnd f t h e s = s
 head-stands (Comment how) f t h e s = s
 head-stands Identifier f t h e s = IsLine-take f.size t h
-head-stands Skipped f t h e s = text-stands in_text t h
-head-stands (Section starred) f t h e s = text-stands in_text t h
-head-stands (Code c) f t h e s = text-stands in_text t h
-head-stands (Letter byte text) f t h e s = text-stands in_text t h
-head-stands (ControlText how) f t h e s = text-stands in_text t h
-head-stands (Verbatim us how) f t h e s = text-stands in_text t h
-head-stands (Constant v) f t h e s = text-stands in_text t h
-head-stands (Occurrence is_file us how opens) f t h e s = text-stands in_text t h
-head-stands (Quoted us how) f t h e s = text-stands in_text t h
-head-stands (Defined tight) f t h e s = text-stands in_text t h
-head-stands Numeral f t h e s = text-stands in_text t h
-head-stands Punctuator f t h e s = text-stands in_text t h
+head-stands _ f t h e s = text-stands in_text t h
 
 pub stands : (c : Context) (includes : Bool) (b : ℕ) (t : List ℕ)
     → IsLine (b ∷ t) → Stands (b ∷ t) (front_in c includes (b ∷ t))

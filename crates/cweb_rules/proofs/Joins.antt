@@ -1,17 +1,9 @@
 -- What stands at the front stays, whatever follows that can't go on with it.
-use Rattle.cweb_rules.proofs.Common.{◌≡◌, ℕ, ◌+◌, Bool, true, false, cond, ◌&&◌, ◌||◌, ◌==◌, not, List, [], ◌∷◌, ◌++◌, length, max, refl, ap, sym, ◌∙◌, subst, list_all, prefix_len, eqb-true, begins, first_is, longest, all_join}
-
-pub both : (a b : Bool) → (a && b) ≡ true → (a ≡ true) × (b ≡ true)
-both true b e = (refl, e)
-both false b e = cc
+use Rattle.cweb_rules.proofs.Common.{◌≡◌, ℕ, ◌+◌, Bool, true, false, cond, ◌&&◌, ◌||◌, ◌==◌, not, List, [], ◌∷◌, ◌++◌, length, max, refl, ap, sym, ◌∙◌, subst, list_all, prefix_len, eqb-true, begins, first_is, longest, all_join, and_parts}
 
 pub second : (a b : Bool) → a ≡ true → (a && b) ≡ false → b ≡ false
 second true b p e = e
 second false b p e = cc
-
-pub and_false : (a : Bool) → (a && false) ≡ false
-and_false true = refl
-and_false false = refl
 
 -- the last byte of a text and the first of what follows
 abbrev pub seam_joins : (ℕ → ℕ → Bool) → ℕ → List ℕ → List ℕ → Bool
@@ -25,20 +17,20 @@ crosses joins [] b t more j fits misses = cc
 crosses joins (x ∷ []) b t more j fits misses = let e = sym fits ∙ misses in cc
 crosses joins (x ∷ y ∷ p) b [] [] j fits misses = let e = sym fits ∙ misses in cc
 crosses joins (x ∷ y ∷ p) b [] (c ∷ more) j fits misses =
-    let h = both (x == b) (begins (y ∷ p) (c ∷ more)) fits in
-    let k = both (y == c) (begins p more) h.1 in
-    let m : joins x y ≡ true = (both (joins x y) (all_join joins (y ∷ p)) j).0 in
+    let h = and_parts (x == b) (begins (y ∷ p) (c ∷ more)) fits in
+    let k = and_parts (y == c) (begins p more) h.1 in
+    let m : joins x y ≡ true = (and_parts (joins x y) (all_join joins (y ∷ p)) j).0 in
     subst (λ n. joins n c ≡ true) (eqb-true x b h.0) (subst (λ n. joins x n ≡ true) (eqb-true y c k.0) m)
 crosses joins (x ∷ y ∷ p) b (c ∷ t) more j fits misses =
-    let h = both (x == b) (begins (y ∷ p) (c ∷ t ++ more)) fits in
-    crosses joins (y ∷ p) c t more (both (joins x y) (all_join joins (y ∷ p)) j).1
+    let h = and_parts (x == b) (begins (y ∷ p) (c ∷ t ++ more)) fits in
+    crosses joins (y ∷ p) c t more (and_parts (joins x y) (all_join joins (y ∷ p)) j).1
     h.1 (second (x == b) (begins (y ∷ p) (c ∷ t)) h.0 misses)
 
 pub begins-append : (p t more : List ℕ) → begins p t ≡ true → begins p (t ++ more) ≡ true
 begins-append [] t more h = refl
 begins-append (x ∷ p) [] more h = cc
 begins-append (x ∷ p) (b ∷ t) more h =
-    let e = both (x == b) (begins p t) h in
+    let e = and_parts (x == b) (begins p t) h in
     ap (λ v. v && begins p (t ++ more)) e.0 ∙ begins-append p t more e.1
 
 by_cases : (a b : Bool) → (a ≡ true → b ≡ true) → (b ≡ true → a ≡ false → true ≡ false) → b ≡ a
@@ -55,13 +47,9 @@ pub longest_stays : (joins : ℕ → ℕ → Bool) (ps : List (List ℕ)) (b : �
     ≡ true → seam_joins joins b t more ≡ false → longest ps (b ∷ t ++ more) ≡ longest ps (b ∷ t)
 longest_stays joins [] b t more j seam = refl
 longest_stays joins (p ∷ ps) b t more j seam =
-    let js = both (all_join joins p) (list_all (all_join joins) ps) j in
+    let js = and_parts (all_join joins p) (list_all (all_join joins) ps) j in
     ap (λ v. max (cond v (length p) 1) (longest ps (b ∷ t ++ more))) (begins_stays joins p b t more js.0 seam)
     ∙ ap (λ n. max (cond (begins p (b ∷ t)) (length p) 1) n) (longest_stays joins ps b t more js.1 seam)
-
-pub neither : (a b : Bool) → (a || b) ≡ false → (a ≡ false) × (b ≡ false)
-neither true b e = cc
-neither false b e = (refl, e)
 
 not_both : (v : Bool) → not v ≡ v → true ≡ false
 not_both true e = sym e

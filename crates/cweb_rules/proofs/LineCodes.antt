@@ -51,9 +51,7 @@ sign-line t more e =
 
 pub sign_after-line : (how : End) (t more : List ℕ) → AtLineEnd more → sign_after how (t ++ more) ≡ sign_after how t
 sign_after-line Closed t more e = sign-line t more e
-sign_after-line Cut t more e = refl
-sign_after-line Nested t more e = refl
-sign_after-line Open t more e = refl
+sign_after-line _ t more e = refl
 
 abbrev named : Bool → Bool → Reach → ℕ → Front
 named is_file takes_sign r sign = front
@@ -86,14 +84,7 @@ code_front-line effect.Verbatim takes_sign a b t more e h =
     ap (λ (r : Reach). front (Verbatim r.units r.how) (2 + size_of r)) (control_text-line t more e)
 code_front-line effect.Constant takes_sign a b t more e h =
     ap (λ (v : Valued). front (Constant v.value) (2 + v.size)) (constant-line t more e)
-code_front-line Nothing takes_sign a b t more e h = refl
-code_front-line Define takes_sign a b t more e h = refl
-code_front-line Format takes_sign a b t more e h = refl
-code_front-line Program takes_sign a b t more e h = refl
-code_front-line InsertDefs takes_sign a b t more e h = refl
-code_front-line Joins takes_sign a b t more e h = refl
-code_front-line GiveAt takes_sign a b t more e h = refl
-code_front-line (Faulty k) takes_sign a b t more e h = refl
+code_front-line _ takes_sign a b t more e h = refl
 
 -- an `@` that begins no section has a byte after it in its line
 pub code_at_line : (effect : ℕ → Effect) (takes_sign : Bool) (b : ℕ) (t more : List ℕ)

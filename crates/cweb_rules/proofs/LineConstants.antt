@@ -1,6 +1,6 @@
 -- What constants, letters and control texts are in a line doesn't depend on what comes after it.
-use Rattle.cweb_rules.proofs.Common.{◌≡◌, ◌≤◌, ℕ, ◌+◌, ◌*◌, Bool, true, false, ◌&&◌, ◌||◌, ◌==◌, not, List, [], ◌∷◌, ◌++◌, Option, Some, None, length, take, drop, refl, ap, ◌∙◌, subst, arith, if◌then◌else◌, codes, nat_le, min, list_all, prefix_len, take-append-le, drop-append-le, length-take-le, prefix_len-le-length, begins, is_line_end, is_gap, is_octal, is_hex, is_replacing, character, escapes, escaped, octal_value, octal, after_backslash, stands_alone, character_at, faulty_size, constant_of, constant, hex_value, hex_at, letter_with, letter_after, letter, Transliteration, Character, Cut, control_text, look_in_control, AtLineEnd}
-use Rattle.cweb_rules.proofs.Seams.{in_line, both, begins_line, drop_line, run_line}
+use Rattle.cweb_rules.proofs.Common.{◌≡◌, ◌≤◌, ℕ, ◌+◌, ◌*◌, Bool, true, false, ◌&&◌, ◌||◌, ◌==◌, not, List, [], ◌∷◌, ◌++◌, Option, Some, None, length, take, drop, refl, ap, ◌∙◌, subst, arith, if◌then◌else◌, codes, nat_le, min, list_all, prefix_len, take-append-le, drop-append-le, length-take-le, prefix_len-le-length, begins, is_line_end, is_gap, is_octal, is_hex, is_replacing, character, escapes, escaped, octal_value, octal, after_backslash, stands_alone, character_at, faulty_size, constant_of, constant, hex_value, hex_at, letter_with, letter_after, letter, Transliteration, Character, Cut, control_text, look_in_control, AtLineEnd, and-false, and_parts}
+use Rattle.cweb_rules.proofs.Seams.{in_line, begins_line, drop_line, run_line}
 use Rattle.cweb_rules.proofs.Reaches.{reach-line}
 use Rattle.cweb_rules.proofs.Looks.{whole, control-local, control-units}
 use Rattle.cweb_rules.proofs.Sizes.{begins-size}
@@ -19,7 +19,7 @@ escaped-line : (es : List (ℕ × ℕ)) (t more : List ℕ) → list_all (λ e. 
     → AtLineEnd more → escaped es (t ++ more) ≡ escaped es t
 escaped-line [] t more h e = refl
 escaped-line (x ∷ es) t more h e =
-    let hs = both (in_line x.0) (list_all (λ e. in_line e.0) es) h in
+    let hs = and_parts (in_line x.0) (list_all (λ e. in_line e.0) es) h in
     λ i. if begins_line
     (x.0 ∷ []) t more (ap (λ v. v && true) hs.0) e i then character x.1 2 else escaped-line es t more hs.1 e i
 
@@ -98,10 +98,6 @@ pub constant-line : (t more : List ℕ) → AtLineEnd more → constant (t ++ mo
 constant-line t more e = ap (λ o. constant_of o (t ++ more)) (character_at-line t more e)
     ∙ constant_of-line (character_at t) t more e (character_at-fits t)
 
-and_false : (a : Bool) → (a && false) ≡ false
-and_false true = refl
-and_false false = refl
-
 letter_with-line : (byte start gap : ℕ) (t more : List ℕ) → AtLineEnd more → gap ≤ length t
     → letter_with byte start gap (t ++ more) ≡ letter_with byte start gap t
 letter_with-line byte start gap t more e h =
@@ -120,7 +116,7 @@ letter_of-line (Some byte) start t more e =
 
 hex_none : (a : ℕ) (t more : List ℕ) → hex_at (a ∷ 10 ∷ more) ≡ None
 hex_none a t more = ap (λ v. if v && nat_le 128
-    (16 * hex_value a + hex_value 10) then Some (16 * hex_value a + hex_value 10) else None) (and_false (is_hex a))
+    (16 * hex_value a + hex_value 10) then Some (16 * hex_value a + hex_value 10) else None) (and-false (is_hex a))
 
 letter_after-none : (gap : ℕ) (t : List ℕ) → hex_at t ≡ None → letter_after gap t ≡ None
 letter_after-none gap t h = ap (λ (o : Option ℕ). elim o as (λ w. Option Transliteration)

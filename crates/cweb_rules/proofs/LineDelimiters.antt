@@ -1,6 +1,6 @@
 -- What the rules of raw literals and included names name in a line doesn't depend on what comes after it.
-use Rattle.cweb_rules.proofs.Common.{◌≡◌, ◌≤◌, ℕ, suc, ◌+◌, Bool, true, false, cond, ◌&&◌, ◌||◌, not, List, [], ◌∷◌, ◌++◌, length, take, drop, refl, ap, sym, ◌∙◌, arith, if◌then◌else◌, codes, nat_le, list_all, prefix_len, take-append-le, drop-append-le, length-drop, length-take-le, prefix_len-le-length, begins, is_blank, is_line_end, is_delimiter, is_one_of, Reach, Cut, included_name, raw_literal, look_in_include, look_in_raw, Front, quoted, raw_prefix, has_delimiter, starts_raw, delimiter, closing_sign, raw_at, is_closed, starts_include, include_at, AtLineEnd, opens_raw}
-use Rattle.cweb_rules.proofs.Seams.{in_line, both, begins_line, drop_line, run_line}
+use Rattle.cweb_rules.proofs.Common.{◌≡◌, ◌≤◌, ℕ, suc, ◌+◌, Bool, true, false, cond, ◌&&◌, ◌||◌, not, List, [], ◌∷◌, ◌++◌, length, take, drop, refl, ap, sym, ◌∙◌, arith, if◌then◌else◌, codes, nat_le, list_all, prefix_len, take-append-le, drop-append-le, length-drop, length-take-le, prefix_len-le-length, begins, is_blank, is_line_end, is_delimiter, is_one_of, Reach, Cut, included_name, raw_literal, look_in_include, look_in_raw, Front, quoted, raw_prefix, has_delimiter, starts_raw, delimiter, closing_sign, raw_at, is_closed, starts_include, include_at, AtLineEnd, opens_raw, or-true, and_parts}
+use Rattle.cweb_rules.proofs.Seams.{in_line, begins_line, drop_line, run_line}
 use Rattle.cweb_rules.proofs.Reaches.{reach-line}
 use Rattle.cweb_rules.proofs.Looks.{whole, include-local, include-units, raw-local, raw-units}
 use Rattle.cweb_rules.proofs.Sizes.{begins-size, reach-size, raw-within, include-within}
@@ -58,14 +58,10 @@ delimits : (b : ℕ) → is_delimiter b ≡ true → in_line b ≡ true
 delimits b h = (elim (is_line_end b) as (λ v. is_line_end b ≡ v → not v ≡ true) [
   | true ↦ λ e.
       let f : is_delimiter b ≡ false = (λ i. not ((is_blank b || e i) || is_one_of (codes "()\\\"@") b))
-      ∙ ap (λ v. not (v || is_one_of (codes "()\\\"@") b)) (or_true (is_blank b)) in
+      ∙ ap (λ v. not (v || is_one_of (codes "()\\\"@") b)) (or-true (is_blank b)) in
       sym (sym h ∙ f)
   | false ↦ λ e. refl
 ]) refl
-  where
-    or_true : (a : Bool) → (a || true) ≡ true
-    or_true true = refl
-    or_true false = refl
 
 delimiter-in_line : (t : List ℕ) → list_all in_line (delimiter t) ≡ true
 delimiter-in_line [] = refl
@@ -80,7 +76,7 @@ delimiter-in_line (b ∷ t) = (elim (is_delimiter b) as (λ v.
 with_end : (d : List ℕ) → list_all in_line d ≡ true → list_all in_line (d ++ codes "\"") ≡ true
 with_end [] h = refl
 with_end (b ∷ d) h =
-    let hs = both (in_line b) (list_all in_line d) h in
+    let hs = and_parts (in_line b) (list_all in_line d) h in
     ap (λ v. v && list_all in_line (d ++ codes "\"")) hs.0 ∙ with_end d hs.1
 
 pub closing_sign-in_line : (t : List ℕ) → list_all in_line (closing_sign t) ≡ true
@@ -92,7 +88,7 @@ raw_from m d t = let n = m + length d + 1 in quoted n (raw_literal (codes ")" ++
 pub has_delimiter-size : (t : List ℕ) → has_delimiter t ≡ true → length (delimiter t) + 1 ≤ length t
 has_delimiter-size t h =
     let n : ℕ = prefix_len is_delimiter t in
-    let sign = begins-size (codes "(") (drop n t) (both (nat_le n 16) (begins (codes "(") (drop n t)) h).1 in
+    let sign = begins-size (codes "(") (drop n t) (and_parts (nat_le n 16) (begins (codes "(") (drop n t)) h).1 in
     omega (arith, sign, length-drop n t, length-take-le n t (prefix_len-le-length is_delimiter t))
 
 pub raw_at_line : (t more : List ℕ) → AtLineEnd more → starts_raw t ≡ true
@@ -102,7 +98,7 @@ raw_at_line t more e starts ends =
     let d = delimiter (drop m t) in
     let n = m + length d + 1 in
     let sign = closing_sign (drop m t) in
-    let start = both (begins (codes "R\"") (drop (raw_prefix t) t)) (has_delimiter (drop m t)) starts in
+    let start = and_parts (begins (codes "R\"") (drop (raw_prefix t) t)) (has_delimiter (drop m t)) starts in
     let two = sign-fits t start.0 in
     let some = has_delimiter-size (drop m t) start.1 in
     let clean = closing_sign-in_line (drop m t) in

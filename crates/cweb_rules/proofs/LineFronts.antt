@@ -1,5 +1,5 @@
 -- What the rules name in a line doesn't depend on what comes after it.
-use Rattle.cweb_rules.proofs.Common.{◌≡◌, ◌≤◌, ℕ, Bool, true, false, ◌&&◌, ◌||◌, List, ◌∷◌, ◌++◌, length, refl, ap, ◌∙◌, if◌then◌else◌, codes, prefix_len, Place, begins, is_blank, is_line_end, is_digit, is_word_byte, at_line_end, starts_section, Effect, in_limbo, in_text, in_macro, in_c, Kind, Skipped, Section, Code, Letter, ControlText, Verbatim, Constant, Occurrence, Blanks, LineEnd, Comment, Quoted, Defined, Identifier, Numeral, Punctuator, Front, front, section_at, text_front, starts_raw, starts_literal, starts_include, include_at, c_front, macro_front, head_as, head_front, AtLineEnd, opens_comment, opens_literal, opens_raw, opens_code, text_opens, c_opens, macro_opens, opens_in, front_in, Context, Limbo, TeX, Definition, Macro, CText, listed, longest, number_len, goes_on_number, starts_number}
+use Rattle.cweb_rules.proofs.Common.{◌≡◌, ◌≤◌, ℕ, Bool, true, false, ◌&&◌, ◌||◌, List, ◌∷◌, ◌++◌, length, refl, ap, ◌∙◌, if◌then◌else◌, codes, prefix_len, Place, begins, is_blank, is_line_end, is_digit, is_word_byte, at_line_end, starts_section, Effect, in_limbo, in_text, in_macro, in_c, Kind, Skipped, Section, Code, Letter, ControlText, Verbatim, Constant, Occurrence, Blanks, LineEnd, Comment, Quoted, Defined, Identifier, Numeral, Punctuator, Front, front, section_at, text_front, starts_raw, starts_literal, starts_include, include_at, c_front, macro_front, head_as, head_front, AtLineEnd, opens_comment, opens_literal, opens_raw, opens_code, text_opens, c_opens, macro_opens, opens_in, front_in, Context, Limbo, TeX, Definition, Macro, CText, listed, longest, number_len, goes_on_number, starts_number, or_parts}
 use Rattle.cweb_rules.proofs.Fairs.{c_front-fair}
 use Rattle.cweb_rules.proofs.LineComments.{comment_at_line, line_comment_at_line}
 use Rattle.cweb_rules.proofs.LineCodes.{code_at_line}
@@ -73,27 +73,12 @@ head_as_line LineEnd f b t more e fits h = refl
 head_as_line (Comment how) f b t more e fits h = refl
 head_as_line Identifier f b t more e fits h =
     ap (λ v. front (Defined v) f.size) (drop_line (codes "(") f.size (b ∷ t) more refl e fits)
-head_as_line Skipped f b t more e fits h = text_front_line in_text b t more e h
-head_as_line (Section starred) f b t more e fits h = text_front_line in_text b t more e h
-head_as_line (Code c) f b t more e fits h = text_front_line in_text b t more e h
-head_as_line (Letter byte text) f b t more e fits h = text_front_line in_text b t more e h
-head_as_line (ControlText how) f b t more e fits h = text_front_line in_text b t more e h
-head_as_line (Verbatim us how) f b t more e fits h = text_front_line in_text b t more e h
-head_as_line (Constant v) f b t more e fits h = text_front_line in_text b t more e h
-head_as_line (Occurrence is_file us how opens) f b t more e fits h = text_front_line in_text b t more e h
-head_as_line (Quoted us how) f b t more e fits h = text_front_line in_text b t more e h
-head_as_line (Defined tight) f b t more e fits h = text_front_line in_text b t more e h
-head_as_line Numeral f b t more e fits h = text_front_line in_text b t more e h
-head_as_line Punctuator f b t more e fits h = text_front_line in_text b t more e h
-
-neither : (a b : Bool) → (a || b) ≡ false → (a ≡ false) × (b ≡ false)
-neither true b h = cc
-neither false b h = (refl, h)
+head_as_line _ f b t more e fits h = text_front_line in_text b t more e h
 
 head_front_line : (begun : Place) (b : ℕ) (t more : List ℕ) → AtLineEnd more
     → (c_opens in_macro (b ∷ t) || text_opens in_text (b ∷ t)) ≡ false → head_front (b ∷ t ++ more) ≡ head_front (b ∷ t)
 head_front_line begun b t more e h =
-    let hs = neither (c_opens in_macro (b ∷ t)) (text_opens in_text (b ∷ t)) h in
+    let hs = or_parts (c_opens in_macro (b ∷ t)) (text_opens in_text (b ∷ t)) h in
     let f = c_front in_macro true false (b ∷ t) in
     let fits = (c_front-fair (Definition begun) in_macro true false b t).within in
     ap (λ (g : Front). head_as g.kind g (b ∷ t ++ more)) (c_front_line in_macro true false b t more e hs.0)

@@ -1,6 +1,6 @@
 -- What the rules of literals name in a line doesn't depend on what comes after it.
-use Rattle.cweb_rules.proofs.Common.{◌≡◌, ◌≤◌, ℕ, ◌+◌, Bool, true, false, ◌&&◌, ◌||◌, ◌==◌, List, [], ◌∷◌, ◌++◌, length, take, drop, refl, ap, ◌∙◌, arith, if◌then◌else◌, codes, take-append-le, drop-append-le, length-drop, begins, Look, Reach, reach, body, size_of, Cut, Open, literal, look_in_literal, Quoted, Front, front, is_quoted, literal_prefix, starts_literal, quoted, quote_of, literal_at, AtLineEnd, is_open, opens_literal}
-use Rattle.cweb_rules.proofs.Seams.{stops, both, begins_line, drop_line}
+use Rattle.cweb_rules.proofs.Common.{◌≡◌, ◌≤◌, ℕ, ◌+◌, Bool, true, false, ◌&&◌, ◌||◌, ◌==◌, List, [], ◌∷◌, ◌++◌, length, take, drop, refl, ap, ◌∙◌, arith, if◌then◌else◌, codes, take-append-le, drop-append-le, length-drop, begins, Look, Reach, reach, body, size_of, Cut, Open, literal, look_in_literal, Quoted, Front, front, is_quoted, literal_prefix, starts_literal, quoted, quote_of, literal_at, AtLineEnd, is_open, opens_literal, and_parts}
+use Rattle.cweb_rules.proofs.Seams.{stops, begins_line, drop_line}
 use Rattle.cweb_rules.proofs.Reaches.{IsLocal, IsWhole}
 use Rattle.cweb_rules.proofs.Looks.{reach_ends, ended_whole, literal-local, literal-some}
 use Rattle.cweb_rules.proofs.Sizes.{IsWithin, begins-size, reach-size, literal-within}
@@ -57,12 +57,12 @@ literal_prefix-fits : (t : List ℕ) → literal_prefix t ≤ length t
 literal_prefix-fits t = (elim (begins (codes "u8") t && is_quoted 2 t) as (λ v. (begins (codes "u8") t && is_quoted 2 t)
     ≡ v → (if v then 2 else (if (begins (codes "L") t || begins (codes "u") t || begins (codes "U") t) && is_quoted 1 t
     then 1 else 0)) ≤ length t) [
-      | true ↦ λ h. begins-size (codes "u8") t (both (begins (codes "u8") t) (is_quoted 2 t) h).0
+      | true ↦ λ h. begins-size (codes "u8") t (and_parts (begins (codes "u8") t) (is_quoted 2 t) h).0
       | false ↦ λ h. (elim ((begins (codes "L") t || begins (codes "u") t || begins (codes "U") t) && is_quoted 1 t) as
           (λ v. ((begins (codes "L") t || begins (codes "u") t || begins (codes "U") t) && is_quoted 1 t) ≡ v
           → (if v then 1 else 0) ≤ length t) [
             | true ↦ λ k. one_letter t
-                (both (begins (codes "L") t || begins (codes "u") t || begins (codes "U") t) (is_quoted 1 t) k).0
+                (and_parts (begins (codes "L") t || begins (codes "u") t || begins (codes "U") t) (is_quoted 1 t) k).0
             | false ↦ λ k. omega arith
           ]) refl
     ]) refl

@@ -1,11 +1,7 @@
 -- In a table whose longer entries stand first, the first entry that fits is the longest.
-use Rattle.cweb_rules.proofs.Common.{◌≡◌, ℕ, ◌≤◌, Bool, true, false, List, [], ◌∷◌, ◌&&◌, ◌==◌, cond, length, max, nat_le, slice_index_or, refl, sym, ◌∙◌, ap, subst, arith, nat_tests, begins, longest, first_len, descends}
+use Rattle.cweb_rules.proofs.Common.{◌≡◌, ℕ, ◌≤◌, Bool, true, false, List, [], ◌∷◌, ◌&&◌, ◌==◌, cond, length, max, nat_le, slice_index_or, refl, sym, ◌∙◌, ap, subst, arith, nat_tests, begins, longest, first_len, descends, and_parts}
 
-and_left : (a b : Bool) → (a && b) ≡ true → (a ≡ true) × (b ≡ true)
-and_left true b e = (refl, e)
-and_left false b e = cc
-
-longest_pos : (ps : List (List ℕ)) (t : List ℕ) → 1 ≤ longest ps t
+pub longest_pos : (ps : List (List ℕ)) (t : List ℕ) → 1 ≤ longest ps t
 longest_pos [] t = omega arith
 longest_pos (p ∷ ps) t = omega (arith, longest_pos ps t)
 
@@ -13,7 +9,7 @@ pub longest-le : (ps : List (List ℕ)) (t : List ℕ) (m : ℕ) → descends m 
     → (longest ps t ≤ m) × (1 ≤ m) × (longest ps t ≡ first_len ps t)
 longest-le [] t m d = let h : 1 ≤ m = grind (arith, nat_tests) in (h, h, refl)
 longest-le (p ∷ ps) t m d =
-    let b = and_left (nat_le (length p) m) (descends (length p) ps) d in
+    let b = and_parts (nat_le (length p) m) (descends (length p) ps) d in
     let short : length p ≤ m = grind (arith, nat_tests, b.0) in
     let rest = longest-le ps t (length p) b.1 in
     elim (begins p t) as (λ v. (max (cond v (length p) 1) (longest ps t) ≤ m) × (1 ≤ m)

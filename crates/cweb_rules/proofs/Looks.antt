@@ -1,6 +1,6 @@
 -- What the looks of items see in a line, and that their units stand in it.
-use Rattle.cweb_rules.proofs.Common.{◌≡◌, ◌≤◌, ◌<◌, ℕ, zero, suc, ◌-◌, Bool, true, false, ◌&&◌, ◌||◌, ◌==◌, List, [], ◌∷◌, ◌++◌, length, refl, ap, sym, ◌∙◌, subst, arith, if◌then◌else◌, codes, list_all, eqb-true, append-nil, begins, first_is, is_line_end, starts_section, Look, Goes, Ends, reach, reach_in, End, Closed, Cut, Nested, Open, look_in_control, look_in_name, look_in_comment, look_in_literal, look_in_include, look_in_raw, AtLineEnd, is_open}
-use Rattle.cweb_rules.proofs.Seams.{in_line, both, begins_stop, begins_line, starts_section_line}
+use Rattle.cweb_rules.proofs.Common.{◌≡◌, ◌≤◌, ◌<◌, ℕ, zero, suc, ◌-◌, Bool, true, false, ◌&&◌, ◌||◌, ◌==◌, List, [], ◌∷◌, ◌++◌, length, refl, ap, sym, ◌∙◌, subst, arith, if◌then◌else◌, codes, list_all, eqb-true, append-nil, begins, first_is, is_line_end, starts_section, Look, Goes, Ends, reach, reach_in, End, Closed, Cut, Nested, Open, look_in_control, look_in_name, look_in_comment, look_in_literal, look_in_include, look_in_raw, AtLineEnd, is_open, and_parts}
+use Rattle.cweb_rules.proofs.Seams.{in_line, begins_stop, begins_line, starts_section_line}
 use Rattle.cweb_rules.proofs.Sizes.{begins-size}
 use Rattle.cweb_rules.proofs.Reaches.{IsLocal, IsEnd, IsWhole, ended, at_front, WholeAt, reach-ended}
 
@@ -51,7 +51,8 @@ control-units b t =
 pub at_fits : (b : ℕ) (t : List ℕ) → starts_section (b ∷ t) ≡ false
     → begins (codes "@") (b ∷ t) ≡ true → 2 ≤ length (b ∷ t)
 at_fits b [] s h =
-    let wrong : true ≡ false = subst (λ n. (n == 64) ≡ false) (sym (eqb-true 64 b (both (64 == b) true h).0)) s in cc
+    let wrong : true ≡ false = subst (λ n. (n == 64) ≡ false) (sym (eqb-true 64 b (and_parts (64 == b) true h).0)) s in
+    cc
 at_fits b (c ∷ t) s h = omega arith
 
 -- names

@@ -24,18 +24,7 @@ pick t v' false x y p q e f g h = subst (λ w. Told t (if w then x else y)) (sym
 code-opened : (e : Effect) (takes_sign : Bool) (t u : List ℕ)
     → opens_effect e u ≡ true → Told t (code_front e takes_sign t)
 code-opened Named takes_sign t u h = tt
-code-opened effect.Letter takes_sign t u h = no h
-code-opened effect.ControlText takes_sign t u h = no h
-code-opened effect.Verbatim takes_sign t u h = no h
-code-opened effect.Constant takes_sign t u h = no h
-code-opened Nothing takes_sign t u h = no h
-code-opened Define takes_sign t u h = no h
-code-opened Format takes_sign t u h = no h
-code-opened Program takes_sign t u h = no h
-code-opened InsertDefs takes_sign t u h = no h
-code-opened Joins takes_sign t u h = no h
-code-opened GiveAt takes_sign t u h = no h
-code-opened (Faulty k) takes_sign t u h = no h
+code-opened _ takes_sign t u h = no h
 
 code_at-opened : (effect : ℕ → Effect) (takes_sign : Bool) (b : ℕ) (u more : List ℕ)
     → opens_code effect (b ∷ u) ≡ true → Told (b ∷ u ++ more) (code_at effect takes_sign (b ∷ u ++ more))
@@ -98,18 +87,7 @@ head-told Blanks f t e h text = h
 head-told LineEnd f t e h text = h
 head-told (Comment how) f t e h text = h
 head-told Identifier f t e h text = subst (λ k. Tells k (take f.size t)) e h
-head-told Skipped f t e h text = text
-head-told (Section starred) f t e h text = text
-head-told (Code c) f t e h text = text
-head-told (Letter byte v) f t e h text = text
-head-told (ControlText how) f t e h text = text
-head-told (Verbatim us how) f t e h text = text
-head-told (Constant v) f t e h text = text
-head-told (Occurrence is_file us how opens) f t e h text = text
-head-told (Quoted us how) f t e h text = text
-head-told (Defined tight) f t e h text = text
-head-told Numeral f t e h text = text
-head-told Punctuator f t e h text = text
+head-told _ f t e h text = text
 
 in-told : (c : Context) (includes : Bool) (b : ℕ) (u more : List ℕ) → AtLineEnd more
     → IsLine (b ∷ u) → Told (b ∷ u ++ more) (front_in c includes (b ∷ u ++ more))
@@ -134,9 +112,7 @@ end-told Limbo includes [] = tt
 end-told Limbo includes (d ∷ t) = tt
 end-told TeX includes [] = tt
 end-told TeX includes (d ∷ t) = tt
-end-told (Definition begun) includes t = refl
-end-told Macro includes t = refl
-end-told CText includes t = refl
+end-told _ includes t = refl
 
 -- a text is a line, and what follows it
 abbrev pub IsCut : List ℕ → List ℕ × List ℕ → Type 0

@@ -1,7 +1,8 @@
 -- Runs of bytes that are units of an item wherever they stand.
-use Rattle.cweb_rules.proofs.Common.{◌≡◌, ◌≤◌, ◌<◌, ℕ, suc, ◌+◌, Bool, true, false, cond, not, ◌&&◌, ◌||◌, ◌==◌, List, [], ◌∷◌, Option, Some, None, length, drop, get_or, refl, ap, sym, ◌∙◌, subst, arith, min, if◌then◌else◌, codes, prefix_len, unwrap_or, ne_eqb, eqb-false, prefix_len_is, prefix_len-le-length, IsFirstByte, at_line_end, begins, is_one_of, starts_section, reach, look_in_control, look_in_name, look_in_comment, look_in_literal, look_in_include, look_in_raw, look_of, reached, is_raw_sign, is_sign, is_plain, End, Closed, Cut, Nested, Item, Name, LineComment, Literal, IncludedName, RawLiteral, Look, Goes, Ends}
+use Rattle.cweb_rules.proofs.Common.{◌≡◌, ◌≤◌, ◌<◌, ℕ, suc, ◌+◌, Bool, true, false, cond, not, ◌&&◌, ◌||◌, ◌==◌, List, [], ◌∷◌, Option, Some, None, length, drop, get_or, refl, ap, sym, ◌∙◌, subst, arith, min, if◌then◌else◌, codes, prefix_len, unwrap_or, ne_eqb, eqb-false, prefix_len_is, prefix_len-le-length, IsFirstByte, at_line_end, begins, is_one_of, starts_section, reach, look_in_control, look_in_name, look_in_comment, look_in_literal, look_in_include, look_in_raw, look_of, reached, is_raw_sign, is_sign, is_plain, End, Closed, Cut, Nested, Item, Name, LineComment, Literal, IncludedName, RawLiteral, Look, Goes, Ends, not-true, or_parts}
 use Rattle.cweb_rules.specs.declared.items.Item.TheVariants.{ControlText, Comment}
 use Rattle.cweb_rules.proofs.Ranges.{later_by, later_by-add, later_by-zero, reach_goes}
+use Rattle.cweb_rules.proofs.TokensStay.{no_section}
 
 -- FIRST BYTES
 
@@ -19,20 +20,8 @@ before_first test xs (Some at) first = sym (prefix_len_is (λ b. not (test b)) x
 
 -- UNITS OF ONE BYTE
 
-pub is_not : (v : Bool) → not v ≡ true → v ≡ false
-is_not true h = cc
-is_not false h = refl
-
-neither : (v w : Bool) → (v || w) ≡ false → (v ≡ false) × (w ≡ false)
-neither true w h = cc
-neither false w h = (refl, h)
-
-turned : (a b : ℕ) → (b == a) ≡ false → (a == b) ≡ false
+pub turned : (a b : ℕ) → (b == a) ≡ false → (a == b) ≡ false
 turned a b h = ne_eqb a b (λ e. eqb-false b a h (sym e))
-
-no_section : (b : ℕ) (t : List ℕ) → (b == 64) ≡ false → starts_section (b ∷ t) ≡ false
-no_section b [] h = h
-no_section b (c ∷ t) h = ap (λ v. v && is_one_of (32 ∷ 9 ∷ 10 ∷ 42 ∷ []) c) h
 
 three : (u v w : Bool) → (u || v || w) ≡ false → (u ≡ false) × (v ≡ false) × (w ≡ false)
 three true v w h = cc
@@ -72,7 +61,7 @@ include_goes b t on at line = λ i. if on i && true then Ends 1 Closed else
 pub raw_goes : (sign : List ℕ) (b : ℕ) (t : List ℕ) → is_raw_sign sign b ≡ false → look_in_raw sign (b ∷ t) ≡ Goes 1
 raw_goes [] b t h = cc
 raw_goes (first ∷ rest) b t h =
-    let off = neither (b == 64) (b == first) h in
+    let off = or_parts (b == 64) (b == first) h in
     let at = turned 64 b off.0 in
     let on = turned first b off.1 in
     let section = no_section b t off.0 in
@@ -81,14 +70,14 @@ raw_goes (first ∷ rest) b t h =
 
 -- such a byte is a unit, whatever stands behind it
 pub plain_goes : (item : Item) (b : ℕ) (t : List ℕ) → is_sign item b ≡ false → look_of item (b ∷ t) ≡ Goes 1
-plain_goes ControlText b t h = let off = neither (b == 64) (b == 10) h in control_goes b t (turned 64 b off.0) off.1
+plain_goes ControlText b t h = let off = or_parts (b == 64) (b == 10) h in control_goes b t (turned 64 b off.0) off.1
 plain_goes Name b t h = name_goes b t h
 plain_goes Comment b t h =
-    let off = neither (b == 64) (b == 42) h in
+    let off = or_parts (b == 64) (b == 42) h in
     comment_goes (begins (codes "*/")) 2 b t (ap (λ v. v && begins (codes "/") t) (turned 42 b off.1)) off.0
-plain_goes LineComment b t h = let off = neither (b == 64) (b == 10) h in comment_goes at_line_end 0 b t off.1 off.0
+plain_goes LineComment b t h = let off = or_parts (b == 64) (b == 10) h in comment_goes at_line_end 0 b t off.1 off.0
 plain_goes (Literal quote) b t h =
-    let off = neither (b == 64 || b == 92 || b == quote) (b == 10) h in
+    let off = or_parts (b == 64 || b == 92 || b == quote) (b == 10) h in
     let signs = three (b == 64) (b == 92) (b == quote) off.0 in
     literal_goes quote b t (turned quote b signs.2) (turned 92 b signs.1) (turned 64 b signs.0) off.1
 plain_goes IncludedName b t h =
@@ -99,11 +88,11 @@ plain_goes (RawLiteral sign) b t h = raw_goes sign.now b t h
 -- nor is it an `@`
 pub no_at_in_literal : (quote b : ℕ) → is_sign (Literal quote) b ≡ false → (b == 64) ≡ false
 no_at_in_literal quote b h =
-    (three (b == 64) (b == 92) (b == quote) (neither (b == 64 || b == 92 || b == quote) (b == 10) h).0).0
+    (three (b == 64) (b == 92) (b == quote) (or_parts (b == 64 || b == 92 || b == quote) (b == 10) h).0).0
 
 pub no_at_in_raw : (sign : List ℕ) (b : ℕ) → is_raw_sign sign b ≡ false → (b == 64) ≡ false
 no_at_in_raw [] b h = cc
-no_at_in_raw (first ∷ rest) b h = (neither (b == 64) (b == first) h).0
+no_at_in_raw (first ∷ rest) b h = (or_parts (b == 64) (b == first) h).0
 
 -- how far an item reaches behind a run of them
 pub reach_plain : (item : Item) (e : End) (t : List ℕ) → reached (reach (look_of item) e t)
@@ -126,7 +115,7 @@ reach_plain item e (b ∷ t) = by (is_plain item b) refl (reach_plain item e t)
     by false off rest = later_by-zero (reached (reach look e (b ∷ t)))
     by true on rest =
         let next : 1 + n ≡ suc n = omega arith in
-        reach_goes look e 1 (b ∷ t) (omega arith) (omega arith) (plain_goes item b t (is_not (is_sign item b) on))
+        reach_goes look e 1 (b ∷ t) (omega arith) (omega arith) (plain_goes item b t (not-true (is_sign item b) on))
         ∙ ap (λ k. later_by k (reached (reach look e (drop k (b ∷ t))))) one
         ∙ ap (later_by 1) rest
         ∙ later_by-add 1 n (reached (reach look e (drop n t)))

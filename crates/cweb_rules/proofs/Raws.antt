@@ -1,12 +1,7 @@
 -- A raw literal ends by itself, and no other token begins one.
-use Rattle.cweb_rules.proofs.Common.{◌≡◌, ℕ, ◌+◌, ◌-◌, ◌<◌, ◌≤◌, suc, zero, Bool, true, false, cond, ◌&&◌, ◌||◌, ◌==◌, not, List, [], ◌∷◌, ◌++◌, length, take, drop, refl, ap, ◌∙◌, arith, length-append, codes, if◌then◌else◌, nat_le, list_all, prefix_len, take-append-le, length-drop, begins, is_delimiter, first_is, starts_section, is_word_byte, is_one_of, Reach, reach_in, with_unit, body, size_of, Look, Goes, Ends, raw_literal, look_in_raw, Closed, Cut, after_word, quoted, raw_prefix, has_delimiter, starts_raw, delimiter, closing_sign, raw_at, Front, front, Quoted}
+use Rattle.cweb_rules.proofs.Common.{◌≡◌, ℕ, ◌+◌, ◌-◌, ◌<◌, ◌≤◌, suc, zero, Bool, true, false, cond, ◌&&◌, ◌||◌, ◌==◌, not, List, [], ◌∷◌, ◌++◌, length, take, drop, refl, ap, ◌∙◌, arith, length-append, codes, if◌then◌else◌, nat_le, list_all, prefix_len, take-append-le, length-drop, begins, is_delimiter, first_is, starts_section, is_word_byte, is_one_of, Reach, reach_in, with_unit, body, size_of, Look, Goes, Ends, raw_literal, look_in_raw, Closed, Cut, after_word, quoted, raw_prefix, has_delimiter, starts_raw, delimiter, closing_sign, raw_at, Front, front, Quoted, and_parts, and-false, or_parts, drop-append-le}
 use Rattle.cweb_rules.proofs.Sizes.{begins-size}
-use Rattle.cweb_rules.proofs.Joins.{and_false, both, unlike, neither, begins-append}
-
-pub drop_over : (n : ℕ) (t more : List ℕ) → n ≤ length t → drop n (t ++ more) ≡ drop n t ++ more
-drop_over zero t more h = refl
-drop_over (suc n) [] more h = absurd (omega arith)
-drop_over (suc n) (b ∷ t) more h = drop_over n t more (omega arith)
+use Rattle.cweb_rules.proofs.Joins.{unlike, begins-append}
 
 pub quoted_stays : (n : ℕ) (r : Reach) (t more : List ℕ)
     → n + size_of r ≤ length t → quoted n r (t ++ more) ≡ quoted n r t
@@ -14,7 +9,7 @@ quoted_stays n r t more h =
     let k = n + length (body r) in
     let within : r.close ≤ length (drop k t) = omega (arith, length-drop k t, h) in
     let close : take r.close (drop k (t ++ more)) ≡ take r.close (drop k t) =
-    ap (take r.close) (drop_over k t more (omega (arith, h))) ∙ take-append-le r.close (drop k t) more within in
+    ap (take r.close) (drop-append-le k t more (omega (arith, h))) ∙ take-append-le r.close (drop k t) more within in
     (λ i. front (Quoted (take-append-le n t more (omega (arith, h)) i ∷ r.units ++ close i ∷ []) r.how) (n + size_of r))
 
 -- NONE BEGINS
@@ -48,24 +43,24 @@ plain_raw p v b t w hL hu hU hR =
     (λ i. eR i && begins (codes "\"") t)
 
 no_quote : (c : ℕ) → after_word c ≡ false → (34 == c) ≡ false
-no_quote c h = (neither (34 == c) ((39 == c) || false) (neither (is_word_byte c) (is_one_of (codes "\"'") c) h).1).0
+no_quote c h = (or_parts (34 == c) ((39 == c) || false) (or_parts (is_word_byte c) (is_one_of (codes "\"'") c) h).1).0
 
 -- word bytes and a quote don't begin word bytes that no word byte and no quote follows
 no_mark : (w d more : List ℕ) → list_all is_word_byte w ≡ true → list_all is_word_byte d ≡ true
     → first_is after_word more ≡ false → begins (w ++ 34 ∷ []) (d ++ more) ≡ false
 no_mark [] [] [] a all h = refl
 no_mark [] [] (c ∷ more) a all h = ap (λ v. v && true) (no_quote c h)
-no_mark [] (b ∷ d) more a all h =
-    ap (λ v. v && true) (unlike is_word_byte 34 b true (both (is_word_byte b) (list_all is_word_byte d) all).0 refl)
+no_mark [] (b ∷ d) more a all h = ap
+    (λ v. v && true) (unlike is_word_byte 34 b true (and_parts (is_word_byte b) (list_all is_word_byte d) all).0 refl)
 no_mark (x ∷ w) [] [] a all h = refl
 no_mark (x ∷ w) [] (c ∷ more) a all h =
-    let out : is_word_byte c ≡ false = (neither (is_word_byte c) (is_one_of (codes "\"'") c) h).0 in
-    let in_word : is_word_byte x ≡ true = (both (is_word_byte x) (list_all is_word_byte w) a).0 in
+    let out : is_word_byte c ≡ false = (or_parts (is_word_byte c) (is_one_of (codes "\"'") c) h).0 in
+    let in_word : is_word_byte x ≡ true = (and_parts (is_word_byte x) (list_all is_word_byte w) a).0 in
     ap (λ v. v && begins (w ++ 34 ∷ []) more) (unlike is_word_byte x c false out in_word)
 no_mark (x ∷ w) (b ∷ d) more a all h =
-    let rest = no_mark w d more
-    (both (is_word_byte x) (list_all is_word_byte w) a).1 (both (is_word_byte b) (list_all is_word_byte d) all).1 h in
-    ap (λ v. (x == b) && v) rest ∙ and_false (x == b)
+    let rest = no_mark w d more (and_parts (is_word_byte x) (list_all is_word_byte w) a).1
+    (and_parts (is_word_byte b) (list_all is_word_byte d) all).1 h in
+    ap (λ v. (x == b) && v) rest ∙ and-false (x == b)
 
 pub word_raw : (d more : List ℕ) → list_all is_word_byte d ≡ true
     → first_is after_word more ≡ false → starts_raw (d ++ more) ≡ false
@@ -157,12 +152,12 @@ record Same (y more : List ℕ) : Type 0 where
 same : (y more : List ℕ) → has_delimiter y ≡ true → Same y more
 same y more h =
     let m = prefix_len is_delimiter y in
-    let e = both (nat_le m 16) (begins (codes "(") (drop m y)) h in
+    let e = and_parts (nat_le m 16) (begins (codes "(") (drop m y)) h in
     let paren : 1 ≤ length (drop m y) = begins-size (codes "(") (drop m y) e.1 in
     let inside : m < length y = omega (arith, paren, length-drop m y) in
     let size : prefix_len is_delimiter (y ++ more) ≡ m = prefix_within is_delimiter y more inside in
     let rest : begins (codes "(") (drop m (y ++ more)) ≡ true =
-    ap (begins (codes "(")) (drop_over m y more (omega (arith, inside)))
+    ap (begins (codes "(")) (drop-append-le m y more (omega (arith, inside)))
     ∙ begins-append (codes "(") (drop m y) more e.1 in
     record {
       delimited = ap (λ n. take n (y ++ more)) size ∙ take-append-le m y more (omega (arith, inside));
@@ -187,16 +182,16 @@ raw_with : (n : ℕ) (t more : List ℕ) → opens_at n t ≡ true
 raw_with n t more o closed within =
     let x = drop n t in
     let y = drop (n + 2) t in
-    let e = both (is_raw n t) (has_delimiter y) o in
+    let e = and_parts (is_raw n t) (has_delimiter y) o in
     let room : 2 ≤ length x = begins-size (codes "R\"") x e.0 in
-    let over : drop n (t ++ more) ≡ x ++ more = drop_over n t more (omega (arith, within)) in
-    let over2 : drop (n + 2) (t ++ more) ≡ y ++ more = drop_over (n + 2) t more (omega (arith, within)) in
+    let over : drop n (t ++ more) ≡ x ++ more = drop-append-le n t more (omega (arith, within)) in
+    let over2 : drop (n + 2) (t ++ more) ≡ y ++ more = drop-append-le (n + 2) t more (omega (arith, within)) in
     let s = same y more e.1 in
     let delimited : delimiter (drop (n + 2) (t ++ more)) ≡ delimiter y = ap delimiter over2 ∙ s.delimited in
     let start : start_of n (t ++ more) ≡ start_of n t = ap (λ d. n + 2 + length d + 1) delimited in
     let close : closing_sign (drop (n + 2) (t ++ more)) ≡ closing_sign y =
     ap (λ d. codes ")" ++ d ++ codes "\"") delimited in
-    let rest = drop_over (start_of n t) t more (omega (arith, within)) in
+    let rest = drop-append-le (start_of n t) t more (omega (arith, within)) in
     let is : inside_of n (t ++ more) ≡ inside_of n t =
     (λ i. raw_literal (close i) (drop (start i) (t ++ more))) ∙ ap (raw_literal (closing_sign y)) rest
     ∙ closed_stays (closing_sign y) (two y) 0 (drop (start_of n t) t) more closed in

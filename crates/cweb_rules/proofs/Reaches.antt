@@ -7,9 +7,7 @@ IsLocal look more = (b : ℕ) (t : List ℕ) → look (b ∷ t ++ more) ≡ look
 
 abbrev pub IsEnd : End → Type 0
 IsEnd Open = ⊥
-IsEnd Closed = Unit {0}
-IsEnd Cut = Unit {0}
-IsEnd Nested = Unit {0}
+IsEnd _ = Unit {0}
 
 -- no unit goes over the seam; `inner` bytes of a unit are still to pass
 abbrev pub IsWhole : (List ℕ → Look) → ℕ → List ℕ → Type 0
@@ -25,16 +23,12 @@ join-with_unit : (u : List ℕ) (us : List (List ℕ)) (n : ℕ) (how : End) (m 
     → join (with_unit u (record { units = us; close = n; how = how })) m
     ≡ with_unit u (join (record { units = us; close = n; how = how }) m)
 join-with_unit u us n Open m = refl
-join-with_unit u us n Closed m = refl
-join-with_unit u us n Cut m = refl
-join-with_unit u us n Nested m = refl
+join-with_unit u us n _ m = refl
 
 pub ended : (n : ℕ) (how : End) (m : Reach) → IsEnd how
     → record { units = []; close = n; how = how } ≡ join (record { units = []; close = n; how = how }) m
 ended n Open m h = absurd h
-ended n Closed m h = refl
-ended n Cut m h = refl
-ended n Nested m h = refl
+ended n _ m h = refl
 
 whole_fits : (look : List ℕ → Look) (k : ℕ) (t : List ℕ) → IsWhole look k t → k ≤ length t
 whole_fits look k [] h = omega (arith, h)
@@ -78,9 +72,7 @@ reach-append look e t more local h = seam_in look e more local 0 t h
 join-ended : (us : List (List ℕ)) (n : ℕ) (how : End) (m : Reach) → is_open how ≡ false
     → join (record { units = us; close = n; how = how }) m ≡ record { units = us; close = n; how = how }
 join-ended us n Open m h = cc
-join-ended us n Closed m h = refl
-join-ended us n Cut m h = refl
-join-ended us n Nested m h = refl
+join-ended us n _ m h = refl
 
 -- an item that ends before the seam
 pub reach-ended : (look : List ℕ → Look) (e : End) (t more : List ℕ) → IsLocal look more → IsWhole look 0 t

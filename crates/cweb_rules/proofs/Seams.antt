@@ -1,5 +1,5 @@
 -- What stands at the front stays, where the byte after the seam can't go on with it.
-use Rattle.cweb_rules.proofs.Common.{◌≡◌, ◌≤◌, ℕ, ◌+◌, Bool, true, false, cond, ◌&&◌, ◌||◌, ◌==◌, not, List, [], ◌∷◌, ◌++◌, length, drop, max, refl, ap, sym, ◌∙◌, subst, if◌then◌else◌, list_all, prefix_len, eqb-true, drop-append-le, begins, first_is, is_line_end, is_digit, is_one_of, at_line_end, starts_section, AtLineEnd, longest, number_len, goes_on_number, starts_number}
+use Rattle.cweb_rules.proofs.Common.{◌≡◌, ◌≤◌, ℕ, ◌+◌, Bool, true, false, cond, ◌&&◌, ◌||◌, ◌==◌, not, List, [], ◌∷◌, ◌++◌, length, drop, max, refl, ap, sym, ◌∙◌, subst, if◌then◌else◌, list_all, prefix_len, eqb-true, drop-append-le, begins, first_is, is_line_end, is_digit, is_one_of, at_line_end, starts_section, AtLineEnd, longest, number_len, goes_on_number, starts_number, and_parts, and-false, or-false, and-true}
 
 -- the bytes that stand in a line
 abbrev pub in_line : ℕ → Bool
@@ -8,10 +8,6 @@ in_line b = not (is_line_end b)
 pub stops : (p : ℕ → Bool) (more : List ℕ) → p 10 ≡ false → AtLineEnd more → first_is p more ≡ false
 stops p [] h e = refl
 stops p (b ∷ more) h e = ap p e ∙ h
-
-pub both : (a b : Bool) → (a && b) ≡ true → (a ≡ true) × (b ≡ true)
-both true b e = (refl, e)
-both false b e = cc
 
 pub differs : (p : ℕ → Bool) (x b : ℕ) → p x ≡ true → p b ≡ false → (x == b) ≡ false
 differs p x b h g = (elim (x == b) as (λ v. (x == b) ≡ v → v ≡ false) [
@@ -24,9 +20,10 @@ pub begins_stop : (p : ℕ → Bool) (s t more : List ℕ) → list_all p s ≡ 
     → first_is p more ≡ false → begins s (t ++ more) ≡ begins s t
 begins_stop p [] t more a h = refl
 begins_stop p (x ∷ s) [] [] a h = refl
-begins_stop p (x ∷ s) [] (b ∷ more) a h = ap (λ v. v && begins s more) (differs p x b (both (p x) (list_all p s) a).0 h)
+begins_stop p (x ∷ s) [] (b ∷ more) a h =
+    ap (λ v. v && begins s more) (differs p x b (and_parts (p x) (list_all p s) a).0 h)
 begins_stop p (x ∷ s) (b ∷ t) more a h =
-    ap (λ v. (x == b) && v) (begins_stop p s t more (both (p x) (list_all p s) a).1 h)
+    ap (λ v. (x == b) && v) (begins_stop p s t more (and_parts (p x) (list_all p s) a).1 h)
 
 pub begins_drop : (p : ℕ → Bool) (s : List ℕ) (n : ℕ) (t more : List ℕ) → list_all p s ≡ true
     → first_is p more ≡ false → n ≤ length t → begins s (drop n (t ++ more)) ≡ begins s (drop n t)
@@ -47,19 +44,11 @@ number_stop last [] (b ∷ more) h =
 number_stop last (b ∷ t) more h =
     ap (λ n. elim (goes_on_number last b) as (λ w. ℕ) [ true ↦ 1 + n | false ↦ 0 ]) (number_stop b t more h)
 
-and_false : (a : Bool) → (a && false) ≡ false
-and_false true = refl
-and_false false = refl
-
-or_false : (a : Bool) → (a || false) ≡ a
-or_false true = refl
-or_false false = refl
-
 pub starts_number_stop : (b : ℕ) (t more : List ℕ) → first_is is_digit more ≡ false
     → starts_number (b ∷ t ++ more) ≡ starts_number (b ∷ t)
 starts_number_stop b [] [] h = refl
 starts_number_stop b [] (c ∷ more) h =
-    ap (λ v. is_digit b || ((b == 46) && v)) h ∙ ap (λ v. is_digit b || v) (and_false (b == 46)) ∙ or_false (is_digit b)
+    ap (λ v. is_digit b || ((b == 46) && v)) h ∙ ap (λ v. is_digit b || v) (and-false (b == 46)) ∙ or-false (is_digit b)
 starts_number_stop b (c ∷ t) more h = refl
 
 -- a punctuator
@@ -67,7 +56,7 @@ pub longest_stop : (p : ℕ → Bool) (ps : List (List ℕ)) (t more : List ℕ)
     → list_all (list_all p) ps ≡ true → first_is p more ≡ false → longest ps (t ++ more) ≡ longest ps t
 longest_stop p [] t more a h = refl
 longest_stop p (s ∷ ps) t more a h =
-    let hs = both (list_all p s) (list_all (list_all p) ps) a in
+    let hs = and_parts (list_all p s) (list_all (list_all p) ps) a in
     ap (λ v. max (if v then length s else 1) (longest ps (t ++ more))) (begins_stop p s t more hs.0 h)
     ∙ ap (λ n. max (if begins s t then length s else 1) n) (longest_stop p ps t more hs.1 h)
 
@@ -78,15 +67,11 @@ at_line_end_line [] [] e = refl
 at_line_end_line [] (b ∷ more) e = ap is_line_end e
 at_line_end_line (b ∷ t) more e = refl
 
-and_true : (a : Bool) → (a && true) ≡ a
-and_true true = refl
-and_true false = refl
-
 pub starts_section_line : (b : ℕ) (t more : List ℕ) → AtLineEnd more
     → starts_section (b ∷ t ++ more) ≡ starts_section (b ∷ t)
 starts_section_line b [] [] e = refl
 starts_section_line b [] (x ∷ more) e =
-    ap (λ n. (b == 64) && is_one_of (32 ∷ 9 ∷ 10 ∷ 42 ∷ []) n) e ∙ and_true (b == 64)
+    ap (λ n. (b == 64) && is_one_of (32 ∷ 9 ∷ 10 ∷ 42 ∷ []) n) e ∙ and-true (b == 64)
 starts_section_line b (c ∷ t) more e = refl
 
 pub begins_line : (s t more : List ℕ) → list_all in_line s ≡ true → AtLineEnd more → begins s (t ++ more) ≡ begins s t

@@ -1,5 +1,5 @@
 -- No rule of an item with an end sign names more than there is.
-use Rattle.cweb_rules.proofs.Common.{◌≡◌, ◌≤◌, ℕ, zero, suc, ◌+◌, ◌-◌, Bool, true, false, ◌||◌, ◌&&◌, ◌==◌, List, [], ◌∷◌, length, take, drop, refl, arith, length-append, if◌then◌else◌, codes, bytes_eq, flat_map, prefix_len, length-drop, prefix_len-le-length, begins, starts_section, at_line_end, is_gap, Look, Goes, Ends, Reach, reach, reach_in, with_unit, body, size_of, sign_after, End, Closed, Cut, Nested, Open, unit_bytes, text_in, look_in_control, look_in_name, opener_sign, look_in_comment, look_in_literal, look_in_include, look_in_raw}
+use Rattle.cweb_rules.proofs.Common.{◌≡◌, ◌≤◌, ℕ, zero, suc, ◌+◌, ◌-◌, Bool, true, false, ◌||◌, ◌&&◌, ◌==◌, List, [], ◌∷◌, length, take, drop, refl, arith, length-append, if◌then◌else◌, codes, bytes_eq, flat_map, prefix_len, length-drop, prefix_len-le-length, begins, starts_section, at_line_end, is_gap, Look, Goes, Ends, Reach, reach, reach_in, with_unit, body, size_of, sign_after, End, Closed, Cut, Nested, Open, unit_bytes, text_in, look_in_control, look_in_name, opener_sign, look_in_comment, look_in_literal, look_in_include, look_in_raw, and_parts}
 
 pub take-at_most : (n : ℕ) (t : List ℕ) → length (take n t) ≤ n
 take-at_most zero t = omega arith
@@ -11,14 +11,10 @@ take-within zero t = omega arith
 take-within (suc n) [] = omega arith
 take-within (suc n) (b ∷ t) = omega (arith, take-within n t)
 
-pub both : (a b : Bool) → (a && b) ≡ true → (a ≡ true) × (b ≡ true)
-both true b e = (refl, e)
-both false b e = cc
-
 pub begins-size : (p t : List ℕ) → begins p t ≡ true → length p ≤ length t
 begins-size [] t h = omega arith
 begins-size (x ∷ p) [] h = cc
-begins-size (x ∷ p) (b ∷ t) h = omega (arith, begins-size p t (both (x == b) (begins p t) h).1)
+begins-size (x ∷ p) (b ∷ t) h = omega (arith, begins-size p t (and_parts (x == b) (begins p t) h).1)
 
 -- UNITS
 
@@ -133,6 +129,4 @@ opener_sign-size t =
 
 pub sign_after-size : (how : End) (t : List ℕ) → sign_after how t ≤ length t
 sign_after-size Closed t = opener_sign-size t
-sign_after-size Cut t = omega arith
-sign_after-size Nested t = omega arith
-sign_after-size Open t = omega arith
+sign_after-size _ t = omega arith

@@ -1,14 +1,6 @@
 -- Where literals and numbers begin, whatever follows that can't go on with them.
-use Rattle.cweb_rules.proofs.Common.{◌≡◌, ℕ, ◌+◌, Bool, true, false, cond, ◌&&◌, ◌||◌, ◌==◌, not, List, [], ◌∷◌, ◌++◌, refl, ap, sym, ◌∙◌, subst, codes, if◌then◌else◌, eqb-true, begins, first_is, is_one_of, is_digit, is_word_byte, is_quoted, starts_literal, number_len, goes_on_number, starts_number, JoinsAll, after_word, after_number}
-use Rattle.cweb_rules.proofs.Joins.{and_false, neither, unlike, seam_joins}
-
-or_false : (a : Bool) → (a || false) ≡ a
-or_false true = refl
-or_false false = refl
-
-pub and_true : (a : Bool) → (a && true) ≡ a
-and_true true = refl
-and_true false = refl
+use Rattle.cweb_rules.proofs.Common.{◌≡◌, ℕ, ◌+◌, Bool, true, false, cond, ◌&&◌, ◌||◌, ◌==◌, not, List, [], ◌∷◌, ◌++◌, refl, ap, sym, ◌∙◌, subst, codes, if◌then◌else◌, eqb-true, begins, first_is, is_one_of, is_digit, is_word_byte, is_quoted, starts_literal, number_len, goes_on_number, starts_number, JoinsAll, after_word, after_number, and-false, or_parts, or-false}
+use Rattle.cweb_rules.proofs.Joins.{unlike, seam_joins}
 
 -- LITERALS BEGIN
 
@@ -30,25 +22,25 @@ pub opening : (t : List ℕ) → starts_literal t ≡ literal_opens t
 opening t = at_prefix (begins (codes "u8") t && is_quoted 2 t) (is_letter_first t && is_quoted 1 t) (λ n. is_quoted n t)
 
 no_quote : (c : ℕ) → is_one_of (codes "\"'") c ≡ false → ((34 == c) ≡ false) × ((39 == c) ≡ false)
-no_quote c h = let e = neither (34 == c) ((39 == c) || false) h in (e.0, (neither (39 == c) false e.1).0)
+no_quote c h = let e = or_parts (34 == c) ((39 == c) || false) h in (e.0, (or_parts (39 == c) false e.1).0)
 
 pub literal_stays : (b : ℕ) (t more : List ℕ) → first_is after_word more ≡ false
     → starts_literal (b ∷ t ++ more) ≡ starts_literal (b ∷ t)
 literal_stays b [] [] h = refl
 literal_stays b [] (c ∷ more) h =
-    let n = neither (is_word_byte c) (is_one_of (codes "\"'") c) h in
+    let n = or_parts (is_word_byte c) (is_one_of (codes "\"'") c) h in
     let q = no_quote c n.1 in
     let e = unlike is_word_byte 56 c false n.0 refl in
     let t = b ∷ c ∷ more in
     opening t
     ∙ (λ i. opens ((117 == b) && (e i && true))
     (is_letter_first t) (is_quoted 2 t) ((q.0 i && true) || (q.1 i && true)) (is_quoted 0 t))
-    ∙ ap (λ v. opens v (is_letter_first t) (is_quoted 2 t) false (is_quoted 0 t)) (and_false (117 == b))
-    ∙ sym (ap (λ v. opens v (is_letter_first t) false false (is_quoted 0 t)) (and_false (117 == b)))
+    ∙ ap (λ v. opens v (is_letter_first t) (is_quoted 2 t) false (is_quoted 0 t)) (and-false (117 == b))
+    ∙ sym (ap (λ v. opens v (is_letter_first t) false false (is_quoted 0 t)) (and-false (117 == b)))
     ∙ sym (opening (b ∷ []))
 literal_stays b (c ∷ []) [] h = refl
 literal_stays b (c ∷ []) (e ∷ more) h =
-    let n = neither (is_word_byte e) (is_one_of (codes "\"'") e) h in
+    let n = or_parts (is_word_byte e) (is_one_of (codes "\"'") e) h in
     let q = no_quote e n.1 in
     let t = b ∷ c ∷ e ∷ more in
     opening t
@@ -78,7 +70,7 @@ plain_literal b t w = plain_with is_word_byte false b t w refl refl refl
 pub word_no_number : (b : ℕ) (t more : List ℕ) → (b == 46) ≡ false
     → starts_number (b ∷ t ++ more) ≡ starts_number (b ∷ t)
 word_no_number b [] [] h = refl
-word_no_number b [] (c ∷ more) h = ap (λ v. is_digit b || (v && is_digit c)) h ∙ or_false (is_digit b)
+word_no_number b [] (c ∷ more) h = ap (λ v. is_digit b || (v && is_digit c)) h ∙ or-false (is_digit b)
 word_no_number b (c ∷ t) more h = refl
 
 no_dot : (joins : ℕ → ℕ → Bool) → JoinsAll joins → (b c : ℕ) → joins b c ≡ false → ((b == 46) && is_digit c) ≡ false
@@ -93,7 +85,7 @@ no_dot joins all b c h = (elim (b == 46) as (λ v. (b == 46) ≡ v → (v && is_
 pub punct_no_number : (joins : ℕ → ℕ → Bool) → JoinsAll joins → (b : ℕ) (t more : List ℕ)
     → seam_joins joins b t more ≡ false → starts_number (b ∷ t ++ more) ≡ starts_number (b ∷ t)
 punct_no_number joins all b [] [] h = refl
-punct_no_number joins all b [] (c ∷ more) h = ap (λ v. is_digit b || v) (no_dot joins all b c h) ∙ or_false (is_digit b)
+punct_no_number joins all b [] (c ∷ more) h = ap (λ v. is_digit b || v) (no_dot joins all b c h) ∙ or-false (is_digit b)
 punct_no_number joins all b (c ∷ t) more h = refl
 
 pub number_stays_number : (b : ℕ) (t more : List ℕ) → starts_number (b ∷ t) ≡ true
@@ -118,9 +110,9 @@ pub number_goes : (last : ℕ) (t more : List ℕ) → first_is after_number mor
     → number_len last (t ++ more) ≡ number_len last t
 number_goes last [] [] h = refl
 number_goes last [] (c ∷ more) h =
-    let n = neither (after_word c) (is_one_of (codes ".+-") c) h in
-    let w = neither (is_word_byte c) (is_one_of (codes "\"'") c) n.0 in
-    let e = neither (46 == c) (is_one_of (codes "+-") c) n.1 in
+    let n = or_parts (after_word c) (is_one_of (codes ".+-") c) h in
+    let w = or_parts (is_word_byte c) (is_one_of (codes "\"'") c) n.0 in
+    let e = or_parts (46 == c) (is_one_of (codes "+-") c) n.1 in
     let dot = unlike (λ x. 46 == x) c 46 true refl e.0 in
     ap (λ v. elim v [ true ↦ 1 + number_len c more | false ↦ 0 ])
     (λ i. w.0 i || dot i || (e.1 i && is_one_of (codes "eEpP") last))

@@ -1,6 +1,6 @@
 -- No rule of constants, letters, numbers and punctuators names more than there is.
-use Rattle.cweb_rules.proofs.Common.{◌≡◌, ◌≤◌, ◌<◌, ℕ, ◌+◌, Bool, true, false, ◌&&◌, ◌==◌, not, List, [], ◌∷◌, Option, Some, None, length, take, drop, refl, subst, arith, if◌then◌else◌, nat_lt, nat_le, codes, min, prefix_len, position_or_len, decimal, ltb-true, leb-true, length-decimal-le, length-drop, prefix_len-le-length, begins, is_gap, is_octal, is_replacing, ends_faulty, character, escapes, escaped, octal_value, octal, after_backslash, stands_alone, character_at, faulty_size, constant_of, constant, hex_at, letter_with, letter_after, letter, Transliteration, Valued, Character, longest, number_len, goes_on_number}
-use Rattle.cweb_rules.proofs.Sizes.{both, begins-size}
+use Rattle.cweb_rules.proofs.Common.{◌≡◌, ◌≤◌, ◌<◌, ℕ, ◌+◌, Bool, true, false, ◌&&◌, ◌==◌, not, List, [], ◌∷◌, Option, Some, None, length, take, drop, refl, subst, arith, if◌then◌else◌, nat_lt, nat_le, codes, min, prefix_len, position_or_len, decimal, ltb-true, leb-true, length-decimal-le, length-drop, prefix_len-le-length, begins, is_gap, is_octal, is_replacing, ends_faulty, character, escapes, escaped, octal_value, octal, after_backslash, stands_alone, character_at, faulty_size, constant_of, constant, hex_at, letter_with, letter_after, letter, Transliteration, Valued, Character, longest, number_len, goes_on_number, and_parts}
+use Rattle.cweb_rules.proofs.Sizes.{begins-size}
 
 -- CONSTANTS
 
@@ -20,8 +20,8 @@ escaped-is : (es : List (ℕ × ℕ)) (t : List ℕ) → are_small es ≡ true �
 escaped-is [] t h = tt
 escaped-is (e ∷ es) t h =
     elim (begins (e.0 ∷ []) t) as (λ v. IsCharacter (if v then character e.1 2 else escaped es t)) [
-      | true ↦ (small e.1 (both (nat_lt e.1 256) (are_small es) h).0, omega arith)
-      | false ↦ escaped-is es t (both (nat_lt e.1 256) (are_small es) h).1
+      | true ↦ (small e.1 (and_parts (nat_lt e.1 256) (are_small es) h).0, omega arith)
+      | false ↦ escaped-is es t (and_parts (nat_lt e.1 256) (are_small es) h).1
     ]
 
 octal-is : (digits : List ℕ) → IsCharacter (octal digits)
@@ -38,7 +38,7 @@ after_backslash-is t =
     [ true ↦ escaped-is escapes t refl | false ↦ octal-is (take n t) ]
 
 alone-is : (b : ℕ) → stands_alone b ≡ true → b < 128
-alone-is b h = ltb-true b 128 (both (nat_lt b 128) _ h).0
+alone-is b h = ltb-true b 128 (and_parts (nat_lt b 128) _ h).0
 
 character_at-is : (t : List ℕ) → IsCharacter (character_at t)
 character_at-is [] = tt
@@ -134,10 +134,6 @@ number-size last [] = omega arith
 number-size last (b ∷ t) =
     elim (goes_on_number last b) as (λ v. (elim v as (λ w. ℕ) [ true ↦ 1 + number_len b t | false ↦ 0 ]) ≤ length
     (b ∷ t)) [ true ↦ omega (arith, number-size b t) | false ↦ omega arith ]
-
-pub longest-some : (ps : List (List ℕ)) (t : List ℕ) → 1 ≤ longest ps t
-longest-some [] t = omega arith
-longest-some (p ∷ ps) t = omega (arith, longest-some ps t)
 
 pub longest-size : (ps : List (List ℕ)) (b : ℕ) (t : List ℕ) → longest ps (b ∷ t) ≤ length (b ∷ t)
 longest-size [] b t = omega arith

@@ -1,13 +1,13 @@
 -- A text that is one token of C text ends by itself, and what it begins with.
-use Rattle.cweb_rules.proofs.Common.{◌≡◌, ℕ, Bool, true, false, ◌&&◌, ◌||◌, ◌==◌, not, List, [], ◌∷◌, ◌++◌, Option, Some, None, length, drop, refl, ap, sym, ◌∙◌, subst, arith, codes, if◌then◌else◌, eqb-true, is_one_of, is_digit, is_word_byte, first_is, starts_section, in_c, letter, Transliteration, Effect, Nothing, Define, Format, Program, Named, InsertDefs, Joins, GiveAt, Faulty, End, Closed, Cut, Nested, Open, JoinsAll, IsToken, joins_last, goes_on, gives_at, is_token, begins_as, c_front, code_front, letter_is, section_at, is_closed, is_quoted, starts_raw, Kind, Front, front, starts_number}
+use Rattle.cweb_rules.proofs.Common.{◌≡◌, ℕ, Bool, true, false, ◌&&◌, ◌||◌, ◌==◌, not, List, [], ◌∷◌, ◌++◌, Option, Some, None, length, drop, refl, ap, sym, ◌∙◌, subst, arith, codes, if◌then◌else◌, eqb-true, is_one_of, is_digit, is_word_byte, first_is, starts_section, in_c, letter, Transliteration, Effect, Nothing, Define, Format, Program, Named, InsertDefs, Joins, GiveAt, Faulty, End, Closed, Cut, Nested, Open, JoinsAll, IsToken, joins_last, goes_on, gives_at, is_token, begins_as, c_front, code_front, letter_is, section_at, is_closed, is_quoted, starts_raw, Kind, Front, front, starts_number, and_parts, or_parts, and-true, not-false}
 use Rattle.cweb_rules.specs.declared.effect.Effect.TheVariants as effect
 use Rattle.cweb_rules.specs.Kinds as kind
 use Rattle.cweb_rules.proofs.Chosen.{Passed, Coded, Opens, Facts, rule_of, chosen}
 use Rattle.cweb_rules.proofs.ClosedLiterals.{raw_front, raw_stays_whole, literal_front, literal_stays_whole, is_a_quote}
-use Rattle.cweb_rules.proofs.Joins.{both, neither, seam_joins}
+use Rattle.cweb_rules.proofs.Joins.{seam_joins}
 use Rattle.cweb_rules.proofs.Raws.{plain_raw, run_all}
 use Rattle.cweb_rules.proofs.Looks.{at_fits}
-use Rattle.cweb_rules.proofs.Stays.{plain_literal, plain_with, number_first, and_true}
+use Rattle.cweb_rules.proofs.Stays.{plain_literal, plain_with, number_first}
 use Rattle.cweb_rules.proofs.TokensStay.{word_front, word_stays, number_stays, punct_stays}
 
 seam_of : (joins : ℕ → ℕ → Bool) (b : ℕ) (t more : List ℕ)
@@ -43,18 +43,8 @@ IsAt e t u = (code_front e false u ≡ front (kind.Code GiveAt) 2) × ((code_fro
 
 at_of : (e : Effect) (t u : List ℕ) → is_at (code_front e false t).kind ≡ true → IsAt e t u
 at_of GiveAt t u h = (refl, refl)
-at_of Nothing t u h = cc
-at_of Define t u h = cc
-at_of Format t u h = cc
-at_of Program t u h = cc
-at_of Named t u h = cc
 at_of effect.Letter t u h = let wrong : true ≡ false = sym h ∙ no_letter (letter (drop 2 t)) t in cc
-at_of effect.ControlText t u h = cc
-at_of effect.Verbatim t u h = cc
-at_of effect.Constant t u h = cc
-at_of InsertDefs t u h = cc
-at_of Joins t u h = cc
-at_of (Faulty k) t u h = cc
+at_of _ t u h = cc
 
 code_is : (a b : ℕ) (t : List ℕ) → (64 == a) ≡ true → starts_section (a ∷ b ∷ t) ≡ false
     → c_front in_c false false (a ∷ b ∷ t) ≡ code_front (in_c b) false (a ∷ b ∷ t)
@@ -67,7 +57,7 @@ at_from : (a : ℕ) (d more : List ℕ) → Coded (a ∷ d) → Names (kind.Code
 at_from a [] more f e = absurd (omega (arith, at_fits a [] f.0 f.1))
 at_from a (b ∷ t) more f e =
     let d = a ∷ b ∷ t in
-    let at = (both (64 == a) true f.1).0 in
+    let at = (and_parts (64 == a) true f.1).0 in
     let is : code_front (in_c b) false d ≡ front (kind.Code GiveAt) (length d) = sym (code_is a b t at f.0) ∙ e in
     let gives = at_of (in_c b) d (d ++ more) (ap (λ g. is_at g.kind) is) in
     code_is a b (t ++ more) at f.0 ∙ gives.0 ∙ ap (front (kind.Code GiveAt)) (sym gives.1 ∙ ap (λ g. g.size) is)
@@ -79,26 +69,13 @@ at_stays (a ∷ d) more e = at_from a d more (facts_of (a ∷ d) (kind.Code Give
 code_stays : (c : Effect) (d more : List ℕ) → Names (kind.Code c) d (length d)
     → gives_at c ≡ true → Names (kind.Code c) (d ++ more) (length d)
 code_stays GiveAt d more e h = at_stays d more e
-code_stays Nothing d more e h = cc
-code_stays Define d more e h = cc
-code_stays Format d more e h = cc
-code_stays Program d more e h = cc
-code_stays Named d more e h = cc
-code_stays effect.Letter d more e h = cc
-code_stays effect.ControlText d more e h = cc
-code_stays effect.Verbatim d more e h = cc
-code_stays effect.Constant d more e h = cc
-code_stays InsertDefs d more e h = cc
-code_stays Joins d more e h = cc
-code_stays (Faulty k) d more e h = cc
+code_stays _ d more e h = cc
 
 -- LITERALS
 
 ended : (how : End) → is_closed how ≡ true → how ≡ Closed
 ended Closed h = refl
-ended Cut h = cc
-ended Nested h = cc
-ended Open h = cc
+ended _ h = cc
 
 literal_case : (v : Bool) (units : List (List ℕ)) (how : End) (b : ℕ) (d more : List ℕ)
     → Passed (b ∷ d) → Opens (b ∷ d) v → Names (kind.Quoted units how) (b ∷ d) (length (b ∷ d))
@@ -132,35 +109,21 @@ stays joins all (kind.Quoted units how) (b ∷ d) more e h seam =
     let f = facts_of (b ∷ d) (kind.Quoted units how) (length (b ∷ d)) e in
     literal_case (starts_raw (b ∷ d)) units how b d more f.0 f.1 e h
 stays joins all (kind.Code c) (b ∷ d) more e h seam = code_stays c (b ∷ d) more e h
-stays joins all kind.Skipped (b ∷ d) more e h seam = cc
-stays joins all (kind.Section starred) (b ∷ d) more e h seam = cc
-stays joins all (kind.Letter byte text) (b ∷ d) more e h seam = cc
-stays joins all (kind.ControlText how) (b ∷ d) more e h seam = cc
-stays joins all (kind.Verbatim units how) (b ∷ d) more e h seam = cc
-stays joins all (kind.Constant value) (b ∷ d) more e h seam = cc
-stays joins all (kind.Occurrence is_file units how opens) (b ∷ d) more e h seam = cc
-stays joins all kind.Blanks (b ∷ d) more e h seam = cc
-stays joins all kind.LineEnd (b ∷ d) more e h seam = cc
-stays joins all (kind.Comment how) (b ∷ d) more e h seam = cc
-stays joins all (kind.Defined tight) (b ∷ d) more e h seam = cc
+stays joins all _ (b ∷ d) more e h seam = cc
 
 -- WHAT IT BEGINS WITH
 
 no_digit : (b : ℕ) (t : List ℕ) → starts_number (b ∷ t) ≡ false → is_digit b ≡ false
 no_digit b [] h = h
-no_digit b (c ∷ t) h = (neither (is_digit b) ((b == 46) && is_digit c) h).0
+no_digit b (c ∷ t) h = (or_parts (is_digit b) ((b == 46) && is_digit c) h).0
 
 no_quote : (b : ℕ) → is_quoted 0 (b ∷ []) ≡ false → is_one_of (codes "\"'") b ≡ false
 no_quote b h =
-    let e = neither ((34 == b) && true) ((39 == b) && true) h in
-    λ i. (sym (and_true (34 == b)) ∙ e.0) i || ((sym (and_true (39 == b)) ∙ e.1) i || false)
+    let e = or_parts ((34 == b) && true) ((39 == b) && true) h in
+    λ i. (sym (and-true (34 == b)) ∙ e.0) i || ((sym (and-true (39 == b)) ∙ e.1) i || false)
 
 abbrev no_opener : ℕ → Bool
 no_opener b = not (is_one_of (codes "LuUR\"'") b)
-
-is_not : (v : Bool) → not v ≡ false → v ≡ true
-is_not true h = refl
-is_not false h = cc
 
 literal_byte : (v : Bool) (b : ℕ) (d : List ℕ) → Opens (b ∷ d) v → no_opener b ≡ false
 literal_byte true b d o =
@@ -191,20 +154,10 @@ first_of kind.Punctuator (b ∷ d) e h =
     λ i. not ((f.3 i || quiet i) || (f.0.0.blank i || f.0.0.line_end i))
 first_of (kind.Quoted units how) (b ∷ d) e h =
     let f = facts_of (b ∷ d) (kind.Quoted units how) (length (b ∷ d)) e in
-    is_not (is_one_of (codes "LuUR\"'") b) (literal_byte (starts_raw (b ∷ d)) b d f.1)
+    not-false (is_one_of (codes "LuUR\"'") b) (literal_byte (starts_raw (b ∷ d)) b d f.1)
 first_of (kind.Code c) (b ∷ d) e h =
-    let f = facts_of (b ∷ d) (kind.Code c) (length (b ∷ d)) e in at_byte b (both (64 == b) true f.1).0
-first_of kind.Skipped (b ∷ d) e h = cc
-first_of (kind.Section starred) (b ∷ d) e h = cc
-first_of (kind.Letter byte text) (b ∷ d) e h = cc
-first_of (kind.ControlText how) (b ∷ d) e h = cc
-first_of (kind.Verbatim units how) (b ∷ d) e h = cc
-first_of (kind.Constant value) (b ∷ d) e h = cc
-first_of (kind.Occurrence is_file units how opens) (b ∷ d) e h = cc
-first_of kind.Blanks (b ∷ d) e h = cc
-first_of kind.LineEnd (b ∷ d) e h = cc
-first_of (kind.Comment how) (b ∷ d) e h = cc
-first_of (kind.Defined tight) (b ∷ d) e h = cc
+    let f = facts_of (b ∷ d) (kind.Code c) (length (b ∷ d)) e in at_byte b (and_parts (64 == b) true f.1).0
+first_of _ (b ∷ d) e h = cc
 
 -- THE LAWS
 

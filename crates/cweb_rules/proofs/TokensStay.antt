@@ -1,10 +1,10 @@
 -- A Word, a Number and a Punct are read alike, whatever follows that can't go on with them.
-use Rattle.cweb_rules.proofs.Common.{◌≡◌, ℕ, Bool, true, false, ◌&&◌, ◌==◌, List, [], ◌∷◌, ◌++◌, refl, ap, sym, ◌∙◌, codes, if◌then◌else◌, list_all, prefix_len, begins, first_is, is_one_of, is_word_byte, starts_section, in_c, c_front, literal_at, raw_at, front, Numeral, Identifier, Punctuator, listed, longest, number_len, JoinsAll, after_word, after_number}
+use Rattle.cweb_rules.proofs.Common.{◌≡◌, ℕ, Bool, true, false, ◌&&◌, ◌==◌, List, [], ◌∷◌, ◌++◌, refl, ap, sym, ◌∙◌, codes, if◌then◌else◌, list_all, prefix_len, begins, first_is, is_one_of, is_word_byte, starts_section, in_c, c_front, literal_at, raw_at, front, Numeral, Identifier, Punctuator, listed, longest, number_len, JoinsAll, after_word, after_number, or_parts, and-true}
 use Rattle.cweb_rules.proofs.Chosen.{Passed, Facts, ForWord, ForNumber, ForPunct, passed_front}
 use Rattle.cweb_rules.proofs.Raws.{plain_raw, word_raw}
-use Rattle.cweb_rules.proofs.Joins.{neither, unlike, seam_joins, begins_stays, longest_stays}
+use Rattle.cweb_rules.proofs.Joins.{unlike, seam_joins, begins_stays, longest_stays}
 use Rattle.cweb_rules.proofs.Seams.{run_stop}
-use Rattle.cweb_rules.proofs.Stays.{and_true, literal_stays, plain_literal, word_no_number, punct_no_number, number_stays_number, begins_number, number_first, number_goes}
+use Rattle.cweb_rules.proofs.Stays.{literal_stays, plain_literal, word_no_number, punct_no_number, number_stays_number, begins_number, number_first, number_goes}
 
 -- THE RULES BEFORE
 
@@ -13,7 +13,7 @@ no_section b [] h = h
 no_section b (c ∷ t) h = ap (λ v. v && is_one_of (32 ∷ 9 ∷ 10 ∷ 42 ∷ []) c) h
 
 section_stays : (b : ℕ) (t : List ℕ) → begins (codes "@") (b ∷ t) ≡ false → starts_section (b ∷ t) ≡ false
-section_stays b t h = no_section b t (unlike (λ x. 64 == x) b 64 true refl (sym (and_true (64 == b)) ∙ h))
+section_stays b t h = no_section b t (unlike (λ x. 64 == x) b 64 true refl (sym (and-true (64 == b)) ∙ h))
 
 pub passes : (b : ℕ) (t more : List ℕ) → (47 == b) ≡ false → Passed (b ∷ t) → Passed (b ∷ t ++ more)
 passes b t more e p = record {
@@ -26,7 +26,7 @@ passes b t more e p = record {
 }
 
 two_join : (v : Bool) → v ≡ true → (v && true) ≡ true
-two_join v h = and_true v ∙ h
+two_join v h = and-true v ∙ h
 
 passes_seam : (joins : ℕ → ℕ → Bool) → JoinsAll joins → (b : ℕ) (t more : List ℕ)
     → seam_joins joins b t more ≡ false → Passed (b ∷ t) → Passed (b ∷ t ++ more)
@@ -43,11 +43,11 @@ passes_seam joins all b t more h p = record {
 
 not_word : (more : List ℕ) → first_is after_word more ≡ false → first_is is_word_byte more ≡ false
 not_word [] h = refl
-not_word (c ∷ more) h = (neither (is_word_byte c) (is_one_of (codes "\"'") c) h).0
+not_word (c ∷ more) h = (or_parts (is_word_byte c) (is_one_of (codes "\"'") c) h).0
 
 not_number : (more : List ℕ) → first_is after_number more ≡ false → first_is after_word more ≡ false
 not_number [] h = refl
-not_number (c ∷ more) h = (neither (after_word c) (is_one_of (codes ".+-") c) h).0
+not_number (c ∷ more) h = (or_parts (after_word c) (is_one_of (codes ".+-") c) h).0
 
 pub word_front : (t : List ℕ) → Facts t ForWord
     → c_front in_c false false t ≡ front Identifier (prefix_len is_word_byte t)

@@ -38,21 +38,11 @@ units-none (u ∷ us) h = omega (arith, ends-append u (flat_map (λ u. u) us), n
 
 line-told : (k : Kind) (bytes : List ℕ) → InLine k bytes → IsLine bytes → Tells k bytes
 line-told Skipped bytes h l = tt
-line-told (Section starred) bytes h l = none-ends bytes l
-line-told (Code e) bytes h l = none-ends bytes l
-line-told (Letter byte text) bytes h l = none-ends bytes l
-line-told (ControlText how) bytes h l = none-ends bytes l
-line-told (Verbatim us how) bytes h l = none-ends bytes l
-line-told (Constant v) bytes h l = none-ends bytes l
 line-told (Occurrence is_file us how opens) bytes h l = tt
-line-told Blanks bytes h l = none-ends bytes l
 line-told LineEnd bytes h l = absurd h
 line-told (Comment how) bytes h l = tt
 line-told (Quoted us how) bytes h l = units-none us h ∙ sym (none-ends bytes l)
-line-told (Defined tight) bytes h l = none-ends bytes l
-line-told Identifier bytes h l = none-ends bytes l
-line-told Numeral bytes h l = none-ends bytes l
-line-told Punctuator bytes h l = none-ends bytes l
+line-told _ bytes h l = none-ends bytes l
 
 -- what a line's front names is told, whatever follows the line
 pub in_line-told : (f : Front) (u more : List ℕ) → IsLine u
@@ -69,7 +59,7 @@ at_front look e v u t =
       | Ends n how ↦ record { units = []; close = n; how = how }
     ]
 
-drop-pred : (n : ℕ) (b : ℕ) (t : List ℕ) → 0 < n → drop (n - 1) t ≡ drop n (b ∷ t)
+pub drop-pred : (n : ℕ) (b : ℕ) (t : List ℕ) → 0 < n → drop (n - 1) t ≡ drop n (b ∷ t)
 drop-pred n b t h = let e : n ≡ suc (n - 1) = omega arith in sym (ap (λ m. drop m (b ∷ t)) e)
 
 abbrev Begins : Reach → List ℕ → Type 0

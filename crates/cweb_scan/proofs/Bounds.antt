@@ -2,10 +2,10 @@
 use Rattle.cweb_scan.proofs.Common.{◌≡◌, ◌≤◌, ℕ, zero, suc, ◌+◌, ◌-◌, List, [], ◌∷◌, ◌++◌, Option, Some, None, length, take, map, refl, arith, length-append, option_to_list, fold, length-take-le, Line, Occurrence, Token, Word, Number, Literal, Verbatim, Punct, Blank, Newline, Join, Defs, Name, Head, Tail, Mark, Part, all_tokens, Replacement, PartsSoFar, all_parts, finished, Piece, State, leave, before_text, Reading, after, front_of, pieces_in, run, further, read, scanned, total, one, text_size, occurrence_size, replacement_size, part_size, open_size, parts_size, token_number, text_bytes, due, Adds, web_size, IsBounded}
 use Rattle.cweb_store.specs.Texts as kept
 use Rattle.cweb_texts.specs.Words as words
-use Rattle.cweb_scan.proofs.Measures.{total-append}
 use Rattle.cweb_scan.proofs.StateAdds.{adds_both, due_some, leave_in-adds}
 use Rattle.cweb_scan.proofs.PieceAdds.{piece-adds}
 use Rattle.cweb_scanner.proofs.Fairs.{fair}
+use Rattle.cweb_texts.proofs.WordLemmas.{total-append}
 
 -- so much is added, where `inner` bytes of the text are paid for already
 pub record AddsLess (inner bytes : ℕ) (old new : State) : Type 0 where
@@ -71,14 +71,7 @@ token-bytes (Number b) = omega arith
 token-bytes (Literal b) = omega arith
 token-bytes (Verbatim b) = omega arith
 token-bytes (Punct b) = omega arith
-token-bytes Blank = refl
-token-bytes Newline = refl
-token-bytes Join = refl
-token-bytes Defs = refl
-token-bytes (Name n) = refl
-token-bytes (Head n) = refl
-token-bytes (Tail n) = refl
-token-bytes (Mark p) = refl
+token-bytes _ = refl
 
 tokens-bytes : (ts : List Token) → words.total kept.token_bytes ts ≡ total text_size ts
 tokens-bytes [] = refl

@@ -1,7 +1,6 @@
 -- What is taken in one turn where no item is open: a code, and text before one.
-use Rattle.cweb_scan.proofs.Common.{◌≡◌, ◌≤◌, ℕ, Bool, true, false, ◌==◌, not, List, [], ◌∷◌, length, drop, get_or, refl, ap, sym, ◌∙◌, subst, arith, if◌then◌else◌, codes, prefix_len, eqb-true, begins, starts_section, in_limbo, in_text, in_macro, in_c, front_in, code_at, code_front, section_at, Skipped, front, IsLine, opens_in, opens_code, opens_effect, Context, Limbo, TeX, Definition, Macro, CText, Effect, Nothing, Define, Format, Program, Named, InsertDefs, Joins, GiveAt, Faulty, is_c, effect_in, is_head, is_name, is_skipped, reads_c, Held, Takes, Passes, Between}
+use Rattle.cweb_scan.proofs.Common.{◌≡◌, ◌≤◌, ℕ, Bool, true, false, ◌==◌, not, List, [], ◌∷◌, length, drop, get_or, refl, ap, sym, ◌∙◌, subst, arith, if◌then◌else◌, codes, prefix_len, eqb-true, begins, starts_section, in_limbo, in_text, in_macro, in_c, front_in, code_at, code_front, section_at, Skipped, front, IsLine, opens_in, opens_code, opens_effect, Context, Limbo, TeX, Definition, Macro, CText, Effect, Nothing, Define, Format, Program, Named, InsertDefs, Joins, GiveAt, Faulty, is_c, effect_in, is_head, is_name, is_skipped, reads_c, Held, Takes, Passes, Between, and_parts}
 use Rattle.cweb_rules.specs.declared.effect.Effect.TheVariants as effect
-use Rattle.cweb_rules.proofs.Seams.{both}
 use Rattle.cweb_scan.proofs.Rests.{is_text, skipped_takes}
 use Rattle.cweb_scanner.proofs.Turns.{between}
 
@@ -13,9 +12,9 @@ pub code_shape : (u : List ℕ) → starts_section u ≡ false
 code_shape [] section at = cc
 code_shape (a ∷ []) section at =
     let wrong : true ≡ false =
-    subst (λ n. (n == 64) ≡ false) (sym (eqb-true 64 a (both (64 == a) true at).0)) section in
+    subst (λ n. (n == 64) ≡ false) (sym (eqb-true 64 a (and_parts (64 == a) true at).0)) section in
     cc
-code_shape (a ∷ b ∷ t) section at = ap (λ n. n ∷ b ∷ t) (eqb-true 64 a (both (64 == a) true at).0)
+code_shape (a ∷ b ∷ t) section at = ap (λ n. n ∷ b ∷ t) (eqb-true 64 a (and_parts (64 == a) true at).0)
 
 pub code_size : (u : List ℕ) → starts_section u ≡ false → begins (codes "@") u ≡ true → 2 ≤ length u
 code_size u section at = omega (arith, ap (λ (v : List ℕ). length v) (code_shape u section at))
@@ -44,18 +43,7 @@ code_opens CText b w head h = ap (λ v. if v then false else opens_effect (in_c 
 plain_code : (e : Effect) (takes : Bool) (t : List ℕ) → is_name e ≡ false
     → (code_front e takes t ≡ code_front e true t) × (opens_effect e t ≡ false)
 plain_code Named takes t h = cc
-plain_code effect.Letter takes t h = (refl, refl)
-plain_code effect.ControlText takes t h = (refl, refl)
-plain_code effect.Verbatim takes t h = (refl, refl)
-plain_code effect.Constant takes t h = (refl, refl)
-plain_code Nothing takes t h = (refl, refl)
-plain_code Define takes t h = (refl, refl)
-plain_code Format takes t h = (refl, refl)
-plain_code Program takes t h = (refl, refl)
-plain_code InsertDefs takes t h = (refl, refl)
-plain_code Joins takes t h = (refl, refl)
-plain_code GiveAt takes t h = (refl, refl)
-plain_code (Faulty k) takes t h = (refl, refl)
+plain_code _ takes t h = (refl, refl)
 
 -- what a code's front is, and that it ends in its line
 pub plain_front : (c : Context) (includes : Bool) (u : List ℕ) → is_head c ≡ false
@@ -75,16 +63,11 @@ plain_front c includes u head section at plain =
 text_is : (c : Context) → reads_c c ≡ false → is_text c ≡ true
 text_is Limbo h = refl
 text_is TeX h = refl
-text_is (Definition begun) h = cc
-text_is Macro h = cc
-text_is CText h = cc
+text_is _ h = cc
 
 pub text_head : (c : Context) → reads_c c ≡ false → is_head c ≡ false
-text_head Limbo h = refl
-text_head TeX h = refl
 text_head (Definition begun) h = cc
-text_head Macro h = refl
-text_head CText h = refl
+text_head _ h = refl
 
 -- what stands before the next `@`
 pub skipped_at : (n : ℕ) (u : List ℕ) (h : Held) → n ≡ prefix_len is_skipped u → 1 ≤ n
@@ -109,6 +92,4 @@ section_text TeX includes u c h = (
   ap (λ v. if v then section_at u else (if begins (codes "@") u then code_at in_text true u else front Skipped 1)) h,
   ap (λ v. if v then false else (if begins (codes "@") u then opens_code in_text u else false)) h,
 )
-section_text (Definition begun) includes u c h = cc
-section_text Macro includes u c h = cc
-section_text CText includes u c h = cc
+section_text _ includes u c h = cc

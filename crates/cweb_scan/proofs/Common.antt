@@ -3,15 +3,17 @@ pub use Rattle.std.proofs.Common.{◌≡◌, ◌≤◌, ◌<◌, ℕ, ◌+◌, �
 pub use Rattle.std.proofs.Common.{refl, ap, sym, ◌∙◌, subst, arith, append_assoc, length-append, zero, suc, ◌-◌, take}
 pub use Rattle.std.proofs.Common.{map, true, false, ◌==◌, not, drop, get_or, ◌&&◌, ◌||◌, take-append-drop, cond, ◌/◌}
 pub use Rattle.std.proofs.Common.{◌%◌, rules}
+pub use Rattle.std.proofs.Math.Bool.{and-true, and-false}
 pub use Rattle.std.proofs.Math.Seq.{take-append-add, drop-append-add, take-append_seam, drop-append_seam, drop-nil}
 pub use Rattle.std.proofs.Math.Seq.{drop-length}
-pub use Rattle.std.proofs.lemmas.Bool.{eqb-true, ne_eqb, ltb-true, lt-ltb}
+pub use Rattle.std.proofs.lemmas.Bool.{eqb-true, ne_eqb, ltb-true, lt-ltb, not-true, and_parts, and_from}
 pub use Rattle.std.proofs.lemmas.Bool.Decides.{nat_tests}
 pub use Rattle.std.proofs.lemmas.Grind.{flat_map-append, fold-append, common_steps}
 pub use Rattle.std.proofs.lemmas.List.{length-take-le, append-nil, length-drop, take-append-le, drop-append-le}
 pub use Rattle.std.proofs.lemmas.List.{drop_all, length-map}
 pub use Rattle.std.proofs.lemmas.List.Elements.{All-append, All-nil, All-push, All-cons, All-head, All-tail}
 pub use Rattle.std.proofs.lemmas.List.Elements.{filter-append, All-weaker}
+pub use Rattle.std.proofs.lemmas.Option.{same_Some}
 pub use Rattle.std.specs.Fmt.{decimal, digit_glyph, digits_onto}
 pub use Rattle.std.specs.List.{fold, prefix_len, flat_map, list_all, slice_get}
 pub use Rattle.std.specs.Prelude.{IsTrue, option_to_list, if◌then◌else◌, codes, nat_lt, bytes_eq, option_map, All}

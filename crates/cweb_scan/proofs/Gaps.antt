@@ -2,10 +2,7 @@
 use Rattle.cweb_scan.proofs.Common.{◌≡◌, ℕ, suc, Bool, true, false, ◌&&◌, List, [], ◌∷◌, drop, take, refl, ap, sym, ◌∙◌, arith, if◌then◌else◌, not, prefix_len, is_blank, front_in, Blanks, Front, front, Context, CText, Blank, Reading, after, blank, enter_in, directive, in_directive, names_include, run, State, give}
 use Rattle.cweb_scanner.specs.Directives as spec
 use Rattle.cweb_scan.proofs.Openers.{run_as}
-
-if_true : (v : Bool) (x y : Front) → v ≡ true → (if v then x else y) ≡ x
-if_true true x y h = refl
-if_true false x y h = cc
+use Rattle.cweb_rules.proofs.FirstBytes.{if_true}
 
 blank_front : (c : Context) (includes : Bool) (b : ℕ) (t : List ℕ) → c ≡ CText → is_blank b ≡ true
     → front_in c includes (b ∷ t) ≡ front Blanks (prefix_len is_blank (b ∷ t))

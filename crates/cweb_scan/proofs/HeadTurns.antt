@@ -30,17 +30,7 @@ head_text LineEnd f t h = cc
 head_text (Comment how) f t h = cc
 head_text Identifier f t h = cc
 head_text (Defined tight) f t h = cc
-head_text Skipped f t h = refl
-head_text (Section starred) f t h = refl
-head_text (Code c) f t h = refl
-head_text (Letter byte text) f t h = refl
-head_text (ControlText how) f t h = refl
-head_text (Verbatim us how) f t h = refl
-head_text (Constant v) f t h = refl
-head_text (Occurrence is_file us how opens) f t h = refl
-head_text (Quoted us how) f t h = refl
-head_text Numeral f t h = refl
-head_text Punctuator f t h = refl
+head_text _ f t h = refl
 
 foreign_leaves : (k : Kind) → is_foreign k ≡ true → stays_in_head k ≡ false
 foreign_leaves Blanks h = cc
@@ -48,17 +38,7 @@ foreign_leaves LineEnd h = cc
 foreign_leaves (Comment how) h = cc
 foreign_leaves Identifier h = cc
 foreign_leaves (Defined tight) h = cc
-foreign_leaves Skipped h = refl
-foreign_leaves (Section starred) h = refl
-foreign_leaves (Code c) h = refl
-foreign_leaves (Letter byte text) h = refl
-foreign_leaves (ControlText how) h = refl
-foreign_leaves (Verbatim us how) h = refl
-foreign_leaves (Constant v) h = refl
-foreign_leaves (Occurrence is_file us how opens) h = refl
-foreign_leaves (Quoted us how) h = refl
-foreign_leaves Numeral h = refl
-foreign_leaves Punctuator h = refl
+foreign_leaves _ h = refl
 
 either : (is : Front → Bool) (v : Bool) (x y : Front) → is x ≡ true → is y ≡ true → is (if v then x else y) ≡ true
 either is true x y f g = f
@@ -75,19 +55,8 @@ foreign_letter None t = refl
 foreign_letter (Some l) t = refl
 
 foreign_effect : (e : Effect) (takes : Bool) (t : List ℕ) → foreign (code_front e takes t) ≡ true
-foreign_effect Named takes t = refl
 foreign_effect effect.Letter takes t = foreign_letter (letter (drop 2 t)) t
-foreign_effect effect.ControlText takes t = refl
-foreign_effect effect.Verbatim takes t = refl
-foreign_effect effect.Constant takes t = refl
-foreign_effect Nothing takes t = refl
-foreign_effect Define takes t = refl
-foreign_effect Format takes t = refl
-foreign_effect Program takes t = refl
-foreign_effect InsertDefs takes t = refl
-foreign_effect Joins takes t = refl
-foreign_effect GiveAt takes t = refl
-foreign_effect (Faulty k) takes t = refl
+foreign_effect _ takes t = refl
 
 foreign_code : (effect : ℕ → Effect) (takes : Bool) (t : List ℕ) → foreign (code_at effect takes t) ≡ true
 foreign_code effect takes [] = refl
@@ -106,12 +75,8 @@ foreign_rule v rule.Comment b c l n e = absurd (c refl)
 foreign_rule v rule.LineComment b c l n e = absurd (l refl)
 foreign_rule v rule.Section b c l n e = foreign_section v
 foreign_rule v rule.Code b c l n e = foreign_code in_macro true v
-foreign_rule v rule.RawLiteral b c l n e = refl
-foreign_rule v rule.Literal b c l n e = refl
-foreign_rule v rule.IncludedName b c l n e = refl
-foreign_rule v rule.Number b c l n e = refl
 foreign_rule v rule.Identifier b c l n e = absurd (n refl)
-foreign_rule v rule.Punctuator b c l n e = refl
+foreign_rule v _ b c l n e = refl
 
 pub by_rule : (v : List ℕ) (r : Rule) → r ≡ c_rule false v
     → c_front in_macro true false v ≡ c_front_by in_macro true v r

@@ -3,8 +3,9 @@ use Rattle.cweb_scan.proofs.Common.{◌≡◌, ℕ, Bool, true, false, ◌&&◌,
 use Rattle.cweb_store.specs.declared.parts.PartKind.TheVariants as part
 use Rattle.cweb_rules.specs.declared.effect.Effect.TheVariants as effect
 use Rattle.cweb_scanner.specs.Directives.{is_blank}
-use Rattle.cweb_scan.proofs.Measures.{total-append, dropped-size}
+use Rattle.cweb_scan.proofs.Measures.{dropped-size}
 use Rattle.cweb_scan.proofs.StateAdds.{adds_both, adds_within, due_some, nothing_adds, give-adds, fault-adds, opens, begin_part-adds, end_macro_in-adds}
+use Rattle.cweb_texts.proofs.WordLemmas.{total-append}
 
 -- ITEMS
 
@@ -30,7 +31,6 @@ quiet : (s t : State) → Adds 0 0 s t → Adds 2 1 s t
 quiet s t a = adds_within 2 1 a (omega arith) (omega arith)
 
 pub code-adds : (e : Effect) (s : State) → Adds 2 1 s (code e s)
-code-adds Nothing s = quiet s s (nothing_adds s)
 code-adds Define s =
     let a = end_macro_in-adds s.context s in
     record {
@@ -45,11 +45,7 @@ code-adds InsertDefs s =
 code-adds Joins s = adds_within 2 1 (adds_both (drops s) (give-adds Join _)) (omega arith) (omega arith)
 code-adds GiveAt s = adds_within 2 1 (give-adds (Punct (codes "@")) s) (omega arith) (omega arith)
 code-adds (Faulty k) s = quiet s _ (fault-adds k s.here s)
-code-adds Named s = quiet s s (nothing_adds s)
-code-adds effect.Letter s = quiet s s (nothing_adds s)
-code-adds effect.ControlText s = quiet s s (nothing_adds s)
-code-adds effect.Verbatim s = quiet s s (nothing_adds s)
-code-adds effect.Constant s = quiet s s (nothing_adds s)
+code-adds _ s = quiet s s (nothing_adds s)
 
 pub letter-adds : (byte : ℕ) (text : List ℕ) (s : State) → Adds 0 (length text) s (letter byte (Some text) s)
 letter-adds byte text s = record {
@@ -59,17 +55,14 @@ letter-adds byte text s = record {
 }
 
 pub control_text-adds : (how : End) (s : State) → Adds 0 0 s (control_text how s)
-control_text-adds Closed s = nothing_adds s
 control_text-adds Cut s = fault-adds ControlTextDidNotEnd s.here s
-control_text-adds Nested s = nothing_adds s
-control_text-adds Open s = nothing_adds s
+control_text-adds _ s = nothing_adds s
 
 pub verbatim-adds : (text : List ℕ) (how : End) (s : State) → Adds 1 (length text) s (verbatim text how s)
 verbatim-adds text Closed s = give-adds (Verbatim text) s
 verbatim-adds text Cut s =
     adds_within 1 (length text) (fault-adds ControlTextDidNotEnd s.here s) (omega arith) (omega arith)
-verbatim-adds text Nested s = adds_within 1 (length text) (nothing_adds s) (omega arith) (omega arith)
-verbatim-adds text Open s = adds_within 1 (length text) (nothing_adds s) (omega arith) (omega arith)
+verbatim-adds text _ s = adds_within 1 (length text) (nothing_adds s) (omega arith) (omega arith)
 
 -- what is due in the head is paid
 pub define-adds : (bytes : List ℕ) (tight : Bool) (s : State)
@@ -82,16 +75,13 @@ define-adds bytes false s h =
     record { tokens_are = omega (arith, a.tokens_are, h); bytes_are = omega (arith, a.bytes_are) }
 
 pub comment-adds : (how : End) (p : Place) (s : State) → Adds 0 0 s (comment how p s)
-comment-adds Closed p s = nothing_adds s
 comment-adds Cut p s = fault-adds CommentDidNotEnd p s
-comment-adds Nested p s = nothing_adds s
-comment-adds Open p s = nothing_adds s
+comment-adds _ p s = nothing_adds s
 
 name_fault-adds : (how : End) (p : Place) (s : State) → Adds 0 0 s (name_fault how p s)
-name_fault-adds Closed p s = nothing_adds s
 name_fault-adds Cut p s = fault-adds NameDidNotEnd p s
 name_fault-adds Nested p s = fault-adds NamesDoNotNest p s
-name_fault-adds Open p s = nothing_adds s
+name_fault-adds _ p s = nothing_adds s
 
 use_name-adds : (n : NameRef) (opens : Bool) (p : Place) (s : State) → Adds 2 0 s (use_name n opens p s)
 use_name-adds n true p s =
@@ -104,11 +94,10 @@ open_name-adds n false s = adds_within 2 0 (end_macro_in-adds s.context s) (omeg
 
 pub name_in-adds : (c : Context) (n : NameRef) (opens : Bool) (p : Place) (s : State)
     → Adds 2 0 s (name_in c n opens p s)
-name_in-adds Limbo n opens p s = adds_within 2 0 (nothing_adds s) (omega arith) (omega arith)
 name_in-adds TeX n opens p s = open_name-adds n opens s
-name_in-adds (Definition begun) n opens p s = adds_within 2 0 (nothing_adds s) (omega arith) (omega arith)
 name_in-adds Macro n opens p s = open_name-adds n opens s
 name_in-adds CText n opens p s = use_name-adds n opens p s
+name_in-adds _ n opens p s = adds_within 2 0 (nothing_adds s) (omega arith) (omega arith)
 
 pub occurs : (o : Occurrence) (how : End) (p : Place) (s : State)
     → Adds 0 (length o.text) s (name_fault how p (record s { contents = with_occurrence o s.contents }))
@@ -123,5 +112,4 @@ pub literal-adds : (text : List ℕ) (how : End) (p : Place) (s : State) → Add
 literal-adds text Closed p s = give-adds (Literal text) s
 literal-adds text Cut p s = adds_within 1
     (length text) (adds_both (give-adds (Literal text) s) (fault-adds StringDidNotEnd p _)) (omega arith) (omega arith)
-literal-adds text Nested p s = adds_within 1 (length text) (nothing_adds s) (omega arith) (omega arith)
-literal-adds text Open p s = adds_within 1 (length text) (nothing_adds s) (omega arith) (omega arith)
+literal-adds text _ p s = adds_within 1 (length text) (nothing_adds s) (omega arith) (omega arith)

@@ -39,20 +39,14 @@ line_ends (Raw begun) d us q s = record { begun = refl; same = raw_goes_on begun
 after_line_end-cost : (i : Item) (q : Place) (s : State) → cost (after_line_end q i s) ≤ weight s + owed i + 3
 after_line_end-cost item.Between q s = omega (arith, line_end-weight q s)
 after_line_end-cost (item.InComment begun) q s = omega (arith, comment_line_end-weight q s)
-after_line_end-cost (item.InName begun is_file text) q s = omega arith
 after_line_end-cost (item.InLiteral begun quote text) q s =
     omega (arith, line_end-weight q (literal text Cut begun s), literal-weight text Cut begun s)
-after_line_end-cost (item.AfterBackslash begun quote text) q s = omega arith
-after_line_end-cost (item.InRaw begun delimiter text) q s = omega arith
+after_line_end-cost _ q s = omega arith
 
 -- behind a line end no literal waits for one
 pub never_awaits : (i : Item) (q : Place) (s : State) → awaits_line_end (after_line_end q i s).item ≡ false
 never_awaits item.Between q s = refl
-never_awaits (item.InComment begun) q s = refl
-never_awaits (item.InName begun is_file text) q s = refl
-never_awaits (item.InLiteral begun quote text) q s = refl
-never_awaits (item.AfterBackslash begun quote text) q s = refl
-never_awaits (item.InRaw begun delimiter text) q s = refl
+never_awaits _ q s = refl
 
 -- a line begins behind a line end
 pub begins_next : (kind : Open) (d us : List ℕ) (s : State) (begun : Bool) (place : Place) (new : Held)
@@ -90,14 +84,13 @@ named_end begun is_file us n s = run (on (occurrence is_file (us ++ []) Cut fals
 
 text_ends : (kind : Open) (d us : List ℕ) (s : State)
     → (goes_on (held s (item_of kind d us)) [] []).state ≡ text_ended (item_of kind d us) s
-text_ends Between d us s = refl
-text_ends (Comment begun) d us s = refl
 text_ends (Name begun is_file) d us s = ap (λ (n : ℕ). (named_end begun is_file us n s).state) (no_sign (takes_sign s))
     ∙ ap (λ (t : List ℕ). occurrence is_file t Cut false begun s) (append-nil us)
 text_ends (Literal begun quote) d us s = ap (λ (t : List ℕ). literal t Cut begun s) (append-nil us)
+text_ends (Raw begun) d us s = ap (λ (t : List ℕ). literal t Cut begun s) (append-nil us)
 text_ends (AfterBackslash begun Single) d us s = refl
 text_ends (AfterBackslash begun Double) d us s = refl
-text_ends (Raw begun) d us s = ap (λ (t : List ℕ). literal t Cut begun s) (append-nil us)
+text_ends _ d us s = refl
 
 pub text_ended-weight : (i : Item) (s : State) → weight (text_ended i s) ≤ weight s + owed i
 text_ended-weight item.Between s = omega arith

@@ -10,27 +10,21 @@ reading s later = record { state = s; later = later }
 abbrev newline_kind : Context → Kind
 newline_kind Limbo = Skipped
 newline_kind TeX = Skipped
-newline_kind (Definition begun) = LineEnd
-newline_kind Macro = LineEnd
-newline_kind CText = LineEnd
+newline_kind _ = LineEnd
 
 front-newline : (c : Context) (includes : Bool) (t : List ℕ) → front_in c includes (10 ∷ t) ≡ front (newline_kind c) 1
 front-newline Limbo includes [] = refl
 front-newline Limbo includes (b ∷ t) = refl
 front-newline TeX includes [] = refl
 front-newline TeX includes (b ∷ t) = refl
-front-newline (Definition begun) includes t = refl
-front-newline Macro includes t = refl
-front-newline CText includes t = refl
+front-newline _ includes t = refl
 
 item-newline : (c : Context) (q : Place) (s : State) (later : List Place) → s.context ≡ c
     → item (newline_kind c) (10 ∷ []) (reading (enter_in c (newline_kind c) s) (q ∷ later))
     ≡ reading (line_end_in c q s) later
 item-newline Limbo q s later h = refl
 item-newline TeX q s later h = refl
-item-newline (Definition begun) q s later h = ap (λ c. reading (line_end_in c q s) later) h
-item-newline Macro q s later h = ap (λ c. reading (line_end_in c q s) later) h
-item-newline CText q s later h = ap (λ c. reading (line_end_in c q s) later) h
+item-newline _ q s later h = ap (λ c. reading (line_end_in c q s) later) h
 
 abbrev from_front : Reading → List ℕ → Front → Reading
 from_front r t f =

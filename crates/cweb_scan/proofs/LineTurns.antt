@@ -4,7 +4,8 @@ use Rattle.cweb_scanner.specs.OpenRest.{is_open}
 use Rattle.cweb_scanner.specs.Resume as item
 use Rattle.cweb_scan.specs.declared.reader.open.Open.{Open}
 use Rattle.cweb_scan.specs.declared.reader.open.Open.TheVariants.{Between, Comment, Name, Literal}
-use Rattle.cweb_scanner.proofs.Rests.{drop_more, takes_both}
+use Rattle.cweb_scanner.proofs.Rests.{takes_both}
+use Rattle.cweb_rules.proofs.UnitNewlines.{drop-sum}
 
 -- ONE TURN
 
@@ -38,11 +39,7 @@ open_turn n u h new opens p = record {
 pub kept_open : (kind : Open) (delimiter text : List ℕ)
     → (kind ≡ Between → ⊥) → is_open (item_of kind delimiter text) ≡ true
 kept_open Between d t h = absurd (h refl)
-kept_open (Comment begun) d t h = refl
-kept_open (Name begun is_file) d t h = refl
-kept_open (Literal begun quote) d t h = refl
-kept_open (AfterBackslash begun quote) d t h = refl
-kept_open (Raw begun) d t h = refl
+kept_open _ d t h = refl
 
 -- ALL TURNS
 
@@ -57,7 +54,7 @@ pub front_goes_on : (n : ℕ) (line rest after : List ℕ) (old mid new : Held) 
     → TakesFront line rest old mid → TakesTurn n rest mid new → TakesFront line after old new
 front_goes_on n line rest after old mid new is f t = record {
   size = f.size + n;
-  rest_is = is ∙ ap (drop n) f.rest_is ∙ sym (drop_more f.size n line);
+  rest_is = is ∙ ap (drop n) f.rest_is ∙ sym (drop-sum f.size n line);
   taken = takes_both f.size n line old mid new f.taken (subst (λ (u : List ℕ). Takes n u mid new) f.rest_is t.taken);
   last = λ e. omega (arith, t.last e, ap (λ (u : List ℕ). length u) is, length-drop n rest);
 }

@@ -1,26 +1,18 @@
 -- What opens a literal: what is read then is what is read with the literal open.
-use Rattle.cweb_scan.proofs.Common.{◌≡◌, ◌≤◌, ◌<◌, ℕ, zero, suc, ◌+◌, Bool, true, false, ◌&&◌, ◌==◌, List, [], ◌∷◌, ◌++◌, length, take, drop, refl, ap, sym, ◌∙◌, subst, arith, if◌then◌else◌, codes, bytes_eq, not, fold, prefix_len, take-append-le, drop-append-le, length-drop, Reading, on, each_line_end, next_line, literal, literal_unit, enter_in, begins, first_is, is_blank, is_word_byte, at_line_end, Effect, in_macro, in_c, Look, reach, body, size_of, names_include, reads_literals, IsPast, raw_prefix, delimiter, section_at, code_at, comment_at, line_comment_at, raw_at, literal_at, literal_prefix, quote_of, quoted, c_front, starts_raw, starts_literal, starts_include, include_at, End, Cut, text_in, look_in_raw, look_in_literal, Skipped, Blanks, LineEnd, Quoted, Identifier, Numeral, Punctuator, Front, front, sign_of, InLiteral, InRaw, takes_sign, end_literal, resume, IsLine, front_in, run, Context, Limbo, TeX, Definition, Macro, CText, State, moved, fault, DoubleAtInString, AtLineEnd, listed, longest, number_len, starts_number, ne_eqb}
-use Rattle.cweb_rules.proofs.Seams.{differs, both, begins_line, drop_line, starts_section_line}
+use Rattle.cweb_scan.proofs.Common.{◌≡◌, ◌≤◌, ◌<◌, ℕ, zero, suc, ◌+◌, Bool, true, false, ◌&&◌, ◌==◌, List, [], ◌∷◌, ◌++◌, length, take, drop, refl, ap, sym, ◌∙◌, subst, arith, if◌then◌else◌, codes, bytes_eq, not, fold, prefix_len, take-append-le, drop-append-le, length-drop, Reading, on, each_line_end, next_line, literal, literal_unit, enter_in, begins, first_is, is_blank, is_word_byte, at_line_end, Effect, in_macro, in_c, Look, reach, body, size_of, names_include, reads_literals, IsPast, raw_prefix, delimiter, section_at, code_at, comment_at, line_comment_at, raw_at, literal_at, literal_prefix, quote_of, quoted, c_front, starts_raw, starts_literal, starts_include, include_at, End, Cut, text_in, look_in_raw, look_in_literal, Skipped, Blanks, LineEnd, Quoted, Identifier, Numeral, Punctuator, Front, front, sign_of, InLiteral, InRaw, takes_sign, end_literal, resume, IsLine, front_in, run, Context, Limbo, TeX, Definition, Macro, CText, State, moved, fault, DoubleAtInString, AtLineEnd, listed, longest, number_len, starts_number, ne_eqb, and_parts, and-true}
+use Rattle.cweb_rules.proofs.Seams.{differs, begins_line, drop_line, starts_section_line}
 use Rattle.cweb_rules.proofs.LineLiterals.{starts_literal_line, literal_with, literal_prefix-line, is_quoted-size}
 use Rattle.cweb_rules.proofs.LineDelimiters.{raw_from, raw_prefix-line, delimiter-line, sign-fits, has_delimiter-size, starts_raw_line}
 use Rattle.cweb_scan.proofs.Openers.{run_as}
+use Rattle.cweb_rules.proofs.UnitNewlines.{drop-sum}
 
 -- LITERALS
 
-drop-add : (m n : ℕ) (t : List ℕ) → drop (m + n) t ≡ drop n (drop m t)
-drop-add zero n t = let e : 0 + n ≡ n = omega arith in ap (λ k. drop k t) e
-drop-add (suc m) zero [] = let e : suc m + 0 ≡ suc m = omega arith in ap (λ k. drop k []) e
-drop-add (suc m) (suc n) [] = let e : suc m + suc n ≡ suc (m + suc n) = omega arith in ap (λ k. drop k []) e
-drop-add (suc m) n (b ∷ t) =
-    let e : suc m + n ≡ suc (m + n) = omega arith in ap (λ k. drop k (b ∷ t)) e ∙ drop-add m n t
-
 enter_quoted : (c : Context) (us : List (List ℕ)) (how : End) (s : State)
     → reads_literals c ≡ true → enter_in c (Quoted us how) s ≡ s
-enter_quoted Limbo us how s h = cc
-enter_quoted TeX us how s h = cc
-enter_quoted (Definition begun) us how s h = cc
 enter_quoted Macro us how s h = refl
 enter_quoted CText us how s h = refl
+enter_quoted _ us how s h = cc
 
 none-line : (t : List ℕ) (m : Reading) → IsLine t → each_line_end moved t m ≡ m
 none-line [] m h = refl
@@ -58,10 +50,10 @@ opened_quoted look r n b t c line no_at h =
     ∙ ap (λ v.
     let x = m.units ++ take m.close v ∷ [] in
     run (on (literal (opener ++ text_in x) m.how r.state.here) (fold literal_unit r x)) (drop (n + size_of m) u))
-    (drop-add n (length (body m)) u)
+    (drop-sum n (length (body m)) u)
     ∙ ap (λ v.
     let x = m.units ++ take m.close (drop (length (body m)) w) ∷ [] in
-    run (on (literal (opener ++ text_in x) m.how r.state.here) (fold literal_unit r x)) v) (drop-add n (size_of m) u)
+    run (on (literal (opener ++ text_in x) m.how r.state.here) (fold literal_unit r x)) v) (drop-sum n (size_of m) u)
 
 abbrev past : (effect : ℕ → Effect) (takes_sign includes : Bool) (t : List ℕ)
     → Bool → Bool → Bool → Bool → Bool → Bool → Bool → Bool → Front
@@ -96,27 +88,21 @@ literal_front : (c : Context) (includes : Bool) (b : ℕ) (t : List ℕ) (f : Fr
     → reads_literals c ≡ true → begins (codes "\\") (b ∷ t) ≡ false
     → ((effect : ℕ → Effect) (takes_sign includes : Bool) → c_front effect takes_sign includes (b ∷ t) ≡ f)
     → front_in c includes (b ∷ t) ≡ f
-literal_front Limbo includes b t f h g k = cc
-literal_front TeX includes b t f h g k = cc
-literal_front (Definition begun) includes b t f h g k = cc
 literal_front Macro includes b t f h g k =
     ap (λ v. if v && at_line_end t then front Skipped 1 else c_front in_macro true false (b ∷ t)) g
     ∙ k in_macro true false
 literal_front CText includes b t f h g k = k in_c false includes
+literal_front _ includes b t f h g k = cc
 
 IsLine-take : (n : ℕ) (t : List ℕ) → IsLine t → IsLine (take n t)
 IsLine-take zero t h = tt
 IsLine-take (suc n) [] h = tt
 IsLine-take (suc n) (b ∷ t) h = (h.0, IsLine-take n t h.1)
 
-and_true : (a : Bool) → (a && true) ≡ a
-and_true true = refl
-and_true false = refl
-
 plain : (n b : ℕ) (t : List ℕ) → 0 < n → begins (codes "@") (b ∷ t) ≡ false → IsPlain (take n (b ∷ t))
 plain zero b t some h = absurd (omega (arith, some))
 plain (suc n) b t some h =
-    let f : not (64 == b) ≡ true = ap (λ v. not v) (sym (and_true (64 == b)) ∙ h) in
+    let f : not (64 == b) ≡ true = ap (λ v. not v) (sym (and-true (64 == b)) ∙ h) in
     let e : (b == 64) ≡ false = differs (λ x. not (64 == x)) b 64 f refl in
     record {
       single = ap (λ v. v && bytes_eq (take n t) []) e;
@@ -149,7 +135,7 @@ opened_raw r b t more e c line p back starts =
     let m = raw_prefix u + 2 in
     let d = delimiter (drop m u) in
     let n = m + length d + 1 in
-    let start = both (begins (codes "R\"") (drop (raw_prefix u) u)) _ starts in
+    let start = and_parts (begins (codes "R\"") (drop (raw_prefix u) u)) _ starts in
     let two = sign-fits u start.0 in
     let some = has_delimiter-size (drop m u) start.1 in
     let same : raw_at (u ++ more) ≡ raw_from m d (u ++ more) =

@@ -8,10 +8,9 @@ module _ (known : Place → Bool) where
   K s = AreKnown known s
 
   name_fault-known : (how : End) (p : Place) (s : State) → known p ≡ true → K s → K (name_fault how p s)
-  name_fault-known Closed p s h k = k
   name_fault-known Cut p s h k = fault-known known NameDidNotEnd p s h k
   name_fault-known Nested p s h k = fault-known known NamesDoNotNest p s h k
-  name_fault-known Open p s h k = k
+  name_fault-known _ p s h k = k
 
   use_name-known : (n : NameRef) (opens : Bool) (p : Place) (s : State)
       → known p ≡ true → K s → K (use_name n opens p s)
@@ -25,11 +24,10 @@ module _ (known : Place → Bool) where
 
   name_in-known : (c : Context) (n : NameRef) (opens : Bool) (p : Place) (s : State)
       → known p ≡ true → K s → K (name_in c n opens p s)
-  name_in-known Limbo n opens p s h k = k
   name_in-known TeX n opens p s h k = open_name-known n opens s k
-  name_in-known (Definition begun) n opens p s h k = k
   name_in-known Macro n opens p s h k = open_name-known n opens s k
   name_in-known CText n opens p s h k = use_name-known n opens p s h k
+  name_in-known _ n opens p s h k = k
 
   pub occurrence-known : (is_file : Bool) (text : List ℕ) (how : End) (opens : Bool) (p : Place) (s : State)
       → known p ≡ true → K s → K (occurrence is_file text how opens p s)
@@ -44,5 +42,4 @@ module _ (known : Place → Bool) where
   literal-known text Closed p s h k = give-known known (Literal text) s refl k
   literal-known text Cut p s h k =
       fault-known known StringDidNotEnd p (give (Literal text) s) h (give-known known (Literal text) s refl k)
-  literal-known text Nested p s h k = k
-  literal-known text Open p s h k = k
+  literal-known text _ p s h k = k

@@ -34,9 +34,7 @@ body_at look b t (Goes n) h f g =
 
 pub whole-end : (how : End) → IsEnd how → is_open how ≡ false
 whole-end Open h = absurd h
-whole-end Closed h = refl
-whole-end Cut h = refl
-whole-end Nested h = refl
+whole-end _ h = refl
 
 whole-look : (look : List ℕ → Look) (t : List ℕ) (v : Look)
     → (elim v as (λ w. Type 0) [ Goes n ↦ (0 < n) × IsWhole look (n - 1) t | Ends n how ↦ IsEnd how ])
@@ -62,9 +60,7 @@ after_units us m = record { units = us ++ m.units; close = m.close; how = m.how 
 join-open : (us : List (List ℕ)) (n : ℕ) (how : End) (m : Reach) → is_open how ≡ true
     → join (record { units = us; close = n; how = how }) m ≡ after_units us m
 join-open us n Open m h = refl
-join-open us n Closed m h = cc
-join-open us n Cut m h = cc
-join-open us n Nested m h = cc
+join-open us n _ m h = cc
 
 pub reach-open : (look : List ℕ → Look) (e : End) (t more : List ℕ)
     → IsLocal look more → IsWhole look 0 t → is_open (reach look Open t).how ≡ true

@@ -17,50 +17,32 @@ open_at n u h v is i item new made same takes =
 
 pub item_texted : (o : Open) (d t now : List ℕ) → item_of o d now ≡ with_text now (item_of o d t)
 item_texted code.Between d t now = refl
-item_texted (code.Comment begun) d t now = refl
-item_texted (code.Name begun is_file) d t now = refl
-item_texted (code.Literal begun quote) d t now = refl
-item_texted (code.AfterBackslash begun quote) d t now = refl
-item_texted (code.Raw begun) d t now = refl
+item_texted _ d t now = refl
 
 abbrev pub has_text : Item → Bool
 has_text i =
     elim i [
       | Between ↦ false
       | InComment begun ↦ false
-      | InName begun is_file text ↦ true
-      | InLiteral begun quote text ↦ true
-      | AfterBackslash begun quote text ↦ true
-      | InRaw begun delimiter text ↦ true
+      | _ ↦ true
     ]
 
 pub text_kept : (o : Open) (d t : List ℕ) → has_text (item_of o d t) ≡ true → t ≡ text_of (item_of o d t)
 text_kept code.Between d t h = cc
 text_kept (code.Comment begun) d t h = cc
-text_kept (code.Name begun is_file) d t h = refl
-text_kept (code.Literal begun quote) d t h = refl
-text_kept (code.AfterBackslash begun quote) d t h = refl
-text_kept (code.Raw begun) d t h = refl
+text_kept _ d t h = refl
 
 abbrev is_raw_item : Item → Bool
 is_raw_item i =
     elim i [
-      | Between ↦ false
-      | InComment begun ↦ false
-      | InName begun is_file text ↦ false
-      | InLiteral begun quote text ↦ false
-      | AfterBackslash begun quote text ↦ false
       | InRaw begun delimiter text ↦ true
+      | _ ↦ false
     ]
 
 raw_kept : (o : Open) (d t : List ℕ) → is_raw_item (item_of o d t) ≡ true
     → (is_raw o ≡ true) × (d ≡ delimiter_of (item_of o d t))
-raw_kept code.Between d t h = cc
-raw_kept (code.Comment begun) d t h = cc
-raw_kept (code.Name begun is_file) d t h = cc
-raw_kept (code.Literal begun quote) d t h = cc
-raw_kept (code.AfterBackslash begun quote) d t h = cc
 raw_kept (code.Raw begun) d t h = (refl, refl)
+raw_kept _ d t h = cc
 
 -- the closing sign that the code keeps
 pub sign_kept : (o : Open) (c : Context) (d t sign : List ℕ) (h : Held) (begun : Place) → item_of o d t ≡ h.item

@@ -36,10 +36,8 @@ comment_goes s g begun u r line some is still = record {
 }
 
 ended_stays : (how : End) → stays how ≡ false → how ≡ ended_as Cut how
-ended_stays Closed h = refl
-ended_stays Cut h = refl
-ended_stays Nested h = refl
 ended_stays Open h = cc
+ended_stays _ h = refl
 
 -- one that ends in the line
 pub comment_over : (s : State) (g : Bool) (begun : Place) (u : List ℕ) (r : Reached)

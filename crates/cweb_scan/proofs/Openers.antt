@@ -17,16 +17,11 @@ comment_front : (c : Context) (includes : Bool) (w : List ℕ) → reads_c c ≡
     → front_in c includes (47 ∷ 42 ∷ w) ≡ comment_at (47 ∷ 42 ∷ w)
 comment_front Limbo includes w h = cc
 comment_front TeX includes w h = cc
-comment_front (Definition begun) includes w h = refl
-comment_front Macro includes w h = refl
-comment_front CText includes w h = refl
+comment_front _ includes w h = refl
 
 enter_comment : (c : Context) (how : End) (s : State) → enter_in c (Comment how) s ≡ s
 enter_comment Limbo how s = refl
-enter_comment TeX how s = refl
-enter_comment (Definition begun) how s = refl
-enter_comment Macro how s = refl
-enter_comment CText how s = refl
+enter_comment _ how s = refl
 
 -- `/*`
 pub opened_comment : (r : Reading) (w : List ℕ) → reads_c r.state.context ≡ true
@@ -42,52 +37,34 @@ opened_comment r w h =
 
 -- what belongs to no head leaves it
 abbrev pub leave_head_in : Context → State → State
-leave_head_in Limbo s = s
-leave_head_in TeX s = s
 leave_head_in (Definition begun) s = drop_definition begun s
-leave_head_in Macro s = s
-leave_head_in CText s = s
+leave_head_in _ s = s
 
 abbrev pub leave_head : State → State
 leave_head s = leave_head_in s.context s
 
 abbrev takes_in : Context → Bool
-takes_in Limbo = true
-takes_in TeX = true
-takes_in (Definition begun) = true
-takes_in Macro = true
 takes_in CText = false
+takes_in _ = true
 
 takes_same : (c : Context) (s : State) → s.context ≡ c → takes_sign (leave_head_in c s) ≡ takes_in c
-takes_same Limbo s h = ap takes_in h
-takes_same TeX s h = ap takes_in h
 takes_same (Definition begun) s h = refl
-takes_same Macro s h = ap takes_in h
-takes_same CText s h = ap takes_in h
+takes_same _ s h = ap takes_in h
 
 name_front : (c : Context) (includes : Bool) (w : List ℕ) → reads_names c ≡ true
     → front_in c includes (64 ∷ 60 ∷ w) ≡ name_at (takes_in c) (64 ∷ 60 ∷ w)
 name_front Limbo includes w h = cc
-name_front TeX includes w h = refl
-name_front (Definition begun) includes w h = refl
-name_front Macro includes w h = refl
-name_front CText includes w h = refl
+name_front _ includes w h = refl
 
 file_front : (c : Context) (includes : Bool) (w : List ℕ) → reads_names c ≡ true
     → front_in c includes (64 ∷ 40 ∷ w) ≡ name_at (takes_in c) (64 ∷ 40 ∷ w)
 file_front Limbo includes w h = cc
-file_front TeX includes w h = refl
-file_front (Definition begun) includes w h = refl
-file_front Macro includes w h = refl
-file_front CText includes w h = refl
+file_front _ includes w h = refl
 
 enter_name : (c : Context) (is_file : Bool) (us : List (List ℕ)) (how : End) (opens : Bool) (s : State)
     → enter_in c (Occurrence is_file us how opens) s ≡ leave_head_in c s
 enter_name Limbo is_file us how opens s = refl
-enter_name TeX is_file us how opens s = refl
-enter_name (Definition begun) is_file us how opens s = refl
-enter_name Macro is_file us how opens s = refl
-enter_name CText is_file us how opens s = refl
+enter_name _ is_file us how opens s = refl
 
 abbrev named : Bool → Reach → ℕ → ℕ → List ℕ → Reading → Reading
 named is_file m sign n t r = run (on (occurrence is_file (text_in m.units) m.how (nat_lt 0 sign) r.state.here)
@@ -98,10 +75,7 @@ name_size takes n sign = if takes then n + sign else n
 
 here_same : (c : Context) (s : State) → (leave_head_in c s).here ≡ s.here
 here_same Limbo s = refl
-here_same TeX s = refl
-here_same (Definition begun) s = refl
-here_same Macro s = refl
-here_same CText s = refl
+here_same _ s = refl
 
 name_size-two : (takes : Bool) (n sign : ℕ)
     → name_size takes (suc (suc n)) sign ≡ suc (suc (n + (if takes then sign else 0)))

@@ -1,8 +1,7 @@
 -- What opens an item is taken as the code takes it.
-use Rattle.cweb_scan.proofs.Common.{◌≡◌, ◌≤◌, ℕ, ◌+◌, Bool, true, false, ◌&&◌, ◌==◌, List, [], ◌∷◌, ◌++◌, length, take, drop, refl, ap, sym, ◌∙◌, subst, arith, codes, eqb-true, length-drop, begins, starts_raw, starts_literal, literal_prefix, quote_of, raw_prefix, delimiter, IsLine, Context, Limbo, TeX, Definition, Macro, CText, blank, is_head, Held, Takes, Item, InComment, InName, InLiteral, InRaw, resume, State, IsPast, reads_c, reads_names, reads_literals}
+use Rattle.cweb_scan.proofs.Common.{◌≡◌, ◌≤◌, ℕ, ◌+◌, Bool, true, false, ◌&&◌, ◌==◌, List, [], ◌∷◌, ◌++◌, length, take, drop, refl, ap, sym, ◌∙◌, subst, arith, codes, eqb-true, length-drop, begins, starts_raw, starts_literal, literal_prefix, quote_of, raw_prefix, delimiter, IsLine, Context, Limbo, TeX, Definition, Macro, CText, blank, is_head, Held, Takes, Item, InComment, InName, InLiteral, InRaw, resume, State, IsPast, reads_c, reads_names, reads_literals, and_parts}
 use Rattle.cweb_rules.proofs.LineLiterals.{is_quoted-size}
 use Rattle.cweb_rules.proofs.LineDelimiters.{sign-fits, has_delimiter-size}
-use Rattle.cweb_rules.proofs.Seams.{both}
 use Rattle.cweb_scanner.specs.Resume as item
 use Rattle.cweb_scan.proofs.Openers.{leave_head_in, opened_comment, opened_name, opened_file}
 use Rattle.cweb_scan.proofs.LiteralOpeners.{opened_raw, opened_literal}
@@ -16,10 +15,10 @@ opened s g item = record { state = s; item = item; begun = g }
 -- a text that begins with two bytes
 two : (x y : ℕ) (u : List ℕ) → begins (x ∷ y ∷ []) u ≡ true → (w : List ℕ) × (x ∷ y ∷ w ≡ u)
 two x y [] h = cc
-two x y (a ∷ []) h = let wrong : false ≡ true = (both (x == a) false h).1 in cc
+two x y (a ∷ []) h = let wrong : false ≡ true = (and_parts (x == a) false h).1 in cc
 two x y (a ∷ b ∷ w) h =
-    let p = both (x == a) ((y == b) && true) h in
-    (w, (λ i. eqb-true x a p.0 i ∷ eqb-true y b (both (y == b) true p.1).0 i ∷ w))
+    let p = and_parts (x == a) ((y == b) && true) h in
+    (w, (λ i. eqb-true x a p.0 i ∷ eqb-true y b (and_parts (y == b) true p.1).0 i ∷ w))
 
 -- `/*`
 pub comment_opens : (s : State) (g : Bool) (u : List ℕ) → reads_c s.context ≡ true
@@ -34,11 +33,8 @@ comment_opens s g u c h =
     })
 
 no_head : (c : Context) (s : State) → is_head c ≡ false → leave_head_in c s ≡ s
-no_head Limbo s h = refl
-no_head TeX s h = refl
 no_head (Definition begun) s h = cc
-no_head Macro s h = refl
-no_head CText s h = refl
+no_head _ s h = refl
 
 -- `@<`
 pub name_opens : (s : State) (g : Bool) (u : List ℕ) → is_head s.context ≡ false → reads_names s.context ≡ true
@@ -102,7 +98,7 @@ pub raw_opens : (s : State) (g : Bool) (b : ℕ) (t : List ℕ) → reads_litera
 raw_opens s g b t c line past starts =
     let u = b ∷ t in
     let m = raw_prefix u + 2 in
-    let start = both (begins (codes "R\"") (drop (raw_prefix u) u)) _ starts in
+    let start = and_parts (begins (codes "R\"") (drop (raw_prefix u) u)) _ starts in
     record {
       begun = refl;
       within = omega (arith, sign-fits u start.0, has_delimiter-size (drop m u) start.1, length-drop m u);
@@ -136,7 +132,7 @@ pub raw_fits_at : (u : List ℕ) (p : ℕ) (d : List ℕ) → p ≡ raw_prefix u
     → d ≡ delimiter (drop (p + 2) u) → starts_raw u ≡ true → p + 2 + length d + 1 ≤ length u
 raw_fits_at u p d is name starts =
     let m = raw_prefix u + 2 in
-    let start = both (begins (codes "R\"") (drop (raw_prefix u) u)) _ starts in
+    let start = and_parts (begins (codes "R\"") (drop (raw_prefix u) u)) _ starts in
     let same = name ∙ ap (λ k. delimiter (drop (k + 2) u)) is in
     omega (
       arith,

@@ -4,6 +4,8 @@ use Rattle.std.specs.Prelude.{fold}
 use Rattle.cweb_rules.specs.Kinds.{Verbatim, Occurrence as OccurrenceKind}
 use Rattle.cweb_scan.proofs.StateAdds.{adds_both, adds_within, nothing_adds, give-adds, moved-adds, fault-adds, drop_definition-adds, begin_section-adds, line_end-adds, comment_line_end-adds}
 use Rattle.cweb_scan.proofs.ItemAdds.{blank-adds, punctuator-adds, code-adds, letter-adds, control_text-adds, verbatim-adds, define-adds, comment-adds, name_in-adds, occurs, literal-adds}
+use Rattle.cweb_rules.proofs.Sizes.{take-within}
+use Rattle.cweb_scanner.proofs.PieceWeights.{no_line_ends}
 
 abbrev reading : State → List Place → Reading
 reading s later = record { state = s; later = later }
@@ -22,11 +24,6 @@ each-adds f n adds (b ∷ t) r =
       | true ↦ adds_both (next_line-adds f n adds r.state r.later) (each-adds f n adds t (next_line f r))
       | false ↦ each-adds f n adds t r
     ]
-
-no_line_ends : (t : List ℕ) → at_line_ends 0 t ≡ 0
-no_line_ends [] = refl
-no_line_ends (b ∷ t) = elim (is_line_end b) as (λ v. (if v then 0 + at_line_ends 0 t else at_line_ends 0 t) ≡ 0)
-    [ true ↦ omega (arith, no_line_ends t) | false ↦ no_line_ends t ]
 
 moves : (bytes : List ℕ) (r : Reading) → Adds 0 0 r.state (each_line_end moved bytes r).state
 moves bytes r = adds_within 0 0 (each-adds moved 0 moved-adds bytes r) (omega (arith, no_line_ends bytes)) (omega arith)
@@ -59,15 +56,10 @@ squeezed-size begun gap (b ∷ t) = elim (is_white b) as (λ v.
       | false ↦ omega (arith, squeezed-size true [] t, length-append gap (b ∷ squeezed_after true [] t))
     ]
 
-take-size : (n : ℕ) (t : List ℕ) → length (take n t) ≤ length t
-take-size zero t = omega arith
-take-size (suc n) [] = omega arith
-take-size (suc n) (b ∷ t) = omega (arith, take-size n t)
-
 given-size : (is_file : Bool) (text : List ℕ) → length (given is_file text).text ≤ length text
 given-size is_file text = elim (is_abbreviation text) as (λ v.
     length (if v then prefix is_file (take (length text - 3) text) else full is_file text).text ≤ length text) [
-      | true ↦ take-size (length text - 3) text
+      | true ↦ take-within (length text - 3) text
       | false ↦ omega arith
     ]
 
@@ -84,15 +76,12 @@ occurrence-adds is_file text how opens p s =
 -- THE PIECES
 
 enter_in-adds : (c : Context) (k : Kind) (s : State) → Adds 0 0 s (enter_in c k s)
-enter_in-adds Limbo k s = nothing_adds s
-enter_in-adds TeX k s = nothing_adds s
 enter_in-adds (Definition begun) k s =
     elim (stays_in_head k) as (λ v. Adds 0 0 s (if v then s else drop_definition begun s)) [
       | true ↦ nothing_adds s
       | false ↦ drop_definition-adds begun s
     ]
-enter_in-adds Macro k s = nothing_adds s
-enter_in-adds CText k s = nothing_adds s
+enter_in-adds _ k s = nothing_adds s
 
 item-adds : (k : Kind) (bytes : List ℕ) (r : Reading) → Pays r.state.context k bytes
     → Adds (length bytes) (length bytes) r.state (item k bytes r).state
@@ -141,31 +130,12 @@ item-adds Punctuator bytes r pays =
 -- what pays before a head is left pays after it
 enter-defined : (c : Context) (tight : Bool) (s : State) → enter_in c (Defined tight) s ≡ s
 enter-defined Limbo tight s = refl
-enter-defined TeX tight s = refl
-enter-defined (Definition begun) tight s = refl
-enter-defined Macro tight s = refl
-enter-defined CText tight s = refl
+enter-defined _ tight s = refl
 
 pays_entered : (k : Kind) (bytes : List ℕ) (s : State) → Pays s.context k bytes → Pays (enter k s).context k bytes
-pays_entered Skipped bytes s pays = pays
-pays_entered (Section starred) bytes s pays = pays
-pays_entered (Code effect) bytes s pays = pays
-pays_entered (Letter byte None) bytes s pays = pays
-pays_entered (Letter byte (Some text)) bytes s pays = pays
-pays_entered (ControlText how) bytes s pays = pays
-pays_entered (Verbatim units how) bytes s pays = pays
-pays_entered (Constant None) bytes s pays = pays
-pays_entered (Constant (Some n)) bytes s pays = pays
-pays_entered (OccurrenceKind is_file units how opens) bytes s pays = pays
-pays_entered Blanks bytes s pays = pays
-pays_entered LineEnd bytes s pays = pays
-pays_entered (Comment how) bytes s pays = pays
-pays_entered (Quoted units how) bytes s pays = pays
 pays_entered (Defined tight) bytes s pays =
     (pays.0, ap (λ (u : State). due u.context) (enter-defined s.context tight s) ∙ pays.1)
-pays_entered Identifier bytes s pays = pays
-pays_entered Numeral bytes s pays = pays
-pays_entered Punctuator bytes s pays = pays
+pays_entered _ bytes s pays = pays
 
 -- a piece adds at most its bytes
 pub piece-adds : (r : Reading) (p : Piece) → Pays r.state.context p.kind p.bytes

@@ -95,15 +95,12 @@ module _ (known : Place → Bool) where
   item-known kind.Punctuator bytes r k = on-known (punctuator bytes) r (punctuator-known known bytes r.state k.state) k
 
   enter_in-known : (c : Context) (k : Kind) (s : State) → IsBegunKnown known c → K s → K (enter_in c k s)
-  enter_in-known Limbo k s h a = a
-  enter_in-known TeX k s h a = a
   enter_in-known (Definition begun) k s h a =
       elim (stays_in_head k) as (λ v. K (if v then s else drop_definition begun s)) [
         | true ↦ a
         | false ↦ drop_definition-known known begun s h a
       ]
-  enter_in-known Macro k s h a = a
-  enter_in-known CText k s h a = a
+  enter_in-known _ k s h a = a
 
   after-known : (r : Reading) (p : Piece) → R r → R (after r p)
   after-known r p k = item-known p.kind p.bytes (on (enter p.kind) r)

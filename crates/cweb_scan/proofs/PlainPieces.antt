@@ -1,5 +1,5 @@
 -- What one item of the law makes of a reading.
-use Rattle.cweb_scan.proofs.Common.{◌≡◌, ℕ, Bool, true, false, cond, ◌&&◌, List, [], ◌∷◌, Option, Some, None, refl, ap, sym, ◌∙◌, subst, fold, Token, Word, Number, Literal, Punct, Reading, after, item, on, each_line_end, comment_line_end, blank, punctuator, literal, literal_unit, next_line, line_end, enter_in, enter, Effect, Nothing, Define, Format, Program, Named, InsertDefs, Joins, GiveAt, Faulty, in_directive, text_in, Closed, Cut, Nested, Open, Kind, Piece, give, InPlainC, HasRead, solid, is_hash, is_clean, token_of, code_of}
+use Rattle.cweb_scan.proofs.Common.{◌≡◌, ℕ, Bool, true, false, cond, ◌&&◌, List, [], ◌∷◌, Option, Some, None, refl, ap, sym, ◌∙◌, subst, fold, Token, Word, Number, Literal, Punct, Reading, after, item, on, each_line_end, comment_line_end, blank, punctuator, literal, literal_unit, next_line, line_end, enter_in, enter, Effect, Nothing, Define, Format, Program, Named, InsertDefs, Joins, GiveAt, Faulty, in_directive, text_in, Closed, Cut, Nested, Open, Kind, Piece, give, InPlainC, HasRead, solid, is_hash, is_clean, token_of, code_of, same_Some}
 use Rattle.cweb_rules.specs.declared.effect.Effect.TheVariants as effect
 use Rattle.cweb_rules.specs.Kinds as kind
 use Rattle.cweb_scan.proofs.PlainStates.{blank_gives, and_then, given, placed, line_ends, comment_line_ends, next_gives, each_gives, units_give}
@@ -12,9 +12,6 @@ abbrev from_some : {A : Type 0} → Option A → A → A
 from_some None d = d
 from_some (Some a) d = a
 
-pub is_that : {A : Type 0} (a b : A) → Some a ≡ Some b → a ≡ b
-is_that a b e = ap (λ o. from_some o a) e
-
 abbrev Gives : Reading → (Reading → Reading) → Token → Type 0
 Gives r f t = HasRead r.state (f r).state (solid (t ∷ []))
 
@@ -26,26 +23,15 @@ literal_gives r units true t h plain clean e =
     let q = fold literal_unit r units in
     let first = units_give units r (clean refl) h in
     let l = Literal (text_in units) in
-    subst (λ u. HasRead r.state (give l q.state) (solid (u ∷ []))) (is_that l t e)
+    subst (λ u. HasRead r.state (give l q.state) (solid (u ∷ []))) (same_Some l t e)
     (and_then r.state q.state (give l q.state) [] (solid (l ∷ [])) first (given q.state l first.plain refl))
 
 code_gives : (r : Reading) (e : Effect) (t : Token) → InPlainC r.state
     → is_hash t ≡ false → code_of e ≡ Some t → Gives r (λ q. item (kind.Code e) [] q) t
 code_gives r GiveAt t h plain e =
     let u = Punct (64 ∷ []) in
-    subst (λ v. HasRead r.state (give u r.state) (solid (v ∷ []))) (is_that u t e) (given r.state u h refl)
-code_gives r Nothing t h plain e = cc
-code_gives r Define t h plain e = cc
-code_gives r Format t h plain e = cc
-code_gives r Program t h plain e = cc
-code_gives r Named t h plain e = cc
-code_gives r effect.Letter t h plain e = cc
-code_gives r effect.ControlText t h plain e = cc
-code_gives r effect.Verbatim t h plain e = cc
-code_gives r effect.Constant t h plain e = cc
-code_gives r InsertDefs t h plain e = cc
-code_gives r Joins t h plain e = cc
-code_gives r (Faulty k) t h plain e = cc
+    subst (λ v. HasRead r.state (give u r.state) (solid (v ∷ []))) (same_Some u t e) (given r.state u h refl)
+code_gives r _ t h plain e = cc
 
 item_gives : (r : Reading) (k : Kind) (bytes : List ℕ) (t : Token) → InPlainC r.state
     → is_hash t ≡ false → token_of k bytes ≡ Some t → Gives r (item k bytes) t
@@ -55,13 +41,13 @@ item_gives r (kind.Quoted units Nested) bytes t h plain e = cc
 item_gives r (kind.Quoted units Open) bytes t h plain e = cc
 item_gives r kind.Identifier bytes t h plain e =
     let u = Word bytes in
-    subst (λ v. HasRead r.state (give u r.state) (solid (v ∷ []))) (is_that u t e) (given r.state u h refl)
+    subst (λ v. HasRead r.state (give u r.state) (solid (v ∷ []))) (same_Some u t e) (given r.state u h refl)
 item_gives r kind.Numeral bytes t h plain e =
     let u = Number bytes in
-    subst (λ v. HasRead r.state (give u r.state) (solid (v ∷ []))) (is_that u t e) (given r.state u h refl)
+    subst (λ v. HasRead r.state (give u r.state) (solid (v ∷ []))) (same_Some u t e) (given r.state u h refl)
 item_gives r kind.Punctuator bytes t h plain e =
     let u = Punct bytes in
-    let same = is_that u t e in
+    let same = same_Some u t e in
     subst (λ v. HasRead r.state (punctuator bytes r.state) (solid (v ∷ []))) same
     (placed r.state (give u r.state) (solid (u ∷ [])) r.state.here
     (in_directive r.state && r.state.folded) (given r.state u h (ap is_hash same ∙ plain)))

@@ -1,13 +1,9 @@
 -- What the items of the law make of a state in plain C text.
-use Rattle.cweb_scan.proofs.Common.{◌≡◌, ℕ, Bool, true, false, cond, ◌&&◌, ◌||◌, not, List, [], ◌∷◌, ◌++◌, Some, None, refl, ap, sym, ◌∙◌, subst, append_assoc, codes, bytes_eq, option_map, fold, fold-append, filter-append, append-nil, Place, longer, Token, Blank, Newline, Mark, Reading, next_line, each_line_end, line_end, line_end_in, line_end_token, comment_line_end, blank, literal_unit, follows, is_line_end, directive, directive_of, directive_tokens, with_next, in_directive, is_c, is_some, is_punct, ends_line, State, give, moved, part_tokens, tokens_of, InPlainC, HasRead, solid, is_between, is_hash, is_clean}
+use Rattle.cweb_scan.proofs.Common.{◌≡◌, ℕ, Bool, true, false, cond, ◌&&◌, ◌||◌, not, List, [], ◌∷◌, ◌++◌, Some, None, refl, ap, sym, ◌∙◌, subst, append_assoc, codes, bytes_eq, option_map, fold, fold-append, filter-append, append-nil, Place, longer, Token, Blank, Newline, Mark, Reading, next_line, each_line_end, line_end, line_end_in, line_end_token, comment_line_end, blank, literal_unit, follows, is_line_end, directive, directive_of, directive_tokens, with_next, in_directive, is_c, is_some, is_punct, ends_line, State, give, moved, part_tokens, tokens_of, InPlainC, HasRead, solid, is_between, is_hash, is_clean, and-false, and_parts}
 use Rattle.cweb_scanner.specs.Directives.{is_blank}
 
-and_false : (a : Bool) → (a && false) ≡ false
-and_false true = refl
-and_false false = refl
-
 pub no_directive : (s : State) → InPlainC s → in_directive s ≡ false
-no_directive s h = ap (λ o. is_c s.context && is_some o) h.no_directive ∙ and_false (is_c s.context)
+no_directive s h = ap (λ o. is_c s.context && is_some o) h.no_directive ∙ and-false (is_c s.context)
 
 pub nothing : (s : State) → InPlainC s → HasRead s s []
 nothing s h = record { plain = h; tokens = sym (append-nil (solid (part_tokens s))); faults = refl }
@@ -110,10 +106,6 @@ each_gives f gives (b ∷ t) r h =
     let first = one_byte f gives (is_line_end b) r h in
     and_then r.state q.state (each_line_end f t q).state [] [] first (each_gives f gives t q first.plain)
 
-both : (a b : Bool) → (a && b) ≡ true → (a ≡ true) × (b ≡ true)
-both true b e = (refl, e)
-both false b e = cc
-
 clean_unit : (v : Bool) (u : List ℕ) (r : Reading) (wrong : Reading) → not v ≡ true
     → InPlainC r.state → HasRead r.state (cond v wrong (each_line_end moved u r)).state []
 clean_unit true u r wrong e h = cc
@@ -123,7 +115,7 @@ pub units_give : (units : List (List ℕ)) (r : Reading) → is_clean units ≡ 
     → InPlainC r.state → HasRead r.state (fold literal_unit r units).state []
 units_give [] r clean h = nothing r.state h
 units_give (u ∷ us) r clean h =
-    let e = both (not (bytes_eq u (codes "@"))) (is_clean us) clean in
+    let e = and_parts (not (bytes_eq u (codes "@"))) (is_clean us) clean in
     let q = literal_unit r u in
     let first : HasRead r.state q.state [] =
     clean_unit (bytes_eq u (codes "@")) u r (literal_unit r (codes "@")) e.0 h in

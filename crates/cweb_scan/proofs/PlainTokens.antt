@@ -1,5 +1,5 @@
 -- What a run makes of a token's bytes and what follows.
-use Rattle.cweb_scan.proofs.Common.{◌≡◌, ℕ, ◌+◌, ◌<◌, ◌/◌, ◌%◌, suc, zero, Bool, true, false, cond, ◌&&◌, ◌==◌, List, [], ◌∷◌, ◌++◌, Some, length, take, drop, refl, ap, ◌∙◌, arith, append_assoc, length-append, codes, decimal, digit_glyph, digits_onto, list_all, fold, take-append_seam, drop-append_seam, Token, Word, Number, Punct, first_is, JoinsAll, IsToken, is_token, is_quiet, begins_as, front_in, Kind, front, CText, Effect, Nothing, Define, Format, Program, Named, InsertDefs, Joins, GiveAt, Faulty, End, Closed, Cut, Nested, Open, Reading, after, some_include, names_include, front_of, run, InPlainC, IsRead, ReadsAlone, doubled, solid, token_of, literal_of, bytes_of, is_hash}
+use Rattle.cweb_scan.proofs.Common.{◌≡◌, ℕ, ◌+◌, ◌<◌, ◌/◌, ◌%◌, suc, zero, Bool, true, false, cond, ◌&&◌, ◌==◌, List, [], ◌∷◌, ◌++◌, Some, length, take, drop, refl, ap, ◌∙◌, arith, append_assoc, length-append, codes, decimal, digit_glyph, digits_onto, list_all, fold, take-append_seam, drop-append_seam, Token, Word, Number, Punct, first_is, JoinsAll, IsToken, is_token, is_quiet, begins_as, front_in, Kind, front, CText, Effect, Nothing, Define, Format, Program, Named, InsertDefs, Joins, GiveAt, Faulty, End, Closed, Cut, Nested, Open, Reading, after, some_include, names_include, front_of, run, InPlainC, IsRead, ReadsAlone, doubled, solid, token_of, literal_of, bytes_of, is_hash, same_Some, and_from}
 use Rattle.std.specs.Fmt.{digits}
 use Rattle.cweb_rules.specs.Follows as rules
 use Rattle.cweb_rules.specs.Kinds as kind
@@ -8,7 +8,7 @@ use Rattle.cweb_rules.proofs.Comments.{comment_front}
 use Rattle.cweb_rules.proofs.Tokens.{tokens_stay, tokens_begin}
 use Rattle.cweb_scanner.proofs.Pieces.{pieces_first}
 use Rattle.cweb_scan.specs.Alone.{goes_on}
-use Rattle.cweb_scan.proofs.PlainPieces.{is_that, token_gives, line_end_gives, comment_gives}
+use Rattle.cweb_scan.proofs.PlainPieces.{token_gives, line_end_gives, comment_gives}
 
 -- ONE PIECE
 
@@ -75,16 +75,12 @@ glyph_quiet (suc (suc (suc (suc (suc (suc (suc (suc zero)))))))) h = refl
 glyph_quiet (suc (suc (suc (suc (suc (suc (suc (suc (suc zero))))))))) h = refl
 glyph_quiet (suc (suc (suc (suc (suc (suc (suc (suc (suc (suc d)))))))))) h = absurd (omega (arith, h))
 
-pub all_if : (a b : Bool) → a ≡ true → b ≡ true → (a && b) ≡ true
-all_if true b e f = f
-all_if false b e f = e
-
 quiet_onto : (k n : ℕ) (acc : List ℕ) → list_all is_quiet acc ≡ true
     → list_all is_quiet (digits_onto k 10 false n acc) ≡ true
 quiet_onto zero n acc h = h
 quiet_onto (suc k) n acc h =
     let g = digit_glyph false (n % 10) in
-    let more = all_if (is_quiet g) (list_all is_quiet acc) (glyph_quiet (n % 10) (omega arith)) h in
+    let more = and_from (is_quiet g) (list_all is_quiet acc) (glyph_quiet (n % 10) (omega arith)) h in
     (elim (n / 10 == 0)
     as (λ v. list_all is_quiet (cond v (g ∷ acc) (digits_onto k 10 false (n / 10) (g ∷ acc))) ≡ true) [
       | true ↦ more
@@ -109,49 +105,26 @@ none_goes (b ∷ more) = refl
 
 code_kinded : (c : Effect) (d : List ℕ) (u : Token) → token_of (kind.Code c) d ≡ Some u → Kinded (kind.Code c) d u
 code_kinded GiveAt d u t = record { token = refl; goes = λ joins more h. none_goes more }
-code_kinded Nothing d u t = cc
-code_kinded Define d u t = cc
-code_kinded Format d u t = cc
-code_kinded Program d u t = cc
-code_kinded Named d u t = cc
-code_kinded effect.Letter d u t = cc
-code_kinded effect.ControlText d u t = cc
-code_kinded effect.Verbatim d u t = cc
-code_kinded effect.Constant d u t = cc
-code_kinded InsertDefs d u t = cc
-code_kinded Joins d u t = cc
-code_kinded (Faulty k) d u t = cc
+code_kinded _ d u t = cc
 
 literal_kinded : (units : List (List ℕ)) (how : End) (d : List ℕ) (u : Token)
     → literal_of units how ≡ Some u → Kinded (kind.Quoted units how) d u
 literal_kinded units Closed d u t = record { token = refl; goes = λ joins more h. none_goes more }
-literal_kinded units Cut d u t = cc
-literal_kinded units Nested d u t = cc
-literal_kinded units Open d u t = cc
+literal_kinded units _ d u t = cc
 
 pub kinded : (k : Kind) (d : List ℕ) (u : Token) → token_of k d ≡ Some u → Kinded k d u
 kinded kind.Identifier d u t =
-    let same = is_that (Word d) u t in
+    let same = same_Some (Word d) u t in
     record { token = refl; goes = λ joins more h. ap (λ v. first_is (goes_on joins v) more) same ∙ h }
 kinded kind.Numeral d u t =
-    let same = is_that (Number d) u t in
+    let same = same_Some (Number d) u t in
     record { token = refl; goes = λ joins more h. ap (λ v. first_is (goes_on joins v) more) same ∙ h }
 kinded kind.Punctuator d u t =
-    let same = is_that (Punct d) u t in
+    let same = same_Some (Punct d) u t in
     record { token = refl; goes = λ joins more h. ap (λ v. first_is (goes_on joins v) more) same ∙ h }
 kinded (kind.Quoted units how) d u t = literal_kinded units how d u t
 kinded (kind.Code c) d u t = code_kinded c d u t
-kinded kind.Skipped d u t = cc
-kinded (kind.Section starred) d u t = cc
-kinded (kind.Letter byte text) d u t = cc
-kinded (kind.ControlText how) d u t = cc
-kinded (kind.Verbatim units how) d u t = cc
-kinded (kind.Constant value) d u t = cc
-kinded (kind.Occurrence is_file units how opens) d u t = cc
-kinded kind.Blanks d u t = cc
-kinded kind.LineEnd d u t = cc
-kinded (kind.Comment how) d u t = cc
-kinded (kind.Defined tight) d u t = cc
+kinded _ d u t = cc
 
 abbrev pub text_of : Token → List ℕ
 text_of u = doubled (bytes_of u)

@@ -4,25 +4,15 @@ use Rattle.cweb_scanner.proofs.Ends.{none_to_come}
 use Rattle.cweb_scanner.proofs.Turns.{between}
 use Rattle.cweb_scan.proofs.Turns.{closed_takes}
 use Rattle.cweb_scanner.proofs.Rests.{takes_none, takes_both}
+use Rattle.cweb_rules.proofs.TokensStay.{no_section}
+use Rattle.cweb_rules.proofs.PlainRuns.{turned}
 
 -- ONE PIECE AND THEN ANOTHER
-
--- a line of which all was taken
-pub takes_all : (n : ℕ) (u : List ℕ) (a b : Held) → length u ≤ n → Takes n u a b → TakesBytes u a b
-takes_all n u a b all x = record {
-  begun = x.begun;
-  same = λ later more e.
-      ap (λ (t : List ℕ). goes_on b later (t ++ more)) (sym (drop_all n u all)) ∙ x.same later more e;
-}
 
 -- LIMBO AND TEXT
 
 abbrev pub is_text : Context → Bool
 is_text c = elim c [ Limbo ↦ true | TeX ↦ true | Definition begun ↦ false | Macro ↦ false | CText ↦ false ]
-
-no_section : (b : ℕ) (t : List ℕ) → (b == 64) ≡ false → starts_section (b ∷ t) ≡ false
-no_section b [] h = h
-no_section b (a ∷ t) h = ap (λ v. v && starts_section (64 ∷ a ∷ t)) h
 
 skipped_front : (c : Context) (includes : Bool) (b : ℕ) (t : List ℕ) → is_text c ≡ true
     → starts_section (b ∷ t) ≡ false → (64 == b) ≡ false → front_in c includes (b ∷ t) ≡ front Skipped 1
@@ -30,24 +20,17 @@ skipped_front Limbo includes b t c s h = λ i.
     if s i then section_at (b ∷ t) else (if h i && true then code_at in_limbo true (b ∷ t) else front Skipped 1)
 skipped_front TeX includes b t c s h = λ i.
     if s i then section_at (b ∷ t) else (if h i && true then code_at in_text true (b ∷ t) else front Skipped 1)
-skipped_front (Definition begun) includes b t c s h = cc
-skipped_front Macro includes b t c s h = cc
-skipped_front CText includes b t c s h = cc
+skipped_front _ includes b t c s h = cc
 
 skipped_opens : (c : Context) (b : ℕ) (t : List ℕ) → is_text c ≡ true
     → starts_section (b ∷ t) ≡ false → (64 == b) ≡ false → opens_in c (b ∷ t) ≡ false
 skipped_opens Limbo b t c s h = λ i. if s i then false else (if h i && true then opens_code in_limbo (b ∷ t) else false)
 skipped_opens TeX b t c s h = λ i. if s i then false else (if h i && true then opens_code in_text (b ∷ t) else false)
-skipped_opens (Definition begun) b t c s h = cc
-skipped_opens Macro b t c s h = cc
-skipped_opens CText b t c s h = cc
+skipped_opens _ b t c s h = cc
 
 no_head : (c : Context) → is_text c ≡ true → is_head c ≡ false
-no_head Limbo h = refl
-no_head TeX h = refl
 no_head (Definition begun) h = cc
-no_head Macro h = refl
-no_head CText h = refl
+no_head _ h = refl
 
 one_skipped : (s : State) (g : Bool) (b : ℕ) (t : List ℕ) → is_text s.context ≡ true → IsLine (b ∷ t)
     → (b == 64) ≡ false → (64 == b) ≡ false → Takes 1 (b ∷ t) (between s g) (between s g)
@@ -59,9 +42,6 @@ one_skipped s g b t c line h k =
       state = sym (ap (λ (r : Reading). r.state) (none_to_come moved (b ∷ []) s));
     })
 
-sides : (x b : ℕ) → (b == x) ≡ false → (x == b) ≡ false
-sides x b h = grind (arith, nat_tests)
-
 -- what stands before the first `@` is skipped
 pub skipped_takes : (s : State) (g : Bool) (u : List ℕ) → is_text s.context ≡ true
     → IsLine u → Takes (prefix_len is_skipped u) u (between s g) (between s g)
@@ -70,5 +50,5 @@ skipped_takes s g (b ∷ t) c line = (elim (b == 64) as (λ v. (b == 64) ≡ v
     → Takes (if not v then 1 + prefix_len is_skipped t else 0) (b ∷ t) (between s g) (between s g)) [
       | true ↦ λ h. takes_none (b ∷ t) (between s g)
       | false ↦ λ h. takes_both 1 (prefix_len is_skipped t)
-          (b ∷ t) _ _ _ (one_skipped s g b t c line h (sides 64 b h)) (skipped_takes s g t c line.1)
+          (b ∷ t) _ _ _ (one_skipped s g b t c line h (turned 64 b h)) (skipped_takes s g t c line.1)
     ]) refl

@@ -9,27 +9,20 @@ use Rattle.cweb_scanner.proofs.RuleTurns.{closes}
 
 -- in a part no head is open
 pub part_head : (c : Context) → has_part c ≡ true → is_head c ≡ false
-part_head Limbo h = cc
-part_head TeX h = cc
-part_head (Definition begun) h = cc
 part_head Macro h = refl
 part_head CText h = refl
+part_head _ h = cc
 
 -- RULES WHOSE ITEMS END IN THEIR LINE
 
 pub ends_closes : (r : Rule) → ends_in_line r ≡ true → closes r ≡ true
-ends_closes rule.Blanks h = refl
 ends_closes rule.LineEnd h = cc
 ends_closes rule.Comment h = cc
-ends_closes rule.LineComment h = refl
 ends_closes rule.Section h = cc
 ends_closes rule.Code h = cc
 ends_closes rule.RawLiteral h = cc
 ends_closes rule.Literal h = cc
-ends_closes rule.IncludedName h = refl
-ends_closes rule.Number h = refl
-ends_closes rule.Identifier h = refl
-ends_closes rule.Punctuator h = refl
+ends_closes _ h = refl
 
 -- WHICH RULES FIT IN A LINE
 
@@ -81,17 +74,7 @@ line_comment_seen includes u h =
 
 two_same : (r : Rule) → needs_two r ≡ is_line_comment r
 two_same rule.Blanks = refl
-two_same rule.LineEnd = refl
-two_same rule.Comment = refl
-two_same rule.LineComment = refl
-two_same rule.Section = refl
-two_same rule.Code = refl
-two_same rule.RawLiteral = refl
-two_same rule.Literal = refl
-two_same rule.IncludedName = refl
-two_same rule.Number = refl
-two_same rule.Identifier = refl
-two_same rule.Punctuator = refl
+two_same _ = refl
 
 pub two_fit : (includes : Bool) (u : List ℕ) (r : Rule) → r ≡ c_rule includes u → needs_two r ≡ true → 2 ≤ length u
 two_fit includes u r is h =
@@ -100,18 +83,13 @@ two_fit includes u r is h =
 -- what is left of the rules when those that open an item, sections and codes are told apart
 pub left_ends : (r : Rule) → (r ≡ rule.Comment → ⊥) → (r ≡ rule.Section → ⊥) → (r ≡ rule.Code → ⊥)
     → (r ≡ rule.RawLiteral → ⊥) → (r ≡ rule.Literal → ⊥) → is_ended r ≡ false → ends_in_line r ≡ true
-left_ends rule.Blanks c s k w l e = refl
 left_ends rule.LineEnd c s k w l e = cc
 left_ends rule.Comment c s k w l e = absurd (c refl)
-left_ends rule.LineComment c s k w l e = refl
 left_ends rule.Section c s k w l e = absurd (s refl)
 left_ends rule.Code c s k w l e = absurd (k refl)
 left_ends rule.RawLiteral c s k w l e = absurd (w refl)
 left_ends rule.Literal c s k w l e = absurd (l refl)
-left_ends rule.IncludedName c s k w l e = refl
-left_ends rule.Number c s k w l e = refl
-left_ends rule.Identifier c s k w l e = refl
-left_ends rule.Punctuator c s k w l e = refl
+left_ends _ c s k w l e = refl
 
 -- MACROS
 

@@ -1,7 +1,7 @@
 -- A run of bytes of an open item, each a unit of its own, is taken at once.
-use Rattle.cweb_scan.proofs.Common.{◌≡◌, ◌<◌, ℕ, suc, ◌+◌, Bool, true, false, cond, not, ◌&&◌, ◌==◌, List, [], ◌∷◌, ◌++◌, take, refl, ap, sym, ◌∙◌, subst, arith, append_assoc, if◌then◌else◌, codes, list_all, prefix_len, Place, unit_bytes, IsLine, is_plain, is_raw_sign, is_sign, DoubleAtInString, Goes, unit_state, Held, Takes, text_of, with_text, with_run, TakesOpen, Item, InName, InLiteral, InRaw, sign_of, State, fault}
+use Rattle.cweb_scan.proofs.Common.{◌≡◌, ◌<◌, ℕ, suc, ◌+◌, Bool, true, false, cond, not, ◌&&◌, ◌==◌, List, [], ◌∷◌, ◌++◌, take, refl, ap, sym, ◌∙◌, subst, arith, append_assoc, if◌then◌else◌, codes, list_all, prefix_len, Place, unit_bytes, IsLine, is_plain, is_raw_sign, is_sign, DoubleAtInString, Goes, unit_state, Held, Takes, text_of, with_text, with_run, TakesOpen, Item, InName, InLiteral, InRaw, sign_of, State, fault, not-true}
 use Rattle.cweb_rules.specs.declared.items.Item.TheVariants.{Name, Literal}
-use Rattle.cweb_rules.proofs.PlainRuns.{plain_goes, raw_goes, is_not, no_at_in_literal, no_at_in_raw}
+use Rattle.cweb_rules.proofs.PlainRuns.{plain_goes, raw_goes, no_at_in_literal, no_at_in_raw}
 use Rattle.cweb_rules.proofs.Seams.{in_line}
 use Rattle.cweb_scanner.proofs.OpenItems.{append-nil'}
 use Rattle.cweb_scan.proofs.OpenReaders.{open_at}
@@ -61,7 +61,7 @@ plain-state s b h = ap (λ v. if v && true then fault DoubleAtInString s else s)
 name_goes_on : (s : State) (g : Bool) (begun : Place) (is_file : Bool)
     → GoesOn (is_plain Name) (λ us. opened s g (InName begun is_file us))
 name_goes_on s g begun is_file us b t line plain =
-    let off = is_not (is_sign Name b) plain in
+    let off = not-true (is_sign Name b) plain in
     subst (λ (v : List ℕ).
     Takes 1 (b ∷ t) (opened s g (InName begun is_file us)) (opened s g (InName begun is_file (us ++ v))))
     (plain-bytes b off) (name_goes s g begun is_file us 1 (b ∷ t) line (omega arith) (plain_goes Name b t off)).takes
@@ -88,7 +88,7 @@ literal_one s g b t at us h takes = subst (λ (k : State).
 literal_goes_on : (s : State) (g : Bool) (begun : Place) (quote : ℕ)
     → GoesOn (is_plain (Literal quote)) (λ us. opened s g (InLiteral begun quote us))
 literal_goes_on s g begun quote us b t line plain =
-    let off = is_not (is_sign (Literal quote) b) plain in
+    let off = not-true (is_sign (Literal quote) b) plain in
     literal_one s g b t (λ (v : List ℕ). InLiteral begun quote v) us (no_at_in_literal quote b off)
     (literal_takes s g begun quote us (Goes 1) (b ∷ t) (omega arith) line
     (omega arith) (plain_goes (Literal quote) b t off) (omega arith)).takes
@@ -107,7 +107,7 @@ literal_run s g begun quote us n u line some is = record {
 raw_goes_on : (s : State) (g : Bool) (begun : Place) (d : List ℕ) → list_all in_line (sign_of d) ≡ true
     → GoesOn (λ b. not (is_raw_sign (sign_of d) b)) (λ us. opened s g (InRaw begun d us))
 raw_goes_on s g begun d clean us b t line plain =
-    let off = is_not (is_raw_sign (sign_of d) b) plain in
+    let off = not-true (is_raw_sign (sign_of d) b) plain in
     literal_one s g b t (λ (v : List ℕ). InRaw begun d v) us (no_at_in_raw (sign_of d) b off) (raw_takes s g begun d us
     (Goes 1) (b ∷ t) (omega arith) clean line (omega arith) (raw_goes (sign_of d) b t off) (omega arith)).takes
 

@@ -15,35 +15,20 @@ Stays f s = (f s).here ≡ s.here
 
 macro_in-stays : (c : Context) (s : State) → (end_macro_in c s).here ≡ s.here
 macro_in-stays Limbo s = refl
-macro_in-stays TeX s = refl
-macro_in-stays (Definition begun) s = refl
-macro_in-stays Macro s = refl
-macro_in-stays CText s = refl
+macro_in-stays _ s = refl
 
 macro-stays : (s : State) → Stays end_macro s
 macro-stays s = macro_in-stays s.context s
 
 pub leave_in-stays : (c : Context) (s : State) → (leave_in c s).here ≡ s.here
 leave_in-stays Limbo s = refl
-leave_in-stays TeX s = refl
-leave_in-stays (Definition begun) s = refl
-leave_in-stays Macro s = refl
-leave_in-stays CText s = refl
+leave_in-stays _ s = refl
 
 pub code-stays : (e : Effect) (s : State) → Stays (code e) s
-code-stays Nothing s = refl
 code-stays Define s = macro-stays s
 code-stays Format s = macro-stays s
 code-stays Program s = macro-stays s
-code-stays InsertDefs s = refl
-code-stays Joins s = refl
-code-stays GiveAt s = refl
-code-stays (Faulty kind) s = refl
-code-stays Named s = refl
-code-stays effect.Letter s = refl
-code-stays effect.ControlText s = refl
-code-stays effect.Verbatim s = refl
-code-stays effect.Constant s = refl
+code-stays _ s = refl
 
 pub letter-stays : (byte : ℕ) (text : Option (List ℕ)) (s : State) → Stays (letter byte text) s
 letter-stays byte None s = refl
@@ -51,15 +36,11 @@ letter-stays byte (Some text) s = refl
 
 pub control_text-stays : (how : End) (s : State) → Stays (control_text how) s
 control_text-stays Closed s = refl
-control_text-stays Cut s = refl
-control_text-stays Nested s = refl
-control_text-stays Open s = refl
+control_text-stays _ s = refl
 
 pub verbatim-stays : (text : List ℕ) (how : End) (s : State) → Stays (verbatim text how) s
 verbatim-stays text Closed s = refl
-verbatim-stays text Cut s = refl
-verbatim-stays text Nested s = refl
-verbatim-stays text Open s = refl
+verbatim-stays text _ s = refl
 
 pub constant-stays : (value : Option ℕ) (s : State) → Stays (constant value) s
 constant-stays None s = refl
@@ -71,15 +52,11 @@ define-stays bytes false s = refl
 
 pub comment-stays : (how : End) (begun : Place) (s : State) → Stays (comment how begun) s
 comment-stays Closed begun s = refl
-comment-stays Cut begun s = refl
-comment-stays Nested begun s = refl
-comment-stays Open begun s = refl
+comment-stays _ begun s = refl
 
 name_fault-stays : (how : End) (begun : Place) (s : State) → Stays (name_fault how begun) s
 name_fault-stays Closed begun s = refl
-name_fault-stays Cut begun s = refl
-name_fault-stays Nested begun s = refl
-name_fault-stays Open begun s = refl
+name_fault-stays _ begun s = refl
 
 use_name-stays : (n : NameRef) (opens : Bool) (begun : Place) (s : State) → Stays (use_name n opens begun) s
 use_name-stays n true begun s = refl
@@ -91,11 +68,10 @@ open_name-stays n false s = macro-stays s
 
 name_in-stays : (c : Context) (n : NameRef) (opens : Bool) (begun : Place) (s : State)
     → Stays (name_in c n opens begun) s
-name_in-stays Limbo n opens begun s = refl
 name_in-stays TeX n opens begun s = open_name-stays n opens s
-name_in-stays (Definition at) n opens begun s = refl
 name_in-stays Macro n opens begun s = open_name-stays n opens s
 name_in-stays CText n opens begun s = use_name-stays n opens begun s
+name_in-stays _ n opens begun s = refl
 
 pub occurrence-stays : (is_file : Bool) (text : List ℕ) (how : End) (opens : Bool) (begun : Place) (s : State)
     → Stays (occurrence is_file text how opens begun) s
@@ -104,21 +80,16 @@ occurrence-stays is_file text how opens begun s =
 
 pub literal-stays : (text : List ℕ) (how : End) (begun : Place) (s : State) → Stays (literal text how begun) s
 literal-stays text Closed begun s = refl
-literal-stays text Cut begun s = refl
-literal-stays text Nested begun s = refl
-literal-stays text Open begun s = refl
+literal-stays text _ begun s = refl
 
 pub blank-stays : (s : State) → Stays blank s
 blank-stays s = elim (in_directive s && not (is_blank (directive s).last)) as
     (λ v. (if v then give Blank s else s).here ≡ s.here) [ true ↦ refl | false ↦ refl ]
 
 pub enter_in-stays : (c : Context) (k : Kind) (s : State) → Stays (enter_in c k) s
-enter_in-stays Limbo k s = refl
-enter_in-stays TeX k s = refl
 enter_in-stays (Definition begun) k s = elim
     (stays_in_head k) as (λ v. (if v then s else drop_definition begun s).here ≡ s.here) [ true ↦ refl | false ↦ refl ]
-enter_in-stays Macro k s = refl
-enter_in-stays CText k s = refl
+enter_in-stays _ k s = refl
 
 -- LINE ENDS
 
@@ -127,10 +98,7 @@ Moves f = (p : Place) (s : State) → (f p s).here ≡ p
 
 line_end_in-moves : (c : Context) (p : Place) (s : State) → (line_end_in c p s).here ≡ p
 line_end_in-moves Limbo p s = refl
-line_end_in-moves TeX p s = refl
-line_end_in-moves (Definition begun) p s = refl
-line_end_in-moves Macro p s = refl
-line_end_in-moves CText p s = refl
+line_end_in-moves _ p s = refl
 
 pub line_end-moves : Moves line_end
 line_end-moves p s = line_end_in-moves s.context p s

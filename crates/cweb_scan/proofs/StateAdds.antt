@@ -15,10 +15,7 @@ adds_within n m x h k =
 
 pub due_some : (c : Context) → 1 ≤ due c
 due_some Limbo = omega arith
-due_some TeX = omega arith
-due_some (Definition begun) = omega arith
-due_some Macro = omega arith
-due_some CText = omega arith
+due_some _ = omega arith
 
 pub nothing_adds : (s : State) → Adds 0 0 s s
 nothing_adds s = record { tokens_are = omega arith; bytes_are = omega arith }
@@ -54,21 +51,17 @@ end_part-adds s = record {
 }
 
 pub end_macro_in-adds : (c : Context) (s : State) → Adds 0 0 s (end_macro_in c s)
-end_macro_in-adds Limbo s = nothing_adds s
-end_macro_in-adds TeX s = nothing_adds s
-end_macro_in-adds (Definition begun) s = nothing_adds s
 end_macro_in-adds Macro s = end_part-adds s
-end_macro_in-adds CText s = nothing_adds s
+end_macro_in-adds _ s = nothing_adds s
 
 pub drop_definition-adds : (p : Place) (s : State) → Adds 0 0 s (drop_definition p s)
 drop_definition-adds p s = record { tokens_are = omega (arith, due_some s.context); bytes_are = omega arith }
 
 pub leave_in-adds : (c : Context) (s : State) → Adds 1 0 s (leave_in c s)
-leave_in-adds Limbo s = adds_within 1 0 (nothing_adds s) (omega arith) (omega arith)
-leave_in-adds TeX s = adds_within 1 0 (nothing_adds s) (omega arith) (omega arith)
 leave_in-adds (Definition begun) s = adds_within 1 0 (drop_definition-adds begun s) (omega arith) (omega arith)
 leave_in-adds Macro s = adds_within 1 0 (end_part-adds s) (omega arith) (omega arith)
 leave_in-adds CText s = adds_both (give-adds (Tail s.sections) s) (end_part-adds _)
+leave_in-adds _ s = adds_within 1 0 (nothing_adds s) (omega arith) (omega arith)
 
 pub begin_section-adds : (starred : Bool) (s : State) → Adds 1 0 s (begin_section starred s)
 begin_section-adds starred s =
@@ -90,12 +83,10 @@ line_end_token-text p s = no_text (in_directive s && is_punct (codes "\\") (dire
     ((in_directive s && s.folded) || not (follows s.here p)) p
 
 line_end_in-adds : (c : Context) (p : Place) (s : State) → Adds 1 0 s (line_end_in c p s)
-line_end_in-adds Limbo p s = adds_within 1 0 (moved-adds p s) (omega arith) (omega arith)
-line_end_in-adds TeX p s = adds_within 1 0 (moved-adds p s) (omega arith) (omega arith)
-line_end_in-adds (Definition begun) p s = adds_within 1 0 (moved-adds p s) (omega arith) (omega arith)
 line_end_in-adds Macro p s = adds_both (give-adds Newline s) (moved-adds p _)
 line_end_in-adds CText p s = adds_within 1 0 (adds_both (give-adds (line_end_token p s) s) (moved-adds p _))
     (omega arith) (omega (arith, line_end_token-text p s))
+line_end_in-adds _ p s = adds_within 1 0 (moved-adds p s) (omega arith) (omega arith)
 
 pub line_end-adds : (p : Place) (s : State) → Adds 1 0 s (line_end p s)
 line_end-adds p s = line_end_in-adds s.context p s

@@ -11,11 +11,8 @@ strange known (Mark place) = if known place then 0 else 1
 strange known t = 0
 
 abbrev pub IsBegunKnown : (Place → Bool) → Context → Type 0
-IsBegunKnown known Limbo = Unit {0}
-IsBegunKnown known TeX = Unit {0}
 IsBegunKnown known (Definition begun) = known begun ≡ true
-IsBegunKnown known Macro = Unit {0}
-IsBegunKnown known CText = Unit {0}
+IsBegunKnown known _ = Unit {0}
 
 -- all places that are held are known
 pub record AreKnown (known : Place → Bool) (s : State) : Type 0 where
@@ -85,11 +82,8 @@ module _ (known : Place → Bool) where
       }
 
   end_macro_in-known : (c : Context) (s : State) → K s → K (end_macro_in c s)
-  end_macro_in-known Limbo s k = k
-  end_macro_in-known TeX s k = k
-  end_macro_in-known (Definition begun) s k = k
   end_macro_in-known Macro s k = end_part-known s k
-  end_macro_in-known CText s k = k
+  end_macro_in-known _ s k = k
 
   pub end_macro-known : (s : State) → K s → K (end_macro s)
   end_macro-known s k = end_macro_in-known s.context s k
@@ -98,11 +92,10 @@ module _ (known : Place → Bool) where
   drop_definition-known p s h k = enters TeX (fault_at DefinitionDropped p s) tt (fault-known DefinitionDropped p s h k)
 
   leave_in-known : (c : Context) (s : State) → IsBegunKnown known c → K s → K (leave_in c s)
-  leave_in-known Limbo s h k = k
-  leave_in-known TeX s h k = k
   leave_in-known (Definition begun) s h k = drop_definition-known begun s h k
   leave_in-known Macro s h k = end_part-known s k
   leave_in-known CText s h k = end_part-known (give (Tail s.sections) s) (give-known (Tail s.sections) s refl k)
+  leave_in-known _ s h k = k
 
   pub leave-known : (s : State) → K s → K (leave s)
   leave-known s k = leave_in-known s.context s k.begun k
@@ -124,12 +117,10 @@ module _ (known : Place → Bool) where
       ((in_directive s && s.folded) || not (follows s.here p)) p h
 
   line_end_in-known : (c : Context) (p : Place) (s : State) → known p ≡ true → K s → K (line_end_in c p s)
-  line_end_in-known Limbo p s h k = moved-known p s h k
-  line_end_in-known TeX p s h k = moved-known p s h k
-  line_end_in-known (Definition begun) p s h k = moved-known p s h k
   line_end_in-known Macro p s h k = moved-known p (give Newline s) h (give-known Newline s refl k)
   line_end_in-known CText p s h k =
       moved-known p (give (line_end_token p s) s) h (give-known (line_end_token p s) s (line_end_token-known p s h) k)
+  line_end_in-known _ p s h k = moved-known p s h k
 
   pub line_end-known : (p : Place) (s : State) → known p ≡ true → K s → K (line_end p s)
   line_end-known p s h k = line_end_in-known s.context p s h k
@@ -155,7 +146,6 @@ module _ (known : Place → Bool) where
       record { marks = a.marks; faults = a.faults; here = a.here; begun = a.begun }
 
   pub code-known : (e : Effect) (s : State) → K s → K (code e s)
-  code-known Nothing s k = k
   code-known Define s k = enters (Definition s.here) (end_macro s) k.here (end_macro-known s k)
   code-known Format s k = end_macro-known s k
   code-known Program s k = begin_part-known part.Unnamed (end_macro s) (end_macro-known s k)
@@ -170,27 +160,20 @@ module _ (known : Place → Bool) where
       give-known Join (record s { contents = with_dropped s.contents }) refl dropped
   code-known GiveAt s k = give-known (Punct (codes "@")) s refl k
   code-known (Faulty kind) s k = fault-known kind s.here s k.here k
-  code-known Named s k = k
-  code-known effect.Letter s k = k
-  code-known effect.ControlText s k = k
-  code-known effect.Verbatim s k = k
-  code-known effect.Constant s k = k
+  code-known _ s k = k
 
   pub letter-known : (byte : ℕ) (text : Option (List ℕ)) (s : State) → K s → K (letter byte text s)
   letter-known byte None s k = fault-known ReplacementTooLong s.here s k.here k
   letter-known byte (Some text) s k = record { marks = k.marks; faults = k.faults; here = k.here; begun = k.begun }
 
   pub control_text-known : (how : End) (s : State) → K s → K (control_text how s)
-  control_text-known Closed s k = k
   control_text-known Cut s k = fault-known ControlTextDidNotEnd s.here s k.here k
-  control_text-known Nested s k = k
-  control_text-known Open s k = k
+  control_text-known _ s k = k
 
   pub verbatim-known : (text : List ℕ) (how : End) (s : State) → K s → K (verbatim text how s)
   verbatim-known text Closed s k = give-known (Verbatim text) s refl k
   verbatim-known text Cut s k = fault-known ControlTextDidNotEnd s.here s k.here k
-  verbatim-known text Nested s k = k
-  verbatim-known text Open s k = k
+  verbatim-known text _ s k = k
 
   pub constant-known : (value : Option ℕ) (s : State) → K s → K (constant value s)
   constant-known None s k = fault-known FaultyConstant s.here s k.here k
@@ -208,7 +191,5 @@ module _ (known : Place → Bool) where
       ]
 
   pub comment-known : (how : End) (p : Place) (s : State) → known p ≡ true → K s → K (comment how p s)
-  comment-known Closed p s h k = k
   comment-known Cut p s h k = fault-known CommentDidNotEnd p s h k
-  comment-known Nested p s h k = k
-  comment-known Open p s h k = k
+  comment-known _ p s h k = k

@@ -6,11 +6,9 @@ use Rattle.cweb_scan.proofs.LineBegins.{line_ends}
 use Rattle.cweb_scan.proofs.Taken.{next_taken}
 
 text_ends : (c : Context) (q : Place) (s : State) → reads_c c ≡ false → line_end_in c q s ≡ moved q s
-text_ends Limbo q s text = refl
-text_ends TeX q s text = refl
-text_ends (Definition begun) q s text = refl
 text_ends Macro q s text = absurd (cc text)
 text_ends CText q s text = absurd (cc text)
+text_ends _ q s text = refl
 
 text_bytes : (line : List ℕ) (h : Held) → prefix_len is_skipped line ≡ length line → h.item ≡ Between
     → reads_c h.state.context ≡ false → IsLine line → TakesBytes line h h

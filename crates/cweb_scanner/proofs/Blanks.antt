@@ -3,12 +3,10 @@ use Rattle.cweb_scanner.proofs.Common.{◌≡◌, ◌≤◌, ℕ, ◌+◌, Bool,
 use Rattle.cweb_rules.specs.declared.rule.Rule.TheVariants as rule
 use Rattle.cweb_scanner.proofs.PlainTurns.{left_line, some_goes_on, TakesSome}
 use Rattle.cweb_scanner.proofs.Plains.{blanks_turn}
-use Rattle.cweb_scanner.proofs.Rests.{drop_more, takes_none}
+use Rattle.cweb_scanner.proofs.Rests.{takes_none}
 use Rattle.cweb_scanner.proofs.Turns.{between}
-
-if_true : (v : Bool) (x y : Rule) → v ≡ true → (if v then x else y) ≡ x
-if_true true x y h = refl
-if_true false x y h = cc
+use Rattle.cweb_rules.proofs.UnitNewlines.{drop-sum}
+use Rattle.cweb_rules.proofs.FirstBytes.{if_true}
 
 blank_first : (includes : Bool) (b : ℕ) (t : List ℕ) → is_blank b ≡ true → rule.Blanks ≡ c_rule includes (b ∷ t)
 blank_first includes b t h = sym (if_true (is_blank b) rule.Blanks _ h)
@@ -31,7 +29,7 @@ first_taken m u a some x y = record {
   within = some;
   adds = omega arith;
   same = λ later more e. sym (y.same later more e)
-      ∙ sym (ap (λ (t : List ℕ). goes_on a later (t ++ more)) (drop_more 1 m u)) ∙ x.same later more e;
+      ∙ sym (ap (λ (t : List ℕ). goes_on a later (t ++ more)) (drop-sum 1 m u)) ∙ x.same later more e;
 }
 
 one_blank : (t : List ℕ) (s : State) → IsLine (32 ∷ t) → IsPlainC s → TakesPlain 1 (32 ∷ t) s s

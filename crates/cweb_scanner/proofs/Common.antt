@@ -3,7 +3,8 @@ pub use Rattle.std.proofs.Common.{◌≡◌, ◌≤◌, ℕ, ◌+◌, Bool, true
 pub use Rattle.std.proofs.Common.{ap, sym, ◌∙◌, subst, arith, ◌&&◌, not, Option, Some, take, None, length-append, zero}
 pub use Rattle.std.proofs.Common.{suc, ◌-◌, ◌<◌, replicate, slice_index_or, ◌||◌, ◌*◌, append_assoc, min, append-nil}
 pub use Rattle.std.proofs.Common.{rules, OnOk}
-pub use Rattle.std.proofs.lemmas.Bool.{eqb-true, ne_eqb}
+pub use Rattle.std.proofs.Math.Bool.{and-false}
+pub use Rattle.std.proofs.lemmas.Bool.{eqb-true, ne_eqb, and_parts, or_parts, not-false}
 pub use Rattle.std.proofs.lemmas.Bool.Decides.{nat_tests}
 pub use Rattle.std.proofs.lemmas.Grind.{flat_map-append, common_steps}
 pub use Rattle.std.proofs.lemmas.List.{length-drop, length-take, take-append-le, drop-append-le, length-take-le}

@@ -1,25 +1,19 @@
 -- The text of a directive that has come too far for an included name: what is told of it, and what its pieces make.
-use Rattle.cweb_scanner.proofs.Common.{◌≡◌, ◌≤◌, ℕ, Bool, true, false, ◌&&◌, not, List, Option, Some, length, take, refl, ap, sym, ◌∙◌, subst, if◌then◌else◌, codes, option_map, prefix_len, longer, Token, Punct, Part, is_blank, IsLine, c_rule, listed, longest, Context, Limbo, TeX, Definition, Macro, CText, Rule, blank, punctuator, directive, directive_of, in_directive, is_c, is_punct, is_some, names_include, further, goes_over, has_part, is_blank_token, is_further_stage, is_include_stage, is_include_word, is_line_end, is_outside, stage_of, step, IsTied, in_directive_text, IsPlainToken, TakesPlain, State, give, tokens_of, Directive, Stage, Outside, Bare, Include, Further}
+use Rattle.cweb_scanner.proofs.Common.{◌≡◌, ◌≤◌, ℕ, Bool, true, false, ◌&&◌, not, List, Option, Some, length, take, refl, ap, sym, ◌∙◌, subst, if◌then◌else◌, codes, option_map, prefix_len, longer, Token, Punct, Part, is_blank, IsLine, c_rule, listed, longest, Context, Limbo, TeX, Definition, Macro, CText, Rule, blank, punctuator, directive, directive_of, in_directive, is_c, is_punct, is_some, names_include, further, goes_over, has_part, is_blank_token, is_further_stage, is_include_stage, is_include_word, is_line_end, is_outside, stage_of, step, IsTied, in_directive_text, IsPlainToken, TakesPlain, State, give, tokens_of, Directive, Stage, Outside, Bare, Include, Further, and-false}
 use Rattle.cweb_rules.specs.declared.rule.Rule.TheVariants as rule
 use Rattle.cweb_scanner.specs.declared.scanner.directive.Last.TheVariants as last
-use Rattle.cweb_scanner.proofs.Furthers.{and_false}
 use Rattle.cweb_scanner.proofs.Plains.{rule_at, turn}
 use Rattle.cweb_scanner.proofs.TiedSteps.{include-seen, outside-seen, tied_given}
 
 -- WHAT IS TOLD
 
 c_and : (c : Context) (v : Bool) → (is_c c && v) ≡ true → (c ≡ CText) × (v ≡ true)
-c_and Limbo v h = cc
-c_and TeX v h = cc
-c_and (Definition begun) v h = cc
-c_and Macro v h = cc
 c_and CText v h = (refl, h)
+c_and _ v h = cc
 
 stage_further : (g : Stage) → is_further_stage g ≡ true → g ≡ Further
-stage_further Outside h = cc
-stage_further Bare h = cc
-stage_further Include h = cc
 stage_further Further h = refl
+stage_further _ h = cc
 
 pub text_in_c : (s : State) → in_directive_text s ≡ true → s.context ≡ CText
 text_in_c s h = (c_and s.context (is_further_stage (stage_of (directive s).tokens)) h).0
@@ -38,7 +32,7 @@ pub text_rule : (s : State) (u : List ℕ) (r : Rule) → in_directive_text s �
 text_rule s u r h is =
     let none : names_include s ≡ false =
     sym (include-seen (directive s).tokens) ∙ ap is_include_stage (text_stage s h) in
-    is ∙ ap (λ v. c_rule v u) (sym (ap (λ v. is_c s.context && v) none ∙ and_false (is_c s.context)))
+    is ∙ ap (λ v. c_rule v u) (sym (ap (λ v. is_c s.context && v) none ∙ and-false (is_c s.context)))
 
 -- WHAT IS KEPT
 

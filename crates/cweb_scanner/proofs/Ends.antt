@@ -16,9 +16,7 @@ at_front look v u e t =
 
 ended_same : (e how : End) → IsEnd how → how ≡ ended_as e how
 ended_same e Open h = absurd h
-ended_same e Closed h = refl
-ended_same e Cut h = refl
-ended_same e Nested h = refl
+ended_same e _ h = refl
 
 one_look : (look : List ℕ → Look) (e : End) (u t : List ℕ) (v : Look) (m : ℕ)
     → IsWithin v m → ((k : ℕ) → reach_in look e k t ≡ at_end e (reach_in look Open k t))

@@ -1,5 +1,5 @@
 -- The table of what first bytes tell.
-use Rattle.cweb_scanner.proofs.Common.{◌≡◌, ◌<◌, ℕ, zero, suc, ◌+◌, Bool, true, false, ◌&&◌, ◌==◌, List, [], ◌∷◌, ◌++◌, length, replicate, slice_index_or, refl, ap, sym, ◌∙◌, arith, eqb-true, plain_by, Plain, Sign, Operator, Digit, Quote, Stop}
+use Rattle.cweb_scanner.proofs.Common.{◌≡◌, ◌<◌, ℕ, zero, suc, ◌+◌, Bool, true, false, ◌&&◌, ◌==◌, List, [], ◌∷◌, ◌++◌, length, replicate, slice_index_or, refl, ap, sym, ◌∙◌, arith, eqb-true, plain_by, Plain, Sign, Operator, Digit, Quote, Stop, and_parts}
 use Rattle.cweb_scanner.specs.declared.scanner.plain.Plain.TheVariants.{Blank, Word, Further}
 
 -- kinds as numbers, so that two of them are compared by computing
@@ -11,17 +11,7 @@ kind n = slice_index_or (Blank ∷ Word ∷ Sign ∷ Operator ∷ Digit ∷ Quot
 
 kind_back : (p : Plain) → kind (number p) ≡ p
 kind_back Blank = refl
-kind_back Word = refl
-kind_back Sign = refl
-kind_back Operator = refl
-kind_back Digit = refl
-kind_back Quote = refl
-kind_back Further = refl
-kind_back Stop = refl
-
-both : (a b : Bool) → (a && b) ≡ true → (a ≡ true) × (b ≡ true)
-both true b e = (refl, e)
-both false b e = cc
+kind_back _ = refl
 
 -- the entries from a byte on are what the definition says of it and of the bytes after it
 abbrev agrees : ℕ → List Plain → Bool
@@ -34,10 +24,10 @@ told_from [] k i b d h within e = absurd (omega (arith, within))
 told_from (x ∷ xs) k zero b d h within e =
     let here : k ≡ b = omega (arith, e) in
     let test = number x == number (plain_by k) in
-    let same = eqb-true (number x) (number (plain_by k)) (both test (agrees (suc k) xs) h).0 in
+    let same = eqb-true (number x) (number (plain_by k)) (and_parts test (agrees (suc k) xs) h).0 in
     sym (kind_back x) ∙ ap kind same ∙ kind_back (plain_by k) ∙ ap plain_by here
 told_from (x ∷ xs) k (suc i) b d h within e = told_from xs (suc k) i b d
-    (both (number x == number (plain_by k)) (agrees (suc k) xs) h).1 (omega (arith, within)) (omega (arith, e))
+    (and_parts (number x == number (plain_by k)) (agrees (suc k) xs) h).1 (omega (arith, within)) (omega (arith, e))
 
 -- the table, as runs of equal kinds
 abbrev pub firsts : List Plain

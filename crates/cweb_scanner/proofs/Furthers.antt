@@ -1,8 +1,7 @@
 -- Plain C text: the pieces that their first bytes don't tell.
-use Rattle.cweb_scanner.proofs.Common.{◌≡◌, ◌≤◌, ℕ, zero, suc, ◌+◌, Bool, true, false, ◌||◌, ◌&&◌, ◌==◌, not, List, [], ◌∷◌, Option, Some, None, length, take, drop, refl, ap, sym, ◌∙◌, arith, if◌then◌else◌, codes, bytes_eq, nat_tests, Token, Number, Punct, Blank, begins, first_is, at_line_end, in_c, reach, size_of, front_in, comment_at, look_in_comment, IsLine, is_open, opens_in, reached, c_rule, c_front_by, listed, longest, number_len, Context, Limbo, TeX, Definition, Macro, CText, End, Closed, Cut, Open, Reached, Look, Rule, Reading, blank, comment, comment_line_end, punctuator, directive, is_c, is_some, names_include, some_include, Gives, ended_as, is_head, is_kept_back, IsPlainC, IsPlainToken, TakesPlain, State, give}
+use Rattle.cweb_scanner.proofs.Common.{◌≡◌, ◌≤◌, ℕ, zero, suc, ◌+◌, Bool, true, false, ◌||◌, ◌&&◌, ◌==◌, not, List, [], ◌∷◌, Option, Some, None, length, take, drop, refl, ap, sym, ◌∙◌, arith, if◌then◌else◌, codes, bytes_eq, nat_tests, Token, Number, Punct, Blank, begins, first_is, at_line_end, in_c, reach, size_of, front_in, comment_at, look_in_comment, IsLine, is_open, opens_in, reached, c_rule, c_front_by, listed, longest, number_len, Context, Limbo, TeX, Definition, Macro, CText, End, Closed, Cut, Open, Reached, Look, Rule, Reading, blank, comment, comment_line_end, punctuator, directive, is_c, is_some, names_include, some_include, Gives, ended_as, is_head, is_kept_back, IsPlainC, IsPlainToken, TakesPlain, State, give, and-false, or_parts}
 use Rattle.cweb_rules.specs.declared.rule.Rule.TheVariants as rule
 use Rattle.cweb_rules.proofs.Looks.{comment-units}
-use Rattle.cweb_rules.proofs.TokenSizes.{longest-some}
 use Rattle.cweb_scanner.specs.Directives.{is_blank}
 use Rattle.cweb_scanner.specs.declared.scanner.directive.Last.TheVariants as last
 use Rattle.cweb_scanner.proofs.CodeTurns.{closed_at}
@@ -10,6 +9,8 @@ use Rattle.cweb_scanner.proofs.Ends.{how-at_end, line_comment_gives, none_to_com
 use Rattle.cweb_scanner.proofs.Plains.{none_open, rule_at, turn}
 use Rattle.cweb_scanner.proofs.Rests.{c_is, c_opens_is}
 use Rattle.cweb_scanner.proofs.Turns.{between, opens_by}
+use Rattle.cweb_rules.proofs.Longest.{longest_pos}
+use Rattle.cweb_rules.proofs.PlainRuns.{turned}
 
 -- RULES
 
@@ -17,26 +18,19 @@ none_included : (o : Option (List Token)) → is_some o ≡ false → some_inclu
 none_included None h = refl
 none_included (Some ts) h = cc
 
-pub and_false : (a : Bool) → (a && false) ≡ false
-and_false true = refl
-and_false false = refl
-
 -- where no directive is open no included name is a rule
 rule_plain : (s : State) (u : List ℕ) (r : Rule) → IsPlainC s → r ≡ c_rule false u → r ≡ rule_at s u
 rule_plain s u r h is = is
     ∙ ap (λ v. c_rule v u) (sym (ap (λ v. is_c s.context && v) (none_included (directive s).tokens (none_open s h))
-    ∙ and_false (is_c s.context)))
+    ∙ and-false (is_c s.context)))
 
 ends_by : (c : Context) (includes : Bool) (u : List ℕ) (r : Rule) → c ≡ CText → r ≡ c_rule (is_c c && includes) u
     → opens_by in_c u r ≡ false → (front_in c includes u ≡ c_front_by in_c false u r) × (opens_in c u ≡ false)
-ends_by Limbo includes u r h is ends = cc
-ends_by TeX includes u r h is ends = cc
-ends_by (Definition begun) includes u r h is ends = cc
-ends_by Macro includes u r h is ends = cc
 ends_by CText includes u r h is ends = (
   c_is includes u ∙ ap (c_front_by in_c false u) (sym is),
   c_opens_is includes u ∙ ap (opens_by in_c u) (sym is) ∙ ends,
 )
+ends_by _ includes u r h is ends = cc
 
 -- an item that may go over its line, and ends in it
 pub ended_turn : (n : ℕ) (u : List ℕ) (s new : State) (r : Rule) → IsLine u → 1 ≤ length u → IsPlainC s → r
@@ -74,27 +68,20 @@ operator_turn n u s new line some h is size made =
           ∙ ap (λ k. punctuator (take k u) s) size;
     })
 
-other_side : (x b : ℕ) → (x == b) ≡ false → (b == x) ≡ false
-other_side x b h = grind (arith, nat_tests)
-
-either : (a b : Bool) → (a || b) ≡ false → (a ≡ false) × (b ≡ false)
-either true b h = cc
-either false b h = (refl, h)
-
 plain_punct : (n b : ℕ) (t : List ℕ) → is_kept_back b ≡ false → IsPlainToken (Punct (take (suc n) (b ∷ t)))
 plain_punct n b t kept =
-    let hash = (either (35 == b) _ (either (64 == b) _ kept).1).0 in
-    let back = (either (92 == b) _ (either (35 == b) _ (either (64 == b) _ kept).1).1).0 in
+    let hash = (or_parts (35 == b) _ (or_parts (64 == b) _ kept).1).0 in
+    let back = (or_parts (92 == b) _ (or_parts (35 == b) _ (or_parts (64 == b) _ kept).1).1).0 in
     record {
-      hash = ap (λ v. v && bytes_eq (take n t) []) (other_side 35 b hash);
-      last = ap (λ v. if v && bytes_eq (take n t) [] then last.Backslash else last.Other) (other_side 92 b back);
+      hash = ap (λ v. v && bytes_eq (take n t) []) (turned b 35 hash);
+      last = ap (λ v. if v && bytes_eq (take n t) [] then last.Backslash else last.Other) (turned b 92 back);
       solid = refl;
     }
 
 pub operator_token : (n : ℕ) (u : List ℕ) → n ≡ longest listed u → 1 ≤ length u → first_is is_kept_back u ≡ false
     → IsPlainToken (Punct (take n u))
 operator_token n [] size some kept = absurd (omega (arith, some))
-operator_token zero (b ∷ t) size some kept = absurd (omega (arith, size, longest-some listed (b ∷ t)))
+operator_token zero (b ∷ t) size some kept = absurd (omega (arith, size, longest_pos listed (b ∷ t)))
 operator_token (suc n) (b ∷ t) size some kept = plain_punct n b t kept
 
 -- COMMENTS

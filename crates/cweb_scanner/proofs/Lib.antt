@@ -3,7 +3,6 @@ pub mod Steps
 pub mod TiedSteps
 pub mod Rooms
 pub mod Spelling
-pub mod Drops
 pub mod Fairs
 pub mod Pieces
 pub mod OpenItems

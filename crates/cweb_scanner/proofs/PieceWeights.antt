@@ -23,7 +23,7 @@ each-weight f n adds (b ∷ t) r =
       | false ↦ each-weight f n adds t r
     ]
 
-no_line_ends : (t : List ℕ) → at_line_ends 0 t ≡ 0
+pub no_line_ends : (t : List ℕ) → at_line_ends 0 t ≡ 0
 no_line_ends [] = refl
 no_line_ends (b ∷ t) = elim (is_line_end b) as (λ v. (if v then 0 + at_line_ends 0 t else at_line_ends 0 t) ≡ 0)
     [ true ↦ omega (arith, no_line_ends t) | false ↦ no_line_ends t ]
@@ -45,12 +45,9 @@ units-weight (u ∷ us) r = omega (arith, unit-weight r u, units-weight us (lite
 -- THE PIECES
 
 enter_in-weight : (c : Context) (k : Kind) (s : State) → weight (enter_in c k s) ≤ weight s
-enter_in-weight Limbo k s = omega arith
-enter_in-weight TeX k s = omega arith
 enter_in-weight (Definition begun) k s = elim (stays_in_head k) as
     (λ v. weight (if v then s else drop_definition begun s) ≤ weight s) [ true ↦ omega arith | false ↦ omega arith ]
-enter_in-weight Macro k s = omega arith
-enter_in-weight CText k s = omega arith
+enter_in-weight _ k s = omega arith
 
 item-weight : (c : Context) (k : Kind) (bytes : List ℕ) (r : Reading) → 1 ≤ length bytes
     → Pays c k bytes → weight (item k bytes r).state ≤ weight r.state + 3 * length bytes

@@ -1,5 +1,6 @@
 -- The first piece of a text, and the pieces behind it.
 use Rattle.cweb_scanner.proofs.Common.{◌≡◌, ℕ, ◌-◌, ◌<◌, suc, zero, List, [], ◌∷◌, take, drop, refl, ap, sym, ◌∙◌, arith, Piece, Reading, after, front_of, pieces, pieces_in}
+use Rattle.cweb_rules.proofs.UnitNewlines.{drop-pred}
 
 pieces_in-drop : (k : ℕ) (r : Reading) (t : List ℕ) → pieces_in k r t ≡ pieces_in 0 r (drop k t)
 pieces_in-drop zero r t = refl
@@ -8,9 +9,6 @@ pieces_in-drop (suc k) r (b ∷ t) = pieces_in-drop k r t
 
 abbrev pub first : Reading → List ℕ → Piece
 first r t = record { kind = (front_of r.state t).kind; bytes = take (front_of r.state t).size t }
-
-drop-pred : (n : ℕ) (b : ℕ) (t : List ℕ) → 0 < n → drop (n - 1) t ≡ drop n (b ∷ t)
-drop-pred n b t h = let e : n ≡ suc (n - 1) = omega arith in sym (ap (λ m. drop m (b ∷ t)) e)
 
 -- the pieces of a text are what stands at its front, and the pieces of the rest
 pub pieces_first : (r : Reading) (b : ℕ) (t : List ℕ) → 0 < (front_of r.state (b ∷ t)).size → pieces r (b ∷ t)

@@ -1,7 +1,7 @@
 -- Plain C text: what a first byte tells.
 use Rattle.cweb_scanner.proofs.Common.{◌≡◌, ◌≤◌, ℕ, Bool, true, false, ◌||◌, ◌==◌, List, [], ◌∷◌, Some, length, take, slice_index_or, refl, sym, subst, arith, if◌then◌else◌, codes, eqb-true, Word, Punct, first_is, is_blank, is_one_of, is_word_byte, c_rule, is_settled, listed, longest, Rule, is_punct, last_of, is_alone, is_figure, is_kept_back, is_less, is_quote, plain_by, IsPlainToken, Plain}
 use Rattle.cweb_rules.specs.declared.rule.Rule.TheVariants as rule
-use Rattle.cweb_rules.proofs.FirstBytes.{settled-rule}
+use Rattle.cweb_rules.proofs.FirstBytes.{settled-rule, if_true}
 use Rattle.cweb_scanner.specs.declared.scanner.plain.Plain.TheVariants as plain
 
 -- FIRST BYTES
@@ -129,10 +129,6 @@ unblank_by b settled = if settled then settled_by b (is_word_byte b) else unsett
 
 abbrev taken_by : ℕ → Bool → Plain
 taken_by b blank = if blank then plain.Blank else unblank_by b (is_settled b)
-
-if_true : (v : Bool) (x y : Rule) → v ≡ true → (if v then x else y) ≡ x
-if_true true x y e = refl
-if_true false x y e = cc
 
 module _ (includes : Bool) (b : ℕ) (t : List ℕ) (kept : is_kept_back b ≡ false) where
   told_sign : rule.Punctuator ≡ c_rule includes (b ∷ t) → rule.Punctuator ≡ c_rule false (b ∷ t)

@@ -1,7 +1,8 @@
 -- Plain C text: pieces one after another.
 use Rattle.cweb_scanner.proofs.Common.{◌≡◌, ◌≤◌, ℕ, zero, suc, ◌+◌, ◌-◌, ◌*◌, false, List, [], ◌∷◌, Option, Some, None, length, drop, ap, sym, ◌∙◌, subst, arith, length-drop, IsLine, Takes, taken_size, TakesPlain, weight, State}
-use Rattle.cweb_scanner.proofs.Rests.{drop_more, takes_both}
+use Rattle.cweb_scanner.proofs.Rests.{takes_both}
 use Rattle.cweb_scanner.proofs.Turns.{between}
+use Rattle.cweb_rules.proofs.UnitNewlines.{drop-sum}
 
 -- ALL PIECES
 
@@ -20,7 +21,7 @@ some_goes_on m text left after a b c is f t =
     let size = ap (λ (u : List ℕ). length u) is in
     let all : n + m ≡ length text - length after = omega (arith, size, length-drop m left, one.within, f.within) in
     record {
-      left_is = is ∙ ap (drop m) f.left_is ∙ sym (drop_more n m text) ∙ ap (λ k. drop k text) all;
+      left_is = is ∙ ap (drop m) f.left_is ∙ sym (drop-sum n m text) ∙ ap (λ k. drop k text) all;
       taken = subst (λ k. TakesPlain k text a c) all (record {
         taken = λ g. takes_both n m text (between a g) (between b g) (between c g) (f.taken.taken g)
             (subst (λ (u : List ℕ). Takes m u (between b g) (between c g)) f.left_is (t.taken g));

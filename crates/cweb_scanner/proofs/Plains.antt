@@ -1,5 +1,5 @@
 -- Plain C text: that a piece that its first byte tells is taken rightly.
-use Rattle.cweb_scanner.proofs.Common.{◌≡◌, ◌≤◌, ℕ, Bool, true, false, ◌&&◌, not, List, [], ◌∷◌, Option, Some, None, length, take, refl, ap, sym, ◌∙◌, subst, if◌then◌else◌, codes, option_map, prefix_len, fold-append, longer, Token, Word, Punct, Blank, Newline, Part, is_blank, is_word_byte, in_c, IsLine, c_rule, c_front_by, Context, CText, Rule, punctuator, directive, directive_of, directive_tokens, ends_line, is_c, is_punct, is_some, names_include, with_next, Gives, is_head, further, goes_over, has_part, is_line_end, is_outside, last_of, next_stage, outside, step, IsTied, IsPlainC, IsPlainToken, TakesPlain, ends_macro_line, State, give, tokens_of, Directive, Stage, Outside, Bare, Include, Further}
+use Rattle.cweb_scanner.proofs.Common.{◌≡◌, ◌≤◌, ℕ, Bool, true, false, ◌&&◌, not, List, [], ◌∷◌, Option, Some, None, length, take, refl, ap, sym, ◌∙◌, subst, if◌then◌else◌, codes, option_map, prefix_len, fold-append, longer, Token, Word, Punct, Blank, Newline, Part, is_blank, is_word_byte, in_c, IsLine, c_rule, c_front_by, Context, CText, Rule, punctuator, directive, directive_of, directive_tokens, ends_line, is_c, is_punct, is_some, names_include, with_next, Gives, is_head, further, goes_over, has_part, is_line_end, is_outside, last_of, next_stage, outside, step, IsTied, IsPlainC, IsPlainToken, TakesPlain, ends_macro_line, State, give, tokens_of, Directive, Stage, Outside, Bare, Include, Further, not-false}
 use Rattle.cweb_rules.specs.declared.rule.Rule.TheVariants as rule
 use Rattle.cweb_scanner.specs.Directives as spec
 use Rattle.cweb_scanner.specs.declared.scanner.directive.Last.TheVariants as last
@@ -38,13 +38,7 @@ stays_plain s t h plain = record {
 
 stage_outside : (g : Stage) → is_outside g ≡ true → g ≡ Outside
 stage_outside Outside h = refl
-stage_outside Bare h = cc
-stage_outside Include h = cc
-stage_outside Further h = cc
-
-not_true : (v : Bool) → not v ≡ false → v ≡ true
-not_true true h = refl
-not_true false h = cc
+stage_outside _ h = cc
 
 step_plain : (d : Directive) (t : Token) → is_outside d.stage ≡ true → IsPlainToken t → step d t ≡ outside
 step_plain d t h plain =
@@ -60,7 +54,7 @@ pub tied_plain : (d l : Directive) (c : Context) (o : Option Part) (t : Token) �
     → IsTied outside outside c (option_map (longer t) o)
 tied_plain d l c o t tied in_c part none plain =
     let is_out = ap (λ (e : Directive). is_outside e.stage) (tied.directive_is in_c)
-    ∙ not_true _ (outside-seen (directive_of (tokens_of o)).tokens ∙ none) in
+    ∙ not-false _ (outside-seen (directive_of (tokens_of o)).tokens ∙ none) in
     let stepped = step_plain d t is_out plain in
     subst (λ (e : Directive). IsTied e outside c (option_map (longer t) o)) stepped
     (subst (λ (e : Directive). IsTied (step d t) e c (option_map (longer t) o))
@@ -80,7 +74,7 @@ pub tied_newline : (d l : Directive) (c : Context) (o : Option Part) → IsTied 
     → IsTied (record { stage = d.stage; last = last.LineEnd }) l c (option_map (longer Newline) o)
 tied_newline d l c o tied in_c part none =
     let is_out = ap (λ (e : Directive). is_outside e.stage) (tied.directive_is in_c)
-    ∙ not_true _ (outside-seen (directive_of (tokens_of o)).tokens ∙ none) in
+    ∙ not-false _ (outside-seen (directive_of (tokens_of o)).tokens ∙ none) in
     subst (λ (e : Directive). IsTied e l c (option_map (longer Newline) o)) (step_newline d is_out)
     (tied_given d l c o Newline tied part)
 

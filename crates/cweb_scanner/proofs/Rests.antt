@@ -2,15 +2,9 @@
 use Rattle.cweb_scanner.proofs.Common.{◌≡◌, ℕ, zero, suc, ◌+◌, Bool, true, false, ◌&&◌, List, [], ◌∷◌, ◌++◌, drop, refl, ap, ◌∙◌, arith, if◌then◌else◌, codes, length-drop, begins, at_line_end, in_macro, in_c, front_in, c_front, Skipped, front, opens_in, c_rule, c_front_by, Macro, CText, Held, goes_on, Takes}
 use Rattle.cweb_rules.proofs.ByRules.{c_front-by}
 use Rattle.cweb_scanner.proofs.Turns.{opens_by, c_opens-by}
+use Rattle.cweb_rules.proofs.UnitNewlines.{drop-sum}
 
 -- ONE PIECE AND THEN ANOTHER
-
-pub drop_more : (m n : ℕ) (t : List ℕ) → drop (m + n) t ≡ drop n (drop m t)
-drop_more zero n t = let e : 0 + n ≡ n = omega arith in ap (λ k. drop k t) e
-drop_more (suc m) zero [] = let e : suc m + 0 ≡ suc m = omega arith in ap (λ k. drop k []) e
-drop_more (suc m) (suc n) [] = let e : suc m + suc n ≡ suc (m + suc n) = omega arith in ap (λ k. drop k []) e
-drop_more (suc m) n (b ∷ t) =
-    let e : suc m + n ≡ suc (m + n) = omega arith in ap (λ k. drop k (b ∷ t)) e ∙ drop_more m n t
 
 pub takes_none : (u : List ℕ) (h : Held) → Takes 0 u h h
 takes_none u h = record { begun = refl; within = omega arith; adds = omega arith; same = λ later more e. refl }
@@ -21,7 +15,7 @@ takes_both n m u a b c x y = record {
   within = omega (arith, x.within, y.within, length-drop n u);
   adds = omega (arith, x.adds, y.adds);
   same = λ later more e.
-      ap (λ (t : List ℕ). goes_on c later (t ++ more)) (drop_more n m u) ∙ y.same later more e ∙ x.same later more e;
+      ap (λ (t : List ℕ). goes_on c later (t ++ more)) (drop-sum n m u) ∙ y.same later more e ∙ x.same later more e;
 }
 
 -- C TEXT AND MACROS, by the first rule that fits

@@ -3,14 +3,11 @@ use Rattle.cweb_scanner.proofs.Common.{arith, Context, Limbo, TeX, Definition, M
 use Rattle.cweb_store.proofs.CallerLemmas.{token_count_closed, part_count_closed}
 
 macro_room : (c : Context) (s : State) → HasPartRoom s → HasPartRoom (end_macro_in c s)
-macro_room Limbo s h = h
-macro_room TeX s h = h
-macro_room (Definition begun) s h = h
-macro_room CText s h = h
 macro_room Macro s h = record {
   for_tokens = omega (arith, h.for_tokens, token_count_closed s.contents.parts);
   for_a_part = omega (arith, h.for_a_part, part_count_closed s.contents.parts);
 }
+macro_room _ s h = h
 
 pub end_macro_room : (s : State) → HasPartRoom s → HasPartRoom (end_macro s)
 end_macro_room s h = macro_room s.context s h
@@ -19,6 +16,4 @@ end_macro_room s h = macro_room s.context s h
 pub name_room : (how : End) (begun : Place) (o : Occurrence) (s : State)
     → HasRoom 2 s → HasPartRoom (name_fault how begun (with_name o s))
 name_room Closed begun o s h = record { for_tokens = h.for_tokens; for_a_part = h.for_a_part }
-name_room Cut begun o s h = record { for_tokens = h.for_tokens; for_a_part = h.for_a_part }
-name_room Nested begun o s h = record { for_tokens = h.for_tokens; for_a_part = h.for_a_part }
-name_room Open begun o s h = record { for_tokens = h.for_tokens; for_a_part = h.for_a_part }
+name_room _ begun o s h = record { for_tokens = h.for_tokens; for_a_part = h.for_a_part }

@@ -20,25 +20,16 @@ closes r = false
 -- the codes don't matter to them
 closed_front : (e : ℕ → Effect) (takes : Bool) (u : List ℕ) (r : Rule) → closes r ≡ true
     → (c_front_by e takes u r ≡ c_front_by in_c false u r) × (opens_by e u r ≡ false)
-closed_front e takes u rule.Blanks h = (refl, refl)
 closed_front e takes u rule.LineEnd h = cc
 closed_front e takes u rule.Comment h = cc
-closed_front e takes u rule.LineComment h = (refl, refl)
-closed_front e takes u rule.Section h = (refl, refl)
 closed_front e takes u rule.Code h = cc
 closed_front e takes u rule.RawLiteral h = cc
 closed_front e takes u rule.Literal h = cc
-closed_front e takes u rule.IncludedName h = (refl, refl)
-closed_front e takes u rule.Number h = (refl, refl)
-closed_front e takes u rule.Identifier h = (refl, refl)
-closed_front e takes u rule.Punctuator h = (refl, refl)
+closed_front e takes u _ h = (refl, refl)
 
 pub rule_closed : (c : Context) (includes : Bool) (u : List ℕ) (r : Rule) → has_part c ≡ true
     → ends_macro_line c u ≡ false → r ≡ c_rule (is_c c && includes) u → closes r ≡ true
     → (front_in c includes u ≡ c_front_by in_c false u r) × (opens_in c u ≡ false)
-rule_closed Limbo includes u r part plain is h = cc
-rule_closed TeX includes u r part plain is h = cc
-rule_closed (Definition begun) includes u r part plain is h = cc
 rule_closed Macro includes u r part plain is h =
     let p = closed_front in_macro true u r h in (
       macro_is includes u plain ∙ ap (c_front_by in_macro true u) (sym is) ∙ p.0,
@@ -50,3 +41,4 @@ rule_closed CText includes u r part plain is h =
       c_is includes u ∙ ap (c_front_by in_c false u) (sym is),
       c_opens_is includes u ∙ ap (opens_by in_c u) (sym is) ∙ p.1,
     )
+rule_closed _ includes u r part plain is h = cc

@@ -1,6 +1,5 @@
 -- A name that is being squeezed.
-use Rattle.cweb_scanner.proofs.Common.{◌≡◌, ℕ, Bool, true, false, ◌&&◌, ◌==◌, not, List, [], ◌∷◌, ◌++◌, refl, ap, sym, ◌∙◌, codes, if◌then◌else◌, eqb-true, is_white, is_squeezed, is_squeezed_after, squeezed, squeezed_after}
-use Rattle.cweb_rules.proofs.Seams.{both}
+use Rattle.cweb_scanner.proofs.Common.{◌≡◌, ℕ, Bool, true, false, ◌&&◌, ◌==◌, not, List, [], ◌∷◌, ◌++◌, refl, ap, sym, ◌∙◌, codes, if◌then◌else◌, eqb-true, is_white, is_squeezed, is_squeezed_after, squeezed, squeezed_after, and_parts}
 
 -- whether there is a byte
 abbrev pub is_some : List ℕ → Bool
@@ -27,7 +26,7 @@ Stays t = (is_squeezed_after false t ≡ true → squeezed_after true [] t ≡ t
 
 behind_byte : (w : Bool) (b : ℕ) (t : List ℕ) → Stays t → fits_by w false b t ≡ true → squeezed_by w true [] b t ≡ b ∷ t
 behind_byte true b t s h =
-    let p = both (b == 32) (is_squeezed_after true t) h in s.1 p.1 ∙ ap (λ n. n ∷ t) (sym (eqb-true b 32 p.0))
+    let p = and_parts (b == 32) (is_squeezed_after true t) h in s.1 p.1 ∙ ap (λ n. n ∷ t) (sym (eqb-true b 32 p.0))
 behind_byte false b t s h = ap (λ u. b ∷ u) (s.0 h)
 
 behind_blank : (w : Bool) (b : ℕ) (t : List ℕ) → Stays t → fits_by w true b t ≡ true

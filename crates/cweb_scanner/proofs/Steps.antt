@@ -47,18 +47,7 @@ backslash-seen (Some (Tail n)) = refl
 
 over-seen : (o : Option Token) (t : Token) → kept.goes_over (last_seen o) t ≡ goes_over o t
 over-seen o Newline = backslash-seen o
-over-seen o (Mark p) = refl
-over-seen o Blank = refl
-over-seen o (Punct b) = refl
-over-seen o (Word b) = refl
-over-seen o (Number b) = refl
-over-seen o (Literal b) = refl
-over-seen o (Verbatim b) = refl
-over-seen o Join = refl
-over-seen o Defs = refl
-over-seen o (Name n) = refl
-over-seen o (Head n) = refl
-over-seen o (Tail n) = refl
+over-seen o _ = refl
 
 stage_when : (v : Bool) → stage_of (if v then Some [] else None) ≡ (if v then Bare else Outside)
 stage_when true = refl
@@ -75,20 +64,9 @@ bare_is false true = refl
 bare_is false false = refl
 
 stage_of_some : (ts : List Token) (t : Token) → stage_of (Some (t ∷ ts)) ≡ further (stage_of (Some ts)) t
-stage_of_some ts Blank = refl
 stage_of_some ts (Word b) = ap
     (λ v. if bytes_eq b (codes "include") && v then Include else Further) (sym (bare_is (is_bare ts) (is_include ts)))
-stage_of_some ts (Punct b) = refl
-stage_of_some ts Newline = refl
-stage_of_some ts (Mark p) = refl
-stage_of_some ts (Number b) = refl
-stage_of_some ts (Literal b) = refl
-stage_of_some ts (Verbatim b) = refl
-stage_of_some ts Join = refl
-stage_of_some ts Defs = refl
-stage_of_some ts (Name n) = refl
-stage_of_some ts (Head n) = refl
-stage_of_some ts (Tail n) = refl
+stage_of_some ts _ = refl
 
 choice : (v : Bool) (ts : List Token) (t : Token)
     → stage_of (if v then None else Some (t ∷ ts)) ≡ (if v then Outside else further (stage_of (Some ts)) t)

@@ -18,17 +18,10 @@ item_line : (k : Kind) (bytes : List ℕ) (s : State) (later : List Place) → I
     → item k bytes (reading s later) ≡ reading (item k bytes (reading s [])).state later
 item_line Skipped bytes s later h = none-line moved bytes (reading s later) h
     ∙ ap (λ (r : Reading). reading r.state later) (sym (none-line moved bytes (reading s []) h))
-item_line (Section starred) bytes s later h = refl
-item_line (Code e) bytes s later h = refl
-item_line (Letter byte text) bytes s later h = refl
-item_line (ControlText how) bytes s later h = refl
-item_line (Verbatim us how) bytes s later h = refl
-item_line (Constant v) bytes s later h = refl
 item_line (Occurrence is_file us how opens) bytes s later h =
     ap (on (occurrence is_file (text_in us) how opens s.here)) (none-line moved bytes (reading s later) h)
     ∙ ap (λ (r : Reading). reading (occurrence is_file (text_in us) how opens s.here r.state) later)
     (sym (none-line moved bytes (reading s []) h))
-item_line Blanks bytes s later h = refl
 item_line LineEnd bytes s later h = absurd h
 item_line (Comment how) bytes s later h =
     ap (on (comment how s.here)) (none-line comment_line_end bytes (reading (blank s) later) h)
@@ -36,10 +29,7 @@ item_line (Comment how) bytes s later h =
     (sym (none-line comment_line_end bytes (reading (blank s) []) h))
 item_line (Quoted us how) bytes s later h = ap (on (literal (text_in us) how s.here)) (units_line s later us h)
     ∙ ap (λ (r : Reading). reading (literal (text_in us) how s.here r.state) later) (sym (units_line s [] us h))
-item_line (Defined tight) bytes s later h = refl
-item_line Identifier bytes s later h = refl
-item_line Numeral bytes s later h = refl
-item_line Punctuator bytes s later h = refl
+item_line _ bytes s later h = refl
 
 abbrev with_front : Reading → List ℕ → Front → Reading
 with_front r t f = run (after r (record { kind = f.kind; bytes = take f.size t })) (drop f.size t)

@@ -6,15 +6,13 @@ use Rattle.cweb_scanner.proofs.Fairs.{fair}
 use Rattle.cweb_scanner.proofs.Pieces.{first}
 use Rattle.cweb_scanner.proofs.TakenItems.{reading, state_after, taken}
 use Rattle.cweb_scanner.proofs.PieceWeights.{piece-weight}
+use Rattle.cweb_rules.proofs.ByRules.{by_test}
 
 -- ITEMS THAT END IN THEIR LINE
 
 pub enter_same : (c : Context) (k : Kind) (s : State) → is_head c ≡ false → enter_in c k s ≡ s
-enter_same Limbo k s h = refl
-enter_same TeX k s h = refl
 enter_same (Definition begun) k s h = cc
-enter_same Macro k s h = refl
-enter_same CText k s h = refl
+enter_same _ k s h = refl
 
 abbrev pub between : State → Bool → Held
 between s g = record { state = s; item = Between; begun = g }
@@ -44,11 +42,6 @@ staying_takes s new g n b t f line stays is ends gives =
     }
 
 -- THE RULES OF C TEXT
-
-by_test : (f : Rule → Bool) (v : Bool) (x : Rule) (y : Bool) (z : Rule)
-    → y ≡ f z → (if v then f x else y) ≡ f (if v then x else z)
-by_test f true x y z h = refl
-by_test f false x y z h = h
 
 -- whether the item that a rule names stays open
 abbrev pub opens_by : (ℕ → Effect) → List ℕ → Rule → Bool

@@ -1,10 +1,9 @@
 -- How much each step of a scan adds to the tokens, parts, occurrences and sections, taken together.
 use Rattle.cweb_scanner.proofs.Common.{◌≡◌, ◌≤◌, ℕ, ◌+◌, Bool, true, false, ◌&&◌, not, List, [], ◌∷◌, ◌++◌, Option, Some, None, length, refl, ap, arith, append-nil, length-append, if◌then◌else◌, codes, option_map, option_to_list, decimal, Place, NameRef, PartKind, Token, Part, all_tokens, Word, Number, Literal, Verbatim, Punct, Blank, Newline, Join, Defs, Name, Head, Tail, Mark, PartsSoFar, opened, pushed, longer, token_count, part_count, with_open, with_dropped, with_occurrence, Context, Limbo, TeX, Definition, Macro, CText, Effect, Nothing, Define, Format, Program, Named, InsertDefs, Joins, GiveAt, Faulty, End, Closed, Cut, Nested, Open, in_directive, directive, occurrence_in, State, give, moved, begin_part, end_part, end_macro_in, end_macro, leave_in, begin_section, line_end_token, line_end_in, line_end, comment_line_end, blank, code, letter, control_text, verbatim, constant, define, comment, name_fault, use_name, open_name, name_in, occurrence, literal, weight}
 use Rattle.cweb_store.specs.declared.parts.PartKind.TheVariants as part
-use Rattle.cweb_store.proofs.CallerLemmas.{part_count_pushed, part_count_dropped, part_count_closed, token_count_closed, token_count_dropped}
+use Rattle.cweb_store.proofs.CallerLemmas.{part_count_pushed, part_count_dropped, part_count_closed, token_count_closed, token_count_dropped, tokens-last}
 use Rattle.cweb_rules.specs.declared.effect.Effect.TheVariants as effect
 use Rattle.cweb_scanner.specs.Directives.{is_blank}
-use Rattle.cweb_scanner.proofs.Drops.{tokens_last}
 
 -- PARTS AND TOKENS
 
@@ -13,7 +12,7 @@ token_pushed t v = elim v.current as (λ o. length (all_tokens (v.closed ++ opti
     ≤ length (all_tokens (v.closed ++ option_to_list o)) + 1) [
       | None ↦ omega arith
       | Some p ↦
-          omega (arith, tokens_last v.closed (longer t p), tokens_last v.closed p, length-append p.tokens (t ∷ []))
+          omega (arith, tokens-last v.closed (longer t p), tokens-last v.closed p, length-append p.tokens (t ∷ []))
     ]
 
 abbrev empty_part : PartKind → Part
@@ -25,10 +24,10 @@ token_opened kind v = elim v.current as (λ o. length (all_tokens (v.closed ++ (
       | None ↦
           omega (
             arith,
-            tokens_last v.closed (empty_part kind),
+            tokens-last v.closed (empty_part kind),
             ap (λ (ps : List Part). length (all_tokens ps)) (append-nil v.closed),
           )
-      | Some p ↦ omega (arith, tokens_last v.closed (empty_part kind), tokens_last v.closed p)
+      | Some p ↦ omega (arith, tokens-last v.closed (empty_part kind), tokens-last v.closed p)
     ]
 
 part_opened : (kind : PartKind) (v : PartsSoFar) → part_count (opened kind v) ≤ part_count v + 1
@@ -56,35 +55,25 @@ end_part-weight : (s : State) → weight (end_part s) ≤ weight s
 end_part-weight s = omega (arith, token_count_closed s.contents.parts, part_count_closed s.contents.parts)
 
 end_macro_in-weight : (c : Context) (s : State) → weight (end_macro_in c s) ≤ weight s
-end_macro_in-weight Limbo s = omega arith
-end_macro_in-weight TeX s = omega arith
-end_macro_in-weight (Definition begun) s = omega arith
 end_macro_in-weight Macro s = end_part-weight s
-end_macro_in-weight CText s = omega arith
+end_macro_in-weight _ s = omega arith
 
 pub leave_in-weight : (c : Context) (s : State) → weight (leave_in c s) ≤ weight s + 1
-leave_in-weight Limbo s = omega arith
-leave_in-weight TeX s = omega arith
-leave_in-weight (Definition begun) s = omega arith
 leave_in-weight Macro s = omega (arith, end_part-weight s)
 leave_in-weight CText s = omega (arith, give-weight (Tail s.sections) s, end_part-weight (give (Tail s.sections) s))
+leave_in-weight _ s = omega arith
 
 leave-sections : (c : Context) (s : State) → (leave_in c s).sections ≡ s.sections
 leave-sections Limbo s = refl
-leave-sections TeX s = refl
-leave-sections (Definition begun) s = refl
-leave-sections Macro s = refl
-leave-sections CText s = refl
+leave-sections _ s = refl
 
 pub begin_section-weight : (starred : Bool) (s : State) → weight (begin_section starred s) ≤ weight s + 2
 begin_section-weight starred s = omega (arith, leave_in-weight s.context s, leave-sections s.context s)
 
 line_end_in-weight : (c : Context) (p : Place) (s : State) → weight (line_end_in c p s) ≤ weight s + 1
-line_end_in-weight Limbo p s = omega arith
-line_end_in-weight TeX p s = omega arith
-line_end_in-weight (Definition begun) p s = omega arith
 line_end_in-weight Macro p s = omega (arith, give-weight Newline s)
 line_end_in-weight CText p s = omega (arith, give-weight (line_end_token p s) s)
+line_end_in-weight _ p s = omega arith
 
 pub line_end-weight : (p : Place) (s : State) → weight (line_end p s) ≤ weight s + 1
 line_end-weight p s = line_end_in-weight s.context p s
@@ -98,7 +87,6 @@ blank-weight s = elim (in_directive s && not (is_blank (directive s).last)) as
     (λ v. weight (if v then give Blank s else s) ≤ weight s + 1) [ true ↦ give-weight Blank s | false ↦ omega arith ]
 
 pub code-weight : (e : Effect) (s : State) → weight (code e s) ≤ weight s + 3
-code-weight Nothing s = omega arith
 code-weight Define s = omega (arith, end_macro_in-weight s.context s)
 code-weight Format s = omega (arith, end_macro_in-weight s.context s)
 code-weight Program s = omega (arith, end_macro_in-weight s.context s, begin_part-weight part.Unnamed (end_macro s))
@@ -107,12 +95,7 @@ code-weight Joins s =
     let d : State = record s { contents = with_dropped s.contents } in
     omega (arith, token_count_dropped s.contents.parts, part_count_dropped s.contents.parts, give-weight Join d)
 code-weight GiveAt s = omega (arith, give-weight (Punct (codes "@")) s)
-code-weight (Faulty k) s = omega arith
-code-weight Named s = omega arith
-code-weight effect.Letter s = omega arith
-code-weight effect.ControlText s = omega arith
-code-weight effect.Verbatim s = omega arith
-code-weight effect.Constant s = omega arith
+code-weight _ s = omega arith
 
 pub letter-weight : (byte : ℕ) (o : Option (List ℕ)) (s : State) → weight (letter byte o s) ≤ weight s
 letter-weight byte None s = omega arith
@@ -120,15 +103,11 @@ letter-weight byte (Some text) s = omega arith
 
 pub control_text-weight : (how : End) (s : State) → weight (control_text how s) ≤ weight s
 control_text-weight Closed s = omega arith
-control_text-weight Cut s = omega arith
-control_text-weight Nested s = omega arith
-control_text-weight Open s = omega arith
+control_text-weight _ s = omega arith
 
 pub verbatim-weight : (text : List ℕ) (how : End) (s : State) → weight (verbatim text how s) ≤ weight s + 1
 verbatim-weight text Closed s = give-weight (Verbatim text) s
-verbatim-weight text Cut s = omega arith
-verbatim-weight text Nested s = omega arith
-verbatim-weight text Open s = omega arith
+verbatim-weight text _ s = omega arith
 
 pub constant-weight : (o : Option ℕ) (s : State) → weight (constant o s) ≤ weight s + 1
 constant-weight None s = omega arith
@@ -144,15 +123,11 @@ define-weight bytes false s =
 
 pub comment-weight : (how : End) (p : Place) (s : State) → weight (comment how p s) ≤ weight s
 comment-weight Closed p s = omega arith
-comment-weight Cut p s = omega arith
-comment-weight Nested p s = omega arith
-comment-weight Open p s = omega arith
+comment-weight _ p s = omega arith
 
 name_fault-weight : (how : End) (p : Place) (s : State) → weight (name_fault how p s) ≤ weight s
 name_fault-weight Closed p s = omega arith
-name_fault-weight Cut p s = omega arith
-name_fault-weight Nested p s = omega arith
-name_fault-weight Open p s = omega arith
+name_fault-weight _ p s = omega arith
 
 use_name-weight : (n : NameRef) (opens : Bool) (p : Place) (s : State) → weight (use_name n opens p s) ≤ weight s + 2
 use_name-weight n true p s = omega (arith, give-weight (Name n) s, give-weight (Mark s.here) (give (Name n) s))
@@ -165,11 +140,10 @@ open_name-weight n false s = omega (arith, end_macro_in-weight s.context s)
 
 name_in-weight : (c : Context) (n : NameRef) (opens : Bool) (p : Place) (s : State)
     → weight (name_in c n opens p s) ≤ weight s + 3
-name_in-weight Limbo n opens p s = omega arith
 name_in-weight TeX n opens p s = open_name-weight n opens s
-name_in-weight (Definition begun) n opens p s = omega arith
 name_in-weight Macro n opens p s = open_name-weight n opens s
 name_in-weight CText n opens p s = omega (arith, use_name-weight n opens p s)
+name_in-weight _ n opens p s = omega arith
 
 pub occurrence-weight : (is_file : Bool) (text : List ℕ) (how : End) (opens : Bool) (p : Place) (s : State)
     → weight (occurrence is_file text how opens p s) ≤ weight s + 4
@@ -187,5 +161,4 @@ occurrence-weight is_file text how opens p s =
 pub literal-weight : (text : List ℕ) (how : End) (p : Place) (s : State) → weight (literal text how p s) ≤ weight s + 1
 literal-weight text Closed p s = give-weight (Literal text) s
 literal-weight text Cut p s = omega (arith, give-weight (Literal text) s)
-literal-weight text Nested p s = omega arith
-literal-weight text Open p s = omega arith
+literal-weight text _ p s = omega arith

@@ -1,7 +1,7 @@
 -- How many tokens and parts a builder holds after a call: what its callers need for its conditions.
 use Rattle.cweb_store.proofs.Common.{◌≡◌, ◌≤◌, Bool, true, false, take, drop, refl, ◌+◌, List, [], ◌∷◌, ◌++◌, Some, None, length, ◌∙◌, ap, arith, append-nil, length-append, IsSome, IsNone, option_map, option_to_list, if◌then◌else◌, take-append-drop, flat_map-append, PartKind, Token, Part, all_tokens, is_macro, before_last, without_last, without_blank, without_layout, at_close, first_kept, is_layout, is_newline, is_blank, PartsSoFar, all_closed, dropped, opened, pushed, longer, part_count, token_count}
 
-tokens-last : (ps : List Part) (p : Part)
+pub tokens-last : (ps : List Part) (p : Part)
     → length (all_tokens (ps ++ p ∷ [])) ≡ length (all_tokens ps) + length p.tokens
 tokens-last ps p = simp (flat_map-append {X = Part} {A = Token}, append-nil, length-append)
 
@@ -30,7 +30,7 @@ before_last-length test t [] =
     elim (test t) as (λ b. length (if b then [] else t ∷ []) ≤ 1) [ true ↦ omega arith | false ↦ omega arith ]
 before_last-length test t (u ∷ us) = omega arith
 
-without_last-length : (test : Token → Bool) (ts : List Token) → length (without_last test ts) ≤ length ts
+pub without_last-length : (test : Token → Bool) (ts : List Token) → length (without_last test ts) ≤ length ts
 without_last-length test [] = omega arith
 without_last-length test (t ∷ ts) =
     omega (arith, before_last-length test t (without_last test ts), without_last-length test ts)
@@ -41,7 +41,7 @@ without_blank-length (t ∷ []) =
     elim (is_blank t) as (λ b. length (if b then [] else t ∷ []) ≤ 1) [ true ↦ omega arith | false ↦ omega arith ]
 without_blank-length (t ∷ u ∷ us) = omega (arith, without_blank-length (u ∷ us))
 
-without_layout-length : (p : Part) → length (without_layout p).tokens ≤ length p.tokens
+pub without_layout-length : (p : Part) → length (without_layout p).tokens ≤ length p.tokens
 without_layout-length p =
     let n = first_kept p.kind in
     omega (

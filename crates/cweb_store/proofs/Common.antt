@@ -4,12 +4,14 @@ pub use Rattle.std.proofs.Common.{◌++◌, Some, None, Option, length, refl, ap
 pub use Rattle.std.proofs.Common.{◌∙◌, append-nil, ◌&&◌, sym, append_assoc, ◌*◌, subst, ◌-◌, reverse, get_or}
 pub use Rattle.std.proofs.Common.{length-drop, drop-cons, ◌⊎◌, inl, inr, eq-eqb, drop_of_length-le, ltb, lt-ltb, le-ltb}
 pub use Rattle.std.proofs.Common.{one-add, add-one, flat_map, ltb-true, ltb-false, rules, ◌↔◌}
+pub use Rattle.std.proofs.Math.Bool.{not-not, or-false, or_comm, or_assoc}
 pub use Rattle.std.proofs.Math.Nat.{suc-mul, mul-le-mul_right}
+pub use Rattle.std.proofs.Math.Seq.{take-add}
 pub use Rattle.std.proofs.Math.Seq.{take-length, drop-append_seam, length-take-le, take-append_seam, drop-length}
 pub use Rattle.std.proofs.lemmas.Bool.{eqb-true, cases_lt}
 pub use Rattle.std.proofs.lemmas.Bool.Decides.{nat_tests}
 pub use Rattle.std.proofs.lemmas.Grind.{flat_map-append, common_steps}
-pub use Rattle.std.proofs.lemmas.List.{length-map, take-append-drop, map-append, take_all, reverse-append}
+pub use Rattle.std.proofs.lemmas.List.{length-map, take-append-drop, map-append, take_all, reverse-append, take_rest}
 pub use Rattle.std.proofs.lemmas.List.{drop-append-le, take-append-le, drop-drop, drop-take, take-take, take-map}
 pub use Rattle.std.proofs.lemmas.List.{drop_all, get_or-replicate}
 pub use Rattle.std.proofs.lemmas.List.Elements.{All-from_recursion, filter-append}
@@ -17,6 +19,7 @@ pub use Rattle.std.proofs.lemmas.List.Folds.{list_any-append}
 pub use Rattle.std.proofs.lemmas.List.Sorted.{IsPartitionPoint-from_clause, IsPartitionedBy-ltb}
 pub use Rattle.std.proofs.lemmas.List.Sums.{fold-append, length-filter, count_by-le-length}
 pub use Rattle.std.proofs.lemmas.Map.Text.{is_eq-slice_cmp}
+pub use Rattle.std.proofs.lemmas.Option.{slice_get_within, same_Some}
 pub use Rattle.std.proofs.lemmas.Option.{slice_get-map, slice_get_read, get_or_from_slice_get, slice_get-get_or}
 pub use Rattle.std.proofs.lemmas.Slice.Eq.{bytes_eq-Decides}
 pub use Rattle.std.specs.BTreeMap.{insert_entry, is_at, keys}

@@ -1,5 +1,5 @@
 -- Faults of names, name by name.
-use Rattle.cweb_store.proofs.Common.{◌≡◌, ℕ, zero, suc, ◌+◌, ◌<◌, Bool, true, false, cond, not, ◌||◌, ◌&&◌, List, [], ◌∷◌, ◌++◌, Some, map, length, drop, refl, sym, ◌∙◌, ap, arith, append_assoc, bytes_eq, if◌then◌else◌, nat_eq, slice_get, option_map, filter, list_any, starts_with, enumerate_from, take-length, bytes_eq-Decides, NameId, NameKind, NameFault, Found, Nothing, One, Several, Name, id, texts, beginning_from, beginning, found_of, is_several, Distinct, fault, fault_if, faults_from, is_prefix_of_another}
+use Rattle.cweb_store.proofs.Common.{◌≡◌, ℕ, zero, suc, ◌+◌, ◌<◌, Bool, true, false, cond, not, ◌||◌, ◌&&◌, List, [], ◌∷◌, ◌++◌, Some, map, length, drop, refl, sym, ◌∙◌, ap, arith, append_assoc, bytes_eq, if◌then◌else◌, nat_eq, slice_get, option_map, filter, list_any, starts_with, enumerate_from, take-length, bytes_eq-Decides, NameId, NameKind, NameFault, Found, Nothing, One, Several, Name, id, texts, beginning_from, beginning, found_of, is_several, Distinct, fault, fault_if, faults_from, is_prefix_of_another, not-not, same_Some}
 use Rattle.cweb_store.proofs.InsertLemmas.{grown, found-first}
 use Rattle.cweb_store.proofs.NameLemmas.{bytes_eq-same, bytes_eq-sym, or-false}
 
@@ -35,9 +35,9 @@ faults-step kind fails ns i b old new h test step =
     let n = f.item in
     let rest = faults_from (i + 1) kind fails (drop (suc i) ns) in
     let passes : fails (id i) n.text ≡ b =
-    some_same (sym (ap (option_map (λ (m : Name). fails (id i) m.text)) f.there) ∙ test) in
+    same_Some _ _ (sym (ap (option_map (λ (m : Name). fails (id i) m.text)) f.there) ∙ test) in
     let added : old ++ fault_if b kind n.first ≡ new =
-    some_same (sym (ap (option_map (λ (m : Name). old ++ fault_if b kind m.first)) f.there) ∙ step) in
+    same_Some _ _ (sym (ap (option_map (λ (m : Name). old ++ fault_if b kind m.first)) f.there) ∙ step) in
     let split : fault_if b kind n.first ++ rest ≡ faults_from i kind fails (drop i ns) =
     ap (λ v. fault_if v kind n.first ++ rest) (sym passes)
     ∙ one (fails (id i) n.text) n i
@@ -46,9 +46,6 @@ faults-step kind fails ns i b old new h test step =
     ap (λ ks. new ++ faults_from (i + 1) kind fails ks) (ap (λ k. drop k ns) (let e : i + 1 ≡ suc i = omega arith in e))
     ∙ ap (λ fs. fs ++ rest) (sym added) ∙ append_assoc old (fault_if b kind n.first) rest ∙ ap (λ fs. old ++ fs) split
   where
-    some_same : {X : Type 0} {x y : X} → Some x ≡ Some y → x ≡ y
-    some_same h = cc
-
     one : (v : Bool) (n : Name) (i : ℕ) (others : List (ℕ × Name)) → fault_if v kind n.first ++ map (λ (p : ℕ × Name).
         fault kind p.1.first) others ≡ map (λ (p : ℕ × Name). fault kind p.1.first) (cond v ((i, n) ∷ others) others)
     one true n i others = refl
@@ -56,20 +53,17 @@ faults-step kind fails ns i b old new h test step =
 
 is_nothing : Found → Bool
 is_nothing Nothing = true
-is_nothing (One n) = false
-is_nothing Several = false
+is_nothing _ = false
 
 grown-several : (n : NameId) (f : Found) → is_several (grown true n f) ≡ not (is_nothing f)
 unfolding is_nothing
 grown-several n Nothing = refl
-grown-several n (One m) = refl
-grown-several n Several = refl
+grown-several n _ = refl
 
 grown-nothing : (n : NameId) (f : Found) → is_nothing (grown true n f) ≡ false
 unfolding is_nothing
 grown-nothing n Nothing = refl
-grown-nothing n (One m) = refl
-grown-nothing n Several = refl
+grown-nothing n _ = refl
 
 -- the names that are longer than a text and begin with it
 abbrev longer : List Name → List ℕ → Bool
@@ -121,10 +115,6 @@ some-begins i q (n ∷ ns) h =
             | false ↦ some-begins (i + 1) q ns g
           ])
     ]) refl h
-
-not-not : (b : Bool) → not (not b) ≡ b
-not-not true = refl
-not-not false = refl
 
 -- several names begin with a name where one is longer
 pub several-longer : (i : ℕ) (q : List ℕ) (ns : List Name) → Distinct (texts ns)

@@ -1,14 +1,6 @@
 -- Which names are among those that are gathered from tokens and parts.
-use Rattle.cweb_store.proofs.Common.{◌≡◌, ℕ, ◌+◌, Bool, true, false, cond, ◌||◌, List, [], ◌∷◌, ◌++◌, Some, None, Option, length, refl, sym, ◌∙◌, ap, if◌then◌else◌, nat_eq, filter, list_any, eqb-true, list_any-append, NameId, PartKind, Unnamed, Named, Macro, Standing, stands, is_id, with_id, with_some, Token, Part, all_tokens, joined, is_code, is_some_id, is_of, runs_from, is_use, is_used, has_part, with_use, used_from, used_in, with_part, present_from}
+use Rattle.cweb_store.proofs.Common.{◌≡◌, ℕ, ◌+◌, Bool, true, false, cond, ◌||◌, List, [], ◌∷◌, ◌++◌, Some, None, Option, length, refl, sym, ◌∙◌, ap, if◌then◌else◌, nat_eq, filter, list_any, eqb-true, list_any-append, NameId, PartKind, Unnamed, Named, Macro, Standing, stands, is_id, with_id, with_some, Token, Part, all_tokens, joined, is_code, is_some_id, is_of, runs_from, is_use, is_used, has_part, with_use, used_from, used_in, with_part, present_from, or-false, or_assoc}
 use Rattle.cweb_store.specs.Parts as spec
-
-or-none : (b : Bool) → (b || false) ≡ b
-or-none true = refl
-or-none false = refl
-
-or-assoc : (a b c : Bool) → ((a || b) || c) ≡ (a || (b || c))
-or-assoc true b c = refl
-or-assoc false b c = refl
 
 any-with_id : (n m : NameId) (ns : List NameId)
     → list_any (is_id n) (with_id ns m) ≡ (list_any (is_id n) ns || is_id n m)
@@ -19,42 +11,31 @@ any-with_id n m ns = (elim (list_any (is_id m) ns) as (λ b. list_any (is_id m) 
             let there : list_any (is_id n) ns ≡ true =
             ap (λ k. list_any (λ (x : NameId). nat_eq k x.0) ns) (eqb-true n.0 m.0 e) ∙ h in
             there ∙ ap (λ b. b || true) (sym there)
-        | false ↦ λ e. sym (or-none (list_any (is_id n) ns))
+        | false ↦ λ e. sym (or-false (list_any (is_id n) ns))
       ]) refl
-      | false ↦ λ h. list_any-append (is_id n) ns (m ∷ []) ∙ ap (λ b. list_any (is_id n) ns || b) (or-none (is_id n m))
+      | false ↦ λ h. list_any-append (is_id n) ns (m ∷ []) ∙ ap (λ b. list_any (is_id n) ns || b) (or-false (is_id n m))
     ]) refl
 
 any-with_some : (n : NameId) (o : Option NameId) (ns : List NameId)
     → list_any (is_id n) (with_some ns o) ≡ (list_any (is_id n) ns || is_some_id n o)
-any-with_some n None ns = sym (or-none (list_any (is_id n) ns))
+any-with_some n None ns = sym (or-false (list_any (is_id n) ns))
 any-with_some n (Some m) ns = any-with_id n m ns
 
 any-with_use : (rs : List Standing) (n : NameId) (t : Token) (ns : List NameId)
     → list_any (is_id n) (with_use rs ns t) ≡ (list_any (is_id n) ns || is_use rs n t)
 any-with_use rs n (spec.Name name) ns = any-with_some n (stands rs name.0) ns
-any-with_use rs n (spec.Word bytes) ns = sym (or-none (list_any (is_id n) ns))
-any-with_use rs n (spec.Number bytes) ns = sym (or-none (list_any (is_id n) ns))
-any-with_use rs n (spec.Literal bytes) ns = sym (or-none (list_any (is_id n) ns))
-any-with_use rs n (spec.Verbatim bytes) ns = sym (or-none (list_any (is_id n) ns))
-any-with_use rs n (spec.Punct bytes) ns = sym (or-none (list_any (is_id n) ns))
-any-with_use rs n spec.Blank ns = sym (or-none (list_any (is_id n) ns))
-any-with_use rs n spec.Newline ns = sym (or-none (list_any (is_id n) ns))
-any-with_use rs n spec.Join ns = sym (or-none (list_any (is_id n) ns))
-any-with_use rs n spec.Defs ns = sym (or-none (list_any (is_id n) ns))
-any-with_use rs n (spec.Head section) ns = sym (or-none (list_any (is_id n) ns))
-any-with_use rs n (spec.Tail section) ns = sym (or-none (list_any (is_id n) ns))
-any-with_use rs n (spec.Mark place) ns = sym (or-none (list_any (is_id n) ns))
+any-with_use rs n _ ns = sym (or-false (list_any (is_id n) ns))
 
 any-used_from : (rs : List Standing) (n : NameId) (ns : List NameId) (ts : List Token)
     → list_any (is_id n) (used_from rs ns ts) ≡ (list_any (is_id n) ns || list_any (is_use rs n) ts)
-any-used_from rs n ns [] = sym (or-none (list_any (is_id n) ns))
+any-used_from rs n ns [] = sym (or-false (list_any (is_id n) ns))
 any-used_from rs n ns (t ∷ ts) =
     any-used_from rs n (with_use rs ns t) ts ∙ ap (λ b. b || list_any (is_use rs n) ts) (any-with_use rs n t ns)
-    ∙ or-assoc (list_any (is_id n) ns) (is_use rs n t) (list_any (is_use rs n) ts)
+    ∙ or_assoc (list_any (is_id n) ns) (is_use rs n t) (list_any (is_use rs n) ts)
 
 used-joined : (rs : List Standing) (n : NameId) (ns : List NameId) (ps : List Part)
     → list_any (is_id n) (used_in rs ns ps) ≡ (list_any (is_id n) ns || is_used rs ps n)
-used-joined rs n ns [] = sym (or-none (list_any (is_id n) ns))
+used-joined rs n ns [] = sym (or-false (list_any (is_id n) ns))
 used-joined rs n ns (p ∷ ps) = elim (is_code p.kind) as
     (λ b. list_any (is_id n) (used_in rs (if b then used_from rs ns p.tokens else ns) ps) ≡ (list_any (is_id n) ns
     || list_any (is_use rs n)
@@ -62,7 +43,7 @@ used-joined rs n ns (p ∷ ps) = elim (is_code p.kind) as
     (filter (λ (q : Part). is_code q.kind) ps))))) [
       | true ↦ used-joined rs n (used_from rs ns p.tokens) ps
           ∙ ap (λ b. b || is_used rs ps n) (any-used_from rs n ns p.tokens)
-          ∙ or-assoc (list_any (is_id n) ns) (list_any (is_use rs n) p.tokens) (is_used rs ps n)
+          ∙ or_assoc (list_any (is_id n) ns) (list_any (is_use rs n) p.tokens) (is_used rs ps n)
           ∙ ap (λ b. list_any (is_id n) ns || b) (sym (list_any-append (is_use rs n) p.tokens (joined is_code ps)))
       | false ↦ used-joined rs n ns ps
     ]
@@ -74,16 +55,15 @@ any-used rs n ps = used-joined rs n [] ps
 
 any-with_part : (rs : List Standing) (n : NameId) (kind : PartKind) (ns : List NameId)
     → list_any (is_id n) (with_part rs ns kind) ≡ (list_any (is_id n) ns || is_of rs n kind)
-any-with_part rs n Unnamed ns = sym (or-none (list_any (is_id n) ns))
 any-with_part rs n (Named name) ns = any-with_some n (stands rs name.0) ns
-any-with_part rs n Macro ns = sym (or-none (list_any (is_id n) ns))
+any-with_part rs n _ ns = sym (or-false (list_any (is_id n) ns))
 
 any-present_from : (rs : List Standing) (n : NameId) (ns : List NameId) (k : ℕ) (ps : List Part)
     → list_any (is_id n) (present_from rs ns (runs_from k ps)) ≡ (list_any (is_id n) ns || has_part rs ps n)
-any-present_from rs n ns k [] = sym (or-none (list_any (is_id n) ns))
+any-present_from rs n ns k [] = sym (or-false (list_any (is_id n) ns))
 any-present_from rs n ns k (p ∷ ps) = any-present_from rs n (with_part rs ns p.kind) (k + length p.tokens) ps
     ∙ ap (λ b. b || has_part rs ps n) (any-with_part rs n p.kind ns)
-    ∙ or-assoc (list_any (is_id n) ns) (is_of rs n p.kind) (has_part rs ps n)
+    ∙ or_assoc (list_any (is_id n) ns) (is_of rs n p.kind) (has_part rs ps n)
 
 -- a name is among those that have a part where a part belongs to it
 pub any-present : (rs : List Standing) (n : NameId) (ps : List Part)

@@ -1,5 +1,5 @@
 -- What is kept of occurrences: texts, how they are given, and what was found of each.
-use Rattle.cweb_store.proofs.Common.{◌≡◌, ℕ, zero, suc, ◌+◌, ◌<◌, List, [], ◌∷◌, ◌++◌, map, length, drop, refl, sym, ◌∙◌, ap, subst, arith, length-append, slice_get, Some, Found, GivenAs, Occurrence, Name, with_name, names_from, names, standing_among, standings_from, standings, occurrence_of, too_many, early, earlies_from, by_found, AreGiven, settled, settled_all, given_as, occurrences_at, occurrence_text}
+use Rattle.cweb_store.proofs.Common.{◌≡◌, ℕ, zero, suc, ◌+◌, ◌<◌, List, [], ◌∷◌, ◌++◌, map, length, drop, refl, sym, ◌∙◌, ap, subst, arith, length-append, slice_get, Some, Found, GivenAs, Occurrence, Name, with_name, names_from, names, standing_among, standings_from, standings, occurrence_of, too_many, early, earlies_from, by_found, AreGiven, settled, settled_all, given_as, occurrences_at, occurrence_text, slice_get_within}
 use Rattle.cweb_store.proofs.FaultLemmas.{front_at}
 use Rattle.cweb_store.proofs.StoredLemmas.{occurrences-count}
 use Rattle.cweb_store.proofs.OccurrenceLemmas.{names_from-push, earlies_from-push, late, settled-one}
@@ -99,12 +99,7 @@ settled-count known (t ∷ ts) (f ∷ fs) e = omega (arith, settled-count known 
 -- what an index has, and what follows it
 pub drop-at : {X : Type 0} (xs : List X) (i : ℕ) (x : X) → slice_get xs i ≡ Some x → drop i xs ≡ x ∷ drop (i + 1) xs
 drop-at xs i x here =
-    let f = front_at xs i (get-below xs i x here) in
+    let f = front_at xs i (slice_get_within xs i x here) in
     let same : f.item ≡ x = let e : Some f.item ≡ Some x = sym f.there ∙ here in cc in
     let next : suc i ≡ i + 1 = omega arith in
     f.front ∙ (λ j. same j ∷ drop (next j) xs)
-  where
-    get-below : {X : Type 0} (xs : List X) (i : ℕ) (x : X) → slice_get xs i ≡ Some x → i < length xs
-    get-below [] i x here = cc
-    get-below (y ∷ xs) zero x here = omega arith
-    get-below (y ∷ xs) (suc i) x here = omega (arith, get-below xs i x here)

@@ -1,5 +1,5 @@
 -- The laws of names and parts.
-use Rattle.cweb_store.proofs.Common.{◌≡◌, ℕ, zero, suc, ◌+◌, Bool, true, false, cond, not, ◌||◌, List, [], ◌∷◌, ◌++◌, Some, None, Option, length, take, refl, sym, ◌∙◌, ap, arith, append_assoc, append-nil, Ok, Err, bytes_eq, if◌then◌else◌, nat_eq, slice_get, option_map, option_and_then, filter, fold, filter_map, list_any, starts_with, position_or_len, map-append, bytes_eq-Decides, list_any-append, How, Full, Prefix, NameId, NeverFull, PartKind, Occurrence, Name, Standing, id, texts, with_text, with_name, names_from, names, beginning_from, beginning, the_one, standing_among, standings_from, standings, stands, Part, all_tokens, joined, Call, Occurs, Opens, Pushes, Drops, Closes, Transliterates, Contents, after, empty, gives_beginning, AbbreviationsStay, EarlierNamesDecide, FullNamesStandForThemselves, JoiningConcatenates, OccurrencesAreThoseOfCalls, occurrence_in}
+use Rattle.cweb_store.proofs.Common.{◌≡◌, ℕ, zero, suc, ◌+◌, Bool, true, false, cond, not, ◌||◌, List, [], ◌∷◌, ◌++◌, Some, None, Option, length, take, refl, sym, ◌∙◌, ap, arith, append_assoc, append-nil, Ok, Err, bytes_eq, if◌then◌else◌, nat_eq, slice_get, option_map, option_and_then, filter, fold, filter_map, list_any, starts_with, position_or_len, map-append, bytes_eq-Decides, list_any-append, How, Full, Prefix, NameId, NeverFull, PartKind, Occurrence, Name, Standing, id, texts, with_text, with_name, names_from, names, beginning_from, beginning, the_one, standing_among, standings_from, standings, stands, Part, all_tokens, joined, Call, Occurs, Opens, Pushes, Drops, Closes, Transliterates, Contents, after, empty, gives_beginning, AbbreviationsStay, EarlierNamesDecide, FullNamesStandForThemselves, JoiningConcatenates, OccurrencesAreThoseOfCalls, occurrence_in, take-append_seam}
 use Rattle.cweb_store.proofs.NameLemmas.{or-false}
 use Rattle.cweb_store.proofs.OccurrenceLemmas.{Grows, names_from-grows, with_text-has}
 
@@ -86,15 +86,11 @@ get-middle : (earlier later : List Occurrence) (o : Occurrence)
 get-middle [] later o = refl
 get-middle (x ∷ earlier) later o = get-middle earlier later o
 
-take-middle : (earlier later : List Occurrence) → take (length earlier) (earlier ++ later) ≡ earlier
-take-middle [] later = refl
-take-middle (x ∷ earlier) later = ap (λ xs. x ∷ xs) (take-middle earlier later)
-
 pub earlier_names_decide : EarlierNamesDecide
 earlier_names_decide earlier later o n prefix only =
     let os = earlier ++ o ∷ later in
     standings-at 0 [] (names os) os (length earlier) o (get-middle earlier later o)
-    ∙ ap (λ xs. Some (standing_among (names_from 0 [] xs) (names os) o)) (take-middle earlier (o ∷ later))
+    ∙ ap (λ xs. Some (standing_among (names_from 0 [] xs) (names os) o)) (take-append_seam earlier (o ∷ later))
     ∙ ap Some (among-prefix (names earlier) (names os) o.text o.how o.is_file prefix
     ∙ ap (λ ns. the_one ns (the_one (beginning o.text (names os)) (Err NeverFull))) only)
 

@@ -16,14 +16,7 @@ dropped-none trailing.Newlines (spec.Number b) h = cc
 dropped-none trailing.Newlines (spec.Literal b) h = cc
 dropped-none trailing.Newlines (spec.Verbatim b) h = cc
 dropped-none trailing.Newlines (spec.Punct b) h = cc
-dropped-none t spec.Blank h = refl
-dropped-none t spec.Newline h = refl
-dropped-none t spec.Join h = refl
-dropped-none t spec.Defs h = refl
-dropped-none t (spec.Name name) h = refl
-dropped-none t (spec.Head section) h = refl
-dropped-none t (spec.Tail section) h = refl
-dropped-none t (spec.Mark place) h = refl
+dropped-none t _ h = refl
 
 gone : (token : Token) (ts : List Token) → has_text token ≡ false → filter has_text (token ∷ ts) ≡ filter has_text ts
 gone token ts h = ap (λ b. if b then token ∷ filter has_text ts else filter has_text ts) h
@@ -56,14 +49,7 @@ blank-none (spec.Number b) h = cc
 blank-none (spec.Literal b) h = cc
 blank-none (spec.Verbatim b) h = cc
 blank-none (spec.Punct b) h = cc
-blank-none spec.Blank h = refl
-blank-none spec.Newline h = refl
-blank-none spec.Join h = refl
-blank-none spec.Defs h = refl
-blank-none (spec.Name name) h = refl
-blank-none (spec.Head section) h = refl
-blank-none (spec.Tail section) h = refl
-blank-none (spec.Mark place) h = refl
+blank-none _ h = refl
 
 pub blank-texts : (ts : List Token) (k : ℕ) (t : Token) → slice_get ts k ≡ Some t
     → is_blank t ≡ true → filter has_text (take k ts) ≡ filter has_text (take (suc k) ts)

@@ -7,25 +7,20 @@ wanted-group rs Program Unnamed = refl
 wanted-group rs Program (Named name) = elim (stands rs name.0) as
     (λ o. false ≡ is_group Program (elim o [ None ↦ None | Some n ↦ Some (OfName n) ])) [ None ↦ refl | Some n ↦ refl ]
 wanted-group rs Program Macro = refl
-wanted-group rs (OfName n) Unnamed = refl
 wanted-group rs (OfName n) (Named name) = elim (stands rs name.0) as (λ o. is_some_id n o
     ≡ is_group (OfName n) (elim o [ None ↦ None | Some m ↦ Some (OfName m) ])) [ None ↦ refl | Some m ↦ refl ]
-wanted-group rs (OfName n) Macro = refl
-wanted-group rs Macros Unnamed = refl
 wanted-group rs Macros (Named name) = elim (stands rs name.0) as
     (λ o. false ≡ is_group Macros (elim o [ None ↦ None | Some n ↦ Some (OfName n) ])) [ None ↦ refl | Some n ↦ refl ]
-wanted-group rs Macros Macro = refl
+wanted-group rs _ Unnamed = refl
+wanted-group rs _ Macro = refl
 
 head-same : (heads : Heads) (w v : Wanted) → is_same w v ≡ true → head_of heads v ≡ head_of heads w
 head-same heads Program Program h = refl
 head-same heads (OfName n) (OfName m) h = ap (slice_index heads.names.items) (sym (eqb-true n.0 m.0 h))
 head-same heads Macros Macros h = refl
-head-same heads Program (OfName m) h = cc
-head-same heads Program Macros h = cc
-head-same heads (OfName n) Program h = cc
-head-same heads (OfName n) Macros h = cc
-head-same heads Macros Program h = cc
-head-same heads Macros (OfName m) h = cc
+head-same heads _ (OfName m) h = cc
+head-same heads _ Macros h = cc
+head-same heads _ Program h = cc
 
 skip-same : (heads : Heads) (behind : ℕ) (w : Wanted) (group : Option Wanted)
     → is_group w group ≡ true → skip_of heads behind group ≡ behind - head_of heads w

@@ -1,6 +1,7 @@
 -- Laws of names, abbreviations and their faults.
 use Rattle.cweb_store.proofs.Common.{◌≡◌, ℕ, zero, suc, ◌+◌, ◌<◌, true, false, cond, List, [], ◌∷◌, ◌++◌, Some, None, Option, length, take, drop, refl, sym, ◌∙◌, ap, subst, arith, ◌⊎◌, inl, inr, eq-eqb, Ok, Err, bytes_eq, if◌then◌else◌, nat_eq, slice_get, option_map, option_and_then, filter, option_to_list, list_any, starts_with, eqb-true, take-append-drop, Full, Prefix, NameId, NeverFull, Occurrence, Name, Standing, id, texts, with_text, with_name, names_from, names, beginning_from, beginning, the_one, standing_among, standings, fault, standing_fault, standing_faults_from, Distinct, NamesAreDistinct, AbbreviationsBeginTheirNames, OneFaultForNoName}
 use Rattle.cweb_store.specs.MoreLaws.{is_at}
+use Rattle.cweb_store.proofs.RangeLemmas.{drop-here}
 use Rattle.cweb_store.proofs.NameLemmas.{Distinct-push, texts-push}
 use Rattle.cweb_store.proofs.OccurrenceLemmas.{Grows, names_from-grows}
 use Rattle.cweb_store.proofs.LawLemmas.{standings-at, among-prefix, names_from-append}
@@ -32,18 +33,11 @@ names_are_distinct os = distinct-from 0 [] os tt
 abbrev Begins : List ℕ → List Name → NameId → Type 0
 Begins p ns n = option_map (λ (m : Name). starts_with nat_eq m.text p) (slice_get ns n.0) ≡ Some true
 
-name-here : (all : List Name) (i : ℕ) (m : Name) (rest : List Name)
-    → drop i all ≡ m ∷ rest → (slice_get all i ≡ Some m) × (drop (suc i) all ≡ rest)
-name-here [] zero m rest h = cc
-name-here [] (suc i) m rest h = cc
-name-here (x ∷ all) zero m rest h = (let e : Some x ≡ Some m = cc in e, let e : all ≡ rest = cc in e)
-name-here (x ∷ all) (suc i) m rest h = name-here all i m rest h
-
 first-begins : (all ns : List Name) (i : ℕ) (p : List ℕ) (n : NameId) (more : List NameId)
     → drop i all ≡ ns → beginning_from i p ns ≡ n ∷ more → Begins p all n
 first-begins all [] i p n more h found = cc
 first-begins all (m ∷ ns) i p n more h found =
-    let here = name-here all i m ns h in
+    let here = drop-here all i m ns h in
     let next : suc i ≡ i + 1 = omega arith in
     let rest = beginning_from (i + 1) p ns in
     (elim (starts_with nat_eq m.text p)

@@ -15,14 +15,7 @@ token_in-grow texts more (Number n) h = ap spec.Number (at-grow texts more n h)
 token_in-grow texts more (Literal n) h = ap spec.Literal (at-grow texts more n h)
 token_in-grow texts more (Verbatim n) h = ap spec.Verbatim (at-grow texts more n h)
 token_in-grow texts more (Punct n) h = ap spec.Punct (at-grow texts more n h)
-token_in-grow texts more Blank h = refl
-token_in-grow texts more Newline h = refl
-token_in-grow texts more Join h = refl
-token_in-grow texts more Defs h = refl
-token_in-grow texts more (Name name) h = refl
-token_in-grow texts more (Head section) h = refl
-token_in-grow texts more (Tail section) h = refl
-token_in-grow texts more (Mark place) h = refl
+token_in-grow texts more _ h = refl
 
 IsWithin-grow : (n m : ℕ) (p : Packed) → n ≤ m → IsWithin n p → IsWithin m p
 IsWithin-grow n m (Word k) le h = omega (arith, h, le)
@@ -30,14 +23,7 @@ IsWithin-grow n m (Number k) le h = omega (arith, h, le)
 IsWithin-grow n m (Literal k) le h = omega (arith, h, le)
 IsWithin-grow n m (Verbatim k) le h = omega (arith, h, le)
 IsWithin-grow n m (Punct k) le h = omega (arith, h, le)
-IsWithin-grow n m Blank le h = tt
-IsWithin-grow n m Newline le h = tt
-IsWithin-grow n m Join le h = tt
-IsWithin-grow n m Defs le h = tt
-IsWithin-grow n m (Name name) le h = tt
-IsWithin-grow n m (Head section) le h = tt
-IsWithin-grow n m (Tail section) le h = tt
-IsWithin-grow n m (Mark place) le h = tt
+IsWithin-grow n m _ le h = tt
 
 pub tokens-grow : (texts more : List (List ℕ)) (ps : List Packed) → ArePacked texts ps
     → map (token_in (texts ++ more)) ps ≡ map (token_in texts) ps

@@ -1,26 +1,6 @@
 -- Ranges of lists.
-use Rattle.cweb_store.proofs.Common.{◌≡◌, ℕ, zero, suc, ◌+◌, ◌-◌, ◌≤◌, ◌<◌, List, [], ◌∷◌, ◌++◌, Some, take, drop, refl, sym, ◌∙◌, ap, arith, add-one, length, slice_get, slice_range, slice_index_or, Run, Token, Follow}
+use Rattle.cweb_store.proofs.Common.{◌≡◌, ℕ, zero, suc, ◌+◌, ◌-◌, ◌≤◌, ◌<◌, List, [], ◌∷◌, ◌++◌, Some, take, drop, refl, sym, ◌∙◌, ap, arith, add-one, length, slice_get, slice_range, slice_index_or, Run, Token, Follow, take-add, drop-drop}
 use Rattle.cweb_store.proofs.RunLemmas.{Follow-le}
-
-take-none : {X : Type 0} (k : ℕ) → take {A = X} k [] ≡ []
-take-none zero = refl
-take-none (suc k) = refl
-
-take-split : {X : Type 0} (k m : ℕ) (xs : List X) → take (k + m) xs ≡ take k xs ++ take m (drop k xs)
-take-split zero m xs = ap (λ n. take n xs) (let e : 0 + m ≡ m = omega arith in e)
-take-split (suc k) m [] = take-none (suc k + m) ∙ sym (take-none m)
-take-split (suc k) m (x ∷ xs) = ap (λ n. take n (x ∷ xs)) (let e : suc k + m ≡ suc (k + m) = omega arith in
-    e) ∙ ap (λ ys. x ∷ ys) (take-split k m xs)
-
-drop-none : {X : Type 0} (k : ℕ) → drop {A = X} k [] ≡ []
-drop-none zero = refl
-drop-none (suc k) = refl
-
-drop-more : {X : Type 0} (n k : ℕ) (xs : List X) → drop k (drop n xs) ≡ drop (n + k) xs
-drop-more zero k xs = ap (λ m. drop m xs) (let e : k ≡ 0 + k = omega arith in e)
-drop-more (suc n) k [] = drop-none k ∙ sym (drop-none (suc n + k))
-drop-more (suc n) k (x ∷ xs) =
-    drop-more n k xs ∙ ap (λ m. drop m (x ∷ xs)) (let e : suc (n + k) ≡ suc n + k = omega arith in e)
 
 -- a range goes up to a number in it, and on from there
 pub range-split : {X : Type 0} (xs : List X) (i j k : ℕ) → i ≤ j → j ≤ k
@@ -28,8 +8,16 @@ pub range-split : {X : Type 0} (xs : List X) (i j k : ℕ) → i ≤ j → j ≤
 range-split xs i j k low high =
     let both : k - i ≡ (j - i) + (k - j) = omega (arith, low, high) in
     let place : i + (j - i) ≡ j = omega (arith, low) in
-    ap (λ n. take n (drop i xs)) both ∙ take-split (j - i) (k - j) (drop i xs)
-    ∙ ap (λ ys. slice_range xs i j ++ take (k - j) ys) (drop-more i (j - i) xs ∙ ap (λ n. drop n xs) place)
+    ap (λ n. take n (drop i xs)) both ∙ take-add (j - i) (k - j) (drop i xs)
+    ∙ ap (λ ys. slice_range xs i j ++ take (k - j) ys) (drop-drop (j - i) i xs ∙ ap (λ n. drop n xs) place)
+
+-- what comes first behind some of a list stands at their number
+pub drop-here : {X : Type 0} (xs : List X) (i : ℕ) (x : X) (rest : List X)
+    → drop i xs ≡ x ∷ rest → (slice_get xs i ≡ Some x) × (drop (suc i) xs ≡ rest)
+drop-here [] zero x rest h = cc
+drop-here [] (suc i) x rest h = cc
+drop-here (y ∷ xs) zero x rest h = (let e : Some y ≡ Some x = cc in e, let e : xs ≡ rest = cc in e)
+drop-here (y ∷ xs) (suc i) x rest h = drop-here xs i x rest h
 
 -- a range begins with the token at its first number
 pub range-head : (ts : List Token) (i k : ℕ) (t : Token) → slice_get ts i ≡ Some t → i < k

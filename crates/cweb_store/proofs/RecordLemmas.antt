@@ -8,18 +8,7 @@ use Rattle.cweb_store.specs.Records.{IsWithin}
 -- a token that is a Mark has a record that is one
 pub mark-same : (texts : List (List ℕ)) (p : Packed) → is_mark p ≡ is_mark_token (token_in texts p)
 mark-same texts (packed.Word n) = refl
-mark-same texts (packed.Number n) = refl
-mark-same texts (packed.Literal n) = refl
-mark-same texts (packed.Verbatim n) = refl
-mark-same texts (packed.Punct n) = refl
-mark-same texts packed.Blank = refl
-mark-same texts packed.Newline = refl
-mark-same texts packed.Join = refl
-mark-same texts packed.Defs = refl
-mark-same texts (packed.Name n) = refl
-mark-same texts (packed.Head n) = refl
-mark-same texts (packed.Tail n) = refl
-mark-same texts (packed.Mark n) = refl
+mark-same texts _ = refl
 
 pub numbered-le : (n end : ℕ) (rs : List Record) → AreNumbered n rs end → n ≤ end
 numbered-le n end [] h = omega (arith, h)
@@ -37,10 +26,6 @@ pub numbered-push : (n end : ℕ) (rs : List Record) (r : Record) → AreNumbere
     → AreNumbered n (rs ++ r ∷ []) (end + places_of r)
 numbered-push n end [] r h at = (subst (λ k. IsAt k r) (sym h) at, ap (λ k. k + places_of r) h)
 numbered-push n end (q ∷ rs) r h at = (h.0, numbered-push (n + places_of q) end rs r h.1 at)
-
--- the last records
-pub tail : (rs : List Record) (n : ℕ) → take (length rs - n) (drop n rs) ≡ drop n rs
-tail rs n = take_all (length rs - n) (drop n rs) (omega (arith, length-drop n rs))
 
 -- the places of the first records, and of the others
 pub record Split (from : ℕ) (count : ℕ) (rs : List Record) (end : ℕ) : Type 0 where
@@ -65,19 +50,8 @@ at-take (p ∷ ps) (suc n) (suc k) h = at-take ps n k (omega arith)
 
 packed-take : (places : List Place) (n from : ℕ) (r : Record) → IsAt from r → from + places_of r ≤ n
     → packed_in (take n places) r ≡ packed_in places r
-packed-take places n from (record_of.Word k) at h = refl
-packed-take places n from (record_of.Number k) at h = refl
-packed-take places n from (record_of.Literal k) at h = refl
-packed-take places n from (record_of.Verbatim k) at h = refl
-packed-take places n from (record_of.Punct k) at h = refl
-packed-take places n from record_of.Blank at h = refl
-packed-take places n from record_of.Newline at h = refl
-packed-take places n from record_of.Join at h = refl
-packed-take places n from record_of.Defs at h = refl
-packed-take places n from (record_of.Name k) at h = refl
-packed-take places n from (record_of.Head k) at h = refl
-packed-take places n from (record_of.Tail k) at h = refl
 packed-take places n from (record_of.Mark k) at h = ap packed.Mark (at-take places n k (omega (arith, at, h)))
+packed-take places n from _ at h = refl
 
 -- the places behind those of records don't count
 pub cut : (places : List Place) (from n : ℕ) (rs : List Record) → AreNumbered from rs n
@@ -126,44 +100,13 @@ record-at places from end (q ∷ rs) zero r all h =
     within (record_of.Mark k) from end at h = omega (arith, at, h)
 record-at places from end (q ∷ rs) (suc i) r all h = record-at places (from + places_of q) end rs i r all.1 h
 
--- the first Mark of the last records has the number from which they are numbered
-pub first-mark : (i : ℕ) (rs : List Record) (k n end : ℕ) → slice_get rs i ≡ Some (record_of.Mark k)
-    → AreNumbered n (drop i rs) end → k ≡ n
-first-mark i [] k n end there all = cc
-first-mark zero (r ∷ rs) k n end there all =
-    let same : r ≡ record_of.Mark k = cc in
-    subst (IsAt n) same all.0
-first-mark (suc i) (r ∷ rs) k n end there all = first-mark i rs k n end there all
-
 -- what a record lends is told without the places, and so is whether its text is among so many
 pub lends-alone : (texts : List (List ℕ)) (places : List Place) (r : Record)
     → lends (token_in texts (packed_in [] r)) ≡ lends (token_in texts (packed_in places r))
 lends-alone texts places (record_of.Word n) = refl
-lends-alone texts places (record_of.Number n) = refl
-lends-alone texts places (record_of.Literal n) = refl
-lends-alone texts places (record_of.Verbatim n) = refl
-lends-alone texts places (record_of.Punct n) = refl
-lends-alone texts places record_of.Blank = refl
-lends-alone texts places record_of.Newline = refl
-lends-alone texts places record_of.Join = refl
-lends-alone texts places record_of.Defs = refl
-lends-alone texts places (record_of.Name n) = refl
-lends-alone texts places (record_of.Head n) = refl
-lends-alone texts places (record_of.Tail n) = refl
-lends-alone texts places (record_of.Mark n) = refl
+lends-alone texts places _ = refl
 
 pub within-alone : (count : ℕ) (places : List Place) (r : Record)
     → kept.IsWithin count (packed_in places r) → kept.IsWithin count (packed_in [] r)
 within-alone count places (record_of.Word n) h = h
-within-alone count places (record_of.Number n) h = h
-within-alone count places (record_of.Literal n) h = h
-within-alone count places (record_of.Verbatim n) h = h
-within-alone count places (record_of.Punct n) h = h
-within-alone count places record_of.Blank h = h
-within-alone count places record_of.Newline h = h
-within-alone count places record_of.Join h = h
-within-alone count places record_of.Defs h = h
-within-alone count places (record_of.Name n) h = h
-within-alone count places (record_of.Head n) h = h
-within-alone count places (record_of.Tail n) h = h
-within-alone count places (record_of.Mark n) h = h
+within-alone count places _ h = h

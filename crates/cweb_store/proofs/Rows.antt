@@ -32,72 +32,24 @@ zz = occurrence_of (codes "Zz") Prefix false
 abbrev header : How → List ℕ → Occurrence
 header how text = occurrence_of text how true
 
--- an abbreviation before the only name that it fits stands for it
-before_the_only_name : standings (glob ∷ variables ∷ []) ≡ Ok (id 0) ∷ Ok (id 0) ∷ []
-before_the_only_name = refl
-
-before_two_names : standings (glob ∷ variables ∷ types ∷ []) ≡ Err Ambiguous ∷ Ok (id 0) ∷ Ok (id 1) ∷ []
-before_two_names = refl
-
--- what comes later doesn't count where an earlier name fits
-between_two_names : standings (variables ∷ glob ∷ types ∷ []) ≡ Ok (id 0) ∷ Ok (id 0) ∷ Ok (id 1) ∷ []
-between_two_names = refl
-
-after_two_names : standings (variables ∷ types ∷ glob ∷ []) ≡ Ok (id 0) ∷ Ok (id 1) ∷ Err Ambiguous ∷ []
-after_two_names = refl
-
-never_in_full : standings (zz ∷ []) ≡ Err NeverFull ∷ []
-never_in_full = refl
-
-given_twice : texts (names (variables ∷ types ∷ variables ∷ [])) ≡ codes "Global variables" ∷ codes "Global types" ∷ []
-given_twice = refl
-
--- a file name may be given in full elsewhere, and as a file's by an abbreviation
-by_abbreviation : files (occurrence_of (codes "a.h") Full
-    false ∷ header Full (codes "b.h") ∷ header Prefix (codes "a") ∷ header Full (codes "b.h") ∷ []) ≡ id 1 ∷ id 0 ∷ []
-by_abbreviation = refl
-
 abbrev prefixed : List Call
 prefixed = Occurs (occurrence_of (codes "ab") Full false) ∷ Opens (named 0) ∷ Pushes (Word (codes "x")) ∷ Closes
     ∷ Occurs (occurrence_of (codes "abc") Full false) ∷ Opens (named 1) ∷ Pushes (Word (codes "y")) ∷ Closes ∷ []
-
-a_prefix_of_another : faults_of prefixed ≡ fault PrefixOfAnother 0 ∷ []
-a_prefix_of_another = refl
-
-a_file_without_part : faults_of (Occurs (header Full (codes "a.h")) ∷ []) ≡ fault NotPresent 0 ∷ []
-a_file_without_part = refl
 
 -- B is used by a part that belongs to no name
 abbrev of_no_name : List Call
 of_no_name =
     Occurs zz ∷ Opens (named 0) ∷ Occurs (occurrence_of (codes "B") Full false) ∷ Pushes (Name (ref 1)) ∷ Closes ∷ []
 
-used_by_a_part_of_no_name : faults_of of_no_name ≡ fault NeverFull 0 ∷ fault NotPresent 1 ∷ []
-used_by_a_part_of_no_name = refl
-
 -- first what stands for nothing, then prefixes of others, then what is missed, each in order
 abbrev in_order : List Call
 in_order = Occurs (header Full (codes "Glob")) ∷ Occurs (header Full (codes "Global")) ∷ Occurs zz ∷ Occurs glob ∷ []
-
-order_of_faults : faults_of in_order
-    ≡ fault NeverFull 2 ∷ fault Ambiguous 3 ∷ fault PrefixOfAnother 0 ∷ fault NotPresent 0 ∷ fault NotPresent 1 ∷ []
-order_of_faults = refl
 
 -- a part of A, a part of the program, and a part of A that is still open
 abbrev joins : List Call
 joins = Occurs (occurrence_of (codes "A") Full false) ∷ Opens (named 0) ∷ Pushes (Word (codes "a")) ∷ Pushes Blank
     ∷ Closes ∷ Opens Unnamed ∷ Occurs (occurrence_of (codes "A") Full false) ∷ Pushes (Name (ref 1)) ∷ Closes ∷ Occurs
     (occurrence_of (codes "A") Full false) ∷ Opens (named 2) ∷ Pushes (Word (codes "b")) ∷ []
-
-joined_in_order : joined_of joins 0 ≡ Word (codes "a") ∷ Blank ∷ Word (codes "b") ∷ []
-joined_in_order = refl
-
-the_program : joined is_unnamed (stored joins).parts ≡ Name (ref 1) ∷ []
-the_program = refl
-
-numbers_of_parts : numbers_where (is_of (standings (stored joins).occurrences) (id 0)) (stored joins).parts
-    ≡ (record { first = 0; after = 2 }) ∷ (record { first = 3; after = 4 }) ∷ []
-numbers_of_parts = refl
 
 -- the tokens of a part of a kind that is given tokens, loses its last layout, and is closed
 abbrev dropped_of : PartKind → List Token → List Token
@@ -112,96 +64,76 @@ mark = Mark (record { file = record { 0 = 0 }; line = 1 })
 abbrev x : Token
 x = Word (codes "x")
 
-layout_of_a_part : dropped_of Unnamed (Blank ∷ x ∷ Blank ∷ mark ∷ Newline ∷ []) ≡ Blank ∷ x ∷ []
-layout_of_a_part = refl
-
-layout_alone : dropped_of Unnamed (Blank ∷ Newline ∷ []) ≡ []
-layout_alone = refl
-
--- layout stays where something else follows it
-layout_before_a_join : dropped_of Unnamed (Newline ∷ Join ∷ []) ≡ Newline ∷ Join ∷ []
-layout_before_a_join = refl
-
-layout_of_a_macro_of_one : dropped_of Macro (Blank ∷ []) ≡ Blank ∷ []
-layout_of_a_macro_of_one = refl
-
-layout_of_a_macro_of_two : dropped_of Macro (x ∷ Blank ∷ []) ≡ x ∷ Blank ∷ []
-layout_of_a_macro_of_two = refl
-
-two_layout_tokens_of_a_macro : left_of_macro (Newline ∷ Blank ∷ Blank ∷ Newline ∷ []) ≡ Newline ∷ Blank ∷ []
-two_layout_tokens_of_a_macro = refl
-
-layout_of_a_macro_of_three : dropped_of Macro (x ∷ Blank ∷ Newline ∷ []) ≡ x ∷ Blank ∷ []
-layout_of_a_macro_of_three = refl
-
-end_of_a_macro : closed_of Macro (x ∷ Blank ∷ x ∷ Blank ∷ Blank ∷ Newline ∷ Newline ∷ []) ≡ x ∷ Blank ∷ x ∷ Blank ∷ []
-end_of_a_macro = refl
-
--- a Blank is dropped once, and no Newline before it
-blank_of_a_macro : closed_of Macro (x ∷ Newline ∷ Blank ∷ []) ≡ x ∷ Newline ∷ []
-blank_of_a_macro = refl
-
-end_of_a_part : closed_of Unnamed (x ∷ Blank ∷ Newline ∷ []) ≡ x ∷ Blank ∷ Newline ∷ []
-end_of_a_part = refl
-
 -- a macro is no C text: its Defs and its uses don't count
 abbrev in_a_macro : List Call
 in_a_macro = Occurs (occurrence_of (codes "A") Full false) ∷ Opens Macro ∷ Pushes Defs ∷ Pushes (Name (ref 0)) ∷ []
-
-defs_of_a_macro : has_defs_code (stored in_a_macro).parts ≡ false
-defs_of_a_macro = refl
-
-use_in_a_macro : faults_of in_a_macro ≡ []
-use_in_a_macro = refl
-
-defs_of_a_part : has_defs_code (stored (Opens (named 7) ∷ Pushes Defs ∷ [])).parts ≡ true
-defs_of_a_part = refl
-
-macros_in_order : joined is_macro (stored (Opens Macro ∷
-    Pushes x ∷ Closes ∷ Opens Unnamed ∷ Pushes Join ∷ Closes ∷ Opens Macro ∷ Pushes Blank ∷ [])).parts ≡ x ∷ Blank ∷ []
-macros_in_order = refl
 
 abbrev replaced : List Call
 replaced = Transliterates (replacement_of 196 (codes "Ae")) ∷ Transliterates
     (replacement_of 228 (codes "ae")) ∷ Transliterates (replacement_of 196 (codes "A")) ∷ []
 
-a_later_replacement_wins : replacement (stored replaced).replacements 196 ≡ Some (codes "A")
-a_later_replacement_wins = refl
-
-a_replacement_of_its_own : replacement (stored replaced).replacements 228 ≡ Some (codes "ae")
-a_replacement_of_its_own = refl
-
-no_replacement : replacement (stored replaced).replacements 214 ≡ None
-no_replacement = refl
-
 -- equal Words are kept once, and a Number that is spelled like one besides
 abbrev three_times : List Call
 three_times = Opens Unnamed ∷ Pushes x ∷ Pushes x ∷ Pushes x ∷ []
-
-words_kept_once : bytes_kept (stored three_times) ≡ 1
-words_kept_once = refl
 
 -- and so are punctuators, of which one may be spelled like a Word
 abbrev arrow : Token
 arrow = Punct (codes "->")
 
-signs_kept_once : bytes_kept
-    (stored (Opens Unnamed ∷ Pushes arrow ∷ Pushes x ∷ Pushes (Punct (codes "x")) ∷ Pushes arrow ∷ [])) ≡ 3
-signs_kept_once = refl
-
-words_given : bytes_given (stored three_times) ≡ 3
-words_given = refl
-
-texts_kept_each : bytes_kept (stored (Occurs
-    glob ∷ Occurs glob ∷ three_times ++ Pushes (Number (codes "x")) ∷ Pushes (Word (codes "xy")) ∷ replaced)) ≡ 17
-texts_kept_each = refl
-
 -- what is noted of tokens
 abbrev noted : List Token
 noted = Blank ∷ Name (ref 0) ∷ Defs ∷ Name (ref 1) ∷ []
 
-uses_are_noted : token_numbers is_name 4 noted ≡ 5 ∷ 7 ∷ []
-uses_are_noted = refl
+record Computed : Type 0 where
+  -- an abbreviation before the only name that it fits stands for it
+  before_the_only_name : standings (glob ∷ variables ∷ []) ≡ Ok (id 0) ∷ Ok (id 0) ∷ []
+  before_two_names : standings (glob ∷ variables ∷ types ∷ []) ≡ Err Ambiguous ∷ Ok (id 0) ∷ Ok (id 1) ∷ []
+  -- what comes later doesn't count where an earlier name fits
+  between_two_names : standings (variables ∷ glob ∷ types ∷ []) ≡ Ok (id 0) ∷ Ok (id 0) ∷ Ok (id 1) ∷ []
+  after_two_names : standings (variables ∷ types ∷ glob ∷ []) ≡ Ok (id 0) ∷ Ok (id 1) ∷ Err Ambiguous ∷ []
+  never_in_full : standings (zz ∷ []) ≡ Err NeverFull ∷ []
+  given_twice : texts (names (variables ∷ types ∷ variables ∷ []))
+      ≡ codes "Global variables" ∷ codes "Global types" ∷ []
+  -- a file name may be given in full elsewhere, and as a file's by an abbreviation
+  by_abbreviation : files (occurrence_of (codes "a.h") Full
+      false ∷ header Full (codes "b.h") ∷ header Prefix (codes "a") ∷ header Full (codes "b.h") ∷ []) ≡ id 1 ∷ id 0 ∷ []
+  a_prefix_of_another : faults_of prefixed ≡ fault PrefixOfAnother 0 ∷ []
+  a_file_without_part : faults_of (Occurs (header Full (codes "a.h")) ∷ []) ≡ fault NotPresent 0 ∷ []
+  used_by_a_part_of_no_name : faults_of of_no_name ≡ fault NeverFull 0 ∷ fault NotPresent 1 ∷ []
+  order_of_faults : faults_of in_order
+      ≡ fault NeverFull 2 ∷ fault Ambiguous 3 ∷ fault PrefixOfAnother 0 ∷ fault NotPresent 0 ∷ fault NotPresent 1 ∷ []
+  joined_in_order : joined_of joins 0 ≡ Word (codes "a") ∷ Blank ∷ Word (codes "b") ∷ []
+  the_program : joined is_unnamed (stored joins).parts ≡ Name (ref 1) ∷ []
+  numbers_of_parts : numbers_where (is_of (standings (stored joins).occurrences) (id 0)) (stored joins).parts
+      ≡ (record { first = 0; after = 2 }) ∷ (record { first = 3; after = 4 }) ∷ []
+  layout_of_a_part : dropped_of Unnamed (Blank ∷ x ∷ Blank ∷ mark ∷ Newline ∷ []) ≡ Blank ∷ x ∷ []
+  layout_alone : dropped_of Unnamed (Blank ∷ Newline ∷ []) ≡ []
+  -- layout stays where something else follows it
+  layout_before_a_join : dropped_of Unnamed (Newline ∷ Join ∷ []) ≡ Newline ∷ Join ∷ []
+  layout_of_a_macro_of_one : dropped_of Macro (Blank ∷ []) ≡ Blank ∷ []
+  layout_of_a_macro_of_two : dropped_of Macro (x ∷ Blank ∷ []) ≡ x ∷ Blank ∷ []
+  two_layout_tokens_of_a_macro : left_of_macro (Newline ∷ Blank ∷ Blank ∷ Newline ∷ []) ≡ Newline ∷ Blank ∷ []
+  layout_of_a_macro_of_three : dropped_of Macro (x ∷ Blank ∷ Newline ∷ []) ≡ x ∷ Blank ∷ []
+  end_of_a_macro : closed_of Macro (x ∷ Blank ∷ x ∷ Blank ∷ Blank ∷ Newline ∷ Newline ∷ []) ≡ x ∷ Blank ∷ x ∷ Blank ∷ []
+  -- a Blank is dropped once, and no Newline before it
+  blank_of_a_macro : closed_of Macro (x ∷ Newline ∷ Blank ∷ []) ≡ x ∷ Newline ∷ []
+  end_of_a_part : closed_of Unnamed (x ∷ Blank ∷ Newline ∷ []) ≡ x ∷ Blank ∷ Newline ∷ []
+  defs_of_a_macro : has_defs_code (stored in_a_macro).parts ≡ false
+  use_in_a_macro : faults_of in_a_macro ≡ []
+  defs_of_a_part : has_defs_code (stored (Opens (named 7) ∷ Pushes Defs ∷ [])).parts ≡ true
+  macros_in_order : joined is_macro (stored (Opens Macro ∷ Pushes
+      x ∷ Closes ∷ Opens Unnamed ∷ Pushes Join ∷ Closes ∷ Opens Macro ∷ Pushes Blank ∷ [])).parts ≡ x ∷ Blank ∷ []
+  a_later_replacement_wins : replacement (stored replaced).replacements 196 ≡ Some (codes "A")
+  a_replacement_of_its_own : replacement (stored replaced).replacements 228 ≡ Some (codes "ae")
+  no_replacement : replacement (stored replaced).replacements 214 ≡ None
+  words_kept_once : bytes_kept (stored three_times) ≡ 1
+  signs_kept_once : bytes_kept
+      (stored (Opens Unnamed ∷ Pushes arrow ∷ Pushes x ∷ Pushes (Punct (codes "x")) ∷ Pushes arrow ∷ [])) ≡ 3
+  words_given : bytes_given (stored three_times) ≡ 3
+  texts_kept_each : bytes_kept (stored (Occurs
+      glob ∷ Occurs glob ∷ three_times ++ Pushes (Number (codes "x")) ∷ Pushes (Word (codes "xy")) ∷ replaced)) ≡ 17
+  uses_are_noted : token_numbers is_name 4 noted ≡ 5 ∷ 7 ∷ []
+  defs_are_noted : token_numbers is_defs 0 noted ≡ 2 ∷ []
 
-defs_are_noted : token_numbers is_defs 0 noted ≡ 2 ∷ []
-defs_are_noted = refl
+computed : Computed
+computed = search refl

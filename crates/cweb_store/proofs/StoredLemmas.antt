@@ -1,5 +1,6 @@
 -- What a store stands for, by what it keeps: tokens, occurrences and names.
 use Rattle.cweb_store.proofs.Common.{◌≡◌, ℕ, zero, suc, ◌+◌, ◌≤◌, ◌<◌, Bool, true, false, List, [], ◌∷◌, ◌++◌, Option, Some, map, length, drop, refl, sym, ◌∙◌, ap, subst, arith, length-append, append_assoc, append-nil, get_or, slice_get, option_map, bytes_eq, if◌then◌else◌, list_any, length-map, drop-append_seam, Full, Prefix, NameId, NameFault, GivenAs, Run, Links, Occurrence, Name, Standing, texts, with_text, with_name, names_from, names, Token, Replacement, IsWhole, closed_in, stored, too_many, AreAnswers, AreLinked, occurrence_text, replacement_text, TokensAndTexts, tokens_alone, with_texts, given_as, occurrences_at, replacements_at, stored_in, AreLast, AreStored}
+use Rattle.cweb_store.proofs.RangeLemmas.{drop-here}
 
 with_texts-is : (ts : List (List ℕ)) (c : TokensAndTexts)
     → with_texts ts c ≡ record { tokens = c.tokens; others = c.others ++ ts }
@@ -115,13 +116,6 @@ name-gives : (os : List Occurrence) (i : ℕ) (ns : List Name) (o : Occurrence) 
     → option_map (λ (o : Occurrence). o.text) (slice_get os i) ≡ Some o.text → FirstsGive os (with_name i ns o)
 name-gives os i ns o h here = elim o.how as (λ how. FirstsGive os
     (elim how [ Full ↦ with_text i ns o.text | Prefix ↦ ns ])) [ Full ↦ text-gives os i ns o.text h here | Prefix ↦ h ]
-
-drop-here : (os : List Occurrence) (i : ℕ) (o : Occurrence) (rest : List Occurrence)
-    → drop i os ≡ o ∷ rest → (slice_get os i ≡ Some o) × (drop (suc i) os ≡ rest)
-drop-here [] zero o rest h = cc
-drop-here [] (suc i) o rest h = cc
-drop-here (x ∷ os) zero o rest h = (let e : Some x ≡ Some o = cc in e, let e : os ≡ rest = cc in e)
-drop-here (x ∷ os) (suc i) o rest h = drop-here os i o rest h
 
 firsts-from : (all os : List Occurrence) (i : ℕ) (ns : List Name)
     → drop i all ≡ os → FirstsGive all ns → FirstsGive all (names_from i ns os)

@@ -1,5 +1,6 @@
 -- The texts of a store: what bytes are replaced by, and how many bytes all texts have.
 use Rattle.cweb_store.proofs.Common.{◌≡◌, ℕ, zero, suc, ◌+◌, ◌≤◌, ◌<◌, Bool, true, false, List, [], ◌∷◌, ◌++◌, Option, Some, None, map, length, take, drop, refl, sym, ◌∙◌, ap, subst, arith, flat_map, slice_get, option_map, option_and_then, nat_eq, if◌then◌else◌, GivenAs, Run, Name, Token, all_tokens, replaced_by, replacement, IsWhole, closed_in, Stored, total, token_texts, token_bytes_kept, occurrence_text, replacement_text, texts_of, bytes_given, bytes_kept, AllStandIn, AreInOneList, TokensAndTexts, occurrences_at, replacements_at, last_from, stored_in}
+use Rattle.cweb_store.proofs.RangeLemmas.{drop-here}
 use Rattle.cweb_store.proofs.WordLemmas.{kept-few}
 use Rattle.cweb_store.proofs.TextLemmas.{all-drop, all-both}
 use Rattle.cweb_store.proofs.RunLemmas.{whole-tokens}
@@ -13,7 +14,7 @@ last-replaces : (all ts : List (List ℕ)) (bs : List ℕ) (byte i : ℕ) (found
 last-replaces all ts [] byte i found h size = refl
 last-replaces all [] (b ∷ bs) byte i found h size = absurd (let none : ⊥ = omega arith in none)
 last-replaces all (t ∷ ts) (b ∷ bs) byte i found h size =
-    let here = text-here all i t ts h in
+    let here = drop-here all i t ts h in
     let next : suc i ≡ i + 1 = omega arith in
     let step : (if nat_eq b byte then Some t else at_last all found) ≡ at_last all
     (if nat_eq b byte then Some i else found) = elim (nat_eq b byte) as (λ v. (if v then Some t else at_last all found)
@@ -21,13 +22,6 @@ last-replaces all (t ∷ ts) (b ∷ bs) byte i found h size =
     ap (λ x. replaced_by byte x (replacements_at ts bs)) step
     ∙ last-replaces all ts bs byte
     (i + 1) (if nat_eq b byte then Some i else found) (ap (λ k. drop k all) (sym next) ∙ here.1) (omega arith)
-  where
-    text-here : (all : List (List ℕ)) (i : ℕ) (t : List ℕ) (rest : List (List ℕ))
-        → drop i all ≡ t ∷ rest → (slice_get all i ≡ Some t) × (drop (suc i) all ≡ rest)
-    text-here [] zero t rest h = cc
-    text-here [] (suc i) t rest h = cc
-    text-here (x ∷ all) zero t rest h = (let e : Some x ≡ Some t = cc in e, let e : all ≡ rest = cc in e)
-    text-here (x ∷ all) (suc i) t rest h = text-here all i t rest h
 
 pub last-is : (ts : List (List ℕ)) (bs : List ℕ) (byte : ℕ) → length ts ≡ length bs
     → replacement (replacements_at ts bs) byte ≡ at_last ts (last_from byte None 0 bs)

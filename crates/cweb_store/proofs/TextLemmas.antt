@@ -40,14 +40,7 @@ token-stands ts (Number n) h = (text-stands ts n h, tt)
 token-stands ts (Literal n) h = (text-stands ts n h, tt)
 token-stands ts (Verbatim n) h = (text-stands ts n h, tt)
 token-stands ts (Punct n) h = (text-stands ts n h, tt)
-token-stands ts Blank h = tt
-token-stands ts Newline h = tt
-token-stands ts Join h = tt
-token-stands ts Defs h = tt
-token-stands ts (Name name) h = tt
-token-stands ts (Head section) h = tt
-token-stands ts (Tail section) h = tt
-token-stands ts (Mark place) h = tt
+token-stands ts _ h = tt
 
 tokens-stand : (ts : List (List ℕ)) (ps : List Packed) → ArePacked ts ps
     → AllStandIn (text_bytes ts) (flat_map token_texts (map (token_in ts) ps))
@@ -124,7 +117,7 @@ truncate-are kept ps n all same =
       few = omega (arith, all.few, ap length fewer);
     }
 
-filter-few : {A : Type 0} (p : A → Bool) (xs : List A) → length (filter p xs) ≤ length xs
+pub filter-few : {A : Type 0} (p : A → Bool) (xs : List A) → length (filter p xs) ≤ length xs
 filter-few p [] = omega arith
 filter-few p (x ∷ xs) =
     elim (p x) as (λ b. length (if b then x ∷ filter p xs else filter p xs) ≤ length (x ∷ xs)) [

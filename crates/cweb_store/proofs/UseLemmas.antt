@@ -24,18 +24,7 @@ next-any test ts part next is =
 -- what tokens use of which none is a use
 pub not-used : (rs : List Standing) (ns : List NameId) (t : Token) → is_name t ≡ false → with_use rs ns t ≡ ns
 not-used rs ns (spec.Name name) h = cc
-not-used rs ns (spec.Word bytes) h = refl
-not-used rs ns (spec.Number bytes) h = refl
-not-used rs ns (spec.Literal bytes) h = refl
-not-used rs ns (spec.Verbatim bytes) h = refl
-not-used rs ns (spec.Punct bytes) h = refl
-not-used rs ns spec.Blank h = refl
-not-used rs ns spec.Newline h = refl
-not-used rs ns spec.Join h = refl
-not-used rs ns spec.Defs h = refl
-not-used rs ns (spec.Head section) h = refl
-not-used rs ns (spec.Tail section) h = refl
-not-used rs ns (spec.Mark place) h = refl
+not-used rs ns _ h = refl
 
 used-before : (rs : List Standing) (ns : List NameId) (ts us : List Token)
     → list_any is_name ts ≡ false → used_from rs ns (ts ++ us) ≡ used_from rs ns us

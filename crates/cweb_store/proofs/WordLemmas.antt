@@ -1,7 +1,6 @@
 -- Words and punctuators that are kept once, and how many bytes of tokens are kept.
-use Rattle.cweb_store.proofs.Common.{◌≡◌, ℕ, ◌+◌, ◌≤◌, true, false, cond, ◌||◌, List, [], ◌∷◌, ◌++◌, length, refl, sym, ◌∙◌, ap, arith, bytes_eq, filter, fold, if◌then◌else◌, list_any, bytes_decides, fold-append, list_any-append, Token, Word, Punct, Blank, Newline, Mark, total, with_word, has_text, token_bytes, with_word_of, words_of, other_bytes, token_bytes_kept}
+use Rattle.cweb_store.proofs.Common.{◌≡◌, ℕ, ◌+◌, ◌≤◌, true, false, cond, ◌||◌, List, [], ◌∷◌, ◌++◌, length, refl, sym, ◌∙◌, ap, arith, bytes_eq, filter, fold, if◌then◌else◌, list_any, bytes_decides, fold-append, list_any-append, Token, Word, Punct, Blank, Newline, Mark, total, with_word, has_text, token_bytes, with_word_of, words_of, other_bytes, token_bytes_kept, or_comm}
 use Rattle.cweb_store.specs.Parts.{Number, Literal, Verbatim, Join, Defs, Name, Head, Tail}
-use Rattle.cweb_texts.proofs.ListLemmas.{or-swap}
 use Rattle.cweb_texts.proofs.WordLemmas.{total-append, with-word-any}
 
 -- where words are the same in some order, one more token makes the same of them
@@ -10,19 +9,9 @@ pub same-more : (ws vs : List (List ℕ)) (t : Token)
     → (q : List ℕ) → list_any (bytes_eq q) (with_word_of ws t) ≡ list_any (bytes_eq q) (with_word_of vs t)
 same-more ws vs (Word b) same = λ q.
     with-word-any q ws b ∙ ap (λ v. v || bytes_eq q b) (same q) ∙ sym (with-word-any q vs b)
-same-more ws vs (Number b) same = same
-same-more ws vs (Literal b) same = same
-same-more ws vs (Verbatim b) same = same
 same-more ws vs (Punct b) same = λ q.
     with-word-any q ws b ∙ ap (λ v. v || bytes_eq q b) (same q) ∙ sym (with-word-any q vs b)
-same-more ws vs Blank same = same
-same-more ws vs Newline same = same
-same-more ws vs Join same = same
-same-more ws vs Defs same = same
-same-more ws vs (Name name) same = same
-same-more ws vs (Head section) same = same
-same-more ws vs (Tail section) same = same
-same-more ws vs (Mark place) same = same
+same-more ws vs _ same = same
 
 word-bytes : (ws : List (List ℕ)) (w : List ℕ)
     → total length (with_word ws w) ≡ total length ws + cond (list_any (bytes_eq w) ws) 0 (length w)
@@ -38,19 +27,9 @@ pub same-more-bytes : (ws vs : List (List ℕ)) (t : Token)
     → total length (with_word_of ws t) + total length vs ≡ total length (with_word_of vs t) + total length ws
 same-more-bytes ws vs (Word b) same =
     omega (arith, word-bytes ws b, word-bytes vs b, ap (λ v. cond v 0 (length b)) (same b))
-same-more-bytes ws vs (Number b) same = omega arith
-same-more-bytes ws vs (Literal b) same = omega arith
-same-more-bytes ws vs (Verbatim b) same = omega arith
 same-more-bytes ws vs (Punct b) same =
     omega (arith, word-bytes ws b, word-bytes vs b, ap (λ v. cond v 0 (length b)) (same b))
-same-more-bytes ws vs Blank same = omega arith
-same-more-bytes ws vs Newline same = omega arith
-same-more-bytes ws vs Join same = omega arith
-same-more-bytes ws vs Defs same = omega arith
-same-more-bytes ws vs (Name name) same = omega arith
-same-more-bytes ws vs (Head section) same = omega arith
-same-more-bytes ws vs (Tail section) same = omega arith
-same-more-bytes ws vs (Mark place) same = omega arith
+same-more-bytes ws vs _ same = omega arith
 
 -- one more token
 pub words-push : (ts : List Token) (t : Token) → words_of (ts ++ t ∷ []) ≡ with_word_of (words_of ts) t

@@ -18,8 +18,7 @@ both_equal : (a b : Ordering) → is_eq (ordering_then a b) ≡ true → (a ≡ 
 both_equal Equal Equal e = (refl, refl)
 both_equal Equal Less e = search
 both_equal Equal Greater e = search
-both_equal Less b e = search
-both_equal Greater b e = search
+both_equal _ b e = search
 
 same : (a b : FileKey) → (nat_cmp a.device b.device ≡ Equal) × (nat_cmp a.number b.number ≡ Equal) → b ≡ a
 same a b equal = sym (λ i. record {

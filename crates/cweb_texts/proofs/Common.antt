@@ -3,6 +3,7 @@ pub use Rattle.std.proofs.Common.{◌≡◌, ◌==◌, ◌-◌, ℕ, zero, suc, 
 pub use Rattle.std.proofs.Common.{None, Some, ◌∙◌, refl, ap, sym, subst, arith, length, take, ◌≤◌, drop, ◌||◌, ◌&&◌}
 pub use Rattle.std.proofs.Common.{map, length-append, append-nil, ◌+◌, ◌<◌, get_or, length-drop, ltb-true, ltb-false}
 pub use Rattle.std.proofs.Common.{◌⊎◌, inl, inr, set, replicate, ◌*◌, ◌/◌, ◌^◌, rules}
+pub use Rattle.std.proofs.Math.Bool.{or_comm}
 pub use Rattle.std.proofs.Math.Seq.{length-take-le, drop-append_seam, take-length}
 pub use Rattle.std.proofs.lemmas.Bool.{or_from, eqb-true}
 pub use Rattle.std.proofs.lemmas.Grind.{same_number_lists, common_steps}
@@ -10,6 +11,7 @@ pub use Rattle.std.proofs.lemmas.List.{take-append-drop, take_all, drop-drop, dr
 pub use Rattle.std.proofs.lemmas.List.{map-append, length-set}
 pub use Rattle.std.proofs.lemmas.List.Folds.{list_any-append}
 pub use Rattle.std.proofs.lemmas.List.Sums.{fold-append}
+pub use Rattle.std.proofs.lemmas.Map.Keys.{any_passes_from_place}
 pub use Rattle.std.proofs.lemmas.Map.Text.{is_eq-slice_cmp}
 pub use Rattle.std.proofs.lemmas.Nat.{le_bytes_4, le_bytes_8}
 pub use Rattle.std.proofs.lemmas.Option.{slice_get-get_or, slice_get_within}

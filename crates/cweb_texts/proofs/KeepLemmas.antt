@@ -1,7 +1,7 @@
 -- What a call to keep a word does, by where the word is found or put.
-use Rattle.cweb_texts.proofs.Common.{◌≡◌, ℕ, true, false, ◌||◌, ◌&&◌, List, [], ◌∷◌, ◌++◌, map, length, Some, None, refl, sym, ◌∙◌, ap, arith, length-append, append-nil, slice_get, bytes_eq, Vec, if◌then◌else◌, list_any, lookup, is_eq, nat_cmp, slice_cmp, Global, or_from, Slot, total, with_word, Entries, Holds, IsFound, IsWordPlaced, IsInserted, IsTable, slot_is, slot_text, window_of, word_in, TextsAndWords, KeepsWord, has, texts_and_words}
+use Rattle.cweb_texts.proofs.Common.{◌≡◌, ℕ, true, false, ◌||◌, ◌&&◌, List, [], ◌∷◌, ◌++◌, map, length, Some, None, refl, sym, ◌∙◌, ap, arith, length-append, append-nil, slice_get, bytes_eq, Vec, if◌then◌else◌, list_any, lookup, is_eq, nat_cmp, slice_cmp, Global, or_from, Slot, total, with_word, Entries, Holds, IsFound, IsWordPlaced, IsInserted, IsTable, slot_is, slot_text, window_of, word_in, TextsAndWords, KeepsWord, has, texts_and_words, or_comm}
 use Rattle.cweb_texts.specs.Keys.{key_of}
-use Rattle.cweb_texts.proofs.ListLemmas.{or-swap, or-assoc, or-last}
+use Rattle.cweb_texts.proofs.ListLemmas.{or-assoc, or-last}
 use Rattle.cweb_texts.proofs.PackedTextLemmas.{get-last, get-text}
 use Rattle.cweb_texts.proofs.WordLemmas.{total-append, with-word-any}
 use Rattle.cweb_texts.proofs.SlotLemmas.{used-not, from-window, not-in-window, any-grow, slots-grow, put-slots, put-any, has-stands}
@@ -34,7 +34,7 @@ pub word-known : (texts : List (List ℕ)) (word : List ℕ) (ss : List Slot) (e
 word-known texts word ss es number table found =
     let f = find-word texts word es number found table.in_map in
     known (texts_and_words texts ss es) word number (has-stands texts ss es word ∙ ap
-    (λ b. list_any (slot_is texts word) ss || b) f.among ∙ or-swap (list_any (slot_is texts word) ss) true) f.stands
+    (λ b. list_any (slot_is texts word) ss || b) f.among ∙ or_comm (list_any (slot_is texts word) ss) true) f.stands
 
 -- a word that stands neither in its window nor in the map isn't kept
 pub not-kept : (texts : List (List ℕ)) (word : List ℕ) (ss : List Slot) (es : Entries) → IsTable texts ss es

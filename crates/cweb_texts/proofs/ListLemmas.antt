@@ -1,5 +1,5 @@
 -- Lists, by index, and tests of their items.
-use Rattle.cweb_texts.proofs.Common.{◌≡◌, ℕ, zero, suc, ◌+◌, ◌<◌, Bool, true, false, ◌||◌, ◌&&◌, List, [], ◌∷◌, ◌⊎◌, inl, inr, Some, refl, sym, ◌∙◌, ap, arith, take, drop, set, slice_get, list_any}
+use Rattle.cweb_texts.proofs.Common.{◌≡◌, ℕ, zero, suc, ◌+◌, ◌<◌, Bool, true, false, ◌||◌, ◌&&◌, List, [], ◌∷◌, ◌⊎◌, inl, inr, Some, refl, sym, ◌∙◌, ap, arith, take, drop, set, slice_get, list_any, or_comm}
 
 pub record Both (a b : Bool) : Type 0 where
   pub left : a ≡ true
@@ -9,18 +9,12 @@ pub and-both : (a b : Bool) → (a && b) ≡ true → Both a b
 and-both true b h = record { left = refl; right = h }
 and-both false b h = cc
 
-pub or-swap : (a b : Bool) → (a || b) ≡ (b || a)
-or-swap true true = refl
-or-swap true false = refl
-or-swap false true = refl
-or-swap false false = refl
-
 pub or-assoc : (a b c : Bool) → (a || (b || c)) ≡ ((a || b) || c)
 or-assoc true b c = refl
 or-assoc false b c = refl
 
 pub or-last : (a b c : Bool) → ((a || b) || c) ≡ ((a || c) || b)
-or-last a b c = sym (or-assoc a b c) ∙ ap (λ x. a || x) (or-swap b c) ∙ or-assoc a c b
+or-last a b c = sym (or-assoc a b c) ∙ ap (λ x. a || x) (or_comm b c) ∙ or-assoc a c b
 
 pub get-drop : {X : Type 0} (xs : List X) (n k : ℕ) → slice_get (drop n xs) k ≡ slice_get xs (n + k)
 get-drop xs zero k = ap (slice_get xs) (let e : k ≡ zero + k = omega arith in e)
@@ -53,13 +47,6 @@ pub record Passing {X : Type 0} (p : X → Bool) (xs : List X) : Type 0 where
   pub there : slice_get xs index ≡ Some item
   pub passes : p item ≡ true
 
-pub any-at : {X : Type 0} (p : X → Bool) (xs : List X) (k : ℕ) (s : X)
-    → slice_get xs k ≡ Some s → p s ≡ true → list_any p xs ≡ true
-any-at p [] k s h t = cc
-any-at p (x ∷ xs) zero s h t = let same : x ≡ s = cc in ap (λ b. b || list_any p xs) (ap p same ∙ t)
-any-at p (x ∷ xs) (suc k) s h t =
-    elim (p x) as (λ b. (b || list_any p xs) ≡ true) [ true ↦ refl | false ↦ any-at p xs k s h t ]
-
 pub any-some : {X : Type 0} (p : X → Bool) (xs : List X) → list_any p xs ≡ true → Passing p xs
 any-some p [] h = cc
 any-some p (x ∷ xs) h =
@@ -77,7 +64,7 @@ any-set p [] i s new h f = cc
 any-set p (x ∷ xs) zero s new h f =
     let same : x ≡ s = cc in
     let e : p x ≡ false = ap p same ∙ f in
-    or-swap (p new) (list_any p xs) ∙ sym (ap (λ b. (b || list_any p xs) || p new) e)
+    or_comm (p new) (list_any p xs) ∙ sym (ap (λ b. (b || list_any p xs) || p new) e)
 any-set p (x ∷ xs) (suc i) s new h f =
     ap (λ b. p x || b) (any-set p xs i s new h f) ∙ or-assoc (p x) (list_any p xs) (p new)
 

@@ -1,6 +1,6 @@
 -- Words in the sorted map behind a table.
-use Rattle.cweb_texts.proofs.Common.{◌≡◌, ℕ, Bool, true, false, cond, ◌||◌, List, [], ◌∷◌, ◌++◌, map, Some, None, refl, sym, subst, ◌∙◌, ap, slice_get, bytes_eq, Vec, list_any, lookup, insert_entry, match_ordering, is_eq, nat_cmp, slice_cmp, bytes_decides, Less, Equal, Greater, Global, is_eq-slice_cmp, order, Entries, AreMapped, IsInserted, word_in}
-use Rattle.cweb_texts.proofs.ListLemmas.{or-swap, or-assoc}
+use Rattle.cweb_texts.proofs.Common.{◌≡◌, ℕ, Bool, true, false, cond, ◌||◌, List, [], ◌∷◌, ◌++◌, map, Some, None, refl, sym, subst, ◌∙◌, ap, slice_get, bytes_eq, Vec, list_any, lookup, insert_entry, match_ordering, is_eq, nat_cmp, slice_cmp, bytes_decides, Less, Equal, Greater, Global, is_eq-slice_cmp, order, Entries, AreMapped, IsInserted, word_in, or_comm}
+use Rattle.cweb_texts.proofs.ListLemmas.{or-assoc}
 use Rattle.cweb_texts.proofs.PackedTextLemmas.{get-grow}
 
 pub mapped-grow : (texts more : List (List ℕ)) (es : Entries) → AreMapped texts es → AreMapped (texts ++ more) es
@@ -62,14 +62,14 @@ or-again false false = refl
 entry-any : (q : List ℕ) (es : Entries) (key : Vec ℕ Global) (number : ℕ)
     → list_any (bytes_eq q) (map word_in (insert_entry order es key number))
     ≡ (list_any (bytes_eq q) (map word_in es) || bytes_eq q key.items)
-entry-any q [] key number = or-swap (bytes_eq q key.items) false
+entry-any q [] key number = or_comm (bytes_eq q key.items) false
 entry-any q (e ∷ es) key number =
     let here = bytes_eq q e.0.items in
     let rest = list_any (bytes_eq q) (map word_in es) in
     (elim (order key e.0) as (λ o. order key e.0 ≡ o → list_any (bytes_eq q) (map word_in
     (match_ordering o ((key, number) ∷ e ∷ es) ((e.0, number) ∷ es) (e ∷ insert_entry order es key number)))
     ≡ ((here || rest) || bytes_eq q key.items)) [
-      | Less ↦ λ is. or-swap (bytes_eq q key.items) (here || rest)
+      | Less ↦ λ is. or_comm (bytes_eq q key.items) (here || rest)
       | Equal ↦ λ is. or-again here rest ∙ ap (λ k. (here || rest) || bytes_eq q k) (sym (equal-key key e is))
       | Greater ↦ λ is. ap (λ b. here || b) (entry-any q es key number) ∙ or-assoc here rest (bytes_eq q key.items)
     ]) refl

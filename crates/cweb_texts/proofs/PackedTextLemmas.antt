@@ -114,11 +114,6 @@ get-last [] t (suc n) h = absurd (let none : ⊥ = omega arith in none)
 get-last (x ∷ texts) t zero h = absurd (let none : ⊥ = omega arith in none)
 get-last (x ∷ texts) t (suc n) h = get-last texts t n (omega arith)
 
-pub get-within : (texts : List (List ℕ)) (n : ℕ) (t : List ℕ) → slice_get texts n ≡ Some t → n < length texts
-get-within [] n t h = cc
-get-within (x ∷ texts) zero t h = omega arith
-get-within (x ∷ texts) (suc n) t h = omega (arith, get-within texts n t h)
-
 pub get-text : (texts : List (List ℕ)) (n : ℕ) (t : List ℕ) → slice_get texts n ≡ Some t → text_at texts n ≡ t
 get-text [] n t h = cc
 get-text (x ∷ texts) zero t h = let same : x ≡ t = cc in same

@@ -1,6 +1,6 @@
 -- Texts that are one byte, which are found by it.
-use Rattle.cweb_texts.proofs.Common.{◌≡◌, ℕ, ◌+◌, ◌≤◌, ◌<◌, true, ◌||◌, List, [], ◌∷◌, Some, inl, inr, set, refl, sym, subst, ◌∙◌, ap, arith, Result, Ok, Err, IfOk, OnErr, length, slice_get, slice_index_or, bytes_eq, bytes_decides, IsSign, AreSigns, TextsAndWords, Keeps, KeepsWord, has}
-use Rattle.cweb_texts.proofs.ListLemmas.{get-set, or-swap}
+use Rattle.cweb_texts.proofs.Common.{◌≡◌, ℕ, ◌+◌, ◌≤◌, ◌<◌, true, ◌||◌, List, [], ◌∷◌, Some, inl, inr, set, refl, sym, subst, ◌∙◌, ap, arith, Result, Ok, Err, IfOk, OnErr, length, slice_get, slice_index_or, bytes_eq, bytes_decides, IsSign, AreSigns, TextsAndWords, Keeps, KeepsWord, has, or_comm}
+use Rattle.cweb_texts.proofs.ListLemmas.{get-set}
 use Rattle.cweb_texts.proofs.PackedTextLemmas.{get-grow}
 use Rattle.cweb_texts.proofs.WordLemmas.{with-word-any}
 use Rattle.cweb_texts.proofs.KeepLemmas.{known}
@@ -36,7 +36,7 @@ is-sign old new byte number keeps = record {
   stands = keeps.stands;
   among = has-more old new (byte ∷ []) (byte ∷ []) number keeps
       ∙ ap (λ b. has old (byte ∷ []) || b) ((bytes_decides (byte ∷ []) (byte ∷ [])).1 refl)
-      ∙ or-swap (has old (byte ∷ [])) true;
+      ∙ or_comm (has old (byte ∷ [])) true;
 }
 
 pub signs-set : (kept : TextsAndWords) (signs : List ℕ) (byte number : ℕ) → AreSigns kept signs

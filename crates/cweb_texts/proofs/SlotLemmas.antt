@@ -1,7 +1,7 @@
 -- Words in the slots of a table.
-use Rattle.cweb_texts.proofs.Common.{◌≡◌, ℕ, zero, suc, ◌+◌, ◌-◌, ◌<◌, Bool, true, false, cond, ◌||◌, ◌&&◌, List, [], ◌∷◌, ◌++◌, inl, inr, map, length, drop, set, replicate, Some, refl, sym, subst, ◌∙◌, ap, arith, slice_get, bytes_eq, nat_eq, list_any, length-set, list_any-append, bytes_decides, eqb-true, Key, Slot, Entries, Holds, AllHold, AreSlots, IsFound, IsPlaced, free_slot, is_used, is_alike, slot_text, slot_is, slot_words, stands_in, window_of, word_in, has, texts_and_words}
+use Rattle.cweb_texts.proofs.Common.{◌≡◌, ℕ, zero, suc, ◌+◌, ◌-◌, ◌<◌, Bool, true, false, cond, ◌||◌, ◌&&◌, List, [], ◌∷◌, ◌++◌, inl, inr, map, length, drop, set, replicate, Some, refl, sym, subst, ◌∙◌, ap, arith, slice_get, bytes_eq, nat_eq, list_any, length-set, list_any-append, bytes_decides, eqb-true, Key, Slot, Entries, Holds, AllHold, AreSlots, IsFound, IsPlaced, free_slot, is_used, is_alike, slot_text, slot_is, slot_words, stands_in, window_of, word_in, has, texts_and_words, any_passes_from_place}
 use Rattle.cweb_texts.specs.Keys.{key_of, home_of}
-use Rattle.cweb_texts.proofs.ListLemmas.{and-both, get-drop, get-take, take-get, any-at, any-some, any-set, get-set}
+use Rattle.cweb_texts.proofs.ListLemmas.{and-both, get-drop, get-take, take-get, any-some, any-set, get-set}
 use Rattle.cweb_texts.proofs.PackedTextLemmas.{get-grow, get-text}
 
 -- the text of a slot
@@ -36,7 +36,7 @@ in-window texts q ss slots h =
     let k = f.index - from in
     let back : from + k ≡ f.index = omega (arith, place.0, same) in
     let near : k < 8 = omega (arith, place.1, place.0, same) in
-    any-at (slot_is texts q) (window_of (key_of q) ss) k f.item
+    any_passes_from_place (slot_is texts q) (window_of (key_of q) ss) k f.item
     (get-take (drop from ss) 8 k near ∙ get-drop ss from k ∙ ap (slice_get ss) back ∙ f.there) f.passes
 
 pub record InTable (key : Key) (ss : List Slot) (i : ℕ) (s : Slot) : Type 0 where
@@ -55,7 +55,7 @@ pub from-window : (p : Slot → Bool) (key : Key) (ss : List Slot) → list_any 
 from-window p key ss h =
     let f = any-some p (window_of key ss) h in
     let t = window-slot key ss f.index f.item f.there in
-    any-at p ss (home_of key (length ss) + f.index) f.item t.there f.passes
+    any_passes_from_place p ss (home_of key (length ss) + f.index) f.item t.there f.passes
 
 pub not-in-window : (texts : List (List ℕ)) (q : List ℕ) (ss : List Slot) → AreSlots texts ss
     → list_any (slot_is texts q) (window_of (key_of q) ss) ≡ false → list_any (slot_is texts q) ss ≡ false
@@ -83,7 +83,7 @@ found-slot texts window q k s hold there is =
     let both = and-both (is_used s.len) (bytes_eq q (slot_text texts s)) is in
     let holds = hold k s there both.left in
     record {
-      among = any-at (slot_is texts q) window k s there is;
+      among = any_passes_from_place (slot_is texts q) window k s there is;
       stands = holds.there ∙ ap Some (sym (slot-same texts q s is ∙ hold-text texts s holds));
     }
 

@@ -1,6 +1,5 @@
 -- Words and punctuators that are kept once, and how many bytes texts have.
-use Rattle.cweb_texts.proofs.Common.{◌≡◌, ℕ, ◌+◌, ◌≤◌, true, false, cond, ◌||◌, List, [], ◌∷◌, ◌++◌, length, refl, sym, ◌∙◌, ap, arith, bytes_eq, filter, fold, if◌then◌else◌, list_any, bytes_decides, fold-append, list_any-append, total, with_word}
-use Rattle.cweb_texts.proofs.ListLemmas.{or-swap}
+use Rattle.cweb_texts.proofs.Common.{◌≡◌, ℕ, ◌+◌, ◌≤◌, true, false, cond, ◌||◌, List, [], ◌∷◌, ◌++◌, length, refl, sym, ◌∙◌, ap, arith, bytes_eq, filter, fold, if◌then◌else◌, list_any, bytes_decides, fold-append, list_any-append, total, with_word, or_comm}
 
 pub total-append : {A : Type 0} (f : A → ℕ) (xs ys : List A) → total f (xs ++ ys) ≡ total f xs + total f ys
 total-append f [] ys = omega arith
@@ -15,9 +14,9 @@ with-word-any q ws w = (elim (list_any (bytes_eq w) ws) as (λ b. list_any (byte
           list_any (bytes_eq q) ws ≡ (list_any (bytes_eq q) ws || b)) [
             | true ↦ λ e.
                 ap (λ v. list_any (bytes_eq v) ws) ((bytes_decides q w).0 e) ∙ h
-                ∙ sym (or-swap (list_any (bytes_eq q) ws) true)
-            | false ↦ λ e. sym (or-swap (list_any (bytes_eq q) ws) false)
+                ∙ sym (or_comm (list_any (bytes_eq q) ws) true)
+            | false ↦ λ e. sym (or_comm (list_any (bytes_eq q) ws) false)
           ]) refl
       | false ↦ λ h. list_any-append (bytes_eq q) ws (w ∷ [])
-          ∙ ap (λ b. list_any (bytes_eq q) ws || b) (or-swap (bytes_eq q w) false)
+          ∙ ap (λ b. list_any (bytes_eq q) ws || b) (or_comm (bytes_eq q w) false)
     ]) refl

@@ -3,13 +3,16 @@ pub use Rattle.std.proofs.Common.{◌≡◌, inl, inr, List, [], ◌∷◌, ◌+
 pub use Rattle.std.proofs.Common.{refl, add-zero, false, Bool, subst, arith, ◌≤◌, ◌⊎◌, ◌<◌, zero, suc, true, cond}
 pub use Rattle.std.proofs.Common.{length, map, length-append, not, ◌≢◌, take, drop, get_or, drop-cons, ◌&&◌, ◌||◌}
 pub use Rattle.std.proofs.Common.{rules}
+pub use Rattle.std.proofs.Math.Bool.{and-false, and-true, or-false, or-true}
 pub use Rattle.std.proofs.Math.ListN.{get_or-append}
+pub use Rattle.std.proofs.lemmas.Bool.{and_parts, or_parts, and_from, not-true}
 pub use Rattle.std.proofs.lemmas.Bool.Decides.{nat_tests}
 pub use Rattle.std.proofs.lemmas.Grind.{flat_map-append, common_steps}
 pub use Rattle.std.proofs.lemmas.List.{length-map, take-append-drop, take_more, take_all, map-append}
 pub use Rattle.std.proofs.lemmas.List.Elements.{All-nil, All-cons, All-head, All-tail, All-append}
 pub use Rattle.std.proofs.lemmas.List.Folds.{list_all-append}
 pub use Rattle.std.proofs.lemmas.List.Sums.{sum_by-append, sum_by-cons}
+pub use Rattle.std.proofs.lemmas.Option.{same_Some}
 pub use Rattle.std.specs.Borrow.{Bor}
 pub use Rattle.std.specs.List.{flat_map, list_all, list_any}
 pub use Rattle.std.specs.Option.{option_copied}

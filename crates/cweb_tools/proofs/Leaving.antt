@@ -92,28 +92,12 @@ line_draft text old new (inr fails) = ap (λ (d : Held). d.draft) fails.is
 pub stop_files : (stop : Stop) (about : List ℕ) (old new : Held)
     → LogsStop (ending stop about) old new → new.files ≡ old.files
 stop_files LogFault about old new logs = ap (λ (d : Held). d.files) logs
-stop_files Usage about old new logs = line_files _ old new logs
-stop_files WebNotOpened about old new logs = line_files _ old new logs
-stop_files ChangeNotOpened about old new logs = line_files _ old new logs
-stop_files (ReadFault file) about old new logs = line_files _ old new logs
-stop_files (LineTooLong file) about old new logs = line_files _ old new logs
-stop_files TooMuchText about old new logs = line_files _ old new logs
-stop_files Memory about old new logs = line_files _ old new logs
-stop_files OutNotOpened about old new logs = line_files _ old new logs
-stop_files WriteFault about old new logs = line_files _ old new logs
+stop_files _ about old new logs = line_files _ old new logs
 
 stop_draft : (stop : Stop) (about : List ℕ) (old new : Held)
     → LogsStop (ending stop about) old new → new.draft ≡ old.draft
 stop_draft LogFault about old new logs = ap (λ (d : Held). d.draft) logs
-stop_draft Usage about old new logs = line_draft _ old new logs
-stop_draft WebNotOpened about old new logs = line_draft _ old new logs
-stop_draft ChangeNotOpened about old new logs = line_draft _ old new logs
-stop_draft (ReadFault file) about old new logs = line_draft _ old new logs
-stop_draft (LineTooLong file) about old new logs = line_draft _ old new logs
-stop_draft TooMuchText about old new logs = line_draft _ old new logs
-stop_draft Memory about old new logs = line_draft _ old new logs
-stop_draft OutNotOpened about old new logs = line_draft _ old new logs
-stop_draft WriteFault about old new logs = line_draft _ old new logs
+stop_draft _ about old new logs = line_draft _ old new logs
 
 pub ends_files : (acts : List Act) (due : ℕ) (old new : Held) (status : ℕ)
     → TangleEnds acts due old new status → LeavesFiles (files_in acts) old.files new.files

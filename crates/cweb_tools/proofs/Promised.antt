@@ -28,20 +28,8 @@ log_once : (stop : Stop) (about : List ℕ) (old : ℕ) (then after : SeenRun)
     → then.log.failed ≡ old + log_blame stop → ClosesLog (ending stop about) then after → RisesOnce old after.log.failed
 log_once LogFault about old then after failed logs = inr (ap (λ (l : SeenStream). l.failed) logs.log ∙ failed)
 log_once Usage about old then after failed logs = line_once old then.log.failed after.log.failed failed logs.log.once
-log_once WebNotOpened about old then after failed logs =
-    line_once old then.log.failed after.log.failed failed logs.log.once
-log_once ChangeNotOpened about old then after failed logs =
-    line_once old then.log.failed after.log.failed failed logs.log.once
-log_once (ReadFault file) about old then after failed logs =
-    line_once old then.log.failed after.log.failed failed logs.log.once
-log_once (LineTooLong file) about old then after failed logs =
-    line_once old then.log.failed after.log.failed failed logs.log.once
-log_once TooMuchText about old then after failed logs =
-    line_once old then.log.failed after.log.failed failed logs.log.once
 log_once Memory about old then after failed logs = line_once old then.log.failed after.log.failed failed logs.log.once
-log_once OutNotOpened about old then after failed logs =
-    line_once old then.log.failed after.log.failed failed logs.log.once
-log_once WriteFault about old then after failed logs =
+log_once _ about old then after failed logs =
     line_once old then.log.failed after.log.failed failed logs.log.once
 
 fail_once : (acts : List Act) (due : ℕ) (before after : SeenRun) (status : ℕ)

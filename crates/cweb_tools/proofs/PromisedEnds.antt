@@ -97,15 +97,7 @@ tangle_ends acts due before after status (halted (ending stop about) then does l
 ending_tells : (stop : Stop) (about : List ℕ) (old new : SeenStream)
     → LogsEnding (ending stop about) old new → new.tells ≡ old.tells
 ending_tells LogFault about old new logs = ap (λ (l : SeenStream). l.tells) logs
-ending_tells Usage about old new logs = logs.tells
-ending_tells WebNotOpened about old new logs = logs.tells
-ending_tells ChangeNotOpened about old new logs = logs.tells
-ending_tells (ReadFault file) about old new logs = logs.tells
-ending_tells (LineTooLong file) about old new logs = logs.tells
-ending_tells TooMuchText about old new logs = logs.tells
-ending_tells Memory about old new logs = logs.tells
-ending_tells OutNotOpened about old new logs = logs.tells
-ending_tells WriteFault about old new logs = logs.tells
+ending_tells _ about old new logs = logs.tells
 
 pub log_tells : (acts : List Act) (due : ℕ) (before after : SeenRun) (status : ℕ)
     → Closes acts due before after status → after.log.tells ≡ before.log.tells

@@ -116,15 +116,7 @@ prints world (Some names) before after status (stops stop) tells told =
 
 one_blame : (stop : Stop) → read_blame stop + write_blame stop ≤ 1
 one_blame Usage = omega arith
-one_blame WebNotOpened = omega arith
-one_blame ChangeNotOpened = omega arith
-one_blame (ReadFault file) = omega arith
-one_blame (LineTooLong file) = omega arith
-one_blame TooMuchText = omega arith
-one_blame Memory = omega arith
-one_blame OutNotOpened = omega arith
-one_blame WriteFault = omega arith
-one_blame LogFault = omega arith
+one_blame _ = omega arith
 
 once_logged : (text : List ℕ) (before after : SeenStream) → Logs text before after → after.failed ≤ before.failed + 1
 once_logged text before after logs = elim logs.once [ inl same ↦ omega (arith, same) | inr more ↦ omega (arith, more) ]

@@ -171,15 +171,7 @@ line_shelf text old new (inr fails) = ap (λ (d : Held). d.shelf_failed) fails.i
 stop_shelf : (stop : Stop) (about : List ℕ) (old new : Held)
     → LogsStop (ending stop about) old new → new.shelf_failed ≡ old.shelf_failed
 stop_shelf LogFault about old new logs = ap (λ (d : Held). d.shelf_failed) logs
-stop_shelf Usage about old new logs = line_shelf _ old new logs
-stop_shelf WebNotOpened about old new logs = line_shelf _ old new logs
-stop_shelf ChangeNotOpened about old new logs = line_shelf _ old new logs
-stop_shelf (ReadFault file) about old new logs = line_shelf _ old new logs
-stop_shelf (LineTooLong file) about old new logs = line_shelf _ old new logs
-stop_shelf TooMuchText about old new logs = line_shelf _ old new logs
-stop_shelf Memory about old new logs = line_shelf _ old new logs
-stop_shelf OutNotOpened about old new logs = line_shelf _ old new logs
-stop_shelf WriteFault about old new logs = line_shelf _ old new logs
+stop_shelf _ about old new logs = line_shelf _ old new logs
 
 pub ends_read : (shown : Shown) (course : TangleCourse) (due : ℕ) (old new : Held) (status : ℕ)
     → TangleEnds (script shown course) due old new status

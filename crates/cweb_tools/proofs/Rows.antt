@@ -3,119 +3,17 @@ use Rattle.cweb_tools.proofs.Common.{◌≡◌, ℕ, List, [], ◌∷◌, Option
 use Rattle.std.specs.Fmt.{digits}
 use Rattle.cweb_tools.specs.Course.{unread, change_not_there}
 
--- a word without a dot in its last path part is given `.w`, and `.web` as a second try
-web_without_extension : asked_by (codes "lib.d/hello" ∷ [])
-    ≡ Some (record { web = codes "lib.d/hello.w"; second = Some (codes "lib.d/hello.web"); change = None })
-web_without_extension = refl
-
-web_with_extension : asked_by (codes "lib/a.tex" ∷ [])
-    ≡ Some (record { web = codes "lib/a.tex"; second = None; change = None })
-web_with_extension = refl
-
--- a lone `+` is an ordinary word
-lone_plus : asked_by (codes "+" ∷ [])
-    ≡ Some (record { web = codes "+.w"; second = Some (codes "+.web"); change = None })
-lone_plus = refl
-
-no_words : asked_by [] ≡ None
-no_words = refl
-
-empty_word : asked_by ([] ∷ []) ≡ None
-empty_word = refl
-
-lone_dash : asked_by (codes "-" ∷ []) ≡ None
-lone_dash = refl
-
-option_word : asked_by (codes "+x" ∷ []) ≡ None
-option_word = refl
-
-control_byte : asked_by ((97 ∷ 127 ∷ []) ∷ []) ≡ None
-control_byte = refl
-
--- a change file is given `.ch`, and there is no second try
-change_without_extension : asked_by (codes "m.w" ∷ codes "d.d/c" ∷ [])
-    ≡ Some (record { web = codes "m.w"; second = None; change = Some (codes "d.d/c.ch") })
-change_without_extension = refl
-
-change_with_extension : asked_by (codes "m" ∷ codes "d/c.x" ∷ [])
-    ≡ Some (record { web = codes "m.w"; second = Some (codes "m.web"); change = Some (codes "d/c.x") })
-change_with_extension = refl
-
-change_of_plus : asked_by (codes "m.w" ∷ codes "+" ∷ [])
-    ≡ Some (record { web = codes "m.w"; second = None; change = Some (codes "+.ch") })
-change_of_plus = refl
-
 -- a lone `-` as second word means no change file
 dash_second : (web : List ℕ) → asked_by (web ∷ codes "-" ∷ []) ≡ asked_by (web ∷ [])
 dash_second web = refl
-
-dash_first : asked_by (codes "-" ∷ codes "c" ∷ []) ≡ None
-dash_first = refl
-
-option_second : asked_by (codes "m" ∷ codes "-b" ∷ []) ≡ None
-option_second = refl
-
-empty_second : asked_by (codes "m" ∷ [] ∷ []) ≡ None
-empty_second = refl
-
-control_byte_second : asked_by (codes "m" ∷ (99 ∷ 31 ∷ []) ∷ []) ≡ None
-control_byte_second = refl
-
-three_words : asked_by (codes "m" ∷ codes "c" ∷ codes "x" ∷ []) ≡ None
-three_words = refl
 
 -- lines of the log
 abbrev place : ℕ → ℕ → Place
 place file line = record { file = record { 0 = file }; line = line }
 
-include_not_there : fault_line (codes "a.w" ∷ []) (record { kind = NotThere; place = place 0 2; count = 0 })
-    ≡ codes "a.w:2: ! Cannot open include file\n"
-unfolding digits
-include_not_there = refl
-
-unequal_lines : fault_line (codes "m.w" ∷ codes "c.ch" ∷ []) (record { kind = Unequal; place = place 1 1; count = 12 })
-    ≡ codes "c.ch:1: ! Lines that failed to match: 12\n"
-unfolding digits
-unequal_lines = refl
-
-two_faults : fault_lines (codes "m.w" ∷ codes "c.ch" ∷ []) (record
-    { kind = Unequal; place = place 1 10; count = 1 } ∷ record { kind = NotThere; place = place 0 3; count = 0 } ∷ [])
-    ≡ codes "c.ch:10: ! Lines that failed to match: 1\nm.w:3: ! Cannot open include file\n"
-unfolding digits
-two_faults = refl
-
-usage_line : stop_line Usage usage ≡ codes "! Usage: wmerge webfile[.w] [{changefile[.ch]|-}]\n"
-usage_line = refl
-
-web_line : stop_line WebNotOpened (codes "gone.w") ≡ codes "! Cannot open web file gone.w\n"
-web_line = refl
-
-change_line : stop_line ChangeNotOpened (codes "gone.ch") ≡ codes "! Cannot open change file gone.ch\n"
-change_line = refl
-
-memory_line : stop_line Memory (codes "gone.ch") ≡ codes "! Out of memory\n"
-memory_line = refl
-
-long_line : stop_line (LineTooLong (record { 0 = 1 }))
-    (subject (codes "m.w" ∷ codes "c.ch" ∷ []) (LineTooLong (record { 0 = 1 }))) ≡ codes "! Line too long in c.ch\n"
-long_line = refl
-
-write_line : stop_line WriteFault (subject [] WriteFault) ≡ codes "! Write fault on standard output\n"
-write_line = refl
-
 -- a folder that holds one web alone
 abbrev one_web : List ℕ → Option (List ℕ)
 one_web name = cond (bytes_eq name (codes "m.web")) (Some (codes "A\n")) None
-
-change_missing : course_of one_web (codes "m" ∷ codes "gone" ∷ []) None ≡ change_not_there (codes "gone.ch")
-change_missing = refl
-
--- where both are missing the line is about the web, by the name that was tried first
-both_missing : merge_log (course_of one_web (codes "n" ∷ codes "gone" ∷ []) None) ≡ codes "! Cannot open web file n.w\n"
-both_missing = refl
-
-misread : course_of one_web (codes "-" ∷ codes "m" ∷ []) None ≡ unread
-misread = refl
 
 -- a folder with a web and a change file, of whose entries the first replaces a line and the second matches none
 abbrev web_and_change : List ℕ → Option (List ℕ)
@@ -139,17 +37,58 @@ changed_run : course_of web_and_change (codes "m" ∷ codes "c" ∷ []) None ≡
 changed_run = ap (λ (events : List Event). merging (codes "m.w" ∷ codes "c.ch" ∷ []) events)
     (merge-run 20 there begun (events_of (run 20 there begun)) refl)
 
-changed_text : merged changed_course ≡ codes "N\nB\n"
-changed_text = refl
+record Computed : Type 0 where
+  -- a word without a dot in its last path part is given `.w`, and `.web` as a second try
+  web_without_extension : asked_by (codes "lib.d/hello" ∷ [])
+      ≡ Some (record { web = codes "lib.d/hello.w"; second = Some (codes "lib.d/hello.web"); change = None })
+  web_with_extension : asked_by (codes "lib/a.tex" ∷ [])
+      ≡ Some (record { web = codes "lib/a.tex"; second = None; change = None })
+  -- a lone `+` is an ordinary word
+  lone_plus : asked_by (codes "+" ∷ [])
+      ≡ Some (record { web = codes "+.w"; second = Some (codes "+.web"); change = None })
+  no_words : asked_by [] ≡ None
+  empty_word : asked_by ([] ∷ []) ≡ None
+  lone_dash : asked_by (codes "-" ∷ []) ≡ None
+  option_word : asked_by (codes "+x" ∷ []) ≡ None
+  control_byte : asked_by ((97 ∷ 127 ∷ []) ∷ []) ≡ None
+  -- a change file is given `.ch`, and there is no second try
+  change_without_extension : asked_by (codes "m.w" ∷ codes "d.d/c" ∷ [])
+      ≡ Some (record { web = codes "m.w"; second = None; change = Some (codes "d.d/c.ch") })
+  change_with_extension : asked_by (codes "m" ∷ codes "d/c.x" ∷ [])
+      ≡ Some (record { web = codes "m.w"; second = Some (codes "m.web"); change = Some (codes "d/c.x") })
+  change_of_plus : asked_by (codes "m.w" ∷ codes "+" ∷ [])
+      ≡ Some (record { web = codes "m.w"; second = None; change = Some (codes "+.ch") })
+  dash_first : asked_by (codes "-" ∷ codes "c" ∷ []) ≡ None
+  option_second : asked_by (codes "m" ∷ codes "-b" ∷ []) ≡ None
+  empty_second : asked_by (codes "m" ∷ [] ∷ []) ≡ None
+  control_byte_second : asked_by (codes "m" ∷ (99 ∷ 31 ∷ []) ∷ []) ≡ None
+  three_words : asked_by (codes "m" ∷ codes "c" ∷ codes "x" ∷ []) ≡ None
+  include_not_there : fault_line (codes "a.w" ∷ []) (record { kind = NotThere; place = place 0 2; count = 0 })
+      ≡ codes "a.w:2: ! Cannot open include file\n"
+  unequal_lines : fault_line (codes "m.w" ∷ codes "c.ch" ∷ [])
+      (record { kind = Unequal; place = place 1 1; count = 12 }) ≡ codes "c.ch:1: ! Lines that failed to match: 12\n"
+  two_faults : fault_lines (codes "m.w" ∷ codes "c.ch" ∷ []) (record
+      { kind = Unequal; place = place 1 10; count = 1 } ∷ record { kind = NotThere; place = place 0 3; count = 0 } ∷ [])
+      ≡ codes "c.ch:10: ! Lines that failed to match: 1\nm.w:3: ! Cannot open include file\n"
+  usage_line : stop_line Usage usage ≡ codes "! Usage: wmerge webfile[.w] [{changefile[.ch]|-}]\n"
+  web_line : stop_line WebNotOpened (codes "gone.w") ≡ codes "! Cannot open web file gone.w\n"
+  change_line : stop_line ChangeNotOpened (codes "gone.ch") ≡ codes "! Cannot open change file gone.ch\n"
+  memory_line : stop_line Memory (codes "gone.ch") ≡ codes "! Out of memory\n"
+  long_line : stop_line (LineTooLong (record { 0 = 1 }))
+      (subject (codes "m.w" ∷ codes "c.ch" ∷ []) (LineTooLong (record { 0 = 1 }))) ≡ codes "! Line too long in c.ch\n"
+  write_line : stop_line WriteFault (subject [] WriteFault) ≡ codes "! Write fault on standard output\n"
+  change_missing : course_of one_web (codes "m" ∷ codes "gone" ∷ []) None ≡ change_not_there (codes "gone.ch")
+  -- where both are missing the line is about the web, by the name that was tried first
+  both_missing : merge_log (course_of one_web (codes "n" ∷ codes "gone" ∷ []) None)
+      ≡ codes "! Cannot open web file n.w\n"
+  misread : course_of one_web (codes "-" ∷ codes "m" ∷ []) None ≡ unread
+  changed_text : merged changed_course ≡ codes "N\nB\n"
+  changed_log : merge_log changed_course ≡ codes "c.ch:6: ! Change entry did not match\n"
+  changed_status : merge_status changed_course ≡ 1
+  -- with a lone `-` the change file is left alone
+  unchanged_run : course_of web_and_change (codes "m" ∷ codes "-" ∷ []) None
+      ≡ course_of web_and_change (codes "m" ∷ []) None
 
-changed_log : merge_log changed_course ≡ codes "c.ch:6: ! Change entry did not match\n"
+computed : Computed
 unfolding digits
-changed_log = refl
-
-changed_status : merge_status changed_course ≡ 1
-changed_status = refl
-
--- with a lone `-` the change file is left alone
-unchanged_run : course_of web_and_change (codes "m" ∷ codes "-" ∷ []) None
-    ≡ course_of web_and_change (codes "m" ∷ []) None
-unchanged_run = refl
+computed = search refl

@@ -1,11 +1,11 @@
 -- The spacing law, by induction on the list.
-use Rattle.cweb_tools.proofs.Common.{◌≡◌, ℕ, Bool, true, false, cond, ◌==◌, not, List, [], ◌∷◌, ◌++◌, Option, Some, None, All, refl, ap, sym, ◌∙◌, subst, append_assoc, codes, if◌then◌else◌, nat_le, decimal, list_all, flat_map-append, All-head, All-tail, list_all-append, Token, Word, Number, Literal, Verbatim, Punct, Blank, Newline, Join, Defs, Name, Head, Tail, Mark, first_is, is_quiet, Reading, InPlainC, HasRead, IsRead, ReadsAlone, solid, is_between, doubled, at_doubled, is_hash, bytes_of, goes_on, Setting, print_after, file_text, word_text, kept, sep, are_apart, IsPlain, Spacing, is_ascii}
-use Rattle.cweb_rules.proofs.Joins.{both, unlike}
+use Rattle.cweb_tools.proofs.Common.{◌≡◌, ℕ, Bool, true, false, cond, ◌==◌, not, List, [], ◌∷◌, ◌++◌, Option, Some, None, All, refl, ap, sym, ◌∙◌, subst, append_assoc, codes, if◌then◌else◌, nat_le, decimal, list_all, flat_map-append, All-head, All-tail, list_all-append, Token, Word, Number, Literal, Verbatim, Punct, Blank, Newline, Join, Defs, Name, Head, Tail, Mark, first_is, is_quiet, Reading, InPlainC, HasRead, IsRead, ReadsAlone, solid, is_between, doubled, at_doubled, is_hash, bytes_of, goes_on, Setting, print_after, file_text, word_text, kept, sep, are_apart, IsPlain, Spacing, is_ascii, and_parts, and_from, not-true}
+use Rattle.cweb_rules.proofs.Joins.{unlike}
 use Rattle.cweb_scanner.specs.Run.{run}
 use Rattle.cweb_scan.proofs.Gaps.{one_more}
 use Rattle.cweb_scan.proofs.PlainStates.{nothing, and_then, no_directive}
-use Rattle.cweb_scan.proofs.PlainTokens.{newline_read, comment_read, comment_of, token_read, quiet_decimal, all_if}
-use Rattle.cweb_tools.proofs.SpacingStarts.{First, first_of, is_false, joins, operators_join}
+use Rattle.cweb_scan.proofs.PlainTokens.{newline_read, comment_read, comment_of, token_read, quiet_decimal}
+use Rattle.cweb_tools.proofs.SpacingStarts.{First, first_of, joins, operators_join}
 use Rattle.cweb_tools.proofs.SpacingSeam.{seam, blank_after}
 
 -- THE TEXT OF A TOKEN
@@ -13,15 +13,15 @@ use Rattle.cweb_tools.proofs.SpacingSeam.{seam, blank_after}
 ascii_text : (s : Setting) (b : List ℕ) → is_ascii b ≡ true → word_text s.replaced b ≡ b
 ascii_text s [] h = refl
 ascii_text s (c ∷ b) h =
-    let e = both (not (nat_le 128 c)) (is_ascii b) h in
-    ap (λ v. (if v then s.replaced c else c ∷ []) ++ word_text s.replaced b) (is_false (nat_le 128 c) e.0)
+    let e = and_parts (not (nat_le 128 c)) (is_ascii b) h in
+    ap (λ v. (if v then s.replaced c else c ∷ []) ++ word_text s.replaced b) (not-true (nat_le 128 c) e.0)
     ∙ ap (λ t. c ∷ t) (ascii_text s b e.1)
 
 quiet_doubled : (x : List ℕ) → list_all is_quiet x ≡ true → doubled x ≡ x
 quiet_doubled [] h = refl
 quiet_doubled (b ∷ x) h =
-    let q = both (is_quiet b) (list_all is_quiet x) h in
-    let at = is_false (64 == b) (both (not (42 == b)) (not (64 == b)) q.0).1 in
+    let q = and_parts (is_quiet b) (list_all is_quiet x) h in
+    let at = not-true (64 == b) (and_parts (not (42 == b)) (not (64 == b)) q.0).1 in
     ap (λ v. (if v then codes "@@" else b ∷ []) ++ doubled x) (unlike (λ c. 64 == c) b 64 true refl at)
     ∙ ap (λ t. b ∷ t) (quiet_doubled x q.1)
 
@@ -38,8 +38,8 @@ tail_text n =
     (flat_map-append at_doubled d (42 ∷ 47 ∷ []) ∙ ap (λ t. t ++ 42 ∷ 47 ∷ []) (quiet_doubled d (quiet_decimal n)))
 
 quiet_head : (n : ℕ) → list_all is_quiet (decimal n ++ 58 ∷ []) ≡ true
-quiet_head n =
-    list_all-append is_quiet (decimal n) (58 ∷ []) ∙ all_if (list_all is_quiet (decimal n)) true (quiet_decimal n) refl
+quiet_head n = list_all-append is_quiet (decimal n) (58 ∷ [])
+    ∙ and_from (list_all is_quiet (decimal n)) true (quiet_decimal n) refl
 
 -- the first byte of a token's text
 text_first : (s : Setting) (left : Option Token) (u : Token) → IsPlain u → First u (doubled (file_text s left u))
@@ -54,11 +54,7 @@ text_first s left (Word b) h =
 text_first s left (Number b) h = first_of (Number b) h
 text_first s left (Literal b) h = first_of (Literal b) h
 text_first s left (Punct b) h = first_of (Punct b) h.2
-text_first s left (Verbatim b) h = absurd h
-text_first s left Join h = absurd h
-text_first s left Defs h = absurd h
-text_first s left (Name n) h = absurd h
-text_first s left (Mark p) h = absurd h
+text_first s left _ h = absurd h
 
 -- ONE TOKEN
 
@@ -84,11 +80,7 @@ step s left r (Word b) rest h plain goes = subst (λ t. IsRead r (doubled t) res
 step s left r (Number b) rest h plain goes = solid_read r (Number b) rest h refl plain goes
 step s left r (Literal b) rest h plain goes = solid_read r (Literal b) rest h refl plain goes
 step s left r (Punct b) rest h plain goes = solid_read r (Punct b) rest h.2 h.0 plain goes
-step s left r (Verbatim b) rest h plain goes = absurd h
-step s left r Join rest h plain goes = absurd h
-step s left r Defs rest h plain goes = absurd h
-step s left r (Name n) rest h plain goes = absurd h
-step s left r (Mark p) rest h plain goes = absurd h
+step s left r _ rest h plain goes = absurd h
 
 -- THE LIST
 

@@ -26,26 +26,9 @@ abbrev row : List Token
 row = Number (codes "0xe") ∷ Punct (codes "+") ∷ Number (codes "1") ∷ Punct (codes ".") ∷ Number (codes ".5") ∷ Literal
     (codes "\"a\"") ∷ Literal (codes "R\"(b)\"") ∷ Word (codes "R") ∷ Literal (codes "\"(c)\"") ∷ []
 
-row_printed : print settled row ≡ codes "0xe +1 . .5 \"a\"R\"(b)\" R \"(c)\""
-row_printed = refl
-
-row_read : reread row ≡ row
-row_read = refl
-
-comment_printed : print settled (Punct (codes "/") ∷ Head 1 ∷ Punct (codes "*") ∷ []) ≡ codes "/ /*1:*/*"
-unfolding digits
-comment_printed = refl
-
-comment_read : reread (Punct (codes "/") ∷ Head 1 ∷ Punct (codes "*") ∷ []) ≡ Punct (codes "/") ∷ Punct (codes "*") ∷ []
-unfolding digits
-comment_read = refl
-
 abbrev signs : List Token
 signs = Punct (codes "@") ∷ Word
     (codes "d") ∷ Punct (codes "-") ∷ Punct (codes "->") ∷ Punct (codes ".") ∷ Punct (codes "...") ∷ []
-
-signs_read : reread signs ≡ signs
-signs_read = refl
 
 -- tokens that read alone
 number : ReadsAlone (Number (codes "0xe+"))
@@ -76,3 +59,15 @@ raw =
       whole = refl;
       token = refl;
     }
+
+record Computed : Type 0 where
+  row_printed : print settled row ≡ codes "0xe +1 . .5 \"a\"R\"(b)\" R \"(c)\""
+  row_read : reread row ≡ row
+  comment_printed : print settled (Punct (codes "/") ∷ Head 1 ∷ Punct (codes "*") ∷ []) ≡ codes "/ /*1:*/*"
+  comment_read : reread (Punct (codes "/") ∷ Head 1 ∷ Punct (codes "*") ∷ [])
+      ≡ Punct (codes "/") ∷ Punct (codes "*") ∷ []
+  signs_read : reread signs ≡ signs
+
+computed : Computed
+unfolding digits
+computed = search refl

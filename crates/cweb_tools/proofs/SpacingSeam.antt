@@ -1,7 +1,6 @@
 -- The first byte of what is printed can't go on with the token before.
-use Rattle.cweb_tools.proofs.Common.{◌≡◌, ℕ, Bool, true, false, ◌&&◌, ◌||◌, ◌==◌, not, List, [], ◌∷◌, refl, ap, sym, ◌∙◌, codes, nat_le, Token, Word, Number, Literal, Verbatim, Punct, Blank, Newline, Join, Defs, Name, Head, Tail, Mark, is_one_of, is_digit, is_letter, is_word_byte, first_is, after_word, after_number, joins_last, goes_on, is_operator, last_is, are_apart}
-use Rattle.cweb_rules.proofs.Joins.{and_false, neither}
-use Rattle.cweb_rules.proofs.Stays.{begins_number, and_true}
+use Rattle.cweb_tools.proofs.Common.{◌≡◌, ℕ, Bool, true, false, ◌&&◌, ◌||◌, ◌==◌, not, List, [], ◌∷◌, refl, ap, sym, ◌∙◌, codes, nat_le, Token, Word, Number, Literal, Verbatim, Punct, Blank, Newline, Join, Defs, Name, Head, Tail, Mark, is_one_of, is_digit, is_letter, is_word_byte, first_is, after_word, after_number, joins_last, goes_on, is_operator, last_is, are_apart, and-false, or_parts, and-true, or-false}
+use Rattle.cweb_rules.proofs.Stays.{begins_number}
 use Rattle.cweb_print.specs.Spacing as print
 use Rattle.cweb_tools.proofs.SpacingStarts.{joins, Starts, none_of}
 
@@ -11,17 +10,17 @@ not_both : (b : List ℕ) (c : ℕ) → is_digit c ≡ false
     → (last_is is_operator b && is_operator c) ≡ false → joins_last joins b c ≡ false
 not_both [] c d h = refl
 not_both (x ∷ []) c d h =
-    (λ i. ((x == 46) && d i) || (h i && (not (c == 46) || (x == 46)))) ∙ ap (λ v. v || false) (and_false (x == 46))
+    (λ i. ((x == 46) && d i) || (h i && (not (c == 46) || (x == 46)))) ∙ ap (λ v. v || false) (and-false (x == 46))
 not_both (x ∷ y ∷ b) c d h = not_both (y ∷ b) c d h
 
 never : (b : List ℕ) (c : ℕ) → is_digit c ≡ false → is_operator c ≡ false → joins_last joins b c ≡ false
-never b c d h = not_both b c d (ap (λ v. last_is is_operator b && v) h ∙ and_false (last_is is_operator b))
+never b c d h = not_both b c d (ap (λ v. last_is is_operator b && v) h ∙ and-false (last_is is_operator b))
 
 number_byte : (digit dot op : Bool) → (digit || dot) ≡ true
     → (digit ≡ true → op ≡ false) → (x : Bool) → (x && op && (not dot || false)) ≡ false
 number_byte true dot op h f x =
-    ap (λ v. x && v && (not dot || false)) (f refl) ∙ ap (λ v. v && (not dot || false)) (and_false x)
-number_byte false true op h f x = and_false (x && op)
+    ap (λ v. x && v && (not dot || false)) (f refl) ∙ ap (λ v. v && (not dot || false)) (and-false x)
+number_byte false true op h f x = and-false (x && op)
 number_byte false false op h f x = cc
 
 before_number : (b : List ℕ) (c : ℕ) → begins_number c ≡ true
@@ -37,13 +36,9 @@ word_not_operator c h = none_of is_word_byte (codes "+-*/%&|^!=<>.:#?") c refl h
 
 no_digit_after : (c : ℕ) → is_word_byte c ≡ false → is_digit c ≡ false
 no_digit_after c h =
-    let e = neither (is_letter c || is_digit c || is_one_of (codes "_$") c) (nat_le 128 c) h in
-    let f = neither (is_letter c || is_digit c) (is_one_of (codes "_$") c) e.0 in
-    (neither (is_letter c) (is_digit c) f.0).1
-
-or_false : (a : Bool) → (a || false) ≡ a
-or_false true = refl
-or_false false = refl
+    let e = or_parts (is_letter c || is_digit c || is_one_of (codes "_$") c) (nat_le 128 c) h in
+    let f = or_parts (is_letter c || is_digit c) (is_one_of (codes "_$") c) e.0 in
+    (or_parts (is_letter c) (is_digit c) f.0).1
 
 before_comment : (b : List ℕ) (c : ℕ)
     → (false || false || (last_is (λ x. x == 46) b && false) || (last_is is_operator b && (false || true)) || false)
@@ -51,8 +46,8 @@ before_comment : (b : List ℕ) (c : ℕ)
 before_comment b c apart h =
     let last = last_is (λ x. x == 46) b in
     let op = last_is is_operator b in
-    let e = neither ((last && false) || (op && (false || true))) false apart in
-    let f = neither (last && false) (op && (false || true)) e.0 in
+    let e = or_parts ((last && false) || (op && (false || true))) false apart in
+    let f = or_parts (last && false) (op && (false || true)) e.0 in
     ap (joins_last joins b) h ∙ not_both b 47 refl f.1
 
 -- where the rules put no blank, the byte that follows doesn't go on with the token
@@ -61,45 +56,35 @@ seam (Word b) (Word d) c apart h = cc
 seam (Word b) (Number d) c apart h = cc
 seam (Word b) (Literal d) c apart h = cc
 seam (Word b) (Punct d) c apart h = h.0
-seam (Word b) Blank c apart h = ap after_word h
-seam (Word b) Newline c apart h = ap after_word h
-seam (Word b) (Head n) c apart h = ap after_word h
-seam (Word b) (Tail n) c apart h = ap after_word h
 seam (Number b) (Word d) c apart h = cc
 seam (Number b) (Number d) c apart h = cc
 seam (Number b) (Literal d) c apart h = cc
 seam (Number b) (Punct d) c apart h =
-    let e = neither (print.first_is (print.is_one_of (codes ".+-")) d || false || false) false apart in
-    let f = neither (print.first_is (print.is_one_of (codes ".+-")) d || false) false e.0 in
-    let g = neither (print.first_is (print.is_one_of (codes ".+-")) d) false f.0 in
+    let e = or_parts (print.first_is (print.is_one_of (codes ".+-")) d || false || false) false apart in
+    let f = or_parts (print.first_is (print.is_one_of (codes ".+-")) d || false) false e.0 in
+    let g = or_parts (print.first_is (print.is_one_of (codes ".+-")) d) false f.0 in
     let sign : is_one_of (codes ".+-") c ≡ false =
     sym (ap (print.first_is (print.is_one_of (codes ".+-"))) h.2) ∙ g.0 in
     λ i. h.0 i || sign i
-seam (Number b) Blank c apart h = ap after_number h
-seam (Number b) Newline c apart h = ap after_number h
-seam (Number b) (Head n) c apart h = ap after_number h
-seam (Number b) (Tail n) c apart h = ap after_number h
 seam (Punct b) (Word d) c apart h = never b c h.1 (word_not_operator c h.0)
 seam (Punct b) (Number d) c apart h =
     let last = last_is (λ x. x == 46) b in
     let op = last_is is_operator b in
-    let e = neither ((last && true) || (op && (false || false))) false apart in
-    let f = neither (last && true) (op && (false || false)) e.0 in
-    before_number b c h (sym (and_true last) ∙ f.0)
+    let e = or_parts ((last && true) || (op && (false || false))) false apart in
+    let f = or_parts (last && true) (op && (false || false)) e.0 in
+    before_number b c h (sym (and-true last) ∙ f.0)
 seam (Punct b) (Literal d) c apart h = never b c h.1 h.0
 seam (Punct b) (Punct d) c apart h =
     let last = last_is (λ x. x == 46) b in
     let op = last_is is_operator b in
-    let e = neither ((last && false) || (op && (print.first_is is_operator d || false))) false apart in
-    let f = neither (last && false) (op && (print.first_is is_operator d || false)) e.0 in
+    let e = or_parts ((last && false) || (op && (print.first_is is_operator d || false))) false apart in
+    let f = or_parts (last && false) (op && (print.first_is is_operator d || false)) e.0 in
     let is : (op && is_operator c) ≡ false =
-    ap (λ v. op && v) (sym (or_false (is_operator c)) ∙ sym (ap (λ q. print.first_is is_operator q || false) h.2))
+    ap (λ v. op && v) (sym (or-false (is_operator c)) ∙ sym (ap (λ q. print.first_is is_operator q || false) h.2))
     ∙ f.1 in
-    not_both b c (no_digit_after c (neither (is_word_byte c) (is_one_of (codes "\"'") c) h.0).0) is
+    not_both b c (no_digit_after c (or_parts (is_word_byte c) (is_one_of (codes "\"'") c) h.0).0) is
 seam (Punct b) Blank c apart h = ap (joins_last joins b) h ∙ never b 32 refl refl
 seam (Punct b) Newline c apart h = ap (joins_last joins b) h ∙ never b 10 refl refl
-seam (Punct b) (Head n) c apart h = before_comment b c apart h
-seam (Punct b) (Tail n) c apart h = before_comment b c apart h
 seam (Literal b) right c apart h = refl
 seam (Verbatim b) right c apart h = refl
 seam Blank right c apart h = refl
@@ -115,19 +100,11 @@ seam left Join c apart h = absurd h
 seam left Defs c apart h = absurd h
 seam left (Name n) c apart h = absurd h
 seam left (Mark p) c apart h = absurd h
+seam (Word b) _ c apart h = ap after_word h
+seam (Number b) _ c apart h = ap after_number h
+seam (Punct b) _ c apart h = before_comment b c apart h
 
 -- a blank goes on with no token
 pub blank_after : (left : Token) → goes_on joins left 32 ≡ false
-blank_after (Word b) = refl
-blank_after (Number b) = refl
 blank_after (Punct b) = never b 32 refl refl
-blank_after (Literal b) = refl
-blank_after (Verbatim b) = refl
-blank_after Blank = refl
-blank_after Newline = refl
-blank_after Join = refl
-blank_after Defs = refl
-blank_after (Name n) = refl
-blank_after (Head n) = refl
-blank_after (Tail n) = refl
-blank_after (Mark p) = refl
+blank_after _ = refl

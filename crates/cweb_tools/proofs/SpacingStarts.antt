@@ -1,10 +1,9 @@
 -- The first byte of what is printed of a token.
-use Rattle.cweb_tools.proofs.Common.{◌≡◌, ℕ, Bool, true, false, cond, ◌&&◌, ◌||◌, ◌==◌, not, List, [], ◌∷◌, Some, None, refl, ap, sym, ◌∙◌, subst, codes, list_all, Token, Word, Number, Literal, Verbatim, Punct, Blank, Newline, Head, Tail, is_one_of, is_digit, is_word_byte, is_white, first_is, JoinsAll, after_word, begins_as, text_in, Kind, Effect, Nothing, Define, Format, Program, Named, InsertDefs, Joins, GiveAt, Faulty, End, Closed, Cut, Nested, Open, ReadsAlone, doubled, token_of, bytes_of, literal_of, is_clean, is_operator}
+use Rattle.cweb_tools.proofs.Common.{◌≡◌, ℕ, Bool, true, false, cond, ◌&&◌, ◌||◌, ◌==◌, not, List, [], ◌∷◌, Some, None, refl, ap, sym, ◌∙◌, subst, codes, list_all, Token, Word, Number, Literal, Verbatim, Punct, Blank, Newline, Head, Tail, is_one_of, is_digit, is_word_byte, is_white, first_is, JoinsAll, after_word, begins_as, text_in, Kind, Effect, Nothing, Define, Format, Program, Named, InsertDefs, Joins, GiveAt, Faulty, End, Closed, Cut, Nested, Open, ReadsAlone, doubled, token_of, bytes_of, literal_of, is_clean, is_operator, and_parts, or_parts, same_Some, not-true}
 use Rattle.cweb_rules.specs.Kinds as kind
 use Rattle.cweb_rules.specs.declared.effect.Effect.TheVariants as effect
-use Rattle.cweb_rules.proofs.Joins.{both, neither, unlike}
+use Rattle.cweb_rules.proofs.Joins.{unlike}
 use Rattle.cweb_rules.proofs.Stays.{begins_number}
-use Rattle.cweb_scan.proofs.PlainPieces.{is_that}
 use Rattle.cweb_scan.proofs.PlainTokens.{begins, text_of}
 
 -- operator bytes, but `.` only after `.`; or `.` and a digit
@@ -37,16 +36,12 @@ pub record First (u : Token) (d : List ℕ) : Type 0 where
   pub is : d ≡ byte ∷ rest
   pub starts : Starts u byte
 
-pub is_false : (a : Bool) → not a ≡ true → a ≡ false
-is_false true h = cc
-is_false false h = refl
-
 pub none_of : (p : ℕ → Bool) (set : List ℕ) (c : ℕ)
     → list_all (λ x. not (p x)) set ≡ true → p c ≡ true → is_one_of set c ≡ false
 none_of p [] c h e = refl
 none_of p (x ∷ set) c h e =
-    let q = both (not (p x)) (list_all (λ x. not (p x)) set) h in
-    ap (λ v. v || is_one_of set c) (unlike p x c true e (is_false (p x) q.0)) ∙ none_of p set c q.1 e
+    let q = and_parts (not (p x)) (list_all (λ x. not (p x)) set) h in
+    ap (λ v. v || is_one_of set c) (unlike p x c true e (not-true (p x) q.0)) ∙ none_of p set c q.1 e
 
 -- no byte of a set passes a test
 passes_none : (p : ℕ → Bool) (set : List ℕ) (c : ℕ)
@@ -60,45 +55,32 @@ passes_none p set c h e =
 code_first : (e : Effect) (d : List ℕ) (u : Token)
     → token_of (kind.Code e) d ≡ Some u → d ≡ doubled (bytes_of u) → First u d
 code_first GiveAt d u t is =
-    let same = is_that (Punct (64 ∷ [])) u t in
+    let same = same_Some (Punct (64 ∷ [])) u t in
     let at : d ≡ 64 ∷ 64 ∷ [] = is ∙ sym (ap (λ v. doubled (bytes_of v)) same) in
     subst (λ v. First v d) same (record { byte = 64; rest = 64 ∷ []; is = at; starts = (refl, [], refl) })
-code_first Nothing d u t is = cc
-code_first Define d u t is = cc
-code_first Format d u t is = cc
-code_first Program d u t is = cc
-code_first Named d u t is = cc
-code_first effect.Letter d u t is = cc
-code_first effect.ControlText d u t is = cc
-code_first effect.Verbatim d u t is = cc
-code_first effect.Constant d u t is = cc
-code_first InsertDefs d u t is = cc
-code_first Joins d u t is = cc
-code_first (Faulty k) d u t is = cc
+code_first _ d u t is = cc
 
 clean_is : (v : Bool) (b : List ℕ) (u : Token)
     → cond v (Some (Literal b)) None ≡ Some u → (b : List ℕ) × (Literal b ≡ u)
-clean_is true b u t = (b, is_that (Literal b) u t)
+clean_is true b u t = (b, same_Some (Literal b) u t)
 clean_is false b u t = cc
 
 literal_is : (units : List (List ℕ)) (how : End) (u : Token)
     → literal_of units how ≡ Some u → (b : List ℕ) × (Literal b ≡ u)
 literal_is units Closed u t = clean_is (is_clean units) (text_in units) u t
-literal_is units Cut u t = cc
-literal_is units Nested u t = cc
-literal_is units Open u t = cc
+literal_is units _ u t = cc
 
 first_by : (k : Kind) (b : ℕ) (d : List ℕ) (u : Token) → begins_as k b ≡ true
     → token_of k (b ∷ d) ≡ Some u → b ∷ d ≡ doubled (bytes_of u) → First u (b ∷ d)
 first_by kind.Identifier b d u h t is =
-    let e = both (is_word_byte b) (not (is_digit b)) h in
-    subst (λ v. First v (b ∷ d)) (is_that (Word (b ∷ d)) u t)
-    (record { byte = b; rest = d; is = refl; starts = (e.0, is_false (is_digit b) e.1) })
+    let e = and_parts (is_word_byte b) (not (is_digit b)) h in
+    subst (λ v. First v (b ∷ d)) (same_Some (Word (b ∷ d)) u t)
+    (record { byte = b; rest = d; is = refl; starts = (e.0, not-true (is_digit b) e.1) })
 first_by kind.Numeral b d u h t is =
-    subst (λ v. First v (b ∷ d)) (is_that (Number (b ∷ d)) u t) (record { byte = b; rest = d; is = refl; starts = h })
+    subst (λ v. First v (b ∷ d)) (same_Some (Number (b ∷ d)) u t) (record { byte = b; rest = d; is = refl; starts = h })
 first_by kind.Punctuator b d u h t is =
-    let e = neither (after_word b) (is_white b) (is_false (after_word b || is_white b) h) in
-    subst (λ v. First v (b ∷ d)) (is_that (Punct (b ∷ d)) u t)
+    let e = or_parts (after_word b) (is_white b) (not-true (after_word b || is_white b) h) in
+    subst (λ v. First v (b ∷ d)) (same_Some (Punct (b ∷ d)) u t)
     (record { byte = b; rest = d; is = refl; starts = (e.0, d, refl) })
 first_by (kind.Quoted units how) b d u h t is =
     let l = literal_is units how u t in
@@ -109,17 +91,7 @@ first_by (kind.Quoted units how) b d u h t is =
       starts = (passes_none is_operator (codes "LuUR\"'") b refl h, passes_none is_digit (codes "LuUR\"'") b refl h);
     })
 first_by (kind.Code c) b d u h t is = code_first c (b ∷ d) u t is
-first_by kind.Skipped b d u h t is = cc
-first_by (kind.Section starred) b d u h t is = cc
-first_by (kind.Letter byte text) b d u h t is = cc
-first_by (kind.ControlText how) b d u h t is = cc
-first_by (kind.Verbatim units how) b d u h t is = cc
-first_by (kind.Constant value) b d u h t is = cc
-first_by (kind.Occurrence is_file units how opens) b d u h t is = cc
-first_by kind.Blanks b d u h t is = cc
-first_by kind.LineEnd b d u h t is = cc
-first_by (kind.Comment how) b d u h t is = cc
-first_by (kind.Defined tight) b d u h t is = cc
+first_by _ b d u h t is = cc
 
 first_in : (k : Kind) (d : List ℕ) (u : Token) → first_is (begins_as k) d ≡ true
     → token_of k d ≡ Some u → d ≡ doubled (bytes_of u) → First u d

@@ -1,5 +1,5 @@
 -- The status of a run that nothing stops.
-use Rattle.cweb_tools.proofs.Common.{◌≡◌, ◌<◌, ◌+◌, ℕ, Bool, true, false, cond, ◌||◌, List, [], ◌∷◌, ◌++◌, map, refl, sym, ◌∙◌, ap, append-nil, arith, nat_tests, sum_by-cons, ◌==◌, count_by, if◌then◌else◌, list_any, File, WebNotOpened, ChangeNotOpened, Item, banner, closing, fault_count, faults, is_fault, no_errors, no_text, see_warning, stopped, Shown, Act, opens, reads, says, Numbers, Planning, TangleCourse, closing_acts, items_in, outputs_acts, planned, planned_acts, refused, starred_acts, tangle_status, tangling, unread, not_there, change_not_there, web_acts, when, course_status, status_by}
+use Rattle.cweb_tools.proofs.Common.{◌≡◌, ◌<◌, ◌+◌, ℕ, Bool, true, false, cond, ◌||◌, List, [], ◌∷◌, ◌++◌, map, refl, sym, ◌∙◌, ap, append-nil, arith, nat_tests, sum_by-cons, ◌==◌, count_by, if◌then◌else◌, list_any, File, WebNotOpened, ChangeNotOpened, Item, banner, closing, fault_count, faults, is_fault, no_errors, no_text, see_warning, stopped, Shown, Act, opens, reads, says, Numbers, Planning, TangleCourse, closing_acts, items_in, outputs_acts, planned, planned_acts, refused, starred_acts, tangle_status, tangling, unread, not_there, change_not_there, web_acts, when, course_status, status_by, or-true, or-false}
 
 -- whether acts log a fault
 abbrev has_fault : List Act → Bool
@@ -16,14 +16,6 @@ fault-when false item acts is = refl
 or_assoc : (a b c : Bool) → (a || (b || c)) ≡ ((a || b) || c)
 or_assoc true b c = refl
 or_assoc false b c = refl
-
-or_true : (a : Bool) → (a || true) ≡ true
-or_true true = refl
-or_true false = refl
-
-or_false : (a : Bool) → (a || false) ≡ a
-or_false true = refl
-or_false false = refl
 
 fault-said : (items : List Item) (acts : List Act)
     → has_fault (map says items ++ acts) ≡ (list_any is_fault items || has_fault acts)
@@ -83,8 +75,8 @@ by_count false n some none = ap (λ (m : ℕ). if m == 0 then 0 else 1) (sym (no
 
 status_planned : (items : List Item) (plan : Planning)
     → status_for (list_any is_fault items || is_refused plan) ≡ status_by (fault_count items) plan
-status_planned items (refused text) = ap status_for (or_true (list_any is_fault items))
-status_planned items (planned files missing) = ap status_for (or_false (list_any is_fault items))
+status_planned items (refused text) = ap status_for (or-true (list_any is_fault items))
+status_planned items (planned files missing) = ap status_for (or-false (list_any is_fault items))
     ∙ by_count
     (list_any is_fault items) (fault_count items) (counted_some is_fault items).0 (counted_some is_fault items).1
 

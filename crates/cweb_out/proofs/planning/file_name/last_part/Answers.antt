@@ -1,5 +1,4 @@
-use Rattle.cweb_out.proofs.Common.{◌≡◌, ◌≤◌, ◌-◌, ◌∙◌, sym, ap, arith, length, drop, not, length-drop, suffix_len, suffix_len_is, is_slash}
-use Rattle.cweb_out.proofs.Finds.{take-whole}
+use Rattle.cweb_out.proofs.Common.{◌≡◌, ◌≤◌, ◌-◌, ◌∙◌, sym, ap, arith, length, drop, not, length-drop, suffix_len, suffix_len_is, is_slash, take_all}
 use Rattle.cweb_out.proofs.planning.file_name.last_part.Goals as goal
 
 pub returns : goal.returns
@@ -12,4 +11,4 @@ returns c =
     (c.bytes.invariant.after k a (omega (arith, b, c.bytes-test.false)))) (λ p. ap not (c.bytes.invariant.before p)) in
     let gap : length name - suffix_len (λ b. not (is_slash b)) name ≡ start = omega (arith, le, size) in
     let whole : length (drop start name) ≤ length name - start = omega (arith, length-drop start name) in
-    take-whole (length name - start) (drop start name) whole ∙ ap (λ n. drop n name) (sym gap)
+    take_all (length name - start) (drop start name) whole ∙ ap (λ n. drop n name) (sym gap)

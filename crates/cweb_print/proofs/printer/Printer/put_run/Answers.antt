@@ -3,7 +3,7 @@ use Rattle.cweb_print.proofs.Bordered.{gathers-lent}
 use Rattle.cweb_print.proofs.Lenders.{lent-at}
 use Rattle.cweb_print.proofs.MacroLines.{range_more}
 use Rattle.cweb_print.proofs.Passing.{Passed, passed_more, passed_none, passed_same}
-use Rattle.cweb_print.proofs.Ranges.{slice_range-none}
+use Rattle.cweb_store.proofs.RangeLemmas.{range-none}
 use Rattle.cweb_print.proofs.printer.Printer.put_run.Goals as goal
 
 pub tokens-init : goal.tokens-init
@@ -16,7 +16,7 @@ tokens-init c =
       upto = c.requires.ordered;
       size = c.requires.room.0;
       within = c.requires.room.1;
-      passed = subst (λ (us : List Token). Passed p us (left_behind c.border_of.result) old old) (sym (slice_range-none
+      passed = subst (λ (us : List Token). Passed p us (left_behind c.border_of.result) old old) (sym (range-none
           (all_tokens c.args.store.now.parts) first first (omega arith))) (subst (λ (l : Left). Passed p [] l old old)
           (λ i. record { class = sym c.border_of.ensures i; joined = c.requires.open i }) (passed_none p old));
     }

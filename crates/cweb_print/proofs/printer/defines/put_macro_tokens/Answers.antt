@@ -3,7 +3,7 @@ use Rattle.cweb_print.proofs.Continued.{added-continued, left-continued}
 use Rattle.cweb_print.proofs.Lenders.{lent-at}
 use Rattle.cweb_print.proofs.MacroLines.{left_more, tokens_more}
 use Rattle.cweb_print.proofs.Overlaps.{front_within}
-use Rattle.cweb_print.proofs.Ranges.{slice_range-none}
+use Rattle.cweb_store.proofs.RangeLemmas.{range-none}
 use Rattle.cweb_print.proofs.printer.defines.put_macro_tokens.Goals as goal
 
 pub tokens-init : goal.tokens-init
@@ -12,7 +12,7 @@ tokens-init c =
     let first = c.args.part.first in
     let by = macro_by (replaced_in c.args.store.now) in
     let old = take c.args.used c.args.bytes.now in
-    let none = slice_range-none ts first first (omega arith) in
+    let none = range-none ts first first (omega arith) in
     record {
       from = omega arith;
       upto = refl;

@@ -1,6 +1,6 @@
 use Rattle.cweb_scanner.proofs.Common.{sym, ap, subst, arith, Contents, token_count, IsTied, State}
-use Rattle.cweb_scanner.proofs.Drops.{dropped_count}
 use Rattle.cweb_scanner.proofs.TiedSteps.{tied_dropped}
+use Rattle.cweb_store.proofs.CallerLemmas.{token_count_dropped}
 use Rattle.cweb_scanner.proofs.scanner.Scanner.join.Goals as goal
 
 pub invariant_of-self : goal.invariant_of-self
@@ -14,4 +14,4 @@ give-requires-clause-few c =
     let s = c.self.inside in
     let same = ap (λ (v : Contents). token_count v.parts) c.drop_layout.ensures in
     let view = ap (λ (u : State). token_count u.contents.parts) c.self.view_is in
-    omega (arith, same, dropped_count s.builder.parts, view, c.requires.room.for_tokens)
+    omega (arith, same, token_count_dropped s.builder.parts, view, c.requires.room.for_tokens)

@@ -1,6 +1,6 @@
-use Rattle.cweb_store.proofs.Common.{ap, arith, Packs, Number, Literal, Verbatim}
+use Rattle.cweb_store.proofs.Common.{ap, arith, Packs, Number, Literal, Verbatim, slice_get_within}
 use Rattle.cweb_store.specs.Parts as spec
-use Rattle.cweb_texts.proofs.PackedTextLemmas.{get-text, get-within}
+use Rattle.cweb_texts.proofs.PackedTextLemmas.{get-text}
 use Rattle.cweb_store.proofs.tokens.packed.pack.Goals as goal
 
 pub returns-in_ok-keep-in-Number-clause-ok : goal.returns-in_ok-keep-in-Number-clause-ok
@@ -12,7 +12,7 @@ returns-in_ok-keep-in-Number-clause-ok c =
     let packs : Packs c.args.texts.now (spec.Number text) (Number number) new = record {
       more = keeps.more;
       grows = keeps.grows;
-      within = get-within new.texts number text keeps.stands;
+      within = slice_get_within new.texts number text keeps.stands;
       stands = ap spec.Number (get-text new.texts number text keeps.stands);
       words = keeps.words;
       bytes = omega (arith, keeps.bytes);
@@ -29,7 +29,7 @@ returns-in_ok-keep-in-Literal-clause-ok c =
     let packs : Packs c.args.texts.now (spec.Literal text) (Literal number) new = record {
       more = keeps.more;
       grows = keeps.grows;
-      within = get-within new.texts number text keeps.stands;
+      within = slice_get_within new.texts number text keeps.stands;
       stands = ap spec.Literal (get-text new.texts number text keeps.stands);
       words = keeps.words;
       bytes = omega (arith, keeps.bytes);
@@ -46,7 +46,7 @@ returns-in_ok-keep-in-Verbatim-clause-ok c =
     let packs : Packs c.args.texts.now (spec.Verbatim text) (Verbatim number) new = record {
       more = keeps.more;
       grows = keeps.grows;
-      within = get-within new.texts number text keeps.stands;
+      within = slice_get_within new.texts number text keeps.stands;
       stands = ap spec.Verbatim (get-text new.texts number text keeps.stands);
       words = keeps.words;
       bytes = omega (arith, keeps.bytes);

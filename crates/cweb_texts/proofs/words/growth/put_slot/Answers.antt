@@ -1,5 +1,5 @@
-use Rattle.cweb_texts.proofs.Common.{◌≡◌, ◌||◌, ◌&&◌, map, List, sym, ◌∙◌, ap, bytes_eq, list_any, Slot, Entries, slot_is, slot_text, stands_in, word_in}
-use Rattle.cweb_texts.proofs.PackedTextLemmas.{get-text, get-within}
+use Rattle.cweb_texts.proofs.Common.{◌≡◌, ◌||◌, ◌&&◌, map, List, sym, ◌∙◌, ap, bytes_eq, list_any, Slot, Entries, slot_is, slot_text, stands_in, word_in, slice_get_within}
+use Rattle.cweb_texts.proofs.PackedTextLemmas.{get-text}
 use Rattle.cweb_texts.proofs.SlotLemmas.{used-not, put-slots}
 use Rattle.cweb_texts.proofs.MapLemmas.{insert-mapped}
 use Rattle.cweb_texts.proofs.SpreadLemmas.{placed-stands, inserted-stands, inserted-old}
@@ -8,7 +8,7 @@ use Rattle.cweb_texts.proofs.words.growth.put_slot.Goals as goal
 pub text-requires : goal.text-requires
 text-requires c =
     let holds = c.requires.hold (used-not c.args.slot.len c.if-slot-eq0.false) in
-    get-within c.args.texts.now c.args.slot.number holds.text holds.there
+    slice_get_within c.args.texts.now c.args.slot.number holds.text holds.there
 
 pub returns-then-place-clause-slots : goal.returns-then-place-clause-slots
 returns-then-place-clause-slots c = put-slots c.args.texts.now c.args.slots.now.items c.place.new.slots.items

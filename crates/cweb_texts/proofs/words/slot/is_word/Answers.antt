@@ -1,6 +1,6 @@
-use Rattle.cweb_texts.proofs.Common.{◌≡◌, ◌&&◌, false, length, sym, ◌∙◌, ap, arith, bytes_eq, bytes_decides, is_alike, slot_text}
+use Rattle.cweb_texts.proofs.Common.{◌≡◌, ◌&&◌, false, length, sym, ◌∙◌, ap, arith, bytes_eq, bytes_decides, is_alike, slot_text, slice_get_within}
 use Rattle.cweb_texts.specs.Keys.{key_of}
-use Rattle.cweb_texts.proofs.PackedTextLemmas.{get-text, get-within}
+use Rattle.cweb_texts.proofs.PackedTextLemmas.{get-text}
 use Rattle.cweb_texts.proofs.KeyLemmas.{key-tells}
 use Rattle.cweb_texts.proofs.SlotLemmas.{alike-in, hold-text, slot-alike}
 use Rattle.cweb_texts.proofs.words.slot.is_word.Goals as goal
@@ -19,7 +19,7 @@ text-text-requires c =
     let slot = c.args.slot in
     let alike = alike-in slot c.args.key (length c.args.word.now) (sym c.is_alike.ensures ∙ c.if-not-is_alike.false) in
     let holds = c.requires.hold alike.used in
-    get-within c.args.texts.now slot.number holds.text holds.there
+    slice_get_within c.args.texts.now slot.number holds.text holds.there
 
 pub returns-then-word-le-TOLD : goal.returns-then-word-le-TOLD
 returns-then-word-le-TOLD c =

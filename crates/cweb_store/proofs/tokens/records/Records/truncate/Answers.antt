@@ -1,5 +1,5 @@
-use Rattle.cweb_store.proofs.Common.{◌≡◌, length, take, drop, sym, subst, ◌∙◌, ap, List, take-map, length-take-le, Record, AreNumbered, packed_in}
-use Rattle.cweb_store.proofs.RecordLemmas.{split, tail, numbered-le, cut}
+use Rattle.cweb_store.proofs.Common.{◌≡◌, length, take, drop, sym, subst, ◌∙◌, ap, List, take-map, length-take-le, Record, AreNumbered, packed_in, take_rest}
+use Rattle.cweb_store.proofs.RecordLemmas.{split, numbered-le, cut}
 use Rattle.cweb_store.proofs.tokens.records.Records.truncate.Goals as goal
 
 pub invariant_of-self : goal.invariant_of-self
@@ -8,7 +8,7 @@ invariant_of-self c =
     let count = c.args.count in
     let places = s.places.items in
     let parts = split 0 count s.items.items (length places) c.self.invariant in
-    let behind = tail c.deref.result.now count ∙ ap (drop count) c.deref.ensures.value in
+    let behind = take_rest c.deref.result.now count ∙ ap (drop count) c.deref.ensures.value in
     let first : c.first_place-places.result ≡ parts.number = c.first_place-places.ensures parts.number
     (subst (λ (rs : List Record). AreNumbered parts.number rs c.len-2.result) (sym behind)
     (subst (AreNumbered parts.number (drop count s.items.items)) (sym (c.len-2.ensures ∙ s.places.ok.0)) parts.rest)) in
@@ -23,7 +23,7 @@ returns-clause-packed c =
     let count = c.args.count in
     let places = s.places.items in
     let parts = split 0 count s.items.items (length places) c.self.invariant in
-    let behind = tail c.deref.result.now count ∙ ap (drop count) c.deref.ensures.value in
+    let behind = take_rest c.deref.result.now count ∙ ap (drop count) c.deref.ensures.value in
     let first : c.first_place-places.result ≡ parts.number = c.first_place-places.ensures parts.number
     (subst (λ (rs : List Record). AreNumbered parts.number rs c.len-2.result) (sym behind)
     (subst (AreNumbered parts.number (drop count s.items.items)) (sym (c.len-2.ensures ∙ s.places.ok.0)) parts.rest)) in
