@@ -1,5 +1,5 @@
 -- Tokens that lend their texts, told by their borders: what they lend, their classes, and the blanks before them.
-use Rattle.cweb_print.proofs.Common.{◌≡◌, ◌==◌, ◌++◌, ◌∙◌, ℕ, Bool, true, false, cond, ◌||◌, ◌&&◌, not, List, [], ◌∷◌, Option, None, Some, refl, ap, sym, option_map, list_any, eqb-true, Token, Word, Number, Literal, Verbatim, Punct, Blank, Newline, Join, Defs, Name, Head, Tail, Mark, Border, Bordered, first_is, is_numeric, last_is, lends, sign_border, sign_by, Class, class_behind, left_behind, stands_apart, class_by, class_is_glue, class_is_literal, class_is_number, class_is_operator, class_is_point, class_is_wordlike, class_of, is_apart, Gathers, blank_where, is_high, lent_text}
+use Rattle.cweb_print.proofs.Common.{arith, ◌≡◌, ◌==◌, ◌++◌, ◌∙◌, ℕ, Bool, true, false, cond, ◌||◌, ◌&&◌, not, List, [], ◌∷◌, Option, None, Some, refl, ap, sym, option_map, list_any, eqb-true, Token, Word, Number, Literal, Verbatim, Punct, Blank, Newline, Border, Bordered, first_is, is_numeric, last_is, lends, sign_border, sign_by, Class, class_behind, left_behind, stands_apart, class_by, class_is_glue, class_is_literal, class_is_number, class_is_operator, class_is_point, class_is_wordlike, class_of, is_apart, Gathers, blank_where, is_high, lent_text}
 use Rattle.cweb_texts.specs.declared.borders.Border.TheVariants as border
 use Rattle.cweb_texts.specs.Borders.{is_operator}
 use Rattle.cweb_print.specs.declared.printer.class.Class.TheVariants as class
@@ -124,17 +124,12 @@ first-numeric [] h = h
 first-numeric (x ∷ b) h = numeric_is x (46 == x) (43 == x) (45 == x) refl refl refl h
 
 pub apart-lent : (c : Class) (t : Token) (l : Bordered) → lends t ≡ Some l → is_apart c t ≡ stands_apart c l.border
-apart-lent c (Word b) l h =
-    word-apart c b ∙ ap (stands_apart c) (sym (border_of b border.Word l (list_any is_high b) h))
+apart-lent c (Word b) l h = cc (word-apart c b, border_of b border.Word l (list_any is_high b) h)
 apart-lent c (Number b) l h = number-apart c b ∙ ap (λ o. stands_apart c (border_in o)) h
 apart-lent c (Literal b) l h = literal-apart c b ∙ ap (λ o. stands_apart c (border_in o)) h
 apart-lent c (Verbatim b) l h = glue-apart c b ∙ ap (λ o. stands_apart c (border_in o)) h
 apart-lent c (Punct b) l h =
-    let s = first_is is_numeric b in
-    let o = first_is is_operator b in
-    sign-told c s o (first-numeric b)
-    ∙ sign-first c s o (last_is (λ x. x == 46) b) (last_is is_operator b)
-    ∙ ap (stands_apart c) (sym (border_of b (sign_border b) l (list_any is_high b) h))
+    grind (arith, sign-told c, first-numeric b, sign-first c, border_of b (sign_border b) l (list_any is_high b) h)
 apart-lent c Blank l h = blank-apart c ∙ ap (λ o. stands_apart c (border_in o)) h
 apart-lent c Newline l h = line_end-apart c ∙ ap (λ o. stands_apart c (border_in o)) h
 apart-lent c _ l h = cc
@@ -143,10 +138,5 @@ apart-lent c _ l h = cc
 pub gathers-lent : (last : Border) (t : Token) (l : Bordered) (old new : List ℕ) → lends t ≡ Some l
     → new ≡ old ++ (blank_where (stands_apart (class_behind last) l.border) ++ l.text)
     → Gathers (left_behind last) t (left_behind l.border) old new
-gathers-lent last t l old new h e = record {
-  text = l.text;
-  lent = text-lent t l h;
-  class = class-lent t l h;
-  closed = refl;
-  added = e ∙ ap (λ a. old ++ (blank_where a ++ l.text)) (sym (apart-lent (class_behind last) t l h));
-}
+gathers-lent last t l old new h e =
+    grind (arith, text-lent t l h, class-lent t l h, apart-lent (class_behind last) t l h)

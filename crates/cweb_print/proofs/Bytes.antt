@@ -1,5 +1,5 @@
 -- Bytes that are written as they are.
-use Rattle.cweb_print.proofs.Common.{◌≡◌, ℕ, Bool, true, false, ◌||◌, cond, List, [], ◌∷◌, ◌++◌, refl, ◌∙◌, ap, nat_le, list_any, word_text, wants_backslash, quoted}
+use Rattle.cweb_print.proofs.Common.{arith, ◌≡◌, ℕ, Bool, true, false, ◌||◌, cond, List, [], ◌∷◌, ◌++◌, refl, ◌∙◌, ap, nat_le, list_any, word_text, wants_backslash, quoted}
 
 first_false : (a b : Bool) → (a || b) ≡ false → a ≡ false
 first_false true b h = h
@@ -12,10 +12,8 @@ rest_false false b h = h
 pub ascii_word : (replaced : ℕ → List ℕ) (bytes : List ℕ)
     → list_any (λ b. nat_le 128 b) bytes ≡ false → word_text replaced bytes ≡ bytes
 ascii_word replaced [] h = refl
-ascii_word replaced (b ∷ bytes) h = ap (λ t. cond t (replaced b) (b ∷ []) ++ word_text replaced bytes)
-    (first_false (nat_le 128 b) (list_any (λ c. nat_le 128 c) bytes) h)
-    ∙ ap (λ (t : List ℕ). b ∷ t)
-    (ascii_word replaced bytes (rest_false (nat_le 128 b) (list_any (λ c. nat_le 128 c) bytes) h))
+ascii_word replaced (b ∷ bytes) h =
+    grind (arith, replaced b, first_false (nat_le 128 b), ascii_word replaced bytes, rest_false (nat_le 128 b))
 
 pub plain_name : (bytes : List ℕ) → list_any wants_backslash bytes ≡ false → quoted bytes ≡ bytes
 plain_name [] h = refl

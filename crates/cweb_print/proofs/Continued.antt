@@ -1,5 +1,5 @@
 -- Tokens of a macro that lend their texts: what they add, and what is kept after them.
-use Rattle.cweb_print.proofs.Common.{◌≡◌, ◌==◌, ◌++◌, ◌∙◌, ℕ, Bool, true, false, cond, List, [], Option, None, Some, codes, ap, append_assoc, refl, sym, list_any, IfSome, Token, Word, Number, Literal, Verbatim, Punct, Blank, Newline, Join, Defs, Name, Head, Tail, Mark, Border, Bordered, first_is, is_numeric, last_is, lends, sign_border, sign_by, class_behind, continued_by, is_line_end, left_behind, stands_apart, added, continued_text, left_by, macro_by, blank_where, is_high, plain_text, word_text}
+use Rattle.cweb_print.proofs.Common.{arith, ◌≡◌, ◌++◌, ◌∙◌, ℕ, Bool, true, false, cond, List, [], Option, None, Some, ap, append_assoc, refl, sym, list_any, IfSome, Token, Word, Number, Literal, Verbatim, Punct, Blank, Newline, Border, Bordered, first_is, is_numeric, lends, sign_border, sign_by, class_behind, continued_by, is_line_end, left_behind, stands_apart, added, continued_text, left_by, macro_by, blank_where, is_high, plain_text, word_text}
 use Rattle.cweb_texts.specs.declared.borders.Border.TheVariants as border
 use Rattle.cweb_texts.specs.Borders.{is_operator}
 use Rattle.cweb_print.proofs.Bordered.{apart-lent, class-lent, text-lent}
@@ -30,9 +30,7 @@ sign-goes_on false false false false = refl
 sign-continued : (b : List ℕ) (l : Bordered) (high : Bool)
     → cond high None (Some (record { text = b; border = sign_border b })) ≡ Some l → b ≡ continued_by l
 sign-continued b l true h = cc
-sign-continued b l false h = ap (λ e. cond e (codes " \\\n") b) (sym (sign-goes_on (first_is is_numeric b)
-    (first_is is_operator b) (last_is (λ x. x == 46) b) (last_is is_operator b)))
-    ∙ ap continued_in h
+sign-continued b l false h = grind (arith, sign-goes_on (first_is is_numeric b) (first_is is_operator b))
 
 text-continued : (replaced : ℕ → List ℕ) (t : Token) (l : Bordered) → lends t ≡ Some l
     → continued_text t ++ plain_text replaced t ≡ continued_by l
@@ -49,9 +47,7 @@ text-continued replaced _ l h = cc
 pub added-continued : (replaced : ℕ → List ℕ) (last : Border) (t : Token) (l : Bordered) → lends t ≡ Some l
     → added (macro_by replaced) (left_behind last) t
     ≡ blank_where (stands_apart (class_behind last) l.border) ++ continued_by l
-added-continued replaced last t l h =
-    ap (λ a. blank_where a ++ (continued_text t ++ plain_text replaced t)) (apart-lent (class_behind last) t l h)
-    ∙ ap (λ (u : List ℕ). blank_where (stands_apart (class_behind last) l.border) ++ u) (text-continued replaced t l h)
+added-continued replaced last t l h = cc (apart-lent (class_behind last) t l h, text-continued replaced t l h)
 
 pub left-continued : (last : Border) (t : Token) (l : Bordered) → lends t ≡ Some l
     → left_by (left_behind last) t ≡ left_behind l.border
@@ -66,6 +62,4 @@ if_some P Q (Some n) f h = f n h
 -- three texts were put one behind the other
 pub three_put : (old mid next new a b c : List ℕ) → mid ≡ old ++ a → next ≡ mid ++ b → new ≡ next ++ c
     → new ≡ old ++ (a ++ (b ++ c))
-three_put old mid next new a b c f g h =
-    h ∙ ap (λ (t : List ℕ). t ++ c) (g ∙ ap (λ (t : List ℕ). t ++ b) f)
-    ∙ append_assoc (old ++ a) b c ∙ append_assoc old a (b ++ c)
+three_put old mid next new a b c f g h = cc (append_assoc (old ++ a) b c, append_assoc old a (b ++ c))

@@ -1,11 +1,10 @@
 -- Texts of which a front was written.
-use Rattle.cweb_print.proofs.Common.{refl, ◌≡◌, ◌<◌, ◌++◌, [], ◌∙◌, ap, sym, append_assoc, ℕ, List, length, take, drop, suc, get_or, Bor, drop-cons, take-append-drop, append-nil, Result, Ok, Err, IsErr, flat_map, flat_map-append, WritesFront, Wrote}
+use Rattle.cweb_print.proofs.Common.{arith, refl, ◌≡◌, ◌<◌, ◌++◌, [], ◌∙◌, ap, sym, append_assoc, ℕ, List, length, take, drop, suc, get_or, Bor, drop-cons, take-append-drop, append-nil, Result, Ok, Err, IsErr, flat_map, flat_map-append, WritesFront, Wrote}
 
 -- one text was written, and then another, or a front of it
 pub wrote_more : {A E : Type 0} (old mid new text more : List ℕ) (r : Result A E)
     → mid ≡ old ++ text → Wrote mid new more r → Wrote old new (text ++ more) r
-wrote_more old mid new text more (Ok x) is wrote =
-    wrote ∙ ap (λ (t : List ℕ). t ++ more) is ∙ append_assoc old text more
+wrote_more old mid new text more (Ok x) is wrote = cc (append_assoc old text more)
 wrote_more old mid new text more (Err e) is wrote = record {
   front = text ++ wrote.front;
   rest = wrote.rest;
@@ -25,12 +24,8 @@ pub pieces_at : (pieces : List (Bor (List ℕ))) (i : ℕ) (d : Bor (List ℕ)) 
     → flat_map (λ (p : Bor (List ℕ)). p.now) pieces
     ≡ (flat_map (λ (p : Bor (List ℕ)). p.now) (take i pieces) ++ (get_or pieces i d).now)
     ++ flat_map (λ (p : Bor (List ℕ)). p.now) (drop (suc i) pieces)
-pieces_at pieces i d lt = ap (flat_map (λ (p : Bor (List ℕ)). p.now)) (sym (take-append-drop i pieces))
-    ∙ flat_map-append (λ (p : Bor (List ℕ)). p.now) (take i pieces) (drop i pieces)
-    ∙ ap (λ (ps : List (Bor (List ℕ))). flat_map (λ (p : Bor (List ℕ)). p.now) (take i pieces)
-    ++ flat_map (λ (p : Bor (List ℕ)). p.now) ps) (drop-cons pieces i d lt)
-    ∙ sym (append_assoc (flat_map (λ (p : Bor (List ℕ)). p.now) (take i pieces))
-    (get_or pieces i d).now (flat_map (λ (p : Bor (List ℕ)). p.now) (drop (suc i) pieces)))
+pieces_at pieces i d lt =
+    grind (arith, take-append-drop i pieces, flat_map-append, drop-cons pieces i d lt, append_assoc)
 
 -- a front of one piece of a text was written after those before it
 pub front_in : (old mid new before piece rest text : List ℕ) → text ≡ (before ++ piece) ++ rest
@@ -76,9 +71,7 @@ written_front old mid new text piece rest w f = record {
 -- the last piece of a text
 pub written_last : {A E : Type 0} (old mid new text piece : List ℕ) (r : Result A E)
     → Written old mid text piece → Wrote mid new piece r → Wrote old new text r
-written_last old mid new text piece (Ok x) w wrote =
-    wrote ∙ ap (λ (t : List ℕ). t ++ piece) w.written
-    ∙ append_assoc old w.front piece ∙ ap (λ (t : List ℕ). old ++ t) (sym w.whole)
+written_last old mid new text piece (Ok x) w wrote = cc (append_assoc old w.front piece)
 written_last old mid new text piece (Err e) w wrote = record {
   front = w.front ++ wrote.front;
   rest = wrote.rest;
@@ -89,9 +82,15 @@ written_last old mid new text piece (Err e) w wrote = record {
 pub flat_at : {X : Type 0} (f : X → List ℕ) (xs : List X) (i : ℕ) (d : X) → i < length xs
     → flat_map f xs ≡ (flat_map f (take i xs) ++ f (get_or xs i d)) ++ flat_map f (drop (suc i) xs)
 flat_at f xs i d lt =
-    ap (flat_map f) (sym (take-append-drop i xs)) ∙ flat_map-append f (take i xs) (drop i xs)
-    ∙ ap (λ ys. flat_map f (take i xs) ++ flat_map f ys) (drop-cons xs i d lt)
-    ∙ sym (append_assoc (flat_map f (take i xs)) (f (get_or xs i d)) (flat_map f (drop (suc i) xs)))
+    grind (
+      arith,
+      take-append-drop i xs,
+      flat_map-append f (take i xs) (drop i xs),
+      drop-cons xs i d lt,
+      append_assoc
+          (flat_map f (take i xs)) (f (get_or xs i d)) (flat_map f (drop (suc i) xs)),
+      f (get_or xs i d),
+    )
 
 -- a text of several pieces: the first failed, or the second, or the last one was written or failed
 pub first_failed : {A E : Type 0} (old new text piece rest : List ℕ) (r : Result A E)

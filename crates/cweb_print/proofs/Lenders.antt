@@ -1,5 +1,5 @@
 -- Tokens that lend their texts, by their numbers.
-use Rattle.cweb_print.proofs.Common.{◌≡◌, ◌∙◌, ℕ, List, Option, None, Some, ap, map, refl, sym, option_map, slice_get, slice_get-map, Token, Bordered, lends}
+use Rattle.cweb_print.proofs.Common.{arith, ◌≡◌, ℕ, List, Option, None, Some, map, refl, option_map, slice_get, slice_get-map, Token, Bordered, lends}
 
 -- the token with a number lends this
 pub record LendsAt (ts : List Token) (n : ℕ) (l : Bordered) : Type 0 where
@@ -15,5 +15,4 @@ lent_in ts n l (Some t) there h = record { token = t; there = there; lent = cc }
 -- by what lends the texts of all tokens
 pub lent-at : (lenders : List (Option Bordered)) (ts : List Token) (n : ℕ) (l : Bordered) → lenders ≡ map lends ts
     → slice_get lenders n ≡ Some (Some l) → LendsAt ts n l
-lent-at lenders ts n l are h = lent_in ts n l (slice_get ts n) refl
-    (sym (slice_get-map lends ts n) ∙ ap (λ (ls : List (Option Bordered)). slice_get ls n) (sym are) ∙ h)
+lent-at lenders ts n l are h = grind (arith, lent_in ts n l (slice_get ts n) refl, slice_get-map lends ts n)

@@ -1,5 +1,5 @@
 -- Tokens that are printed as the text that they lend: what is kept of them, and what they add.
-use Rattle.cweb_print.proofs.Common.{◌≡◌, ◌++◌, ◌∙◌, refl, ap, Bool, true, false, cond, ℕ, List, [], ◌∷◌, sym, Some, None, list_any, Token, Word, Number, Literal, Verbatim, Punct, Blank, Newline, Join, Defs, Name, Head, Tail, Mark, Setting, print, stays_joined, word_text, Class, Left, class_of, left_by, is_dropped, added, file_by, separator, is_apart, leaves, is_high, lent_text, blank_where}
+use Rattle.cweb_print.proofs.Common.{◌≡◌, ◌++◌, ◌∙◌, refl, Bool, true, false, cond, ℕ, List, [], ◌∷◌, Some, None, list_any, Token, Word, Blank, Newline, Join, Head, Tail, Mark, Setting, print, stays_joined, word_text, Class, Left, class_of, left_by, is_dropped, added, file_by, separator, is_apart, leaves, is_high, lent_text, blank_where}
 use Rattle.cweb_print.proofs.Bytes.{ascii_word}
 use Rattle.cweb_print.proofs.Steps.{print-push}
 
@@ -39,20 +39,15 @@ keeps-lent c true _ text h = refl
 
 pub leaves-lent : (left : Left) (t : Token) (text : List ℕ) → lent_text left.joined t ≡ Some text
     → left_by left t ≡ record { class = class_of (Some t); joined = false }
-leaves-lent left t text h =
-    ap (λ b. cond b left (record { class = class_of (Some t); joined = stays_joined left.joined t }))
-    (keeps-lent left.class left.joined t text h)
-    ∙ ap (λ j. record { class = class_of (Some t); joined = j }) (closes-lent left.joined t text h)
+leaves-lent left t text h = cc (keeps-lent left.class left.joined t text h, closes-lent left.joined t text h)
 
 added-lent : (s : Setting) (left : Left) (t : Token) (text : List ℕ) → lent_text left.joined t ≡ Some text
     → added (file_by s) left t ≡ separator left.class t ++ text
 added-lent s left t text h =
-    ap (λ b. cond b [] (separator left.class t ++ file_by s left.class t)) (keeps-lent left.class left.joined t text h)
-    ∙ ap (λ (u : List ℕ). separator left.class t ++ u) (file-lent s left.class left.joined t text h)
+    cc (keeps-lent left.class left.joined t text h, file-lent s left.class left.joined t text h)
 
 -- one more token, which is lent
 pub print-lent : (s : Setting) (left : Left) (ts : List Token) (t : Token) (apart : Bool) (text : List ℕ)
     → leaves ts ≡ left → apart ≡ is_apart left.class t
     → lent_text left.joined t ≡ Some text → print s (ts ++ t ∷ []) ≡ print s ts ++ (blank_where apart ++ text)
-print-lent s left ts t apart text is blank h = print-push s left ts t is
-    ∙ ap (λ (u : List ℕ). print s ts ++ u) (added-lent s left t text h ∙ ap (λ b. blank_where b ++ text) (sym blank))
+print-lent s left ts t apart text is blank h = cc (print-push s left ts t is, added-lent s left t text h)

@@ -1,5 +1,5 @@
 -- Macros as runs of token numbers.
-use Rattle.cweb_print.proofs.Common.{◌≡◌, ◌≤◌, ◌<◌, ◌+◌, ◌-◌, ℕ, suc, Bool, true, false, cond, List, [], ◌∷◌, ◌++◌, refl, sym, ◌∙◌, ap, map, take, drop, length, slice_range, arith, get_or, subst, append_assoc, append-nil, codes, ◌&&◌, flat_map, filter, All, slice_get, Some, drop-drop, take_at, drop_at, take_more, get_or-drop, length-drop, take-add, Class, Left, added, all_added, at_start, begin_by, file_by, is_apart, leaves, left_by, separator, PartKind, Token, Defs, all_tokens, is_macro, numbers_from, numbers_where, Stored, Setting, macro_line, macro_lines, macros, replaced_in, run_tokens, and-false, slice_get_within}
+use Rattle.cweb_print.proofs.Common.{◌≡◌, ◌≤◌, ◌<◌, ◌+◌, ◌-◌, ℕ, suc, Bool, true, false, cond, List, [], ◌∷◌, ◌++◌, refl, sym, ◌∙◌, ap, map, take, drop, length, slice_range, arith, get_or, subst, append_assoc, append-nil, flat_map, filter, All, slice_get, Some, drop-drop, take_at, drop_at, take_more, get_or-drop, length-drop, take-add, Class, Left, added, all_added, at_start, begin_by, file_by, is_apart, leaves, left_by, PartKind, Token, Defs, all_tokens, is_macro, numbers_from, numbers_where, Stored, Setting, macro_line, macro_lines, macros, replaced_in, run_tokens, and-false, slice_get_within}
 use Rattle.cweb_print.specs.declared.printer.class.Class.TheVariants as class
 use Rattle.cweb_print.proofs.Steps.{added-append, added-push, leaves-push}
 use Rattle.cweb_print.proofs.Ranges.{slice_get-or, slice_range-first}
@@ -12,9 +12,7 @@ no_blank _ = refl
 
 -- what stands in a file for all macros
 pub defs-added : (s : Setting) (left : Left) → added (file_by s) left Defs ≡ begin_by left.class ++ macro_lines s
-defs-added s left = ap (λ b. cond b [] (separator left.class Defs ++ file_by s left.class Defs)) (and-false left.joined)
-    ∙ ap (λ b. cond b (codes " ") [] ++ file_by s left.class Defs) (no_blank left.class)
-    ∙ append-nil (begin_by left.class ++ macro_lines s)
+defs-added s left = cc (and-false left.joined, no_blank left.class, append-nil (begin_by left.class ++ macro_lines s))
 
 -- the lines of runs
 abbrev pub lines : Stored → List declared.Part → List ℕ
@@ -69,37 +67,39 @@ All-tail P xs ys x is all =
 range_split : (ts : List Token) (a n b : ℕ) (t : Token) → a ≤ n → n < b → b ≤ length ts
     → slice_get ts n ≡ Some t → slice_range ts a b ≡ slice_range ts a n ++ t ∷ slice_range ts (n + 1) b
 range_split ts a n b t le lt within is =
-    let gap : b - a ≡ (n - a) + (b - n) = omega arith in
-    let at : a + (n - a) ≡ n = omega arith in
-    ap (λ k. take k (drop a ts)) gap ∙ take-add (n - a) (b - n) (drop a ts)
-    ∙ ap (λ (us : List Token). take (n - a) (drop a ts) ++ take (b - n) us)
-    (drop-drop (n - a) a ts ∙ ap (λ k. drop k ts) at)
-    ∙ ap (λ (us : List Token). take (n - a) (drop a ts) ++ us)
-    (slice_range-first ts n b t lt within (slice_get-or ts n t is))
+    grind (
+      arith,
+      take-add (n - a) (b - n) (drop a ts),
+      drop-drop (n - a) a ts,
+      slice_range-first ts n b t lt within
+          (slice_get-or ts n t is),
+      slice_get-or ts n t is,
+    )
 
 -- the tokens of a macro: those that were printed, the next one, and the rest
 pub tokens_at : (by : Class → Token → List ℕ) (ts : List Token) (a n b : ℕ) (t : Token) (left : Left)
     → a ≤ n → n < b → b ≤ length ts → slice_get ts n ≡ Some t
     → left ≡ leaves (slice_range ts a n) → all_added by at_start (slice_range ts a b) ≡ all_added
     by at_start (slice_range ts a n) ++ (added by left t ++ all_added by (left_by left t) (slice_range ts (n + 1) b))
-tokens_at by ts a n b t left le lt within is now = ap (all_added by at_start) (range_split ts a n b t le lt within is)
-    ∙ added-append by at_start (slice_range ts a n) (t ∷ slice_range ts (n + 1) b)
-    ∙ ap (λ (l : Left). all_added by at_start (slice_range ts a n)
-    ++ (added by l t ++ all_added by (left_by l t) (slice_range ts (n + 1) b))) (sym now)
+tokens_at by ts a n b t left le lt within is now =
+    cc (
+      range_split ts a n b t le lt within is,
+      added-append by at_start (slice_range ts a n) (t ∷ slice_range ts (n +
+          1) b),
+    )
 
 pub tokens_more : (by : Class → Token → List ℕ)
     (ts : List Token) (a n : ℕ) (t : Token) (left : Left) (old mid new : List ℕ) → a ≤ n → slice_get ts n ≡ Some t
     → left ≡ leaves (slice_range ts a n) → mid ≡ old ++ all_added by at_start (slice_range ts a n)
     → new ≡ mid ++ added by left t → new ≡ old ++ all_added by at_start (slice_range ts a (n + 1))
 tokens_more by ts a n t left old mid new le is now before wrote =
-    wrote ∙ ap (λ (u : List ℕ). u ++ added by left t) before
-    ∙ append_assoc old (all_added by at_start (slice_range ts a n)) (added by left t)
-    ∙ ap (λ (l : Left). old ++ (all_added by at_start (slice_range ts a n) ++ added by l t)) now
-    ∙ ap (λ (u : List ℕ). old ++ u)
-    (sym (added-push by (slice_range ts a n) t) ∙ ap (all_added by at_start) (sym (range_more ts a n t le is)))
+    cc (
+      append_assoc old (all_added by at_start (slice_range ts a n)) (added by left t),
+      added-push by (slice_range ts
+          a n) t,
+      range_more ts a n t le is,
+    )
 
 pub left_more : (ts : List Token) (a n : ℕ) (t : Token) (left next : Left) → a ≤ n → slice_get ts n ≡ Some t
     → left ≡ leaves (slice_range ts a n) → next ≡ left_by left t → next ≡ leaves (slice_range ts a (n + 1))
-left_more ts a n t left next le is now after =
-    after ∙ ap (λ (l : Left). left_by l t) now ∙ sym (leaves-push (slice_range ts a n) t)
-    ∙ ap leaves (sym (range_more ts a n t le is))
+left_more ts a n t left next le is now after = cc (leaves-push (slice_range ts a n) t, range_more ts a n t le is)

@@ -14,11 +14,7 @@ taken_behind bytes used count = search (rules, between_is)
 pub overlapped : (before text : List ℕ) (n : ℕ) → n ≤ length text → length text ≤ n + n
     → take (length before + (length text - n)) (before ++ take n text) ++ drop (length text - n) text ≡ before ++ text
 overlapped before text n least most =
-    let m : ℕ = length text - n in
-    ap (λ (front : List ℕ). front ++ drop m text) (take-append-add before (take n text) m
-    ∙ ap (λ (front : List ℕ). before ++ front) (taken_twice m n text (omega (arith, most)) least))
-    ∙ append_assoc before (take m text) (drop m text)
-    ∙ ap (λ (all : List ℕ). before ++ all) (take-append-drop m text)
+    grind (arith, take-append-add before (take n text), taken_twice, append_assoc before, take-append-drop)
 
 -- bytes that were turned round, of which the rest behind the first ones is now in front
 pub rest_in_front : (bytes : List ℕ) (used count : ℕ) → count ≤ used → used ≤ length bytes

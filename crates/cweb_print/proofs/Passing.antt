@@ -1,5 +1,5 @@
 -- Tokens that lend their texts: printing them one after another.
-use Rattle.cweb_print.proofs.Common.{◌≡◌, ◌++◌, ◌∙◌, [], ◌∷◌, refl, sym, subst, ap, append_assoc, append-nil, ℕ, List, Bool, true, false, ◌&&◌, Some, is_some, list_all, Token, Word, Number, Literal, Verbatim, Punct, Blank, Newline, Join, Defs, Name, Head, Tail, Mark, print, Left, Printer, is_apart, leaves, left_by, AreLent, blank_where, is_lent, lent_text, kept_of, setting_of, Gathers, MovesBy, PrintsBy, first_so, second_so}
+use Rattle.cweb_print.proofs.Common.{arith, ◌≡◌, ◌++◌, ◌∙◌, [], ◌∷◌, refl, sym, subst, ap, append_assoc, append-nil, ℕ, List, Bool, true, ◌&&◌, Some, is_some, list_all, Token, Word, Join, Defs, Name, Head, Tail, Mark, print, Left, Printer, is_apart, leaves, left_by, AreLent, blank_where, is_lent, lent_text, kept_of, setting_of, Gathers, MovesBy, PrintsBy, second_so}
 use Rattle.cweb_print.proofs.Lending.{leaves-lent, print-lent}
 use Rattle.cweb_print.proofs.Steps.{leaves-push}
 
@@ -16,9 +16,7 @@ lent-open joined _ text h = refl
 
 lent-push : (ts : List Token) (t : Token) → AreLent ts → is_lent t ≡ true → AreLent (ts ++ t ∷ [])
 lent-push [] t h e = ap (λ b. b && true) e
-lent-push (x ∷ xs) t h e =
-    ap (λ b. b && list_all is_lent (xs ++ t ∷ [])) (first_so (is_lent x) (list_all is_lent xs) h)
-    ∙ lent-push xs t (second_so (is_lent x) (list_all is_lent xs) h) e
+lent-push (x ∷ xs) t h e = grind (arith, lent-push xs t (second_so (is_lent x) (list_all is_lent xs) h) e)
 
 -- tokens were printed one after another, and this is kept after them
 pub record Passed (p : Printer) (ts : List Token) (left : Left) (old new : List ℕ) : Type 0 where

@@ -1,13 +1,7 @@
 -- What a call of a printer adds, by what it wrote.
-use Rattle.cweb_print.proofs.Common.{◌≡◌, ◌++◌, ◌∙◌, ap, List, ℕ, Result, Ok, Err, Wrote, AddsBy}
+use Rattle.cweb_print.proofs.Common.{arith, ◌≡◌, ◌++◌, List, ℕ, Result, Ok, Err, Wrote, AddsBy}
 
 pub adds_by : {A E : Type 0} (before after old new due : List ℕ) (r : Result A E)
     → after ≡ before ++ due → Wrote old new due r → AddsBy before after old new r
 adds_by before after old new due (Ok x) is wrote = record { bytes = due; due = is; written = wrote }
-adds_by before after old new due (Err e) is wrote =
-    record {
-      front = wrote.front;
-      rest = wrote.rest;
-      due = is ∙ ap (λ (t : List ℕ). before ++ t) wrote.whole;
-      written = wrote.written;
-    }
+adds_by before after old new due (Err e) is wrote = grind arith

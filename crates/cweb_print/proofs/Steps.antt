@@ -1,5 +1,5 @@
 -- Printing token by token: what each adds, by what was kept of those before it.
-use Rattle.cweb_print.proofs.Common.{◌≡◌, ℕ, Bool, true, false, ◌&&◌, ◌||◌, not, cond, List, [], ◌∷◌, ◌++◌, refl, sym, ◌∙◌, ap, append_assoc, append-nil, Option, None, Some, codes, nat_eq, fold, Token, Word, Number, Literal, Verbatim, Punct, Blank, Newline, Join, Defs, Name, Head, Tail, Mark, is_operator, is_one_of, is_wordlike, is_literal, is_number, is_comment, begins_with, are_apart, sep, macro_text, printed, Setting, stays_joined, is_layout, kept, print_after, print, file, file_text, last_of, left_after, starts_line, begin_line, macro_lines, mark_line, file_name, Class, Left, class_by, class_of, class_is_line_start, is_apart, separator, left_by, at_start, leaves, added, all_added, begin_by, file_by, macro_by, second_so}
+use Rattle.cweb_print.proofs.Common.{arith, ◌≡◌, ℕ, Bool, true, false, ◌&&◌, ◌||◌, not, cond, List, [], ◌∷◌, ◌++◌, refl, sym, ◌∙◌, ap, append_assoc, append-nil, Option, None, Some, codes, nat_eq, fold, Token, Word, Number, Literal, Verbatim, Punct, Blank, Newline, Join, Defs, Name, Head, Tail, Mark, is_operator, is_one_of, is_wordlike, is_literal, is_number, is_comment, begins_with, are_apart, sep, macro_text, printed, Setting, stays_joined, is_layout, kept, print_after, print, file, file_text, last_of, left_after, starts_line, begin_line, macro_lines, mark_line, file_name, Class, Left, class_by, class_of, class_is_line_start, is_apart, separator, left_by, at_start, leaves, added, all_added, begin_by, file_by, macro_by, second_so}
 use Rattle.cweb_print.specs.Spacing.{last_is}
 use Rattle.cweb_print.proofs.Lasts.{point-operator}
 
@@ -52,10 +52,8 @@ abbrev pub Agrees : (Option Token → Token → List ℕ) → (Class → Token �
 Agrees text by = (l : Option Token) (t : Token) → text l t ≡ by (class_of l) t
 
 pub file_agrees : (s : Setting) → Agrees (file_text s) (file_by s)
-file_agrees s l Defs = ap (λ (t : List ℕ). t ++ macro_lines s) (begin_by_class l)
-    ∙ sym (append-nil (begin_by (class_of l) ++ macro_lines s))
-file_agrees s l (Mark p) = ap (λ (t : List ℕ). t ++ mark_line (file_name s p) p.line) (begin_by_class l)
-    ∙ sym (append-nil (begin_by (class_of l) ++ mark_line (file_name s p) p.line))
+file_agrees s l Defs = cc (begin_by_class l, append-nil (begin_by (class_of l) ++ macro_lines s))
+file_agrees s l (Mark p) = cc (begin_by_class l, append-nil (begin_by (class_of l) ++ mark_line (file_name s p) p.line))
 file_agrees s l _ = refl
 
 macro_agrees : (replaced : ℕ → List ℕ) → Agrees (λ left. macro_text replaced) (macro_by replaced)
@@ -83,9 +81,7 @@ printed_by text by agrees l joined (t ∷ ts) =
         (cond b (kept (stays_joined joined t) ts) (t ∷ kept (stays_joined joined t) ts)) ≡ cond b [] (separator
         (class_of l) t ++ by (class_of l) t) ++ all_added by (cond b (record { class = class_of l; joined = joined })
         (record { class = class_of (Some t); joined = stays_joined joined t })) ts
-    cases later true e =
-        ap (λ j. print_after text l (kept j ts)) (layout_stays joined t (second_so joined (is_layout t) e))
-        ∙ later l joined
+    cases later true e = cc (layout_stays joined t (second_so joined (is_layout t) e), later l joined)
     cases later false e = (λ i. (sep_by_class l t i ++ agrees l t i) ++ later (Some t) (stays_joined joined t) i)
 
 -- the same of what is kept
@@ -99,9 +95,7 @@ kept_by l joined (t ∷ ts) = cases (λ m j. kept_by m j ts) (joined && is_layou
         ≡ b → class_of (last_of l (cond b (kept (stays_joined joined t) ts) (t ∷ kept (stays_joined joined t) ts)))
         ≡ (fold left_by (cond b (record { class = class_of l; joined = joined })
         (record { class = class_of (Some t); joined = stays_joined joined t })) ts).class
-    cases later true e =
-        ap (λ j. class_of (last_of l (kept j ts))) (layout_stays joined t (second_so joined (is_layout t) e))
-        ∙ later l joined
+    cases later true e = cc (layout_stays joined t (second_so joined (is_layout t) e), later l joined)
     cases later false e = later (Some t) (stays_joined joined t)
 
 pub added-append : (by : Class → Token → List ℕ) (left : Left) (xs ys : List Token)
@@ -118,10 +112,14 @@ fold-append left (x ∷ xs) ys = fold-append (left_by left x) xs ys
 -- one list is printed, and then another by what is kept of the first
 pub print-append : (s : Setting) (xs ys : List Token)
     → print s (xs ++ ys) ≡ print s xs ++ all_added (file_by s) (leaves xs) ys
-print-append s xs ys = printed_by (file_text s) (file_by s) (file_agrees s) None false (xs ++ ys)
-    ∙ added-append (file_by s) at_start xs ys
-    ∙ ap (λ (t : List ℕ). t ++ all_added (file_by s) (leaves xs) ys)
-    (sym (printed_by (file_text s) (file_by s) (file_agrees s) None false xs))
+print-append s xs ys =
+    grind (
+      arith,
+      printed_by (file_text s) (file_by s) (file_agrees s) None false (xs ++ ys),
+      file_agrees s,
+      added-append (file_by s) at_start xs ys,
+      printed_by (file_text s) (file_by s) (file_agrees s) None false xs,
+    )
 
 pub leaves-push : (ts : List Token) (t : Token) → leaves (ts ++ t ∷ []) ≡ left_by (leaves ts) t
 leaves-push ts t = fold-append at_start ts (t ∷ [])
@@ -129,23 +127,18 @@ leaves-push ts t = fold-append at_start ts (t ∷ [])
 -- one more token
 pub print-push : (s : Setting) (left : Left) (ts : List Token) (t : Token)
     → leaves ts ≡ left → print s (ts ++ t ∷ []) ≡ print s ts ++ added (file_by s) left t
-print-push s left ts t is =
-    print-append s ts (t ∷ []) ∙ ap (λ (u : List ℕ). print s ts ++ u) (append-nil (added (file_by s) (leaves ts) t))
-    ∙ ap (λ l. print s ts ++ added (file_by s) l t) is
+print-push s left ts t is = cc (print-append s ts (t ∷ []), append-nil (added (file_by s) (leaves ts) t))
 
 -- the end of a file
 pub file-end : (s : Setting) (left : Left) (ts : List Token)
     → leaves ts ≡ left → file s ts ≡ print s ts ++ begin_by left.class
-file-end s left ts is = ap (λ (t : List ℕ). print s ts ++ t)
-    (begin_by_class (left_after ts) ∙ ap begin_by (kept_by None false ts) ∙ ap (λ (l : Left). begin_by l.class) is)
+file-end s left ts is = cc (begin_by_class (left_after ts), kept_by None false ts)
 
 -- the tokens of a macro
 pub macro-printed : (replaced : ℕ → List ℕ) (ts : List Token)
     → printed (λ left. macro_text replaced) ts ≡ all_added (macro_by replaced) at_start ts
-macro-printed replaced ts =
-    printed_by (λ left. macro_text replaced) (macro_by replaced) (macro_agrees replaced) None false ts
+macro-printed replaced ts = grind (arith, printed_by, macro_agrees replaced)
 
 pub added-push : (by : Class → Token → List ℕ) (ts : List Token) (t : Token)
     → all_added by at_start (ts ++ t ∷ []) ≡ all_added by at_start ts ++ added by (leaves ts) t
-added-push by ts t = added-append by at_start ts (t ∷ [])
-    ∙ ap (λ (u : List ℕ). all_added by at_start ts ++ u) (append-nil (added by (leaves ts) t))
+added-push by ts t = cc (added-append by at_start ts (t ∷ []), append-nil (added by (leaves ts) t))

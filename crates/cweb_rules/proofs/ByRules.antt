@@ -1,5 +1,5 @@
 -- What stands at the front of a text is what the first rule that fits names.
-use Rattle.cweb_rules.proofs.Common.{◌≡◌, ℕ, Bool, true, false, ◌&&◌, List, refl, codes, if◌then◌else◌, is_blank, is_line_end, is_word_byte, begins, first_is, starts_section, c_front, text_front, starts_raw, starts_literal, starts_include, Front, c_rule, c_front_by, text_rule, text_front_by, starts_number, Effect, Rule, TextRule}
+use Rattle.cweb_rules.proofs.Common.{◌≡◌, ℕ, Bool, true, false, ◌&&◌, List, refl, codes, if◌then◌else◌, is_blank, is_line_end, is_word_byte, begins, first_is, starts_section, c_front, starts_raw, starts_literal, starts_include, Front, c_rule, c_front_by, starts_number, Effect, Rule}
 
 -- one test more
 pub by_test : {R S : Type 0} (f : R → S) (v : Bool) (x : R) (y : S) (z : R)

@@ -1,5 +1,5 @@
 -- Which rule of C text was taken, by the kind that it names.
-use Rattle.cweb_rules.proofs.Common.{◌≡◌, ℕ, Bool, true, false, List, [], ◌∷◌, Option, Some, None, refl, sym, subst, codes, if◌then◌else◌, drop, prefix_len, is_blank, is_line_end, is_word_byte, begins, first_is, starts_section, in_c, Effect, Nothing, Define, Format, Program, Named, InsertDefs, Joins, GiveAt, Faulty, letter, Transliteration, Kind, Code, Section, Blanks, LineEnd, Quoted, Identifier, Numeral, Punctuator, Front, front, listed, longest, number_len, starts_number, section_at, letter_is, code_front, code_at, comment_at, line_comment_at, starts_literal, literal_at, starts_raw, raw_at, c_front}
+use Rattle.cweb_rules.proofs.Common.{◌≡◌, ℕ, Bool, true, false, List, [], ◌∷◌, Option, Some, None, refl, sym, subst, codes, if◌then◌else◌, drop, prefix_len, is_blank, is_line_end, is_word_byte, begins, first_is, starts_section, in_c, Effect, Named, letter, Transliteration, Kind, Code, Section, Blanks, LineEnd, Quoted, Identifier, Numeral, Punctuator, Front, front, listed, longest, number_len, starts_number, section_at, letter_is, code_front, code_at, comment_at, line_comment_at, starts_literal, literal_at, starts_raw, raw_at, c_front}
 use Rattle.cweb_rules.specs.declared.effect.Effect.TheVariants as effect
 
 pub data Rule : Type 0 where
@@ -98,6 +98,4 @@ abbrev pub after_passed : List ℕ → Front
 after_passed t = if starts_raw t then raw_at t else (if starts_literal t then literal_at t else after_literals t)
 
 pub passed_front : (t : List ℕ) → Passed t → c_front in_c false false t ≡ after_passed t
-passed_front t p = λ i. if p.blank i then front Blanks (prefix_len is_blank t) else (if p.line_end
-    i then front LineEnd 1 else (if p.comment i then comment_at t else (if p.line_comment i then line_comment_at t else
-    (if p.section i then section_at t else (if p.code i then code_at in_c false t else after_passed t)))))
+passed_front t p = cc

@@ -1,6 +1,5 @@
 -- Where nothing is seen that opens an item, none stays open.
-use Rattle.cweb_rules.proofs.Common.{◌≡◌, ◌<◌, ℕ, ◌+◌, Bool, true, false, ◌&&◌, ◌||◌, ◌==◌, List, [], ◌∷◌, refl, ap, sym, ◌∙◌, arith, if◌then◌else◌, codes, nat_le, list_any, eqb-true, leb-true, begins, is_one_of, is_between, lower, first_is, is_blank, is_line_end, starts_section, Effect, Nothing, Define, Format, Program, Named, InsertDefs, Joins, GiveAt, Faulty, Row, table, row_of, in_limbo, in_text, in_macro, in_c, starts_raw, starts_literal, opens_effect, opens_code, opens_comment, opens_raw, opens_literal, c_opens, text_opens, or_right, and_parts}
-use Rattle.cweb_rules.specs.declared.effect.Effect.TheVariants as effect
+use Rattle.cweb_rules.proofs.Common.{◌≡◌, ◌<◌, ℕ, ◌+◌, Bool, true, false, ◌&&◌, ◌||◌, ◌==◌, List, [], ◌∷◌, refl, ap, sym, ◌∙◌, arith, nat_le, list_any, eqb-true, leb-true, is_one_of, lower, Effect, Nothing, Named, Row, table, row_of, in_text, in_macro, in_c, opens_effect, or_right, and_parts}
 
 abbrev pub is_named : Effect → Bool
 is_named Named = true
@@ -10,12 +9,7 @@ is_named e = false
 row-named : (col : Row → Effect) (rs : List Row) (l : ℕ) → col (row_of [] l) ≡ Nothing
     → is_named (col (row_of rs l)) ≡ true → list_any (λ r. is_named (col r) && is_one_of r.letters l) rs ≡ true
 row-named col [] l none h = sym (ap is_named none) ∙ h
-row-named col (r ∷ rs) l none h =
-    (elim (is_one_of r.letters l) as (λ v. is_named (col (if v then r else row_of rs l)) ≡ true
-    → ((is_named (col r) && v) || list_any (λ r. is_named (col r) && is_one_of r.letters l) rs) ≡ true) [
-      | true ↦ λ g. ap (λ v. (v && true) || list_any (λ r. is_named (col r) && is_one_of r.letters l) rs) g
-      | false ↦ λ g. or_right (is_named (col r) && false) _ (row-named col rs l none g)
-    ]) h
+row-named col (r ∷ rs) l none h = grind (arith, is_named, row-named col rs l none)
 
 or_elim : (a b : Bool) (c : Bool) → (a || b) ≡ true → (a ≡ true → c ≡ true) → (b ≡ true → c ≡ true) → c ≡ true
 or_elim true b c h f g = f refl
@@ -23,12 +17,7 @@ or_elim false b c h f g = g h
 
 -- letters in upper case are none of the two
 lowered : (n b : ℕ) → n < 97 → (n == lower b) ≡ true → (n == b) ≡ true
-lowered n b small h = (elim (is_between 65 90 b)
-    as (λ v. is_between 65 90 b ≡ v → (n == (if v then b + 32 else b)) ≡ true → (n == b) ≡ true) [
-      | true ↦ λ e g. absurd
-          (omega (arith, small, eqb-true n (b + 32) g, leb-true 65 b (and_parts (nat_le 65 b) (nat_le b 90) e).0))
-      | false ↦ λ e g. g
-    ]) refl h
+lowered n b small h = grind (arith, eqb-true n (b + 32), leb-true 65 b, and_parts (nat_le 65 b) (nat_le b 90))
 
 two : (b : ℕ) → ((60 == lower b) || ((40 == lower b) || false)) ≡ true → ((60 == b) || (40 == b)) ≡ true
 two b h = or_elim

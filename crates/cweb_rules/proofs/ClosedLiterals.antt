@@ -1,6 +1,6 @@
 -- A literal ends by itself.
-use Rattle.cweb_rules.proofs.Common.{◌≡◌, ℕ, ◌+◌, ◌-◌, ◌<◌, ◌≤◌, suc, zero, Bool, true, false, cond, ◌&&◌, ◌||◌, ◌==◌, List, [], ◌∷◌, ◌++◌, length, take, drop, refl, ap, sym, ◌∙◌, subst, arith, codes, if◌then◌else◌, eqb-true, begins, at_line_end, in_c, Reach, reach_in, with_unit, size_of, Look, Goes, Ends, literal, look_in_literal, Closed, Cut, c_front, literal_at, quoted, is_quoted, literal_prefix, starts_literal, quote_of, starts_raw, raw_at, and_parts, and-false, drop-append-le}
-use Rattle.cweb_rules.proofs.Chosen.{Passed, passed_front, after_literals}
+use Rattle.cweb_rules.proofs.Common.{◌≡◌, ℕ, ◌+◌, ◌-◌, ◌<◌, ◌≤◌, suc, zero, Bool, true, false, cond, ◌&&◌, ◌||◌, ◌==◌, List, [], ◌∷◌, ◌++◌, length, take, drop, refl, ap, sym, ◌∙◌, subst, arith, codes, eqb-true, begins, at_line_end, in_c, Reach, reach_in, with_unit, size_of, Look, Goes, Ends, literal, look_in_literal, Closed, Cut, c_front, literal_at, quoted, is_quoted, literal_prefix, starts_literal, quote_of, starts_raw, raw_at, and_parts, and-false, drop-append-le}
+use Rattle.cweb_rules.proofs.Chosen.{Passed, passed_front}
 use Rattle.cweb_rules.proofs.Raws.{quoted_stays, raw_stays, ends_raw}
 use Rattle.cweb_rules.proofs.Stays.{opening, opens, is_letter_first}
 use Rattle.cweb_rules.proofs.TokensStay.{passes}
@@ -42,11 +42,7 @@ closed_stays : (quote k : ℕ) (t more : List ℕ) → (reach_in (look_in_litera
     → reach_in (look_in_literal quote) Cut k (t ++ more) ≡ reach_in (look_in_literal quote) Cut k t
 closed_stays quote k [] more h = cc
 closed_stays quote (suc k) (b ∷ t) more h = closed_stays quote k t more h
-closed_stays quote zero (b ∷ []) more h =
-    let look = look_in_literal quote in
-    last_byte look (begins (quote ∷ []) (b ∷ [])) (at_line_end (b ∷ []))
-    (begins (codes "\\@") (b ∷ [])) (begins (codes "\\") (b ∷ []) || begins (codes "@@") (b ∷ []))
-    (begins (codes "\\@") (b ∷ more)) (begins (codes "\\") (b ∷ more) || begins (codes "@@") (b ∷ more)) b more h
+closed_stays quote zero (b ∷ []) more h = grind (arith, last_byte)
 closed_stays quote zero (b ∷ c ∷ t) more h =
     let look = look_in_literal quote in
     let u = b ∷ c ∷ t in
@@ -63,19 +59,12 @@ pub is_a_quote : (b : ℕ) (P : ℕ → Type 0) → is_quoted 0 (b ∷ []) ≡ t
 is_a_quote b P h x y = either ((34 == b) && true) ((39 == b) && true) (P b) h (λ e. subst P
     (eqb-true 34 b (and_parts (34 == b) true e).0) x) (λ e. subst P (eqb-true 39 b (and_parts (39 == b) true e).0) y)
 
-abbrev prefix_of : Bool → Bool → ℕ
-prefix_of v w = if v then 2 else (if w then 1 else 0)
-
 quote_first : (b : ℕ) (t u : List ℕ) → is_quoted 0 (b ∷ []) ≡ true → literal_prefix (b ∷ t) ≡ literal_prefix (b ∷ u)
 quote_first b t u h = is_a_quote b (λ n. literal_prefix (n ∷ t) ≡ literal_prefix (n ∷ u)) h refl refl
 
 prefix_one : (b : ℕ) (more : List ℕ) (c : ℕ) → is_quoted 0 (c ∷ []) ≡ true
     → literal_prefix (b ∷ c ∷ more) ≡ literal_prefix (b ∷ c ∷ [])
-prefix_one b more c h = is_a_quote c (λ n. literal_prefix (b ∷ n ∷ more) ≡ literal_prefix (b ∷ n ∷ [])) h
-    (ap (λ v. prefix_of (v && is_quoted 2 (b ∷ 34 ∷ more)) (is_letter_first (b ∷ []) && true)) (and-false (117 == b))
-    ∙ sym (ap (λ v. prefix_of (v && false) (is_letter_first (b ∷ []) && true)) (and-false (117 == b))))
-    (ap (λ v. prefix_of (v && is_quoted 2 (b ∷ 39 ∷ more)) (is_letter_first (b ∷ []) && true)) (and-false (117 == b))
-    ∙ sym (ap (λ v. prefix_of (v && false) (is_letter_first (b ∷ []) && true)) (and-false (117 == b))))
+prefix_one b more c h = grind (arith, is_a_quote c, is_letter_first (b ∷ []), and-false (117 == b))
 
 by_second : (letter q1 q0 : Bool) (P : Type 0)
     → cond (letter && q1) q1 q0 ≡ true → (q1 ≡ true → P) → (q0 ≡ true → P) → P
@@ -85,13 +74,7 @@ by_second false q1 q0 P h f g = g h
 
 prefix_stays : (b : ℕ) (t more : List ℕ) → starts_literal (b ∷ t) ≡ true
     → literal_prefix (b ∷ t ++ more) ≡ literal_prefix (b ∷ t)
-prefix_stays b [] more h =
-    let t = b ∷ [] in
-    let e : is_quoted 0 t ≡ true =
-    sym (ap (λ v. cond v false (is_quoted 0 t)) (and-false (is_letter_first t)))
-    ∙ sym (ap (λ v. opens v (is_letter_first t) false false (is_quoted 0 t)) (and-false (117 == b)))
-    ∙ sym (opening t) ∙ h in
-    quote_first b more [] e
+prefix_stays b [] more h = grind (arith, is_letter_first, and-false (117 == b), opening, quote_first b more)
 prefix_stays b (c ∷ []) more h =
     let t = b ∷ c ∷ [] in
     let e : cond (is_letter_first t && is_quoted 1 t) (is_quoted 1 t) (is_quoted 0 t) ≡ true =
@@ -119,27 +102,23 @@ literal_with : (n : ℕ) (t more : List ℕ) → is_quoted n t ≡ true
     → (inside n t).how ≡ Closed → (n + 1) + size_of (inside n t) ≤ length t
     → quoted (n + 1) (inside n (t ++ more)) (t ++ more) ≡ quoted (n + 1) (inside n t) t
 literal_with n t more q closed within =
-    let w = quote_within n t more q in
-    let same : inside n (t ++ more) ≡ inside n t = ap (λ k. literal k (drop (n + 1) (t ++ more))) w.2
-    ∙ ap (literal (quote_of (drop n t))) (drop-append-le (n + 1) t more (omega (arith, w.0)))
-    ∙ closed_stays (quote_of (drop n t)) 0 (drop (n + 1) t) more closed in
-    ap (λ r. quoted (n + 1) r (t ++ more)) same ∙ quoted_stays (n + 1) (inside n t) t more within
+    grind (
+      arith,
+      quote_within n t more q,
+      drop-append-le (n + 1) t more,
+      closed_stays (quote_of (drop n t)) 0 (drop (n + 1) t) more closed,
+      quoted_stays (n + 1) (inside n t) t more within,
+    )
 
 not_slash : (b : ℕ) (t : List ℕ) → starts_literal (b ∷ t) ≡ true → (47 == b) ≡ false
-not_slash b t h =
-    elim (47 == b) as (λ v. (47 == b) ≡ v → v ≡ false) [
-      | true ↦ λ e. sym (subst (λ n. starts_literal (n ∷ t) ≡ true) (sym (eqb-true 47 b e)) h)
-      | false ↦ λ e. refl
-    ] refl
+not_slash b t h = grind (arith, eqb-true 47 b)
 
 pub literal_front : (t : List ℕ) → Passed t → starts_raw t ≡ false
     → starts_literal t ≡ true → c_front in_c false false t ≡ literal_at t
-literal_front t p r q =
-    passed_front t p ∙ (λ i. if r i then raw_at t else (if q i then literal_at t else after_literals t))
+literal_front t p r q = cc (passed_front t p)
 
 pub raw_front : (t : List ℕ) → Passed t → starts_raw t ≡ true → c_front in_c false false t ≡ raw_at t
-raw_front t p r =
-    passed_front t p ∙ ap (λ v. if v then raw_at t else (if starts_literal t then literal_at t else after_literals t)) r
+raw_front t p r = cc (passed_front t p)
 
 abbrev pub ends_closed : List ℕ → Type 0
 ends_closed t = let n = literal_prefix t in ((inside n t).how ≡ Closed) × ((n + 1) + size_of (inside n t) ≤ length t)
@@ -162,24 +141,12 @@ after_u8 : (t : List ℕ) → begins (codes "u8") t ≡ true → is_quoted 2 t �
 after_u8 [] u q = cc
 after_u8 (b ∷ []) u q = cc
 after_u8 (b ∷ c ∷ []) u q = cc
-after_u8 (b ∷ c ∷ e ∷ t) u q =
-    let h = and_parts (117 == b) ((56 == c) && true) u in
-    let at : (n : ℕ) → starts_raw (117 ∷ 56 ∷ n ∷ t) ≡ false
-    → starts_raw (b ∷ c ∷ n ∷ t) ≡ false = λ n r. subst (λ x. starts_raw (x ∷ c ∷ n ∷ t) ≡ false) (eqb-true 117 b h.0)
-    (subst (λ y. starts_raw (117 ∷ y ∷ n ∷ t) ≡ false) (eqb-true 56 c (and_parts (56 == c) true h.1).0) r) in
-    is_a_quote e (λ n. starts_raw (b ∷ c ∷ n ∷ t) ≡ false) q (at 34 refl) (at 39 refl)
+after_u8 (b ∷ c ∷ e ∷ t) u q = grind (arith, eqb-true 117 b, eqb-true 56 c, and_parts (56 == c) true, is_a_quote e)
 
 after_letter : (t : List ℕ) → is_letter_first t ≡ true → is_quoted 1 t ≡ true → starts_raw t ≡ false
 after_letter [] l q = cc
 after_letter (b ∷ []) l q = cc
-after_letter (b ∷ c ∷ t) l q =
-    let P : ℕ → ℕ → Type 0 = λ x y. starts_raw (x ∷ y ∷ t) ≡ false in
-    let at : (y : ℕ) → P 76 y → P 117 y → P 85 y → P b y = λ y m n o.
-    either (((76 == b) && true) || ((117 == b) && true)) ((85 == b) && true) (P b y) l (λ e. either ((76 == b) && true)
-    ((117 == b) && true) (P b y) e (λ f. subst (λ x. P x y) (eqb-true 76 b (and_parts (76 == b) true f).0) m)
-    (λ f. subst (λ x. P x y) (eqb-true 117 b (and_parts (117 == b) true f).0) n))
-    (λ e. subst (λ x. P x y) (eqb-true 85 b (and_parts (85 == b) true e).0) o) in
-    is_a_quote c (P b) q (at 34 refl refl refl) (at 39 refl refl refl)
+after_letter (b ∷ c ∷ t) l q = grind (arith, eqb-true 76 b, eqb-true 117 b, eqb-true 85 b, is_a_quote c)
 
 after_quote : (t : List ℕ) → is_quoted 0 t ≡ true → starts_raw t ≡ false
 after_quote [] q = cc
@@ -205,11 +172,7 @@ literal_stays_whole b t more p r q ends =
     ∙ sym (literal_front d p r q)
 
 no_raw_slash : (b : ℕ) (t : List ℕ) → starts_raw (b ∷ t) ≡ true → (47 == b) ≡ false
-no_raw_slash b t h =
-    elim (47 == b) as (λ v. (47 == b) ≡ v → v ≡ false) [
-      | true ↦ λ e. sym (subst (λ n. starts_raw (n ∷ t) ≡ true) (sym (eqb-true 47 b e)) h)
-      | false ↦ λ e. refl
-    ] refl
+no_raw_slash b t h = grind (arith, eqb-true 47 b)
 
 pub raw_stays_whole : (b : ℕ) (t more : List ℕ) → Passed (b ∷ t) → starts_raw (b ∷ t) ≡ true
     → ends_raw (b ∷ t) → c_front in_c false false (b ∷ t ++ more) ≡ c_front in_c false false (b ∷ t)

@@ -1,5 +1,5 @@
 -- What the rules of codes, comments and literals name stands in the text, and its bytes pay for what it gives.
-use Rattle.cweb_rules.proofs.Common.{◌≡◌, ◌≤◌, ◌<◌, ℕ, zero, suc, ◌+◌, Bool, true, false, ◌||◌, ◌&&◌, List, [], ◌∷◌, ◌++◌, Option, Some, None, length, take, drop, refl, ap, arith, length-append, if◌then◌else◌, nat_lt, nat_le, codes, flat_map, prefix_len, flat_map-append, length-drop, length-take-le, prefix_len-le-length, ImproperHexNumber, begins, starts_section, is_line_end, is_delimiter, Effect, Nothing, Define, Format, Program, Named, InsertDefs, Joins, GiveAt, Faulty, letter, constant, Transliteration, Reach, body, size_of, End, Cut, control_text, name, literal, included_name, look_in_control, look_in_name, look_in_literal, look_in_include, look_in_raw, raw_literal, Kind, Skipped, Section, Code, Letter, ControlText, Verbatim, Constant, Occurrence, Comment, Quoted, Front, front, Context, section_at, control_at, verbatim_at, constant_at, letter_is, letter_at, sign_after, name_at, code_front, code_at, text_front, is_quoted, literal_prefix, starts_literal, quoted, quote_of, literal_at, raw_prefix, has_delimiter, starts_raw, delimiter, closing_sign, raw_at, include_at, at_line_ends, Pays, Fair, second_so}
+use Rattle.cweb_rules.proofs.Common.{◌≡◌, ◌≤◌, ◌<◌, ℕ, zero, suc, ◌+◌, Bool, true, false, ◌||◌, List, [], ◌∷◌, ◌++◌, Option, Some, None, length, take, drop, refl, ap, arith, length-append, if◌then◌else◌, nat_lt, nat_le, codes, flat_map, flat_map-append, length-drop, length-take-le, prefix_len-le-length, ImproperHexNumber, begins, starts_section, is_line_end, is_delimiter, Effect, Nothing, Define, Format, Program, Named, InsertDefs, Joins, GiveAt, Faulty, letter, constant, Transliteration, Reach, body, size_of, End, Cut, control_text, name, literal, included_name, look_in_control, look_in_name, look_in_literal, look_in_include, look_in_raw, raw_literal, Kind, Skipped, Section, Code, Letter, Verbatim, Constant, Occurrence, Comment, Quoted, Front, front, Context, section_at, control_at, verbatim_at, constant_at, letter_is, letter_at, sign_after, name_at, code_front, code_at, text_front, is_quoted, literal_prefix, starts_literal, quoted, quote_of, literal_at, raw_prefix, has_delimiter, starts_raw, delimiter, closing_sign, raw_at, include_at, at_line_ends, Pays, Fair, second_so}
 use Rattle.cweb_rules.specs.declared.effect.Effect.TheVariants as effect
 use Rattle.cweb_rules.proofs.Sizes.{take-at_most, begins-size, units-text, reach-size, control-within, name-within, literal-within, include-within, raw-within, sign_after-size}
 use Rattle.cweb_rules.proofs.TokenSizes.{IsShort, constant-size, IsLetter, letter-size}
@@ -32,10 +32,7 @@ module _ (c : Context) (a b : ℕ) (u : List ℕ) where
   pair-fair e = fair_of c t (Code e) 2 (omega arith) (omega arith) (λ h. omega (arith, h))
 
   control_at-fair : Fair c t (control_at t)
-  control_at-fair =
-      let r = control_text u in
-      fair_of c t (ControlText r.how) (2 + size_of r) (omega arith)
-      (omega (arith, reach-size look_in_control Cut control-within u)) (λ e. tt)
+  control_at-fair = grind (arith, fair_of c t, reach-size look_in_control Cut control-within u)
 
   verbatim_at-fair : Fair c t (verbatim_at t)
   verbatim_at-fair =
@@ -117,8 +114,7 @@ text_front-fair c effect b t = choose c (b ∷ t) (starts_section (b ∷ t)) _ _
 
 ends-size : (t : List ℕ) → at_line_ends 1 t ≤ length t
 ends-size [] = omega arith
-ends-size (b ∷ t) = elim (is_line_end b) as (λ v. (if v then 1 + at_line_ends 1 t else at_line_ends 1 t) ≤ length
-    (b ∷ t)) [ true ↦ omega (arith, ends-size t) | false ↦ omega (arith, ends-size t) ]
+ends-size (b ∷ t) = grind (arith, t, ends-size t)
 
 comment_pays : (n b : ℕ) (t : List ℕ) → 0 < n → is_line_end b ≡ false
     → at_line_ends 1 (take n (b ∷ t)) + 1 ≤ length (take n (b ∷ t))
@@ -173,9 +169,7 @@ literal_at-fair c t h =
 
 has_delimiter-size : (t : List ℕ) → has_delimiter t ≡ true → length (delimiter t) + 1 ≤ length t
 has_delimiter-size t h =
-    let n : ℕ = prefix_len is_delimiter t in
-    let sign = begins-size (codes "(") (drop n t) (second_so (nat_le n 16) (begins (codes "(") (drop n t)) h) in
-    omega (arith, sign, length-drop n t, length-take-le n t (prefix_len-le-length is_delimiter t))
+    grind (arith, begins-size (codes "("), length-drop, length-take-le, prefix_len-le-length is_delimiter t)
 
 pub raw_at-fair : (c : Context) (t : List ℕ) → starts_raw t ≡ true → Fair c t (raw_at t)
 raw_at-fair c t h =

@@ -1,5 +1,5 @@
 -- What a rule names stands in the text, and its bytes pay for what it gives.
-use Rattle.cweb_rules.proofs.Common.{◌≡◌, ◌≤◌, ℕ, ◌+◌, Bool, true, false, cond, ◌||◌, ◌&&◌, ◌==◌, List, [], ◌∷◌, length, take, drop, refl, ap, arith, nat_le, codes, prefix_len, prefix_len-le-length, Place, begins, starts_section, at_line_end, is_line_end, is_blank, is_digit, is_letter, is_word_byte, is_one_of, Effect, in_limbo, in_text, in_macro, in_c, Closed, Cut, comment, line_comment, look_in_comment, Kind, Skipped, Section, Code, Letter, ControlText, Verbatim, Constant, Occurrence, Blanks, LineEnd, Comment, Quoted, Defined, Identifier, Numeral, Punctuator, front, listed, longest, number_len, goes_on_number, starts_number, Context, Limbo, TeX, Definition, Macro, CText, starts_literal, starts_raw, starts_include, c_front, macro_front, head_as, front_in, Pays, Fair, or_left, or_right, first_so}
+use Rattle.cweb_rules.proofs.Common.{◌≡◌, ◌≤◌, ℕ, Bool, true, false, ◌&&◌, List, [], ◌∷◌, length, take, drop, refl, arith, codes, prefix_len, prefix_len-le-length, Place, begins, starts_section, at_line_end, is_line_end, is_blank, is_digit, is_word_byte, Effect, in_limbo, in_text, in_macro, in_c, Closed, Cut, comment, line_comment, look_in_comment, Kind, Blanks, LineEnd, Comment, Identifier, Numeral, Punctuator, front, listed, longest, number_len, goes_on_number, starts_number, Context, Limbo, TeX, Definition, Macro, CText, starts_literal, starts_raw, starts_include, c_front, macro_front, head_as, front_in, Pays, Fair}
 use Rattle.cweb_rules.proofs.Sizes.{begins-size, reach-size, comment-within}
 use Rattle.cweb_rules.proofs.TokenSizes.{number-size, longest-size}
 use Rattle.cweb_rules.proofs.FairItems.{fair_of, choose, section_at-fair, skipped-fair, t, code_at-fair, text_front-fair, commented, literal_at-fair, raw_at-fair, include_at-fair}
@@ -10,37 +10,18 @@ use Rattle.cweb_rules.proofs.Longest.{longest_pos}
 run-fair : (c : Context) (k : Kind) (p : ℕ → Bool) (b : ℕ) (t : List ℕ) → p b ≡ true
     → (1 ≤ length (take (prefix_len p (b ∷ t)) (b ∷ t)) → Pays c k (take (prefix_len p (b ∷ t)) (b ∷ t)))
     → Fair c (b ∷ t) (front k (prefix_len p (b ∷ t)))
-run-fair c k p b t h pays =
-    let some : 1 ≤ prefix_len p (b ∷ t) = omega (arith, ap (λ v. cond v (1 + prefix_len p t) 0) h) in
-    fair_of c (b ∷ t) k (prefix_len p (b ∷ t)) some
-    (prefix_len-le-length p (b ∷ t)) (λ e. pays (omega (arith, e, some)))
+run-fair c k p b t h pays = grind (arith, t, fair_of c (b ∷ t) k (prefix_len p (b ∷ t)), prefix_len-le-length p (b ∷ t))
 
 digit_goes : (last b : ℕ) → is_digit b ≡ true → goes_on_number last b ≡ true
-digit_goes last b h = or_left (is_word_byte b || (b == 46)) _
-    (or_left (is_word_byte b) (b == 46) (or_left (is_letter b || is_digit b || is_one_of (codes "_$") b) (nat_le 128 b)
-    (or_left (is_letter b || is_digit b) (is_one_of (codes "_$") b) (or_right (is_letter b) (is_digit b) h))))
-
-dot_goes : (last b : ℕ) → (b == 46) ≡ true → goes_on_number last b ≡ true
-dot_goes last b h = or_left (is_word_byte b || (b == 46)) _ (or_right (is_word_byte b) (b == 46) h)
+digit_goes last b h = grind arith
 
 begins_number : (b : ℕ) (t : List ℕ) → starts_number (b ∷ t) ≡ true → goes_on_number 0 b ≡ true
 begins_number b [] h = digit_goes 0 b h
-begins_number b (d ∷ t) h =
-    (elim (is_digit b) as (λ v. is_digit b ≡ v → (v || ((b == 46) && is_digit d)) ≡ true → goes_on_number 0 b ≡ true) [
-      | true ↦ λ e k. digit_goes 0 b e
-      | false ↦ λ e k. dot_goes 0 b (first_so (b == 46) (is_digit d) k)
-    ]) refl h
+begins_number b (d ∷ t) h = grind arith
 
 number-fair : (c : Context) (b : ℕ) (t : List ℕ) → starts_number (b ∷ t) ≡ true
     → Fair c (b ∷ t) (front Numeral (number_len 0 (b ∷ t)))
-number-fair c b t h =
-    let some : 1 ≤ number_len 0 (b ∷ t) =
-    omega (
-      arith,
-      ap (λ (v : Bool). elim v as (λ w. ℕ) [ true ↦ 1 + number_len b t | false ↦ 0 ])
-          (begins_number b t h),
-    ) in
-    fair_of c (b ∷ t) Numeral (number_len 0 (b ∷ t)) some (number-size 0 (b ∷ t)) (λ e. omega (arith, e, some))
+number-fair c b t h = grind (arith, t, begins_number b t h, number-size 0 (b ∷ t))
 
 pub c_front-fair : (c : Context) (effect : ℕ → Effect) (takes_sign includes : Bool) (b : ℕ) (t : List ℕ)
     → Fair c (b ∷ t) (c_front effect takes_sign includes (b ∷ t))

@@ -1,5 +1,5 @@
 -- A first byte that leaves but one rule of C text tells it.
-use Rattle.cweb_rules.proofs.Common.{◌≡◌, ℕ, ◌+◌, Bool, true, false, ◌||◌, ◌&&◌, ◌==◌, not, ◌≤◌, List, [], ◌∷◌, length, drop, slice_index_or, refl, ap, sym, ◌∙◌, subst, arith, if◌then◌else◌, codes, list_all, eqb-true, begins, is_blank, is_digit, is_one_of, is_word_byte, starts_section, has_delimiter, is_closed, is_quoted, literal_prefix, raw_prefix, starts_include, starts_literal, starts_raw, included_name, behind_dot, behind_slash, lead, c_rule, is_settled, starts_number, Lead, Rule, and-false, and_parts}
+use Rattle.cweb_rules.proofs.Common.{◌≡◌, ℕ, Bool, true, false, ◌||◌, ◌&&◌, ◌==◌, not, ◌≤◌, List, [], ◌∷◌, length, slice_index_or, refl, ap, sym, ◌∙◌, subst, arith, if◌then◌else◌, codes, list_all, eqb-true, begins, is_blank, is_digit, is_one_of, is_word_byte, starts_section, is_quoted, literal_prefix, raw_prefix, starts_include, starts_literal, starts_raw, behind_dot, behind_slash, lead, c_rule, is_settled, starts_number, Lead, and-false, and_parts}
 use Rattle.cweb_rules.specs.declared.rule.Lead.TheVariants as first
 use Rattle.cweb_rules.specs.declared.rule.Rule.TheVariants as rule
 use Rattle.cweb_rules.proofs.Seams.{differs}
@@ -17,18 +17,11 @@ module _ (b : ℕ) (settled : is_settled b ≡ true) where
   differ x h = differs is_unsettled x b h (ap not settled)
 
   differ_back : (x : ℕ) → is_unsettled x ≡ true → (b == x) ≡ false
-  differ_back x h = (elim (b == x) as (λ v. (b == x) ≡ v → v ≡ false) [
-    | true ↦ λ e.
-        let same : is_settled b ≡ is_settled x = ap is_settled (eqb-true b x e) in
-        let wrong : true ≡ false = sym h ∙ ap not (sym same ∙ settled) in cc
-    | false ↦ λ e. refl
-  ]) refl
+  differ_back x h = grind (arith, eqb-true b x)
 
   none : (set : List ℕ) → list_all is_unsettled set ≡ true → is_one_of set b ≡ false
   none [] h = refl
-  none (x ∷ set) h =
-      let p = and_parts (is_unsettled x) (list_all is_unsettled set) h in
-      ap (λ v. v || is_one_of set b) (differ x p.0) ∙ none set p.1
+  none (x ∷ set) h = grind (arith, and_parts (is_unsettled x) (list_all is_unsettled set) h, differ x, none set)
 
   no_digit : is_digit b ≡ false
   no_digit = last_false
@@ -42,24 +35,19 @@ module _ (b : ℕ) (settled : is_settled b ≡ true) where
   no_sign x s t h = ap (λ v. v && begins s t) (differ x h)
 
   no_raw_prefix : (t : List ℕ) → raw_prefix (b ∷ t) ≡ 0
-  no_raw_prefix t = λ i. if no_sign 117 (codes "8R\"") t refl i then 2 else (if no_sign 76 (codes "R\"") t refl i
-      || no_sign 117 (codes "R\"") t refl i || no_sign 85 (codes "R\"") t refl i then 1 else 0)
+  no_raw_prefix t = grind (arith, no_sign 117 (codes "R\"") t refl, no_sign 85 (codes "R\"") t refl)
 
   no_raw : (t : List ℕ) → starts_raw (b ∷ t) ≡ false
-  no_raw t = ap (λ n. begins (codes "R\"") (drop n (b ∷ t)) && has_delimiter (drop (n + 2) (b ∷ t))) (no_raw_prefix t)
-      ∙ ap (λ v. v && has_delimiter (drop (0 + 2) (b ∷ t))) (no_sign 82 (codes "\"") t refl)
+  no_raw t = grind (arith, no_raw_prefix t, no_sign 82 (codes "\"") t refl)
 
   no_prefix : (t : List ℕ) → literal_prefix (b ∷ t) ≡ 0
-  no_prefix t = λ i. if no_sign 117 (codes "8") t refl i && is_quoted 2
-      (b ∷ t) then 2 else (if (no_sign 76 [] t refl i || no_sign 117 [] t refl i || no_sign 85 [] t refl i)
-      && is_quoted 1 (b ∷ t) then 1 else 0)
+  no_prefix t = grind (arith, no_sign 76, no_sign 117, no_sign 85)
 
   no_literal : (t : List ℕ) → starts_literal (b ∷ t) ≡ false
   no_literal t = ap (λ n. is_quoted n (b ∷ t)) (no_prefix t) ∙ (λ i. no_sign 34 [] t refl i || no_sign 39 [] t refl i)
 
   no_include : (includes : Bool) (t : List ℕ) → (includes && starts_include (b ∷ t)) ≡ false
-  no_include includes t =
-      ap (λ v. includes && (v && is_closed (included_name t).how)) (no_sign 60 [] t refl) ∙ and-false includes
+  no_include includes t = grind (arith, no_sign 60, and-false includes)
 
   no_number : (t : List ℕ) → starts_number (b ∷ t) ≡ false
   no_number [] = no_digit
@@ -87,12 +75,7 @@ IsTold includes t first.Open = Unit {0}
 
 told-settled : (includes : Bool) (b : ℕ) (t : List ℕ) → is_settled b ≡ true
     → IsTold includes (b ∷ t) (if is_word_byte b then first.Word else first.Sign)
-told-settled includes b t settled =
-    (elim (is_word_byte b) as (λ v. c_rule includes (b ∷ t) ≡ (if v then rule.Identifier else rule.Punctuator)
-    → IsTold includes (b ∷ t) (if v then first.Word else first.Sign)) [
-      | true ↦ λ e. sym e
-      | false ↦ λ e. sym e
-    ]) (settled-rule b settled includes t)
+told-settled includes b t settled = grind (arith, IsTold includes (b ∷ t), settled-rule b settled includes t)
 
 told-unblank : (includes : Bool) (b : ℕ) (t : List ℕ)
     → IsTold includes (b ∷ t) (if is_settled b then (if is_word_byte b then first.Word else first.Sign) else first.Open)
@@ -138,12 +121,10 @@ pub slash-told : (includes : Bool) (t : List ℕ) → 2 ≤ length t → slice_i
     → behind_slash (slice_index_or t 1 0) ≡ c_rule includes t
 slash-told includes [] h e = absurd (omega (arith, h))
 slash-told includes (b ∷ []) h e = absurd (omega (arith, h))
-slash-told includes (b ∷ d ∷ t) h e =
-    subst (λ x. behind_slash d ≡ c_rule includes (x ∷ d ∷ t)) (sym e) (slash_rule includes d t)
+slash-told includes (b ∷ d ∷ t) h e = cc (slash_rule includes d t)
 
 pub dot-told : (includes : Bool) (t : List ℕ) → 2 ≤ length t → slice_index_or t 0 0 ≡ 46
     → behind_dot (slice_index_or t 1 0) ≡ c_rule includes t
 dot-told includes [] h e = absurd (omega (arith, h))
 dot-told includes (b ∷ []) h e = absurd (omega (arith, h))
-dot-told includes (b ∷ d ∷ t) h e =
-    subst (λ x. behind_dot d ≡ c_rule includes (x ∷ d ∷ t)) (sym e) (dot_rule includes d t)
+dot-told includes (b ∷ d ∷ t) h e = cc (dot_rule includes d t)

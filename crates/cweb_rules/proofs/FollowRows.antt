@@ -1,5 +1,5 @@
 -- Tokens that stand alone, and a relation that has all bytes that join, computed.
-use Rattle.cweb_rules.proofs.Common.{◌≡◌, ℕ, Bool, true, ◌||◌, ◌&&◌, ◌==◌, not, [], ◌∷◌, ◌++◌, refl, ap, codes, is_one_of, is_digit, JoinsAll, IsToken, Code, Quoted, Identifier, Numeral, Punctuator, GiveAt, Closed, or_left}
+use Rattle.cweb_rules.proofs.Common.{ℕ, Bool, true, ◌||◌, ◌&&◌, ◌==◌, not, [], ◌∷◌, ◌++◌, refl, codes, is_one_of, is_digit, JoinsAll, IsToken, Code, Quoted, Identifier, Numeral, Punctuator, GiveAt, Closed, or_left}
 
 -- operator bytes, but `.` only after `.`; or `.` and a digit
 abbrev is_operator : ℕ → Bool

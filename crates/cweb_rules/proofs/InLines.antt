@@ -1,5 +1,5 @@
 -- What the rules name at the front of a line has no line end.
-use Rattle.cweb_rules.proofs.Common.{◌≡◌, ℕ, zero, suc, ◌+◌, ◌-◌, Bool, true, false, ◌&&◌, List, [], ◌∷◌, ◌++◌, Option, Some, None, length, take, drop, refl, sym, ◌∙◌, if◌then◌else◌, codes, prefix_len, ne_eqb, begins, is_blank, is_line_end, is_word_byte, at_line_end, starts_section, Effect, Nothing, Define, Format, Program, Named, InsertDefs, Joins, GiveAt, Faulty, in_limbo, in_text, in_macro, in_c, letter, Transliteration, Look, Goes, Ends, Reach, reach, reach_in, with_unit, body, End, Cut, look_in_literal, look_in_include, look_in_raw, Kind, Skipped, Section, Code, Letter, ControlText, Verbatim, Constant, Occurrence, Blanks, LineEnd, Comment, Quoted, Defined, Identifier, Numeral, Punctuator, Front, front, section_at, letter_is, name_at, code_front, code_at, text_front, comment_at, line_comment_at, literal_prefix, starts_literal, quoted, quote_of, raw_prefix, delimiter, closing_sign, starts_raw, starts_include, c_front, head_as, IsLine, front_in, Context, Limbo, TeX, Definition, Macro, CText, listed, longest, number_len, starts_number}
+use Rattle.cweb_rules.proofs.Common.{arith, ◌≡◌, ℕ, zero, suc, ◌+◌, ◌-◌, Bool, true, false, ◌&&◌, List, [], ◌∷◌, ◌++◌, Option, Some, None, length, take, drop, refl, sym, ◌∙◌, if◌then◌else◌, codes, prefix_len, ne_eqb, begins, is_blank, is_line_end, is_word_byte, at_line_end, starts_section, Effect, Named, in_limbo, in_text, in_macro, in_c, letter, Transliteration, Look, Goes, Ends, Reach, reach, reach_in, with_unit, body, End, Cut, look_in_literal, look_in_include, look_in_raw, Kind, Section, Blanks, LineEnd, Comment, Quoted, Identifier, Front, front, section_at, letter_is, name_at, code_front, code_at, text_front, comment_at, line_comment_at, literal_prefix, starts_literal, quoted, quote_of, raw_prefix, delimiter, closing_sign, starts_raw, starts_include, c_front, head_as, IsLine, front_in, Context, Limbo, TeX, Definition, Macro, CText, listed, longest, number_len, starts_number}
 use Rattle.cweb_rules.specs.declared.effect.Effect.TheVariants as effect
 
 -- a piece of one line
@@ -52,8 +52,7 @@ IsLine-drop (suc n) [] h = tt
 IsLine-drop (suc n) (b ∷ t) h = IsLine-drop n t h.1
 
 section-stands : (t : List ℕ) → IsLine t → Stands t (section_at t)
-section-stands t h = choose t (begins (codes "@*") t)
-    (front (Section true) 2) (front (Section false) 1) (λ v. IsLine-take 2 t h) (λ v. IsLine-take 1 t h)
+section-stands t h = grind (arith, choose t (begins (codes "@*") t) (front (Section true) 2) (front (Section false) 1))
 
 letter-stands : (o : Option Transliteration) (t : List ℕ) → IsLine t → Stands t (letter_is o t)
 letter-stands None t h = IsLine-take 2 t h
@@ -119,9 +118,7 @@ pub stands : (c : Context) (includes : Bool) (b : ℕ) (t : List ℕ)
     → IsLine (b ∷ t) → Stands (b ∷ t) (front_in c includes (b ∷ t))
 stands Limbo includes b t h = text-stands in_limbo (b ∷ t) h
 stands TeX includes b t h = text-stands in_text (b ∷ t) h
-stands (Definition begun) includes b t h =
-    let f = c_front in_macro true false (b ∷ t) in
-    head-stands f.kind f (b ∷ t) h refl (c-stands in_macro true false b t h)
+stands (Definition begun) includes b t h = grind (arith, head-stands, c-stands in_macro true false b t h)
 stands Macro includes b t h = choose (b ∷ t) (begins (codes "\\") (b ∷ t) && at_line_end t) _ _
     (λ v. IsLine-take 1 (b ∷ t) h) (λ v. c-stands in_macro true false b t h)
 stands CText includes b t h = c-stands in_c false includes b t h

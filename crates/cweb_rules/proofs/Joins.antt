@@ -1,5 +1,5 @@
 -- What stands at the front stays, whatever follows that can't go on with it.
-use Rattle.cweb_rules.proofs.Common.{◌≡◌, ℕ, ◌+◌, Bool, true, false, cond, ◌&&◌, ◌||◌, ◌==◌, not, List, [], ◌∷◌, ◌++◌, length, max, refl, ap, sym, ◌∙◌, subst, list_all, prefix_len, eqb-true, begins, first_is, longest, all_join, and_parts}
+use Rattle.cweb_rules.proofs.Common.{arith, ◌≡◌, ℕ, Bool, true, false, ◌&&◌, ◌==◌, not, List, [], ◌∷◌, ◌++◌, refl, sym, ◌∙◌, list_all, eqb-true, begins, first_is, longest, all_join, and_parts}
 
 pub second : (a b : Bool) → a ≡ true → (a && b) ≡ false → b ≡ false
 second true b p e = e
@@ -16,11 +16,7 @@ crosses : (joins : ℕ → ℕ → Bool) (p : List ℕ) (b : ℕ) (t more : List
 crosses joins [] b t more j fits misses = cc
 crosses joins (x ∷ []) b t more j fits misses = let e = sym fits ∙ misses in cc
 crosses joins (x ∷ y ∷ p) b [] [] j fits misses = let e = sym fits ∙ misses in cc
-crosses joins (x ∷ y ∷ p) b [] (c ∷ more) j fits misses =
-    let h = and_parts (x == b) (begins (y ∷ p) (c ∷ more)) fits in
-    let k = and_parts (y == c) (begins p more) h.1 in
-    let m : joins x y ≡ true = (and_parts (joins x y) (all_join joins (y ∷ p)) j).0 in
-    subst (λ n. joins n c ≡ true) (eqb-true x b h.0) (subst (λ n. joins x n ≡ true) (eqb-true y c k.0) m)
+crosses joins (x ∷ y ∷ p) b [] (c ∷ more) j fits misses = grind (arith, eqb-true x b, eqb-true y c)
 crosses joins (x ∷ y ∷ p) b (c ∷ t) more j fits misses =
     let h = and_parts (x == b) (begins (y ∷ p) (c ∷ t ++ more)) fits in
     crosses joins (y ∷ p) c t more (and_parts (joins x y) (all_join joins (y ∷ p)) j).1
@@ -29,9 +25,7 @@ crosses joins (x ∷ y ∷ p) b (c ∷ t) more j fits misses =
 pub begins-append : (p t more : List ℕ) → begins p t ≡ true → begins p (t ++ more) ≡ true
 begins-append [] t more h = refl
 begins-append (x ∷ p) [] more h = cc
-begins-append (x ∷ p) (b ∷ t) more h =
-    let e = and_parts (x == b) (begins p t) h in
-    ap (λ v. v && begins p (t ++ more)) e.0 ∙ begins-append p t more e.1
+begins-append (x ∷ p) (b ∷ t) more h = grind (arith, and_parts (x == b) (begins p t) h, begins-append p t more)
 
 by_cases : (a b : Bool) → (a ≡ true → b ≡ true) → (b ≡ true → a ≡ false → true ≡ false) → b ≡ a
 by_cases true b f g = f refl
@@ -47,9 +41,7 @@ pub longest_stays : (joins : ℕ → ℕ → Bool) (ps : List (List ℕ)) (b : �
     ≡ true → seam_joins joins b t more ≡ false → longest ps (b ∷ t ++ more) ≡ longest ps (b ∷ t)
 longest_stays joins [] b t more j seam = refl
 longest_stays joins (p ∷ ps) b t more j seam =
-    let js = and_parts (all_join joins p) (list_all (all_join joins) ps) j in
-    ap (λ v. max (cond v (length p) 1) (longest ps (b ∷ t ++ more))) (begins_stays joins p b t more js.0 seam)
-    ∙ ap (λ n. max (cond (begins p (b ∷ t)) (length p) 1) n) (longest_stays joins ps b t more js.1 seam)
+    grind (arith, begins_stays joins p b t more, longest_stays joins ps b t more)
 
 not_both : (v : Bool) → not v ≡ v → true ≡ false
 not_both true e = sym e
@@ -57,8 +49,4 @@ not_both false e = e
 
 -- bytes that a test tells apart aren't equal
 pub unlike : (p : ℕ → Bool) (c b : ℕ) (v : Bool) → p b ≡ v → p c ≡ not v → (c == b) ≡ false
-unlike p c b v h k =
-    elim (c == b) as (λ w. (c == b) ≡ w → w ≡ false) [
-      | true ↦ λ e. let same : p c ≡ p b = ap p (eqb-true c b e) in not_both v (sym k ∙ same ∙ h)
-      | false ↦ λ e. refl
-    ] refl
+unlike p c b v h k = grind (arith, p c, p b, eqb-true c b, not_both v)

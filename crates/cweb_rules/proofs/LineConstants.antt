@@ -1,6 +1,6 @@
 -- What constants, letters and control texts are in a line doesn't depend on what comes after it.
-use Rattle.cweb_rules.proofs.Common.{◌≡◌, ◌≤◌, ℕ, ◌+◌, ◌*◌, Bool, true, false, ◌&&◌, ◌||◌, ◌==◌, not, List, [], ◌∷◌, ◌++◌, Option, Some, None, length, take, drop, refl, ap, ◌∙◌, subst, arith, if◌then◌else◌, codes, nat_le, min, list_all, prefix_len, take-append-le, drop-append-le, length-take-le, prefix_len-le-length, begins, is_line_end, is_gap, is_octal, is_hex, is_replacing, character, escapes, escaped, octal_value, octal, after_backslash, stands_alone, character_at, faulty_size, constant_of, constant, hex_value, hex_at, letter_with, letter_after, letter, Transliteration, Character, Cut, control_text, look_in_control, AtLineEnd, and-false, and_parts}
-use Rattle.cweb_rules.proofs.Seams.{in_line, begins_line, drop_line, run_line}
+use Rattle.cweb_rules.proofs.Common.{◌≡◌, ◌≤◌, ℕ, ◌+◌, true, false, List, [], ◌∷◌, ◌++◌, Option, Some, None, length, take, drop, refl, ap, ◌∙◌, subst, arith, if◌then◌else◌, codes, prefix_len, take-append-le, drop-append-le, length-take-le, prefix_len-le-length, begins, is_gap, is_octal, is_hex, is_replacing, character, escapes, escaped, octal, after_backslash, stands_alone, character_at, faulty_size, constant_of, constant, hex_at, letter_with, letter_after, letter, Transliteration, Character, Cut, control_text, look_in_control, AtLineEnd, and-false}
+use Rattle.cweb_rules.proofs.Seams.{begins_line, drop_line, run_line}
 use Rattle.cweb_rules.proofs.Reaches.{reach-line}
 use Rattle.cweb_rules.proofs.Looks.{whole, control-local, control-units}
 use Rattle.cweb_rules.proofs.Sizes.{begins-size}
@@ -15,23 +15,9 @@ pub control_text-line : (t more : List ℕ) → AtLineEnd more → control_text 
 control_text-line t more e = reach-line look_in_control Cut t more
     (control-local more e) (control-local [] tt) (whole look_in_control control-units t) (control-stops more e)
 
-escaped-line : (es : List (ℕ × ℕ)) (t more : List ℕ) → list_all (λ e. in_line e.0) es ≡ true
-    → AtLineEnd more → escaped es (t ++ more) ≡ escaped es t
-escaped-line [] t more h e = refl
-escaped-line (x ∷ es) t more h e =
-    let hs = and_parts (in_line x.0) (list_all (λ e. in_line e.0) es) h in
-    λ i. if begins_line
-    (x.0 ∷ []) t more (ap (λ v. v && true) hs.0) e i then character x.1 2 else escaped-line es t more hs.1 e i
-
 after_backslash-line : (t more : List ℕ) → AtLineEnd more → after_backslash (t ++ more) ≡ after_backslash t
 after_backslash-line t more e =
-    let k : ℕ = prefix_len is_octal t in
-    let n : ℕ = min 3 k in
-    ap (λ k. let n = min 3 k in if n == 0 then escaped escapes (t ++ more) else octal (take n (t ++ more)))
-    (run_line is_octal t more refl e)
-    ∙ (λ i.
-    if n == 0 then escaped-line escapes t more refl e i
-    else ap octal (take-append-le n t more (omega (arith, prefix_len-le-length is_octal t))) i)
+    grind (arith, run_line is_octal t more refl e, take-append-le, prefix_len-le-length is_octal t)
 
 character_at-line : (t more : List ℕ) → AtLineEnd more → character_at (t ++ more) ≡ character_at t
 character_at-line [] [] e = refl
@@ -53,15 +39,10 @@ escaped-fits (e ∷ es) t = (elim (begins (e.0 ∷ []) t)
     ]) refl
 
 octal-fits : (n : ℕ) (t : List ℕ) → n ≤ length t → IsFit (octal (take n t)) (1 + length t)
-octal-fits n t h =
-    elim (nat_le (octal_value (take n t)) 255) as (λ v. IsFit (if v then character (octal_value (take n t))
-    (1 + length (take n t)) else None) (1 + length t)) [ true ↦ omega (arith, h, length-take-le n t h) | false ↦ tt ]
+octal-fits n t h = grind (arith, length-take-le n t h)
 
 after_backslash-fits : (t : List ℕ) → IsFit (after_backslash t) (1 + length t)
-after_backslash-fits t =
-    let n : ℕ = min 3 (prefix_len is_octal t) in
-    elim (n == 0) as (λ v. IsFit (if v then escaped escapes t else octal (take n t)) (1 + length t))
-    [ true ↦ escaped-fits escapes t | false ↦ octal-fits n t (omega (arith, prefix_len-le-length is_octal t)) ]
+after_backslash-fits t = grind (arith, escaped-fits escapes t, octal-fits, prefix_len-le-length is_octal t)
 
 character_at-fits : (t : List ℕ) → IsFit (character_at t) (length t)
 character_at-fits [] = tt
@@ -82,11 +63,7 @@ character_at-fits (b ∷ t) =
     ]) refl
 
 faulty-line : (t more : List ℕ) → AtLineEnd more → faulty_size (t ++ more) ≡ faulty_size t
-faulty-line t more e =
-    let p : ℕ → Bool = λ b. not ((b == 39) || is_line_end b) in
-    let n : ℕ = prefix_len p t in
-    ap (λ (n : ℕ). if begins (codes "'") (drop n (t ++ more)) then n + 1 else n) (run_line p t more refl e)
-    ∙ ap (λ v. if v then n + 1 else n) (drop_line (codes "'") n t more refl e (prefix_len-le-length p t))
+faulty-line t more e = grind (arith, run_line, drop_line (codes "'"), prefix_len-le-length)
 
 constant_of-line : (o : Option Character) (t more : List ℕ) → AtLineEnd more
     → IsFit o (length t) → constant_of o (t ++ more) ≡ constant_of o t
@@ -101,9 +78,7 @@ constant-line t more e = ap (λ o. constant_of o (t ++ more)) (character_at-line
 letter_with-line : (byte start gap : ℕ) (t more : List ℕ) → AtLineEnd more → gap ≤ length t
     → letter_with byte start gap (t ++ more) ≡ letter_with byte start gap t
 letter_with-line byte start gap t more e h =
-    let same : prefix_len is_replacing (drop gap (t ++ more)) ≡ prefix_len is_replacing (drop gap t) =
-    ap (prefix_len is_replacing) (drop-append-le gap t more h) ∙ run_line is_replacing (drop gap t) more refl e in
-    λ i. if gap == 0 then None else Some (record { byte = byte; start = start + gap; size = same i })
+    cc (drop-append-le gap t more h, run_line is_replacing (drop gap t) more refl e)
 
 letter_of-line : (o : Option ℕ) (start : ℕ) (t more : List ℕ)
     → AtLineEnd more → (elim o as (λ w. Option Transliteration)
@@ -115,12 +90,10 @@ letter_of-line (Some byte) start t more e =
     ∙ letter_with-line byte start (prefix_len is_gap t) t more e (prefix_len-le-length is_gap t)
 
 hex_none : (a : ℕ) (t more : List ℕ) → hex_at (a ∷ 10 ∷ more) ≡ None
-hex_none a t more = ap (λ v. if v && nat_le 128
-    (16 * hex_value a + hex_value 10) then Some (16 * hex_value a + hex_value 10) else None) (and-false (is_hex a))
+hex_none a t more = cc (and-false (is_hex a))
 
 letter_after-none : (gap : ℕ) (t : List ℕ) → hex_at t ≡ None → letter_after gap t ≡ None
-letter_after-none gap t h = ap (λ (o : Option ℕ). elim o as (λ w. Option Transliteration)
-    [ None ↦ None | Some byte ↦ letter_with byte (gap + 2) (prefix_len is_gap (drop 2 t)) (drop 2 t) ]) h
+letter_after-none gap t h = cc
 
 letter_after-line : (gap : ℕ) (t more : List ℕ) → AtLineEnd more → letter_after gap (t ++ more) ≡ letter_after gap t
 letter_after-line gap [] [] e = refl
@@ -133,7 +106,4 @@ letter_after-line gap (a ∷ b ∷ t) more e = letter_of-line (hex_at (a ∷ b �
 
 pub letter-line : (t more : List ℕ) → AtLineEnd more → letter (t ++ more) ≡ letter t
 letter-line t more e =
-    let g = prefix_len is_gap t in
-    ap (λ g. letter_after g (drop g (t ++ more))) (run_line is_gap t more refl e)
-    ∙ ap (letter_after g) (drop-append-le g t more (prefix_len-le-length is_gap t))
-    ∙ letter_after-line g (drop g t) more e
+    grind (arith, run_line is_gap t more refl e, drop-append-le, prefix_len-le-length is_gap t, letter_after-line)

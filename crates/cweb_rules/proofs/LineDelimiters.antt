@@ -1,53 +1,29 @@
 -- What the rules of raw literals and included names name in a line doesn't depend on what comes after it.
-use Rattle.cweb_rules.proofs.Common.{◌≡◌, ◌≤◌, ℕ, suc, ◌+◌, Bool, true, false, cond, ◌&&◌, ◌||◌, not, List, [], ◌∷◌, ◌++◌, length, take, drop, refl, ap, sym, ◌∙◌, arith, if◌then◌else◌, codes, nat_le, list_all, prefix_len, take-append-le, drop-append-le, length-drop, length-take-le, prefix_len-le-length, begins, is_blank, is_line_end, is_delimiter, is_one_of, Reach, Cut, included_name, raw_literal, look_in_include, look_in_raw, Front, quoted, raw_prefix, has_delimiter, starts_raw, delimiter, closing_sign, raw_at, is_closed, starts_include, include_at, AtLineEnd, opens_raw, or-true, and_parts}
+use Rattle.cweb_rules.proofs.Common.{◌≡◌, ◌≤◌, ℕ, suc, ◌+◌, true, false, cond, ◌&&◌, List, [], ◌∷◌, ◌++◌, length, take, drop, refl, ap, ◌∙◌, arith, codes, list_all, prefix_len, take-append-le, drop-append-le, length-drop, length-take-le, prefix_len-le-length, begins, is_blank, is_delimiter, Cut, included_name, raw_literal, look_in_include, look_in_raw, Front, quoted, raw_prefix, has_delimiter, starts_raw, delimiter, closing_sign, raw_at, starts_include, include_at, AtLineEnd, opens_raw, or-true, and_parts}
 use Rattle.cweb_rules.proofs.Seams.{in_line, begins_line, drop_line, run_line}
 use Rattle.cweb_rules.proofs.Reaches.{reach-line}
 use Rattle.cweb_rules.proofs.Looks.{whole, include-local, include-units, raw-local, raw-units}
 use Rattle.cweb_rules.proofs.Sizes.{begins-size, reach-size, raw-within, include-within}
 use Rattle.cweb_rules.proofs.LineComments.{and_same}
-use Rattle.cweb_rules.proofs.LineLiterals.{quoted-line, quoted_ends, or_size}
+use Rattle.cweb_rules.proofs.LineLiterals.{quoted-line, quoted_ends}
 
 -- RAW LITERALS
 
 pub raw_prefix-line : (t more : List ℕ) → AtLineEnd more → raw_prefix (t ++ more) ≡ raw_prefix t
-raw_prefix-line t more e =
-    λ i. if begins_line (codes "u8R\"") t more refl e i then 2 else (if begins_line (codes "LR\"") t more refl e i
-    || begins_line (codes "uR\"") t more refl e i || begins_line (codes "UR\"") t more refl e i then 1 else 0)
-
-raw_letter : (t : List ℕ)
-    → (begins (codes "LR\"") t || begins (codes "uR\"") t || begins (codes "UR\"") t) ≡ true → 1 ≤ length t
-raw_letter t h = or_size (begins (codes "LR\"") t || begins (codes "uR\"") t) (begins (codes "UR\"") t)
-    (length t) h (λ k. or_size (begins (codes "LR\"") t) (begins (codes "uR\"") t) (length t) k
-    (λ l. omega (arith, begins-size (codes "LR\"") t l)) (λ l. omega (arith, begins-size (codes "uR\"") t l)))
-    (λ l. omega (arith, begins-size (codes "UR\"") t l))
+raw_prefix-line t more e = grind (arith, begins_line (codes "UR\"") t more refl e)
 
 raw_prefix-fits : (t : List ℕ) → raw_prefix t ≤ length t
-raw_prefix-fits t = (elim (begins (codes "u8R\"") t) as (λ v. begins (codes "u8R\"") t ≡ v
-    → (if v then 2 else (if begins (codes "LR\"") t || begins (codes "uR\"") t || begins (codes "UR\"") t
-    then 1 else 0)) ≤ length t) [
-      | true ↦ λ h. omega (arith, begins-size (codes "u8R\"") t h)
-      | false ↦ λ h. (elim (begins (codes "LR\"") t || begins (codes "uR\"") t || begins (codes "UR\"") t) as
-          (λ v. (begins (codes "LR\"") t || begins (codes "uR\"") t || begins (codes "UR\"") t) ≡ v
-          → (if v then 1 else 0) ≤ length t) [ true ↦ λ k. raw_letter t k | false ↦ λ k. omega arith ]) refl
-    ]) refl
+raw_prefix-fits t = grind (arith, begins-size (codes "u8R\"") t)
 
 has_delimiter-line : (t more : List ℕ) → AtLineEnd more → has_delimiter (t ++ more) ≡ has_delimiter t
 has_delimiter-line t more e =
-    let n = prefix_len is_delimiter t in
-    ap (λ n. nat_le n 16 && begins (codes "(") (drop n (t ++ more))) (run_line is_delimiter t more refl e)
-    ∙ ap (λ v. nat_le n 16 && v) (drop_line (codes "(") n t more refl e (prefix_len-le-length is_delimiter t))
+    grind (arith, run_line is_delimiter t more refl e, drop_line (codes "("), prefix_len-le-length is_delimiter t)
 
 pub sign-fits : (t : List ℕ) → begins (codes "R\"") (drop (raw_prefix t) t) ≡ true → raw_prefix t + 2 ≤ length t
 sign-fits t h = omega (arith, begins-size (codes "R\"") (drop (raw_prefix t) t) h, length-drop (raw_prefix t) t)
 
 pub starts_raw_line : (t more : List ℕ) → AtLineEnd more → starts_raw (t ++ more) ≡ starts_raw t
-starts_raw_line t more e =
-    let n = raw_prefix t in
-    ap (λ n. begins (codes "R\"") (drop n (t ++ more)) && has_delimiter (drop (n + 2) (t ++ more)))
-    (raw_prefix-line t more e)
-    ∙ and_same (begins (codes "R\"") (drop n (t ++ more))) (begins (codes "R\"") (drop n t)) (has_delimiter (drop (n +
-    2) (t ++ more))) (has_delimiter (drop (n + 2) t)) (drop_line (codes "R\"") n t more refl e (raw_prefix-fits t))
-    (λ h. ap has_delimiter (drop-append-le (n + 2) t more (sign-fits t h)) ∙ has_delimiter-line (drop (n + 2) t) more e)
+starts_raw_line t more e = grind (arith, and_same, raw_prefix-fits t, drop-append-le, sign-fits t, has_delimiter-line)
 
 pub delimiter-line : (t more : List ℕ) → AtLineEnd more → delimiter (t ++ more) ≡ delimiter t
 delimiter-line t more e = ap (λ n. take n (t ++ more)) (run_line is_delimiter t more refl e)
@@ -55,13 +31,7 @@ delimiter-line t more e = ap (λ n. take n (t ++ more)) (run_line is_delimiter t
 
 -- no line end stands in a delimiter
 delimits : (b : ℕ) → is_delimiter b ≡ true → in_line b ≡ true
-delimits b h = (elim (is_line_end b) as (λ v. is_line_end b ≡ v → not v ≡ true) [
-  | true ↦ λ e.
-      let f : is_delimiter b ≡ false = (λ i. not ((is_blank b || e i) || is_one_of (codes "()\\\"@") b))
-      ∙ ap (λ v. not (v || is_one_of (codes "()\\\"@") b)) (or-true (is_blank b)) in
-      sym (sym h ∙ f)
-  | false ↦ λ e. refl
-]) refl
+delimits b h = grind (arith, or-true (is_blank b))
 
 delimiter-in_line : (t : List ℕ) → list_all in_line (delimiter t) ≡ true
 delimiter-in_line [] = refl
@@ -75,9 +45,7 @@ delimiter-in_line (b ∷ t) = (elim (is_delimiter b) as (λ v.
 
 with_end : (d : List ℕ) → list_all in_line d ≡ true → list_all in_line (d ++ codes "\"") ≡ true
 with_end [] h = refl
-with_end (b ∷ d) h =
-    let hs = and_parts (in_line b) (list_all in_line d) h in
-    ap (λ v. v && list_all in_line (d ++ codes "\"")) hs.0 ∙ with_end d hs.1
+with_end (b ∷ d) h = grind (arith, and_parts (in_line b) (list_all in_line d) h, in_line b, with_end d)
 
 pub closing_sign-in_line : (t : List ℕ) → list_all in_line (closing_sign t) ≡ true
 closing_sign-in_line t = with_end (delimiter t) (delimiter-in_line t)
@@ -87,9 +55,7 @@ raw_from m d t = let n = m + length d + 1 in quoted n (raw_literal (codes ")" ++
 
 pub has_delimiter-size : (t : List ℕ) → has_delimiter t ≡ true → length (delimiter t) + 1 ≤ length t
 has_delimiter-size t h =
-    let n : ℕ = prefix_len is_delimiter t in
-    let sign = begins-size (codes "(") (drop n t) (and_parts (nat_le n 16) (begins (codes "(") (drop n t)) h).1 in
-    omega (arith, sign, length-drop n t, length-take-le n t (prefix_len-le-length is_delimiter t))
+    grind (arith, begins-size (codes "("), and_parts, length-drop, length-take-le, prefix_len-le-length is_delimiter t)
 
 pub raw_at_line : (t more : List ℕ) → AtLineEnd more → starts_raw t ≡ true
     → opens_raw t ≡ false → raw_at (t ++ more) ≡ raw_at t
@@ -120,8 +86,7 @@ included-line t more e = reach-line look_in_include Cut t more
 
 pub starts_include_line : (b : ℕ) (t more : List ℕ) → AtLineEnd more
     → starts_include (b ∷ t ++ more) ≡ starts_include (b ∷ t)
-starts_include_line b t more e = λ i.
-    begins_line (codes "<") (b ∷ t) more refl e i && is_closed (ap (λ (r : Reach). r.how) (included-line t more e) i)
+starts_include_line b t more e = cc (included-line t more e)
 
 pub include_at_line : (b : ℕ) (t more : List ℕ) → AtLineEnd more → include_at (b ∷ t ++ more) ≡ include_at (b ∷ t)
 include_at_line b t more e = ap (λ r. quoted 1 r (b ∷ t ++ more)) (included-line t more e)

@@ -1,5 +1,5 @@
 -- What the rules name in a line doesn't depend on what comes after it.
-use Rattle.cweb_rules.proofs.Common.{◌≡◌, ◌≤◌, ℕ, Bool, true, false, ◌&&◌, ◌||◌, List, ◌∷◌, ◌++◌, length, refl, ap, ◌∙◌, if◌then◌else◌, codes, prefix_len, Place, begins, is_blank, is_line_end, is_digit, is_word_byte, at_line_end, starts_section, Effect, in_limbo, in_text, in_macro, in_c, Kind, Skipped, Section, Code, Letter, ControlText, Verbatim, Constant, Occurrence, Blanks, LineEnd, Comment, Quoted, Defined, Identifier, Numeral, Punctuator, Front, front, section_at, text_front, starts_raw, starts_literal, starts_include, include_at, c_front, macro_front, head_as, head_front, AtLineEnd, opens_comment, opens_literal, opens_raw, opens_code, text_opens, c_opens, macro_opens, opens_in, front_in, Context, Limbo, TeX, Definition, Macro, CText, listed, longest, number_len, goes_on_number, starts_number, or_parts}
+use Rattle.cweb_rules.proofs.Common.{arith, ◌≡◌, ◌≤◌, ℕ, Bool, true, false, ◌&&◌, ◌||◌, List, ◌∷◌, ◌++◌, length, refl, ap, ◌∙◌, if◌then◌else◌, codes, prefix_len, Place, begins, is_blank, is_line_end, is_digit, is_word_byte, at_line_end, starts_section, Effect, in_limbo, in_text, in_macro, in_c, Kind, Blanks, LineEnd, Comment, Identifier, Numeral, Punctuator, Front, front, section_at, text_front, starts_raw, starts_literal, starts_include, include_at, c_front, macro_front, head_as, head_front, AtLineEnd, opens_comment, opens_literal, opens_raw, opens_code, text_opens, c_opens, macro_opens, opens_in, front_in, Context, Limbo, TeX, Definition, Macro, CText, listed, longest, number_len, goes_on_number, starts_number, or_parts}
 use Rattle.cweb_rules.proofs.Fairs.{c_front-fair}
 use Rattle.cweb_rules.proofs.LineComments.{comment_at_line, line_comment_at_line}
 use Rattle.cweb_rules.proofs.LineCodes.{code_at_line}
@@ -16,8 +16,7 @@ step v' true x' x y' y p q e f g h = ap (λ w. if w then x' else y') e ∙ f ref
 step v' false x' x y' y p q e f g h = ap (λ w. if w then x' else y') e ∙ g refl h
 
 section_at_line : (t more : List ℕ) → AtLineEnd more → section_at (t ++ more) ≡ section_at t
-section_at_line t more e = λ i.
-    if begins_line (codes "@*") t more refl e i then front (Section true) 2 else front (Section false) 1
+section_at_line t more e = grind arith
 
 pub text_front_line : (effect : ℕ → Effect) (b : ℕ) (t more : List ℕ) → AtLineEnd more
     → text_opens effect (b ∷ t) ≡ false → text_front effect (b ∷ t ++ more) ≡ text_front effect (b ∷ t)
@@ -71,18 +70,19 @@ head_as_line : (k : Kind) (f : Front) (b : ℕ) (t more : List ℕ) → AtLineEn
 head_as_line Blanks f b t more e fits h = refl
 head_as_line LineEnd f b t more e fits h = refl
 head_as_line (Comment how) f b t more e fits h = refl
-head_as_line Identifier f b t more e fits h =
-    ap (λ v. front (Defined v) f.size) (drop_line (codes "(") f.size (b ∷ t) more refl e fits)
+head_as_line Identifier f b t more e fits h = cc (drop_line (codes "(") f.size (b ∷ t) more refl e fits)
 head_as_line _ f b t more e fits h = text_front_line in_text b t more e h
 
 head_front_line : (begun : Place) (b : ℕ) (t more : List ℕ) → AtLineEnd more
     → (c_opens in_macro (b ∷ t) || text_opens in_text (b ∷ t)) ≡ false → head_front (b ∷ t ++ more) ≡ head_front (b ∷ t)
 head_front_line begun b t more e h =
-    let hs = or_parts (c_opens in_macro (b ∷ t)) (text_opens in_text (b ∷ t)) h in
-    let f = c_front in_macro true false (b ∷ t) in
-    let fits = (c_front-fair (Definition begun) in_macro true false b t).within in
-    ap (λ (g : Front). head_as g.kind g (b ∷ t ++ more)) (c_front_line in_macro true false b t more e hs.0)
-    ∙ head_as_line f.kind f b t more e fits hs.1
+    grind (
+      arith,
+      or_parts (c_opens in_macro (b ∷ t)) (text_opens in_text (b ∷ t)) h,
+      c_front-fair (Definition begun) in_macro true false b t,
+      c_front_line in_macro true false b t more e,
+      head_as_line,
+    )
 
 -- in every context, an item that ends in its line
 pub front_line : (c : Context) (includes : Bool) (b : ℕ) (t more : List ℕ) → AtLineEnd more

@@ -1,5 +1,5 @@
 -- What the rules of literals name in a line doesn't depend on what comes after it.
-use Rattle.cweb_rules.proofs.Common.{◌≡◌, ◌≤◌, ℕ, ◌+◌, Bool, true, false, ◌&&◌, ◌||◌, ◌==◌, List, [], ◌∷◌, ◌++◌, length, take, drop, refl, ap, ◌∙◌, arith, if◌then◌else◌, codes, take-append-le, drop-append-le, length-drop, begins, Look, Reach, reach, body, size_of, Cut, Open, literal, look_in_literal, Quoted, Front, front, is_quoted, literal_prefix, starts_literal, quoted, quote_of, literal_at, AtLineEnd, is_open, opens_literal, and_parts}
+use Rattle.cweb_rules.proofs.Common.{◌≡◌, ◌≤◌, ℕ, ◌+◌, Bool, true, false, ◌||◌, ◌==◌, List, [], ◌∷◌, ◌++◌, length, take, drop, refl, ap, ◌∙◌, arith, if◌then◌else◌, codes, take-append-le, drop-append-le, length-drop, begins, Look, Reach, reach, body, size_of, Cut, Open, literal, look_in_literal, Quoted, Front, front, is_quoted, literal_prefix, starts_literal, quoted, quote_of, literal_at, AtLineEnd, is_open, opens_literal, and_parts}
 use Rattle.cweb_rules.proofs.Seams.{stops, begins_line, drop_line}
 use Rattle.cweb_rules.proofs.Reaches.{IsLocal, IsWhole}
 use Rattle.cweb_rules.proofs.Looks.{reach_ends, ended_whole, literal-local, literal-some}
@@ -43,29 +43,23 @@ one_letter t h = or_size (begins (codes "L") t || begins (codes "u") t)
 
 pub literal_prefix-line : (t more : List ℕ) → AtLineEnd more → literal_prefix (t ++ more) ≡ literal_prefix t
 literal_prefix-line t more e =
-    let two = and_same (begins (codes "u8") (t ++ more)) (begins (codes "u8") t) (is_quoted 2 (t ++ more)) (is_quoted 2
-    t) (begins_line (codes "u8") t more refl e) (λ h. is_quoted-line 2 t more e (begins-size (codes "u8") t h)) in
-    let one =
-    and_same (begins (codes "L") (t ++ more) || begins (codes "u") (t ++ more) || begins (codes "U") (t ++ more))
-    (begins (codes "L") t || begins (codes "u") t || begins (codes "U") t) (is_quoted 1 (t ++ more))
-    (is_quoted 1 t) (λ i. begins_line (codes "L") t more refl e i || begins_line (codes "u") t more refl e i
-    || begins_line (codes "U") t more refl e i)
-    (λ h. is_quoted-line 1 t more e (one_letter t h)) in
-    λ i. if two i then 2 else (if one i then 1 else 0)
+    grind (
+      arith,
+      and_same (begins (codes "u8") (t ++ more)) (begins (codes "u8") t) (is_quoted 2 (t ++ more))
+          (is_quoted 2 t) (begins_line (codes "u8") t more refl e),
+      begins_line (codes "u8") t more refl e,
+      begins-size
+          (codes "u8") t,
+      and_same (begins (codes "L") (t ++ more) || begins (codes "u") (t ++ more) || begins (codes "U") (t
+          ++ more)) (begins (codes "L") t || begins (codes "u") t || begins (codes "U") t) (is_quoted 1 (t ++ more))
+          (is_quoted 1 t),
+      begins_line (codes "u") t more refl e,
+      begins_line (codes "U") t more refl e,
+      one_letter t,
+    )
 
 literal_prefix-fits : (t : List ℕ) → literal_prefix t ≤ length t
-literal_prefix-fits t = (elim (begins (codes "u8") t && is_quoted 2 t) as (λ v. (begins (codes "u8") t && is_quoted 2 t)
-    ≡ v → (if v then 2 else (if (begins (codes "L") t || begins (codes "u") t || begins (codes "U") t) && is_quoted 1 t
-    then 1 else 0)) ≤ length t) [
-      | true ↦ λ h. begins-size (codes "u8") t (and_parts (begins (codes "u8") t) (is_quoted 2 t) h).0
-      | false ↦ λ h. (elim ((begins (codes "L") t || begins (codes "u") t || begins (codes "U") t) && is_quoted 1 t) as
-          (λ v. ((begins (codes "L") t || begins (codes "u") t || begins (codes "U") t) && is_quoted 1 t) ≡ v
-          → (if v then 1 else 0) ≤ length t) [
-            | true ↦ λ k. one_letter t
-                (and_parts (begins (codes "L") t || begins (codes "u") t || begins (codes "U") t) (is_quoted 1 t) k).0
-            | false ↦ λ k. omega arith
-          ]) refl
-    ]) refl
+literal_prefix-fits t = grind (arith, and_parts (begins (codes "u8") t) (is_quoted 2 t))
 
 pub starts_literal_line : (t more : List ℕ) → AtLineEnd more → starts_literal (t ++ more) ≡ starts_literal t
 starts_literal_line t more e = ap (λ n. is_quoted n (t ++ more)) (literal_prefix-line t more e)

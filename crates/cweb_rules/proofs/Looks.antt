@@ -1,5 +1,5 @@
 -- What the looks of items see in a line, and that their units stand in it.
-use Rattle.cweb_rules.proofs.Common.{◌≡◌, ◌≤◌, ◌<◌, ℕ, zero, suc, ◌-◌, Bool, true, false, ◌&&◌, ◌||◌, ◌==◌, List, [], ◌∷◌, ◌++◌, length, refl, ap, sym, ◌∙◌, subst, arith, if◌then◌else◌, codes, list_all, eqb-true, append-nil, begins, first_is, is_line_end, starts_section, Look, Goes, Ends, reach, reach_in, End, Closed, Cut, Nested, Open, look_in_control, look_in_name, look_in_comment, look_in_literal, look_in_include, look_in_raw, AtLineEnd, is_open, and_parts}
+use Rattle.cweb_rules.proofs.Common.{◌≡◌, ◌≤◌, ◌<◌, ℕ, zero, suc, ◌-◌, Bool, true, false, ◌||◌, ◌==◌, List, [], ◌∷◌, ◌++◌, length, refl, ap, sym, ◌∙◌, subst, arith, if◌then◌else◌, codes, list_all, eqb-true, append-nil, begins, first_is, is_line_end, starts_section, Look, Goes, Ends, reach, reach_in, End, Closed, Cut, Open, look_in_control, look_in_name, look_in_comment, look_in_literal, look_in_include, look_in_raw, AtLineEnd, is_open, and_parts}
 use Rattle.cweb_rules.proofs.Seams.{in_line, begins_stop, begins_line, starts_section_line}
 use Rattle.cweb_rules.proofs.Sizes.{begins-size}
 use Rattle.cweb_rules.proofs.Reaches.{IsLocal, IsEnd, IsWhole, ended, at_front, WholeAt, reach-ended}
@@ -36,9 +36,7 @@ goes n len h k = (h, k)
 
 -- control texts
 pub control-local : (more : List ℕ) → AtLineEnd more → IsLocal look_in_control more
-control-local more e b t = λ i. if begins_line (codes "@>")
-    (b ∷ t) more refl e i then Ends 2 Closed else (if begins_line (codes "@@") (b ∷ t) more refl e i then Goes 2 else
-    (if begins_line (codes "@") (b ∷ t) more refl e i || is_line_end b then Ends 0 Cut else Goes 1))
+control-local more e b t = grind arith
 
 pub control-units : AllWithin look_in_control
 control-units b t =
@@ -57,17 +55,11 @@ at_fits b (c ∷ t) s h = omega arith
 
 -- names
 pub name-local : (more : List ℕ) → AtLineEnd more → IsLocal look_in_name more
-name-local more e b t =
-    λ i. if begins_line (codes "@>") (b ∷ t) more refl e i then Ends 2 Closed else (if begins_line (codes "@<") (b ∷ t)
-    more refl e i || begins_line (codes "@(") (b ∷ t) more refl e i then Ends 0 Nested else (if starts_section_line
-    b t more e i then Ends 0 Cut else (if begins_line (codes "@") (b ∷ t) more refl e i then Goes 2 else Goes 1)))
+name-local more e b t = grind (arith, begins_line (codes "@(") (b ∷ t) more refl e)
 
 at-units : (b : ℕ) (t : List ℕ) → starts_section (b ∷ t) ≡ false
     → IsWithin (if begins (codes "@") (b ∷ t) then Goes 2 else Goes 1) (length (b ∷ t))
-at-units b t h =
-    let n = length (b ∷ t) in
-    within_if (begins (codes "@") (b ∷ t)) (Goes 2) (Goes 1) n
-    (λ m. goes 2 n (omega arith) (at_fits b t h m)) (λ m. goes 1 n (omega arith) (omega arith))
+at-units b t h = grind (arith, within_if (begins (codes "@") (b ∷ t)) (Goes 2) (Goes 1), at_fits b t h)
 
 pub name-units : AllWithin look_in_name
 name-units b t =
@@ -79,8 +71,7 @@ name-units b t =
 -- comments
 pub comment-local : (closes : List ℕ → Bool) (size : ℕ) (more : List ℕ) → AtLineEnd more
     → ((b : ℕ) (t : List ℕ) → closes (b ∷ t ++ more) ≡ closes (b ∷ t)) → IsLocal (look_in_comment closes size) more
-comment-local closes size more e same b t = λ i. if same b t i then Ends size Closed else (if starts_section_line
-    b t more e i then Ends 0 Cut else (if begins_line (codes "@") (b ∷ t) more refl e i then Goes 2 else Goes 1))
+comment-local closes size more e same b t = grind arith
 
 pub comment-units : (closes : List ℕ → Bool) (size : ℕ) → AllWithin (look_in_comment closes size)
 comment-units closes size b t =
@@ -90,15 +81,11 @@ comment-units closes size b t =
 
 doubled-units : (b : ℕ) (t : List ℕ)
     → IsWithin (if begins (codes "@@") (b ∷ t) then Goes 2 else Goes 1) (length (b ∷ t))
-doubled-units b t =
-    let n = length (b ∷ t) in
-    within_if (begins (codes "@@") (b ∷ t)) (Goes 2) (Goes 1) n
-    (λ l. goes 2 n (omega arith) (begins-size (codes "@@") (b ∷ t) l)) (λ l. goes 1 n (omega arith) (omega arith))
+doubled-units b t = grind (arith, begins-size (codes "@@") (b ∷ t))
 
 -- included names
 pub include-local : (more : List ℕ) → AtLineEnd more → IsLocal look_in_include more
-include-local more e b t = λ i. if begins_line (codes ">") (b ∷ t) more refl e i then Ends 1 Closed else
-    (if is_line_end b then Ends 0 Cut else (if begins_line (codes "@@") (b ∷ t) more refl e i then Goes 2 else Goes 1))
+include-local more e b t = grind arith
 
 pub include-units : AllWithin look_in_include
 include-units b t =
@@ -121,10 +108,7 @@ raw-units sign b t =
 -- literals: any seam that no `@` follows
 pub literal-local : (quote : ℕ) (more : List ℕ)
     → first_is (λ b. b == 64) more ≡ false → IsLocal (look_in_literal quote) more
-literal-local quote more stop b t = λ i.
-    let at : Bool = begins_stop (λ x. x == 64) (codes "@") t more refl stop i in
-    if begins (quote ∷ []) (b ∷ t) then Ends 1 Closed else (if is_line_end b then Ends 0 Cut else
-    (if (92 == b) && at then Goes 1 else (if ((92 == b) && true) || ((64 == b) && at) then Goes 2 else Goes 1)))
+literal-local quote more stop b t = grind (arith, begins_stop)
 
 -- UNITS THAT ARE NOT EMPTY: what ends before a seam has no unit over it
 

@@ -1,6 +1,5 @@
 -- The line ends in the bytes that a rule names, as far as the kind of the piece tells them.
-use Rattle.cweb_rules.proofs.Common.{◌≡◌, ◌≢◌, ℕ, ◌+◌, Bool, true, false, ◌&&◌, List, [], ◌∷◌, ◌++◌, length, take, drop, refl, ap, sym, ◌∙◌, subst, arith, if◌then◌else◌, codes, eqb-true, begins, is_blank, is_line_end, at_line_end, starts_section, in_limbo, in_text, in_macro, in_c, code_front, code_at, text_front, quote_of, literal_prefix, raw_prefix, delimiter, closing_sign, starts_raw, starts_literal, c_front, head_as, front_in, look_in_literal, look_in_raw, Kind, Skipped, Section, Code, Letter, ControlText, Verbatim, Constant, Occurrence, Blanks, LineEnd, Comment, Quoted, Defined, Identifier, Numeral, Punctuator, Front, front, IsLine, AtLineEnd, opens_comment, opens_literal, opens_raw, opens_effect, opens_code, text_opens, c_opens, Context, Limbo, TeX, Definition, Macro, CText, Effect, Nothing, Define, Format, Program, Named, InsertDefs, Joins, GiveAt, Faulty}
-use Rattle.cweb_rules.specs.declared.effect.Effect.TheVariants as effect
+use Rattle.cweb_rules.proofs.Common.{◌≡◌, ◌≢◌, ℕ, ◌+◌, Bool, true, false, ◌&&◌, List, [], ◌∷◌, ◌++◌, length, take, drop, refl, ap, sym, ◌∙◌, subst, arith, if◌then◌else◌, codes, eqb-true, begins, is_blank, is_line_end, at_line_end, starts_section, in_limbo, in_text, in_macro, in_c, code_front, code_at, text_front, quote_of, literal_prefix, raw_prefix, delimiter, closing_sign, starts_raw, starts_literal, c_front, head_as, front_in, look_in_literal, look_in_raw, Kind, Skipped, Blanks, LineEnd, Comment, Identifier, Front, front, IsLine, AtLineEnd, opens_comment, opens_literal, opens_raw, opens_effect, opens_code, text_opens, c_opens, Context, Limbo, TeX, Definition, Macro, CText, Effect, Named}
 use Rattle.cweb_rules.proofs.FairItems.{text_front-fair}
 use Rattle.cweb_rules.proofs.Fairs.{c_front-fair}
 use Rattle.cweb_rules.proofs.InLines.{c-stands, text-stands}
@@ -33,11 +32,7 @@ code_at-opened effect takes_sign b (d ∷ u) more h = code-opened (effect d) tak
 
 text-opened : (effect : ℕ → Effect) (b : ℕ) (u more : List ℕ) → AtLineEnd more
     → text_opens effect (b ∷ u) ≡ true → Told (b ∷ u ++ more) (text_front effect (b ∷ u ++ more))
-text-opened effect b u more e h =
-    let t = b ∷ u ++ more in
-    pick t (starts_section t) (starts_section (b ∷ u)) _ _ false _ (starts_section_line b u more e) (λ v k. no k)
-    (λ v0 h0. pick t (begins (codes "@") t) (begins (codes "@") (b ∷ u)) _ _ (opens_code effect (b ∷ u)) false
-    (begins_line (codes "@") (b ∷ u) more refl e) (λ v k. code_at-opened effect true b u more k) (λ v1 h1. no h1) h0) h
+text-opened effect b u more e h = grind (arith, pick, starts_section_line b u more e)
 
 c-opened : (effect : ℕ → Effect) (takes_sign includes : Bool) (b : ℕ) (u more : List ℕ) → AtLineEnd more
     → c_opens effect (b ∷ u) ≡ true → Told (b ∷ u ++ more) (c_front effect takes_sign includes (b ∷ u ++ more))
@@ -94,9 +89,7 @@ in-told : (c : Context) (includes : Bool) (b : ℕ) (u more : List ℕ) → AtLi
 in-told Limbo includes b u more e l = text-told in_limbo b u more e l
 in-told TeX includes b u more e l = text-told in_text b u more e l
 in-told (Definition begun) includes b u more e l =
-    let t = b ∷ u ++ more in
-    let f = c_front in_macro true false t in
-    head-told f.kind f t refl (c-told in_macro true false b u more e l) (text-told in_text b u more e l)
+    grind (arith, head-told, c-told in_macro true false b u more e l, text-told in_text b u more e l)
 in-told Macro includes b u more e l =
     let t = b ∷ u ++ more in
     elim (begins (codes "\\") t && at_line_end (u ++ more))
@@ -131,10 +124,8 @@ cut (b ∷ t) = (elim (is_line_end b) as (λ v. is_line_end b ≡ v → (c : Lis
 at_cut : (c : Context) (includes : Bool) (b : ℕ) (t u more : List ℕ) → b ∷ t ≡ u ++ more
     → IsLine u → AtLineEnd more → Told (b ∷ t) (front_in c includes (b ∷ t))
 at_cut c includes b t [] [] e l h = let wrong : length (b ∷ t) ≡ 0 = ap length e in absurd (omega (arith, wrong))
-at_cut c includes b t [] (d ∷ more) e l h =
-    subst (λ u. Told u (front_in c includes u)) (sym (e ∙ ap (λ x. x ∷ more) h)) (end-told c includes more)
-at_cut c includes b t (d ∷ u) more e l h =
-    subst (λ w. Told w (front_in c includes w)) (sym e) (in-told c includes d u more h l)
+at_cut c includes b t [] (d ∷ more) e l h = grind (arith, end-told c includes more)
+at_cut c includes b t (d ∷ u) more e l h = grind (arith, in-told c includes d u more h l)
 
 -- the line ends of what a rule names, in every context and text
 pub told : (c : Context) (includes : Bool) (b : ℕ) (t : List ℕ) → Told (b ∷ t) (front_in c includes (b ∷ t))

@@ -6,13 +6,10 @@ abbrev pub later_by : ℕ → Reached → Reached
 later_by n r = record { size = n + r.size; close = r.close; how = r.how }
 
 pub later_by-add : (m n : ℕ) (r : Reached) → later_by m (later_by n r) ≡ later_by (m + n) r
-later_by-add m n r =
-    let e : m + (n + r.size) ≡ (m + n) + r.size = omega arith in
-    ap (λ k. record { size = k; close = r.close; how = r.how }) e
+later_by-add m n r = grind arith
 
 pub later_by-zero : (r : Reached) → r ≡ later_by 0 r
-later_by-zero r =
-    let e : r.size ≡ 0 + r.size = omega arith in ap (λ k. record { size = k; close = r.close; how = r.how }) e
+later_by-zero r = grind arith
 
 pub reach_in-drop : (look : List ℕ → Look) (e : End) (k : ℕ) (t : List ℕ)
     → reach_in look e k t ≡ reach look e (drop k t)

@@ -33,14 +33,7 @@ raw_none t v w h = (λ i. opens_at (pick (v i) (w i)) t) ∙ ap (λ x. x && has_
 -- where a byte is told apart from the letters of the prefixes and from `R`
 pub plain_raw : (p : ℕ → Bool) (v : Bool) (b : ℕ) (t : List ℕ) → p b ≡ v → p 76 ≡ not v
     → p 117 ≡ not v → p 85 ≡ not v → p 82 ≡ not v → starts_raw (b ∷ t) ≡ false
-plain_raw p v b t w hL hu hU hR =
-    let eL = unlike p 76 b v w hL in
-    let eu = unlike p 117 b v w hu in
-    let eU = unlike p 85 b v w hU in
-    let eR = unlike p 82 b v w hR in
-    raw_none (b ∷ t) (λ i. eu i && begins (codes "8R\"") t)
-    (λ i. (eL i && begins (codes "R\"") t) || (eu i && begins (codes "R\"") t) || (eU i && begins (codes "R\"") t))
-    (λ i. eR i && begins (codes "\"") t)
+plain_raw p v b t w hL hu hU hR = grind (arith, unlike p 85 b v w hU, unlike p 82 b v w hR, raw_none (b ∷ t))
 
 no_quote : (c : ℕ) → after_word c ≡ false → (34 == c) ≡ false
 no_quote c h = (or_parts (34 == c) ((39 == c) || false) (or_parts (is_word_byte c) (is_one_of (codes "\"'") c) h).1).0
@@ -53,10 +46,7 @@ no_mark [] [] (c ∷ more) a all h = ap (λ v. v && true) (no_quote c h)
 no_mark [] (b ∷ d) more a all h = ap
     (λ v. v && true) (unlike is_word_byte 34 b true (and_parts (is_word_byte b) (list_all is_word_byte d) all).0 refl)
 no_mark (x ∷ w) [] [] a all h = refl
-no_mark (x ∷ w) [] (c ∷ more) a all h =
-    let out : is_word_byte c ≡ false = (or_parts (is_word_byte c) (is_one_of (codes "\"'") c) h).0 in
-    let in_word : is_word_byte x ≡ true = (and_parts (is_word_byte x) (list_all is_word_byte w) a).0 in
-    ap (λ v. v && begins (w ++ 34 ∷ []) more) (unlike is_word_byte x c false out in_word)
+no_mark (x ∷ w) [] (c ∷ more) a all h = grind (arith, unlike is_word_byte x c false)
 no_mark (x ∷ w) (b ∷ d) more a all h =
     let rest = no_mark w d more (and_parts (is_word_byte x) (list_all is_word_byte w) a).1
     (and_parts (is_word_byte b) (list_all is_word_byte d) all).1 h in
@@ -138,11 +128,7 @@ closed_stays close two zero (b ∷ c ∷ t) more h =
 
 prefix_within : (p : ℕ → Bool) (t more : List ℕ) → prefix_len p t < length t → prefix_len p (t ++ more) ≡ prefix_len p t
 prefix_within p [] more h = absurd (omega (arith, h))
-prefix_within p (b ∷ t) more h = elim (p b) as (λ v. cond v (1 + prefix_len p t) 0 < length (b ∷ t)
-    → cond v (1 + prefix_len p (t ++ more)) 0 ≡ cond v (1 + prefix_len p t) 0) [
-      | true ↦ λ l. ap (λ n. 1 + n) (prefix_within p t more (omega (arith, l)))
-      | false ↦ λ l. refl
-    ] h
+prefix_within p (b ∷ t) more h = grind (arith, p b, prefix_within p t more)
 
 -- a delimiter and `(` stay, whatever follows
 record Same (y more : List ℕ) : Type 0 where
@@ -207,18 +193,14 @@ ends_raw t =
 
 -- an item that its closing sign ended has the bytes of that sign
 enough : (n : ℕ) (t : List ℕ) → (inside_of n t).how ≡ Closed → 5 ≤ length t
-enough n t closed =
-    let y = drop (n + 2) t in
-    let l = long (closing_sign y) 0 (drop (start_of n t) t) closed in
-    omega (arith, l, two y, length-drop (start_of n t) t)
+enough n t closed = grind (arith, long, start_of n t, two, length-drop (start_of n t) t)
 
 pub raw_stays : (t more : List ℕ) → starts_raw t ≡ true → ends_raw t
     → (raw_at (t ++ more) ≡ raw_at t) × (starts_raw (t ++ more) ≡ true)
 raw_stays [] more o ends = absurd (omega (arith, enough (raw_prefix []) [] ends.0))
 raw_stays (a ∷ []) more o ends = absurd (omega (arith, enough (raw_prefix (a ∷ [])) (a ∷ []) ends.0))
 raw_stays (a ∷ b ∷ []) more o ends = absurd (omega (arith, enough (raw_prefix (a ∷ b ∷ [])) (a ∷ b ∷ []) ends.0))
-raw_stays (a ∷ b ∷ c ∷ []) more o ends =
-    absurd (omega (arith, enough (raw_prefix (a ∷ b ∷ c ∷ [])) (a ∷ b ∷ c ∷ []) ends.0))
+raw_stays (a ∷ b ∷ c ∷ []) more o ends = grind (arith, enough (raw_prefix (a ∷ b ∷ c ∷ [])) (a ∷ b ∷ c ∷ []) ends.0)
 raw_stays (a ∷ b ∷ c ∷ e ∷ t) more o ends =
     let d = a ∷ b ∷ c ∷ e ∷ t in
     raw_with (raw_prefix d) d more o ends.0 ends.1

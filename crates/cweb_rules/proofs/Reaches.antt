@@ -1,5 +1,5 @@
 -- An item that lasts to an end sign is what stands before a seam of it, and what stands after.
-use Rattle.cweb_rules.proofs.Common.{◌≡◌, ◌≤◌, ◌<◌, ℕ, zero, suc, ◌-◌, false, List, [], ◌∷◌, ◌++◌, length, take, refl, ap, sym, ◌∙◌, arith, take-append-le, append-nil, Look, Goes, Ends, Reach, reach, reach_in, with_unit, End, Closed, Cut, Nested, Open, is_open}
+use Rattle.cweb_rules.proofs.Common.{◌≡◌, ◌≤◌, ◌<◌, ℕ, zero, suc, ◌-◌, false, List, [], ◌∷◌, ◌++◌, length, take, refl, ap, sym, ◌∙◌, arith, take-append-le, append-nil, Look, Goes, Ends, Reach, reach, reach_in, with_unit, End, Open, is_open}
 
 -- what is seen before a seam doesn't depend on what comes after it
 abbrev pub IsLocal : (List ℕ → Look) → List ℕ → Type 0
@@ -18,12 +18,6 @@ IsWhole look zero (b ∷ t) = elim (look (b ∷ t)) [ Goes n ↦ (0 < n) × IsWh
 -- an item's part before the seam, and its part after it where it is still open
 abbrev pub join : Reach → Reach → Reach
 join r m = elim r.how [ Open ↦ record { units = r.units ++ m.units; close = m.close; how = m.how } | _ ↦ r ]
-
-join-with_unit : (u : List ℕ) (us : List (List ℕ)) (n : ℕ) (how : End) (m : Reach)
-    → join (with_unit u (record { units = us; close = n; how = how })) m
-    ≡ with_unit u (join (record { units = us; close = n; how = how }) m)
-join-with_unit u us n Open m = refl
-join-with_unit u us n _ m = refl
 
 pub ended : (n : ℕ) (how : End) (m : Reach) → IsEnd how
     → record { units = []; close = n; how = how } ≡ join (record { units = []; close = n; how = how }) m
@@ -50,12 +44,7 @@ one_unit : (look : List ℕ → Look) (e : End) (b : ℕ) (t more : List ℕ) (w
     → at_front look w (b ∷ t ++ more) e (t ++ more) ≡ join (at_front look w (b ∷ t) Open t) (reach_in look e 0 more)
 one_unit look e b t more (Ends n how) h ih = ended n how (reach_in look e 0 more) h
 one_unit look e b t more (Goes n) h ih =
-    let r = reach_in look Open (n - 1) t in
-    let m = reach_in look e 0 more in
-    ap (λ u. with_unit u (reach_in look e (n - 1) (t ++ more)))
-    (take-append-le n (b ∷ t) more (omega (arith, whole_fits look (n - 1) t h.1)))
-    ∙ ap (with_unit (take n (b ∷ t))) (ih (n - 1) h.1)
-    ∙ sym (join-with_unit (take n (b ∷ t)) r.units r.close r.how m)
+    grind (arith, take-append-le n (b ∷ t) more (omega (arith, whole_fits look (n - 1) t h.1)))
 
 seam_in : (look : List ℕ → Look) (e : End) (more : List ℕ) → IsLocal look more → (k : ℕ) (t : List ℕ)
     → IsWhole look k t → reach_in look e k (t ++ more) ≡ join (reach_in look Open k t) (reach_in look e 0 more)
@@ -77,9 +66,7 @@ join-ended us n _ m h = refl
 -- an item that ends before the seam
 pub reach-ended : (look : List ℕ → Look) (e : End) (t more : List ℕ) → IsLocal look more → IsWhole look 0 t
     → is_open (reach look Open t).how ≡ false → reach look e (t ++ more) ≡ reach look Open t
-reach-ended look e t more local h ended =
-    let r = reach look Open t in
-    reach-append look e t more local h ∙ join-ended r.units r.close r.how (reach look e more) ended
+reach-ended look e t more local h ended = grind (arith, reach-append look e t more local h, join-ended)
 
 -- an item that a line end ends
 pub reach-line : (look : List ℕ → Look) (e : End) (t more : List ℕ) → IsLocal look more

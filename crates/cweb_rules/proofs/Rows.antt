@@ -1,5 +1,5 @@
 -- What stands at the front of some texts, computed.
-use Rattle.cweb_rules.proofs.Common.{◌≡◌, true, false, Some, None, [], ◌∷◌, refl, codes, Place, Limbo, TeX, Definition, Macro, CText, Faulty, Closed, Cut, Nested, DoubleAtInLimbo, IgnoredInCText, front_in, Skipped, Section, Code, Letter, Constant, Occurrence, Comment, Quoted, Defined, Numeral, Punctuator, front}
+use Rattle.cweb_rules.proofs.Common.{◌≡◌, true, false, Some, None, [], ◌∷◌, codes, Place, Limbo, TeX, Definition, Macro, CText, Faulty, Closed, Cut, Nested, DoubleAtInLimbo, IgnoredInCText, front_in, Skipped, Section, Code, Letter, Constant, Occurrence, Comment, Quoted, Defined, Numeral, Punctuator, front}
 
 abbrev here : Place
 here = record { file = record { 0 = 0 }; line = 1 }
@@ -33,4 +33,4 @@ record Computed : Type 0 where
   section_at_the_end : front_in TeX false (codes "@") ≡ front (Section false) 1
 
 computed : Computed
-computed = search refl
+computed = search

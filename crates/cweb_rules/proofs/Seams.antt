@@ -1,5 +1,5 @@
 -- What stands at the front stays, where the byte after the seam can't go on with it.
-use Rattle.cweb_rules.proofs.Common.{◌≡◌, ◌≤◌, ℕ, ◌+◌, Bool, true, false, cond, ◌&&◌, ◌||◌, ◌==◌, not, List, [], ◌∷◌, ◌++◌, length, drop, max, refl, ap, sym, ◌∙◌, subst, if◌then◌else◌, list_all, prefix_len, eqb-true, drop-append-le, begins, first_is, is_line_end, is_digit, is_one_of, at_line_end, starts_section, AtLineEnd, longest, number_len, goes_on_number, starts_number, and_parts, and-false, or-false, and-true}
+use Rattle.cweb_rules.proofs.Common.{arith, ◌≡◌, ◌≤◌, ℕ, ◌+◌, Bool, true, false, cond, ◌&&◌, ◌==◌, not, List, [], ◌∷◌, ◌++◌, length, drop, refl, ap, ◌∙◌, list_all, prefix_len, eqb-true, drop-append-le, begins, first_is, is_line_end, is_digit, at_line_end, starts_section, AtLineEnd, longest, number_len, goes_on_number, starts_number, and_parts, and-false, or-false, and-true}
 
 -- the bytes that stand in a line
 abbrev pub in_line : ℕ → Bool
@@ -10,10 +10,7 @@ stops p [] h e = refl
 stops p (b ∷ more) h e = ap p e ∙ h
 
 pub differs : (p : ℕ → Bool) (x b : ℕ) → p x ≡ true → p b ≡ false → (x == b) ≡ false
-differs p x b h g = (elim (x == b) as (λ v. (x == b) ≡ v → v ≡ false) [
-  | true ↦ λ e. let f : p b ≡ true = subst (λ n. p n ≡ true) (eqb-true x b e) h in sym (sym g ∙ f)
-  | false ↦ λ e. refl
-]) refl
+differs p x b h g = grind (arith, p b, eqb-true x b)
 
 -- a sign of bytes of a class
 pub begins_stop : (p : ℕ → Bool) (s t more : List ℕ) → list_all p s ≡ true
@@ -39,26 +36,20 @@ run_stop p (b ∷ t) more h = ap (λ n. cond (p b) (1 + n) 0) (run_stop p t more
 pub number_stop : (last : ℕ) (t more : List ℕ) → ((last : ℕ) → first_is (goes_on_number last) more ≡ false)
     → number_len last (t ++ more) ≡ number_len last t
 number_stop last [] [] h = refl
-number_stop last [] (b ∷ more) h =
-    ap (λ (v : Bool). elim v as (λ w. ℕ) [ true ↦ 1 + number_len b more | false ↦ 0 ]) (h last)
-number_stop last (b ∷ t) more h =
-    ap (λ n. elim (goes_on_number last b) as (λ w. ℕ) [ true ↦ 1 + n | false ↦ 0 ]) (number_stop b t more h)
+number_stop last [] (b ∷ more) h = cc (h last)
+number_stop last (b ∷ t) more h = cc (number_stop b t more h)
 
 pub starts_number_stop : (b : ℕ) (t more : List ℕ) → first_is is_digit more ≡ false
     → starts_number (b ∷ t ++ more) ≡ starts_number (b ∷ t)
 starts_number_stop b [] [] h = refl
-starts_number_stop b [] (c ∷ more) h =
-    ap (λ v. is_digit b || ((b == 46) && v)) h ∙ ap (λ v. is_digit b || v) (and-false (b == 46)) ∙ or-false (is_digit b)
+starts_number_stop b [] (c ∷ more) h = cc (and-false (b == 46), or-false (is_digit b))
 starts_number_stop b (c ∷ t) more h = refl
 
 -- a punctuator
 pub longest_stop : (p : ℕ → Bool) (ps : List (List ℕ)) (t more : List ℕ)
     → list_all (list_all p) ps ≡ true → first_is p more ≡ false → longest ps (t ++ more) ≡ longest ps t
 longest_stop p [] t more a h = refl
-longest_stop p (s ∷ ps) t more a h =
-    let hs = and_parts (list_all p s) (list_all (list_all p) ps) a in
-    ap (λ v. max (if v then length s else 1) (longest ps (t ++ more))) (begins_stop p s t more hs.0 h)
-    ∙ ap (λ n. max (if begins s t then length s else 1) n) (longest_stop p ps t more hs.1 h)
+longest_stop p (s ∷ ps) t more a h = grind (arith, begins_stop p s t more, longest_stop p ps t more)
 
 -- LINE ENDS: the end of the text is like one
 
@@ -70,8 +61,7 @@ at_line_end_line (b ∷ t) more e = refl
 pub starts_section_line : (b : ℕ) (t more : List ℕ) → AtLineEnd more
     → starts_section (b ∷ t ++ more) ≡ starts_section (b ∷ t)
 starts_section_line b [] [] e = refl
-starts_section_line b [] (x ∷ more) e =
-    ap (λ n. (b == 64) && is_one_of (32 ∷ 9 ∷ 10 ∷ 42 ∷ []) n) e ∙ and-true (b == 64)
+starts_section_line b [] (x ∷ more) e = cc (and-true (b == 64))
 starts_section_line b (c ∷ t) more e = refl
 
 pub begins_line : (s t more : List ℕ) → list_all in_line s ≡ true → AtLineEnd more → begins s (t ++ more) ≡ begins s t

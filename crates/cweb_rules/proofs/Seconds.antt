@@ -1,5 +1,5 @@
 -- A text whose second byte no listed sign has in its second place begins with none of them.
-use Rattle.cweb_rules.proofs.Common.{◌≡◌, ℕ, Bool, true, false, ◌&&◌, ◌==◌, List, [], ◌∷◌, refl, sym, ◌∙◌, ap, eqb-true, begins, second_is, longest, and-false, and_parts}
+use Rattle.cweb_rules.proofs.Common.{◌≡◌, ℕ, Bool, true, false, ◌&&◌, ◌==◌, List, [], ◌∷◌, refl, begins, second_is, longest, and-false, and_parts}
 use Rattle.cweb_rules.proofs.Seams.{differs}
 
 abbrev pub all_second : (ℕ → Bool) → List (List ℕ) → Bool
@@ -11,8 +11,7 @@ begins-none test [] t in_p out_t = absurd (cc)
 begins-none test (a ∷ []) t in_p out_t = absurd (cc)
 begins-none test (a ∷ b ∷ p) [] in_p out_t = refl
 begins-none test (a ∷ b ∷ p) (x ∷ []) in_p out_t = and-false (a == x)
-begins-none test (a ∷ b ∷ p) (x ∷ y ∷ t) in_p out_t =
-    ap (λ r. (a == x) && (r && begins p t)) (differs test b y in_p out_t) ∙ and-false (a == x)
+begins-none test (a ∷ b ∷ p) (x ∷ y ∷ t) in_p out_t = cc (differs test b y in_p out_t, and-false (a == x))
 
 pub longest-none : (test : ℕ → Bool) (ps : List (List ℕ)) (t : List ℕ)
     → all_second test ps ≡ true → second_is test t ≡ false → longest ps t ≡ 1

@@ -1,5 +1,5 @@
 -- No rule of an item with an end sign names more than there is.
-use Rattle.cweb_rules.proofs.Common.{◌≡◌, ◌≤◌, ℕ, zero, suc, ◌+◌, ◌-◌, Bool, true, false, ◌||◌, ◌&&◌, ◌==◌, List, [], ◌∷◌, length, take, drop, refl, arith, length-append, if◌then◌else◌, codes, bytes_eq, flat_map, prefix_len, length-drop, prefix_len-le-length, begins, starts_section, at_line_end, is_gap, Look, Goes, Ends, Reach, reach, reach_in, with_unit, body, size_of, sign_after, End, Closed, Cut, Nested, Open, unit_bytes, text_in, look_in_control, look_in_name, opener_sign, look_in_comment, look_in_literal, look_in_include, look_in_raw, and_parts}
+use Rattle.cweb_rules.proofs.Common.{◌≡◌, ◌≤◌, ℕ, zero, suc, ◌-◌, Bool, true, false, ◌||◌, ◌==◌, List, [], ◌∷◌, length, take, refl, arith, length-append, if◌then◌else◌, codes, flat_map, length-drop, prefix_len-le-length, begins, starts_section, at_line_end, is_gap, Look, Goes, Ends, Reach, reach, reach_in, with_unit, size_of, sign_after, End, Closed, unit_bytes, text_in, look_in_control, look_in_name, opener_sign, look_in_comment, look_in_literal, look_in_include, look_in_raw, and_parts}
 
 pub take-at_most : (n : ℕ) (t : List ℕ) → length (take n t) ≤ n
 take-at_most zero t = omega arith
@@ -31,8 +31,7 @@ units-text (u ∷ us) =
   where
     unit : (u : List ℕ) → length (unit_bytes u) ≤ length u
     unit [] = omega arith
-    unit (x ∷ xs) = elim (bytes_eq (x ∷ xs) (codes "@@")) as
-        (λ v. length (if v then codes "@" else x ∷ xs) ≤ length (x ∷ xs)) [ true ↦ omega arith | false ↦ omega arith ]
+    unit (x ∷ xs) = grind arith
 
 -- ITEMS WITH AN END SIGN
 
@@ -55,8 +54,7 @@ at_front-size : (look : List ℕ → Look) (how : End) (b : ℕ) (t : List ℕ) 
     → ((k : ℕ) → size_of (reach_in look how k t) ≤ length t - k) → size_of (at_front look v how b t) ≤ length (b ∷ t)
 at_front-size look how b t (Ends n e) h rest = omega (arith, h)
 at_front-size look how b t (Goes n) h rest =
-    let r = reach_in look how (n - 1) t in
-    omega (arith, length-append (take n (b ∷ t)) (body r), take-at_most n (b ∷ t), take-within n (b ∷ t), rest (n - 1))
+    grind (arith, length-append (take n (b ∷ t)), take-at_most n (b ∷ t), take-within n (b ∷ t))
 
 reach_in-size : (look : List ℕ → Look) (how : End) → IsWithin look
     → (k : ℕ) (t : List ℕ) → size_of (reach_in look how k t) ≤ length t - k
@@ -110,22 +108,10 @@ raw-within sign t = either (begins sign t) _ _ (length t) (begins-size sign t) (
 -- OPENER SIGNS
 
 sign_size : (u : List ℕ) → (if begins (codes "=") u then 1 else (if begins (codes "+=") u then 2 else 0)) ≤ length u
-sign_size u = (elim (begins (codes "=") u)
-    as (λ v. begins (codes "=") u ≡ v → (if v then 1 else (if begins (codes "+=") u then 2 else 0)) ≤ length u) [
-      | true ↦ λ h. begins-size (codes "=") u h
-      | false ↦ λ h. (elim (begins (codes "+=") u) as (λ w. begins (codes "+=") u ≡ w → (if w then 2 else 0) ≤ length u)
-          [ true ↦ λ k. begins-size (codes "+=") u k | false ↦ λ k. omega arith ]) refl
-    ]) refl
+sign_size u = grind arith
 
 pub opener_sign-size : (t : List ℕ) → opener_sign t ≤ length t
-opener_sign-size t =
-    let gap : ℕ = prefix_len is_gap t in
-    let u = drop gap t in
-    let size : ℕ = (if begins (codes "=") u then 1 else (if begins (codes "+=") u then 2 else 0)) in
-    elim ((size == 0) || begins (codes "=") (drop size u)) as (λ v. (if v then 0 else gap + size) ≤ length t) [
-      | true ↦ omega arith
-      | false ↦ omega (arith, sign_size u, length-drop gap t, prefix_len-le-length is_gap t)
-    ]
+opener_sign-size t = grind (arith, sign_size, length-drop, prefix_len-le-length is_gap t)
 
 pub sign_after-size : (how : End) (t : List ℕ) → sign_after how t ≤ length t
 sign_after-size Closed t = opener_sign-size t

@@ -1,5 +1,5 @@
 -- Where literals and numbers begin, whatever follows that can't go on with them.
-use Rattle.cweb_rules.proofs.Common.{◌≡◌, ℕ, ◌+◌, Bool, true, false, cond, ◌&&◌, ◌||◌, ◌==◌, not, List, [], ◌∷◌, ◌++◌, refl, ap, sym, ◌∙◌, subst, codes, if◌then◌else◌, eqb-true, begins, first_is, is_one_of, is_digit, is_word_byte, is_quoted, starts_literal, number_len, goes_on_number, starts_number, JoinsAll, after_word, after_number, and-false, or_parts, or-false}
+use Rattle.cweb_rules.proofs.Common.{arith, ◌≡◌, ℕ, Bool, true, false, cond, ◌&&◌, ◌||◌, ◌==◌, not, List, [], ◌∷◌, ◌++◌, refl, ap, sym, ◌∙◌, codes, if◌then◌else◌, eqb-true, begins, first_is, is_one_of, is_digit, is_word_byte, is_quoted, starts_literal, number_len, starts_number, JoinsAll, after_word, after_number, or_parts, or-false}
 use Rattle.cweb_rules.proofs.Joins.{unlike, seam_joins}
 
 -- LITERALS BEGIN
@@ -27,39 +27,15 @@ no_quote c h = let e = or_parts (34 == c) ((39 == c) || false) h in (e.0, (or_pa
 pub literal_stays : (b : ℕ) (t more : List ℕ) → first_is after_word more ≡ false
     → starts_literal (b ∷ t ++ more) ≡ starts_literal (b ∷ t)
 literal_stays b [] [] h = refl
-literal_stays b [] (c ∷ more) h =
-    let n = or_parts (is_word_byte c) (is_one_of (codes "\"'") c) h in
-    let q = no_quote c n.1 in
-    let e = unlike is_word_byte 56 c false n.0 refl in
-    let t = b ∷ c ∷ more in
-    opening t
-    ∙ (λ i. opens ((117 == b) && (e i && true))
-    (is_letter_first t) (is_quoted 2 t) ((q.0 i && true) || (q.1 i && true)) (is_quoted 0 t))
-    ∙ ap (λ v. opens v (is_letter_first t) (is_quoted 2 t) false (is_quoted 0 t)) (and-false (117 == b))
-    ∙ sym (ap (λ v. opens v (is_letter_first t) false false (is_quoted 0 t)) (and-false (117 == b)))
-    ∙ sym (opening (b ∷ []))
+literal_stays b [] (c ∷ more) h = grind (arith, no_quote c, unlike is_word_byte 56 c false, is_letter_first)
 literal_stays b (c ∷ []) [] h = refl
-literal_stays b (c ∷ []) (e ∷ more) h =
-    let n = or_parts (is_word_byte e) (is_one_of (codes "\"'") e) h in
-    let q = no_quote e n.1 in
-    let t = b ∷ c ∷ e ∷ more in
-    opening t
-    ∙ (λ i. opens
-    (begins (codes "u8") t) (is_letter_first t) ((q.0 i && true) || (q.1 i && true)) (is_quoted 1 t) (is_quoted 0 t))
-    ∙ sym (opening (b ∷ c ∷ []))
+literal_stays b (c ∷ []) (e ∷ more) h = grind (arith, no_quote e, is_letter_first, opening (b ∷ c ∷ []))
 literal_stays b (c ∷ e ∷ t) more h = opening (b ∷ c ∷ e ∷ t ++ more) ∙ sym (opening (b ∷ c ∷ e ∷ t))
 
 -- where a byte is told apart from the letters of the prefixes, only a quote begins a literal
 pub plain_with : (p : ℕ → Bool) (v : Bool) (b : ℕ) (t : List ℕ) → p b ≡ v → p 76 ≡ not v
     → p 117 ≡ not v → p 85 ≡ not v → starts_literal (b ∷ t) ≡ is_quoted 0 (b ∷ [])
-plain_with p v b t w hL hu hU =
-    let eL = unlike p 76 b v w hL in
-    let eu = unlike p 117 b v w hu in
-    let eU = unlike p 85 b v w hU in
-    let u = b ∷ t in
-    opening u
-    ∙ (λ i. opens (eu i && begins (codes "8") t)
-    ((eL i && true) || (eu i && true) || (eU i && true)) (is_quoted 2 u) (is_quoted 1 u) (is_quoted 0 u))
+plain_with p v b t w hL hu hU = grind (arith, unlike p 76 b v w hL, unlike p 85 b v w hU, opening)
 
 -- where no Word begins, only a quote begins a literal
 pub plain_literal : (b : ℕ) (t : List ℕ) → is_word_byte b ≡ false → starts_literal (b ∷ t) ≡ is_quoted 0 (b ∷ [])
@@ -74,13 +50,7 @@ word_no_number b [] (c ∷ more) h = ap (λ v. is_digit b || (v && is_digit c)) 
 word_no_number b (c ∷ t) more h = refl
 
 no_dot : (joins : ℕ → ℕ → Bool) → JoinsAll joins → (b c : ℕ) → joins b c ≡ false → ((b == 46) && is_digit c) ≡ false
-no_dot joins all b c h = (elim (b == 46) as (λ v. (b == 46) ≡ v → (v && is_digit c) ≡ false) [
-  | true ↦ λ e. (elim (is_digit c) as (λ w. is_digit c ≡ w → w ≡ false) [
-    | true ↦ λ d. sym (subst (λ x. joins x c ≡ true) (sym (eqb-true b 46 e)) (all.number c d)) ∙ h
-    | false ↦ λ d. refl
-  ]) refl
-  | false ↦ λ e. refl
-]) refl
+no_dot joins all b c h = grind (arith, eqb-true b 46, all.number c)
 
 pub punct_no_number : (joins : ℕ → ℕ → Bool) → JoinsAll joins → (b : ℕ) (t more : List ℕ)
     → seam_joins joins b t more ≡ false → starts_number (b ∷ t ++ more) ≡ starts_number (b ∷ t)
@@ -110,11 +80,5 @@ pub number_goes : (last : ℕ) (t more : List ℕ) → first_is after_number mor
     → number_len last (t ++ more) ≡ number_len last t
 number_goes last [] [] h = refl
 number_goes last [] (c ∷ more) h =
-    let n = or_parts (after_word c) (is_one_of (codes ".+-") c) h in
-    let w = or_parts (is_word_byte c) (is_one_of (codes "\"'") c) n.0 in
-    let e = or_parts (46 == c) (is_one_of (codes "+-") c) n.1 in
-    let dot = unlike (λ x. 46 == x) c 46 true refl e.0 in
-    ap (λ v. elim v [ true ↦ 1 + number_len c more | false ↦ 0 ])
-    (λ i. w.0 i || dot i || (e.1 i && is_one_of (codes "eEpP") last))
-number_goes last (b ∷ t) more h =
-    ap (λ n. elim (goes_on_number last b) [ true ↦ 1 + n | false ↦ 0 ]) (number_goes b t more h)
+    grind (arith, or_parts (after_word c) (is_one_of (codes ".+-") c) h, or_parts (46 == c) (is_one_of (codes "+-") c))
+number_goes last (b ∷ t) more h = cc (number_goes b t more h)

@@ -1,5 +1,5 @@
 -- No rule of constants, letters, numbers and punctuators names more than there is.
-use Rattle.cweb_rules.proofs.Common.{◌≡◌, ◌≤◌, ◌<◌, ℕ, ◌+◌, Bool, true, false, ◌&&◌, ◌==◌, not, List, [], ◌∷◌, Option, Some, None, length, take, drop, refl, subst, arith, if◌then◌else◌, nat_lt, nat_le, codes, min, prefix_len, position_or_len, decimal, ltb-true, leb-true, length-decimal-le, length-drop, prefix_len-le-length, begins, is_gap, is_octal, is_replacing, ends_faulty, character, escapes, escaped, octal_value, octal, after_backslash, stands_alone, character_at, faulty_size, constant_of, constant, hex_at, letter_with, letter_after, letter, Transliteration, Valued, Character, longest, number_len, goes_on_number, and_parts}
+use Rattle.cweb_rules.proofs.Common.{◌≡◌, ◌≤◌, ◌<◌, ℕ, ◌+◌, Bool, true, false, ◌&&◌, not, List, [], ◌∷◌, Option, Some, None, length, drop, refl, subst, arith, if◌then◌else◌, nat_lt, codes, prefix_len, position_or_len, decimal, ltb-true, leb-true, length-decimal-le, length-drop, prefix_len-le-length, begins, is_gap, is_replacing, ends_faulty, character, escapes, escaped, octal_value, octal, after_backslash, stands_alone, character_at, faulty_size, constant_of, constant, hex_at, letter_with, letter_after, letter, Transliteration, Valued, Character, longest, number_len, and_parts}
 use Rattle.cweb_rules.proofs.Sizes.{begins-size}
 
 -- CONSTANTS
@@ -25,50 +25,23 @@ escaped-is (e ∷ es) t h =
     ]
 
 octal-is : (digits : List ℕ) → IsCharacter (octal digits)
-octal-is digits = (elim (nat_le (octal_value digits) 255) as (λ v. nat_le (octal_value digits) 255 ≡ v
-    → IsCharacter (if v then character (octal_value digits) (1 + length digits) else None)) [
-      | true ↦ λ h. (omega (arith, leb-true (octal_value digits) 255 h), omega arith)
-      | false ↦ λ h. tt
-    ]) refl
+octal-is digits = grind (arith, IsCharacter, leb-true (octal_value digits) 255)
 
 after_backslash-is : (t : List ℕ) → IsCharacter (after_backslash t)
-after_backslash-is t =
-    let n = min 3 (prefix_len is_octal t) in
-    elim (n == 0) as (λ v. IsCharacter (if v then escaped escapes t else octal (take n t)))
-    [ true ↦ escaped-is escapes t refl | false ↦ octal-is (take n t) ]
+after_backslash-is t = grind (arith, escaped-is escapes t refl, octal-is)
 
 alone-is : (b : ℕ) → stands_alone b ≡ true → b < 128
 alone-is b h = ltb-true b 128 (and_parts (nat_lt b 128) _ h).0
 
 character_at-is : (t : List ℕ) → IsCharacter (character_at t)
 character_at-is [] = tt
-character_at-is (b ∷ t) = elim (begins (codes "@@") (b ∷ t)) as
-    (λ v. IsCharacter (if v then character 64 2 else (if begins (codes "\\") (b ∷ t) then after_backslash t
-    else (if stands_alone b then character b 1 else None)))) [
-      | true ↦ (omega arith, omega arith)
-      | false ↦ elim (begins (codes "\\") (b ∷ t))
-          as (λ v. IsCharacter (if v then after_backslash t else (if stands_alone b then character b 1 else None))) [
-            | true ↦ after_backslash-is t
-            | false ↦
-                (elim (stands_alone b) as (λ v. stands_alone b ≡ v → IsCharacter (if v then character b 1 else None)) [
-                  | true ↦ λ h. (omega (arith, alone-is b h), omega arith)
-                  | false ↦ λ h. tt
-                ]) refl
-          ]
-    ]
+character_at-is (b ∷ t) = grind (arith, after_backslash-is t, IsCharacter, alone-is b)
 
 position-size : (p : ℕ → Bool) (t : List ℕ) → position_or_len p t ≤ length t
 position-size p t = prefix_len-le-length (λ x. not (p x)) t
 
 faulty-size : (t : List ℕ) → faulty_size t ≤ length t
-faulty-size t =
-    let n = position_or_len ends_faulty t in
-    let within = position-size ends_faulty t in
-    (elim (begins (codes "'") (drop n t))
-    as (λ v. begins (codes "'") (drop n t) ≡ v → (if v then n + 1 else n) ≤ length t) [
-      | true ↦ λ h. omega (arith, within, begins-size (codes "'") (drop n t) h, length-drop n t)
-      | false ↦ λ h. within
-    ]) refl
+faulty-size t = grind (arith, position-size ends_faulty t, begins-size (codes "'"), length-drop)
 
 abbrev pub IsShort : Option ℕ → ℕ → Type 0
 IsShort None m = Unit {0}
@@ -80,15 +53,12 @@ IsValued v n = (v.size ≤ n) × IsShort v.value (2 + v.size)
 constant_of-size : (o : Option Character) (t : List ℕ) → IsCharacter o → IsValued (constant_of o t) (length t)
 constant_of-size None t h = (faulty-size t, tt)
 constant_of-size (Some c) t h =
-    (elim (begins (codes "'") (drop c.size t)) as (λ v. begins (codes "'") (drop c.size t) ≡ v → IsValued
-    (if v then record { value = Some c.code; size = c.size + 1 } else record { value = None; size = faulty_size t })
-    (length t)) [
-      | true ↦ λ e. (
-        omega (arith, begins-size (codes "'") (drop c.size t) e, length-drop c.size t),
-        omega (arith, h.1, length-decimal-le 3 c.code (omega arith) (omega (arith, h.0)) (omega (arith, h.0))),
-      )
-      | false ↦ λ e. (faulty-size t, tt)
-    ]) refl
+    grind (
+      arith,
+      length-drop c.size t,
+      length-decimal-le 3 c.code (omega arith) (omega (arith, h.0)) (omega (arith, h.0)),
+      faulty-size t,
+    )
 
 pub constant-size : (t : List ℕ) → IsValued (constant t) (length t)
 constant-size t = constant_of-size (character_at t) t (character_at-is t)
@@ -101,20 +71,13 @@ IsLetter (Some l) n = l.start + l.size ≤ n
 
 letter_with-size : (byte start gap : ℕ) (t : List ℕ) → gap ≤ length t
     → IsLetter (letter_with byte start gap t) (start + length t)
-letter_with-size byte start gap t h = elim (gap == 0) as (λ v. IsLetter (if v then None else Some
-    (record { byte = byte; start = start + gap; size = prefix_len is_replacing (drop gap t) }))
-    (start + length t)) [
-      | true ↦ tt
-      | false ↦ omega (arith, h, length-drop gap t, prefix_len-le-length is_replacing (drop gap t))
-    ]
+letter_with-size byte start gap t h = grind (arith, length-drop gap t, prefix_len-le-length is_replacing (drop gap t))
 
 letter_of-size : (gap : ℕ) (a b : ℕ) (t : List ℕ) (o : Option ℕ) → IsLetter
     (elim o [ None ↦ None | Some byte ↦ letter_with byte (gap + 2) (prefix_len is_gap t) t ]) (gap + length (a ∷ b ∷ t))
 letter_of-size gap a b t None = tt
 letter_of-size gap a b t (Some byte) =
-    let h = letter_with-size byte (gap + 2) (prefix_len is_gap t) t (prefix_len-le-length is_gap t) in
-    let e : gap + 2 + length t ≡ gap + length (a ∷ b ∷ t) = omega arith in
-    subst (λ n. IsLetter (letter_with byte (gap + 2) (prefix_len is_gap t) t) n) e h
+    grind (arith, letter_with-size byte (gap + 2) (prefix_len is_gap t) t (prefix_len-le-length is_gap t))
 
 letter_after-size : (gap : ℕ) (t : List ℕ) → IsLetter (letter_after gap t) (gap + length t)
 letter_after-size gap [] = tt
@@ -131,9 +94,7 @@ letter-size t =
 
 pub number-size : (last : ℕ) (t : List ℕ) → number_len last t ≤ length t
 number-size last [] = omega arith
-number-size last (b ∷ t) =
-    elim (goes_on_number last b) as (λ v. (elim v as (λ w. ℕ) [ true ↦ 1 + number_len b t | false ↦ 0 ]) ≤ length
-    (b ∷ t)) [ true ↦ omega (arith, number-size b t) | false ↦ omega arith ]
+number-size last (b ∷ t) = grind (arith, number-size b t)
 
 pub longest-size : (ps : List (List ℕ)) (b : ℕ) (t : List ℕ) → longest ps (b ∷ t) ≤ length (b ∷ t)
 longest-size [] b t = omega arith

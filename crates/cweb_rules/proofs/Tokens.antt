@@ -1,23 +1,20 @@
 -- A text that is one token of C text ends by itself, and what it begins with.
-use Rattle.cweb_rules.proofs.Common.{◌≡◌, ℕ, Bool, true, false, ◌&&◌, ◌||◌, ◌==◌, not, List, [], ◌∷◌, ◌++◌, Option, Some, None, length, drop, refl, ap, sym, ◌∙◌, subst, arith, codes, if◌then◌else◌, eqb-true, is_one_of, is_digit, is_word_byte, first_is, starts_section, in_c, letter, Transliteration, Effect, Nothing, Define, Format, Program, Named, InsertDefs, Joins, GiveAt, Faulty, End, Closed, Cut, Nested, Open, JoinsAll, IsToken, joins_last, goes_on, gives_at, is_token, begins_as, c_front, code_front, letter_is, section_at, is_closed, is_quoted, starts_raw, Kind, Front, front, starts_number, and_parts, or_parts, and-true, not-false}
+use Rattle.cweb_rules.proofs.Common.{◌≡◌, ℕ, Bool, true, false, ◌&&◌, ◌==◌, not, List, [], ◌∷◌, ◌++◌, Option, Some, None, length, drop, refl, ap, sym, ◌∙◌, subst, arith, codes, eqb-true, is_one_of, is_digit, is_word_byte, first_is, starts_section, in_c, letter, Transliteration, Effect, GiveAt, End, Closed, JoinsAll, IsToken, joins_last, goes_on, gives_at, is_token, begins_as, c_front, code_front, letter_is, is_closed, is_quoted, starts_raw, Kind, front, starts_number, and_parts, or_parts, and-true, not-false}
 use Rattle.cweb_rules.specs.declared.effect.Effect.TheVariants as effect
 use Rattle.cweb_rules.specs.Kinds as kind
 use Rattle.cweb_rules.proofs.Chosen.{Passed, Coded, Opens, Facts, rule_of, chosen}
-use Rattle.cweb_rules.proofs.ClosedLiterals.{raw_front, raw_stays_whole, literal_front, literal_stays_whole, is_a_quote}
+use Rattle.cweb_rules.proofs.ClosedLiterals.{raw_stays_whole, literal_stays_whole}
 use Rattle.cweb_rules.proofs.Joins.{seam_joins}
 use Rattle.cweb_rules.proofs.Raws.{plain_raw, run_all}
 use Rattle.cweb_rules.proofs.Looks.{at_fits}
 use Rattle.cweb_rules.proofs.Stays.{plain_literal, plain_with, number_first}
-use Rattle.cweb_rules.proofs.TokensStay.{word_front, word_stays, number_stays, punct_stays}
+use Rattle.cweb_rules.proofs.TokensStay.{word_stays, number_stays, punct_stays}
 
 seam_of : (joins : ℕ → ℕ → Bool) (b : ℕ) (t more : List ℕ)
     → seam_joins joins b t more ≡ first_is (joins_last joins (b ∷ t)) more
 seam_of joins b [] [] = refl
 seam_of joins b [] (c ∷ more) = refl
 seam_of joins b (d ∷ t) more = seam_of joins d t more
-
-abbrev how_of : Kind → End
-how_of k = elim k [ kind.Quoted units how ↦ how | _ ↦ Closed ]
 
 -- what the rules of C text name at the front of a text, outside of an included name's directive
 abbrev pub Names : Kind → List ℕ → ℕ → Type 0
@@ -48,19 +45,12 @@ at_of _ t u h = cc
 
 code_is : (a b : ℕ) (t : List ℕ) → (64 == a) ≡ true → starts_section (a ∷ b ∷ t) ≡ false
     → c_front in_c false false (a ∷ b ∷ t) ≡ code_front (in_c b) false (a ∷ b ∷ t)
-code_is a b t at section = subst (λ x. starts_section (x ∷ b ∷ t) ≡ false
-    → c_front in_c false false (x ∷ b ∷ t) ≡ code_front (in_c b) false (x ∷ b ∷ t)) (eqb-true 64 a at)
-    (λ s. λ i. if s i then section_at (64 ∷ b ∷ t) else code_front (in_c b) false (64 ∷ b ∷ t)) section
+code_is a b t at section = cc (eqb-true 64 a at)
 
 at_from : (a : ℕ) (d more : List ℕ) → Coded (a ∷ d) → Names (kind.Code GiveAt) (a ∷ d) (length (a ∷ d))
     → Names (kind.Code GiveAt) (a ∷ d ++ more) (length (a ∷ d))
 at_from a [] more f e = absurd (omega (arith, at_fits a [] f.0 f.1))
-at_from a (b ∷ t) more f e =
-    let d = a ∷ b ∷ t in
-    let at = (and_parts (64 == a) true f.1).0 in
-    let is : code_front (in_c b) false d ≡ front (kind.Code GiveAt) (length d) = sym (code_is a b t at f.0) ∙ e in
-    let gives = at_of (in_c b) d (d ++ more) (ap (λ g. is_at g.kind) is) in
-    code_is a b (t ++ more) at f.0 ∙ gives.0 ∙ ap (front (kind.Code GiveAt)) (sym gives.1 ∙ ap (λ g. g.size) is)
+at_from a (b ∷ t) more f e = grind (arith, code_is a b t, at_of (in_c b), code_is a b (t ++ more))
 
 at_stays : (d more : List ℕ) → Names (kind.Code GiveAt) d (length d) → Names (kind.Code GiveAt) (d ++ more) (length d)
 at_stays [] more e = no_empty (kind.Code GiveAt) (Names (kind.Code GiveAt) more 0) e
@@ -80,16 +70,8 @@ ended _ h = cc
 literal_case : (v : Bool) (units : List (List ℕ)) (how : End) (b : ℕ) (d more : List ℕ)
     → Passed (b ∷ d) → Opens (b ∷ d) v → Names (kind.Quoted units how) (b ∷ d) (length (b ∷ d))
     → is_closed how ≡ true → Names (kind.Quoted units how) (b ∷ d ++ more) (length (b ∷ d))
-literal_case true units how b d more p o e h =
-    let at = sym (raw_front (b ∷ d) p o) ∙ e in
-    let closed = ap (λ g. how_of g.kind) at ∙ ended how h in
-    let size = ap (λ g. g.size) at in
-    raw_stays_whole b d more p o (closed, omega (arith, size)) ∙ e
-literal_case false units how b d more p o e h =
-    let at = sym (literal_front (b ∷ d) p o.0 o.1) ∙ e in
-    let closed = ap (λ g. how_of g.kind) at ∙ ended how h in
-    let size = ap (λ g. g.size) at in
-    literal_stays_whole b d more p o.0 o.1 (closed, omega (arith, size)) ∙ e
+literal_case true units how b d more p o e h = grind (arith, ended how h, raw_stays_whole b d more p o)
+literal_case false units how b d more p o e h = grind (arith, ended how h, literal_stays_whole b d more p o.0 o.1)
 
 -- EACH TOKEN
 
@@ -97,9 +79,12 @@ pub stays : (joins : ℕ → ℕ → Bool) → JoinsAll joins → (k : Kind) (d 
     → is_token k ≡ true → first_is (goes_on joins k d) more ≡ false → Names k (d ++ more) (length d)
 stays joins all k [] more e h seam = no_empty k (Names k more 0) e
 stays joins all kind.Identifier (b ∷ d) more e h seam =
-    let f = facts_of (b ∷ d) kind.Identifier (length (b ∷ d)) e in
-    let words = run_all is_word_byte (b ∷ d) (ap (λ g. g.size) (sym (word_front (b ∷ d) f) ∙ e)) in
-    word_stays b d more f words seam ∙ e
+    grind (
+      arith,
+      facts_of (b ∷ d) kind.Identifier (length (b ∷ d)) e,
+      run_all is_word_byte (b ∷ d),
+      word_stays b d more,
+    )
 stays joins all kind.Numeral (b ∷ d) more e h seam =
     number_stays b d more (facts_of (b ∷ d) kind.Numeral (length (b ∷ d)) e) seam ∙ e
 stays joins all kind.Punctuator (b ∷ d) more e h seam =
@@ -118,40 +103,24 @@ no_digit b [] h = h
 no_digit b (c ∷ t) h = (or_parts (is_digit b) ((b == 46) && is_digit c) h).0
 
 no_quote : (b : ℕ) → is_quoted 0 (b ∷ []) ≡ false → is_one_of (codes "\"'") b ≡ false
-no_quote b h =
-    let e = or_parts ((34 == b) && true) ((39 == b) && true) h in
-    λ i. (sym (and-true (34 == b)) ∙ e.0) i || ((sym (and-true (39 == b)) ∙ e.1) i || false)
+no_quote b h = grind (arith, or_parts ((34 == b) && true) ((39 == b) && true) h, and-true (34 == b), and-true (39 == b))
 
 abbrev no_opener : ℕ → Bool
 no_opener b = not (is_one_of (codes "LuUR\"'") b)
 
 literal_byte : (v : Bool) (b : ℕ) (d : List ℕ) → Opens (b ∷ d) v → no_opener b ≡ false
-literal_byte true b d o =
-    (elim (no_opener b) as (λ v. no_opener b ≡ v → v ≡ false) [
-      | true ↦ λ e. sym o ∙ plain_raw no_opener true b d e refl refl refl refl
-      | false ↦ λ e. refl
-    ]) refl
-literal_byte false b d o =
-    (elim (no_opener b) as (λ v. no_opener b ≡ v → no_opener b ≡ false) [
-      | true ↦ λ e.
-          is_a_quote b (λ n. no_opener n ≡ false) (sym (plain_with no_opener true b d e refl refl refl) ∙ o.1) refl refl
-      | false ↦ λ e. e
-    ]) refl
+literal_byte true b d o = grind (arith, no_opener b, plain_raw no_opener)
+literal_byte false b d o = grind (arith, no_opener b, plain_with no_opener)
 
 at_byte : (b : ℕ) → (64 == b) ≡ true → (b == 64) ≡ true
 at_byte b h = subst (λ x. (x == 64) ≡ true) (eqb-true 64 b h) refl
 
 pub first_of : (k : Kind) (d : List ℕ) → Names k d (length d) → is_token k ≡ true → first_is (begins_as k) d ≡ true
 first_of k [] e h = no_empty k (first_is (begins_as k) [] ≡ true) e
-first_of kind.Identifier (b ∷ d) e h =
-    let f = facts_of (b ∷ d) kind.Identifier (length (b ∷ d)) e in
-    let digit = no_digit b d f.2 in
-    λ i. f.3 i && not (digit i)
+first_of kind.Identifier (b ∷ d) e h = grind (arith, facts_of (b ∷ d) kind.Identifier (length (b ∷ d)) e, no_digit b d)
 first_of kind.Numeral (b ∷ d) e h = let f = facts_of (b ∷ d) kind.Numeral (length (b ∷ d)) e in number_first b d f.2
 first_of kind.Punctuator (b ∷ d) e h =
-    let f = facts_of (b ∷ d) kind.Punctuator (length (b ∷ d)) e in
-    let quiet = no_quote b (sym (plain_literal b d f.3) ∙ f.1) in
-    λ i. not ((f.3 i || quiet i) || (f.0.0.blank i || f.0.0.line_end i))
+    grind (arith, facts_of (b ∷ d) kind.Punctuator (length (b ∷ d)) e, plain_literal b d)
 first_of (kind.Quoted units how) (b ∷ d) e h =
     let f = facts_of (b ∷ d) (kind.Quoted units how) (length (b ∷ d)) e in
     not-false (is_one_of (codes "LuUR\"'") b) (literal_byte (starts_raw (b ∷ d)) b d f.1)

@@ -1,8 +1,8 @@
 -- A Word, a Number and a Punct are read alike, whatever follows that can't go on with them.
-use Rattle.cweb_rules.proofs.Common.{◌≡◌, ℕ, Bool, true, false, ◌&&◌, ◌==◌, List, [], ◌∷◌, ◌++◌, refl, ap, sym, ◌∙◌, codes, if◌then◌else◌, list_all, prefix_len, begins, first_is, is_one_of, is_word_byte, starts_section, in_c, c_front, literal_at, raw_at, front, Numeral, Identifier, Punctuator, listed, longest, number_len, JoinsAll, after_word, after_number, or_parts, and-true}
+use Rattle.cweb_rules.proofs.Common.{arith, ◌≡◌, ℕ, Bool, true, false, ◌&&◌, ◌==◌, List, [], ◌∷◌, ◌++◌, refl, ap, sym, ◌∙◌, codes, list_all, prefix_len, begins, first_is, is_one_of, is_word_byte, starts_section, in_c, c_front, front, Numeral, Identifier, Punctuator, listed, longest, number_len, JoinsAll, after_word, after_number, or_parts, and-true}
 use Rattle.cweb_rules.proofs.Chosen.{Passed, Facts, ForWord, ForNumber, ForPunct, passed_front}
 use Rattle.cweb_rules.proofs.Raws.{plain_raw, word_raw}
-use Rattle.cweb_rules.proofs.Joins.{unlike, seam_joins, begins_stays, longest_stays}
+use Rattle.cweb_rules.proofs.Joins.{unlike, seam_joins, longest_stays}
 use Rattle.cweb_rules.proofs.Seams.{run_stop}
 use Rattle.cweb_rules.proofs.Stays.{literal_stays, plain_literal, word_no_number, punct_no_number, number_stays_number, begins_number, number_first, number_goes}
 
@@ -16,28 +16,11 @@ section_stays : (b : ℕ) (t : List ℕ) → begins (codes "@") (b ∷ t) ≡ fa
 section_stays b t h = no_section b t (unlike (λ x. 64 == x) b 64 true refl (sym (and-true (64 == b)) ∙ h))
 
 pub passes : (b : ℕ) (t more : List ℕ) → (47 == b) ≡ false → Passed (b ∷ t) → Passed (b ∷ t ++ more)
-passes b t more e p = record {
-  blank = p.blank;
-  line_end = p.line_end;
-  comment = ap (λ v. v && begins (codes "*") (t ++ more)) e;
-  line_comment = ap (λ v. v && begins (codes "/") (t ++ more)) e;
-  section = section_stays b (t ++ more) p.code;
-  code = p.code;
-}
-
-two_join : (v : Bool) → v ≡ true → (v && true) ≡ true
-two_join v h = and-true v ∙ h
+passes b t more e p = grind (arith, section_stays b (t ++ more) p.code)
 
 passes_seam : (joins : ℕ → ℕ → Bool) → JoinsAll joins → (b : ℕ) (t more : List ℕ)
     → seam_joins joins b t more ≡ false → Passed (b ∷ t) → Passed (b ∷ t ++ more)
-passes_seam joins all b t more h p = record {
-  blank = p.blank;
-  line_end = p.line_end;
-  comment = begins_stays joins (codes "/*") b t more (two_join (joins 47 42) all.comment) h ∙ p.comment;
-  line_comment = begins_stays joins (codes "//") b t more (two_join (joins 47 47) all.line_comment) h ∙ p.line_comment;
-  section = section_stays b (t ++ more) p.code;
-  code = p.code;
-}
+passes_seam joins all b t more h p = grind (arith, section_stays b (t ++ more) p.code)
 
 -- THE THREE KINDS OF TOKENS
 
@@ -51,9 +34,7 @@ not_number (c ∷ more) h = (or_parts (after_word c) (is_one_of (codes ".+-") c)
 
 pub word_front : (t : List ℕ) → Facts t ForWord
     → c_front in_c false false t ≡ front Identifier (prefix_len is_word_byte t)
-word_front t f = passed_front t f.0.0
-    ∙ (λ i. if f.0.1 i then raw_at t else (if f.1 i then literal_at t else (if f.2 i then front Numeral (number_len 0 t)
-    else (if f.3 i then front Identifier (prefix_len is_word_byte t) else front Punctuator (longest listed t)))))
+word_front t f = cc (passed_front t f.0.0)
 
 pub word_stays : (b : ℕ) (t more : List ℕ) → Facts (b ∷ t) ForWord → list_all is_word_byte (b ∷ t) ≡ true
     → first_is after_word more ≡ false → c_front in_c false false (b ∷ t ++ more) ≡ c_front in_c false false (b ∷ t)
@@ -68,38 +49,60 @@ word_stays b t more f all h =
     ∙ sym (word_front (b ∷ t) f)
 
 number_front : (t : List ℕ) → Facts t ForNumber → c_front in_c false false t ≡ front Numeral (number_len 0 t)
-number_front t f = passed_front t f.0.0
-    ∙ (λ i. if f.0.1 i then raw_at t else
-    (if f.1 i then literal_at t else (if f.2 i then front Numeral (number_len 0 t) else (if first_is
-    is_word_byte t then front Identifier (prefix_len is_word_byte t) else front Punctuator (longest listed t)))))
+number_front t f = cc (passed_front t f.0.0)
 
 pub number_stays : (b : ℕ) (t more : List ℕ) → Facts (b ∷ t) ForNumber → first_is after_number more ≡ false
     → c_front in_c false false (b ∷ t ++ more) ≡ c_front in_c false false (b ∷ t)
 number_stays b t more f h =
-    number_front (b ∷ t ++ more) (
-      (
-        passes b t more (unlike begins_number 47 b true (number_first b t f.2) refl) f.0.0,
-        plain_raw begins_number true b (t ++ more) (number_first b t f.2) refl refl refl refl,
+    grind (
+      arith,
+      number_front (b ∷ t ++ more) (
+        (
+          passes b t more (unlike begins_number 47 b true (number_first b t f.2)
+              refl) f.0.0,
+          plain_raw begins_number true b (t ++ more) (number_first b t f.2) refl refl refl refl,
+        ),
+        literal_stays
+            b t more (not_number more h) ∙ f.1,
+        number_stays_number b t more f.2,
       ),
-      literal_stays b t more (not_number more h) ∙ f.1,
+      passes b t more (unlike begins_number 47 b
+          true (number_first b t f.2) refl) f.0.0,
+      unlike begins_number 47 b true (number_first b t f.2) refl,
+      number_first b
+          t f.2,
+      plain_raw begins_number true b (t ++ more) (number_first b t f.2) refl refl refl refl,
+      literal_stays b t
+          more (not_number more h),
+      not_number more h,
       number_stays_number b t more f.2,
+      number_goes 0 (b ∷ t) more h,
     )
-    ∙ ap (front Numeral) (number_goes 0 (b ∷ t) more h)
-    ∙ sym (number_front (b ∷ t) f)
 
 punct_front : (t : List ℕ) → Facts t ForPunct → c_front in_c false false t ≡ front Punctuator (longest listed t)
-punct_front t f = passed_front t f.0.0
-    ∙ (λ i. if f.0.1 i then raw_at t else (if f.1 i then literal_at t else (if f.2 i then front Numeral (number_len 0 t)
-    else (if f.3 i then front Identifier (prefix_len is_word_byte t) else front Punctuator (longest listed t)))))
+punct_front t f = cc (passed_front t f.0.0)
 
 pub punct_stays : (joins : ℕ → ℕ → Bool) → JoinsAll joins → (b : ℕ) (t more : List ℕ) → Facts (b ∷ t) ForPunct
     → seam_joins joins b t more ≡ false → c_front in_c false false (b ∷ t ++ more) ≡ c_front in_c false false (b ∷ t)
 punct_stays joins all b t more f h =
-    punct_front (b ∷ t ++ more) (
-      (passes_seam joins all b t more h f.0.0, plain_raw is_word_byte false b (t ++ more) f.3 refl refl refl refl),
-      plain_literal b (t ++ more) f.3 ∙ sym (plain_literal b t f.3) ∙ f.1,
-      punct_no_number joins all b t more h ∙ f.2,
-      f.3,
+    grind (
+      arith,
+      punct_front (b ∷ t ++ more) (
+        (
+          passes_seam joins all b t more h f.0.0,
+          plain_raw is_word_byte false b
+              (t ++ more) f.3 refl refl refl refl,
+        ),
+        plain_literal b (t ++ more) f.3 ∙ sym (plain_literal b t f.3) ∙ f.1,
+        punct_no_number joins all b t more h ∙ f.2,
+        f.3,
+      ),
+      passes_seam joins all b t more h f.0.0,
+      plain_raw is_word_byte
+          false b (t ++ more) f.3 refl refl refl refl,
+      plain_literal b (t ++ more) f.3,
+      plain_literal b t f.3,
+      punct_no_number joins all b t more h,
+      longest_stays joins listed b t more all.punctuators h,
+      punct_front (b ∷ t) f,
     )
-    ∙ ap (front Punctuator) (longest_stays joins listed b t more all.punctuators h)
-    ∙ sym (punct_front (b ∷ t) f)

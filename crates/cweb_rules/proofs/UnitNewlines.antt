@@ -1,5 +1,5 @@
 -- The line ends in the bytes of lines and of units, as far as the kind of the piece tells them.
-use Rattle.cweb_rules.proofs.Common.{◌≡◌, ◌≤◌, ◌<◌, ℕ, zero, suc, ◌+◌, ◌-◌, Bool, true, false, List, [], ◌∷◌, ◌++◌, length, take, drop, refl, ap, sym, ◌∙◌, subst, arith, take-append-drop, append_assoc, append-nil, if◌then◌else◌, codes, flat_map, take-add, drop-nil, take-append_seam, ne_eqb, flat_map-append, take-append-le, begins, is_line_end, starts_section, Reach, reach, reach_in, with_unit, body, size_of, quoted, look_in_raw, Kind, Skipped, Section, Code, Letter, ControlText, Verbatim, Constant, Occurrence, Blanks, LineEnd, Comment, Quoted, Defined, Identifier, Numeral, Punctuator, Front, IsLine, at_line_ends, End, Cut, Look, Goes, Ends}
+use Rattle.cweb_rules.proofs.Common.{◌≡◌, ◌≤◌, ◌<◌, ℕ, zero, suc, ◌+◌, ◌-◌, Bool, true, false, List, [], ◌∷◌, ◌++◌, length, take, drop, refl, ap, sym, ◌∙◌, subst, arith, take-append-drop, append_assoc, append-nil, if◌then◌else◌, codes, flat_map, take-add, drop-nil, take-append_seam, ne_eqb, flat_map-append, take-append-le, begins, starts_section, Reach, reach, reach_in, with_unit, body, size_of, quoted, look_in_raw, Kind, Skipped, Occurrence, LineEnd, Comment, Quoted, Front, IsLine, at_line_ends, End, Cut, Look, Goes, Ends}
 use Rattle.cweb_rules.proofs.InLines.{InLine, AreLines, IsLine-take}
 use Rattle.cweb_rules.proofs.Looks.{IsSome, AllSome}
 
@@ -25,12 +25,7 @@ none-ends (b ∷ t) h = ap (λ v. if v then 1 + at_line_ends 1 t else at_line_en
 
 pub ends-append : (t u : List ℕ) → at_line_ends 1 (t ++ u) ≡ at_line_ends 1 t + at_line_ends 1 u
 ends-append [] u = let e : at_line_ends 1 u ≡ 0 + at_line_ends 1 u = omega arith in e
-ends-append (b ∷ t) u =
-    elim (is_line_end b) as (λ v. (if v then 1 + at_line_ends 1 (t ++ u) else at_line_ends 1 (t ++ u))
-    ≡ (if v then 1 + at_line_ends 1 t else at_line_ends 1 t) + at_line_ends 1 u) [
-      | true ↦ omega (arith, ends-append t u)
-      | false ↦ ends-append t u
-    ]
+ends-append (b ∷ t) u = grind (arith, ends-append t u)
 
 units-none : (us : List (List ℕ)) → AreLines us → at_line_ends 1 (flat_map (λ u. u) us) ≡ 0
 units-none [] h = refl
@@ -68,12 +63,7 @@ Begins r t = (rest : List ℕ) × (t ≡ body r ++ rest)
 begins_at : (look : List ℕ → Look) (e : End) (v : Look) (b : ℕ) (t : List ℕ) → IsSome v
     → ((k : ℕ) → Begins (reach_in look e k t) (drop k t)) → Begins (at_front look e v (b ∷ t) t) (b ∷ t)
 begins_at look e (Goes n) b t some f =
-    let r = reach_in look e (n - 1) t in
-    let h = f (n - 1) in (
-      h.0,
-      sym (take-append-drop n (b ∷ t)) ∙ ap (λ u. take n (b ∷ t) ++ u) (sym (drop-pred n b t some) ∙ h.1)
-          ∙ sym (append_assoc (take n (b ∷ t)) (body r) h.0),
-    )
+    grind (arith, f (n - 1), take-append-drop n (b ∷ t), drop-pred n b t some, append_assoc (take n (b ∷ t)))
 begins_at look e (Ends n how) b t some f = (b ∷ t, refl)
 
 begins_in : (look : List ℕ → Look) (e : End) → AllSome look
@@ -85,10 +75,7 @@ begins_in look e some zero (b ∷ t) = begins_at look e (look (b ∷ t)) b t (so
 -- an item's units are what its text begins with
 units-front : (look : List ℕ → Look) (e : End) (t : List ℕ) → AllSome look
     → take (length (body (reach look e t))) t ≡ body (reach look e t)
-units-front look e t some =
-    let r = reach look e t in
-    let h = begins_in look e some 0 t in
-    ap (take (length (body r))) h.1 ∙ take-append_seam (body r) h.0
+units-front look e t some = grind (arith, begins_in look e some 0 t, take-append_seam)
 
 -- dropping twice
 pub drop-sum : {A : Type 0} (n m : ℕ) (t : List A) → drop (n + m) t ≡ drop m (drop n t)

@@ -1,17 +1,12 @@
 -- Runs of bytes of identifiers, some bytes at a time.
-use Rattle.cweb_rules.proofs.Common.{◌≡◌, ◌≤◌, ◌<◌, ℕ, zero, suc, ◌+◌, ◌-◌, true, false, List, [], ◌∷◌, length, take, drop, refl, ap, arith, if◌then◌else◌, prefix_len, length-drop, is_word_byte}
+use Rattle.cweb_rules.proofs.Common.{◌≡◌, ◌≤◌, ℕ, zero, suc, ◌+◌, ◌-◌, List, [], ◌∷◌, length, take, drop, ap, arith, prefix_len, length-drop, is_word_byte}
 
 -- none of them does
 run_full : (k : ℕ) (u : List ℕ) → k ≤ prefix_len is_word_byte (take k u)
     → prefix_len is_word_byte u ≡ k + prefix_len is_word_byte (drop k u)
 run_full zero u h = omega arith
 run_full (suc k) [] h = absurd (omega (arith, h))
-run_full (suc k) (b ∷ t) h = (elim (is_word_byte b) as (λ v.
-    suc k ≤ (if v then 1 + prefix_len is_word_byte (take k t) else 0)
-    → (if v then 1 + prefix_len is_word_byte t else 0) ≡ suc k + prefix_len is_word_byte (drop k t)) [
-      | true ↦ λ g. omega (arith, run_full k t (omega (arith, g)))
-      | false ↦ λ g. absurd (omega (arith, g))
-    ]) h
+run_full (suc k) (b ∷ t) h = grind (arith, suc k, run_full k t)
 
 -- the run went on up to here
 pub record GoesTo (text rest : List ℕ) : Type 0 where

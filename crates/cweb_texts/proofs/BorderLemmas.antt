@@ -1,5 +1,5 @@
 -- Borders of texts, and what is kept of them.
-use Rattle.cweb_texts.proofs.Common.{◌≡◌, ◌==◌, ◌-◌, ℕ, zero, suc, Bool, true, false, cond, List, [], ◌∷◌, ◌++◌, Option, None, Some, ◌∙◌, refl, ap, sym, subst, arith, length, take, slice_get, slice_index_or, list_any, Border, AreTold, Bordered, IsTold, first_is, is_high, is_numeric, is_operator, is_told, last_is, sign_border, sign_by}
+use Rattle.cweb_texts.proofs.Common.{◌≡◌, ◌==◌, ◌-◌, ℕ, zero, suc, Bool, true, false, cond, List, [], ◌∷◌, ◌++◌, Some, ◌∙◌, refl, ap, sym, arith, length, take, slice_get, slice_index_or, list_any, Border, AreTold, IsTold, first_is, is_high, is_numeric, is_operator, is_told, last_is, sign_border, sign_by}
 use Rattle.cweb_texts.specs.declared.borders.Border.TheVariants as border
 
 last_of_list : (p : ℕ → Bool) (b : ℕ) (bs : List ℕ) (x : ℕ)
@@ -43,8 +43,7 @@ told-count (u ∷ ts) [] h = absurd h
 pub told-at : (ts : List (List ℕ)) (bs : List Border) (k : ℕ) (t : List ℕ) (d : Border) → AreTold ts bs
     → slice_get ts k ≡ Some t → IsTold t (slice_index_or bs k d)
 told-at [] bs k t d h there = cc
-told-at (u ∷ ts) (c ∷ bs) zero t d h there =
-    let same : u ≡ t = cc in subst (λ (v : List ℕ). IsTold v c) same h.0
+told-at (u ∷ ts) (c ∷ bs) zero t d h there = grind arith
 told-at (u ∷ ts) (c ∷ bs) (suc k) t d h there = told-at ts bs k t d h.1 there
 told-at (u ∷ ts) [] k t d h there = absurd h
 

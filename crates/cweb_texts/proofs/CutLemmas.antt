@@ -1,5 +1,5 @@
 -- The first texts of a list of bytes, where the others are cut off.
-use Rattle.cweb_texts.proofs.Common.{◌≡◌, ℕ, zero, suc, ◌≤◌, List, [], ◌∷◌, length, take, drop, refl, sym, subst, ◌∙◌, ap, arith, slice_range, take-append-drop, texts_from, AreEnds, begin_of}
+use Rattle.cweb_texts.proofs.Common.{◌≡◌, ℕ, zero, suc, ◌≤◌, List, [], ◌∷◌, length, take, drop, refl, arith, slice_range, take-append-drop, texts_from, AreEnds, begin_of}
 use Rattle.std.proofs.lemmas.List.{length-take-le}
 use Rattle.cweb_texts.proofs.PackedTextLemmas.{range-grow, ends-le}
 
@@ -22,9 +22,12 @@ ends-cut n all (e ∷ es) (suc k) h = (h.0, ends-cut e all es k h.1)
 range-cut : (bytes : List ℕ) (m i j : ℕ) → m ≤ length bytes → i ≤ j → j ≤ m
     → slice_range (take m bytes) i j ≡ slice_range bytes i j
 range-cut bytes m i j within le cut =
-    let count : length (take m bytes) ≡ m = length-take-le m bytes within in
-    sym (range-grow (take m bytes) (drop m bytes) i j le (omega (arith, count)))
-    ∙ ap (λ b. slice_range b i j) (take-append-drop m bytes)
+    grind (
+      arith,
+      length-take-le m bytes within,
+      range-grow (take m bytes) (drop m bytes) i j le,
+      take-append-drop m bytes,
+    )
 
 texts-from-cut : (bytes : List ℕ) (m n : ℕ) (ends : List ℕ) (k : ℕ) → AreEnds n ends (length bytes)
     → m ≡ begin_of n ends k → texts_from (take m bytes) n (take k ends) ≡ take k (texts_from bytes n ends)
@@ -43,6 +46,8 @@ texts-cut bytes ends k h = texts-from-cut bytes (begin_of 0 ends k) 0 ends k h r
 pub ends-are-cut : (bytes ends : List ℕ) (k : ℕ) → AreEnds 0 ends (length bytes)
     → AreEnds 0 (take k ends) (length (take (begin_of 0 ends k) bytes))
 ends-are-cut bytes ends k h =
-    let count : length (take (begin_of 0 ends k) bytes) ≡ begin_of 0 ends k =
-    length-take-le (begin_of 0 ends k) bytes (begin-within 0 (length bytes) ends k h) in
-    subst (AreEnds 0 (take k ends)) (sym count) (ends-cut 0 (length bytes) ends k h)
+    grind (
+      arith,
+      length-take-le (begin_of 0 ends k) bytes (begin-within 0 (length bytes) ends k h),
+      ends-cut 0 (length bytes) ends k h,
+    )

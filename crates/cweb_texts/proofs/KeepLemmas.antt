@@ -1,5 +1,5 @@
 -- What a call to keep a word does, by where the word is found or put.
-use Rattle.cweb_texts.proofs.Common.{◌≡◌, ℕ, true, false, ◌||◌, ◌&&◌, List, [], ◌∷◌, ◌++◌, map, length, Some, None, refl, sym, ◌∙◌, ap, arith, length-append, append-nil, slice_get, bytes_eq, Vec, if◌then◌else◌, list_any, lookup, is_eq, nat_cmp, slice_cmp, Global, or_from, Slot, total, with_word, Entries, Holds, IsFound, IsWordPlaced, IsInserted, IsTable, slot_is, slot_text, window_of, word_in, TextsAndWords, KeepsWord, has, texts_and_words, or_comm}
+use Rattle.cweb_texts.proofs.Common.{◌≡◌, ℕ, true, false, ◌||◌, ◌&&◌, List, [], ◌∷◌, ◌++◌, map, length, Some, None, refl, sym, ◌∙◌, ap, arith, length-append, append-nil, slice_get, bytes_eq, Vec, list_any, lookup, is_eq, nat_cmp, slice_cmp, Global, Slot, Entries, Holds, IsFound, IsWordPlaced, IsInserted, IsTable, slot_is, slot_text, window_of, word_in, TextsAndWords, KeepsWord, has, texts_and_words}
 use Rattle.cweb_texts.specs.Keys.{key_of}
 use Rattle.cweb_texts.proofs.ListLemmas.{or-assoc, or-last}
 use Rattle.cweb_texts.proofs.PackedTextLemmas.{get-last, get-text}
@@ -10,16 +10,7 @@ use Rattle.cweb_texts.proofs.MapLemmas.{mapped-grow, find-word, no-word, insert-
 -- a word that is there
 pub known : (old : TextsAndWords) (word : List ℕ) (number : ℕ) → has old word ≡ true
     → slice_get old.texts number ≡ Some word → KeepsWord old word number old
-known old word number h stands =
-    let same : with_word old.words word ≡ old.words = ap (λ b. if b then old.words else old.words ++ word ∷ []) h in
-    record {
-      more = [];
-      grows = sym (append-nil old.texts);
-      stands = stands;
-      words = λ q. ap (list_any (bytes_eq q)) (sym same);
-      bytes = omega (arith, ap (total length) same);
-      few = omega arith;
-    }
+known old word number h stands = grind (arith, append-nil old.texts)
 
 pub slot-known : (texts : List (List ℕ)) (word : List ℕ) (ss : List Slot) (es : Entries) (number : ℕ)
     → IsFound texts (window_of (key_of word) ss) word number
@@ -32,60 +23,53 @@ pub word-known : (texts : List (List ℕ)) (word : List ℕ) (ss : List Slot) (e
     → IsTable texts ss es → lookup (λ (k : Vec ℕ Global). is_eq (slice_cmp nat_cmp word k.items)) es ≡ Some number
     → KeepsWord (texts_and_words texts ss es) word number (texts_and_words texts ss es)
 word-known texts word ss es number table found =
-    let f = find-word texts word es number found table.in_map in
-    known (texts_and_words texts ss es) word number (has-stands texts ss es word ∙ ap
-    (λ b. list_any (slot_is texts word) ss || b) f.among ∙ or_comm (list_any (slot_is texts word) ss) true) f.stands
+    grind (
+      arith,
+      find-word texts word es number found table.in_map,
+      known (texts_and_words texts ss es) word number,
+      has-stands texts ss es word,
+    )
 
 -- a word that stands neither in its window nor in the map isn't kept
 pub not-kept : (texts : List (List ℕ)) (word : List ℕ) (ss : List Slot) (es : Entries) → IsTable texts ss es
     → list_any (slot_is texts word) (window_of (key_of word) ss) ≡ false
     → lookup (λ (k : Vec ℕ Global). is_eq (slice_cmp nat_cmp word k.items)) es ≡ None
     → has (texts_and_words texts ss es) word ≡ false
-not-kept texts word ss es table none absent = has-stands texts ss es word
-    ∙ or_from (list_any (slot_is texts word) ss) (list_any (bytes_eq word) (map word_in es))
-    (not-in-window texts word ss table.in_slots none) (no-word word es absent)
+not-kept texts word ss es table none absent =
+    cc (has-stands texts ss es word, not-in-window texts word ss table.in_slots none, no-word word es absent)
 
 -- a word that is new
 new-keeps : (old : TextsAndWords) (word : List ℕ) (number : ℕ) (new : TextsAndWords) → has old word ≡ false
     → new.texts ≡ old.texts ++ word ∷ [] → number ≡ length old.texts
     → ((q : List ℕ) → has new q ≡ (has old q || bytes_eq q word)) → KeepsWord old word number new
 new-keeps old word number new absent grows last words =
-    let longer : with_word old.words word ≡ old.words ++ word ∷ [] =
-    ap (λ b. if b then old.words else old.words ++ word ∷ []) absent in
-    record {
-      more = word ∷ [];
-      grows = grows;
-      stands = ap (λ ts. slice_get ts number) grows ∙ get-last old.texts word number last;
-      words = λ q. words q ∙ sym (with-word-any q old.words word);
-      bytes =
-          omega (
-            arith,
-            length-append word (let nothing : List ℕ = [] in nothing),
-            ap (total length) longer,
-            total-append length old.words (word ∷ []),
-          );
-      few = omega arith;
-    }
+    grind (
+      arith,
+      get-last old.texts word number last,
+      with-word-any,
+      length-append word,
+      total-append length old.words (word ∷ []),
+    )
 
 -- in a slot
 new-holds : (texts : List (List ℕ)) (word : List ℕ) (ss new : List Slot) (number : ℕ)
     → (put : IsWordPlaced ss (key_of word) number (length word) new) → number ≡ length texts
     → Holds (texts ++ word ∷ []) put.slot
-new-holds texts word ss new number put last = record {
-  text = word;
-  there = ap (slice_get (texts ++ word ∷ [])) put.number_is ∙ get-last texts word number last;
-  len = put.len_is;
-  key = put.key_is;
-}
+new-holds texts word ss new number put last = grind (arith, get-last texts word number last)
 
 pub slot-table : (texts : List (List ℕ)) (word : List ℕ) (ss new : List Slot) (es : Entries) (number : ℕ)
     → IsTable texts ss es → IsWordPlaced ss (key_of word) number (length word) new → number ≡ length texts
     → IsTable (texts ++ word ∷ []) new es
-slot-table texts word ss new es number table put last = record {
-  in_slots = put-slots (texts ++ word ∷ []) ss new put.slot (slots-grow texts (word ∷ []) ss table.in_slots)
-      (new-holds texts word ss new number put last) put.put;
-  in_map = mapped-grow texts (word ∷ []) es table.in_map;
-}
+slot-table texts word ss new es number table put last =
+    grind (
+      arith,
+      put-slots (texts ++ word ∷ []) ss new put.slot (slots-grow texts (word ∷ []) ss table.in_slots)
+          (new-holds texts word ss new number put last) put.put,
+      slots-grow texts (word ∷ []) ss table.in_slots,
+      new-holds
+          texts word ss new number put last,
+      mapped-grow texts (word ∷ []) es table.in_map,
+    )
 
 pub slot-keeps : (texts : List (List ℕ)) (word : List ℕ) (ss new : List Slot) (es : Entries) (number : ℕ)
     → IsTable texts ss es → IsWordPlaced ss (key_of word) number (length word) new → number ≡ length texts
@@ -111,11 +95,16 @@ slot-keeps texts word ss new es number table put last absent =
 -- in the map
 pub map-table : (texts : List (List ℕ)) (word : List ℕ) (ss : List Slot) (es new : Entries) (number : ℕ)
     → IsTable texts ss es → IsInserted es word number new → number ≡ length texts → IsTable (texts ++ word ∷ []) ss new
-map-table texts word ss es new number table put last = record {
-  in_slots = slots-grow texts (word ∷ []) ss table.in_slots;
-  in_map = insert-mapped (texts ++ word ∷ []) word es new number (get-last texts word number last)
-      (mapped-grow texts (word ∷ []) es table.in_map) put;
-}
+map-table texts word ss es new number table put last =
+    grind (
+      arith,
+      slots-grow texts (word ∷ []) ss table.in_slots,
+      insert-mapped (texts ++ word ∷ []) word es new number
+          (get-last texts word number last) (mapped-grow texts (word ∷ []) es table.in_map) put,
+      get-last texts word number
+          last,
+      mapped-grow texts (word ∷ []) es table.in_map,
+    )
 
 pub map-keeps : (texts : List (List ℕ)) (word : List ℕ) (ss : List Slot) (es new : Entries) (number : ℕ)
     → IsTable texts ss es → IsInserted es word number new → number ≡ length texts

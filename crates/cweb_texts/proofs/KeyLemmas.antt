@@ -1,5 +1,5 @@
 -- The key of a word, by its length.
-use Rattle.cweb_texts.proofs.Common.{◌≡◌, ℕ, zero, suc, ◌+◌, ◌-◌, ◌<◌, ◌≤◌, true, false, List, [], ◌∷◌, ◌++◌, length, take, drop, get_or, refl, sym, ◌∙◌, ap, arith, length-drop, ltb-true, ltb-false, nat_lt, slice_range, if◌then◌else◌, w32, w64, from_le_bytes, take_all, take-append-drop, drop-drop, same_number_lists, le_bytes_4, le_bytes_8, length-take-le, Key, AreBytes, short_key, middle_key, long_key}
+use Rattle.cweb_texts.proofs.Common.{◌≡◌, ℕ, zero, suc, ◌+◌, ◌-◌, ◌<◌, ◌≤◌, true, false, List, [], ◌∷◌, ◌++◌, length, take, drop, get_or, refl, sym, ◌∙◌, ap, arith, length-drop, ltb-true, ltb-false, nat_lt, slice_range, w32, w64, from_le_bytes, take_all, take-append-drop, drop-drop, same_number_lists, le_bytes_4, le_bytes_8, length-take-le, Key, AreBytes, short_key, middle_key, long_key}
 use Rattle.cweb_texts.specs.Keys.{key_of}
 
 less : (n m : ℕ) → n < m → nat_lt n m ≡ true
@@ -14,20 +14,15 @@ tail word n = take_all (length word - n) (drop n word) (omega (arith, length-dro
 
 pub key-short : (word : List ℕ) → length word < 4 → key_of word ≡ short_key word
 unfolding key_of
-key-short word h = ap (λ b. if b then short_key word else
-    (if nat_lt (length word) 8 then middle_key word else long_key word)) (less (length word) 4 h)
+key-short word h = cc (less (length word) 4 h)
 
 pub key-middle : (word : List ℕ) → 4 ≤ length word → length word < 8 → key_of word ≡ middle_key word
 unfolding key_of
-key-middle word h g = ap (λ b. if b then short_key word else
-    (if nat_lt (length word) 8 then middle_key word else long_key word)) (not-less (length word) 4 h)
-    ∙ ap (λ b. if b then middle_key word else long_key word) (less (length word) 8 g)
+key-middle word h g = cc (not-less (length word) 4 h, less (length word) 8 g)
 
 pub key-long : (word : List ℕ) → 8 ≤ length word → key_of word ≡ long_key word
 unfolding key_of
-key-long word h = ap (λ b. if b then short_key word else
-    (if nat_lt (length word) 8 then middle_key word else long_key word)) (not-less (length word) 4 (omega (arith, h)))
-    ∙ ap (λ b. if b then middle_key word else long_key word) (not-less (length word) 8 h)
+key-long word h = cc (not-less (length word) 4 (omega (arith, h)), not-less (length word) 8 h)
 
 -- A key tells a word of at most 16 bytes by its length.
 take-bytes : (n : ℕ) (bytes : List ℕ) → AreBytes bytes → AreBytes (take n bytes)

@@ -19,8 +19,7 @@ or-last a b c = sym (or-assoc a b c) ∙ ap (λ x. a || x) (or_comm b c) ∙ or-
 pub get-drop : {X : Type 0} (xs : List X) (n k : ℕ) → slice_get (drop n xs) k ≡ slice_get xs (n + k)
 get-drop xs zero k = ap (slice_get xs) (let e : k ≡ zero + k = omega arith in e)
 get-drop [] (suc n) k = cc
-get-drop (x ∷ xs) (suc n) k =
-    get-drop xs n k ∙ ap (slice_get (x ∷ xs)) (let e : suc (n + k) ≡ suc n + k = omega arith in e)
+get-drop (x ∷ xs) (suc n) k = grind (arith, get-drop xs n k, suc (n + k), suc n)
 
 pub get-take : {X : Type 0} (xs : List X) (n k : ℕ) → k < n → slice_get (take n xs) k ≡ slice_get xs k
 get-take xs zero k h = absurd (let none : ⊥ = omega arith in none)
@@ -61,10 +60,7 @@ any-some p (x ∷ xs) h =
 pub any-set : {X : Type 0} (p : X → Bool) (xs : List X) (i : ℕ) (s new : X)
     → slice_get xs i ≡ Some s → p s ≡ false → list_any p (set xs i new) ≡ (list_any p xs || p new)
 any-set p [] i s new h f = cc
-any-set p (x ∷ xs) zero s new h f =
-    let same : x ≡ s = cc in
-    let e : p x ≡ false = ap p same ∙ f in
-    or_comm (p new) (list_any p xs) ∙ sym (ap (λ b. (b || list_any p xs) || p new) e)
+any-set p (x ∷ xs) zero s new h f = grind (arith, p x, p new)
 any-set p (x ∷ xs) (suc i) s new h f =
     ap (λ b. p x || b) (any-set p xs i s new h f) ∙ or-assoc (p x) (list_any p xs) (p new)
 
@@ -75,5 +71,4 @@ get-set [] (suc i) k new s h = cc
 get-set (x ∷ xs) zero zero new s h = let same : s ≡ new = cc in inl (refl, same)
 get-set (x ∷ xs) zero (suc k) new s h = inr h
 get-set (x ∷ xs) (suc i) zero new s h = inr h
-get-set (x ∷ xs) (suc i) (suc k) new s h =
-    elim (get-set xs i k new s h) [ inl e ↦ inl (ap suc e.0, e.1) | inr g ↦ inr g ]
+get-set (x ∷ xs) (suc i) (suc k) new s h = grind (arith, get-set xs i k new s h)

@@ -1,5 +1,5 @@
 -- Words in the sorted map behind a table.
-use Rattle.cweb_texts.proofs.Common.{◌≡◌, ℕ, Bool, true, false, cond, ◌||◌, List, [], ◌∷◌, ◌++◌, map, Some, None, refl, sym, subst, ◌∙◌, ap, slice_get, bytes_eq, Vec, list_any, lookup, insert_entry, match_ordering, is_eq, nat_cmp, slice_cmp, bytes_decides, Less, Equal, Greater, Global, is_eq-slice_cmp, order, Entries, AreMapped, IsInserted, word_in, or_comm}
+use Rattle.cweb_texts.proofs.Common.{arith, ◌≡◌, ℕ, true, false, cond, ◌||◌, List, [], ◌∷◌, ◌++◌, map, Some, None, refl, sym, subst, ◌∙◌, ap, slice_get, bytes_eq, Vec, list_any, lookup, insert_entry, is_eq, nat_cmp, slice_cmp, bytes_decides, Equal, Global, is_eq-slice_cmp, order, Entries, AreMapped, IsInserted, word_in, or_comm}
 use Rattle.cweb_texts.proofs.ListLemmas.{or-assoc}
 use Rattle.cweb_texts.proofs.PackedTextLemmas.{get-grow}
 
@@ -43,53 +43,27 @@ find-word texts q (e ∷ es) number h m =
 pub no-word : (q : List ℕ) (es : Entries) → lookup (λ (k : Vec ℕ Global). is_eq (slice_cmp nat_cmp q k.items)) es ≡ None
     → list_any (bytes_eq q) (map word_in es) ≡ false
 no-word q [] h = refl
-no-word q (e ∷ es) h = (elim (is_eq (slice_cmp nat_cmp q e.0.items)) as (λ b. is_eq (slice_cmp nat_cmp q e.0.items) ≡ b
-    → cond b (Some e.1) (lookup (λ (k : Vec ℕ Global). is_eq (slice_cmp nat_cmp q k.items)) es) ≡ None
-    → list_any (bytes_eq q) (map word_in (e ∷ es)) ≡ false) [
-      | true ↦ λ is g. cc
-      | false ↦ λ is g. ap (λ b. b || list_any (bytes_eq q) (map word_in es)) (sym (is_eq-slice_cmp q e.0.items) ∙ is)
-          ∙ no-word q es g
-    ]) refl h
+no-word q (e ∷ es) h = grind (arith, is_eq-slice_cmp q e.0.items, no-word q es)
 
 equal-key : (key : Vec ℕ Global) (e : Vec ℕ Global × ℕ) → order key e.0 ≡ Equal → key.items ≡ e.0.items
 equal-key key e is = same-bytes key.items e.0.items (ap is_eq is)
-
-or-again : (a b : Bool) → (a || b) ≡ ((a || b) || a)
-or-again true b = refl
-or-again false true = refl
-or-again false false = refl
 
 entry-any : (q : List ℕ) (es : Entries) (key : Vec ℕ Global) (number : ℕ)
     → list_any (bytes_eq q) (map word_in (insert_entry order es key number))
     ≡ (list_any (bytes_eq q) (map word_in es) || bytes_eq q key.items)
 entry-any q [] key number = or_comm (bytes_eq q key.items) false
-entry-any q (e ∷ es) key number =
-    let here = bytes_eq q e.0.items in
-    let rest = list_any (bytes_eq q) (map word_in es) in
-    (elim (order key e.0) as (λ o. order key e.0 ≡ o → list_any (bytes_eq q) (map word_in
-    (match_ordering o ((key, number) ∷ e ∷ es) ((e.0, number) ∷ es) (e ∷ insert_entry order es key number)))
-    ≡ ((here || rest) || bytes_eq q key.items)) [
-      | Less ↦ λ is. or_comm (bytes_eq q key.items) (here || rest)
-      | Equal ↦ λ is. or-again here rest ∙ ap (λ k. (here || rest) || bytes_eq q k) (sym (equal-key key e is))
-      | Greater ↦ λ is. ap (λ b. here || b) (entry-any q es key number) ∙ or-assoc here rest (bytes_eq q key.items)
-    ]) refl
+entry-any q (e ∷ es) key number = grind (arith, equal-key key e, entry-any q es key number, or-assoc)
 
 entry-mapped : (texts : List (List ℕ)) (es : Entries) (key : Vec ℕ Global) (number : ℕ)
     → slice_get texts number ≡ Some key.items → AreMapped texts es → AreMapped texts (insert_entry order es key number)
 entry-mapped texts [] key number stands m = (stands, tt)
-entry-mapped texts (e ∷ es) key number stands m = (elim (order key e.0) as (λ o. order key e.0 ≡ o → AreMapped texts
-    (match_ordering o ((key, number) ∷ e ∷ es) ((e.0, number) ∷ es) (e ∷ insert_entry order es key number))) [
-      | Less ↦ λ is. (stands, m)
-      | Equal ↦ λ is. (stands ∙ ap Some (equal-key key e is), m.1)
-      | Greater ↦ λ is. (m.0, entry-mapped texts es key number stands m.1)
-    ]) refl
+entry-mapped texts (e ∷ es) key number stands m =
+    grind (arith, equal-key key e, entry-mapped texts es key number stands m.1)
 
 -- a word that was put into a map
 pub insert-any : (q word : List ℕ) (es new : Entries) (number : ℕ) → IsInserted es word number new
     → list_any (bytes_eq q) (map word_in new) ≡ (list_any (bytes_eq q) (map word_in es) || bytes_eq q word)
-insert-any q word es new number put =
-    ap (λ fs. list_any (bytes_eq q) (map word_in fs)) put.now ∙ entry-any q es put.key number
-    ∙ ap (λ k. list_any (bytes_eq q) (map word_in es) || bytes_eq q k) put.is
+insert-any q word es new number put = cc (entry-any q es put.key number)
 
 pub insert-mapped : (texts : List (List ℕ)) (word : List ℕ) (es new : Entries) (number : ℕ)
     → slice_get texts number ≡ Some word → AreMapped texts es → IsInserted es word number new → AreMapped texts new

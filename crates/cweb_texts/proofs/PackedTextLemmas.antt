@@ -1,5 +1,5 @@
 -- What becomes of texts where texts are added.
-use Rattle.cweb_texts.proofs.Common.{◌≡◌, ℕ, zero, suc, ◌+◌, ◌-◌, ◌≤◌, ◌<◌, List, [], ◌∷◌, ◌++◌, Some, map, length, take, drop, refl, sym, ◌∙◌, ap, subst, arith, length-append, length-drop, slice_get, slice_range, slice_index_or, drop-append-le, take-append-le, map-append, drop-append_seam, take-length, length-take-le, texts_from, AreEnds, IsFromStart, begin_of, text_bytes, text_at}
+use Rattle.cweb_texts.proofs.Common.{◌≡◌, ℕ, zero, suc, ◌+◌, ◌-◌, ◌≤◌, ◌<◌, List, [], ◌∷◌, ◌++◌, Some, length, take, drop, refl, ◌∙◌, ap, arith, length-append, length-drop, slice_get, slice_range, slice_index_or, drop-append-le, take-append-le, drop-append_seam, take-length, length-take-le, texts_from, AreEnds, IsFromStart, begin_of, text_bytes, text_at}
 
 pub ends-le : (n all : ℕ) (ends : List ℕ) → AreEnds n ends all → n ≤ all
 ends-le n all [] h = omega arith
@@ -11,15 +11,11 @@ range-grow bytes more i j le within = ap (take (j - i)) (drop-append-le i bytes 
     ∙ take-append-le (j - i) (drop i bytes) more (omega (arith, length-drop i bytes))
 
 range-end : (bytes text : List ℕ) → slice_range (bytes ++ text) (length bytes) (length (bytes ++ text)) ≡ text
-range-end bytes text = ap (take (length (bytes ++ text) - length bytes)) (drop-append_seam bytes text)
-    ∙ ap (λ n. take n text)
-    (let e : length (bytes ++ text) - length bytes ≡ length text = omega (arith, length-append bytes text) in
-    e) ∙ take-length text
+range-end bytes text = grind (arith, drop-append_seam bytes text, length-append bytes text, take-length text)
 
 pub texts-push : (bytes text : List ℕ) (n : ℕ) (ends : List ℕ) → AreEnds n ends (length bytes)
     → texts_from (bytes ++ text) n (ends ++ length (bytes ++ text) ∷ []) ≡ texts_from bytes n ends ++ text ∷ []
-texts-push bytes text n [] h =
-    ap (λ k. slice_range (bytes ++ text) k (length (bytes ++ text)) ∷ []) h ∙ ap (λ t. t ∷ []) (range-end bytes text)
+texts-push bytes text n [] h = cc (range-end bytes text)
 texts-push bytes text n (e ∷ es) h = λ i.
     range-grow bytes text n e h.0 (ends-le e (length bytes) es h.1) i ∷ texts-push bytes text e es h.1 i
 
@@ -87,12 +83,9 @@ bytes-from : (bytes : List ℕ) (n : ℕ) (ends : List ℕ) → AreEnds n ends (
     → length (text_bytes (texts_from bytes n ends)) + n ≡ length bytes
 bytes-from bytes n [] h = omega (arith, h)
 bytes-from bytes n (e ∷ es) h =
-    let size : length (slice_range bytes n e) ≡ e - n =
-    length-take-le (e - n) (drop n bytes) (omega (arith, length-drop n bytes, ends-le e (length bytes) es h.1)) in
-    omega (
+    grind (
       arith,
-      size,
-      h.0,
+      length-take-le (e - n) (drop n bytes) (omega (arith, length-drop n bytes, ends-le e (length bytes) es h.1)),
       length-append (slice_range bytes n e) (text_bytes (texts_from bytes e es)),
       bytes-from bytes e es h.1,
     )

@@ -1,5 +1,5 @@
 -- Texts that are one byte, which are found by it.
-use Rattle.cweb_texts.proofs.Common.{◌≡◌, ℕ, ◌+◌, ◌≤◌, ◌<◌, true, ◌||◌, List, [], ◌∷◌, Some, inl, inr, set, refl, sym, subst, ◌∙◌, ap, arith, Result, Ok, Err, IfOk, OnErr, length, slice_get, slice_index_or, bytes_eq, bytes_decides, IsSign, AreSigns, TextsAndWords, Keeps, KeepsWord, has, or_comm}
+use Rattle.cweb_texts.proofs.Common.{◌≡◌, ℕ, ◌+◌, ◌≤◌, ◌<◌, ◌||◌, List, [], ◌∷◌, Some, inl, inr, set, refl, sym, subst, ◌∙◌, ap, arith, Result, Ok, Err, IfOk, OnErr, length, slice_get, slice_index_or, bytes_eq, IsSign, AreSigns, TextsAndWords, Keeps, KeepsWord, has}
 use Rattle.cweb_texts.proofs.ListLemmas.{get-set}
 use Rattle.cweb_texts.proofs.PackedTextLemmas.{get-grow}
 use Rattle.cweb_texts.proofs.WordLemmas.{with-word-any}
@@ -32,12 +32,7 @@ signs-keep-word old new signs word number keeps are = λ byte n h.
 -- the sign that was kept
 pub is-sign : (old new : TextsAndWords) (byte number : ℕ) → KeepsWord old (byte ∷ []) number new
     → IsSign new byte number
-is-sign old new byte number keeps = record {
-  stands = keeps.stands;
-  among = has-more old new (byte ∷ []) (byte ∷ []) number keeps
-      ∙ ap (λ b. has old (byte ∷ []) || b) ((bytes_decides (byte ∷ []) (byte ∷ [])).1 refl)
-      ∙ or_comm (has old (byte ∷ [])) true;
-}
+is-sign old new byte number keeps = grind (arith, has-more old new (byte ∷ []) (byte ∷ []) number keeps)
 
 pub signs-set : (kept : TextsAndWords) (signs : List ℕ) (byte number : ℕ) → AreSigns kept signs
     → IsSign kept byte number → AreSigns kept (set signs byte (number + 1))
@@ -50,9 +45,7 @@ signs-set kept signs byte number are is = λ k n h. elim (get-set signs byte k (
 -- a sign that is known
 pub sign-known : (kept : TextsAndWords) (signs : List ℕ) (byte number : ℕ) → AreSigns kept signs
     → slice_get signs byte ≡ Some (number + 1) → KeepsWord kept (byte ∷ []) number kept
-sign-known kept signs byte number are h =
-    let sign = are byte number h in
-    known kept (byte ∷ []) number sign.among sign.stands
+sign-known kept signs byte number are h = grind (arith, are byte number h, known kept (byte ∷ []) number)
 
 -- whatever a call answers
 pub signs-stay : {E : Type 0} (r : Result ℕ E) (old new : TextsAndWords) (signs text : List ℕ)

@@ -1,5 +1,5 @@
 -- Words in the slots of a table.
-use Rattle.cweb_texts.proofs.Common.{◌≡◌, ℕ, zero, suc, ◌+◌, ◌-◌, ◌<◌, Bool, true, false, cond, ◌||◌, ◌&&◌, List, [], ◌∷◌, ◌++◌, inl, inr, map, length, drop, set, replicate, Some, refl, sym, subst, ◌∙◌, ap, arith, slice_get, bytes_eq, nat_eq, list_any, length-set, list_any-append, bytes_decides, eqb-true, Key, Slot, Entries, Holds, AllHold, AreSlots, IsFound, IsPlaced, free_slot, is_used, is_alike, slot_text, slot_is, slot_words, stands_in, window_of, word_in, has, texts_and_words, any_passes_from_place}
+use Rattle.cweb_texts.proofs.Common.{◌≡◌, ℕ, zero, suc, ◌+◌, ◌-◌, ◌<◌, Bool, true, false, ◌||◌, ◌&&◌, List, [], ◌∷◌, ◌++◌, map, length, drop, replicate, Some, refl, sym, ◌∙◌, ap, arith, slice_get, bytes_eq, nat_eq, list_any, length-set, list_any-append, bytes_decides, eqb-true, Key, Slot, Entries, Holds, AllHold, AreSlots, IsFound, IsPlaced, free_slot, is_used, is_alike, slot_text, slot_is, slot_words, stands_in, window_of, word_in, has, texts_and_words, any_passes_from_place}
 use Rattle.cweb_texts.specs.Keys.{key_of, home_of}
 use Rattle.cweb_texts.proofs.ListLemmas.{and-both, get-drop, get-take, take-get, any-some, any-set, get-set}
 use Rattle.cweb_texts.proofs.PackedTextLemmas.{get-grow, get-text}
@@ -9,9 +9,7 @@ pub hold-text : (texts : List (List ℕ)) (s : Slot) (h : Holds texts s) → slo
 hold-text texts s h = get-text texts s.number h.text h.there
 
 pub slot-same : (texts : List (List ℕ)) (q : List ℕ) (s : Slot) → slot_is texts q s ≡ true → q ≡ slot_text texts s
-slot-same texts q s h =
-    let both = and-both (is_used s.len) (bytes_eq q (slot_text texts s)) h in
-    (bytes_decides q (slot_text texts s)).0 both.right
+slot-same texts q s h = grind (arith, bytes_decides q (slot_text texts s))
 
 abbrev pub hold-grow : (texts more : List (List ℕ)) (s : Slot) → Holds texts s → Holds (texts ++ more) s
 hold-grow texts more s h = record {
@@ -59,11 +57,7 @@ from-window p key ss h =
 
 pub not-in-window : (texts : List (List ℕ)) (q : List ℕ) (ss : List Slot) → AreSlots texts ss
     → list_any (slot_is texts q) (window_of (key_of q) ss) ≡ false → list_any (slot_is texts q) ss ≡ false
-not-in-window texts q ss slots h =
-    (elim (list_any (slot_is texts q) ss) as (λ b. list_any (slot_is texts q) ss ≡ b → b ≡ false) [
-      | true ↦ λ e. sym (in-window texts q ss slots e) ∙ h
-      | false ↦ λ e. refl
-    ]) refl
+not-in-window texts q ss slots h = grind (arith, in-window texts q ss slots)
 
 pub window-hold : (texts : List (List ℕ)) (key : Key) (ss : List Slot) → AllHold texts ss
     → AllHold texts (window_of key ss)
@@ -133,11 +127,7 @@ slot-alike texts q s hold other =
 
     alike : (s : Slot) (key : Key) (len : ℕ) → is_used s.len ≡ true → s.len ≡ len → s.key ≡ key
         → is_alike s key len ≡ true
-    alike s key len used count same = ap (λ b. b && (nat_eq s.len len
-        && (nat_eq s.key.first key.first && nat_eq s.key.last key.last))) (ap is_used (sym count) ∙ used)
-        ∙ ap (λ b. b && (nat_eq s.key.first key.first && nat_eq s.key.last key.last)) (eq-same s.len len count)
-        ∙ ap (λ b. b && nat_eq s.key.last key.last) (eq-same s.key.first key.first (ap (λ (x : Key). x.first) same))
-        ∙ eq-same s.key.last key.last (ap (λ (x : Key). x.last) same)
+    alike s key len used count same = grind (arith, used, eq-same s.len len count, eq-same s.key.last key.last)
 
 -- more texts
 pub any-grow : (texts more : List (List ℕ)) (q : List ℕ) (ss : List Slot) → AllHold texts ss
@@ -165,29 +155,11 @@ slots-grow texts more ss slots = record {
 -- a word that was put into a free slot
 pub put-slots : (texts : List (List ℕ)) (ss new : List Slot) (slot : Slot) → AreSlots texts ss → Holds texts slot
     → IsPlaced ss slot new → AreSlots texts new
-put-slots texts ss new slot slots holds put =
-    subst (AreSlots texts) (sym put.now) (record {
-      hold = λ k s g u. elim (get-set ss put.place k slot s g) [
-        | inl e ↦ subst (Holds texts) (sym e.1) holds
-        | inr o ↦ slots.hold k s o u
-      ];
-      placed = λ k s g u. elim (get-set ss put.place k slot s g) [
-        | inl e ↦ (let key : home_of s.key (length (set ss put.place slot)) ≡ home_of slot.key (length ss) =
-            (λ i. home_of (e.1 i).key (length-set ss put.place slot i)) in
-            let index : k ≡ put.place = e.0 in
-            (omega (arith, key, put.low), omega (arith, key, put.high)))
-        | inr o ↦ (let place = slots.placed k s o u in
-            let same : home_of s.key (length (set ss put.place slot)) ≡ home_of s.key (length ss) =
-            ap (home_of s.key) (length-set ss put.place slot) in
-            (omega (arith, same, place.0), omega (arith, same, place.1)))
-      ];
-    })
+put-slots texts ss new slot slots holds put = grind (arith, get-set ss put.place, length-set ss put.place slot)
 
 pub put-any : (texts : List (List ℕ)) (ss new : List Slot) (slot : Slot) → IsPlaced ss slot new → (q : List ℕ)
     → list_any (slot_is texts q) new ≡ (list_any (slot_is texts q) ss || slot_is texts q slot)
-put-any texts ss new slot put q = ap (list_any (slot_is texts q)) put.now
-    ∙ any-set (slot_is texts q) ss put.place put.was slot put.there
-    (ap (λ n. is_used n && bytes_eq q (slot_text texts put.was)) put.free)
+put-any texts ss new slot put q = grind (arith, any-set (slot_is texts q) ss put.place put.was slot put.there)
 
 -- slots that are free
 get-free : (n k : ℕ) (s : Slot) → slice_get (replicate n free_slot) k ≡ Some s → s.len ≡ 0
@@ -196,10 +168,7 @@ get-free (suc n) zero s h = let same : free_slot ≡ s = cc in sym (ap (λ (t : 
 get-free (suc n) (suc k) s h = get-free n k s h
 
 pub free-slots : (texts : List (List ℕ)) (n : ℕ) → AreSlots texts (replicate n free_slot)
-free-slots texts n = record {
-  hold = λ k s g u. absurd (not-used k s g u);
-  placed = λ k s g u. absurd (not-used k s g u);
-}
+free-slots texts n = grind (arith, not-used)
   where
     not-used : (k : ℕ) (s : Slot) → slice_get (replicate n free_slot) k ≡ Some s → is_used s.len ≡ true → ⊥
     not-used k s g u = let none : false ≡ true = sym (ap is_used (get-free n k s g)) ∙ u in cc
@@ -212,12 +181,7 @@ free-any texts (suc n) q = free-any texts n q
 any-words : (texts : List (List ℕ)) (q : List ℕ) (ss : List Slot)
     → list_any (bytes_eq q) (slot_words texts ss) ≡ list_any (slot_is texts q) ss
 any-words texts q [] = refl
-any-words texts q (s ∷ ss) = elim (is_used s.len) as
-    (λ u. list_any (bytes_eq q) (cond u (slot_text texts s ∷ slot_words texts ss) (slot_words texts ss))
-    ≡ ((u && bytes_eq q (slot_text texts s)) || list_any (slot_is texts q) ss)) [
-      | true ↦ ap (λ r. bytes_eq q (slot_text texts s) || r) (any-words texts q ss)
-      | false ↦ any-words texts q ss
-    ]
+any-words texts q (s ∷ ss) = grind (arith, any-words texts q ss)
 
 pub has-stands : (texts : List (List ℕ)) (ss : List Slot) (es : Entries) (q : List ℕ)
     → has (texts_and_words texts ss es) q ≡ stands_in texts ss es q

@@ -1,5 +1,5 @@
 -- What a text that is printed as it stands is to those beside it.
-use Rattle.std.specs.Prelude.{◌≡◌, ℕ, Bool, true, false, ◌==◌, nat_le, List, [], ◌∷◌, codes, Option, None, Some, if◌then◌else◌}
+use Rattle.std.specs.Prelude.{◌≡◌, ℕ, Bool, true, false, ◌==◌, nat_le, List, [], ◌∷◌, codes, if◌then◌else◌}
 use Rattle.std.specs.List.{list_any}
 use Rattle.cweb_texts.specs.declared.borders.Border.{Border}
 use Rattle.cweb_texts.specs.declared.borders.Border.TheVariants as border
