@@ -1,5 +1,5 @@
 -- Names, files and faults are in range.
-use Rattle.cweb_store.proofs.Common.{◌≡◌, ℕ, zero, suc, ◌+◌, ◌≤◌, ◌<◌, Bool, true, false, cond, not, ◌||◌, List, [], ◌∷◌, ◌++◌, Some, None, Option, length, refl, ap, arith, length-append, Ok, Err, IfSome, All, bytes_eq, if◌then◌else◌, nat_eq, map, filter, AllByRecursion, list_any, starts_with, position_or_len, enumerate_from, length-map, All-from_recursion, How, Full, Prefix, NameId, NameFault, NameKind, NeverFull, PrefixOfAnother, NotPresent, Occurrence, Name, Standing, id, texts, with_text, with_name, names_from, names, beginning_from, the_one, standing_among, standings_from, standings, stands, with_some, with_file, files_from, files, is_id, Part, fault, standing_faults_from, standing_faults, faults_from, faults_where, faults, is_prefix_of_another, is_missing}
+use Rattle.cweb_store.proofs.Common.{◌≡◌, ℕ, zero, suc, ◌+◌, ◌≤◌, ◌<◌, Bool, true, List, [], ◌∷◌, ◌++◌, Some, None, Option, length, refl, ap, arith, length-append, Ok, Err, IfSome, All, bytes_eq, AllByRecursion, list_any, position_or_len, length-map, All-from_recursion, How, Full, Prefix, NameId, NameFault, NameKind, NeverFull, Occurrence, Name, Standing, texts, with_text, with_name, names_from, names, beginning_from, the_one, standing_among, standings_from, standings, stands, with_some, with_file, files_from, files, Part, standing_faults_from, faults_from, faults}
 use Rattle.cweb_store.proofs.OccurrenceLemmas.{Grows, names_from-grows, with_text-has}
 use Rattle.cweb_store.proofs.LawLemmas.{any-grows}
 
@@ -21,13 +21,7 @@ grows-length old new g = omega (arith, ap length g.grows, length-append old g.mo
 beginning-below : (i n : ℕ) (p : List ℕ) (ns : List Name)
     → i + length ns ≤ n → AllByRecursion (Below n) (beginning_from i p ns)
 beginning-below i n p [] h = tt
-beginning-below i n p (m ∷ ns) h =
-    let rest = beginning-below (i + 1) n p ns (omega arith) in
-    elim (starts_with nat_eq m.text p) as (λ b.
-    AllByRecursion (Below n) (if b then id i ∷ beginning_from (i + 1) p ns else beginning_from (i + 1) p ns)) [
-      | true ↦ (omega arith, rest)
-      | false ↦ rest
-    ]
+beginning-below i n p (m ∷ ns) h = grind (arith, beginning-below (i + 1) n p ns (omega arith), Below n)
 
 the_one-below : (n : ℕ) (ns : List NameId) (otherwise : Standing) → AllByRecursion (Below n) ns
     → StandsBelow n otherwise → StandsBelow n (the_one ns otherwise)
@@ -37,11 +31,7 @@ the_one-below n (m ∷ k ∷ ns) otherwise h o = tt
 
 pub position-below : (p : List ℕ → Bool) (xs : List (List ℕ)) → list_any p xs ≡ true → position_or_len p xs < length xs
 position-below p [] h = cc
-position-below p (x ∷ xs) h =
-    (elim (p x) as (λ b. (b || list_any p xs) ≡ true → cond (not b) (1 + position_or_len p xs) 0 < length (x ∷ xs)) [
-      | true ↦ λ g. omega arith
-      | false ↦ λ g. omega (arith, position-below p xs g)
-    ]) h
+position-below p (x ∷ xs) h = grind (arith, p x, position-below p xs)
 
 among-below : (i : ℕ) (before : List Name) (text : List ℕ) (how : How) (is_file : Bool) (all : List Name) →
     let o : Occurrence = record { text = text; how = how; is_file = is_file } in
@@ -62,11 +52,14 @@ among-below i before text Prefix is_file all g =
 standings-below : (i : ℕ) (before : List Name) (os : List Occurrence)
     → let all = names_from i before os in AllByRecursion (StandsBelow (length all)) (standings_from i before all os)
 standings-below i before [] = tt
-standings-below i before (o ∷ os) = (
-  among-below i before o.text o.how o.is_file (names_from (i + 1) (with_name i before o) os)
-      (names_from-grows (i + 1) (with_name i before o) os),
-  standings-below (i + 1) (with_name i before o) os,
-)
+standings-below i before (o ∷ os) =
+    grind (
+      arith,
+      among-below i before o.text o.how o.is_file (names_from (i + 1) (with_name i before o) os)
+          (names_from-grows (i + 1) (with_name i before o) os),
+      names_from-grows (i + 1) (with_name i before o) os,
+      standings-below (i + 1) (with_name i before o) os,
+    )
 
 stands-below : (n : ℕ) (rs : List Standing) (i : ℕ) → AllByRecursion (StandsBelow n) rs → IfSome (stands rs i) (Below n)
 stands-below n [] i h = tt
@@ -77,20 +70,17 @@ stands-below n (r ∷ rs) (suc i) h = stands-below n rs i h.1
 with_some-below : (n : ℕ) (ns : List NameId) (o : Option NameId) → AllByRecursion (Below n) ns
     → IfSome o (Below n) → AllByRecursion (Below n) (with_some ns o)
 with_some-below n ns None h o = h
-with_some-below n ns (Some m) h o =
-    elim (list_any (is_id m) ns) as (λ b. AllByRecursion (Below n) (if b then ns else ns ++ m ∷ [])) [
-      | true ↦ h
-      | false ↦ all-both (Below n) ns (m ∷ []) h (o, tt)
-    ]
+with_some-below n ns (Some m) h o = grind (arith, Below n, all-both (Below n) ns (m ∷ []) h (o, tt))
 
 files-below : (n : ℕ) (rs : List Standing) (fs : List NameId) (i : ℕ) (os : List Occurrence)
     → AllByRecursion (StandsBelow n) rs → AllByRecursion (Below n) fs → AllByRecursion (Below n) (files_from rs fs i os)
 files-below n rs fs i [] h g = g
-files-below n rs fs i (o ∷ os) h g = files-below n rs (with_file rs fs i o) (i + 1) os h
-    (elim o.is_file as (λ b. AllByRecursion (Below n) (if b then with_some fs (stands rs i) else fs)) [
-      | true ↦ with_some-below n fs (stands rs i) g (stands-below n rs i h)
-      | false ↦ g
-    ])
+files-below n rs fs i (o ∷ os) h g =
+    grind (
+      arith,
+      files-below n rs (with_file rs fs i o) (i + 1) os h,
+      with_some-below n fs (stands rs i) g (stands-below n rs i h),
+    )
 
 abbrev At : ℕ → NameFault → Type 0
 At n f = f.occurrence.0 < n
@@ -107,23 +97,11 @@ First n m = m.first < n
 name_faults-below : (n i : ℕ) (kind : NameKind) (fails : NameId → List ℕ → Bool) (ns : List Name)
     → AllByRecursion (First n) ns → AllByRecursion (At n) (faults_from i kind fails ns)
 name_faults-below n i kind fails [] h = tt
-name_faults-below n i kind fails (m ∷ ns) h =
-    let rest = name_faults-below n (i + 1) kind fails ns h.1 in
-    elim (fails (id i) m.text) as (λ b. AllByRecursion (At n) (map (λ (p : ℕ × Name). fault kind p.1.first)
-    (cond b ((i, m) ∷ filter (λ (p : ℕ × Name). fails (id p.0) p.1.text) (enumerate_from (i + 1) ns))
-    (filter (λ (p : ℕ × Name). fails (id p.0) p.1.text) (enumerate_from (i + 1) ns))))) [
-      | true ↦ (h.0, rest)
-      | false ↦ rest
-    ]
+name_faults-below n i kind fails (m ∷ ns) h = grind (arith, name_faults-below n (i + 1) kind fails ns h.1, At n)
 
 with_text-first : (n i : ℕ) (ns : List Name) (text : List ℕ) → i < n
     → AllByRecursion (First n) ns → AllByRecursion (First n) (with_text i ns text)
-with_text-first n i ns text less h =
-    let m : Name = record { text = text; first = i } in
-    elim (list_any (bytes_eq text) (texts ns)) as (λ b. AllByRecursion (First n) (if b then ns else ns ++ m ∷ [])) [
-      | true ↦ h
-      | false ↦ all-both (First n) ns (m ∷ []) h (less, tt)
-    ]
+with_text-first n i ns text less h = grind (arith, First n, all-both (First n) ns)
 
 with_name-first : (n i : ℕ) (ns : List Name) (text : List ℕ) (how : How) (is_file : Bool)
     → i < n → AllByRecursion (First n) ns →
@@ -156,13 +134,13 @@ files-within os = All-from_recursion (Below (length (names os)))
 pub faults-within : (os : List Occurrence) (ps : List Part)
     → All (λ (f : NameFault). f.occurrence.0 < length os) (faults os ps)
 faults-within os ps =
-    let n = length os in
-    let firsts = names-first n 0 [] os tt (omega arith) in
-    let early = standing_faults-below n 0 (standings os) (omega (arith, standings-length 0 [] (names os) os)) in
-    let prefixes =
-    name_faults-below n 0 PrefixOfAnother (λ n text. is_prefix_of_another (names os) text) (names os) firsts in
-    let missing = name_faults-below n 0 NotPresent (λ n text. is_missing os ps n) (names os) firsts in
-    All-from_recursion (At n) (faults os ps) (all-both (At n) (standing_faults (standings os) ++
-    faults_where PrefixOfAnother (λ n text. is_prefix_of_another (names os) text) (names os)) (faults_where NotPresent
-    (λ n text. is_missing os ps n) (names os)) (all-both (At n) (standing_faults (standings os))
-    (faults_where PrefixOfAnother (λ n text. is_prefix_of_another (names os) text) (names os)) early prefixes) missing)
+    grind (
+      arith,
+      names-first,
+      standing_faults-below,
+      standings-length 0,
+      name_faults-below,
+      All-from_recursion,
+      At,
+      all-both,
+    )

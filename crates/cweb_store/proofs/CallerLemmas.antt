@@ -1,5 +1,5 @@
 -- How many tokens and parts a builder holds after a call: what its callers need for its conditions.
-use Rattle.cweb_store.proofs.Common.{◌≡◌, ◌≤◌, Bool, true, false, take, drop, refl, ◌+◌, List, [], ◌∷◌, ◌++◌, Some, None, length, ◌∙◌, ap, arith, append-nil, length-append, IsSome, IsNone, option_map, option_to_list, if◌then◌else◌, take-append-drop, flat_map-append, PartKind, Token, Part, all_tokens, is_macro, before_last, without_last, without_blank, without_layout, at_close, first_kept, is_layout, is_newline, is_blank, PartsSoFar, all_closed, dropped, opened, pushed, longer, part_count, token_count}
+use Rattle.cweb_store.proofs.Common.{◌≡◌, ◌≤◌, Bool, true, false, ◌+◌, List, [], ◌∷◌, ◌++◌, Some, None, length, ◌∙◌, ap, arith, append-nil, length-append, IsSome, IsNone, option_map, option_to_list, if◌then◌else◌, take-append-drop, flat_map-append, PartKind, Token, Part, all_tokens, is_macro, before_last, without_last, without_blank, without_layout, at_close, is_layout, is_newline, PartsSoFar, all_closed, dropped, opened, pushed, part_count, token_count}
 
 pub tokens-last : (ps : List Part) (p : Part)
     → length (all_tokens (ps ++ p ∷ [])) ≡ length (all_tokens ps) + length p.tokens
@@ -16,18 +16,11 @@ token_count_opened kind v none =
     ]) none
 
 pub token_count_pushed : (t : Token) (v : PartsSoFar) → IsSome v.current → token_count (pushed t v) ≡ token_count v + 1
-token_count_pushed t v some =
-    (elim v.current as (λ o. IsSome o → length (all_tokens (v.closed ++ option_to_list (option_map (longer t) o)))
-    ≡ length (all_tokens (v.closed ++ option_to_list o)) + 1) [
-      | None ↦ λ h. cc
-      | Some p ↦ λ h.
-          omega (arith, tokens-last v.closed (longer t p), tokens-last v.closed p, length-append p.tokens (t ∷ []))
-    ]) some
+token_count_pushed t v some = grind (arith, tokens-last v.closed, length-append)
 
 before_last-length : (test : Token → Bool) (t : Token) (ts : List Token)
     → length (before_last test t ts) ≤ length ts + 1
-before_last-length test t [] =
-    elim (test t) as (λ b. length (if b then [] else t ∷ []) ≤ 1) [ true ↦ omega arith | false ↦ omega arith ]
+before_last-length test t [] = grind (arith, test t)
 before_last-length test t (u ∷ us) = omega arith
 
 pub without_last-length : (test : Token → Bool) (ts : List Token) → length (without_last test ts) ≤ length ts
@@ -37,20 +30,11 @@ without_last-length test (t ∷ ts) =
 
 without_blank-length : (ts : List Token) → length (without_blank ts) ≤ length ts
 without_blank-length [] = omega arith
-without_blank-length (t ∷ []) =
-    elim (is_blank t) as (λ b. length (if b then [] else t ∷ []) ≤ 1) [ true ↦ omega arith | false ↦ omega arith ]
+without_blank-length (t ∷ []) = grind arith
 without_blank-length (t ∷ u ∷ us) = omega (arith, without_blank-length (u ∷ us))
 
 pub without_layout-length : (p : Part) → length (without_layout p).tokens ≤ length p.tokens
-without_layout-length p =
-    let n = first_kept p.kind in
-    omega (
-      arith,
-      length-append (take n p.tokens) (without_last is_layout (drop n p.tokens)),
-      without_last-length is_layout (drop n p.tokens),
-      length-append (take n p.tokens) (drop n p.tokens),
-      ap length (take-append-drop n p.tokens),
-    )
+without_layout-length p = grind (arith, length-append, without_last-length is_layout, take-append-drop)
 
 at_close-length : (p : Part) → length (at_close p).tokens ≤ length p.tokens
 at_close-length p = elim (is_macro p.kind) as (λ b.
@@ -66,12 +50,7 @@ at_close-length p = elim (is_macro p.kind) as (λ b.
     ]
 
 pub token_count_dropped : (v : PartsSoFar) → token_count (dropped v) ≤ token_count v
-token_count_dropped v =
-    elim v.current as (λ o. length (all_tokens (v.closed ++ option_to_list (option_map without_layout o)))
-    ≤ length (all_tokens (v.closed ++ option_to_list o))) [
-      | None ↦ omega arith
-      | Some p ↦ omega (arith, tokens-last v.closed (without_layout p), tokens-last v.closed p, without_layout-length p)
-    ]
+token_count_dropped v = grind (arith, tokens-last v.closed, without_layout-length)
 
 pub token_count_closed : (v : PartsSoFar) → token_count (all_closed v) ≤ token_count v
 token_count_closed v =
@@ -90,31 +69,13 @@ token_count_closed v =
 
 pub part_count_opened : (kind : PartKind) (v : PartsSoFar)
     → IsNone v.current → part_count (opened kind v) ≡ part_count v + 1
-part_count_opened kind v none =
-    (elim v.current as (λ o. IsNone o → length (v.closed ++ (record { kind = kind; tokens = [] }) ∷ [])
-    ≡ length (v.closed ++ option_to_list o) + 1) [
-      | None ↦ λ h.
-          omega (
-            arith,
-            length-append v.closed (let p : Part = record { kind = kind; tokens = [] } in p ∷ []),
-            length-append v.closed [],
-          )
-      | Some p ↦ λ h. cc
-    ]) none
+part_count_opened kind v none = grind (arith, length-append v.closed)
 
 pub part_count_pushed : (t : Token) (v : PartsSoFar) → part_count (pushed t v) ≡ part_count v
-part_count_pushed t v = elim v.current as (λ o.
-    length (v.closed ++ option_to_list (option_map (longer t) o)) ≡ length (v.closed ++ option_to_list o)) [
-      | None ↦ refl
-      | Some p ↦ omega (arith, length-append v.closed (longer t p ∷ []), length-append v.closed (p ∷ []))
-    ]
+part_count_pushed t v = grind (arith, length-append v.closed)
 
 pub part_count_dropped : (v : PartsSoFar) → part_count (dropped v) ≡ part_count v
-part_count_dropped v = elim v.current as (λ o.
-    length (v.closed ++ option_to_list (option_map without_layout o)) ≡ length (v.closed ++ option_to_list o)) [
-      | None ↦ refl
-      | Some p ↦ omega (arith, length-append v.closed (without_layout p ∷ []), length-append v.closed (p ∷ []))
-    ]
+part_count_dropped v = grind (arith, length-append v.closed)
 
 pub part_count_closed : (v : PartsSoFar) → part_count (all_closed v) ≡ part_count v
 part_count_closed v = elim v.current as (λ o. length ((v.closed ++ option_to_list (option_map at_close o)) ++ [])

@@ -1,17 +1,13 @@
 -- Faults of names, name by name.
-use Rattle.cweb_store.proofs.Common.{◌≡◌, ℕ, zero, suc, ◌+◌, ◌<◌, Bool, true, false, cond, not, ◌||◌, ◌&&◌, List, [], ◌∷◌, ◌++◌, Some, map, length, drop, refl, sym, ◌∙◌, ap, arith, append_assoc, bytes_eq, if◌then◌else◌, nat_eq, slice_get, option_map, filter, list_any, starts_with, enumerate_from, take-length, bytes_eq-Decides, NameId, NameKind, NameFault, Found, Nothing, One, Several, Name, id, texts, beginning_from, beginning, found_of, is_several, Distinct, fault, fault_if, faults_from, is_prefix_of_another, not-not, same_Some}
+use Rattle.cweb_store.proofs.Common.{◌≡◌, ℕ, zero, suc, ◌+◌, ◌<◌, Bool, true, false, cond, not, ◌||◌, ◌&&◌, List, [], ◌∷◌, ◌++◌, Some, map, length, drop, refl, sym, ◌∙◌, ap, arith, append_assoc, bytes_eq, if◌then◌else◌, nat_eq, slice_get, option_map, list_any, starts_with, take-length, bytes_eq-Decides, NameId, NameKind, NameFault, Found, Nothing, Name, id, texts, beginning_from, beginning, found_of, is_several, Distinct, fault, fault_if, faults_from, is_prefix_of_another, not-not}
 use Rattle.cweb_store.proofs.InsertLemmas.{grown, found-first}
-use Rattle.cweb_store.proofs.NameLemmas.{bytes_eq-same, bytes_eq-sym, or-false}
+use Rattle.cweb_store.proofs.NameLemmas.{bytes_eq-same, bytes_eq-sym}
 
 -- no fault where no name fails
 pub faults-none : (kind : NameKind) (fails : List ℕ → Bool) (i : ℕ) (ns : List Name)
     → list_any fails (texts ns) ≡ false → faults_from i kind (λ n text. fails text) ns ≡ []
 faults-none kind fails i [] h = refl
-faults-none kind fails i (n ∷ ns) h =
-    let both = or-false (fails n.text) (list_any fails (texts ns)) h in
-    let rest = filter (λ (p : ℕ × Name). fails p.1.text) (enumerate_from (i + 1) ns) in
-    ap (λ b. map (λ (p : ℕ × Name). fault kind p.1.first) (cond b ((i, n) ∷ rest) rest)) both.left
-    ∙ faults-none kind fails (i + 1) ns both.right
+faults-none kind fails i (n ∷ ns) h = grind (arith, faults-none kind fails (i + 1) ns)
 
 -- the item at an index, and what follows it
 pub record Front {X : Type 0} (xs : List X) (i : ℕ) : Type 0 where
@@ -30,21 +26,7 @@ pub faults-step : (kind : NameKind) (fails : NameId → List ℕ → Bool) (ns :
     (old new : List NameFault) → i < length ns → option_map (λ (n : Name). fails (id i) n.text) (slice_get ns i)
     ≡ Some b → option_map (λ (n : Name). old ++ fault_if b kind n.first) (slice_get ns i) ≡ Some new
     → new ++ faults_from (i + 1) kind fails (drop (i + 1) ns) ≡ old ++ faults_from i kind fails (drop i ns)
-faults-step kind fails ns i b old new h test step =
-    let f = front_at ns i h in
-    let n = f.item in
-    let rest = faults_from (i + 1) kind fails (drop (suc i) ns) in
-    let passes : fails (id i) n.text ≡ b =
-    same_Some _ _ (sym (ap (option_map (λ (m : Name). fails (id i) m.text)) f.there) ∙ test) in
-    let added : old ++ fault_if b kind n.first ≡ new =
-    same_Some _ _ (sym (ap (option_map (λ (m : Name). old ++ fault_if b kind m.first)) f.there) ∙ step) in
-    let split : fault_if b kind n.first ++ rest ≡ faults_from i kind fails (drop i ns) =
-    ap (λ v. fault_if v kind n.first ++ rest) (sym passes)
-    ∙ one (fails (id i) n.text) n i
-    (filter (λ (p : ℕ × Name). fails (id p.0) p.1.text) (enumerate_from (i + 1) (drop (suc i) ns)))
-    ∙ sym (ap (faults_from i kind fails) f.front) in
-    ap (λ ks. new ++ faults_from (i + 1) kind fails ks) (ap (λ k. drop k ns) (let e : i + 1 ≡ suc i = omega arith in e))
-    ∙ ap (λ fs. fs ++ rest) (sym added) ∙ append_assoc old (fault_if b kind n.first) rest ∙ ap (λ fs. old ++ fs) split
+faults-step kind fails ns i b old new h test step = grind (arith, front_at ns i h, fails (id i), one, append_assoc old)
   where
     one : (v : Bool) (n : Name) (i : ℕ) (others : List (ℕ × Name)) → fault_if v kind n.first ++ map (λ (p : ℕ × Name).
         fault kind p.1.first) others ≡ map (λ (p : ℕ × Name). fault kind p.1.first) (cond v ((i, n) ∷ others) others)
@@ -74,18 +56,7 @@ none-begins : (i : ℕ) (q : List ℕ) (ns : List Name) → list_any (bytes_eq q
     → is_nothing (found_of (beginning_from i q ns)) ≡ not (longer ns q)
 unfolding is_nothing
 none-begins i q [] h = refl
-none-begins i q (n ∷ ns) h =
-    let both = or-false (bytes_eq q n.text) (list_any (bytes_eq q) (texts ns)) h in
-    let other : bytes_eq n.text q ≡ false = bytes_eq-sym n.text q ∙ both.left in
-    let rest = none-begins (i + 1) q ns both.right in
-    (elim (starts_with nat_eq n.text q) as (λ b.
-    is_nothing (found_of (if b then id i ∷ beginning_from (i + 1) q ns else beginning_from (i + 1) q ns))
-    ≡ not ((b && not (bytes_eq n.text q)) || longer ns q)) [
-      | true ↦ ap is_nothing (found-first (id i) (beginning_from (i + 1) q ns))
-          ∙ grown-nothing (id i) (found_of (beginning_from (i + 1) q ns))
-          ∙ ap (λ b. not (not b || longer ns q)) (sym other)
-      | false ↦ rest
-    ])
+none-begins i q (n ∷ ns) h = grind (arith, bytes_eq-sym n.text q, none-begins (i + 1) q ns, longer ns q)
 
 pub starts-same : (q : List ℕ) → starts_with nat_eq q q ≡ true
 starts-same q = ap (bytes_eq q) (take-length q) ∙ bytes_eq-same q
@@ -96,25 +67,17 @@ some-begins : (i : ℕ) (q : List ℕ) (ns : List Name) → list_any (bytes_eq q
 unfolding is_nothing
 some-begins i q [] h = cc
 some-begins i q (n ∷ ns) h =
-    (elim (bytes_eq q n.text) as (λ e. bytes_eq q n.text ≡ e → (e || list_any (bytes_eq q) (texts ns)) ≡ true
-    → is_nothing (found_of (if starts_with nat_eq n.text q then id i ∷ beginning_from (i + 1) q ns
-    else beginning_from (i + 1) q ns)) ≡ false) [
-      | true ↦ λ e g.
-          let same : q ≡ n.text = (bytes_eq-Decides q n.text).0 e in
-          let begins : starts_with nat_eq n.text q ≡ true = ap (λ t. starts_with nat_eq t q) (sym same)
-          ∙ starts-same q in
-          ap (λ b.
-          is_nothing (found_of (if b then id i ∷ beginning_from (i + 1) q ns else beginning_from (i + 1) q ns))) begins
-          ∙ ap is_nothing (found-first (id i) (beginning_from (i + 1) q ns))
-          ∙ grown-nothing (id i) (found_of (beginning_from (i + 1) q ns))
-      | false ↦ λ e g. (elim (starts_with nat_eq n.text q) as
-          (λ b. is_nothing (found_of (if b then id i ∷ beginning_from (i + 1) q ns else beginning_from (i + 1) q ns))
-          ≡ false) [
-            | true ↦ ap is_nothing (found-first (id i) (beginning_from (i + 1) q ns))
-                ∙ grown-nothing (id i) (found_of (beginning_from (i + 1) q ns))
-            | false ↦ some-begins (i + 1) q ns g
-          ])
-    ]) refl h
+    grind (
+      arith,
+      is_nothing (found_of (if starts_with nat_eq n.text q then id i ∷ beginning_from (i + 1) q ns else
+          beginning_from (i + 1) q ns)),
+      bytes_eq-Decides q n.text,
+      starts-same q,
+      found-first (id i) (beginning_from (i + 1)
+          q ns),
+      grown-nothing (id i) (found_of (beginning_from (i + 1) q ns)),
+      some-begins (i + 1) q ns,
+    )
 
 -- several names begin with a name where one is longer
 pub several-longer : (i : ℕ) (q : List ℕ) (ns : List Name) → Distinct (texts ns)
@@ -153,22 +116,11 @@ several-longer i q (n ∷ ns) d h =
 pub any-there : (ns : List Name) (i : ℕ) (n : Name) → slice_get ns i ≡ Some n
     → list_any (bytes_eq n.text) (texts ns) ≡ true
 any-there [] i n h = cc
-any-there (m ∷ ns) zero n h =
-    let same : m ≡ n = cc in
-    ap (λ (k : Name). bytes_eq n.text k.text || list_any (bytes_eq n.text) (texts ns)) same
-    ∙ ap (λ b. b || list_any (bytes_eq n.text) (texts ns)) (bytes_eq-same n.text)
-any-there (m ∷ ns) (suc i) n h = ap (λ b. bytes_eq n.text m.text || b) (any-there ns i n h)
-    ∙ elim (bytes_eq n.text m.text) as (λ b. (b || true) ≡ true) [ true ↦ refl | false ↦ refl ]
+any-there (m ∷ ns) zero n h = cc (bytes_eq-same n.text)
+any-there (m ∷ ns) (suc i) n h = grind (arith, any-there ns i n h)
 
 -- a name is a proper prefix of another where several names begin with it
 pub prefix-several : (ns : List Name) (i : ℕ) (text : List ℕ)
     → Distinct (texts ns) → i < length ns → option_map (λ (n : Name). n.text) (slice_get ns i) ≡ Some text → option_map
     (λ (n : Name). is_prefix_of_another ns n.text) (slice_get ns i) ≡ Some (is_several (found_of (beginning text ns)))
-prefix-several ns i text d h is =
-    let f = front_at ns i h in
-    let same : f.item.text ≡ text =
-    let e : Some f.item.text ≡ Some text = sym (ap (option_map (λ (n : Name). n.text)) f.there) ∙ is in cc in
-    ap (option_map (λ (n : Name). is_prefix_of_another ns n.text)) f.there
-    ∙ ap Some
-    (sym (several-longer 0 f.item.text ns d (any-there ns i f.item f.there))
-    ∙ ap (λ t. is_several (found_of (beginning t ns))) same)
+prefix-several ns i text d h is = grind (arith, front_at ns i h, several-longer 0, any-there ns i)

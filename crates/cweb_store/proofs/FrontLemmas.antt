@@ -94,5 +94,4 @@ front-is (a ∷ b ∷ c ∷ d ∷ e ∷ f ∷ g ∷ h ∷ t) = omega arith
 -- where fronts differ they tell the order of their texts
 pub fronts-tell : (s t : List ℕ) → AreBytes s → AreBytes t → (front_of s ≡ front_of t → ⊥)
     → nat_cmp (front_of s) (front_of t) ≡ slice_cmp nat_cmp s t
-fronts-tell s t all_s all_t other = (λ i. nat_cmp (front-is s i) (front-is t i))
-    ∙ fronts-from 8 s t all_s all_t (λ e. other (front-is s ∙ e ∙ sym (front-is t)))
+fronts-tell s t all_s all_t other = grind (arith, front-is s, front-is t, fronts-from 8 s t all_s all_t)

@@ -1,5 +1,5 @@
 -- Which names are among those that are gathered from tokens and parts.
-use Rattle.cweb_store.proofs.Common.{◌≡◌, ℕ, ◌+◌, Bool, true, false, cond, ◌||◌, List, [], ◌∷◌, ◌++◌, Some, None, Option, length, refl, sym, ◌∙◌, ap, if◌then◌else◌, nat_eq, filter, list_any, eqb-true, list_any-append, NameId, PartKind, Unnamed, Named, Macro, Standing, stands, is_id, with_id, with_some, Token, Part, all_tokens, joined, is_code, is_some_id, is_of, runs_from, is_use, is_used, has_part, with_use, used_from, used_in, with_part, present_from, or-false, or_assoc}
+use Rattle.cweb_store.proofs.Common.{arith, ◌≡◌, ℕ, ◌+◌, true, false, ◌||◌, List, [], ◌∷◌, ◌++◌, Some, None, Option, length, refl, sym, ◌∙◌, ap, if◌then◌else◌, nat_eq, list_any, eqb-true, list_any-append, NameId, PartKind, Named, Standing, stands, is_id, with_id, with_some, Token, Part, joined, is_code, is_some_id, is_of, runs_from, is_use, is_used, has_part, with_use, used_from, used_in, with_part, present_from, or-false}
 use Rattle.cweb_store.specs.Parts as spec
 
 any-with_id : (n m : NameId) (ns : List NameId)
@@ -29,24 +29,19 @@ any-with_use rs n _ ns = sym (or-false (list_any (is_id n) ns))
 any-used_from : (rs : List Standing) (n : NameId) (ns : List NameId) (ts : List Token)
     → list_any (is_id n) (used_from rs ns ts) ≡ (list_any (is_id n) ns || list_any (is_use rs n) ts)
 any-used_from rs n ns [] = sym (or-false (list_any (is_id n) ns))
-any-used_from rs n ns (t ∷ ts) =
-    any-used_from rs n (with_use rs ns t) ts ∙ ap (λ b. b || list_any (is_use rs n) ts) (any-with_use rs n t ns)
-    ∙ or_assoc (list_any (is_id n) ns) (is_use rs n t) (list_any (is_use rs n) ts)
+any-used_from rs n ns (t ∷ ts) = grind (arith, any-used_from rs n (with_use rs ns t) ts, any-with_use rs n t ns)
 
 used-joined : (rs : List Standing) (n : NameId) (ns : List NameId) (ps : List Part)
     → list_any (is_id n) (used_in rs ns ps) ≡ (list_any (is_id n) ns || is_used rs ps n)
 used-joined rs n ns [] = sym (or-false (list_any (is_id n) ns))
-used-joined rs n ns (p ∷ ps) = elim (is_code p.kind) as
-    (λ b. list_any (is_id n) (used_in rs (if b then used_from rs ns p.tokens else ns) ps) ≡ (list_any (is_id n) ns
-    || list_any (is_use rs n)
-    (all_tokens (cond b (p ∷ filter (λ (q : Part). is_code q.kind) ps)
-    (filter (λ (q : Part). is_code q.kind) ps))))) [
-      | true ↦ used-joined rs n (used_from rs ns p.tokens) ps
-          ∙ ap (λ b. b || is_used rs ps n) (any-used_from rs n ns p.tokens)
-          ∙ or_assoc (list_any (is_id n) ns) (list_any (is_use rs n) p.tokens) (is_used rs ps n)
-          ∙ ap (λ b. list_any (is_id n) ns || b) (sym (list_any-append (is_use rs n) p.tokens (joined is_code ps)))
-      | false ↦ used-joined rs n ns ps
-    ]
+used-joined rs n ns (p ∷ ps) =
+    grind (
+      arith,
+      used-joined rs n (used_from rs ns p.tokens) ps,
+      any-used_from rs n ns p.tokens,
+      list_any-append (is_use rs n) p.tokens (joined is_code ps),
+      used-joined rs n ns ps,
+    )
 
 -- a name is among those that parts of C text use where such a part uses it
 pub any-used : (rs : List Standing) (n : NameId) (ps : List Part)
@@ -61,9 +56,8 @@ any-with_part rs n _ ns = sym (or-false (list_any (is_id n) ns))
 any-present_from : (rs : List Standing) (n : NameId) (ns : List NameId) (k : ℕ) (ps : List Part)
     → list_any (is_id n) (present_from rs ns (runs_from k ps)) ≡ (list_any (is_id n) ns || has_part rs ps n)
 any-present_from rs n ns k [] = sym (or-false (list_any (is_id n) ns))
-any-present_from rs n ns k (p ∷ ps) = any-present_from rs n (with_part rs ns p.kind) (k + length p.tokens) ps
-    ∙ ap (λ b. b || has_part rs ps n) (any-with_part rs n p.kind ns)
-    ∙ or_assoc (list_any (is_id n) ns) (is_of rs n p.kind) (has_part rs ps n)
+any-present_from rs n ns k (p ∷ ps) =
+    grind (arith, any-present_from rs n (with_part rs ns p.kind) (k + length p.tokens) ps, any-with_part rs n p.kind ns)
 
 -- a name is among those that have a part where a part belongs to it
 pub any-present : (rs : List Standing) (n : NameId) (ps : List Part)

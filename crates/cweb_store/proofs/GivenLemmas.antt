@@ -1,5 +1,5 @@
 -- What is kept of occurrences: texts, how they are given, and what was found of each.
-use Rattle.cweb_store.proofs.Common.{◌≡◌, ℕ, zero, suc, ◌+◌, ◌<◌, List, [], ◌∷◌, ◌++◌, map, length, drop, refl, sym, ◌∙◌, ap, subst, arith, length-append, slice_get, Some, Found, GivenAs, Occurrence, Name, with_name, names_from, names, standing_among, standings_from, standings, occurrence_of, too_many, early, earlies_from, by_found, AreGiven, settled, settled_all, given_as, occurrences_at, occurrence_text, slice_get_within}
+use Rattle.cweb_store.proofs.Common.{◌≡◌, ℕ, ◌+◌, ◌<◌, List, [], ◌∷◌, ◌++◌, map, length, drop, refl, sym, ◌∙◌, ap, subst, arith, length-append, slice_get, Some, Found, GivenAs, Occurrence, Name, with_name, names_from, standing_among, standings_from, standings, occurrence_of, too_many, early, earlies_from, by_found, AreGiven, settled, settled_all, given_as, occurrences_at, occurrence_text, slice_get_within}
 use Rattle.cweb_store.proofs.FaultLemmas.{front_at}
 use Rattle.cweb_store.proofs.StoredLemmas.{occurrences-count}
 use Rattle.cweb_store.proofs.OccurrenceLemmas.{names_from-push, earlies_from-push, late, settled-one}
@@ -10,8 +10,7 @@ pub occurrences-push : (ts : List (List ℕ)) (gs : List GivenAs) (t : List ℕ)
 occurrences-push [] [] t g e = refl
 occurrences-push [] (h ∷ gs) t g e = absurd (let none : ⊥ = omega arith in none)
 occurrences-push (u ∷ ts) [] t g e = absurd (let none : ⊥ = omega arith in none)
-occurrences-push (u ∷ ts) (h ∷ gs) t g e =
-    ap (λ os. occurrence_of u h.how h.is_file ∷ os) (occurrences-push ts gs t g (omega arith))
+occurrences-push (u ∷ ts) (h ∷ gs) t g e = cc (occurrences-push ts gs t g (omega arith))
 
 -- one more occurrence
 pub given-push : (known more : List Name) (ts : List (List ℕ)) (gs : List GivenAs)
@@ -20,18 +19,15 @@ pub given-push : (known more : List Name) (ts : List (List ℕ)) (gs : List Give
     → more ≡ with_name (length gs) known (occurrence_of t g.how g.is_file) →
     AreGiven more (ts ++ t ∷ []) (gs ++ g ∷ []) (fs ++ f ∷ [])
 given-push known more ts gs fs t g f tied few found new =
-    let o = occurrence_of t g.how g.is_file in
-    let os = occurrences_at ts gs in
-    let count : length gs ≡ 0 + length os = omega (arith, occurrences-count ts gs (omega (arith, tied.count))) in
-    let push = occurrences-push ts gs t g tied.count in
-    record {
-      known_names = new ∙ ap (λ ns. with_name (length gs) ns o) tied.known_names
-          ∙ sym (names_from-push 0 (length gs) [] os o count) ∙ ap names (sym push);
-      found_early = (λ i. tied.found_early i ++ (found ∙ ap (λ ns. early ns o) tied.known_names) i ∷ [])
-          ∙ sym (earlies_from-push 0 [] os o) ∙ ap (earlies_from 0 []) (sym push);
-      count = omega (arith, length-append ts (t ∷ []), length-append gs (g ∷ []), tied.count);
-      few = omega (arith, length-append gs (g ∷ []));
-    }
+    grind (
+      arith,
+      occurrences-count ts gs (omega (arith, tied.count)),
+      occurrences-push ts gs t g tied.count,
+      names_from-push 0 (length gs),
+      earlies_from-push 0,
+      length-append ts (t ∷ []),
+      length-append gs (g ∷ []),
+    )
 
 earlies-count : (i : ℕ) (ns : List Name) (os : List Occurrence) → length (earlies_from i ns os) ≡ length os
 earlies-count i ns [] = refl
@@ -82,8 +78,7 @@ settled-from i before (t ∷ ts) (g ∷ gs) fs all e is found =
 -- what is found early, and else late, is what each occurrence stands for
 pub settled-standings : (known : List Name) (ts : List (List ℕ)) (gs : List GivenAs) (fs : List Found)
     → AreGiven known ts gs fs → settled_all known ts fs ≡ standings (occurrences_at ts gs)
-settled-standings known ts gs fs tied = settled-from 0 [] ts gs fs known tied.count tied.known_names tied.found_early
-    ∙ ap (λ ns. standings_from 0 [] ns (occurrences_at ts gs)) tied.known_names
+settled-standings known ts gs fs tied = grind (arith, settled-from 0)
 
 pub settled-none : (known : List Name) (ts : List (List ℕ)) → settled_all known ts [] ≡ []
 settled-none known [] = refl
@@ -98,8 +93,4 @@ settled-count known (t ∷ ts) (f ∷ fs) e = omega (arith, settled-count known 
 
 -- what an index has, and what follows it
 pub drop-at : {X : Type 0} (xs : List X) (i : ℕ) (x : X) → slice_get xs i ≡ Some x → drop i xs ≡ x ∷ drop (i + 1) xs
-drop-at xs i x here =
-    let f = front_at xs i (slice_get_within xs i x here) in
-    let same : f.item ≡ x = let e : Some f.item ≡ Some x = sym f.there ∙ here in cc in
-    let next : suc i ≡ i + 1 = omega arith in
-    f.front ∙ (λ j. same j ∷ drop (next j) xs)
+drop-at xs i x here = grind (arith, front_at xs i (slice_get_within xs i x here))

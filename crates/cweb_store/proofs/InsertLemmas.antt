@@ -1,5 +1,5 @@
 -- How the one name of a prefix changes with one more name in the sorted map.
-use Rattle.cweb_store.proofs.Common.{◌≡◌, ℕ, Bool, true, false, cond, List, [], ◌∷◌, map, filter, Some, None, refl, sym, ◌∙◌, ap, nat_eq, starts_with, lookup, insert_entry, is_at, match_ordering, is_eq, Less, Equal, Greater, NameId, Found, Nothing, One, Several, Entry, order, begins, found_of}
+use Rattle.cweb_store.proofs.Common.{arith, ◌≡◌, ℕ, Bool, true, false, cond, List, [], ◌∷◌, map, filter, None, refl, nat_eq, starts_with, lookup, insert_entry, is_at, NameId, Found, Nothing, One, Several, Entry, order, begins, found_of}
 
 -- the one that there is, with one more number that counts or not
 abbrev pub grown : Bool → NameId → Found → Found
@@ -35,20 +35,4 @@ pub found-insert : (p : List ℕ) (es : List Entry) (k : List ℕ) (v : NameId) 
     found (filter (begins p) (insert_entry order es k v))
     ≡ grown (starts_with nat_eq k p) v (found (filter (begins p) es))
 found-insert p [] k v absent = found-one (starts_with nat_eq k p) (k, v) []
-found-insert p (e ∷ es) k v absent =
-    (elim (order k e.0) as (λ o. order k e.0 ≡ o → cond (is_eq o) (Some e.1) (lookup (is_at (order k)) es) ≡ None →
-    found (filter (begins p) (match_ordering o ((k, v) ∷ e ∷ es) ((e.0, v) ∷ es) (e ∷ insert_entry order es k v)))
-    ≡ grown (starts_with nat_eq k p) v (found (filter (begins p) (e ∷ es)))) [
-      | Less ↦ λ is h. found-one (starts_with nat_eq k p) (k, v) (filter (begins p) (e ∷ es))
-      | Equal ↦ λ is h. cc
-      | Greater ↦
-          λ is h. (elim (starts_with nat_eq e.0 p) as (λ b. found (cond b (e ∷ filter (begins p) (insert_entry order
-          es k v)) (filter (begins p) (insert_entry order es k v))) ≡ grown (starts_with nat_eq k p) v
-          (found (cond b (e ∷ filter (begins p) es) (filter (begins p) es)))) [
-            | true ↦ found-cons e (filter (begins p) (insert_entry order es k v))
-                ∙ ap (grown true e.1) (found-insert p es k v h)
-                ∙ grown-swap e.1 v (starts_with nat_eq k p) (found (filter (begins p) es))
-                ∙ ap (grown (starts_with nat_eq k p) v) (sym (found-cons e (filter (begins p) es)))
-            | false ↦ found-insert p es k v h
-          ])
-    ]) refl absent
+found-insert p (e ∷ es) k v absent = grind (arith, found-insert p es k v, found-cons e (filter (begins p) es))

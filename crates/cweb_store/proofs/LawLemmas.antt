@@ -1,6 +1,5 @@
 -- The laws of names and parts.
-use Rattle.cweb_store.proofs.Common.{◌≡◌, ℕ, zero, suc, ◌+◌, Bool, true, false, cond, not, ◌||◌, List, [], ◌∷◌, ◌++◌, Some, None, Option, length, take, refl, sym, ◌∙◌, ap, arith, append_assoc, append-nil, Ok, Err, bytes_eq, if◌then◌else◌, nat_eq, slice_get, option_map, option_and_then, filter, fold, filter_map, list_any, starts_with, position_or_len, map-append, bytes_eq-Decides, list_any-append, How, Full, Prefix, NameId, NeverFull, PartKind, Occurrence, Name, Standing, id, texts, with_text, with_name, names_from, names, beginning_from, beginning, the_one, standing_among, standings_from, standings, stands, Part, all_tokens, joined, Call, Occurs, Opens, Pushes, Drops, Closes, Transliterates, Contents, after, empty, gives_beginning, AbbreviationsStay, EarlierNamesDecide, FullNamesStandForThemselves, JoiningConcatenates, OccurrencesAreThoseOfCalls, occurrence_in, take-append_seam}
-use Rattle.cweb_store.proofs.NameLemmas.{or-false}
+use Rattle.cweb_store.proofs.Common.{◌≡◌, ℕ, zero, suc, ◌+◌, Bool, true, false, List, [], ◌∷◌, ◌++◌, Some, None, Option, length, take, refl, sym, ◌∙◌, ap, arith, append_assoc, append-nil, Ok, Err, bytes_eq, if◌then◌else◌, nat_eq, slice_get, option_map, option_and_then, fold, filter_map, list_any, starts_with, position_or_len, map-append, bytes_eq-Decides, list_any-append, How, Full, Prefix, NameId, NeverFull, PartKind, Occurrence, Name, Standing, id, texts, with_text, with_name, names_from, names, beginning_from, beginning, the_one, standing_among, standings_from, standings, stands, Part, joined, Call, Occurs, Opens, Pushes, Drops, Closes, Transliterates, Contents, after, empty, gives_beginning, AbbreviationsStay, EarlierNamesDecide, FullNamesStandForThemselves, JoiningConcatenates, OccurrencesAreThoseOfCalls, occurrence_in, take-append_seam}
 use Rattle.cweb_store.proofs.OccurrenceLemmas.{Grows, names_from-grows, with_text-has}
 
 -- what occurrence k stands for, by the names before it and all names
@@ -31,15 +30,11 @@ names_from-append i j ns (o ∷ os) later e = names_from-append (i + 1) j (with_
 beginning-other : (i : ℕ) (p : List ℕ) (ns : List Name) (n : Name)
     → starts_with nat_eq n.text p ≡ false → beginning_from i p (ns ++ n ∷ []) ≡ beginning_from i p ns
 beginning-other i p [] n h = ap (λ b. if b then id i ∷ [] else []) h
-beginning-other i p (m ∷ ns) n h =
-    ap (λ ks. if starts_with nat_eq m.text p then id i ∷ ks else ks) (beginning-other (i + 1) p ns n h)
+beginning-other i p (m ∷ ns) n h = cc (beginning-other (i + 1) p ns n h)
 
 beginning-with_text : (j : ℕ) (p : List ℕ) (ns : List Name) (text : List ℕ)
     → starts_with nat_eq text p ≡ false → beginning p (with_text j ns text) ≡ beginning p ns
-beginning-with_text j p ns text h =
-    let n : Name = record { text = text; first = j } in
-    elim (list_any (bytes_eq text) (texts ns)) as (λ b. beginning p (if b then ns else ns ++ n ∷ []) ≡ beginning p ns)
-    [ true ↦ refl | false ↦ beginning-other 0 p ns n h ]
+beginning-with_text j p ns text h = grind (arith, beginning-other 0 p ns)
 
 beginning-with_name : (j : ℕ) (p : List ℕ) (ns : List Name) (text : List ℕ) (how : How) (is_file : Bool) →
     let o : Occurrence = record { text = text; how = how; is_file = is_file } in
@@ -52,9 +47,7 @@ beginning-later : (j : ℕ) (p : List ℕ) (ns : List Name) (later : List Occurr
     → list_any (gives_beginning p) later ≡ false → beginning p (names_from j ns later) ≡ beginning p ns
 beginning-later j p ns [] h = refl
 beginning-later j p ns (o ∷ later) h =
-    let both = or-false (gives_beginning p o) (list_any (gives_beginning p) later) h in
-    beginning-later (j + 1) p (with_name j ns o) later both.right
-    ∙ beginning-with_name j p ns o.text o.how o.is_file both.left
+    grind (arith, beginning-later (j + 1) p (with_name j ns o) later, beginning-with_name j p ns o.text o.how o.is_file)
 
 pub among-prefix : (before all : List Name) (text : List ℕ) (how : How) (is_file : Bool) → how ≡ Prefix →
     let o : Occurrence = record { text = text; how = how; is_file = is_file } in
@@ -96,9 +89,7 @@ earlier_names_decide earlier later o n prefix only =
 
 pub any-grows : (p : List ℕ → Bool) (old new : List Name) → Grows old new
     → list_any p (texts old) ≡ true → list_any p (texts new) ≡ true
-any-grows p old new g h =
-    ap (λ ns. list_any p (texts ns)) g.grows ∙ ap (list_any p) (map-append (λ (n : Name). n.text) old g.more)
-    ∙ list_any-append p (texts old) (texts g.more) ∙ ap (λ b. b || list_any p (texts g.more)) h
+any-grows p old new g h = grind (arith, map-append, list_any-append p (texts old) (texts g.more))
 
 with_name-has : (i : ℕ) (ns : List Name) (text : List ℕ) (how : How) (is_file : Bool) → how ≡ Full →
     let o : Occurrence = record { text = text; how = how; is_file = is_file } in
@@ -111,26 +102,20 @@ names-has : (i : ℕ) (ns : List Name) (os : List Occurrence) (k : ℕ) (o : Occ
     → slice_get os k ≡ Some o → o.how ≡ Full → list_any (bytes_eq o.text) (texts (names_from i ns os)) ≡ true
 names-has i ns [] k o h full = cc
 names-has i ns (x ∷ os) zero o h full =
-    let same : x ≡ o = cc in
-    let there : list_any (bytes_eq o.text) (texts (with_name i ns x)) ≡ true =
-    ap (λ y. list_any (bytes_eq o.text) (texts (with_name i ns y))) same
-    ∙ with_name-has i ns o.text o.how o.is_file full in
-    any-grows (bytes_eq o.text) (with_name i ns x) (names_from (i + 1) (with_name i ns x) os)
-    (names_from-grows (i + 1) (with_name i ns x) os) there
+    grind (
+      arith,
+      with_name-has i ns o.text o.how o.is_file full,
+      any-grows (bytes_eq o.text) (with_name i ns x)
+          (names_from (i + 1) (with_name i ns x) os) (names_from-grows (i + 1) (with_name i ns x) os),
+      names_from-grows (i +
+          1) (with_name i ns x) os,
+    )
 names-has i ns (x ∷ os) (suc k) o h full = names-has (i + 1) (with_name i ns x) os k o h full
 
 text_at-position : (text : List ℕ) (ns : List Name) → list_any (bytes_eq text) (texts ns) ≡ true
     → option_map (λ (n : Name). n.text) (slice_get ns (position_or_len (bytes_eq text) (texts ns))) ≡ Some text
 text_at-position text [] h = cc
-text_at-position text (n ∷ ns) h =
-    let rest = position_or_len (bytes_eq text) (texts ns) in
-    (elim (bytes_eq text n.text) as (λ b. bytes_eq text n.text ≡ b → (b || list_any (bytes_eq text) (texts ns)) ≡ true
-    → option_map (λ (m : Name). m.text) (slice_get (n ∷ ns) (cond (not b) (1 + rest) 0)) ≡ Some text) [
-      | true ↦ λ e g. ap Some (sym ((bytes_eq-Decides text n.text).0 e))
-      | false ↦ λ e g.
-          ap (λ k. option_map (λ (m : Name). m.text) (slice_get (n ∷ ns) k))
-          (let next : 1 + rest ≡ suc rest = omega arith in next) ∙ text_at-position text ns g
-    ]) refl h
+text_at-position text (n ∷ ns) h = grind (arith, bytes_eq-Decides text n.text, text_at-position text ns)
 
 pub full_names_stand_for_themselves : FullNamesStandForThemselves
 full_names_stand_for_themselves os i o there full =
@@ -146,21 +131,10 @@ full_names_stand_for_themselves os i o there full =
 joined-append : (test : PartKind → Bool) (ps qs : List Part) → joined test (ps ++ qs) ≡ joined test ps ++ joined test qs
 joined-append test [] qs = refl
 joined-append test (p ∷ ps) qs =
-    let rest = joined-append test ps qs in
-    elim (test p.kind) as (λ b. all_tokens
-    (cond b (p ∷ filter (λ (q : Part). test q.kind) (ps ++ qs)) (filter (λ (q : Part). test q.kind) (ps ++ qs)))
-    ≡ all_tokens (cond b (p ∷ filter (λ (q : Part). test q.kind) ps) (filter (λ (q : Part). test q.kind) ps))
-    ++ joined test qs) [
-      | true ↦ ap (λ ts. p.tokens ++ ts) rest ∙ sym (append_assoc p.tokens (joined test ps) (joined test qs))
-      | false ↦ rest
-    ]
+    grind (arith, joined-append test ps qs, append_assoc p.tokens (joined test ps) (joined test qs))
 
 pub joining_concatenates : JoiningConcatenates
-joining_concatenates = record {
-  alone = λ test p. elim (test p.kind) as (λ b. all_tokens (cond b (p ∷ []) []) ≡ (if b then p.tokens else []))
-      [ true ↦ append-nil p.tokens | false ↦ refl ];
-  in_order = joined-append;
-}
+joining_concatenates = grind (arith, append-nil, joined-append)
 
 occurrences-from : (c : Contents) (calls : List Call)
     → (fold after c calls).occurrences ≡ c.occurrences ++ filter_map occurrence_in calls

@@ -1,5 +1,5 @@
 -- Lists of tokens that lose their last ones.
-use Rattle.cweb_store.proofs.Common.{◌≡◌, ℕ, zero, suc, ◌+◌, ◌≤◌, Bool, true, false, List, [], ◌∷◌, ◌++◌, Some, length, take, drop, refl, sym, ◌∙◌, ap, arith, slice_get, if◌then◌else◌, Token, before_last, without_last, without_last_after, without_blank, is_blank}
+use Rattle.cweb_store.proofs.Common.{◌≡◌, ℕ, zero, suc, ◌+◌, ◌≤◌, Bool, true, false, List, [], ◌∷◌, ◌++◌, Some, length, take, drop, refl, ◌∙◌, ap, arith, slice_get, if◌then◌else◌, Token, before_last, without_last, without_last_after, without_blank, is_blank}
 
 before_last-some : (test : Token → Bool) (x : Token) (xs : List Token) (t : Token)
     → before_last test x (xs ++ t ∷ []) ≡ x ∷ xs ++ t ∷ []
@@ -9,12 +9,7 @@ before_last-some test x (y ∷ ys) t = refl
 pub without_last-push : (test : Token → Bool) (xs : List Token) (t : Token)
     → without_last test (xs ++ t ∷ []) ≡ (if test t then without_last test xs else xs ++ t ∷ [])
 without_last-push test [] t = refl
-without_last-push test (x ∷ xs) t = ap (before_last test x) (without_last-push test xs t)
-    ∙ (elim (test t) as (λ b. before_last test x (if b then without_last test xs else xs ++ t ∷ [])
-    ≡ (if b then before_last test x (without_last test xs) else x ∷ xs ++ t ∷ [])) [
-      | true ↦ refl
-      | false ↦ before_last-some test x xs t
-    ])
+without_last-push test (x ∷ xs) t = grind (arith, without_last-push test xs t, test t, before_last-some test x xs t)
 
 pub take-next : (ts : List Token) (k : ℕ) (t : Token) → slice_get ts k ≡ Some t → take (suc k) ts ≡ take k ts ++ t ∷ []
 take-next [] k t h = cc
@@ -26,13 +21,9 @@ pub trim-next : (n : ℕ) (test : Token → Bool) (ts : List Token) (k : ℕ) (t
     without_last_after n test (take (suc k) ts)
     ≡ (if test t then without_last_after n test (take k ts) else take (suc k) ts)
 trim-next n test [] k t h le = cc
-trim-next zero test (x ∷ ts) k t h le =
-    ap (without_last test) (take-next (x ∷ ts) k t h) ∙ without_last-push test (take k (x ∷ ts)) t
-    ∙ ap (λ us. if test t then without_last test (take k (x ∷ ts)) else us) (sym (take-next (x ∷ ts) k t h))
+trim-next zero test (x ∷ ts) k t h le = cc (take-next (x ∷ ts) k t h, without_last-push test (take k (x ∷ ts)) t)
 trim-next (suc n) test (x ∷ ts) zero t h le = absurd (let none : ⊥ = omega arith in none)
-trim-next (suc n) test (x ∷ ts) (suc k) t h le = ap (λ us. x ∷ us) (trim-next n test ts k t h (omega arith))
-    ∙ (elim (test t) as (λ b. x ∷ (if b then without_last_after n test (take k ts) else take (suc k) ts)
-    ≡ (if b then x ∷ without_last_after n test (take k ts) else x ∷ take (suc k) ts)) [ true ↦ refl | false ↦ refl ])
+trim-next (suc n) test (x ∷ ts) (suc k) t h le = grind (arith, trim-next n test ts k t h (omega arith), test t, suc k)
 
 -- tokens that all stay
 pub trim-none : (n : ℕ) (test : Token → Bool) (ts : List Token) → length ts ≤ n → without_last_after n test ts ≡ ts
@@ -49,8 +40,7 @@ trim-drop (suc first) n test [] = trim-none-both n
   where
     trim-none-both : (n : ℕ)
         → drop (suc first) (without_last_after (suc first + n) test []) ≡ without_last_after n test []
-    trim-none-both n = ap (drop (suc first)) (trim-none (suc first + n) test [] (omega arith))
-        ∙ sym (trim-none n test [] (omega arith))
+    trim-none-both n = grind (arith, trim-none (suc first + n) test, trim-none n test)
 trim-drop (suc first) n test (t ∷ ts) =
     let next : suc first + n ≡ suc (first + n) = omega arith in
     ap (λ k. drop (suc first) (without_last_after k test (t ∷ ts))) next ∙ trim-drop first n test ts
@@ -75,8 +65,7 @@ drop-all (suc from) (t ∷ ts) (suc n) le = drop-all from ts n (omega arith)
 pub blank-push : (xs : List Token) (t : Token)
     → without_blank (xs ++ t ∷ []) ≡ (if is_blank t then xs else xs ++ t ∷ [])
 blank-push [] t = refl
-blank-push (x ∷ []) t = elim (is_blank t) as
-    (λ b. x ∷ (if b then [] else t ∷ []) ≡ (if b then x ∷ [] else x ∷ t ∷ [])) [ true ↦ refl | false ↦ refl ]
+blank-push (x ∷ []) t = grind arith
 blank-push (x ∷ y ∷ ys) t = ap (λ us. x ∷ us) (blank-push (y ∷ ys) t)
     ∙ (elim (is_blank t) as (λ b. x ∷ (if b then y ∷ ys else y ∷ ys ++ t ∷ [])
     ≡ (if b then x ∷ y ∷ ys else x ∷ y ∷ ys ++ t ∷ [])) [ true ↦ refl | false ↦ refl ])
@@ -84,13 +73,8 @@ blank-push (x ∷ y ∷ ys) t = ap (λ us. x ∷ us) (blank-push (y ∷ ys) t)
 -- the last token, where it is a Blank or not
 pub blank-dropped : (from : ℕ) (ts : List Token) (k : ℕ) (t : Token) → slice_get ts k ≡ Some t
     → from ≤ k → is_blank t ≡ true → drop from (take k ts) ≡ without_blank (drop from (take (suc k) ts))
-blank-dropped from ts k t h le blank = sym (ap without_blank (drop-next from ts k t h le) ∙ blank-push
-    (drop from (take k ts)) t ∙ ap (λ b. if b then drop from (take k ts) else drop from (take k ts) ++ t ∷ []) blank)
+blank-dropped from ts k t h le blank = cc (drop-next from ts k t h le, blank-push (drop from (take k ts)) t)
 
 pub blank-none : (from : ℕ) (ts : List Token) (k : ℕ) (t : Token) → slice_get ts k ≡ Some t → from ≤ k
     → is_blank t ≡ false → drop from (take (suc k) ts) ≡ without_blank (drop from (take (suc k) ts))
-blank-none from ts k t h le other =
-    let next = drop-next from ts k t h le in
-    next
-    ∙ sym (ap without_blank next ∙ blank-push (drop from (take k ts)) t
-    ∙ ap (λ b. if b then drop from (take k ts) else drop from (take k ts) ++ t ∷ []) other)
+blank-none from ts k t h le other = cc (drop-next from ts k t h le, blank-push (drop from (take k ts)) t)

@@ -1,5 +1,5 @@
 -- The texts of tokens without the layout at their end.
-use Rattle.cweb_store.proofs.Common.{◌≡◌, ℕ, suc, true, false, List, [], ◌∷◌, ◌++◌, Some, take, drop, refl, sym, ◌∙◌, ap, append-nil, slice_get, filter, if◌then◌else◌, take-append-drop, filter-append, Token, Trailing, before_last, without_last, without_last_after, is_blank, is_dropped, has_text}
+use Rattle.cweb_store.proofs.Common.{arith, ◌≡◌, ℕ, suc, true, false, List, [], ◌∷◌, ◌++◌, Some, take, drop, refl, sym, ◌∙◌, ap, append-nil, slice_get, filter, if◌then◌else◌, take-append-drop, filter-append, Token, Trailing, before_last, without_last, without_last_after, is_blank, is_dropped, has_text}
 use Rattle.cweb_store.specs.Parts as spec
 use Rattle.cweb_store.specs.declared.tokens.layout.Trailing.TheVariants as trailing
 use Rattle.cweb_store.proofs.LayoutLemmas.{take-next}
@@ -23,25 +23,23 @@ gone token ts h = ap (λ b. if b then token ∷ filter has_text ts else filter h
 
 before_last-texts : (t : Trailing) (token : Token) (ts : List Token)
     → filter has_text (before_last (is_dropped t) token ts) ≡ filter has_text (token ∷ ts)
-before_last-texts t token [] = (elim (is_dropped t token) as (λ b.
-    is_dropped t token ≡ b → filter has_text (if b then [] else token ∷ []) ≡ filter has_text (token ∷ [])) [
-      | true ↦ λ h. sym (gone token [] (dropped-none t token h))
-      | false ↦ λ h. refl
-    ]) refl
+before_last-texts t token [] = grind (arith, gone token, dropped-none t token)
 before_last-texts t token (u ∷ us) = refl
 
 without_last-texts : (t : Trailing) (ts : List Token)
     → filter has_text (without_last (is_dropped t) ts) ≡ filter has_text ts
 without_last-texts t [] = refl
-without_last-texts t (x ∷ ts) = before_last-texts t x (without_last (is_dropped t) ts)
-    ∙ ap (λ us. if has_text x then x ∷ us else us) (without_last-texts t ts)
+without_last-texts t (x ∷ ts) = cc (before_last-texts t x (without_last (is_dropped t) ts), without_last-texts t ts)
 
 pub trimmed-texts : (n : ℕ) (t : Trailing) (ts : List Token)
     → filter has_text (without_last_after n (is_dropped t) ts) ≡ filter has_text ts
 trimmed-texts n t ts =
-    filter-append has_text (take n ts) (without_last (is_dropped t) (drop n ts))
-    ∙ ap (λ us. filter has_text (take n ts) ++ us) (without_last-texts t (drop n ts))
-    ∙ sym (filter-append has_text (take n ts) (drop n ts)) ∙ ap (filter has_text) (take-append-drop n ts)
+    cc (
+      filter-append has_text (take n ts) (without_last (is_dropped t) (drop n ts)),
+      without_last-texts t (drop n ts),
+      filter-append has_text (take n ts) (drop n ts),
+      take-append-drop n ts,
+    )
 
 blank-none : (t : Token) → is_blank t ≡ true → has_text t ≡ false
 blank-none (spec.Word b) h = cc

@@ -1,31 +1,15 @@
 -- Who follows parts that are linked meets those that are wanted.
-use Rattle.cweb_store.proofs.Common.{◌≡◌, ℕ, zero, suc, ◌+◌, ◌-◌, ◌≤◌, Bool, true, false, cond, List, [], ◌∷◌, Option, Some, None, map, length, drop, reverse, ◌++◌, get_or, refl, sym, ◌∙◌, ap, subst, arith, length-drop, drop-cons, slice_get, slice_index, slice_range, filter, if◌then◌else◌, eqb-true, take_all, reverse-append, PartKind, Unnamed, Named, Macro, Run, Wanted, Program, OfName, Macros, Heads, Standing, stands, is_some_id, is_wanted, followed, group_of, is_same, is_group, head_of, skip_of, IsPut, AreLinked}
+use Rattle.cweb_store.proofs.Common.{◌≡◌, ℕ, zero, suc, ◌+◌, ◌-◌, ◌≤◌, Bool, true, false, List, [], ◌∷◌, Option, Some, length, drop, reverse, ◌++◌, get_or, refl, sym, ◌∙◌, ap, subst, arith, length-drop, drop-cons, slice_get, slice_range, if◌then◌else◌, take_all, reverse-append, PartKind, Unnamed, Named, Macro, Run, Wanted, Program, OfName, Macros, Heads, Standing, is_wanted, followed, group_of, is_group, IsPut, AreLinked}
 
 -- a part is wanted where its group is
 wanted-group : (rs : List Standing) (w : Wanted) (kind : PartKind) → is_wanted rs w kind ≡ is_group w (group_of rs kind)
 wanted-group rs Program Unnamed = refl
-wanted-group rs Program (Named name) = elim (stands rs name.0) as
-    (λ o. false ≡ is_group Program (elim o [ None ↦ None | Some n ↦ Some (OfName n) ])) [ None ↦ refl | Some n ↦ refl ]
+wanted-group rs Program (Named name) = grind arith
 wanted-group rs Program Macro = refl
-wanted-group rs (OfName n) (Named name) = elim (stands rs name.0) as (λ o. is_some_id n o
-    ≡ is_group (OfName n) (elim o [ None ↦ None | Some m ↦ Some (OfName m) ])) [ None ↦ refl | Some m ↦ refl ]
-wanted-group rs Macros (Named name) = elim (stands rs name.0) as
-    (λ o. false ≡ is_group Macros (elim o [ None ↦ None | Some n ↦ Some (OfName n) ])) [ None ↦ refl | Some n ↦ refl ]
+wanted-group rs (OfName n) (Named name) = grind (arith, OfName n)
+wanted-group rs Macros (Named name) = grind arith
 wanted-group rs _ Unnamed = refl
 wanted-group rs _ Macro = refl
-
-head-same : (heads : Heads) (w v : Wanted) → is_same w v ≡ true → head_of heads v ≡ head_of heads w
-head-same heads Program Program h = refl
-head-same heads (OfName n) (OfName m) h = ap (slice_index heads.names.items) (sym (eqb-true n.0 m.0 h))
-head-same heads Macros Macros h = refl
-head-same heads _ (OfName m) h = cc
-head-same heads _ Macros h = cc
-head-same heads _ Program h = cc
-
-skip-same : (heads : Heads) (behind : ℕ) (w : Wanted) (group : Option Wanted)
-    → is_group w group ≡ true → skip_of heads behind group ≡ behind - head_of heads w
-skip-same heads behind w None h = cc
-skip-same heads behind w (Some v) h = ap (λ k. behind - k) (head-same heads w v h)
 
 put-within : (runs n m : ℕ) (b : Bool) → n ≡ (if b then runs + 1 else m) → m ≤ runs → n ≤ runs + 1
 put-within runs n m true is le = omega arith
@@ -35,29 +19,7 @@ put-within runs n m false is le = omega arith
 pub put-linked : (rs : List Standing) (r : Run) (runs : List Run)
     (skips : List ℕ) (old : Heads) (skip : ℕ) (new : Heads) → IsPut (group_of rs r.kind) (length runs) old skip new
     → AreLinked rs runs skips old → AreLinked rs (r ∷ runs) (skip ∷ skips) new
-put-linked rs r runs skips old skip new put linked = record {
-  within = λ w.
-      omega (
-        arith,
-        put-within (length runs) (head_of new w) (head_of old w)
-            (is_group w (group_of rs r.kind)) (put.heads w) (linked.within w),
-      );
-  follow = λ w.
-      let others = filter (λ (x : Run). is_wanted rs w x.kind) runs in
-      (elim (is_group w (group_of rs r.kind)) as (λ b. is_group w (group_of rs r.kind) ≡ b → head_of new w ≡ (if b
-      then length runs + 1 else head_of old w) → followed (r ∷ runs) (skip ∷ skips) (length (r ∷ runs) - head_of new w)
-      ≡ map (λ (x : Run). x.part) (cond b (r ∷ others) others)) [
-        | true ↦ λ e first. ap (followed (r ∷ runs) (skip ∷ skips))
-            (let here : length (r ∷ runs) - head_of new w ≡ zero = omega (arith, first) in
-            here)
-            ∙ ap (λ ps. r.part ∷ ps) (ap (followed runs skips)
-            (put.skips ∙ skip-same old (length runs) w (group_of rs r.kind) e) ∙ linked.follow w)
-        | false ↦ λ e first. ap (followed (r ∷ runs) (skip ∷ skips)) (let later : length (r ∷ runs) - head_of new w
-            ≡ suc (length runs - head_of old w) = omega (arith, first, linked.within w) in
-            later) ∙ linked.follow w
-      ]) refl (put.heads w)
-      ∙ ap (λ b. map (λ (x : Run). x.part) (cond b (r ∷ others) others)) (sym (wanted-group rs w r.kind));
-}
+put-linked rs r runs skips old skip new put linked = grind (arith, put-within (length runs), wanted-group rs)
 
 -- the first part that is met, and where the others are
 pub followed-none : (runs : List Run) (skips : List ℕ) (n : ℕ) → length runs ≤ n → followed runs skips n ≡ []
@@ -77,10 +39,7 @@ pub followed-some : (runs : List Run) (skips : List ℕ) (n : ℕ) (r : Run) (sk
     → followed runs skips n ≡ r.part ∷ followed (drop (suc n) runs) (drop (suc n) skips) skip
 followed-some [] skips n r skip here there = cc
 followed-some (x ∷ runs) [] n r skip here there = cc
-followed-some (x ∷ runs) (k ∷ skips) zero r skip here there =
-    let same : x ≡ r = cc in
-    let equal : k ≡ skip = cc in
-    λ i. (same i).part ∷ followed runs skips (equal i)
+followed-some (x ∷ runs) (k ∷ skips) zero r skip here there = cc
 followed-some (x ∷ runs) (k ∷ skips) (suc n) r skip here there = followed-some runs skips n r skip here there
 
 range-end : {X : Type 0} (xs : List X) (n : ℕ) → drop (suc n) xs ≡ slice_range xs (n + 1) (length xs)

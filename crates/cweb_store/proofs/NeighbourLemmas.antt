@@ -1,5 +1,5 @@
 -- A name that is a proper prefix of another is one of the next in order.
-use Rattle.cweb_store.proofs.Common.{◌≡◌, ℕ, zero, suc, Bool, true, false, cond, ◌||◌, List, [], ◌∷◌, Some, None, map, filter, refl, sym, ◌∙◌, ap, nat_eq, bytes_eq, slice_get, starts_with, list_any, AllByRecursion, keys_of, lookup, insert_entry, is_at, match_ordering, is_eq, is_le, ordering_reverse, bytes_decides, nat_list_cmp_total, Less, Equal, Greater, is_eq-slice_cmp, NameId, Found, Name, texts, is_prefix_of_another, Entry, order, begins, found_of, is_several, next_begins, any_next, number_of, AreKnown}
+use Rattle.cweb_store.proofs.Common.{arith, ◌≡◌, ℕ, zero, suc, Bool, true, false, cond, ◌||◌, List, [], ◌∷◌, Some, map, filter, refl, sym, ◌∙◌, ap, nat_eq, bytes_eq, slice_get, starts_with, list_any, AllByRecursion, keys_of, lookup, insert_entry, is_at, match_ordering, is_eq, is_le, ordering_reverse, bytes_decides, nat_list_cmp_total, Less, Equal, Greater, is_eq-slice_cmp, NameId, Found, Name, texts, is_prefix_of_another, Entry, order, begins, found_of, is_several, next_begins, any_next, number_of, AreKnown}
 use Rattle.std.specs.List.Sorted.{IsStrictlySortedBy}
 use Rattle.cweb_store.proofs.PrefixLemmas.{none-begins, begins-le}
 use Rattle.cweb_store.proofs.NameLemmas.{bytes_eq-same, or-false, number-some, number-none}
@@ -17,11 +17,7 @@ next-some : (p : List ℕ) (es : List Entry) → AllByRecursion (λ k. order p k
     → IsStrictlySortedBy order (keys_of es) → next_begins p (keys_of es) ≡ is_some (filter (begins p) es)
 unfolding IsStrictlySortedBy
 next-some p [] above sorted = refl
-next-some p (e ∷ es) above sorted = (elim (starts_with nat_eq e.0 p) as (λ b. starts_with nat_eq e.0 p ≡ b →
-    b ≡ is_some (cond b (e ∷ filter (begins p) es) (filter (begins p) es))) [
-      | true ↦ λ is. refl
-      | false ↦ λ is. ap is_some (sym (none-begins p e.0 es (ap is_le above.0) is sorted.0))
-    ]) refl
+next-some p (e ∷ es) above sorted = grind (arith, is_some, none-begins p e.0 es (ap is_le above.0))
 
 few : (e : Entry) (es : List Entry) (b : Bool) → is_some es ≡ false → is_several (found (cond b (e ∷ es) es)) ≡ false
 few e [] true h = refl
@@ -72,20 +68,15 @@ none-next : (es : List Entry) → IsStrictlySortedBy order (keys_of es) → any_
 unfolding IsStrictlySortedBy
 none-next [] sorted none p v h = cc
 none-next (e ∷ es) sorted none p v h =
-    let both = or-false (next_begins e.0 (keys_of es)) (any_next (keys_of es)) none in
-    (elim (is_eq (order p e.0)) as
-    (λ b. is_eq (order p e.0) ≡ b → cond b (Some e.1) (lookup (is_at (order p)) es) ≡ Some v → is_several
-    (found (cond (starts_with nat_eq e.0 p) (e ∷ filter (begins p) es) (filter (begins p) es))) ≡ false) [
-      | true ↦ λ is g.
-          let here : is_some (filter (begins p) es) ≡ false =
-          ap (λ q. is_some (filter (begins q) es)) (same-key p e.0 is)
-          ∙ sym (next-some e.0 es sorted.0 sorted.1) ∙ both.left in
-          few e (filter (begins p) es) (starts_with nat_eq e.0 p) here
-      | false ↦ λ is g.
-          let other = not-begins e.0 p (below-found e.0 p v es sorted.0 g) in
-          ap (λ b. is_several (found (cond b (e ∷ filter (begins p) es) (filter (begins p) es)))) other
-          ∙ none-next es sorted.1 both.right p v g
-    ]) refl h
+    grind (
+      arith,
+      or-false (next_begins e.0 (keys_of es)) (any_next (keys_of es)) none,
+      same-key p e.0,
+      next-some e.0 es sorted.0 sorted.1,
+      not-begins e.0 p,
+      below-found e.0 p v es sorted.0,
+      none-next es sorted.1,
+    )
 
 -- a text of a map, with which several begin
 pub record Several (es : List Entry) : Type 0 where
@@ -133,20 +124,11 @@ any-none fails (n ∷ ns) h =
 any-same : (p : List ℕ) (fails : List ℕ → Bool) (ts : List (List ℕ)) → fails p ≡ true
     → list_any (bytes_eq p) ts ≡ true → list_any fails ts ≡ true
 any-same p fails [] f h = cc
-any-same p fails (t ∷ ts) f h = (elim (bytes_eq p t) as (λ b. bytes_eq p t ≡ b → (b || list_any (bytes_eq p) ts) ≡ true
-    → (fails t || list_any fails ts) ≡ true) [
-      | true ↦ λ is g. ap (λ b. b || list_any fails ts) (ap fails (sym ((bytes_decides p t).0 is)) ∙ f)
-      | false ↦ λ is g. ap (λ b. fails t || b) (any-same p fails ts f g)
-          ∙ elim (fails t) as (λ b. (b || true) ≡ true) [ true ↦ refl | false ↦ refl ]
-    ]) refl h
+any-same p fails (t ∷ ts) f h = grind (arith, fails t, bytes_decides p t, any-same p fails ts f)
 
 number-there : (q : List ℕ) (ns : List Name) → list_any (bytes_eq q) (texts ns) ≡ true
     → (v : NameId) × (number_of 0 q ns ≡ Some v)
-number-there q ns h =
-    (elim (number_of 0 q ns) as (λ o. number_of 0 q ns ≡ o → (v : NameId) × (o ≡ Some v)) [
-      | Some v ↦ λ is. (v, refl)
-      | None ↦ λ is. let none : false ≡ true = sym (number-none 0 q ns is) ∙ h in absurd (let no : ⊥ = cc in no)
-    ]) refl
+number-there q ns h = grind (arith, number-none 0 q ns)
 
 -- a name is a proper prefix of another where the text behind some text begins with it
 pub next-prefix : (es : List Entry) (ns : List Name) → AreKnown es ns → IsStrictlySortedBy order (keys_of es)

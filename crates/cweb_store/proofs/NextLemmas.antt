@@ -47,10 +47,7 @@ first-passes test n m (t ∷ ts) xs is =
 passes-behind : (test : Token → Bool) (ts : List Token) (n k : ℕ) → Passes test (drop n ts) k → Passes test ts (n + k)
 passes-behind test ts zero k p = subst (Passes test ts) (let e : k ≡ 0 + k = omega arith in e) p
 passes-behind test [] (suc n) k p = absurd (let none : ⊥ = cc in none)
-passes-behind test (t ∷ ts) (suc n) k p =
-    let later = passes-behind test ts n k p in
-    let next : suc (n + k) ≡ suc n + k = omega arith in
-    subst (Passes test (t ∷ ts)) next (record { token = later.token; here = later.here; passes = later.passes })
+passes-behind test (t ∷ ts) (suc n) k p = grind (arith, passes-behind test ts n k p, suc (n + k), suc n)
 
 head-at : (xs : List ℕ) (i m : ℕ) → i < length xs → m ≡ get_or xs i m → drop i xs ≡ m ∷ drop (suc i) xs
 head-at xs i m less is = drop-cons xs i m less ∙ ap (λ x. x ∷ drop (suc i) xs) (sym is)
@@ -59,10 +56,11 @@ head-at xs i m less is = drop-cons xs i m less ∙ ap (λ x. x ∷ drop (suc i) 
 noted-behind : (test : Token → Bool) (ts : List Token) (xs : List ℕ) (n i : ℕ) → xs ≡ token_numbers test 0 ts
     → (IsNonDecreasing xs → i ≡ prefix_len (λ x. nat_lt x n) xs) → drop i xs ≡ token_numbers test n (drop n ts)
 noted-behind test ts xs n i are count =
-    let is : i ≡ prefix_len (λ x. nat_lt x n) (token_numbers test 0 ts) =
-    count (subst IsNonDecreasing (sym are) (numbers-rise test 0 ts)) ∙ ap (prefix_len (λ x. nat_lt x n)) are in
-    ap (λ ys. drop i ys) are ∙ ap (λ j. drop j (token_numbers test 0 ts)) is
-    ∙ (numbers-cut test 0 n n ts (omega arith)).back
+    grind (
+      arith,
+      count (subst IsNonDecreasing (sym are) (numbers-rise test 0 ts)),
+      numbers-cut test 0 n n ts (omega arith),
+    )
 
 pub next-is : (test : Token → Bool) (ts : List Token) (part : Part) (xs : List ℕ) (i m : ℕ)
     → xs ≡ token_numbers test 0 ts → (IsNonDecreasing xs → i ≡ prefix_len (λ x. nat_lt x part.first) xs)
@@ -84,14 +82,7 @@ next-is test ts part xs i m are count some here less =
 none-found : (test : Token → Bool) (ts : List Token) (part : Part) → part.first ≤ part.after
     → BeginsFrom part.after (token_numbers test part.first (drop part.first ts)) → IsNext test ts part part.after
 none-found test ts part le from =
-    let place : part.first + (part.after - part.first) ≡ part.after = omega (arith, le) in
-    record {
-      begins = le;
-      within = omega arith;
-      before = none-before test part.first (part.after - part.first) (drop part.first ts)
-          (subst (λ m. BeginsFrom m (token_numbers test part.first (drop part.first ts))) (sym place) from);
-      found = λ l. absurd (let none : ⊥ = omega (arith, l) in none);
-    }
+    grind (arith, none-before test part.first (part.after - part.first) (drop part.first ts))
 
 pub next-none : (test : Token → Bool) (ts : List Token) (part : Part) (xs : List ℕ) (i : ℕ)
     → xs ≡ token_numbers test 0 ts → (IsNonDecreasing xs → i ≡ prefix_len (λ x. nat_lt x part.first) xs)

@@ -1,21 +1,11 @@
 -- The numbers of the tokens that pass a test: of more tokens, of the first ones, and of those behind.
-use Rattle.cweb_store.proofs.Common.{◌≡◌, ◌≤◌, ◌<◌, ◌+◌, ℕ, zero, suc, Bool, true, false, cond, List, [], ◌∷◌, ◌++◌, length, take, drop, get_or, refl, sym, ◌∙◌, ap, subst, arith, ltb, lt-ltb, le-ltb, one-add, append-nil, nat_lt, if◌then◌else◌, prefix_len, IsNonDecreasing, IsPartitionPoint, Token, token_numbers}
+use Rattle.cweb_store.proofs.Common.{◌≡◌, ◌≤◌, ◌<◌, ◌+◌, ℕ, zero, suc, Bool, true, false, cond, List, [], ◌∷◌, ◌++◌, length, take, drop, get_or, refl, sym, ◌∙◌, ap, subst, arith, ltb, lt-ltb, one-add, append-nil, nat_lt, if◌then◌else◌, prefix_len, IsNonDecreasing, IsPartitionPoint, Token, token_numbers}
 
 -- one more token
 pub numbers-push : (test : Token → Bool) (n : ℕ) (ts : List Token) (t : Token)
     → token_numbers test n (ts ++ t ∷ []) ≡ token_numbers test n ts ++ (if test t then (n + length ts) ∷ [] else [])
-numbers-push test n [] t =
-    let here : n ≡ n + 0 = omega arith in
-    ap (λ k. if test t then k ∷ [] else []) here
-numbers-push test n (u ∷ us) t =
-    let more = token_numbers test (n + 1) (us ++ t ∷ []) in
-    let rest = token_numbers test (n + 1) us in
-    let last = if test t then (n + suc (length us)) ∷ [] else [] in
-    let here : (n + 1) + length us ≡ n + suc (length us) = omega arith in
-    let step : more ≡ rest ++ last =
-    numbers-push test (n + 1) us t ∙ ap (λ k. rest ++ (if test t then k ∷ [] else [])) here in
-    elim (test u) as (λ b. (if b then n ∷ more else more) ≡ (if b then n ∷ rest else rest) ++ last)
-    [ true ↦ ap (λ xs. n ∷ xs) step | false ↦ step ]
+numbers-push test n [] t = grind arith
+numbers-push test n (u ∷ us) t = grind (arith, numbers-push test (n + 1) us t, test u)
 
 -- the numbers rise from the first token's on
 from-cons : (n : ℕ) (xs : List ℕ) (k d : ℕ)
@@ -33,30 +23,16 @@ numbers-from test n (t ∷ ts) k d h =
       | false ↦ λ l. omega (arith, numbers-from test (n + 1) ts k d l)
     ]) h
 
-rise-cons : (n : ℕ) (xs : List ℕ)
-    → ((j d : ℕ) → j < length xs → n ≤ get_or xs j d) → IsNonDecreasing xs → IsNonDecreasing (n ∷ xs)
-rise-cons n xs later rise zero zero d le h = omega arith
-rise-cons n xs later rise zero (suc j) d le h = later j d (omega arith)
-rise-cons n xs later rise (suc i) zero d le h = absurd (let none : ⊥ = omega arith in none)
-rise-cons n xs later rise (suc i) (suc j) d le h = rise i j d (omega arith) (omega arith)
-
 pub numbers-rise : (test : Token → Bool) (n : ℕ) (ts : List Token) → IsNonDecreasing (token_numbers test n ts)
 numbers-rise test n [] = λ i j d le h. absurd (let none : ⊥ = omega arith in none)
-numbers-rise test n (t ∷ ts) =
-    let rest = token_numbers test (n + 1) ts in
-    elim (test t) as (λ b. IsNonDecreasing (if b then n ∷ rest else rest)) [
-      | true ↦
-          rise-cons n rest (λ j d l. omega (arith, numbers-from test (n + 1) ts j d l)) (numbers-rise test (n + 1) ts)
-      | false ↦ numbers-rise test (n + 1) ts
-    ]
+numbers-rise test n (t ∷ ts) = grind (arith, test t, numbers-from test (n + 1) ts, numbers-rise test (n + 1) ts)
 
 -- where numbers that rise come to a bound
 pub point-is : (xs : List ℕ) (bound i : ℕ) → i ≤ length xs
     → IsPartitionPoint (λ x. ltb x bound ≡ true) (λ x. ltb x bound ≡ false) xs i
     → i ≡ prefix_len (λ x. nat_lt x bound) xs
 point-is [] bound i le p = omega arith
-point-is (x ∷ xs) bound zero le p =
-    ap (λ b. cond b (1 + prefix_len (λ y. nat_lt y bound) xs) 0) (sym (p.1 0 0 (omega arith) (omega arith)))
+point-is (x ∷ xs) bound zero le p = cc (p.1 0 0 (omega arith) (omega arith))
 point-is (x ∷ xs) bound (suc i) le p =
     let later = point-is xs bound i (omega arith)
     (λ k d l h. p.0 (suc k) d (omega arith) (omega arith), λ k d l h. p.1 (suc k) d (omega arith) (omega arith)) in
@@ -66,12 +42,7 @@ point-is (x ∷ xs) bound (suc i) le p =
 none-below : (test : Token → Bool) (n bound : ℕ) (ts : List Token) → bound ≤ n
     → prefix_len (λ x. nat_lt x bound) (token_numbers test n ts) ≡ 0
 none-below test n bound [] le = refl
-none-below test n bound (t ∷ ts) le =
-    let rest = token_numbers test (n + 1) ts in
-    elim (test t) as (λ b. prefix_len (λ x. nat_lt x bound) (if b then n ∷ rest else rest) ≡ 0) [
-      | true ↦ ap (λ b. cond b (1 + prefix_len (λ x. nat_lt x bound) rest) 0) (le-ltb n bound le)
-      | false ↦ none-below test (n + 1) bound ts (omega arith)
-    ]
+none-below test n bound (t ∷ ts) le = grind (arith, test t, none-below test (n + 1) bound ts (omega arith))
 
 -- the numbers below a bound are those of the first tokens, and the others are those of the rest
 pub record AreCut (test : Token → Bool) (n k bound : ℕ) (ts : List Token) : Type 0 where
@@ -120,10 +91,7 @@ with-number xs b k = xs ++ (if b then k ∷ [] else [])
 
 pub noted-push : (test : Token → Bool) (old new : List ℕ) (ts : List Token) (t : Token) (k : ℕ) → length ts ≡ k
     → old ≡ token_numbers test 0 ts → new ≡ with-number old (test t) k → new ≡ token_numbers test 0 (ts ++ t ∷ [])
-noted-push test old new ts t k size are is =
-    let last : k ≡ 0 + length ts = omega (arith, size) in
-    is ∙ ap (λ xs. with-number xs (test t) k) are ∙ ap (with-number (token_numbers test 0 ts) (test t)) last
-    ∙ sym (numbers-push test 0 ts t)
+noted-push test old new ts t k size are is = grind (arith, numbers-push test 0 ts t)
 
 pub noted-here : (xs new : List ℕ) (b : Bool) (k : ℕ) → new ≡ xs ++ k ∷ [] → b ≡ true → new ≡ with-number xs b k
 noted-here xs new b k is e = is ∙ ap (λ v. with-number xs v k) (sym e)
@@ -134,7 +102,8 @@ noted-not xs b k e = sym (append-nil xs) ∙ ap (λ v. with-number xs v k) (sym 
 pub noted-take : (test : Token → Bool) (xs : List ℕ) (ts : List Token) (n i : ℕ) → xs ≡ token_numbers test 0 ts
     → (IsNonDecreasing xs → i ≡ prefix_len (λ x. nat_lt x n) xs) → take i xs ≡ token_numbers test 0 (take n ts)
 noted-take test xs ts n i are count =
-    let is : i ≡ prefix_len (λ x. nat_lt x n) (token_numbers test 0 ts) =
-    count (subst IsNonDecreasing (sym are) (numbers-rise test 0 ts)) ∙ ap (prefix_len (λ x. nat_lt x n)) are in
-    ap (λ ys. take i ys) are ∙ ap (λ j. take j (token_numbers test 0 ts)) is
-    ∙ (numbers-cut test 0 n n ts (omega arith)).front
+    grind (
+      arith,
+      count (subst IsNonDecreasing (sym are) (numbers-rise test 0 ts)),
+      numbers-cut test 0 n n ts (omega arith),
+    )

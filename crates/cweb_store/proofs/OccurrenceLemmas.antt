@@ -1,16 +1,12 @@
 -- What the occurrences give: names, what is found of each, and what each stands for.
-use Rattle.cweb_store.proofs.Common.{◌≡◌, ℕ, ◌+◌, ◌≤◌, Bool, true, false, cond, not, ◌||◌, List, [], ◌∷◌, ◌++◌, length, refl, sym, ◌∙◌, ap, arith, length-append, append_assoc, append-nil, Ok, Err, bytes_eq, if◌then◌else◌, list_any, position_or_len, map-append, How, Full, Prefix, NameId, NeverFull, Occurrence, Name, Standing, id, texts, with_text, with_name, names_from, names, beginning, the_one, standing_among, found_of, early, earlies_from, by_found}
+use Rattle.cweb_store.proofs.Common.{◌≡◌, ℕ, ◌+◌, ◌≤◌, Bool, true, false, cond, not, ◌||◌, List, [], ◌∷◌, ◌++◌, length, refl, sym, ◌∙◌, ap, arith, length-append, append_assoc, append-nil, Err, bytes_eq, if◌then◌else◌, list_any, position_or_len, map-append, How, Full, Prefix, NameId, NeverFull, Occurrence, Name, Standing, texts, with_text, with_name, names_from, names, beginning, the_one, standing_among, found_of, early, earlies_from, by_found}
 use Rattle.cweb_store.proofs.NameLemmas.{bytes_eq-same}
 
 with_text-few : (i : ℕ) (ns : List Name) (text : List ℕ) → length (with_text i ns text) ≤ length ns + 1
-with_text-few i ns text =
-    let n : Name = record { text = text; first = i } in
-    elim (list_any (bytes_eq text) (texts ns)) as (λ b. length (if b then ns else ns ++ n ∷ []) ≤ length ns + 1)
-    [ true ↦ omega arith | false ↦ omega (arith, length-append ns (n ∷ [])) ]
+with_text-few i ns text = grind (arith, length-append ns)
 
 with_name-few : (i : ℕ) (ns : List Name) (o : Occurrence) → length (with_name i ns o) ≤ length ns + 1
-with_name-few i ns o = elim o.how as (λ how. length {A = Name} (elim how [ Full ↦ with_text i ns o.text | Prefix ↦ ns ])
-    ≤ length ns + 1) [ Full ↦ with_text-few i ns o.text | Prefix ↦ omega arith ]
+with_name-few i ns o = grind (arith, with_text-few i ns o.text)
 
 names_from-few : (i : ℕ) (ns : List Name) (os : List Occurrence) → length (names_from i ns os) ≤ length ns + length os
 names_from-few i ns [] = omega arith
@@ -61,57 +57,33 @@ texts-append ns ms = map-append (λ (m : Name). m.text) ns ms
 position-append : (p : List ℕ → Bool) (xs ys : List (List ℕ))
     → list_any p xs ≡ true → position_or_len p (xs ++ ys) ≡ position_or_len p xs
 position-append p [] ys h = cc
-position-append p (x ∷ xs) ys h = (elim (p x) as (λ b. (b || list_any p xs) ≡ true
-    → cond (not b) (1 + position_or_len p (xs ++ ys)) 0 ≡ cond (not b) (1 + position_or_len p xs) 0) [
-      | true ↦ λ g. refl
-      | false ↦ λ g. ap (λ n. 1 + n) (position-append p xs ys g)
-    ]) h
+position-append p (x ∷ xs) ys h = grind (arith, p x, position-append p xs ys)
 
 any-last : (p : List ℕ → Bool) (xs : List (List ℕ)) (y : List ℕ) → p y ≡ true → list_any p (xs ++ y ∷ []) ≡ true
 any-last p [] y h = ap (λ b. b || false) h
-any-last p (x ∷ xs) y h =
-    ap (λ b. p x || b) (any-last p xs y h) ∙ elim (p x) as (λ b. (b || true) ≡ true) [ true ↦ refl | false ↦ refl ]
+any-last p (x ∷ xs) y h = grind (arith, any-last p xs y h, p x)
 
 position-last : (p : List ℕ → Bool) (xs : List (List ℕ)) (y : List ℕ) → p y ≡ true
     → list_any p xs ≡ false → position_or_len p (xs ++ y ∷ []) ≡ position_or_len p xs
 position-last p [] y h none = ap (λ b. cond (not b) 1 0) h
-position-last p (x ∷ xs) y h none = (elim (p x) as (λ b. (b || list_any p xs) ≡ false
-    → cond (not b) (1 + position_or_len p (xs ++ y ∷ [])) 0 ≡ cond (not b) (1 + position_or_len p xs) 0) [
-      | true ↦ λ g. cc
-      | false ↦ λ g. ap (λ n. 1 + n) (position-last p xs y h g)
-    ]) none
+position-last p (x ∷ xs) y h none = grind (arith, p x, position-last p xs y h)
 
 -- a text is among the names once it is given in full
 pub with_text-has : (i : ℕ) (ns : List Name) (text : List ℕ)
     → list_any (bytes_eq text) (texts (with_text i ns text)) ≡ true
-with_text-has i ns text =
-    let n : Name = record { text = text; first = i } in
-    (elim (list_any (bytes_eq text) (texts ns)) as (λ b. list_any (bytes_eq text) (texts ns) ≡ b
-    → list_any (bytes_eq text) (texts (if b then ns else ns ++ n ∷ [])) ≡ true) [
-      | true ↦ λ h. h
-      | false ↦ λ h. ap (list_any (bytes_eq text)) (texts-append ns (n ∷ []))
-          ∙ any-last (bytes_eq text) (texts ns) text (bytes_eq-same text)
-    ]) refl
+with_text-has i ns text = grind (arith, texts-append ns, any-last (bytes_eq text) (texts ns) text (bytes_eq-same text))
 
 -- and its number is the one that it had, or that of the first new name
 with_text-position : (i : ℕ) (ns : List Name) (text : List ℕ)
     → position_or_len (bytes_eq text) (texts (with_text i ns text)) ≡ position_or_len (bytes_eq text) (texts ns)
 with_text-position i ns text =
-    let n : Name = record { text = text; first = i } in
-    (elim (list_any (bytes_eq text) (texts ns)) as (λ b.
-    list_any (bytes_eq text) (texts ns) ≡ b → position_or_len (bytes_eq text) (texts (if b then ns else ns ++ n ∷ []))
-    ≡ position_or_len (bytes_eq text) (texts ns)) [
-      | true ↦ λ h. refl
-      | false ↦ λ h. ap (position_or_len (bytes_eq text)) (texts-append ns (n ∷ []))
-          ∙ position-last (bytes_eq text) (texts ns) text (bytes_eq-same text) h
-    ]) refl
+    grind (arith, texts-append ns, position-last (bytes_eq text) (texts ns) text (bytes_eq-same text))
 
 -- a name keeps its number
 pub position-grows : (text : List ℕ) (old new : List Name) → Grows old new → list_any (bytes_eq text) (texts old) ≡ true
     → position_or_len (bytes_eq text) (texts new) ≡ position_or_len (bytes_eq text) (texts old)
-position-grows text old new g there = ap (λ ns. position_or_len (bytes_eq text) (texts ns)) g.grows
-    ∙ ap (position_or_len (bytes_eq text)) (texts-append old g.more)
-    ∙ position-append (bytes_eq text) (texts old) (texts g.more) there
+position-grows text old new g there =
+    cc (texts-append old g.more, position-append (bytes_eq text) (texts old) (texts g.more) there)
 
 by_found-the_one : (ns : List NameId) (otherwise : Standing) → by_found (found_of ns) otherwise ≡ the_one ns otherwise
 by_found-the_one [] otherwise = refl
@@ -126,10 +98,11 @@ pub settled-one : (i : ℕ) (before : List Name) (os : List Occurrence) (text : 
     let all = names_from i before (o ∷ os) in
     by_found (early before o) (late all text) ≡ standing_among before all o
 settled-one i before os text Full is_file =
-    let grown = names_from-grows (i + 1) (with_text i before text) os in
-    ap (λ n. Ok (id n)) (sym (position-grows text (with_text i before text) (names_from (i + 1)
-    (with_text i before text) os) grown (with_text-has i before text) ∙ with_text-position i before text))
-settled-one i before os text Prefix is_file =
-    let all = names_from (i + 1) before os in
-    by_found-the_one (beginning text before) (late all text)
-    ∙ ap (the_one (beginning text before)) (by_found-the_one (beginning text all) (Err NeverFull))
+    grind (
+      arith,
+      names_from-grows (i + 1) (with_text i before text) os,
+      position-grows text (with_text i before text) (names_from (i + 1) (with_text i before text) os),
+      with_text-has i before text,
+      with_text-position i before text,
+    )
+settled-one i before os text Prefix is_file = grind (arith, by_found-the_one (beginning text before), late)

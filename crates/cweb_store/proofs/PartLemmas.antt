@@ -1,5 +1,5 @@
 -- Parts by the numbers of their tokens.
-use Rattle.cweb_store.proofs.Common.{◌≡◌, ℕ, ◌+◌, ◌-◌, ◌≤◌, ◌<◌, ◌||◌, Bool, true, false, cond, List, [], ◌∷◌, ◌++◌, map, filter, length, take, drop, refl, sym, ◌∙◌, ap, arith, length-append, slice_range, All, AllByRecursion, list_any, take-append_seam, drop-append_seam, drop-drop, All-from_recursion, PartKind, Run, Token, Part, all_tokens, joined, numbers_from, numbers_where, tokens_at, runs_from}
+use Rattle.cweb_store.proofs.Common.{◌≡◌, ℕ, ◌+◌, ◌≤◌, ◌<◌, Bool, true, false, cond, List, [], ◌∷◌, map, filter, length, drop, refl, ap, arith, length-append, All, AllByRecursion, list_any, take-append_seam, drop-append_seam, drop-drop, All-from_recursion, PartKind, Run, Token, Part, all_tokens, joined, numbers_from, numbers_where, tokens_at, runs_from}
 use Rattle.cweb_store.specs.declared.parts.Part as declared
 
 -- the runs that a test keeps have the numbers of the parts that it keeps
@@ -19,21 +19,13 @@ text_from : (test : PartKind → Bool) (parts : List Part) (n : ℕ) (ts : List 
     → drop n ts ≡ all_tokens parts → tokens_at ts (numbers_from test n parts) ≡ joined test parts
 text_from test [] n ts h = refl
 text_from test (p ∷ parts) n ts h =
-    let size = length p.tokens in
-    let rest = numbers_from test (n + size) parts in
-    let here : slice_range ts n (n + size) ≡ p.tokens =
-    ap (λ k. take k (drop n ts)) (let e : n + size - n ≡ size = omega arith in
-    e) ∙ ap (take size) h ∙ take-append_seam p.tokens (all_tokens parts) in
-    let others : drop (n + size) ts ≡ all_tokens parts = sym (drop-drop size n ts)
-    ∙ ap (drop size) h
-    ∙ drop-append_seam p.tokens (all_tokens parts) in
-    let later = text_from test parts (n + size) ts others in
-    elim (test p.kind) as (λ b. tokens_at ts (cond b ((record { first = n; after = n + size }) ∷ numbers_from test
-    (n + size) parts) (numbers_from test (n + size) parts))
-    ≡ all_tokens (cond b (p ∷ filter (λ (q : Part). test q.kind) parts) (filter (λ (q : Part). test q.kind) parts))) [
-      | true ↦ (λ i. here i ++ later i)
-      | false ↦ later
-    ]
+    grind (
+      arith,
+      take-append_seam p.tokens (all_tokens parts),
+      drop-drop,
+      drop-append_seam p.tokens (all_tokens parts),
+      text_from test parts,
+    )
 
 -- the tokens at the numbers of the parts that a test keeps are these parts joined
 pub tokens_at-numbers : (test : PartKind → Bool) (parts : List Part)
@@ -61,32 +53,17 @@ numbers-within test parts = All-from_recursion (λ (p : declared.Part). p.after 
 ordered_from : (test : PartKind → Bool) (parts : List Part) (n : ℕ)
     → AllByRecursion (λ (p : declared.Part). p.first ≤ p.after) (numbers_from test n parts)
 ordered_from test [] n = tt
-ordered_from test (p ∷ parts) n =
-    let later = ordered_from test parts (n + length p.tokens) in
-    elim (test p.kind) as (λ b. AllByRecursion (λ (q : declared.Part). q.first ≤ q.after)
-    (cond b ((record { first = n; after = n + length p.tokens }) ∷ numbers_from test (n + length p.tokens) parts)
-    (numbers_from test (n + length p.tokens) parts))) [ true ↦ (omega arith, later) | false ↦ later ]
+ordered_from test (p ∷ parts) n = grind (arith, ordered_from test parts (n + length p.tokens), test p.kind)
 
 pub numbers-ordered : (test : PartKind → Bool) (parts : List Part)
     → All (λ (p : declared.Part). p.first ≤ p.after) (numbers_where test parts)
-numbers-ordered test parts =
-    All-from_recursion (λ (p : declared.Part). p.first ≤ p.after) (numbers_where test parts) (ordered_from test parts 0)
+numbers-ordered test parts = grind (arith, All-from_recursion, ordered_from test parts 0)
 
 some_from : (test : PartKind → Bool) (parts : List Part) (n : ℕ)
     → (list_any (λ (p : Part). test p.kind) parts ≡ true → 0 < length (numbers_from test n parts))
     × (0 < length (numbers_from test n parts) → list_any (λ (p : Part). test p.kind) parts ≡ true)
 some_from test [] n = (λ h. cc, λ h. absurd (let none : ⊥ = omega arith in none))
-some_from test (p ∷ parts) n =
-    let later = some_from test parts (n + length p.tokens) in
-    elim (test p.kind) as (λ b. ((b || list_any (λ (q : Part). test q.kind) parts) ≡ true → 0 < length
-    (cond b ((record { first = n; after = n + length p.tokens }) ∷ numbers_from test (n + length p.tokens) parts)
-    (numbers_from test (n + length p.tokens) parts))) ×
-    (0 < length (cond b ((record { first = n; after = n + length p.tokens }) ∷ numbers_from test
-    (n + length p.tokens) parts) (numbers_from test (n + length p.tokens) parts))
-    → (b || list_any (λ (q : Part). test q.kind) parts) ≡ true)) [
-      | true ↦ (λ h. omega arith, λ h. refl)
-      | false ↦ later
-    ]
+some_from test (p ∷ parts) n = grind (arith, some_from test parts (n + length p.tokens), test p.kind)
 
 -- there are numbers exactly where a part passes the test
 pub numbers-some : (test : PartKind → Bool) (parts : List Part)

@@ -1,5 +1,5 @@
 -- Texts with a prefix stand together in a sorted list.
-use Rattle.cweb_store.proofs.Common.{◌≡◌, ℕ, ◌<◌, Bool, true, false, cond, ◌&&◌, List, [], ◌∷◌, map, filter, refl, sym, ◌∙◌, ap, subst, arith, eq-eqb, nat_eq, starts_with, AllByRecursion, keys_of, nat_cmp, ordering_then, is_le, slice_cmp, Ordering, Less, Equal, Greater, eqb-true, nat_tests, Nothing, One, Several, Entry, order, begins, numbers, found_of}
+use Rattle.cweb_store.proofs.Common.{◌≡◌, ℕ, ◌<◌, Bool, true, false, cond, ◌&&◌, List, [], ◌∷◌, map, filter, refl, sym, ◌∙◌, ap, subst, arith, eq-eqb, nat_eq, starts_with, AllByRecursion, keys_of, nat_cmp, ordering_then, is_le, slice_cmp, Ordering, Less, Equal, eqb-true, nat_tests, Nothing, One, Several, Entry, order, begins, numbers, found_of}
 use Rattle.std.specs.List.Sorted.{IsStrictlySortedBy}
 
 nat_less : (x y : ℕ) → nat_cmp x y ≡ Less → x < y
@@ -16,27 +16,10 @@ Step x y r s = (x ≡ y) × (is_le r ≡ true) × (s ≡ Less)
 
 step : (x y z : ℕ) (r s : Ordering) → x ≡ z → is_le (ordering_then (nat_cmp x y) r) ≡ true
     → ordering_then (nat_cmp y z) s ≡ Less → Step x y r s
-step x y z r s xz h g =
-    (elim (nat_cmp x y) as (λ o. nat_cmp x y ≡ o → is_le (ordering_then o r) ≡ true → Step x y r s) [
-      | Less ↦ λ e h'. (elim (nat_cmp y z) as (λ o. nat_cmp y z ≡ o → ordering_then o s ≡ Less → Step x y r s) [
-        | Less ↦ λ f g'. absurd (omega (arith, nat_less x y e, nat_less y z f))
-        | Equal ↦ λ f g'. absurd (omega (arith, nat_less x y e, nat_equal y z f))
-        | Greater ↦ λ f g'. cc
-      ]) refl g
-      | Equal ↦ λ e h'. (elim (nat_cmp y z) as (λ o. nat_cmp y z ≡ o → ordering_then o s ≡ Less → Step x y r s) [
-        | Less ↦ λ f g'. absurd (omega (arith, nat_equal x y e, nat_less y z f))
-        | Equal ↦ λ f g'. (nat_equal x y e, h', g')
-        | Greater ↦ λ f g'. cc
-      ]) refl g
-      | Greater ↦ λ e h'. cc
-    ]) refl h
+step x y z r s xz h g = grind (arith, Step x y r s, nat_less x y, nat_less y z, nat_equal y z, nat_equal x y)
 
 both : (x z : ℕ) (b : Bool) → (nat_eq x z && b) ≡ true → (x ≡ z) × (b ≡ true)
-both x z b h =
-    (elim (nat_eq x z) as (λ v. nat_eq x z ≡ v → (v && b) ≡ true → (x ≡ z) × (b ≡ true)) [
-      | true ↦ λ e g. (eqb-true x z e, g)
-      | false ↦ λ e g. cc
-    ]) refl h
+both x z b h = grind (arith, eqb-true x z)
 
 -- what lies between a prefix and a text that begins with it begins with it
 pub squeeze : (p a b : List ℕ) → is_le (slice_cmp nat_cmp p a) ≡ true
@@ -44,20 +27,14 @@ pub squeeze : (p a b : List ℕ) → is_le (slice_cmp nat_cmp p a) ≡ true
 squeeze [] a b h g s = refl
 squeeze (x ∷ p) [] b h g s = cc
 squeeze (x ∷ p) (y ∷ a) [] h g s = cc
-squeeze (x ∷ p) (y ∷ a) (z ∷ b) h g s =
-    let front = both x z (starts_with nat_eq b p) s in
-    let here = step x y z (slice_cmp nat_cmp p a) (slice_cmp nat_cmp a b) front.0 h g in
-    ap (λ v. v && starts_with nat_eq a p) (eq-eqb x y here.0) ∙ squeeze p a b here.1 here.2 front.1
+squeeze (x ∷ p) (y ∷ a) (z ∷ b) h g s = grind (arith, both x z (starts_with nat_eq b p) s, eq-eqb x y, squeeze p a b)
 
 -- a text that begins with a prefix isn't below it
 pub begins-le : (p b : List ℕ) → starts_with nat_eq b p ≡ true → is_le (slice_cmp nat_cmp p b) ≡ true
 begins-le [] [] s = refl
 begins-le [] (z ∷ b) s = refl
 begins-le (x ∷ p) [] s = cc
-begins-le (x ∷ p) (z ∷ b) s =
-    let front = both x z (starts_with nat_eq b p) s in
-    ap (λ o. is_le (ordering_then o (slice_cmp nat_cmp p b))) (ap (nat_cmp x) (sym front.0) ∙ nat_same x)
-    ∙ begins-le p b front.1
+begins-le (x ∷ p) (z ∷ b) s = grind (arith, both x z (starts_with nat_eq b p) s, nat_same x, begins-le p b)
 
 -- past a text that isn't below the prefix and doesn't begin with it none does
 pub none-begins : (p : List ℕ) (k : List ℕ) (es : List Entry) → is_le (slice_cmp nat_cmp p k) ≡ true
@@ -73,17 +50,7 @@ none-begins p k (e ∷ es) low other above = (elim (starts_with nat_eq e.0 p)
 pub from-begins : (p : List ℕ) (es : List Entry)
     → filter (begins p) (filter (λ (e : Entry). is_le (slice_cmp nat_cmp p e.0) && true) es) ≡ filter (begins p) es
 from-begins p [] = refl
-from-begins p (e ∷ es) = (elim (is_le (slice_cmp nat_cmp p e.0)) as (λ v. is_le (slice_cmp nat_cmp p e.0) ≡ v
-    → filter (begins p) (cond (v && true) (e ∷ filter (λ (e : Entry). is_le (slice_cmp nat_cmp p e.0) && true) es)
-    (filter (λ (e : Entry). is_le (slice_cmp nat_cmp p e.0) && true) es))
-    ≡ cond (starts_with nat_eq e.0 p) (e ∷ filter (begins p) es) (filter (begins p) es)) [
-      | true ↦ λ h. ap (λ xs. cond (starts_with nat_eq e.0 p) (e ∷ xs) xs) (from-begins p es)
-      | false ↦ λ h.
-          from-begins p es
-          ∙ ap (λ v. cond v (e ∷ filter (begins p) es) (filter (begins p) es))
-          (sym (no_begin (starts_with nat_eq e.0 p)
-          (λ s. let t : is_le (slice_cmp nat_cmp p e.0) ≡ true = begins-le p e.0 s in cc)))
-    ]) refl
+from-begins p (e ∷ es) = grind (arith, from-begins p es, no_begin, begins-le p)
   where
     no_begin : (b : Bool) → (b ≡ true → b ≡ false) → b ≡ false
     no_begin true f = f refl
@@ -95,31 +62,18 @@ from p es = filter (λ (e : Entry). is_le (slice_cmp nat_cmp p e.0) && true) es
 all-from : (p : List ℕ) (k : List ℕ) (es : List Entry) → AllByRecursion (λ j. order k j ≡ Less) (keys_of es)
     → AllByRecursion (λ j. order k j ≡ Less) (keys_of (from p es))
 all-from p k [] h = tt
-all-from p k (e ∷ es) h = elim (is_le (slice_cmp nat_cmp p e.0))
-    as (λ v. AllByRecursion (λ j. order k j ≡ Less) (keys_of (cond (v && true) (e ∷ from p es) (from p es)))) [
-      | true ↦ (h.0, all-from p k es h.1)
-      | false ↦ all-from p k es h.1
-    ]
+all-from p k (e ∷ es) h = grind (arith, from p es, all-from p k es h.1)
 
 sorted-from : (p : List ℕ) (es : List Entry) → IsStrictlySortedBy order (keys_of es)
     → IsStrictlySortedBy order (keys_of (from p es))
 unfolding IsStrictlySortedBy
 sorted-from p [] h = tt
-sorted-from p (e ∷ es) h = elim (is_le (slice_cmp nat_cmp p e.0))
-    as (λ v. IsStrictlySortedBy order (keys_of (cond (v && true) (e ∷ from p es) (from p es)))) [
-      | true ↦ (all-from p e.0 es h.0, sorted-from p es h.1)
-      | false ↦ sorted-from p es h.1
-    ]
+sorted-from p (e ∷ es) h = grind (arith, from p es, all-from p e.0 es h.0, sorted-from p es h.1)
 
 low-from : (p : List ℕ) (es : List Entry)
     → AllByRecursion (λ (e : Entry). is_le (slice_cmp nat_cmp p e.0) ≡ true) (from p es)
 low-from p [] = tt
-low-from p (e ∷ es) = (elim (is_le (slice_cmp nat_cmp p e.0)) as
-    (λ v. is_le (slice_cmp nat_cmp p e.0) ≡ v → AllByRecursion (λ (e : Entry). is_le (slice_cmp nat_cmp p e.0) ≡ true)
-    (cond (v && true) (e ∷ from p es) (from p es))) [
-      | true ↦ λ h. (h, low-from p es)
-      | false ↦ λ h. low-from p es
-    ]) refl
+low-from p (e ∷ es) = grind (arith, from p es, low-from p es)
 
 -- what the first two entries from the prefix on say of all
 pub record Names (p : List ℕ) (es rest : List Entry) : Type 0 where
@@ -136,8 +90,7 @@ names-none p es rest h empty = ap (λ xs. found_of (map (λ (e : Entry). e.1) xs
 pub names-other : (p : List ℕ) (es : List Entry) (e : Entry) (rest : List Entry) → Names p es (e ∷ rest)
     → starts_with nat_eq e.0 p ≡ false → found_of (numbers p es) ≡ Nothing
 unfolding IsStrictlySortedBy
-names-other p es e rest h other = ap (λ xs. found_of (map (λ (e : Entry). e.1) xs)) (h.is ∙ ap (λ v. cond v
-    (e ∷ filter (begins p) rest) (filter (begins p) rest)) other ∙ none-begins p e.0 rest h.low.0 other h.sorted.0)
+names-other p es e rest h other = grind (arith, none-begins p)
 
 pub names-last : (p : List ℕ) (es : List Entry) (e : Entry) → Names p es (e ∷ [])
     → starts_with nat_eq e.0 p ≡ true → found_of (numbers p es) ≡ One e.1
@@ -145,16 +98,12 @@ names-last p es e h same = ap (λ xs. found_of (map (λ (e : Entry). e.1) xs)) (
 
 pub names-two : (p : List ℕ) (es : List Entry) (e f : Entry) (rest : List Entry) → Names p es (e ∷ f ∷ rest)
     → starts_with nat_eq e.0 p ≡ true → starts_with nat_eq f.0 p ≡ true → found_of (numbers p es) ≡ Several
-names-two p es e f rest h one two = ap (λ xs. found_of (map (λ (e : Entry). e.1) xs))
-    (h.is ∙ ap (λ v. cond v (e ∷ filter (begins p) (f ∷ rest)) (filter (begins p) (f ∷ rest))) one
-    ∙ ap (λ v. e ∷ cond v (f ∷ filter (begins p) rest) (filter (begins p) rest)) two)
+names-two p es e f rest h one two = cc
 
 pub names-one : (p : List ℕ) (es : List Entry) (e f : Entry) (rest : List Entry) → Names p es (e ∷ f ∷ rest)
     → starts_with nat_eq e.0 p ≡ true → starts_with nat_eq f.0 p ≡ false → found_of (numbers p es) ≡ One e.1
 unfolding IsStrictlySortedBy
-names-one p es e f rest h one other = ap (λ xs. found_of (map (λ (e : Entry). e.1) xs)) (h.is ∙ ap (λ v. cond v
-    (e ∷ filter (begins p) (f ∷ rest)) (filter (begins p) (f ∷ rest))) one ∙ ap (λ v. e ∷ cond v (f ∷ filter (begins p)
-    rest) (filter (begins p) rest)) other ∙ ap (λ xs. e ∷ xs) (none-begins p f.0 rest h.low.1.0 other h.sorted.1.0))
+names-one p es e f rest h one other = cc (none-begins p f.0 rest h.low.1.0 other h.sorted.1.0)
 
 pub names-range : (p q : List ℕ) (es rest : List Entry)
     → rest ≡ filter (λ (e : Entry). is_le (slice_cmp nat_cmp q e.0) && true) es

@@ -1,15 +1,11 @@
 -- Ranges of lists.
-use Rattle.cweb_store.proofs.Common.{◌≡◌, ℕ, zero, suc, ◌+◌, ◌-◌, ◌≤◌, ◌<◌, List, [], ◌∷◌, ◌++◌, Some, take, drop, refl, sym, ◌∙◌, ap, arith, add-one, length, slice_get, slice_range, slice_index_or, Run, Token, Follow, take-add, drop-drop}
+use Rattle.cweb_store.proofs.Common.{◌≡◌, ℕ, zero, suc, ◌+◌, ◌-◌, ◌≤◌, ◌<◌, List, [], ◌∷◌, ◌++◌, Some, take, drop, ap, arith, add-one, length, slice_get, slice_range, slice_index_or, Run, Token, Follow, take-add, drop-drop}
 use Rattle.cweb_store.proofs.RunLemmas.{Follow-le}
 
 -- a range goes up to a number in it, and on from there
 pub range-split : {X : Type 0} (xs : List X) (i j k : ℕ) → i ≤ j → j ≤ k
     → slice_range xs i k ≡ slice_range xs i j ++ slice_range xs j k
-range-split xs i j k low high =
-    let both : k - i ≡ (j - i) + (k - j) = omega (arith, low, high) in
-    let place : i + (j - i) ≡ j = omega (arith, low) in
-    ap (λ n. take n (drop i xs)) both ∙ take-add (j - i) (k - j) (drop i xs)
-    ∙ ap (λ ys. slice_range xs i j ++ take (k - j) ys) (drop-drop (j - i) i xs ∙ ap (λ n. drop n xs) place)
+range-split xs i j k low high = grind (arith, take-add (j - i) (k - j) (drop i xs), drop-drop (j - i) i xs)
 
 -- what comes first behind some of a list stands at their number
 pub drop-here : {X : Type 0} (xs : List X) (i : ℕ) (x : X) (rest : List X)
@@ -22,10 +18,7 @@ drop-here (y ∷ xs) (suc i) x rest h = drop-here xs i x rest h
 -- a range begins with the token at its first number
 pub range-head : (ts : List Token) (i k : ℕ) (t : Token) → slice_get ts i ≡ Some t → i < k
     → slice_range ts i k ≡ t ∷ slice_range ts (i + 1) k
-range-head ts i k t here less =
-    let size : k - i ≡ suc (k - (i + 1)) = omega (arith, less) in
-    ap (λ n. take n (drop i ts)) size ∙ ap (take (suc (k - (i + 1)))) (head ts i here)
-    ∙ ap (λ n. t ∷ take (k - (i + 1)) (drop n ts)) (sym (add-one i))
+range-head ts i k t here less = grind (arith, head ts i here, add-one i)
   where
     head : (us : List Token) (j : ℕ) → slice_get us j ≡ Some t → drop j us ≡ t ∷ drop (suc j) us
     head [] j h = cc

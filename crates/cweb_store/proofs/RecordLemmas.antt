@@ -1,5 +1,5 @@
 -- Records whose places are numbered in order.
-use Rattle.cweb_store.proofs.Common.{◌≡◌, ℕ, zero, suc, ◌+◌, ◌-◌, ◌≤◌, ◌<◌, true, false, cond, List, [], ◌∷◌, ◌++◌, Some, map, length, take, drop, refl, sym, subst, ◌∙◌, ap, arith, length-drop, slice_get, map-append, take_all, take-append_seam, Place, Packed, Record, lends, token_in, packed_in, has_place, place_at, IsAt, places_of, AreNumbered, IsRecord, is_mark, is_mark_token}
+use Rattle.cweb_store.proofs.Common.{◌≡◌, ℕ, zero, suc, ◌+◌, ◌≤◌, ◌<◌, true, false, cond, List, [], ◌∷◌, ◌++◌, Some, map, length, take, drop, refl, sym, subst, ap, arith, slice_get, map-append, take-append_seam, Place, Packed, Record, lends, token_in, packed_in, has_place, place_at, IsAt, places_of, AreNumbered, IsRecord, is_mark, is_mark_token}
 use Rattle.cweb_store.specs.declared.tokens.packed.Packed.TheVariants as packed
 use Rattle.cweb_store.specs.declared.tokens.records.Record.TheVariants as record_of
 use Rattle.cweb_store.specs.Packed as kept
@@ -65,24 +65,18 @@ pub push-packed : (old new : List Place) (rs : List Record) (token : Packed) (r 
     → AreNumbered 0 rs (length old) → IsRecord old token r new
     → map (packed_in new) (rs ++ r ∷ []) ≡ map (packed_in old) rs ++ token ∷ []
 push-packed old new rs token r all is =
-    let front : take (length old) new ≡ old = ap (take (length old)) is.grows ∙ take-append_seam old is.more in
-    map-append (packed_in new) rs (r ∷ [])
-    ∙ (λ i. (sym (cut new 0 (length old) rs all) ∙ ap (λ ps. map (packed_in ps) rs) front) i ++ is.stands i ∷ [])
+    cc (take-append_seam old is.more, map-append (packed_in new) rs (r ∷ []), cut new 0 (length old) rs all)
 
 pub push-numbered : (old new : List Place) (rs : List Record) (token : Packed) (r : Record)
     → AreNumbered 0 rs (length old) → IsRecord old token r new → AreNumbered 0 (rs ++ r ∷ []) (length new)
-push-numbered old new rs token r all is =
-    subst (AreNumbered 0 (rs ++ r ∷ [])) (sym is.count) (numbered-push 0 (length old) rs r all is.at)
+push-numbered old new rs token r all is = grind (arith, numbered-push 0 (length old) rs r all is.at)
 
 -- a record at a number
 pub record-at : (places : List Place) (from end : ℕ) (rs : List Record) (i : ℕ) (r : Record) → AreNumbered from rs end
     → slice_get rs i ≡ Some r → IsWithin end r × (slice_get (map (packed_in places) rs) i ≡ Some (packed_in places r))
 record-at places from end [] i r all h = cc
 record-at places from end (q ∷ rs) zero r all h =
-    let same : q ≡ r = cc in (
-      subst (IsWithin end) same (within q from end all.0 (numbered-le (from + places_of q) end rs all.1)),
-      ap (λ x. Some (packed_in places x)) same,
-    )
+    grind (arith, within q from end all.0 (numbered-le (from + places_of q) end rs all.1))
   where
     within : (q : Record) (from end : ℕ) → IsAt from q → from + places_of q ≤ end → IsWithin end q
     within (record_of.Word k) from end at h = tt

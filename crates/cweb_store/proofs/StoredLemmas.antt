@@ -1,5 +1,5 @@
 -- What a store stands for, by what it keeps: tokens, occurrences and names.
-use Rattle.cweb_store.proofs.Common.{◌≡◌, ℕ, zero, suc, ◌+◌, ◌≤◌, ◌<◌, Bool, true, false, List, [], ◌∷◌, ◌++◌, Option, Some, map, length, drop, refl, sym, ◌∙◌, ap, subst, arith, length-append, append_assoc, append-nil, get_or, slice_get, option_map, bytes_eq, if◌then◌else◌, list_any, length-map, drop-append_seam, Full, Prefix, NameId, NameFault, GivenAs, Run, Links, Occurrence, Name, Standing, texts, with_text, with_name, names_from, names, Token, Replacement, IsWhole, closed_in, stored, too_many, AreAnswers, AreLinked, occurrence_text, replacement_text, TokensAndTexts, tokens_alone, with_texts, given_as, occurrences_at, replacements_at, stored_in, AreLast, AreStored}
+use Rattle.cweb_store.proofs.Common.{◌≡◌, ℕ, zero, suc, ◌+◌, ◌≤◌, ◌<◌, Bool, List, [], ◌∷◌, ◌++◌, Option, Some, map, length, drop, refl, sym, ◌∙◌, ap, subst, arith, length-append, append_assoc, append-nil, get_or, slice_get, option_map, length-map, drop-append_seam, NameId, NameFault, GivenAs, Run, Links, Occurrence, Name, Standing, with_text, with_name, names_from, names, Token, Replacement, IsWhole, closed_in, stored, too_many, AreAnswers, AreLinked, occurrence_text, replacement_text, TokensAndTexts, tokens_alone, with_texts, given_as, occurrences_at, replacements_at, stored_in, AreLast, AreStored}
 use Rattle.cweb_store.proofs.RangeLemmas.{drop-here}
 
 with_texts-is : (ts : List (List ℕ)) (c : TokensAndTexts)
@@ -20,11 +20,12 @@ replacements-back (r ∷ rs) = ap (λ rest. r ∷ rest) (replacements-back rs)
 replacements-behind : (os : List Occurrence) (rs : List Replacement) → replacements_at
     (drop (length (map given_as os)) (map occurrence_text os ++ map replacement_text rs)) (map (λ r. r.byte) rs) ≡ rs
 replacements-behind os rs =
-    let same : length (map given_as os) ≡ length (map occurrence_text os) =
-    length-map os given_as ∙ sym (length-map os occurrence_text) in
-    ap (λ n. replacements_at (drop n (map occurrence_text os ++ map replacement_text rs)) (map (λ r. r.byte) rs)) same
-    ∙ ap (λ ts. replacements_at ts (map (λ r. r.byte) rs))
-    (drop-append_seam (map occurrence_text os) (map replacement_text rs)) ∙ replacements-back rs
+    cc (
+      length-map os given_as,
+      length-map os occurrence_text,
+      drop-append_seam (map occurrence_text os) (map replacement_text rs),
+      replacements-back rs,
+    )
 
 abbrev pub all_texts : List Token → List Occurrence → List Replacement → TokensAndTexts
 all_texts ts os rs = with_texts (map replacement_text rs) (with_texts (map occurrence_text os) (tokens_alone ts))
@@ -32,16 +33,14 @@ all_texts ts os rs = with_texts (map replacement_text rs) (with_texts (map occur
 all_texts-are : (ts : List Token) (os : List Occurrence) (rs : List Replacement)
     → all_texts ts os rs ≡ record { tokens = ts; others = map occurrence_text os ++ map replacement_text rs }
 all_texts-are ts os rs =
-    ap (with_texts (map replacement_text rs)) (with_texts-is (map occurrence_text os) (tokens_alone ts))
-    ∙ with_texts-is (map replacement_text rs) (record { tokens = ts; others = map occurrence_text os })
+    grind (arith, with_texts-is (map occurrence_text os) (tokens_alone ts), with_texts-is (map replacement_text rs))
 
 -- what is packed stands for what was given
 pub stored-is : (ts : List Token) (runs : List Run) (os : List Occurrence) (rs : List Replacement)
     → stored_in (all_texts ts os rs) runs (map given_as os) (map (λ r. r.byte) rs)
     ≡ stored os (map (closed_in ts) runs) rs
-stored-is ts runs os rs = ap (λ c. stored_in c runs (map given_as os) (map (λ r. r.byte) rs)) (all_texts-are ts os rs)
-    ∙ (λ i.
-    stored (occurrences-back os (map replacement_text rs) i) (map (closed_in ts) runs) (replacements-behind os rs i))
+stored-is ts runs os rs =
+    cc (all_texts-are ts os rs, occurrences-back os (map replacement_text rs), replacements-behind os rs)
 
 pub stored-are : (ts : List Token)
     (runs : List Run) (links : Links) (os : List Occurrence) (rs : List Replacement) (last_places : List (Option ℕ))
@@ -107,24 +106,16 @@ firsts-push os (m ∷ ns) n h here = (h.0, firsts-push os ns n h.1 here)
 
 text-gives : (os : List Occurrence) (i : ℕ) (ns : List Name) (text : List ℕ) → FirstsGive os ns
     → option_map (λ (o : Occurrence). o.text) (slice_get os i) ≡ Some text → FirstsGive os (with_text i ns text)
-text-gives os i ns text h here =
-    let n : Name = record { text = text; first = i } in
-    elim (list_any (bytes_eq text) (texts ns)) as (λ b. FirstsGive os (if b then ns else ns ++ n ∷ []))
-    [ true ↦ h | false ↦ firsts-push os ns n h here ]
+text-gives os i ns text h here = grind (arith, firsts-push os ns)
 
 name-gives : (os : List Occurrence) (i : ℕ) (ns : List Name) (o : Occurrence) → FirstsGive os ns
     → option_map (λ (o : Occurrence). o.text) (slice_get os i) ≡ Some o.text → FirstsGive os (with_name i ns o)
-name-gives os i ns o h here = elim o.how as (λ how. FirstsGive os
-    (elim how [ Full ↦ with_text i ns o.text | Prefix ↦ ns ])) [ Full ↦ text-gives os i ns o.text h here | Prefix ↦ h ]
+name-gives os i ns o h here = grind (arith, text-gives os i ns o.text h here)
 
 firsts-from : (all os : List Occurrence) (i : ℕ) (ns : List Name)
     → drop i all ≡ os → FirstsGive all ns → FirstsGive all (names_from i ns os)
 firsts-from all [] i ns h given = given
-firsts-from all (o ∷ os) i ns h given =
-    let here = drop-here all i o os h in
-    let next : suc i ≡ i + 1 = omega arith in
-    firsts-from all os (i + 1) (with_name i ns o) (ap (λ k. drop k all) (sym next) ∙ here.1)
-    (name-gives all i ns o given (ap (option_map (λ (o : Occurrence). o.text)) here.0))
+firsts-from all (o ∷ os) i ns h given = grind (arith, drop-here all i, firsts-from all os (i + 1), name-gives all i ns)
 
 get-within : (os : List Occurrence) (k : ℕ) (t : List ℕ)
     → option_map (λ (o : Occurrence). o.text) (slice_get os k) ≡ Some t → k < length os

@@ -56,9 +56,7 @@ replacements-stand bytes (t ∷ ts) (b ∷ bs) h = (h.0, replacements-stand byte
 front-stands : (bytes : List ℕ) (ts us : List (List ℕ))
     → AllStandIn bytes (ts ++ us) → AllStandIn bytes ts × AllStandIn bytes us
 front-stands bytes [] us h = (tt, h)
-front-stands bytes (t ∷ ts) us h =
-    let rest = front-stands bytes ts us h.1 in
-    ((h.0, rest.0), rest.1)
+front-stands bytes (t ∷ ts) us h = grind (arith, front-stands bytes ts us h.1)
 
 pub store-texts : (n : ℕ) (c : TokensAndTexts) (runs : List Run) (given : List GivenAs) (replaced : List ℕ)
     → IsWhole c.tokens runs → AreInOneList n (flat_map token_texts c.tokens ++ c.others)
@@ -99,9 +97,7 @@ pub store-bytes : (c : TokensAndTexts) (runs : List Run) (given : List GivenAs) 
     → IsWhole c.tokens runs → length c.others ≡ length given + length replaced →
     token_bytes_kept c.tokens + total length c.others ≡ bytes_kept (stored_in c runs given replaced)
 store-bytes c runs given replaced whole size =
-    let tokens : token_bytes_kept (all_tokens (map (closed_in c.tokens) runs)) ≡ token_bytes_kept c.tokens =
-    ap token_bytes_kept (whole-tokens c.tokens runs whole) in
-    omega (arith, tokens, others-total c.others given replaced size)
+    cc (whole-tokens c.tokens runs whole, others-total c.others given replaced size)
 
 -- equal Words that are kept once make the bytes fewer
 pub bytes-few : (s : Stored) → bytes_kept s ≤ bytes_given s

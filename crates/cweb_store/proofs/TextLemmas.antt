@@ -1,6 +1,6 @@
 -- Texts in one list of bytes, and how many bytes tokens and texts have.
-use Rattle.cweb_store.proofs.Common.{◌≡◌, ℕ, zero, suc, ◌+◌, ◌<◌, ◌≤◌, Bool, true, false, List, [], ◌∷◌, ◌++◌, map, length, take, drop, refl, sym, ◌∙◌, ap, arith, length-append, append_assoc, flat_map, filter, bytes_eq, if◌then◌else◌, list_any, take-append-drop, drop-append-le, take-append-le, take-map, filter-append, Token, Packed, Number, Literal, Verbatim, Join, Defs, Head, Tail, text_bytes, TextsAndWords, has, text_at, token_in, IsWithin, ArePacked, Packs, total, token_texts, has_text, words_of, other_bytes, token_bytes_kept, StandsIn, AllStandIn, AreInOneList, tokens_and_texts, AreTokens, AreClosed}
-use Rattle.cweb_store.specs.declared.tokens.packed.Packed.TheVariants.{Word, Punct, Blank, Newline, Name, Mark}
+use Rattle.cweb_store.proofs.Common.{◌≡◌, ℕ, zero, suc, ◌+◌, ◌<◌, ◌≤◌, Bool, List, [], ◌∷◌, ◌++◌, map, length, take, drop, refl, sym, ◌∙◌, ap, arith, length-append, append_assoc, flat_map, filter, bytes_eq, list_any, take-append-drop, drop-append-le, take-append-le, take-map, filter-append, Token, Packed, Number, Literal, Verbatim, text_bytes, TextsAndWords, has, text_at, token_in, IsWithin, ArePacked, Packs, total, token_texts, has_text, words_of, other_bytes, token_bytes_kept, StandsIn, AllStandIn, AreInOneList, tokens_and_texts, AreTokens, AreClosed}
+use Rattle.cweb_store.specs.declared.tokens.packed.Packed.TheVariants.{Word, Punct}
 use Rattle.cweb_store.specs.ClosedTokens.{with_text}
 use Rattle.cweb_store.proofs.PackedLemmas.{packs-tokens, packs-all, packed-take, packed-grow, tokens-grow}
 use Rattle.cweb_texts.proofs.WordLemmas.{total-append}
@@ -55,9 +55,12 @@ bytes-total (t ∷ ts) = omega (arith, length-append t (text_bytes ts), bytes-to
 bytes-split : (own : ℕ) (ts : List (List ℕ))
     → length (text_bytes ts) ≡ length (text_bytes (take own ts)) + total length (drop own ts)
 bytes-split own ts =
-    let both : total length (take own ts ++ drop own ts) ≡ total length ts =
-    ap (total length) (take-append-drop own ts) in
-    omega (arith, bytes-total ts, bytes-total (take own ts), total-append length (take own ts) (drop own ts), both)
+    cc (
+      take-append-drop own ts,
+      bytes-total ts,
+      bytes-total (take own ts),
+      total-append length (take own ts) (drop own ts),
+    )
 
 -- one more token
 pub packs-are : (old new : TextsAndWords) (ps : List Packed) (t : Token) (p : Packed)
@@ -106,24 +109,11 @@ pub truncate-are : (kept : TextsAndWords) (ps : List Packed) (n : ℕ) → AreTo
     → filter has_text (take n (map (token_in kept.texts) ps)) ≡ filter has_text (map (token_in kept.texts) ps)
     → AreTokens kept (take n ps)
 truncate-are kept ps n all same =
-    let ts = map (token_in kept.texts) ps in
-    let fewer : filter has_text ts ≡ filter has_text (map (token_in kept.texts) (take n ps)) =
-    sym same ∙ ap (filter has_text) (take-map (token_in kept.texts) n ps) in
-    let us = map (token_in kept.texts) (take n ps) in
-    record {
-      packed = packed-take kept.texts ps n all.packed;
-      words = λ q. all.words q ∙ ap (list_any (bytes_eq q)) (same-words ts us fewer);
-      bytes = all.bytes ∙ same-bytes ts us fewer;
-      few = omega (arith, all.few, ap length fewer);
-    }
+    grind (arith, take-map (token_in kept.texts) n ps, packed-take kept.texts ps n all.packed, same-words, same-bytes)
 
 pub filter-few : {A : Type 0} (p : A → Bool) (xs : List A) → length (filter p xs) ≤ length xs
 filter-few p [] = omega arith
-filter-few p (x ∷ xs) =
-    elim (p x) as (λ b. length (if b then x ∷ filter p xs else filter p xs) ≤ length (x ∷ xs)) [
-      | true ↦ omega (arith, filter-few p xs)
-      | false ↦ omega (arith, filter-few p xs)
-    ]
+filter-few p (x ∷ xs) = grind (arith, p x, filter-few p xs)
 
 -- there are no more texts than tokens
 pub texts-few : (kept : TextsAndWords) (ps : List Packed) → AreTokens kept ps
@@ -134,31 +124,32 @@ texts-few kept ps all = omega (arith, all.few, filter-few has_text (map (token_i
 pub closed-add : (texts : List (List ℕ)) (t : List ℕ) (ps : List Packed) (own : ℕ)
     → AreClosed texts ps own → AreClosed (texts ++ t ∷ []) ps own
 closed-add texts t ps own all =
-    let own_bytes : length (text_bytes (take own (texts ++ t ∷ []))) ≡ length (text_bytes (take own texts)) =
-    ap (λ ts. length (text_bytes ts)) (take-append-le own texts (t ∷ []) all.within) in
-    record {
-      packed = packed-grow texts (t ∷ []) ps all.packed;
-      within = omega (arith, all.within, length-append texts (t ∷ []));
-      bytes = own_bytes ∙ all.bytes ∙ ap token_bytes_kept (sym (tokens-grow texts (t ∷ []) ps all.packed));
-    }
+    grind (
+      arith,
+      take-append-le own texts (t ∷ []) all.within,
+      packed-grow texts (t ∷ []) ps all.packed,
+      length-append texts (t ∷ []),
+      tokens-grow texts (t ∷ []) ps all.packed,
+    )
 
 pub closed-added : (texts : List (List ℕ)) (t : List ℕ) (ps : List Packed) (own : ℕ) → AreClosed texts ps own
     → tokens_and_texts (texts ++ t ∷ []) ps own ≡ with_text t (tokens_and_texts texts ps own)
-closed-added texts t ps own all = λ i.
-    record {
-      tokens = tokens-grow texts (t ∷ []) ps all.packed i;
-      others = drop-append-le own texts (t ∷ []) all.within i;
-    }
+closed-added texts t ps own all =
+    cc (tokens-grow texts (t ∷ []) ps all.packed, drop-append-le own texts (t ∷ []) all.within)
 
 -- all texts in one list of bytes
 pub all-texts : (texts : List (List ℕ)) (ps : List Packed) (own n : ℕ) → AreClosed texts ps own
     → n ≡ length (text_bytes texts) → AreInOneList n (flat_map token_texts (map (token_in texts) ps) ++ drop own texts)
-all-texts texts ps own n all count = record {
-  bytes = text_bytes texts;
-  count = sym count;
-  runs = all-both (text_bytes texts) (flat_map token_texts (map (token_in texts) ps)) (drop own texts)
-      (tokens-stand texts ps all.packed) (all-drop (text_bytes texts) own texts (texts-stand texts));
-}
+all-texts texts ps own n all count =
+    grind (
+      arith,
+      all-both (text_bytes texts) (flat_map token_texts (map (token_in texts) ps)) (drop own texts)
+          (tokens-stand texts ps all.packed) (all-drop (text_bytes texts) own texts (texts-stand texts)),
+      tokens-stand texts
+          ps all.packed,
+      all-drop (text_bytes texts) own texts (texts-stand texts),
+      texts-stand texts,
+    )
 
 pub all-bytes : (texts : List (List ℕ)) (ps : List Packed) (own : ℕ) → AreClosed texts ps own
     → length (text_bytes texts) ≡ token_bytes_kept (map (token_in texts) ps) + total length (drop own texts)

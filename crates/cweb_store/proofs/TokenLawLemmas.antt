@@ -1,5 +1,5 @@
 -- The tokens of a builder's parts are those that were pushed, but for layout that was dropped.
-use Rattle.cweb_store.proofs.Common.{◌≡◌, inl, inr, Bool, true, false, List, [], ◌∷◌, ◌++◌, Some, None, refl, sym, ◌∙◌, ap, subst, append_assoc, append-nil, IsSome, IsNone, if◌then◌else◌, fold, filter_map, option_map, option_to_list, flat_map-append, PartKind, Token, Blank, Newline, Mark, Part, all_tokens, is_macro, without_last, without_blank, without_layout, at_close, is_layout, is_newline, is_blank, PartsSoFar, all_parts, opened, pushed, dropped, all_closed, longer, Call, Occurs, Opens, Pushes, Drops, Closes, Transliterates, Contents, after, empty, AllPass, IsFront, AreInPlace, IsLeft, TokensAreThosePushed}
+use Rattle.cweb_store.proofs.Common.{arith, ◌≡◌, inl, inr, Bool, true, false, List, [], ◌∷◌, ◌++◌, Some, None, refl, sym, ◌∙◌, ap, subst, append_assoc, append-nil, IsSome, IsNone, if◌then◌else◌, fold, filter_map, option_map, option_to_list, flat_map-append, PartKind, Token, Blank, Newline, Mark, Part, all_tokens, is_macro, without_last, without_blank, without_layout, at_close, is_layout, is_newline, is_blank, PartsSoFar, all_parts, opened, pushed, dropped, all_closed, longer, Call, Occurs, Opens, Pushes, Drops, Closes, Transliterates, Contents, after, empty, AllPass, IsFront, AreInPlace, IsLeft, TokensAreThosePushed}
 use Rattle.cweb_store.specs.TokenLaws.{token_in}
 use Rattle.cweb_store.proofs.LayoutLawLemmas.{without_last-front, dropping_keeps_the_front}
 
@@ -37,9 +37,7 @@ left-none test (u ∷ us) layout h = inl (layout u h.0, left-none test us layout
 left-front : (test : Token → Bool) (ts us : List Token)
     → ((t : Token) → test t ≡ true → is_layout t ≡ true) → IsFront test ts us → IsLeft ts us
 left-front test ts us layout f =
-    let front = left-more us us f.rest [] (left-same us) (left-none test f.rest layout f.passes) in
-    subst (λ (xs : List Token). IsLeft xs us) (sym f.splits)
-    (subst (λ (ys : List Token). IsLeft (us ++ f.rest) ys) (append-nil us) front)
+    grind (arith, left-more us us f.rest, left-same us, left-none test f.rest layout f.passes, append-nil us)
 
 newline-layout : (t : Token) → is_newline t ≡ true → is_layout t ≡ true
 newline-layout Newline h = refl
@@ -55,10 +53,7 @@ blank-layout t h = cc
 
 left-blank : (ts : List Token) → IsLeft ts (without_blank ts)
 left-blank [] = refl
-left-blank (t ∷ []) = (elim (is_blank t) as (λ b. is_blank t ≡ b → IsLeft (t ∷ []) (if b then [] else t ∷ [])) [
-  | true ↦ λ h. inl (blank-layout t h, refl)
-  | false ↦ λ h. inr ([], refl, refl)
-]) refl
+left-blank (t ∷ []) = grind (arith, blank-layout t)
 left-blank (t ∷ u ∷ us) = inr (without_blank (u ∷ us), refl, left-blank (u ∷ us))
 
 left-dropped : (p : Part) → IsLeft p.tokens (without_layout p).tokens
@@ -81,10 +76,13 @@ tokens-last ps p = simp (flat_map-append {X = Part} {A = Token}, append-nil)
 left-last : (ps : List Part) (p q : Part) → IsLeft p.tokens q.tokens
     → IsLeft (all_tokens (ps ++ p ∷ []) ++ []) (all_tokens (ps ++ q ∷ []))
 left-last ps p q h =
-    let both = left-more (all_tokens ps) (all_tokens ps) p.tokens q.tokens (left-same (all_tokens ps)) h in
-    subst (λ (xs : List Token). IsLeft xs (all_tokens (ps ++ q ∷ [])))
-    (sym (tokens-last ps p) ∙ sym (append-nil (all_tokens (ps ++ p ∷ []))))
-    (subst (λ (ys : List Token). IsLeft (all_tokens ps ++ p.tokens) ys) (sym (tokens-last ps q)) both)
+    grind (
+      arith,
+      left-more (all_tokens ps) (all_tokens ps) p.tokens q.tokens (left-same (all_tokens ps)) h,
+      tokens-last ps p,
+      append-nil (all_tokens (ps ++ p ∷ [])),
+      tokens-last ps q,
+    )
 
 left-nothing : (ts : List Token) → IsLeft (ts ++ []) ts
 left-nothing ts = left-equal (ts ++ []) ts (append-nil ts)
@@ -111,11 +109,7 @@ left-pushes t v some = (elim v.current as (λ o. IsSome o → IsLeft (all_tokens
     ]) some
 
 left-drops : (v : PartsSoFar) → IsLeft (all_tokens (all_parts v) ++ []) (all_tokens (all_parts (dropped v)))
-left-drops v = elim v.current as (λ o. IsLeft (all_tokens (v.closed ++ option_to_list o) ++ [])
-    (all_tokens (v.closed ++ option_to_list (option_map without_layout o)))) [
-      | None ↦ left-nothing (all_tokens (v.closed ++ []))
-      | Some p ↦ left-last v.closed p (without_layout p) (left-dropped p)
-    ]
+left-drops v = grind (arith, left-nothing (all_tokens (v.closed ++ [])), left-last v.closed, left-dropped)
 
 left-closes : (v : PartsSoFar) → IsLeft (all_tokens (all_parts v) ++ []) (all_tokens (all_parts (all_closed v)))
 left-closes v = elim v.current as (λ o. IsLeft (all_tokens (v.closed ++ option_to_list o) ++ [])
@@ -128,9 +122,12 @@ left-closes v = elim v.current as (λ o. IsLeft (all_tokens (v.closed ++ option_
 
 left-step : (ts os fs us rs : List Token) → IsLeft (ts ++ os) us → IsLeft (us ++ fs) rs → IsLeft (ts ++ (os ++ fs)) rs
 left-step ts os fs us rs h g =
-    let first = subst (λ (xs : List Token). IsLeft xs (us ++ fs))
-    (append_assoc ts os fs) (left-more (ts ++ os) us fs fs h (left-same fs)) in
-    left-then (ts ++ (os ++ fs)) (us ++ fs) rs first g
+    grind (
+      arith,
+      append_assoc ts os fs,
+      left-more (ts ++ os) us fs fs h (left-same fs),
+      left-then (ts ++ (os ++ fs)) (us ++ fs) rs,
+    )
 
 abbrev tokens_of : Contents → List Token
 tokens_of c = all_tokens (all_parts c.parts)

@@ -1,25 +1,19 @@
 -- What tokens use, and whether one passes a test, by where the next one that does stands.
-use Rattle.cweb_store.proofs.Common.{◌≡◌, ◌<◌, ◌+◌, ℕ, Bool, true, false, ◌||◌, List, [], ◌∷◌, ◌++◌, Some, refl, sym, ◌∙◌, ap, ltb-true, ltb-false, nat_lt, slice_get, slice_range, list_any, list_any-append, NameId, Standing, Token, with_use, used_from, is_name, IsNext}
+use Rattle.cweb_store.proofs.Common.{arith, ◌≡◌, ◌<◌, ◌+◌, ℕ, Bool, true, false, ◌||◌, List, [], ◌∷◌, ◌++◌, Some, refl, sym, ◌∙◌, ap, nat_lt, slice_get, slice_range, list_any, list_any-append, NameId, Standing, Token, with_use, used_from, is_name, IsNext}
 use Rattle.cweb_store.specs.declared.parts.Part.{Part}
 use Rattle.cweb_store.specs.Parts as spec
-use Rattle.cweb_store.proofs.RangeLemmas.{range-split, range-head, range-none}
+use Rattle.cweb_store.proofs.RangeLemmas.{range-split, range-head}
 
 -- a token of a part passes where the next one that does is in the part
 pub next-any : (test : Token → Bool) (ts : List Token) (part : Part) (next : ℕ) → IsNext test ts part next
     → nat_lt next part.after ≡ list_any test (slice_range ts part.first part.after)
 next-any test ts part next is =
-    let split = ap (list_any test) (range-split ts part.first next part.after is.begins is.within)
-    ∙ list_any-append test (slice_range ts part.first next) (slice_range ts next part.after)
-    ∙ ap (λ b. b || list_any test (slice_range ts next part.after)) is.before in
-    (elim (nat_lt next part.after) as (λ b.
-    nat_lt next part.after ≡ b → b ≡ list_any test (slice_range ts next part.after)) [
-      | true ↦ λ e.
-          let less = ltb-true next part.after e in
-          let here = is.found less in
-          sym (ap (list_any test) (range-head ts next part.after here.token here.here less)
-          ∙ ap (λ b. b || list_any test (slice_range ts (next + 1) part.after)) here.passes)
-      | false ↦ λ e. sym (ap (list_any test) (range-none ts next part.after (ltb-false next part.after e)))
-    ]) refl ∙ sym split
+    grind (
+      arith,
+      range-split ts part.first next part.after is.begins is.within,
+      list_any-append test (slice_range ts part.first next) (slice_range ts next part.after),
+      range-head ts next part.after,
+    )
 
 -- what tokens use of which none is a use
 pub not-used : (rs : List Standing) (ns : List NameId) (t : Token) → is_name t ≡ false → with_use rs ns t ≡ ns

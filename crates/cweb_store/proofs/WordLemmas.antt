@@ -1,5 +1,5 @@
 -- Words and punctuators that are kept once, and how many bytes of tokens are kept.
-use Rattle.cweb_store.proofs.Common.{◌≡◌, ℕ, ◌+◌, ◌≤◌, true, false, cond, ◌||◌, List, [], ◌∷◌, ◌++◌, length, refl, sym, ◌∙◌, ap, arith, bytes_eq, filter, fold, if◌then◌else◌, list_any, bytes_decides, fold-append, list_any-append, Token, Word, Punct, Blank, Newline, Mark, total, with_word, has_text, token_bytes, with_word_of, words_of, other_bytes, token_bytes_kept, or_comm}
+use Rattle.cweb_store.proofs.Common.{◌≡◌, ℕ, ◌+◌, ◌≤◌, cond, List, [], ◌∷◌, ◌++◌, length, refl, sym, ◌∙◌, ap, arith, bytes_eq, filter, fold, list_any, fold-append, Token, Word, Punct, Blank, Newline, Mark, total, with_word, has_text, token_bytes, with_word_of, words_of, other_bytes, token_bytes_kept}
 use Rattle.cweb_store.specs.Parts.{Number, Literal, Verbatim, Join, Defs, Name, Head, Tail}
 use Rattle.cweb_texts.proofs.WordLemmas.{total-append, with-word-any}
 
@@ -7,19 +7,13 @@ use Rattle.cweb_texts.proofs.WordLemmas.{total-append, with-word-any}
 pub same-more : (ws vs : List (List ℕ)) (t : Token)
     → ((q : List ℕ) → list_any (bytes_eq q) ws ≡ list_any (bytes_eq q) vs)
     → (q : List ℕ) → list_any (bytes_eq q) (with_word_of ws t) ≡ list_any (bytes_eq q) (with_word_of vs t)
-same-more ws vs (Word b) same = λ q.
-    with-word-any q ws b ∙ ap (λ v. v || bytes_eq q b) (same q) ∙ sym (with-word-any q vs b)
-same-more ws vs (Punct b) same = λ q.
-    with-word-any q ws b ∙ ap (λ v. v || bytes_eq q b) (same q) ∙ sym (with-word-any q vs b)
+same-more ws vs (Word b) same = grind (arith, with-word-any)
+same-more ws vs (Punct b) same = grind (arith, with-word-any)
 same-more ws vs _ same = same
 
 word-bytes : (ws : List (List ℕ)) (w : List ℕ)
     → total length (with_word ws w) ≡ total length ws + cond (list_any (bytes_eq w) ws) 0 (length w)
-word-bytes ws w = elim (list_any (bytes_eq w) ws) as (λ b.
-    total length (if b then ws else ws ++ w ∷ []) ≡ total length ws + cond b 0 (length w)) [
-      | true ↦ omega arith
-      | false ↦ omega (arith, total-append length ws (w ∷ []))
-    ]
+word-bytes ws w = grind (arith, total-append length ws (w ∷ []))
 
 -- and as many bytes more
 pub same-more-bytes : (ws vs : List (List ℕ)) (t : Token)
@@ -79,11 +73,7 @@ same-bytes ts us same = omega
 
 -- no more bytes are kept than were given
 word-few : (ws : List (List ℕ)) (b : List ℕ) → total length (with_word ws b) ≤ total length ws + length b
-word-few ws b = elim (list_any (bytes_eq b) ws)
-    as (λ v. total length (if v then ws else ws ++ b ∷ []) ≤ total length ws + length b) [
-      | true ↦ omega arith
-      | false ↦ omega (arith, total-append length ws (b ∷ []))
-    ]
+word-few ws b = grind (arith, total-append length ws (b ∷ []))
 
 few-from : (ws : List (List ℕ)) (ts : List Token)
     → total length (fold with_word_of ws ts) + total other_bytes ts ≤ total length ws + total token_bytes ts

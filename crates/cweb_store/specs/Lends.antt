@@ -1,5 +1,5 @@
 -- What a token lends that is printed as its text stands.
-use Rattle.std.specs.Prelude.{List, Option, None, Some, codes, if◌then◌else◌}
+use Rattle.std.specs.Prelude.{Option, None, Some, codes, if◌then◌else◌}
 use Rattle.std.specs.List.{list_any}
 use Rattle.cweb_store.specs.Parts.{Token, Word, Number, Literal, Verbatim, Punct, Blank, Newline}
 use Rattle.cweb_texts.specs.declared.borders.Border.TheVariants as border

@@ -1,5 +1,5 @@
 -- Tokens of fixed size, which have their texts by number.
-use Rattle.std.specs.Prelude.{◌≡◌, ℕ, ◌<◌, ◌≤◌, ◌+◌, List, [], ◌∷◌, ◌++◌, length, filter, slice_index_or, bytes_eq}
+use Rattle.std.specs.Prelude.{◌≡◌, ℕ, ◌<◌, ◌≤◌, ◌+◌, List, [], ◌∷◌, ◌++◌, length, filter, bytes_eq}
 use Rattle.std.specs.List.{list_any}
 use Rattle.cweb_store.specs.Parts as spec
 use Rattle.cweb_texts.specs.PackedTexts.{text_at, text_bytes}

@@ -1,11 +1,16 @@
 // The lists that the texts of tokens stand in, as slices.
 
-ghost use Rattle.std.specs.Prelude.{◌≡◌, ◌<◌, ◌+◌, List, ℕ, length, option_map, slice_get, Some};
+ghost use Rattle.std.specs.Prelude.{◌≡◌, ◌<◌, ◌+◌, List, ℕ, [], length, option_map, slice_get, Some};
+ghost use Rattle.cweb_store.specs.Lends.{lends};
+ghost use Rattle.cweb_store.specs.Packed.{IsWithin, token_in};
+ghost use Rattle.cweb_store.specs.Parts as spec;
+ghost use Rattle.cweb_store.specs.Records.{packed_in};
 ghost use Rattle.cweb_texts.specs.Borders.{lent_seen};
+ghost use Rattle.cweb_texts.specs.PackedTexts.{text_at};
+ghost use Rattle.cweb_texts.specs.declared.borders.Border.TheVariants as border_of;
 
-use crate::tokens::packed::lent;
 use crate::tokens::records::Record;
-use cweb_texts::{LentText, TextSlices};
+use cweb_texts::{Border, LentText, TextSlices, has_high_byte, sign_border};
 use std::marker::Model;
 
 /// What lends the texts of tokens. A loop that holds it reads no list of the store again for where its items stand.
@@ -35,5 +40,77 @@ impl<'a> Lender<'a> {
         ensures { slice_get self.now number ≡ Some (option_map lent_seen result) }
     {
         lent(&self.texts, self.records[number as usize])
+    }
+}
+
+// What a record lends. No byte is looked at where the border of the text is kept.
+#[inline(always)]
+fn lent<'a>(texts: &TextSlices<'a>, item: Record) -> Option<LentText<'a>>
+    requires { IsWithin (length texts.now) (packed_in [] item) }
+    ensures { option_map lent_seen result ≡ lends (token_in texts.now (packed_in [] item)) }
+{
+    match item {
+        Record::Word(number) => lent_word(texts, number as usize),
+        Record::Number(number) => Some(LentText {
+            text: texts.text(number as usize),
+            border: Border::Number,
+        }),
+        Record::Literal(number) => Some(LentText {
+            text: texts.text(number as usize),
+            border: Border::Literal,
+        }),
+        Record::Verbatim(number) => Some(LentText {
+            text: texts.text(number as usize),
+            border: Border::Glue,
+        }),
+        Record::Punct(number) => lent_sign(texts, number as usize),
+        Record::Blank => Some(LentText {
+            text: b" ",
+            border: Border::Blank,
+        }),
+        Record::Newline => Some(LentText {
+            text: b"\n",
+            border: Border::LineEnd,
+        }),
+        _ => None,
+    }
+}
+
+#[inline(always)]
+fn lent_word<'a>(texts: &TextSlices<'a>, number: usize) -> Option<LentText<'a>>
+    requires { number < length texts.now }
+    ensures { option_map lent_seen result ≡ lends (spec.Word (text_at texts.now number)) }
+{
+    let word = texts.text(number);
+    match texts.border(number) {
+        Border::Untold if has_high_byte(word) => None,
+        Border::Untold => Some(word_lent(word)),
+        _ => Some(word_lent(word)),
+    }
+}
+
+#[inline(always)]
+fn word_lent(word: &[u8]) -> LentText<'_>
+    ensures { lent_seen result ≡ record { text = word.now; border = border_of.Word } }
+{
+    LentText {
+        text: word,
+        border: Border::Word,
+    }
+}
+
+#[inline(always)]
+fn lent_sign<'a>(texts: &TextSlices<'a>, number: usize) -> Option<LentText<'a>>
+    requires { number < length texts.now }
+    ensures { option_map lent_seen result ≡ lends (spec.Punct (text_at texts.now number)) }
+{
+    let text = texts.text(number);
+    match texts.border(number) {
+        Border::Untold if has_high_byte(text) => None,
+        Border::Untold => Some(LentText {
+            text,
+            border: sign_border(text),
+        }),
+        border => Some(LentText { text, border }),
     }
 }

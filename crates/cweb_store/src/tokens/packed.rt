@@ -1,23 +1,14 @@
 // Tokens that have their texts by number.
 
-ghost use Rattle.std.specs.Prelude.{◌≡◌, ◌<◌, ◌+◌, [], length, IfOk, OnErr, option_map};
-ghost use Rattle.cweb_store.specs.Lends.{lends};
-ghost use Rattle.cweb_texts.specs.Borders.{lent_seen};
-ghost use Rattle.cweb_store.specs.Parts as spec;
-ghost use Rattle.cweb_texts.specs.declared.borders.Border.TheVariants as border_of;
+ghost use Rattle.std.specs.Prelude.{◌≡◌, ◌<◌, ◌+◌, length, IfOk, OnErr};
 ghost use Rattle.cweb_store.specs.Calls.{too_many};
-ghost use Rattle.cweb_texts.specs.PackedTexts.{text_at};
 ghost use Rattle.cweb_store.specs.Packed.{IsWithin, Packs, token_in};
-ghost use Rattle.cweb_store.specs.Records.{packed_in};
 ghost use Rattle.cweb_store.specs.Seen.{seen};
 
 use crate::names::NameRef;
 use crate::tokens::Token;
-use crate::tokens::records::Record;
 use cweb_files::Place;
-use cweb_texts::{
-    Border, KeptTexts, LentText, PackedTexts, TextSlices, has_high_byte, sign_border,
-};
+use cweb_texts::{KeptTexts, PackedTexts};
 use std::alloc::AllocError;
 
 /// A token that has its text by number.
@@ -82,77 +73,5 @@ pub fn lend(texts: &PackedTexts, packed: Packed) -> Token<'_>
         Packed::Head(section) => Token::Head(section),
         Packed::Tail(section) => Token::Tail(section),
         Packed::Mark(place) => Token::Mark(place),
-    }
-}
-
-/// What a record lends. No byte is looked at where the border of the text is kept.
-#[inline(always)]
-pub fn lent<'a>(texts: &TextSlices<'a>, item: Record) -> Option<LentText<'a>>
-    requires { IsWithin (length texts.now) (packed_in [] item) }
-    ensures { option_map lent_seen result ≡ lends (token_in texts.now (packed_in [] item)) }
-{
-    match item {
-        Record::Word(number) => lent_word(texts, number as usize),
-        Record::Number(number) => Some(LentText {
-            text: texts.text(number as usize),
-            border: Border::Number,
-        }),
-        Record::Literal(number) => Some(LentText {
-            text: texts.text(number as usize),
-            border: Border::Literal,
-        }),
-        Record::Verbatim(number) => Some(LentText {
-            text: texts.text(number as usize),
-            border: Border::Glue,
-        }),
-        Record::Punct(number) => lent_sign(texts, number as usize),
-        Record::Blank => Some(LentText {
-            text: b" ",
-            border: Border::Blank,
-        }),
-        Record::Newline => Some(LentText {
-            text: b"\n",
-            border: Border::LineEnd,
-        }),
-        _ => None,
-    }
-}
-
-#[inline(always)]
-fn lent_word<'a>(texts: &TextSlices<'a>, number: usize) -> Option<LentText<'a>>
-    requires { number < length texts.now }
-    ensures { option_map lent_seen result ≡ lends (spec.Word (text_at texts.now number)) }
-{
-    let word = texts.text(number);
-    match texts.border(number) {
-        Border::Untold if has_high_byte(word) => None,
-        Border::Untold => Some(word_lent(word)),
-        _ => Some(word_lent(word)),
-    }
-}
-
-#[inline(always)]
-fn word_lent(word: &[u8]) -> LentText<'_>
-    ensures { lent_seen result ≡ record { text = word.now; border = border_of.Word } }
-{
-    LentText {
-        text: word,
-        border: Border::Word,
-    }
-}
-
-#[inline(always)]
-fn lent_sign<'a>(texts: &TextSlices<'a>, number: usize) -> Option<LentText<'a>>
-    requires { number < length texts.now }
-    ensures { option_map lent_seen result ≡ lends (spec.Punct (text_at texts.now number)) }
-{
-    let text = texts.text(number);
-    match texts.border(number) {
-        Border::Untold if has_high_byte(text) => None,
-        Border::Untold => Some(LentText {
-            text,
-            border: sign_border(text),
-        }),
-        border => Some(LentText { text, border }),
     }
 }

@@ -1,7 +1,7 @@
 use Rattle.cweb_store.proofs.Common.{rules, ◌≡◌, ◌∙◌, Some, ap, true, is_told}
 use Rattle.cweb_store.proofs.LendLemmas.{word-lends}
 use Rattle.cweb_texts.proofs.PackedTextLemmas.{get-text}
-use Rattle.cweb_store.proofs.tokens.packed.lent_word.Goals as goal
+use Rattle.cweb_store.proofs.tokens.lender.lent_word.Goals as goal
 
 pub returns-in_default : goal.returns-in_default
 returns-in_default c =
