@@ -1,6 +1,5 @@
 -- What is taken in one turn where no item is open: a code, and text before one.
-use Rattle.cweb_scan.proofs.Common.{◌≡◌, ◌≤◌, ℕ, Bool, true, false, ◌==◌, not, List, [], ◌∷◌, length, drop, get_or, refl, ap, sym, ◌∙◌, subst, arith, if◌then◌else◌, codes, prefix_len, eqb-true, begins, starts_section, in_limbo, in_text, in_macro, in_c, front_in, code_at, code_front, section_at, Skipped, front, IsLine, opens_in, opens_code, opens_effect, Context, Limbo, TeX, Definition, Macro, CText, Effect, Nothing, Define, Format, Program, Named, InsertDefs, Joins, GiveAt, Faulty, is_c, effect_in, is_head, is_name, is_skipped, reads_c, Held, Takes, Passes, Between, and_parts}
-use Rattle.cweb_rules.specs.declared.effect.Effect.TheVariants as effect
+use Rattle.cweb_scan.proofs.Common.{◌≡◌, ◌≤◌, ℕ, Bool, true, false, ◌==◌, not, List, [], ◌∷◌, length, drop, get_or, refl, ap, sym, ◌∙◌, subst, arith, codes, prefix_len, eqb-true, begins, starts_section, front_in, code_front, section_at, IsLine, opens_in, opens_effect, Context, Limbo, TeX, Definition, Effect, Named, is_c, effect_in, is_head, is_name, is_skipped, reads_c, Held, Takes, Passes, Between, and_parts}
 use Rattle.cweb_scan.proofs.Rests.{is_text, skipped_takes}
 use Rattle.cweb_scanner.proofs.Turns.{between}
 
@@ -21,23 +20,13 @@ code_size u section at = omega (arith, ap (λ (v : List ℕ). length v) (code_sh
 
 code_is : (c : Context) (includes : Bool) (b : ℕ) (w : List ℕ) → is_head c ≡ false → starts_section (64 ∷ b ∷ w) ≡ false
     → front_in c includes (64 ∷ b ∷ w) ≡ code_front (effect_in c b) (not (is_c c)) (64 ∷ b ∷ w)
-code_is Limbo includes b w head h =
-    ap (λ v. if v then section_at (64 ∷ b ∷ w) else code_front (in_limbo b) true (64 ∷ b ∷ w)) h
-code_is TeX includes b w head h =
-    ap (λ v. if v then section_at (64 ∷ b ∷ w) else code_front (in_text b) true (64 ∷ b ∷ w)) h
 code_is (Definition begun) includes b w head h = cc
-code_is Macro includes b w head h =
-    ap (λ v. if v then section_at (64 ∷ b ∷ w) else code_front (in_macro b) true (64 ∷ b ∷ w)) h
-code_is CText includes b w head h =
-    ap (λ v. if v then section_at (64 ∷ b ∷ w) else code_front (in_c b) false (64 ∷ b ∷ w)) h
+code_is _ includes b w head h = rw h
 
 code_opens : (c : Context) (b : ℕ) (w : List ℕ) → is_head c ≡ false → starts_section (64 ∷ b ∷ w) ≡ false
     → opens_in c (64 ∷ b ∷ w) ≡ opens_effect (effect_in c b) (64 ∷ b ∷ w)
-code_opens Limbo b w head h = ap (λ v. if v then false else opens_effect (in_limbo b) (64 ∷ b ∷ w)) h
-code_opens TeX b w head h = ap (λ v. if v then false else opens_effect (in_text b) (64 ∷ b ∷ w)) h
 code_opens (Definition begun) b w head h = cc
-code_opens Macro b w head h = ap (λ v. if v then false else opens_effect (in_macro b) (64 ∷ b ∷ w)) h
-code_opens CText b w head h = ap (λ v. if v then false else opens_effect (in_c b) (64 ∷ b ∷ w)) h
+code_opens _ b w head h = rw h
 
 -- a code that is no name's is one item, whether or not names take their sign
 plain_code : (e : Effect) (takes : Bool) (t : List ℕ) → is_name e ≡ false
@@ -83,13 +72,6 @@ skipped_at n u h is some none text line = subst (λ i. Passes n u
 
 pub section_text : (c : Context) (includes : Bool) (u : List ℕ) → reads_c c ≡ false
     → starts_section u ≡ true → (front_in c includes u ≡ section_at u) × (opens_in c u ≡ false)
-section_text Limbo includes u c h = (
-  ap (λ v. if v then section_at u else (if begins (codes "@") u then code_at in_limbo true u else front Skipped 1))
-      h,
-  ap (λ v. if v then false else (if begins (codes "@") u then opens_code in_limbo u else false)) h,
-)
-section_text TeX includes u c h = (
-  ap (λ v. if v then section_at u else (if begins (codes "@") u then code_at in_text true u else front Skipped 1)) h,
-  ap (λ v. if v then false else (if begins (codes "@") u then opens_code in_text u else false)) h,
-)
+section_text Limbo includes u c h = (rw h, rw h)
+section_text TeX includes u c h = (rw h, rw h)
 section_text _ includes u c h = cc

@@ -1,5 +1,5 @@
 -- Blanks between two pieces of C text.
-use Rattle.cweb_scan.proofs.Common.{◌≡◌, ℕ, suc, Bool, true, false, ◌&&◌, List, [], ◌∷◌, drop, take, refl, ap, sym, ◌∙◌, arith, if◌then◌else◌, not, prefix_len, is_blank, front_in, Blanks, Front, front, Context, CText, Blank, Reading, after, blank, enter_in, directive, in_directive, names_include, run, State, give}
+use Rattle.cweb_scan.proofs.Common.{◌≡◌, ℕ, suc, Bool, true, false, ◌&&◌, List, [], ◌∷◌, drop, take, refl, ap, sym, ◌∙◌, arith, if◌then◌else◌, not, prefix_len, is_blank, front_in, Blanks, front, Context, CText, Blank, Reading, after, blank, enter_in, directive, in_directive, names_include, run, State, give}
 use Rattle.cweb_scanner.specs.Directives as spec
 use Rattle.cweb_scan.proofs.Openers.{run_as}
 use Rattle.cweb_rules.proofs.FirstBytes.{if_true}

@@ -1,7 +1,6 @@
 -- What leaves a head in one turn.
-use Rattle.cweb_scan.proofs.Common.{◌≡◌, ◌≤◌, ℕ, Bool, true, false, List, [], ◌∷◌, ◌++◌, Option, Some, None, length, drop, take, refl, ap, sym, ◌∙◌, subst, arith, if◌then◌else◌, codes, Place, begins, is_blank, is_line_end, is_digit, is_word_byte, starts_section, in_text, in_macro, front_in, c_front, code_at, code_front, head_as, head_front, letter_is, section_at, text_front, Kind, Skipped, Section, Code, Letter, ControlText, Constant, Blanks, LineEnd, Comment, Quoted, Defined, Identifier, Numeral, Punctuator, Front, front, AtLineEnd, c_rule, c_front_by, Transliteration, Context, Definition, Effect, Nothing, Define, Format, Program, Named, InsertDefs, Joins, GiveAt, Faulty, Rule, enter_in, item, stays_in_head, names_include, Held, Passes, Between, run, State, drop_definition}
+use Rattle.cweb_scan.proofs.Common.{◌≡◌, ◌≤◌, ℕ, Bool, true, false, List, [], ◌∷◌, ◌++◌, Option, Some, None, length, drop, take, refl, ap, sym, ◌∙◌, subst, arith, if◌then◌else◌, codes, Place, begins, is_digit, starts_section, in_text, in_macro, front_in, c_front, code_at, code_front, head_as, head_front, letter_is, section_at, text_front, Kind, Skipped, Section, Blanks, LineEnd, Comment, Defined, Identifier, Front, front, AtLineEnd, c_rule, c_front_by, Transliteration, Context, Definition, Effect, Rule, enter_in, item, stays_in_head, names_include, Held, Passes, Between, run, State, drop_definition}
 use Rattle.cweb_rules.specs.Constants.{letter}
-use Rattle.cweb_rules.specs.Kinds.{Verbatim, Occurrence}
 use Rattle.cweb_rules.specs.declared.effect.Effect.TheVariants as effect
 use Rattle.cweb_rules.specs.declared.rule.Rule.TheVariants as rule
 use Rattle.cweb_rules.proofs.ByRules.{c_front-by}
@@ -84,12 +83,15 @@ by_rule v r is = c_front-by in_macro true false v ∙ ap (c_front_by in_macro tr
 
 -- which rule fits in a line doesn't depend on what comes after it
 rule_line : (b : ℕ) (t more : List ℕ) → AtLineEnd more → c_rule false (b ∷ t ++ more) ≡ c_rule false (b ∷ t)
-rule_line b t more e = λ i. if is_blank b then rule.Blanks else (if is_line_end b then rule.LineEnd else
-    (if begins_line (codes "/*") (b ∷ t) more refl e i then rule.Comment else (if begins_line (codes "//") (b ∷ t)
-    more refl e i then rule.LineComment else (if starts_section_line b t more e i then rule.Section else (if begins_line
-    (codes "@") (b ∷ t) more refl e i then rule.Code else (if starts_raw_line (b ∷ t) more e i then rule.RawLiteral else
-    (if starts_literal_line (b ∷ t) more e i then rule.Literal else (if starts_number_stop b t more (stops is_digit
-    more refl e) i then rule.Number else (if is_word_byte b then rule.Identifier else rule.Punctuator)))))))))
+rule_line b t more e = rw (
+  begins_line (codes "/*") (b ∷ t) more refl e,
+  begins_line (codes "//") (b ∷ t) more refl e,
+  starts_section_line b t more e,
+  begins_line (codes "@") (b ∷ t) more refl e,
+  starts_raw_line (b ∷ t) more e,
+  starts_literal_line (b ∷ t) more e,
+  starts_number_stop b t more (stops is_digit more refl e),
+)
 
 -- what has left a head is what text makes of it, once the definition is dropped
 dropped_run : (s : State) (begun : Place) (later : List Place) (b : ℕ) (t : List ℕ)

@@ -1,8 +1,5 @@
 pub mod Common
 pub mod Measures
-pub mod StateAdds
-pub mod ItemAdds
-pub mod PieceAdds
 pub mod Pieces
 pub mod Bounds
 pub mod OpenItems
@@ -16,8 +13,6 @@ pub mod Taken
 pub mod LineBegins
 pub mod Scans
 pub mod Aheads
-pub mod StatePlaces
-pub mod NamePlaces
 pub mod Places
 mod RowWords
 mod RowsWorked
@@ -46,5 +41,6 @@ pub mod PlainStates
 pub mod PlainPieces
 pub mod PlainTokens
 pub mod Standing
-pub mod StandingPieces
 pub mod PlainTurns
+pub mod Walked
+pub mod Adding

@@ -4,8 +4,8 @@ use Rattle.cweb_rules.specs.Items as items
 use Rattle.cweb_scanner.specs.Resume as item
 use Rattle.cweb_scan.specs.declared.reader.open.Open.{Open}
 use Rattle.cweb_scan.specs.declared.reader.open.Open.TheVariants.{Between, Comment, Name, Literal}
-use Rattle.cweb_scan.proofs.LineEnds.{between_goes_on, comment_goes_on, name_goes_on, literal_goes_on, raw_goes_on}
-use Rattle.cweb_scan.proofs.OpenLiterals.{literal_cut}
+use Rattle.cweb_scan.proofs.LineEnds.{run-newline, resume-comment, resume-name, resume-literal}
+use Rattle.cweb_scan.proofs.OpenLiterals.{literal_cut, raw_line_end}
 use Rattle.cweb_scan.proofs.Taken.{first_taken, next_taken}
 use Rattle.cweb_scanner.proofs.Weights.{line_end-weight, comment_line_end-weight, comment-weight, occurrence-weight, literal-weight}
 
@@ -20,21 +20,22 @@ no_newline Double = refl
 -- a line end, whatever is open
 pub line_ends : (kind : Open) (d us : List ℕ) (q : Place) (s : State)
     → TakesLineEnd q (held s (item_of kind d us)) (after_line_end q (item_of kind d us) s)
-line_ends Between d us q s = record { begun = refl; same = between_goes_on q s }
-line_ends (Comment begun) d us q s = record { begun = refl; same = comment_goes_on begun q s }
-line_ends (Name begun is_file) d us q s = record { begun = refl; same = name_goes_on begun is_file us q s }
+line_ends Between d us q s = record { begun = refl; same = λ later t. sym (run-newline q s later t) }
+line_ends (Comment begun) d us q s = record { begun = refl; same = λ later t. sym (resume-comment begun q s later t) }
+line_ends (Name begun is_file) d us q s =
+    record { begun = refl; same = λ later t. sym (resume-name begun is_file us q s later t) }
 line_ends (Literal begun quote) d us q s = record {
   begun = refl;
-  same = λ later t. between_goes_on q (literal us Cut begun s) later t
+  same = λ later t. sym (run-newline q (literal us Cut begun s) later t)
       ∙ sym (literal_cut begun (quote_byte quote) us (10 ∷ t)
       (record { state = s; later = q ∷ later }) (no_newline quote) refl);
 }
 line_ends (AfterBackslash begun quote) d us q s =
     record {
       begun = refl;
-      same = λ later t. literal_goes_on begun (quote_byte quote) us q s later t (no_backslash quote);
+      same = λ later t. sym (resume-literal begun (quote_byte quote) us q s later t (no_backslash quote));
     }
-line_ends (Raw begun) d us q s = record { begun = refl; same = raw_goes_on begun d us q s }
+line_ends (Raw begun) d us q s = record { begun = refl; same = λ later t. sym (raw_line_end begun d us q s later t) }
 
 after_line_end-cost : (i : Item) (q : Place) (s : State) → cost (after_line_end q i s) ≤ weight s + owed i + 3
 after_line_end-cost item.Between q s = omega (arith, line_end-weight q s)

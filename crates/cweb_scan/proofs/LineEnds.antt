@@ -1,11 +1,9 @@
 -- What a line end does to what is held, whatever item is open.
-use Rattle.cweb_scan.proofs.Common.{◌≡◌, ℕ, suc, ◌+◌, ◌-◌, Bool, true, false, List, [], ◌∷◌, ◌++◌, length, take, drop, refl, ap, sym, ◌∙◌, arith, append_assoc, nat_lt, ◌&&◌, ◌==◌, if◌then◌else◌, fold, Place, Context, Limbo, TeX, Definition, Macro, CText, End, Closed, Cut, Goes, Ends, Reach, body, size_of, with_unit, reach_in, front_in, sign_after, Kind, Skipped, LineEnd, Front, front, Piece, State, moved, names_include, Reading, on, line_end_in, line_end, comment_line_end, each_line_end, comment, occurrence, literal, literal_unit, enter_in, item, after, pieces_in, run, Between, InComment, InName, InLiteral, InRaw, takes_sign, end_literal, resume, end_comment, end_name, held, after_line_end, goes_on}
+use Rattle.cweb_scan.proofs.Common.{◌≡◌, ℕ, suc, ◌+◌, ◌-◌, Bool, true, false, List, [], ◌∷◌, ◌++◌, take, drop, refl, ap, ◌∙◌, arith, append_assoc, ◌&&◌, ◌==◌, if◌then◌else◌, fold, Place, Context, Limbo, TeX, End, Closed, Cut, Goes, Ends, Reach, size_of, with_unit, reach_in, front_in, sign_after, Kind, Skipped, LineEnd, Front, front, Piece, State, moved, names_include, Reading, on, line_end_in, line_end, comment_line_end, each_line_end, comment, enter_in, item, after, pieces_in, run, InComment, InName, InLiteral, takes_sign, end_literal, resume, end_comment}
 use Rattle.cweb_rules.specs.Items as items
 use Rattle.cweb_scanner.specs.Resume.{AfterBackslash}
-use Rattle.cweb_scan.proofs.OpenLiterals.{raw_line_end}
-
-abbrev reading : State → List Place → Reading
-reading s later = record { state = s; later = later }
+use Rattle.cweb_scanner.proofs.TakenItems.{reading}
+use Rattle.cweb_scan.proofs.OpenLiterals.{unit_first}
 
 abbrev newline_kind : Context → Kind
 newline_kind Limbo = Skipped
@@ -32,7 +30,7 @@ from_front r t f =
     fold after (after r p) (pieces_in (f.size - 1) (after r p) t)
 
 -- between two items
-run-newline : (q : Place) (s : State) (later : List Place) (t : List ℕ)
+pub run-newline : (q : Place) (s : State) (later : List Place) (t : List ℕ)
     → run (reading s (q ∷ later)) (10 ∷ t) ≡ run (reading (line_end q s) later) t
 run-newline q s later t = ap (from_front (reading s (q ∷ later)) t) (front-newline s.context (names_include s) t)
     ∙ ap (λ (r : Reading). run r t) (item-newline s.context q s later refl)
@@ -49,7 +47,7 @@ abbrev sized_comment : Place → End → List ℕ → ℕ → Reading → Readin
 sized_comment begun how t n m = run (on (comment how begun) (each_line_end comment_line_end (take n t) m)) (drop n t)
 
 -- in a comment
-resume-comment : (begun q : Place) (s : State) (later : List Place) (t : List ℕ)
+pub resume-comment : (begun q : Place) (s : State) (later : List Place) (t : List ℕ)
     → resume (InComment begun) (10 ∷ t) (reading s (q ∷ later))
     ≡ resume (InComment begun) t (reading (comment_line_end q s) later)
 resume-comment begun q s later t =
@@ -58,44 +56,19 @@ resume-comment begun q s later t =
     ap (λ (v : Reach). end_comment begun v (10 ∷ t) (reading s (q ∷ later))) (comment-newline t)
     ∙ ap (λ n. sized_comment begun r.how (10 ∷ t) n (reading s (q ∷ later))) e
 
-pub comment_goes_on : (begun q : Place) (s : State) (later : List Place) (t : List ℕ)
-    → goes_on (after_line_end q (InComment begun) s) later t ≡ goes_on (held s (InComment begun)) (q ∷ later) (10 ∷ t)
-comment_goes_on begun q s later t = sym (resume-comment begun q s later t)
-
-pub between_goes_on : (q : Place) (s : State) (later : List Place) (t : List ℕ)
-    → goes_on (after_line_end q Between s) later t ≡ goes_on (held s Between) (q ∷ later) (10 ∷ t)
-between_goes_on q s later t = sym (run-newline q s later t)
-
 -- in a name
-abbrev named : Place → Bool → List ℕ → End → ℕ → ℕ → List ℕ → Reading → Reading
-named begun is_file us how sign size t m =
-    run (on (occurrence is_file us how (nat_lt 0 sign) begun) (each_line_end moved (take size t) m)) (drop size t)
-
 abbrev sign_size : State → ℕ → ℕ
 sign_size s sign = if takes_sign s then sign else 0
 
-resume-name : (begun : Place) (is_file : Bool) (us : List ℕ) (q : Place) (s : State) (later : List Place) (t : List ℕ)
-    → resume (InName begun is_file us) (10 ∷ t) (reading s (q ∷ later))
+pub resume-name : (begun : Place) (is_file : Bool) (us : List ℕ) (q : Place)
+    (s : State) (later : List Place) (t : List ℕ) → resume (InName begun is_file us) (10 ∷ t) (reading s (q ∷ later))
     ≡ resume (InName begun is_file (us ++ 10 ∷ [])) t (reading (moved q s) later)
 resume-name begun is_file us q s later t =
     let r = items.name t in
-    let m = reading s (q ∷ later) in
-    let one = with_unit (10 ∷ []) r in
     let sign = sign_after r.how (drop (size_of r) t) in
-    let e : size_of one ≡ suc (size_of r) = omega arith in
+    let e : size_of (with_unit (10 ∷ []) r) ≡ suc (size_of r) = omega arith in
     let f : suc (size_of r) + sign_size s sign ≡ suc (size_of r + sign_size s sign) = omega arith in
-    ap (λ (v : Reach). end_name begun is_file us v (sign_after v.how (drop (size_of v) (10 ∷ t))) (10 ∷ t) m)
-    (name-newline t)
-    ∙ ap (λ n. named begun is_file (us ++ items.text_in one.units) r.how
-    (sign_after r.how (drop n (10 ∷ t))) (n + sign_size s (sign_after r.how (drop n (10 ∷ t)))) (10 ∷ t) m) e
-    ∙ ap (λ n. named begun is_file (us ++ items.text_in one.units) r.how sign n (10 ∷ t) m) f
-    ∙ ap (λ vs. named begun is_file vs r.how sign (size_of r + sign_size s sign) t (reading (moved q s) later))
-    (sym (append_assoc us (10 ∷ []) (items.text_in r.units)))
-
-pub name_goes_on : (begun : Place) (is_file : Bool) (us : List ℕ) (q : Place)
-    (s : State) (later : List Place) (t : List ℕ) → goes_on (after_line_end q (InName begun is_file us) s) later t
-    ≡ goes_on (held s (InName begun is_file us)) (q ∷ later) (10 ∷ t)
-name_goes_on begun is_file us q s later t = sym (resume-name begun is_file us q s later t)
+    rw (name-newline t, e, f, append_assoc us (10 ∷ []) (items.text_in r.units)) refl
 
 -- in a literal, behind its `\`
 literal-newline : (quote : ℕ) (t : List ℕ) → (quote == 92) ≡ false
@@ -105,30 +78,9 @@ literal-newline quote t h = ap (λ v. elim (if v && true then Ends 1 Closed else
   | Ends n e ↦ record { units = []; close = n; how = e }
 ]) h
 
-abbrev ended : Place → List ℕ → List (List ℕ) → End → ℕ → List ℕ → Reading → Reading
-ended begun all rest how size t m = run (on (literal all how begun) (fold literal_unit m rest)) (drop size t)
-
-resume-literal : (begun : Place) (quote : ℕ) (us : List ℕ) (q : Place) (s : State) (later : List Place) (t : List ℕ)
+pub resume-literal : (begun : Place) (quote : ℕ) (us : List ℕ) (q : Place) (s : State) (later : List Place) (t : List ℕ)
     → (quote == 92) ≡ false → resume (AfterBackslash begun quote us) (10 ∷ t) (reading s (q ∷ later))
     ≡ resume (InLiteral begun quote (us ++ 92 ∷ 10 ∷ [])) t (reading (moved q s) later)
-resume-literal begun quote us q s later t h =
-    let r = items.literal quote t in
-    let m = reading s (q ∷ later) in
-    let unit : List ℕ = 92 ∷ 10 ∷ [] in
-    let one = with_unit unit r in
-    let rest = r.units ++ take r.close (drop (length (body r)) t) ∷ [] in
-    let e : size_of one ≡ suc (suc (size_of r)) = omega arith in
-    ap (λ (v : Reach). end_literal begun us v (92 ∷ 10 ∷ t) m) (literal-newline quote t h)
-    ∙ ap (λ n. ended begun (us ++ items.text_in (unit ∷ rest)) (unit ∷ rest) r.how n (92 ∷ 10 ∷ t) m) e
-    ∙ ap (λ vs. ended begun vs rest r.how (size_of r) t (reading (moved q s) later))
-    (sym (append_assoc us unit (items.text_in rest)))
-
-pub literal_goes_on : (begun : Place) (quote : ℕ) (us : List ℕ) (q : Place) (s : State) (later : List Place)
-    (t : List ℕ) → (quote == 92) ≡ false → goes_on (after_line_end q (AfterBackslash begun quote us) s) later t
-    ≡ goes_on (held s (AfterBackslash begun quote us)) (q ∷ later) (10 ∷ t)
-literal_goes_on begun quote us q s later t h = sym (resume-literal begun quote us q s later t h)
-
--- in a raw literal
-pub raw_goes_on : (begun : Place) (d us : List ℕ) (q : Place) (s : State) (later : List Place) (t : List ℕ)
-    → goes_on (after_line_end q (InRaw begun d us) s) later t ≡ goes_on (held s (InRaw begun d us)) (q ∷ later) (10 ∷ t)
-raw_goes_on begun d us q s later t = sym (raw_line_end begun d us q s later t)
+resume-literal begun quote us q s later t h = ap (λ (v : Reach). end_literal begun us v (92 ∷ 10 ∷ t)
+    (reading s (q ∷ later))) (literal-newline quote t h)
+    ∙ unit_first begun us (92 ∷ 10 ∷ []) t (items.literal quote t) (reading s (q ∷ later))

@@ -1,9 +1,10 @@
 -- The bytes of a line are taken turn by turn.
-use Rattle.cweb_scan.proofs.Common.{◌≡◌, ◌≤◌, ◌<◌, ℕ, zero, suc, ◌+◌, Bool, true, false, List, [], ◌∷◌, length, drop, refl, ap, sym, ◌∙◌, subst, arith, if◌then◌else◌, length-drop, IsLine, Held, Takes, awaits_line_end, TakesOpen, item_of, Item, Passes, TakesTurn, to_do, AfterBackslash, Raw}
+use Rattle.cweb_rules.proofs.InLines.{IsLine-drop}
+use Rattle.cweb_scan.proofs.Common.{◌≡◌, ◌≤◌, ◌<◌, ℕ, ◌+◌, Bool, true, false, List, length, drop, refl, ap, sym, ◌∙◌, subst, arith, if◌then◌else◌, length-drop, IsLine, Held, Takes, awaits_line_end, TakesOpen, item_of, Item, Passes, TakesTurn, to_do}
 use Rattle.cweb_scanner.specs.OpenRest.{is_open}
 use Rattle.cweb_scanner.specs.Resume as item
 use Rattle.cweb_scan.specs.declared.reader.open.Open.{Open}
-use Rattle.cweb_scan.specs.declared.reader.open.Open.TheVariants.{Between, Comment, Name, Literal}
+use Rattle.cweb_scan.specs.declared.reader.open.Open.TheVariants.{Between}
 use Rattle.cweb_scanner.proofs.Rests.{takes_both}
 use Rattle.cweb_rules.proofs.UnitNewlines.{drop-sum}
 
@@ -59,18 +60,5 @@ front_goes_on n line rest after old mid new is f t = record {
   last = λ e. omega (arith, t.last e, ap (λ (u : List ℕ). length u) is, length-drop n rest);
 }
 
-is_line_drop : (n : ℕ) (u : List ℕ) → IsLine u → IsLine (drop n u)
-is_line_drop zero u h = h
-is_line_drop (suc n) [] h = h
-is_line_drop (suc n) (b ∷ t) h = is_line_drop n t h.1
-
 pub front_line : (line rest : List ℕ) (old new : Held) → IsLine line → TakesFront line rest old new → IsLine rest
-front_line line rest old new h f = subst IsLine (sym f.rest_is) (is_line_drop f.size line h)
-
-pub front_within : (line rest : List ℕ) (old new : Held) → TakesFront line rest old new
-    → 1 ≤ length rest → awaits_line_end new.item ≡ false
-front_within line rest old new f some =
-    (elim (awaits_line_end new.item) as (λ v. awaits_line_end new.item ≡ v → v ≡ false) [
-      | true ↦ λ e. absurd (omega (arith, f.last e, some))
-      | false ↦ λ e. refl
-    ]) refl
+front_line line rest old new h f = subst IsLine (sym f.rest_is) (IsLine-drop f.size line h)

@@ -1,5 +1,7 @@
 -- What opens a literal: what is read then is what is read with the literal open.
-use Rattle.cweb_scan.proofs.Common.{◌≡◌, ◌≤◌, ◌<◌, ℕ, zero, suc, ◌+◌, Bool, true, false, ◌&&◌, ◌==◌, List, [], ◌∷◌, ◌++◌, length, take, drop, refl, ap, sym, ◌∙◌, subst, arith, if◌then◌else◌, codes, bytes_eq, not, fold, prefix_len, take-append-le, drop-append-le, length-drop, Reading, on, each_line_end, next_line, literal, literal_unit, enter_in, begins, first_is, is_blank, is_word_byte, at_line_end, Effect, in_macro, in_c, Look, reach, body, size_of, names_include, reads_literals, IsPast, raw_prefix, delimiter, section_at, code_at, comment_at, line_comment_at, raw_at, literal_at, literal_prefix, quote_of, quoted, c_front, starts_raw, starts_literal, starts_include, include_at, End, Cut, text_in, look_in_raw, look_in_literal, Skipped, Blanks, LineEnd, Quoted, Identifier, Numeral, Punctuator, Front, front, sign_of, InLiteral, InRaw, takes_sign, end_literal, resume, IsLine, front_in, run, Context, Limbo, TeX, Definition, Macro, CText, State, moved, fault, DoubleAtInString, AtLineEnd, listed, longest, number_len, starts_number, ne_eqb, and_parts, and-true}
+use Rattle.cweb_rules.proofs.InLines.{IsLine-take}
+use Rattle.cweb_scanner.proofs.OpenItems.{none-line}
+use Rattle.cweb_scan.proofs.Common.{◌≡◌, ◌≤◌, ◌<◌, ℕ, zero, suc, ◌+◌, Bool, true, false, ◌&&◌, ◌==◌, List, [], ◌∷◌, ◌++◌, length, take, drop, refl, ap, sym, ◌∙◌, subst, arith, if◌then◌else◌, codes, bytes_eq, not, fold, take-append-le, drop-append-le, length-drop, Reading, on, each_line_end, literal_unit, enter_in, begins, at_line_end, Effect, in_macro, in_c, Look, reach, body, size_of, names_include, reads_literals, IsPast, raw_prefix, delimiter, raw_at, literal_at, literal_prefix, quote_of, quoted, c_front, starts_raw, starts_literal, End, Cut, look_in_raw, look_in_literal, Skipped, Quoted, Front, front, sign_of, InLiteral, InRaw, takes_sign, end_literal, resume, IsLine, front_in, run, Context, Macro, CText, State, moved, fault, DoubleAtInString, AtLineEnd, and_parts, and-true}
 use Rattle.cweb_rules.proofs.Seams.{differs, begins_line, drop_line, starts_section_line}
 use Rattle.cweb_rules.proofs.LineLiterals.{starts_literal_line, literal_with, literal_prefix-line, is_quoted-size}
 use Rattle.cweb_rules.proofs.LineDelimiters.{raw_from, raw_prefix-line, delimiter-line, sign-fits, has_delimiter-size, starts_raw_line}
@@ -14,14 +16,9 @@ enter_quoted Macro us how s h = refl
 enter_quoted CText us how s h = refl
 enter_quoted _ us how s h = cc
 
-none-line : (t : List ℕ) (m : Reading) → IsLine t → each_line_end moved t m ≡ m
-none-line [] m h = refl
-none-line (b ∷ t) m h =
-    ap (λ v. each_line_end moved t (if v then next_line moved m else m)) (ne_eqb b 10 h.0) ∙ none-line t m h.1
-
 opener-unit : (r : Reading) (u : List ℕ) → IsLine u → bytes_eq u (codes "@") ≡ false → literal_unit r u ≡ r
 opener-unit r u line h =
-    ap (λ v. if v then on (fault DoubleAtInString) r else each_line_end moved u r) h ∙ none-line u r line
+    ap (λ v. if v then on (fault DoubleAtInString) r else each_line_end moved u r) h ∙ none-line moved u r line
 
 -- a unit that stands for itself, and is no lone `@`
 pub record IsPlain (u : List ℕ) : Type 0 where
@@ -35,44 +32,27 @@ pub opened_quoted : (look : List ℕ → Look) (r : Reading) (n b : ℕ) (t : Li
     → run r (b ∷ t) ≡ end_literal r.state.here (take n (b ∷ t)) (reach look Cut (drop n (b ∷ t))) (drop n (b ∷ t)) r
 opened_quoted look r n b t c line no_at h =
     let u = b ∷ t in
-    let w = drop n u in
-    let m = reach look Cut w in
+    let m = reach look Cut (drop n u) in
     let opener = take n u in
-    let close = take m.close (drop (n + length (body m)) u) in
-    let us = opener ∷ m.units ++ close ∷ [] in
+    let us = opener ∷ m.units ++ take m.close (drop (n + length (body m)) u) ∷ [] in
     run_as r b t (quoted n m u) h
-    ∙ ap (λ (s : State). run (on (literal (text_in us) m.how s.here) (fold literal_unit (on (λ v. s) r) us))
-    (drop (n + size_of m) u)) (enter_quoted r.state.context us m.how r.state c)
-    ∙ ap (λ k. run (on (literal (text_in us) m.how r.state.here) (fold literal_unit k (m.units ++ close ∷ [])))
-    (drop (n + size_of m) u)) (opener-unit r opener line no_at.single)
-    ∙ ap (λ (v : Bool). run (on (literal ((if v then codes "@" else opener) ++ text_in (m.units ++ close ∷ []))
-    m.how r.state.here) (fold literal_unit r (m.units ++ close ∷ []))) (drop (n + size_of m) u)) no_at.double
-    ∙ ap (λ v.
-    let x = m.units ++ take m.close v ∷ [] in
-    run (on (literal (opener ++ text_in x) m.how r.state.here) (fold literal_unit r x)) (drop (n + size_of m) u))
-    (drop-sum n (length (body m)) u)
-    ∙ ap (λ v.
-    let x = m.units ++ take m.close (drop (length (body m)) w) ∷ [] in
-    run (on (literal (opener ++ text_in x) m.how r.state.here) (fold literal_unit r x)) v) (drop-sum n (size_of m) u)
-
-abbrev past : (effect : ℕ → Effect) (takes_sign includes : Bool) (t : List ℕ)
-    → Bool → Bool → Bool → Bool → Bool → Bool → Bool → Bool → Front
-past effect takes_sign includes t v0 v1 v2 v3 v4 v5 v6 v7 =
-    if v0 then front Blanks (prefix_len is_blank t) else (if v1 then front LineEnd 1 else
-    (if v2 then comment_at t else (if v3 then line_comment_at t else (if v4 then section_at t else
-    (if v5 then code_at effect takes_sign t else (if v6 then raw_at t else (if v7 then literal_at t else (if includes
-    && starts_include t then include_at t else (if starts_number t then front Numeral (number_len 0 t) else (if first_is
-    is_word_byte t then front Identifier (prefix_len is_word_byte t) else front Punctuator (longest listed t)))))))))))
+    ∙ rw (
+      enter_quoted r.state.context us m.how r.state c,
+      fold,
+      opener-unit r opener line no_at.single,
+      no_at.double,
+      drop-sum n (length (body m)) u,
+      drop-sum n (size_of m) u,
+    ) refl
 
 pub c_front_raw : (effect : ℕ → Effect) (takes_sign includes : Bool) (t : List ℕ)
     → IsPast t → starts_raw t ≡ true → c_front effect takes_sign includes t ≡ raw_at t
-c_front_raw effect takes_sign includes t p h = λ i. past effect takes_sign includes t
-    (p.blank i) (p.line_end i) (p.comment i) (p.line_comment i) (p.section i) (p.code i) (h i) (starts_literal t)
+c_front_raw effect takes_sign includes t p h = rw (p.blank, p.line_end, p.comment, p.line_comment, p.section, p.code, h)
 
 pub c_front_literal : (effect : ℕ → Effect) (takes_sign includes : Bool) (t : List ℕ) → IsPast t
     → starts_raw t ≡ false → starts_literal t ≡ true → c_front effect takes_sign includes t ≡ literal_at t
-c_front_literal effect takes_sign includes t p g h = λ i. past effect takes_sign includes t
-    (p.blank i) (p.line_end i) (p.comment i) (p.line_comment i) (p.section i) (p.code i) (g i) (h i)
+c_front_literal effect takes_sign includes t p g h =
+    rw (p.blank, p.line_end, p.comment, p.line_comment, p.section, p.code, g, h)
 
 pub past-line : (b : ℕ) (t more : List ℕ) → AtLineEnd more → IsPast (b ∷ t) → IsPast (b ∷ t ++ more)
 past-line b t more e p = record {
@@ -93,11 +73,6 @@ literal_front Macro includes b t f h g k =
     ∙ k in_macro true false
 literal_front CText includes b t f h g k = k in_c false includes
 literal_front _ includes b t f h g k = cc
-
-IsLine-take : (n : ℕ) (t : List ℕ) → IsLine t → IsLine (take n t)
-IsLine-take zero t h = tt
-IsLine-take (suc n) [] h = tt
-IsLine-take (suc n) (b ∷ t) h = (h.0, IsLine-take n t h.1)
 
 plain : (n b : ℕ) (t : List ℕ) → 0 < n → begins (codes "@") (b ∷ t) ≡ false → IsPlain (take n (b ∷ t))
 plain zero b t some h = absurd (omega (arith, some))

@@ -1,5 +1,5 @@
 -- How the calls of a builder change how much it keeps.
-use Rattle.cweb_scan.proofs.Common.{◌≡◌, ◌≤◌, ℕ, ◌+◌, Bool, true, false, List, [], ◌∷◌, ◌++◌, Option, Some, None, take, drop, ap, arith, take-append-drop, option_map, option_to_list, if◌then◌else◌, PartKind, Token, Blank, Part, is_macro, PartsSoFar, opened, pushed, longer, dropped, all_closed, before_last, without_last, without_blank, without_layout, first_kept, is_newline, is_layout, at_close, total, part_size, open_size, parts_size}
+use Rattle.cweb_scan.proofs.Common.{◌≤◌, ℕ, ◌+◌, Bool, true, false, List, [], ◌∷◌, ◌++◌, Option, Some, None, take, drop, ap, arith, take-append-drop, option_map, option_to_list, if◌then◌else◌, PartKind, Token, Blank, Part, is_macro, PartsSoFar, opened, pushed, longer, dropped, all_closed, before_last, without_last, without_blank, without_layout, first_kept, is_newline, is_layout, at_close, total, part_size, open_size, parts_size}
 use Rattle.cweb_texts.proofs.WordLemmas.{total-append}
 
 module _ (f : Token → ℕ) where

@@ -1,5 +1,6 @@
 -- An item or a comment that is open: what a line makes of it.
-use Rattle.cweb_scan.proofs.Common.{◌≡◌, ◌<◌, ℕ, zero, suc, ◌+◌, ◌-◌, Bool, true, false, List, [], ◌∷◌, ◌++◌, length, take, drop, refl, ap, sym, ◌∙◌, arith, length-append, take-append-drop, codes, flat_map, flat_map-append, take-append-le, drop-append-le, take-append-add, drop-append-add, Place, Reading, on, each_line_end, comment_line_end, comment, begins, Look, Goes, Ends, Reach, reach, reach_in, with_unit, body, size_of, End, Closed, Cut, Nested, Open, look_in_comment, AtLineEnd, is_open, InComment, end_comment, resume, IsLine, run}
+use Rattle.cweb_scan.proofs.Common.{◌≡◌, ◌<◌, ℕ, zero, suc, ◌+◌, ◌-◌, true, false, List, [], ◌∷◌, ◌++◌, length, take, drop, refl, ap, sym, ◌∙◌, arith, length-append, take-append-drop, codes, flat_map, flat_map-append, take-append-le, drop-append-le, take-append-add, drop-append-add, Place, Reading, on, comment_line_end, comment, begins, Look, Goes, Ends, Reach, reach, reach_in, body, size_of, End, Cut, Open, look_in_comment, AtLineEnd, is_open, InComment, resume, IsLine, run}
+use Rattle.cweb_scanner.proofs.Ends.{at_front}
 use Rattle.cweb_rules.specs.Items as items
 use Rattle.cweb_rules.proofs.InLines.{IsLine-take}
 use Rattle.cweb_rules.proofs.Reaches.{IsEnd, IsLocal, IsWhole, join, reach-append}
@@ -10,45 +11,27 @@ use Rattle.cweb_scanner.proofs.OpenItems.{each-line, none-line}
 
 -- AN ITEM THAT STAYS OPEN
 
-abbrev pub at_front : (List ℕ → Look) → Look → List ℕ → End → List ℕ → Reach
-at_front look v u f w =
-    elim v [
-      | Goes n ↦ with_unit (take n u) (reach_in look f (n - 1) w)
-      | Ends n how ↦ record { units = []; close = n; how = how }
-    ]
-
--- its units are all bytes before the seam
-body_at : (look : List ℕ → Look) (b : ℕ) (t : List ℕ) (v : Look)
-    → (elim v as (λ w. Type 0) [ Goes n ↦ (0 < n) × IsWhole look (n - 1) t | Ends n how ↦ is_open how ≡ false ])
-    → ((k : ℕ) → IsWhole look k t → is_open (reach_in look Open k t).how ≡ true → body (reach_in look Open k t)
-    ≡ drop k t) → is_open (at_front look v (b ∷ t) Open t).how ≡ true → body (at_front look v (b ∷ t) Open t) ≡ b ∷ t
-body_at look b t (Ends n how) h f g = absurd (clash (is_open how) g h)
-  where
-    clash : (v : Bool) → v ≡ true → v ≡ false → ⊥
-    clash true p q = cc
-    clash false p q = cc
-body_at look b t (Goes n) h f g =
-    let e : n ≡ suc (n - 1) = omega (arith, h.0) in
-    ap (λ w. take n (b ∷ t) ++ w) (f (n - 1) h.1 g)
-    ∙ ap (λ w. take n (b ∷ t) ++ w) (sym (ap (λ m. drop m (b ∷ t)) e)) ∙ take-append-drop n (b ∷ t)
-
 pub whole-end : (how : End) → IsEnd how → is_open how ≡ false
 whole-end Open h = absurd h
 whole-end _ h = refl
 
-whole-look : (look : List ℕ → Look) (t : List ℕ) (v : Look)
+-- its units are all bytes before the seam
+body_at : (look : List ℕ → Look) (b : ℕ) (t : List ℕ) (v : Look)
     → (elim v as (λ w. Type 0) [ Goes n ↦ (0 < n) × IsWhole look (n - 1) t | Ends n how ↦ IsEnd how ])
-    → (elim v as (λ w. Type 0) [ Goes n ↦ (0 < n) × IsWhole look (n - 1) t | Ends n how ↦ is_open how ≡ false ])
-whole-look look t (Goes n) h = h
-whole-look look t (Ends n how) h = whole-end how h
+    → ((k : ℕ) → IsWhole look k t → is_open (reach_in look Open k t).how ≡ true → body (reach_in look Open k t)
+    ≡ drop k t) → is_open (at_front look v (b ∷ t) Open t).how ≡ true → body (at_front look v (b ∷ t) Open t) ≡ b ∷ t
+body_at look b t (Ends n how) h f g = let wrong : true ≡ false = sym g ∙ whole-end how h in cc
+body_at look b t (Goes n) h f g =
+    let e : n ≡ suc (n - 1) = omega (arith, h.0) in
+    ap (λ w. take n (b ∷ t) ++ w) (f (n - 1) h.1 g)
+    ∙ ap (λ w. take n (b ∷ t) ++ w) (sym (ap (λ m. drop m (b ∷ t)) e)) ∙ take-append-drop n (b ∷ t)
 
 open_body_in : (look : List ℕ → Look) (k : ℕ) (t : List ℕ) → IsWhole look k t
     → is_open (reach_in look Open k t).how ≡ true → body (reach_in look Open k t) ≡ drop k t
 open_body_in look zero [] w h = refl
 open_body_in look (suc k) [] w h = refl
 open_body_in look (suc k) (b ∷ t) w h = open_body_in look k t w h
-open_body_in look zero (b ∷ t) w h =
-    body_at look b t (look (b ∷ t)) (whole-look look t (look (b ∷ t)) w) (λ k v g. open_body_in look k t v g) h
+open_body_in look zero (b ∷ t) w h = body_at look b t (look (b ∷ t)) w (λ k v g. open_body_in look k t v g) h
 
 pub open_body : (look : List ℕ → Look) (t : List ℕ) → IsWhole look 0 t
     → is_open (reach look Open t).how ≡ true → body (reach look Open t) ≡ t
@@ -84,9 +67,6 @@ sizes us t m h = omega (arith, size-open us t m h)
 comment-sees : (more : List ℕ) → AtLineEnd more → IsLocal (look_in_comment (begins (codes "*/")) 2) more
 comment-sees more e = comment-local (begins (codes "*/")) 2 more e (λ b u. begins_line (codes "*/") (b ∷ u) more refl e)
 
-abbrev sized_comment : Place → End → ℕ → List ℕ → Reading → Reading
-sized_comment begun how n t m = run (on (comment how begun) (each_line_end comment_line_end (take n t) m)) (drop n t)
-
 -- a comment that goes on after the line
 pub comment_stays : (begun : Place) (t more : List ℕ) (m : Reading) → AtLineEnd more
     → IsLine t → is_open (reach (look_in_comment (begins (codes "*/")) 2) Open t).how ≡ true
@@ -94,17 +74,14 @@ pub comment_stays : (begun : Place) (t more : List ℕ) (m : Reading) → AtLine
 comment_stays begun t more m e line h =
     let look = look_in_comment (begins (codes "*/")) 2 in
     let w = whole look (comment-units (begins (codes "*/")) 2) t in
-    let us = (reach look Open t).units in
-    let r = items.comment more in
-    let n = size_of r in
-    ap (λ (v : Reach). end_comment begun v (t ++ more) m) (reach-open look Cut t more (comment-sees more e) w h)
-    ∙ ap (λ k. sized_comment begun r.how k (t ++ more) m) (sizes us t r (open_body look t w h))
-    ∙ ap (λ u. run (on (comment r.how begun) (each_line_end comment_line_end u m)) (drop (length t + n) (t ++ more)))
-    (take-append-add t more n)
-    ∙ ap (λ k. run (on (comment r.how begun) k) (drop (length t + n) (t ++ more)))
-    (each-line comment_line_end t (take n more) m line)
-    ∙ ap (λ u. run (on (comment r.how begun) (each_line_end comment_line_end (take n more) m)) u)
-    (drop-append-add t more n)
+    let n = size_of (items.comment more) in
+    rw (
+      reach-open look Cut t more (comment-sees more e) w h,
+      sizes (reach look Open t).units t (items.comment more) (open_body look t w h),
+      take-append-add t more n,
+      each-line comment_line_end t (take n more) m line,
+      drop-append-add t more n,
+    ) refl
 
 -- a comment that ends in the line
 pub comment_ends : (begun : Place) (t more : List ℕ) (m : Reading) → AtLineEnd more
@@ -113,13 +90,12 @@ pub comment_ends : (begun : Place) (t more : List ℕ) (m : Reading) → AtLineE
     ≡ run (on (comment (items.comment t).how begun) m) (drop (size_of (items.comment t)) t ++ more)
 comment_ends begun t more m e line h =
     let look = look_in_comment (begins (codes "*/")) 2 in
-    let r = items.comment t in
-    let n = size_of r in
+    let n = size_of (items.comment t) in
     let fits = reach-size look Cut (comment-within (begins (codes "*/")) 2 (begins-size (codes "*/"))) t in
-    ap (λ (v : Reach). end_comment begun v (t ++ more) m) (reach_ends look Cut t more
-    (comment-sees more e) (comment-sees [] tt) (whole look (comment-units (begins (codes "*/")) 2) t) h)
-    ∙ ap (λ u. run (on (comment r.how begun) (each_line_end comment_line_end u m)) (drop n (t ++ more)))
-    (take-append-le n t more fits)
-    ∙ ap (λ k. run (on (comment r.how begun) k) (drop n (t ++ more)))
-    (none-line comment_line_end (take n t) m (IsLine-take n t line))
-    ∙ ap (λ u. run (on (comment r.how begun) m) u) (drop-append-le n t more fits)
+    rw (
+      reach_ends look Cut t more (comment-sees more e) (comment-sees [] tt)
+          (whole look (comment-units (begins (codes "*/")) 2) t) h,
+      take-append-le n t more fits,
+      none-line comment_line_end (take n t) m (IsLine-take n t line),
+      drop-append-le n t more fits,
+    ) refl

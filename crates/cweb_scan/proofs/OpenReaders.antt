@@ -1,8 +1,7 @@
 -- The open item as the code keeps it: what a turn leaves of it, seen through the reader's fields.
-use Rattle.cweb_scan.proofs.Common.{◌≡◌, ℕ, Bool, true, false, List, ◌++◌, refl, ap, sym, ◌∙◌, subst, list_all, Place, delimiter, unit_bytes, Context, Look, Held, has_part, text_of, with_text, delimiter_of, literal_turn, look_size, TakesOpen, item_of, is_raw, IsSigned, Item, Between, InComment, InName, InLiteral, InRaw, sign_of}
+use Rattle.cweb_scan.proofs.Common.{◌≡◌, ℕ, Bool, true, false, List, ◌++◌, refl, ap, sym, ◌∙◌, subst, list_all, Place, delimiter, unit_bytes, Context, Look, Held, has_part, text_of, with_text, delimiter_of, literal_turn, look_size, TakesOpen, item_of, is_raw, IsSigned, Item, Between, InComment, InName, InRaw, sign_of}
 use Rattle.cweb_rules.proofs.LineDelimiters.{closing_sign-in_line}
 use Rattle.cweb_rules.proofs.Seams.{in_line}
-use Rattle.cweb_scanner.specs.Resume.{AfterBackslash}
 use Rattle.cweb_scan.specs.declared.reader.open.Open.{Open}
 use Rattle.cweb_scan.specs.declared.reader.open.Open.TheVariants as code
 use Rattle.cweb_scan.proofs.Opens.{opened}

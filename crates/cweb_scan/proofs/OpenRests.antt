@@ -1,16 +1,29 @@
 -- The rest of an item that is open: what a turn of it takes.
-use Rattle.cweb_scan.proofs.Common.{◌≡◌, ◌≤◌, ◌<◌, ℕ, ◌+◌, Bool, true, false, List, [], ◌∷◌, ◌++◌, length, take, drop, refl, ap, sym, ◌∙◌, subst, arith, if◌then◌else◌, codes, bytes_eq, nat_lt, list_all, length-drop, drop_all, Place, begins, Reach, reach, size_of, sign_after, unit_bytes, look_in_comment, look_in_name, look_in_literal, look_in_raw, IsLine, reached, MovesOn, End, Closed, Cut, Nested, Open, Reached, Look, Goes, Ends, DoubleAtInString, comment, occurrence, ended_as, unit_state, literal_turn, look_size, TakesOpen, InComment, InName, InLiteral, InRaw, resume, sign_of, takes_sign, weight, run, State, fault}
+use Rattle.cweb_scan.proofs.Common.{◌≡◌, ◌==◌, ◌≤◌, ◌<◌, ℕ, ◌+◌, ◌*◌, AtLineEnd, Between, Item, awaits_line_end, Bool, true, false, List, [], ◌∷◌, ◌++◌, length, take, drop, refl, ap, sym, ◌∙◌, subst, arith, if◌then◌else◌, codes, bytes_eq, nat_lt, list_all, length-drop, drop_all, Place, begins, Reach, reach, size_of, sign_after, unit_bytes, look_in_comment, look_in_name, look_in_literal, look_in_raw, IsLine, reached, MovesOn, End, Cut, Open, Reached, Look, Goes, Ends, DoubleAtInString, comment, occurrence, ended_as, unit_state, literal_turn, look_size, TakesOpen, InComment, InName, InLiteral, InRaw, resume, sign_of, takes_sign, weight, run, State, fault}
 use Rattle.cweb_rules.specs.Lines.{is_open as stays}
-use Rattle.cweb_rules.proofs.Looks.{IsWithin, comment-units, name-units, raw-units}
+use Rattle.cweb_scanner.specs.Held.{owed}
+use Rattle.cweb_scanner.specs.OpenRest.{is_open}
+use Rattle.cweb_rules.proofs.Looks.{literal-local, raw-local, IsWithin, comment-units, name-units, raw-units}
 use Rattle.cweb_rules.proofs.Sizes.{end_size, name-within, raw-within, comment-within, begins-size, reach-size, sign_after-size}
-use Rattle.cweb_rules.proofs.Seams.{in_line}
+use Rattle.cweb_rules.proofs.Seams.{in_line, stops}
 use Rattle.cweb_scanner.proofs.Ends.{size-at_end, how-at_end}
 use Rattle.cweb_scan.proofs.OpenItems.{comment_stays, comment_ends}
 use Rattle.cweb_scan.proofs.Opens.{opened}
 use Rattle.cweb_scanner.proofs.TakenItems.{reading}
 use Rattle.cweb_scanner.proofs.Turns.{between}
-use Rattle.cweb_scan.proofs.UnitsTaken.{name_unit, name_end, literal_unit_taken, literal_end, raw_unit_taken, raw_end}
+use Rattle.cweb_scan.proofs.UnitsTaken.{name_unit, name_end, quoted_unit, literal_end, raw_end}
 use Rattle.cweb_scanner.proofs.Weights.{comment-weight, occurrence-weight, literal-weight}
+
+-- the item goes on as another, or ends
+goes_with : (n : ℕ) (u : List ℕ) (s new : State) (g : Bool) (i j : Item) → awaits_line_end j ≡ false
+    → (is_open j ≡ true → 0 < n) → n ≤ length u → weight new + owed j ≤ weight s + owed i + 3 * n
+    → ((later : List Place) (more : List ℕ) → AtLineEnd more → resume j (drop n u ++ more)
+    (reading new later) ≡ resume i (u ++ more) (reading s later)) → TakesOpen n u (opened s g i) (opened new g j)
+goes_with n u s new g i j within moves fits adds same = record {
+  takes = record { begun = refl; within = fits; adds = adds; same = same };
+  moves = moves;
+  last = λ e. let wrong : false ≡ true = sym within ∙ e in cc;
+}
 
 -- COMMENTS
 
@@ -21,19 +34,10 @@ in_comment u = reach (look_in_comment (begins (codes "*/")) 2) Open u
 pub comment_goes : (s : State) (g : Bool) (begun : Place) (u : List ℕ) (r : Reached)
     → IsLine u → 1 ≤ length u → r ≡ reached (in_comment u) → stays r.how ≡ true
     → TakesOpen (length u) u (opened s g (InComment begun)) (opened s g (InComment begun))
-comment_goes s g begun u r line some is still = record {
-  takes = record {
-    begun = refl;
-    within = omega arith;
-    adds = omega arith;
-    same = λ later more e. ap
-        (λ (t : List ℕ). resume (InComment begun) (t ++ more) (reading s later)) (drop_all (length u) u (omega arith))
-        ∙ sym
-        (comment_stays begun u more (reading s later) e line (sym (ap (λ (v : Reached). stays v.how) is) ∙ still));
-  };
-  moves = λ h. omega (arith, some);
-  last = λ h. cc;
-}
+comment_goes s g begun u r line some is still = goes_with (length u) u s s g (InComment begun) (InComment begun) refl
+    (λ h. some) (omega arith) (omega arith) (λ later more e.
+    ap (λ (t : List ℕ). resume (InComment begun) (t ++ more) (reading s later)) (drop_all (length u) u (omega arith))
+    ∙ sym (comment_stays begun u more (reading s later) e line (sym (ap (λ (v : Reached). stays v.how) is) ∙ still)))
 
 ended_stays : (how : End) → stays how ≡ false → how ≡ ended_as Cut how
 ended_stays Open h = cc
@@ -48,23 +52,11 @@ comment_over s g begun u r line is ends =
     let units = comment-units (begins (codes "*/")) 2 in
     let size : r.size + r.close ≡ size_of (reach look Cut u) = size-at_end look units Cut u r is in
     let how : r.how ≡ (reach look Cut u).how = ended_stays r.how ends ∙ how-at_end look units Cut u r is in
-    record {
-      takes = record {
-        begun = refl;
-        within =
-            omega (
-              arith,
-              size,
-              reach-size look Cut (comment-within (begins (codes "*/")) 2 (begins-size (codes "*/"))) u,
-            );
-        adds = omega (arith, comment-weight r.how begun s);
-        same = λ later more e. (λ i. run (reading (comment (how i) begun s) later) (drop (size i) u ++ more))
-            ∙ sym (comment_ends begun u more (reading s later) e line
-            (sym (ap (λ (v : Reached). stays v.how) is) ∙ ends));
-      };
-      moves = λ h. cc;
-      last = λ h. cc;
-    }
+    let fits = reach-size look Cut (comment-within (begins (codes "*/")) 2 (begins-size (codes "*/"))) u in
+    goes_with (r.size + r.close) u s (comment r.how begun s) g (InComment begun) Between refl (λ h. cc)
+    (omega (arith, size, fits)) (omega (arith, comment-weight r.how begun s)) (λ later more e.
+    (λ i. run (reading (comment (how i) begun s) later) (drop (size i) u ++ more))
+    ∙ sym (comment_ends begun u more (reading s later) e line (sym (ap (λ (v : Reached). stays v.how) is) ∙ ends)))
 
 -- NAMES
 
@@ -83,16 +75,9 @@ pub name_goes : (s : State) (g : Bool) (begun : Place) (is_file : Bool) (us : Li
 name_goes s g begun is_file us n [] line some h = absurd (omega (arith, some))
 name_goes s g begun is_file us n (b ∷ t) line some h =
     let fits = fits_as look_in_name n b t (name-units b t) h in
-    record {
-      takes = record {
-        begun = refl;
-        within = fits.1;
-        adds = omega arith;
-        same = λ later more e. sym (name_unit begun is_file us n b t more (reading s later) e line h fits.0 fits.1);
-      };
-      moves = λ w. fits.0;
-      last = λ w. cc;
-    }
+    goes_with n (b ∷ t) s s g (InName begun is_file us) (InName begun is_file (us ++ unit_bytes (take n (b ∷ t)))) refl
+    (λ w. fits.0) fits.1 (omega arith)
+    (λ later more e. sym (name_unit begun is_file us n b t more (reading s later) e line h fits.0 fits.1))
 
 -- the end of one, with its opener sign
 pub name_over : (s : State) (g : Bool) (begun : Place) (is_file : Bool) (us : List ℕ) (n : ℕ)
@@ -106,20 +91,12 @@ name_over s g begun is_file us n how (b ∷ t) sign taken opens line some h is s
     let fits = ends_within look_in_name n how u (name-within u) h in
     let at_most : (if takes_sign s then sign else 0) ≤ sign =
     elim (takes_sign s) as (λ v. (if v then sign else 0) ≤ sign) [ true ↦ omega arith | false ↦ omega arith ] in
-    record {
-      takes = record {
-        begun = refl;
-        within = omega (arith, fits, at_most, size, is, sign_after-size how (drop n u), length-drop n u);
-        adds = omega (arith, occurrence-weight is_file us how opens begun s);
-        same = λ later more e.
-            (λ i. run (reading (occurrence is_file us how (opened_is i) begun s) later) (drop (size i) u ++ more))
-            ∙ (λ i. run (reading (occurrence is_file us how (nat_lt 0 (is i)) begun s) later)
-            (drop (n + (if takes_sign s then is i else 0)) u ++ more))
-            ∙ sym (name_end begun is_file us n b how t more (reading s later) e line h);
-      };
-      moves = λ w. cc;
-      last = λ w. cc;
-    }
+    goes_with taken u s (occurrence is_file us how opens begun s) g (InName begun is_file us) Between refl
+    (λ w. cc) (omega (arith, fits, at_most, size, is, sign_after-size how (drop n u), length-drop n u))
+    (omega (arith, occurrence-weight is_file us how opens begun s)) (λ later more e.
+    (λ i. run (reading (occurrence is_file us how (opened_is i) begun s) later) (drop (size i) u ++ more)) ∙ (λ i. run
+    (reading (occurrence is_file us how (nat_lt 0 (is i)) begun s) later) (drop (n + (if takes_sign s then is i else 0))
+    u ++ more)) ∙ sym (name_end begun is_file us n b how t more (reading s later) e line h))
 
 -- LITERALS
 
@@ -131,28 +108,15 @@ pub literal_takes : (s : State) (g : Bool) (begun : Place) (quote : ℕ) (us : L
     → IsLine u → 1 ≤ length u → look_in_literal quote u ≡ v → look_size v ≤ length u → TakesOpen (look_size v)
     u (opened s g (InLiteral begun quote us)) (literal_turn v begun u (opened s g (InLiteral begun quote us)))
 literal_takes s g begun quote us v [] moves line some h fits = absurd (omega (arith, some))
-literal_takes s g begun quote us (Goes n) (b ∷ t) moves line some h fits = record {
-  takes = record {
-    begun = refl;
-    within = fits;
-    adds = omega (arith, unit-weight s (take n (b ∷ t)));
-    same = λ later more e. sym (literal_unit_taken begun quote us n b t more s later e line h moves fits);
-  };
-  moves = λ w. moves;
-  last = λ w. cc;
-}
+literal_takes s g begun quote us (Goes n) (b ∷ t) moves line some h fits = goes_with n (b ∷ t) s _ g
+    (InLiteral begun quote us) (InLiteral begun quote (us ++ unit_bytes (take n (b ∷ t)))) refl (λ w. moves) fits
+    (omega (arith, unit-weight s (take n (b ∷ t)))) (λ later more e. sym (quoted_unit (look_in_literal quote)
+    begun us n b t more s later (literal-local quote more (stops (λ x. x == 64) more refl e)) line h moves fits))
 literal_takes s g begun quote us (Ends n how) (b ∷ t) moves line some h fits =
     let sign = take n (b ∷ t) in
-    record {
-      takes = record {
-        begun = refl;
-        within = fits;
-        adds = omega (arith, unit-weight s sign, literal-weight (us ++ unit_bytes sign) how begun (unit_state s sign));
-        same = λ later more e. sym (literal_end begun quote us n b how t more s later e line h);
-      };
-      moves = λ w. cc;
-      last = λ w. cc;
-    }
+    goes_with n (b ∷ t) s _ g (InLiteral begun quote us) Between refl (λ w. cc) fits
+    (omega (arith, unit-weight s sign, literal-weight (us ++ unit_bytes sign) how begun (unit_state s sign)))
+    (λ later more e. sym (literal_end begun quote us n b how t more s later e line h))
 
 pub raw_fits : (sign : List ℕ) (v : Look) (u : List ℕ) → v ≡ look_in_raw sign u → 1 ≤ length u → look_size v ≤ length u
 raw_fits sign v [] is some = absurd (omega (arith, some))
@@ -165,25 +129,12 @@ pub raw_takes : (s : State) (g : Bool) (begun : Place) (d us : List ℕ) (v : Lo
     → 1 ≤ length u → look_in_raw (sign_of d) u ≡ v → look_size v ≤ length u
     → TakesOpen (look_size v) u (opened s g (InRaw begun d us)) (literal_turn v begun u (opened s g (InRaw begun d us)))
 raw_takes s g begun d us v [] moves clean line some h fits = absurd (omega (arith, some))
-raw_takes s g begun d us (Goes n) (b ∷ t) moves clean line some h fits = record {
-  takes = record {
-    begun = refl;
-    within = fits;
-    adds = omega (arith, unit-weight s (take n (b ∷ t)));
-    same = λ later more e. sym (raw_unit_taken begun d us n b t more s later clean e line h moves fits);
-  };
-  moves = λ w. moves;
-  last = λ w. cc;
-}
+raw_takes s g begun d us (Goes n) (b ∷ t) moves clean line some h fits =
+    goes_with n (b ∷ t) s _ g (InRaw begun d us) (InRaw begun d (us ++ unit_bytes (take n (b ∷ t)))) refl (λ w. moves)
+    fits (omega (arith, unit-weight s (take n (b ∷ t)))) (λ later more e. sym (quoted_unit (look_in_raw (sign_of d))
+    begun us n b t more s later (raw-local (sign_of d) more clean e) line h moves fits))
 raw_takes s g begun d us (Ends n how) (b ∷ t) moves clean line some h fits =
     let sign = take n (b ∷ t) in
-    record {
-      takes = record {
-        begun = refl;
-        within = fits;
-        adds = omega (arith, unit-weight s sign, literal-weight (us ++ unit_bytes sign) how begun (unit_state s sign));
-        same = λ later more e. sym (raw_end begun d us n b how t more s later clean e line h);
-      };
-      moves = λ w. cc;
-      last = λ w. cc;
-    }
+    goes_with n (b ∷ t) s _ g (InRaw begun d us) Between refl (λ w. cc) fits
+    (omega (arith, unit-weight s sign, literal-weight (us ++ unit_bytes sign) how begun (unit_state s sign)))
+    (λ later more e. sym (raw_end begun d us n b how t more s later clean e line h))

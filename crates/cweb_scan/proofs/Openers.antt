@@ -1,5 +1,5 @@
 -- What opens a comment or a name: what is read then is what is read with the item open.
-use Rattle.cweb_scan.proofs.Common.{◌≡◌, ℕ, suc, ◌+◌, Bool, true, false, List, [], ◌∷◌, take, drop, refl, ap, sym, ◌∙◌, arith, if◌then◌else◌, codes, nat_lt, fold, Reading, on, each_line_end, next_line, comment_line_end, comment, occurrence, enter_in, after, blank, begins, is_line_end, Reach, size_of, names_include, reads_c, reads_names, name_at, sign_after, comment_at, End, text_in, Comment, Front, front, InComment, InName, takes_sign, resume, front_in, run, Context, Limbo, TeX, Definition, Macro, CText, State, drop_definition, moved}
+use Rattle.cweb_scan.proofs.Common.{◌≡◌, ℕ, suc, ◌+◌, Bool, true, false, List, [], ◌∷◌, take, drop, refl, ap, ◌∙◌, arith, if◌then◌else◌, codes, nat_lt, fold, Reading, on, each_line_end, enter_in, after, blank, begins, is_line_end, size_of, names_include, reads_c, reads_names, name_at, sign_after, comment_at, End, Comment, Front, InComment, InName, takes_sign, resume, front_in, run, Context, Limbo, TeX, Definition, CText, State, drop_definition}
 use Rattle.cweb_rules.specs.Items as items
 use Rattle.cweb_rules.specs.Kinds.{Occurrence}
 use Rattle.cweb_scanner.proofs.Fairs.{fair}
@@ -28,12 +28,9 @@ pub opened_comment : (r : Reading) (w : List ℕ) → reads_c r.state.context �
     → run r (47 ∷ 42 ∷ w) ≡ resume (InComment r.state.here) w (on blank r)
 opened_comment r w h =
     let m = items.comment w in
-    let n = size_of m in
-    let e : 2 + n ≡ suc (suc n) = omega arith in
+    let e : 2 + size_of m ≡ suc (suc (size_of m)) = omega arith in
     run_as r 47 (42 ∷ w) (comment_at (47 ∷ 42 ∷ w)) (comment_front r.state.context (names_include r.state) w h)
-    ∙ ap (λ k. with_front r (47 ∷ 42 ∷ w) (front (Comment m.how) k)) e
-    ∙ ap (λ (s : State). run (on (comment m.how s.here) (each_line_end comment_line_end
-    (take n w) (on blank (on (λ u. s) r)))) (drop n w)) (enter_comment r.state.context m.how r.state)
+    ∙ rw (e, enter_comment r.state.context m.how r.state) refl
 
 -- what belongs to no head leaves it
 abbrev pub leave_head_in : Context → State → State
@@ -66,10 +63,6 @@ enter_name : (c : Context) (is_file : Bool) (us : List (List ℕ)) (how : End) (
 enter_name Limbo is_file us how opens s = refl
 enter_name _ is_file us how opens s = refl
 
-abbrev named : Bool → Reach → ℕ → ℕ → List ℕ → Reading → Reading
-named is_file m sign n t r = run (on (occurrence is_file (text_in m.units) m.how (nat_lt 0 sign) r.state.here)
-    (each_line_end moved (take n t) r)) (drop n t)
-
 abbrev name_size : Bool → ℕ → ℕ → ℕ
 name_size takes n sign = if takes then n + sign else n
 
@@ -91,29 +84,20 @@ opened_as r a is_file w file in_line h =
     let m = items.name w in
     let n = size_of m in
     let c = r.state.context in
-    let takes = takes_in c in
     let t = 64 ∷ a ∷ w in
     let e : 2 + n ≡ suc (suc n) = omega arith in
     let sign = sign_after m.how (drop n w) in
-    let s = leave_head_in c r.state in
-    let size = n + (if takes then sign else 0) in
-    run_as r 64 (a ∷ w) (name_at takes t) h
-    ∙ ap (λ v. with_front r t (front (Occurrence v m.units m.how (nat_lt 0 (sign_after m.how (drop (2 + n) t))))
-    (name_size takes (2 + n) (sign_after m.how (drop (2 + n) t))))) file
-    ∙ ap (λ k. with_front r t (front (Occurrence is_file m.units m.how (nat_lt 0 (sign_after m.how (drop k t))))
-    (name_size takes k (sign_after m.how (drop k t))))) e
-    ∙ ap (λ k. with_front r t (front (Occurrence is_file m.units m.how (nat_lt 0 sign)) k)) (name_size-two takes n sign)
-    ∙ ap (λ (u : State). run (on (occurrence is_file (text_in m.units) m.how (nat_lt 0 sign) u.here)
-    (each_line_end moved (take (suc (suc size)) t) (on (λ v. u) r))) (drop size w))
-    (enter_name c is_file m.units m.how (nat_lt 0 sign) r.state)
-    ∙ ap (λ v. run (on (occurrence is_file (text_in m.units) m.how (nat_lt 0 sign) s.here) (each_line_end moved
-    (take size w) (if v then next_line moved (on (λ v. s) r) else on (λ v. s) r))) (drop size w)) in_line
-    ∙ ap (λ p. run (on (occurrence is_file (text_in m.units) m.how (nat_lt 0 sign) p)
-    (each_line_end moved (take size w) (on (λ v. s) r))) (drop size w)) (here_same c r.state)
-    ∙ ap (λ v.
-    let k = n + (if v then sign else 0) in
-    run (on (occurrence is_file (text_in m.units) m.how (nat_lt 0 sign) r.state.here)
-    (each_line_end moved (take k w) (on (λ v. s) r))) (drop k w)) (sym (takes_same c r.state refl))
+    run_as r 64 (a ∷ w) (name_at (takes_in c) t) h
+    ∙ rw (
+      file,
+      e,
+      name_size-two (takes_in c) n sign,
+      enter_name c is_file m.units m.how (nat_lt 0 sign) r.state,
+      each_line_end,
+      in_line,
+      here_same c r.state,
+      takes_same c r.state refl,
+    ) refl
 
 pub opened_name : (r : Reading) (w : List ℕ) → reads_names r.state.context ≡ true
     → run r (64 ∷ 60 ∷ w) ≡ resume (InName r.state.here false []) w (on leave_head r)

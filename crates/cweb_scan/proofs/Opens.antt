@@ -1,9 +1,9 @@
 -- What opens an item is taken as the code takes it.
-use Rattle.cweb_scan.proofs.Common.{◌≡◌, ◌≤◌, ℕ, ◌+◌, Bool, true, false, ◌&&◌, ◌==◌, List, [], ◌∷◌, ◌++◌, length, take, drop, refl, ap, sym, ◌∙◌, subst, arith, codes, eqb-true, length-drop, begins, starts_raw, starts_literal, literal_prefix, quote_of, raw_prefix, delimiter, IsLine, Context, Limbo, TeX, Definition, Macro, CText, blank, is_head, Held, Takes, Item, InComment, InName, InLiteral, InRaw, resume, State, IsPast, reads_c, reads_names, reads_literals, and_parts}
+use Rattle.cweb_scan.proofs.Common.{◌≡◌, ◌≤◌, ℕ, ◌+◌, Bool, true, false, ◌&&◌, ◌==◌, List, [], ◌∷◌, ◌++◌, length, take, drop, refl, ap, sym, ◌∙◌, subst, arith, codes, eqb-true, length-drop, begins, starts_raw, starts_literal, literal_prefix, quote_of, raw_prefix, delimiter, IsLine, Context, Definition, blank, is_head, Held, Takes, Item, InComment, InName, InLiteral, InRaw, resume, run, Place, State, IsPast, reads_c, reads_names, reads_literals, and_parts}
 use Rattle.cweb_rules.proofs.LineLiterals.{is_quoted-size}
 use Rattle.cweb_rules.proofs.LineDelimiters.{sign-fits, has_delimiter-size}
 use Rattle.cweb_scanner.specs.Resume as item
-use Rattle.cweb_scan.proofs.Openers.{leave_head_in, opened_comment, opened_name, opened_file}
+use Rattle.cweb_scan.proofs.Openers.{leave_head_in, leave_head, opened_comment, opened_name, opened_file}
 use Rattle.cweb_scan.proofs.LiteralOpeners.{opened_raw, opened_literal}
 use Rattle.cweb_scanner.proofs.TakenItems.{reading}
 use Rattle.cweb_scanner.proofs.Turns.{between}
@@ -36,44 +36,35 @@ no_head : (c : Context) (s : State) → is_head c ≡ false → leave_head_in c 
 no_head (Definition begun) s h = cc
 no_head _ s h = refl
 
--- `@<`
+-- `@<`, `@(`
+named : (s : State) (g : Bool) (a : ℕ) (is_file : Bool) (u : List ℕ) → is_head s.context ≡ false
+    → begins (64 ∷ a ∷ []) u ≡ true → ((later : List Place) (w : List ℕ) → run (reading s later) (64 ∷ a ∷ w)
+    ≡ resume (InName s.here is_file []) w (reading (leave_head s) later))
+    → Takes 2 u (between s g) (opened s g (InName s.here is_file []))
+named s g a is_file u head h opens =
+    let p = two 64 a u h in
+    subst (λ (v : List ℕ). Takes 2 v (between s g) (opened s g (InName s.here is_file []))) p.1 (record {
+      begun = refl;
+      within = omega arith;
+      adds = omega arith;
+      same = λ later more e. sym (opens later (p.0 ++ more)
+          ∙ ap (λ (v : State). resume (InName s.here is_file []) (p.0 ++ more) (reading v later))
+          (no_head s.context s head));
+    })
+
 pub name_opens : (s : State) (g : Bool) (u : List ℕ) → is_head s.context ≡ false → reads_names s.context ≡ true
     → begins (codes "@<") u ≡ true → Takes 2 u (between s g) (opened s g (InName s.here false []))
-name_opens s g u head c h =
-    let p = two 64 60 u h in
-    subst (λ (v : List ℕ). Takes 2 v (between s g) (opened s g (InName s.here false []))) p.1 (record {
-      begun = refl;
-      within = omega arith;
-      adds = omega arith;
-      same = λ later more e. sym (opened_name (reading s later) (p.0 ++ more) c
-          ∙ ap (λ (v : State). resume (InName s.here false []) (p.0 ++ more) (reading v later))
-          (no_head s.context s head));
-    })
+name_opens s g u head c h = named s g 60 false u head h (λ later w. opened_name (reading s later) w c)
 
--- `@(`
 pub file_opens : (s : State) (g : Bool) (u : List ℕ) → is_head s.context ≡ false → reads_names s.context ≡ true
     → begins (codes "@(") u ≡ true → Takes 2 u (between s g) (opened s g (InName s.here true []))
-file_opens s g u head c h =
-    let p = two 64 40 u h in
-    subst (λ (v : List ℕ). Takes 2 v (between s g) (opened s g (InName s.here true []))) p.1 (record {
-      begun = refl;
-      within = omega arith;
-      adds = omega arith;
-      same = λ later more e. sym (opened_file (reading s later) (p.0 ++ more) c
-          ∙ ap (λ (v : State). resume (InName s.here true []) (p.0 ++ more) (reading v later))
-          (no_head s.context s head));
-    })
+file_opens s g u head c h = named s g 40 true u head h (λ later w. opened_file (reading s later) w c)
 
 -- no literal begins with `\`
-literal_plain : (b : ℕ) (t : List ℕ) → starts_literal (b ∷ t) ≡ true → begins (codes "\\") (b ∷ t) ≡ false
-literal_plain b t h = (elim (92 == b) as (λ v. (92 == b) ≡ v → (v && true) ≡ false) [
-  | true ↦ λ e. let wrong : false ≡ true = subst (λ n. starts_literal (n ∷ t) ≡ true) (sym (eqb-true 92 b e)) h in cc
-  | false ↦ λ e. refl
-]) refl
-
-raw_plain : (b : ℕ) (t : List ℕ) → starts_raw (b ∷ t) ≡ true → begins (codes "\\") (b ∷ t) ≡ false
-raw_plain b t h = (elim (92 == b) as (λ v. (92 == b) ≡ v → (v && true) ≡ false) [
-  | true ↦ λ e. let wrong : false ≡ true = subst (λ n. starts_raw (n ∷ t) ≡ true) (sym (eqb-true 92 b e)) h in cc
+not_back : (starts : List ℕ → Bool) (b : ℕ) (t : List ℕ) → starts (92 ∷ t) ≡ false → starts (b ∷ t) ≡ true
+    → begins (codes "\\") (b ∷ t) ≡ false
+not_back starts b t none h = (elim (92 == b) as (λ v. (92 == b) ≡ v → (v && true) ≡ false) [
+  | true ↦ λ e. let wrong = sym none ∙ subst (λ n. starts (n ∷ t) ≡ true) (sym (eqb-true 92 b e)) h in cc
   | false ↦ λ e. refl
 ]) refl
 
@@ -87,7 +78,9 @@ literal_opens s g b t c line past raw starts = record {
   within = is_quoted-size (literal_prefix (b ∷ t)) (b ∷ t) starts;
   adds = omega arith;
   same = λ later more e.
-      sym (opened_literal (reading s later) b t more e c line past (literal_plain b t starts) raw starts);
+      sym
+      (opened_literal (reading s later) b t more e c line past (not_back starts_literal b t refl starts) raw
+      starts);
 }
 
 -- `R"(`
@@ -103,7 +96,8 @@ raw_opens s g b t c line past starts =
       begun = refl;
       within = omega (arith, sign-fits u start.0, has_delimiter-size (drop m u) start.1, length-drop m u);
       adds = omega arith;
-      same = λ later more e. sym (opened_raw (reading s later) b t more e c line past (raw_plain b t starts) starts);
+      same = λ later more e. sym
+          (opened_raw (reading s later) b t more e c line past (not_back starts_raw b t refl starts) starts);
     }
 
 -- THE CODE'S READER
@@ -124,32 +118,17 @@ pub literal_opens_at : (s : State) (g : Bool) (u : List ℕ) (n : ℕ) → n ≡
     → reads_literals s.context ≡ true → IsLine u → IsPast u → starts_raw u ≡ false → starts_literal u ≡ true
     → Takes (n + 1) u (between s g) (opened s g (InLiteral s.here (quote_of (drop n u)) (take (n + 1) u)))
 literal_opens_at s g [] n is c line past raw starts = let wrong : false ≡ true = starts in cc
-literal_opens_at s g (b ∷ t) n is c line past raw starts =
-    subst (λ k. Takes (k + 1) (b ∷ t) (between s g) (opened s g (InLiteral s.here
-    (quote_of (drop k (b ∷ t))) (take (k + 1) (b ∷ t))))) (sym is) (literal_opens s g b t c line past raw starts)
+literal_opens_at s g (b ∷ t) n is c line past raw starts = rw is (literal_opens s g b t c line past raw starts)
 
 pub raw_fits_at : (u : List ℕ) (p : ℕ) (d : List ℕ) → p ≡ raw_prefix u
     → d ≡ delimiter (drop (p + 2) u) → starts_raw u ≡ true → p + 2 + length d + 1 ≤ length u
 raw_fits_at u p d is name starts =
     let m = raw_prefix u + 2 in
     let start = and_parts (begins (codes "R\"") (drop (raw_prefix u) u)) _ starts in
-    let same = name ∙ ap (λ k. delimiter (drop (k + 2) u)) is in
-    omega (
-      arith,
-      is,
-      ap (λ (x : List ℕ). length x) same,
-      sign-fits u start.0,
-      has_delimiter-size (drop m u) start.1,
-      length-drop m u,
-    )
+    rw (name, is) (omega (arith, sign-fits u start.0, has_delimiter-size (drop m u) start.1, length-drop m u))
 
 pub raw_opens_at : (s : State) (g : Bool) (u : List ℕ) (p : ℕ) (d : List ℕ) → p ≡ raw_prefix u
     → d ≡ delimiter (drop (p + 2) u) → reads_literals s.context ≡ true → IsLine u → IsPast u → starts_raw u ≡ true
     → Takes (p + 2 + length d + 1) u (between s g) (opened s g (InRaw s.here d (take (p + 2 + length d + 1) u)))
 raw_opens_at s g [] p d is name c line past starts = let wrong : false ≡ true = starts in cc
-raw_opens_at s g (b ∷ t) p d is name c line past starts =
-    let u = b ∷ t in
-    let same = name ∙ ap (λ k. delimiter (drop (k + 2) u)) is in
-    subst (λ (k : ℕ). Takes (k + 2 + length d + 1) u (between s g) (opened s g (InRaw s.here d (take (k + 2 + length
-    d + 1) u)))) (sym is) (subst (λ (x : List ℕ). Takes (raw_prefix u + 2 + length x + 1) u (between s g) (opened s g
-    (InRaw s.here x (take (raw_prefix u + 2 + length x + 1) u)))) (sym same) (raw_opens s g b t c line past starts))
+raw_opens_at s g (b ∷ t) p d is name c line past starts = rw (name, is) (raw_opens s g b t c line past starts)

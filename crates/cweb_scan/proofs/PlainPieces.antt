@@ -1,16 +1,11 @@
 -- What one item of the law makes of a reading.
-use Rattle.cweb_scan.proofs.Common.{◌≡◌, ℕ, Bool, true, false, cond, ◌&&◌, List, [], ◌∷◌, Option, Some, None, refl, ap, sym, ◌∙◌, subst, fold, Token, Word, Number, Literal, Punct, Reading, after, item, on, each_line_end, comment_line_end, blank, punctuator, literal, literal_unit, next_line, line_end, enter_in, enter, Effect, Nothing, Define, Format, Program, Named, InsertDefs, Joins, GiveAt, Faulty, in_directive, text_in, Closed, Cut, Nested, Open, Kind, Piece, give, InPlainC, HasRead, solid, is_hash, is_clean, token_of, code_of, same_Some}
-use Rattle.cweb_rules.specs.declared.effect.Effect.TheVariants as effect
+use Rattle.cweb_scan.proofs.Common.{◌≡◌, ℕ, Bool, true, false, cond, ◌&&◌, List, [], ◌∷◌, Some, None, refl, ap, sym, ◌∙◌, subst, fold, Token, Word, Number, Literal, Punct, Reading, after, item, on, each_line_end, comment_line_end, blank, punctuator, literal, literal_unit, next_line, line_end, enter_in, enter, Effect, GiveAt, in_directive, text_in, Closed, Cut, Nested, Open, Kind, Piece, give, InPlainC, HasRead, solid, is_hash, is_clean, token_of, code_of, same_Some}
 use Rattle.cweb_rules.specs.Kinds as kind
 use Rattle.cweb_scan.proofs.PlainStates.{blank_gives, and_then, given, placed, line_ends, comment_line_ends, next_gives, each_gives, units_give}
 
 -- a head is left by no item of C text
 entered : (r : Reading) (k : Kind) → InPlainC r.state → on (enter k) r ≡ r
 entered r k h = ap (λ c. on (enter_in c k) r) h.in_c
-
-abbrev from_some : {A : Type 0} → Option A → A → A
-from_some None d = d
-from_some (Some a) d = a
 
 abbrev Gives : Reading → (Reading → Reading) → Token → Type 0
 Gives r f t = HasRead r.state (f r).state (solid (t ∷ []))

@@ -1,9 +1,8 @@
 -- What a run makes of a token's bytes and what follows.
-use Rattle.cweb_scan.proofs.Common.{◌≡◌, ℕ, ◌+◌, ◌<◌, ◌/◌, ◌%◌, suc, zero, Bool, true, false, cond, ◌&&◌, ◌==◌, List, [], ◌∷◌, ◌++◌, Some, length, take, drop, refl, ap, ◌∙◌, arith, append_assoc, length-append, codes, decimal, digit_glyph, digits_onto, list_all, fold, take-append_seam, drop-append_seam, Token, Word, Number, Punct, first_is, JoinsAll, IsToken, is_token, is_quiet, begins_as, front_in, Kind, front, CText, Effect, Nothing, Define, Format, Program, Named, InsertDefs, Joins, GiveAt, Faulty, End, Closed, Cut, Nested, Open, Reading, after, some_include, names_include, front_of, run, InPlainC, IsRead, ReadsAlone, doubled, solid, token_of, literal_of, bytes_of, is_hash, same_Some, and_from}
+use Rattle.cweb_scan.proofs.Common.{◌≡◌, ℕ, ◌+◌, ◌<◌, ◌/◌, ◌%◌, suc, zero, Bool, true, false, cond, ◌==◌, List, [], ◌∷◌, ◌++◌, Some, length, take, drop, refl, ap, ◌∙◌, arith, append_assoc, length-append, codes, decimal, digit_glyph, digits_onto, list_all, fold, take-append_seam, drop-append_seam, Token, Word, Number, Punct, first_is, JoinsAll, IsToken, is_token, is_quiet, begins_as, front_in, Kind, front, CText, Effect, GiveAt, End, Closed, Reading, after, some_include, names_include, front_of, run, InPlainC, IsRead, ReadsAlone, doubled, solid, token_of, literal_of, bytes_of, is_hash, same_Some, and_from, nat_tests}
 use Rattle.std.specs.Fmt.{digits}
 use Rattle.cweb_rules.specs.Follows as rules
 use Rattle.cweb_rules.specs.Kinds as kind
-use Rattle.cweb_rules.specs.declared.effect.Effect.TheVariants as effect
 use Rattle.cweb_rules.proofs.Comments.{comment_front}
 use Rattle.cweb_rules.proofs.Tokens.{tokens_stay, tokens_begin}
 use Rattle.cweb_scanner.proofs.Pieces.{pieces_first}
@@ -63,17 +62,7 @@ comment_read r x rest quiet h =
 -- NUMBERS OF SECTIONS
 
 glyph_quiet : (d : ℕ) → d < 10 → is_quiet (digit_glyph false d) ≡ true
-glyph_quiet zero h = refl
-glyph_quiet (suc zero) h = refl
-glyph_quiet (suc (suc zero)) h = refl
-glyph_quiet (suc (suc (suc zero))) h = refl
-glyph_quiet (suc (suc (suc (suc zero)))) h = refl
-glyph_quiet (suc (suc (suc (suc (suc zero))))) h = refl
-glyph_quiet (suc (suc (suc (suc (suc (suc zero)))))) h = refl
-glyph_quiet (suc (suc (suc (suc (suc (suc (suc zero))))))) h = refl
-glyph_quiet (suc (suc (suc (suc (suc (suc (suc (suc zero)))))))) h = refl
-glyph_quiet (suc (suc (suc (suc (suc (suc (suc (suc (suc zero))))))))) h = refl
-glyph_quiet (suc (suc (suc (suc (suc (suc (suc (suc (suc (suc d)))))))))) h = absurd (omega (arith, h))
+glyph_quiet d h = grind (arith, nat_tests)
 
 quiet_onto : (k n : ℕ) (acc : List ℕ) → list_all is_quiet acc ≡ true
     → list_all is_quiet (digits_onto k 10 false n acc) ≡ true

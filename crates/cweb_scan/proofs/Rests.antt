@@ -1,5 +1,5 @@
 -- The rest of a line: all of it, and text before the next `@`.
-use Rattle.cweb_scan.proofs.Common.{◌≡◌, ◌≤◌, ℕ, ◌+◌, Bool, true, false, ◌&&◌, ◌==◌, not, List, [], ◌∷◌, ◌++◌, length, refl, ap, sym, ◌∙◌, arith, if◌then◌else◌, prefix_len, nat_tests, drop_all, starts_section, in_limbo, in_text, front_in, section_at, code_at, Skipped, front, IsLine, opens_in, opens_code, Context, Limbo, TeX, Definition, Macro, CText, Reading, names_include, is_head, is_skipped, Held, goes_on, Takes, TakesBytes, State, moved}
+use Rattle.cweb_scan.proofs.Common.{◌≡◌, ℕ, ◌+◌, Bool, true, false, ◌==◌, not, List, [], ◌∷◌, refl, ap, sym, if◌then◌else◌, prefix_len, starts_section, front_in, Skipped, front, IsLine, opens_in, Context, Limbo, TeX, Definition, Macro, CText, Reading, names_include, is_head, is_skipped, Takes, State, moved}
 use Rattle.cweb_scanner.proofs.Ends.{none_to_come}
 use Rattle.cweb_scanner.proofs.Turns.{between}
 use Rattle.cweb_scan.proofs.Turns.{closed_takes}
@@ -16,16 +16,14 @@ is_text c = elim c [ Limbo ↦ true | TeX ↦ true | Definition begun ↦ false 
 
 skipped_front : (c : Context) (includes : Bool) (b : ℕ) (t : List ℕ) → is_text c ≡ true
     → starts_section (b ∷ t) ≡ false → (64 == b) ≡ false → front_in c includes (b ∷ t) ≡ front Skipped 1
-skipped_front Limbo includes b t c s h = λ i.
-    if s i then section_at (b ∷ t) else (if h i && true then code_at in_limbo true (b ∷ t) else front Skipped 1)
-skipped_front TeX includes b t c s h = λ i.
-    if s i then section_at (b ∷ t) else (if h i && true then code_at in_text true (b ∷ t) else front Skipped 1)
+skipped_front Limbo includes b t c s h = rw (s, h)
+skipped_front TeX includes b t c s h = rw (s, h)
 skipped_front _ includes b t c s h = cc
 
 skipped_opens : (c : Context) (b : ℕ) (t : List ℕ) → is_text c ≡ true
     → starts_section (b ∷ t) ≡ false → (64 == b) ≡ false → opens_in c (b ∷ t) ≡ false
-skipped_opens Limbo b t c s h = λ i. if s i then false else (if h i && true then opens_code in_limbo (b ∷ t) else false)
-skipped_opens TeX b t c s h = λ i. if s i then false else (if h i && true then opens_code in_text (b ∷ t) else false)
+skipped_opens Limbo b t c s h = rw (s, h)
+skipped_opens TeX b t c s h = rw (s, h)
 skipped_opens _ b t c s h = cc
 
 no_head : (c : Context) → is_text c ≡ true → is_head c ≡ false

@@ -1,70 +1,54 @@
 -- Items of C text, computed on small webs.
-use Rattle.cweb_scan.proofs.Common.{◌≡◌, [], ◌∷◌, refl, codes, Unnamed, Word, Number, Literal, Verbatim, Punct, Blank, Newline, Head, Tail, Mark, CommentDidNotEnd, StringDidNotEnd, DoubleAtInString, ControlTextDidNotEnd, FaultyConstant, IgnoredInCText, scanned}
+use Rattle.cweb_scan.proofs.Common.{◌≡◌, [], ◌∷◌, Blank, Newline, CommentDidNotEnd, StringDidNotEnd, DoubleAtInString, ControlTextDidNotEnd, FaultyConstant, IgnoredInCText, scanned}
 use Rattle.std.specs.Fmt.{digits}
-use Rattle.cweb_scan.proofs.RowWords.{at, line, part, fault, wanted}
+use Rattle.cweb_scan.proofs.RowWords.{web, word, number, literal, verbatim, punct, unnamed, fault, wanted}
 
 record Computed : Type 0 where
   -- comments: `/*/`, a pair, a section start
-  comments_a_pair_a_section_start : scanned (line (codes "@ @c /*/ a */ b /*@*/ c")
-      (at 0 1) ∷ line (codes "@ @c // x@ y") (at 0 2) ∷ line (codes "@ @c /* @") (at 0 3) ∷ [])
-      ≡ wanted [] (part Unnamed (Head 1 ∷ Mark (at 0 1) ∷ Word (codes "b") ∷ Tail 1 ∷ []) ∷ part Unnamed (Head 3 ∷ Mark
-      (at 0 2) ∷ Tail 3 ∷ []) ∷ part Unnamed (Head 5 ∷ Mark (at 0 3) ∷ Tail 5 ∷ []) ∷ []) [] (fault CommentDidNotEnd
-      (at 0 1) ∷ fault CommentDidNotEnd (at 0 2) ∷ fault CommentDidNotEnd (at 0 3) ∷ []) 6 (2 ∷ [])
+  comments_a_pair_a_section_start : scanned (web ("@ @c /*/ a */ b /*@*/ c" ∷ "@ @c // x@ y" ∷ "@ @c /* @" ∷ []))
+      ≡ wanted [] (unnamed 1 1 (word "b" ∷ []) ∷ unnamed 3 2 [] ∷ unnamed 5 3 [] ∷ []) [] (fault CommentDidNotEnd 1 ∷
+      fault CommentDidNotEnd 2 ∷ fault CommentDidNotEnd 3 ∷ []) 6 (2 ∷ [])
   -- a line comment that ends its line with `@`
-  a_line_comment_that_ends_its_line_with_sign : scanned
-      (line (codes "@ @c // x@") (at 0 1) ∷ line (codes "y") (at 0 2) ∷ []) ≡ wanted []
-      (part Unnamed (Head 1 ∷ Mark (at 0 1) ∷ Tail 1 ∷ []) ∷ []) [] (fault CommentDidNotEnd (at 0 1) ∷ []) 2 []
+  a_line_comment_that_ends_its_line_with_sign : scanned (web ("@ @c // x@" ∷ "y" ∷ []))
+      ≡ wanted [] (unnamed 1 1 [] ∷ []) [] (fault CommentDidNotEnd 1 ∷ []) 2 []
   -- literals: escapes, pairs, lone signs
-  literals_escapes_pairs_lone_signs : scanned
-      (line (codes "@ @c \"a\\\"b\" \"a\\@b\" \"a\\@@b\" '@' L\"@@\" u8'x' U\"y\" \"\\\\\"")
-      (at 0 1) ∷ line (codes "\"a\\") (at 0 2) ∷ line (codes "b@c\"d \"e") (at 0 3) ∷ []) ≡ wanted []
-      (part Unnamed (Head 1 ∷ Mark (at 0 1) ∷ Literal (codes "\"a\\\"b\"") ∷ Literal (codes "\"a\\@b\"") ∷ Literal
-      (codes "\"a\\@b\"") ∷ Literal (codes "'@'") ∷ Literal (codes "L\"@\"") ∷ Literal (codes "u8'x'") ∷ Literal
-      (codes "U\"y\"") ∷ Literal (codes "\"\\\\\"") ∷ Newline ∷ Literal (34 ∷ 97 ∷ 92 ∷ 10 ∷ 98 ∷ 64 ∷ 99 ∷ 34 ∷ [])
-      ∷ Word (codes "d") ∷ Literal (codes "\"e") ∷ Tail 1 ∷ []) ∷ []) [] (fault DoubleAtInString (at 0 1)
-      ∷ fault DoubleAtInString (at 0 1) ∷ fault DoubleAtInString (at 0 3) ∷ fault StringDidNotEnd (at 0 3) ∷ []) 1 []
+  literals_escapes_pairs_lone_signs : scanned (web
+      ("@ @c \"a\\\"b\" \"a\\@b\" \"a\\@@b\" '@' L\"@@\" u8'x' U\"y\" \"\\\\\"" ∷ "\"a\\" ∷ "b@c\"d \"e" ∷ []))
+      ≡ wanted [] (unnamed 1 1 (literal "\"a\\\"b\"" ∷ literal "\"a\\@b\"" ∷ literal "\"a\\@b\"" ∷ literal "'@'" ∷
+      literal "L\"@\"" ∷ literal "u8'x'" ∷ literal "U\"y\"" ∷ literal "\"\\\\\"" ∷ Newline ∷ literal "\"a\\\nb@c\"" ∷
+      word "d" ∷ literal "\"e" ∷ []) ∷ []) [] (fault DoubleAtInString 1 ∷ fault DoubleAtInString 1 ∷ fault
+      DoubleAtInString 3 ∷ fault StringDidNotEnd 3 ∷ []) 1 []
   -- a literal that ends with `\` at the end of the text
-  a_literal_that_ends_with_backslash_at_the_end_of_the_text : scanned (line (codes "@ @c \"a\\") (at 0 1) ∷ [])
-      ≡ wanted [] (part Unnamed (Head 1 ∷ Mark (at 0 1) ∷ Literal (codes "\"a\\") ∷ Tail 1 ∷ []) ∷ [])
-      [] (fault StringDidNotEnd (at 0 1) ∷ []) 1 []
+  a_literal_that_ends_with_backslash_at_the_end_of_the_text : scanned (web ("@ @c \"a\\" ∷ []))
+      ≡ wanted [] (unnamed 1 1 (literal "\"a\\" ∷ []) ∷ []) [] (fault StringDidNotEnd 1 ∷ []) 1 []
   -- included names
-  included_names : scanned (line (codes "@ @c") (at 0 1) ∷ line
-      (codes "# include <a@@b@c> <d>") (at 0 2) ∷ line (codes "#include/*c*/<x@>") (at 0 3) ∷ line (codes "#include <a")
-      (at 0 4) ∷ line (codes "#include x <y>") (at 0 5) ∷ line (codes "# a <b>") (at 0 6) ∷ []) ≡ wanted []
-      (part Unnamed (Head 1 ∷ Mark (at 0 1) ∷ Newline ∷ Punct (codes "#") ∷ Blank ∷ Word (codes "include") ∷ Blank
-      ∷ Literal (codes "<a@b@c>") ∷ Blank ∷ Punct (codes "<") ∷ Word (codes "d") ∷ Punct (codes ">") ∷ Newline ∷ Punct
-      (codes "#") ∷ Word (codes "include") ∷ Blank ∷ Literal (codes "<x@>") ∷ Newline ∷ Punct (codes "#") ∷ Word
-      (codes "include") ∷ Blank ∷ Punct (codes "<") ∷ Word (codes "a") ∷ Newline ∷ Punct (codes "#") ∷ Word
-      (codes "include") ∷ Blank ∷ Word (codes "x") ∷ Blank ∷ Punct (codes "<") ∷ Word (codes "y") ∷ Punct (codes ">")
-      ∷ Newline ∷ Punct (codes "#") ∷ Blank ∷ Word (codes "a") ∷ Blank ∷ Punct (codes "<") ∷ Word (codes "b") ∷ Punct
-      (codes ">") ∷ Tail 1 ∷ []) ∷ []) [] (fault DoubleAtInString (at 0 2) ∷ fault DoubleAtInString (at 0 3) ∷ []) 1 []
+  included_names : scanned (web ("@ @c" ∷ "# include <a@@b@c> <d>" ∷ "#include/*c*/<x@>" ∷ "#include <a" ∷
+      "#include x <y>" ∷ "# a <b>" ∷ []))
+      ≡ wanted [] (unnamed 1 1 (Newline ∷ punct "#" ∷ Blank ∷ word "include" ∷ Blank ∷ literal "<a@b@c>" ∷ Blank ∷ punct
+      "<" ∷ word "d" ∷ punct ">" ∷ Newline ∷ punct "#" ∷ word "include" ∷ Blank ∷ literal "<x@>" ∷ Newline ∷ punct "#" ∷
+      word "include" ∷ Blank ∷ punct "<" ∷ word "a" ∷ Newline ∷ punct "#" ∷ word "include" ∷ Blank ∷ word "x" ∷ Blank ∷
+      punct "<" ∷ word "y" ∷ punct ">" ∷ Newline ∷ punct "#" ∷ Blank ∷ word "a" ∷ Blank ∷ punct "<" ∷ word "b" ∷ punct
+      ">" ∷ []) ∷ []) [] (fault DoubleAtInString 2 ∷ fault DoubleAtInString 3 ∷ []) 1 []
   -- numbers and punctuators
-  numbers_and_punctuators : scanned (line (codes "@ @c 1.5e+3-.5 0xe+1 1..2 a->*b...c..d ::e.*f <<=>>=1")
-      (at 0 1) ∷ line (64 ∷ 32 ∷ 64 ∷ 99 ∷ 32 ∷ 36 ∷ 97 ∷ 95 ∷ 128 ∷ 98 ∷ 32 ∷ 128 ∷ 32 ∷ 35 ∷ []) (at 0 2) ∷ [])
-      ≡ wanted [] (part Unnamed (Head 1 ∷ Mark (at 0 1) ∷ Number (codes "1.5e+3") ∷ Punct (codes "-") ∷ Number
-      (codes ".5") ∷ Number (codes "0xe+1") ∷ Number (codes "1..2") ∷ Word (codes "a") ∷ Punct (codes "->*") ∷ Word
-      (codes "b") ∷ Punct (codes "...") ∷ Word (codes "c") ∷ Punct (codes ".") ∷ Punct (codes ".") ∷ Word
-      (codes "d") ∷ Punct (codes "::") ∷ Word (codes "e") ∷ Punct (codes ".*") ∷ Word (codes "f") ∷ Punct (codes "<<=")
-      ∷ Punct (codes ">>=") ∷ Number (codes "1") ∷ Newline ∷ Tail 1 ∷ []) ∷ part Unnamed (Head 2 ∷ Mark (at 0 2) ∷ Word
-      (36 ∷ 97 ∷ 95 ∷ 128 ∷ 98 ∷ []) ∷ Word (128 ∷ []) ∷ Punct (codes "#") ∷ Tail 2 ∷ []) ∷ []) [] [] 2 []
+  numbers_and_punctuators : scanned (web ("@ @c 1.5e+3-.5 0xe+1 1..2 a->*b...c..d ::e.*f <<=>>=1" ∷
+      "@ @c $a_\u{80}b \u{80} #" ∷ [])) ≡ wanted [] (unnamed 1 1 (number "1.5e+3" ∷ punct "-" ∷ number ".5" ∷ number
+      "0xe+1" ∷ number "1..2" ∷ word "a" ∷ punct "->*" ∷ word "b" ∷ punct "..." ∷ word "c" ∷ punct "." ∷ punct "." ∷
+      word "d" ∷ punct "::" ∷ word "e" ∷ punct ".*" ∷ word "f" ∷ punct "<<=" ∷ punct ">>=" ∷ number "1" ∷ Newline ∷ [])
+      ∷ unnamed 2 2 (word "$a_\u{80}b" ∷ word "\u{80}" ∷ punct "#" ∷ []) ∷ []) [] [] 2 []
   -- constants
-  constants : scanned (line (codes "@ @c @'@@'@'\\n'@'\\101'@'\\400'@''@'\\''@'ab'@'\\x'@'\\1234'@' '@'\\0'")
-      (at 0 1) ∷ line (codes "@'@'@'\\\\'@'a") (at 0 2) ∷ []) ≡ wanted [] (part Unnamed (Head 1 ∷ Mark
-      (at 0 1) ∷ Number (codes "64") ∷ Number (codes "10") ∷ Number (codes "65") ∷ Number (codes "39") ∷ Number
-      (codes "32") ∷ Number (codes "0") ∷ Newline ∷ Number (codes "92") ∷ Tail 1 ∷ []) ∷ []) [] (fault FaultyConstant
-      (at 0 1) ∷ fault FaultyConstant (at 0 1) ∷ fault FaultyConstant (at 0 1) ∷ fault FaultyConstant (at 0 1)
-      ∷ fault FaultyConstant (at 0 1) ∷ fault FaultyConstant (at 0 2) ∷ fault FaultyConstant (at 0 2) ∷ []) 1 []
+  constants : scanned (web ("@ @c @'@@'@'\\n'@'\\101'@'\\400'@''@'\\''@'ab'@'\\x'@'\\1234'@' '@'\\0'" ∷ "@'@'@'\\\\'@'a"
+      ∷ [])) ≡ wanted [] (unnamed 1 1 (number "64" ∷ number "10" ∷ number "65" ∷ number "39" ∷ number "32" ∷ number "0"
+      ∷ Newline ∷ number "92" ∷ []) ∷ []) [] (fault FaultyConstant 1 ∷ fault FaultyConstant 1 ∷ fault FaultyConstant 1 ∷
+      fault FaultyConstant 1 ∷ fault FaultyConstant 1 ∷ fault FaultyConstant 2 ∷ fault FaultyConstant 2 ∷ []) 1 []
   -- verbatim text
-  verbatim_text : scanned (line (codes "@ @c a@=v@@w@>b@=c@x@=d") (at 0 1) ∷ line (codes "e") (at 0 2) ∷ [])
-      ≡ wanted [] (part Unnamed (Head 1 ∷ Mark (at 0 1)
-      ∷ Word (codes "a") ∷ Verbatim (codes "v@w") ∷ Word (codes "b") ∷ Newline ∷ Word (codes "e") ∷ Tail 1 ∷ []) ∷ [])
-      [] (fault ControlTextDidNotEnd (at 0 1) ∷ fault ControlTextDidNotEnd (at 0 1) ∷ []) 1 []
+  verbatim_text : scanned (web ("@ @c a@=v@@w@>b@=c@x@=d" ∷ "e" ∷ []))
+      ≡ wanted [] (unnamed 1 1 (word "a" ∷ verbatim "v@w" ∷ word "b" ∷ Newline ∷ word "e" ∷ []) ∷ []) [] (fault
+      ControlTextDidNotEnd 1 ∷ fault ControlTextDidNotEnd 1 ∷ []) 1 []
   -- control texts
-  control_texts : scanned (line (codes "@ @c @t a@@b@>c@^d") (at 0 1) ∷ line (codes "@.e@f@:g@> h") (at 0 2) ∷ line
-      (codes "@q") (at 0 3) ∷ []) ≡ wanted [] (part Unnamed (Head 1 ∷ Mark (at 0 1) ∷ Word (codes "c") ∷ Newline ∷ Word
-      (codes "h") ∷ Newline ∷ Tail 1 ∷ []) ∷ []) [] (fault ControlTextDidNotEnd (at 0 1) ∷ fault ControlTextDidNotEnd
-      (at 0 2) ∷ fault IgnoredInCText (at 0 2) ∷ fault ControlTextDidNotEnd (at 0 3) ∷ []) 1 []
+  control_texts : scanned (web ("@ @c @t a@@b@>c@^d" ∷ "@.e@f@:g@> h" ∷ "@q" ∷ []))
+      ≡ wanted [] (unnamed 1 1 (word "c" ∷ Newline ∷ word "h" ∷ Newline ∷ []) ∷ []) [] (fault ControlTextDidNotEnd 1 ∷
+      fault ControlTextDidNotEnd 2 ∷ fault IgnoredInCText 2 ∷ fault ControlTextDidNotEnd 3 ∷ []) 1 []
 
 computed : Computed
 unfolding digits
-computed = search refl
+computed = search

@@ -1,93 +1,61 @@
 -- Webs of all kinds, computed.
-use Rattle.cweb_scan.proofs.Common.{◌≡◌, [], ◌∷◌, refl, true, false, codes, Full, Prefix, Unnamed, Word, Number, Literal, Verbatim, Punct, Blank, Newline, Join, Defs, Name, Head, Tail, Mark, StringDidNotEnd, scanned}
+use Rattle.cweb_scan.proofs.Common.{◌≡◌, [], ◌∷◌, Blank, Newline, Join, Defs, Mark, StringDidNotEnd, scanned}
 use Rattle.std.specs.Fmt.{digits}
-use Rattle.cweb_store.specs.declared.parts.PartKind.TheVariants.{Named, Macro}
-use Rattle.cweb_scan.proofs.RowWords.{at, ref, line, occ, part, repl, fault, wanted}
+use Rattle.cweb_scan.proofs.RowWords.{web, line, at, word, number, literal, verbatim, punct, mark, named, name, file, prefix, macro, unnamed, named_part, repl, fault, wanted}
 
 record Computed : Type 0 where
-  two_sections : scanned (line (codes "@ Hello.") (at 0 1) ∷ line (codes "@c") (at 0 2) ∷ line
-      (codes "#include <stdio.h>") (at 0 3) ∷ line (codes "int main(void) { @<Greet@> return 0; }") (at 0 4) ∷ line
-      (codes "@ @<Greet@>=") (at 0 5) ∷ line (codes "puts(\"hi\");") (at 0 6) ∷ []) ≡ wanted (occ (codes "Greet")
-      Full false ∷ occ (codes "Greet") Full false ∷ []) (part Unnamed (Head 1 ∷ Mark (at 0 2) ∷ Newline ∷ Punct
-      (codes "#") ∷ Word (codes "include") ∷ Blank ∷ Literal (codes "<stdio.h>") ∷ Newline ∷ Word (codes "int") ∷ Word
-      (codes "main") ∷ Punct (codes "(") ∷ Word (codes "void") ∷ Punct (codes ")") ∷ Punct (codes "{") ∷ Name
-      (ref 0) ∷ Mark (at 0 4) ∷ Word (codes "return") ∷ Number (codes "0") ∷ Punct (codes ";") ∷ Punct (codes "}")
-      ∷ Newline ∷ Tail 1 ∷ []) ∷ part (Named (ref 1)) (Head 2 ∷ Mark (at 0 5) ∷ Newline ∷ Word (codes "puts") ∷ Punct
-      (codes "(") ∷ Literal (codes "\"hi\"") ∷ Punct (codes ")") ∷ Punct (codes ";") ∷ Tail 2 ∷ []) ∷ []) [] [] 2 []
-  operators_side_by_side : scanned (line (codes "@ @c") (at 0 1) ∷ line (codes "x= -1; a*-b; y=0xe + 1; q=a/@<X@>;")
-      (at 0 2) ∷ line (codes "@ @<X@>= b") (at 0 3) ∷ []) ≡ wanted (occ (codes "X") Full false ∷ occ (codes "X")
-      Full false ∷ []) (part Unnamed (Head 1 ∷ Mark (at 0 1) ∷ Newline ∷ Word (codes "x") ∷ Punct (codes "=") ∷ Punct
-      (codes "-") ∷ Number (codes "1") ∷ Punct (codes ";") ∷ Word (codes "a") ∷ Punct (codes "*") ∷ Punct
-      (codes "-") ∷ Word (codes "b") ∷ Punct (codes ";") ∷ Word (codes "y") ∷ Punct (codes "=") ∷ Number (codes "0xe")
-      ∷ Punct (codes "+") ∷ Number (codes "1") ∷ Punct (codes ";") ∷ Word (codes "q") ∷ Punct (codes "=") ∷ Word
-      (codes "a") ∷ Punct (codes "/") ∷ Name (ref 0) ∷ Mark (at 0 2) ∷ Punct (codes ";") ∷ Newline ∷ Tail 1 ∷ []) ∷ part
-      (Named (ref 1)) (Head 2 ∷ Mark (at 0 3) ∷ Word (codes "b") ∷ Tail 2 ∷ []) ∷ []) [] [] 2 []
-  macros : scanned (line (codes "@ Macros.") (at 0 1) ∷ line (codes "@d f(x) x+1") (at 0 2) ∷ line (codes "@d g (x)")
-      (at 0 3) ∷ line (codes "@d N") (at 0 4) ∷ line (codes "@d two 1+") (at 0 5) ∷ line (codes "  2") (at 0 6) ∷ line
-      (codes "@c") (at 0 7) ∷ line (codes "f(3)") (at 0 8) ∷ []) ≡ wanted [] (part Macro (Word (codes "f") ∷ Punct
-      (codes "(") ∷ Word (codes "x") ∷ Punct (codes ")") ∷ Word (codes "x") ∷ Punct (codes "+") ∷ Number (codes "1")
-      ∷ []) ∷ part Macro (Word (codes "g") ∷ Blank ∷ Punct (codes "(") ∷ Word (codes "x") ∷ Punct (codes ")") ∷ [])
-      ∷ part Macro (Word (codes "N") ∷ []) ∷ part Macro (Word (codes "two") ∷ Blank ∷ Number (codes "1") ∷ Punct
-      (codes "+") ∷ Newline ∷ Number (codes "2") ∷ []) ∷ part Unnamed (Head 1 ∷ Mark (at 0 7) ∷ Newline ∷ Word
-      (codes "f") ∷ Punct (codes "(") ∷ Number (codes "3") ∷ Punct (codes ")") ∷ Tail 1 ∷ []) ∷ []) [] [] 1 []
-  macros_at_a_code : scanned (line (codes "@ Macros.") (at 0 1) ∷ line (codes "@d f(x) x+1")
-      (at 0 2) ∷ line (codes "@d g (x)") (at 0 3) ∷ line (codes "@d N") (at 0 4) ∷ line (codes "@d two 1+")
-      (at 0 5) ∷ line (codes "  2") (at 0 6) ∷ line (codes "@c") (at 0 7) ∷ line (codes "@h f(3)") (at 0 8) ∷ [])
-      ≡ wanted [] (part Macro (Word (codes "f") ∷ Punct (codes "(") ∷ Word
-      (codes "x") ∷ Punct (codes ")") ∷ Word (codes "x") ∷ Punct (codes "+") ∷ Number (codes "1") ∷ []) ∷ part Macro
-      (Word (codes "g") ∷ Blank ∷ Punct (codes "(") ∷ Word (codes "x") ∷ Punct (codes ")") ∷ []) ∷ part Macro
-      (Word (codes "N") ∷ []) ∷ part Macro (Word (codes "two") ∷ Blank ∷ Number (codes "1") ∷ Punct (codes "+") ∷
-      Newline ∷ Number (codes "2") ∷ []) ∷ part Unnamed (Head 1 ∷ Mark (at 0 7) ∷ Newline ∷ Defs ∷ Mark (at 0 8) ∷ Word
-      (codes "f") ∷ Punct (codes "(") ∷ Number (codes "3") ∷ Punct (codes ")") ∷ Tail 1 ∷ []) ∷ []) [] [] 1 []
-  joins_constants_and_verbatim_text : scanned (line (codes "@ @c") (at 0 1)
-      ∷ line (codes "foo@&") (at 0 2) ∷ line (98 ∷ 97 ∷ 114 ∷ 32 ∷ 64 ∷ 39 ∷ 97 ∷ 39 ∷ 32 ∷ 64 ∷ 39 ∷ 92 ∷ 116 ∷ 39
-      ∷ 32 ∷ 64 ∷ 61 ∷ 97 ∷ 32 ∷ 32 ∷ 98 ∷ 64 ∷ 62 ∷ 32 ∷ 102 ∷ 252 ∷ 114 ∷ []) (at 0 3) ∷ []) ≡ wanted [] (part Unnamed
-      (Head 1 ∷ Mark (at 0 1) ∷ Newline ∷ Word (codes "foo") ∷ Join ∷ Newline ∷ Word (codes "bar") ∷ Number (codes "97")
-      ∷ Number (codes "9") ∷ Verbatim (codes "a  b") ∷ Word (102 ∷ 252 ∷ 114 ∷ []) ∷ Tail 1 ∷ []) ∷ []) [] [] 1 []
-  a_letter_with_a_replacement : scanned (line (codes "@l fc ue") (at 0 1) ∷ line (codes "@ @c") (at 0 2) ∷ line
-      (codes "foo@&") (at 0 3) ∷ line (98 ∷ 97 ∷ 114 ∷ 32 ∷ 64 ∷ 39 ∷ 97 ∷ 39 ∷ 32 ∷ 64 ∷ 39 ∷ 92 ∷ 116 ∷ 39
-      ∷ 32 ∷ 64 ∷ 61 ∷ 97 ∷ 32 ∷ 32 ∷ 98 ∷ 64 ∷ 62 ∷ 32 ∷ 102 ∷ 252 ∷ 114 ∷ []) (at 0 4) ∷ []) ≡ wanted [] (part Unnamed
-      (Head 1 ∷ Mark (at 0 2) ∷ Newline ∷ Word (codes "foo") ∷ Join ∷ Newline ∷ Word (codes "bar") ∷ Number
-      (codes "97") ∷ Number (codes "9") ∷ Verbatim (codes "a  b") ∷ Word (102 ∷ 252 ∷ 114 ∷ []) ∷ Tail 1 ∷ []) ∷ [])
-      (repl 252 (codes "ue") ∷ []) [] 1 []
-  a_file_and_a_literal_that_did_not_end : scanned
-      (line (codes "@ @d M 1") (at 0 1) ∷ line (codes "@(a.h@>=") (at 0 2) ∷ line (codes "int m=\"x") (at 0 3) ∷ [])
-      ≡ wanted (occ (codes "a.h") Full true ∷ []) (part Macro (Word (codes "M") ∷ Blank ∷ Number (codes "1") ∷ [])
-      ∷ part (Named (ref 0)) (Head 1 ∷ Mark (at 0 2) ∷ Newline ∷ Word (codes "int") ∷ Word (codes "m")
-      ∷ Punct (codes "=") ∷ Literal (codes "\"x") ∷ Tail 1 ∷ []) ∷ []) [] (fault StringDidNotEnd (at 0 3) ∷ []) 1 []
-  a_directive_over_a_comment : scanned
-      (line (codes "@ @c") (at 0 1) ∷ line (codes "#define A /* one") (at 0 2) ∷ line (codes "two */ 1") (at 0 3) ∷ line
-      (codes "int b; // end") (at 0 4) ∷ line (codes "/*") (at 0 5) ∷ line (codes "*/ c;") (at 0 6) ∷ []) ≡ wanted []
-      (part Unnamed (Head 1 ∷ Mark (at 0 1) ∷ Newline ∷ Punct (codes "#") ∷ Word (codes "define") ∷ Blank ∷ Word
-      (codes "A") ∷ Blank ∷ Number (codes "1") ∷ Mark (at 0 4) ∷ Word (codes "int") ∷ Word (codes "b") ∷ Punct
-      (codes ";") ∷ Newline ∷ Newline ∷ Word (codes "c") ∷ Punct (codes ";") ∷ Tail 1 ∷ []) ∷ []) [] [] 1 []
-  a_directive_over_a_backslash : scanned (line (codes "@ @c")
-      (at 0 1) ∷ line (codes "#define A \\") (at 0 2) ∷ line (codes "1") (at 0 3) ∷ line (codes "int b; // end")
-      (at 0 4) ∷ line (codes "/*") (at 0 5) ∷ line (codes "*/ c;") (at 0 6) ∷ []) ≡ wanted [] (part Unnamed
-      (Head 1 ∷ Mark (at 0 1) ∷ Newline ∷ Punct (codes "#") ∷ Word (codes "define") ∷ Blank ∷ Word (codes "A") ∷ Blank ∷
-      Punct (codes "\\") ∷ Newline ∷ Number (codes "1") ∷ Mark (at 0 4) ∷ Word (codes "int") ∷ Word (codes "b") ∷ Punct
-      (codes ";") ∷ Newline ∷ Newline ∷ Word (codes "c") ∷ Punct (codes ";") ∷ Tail 1 ∷ []) ∷ []) [] [] 1 []
-  an_abbreviation : scanned (line (codes "@ @c") (at 0 1) ∷ line (codes "@<Glob...@>")
-      (at 0 2) ∷ line (codes "@ @<Global variables@>=") (at 0 3) ∷ line (codes "int g;") (at 0 4) ∷ []) ≡ wanted
-      (occ (codes "Glob") Prefix false ∷ occ (codes "Global variables") Full false ∷ []) (part Unnamed (Head 1 ∷ Mark
-      (at 0 1) ∷ Newline ∷ Name (ref 0) ∷ Mark (at 0 2) ∷ Newline ∷ Tail 1 ∷ []) ∷ part (Named (ref 1)) (Head 2 ∷ Mark
-      (at 0 3) ∷ Newline ∷ Word (codes "int") ∷ Word (codes "g") ∷ Punct (codes ";") ∷ Tail 2 ∷ []) ∷ []) [] [] 2 []
-  a_name_with_two_parts : scanned (line (codes "@ @c @<A@>")
-      (at 0 1) ∷ line (codes "@ @<A@>= a;") (at 0 2) ∷ line (codes "@ @<A@>+= b;") (at 0 3) ∷ [])
-      ≡ wanted (occ (codes "A") Full false ∷ occ (codes "A") Full false ∷ occ (codes "A") Full false ∷ [])
-      (part Unnamed (Head 1 ∷ Mark (at 0 1) ∷ Name (ref 0) ∷ Mark (at 0 1) ∷ Newline ∷ Tail 1 ∷ []) ∷ part
-      (Named (ref 1)) (Head 2 ∷ Mark (at 0 2) ∷ Word (codes "a") ∷ Punct (codes ";") ∷ Newline ∷ Tail 2 ∷ []) ∷ part
-      (Named (ref 2)) (Head 3 ∷ Mark (at 0 3) ∷ Word (codes "b") ∷ Punct (codes ";") ∷ Tail 3 ∷ []) ∷ []) [] [] 3 []
-  lines_of_two_files : scanned (line (codes "@ @c") (at 0 1) ∷ line
-      (codes "a;") (at 0 2) ∷ line (codes "B;") (at 1 4) ∷ line (codes "c;") (at 0 4) ∷ []) ≡ wanted [] (part Unnamed
-      (Head 1 ∷ Mark (at 0 1) ∷ Newline ∷ Word (codes "a") ∷ Punct (codes ";") ∷ Mark (at 1 4) ∷ Word (codes "B")
-      ∷ Punct (codes ";") ∷ Mark (at 0 4) ∷ Word (codes "c") ∷ Punct (codes ";") ∷ Tail 1 ∷ []) ∷ []) [] [] 1 []
-  a_file_named_like_the_main_one : scanned (line (codes "@ @(h.c@>= x") (at 0 1) ∷ []) ≡ wanted (occ (codes "h.c")
-      Full true ∷ []) (part (Named (ref 0)) (Head 1 ∷ Mark (at 0 1) ∷ Word (codes "x") ∷ Tail 1 ∷ []) ∷ []) [] [] 1 []
-  a_file_without_a_name : scanned (line (codes "@ @(@>= x") (at 0 1) ∷ []) ≡ wanted (occ [] Full true ∷ [])
-      (part (Named (ref 0)) (Head 1 ∷ Mark (at 0 1) ∷ Word (codes "x") ∷ Tail 1 ∷ []) ∷ []) [] [] 1 []
+  two_sections : scanned (web ("@ Hello." ∷ "@c" ∷ "#include <stdio.h>" ∷ "int main(void) { @<Greet@> return 0; }" ∷
+      "@ @<Greet@>=" ∷ "puts(\"hi\");" ∷ []))
+      ≡ wanted (name "Greet" ∷ name "Greet" ∷ []) (unnamed 1 2 (Newline ∷ punct "#" ∷ word "include" ∷ Blank ∷ literal
+      "<stdio.h>" ∷ Newline ∷ word "int" ∷ word "main" ∷ punct "(" ∷ word "void" ∷ punct ")" ∷ punct "{" ∷ named 0 ∷
+      mark 4 ∷ word "return" ∷ number "0" ∷ punct ";" ∷ punct "}" ∷ Newline ∷ []) ∷ named_part 1 2 5 (Newline ∷ word
+      "puts" ∷ punct "(" ∷ literal "\"hi\"" ∷ punct ")" ∷ punct ";" ∷ []) ∷ []) [] [] 2 []
+  operators_side_by_side : scanned (web ("@ @c" ∷ "x= -1; a*-b; y=0xe + 1; q=a/@<X@>;" ∷ "@ @<X@>= b" ∷ []))
+      ≡ wanted (name "X" ∷ name "X" ∷ []) (unnamed 1 1 (Newline ∷ word "x" ∷ punct "=" ∷ punct "-" ∷ number "1" ∷ punct
+      ";" ∷ word "a" ∷ punct "*" ∷ punct "-" ∷ word "b" ∷ punct ";" ∷ word "y" ∷ punct "=" ∷ number "0xe" ∷ punct "+" ∷
+      number "1" ∷ punct ";" ∷ word "q" ∷ punct "=" ∷ word "a" ∷ punct "/" ∷ named 0 ∷ mark 2 ∷ punct ";" ∷ Newline ∷
+      []) ∷ named_part 1 2 3 (word "b" ∷ []) ∷ []) [] [] 2 []
+  macros : scanned (web ("@ Macros." ∷ "@d f(x) x+1" ∷ "@d g (x)" ∷ "@d N" ∷ "@d two 1+" ∷ "  2" ∷ "@c" ∷ "f(3)" ∷ []))
+      ≡ wanted [] (macro (word "f" ∷ punct "(" ∷ word "x" ∷ punct ")" ∷ word "x" ∷ punct "+" ∷ number "1" ∷ []) ∷ macro
+      (word "g" ∷ Blank ∷ punct "(" ∷ word "x" ∷ punct ")" ∷ []) ∷ macro (word "N" ∷ []) ∷ macro (word "two" ∷ Blank ∷
+      number "1" ∷ punct "+" ∷ Newline ∷ number "2" ∷ []) ∷ unnamed 1 7 (Newline ∷ word "f" ∷ punct "(" ∷ number "3" ∷
+      punct ")" ∷ []) ∷ []) [] [] 1 []
+  macros_at_a_code : scanned (web ("@ Macros." ∷ "@d f(x) x+1" ∷ "@d g (x)" ∷ "@d N" ∷ "@d two 1+" ∷ "  2" ∷ "@c" ∷
+      "@h f(3)" ∷ [])) ≡ wanted [] (macro (word "f" ∷ punct "(" ∷ word "x" ∷ punct ")" ∷ word "x" ∷ punct "+" ∷ number
+      "1" ∷ []) ∷ macro (word "g" ∷ Blank ∷ punct "(" ∷ word "x" ∷ punct ")" ∷ []) ∷ macro (word "N" ∷ []) ∷ macro (word
+      "two" ∷ Blank ∷ number "1" ∷ punct "+" ∷ Newline ∷ number "2" ∷ []) ∷ unnamed 1 7 (Newline ∷ Defs ∷ mark 8 ∷ word
+      "f" ∷ punct "(" ∷ number "3" ∷ punct ")" ∷ []) ∷ []) [] [] 1 []
+  joins_constants_and_verbatim_text : scanned (web ("@ @c" ∷ "foo@&" ∷ "bar @'a' @'\\t' @=a  b@> für" ∷ []))
+      ≡ wanted [] (unnamed 1 1 (Newline ∷ word "foo" ∷ Join ∷ Newline ∷ word "bar" ∷ number "97" ∷ number "9" ∷ verbatim
+      "a  b" ∷ word "für" ∷ []) ∷ []) [] [] 1 []
+  a_letter_with_a_replacement : scanned (web ("@l fc ue" ∷ "@ @c" ∷ "foo@&" ∷ "bar @'a' @'\\t' @=a  b@> für" ∷ []))
+      ≡ wanted [] (unnamed 1 2 (Newline ∷ word "foo" ∷ Join ∷ Newline ∷ word "bar" ∷ number "97" ∷ number "9" ∷ verbatim
+      "a  b" ∷ word "für" ∷ []) ∷ []) (repl 252 "ue" ∷ []) [] 1 []
+  a_file_and_a_literal_that_did_not_end : scanned (web ("@ @d M 1" ∷ "@(a.h@>=" ∷ "int m=\"x" ∷ []))
+      ≡ wanted (file "a.h" ∷ []) (macro (word "M" ∷ Blank ∷ number "1" ∷ []) ∷ named_part 0 1 2 (Newline ∷ word "int" ∷
+      word "m" ∷ punct "=" ∷ literal "\"x" ∷ []) ∷ []) [] (fault StringDidNotEnd 3 ∷ []) 1 []
+  a_directive_over_a_comment : scanned (web ("@ @c" ∷ "#define A /* one" ∷ "two */ 1" ∷ "int b; // end" ∷ "/*" ∷ "*/ c;"
+      ∷ [])) ≡ wanted [] (unnamed 1 1 (Newline ∷ punct "#" ∷ word "define" ∷ Blank ∷ word "A" ∷ Blank ∷ number "1" ∷
+      mark 4 ∷ word "int" ∷ word "b" ∷ punct ";" ∷ Newline ∷ Newline ∷ word "c" ∷ punct ";" ∷ []) ∷ []) [] [] 1 []
+  a_directive_over_a_backslash : scanned (web ("@ @c" ∷ "#define A \\" ∷ "1" ∷ "int b; // end" ∷ "/*" ∷ "*/ c;" ∷ []))
+      ≡ wanted [] (unnamed 1 1 (Newline ∷ punct "#" ∷ word "define" ∷ Blank ∷ word "A" ∷ Blank ∷ punct "\\" ∷ Newline ∷
+      number "1" ∷ mark 4 ∷ word "int" ∷ word "b" ∷ punct ";" ∷ Newline ∷ Newline ∷ word "c" ∷ punct ";" ∷ []) ∷ []) []
+      [] 1 []
+  an_abbreviation : scanned (web ("@ @c" ∷ "@<Glob...@>" ∷ "@ @<Global variables@>=" ∷ "int g;" ∷ []))
+      ≡ wanted (prefix "Glob" ∷ name "Global variables" ∷ []) (unnamed 1 1 (Newline ∷ named 0 ∷ mark 2 ∷ Newline ∷ []) ∷
+      named_part 1 2 3 (Newline ∷ word "int" ∷ word "g" ∷ punct ";" ∷ []) ∷ []) [] [] 2 []
+  a_name_with_two_parts : scanned (web ("@ @c @<A@>" ∷ "@ @<A@>= a;" ∷ "@ @<A@>+= b;" ∷ []))
+      ≡ wanted (name "A" ∷ name "A" ∷ name "A" ∷ []) (unnamed 1 1 (named 0 ∷ mark 1 ∷ Newline ∷ []) ∷ named_part 1 2 2
+      (word "a" ∷ punct ";" ∷ Newline ∷ []) ∷ named_part 2 3 3 (word "b" ∷ punct ";" ∷ []) ∷ []) [] [] 3 []
+  lines_of_two_files : scanned (line "@ @c" (at 0 1) ∷ line "a;" (at 0 2) ∷ line "B;" (at 1 4) ∷ line "c;" (at 0 4) ∷
+      []) ≡ wanted [] (unnamed 1 1 (Newline ∷ word "a" ∷ punct ";" ∷ Mark (at 1 4) ∷ word "B" ∷ punct ";" ∷ mark 4 ∷
+      word "c" ∷ punct ";" ∷ []) ∷ []) [] [] 1 []
+  a_file_named_like_the_main_one : scanned (web ("@ @(h.c@>= x" ∷ []))
+      ≡ wanted (file "h.c" ∷ []) (named_part 0 1 1 (word "x" ∷ []) ∷ []) [] [] 1 []
+  a_file_without_a_name : scanned (web ("@ @(@>= x" ∷ []))
+      ≡ wanted (file "" ∷ []) (named_part 0 1 1 (word "x" ∷ []) ∷ []) [] [] 1 []
   an_empty_web : scanned [] ≡ wanted [] [] [] [] 0 []
 
 computed : Computed
 unfolding digits
-computed = search refl
+computed = search

@@ -1,10 +1,10 @@
 -- What is taken in one turn in a macro and in C text, by the first rule that fits.
-use Rattle.cweb_scan.proofs.Common.{◌≡◌, ◌≤◌, ℕ, Bool, true, false, ◌&&◌, List, [], ◌∷◌, length, drop, take, refl, ap, sym, ◌∙◌, if◌then◌else◌, codes, ne_eqb, begins, first_is, is_blank, is_line_end, is_word_byte, at_line_end, starts_section, in_macro, front_in, c_front, starts_raw, starts_literal, starts_include, Skipped, front, IsLine, opens_in, c_opens, c_rule, starts_number, Context, Limbo, TeX, Definition, Macro, CText, Rule, Reading, names_include, ends_in_line, is_head, needs_two, Held, Passes, has_part, Between, moved}
+use Rattle.cweb_scan.proofs.Common.{◌≡◌, ◌≤◌, ℕ, Bool, true, false, ◌&&◌, List, [], ◌∷◌, length, drop, take, refl, ap, sym, ◌∙◌, if◌then◌else◌, codes, ne_eqb, begins, first_is, is_line_end, at_line_end, in_macro, front_in, c_front, Skipped, front, IsLine, opens_in, c_opens, c_rule, Context, Macro, CText, Rule, Reading, names_include, ends_in_line, is_head, needs_two, Held, Passes, has_part, Between, moved}
 use Rattle.cweb_rules.specs.declared.rule.Rule.TheVariants as rule
 use Rattle.cweb_rules.proofs.Sizes.{begins-size}
 use Rattle.cweb_scanner.proofs.CodeTurns.{closed_at}
 use Rattle.cweb_scanner.proofs.Ends.{none_to_come}
-use Rattle.cweb_scanner.proofs.Turns.{later, now, neither, tail_is}
+use Rattle.cweb_scanner.proofs.Turns.{IsSeen, seen}
 use Rattle.cweb_scanner.proofs.RuleTurns.{closes}
 
 -- in a part no head is open
@@ -30,55 +30,21 @@ abbrev pub is_ended : Rule → Bool
 is_ended rule.LineEnd = true
 is_ended r = false
 
-abbrev pub is_line_comment : Rule → Bool
-is_line_comment rule.LineComment = true
-is_line_comment r = false
-
 no_line_end : (u : List ℕ) → IsLine u → first_is is_line_end u ≡ false
 no_line_end [] h = refl
 no_line_end (b ∷ t) h = ne_eqb b 10 h.0
 
-from_code : (is : Rule → Bool) (includes : Bool) (u : List ℕ) → is rule.Code ≡ false → is rule.RawLiteral ≡ false
-    → is rule.Literal ≡ false → is rule.IncludedName ≡ false → is rule.Number ≡ false → is rule.Identifier ≡ false
-    → is rule.Punctuator ≡ false → is (if begins (codes "@") u then rule.Code else (if starts_raw u then rule.RawLiteral
-    else (if starts_literal u then rule.Literal else (if includes && starts_include u then rule.IncludedName else (if
-    starts_number u then rule.Number else (if first_is is_word_byte u then rule.Identifier else rule.Punctuator))))))
-    ≡ false
-from_code is includes u c r l n m i p =
-    neither is (begins (codes "@") u) _ _ c (neither is (starts_raw u) _ _ r (neither is (starts_literal u) _ _ l
-    (tail_is is (includes && starts_include u) (starts_number u) (first_is is_word_byte u) n m i p)))
-
 -- no line end stands in a line
 pub rule_in_line : (includes : Bool) (u : List ℕ) → IsLine u → is_ended (c_rule includes u) ≡ false
-rule_in_line includes u line =
-    let is = is_ended in
-    let y : Rule = if begins (codes "/*") u then rule.Comment else
-    (if begins (codes "//") u then rule.LineComment else (if starts_section u then rule.Section else
-    (if begins (codes "@") u then rule.Code else (if starts_raw u then rule.RawLiteral else (if starts_literal
-    u then rule.Literal else (if includes && starts_include u then rule.IncludedName else (if starts_number
-    u then rule.Number else (if first_is is_word_byte u then rule.Identifier else rule.Punctuator)))))))) in
-    neither is (first_is is_blank u) rule.Blanks (if first_is is_line_end u then rule.LineEnd else y) refl
-    (ap (λ v. is_ended (if v then rule.LineEnd else y)) (no_line_end u line)
-    ∙ neither is (begins (codes "/*") u) _ _ refl (neither is (begins (codes "//") u) _ _ refl
-    (neither is (starts_section u) _ _ refl (from_code is includes u refl refl refl refl refl refl refl))))
-
-pub line_comment_seen : (includes : Bool) (u : List ℕ)
-    → is_line_comment (c_rule includes u) ≡ true → begins (codes "//") u ≡ true
-line_comment_seen includes u h =
-    let is = is_line_comment in
-    let h0 = later is (first_is is_blank u) _ _ refl h in
-    let h1 = later is (first_is is_line_end u) _ _ refl h0.1 in
-    let h2 = later is (begins (codes "/*") u) _ _ refl h1.1 in
-    now is (begins (codes "//") u) rule.LineComment _ (neither is
-    (starts_section u) rule.Section _ refl (from_code is includes u refl refl refl refl refl refl refl)) h2.1
-
-two_same : (r : Rule) → needs_two r ≡ is_line_comment r
-two_same rule.Blanks = refl
-two_same _ = refl
+rule_in_line includes u line = by (c_rule includes u) (seen includes u _ refl)
+  where
+    by : (r : Rule) → IsSeen u r → is_ended r ≡ false
+    by rule.LineEnd s = let wrong : true ≡ false = sym s ∙ no_line_end u line in cc
+    by _ s = refl
 
 pub two_fit : (includes : Bool) (u : List ℕ) (r : Rule) → r ≡ c_rule includes u → needs_two r ≡ true → 2 ≤ length u
-two_fit includes u r is h =
-    begins-size (codes "//") u (line_comment_seen includes u (ap is_line_comment (sym is) ∙ sym (two_same r) ∙ h))
+two_fit includes u rule.LineComment is h = begins-size (codes "//") u (seen includes u rule.LineComment (sym is))
+two_fit includes u _ is h = cc
 
 -- what is left of the rules when those that open an item, sections and codes are told apart
 pub left_ends : (r : Rule) → (r ≡ rule.Comment → ⊥) → (r ≡ rule.Section → ⊥) → (r ≡ rule.Code → ⊥)

@@ -1,5 +1,6 @@
 -- A run of bytes of an open item, each a unit of its own, is taken at once.
-use Rattle.cweb_scan.proofs.Common.{◌≡◌, ◌<◌, ℕ, suc, ◌+◌, Bool, true, false, cond, not, ◌&&◌, ◌==◌, List, [], ◌∷◌, ◌++◌, take, refl, ap, sym, ◌∙◌, subst, arith, append_assoc, if◌then◌else◌, codes, list_all, prefix_len, Place, unit_bytes, IsLine, is_plain, is_raw_sign, is_sign, DoubleAtInString, Goes, unit_state, Held, Takes, text_of, with_text, with_run, TakesOpen, Item, InName, InLiteral, InRaw, sign_of, State, fault, not-true}
+use Rattle.cweb_scanner.proofs.Rests.{takes_none, takes_both}
+use Rattle.cweb_scan.proofs.Common.{◌≡◌, ◌<◌, ℕ, suc, ◌+◌, Bool, true, false, cond, not, ◌&&◌, ◌==◌, List, [], ◌∷◌, ◌++◌, take, refl, ap, sym, ◌∙◌, subst, arith, append_assoc, if◌then◌else◌, codes, list_all, prefix_len, Place, unit_bytes, IsLine, is_plain, is_raw_sign, is_sign, DoubleAtInString, Goes, unit_state, Held, Takes, text_of, with_text, with_run, TakesOpen, awaits_line_end, Item, InName, InLiteral, InRaw, sign_of, State, fault, not-true}
 use Rattle.cweb_rules.specs.declared.items.Item.TheVariants.{Name, Literal}
 use Rattle.cweb_rules.proofs.PlainRuns.{plain_goes, raw_goes, no_at_in_literal, no_at_in_raw}
 use Rattle.cweb_rules.proofs.Seams.{in_line}
@@ -7,18 +8,6 @@ use Rattle.cweb_scanner.proofs.OpenItems.{append-nil'}
 use Rattle.cweb_scan.proofs.OpenReaders.{open_at}
 use Rattle.cweb_scan.proofs.OpenRests.{name_goes, literal_takes, raw_takes}
 use Rattle.cweb_scan.proofs.Opens.{opened}
-
--- what was taken byte after byte is taken at once
-after_one : (n b : ℕ) (t : List ℕ) (h k l : Held) → Takes 1 (b ∷ t) h k → Takes n t k l → Takes (suc n) (b ∷ t) h l
-after_one n b t h k l first rest = record {
-  begun = rest.begun ∙ first.begun;
-  within = omega (arith, rest.within);
-  adds = omega (arith, first.adds, rest.adds);
-  same = λ later more e. rest.same later more e ∙ first.same later more e;
-}
-
-none_taken : (t : List ℕ) (h : Held) → Takes 0 t h h
-none_taken t h = record { begun = refl; within = omega arith; adds = omega arith; same = λ later more e. refl }
 
 -- an item with its text so far
 abbrev pub At : Type 0
@@ -32,7 +21,7 @@ GoesOn p at =
 pub run_taken : (p : ℕ → Bool) (at : At) → GoesOn p at → (us t : List ℕ) → IsLine t
     → Takes (prefix_len p t) t (at us) (at (us ++ take (prefix_len p t) t))
 run_taken p at goes us [] line =
-    subst (λ (v : List ℕ). Takes 0 [] (at us) (at v)) (sym (append-nil' us)) (none_taken [] (at us))
+    subst (λ (v : List ℕ). Takes 0 [] (at us) (at v)) (sym (append-nil' us)) (takes_none [] (at us))
 run_taken p at goes us (b ∷ t) line = by (p b) refl (run_taken p at goes (us ++ b ∷ []) t line.1)
   where
     n : ℕ
@@ -41,15 +30,25 @@ run_taken p at goes us (b ∷ t) line = by (p b) refl (run_taken p at goes (us +
     by : (v : Bool) → p b ≡ v → Takes n t (at (us ++ b ∷ [])) (at ((us ++ b ∷ []) ++ take n t))
         → Takes (cond v (1 + n) 0) (b ∷ t) (at us) (at (us ++ take (cond v (1 + n) 0) (b ∷ t)))
     by false off rest =
-        subst (λ (v : List ℕ). Takes 0 (b ∷ t) (at us) (at v)) (sym (append-nil' us)) (none_taken (b ∷ t) (at us))
+        subst (λ (v : List ℕ). Takes 0 (b ∷ t) (at us) (at v)) (sym (append-nil' us)) (takes_none (b ∷ t) (at us))
     by true on rest =
         let next : suc n ≡ 1 + n = omega arith in
-        let whole =
-        after_one n b t (at us) (at (us ++ b ∷ [])) (at ((us ++ b ∷ []) ++ take n t)) (goes us b t line on) rest in
-        subst (λ (k : ℕ). Takes k (b ∷ t) (at us) (at (us ++ take k (b ∷ t)))) next
-        (subst (λ (v : List ℕ). Takes (suc n) (b ∷ t) (at us) (at v)) (append_assoc us (b ∷ []) (take n t)) whole)
+        let whole = takes_both 1 n (b ∷ t) (at us) (at (us ++ b ∷ [])) _ (goes us b t line on) rest in
+        subst (λ (v : List ℕ). Takes (1 + n) (b ∷ t) (at us) (at v))
+        (append_assoc us (b ∷ []) (take n t) ∙ ap (λ k. us ++ take k (b ∷ t)) next) whole
 
 -- NAMES AND LITERALS
+
+-- a run of an item, each byte of which goes on with it
+any_run : (p : ℕ → Bool) (s : State) (g : Bool) (at : List ℕ → Item) → ((us : List ℕ) → awaits_line_end (at us) ≡ false)
+    → GoesOn p (λ us. opened s g (at us)) → (us : List ℕ) (n : ℕ) (u : List ℕ) → IsLine u → 0 < n → n ≡ prefix_len p u
+    → TakesOpen n u (opened s g (at us)) (opened s g (at (us ++ take n u)))
+any_run p s g at within goes us n u line some is = record {
+  takes = subst (λ (k : ℕ). Takes k u (opened s g (at us)) (opened s g (at (us ++ take k u)))) (sym is)
+      (run_taken p (λ vs. opened s g (at vs)) goes us u line);
+  moves = λ w. some;
+  last = λ w. let wrong : false ≡ true = sym (within (us ++ take n u)) ∙ w in cc;
+}
 
 -- a byte other than `@` stands for itself, and is no fault
 plain-bytes : (b : ℕ) → (b == 64) ≡ false → unit_bytes (b ∷ []) ≡ b ∷ []
@@ -69,13 +68,8 @@ name_goes_on s g begun is_file us b t line plain =
 pub name_run : (s : State) (g : Bool) (begun : Place) (is_file : Bool) (us : List ℕ) (n : ℕ) (u : List ℕ)
     → IsLine u → 0 < n → n ≡ prefix_len (is_plain Name) u
     → TakesOpen n u (opened s g (InName begun is_file us)) (opened s g (InName begun is_file (us ++ take n u)))
-name_run s g begun is_file us n u line some is = record {
-  takes = subst (λ (k : ℕ). Takes k u (opened s g (InName begun is_file us)) (opened s g (InName begun is_file
-      (us ++ take k u)))) (sym is) (run_taken (is_plain Name) (λ us. opened s g (InName begun is_file us))
-      (name_goes_on s g begun is_file) us u line);
-  moves = λ w. some;
-  last = λ w. cc;
-}
+name_run s g begun is_file us n u line some is = any_run (is_plain Name) s g (λ (v : List ℕ). InName begun is_file v)
+    (λ v. refl) (name_goes_on s g begun is_file) us n u line some is
 
 -- a unit of a literal of either kind that is one byte
 literal_one : (s : State) (g : Bool) (b : ℕ) (t : List ℕ) (at : List ℕ → Item) (us : List ℕ) → (b == 64) ≡ false
@@ -96,13 +90,8 @@ literal_goes_on s g begun quote us b t line plain =
 pub literal_run : (s : State) (g : Bool) (begun : Place) (quote : ℕ) (us : List ℕ) (n : ℕ) (u : List ℕ)
     → IsLine u → 0 < n → n ≡ prefix_len (is_plain (Literal quote)) u
     → TakesOpen n u (opened s g (InLiteral begun quote us)) (opened s g (InLiteral begun quote (us ++ take n u)))
-literal_run s g begun quote us n u line some is = record {
-  takes = subst (λ (k : ℕ). Takes k u (opened s g (InLiteral begun quote us)) (opened s g (InLiteral begun quote
-      (us ++ take k u)))) (sym is) (run_taken (is_plain (Literal quote)) (λ us. opened s g (InLiteral begun quote us))
-      (literal_goes_on s g begun quote) us u line);
-  moves = λ w. some;
-  last = λ w. cc;
-}
+literal_run s g begun quote us n u line some is = any_run (is_plain (Literal quote)) s g
+    (λ (v : List ℕ). InLiteral begun quote v) (λ v. refl) (literal_goes_on s g begun quote) us n u line some is
 
 raw_goes_on : (s : State) (g : Bool) (begun : Place) (d : List ℕ) → list_all in_line (sign_of d) ≡ true
     → GoesOn (λ b. not (is_raw_sign (sign_of d) b)) (λ us. opened s g (InRaw begun d us))
@@ -114,13 +103,8 @@ raw_goes_on s g begun d clean us b t line plain =
 pub raw_run : (s : State) (g : Bool) (begun : Place) (d us : List ℕ) (n : ℕ) (u : List ℕ)
     → list_all in_line (sign_of d) ≡ true → IsLine u → 0 < n → n ≡ prefix_len (λ b. not (is_raw_sign (sign_of d) b)) u
     → TakesOpen n u (opened s g (InRaw begun d us)) (opened s g (InRaw begun d (us ++ take n u)))
-raw_run s g begun d us n u clean line some is = record {
-  takes = subst (λ (k : ℕ). Takes k u (opened s g (InRaw begun d us)) (opened s g (InRaw begun d (us ++ take k u))))
-      (sym is) (run_taken (λ b. not (is_raw_sign (sign_of d) b))
-      (λ us. opened s g (InRaw begun d us)) (raw_goes_on s g begun d clean) us u line);
-  moves = λ w. some;
-  last = λ w. cc;
-}
+raw_run s g begun d us n u clean line some is = any_run (λ b. not (is_raw_sign (sign_of d) b)) s g
+    (λ (v : List ℕ). InRaw begun d v) (λ v. refl) (raw_goes_on s g begun d clean) us n u line some is
 
 pub run_at : (n : ℕ) (u : List ℕ) (h new : Held) (at : List ℕ → Item)
     → h.item ≡ at (text_of h.item) → new ≡ with_run n u h → with_text (text_of h.item ++ take n u) (at (text_of h.item))

@@ -1,5 +1,5 @@
 -- A line of text that has no `@` gives nothing but its place.
-use Rattle.cweb_scan.proofs.Common.{◌≡◌, ℕ, true, false, List, [], ◌∷◌, ◌++◌, length, refl, ap, sym, ◌∙◌, subst, arith, prefix_len, drop-length, Place, Line, IsLine, Context, Limbo, TeX, Definition, Macro, CText, line_end_in, is_skipped, reads_c, Held, held, after_line_end, goes_on, gone_to, read_after, TakesBytes, TakesLineEnd, Between, State, moved}
+use Rattle.cweb_scan.proofs.Common.{◌≡◌, ℕ, true, false, List, [], ◌∷◌, ◌++◌, length, refl, ap, sym, ◌∙◌, subst, arith, prefix_len, drop-length, Place, Line, IsLine, Context, Macro, CText, line_end_in, is_skipped, reads_c, Held, held, after_line_end, goes_on, gone_to, read_after, TakesBytes, TakesLineEnd, Between, State, moved}
 use Rattle.cweb_scan.specs.declared.reader.open.Open.TheVariants as kind
 use Rattle.cweb_scan.proofs.CodeTurns.{skipped_at}
 use Rattle.cweb_scan.proofs.LineBegins.{line_ends}

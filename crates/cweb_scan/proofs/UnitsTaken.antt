@@ -1,24 +1,19 @@
 -- One unit of an item that is open, and the end of one, in a line.
-use Rattle.cweb_scan.proofs.Common.{◌≡◌, ◌≤◌, ◌<◌, ℕ, zero, suc, ◌+◌, ◌-◌, Bool, true, false, ◌==◌, List, [], ◌∷◌, ◌++◌, length, take, drop, refl, ap, sym, ◌∙◌, subst, arith, append_assoc, length-append, take-append-drop, if◌then◌else◌, nat_lt, fold, list_all, take-append-le, drop-append-le, take-append-add, drop-append-add, Place, Reach, reach, reach_in, with_unit, body, size_of, sign_after, unit_bytes, text_in, look_in_name, look_in_literal, look_in_raw, IsLine, AtLineEnd, is_open, End, Cut, Open, Look, Goes, Ends, Reading, on, each_line_end, occurrence, literal, literal_unit, unit_state, InName, InLiteral, InRaw, takes_sign, end_name, end_literal, sign_of, resume, run, State, moved}
+use Rattle.cweb_scan.proofs.Common.{◌≡◌, ◌≤◌, ◌<◌, ℕ, zero, suc, ◌+◌, ◌-◌, Bool, true, false, ◌==◌, List, [], ◌∷◌, ◌++◌, length, take, drop, refl, ap, sym, ◌∙◌, subst, arith, append_assoc, length-append, take-append-drop, nat_lt, fold, list_all, take-append-le, drop-append-le, take-append-add, drop-append-add, Place, Reach, reach, reach_in, with_unit, body, size_of, sign_after, unit_bytes, text_in, look_in_name, look_in_literal, look_in_raw, IsLine, AtLineEnd, is_open, End, Cut, Open, Look, Goes, Ends, Reading, on, occurrence, literal, literal_unit, unit_state, InName, InLiteral, InRaw, end_name, end_literal, sign_of, resume, run, State, moved}
+use Rattle.cweb_scanner.proofs.Ends.{at_front}
 use Rattle.cweb_rules.specs.Items as items
 use Rattle.cweb_rules.proofs.InLines.{IsLine-take}
 use Rattle.cweb_rules.proofs.Ranges.{reach_in-drop}
 use Rattle.cweb_rules.proofs.Reaches.{IsLocal, IsEnd}
-use Rattle.cweb_rules.proofs.Looks.{IsWithin, AllWithin, AllSome, IsSome, name-local, name-units, raw-local, raw-units, literal-local, literal-some}
+use Rattle.cweb_rules.proofs.Looks.{ended_whole, whole, IsWithin, AllWithin, AllSome, IsSome, name-local, name-units, raw-local, raw-units, literal-local, literal-some}
 use Rattle.cweb_rules.proofs.Seams.{in_line, stops}
 use Rattle.cweb_scanner.proofs.LineUnits.{one-unit}
 use Rattle.cweb_scanner.proofs.OpenItems.{append-nil', each-line}
-use Rattle.cweb_scan.proofs.OpenItems.{whole-end, after_units, sizes}
-use Rattle.cweb_scan.proofs.OpenNames.{name_ends}
-use Rattle.cweb_scan.proofs.OpenLiterals.{literal_ends, raw_ends, unit_passes}
+use Rattle.cweb_scan.proofs.OpenItems.{whole-end, sizes}
+use Rattle.cweb_scan.proofs.OpenNames.{sign_size, name_ends}
+use Rattle.cweb_scan.proofs.OpenLiterals.{quoted_ends_in, unit_passes}
+use Rattle.cweb_rules.proofs.Sizes.{literal-within, raw-within}
 use Rattle.cweb_scanner.proofs.TakenItems.{reading}
-
-abbrev at_front : (List ℕ → Look) → Look → List ℕ → End → List ℕ → Reach
-at_front look v u e t =
-    elim v [
-      | Goes n ↦ with_unit (take n u) (reach_in look e (n - 1) t)
-      | Ends n how ↦ record { units = []; close = n; how = how }
-    ]
 
 pub reach_end : (look : List ℕ → Look) (e how : End) (n b : ℕ) (t : List ℕ)
     → look (b ∷ t) ≡ Ends n how → reach look e (b ∷ t) ≡ record { units = []; close = n; how = how }
@@ -46,38 +41,24 @@ some_end look how n b t some h = subst IsSome h (some b t)
 
 -- NAMES
 
-abbrev named : Place → Bool → List ℕ → End → ℕ → ℕ → List ℕ → Reading → Reading
-named begun is_file us how sign n t m =
-    run (on (occurrence is_file us how (nat_lt 0 sign) begun) (each_line_end moved (take n t) m)) (drop n t)
-
-abbrev sign_size : Reading → ℕ → ℕ
-sign_size m sign = if takes_sign m.state then sign else 0
-
 name_after : (begun : Place) (is_file : Bool) (us t more : List ℕ) (m : Reading) → IsLine t
     → (let w = with_unit t (items.name more) in
     end_name begun is_file us w (sign_after w.how (drop (size_of w) (t ++ more))) (t ++ more) m)
     ≡ resume (InName begun is_file (us ++ unit_bytes t)) more m
 name_after begun is_file us t more m line =
-    let vs : List (List ℕ) = t ∷ [] in
     let r = items.name more in
-    let sign = sign_after r.how (drop (size_of r) more) in
-    let n = size_of r + sign_size m sign in
-    let f : length t + size_of r + sign_size m sign ≡ length t + n = omega arith in
-    let g : size_of (after_units vs r) ≡ length t + size_of r = sizes vs t r (append-nil' t) in
-    ap (λ k.
-    let g = sign_after r.how (drop k (t ++ more)) in
-    named begun is_file (us ++ text_in (vs ++ r.units)) r.how g (k + sign_size m g) (t ++ more) m) g ∙ ap (λ u.
-    let g = sign_after r.how u in
-    named begun is_file (us ++ text_in (vs ++ r.units)) r.how g ((length t + size_of r) + sign_size m g) (t ++ more) m)
-    (drop-append-add t more (size_of r))
-    ∙ ap (λ k. named begun is_file (us ++ text_in (vs ++ r.units)) r.how sign k (t ++ more) m) f
-    ∙ ap (λ u. run (on (occurrence is_file (us ++ text_in (vs ++ r.units)) r.how (nat_lt 0 sign) begun)
-    (each_line_end moved u m)) (drop (length t + n) (t ++ more))) (take-append-add t more n)
-    ∙ ap (λ k. run (on (occurrence is_file (us ++ text_in (vs ++ r.units)) r.how (nat_lt 0 sign) begun) k)
-    (drop (length t + n) (t ++ more))) (each-line moved t (take n more) m line)
-    ∙ ap (λ u. run (on (occurrence is_file (us ++ text_in (vs ++ r.units)) r.how (nat_lt 0 sign) begun)
-    (each_line_end moved (take n more) m)) u) (drop-append-add t more n)
-    ∙ ap (λ x. named begun is_file x r.how sign n more m) (sym (append_assoc us (unit_bytes t) (text_in r.units)))
+    let n = size_of r + sign_size m (sign_after r.how (drop (size_of r) more)) in
+    let f : length t + size_of r + sign_size m (sign_after r.how (drop (size_of r) more)) ≡ length t + n =
+    omega arith in
+    rw (
+      sizes (t ∷ []) t r (append-nil' t),
+      drop-append-add t more (size_of r),
+      f,
+      take-append-add t more n,
+      each-line moved t (take n more) m line,
+      drop-append-add t more n,
+      append_assoc us (unit_bytes t) (text_in r.units),
+    ) refl
 
 -- a unit of a name
 pub name_unit : (begun : Place) (is_file : Bool) (us : List ℕ) (k b : ℕ) (t more : List ℕ) (m : Reading)
@@ -95,10 +76,7 @@ name_unit begun is_file us (suc n) b t more m e line h some fits =
     let seen : items.name (u ++ more) ≡ with_unit unit (items.name (drop (suc n) u ++ more)) =
     reach_unit look_in_name Cut n b (t ++ more) (name-local more e b t ∙ h)
     ∙ (λ i. with_unit (first i) (items.name (rest i))) in
-    ap (λ (w : Reach). end_name begun is_file us w (sign_after w.how (drop (size_of w) (u ++ more))) (u ++ more) m) seen
-    ∙ ap (λ v.
-    let w = with_unit unit (items.name (drop (suc n) u ++ more)) in
-    end_name begun is_file us w (sign_after w.how (drop (size_of w) v)) v m) cut
+    (λ i. end_name begun is_file us (seen i) (sign_after (seen i).how (drop (size_of (seen i)) (cut i))) (cut i) m)
     ∙ name_after begun is_file us unit (drop (suc n) u ++ more) m (IsLine-take (suc n) u line)
 
 -- a name's end
@@ -107,25 +85,14 @@ pub name_end : (begun : Place) (is_file : Bool) (us : List ℕ) (n b : ℕ) (how
     → resume (InName begun is_file us) (b ∷ t ++ more) m ≡ (let sign = sign_after how (drop n (b ∷ t)) in
     run (on (occurrence is_file us how (nat_lt 0 sign) begun) m) (drop (n + sign_size m sign) (b ∷ t) ++ more))
 name_end begun is_file us n b how t more m e line h =
-    let u = b ∷ t in
     let z : 0 + n ≡ n = omega arith in
-    name_ends begun is_file us u more m e line
+    name_ends begun is_file us (b ∷ t) more m e line
     (end_closed look_in_name how n b t (within_end look_in_name how n b t name-units h) h)
-    ∙ ap (λ (r : Reach).
-    let sign = sign_after r.how (drop (size_of r) u) in
-    run (on (occurrence is_file (us ++ text_in r.units) r.how (nat_lt 0 sign) begun) m)
-    (drop (size_of r + sign_size m sign) u ++ more)) (reach_end look_in_name Cut how n b t h)
-    ∙ ap (λ k.
-    let sign = sign_after how (drop k u) in
-    run (on (occurrence is_file (us ++ []) how (nat_lt 0 sign) begun) m) (drop (k + sign_size m sign) u ++ more)) z
-    ∙ ap (λ x.
-    let sign = sign_after how (drop n u) in
-    run (on (occurrence is_file x how (nat_lt 0 sign) begun) m) (drop (n + sign_size m sign) u ++ more))
-    (append-nil' us)
+    ∙ rw (reach_end look_in_name Cut how n b t h, z, append-nil' us) refl
 
 -- LITERALS
 
-quoted_unit : (look : List ℕ → Look) (begun : Place) (us : List ℕ) (k b : ℕ) (t more : List ℕ)
+pub quoted_unit : (look : List ℕ → Look) (begun : Place) (us : List ℕ) (k b : ℕ) (t more : List ℕ)
     (s : State) (later : List Place) → IsLocal look more → IsLine (b ∷ t) → look (b ∷ t) ≡ Goes k → 0 < k
     → k ≤ length (b ∷ t) → end_literal begun us (reach look Cut (b ∷ t ++ more)) (b ∷ t ++ more) (reading s later)
     ≡ end_literal begun (us ++ unit_bytes (take k (b ∷ t)))
@@ -143,20 +110,6 @@ quoted_unit look begun us (suc n) b t more s later local line h some fits =
     ∙ ap (λ (r : Reading). end_literal begun (us ++ unit_bytes unit) (reach look Cut (drop (suc n) u ++ more))
     (drop (suc n) u ++ more) r) (one-unit s later unit (IsLine-take (suc n) u line))
 
-pub literal_unit_taken : (begun : Place) (quote : ℕ) (us : List ℕ) (k b : ℕ) (t more : List ℕ)
-    (s : State) (later : List Place) → AtLineEnd more → IsLine (b ∷ t) → look_in_literal quote (b ∷ t) ≡ Goes k → 0 < k
-    → k ≤ length (b ∷ t) → resume (InLiteral begun quote us) (b ∷ t ++ more) (reading s later) ≡ resume (InLiteral begun
-    quote (us ++ unit_bytes (take k (b ∷ t)))) (drop k (b ∷ t) ++ more) (reading (unit_state s (take k (b ∷ t))) later)
-literal_unit_taken begun quote us k b t more s later e line h some fits = quoted_unit (look_in_literal quote)
-    begun us k b t more s later (literal-local quote more (stops (λ x. x == 64) more refl e)) line h some fits
-
-pub raw_unit_taken : (begun : Place) (d us : List ℕ) (k b : ℕ) (t more : List ℕ) (s : State) (later : List Place)
-    → list_all in_line (sign_of d) ≡ true → AtLineEnd more → IsLine (b ∷ t) → look_in_raw (sign_of d) (b ∷ t) ≡ Goes k
-    → 0 < k → k ≤ length (b ∷ t) → resume (InRaw begun d us) (b ∷ t ++ more) (reading s later) ≡ resume (InRaw begun
-    d (us ++ unit_bytes (take k (b ∷ t)))) (drop k (b ∷ t) ++ more) (reading (unit_state s (take k (b ∷ t))) later)
-raw_unit_taken begun d us k b t more s later clean e line h some fits = quoted_unit
-    (look_in_raw (sign_of d)) begun us k b t more s later (raw-local (sign_of d) more clean e) line h some fits
-
 abbrev closed_quoted : Place → List ℕ → Reach → List ℕ → List ℕ → Reading → Reading
 closed_quoted begun us r u more m =
     let rest = r.units ++ take r.close (drop (length (body r)) u) ∷ [] in
@@ -167,16 +120,14 @@ quoted_end : (look : List ℕ → Look) (begun : Place) (us : List ℕ) (n b : �
     → closed_quoted begun us (reach look Cut (b ∷ t)) (b ∷ t) more (reading s later) ≡ run (reading (literal
     (us ++ unit_bytes (take n (b ∷ t))) how begun (unit_state s (take n (b ∷ t)))) later) (drop n (b ∷ t) ++ more)
 quoted_end look begun us n b how t more s later line h =
-    let u = b ∷ t in
-    let unit = take n u in
+    let unit = take n (b ∷ t) in
     let z : 0 + n ≡ n = omega arith in
-    ap (λ (r : Reach). closed_quoted begun us r u more (reading s later)) (reach_end look Cut how n b t h)
-    ∙ ap (λ k. run
-    (on (literal (us ++ (unit_bytes unit ++ [])) how begun) (literal_unit (reading s later) unit)) (drop k u ++ more)) z
-    ∙ ap (λ x. run (on (literal (us ++ x) how begun) (literal_unit (reading s later) unit)) (drop n u ++ more))
-    (append-nil' (unit_bytes unit))
-    ∙ ap (λ (r : Reading). run (on (literal (us ++ unit_bytes unit) how begun) r) (drop n u ++ more))
-    (one-unit s later unit (IsLine-take n u line))
+    rw (
+      reach_end look Cut how n b t h,
+      z,
+      append-nil' (unit_bytes unit),
+      one-unit s later unit (IsLine-take n (b ∷ t) line),
+    ) refl
 
 pub literal_end : (begun : Place) (quote : ℕ) (us : List ℕ) (n b : ℕ) (how : End) (t more : List ℕ)
     (s : State) (later : List Place) → AtLineEnd more → IsLine (b ∷ t) → look_in_literal quote (b ∷ t) ≡ Ends n how
@@ -184,8 +135,10 @@ pub literal_end : (begun : Place) (quote : ℕ) (us : List ℕ) (n b : ℕ) (how
     (us ++ unit_bytes (take n (b ∷ t))) how begun (unit_state s (take n (b ∷ t)))) later) (drop n (b ∷ t) ++ more)
 literal_end begun quote us n b how t more s later e line h =
     let look = look_in_literal quote in
-    literal_ends begun quote us (b ∷ t) more (reading s later) e
-    (end_closed look how n b t (some_end look how n b t (literal-some quote) h) h)
+    let closed = end_closed look how n b t (some_end look how n b t (literal-some quote) h) h in
+    quoted_ends_in look begun us (b ∷ t) more (reading s later) (literal-within quote)
+    (literal-local quote more (stops (λ x. x == 64) more refl e)) (literal-local quote [] refl)
+    (ended_whole look (literal-some quote) (b ∷ t) closed) closed
     ∙ quoted_end look begun us n b how t more s later line h
 
 pub raw_end : (begun : Place) (d us : List ℕ) (n b : ℕ) (how : End) (t more : List ℕ) (s : State) (later : List Place)
@@ -194,6 +147,7 @@ pub raw_end : (begun : Place) (d us : List ℕ) (n b : ℕ) (how : End) (t more 
     (us ++ unit_bytes (take n (b ∷ t))) how begun (unit_state s (take n (b ∷ t)))) later) (drop n (b ∷ t) ++ more)
 raw_end begun d us n b how t more s later clean e line h =
     let look = look_in_raw (sign_of d) in
-    raw_ends begun d us (b ∷ t) more (reading s later) clean e
-    (end_closed look how n b t (within_end look how n b t (raw-units (sign_of d)) h) h)
+    quoted_ends_in look begun us (b ∷ t) more (reading s later)
+    (raw-within (sign_of d)) (raw-local (sign_of d) more clean e) (raw-local (sign_of d) [] clean tt) (whole look
+    (raw-units (sign_of d)) (b ∷ t)) (end_closed look how n b t (within_end look how n b t (raw-units (sign_of d)) h) h)
     ∙ quoted_end look begun us n b how t more s later line h

@@ -1,5 +1,5 @@
 -- Plain C text: a blank before a piece.
-use Rattle.cweb_scanner.proofs.Common.{◌≡◌, ◌≤◌, ℕ, ◌+◌, Bool, true, false, ◌==◌, List, [], ◌∷◌, ◌++◌, length, drop, refl, ap, sym, ◌∙◌, subst, arith, if◌then◌else◌, prefix_len, eqb-true, is_blank, IsLine, c_rule, Rule, Held, Takes, goes_on, past_blank, IsPlainC, TakesPlain, State}
+use Rattle.cweb_scanner.proofs.Common.{◌≡◌, ◌≤◌, ℕ, ◌+◌, Bool, true, false, ◌==◌, List, [], ◌∷◌, ◌++◌, length, drop, refl, ap, sym, ◌∙◌, subst, arith, if◌then◌else◌, prefix_len, eqb-true, is_blank, IsLine, c_rule, Held, Takes, goes_on, past_blank, IsPlainC, TakesPlain, State}
 use Rattle.cweb_rules.specs.declared.rule.Rule.TheVariants as rule
 use Rattle.cweb_scanner.proofs.PlainTurns.{left_line, some_goes_on, TakesSome}
 use Rattle.cweb_scanner.proofs.Plains.{blanks_turn}

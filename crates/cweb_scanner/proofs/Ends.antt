@@ -1,5 +1,5 @@
 -- Items that their line's end ends.
-use Rattle.cweb_scanner.proofs.Common.{◌≡◌, ℕ, zero, suc, ◌+◌, ◌-◌, true, false, List, [], ◌∷◌, length, take, drop, refl, ap, sym, ◌∙◌, if◌then◌else◌, Place, at_line_end, Reach, reach, reach_in, with_unit, size_of, control_at, line_comment_at, look_in_control, look_in_comment, reached, End, Closed, Cut, Nested, Open, Reached, Look, Goes, Ends, Reading, next_line, each_line_end, comment_line_end, comment, control_text, blank, ended_as, Gives, State}
+use Rattle.cweb_scanner.proofs.Common.{◌≡◌, ℕ, zero, suc, ◌+◌, ◌-◌, true, false, List, [], ◌∷◌, length, take, drop, refl, ap, sym, ◌∙◌, if◌then◌else◌, Place, at_line_end, Reach, reach, reach_in, with_unit, size_of, control_at, line_comment_at, look_in_control, look_in_comment, reached, End, Closed, Cut, Open, Reached, Look, Goes, Ends, Reading, next_line, each_line_end, comment_line_end, comment, control_text, blank, ended_as, Gives, State}
 use Rattle.cweb_rules.specs.Bytes.{is_line_end}
 use Rattle.cweb_rules.proofs.Reaches.{IsEnd}
 use Rattle.cweb_rules.proofs.Looks.{IsWithin, AllWithin, control-units, comment-units}
@@ -7,7 +7,7 @@ use Rattle.cweb_rules.proofs.Looks.{IsWithin, AllWithin, control-units, comment-
 abbrev pub at_end : End → Reach → Reach
 at_end e r = record { units = r.units; close = r.close; how = ended_as e r.how }
 
-abbrev at_front : (List ℕ → Look) → Look → List ℕ → End → List ℕ → Reach
+abbrev pub at_front : (List ℕ → Look) → Look → List ℕ → End → List ℕ → Reach
 at_front look v u e t =
     elim v [
       | Goes n ↦ with_unit (take n u) (reach_in look e (n - 1) t)

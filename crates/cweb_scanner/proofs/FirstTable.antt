@@ -1,5 +1,5 @@
 -- The table of what first bytes tell.
-use Rattle.cweb_scanner.proofs.Common.{◌≡◌, ◌<◌, ℕ, zero, suc, ◌+◌, Bool, true, false, ◌&&◌, ◌==◌, List, [], ◌∷◌, ◌++◌, length, replicate, slice_index_or, refl, ap, sym, ◌∙◌, arith, eqb-true, plain_by, Plain, Sign, Operator, Digit, Quote, Stop, and_parts}
+use Rattle.cweb_scanner.proofs.Common.{◌≡◌, ◌<◌, ℕ, zero, suc, ◌+◌, Bool, true, ◌&&◌, ◌==◌, List, [], ◌∷◌, ◌++◌, length, replicate, slice_index_or, refl, ap, sym, ◌∙◌, arith, eqb-true, plain_by, Plain, Sign, Operator, Digit, Quote, Stop, and_parts}
 use Rattle.cweb_scanner.specs.declared.scanner.plain.Plain.TheVariants.{Blank, Word, Further}
 
 -- kinds as numbers, so that two of them are compared by computing

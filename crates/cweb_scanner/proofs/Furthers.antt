@@ -1,5 +1,5 @@
 -- Plain C text: the pieces that their first bytes don't tell.
-use Rattle.cweb_scanner.proofs.Common.{◌≡◌, ◌≤◌, ℕ, zero, suc, ◌+◌, Bool, true, false, ◌||◌, ◌&&◌, ◌==◌, not, List, [], ◌∷◌, Option, Some, None, length, take, drop, refl, ap, sym, ◌∙◌, arith, if◌then◌else◌, codes, bytes_eq, nat_tests, Token, Number, Punct, Blank, begins, first_is, at_line_end, in_c, reach, size_of, front_in, comment_at, look_in_comment, IsLine, is_open, opens_in, reached, c_rule, c_front_by, listed, longest, number_len, Context, Limbo, TeX, Definition, Macro, CText, End, Closed, Cut, Open, Reached, Look, Rule, Reading, blank, comment, comment_line_end, punctuator, directive, is_c, is_some, names_include, some_include, Gives, ended_as, is_head, is_kept_back, IsPlainC, IsPlainToken, TakesPlain, State, give, and-false, or_parts}
+use Rattle.cweb_scanner.proofs.Common.{◌≡◌, ◌≤◌, ℕ, zero, suc, ◌+◌, Bool, false, ◌&&◌, ◌==◌, not, List, [], ◌∷◌, Option, Some, None, length, take, drop, refl, ap, sym, ◌∙◌, arith, if◌then◌else◌, codes, bytes_eq, Token, Number, Punct, Blank, begins, first_is, at_line_end, in_c, reach, size_of, front_in, comment_at, look_in_comment, IsLine, is_open, opens_in, reached, c_rule, c_front_by, listed, longest, number_len, Context, CText, End, Closed, Cut, Open, Reached, Look, Rule, Reading, blank, comment, comment_line_end, punctuator, directive, is_c, is_some, names_include, some_include, Gives, ended_as, is_head, is_kept_back, IsPlainC, IsPlainToken, TakesPlain, State, give, and-false, or_parts}
 use Rattle.cweb_rules.specs.declared.rule.Rule.TheVariants as rule
 use Rattle.cweb_rules.proofs.Looks.{comment-units}
 use Rattle.cweb_scanner.specs.Directives.{is_blank}

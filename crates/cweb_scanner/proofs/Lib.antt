@@ -8,8 +8,10 @@ pub mod Pieces
 pub mod OpenItems
 pub mod LineUnits
 pub mod TakenItems
+pub mod NameSizes
+pub mod Moves
+pub mod PieceMoves
 pub mod Weights
-pub mod PieceWeights
 pub mod Turns
 pub mod Ends
 pub mod Walks

@@ -3,7 +3,7 @@ use Rattle.cweb_scanner.proofs.Common.{◌≡◌, ℕ, true, false, List, [], �
 use Rattle.cweb_rules.proofs.InLines.{AreLines}
 use Rattle.cweb_scanner.proofs.OpenItems.{none-line}
 
-abbrev reading : State → List Place → Reading
+abbrev pub reading : State → List Place → Reading
 reading s later = record { state = s; later = later }
 
 pub one-unit : (s : State) (later : List Place) (u : List ℕ) → IsLine u

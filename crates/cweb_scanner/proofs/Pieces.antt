@@ -1,5 +1,5 @@
 -- The first piece of a text, and the pieces behind it.
-use Rattle.cweb_scanner.proofs.Common.{◌≡◌, ℕ, ◌-◌, ◌<◌, suc, zero, List, [], ◌∷◌, take, drop, refl, ap, sym, ◌∙◌, arith, Piece, Reading, after, front_of, pieces, pieces_in}
+use Rattle.cweb_scanner.proofs.Common.{◌≡◌, ℕ, ◌-◌, ◌<◌, suc, zero, List, [], ◌∷◌, take, drop, refl, ap, ◌∙◌, Piece, Reading, after, front_of, pieces, pieces_in}
 use Rattle.cweb_rules.proofs.UnitNewlines.{drop-pred}
 
 pieces_in-drop : (k : ℕ) (r : Reading) (t : List ℕ) → pieces_in k r t ≡ pieces_in 0 r (drop k t)

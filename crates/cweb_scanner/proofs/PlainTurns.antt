@@ -1,5 +1,6 @@
 -- Plain C text: pieces one after another.
-use Rattle.cweb_scanner.proofs.Common.{◌≡◌, ◌≤◌, ℕ, zero, suc, ◌+◌, ◌-◌, ◌*◌, false, List, [], ◌∷◌, Option, Some, None, length, drop, ap, sym, ◌∙◌, subst, arith, length-drop, IsLine, Takes, taken_size, TakesPlain, weight, State}
+use Rattle.cweb_rules.proofs.InLines.{IsLine-drop}
+use Rattle.cweb_scanner.proofs.Common.{◌≡◌, ◌≤◌, ℕ, ◌+◌, ◌-◌, ◌*◌, false, List, Option, Some, None, length, drop, ap, sym, ◌∙◌, subst, arith, length-drop, IsLine, Takes, taken_size, TakesPlain, weight, State}
 use Rattle.cweb_scanner.proofs.Rests.{takes_both}
 use Rattle.cweb_scanner.proofs.Turns.{between}
 use Rattle.cweb_rules.proofs.UnitNewlines.{drop-sum}
@@ -33,13 +34,8 @@ some_goes_on m text left after a b c is f t =
 pub piece_within : (n : ℕ) (u : List ℕ) (a b : State) → TakesPlain n u a b → n ≤ length u
 piece_within n u a b t = (t.taken false).within
 
-pub is_line_drop : (n : ℕ) (u : List ℕ) → IsLine u → IsLine (drop n u)
-is_line_drop zero u h = h
-is_line_drop (suc n) [] h = h
-is_line_drop (suc n) (b ∷ t) h = is_line_drop n t h.1
-
 pub left_line : (text left : List ℕ) (a b : State) → IsLine text → TakesSome text left a b → IsLine left
-left_line text left a b line f = subst IsLine (sym f.left_is) (is_line_drop (length text - length left) text line)
+left_line text left a b line f = subst IsLine (sym f.left_is) (IsLine-drop (length text - length left) text line)
 
 -- a piece of no bytes ends them
 pub some_ended : (text left : List ℕ) (a b c : State) → TakesSome text left a b

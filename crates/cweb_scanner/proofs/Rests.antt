@@ -1,5 +1,5 @@
 -- The rest of a line is taken piece by piece.
-use Rattle.cweb_scanner.proofs.Common.{◌≡◌, ℕ, zero, suc, ◌+◌, Bool, true, false, ◌&&◌, List, [], ◌∷◌, ◌++◌, drop, refl, ap, ◌∙◌, arith, if◌then◌else◌, codes, length-drop, begins, at_line_end, in_macro, in_c, front_in, c_front, Skipped, front, opens_in, c_rule, c_front_by, Macro, CText, Held, goes_on, Takes}
+use Rattle.cweb_scanner.proofs.Common.{◌≡◌, ℕ, ◌+◌, Bool, true, false, ◌&&◌, List, ◌++◌, drop, refl, ap, ◌∙◌, arith, if◌then◌else◌, codes, length-drop, begins, at_line_end, in_macro, in_c, front_in, c_front, Skipped, front, opens_in, c_rule, c_front_by, Macro, CText, Held, goes_on, Takes}
 use Rattle.cweb_rules.proofs.ByRules.{c_front-by}
 use Rattle.cweb_scanner.proofs.Turns.{opens_by, c_opens-by}
 use Rattle.cweb_rules.proofs.UnitNewlines.{drop-sum}

@@ -1,5 +1,5 @@
 -- Room that stays where a macro ends and where a name is faulty.
-use Rattle.cweb_scanner.proofs.Common.{arith, Context, Limbo, TeX, Definition, Macro, CText, End, Closed, Cut, Nested, Open, Place, Occurrence, name_fault, HasRoom, HasPartRoom, State, end_macro_in, end_macro, with_name}
+use Rattle.cweb_scanner.proofs.Common.{arith, Context, Macro, End, Closed, Place, Occurrence, name_fault, HasRoom, HasPartRoom, State, end_macro_in, end_macro, with_name}
 use Rattle.cweb_store.proofs.CallerLemmas.{token_count_closed, part_count_closed}
 
 macro_room : (c : Context) (s : State) → HasPartRoom s → HasPartRoom (end_macro_in c s)

@@ -1,5 +1,5 @@
 -- What a rule of a macro or of C text names that ends in its line.
-use Rattle.cweb_scanner.proofs.Common.{◌≡◌, ℕ, Bool, true, false, ◌&&◌, List, refl, ap, sym, ◌∙◌, if◌then◌else◌, in_macro, in_c, front_in, opens_in, c_opens, c_rule, c_front_by, Context, Limbo, TeX, Definition, Macro, CText, Effect, Rule, is_c, has_part, ends_macro_line}
+use Rattle.cweb_scanner.proofs.Common.{◌≡◌, ℕ, Bool, true, false, ◌&&◌, List, refl, ap, sym, ◌∙◌, if◌then◌else◌, in_macro, in_c, front_in, opens_in, c_opens, c_rule, c_front_by, Context, Macro, CText, Effect, Rule, is_c, has_part, ends_macro_line}
 use Rattle.cweb_rules.specs.declared.rule.Rule.TheVariants as rule
 use Rattle.cweb_scanner.proofs.Rests.{c_is, c_opens_is, macro_is}
 use Rattle.cweb_scanner.proofs.Turns.{opens_by, c_opens-by}

@@ -1,15 +1,13 @@
 -- An item of a line that ends in it: the state after it, whatever lines follow.
-use Rattle.cweb_scanner.proofs.Common.{◌≡◌, ℕ, false, List, [], ◌∷◌, ◌++◌, take, drop, refl, ap, sym, ◌∙◌, Place, Reading, on, comment_line_end, comment, blank, occurrence, literal, enter, item, after, text_in, Kind, Skipped, Section, Code, Letter, ControlText, Constant, Blanks, LineEnd, Comment, Quoted, Defined, Identifier, Numeral, Punctuator, Front, Piece, AtLineEnd, opens_in, IsLine, front_of, run, fold, take-append-le, drop-append-le, names_include, State, moved}
-use Rattle.cweb_rules.specs.Kinds.{Verbatim, Occurrence}
+use Rattle.cweb_scanner.proofs.Common.{◌≡◌, ℕ, false, List, [], ◌∷◌, ◌++◌, take, drop, refl, ap, sym, ◌∙◌, Place, Reading, on, comment_line_end, comment, blank, occurrence, literal, enter, item, after, text_in, Kind, Skipped, LineEnd, Comment, Quoted, Front, Piece, AtLineEnd, opens_in, IsLine, front_of, run, fold, take-append-le, drop-append-le, names_include, State, moved}
+use Rattle.cweb_rules.specs.Kinds.{Occurrence}
 use Rattle.cweb_rules.proofs.LineFronts.{front_line}
 use Rattle.cweb_rules.proofs.InLines.{InLine, stands}
 use Rattle.cweb_scanner.proofs.Fairs.{fair}
+pub use Rattle.cweb_scanner.proofs.LineUnits.{reading}
 use Rattle.cweb_scanner.proofs.LineUnits.{units_line}
 use Rattle.cweb_scanner.proofs.OpenItems.{none-line}
 use Rattle.cweb_scanner.proofs.Pieces.{first, pieces_first}
-
-abbrev pub reading : State → List Place → Reading
-reading s later = record { state = s; later = later }
 
 abbrev pub state_after : State → Piece → State
 state_after s p = (after (reading s []) p).state

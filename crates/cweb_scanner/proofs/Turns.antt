@@ -1,11 +1,12 @@
 -- What is at the front of the rest of a line, once the code has seen its rule; and that taking it is right.
-use Rattle.cweb_scanner.proofs.Common.{◌≡◌, ℕ, Bool, true, false, ◌&&◌, List, [], ◌∷◌, ◌++◌, take, drop, refl, ap, sym, ◌∙◌, arith, if◌then◌else◌, codes, length-take-le, begins, first_is, is_blank, is_word_byte, starts_section, starts_raw, starts_literal, starts_include, Kind, Front, IsLine, opens_in, opens_code, opens_comment, opens_raw, opens_literal, c_opens, c_rule, starts_number, Context, Limbo, TeX, Definition, Macro, CText, Effect, Rule, enter_in, item, with_front, Gives, is_head, IsPast, Held, Takes, Between, weight, front_of, run, State}
+use Rattle.cweb_scanner.proofs.Common.{◌≡◌, ℕ, Bool, true, false, ◌&&◌, List, [], ◌∷◌, ◌++◌, take, drop, refl, ap, sym, ◌∙◌, subst, arith, if◌then◌else◌, codes, length-take-le, begins, first_is, is_blank, is_word_byte, starts_section, starts_raw, starts_literal, starts_include, Kind, Front, IsLine, opens_in, opens_code, opens_comment, opens_raw, opens_literal, c_opens, c_rule, starts_number, Context, Definition, Effect, Rule, enter_in, item, names_include, with_front, Gives, is_head, IsPast, Held, Takes, Between, weight, front_of, run, State}
 use Rattle.cweb_rules.specs.Bytes.{is_line_end}
 use Rattle.cweb_rules.specs.declared.rule.Rule.TheVariants as rule
 use Rattle.cweb_scanner.proofs.Fairs.{fair}
 use Rattle.cweb_scanner.proofs.Pieces.{first}
 use Rattle.cweb_scanner.proofs.TakenItems.{reading, state_after, taken}
-use Rattle.cweb_scanner.proofs.PieceWeights.{piece-weight}
+use Rattle.cweb_scanner.proofs.Weights.{piece-weight}
+use Rattle.cweb_rules.proofs.Newlines.{told}
 use Rattle.cweb_rules.proofs.ByRules.{by_test}
 
 -- ITEMS THAT END IN THEIR LINE
@@ -31,7 +32,8 @@ staying_takes s new g n b t f line stays is ends gives =
     ∙ ap (λ (v : Front). with_front v u s) is ∙ sym gives.state in
     let size : n ≡ f0.size = gives.size ∙ ap (λ (v : Front). v.size) (sym is) in
     let long = length-take-le f0.size u fits.within in
-    let adds = piece-weight (reading s []) p (omega (arith, long, fits.some)) fits.pays in
+    let adds = piece-weight (reading s []) p (omega (arith, long, fits.some)) fits.pays
+    (told s.context (names_include s) b t) in
     record {
       begun = refl;
       within = omega (arith, size, fits.within);
@@ -70,68 +72,39 @@ c_opens-by effect includes t =
 
 -- WHAT A RULE SAYS OF THE TEXT
 
-pub later : (is : Rule → Bool) (v : Bool) (x y : Rule) → is x ≡ false
-    → is (if v then x else y) ≡ true → (v ≡ false) × (is y ≡ true)
-later is true x y f h = let wrong : true ≡ false = sym h ∙ f in cc
-later is false x y f h = (refl, h)
-
-pub now : (is : Rule → Bool) (v : Bool) (x y : Rule) → is y ≡ false → is (if v then x else y) ≡ true → v ≡ true
-now is true x y f h = refl
-now is false x y f h = let wrong : true ≡ false = sym h ∙ f in cc
+pub told_if : {A : Type 0} (T : A → Type 0) (v : Bool) (x y : A) → (v ≡ true → T x) → (v ≡ false → T y)
+    → T (if v then x else y)
+told_if T true x y f g = f refl
+told_if T false x y f g = g refl
 
 pub neither : (is : Rule → Bool) (v : Bool) (x y : Rule) → is x ≡ false → is y ≡ false → is (if v then x else y) ≡ false
-neither is true x y f g = f
-neither is false x y f g = g
+neither is v x y f g = told_if (λ r. is r ≡ false) v x y (λ e. f) (λ e. g)
 
-abbrev is_literal : Rule → Bool
-is_literal rule.Literal = true
-is_literal r = false
+-- what is known of a text at whose front a rule is the first that fits
+abbrev pub IsSeen : List ℕ → Rule → Type 0
+IsSeen t rule.LineEnd = first_is is_line_end t ≡ true
+IsSeen t rule.Comment = begins (codes "/*") t ≡ true
+IsSeen t rule.LineComment = begins (codes "//") t ≡ true
+IsSeen t rule.Code = (starts_section t ≡ false) × (begins (codes "@") t ≡ true)
+IsSeen t rule.RawLiteral = IsPast t × (starts_raw t ≡ true)
+IsSeen t rule.Literal = IsPast t × (starts_raw t ≡ false) × (starts_literal t ≡ true)
+IsSeen t r = Unit {0}
 
-abbrev after_section : Bool → List ℕ → Rule
-after_section includes t = if begins (codes "@") t then rule.Code else (if starts_raw t then rule.RawLiteral else
-    (if starts_literal t then rule.Literal else (if includes && starts_include t then rule.IncludedName else
-    (if starts_number t then rule.Number else (if first_is is_word_byte t then rule.Identifier else rule.Punctuator)))))
+rule_seen : (includes : Bool) (t : List ℕ) → IsSeen t (c_rule includes t)
+rule_seen includes t =
+    let S : Rule → Type 0 = IsSeen t in
+    told_if S (first_is is_blank t) _ _ (λ e. tt) (λ b.
+    told_if S (first_is is_line_end t) _ _ (λ e. e) (λ l.
+    told_if S (begins (codes "/*") t) _ _ (λ e. e) (λ c.
+    told_if S (begins (codes "//") t) _ _ (λ e. e) (λ d.
+    told_if S (starts_section t) _ _ (λ e. tt) (λ s.
+    told_if S (begins (codes "@") t) _ _ (λ e. (s, e)) (λ a.
+    let past : IsPast t = record { blank = b; line_end = l; comment = c; line_comment = d; section = s; code = a } in
+    told_if S (starts_raw t) _ _ (λ e. (past, e)) (λ w.
+    told_if S (starts_literal t) _ _ (λ e. (past, w, e)) (λ q.
+    told_if S (includes && starts_include t) _ _ (λ e. tt) (λ i.
+    told_if S (starts_number t) _ _ (λ e. tt) (λ n.
+    told_if S (first_is is_word_byte t) _ _ (λ e. tt) (λ e. tt)))))))))))
 
--- no rule before the codes fits
-pub record IsPastSigns (t : List ℕ) : Type 0 where
-  pub blank : first_is is_blank t ≡ false
-  pub line_end : first_is is_line_end t ≡ false
-  pub comment : begins (codes "/*") t ≡ false
-  pub line_comment : begins (codes "//") t ≡ false
-  pub section : starts_section t ≡ false
-
-pub past_signs : (is : Rule → Bool) (includes : Bool) (t : List ℕ) → is rule.Blanks ≡ false
-    → is rule.LineEnd ≡ false → is rule.Comment ≡ false → is rule.LineComment ≡ false → is rule.Section ≡ false
-    → is (c_rule includes t) ≡ true → IsPastSigns t × (is (after_section includes t) ≡ true)
-past_signs is includes t b e c l s h =
-    let h0 = later is (first_is is_blank t) _ _ b h in
-    let h1 = later is (first_is is_line_end t) _ _ e h0.1 in
-    let h2 = later is (begins (codes "/*") t) _ _ c h1.1 in
-    let h3 = later is (begins (codes "//") t) _ _ l h2.1 in
-    let h4 = later is (starts_section t) _ _ s h3.1 in
-    (record { blank = h0.0; line_end = h1.0; comment = h2.0; line_comment = h3.0; section = h4.0 }, h4.1)
-
-pub tail_is : (is : Rule → Bool) (a b c : Bool) → is rule.IncludedName ≡ false
-    → is rule.Number ≡ false → is rule.Identifier ≡ false → is rule.Punctuator ≡ false → is (if
-    a then rule.IncludedName else (if b then rule.Number else (if c then rule.Identifier else rule.Punctuator))) ≡ false
-tail_is is a b c f g h k = neither is a _ _ f (neither is b _ _ g (neither is c _ _ h k))
-
-pub literal_seen : (includes : Bool) (t : List ℕ) → c_rule includes t ≡ rule.Literal
-    → IsPast t × (starts_raw t ≡ false) × (starts_literal t ≡ true)
-literal_seen includes t h =
-    let p = past_signs is_literal includes t refl refl refl refl refl (ap is_literal h) in
-    let q = later is_literal (begins (codes "@") t) _ _ refl p.1 in
-    let w = later is_literal (starts_raw t) _ _ refl q.1 in (
-      record {
-        blank = p.0.blank;
-        line_end = p.0.line_end;
-        comment = p.0.comment;
-        line_comment = p.0.line_comment;
-        section = p.0.section;
-        code = q.0;
-      },
-      w.0,
-      now is_literal (starts_literal t) rule.Literal _ (tail_is is_literal
-          (includes && starts_include t) (starts_number t) (first_is is_word_byte t) refl refl refl refl)
-          w.1,
-    )
+pub seen : (includes : Bool) (t : List ℕ) (r : Rule) → c_rule includes t ≡ r → IsSeen t r
+seen includes t r h = subst (IsSeen t) h (rule_seen includes t)

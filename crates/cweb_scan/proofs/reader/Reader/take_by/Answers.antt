@@ -1,35 +1,36 @@
+use Rattle.cweb_rules.specs.declared.rule.Rule.TheVariants as rule
 use Rattle.cweb_scan.proofs.Common.{◌&&◌, false, ap, sym, ◌∙◌, section_at, in_c, c_front_by, is_c, names_include}
 use Rattle.cweb_scanner.proofs.CodeTurns.{closed_at}
 use Rattle.cweb_scanner.proofs.RuleTurns.{closes, rule_closed}
 use Rattle.cweb_scan.proofs.RuleTurns.{ends_closes, is_ended, left_ends, part_head, rule_in_line, two_fit}
-use Rattle.cweb_scanner.proofs.Turns.{literal_seen}
-use Rattle.cweb_scan.proofs.Turns.{comment_seen, code_seen, raw_seen}
+use Rattle.cweb_scanner.proofs.Turns.{seen}
 use Rattle.cweb_scan.proofs.reader.Reader.take_by.Goals as goal
 
 pub open_comment-requires-clause-sign : goal.open_comment-requires-clause-sign
 open_comment-requires-clause-sign c =
     let s = c.args.self.now.state in
-    comment_seen (is_c s.context && names_include s) c.args.rest.now (sym c.requires.first ∙ c.in-Comment.is)
+    seen (is_c s.context && names_include s) c.args.rest.now rule.Comment (sym c.requires.first ∙ c.in-Comment.is)
 
 pub take_code-requires-clause-sign : goal.take_code-requires-clause-sign
 take_code-requires-clause-sign c =
     let s = c.args.self.now.state in
-    (code_seen (is_c s.context && names_include s) c.args.rest.now (sym c.requires.first ∙ c.in-Code.is)).1
+    (seen (is_c s.context && names_include s) c.args.rest.now rule.Code (sym c.requires.first ∙ c.in-Code.is)).1
 
 pub open_raw-requires-clause-sign : goal.open_raw-requires-clause-sign
 open_raw-requires-clause-sign c =
     let s = c.args.self.now.state in
-    (raw_seen (is_c s.context && names_include s) c.args.rest.now (sym c.requires.first ∙ c.in-RawLiteral.is)).1
+    (seen (is_c s.context && names_include s) c.args.rest.now rule.RawLiteral
+    (sym c.requires.first ∙ c.in-RawLiteral.is)).1
 
 pub open_literal-requires-clause-plain : goal.open_literal-requires-clause-plain
 open_literal-requires-clause-plain c =
     let s = c.args.self.now.state in
-    (literal_seen (is_c s.context && names_include s) c.args.rest.now (sym c.requires.first ∙ c.in-Literal.is)).1
+    (seen (is_c s.context && names_include s) c.args.rest.now rule.Literal (sym c.requires.first ∙ c.in-Literal.is)).1
 
 pub open_literal-requires-clause-sign : goal.open_literal-requires-clause-sign
 open_literal-requires-clause-sign c =
     let s = c.args.self.now.state in
-    (literal_seen (is_c s.context && names_include s) c.args.rest.now (sym c.requires.first ∙ c.in-Literal.is)).2
+    (seen (is_c s.context && names_include s) c.args.rest.now rule.Literal (sym c.requires.first ∙ c.in-Literal.is)).2
 
 pub take_rule-requires-clause-ends : goal.take_rule-requires-clause-ends
 take_rule-requires-clause-ends c =

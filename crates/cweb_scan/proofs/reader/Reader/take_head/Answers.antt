@@ -3,11 +3,12 @@ use Rattle.cweb_rules.specs.declared.rule.Rule.TheVariants as rule
 use Rattle.cweb_scan.proofs.HeadTurns.{dropped_at, foreign_rule}
 use Rattle.cweb_scan.proofs.HeadStays.{blanks_pass, head_passes}
 use Rattle.cweb_scan.proofs.RuleTurns.{is_ended, rule_in_line, two_fit}
-use Rattle.cweb_scan.proofs.Turns.{comment_seen}
+use Rattle.cweb_scanner.proofs.Turns.{seen}
 use Rattle.cweb_scan.proofs.reader.Reader.take_head.Goals as goal
 
 pub open_comment-requires-clause-sign : goal.open_comment-requires-clause-sign
-open_comment-requires-clause-sign c = comment_seen false c.args.rest.now (sym c.c_rule-rule.ensures ∙ c.in-Comment.is)
+open_comment-requires-clause-sign c =
+    seen false c.args.rest.now rule.Comment (sym c.c_rule-rule.ensures ∙ c.in-Comment.is)
 
 pub take_line_comment-requires-clause-two : goal.take_line_comment-requires-clause-two
 take_line_comment-requires-clause-two c =

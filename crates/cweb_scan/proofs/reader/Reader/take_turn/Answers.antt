@@ -1,8 +1,9 @@
+use Rattle.cweb_rules.proofs.InLines.{IsLine-drop}
 use Rattle.cweb_scan.proofs.Common.{ℕ, ◌+◌, List, length, ap, sym, ◌∙◌, subst, eqb-true, IsLine, Held, awaits_line_end, item_of}
 use Rattle.cweb_scanner.specs.OpenRest.{is_open}
 use Rattle.cweb_scan.specs.declared.reader.open.Open.{Open}
 use Rattle.cweb_scan.proofs.LineTurns.{between_turn, open_turn, kept_open}
-use Rattle.cweb_scanner.proofs.PlainTurns.{is_line_drop, piece_within}
+use Rattle.cweb_scanner.proofs.PlainTurns.{piece_within}
 use Rattle.cweb_scan.proofs.PlainTurns.{plain_all, plain_held, plain_room, plain_then}
 use Rattle.cweb_scan.proofs.reader.Reader.take_turn.Goals as goal
 
@@ -38,7 +39,7 @@ returns-then-is_empty c =
 
 pub take_between-requires-clause-line : goal.take_between-requires-clause-line
 take_between-requires-clause-line c = subst IsLine
-    (sym c.split_at.ensures.back) (is_line_drop c.in_ok-plain-in-Between.plain c.args.rest.now c.requires.line)
+    (sym c.split_at.ensures.back) (IsLine-drop c.in_ok-plain-in-Between.plain c.args.rest.now c.requires.line)
 
 pub take_between-requires-clause-room : goal.take_between-requires-clause-room
 take_between-requires-clause-room c =

@@ -1,20 +1,21 @@
+use Rattle.cweb_rules.specs.declared.rule.Rule.TheVariants as rule
+use Rattle.cweb_rules.proofs.InLines.{IsLine-drop}
 use Rattle.cweb_scanner.proofs.Common.{◌≡◌, ◌+◌, List, ℕ, false, length, drop, arith, refl, sym, ap, ◌∙◌, subst, length-drop, Literal, reach, literal_prefix, quote_of, look_in_literal, IsLine, reached, Closed, Open, Reached, IsPlainC, give}
 use Rattle.cweb_rules.proofs.LineLiterals.{is_quoted-size}
 use Rattle.cweb_scanner.proofs.FurtherLiterals.{HasNone, literal_reach, literal_turn, none_stands}
-use Rattle.cweb_scanner.proofs.PlainTurns.{is_line_drop}
 use Rattle.cweb_scanner.proofs.Plains.{stays_plain}
-use Rattle.cweb_scanner.proofs.Turns.{literal_seen}
+use Rattle.cweb_scanner.proofs.Turns.{seen}
 use Rattle.cweb_scanner.proofs.scanner.Scanner.take_whole_literal.Goals as goal
 
 pub split_at-requires-2 : goal.split_at-requires-2
 split_at-requires-2 c =
     let u = c.args.rest.now in
-    let seen = literal_seen false u (sym c.requires.first) in
+    let seen = seen false u rule.Literal (sym c.requires.first) in
     omega (arith, c.literal_prefix-prefix.ensures.value, is_quoted-size (literal_prefix u) u seen.2)
 
 pub quoted_len-requires : goal.quoted_len-requires
 quoted_len-requires c = subst IsLine
-    (sym c.split_at-2.ensures.back) (is_line_drop (c.literal_prefix-prefix.result + 1) c.args.rest.now c.requires.line)
+    (sym c.split_at-2.ensures.back) (IsLine-drop (c.literal_prefix-prefix.result + 1) c.args.rest.now c.requires.line)
 
 pub split_at-requires-in-Some : goal.split_at-requires-in-Some
 split_at-requires-in-Some c =

@@ -1,0 +1,52 @@
+-- How much the moves of a scan add to what is kept.
+use Rattle.cweb_scan.proofs.Common.{◌≡◌, ◌≤◌, ℕ, List, [], ◌∷◌, refl, arith, Place, Token, Context, Limbo, Blank, Reading, State, next_line, moved, one, text_size, occurrence_size, replacement_size, due, Adds}
+use Rattle.cweb_scan.proofs.Measures.{pushed-size, opened-size, closed-size, dropped-size}
+use Rattle.cweb_texts.proofs.WordLemmas.{total-append}
+use Rattle.cweb_scanner.proofs.Moves.{Moves, Any, holds_any, size}
+use Rattle.cweb_scanner.proofs.TakenItems.{reading}
+
+pub due_some : (c : Context) → 1 ≤ due c
+due_some Limbo = omega arith
+due_some _ = omega arith
+
+same_size : (t : Token) → size t ≡ text_size t
+same_size Blank = refl
+same_size _ = refl
+
+abbrev pub MoveAdds : ℕ → ℕ → ℕ → ℕ → Reading → Reading → Type 0
+MoveAdds n w t b r m = Adds t b r.state m.state
+
+moved-adds : (s : State) (later : List Place) → Adds 0 0 s (next_line moved (reading s later)).state
+moved-adds s [] = omega arith
+moved-adds s (p ∷ later) = omega arith
+
+pub adds : Moves Any MoveAdds
+adds = record {
+  nothing = λ r. omega arith;
+  both = λ x y. omega (arith, x.tokens_are, y.tokens_are, x.bytes_are, y.bytes_are);
+  within = λ n w t b x h. omega (arith, x.tokens_are, x.bytes_are, h);
+  knowing = λ f. f (holds_any _ _ _);
+  advances = λ r. moved-adds r.state r.later;
+  gives = λ t r h. omega (
+    arith,
+    pushed-size one t r.state.contents.parts,
+    pushed-size text_size t r.state.contents.parts,
+    same_size t,
+  );
+  faults = λ k p r h. omega arith;
+  enters = λ c r h. omega (arith, due_some r.state.context, due_some c);
+  pays = λ t h x. omega (arith, h, x.tokens_are, x.bytes_are);
+  opens = λ kind r. omega (
+    arith,
+    opened-size one kind r.state.contents.parts,
+    opened-size text_size kind r.state.contents.parts,
+  );
+  closes = λ r.
+      omega (arith, closed-size one r.state.contents.parts, closed-size text_size r.state.contents.parts);
+  drops = λ r.
+      omega (arith, dropped-size one r.state.contents.parts, dropped-size text_size r.state.contents.parts);
+  occurs = λ o r. omega (arith, total-append occurrence_size r.state.contents.occurrences (o ∷ []));
+  replaces = λ x r. omega (arith, total-append replacement_size r.state.contents.replacements (x ∷ []));
+  folds = λ v r. omega arith;
+  numbers = λ n ns r e. omega arith;
+}
