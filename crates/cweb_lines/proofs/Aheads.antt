@@ -1,6 +1,6 @@
 -- Lines that are looked at where they lie, one behind another.
-use Rattle.cweb_lines.proofs.Common.{◌≡◌, ◌≤◌, ◌<◌, ◌+◌, ◌-◌, ℕ, List, [], ◌∷◌, ◌++◌, length, map, Option, None, Some, refl, sym, ◌∙◌, ap, subst, arith, append_cancel_right, length-append, length-map, map-append, slice_range, unwrap_or, IfSome, OnSome, Place, Fits, FitsAt, IsAhead, LooksAt, LooksIn, Entry, LendsLines, lent_at, Line, IsOneLine, SourceLine, TextLine, numbered, trimmed, pending_of, told_by, ComesNext, GivesLines, HasRoomFor, IsStretch, Reaches, StandsAt, StandsIn, ended, lines_next, top_of, IsSettled, floor_of, files_up_to, Limits, LINES, Ahead, Lent, Stretch, Run, OpenText}
-use Rattle.cweb_lines.proofs.Fronts.{told_given, told_then}
+use Rattle.cweb_lines.proofs.Common.{◌≡◌, ◌≤◌, ◌<◌, ◌+◌, ◌-◌, ℕ, List, [], ◌∷◌, ◌++◌, length, map, Option, None, Some, refl, sym, ◌∙◌, ap, subst, arith, append_cancel_right, length-append, length-map, map-append, slice_range, unwrap_or, IfSome, OnSome, Place, Fits, FitsAt, IsAhead, LooksAt, LooksIn, Entry, LendsLines, lent_at, Line, IsOneLine, SourceLine, numbered, trimmed, pending_of, told_by, ComesNext, GivesLines, HasRoomFor, IsStretch, Reaches, StandsAt, StandsIn, ended, lines_next, top_of, IsSettled, floor_of, files_up_to, Limits, LINES, Ahead, Lent, Stretch, Run, OpenText}
+use Rattle.cweb_lines.proofs.Fronts.{grows_told, told_given, told_then}
 use Rattle.cweb_lines.proofs.Stacks.{most_at}
 use Rattle.cweb_lines.proofs.Standing.{few_lines, joined, numbered-append}
 use Rattle.cweb_lines.proofs.Sums.{gives_both}
@@ -28,16 +28,7 @@ module _ {R : Type 0} (entry : Option Entry) (text : OpenText R) (lines : List (
     bytes = slice_range text.source.piece.items ahead.line.from ahead.line.to;
     place = ahead.line.place;
   } ∷ []
-  given =
-      let count : text.line + 1 + length (map ended lines) ≡ text.line + 1 + length lines =
-      omega (arith, length-map lines ended) in
-      let moved : here (text.line + 1 + length (map ended lines)) ≡ ahead.line.place = ap here count ∙ sym place in
-      ap (λ (ts : List TextLine). map line_of (numbered text.file.0 (text.line + 1) ts))
-      (map-append ended lines (raw ∷ []))
-      ∙ ap (λ (ls : List SourceLine). map line_of ls)
-      (numbered-append text.file.0 (text.line + 1) (map ended lines) (ended raw ∷ []))
-      ∙ map-append line_of sources (numbered text.file.0 (text.line + 1 + length (map ended lines)) (ended raw ∷ []))
-      ∙ (λ i. map line_of sources ++ record { bytes = sym bytes i; place = moved i } ∷ [])
+  given = simp (map-append, numbered-append, length-map, bytes, place)
 
   pub looks_one : LooksIn entry (Some text) lines ahead
   looks_one = record {
@@ -194,11 +185,7 @@ whatever (Some x) P holds = holds
 pub lends_lines : {R : Type 0} (old new : Run R) (lines : List Line) → GivesLines old new lines → LendsLines old new
 lends_lines old new lines given = record {
   gives = λ texts left. (lines, given.gives texts left);
-  grows = record {
-    told = told_given _ (told_by old) (told_by new) _ _ (given.gives (λ _. None) (λ _. []));
-    lines = new.limits.few;
-    bytes = new.limits.small;
-  };
+  grows = grows_told new (told_given _ (told_by old) (told_by new) _ _ (given.gives (λ _. None) (λ _. [])));
   stopped = given.stopped;
   readers = given.readers;
 }
@@ -207,11 +194,7 @@ pub lends_then : {R : Type 0} (old mid new : Run R) → LendsLines old mid → L
 lends_then old mid new first then = record {
   gives = λ texts left.
       (_, gives_both _ _ _ _ _ _ _ _ (first.gives texts left).1 (then.gives texts left).1);
-  grows = record {
-    told = told_then _ _ _ first.grows.told then.grows.told;
-    lines = then.grows.lines;
-    bytes = then.grows.bytes;
-  };
+  grows = grows_told new (told_then _ _ _ first.grows.told then.grows.told);
   stopped = then.stopped ∙ first.stopped;
   readers = λ opened_as known. then.readers opened_as (first.readers opened_as known);
 }

@@ -1,6 +1,6 @@
 -- What comes of lines where no change is pending: what stands behind them comes as if alone, and the numbers of files
 -- don't matter.
-use Rattle.cweb_lines.proofs.Common.{◌≡◌, ◌+◌, ℕ, zero, suc, Bool, true, false, List, [], ◌∷◌, ◌++◌, None, Some, Option, refl, sym, ◌∙◌, ap, arith, length, append_assoc, AllByRecursion, Line, SourceLine, lines_in, World, Found, found_at, include_name, is_include, at_place, file_behind, fault_renumbered, line_renumbered, Event, Next, RawLine, State, Thing, at_raw, fault, given, included, obeyed, onto, opened, opening, passed, past, plain, raw, raws, run, seek, taking, told, took, openings, merge, merge_next, SourceFault, NoName, NotThere, TooDeep}
+use Rattle.cweb_lines.proofs.Common.{OPEN_FILES, nat_lt, ◌≡◌, ◌+◌, ℕ, zero, suc, Bool, true, false, List, [], ◌∷◌, ◌++◌, None, Some, Option, refl, sym, ◌∙◌, ap, arith, length, append_assoc, AllByRecursion, Line, SourceLine, lines_in, World, Found, found_at, include_name, is_include, at_place, Event, Next, RawLine, State, Thing, at_raw, fault, given, included, obeyed, onto, opened, opening, passed, past, plain, raw, raws, run, seek, taking, told, took, openings, merge, merge_next, SourceFault, NoName, NotThere, TooDeep}
 use Rattle.cweb_lines.proofs.Merges.{state}
 
 -- what a raw line comes to, where it begins no change: it is given out, is a fault, or opens a text
@@ -14,61 +14,46 @@ becomes (gives line) s r things = (given line ∷ [], past s things)
 becomes (faults f) s r things = (fault f ∷ [], past s things)
 becomes (opens found) s r things = obeyed (Some found) s r things
 
--- the same line in a run in which each file but the web has the next number
-abbrev pub source_behind : SourceLine → SourceLine
-source_behind source = record {
-  line = line_renumbered file_behind source.line;
-  length = source.length;
-  size = source.size;
-}
+-- what that is, by the line
+abbrev pub found_kind : Option Found → RawLine → Kind
+found_kind None r = faults (at_place NotThere r.source.line.place)
+found_kind (Some found) r = opens found
 
-abbrev pub raw_behind : RawLine → RawLine
-raw_behind r = record { source = source_behind r.source; depth = r.depth; may_match = r.may_match }
+abbrev pub opened_kind : Bool → World → List ℕ → RawLine → Kind
+opened_kind false world name r = faults (at_place TooDeep r.source.line.place)
+opened_kind true world name r = found_kind (found_at world name) r
 
-abbrev pub kind_behind : Kind → Kind
-kind_behind (gives line) = gives (line_renumbered file_behind line)
-kind_behind (faults f) = faults (fault_renumbered file_behind f)
-kind_behind (opens found) = opens found
+abbrev pub included_kind : List ℕ → World → RawLine → Kind
+included_kind [] world r = faults (at_place NoName r.source.line.place)
+included_kind (b ∷ bs) world r = opened_kind (nat_lt r.depth OPEN_FILES) world (b ∷ bs) r
 
-pub record Goes (r : RawLine) (go : State → RawLine → List Thing → Next) : Type 0 where
-  pub kind : Kind
-  pub is : (s : State) (things : List Thing) → go s r things ≡ becomes kind s r things
-  pub behind : (s : State) (things : List Thing) → go s (raw_behind r) things
-      ≡ becomes (kind_behind kind) s (raw_behind r) things
+abbrev pub plain_kind : Bool → World → RawLine → Kind
+plain_kind false world r = gives r.source.line
+plain_kind true world r = included_kind (include_name r.source.line.bytes) world r
 
-obeyed_goes : (r : RawLine) (found : Option Found) → Goes r (obeyed found)
-obeyed_goes r None = record {
-  kind = faults (at_place NotThere r.source.line.place);
-  is = λ s things. refl;
-  behind = λ s things. refl;
-}
-obeyed_goes r (Some found) = record { kind = opens found; is = λ s things. refl; behind = λ s things. refl }
+abbrev pub kind_of : World → RawLine → Kind
+kind_of world r = plain_kind (is_include r.source.line.bytes) world r
 
-opened_goes : (world : World) (r : RawLine) (b : Bool) (name : List ℕ) → Goes r (opened b world name)
-opened_goes world r false name =
-    record { kind = faults (at_place TooDeep r.source.line.place); is = λ s things. refl; behind = λ s things. refl }
-opened_goes world r true name = obeyed_goes r (found_at world name)
+module _ (world : World) (r : RawLine) (s : State) (things : List Thing) where
+  found_is : (found : Option Found) → obeyed found s r things ≡ becomes (found_kind found r) s r things
+  found_is None = refl
+  found_is (Some found) = refl
 
-included_goes : (world : World) (r : RawLine) (name : List ℕ) → Goes r (included name world)
-included_goes world r [] = record {
-  kind = faults (at_place NoName r.source.line.place);
-  is = λ s things. refl;
-  behind = λ s things. refl;
-}
-included_goes world r (b ∷ bs) =
-    let there = opened_goes world r _ (b ∷ bs) in
-    record { kind = there.kind; is = there.is; behind = there.behind }
+  opened_is : (b : Bool) (name : List ℕ) → opened b world name s r things
+      ≡ becomes (opened_kind b world name r) s r things
+  opened_is false name = refl
+  opened_is true name = found_is (found_at world name)
 
-plain_goes : (world : World) (r : RawLine) (b : Bool) → Goes r (plain b world)
-plain_goes world r false = record { kind = gives r.source.line; is = λ s things. refl; behind = λ s things. refl }
-plain_goes world r true =
-    let there = included_goes world r (include_name r.source.line.bytes) in
-    record { kind = there.kind; is = there.is; behind = there.behind }
+  included_is : (name : List ℕ) → included name world s r things ≡ becomes (included_kind name world r) s r things
+  included_is [] = refl
+  included_is (b ∷ bs) = opened_is (nat_lt r.depth OPEN_FILES) (b ∷ bs)
 
-pub raw_goes : (world : World) (r : RawLine) → Goes r (at_raw None world)
-raw_goes world r =
-    let there = plain_goes world r (is_include r.source.line.bytes) in
-    record { kind = there.kind; is = there.is; behind = there.behind }
+  plain_is : (b : Bool) → plain b world s r things ≡ becomes (plain_kind b world r) s r things
+  plain_is false = refl
+  plain_is true = included_is (include_name r.source.line.bytes)
+
+  pub raw_is : at_raw None world s r things ≡ becomes (kind_of world r) s r things
+  raw_is = plain_is (is_include r.source.line.bytes)
 
 -- no search for an entry
 abbrev pub IsNoSearch : Thing → Type 0
@@ -148,10 +133,10 @@ module _ (world : World) (later : List Thing) (change : List SourceLine) where
       ∙ ap (λ (es : List Event). took line ∷ es) (front n files things x.0 none.1 x.1)
       ∙ ap (λ (es : List Event). es ++ coming_of (files + length (openings es)) later) x.2
   front (suc n) files (raw r ∷ things) events none is =
-      let goes = raw_goes world r in
       let s = state (raw r ∷ things) None change files in
       let s' = state (raw r ∷ things ++ later) None change files in
-      let same = ap (λ (next : Next). onto (took r.source ∷ next.0) (run n world next.1)) (goes.is s things) in
-      merge_next world s' (taking r.source (becomes goes.kind s' r (things ++ later)))
-      (ap (λ (next : Next). Some (taking r.source next)) (goes.is s' (things ++ later)))
-      ∙ front_raw n r things files events none.1 (λ f ts es no i. front n f ts es no i) goes.kind (sym same ∙ is)
+      let same = ap (λ (next : Next). onto (took r.source ∷ next.0) (run n world next.1)) (raw_is world r s things) in
+      merge_next world s' (taking r.source (becomes (kind_of world r) s' r (things ++ later)))
+      (ap (λ (next : Next). Some (taking r.source next)) (raw_is world r s' (things ++ later)))
+      ∙ front_raw n r things files events none.1
+      (λ f ts es no i. front n f ts es no i) (kind_of world r) (sym same ∙ is)

@@ -1,26 +1,22 @@
 -- What the code of a line says within a change.
-use Rattle.cweb_lines.proofs.Common.{◌≡◌, ℕ, true, false, List, [], ◌∷◌, Some, None, Option, refl, ◌∙◌, ap, Place, OldSide, code_of, old_at, old_code, old_lines, at_place, Line, SourceLine, sameb, the_type, Code, NewSide, new_at, new_things, passed, told, WantsZ}
-use Rattle.cweb_lines.specs.declared.change.code.Code.TheVariants.{OldSide as old_side, NewSide as new_side, EndSide as end_side}
+use Rattle.cweb_lines.proofs.Common.{◌≡◌, ℕ, true, false, List, [], ◌∷◌, Some, Option, refl, ◌∙◌, ap, Place, OldSide, code_of, old_at, old_code, old_lines, at_place, Line, SourceLine, sameb, the_type, Code, NewSide, new_at, new_things, passed, told, WantsZ}
+use Rattle.cweb_lines.specs.declared.change.code.Code.TheVariants.{NewSide as new_side, EndSide as end_side}
 
 -- what a comparison of codes says
 pub is_new : (code : Code) → sameb the_type code new_side ≡ true → code ≡ new_side
-is_new old_side same = absurd (cc)
 is_new new_side same = refl
-is_new end_side same = absurd (cc)
+is_new _ same = absurd (cc)
 
 pub is_faulty : (code : Code) (line : SourceLine) (lines : List SourceLine) (later : OldSide) →
     sameb the_type code new_side ≡ false → old_at (Some code) line lines later ≡ old_code line later
-is_faulty old_side line lines later other = refl
 is_faulty new_side line lines later other = absurd (cc)
-is_faulty end_side line lines later other = refl
+is_faulty _ line lines later other = refl
 
 -- whatever comes of a line of the old side, it is taken first
 pub taken_at : (code : Option Code) (line : SourceLine) (lines : List SourceLine) (later : OldSide) →
     (more : List SourceLine) × ((old_at code line lines later).taken ≡ line ∷ more)
-taken_at None line lines later = (later.taken, refl)
-taken_at (Some old_side) line lines later = (later.taken, refl)
 taken_at (Some new_side) line lines later = ([], refl)
-taken_at (Some end_side) line lines later = (later.taken, refl)
+taken_at _ line lines later = (later.taken, refl)
 
 -- what an old side comes to at its next line, by the code that this has
 pub old_code_at : (code : Option Code) (line : SourceLine) (lines : List SourceLine) (bytes : List ℕ) (place : Place) →
@@ -31,13 +27,11 @@ old_code_at code line lines bytes place is test = ap (λ (l : Line). old_at (cod
 
 -- what a comparison of codes says
 pub is_end : (code : Code) → sameb the_type code end_side ≡ true → code ≡ end_side
-is_end old_side same = absurd (cc)
-is_end new_side same = absurd (cc)
 is_end end_side same = refl
+is_end _ same = absurd (cc)
 
 pub is_faulty_new : (code : Code) (depth : ℕ) (line : SourceLine) (lines : List SourceLine) (later : NewSide)
     → sameb the_type code end_side ≡ false → new_at (Some code) depth line lines later
     ≡ new_things (passed line ∷ told (at_place WantsZ line.line.place) ∷ []) later
-is_faulty_new old_side depth line lines later other = refl
-is_faulty_new new_side depth line lines later other = refl
 is_faulty_new end_side depth line lines later other = absurd (cc)
+is_faulty_new _ depth line lines later other = refl

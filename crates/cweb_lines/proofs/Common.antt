@@ -32,6 +32,7 @@ pub use Rattle.cweb_files.specs.Frames.{KeepsPlace, Writes, KeepsTexts}
 pub use Rattle.cweb_files.specs.declared.place.FileId.{FileId}
 pub use Rattle.cweb_files.specs.declared.place.Place.{Place}
 pub use Rattle.cweb_lines.specs.Ahead.{Fits, FitsAt, IsAhead, LooksAt, LooksIn}
+pub use Rattle.cweb_lines.specs.Calls.{KeepsStack, OnlyOpens}
 pub use Rattle.cweb_lines.specs.Change.{Entry, at_place, OldSide, code_of, old_at, old_code, old_lines, Sought}
 pub use Rattle.cweb_lines.specs.Change.{behind_x, outside, sought, old_line, passing}
 pub use Rattle.cweb_lines.specs.Counts.{count_of}
@@ -57,7 +58,7 @@ pub use Rattle.cweb_lines.specs.Merging.{told_by, IsFront, KeepsTold, change_lin
 pub use Rattle.cweb_lines.specs.Merging.{NothingLeft, GivesBehind, StopsBehind, turns_left, lines_given}
 pub use Rattle.cweb_lines.specs.Names.{names_of}
 pub use Rattle.cweb_lines.specs.Naming.{AreNamed, AreReadersKnown, BlamesFile, IsNamed, blame, name_of_file, KeepsNames}
-pub use Rattle.cweb_lines.specs.Naming.{KeepsReaders}
+pub use Rattle.cweb_lines.specs.Naming.{KeepsReaders, KeepsName}
 pub use Rattle.cweb_lines.specs.Passing.{ComesNext, GivesLines, HasRoomFor, IsStretch, Reaches, StandsAt, StandsIn}
 pub use Rattle.cweb_lines.specs.Passing.{ended, lines_next, top_of, PassesLines, Held, ArePassing, printed}
 pub use Rattle.cweb_lines.specs.Passing.{sources_next, standing, text_at, Passes, piece_of, PassesTop, KeepsLevel}
@@ -79,7 +80,7 @@ pub use Rattle.cweb_lines.specs.Texts.{lines_left, DeepAt, gap_at, Pushes, Takes
 pub use Rattle.cweb_lines.specs.Texts.{newline_bytes, Counted, files_named, line_number, AreDeep}
 pub use Rattle.cweb_lines.specs.Told.{given_lines, told_faults, openings, taken_lines, size_of, AreShort}
 pub use Rattle.cweb_lines.specs.Total.{merge, merge_next, merge-run, merge_end}
-pub use Rattle.cweb_lines.specs.Whole.{to_come, so_far, stop_in, KnowsReaders}
+pub use Rattle.cweb_lines.specs.Whole.{Grows, to_come, so_far, stop_in, KnowsReaders}
 pub use Rattle.cweb_lines.specs.Writing.{text_of, WritesFront, Gathered, FailsAmong, LosesLine, PassesOn, WritesRest}
 pub use Rattle.cweb_lines.specs.Writing.{leaves, writes, fails, StopsWriting, WritingStops, Failed, IsOwnStop, Blames}
 pub use Rattle.cweb_lines.specs.Writing.{write_blame, WritesAll, WritesSome, WritesUpTo}

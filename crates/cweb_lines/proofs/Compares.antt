@@ -1,5 +1,5 @@
 -- What a comparison of an old line with a raw line comes to.
-use Rattle.cweb_lines.proofs.Common.{◌≡◌, ◌+◌, ◌||◌, ℕ, Bool, true, false, List, [], ◌∷◌, refl, sym, ◌∙◌, ap, subst, arith, if◌then◌else◌, bytes_eq, Line, Thing, compared, SoFar, Compares, Took, raw_at, Replaced, LineAt, or-true}
+use Rattle.cweb_lines.proofs.Common.{◌≡◌, ◌+◌, ◌||◌, ℕ, Bool, true, false, List, [], ◌∷◌, refl, sym, ◌∙◌, ap, arith, if◌then◌else◌, bytes_eq, Line, Thing, compared, SoFar, Compares, Took, raw_at, Replaced, LineAt, or-true}
 use Rattle.cweb_lines.proofs.Adds.{adds_none, adds_one}
 
 -- where no raw line is left, old lines take none
@@ -30,18 +30,7 @@ pub compares_none : (bytes : List ℕ) (before : Replaced) (things things' : Lis
     → things ≡ things' → things' ≡ [] → new ≡ old → Compares
     bytes before (record { unequal = before.unequal; ran_out = true; ended = before.ended }) things things' old new
 compares_none bytes before things things' old new is none same =
-    subst (λ (ts : List Thing). Compares bytes before (record {
-      unequal = before.unequal;
-      ran_out = true;
-      ended =
-          before.ended;
-    }) ts things' old new) (sym (is ∙ none))
-    (subst (λ (ts : List Thing). Compares bytes before (record {
-      unequal = before.unequal;
-      ran_out = true;
-      ended =
-          before.ended;
-    }) [] ts old new) (sym none) (compares_empty bytes before old new same))
+    rw (is, none) (compares_empty bytes before old new same)
 
 pub compares_some : (bytes raw_bytes : List ℕ) (before after : Replaced) (at : LineAt) (things things' : List Thing)
     (old new : SoFar) (t : Took raw_bytes at.place old.count new.count) → things ≡ raw_at at t.line ∷ things'
@@ -49,7 +38,7 @@ pub compares_some : (bytes raw_bytes : List ℕ) (before after : Replaced) (at :
     ≡ (if bytes_eq raw_bytes bytes then before.unequal else before.unequal + 1) → after.ran_out ≡ before.ran_out →
     Compares bytes before after things things' old new
 compares_some bytes raw_bytes before after at things things' old new t is told names unequal ran_out =
-    subst (λ (ts : List Thing). Compares bytes before after ts things' old new) (sym is) (record {
+    rw is (record {
       taken = t.line ∷ [];
       taken_are = λ olds. refl;
       unequal = λ olds. ap (λ (l : Line). before.unequal + (if bytes_eq l.bytes bytes then

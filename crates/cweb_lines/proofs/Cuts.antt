@@ -1,6 +1,7 @@
 -- Lines that are cut and trimmed stay so through each step of a merge, and none that is given out begins an include.
-use Rattle.cweb_lines.proofs.Common.{◌≡◌, ◌≢◌, ◌+◌, ◌==◌, ◌&&◌, ℕ, Bool, true, false, cond, List, [], ◌∷◌, ◌++◌, map, None, Some, Option, refl, sym, ◌∙◌, ap, subst, arith, AllByRecursion, nat_lt, if◌then◌else◌, bytes_eq, nat_tests, Place, HasNoNewline, Line, SourceLine, TextLine, before_blanks, is_blank, lines, lines_in, numbered, onto_first, text_lines, trimmed, Found, World, found_at, include_name, is_include, Entry, OldSide, Sought, at_place, behind_x, code_of, old_at, old_lines, outside, sought, Compared, Event, NewSide, Next, RawLine, State, Thing, after_old, at_entry, at_raw, change_events, compared, fault, fault_if, included, new_at, new_lines, obeyed, opened, passed, plain, raw, raws, seek, told, took, given_lines, Code, SourceFault, EndedBeforeY, Unequal, WebEnded}
+use Rattle.cweb_lines.proofs.Common.{◌≡◌, ◌≢◌, ◌+◌, ◌==◌, ◌&&◌, ℕ, Bool, true, false, cond, List, [], ◌∷◌, ◌++◌, map, None, Some, Option, refl, sym, ap, subst, arith, AllByRecursion, if◌then◌else◌, bytes_eq, nat_tests, Place, HasNoNewline, Line, SourceLine, TextLine, before_blanks, is_blank, lines, lines_in, numbered, onto_first, text_lines, trimmed, Found, World, found_at, include_name, is_include, Entry, OldSide, Sought, behind_x, code_of, old_at, old_lines, outside, sought, Compared, Event, NewSide, Next, RawLine, State, Thing, after_old, at_entry, at_raw, change_events, compared, fault, fault_if, included, new_at, new_lines, obeyed, opened, passed, plain, raw, raws, seek, told, given_lines, Code, SourceFault}
 use Rattle.cweb_lines.specs.declared.change.code.Code.TheVariants.{EndSide as end_side, NewSide as new_side, OldSide as old_side}
+use Rattle.cweb_lines.proofs.Adds.{given-took, given_none}
 use Rattle.cweb_lines.proofs.Sums.{given-append}
 use Rattle.cweb_lines.proofs.Trims.{trimmed-clean}
 
@@ -76,10 +77,8 @@ raws-cut depth may_match (line ∷ lines) all = (all.0, raws-cut depth may_match
 outside-cut : (code : Option Code) (place : Place) (later : Option Place → Sought)
     → ((p : Option Place) → AllByRecursion IsCutLine (later p).rest) → AllByRecursion IsCutLine
     (outside code place later).rest
-outside-cut None place later all = all None
 outside-cut (Some old_side) place later all = all (Some place)
-outside-cut (Some new_side) place later all = all None
-outside-cut (Some end_side) place later all = all None
+outside-cut _ place later all = all None
 
 behind-cut : (bytes : List ℕ) (code : Option Code) (begin : Place) (line : SourceLine) (lines : List SourceLine)
     (later : Option Place → Sought) → AllByRecursion IsCutLine lines
@@ -101,10 +100,8 @@ sought-cut (line ∷ lines) (Some begin) cut = behind-cut line.line.bytes
 old_at-cut : (code : Option Code) (line : SourceLine) (lines : List SourceLine) (later : OldSide)
     → AllByRecursion IsCutLine lines → AllByRecursion IsCutLine later.rest
     → AllByRecursion IsCutLine (old_at code line lines later).rest
-old_at-cut None line lines later cut all = all
-old_at-cut (Some old_side) line lines later cut all = all
 old_at-cut (Some new_side) line lines later cut all = cut
-old_at-cut (Some end_side) line lines later cut all = all
+old_at-cut _ line lines later cut all = all
 
 old_lines-cut : (lines : List SourceLine) → AllByRecursion IsCutLine lines
     → AllByRecursion IsCutLine (old_lines lines).rest
@@ -118,9 +115,8 @@ IsCutSide side = AllByRecursion IsCutThing side.things × AllByRecursion IsCutLi
 new_at-cut : (code : Option Code) (depth : ℕ) (line : SourceLine) (lines : List SourceLine) (later : NewSide)
     → IsCutLine line → AllByRecursion IsCutLine lines → IsCutSide later → IsCutSide (new_at code depth line lines later)
 new_at-cut None depth line lines later first cut all = ((first, all.0), all.1)
-new_at-cut (Some old_side) depth line lines later first cut all = ((tt, (tt, all.0)), all.1)
-new_at-cut (Some new_side) depth line lines later first cut all = ((tt, (tt, all.0)), all.1)
 new_at-cut (Some end_side) depth line lines later first cut all = ((tt, tt), cut)
+new_at-cut (Some code) depth line lines later first cut all = ((tt, (tt, all.0)), all.1)
 
 new_lines-cut : (depth : ℕ) (begin : Place) (lines : List SourceLine) → AllByRecursion IsCutLine lines
     → IsCutSide (new_lines depth begin lines)
@@ -133,42 +129,21 @@ compared-cut : (olds : List (List ℕ)) (things : List Thing) → AllByRecursion
 compared-cut [] things cut = cut
 compared-cut (old ∷ olds) [] cut = tt
 compared-cut (old ∷ olds) (raw r ∷ things) cut = compared-cut olds things cut.1
-compared-cut (old ∷ olds) (seek ∷ things) cut = compared-cut (old ∷ olds) things cut.1
-compared-cut (old ∷ olds) (told f ∷ things) cut = compared-cut (old ∷ olds) things cut.1
-compared-cut (old ∷ olds) (passed l ∷ things) cut = compared-cut (old ∷ olds) things cut.1
+compared-cut (old ∷ olds) (_ ∷ things) cut = compared-cut (old ∷ olds) things cut.1
 
 -- events by which no line is given out
 abbrev pub IsSilent : List Event → Type 0
 IsSilent events = given_lines events ≡ []
 
-pub silent-append : (a b : List Event) → IsSilent a → IsSilent b → IsSilent (a ++ b)
-silent-append a b first later = given-append a b ∙ ap (λ (ls : List Line). ls ++ given_lines b) first ∙ later
-
-pub took-silent : (lines : List SourceLine) → IsSilent (map took lines)
-took-silent [] = refl
-took-silent (line ∷ lines) = took-silent lines
-
 pub faults-silent : (faults : List SourceFault) → IsSilent (map fault faults)
-faults-silent [] = refl
-faults-silent (f ∷ faults) = faults-silent faults
+faults-silent faults = given_none [] faults
 
 fault_if-silent : (b : Bool) (f : SourceFault) → IsSilent (fault_if b f)
 fault_if-silent true f = refl
 fault_if-silent false f = refl
 
 change-silent : (entry : Entry) (old : OldSide) (by : Compared) → IsSilent (change_events entry old by)
-change-silent entry old by =
-    let unequal : SourceFault = record { kind = Unequal; place = entry.begin; count = by.unequal } in
-    let lines = map took old.taken ++ map took by.taken in
-    let told = lines ++ map fault old.faults in
-    let ended = told ++ fault_if old.ended (at_place EndedBeforeY entry.begin) in
-    let ran_out = ended ++ fault_if by.ran_out (at_place WebEnded entry.begin) in
-    silent-append ran_out
-    (fault_if (nat_lt 0 by.unequal) unequal) (silent-append ended (fault_if by.ran_out (at_place WebEnded entry.begin))
-    (silent-append told (fault_if old.ended (at_place EndedBeforeY entry.begin)) (silent-append lines
-    (map fault old.faults) (silent-append (map took old.taken) (map took by.taken) (took-silent old.taken)
-    (took-silent by.taken)) (faults-silent old.faults)) (fault_if-silent old.ended (at_place EndedBeforeY entry.begin)))
-    (fault_if-silent by.ran_out (at_place WebEnded entry.begin))) (fault_if-silent (nat_lt 0 by.unequal) unequal)
+change-silent entry old by = simp (given-append, given-took, faults-silent, fault_if-silent)
 
 -- a state of cut lines
 abbrev pub IsCutState : State → Type 0

@@ -1,5 +1,5 @@
 -- What becomes of the lines of an entry, and of lines that begin no change.
-use Rattle.cweb_lines.proofs.Common.{◌≡◌, ◌≢◌, ◌&&◌, ℕ, Bool, true, false, List, [], ◌∷◌, ◌++◌, map, None, Some, Option, refl, sym, ◌∙◌, ap, append-nil, bytes_eq-Decides, list_any, bytes_eq, Place, Line, SourceLine, World, is_include, Entry, Sought, behind_x, code_of, old_at, old_line, old_lines, outside, passing, sought, is_code, followed_by, only_lines, seen, Event, RawLine, Thing, at_entry, compared, given, new_at, new_lines, new_things, one_more, passed, plain, raw, raws, taking, took, merge, merge_end, merge_next, Code, or_parts}
+use Rattle.cweb_lines.proofs.Common.{◌≡◌, ◌≢◌, ◌&&◌, ℕ, Bool, true, false, List, [], ◌∷◌, ◌++◌, map, None, Some, Option, refl, sym, ◌∙◌, ap, append-nil, bytes_eq-Decides, list_any, bytes_eq, Place, Line, SourceLine, World, is_include, Entry, Sought, behind_x, code_of, old_at, old_lines, outside, passing, sought, is_code, followed_by, only_lines, seen, Event, RawLine, Thing, at_entry, compared, given, new_at, new_lines, passed, plain, raws, taking, took, merge, merge_end, merge_next, Code, or_parts}
 use Rattle.cweb_lines.specs.declared.change.code.Code.TheVariants.{EndSide as end_side, NewSide as new_side, OldSide as old_side}
 use Rattle.cweb_lines.proofs.Merges.{state}
 use Rattle.cweb_lines.proofs.Seens.{line_first, no_code}
@@ -16,9 +16,7 @@ pub finds_none : (lines : List SourceLine) → list_any is_code (bytes_in lines)
 finds_none [] none = refl
 finds_none (line ∷ lines) none =
     let parts = or_parts (is_code line.line.bytes) (list_any is_code (bytes_in lines)) none in
-    ap (λ code. passing line (outside code line.line.place (λ begin. sought lines begin)))
-    (no_code (code_of line.line.bytes) parts.0)
-    ∙ ap (passing line) (finds_none lines parts.1)
+    simp (no_code (code_of line.line.bytes) parts.0, finds_none lines parts.1)
 
 -- the entry that begins with these two lines
 abbrev pub entry_of : SourceLine → SourceLine → Entry
@@ -37,13 +35,10 @@ pub finds : (comment : List SourceLine) (x first : SourceLine) (rest : List Sour
     ≡ record { faults = []; taken = comment ++ (x ∷ first ∷ []); entry = Some (entry_of x first); rest = rest }
 finds [] x first rest no_codes begins some none =
     ap (λ code. passing x (outside code x.line.place (λ begin. sought (first ∷ rest) begin))) begins
-    ∙ ap (passing x) (first_old first.line.bytes (code_of first.line.bytes) x.line.place first rest
-    (λ next. sought rest next) some none)
+    ∙ ap (passing x) (first_old _ _ _ _ _ (λ next. sought _ next) some none)
 finds (line ∷ comment) x first rest no_codes begins some none =
     let parts = or_parts (is_code line.line.bytes) (list_any is_code (bytes_in comment)) no_codes in
-    ap (λ code. passing line (outside code line.line.place (λ begin. sought (comment ++ (x ∷ first ∷ rest)) begin)))
-    (no_code (code_of line.line.bytes) parts.0)
-    ∙ ap (passing line) (finds comment x first rest parts.1 begins some none)
+    simp (no_code (code_of line.line.bytes) parts.0, finds comment x first rest parts.1 begins some none)
 
 -- the further old lines go up to the @y line
 pub old_splits : (further : List SourceLine) (y : SourceLine) (rest : List SourceLine)
@@ -53,18 +48,15 @@ pub old_splits : (further : List SourceLine) (y : SourceLine) (rest : List Sourc
 old_splits [] y rest no_codes turns = ap (λ code. old_at code y rest (old_lines rest)) turns
 old_splits (line ∷ further) y rest no_codes turns =
     let parts = or_parts (is_code line.line.bytes) (list_any is_code (bytes_in further)) no_codes in
-    ap (λ code. old_at code line (further ++ (y ∷ rest)) (old_lines (further ++ (y ∷ rest))))
-    (no_code (code_of line.line.bytes) parts.0)
-    ∙ ap (old_line line) (old_splits further y rest parts.1 turns)
+    simp (no_code (code_of line.line.bytes) parts.0, old_splits further y rest parts.1 turns)
 
 -- raw lines that equal the further old lines are taken away
 pub compares : (depth : ℕ) (may_match : Bool) (lines : List SourceLine) (later : List Thing)
     → compared (bytes_in lines) (raws depth may_match lines ++ later)
     ≡ record { unequal = 0; taken = lines; ran_out = false; rest = later }
 compares depth may_match [] later = refl
-compares depth may_match (line ∷ lines) later = ap (λ equal. one_more equal line (compared (bytes_in lines)
-    (raws depth may_match lines ++ later))) ((bytes_eq-Decides line.line.bytes line.line.bytes).1 refl)
-    ∙ ap (one_more true line) (compares depth may_match lines later)
+compares depth may_match (line ∷ lines) later =
+    simp ((bytes_eq-Decides line.line.bytes line.line.bytes).1 refl, compares depth may_match lines later)
 
 -- the new lines go up to the @z line
 pub new_splits : (depth : ℕ) (begin : Place) (new : List SourceLine) (z : SourceLine) (rest : List SourceLine)
@@ -74,10 +66,7 @@ pub new_splits : (depth : ℕ) (begin : Place) (new : List SourceLine) (z : Sour
 new_splits depth begin [] z rest no_codes ends = ap (λ code. new_at code depth z rest (new_lines depth begin rest)) ends
 new_splits depth begin (line ∷ new) z rest no_codes ends =
     let parts = or_parts (is_code line.line.bytes) (list_any is_code (bytes_in new)) no_codes in
-    ap (λ code. new_at code depth line (new ++ (z ∷ rest)) (new_lines depth begin (new ++ (z ∷ rest))))
-    (no_code (code_of line.line.bytes) parts.0)
-    ∙ ap (new_things (raw (record { source = line; depth = depth; may_match = false }) ∷ []))
-    (new_splits depth begin new z rest parts.1 ends)
+    simp (no_code (code_of line.line.bytes) parts.0, new_splits depth begin new z rest parts.1 ends)
 
 -- lines that begin no include and no change are given out
 pub gives_out : (world : World) (depth : ℕ) (may_match : Bool) (lines : List SourceLine) (later : List Thing)
@@ -86,12 +75,11 @@ pub gives_out : (world : World) (depth : ℕ) (may_match : Bool) (lines : List S
     ≡ followed_by (only_lines (lines_of lines)) (seen (merge world (state later None change files)))
 gives_out world depth may_match [] later change files plain_lines = refl
 gives_out world depth may_match (line ∷ lines) later change files plain_lines =
-    let parts = or_parts (is_include line.line.bytes) (list_any is_include (bytes_in lines)) plain_lines in
+    let parts = or_parts _ _ plain_lines in
     let r : RawLine = record { source = line; depth = depth; may_match = may_match } in
-    let rest = raws depth may_match lines ++ later in
-    let s = state (raw r ∷ rest) None change files in
-    ap seen (merge_next world s (took line ∷ given line.line ∷ [], state rest None change files)
-    (ap (λ b. Some (taking line (plain b world s r rest))) parts.0))
+    let rest = raws _ _ _ ++ later in
+    let s = state _ _ _ _ in
+    ap seen (merge_next _ s _ (ap (λ b. Some (taking line (plain b world s r rest))) parts.0))
     ∙ ap (line_first line.line) (gives_out world depth may_match lines later change files parts.1)
 
 pub gives_alone : (world : World) (depth : ℕ) (may_match : Bool) (lines : List SourceLine) (change : List SourceLine)
@@ -112,12 +100,11 @@ pub passes_by : (world : World) (depth : ℕ) (entry : Entry) (lines : List Sour
     ≡ followed_by (only_lines (lines_of lines)) (seen (merge world (state later (Some entry) change files)))
 passes_by world depth entry [] later change files plain_lines others = refl
 passes_by world depth entry (line ∷ lines) later change files plain_lines others =
-    let parts = or_parts (is_include line.line.bytes) (list_any is_include (bytes_in lines)) plain_lines in
-    let differ = or_parts (bytes_eq line.line.bytes entry.first)
-    (list_any (λ line. bytes_eq line entry.first) (bytes_in lines)) others in
+    let parts = or_parts _ _ plain_lines in
+    let differ = or_parts _ (list_any (λ line. bytes_eq _ entry.first) (bytes_in lines)) others in
     let r : RawLine = record { source = line; depth = depth; may_match = true } in
-    let rest = raws depth true lines ++ later in
-    let s = state (raw r ∷ rest) (Some entry) change files in
+    let rest = raws _ _ _ ++ later in
+    let s = state _ _ _ _ in
     ap seen (merge_next world s (took line ∷ given line.line ∷ [], state rest (Some entry) change files)
     (ap (λ b. Some (taking line (at_entry (true && b) entry world s r rest))) differ.0
     ∙ ap (λ b. Some (taking line (plain b world s r rest))) parts.0))

@@ -1,5 +1,5 @@
 -- What the two searches for a name find.
-use Rattle.cweb_lines.proofs.Common.{◌≡◌, ℕ, Bool, true, false, List, Option, Some, None, Result, Ok, Err, refl, sym, ◌∙◌, ap, IfOk, OnOk, OnErr, IsUtf8, IsUtf8-from_is_utf8, is_utf8-from_IsUtf8, World, Found, under, first_found, in_folder, found_if, found_at, web_at}
+use Rattle.cweb_lines.proofs.Common.{◌≡◌, ℕ, Bool, true, false, List, Option, Some, None, Result, Ok, Err, refl, sym, ◌∙◌, ap, IfOk, OnOk, IsUtf8, IsUtf8-from_is_utf8, is_utf8-from_IsUtf8, World, Found, under, first_found, in_folder, found_if, found_at}
 use Rattle.std.specs.Str.{is_utf8}
 
 pub found_nothing : (world : World) (name : List ℕ) → (IsUtf8 name → ⊥) → None ≡ found_at world name
@@ -27,11 +27,6 @@ module _ (texts : List ℕ → Option (List ℕ)) (inputs : Option (List ℕ)) (
 pub IfOk-map : {A E : Type 0} {P Q : A → Type 0} (r : Result A E) → ((x : A) → P x → Q x) → IfOk r P → IfOk r Q
 IfOk-map (Ok x) f p = f x p
 IfOk-map (Err e) f p = p
-
-module _ (texts : List ℕ → Option (List ℕ)) (web bytes : List ℕ) (same : bytes ≡ web) where
-  pub web_none : (second : Option (List ℕ)) → second ≡ None → None ≡ under bytes (texts bytes) →
-      None ≡ web_at texts web second
-  web_none second gone none = none ∙ ap (λ n. under n (texts n)) same ∙ ap (web_at texts web) (sym gone)
 
 pub OnOk-map : {A E P Q : Type 0} (r : Result A E) → (P → Q) → OnOk r P → OnOk r Q
 OnOk-map (Ok x) f p = f p

@@ -1,12 +1,8 @@
 -- What was told stays in front of what is told later.
-use Rattle.cweb_lines.proofs.Common.{◌≡◌, ◌≤◌, ℕ, List, [], ◌++◌, None, length, sym, ◌∙◌, ap, arith, length-append, Result, Ok, Err, OnOk, OnErr, append-nil, append_assoc, Line, Event, SoFar, Gives, IsFront, KeepsTold, told_by, names_of, PassesLines, OnlyTakes, SourceFault, Run, told_faults, openings}
+use Rattle.cweb_lines.proofs.Common.{◌≡◌, ◌≤◌, ℕ, List, [], ◌++◌, None, length, ap, arith, length-append, Result, Ok, Err, OnOk, OnErr, append-nil, append_assoc, Line, Event, SoFar, Gives, IsFront, KeepsTold, Grows, told_by, names_of, PassesLines, OnlyTakes, SourceFault, Run}
 
 front_then : {A : Type 0} (a b c : List A) → IsFront a b → IsFront b c → IsFront a c
-front_then {A = A} a b c first then = (
-  first.0 ++ then.0,
-  then.1 ∙ ap (λ (l : List A). l ++ then.0) first.1
-      ∙ append_assoc a first.0 then.0,
-)
+front_then a b c first then = (first.0 ++ then.0, simp (then.1, first.1, append_assoc))
 
 pub told_then : (a b c : SoFar) → KeepsTold a b → KeepsTold b c → KeepsTold a c
 told_then a b c first then = record {
@@ -22,8 +18,7 @@ told_more old new faults names faults_are names_are = record {
 }
 
 pub told_same : (old new : SoFar) → new.faults ≡ old.faults → new.names ≡ old.names → KeepsTold old new
-told_same old new faults names = told_more old new [] [] (faults ∙ sym (append-nil old.faults))
-    (names ∙ sym (append-nil old.names))
+told_same old new faults names = told_more old new [] [] (simp (faults, append-nil)) (simp (names, append-nil))
 
 -- no fewer files are known
 pub told_files : (old new : SoFar) → KeepsTold old new → length old.names ≤ length new.names
@@ -37,13 +32,12 @@ told_files old new told = omega (
 -- what comes of a merge is told behind what was told before
 pub told_given : (lines : List Line) (old new : SoFar) (all later : List Event) → Gives lines old new all later
     → KeepsTold old new
-told_given lines old new all later gives = told_more old new (told_faults gives.events) (openings gives.events)
-    gives.faults gives.names
+told_given lines old new all later gives = told_more old new _ _ gives.faults gives.names
 
 -- faults were told
 pub told_behind : (old new : SoFar) (more : List SourceFault) → new.faults ≡ old.faults ++ more
     → new.names ≡ old.names → KeepsTold old new
-told_behind old new more faults names = told_more old new more [] faults (names ∙ sym (append-nil old.names))
+told_behind old new more faults names = told_more old new more [] faults (simp (names, append-nil))
 
 -- by an answer: faults were told, or memory was refused for them
 pub told_if : {A E : Type 0} (result : Result A E) (old new : SoFar) (more : List SourceFault)
@@ -54,14 +48,22 @@ told_if (Err e) old new more told same names = told_same old new same names
 
 -- a line was taken
 pub told_took : {R : Type 0} {old new : Run R} → OnlyTakes old new → KeepsTold (told_by old) (told_by new)
-told_took {old = old} {new = new} only = told_same (told_by old) (told_by new) (λ i. (only.faults i).items)
-    (ap names_of only.names)
+told_took {old = old} {new = new} only = told_same _ _ (λ i. (only.faults i).items) (ap names_of only.names)
+
+pub took_faults : {R : Type 0} {old new : Run R} → OnlyTakes old new → new.faults.items ≡ old.faults.items
+took_faults only = λ i. (only.faults i).items
+
+pub took_names : {R : Type 0} {old new : Run R} → OnlyTakes old new → names_of new.names ≡ names_of old.names
+took_names only = ap names_of only.names
+
+-- what a run told and counted, and the limits that it keeps
+pub grows_told : {R : Type 0} {old : SoFar} (run : Run R) → KeepsTold old (told_by run) → Grows old (told_by run)
+grows_told run told = record { told = told; lines = run.limits.few; bytes = run.limits.small }
 
 -- lines that passed through tell nothing
 pub told_passed : {R : Type 0} {old new : Run R} {piece more : List ℕ} → PassesLines old new piece more
     → KeepsTold (told_by old) (told_by new)
-told_passed {old = old} {new = new} passes = told_given passes.lines (told_by old) (told_by new) _ _
-    (passes.gives (λ _. None) (λ _. []))
+told_passed {old = old} {new = new} passes = told_given _ _ _ _ _ (passes.gives (λ _. None) (λ _. []))
 
 pub told_halted : {old new : SoFar} → new ≡ old → KeepsTold old new
 told_halted {old = old} {new = new} is = told_same old new (ap (λ (s : SoFar). s.faults) is)

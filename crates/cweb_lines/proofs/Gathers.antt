@@ -1,5 +1,5 @@
 -- How lines that were given out are gathered, passed on and lost.
-use Rattle.cweb_lines.proofs.Common.{◌≡◌, ◌+◌, ℕ, List, [], ◌∷◌, ◌++◌, length, refl, sym, ◌∙◌, ap, subst, inl, inr, arith, length-append, IsTrue, append-nil, append_assoc, KeepsPlace, Writes, Line, Event, SoFar, Gives, Held, given_lines, text_of, WritesFront, Gathered, FailsAmong, LosesLine, PassesOn}
+use Rattle.cweb_lines.proofs.Common.{◌≡◌, ℕ, List, [], ◌∷◌, ◌++◌, length, refl, sym, ◌∙◌, ap, inl, inr, arith, length-append, IsTrue, append-nil, append_assoc, KeepsPlace, Writes, Line, Event, SoFar, Gives, Held, given_lines, text_of, WritesFront, Gathered, FailsAmong, LosesLine, PassesOn}
 use Rattle.cweb_files.specs.declared.device.Sink.{Ghosts as Sink}
 use Rattle.cweb_lines.proofs.Keeps.{place_told, writes_then}
 use Rattle.cweb_lines.proofs.Sums.{gives_both}
@@ -18,13 +18,11 @@ pub held : (room : ℕ) (old so : SoFar) (all now : List Event) (Wrote : List �
 held room old so all now Wrote piece g line so' later next more is = record {
   done = g.done;
   gathered = g.gathered ++ line ∷ [];
-  gives = subst (λ (ls : List Line). Gives ls old so' all later) (append_assoc g.done g.gathered (line ∷ []))
-      (gives_both (g.done ++ g.gathered) (line ∷ []) old so so' all now later g.gives next);
+  gives = rw append_assoc at (gives_both (g.done ++ g.gathered) (line ∷ []) old so so' all now later g.gives next);
   wrote = g.wrote;
-  piece_is = is ∙ append_assoc piece line.bytes (10 ∷ []) ∙ ap (λ (t : List ℕ). t ++ (line.bytes ++ 10 ∷ [])) g.piece_is
-      ∙ sym (text_of-append g.gathered (line ∷ []));
+  piece_is = simp (is, g.piece_is, text_of-append, append_assoc);
   some = omega (arith, length-append g.gathered (line ∷ []));
-  alone = λ none. length-append g.gathered (line ∷ []) ∙ ap (λ (ls : List Line). length ls + 1) (g.alone none);
+  alone = λ none. simp (g.alone none);
 }
 
 -- lines that add no bytes are none
@@ -46,13 +44,11 @@ pub held_on : (room : ℕ) (old so : SoFar) (all now : List Event) (Wrote : List
 held_on room old so all now Wrote piece h lines so' later next more is alone = record {
   done = h.done;
   gathered = h.gathered ++ lines;
-  gives = subst (λ (ls : List Line). Gives ls old so' all later) (append_assoc h.done h.gathered lines)
-      (gives_both (h.done ++ h.gathered) lines old so so' all now later h.gives next);
+  gives = rw append_assoc at (gives_both (h.done ++ h.gathered) lines old so so' all now later h.gives next);
   wrote = h.wrote;
-  piece_is = is ∙ ap (λ (t : List ℕ). t ++ text_of lines) h.piece_is ∙ sym (text_of-append h.gathered lines);
+  piece_is = simp (is, h.piece_is, text_of-append);
   some = omega (arith, h.some, length-append h.gathered lines);
-  alone = λ none. ap (λ (ls : List Line). length (h.gathered ++ ls)) (no_lines lines piece (sym is ∙ alone none))
-      ∙ ap (λ (ls : List Line). length ls) (append-nil h.gathered) ∙ h.alone none;
+  alone = λ none. simp (no_lines lines piece (sym is ∙ alone none), append-nil, h.alone none);
 }
 
 module _ {W : Type 0} (sink : Sink W) (first mid : W) (keeps : KeepsPlace sink first mid) (room : ℕ) (old so : SoFar)
@@ -63,17 +59,15 @@ module _ {W : Type 0} (sink : Sink W) (first mid : W) (keeps : KeepsPlace sink f
     done = h.done;
     gathered = h.gathered;
     gives = h.gives;
-    wrote = subst (λ (t : List ℕ). Writes sink first new t) (append-nil (text_of h.done))
-        (writes_then sink first mid new (text_of h.done) [] keeps h.wrote kept.2);
+    wrote = rw append-nil at (writes_then sink first mid new (text_of h.done) [] keeps h.wrote kept.2);
     piece_is = kept.1 ∙ h.piece_is;
     alone = λ none. absurd (omega (arith, none, kept.0));
   }
   passed_on new rest (inr wrote) = record {
     done = h.done ++ h.gathered;
     gathered = [];
-    gives = subst (λ (ls : List Line). Gives ls old so all now) (sym (append-nil (h.done ++ h.gathered))) h.gives;
-    wrote = subst (λ (t : List ℕ). Writes sink first new t) (ap (λ (p : List ℕ). text_of h.done ++ p) h.piece_is
-        ∙ sym (text_of-append h.done h.gathered))
+    gives = rw append-nil h.gives;
+    wrote = rw (text_of-append, ← h.piece_is)
         (writes_then sink first mid new (text_of h.done) piece keeps h.wrote wrote.1);
     piece_is = wrote.0;
     alone = λ none. refl;
@@ -92,9 +86,7 @@ module _ {W : Type 0} (sink : Sink W) (first mid : W) (keeps : KeepsPlace sink f
     done = h.done;
     gathered = h.gathered;
     gives = h.gives;
-    front = subst (λ (m : List ℕ). WritesFront m (sink.written new) (text_of h.gathered)) (h.wrote tells)
-        (subst (λ (p : List ℕ). WritesFront (sink.written mid) (sink.written new) p) h.piece_is
-        (front (place_told sink first mid keeps tells)));
+    front = rw (h.wrote tells, h.piece_is) at (front (place_told sink first mid keeps tells));
     some = h.some;
     alone = h.alone;
   }

@@ -1,5 +1,5 @@
 -- Lines that pass through, as a merge takes them and gives them out.
-use Rattle.cweb_lines.proofs.Common.{◌≡◌, ◌+◌, ℕ, Bool, List, [], ◌∷◌, ◌++◌, length, map, Option, Some, None, refl, sym, ◌∙◌, ap, arith, length-append, Place, Entry, World, Line, SourceLine, numbered, trimmed, Event, Thing, took, given, raws, ArePassing, StandsAt, ended, lines_next, printed, sources_next, standing, text_at, matches_at, number_of, text_depth, AreShort, given_lines, openings, size_of, taken_lines, told_faults, merge, text_of, Stretch, OpenText}
+use Rattle.cweb_lines.proofs.Common.{◌≡◌, ◌+◌, ℕ, Bool, List, [], ◌∷◌, ◌++◌, length, map, Option, Some, None, refl, sym, ◌∙◌, ap, arith, length-append, Place, Entry, World, SourceLine, numbered, trimmed, Event, Thing, took, given, raws, ArePassing, StandsAt, ended, lines_next, printed, sources_next, standing, text_at, matches_at, number_of, text_depth, AreShort, given_lines, openings, size_of, taken_lines, told_faults, merge, text_of, Stretch, OpenText}
 use Rattle.cweb_lines.proofs.Merges.{merge_given, state}
 
 -- each is taken and given out
@@ -9,7 +9,7 @@ events_of (source ∷ sources) = took source ∷ given source.line ∷ events_of
 
 pub events-given : (sources : List SourceLine) → given_lines (events_of sources) ≡ map (λ source. source.line) sources
 events-given [] = refl
-events-given (source ∷ sources) = ap (λ (ls : List Line). source.line ∷ ls) (events-given sources)
+events-given (source ∷ sources) = simp (events-given sources)
 
 pub events-untold : (sources : List SourceLine) → told_faults (events_of sources) ≡ []
 events-untold [] = refl
@@ -21,7 +21,7 @@ events-unopened (source ∷ sources) = events-unopened sources
 
 pub events-taken : (sources : List SourceLine) → taken_lines (events_of sources) ≡ sources
 events-taken [] = refl
-events-taken (source ∷ sources) = ap (λ (ls : List SourceLine). source ∷ ls) (events-taken sources)
+events-taken (source ∷ sources) = simp (events-taken sources)
 
 -- what a merge gives of lines that pass through
 merge_lines : (world : World) (entry : Option Entry) (may_match : Bool) (depth file number : ℕ) (lines : List (List ℕ))
@@ -59,10 +59,7 @@ numbered-length file number (line ∷ lines) = omega (arith, numbered-length fil
 numbered-size : (file number : ℕ) (lines : List (List ℕ))
     → size_of (numbered file number (map ended lines)) ≡ length (standing lines)
 numbered-size file number [] = refl
-numbered-size file number (line ∷ lines) = omega (arith, numbered-size file (number + 1) lines, length_line)
-  where
-    length_line : length (line ++ 10 ∷ standing lines) ≡ length line + (1 + length (standing lines))
-    length_line = omega (arith, length-append line (10 ∷ standing lines))
+numbered-size file number (line ∷ lines) = simp length-append (omega (arith, numbered-size file (number + 1) lines))
 
 numbered-short : (entry : Option Entry) (may_match : Bool) (file number : ℕ) (lines : List (List ℕ))
     → ArePassing entry may_match lines → AreShort (numbered file number (map ended lines))
@@ -73,8 +70,7 @@ numbered-short entry may_match file number (line ∷ lines) passing =
 numbered-text : (file number : ℕ) (lines : List (List ℕ))
     → text_of (map (λ source. source.line) (numbered file number (map ended lines))) ≡ printed lines
 numbered-text file number [] = refl
-numbered-text file number (line ∷ lines) = ap (λ (t : List ℕ). trimmed line ++ 10 ∷ t)
-    (numbered-text file (number + 1) lines)
+numbered-text file number (line ∷ lines) = simp (numbered-text file (number + 1) lines)
 
 pub next-length : {R : Type 0} (entry : Option Entry) (slot : Option (OpenText R)) (s : Stretch) (lines : List (List ℕ))
     → StandsAt entry slot s lines → length (sources_next slot lines) ≡ length lines
@@ -89,8 +85,7 @@ next-size entry (Some text) s lines stands = numbered-size text.file.0 (text.lin
 pub next-short : {R : Type 0} (entry : Option Entry) (slot : Option (OpenText R)) (s : Stretch) (lines : List (List ℕ))
     → StandsAt entry slot s lines → AreShort (sources_next slot lines)
 next-short entry None s lines stands = absurd stands
-next-short entry (Some text) s lines stands =
-    numbered-short entry text.may_match text.file.0 (text.line + 1) lines stands.is.passing
+next-short entry (Some text) s lines stands = numbered-short _ _ _ _ _ stands.is.passing
 
 pub next-text : {R : Type 0} (entry : Option Entry) (slot : Option (OpenText R)) (s : Stretch)
     (lines : List (List ℕ)) → StandsAt entry slot s lines → text_of (lines_next slot lines) ≡ text_at slot s ++ 10 ∷ []

@@ -2,18 +2,13 @@
 use Rattle.cweb_lines.proofs.Common.{◌≡◌, ◌≢◌, ◌<◌, ◌+◌, ℕ, Bool, true, false, List, [], ◌∷◌, ◌++◌, None, Some, refl, sym, ◌∙◌, ap, append-nil, subst, arith, length, nat_tests, AllByRecursion, nat_lt, SourceLine, lines_in, World, include_name, is_include, at_place, IncludeLinesAreReplaced, Includes, LinesComeApart, Seen, followed_by, seen, seen_in, Event, Next, RawLine, State, Thing, fault, given, included, obeyed, opened, opening, plain, raw, raws, taking, took, openings, merge, merge-run, merge_end, merge_next, halts, NoName, NotThere, TooDeep, OPEN_FILES}
 use Rattle.cweb_lines.proofs.Alone.{IsNoSearch, front, raws_seek_not}
 use Rattle.cweb_lines.proofs.Merges.{state}
+use Rattle.cweb_lines.proofs.Stacks.{raws-append}
 use Rattle.cweb_lines.proofs.Seens.{name_first, seen-append}
 
 pub raws_seek_none : (depth : ℕ) (may_match : Bool) (lines : List SourceLine)
     → AllByRecursion IsNoSearch (raws depth may_match lines)
 raws_seek_none depth may_match lines = subst
     (AllByRecursion IsNoSearch) (append-nil (raws depth may_match lines)) (raws_seek_not depth may_match lines [] tt)
-
-pub raws-append : (depth : ℕ) (may_match : Bool) (before behind : List SourceLine)
-    → raws depth may_match (before ++ behind) ≡ raws depth may_match before ++ raws depth may_match behind
-raws-append depth may_match [] behind = refl
-raws-append depth may_match (line ∷ before) behind = ap (λ (ts : List Thing). raw
-    (record { source = line; depth = depth; may_match = may_match }) ∷ ts) (raws-append depth may_match before behind)
 
 -- what stands behind some things comes as if alone
 pub in_two : (world : World) (things later : List Thing) (change : List SourceLine) (files : ℕ)
@@ -33,8 +28,7 @@ names_some : (world : World) (r : RawLine) (s : State) (things : List Thing) (ne
     → is_include r.source.line.bytes ≡ true → include_name r.source.line.bytes ≢ [] → nat_lt r.depth OPEN_FILES ≡ b
     → opened b world (include_name r.source.line.bytes) s r things ≡ next
     → plain (is_include r.source.line.bytes) world s r things ≡ next
-names_some world r s things next b include named room is =
-    ap (λ b. plain b world s r things) include ∙ by (include_name r.source.line.bytes) named is
+names_some world r s things next b include named room is = ap (λ b. plain b world s r things) include ∙ by _ named is
   where
     by : (name : List ℕ) → name ≢ [] → opened b world name s r things ≡ next → included name world s r things ≡ next
     by [] some is = absurd (some refl)

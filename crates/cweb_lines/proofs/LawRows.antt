@@ -133,4 +133,4 @@ record Computed : Type 0 where
 
 computed : Computed
 unfolding is_utf8 chars encode
-computed = search refl
+computed = search

@@ -1,5 +1,5 @@
 -- What comes of a line that was taken, and how what came adds up.
-use Rattle.cweb_lines.proofs.Common.{Option, if◌then◌else◌, ◌&&◌, ◌≡◌, ◌≤◌, ◌<◌, ◌+◌, ◌==◌, ℕ, Bool, true, false, List, [], ◌∷◌, ◌++◌, Some, None, refl, sym, ◌∙◌, ap, subst, arith, length, append-nil, nat_lt, nat_tests, Place, bytes_eq, Entry, at_place, World, is_include, include_name, found_at, Line, SourceLine, lines_in, State, RawLine, Thing, raw, Event, took, given, fault, opening, Next, at_entry, at_raw, included, opened, obeyed, plain, taking, raws, begun_by, OPEN_FILES, LineAt, SoFar, Gives, Stopped, Count, Refuses, TopStops, StopsFor, taken_lines, size_of, merge, merge_next, SourceFault, NoName, TooDeep, NotThere, Stop}
+use Rattle.cweb_lines.proofs.Common.{Option, if◌then◌else◌, ◌&&◌, ◌≡◌, ◌≤◌, ◌<◌, ◌+◌, ◌==◌, ℕ, Bool, true, false, List, [], ◌∷◌, ◌++◌, Some, None, refl, sym, ◌∙◌, ap, arith, length, append-nil, nat_lt, nat_tests, Place, bytes_eq, Entry, at_place, World, is_include, include_name, found_at, Line, SourceLine, lines_in, State, RawLine, Thing, raw, Event, took, given, fault, opening, Next, at_entry, at_raw, included, opened, obeyed, plain, taking, raws, begun_by, OPEN_FILES, LineAt, SoFar, Gives, Stopped, Count, Refuses, TopStops, StopsFor, taken_lines, told_faults, openings, given_lines, merge, merge_next, SourceFault, NoName, TooDeep, NotThere, Stop}
 use Rattle.cweb_lines.proofs.Stacks.{stops_map}
 
 abbrev pub state : List Thing → Option Entry → List SourceLine → ℕ → State
@@ -34,20 +34,17 @@ module _ (world : World) (source : SourceLine) (bytes : List ℕ) (at : LineAt)
 
   merge_plain : (next : Next) → plain (is_include source.line.bytes) world before r things ≡ next →
       merge world before ≡ took source ∷ next.0 ++ merge world next.1
-  merge_plain next goes = merge_next world before (took source ∷ next.0, next.1)
-      (ap (λ (n : Next). Some (taking source n)) (passes pending none ∙ goes))
+  merge_plain next goes = merge_next _ _ _ (ap (λ (n : Next). Some (taking source n)) (passes _ none ∙ goes))
 
   pub merge_given : is_include bytes ≡ false → merge world before ≡ took source ∷ given
       (record { bytes = bytes; place = at.place }) ∷ merge world after
-  merge_given test = merge_plain
-      (given source.line ∷ [], after) (ap (λ b. plain b world before r things) (as_read is_include false test))
+  merge_given test = merge_plain _ (ap (λ b. plain b world before r things) (as_read is_include false test))
       ∙ ap (λ (l : Line). took source ∷ given l ∷ merge world after) is
 
   pub merge_no_name : is_include bytes ≡ true → include_name bytes ≡ [] →
       merge world before ≡ took source ∷ fault (at_place NoName at.place) ∷ merge world after
-  merge_no_name test empty =
-      merge_plain (fault (at_place NoName source.line.place) ∷ [], after) (ap (λ b. plain b world before r things)
-      (as_read is_include true test) ∙ ap (λ n. included n world before r things) (as_read include_name [] empty))
+  merge_no_name test empty = merge_plain _ (ap (λ b. plain b world before r things) (as_read is_include true test)
+      ∙ ap (λ n. included n world before r things) (as_read include_name [] empty))
       ∙ ap (λ (l : Line). took source ∷ fault (at_place NoName l.place) ∷ merge world after) is
 
   merge_named : (name : List ℕ) (next : Next) → is_include bytes ≡ true → include_name bytes ≡ name → 0 < length name →
@@ -94,73 +91,38 @@ pub merge_takes : (world : World) (r : RawLine) (things : List Thing) (pending :
     (change : List SourceLine) (files : ℕ)
     → (rest : List Event) × (merge world (state (raw r ∷ things) pending change files) ≡ took r.source ∷ rest)
 merge_takes world r things pending change files =
-    let next = at_raw pending world (state (raw r ∷ things) pending change files) r things in (
-      next.0 ++ merge world next.1,
-      merge_next world (state (raw r ∷ things) pending change files)
-          (taking r.source next) refl,
-    )
-
-plus_none : (n : ℕ) → n ≡ n + 0
-plus_none n = omega arith
+    let next = at_raw _ _ _ r _ in (next.0 ++ merge _ _, merge_next _ _ _ refl)
 
 -- one event came, or none
 module _ (old new : SoFar) (all later : List Event) (count : new.count ≡ old.count) where
-  same_lines : new.count.lines ≡ old.count.lines + 0
-  same_lines = ap (λ (c : Count). c.lines) count ∙ plus_none old.count.lines
-
-  same_bytes : new.count.bytes ≡ old.count.bytes + 0
-  same_bytes = ap (λ (c : Count). c.bytes) count ∙ plus_none old.count.bytes
-
-  pub gives_fault : (f : SourceFault) → all ≡ fault f ∷ later → new.faults ≡ old.faults ++ f ∷ [] →
-      new.names ≡ old.names → Gives [] old new all later
-  gives_fault f whole faults names = record {
-    events = fault f ∷ [];
+  gives_untaken : (events : List Event) → taken_lines events ≡ [] → all ≡ events ++ later → new.faults ≡ old.faults
+      ++ told_faults events → new.names ≡ old.names ++ openings events → Gives (given_lines events) old new all later
+  gives_untaken events none whole faults names = record {
+    events = events;
     whole = whole;
     given = refl;
     faults = faults;
-    names = names ∙ sym (append-nil old.names);
-    lines_are = same_lines;
-    bytes_are = same_bytes;
-    short = tt;
+    names = names;
+    lines_are = simp (count, none) (omega arith);
+    bytes_are = simp (count, none) (omega arith);
+    short = rw none tt;
   }
+
+  pub gives_fault : (f : SourceFault) → all ≡ fault f ∷ later → new.faults ≡ old.faults ++ f ∷ [] →
+      new.names ≡ old.names → Gives [] old new all later
+  gives_fault f whole faults names = gives_untaken (fault f ∷ []) refl whole faults (simp (names, append-nil))
 
   pub gives_opening : (name : List ℕ) → all ≡ opening name ∷ later → new.faults ≡ old.faults →
       new.names ≡ old.names ++ name ∷ [] → Gives [] old new all later
-  gives_opening name whole faults names = record {
-    events = opening name ∷ [];
-    whole = whole;
-    given = refl;
-    faults = faults ∙ sym (append-nil old.faults);
-    names = names;
-    lines_are = same_lines;
-    bytes_are = same_bytes;
-    short = tt;
-  }
+  gives_opening name whole faults names = gives_untaken (opening name ∷ []) refl whole (simp (faults, append-nil)) names
 
   pub gives_line : (line : Line) → all ≡ given line ∷ later → new.faults ≡ old.faults → new.names ≡ old.names →
       Gives (line ∷ []) old new all later
-  gives_line line whole faults names = record {
-    events = given line ∷ [];
-    whole = whole;
-    given = refl;
-    faults = faults ∙ sym (append-nil old.faults);
-    names = names ∙ sym (append-nil old.names);
-    lines_are = same_lines;
-    bytes_are = same_bytes;
-    short = tt;
-  }
+  gives_line line whole faults names = gives_untaken (given line ∷ []) refl whole (simp (faults, append-nil))
+      (simp (names, append-nil))
 
   pub gives_nothing : all ≡ later → new.faults ≡ old.faults → new.names ≡ old.names → Gives [] old new all later
-  gives_nothing whole faults names = record {
-    events = [];
-    whole = whole;
-    given = refl;
-    faults = faults ∙ sym (append-nil old.faults);
-    names = names ∙ sym (append-nil old.names);
-    lines_are = same_lines;
-    bytes_are = same_bytes;
-    short = tt;
-  }
+  gives_nothing whole faults names = gives_untaken [] refl whole (simp (faults, append-nil)) (simp (names, append-nil))
 
 -- the line that comes first is the one that stops
 pub stopped_first : (stop : Stop) (Why : Type 0) (count now : Count) (all : List Event) → now ≡ count
@@ -168,28 +130,23 @@ pub stopped_first : (stop : Stop) (Why : Type 0) (count now : Count) (all : List
     StopsFor Why stop → Stopped stop count now all
 stopped_first stop Why count now all same first = stops_map stop (λ why.
     let line = first why in
-    let lines = ap (λ (es : List Event). length (taken_lines es)) line.1.1 in
-    let bytes = ap (λ (es : List Event). size_of (taken_lines es)) line.1.1 in
-    let now_lines = ap (λ (c : Count). c.lines) same in
-    let now_bytes = ap (λ (c : Count). c.bytes) same in
     record {
       events = [];
       line = line.0;
       later = line.1.0;
       whole = line.1.1;
       given = refl;
-      why = subst (λ (c : Count). Refuses stop c line.0) (sym same) line.2;
-      few = omega (arith, lines, now_lines);
-      small = omega (arith, bytes, now_bytes);
+      why = rw same line.2;
+      few = simp (same, line.1.1) (omega arith);
+      small = simp (same, line.1.1) (omega arith);
     })
 
 -- the first thing is a raw line that stops
 pub stopped_by : (stop : Stop) (count now : Count) (world : World) (things : List Thing) (pending : Option Entry)
     (change : List SourceLine) (files : ℕ) → now ≡ count → StopsFor (TopStops stop count things) stop
     → Stopped stop count now (merge world (state things pending change files))
-stopped_by stop count now world things pending change files same stops =
-    stopped_first stop (TopStops stop count things) count now _ same (λ top.
-    let taken = merge_takes world top.raw_line top.rest pending change files in (
+stopped_by stop count now world things pending change files same stops = stopped_first _ _ _ now _ same (λ top.
+    let taken = merge_takes _ _ _ _ _ _ in (
       top.raw_line.source,
       (taken.0, ap (λ (ts : List Thing). merge world (state ts pending change files)) top.first ∙ taken.1),
       top.why,

@@ -1,7 +1,7 @@
 -- Readers that stay those of their files, and what is blamed.
-use Rattle.cweb_lines.proofs.Common.{◌≡◌, ◌≤◌, ◌<◌, ℕ, zero, suc, List, [], ◌∷◌, ◌++◌, Option, Some, None, refl, sym, ◌∙◌, ap, subst, arith, length, get_or, set, replicate, Result, Ok, Err, IfErr, append-nil, get_or_default, get_or_append_left, FileId, names_of, AreNamed, AreReadersKnown, BlamesFile, IsNamed, blame, name_of_file, BlamesReader, OnlyTells, files_up_to, number_of, read_blame, stop_for, WritesRest, leaves, writes, fails, Run, LineFault, Read, TooLong, Stop, ReadFault, Memory, OpenText}
+use Rattle.cweb_lines.proofs.Common.{◌≡◌, ◌≤◌, ◌<◌, ℕ, zero, suc, List, [], ◌∷◌, ◌++◌, Option, Some, None, refl, sym, ◌∙◌, ap, subst, arith, length, get_or, set, replicate, Result, Ok, Err, IfErr, append-nil, get_or_default, get_or_append_left, FileId, names_of, AreNamed, AreReadersKnown, BlamesFile, IsNamed, KeepsName, KeepsNames, KeepsTexts, blame, name_of_file, BlamesReader, OnlyTells, files_up_to, number_of, read_blame, stop_for, WritesRest, leaves, writes, fails, Run, LineFault, Read, Stop, ReadFault, Memory, OpenText}
 use Rattle.cweb_lines.specs.Texts.{most}
-use Rattle.cweb_lines.specs.declared.text.source.LineFault.TheVariants.{Memory as NoMemory}
+use Rattle.cweb_files.specs.declared.device.Shelf.{Ghosts as Shelf}
 use Rattle.cweb_lines.proofs.Stacks.{most_at}
 
 module _ {R : Type 0} (opened_as : R → List ℕ) (names : List (List ℕ)) where
@@ -33,6 +33,15 @@ module _ {R : Type 0} (opened_as : R → List ℕ) (names : List (List ℕ)) whe
   pub change_more : (more : List (List ℕ)) (slot : Option (OpenText R)) → number_of files_up_to slot ≤ length names
       → IsNamed opened_as names slot → IsNamed opened_as (names ++ more) slot
   change_more more slot known is = slot_more more slot known is
+
+-- a text gives its place to another, over a shelf
+module _ {S R : Type 0} (shelf : Shelf S R) (old new : S) (texts : List (Option (OpenText R))) (at : ℕ)
+    (d : Option (OpenText R)) (within : at < length texts) where
+  pub names_set : (slot : Option (OpenText R)) → KeepsTexts shelf old new
+      → KeepsName shelf old new (get_or texts at d) slot → KeepsNames shelf old new texts (set texts at slot)
+  names_set slot keeps named = λ tells names each. named_set (shelf.opened_as new) names texts at slot
+      (subst (λ f. AreNamed f names texts) (sym (keeps.names tells)) each)
+      (named tells names (named_at (shelf.opened_as old) names texts at d within each))
 
 -- a stop that is no read fault blames no reader
 pub blames_none : (names before now : List (List ℕ)) (stop : Stop) → read_blame stop ≡ 0 → now ≡ before

@@ -74,7 +74,7 @@ behind piece start end at splits le =
 
 pub longer_more : (limit : ℕ) (text rest : List ℕ) → IsLongerThan limit text → IsLongerThan limit (text ++ rest)
 longer_more limit text rest long =
-    (long.0, long.1 ++ rest, ap (λ (l : List ℕ). l ++ rest) long.2 ∙ append_assoc long.0 long.1 rest, long.3, long.4)
+    (long.0, long.1 ++ rest, simp (long.2, append_assoc), long.3, long.4)
 
 pub taken_full : (all line old rest after new : List ℕ) → all ≡ line ++ (old ++ rest) → HasNoNewline line →
     TakesOf old line true after new → Takes all Full after (new ++ rest)
@@ -152,9 +152,7 @@ splits_behind text front run after at is none splits =
     before = front ++ take at run
 
     whole : text ≡ before ++ 10 ∷ (drop (at + 1) run ++ after)
-    whole = is ∙ ap (λ (l : List ℕ). front ++ (l ++ after)) splits.split
-        ∙ ap (λ (l : List ℕ). front ++ l) (append_assoc (take at run) (10 ∷ drop (at + 1) run) after)
-        ∙ sym (append_assoc front (take at run) (10 ∷ (drop (at + 1) run ++ after)))
+    whole = is ∙ ap (λ (l : List ℕ). front ++ (l ++ after)) splits.split ∙ simp append_assoc
 
     count : length before ≡ length front + at
     count = omega (arith, length-append front (take at run), length-take at run, splits.within)

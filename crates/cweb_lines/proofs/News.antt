@@ -1,7 +1,8 @@
 -- The new side of a change, line by line.
-use Rattle.cweb_lines.proofs.Common.{◌≡◌, ◌-◌, ℕ, false, List, [], ◌∷◌, ◌++◌, Some, None, Option, refl, sym, ◌∙◌, ap, arith, length, sameb, Place, at_place, code_of, text_of_name, world_in, World, Line, SourceLine, Event, NewSide, Thing, fault, new_at, new_lines, passed, raw, seek, told, took, Gives, SoFar, Stopped, change_lines, coming, coming_after, things_of, told_by, count_of, names_of, change_in, pending_in, things_below, things_in, Count, FirstStops, StopsFor, Took, raw_at, things_above, things_over, merge, merge_next, the_type, Code, EndedBeforeZ, WantsZ, Run, Change, Changing, Stack, Stop, LineAt}
+use Rattle.cweb_lines.proofs.Common.{Adds, OnlyTakes, OnlyTells, lines_at, ◌≡◌, ◌-◌, ℕ, false, List, [], ◌∷◌, ◌++◌, Some, None, Option, refl, sym, ◌∙◌, ap, arith, length, sameb, Place, at_place, code_of, world_in, World, Line, SourceLine, Event, NewSide, Thing, fault, new_at, new_lines, passed, raw, seek, told, took, Gives, Stopped, change_lines, coming, coming_after, things_of, told_by, count_of, names_of, change_in, pending_in, things_below, things_in, Count, FirstStops, StopsFor, Took, raw_at, things_above, things_over, merge, merge_next, the_type, Code, EndedBeforeZ, WantsZ, Run, Change, Changing, Stack, Stop, LineAt}
 use Rattle.cweb_lines.specs.declared.change.code.Code.TheVariants.{OldSide as old_side, NewSide as new_side, EndSide as end_side}
 use Rattle.cweb_lines.proofs.Adds.{adds_faults, adds_one, gives_adds}
+use Rattle.cweb_lines.proofs.Fronts.{took_faults, took_names}
 use Rattle.cweb_lines.proofs.Merges.{gives_fault, merge_takes, state, stopped_first}
 use Rattle.cweb_lines.proofs.Stacks.{over-none}
 use Rattle.cweb_lines.proofs.Codes.{is_faulty_new}
@@ -115,8 +116,9 @@ module _ {R : Type 0} (t : List ℕ → Option (List ℕ)) (l : R → List ℕ) 
   below_are = ap (λ n. things_over l 0 n run.stack.texts []) (omega (arith, low))
 
 -- what a new line gives, by what the calls say of shelf and run
-module _ {R : Type 0} (t t' : List ℕ → Option (List ℕ)) (l l' : R → List ℕ) (run : Run R) (change : Change)
-    (stage : run.stage ≡ Changing change) (low : run.stack.depth ≡ change.below) (texts : t' ≡ t) (left : l' ≡ l) where
+module _ {R : Type 0} (t t' : List ℕ → Option (List ℕ)) (l l' : R → List ℕ) (run mid : Run R) (change : Change)
+    (stage : run.stage ≡ Changing change) (low : run.stack.depth ≡ change.below) (texts : t' ≡ t) (left : l' ≡ l)
+    (only : OnlyTakes run mid) (stack : mid.stack ≡ run.stack) where
   abbrev world : World
   world = world_in t run.inputs
 
@@ -126,81 +128,65 @@ module _ {R : Type 0} (t t' : List ℕ → Option (List ℕ)) (l l' : R → List
   abbrev under : List Thing
   under = things_over l 0 change.below run.stack.texts []
 
-  -- where the new side has ended
-  module _ (inputs' : Option (List ℕ)) (stack' : Stack R) (files' : ℕ) (new : SoFar)
-      (inputs : inputs' ≡ text_of_name run.inputs) (stack : stack' ≡ run.stack) (same_files : files' ≡ files) where
-    abbrev world' : World
-    world' = record { texts = t'; inputs = inputs' }
+  -- behind the new side
+  later_is : (new : Run R) → new.inputs ≡ run.inputs → new.stack ≡ run.stack → new.names ≡ run.names → (front :
+      List Thing → List Thing) (lines : List SourceLine) → merge world (state (front under) None lines files) ≡ merge
+      (world_in t' new.inputs) (state (front (things_above l' 0 new.stack [])) None lines (length (names_of new.names)))
+  later_is new inputs stack names front lines = sym (
+      (λ i. merge (world_in (texts i) (inputs i)) (state (front (things_above (left i) 0 (stack i) [])) None lines
+      (length (names_of (names i)))))
+      ∙ ap (λ (things : List Thing). merge world (state (front things) None lines files))
+      (below_are t l run change stage low))
 
-    -- no entry is left
-    done_is : merge world (state under None [] files) ≡ merge world'
-        (state (things_above l' 0 stack' []) None [] files')
-    done_is = sym (
-        (λ i. merge (record { texts = texts i; inputs = inputs i })
-        (state (things_above (left i) 0 (stack i) []) None [] (same_files i)))
-        ∙ ap (λ (things : List Thing). merge world (state things None [] files)) (below_are t l run change stage low))
+  pub new_ended : (new : Run R) → OnlyTells mid new
+      → change_lines l run ≡ [] → count_of new.limits ≡ count_of run.limits → new.faults.items ≡ mid.faults.items
+      ++ at_place EndedBeforeZ change.begin ∷ [] → Gives [] (told_by run) (told_by new) (coming t l run)
+      (merge (world_in t' new.inputs) (state (things_above l' 0 new.stack []) None [] (length (names_of new.names))))
+  new_ended new tells none count is = gives_fault (told_by run) (told_by new) _ _ count
+      (at_place EndedBeforeZ change.begin) (coming_is t l run change stage low ∙ new_none world change under files
+      (change_lines l run) none ∙ ap (λ (es : List Event). fault (at_place EndedBeforeZ change.begin) ∷ es)
+      (later_is new (tells.inputs ∙ only.inputs) (tells.stack ∙ stack) (tells.names ∙ only.names) (λ ts. ts) []))
+      (simp (is, took_faults only)) (ap names_of (tells.names ∙ only.names))
 
-    -- the next entry is sought
-    seeking_is : (lines : List SourceLine) → merge world (state (seek ∷ under) None lines files) ≡ merge world'
-        (state (seek ∷ things_above l' 0 stack' []) None lines files')
-    seeking_is lines = sym (
-        (λ i. merge (record { texts = texts i; inputs = inputs i })
-        (state (seek ∷ things_above (left i) 0 (stack i) []) None lines (same_files i)))
-        ∙ ap (λ (things : List Thing). merge world (state (seek ∷ things) None lines files))
-        (below_are t l run change stage low))
+  module _ (bytes : List ℕ) (place : Place) (taken : Took bytes place (count_of run.limits) (count_of mid.limits)) where
+    counted : Adds [] (taken.line ∷ []) (told_by run) (told_by mid)
+    counted = adds_one (told_by run) (told_by mid) bytes place taken (took_faults only) (took_names only)
 
-    pub new_ended : change_lines l run ≡ [] → new.count ≡ count_of run.limits → new.faults
-        ≡ run.faults.items ++ at_place EndedBeforeZ change.begin ∷ [] → new.names ≡ names_of run.names → Gives []
-        (told_by run) new (coming t l run) (merge world' (state (things_above l' 0 stack' []) None [] files'))
-    new_ended none count faults names = gives_fault (told_by run) new _ _ count (at_place EndedBeforeZ change.begin)
-        (coming_is t l run change stage low ∙ new_none world change under files (change_lines l run) none
-        ∙ ap (λ (es : List Event). fault (at_place EndedBeforeZ change.begin) ∷ es) done_is) faults names
+    first : (rest : List SourceLine) → change_lines l run ≡ taken.line ∷ rest
+        → coming t l run ≡ coming_new world change (taken.line ∷ rest) under files
+    first rest is = coming_is t l run change stage low
+        ∙ ap (λ (ls : List SourceLine). coming_new world change ls under files) is
 
-    pub new_side_ended : (bytes : List ℕ) (place : Place) (taken : Took bytes place (count_of run.limits) new.count)
-        (rest : List SourceLine) → change_lines l run ≡ taken.line ∷ rest
-        → new.faults ≡ run.faults.items → new.names ≡ names_of run.names → code_of bytes ≡ Some end_side → Gives []
-        (told_by run) new (coming t l run) (merge world' (state (seek ∷ things_above l' 0 stack' []) None rest files'))
-    new_side_ended bytes place taken rest is faults names test = gives_adds (taken.line ∷ []) [] (told_by run) new _ _
-        (coming_is t l run change stage low ∙ ap (λ (ls : List SourceLine). coming_new world change ls under files) is
+    pub new_side_ended : (rest : List SourceLine) → change_lines l run ≡ taken.line ∷ rest → code_of bytes
+        ≡ Some end_side → Gives [] (told_by run) (told_by mid) (coming t l run) (merge (world_in t' mid.inputs)
+        (state (seek ∷ things_above l' 0 mid.stack []) None rest (length (names_of mid.names))))
+    new_side_ended rest is test = gives_adds (taken.line ∷ []) [] (told_by run) (told_by mid) _ _ (first rest is
         ∙ new_end world change under files taken.line rest bytes place taken.is test ∙ ap (λ (es : List Event).
-        took taken.line ∷ es) (seeking_is rest)) (adds_one (told_by run) new bytes place taken faults names)
+        took taken.line ∷ es) (later_is mid only.inputs stack only.names (λ ts. seek ∷ ts) rest)) counted
 
-  -- where it goes on
-  module _ (run' : Run R) (inputs : run'.inputs ≡ run.inputs) (stack : run'.stack ≡ run.stack)
-      (names : names_of run'.names ≡ names_of run.names) (same : run'.stage ≡ run.stage)
-      (mid : SoFar) (bytes : List ℕ) (place : Place) (taken : Took bytes place (count_of run.limits) mid.count)
-      (rest : change_lines l run ≡ taken.line ∷ change_lines l' run') (same_faults : mid.faults ≡ run.faults.items)
-      (same_names : mid.names ≡ names_of run.names) where
-    low' : run'.stack.depth ≡ change.below
-    low' = ap (λ (s : Stack R). s.depth) stack ∙ low
-
-    more_is : coming_new world change (change_lines l' run') under files ≡ coming t' l' run'
-    more_is = sym (
-        coming_is t' l' run' change (same ∙ stage) low'
-        ∙ (λ i. coming_new (world_in (texts i) (inputs i)) change (change_lines l' run')
-        (things_over (left i) 0 change.below ((stack i).texts) []) (length (names i))))
-
-    first : coming t l run ≡ coming_new world change (taken.line ∷ change_lines l' run') under files
-    first = coming_is t l run change stage low ∙ ap (λ (ls : List SourceLine). coming_new world change ls under files)
-        rest
-
-    pub new_faulty : (code : Code) → code_of bytes ≡ Some code → sameb the_type code end_side ≡ false →
-        run'.faults.items ≡ mid.faults ++ at_place WantsZ place ∷ [] → names_of run'.names ≡ mid.names
-        → count_of run'.limits ≡ mid.count → Gives [] (told_by run) (told_by run') (coming t l run) (coming t' l' run')
-    new_faulty code test other faults new_names count = gives_adds (taken.line ∷ []) (at_place WantsZ place ∷ [])
-        (told_by run) (told_by run') _ _ (first ∙ new_fault world change under files taken.line (change_lines l' run')
-        bytes place taken.is code test other ∙ ap (λ (es : List Event). took taken.line ∷ fault (at_place WantsZ place)
-        ∷ es) more_is) (adds_faults [] (at_place WantsZ place ∷ []) (taken.line ∷ []) (told_by run) mid
-        (told_by run') (adds_one (told_by run) mid bytes place taken same_faults same_names) faults new_names count)
+    pub new_faulty : (new : Run R) → OnlyTells mid new → change_lines l run ≡ taken.line ∷ change_lines l' mid → (code :
+        Code) → code_of bytes ≡ Some code → sameb the_type code end_side ≡ false → new.faults.items ≡ mid.faults.items
+        ++ at_place WantsZ place ∷ [] → Gives [] (told_by run) (told_by new) (coming t l run) (coming t' l' new)
+    new_faulty new tells rest code test other is =
+        let more : coming_new world change (change_lines l' mid) under files ≡ coming t' l' new =
+        sym (coming_is t' l' new change (tells.stage ∙ only.stage ∙ stage) (ap (λ (s : Stack R). s.depth)
+        (tells.stack ∙ stack) ∙ low) ∙ (λ i. coming_new (world_in (texts i) ((tells.inputs ∙ only.inputs) i)) change
+        (lines_at l' (tells.change i)) (things_over (left i) 0 change.below (((tells.stack ∙ stack) i).texts) [])
+        (length (names_of ((tells.names ∙ only.names) i))))) in
+        gives_adds (taken.line ∷ []) (at_place WantsZ place ∷ []) (told_by run) (told_by new) _ _ (first _ rest
+        ∙ new_fault world change under files taken.line (change_lines l' mid) bytes place taken.is code test other
+        ∙ ap (λ (es : List Event). took taken.line ∷ fault (at_place WantsZ place) ∷ es) more)
+        (adds_faults [] (at_place WantsZ place ∷ []) (taken.line ∷ [])
+        (told_by run) (told_by mid) (told_by new) counted is (ap names_of tells.names) (ap count_of tells.limits))
 
     -- a line that is no code line comes first
-    pub new_first : code_of bytes ≡ None → coming t l run ≡ coming_after t' l' run'
+    pub new_first : change_lines l run ≡ taken.line ∷ change_lines l' mid → code_of bytes ≡ None → coming t l run
+        ≡ coming_after t' l' mid (record { place = place; depth = change.depth; may_match = false }) taken.line
+    new_first rest test = first _ rest
+        ∙ new_line world change under files taken.line (change_lines l' mid) bytes place taken.is test
+        ∙ sym (coming_after_is t' l' mid change (only.stage ∙ stage) (ap (λ (s : Stack R). s.depth) stack ∙ low)
         (record { place = place; depth = change.depth; may_match = false }) taken.line
-    new_first test = first
-        ∙ new_line world change under files taken.line (change_lines l' run') bytes place taken.is test
-        ∙ sym (coming_after_is t' l' run' change
-        (same ∙ stage) low' (record { place = place; depth = change.depth; may_match = false }) taken.line
-        ∙ (λ i. merge (world_in (texts i) (inputs i))
+        ∙ (λ i. merge (world_in (texts i) (only.inputs i))
         (state (raw (record { source = taken.line; depth = change.depth; may_match = false }) ∷ (new_lines change.depth
-        change.begin (change_lines l' run')).things ++ seek ∷ things_over (left i) 0 change.below ((stack i).texts) [])
-        None (new_lines change.depth change.begin (change_lines l' run')).rest (length (names i)))))
+        change.begin (change_lines l' mid)).things ++ seek ∷ things_over (left i) 0 change.below ((stack i).texts) [])
+        None (new_lines change.depth change.begin (change_lines l' mid)).rest (length (names_of (only.names i))))))

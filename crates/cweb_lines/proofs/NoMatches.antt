@@ -1,10 +1,10 @@
 -- An entry that matches no line is told once, and changes nothing.
-use Rattle.cweb_lines.proofs.Common.{◌≡◌, ◌≢◌, ◌+◌, true, false, List, [], ◌∷◌, ◌++◌, map, None, Some, refl, sym, ◌∙◌, ap, append-nil, length, list_any, bytes_eq, Line, SourceLine, lines, lines_in, text_lines, World, is_include, Sought, at_place, code_of, EntriesWithoutMatchAreTold, is_code, followed_by, only_fault, only_lines, placed, seen, Event, Thing, fault, raws, seek, took, merge, merge_end, merge_next, SourceFault, NoMatch}
+use Rattle.cweb_lines.proofs.Common.{◌≡◌, ◌≢◌, ◌+◌, true, false, List, [], ◌∷◌, ◌++◌, None, Some, refl, sym, ◌∙◌, ap, append-nil, length, list_any, bytes_eq, Line, SourceLine, lines, lines_in, text_lines, World, is_include, at_place, code_of, EntriesWithoutMatchAreTold, is_code, followed_by, only_fault, only_lines, placed, seen, Event, Thing, fault, raws, seek, merge, merge_end, merge_next, SourceFault, NoMatch}
 use Rattle.cweb_lines.specs.declared.change.code.Code.TheVariants.{OldSide as old_side}
 use Rattle.cweb_lines.proofs.Entries.{bytes_in, entry_of, finds, lines_of, passes_by}
 use Rattle.cweb_lines.proofs.Lies.{bytes_of, first_of, lie_in, parts}
 use Rattle.cweb_lines.proofs.Merges.{state}
-use Rattle.cweb_lines.proofs.Seens.{took_unseen}
+use Rattle.cweb_lines.proofs.Seens.{seek_unseen}
 
 -- by the lines of the web, and those of the change file
 module _ (world : World) (web comment : List SourceLine) (x first : SourceLine) (rest : List SourceLine)
@@ -24,12 +24,8 @@ module _ (world : World) (web comment : List SourceLine) (x first : SourceLine) 
   told_once =
       let entry = entry_of x first in
       let things = raws 1 true web in
-      let taken = comment ++ (x ∷ first ∷ []) in
-      ap seen (merge_next world (state (seek ∷ things) None (comment ++ (x ∷ first ∷ rest)) 2)
-      (map took taken ++ [], state things (Some entry) rest 2) (ap (λ (found : Sought).
-      Some (map took found.taken ++ map fault found.faults, state things found.entry found.rest 2))
-      (finds comment x first rest no_codes begins some no_first)))
-      ∙ took_unseen taken (merge world (state things (Some entry) rest 2))
+      seek_unseen world things (comment ++ (x ∷ first ∷ rest)) 2 (comment ++ (x ∷ first ∷ [])) (Some entry) rest
+      (finds comment x first rest no_codes begins some no_first)
       ∙ ap (λ (ts : List Thing). seen (merge world (state ts (Some entry) rest 2))) (sym (append-nil things))
       ∙ passes_by world 1 entry web [] rest 2 plain_web others
       ∙ ap (followed_by (only_lines (lines_of web))) waits
@@ -44,8 +40,7 @@ entries_without_match world web change comment begin first rest is no_codes begi
     let b = first_of 1 (1 + length comment) begin (first ∷ rest) a.rest a.rest_lies in
     let c = first_of 1 (1 + length comment + 1) first rest b.rest b.rest_lies in
     let comment_is = bytes_of 1 1 comment a.front a.front_lies in
-    let whole = a.whole
-    ∙ ap (λ (ls : List SourceLine). a.front ++ ls) (b.whole ∙ ap (λ (ls : List SourceLine). b.line ∷ ls) c.whole) in
+    let whole : lines_in 1 change ≡ a.front ++ (b.line ∷ c.line ∷ c.rest) = simp (a.whole, b.whole, c.whole) in
     ap (λ (changes : List SourceLine). seen (merge world (state (seek ∷ raws 1 true source) None changes 2))) whole
     ∙ told_once world source a.front b.line c.line c.rest (ap (list_any is_code) comment_is ∙ no_codes) (ap code_of
     b.bytes ∙ begins) (λ none. some (sym c.bytes ∙ none)) (ap code_of c.bytes ∙ no_first) (ap (list_any is_include)

@@ -1,11 +1,12 @@
 -- What is printed of a merge is printed again: its lines are cut and trimmed already, and none begins an include.
-use Rattle.cweb_lines.proofs.Common.{◌≡◌, ◌+◌, ℕ, zero, suc, true, false, ◌||◌, List, [], ◌∷◌, ◌++◌, map, None, Some, Option, refl, sym, ◌∙◌, ap, subst, AllByRecursion, list_any, Line, SourceLine, lines, lines_in, trimmed, World, is_include, Entry, at_place, sought, PrintedMergesComeAgain, Seen, placed, Event, Next, State, Thing, at_raw, fault, onto, passed, raw, run, seek, started, told, took, given_lines, merge, merge-run, halts, text_of, NoMatch}
+use Rattle.cweb_lines.proofs.Common.{◌≡◌, ◌+◌, ℕ, zero, suc, true, false, List, [], ◌∷◌, ◌++◌, map, None, Some, Option, refl, sym, ◌∙◌, ap, subst, AllByRecursion, list_any, Line, SourceLine, lines, lines_in, World, is_include, Entry, at_place, sought, PrintedMergesComeAgain, Seen, placed, Event, Next, State, Thing, at_raw, fault, onto, passed, raw, run, seek, started, told, took, given_lines, merge, merge-run, halts, text_of, NoMatch}
 use Rattle.cweb_lines.proofs.Alone.{onto_some}
 use Rattle.cweb_lines.proofs.Merges.{state}
+use Rattle.cweb_lines.proofs.Adds.{given_none}
 use Rattle.cweb_lines.proofs.Sums.{given-append}
 use Rattle.cweb_lines.proofs.Newlines.{text_lines-full}
 use Rattle.cweb_lines.proofs.WebLaws.{webs_without_includes}
-use Rattle.cweb_lines.proofs.Cuts.{IsCutLine, IsCutState, IsCutThing, IsPrinted, Keeps, all-append, faults-silent, lines_in-cut, raw_keeps, raws-cut, silent-append, silent_keeps, sought-cut, took-silent}
+use Rattle.cweb_lines.proofs.Cuts.{IsCutLine, IsCutState, IsCutThing, IsPrinted, Keeps, all-append, lines_in-cut, raw_keeps, raws-cut, silent_keeps, sought-cut}
 
 -- all lines that are given out may be printed
 abbrev Prints : List Event → Type 0
@@ -39,9 +40,8 @@ module _ (world : World) where
       let found = sought change None in
       let first = map took found.taken ++ map fault found.faults in
       let next = state things found.entry found.rest files in
-      let silent = silent-append
-      (map took found.taken) (map fault found.faults) (took-silent found.taken) (faults-silent found.faults) in
-      step_prints n (first, next) events each (silent_keeps first next silent (cut.1, sought-cut change None cut')) is
+      step_prints n (first, next) events each (silent_keeps first next
+      (given_none found.taken found.faults) (cut.1, sought-cut change None cut')) is
   thing_prints n (told f ∷ things) pending change files events each cut cut' is =
       step_prints n (fault f ∷ [], state things pending change files) events each (tt, (cut.1, cut')) is
   thing_prints n (passed line ∷ things) pending change files events each cut cut' is =
@@ -73,20 +73,17 @@ lines_again : (printed : List Line) → AllByRecursion IsPrinted printed → lin
     ≡ map (λ line. line.bytes) printed
 lines_again [] all = refl
 lines_again (line ∷ printed) all =
-    ap (map (λ text. trimmed text.bytes)) (text_lines-full line.bytes (text_of printed) all.0.0.0)
-    ∙ ap (λ (bytes : List ℕ). bytes ∷ lines (text_of printed)) all.0.0.1
-    ∙ ap (λ (rest : List (List ℕ)). line.bytes ∷ rest) (lines_again printed all.1)
+    simp (text_lines-full line.bytes (text_of printed) all.0.0.0, all.0.0.1, lines_again printed all.1)
 
 none_include : (printed : List Line) → AllByRecursion IsPrinted printed
     → list_any is_include (map (λ line. line.bytes) printed) ≡ false
 none_include [] all = refl
-none_include (line ∷ printed) all = ap (λ b. b || list_any is_include (map (λ line. line.bytes) printed)) all.0.1
-    ∙ none_include printed all.1
+none_include (line ∷ printed) all = simp (all.0.1, none_include printed all.1)
 
 text_again : (number : ℕ) (printed : List Line) → text_of (placed 0 number (map (λ line. line.bytes) printed))
     ≡ text_of printed
 text_again number [] = refl
-text_again number (line ∷ printed) = ap (λ (text : List ℕ). line.bytes ++ 10 ∷ text) (text_again (number + 1) printed)
+text_again number (line ∷ printed) = simp (text_again (number + 1) printed)
 
 pub printed_merges : PrintedMergesComeAgain
 printed_merges world other web change =

@@ -1,5 +1,5 @@
 -- Worked examples, computed from the definition of the merge.
-use Rattle.cweb_lines.proofs.Common.{◌≡◌, ◌+◌, ℕ, zero, suc, List, [], ◌∷◌, ◌++◌, Option, Some, None, refl, cond, codes, bytes_eq, Place, SourceFault, SourceKind, TooDeep, NotThere, MissingX, NoOldLines, EndedBeforeY, WebEnded, WantsY, Unequal, WantsZ, EndedBeforeZ, NoMatch, Line, lines, World, Event, run, started, given_lines, told_faults, openings, OPEN_FILES, LINE_LENGTH, LINES, BYTES}
+use Rattle.cweb_lines.proofs.Common.{◌≡◌, ◌+◌, ℕ, zero, suc, List, [], ◌∷◌, ◌++◌, Option, Some, None, cond, codes, bytes_eq, Place, SourceFault, SourceKind, TooDeep, NotThere, MissingX, NoOldLines, EndedBeforeY, WebEnded, WantsY, Unequal, WantsZ, EndedBeforeZ, NoMatch, Line, lines, World, Event, run, started, given_lines, told_faults, openings, OPEN_FILES, LINE_LENGTH, LINES, BYTES}
 use Rattle.std.specs.Str.{is_utf8, chars}
 use lib.Utf8.{encode}
 
@@ -127,4 +127,4 @@ record Computed : Type 0 where
 
 computed : Computed
 unfolding is_utf8 chars encode
-computed = search refl
+computed = search

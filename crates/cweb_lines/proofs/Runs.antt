@@ -1,5 +1,5 @@
 -- What is to come of a merger's run, for its stack, its stage, its files and its faults.
-use Rattle.cweb_lines.proofs.Common.{append-nil, Some, Bool, true, false, if◌then◌else◌, ◌≡◌, ◌≤◌, ◌<◌, ◌+◌, ◌-◌, ℕ, zero, suc, get_or, List, [], ◌∷◌, ◌++◌, Option, None, refl, sym, ◌∙◌, ap, subst, arith, length, length-append, le-max_left, le-max_right, max-le, Place, Entry, at_place, Found, World, lines_found, names_found, text_found, text_of_name, SourceLine, lines_in, Event, Thing, fault, raws, seek, new_lines, started, Gives, NothingLeft, coming, told_by, things_of, names_of, IsSettled, begun_stage, change_in, files_begun, stage_for, floor_of, pending_in, things_below, things_in, Count, Opens, StaysBelow, StopsAbove, TakesAbove, TakesFirst, TopStops, lines_at, lines_left, things_above, things_over, merge, merge_end, merge_next, SourceFault, NoMatch, Run, Stack, Change, Stage, Done, Seeking, Waiting, Changing, Stop, LineAt, OpenText, count_of}
+use Rattle.cweb_lines.proofs.Common.{OnlyOpens, OnlyTells, append-nil, Some, Bool, true, false, if◌then◌else◌, ◌≡◌, ◌≤◌, ◌<◌, ◌+◌, ◌-◌, ℕ, zero, suc, get_or, List, [], ◌∷◌, ◌++◌, Option, None, refl, sym, ◌∙◌, ap, arith, length, length-append, le-max_left, le-max_right, max-le, Place, Entry, at_place, Found, World, lines_found, names_found, text_found, text_of_name, SourceLine, lines_in, Event, Thing, fault, raws, seek, new_lines, started, Gives, NothingLeft, coming, told_by, things_of, names_of, IsSettled, begun_stage, change_in, files_begun, stage_for, floor_of, pending_in, things_below, things_in, Count, Opens, StaysBelow, StopsAbove, TakesAbove, TakesFirst, TopStops, lines_at, lines_left, things_above, things_over, merge, merge_end, merge_next, SourceFault, NoMatch, Run, Stack, Change, Stage, Seeking, Waiting, Changing, Stop, LineAt, OpenText, count_of}
 use Rattle.cweb_lines.specs.Faults.{files_in}
 use Rattle.cweb_lines.proofs.Merges.{state, gives_fault}
 use Rattle.cweb_lines.proofs.Stacks.{over-none}
@@ -50,9 +50,7 @@ pub takes_in : {R : Type 0} (left left' : R → List ℕ) (same : left' ≡ left
     → TakesFirst (things_in left stage lines old) at bytes (things_in left' stage lines new) before after
 takes_in left left' same Seeking lines old new at bytes before after settled takes stays = absurd (settled refl)
 takes_in left left' same (Changing change) lines old new at bytes before after settled takes stays =
-    subst (λ (rest : List Thing). TakesFirst (things_above left change.below old (things_below left change lines old))
-    at bytes (things_above left' change.below new rest) before after)
-    (below_same left left' same change lines old new stays) (takes (things_below left change lines old))
+    rw (← (below_same left left' same change lines old new stays)) (takes (things_below left change lines old))
 takes_in left left' same _ lines old new at bytes before after settled takes stays = takes []
 
 -- things came in front, above the texts that stay open
@@ -61,9 +59,8 @@ pub passes_in : {R : Type 0} (left : R → List ℕ) (stage : Stage) (lines : Li
     old rest ≡ first ++ things_above left (floor_of stage) new rest) → StaysBelow (floor_of stage) old.texts new.texts
     → things_in left stage lines old ≡ first ++ things_in left stage lines new
 passes_in left Seeking lines old new first settled takes stays = absurd (settled refl)
-passes_in left (Changing change) lines old new first settled takes stays = takes (things_below left change lines old)
-    ∙ ap (λ (rest : List Thing). first ++ things_above left change.below new rest)
-    (below_same left left refl change lines old new stays)
+passes_in left (Changing change) lines old new first settled takes stays =
+    rw (← (below_same left left refl change lines old new stays)) (takes (things_below left change lines old))
 passes_in left _ lines old new first settled takes stays = takes []
 
 pub stops_in : {R : Type 0} (left : R → List ℕ) (stage : Stage) (lines : List SourceLine) (stack : Stack R)
@@ -80,59 +77,9 @@ pub opened_in : {R : Type 0} (left : R → List ℕ) (stage : Stage) (lines : Li
     (lines_in file (left reader)) ++ things_in left stage lines old
 opened_in left Seeking lines old new reader file at settled floor opens stays = absurd (settled refl)
 opened_in left (Changing change) lines old new reader file at settled floor opens stays =
-    opens left change.below floor (things_below left change lines new)
-    ∙ ap (λ (rest : List Thing). raws (at.depth + 1) at.may_match (lines_in file (left reader))
-    ++ things_above left change.below old rest)
-    (sym (below_same left left refl change lines old new (λ l n le. stays l n (omega (arith, le, floor)))))
+    rw (below_same left left refl change lines old new (λ l n le. stays l n (omega (arith, le, floor))))
+    (opens left change.below floor (things_below left change lines new))
 opened_in left _ lines old new reader file at settled floor opens stays = opens left 0 (omega arith) []
-
--- the same for a run of which nothing has changed that is to come
-pub coming_same : {R : Type 0} (t t' : List ℕ → Option (List ℕ)) (l l' : R → List ℕ) (run run' : Run R) → t' ≡ t
-    → l' ≡ l → run'.inputs ≡ run.inputs → run'.stack ≡ run.stack → run'.change ≡ run.change → run'.stage ≡ run.stage
-    → run'.first ≡ run.first → names_of run'.names ≡ names_of run.names → coming t' l' run' ≡ coming t l run
-coming_same t t' l l' run run' texts left inputs stack change stage first names =
-    λ i. coming_of (texts i) (text_of_name (inputs i)) (left i) (stage i) (change i) ((first i).items)
-    (length (names i)) (things_in (left i) (stage i) (lines_at (left i) (change i)) (stack i))
-
--- nothing is left
-pub coming_none : {R : Type 0} (t : List ℕ → Option (List ℕ)) (l : R → List ℕ) (run : Run R) → NothingLeft run →
-    coming t l run ≡ []
-coming_none t l run none = (λ i. coming_of t (text_of_name run.inputs) l (none.1 i) run.change run.first.items
-    (length (names_of run.names)) (things_in l (none.1 i) (lines_at l run.change) run.stack))
-    ∙ ap (λ (things : List Thing). coming_of t (text_of_name run.inputs) l Done run.change run.first.items (length
-    (names_of run.names)) things) (over-none l 0 (run.stack.depth - 0) run.stack.texts [] (omega (arith, none.0)))
-    ∙ merge_end
-    (record { texts = t; inputs = text_of_name run.inputs }) (state [] None [] (length (names_of run.names))) refl
-
--- a text was opened, by what the calls say of shelf and run
-pub coming_opened : {R : Type 0} (t t' : List ℕ → Option (List ℕ)) (l l' : R → List ℕ) (run run' : Run R) (reader : R)
-    (name : List ℕ) (at : LineAt) → t' ≡ t → l' ≡ l → run'.inputs ≡ run.inputs → run'.change ≡ run.change
-    → run'.stage ≡ run.stage → run'.first ≡ run.first → names_of run'.names ≡ names_of run.names ++ name ∷ [] →
-    IsSettled run.stage → Opens run.stack run'.stack reader (length (names_of run.names)) at
-    → StaysBelow run.stack.depth run.stack.texts run'.stack.texts
-    → coming_of t (text_of_name run.inputs) l run.stage run.change run.first.items (length (names_of run.names) + 1)
-    (raws (at.depth + 1) at.may_match (lines_in (length (names_of run.names)) (l' reader)) ++ things_of l run) ≡ coming
-    t' l' run'
-coming_opened t t' l l' run run' reader name at texts left inputs change stage first names settled opens stays =
-    let count : length (names_of run'.names) ≡ length (names_of run.names) + 1 =
-    ap (λ (ns : List (List ℕ)). length ns) names ∙ length-append (names_of run.names) (name ∷ []) in
-    let things = opened_in l run.stage (lines_at l run.change) run.stack run'.stack reader
-    (length (names_of run.names)) at settled run.floor opens stays in
-    sym ((λ i. coming_of (texts i) (text_of_name (inputs i)) (left i) (stage i) (change i) ((first i).items) (count i)
-    (things_in (left i) (stage i) (lines_at (left i) (change i)) run'.stack))
-    ∙ ap (λ (ts : List Thing). coming_of t (text_of_name run.inputs) l run.stage run.change run.first.items
-    (length (names_of run.names) + 1) ts)
-    (things ∙ ap (λ k. raws (at.depth + 1) at.may_match (lines_in (length (names_of run.names)) (k reader))
-    ++ things_of l run) (sym left)))
-
--- a fault came, and nothing else has changed
-pub gives_told : {R : Type 0} (t t' : List ℕ → Option (List ℕ)) (l l' : R → List ℕ) (run run' : Run R) (f : SourceFault)
-    → t' ≡ t → l' ≡ l → run'.inputs ≡ run.inputs → run'.stack ≡ run.stack → run'.change ≡ run.change → run'.stage
-    ≡ run.stage → run'.first ≡ run.first → run'.names ≡ run.names → run'.limits ≡ run.limits → run'.faults.items
-    ≡ run.faults.items ++ f ∷ [] → Gives [] (told_by run) (told_by run') (fault f ∷ coming t l run) (coming t' l' run')
-gives_told t t' l l' run run' f texts left inputs stack change stage first names limits told = gives_fault
-    (told_by run) (told_by run') _ _ (ap count_of limits) f (ap (λ (es : List Event). fault f ∷ es) (sym (coming_same t
-    t' l l' run run' texts left inputs stack change stage first (ap names_of names)))) told (ap names_of names)
 
 -- no text has lines left, and no entry is left
 pub nothing_above : {R : Type 0} (world : World) (l : R → List ℕ) (stack : Stack R) (files : ℕ) → stack.depth ≡ 0 →
@@ -140,6 +87,42 @@ pub nothing_above : {R : Type 0} (world : World) (l : R → List ℕ) (stack : S
 nothing_above world l stack files none = ap (λ (things : List Thing). merge world (state things None [] files))
     (over-none l 0 (stack.depth - 0) stack.texts [] (omega (arith, none)))
     ∙ merge_end world (state [] None [] files) refl
+
+-- nothing is left
+pub coming_none : {R : Type 0} (t : List ℕ → Option (List ℕ)) (l : R → List ℕ) (run : Run R) → NothingLeft run →
+    coming t l run ≡ []
+coming_none t l run none = (λ i. coming_of t (text_of_name run.inputs) l (none.1 i) run.change run.first.items
+    (length (names_of run.names)) (things_in l (none.1 i) (lines_at l run.change) run.stack))
+    ∙ nothing_above (record { texts = t; inputs = text_of_name run.inputs }) l run.stack _ none.0
+
+-- a text was opened, by what the calls say of shelf and run
+pub coming_opened : {R : Type 0} (t t' : List ℕ → Option (List ℕ)) (l l' : R → List ℕ) (run run' : Run R) (reader : R)
+    (name : List ℕ) (at : LineAt) → t' ≡ t → l' ≡ l → OnlyOpens run run'
+    → names_of run'.names ≡ names_of run.names ++ name ∷ [] → IsSettled run.stage
+    → Opens run.stack run'.stack reader (length (names_of run.names)) at
+    → StaysBelow run.stack.depth run.stack.texts run'.stack.texts
+    → coming_of t (text_of_name run.inputs) l run.stage run.change run.first.items (length (names_of run.names) + 1)
+    (raws (at.depth + 1) at.may_match (lines_in (length (names_of run.names)) (l' reader)) ++ things_of l run) ≡ coming
+    t' l' run'
+coming_opened t t' l l' run run' reader name at texts left only names settled opens stays =
+    let count : length (names_of run'.names) ≡ length (names_of run.names) + 1 = simp (names, length-append) in
+    let things = opened_in l run.stage (lines_at l run.change) run.stack run'.stack reader
+    (length (names_of run.names)) at settled run.floor opens stays in
+    sym ((λ i. coming_of (texts i) (text_of_name (only.inputs i)) (left i) (only.stage i) (only.change i)
+    ((only.first i).items) (count i) (things_in (left i) (only.stage i) (lines_at (left i) (only.change i)) run'.stack))
+    ∙ ap (λ (ts : List Thing). coming_of t (text_of_name run.inputs) l run.stage run.change run.first.items
+    (length (names_of run.names) + 1) ts)
+    (things ∙ ap (λ k. raws (at.depth + 1) at.may_match (lines_in (length (names_of run.names)) (k reader))
+    ++ things_of l run) (sym left)))
+
+-- a fault came, and nothing else has changed
+pub gives_told : {R : Type 0} (t t' : List ℕ → Option (List ℕ)) (l l' : R → List ℕ) (run run' : Run R) (f : SourceFault)
+    → t' ≡ t → l' ≡ l → OnlyTells run run' → run'.faults.items ≡ run.faults.items ++ f ∷ []
+    → Gives [] (told_by run) (told_by run') (fault f ∷ coming t l run) (coming t' l' run')
+gives_told t t' l l' run run' f texts left only told = gives_fault (told_by run) (told_by run') _ _ (ap count_of
+    only.limits) f (sym (λ i. fault f ∷ coming_of (texts i) (text_of_name (only.inputs i)) (left i) (only.stage i)
+    (only.change i) ((only.first i).items) (length (names_of (only.names i))) (things_in (left i) (only.stage i)
+    (lines_at (left i) (only.change i)) (only.stack i)))) told (ap names_of only.names)
 
 -- no text has lines left, and an entry waits
 pub no_match : {R : Type 0} (t : List ℕ → Option (List ℕ)) (l : R → List ℕ) (run : Run R) (begin : Place) →

@@ -1,19 +1,9 @@
 -- A search for an entry, line by line.
-use Rattle.cweb_lines.proofs.Common.{◌≡◌, ℕ, List, [], ◌∷◌, ◌++◌, Option, Some, None, refl, sym, ◌∙◌, ap, subst, arith, length, length-append, append-nil, append_assoc, Place, Sought, behind_x, code_of, sought, Line, SourceLine, SoFar, Adds, StopsAmong, TellsSome, Searched, SeeksTo, ToldFront, behind, IsOutside, change_in, pending_in, Count, FirstStops, Refuses, Took, size_of, Code, SourceFault, Stage, Done, Waiting, Stop}
+use Rattle.cweb_lines.proofs.Common.{◌≡◌, ℕ, List, [], ◌∷◌, ◌++◌, Option, Some, None, refl, sym, ◌∙◌, subst, arith, length-append, append-nil, append_assoc, Place, Sought, behind_x, code_of, sought, SourceLine, SoFar, StopsAmong, TellsSome, Searched, SeeksTo, ToldFront, behind, IsOutside, Count, FirstStops, Took, Code, Stage, Done, Waiting, Stop}
 use Rattle.cweb_lines.specs.Seeking.{LooksAt}
 use Rattle.cweb_lines.specs.declared.change.seek.Look.TheVariants.{Entry as first_line, On as goes_on}
 use Rattle.cweb_lines.proofs.Adds.{adds_none, adds_line, adds_faults}
 use Rattle.cweb_lines.proofs.Sums.{size-append}
-
-pub behind-both : (a c : List SourceFault) (b d : List SourceLine) (found : Sought) →
-    behind a b (behind c d found) ≡ behind (a ++ c) (b ++ d) found
-behind-both a c b d found = λ i. record {
-  faults = sym (append_assoc a c found.faults) i;
-  taken =
-      sym (append_assoc b d found.taken) i;
-  entry = found.entry;
-  rest = found.rest;
-}
 
 pub seeks_from : (found : Sought) (old : SoFar) → SeeksTo found found old old
 seeks_from found old = record { told = []; taken = []; whole = refl; adds = adds_none old old refl }
@@ -37,22 +27,15 @@ module _ (all : Sought) (lines : List SourceLine) (begin : Option Place) (old mi
       StopsAmong stop old.count now all.taken
   seeks_stop stop now same stops =
       let takes = sought_takes stops.line stops.rest begin in
-      let among : all.taken ≡ seeks.taken ++ stops.line ∷ takes.0 = ap (λ (s : Sought). s.taken) seeks.whole
-      ∙ ap (λ (ls : List SourceLine). seeks.taken ++ (sought ls begin).taken) stops.first
-      ∙ ap (λ (ls : List SourceLine). seeks.taken ++ ls) takes.1 in
-      let now_lines = ap (λ (c : Count). c.lines) same in
-      let now_bytes = ap (λ (c : Count). c.bytes) same in
-      let all_lines = ap (λ (ls : List SourceLine). length ls) among
-      ∙ length-append seeks.taken (stops.line ∷ takes.0) in
-      let all_bytes = ap size_of among ∙ size-append seeks.taken (stops.line ∷ takes.0) in
+      let among : all.taken ≡ seeks.taken ++ stops.line ∷ takes.0 = simp (seeks.whole, stops.first, takes.1) in
       record {
         front = seeks.taken;
         line = stops.line;
         rest = takes.0;
         among = among;
-        why = subst (λ (c : Count). Refuses stop c stops.line) (sym same) stops.why;
-        few = omega (arith, now_lines, all_lines, seeks.adds.lines_are);
-        small = omega (arith, now_bytes, all_bytes, seeks.adds.bytes_are);
+        why = rw same stops.why;
+        few = simp (same, among, length-append) (omega (arith, seeks.adds.lines_are));
+        small = simp (same, among, size-append) (omega (arith, seeks.adds.bytes_are));
       }
 
   -- some faults of a line are told behind those so far
@@ -61,10 +44,8 @@ module _ (all : Sought) (lines : List SourceLine) (begin : Option Place) (old mi
   seeks_told_more new more names = record {
     front = seeks.told ++ more.front;
     rest = more.rest;
-    whole = ap (λ (s : Sought). s.faults) seeks.whole ∙ ap (λ (fs : List SourceFault). seeks.told ++ fs) more.whole
-        ∙ sym (append_assoc seeks.told more.front more.rest);
-    told = more.told ∙ ap (λ (fs : List SourceFault). fs ++ more.front) seeks.adds.told
-        ∙ append_assoc old.faults seeks.told more.front;
+    whole = simp (seeks.whole, more.whole, append_assoc);
+    told = simp (more.told, seeks.adds.told, append_assoc);
     names = names ∙ seeks.adds.names;
   }
 
@@ -78,10 +59,7 @@ module _ (all : Sought) (lines : List SourceLine) (begin : Option Place) (old mi
     seeks_on next looks = record {
       told = seeks.told ++ looks.told;
       taken = seeks.taken ++ t.line ∷ [];
-      whole = seeks.whole
-          ∙ ap (λ (s : Sought). behind seeks.told seeks.taken s)
-          (ap (λ (ls : List SourceLine). sought ls begin) is ∙ looks.looks t.line t.is rest)
-          ∙ behind-both seeks.told looks.told seeks.taken (t.line ∷ []) (sought rest next);
+      whole = simp (seeks.whole, is, looks.looks t.line t.is rest, append_assoc);
       adds = adds_faults seeks.told looks.told (seeks.taken ++ t.line ∷ []) old now new
           (adds_line seeks.told seeks.taken old mid now bytes place t seeks.adds same_faults same_names) looks.faults
           names count;
@@ -97,17 +75,14 @@ module _ (all : Sought) (lines : List SourceLine) (begin : Option Place) (old mi
               Some (record { begin = entry; first = t.line.line.bytes });
           rest = rest;
         }) =
-        seeks.whole ∙ ap (λ (s : Sought). behind seeks.told seeks.taken s)
-        (ap (λ (ls : List SourceLine). sought ls begin) is ∙ looks.looks t.line t.is rest) in
+        simp (seeks.whole, is, looks.looks t.line t.is rest) in
         record {
-          adds = subst (λ (s : Sought). Adds s.faults s.taken old new) (sym whole)
-              (adds_faults seeks.told looks.told (seeks.taken ++ t.line ∷ []) old now new
+          adds = rw whole (adds_faults seeks.told looks.told (seeks.taken ++ t.line ∷ []) old now new
               (adds_line seeks.told seeks.taken old mid now bytes place t seeks.adds same_faults same_names)
               looks.faults names count);
           outside = tt;
-          entry = ap (λ (l : Line). Some (record { begin = entry; first = l.bytes })) (sym t.is)
-              ∙ ap (λ (s : Sought). s.entry) (sym whole);
-          rest = ap (λ (s : Sought). s.rest) (sym whole);
+          entry = simp (whole, t.is);
+          rest = simp whole;
         }
 
 -- where no line is left, no entry is found
@@ -124,14 +99,11 @@ pub seeks_ended : (all : Sought) (lines : List SourceLine) (begin : Option Place
 seeks_ended all lines begin old mid seeks none new faults names count stage done first left =
     let last = sought [] begin in
     let ends = sought_none begin in
-    let whole : all ≡ behind seeks.told seeks.taken last = seeks.whole
-    ∙ ap (λ (ls : List SourceLine). behind seeks.told seeks.taken (sought ls begin)) none in
+    let whole : all ≡ behind seeks.told seeks.taken last = simp (seeks.whole, none) in
     let adds = adds_faults seeks.told last.faults seeks.taken old mid new seeks.adds faults names count in
     record {
-      adds = subst (λ (s : Sought). Adds s.faults s.taken old new) (sym whole)
-          (subst (λ (ls : List SourceLine). Adds (seeks.told ++ last.faults) ls old new)
-          (sym (ap (λ (ls : List SourceLine). seeks.taken ++ ls) ends.0 ∙ append-nil seeks.taken)) adds);
+      adds = simp (whole, ends.0, append-nil) adds;
       outside = subst IsOutside (sym done) tt;
-      entry = ap (λ s. pending_in s first) done ∙ sym (ap (λ (s : Sought). s.entry) whole ∙ ends.1);
-      rest = ap (λ s. change_in s left) done ∙ sym (ap (λ (s : Sought). s.rest) whole ∙ ends.2);
+      entry = simp (done, whole, ends.1);
+      rest = simp (done, whole, ends.2);
     }

@@ -1,5 +1,6 @@
 -- What is seen of events, one after another.
-use Rattle.cweb_lines.proofs.Common.{◌≡◌, Bool, true, false, ◌||◌, ℕ, List, [], ◌∷◌, ◌++◌, map, None, Some, Option, refl, ap, is_some, Line, SourceLine, Seen, followed_by, seen, Event, fault, given, opening, took, Code, SourceFault}
+use Rattle.cweb_lines.proofs.Common.{◌∙◌, Entry, Sought, Thing, World, merge, merge_next, seek, sought, ◌≡◌, false, ℕ, List, [], ◌∷◌, ◌++◌, map, None, Some, Option, refl, ap, is_some, Line, SourceLine, Seen, followed_by, seen, Event, fault, given, opening, took, Code, SourceFault}
+use Rattle.cweb_lines.proofs.Merges.{state}
 
 pub no_code : (code : Option Code) → is_some code ≡ false → code ≡ None
 no_code None is = refl
@@ -19,6 +20,16 @@ name_first name s = record { lines = s.lines; faults = s.faults; included = name
 pub took_unseen : (lines : List SourceLine) (events : List Event) → seen (map took lines ++ [] ++ events) ≡ seen events
 took_unseen [] events = refl
 took_unseen (line ∷ lines) events = took_unseen lines events
+
+-- a search that tells nothing isn't seen
+pub seek_unseen : (world : World) (things : List Thing) (change : List SourceLine) (files : ℕ) (taken : List SourceLine)
+    (entry : Option Entry) (rest : List SourceLine)
+    → sought change None ≡ record { faults = []; taken = taken; entry = entry; rest = rest }
+    → seen (merge world (state (seek ∷ things) None change files)) ≡ seen (merge world (state things entry rest files))
+seek_unseen world things change files taken entry rest is = ap seen (merge_next world (state (seek ∷ things)
+    None change files) (map took taken ++ [], state things entry rest files) (ap (λ (found : Sought).
+    Some (map took found.taken ++ map fault found.faults, state things found.entry found.rest files)) is))
+    ∙ took_unseen taken (merge world (state things entry rest files))
 
 pub seen-append : (a b : List Event) → seen (a ++ b) ≡ followed_by (seen a) (seen b)
 seen-append [] b = refl

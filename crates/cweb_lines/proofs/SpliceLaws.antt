@@ -1,11 +1,11 @@
 -- Changes that match, in order, splice.
-use Rattle.cweb_lines.proofs.Common.{◌≡◌, ◌+◌, ℕ, true, false, List, [], ◌∷◌, ◌++◌, map, None, Some, sym, ◌∙◌, ap, subst, arith, length, AllByRecursion, list_any, bytes_eq, SourceLine, lines_in, text_lines, World, is_include, Sought, code_of, ChangesSplice, IsPlainSplice, Splice, is_code, spliced, web_lines, followed_by, only_lines, placed, seen, fault, raws, seek, took, merge, merge_next, or_parts}
+use Rattle.cweb_lines.proofs.Common.{◌≡◌, ◌+◌, ℕ, true, false, List, [], ◌∷◌, ◌++◌, None, sym, ◌∙◌, ap, subst, arith, length, AllByRecursion, list_any, bytes_eq, SourceLine, lines_in, text_lines, World, is_include, code_of, ChangesSplice, IsPlainSplice, Splice, is_code, spliced, web_lines, followed_by, only_lines, placed, seen, raws, seek, merge, or_parts}
 use Rattle.cweb_lines.specs.Laws.{change_lines}
 use Rattle.cweb_lines.proofs.Merges.{state}
 use Rattle.cweb_lines.proofs.Entries.{bytes_in, finds_none, gives_alone}
 use Rattle.cweb_lines.proofs.Lies.{Lie, bytes_of, first_of, lie_in, parts}
 use Rattle.cweb_lines.proofs.Splices.{Edit, IsPlain, splices_one}
-use Rattle.cweb_lines.proofs.Seens.{no_code, took_unseen}
+use Rattle.cweb_lines.proofs.Seens.{no_code, seek_unseen}
 
 -- the lines of a web up to the last that a change replaces, and what stands behind them
 record WebParts (number : ℕ) (s : Splice) (later : List (List ℕ)) (lines : List SourceLine) : Type 0 where
@@ -30,8 +30,7 @@ web_parts number s later lines lie =
       line = b.line;
       old = c.front;
       behind = c.rest;
-      whole = a.whole ∙ ap (λ (ls : List SourceLine). a.front ++ ls)
-          (b.whole ∙ ap (λ (ls : List SourceLine). b.line ∷ ls) c.whole);
+      whole = simp (a.whole, b.whole, c.whole);
       stays_lie = a.front_lies;
       first = b.bytes;
       further = bytes_of 0 (number + length s.stays + 1) s.further c.front c.front_lies;
@@ -86,11 +85,9 @@ change_parts number s later lines lie =
       new = f.front;
       z = g.line;
       rest = g.rest;
-      whole = a.whole ∙ ap (λ (ls : List SourceLine). a.front ++ ls)
-          (b.whole ∙ ap (λ (ls : List SourceLine). b.line ∷ ls) (c.whole
-          ∙ ap (λ (ls : List SourceLine). c.line ∷ ls) (d.whole ∙ ap (λ (ls : List SourceLine). d.front ++ ls) (e.whole
-          ∙ ap (λ (ls : List SourceLine). e.line ∷ ls)
-          (f.whole ∙ ap (λ (ls : List SourceLine). f.front ++ ls) g.whole)))));
+      whole = a.whole ∙ ap (λ ls. a.front ++ ls) (b.whole ∙ ap (λ ls. b.line ∷ ls) (c.whole
+          ∙ ap (λ ls. c.line ∷ ls) (d.whole ∙ ap (λ ls. d.front ++ ls) (e.whole
+          ∙ ap (λ ls. e.line ∷ ls) (f.whole ∙ ap (λ ls. f.front ++ ls) g.whole)))));
       comment_is = bytes_of 1 number s.comment a.front a.front_lies;
       begin_is = b.bytes;
       first_is = c.bytes;
@@ -109,14 +106,7 @@ splices_none : (world : World) (web change : ℕ) (behind comment : List (List �
 splices_none world web change behind comment lines changes plain_behind no_codes lie lie' =
     let plain_lines = ap (list_any is_include) (bytes_of 0 web behind lines lie) ∙ plain_behind in
     let none = ap (list_any is_code) (bytes_of 1 change comment changes lie') ∙ no_codes in
-    let things = raws 1 true lines in
-    ap seen (merge_next world (state (seek ∷ things) None changes 2) (map took changes ++ [], state things None [] 2)
-    (ap (λ (found : Sought). Some (
-      map took found.taken
-          ++ map fault found.faults,
-      state things found.entry found.rest 2,
-    )) (finds_none changes none)))
-    ∙ took_unseen changes (merge world (state things None [] 2))
+    seek_unseen world (raws 1 true lines) changes 2 changes None [] (finds_none changes none)
     ∙ gives_alone world 1 true lines [] 2 plain_lines
     ∙ ap only_lines lie
 

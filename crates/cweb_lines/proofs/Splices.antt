@@ -1,9 +1,9 @@
 -- What one change makes of the lines that it stands between.
-use Rattle.cweb_lines.proofs.Common.{◌≡◌, ◌≢◌, ◌&&◌, ℕ, true, false, List, [], ◌∷◌, ◌++◌, map, None, Some, refl, sym, ◌∙◌, ap, append_assoc, bytes_eq-Decides, list_any, bytes_eq, SourceLine, World, is_include, Entry, OldSide, Sought, code_of, is_code, followed_by, only_lines, seen, Compared, Event, NewSide, Next, RawLine, Thing, after_old, at_entry, change_events, compared, fault, passed, raw, raws, seek, taking, took, merge, merge_next}
+use Rattle.cweb_lines.proofs.Common.{◌≡◌, ◌≢◌, ◌&&◌, ℕ, true, false, List, [], ◌∷◌, ◌++◌, map, None, Some, refl, sym, ◌∙◌, ap, append_assoc, bytes_eq-Decides, list_any, bytes_eq, SourceLine, World, is_include, Entry, OldSide, code_of, is_code, followed_by, only_lines, seen, Compared, Event, NewSide, Next, RawLine, Thing, after_old, at_entry, change_events, compared, passed, raw, raws, seek, taking, took, merge, merge_next}
 use Rattle.cweb_lines.specs.declared.change.code.Code.TheVariants.{EndSide as end_side, NewSide as new_side, OldSide as old_side}
-use Rattle.cweb_lines.proofs.IncludeLaws.{raws-append}
+use Rattle.cweb_lines.proofs.Stacks.{raws-append}
 use Rattle.cweb_lines.proofs.Merges.{state}
-use Rattle.cweb_lines.proofs.Seens.{took_unseen}
+use Rattle.cweb_lines.proofs.Seens.{seek_unseen}
 use Rattle.cweb_lines.proofs.Entries.{bytes_in, compares, entry_of, finds, gives_out, lines_of, new_splits, old_splits, passes_by}
 
 -- The lines of one change. Of the change file: a comment, the @x line, the first old line, the further ones, the
@@ -121,12 +121,8 @@ module _ (world : World) (files : ℕ) (e : Edit) (plain_edit : IsPlain e) (chan
       (followed_by (only_lines (lines_of e.new)) (seen (merge world (state (seek ∷ rest) None change files))))
   splices_one =
       let things = raws 1 true (web_from e behind) in
-      let taken = e.comment ++ (e.x ∷ e.first ∷ []) in
-      ap seen (merge_next world (state (seek ∷ things) None (change_from e change) files)
-      (map took taken ++ [], state things (Some entry) old_on files) (ap (λ (found : Sought).
-      Some (map took found.taken ++ map fault found.faults, state things found.entry found.rest files))
-      (finds e.comment e.x e.first old_on plain_edit.no_comment plain_edit.begins plain_edit.some plain_edit.no_first)))
-      ∙ took_unseen taken (merge world (state things (Some entry) old_on files))
+      seek_unseen world things (change_from e change) files (e.comment ++ (e.x ∷ e.first ∷ [])) (Some entry) old_on
+      (finds e.comment e.x e.first old_on plain_edit.no_comment plain_edit.begins plain_edit.some plain_edit.no_first)
       ∙ ap (λ (ts : List Thing). seen (merge world (state ts (Some entry) old_on files)))
       (raws-append 1 true e.stays replaced_on)
       ∙ passes_by world 1 entry e.stays (raws 1 true replaced_on) old_on files plain_edit.stays_plain plain_edit.others

@@ -1,5 +1,5 @@
 -- Open texts in an array.
-use Rattle.cweb_lines.proofs.Common.{◌≡◌, ◌≢◌, ◌≤◌, ◌<◌, ◌+◌, ◌-◌, ℕ, zero, suc, List, [], ◌∷◌, ◌++◌, Option, Some, None, refl, sym, ◌∙◌, ap, subst, arith, length, get_or, set, get_or-set_same, get_or-set_other, le-max_left, le-max_right, max-le, get_or_default, SourceLine, Thing, raw, raws, Count, things_at, things_over, matches_at, text_depth, lines_at, number_of, DeepAt, gap_at, StaysBelow, Pushes, TakesLine, TakesFirst, raw_at, StopsFor, FirstStops, TopStops, Stack, Stop, ReadFault, LineTooLong, TooMuchText, Memory, LineAt, OpenText}
+use Rattle.cweb_lines.proofs.Common.{Bool, append_assoc, ◌≡◌, ◌≢◌, ◌≤◌, ◌<◌, ◌+◌, ◌-◌, ℕ, zero, suc, List, [], ◌∷◌, ◌++◌, Option, Some, None, refl, sym, ◌∙◌, ap, subst, arith, length, get_or, set, get_or-set_same, get_or-set_other, le-max_left, le-max_right, max-le, get_or_default, SourceLine, Thing, raw, raws, Count, things_at, things_over, matches_at, text_depth, lines_at, number_of, DeepAt, gap_at, StaysBelow, Pushes, TakesLine, TakesFirst, StopsFor, FirstStops, TopStops, AreDeep, KeepsStack, files_up_to, line_number, Stack, Stop, ReadFault, LineTooLong, TooMuchText, Memory, LineAt, OpenText}
 use Rattle.cweb_lines.specs.Texts.{most, gaps_from}
 
 pub most_at : {R : Type 0} (number : OpenText R → ℕ) (texts : List (Option (OpenText R))) (at : ℕ) →
@@ -36,22 +36,26 @@ module _ {R : Type 0} (left : R → List ℕ) where
   over-set low zero texts at slot rest le = refl
   over-set low (suc n) texts at slot rest le =
       let other : low + n ≢ at = omega arith in
-      ap (λ t. things_at left t ++ things_over left low n (set texts at slot) rest)
-      (get_or-set_other texts at (low + n) slot None other)
-      ∙ ap (λ (ts : List Thing). things_at left (get_or texts (low + n) None) ++ ts)
-      (over-set low n texts at slot rest (omega arith))
+      simp (get_or-set_other texts at (low + n) slot None other, over-set low n texts at slot rest (omega arith))
 
   pub over-top : (low n : ℕ) (texts : List (Option (OpenText R))) (slot : Option (OpenText R)) (rest : List Thing)
       → low + n < length texts → things_over left low (suc n) (set texts (low + n) slot) rest
       ≡ things_at left slot ++ things_over left low n texts rest
-  over-top low n texts slot rest within = ap (λ t. things_at left t
-      ++ things_over left low n (set texts (low + n) slot) rest) (get_or-set_same texts (low + n) slot None within)
-      ∙ ap (λ (ts : List Thing). things_at left slot ++ ts) (over-set low n texts (low + n) slot rest (omega arith))
+  over-top low n texts slot rest within = simp (
+    get_or-set_same texts (low + n) slot None within,
+    over-set low n texts (low + n) slot rest (omega arith),
+  )
 
 -- no place above a low one, so nothing stands over the rest
 pub over-none : {R : Type 0} (left : R → List ℕ) (low n : ℕ) (texts : List (Option (OpenText R))) (rest : List Thing) →
     n ≡ 0 → things_over left low n texts rest ≡ rest
 over-none left low n texts rest none = ap (λ k. things_over left low k texts rest) none
+
+pub raws-append : (depth : ℕ) (may_match : Bool) (before behind : List SourceLine)
+    → raws depth may_match (before ++ behind) ≡ raws depth may_match before ++ raws depth may_match behind
+raws-append depth may_match [] behind = refl
+raws-append depth may_match (line ∷ before) behind = ap (λ (ts : List Thing). raw
+    (record { source = line; depth = depth; may_match = may_match }) ∷ ts) (raws-append depth may_match before behind)
 
 -- the deepest text, of which a line was taken, or which was at its end, or whose line stops
 module _ {R : Type 0} (left left' : R → List ℕ) (same : left' ≡ left) (texts : List (Option (OpenText R)))
@@ -72,13 +76,29 @@ module _ {R : Type 0} (left left' : R → List ℕ) (same : left' ≡ left) (tex
 
   open_now : things_over left low (depth - low) texts rest ≡ things_at left slot ++ under
   open_now = ap (λ n. things_over left low n texts rest) deep
-      ∙ ap (λ t. things_at left t ++ under)
-      (ap (λ p. get_or texts p None) top ∙ get_or_default texts (depth - 1) None d within)
+      ∙ ap (λ t. things_at left t ++ under) (ap (λ p. get_or texts p None) top ∙ get_or_default _ _ _ d within)
 
   with_lines : (lines : List SourceLine) → lines_at left slot ≡ lines →
       things_over left low (depth - low) texts rest ≡ raws (number_of text_depth slot) (matches_at slot) lines ++ under
   with_lines lines are = open_now ∙ ap (λ (ls : List SourceLine). raws (number_of text_depth slot) (matches_at slot) ls
       ++ under) are
+
+  pub top_passed : (sources : List SourceLine) → number_of text_depth slot' ≡ number_of text_depth slot
+      → matches_at slot' ≡ matches_at slot → lines_at left slot ≡ sources ++ lines_at left slot'
+      → things_over left low (depth - low) texts rest ≡ raws (number_of text_depth slot) (matches_at slot) sources
+      ++ things_over left low (depth - low) (set texts (depth - 1) slot') rest
+  top_passed sources deep' matches' takes =
+      let first = raws (number_of text_depth slot) (matches_at slot) sources in
+      with_lines (sources ++ lines_at left slot') takes
+      ∙ ap (λ (ts : List Thing). ts ++ under)
+      (raws-append (number_of text_depth slot) (matches_at slot) sources (lines_at left slot'))
+      ∙ append_assoc first (raws (number_of text_depth slot) (matches_at slot) (lines_at left slot')) under
+      ∙ ap (λ (ts : List Thing). first ++ ts) (
+      (λ i. raws (sym deep' i) (sym matches' i) (lines_at left slot') ++ under)
+      ∙ sym (over-top left low (depth - 1 - low) texts slot' rest (omega (arith, within)))
+      ∙ ap (λ p. things_over left low (suc (depth - 1 - low)) (set texts p slot') rest) top
+      ∙ ap (λ n. things_over left low n (set texts (depth - 1) slot') rest) (sym deep)
+      )
 
   pub top_taken : (at : LineAt) → at.depth ≡ number_of text_depth slot → at.may_match ≡ matches_at slot → number_of
       text_depth slot' ≡ number_of text_depth slot → matches_at slot' ≡ matches_at slot → TakesLine (lines_at left slot)
@@ -86,13 +106,9 @@ module _ {R : Type 0} (left left' : R → List ℕ) (same : left' ≡ left) (tex
       (Some at) bytes (things_over left' low (depth - low) (set texts (depth - 1) slot') rest) before after
   top_taken at deep_at matches deep' matches' takes = (
     takes.0,
-    with_lines (takes.0.line ∷ lines_at left' slot') takes.1
-        ∙ (λ i. raw (record { source = takes.0.line; depth = sym deep_at i; may_match = sym matches i }) ∷ raws (sym
-        deep' i) (sym matches' i) (lines_at left' slot') ++ things_over (sym same i) low (depth - 1 - low) texts rest)
-        ∙ ap (λ (ts : List Thing). raw_at at takes.0.line ∷ ts)
-        (sym (over-top left' low (depth - 1 - low) texts slot' rest (omega (arith, within))))
-        ∙ ap (λ p. raw_at at takes.0.line ∷ things_over left' low (suc (depth - 1 - low)) (set texts p slot') rest) top
-        ∙ ap (λ n. raw_at at takes.0.line ∷ things_over left' low n (set texts (depth - 1) slot') rest) (sym deep),
+    top_passed (takes.0.line ∷ []) deep' matches' (takes.1 ∙ ap (λ k. takes.0.line ∷ lines_at k slot') same)
+        ∙ (λ i. raw (record { source = takes.0.line; depth = sym deep_at i; may_match = sym matches i })
+        ∷ things_over (sym same i) low (depth - low) (set texts (depth - 1) slot') rest),
   )
 
   pub top_closed : (texts' : List (Option (OpenText R))) → texts' ≡ set texts (depth - 1) None
@@ -164,3 +180,14 @@ pub takes_same : (at : Option LineAt) (old mid new : List Thing) (bytes : List �
 takes_same None old mid new bytes before before' after things count takes = things ∙ takes
 takes_same (Some at) old mid new bytes before before' after things count takes =
     subst (λ (b : Count). TakesFirst old (Some at) bytes new b after) count (takes.0, things ∙ takes.1)
+
+-- a text gives its place to one that is no further, of the same files and as deep
+pub keeps_stack : {R : Type 0} (old new : Stack R) (at : ℕ) (slot : Option (OpenText R)) (after : Count)
+    → new.texts ≡ set old.texts at slot → most line_number old.texts ≤ after.lines
+    → number_of line_number slot ≤ after.lines → number_of files_up_to slot ≤ most files_up_to old.texts
+    → AreDeep old.texts → DeepAt at slot → KeepsStack old new after
+keeps_stack old new at slot after is few number file deep here = record {
+  numbers = rw is (most_set line_number old.texts at slot after.lines few number);
+  files = rw is (most_set files_up_to old.texts at slot (most files_up_to old.texts) (omega arith) file);
+  deep = rw is (deep-set 0 at at old.texts slot (omega arith) deep here);
+}

@@ -1,14 +1,13 @@
 -- Lines that stand one behind another in a piece, and what they are in their text.
-use Rattle.cweb_lines.proofs.Common.{◌≡◌, ◌≤◌, ◌<◌, ◌+◌, ◌-◌, ℕ, Bool, List, [], ◌∷◌, ◌++◌, length, map, take, drop, Option, Some, None, refl, sym, ◌∙◌, ap, arith, take-add, append_assoc, append_cancel_right, drop-drop, length-append, length-map, length-take, map-append, take-take, take_all, slice_range, IfSome, Entry, SourceLine, SplitsAt, TextLine, numbered, text_lines, trimmed, ArePassing, HasRoomFor, IsStretch, Passes, Reaches, StandsIn, ended, printed, sources_next, standing, pending, lines_at, Limits, LINES, BYTES, Stretch, OpenText}
+use Rattle.cweb_lines.proofs.Common.{◌≡◌, ◌≤◌, ◌<◌, ◌+◌, ◌-◌, ℕ, Bool, List, [], ◌∷◌, ◌++◌, length, map, take, drop, Option, Some, None, refl, sym, ◌∙◌, ap, arith, take-add, append_assoc, append_cancel_right, drop-drop, length-append, length-map, length-take, map-append, take-take, take_all, slice_range, IfSome, Entry, SplitsAt, TextLine, numbered, text_lines, trimmed, ArePassing, HasRoomFor, IsStretch, Passes, Reaches, StandsIn, ended, printed, sources_next, standing, pending, lines_at, Limits, LINES, BYTES, Stretch, OpenText}
 use Rattle.cweb_lines.proofs.Newlines.{behind, text_lines-full}
 
 pub standing-append : (a b : List (List ℕ)) → standing (a ++ b) ≡ standing a ++ standing b
 standing-append [] b = refl
-standing-append (line ∷ a) b = ap (λ (t : List ℕ). line ++ 10 ∷ t) (standing-append a b)
-    ∙ sym (append_assoc line (10 ∷ standing a) (standing b))
+standing-append (line ∷ a) b = simp (standing-append a b, append_assoc)
 
 printed-append : (a b : List (List ℕ)) → printed (a ++ b) ≡ printed a ++ printed b
-printed-append a b = ap standing (map-append trimmed a b) ∙ standing-append (map trimmed a) (map trimmed b)
+printed-append a b = simp (map-append, standing-append)
 
 passing-append : (entry : Option Entry) (may_match : Bool) (a b : List (List ℕ)) → ArePassing entry may_match a
     → ArePassing entry may_match b → ArePassing entry may_match (a ++ b)
@@ -76,8 +75,8 @@ pub joined : (entry : Option Entry) (may_match : Bool) (piece : List ℕ) (start
 joined entry may_match piece start s t u a b first whole then text ends lines = record {
   passing = passing-append entry may_match a b first.passing then.passing;
   lines = omega (arith, lines, first.lines, then.lines, length-append a b);
-  stands = ap (slice_range piece start) ends ∙ split t.end (omega (arith, then.forth, then.before))
-      ∙ (λ i. first.stands i ++ then.stands i) ∙ sym (standing-append a b);
+  stands =
+      simp (ends, split t.end (omega (arith, then.forth, then.before)), first.stands, then.stands, standing-append);
   size = omega (
     arith,
     ends,
@@ -86,12 +85,15 @@ joined entry may_match piece start s t u a b first whole then text ends lines = 
     ap (λ (l : List ℕ). length l) (standing-append a b),
     length-append (standing a) (standing b),
   );
-  text = ap (λ n. slice_range piece start n ++ 10 ∷ []) text
-      ∙ ap (λ (l : List ℕ). l ++ 10 ∷ []) (split t.text then.forth)
-      ∙ append_assoc (slice_range piece start s.end) (slice_range piece s.end t.text) (10 ∷ [])
-      ∙ (λ i. first.whole whole i ++ then.text i) ∙ sym (printed-append a b);
-  whole = λ is. ap (slice_range piece start) ends ∙ split t.end (omega (arith, then.forth, then.before))
-      ∙ (λ i. first.whole whole i ++ then.whole (omega (arith, is, text, ends)) i) ∙ sym (printed-append a b);
+  text = simp (text, split t.text then.forth, append_assoc, first.whole whole, then.text, printed-append);
+  whole = λ is. simp (
+    ends,
+    split t.end (omega (arith, then.forth, then.before)),
+    first.whole whole,
+    then.whole
+        (omega (arith, is, text, ends)),
+    printed-append,
+  );
   forth = omega (arith, text, then.forth, first.forth, first.before);
   before = omega (arith, text, ends, then.before);
 }
@@ -137,10 +139,12 @@ stands_in entry text limits (Some s) few small reaches = (
 text_lines-standing : (entry : Option Entry) (may_match : Bool) (lines : List (List ℕ)) (rest : List ℕ)
     → ArePassing entry may_match lines → text_lines (standing lines ++ rest) ≡ map ended lines ++ text_lines rest
 text_lines-standing entry may_match [] rest passing = refl
-text_lines-standing entry may_match (line ∷ lines) rest passing =
-    ap text_lines (append_assoc line (10 ∷ standing lines) rest)
-    ∙ text_lines-full line (standing lines ++ rest) passing.0.clean
-    ∙ ap (λ (ls : List TextLine). ended line ∷ ls) (text_lines-standing entry may_match lines rest passing.1)
+text_lines-standing entry may_match (line ∷ lines) rest passing = simp (
+  append_assoc,
+  text_lines-full line
+      (standing lines ++ rest) passing.0.clean,
+  text_lines-standing entry may_match lines rest passing.1,
+)
 
 pub numbered-append : (file number : ℕ) (a b : List TextLine)
     → numbered file number (a ++ b) ≡ numbered file number a ++ numbered file (number + length a) b
@@ -148,26 +152,21 @@ numbered-append file number [] b =
     let same : number ≡ number + 0 = omega arith in ap (λ n. numbered file n b) same
 numbered-append file number (line ∷ a) b =
     let next : number + 1 + length a ≡ number + length (line ∷ a) = omega arith in
-    ap (λ (ls : List SourceLine). record {
-      line = record { bytes = trimmed line.bytes; place = record { file = record { 0 = file }; line = number } };
-      length = length line.bytes;
-      size = line.size;
-    } ∷ ls)
-    (numbered-append file (number + 1) a b ∙ ap (λ n. numbered file (number + 1) a ++ numbered file n b) next)
+    simp (numbered-append file (number + 1) a b, next)
 
 -- the lines that an open text has left, where lines are taken that stand in what was read
 pub takes_lines : {R : Type 0} (entry : Option Entry) (text : OpenText R) (s : Stretch) (lines : List (List ℕ))
     → StandsIn entry text s lines → (left : R → List ℕ) → lines_at left (Some text) ≡ sources_next (Some text) lines
     ++ numbered text.file.0 (text.line + s.lines + 1)
     (text_lines (slice_range text.source.piece.items s.end text.source.end ++ left text.source.reader.value))
-takes_lines entry text s lines stands left =
-    ap (λ (t : List ℕ). numbered text.file.0 (text.line + 1) (text_lines (t ++ unread))) front
-    ∙ ap (λ (t : List ℕ). numbered text.file.0 (text.line + 1) (text_lines t))
-    (append_assoc (standing lines) behind_them unread)
-    ∙ ap (numbered text.file.0 (text.line + 1))
-    (text_lines-standing entry text.may_match lines (behind_them ++ unread) stands.is.passing)
-    ∙ numbered-append text.file.0 (text.line + 1) (map ended lines) (text_lines (behind_them ++ unread))
-    ∙ ap (λ n. sources_next (Some text) lines ++ numbered text.file.0 n (text_lines (behind_them ++ unread))) count
+takes_lines entry text s lines stands left = simp (
+  front,
+  append_assoc,
+  text_lines-standing entry text.may_match lines
+      (behind_them ++ unread) stands.is.passing,
+  numbered-append,
+  count,
+)
   where
     unread : List ℕ
     unread = left text.source.reader.value

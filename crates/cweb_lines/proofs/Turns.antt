@@ -1,23 +1,10 @@
 -- What a turn gives: a search, a line that was taken, a change that begins.
-use Rattle.cweb_lines.proofs.Common.{◌≡◌, ◌&&◌, ℕ, Bool, true, false, List, [], ◌∷◌, ◌++◌, Some, None, Option, refl, sym, ◌∙◌, ap, length, map, if◌then◌else◌, subst, append_assoc, nat_lt, Ok, bytes_eq, Place, Entry, at_place, old_lines, sought, text_of_name, world_in, World, Line, SourceLine, Event, RawLine, Thing, after_old, at_entry, change_events, fault, fault_if, raw, seek, taking, took, SoFar, change_lines, coming, coming_after, pending_of, things_of, told_by, names_of, IsChanged, faults_replaced, lines_replaced, list_if, taken_away, Searched, IsOutside, begun_by, change_in, pending_in, things_in, IsSettled, floor_of, lines_at, raw_at, things_above, Counted, StaysBelow, TakesAbove, merge, merge_next, SourceFault, EndedBeforeY, WebEnded, Unequal, Run, Stack, Stage, Done, Seeking, Waiting, Changing, LineAt, count_of, OnlyTakes, map-append}
+use Rattle.cweb_lines.proofs.Common.{Sought, map-append, ◌≡◌, ◌&&◌, ℕ, Bool, true, false, List, [], ◌∷◌, ◌++◌, Some, None, Option, refl, sym, ◌∙◌, ap, length, map, if◌then◌else◌, subst, append_assoc, Ok, bytes_eq, Place, Entry, old_lines, sought, text_of_name, world_in, World, Line, SourceLine, Event, RawLine, Thing, after_old, at_entry, change_events, fault, fault_if, raw, seek, taking, took, SoFar, change_lines, coming, coming_after, pending_of, things_of, told_by, names_of, IsChanged, faults_replaced, lines_replaced, list_if, taken_away, Searched, IsOutside, begun_by, change_in, pending_in, things_in, IsSettled, floor_of, lines_at, raw_at, things_above, Counted, StaysBelow, TakesAbove, merge, merge_next, SourceFault, Run, Stack, Stage, Seeking, Waiting, Changing, LineAt, count_of, OnlyTakes, Took, TellsSome, TellsFront, StopsFor, StopsAmong, Stopped, Stop, Count, Gives}
+use Rattle.cweb_lines.proofs.Adds.{adds_both, adds_one, among_after, gives_adds, stopped_among, tells_after, tells_some}
+use Rattle.cweb_lines.proofs.Fronts.{took_faults, took_names}
+use Rattle.cweb_lines.proofs.Stacks.{stops_map}
 use Rattle.cweb_lines.proofs.Merges.{state}
 use Rattle.cweb_lines.proofs.Runs.{coming_of, takes_in}
-
--- an entry is sought: lines are taken, faults come, and then what the texts have left
-pub sought_first : {R : Type 0} (t : List ℕ → Option (List ℕ)) (l : R → List ℕ) (run : Run R)
-    → run.stage ≡ Seeking → coming t l run ≡ map took (sought (change_lines l run) None).taken ++ (map fault
-    (sought (change_lines l run) None).faults ++ merge (world_in t run.inputs) (state (things_above l 0 run.stack [])
-    (sought (change_lines l run) None).entry (sought (change_lines l run) None).rest (length (names_of run.names))))
-sought_first t l run stage =
-    let found = sought (change_lines l run) None in
-    let world = world_in t run.inputs in
-    let files = length (names_of run.names) in
-    let later = state (things_above l 0 run.stack []) found.entry found.rest files in
-    (λ i. coming_of t (text_of_name run.inputs) l (stage i) run.change run.first.items files
-    (things_in l (stage i) (change_lines l run) run.stack))
-    ∙ merge_next world (state (seek ∷ things_above l 0 run.stack []) None (change_lines l run) files)
-    (map took found.taken ++ map fault found.faults, later) refl
-    ∙ append_assoc (map took found.taken) (map fault found.faults) (merge world later)
 
 -- outside a change the texts alone are to come
 outside_things : {R : Type 0} (l : R → List ℕ) (stage : Stage) (lines : List SourceLine) (stack : Stack R) →
@@ -26,60 +13,73 @@ outside_things l Seeking lines stack outside = absurd outside
 outside_things l (Changing change) lines stack outside = absurd outside
 outside_things l _ lines stack outside = refl
 
--- the search has ended
-pub searched_later : {R : Type 0} (t t' : List ℕ → Option (List ℕ)) (l l' : R → List ℕ) (run run' : Run R)
-    (old new : SoFar) → t' ≡ t → l' ≡ l → run'.inputs ≡ run.inputs → run'.stack ≡ run.stack → run'.names ≡ run.names
-    → Searched (sought (change_lines l run) None) old new run'.stage run'.first.items (change_lines l' run')
-    → merge (world_in t run.inputs) (state (things_above l 0 run.stack []) (sought (change_lines l run) None).entry
-    (sought (change_lines l run) None).rest (length (names_of run.names))) ≡ coming t' l' run'
-searched_later t t' l l' run run' old new texts left inputs stack names found = sym (
-    ap (λ (things : List Thing). coming_of t' (text_of_name run'.inputs) l' run'.stage run'.change run'.first.items
-    (length (names_of run'.names)) things) (outside_things l' run'.stage
-    (change_lines l' run') run'.stack found.outside)
-    ∙ (λ i. merge (world_in (texts i) (inputs i)) (state (things_above (left i) 0 (stack i) []) (found.entry i)
-    (found.rest i) (length (names_of (names i))))))
+-- an entry is sought: lines are taken, faults come, and then what the texts have left
+module _ {R : Type 0} (t : List ℕ → Option (List ℕ)) (l : R → List ℕ) (run : Run R) (stage : run.stage ≡ Seeking) where
+  abbrev found : Sought
+  found = sought (change_lines l run) None
 
--- a raw line was taken
-pub taken_first : {R : Type 0} (t t' : List ℕ → Option (List ℕ)) (l l' : R → List ℕ) (run run' : Run R) (at : LineAt)
-    (source : SourceLine) → t' ≡ t → l' ≡ l → run'.inputs ≡ run.inputs → run'.change ≡ run.change →
-    run'.stage ≡ run.stage → run'.first ≡ run.first
-    → run'.names ≡ run.names → things_of l run ≡ raw_at at source ∷ things_in l' run.stage
-    (change_lines l run) run'.stack → coming t l run ≡ coming_after t' l' run' at source
-taken_first t t' l l' run run' at source texts left inputs change stage first names things =
-    ap (λ (ts : List Thing). coming_of t
-    (text_of_name run.inputs) l run.stage run.change run.first.items (length (names_of run.names)) ts) things
-    ∙ sym (λ i. coming_of (texts i) (text_of_name (inputs i)) (left i) (stage i) (change i) ((first i).items)
-    (length (names_of (names i))) (raw_at at source ∷ things_in l' (stage i) (lines_at (left i) (change i)) run'.stack))
+  abbrev behind_search : List Event
+  behind_search = merge (world_in t run.inputs) (state (things_above l 0 run.stack []) found.entry found.rest
+      (length (names_of run.names)))
+
+  sought_first : coming t l run ≡ map took found.taken ++ (map fault found.faults ++ behind_search)
+  sought_first = (λ i. coming_of t (text_of_name run.inputs) l (stage i) run.change run.first.items
+      (length (names_of run.names)) (things_in l (stage i) (change_lines l run) run.stack))
+      ∙ merge_next (world_in t run.inputs) (state (seek ∷ things_above l 0 run.stack []) None
+      (change_lines l run) (length (names_of run.names))) (
+        map took found.taken ++ map fault found.faults,
+        state
+            (things_above l 0 run.stack []) found.entry found.rest (length (names_of run.names)),
+      ) refl
+      ∙ append_assoc (map took found.taken) (map fault found.faults) behind_search
+
+  pub sought_tells : (new : SoFar) → TellsSome found.faults (told_by run) new
+      → TellsFront (told_by run) new (coming t l run)
+  sought_tells new = tells_some found.taken _ _ _ _ _ sought_first
+
+  pub sought_stops : (stop : Stop) (now : Count) → StopsFor (StopsAmong stop (count_of run.limits) now found.taken) stop
+      → Stopped stop (count_of run.limits) now (coming t l run)
+  sought_stops stop now = stopped_among stop found.taken _ _ _ _ sought_first
+
+  -- the search has ended
+  pub sought_gives : (t' : List ℕ → Option (List ℕ)) (l' : R → List ℕ) (run' : Run R) → t' ≡ t → l' ≡ l
+      → run'.inputs ≡ run.inputs → run'.stack ≡ run.stack → run'.names ≡ run.names → Searched found (told_by run)
+      (told_by run') run'.stage run'.first.items (change_lines l' run')
+      → Gives [] (told_by run) (told_by run') (coming t l run) (coming t' l' run')
+  sought_gives t' l' run' texts left inputs stack names ends = gives_adds found.taken found.faults (told_by run)
+      (told_by run') _ _ (sought_first ∙ ap (λ (es : List Event). map took found.taken ++ (map fault found.faults
+      ++ es)) (sym (ap (λ (things : List Thing). coming_of t' (text_of_name run'.inputs) l' run'.stage run'.change
+      run'.first.items (length (names_of run'.names)) things) (outside_things l' run'.stage (change_lines l' run')
+      run'.stack ends.outside) ∙ (λ i. merge (world_in (texts i) (inputs i)) (state (things_above (left i) 0
+      (stack i) []) (ends.entry i) (ends.rest i) (length (names_of (names i)))))))) ends.adds
+
+-- a raw line was taken, by what the call says that took it
+pub raw_taken : {R : Type 0} (t t' : List ℕ → Option (List ℕ)) (l l' : R → List ℕ) (old new : Run R) (at : LineAt)
+    (bytes : List ℕ) → t' ≡ t → l' ≡ l → IsSettled old.stage → TakesAbove l l' (floor_of old.stage) old.stack new.stack
+    (Some at) bytes (count_of old.limits) (count_of new.limits)
+    → StaysBelow (floor_of old.stage) old.stack.texts new.stack.texts → OnlyTakes old new → new.change ≡ old.change
+    → (taken : Took bytes at.place (count_of old.limits) (count_of new.limits))
+    × (coming t l old ≡ coming_after t' l' new at taken.line)
+raw_taken t t' l l' old new at bytes texts left settled takes stays only change =
+    let taken = takes_in l l' left old.stage (change_lines l old) old.stack new.stack (Some at) bytes
+    (count_of old.limits) (count_of new.limits) settled takes stays in (
+      taken.0,
+      ap (λ (ts : List Thing). coming_of t (text_of_name old.inputs) l old.stage old.change old.first.items
+          (length (names_of old.names)) ts) taken.1
+          ∙ sym (λ i. coming_of (texts i) (text_of_name (only.inputs i)) (left i) (only.stage i) (change i)
+          ((only.first i).items) (length (names_of (only.names i))) (raw_at at taken.0.line
+          ∷ things_in l' (only.stage i) (lines_at (left i) (change i)) new.stack)),
+    )
 
 fault_list : (b : Bool) (f : SourceFault) → fault_if b f ≡ map fault (list_if b f)
 fault_list true f = refl
 fault_list false f = refl
 
-re_assoc : {A : Type 0} (a x p q r : List A) → a ++ x ++ p ++ q ++ r ≡ a ++ (x ++ (p ++ q ++ r))
-re_assoc {A = A} a x p q r = ap (λ (l : List A). l ++ r) (append_assoc (a ++ x) p q) ∙ append_assoc (a ++ x) (p ++ q) r
-    ∙ append_assoc a x (p ++ q ++ r)
-
-map-appends : {A B : Type 0} (f : A → B) (x p q r : List A) →
-    map f (x ++ (p ++ q ++ r)) ≡ map f x ++ (map f p ++ map f q ++ map f r)
-map-appends {B = B} f x p q r = map-append f x (p ++ q ++ r)
-    ∙ ap (λ (l : List B). map f x ++ l) (map-append f (p ++ q) r ∙ ap (λ (l : List B). l ++ map f r) (map-append f p q))
-
 -- the events of an old side, lines first
 events_are : (entry : Entry) (change : List SourceLine) (things : List Thing)
     → change_events entry (old_lines change) (taken_away change things) ≡ map took (lines_replaced change things)
     ++ map fault (faults_replaced entry.begin change things)
-events_are entry change things =
-    let old = old_lines change in
-    let by = taken_away change things in
-    let ended = at_place EndedBeforeY entry.begin in
-    let ran_out = at_place WebEnded entry.begin in
-    let unequal : SourceFault = record { kind = Unequal; place = entry.begin; count = by.unequal } in
-    (λ i. map took old.taken ++ map took by.taken ++ map fault old.faults
-    ++ fault_list old.ended ended i ++ fault_list by.ran_out ran_out i ++ fault_list (nat_lt 0 by.unequal) unequal i)
-    ∙ re_assoc (map took old.taken ++ map took by.taken) (map fault old.faults) (map fault (list_if old.ended ended))
-    (map fault (list_if by.ran_out ran_out)) (map fault (list_if (nat_lt 0 by.unequal) unequal))
-    ∙ (λ i. sym (map-append took old.taken by.taken) i ++ sym (map-appends fault old.faults
-    (list_if old.ended ended) (list_if by.ran_out ran_out) (list_if (nat_lt 0 by.unequal) unequal)) i)
+events_are entry change things = simp (fault_list, map-append, append_assoc)
 
 -- a change begins
 begun_entry : (p : Option Entry) (may_match : Bool) (bytes : List ℕ) (place : Place) →
@@ -118,46 +118,66 @@ waits : (stage : Stage) (first : List ℕ) (entry : Entry) → pending_in stage 
 waits (Waiting begin) first entry is = (begin, refl)
 waits _ first entry is = absurd (cc)
 
--- all that comes from the line on that begins a change, by the run that took it
-pub begins_here : {R : Type 0} (t : List ℕ → Option (List ℕ)) (l : R → List ℕ) (run : Run R) (at : LineAt)
-    (source : SourceLine) (bytes : List ℕ) (begin : Place) → source.line ≡ record { bytes = bytes; place = at.place }
-    → begun_by (pending_of run) at.may_match bytes ≡ Some begin → (entry : Entry) × (entry.begin ≡ begin)
-    × (coming_after t l run at source ≡ map took (source ∷ lines_replaced (change_lines l run) (things_above l
-    0 run.stack [])) ++ (map fault (faults_replaced begin (change_lines l run) (things_above l 0 run.stack [])) ++ merge
-    (world_in t run.inputs) (after_old (old_lines (change_lines l run)).ended (length (names_of run.names)) at.depth
-    entry (old_lines (change_lines l run)) (taken_away (change_lines l run) (things_above l 0 run.stack [])).rest)))
-begins_here t l run at source bytes begin is begun =
-    let found = begun_entry (pending_of run) at.may_match bytes begin begun in
-    let entry = found.0 in
-    let stage = waits run.stage run.first.items entry found.1 in
-    let world = world_in t run.inputs in
-    let lines = change_lines l run in
-    let files = length (names_of run.names) in
-    let things = things_above l 0 run.stack [] in
-    let later = merge world (after_old (old_lines lines).ended files at.depth entry (old_lines lines)
-    (taken_away lines things).rest) in (
-      entry,
-      found.2,
-      (λ i. merge world (state (raw_at at source ∷ things_in l (stage.1 i) lines run.stack) (found.1 i)
-          (change_in (stage.1 i) lines) files))
-          ∙ begin_step world entry source bytes at is found.3 things lines files
-          ∙ ap (λ (p : Place). map took (source ∷ lines_replaced lines things)
-          ++ (map fault (faults_replaced p lines things) ++ later)) found.2,
-    )
+-- a change begins, by the run that took the line
+module _ {R : Type 0} (t : List ℕ → Option (List ℕ)) (l : R → List ℕ) (run : Run R) where
+  abbrev things : List Thing
+  things = things_above l 0 run.stack []
 
--- and what is to come behind its old side
-pub begun_later : {R : Type 0} (t t' : List ℕ → Option (List ℕ))
-    (l l' : R → List ℕ) (run run' : Run R) (depth : ℕ) (begin : Place) (entry : Entry) (old new : SoFar)
-    → t' ≡ t → run'.inputs ≡ run.inputs → run'.names ≡ run.names → entry.begin ≡ begin → IsChanged begin depth
-    (change_lines l run) (things_above l 0 run.stack []) run'.stage (change_lines l' run') (things_of l' run') old new
-    → merge (world_in t run.inputs) (after_old (old_lines (change_lines l run)).ended (length (names_of run.names))
-    depth entry (old_lines (change_lines l run)) (taken_away (change_lines l run) (things_above l 0 run.stack [])).rest)
-    ≡ coming t' l' run'
-begun_later t t' l l' run run' depth begin entry old new texts inputs names is changed = sym (
-    ap (λ s. merge (world_in t' run'.inputs) s) (changed.after entry is (length (names_of run'.names)) run'.first.items)
-    ∙ (λ i. merge (world_in (texts i) (inputs i)) (after_old (old_lines (change_lines l run)).ended
-    (length (names_of (names i))) depth entry (old_lines (change_lines l run))
-    (taken_away (change_lines l run) (things_above l 0 run.stack [])).rest)))
+  abbrev lines : List SourceLine
+  lines = lines_replaced (change_lines l run) things
+
+  abbrev faults : Place → List SourceFault
+  faults begin = faults_replaced begin (change_lines l run) things
+
+  -- what is to come behind its old side
+  abbrev behind_old : World → ℕ → ℕ → Entry → List Event
+  behind_old world files depth entry = merge world (after_old (old_lines (change_lines l run)).ended files depth entry
+      (old_lines (change_lines l run)) (taken_away (change_lines l run) things).rest)
+
+  begins_here : (at : LineAt) (source : SourceLine) (bytes : List ℕ) (begin : Place) → source.line
+      ≡ record { bytes = bytes; place = at.place } → begun_by (pending_of run) at.may_match bytes ≡ Some begin
+      → (entry : Entry) × (entry.begin ≡ begin) × (coming_after t l run at source ≡ map took (source ∷ lines)
+      ++ (map fault (faults begin) ++ behind_old (world_in t run.inputs) (length (names_of run.names)) at.depth entry))
+  begins_here at source bytes begin is begun =
+      let found = begun_entry (pending_of run) at.may_match bytes begin begun in
+      let stage = waits run.stage run.first.items found.0 found.1 in
+      let files = length (names_of run.names) in (
+        found.0,
+        found.2,
+        (λ i. merge (world_in t run.inputs) (state (raw_at at source ∷ things_in l (stage.1 i) (change_lines l run)
+            run.stack) (found.1 i) (change_in (stage.1 i) (change_lines l run)) files))
+            ∙ begin_step (world_in t run.inputs) found.0 source bytes at is found.3 things (change_lines l run) files
+            ∙ ap (λ (p : Place). map took (source ∷ lines) ++ (map fault (faults p)
+            ++ behind_old (world_in t run.inputs) files at.depth found.0)) found.2,
+      )
+
+  -- what comes of a line that was taken and begins a change
+  module _ (old : Run R) (at : LineAt) (bytes : List ℕ) (begin : Place) (all : List Event) (only : OnlyTakes old run)
+      (taken : Took bytes at.place (count_of old.limits) (count_of run.limits))
+      (first : all ≡ coming_after t l run at taken.line)
+      (begun : begun_by (pending_of run) at.may_match bytes ≡ Some begin) where
+    pub began_tells : (new : SoFar) → TellsSome (faults begin) (told_by run) new → TellsFront (told_by old) new all
+    began_tells new some = tells_some (taken.line ∷ lines) (faults begin) (told_by old) new _ _
+        (first ∙ (begins_here at taken.line bytes begin taken.is begun).2) (tells_after (told_by old)
+        (told_by run) bytes at.place taken (took_faults only) (took_names only) (faults begin) new some)
+
+    pub began_stops : (stop : Stop) (now : Count) → StopsFor (StopsAmong stop (count_of run.limits) now lines) stop
+        → Stopped stop (count_of old.limits) now all
+    began_stops stop now stops = stopped_among stop (taken.line ∷ lines) _ _ _ _
+        (first ∙ (begins_here at taken.line bytes begin taken.is begun).2) (stops_map stop (among_after (told_by old)
+        (told_by run) bytes at.place taken (took_faults only) (took_names only) stop now lines) stops)
+
+    pub began_gives : (t' : List ℕ → Option (List ℕ)) (l' : R → List ℕ) (new : Run R) → t' ≡ t → new.inputs ≡ run.inputs
+        → new.names ≡ run.names → IsChanged begin at.depth (change_lines l run) things new.stage (change_lines l' new)
+        (things_of l' new) (told_by run) (told_by new) → Gives [] (told_by old) (told_by new) all (coming t' l' new)
+    began_gives t' l' new texts inputs names changed =
+        let here = begins_here at taken.line bytes begin taken.is begun in
+        gives_adds (taken.line ∷ lines) (faults begin) (told_by old) (told_by new) _ _
+        (first ∙ here.2 ∙ ap (λ (es : List Event). map took (taken.line ∷ lines) ++ (map fault (faults begin) ++ es))
+        (sym (ap (λ s. merge (world_in t' new.inputs) s) (changed.after here.0 here.1 (length (names_of new.names))
+        new.first.items) ∙ (λ i. behind_old (world_in (texts i) (inputs i)) (length (names_of (names i))) at.depth
+        here.0)))) (adds_both [] (faults begin) (taken.line ∷ []) lines (told_by old) (told_by run) (told_by new)
+        (adds_one (told_by old) (told_by run) bytes at.place taken (took_faults only) (took_names only)) changed.adds)
 
 -- No line was taken: what was told and what is to come are as they were.
 pub untaken : {R : Type 0} (Says : SoFar → List Event → Type 0) (t t' : List ℕ → Option (List ℕ)) (l l' : R → List ℕ)

@@ -1,5 +1,5 @@
 -- How lines that were given out, gathered and written add up.
-use Rattle.cweb_lines.proofs.Common.{◌≡◌, ◌<◌, ℕ, List, [], ◌∷◌, ◌++◌, length, refl, sym, ◌∙◌, ap, subst, arith, IsTrue, append-nil, append_assoc, KeepsPlace, Writes, Line, Event, SoFar, Gives, Stopped, StopsBehind, TellsFront, Count, given_lines, told_faults, openings, text_of, WritesFront, WritesAll, WritesSome, WritesUpTo, Gathered, FailsAmong, StopsWriting, WritesRest, leaves, writes, fails, SourceFault, Stop, ReadFault, LineTooLong, TooMuchText, Memory}
+use Rattle.cweb_lines.proofs.Common.{◌≡◌, ◌<◌, ℕ, List, [], ◌∷◌, ◌++◌, length, refl, sym, ◌∙◌, ap, subst, arith, IsTrue, append-nil, append_assoc, KeepsPlace, Writes, Line, Event, SoFar, Gives, Stopped, StopsBehind, TellsFront, Count, given_lines, text_of, WritesFront, WritesAll, WritesSome, WritesUpTo, Gathered, FailsAmong, StopsWriting, WritesRest, leaves, writes, fails, Stop, ReadFault, LineTooLong, TooMuchText, Memory}
 use Rattle.cweb_files.specs.declared.device.Sink.{Ghosts as Sink}
 use Rattle.cweb_lines.proofs.Keeps.{place_told, writes_then}
 use Rattle.cweb_lines.proofs.Merges.{gives_nothing}
@@ -7,17 +7,15 @@ use Rattle.cweb_lines.proofs.Sums.{given-append, told-append, openings-append, g
 
 pub given_front : (lines : List Line) (old new : SoFar) (all later : List Event) → Gives lines old new all later →
     given_lines all ≡ lines ++ given_lines later
-given_front lines old new all later gives = ap given_lines gives.whole ∙ given-append gives.events later
-    ∙ ap (λ (ls : List Line). ls ++ given_lines later) gives.given
+given_front lines old new all later gives = simp (gives.whole, given-append, gives.given)
 
 -- all came: the lines that were given out are all lines
 pub gives_all : (lines : List Line) (old new : SoFar) (all later : List Event) → Gives lines old new all later →
     later ≡ [] → Gives (given_lines all) old new all []
 gives_all lines old new all later gives none = record {
   events = gives.events;
-  whole = gives.whole ∙ ap (λ (es : List Event). gives.events ++ es) none;
-  given = gives.given ∙ sym (given_front lines old new all later gives
-      ∙ ap (λ (es : List Event). lines ++ given_lines es) none ∙ append-nil lines);
+  whole = simp (gives.whole, none);
+  given = simp (given_front lines old new all later gives, gives.given, none, append-nil);
   faults = gives.faults;
   names = gives.names;
   lines_are = gives.lines_are;
@@ -27,8 +25,7 @@ gives_all lines old new all later gives none = record {
 
 pub text_of-append : (a b : List Line) → text_of (a ++ b) ≡ text_of a ++ text_of b
 text_of-append [] b = refl
-text_of-append (line ∷ a) b = ap (λ (t : List ℕ). line.bytes ++ 10 ∷ t) (text_of-append a b)
-    ∙ sym (append_assoc line.bytes (10 ∷ text_of a) (text_of b))
+text_of-append (line ∷ a) b = simp (text_of-append a b, append_assoc)
 
 some_lines : (lines : List Line) → 0 < length (text_of lines) → 0 < length lines
 some_lines [] some = some
@@ -42,12 +39,8 @@ pub front_of_all : (all done gathered now : List Line) (old mid new piece : List
 front_of_all all done gathered now old mid new piece whole written is front = record {
   front = text_of done ++ front.front;
   rest = front.rest ++ text_of now;
-  written = front.written ∙ ap (λ (t : List ℕ). t ++ front.front) written ∙ append_assoc old (text_of done) front.front;
-  whole = ap text_of whole ∙ text_of-append done (gathered ++ now)
-      ∙ ap (λ (t : List ℕ). text_of done ++ t) (text_of-append gathered now
-      ∙ ap (λ (t : List ℕ). t ++ text_of now) (sym is ∙ front.whole)
-      ∙ append_assoc front.front front.rest (text_of now))
-      ∙ sym (append_assoc (text_of done) front.front (front.rest ++ text_of now));
+  written = simp (front.written, written, append_assoc);
+  whole = simp (whole, text_of-append, sym is ∙ front.whole, append_assoc);
 }
 
 pub nothing_yet : {W : Type 0} (sink : Sink W) (w : W) (room : ℕ) (so : SoFar) (all : List Event) →
@@ -64,31 +57,26 @@ nothing_yet sink w room so all = record {
 module _ {W : Type 0} (sink : Sink W) (first mid : W) (keeps : KeepsPlace sink first mid) (room : ℕ) (old so : SoFar)
     (all now : List Event) (piece : List ℕ) (g : Gathered room old so all now (Writes sink first mid) piece) where
   lines_are : given_lines all ≡ g.done ++ (g.gathered ++ given_lines now)
-  lines_are = given_front (g.done ++ g.gathered) old so all now g.gives
-      ∙ append_assoc g.done g.gathered (given_lines now)
+  lines_are = given_front _ old so all now g.gives ∙ append_assoc _ _ (given_lines now)
 
   -- all that was gathered was written
   wrote_all : (new : W) → Writes sink mid new piece → Writes sink first new (text_of (g.done ++ g.gathered))
-  wrote_all new wrote = subst (λ (t : List ℕ). Writes sink first new t)
-      (ap (λ (p : List ℕ). text_of g.done ++ p) g.piece_is ∙ sym (text_of-append g.done g.gathered))
+  wrote_all new wrote = rw (text_of-append, ← g.piece_is)
       (writes_then sink first mid new (text_of g.done) piece keeps g.wrote wrote)
 
   -- a front of it was
   pub ends_front : (new : W) → (IsTrue (sink.tells mid) → WritesFront (sink.written mid) (sink.written new) piece)
       → IsTrue (sink.tells first) → WritesFront (sink.written first) (sink.written new) (text_of (given_lines all))
   ends_front new front tells =
-      front_of_all (given_lines all) g.done g.gathered (given_lines now) (sink.written first) (sink.written mid)
-      (sink.written new) piece lines_are (g.wrote tells) g.piece_is (front (place_told sink first mid keeps tells))
+      front_of_all _ _ _ _ _ _ _ _ lines_are (g.wrote tells) g.piece_is (front (place_told _ _ mid keeps tells))
 
   pub ends_whole : (new : W) (so' : SoFar) (later : List Event) → Gives [] so so' now later → later ≡ [] →
       Writes sink mid new piece → WritesAll old so' all (Writes sink first new)
   ends_whole new so' later next none wrote =
-      let gives = gives_both (g.done ++ g.gathered) [] old so so' all now later g.gives next in
+      let gives = rw append-nil at (gives_both (g.done ++ g.gathered) [] old so so' all now later g.gives next) in
       record {
-        gives = gives_all ((g.done ++ g.gathered) ++ []) old so' all later gives none;
-        wrote = subst (λ (ls : List Line). Writes sink first new (text_of ls)) (sym (given_front ((g.done ++ g.gathered)
-            ++ []) old so' all later gives ∙ ap (λ (es : List Event). ((g.done ++ g.gathered) ++ []) ++ given_lines es)
-            none ∙ append-nil ((g.done ++ g.gathered) ++ []) ∙ append-nil (g.done ++ g.gathered)))
+        gives = gives_all (g.done ++ g.gathered) old so' all later gives none;
+        wrote = simp (given_front (g.done ++ g.gathered) old so' all later gives, none, append-nil)
             (wrote_all new wrote);
       }
 
@@ -105,17 +93,16 @@ module _ {W : Type 0} (sink : Sink W) (first mid : W) (keeps : KeepsPlace sink f
     lines = g.done;
     rest = g.gathered ++ given_lines now;
     whole = lines_are;
-    wrote = subst (λ (t : List ℕ). Writes sink first new t) (append-nil (text_of g.done))
-        (writes_then sink first mid new (text_of g.done) [] keeps g.wrote wrote);
+    wrote = rw append-nil at (writes_then sink first mid new (text_of g.done) [] keeps g.wrote wrote);
   }
 
   up_to : (stop : Stop) (count : Count) (new : W) → StopsBehind [] stop so.count count now → Writes sink mid new piece →
       WritesUpTo stop old.count count all (Writes sink first new)
   up_to stop count new stops wrote = record {
-    lines = (g.done ++ g.gathered) ++ [];
-    stops = behind_both (g.done ++ g.gathered) [] stop old so count all now g.gives stops;
-    wrote = subst (λ (ls : List Line). Writes sink first new (text_of ls)) (sym (append-nil (g.done ++ g.gathered)))
-        (wrote_all new wrote);
+    lines = g.done ++ g.gathered;
+    stops = rw append-nil at
+        (behind_both (g.done ++ g.gathered) [] stop old so count all now g.gives stops);
+    wrote = wrote_all new wrote;
   }
 
   written_by : (stop : Stop) (count : Count) (new : W) → Stopped stop so.count count now → Writes sink mid new piece →
@@ -129,21 +116,16 @@ module _ {W : Type 0} (sink : Sink W) (first mid : W) (keeps : KeepsPlace sink f
   -- the merger stopped
   pub ended_early : (stop result : Stop) (count : Count) (new : W) → Stopped stop so.count count now → WritesRest
       stop result piece (Writes sink mid new) → StopsWriting result old.count count all (Writes sink first new)
-  ended_early stop result count new stopped (leaves file was is wrote) =
-      subst (λ s. StopsWriting s old.count count all (Writes sink first new)) (sym (is ∙ was)) (done_written new wrote)
-  ended_early stop result count new stopped (writes is wrote) = subst (λ s.
-      StopsWriting s old.count count all (Writes sink first new)) (sym is) (written_by stop count new stopped wrote)
-  ended_early stop result count new stopped (fails is some blame) =
-      subst (λ s. StopsWriting s old.count count all (Writes sink first new)) (sym is) tt
+  ended_early stop result count new stopped (leaves file was is wrote) = rw (is, was) (done_written new wrote)
+  ended_early stop result count new stopped (writes is wrote) = rw is (written_by stop count new stopped wrote)
+  ended_early stop result count new stopped (fails is some blame) = rw is tt
 
   -- memory was refused for a line that was given out
   pub halted : (result : Stop) (count : Count) (new : W) → WritesRest Memory result piece (Writes sink mid new) →
       StopsWriting result old.count count all (Writes sink first new)
   halted result count new (leaves file was is wrote) = absurd (cc was)
-  halted result count new (writes is wrote) = subst (λ s. StopsWriting s old.count count all (Writes sink first new))
-      (sym is) (some_written new wrote)
-  halted result count new (fails is some blame) = subst (λ s. StopsWriting s old.count count all
-      (Writes sink first new)) (sym is) tt
+  halted result count new (writes is wrote) = rw is (some_written new wrote)
+  halted result count new (fails is some blame) = rw is tt
 
   -- nothing more comes, and a write of what was gathered failed
   pub fails_last : (new : W) (so' : SoFar) (later : List Event) → Gives [] so so' now later → 0 < length piece
@@ -154,11 +136,8 @@ module _ {W : Type 0} (sink : Sink W) (first mid : W) (keeps : KeepsPlace sink f
       record {
         done = g.done;
         gathered = g.gathered;
-        gives = subst (λ (ls : List Line). Gives ls old so' all later) (append-nil (g.done ++ g.gathered))
-            (gives_both (g.done ++ g.gathered) [] old so so' all now later g.gives next);
-        front = subst (λ (m : List ℕ). WritesFront m (sink.written new) (text_of g.gathered)) (g.wrote tells)
-            (subst (λ (p : List ℕ). WritesFront (sink.written mid) (sink.written new) p) g.piece_is
-            (front (place_told sink first mid keeps tells)));
+        gives = rw append-nil at (gives_both (g.done ++ g.gathered) [] old so so' all now later g.gives next);
+        front = rw (g.wrote tells, g.piece_is) at (front (place_told sink first mid keeps tells));
         some = more;
         alone = λ none. absurd (omega (arith, more, ap (λ (ls : List Line). length ls) (g.alone none)));
       }
@@ -180,21 +159,10 @@ pub tells_more : (lines : List Line) (old mid new : SoFar) (all now : List Event
 tells_more lines old mid new all now gives front = record {
   events = gives.events ++ front.events;
   later = front.later;
-  whole = gives.whole ∙ ap (λ (es : List Event). gives.events ++ es) front.whole
-      ∙ sym (append_assoc gives.events front.events front.later);
-  faults = front.faults ∙ ap (λ (fs : List SourceFault). fs ++ told_faults front.events) gives.faults
-      ∙ append_assoc old.faults (told_faults gives.events) (told_faults front.events)
-      ∙ ap (λ (fs : List SourceFault). old.faults ++ fs) (sym (told-append gives.events front.events));
-  names = front.names ∙ ap (λ (ns : List (List ℕ)). ns ++ openings front.events) gives.names
-      ∙ append_assoc old.names (openings gives.events) (openings front.events)
-      ∙ ap (λ (ns : List (List ℕ)). old.names ++ ns) (sym (openings-append gives.events front.events));
+  whole = simp (gives.whole, front.whole, append_assoc);
+  faults = simp (front.faults, gives.faults, told-append, append_assoc);
+  names = simp (front.names, gives.names, openings-append, append_assoc);
 }
 
 pub tells_same : (old mid new : SoFar) (all : List Event) → new ≡ mid → TellsFront old mid all → TellsFront old new all
-tells_same old mid new all is front = record {
-  events = front.events;
-  later = front.later;
-  whole = front.whole;
-  faults = ap (λ (s : SoFar). s.faults) is ∙ front.faults;
-  names = ap (λ (s : SoFar). s.names) is ∙ front.names;
-}
+tells_same old mid new all is front = rw is front

@@ -1,25 +1,24 @@
-use Rattle.cweb_lines.proofs.Common.{◌≡◌, ◌≤◌, ◌-◌, [], false, IsTrue, KeepsTold, change_lines, told_by, AreReadersKnown, KeepsReaders, Replaces, things_above}
+use Rattle.cweb_lines.proofs.Common.{◌≡◌, ◌≤◌, ◌-◌, [], false, IsTrue, change_lines, told_by, Replaces, things_above}
+use Rattle.cweb_lines.proofs.Quiets.{Quiet}
 use Rattle.cweb_lines.proofs.change.old_side.replace.Given as goal
 
 abbrev pub invariant-lines : goal.invariant-lines
 invariant-lines g l = record {
-  tells : g.S.Shelf.tells l.shelf ≡ g.S.Shelf.tells l.fn.shelf;
-  failed : g.S.Shelf.failed l.shelf ≡ g.S.Shelf.failed l.fn.shelf;
-  texts : IsTrue (g.S.Shelf.tells l.fn.shelf) → g.S.Shelf.texts l.shelf ≡ g.S.Shelf.texts l.fn.shelf;
-  others : IsTrue (g.S.Shelf.tells l.fn.shelf) → g.S.Shelf.left l.shelf ≡ g.S.Shelf.left l.fn.shelf;
-  stage : l.run.stage ≡ l.fn.run.stage;
-  inputs : l.run.inputs ≡ l.fn.run.inputs;
-  names : l.run.names ≡ l.fn.run.names;
-  stopped : l.run.stopped ≡ l.fn.run.stopped;
-  shallow : l.run.stack.depth ≤ l.fn.run.stack.depth;
-  more : l.fn.run.limits.lines ≤ l.run.limits.lines;
-  longer : l.fn.run.limits.bytes ≤ l.run.limits.bytes;
-  few : l.so_far.unequal ≤ l.run.limits.lines;
-  named : IsTrue (g.S.Shelf.tells l.fn.shelf) → g.S.Shelf.opened_as l.shelf ≡ g.S.Shelf.opened_as l.fn.shelf;
-  readers : KeepsReaders g.S.Shelf l.fn.shelf l.shelf l.fn.run l.run;
-  blamed : IsTrue (g.S.Shelf.tells l.fn.shelf) → AreReadersKnown (g.S.Shelf.opened_as l.fn.shelf) l.fn.run
-      → g.S.Shelf.blamed l.shelf ≡ g.S.Shelf.blamed l.fn.shelf;
-  still : KeepsTold (told_by l.fn.run) (told_by l.run);
+  quiet : Quiet g.S.Shelf l.fn.shelf l.shelf l.fn.run l.run;
+  frame : record {
+    failed : g.S.Shelf.failed l.shelf ≡ g.S.Shelf.failed l.fn.shelf;
+    texts : IsTrue (g.S.Shelf.tells l.fn.shelf) → g.S.Shelf.texts l.shelf ≡ g.S.Shelf.texts l.fn.shelf;
+    others : IsTrue (g.S.Shelf.tells l.fn.shelf) → g.S.Shelf.left l.shelf ≡ g.S.Shelf.left l.fn.shelf;
+    named : IsTrue (g.S.Shelf.tells l.fn.shelf) → g.S.Shelf.opened_as l.shelf ≡ g.S.Shelf.opened_as l.fn.shelf;
+    stage : l.run.stage ≡ l.fn.run.stage;
+    inputs : l.run.inputs ≡ l.fn.run.inputs;
+    names : l.run.names ≡ l.fn.run.names;
+    stopped : l.run.stopped ≡ l.fn.run.stopped;
+    shallow : l.run.stack.depth ≤ l.fn.run.stack.depth;
+    more : l.fn.run.limits.lines ≤ l.run.limits.lines;
+    longer : l.fn.run.limits.bytes ≤ l.run.limits.bytes;
+    few : l.so_far.unequal ≤ l.run.limits.lines;
+  };
   goes_on : l.so_far.ended ≡ false;
   replaces : IsTrue (g.S.Shelf.tells l.fn.shelf) → Replaces (change_lines (g.S.Shelf.left l.fn.shelf) l.fn.run)
       (things_above (g.S.Shelf.left l.fn.shelf) 0 l.fn.run.stack []) l.so_far

@@ -1,41 +1,44 @@
-use Rattle.cweb_lines.proofs.Common.{rules, ℕ, [], ◌∷◌, ◌++◌, List, Vec, Global, None, refl, ap, sym, subst, ◌∙◌, arith, IsTrue, sought, count_of, SourceLine, change_lines, told_by, names_of, Searched, SeeksTo, ToldFront, lines_at, read_blame, SourceFault, Waiting}
-use Rattle.cweb_lines.proofs.Named.{blames_memory, blames_none, knows_only, knows_same, stop_after}
+use Rattle.cweb_lines.proofs.Common.{rules, ℕ, [], ◌∷◌, ◌++◌, List, Vec, Global, None, refl, ap, sym, subst, ◌∙◌, sought, count_of, SourceLine, change_lines, told_by, names_of, Searched, SeeksTo, ToldFront, lines_at, read_blame, SourceFault, Waiting}
+use Rattle.cweb_lines.proofs.Named.{blames_memory, blames_none, knows_only, knows_same}
 use Rattle.cweb_lines.proofs.Found.{OnOk-both}
-use Rattle.cweb_lines.proofs.Fronts.{told_behind, told_if, told_same, told_then, told_took}
+use Rattle.cweb_lines.proofs.Fronts.{told_behind, told_if, told_then, told_took, took_faults, took_names}
+use Rattle.cweb_lines.proofs.Quiets.{Quiet, blamed_stop, quiet_same, quiet_set, quiet_tells, quiet_then, quiet_by, readers_after, still_tells}
 use Rattle.cweb_lines.proofs.Seeks.{seeks_ended, seeks_from, seeks_stop, seeks_told_more, seeks_on, seeks_found}
 use Rattle.cweb_lines.proofs.Stacks.{stops_map}
+use Rattle.cweb_lines.proofs.change.seek.seek.Given as given
 use Rattle.cweb_lines.proofs.change.seek.seek.Goals as goal
+use Rattle.cweb_lines.proofs.change.seek.seek.Goals.{In-Ok, In-Ok-look_at}
 
 pub lines-init : goal.lines-init
 lines-init g c = record {
-  tells = refl;
-  failed = refl;
-  texts = λ tells. refl;
-  others = λ tells. refl;
-  stage = refl;
-  inputs = refl;
-  stack = refl;
-  names = refl;
-  stopped = refl;
-  more = omega arith;
-  longer = omega arith;
-  named = λ tells. refl;
-  readers = λ tells known. known;
-  blamed = λ tells known. refl;
-  still = told_same _ _ refl refl;
+  quiet = quiet_same g.S.Shelf _ _;
+  frame = search rules;
   begun = tt;
   seeks = λ tells. seeks_from _ _;
 }
+
+-- a line was taken
+quiet : (g : given.Over) (c : In-Ok g) → Quiet g.S.Shelf c.args.shelf.now c.take_change.new.shelf c.args.run.now
+    c.take_change.new.run
+quiet g c = quiet_then g.S.Shelf c.lines.invariant.quiet (quiet_by g.S.Shelf _ _ _ _ c.in-Ok.ensures.keeps
+    c.in-Ok.ensures.readers c.in-Ok.ensures.blamed (told_took c.in-Ok.ensures.only))
+
+-- and looked at
+looked : (g : given.Over) (c : In-Ok-look_at g) → Quiet g.S.Shelf c.args.shelf.now c.take_change.new.shelf
+    c.args.run.now c.look_at.new.run
+looked g c = quiet_tells g.S.Shelf (quiet_then g.S.Shelf c.lines.invariant.quiet (quiet_by g.S.Shelf _ _ _ _
+    c.in-Ok.ensures.keeps c.in-Ok.ensures.readers c.in-Ok.ensures.blamed (told_took c.in-Ok.ensures.only))) _
+    c.in-Ok-look_at.ensures.only c.in-Ok-look_at.ensures.looks.faults
 
 pub returns-in-Err-clause-stops : goal.returns-in-Err-clause-stops
 returns-in-Err-clause-stops g c = λ tells. stops_map c.in-Err.stop
     (seeks_stop _ _ _ _ _ (c.lines.invariant.seeks tells) c.in-Err.stop (count_of c.take_change.new.run.limits)
     (λ i. record { lines = c.in-Err.ensures.answers.counted.0 i; bytes = c.in-Err.ensures.answers.counted.1 i }))
-    (c.in-Err.ensures.stops (subst IsTrue (sym c.lines.invariant.tells) tells))
+    (c.in-Err.ensures.stops (still_tells g.S.Shelf c.lines.invariant.quiet tells))
 
 pub returns-in-Err-look_at-clause-told : goal.returns-in-Err-look_at-clause-told
 returns-in-Err-look_at-clause-told g c = λ tells.
-    let taken = rw c.in-Some.is at (c.in-Ok.ensures.taken (subst IsTrue (sym c.lines.invariant.tells) tells)) in
+    let taken = rw c.in-Some.is at (c.in-Ok.ensures.taken (still_tells g.S.Shelf c.lines.invariant.quiet tells)) in
     let front = c.in-Err-look_at.ensures.err taken.0.line
     (taken.0.is ∙ ap (λ b. record { bytes = b; place = c.in-Some.at.place }) (sym c.deref.ensures.value))
     (lines_at (g.S.Shelf.left c.take_change.new.shelf) c.take_change.new.run.change) in
@@ -49,29 +52,11 @@ returns-in-Err-look_at-clause-told g c = λ tells.
 
 pub lines-preserved : goal.lines-preserved
 lines-preserved g c = record {
-  tells = search rules;
-  failed = search rules;
-  texts = search rules;
-  others = search rules;
-  stage = search rules;
-  inputs = search rules;
-  stack = search rules;
-  names = search rules;
-  stopped = search rules;
-  more = search rules;
-  longer = search rules;
-  named = search rules;
-  readers = λ tells known. knows_only c.in-Ok-look_at.ensures.only
-      (c.in-Ok.ensures.readers (subst IsTrue (sym c.lines.invariant.tells) tells)
-      (c.lines.invariant.readers tells known));
-  blamed = λ tells known. c.in-Ok.ensures.blamed (subst IsTrue (sym c.lines.invariant.tells) tells)
-      (c.lines.invariant.readers tells known) ∙ c.lines.invariant.blamed tells known;
-  still = told_then _ _ _ c.lines.invariant.still (told_then _ _ _ (told_took c.in-Ok.ensures.only)
-      (told_behind _ _ c.in-Ok-look_at.ensures.looks.told c.in-Ok-look_at.ensures.looks.faults
-      (ap names_of c.in-Ok-look_at.ensures.only.names)));
+  quiet = looked g (goal.at.lines-preserved g c).In-Ok-look_at;
+  frame = search rules;
   begun = rw (sym c.in-Ok-look_at.ensures.only.names, c.in-On.is) at c.in-Ok-look_at.ensures.known;
   seeks = λ tells.
-      let taken = rw c.in-Some.is at (c.in-Ok.ensures.taken (subst IsTrue (sym c.lines.invariant.tells) tells)) in
+      let taken = rw c.in-Some.is at (c.in-Ok.ensures.taken (still_tells g.S.Shelf c.lines.invariant.quiet tells)) in
       subst (λ ch. SeeksTo (sought (change_lines (g.S.Shelf.left c.args.shelf.now) c.args.run.now) None)
       (sought (lines_at (g.S.Shelf.left c.take_change.new.shelf) ch) c.in-On.next)
       (told_by c.args.run.now) (told_by c.look_at.new.run)) (sym c.in-Ok-look_at.ensures.only.change)
@@ -79,19 +64,19 @@ lines-preserved g c = record {
       (change_lines (g.S.Shelf.left c.lines.shelf) c.lines.run) c.lines.begin (told_by c.args.run.now)
       (told_by c.lines.run) (c.lines.invariant.seeks tells) (told_by c.take_change.new.run) (told_by c.look_at.new.run)
       c.take_change.new.line.items c.in-Some.at.place taken.0 _ taken.1 (ap (λ (v : Vec SourceFault Global).
-      v.items) c.in-Ok.ensures.only.faults) (ap names_of c.in-Ok.ensures.only.names)
+      v.items) c.in-Ok.ensures.only.faults) (took_names c.in-Ok.ensures.only)
       (ap names_of c.in-Ok-look_at.ensures.only.names) (ap count_of c.in-Ok-look_at.ensures.only.limits) c.in-On.next
       (rw (c.deref.ensures.value, c.in-On.is) at c.in-Ok-look_at.ensures.looks));
 }
 
 pub returns-in-Entry-clause-searched : goal.returns-in-Entry-clause-searched
 returns-in-Entry-clause-searched g c = λ tells.
-    let taken = rw c.in-Some.is at (c.in-Ok.ensures.taken (subst IsTrue (sym c.lines.invariant.tells) tells)) in
+    let taken = rw c.in-Some.is at (c.in-Ok.ensures.taken (still_tells g.S.Shelf c.lines.invariant.quiet tells)) in
     let found = seeks_found (sought (change_lines (g.S.Shelf.left c.args.shelf.now) c.args.run.now) None)
     (change_lines (g.S.Shelf.left c.lines.shelf) c.lines.run) c.lines.begin
     (told_by c.args.run.now) (told_by c.lines.run) (c.lines.invariant.seeks tells) (told_by c.take_change.new.run)
     (told_by c.look_at.new.run) c.take_change.new.line.items c.in-Some.at.place taken.0 _ taken.1
-    (ap (λ (v : Vec SourceFault Global). v.items) c.in-Ok.ensures.only.faults) (ap names_of c.in-Ok.ensures.only.names)
+    (took_faults c.in-Ok.ensures.only) (took_names c.in-Ok.ensures.only)
     (ap names_of c.in-Ok-look_at.ensures.only.names) (ap count_of c.in-Ok-look_at.ensures.only.limits) c.in-Entry.place
     (rw (c.deref.ensures.value, c.in-Entry.is) at c.in-Ok-look_at.ensures.looks) in
     subst (λ ch. Searched (sought (change_lines (g.S.Shelf.left c.args.shelf.now) c.args.run.now) None)
@@ -103,12 +88,13 @@ returns-in-Entry-clause-searched g c = λ tells.
 
 -- what was told stays
 pub returns-in-Err-clause-still : goal.returns-in-Err-clause-still
-returns-in-Err-clause-still g c = told_then _ _ _ c.lines.invariant.still (told_took c.in-Err.ensures.only)
+returns-in-Err-clause-still g c = told_then _ _ _ c.lines.invariant.quiet.told (told_took c.in-Err.ensures.only)
 
 pub returns-in_default-clause-still : goal.returns-in_default-clause-still
-returns-in_default-clause-still g c =
-    told_then _ _ _ c.lines.invariant.still (told_then _ _ _ (told_took c.in-Ok.ensures.only) (told_if c.end.result _ _
-    (sought [] c.lines.begin).faults c.end.ensures.told c.end.ensures.err (ap names_of c.end.ensures.names)))
+returns-in_default-clause-still g c = told_then _ _ _
+    (quiet g (goal.at.returns-in_default-clause-still g c).In-Ok).told
+    (told_if c.end.result _ _ (sought [] c.lines.begin).faults c.end.ensures.told c.end.ensures.err
+    (ap names_of c.end.ensures.names))
 
 pub returns-in-Err-look_at-clause-still : goal.returns-in-Err-look_at-clause-still
 returns-in-Err-look_at-clause-still g c =
@@ -118,18 +104,16 @@ returns-in-Err-look_at-clause-still g c =
       size = 0;
     } in
     let front = c.in-Err-look_at.ensures.err source refl [] in
-    told_then _ _ _ c.lines.invariant.still (told_then _ _ _ (told_took c.in-Ok.ensures.only)
-    (told_behind _ _ front.front front.told (ap names_of c.in-Err-look_at.ensures.only.names)))
+    told_then _ _ _ (quiet g (goal.at.returns-in-Err-look_at-clause-still g c).In-Ok).told
+    (told_behind _ _ front.front front.told (ap names_of c.in-Err-look_at.ensures.only.names))
 
 pub returns-in-Entry-clause-still : goal.returns-in-Entry-clause-still
-returns-in-Entry-clause-still g c = told_then _ _ _ c.lines.invariant.still
-    (told_then _ _ _ (told_took c.in-Ok.ensures.only) (told_behind _ _ c.in-Ok-look_at.ensures.looks.told
-    c.in-Ok-look_at.ensures.looks.faults (ap names_of c.in-Ok-look_at.ensures.only.names)))
+returns-in-Entry-clause-still g c = (looked g (goal.at.returns-in-Entry-clause-still g c).In-Ok-look_at).told
 
 -- the change file has ended
 pub returns-in_default-clause-searched : goal.returns-in_default-clause-searched
 returns-in_default-clause-searched g c = λ tells.
-    let taken = rw c.in_default.is at (c.in-Ok.ensures.taken (subst IsTrue (sym c.lines.invariant.tells) tells)) in
+    let taken = rw c.in_default.is at (c.in-Ok.ensures.taken (still_tells g.S.Shelf c.lines.invariant.quiet tells)) in
     let counted = rw c.in_default.is at c.in-Ok.ensures.answers.counted in
     OnOk-both c.end.result (λ told done.
     seeks_ended _ _ c.lines.begin _ (told_by c.lines.run) (c.lines.invariant.seeks tells) taken.0 _ (told ∙ ap
@@ -139,44 +123,34 @@ returns-in_default-clause-searched g c = λ tells.
 
 -- the readers
 pub returns-in-Err-clause-readers : goal.returns-in-Err-clause-readers
-returns-in-Err-clause-readers g c = λ tells known. c.in-Err.ensures.readers
-    (subst IsTrue (sym c.lines.invariant.tells) tells) (c.lines.invariant.readers tells known)
+returns-in-Err-clause-readers g c = readers_after g.S.Shelf c.lines.invariant.quiet _ _ c.in-Err.ensures.readers
 
 pub returns-in-Err-clause-blamed : goal.returns-in-Err-clause-blamed
 returns-in-Err-clause-blamed g c =
-    λ tells known. stop_after c.in-Err.stop _ _ _ _ (c.lines.invariant.blamed tells known)
-    (c.in-Err.ensures.blamed (subst IsTrue (sym c.lines.invariant.tells) tells) (c.lines.invariant.readers tells known))
+    blamed_stop g.S.Shelf c.lines.invariant.quiet _ _ c.in-Err.stop c.in-Err.ensures.blamed
 
 pub returns-in_default-clause-readers : goal.returns-in_default-clause-readers
 returns-in_default-clause-readers g c = λ tells known.
-    let taken = c.in-Ok.ensures.readers (subst IsTrue (sym c.lines.invariant.tells) tells)
-    (c.lines.invariant.readers tells known) in
     knows_same _ c.take_change.new.run c.end.new.run (ap (λ s. s.texts) c.end.ensures.stack) c.end.ensures.change
-    (ap names_of c.end.ensures.names) taken
+    (ap names_of c.end.ensures.names)
+    ((quiet g (goal.at.returns-in_default-clause-readers g c).In-Ok).readers tells known)
 
 pub returns-in_default-clause-blamed : goal.returns-in_default-clause-blamed
-returns-in_default-clause-blamed g c = λ tells known.
-    let taken = c.in-Ok.ensures.blamed (subst IsTrue (sym c.lines.invariant.tells) tells)
-    (c.lines.invariant.readers tells known) in
-    blames_memory c.end.result _ _ _ c.end.ensures.memory (taken ∙ c.lines.invariant.blamed tells known)
+returns-in_default-clause-blamed g c = λ tells known. blames_memory c.end.result _ _ _ c.end.ensures.memory
+    ((quiet g (goal.at.returns-in_default-clause-blamed g c).In-Ok).blamed tells known)
 
 pub returns-in-Err-look_at-clause-readers : goal.returns-in-Err-look_at-clause-readers
 returns-in-Err-look_at-clause-readers g c = λ tells known. knows_only c.in-Err-look_at.ensures.only
-    (c.in-Ok.ensures.readers (subst IsTrue (sym c.lines.invariant.tells) tells) (c.lines.invariant.readers tells known))
+    ((quiet g (goal.at.returns-in-Err-look_at-clause-readers g c).In-Ok).readers tells known)
 
 pub returns-in-Err-look_at-clause-blamed : goal.returns-in-Err-look_at-clause-blamed
 returns-in-Err-look_at-clause-blamed g c = λ tells known.
-    let taken = c.in-Ok.ensures.blamed (subst IsTrue (sym c.lines.invariant.tells) tells)
-    (c.lines.invariant.readers tells known) in
-    blames_none _ _ _ _ (ap read_blame c.in-Err-look_at.ensures.memory) (taken ∙ c.lines.invariant.blamed tells known)
+    blames_none _ _ _ _ (ap read_blame c.in-Err-look_at.ensures.memory)
+    ((quiet g (goal.at.returns-in-Err-look_at-clause-blamed g c).In-Ok).blamed tells known)
 
 pub returns-in-Entry-clause-readers : goal.returns-in-Entry-clause-readers
-returns-in-Entry-clause-readers g c = λ tells known.
-    let looked = knows_only c.in-Ok-look_at.ensures.only (c.in-Ok.ensures.readers (subst IsTrue
-    (sym c.lines.invariant.tells) tells) (c.lines.invariant.readers tells known)) in
-    record { texts = looked.texts; change = looked.change }
+returns-in-Entry-clause-readers g c = (quiet_set g.S.Shelf
+    (looked g (goal.at.returns-in-Entry-clause-readers g c).In-Ok-look_at) _ refl refl refl).readers
 
 pub returns-in-Entry-clause-blamed : goal.returns-in-Entry-clause-blamed
-returns-in-Entry-clause-blamed g c = λ tells known.
-    c.in-Ok.ensures.blamed (subst IsTrue (sym c.lines.invariant.tells) tells) (c.lines.invariant.readers tells known)
-    ∙ c.lines.invariant.blamed tells known
+returns-in-Entry-clause-blamed g c = (looked g (goal.at.returns-in-Entry-clause-blamed g c).In-Ok-look_at).blamed

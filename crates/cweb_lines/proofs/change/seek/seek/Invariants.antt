@@ -1,24 +1,23 @@
-use Rattle.cweb_lines.proofs.Common.{◌≡◌, ◌≤◌, ◌-◌, length, None, IsTrue, sought, KeepsTold, change_lines, told_by, names_of, AreReadersKnown, KeepsReaders, BegunKnown, SeeksTo}
+use Rattle.cweb_lines.proofs.Common.{◌≡◌, ◌≤◌, ◌-◌, length, None, IsTrue, sought, change_lines, told_by, names_of, BegunKnown, SeeksTo}
+use Rattle.cweb_lines.proofs.Quiets.{Quiet}
 use Rattle.cweb_lines.proofs.change.seek.seek.Given as goal
 
 abbrev pub invariant-lines : goal.invariant-lines
 invariant-lines g l = record {
-  tells : g.S.Shelf.tells l.shelf ≡ g.S.Shelf.tells l.fn.shelf;
-  failed : g.S.Shelf.failed l.shelf ≡ g.S.Shelf.failed l.fn.shelf;
-  texts : IsTrue (g.S.Shelf.tells l.fn.shelf) → g.S.Shelf.texts l.shelf ≡ g.S.Shelf.texts l.fn.shelf;
-  others : IsTrue (g.S.Shelf.tells l.fn.shelf) → g.S.Shelf.left l.shelf ≡ g.S.Shelf.left l.fn.shelf;
-  stage : l.run.stage ≡ l.fn.run.stage;
-  inputs : l.run.inputs ≡ l.fn.run.inputs;
-  stack : l.run.stack ≡ l.fn.run.stack;
-  names : l.run.names ≡ l.fn.run.names;
-  stopped : l.run.stopped ≡ l.fn.run.stopped;
-  more : l.fn.run.limits.lines ≤ l.run.limits.lines;
-  longer : l.fn.run.limits.bytes ≤ l.run.limits.bytes;
-  named : IsTrue (g.S.Shelf.tells l.fn.shelf) → g.S.Shelf.opened_as l.shelf ≡ g.S.Shelf.opened_as l.fn.shelf;
-  readers : KeepsReaders g.S.Shelf l.fn.shelf l.shelf l.fn.run l.run;
-  blamed : IsTrue (g.S.Shelf.tells l.fn.shelf) → AreReadersKnown (g.S.Shelf.opened_as l.fn.shelf) l.fn.run
-      → g.S.Shelf.blamed l.shelf ≡ g.S.Shelf.blamed l.fn.shelf;
-  still : KeepsTold (told_by l.fn.run) (told_by l.run);
+  quiet : Quiet g.S.Shelf l.fn.shelf l.shelf l.fn.run l.run;
+  frame : record {
+    failed : g.S.Shelf.failed l.shelf ≡ g.S.Shelf.failed l.fn.shelf;
+    texts : IsTrue (g.S.Shelf.tells l.fn.shelf) → g.S.Shelf.texts l.shelf ≡ g.S.Shelf.texts l.fn.shelf;
+    others : IsTrue (g.S.Shelf.tells l.fn.shelf) → g.S.Shelf.left l.shelf ≡ g.S.Shelf.left l.fn.shelf;
+    named : IsTrue (g.S.Shelf.tells l.fn.shelf) → g.S.Shelf.opened_as l.shelf ≡ g.S.Shelf.opened_as l.fn.shelf;
+    stage : l.run.stage ≡ l.fn.run.stage;
+    inputs : l.run.inputs ≡ l.fn.run.inputs;
+    stack : l.run.stack ≡ l.fn.run.stack;
+    names : l.run.names ≡ l.fn.run.names;
+    stopped : l.run.stopped ≡ l.fn.run.stopped;
+    more : l.fn.run.limits.lines ≤ l.run.limits.lines;
+    longer : l.fn.run.limits.bytes ≤ l.run.limits.bytes;
+  };
   begun : BegunKnown (length (names_of l.run.names)) l.begin;
   seeks : IsTrue (g.S.Shelf.tells l.fn.shelf) → SeeksTo (sought
       (change_lines (g.S.Shelf.left l.fn.shelf) l.fn.run) None) (sought

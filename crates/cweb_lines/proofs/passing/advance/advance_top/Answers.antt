@@ -1,8 +1,7 @@
-use Rattle.cweb_lines.proofs.Common.{◌≡◌, ◌+◌, ◌<◌, ◌-◌, ◌∙◌, None, ap, length, refl, sym, subst, arith, get_or-set_same, get_or_default, KeepsLevel, PassesSlot, StandsAt, piece_of, sources_next, top_of, line_number, files_up_to}
+use Rattle.cweb_lines.proofs.Common.{[], count_of, ◌≡◌, ◌+◌, ◌<◌, ◌-◌, ◌∙◌, None, ap, length, refl, sym, subst, arith, get_or-set_same, get_or_default, KeepsLevel, PassesSlot, StandsAt, piece_of, sources_next, top_of, line_number, files_up_to}
 use Rattle.cweb_lines.specs.Texts.{most}
 use Rattle.cweb_lines.proofs.Named.{named_at, named_set}
-use Rattle.cweb_lines.proofs.Passes.{top_passed}
-use Rattle.cweb_lines.proofs.Stacks.{most_read, most_set, stays_below, deep-at, deep-set}
+use Rattle.cweb_lines.proofs.Stacks.{top_passed, most_read, most_set, stays_below, deep-at, deep-set}
 use Rattle.cweb_lines.proofs.passing.advance.advance_top.Goals as goal
 
 pub advance_slot-requires-clause-number : goal.advance_slot-requires-clause-number
@@ -27,8 +26,9 @@ returns-clause-passes g c = λ entry lines stands.
     PassesSlot slot c.advance_slot.new.slot c.args.limits.now c.advance_slot.new.limits lines) (sym same) passes in
     let kept = subst (λ slot. KeepsLevel slot c.advance_slot.new.slot) (sym same) level in
     record {
-      takes = λ left low above rest. top_passed left texts None c.advance_slot.new.slot c.args.stack.now.depth within
-          low above rest (sources_next (top_of c.args.stack.now) lines) kept.depth kept.may_match (takes.takes left);
+      takes = λ left low above rest. top_passed left left refl texts None c.advance_slot.new.slot
+          c.args.stack.now.depth within (count_of c.args.limits.now) (count_of c.args.limits.now) [] low above rest
+          (sources_next (top_of c.args.stack.now) lines) kept.depth kept.may_match (takes.takes left);
       few = passes.few;
       bytes = passes.bytes;
     }

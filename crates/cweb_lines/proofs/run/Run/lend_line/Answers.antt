@@ -1,10 +1,14 @@
-use Rattle.cweb_lines.proofs.Common.{refl}
+use Rattle.cweb_lines.proofs.Common.{[], refl, pending_of, top_of}
+use Rattle.cweb_lines.proofs.Aheads.{looks_at, looks_first}
 use Rattle.cweb_lines.proofs.Lends.{lends_line}
 use Rattle.cweb_lines.proofs.run.Run.lend_line.Goals as goal
 
 pub returns-clause-lent : goal.returns-clause-lent
 returns-clause-lent g c =
+    let run = c.args.self.now in
     let next = c.in-Some.ensures.lines in
-    lends_line c.args.self.now c.advance.new.self c.in-Some.stretch c.in-Some-line_at.line next.0 next.1
-    (c.in-Some.ensures.one refl) c.in-Some-line_at.ensures (c.advance.ensures.given next.0 next.1)
-    (c.advance.ensures.bytes next.0 next.1) c.advance.ensures.more c.advance.ensures.depth c.advance.ensures.piece
+    let looks = looks_at run [] _ next.1.settled next.1.above c.in-Some.ensures.fits
+    (looks_first (pending_of run) (top_of run.stack) c.in-Some.stretch c.in-Some-line_at.line next.0 next.1.stands
+    (c.in-Some.ensures.one refl) c.in-Some-line_at.ensures) in
+    lends_line run c.advance.new.self _ looks (c.advance.ensures.given _ looks.comes)
+    (c.advance.ensures.bytes _ looks.comes) c.advance.ensures.more c.advance.ensures.depth c.advance.ensures.piece

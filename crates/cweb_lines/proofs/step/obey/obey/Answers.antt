@@ -16,8 +16,7 @@ returns-then-is_empty-clause-obeys g c = λ tells. OnOk-map c.tell.result (λ to
       (sym c.include_name-name.ensures ∙ empty_is c.include_name-name.result.now
       (sym c.is_empty.ensures ∙ c.if-is_empty.true));
   gives = gives_told _ _ _ _ c.args.run.now c.tell.new.self (at_place NoName c.args.at.place) refl refl
-      c.tell.ensures.only.inputs c.tell.ensures.only.stack c.tell.ensures.only.change c.tell.ensures.only.stage
-      c.tell.ensures.only.first c.tell.ensures.only.names c.tell.ensures.only.limits told;
+      c.tell.ensures.only told;
 }) c.tell.ensures.told
 
 pub returns-then-at-ge-OPEN_FILES-clause-obeys : goal.returns-then-at-ge-OPEN_FILES-clause-obeys
@@ -30,10 +29,7 @@ returns-then-at-ge-OPEN_FILES-clause-obeys g c = λ tells. OnOk-map c.tell-then-
       first = merge_too_deep _ source c.args.line.now c.args.at is _ _ _ _ c.requires.plain c.requires.include some
           (omega (arith, c.if-at-ge-OPEN_FILES.true));
       gives = gives_told _ _ _ _ c.args.run.now c.tell-then-at-ge-OPEN_FILES.new.self
-          (at_place TooDeep c.args.at.place) refl refl c.tell-then-at-ge-OPEN_FILES.ensures.only.inputs
-          c.tell-then-at-ge-OPEN_FILES.ensures.only.stack c.tell-then-at-ge-OPEN_FILES.ensures.only.change
-          c.tell-then-at-ge-OPEN_FILES.ensures.only.stage c.tell-then-at-ge-OPEN_FILES.ensures.only.first
-          c.tell-then-at-ge-OPEN_FILES.ensures.only.names c.tell-then-at-ge-OPEN_FILES.ensures.only.limits told;
+          (at_place TooDeep c.args.at.place) refl refl c.tell-then-at-ge-OPEN_FILES.ensures.only told;
     }) c.tell-then-at-ge-OPEN_FILES.ensures.told
 
 pub returns-in_default-clause-obeys : goal.returns-in_default-clause-obeys
@@ -49,10 +45,7 @@ returns-in_default-clause-obeys g c = λ tells. OnOk-map c.tell-in_default.resul
           c.include_name-name.ensures);
       gives = gives_told _ _ _ _ c.args.run.now c.tell-in_default.new.self (at_place NotThere c.args.at.place)
           (c.in_ok-opening.ensures.keeps.texts tells) (c.in_ok-opening.ensures.keeps.left tells)
-          c.tell-in_default.ensures.only.inputs c.tell-in_default.ensures.only.stack
-          c.tell-in_default.ensures.only.change
-          c.tell-in_default.ensures.only.stage c.tell-in_default.ensures.only.first c.tell-in_default.ensures.only.names
-          c.tell-in_default.ensures.only.limits told;
+          c.tell-in_default.ensures.only told;
     }) c.tell-in_default.ensures.told
 
 pub returns-clause-obeys : goal.returns-clause-obeys
@@ -72,8 +65,8 @@ returns-clause-obeys g c = λ tells. OnOk-map c.open.result (λ names source is.
           (g.S.Shelf.texts c.args.shelf.now) (g.S.Shelf.texts c.find.new.shelf) (g.S.Shelf.left c.args.shelf.now)
           (g.S.Shelf.left c.find.new.shelf) c.args.run.now c.open.new.run c.in-Some.opening.reader
           (string_bytes c.in-Some.opening.name) c.args.at (c.in_ok-opening.ensures.keeps.texts tells)
-          (c.in_ok-opening.ensures.keeps.left tells) c.open.ensures.only.inputs c.open.ensures.only.change
-          c.open.ensures.only.stage c.open.ensures.only.first names.0 c.requires.settled names.1 c.open.ensures.below))
+          (c.in_ok-opening.ensures.keeps.left tells) c.open.ensures.only names.0 c.requires.settled names.1
+          c.open.ensures.below))
           (ap (λ (v : Vec SourceFault Global). v.items) c.open.ensures.only.faults) names.0;
     }) c.open.ensures.opens
 

@@ -1,6 +1,6 @@
-use Rattle.cweb_lines.proofs.Common.{[], ◌++◌, ◌∷◌, length, Vec, Global, Some, ap, sym, subst, ◌∙◌, IsTrue, at_place, code_of, count_of, Stopped, change_lines, told_by, text_of_name, lines_at, read_blame, names_of, SourceFault, EndedBeforeZ}
+use Rattle.cweb_lines.proofs.Common.{Some, ap, sym, subst, ◌∙◌, IsTrue, code_of, count_of, Stopped, change_lines, told_by, read_blame, names_of}
 use Rattle.cweb_lines.proofs.Named.{blames_memory, blames_none, knows_only}
-use Rattle.cweb_lines.proofs.Fronts.{told_behind, told_same, told_then, told_took}
+use Rattle.cweb_lines.proofs.Fronts.{told_behind, told_same, told_then, told_took, took_faults, took_names}
 use Rattle.cweb_lines.proofs.Found.{IfOk-map}
 use Rattle.cweb_lines.proofs.Sums.{gives_took}
 use Rattle.cweb_lines.proofs.News.{coming_is, new_ended, new_faulty, new_first, new_side_ended, new_stops}
@@ -19,59 +19,40 @@ pub returns-in_default-clause-gives : goal.returns-in_default-clause-gives
 returns-in_default-clause-gives g c = λ tells.
     let taken = rw c.in_default.is at (c.in-Ok.ensures.taken tells) in
     let counted = rw c.in_default.is at c.in-Ok.ensures.answers.counted in
-    new_ended _ _ _ _ c.args.run.now c.args.change c.requires.changing c.requires.below
-    (c.in-Ok.ensures.keeps.texts tells) (c.in-Ok.ensures.keeps.left tells) (text_of_name c.tell.new.self.inputs)
-    c.tell.new.self.stack (length (names_of c.tell.new.self.names)) (told_by c.tell.new.self)
-    (ap (λ i. text_of_name i) (c.in_default-tell.ensures.only.inputs ∙ c.in-Ok.ensures.only.inputs))
-    (c.in_default-tell.ensures.only.stack ∙ c.in-Ok.ensures.stack)
-    (ap (λ n. length (names_of n)) (c.in_default-tell.ensures.only.names ∙ c.in-Ok.ensures.only.names)) taken.0
-    (ap count_of c.in_default-tell.ensures.only.limits ∙ (λ i. record { lines = counted.0 i; bytes = counted.1 i }))
-    (c.in_default-tell.ensures.told ∙ ap (λ (v : Vec SourceFault Global).
-    v.items ++ at_place EndedBeforeZ c.args.change.begin ∷ []) c.in-Ok.ensures.only.faults)
-    (ap names_of (c.in_default-tell.ensures.only.names ∙ c.in-Ok.ensures.only.names))
+    new_ended _ _ _ _ c.args.run.now c.take_change.new.run c.args.change c.requires.changing c.requires.below
+    (c.in-Ok.ensures.keeps.texts tells) (c.in-Ok.ensures.keeps.left tells) c.in-Ok.ensures.only c.in-Ok.ensures.stack
+    c.tell.new.self c.in_default-tell.ensures.only taken.0 (ap count_of c.in_default-tell.ensures.only.limits
+    ∙ (λ i. record { lines = counted.0 i; bytes = counted.1 i })) c.in_default-tell.ensures.told
 
 pub returns-then-eq-clause-gives : goal.returns-then-eq-clause-gives
 returns-then-eq-clause-gives g c = λ tells.
     let taken = rw c.in-Some.is at (c.in-Ok.ensures.taken tells) in
-    let test = ap code_of (sym c.deref.ensures.value)
-    ∙ sym c.code_of.ensures
-    ∙ c.in-Some-code_of.is
+    let test = ap code_of (sym c.deref.ensures.value) ∙ sym c.code_of.ensures ∙ c.in-Some-code_of.is
     ∙ ap Some (is_end c.in-Some-code_of.code (sym c.eq.ensures ∙ c.if-eq.true)) in
-    new_side_ended _ _ _ _ c.args.run.now c.args.change c.requires.changing c.requires.below
-    (c.in-Ok.ensures.keeps.texts tells) (c.in-Ok.ensures.keeps.left tells) (text_of_name c.take_change.new.run.inputs)
-    c.take_change.new.run.stack (length (names_of c.take_change.new.run.names)) (told_by c.take_change.new.run)
-    (ap (λ i. text_of_name i) c.in-Ok.ensures.only.inputs) c.in-Ok.ensures.stack (ap (λ n. length (names_of n))
-    c.in-Ok.ensures.only.names) c.take_change.new.line.items c.in-Some.at.place taken.0 _ taken.1 (ap (λ (v :
-    Vec SourceFault Global). v.items) c.in-Ok.ensures.only.faults) (ap names_of c.in-Ok.ensures.only.names) test
+    new_side_ended _ _ _ _ c.args.run.now c.take_change.new.run c.args.change c.requires.changing c.requires.below
+    (c.in-Ok.ensures.keeps.texts tells) (c.in-Ok.ensures.keeps.left tells) c.in-Ok.ensures.only c.in-Ok.ensures.stack
+    c.take_change.new.line.items c.in-Some.at.place taken.0 _ taken.1 test
 
 pub returns-in-None-clause-gives : goal.returns-in-None-clause-gives
 returns-in-None-clause-gives g c = λ tells.
     let taken = rw c.in-Some.is at (c.in-Ok.ensures.taken tells) in
     let test = ap code_of (sym c.deref.ensures.value) ∙ sym c.code_of.ensures ∙ c.in-None.is in
     IfOk-map c.give.result (λ turn gives. gives_took _ (told_by c.args.run.now) _ _ c.take_change.new.line.items
-    c.in-Some.at.place taken.0 _ _ _ (ap (λ (v : Vec SourceFault Global). v.items) c.in-Ok.ensures.only.faults)
-    (ap names_of c.in-Ok.ensures.only.names) (new_first _ _ _ _ c.args.run.now c.args.change
-    c.requires.changing c.requires.below (c.in-Ok.ensures.keeps.texts tells) (c.in-Ok.ensures.keeps.left tells)
-    c.take_change.new.run c.in-Ok.ensures.only.inputs c.in-Ok.ensures.stack (ap names_of c.in-Ok.ensures.only.names)
-    c.in-Ok.ensures.only.stage (told_by c.take_change.new.run) c.take_change.new.line.items
-    c.in-Some.at.place taken.0 taken.1 (ap (λ (v : Vec SourceFault Global). v.items) c.in-Ok.ensures.only.faults)
-    (ap names_of c.in-Ok.ensures.only.names) test) (gives taken.0.line taken.0.is))
+    c.in-Some.at.place taken.0 _ _ _ (took_faults c.in-Ok.ensures.only) (took_names c.in-Ok.ensures.only)
+    (new_first _ _ _ _ c.args.run.now c.take_change.new.run c.args.change c.requires.changing c.requires.below
+    (c.in-Ok.ensures.keeps.texts tells) (c.in-Ok.ensures.keeps.left tells) c.in-Ok.ensures.only c.in-Ok.ensures.stack
+    c.take_change.new.line.items c.in-Some.at.place taken.0 taken.1 test) (gives taken.0.line taken.0.is))
     (rw c.deref-in-None.ensures.value at (c.give.ensures.gives (subst IsTrue (sym c.in-Ok.ensures.keeps.tells) tells)))
 
 pub returns-in_default-tell-2-clause-gives : goal.returns-in_default-tell-2-clause-gives
 returns-in_default-tell-2-clause-gives g c = λ tells.
     let taken = rw c.in-Some.is at (c.in-Ok.ensures.taken tells) in
     let test = ap code_of (sym c.deref.ensures.value) ∙ sym c.code_of.ensures ∙ c.in-Some-code_of.is in
-    new_faulty _ _ _ _ c.args.run.now c.args.change c.requires.changing c.requires.below
-    (c.in-Ok.ensures.keeps.texts tells) (c.in-Ok.ensures.keeps.left tells) c.tell-in-Some-code_of.new.self
-    (c.in_default-tell-2.ensures.only.inputs ∙ c.in-Ok.ensures.only.inputs) (c.in_default-tell-2.ensures.only.stack
-    ∙ c.in-Ok.ensures.stack) (ap names_of (c.in_default-tell-2.ensures.only.names ∙ c.in-Ok.ensures.only.names))
-    (c.in_default-tell-2.ensures.only.stage ∙ c.in-Ok.ensures.only.stage)
-    (told_by c.take_change.new.run) c.take_change.new.line.items c.in-Some.at.place taken.0 (taken.1 ∙ ap (λ ch.
-    taken.0.line ∷ lines_at (g.S.Shelf.left c.take_change.new.shelf) ch) (sym c.in_default-tell-2.ensures.only.change))
-    (ap (λ (v : Vec SourceFault Global). v.items) c.in-Ok.ensures.only.faults) (ap names_of c.in-Ok.ensures.only.names)
-    c.in-Some-code_of.code test (sym c.eq.ensures ∙ c.if-eq.false) c.in_default-tell-2.ensures.told
-    (ap names_of c.in_default-tell-2.ensures.only.names) (ap count_of c.in_default-tell-2.ensures.only.limits)
+    new_faulty _ _ _ _ c.args.run.now c.take_change.new.run c.args.change c.requires.changing c.requires.below
+    (c.in-Ok.ensures.keeps.texts tells) (c.in-Ok.ensures.keeps.left tells) c.in-Ok.ensures.only c.in-Ok.ensures.stack
+    c.take_change.new.line.items c.in-Some.at.place taken.0 c.tell-in-Some-code_of.new.self
+    c.in_default-tell-2.ensures.only taken.1 c.in-Some-code_of.code test (sym c.eq.ensures ∙ c.if-eq.false)
+    c.in_default-tell-2.ensures.told
 
 -- what was told stays
 pub returns-in-Err-clause-still : goal.returns-in-Err-clause-still

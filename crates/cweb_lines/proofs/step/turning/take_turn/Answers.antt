@@ -1,35 +1,22 @@
-use Rattle.cweb_lines.proofs.Common.{◌++◌, map, List, None, ap, ◌∙◌, refl, rules, sought, Event, fault, took, change_lines, told_by}
+use Rattle.cweb_lines.proofs.Common.{refl, rules}
 use Rattle.cweb_lines.proofs.Fronts.{told_same}
-use Rattle.cweb_lines.proofs.Adds.{gives_adds, stopped_among, tells_some}
-use Rattle.cweb_lines.proofs.Turns.{searched_later, sought_first}
+use Rattle.cweb_lines.proofs.Turns.{sought_gives, sought_stops, sought_tells}
 use Rattle.cweb_lines.proofs.Differing.{true_false}
 use Rattle.cweb_lines.proofs.step.turning.take_turn.Goals as goal
 
 pub returns-in-Err-clause-told : goal.returns-in-Err-clause-told
-returns-in-Err-clause-told g c = λ tells. tells_some (sought (change_lines (g.S.Shelf.left c.args.shelf.now)
-    c.args.run.now) None).taken _ _ _ _ _ (sought_first (g.S.Shelf.texts c.args.shelf.now)
-    (g.S.Shelf.left c.args.shelf.now) c.args.run.now c.in-Seeking.is) (c.in-Err.ensures.told tells)
+returns-in-Err-clause-told g c = λ tells. sought_tells (g.S.Shelf.texts c.args.shelf.now)
+    (g.S.Shelf.left c.args.shelf.now) c.args.run.now c.in-Seeking.is _ (c.in-Err.ensures.told tells)
 
 pub returns-in-Err-clause-stops : goal.returns-in-Err-clause-stops
-returns-in-Err-clause-stops g c = λ tells.
-    stopped_among c.in-Err.stop (sought (change_lines (g.S.Shelf.left c.args.shelf.now) c.args.run.now) None).taken _ _
-    _ _ (sought_first (g.S.Shelf.texts c.args.shelf.now)
-    (g.S.Shelf.left c.args.shelf.now) c.args.run.now c.in-Seeking.is) (c.in-Err.ensures.stops tells)
+returns-in-Err-clause-stops g c = λ tells. sought_stops (g.S.Shelf.texts c.args.shelf.now)
+    (g.S.Shelf.left c.args.shelf.now) c.args.run.now c.in-Seeking.is c.in-Err.stop _ (c.in-Err.ensures.stops tells)
 
 pub returns-in-Seeking-clause-gives : goal.returns-in-Seeking-clause-gives
 returns-in-Seeking-clause-gives g c = λ tells.
-    let found = c.in_default-seek.ensures.searched tells in
-    gives_adds (sought (change_lines (g.S.Shelf.left c.args.shelf.now) c.args.run.now) None).taken
-    (sought (change_lines (g.S.Shelf.left c.args.shelf.now) c.args.run.now) None).faults
-    (told_by c.args.run.now) (told_by c.seek.new.run) _ _ (sought_first (g.S.Shelf.texts c.args.shelf.now)
-    (g.S.Shelf.left c.args.shelf.now) c.args.run.now c.in-Seeking.is ∙ ap
-    (λ (es : List Event). map took (sought (change_lines (g.S.Shelf.left c.args.shelf.now) c.args.run.now) None).taken
-    ++ (map fault (sought (change_lines (g.S.Shelf.left c.args.shelf.now) c.args.run.now) None).faults ++ es))
-    (searched_later (g.S.Shelf.texts c.args.shelf.now) (g.S.Shelf.texts c.seek.new.shelf)
-    (g.S.Shelf.left c.args.shelf.now) (g.S.Shelf.left c.seek.new.shelf) c.args.run.now c.seek.new.run
-    (told_by c.args.run.now) (told_by c.seek.new.run) (c.in_default-seek.ensures.keeps.texts tells)
-    (c.in_default-seek.ensures.keeps.left tells) c.in_default-seek.ensures.only.inputs
-    c.in_default-seek.ensures.only.stack c.in_default-seek.ensures.only.names found)) found.adds
+    let seek = c.in_default-seek.ensures in
+    sought_gives _ _ c.args.run.now c.in-Seeking.is _ _ c.seek.new.run (seek.keeps.texts tells) (seek.keeps.left tells)
+    seek.only.inputs seek.only.stack seek.only.names (seek.searched tells)
 
 pub returns-then-has_ended-clause-still : goal.returns-then-has_ended-clause-still
 returns-then-has_ended-clause-still g c = told_same _ _ refl refl
