@@ -15,39 +15,40 @@ counts_from (Ok x) before mid after same counts = counts ∙ same
 counts_from (Err e) before mid after same counts = omega (arith, counts, same)
 
 -- nothing more came yet
-pub gathers_none : {A E : Type 0} (stream : SeenStream) (held : List ℕ) (x : A)
+pub gathers_none : {A E : Type 0} {stream : SeenStream} {held : List ℕ} (x : A)
     → GathersMore {A = A} {E = E} [] stream stream held held (Ok x)
-gathers_none stream held x = record {
+gathers_none {stream} {held} x = record {
   tells = refl;
   counts = refl;
   whole = λ tells first text begun.
-      subst (λ (t : List ℕ). Gathers first t stream.bytes held) (sym (append-nil text)) begun;
+      rw (append-nil text) begun;
   front = λ tells first text begun. tt;
 }
 
 -- what came behind that
-pub gathers_on : {A E B F : Type 0} (x : A) (r : Result B F) (old more : List ℕ) (before mid after : SeenStream)
-    (held between now : List ℕ) → GathersMore {A = A} {E = E} old before mid held between (Ok x)
+pub gathers_on : {A E B F : Type 0}
+    (x : A) {r : Result B F} {old more : List ℕ} {before mid after : SeenStream} {held between now : List ℕ}
+    → GathersMore {A = A} {E = E} old before mid held between (Ok x)
     → GathersMore more mid after between now r → GathersMore (old ++ more) before after held now r
-gathers_on x r old more before mid after held between now came comes = record {
+gathers_on x {r} {old} {more} {before} {mid} {after} {now} came comes = record {
   tells = comes.tells ∙ came.tells;
   counts = counts_from r before.failed mid.failed after.failed came.counts comes.counts;
   whole = λ tells first text begun.
-      subst (λ (t : List ℕ). OnOk r (Gathers first t after.bytes now)) (append_assoc text old more)
+      rw (← (append_assoc text old more))
       (comes.whole (subst IsTrue (sym came.tells) tells) first (text ++ old) (came.whole tells first text begun));
   front = λ tells first text begun.
-      subst (λ (t : List ℕ). OnErr r (WritesFront first after.bytes t)) (append_assoc text old more)
+      rw (← (append_assoc text old more))
       (comes.front (subst IsTrue (sym came.tells) tells) first (text ++ old) (came.whole tells first text begun));
 }
 
 -- a stream holds what it holds
-begins : (bytes : List ℕ) → Gathers bytes [] bytes []
-begins bytes = record { done = []; written_is = sym (append-nil bytes); whole = refl }
+begins : {bytes : List ℕ} → Gathers bytes [] bytes []
+begins {bytes} = record { done = []; written_is = sym (append-nil bytes); whole = refl }
 
 -- a front of what is pending is written behind what was
-behind : (old mid new text held : List ℕ) → Gathers old text mid held
+behind : {old mid new text held : List ℕ} → Gathers old text mid held
     → WritesFront mid new held → WritesFront old new text
-behind old mid new text held gathered front = record {
+behind {old} gathered front = record {
   front = gathered.done ++ front.front;
   rest = front.rest;
   written = front.written ∙ ap (λ (t : List ℕ). t ++ front.front) gathered.written_is
@@ -56,8 +57,8 @@ behind old mid new text held gathered front = record {
       ∙ sym (append_assoc gathered.done front.front front.rest);
 }
 
-longer : (old new text rest : List ℕ) → WritesFront old new text → WritesFront old new (text ++ rest)
-longer old new text rest front = record {
+longer : {old new text : List ℕ} (rest : List ℕ) → WritesFront old new text → WritesFront old new (text ++ rest)
+longer rest front = record {
   front = front.front;
   rest = front.rest ++ rest;
   written = front.written;
@@ -65,16 +66,17 @@ longer old new text rest front = record {
 }
 
 -- a fault in a front of a text is one in the text
-pub gathers_front : {A E B F : Type 0} (e : E) (r : Result B F) (text rest : List ℕ)
-    (before after : SeenStream) (held now : List ℕ) → GathersMore {A = A} text before after held now (Err e)
+pub gathers_front : {A E B F : Type 0}
+    (e : E) (r : Result B F) {text : List ℕ} (rest : List ℕ) {before after : SeenStream} {held now : List ℕ}
+    → GathersMore {A = A} text before after held now (Err e)
     → IsErr r → GathersMore (text ++ rest) before after held now r
-gathers_front e (Ok x) text rest before after held now fails is = absurd (cc)
-gathers_front e (Err f) text rest before after held now fails is = record {
+gathers_front e (Ok x) rest fails is = absurd (cc)
+gathers_front e (Err f) {text} rest {after} fails is = record {
   tells = fails.tells;
   counts = fails.counts;
   whole = λ tells first old begun. tt;
-  front = λ tells first old begun. subst (λ (t : List ℕ). WritesFront first after.bytes t) (append_assoc old text rest)
-      (longer first after.bytes (old ++ text) rest (fails.front tells first old begun));
+  front =
+      λ tells first old begun. rw (← (append_assoc old text rest)) (longer rest (fails.front tells first old begun));
 }
 
 -- what a list's pieces come to with one more
@@ -92,78 +94,74 @@ pub joined_split : {X : Type 0} (f : X → List ℕ) (xs : List X) (i : ℕ)
 joined_split f xs i = ap (flat_map f) (sym (take-append-drop i xs)) ∙ flat_map-append f (take i xs) (drop i xs)
 
 -- a piece of a list fails: so does the whole
-pub gathers_failed : {A E B F X : Type 0} (f : X → List ℕ) (xs : List X) (i : ℕ) (d : X) (x : A)
-    (e : E) (r : Result B F) (before mid after : SeenStream) (held between now : List ℕ) → i < length xs
-    → GathersMore {A = A} {E = E} (flat_map f (take i xs)) before mid held between (Ok x)
-    → GathersMore {A = A} (f (get_or xs i d)) mid after between now (Err e) → IsErr r
-    → GathersMore (flat_map f xs) before after held now r
-gathers_failed f xs i d x e r before mid after held between now lt came fails is =
-    subst (λ (t : List ℕ). GathersMore t before after held now r) (sym (joined_split f xs (i + 1)
-    ∙ ap (λ (t : List ℕ). t ++ flat_map f (drop (i + 1) xs)) (joined_next f xs i d lt))) (gathers_front e r
-    (flat_map f (take i xs) ++ f (get_or xs i d)) (flat_map f (drop (i + 1) xs)) before after held now
-    (gathers_on x (Err e) (flat_map f (take i xs)) (f (get_or xs i d)) before mid after held between now came fails) is)
+pub gathers_failed : {A E B F X : Type 0} (f : X → List ℕ) (xs : List X)
+    (i : ℕ) (d : X) (x : A) (e : E) {r : Result B F} {before mid after : SeenStream} {held between now : List ℕ}
+    → i < length xs → GathersMore {A = A} {E = E} (flat_map f (take i xs)) before mid held between (Ok x)
+    → GathersMore {A = A} (f (get_or xs i d)) mid after between now (Err e)
+    → IsErr r → GathersMore (flat_map f xs) before after held now r
+gathers_failed f xs i d x e {r} {before} {after} {held} {now} lt came fails is =
+    rw (joined_split f xs (i + 1) ∙ ap (λ (t : List ℕ). t ++ flat_map f (drop (i + 1) xs)) (joined_next f xs i d lt))
+    (gathers_front e r (flat_map f (drop (i + 1) xs)) (gathers_on x came fails) is)
 
 -- one more piece of a list came
-pub gathers_next : {A E X : Type 0} (f : X → List ℕ) (xs : List X) (i : ℕ) (d : X)
-    (x y : A) (before mid after : SeenStream) (held between now : List ℕ) → i < length xs
-    → GathersMore {A = A} {E = E} (flat_map f (take i xs)) before mid held between (Ok x)
+pub gathers_next : {A E X : Type 0}
+    (f : X → List ℕ) (xs : List X) (i : ℕ) (d : X) (x y : A) {before mid after : SeenStream} {held between now : List ℕ}
+    → i < length xs → GathersMore {A = A} {E = E} (flat_map f (take i xs)) before mid held between (Ok x)
     → GathersMore {A = A} {E = E} (f (get_or xs i d)) mid after between now (Ok y)
     → GathersMore {A = A} {E = E} (flat_map f (take (i + 1) xs)) before after held now (Ok y)
-gathers_next {A = A} {E = E} f xs i d x y before mid after held between now lt came comes =
-    subst (λ (t : List ℕ). GathersMore {A = A} {E = E} t before after held now (Ok y)) (sym (joined_next f xs i d lt))
-    (gathers_on x (Ok y) (flat_map f (take i xs)) (f (get_or xs i d)) before mid after held between now came comes)
+gathers_next {A = A} {E = E} f xs i d x y {before} {after} {held} {now} lt came comes =
+    rw (joined_next f xs i d lt) (gathers_on x came comes)
 
 -- all pieces of a list came
-pub gathers_all : {A E X : Type 0} (f : X → List ℕ) (xs : List X)
-    (i : ℕ) (x : A) (before after : SeenStream) (held now : List ℕ) → length xs ≤ i
-    → GathersMore {A = A} {E = E} (flat_map f (take i xs)) before after held now (Ok x)
+pub gathers_all : {A E X : Type 0}
+    (f : X → List ℕ) (xs : List X) (i : ℕ) (x : A) {before after : SeenStream} {held now : List ℕ}
+    → length xs ≤ i → GathersMore {A = A} {E = E} (flat_map f (take i xs)) before after held now (Ok x)
     → GathersMore {A = A} {E = E} (flat_map f xs) before after held now (Ok x)
-gathers_all f xs i x before after held now le came = rw take_all at came
+gathers_all f xs i x le came = rw take_all at came
 
 -- nothing was gathered before, and what is gathered is written at last
-pub writes_all : {A E B F : Type 0} (x : A) (r : Result B F)
-    (text : List ℕ) (before mid after : SeenStream) (held : List ℕ)
+pub writes_all : {A E B F : Type 0}
+    (x : A) {r : Result B F} {text : List ℕ} {before mid after : SeenStream} {held : List ℕ}
     → GathersMore {A = A} {E = E} text before mid [] held (Ok x) → Writes held mid after r → Writes text before after r
-writes_all x r text before mid after held came writes =
+writes_all x {r} {text} {before} {mid} {after} {held} came writes =
     let tells_mid : IsTrue before.tells → IsTrue mid.tells = λ tells. subst IsTrue (sym came.tells) tells in
     let gathered : IsTrue before.tells → Gathers before.bytes text mid.bytes held = λ tells.
-    came.whole tells before.bytes [] (begins before.bytes) in record {
+    came.whole tells before.bytes [] (begins) in record {
       tells = writes.tells ∙ came.tells;
       counts = counts_from r before.failed mid.failed after.failed came.counts writes.counts;
       whole = λ tells. on_ok r _ _ (λ (is : after.bytes ≡ mid.bytes ++ held). is ∙ ap
           (λ (t : List ℕ). t ++ held) (gathered tells).written_is ∙ append_assoc before.bytes (gathered tells).done held
           ∙ ap (λ (t : List ℕ). before.bytes ++ t) (sym (gathered tells).whole)) (writes.whole (tells_mid tells));
-      front = λ tells. on_err r _ _ (behind before.bytes mid.bytes after.bytes text held (gathered tells))
+      front = λ tells. on_err r _ _ (behind (gathered tells))
           (writes.front (tells_mid tells));
     }
 
 -- nothing was gathered before, and a part of the text fails
-pub writes_front : {A E B F : Type 0} (e : E) (r : Result B F) (text : List ℕ) (before after : SeenStream)
-    (held : List ℕ) → GathersMore {A = A} text before after [] held (Err e) → IsErr r → Writes text before after r
-writes_front e (Ok x) text before after held fails is = absurd (cc)
-writes_front e (Err f) text before after held fails is = record {
+pub writes_front : {A E B F : Type 0} (e : E) (r : Result B F) {text : List ℕ} {before after : SeenStream}
+    {held : List ℕ} → GathersMore {A = A} text before after [] held (Err e) → IsErr r → Writes text before after r
+writes_front e (Ok x) fails is = absurd (cc)
+writes_front e (Err f) {before} fails is = record {
   tells = fails.tells;
   counts = fails.counts;
   whole = λ tells. tt;
-  front = λ tells. fails.front tells before.bytes [] (begins before.bytes);
+  front = λ tells. fails.front tells before.bytes [] (begins);
 }
 
 -- the lines of a list of items
-pub writes_items : {A E X : Type 0} (f : X → Item) (xs : List X) (before after : SeenStream) (r : Result A E)
+pub writes_items : {A E X : Type 0} (f : X → Item) (xs : List X) {before after : SeenStream} {r : Result A E}
     → Writes (flat_map (λ (x : X). line (f x)) xs) before after r → Writes (flat_map line (map f xs)) before after r
-writes_items f xs before after r writes =
-    subst (λ (t : List ℕ). Writes t before after r) (sym (flat_map-map line f xs)) writes
+writes_items f xs {before} {after} {r} writes = rw (flat_map-map line f xs) writes
 
 -- what writing a text left is what logging it leaves
-pub logs_by : {A E : Type 0} (r : Result A E) (text : List ℕ) (before after : SeenStream)
+pub logs_by : {A E : Type 0} (r : Result A E) {text : List ℕ} {before after : SeenStream}
     → Writes text before after r → Logs text before after
-logs_by (Ok x) text before after writes = record {
+logs_by (Ok x) {text} writes = record {
   tells = writes.tells;
   once = inl writes.counts;
   whole = λ tells same. writes.whole tells;
   front = λ tells. record { front = text; rest = []; written = writes.whole tells; whole = sym (append-nil text) };
 }
-logs_by (Err e) text before after writes = record {
+logs_by (Err e) writes = record {
   tells = writes.tells;
   once = inr writes.counts;
   whole = λ tells same. absurd (omega (arith, writes.counts, same));

@@ -1,5 +1,5 @@
 -- Command lines of `ctangle` and what they ask for.
-use Rattle.cweb_log.proofs.Common.{◌≡◌, true, false, List, ℕ, [], ◌∷◌, None, Some, refl, codes, TangleNames, names_by, options_by, words_shown, shown_by_default}
+use Rattle.cweb_log.proofs.Common.{◌≡◌, true, false, List, ℕ, [], ◌∷◌, None, Some, codes, TangleNames, names_by, options_by, words_shown, shown_by_default}
 
 abbrev names : List ℕ → List ℕ → List ℕ → TangleNames
 names web second main = record { merge = record { web = web; second = Some second; change = None }; main = main }
@@ -27,4 +27,4 @@ record Computed : Type 0 where
   later_letters : words_shown (codes "-b" ∷ codes "x" ∷ codes "+b" ∷ []) shown_by_default ≡ Some shown_by_default
 
 computed : Computed
-computed = search refl
+computed = search

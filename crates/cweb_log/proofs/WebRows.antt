@@ -1,5 +1,5 @@
 -- The lines of the log for what is wrong with a web, computed.
-use Rattle.cweb_log.proofs.Common.{◌≡◌, true, false, List, ℕ, [], ◌∷◌, ◌++◌, refl, codes, Some, None, flat_map, Stored, Occurrence, id, Part, Name, NameRef, PartKind, Full, Prefix, Unnamed, Named, ScanFault, ScanKind, DoubleAtInLimbo, ImproperHexNumber, ReplacementTooLong, LetterOutsideLimbo, NameDidNotEnd, NamesDoNotNest, CommentDidNotEnd, StringDidNotEnd, DoubleAtInString, ControlTextDidNotEnd, FaultyConstant, IgnoredInCText, MissingAt, DefsInMacro, DefinitionDropped, bad_name, same_name, cycle, cycle_from, first_endless, program, line, name_items, refusal_text, scan_items}
+use Rattle.cweb_log.proofs.Common.{◌≡◌, true, false, List, ℕ, [], ◌∷◌, ◌++◌, codes, Some, None, flat_map, Stored, Occurrence, id, Part, Name, NameRef, PartKind, Full, Prefix, Unnamed, Named, ScanFault, ScanKind, DoubleAtInLimbo, ImproperHexNumber, ReplacementTooLong, LetterOutsideLimbo, NameDidNotEnd, NamesDoNotNest, CommentDidNotEnd, StringDidNotEnd, DoubleAtInString, ControlTextDidNotEnd, FaultyConstant, IgnoredInCText, MissingAt, DefsInMacro, DefinitionDropped, bad_name, same_name, cycle, cycle_from, first_endless, program, line, name_items, refusal_text, scan_items}
 use Rattle.std.specs.Fmt.{digits}
 
 abbrev met : ScanKind → ℕ → ScanFault
@@ -74,4 +74,4 @@ record Computed : Type 0 where
 
 computed : Computed
 unfolding digits
-computed = search refl
+computed = search

@@ -1,5 +1,5 @@
 -- Names that use one another in a circle have no rank.
-use Rattle.cweb_out.proofs.Common.{◌≡◌, ℕ, zero, suc, Bool, true, false, not, cond, ◌&&◌, ◌||◌, List, [], ◌∷◌, ◌++◌, refl, sym, ◌∙◌, ap, inl, inr, subst, Option, Some, ◌⊎◌, option_to_list, find, list_all, list_any, NameId, is_id, Token, Stored, joined, uses, ends_below, has_rank, first_endless, suffix, Frame, Waiting, Chain, Looked, next_of, path_of, or_cases, first_so, second_so, or_left, or_right}
+use Rattle.cweb_out.proofs.Common.{◌≡◌, ℕ, zero, suc, Bool, true, false, not, cond, ◌&&◌, List, [], ◌∷◌, ◌++◌, refl, sym, ◌∙◌, ap, inl, inr, subst, Option, Some, ◌⊎◌, option_to_list, find, list_all, list_any, NameId, is_id, Token, Stored, joined, uses, ends_below, has_rank, first_endless, suffix, Frame, Waiting, Chain, Looked, next_of, path_of, and_parts, or_cases, or_left, or_right}
 use Rattle.cweb_out.proofs.Ranks.{id-same}
 use Rattle.cweb_out.proofs.Paths.{is-same}
 
@@ -19,10 +19,10 @@ pub next-some : (path : List Waiting) (again : NameId) → (n : NameId) × (next
 next-some [] again = (again, refl)
 next-some (f ∷ path) again = (f.name, refl)
 
-looked-next : (w : Stored) (whole : List NameId) (path : List Waiting) (f : Waiting) (again : NameId)
+looked-next : {w : Stored} (whole : List NameId) (path : List Waiting) (f : Waiting) (again : NameId)
     → Looked w (joined w f.name) f.text (next_of path (Some again)) → list_any (is_id again) whole ≡ true →
     ((m : NameId) → list_any (is_id m) (path_of path) ≡ true → list_any (is_id m) whole ≡ true) → UsesOne w whole f.name
-looked-next w whole path f again l a sub =
+looked-next {w} whole path f again l a sub =
     let n = next-some path again in (
       n.0,
       l.before,
@@ -40,7 +40,7 @@ chain-uses w whole (f ∷ path) again n c a sub h =
     let later : (m : NameId) → list_any (is_id m) (path_of path) ≡ true → list_any (is_id m) whole ≡ true = λ m k.
     sub m (or_right (is_id m f.name) (list_any (is_id m) (path_of path)) k) in
     elim (or_cases (is_id n f.name) (list_any (is_id n) (path_of path)) h) [
-      | inl e ↦ subst (UsesOne w whole) (sym (is-same n f.name e)) (looked-next w whole path f again c.0 a later)
+      | inl e ↦ subst (UsesOne w whole) (sym (is-same n f.name e)) (looked-next whole path f again c.0 a later)
       | inr e ↦ chain-uses w whole path again n c.1 a later e
     ]
 
@@ -70,11 +70,11 @@ find-first : (p : NameId → Bool) (before rest : List NameId) (n : NameId) → 
 find-first p [] rest n a h = ap (λ b. cond (not b) (Some n) (find (λ m. not (p m)) rest)) h
 find-first p (x ∷ before) rest n a h =
     ap (λ b. cond (not b) (Some x) (find (λ m. not (p m)) (before ++ (n ∷ rest))))
-    (first_so (p x) (list_all p before) a) ∙ find-first p before rest n (second_so (p x) (list_all p before) a) h
+    (and_parts (p x) (list_all p before) a).0 ∙ find-first p before rest n (and_parts (p x) (list_all p before) a).1 h
 
-pub looked-endless : (w : Stored) (list : List Token) (frame : Frame) (n : NameId) → Looked w list frame (Some n)
+pub looked-endless : {w : Stored} {list : List Token} {frame : Frame} (n : NameId) → Looked w list frame (Some n)
     → has_rank w n ≡ false → (first_endless w list ≡ Some n) × (list_all (has_rank w) (uses w list) ≡ false)
-looked-endless w list frame n l h = (
+looked-endless {w} {frame} n l h = (
   ap (find (λ m. not (has_rank w m))) l.same ∙ find-first (has_rank w) l.before (uses w (suffix w frame)) n l.ranked h,
   ap (list_all (has_rank w)) l.same ∙ all-fails (has_rank w) l.before (uses w (suffix w frame)) n h,
 )

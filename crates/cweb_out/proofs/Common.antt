@@ -7,6 +7,7 @@ pub use Rattle.std.proofs.Common.{length-drop, vec_capacity}
 pub use Rattle.std.proofs.Math.ListN.{set}
 pub use Rattle.std.proofs.Math.Seq.{take-add, drop-cons, take-length}
 pub use Rattle.std.proofs.lemmas.Bool.{or_cases, not-true, or_from, false_from_ne_true, and_from, or_left, or_right}
+pub use Rattle.std.proofs.lemmas.Bool.{and_parts, true_from_ne_false, cases_lt}
 pub use Rattle.std.proofs.lemmas.Bool.Decides.{eqb_tells}
 pub use Rattle.std.proofs.lemmas.Fn.{filter_same}
 pub use Rattle.std.proofs.lemmas.Grind.{flat_map-append, common_steps}

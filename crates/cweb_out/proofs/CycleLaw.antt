@@ -16,22 +16,22 @@ record Came (w : Stored) (before : List NameId) (n : NameId) : Type 0 where
   pub rankless : has_rank w n ≡ false
   pub name : n.0 < names w
 
-came-on : (w : Stored) (before : List NameId) (n : NameId) (c : Came w before n) → list_any (is_id n) before ≡ false
+came-on : {w : Stored} (before : List NameId) (n : NameId) (c : Came w before n) → list_any (is_id n) before ≡ false
     → (e : Endless w (joined w n)) → Came w (before ++ n ∷ []) e.name
-came-on w before n c fresh e = record {
+came-on {w} before n c fresh e = record {
   new = new-push [] before n c.new fresh;
   within = λ m h. elim (split-or (list_any (is_id m) before) (is_id m n) (sym (on-pushed before m n) ∙ h)) [
     | inl a ↦ c.within m a
-    | inr a ↦ subst (λ (k : NameId). k.0 < names w) (sym (is-same m n a)) c.name
+    | inr a ↦ rw (is-same m n a) c.name
   ];
   each = each-push w before n e.name e.used c.each;
   rankless = e.rankless;
   name = uses-on w (joined w n) e.name e.used;
 }
 
-closed : (w : Stored) (before : List NameId) (n : NameId) → Came w before n → list_any (is_id n) before ≡ true
+closed : {w : Stored} {before : List NameId} {n : NameId} → Came w before n → list_any (is_id n) before ≡ true
     → IsCycle w (drop (position_or_len (is_id n) before) before ++ n ∷ [])
-closed w before n c h =
+closed {w} {before} {n} c h =
     let r = comes n before h in
     record {
       first = n;
@@ -40,14 +40,14 @@ closed w before n c h =
       each = each-drop w (position_or_len (is_id n) before) before (n ∷ []) c.each;
     }
 
-walks-in-a-cycle : (w : Stored) (k : ℕ) (before : List NameId) (n : NameId) → names w < length before + k
+walks-in-a-cycle : {w : Stored} (k : ℕ) {before : List NameId} {n : NameId} → names w < length before + k
     → Came w before n → IsCycle w (walk w k before (Some n))
-walks-in-a-cycle w zero before n l c = absurd (omega (arith, l, few (names w) before c.new c.within))
-walks-in-a-cycle w (suc k) before n l c =
+walks-in-a-cycle {w} zero {before} l c = absurd (omega (arith, l, few (names w) before c.new c.within))
+walks-in-a-cycle {w} (suc k) {before} {n} l c =
     let next : Endless w (joined w n) = text-endless w n c.name c.rankless in
     let size = length-append before (n ∷ []) in
     by next (list_any (is_id n) before) refl
-    (λ e. walks-in-a-cycle w k (before ++ n ∷ []) next.name (omega (arith, l, size)) (came-on w before n c e next))
+    (λ e. walks-in-a-cycle k (omega (arith, l, size)) (came-on before n c e next))
   where
     by : (next : Endless w (joined w n)) (b : Bool) → list_any (is_id n) before ≡ b
         → (list_any (is_id n) before ≡ false → IsCycle w (walk w k (before ++ n ∷ []) (Some next.name))) → IsCycle w
@@ -55,13 +55,12 @@ walks-in-a-cycle w (suc k) before n l c =
           | true ↦ drop (position_or_len (is_id n) before) before ++ n ∷ []
           | false ↦ walk w k (before ++ n ∷ []) (first_endless w (joined w n))
         ])
-    by next true e later = closed w before n c e
-    by next false e later =
-        subst (λ (o : Option NameId). IsCycle w (walk w k (before ++ n ∷ []) o)) (sym next.first) (later e)
+    by next true e later = closed c e
+    by next false e later = rw next.first (later e)
 
-walk-cycle : (w : Stored) (n : NameId) → has_rank w n ≡ false → n.0 < names w → IsCycle w (cycle_from w (Some n))
-walk-cycle w n h l = walks-in-a-cycle w
-    (suc (names w)) [] n (omega arith) (record { new = tt; within = λ m e. cc; each = tt; rankless = h; name = l })
+walk-cycle : {w : Stored} (n : NameId) → has_rank w n ≡ false → n.0 < names w → IsCycle w (cycle_from w (Some n))
+walk-cycle {w} n h l = walks-in-a-cycle (suc (names w)) {before = []}
+    (omega arith) (record { new = tt; within = λ m e. cc; each = tt; rankless = h; name = l })
 
 -- OUTPUTS
 
@@ -73,10 +72,10 @@ record Stuck (w : Stored) (o : Option NameId) : Type 0 where
 abbrev stuck : Stored → Option NameId → Bool
 stuck w o = not (list_ends w (root_list w o))
 
-stuck-first : (w : Stored) (p : NameId → Bool) (ns : List NameId) (o : Option NameId)
+stuck-first : {w : Stored} (p : NameId → Bool) (ns : List NameId) {o : Option NameId}
     → All (λ (n : NameId). n.0 < names w) ns → find (stuck w) (map Some (filter p ns)) ≡ Some o → Stuck w o
-stuck-first w p [] o a h = cc
-stuck-first w p (n ∷ ns) o a h = by (p n) h (λ e. stuck-first w p ns o (λ k d l. a (suc k) d (omega (arith, l))) e)
+stuck-first p [] a h = cc
+stuck-first {w} p (n ∷ ns) {o} a h = by (p n) h (λ e. stuck-first p ns (λ k d l. a (suc k) d (omega (arith, l))) e)
   where
     here : (b : Bool) → stuck w (Some n) ≡ b → cond b (Some (Some n)) (find (stuck w) (map Some (filter p ns))) ≡ Some o
         → (find (stuck w) (map Some (filter p ns)) ≡ Some o → Stuck w o) → Stuck w o
@@ -91,9 +90,9 @@ stuck-first w p (n ∷ ns) o a h = by (p n) h (λ e. stuck-first w p ns o (λ k 
     by true h later = here (stuck w (Some n)) refl h later
     by false h later = later h
 
-stuck-output : (w : Stored) (o : Option NameId) → find (stuck w) (outputs w) ≡ Some o → Stuck w o
-stuck-output w o h = by (stuck w None) refl h (stuck-first w
-    (has_part (spec.standings w.occurrences) w.parts) (spec.files w.occurrences) o (files-within w.occurrences))
+stuck-output : {w : Stored} {o : Option NameId} → find (stuck w) (outputs w) ≡ Some o → Stuck w o
+stuck-output {w} {o} h = by (stuck w None) refl h (stuck-first
+    (has_part (spec.standings w.occurrences) w.parts) (spec.files w.occurrences) (files-within w.occurrences))
   where
     by : (b : Bool) → stuck w None ≡ b → cond b (Some None) (find (stuck w) (map Some (file_outputs w))) ≡ Some o
         → (find (stuck w) (map Some (file_outputs w)) ≡ Some o → Stuck w o) → Stuck w o
@@ -106,13 +105,12 @@ program-ends : (w : Stored) (b : Bool) → list_ends w (defs_first b ++ program 
 program-ends w true = refl
 program-ends w false = refl
 
-stuck-cycle : (w : Stored) (o : Option NameId) → Stuck w o → IsCycle w (cycle_from w (start_of w o))
-stuck-cycle w None s =
+stuck-cycle : {w : Stored} (o : Option NameId) → Stuck w o → IsCycle w (cycle_from w (start_of w o))
+stuck-cycle {w} None s =
     let e : Endless w (program w) =
-    failing (has_rank w) (uses w (program w)) (sym (program-ends w (not (has_defs_code w.parts))) ∙ s.ends) in
-    subst (λ (o : Option NameId). IsCycle w (cycle_from w o)) (sym e.first)
-    (walk-cycle w e.name e.rankless (uses-on w (program w) e.name e.used))
-stuck-cycle w (Some n) s = walk-cycle w n (name-endless w n s.ends) s.root
+    failing (uses w (program w)) (sym (program-ends w (not (has_defs_code w.parts))) ∙ s.ends) in
+    rw e.first (walk-cycle e.name e.rankless (uses-on w (program w) e.name e.used))
+stuck-cycle {w} (Some n) s = walk-cycle n (name-endless w n s.ends) s.root
 
 abbrev outcome : {A : Type 0} → Option A → (A → Refusal) → Result Planned Refusal → Result Planned Refusal
 outcome found why r = elim found [ Some x ↦ Err (why x) | None ↦ r ]
@@ -128,13 +126,13 @@ ended : (w : Stored) (p : Planned) (ns : List NameId) (found : Option (Option Na
 ended w p ns (Some o) h = (o, refl, cc)
 ended w p ns None h = cc
 
-pub refused_cycles_are_cycles : (w : Stored) (main : List ℕ) (ns : List NameId) → planned w main ≡ Err (cycle ns)
+pub refused_cycles_are_cycles : {w : Stored} (main : List ℕ) {ns : List NameId} → planned w main ≡ Err (cycle ns)
     → IsCycle w ns
-refused_cycles_are_cycles w main ns h =
+refused_cycles_are_cycles {w} main {ns} h =
     let apart = passed (find (λ o. not (is_good_name (output_name w main o))) (outputs w))
     (λ o. bad_name o) (planned_apart w main) ns (λ o e. cc) h in
     let ending = passed (find (λ n. bytes_eq (name_at w n) main) (spec.files w.occurrences))
     (λ n. same_name n) (planned_ending w main) ns (λ n e. cc) apart in
     let end = ended w (record { outputs = map (output_of w main) (outputs w); no_text = has_no_text w }) ns
     (find (stuck w) (outputs w)) ending in
-    subst (IsCycle w) end.2 (stuck-cycle w end.0 (stuck-output w end.0 end.1))
+    subst (IsCycle w) end.2 (stuck-cycle end.0 (stuck-output end.1))

@@ -1,5 +1,5 @@
 -- A name without a rank uses one without a rank, and each name of a way uses the next one.
-use Rattle.cweb_out.proofs.Common.{◌≡◌, ◌<◌, ◌+◌, ℕ, zero, suc, Bool, true, false, not, cond, ◌&&◌, ◌||◌, List, [], ◌∷◌, ◌++◌, refl, sym, ◌∙◌, ap, arith, inl, inr, drop, subst, Option, Some, None, ◌⊎◌, find, IfSome, option_to_list, list_all, list_any, position_or_len, list_any-append, NameId, is_id, Token, Name, Stored, names, joined, stands, use_of, uses, has_rank, list_ends, EachUsesNext, or_cases, false_from_ne_true, or_left, or_right}
+use Rattle.cweb_out.proofs.Common.{◌≡◌, ◌<◌, ◌+◌, ℕ, zero, suc, Bool, true, false, not, cond, ◌&&◌, ◌||◌, List, [], ◌∷◌, ◌++◌, refl, sym, ◌∙◌, ap, arith, inl, inr, drop, Option, Some, None, find, IfSome, option_to_list, list_all, list_any, position_or_len, list_any-append, NameId, is_id, Token, Name, Stored, names, joined, stands, use_of, uses, has_rank, list_ends, EachUsesNext, false_from_ne_true, or_cases, or_left, or_right}
 use Rattle.cweb_store.proofs.BoundLemmas.{standing-within}
 use Rattle.cweb_out.proofs.Paths.{is-same}
 use Rattle.cweb_out.proofs.Ranks.{id-same, rank-grows, rank_by_uses}
@@ -9,8 +9,7 @@ use Rattle.cweb_out.proofs.Ranks.{id-same, rank-grows, rank_by_uses}
 option-on : (count : ℕ) (o : Option NameId) (m : NameId) → IfSome o (λ (k : NameId). k.0 < count)
     → list_any (is_id m) (option_to_list o) ≡ true → m.0 < count
 option-on count None m b h = cc
-option-on count (Some k) m b h = elim (or_cases (is_id m k) false h)
-    [ inl e ↦ subst (λ (i : NameId). i.0 < count) (sym (is-same m k e)) b | inr e ↦ cc ]
+option-on count (Some k) m b h = elim (or_cases (is_id m k) false h) [ inl e ↦ rw (is-same m k e) b | inr e ↦ cc ]
 
 use-on : (w : Stored) (t : Token) (m : NameId) → list_any (is_id m) (use_of w t) ≡ true → m.0 < names w
 use-on w (Name r) m h = option-on (names w) (stands w r) m (standing-within w.occurrences r.0) h
@@ -32,9 +31,9 @@ pub record Failing (p : NameId → Bool) (ns : List NameId) : Type 0 where
   pub rankless : p name ≡ false
   pub used : list_any (is_id name) ns ≡ true
 
-pub failing : (p : NameId → Bool) (ns : List NameId) → list_all p ns ≡ false → Failing p ns
-failing p [] h = cc
-failing p (n ∷ ns) h = by (p n) refl h (λ e. failing p ns e)
+pub failing : {p : NameId → Bool} (ns : List NameId) → list_all p ns ≡ false → Failing p ns
+failing [] h = cc
+failing {p} (n ∷ ns) h = by (p n) refl h (λ e. failing ns e)
   where
     by : (b : Bool) → p n ≡ b → (b && list_all p ns) ≡ false → (list_all p ns ≡ false → Failing p ns)
         → Failing p (n ∷ ns)
@@ -61,7 +60,7 @@ different : (a b : Bool) → a ≡ true → b ≡ false → a ≡ b → ⊥
 different a b t f e = let bad : true ≡ false = sym t ∙ e ∙ f in cc
 
 pub text-endless : (w : Stored) (n : NameId) → n.0 < names w → has_rank w n ≡ false → Endless w (joined w n)
-text-endless w n l h = failing (has_rank w) (uses w (joined w n)) (false_from_ne_true (list_ends w (joined w n))
+text-endless w n l h = failing (uses w (joined w n)) (false_from_ne_true (list_ends w (joined w n))
     (λ e. different (has_rank w n) (has_rank w n) (rank_by_uses w n l e) h refl))
 
 pub name-endless : (w : Stored) (n : NameId) → list_ends w (joined w n) ≡ false → has_rank w n ≡ false

@@ -1,5 +1,5 @@
 -- The outputs are one more than the names at most.
-use Rattle.cweb_out.proofs.Common.{◌≡◌, ◌≤◌, ◌<◌, ◌+◌, ℕ, suc, Bool, true, false, cond, ◌||◌, List, [], ◌∷◌, ◌++◌, refl, sym, arith, length, Option, Some, None, inl, inr, subst, ◌⊎◌, filter, All, if◌then◌else◌, list_any, length-map, NameId, Occurrence, Standing, is_id, with_id, with_some, with_file, files_from, Stored, names, file_outputs, outputs, AreNew, or_cases}
+use Rattle.cweb_out.proofs.Common.{◌≡◌, ◌≤◌, ◌<◌, ◌+◌, ℕ, suc, Bool, true, false, List, [], ◌∷◌, ◌++◌, refl, arith, length, Option, Some, None, inl, inr, All, if◌then◌else◌, list_any, length-map, NameId, Occurrence, Standing, is_id, with_id, with_some, with_file, files_from, Stored, names, file_outputs, outputs, AreNew, or_cases}
 use Rattle.cweb_store.specs.Names as spec
 use Rattle.cweb_store.specs.Names.{stands}
 use Rattle.cweb_store.proofs.BoundLemmas.{files-within}
@@ -34,7 +34,7 @@ at-any : (count : ℕ) (ns : List NameId) (n : NameId)
     → All (λ (m : NameId). m.0 < count) ns → list_any (is_id n) ns ≡ true → n.0 < count
 at-any count [] n a h = cc
 at-any count (m ∷ ns) n a h = elim (or_cases (is_id n m) (list_any (is_id n) ns) h) [
-  | inl e ↦ subst (λ (k : NameId). k.0 < count) (sym (is-same n m e)) (a 0 m (omega arith))
+  | inl e ↦ rw (is-same n m e) (a 0 m (omega arith))
   | inr e ↦ at-any count ns n (λ k d l. a (suc k) d (omega (arith, l))) e
 ]
 

@@ -1,5 +1,5 @@
 -- The first element that passes a test, looked for from the front.
-use Rattle.cweb_out.proofs.Common.{◌≡◌, ◌≤◌, ◌<◌, ◌+◌, ℕ, zero, suc, Bool, true, false, cond, List, [], ◌∷◌, ◌++◌, refl, sym, ◌∙◌, ap, arith, length, take, get_or, Option, Some, None, find, option_or, take_more, find-append}
+use Rattle.cweb_out.proofs.Common.{◌≡◌, ◌<◌, ◌+◌, ℕ, zero, suc, Bool, true, false, cond, List, [], ◌∷◌, ◌++◌, sym, ◌∙◌, ap, arith, length, take, get_or, Option, Some, None, find, option_or, take_more, find-append}
 
 or-none : {X : Type 0} (o later : Option X) → o ≡ None → later ≡ None → option_or o later ≡ None
 or-none None later a b = b

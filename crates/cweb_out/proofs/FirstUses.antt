@@ -1,13 +1,13 @@
 -- What comes before the first use in a list, and in a frame's.
-use Rattle.cweb_out.proofs.Common.{◌≡◌, ◌<◌, ◌||◌, Bool, true, false, List, [], ◌∷◌, ◌++◌, length, refl, sym, ◌∙◌, ap, arith, append_assoc, append-nil, length-append, list_any, list_any-append, flat_map-append, Part, Token, all_tokens, Stored, is_name, PassesNoUse, uses, use_of, defs_first, suffix, run_tokens, runs_tokens, Frame, or_from}
+use Rattle.cweb_out.proofs.Common.{◌≡◌, ◌<◌, ◌||◌, true, false, List, [], ◌∷◌, ◌++◌, length, refl, sym, ◌∙◌, ap, arith, append_assoc, length-append, list_any, list_any-append, flat_map-append, Part, Token, Stored, is_name, PassesNoUse, uses, use_of, defs_first, suffix, run_tokens, runs_tokens, Frame, or_from}
 use Rattle.cweb_store.specs.Parts as spec
 
 none-append : (ts us : List Token) → list_any is_name ts ≡ false
     → list_any is_name us ≡ false → list_any is_name (ts ++ us) ≡ false
 none-append ts us a b = list_any-append is_name ts us ∙ or_from (list_any is_name ts) (list_any is_name us) a b
 
-pub pass-on : (a b c : List Token) → PassesNoUse a b → PassesNoUse b c → PassesNoUse a c
-pass-on a b c x y = record {
+pub pass-on : {a b c : List Token} → PassesNoUse a b → PassesNoUse b c → PassesNoUse a c
+pass-on {c} x y = record {
   before = x.before ++ y.before;
   none = none-append x.before y.before x.none y.none;
   same = x.same ∙ ap (λ ts. x.before ++ ts) y.same ∙ sym (append_assoc x.before y.before c);
@@ -26,13 +26,14 @@ none-used w (t ∷ ts) h =
       | false ↦ λ e none. ap (λ ns. ns ++ uses w ts) (not-used w t e) ∙ none-used w ts none
     ]) refl h
 
-pub same-uses : (w : Stored) (old new : List Token) → PassesNoUse old new → uses w old ≡ uses w new
-same-uses w old new x =
+pub same-uses : (w : Stored) {old new : List Token} → PassesNoUse old new → uses w old ≡ uses w new
+same-uses w {new} x =
     ap (uses w) x.same ∙ flat_map-append (use_of w) x.before new
     ∙ ap (λ ns. ns ++ uses w new) (none-used w x.before x.none)
 
-pub use-shorter : (old new : List Token) (t : Token) → PassesNoUse old (t ∷ new) → length new < length old
-use-shorter old new t x = omega (arith, ap length x.same, length-append x.before (t ∷ new))
+pub use-shorter : {old : List Token} (new : List Token) (t : Token) → PassesNoUse old (t ∷ new)
+    → length new < length old
+use-shorter new t x = omega (arith, ap length x.same, length-append x.before (t ∷ new))
 
 pub pass-part : (w : Stored) (f : Frame) (q : Part) (more : List Part) → f.defs ≡ false
     → list_any is_name (run_tokens w f.part) ≡ false → f.rest ≡ q ∷ more

@@ -1,17 +1,11 @@
 -- What holds of expansion and of print whatever the web is.
-use Rattle.cweb_out.proofs.Common.{◌≡◌, ◌≤◌, ◌+◌, ◌-◌, ◌==◌, ◌&&◌, ℕ, zero, suc, Bool, true, false, cond, List, [], ◌∷◌, ◌++◌, refl, sym, ◌∙◌, ap, arith, append_assoc, append-nil, Option, None, Some, codes, decimal, fold, flat_map, option_to_list, list_all, flat_map-append, NameId, Token, Newline, Defs, Name, Stored, joined, stands, uses, use_of, ends_below, expand, name_text, put, text_for, last_is, sep, Setting, begin_line, file, file_text, kept, last_of, left_after, macro_line, macro_lines, mark_line, file_name, macro_text, is_layout, print, print_after, printed, quoted, starts_line, stays_joined, Class, class_of, separator, ReplacesUses, is_text, is_joined, print_behind, is_whole_lines, first_so, second_so, and_from}
+use Rattle.cweb_out.proofs.Common.{◌≡◌, ◌≤◌, ◌+◌, ◌-◌, ◌==◌, ◌&&◌, ℕ, zero, suc, Bool, true, false, cond, List, [], ◌∷◌, ◌++◌, refl, sym, ◌∙◌, ap, arith, append_assoc, append-nil, Option, None, Some, codes, decimal, fold, flat_map, option_to_list, list_all, flat_map-append, NameId, Token, Newline, Defs, Name, Stored, joined, stands, uses, use_of, ends_below, expand, name_text, put, text_for, last_is, sep, Setting, begin_line, file, file_text, kept, last_of, left_after, macro_line, macro_lines, mark_line, file_name, macro_text, is_layout, print, print_after, printed, quoted, starts_line, stays_joined, Class, class_of, separator, ReplacesUses, is_text, is_joined, print_behind, is_whole_lines, and_parts}
 use Rattle.cweb_store.specs.Parts.{Mark}
 use Rattle.cweb_print.specs.declared.printer.class.Class.TheVariants as class
-use Rattle.cweb_out.proofs.Ranks.{all-back, all-front, rank-grows, uses-weaker}
+use Rattle.cweb_out.proofs.Ranks.{all-append, all-parts, rank-grows, uses-weaker}
 use Rattle.cweb_print.proofs.Steps.{sep_by_class}
 
 -- EXPANSION
-
-texts-append : (xs ys : List Token) → list_all is_text xs ≡ true
-    → list_all is_text ys ≡ true → list_all is_text (xs ++ ys) ≡ true
-texts-append [] ys a b = b
-texts-append (x ∷ xs) ys a b = and_from (is_text x) (list_all is_text (xs ++ ys)) (first_so (is_text x)
-    (list_all is_text xs) a) (texts-append xs ys (second_so (is_text x) (list_all is_text xs) a) b)
 
 text_for-text : (f : NameId → List Token) (o : Option NameId)
     → ((n : NameId) → list_all is_text (f n) ≡ true) → list_all is_text (text_for f o) ≡ true
@@ -26,7 +20,8 @@ put-text w f t h = refl
 puts-text : (w : Stored) (f : NameId → List Token) (ts : List Token)
     → ((n : NameId) → list_all is_text (f n) ≡ true) → list_all is_text (flat_map (put w f) ts) ≡ true
 puts-text w f [] h = refl
-puts-text w f (t ∷ ts) h = texts-append (put w f t) (flat_map (put w f) ts) (put-text w f t h) (puts-text w f ts h)
+puts-text w f (t ∷ ts) h =
+    all-append is_text (put w f t) (flat_map (put w f) ts) (put-text w f t h) (puts-text w f ts h)
 
 name-text : (w : Stored) (k : ℕ) (n : NameId) → list_all is_text (name_text w k n) ≡ true
 name-text w zero n = refl
@@ -36,8 +31,8 @@ put-same : (w : Stored) (f : NameId → List Token) (t : Token) → is_text t �
 put-same w f (Name r) h = cc
 put-same w f t h = refl
 
-pub replaces_uses : (w : Stored) (k : ℕ) → ReplacesUses w k
-replaces_uses w k = record {
+pub replaces_uses : {w : Stored} {k : ℕ} → ReplacesUses w k
+replaces_uses {w} {k} = record {
   no_use = λ ts. puts-text w (name_text w k) ts (name-text w k);
   kept = λ before behind t h. flat_map-append (put w (name_text w k)) before (t ∷ behind)
       ∙ ap (λ (u : List Token). expand w k before ++ (u ++ expand w k behind)) (put-same w (name_text w k) t h);
@@ -54,7 +49,7 @@ AreSame p f g = (n : NameId) → p n ≡ true → f n ≡ g n
 text_for-same : (p : NameId → Bool) (f g : NameId → List Token) → AreSame p f g
     → (o : Option NameId) → list_all p (option_to_list o) ≡ true → text_for f o ≡ text_for g o
 text_for-same p f g same None h = refl
-text_for-same p f g same (Some n) h = same n (first_so (p n) true h)
+text_for-same p f g same (Some n) h = same n (and_parts (p n) true h).0
 
 puts-use : (w : Stored) (p : NameId → Bool) (f g : NameId → List Token) (t : Token)
     → AreSame p f g → list_all p (use_of w t) ≡ true → put w f t ≡ put w g t
@@ -64,9 +59,9 @@ puts-use w p f g t same h = refl
 puts-same : (w : Stored) (p : NameId → Bool) (f g : NameId → List Token) (ts : List Token)
     → AreSame p f g → list_all p (uses w ts) ≡ true → flat_map (put w f) ts ≡ flat_map (put w g) ts
 puts-same w p f g [] same h = refl
-puts-same w p f g (t ∷ ts) same h = ap
-    (λ (u : List Token). u ++ flat_map (put w f) ts) (puts-use w p f g t same (all-front p (use_of w t) (uses w ts) h))
-    ∙ ap (λ (u : List Token). put w g t ++ u) (puts-same w p f g ts same (all-back p (use_of w t) (uses w ts) h))
+puts-same w p f g (t ∷ ts) same h = ap (λ (u : List Token). u ++ flat_map (put w f) ts)
+    (puts-use w p f g t same (all-parts p (use_of w t) (uses w ts) h).0)
+    ∙ ap (λ (u : List Token). put w g t ++ u) (puts-same w p f g ts same (all-parts p (use_of w t) (uses w ts) h).1)
 
 name-same : (w : Stored) (k : ℕ) (n : NameId) → ends_below w k n ≡ true → name_text w (suc k) n ≡ name_text w k n
 name-same w zero n h = cc

@@ -5,8 +5,8 @@ use Rattle.cweb_out.proofs.Stack.{work_of-push}
 use Rattle.cweb_out.proofs.Tops.{HasTop, lower, top_ended, TopMoved, top_moved, top_read, top_written}
 
 -- a frame that was written is on top
-pub top_again : (n : ℕ) (fs : List Frame) (f g : Frame) → HasTop n fs f → HasTop n (set fs (n - 1) g) g
-top_again n fs f g h =
+pub top_again : {n : ℕ} {fs : List Frame} {f g : Frame} → HasTop n fs f → HasTop n (set fs (n - 1) g) g
+top_again {n} {fs} {g} h =
     let c = h.count in
     let some = h.some in
     let same = length-set fs (n - 1) g in
@@ -14,16 +14,16 @@ top_again n fs f g h =
     record { count = omega arith; some = omega arith; is = sym (get_or-set_same fs (n - 1) g g lt) }
 
 -- there is less to do for what is still to come of the top
-work-passed : (w : Stored) (n : ℕ) (fs : List Frame) (f g : Frame) (ts : List Token) → HasTop n fs f
+work-passed : (w : Stored) {n : ℕ} {fs : List Frame} {f : Frame} (g : Frame) (ts : List Token) → HasTop n fs f
     → suffix w f ≡ ts ++ suffix w g → work_of w (names w) (set fs (n - 1) g) ≤ work_of w (names w) fs
-work-passed w n fs f g ts h s =
+work-passed w {n} {fs} {f} g ts h s =
     let below = lower n fs in
     let k = names w - length below in
     let step : Token → ℕ = token_work w (name_work w k) in
     let before : work_of w (names w) fs ≡ list_work w k (suffix w f) + work_of w (names w) below =
-    ap (work_of w (names w)) (top_read n fs f h) ∙ work_of-push w (names w) below f in
+    ap (work_of w (names w)) (top_read h) ∙ work_of-push w (names w) below f in
     let after : work_of w (names w) (set fs (n - 1) g) ≡ list_work w k (suffix w g) + work_of w (names w) below =
-    ap (work_of w (names w)) (top_written n fs f g h) ∙ work_of-push w (names w) below g in
+    ap (work_of w (names w)) (top_written g h) ∙ work_of-push w (names w) below g in
     let apart : sum_by step (suffix w f) ≡ sum_by step ts + sum_by step (suffix w g) =
     ap (sum_by step) s ∙ sum_by-append step ts (suffix w g) in
     omega (arith, before, after, apart)
@@ -37,16 +37,16 @@ pub record TopUsed (w : Stored) (fs new : List Frame) (ts : List Token) (t : Tok
   pub work : token_work w (name_work w (level w new)) t + work_of w (names w) new ≤ work_of w (names w) fs
   pub some : 0 < length new
 
-pub top_used : (w : Stored) (n : ℕ) (fs : List Frame) (f g h : Frame) (ts : List Token) (t : Token) (room : ℕ)
+pub top_used : {w : Stored} {n : ℕ} {fs : List Frame} {f g h : Frame} {ts : List Token} {t : Token} {room : ℕ}
     → Stands w fs room → HasTop n fs f → suffix w f ≡ ts ++ suffix w g → AreLent ts → IsWithin w g → g.owner ≡ f.owner
     → suffix w g ≡ t ∷ suffix w h → IsWithin w h → h.owner ≡ g.owner → TopUsed w fs (set fs (n - 1) h) ts t room
-top_used w n fs f g h ts t room stands top s lent within owner goes within' owner' =
+top_used {w} {n} {fs} {f} {g} {h} {ts} {t} {room} stands top s lent within owner goes within' owner' =
     let mid = set fs (n - 1) g in
-    let passed = top_passed w n fs f g ts room stands top s lent within owner in
+    let passed = top_passed stands top s lent within owner in
     let same : set mid (n - 1) h ≡ set fs (n - 1) h = set-set fs (n - 1) g h in
     let moved : TopMoved w mid (set fs (n - 1) h) t room = subst (λ (new : List Frame). TopMoved w mid new t room) same
-    (top_moved w n mid mid g h t room passed.stands refl (omega arith) (top_again n fs f g top) goes within' owner') in
-    let less = work-passed w n fs f g ts top s in
+    (top_moved passed.stands refl (omega arith) (top_again top) goes within' owner') in
+    let less = work-passed w g ts top s in
     let more = moved.advances.work in
     record {
       stands = moved.stands;
@@ -63,17 +63,17 @@ pub record TopGone (w : Stored) (fs new : List Frame) (ts : List Token) (room : 
   pub left : left w fs ≡ ts ++ left w new
   pub work : work_of w (names w) new < work_of w (names w) fs
 
-pub top_gone : (w : Stored) (n : ℕ) (fs new : List Frame) (f g : Frame) (ts : List Token) (room : ℕ)
+pub top_gone : {w : Stored} {n : ℕ} {fs new : List Frame} {f g : Frame} {ts : List Token} {room : ℕ}
     → Stands w fs room → HasTop n fs f → suffix w f ≡ ts ++ suffix w g → AreLent ts → IsWithin w g
     → g.owner ≡ f.owner → suffix w g ≡ [] → new ≡ lower n fs → TopGone w fs new ts room
-top_gone w n fs new f g ts room stands top s lent within owner none is =
+top_gone {w} {n} {fs} {new} {f} {g} {ts} {room} stands top s lent within owner none is =
     let mid = set fs (n - 1) g in
-    let passed = top_passed w n fs f g ts room stands top s lent within owner in
+    let passed = top_passed stands top s lent within owner in
     let same : lower n mid ≡ lower n fs = take-set fs (n - 1) g in
-    let ended = top_ended w n mid new g room passed.stands (top_again n fs f g top) none (is ∙ sym same) in
+    let ended = top_ended passed.stands (top_again top) none (is ∙ sym same) in
     let below = lower n fs in
     let whole : work_of w (names w) fs ≡ list_work w (names w - length below) (suffix w f) + work_of w (names w) below =
-    ap (work_of w (names w)) (top_read n fs f top)
+    ap (work_of w (names w)) (top_read top)
     ∙ work_of-push w (names w) below f in
     let rest = ap (work_of w (names w)) is in
     record {

@@ -1,6 +1,6 @@
 -- The owners of frames: the ranks of their lists, and what of them was given.
-use Rattle.cweb_out.proofs.Common.{◌≡◌, ◌≤◌, ◌<◌, ◌+◌, ◌-◌, ℕ, zero, suc, Bool, true, false, List, [], ◌∷◌, ◌++◌, refl, sym, ◌∙◌, ap, arith, append_assoc, subst, Option, Some, None, option_to_list, list_all, NameId, NameRef, Token, Name, Stored, names, use_of, uses, stands, joined, ends_below, least, list_ends, name_rank, root_list, Frame, suffix, rank, top_rank, AreBelow, AreOwned, IsOwned, UsesLower, first_so}
-use Rattle.cweb_out.proofs.Ranks.{all-back, all-front, grows-more}
+use Rattle.cweb_out.proofs.Common.{◌≡◌, ◌≤◌, ◌<◌, ◌+◌, ◌-◌, ℕ, zero, suc, Bool, true, false, List, [], ◌∷◌, ◌++◌, refl, sym, ◌∙◌, ap, arith, append_assoc, subst, Option, Some, None, option_to_list, list_all, NameId, NameRef, Token, Name, Stored, names, use_of, uses, stands, joined, ends_below, least, list_ends, name_rank, root_list, Frame, suffix, rank, top_rank, AreBelow, AreOwned, IsOwned, UsesLower, and_parts}
+use Rattle.cweb_out.proofs.Ranks.{all-parts, grows-more}
 
 least-le : (test : ℕ → Bool) (n k : ℕ) → test k ≡ true → least test n ≤ k
 least-le test zero k h = omega arith
@@ -43,20 +43,20 @@ pub top_rank-push : (w : Stored) (above : ℕ) (fs : List Frame) (f : Frame)
 top_rank-push w above [] f = refl
 top_rank-push w above (g ∷ fs) f = top_rank-push w (rank w g.owner) fs f
 
-pub AreOwned-push : (w : Stored) (above : ℕ) (fs : List Frame) (f : Frame) → OnTop w above fs f
+pub AreOwned-push : {w : Stored} (above : ℕ) (fs : List Frame) {f : Frame} → OnTop w above fs f
     → AreOwned w above (fs ++ f ∷ [])
-AreOwned-push w above [] f t = (t.owned, t.lower, tt)
-AreOwned-push w above (g ∷ fs) f t = (
+AreOwned-push above [] t = (t.owned, t.lower, tt)
+AreOwned-push {w} above (g ∷ fs) t = (
   t.below.0,
   t.below.1,
-  AreOwned-push w (rank w g.owner) fs f (record { below = t.below.2; owned = t.owned; lower = t.lower }),
+  AreOwned-push (rank w g.owner) fs (record { below = t.below.2; owned = t.owned; lower = t.lower }),
 )
 
-pub AreOwned-pop : (w : Stored) (above : ℕ) (fs : List Frame) (f : Frame) → AreOwned w above (fs ++ f ∷ [])
+pub AreOwned-pop : {w : Stored} (above : ℕ) (fs : List Frame) {f : Frame} → AreOwned w above (fs ++ f ∷ [])
     → OnTop w above fs f
-AreOwned-pop w above [] f h = record { below = tt; owned = h.0; lower = h.1 }
-AreOwned-pop w above (g ∷ fs) f h =
-    let t = AreOwned-pop w (rank w g.owner) fs f h.2 in
+AreOwned-pop above [] h = record { below = tt; owned = h.0; lower = h.1 }
+AreOwned-pop {w} above (g ∷ fs) h =
+    let t = AreOwned-pop (rank w g.owner) fs h.2 in
     record { below = (h.0, h.1, t.below); owned = t.owned; lower = t.lower }
 
 uses-append : (w : Stored) (xs ys : List Token) → uses w (xs ++ ys) ≡ uses w xs ++ uses w ys
@@ -65,9 +65,9 @@ uses-append w (x ∷ xs) ys = ap (λ (ns : List NameId). use_of w x ++ ns) (uses
     ∙ sym (append_assoc (use_of w x) (uses w xs) (uses w ys))
 
 -- a token of the list was given
-pub OnTop-next : (w : Stored) (above : ℕ) (fs : List Frame) (f g : Frame) (t : Token) → suffix w f ≡ t ∷ suffix w g
+pub OnTop-next : {w : Stored} {above : ℕ} {fs : List Frame} {f g : Frame} (t : Token) → suffix w f ≡ t ∷ suffix w g
     → g.owner ≡ f.owner → OnTop w above fs f → OnTop w above fs g × AreBelow w (rank w g.owner) (use_of w t)
-OnTop-next w above fs f g t s o h =
+OnTop-next {w} {above} {fs} {g} t s o h =
     let list : root_list w g.owner ≡ h.owned.given ++ (t ∷ suffix w g) =
     ap (root_list w) o ∙ h.owned.list ∙ ap (λ (ts : List Token). h.owned.given ++ ts) s in
     let ends : list_ends w (root_list w g.owner) ≡ true =
@@ -83,26 +83,27 @@ OnTop-next w above fs f g t s o h =
           list = list ∙ sym (append_assoc h.owned.given (t ∷ []) (suffix w g));
           ends = ends;
         };
-        lower = subst (λ (p : Option NameId). rank w p < top_rank w above fs) (sym o) h.lower;
+        lower = rw o h.lower;
       },
-      all-front test (use_of w t) (uses w (suffix w g))
-          (all-back test (uses w h.owned.given) (use_of w t ++ uses w (suffix w g)) split),
+      (all-parts test (use_of w t) (uses w (suffix w g))
+          (all-parts test (uses w h.owned.given) (use_of w t ++ uses w (suffix w g)) split).1).0,
     )
 
 -- the first frame
-pub OnTop-first : (w : Stored) (f : Frame) → root_list w f.owner ≡ suffix w f
+pub OnTop-first : {w : Stored} {f : Frame} → root_list w f.owner ≡ suffix w f
     → AreBelow w (names w) (uses w (root_list w f.owner)) → OnTop w (names w + 1) [] f
-OnTop-first w f l b = record { below = tt; owned = record { given = []; list = l; ends = b }; lower = within f.owner b }
+OnTop-first {w} {f} l b =
+    record { below = tt; owned = record { given = []; list = l; ends = b }; lower = within f.owner b }
   where
     within : (o : Option NameId) → AreBelow w (names w) (uses w (root_list w o)) → rank w o < names w + 1
     within None h = omega arith
     within (Some n) h = let le = least-le (λ k. ends_below w (suc k) n) (names w) (names w) h in omega (arith, le)
 
 -- the frame of a name that the top frame's list uses
-pub OnTop-entered : (w : Stored) (fs : List Frame) (g : Frame) (r : NameRef) (m : NameId) (k : ℕ)
+pub OnTop-entered : {w : Stored} {fs : List Frame} {g : Frame} (r : NameRef) (m : NameId) (k : ℕ)
     → AreOwned w (names w + 1) fs → k ≤ names w + 1 → ends_below w k m ≡ true → UsesLower w fs (Name r)
     → stands w r ≡ Some m → g.owner ≡ Some m → joined w m ≡ suffix w g → OnTop w (names w + 1) fs g
-OnTop-entered w fs g r m k below le ends lower e o text =
+OnTop-entered {w} {fs} r m k below le ends lower e o text =
     let top : ℕ = top_rank w (names w + 1) fs in
     let used : list_all (ends_below w top) (m ∷ []) ≡ true =
     subst (λ p. list_all (ends_below w top) (option_to_list p) ≡ true) e lower in
@@ -116,5 +117,5 @@ OnTop-entered w fs g r m k below le ends lower e o text =
             ∙ grows-more w (suc (names w) - k) k m ends;
       };
       lower = subst (λ (p : Option NameId). rank w p < top) (sym o)
-          (rank-below w top m (first_so (ends_below w top m) true used));
+          (rank-below w top m (and_parts (ends_below w top m) true used).0);
     }

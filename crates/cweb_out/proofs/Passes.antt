@@ -1,5 +1,5 @@
 -- The top frame of a stack passes tokens that lend their texts.
-use Rattle.cweb_out.proofs.Common.{◌≡◌, ◌≤◌, ◌<◌, ◌+◌, ◌-◌, ◌++◌, ◌∷◌, [], ℕ, List, length, take, drop, slice_range, true, false, refl, sym, ◌∙◌, ap, arith, subst, append_assoc, list_all, set, take-add, drop-drop, NameId, Token, all_tokens, Stored, names, uses, ends_below, list_ends, expand, name_text, defs_first, root_list, Frame, suffix, left, rank, top_rank, IsWithin, Stands, run_tokens, runs_tokens, AreLent}
+use Rattle.cweb_out.proofs.Common.{◌≡◌, ◌≤◌, ◌-◌, ◌++◌, ◌∷◌, [], ℕ, List, length, slice_range, false, refl, sym, ◌∙◌, ap, append_assoc, set, Token, all_tokens, Stored, names, uses, expand, name_text, defs_first, root_list, Frame, suffix, left, IsWithin, Stands, run_tokens, runs_tokens, AreLent}
 use Rattle.cweb_store.proofs.RangeLemmas.{range-split}
 use Rattle.cweb_out.proofs.Owners.{OnTop}
 use Rattle.cweb_out.proofs.Passing.{put-all-lent, uses-lent}
@@ -24,26 +24,25 @@ suffix-passed w f n none from upto =
     ∙ append_assoc passed still (runs_tokens w f.rest)
     ∙ ap (λ b. passed ++ (defs_first b ++ (still ++ runs_tokens w f.rest))) (sym none)
 
-Top-passed : (w : Stored) (k : ℕ) (fs : List Frame) (f g : Frame) (ts : List Token) → suffix w f ≡ ts ++ suffix w g
+Top-passed : {w : Stored} {k : ℕ} {fs : List Frame} {f g : Frame} (ts : List Token) → suffix w f ≡ ts ++ suffix w g
     → AreLent ts → IsWithin w g → Top w k fs f → Top w k fs g
-Top-passed w k fs f g ts s lent within h = record {
+Top-passed {w} {k} {fs} {g} ts s lent within h = record {
   ranked = h.ranked;
   within = within;
-  below = subst (λ (ns : List NameId). list_all (ends_below w (k - length fs)) ns ≡ true)
-      (ap (uses w) s ∙ uses-lent w ts (suffix w g) lent) h.below;
+  below = rw (← (ap (uses w) s ∙ uses-lent w ts (suffix w g) lent)) h.below;
 }
 
-OnTop-passed : (w : Stored) (above : ℕ) (fs : List Frame) (f g : Frame) (ts : List Token)
+OnTop-passed : {w : Stored} {above : ℕ} {fs : List Frame} {f g : Frame} (ts : List Token)
     → suffix w f ≡ ts ++ suffix w g → g.owner ≡ f.owner → OnTop w above fs f → OnTop w above fs g
-OnTop-passed w above fs f g ts s o h = record {
+OnTop-passed {w} {above} {fs} {g} ts s o h = record {
   below = h.below;
   owned = record {
     given = h.owned.given ++ ts;
     list = ap (root_list w) o ∙ h.owned.list ∙ ap (λ (us : List Token). h.owned.given ++ us) s
         ∙ sym (append_assoc h.owned.given ts (suffix w g));
-    ends = subst (λ p. list_ends w (root_list w p) ≡ true) (sym o) h.owned.ends;
+    ends = rw o h.owned.ends;
   };
-  lower = subst (λ p. rank w p < top_rank w above fs) (sym o) h.lower;
+  lower = rw o h.lower;
 }
 
 -- the top passed tokens
@@ -51,19 +50,18 @@ pub record TopPassed (w : Stored) (fs new : List Frame) (ts : List Token) (room 
   pub stands : Stands w new room
   pub left : left w fs ≡ ts ++ left w new
 
-pub top_passed : (w : Stored) (n : ℕ) (fs : List Frame) (f g : Frame) (ts : List Token) (room : ℕ)
+pub top_passed : {w : Stored} {n : ℕ} {fs : List Frame} {f g : Frame} {ts : List Token} {room : ℕ}
     → Stands w fs room → HasTop n fs f → suffix w f ≡ ts ++ suffix w g → AreLent ts
     → IsWithin w g → g.owner ≡ f.owner → TopPassed w fs (set fs (n - 1) g) ts room
-top_passed w n fs f g ts room s h goes lent i o =
+top_passed {w} {n} {fs} {f} {g} {ts} {room} s h goes lent i o =
     let below : List Frame = lower n fs in
-    let both : fs ≡ below ++ f ∷ [] = top_read n fs f h in
-    let after : set fs (n - 1) g ≡ below ++ g ∷ [] = top_written n fs f g h in
-    let p = stands_lower w n fs f room s h in
+    let both : fs ≡ below ++ f ∷ [] = top_read h in
+    let after : set fs (n - 1) g ≡ below ++ g ∷ [] = top_written g h in
+    let p = stands_lower s h in
     let k : ℕ = names w - length below in
     record {
-      stands = Stands-push w
-          (set fs (n - 1) g) below g room room after refl p.0 (Top-passed w (names w) below f g ts goes lent i p.1) p.2
-          (OnTop-passed w (names w + 1) below f g ts goes o p.3);
+      stands = Stands-push after refl p.0 (Top-passed ts goes lent i p.1) p.2
+          (OnTop-passed ts goes o p.3);
       left =
           ap (left w) both ∙ left_of-push w (names w) below f
           ∙ ap (λ (us : List Token). expand w k us ++ left w below) goes

@@ -2,22 +2,22 @@
 use Rattle.cweb_out.proofs.Common.{◌≡◌, Bool, true, false, ◌||◌, List, [], ◌∷◌, ◌++◌, refl, sym, ◌∙◌, ap, inl, inr, append-nil, append_assoc, Option, Some, None, ◌⊎◌, list_any, eqb_tells, list_any-append, NameId, id, is_id, Stored, joined, has_rank, IsWithin, Waiting, AreNew, AreWithin, Begins, Chain, Looked, path_of}
 use Rattle.cweb_out.proofs.Lookings.{looked-on}
 
-pub chain-push : (w : Stored) (path : List Waiting) (f : Waiting) (last : Option NameId)
+pub chain-push : {w : Stored} (path : List Waiting) (f : Waiting) {last : Option NameId}
     → Chain w path (Some f.name) → Looked w (joined w f.name) f.text last → Chain w (path ++ f ∷ []) last
-chain-push w [] f last c l = (l, tt)
-chain-push w (g ∷ []) f last c l = (c.0, (l, tt))
-chain-push w (g ∷ h ∷ path) f last c l = (c.0, chain-push w (h ∷ path) f last c.1 l)
+chain-push [] f c l = (l, tt)
+chain-push (g ∷ []) f c l = (c.0, (l, tt))
+chain-push {w} (g ∷ h ∷ path) f {last} c l = (c.0, chain-push (h ∷ path) f c.1 l)
 
-pub chain-pop : (w : Stored) (path : List Waiting) (f : Waiting) (last : Option NameId)
+pub chain-pop : {w : Stored} (path : List Waiting) (f : Waiting) {last : Option NameId}
     → Chain w (path ++ f ∷ []) last → Chain w path (Some f.name) × Looked w (joined w f.name) f.text last
-chain-pop w [] f last c = (tt, c.0)
-chain-pop w (g ∷ []) f last c = ((c.0, tt), c.1.0)
-chain-pop w (g ∷ h ∷ path) f last c = let r = chain-pop w (h ∷ path) f last c.1 in ((c.0, r.0), r.1)
+chain-pop [] f c = (tt, c.0)
+chain-pop (g ∷ []) f c = ((c.0, tt), c.1.0)
+chain-pop {w} (g ∷ h ∷ path) f {last} c = let r = chain-pop (h ∷ path) f c.1 in ((c.0, r.0), r.1)
 
 pub chain-on : (w : Stored) (path : List Waiting) (n : NameId)
     → has_rank w n ≡ true → Chain w path (Some n) → Chain w path None
 chain-on w [] n h c = tt
-chain-on w (g ∷ []) n h c = (looked-on w (joined w g.name) g.text n h c.0, tt)
+chain-on w (g ∷ []) n h c = (looked-on n h c.0, tt)
 chain-on w (g ∷ k ∷ path) n h c = (c.0, chain-on w (k ∷ path) n h c.1)
 
 pub begins-pop : (w : Stored) (path : List Waiting) (f : Waiting) (n : NameId)
@@ -52,12 +52,9 @@ new-pop seen (m ∷ ns) n a =
     let r = new-pop (seen ++ m ∷ []) ns n a.1 in
     ((a.0, r.0), ap (list_any (is_id n)) (sym (append_assoc seen (m ∷ []) ns)) ∙ r.1)
 
-pub same-id : (n m : NameId) → n.0 ≡ m.0 → n ≡ m
-same-id n m e = ap id e
-
 pub is-same : (n m : NameId) → is_id n m ≡ true → n ≡ m
 is-same n m h =
-    elim (eqb_tells n.0 m.0) [ inl e ↦ same-id n m e.1 | inr e ↦ let bad : true ≡ false = sym h ∙ e.0 in cc ]
+    elim (eqb_tells n.0 m.0) [ inl e ↦ ap id e.1 | inr e ↦ let bad : true ≡ false = sym h ∙ e.0 in cc ]
 
 pub on-pushed : (ns : List NameId) (n m : NameId)
     → list_any (is_id n) (ns ++ m ∷ []) ≡ (list_any (is_id n) ns || (is_id n m || false))
@@ -68,12 +65,12 @@ split-or true b h = inl refl
 split-or false true h = inr refl
 split-or false false h = cc
 
-pub within-push : (w : Stored) (path : List Waiting) (f : Waiting)
+pub within-push : {w : Stored} (path : List Waiting) (f : Waiting)
     → AreWithin w path → IsWithin w f.text → AreWithin w (path ++ f ∷ [])
-within-push w [] f a h = (h, tt)
-within-push w (g ∷ path) f a h = (a.0, within-push w path f a.1 h)
+within-push [] f a h = (h, tt)
+within-push {w} (g ∷ path) f a h = (a.0, within-push path f a.1 h)
 
-pub within-pop : (w : Stored) (path : List Waiting) (f : Waiting)
+pub within-pop : {w : Stored} (path : List Waiting) (f : Waiting)
     → AreWithin w (path ++ f ∷ []) → AreWithin w path × IsWithin w f.text
-within-pop w [] f a = (tt, a.0)
-within-pop w (g ∷ path) f a = let r = within-pop w path f a.1 in ((a.0, r.0), r.1)
+within-pop [] f a = (tt, a.0)
+within-pop {w} (g ∷ path) f a = let r = within-pop path f a.1 in ((a.0, r.0), r.1)

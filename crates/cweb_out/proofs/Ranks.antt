@@ -1,5 +1,5 @@
 -- More depth changes nothing: a rank is below the number of names.
-use Rattle.cweb_out.proofs.Common.{◌≡◌, ◌≤◌, ◌<◌, ◌+◌, ℕ, zero, suc, Bool, true, false, cond, ◌&&◌, ◌||◌, List, [], ◌∷◌, ◌++◌, refl, sym, ◌∙◌, ap, arith, length, inl, inr, ◌⊎◌, Option, Some, None, IfSome, option_to_list, list_all, list_any, eqb_tells, list_any-append, NameId, id, is_id, Token, Name, Stored, names, joined, uses, use_of, stands, ends_below, has_rank, AreNew, first_so, second_so, and_from, or_left, or_right}
+use Rattle.cweb_out.proofs.Common.{◌≡◌, ◌≤◌, ◌<◌, ◌+◌, ℕ, zero, suc, Bool, true, false, cond, ◌||◌, List, [], ◌∷◌, ◌++◌, refl, sym, ◌∙◌, ap, arith, length, inl, inr, ◌⊎◌, Option, Some, None, IfSome, option_to_list, list_all, list_any, eqb_tells, list_any-append, NameId, id, is_id, Token, Name, Stored, names, joined, uses, use_of, stands, ends_below, has_rank, AreNew, and_from, and_parts, cases_lt, list_all-append, or_left, or_right, true_from_ne_false}
 use Rattle.cweb_store.proofs.BoundLemmas.{standing-within}
 
 -- how many numbers below n pass a test
@@ -13,64 +13,48 @@ counted-le f (suc n) =
     let h = counted-le f n in
     elim (f n) as (λ b. cond b 1 0 + counted f n ≤ suc n) [ true ↦ omega arith | false ↦ omega arith ]
 
-step-le : (a b : Bool) (x y : ℕ) → (a ≡ true → b ≡ true) → x ≤ y → cond a 1 0 + x ≤ cond b 1 0 + y
-step-le true true x y w h = omega (arith, h)
-step-le true false x y w h = let bad : false ≡ true = w refl in cc
-step-le false true x y w h = omega (arith, h)
-step-le false false x y w h = omega (arith, h)
-
-step-lt : (a b : Bool) (x y : ℕ) → (a ≡ true → b ≡ true) → x < y → cond a 1 0 + x < cond b 1 0 + y
-step-lt true true x y w h = omega (arith, h)
-step-lt true false x y w h = let bad : false ≡ true = w refl in cc
-step-lt false true x y w h = omega (arith, h)
-step-lt false false x y w h = omega (arith, h)
-
-step-new : (a b : Bool) (x y : ℕ) → a ≡ false → b ≡ true → x ≤ y → cond a 1 0 + x < cond b 1 0 + y
-step-new true b x y e f h = cc
-step-new false true x y e f h = omega (arith, h)
-step-new false false x y e f h = cc
+bit-le : (a b : Bool) → (a ≡ true → b ≡ true) → cond a 1 0 ≤ cond b 1 0
+bit-le true b w = rw (w refl) (omega arith)
+bit-le false b w = omega arith
 
 counted-grows : (f g : ℕ → Bool) (n : ℕ) → ((i : ℕ) → i < n → f i ≡ true → g i ≡ true) → counted f n ≤ counted g n
 counted-grows f g zero w = omega arith
-counted-grows f g (suc n) w = step-le
-    (f n) (g n) (counted f n) (counted g n) (w n (omega arith)) (counted-grows f g n (λ i l. w i (omega (arith, l))))
+counted-grows f g (suc n) w =
+    omega (arith, bit-le (f n) (g n) (w n (omega arith)), counted-grows f g n (λ i l. w i (omega (arith, l))))
 
 -- a weaker test that one number more passes
 counted-more : (f g : ℕ → Bool) (n j : ℕ) → ((i : ℕ) → i < n → f i ≡ true → g i ≡ true)
     → j < n → f j ≡ false → g j ≡ true → counted f n < counted g n
 counted-more f g zero j w l a b = absurd (omega (arith, l))
 counted-more f g (suc n) j w l a b = elim (eqb_tells j n) [
-  | inl e ↦ step-new (f n) (g n) (counted f n)
-      (counted g n) (ap f (sym e.1) ∙ a) (ap g (sym e.1) ∙ b) (counted-grows f g n (λ i k. w i (omega (arith, k))))
-  | inr e ↦ step-lt (f n) (g n) (counted f n) (counted g n)
-      (w n (omega arith)) (counted-more f g n j (λ i k. w i (omega (arith, k))) (omega (arith, l, e.1)) a b)
+  | inl e ↦
+      let new : cond (f n) 1 0 < cond (g n) 1 0 = rw (ap f (sym e.1) ∙ a, ap g (sym e.1) ∙ b) (omega arith) in
+      omega (arith, new, counted-grows f g n (λ i k. w i (omega (arith, k))))
+  | inr e ↦ omega (
+    arith,
+    bit-le (f n) (g n) (w n (omega arith)),
+    counted-more f g n j (λ i k. w i (omega (arith, k))) (omega (arith, l, e.1)) a b,
+  )
 ]
 
 option-weaker : (p q : NameId → Bool) (n : ℕ) (o : Option NameId)
     → IfSome o (λ (m : NameId). m.0 < n) → ((m : NameId) → m.0 < n → p m ≡ true → q m ≡ true)
     → list_all p (option_to_list o) ≡ true → list_all q (option_to_list o) ≡ true
 option-weaker p q n None b w h = refl
-option-weaker p q n (Some m) b w h = and_from (q m) true (w m b (first_so (p m) true h)) refl
+option-weaker p q n (Some m) b w h = and_from (q m) true (w m b (and_parts (p m) true h).0) refl
 
 use-weaker : (w : Stored) (p q : NameId → Bool) (t : Token) → ((m : NameId) → m.0 < names w → p m ≡ true → q m ≡ true)
     → list_all p (use_of w t) ≡ true → list_all q (use_of w t) ≡ true
 use-weaker w p q (Name r) f h = option-weaker p q (names w) (stands w r) (standing-within w.occurrences r.0) f h
 use-weaker w p q t f h = refl
 
-pub all-append : (p : NameId → Bool) (xs ys : List NameId)
+pub all-append : {X : Type 0} (p : X → Bool) (xs ys : List X)
     → list_all p xs ≡ true → list_all p ys ≡ true → list_all p (xs ++ ys) ≡ true
-all-append p [] ys a b = b
-all-append p (x ∷ xs) ys a b = and_from (p x) (list_all p (xs ++ ys))
-    (first_so (p x) (list_all p xs) a) (all-append p xs ys (second_so (p x) (list_all p xs) a) b)
+all-append p xs ys a b = list_all-append p xs ys ∙ and_from (list_all p xs) (list_all p ys) a b
 
-pub all-front : (p : NameId → Bool) (xs ys : List NameId) → list_all p (xs ++ ys) ≡ true → list_all p xs ≡ true
-all-front p [] ys h = refl
-all-front p (x ∷ xs) ys h = and_from (p x) (list_all p xs)
-    (first_so (p x) (list_all p (xs ++ ys)) h) (all-front p xs ys (second_so (p x) (list_all p (xs ++ ys)) h))
-
-pub all-back : (p : NameId → Bool) (xs ys : List NameId) → list_all p (xs ++ ys) ≡ true → list_all p ys ≡ true
-all-back p [] ys h = h
-all-back p (x ∷ xs) ys h = all-back p xs ys (second_so (p x) (list_all p (xs ++ ys)) h)
+pub all-parts : {X : Type 0} (p : X → Bool) (xs ys : List X)
+    → list_all p (xs ++ ys) ≡ true → (list_all p xs ≡ true) × (list_all p ys ≡ true)
+all-parts p xs ys h = and_parts (list_all p xs) (list_all p ys) (sym (list_all-append p xs ys) ∙ h)
 
 -- what holds of each name holds of the names that a list uses
 pub uses-weaker : (w : Stored) (p q : NameId → Bool) (ts : List Token)
@@ -78,7 +62,7 @@ pub uses-weaker : (w : Stored) (p q : NameId → Bool) (ts : List Token)
     → list_all p (uses w ts) ≡ true → list_all q (uses w ts) ≡ true
 uses-weaker w p q [] f h = refl
 uses-weaker w p q (t ∷ ts) f h = all-append q (use_of w t) (uses w ts) (use-weaker w p q t f
-    (all-front p (use_of w t) (uses w ts) h)) (uses-weaker w p q ts f (all-back p (use_of w t) (uses w ts) h))
+    (all-parts p (use_of w t) (uses w ts) h).0) (uses-weaker w p q ts f (all-parts p (use_of w t) (uses w ts) h).1)
 
 -- what has a rank below k + 1 has one below k
 abbrev IsStill : Stored → ℕ → Type 0
@@ -96,30 +80,21 @@ still-next w k s m l h = uses-weaker w (ends_below w (suc k)) (ends_below w k) (
 abbrev ranked_below : Stored → ℕ → ℕ
 ranked_below w k = counted (λ i. ends_below w k (id i)) (names w)
 
-by-test : (a b : Bool) → (a ≡ false → b ≡ true → ⊥) → b ≡ true → a ≡ true
-by-test true b h e = refl
-by-test false b h e = absurd (h refl e)
-
 -- where no name more has a rank, none has at any greater depth
 still-at : (w : Stored) (k : ℕ) → ranked_below w (suc k) ≤ ranked_below w k → IsStill w k
-still-at w k le m l = by-test (ends_below w k m) (ends_below w (suc k) m) (λ a b.
+still-at w k le m l b = true_from_ne_false (ends_below w k m) (λ a.
     let more = counted-more (λ i. ends_below w k (id i))
     (λ i. ends_below w (suc k) (id i)) (names w) m.0 (λ i j. rank-grows w k (id i)) l a b in
     omega (arith, le, more))
 
-pub either : (a b : ℕ) → (a ≤ b) ⊎ (b < a)
-either zero b = inl (omega arith)
-either (suc a) zero = inr (omega arith)
-either (suc a) (suc b) = elim (either a b) [ inl h ↦ inl (omega (arith, h)) | inr h ↦ inr (omega (arith, h)) ]
-
 -- with each depth a name more has a rank, until none has
 reach : (w : Stored) (k : ℕ) → IsStill w k ⊎ (k < ranked_below w (suc k))
-reach w zero = elim
-    (either (ranked_below w 1) (ranked_below w 0)) [ inl h ↦ inl (still-at w zero h) | inr h ↦ inr (omega (arith, h)) ]
+reach w zero = elim (cases_lt (ranked_below w 0) (ranked_below w 1))
+    [ inl h ↦ inr (omega (arith, h)) | inr h ↦ inl (still-at w zero h) ]
 reach w (suc k) = elim (reach w k) [
   | inl s ↦ inl (still-next w k s)
-  | inr h ↦ elim (either (ranked_below w (suc (suc k))) (ranked_below w (suc k)))
-      [ inl e ↦ inl (still-at w (suc k) e) | inr e ↦ inr (omega (arith, h, e)) ]
+  | inr h ↦ elim (cases_lt (ranked_below w (suc k)) (ranked_below w (suc (suc k))))
+      [ inl e ↦ inr (omega (arith, h, e)) | inr e ↦ inl (still-at w (suc k) e) ]
 ]
 
 still : (w : Stored) → IsStill w (names w)

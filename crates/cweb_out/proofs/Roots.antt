@@ -1,5 +1,5 @@
 -- In a plan that was made, the names that an output's list uses have ranks.
-use Rattle.cweb_out.proofs.Common.{◌≡◌, ◌<◌, ℕ, zero, suc, Bool, true, false, not, List, [], ◌∷◌, refl, sym, ◌∙◌, ap, subst, Option, Some, None, map, length, arith, cond, slice_index_or, Result, Ok, Err, find, bytes_eq, get_or-map, length-map, Stored, names, uses, list_ends, AreBelow, Output, Planned, Refusal, bad_name, same_name, cycle, outputs, root_list, output_of, output_name, name_at, is_good_name, planned_apart, planned_ending, has_no_text, start_of, root_at, IsPlanOf, cycle_from}
+use Rattle.cweb_out.proofs.Common.{◌≡◌, ◌<◌, ℕ, zero, suc, Bool, true, false, not, List, [], ◌∷◌, refl, sym, ◌∙◌, ap, Option, Some, None, map, length, arith, cond, slice_index_or, Result, Ok, Err, find, bytes_eq, get_or-map, length-map, Stored, names, uses, list_ends, AreBelow, Output, Planned, Refusal, bad_name, same_name, cycle, outputs, root_list, output_of, output_name, name_at, is_good_name, planned_apart, planned_ending, has_no_text, start_of, root_at, IsPlanOf, cycle_from}
 use Rattle.cweb_store.specs.Names as spec
 
 abbrev outcome : {A : Type 0} → Option A → (A → Refusal) → Result Planned Refusal → Result Planned Refusal
@@ -42,5 +42,4 @@ root_below w p number made lt =
     ap (λ (os : List Output). root_at os number) (sym are)
     ∙ ap (λ (o : Output). o.root)
     (get_or-map (output_of w main) (outputs w) number None (record { name = []; root = None }) within) in
-    subst (λ o. AreBelow w (names w) (uses w (root_list w o)))
-    (sym root) (found_none (λ o. list_ends w (root_list w o)) (outputs w) number None ends.0 within)
+    rw root (found_none (λ o. list_ends w (root_list w o)) (outputs w) number None ends.0 within)

@@ -1,35 +1,26 @@
 -- What a stack gives, and its bounds, as a frame is put on top and taken away.
-use Rattle.cweb_out.proofs.Common.{◌≡◌, ◌≤◌, ◌<◌, ◌+◌, ◌-◌, ℕ, zero, suc, [], ◌∷◌, ◌++◌, List, length, refl, sym, ◌∙◌, ap, arith, append_assoc, append-nil, length-append, true, false, Bool, ◌&&◌, subst, sum_by, list_all, sum_by-cons, NameId, Token, Stored, names, use_of, uses, joined, ends_below, expand, name_text, put, Frame, suffix, left_of, work_of, list_work, AreOwned, AreRanked, AreBelow, IsWithin, Stands, UsesLower, Advances, left, level, name_work, token_work, first_so, second_so}
+use Rattle.cweb_out.proofs.Common.{◌≡◌, ◌≤◌, ◌<◌, ◌+◌, ◌-◌, ℕ, zero, suc, [], ◌∷◌, ◌++◌, List, length, refl, sym, ◌∙◌, ap, arith, append_assoc, append-nil, length-append, true, subst, sum_by, list_all, sum_by-cons, NameId, Token, Stored, names, use_of, uses, joined, ends_below, expand, name_text, put, Frame, suffix, left_of, work_of, list_work, AreOwned, AreRanked, AreBelow, IsWithin, Stands, UsesLower, Advances, left, level, name_work, token_work}
+use Rattle.cweb_out.proofs.Ranks.{all-parts}
 use Rattle.cweb_out.proofs.Owners.{OnTop, AreOwned-pop, AreOwned-push}
-use Rattle.cweb_out.proofs.Ranks.{all-front, all-back}
 
 pub left_of-push : (w : Stored) (k : ℕ) (fs : List Frame) (f : Frame)
     → left_of w k (fs ++ f ∷ []) ≡ expand w (k - length fs) (suffix w f) ++ left_of w k fs
 left_of-push w zero [] f = sym (append-nil _)
-left_of-push w (suc k) [] f =
-    let n : suc k - 0 ≡ suc k = omega arith in sym (append-nil _ ∙ ap (λ n. expand w n (suffix w f)) n)
+left_of-push w (suc k) [] f = let n : suc k - 0 ≡ suc k = omega arith in rw n (sym (append-nil _))
 left_of-push w zero (g ∷ fs) f =
-    let n : zero - length fs ≡ zero - suc (length fs) = omega arith in
-    ap (λ ts. ts ++ expand w zero (suffix w g)) (left_of-push w zero fs f)
-    ∙ append_assoc (expand w (zero - length fs) (suffix w f)) (left_of w zero fs) (expand w zero (suffix w g))
-    ∙ ap (λ n. expand w n (suffix w f) ++ left_of w zero (g ∷ fs)) n
+    let n : zero - suc (length fs) ≡ zero - length fs = omega arith in rw (left_of-push w zero fs f, append_assoc, n)
 left_of-push w (suc k) (g ∷ fs) f =
-    let n : k - length fs ≡ suc k - suc (length fs) = omega arith in
-    ap (λ ts. ts ++ expand w (suc k) (suffix w g)) (left_of-push w k fs f)
-    ∙ append_assoc (expand w (k - length fs) (suffix w f)) (left_of w k fs) (expand w (suc k) (suffix w g))
-    ∙ ap (λ n. expand w n (suffix w f) ++ left_of w (suc k) (g ∷ fs)) n
+    let n : suc k - suc (length fs) ≡ k - length fs = omega arith in rw (left_of-push w k fs f, append_assoc, n)
 
 pub work_of-push : (w : Stored) (k : ℕ) (fs : List Frame) (f : Frame)
     → work_of w k (fs ++ f ∷ []) ≡ list_work w (k - length fs) (suffix w f) + work_of w k fs
 work_of-push w zero [] f = omega arith
-work_of-push w (suc k) [] f =
-    let n : suc k - 0 ≡ suc k = omega arith in let e = ap (λ n. list_work w n (suffix w f)) n in omega arith
+work_of-push w (suc k) [] f = let n : suc k - 0 ≡ suc k = omega arith in rw n (omega arith)
 work_of-push w zero (g ∷ fs) f =
-    let n : zero - length fs ≡ zero - suc (length fs) = omega arith in
-    let e = ap (λ n. list_work w n (suffix w f)) n in let h = work_of-push w zero fs f in omega arith
+    let n : zero - suc (length fs) ≡ zero - length fs = omega arith in
+    rw n (omega (arith, work_of-push w zero fs f))
 work_of-push w (suc k) (g ∷ fs) f =
-    let n : k - length fs ≡ suc k - suc (length fs) = omega arith in
-    let e = ap (λ n. list_work w n (suffix w f)) n in let h = work_of-push w k fs f in omega arith
+    let n : suc k - suc (length fs) ≡ k - length fs = omega arith in rw n (omega (arith, work_of-push w k fs f))
 
 -- the top frame of a stack, and those below it
 pub record Top (w : Stored) (k : ℕ) (fs : List Frame) (f : Frame) : Type 0 where
@@ -40,88 +31,70 @@ pub record Top (w : Stored) (k : ℕ) (fs : List Frame) (f : Frame) : Type 0 whe
 pub AreBelow-at : (w : Stored) (j k : ℕ) (ns : List NameId) → j ≡ k → AreBelow w j ns → AreBelow w k ns
 AreBelow-at w j k ns e h = ap (λ k. list_all (ends_below w k) ns) (sym e) ∙ h
 
-pub AreRanked-push : (w : Stored) (k : ℕ) (fs : List Frame) (f : Frame) → Top w k fs f → AreRanked w k (fs ++ f ∷ [])
-AreRanked-push w zero [] f t = (t.within, t.below, tt)
-AreRanked-push w (suc k) [] f t =
+pub AreRanked-push : {w : Stored} (k : ℕ) (fs : List Frame) {f : Frame} → Top w k fs f → AreRanked w k (fs ++ f ∷ [])
+AreRanked-push zero [] t = (t.within, t.below, tt)
+AreRanked-push {w} (suc k) [] {f} t =
     let n : suc k - 0 ≡ suc k = omega arith in
     (t.within, AreBelow-at w (suc k - 0) (suc k) (uses w (suffix w f)) n t.below, tt)
-AreRanked-push w zero (g ∷ fs) f t =
-    let n : zero - suc (length fs) ≡ zero - length fs = omega arith in (
-      t.ranked.0,
-      t.ranked.1,
-      AreRanked-push w zero fs f
-          (record {
-            ranked = t.ranked.2;
-            within = t.within;
-            below = AreBelow-at w (zero - suc (length fs)) (zero - length fs) (uses w (suffix w f)) n t.below;
-          }),
-    )
-AreRanked-push w (suc k) (g ∷ fs) f t =
-    let n : suc k - suc (length fs) ≡ k - length fs = omega arith in (
-      t.ranked.0,
-      t.ranked.1,
-      AreRanked-push w k fs f
-          (record {
-            ranked = t.ranked.2;
-            within = t.within;
-            below = AreBelow-at w (suc k - suc (length fs)) (k - length fs) (uses w (suffix w f)) n t.below;
-          }),
-    )
+AreRanked-push {w} zero (g ∷ fs) {f} t =
+    let n : zero - suc (length fs) ≡ zero - length fs = omega arith in
+    let below = AreBelow-at w (zero - suc (length fs)) (zero - length fs) (uses w (suffix w f)) n t.below in
+    let rest = AreRanked-push zero fs (record { ranked = t.ranked.2; within = t.within; below = below }) in
+    (t.ranked.0, t.ranked.1, rest)
+AreRanked-push {w} (suc k) (g ∷ fs) {f} t =
+    let n : suc k - suc (length fs) ≡ k - length fs = omega arith in
+    let below = AreBelow-at w (suc k - suc (length fs)) (k - length fs) (uses w (suffix w f)) n t.below in
+    let rest = AreRanked-push k fs (record { ranked = t.ranked.2; within = t.within; below = below }) in
+    (t.ranked.0, t.ranked.1, rest)
 
-pub AreRanked-pop : (w : Stored) (k : ℕ) (fs : List Frame) (f : Frame) → AreRanked w k (fs ++ f ∷ []) → Top w k fs f
-AreRanked-pop w zero [] f r = record { ranked = tt; within = r.0; below = r.1 }
-AreRanked-pop w (suc k) [] f r =
+pub AreRanked-pop : {w : Stored} (k : ℕ) (fs : List Frame) {f : Frame} → AreRanked w k (fs ++ f ∷ []) → Top w k fs f
+AreRanked-pop zero [] r = record { ranked = tt; within = r.0; below = r.1 }
+AreRanked-pop {w} (suc k) [] {f} r =
     let n : suc k ≡ suc k - 0 = omega arith in
     record { ranked = tt; within = r.0; below = AreBelow-at w (suc k) (suc k - 0) (uses w (suffix w f)) n r.1 }
-AreRanked-pop w zero (g ∷ fs) f r =
+AreRanked-pop {w} zero (g ∷ fs) {f} r =
     let n : zero - length fs ≡ zero - suc (length fs) = omega arith in
-    let t = AreRanked-pop w zero fs f r.2 in
-    record {
-      ranked = (r.0, r.1, t.ranked);
-      within = t.within;
-      below = AreBelow-at w (zero - length fs) (zero - suc (length fs)) (uses w (suffix w f)) n t.below;
-    }
-AreRanked-pop w (suc k) (g ∷ fs) f r =
+    let t = AreRanked-pop zero fs r.2 in
+    let below = AreBelow-at w (zero - length fs) (zero - suc (length fs)) (uses w (suffix w f)) n t.below in
+    record { ranked = (r.0, r.1, t.ranked); within = t.within; below = below }
+AreRanked-pop {w} (suc k) (g ∷ fs) {f} r =
     let n : k - length fs ≡ suc k - suc (length fs) = omega arith in
-    let t = AreRanked-pop w k fs f r.2 in
-    record {
-      ranked = (r.0, r.1, t.ranked);
-      within = t.within;
-      below = AreBelow-at w (k - length fs) (suc k - suc (length fs)) (uses w (suffix w f)) n t.below;
-    }
+    let t = AreRanked-pop k fs r.2 in
+    let below = AreBelow-at w (k - length fs) (suc k - suc (length fs)) (uses w (suffix w f)) n t.below in
+    record { ranked = (r.0, r.1, t.ranked); within = t.within; below = below }
 
-pub Stands-pop : (w : Stored) (all fs : List Frame) (f : Frame) (room more : ℕ)
+pub Stands-pop : {w : Stored} {all fs : List Frame} {f : Frame} {room more : ℕ}
     → all ≡ fs ++ f ∷ [] → more ≡ room → Stands w all room
     → Stands w fs more × Top w (names w) fs f × (length fs < names w + 1) × OnTop w (names w + 1) fs f
-Stands-pop w all fs f room more e r s =
-    let t = AreRanked-pop w (names w) fs f (subst (AreRanked w (names w)) e s.ranked) in
-    let o = AreOwned-pop w (names w + 1) fs f (subst (AreOwned w (names w + 1)) e s.owned) in
+Stands-pop {w} {fs} {f} {room} e r s =
+    let t = AreRanked-pop (names w) fs (subst (AreRanked w (names w)) e s.ranked) in
+    let o = AreOwned-pop (names w + 1) fs (subst (AreOwned w (names w + 1)) e s.owned) in
     let n = ap length e ∙ length-append fs (f ∷ []) in
     let d = s.depth in
     (record { owned = o.below; ranked = t.ranked; depth = omega arith; room = r ∙ s.room }, t, omega arith, o)
 
-pub Stands-push : (w : Stored) (all fs : List Frame) (f : Frame) (room more : ℕ) → all ≡ fs ++ f ∷ [] → more ≡ room
+pub Stands-push : {w : Stored} {all fs : List Frame} {f : Frame} {room more : ℕ} → all ≡ fs ++ f ∷ [] → more ≡ room
     → Stands w fs room → Top w (names w) fs f → length fs < names w + 1 → OnTop w (names w + 1) fs f → Stands w all more
-Stands-push w all fs f room more e r s t n o =
+Stands-push {w} {fs} {f} {room} e r s t n o =
     let l = ap length e ∙ length-append fs (f ∷ []) in
     record {
-      owned = subst (AreOwned w (names w + 1)) (sym e) (AreOwned-push w (names w + 1) fs f o);
-      ranked = subst (AreRanked w (names w)) (sym e) (AreRanked-push w (names w) fs f t);
+      owned = subst (AreOwned w (names w + 1)) (sym e) (AreOwned-push (names w + 1) fs o);
+      ranked = subst (AreRanked w (names w)) (sym e) (AreRanked-push (names w) fs t);
       depth = omega arith;
       room = r ∙ s.room;
     }
 
-pub Top-next : (w : Stored) (k : ℕ) (fs : List Frame) (f g : Frame) (t : Token) → suffix w f ≡ t ∷ suffix w g
+pub Top-next : {w : Stored} {k : ℕ} {fs : List Frame} {f g : Frame} (t : Token) → suffix w f ≡ t ∷ suffix w g
     → IsWithin w g → Top w k fs f → Top w k fs g × AreBelow w (k - length fs) (use_of w t)
-Top-next w k fs f g t s i h =
+Top-next {w} {k} {fs} {g} t s i h =
     let b : AreBelow w (k - length fs) (use_of w t ++ uses w (suffix w g)) =
     ap (λ ts. list_all (ends_below w (k - length fs)) (uses w ts)) (sym s) ∙ h.below in (
       record {
         ranked = h.ranked;
         within = i;
-        below = all-back (ends_below w (k - length fs)) (use_of w t) (uses w (suffix w g)) b;
+        below = (all-parts (ends_below w (k - length fs)) (use_of w t) (uses w (suffix w g)) b).1;
       },
-      all-front (ends_below w (k - length fs)) (use_of w t) (uses w (suffix w g)) b,
+      (all-parts (ends_below w (k - length fs)) (use_of w t) (uses w (suffix w g)) b).0,
     )
 
 pub level-push : (w : Stored) (fs : List Frame) (f : Frame) → level w (fs ++ f ∷ []) ≡ names w - length fs
@@ -133,10 +106,11 @@ list_work-first w k t ts =
     let f : Token → ℕ = token_work w (name_work w k) in
     let e : sum_by f (t ∷ ts) ≡ f t + sum_by f ts = sum_by-cons f t ts in omega (arith, e)
 
-pub advances : (w : Stored) (old fs new : List Frame) (f g : Frame) (t : Token) → left w old ≡ left w (fs ++ f ∷ [])
+pub advances : {w : Stored} {old : List Frame} (fs : List Frame) {new : List Frame} (f g : Frame) {t : Token}
+    → left w old ≡ left w (fs ++ f ∷ [])
     → work_of w (names w) (fs ++ f ∷ []) ≤ work_of w (names w) old → suffix w f ≡ t ∷ suffix w g
     → AreBelow w (names w - length fs) (use_of w t) → UsesLower w new t → new ≡ fs ++ g ∷ [] → Advances w old new t
-advances w old fs new f g t e m s b u is =
+advances {w} fs {new} f g {t} e m s b u is =
     let k = names w - length fs in
     let l : names w - length fs ≡ level w new = sym (ap (level w) is ∙ level-push w fs g) in
     let p = work_of-push w (names w) fs f in

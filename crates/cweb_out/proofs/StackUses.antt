@@ -1,5 +1,5 @@
 -- What a stack gives behind a use of a name, and behind one that gives nothing.
-use Rattle.cweb_out.proofs.Common.{◌≡◌, ◌<◌, ◌+◌, ◌-◌, ℕ, zero, suc, [], ◌∷◌, ◌++◌, List, length, refl, sym, ◌∙◌, ap, arith, Some, true, false, ◌&&◌, subst, All, option_to_list, list_all, NameId, NameRef, Part, Name, all_tokens, Stored, names, use_of, uses, stands, joined, ends_below, expand, name_text, put, text_for, root_list, Frame, suffix, runs_tokens, work_of, list_work, AreRanked, AreBelow, IsRun, IsWithin, Stands, UsesLower, Enters, left, level, name_work, token_work, work_for, first_so}
+use Rattle.cweb_out.proofs.Common.{◌≡◌, ◌<◌, ◌+◌, ◌-◌, ℕ, zero, suc, [], ◌∷◌, ◌++◌, List, length, refl, sym, ◌∙◌, ap, arith, Some, true, false, ◌&&◌, subst, All, option_to_list, list_all, NameId, NameRef, Part, Name, all_tokens, Stored, names, use_of, uses, stands, joined, ends_below, expand, name_text, put, text_for, root_list, Frame, suffix, runs_tokens, work_of, list_work, AreRanked, AreBelow, IsRun, IsWithin, Stands, UsesLower, Enters, left, level, name_work, token_work, work_for, and_parts}
 use Rattle.cweb_out.proofs.Owners.{OnTop-entered, OnTop-first}
 use Rattle.cweb_out.proofs.Stack.{left_of-push, work_of-push, Top, AreBelow-at, Stands-push, rank-step}
 
@@ -8,16 +8,16 @@ pub record Entered (w : Stored) (fs new : List Frame) (r : NameRef) (more : ℕ)
   pub stands : Stands w new more
   pub enters : Enters w fs new r
 
-pub entered : (w : Stored) (fs new : List Frame) (r : NameRef)
-    (m : NameId) (room more : ℕ) (q : Part) (rest : List Part) → Stands w fs room → more ≡ room
-    → AreBelow w (level w fs) (use_of w (Name r)) → UsesLower w fs (Name r) → stands w r ≡ Some m
-    → runs_tokens w (q ∷ rest) ≡ joined w m → All (IsRun (length (all_tokens w.parts))) (q ∷ rest)
+pub entered : {w : Stored} {fs new : List Frame} {r : NameRef}
+    (m : NameId) {room more : ℕ} (q : Part) (rest : List Part)
+    → Stands w fs room → more ≡ room → AreBelow w (level w fs) (use_of w (Name r)) → UsesLower w fs (Name r)
+    → stands w r ≡ Some m → runs_tokens w (q ∷ rest) ≡ joined w m → All (IsRun (length (all_tokens w.parts))) (q ∷ rest)
     → new ≡ fs ++ record { owner = Some m; defs = false; part = q; rest = rest } ∷ [] → Entered w fs new r more
-entered w fs new r m room more q rest s grows b lower e text a is =
+entered {w} {fs} {new} {r} m q rest s grows b lower e text a is =
     let g : Frame = record { owner = Some m; defs = false; part = q; rest = rest } in
     let h : ends_below w (level w fs) m && true ≡ true =
     subst (λ o. list_all (ends_below w (level w fs)) (option_to_list o) ≡ true) e b in
-    let t = rank-step w (level w fs) m (first_so (ends_below w (level w fs) m) true h) in
+    let t = rank-step w (level w fs) m (and_parts (ends_below w (level w fs) m) true h).0 in
     let k : ℕ = names w - length fs in
     let j : k ≡ t.0 = omega (arith, t.1) in
     let d : length fs < names w + 1 = omega (arith, t.1) in
@@ -27,8 +27,8 @@ entered w fs new r m room more q rest s grows b lower e text a is =
     ∙ ap (λ ts. list_all (ends_below w t.0) (uses w ts)) text ∙ t.2 in
     let top : Top w (names w) fs g = record { ranked = s.ranked; within = within; below = below } in
     let on =
-    OnTop-entered w fs g r m (level w fs) s.owned (omega arith)
-    (first_so (ends_below w (level w fs) m) true h) lower e refl (sym text) in
+    OnTop-entered r m (level w fs) s.owned (omega arith)
+    (and_parts (ends_below w (level w fs) m) true h).0 lower e refl (sym text) in
     let one : put w (name_text w (level w fs)) (Name r) ≡ expand w t.0 (joined w m) =
     ap (text_for (name_text w (level w fs))) e ∙ ap (λ n. name_text w n m) t.1 in
     let two : token_work w (name_work w (level w fs)) (Name r) ≡ 1 + list_work w t.0 (joined w m) =
@@ -38,7 +38,7 @@ entered w fs new r m room more q rest s grows b lower e text a is =
     let four : list_work w k (suffix w g) ≡ list_work w t.0 (joined w m) =
     ap (λ n. list_work w n (suffix w g)) j ∙ ap (list_work w t.0) text in
     record {
-      stands = Stands-push w new fs g room more is grows s top d on;
+      stands = Stands-push is grows s top d on;
       enters = record {
         left = ap (left w) is ∙ left_of-push w (names w) fs g ∙ ap (λ n. expand w n (suffix w g) ++ left w fs) j
             ∙ ap (λ ts. expand w t.0 ts ++ left w fs) text ∙ ap (λ ts. ts ++ left w fs) (sym one);
@@ -47,9 +47,9 @@ entered w fs new r m room more q rest s grows b lower e text a is =
     }
 
 -- a use that gives nothing
-pub passed_none : (w : Stored) (fs : List Frame) (r : NameRef)
+pub passed_none : {w : Stored} {fs : List Frame} {r : NameRef}
     → put w (name_text w (level w fs)) (Name r) ≡ [] → Enters w fs fs r
-passed_none w fs r none = record { left = ap (λ ts. ts ++ left w fs) (sym none); work = omega arith }
+passed_none {w} {fs} none = record { left = ap (λ ts. ts ++ left w fs) (sym none); work = omega arith }
 
 -- a name without parts has no text
 pub no_parts : (w : Stored) (fs : List Frame) (r : NameRef) (m : NameId)
@@ -64,18 +64,17 @@ AreRanked-none : (w : Stored) (k : ℕ) → AreRanked w k []
 AreRanked-none w zero = tt
 AreRanked-none w (suc k) = tt
 
-pub Stands-one : (w : Stored) (all : List Frame) (f : Frame) (room : ℕ) → all ≡ f ∷ []
+pub Stands-one : {w : Stored} {all : List Frame} {f : Frame} {room : ℕ} → all ≡ f ∷ []
     → IsWithin w f → AreBelow w (names w) (uses w (suffix w f)) → room ≡ names w + 1
     → suffix w f ≡ root_list w f.owner → Stands w all room
-Stands-one w all f room e i b r l =
+Stands-one {w} {f} {room} e i b r l =
     let n : names w ≡ names w - 0 = omega arith in
     let k : 0 < names w + 1 = omega arith in
-    Stands-push w all [] f room room e refl
-    (record { owned = tt; ranked = AreRanked-none w (names w); depth = omega arith; room = r })
+    Stands-push e refl (record { owned = tt; ranked = AreRanked-none w (names w); depth = omega arith; room = r })
     (record {
       ranked = AreRanked-none w (names w);
       within = i;
       below = AreBelow-at w (names w) (names w - 0) (uses w (suffix w f)) n b;
     })
     k
-    (OnTop-first w f (sym l) (subst (λ ts. AreBelow w (names w) (uses w ts)) l b))
+    (OnTop-first (sym l) (rw (← l) b))

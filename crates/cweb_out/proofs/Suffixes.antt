@@ -1,10 +1,10 @@
 -- How a frame's list goes on.
-use Rattle.cweb_out.proofs.Common.{◌≡◌, ◌≤◌, ◌<◌, ◌+◌, ◌-◌, ℕ, [], ◌∷◌, ◌++◌, List, Some, length, sym, ◌∙◌, ap, arith, take, drop, slice_range, slice_index_or, false, zero, suc, add-one, subst, All, slice_get, drop-cons, Part, Token, all_tokens, Stored, Frame, defs_first, suffix, IsRun, IsWithin, run_tokens, runs_tokens}
+use Rattle.cweb_out.proofs.Common.{◌≡◌, ◌≤◌, ◌<◌, ◌+◌, ◌∷◌, ◌++◌, List, Some, length, sym, ◌∙◌, ap, arith, slice_range, false, suc, subst, All, slice_get, Part, Token, all_tokens, Stored, Frame, defs_first, suffix, IsRun, IsWithin, run_tokens, runs_tokens}
 use Rattle.cweb_print.proofs.Ranges.{slice_get-or, slice_range-first}
 use Rattle.cweb_store.proofs.RangeLemmas.{range-none}
 
 -- a frame that has a run begins with that run's first token
-pub suffix-first : (w : Stored) (f : Frame) (t : Token) → f.defs ≡ false → f.part.first < f.part.after
+pub suffix-first : {w : Stored} {f : Frame} (t : Token) → f.defs ≡ false → f.part.first < f.part.after
     → IsWithin w f → slice_get (all_tokens w.parts) f.part.first ≡ Some t → suffix w f ≡ t ∷ suffix w
     (record {
       owner = f.owner;
@@ -12,7 +12,7 @@ pub suffix-first : (w : Stored) (f : Frame) (t : Token) → f.defs ≡ false →
       part = record { first = f.part.first + 1; after = f.part.after };
       rest = f.rest;
     })
-suffix-first w f t d n k e =
+suffix-first {w} {f} t d n k e =
     let h = slice_range-first
     (all_tokens w.parts) f.part.first f.part.after t n k.part (slice_get-or (all_tokens w.parts) f.part.first t e) in
     ap (λ b. defs_first b ++ (run_tokens w f.part ++ runs_tokens w f.rest)) d
@@ -26,9 +26,9 @@ suffix-next w f q more n e = ap (λ xs. defs_first f.defs ++ (xs ++ runs_tokens 
     (range-none (all_tokens w.parts) f.part.first f.part.after n)
     ∙ ap (λ ps. defs_first f.defs ++ runs_tokens w ps) e
 
-pub IsWithin-next : (w : Stored) (f : Frame) (q : Part) (more : List Part) → f.rest ≡ q ∷ more
+pub IsWithin-next : {w : Stored} {f : Frame} (q : Part) (more : List Part) → f.rest ≡ q ∷ more
     → IsWithin w f → IsRun (length (all_tokens w.parts)) q × All (IsRun (length (all_tokens w.parts))) more
-IsWithin-next w f q more e h =
+IsWithin-next {w} q more e h =
     let g : All (IsRun (length (all_tokens w.parts))) (q ∷ more) =
     subst (All (IsRun (length (all_tokens w.parts)))) e h.rest in
     (g 0 q (omega arith), λ k d l. g (suc k) d (omega arith))

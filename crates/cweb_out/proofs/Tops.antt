@@ -1,5 +1,5 @@
 -- The top frame of a stack, read and written in place. It is the last of the list.
-use Rattle.cweb_out.proofs.Common.{◌≡◌, ◌<◌, ◌≤◌, ◌+◌, ◌-◌, ◌++◌, ◌∷◌, [], ℕ, List, length, take, get_or, refl, sym, ◌∙◌, ap, arith, subst, set, take-length, length-set, take_more, take_more_set, Token, Stored, names, use_of, Frame, suffix, left, work_of, AreBelow, IsWithin, Stands, Advances, rank, top_rank}
+use Rattle.cweb_out.proofs.Common.{◌≡◌, ◌<◌, ◌≤◌, ◌+◌, ◌-◌, ◌++◌, ◌∷◌, [], ℕ, List, length, take, get_or, refl, sym, ◌∙◌, ap, arith, set, take-length, length-set, take_more, take_more_set, Token, Stored, names, Frame, suffix, left, work_of, IsWithin, Stands, Advances, rank, top_rank}
 use Rattle.cweb_out.proofs.Owners.{OnTop, OnTop-next, top_rank-push}
 use Rattle.cweb_out.proofs.Stack.{Top, Stands-pop, Stands-push, Top-next, advances, left-ended, work-ended}
 
@@ -13,8 +13,8 @@ pub record HasTop (n : ℕ) (fs : List Frame) (f : Frame) : Type 0 where
   pub some : 0 < length fs
   pub is : f ≡ get_or fs (n - 1) f
 
-pub top_read : (n : ℕ) (fs : List Frame) (f : Frame) → HasTop n fs f → fs ≡ lower n fs ++ f ∷ []
-top_read n fs f h =
+pub top_read : {n : ℕ} {fs : List Frame} {f : Frame} → HasTop n fs f → fs ≡ lower n fs ++ f ∷ []
+top_read {n} {fs} {f} h =
     let c = h.count in
     let some = h.some in
     let all : length fs ≡ n - 1 + 1 = omega arith in
@@ -22,8 +22,9 @@ top_read n fs f h =
     sym (take-length fs) ∙ ap (λ k. take k fs) all ∙ take_more fs (n - 1) f lt
     ∙ ap (λ (x : Frame). lower n fs ++ x ∷ []) (sym h.is)
 
-pub top_written : (n : ℕ) (fs : List Frame) (f g : Frame) → HasTop n fs f → set fs (n - 1) g ≡ lower n fs ++ g ∷ []
-top_written n fs f g h =
+pub top_written : {n : ℕ} {fs : List Frame} {f : Frame} (g : Frame) → HasTop n fs f → set fs (n - 1) g
+    ≡ lower n fs ++ g ∷ []
+top_written {n} {fs} g h =
     let c = h.count in
     let some = h.some in
     let all : length (set fs (n - 1) g) ≡ n - 1 + 1 = omega (arith, length-set fs (n - 1) g) in
@@ -31,32 +32,31 @@ top_written n fs f g h =
     sym (take-length (set fs (n - 1) g)) ∙ ap (λ k. take k (set fs (n - 1) g)) all ∙ take_more_set fs (n - 1) g lt
 
 -- a stack without its top, and what is known of the top
-pub stands_lower : (w : Stored) (n : ℕ) (fs : List Frame) (f : Frame) (room : ℕ) → Stands w fs room → HasTop n fs f
+pub stands_lower : {w : Stored} {n : ℕ} {fs : List Frame} {f : Frame} {room : ℕ} → Stands w fs room → HasTop n fs f
     → Stands w (lower n fs) room × Top w (names w) (lower n fs) f
     × (length (lower n fs) < names w + 1) × OnTop w (names w + 1) (lower n fs) f
-stands_lower w n fs f room s h = Stands-pop w fs (lower n fs) f room room (top_read n fs f h) refl s
+stands_lower s h = Stands-pop (top_read h) refl s
 
 -- the top went on by a token
 pub record TopMoved (w : Stored) (old new : List Frame) (t : Token) (room : ℕ) : Type 0 where
   pub stands : Stands w new room
   pub advances : Advances w old new t
 
-pub top_moved : (w : Stored) (n : ℕ) (old fs : List Frame) (f g : Frame) (t : Token) (room : ℕ)
+pub top_moved : {w : Stored} {n : ℕ} {old fs : List Frame} {f g : Frame} {t : Token} {room : ℕ}
     → Stands w fs room → left w old ≡ left w fs → work_of w (names w) fs ≤ work_of w (names w) old → HasTop n fs f
     → suffix w f ≡ t ∷ suffix w g → IsWithin w g → g.owner ≡ f.owner → TopMoved w old (set fs (n - 1) g) t room
-top_moved w n old fs f g t room s e m h goes i o =
-    let both : fs ≡ lower n fs ++ f ∷ [] = top_read n fs f h in
-    let after : set fs (n - 1) g ≡ lower n fs ++ g ∷ [] = top_written n fs f g h in
-    let p = stands_lower w n fs f room s h in
-    let q = Top-next w (names w) (lower n fs) f g t goes i p.1 in
-    let v = OnTop-next w (names w + 1) (lower n fs) f g t goes o p.3 in
+top_moved {w} {n} {old} {fs} {f} {g} {t} s e m h goes i o =
+    let both : fs ≡ lower n fs ++ f ∷ [] = top_read h in
+    let after : set fs (n - 1) g ≡ lower n fs ++ g ∷ [] = top_written g h in
+    let p = stands_lower s h in
+    let q = Top-next t goes i p.1 in
+    let v = OnTop-next t goes o p.3 in
     let top : top_rank w (names w + 1) (set fs (n - 1) g) ≡ rank w g.owner =
     ap (top_rank w (names w + 1)) after ∙ top_rank-push w (names w + 1) (lower n fs) g in
     record {
-      stands = Stands-push w (set fs (n - 1) g) (lower n fs) g room room after refl p.0 q.0 p.2 v.0;
-      advances = advances w old (lower n fs) (set fs (n - 1) g) f g t
-          (e ∙ ap (left w) both) (subst (λ k. k ≤ work_of w (names w) old) (ap (work_of w (names w)) both) m)
-          goes q.1 (subst (λ k. AreBelow w k (use_of w t)) (sym top) v.1) after;
+      stands = Stands-push after refl p.0 q.0 p.2 v.0;
+      advances = advances (lower n fs) f g (e ∙ ap (left w) both) (rw (← (ap (work_of w (names w)) both)) m)
+          goes q.1 (rw top v.1) after;
     }
 
 -- the top had come to its end
@@ -65,14 +65,14 @@ pub record TopEnded (w : Stored) (fs new : List Frame) (room : ℕ) : Type 0 whe
   pub left : left w fs ≡ left w new
   pub work : work_of w (names w) new ≤ work_of w (names w) fs
 
-pub top_ended : (w : Stored) (n : ℕ) (fs new : List Frame) (f : Frame) (room : ℕ) → Stands w fs room
+pub top_ended : {w : Stored} {n : ℕ} {fs new : List Frame} {f : Frame} {room : ℕ} → Stands w fs room
     → HasTop n fs f → suffix w f ≡ [] → new ≡ lower n fs → TopEnded w fs new room
-top_ended w n fs new f room s h none is =
-    let both : fs ≡ new ++ f ∷ [] = top_read n fs f h ∙ ap (λ (x : List Frame). x ++ f ∷ []) (sym is) in
+top_ended {w} {fs} {new} {f} {room} s h none is =
+    let both : fs ≡ new ++ f ∷ [] = top_read h ∙ ap (λ (x : List Frame). x ++ f ∷ []) (sym is) in
     let same = ap (work_of w (names w)) both in
     let less = work-ended w new f in
     record {
-      stands = subst (λ (x : List Frame). Stands w x room) (sym is) (stands_lower w n fs f room s h).0;
+      stands = rw is (stands_lower s h).0;
       left = ap (left w) both ∙ left-ended w new f none;
       work = omega arith;
     }

@@ -1,5 +1,5 @@
 -- The walk along a path that comes back to itself is its cycle.
-use Rattle.cweb_out.proofs.Common.{◌≡◌, ◌≤◌, ◌<◌, ◌+◌, ℕ, zero, suc, Bool, true, false, not, cond, List, [], ◌∷◌, ◌++◌, refl, sym, ◌∙◌, ap, arith, length, inl, inr, append-nil, append_assoc, drop, take, subst, Some, get_or, ◌⊎◌, list_any, position_or_len, length-map, take_more, NameId, is_id, Stored, names, joined, has_rank, first_endless, walk, cycle_from, Mark, Waiting, AreNew, Begins, Chain, Fits, IsEndless, Looked, back_to, next_of, path_of, with_next, or_left, or_right}
+use Rattle.cweb_out.proofs.Common.{◌≡◌, ◌≤◌, ◌<◌, ◌+◌, ℕ, zero, suc, Bool, true, false, not, cond, List, [], ◌∷◌, ◌++◌, refl, sym, ◌∙◌, ap, arith, length, inl, inr, append-nil, append_assoc, drop, take, subst, Some, get_or, ◌⊎◌, list_any, position_or_len, length-map, take_more, NameId, is_id, Stored, names, joined, has_rank, first_endless, walk, cycle_from, Mark, Waiting, AreNew, Begins, Chain, Fits, IsEndless, Looked, back_to, next_of, path_of, with_next, or_right, or_left}
 use Rattle.cweb_out.proofs.Ranks.{few, id-same}
 use Rattle.cweb_out.proofs.Circles.{chain-endless, looked-endless, next-on, next-some}
 use Rattle.cweb_out.proofs.Paths.{path-push}
@@ -35,7 +35,7 @@ walks w seen (f ∷ path) again (suc k) le c a h e =
       | inr g ↦ inr (or_right (is_id n.0 f.name) (list_any (is_id n.0) (path_of path)) g)
     ]) in
     let first =
-    (looked-endless w (joined w f.name) f.text n.0 (subst (Looked w (joined w f.name) f.text) n.1 c.0) endless).0 in
+    (looked-endless n.0 (subst (Looked w (joined w f.name) f.text) n.1 c.0) endless).0 in
     let rest =
     walks w (seen ++ f.name ∷ []) path again k (omega (arith, le)) c.1 a.1 (ap (list_any (is_id again)) s ∙ h)
     (λ m o.
@@ -55,16 +55,16 @@ walks w seen (f ∷ path) again (suc k) le c a h e =
     goes false g = refl
 
 -- where a path comes back to itself, that is the cycle of its first name
-pub path-cycle : (w : Stored) (marks : List Mark) (path : List Waiting) (start again : NameId)
+pub path-cycle : {w : Stored} {marks : List Mark} (path : List Waiting) {start : NameId} (again : NameId)
     → Fits w marks path → Chain w path (Some again) → list_any (is_id again) (path_of path) ≡ true
     → Begins w path start → IsEndless w start (back_to again path)
-path-cycle w marks [] start again t c a b = cc
-path-cycle w marks (f ∷ path) start again t c a b =
+path-cycle [] again t c a b = cc
+path-cycle {w} (f ∷ path) {start} again t c a b =
     let none = chain-endless w (f ∷ path) again c a in
     let on : list_any (is_id start) (path_of (f ∷ path)) ≡ true =
     or_left (is_id start f.name) (list_any (is_id start) (path_of path)) (ap (is_id start) b ∙ id-same start) in
     let size : length (path_of (f ∷ path)) ≡ length (f ∷ path) = length-map (f ∷ path) (λ (g : Waiting). g.name) in
-    let le = few (names w) (path_of (f ∷ path)) t.new (λ n h. top-name w marks (f ∷ path) n t h) in
+    let le = few (names w) (path_of (f ∷ path)) t.new (λ n h. top-name n t h) in
     let fits : length (f ∷ path) ≤ names w = omega (arith, le, size) in
     let steps = walks w [] (f ∷ path) again (names w) fits c t.new a
     (λ n o. elim o [ inl e ↦ ap (has_rank w) e ∙ none (names w) again a | inr h ↦ none (names w) n h ]) in

@@ -1,10 +1,10 @@
 -- What a stack of frames still has to give.
-use Rattle.std.specs.Prelude.{ℕ, ◌≤◌, ◌<◌, ◌≡◌, ◌+◌, ◌-◌, suc, zero, List, [], ◌∷◌, ◌++◌, true, All, Option, Some, None, length, slice_range, sum_by}
+use Rattle.std.specs.Prelude.{ℕ, ◌≤◌, ◌<◌, ◌≡◌, ◌+◌, ◌-◌, suc, zero, List, [], ◌∷◌, ◌++◌, true, All, Option, Some, None, length, sum_by}
 use Rattle.std.specs.List.{list_all}
 use Rattle.cweb_store.specs.declared.names.NameId.{NameId}
 use Rattle.cweb_store.specs.declared.names.NameRef.{NameRef}
 use Rattle.cweb_store.specs.declared.parts.Part.{Part}
-use Rattle.cweb_store.specs.Parts.{Token, Name, all_tokens, tokens_at}
+use Rattle.cweb_store.specs.Parts.{Token, Name, all_tokens}
 use Rattle.cweb_store.specs.Calls.{Stored}
 use Rattle.cweb_print.specs.Runs.{run_tokens, runs_tokens}
 use Rattle.cweb_out.specs.Uses.{names, joined, uses, use_of, stands}

@@ -1,5 +1,5 @@
 -- What the promises of a run say of its endings.
-use Rattle.cweb_tools.proofs.Common.{◌≡◌, inl, inr, ℕ, List, [], ◌∷◌, refl, ap, arith, Some, None, Stop, Usage, WebNotOpened, ChangeNotOpened, ReadFault, LineTooLong, TooMuchText, Memory, OutNotOpened, WriteFault, LogFault, Held, Act, judges, says, opens, reads, plans, reserves, writes, after_act, ending, Breaks, Runs, TangleEnds, completes, stops, RunsFreely, DoesAll, IsStopped, IsEnded, KeepLimits}
+use Rattle.cweb_tools.proofs.Common.{◌≡◌, inl, inr, ℕ, List, [], ◌∷◌, refl, ap, arith, Some, None, Stop, Usage, WebNotOpened, ChangeNotOpened, ReadFault, LineTooLong, TooMuchText, Memory, OutNotOpened, WriteFault, LogFault, Held, Act, judges, reads, after_act, ending, Breaks, Runs, TangleEnds, completes, stops, RunsFreely, DoesAll, IsStopped, IsEnded, KeepLimits}
 use Rattle.cweb_tools.proofs.AllDone.{files_all, log_all}
 use Rattle.cweb_tools.proofs.Limits.{long_beyond, much_beyond}
 use Rattle.cweb_tools.proofs.Stopping.{is_stopped}
@@ -9,12 +9,7 @@ pub counts_all : (acts : List Act) (old new : Held) → Runs acts None old new
 counts_all [] old new is =
     (ap (λ (d : Held). d.shelf_failed) is, ap (λ (d : Held). d.bins_failed) is, ap (λ (d : Held). d.log_failed) is)
 counts_all (judges ∷ acts) old new (inl run) = counts_all acts old new run.1
-counts_all (says item ∷ acts) old new (inl run) = counts_all acts (after_act (says item) old) new run.1
-counts_all (opens ∷ acts) old new (inl run) = counts_all acts old new run.1
-counts_all (reads names events ∷ acts) old new (inl run) = counts_all acts old new run.1
-counts_all (plans ∷ acts) old new (inl run) = counts_all acts old new run.1
-counts_all (reserves ∷ acts) old new (inl run) = counts_all acts old new run.1
-counts_all (writes name text ∷ acts) old new (inl run) = counts_all acts (after_act (writes name text) old) new run.1
+counts_all (act ∷ acts) old new (inl run) = counts_all acts (after_act act old) new run.1
 counts_all (act ∷ acts) old new (inr stop) = absurd stop
 
 pub limits_all : (acts : List Act) (old new : Held) → Runs acts None old new → KeepLimits acts
@@ -22,16 +17,16 @@ limits_all [] old new is = tt
 limits_all (act ∷ acts) old new (inl run) = (run.0, limits_all acts (after_act act old) new run.1)
 limits_all (act ∷ acts) old new (inr stop) = absurd stop
 
-does_all : (acts : List Act) (due : ℕ) (old new : Held) (status : ℕ)
+does_all : {acts : List Act} {due : ℕ} {old new : Held} {status : ℕ}
     → Runs acts None old new → status ≡ due → DoesAll acts due old new status
-does_all acts due old new status run answered =
+does_all {acts} {old} {new} run answered =
     record { files = files_all acts old new run; log = log_all acts old new run; answered = answered }
 
-pub ends_so : (acts : List Act) (due : ℕ) (old new : Held) (status : ℕ)
+pub ends_so : {acts : List Act} {due : ℕ} {old new : Held} {status : ℕ}
     → TangleEnds acts due old new status → IsEnded acts due old new status
-ends_so acts due old new status (completes run answered) = inl (does_all acts due old new status run answered)
-ends_so acts due old new status (stops (ending stop about) then run logs answered) =
-    inr (stop, about, is_stopped acts stop about old then new run logs, answered)
+ends_so (completes run answered) = inl (does_all run answered)
+ends_so {acts} {old} {new} (stops (ending stop about) then run logs answered) =
+    inr (stop, about, is_stopped acts then run logs, answered)
 
 -- stops that want of memory and devices don't make
 abbrev Cause : Stop → Type 0 → Type 0
@@ -53,8 +48,7 @@ cause_more stop within more part cause = tt
 
 cause_at : (act : Act) (acts : List Act) (stop : Stop) (about : List ℕ) (old new : Held)
     → Breaks act (ending stop about) old new → Cause stop (KeepLimits (act ∷ acts))
-cause_at (reads names events) acts (LineTooLong file) about old new broke = λ within.
-    long_beyond file events broke.1 within.0
+cause_at (reads names events) acts (LineTooLong file) about old new broke = λ within. long_beyond broke.1 within.0
 cause_at (reads names events) acts TooMuchText about old new broke = λ within. much_beyond events broke.0 within.0
 cause_at act acts (ReadFault file) about old new broke = tt
 cause_at act acts Memory about old new broke = tt
@@ -71,24 +65,24 @@ cause_of (act ∷ acts) stop about old new (inl run) = cause_more stop
 cause_of (act ∷ acts) stop about old new (inr here) = cause_at act acts stop about old new here
 
 -- a run that something stopped did not run freely
-not_free : (acts : List Act) (stop : Stop) (about : List ℕ) (old new : Held)
+not_free : {acts : List Act} (stop : Stop) {about : List ℕ} {old new : Held}
     → Cause stop (KeepLimits acts) → IsStopped acts stop about old new → RunsFreely acts old new → ⊥
-not_free acts (ReadFault file) about old new cause is free = absurd (omega (arith, is.shelf, free.shelf))
-not_free acts OutNotOpened about old new cause is free = absurd (omega (arith, is.bins, free.bins))
-not_free acts WriteFault about old new cause is free = absurd (omega (arith, is.bins, free.bins))
-not_free acts LogFault about old new cause is free = absurd (omega (arith, is.log_fails refl, free.log))
-not_free acts Memory about old new cause is free = free.memory is.log.before (is.log.all free.log)
-not_free acts (LineTooLong file) about old new cause is free = cause free.within
-not_free acts TooMuchText about old new cause is free = cause free.within
-not_free acts stop about old new cause is free = absurd cause
+not_free (ReadFault file) cause is free = absurd (omega (arith, is.shelf, free.shelf))
+not_free OutNotOpened cause is free = absurd (omega (arith, is.bins, free.bins))
+not_free WriteFault cause is free = absurd (omega (arith, is.bins, free.bins))
+not_free LogFault cause is free = absurd (omega (arith, is.log_fails refl, free.log))
+not_free Memory cause is free = free.memory is.log.before (is.log.all free.log)
+not_free (LineTooLong file) cause is free = cause free.within
+not_free TooMuchText cause is free = cause free.within
+not_free stop cause is free = absurd cause
 
-pub ends_freely : (acts : List Act) (due : ℕ) (old new : Held) (status : ℕ)
+pub ends_freely : {acts : List Act} {due : ℕ} {old new : Held} {status : ℕ}
     → TangleEnds acts due old new status → RunsFreely acts old new → DoesAll acts due old new status
-ends_freely acts due old new status (completes run answered) free = does_all acts due old new status run answered
-ends_freely acts due old new status (stops (ending stop about) then run logs answered) free = absurd (not_free acts
-    stop about old new (cause_of acts stop about old then run) (is_stopped acts stop about old then new run logs) free)
+ends_freely (completes run answered) free = does_all run answered
+ends_freely {acts} {old} {new} (stops (ending stop about) then run logs answered) free = absurd (not_free
+    stop (cause_of acts stop about old then run) (is_stopped acts then run logs) free)
 
-pub ends_within : (acts : List Act) (due : ℕ) (old new : Held) (status : ℕ)
+pub ends_within : {acts : List Act} {due : ℕ} {old new : Held} {status : ℕ}
     → TangleEnds acts due old new status → ¬ KeepLimits acts → status ≡ 1
-ends_within acts due old new status (completes run answered) beyond = absurd (beyond (limits_all acts old new run))
-ends_within acts due old new status (stops why then run logs answered) beyond = answered
+ends_within {acts} {old} {new} (completes run answered) beyond = absurd (beyond (limits_all acts old new run))
+ends_within (stops why then run logs answered) beyond = answered

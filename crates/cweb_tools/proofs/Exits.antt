@@ -1,11 +1,11 @@
 -- How the exits of a run that come before it writes are its ends.
-use Rattle.cweb_tools.proofs.Common.{◌≤◌, ◌≡◌, ◌⊎◌, ◌+◌, inl, inr, ℕ, List, [], ◌∷◌, ◌++◌, refl, sym, ◌∙◌, ap, subst, append-nil, append_assoc, arith, Option, Some, None, IsTrue, names_found, World, Found, Line, Event, SoFar, Gives, StopsBehind, TellsFront, blame, Count, StartStops, files_named, read_blame, given_lines, told_faults, openings, taken_lines, IsWithinLimits, Begins, StopsAtStart, StopsWriting, WritingStops, WritesFront, write_blame, LINES, BYTES, Stop, Usage, WebNotOpened, ChangeNotOpened, ReadFault, LineTooLong, TooMuchText, Memory, WriteFault, Logs, stop_line, start_subject, subject, Seen, SeenStream, WebNames, Course, merging, asked_course, change_name, found_course, merged, usage, about, AreOpened, CanStop, Comes, Ends, Merges, PassesSums, Refuses}
+use Rattle.cweb_tools.proofs.Common.{◌≤◌, ◌≡◌, ◌⊎◌, inl, inr, ℕ, List, [], ◌∷◌, ◌++◌, refl, sym, ◌∙◌, ap, subst, append-nil, append_assoc, arith, Option, Some, None, IsTrue, names_found, World, Found, Line, Event, SoFar, Gives, StopsBehind, TellsFront, blame, Count, StartStops, files_named, read_blame, given_lines, told_faults, openings, taken_lines, IsWithinLimits, Begins, StopsAtStart, StopsWriting, WritingStops, WritesFront, write_blame, LINES, BYTES, Stop, Usage, WebNotOpened, ChangeNotOpened, ReadFault, LineTooLong, TooMuchText, Memory, WriteFault, Logs, stop_line, start_subject, subject, Seen, SeenStream, WebNames, Course, merging, asked_course, change_name, found_course, usage, about, AreOpened, CanStop, Comes, Ends, Merges, PassesSums, Refuses}
 use Rattle.cweb_lines.proofs.Sums.{openings-append}
 use Rattle.cweb_tools.specs.Course.{unread, not_there, change_not_there}
 use Rattle.cweb_tools.specs.Run.{stops}
 
-none_written : (bytes text : List ℕ) → WritesFront bytes bytes text
-none_written bytes text = record { front = []; rest = text; written = sym (append-nil bytes); whole = refl }
+none_written : {bytes text : List ℕ} → WritesFront bytes bytes text
+none_written {bytes} {text} = record { front = []; rest = text; written = sym (append-nil bytes); whole = refl }
 
 none_opened : (course : Course) → AreOpened [] course
 none_opened unread = refl
@@ -62,8 +62,7 @@ module _ (before after : Seen) (status : ℕ) (read : after.shelf.failed ≡ bef
     blames = record { shelf = omega (arith, read, no_read); out = omega (arith, out_count, no_write) };
     blamed = λ tells. blamed tells ∙ sym (append-nil before.shelf.blamed)
         ∙ ap (λ (ns : List (List ℕ)). before.shelf.blamed ++ ns) (sym none);
-    written = λ tells told. subst (λ (bytes : List ℕ). WritesFront before.out.bytes bytes (merged course))
-        (sym out_bytes) (none_written before.out.bytes (merged course));
+    written = λ tells told. rw out_bytes (none_written);
     logged = logs;
     answered = answered;
   })
@@ -99,10 +98,10 @@ abbrev pub begun_with : List (List ℕ) → SoFar
 begun_with first = record { faults = []; names = first; count = record { lines = 0; bytes = 0 } }
 
 -- the names that a merge has told when it stops are among those that it opens in all
-pub opened_by : (first : List (List ℕ)) (old new : SoFar) (events : List Event)
+pub opened_by : (first : List (List ℕ)) {old new : SoFar} {events : List Event}
     → old ≡ begun_with first → TellsFront old new events
     → (files : List (List ℕ)) → files ≡ new.names → (rest : List (List ℕ)) × (first ++ openings events ≡ files ++ rest)
-opened_by first old new events began front files is = (
+opened_by first {events} began front files is = (
   openings front.later,
   ap (λ (es : List Event). first ++ openings es) front.whole
       ∙ ap (λ (ns : List (List ℕ)). first ++ ns) (openings-append front.events front.later)
@@ -125,16 +124,16 @@ module _ (first : List (List ℕ)) (all : List Event) (old new : SoFar)
 
   pub limits_kept : new.count.lines ≤ LINES → new.count.bytes ≤ BYTES → IsWithinLimits (taken_lines all)
   limits_kept few small =
-      subst (λ (events : List Event). IsWithinLimits (taken_lines events)) came (record {
+      rw (← came) (record {
         short = gives.short;
         few = omega (arith, gives.lines_are, few);
         small = omega (arith, gives.bytes_are, small);
       })
 
 -- with one more line than was taken a sum would pass its limit, and that line is among all
-pub passes_sums : (first : List (List ℕ)) (old : SoFar) (now : Count) (lines : List Line) (events : List Event)
+pub passes_sums : (first : List (List ℕ)) (old : SoFar) {now : Count} {lines : List Line} {events : List Event}
     → old ≡ begun_with first → StopsBehind lines TooMuchText old.count now events → PassesSums events
-passes_sums first old now lines events began ahead =
+passes_sums first old {lines} began ahead =
     let no_lines : old.count.lines ≡ 0 = ap (λ (s : SoFar). s.count.lines) began in
     let no_bytes : old.count.bytes ≡ 0 = ap (λ (s : SoFar). s.count.bytes) began in
     elim ahead.why.passes [
@@ -154,8 +153,7 @@ writing_cause (LineTooLong file) first old now events Wrote began kind why =
       whole = why.stops.whole;
       why = why.stops.why;
     }
-writing_cause TooMuchText first old now events Wrote began kind why =
-    passes_sums first old now why.lines events began why.stops
+writing_cause TooMuchText first old now events Wrote began kind why = passes_sums first old began why.stops
 writing_cause Memory first old now events Wrote began kind why = tt
 writing_cause WriteFault first old now events Wrote began kind why = tt
 writing_cause stop first old now events Wrote began kind why = absurd kind

@@ -47,27 +47,27 @@ some_from zero never = absurd (never refl)
 some_from (suc n) never = omega arith
 
 -- where no fault is counted there is nothing to log
-pub none_said : (items : List Item) (stream : SeenStream)
+pub none_said : (items : List Item) {stream : SeenStream}
     → length items ≡ 0 → DoesInLog (map says items) None stream stream
-none_said [] stream none = said_none stream
-none_said (item ∷ items) stream none = absurd (omega (arith, none))
+none_said [] {stream} none = said_none
+none_said (item ∷ items) none = absurd (omega (arith, none))
 
-pub some_said : {A E : Type 0} (r : Result A E) (items : List Item) (old new : SeenStream) → 0 < length items
+pub some_said : {A E : Type 0} {r : Result A E} (items : List Item) {old new : SeenStream} → 0 < length items
     → Writes (flat_map line items) old new r → DoesInLog (map says items) (told r) old new
-some_said r [] old new some writes = absurd (omega (arith, some))
-some_said r (item ∷ items) old new some writes = said_all r item items old new writes
+some_said [] some writes = absurd (omega (arith, some))
+some_said {r} (item ∷ items) {old} {new} some writes = said_all r item items writes
 
 -- one text was written behind another
-pub writes_on : {A E B F : Type 0} (x : A) (r : Result B F) (a b : List ℕ) (old mid new : SeenStream)
+pub writes_on : {A E B F : Type 0} (x : A) (r : Result B F) {a b : List ℕ} {old mid new : SeenStream}
     → Writes {E = E} a old mid (Ok x) → Writes b mid new r → Writes (a ++ b) old new r
-writes_on x (Ok y) a b old mid new first then = record {
+writes_on x (Ok y) {a} {b} {old} first then = record {
   tells = then.tells ∙ first.tells;
   counts = then.counts ∙ first.counts;
   whole = λ tells. then.whole (subst IsTrue (sym first.tells) tells)
       ∙ ap (λ (t : List ℕ). t ++ b) (first.whole tells) ∙ append_assoc old.bytes a b;
   front = λ tells. tt;
 }
-writes_on x (Err e) a b old mid new first then = record {
+writes_on x (Err e) {a} {old} first then = record {
   tells = then.tells ∙ first.tells;
   counts = then.counts ∙ ap (λ (n : ℕ). n + 1) first.counts;
   whole = λ tells. tt;
@@ -80,10 +80,10 @@ writes_on x (Err e) a b old mid new first then = record {
   };
 }
 
-pub writes_in : {A E B F : Type 0} (e : E) (r : Result B F) (a b : List ℕ) (old new : SeenStream)
+pub writes_in : {A E B F : Type 0} (e : E) (r : Result B F) {a : List ℕ} (b : List ℕ) {old new : SeenStream}
     → Writes {A = A} a old new (Err e) → IsErr r → Writes (a ++ b) old new r
-writes_in e (Ok x) a b old new fails is = absurd (cc)
-writes_in e (Err f) a b old new fails is = record {
+writes_in e (Ok x) b fails is = absurd (cc)
+writes_in e (Err f) b fails is = record {
   tells = fails.tells;
   counts = fails.counts;
   whole = λ tells. tt;

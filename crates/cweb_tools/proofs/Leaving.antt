@@ -1,153 +1,132 @@
 -- Files and drafts behind a run, act by act.
-use Rattle.cweb_tools.proofs.Common.{◌≡◌, inl, inr, ℕ, ◌+◌, Bool, true, false, List, [], ◌∷◌, ◌++◌, map, refl, sym, ◌∙◌, ap, append-nil, Option, Some, None, File, Event, Stop, Usage, WebNotOpened, ChangeNotOpened, ReadFault, LineTooLong, TooMuchText, Memory, OutNotOpened, WriteFault, LogFault, Item, fault_count, Shown, Held, Act, judges, says, opens, reads, plans, reserves, writes, after_act, Ending, ending, Breaks, Runs, LogsLine, LogsStop, TangleEnds, completes, stops, LeavesFiles, put_files, Numbers, Planning, refused, Web, closing_acts, files_in, planned_acts, script, starred_acts, tangle_files, tangling, when}
+use Rattle.cweb_tools.proofs.Common.{◌≡◌, inl, inr, ℕ, ◌+◌, false, List, [], ◌∷◌, ◌++◌, refl, sym, ◌∙◌, ap, subst, add-zero, arith, Option, Some, None, read_blame, bins_blame, File, Event, Stop, ReadFault, LineTooLong, TooMuchText, Memory, OutNotOpened, WriteFault, LogFault, Item, fault_count, Shown, Held, Act, says, reads, writes, after_act, Ending, ending, Breaks, Runs, LogsStop, TangleEnds, completes, stops, LeavesFiles, put_files, refused, Web, files_in, script, tangling}
+use Rattle.cweb_tools.proofs.WebActs.{when_on, said_on, starred_on, closing_on}
 
--- what stops an act changes no file
-pub break_files : (act : Act) (stop : Stop) (about : List ℕ) (old new : Held)
-    → Breaks act (ending stop about) old new → new.files ≡ old.files
-break_files judges Memory about old new broke = ap (λ (d : Held). d.files) broke
-break_files (says item) LogFault about old new broke = ap (λ (d : Held). d.files) broke.is
-break_files opens Memory about old new broke = ap (λ (d : Held). d.files) broke
-break_files (reads names events) (ReadFault file) about old new broke = ap (λ (d : Held). d.files) broke.1
-break_files (reads names events) (LineTooLong file) about old new broke = ap (λ (d : Held). d.files) broke.2
-break_files (reads names events) TooMuchText about old new broke = ap (λ (d : Held). d.files) broke.1
-break_files (reads names events) Memory about old new broke = ap (λ (d : Held). d.files) broke
-break_files plans Memory about old new broke = ap (λ (d : Held). d.files) broke
-break_files reserves Memory about old new broke = ap (λ (d : Held). d.files) broke
-break_files (writes name text) Memory about old new broke = ap (λ (d : Held). d.files) broke
-break_files (writes name text) OutNotOpened about old new broke = ap (λ (d : Held). d.files) broke.1
-break_files (writes name text) WriteFault about old new broke = ap (λ (d : Held). d.files) broke.1
-break_files act stop about old new broke = absurd broke
+-- what stops an act changes no file and leaves no draft; the count of the device rises whose stop it is, and only
+-- the log's stop
+-- changes the log
+pub record Broken (stop : Stop) (old new : Held) : Type 0 where
+  pub files : new.files ≡ old.files
+  pub draft : old.draft ≡ None → new.draft ≡ None
+  pub shelf : new.shelf_failed ≡ old.shelf_failed + read_blame stop
+  pub bins : new.bins_failed ≡ old.bins_failed + bins_blame stop
+  pub log : (stop ≡ LogFault → ⊥) → (new.log ≡ old.log) × (new.log_failed ≡ old.log_failed)
 
--- and leaves no draft
-break_draft : (act : Act) (stop : Stop) (about : List ℕ) (old new : Held)
-    → old.draft ≡ None → Breaks act (ending stop about) old new → new.draft ≡ None
-break_draft judges Memory about old new none broke = ap (λ (d : Held). d.draft) broke ∙ none
-break_draft (says item) LogFault about old new none broke = ap (λ (d : Held). d.draft) broke.is ∙ none
-break_draft opens Memory about old new none broke = ap (λ (d : Held). d.draft) broke ∙ none
-break_draft (reads names events) (ReadFault file) about old new none broke = ap (λ (d : Held). d.draft) broke.1 ∙ none
-break_draft (reads names events) (LineTooLong file) about old new none broke = ap (λ (d : Held). d.draft) broke.2 ∙ none
-break_draft (reads names events) TooMuchText about old new none broke = ap (λ (d : Held). d.draft) broke.1 ∙ none
-break_draft (reads names events) Memory about old new none broke = ap (λ (d : Held). d.draft) broke ∙ none
-break_draft plans Memory about old new none broke = ap (λ (d : Held). d.draft) broke ∙ none
-break_draft reserves Memory about old new none broke = ap (λ (d : Held). d.draft) broke ∙ none
-break_draft (writes name text) Memory about old new none broke = ap (λ (d : Held). d.draft) broke
-break_draft (writes name text) OutNotOpened about old new none broke = ap (λ (d : Held). d.draft) broke.1
-break_draft (writes name text) WriteFault about old new none broke = ap (λ (d : Held). d.draft) broke.1
-break_draft act stop about old new none broke = absurd broke
+-- nothing changed
+quiet : {stop : Stop} {old new : Held} → read_blame stop ≡ 0 → bins_blame stop ≡ 0 → new ≡ old → Broken stop old new
+quiet {stop} {old} no_read no_bins is = subst (Broken stop old) (sym is) (record {
+  files = refl;
+  draft = λ none. none;
+  shelf = omega (arith, no_read);
+  bins = omega (arith, no_bins);
+  log = λ never. (refl, refl);
+})
+
+-- a file is not written
+unwritten : {stop : Stop} {old new : Held} (left : Held) → new ≡ left → left.files ≡ old.files → left.draft ≡ None
+    → left.shelf_failed ≡ old.shelf_failed + read_blame stop → left.bins_failed ≡ old.bins_failed + bins_blame stop
+    → left.log ≡ old.log → left.log_failed ≡ old.log_failed → Broken stop old new
+unwritten {stop} {old} left is files draft shelf bins log failed = subst (Broken stop old) (sym is)
+    (record { files = files; draft = λ none. draft; shelf = shelf; bins = bins; log = λ never. (log, failed) })
+
+pub broken : (act : Act) (stop : Stop) (about : List ℕ) (old new : Held)
+    → Breaks act (ending stop about) old new → Broken stop old new
+broken (says item) LogFault about old new broke = subst (Broken LogFault old) (sym broke.is) (record {
+  files = refl;
+  draft = λ none. none;
+  shelf = sym (add-zero old.shelf_failed);
+  bins = sym (add-zero old.bins_failed);
+  log = λ never. absurd (never refl);
+})
+broken (reads names events) (ReadFault file) about old new broke =
+    subst (Broken (ReadFault file) old) (sym broke.1) (record {
+      files = refl;
+      draft = λ none. none;
+      shelf = refl;
+      bins = sym (add-zero old.bins_failed);
+      log = λ never. (refl, refl);
+    })
+broken (reads names events) (LineTooLong file) about old new broke = quiet refl refl broke.2
+broken (reads names events) TooMuchText about old new broke = quiet refl refl broke.1
+broken (writes name text) Memory about old new broke =
+    unwritten _ broke refl refl (sym (add-zero _)) (sym (add-zero _)) refl refl
+broken (writes name text) OutNotOpened about old new broke =
+    unwritten _ broke.1 refl refl (sym (add-zero _)) refl refl refl
+broken (writes name text) WriteFault about old new broke =
+    unwritten _ broke.1 refl refl (sym (add-zero _)) refl refl refl
+broken (says item) Memory about old new broke = absurd broke
+broken act Memory about old new broke = quiet refl refl broke
+broken act stop about old new broke = absurd broke
 
 -- nothing was put in
-none_done : (due old new : List File) → new ≡ old → LeavesFiles due old new
-none_done due old new same = record { done = []; undone = due; whole = refl; is = same }
+none_done : {due old new : List File} → new ≡ old → LeavesFiles due old new
+none_done {due} same = record { done = []; undone = due; whole = refl; is = same }
 
-runs_files : (acts : List Act) (why : Option Ending) (old new : Held)
-    → Runs acts why old new → LeavesFiles (files_in acts) old.files new.files
-runs_files [] None old new run = none_done [] old.files new.files (ap (λ (d : Held). d.files) run)
-runs_files [] (Some why) old new run = absurd run
-runs_files (judges ∷ acts) why old new (inl run) = runs_files acts why old new run.1
-runs_files (says item ∷ acts) why old new (inl run) = runs_files acts why (after_act (says item) old) new run.1
-runs_files (opens ∷ acts) why old new (inl run) = runs_files acts why old new run.1
-runs_files (reads names events ∷ acts) why old new (inl run) = runs_files acts why old new run.1
-runs_files (plans ∷ acts) why old new (inl run) = runs_files acts why old new run.1
-runs_files (reserves ∷ acts) why old new (inl run) = runs_files acts why old new run.1
-runs_files (writes name text ∷ acts) why old new (inl run) =
+-- the files and the draft behind acts
+abbrev Leaves : List Act → Held → Held → Type 0
+Leaves acts old new = LeavesFiles (files_in acts) old.files new.files × (old.draft ≡ None → new.draft ≡ None)
+
+runs_left : (acts : List Act) (why : Option Ending) (old new : Held) → Runs acts why old new → Leaves acts old new
+runs_left [] None old new run =
+    (none_done (ap (λ (d : Held). d.files) run), λ none. ap (λ (d : Held). d.draft) run ∙ none)
+runs_left [] (Some why) old new run = absurd run
+runs_left (writes name text ∷ acts) why old new (inl run) =
     let file : File = record { name = name; bytes = text } in
-    let rest : LeavesFiles (files_in acts) (after_act (writes name text) old).files new.files =
-    runs_files acts why (after_act (writes name text) old) new run.1 in
-    record {
-      done = file ∷ rest.done;
-      undone = rest.undone;
-      whole = ap (λ (fs : List File). file ∷ fs) rest.whole;
-      is = rest.is;
-    }
-runs_files (act ∷ acts) None old new (inr broke) = absurd broke
-runs_files (act ∷ acts) (Some (ending stop about)) old new (inr broke) =
-    none_done (files_in (act ∷ acts)) old.files new.files (break_files act stop about old new broke)
+    let rest = runs_left acts why (after_act (writes name text) old) new run.1 in (
+      record {
+        done = file ∷ rest.0.done;
+        undone = rest.0.undone;
+        whole = ap (λ (fs : List File). file ∷ fs) rest.0.whole;
+        is = rest.0.is;
+      },
+      λ none. rest.1 refl,
+    )
+runs_left (act ∷ acts) why old new (inl run) = runs_left acts why (after_act act old) new run.1
+runs_left (act ∷ acts) None old new (inr broke) = absurd broke
+runs_left (act ∷ acts) (Some (ending stop about)) old new (inr broke) =
+    let left = broken act stop about old new broke in
+    (none_done left.files, left.draft)
 
-runs_draft : (acts : List Act) (why : Option Ending) (old new : Held)
-    → old.draft ≡ None → Runs acts why old new → new.draft ≡ None
-runs_draft [] None old new none run = ap (λ (d : Held). d.draft) run ∙ none
-runs_draft [] (Some why) old new none run = absurd run
-runs_draft (judges ∷ acts) why old new none (inl run) = runs_draft acts why old new none run.1
-runs_draft (says item ∷ acts) why old new none (inl run) =
-    runs_draft acts why (after_act (says item) old) new none run.1
-runs_draft (opens ∷ acts) why old new none (inl run) = runs_draft acts why old new none run.1
-runs_draft (reads names events ∷ acts) why old new none (inl run) = runs_draft acts why old new none run.1
-runs_draft (plans ∷ acts) why old new none (inl run) = runs_draft acts why old new none run.1
-runs_draft (reserves ∷ acts) why old new none (inl run) = runs_draft acts why old new none run.1
-runs_draft (writes name text ∷ acts) why old new none (inl run) =
-    runs_draft acts why (after_act (writes name text) old) new refl run.1
-runs_draft (act ∷ acts) None old new none (inr broke) = absurd broke
-runs_draft (act ∷ acts) (Some (ending stop about)) old new none (inr broke) =
-    break_draft act stop about old new none broke
+-- the line of a stop changes the log alone
+abbrev LogAlone : Held → Held → Type 0
+LogAlone old new = new ≡ record old { log_failed = new.log_failed; log = new.log }
 
--- a line of the log changes nothing else
-line_files : (text : List ℕ) (old new : Held) → LogsLine text old new → new.files ≡ old.files
-line_files text old new (inl is) = ap (λ (d : Held). d.files) is
-line_files text old new (inr fails) = ap (λ (d : Held). d.files) fails.is
+pub stop_logged : (stop : Stop) (about : List ℕ) (old new : Held)
+    → LogsStop (ending stop about) old new → new ≡ record old { log_failed = new.log_failed; log = new.log }
+stop_logged LogFault about old new is = subst (LogAlone old) (sym is) refl
+stop_logged _ about old new (inl is) = subst (LogAlone old) (sym is) refl
+stop_logged _ about old new (inr fails) = subst (LogAlone old) (sym fails.is) refl
 
-line_draft : (text : List ℕ) (old new : Held) → LogsLine text old new → new.draft ≡ old.draft
-line_draft text old new (inl is) = ap (λ (d : Held). d.draft) is
-line_draft text old new (inr fails) = ap (λ (d : Held). d.draft) fails.is
+ends_left : {acts : List Act} {due : ℕ} {old new : Held} {status : ℕ}
+    → TangleEnds acts due old new status → Leaves acts old new
+ends_left {acts} {old} {new} (completes run answered) = runs_left acts None old new run
+ends_left {acts} {old} {new} (stops (ending stop about) then run logs answered) =
+    let rest = runs_left acts (Some (ending stop about)) old then run in
+    rw (stop_logged stop about then new logs) rest
 
-pub stop_files : (stop : Stop) (about : List ℕ) (old new : Held)
-    → LogsStop (ending stop about) old new → new.files ≡ old.files
-stop_files LogFault about old new logs = ap (λ (d : Held). d.files) logs
-stop_files _ about old new logs = line_files _ old new logs
-
-stop_draft : (stop : Stop) (about : List ℕ) (old new : Held)
-    → LogsStop (ending stop about) old new → new.draft ≡ old.draft
-stop_draft LogFault about old new logs = ap (λ (d : Held). d.draft) logs
-stop_draft _ about old new logs = line_draft _ old new logs
-
-pub ends_files : (acts : List Act) (due : ℕ) (old new : Held) (status : ℕ)
+pub ends_files : {acts : List Act} {due : ℕ} {old new : Held} {status : ℕ}
     → TangleEnds acts due old new status → LeavesFiles (files_in acts) old.files new.files
-ends_files acts due old new status (completes run answered) = runs_files acts None old new run
-ends_files acts due old new status (stops (ending stop about) then run logs answered) =
-    let rest : LeavesFiles (files_in acts) old.files then.files =
-    runs_files acts (Some (ending stop about)) old then run in
-    record {
-      done = rest.done;
-      undone = rest.undone;
-      whole = rest.whole;
-      is = stop_files stop about then new logs ∙ rest.is;
-    }
+ends_files ends = (ends_left ends).0
 
-pub ends_draft : (acts : List Act) (due : ℕ) (old new : Held) (status : ℕ)
+pub ends_draft : {acts : List Act} {due : ℕ} {old new : Held} {status : ℕ}
     → old.draft ≡ None → TangleEnds acts due old new status → new.draft ≡ None
-ends_draft acts due old new status none (completes run answered) = runs_draft acts None old new none run
-ends_draft acts due old new status none (stops (ending stop about) then run logs answered) =
-    stop_draft stop about then new logs ∙ runs_draft acts (Some (ending stop about)) old then none run
+ends_draft none ends = (ends_left ends).1 none
 
 -- acts that only log write no file
-files_in-when : (b : Bool) (item : Item) (acts : List Act) → files_in (when b item ++ acts) ≡ files_in acts
-files_in-when true item acts = refl
-files_in-when false item acts = refl
-
-files_in-said : (items : List Item) (acts : List Act) → files_in (map says items ++ acts) ≡ files_in acts
-files_in-said [] acts = refl
-files_in-said (item ∷ items) acts = files_in-said items acts
-
-files_in-starred : (progress : Bool) (numbers : List ℕ) (acts : List Act)
-    → files_in (starred_acts progress numbers ++ acts) ≡ files_in acts
-files_in-starred progress [] acts = refl
-files_in-starred progress (n ∷ numbers) acts = files_in-when progress _ acts
-
-files_in-closing : (shown : Shown) (numbers : Numbers) (count : ℕ) (missing : Bool)
-    → files_in (closing_acts shown numbers count missing) ≡ []
-files_in-closing shown numbers count missing =
-    files_in-when shown.statistics _ _ ∙ ap files_in (sym (append-nil (when shown.closing _)))
-    ∙ files_in-when shown.closing _ []
-
 refused_files : (shown : Shown) (names : List (List ℕ)) (events : List Event) (web : Web) (text : List ℕ)
     → web.plan ≡ refused text → files_in (script shown (tangling names events web)) ≡ []
 refused_files shown names events web text is =
-    files_in-when shown.banner _ _ ∙ files_in-starred shown.progress web.starred _ ∙ files_in-said web.faults _
-    ∙ ap (λ (plan : Planning). files_in (planned_acts shown web.numbers (fault_count web.faults) plan)) is
-    ∙ files_in-closing shown web.numbers (fault_count web.faults + 1) false
+    let None-in : List Act → Type 0 = λ acts. files_in acts ≡ [] in
+    let said : (item : Item) (acts : List Act)
+    → Unit {0} → None-in acts → None-in (says item ∷ acts) = λ item acts said none. none in
+    let Any : Item → Type 0 = λ item. Unit {0} in
+    when_on Any None-in said shown.banner _ _ tt
+    (starred_on Any None-in said shown.progress web.starred _ (λ ns. tt) (said_on Any None-in said web.faults _
+    (λ item. tt) (rw is (closing_on Any None-in said shown web.numbers (fault_count web.faults + 1) false tt tt refl))))
 
 -- of no files none is put in
-none_due : (due old new : List File) → due ≡ [] → LeavesFiles due old new → new ≡ old
-none_due due old new none leaves = nothing leaves.done leaves.undone (sym none ∙ leaves.whole) leaves.is
+none_due : {due old new : List File} → due ≡ [] → LeavesFiles due old new → new ≡ old
+none_due {old} {new} none leaves = nothing leaves.done leaves.undone (sym none ∙ leaves.whole) leaves.is
   where
     nothing : (done undone : List File) → [] ≡ done ++ undone → new ≡ put_files old done → new ≡ old
     nothing [] undone whole is = is
@@ -157,5 +136,4 @@ pub refused_stays : (shown : Shown) (names : List (List ℕ)) (events : List Eve
     → web.plan ≡ refused text → (due : ℕ) (old new : Held) (status : ℕ)
     → TangleEnds (script shown (tangling names events web)) due old new status → new.files ≡ old.files
 refused_stays shown names events web text is due old new status ends =
-    none_due (tangle_files shown (tangling names events web)) old.files new.files (refused_files shown
-    names events web text is) (ends_files (script shown (tangling names events web)) due old new status ends)
+    none_due (refused_files shown names events web text is) (ends_files ends)

@@ -14,6 +14,7 @@ pub mod Promised
 pub mod Promises
 pub mod ReadAlls
 pub mod Leaving
+pub mod WebActs
 pub mod Limits
 pub mod Logging
 pub mod Marks

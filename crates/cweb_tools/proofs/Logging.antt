@@ -1,5 +1,5 @@
 -- Items that are logged are acts that are done.
-use Rattle.cweb_tools.proofs.Common.{◌≡◌, ◌<◌, ◌+◌, ◌⊎◌, inl, inr, ℕ, zero, suc, List, [], ◌∷◌, ◌++◌, map, refl, sym, ◌∙◌, ap, subst, append_assoc, append-nil, add-zero, length, arith, flat_map, ◌==◌, Bool, true, false, IsTrue, None, Some, Result, Ok, Err, WritesFront, LogFault, Writes, Item, line, starred, SeenBins, SeenRun, SeenShelf, SeenStream, ending, Held, Runs, after_act, says, AsTold, DoesInLog, told, starred_acts, when}
+use Rattle.cweb_tools.proofs.Common.{◌≡◌, ◌<◌, ◌+◌, ◌⊎◌, inl, inr, ℕ, zero, suc, List, [], ◌∷◌, ◌++◌, map, refl, sym, ◌∙◌, ap, append_assoc, append-nil, add-zero, length, arith, flat_map, ◌==◌, Bool, true, false, IsTrue, Option, None, Some, Logs, Ending, read_blame, bins_blame, log_blame, rise, Act, Result, Ok, Err, WritesFront, LogFault, Writes, Item, line, starred, SeenBins, SeenRun, SeenShelf, SeenStream, ending, Held, Runs, after_act, says, AsTold, DoesInLog, told, starred_acts, when}
 use Rattle.cweb_tools.proofs.Doing.{does_none}
 
 -- two ways to cut a text in two: the first front ends within the second's, or the second's within it
@@ -28,9 +28,7 @@ front_stops item (next ∷ items) front rest old is =
       | inl cut ↦ inr (record { front = front; rest = cut.0; whole = cut.1; is = refl })
       | inr cut ↦ inl (
         tt,
-        subst (λ (t : List ℕ). Runs (map says (next ∷ items)) (Some (ending LogFault []))
-            (after_act (says item) old) (record old { log_failed = old.log_failed + 1; log = t }))
-            (append_assoc old.log (line item) cut.0 ∙ ap (λ (t : List ℕ). old.log ++ t) (sym cut.1))
+        rw (← (append_assoc old.log (line item) cut.0 ∙ ap (λ (t : List ℕ). old.log ++ t) (sym cut.1)))
             (front_stops next items cut.0 rest (after_act (says item) old) cut.2),
       )
     ]
@@ -41,100 +39,104 @@ all_said : (items : List Item) (old : Held)
 all_said [] old = λ i. record old { log = append-nil old.log i }
 all_said (item ∷ items) old = inl (
   tt,
-  subst (λ (t : List ℕ). Runs (map says items) None (after_act (says item) old) (record old { log = t }))
-      (append_assoc old.log (line item) (flat_map line items))
-      (all_said items (after_act (says item) old)),
+  rw (← (append_assoc old.log (line item) (flat_map line items))) (all_said items (after_act (says item) old)),
 )
 
 abbrev pub at : SeenShelf → SeenBins → SeenStream → SeenRun
 at shelf bins log = record { shelf = shelf; bins = bins; log = log }
 
 -- a front of a text was written, and where it is told this is the one
-pub record FrontTold (tells : Bool) (old new text : List ℕ) : Type 0 where
+record FrontTold (tells : Bool) (old new text : List ℕ) : Type 0 where
   pub front : List ℕ
   pub rest : List ℕ
   pub whole : text ≡ front ++ rest
   pub written : IsTrue tells → new ≡ old ++ front
 
-pub front_told : (tells : Bool) (old new text : List ℕ)
+front_told : (tells : Bool) {old new text : List ℕ}
     → (IsTrue tells → WritesFront old new text) → FrontTold tells old new text
-front_told true old new text writes =
+front_told true {old} {new} {text} writes =
     let front : WritesFront old new text = writes refl in
     record { front = front.front; rest = front.rest; whole = front.whole; written = λ tell. front.written }
-front_told false old new text writes = record { front = []; rest = text; whole = refl; written = λ tell. absurd (cc) }
+front_told false {text} writes = record { front = []; rest = text; whole = refl; written = λ tell. absurd (cc) }
 
 -- what the devices hold where the log alone has changed
-pub log_told : (now left : Held) (shelf : SeenShelf) (bins : SeenBins) (old new : SeenStream)
-    → AsTold now (at shelf bins old) → left ≡ record now { log_failed = left.log_failed; log = left.log }
-    → left.log_failed ≡ new.failed → (IsTrue new.tells → left.log ≡ new.bytes) → AsTold left (at shelf bins new)
-log_told now left shelf bins old new told is count bytes = record {
-  shelf_failed = ap (λ (h : Held). h.shelf_failed) is ∙ told.shelf_failed;
-  bins_failed = ap (λ (h : Held). h.bins_failed) is ∙ told.bins_failed;
-  log_failed = count;
-  blamed = λ tells. ap (λ (h : Held). h.blamed) is ∙ told.blamed tells;
-  files = λ tells. ap (λ (h : Held). h.files) is ∙ told.files tells;
-  draft = λ tells. ap (λ (h : Held). h.draft) is ∙ told.draft tells;
-  refused = λ tells. ap (λ (h : Held). h.refused) is ∙ told.refused tells;
+log_told : {now : Held} (count : ℕ) (text : List ℕ) (shelf : SeenShelf) (bins : SeenBins) (old new : SeenStream)
+    → AsTold now (at shelf bins old) → count ≡ new.failed → (IsTrue new.tells → text ≡ new.bytes)
+    → AsTold (record now { log_failed = count; log = text }) (at shelf bins new)
+log_told count text shelf bins old new told counted bytes = record {
+  shelf_failed = told.shelf_failed;
+  bins_failed = told.bins_failed;
+  log_failed = counted;
+  blamed = told.blamed;
+  files = told.files;
+  draft = told.draft;
+  refused = told.refused;
   log = bytes;
 }
 
--- writing the lines of items, of which there are some, is logging them
-pub said_all : {A E : Type 0} (r : Result A E) (item : Item) (items : List Item) (old new : SeenStream)
-    → Writes (flat_map line (item ∷ items)) old new r → DoesInLog (map says (item ∷ items)) (told r) old new
-said_all (Ok x) item items old new writes = λ shelf bins. record {
+-- acts that log a text
+does_logged : {acts : List Act} {why : Option Ending} (more : ℕ → ℕ) (text : List ℕ) {old new : SeenStream}
+    → rise read_blame why ≡ 0 → rise bins_blame why ≡ 0 → ((n : ℕ) → more n ≡ n + rise log_blame why)
+    → new.tells ≡ old.tells → new.failed ≡ more old.failed → (IsTrue old.tells → new.bytes ≡ old.bytes ++ text)
+    → ((now : Held) → Runs acts why now (record now { log_failed = more now.log_failed; log = now.log ++ text }))
+    → DoesInLog acts why old new
+does_logged more text {old} {new} no_read no_bins rises tells count bytes runs = λ shelf bins. record {
   shelf_tells = refl;
   bins_tells = refl;
-  log_tells = writes.tells;
-  shelf = sym (add-zero shelf.failed);
-  bins = sym (add-zero bins.failed);
-  log = writes.counts ∙ sym (add-zero old.failed);
-  runs = λ now told. let text : List ℕ = flat_map line (item ∷ items) in record {
-    left = record now { log = now.log ++ text };
-    told = log_told now _ shelf bins old new told refl (told.log_failed ∙ sym writes.counts) (λ tell.
-        let first : IsTrue old.tells = sym writes.tells ∙ tell in
-        ap (λ (t : List ℕ). t ++ text) (told.log first) ∙ sym (writes.whole first));
-    runs = all_said (item ∷ items) now;
+  log_tells = tells;
+  shelf = omega (arith, no_read);
+  bins = omega (arith, no_bins);
+  log = count ∙ rises old.failed;
+  runs = λ now told. record {
+    left = record now { log_failed = more now.log_failed; log = now.log ++ text };
+    told = log_told _ _ shelf bins old new told (ap more told.log_failed ∙ sym count) (λ tell.
+        let first : IsTrue old.tells = sym tells ∙ tell in
+        ap (λ (t : List ℕ). t ++ text) (told.log first) ∙ sym (bytes first));
+    runs = runs now;
   };
 }
-said_all (Err e) item items old new writes = λ shelf bins. record {
-  shelf_tells = refl;
-  bins_tells = refl;
-  log_tells = writes.tells;
-  shelf = sym (add-zero shelf.failed);
-  bins = sym (add-zero bins.failed);
-  log = writes.counts;
-  runs = λ now told.
-      let front = front_told old.tells old.bytes new.bytes (flat_map line (item ∷ items)) writes.front in record {
-        left = record now { log_failed = now.log_failed + 1; log = now.log ++ front.front };
-        told = log_told now _ shelf bins old new told refl (ap (λ (n : ℕ). n + 1) told.log_failed ∙ sym writes.counts)
-            (λ tell.
-            let first : IsTrue old.tells = sym writes.tells ∙ tell in
-            ap (λ (t : List ℕ). t ++ front.front) (told.log first) ∙ sym (front.written first));
-        runs = front_stops item items front.front front.rest now front.whole;
-      };
-}
+
+-- writing the lines of items, of which there are some, is logging them
+pub said_all : {A E : Type 0} (r : Result A E) (item : Item) (items : List Item) {old new : SeenStream}
+    → Writes (flat_map line (item ∷ items)) old new r → DoesInLog (map says (item ∷ items)) (told r) old new
+said_all (Ok x) item items writes = does_logged (λ n. n) (flat_map line (item ∷ items))
+    refl refl (λ n. sym (add-zero n)) writes.tells writes.counts writes.whole (all_said (item ∷ items))
+said_all (Err e) item items {old} writes =
+    let front = front_told old.tells writes.front in
+    does_logged (λ n. n + 1) front.front refl refl (λ n. refl) writes.tells
+    writes.counts front.written (λ now. front_stops item items front.front front.rest now front.whole)
 
 -- a line
-pub said : {A E : Type 0} (r : Result A E) (item : Item) (old new : SeenStream)
+pub said : {A E : Type 0} {r : Result A E} (item : Item) {old new : SeenStream}
     → Writes (line item) old new r → DoesInLog (says item ∷ []) (told r) old new
-said r item old new writes =
-    said_all r item [] old new (subst (λ (t : List ℕ). Writes t old new r) (sym (append-nil (line item))) writes)
+said {r} item {old} {new} writes = said_all r item [] (rw (append-nil (line item)) writes)
+
+-- what was logged, or a front of it, was written
+pub logs_write : {text : List ℕ} {old new : SeenStream}
+    → Logs text old new → (r : Result (Unit {0}) (Unit {0})) × Writes text old new r
+logs_write logs = elim logs.once [
+  | inl kept ↦ (
+    Ok tt,
+    record { tells = logs.tells; counts = kept; whole = λ tell. logs.whole tell kept; front = λ tell. tt },
+  )
+  | inr rose ↦ (Err tt, record { tells = logs.tells; counts = rose; whole = λ tell. tt; front = logs.front })
+]
 
 -- nothing was to be logged
-pub said_none : (stream : SeenStream) → DoesInLog [] None stream stream
-said_none stream = λ shelf bins. does_none (at shelf bins stream)
+pub said_none : {stream : SeenStream} → DoesInLog [] None stream stream
+said_none = λ shelf bins. does_none
 
 -- a line that is asked for
-pub said_when : {A E : Type 0} (r : Result A E) (asked : Bool) (item : Item) (old new : SeenStream)
+pub said_when : {A E : Type 0} {r : Result A E} (asked : Bool) (item : Item) {old new : SeenStream}
     → asked ≡ true → Writes (line item) old new r → DoesInLog (when asked item) (told r) old new
-said_when r true item old new is writes = said r item old new writes
-said_when r false item old new is writes = absurd (cc)
+said_when true item is writes = said item writes
+said_when false item is writes = absurd (cc)
 
 -- and one that isn't
-pub said_not : (asked : Bool) (item : Item) (stream : SeenStream) → asked ≡ false
+pub said_not : (asked : Bool) (item : Item) {stream : SeenStream} → asked ≡ false
     → DoesInLog (when asked item) None stream stream
-said_not true item stream is = absurd (cc)
-said_not false item stream is = said_none stream
+said_not true item is = absurd (cc)
+said_not false item is = said_none
 
 -- a list that isn't empty has elements
 pub some_by : (n : ℕ) → (n == 0) ≡ false → 0 < n
@@ -142,9 +144,8 @@ some_by zero is = absurd (cc)
 some_by (suc n) is = omega arith
 
 -- the numbers of starred sections, of which there are some
-pub said_starred : {A E : Type 0} (r : Result A E) (progress : Bool) (numbers : List ℕ) (old new : SeenStream)
+pub said_starred : {A E : Type 0} {r : Result A E} (progress : Bool) (numbers : List ℕ) {old new : SeenStream}
     → progress ≡ true → 0 < length numbers
     → Writes (line (starred numbers)) old new r → DoesInLog (starred_acts progress numbers) (told r) old new
-said_starred r progress [] old new is some writes = absurd (omega (arith, some))
-said_starred r progress (n ∷ numbers) old new is some writes =
-    said_when r progress (starred (n ∷ numbers)) old new is writes
+said_starred progress [] is some writes = absurd (omega (arith, some))
+said_starred progress (n ∷ numbers) is some writes = said_when progress (starred (n ∷ numbers)) is writes

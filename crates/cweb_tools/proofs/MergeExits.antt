@@ -1,5 +1,5 @@
 -- How the exits of a run that begins a merge are its ends.
-use Rattle.cweb_tools.proofs.Common.{◌≤◌, ◌≡◌, ◌≢◌, ◌+◌, ℕ, List, [], ◌∷◌, ◌++◌, length, sym, ◌∙◌, ap, subst, Option, IsTrue, names_found, World, Found, Event, SoFar, Gives, TellsFront, blame, files_named, read_blame, given_lines, Begins, text_of, StopsWriting, WritingStops, WritesFront, write_blame, SourceFault, LINES, BYTES, Stop, Logs, fault_lines, stop_line, subject, Seen, WebNames, Course, merging, found_course, fault_status, merged, AreOpened, CanStop, HasMerged, Merges}
+use Rattle.cweb_tools.proofs.Common.{◌≤◌, ◌≡◌, ◌≢◌, ◌+◌, ℕ, List, [], ◌∷◌, ◌++◌, length, sym, ◌∙◌, ap, Option, IsTrue, names_found, World, Found, Event, SoFar, Gives, TellsFront, blame, files_named, read_blame, given_lines, Begins, text_of, StopsWriting, WritingStops, WritesFront, write_blame, SourceFault, LINES, BYTES, Stop, Logs, fault_lines, stop_line, subject, Seen, WebNames, merging, found_course, fault_status, merged, Merges}
 use Rattle.cweb_tools.specs.Run.{completes, stops}
 use Rattle.cweb_tools.proofs.Exits.{begins_course, opened_by, names_told, faults_told, limits_kept, writing_cause, writing_comes, writing_about}
 
@@ -27,7 +27,7 @@ module _ (world : World) (names : WebNames) (found : Option Found) (changes : Op
       completes (record {
         files = files;
         faults = faults;
-        all = λ tells. subst (λ (course : Course). HasMerged course files faults) (sym (begun tells)) (
+        all = λ tells. rw (begun tells) (
           files_are ∙ names_told _ all old new (begins tells).so_far_is (gives tells),
           faults_are ∙ faults_told _ all old new (begins tells).so_far_is (gives tells),
           limits_kept _ all old new (begins tells).so_far_is (gives tells) few small,
@@ -53,17 +53,14 @@ module _ (world : World) (names : WebNames) (found : Option Found) (changes : Op
   stopped stop new files Wrote files_are kind why named front read whose out written logs answered = stops (record {
     stop = stop;
     comes = writing_comes stop kind;
-    cause = λ tells. subst (λ (course : Course). CanStop stop course) (sym (begun tells))
-        (writing_cause stop _ old new.count all Wrote (begins tells).so_far_is kind (why tells));
+    cause = λ tells. rw (begun tells) (writing_cause stop _ old new.count all Wrote (begins tells).so_far_is kind
+        (why tells));
     files = files;
     named = rw files_are named;
-    opened = λ tells. subst (λ (course : Course). AreOpened files course) (sym (begun tells))
-        (opened_by _ old new all (begins tells).so_far_is (front tells) files files_are);
+    opened = λ tells. rw (begun tells) (opened_by _ (begins tells).so_far_is (front tells) files files_are);
     blames = record { shelf = read; out = out };
     blamed = λ tells. whose tells ∙ ap (λ (ns : List (List ℕ)). before.shelf.blamed ++ blame ns stop) (sym files_are);
-    written = λ tells told. subst (λ (text : List ℕ). WritesFront before.out.bytes after.out.bytes text)
-        (printed_all tells) (written tells told);
-    logged = subst (λ (name : List ℕ). Logs (stop_line stop name) before.log after.log)
-        (writing_about names files stop kind) logs;
+    written = λ tells told. rw (← (printed_all tells)) (written tells told);
+    logged = rw (← (writing_about names files stop kind)) logs;
     answered = answered;
   })

@@ -15,12 +15,13 @@ next_named {files = files} {first = first} {now = now} so_far t rest all gives =
     (left_in now) (subst (All (IsMarkBelow (length files))) so_far.whole all) in
     let here : IsMarkBelow (length files) t =
     All-head (IsMarkBelow (length files)) t rest (subst (All (IsMarkBelow (length files))) gives behind) in
-    subst (λ (s : Setting). IsNamed s t) (sym so_far.setting_is) (mark_named (setting first.store.now files) t here)
+    rw so_far.setting_is (mark_named (setting first.store.now files) t here)
 
 -- what is written and gathered, with what was added to it
-more_written : (old new new' : List ℕ) (s s' : Setting) (done more : List Token) → s ≡ s' → new ≡ old ++ print s' done
+more_written : (old : List ℕ) {new new' : List ℕ} (s s' : Setting) (done more : List Token)
+    → s ≡ s' → new ≡ old ++ print s' done
     → Adds (print s done) (print s (done ++ more)) new new' → new' ≡ old ++ print s' (done ++ more)
-more_written old new new' s s' done more same written adds =
+more_written old s s' done more same written adds =
     adds.written
     ∙ ap (λ (b : List ℕ). b ++ adds.bytes) (written ∙ ap (λ (s : Setting). old ++ print s done) (sym same))
     ∙ append_assoc old (print s done) adds.bytes
@@ -28,15 +29,15 @@ more_written old new new' s s' done more same written adds =
 
 -- some more were printed to where bytes are gathered
 pub prints_front : {W : Type 0} {sink : Sink W} {files : List (List ℕ)}
-    {first mid : Expander} {printer printer' : Printer} {old new : W} {gathered gathered' : List ℕ} (now : Expander)
-    → PrintsSoFar sink files first mid printer old new gathered → StaysReady mid now
-    → setting_of printer' ≡ setting_of printer
+    {first mid : Expander} {printer printer' : Printer} {old new : W} {gathered gathered' : List ℕ} {now : Expander}
+    → PrintsSoFar sink files first mid printer old new gathered
+    → StaysReady mid now → setting_of printer' ≡ setting_of printer
     → PrintsFront printer printer' (left_in mid) (left mid.store.now now.frames.items) gathered gathered'
     → PrintsSoFar sink files first now printer' old new gathered'
 prints_front {sink = sink} {files = files} {first = first} {mid = mid} {printer = printer}
-    {old = old} {new = new} {gathered = gathered} {gathered' = gathered'} now so_far ready same front =
+    {old = old} {new = new} {gathered = gathered} {gathered' = gathered'} {now} so_far ready same front =
     record {
-      ready = stays_on first mid now so_far.ready ready;
+      ready = stays_on so_far.ready ready;
       setting_is = same ∙ so_far.setting_is;
       tells = so_far.tells;
       failed = so_far.failed;
@@ -47,8 +48,7 @@ prints_front {sink = sink} {files = files} {first = first} {mid = mid} {printer 
           (front.whole ∙ ap (λ (s : Bor Stored). front.done ++ left s.now now.frames.items) (sym ready.store))
           ∙ sym (append_assoc so_far.done front.done (left_in now));
       kept = front.moves so_far.done so_far.kept;
-      written = λ told. more_written
-          (sink.written old) (sink.written new ++ gathered) (sink.written new ++ gathered') (setting_of printer)
+      written = λ told. more_written (sink.written old) (setting_of printer)
           (setting first.store.now files) so_far.done front.done so_far.setting_is (so_far.written told)
           (adds_behind (sink.written new) gathered gathered' (front.prints so_far.done so_far.kept));
     }
@@ -62,19 +62,19 @@ prints_front {sink = sink} {files = files} {first = first} {mid = mid} {printer 
     }
 
 -- one more was printed
-pub prints_more : {W : Type 0} (sink : Sink W) (files : List (List ℕ))
-    (first mid now : Expander) (printer printer' : Printer) (old new new' : W) (gathered gathered' : List ℕ) (t : Token)
+pub prints_more : {W : Type 0} {sink : Sink W} {files : List (List ℕ)} {first : Expander}
+    {mid now : Expander} {printer printer' : Printer} {old new new' : W} {gathered gathered' : List ℕ} (t : Token)
     → PrintsSoFar sink files first mid printer old new gathered → StaysReady mid now
     → left_in mid ≡ t ∷ left mid.store.now now.frames.items → setting_of printer' ≡ setting_of printer
     → Moves (kept_of printer) t (kept_of printer') → sink.tells new' ≡ sink.tells new
     → sink.failed new' ≡ sink.failed new → (IsTrue (sink.tells new) → sink.beside new' ≡ sink.beside new)
     → (IsTrue (sink.tells new) → Prints {A = Unit {0}} {E = Unit {0}} printer t (sink.written new ++ gathered)
     (sink.written new' ++ gathered') (Ok tt)) → PrintsSoFar sink files first now printer' old new' gathered'
-prints_more sink files first mid now printer printer' old new new' gathered gathered'
+prints_more {sink} {files} {first} {mid} {now} {printer} {old} {new}
     t so_far ready gives same moves tells failed beside prints =
     let tell : IsTrue (sink.tells old) → IsTrue (sink.tells new) = λ told. subst IsTrue (sym so_far.tells) told in
     record {
-      ready = stays_on first mid now so_far.ready ready;
+      ready = stays_on so_far.ready ready;
       setting_is = same ∙ so_far.setting_is;
       tells = tells ∙ so_far.tells;
       failed = failed ∙ so_far.failed;
@@ -85,7 +85,7 @@ prints_more sink files first mid now printer printer' old new new' gathered gath
           (gives ∙ ap (λ (s : Bor Stored). t ∷ left s.now now.frames.items) (sym ready.store))
           ∙ sym (append_assoc so_far.done (t ∷ []) (left_in now));
       kept = moves so_far.done so_far.kept;
-      written = λ told. more_written (sink.written old) (sink.written new ++ gathered) (sink.written new' ++ gathered')
+      written = λ told. more_written (sink.written old)
           (setting_of printer) (setting first.store.now files) so_far.done (t ∷ []) so_far.setting_is
           (so_far.written told) (prints (tell told) so_far.done so_far.kept);
     }

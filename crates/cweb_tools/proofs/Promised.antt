@@ -1,5 +1,5 @@
 -- What a run of `ctangle` promises, by how it ends.
-use Rattle.cweb_tools.proofs.Common.{◌≡◌, ◌+◌, ◌⊎◌, inl, inr, ℕ, List, ◌++◌, refl, sym, ◌∙◌, ap, subst, add-zero, arith, flat_map, IsTrue, Option, File, World, read_blame, WritesFront, Stop, Usage, WebNotOpened, ChangeNotOpened, ReadFault, LineTooLong, TooMuchText, Memory, OutNotOpened, WriteFault, LogFault, line, stop_line, Asked, SeenBins, SeenRun, SeenShelf, SeenStream, Shown, Act, ending, Held, TangleEnds, AsTold, Closes, ClosesLog, Follows, bins_blame, done, halted, held, log_blame, LeavesFiles, TangleCourse, files_in, items_in, script, tangle_status, CanCome, shown_by, tangle_course, FailOnce, FaultsShow, IsEnded, LogEnds, RisesOnce, TanglePromises, TellingRun, Tells, cut, said}
+use Rattle.cweb_tools.proofs.Common.{◌≡◌, ◌+◌, ◌⊎◌, inl, inr, ℕ, List, ◌++◌, refl, sym, ◌∙◌, ap, add-zero, arith, flat_map, IsTrue, Option, World, read_blame, Stop, ReadFault, OutNotOpened, WriteFault, LogFault, line, stop_line, Asked, SeenBins, SeenRun, SeenShelf, SeenStream, Shown, Act, ending, Held, TangleEnds, AsTold, Closes, ClosesLog, Follows, bins_blame, done, halted, held, log_blame, TangleCourse, items_in, script, tangle_status, CanCome, shown_by, tangle_course, FailOnce, FaultsShow, IsEnded, LogEnds, RisesOnce, TanglePromises, TellingRun, Tells, cut, said}
 use Rattle.cweb_tools.proofs.Endings.{ends_freely, ends_so, ends_within}
 use Rattle.cweb_tools.proofs.Leaving.{ends_draft, ends_files}
 use Rattle.cweb_tools.proofs.ReadAlls.{ends_read}
@@ -24,54 +24,51 @@ line_once old mid new is (inl kept) = inl (omega (arith, is, kept))
 line_once old mid new is (inr rose) = inr (omega (arith, is, rose))
 
 -- the log fails at an item or at the line of the stop, not at both
-log_once : (stop : Stop) (about : List ℕ) (old : ℕ) (then after : SeenRun)
+log_once : (stop : Stop) (about : List ℕ) (old : ℕ) {then after : SeenRun}
     → then.log.failed ≡ old + log_blame stop → ClosesLog (ending stop about) then after → RisesOnce old after.log.failed
-log_once LogFault about old then after failed logs = inr (ap (λ (l : SeenStream). l.failed) logs.log ∙ failed)
-log_once Usage about old then after failed logs = line_once old then.log.failed after.log.failed failed logs.log.once
-log_once Memory about old then after failed logs = line_once old then.log.failed after.log.failed failed logs.log.once
-log_once _ about old then after failed logs =
-    line_once old then.log.failed after.log.failed failed logs.log.once
+log_once LogFault about old failed logs = inr (ap (λ (l : SeenStream). l.failed) logs.log ∙ failed)
+log_once _ about old {then} {after} failed logs = line_once old then.log.failed after.log.failed failed logs.log.once
 
-fail_once : (acts : List Act) (due : ℕ) (before after : SeenRun) (status : ℕ)
+fail_once : {acts : List Act} {due : ℕ} {before after : SeenRun} {status : ℕ}
     → Closes acts due before after status → FailOnce before after
-fail_once acts due before after status (done does answered) = record {
+fail_once {before} (done does answered) = record {
   shelf = inl (does.shelf ∙ add-zero before.shelf.failed);
   bins = inl (does.bins ∙ add-zero before.bins.failed);
   log = inl (does.log ∙ add-zero before.log.failed);
 }
-fail_once acts due before after status (halted (ending stop about) then does logs answered) = record {
+fail_once {before} {after} (halted (ending stop about) then does logs answered) = record {
   shelf = blamed_once before.shelf.failed after.shelf.failed (read_blame stop)
       (ap (λ (s : SeenShelf). s.failed) logs.shelf ∙ does.shelf) (read_once stop);
   bins = blamed_once before.bins.failed after.bins.failed (bins_blame stop)
       (ap (λ (b : SeenBins). b.failed) logs.bins ∙ does.bins) (bins_once stop);
-  log = log_once stop about before.log.failed then after does.log logs;
+  log = log_once stop about before.log.failed does.log logs;
 }
 
-faults_show : (acts : List Act) (due : ℕ) (before after : SeenRun) (status : ℕ)
+faults_show : {acts : List Act} {due : ℕ} {before after : SeenRun} {status : ℕ}
     → Closes acts due before after status → FaultsShow before after status
-faults_show acts due before after status (done does answered) = record {
+faults_show {before} (done does answered) = record {
   read = λ failed. absurd (failed (does.shelf ∙ add-zero before.shelf.failed));
   written = λ failed. absurd (failed (does.bins ∙ add-zero before.bins.failed));
   logged = λ failed. absurd (failed (does.log ∙ add-zero before.log.failed));
 }
-faults_show acts due before after status (halted why then does logs answered) =
+faults_show (halted why then does logs answered) =
     record { read = λ failed. answered; written = λ failed. answered; logged = λ failed. answered }
 
-telling_run : (shown : Shown) (course : TangleCourse) (due : ℕ) (old new : Held) (status : ℕ)
+telling_run : (shown : Shown) (course : TangleCourse) {due : ℕ} {old new : Held} {status : ℕ}
     → TangleEnds (script shown course) due old new status → TellingRun (script shown course) due old new status
-telling_run shown course due old new status ends = record {
+telling_run shown course {due} {old} {new} {status} ends = record {
   ends = ends;
-  freely = ends_freely (script shown course) due old new status ends;
-  ended = ends_so (script shown course) due old new status ends;
-  files = ends_files (script shown course) due old new status ends;
-  draft = λ none. ends_draft (script shown course) due old new status none ends;
-  read = ends_read shown course due old new status ends;
-  limits = ends_within (script shown course) due old new status ends;
+  freely = ends_freely ends;
+  ended = ends_so ends;
+  files = ends_files ends;
+  draft = λ none. ends_draft none ends;
+  read = ends_read shown course ends;
+  limits = ends_within ends;
 }
 
 -- devices hold what they show
-shown_told : (seen : SeenRun) → AsTold (held seen) seen
-shown_told seen =
+shown_told : {seen : SeenRun} → AsTold (held seen) seen
+shown_told =
     record {
       shelf_failed = refl;
       bins_failed = refl;
@@ -84,40 +81,35 @@ shown_told seen =
     }
 
 -- what a log that tells has at a run's end
-log_ends : (acts : List Act) (due : ℕ) (before after : SeenRun) (status : ℕ) (new : Held)
+log_ends : (acts : List Act) {due : ℕ} (before : SeenRun) {after : SeenRun} {status : ℕ} {new : Held}
     → AsTold new after → IsTrue after.log.tells → IsEnded acts due (held before) new status
     → LogEnds (items_in acts) due before.log after.log status
-log_ends acts due before after status new told tells (inl all) = said (sym (told.log tells) ∙ all.log) all.answered
-log_ends acts due before after status new told tells (inr why) =
+log_ends acts before told tells (inl all) = said (sym (told.log tells) ∙ all.log) all.answered
+log_ends acts before told tells (inr why) =
     let log = why.2.log in
     let text : List ℕ = flat_map line log.before ++ stop_line why.0 why.1 in
-    cut why.0 why.1 log.before log.later log.whole (subst (λ (bytes : List ℕ). WritesFront before.log.bytes bytes text)
-    (told.log tells) log.front) (λ same. sym (told.log tells) ∙ log.all (told.log_failed ∙ same)) why.3
+    cut why.0 why.1 log.before log.later log.whole
+    (rw (← (told.log tells)) log.front) (λ same. sym (told.log tells) ∙ log.all (told.log_failed ∙ same)) why.3
 
 -- a run whose acts are those of its script keeps all promises
-pub promised : (world : World) (asked : Option Asked) (before after : SeenRun) (status : ℕ)
+pub promised : {world : World} {asked : Option Asked} {before after : SeenRun} {status : ℕ}
     → Follows (script (shown_by asked)) (tangle_status (shown_by asked))
     (CanCome asked) (tangle_course world asked) before after status → TanglePromises world asked before after status
-promised world asked before after status follows =
+promised {asked} {before} {after} {status} follows =
     let shown : Shown = shown_by asked in
     let acts : List Act = script shown follows.taken in
     let due : ℕ = tangle_status shown follows.taken in
     let tells : (old : Held) → AsTold old before → Tells acts due old after status = λ old told.
-    let last = tangle_ends acts due before after status follows.closes old told in
-    record {
-      new = last.left;
-      told = last.told;
-      run = telling_run shown follows.taken due old last.left status last.ends;
-    } in
-    let all = tells (held before) (shown_told before) in record {
+    let last = tangle_ends follows.closes old told in
+    record { new = last.left; told = last.told; run = telling_run shown follows.taken last.ends } in
+    let all = tells (held before) (shown_told) in record {
       course = follows.taken;
       can = follows.can;
       is = follows.is;
       telling = tells;
-      logged = λ tell. log_ends acts due before after status all.new all.told
-          (log_tells acts due before after status follows.closes ∙ tell) all.run.ended;
-      filed = λ tell. subst (λ (files : List File). LeavesFiles (files_in acts) before.bins.beside.files files)
-          (all.told.files (bins_tell acts due before after status follows.closes ∙ tell)) all.run.files;
-      once = fail_once acts due before after status follows.closes;
-      faults = faults_show acts due before after status follows.closes;
+      logged = λ tell. log_ends acts before all.told
+          (log_tells follows.closes ∙ tell) all.run.ended;
+      filed = λ tell. rw (← (all.told.files (bins_tell follows.closes ∙ tell))) all.run.files;
+      once = fail_once follows.closes;
+      faults = faults_show follows.closes;
     }

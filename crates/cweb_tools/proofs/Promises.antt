@@ -1,11 +1,11 @@
 -- What the ends of a run come to, in the words of its promises.
-use Rattle.cweb_tools.proofs.Common.{◌≤◌, ◌≡◌, inl, inr, ℕ, ◌+◌, List, [], ◌∷◌, ◌++◌, refl, sym, ◌∙◌, ap, subst, append-nil, arith, Option, Some, None, IsTrue, FileId, World, Found, web_at, change_at, read_blame, WritesFront, write_blame, SourceFault, Stop, Usage, WebNotOpened, ChangeNotOpened, ReadFault, LineTooLong, TooMuchText, Memory, OutNotOpened, WriteFault, LogFault, Logs, fault_lines, stop_line, Seen, SeenStream, Tell, WebNames, Course, merging, asked_course, fault_status, found_course, merged, StaysWithin, about, Blames, CanStop, Completes, Ends, FailsOnce, HasMerged, IsMerge, Merges, Promises, RanFreely, TellsFaults}
+use Rattle.cweb_tools.proofs.Common.{◌≤◌, ◌≡◌, inl, inr, ℕ, ◌+◌, List, [], ◌∷◌, ◌++◌, refl, sym, ◌∙◌, ap, append-nil, arith, Option, Some, None, IsTrue, FileId, World, Found, web_at, change_at, read_blame, WritesFront, write_blame, SourceFault, Stop, Usage, WebNotOpened, ChangeNotOpened, ReadFault, LineTooLong, TooMuchText, Memory, WriteFault, Logs, fault_lines, stop_line, Seen, SeenStream, Tell, WebNames, Course, merging, asked_course, fault_status, found_course, merged, StaysWithin, about, Blames, CanStop, Completes, Ends, FailsOnce, HasMerged, IsMerge, Merges, Promises, RanFreely, TellsFaults}
 use Rattle.cweb_tools.specs.Run.{completes, Prints, stops}
 use Rattle.cweb_tools.proofs.Limits.{long_beyond, much_beyond}
 
 -- a course that a limit stops does not stay within them
 course_long : (course : Course) (file : FileId) → CanStop (LineTooLong file) course → StaysWithin course → ⊥
-course_long (merging first events) file why within = long_beyond file events why within
+course_long (merging first events) file why within = long_beyond why within
 course_long course file why within = absurd why
 
 course_much : (course : Course) → CanStop TooMuchText course → StaysWithin course → ⊥
@@ -17,8 +17,8 @@ no_front [] rest whole = refl
 no_front (b ∷ front) rest whole = absurd (cc)
 
 -- a front of nothing is nothing
-front_of_nothing : (old new : List ℕ) → WritesFront old new [] → new ≡ old ++ []
-front_of_nothing old new front =
+front_of_nothing : {old new : List ℕ} → WritesFront old new [] → new ≡ old ++ []
+front_of_nothing {old} front =
     front.written ∙ ap (λ (t : List ℕ). old ++ t) (no_front front.front front.rest front.whole)
 
 module _ (world : World) (names : WebNames) (before after : Seen) (status : ℕ) (tell : Tell before) where
@@ -39,9 +39,9 @@ module _ (world : World) (names : WebNames) (before after : Seen) (status : ℕ)
       (merged (found_course world names found changes)) → status ≡ 1 → RanFreely (found_course world
       names found changes) before after → IsMerge (found_course world names found changes) before after status
   freely_stopped None changes WebNotOpened files cause blames logs front answered free =
-      record { written = front_of_nothing _ _ front; logged = logs.whole tell.2 free.told; answered = answered }
+      record { written = front_of_nothing front; logged = logs.whole tell.2 free.told; answered = answered }
   freely_stopped (Some web) None ChangeNotOpened files cause blames logs front answered free =
-      record { written = front_of_nothing _ _ front; logged = logs.whole tell.2 free.told; answered = answered }
+      record { written = front_of_nothing front; logged = logs.whole tell.2 free.told; answered = answered }
   freely_stopped found changes (ReadFault file) files cause blames logs front answered free =
       absurd (omega (arith, blames.shelf, free.read))
   freely_stopped found changes WriteFault files cause blames logs front answered free =
@@ -63,22 +63,20 @@ module _ (world : World) (names : WebNames) (before after : Seen) (status : ℕ)
       → RanFreely course before after → IsMerge course before after status
   freely_ended course found changes is (completes whole) free = freely_merged course whole (whole.all tell.0) free
   freely_ended course found changes is (stops stop) free =
-      subst (λ (c : Course). IsMerge c before after status) (sym is) (freely_stopped found changes stop.stop stop.files
-      (subst (λ (c : Course). CanStop stop.stop c) is (stop.cause tell.0)) stop.blames stop.logged
-      (subst (λ (c : Course). WritesFront before.out.bytes after.out.bytes (merged c)) is (stop.written tell.0 tell.1))
-      stop.answered (subst (λ (c : Course). RanFreely c before after) is free))
+      rw is (freely_stopped found changes stop.stop stop.files (rw (← is) (stop.cause tell.0)) stop.blames stop.logged
+      (rw (← is) (stop.written tell.0 tell.1)) stop.answered (rw (← is) free))
 
-ran_freely : (world : World) (asked : Option WebNames) (before after : Seen) (status : ℕ)
+ran_freely : (world : World) (asked : Option WebNames) {before after : Seen} {status : ℕ}
     → Ends world asked before after status → Tell before
     → RanFreely (asked_course world asked) before after → IsMerge (asked_course world asked) before after status
-ran_freely world None before after status ends tell free =
+ran_freely world None {before} ends tell free =
     record {
       written = ends.written ∙ sym (append-nil before.out.bytes);
       logged = ends.logged.whole tell.2 free.told;
       answered = ends.answered;
     }
-ran_freely world (Some names) before after status ends tell free = freely_ended world names before after status tell _
-    (web_at world.texts names.web names.second) (change_at world.texts names.change) refl ends free
+ran_freely world (Some names) {before} {after} {status} ends tell free = freely_ended world names before
+    after status tell _ (web_at world.texts names.web names.second) (change_at world.texts names.change) refl ends free
 
 stays_within : (course : Course) (files : List (List ℕ)) (faults : List SourceFault)
     → HasMerged course files faults → StaysWithin course
@@ -93,66 +91,63 @@ beyond_limits world (Some names) before after status (completes whole) tells bey
     absurd (beyond (stays_within _ whole.files whole.faults (whole.all tells)))
 beyond_limits world (Some names) before after status (stops stop) tells beyond = stop.answered
 
-all_printed : (old new text : List ℕ) → new ≡ old ++ text → WritesFront old new text
-all_printed old new text is = record { front = text; rest = []; written = is; whole = sym (append-nil text) }
+all_printed : {old new text : List ℕ} → new ≡ old ++ text → WritesFront old new text
+all_printed {text} is = record { front = text; rest = []; written = is; whole = sym (append-nil text) }
 
 not_zero : {A : Type 0} (status : ℕ) → status ≡ 1 → status ≡ 0 → A
 not_zero status one none = absurd (omega (arith, one, none))
 
-prints : (world : World) (asked : Option WebNames) (before after : Seen) (status : ℕ)
+prints : (world : World) (asked : Option WebNames) {before after : Seen} {status : ℕ}
     → Ends world asked before after status
     → IsTrue before.shelf.tells → IsTrue before.out.tells → Prints (asked_course world asked) before after status
-prints world None before after status ends tells told = record {
-  front = all_printed before.out.bytes after.out.bytes [] (ends.written ∙ sym (append-nil before.out.bytes));
+prints world None {before} {status} ends tells told = record {
+  front = all_printed (ends.written ∙ sym (append-nil before.out.bytes));
   whole = not_zero status ends.answered;
 }
-prints world (Some names) before after status (completes whole) tells told =
-    record {
-      front = all_printed before.out.bytes after.out.bytes _ (whole.written tells told);
-      whole = λ none. whole.written tells told;
-    }
-prints world (Some names) before after status (stops stop) tells told =
+prints world (Some names) (completes whole) tells told =
+    record { front = all_printed (whole.written tells told); whole = λ none. whole.written tells told }
+prints world (Some names) {status} (stops stop) tells told =
     record { front = stop.written tells told; whole = not_zero status stop.answered }
 
 one_blame : (stop : Stop) → read_blame stop + write_blame stop ≤ 1
 one_blame Usage = omega arith
 one_blame _ = omega arith
 
-once_logged : (text : List ℕ) (before after : SeenStream) → Logs text before after → after.failed ≤ before.failed + 1
-once_logged text before after logs = elim logs.once [ inl same ↦ omega (arith, same) | inr more ↦ omega (arith, more) ]
+once_logged : {text : List ℕ} {before after : SeenStream} → Logs text before after → after.failed ≤ before.failed + 1
+once_logged logs = elim logs.once [ inl same ↦ omega (arith, same) | inr more ↦ omega (arith, more) ]
 
-fails_once : (world : World) (asked : Option WebNames) (before after : Seen) (status : ℕ)
+fails_once : (world : World) (asked : Option WebNames) {before after : Seen} (status : ℕ)
     → Ends world asked before after status → FailsOnce before after
-fails_once world None before after status ends =
-    record { one = omega (arith, ends.read, ends.printed); log = once_logged _ before.log after.log ends.logged }
-fails_once world (Some names) before after status (completes whole) =
-    record { one = omega (arith, whole.read, whole.printed); log = once_logged _ before.log after.log whole.logged }
-fails_once world (Some names) before after status (stops stop) =
+fails_once world None status ends =
+    record { one = omega (arith, ends.read, ends.printed); log = once_logged ends.logged }
+fails_once world (Some names) status (completes whole) =
+    record { one = omega (arith, whole.read, whole.printed); log = once_logged whole.logged }
+fails_once world (Some names) status (stops stop) =
     record {
       one = omega (arith, stop.blames.shelf, stop.blames.out, one_blame stop.stop);
-      log = once_logged _ before.log after.log stop.logged;
+      log = once_logged stop.logged;
     }
 
-tells_faults : (world : World) (asked : Option WebNames) (before after : Seen) (status : ℕ)
+tells_faults : (world : World) (asked : Option WebNames) {before after : Seen} {status : ℕ}
     → Ends world asked before after status → TellsFaults before after status
-tells_faults world None before after status ends =
+tells_faults world None ends =
     record { read = λ failed. ends.answered; printed = λ failed. ends.answered; logged = λ failed. ends.answered }
-tells_faults world (Some names) before after status (completes whole) =
+tells_faults world (Some names) (completes whole) =
     record {
       read = λ failed. absurd (failed whole.read);
       printed = λ failed. absurd (failed whole.printed);
       logged = whole.failed;
     }
-tells_faults world (Some names) before after status (stops stop) =
+tells_faults world (Some names) (stops stop) =
     record { read = λ failed. stop.answered; printed = λ failed. stop.answered; logged = λ failed. stop.answered }
 
-pub promises : (world : World) (asked : Option WebNames) (before after : Seen) (status : ℕ)
+pub promises : {world : World} {asked : Option WebNames} {before after : Seen} {status : ℕ}
     → Ends world asked before after status → Promises world asked before after status
-promises world asked before after status ends = record {
+promises {world} {asked} {before} {after} {status} ends = record {
   ends = ends;
-  freely = ran_freely world asked before after status ends;
-  prints = prints world asked before after status ends;
+  freely = ran_freely world asked ends;
+  prints = prints world asked ends;
   limits = beyond_limits world asked before after status ends;
-  once = fails_once world asked before after status ends;
-  faults = tells_faults world asked before after status ends;
+  once = fails_once world asked status ends;
+  faults = tells_faults world asked ends;
 }

@@ -1,10 +1,10 @@
 -- How the exits of a run of `ctangle` that has begun its merge are its ends.
-use Rattle.cweb_tools.proofs.Common.{◌≤◌, ◌≡◌, ◌+◌, inl, inr, ℕ, List, [], ◌∷◌, ◌++◌, length, refl, sym, ◌∙◌, ap, subst, add-zero, IsTrue, Option, Some, None, names_found, World, Found, Event, SoFar, blame, StopsReading, files_named, read_blame, given_lines, told_faults, openings, taken_lines, IsWithinLimits, merge, Begins, SourceFault, LINES, BYTES, Stop, Scanned, scanned, EndsEarly, Scans, stop_line, subject, Asked, Logs, SeenBins, SeenRun, SeenShelf, SeenStream, Act, Breaks, ending, Held, opens, reads, Course, found_course, merging, Closes, Does, halted, TangleCourse, tangling, web_acts, course_acts, course_status, tangled, web_of, web_status}
+use Rattle.cweb_tools.proofs.Common.{◌≤◌, ◌≡◌, ◌+◌, inl, inr, ℕ, List, [], ◌∷◌, ◌++◌, length, refl, sym, ◌∙◌, ap, IsTrue, Option, Some, None, names_found, World, Found, Event, SoFar, blame, StopsReading, files_named, read_blame, given_lines, told_faults, openings, taken_lines, IsWithinLimits, Begins, SourceFault, LINES, BYTES, Stop, Scanned, scanned, EndsEarly, Scans, stop_line, subject, Asked, Logs, SeenBins, SeenRun, SeenShelf, SeenStream, Act, Breaks, ending, Held, opens, reads, Course, found_course, merging, Closes, Does, halted, TangleCourse, tangling, web_acts, course_acts, course_status, tangled, web_of, web_status}
 use Rattle.cweb_tools.proofs.Doing.{closes_on}
 use Rattle.cweb_tools.proofs.Exits.{begins_course, faults_told, limits_kept, names_told, opened_by}
 use Rattle.cweb_tools.proofs.Logging.{at}
-use Rattle.cweb_tools.proofs.TangleExits.{either, can_come, EndsAs, opened, course}
-use Rattle.cweb_tools.proofs.ReadingStops.{left_quiet, left_by, left_told, reads_broke, read_by, silent_broke, reading_ends, reading_only, nothing_passes}
+use Rattle.cweb_tools.proofs.TangleExits.{either, can_come, EndsAs, looks, course}
+use Rattle.cweb_tools.proofs.ReadingStops.{left_by, left_told, reads_broke, read_by, silent_broke, reading_ends, reading_only, nothing_passes}
 
 -- a run that begins a merge, of which all this comes
 module _ (asked : Asked) (world : World) (found : Option Found) (changes : Option (Option Found))
@@ -32,7 +32,7 @@ module _ (asked : Asked) (world : World) (found : Option Found) (changes : Optio
     log = (reading_only stop l.failed kind).1;
     runs = λ now told. record {
       left = left_by stop (subject opened stop) now;
-      told = left_told stop opened now shelf shelf' bins l kind told tells failed blamed;
+      told = left_told stop opened shelf shelf' bins l kind told tells failed blamed;
       runs = inl (tt, inr (breaks now));
     };
   }
@@ -42,7 +42,7 @@ module _ (asked : Asked) (world : World) (found : Option Found) (changes : Optio
       → Does (course_acts asked.shown course) (Some (ending stop about)) (at shelf bins l) (at shelf' bins l)
       → Closes (course_acts asked.shown course) (course_status course) (at shelf bins l) (at shelf' bins l') status
   halts stop about l' course kind logs answered does = halted (ending stop about) (at shelf' bins l) does
-      (record { shelf = refl; bins = refl; log = reading_ends stop about l l' kind logs }) answered
+      (record { shelf = refl; bins = refl; log = reading_ends stop about kind logs }) answered
 
   -- reading ended before its end
   pub read_stops : (stop : Stop) (opened : List (List ℕ)) (l' : SeenStream) → opened ≡ new.names → StopsReading stop
@@ -51,19 +51,17 @@ module _ (asked : Asked) (world : World) (found : Option Found) (changes : Optio
       → files_named stop ≤ length new.names → Logs (stop_line stop (subject opened stop)) l l'
       → status ≡ 1 → EndsAs asked (tangled asked.names.main merged) (at shelf bins l) (at shelf' bins l') status
   read_stops stop opened l' opened_are kind why failed blamed named logs answered =
-      let whose : IsTrue shelf.tells → shelf'.blamed ≡ shelf.blamed ++ blame opened stop = λ tell.
-      blamed tell ∙ ap (λ (ns : List (List ℕ)). shelf.blamed ++ blame ns stop) (sym opened_are) in
-      let known : files_named stop ≤ length opened =
-      subst (λ (ns : List (List ℕ)). files_named stop ≤ length ns) (sym opened_are) named in
+      let whose : IsTrue shelf.tells → shelf'.blamed ≡ shelf.blamed ++ blame opened stop = λ tell. blamed tell
+      ∙ ap (λ (ns : List (List ℕ)). shelf.blamed ++ blame ns stop) (sym opened_are) in
+      let known : files_named stop ≤ length opened = rw opened_are named in
       elim (either shelf.tells) [
         | inl told ↦
-            let front = opened_by _ old new all (begins told).so_far_is (why told).told opened opened_are in record {
+            let front = opened_by _ (begins told).so_far_is (why told).told opened opened_are in record {
               taken = tangled asked.names.main merged;
               can = can_come asked world found changes;
               is = λ tell. refl;
               closes = halts stop (subject opened stop) l' (tangled asked.names.main merged) kind logs answered
-                  (subst (λ (c : Course). Does (course_acts asked.shown (tangled asked.names.main c)) (Some (ending stop
-                  (subject opened stop))) (at shelf bins l) (at shelf' bins l)) (sym (begun told)) (breaks_so stop
+                  (rw (begun told) (breaks_so stop
                   opened _ all _ kind failed whose (λ now. reads_broke stop _ opened front.0 old new.count all now
                   (begins told).so_far_is kind (why told).why front.1 known)));
             }
@@ -82,20 +80,8 @@ module _ (asked : Asked) (world : World) (found : Option Found) (changes : Optio
   reads_so : (files : List (List ℕ)) (events : List Event) → IsWithinLimits (taken_lines events)
       → shelf'.failed ≡ shelf.failed → (IsTrue shelf.tells → shelf'.blamed ≡ shelf.blamed)
       → Does (opens ∷ reads files events ∷ []) None (at shelf bins l) (at shelf' bins l)
-  reads_so files events within failed blamed = record {
-    shelf_tells = tells;
-    bins_tells = refl;
-    log_tells = refl;
-    shelf = failed ∙ sym (add-zero shelf.failed);
-    bins = sym (add-zero bins.failed);
-    log = sym (add-zero l.failed);
-    runs = λ now told.
-        record {
-          left = now;
-          told = left_quiet now shelf shelf' bins l told tells failed blamed;
-          runs = inl (tt, inl (within, refl));
-        };
-  }
+  reads_so files events within failed blamed = looks shelf shelf' tells failed blamed bins l l
+      (opens ∷ reads files events ∷ []) None refl refl refl (λ now. inl (tt, inl (within, refl)))
 
   -- and the run went on with what it holds
   pub read_whole : (files : List (List ℕ)) (faults : List SourceFault) (made : Scanned) (after : SeenRun) → files
@@ -109,8 +95,7 @@ module _ (asked : Asked) (world : World) (found : Option Found) (changes : Optio
       let web = web_of files faults made main in
       let goes_on : (events : List Event) → IsWithinLimits (taken_lines events)
       → Closes (course_acts asked.shown (tangling files events web)) (web_status web) (at shelf bins l) after status =
-      λ events within. closes_on (opens ∷ reads files events ∷ []) (web_acts asked.shown web) (web_status web)
-      (at shelf bins l) (at shelf' bins l) after status (reads_so files events within failed blamed) closes in
+      λ events within. closes_on (reads_so files events within failed blamed) closes in
       elim (either shelf.tells) [
         | inl told ↦
             let first = (begins told).name ∷ names_found (begins told).change in

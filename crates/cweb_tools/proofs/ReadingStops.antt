@@ -1,46 +1,33 @@
 -- What a stop of reading leaves, and why reading ended before its end.
-use Rattle.cweb_tools.proofs.Common.{◌≤◌, ◌<◌, ◌≡◌, ◌+◌, inr, ℕ, List, [], ◌∷◌, ◌++◌, length, length-append, refl, sym, ◌∙◌, ap, subst, add-zero, append-nil, arith, get_or-append, IsTrue, FileId, SourceLine, Event, took, SoFar, blame, Count, StopsFor, StopsReading, files_named, read_blame, openings, IsWithinLimits, LINE_LENGTH, BYTES, Stop, ReadFault, LineTooLong, TooMuchText, Memory, StopsAfter, line, name_at, stop_line, subject, Logs, SeenBins, SeenShelf, SeenStream, Breaks, ending, Held, IsOfFile, reads, read_fails, AsTold, LogsEnding, bins_blame, log_blame}
+use Rattle.cweb_tools.proofs.Common.{◌≤◌, ◌≡◌, ◌+◌, inr, ℕ, List, [], ◌∷◌, ◌++◌, length, length-append, refl, sym, ◌∙◌, ap, add-zero, append-nil, arith, get_or-append, IsTrue, FileId, SourceLine, Event, took, SoFar, blame, Count, StopsFor, StopsReading, files_named, read_blame, openings, IsWithinLimits, LINE_LENGTH, BYTES, Stop, ReadFault, LineTooLong, TooMuchText, Memory, OutNotOpened, WriteFault, LogFault, StopsAfter, name_at, stop_line, subject, Logs, SeenBins, SeenShelf, SeenStream, Breaks, ending, Held, IsOfFile, reads, read_fails, AsTold, LogsEnding, bins_blame, log_blame}
 use Rattle.cweb_tools.proofs.Exits.{begun_with, passes_sums}
 use Rattle.cweb_tools.proofs.Logging.{at}
-use Rattle.cweb_tools.proofs.TangleExits.{shelf_told, opened}
+use Rattle.cweb_tools.proofs.TangleExits.{looked, shelf_told}
 
 -- the file that a stop names is among those that are opened in all
 of_file : (files opened rest : List (List ℕ)) (file : ℕ) → files ≡ opened ++ rest
     → file + 1 ≤ length opened → IsOfFile files file (name_at opened file)
 of_file files opened rest file are known = record {
-  known = subst (λ (ns : List (List ℕ)). file < length ns) (sym are) (omega (arith, known, length-append opened rest));
+  known = rw are (omega (arith, known, length-append opened rest));
   named = sym (get_or-append opened rest [] file (omega (arith, known)))
       ∙ ap (λ (ns : List (List ℕ)). name_at ns file) (sym are);
 }
-
--- no read failed
-pub left_quiet : (now : Held) (shelf shelf' : SeenShelf) (bins : SeenBins) (l : SeenStream)
-    → AsTold now (at shelf bins l) → shelf'.tells ≡ shelf.tells → shelf'.failed ≡ shelf.failed
-    → (IsTrue shelf.tells → shelf'.blamed ≡ shelf.blamed) → AsTold now (at shelf' bins l)
-left_quiet now shelf shelf' bins l told tells failed blamed =
-    shelf_told now now shelf shelf' bins l told refl (told.shelf_failed ∙ sym failed)
-    (λ tell. let first : IsTrue shelf.tells = sym tells ∙ tell in told.blamed first ∙ sym (blamed first))
 
 -- what a stop of reading leaves that is about this
 abbrev pub left_by : Stop → List ℕ → Held → Held
 left_by (ReadFault file) about now = read_fails about now
 left_by stop about now = now
 
-pub left_told : (stop : Stop) (files : List (List ℕ)) (now : Held) (shelf shelf' : SeenShelf) (bins : SeenBins)
+pub left_told : (stop : Stop) (files : List (List ℕ)) {now : Held} (shelf shelf' : SeenShelf) (bins : SeenBins)
     (l : SeenStream) → StopsReading stop → AsTold now (at shelf bins l) → shelf'.tells ≡ shelf.tells → shelf'.failed
     ≡ shelf.failed + read_blame stop → (IsTrue shelf.tells → shelf'.blamed ≡ shelf.blamed ++ blame files stop)
     → AsTold (left_by stop (subject files stop) now) (at shelf' bins l)
-left_told (ReadFault file) files now shelf shelf' bins l kind told tells blames blamed =
-    shelf_told now _ shelf shelf' bins l told refl (ap (λ (n : ℕ). n + 1) told.shelf_failed ∙ sym blames) (λ tell.
+left_told (ReadFault file) files {now} shelf shelf' bins l kind told tells blames blamed =
+    shelf_told _ _ shelf shelf' bins l told (ap (λ (n : ℕ). n + 1) told.shelf_failed ∙ sym blames) (λ tell.
     let first : IsTrue shelf.tells = sym tells ∙ tell in
     ap (λ (names : List (List ℕ)). names ++ name_at files file.0 ∷ []) (told.blamed first) ∙ sym (blamed first))
-left_told (LineTooLong file) files now shelf shelf' bins l kind told tells blames blamed = left_quiet
-    now shelf shelf' bins l told tells (blames ∙ add-zero shelf.failed) (λ tell. blamed tell ∙ append-nil shelf.blamed)
-left_told TooMuchText files now shelf shelf' bins l kind told tells blames blamed = left_quiet
-    now shelf shelf' bins l told tells (blames ∙ add-zero shelf.failed) (λ tell. blamed tell ∙ append-nil shelf.blamed)
-left_told Memory files now shelf shelf' bins l kind told tells blames blamed = left_quiet
-    now shelf shelf' bins l told tells (blames ∙ add-zero shelf.failed) (λ tell. blamed tell ∙ append-nil shelf.blamed)
-left_told stop files now shelf shelf' bins l kind told tells blames blamed = absurd kind
+left_told stop files {now} shelf shelf' bins l kind told tells blames blamed = looked shelf shelf' tells
+    (blames ∙ add-zero shelf.failed) (λ tell. blamed tell ∙ append-nil shelf.blamed) bins l l now told
 
 -- why reading ended before its end
 pub reads_broke : (stop : Stop) (first opened rest : List (List ℕ)) (old : SoFar) (count : Count) (all : List Event)
@@ -61,7 +48,7 @@ reads_broke (LineTooLong file) first opened rest old count all now began kind wh
   refl,
 )
 reads_broke TooMuchText first opened rest old count all now began kind why names known =
-    (passes_sums first old count why.lines all began why.stops, refl)
+    (passes_sums first old began why.stops, refl)
 reads_broke Memory first opened rest old count all now began kind why names known = refl
 reads_broke stop first opened rest old count all now began kind why names known = absurd kind
 
@@ -89,21 +76,17 @@ silent_broke TooMuchText files now kind known = (inr (omega arith), refl)
 silent_broke Memory files now kind known = refl
 silent_broke stop files now kind known = absurd kind
 
-pub reading_ends : (stop : Stop) (about : List ℕ) (l l' : SeenStream) → StopsReading stop
+pub reading_ends : (stop : Stop) (about : List ℕ) {l l' : SeenStream} → StopsReading stop
     → Logs (stop_line stop about) l l' → LogsEnding (ending stop about) l l'
-reading_ends (ReadFault file) about l l' kind logs = logs
-reading_ends (LineTooLong file) about l l' kind logs = logs
-reading_ends TooMuchText about l l' kind logs = logs
-reading_ends Memory about l l' kind logs = logs
-reading_ends stop about l l' kind logs = absurd kind
+reading_ends LogFault about kind logs = absurd kind
+reading_ends stop about kind logs = logs
 
 -- reading fails no other device
 pub reading_only : (stop : Stop) (n : ℕ) → StopsReading stop → (n ≡ n + bins_blame stop) × (n ≡ n + log_blame stop)
-reading_only (ReadFault file) n kind = (sym (add-zero n), sym (add-zero n))
-reading_only (LineTooLong file) n kind = (sym (add-zero n), sym (add-zero n))
-reading_only TooMuchText n kind = (sym (add-zero n), sym (add-zero n))
-reading_only Memory n kind = (sym (add-zero n), sym (add-zero n))
-reading_only stop n kind = absurd kind
+reading_only OutNotOpened n kind = absurd kind
+reading_only WriteFault n kind = absurd kind
+reading_only LogFault n kind = absurd kind
+reading_only stop n kind = (sym (add-zero n), sym (add-zero n))
 
 pub nothing_passes : IsWithinLimits []
 nothing_passes = record { short = tt; few = omega arith; small = omega arith }

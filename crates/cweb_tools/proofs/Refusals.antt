@@ -27,12 +27,12 @@ pub record IsRefused (w : Stored) (main : List ℕ) (f : PlanFault) : Type 0 whe
   pub told : refusal_in f ≡ Some refusal
   pub due : out.planned w main ≡ Err refusal
 
-pub refused_by : (w : Stored) (main : List ℕ) (f : PlanFault)
+pub refused_by : {w : Stored} {main : List ℕ} (f : PlanFault)
     → IsDue (out.planned w main) f → (f ≡ Memory → ⊥) → IsRefused w main f
-refused_by w main (Cycle names) due never = record { refusal = cycle names.items; told = refl; due = due }
-refused_by w main (SameName name) due never = record { refusal = same_name name; told = refl; due = due }
-refused_by w main (BadName output) due never = record { refusal = bad_name output; told = refl; due = due }
-refused_by w main Memory due never = absurd (never refl)
+refused_by (Cycle names) due never = record { refusal = cycle names.items; told = refl; due = due }
+refused_by (SameName name) due never = record { refusal = same_name name; told = refl; due = due }
+refused_by (BadName output) due never = record { refusal = bad_name output; told = refl; due = due }
+refused_by Memory due never = absurd (never refl)
 
 pub planning_made : (w : Stored) (files : List (List ℕ)) (main : List ℕ) (p : Planned)
     → out.planned w main ≡ Ok p → planning w files main ≡ plan_made w files p

@@ -91,4 +91,4 @@ record Computed : Type 0 where
 
 computed : Computed
 unfolding digits
-computed = search refl
+computed = search

@@ -1,10 +1,10 @@
 -- Runs one after another.
-use Rattle.cweb_tools.proofs.Common.{inl, inr, List, [], ◌∷◌, ◌++◌, subst, Option, Some, None, Held, Act, after_act, Ending, Runs}
+use Rattle.cweb_tools.proofs.Common.{inl, inr, List, [], ◌∷◌, ◌++◌, Option, Some, None, Held, Act, after_act, Ending, Runs}
 
 -- the first acts were done, and then the others
 pub runs_on : (xs ys : List Act) (why : Option Ending) (old mid new : Held)
     → Runs xs None old mid → Runs ys why mid new → Runs (xs ++ ys) why old new
-runs_on [] ys why old mid new first then = subst (λ (d : Held). Runs ys why d new) first then
+runs_on [] ys why old mid new first then = rw (← first) then
 runs_on (act ∷ xs) ys why old mid new (inl first) then =
     inl (first.0, runs_on xs ys why (after_act act old) mid new first.1 then)
 runs_on (act ∷ xs) ys why old mid new (inr stop) then = absurd stop

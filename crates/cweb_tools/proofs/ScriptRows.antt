@@ -1,5 +1,5 @@
 -- The scripts of some runs of `ctangle`: what they log, which files they write, and how they end.
-use Rattle.cweb_tools.proofs.Common.{◌≡◌, true, false, List, ℕ, [], ◌∷◌, ◌++◌, refl, codes, File, Item, fault, located, shown_by_default, Shown, Planning, TangleCourse, change_not_there, not_there, planned, refused, tangling, tangle_files, tangle_log, tangle_status, unread}
+use Rattle.cweb_tools.proofs.Common.{◌≡◌, true, false, List, ℕ, [], ◌∷◌, ◌++◌, codes, File, Item, fault, located, shown_by_default, Shown, Planning, TangleCourse, change_not_there, not_there, planned, refused, tangling, tangle_files, tangle_log, tangle_status, unread}
 use Rattle.std.specs.Fmt.{digits}
 
 -- no options, and -bph
@@ -67,4 +67,4 @@ record Computed : Type 0 where
 
 computed : Computed
 unfolding digits
-computed = search refl
+computed = search

@@ -1,5 +1,5 @@
 -- The spacing law, by induction on the list.
-use Rattle.cweb_tools.proofs.Common.{◌≡◌, ℕ, Bool, true, false, cond, ◌==◌, not, List, [], ◌∷◌, ◌++◌, Option, Some, None, All, refl, ap, sym, ◌∙◌, subst, append_assoc, codes, if◌then◌else◌, nat_le, decimal, list_all, flat_map-append, All-head, All-tail, list_all-append, Token, Word, Number, Literal, Verbatim, Punct, Blank, Newline, Join, Defs, Name, Head, Tail, Mark, first_is, is_quiet, Reading, InPlainC, HasRead, IsRead, ReadsAlone, solid, is_between, doubled, at_doubled, is_hash, bytes_of, goes_on, Setting, print_after, file_text, word_text, kept, sep, are_apart, IsPlain, Spacing, is_ascii, and_parts, and_from, not-true}
+use Rattle.cweb_tools.proofs.Common.{◌≡◌, ℕ, Bool, true, false, cond, ◌==◌, not, List, [], ◌∷◌, ◌++◌, Option, Some, None, All, refl, ap, sym, ◌∙◌, append_assoc, codes, if◌then◌else◌, nat_le, decimal, list_all, flat_map-append, All-head, All-tail, list_all-append, Token, Word, Number, Literal, Punct, Blank, Newline, Join, Head, Tail, first_is, is_quiet, Reading, InPlainC, HasRead, IsRead, ReadsAlone, solid, is_between, doubled, at_doubled, is_hash, bytes_of, goes_on, Setting, print_after, file_text, word_text, kept, sep, are_apart, IsPlain, Spacing, is_ascii, and_parts, and_from, not-true}
 use Rattle.cweb_rules.proofs.Joins.{unlike}
 use Rattle.cweb_scanner.specs.Run.{run}
 use Rattle.cweb_scan.proofs.Gaps.{one_more}
@@ -49,11 +49,10 @@ text_first s left (Head n) h =
     record { byte = 47; rest = 42 ∷ (decimal n ++ 58 ∷ []) ++ 42 ∷ 47 ∷ []; is = head_text n; starts = refl }
 text_first s left (Tail n) h =
     record { byte = 47; rest = 42 ∷ (58 ∷ decimal n) ++ 42 ∷ 47 ∷ []; is = tail_text n; starts = refl }
-text_first s left (Word b) h =
-    subst (λ t. First (Word b) (doubled t)) (sym (ascii_text s b h.0)) (first_of (Word b) h.1)
-text_first s left (Number b) h = first_of (Number b) h
-text_first s left (Literal b) h = first_of (Literal b) h
-text_first s left (Punct b) h = first_of (Punct b) h.2
+text_first s left (Word b) h = rw (ascii_text s b h.0) (first_of h.1)
+text_first s left (Number b) h = first_of h
+text_first s left (Literal b) h = first_of h
+text_first s left (Punct b) h = first_of h.2
 text_first s left _ h = absurd h
 
 -- ONE TOKEN
@@ -61,26 +60,25 @@ text_first s left _ h = absurd h
 pub run_blank : (r : Reading) (x : List ℕ) → InPlainC r.state → run r (32 ∷ x) ≡ run r x
 run_blank r x h = one_more r 32 x h.in_c (no_directive r.state h) refl
 
-solid_read : (r : Reading) (u : Token) (rest : List ℕ) → ReadsAlone u → is_hash u ≡ false → InPlainC r.state
+solid_read : {r : Reading} {u : Token} {rest : List ℕ} → ReadsAlone u → is_hash u ≡ false → InPlainC r.state
     → first_is (goes_on joins u) rest ≡ false → IsRead r (doubled (bytes_of u)) rest (solid (u ∷ []))
-solid_read r u rest h plain in_plain goes = token_read joins r u rest operators_join in_plain h plain goes
+solid_read {r} {u} {rest} h plain in_plain goes = token_read joins r u rest operators_join in_plain h plain goes
 
 -- what is read of a token's text, whatever follows that can't go on with it
-step : (s : Setting) (left : Option Token) (r : Reading) (u : Token) (rest : List ℕ) → IsPlain u → InPlainC r.state
+step : (s : Setting) (left : Option Token) {r : Reading} (u : Token) {rest : List ℕ} → IsPlain u → InPlainC r.state
     → first_is (goes_on joins u) rest ≡ false → IsRead r (doubled (file_text s left u)) rest (solid (u ∷ []))
-step s left r Blank rest h plain goes =
+step s left {r} Blank {rest} h plain goes =
     record { next = r; goes_on = run_blank r rest plain; read = nothing r.state plain }
-step s left r Newline rest h plain goes = newline_read r rest plain
-step s left r (Head n) rest h plain goes = subst
-    (λ t. IsRead r t rest []) (sym (head_text n)) (comment_read r (decimal n ++ 58 ∷ []) rest (quiet_head n) plain)
-step s left r (Tail n) rest h plain goes =
-    subst (λ t. IsRead r t rest []) (sym (tail_text n)) (comment_read r (58 ∷ decimal n) rest (quiet_decimal n) plain)
-step s left r (Word b) rest h plain goes = subst (λ t. IsRead r (doubled t) rest (Word b ∷ []))
-    (sym (ascii_text s b h.0)) (solid_read r (Word b) rest h.1 refl plain goes)
-step s left r (Number b) rest h plain goes = solid_read r (Number b) rest h refl plain goes
-step s left r (Literal b) rest h plain goes = solid_read r (Literal b) rest h refl plain goes
-step s left r (Punct b) rest h plain goes = solid_read r (Punct b) rest h.2 h.0 plain goes
-step s left r _ rest h plain goes = absurd h
+step s left {r} Newline {rest} h plain goes = newline_read r rest plain
+step s left {r} (Head n) {rest} h plain goes =
+    rw (head_text n) (comment_read r (decimal n ++ 58 ∷ []) rest (quiet_head n) plain)
+step s left {r} (Tail n) {rest} h plain goes =
+    rw (tail_text n) (comment_read r (58 ∷ decimal n) rest (quiet_decimal n) plain)
+step s left {r} (Word b) {rest} h plain goes = rw (ascii_text s b h.0) (solid_read h.1 refl plain goes)
+step s left (Number b) h plain goes = solid_read h refl plain goes
+step s left (Literal b) h plain goes = solid_read h refl plain goes
+step s left (Punct b) h plain goes = solid_read h.2 h.0 plain goes
+step s left _ h plain goes = absurd h
 
 -- THE LIST
 
@@ -133,31 +131,19 @@ law_from s left [] h r plain = nothing r.state plain
 law_from s left (t ∷ ts) h r plain =
     let text = file_text s left t in
     let more = print_after (file_text s) (Some t) ts in
-    let one = step s left r t (doubled more) h.0 plain (seam_after s t ts h.1) in
+    let one = step s left t h.0 plain (seam_after s t ts h.1) in
     let rest = law_from s (Some t) ts h.1 one.next one.read.plain in
     let whole =
     and_then r.state one.next.state (run one.next (doubled more)).state (solid (t ∷ [])) (solid ts) one.read rest in
     let is : run r (printed s left (t ∷ ts)) ≡ run one.next (doubled more) =
     after_sep r left t text more plain ∙ one.goes_on in
-    subst (λ q. HasRead r.state q.state (solid (t ∷ ts))) (sym is)
-    (subst (λ us. HasRead r.state (run one.next (doubled more)).state us) (solid_first t ts) whole)
+    rw is (rw (← (solid_first t ts)) whole)
 
 -- without a Join no layout is deleted
 all_kept : (ts : List Token) → Plains ts → kept false ts ≡ ts
 all_kept [] h = refl
-all_kept (Blank ∷ ts) h = ap (λ us. Blank ∷ us) (all_kept ts h.1)
-all_kept (Newline ∷ ts) h = ap (λ us. Newline ∷ us) (all_kept ts h.1)
-all_kept (Head n ∷ ts) h = ap (λ us. Head n ∷ us) (all_kept ts h.1)
-all_kept (Tail n ∷ ts) h = ap (λ us. Tail n ∷ us) (all_kept ts h.1)
-all_kept (Word b ∷ ts) h = ap (λ us. Word b ∷ us) (all_kept ts h.1)
-all_kept (Number b ∷ ts) h = ap (λ us. Number b ∷ us) (all_kept ts h.1)
-all_kept (Literal b ∷ ts) h = ap (λ us. Literal b ∷ us) (all_kept ts h.1)
-all_kept (Punct b ∷ ts) h = ap (λ us. Punct b ∷ us) (all_kept ts h.1)
-all_kept (Verbatim b ∷ ts) h = absurd h.0
 all_kept (Join ∷ ts) h = absurd h.0
-all_kept (Defs ∷ ts) h = absurd h.0
-all_kept (Name n ∷ ts) h = absurd h.0
-all_kept (Mark p ∷ ts) h = absurd h.0
+all_kept (t ∷ ts) h = ap (λ us. t ∷ us) (all_kept ts h.1)
 
 plains : (ts : List Token) → All IsPlain ts → Plains ts
 plains [] h = tt
@@ -166,5 +152,4 @@ plains (t ∷ ts) h = (All-head IsPlain t ts h, plains ts (All-tail IsPlain t ts
 pub law : Spacing
 law s ts h r plain =
     let p = plains ts h in
-    subst (λ us. HasRead r.state (run r (doubled (print_after (file_text s) None us))).state (solid ts))
-    (sym (all_kept ts p)) (law_from s None ts p r plain)
+    rw (all_kept ts p) (law_from s None ts p r plain)

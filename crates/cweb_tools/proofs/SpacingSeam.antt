@@ -1,5 +1,5 @@
 -- The first byte of what is printed can't go on with the token before.
-use Rattle.cweb_tools.proofs.Common.{◌≡◌, ℕ, Bool, true, false, ◌&&◌, ◌||◌, ◌==◌, not, List, [], ◌∷◌, refl, ap, sym, ◌∙◌, codes, nat_le, Token, Word, Number, Literal, Verbatim, Punct, Blank, Newline, Join, Defs, Name, Head, Tail, Mark, is_one_of, is_digit, is_letter, is_word_byte, first_is, after_word, after_number, joins_last, goes_on, is_operator, last_is, are_apart, and-false, or_parts, and-true, or-false}
+use Rattle.cweb_tools.proofs.Common.{◌≡◌, ℕ, Bool, true, false, ◌&&◌, ◌||◌, ◌==◌, not, List, [], ◌∷◌, refl, ap, sym, ◌∙◌, codes, nat_le, Token, Word, Number, Literal, Verbatim, Punct, Blank, Newline, Join, Defs, Name, Mark, is_one_of, is_digit, is_letter, is_word_byte, after_word, after_number, joins_last, goes_on, is_operator, last_is, are_apart, and-false, or_parts, and-true, or-false}
 use Rattle.cweb_rules.proofs.Stays.{begins_number}
 use Rattle.cweb_print.specs.Spacing as print
 use Rattle.cweb_tools.proofs.SpacingStarts.{joins, Starts, none_of}
@@ -85,16 +85,6 @@ seam (Punct b) (Punct d) c apart h =
     not_both b c (no_digit_after c (or_parts (is_word_byte c) (is_one_of (codes "\"'") c) h.0).0) is
 seam (Punct b) Blank c apart h = ap (joins_last joins b) h ∙ never b 32 refl refl
 seam (Punct b) Newline c apart h = ap (joins_last joins b) h ∙ never b 10 refl refl
-seam (Literal b) right c apart h = refl
-seam (Verbatim b) right c apart h = refl
-seam Blank right c apart h = refl
-seam Newline right c apart h = refl
-seam Join right c apart h = refl
-seam Defs right c apart h = refl
-seam (Name n) right c apart h = refl
-seam (Head n) right c apart h = refl
-seam (Tail n) right c apart h = refl
-seam (Mark p) right c apart h = refl
 seam left (Verbatim d) c apart h = absurd h
 seam left Join c apart h = absurd h
 seam left Defs c apart h = absurd h
@@ -103,6 +93,7 @@ seam left (Mark p) c apart h = absurd h
 seam (Word b) _ c apart h = ap after_word h
 seam (Number b) _ c apart h = ap after_number h
 seam (Punct b) _ c apart h = before_comment b c apart h
+seam _ right c apart h = refl
 
 -- a blank goes on with no token
 pub blank_after : (left : Token) → goes_on joins left 32 ≡ false

@@ -1,7 +1,6 @@
 -- The first byte of what is printed of a token.
-use Rattle.cweb_tools.proofs.Common.{◌≡◌, ℕ, Bool, true, false, cond, ◌&&◌, ◌||◌, ◌==◌, not, List, [], ◌∷◌, Some, None, refl, ap, sym, ◌∙◌, subst, codes, list_all, Token, Word, Number, Literal, Verbatim, Punct, Blank, Newline, Head, Tail, is_one_of, is_digit, is_word_byte, is_white, first_is, JoinsAll, after_word, begins_as, text_in, Kind, Effect, Nothing, Define, Format, Program, Named, InsertDefs, Joins, GiveAt, Faulty, End, Closed, Cut, Nested, Open, ReadsAlone, doubled, token_of, bytes_of, literal_of, is_clean, is_operator, and_parts, or_parts, same_Some, not-true}
+use Rattle.cweb_tools.proofs.Common.{◌≡◌, ℕ, Bool, true, false, cond, ◌&&◌, ◌||◌, ◌==◌, not, List, [], ◌∷◌, Some, None, refl, ap, sym, ◌∙◌, codes, list_all, Token, Word, Number, Literal, Punct, Blank, Newline, Head, Tail, is_one_of, is_digit, is_word_byte, is_white, first_is, JoinsAll, after_word, begins_as, text_in, Kind, Effect, GiveAt, End, Closed, ReadsAlone, doubled, token_of, bytes_of, literal_of, is_clean, is_operator, and_parts, or_parts, same_Some, not-true}
 use Rattle.cweb_rules.specs.Kinds as kind
-use Rattle.cweb_rules.specs.declared.effect.Effect.TheVariants as effect
 use Rattle.cweb_rules.proofs.Joins.{unlike}
 use Rattle.cweb_rules.proofs.Stays.{begins_number}
 use Rattle.cweb_scan.proofs.PlainTokens.{begins, text_of}
@@ -52,13 +51,13 @@ passes_none p set c h e =
       | false ↦ λ f. refl
     ]) refl
 
-code_first : (e : Effect) (d : List ℕ) (u : Token)
+code_first : (e : Effect) {d : List ℕ} {u : Token}
     → token_of (kind.Code e) d ≡ Some u → d ≡ doubled (bytes_of u) → First u d
-code_first GiveAt d u t is =
+code_first GiveAt {d} {u} t is =
     let same = same_Some (Punct (64 ∷ [])) u t in
     let at : d ≡ 64 ∷ 64 ∷ [] = is ∙ sym (ap (λ v. doubled (bytes_of v)) same) in
-    subst (λ v. First v d) same (record { byte = 64; rest = 64 ∷ []; is = at; starts = (refl, [], refl) })
-code_first _ d u t is = cc
+    rw (← same) (record { byte = 64; rest = 64 ∷ []; is = at; starts = (refl, [], refl) })
+code_first _ t is = cc
 
 clean_is : (v : Bool) (b : List ℕ) (u : Token)
     → cond v (Some (Literal b)) None ≡ Some u → (b : List ℕ) × (Literal b ≡ u)
@@ -70,34 +69,33 @@ literal_is : (units : List (List ℕ)) (how : End) (u : Token)
 literal_is units Closed u t = clean_is (is_clean units) (text_in units) u t
 literal_is units _ u t = cc
 
-first_by : (k : Kind) (b : ℕ) (d : List ℕ) (u : Token) → begins_as k b ≡ true
+first_by : (k : Kind) (b : ℕ) (d : List ℕ) {u : Token} → begins_as k b ≡ true
     → token_of k (b ∷ d) ≡ Some u → b ∷ d ≡ doubled (bytes_of u) → First u (b ∷ d)
-first_by kind.Identifier b d u h t is =
+first_by kind.Identifier b d {u} h t is =
     let e = and_parts (is_word_byte b) (not (is_digit b)) h in
-    subst (λ v. First v (b ∷ d)) (same_Some (Word (b ∷ d)) u t)
+    rw (← (same_Some (Word (b ∷ d)) u t))
     (record { byte = b; rest = d; is = refl; starts = (e.0, not-true (is_digit b) e.1) })
-first_by kind.Numeral b d u h t is =
-    subst (λ v. First v (b ∷ d)) (same_Some (Number (b ∷ d)) u t) (record { byte = b; rest = d; is = refl; starts = h })
-first_by kind.Punctuator b d u h t is =
+first_by kind.Numeral b d {u} h t is =
+    rw (← (same_Some (Number (b ∷ d)) u t)) (record { byte = b; rest = d; is = refl; starts = h })
+first_by kind.Punctuator b d {u} h t is =
     let e = or_parts (after_word b) (is_white b) (not-true (after_word b || is_white b) h) in
-    subst (λ v. First v (b ∷ d)) (same_Some (Punct (b ∷ d)) u t)
-    (record { byte = b; rest = d; is = refl; starts = (e.0, d, refl) })
-first_by (kind.Quoted units how) b d u h t is =
+    rw (← (same_Some (Punct (b ∷ d)) u t)) (record { byte = b; rest = d; is = refl; starts = (e.0, d, refl) })
+first_by (kind.Quoted units how) b d {u} h t is =
     let l = literal_is units how u t in
-    subst (λ v. First v (b ∷ d)) l.1 (record {
+    rw (← l.1) (record {
       byte = b;
       rest = d;
       is = refl;
       starts = (passes_none is_operator (codes "LuUR\"'") b refl h, passes_none is_digit (codes "LuUR\"'") b refl h);
     })
-first_by (kind.Code c) b d u h t is = code_first c (b ∷ d) u t is
-first_by _ b d u h t is = cc
+first_by (kind.Code c) b d h t is = code_first c t is
+first_by _ b d h t is = cc
 
-first_in : (k : Kind) (d : List ℕ) (u : Token) → first_is (begins_as k) d ≡ true
+first_in : (k : Kind) (d : List ℕ) {u : Token} → first_is (begins_as k) d ≡ true
     → token_of k d ≡ Some u → d ≡ doubled (bytes_of u) → First u d
-first_in k [] u h t is = cc
-first_in k (b ∷ d) u h t is = first_by k b d u h t is
+first_in k [] h t is = cc
+first_in k (b ∷ d) h t is = first_by k b d h t is
 
 -- the first byte of a token that reads alone
-pub first_of : (u : Token) → ReadsAlone u → First u (text_of u)
-first_of u h = first_in h.kind (text_of u) u (begins u h) h.token refl
+pub first_of : {u : Token} → ReadsAlone u → First u (text_of u)
+first_of {u} h = first_in h.kind (text_of u) (begins u h) h.token refl

@@ -1,5 +1,6 @@
 -- The status of a run that nothing stops.
-use Rattle.cweb_tools.proofs.Common.{◌≡◌, ◌<◌, ◌+◌, ℕ, Bool, true, false, cond, ◌||◌, List, [], ◌∷◌, ◌++◌, map, refl, sym, ◌∙◌, ap, append-nil, arith, nat_tests, sum_by-cons, ◌==◌, count_by, if◌then◌else◌, list_any, File, WebNotOpened, ChangeNotOpened, Item, banner, closing, fault_count, faults, is_fault, no_errors, no_text, see_warning, stopped, Shown, Act, opens, reads, says, Numbers, Planning, TangleCourse, closing_acts, items_in, outputs_acts, planned, planned_acts, refused, starred_acts, tangle_status, tangling, unread, not_there, change_not_there, web_acts, when, course_status, status_by, or-true, or-false}
+use Rattle.cweb_tools.proofs.Common.{◌≡◌, ◌<◌, ◌+◌, ℕ, Bool, true, false, cond, ◌||◌, List, [], ◌∷◌, ◌++◌, map, refl, sym, ◌∙◌, ap, arith, nat_tests, sum_by-cons, or-true, or-false, list_any-append, ◌==◌, count_by, if◌then◌else◌, list_any, WebNotOpened, ChangeNotOpened, Item, banner, fault_count, faults, is_fault, no_errors, no_text, see_warning, stopped, Shown, Act, opens, reads, says, Numbers, Planning, TangleCourse, items_in, planned, planned_acts, refused, tangle_status, tangling, unread, not_there, change_not_there, web_acts, when, course_status, status_by}
+use Rattle.cweb_tools.proofs.WebActs.{when_on, starred_on, outputs_on, closing_on}
 
 -- whether acts log a fault
 abbrev has_fault : List Act → Bool
@@ -8,43 +9,30 @@ has_fault acts = list_any is_fault (items_in acts)
 abbrev status_for : Bool → ℕ
 status_for fails = if fails then 1 else 0
 
-fault-when : (b : Bool) (item : Item) (acts : List Act)
-    → is_fault item ≡ false → has_fault (when b item ++ acts) ≡ has_fault acts
-fault-when true item acts is = ap (λ (f : Bool). f || has_fault acts) is
-fault-when false item acts is = refl
-
-or_assoc : (a b c : Bool) → (a || (b || c)) ≡ ((a || b) || c)
-or_assoc true b c = refl
-or_assoc false b c = refl
+items_in-said : (items : List Item) (acts : List Act) → items_in (map says items ++ acts) ≡ items ++ items_in acts
+items_in-said [] acts = refl
+items_in-said (item ∷ items) acts = ap (λ (all : List Item). item ∷ all) (items_in-said items acts)
 
 fault-said : (items : List Item) (acts : List Act)
     → has_fault (map says items ++ acts) ≡ (list_any is_fault items || has_fault acts)
-fault-said [] acts = refl
-fault-said (item ∷ items) acts = ap (λ (f : Bool). is_fault item || f) (fault-said items acts)
-    ∙ or_assoc (is_fault item) (list_any is_fault items) (has_fault acts)
+fault-said items acts =
+    ap (list_any is_fault) (items_in-said items acts) ∙ list_any-append is_fault items (items_in acts)
 
-fault-starred : (progress : Bool) (numbers : List ℕ) (acts : List Act)
-    → has_fault (starred_acts progress numbers ++ acts) ≡ has_fault acts
-fault-starred progress [] acts = refl
-fault-starred progress (n ∷ numbers) acts = fault-when progress _ acts refl
+-- an item that is no fault
+abbrev IsQuiet : Item → Type 0
+IsQuiet item = is_fault item ≡ false
 
-fault-outputs : (progress : Bool) (files : List File) (acts : List Act)
-    → has_fault (outputs_acts progress files ++ acts) ≡ has_fault acts
-fault-outputs progress [] acts = refl
-fault-outputs true (file ∷ files) acts = fault-outputs true files acts
-fault-outputs false (file ∷ files) acts = fault-outputs false files acts
+abbrev Shows : Bool → List Act → Type 0
+Shows b acts = has_fault acts ≡ b
+
+quiet_on : (b : Bool) (item : Item) (acts : List Act) → IsQuiet item → Shows b acts → Shows b (says item ∷ acts)
+quiet_on b item acts is rest = ap (λ (f : Bool). f || has_fault acts) is ∙ rest
 
 shuts : (none missing : Bool) (count : ℕ)
     → is_fault (if none then (if missing then see_warning else no_errors) else faults count) ≡ false
 shuts true true count = refl
 shuts true false count = refl
 shuts false missing count = refl
-
-fault-closing : (shown : Shown) (numbers : Numbers) (count : ℕ) (missing : Bool)
-    → has_fault (closing_acts shown numbers count missing) ≡ false
-fault-closing shown numbers count missing =
-    fault-when shown.statistics _ _ refl ∙ ap has_fault (sym (append-nil (when shown.closing (closing count missing))))
-    ∙ fault-when shown.closing _ [] (shuts (count == 0) missing count)
 
 -- a refused plan alone has a fault of its own
 abbrev is_refused : Planning → Bool
@@ -55,8 +43,10 @@ fault-planned : (shown : Shown) (numbers : Numbers) (count : ℕ) (plan : Planni
     → has_fault (planned_acts shown numbers count plan) ≡ is_refused plan
 fault-planned shown numbers count (refused text) = refl
 fault-planned shown numbers count (planned files missing) =
-    fault-when missing no_text _ refl ∙ fault-outputs shown.progress files (closing_acts shown numbers count missing)
-    ∙ fault-closing shown numbers count missing
+    let on = quiet_on false in
+    when_on IsQuiet (Shows false) on missing no_text _ refl (outputs_on IsQuiet (Shows false) on shown.progress files _
+    (λ name. refl) (λ name text acts rest. rest) (closing_on IsQuiet (Shows false) on shown numbers count missing refl
+    (shuts (count == 0) missing count) refl))
 
 count_step : (b any : Bool) (n m : ℕ) → m ≡ cond b 1 0 + n → (any ≡ true → 0 < n) × (any ≡ false → n ≡ 0)
     → ((b || any) ≡ true → 0 < m) × ((b || any) ≡ false → m ≡ 0)
@@ -80,14 +70,19 @@ status_planned items (planned files missing) = ap status_for (or-false (list_any
     ∙ by_count
     (list_any is_fault items) (fault_count items) (counted_some is_fault items).0 (counted_some is_fault items).1
 
+banner_quiet : (b : Bool) (shown : Shown) (acts : List Act) → Shows b acts → Shows b (when shown.banner banner ++ acts)
+banner_quiet b shown acts rest = when_on IsQuiet (Shows b) (quiet_on b) shown.banner banner acts refl rest
+
 pub status_is : (shown : Shown) (course : TangleCourse) → tangle_status shown course ≡ course_status course
 status_is shown unread = refl
 status_is shown (not_there web) =
-    ap status_for (fault-when shown.banner banner (opens ∷ says (stopped WebNotOpened web) ∷ []) refl)
+    ap status_for (banner_quiet true shown (opens ∷ says (stopped WebNotOpened web) ∷ []) refl)
 status_is shown (change_not_there change) =
-    ap status_for (fault-when shown.banner banner (opens ∷ says (stopped ChangeNotOpened change) ∷ []) refl)
+    ap status_for (banner_quiet true shown (opens ∷ says (stopped ChangeNotOpened change) ∷ []) refl)
 status_is shown (tangling names events web) =
-    ap status_for (fault-when shown.banner banner (opens ∷ reads names events ∷ web_acts shown web) refl ∙ fault-starred
-    shown.progress web.starred _ ∙ fault-said web.faults _ ∙ ap (λ (f : Bool). list_any is_fault web.faults || f)
-    (fault-planned shown web.numbers (fault_count web.faults) web.plan))
+    let faults = list_any is_fault web.faults in
+    let b = faults || is_refused web.plan in
+    ap status_for (banner_quiet b shown (opens ∷ reads names events ∷ web_acts shown web) (starred_on IsQuiet (Shows b)
+    (quiet_on b) shown.progress web.starred _ (λ ns. refl) (fault-said web.faults _ ∙ ap (λ (f : Bool). faults || f)
+    (fault-planned shown web.numbers (fault_count web.faults) web.plan))))
     ∙ status_planned web.faults web.plan

@@ -1,35 +1,9 @@
 -- How a whole run of `ctangle` ends, by what became of its words.
-use Rattle.cweb_tools.proofs.Common.{◌≡◌, ◌⊎◌, ◌+◌, inl, inr, ℕ, List, [], ◌∷◌, ◌++◌, refl, sym, subst, add-zero, Option, Some, None, World, Stop, Usage, Memory, LogFault, banner, stopped, stop_line, Asked, Logs, SeenBins, SeenRun, SeenShelf, SeenStream, Act, ending, judges, says, Closes, Does, DoesInLog, Follows, halted, TangleCourse, change_not_there, not_there, script, tangle_status, tangle_usage, tangling, unread, when, CanCome, course_acts, course_status, shown_by, tangle_course}
-use Rattle.cweb_tools.proofs.Doing.{closes_on, does_in, does_on}
+use Rattle.cweb_tools.proofs.Common.{◌≡◌, ◌⊎◌, inl, inr, ℕ, List, [], ◌∷◌, ◌++◌, refl, sym, subst, Option, Some, None, World, Stop, Usage, Memory, LogFault, banner, stopped, stop_line, Asked, Logs, SeenBins, SeenRun, SeenShelf, SeenStream, Act, ending, judges, says, Closes, Does, DoesInLog, Follows, halted, TangleCourse, change_not_there, not_there, script, tangle_status, tangle_usage, tangling, unread, when, CanCome, course_acts, shown_by, tangle_course}
+use Rattle.cweb_tools.proofs.Doing.{closes_on, does_in, does_on, quietly}
 use Rattle.cweb_tools.proofs.Logging.{at}
 use Rattle.cweb_tools.proofs.Statuses.{status_is}
-use Rattle.cweb_tools.proofs.TangleExits.{told_last, can_come, EndsAs, course}
-
--- the words were read
-judged : (shelf : SeenShelf) (bins : SeenBins) (l : SeenStream)
-    → Does (judges ∷ []) None (at shelf bins l) (at shelf bins l)
-judged shelf bins l = record {
-  shelf_tells = refl;
-  bins_tells = refl;
-  log_tells = refl;
-  shelf = sym (add-zero shelf.failed);
-  bins = sym (add-zero bins.failed);
-  log = sym (add-zero l.failed);
-  runs = λ now told. record { left = now; told = told; runs = inl (tt, refl) };
-}
-
--- memory was refused there
-not_judged : (acts : List Act) (shelf : SeenShelf) (bins : SeenBins) (l : SeenStream)
-    → Does (judges ∷ acts) (Some (ending Memory [])) (at shelf bins l) (at shelf bins l)
-not_judged acts shelf bins l = record {
-  shelf_tells = refl;
-  bins_tells = refl;
-  log_tells = refl;
-  shelf = sym (add-zero shelf.failed);
-  bins = sym (add-zero bins.failed);
-  log = sym (add-zero l.failed);
-  runs = λ now told. record { left = now; told = told; runs = inr refl };
-}
+use Rattle.cweb_tools.proofs.TangleExits.{told_last, can_come, EndsAs}
 
 -- the acts of a run whose words could be read
 script_is : (asked : Asked) (course : TangleCourse) → CanCome (Some asked) course
@@ -38,6 +12,10 @@ script_is asked unread can = absurd can
 script_is asked (not_there web) can = refl
 script_is asked (change_not_there change) can = refl
 script_is asked (tangling names events web) can = refl
+
+-- the words were read
+judged : {seen : SeenRun} → Does (judges ∷ []) None seen seen
+judged = quietly refl refl refl (λ now. inl (tt, refl))
 
 -- how a whole run ends
 abbrev EndsRun : World → Option Asked → SeenRun → SeenRun → ℕ → Type 0
@@ -54,24 +32,25 @@ memory_is asked stop (inr is) none_by = is
 
 -- the words can't be read, or memory was wanting for their names
 pub words_end : (world : World) (asked : Option Asked) (stop : Stop)
-    (shelf : SeenShelf) (bins : SeenBins) (l l' : SeenStream) (status : ℕ) → (stop ≡ Usage) ⊎ (stop ≡ Memory)
+    (shelf : SeenShelf) (bins : SeenBins) {l l' : SeenStream} (status : ℕ) → (stop ≡ Usage) ⊎ (stop ≡ Memory)
     → (stop ≡ Usage → asked ≡ None) → (asked ≡ None → stop ≡ Usage) → Logs (stop_line stop tangle_usage) l l'
     → status ≡ 1 → EndsRun world asked (at shelf bins l) (at shelf bins l') status
-words_end world None stop shelf bins l l' status why none_by is_usage logs answered = record {
+words_end world None stop shelf bins {l} {l'} status why none_by is_usage logs answered = record {
   taken = unread;
   can = tt;
   is = λ tell. refl;
   closes = subst (λ (n : ℕ). Closes (says (stopped Usage tangle_usage) ∷ []) 1 (at shelf bins l) (at shelf bins l') n)
-      (sym answered) (told_last (stopped Usage tangle_usage) shelf bins l l'
+      (sym answered) (told_last (stopped Usage tangle_usage) shelf bins
       (subst (λ (s : Stop). Logs (stop_line s tangle_usage) l l') (is_usage refl) logs));
 }
-words_end world (Some asked) stop shelf bins l l' status why none_by is_usage logs answered =
+words_end world (Some asked) stop shelf bins {l} {l'} status why none_by is_usage logs answered =
     let can = can_come asked world _ _ in record {
       taken = tangle_course world (Some asked);
       can = can;
       is = λ tell. refl;
-      closes = halted (ending Memory []) (at shelf bins l) (subst (λ (acts : List Act). Does acts (Some (ending Memory
-          [])) (at shelf bins l) (at shelf bins l)) (sym (script_is asked _ can)) (not_judged _ shelf bins l))
+      closes = halted (ending Memory []) (at shelf bins l) (subst (λ (acts : List Act).
+          Does acts (Some (ending Memory [])) (at shelf bins l) (at shelf bins l)) (sym (script_is asked _ can))
+          (quietly refl refl refl (λ now. inr refl)))
           (record {
             shelf = refl;
             bins = refl;
@@ -82,36 +61,30 @@ words_end world (Some asked) stop shelf bins l l' status why none_by is_usage lo
     }
 
 -- the banner could not be logged
-pub banner_ends : (world : World) (asked : Asked) (shelf : SeenShelf) (bins : SeenBins) (l l' : SeenStream)
+pub banner_ends : (world : World) (asked : Asked) (shelf : SeenShelf) (bins : SeenBins) {l l' : SeenStream}
     → DoesInLog (when asked.shown.banner banner) (Some (ending LogFault [])) l l'
     → EndsRun world (Some asked) (at shelf bins l) (at shelf bins l') 1
-banner_ends world asked shelf bins l l' does =
+banner_ends world asked shelf bins {l} {l'} does =
     let can = can_come asked world _ _ in record {
       taken = tangle_course world (Some asked);
       can = can;
       is = λ tell. refl;
       closes = halted (ending LogFault []) (at shelf bins l')
-          (subst (λ (acts : List Act). Does acts (Some (ending LogFault [])) (at shelf bins l) (at shelf bins l'))
-          (sym (script_is asked _ can)) (does_on (judges ∷ []) _ (Some (ending LogFault [])) _ _ _
-          (judged shelf bins l) (does_in _ _ (ending LogFault []) _ _ (does shelf bins))))
+          (rw (script_is asked _ can) (does_on (judged) (does_in _ (does shelf bins))))
           (record { shelf = refl; bins = refl; log = refl }) refl;
     }
 
 -- the run went on behind the banner
-pub named_ends : (world : World) (asked : Asked) (shelf : SeenShelf) (bins : SeenBins)
-    (l l' : SeenStream) (after : SeenRun) (status : ℕ) → DoesInLog (when asked.shown.banner banner) None l l'
+pub named_ends : (world : World) (asked : Asked) (shelf : SeenShelf) (bins : SeenBins) {l l' : SeenStream}
+    (after : SeenRun) (status : ℕ) → DoesInLog (when asked.shown.banner banner) None l l'
     → EndsAs asked (tangle_course world (Some asked)) (at shelf bins l') after status
     → EndsRun world (Some asked) (at shelf bins l) after status
-named_ends world asked shelf bins l l' after status does follows =
-    let first =
-    does_on (judges ∷ []) (when asked.shown.banner banner) None _ _ _ (judged shelf bins l) (does shelf bins) in
+named_ends world asked shelf bins {l} after status does follows =
+    let first = does_on (judged) (does shelf bins) in
     record {
       taken = follows.taken;
       can = follows.can;
       is = follows.is;
-      closes = subst (λ (due : ℕ). Closes (script asked.shown follows.taken) due (at shelf bins l) after status)
-          (sym (status_is asked.shown follows.taken)) (subst (λ (acts : List Act).
-          Closes acts (course_status follows.taken) (at shelf bins l) after status) (sym (script_is asked follows.taken
-          follows.can)) (closes_on (judges ∷ when asked.shown.banner banner) (course_acts asked.shown follows.taken)
-          (course_status follows.taken) _ _ _ status first follows.closes));
+      closes = rw (status_is asked.shown follows.taken) (rw (script_is asked follows.taken
+          follows.can) (closes_on first follows.closes));
     }

@@ -1,7 +1,8 @@
 -- How the exits of a run of `ctangle` that come before its web is read are its ends.
-use Rattle.cweb_tools.proofs.Common.{◌≡◌, ◌⊎◌, ◌+◌, inl, inr, ℕ, List, [], ◌∷◌, ◌++◌, refl, sym, ◌∙◌, ap, subst, add-zero, Bool, true, false, IsTrue, Option, Some, None, text_found, World, Found, Event, started, StartStops, given_lines, told_faults, merge, StopsAtStart, Stop, WebNotOpened, ChangeNotOpened, Memory, LogFault, scanned, Item, line, stopped, start_subject, stop_line, Asked, Logs, SeenBins, SeenRun, SeenShelf, SeenStream, Act, ending, Held, opens, says, change_name, found_course, AsTold, Closes, Does, Follows, done, halted, TangleCourse, change_not_there, not_there, CanCome, course_acts, course_status, tangled}
+use Rattle.cweb_tools.proofs.Common.{◌≡◌, ◌⊎◌, inl, inr, ℕ, List, [], ◌∷◌, refl, sym, ◌∙◌, Bool, true, false, IsTrue, Option, Some, None, text_found, World, Found, Event, started, StartStops, given_lines, told_faults, merge, StopsAtStart, Stop, WebNotOpened, ChangeNotOpened, Memory, scanned, Item, line, stopped, start_subject, stop_line, Asked, Logs, SeenBins, SeenRun, SeenShelf, SeenStream, Act, Ending, Runs, rise, read_blame, bins_blame, log_blame, arith, ending, Held, opens, says, change_name, found_course, AsTold, Closes, Does, Follows, halted, TangleCourse, change_not_there, not_there, CanCome, course_acts, course_status, tangled}
 use Rattle.cweb_tools.proofs.Doing.{closes_on}
-use Rattle.cweb_tools.proofs.Logging.{at, front_told, log_told}
+use Rattle.cweb_tools.proofs.DoingFiles.{closes_told}
+use Rattle.cweb_tools.proofs.Logging.{at, logs_write, said}
 
 -- a device tells or it doesn't
 pub either : (tells : Bool) → IsTrue tells ⊎ (IsTrue tells → ⊥)
@@ -9,55 +10,26 @@ either true = inl refl
 either false = inr (λ is. cc)
 
 -- a line that says what ended the run was logged, or the log failed at it
-pub told_last : (item : Item) (shelf : SeenShelf) (bins : SeenBins) (l l' : SeenStream) → Logs (line item) l l'
+pub told_last : (item : Item) (shelf : SeenShelf) (bins : SeenBins) {l l' : SeenStream} → Logs (line item) l l'
     → Closes (says item ∷ []) 1 (at shelf bins l) (at shelf bins l') 1
-told_last item shelf bins l l' logs = elim logs.once [
-  | inl kept ↦ done (record {
-    shelf_tells = refl;
-    bins_tells = refl;
-    log_tells = logs.tells;
-    shelf = sym (add-zero shelf.failed);
-    bins = sym (add-zero bins.failed);
-    log = kept ∙ sym (add-zero l.failed);
-    runs = λ now told. record {
-      left = record now { log = now.log ++ line item };
-      told = log_told now _ shelf bins l l' told refl (told.log_failed ∙ sym kept) (λ tell.
-          let first : IsTrue l.tells = sym logs.tells ∙ tell in
-          ap (λ (t : List ℕ). t ++ line item) (told.log first) ∙ sym (logs.whole first kept));
-      runs = inl (tt, refl);
-    };
-  }) refl
-  | inr rose ↦ halted (ending LogFault []) (at shelf bins l') (record {
-    shelf_tells = refl;
-    bins_tells = refl;
-    log_tells = logs.tells;
-    shelf = sym (add-zero shelf.failed);
-    bins = sym (add-zero bins.failed);
-    log = rose;
-    runs = λ now told. let front = front_told l.tells l.bytes l'.bytes (line item) logs.front in record {
-      left = record now { log_failed = now.log_failed + 1; log = now.log ++ front.front };
-      told = log_told now _ shelf bins l l' told refl (ap (λ (n : ℕ). n + 1) told.log_failed ∙ sym rose) (λ tell.
-          let first : IsTrue l.tells = sym logs.tells ∙ tell in
-          ap (λ (t : List ℕ). t ++ front.front) (told.log first) ∙ sym (front.written first));
-      runs = inr (record { front = front.front; rest = front.rest; whole = front.whole; is = refl });
-    };
-  }) (record { shelf = refl; bins = refl; log = refl }) refl
-]
+told_last item shelf bins logs =
+    let writes = logs_write logs in
+    closes_told writes.0 (said item writes.1) refl refl shelf bins
 
 -- what the devices hold where the shelf alone was read
-pub shelf_told : (now left : Held) (shelf shelf' : SeenShelf) (bins : SeenBins) (l : SeenStream)
-    → AsTold now (at shelf bins l)
-    → left ≡ record now { shelf_failed = left.shelf_failed; blamed = left.blamed } → left.shelf_failed ≡ shelf'.failed
-    → (IsTrue shelf'.tells → left.blamed ≡ shelf'.blamed) → AsTold left (at shelf' bins l)
-shelf_told now left shelf shelf' bins l told same count blamed = record {
-  shelf_failed = count;
+pub shelf_told : {now : Held}
+    (count : ℕ) (blames : List (List ℕ)) (shelf shelf' : SeenShelf) (bins : SeenBins) (l : SeenStream)
+    → AsTold now (at shelf bins l) → count ≡ shelf'.failed → (IsTrue shelf'.tells → blames ≡ shelf'.blamed)
+    → AsTold (record now { shelf_failed = count; blamed = blames }) (at shelf' bins l)
+shelf_told count blames shelf shelf' bins l told counted blamed = record {
+  shelf_failed = counted;
   blamed = blamed;
-  bins_failed = ap (λ (h : Held). h.bins_failed) same ∙ told.bins_failed;
-  log_failed = ap (λ (h : Held). h.log_failed) same ∙ told.log_failed;
-  files = λ tells. ap (λ (h : Held). h.files) same ∙ told.files tells;
-  draft = λ tells. ap (λ (h : Held). h.draft) same ∙ told.draft tells;
-  refused = λ tells. ap (λ (h : Held). h.refused) same ∙ told.refused tells;
-  log = λ tells. ap (λ (h : Held). h.log) same ∙ told.log tells;
+  bins_failed = told.bins_failed;
+  log_failed = told.log_failed;
+  files = told.files;
+  draft = told.draft;
+  refused = told.refused;
+  log = told.log;
 }
 
 -- a run whose words ask for this can come to the course that its shelf's texts give
@@ -78,32 +50,25 @@ EndsAs asked course before after status =
 module _ (shelf shelf' : SeenShelf) (tells : shelf'.tells ≡ shelf.tells)
     (failed : shelf'.failed ≡ shelf.failed) (blamed : IsTrue shelf.tells → shelf'.blamed ≡ shelf.blamed)
     (bins : SeenBins) (l l' : SeenStream) where
-  looked : (now : Held) → AsTold now (at shelf bins l) → AsTold now (at shelf' bins l)
-  looked now told = shelf_told now now shelf shelf' bins l told refl (told.shelf_failed ∙ sym failed)
+  pub looked : (now : Held) → AsTold now (at shelf bins l) → AsTold now (at shelf' bins l)
+  looked now told = shelf_told _ _ shelf shelf' bins l told (told.shelf_failed ∙ sym failed)
       (λ tell. let first : IsTrue shelf.tells = sym tells ∙ tell in told.blamed first ∙ sym (blamed first))
 
-  pub opened : Does (opens ∷ []) None (at shelf bins l) (at shelf' bins l)
-  opened = record {
+  pub looks : (acts : List Act) (why : Option Ending) → rise read_blame why ≡ 0 → rise bins_blame why ≡ 0 → rise
+      log_blame why ≡ 0 → ((now : Held) → Runs acts why now now) → Does acts why (at shelf bins l) (at shelf' bins l)
+  looks acts why no_read no_bins no_log runs = record {
     shelf_tells = tells;
     bins_tells = refl;
     log_tells = refl;
-    shelf = failed ∙ sym (add-zero shelf.failed);
-    bins = sym (add-zero bins.failed);
-    log = sym (add-zero l.failed);
-    runs = λ now told. record { left = now; told = looked now told; runs = inl (tt, refl) };
+    shelf = omega (arith, failed, no_read);
+    bins = omega (arith, no_bins);
+    log = omega (arith, no_log);
+    runs = λ now told. record { left = now; told = looked now told; runs = runs now };
   }
 
   -- memory was refused there
   not_opened : (acts : List Act) → Does (opens ∷ acts) (Some (ending Memory [])) (at shelf bins l) (at shelf' bins l)
-  not_opened acts = record {
-    shelf_tells = tells;
-    bins_tells = refl;
-    log_tells = refl;
-    shelf = failed ∙ sym (add-zero shelf.failed);
-    bins = sym (add-zero bins.failed);
-    log = sym (add-zero l.failed);
-    runs = λ now told. record { left = now; told = looked now told; runs = inr refl };
-  }
+  not_opened acts = looks (opens ∷ acts) (Some (ending Memory [])) refl refl refl (λ now. inr refl)
 
   module _ (asked : Asked) (world : World) (status : ℕ) (answered : status ≡ 1) where
     abbrev pub course : Option Found → Option (Option Found) → TangleCourse
@@ -125,9 +90,8 @@ module _ (shelf shelf' : SeenShelf) (tells : shelf'.tells ≡ shelf.tells)
 
     ends_said : (item : Item) → Logs (line item) l l'
         → Closes (opens ∷ says item ∷ []) 1 (at shelf bins l) (at shelf' bins l') status
-    ends_said item logs =
-        closes_on (opens ∷ []) (says item ∷ []) 1 _ _ _ status opened (subst (λ (n : ℕ). Closes (says item ∷ []) 1
-        (at shelf' bins l) (at shelf' bins l') n) (sym answered) (told_last item shelf' bins l l' logs))
+    ends_said item logs = closes_on
+        (looks (opens ∷ []) None refl refl refl (λ now. inl (tt, refl))) (rw answered (told_last item shelf' bins logs))
 
     memory_out : (found : Option Found) (changes : Option (Option Found)) → Does
         (course_acts asked.shown (course found changes)) (Some (ending Memory [])) (at shelf bins l) (at shelf' bins l)

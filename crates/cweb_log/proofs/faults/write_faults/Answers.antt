@@ -3,22 +3,20 @@ use Rattle.cweb_log.proofs.Gathering.{gathers_none, gathers_next, gathers_failed
 use Rattle.cweb_log.proofs.faults.write_faults.Goals as goal
 
 pub faults-init : goal.faults-init
-faults-init g c = rw c.new-gathered.ensures (gathers_none _ _ _)
+faults-init g c = rw c.new-gathered.ensures (gathers_none _)
 
 pub add_fault-requires-clause-count : goal.add_fault-requires-clause-count
 add_fault-requires-clause-count g c = omega (arith, c.faults.invariant.counts, c.requires.count)
 
 pub returns-in_err-add_fault : goal.returns-in_err-add_fault
-returns-in_err-add_fault g c = writes_front {A = Unit {0}} c.in_err-add_fault.field-0.0 _ _ _ _ _ (gathers_failed
+returns-in_err-add_fault g c = writes_front {A = Unit {0}} c.in_err-add_fault.field-0.0 _ (gathers_failed
     (λ (fault : SourceFault). fault_line (names_of c.args.names.now) fault) c.args.faults.now c.faults.fault-index
-    _ _ _ _ _ _ _ _ _ _ c.faults-test.true c.faults.invariant c.in_err-add_fault.ensures refl) c.from_residual.ensures.0
+    _ _ _ c.faults-test.true c.faults.invariant c.in_err-add_fault.ensures refl) c.from_residual.ensures.0
 
 pub faults-preserved : goal.faults-preserved
-faults-preserved g c =
-    gathers_next (λ (fault : SourceFault). fault_line (names_of c.args.names.now) fault) c.args.faults.now
-    c.faults.fault-index _ _ _ _ _ _ _ _ _ c.faults-test.true c.faults.invariant c.in_ok-add_fault.ensures
+faults-preserved g c = gathers_next (λ (fault : SourceFault). fault_line (names_of c.args.names.now) fault)
+    c.args.faults.now c.faults.fault-index _ _ _ c.faults-test.true c.faults.invariant c.in_ok-add_fault.ensures
 
 pub returns : goal.returns
-returns g c =
-    writes_all _ _ _ _ _ _ _ (gathers_all (λ (fault : SourceFault). fault_line (names_of c.args.names.now) fault)
-    c.args.faults.now c.faults.fault-index _ _ _ _ _ c.faults-test.false c.faults.invariant) c.pass_on.ensures.writes
+returns g c = writes_all _ (gathers_all (λ (fault : SourceFault). fault_line (names_of c.args.names.now) fault)
+    c.args.faults.now c.faults.fault-index _ c.faults-test.false c.faults.invariant) c.pass_on.ensures.writes

@@ -2,4 +2,4 @@ use Rattle.cweb_out.proofs.CycleLaw.{refused_cycles_are_cycles}
 use Rattle.cweb_out.proofs.laws.refused_cycles_are_cycles.Goals as goal
 
 pub returns : goal.returns
-returns c = refused_cycles_are_cycles
+returns c = λ w main ns. refused_cycles_are_cycles main

@@ -1,6 +1,5 @@
-use Rattle.cweb_tools.proofs.Common.{script}
 use Rattle.cweb_tools.proofs.Leaving.{ends_draft}
 use Rattle.cweb_tools.proofs.laws.no_draft_remains.Goals as goal
 
 pub returns : goal.returns
-returns c = λ shown course due old new status none ends. ends_draft (script shown course) due old new status none ends
+returns c = λ shown course due old new status none ends. ends_draft none ends

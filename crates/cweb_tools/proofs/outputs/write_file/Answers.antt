@@ -1,6 +1,7 @@
-use Rattle.cweb_tools.proofs.Common.{◌+◌, ◌++◌, List, ℕ, refl, sym, ◌∙◌, ap, add-zero, IsTrue, Beside, no_device, no_memory, with_draft, without_draft, Memory, OutNotOpened, WriteFault, name_of, seen_bins, Held, bins_fail, given_up, not_begun}
+use Rattle.cweb_tools.proofs.Common.{◌+◌, ◌++◌, List, ℕ, refl, sym, ◌∙◌, ap, add-zero, IsTrue, no_device, no_memory, without_draft, name_of, seen_bins, inr}
 use Rattle.cweb_files.specs.Files as files
-use Rattle.cweb_tools.proofs.DoingFiles.{file_done, file_failed}
+use Rattle.cweb_tools.proofs.Doing.{does_in_bins}
+use Rattle.cweb_tools.proofs.DoingFiles.{file_done, not_written}
 use Rattle.cweb_tools.proofs.Readies.{left_known, text_on}
 use Rattle.cweb_tools.proofs.outputs.write_file.Goals as goal
 
@@ -12,18 +13,16 @@ print_all-requires-clause-left g c = left_known c.args.names.now
 pub returns-in-Err-Memory-clause-does : goal.returns-in-Err-Memory-clause-does
 returns-in-Err-Memory-clause-does g c =
     let began = c.in-Err-Memory.ensures in
-    file_failed _ _ Memory (not_begun no_memory) (files.not_begun no_memory) (seen_bins g.B.Sink c.args.bins.now)
-    (seen_bins g.B.Sink c.start_file.new.self) began.tells ((rw c.in-Err-Memory.field-0-is at began.failed) ∙ sym
-    (add-zero (g.B.Sink.failed c.args.bins.now))) refl refl (λ tell. rw c.in-Err-Memory.field-0-is at (began.err tell))
-    (λ now. refl) (λ now. sym (add-zero now.bins_failed)) (λ now. refl)
+    does_in_bins (λ n. n) (files.not_begun no_memory) refl refl (λ n. sym (add-zero n)) began.tells
+    (rw c.in-Err-Memory.field-0-is at began.failed) (λ tell. rw c.in-Err-Memory.field-0-is at (began.err tell))
+    (λ now. inr refl)
 
 pub returns-in-Err-Device-clause-does : goal.returns-in-Err-Device-clause-does
 returns-in-Err-Device-clause-does g c =
     let began = c.in-Err-Device.ensures in
-    file_failed _ _ OutNotOpened (λ (now : Held). bins_fail (not_begun no_device now)) (files.not_begun no_device)
-    (seen_bins g.B.Sink c.args.bins.now) (seen_bins g.B.Sink c.start_file.new.self)
-    began.tells (rw c.in-Err-Device.field-0-is at began.failed) refl refl
-    (λ tell. rw c.in-Err-Device.field-0-is at (began.err tell)) (λ now. (refl, refl)) (λ now. refl) (λ now. refl)
+    does_in_bins (λ n. n + 1) (files.not_begun no_device) refl refl (λ n. refl)
+    began.tells (rw c.in-Err-Device.field-0-is at began.failed)
+    (λ tell. rw c.in-Err-Device.field-0-is at (began.err tell)) (λ now. inr (refl, refl))
 
 -- it was begun, and printing it failed
 pub returns-in-Err-clause-does : goal.returns-in-Err-clause-does
@@ -32,13 +31,11 @@ returns-in-Err-clause-does g c =
     let began = c.in-Ok.ensures in
     let printed = c.in-Err.ensures in
     let gone = c.abandon_file.ensures in
-    file_failed name _ WriteFault (λ (now : Held). bins_fail (given_up now))
-    (λ (b : Beside). without_draft (with_draft name b)) (seen_bins g.B.Sink c.args.bins.now)
-    (seen_bins g.B.Sink c.abandon_file.new.self) (gone.tells ∙ printed.tells ∙ began.tells)
-    (gone.failed ∙ printed.failed ∙ ap (λ (n : ℕ). n + 1) began.failed) refl refl (λ tell.
-    let told : IsTrue (g.B.Sink.tells c.start_file.new.self) = began.tells ∙ tell in
-    gone.gone (printed.tells ∙ told) ∙ ap without_draft (printed.beside told
-    ∙ (rw c.output_name.ensures at began.begun) tell)) (λ now. (refl, refl)) (λ now. refl) (λ now. refl)
+    not_written name _
+    (gone.tells ∙ printed.tells ∙ began.tells) (gone.failed ∙ printed.failed ∙ ap (λ (n : ℕ). n + 1) began.failed)
+    (λ tell. let told : IsTrue (g.B.Sink.tells c.start_file.new.self) = began.tells ∙ tell in
+    gone.gone (printed.tells ∙ told)
+    ∙ ap without_draft (printed.beside told ∙ (rw c.output_name.ensures at began.begun) tell))
 
 -- it was printed, and could not be committed
 pub returns-in-Err-commit_file-clause-does : goal.returns-in-Err-commit_file-clause-does
@@ -47,17 +44,15 @@ returns-in-Err-commit_file-clause-does g c =
     let began = c.in-Ok.ensures in
     let printed = c.in_default.ensures in
     let kept = c.in-Err-commit_file.ensures in
-    file_failed name _ WriteFault (λ (now : Held). bins_fail (given_up now))
-    (λ (b : Beside). without_draft (with_draft name b)) (seen_bins g.B.Sink c.args.bins.now)
-    (seen_bins g.B.Sink c.commit_file.new.self) (kept.tells ∙ printed.tells ∙ began.tells)
-    (kept.failed ∙ ap (λ (n : ℕ). n + 1) (printed.failed ∙ began.failed)) refl refl (λ tell.
-    let told : IsTrue (g.B.Sink.tells c.start_file.new.self) = began.tells ∙ tell in
-    kept.err (printed.tells ∙ told) ∙ ap without_draft (printed.beside told
-    ∙ (rw c.output_name.ensures at began.begun) tell)) (λ now. (refl, refl)) (λ now. refl) (λ now. refl)
+    not_written name _
+    (kept.tells ∙ printed.tells ∙ began.tells) (kept.failed ∙ ap (λ (n : ℕ). n + 1) (printed.failed ∙ began.failed))
+    (λ tell. let told : IsTrue (g.B.Sink.tells c.start_file.new.self) = began.tells ∙ tell in
+    kept.err (printed.tells ∙ told)
+    ∙ ap without_draft (printed.beside told ∙ (rw c.output_name.ensures at began.begun) tell))
 
 pub returns-clause-does : goal.returns-clause-does
-returns-clause-does g c = file_done _ _ (seen_bins g.B.Sink c.args.bins.now) (seen_bins g.B.Sink c.start_file.new.self)
-    (seen_bins g.B.Sink c.print_all.new.out) (seen_bins g.B.Sink c.commit_file.new.self)
+returns-clause-does g c = file_done _ _ (seen_bins g.B.Sink c.start_file.new.self)
+    (seen_bins g.B.Sink c.print_all.new.out)
     c.in-Ok.ensures.tells c.in-Ok.ensures.failed (rw c.output_name.ensures at c.in-Ok.ensures.begun)
     c.in-Ok.ensures.empty c.in_default.ensures.tells c.in_default.ensures.failed c.in_default.ensures.beside
     (λ tells. c.in_default.ensures.prints tells ∙ ap (λ (t : List ℕ). g.B.Sink.written c.start_file.new.self ++ t)

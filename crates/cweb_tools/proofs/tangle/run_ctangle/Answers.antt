@@ -1,35 +1,31 @@
-use Rattle.cweb_tools.proofs.Common.{◌≡◌, ap, refl, arith, Result, Err, Some, option_copied, World, Stop, Asked, options_of, seen_bins, seen_run, seen_shelf, seen_stream, world_of}
+use Rattle.cweb_tools.proofs.Common.{◌≡◌, ap, refl, arith, Result, Err, option_copied, World, Stop, Asked, options_of, seen_bins, seen_run, seen_shelf, world_of}
 use Rattle.cweb_tools.proofs.Doing.{log_counted}
 use Rattle.cweb_tools.proofs.Promised.{promised}
 use Rattle.cweb_tools.proofs.TangleEnds.{banner_ends, named_ends, words_end}
 use Rattle.cweb_tools.proofs.tangle.run_ctangle.Goals as goal
 
 pub tangle_named-requires-clause-log_count : goal.tangle_named-requires-clause-log_count
-tangle_named-requires-clause-log_count g c =
-    omega (arith, log_counted _ _ _ _ c.in_default.ensures, c.requires.log_count)
+tangle_named-requires-clause-log_count g c = omega (arith, log_counted c.in_default.ensures, c.requires.log_count)
 
 same_stop : {A : Type 0} (r : Result A Stop) (one other : Stop) → r ≡ Err one → r ≡ Err other → one ≡ other
 same_stop r one other is too = cc
 
 pub returns-in-Err-clause-promises : goal.returns-in-Err-clause-promises
-returns-in-Err-clause-promises g c = promised _ _ _ _ _ (words_end _ _ c.in-Err.stop
-    (seen_shelf g.S.Shelf c.args.shelf.now) (seen_bins g.B.Sink c.args.bins.now) (seen_stream g.L.Sink c.args.log.now)
-    (seen_stream g.L.Sink c.log_stop.new.log) _ c.in-Err.ensures.stops (λ is. c.in-Err.ensures.usage.0 (ap Err is))
+returns-in-Err-clause-promises g c = promised (words_end _ _ c.in-Err.stop (seen_shelf g.S.Shelf c.args.shelf.now)
+    (seen_bins g.B.Sink c.args.bins.now) _ c.in-Err.ensures.stops (λ is. c.in-Err.ensures.usage.0 (ap Err is))
     (λ none. same_stop _ _ _ refl (c.in-Err.ensures.usage.1 none)) c.log_stop.ensures.logs c.log_stop.ensures.status)
 
 pub returns-in-Err-say_banner-clause-promises : goal.returns-in-Err-say_banner-clause-promises
 returns-in-Err-say_banner-clause-promises g c =
     let world : World = world_of (g.S.Shelf.texts c.args.shelf.now) (option_copied c.args.inputs) in
     let asked : Asked = options_of c.in-Ok.options in
-    rw c.in-Ok.ensures.ok (promised world (Some asked) _ _ _
-    (banner_ends world asked (seen_shelf g.S.Shelf c.args.shelf.now) (seen_bins g.B.Sink c.args.bins.now)
-    (seen_stream g.L.Sink c.args.log.now) (seen_stream g.L.Sink c.say_banner.new.log) c.in-Err-say_banner.ensures))
+    rw c.in-Ok.ensures.ok (promised (banner_ends world asked
+    (seen_shelf g.S.Shelf c.args.shelf.now) (seen_bins g.B.Sink c.args.bins.now) c.in-Err-say_banner.ensures))
 
 pub returns-clause-promises : goal.returns-clause-promises
 returns-clause-promises g c =
     let world : World = world_of (g.S.Shelf.texts c.args.shelf.now) (option_copied c.args.inputs) in
     let asked : Asked = options_of c.in-Ok.options in
-    rw c.in-Ok.ensures.ok (promised world (Some asked) _ _ _ (named_ends world asked
-    (seen_shelf g.S.Shelf c.args.shelf.now) (seen_bins g.B.Sink c.args.bins.now) (seen_stream g.L.Sink c.args.log.now)
-    (seen_stream g.L.Sink c.say_banner.new.log) (seen_run g.S.Shelf g.B.Sink g.L.Sink c.tangle_named.new.shelf
+    rw c.in-Ok.ensures.ok (promised (named_ends world asked (seen_shelf g.S.Shelf c.args.shelf.now)
+    (seen_bins g.B.Sink c.args.bins.now) (seen_run g.S.Shelf g.B.Sink g.L.Sink c.tangle_named.new.shelf
     c.tangle_named.new.bins c.tangle_named.new.log) _ c.in_default.ensures c.tangle_named.ensures))

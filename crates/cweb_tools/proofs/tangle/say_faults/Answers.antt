@@ -3,7 +3,7 @@ use Rattle.cweb_tools.proofs.FaultItems.{counted_all, none_said, some_from, some
 use Rattle.cweb_tools.proofs.tangle.say_faults.Goals as goal
 
 pub returns-then-fault_count-eq0 : goal.returns-then-fault_count-eq0
-returns-then-fault_count-eq0 g c = none_said (faults_of c.args.web) _ (sym (counted_all (files_of c.args.web)
+returns-then-fault_count-eq0 g c = none_said (faults_of c.args.web) (sym (counted_all (files_of c.args.web)
     c.args.web.faults.now (seen c.args.web.scanned.now)) ∙ sym c.fault_count.ensures.count ∙ c.if-fault_count-eq0.true)
 
 pub returns : goal.returns
@@ -16,4 +16,4 @@ returns g c =
       c.fault_count.ensures.count,
       some,
     ) in
-    some_said _ (faults_of c.args.web) _ _ all c.write_web_faults.ensures
+    some_said (faults_of c.args.web) all c.write_web_faults.ensures

@@ -1,73 +1,67 @@
-use Rattle.cweb_tools.proofs.Common.{[], ◌∷◌, refl, ◌∙◌, ap, arith, Bor, ◌==◌, if◌then◌else◌, ℕ, Ok, Err, Stored, Planned, reserves}
-use Rattle.cweb_tools.proofs.Doing.{log_counted, logs_counted}
-use Rattle.cweb_tools.proofs.DoingFiles.{both_closes_on, both_halts, closes_log, closes_stop, closes_then, closes_done, closing_on, log_halts_all, memory_halts, not_of_log, reserved_so}
+use Rattle.cweb_tools.proofs.Common.{refl, ◌∙◌, ap, arith, Bor, ◌==◌, if◌then◌else◌, ℕ, Ok, Err, Stored, Planned, reserves, done}
+use Rattle.cweb_tools.proofs.Doing.{closes_in, closes_on, log_counted, logs_counted}
+use Rattle.cweb_tools.proofs.DoingFiles.{closing_on, does_reserve, log_halts, log_halts_all, memory_halts, not_of_log}
 use Rattle.cweb_tools.proofs.Readies.{all_on}
 use Rattle.cweb_tools.proofs.tangle.tangle_planned.Goals as goal
 
 pub returns-in-Err : goal.returns-in-Err
-returns-in-Err g c = both_halts _ _ _ _ _ _ _ (rw c.no_text.ensures at c.in-Err.ensures) refl
+returns-in-Err g c = λ shelf. log_halts _ ((rw c.no_text.ensures at c.in-Err.ensures) shelf _) refl
 
 pub log_stop-requires : goal.log_stop-requires
-log_stop-requires g c = omega (arith, log_counted _ _ _ _ c.in_default.ensures, c.requires.log_count)
+log_stop-requires g c = omega (arith, log_counted c.in_default.ensures, c.requires.log_count)
 
 pub returns-in_default-new : goal.returns-in_default-new
-returns-in_default-new g c = both_closes_on _ _ _ _ _ _ _ _ _ (rw c.no_text.ensures at c.in_default.ensures)
-    (memory_halts reserves _ _ _ _ _ _ (λ now. refl) c.log_stop.ensures.logs c.log_stop.ensures.status)
+returns-in_default-new g c = λ shelf. closes_on ((rw c.no_text.ensures at c.in_default.ensures) shelf _)
+    (memory_halts reserves _ (λ now. refl) c.log_stop.ensures.logs c.log_stop.ensures.status)
 
 pub log_stop-requires-in_default-new-2 : goal.log_stop-requires-in_default-new-2
-log_stop-requires-in_default-new-2 g c = omega (arith, log_counted _ _ _ _ c.in_default.ensures, c.requires.log_count)
+log_stop-requires-in_default-new-2 g c = omega (arith, log_counted c.in_default.ensures, c.requires.log_count)
 
 pub returns-in_default-new-2 : goal.returns-in_default-new-2
-returns-in_default-new-2 g c =
-    both_closes_on _ _ _ _ _ _ _ _ _ (rw c.no_text.ensures at c.in_default.ensures) (memory_halts reserves _ _ _ _ _ _
-    (λ now. refl) c.log_stop-in_default-new-2.ensures.logs c.log_stop-in_default-new-2.ensures.status)
+returns-in_default-new-2 g c = λ shelf. closes_on ((rw c.no_text.ensures at c.in_default.ensures) shelf _) (memory_halts
+    reserves _ (λ now. refl) c.log_stop-in_default-new-2.ensures.logs c.log_stop-in_default-new-2.ensures.status)
 
 pub write_outputs-requires-clause-log_count : goal.write_outputs-requires-clause-log_count
-write_outputs-requires-clause-log_count g c =
-    omega (arith, log_counted _ _ _ _ c.in_default.ensures, c.requires.log_count)
+write_outputs-requires-clause-log_count g c = omega (arith, log_counted c.in_default.ensures, c.requires.log_count)
 
 pub log_failed-requires : goal.log_failed-requires
 log_failed-requires g c = λ never.
     omega (
       arith,
-      log_counted _ _ _ _ c.in_default.ensures,
-      logs_counted _ _ _ _ _ _ c.in-Err-write_outputs.ensures.does,
+      log_counted c.in_default.ensures,
+      logs_counted c.in-Err-write_outputs.ensures.does,
       not_of_log c.in-Err-write_outputs.failed.stop never,
       c.requires.log_count,
     )
 
 pub returns-in-Err-write_outputs : goal.returns-in-Err-write_outputs
-returns-in-Err-write_outputs g c = both_closes_on _ _ _ _ _ _ _ _ _ (rw c.no_text.ensures at c.in_default.ensures)
-    (closes_then (reserves ∷ []) _ _ _ _ _ _ _ _ _ (reserved_so _ _) (closes_stop _ _ _ _ _ _ _ _ _ _
-    (all_on {A = Unit {0}} c.args.shown.progress c.args.web.names.now c.in-Ok.expander c.args.web.scanned.now.store
-    c.args.plan.now (Err c.in-Err-write_outputs.failed) _ _ _ _ (ap (λ (s : Bor Stored). s.now) c.in-Ok.ensures.store
-    ∙ c.store.ensures) (ap (λ (p : Bor Planned). p.now) c.in-Ok.ensures.plan) c.in-Err-write_outputs.ensures.does)
-    (rw c.output_name.ensures at c.log_failed.ensures.logs) c.log_failed.ensures.status))
+returns-in-Err-write_outputs g c = λ shelf. closes_on ((rw c.no_text.ensures at c.in_default.ensures) shelf _)
+    (closes_on does_reserve (closes_in _ (all_on {A = Unit {0}} c.args.shown.progress c.args.web.names.now
+    c.in-Ok.expander (Err c.in-Err-write_outputs.failed) (ap (λ (s : Bor Stored). s.now) c.in-Ok.ensures.store
+    ∙ c.store.ensures) (ap (λ (p : Bor Planned). p.now) c.in-Ok.ensures.plan) c.in-Err-write_outputs.ensures.does shelf)
+    (record { shelf = refl; bins = refl; log = rw c.output_name.ensures at c.log_failed.ensures.logs })
+    c.log_failed.ensures.status))
 
 pub say_end-requires : goal.say_end-requires
 say_end-requires g c =
     omega (
       arith,
-      log_counted _ _ _ _ c.in_default.ensures,
-      logs_counted _ _ _ _ _ _ c.in_default-write_outputs.ensures.does,
+      log_counted c.in_default.ensures,
+      logs_counted c.in_default-write_outputs.ensures.does,
       c.requires.log_count,
     )
 
 pub returns-in-Err-say_end : goal.returns-in-Err-say_end
-returns-in-Err-say_end g c = both_closes_on _ _ _ _ _ _ _ _ _
-    (rw c.no_text.ensures at c.in_default.ensures) (closes_then (reserves ∷ []) _ _ _ _ _ _ _ _ _ (reserved_so _ _)
-    (closes_then _ _ _ _ _ _ _ _ _ _ (all_on {A = Unit {0}} c.args.shown.progress c.args.web.names.now c.in-Ok.expander
-    c.args.web.scanned.now.store c.args.plan.now (Ok tt) _ _ _ _ (ap (λ (s : Bor Stored). s.now) c.in-Ok.ensures.store
-    ∙ c.store.ensures) (ap (λ (p : Bor Planned). p.now) c.in-Ok.ensures.plan) c.in_default-write_outputs.ensures.does)
-    (closes_log _ _ _ _ _ _ (log_halts_all _ _ _ _ _ (closing_on c.args.shown _ _
-    _ _ _ _ _ _ _ c.of.ensures c.fault_count-count.ensures.count c.no_text-2.ensures c.in-Err-say_end.ensures) refl))))
+returns-in-Err-say_end g c = λ shelf. closes_on ((rw c.no_text.ensures at c.in_default.ensures) shelf _) (closes_on
+    does_reserve (closes_on (all_on {A = Unit {0}} c.args.shown.progress c.args.web.names.now c.in-Ok.expander
+    (Ok tt) (ap (λ (s : Bor Stored). s.now) c.in-Ok.ensures.store ∙ c.store.ensures) (ap (λ (p : Bor Planned).
+    p.now) c.in-Ok.ensures.plan) c.in_default-write_outputs.ensures.does shelf) (log_halts_all (closing_on c.args.shown
+    c.of.ensures c.fault_count-count.ensures.count c.no_text-2.ensures c.in-Err-say_end.ensures shelf _) refl)))
 
 pub returns : goal.returns
-returns g c =
-    both_closes_on _ _ _ _ _ _ _ _ _ (rw c.no_text.ensures at c.in_default.ensures) (closes_then (reserves ∷ [])
-    _ _ _ _ _ _ _ _ _ (reserved_so _ _) (closes_then _ _ _ _ _ _ _ _ _ _ (all_on {A = Unit {0}} c.args.shown.progress
-    c.args.web.names.now c.in-Ok.expander c.args.web.scanned.now.store c.args.plan.now (Ok tt) _ _ _ _ (ap (λ (s :
-    Bor Stored). s.now) c.in-Ok.ensures.store ∙ c.store.ensures) (ap (λ (p : Bor Planned). p.now) c.in-Ok.ensures.plan)
-    c.in_default-write_outputs.ensures.does) (closes_log _ _ _ _ _ _ (closes_done _ _ _ _ _ (closing_on c.args.shown
-    _ _ _ _ _ _ _ _ _ c.of.ensures c.fault_count-count.ensures.count c.no_text-2.ensures c.in_default-say_end.ensures)
-    (c.status.ensures ∙ ap (λ (n : ℕ). if n == 0 then 0 else 1) c.fault_count-count.ensures.count)))))
+returns g c = λ shelf. closes_on ((rw c.no_text.ensures at c.in_default.ensures) shelf _) (closes_on does_reserve
+    (closes_on (all_on {A = Unit {0}} c.args.shown.progress c.args.web.names.now c.in-Ok.expander
+    (Ok tt) (ap (λ (s : Bor Stored). s.now) c.in-Ok.ensures.store ∙ c.store.ensures) (ap (λ (p : Bor Planned).
+    p.now) c.in-Ok.ensures.plan) c.in_default-write_outputs.ensures.does shelf) (done (closing_on c.args.shown
+    c.of.ensures c.fault_count-count.ensures.count c.no_text-2.ensures c.in_default-say_end.ensures shelf _)
+    (c.status.ensures ∙ ap (λ (n : ℕ). if n == 0 then 0 else 1) c.fault_count-count.ensures.count))))

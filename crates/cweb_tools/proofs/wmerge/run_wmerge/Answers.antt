@@ -7,9 +7,9 @@ same_stop : {A : Type 0} (r : Result A Stop) (one other : Stop) → r ≡ Err on
 same_stop r one other is too = cc
 
 pub returns-in-Err-clause-promises : goal.returns-in-Err-clause-promises
-returns-in-Err-clause-promises g c = promises _ _ _ _ _ (words_stopped _ _ _ refl (λ tells. refl)
+returns-in-Err-clause-promises g c = promises (words_stopped _ _ _ refl (λ tells. refl)
     refl c.log_stop.ensures.status _ _ c.in-Err.stop c.in-Err.ensures.stops (λ is. c.in-Err.ensures.usage.0 (ap Err is))
     (λ none. same_stop _ _ _ refl (c.in-Err.ensures.usage.1 none)) c.log_stop.ensures.logs)
 
 pub returns-clause-promises : goal.returns-clause-promises
-returns-clause-promises g c = promises _ _ _ _ _ (rw c.in-Ok.ensures.ok c.merge_web.ensures)
+returns-clause-promises g c = promises (rw c.in-Ok.ensures.ok c.merge_web.ensures)

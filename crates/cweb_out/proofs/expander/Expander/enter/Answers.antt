@@ -12,8 +12,7 @@ all c =
     ap (runs_tokens w) (sym h) ∙ c.parts-rest.ensures.text in
     let within : All (IsRun (length (all_tokens w.parts))) (c.in-Some-next.part ∷ c.next.new.self) =
     subst (All (IsRun (length (all_tokens w.parts)))) h c.parts-rest.ensures.within in
-    entered w c.args.self.now.frames.items c.put.new.self.frames.items c.args.name c.in-Some.id
-    (vec_capacity c.args.self.now.frames) (vec_capacity c.put.new.self.frames) c.in-Some-next.part c.next.new.self
+    entered c.in-Some.id c.in-Some-next.part c.next.new.self
     c.requires.stands c.put.ensures.room c.requires.below c.requires.lower e text within c.put.ensures.frames
 
 pub returns-clause-stands : goal.returns-clause-stands

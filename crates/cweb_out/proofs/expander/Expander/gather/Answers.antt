@@ -1,4 +1,4 @@
-use Rattle.cweb_out.proofs.Common.{◌≡◌, ◌∙◌, ◌++◌, ◌-◌, ap, arith, refl, subst, sym, vec_capacity, List, vec_len, slice_set, take-set, Stored, Token, Name, Stands, left}
+use Rattle.cweb_out.proofs.Common.{◌≡◌, ◌∙◌, ◌++◌, ◌-◌, ap, arith, refl, sym, vec_capacity, List, vec_len, slice_set, take-set, Stored, Token, Name}
 use Rattle.cweb_out.proofs.Gathers.{front_more, front_of}
 use Rattle.cweb_out.proofs.Leaving.{TopGone, TopUsed, top_gone, top_used}
 use Rattle.cweb_out.proofs.Passes.{TopPassed, top_passed}
@@ -10,8 +10,7 @@ pub gather-requires : goal.gather-requires
 gather-requires c =
     let top : HasTop (vec_len c.frames.self.frames) c.frames.self.frames.items c.in-Some.frame.now =
     record { count = c.frames.self.frames.ok.0; some = c.in-Some.ensures.item.3.0; is = c.in-Some.ensures.value } in
-    (stands_lower c.args.self.now.store.now (vec_len c.frames.self.frames) c.frames.self.frames.items
-    c.in-Some.frame.now (vec_capacity c.frames.self.frames) c.frames.invariant.stands top).1.within
+    (stands_lower c.frames.invariant.stands top).1.within
 
 abbrev gone : (c : After-pop) → TopGone c.args.self.now.store.now
     c.frames.self.frames.items c.pop.new.self.items c.gather.ensures.prints.done (vec_capacity c.frames.self.frames)
@@ -19,11 +18,9 @@ gone c =
     let frames = c.frames.self.frames in
     let top : HasTop (vec_len frames) frames.items c.in-Some.frame.now =
     record { count = c.frames.self.frames.ok.0; some = c.in-Some.ensures.item.3.0; is = c.in-Some.ensures.value } in
-    let is : c.pop.new.self.items ≡ lower (vec_len frames) frames.items =
-    c.pop.ensures.rest ∙ take-set frames.items (vec_len frames - 1) c.gather.new.self in
-    top_gone c.args.self.now.store.now (vec_len frames) frames.items c.pop.new.self.items
-    c.in-Some.frame.now c.gather.new.self c.gather.ensures.prints.done (vec_capacity frames)
-    c.frames.invariant.stands top c.gather.ensures.prints.whole c.gather.ensures.prints.lent
+    let is : c.pop.new.self.items ≡ lower (vec_len frames) frames.items = c.pop.ensures.rest
+    ∙ take-set frames.items (vec_len frames - 1) c.gather.new.self in
+    top_gone c.frames.invariant.stands top c.gather.ensures.prints.whole c.gather.ensures.prints.lent
     c.gather.ensures.within c.gather.ensures.owner (c.gather.ensures.ended c.if-gather.true) is
 
 pub frames-smaller-then-gather : goal.frames-smaller-then-gather
@@ -34,14 +31,11 @@ frames-preserved-then-gather c =
     let w : Stored = c.args.self.now.store.now in
     record {
       stands =
-          subst (λ room. Stands w c.pop.new.self.items room) (sym c.pop.ensures.capacity) (gone c).stands;
+          rw c.pop.ensures.capacity (gone c).stands;
       store = c.frames.invariant.store;
       plan = c.frames.invariant.plan;
       setting = c.gather.ensures.setting ∙ c.frames.invariant.setting;
-      prints = front_more c.args.printer.now c.frames.printer c.gather.new.printer (left w c.args.self.now.frames.items)
-          (left w c.frames.self.frames.items) (left w c.pop.new.self.items) c.args.gathered.now
-          c.frames.gathered c.gather.new.gathered c.frames.invariant.setting c.frames.invariant.prints
-          (front_of c.frames.printer c.gather.new.printer _ _ _ _ c.frames.gathered c.gather.new.gathered
+      prints = front_more c.frames.invariant.setting c.frames.invariant.prints (front_of _ _
           c.gather.ensures.prints (gone c).left);
     }
 
@@ -52,8 +46,7 @@ taken c =
     let frames = c.frames.self.frames in
     let top : HasTop (vec_len frames) frames.items c.in-Some.frame.now =
     record { count = c.frames.self.frames.ok.0; some = c.in-Some.ensures.item.3.0; is = c.in-Some.ensures.value } in
-    top_used c.args.self.now.store.now (vec_len frames) frames.items c.in-Some.frame.now c.gather.new.self
-    c.take_name.new.self c.gather.ensures.prints.done (Name c.in-Some-take_name.name) (vec_capacity frames)
+    top_used
     c.frames.invariant.stands top c.gather.ensures.prints.whole c.gather.ensures.prints.lent c.gather.ensures.within
     c.gather.ensures.owner c.in-Some-take_name.ensures.some c.take_name.ensures.within c.take_name.ensures.owner
 
@@ -73,8 +66,7 @@ used c =
     let frames = c.frames.self.frames in
     let top : HasTop (vec_len frames) frames.items c.in-Some.frame.now =
     record { count = c.frames.self.frames.ok.0; some = c.in-Some.ensures.item.3.0; is = c.in-Some.ensures.value } in
-    top_used c.args.self.now.store.now (vec_len frames) frames.items c.in-Some.frame.now c.gather.new.self
-    c.take_name.new.self c.gather.ensures.prints.done (Name c.in-Some-take_name.name) (vec_capacity frames)
+    top_used
     c.frames.invariant.stands top c.gather.ensures.prints.whole c.gather.ensures.prints.lent c.gather.ensures.within
     c.gather.ensures.owner c.in-Some-take_name.ensures.some c.take_name.ensures.within c.take_name.ensures.owner
 
@@ -94,10 +86,7 @@ frames-preserved c =
       store = c.enter.ensures.store ∙ c.frames.invariant.store;
       plan = c.enter.ensures.plan ∙ c.frames.invariant.plan;
       setting = c.gather.ensures.setting ∙ c.frames.invariant.setting;
-      prints = front_more c.args.printer.now c.frames.printer c.gather.new.printer (left w c.args.self.now.frames.items)
-          (left w c.frames.self.frames.items) (left w c.enter.new.self.frames.items) c.args.gathered.now
-          c.frames.gathered c.gather.new.gathered c.frames.invariant.setting c.frames.invariant.prints (front_of
-          c.frames.printer c.gather.new.printer _ _ _ _ c.frames.gathered c.gather.new.gathered c.gather.ensures.prints
+      prints = front_more c.frames.invariant.setting c.frames.invariant.prints (front_of _ _ c.gather.ensures.prints
           ((used c).left ∙ ap (λ (ts : List Token). c.gather.ensures.prints.done ++ ts) (sym entered)));
     }
 
@@ -110,9 +99,7 @@ passed c =
     let frames = c.frames.self.frames in
     let top : HasTop (vec_len frames) frames.items c.in-Some.frame.now =
     record { count = c.frames.self.frames.ok.0; some = c.in-Some.ensures.item.3.0; is = c.in-Some.ensures.value } in
-    subst (λ f. TopPassed w frames.items (slice_set frames.items (vec_len frames - 1) f) c.gather.ensures.prints.done
-    (vec_capacity frames)) (sym (c.in_default-take_name.ensures.none refl)) (top_passed w (vec_len frames) frames.items
-    c.in-Some.frame.now c.gather.new.self c.gather.ensures.prints.done (vec_capacity frames) c.frames.invariant.stands
+    rw (c.in_default-take_name.ensures.none refl) (top_passed c.frames.invariant.stands
     top c.gather.ensures.prints.whole c.gather.ensures.prints.lent c.gather.ensures.within c.gather.ensures.owner)
 
 pub returns-in_default-take_name-clause-stands : goal.returns-in_default-take_name-clause-stands
@@ -122,8 +109,5 @@ pub returns-in_default-take_name-clause-prints : goal.returns-in_default-take_na
 returns-in_default-take_name-clause-prints c =
     let w : Stored = c.args.self.now.store.now in
     let frames = c.frames.self.frames in
-    front_more c.args.printer.now c.frames.printer c.gather.new.printer
-    (left w c.args.self.now.frames.items) (left w frames.items)
-    (left w (slice_set frames.items (vec_len frames - 1) c.take_name.new.self)) c.args.gathered.now c.frames.gathered
-    c.gather.new.gathered c.frames.invariant.setting c.frames.invariant.prints (front_of c.frames.printer
-    c.gather.new.printer _ _ _ _ c.frames.gathered c.gather.new.gathered c.gather.ensures.prints (passed c).left)
+    front_more c.frames.invariant.setting c.frames.invariant.prints
+    (front_of _ _ c.gather.ensures.prints (passed c).left)

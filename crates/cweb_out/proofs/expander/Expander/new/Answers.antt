@@ -15,4 +15,4 @@ returns-clause-stands c =
     omega (arith, c.names-count.ensures.count, c.in_ok-frames.ensures.exact, c.put.ensures.room) in
     let l : suffix w c.of_root.result ≡ root_list w c.of_root.result.owner = c.of_root.ensures.list
     ∙ ap (root_list w) (sym c.of_root.ensures.owner) in
-    Stands-one w c.put.new.list.items c.of_root.result (vec_capacity c.put.new.list) e c.of_root.ensures.within b r l
+    Stands-one e c.of_root.ensures.within b r l

@@ -17,5 +17,4 @@ returns-clause-stands c =
     ∙ c.requires.stands.room in
     let l : suffix w frame ≡ root_list w frame.owner = c.of_root-frame.ensures.list
     ∙ ap (root_list w) (sym c.of_root-frame.ensures.owner) in
-    rw c.put.ensures.store (Stands-one w c.put.new.self.frames.items frame
-    (vec_capacity c.put.new.self.frames) e c.of_root-frame.ensures.within b r l)
+    rw c.put.ensures.store (Stands-one e c.of_root-frame.ensures.within b r l)

@@ -5,31 +5,29 @@ use Rattle.cweb_out.proofs.expander.frame.Frame.gather.Goals as goal
 
 pub returns-then-self-2-clause-prints : goal.returns-then-self-2-clause-prints
 returns-then-self-2-clause-prints c =
-    front_more _ _ _ _ _ _ _ _ _ c.parts.invariant.setting c.parts.invariant.prints c.gather_part.ensures.prints
+    front_more c.parts.invariant.setting c.parts.invariant.prints c.gather_part.ensures.prints
 
 pub returns-in_default-clause-prints : goal.returns-in_default-clause-prints
 returns-in_default-clause-prints c =
     let w = c.args.store.now in
     let f = c.gather_part.new.self in
     let same : f.rest ≡ c.next.new.self = c.in_default.ensures.steps.0 ∙ sym c.in_default.ensures.steps.1 in
-    front_to c.args.printer.now c.gather_part.new.printer (suffix w c.args.self.now) (suffix w f) _
-    c.args.gathered.now c.gather_part.new.gathered
+    front_to
     (ap (λ (rest : List Part). suffix w (record { owner = f.owner; defs = f.defs; part = f.part; rest = rest })) same)
-    (front_more _ _ _ _ _ _ _ _ _ c.parts.invariant.setting c.parts.invariant.prints c.gather_part.ensures.prints)
+    (front_more c.parts.invariant.setting c.parts.invariant.prints c.gather_part.ensures.prints)
 
 pub parts-preserved : goal.parts-preserved
 parts-preserved c =
     let w = c.args.store.now in
     let f = c.gather_part.new.self in
     let h : f.rest ≡ c.in-Some.part ∷ c.next.new.self = c.in-Some.ensures.steps in
-    let within = IsWithin-next w f _ _ h c.gather_part.ensures.within in
+    let within = IsWithin-next _ _ h c.gather_part.ensures.within in
     record {
       owner = c.gather_part.ensures.owner ∙ c.parts.invariant.owner;
       within = record { part = within.0; rest = within.1 };
       started = c.gather_part.ensures.started;
       setting = c.gather_part.ensures.setting ∙ c.parts.invariant.setting;
-      prints = front_to c.args.printer.now c.gather_part.new.printer (suffix w c.args.self.now)
-          (suffix w f) _ c.args.gathered.now c.gather_part.new.gathered (suffix-next w f _ _ c.if-self-2.false h)
-          (front_more _ _ _ _ _ _ _ _ _ c.parts.invariant.setting c.parts.invariant.prints
+      prints = front_to (suffix-next w f _ _ c.if-self-2.false h)
+          (front_more c.parts.invariant.setting c.parts.invariant.prints
           c.gather_part.ensures.prints);
     }

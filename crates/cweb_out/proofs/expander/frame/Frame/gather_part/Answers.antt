@@ -1,4 +1,4 @@
-use Rattle.cweb_out.proofs.Common.{slice_range, all_tokens, suffix}
+use Rattle.cweb_out.proofs.Common.{slice_range, all_tokens}
 use Rattle.cweb_out.proofs.Gathers.{front_none}
 use Rattle.cweb_out.proofs.Passes.{suffix-passed}
 use Rattle.cweb_out.proofs.expander.frame.Frame.gather_part.Goals as goal
@@ -16,5 +16,4 @@ returns-then-self-clause-prints c =
     }
 
 pub returns-else-self-clause-prints : goal.returns-else-self-clause-prints
-returns-else-self-clause-prints c =
-    front_none c.args.printer.now (suffix c.args.store.now c.args.self.now) c.args.gathered.now
+returns-else-self-clause-prints c = front_none

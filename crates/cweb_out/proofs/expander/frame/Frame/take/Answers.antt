@@ -6,7 +6,7 @@ pub parts-preserved : goal.parts-preserved
 parts-preserved c =
     let h : c.parts.self.rest ≡ c.in_ok-self.field-0 ∷ c.next.new.self = c.in_ok-self.ensures.steps in
     let w = c.args.store.now in
-    let within = IsWithin-next w c.parts.self _ _ h c.parts.invariant.within in
+    let within = IsWithin-next _ _ h c.parts.invariant.within in
     record {
       owner = c.parts.invariant.owner;
       within = record { part = within.0; rest = within.1 };
@@ -16,7 +16,7 @@ parts-preserved c =
 
 pub returns-clause-some : goal.returns-clause-some
 returns-clause-some c = c.parts.invariant.same
-    ∙ suffix-first c.args.store.now c.parts.self _ c.parts.invariant.started
+    ∙ suffix-first _ c.parts.invariant.started
     (omega (arith, c.parts-test.false)) c.parts.invariant.within c.token-token.ensures
 
 pub returns-clause-owner : goal.returns-clause-owner

@@ -1,4 +1,4 @@
-use Rattle.cweb_out.proofs.Common.{refl, None, [], ◌∙◌, Stored, suffix, root_list, Meets}
+use Rattle.cweb_out.proofs.Common.{refl, ◌∙◌, Stored, suffix, Meets}
 use Rattle.cweb_out.proofs.Lookings.{looked-more, looked-on, looked-all}
 use Rattle.cweb_out.proofs.Searches.{program-endless}
 use Rattle.cweb_out.proofs.planning.search.Search.settle_program.Goals as goal
@@ -10,8 +10,7 @@ returns-in-Some-2-clause-settles c =
     let meets : Meets w c.names.self.marks.items (suffix w c.names.text) c.in-Some.name
     (suffix w c.next_unranked.new.text) = rw c.as_slice.ensures.value at c.in-Some.ensures.meets in
     let settles = rw (c.in-Some-2.is, c.names.invariant.store) at c.in_ok-cycle.ensures.settles in
-    program-endless w c.next_unranked.new.text c.in-Some.name c.in-Some-2.cycle.items (looked-more w (root_list w None)
-    c.names.self.marks.items [] c.names.text c.next_unranked.new.text c.in-Some.name i.fits i.looked meets) settles
+    program-endless (looked-more {new = c.next_unranked.new.text} i.fits i.looked meets) settles
 
 pub names-preserved : goal.names-preserved
 names-preserved c =
@@ -25,13 +24,12 @@ names-preserved c =
       fits = rw c.names.invariant.store at (c.in_ok-cycle.ensures.fits c.in_default-2.is);
       path = c.in_ok-cycle.ensures.path c.in_default-2.is;
       within = c.next_unranked.ensures.within;
-      looked = looked-on w (root_list w None) c.next_unranked.new.text c.in-Some.name settles
-          (looked-more w (root_list w None) c.names.self.marks.items [] c.names.text
-          c.next_unranked.new.text c.in-Some.name i.fits i.looked meets);
+      looked = looked-on c.in-Some.name settles
+          (looked-more i.fits i.looked meets);
     }
 
 pub returns-clause-settles : goal.returns-clause-settles
 returns-clause-settles c =
     let w : Stored = c.args.self.now.store.now in
-    looked-all w (root_list w None) c.names.text c.names.self.marks.items [] c.names.invariant.fits
+    looked-all c.names.invariant.fits
     c.names.invariant.looked (rw c.as_slice.ensures.value at (c.in_default.ensures.none refl))
