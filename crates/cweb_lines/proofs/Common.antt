@@ -97,7 +97,7 @@ pub use Rattle.cweb_lines.specs.declared.fault.SourceKind.TheVariants.{Unequal, 
 pub use Rattle.cweb_lines.specs.declared.fault.SourceKind.TheVariants.{MissingX, NoOldLines}
 pub use Rattle.cweb_lines.specs.declared.limits.Limits.{Limits}
 pub use Rattle.cweb_lines.specs.declared.limits.TheConstants.{LINES, OPEN_FILES, LINE_LENGTH, BYTES}
-pub use Rattle.cweb_lines.specs.declared.passing.ahead.Ahead.{Ahead}
+pub use Rattle.cweb_lines.specs.declared.merger.ahead.Ahead.{Ahead}
 pub use Rattle.cweb_lines.specs.declared.passing.lent.Lent.{Lent}
 pub use Rattle.cweb_lines.specs.declared.passing.stretch.Stretch.{Stretch}
 pub use Rattle.cweb_lines.specs.declared.run.Run.{Run}

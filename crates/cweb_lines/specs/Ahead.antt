@@ -8,7 +8,7 @@ use Rattle.cweb_lines.specs.Passing.{ComesNext, GivesLines, StandsAt, lines_next
 use Rattle.cweb_lines.specs.Texts.{files_up_to, number_of}
 use Rattle.cweb_lines.specs.declared.limits.Limits.{Limits}
 use Rattle.cweb_lines.specs.declared.limits.TheConstants.{LINES, BYTES}
-use Rattle.cweb_lines.specs.declared.passing.ahead.Ahead.{Ahead}
+use Rattle.cweb_lines.specs.declared.merger.ahead.Ahead.{Ahead}
 use Rattle.cweb_lines.specs.declared.run.Run.{Run}
 use Rattle.cweb_lines.specs.declared.text.OpenText.{OpenText}
 

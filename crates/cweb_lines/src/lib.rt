@@ -44,7 +44,7 @@ pub use fault::{SourceFault, SourceKind};
 pub use files::FileNames;
 pub use limits::{BYTES, LINE_LENGTH, LINES};
 pub use merger::Merger;
-pub use passing::ahead::Ahead;
+pub use merger::ahead::Ahead;
 pub use passing::lent::Lent;
 pub use stop::Stop;
 pub use writing::{write_all, write_merged, write_merged_in_pieces};

@@ -1,5 +1,4 @@
 // Lines that were read whole and only pass through: they are no include lines and begin no change.
 pub mod advance;
-pub mod ahead;
 pub mod lent;
 pub mod stretch;

@@ -12,7 +12,6 @@ pub mod gathering;
 
 use crate::expander::frame::Frame;
 use crate::planning::planned::Plan;
-use crate::reserved::put;
 use cweb_store::{NameRef, Store, Token};
 use std::alloc::{AllocError, Global};
 
@@ -45,7 +44,7 @@ impl<'a> Expander<'a> {
     {
         let count = store.names();
         let mut frames = Vec::with_capacity(alloc, count as usize + 1)?;
-        put(&mut frames, Frame::of_root(store, plan.root(root)));
+        frames.push_reserved(Frame::of_root(store, plan.root(root)));
         Ok(Expander {
             store,
             plan,
@@ -163,6 +162,6 @@ impl<'a> Expander<'a> {
         ensures store { self.new.store ≡ self.old.store }
         ensures plan { self.new.plan ≡ self.old.plan }
     {
-        put(&mut self.frames, frame);
+        self.frames.push_reserved(frame);
     }
 }

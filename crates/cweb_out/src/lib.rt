@@ -10,9 +10,6 @@ mod expander;
 // where files are kept
 mod bins;
 
-// adding where room was set aside
-mod reserved;
-
 // what holds whatever the web is
 pub mod laws;
 

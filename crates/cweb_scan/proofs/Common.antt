@@ -32,7 +32,7 @@ pub use Rattle.cweb_lines.specs.Told.{given_lines}
 pub use Rattle.cweb_lines.specs.Whole.{GivesOut, Grows, StopsThere, so_far, to_come, KnowsReaders, stop_in}
 pub use Rattle.cweb_lines.specs.declared.limits.TheConstants.{LINES, BYTES}
 pub use Rattle.cweb_lines.specs.declared.merger.Merger.{Merger}
-pub use Rattle.cweb_lines.specs.declared.passing.ahead.Ahead.{Ahead}
+pub use Rattle.cweb_lines.specs.declared.merger.ahead.Ahead.{Ahead}
 pub use Rattle.cweb_lines.specs.declared.run.Run.{Run}
 pub use Rattle.cweb_lines.specs.declared.stop.Stop.{Stop}
 pub use Rattle.cweb_lines.specs.declared.stop.Stop.TheVariants.{Memory}

@@ -4,7 +4,7 @@ use Rattle.cweb_lines.specs.Ahead.{IsAhead}
 use Rattle.cweb_lines.specs.Lines.{Line}
 use Rattle.cweb_lines.specs.Names.{names_of}
 use Rattle.cweb_lines.specs.Passing.{ComesNext, lines_next, standing, top_of}
-use Rattle.cweb_lines.specs.declared.passing.ahead.Ahead.{Ahead}
+use Rattle.cweb_lines.specs.declared.merger.ahead.Ahead.{Ahead}
 use Rattle.cweb_lines.specs.declared.run.Run.{Run}
 use Rattle.cweb_scanner.specs.Held.{Held, cost, read_after}
 use Rattle.cweb_scan.specs.Law.{web_size}

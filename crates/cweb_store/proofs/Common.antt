@@ -71,8 +71,7 @@ pub use Rattle.cweb_store.specs.Packed.{ArePacked, IsWithin, token_in, Packs}
 pub use Rattle.cweb_store.specs.Parts.{Part, Token, all_tokens, is_macro, joined, is_code, is_some_id, is_of, Word}
 pub use Rattle.cweb_store.specs.Parts.{Punct, Blank, Newline, Mark, numbers_from, numbers_where, tokens_at, is_unnamed}
 pub use Rattle.cweb_store.specs.Parts.{has_defs_code, is_defs}
-pub use Rattle.cweb_store.specs.Records.{packed_in, has_place, place_at, IsAt, places_of, AreNumbered, IsRecord}
-pub use Rattle.cweb_store.specs.Records.{is_mark, is_mark_token}
+pub use Rattle.cweb_store.specs.Records.{packed_in, has_place, place_at, IsAt, places_of, AreNumbered, IsPlaced, Puts}
 pub use Rattle.cweb_store.specs.Replaced.{replacement_in}
 pub use Rattle.cweb_store.specs.Replacements.{replacement, replacement_of, Replacement, replaced_by}
 pub use Rattle.cweb_store.specs.Rooms.{PartsInRooms, TokensInRoom}

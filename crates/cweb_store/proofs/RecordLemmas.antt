@@ -1,14 +1,9 @@
 -- Records whose places are numbered in order.
-use Rattle.cweb_store.proofs.Common.{◌≡◌, ℕ, zero, suc, ◌+◌, ◌≤◌, ◌<◌, true, false, cond, List, [], ◌∷◌, ◌++◌, Some, map, length, take, drop, refl, sym, subst, ap, arith, slice_get, map-append, take-append_seam, Place, Packed, Record, lends, token_in, packed_in, has_place, place_at, IsAt, places_of, AreNumbered, IsRecord, is_mark, is_mark_token}
+use Rattle.cweb_store.proofs.Common.{◌≡◌, ℕ, zero, suc, ◌+◌, ◌≤◌, ◌<◌, true, false, cond, List, [], ◌∷◌, ◌++◌, Some, map, length, take, drop, refl, sym, subst, ap, arith, slice_get, map-append, take-append_seam, Place, Packed, Record, lends, token_in, packed_in, has_place, place_at, IsAt, places_of, AreNumbered, IsPlaced}
 use Rattle.cweb_store.specs.declared.tokens.packed.Packed.TheVariants as packed
 use Rattle.cweb_store.specs.declared.tokens.records.Record.TheVariants as record_of
 use Rattle.cweb_store.specs.Packed as kept
 use Rattle.cweb_store.specs.Records.{IsWithin}
-
--- a token that is a Mark has a record that is one
-pub mark-same : (texts : List (List ℕ)) (p : Packed) → is_mark p ≡ is_mark_token (token_in texts p)
-mark-same texts (packed.Word n) = refl
-mark-same texts _ = refl
 
 pub numbered-le : (n end : ℕ) (rs : List Record) → AreNumbered n rs end → n ≤ end
 numbered-le n end [] h = omega (arith, h)
@@ -61,15 +56,15 @@ cut places from n (r ∷ rs) h = λ i. packed-take places n from r h.0
     (numbered-le (from + places_of r) n rs h.1) i ∷ cut places (from + places_of r) n rs h.1 i
 
 -- one more
-pub push-packed : (old new : List Place) (rs : List Record) (token : Packed) (r : Record)
-    → AreNumbered 0 rs (length old) → IsRecord old token r new
-    → map (packed_in new) (rs ++ r ∷ []) ≡ map (packed_in old) rs ++ token ∷ []
-push-packed old new rs token r all is =
+pub push-packed : (old new : List Place) (rs : List Record) (r : Record)
+    → AreNumbered 0 rs (length old) → IsPlaced old r new
+    → map (packed_in new) (rs ++ r ∷ []) ≡ map (packed_in old) rs ++ packed_in new r ∷ []
+push-packed old new rs r all is =
     cc (take-append_seam old is.more, map-append (packed_in new) rs (r ∷ []), cut new 0 (length old) rs all)
 
-pub push-numbered : (old new : List Place) (rs : List Record) (token : Packed) (r : Record)
-    → AreNumbered 0 rs (length old) → IsRecord old token r new → AreNumbered 0 (rs ++ r ∷ []) (length new)
-push-numbered old new rs token r all is = grind (arith, numbered-push 0 (length old) rs r all is.at)
+pub push-numbered : (old new : List Place) (rs : List Record) (r : Record)
+    → AreNumbered 0 rs (length old) → IsPlaced old r new → AreNumbered 0 (rs ++ r ∷ []) (length new)
+push-numbered old new rs r all is = grind (arith, numbered-push 0 (length old) rs r all is.at)
 
 -- a record at a number
 pub record-at : (places : List Place) (from end : ℕ) (rs : List Record) (i : ℕ) (r : Record) → AreNumbered from rs end

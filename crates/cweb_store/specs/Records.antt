@@ -1,7 +1,9 @@
 -- Tokens by number in records, and the places of Marks beside them.
 use Rattle.std.specs.Prelude.{◌≡◌, ◌<◌, ℕ, ◌+◌, Bool, true, false, cond, List, [], ◌∷◌, ◌++◌, length, slice_index_or}
 use Rattle.cweb_files.specs.declared.place.Place.{Place}
+use Rattle.cweb_store.specs.Packed.{Packs}
 use Rattle.cweb_store.specs.Parts as spec
+use Rattle.cweb_texts.specs.Words.{TextsAndWords}
 use Rattle.cweb_store.specs.declared.tokens.packed.Packed.{Packed}
 use Rattle.cweb_store.specs.declared.tokens.packed.Packed.TheVariants as packed
 use Rattle.cweb_store.specs.declared.tokens.records.Record.{Record}
@@ -56,23 +58,25 @@ abbrev pub AreNumbered : ℕ → List Record → ℕ → Type 0
 AreNumbered number [] end = number ≡ end
 AreNumbered number (r ∷ rs) end = IsAt number r × AreNumbered (number + places_of r) rs end
 
--- places are added behind the others, and the record with them is the token
-pub record IsRecord (old : List Place) (token : Packed) (r : Record) (new : List Place) : Type 0 where
+-- the record's place, if it has one, is added behind the others
+pub record IsPlaced (old : List Place) (r : Record) (new : List Place) : Type 0 where
   pub more : List Place
   pub grows : new ≡ old ++ more
   pub at : IsAt (length old) r
   pub count : length new ≡ length old + places_of r
-  pub stands : packed_in new r ≡ token
 
-abbrev pub is_mark : Packed → Bool
-is_mark (packed.Mark place) = true
+-- a token is added behind the others, and its text is kept
+pub record Puts (old : TextsAndWords) (tokens : List Packed) (token : spec.Token) (new : TextsAndWords)
+    (grown : List Packed) : Type 0 where
+  pub one : Packed
+  pub added : grown ≡ tokens ++ one ∷ []
+  pub packs : Packs old token one new
+
+abbrev pub is_mark : spec.Token → Bool
+is_mark (spec.Mark place) = true
 is_mark token = false
-
-abbrev pub is_mark_token : spec.Token → Bool
-is_mark_token (spec.Mark place) = true
-is_mark_token token = false
 
 -- there is room for one more token, and for its place, if it has one
 pub record HasRoom (token : spec.Token) (r : PackedInRoom) : Type 0 where
   pub room : length r.packed < r.room
-  pub place : is_mark_token token ≡ true → r.places < r.place_room
+  pub place : is_mark token ≡ true → r.places < r.place_room

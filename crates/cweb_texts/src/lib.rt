@@ -16,12 +16,8 @@ mod words;
 // texts, words and signs
 mod kept;
 
-// adding where room was set aside
-mod reserved;
-
 pub use borders::{Border, LentText, has_high_byte, sign_border};
 pub use kept::KeptTexts;
-pub use reserved::{put, put_in_room};
 pub use slices::TextSlices;
 pub use texts::PackedTexts;
 pub use words::key::{Key, byte_at, home};

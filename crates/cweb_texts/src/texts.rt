@@ -5,7 +5,6 @@ ghost use Rattle.cweb_texts.specs.Borders.{IsTold};
 ghost use Rattle.cweb_texts.specs.PackedTexts.{IsFromStart, text_bytes};
 
 use crate::borders::{Border, border_of};
-use crate::reserved::put;
 use crate::slices::TextSlices;
 use std::alloc::{AllocError, Global};
 use std::marker::Model;
@@ -78,8 +77,8 @@ impl PackedTexts {
         self.borders.reserve(1)?;
         self.bytes.extend_from_slice(text)?;
         let number = self.borders.len();
-        put(&mut self.limits, self.bytes.len());
-        put(&mut self.borders, border);
+        self.limits.push_reserved(self.bytes.len());
+        self.borders.push_reserved(border);
         Ok(number)
     }
 
@@ -142,7 +141,7 @@ fn begin(limits: &mut Vec<usize>) -> Result<(), AllocError>
 {
     if limits.len() == 0 {
         limits.reserve(1)?;
-        put(limits, 0);
+        limits.push_reserved(0);
     }
     Ok(())
 }

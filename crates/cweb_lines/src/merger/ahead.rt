@@ -1,11 +1,23 @@
-// Lines that come next are looked at, and then taken all at once.
-ghost use Rattle.std.specs.Prelude.{◌≡◌, ℕ, List, [], IfSome, OnSome, None};
-ghost use Rattle.cweb_lines.specs.Ahead.{IsAhead, LooksAt, TakesLines};
-ghost use Rattle.cweb_lines.specs.Passing.{ComesNext};
+// Lines that come next are looked at where they lie in what was read, one behind another, before they are taken all at once.
+ghost use Rattle.std.specs.Prelude.{◌≡◌, ◌≤◌, ◌+◌, ℕ, List, [], IfSome, OnSome, None, Some};
+ghost use Rattle.cweb_lines.specs.Ahead.{Fits, IsAhead, LooksAt, LooksIn, TakesLines};
+ghost use Rattle.cweb_lines.specs.Passing.{ComesNext, StandsIn};
+ghost use Rattle.cweb_lines.specs.Stages.{pending_in};
+ghost use Rattle.cweb_lines.specs.declared.limits.Limits.{Limits};
 
+use crate::change::Stage;
 use crate::merger::Merger;
-use crate::passing::ahead::Ahead;
-use cweb_files::Shelf;
+use crate::passing::lent::Lent;
+use crate::passing::stretch::{Stretch, line_from};
+use crate::text::OpenText;
+use cweb_files::{Place, Shelf};
+
+/// Lines that come next and were not yet taken: where the last of them stands and lies, and all of them.
+#[derive(Clone, Copy)]
+pub struct Ahead {
+    pub line: Lent,
+    pub(crate) stretch: Stretch,
+}
 
 impl<S: Shelf> Merger<S> {
     ghost use Rattle.cweb_lines.specs.Whole.{stop_in};
@@ -20,10 +32,17 @@ impl<S: Shelf> Merger<S> {
         if let Some(_) = self.run.stopped {
             return None;
         }
-        self.run.first_ahead()
+        let Some(stretch) = self.run.stretch(0) else {
+            return None;
+        };
+        let Some(line) = self.run.line_at(stretch) else {
+            return None;
+        };
+        Some(Ahead { line, stretch })
     }
 
-    /// The line behind lines that come next, with them. None where it has to be asked for once they are taken.
+    /// The line behind lines that come next, with them, where it passes through and they have no blanks at their ends. None
+    /// where it has to be asked for once they are taken.
     #[inline(always)]
     pub fn next_ahead(&self, before: Ahead) -> Option<Ahead>
         requires { IsAhead self.now.run before }
@@ -31,7 +50,15 @@ impl<S: Shelf> Merger<S> {
             ComesNext self.now.run before.stretch lines → LooksAt self.now.run lines ahead) }
         ensures ahead { IfSome result (λ ahead. IsAhead self.now.run ahead) }
     {
-        self.run.next_ahead(before)
+        let stretch = before.stretch;
+        if stretch.text + 1 != stretch.end {
+            return None;
+        }
+        let run = &self.run;
+        match &run.stack.texts[run.stack.depth - 1] {
+            Some(text) => line_behind(text, run.stage, &run.first, stretch),
+            None => None,
+        }
     }
 
     /// Takes lines that come next, and counts them.
@@ -41,6 +68,41 @@ impl<S: Shelf> Merger<S> {
         ensures { (lines : List (List ℕ)) → ComesNext self.old.run ahead.stretch lines →
             TakesLines lines self.old.run self.new.run }
     {
-        self.run.take_ahead(ahead);
+        self.run.advance(ahead.stretch);
     }
+}
+
+// The line of an open text behind others.
+#[inline(always)]
+fn line_behind<R: Drop>(
+    text: &OpenText<R>,
+    stage: Stage,
+    first: &[u8],
+    before: Stretch,
+) -> Option<Ahead>
+    requires before { (lines : List (List ℕ))
+        × StandsIn (pending_in stage first.now) text.now before lines }
+    requires fits { (limits : Limits) × Fits limits text.now × (text.now.line ≤ limits.lines) }
+    requires joins { before.text + 1 ≡ before.end }
+    ensures { IfSome result (λ ahead. (lines : List (List ℕ)) →
+        StandsIn (pending_in stage first.now) text.now before lines →
+        LooksIn (pending_in stage first.now) (Some text.now) lines ahead) }
+{
+    if before.end >= text.source.lines_end {
+        return None;
+    }
+    let Some(next) = line_from(&text.source, before.end, stage, first, text.may_match) else {
+        return None;
+    };
+    Some(Ahead {
+        line: Lent {
+            place: Place {
+                file: text.file,
+                line: text.line + before.lines + 1,
+            },
+            from: before.end,
+            to: next.text,
+        },
+        stretch: before.then(next),
+    })
 }

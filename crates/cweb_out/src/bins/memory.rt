@@ -5,7 +5,6 @@ ghost use Rattle.std.specs.Option.{is_some};
 ghost use Rattle.cweb_files.specs.Device.{Counts};
 
 use crate::bins::{BinFault, Bins};
-use crate::reserved::put;
 use cweb_files::{Sink, SinkFault};
 use std::alloc::{AllocError, Global};
 
@@ -173,7 +172,7 @@ impl Bins for MemoryBins {
             return Err(BinFault::Device);
         };
         remove_named(&mut self.files, file.name.as_str());
-        put(&mut self.files, file);
+        self.files.push_reserved(file);
         Ok(())
     }
 

@@ -11,7 +11,7 @@ ghost use Rattle.cweb_store.specs.Known.{early, has_text_at};
 use crate::names::found::{Found, find_one, has_prefix, number_in};
 use crate::names::sorted::SortedText;
 use crate::names::{How, NameId};
-use cweb_texts::{Key, home, put};
+use cweb_texts::{Key, home};
 use std::alloc::{AllocError, Global};
 use std::collections::BTreeMap;
 use std::marker::Model;
@@ -114,7 +114,7 @@ impl KnownNames {
         if id.0 != next.0 {
             return Ok(id);
         }
-        put(&mut self.names, KnownName { text, first });
+        self.names.push_reserved(KnownName { text, first });
         Ok(id)
     }
 

@@ -12,7 +12,7 @@ use crate::names::known::KnownNames;
 use crate::names::standing::{add_name_at, settled};
 use crate::names::{How, NameId, NameKind, NameRef};
 use crate::tokens::closed::ClosedTokens;
-use cweb_texts::{PackedTexts, put};
+use cweb_texts::PackedTexts;
 use indexmap::IndexSet;
 use std::alloc::{AllocError, Global};
 use std::marker::Model;
@@ -80,8 +80,8 @@ impl NameTable {
                 return Err(refusal);
             }
         };
-        put(&mut self.given, GivenAs { how, is_file });
-        put(&mut self.found, found);
+        self.given.push_reserved(GivenAs { how, is_file });
+        self.found.push_reserved(found);
         Ok(NameRef(number as u32))
     }
 

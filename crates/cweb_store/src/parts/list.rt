@@ -10,7 +10,6 @@ use crate::parts::{Open, Part, PartKind, Run};
 use crate::tokens::Token;
 use crate::tokens::layout::{end_at_close, end_before_layout};
 use crate::tokens::list::TokenList;
-use cweb_texts::{put, put_in_room};
 use std::alloc::{AllocError, Global};
 use std::marker::Model;
 
@@ -102,7 +101,7 @@ impl PartList {
         self.tokens.truncate(end);
         let run = closed_run(current, end as u32);
         self.current = None;
-        put_in_room(&mut self.runs, run);
+        self.runs.push_reserved(run);
     }
 
     /// The parts, where one that is open counts as it stands.
@@ -119,7 +118,7 @@ impl PartList {
             return ClosedParts { tokens, runs };
         };
         let run = closed_run(current, tokens.len() as u32);
-        put(&mut runs, run);
+        runs.push_reserved(run);
         ClosedParts { tokens, runs }
     }
 }

@@ -7,7 +7,6 @@ ghost use Rattle.cweb_store.specs.Parts as spec;
 ghost use Rattle.cweb_store.specs.Records.{packed_in};
 ghost use Rattle.cweb_texts.specs.Borders.{lent_seen};
 ghost use Rattle.cweb_texts.specs.PackedTexts.{text_at};
-ghost use Rattle.cweb_texts.specs.declared.borders.Border.TheVariants as border_of;
 
 use crate::tokens::records::Record;
 use cweb_texts::{Border, LentText, TextSlices, has_high_byte, sign_border};
@@ -84,18 +83,10 @@ fn lent_word<'a>(texts: &TextSlices<'a>, number: usize) -> Option<LentText<'a>>
     let word = texts.text(number);
     match texts.border(number) {
         Border::Untold if has_high_byte(word) => None,
-        Border::Untold => Some(word_lent(word)),
-        _ => Some(word_lent(word)),
-    }
-}
-
-#[inline(always)]
-fn word_lent(word: &[u8]) -> LentText<'_>
-    ensures { lent_seen result ≡ record { text = word.now; border = border_of.Word } }
-{
-    LentText {
-        text: word,
-        border: Border::Word,
+        _ => Some(LentText {
+            text: word,
+            border: Border::Word,
+        }),
     }
 }
 

@@ -8,7 +8,7 @@ ghost use Rattle.cweb_store.specs.ClosedTokens.{tokens_alone};
 use crate::tokens::Token;
 use crate::tokens::closed::ClosedTokens;
 use crate::tokens::noted::Noted;
-use crate::tokens::packed::{lend, pack};
+use crate::tokens::packed::lend;
 use crate::tokens::records::Records;
 use cweb_texts::KeptTexts;
 use std::alloc::{AllocError, Global};
@@ -68,9 +68,9 @@ impl TokenList {
     {
         self.records.reserve(token)?;
         self.noted.reserve(token)?;
-        let packed = pack(&mut self.texts, token)?;
-        self.noted.note(self.records.len(), token);
-        self.records.put(packed);
+        let number = self.records.len();
+        self.records.put(&mut self.texts, token)?;
+        self.noted.note(number, token);
         Ok(())
     }
 

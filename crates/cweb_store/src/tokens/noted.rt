@@ -10,7 +10,6 @@ ghost use Rattle.cweb_store.specs.Noted.{AreNoted, HasRoom, token_numbers};
 
 use crate::parts::Part;
 use crate::tokens::Token;
-use cweb_texts::put;
 use std::alloc::{AllocError, Global};
 
 /// The numbers of the tokens that use a name, and of those that are Defs, in order.
@@ -51,8 +50,8 @@ impl Noted {
             → AreNoted self.new (tokens ++ seen token.entry ∷ []) }
     {
         match token {
-            Token::Name(_) => put(&mut self.uses, number),
-            Token::Defs => put(&mut self.defs, number),
+            Token::Name(_) => self.uses.push_reserved(number),
+            Token::Defs => self.defs.push_reserved(number),
             _ => {}
         }
     }

@@ -1,15 +1,13 @@
 // Tokens that have their texts by number.
 
-ghost use Rattle.std.specs.Prelude.{◌≡◌, ◌<◌, ◌+◌, length, IfOk, OnErr};
-ghost use Rattle.cweb_store.specs.Calls.{too_many};
-ghost use Rattle.cweb_store.specs.Packed.{IsWithin, Packs, token_in};
+ghost use Rattle.std.specs.Prelude.{◌≡◌, length};
+ghost use Rattle.cweb_store.specs.Packed.{IsWithin, token_in};
 ghost use Rattle.cweb_store.specs.Seen.{seen};
 
 use crate::names::NameRef;
 use crate::tokens::Token;
 use cweb_files::Place;
-use cweb_texts::{KeptTexts, PackedTexts};
-use std::alloc::AllocError;
+use cweb_texts::PackedTexts;
 
 /// A token that has its text by number.
 #[derive(Clone, Copy)]
@@ -27,30 +25,6 @@ pub enum Packed {
     Head(u32),
     Tail(u32),
     Mark(Place),
-}
-
-/// The record of a token, whose text is kept. A refused call changes nothing.
-#[inline(always)]
-pub fn pack(texts: &mut KeptTexts, token: Token<'_>) -> Result<Packed, AllocError>
-    requires few { length texts.old.texts + 1 < too_many }
-    ensures ok { IfOk result (λ packed. Packs texts.old (seen token.entry) packed texts.new) }
-    ensures err { OnErr result (texts.new ≡ texts.old) }
-{
-    match token {
-        Token::Word(text) => Ok(Packed::Word(texts.keep_word(text)?)),
-        Token::Number(text) => Ok(Packed::Number(texts.keep(text)?)),
-        Token::Literal(text) => Ok(Packed::Literal(texts.keep(text)?)),
-        Token::Verbatim(text) => Ok(Packed::Verbatim(texts.keep(text)?)),
-        Token::Punct(text) => Ok(Packed::Punct(texts.keep_sign(text)?)),
-        Token::Blank => Ok(Packed::Blank),
-        Token::Newline => Ok(Packed::Newline),
-        Token::Join => Ok(Packed::Join),
-        Token::Defs => Ok(Packed::Defs),
-        Token::Name(name) => Ok(Packed::Name(name)),
-        Token::Head(section) => Ok(Packed::Head(section)),
-        Token::Tail(section) => Ok(Packed::Tail(section)),
-        Token::Mark(place) => Ok(Packed::Mark(place)),
-    }
 }
 
 /// The token of a record, which lends its text.

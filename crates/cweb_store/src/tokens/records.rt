@@ -1,17 +1,18 @@
 // Tokens that have their texts by number, in order. A Mark has its place by number too.
 
-ghost use Rattle.std.specs.Prelude.{◌≡◌, ◌<◌, ◌++◌, ◌∷◌, [], List, ℕ, true, length, take, Some, slice_get, map, OnOk};
+ghost use Rattle.std.specs.Prelude.{◌≡◌, ◌<◌, ◌+◌, [], List, ℕ, true, length, take, Some, slice_get, map, IfOk, OnOk, OnErr};
 ghost use Rattle.std.specs.Prelude.{vec_capacity, vec_len};
 ghost use Rattle.cweb_files.specs.declared.place.Place.{Place};
 ghost use Rattle.cweb_store.specs.Calls.{too_many};
-ghost use Rattle.cweb_store.specs.Records.{AreNumbered, HasRoom, IsRecord, IsWithin, is_mark, packed_in};
+ghost use Rattle.cweb_store.specs.Records.{AreNumbered, HasRoom, IsPlaced, IsWithin, Puts, is_mark, packed_in};
+ghost use Rattle.cweb_store.specs.Packed.{Packs};
 ghost use Rattle.cweb_store.specs.Seen.{seen};
 
 use crate::names::NameRef;
 use crate::tokens::Token;
 use crate::tokens::packed::Packed;
 use cweb_files::Place;
-use cweb_texts::put;
+use cweb_texts::KeptTexts;
 use std::alloc::{AllocError, Global};
 use std::marker::Model;
 
@@ -89,16 +90,19 @@ impl Records {
         Ok(())
     }
 
-    /// Adds a token for which there is room.
+    /// Adds a token for which there is room, and keeps its text. A refused call changes nothing.
     #[inline(always)]
-    pub fn put(&mut self, packed: Packed)
-        requires room { length self.old.packed < self.old.room }
-        requires place { is_mark packed ≡ true → self.old.places < self.old.place_room }
+    pub fn put(&mut self, texts: &mut KeptTexts, token: Token<'_>) -> Result<(), AllocError>
+        requires room { HasRoom (seen token) self.old }
         requires few { length self.old.packed < too_many }
-        ensures { self.new.packed ≡ self.old.packed ++ packed ∷ [] }
+        requires few_texts { length texts.old.texts + 1 < too_many }
+        ensures ok { OnOk result
+            (Puts texts.old self.old.packed (seen token.entry) texts.new self.new.packed) }
+        ensures err { OnErr result ((self.new ≡ self.old) × (texts.new ≡ texts.old)) }
     {
-        let record = record_of(&mut self.places, packed);
-        put(&mut self.items, record);
+        let item = record_of(texts, &mut self.places, token)?;
+        self.items.push_reserved(item);
+        Ok(())
     }
 
     /// The token with a number.
@@ -132,30 +136,38 @@ impl Records {
     }
 }
 
-// The record of a token, whose place, if it has one, is put behind the others.
+// The record of a token. Its text is kept, and its place, if it has one, is put behind the others. A refused call changes nothing.
 #[inline(always)]
-fn record_of(places: &mut Vec<Place>, packed: Packed) -> Record
-    requires room { is_mark packed ≡ true → vec_len places.old < vec_capacity places.old }
+fn record_of(
+    texts: &mut KeptTexts,
+    places: &mut Vec<Place>,
+    token: Token<'_>,
+) -> Result<Record, AllocError>
+    requires room { is_mark (seen token) ≡ true → vec_len places.old < vec_capacity places.old }
     requires few { length places.old.items < too_many }
-    ensures { IsRecord places.old.items packed result places.new.items }
+    requires few_texts { length texts.old.texts + 1 < too_many }
+    ensures packs { IfOk result (λ item.
+        Packs texts.old (seen token.entry) (packed_in places.new.items item) texts.new) }
+    ensures placed { IfOk result (λ item. IsPlaced places.old.items item places.new.items) }
+    ensures err { OnErr result ((texts.new ≡ texts.old) × (places.new ≡ places.old)) }
 {
-    match packed {
-        Packed::Word(number) => Record::Word(number),
-        Packed::Number(number) => Record::Number(number),
-        Packed::Literal(number) => Record::Literal(number),
-        Packed::Verbatim(number) => Record::Verbatim(number),
-        Packed::Punct(number) => Record::Punct(number),
-        Packed::Blank => Record::Blank,
-        Packed::Newline => Record::Newline,
-        Packed::Join => Record::Join,
-        Packed::Defs => Record::Defs,
-        Packed::Name(name) => Record::Name(name),
-        Packed::Head(section) => Record::Head(section),
-        Packed::Tail(section) => Record::Tail(section),
-        Packed::Mark(place) => {
+    match token {
+        Token::Word(text) => Ok(Record::Word(texts.keep_word(text)?)),
+        Token::Number(text) => Ok(Record::Number(texts.keep(text)?)),
+        Token::Literal(text) => Ok(Record::Literal(texts.keep(text)?)),
+        Token::Verbatim(text) => Ok(Record::Verbatim(texts.keep(text)?)),
+        Token::Punct(text) => Ok(Record::Punct(texts.keep_sign(text)?)),
+        Token::Blank => Ok(Record::Blank),
+        Token::Newline => Ok(Record::Newline),
+        Token::Join => Ok(Record::Join),
+        Token::Defs => Ok(Record::Defs),
+        Token::Name(name) => Ok(Record::Name(name)),
+        Token::Head(section) => Ok(Record::Head(section)),
+        Token::Tail(section) => Ok(Record::Tail(section)),
+        Token::Mark(place) => {
             let number = places.len() as u32;
-            put(places, place);
-            Record::Mark(number)
+            places.push_reserved(place);
+            Ok(Record::Mark(number))
         }
     }
 }

@@ -19,9 +19,9 @@ invariant_of-self-2 c =
     limits-push limits (length (bytes ++ text)) some
     ∙ ap (λ (es : List ℕ). es ++ length (bytes ++ text) ∷ []) c.in_ok-begin.ensures.ends in
     rw (
-      c.put.ensures,
+      c.push_reserved.ensures.items,
       c.in_ok-reserve.ensures.items,
-      c.put-2.ensures,
+      c.push_reserved-2.ensures.items,
       c.in_ok-reserve-2.ensures.items,
       size,
       c.in_ok-extend_from_slice.ensures.items,
@@ -51,7 +51,7 @@ returns-clause-added c =
     let size : c.len.result ≡ length (bytes ++ text) =
     c.len.ensures ∙ c.extend_from_slice.new.self.ok.0 ∙ ap length c.in_ok-extend_from_slice.ensures.items in
     rw (
-      c.put.ensures,
+      c.push_reserved.ensures.items,
       c.in_ok-reserve.ensures.items,
       size,
       c.in_ok-extend_from_slice.ensures.items,

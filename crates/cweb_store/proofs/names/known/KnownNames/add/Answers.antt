@@ -54,7 +54,7 @@ invariant_of-self-2 c =
     let more : names_in (s.names.items ++ name ∷ []) ≡ ns ++ (record { text = key; first = c.args.first }) ∷ [] =
     map-append name_in s.names.items (name ∷ [])
     ∙ ap (λ q. let n : Name = record { text = q; first = c.args.first } in ns ++ n ∷ []) (kept_is ∙ sym is) in
-    rw (c.put.ensures, c.in_ok-reserve.ensures.items, more, c.in_ok-id.ensures.entries) known
+    rw (c.push_reserved.ensures.items, c.in_ok-reserve.ensures.items, more, c.in_ok-id.ensures.entries) known
 
 pub returns-clause-number : goal.returns-clause-number
 returns-clause-number c =
@@ -95,5 +95,5 @@ returns-clause-added c =
     let more : names_in (s.names.items ++ name ∷ []) ≡ ns ++ (record { text = text; first = c.args.first }) ∷ [] =
     map-append name_in s.names.items (name ∷ [])
     ∙ ap (λ q. let n : Name = record { text = q; first = c.args.first } in ns ++ n ∷ []) kept_is in
-    rw (c.put.ensures, c.in_ok-reserve.ensures.items, ← c.self.view_is)
+    rw (c.push_reserved.ensures.items, c.in_ok-reserve.ensures.items, ← c.self.view_is)
     (more ∙ sym (with_text-new c.args.first ns text absent))

@@ -32,8 +32,8 @@ invariant_of-self-2 c =
     let new : c.take.new.self ≡ with_name (length s.given.items) s.known (occurrence_of t c.args.how c.args.is_file) =
     c.in-Ok.ensures.names ∙ ap (λ k. with_name k s.known (occurrence_of t c.args.how c.args.is_file)) number in
     rw (
-      c.put.ensures,
-      c.put-2.ensures,
+      c.push_reserved.ensures.items,
+      c.push_reserved-2.ensures.items,
       c.in_ok-number.ensures.added,
       c.in_ok-reserve.ensures.items,
       c.in_ok-reserve-2.ensures.items,
@@ -56,7 +56,7 @@ pub returns-clause-added : goal.returns-clause-added
 returns-clause-added c =
     let s = c.self.inside in
     let g : GivenAs = record { how = c.args.how; is_file = c.args.is_file } in
-    rw (c.put.ensures, c.in_ok-number.ensures.added, c.in_ok-reserve.ensures.items, ← c.self.view_is)
+    rw (c.push_reserved.ensures.items, c.in_ok-number.ensures.added, c.in_ok-reserve.ensures.items, ← c.self.view_is)
     (occurrences-push s.texts s.given.items c.args.name.now g c.self.invariant.count)
 
 pub invariant_of-self-in-Err : goal.invariant_of-self-in-Err

@@ -14,7 +14,7 @@ invariant_of-result-2 c =
     record { follow = after.follow; few_tokens = after.few_tokens; few_parts = omega (arith, after.few_parts) } in
     let closed : AreClosedRuns (tokens_alone s.tokens.tokens) (s.runs.items ++ last_run c.in-Some.current
     (length s.tokens.tokens) ∷ []) = record { whole = whole; alone = refl } in
-    rw (c.put.ensures, run, c.close-tokens.ensures) closed
+    rw (c.push_reserved.ensures.items, run, c.close-tokens.ensures) closed
 
 pub returns : goal.returns
 returns c = grind (arith, common_steps)

@@ -11,8 +11,8 @@ returns-in-Name c = λ tokens size are.
     let used : is_name t ≡ true = search rules in
     let other : is_defs t ≡ false = search rules in
     record {
-      uses = noted-push is_name uses c.put.new.list.items tokens t k size are.uses
-          (noted-here uses c.put.new.list.items (is_name t) k c.put.ensures used);
+      uses = noted-push is_name uses c.push_reserved.new.self.items tokens t k size are.uses
+          (noted-here uses c.push_reserved.new.self.items (is_name t) k c.push_reserved.ensures.items used);
       defs = noted-push is_defs defs defs tokens t k size are.defs (noted-not defs (is_defs t) k other);
     }
 
@@ -26,8 +26,9 @@ returns-in-Defs c = λ tokens size are.
     let def : is_defs t ≡ true = search rules in
     record {
       uses = noted-push is_name uses uses tokens t k size are.uses (noted-not uses (is_name t) k other);
-      defs = noted-push is_defs defs c.put-in-Defs.new.list.items tokens t k size are.defs
-          (noted-here defs c.put-in-Defs.new.list.items (is_defs t) k c.put-in-Defs.ensures def);
+      defs = noted-push is_defs defs c.push_reserved-in-Defs.new.self.items tokens t k size are.defs
+          (noted-here defs c.push_reserved-in-Defs.new.self.items (is_defs t) k
+          c.push_reserved-in-Defs.ensures.items def);
     }
 
 pub returns-in_default : goal.returns-in_default

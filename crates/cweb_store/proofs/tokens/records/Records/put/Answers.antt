@@ -2,8 +2,8 @@ use Rattle.cweb_store.proofs.Common.{◌≡◌, map, length, ap, arith, length-m
 use Rattle.cweb_store.proofs.RecordLemmas.{numbered-few, push-numbered, push-packed}
 use Rattle.cweb_store.proofs.tokens.records.Records.put.Goals as goal
 
-pub record_of-record-requires-clause-few : goal.record_of-record-requires-clause-few
-record_of-record-requires-clause-few c =
+pub record_of-requires-clause-few : goal.record_of-requires-clause-few
+record_of-requires-clause-few c =
     let s = c.self.inside in
     let count : length (map (packed_in s.places.items) s.items.items) ≡ length c.args.self.now.packed =
     ap (λ v. length v.packed) c.self.view_is in
@@ -15,14 +15,18 @@ record_of-record-requires-clause-few c =
       c.requires.few,
     )
 
-pub invariant_of-self : goal.invariant_of-self
-invariant_of-self c =
+pub invariant_of-self-2 : goal.invariant_of-self-2
+invariant_of-self-2 c =
     let s = c.self.inside in
-    rw c.put.ensures (push-numbered s.places.items c.record_of-record.new.places.items
-    s.items.items c.args.packed c.record_of-record.result c.self.invariant c.record_of-record.ensures)
+    rw c.push_reserved.ensures.items (push-numbered s.places.items c.record_of.new.places.items
+    s.items.items c.in_ok-item.item c.self.invariant c.in_ok-item.ensures.placed)
 
-pub returns : goal.returns
-returns c =
+pub returns-clause-ok : goal.returns-clause-ok
+returns-clause-ok c =
     let s = c.self.inside in
-    rw (c.put.ensures, ← c.self.view_is) (push-packed s.places.items c.record_of-record.new.places.items
-    s.items.items c.args.packed c.record_of-record.result c.self.invariant c.record_of-record.ensures)
+    record {
+      one = packed_in c.record_of.new.places.items c.in_ok-item.item;
+      added = rw (c.push_reserved.ensures.items, ← c.self.view_is) (push-packed s.places.items
+          c.record_of.new.places.items s.items.items c.in_ok-item.item c.self.invariant c.in_ok-item.ensures.placed);
+      packs = c.in_ok-item.ensures.packs;
+    }

@@ -1,6 +1,6 @@
 use Rattle.cweb_lines.proofs.Common.{arith, pending_in}
 use Rattle.cweb_lines.proofs.Aheads.{few_behind, looks_behind}
-use Rattle.cweb_lines.proofs.passing.ahead.line_behind.Goals as goal
+use Rattle.cweb_lines.proofs.merger.ahead.line_behind.Goals as goal
 
 pub overflow_add-result : goal.overflow_add-result
 overflow_add-result g c =

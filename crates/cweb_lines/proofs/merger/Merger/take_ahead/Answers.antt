@@ -1,11 +1,11 @@
 use Rattle.cweb_lines.proofs.Common.{arith, length-map, pending_of, sources_next, top_of}
 use Rattle.cweb_lines.proofs.Aheads.{lends_lines}
 use Rattle.cweb_lines.proofs.GivenLines.{next-length}
-use Rattle.cweb_lines.proofs.run.Run.take_ahead.Goals as goal
+use Rattle.cweb_lines.proofs.merger.Merger.take_ahead.Goals as goal
 
 pub returns : goal.returns
 returns g c = λ lines next.
-    let run = c.args.self.now in
+    let run = c.args.self.now.run in
     let given = c.advance.ensures.given lines next in
     record {
       given = given;
