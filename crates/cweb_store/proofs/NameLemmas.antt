@@ -76,6 +76,7 @@ beginning-push i p (m ∷ ns) n j e = grind (arith, beginning-push (i + 1) p ns 
 abbrev at : List ℕ → List ℕ → Bool
 at q k = is_eq (slice_cmp nat_cmp q k)
 
+-- a map gives what was put into it, and else what it gave
 lookup-inserted : (es : List Entry) (key : List ℕ) (v : NameId) (q : List ℕ)
     → lookup (at q) (tree.insert_entry order es key v) ≡ cond (bytes_eq q key) (Some v) (lookup (at q) es)
 lookup-inserted [] key v q = ap (λ b. cond b (Some v) None) (is_eq-slice_cmp q key)

@@ -1,5 +1,5 @@
 -- Records whose places are numbered in order.
-use Rattle.cweb_store.proofs.Common.{◌≡◌, ℕ, zero, suc, ◌+◌, ◌≤◌, ◌<◌, true, false, cond, List, [], ◌∷◌, ◌++◌, Some, map, length, take, drop, refl, sym, subst, ap, arith, slice_get, map-append, take-append_seam, Place, Packed, Record, lends, token_in, packed_in, has_place, place_at, IsAt, places_of, AreNumbered, IsPlaced}
+use Rattle.cweb_store.proofs.Common.{◌≡◌, ℕ, zero, suc, ◌+◌, ◌≤◌, ◌<◌, true, false, cond, List, [], ◌∷◌, ◌++◌, Some, map, length, take, drop, refl, sym, subst, ap, arith, slice_get, map-append, take-append_seam, Place, Record, lends, token_in, packed_in, has_place, place_at, IsAt, places_of, AreNumbered, IsPlaced}
 use Rattle.cweb_store.specs.declared.tokens.packed.Packed.TheVariants as packed
 use Rattle.cweb_store.specs.declared.tokens.records.Record.TheVariants as record_of
 use Rattle.cweb_store.specs.Packed as kept

@@ -1,4 +1,4 @@
-use Rattle.cweb_lines.proofs.Common.{rules, ◌≡◌, Line, ◌+◌, [], refl, ap, sym, ◌∙◌, arith, IsTrue, Writes, Gives, Held, coming, told_by, to_come, so_far, read_blame, write_blame}
+use Rattle.cweb_lines.proofs.Common.{rules, ◌≡◌, Line, ◌+◌, [], refl, ap, sym, subst, ◌∙◌, arith, IfSome, IsTrue, None, Option, Writes, Gives, Held, coming, told_by, to_come, so_far, read_blame, write_blame}
 use Rattle.cweb_lines.proofs.Named.{blames_none, blames_rest, stop_after}
 use Rattle.cweb_lines.proofs.Fronts.{grows_told, told_halted, told_passed, told_same, told_then}
 use Rattle.cweb_lines.proofs.Gathers.{emptied, held, held_on, passed_on, fails_front, fails_among}
@@ -47,6 +47,10 @@ more g c tells =
 pub returns-in-Some-clause-grows : goal.returns-in-Some-clause-grows
 returns-in-Some-clause-grows g c = grows_told c.args.merger.now.run (told_same _ _ refl refl)
 
+-- what holds of a stop that came before holds where there was none
+no-stop : {A : Type 0} (P : A → Type 0) {stop : Option A} → stop ≡ None → IfSome stop P
+no-stop P none = subst (λ stop. IfSome stop P) (sym none) tt
+
 -- the merger stopped
 pub returns-in-Err : goal.returns-in-Err
 returns-in-Err g c =
@@ -62,8 +66,8 @@ returns-in-Err g c =
         lines = c.in-Err.ensures.grows.lines;
         bytes = c.in-Err.ensures.grows.bytes;
       };
-      ok = search rules;
-      ended = search rules;
+      ok = λ _. tt;
+      ended = tt;
       front = λ tells. ends_front g.W.Sink _ _ c.lines.invariant.place _ _ _ _ _ _ (c.lines.invariant.gathered tells)
           c.write_rest.new.out (rw c.deref.ensures.value at c.write_rest.ensures.front);
       stops = λ tells before.
@@ -89,7 +93,7 @@ returns-in-Err g c =
             blamed = λ before. stop_after c.write_rest.result _ _ _ _ (c.lines.invariant.quiet.blamed tells known)
                 (blames_rest _ _ _ c.in-Err.stop c.write_rest.result _ _ rest (stays.blamed c.lines.invariant.running));
           };
-      again = search rules;
+      again = no-stop _ c.lines.invariant.before;
     }
 
 -- no line was left
@@ -104,10 +108,13 @@ returns-in-Err-write_piece g c =
     let q = quiet g at.In-Ok in
     let err = rw c.deref-in_default-next.ensures.value at c.in-Err-write_piece.ensures.err in
     record {
-      keeps = search rules;
+      keeps = (
+        keeps_then g.S.Shelf _ _ _ c.lines.invariant.keeps c.in-Ok.ensures.keeps,
+        place_then g.W.Sink _ _ _ c.lines.invariant.place c.in-Err-write_piece.ensures.keeps,
+      );
       grows = grows_told c.next_line.new.self.run q.told;
-      ok = search rules;
-      ended = search rules;
+      ok = λ _. tt;
+      ended = tt;
       front = λ tells. ends_front g.W.Sink _ _ c.lines.invariant.place _ _ _ _ _ _ (c.lines.invariant.gathered tells)
           c.write_piece.new.out err;
       stops = λ tells before. record {
@@ -118,12 +125,16 @@ returns-in-Err-write_piece g c =
       fault = λ tells out before is running. fails_last g.W.Sink _ _ c.lines.invariant.place _ _ _ _ _ _
           (c.lines.invariant.gathered tells) c.write_piece.new.out _ _ (last g at.In_default-next tells).0
           (rw c.deref-in_default-next.ensures.value at c.in-Err-write_piece.ensures.some) out err;
-      blames = search rules;
+      blames = λ before.
+          let blames = c.in-Ok.ensures.blames c.lines.invariant.running in
+          blames_write _ _ _ _ _ _ c.in-Err-write_piece.ensures.stop c.in-Ok.ensures.leaves.running
+          (blames.failed ∙ c.lines.invariant.failed)
+          (c.in-Err-write_piece.ensures.failed ∙ ap (λ n. n + 1) c.lines.invariant.out_failed);
       known = λ tells known. record {
         readers = q.readers tells known;
         blamed = λ before. blames_none _ _ _ _ (ap read_blame c.in-Err-write_piece.ensures.stop) (q.blamed tells known);
       };
-      again = search rules;
+      again = no-stop _ c.lines.invariant.before;
     }
 
 pub returns-in_default-next-clause-ok : goal.returns-in_default-next-clause-ok
@@ -184,10 +195,13 @@ returns-in-Err-pass_on g c =
     let at = goal.at.returns-in-Err-pass_on g c in
     let q = quiet g at.In-Ok in
     record {
-      keeps = search rules;
+      keeps = (
+        keeps_then g.S.Shelf _ _ _ c.lines.invariant.keeps c.in-Ok.ensures.keeps,
+        place_then g.W.Sink _ _ _ c.lines.invariant.place c.in-Err-pass_on.ensures.keeps,
+      );
       grows = grows_told c.pass_lines.new.self.run (told_then _ _ _ q.told (told_passed c.pass_lines.ensures.passes));
-      ok = search rules;
-      ended = search rules;
+      ok = λ _. tt;
+      ended = tt;
       front = λ tells. fails_front g.W.Sink _ _ c.lines.invariant.place _ _ _ _ _ _
           (more g at.After-pass_lines tells) c.pass_on.new.out
           c.in-Err-pass_on.ensures.err;
@@ -207,7 +221,7 @@ returns-in-Err-pass_on g c =
         readers = c.pass_lines.ensures.passes.readers _ (q.readers tells known);
         blamed = λ before. blames_none _ _ _ _ (ap read_blame c.in-Err-pass_on.ensures.stop) (q.blamed tells known);
       };
-      again = search rules;
+      again = no-stop _ c.lines.invariant.before;
     }
 
 pub lines-preserved : goal.lines-preserved
@@ -220,8 +234,8 @@ lines-preserved g c =
           (told_passed c.pass_lines.ensures.passes));
       keeps = keeps_then g.S.Shelf _ _ _ c.lines.invariant.keeps c.in-Ok.ensures.keeps;
       place = place_then g.W.Sink _ _ _ c.lines.invariant.place c.in_default-pass_on.ensures.keeps;
-      failed = search rules;
-      out_failed = search rules;
+      failed = (c.in-Ok.ensures.blames c.lines.invariant.running).failed ∙ c.lines.invariant.failed;
+      out_failed = c.in_default-pass_on.ensures.failed ∙ c.lines.invariant.out_failed;
       running = c.pass_lines.ensures.passes.stopped ∙ c.in-Ok.ensures.leaves.running;
       before = c.lines.invariant.before;
       empty = λ none. emptied c.args.room c.pass_lines.new.piece.items c.pass_on.new.piece.items

@@ -1,4 +1,4 @@
-use Rattle.cweb_lines.proofs.Common.{◌≡◌, ◌-◌, ◌<◌, ◌∙◌, ℕ, List, None, Some, ap, arith, length, subst, get_or_default, IfSome, FitsAt, LooksIn, StandsAt, pending_in, line_number, number_of, top_of}
+use Rattle.cweb_lines.proofs.Common.{◌≡◌, ◌-◌, ◌<◌, ◌∙◌, ℕ, List, None, Some, ap, arith, length, subst, get_or_default, IfSome, FitsAt, LooksIn, StandsAt, pending_in, line_number, number_of, rules, top_of}
 use Rattle.cweb_lines.proofs.Stacks.{most_at}
 use Rattle.cweb_lines.proofs.Aheads.{are_ahead, looks_next}
 use Rattle.cweb_lines.proofs.merger.Merger.next_ahead.Goals as goal
@@ -34,3 +34,6 @@ line_behind-requires-clause-fits g c =
         run.numbers,
       ),
     )
+
+pub line_behind-requires-clause-joins : goal.line_behind-requires-clause-joins
+line_behind-requires-clause-joins c = search rules

@@ -1,4 +1,4 @@
-use Rattle.cweb_lines.proofs.Common.{◌≡◌, ◌+◌, ◌-◌, ◌∷◌, ◌++◌, ℕ, List, Some, true, subst, length, length-append, string_bytes, ap, sym, ◌∙◌, arith, get_or, [], rules, found_as, names_found, IsTrue, option_copied, change_at, SourceLine, raws, names_of, AreNamed, IsNamed, change_in, pending_in, things_in, lines_at, merge, OPEN_FILES}
+use Rattle.cweb_lines.proofs.Common.{◌≡◌, ◌+◌, ◌-◌, ◌∷◌, ◌++◌, ℕ, List, Some, true, subst, length, length-append, string_bytes, ap, sym, ◌∙◌, arith, get_or, [], found_as, names_found, IsTrue, option_copied, change_at, SourceLine, raws, names_of, AreNamed, IsNamed, change_in, pending_in, things_in, lines_at, merge, OPEN_FILES}
 use Rattle.cweb_lines.specs.Faults.{files_in}
 use Rattle.cweb_lines.proofs.Named.{named_first}
 use Rattle.cweb_lines.proofs.Merges.{state}
@@ -86,4 +86,9 @@ returns-clause-readers g c = λ tells.
     }
 
 pub returns-in_default-2-clause-stops : goal.returns-in_default-2-clause-stops
-returns-in_default-2-clause-stops c = search rules
+returns-in_default-2-clause-stops g c = λ tells.
+    let later = subst IsTrue (sym c.in_ok-web.ensures.keeps.tells) tells in (
+      (_, sym (rw c.in-Some.is at (c.in_ok-web.ensures.found tells))),
+      ap (λ t. change_at t (option_copied c.args.change)) (sym (c.in_ok-web.ensures.keeps.texts tells))
+          ∙ sym (rw c.in_default-2.is at (c.in_ok-change.ensures.found later)),
+    )

@@ -1,4 +1,4 @@
-use Rattle.cweb_store.proofs.Common.{◌≡◌, length, map, sym, subst, arith, ap, ◌∙◌, rules, length-map, token_in, AreNoted, seen}
+use Rattle.cweb_store.proofs.Common.{◌≡◌, length, map, sym, subst, arith, ap, rules, length-map, token_in, AreNoted, seen}
 use Rattle.cweb_store.proofs.PackedLemmas.{packs-tokens}
 use Rattle.cweb_store.proofs.TextLemmas.{packs-are, texts-few}
 use Rattle.cweb_store.proofs.tokens.list.TokenList.push.Goals as goal
@@ -40,3 +40,6 @@ returns-clause-ok c =
     let put = c.in_ok-put.ensures.ok in
     rw (put.added, c.in_ok-reserve.ensures.packed, ← c.self.view_is) (packs-tokens c.self.inside.texts
     c.put.new.texts c.self.inside.records.packed (seen c.args.token) put.one c.self.invariant.tokens.packed put.packs)
+
+pub invariant_of-self-in_err-put : goal.invariant_of-self-in_err-put
+invariant_of-self-in_err-put c = search rules
