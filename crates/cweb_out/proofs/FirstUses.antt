@@ -35,6 +35,7 @@ pub use-shorter : {old : List Token} (new : List Token) (t : Token) → PassesNo
     → length new < length old
 use-shorter new t x = omega (arith, ap length x.same, length-append x.before (t ∷ new))
 
+-- a part without a use is passed, and a part up to its first use
 pub pass-part : (w : Stored) (f : Frame) (q : Part) (more : List Part) → f.defs ≡ false
     → list_any is_name (run_tokens w f.part) ≡ false → f.rest ≡ q ∷ more
     → PassesNoUse (suffix w f) (suffix w (record { owner = f.owner; defs = f.defs; part = q; rest = more }))

@@ -9,6 +9,7 @@ pub stops : (p : ℕ → Bool) (more : List ℕ) → p 10 ≡ false → AtLineEn
 stops p [] h e = refl
 stops p (b ∷ more) h e = ap p e ∙ h
 
+-- two bytes of which one alone passes a test differ
 pub differs : (p : ℕ → Bool) (x b : ℕ) → p x ≡ true → p b ≡ false → (x == b) ≡ false
 differs p x b h g = grind (arith, p b, eqb-true x b)
 
