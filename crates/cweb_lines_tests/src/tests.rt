@@ -13,6 +13,8 @@ mod pieces;
 mod wanted;
 mod webs;
 
+ghost use Rattle.std.specs.Prelude.{◌+◌, ◌<◌, ◌^◌};
+
 use cweb_lines::*;
 use mergers::*;
 use std::alloc::{AllocError, Global};
@@ -60,26 +62,55 @@ fn tell_names<S: Shelf>(told: &mut String, merger: &Merger<S>, from: u32) -> Res
 
 /// A merger tells these faults and the names of these files, a line each.
 fn tells<S: Shelf>(
-    rt: &(impl AllocGlobal + Abort),
+    rt: &impl Abort,
     merger: &Merger<S>,
+    told: &mut String,
     want: &str,
 ) -> Result<(), Fail> {
-    let mut told = String::new(rt.alloc());
-    tell_faults(&mut told, merger)?;
-    tell_names(&mut told, merger, 0)?;
+    told.clear();
+    tell_faults(told, merger)?;
+    tell_names(told, merger, 0)?;
     same_text(rt, told.as_str(), want);
     Ok(())
 }
 
+/// Writes what a merger still has to a sink that has failed once at most.
+fn write_all<S: Shelf>(
+    rt: &impl Abort,
+    merger: &mut Merger<S>,
+    shelf: &mut S,
+    sink: &mut TrialSink,
+) -> Result<(), Stop>
+    requires { S.failed shelf.old + 1 < 2 ^ 64 }
+{
+    holds(rt, sink.failed < 2);
+    write_merged(merger, shelf, sink)
+}
+
+/// The same, where lines are gathered up to so many bytes.
+fn write_gathered<S: Shelf>(
+    rt: &impl Abort,
+    merger: &mut Merger<S>,
+    shelf: &mut S,
+    sink: &mut TrialSink,
+    room: usize,
+) -> Result<(), Stop>
+    requires { S.failed shelf.old + 1 < 2 ^ 64 }
+{
+    holds(rt, sink.failed < 2);
+    write_merged_in_pieces(merger, shelf, sink, room)
+}
+
 /// A merger still has this to write.
 fn writes(
-    rt: &(impl AllocGlobal + Abort),
+    rt: &impl Abort,
     merger: &mut Merger<MemoryShelf>,
     shelf: &mut MemoryShelf,
+    sink: &mut TrialSink,
     want: &[u8],
 ) -> Result<(), Fail> {
-    let mut sink = TrialSink::new(rt.alloc());
-    write_merged(merger, shelf, &mut sink)?;
+    sink.bytes.clear();
+    write_all(rt, merger, shelf, sink)?;
     same_bytes(rt, &sink.bytes, want);
     Ok(())
 }

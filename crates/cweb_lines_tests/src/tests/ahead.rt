@@ -62,18 +62,18 @@ fn comes_lent(
 struct Placing;
 
 impl Case<MemoryShelf, Fail> for Placing {
-    fn ask<A: AllocGlobal + Abort>(
+    fn ask<A: Abort>(
         &mut self,
         rt: &A,
         merger: &mut Merger<MemoryShelf>,
         shelf: &mut MemoryShelf,
+        filled: &mut Filled,
     ) -> Result<(), Fail> {
-        let mut line = Vec::new(rt.alloc());
         for wanted in PLACES {
-            comes_lent(rt, merger, shelf, &mut line, wanted)?;
+            comes_lent(rt, merger, shelf, &mut filled.line, wanted)?;
         }
         holds(rt, merger.lend_line().is_none());
-        holds(rt, merger.next_line(shelf, &mut line)?.is_none());
+        holds(rt, merger.next_line(shelf, &mut filled.line)?.is_none());
         Ok(())
     }
 }
@@ -129,15 +129,15 @@ fn number_of(place: Option<Place>) -> Option<u32> {
 struct Taking;
 
 impl Case<MemoryShelf, Fail> for Taking {
-    fn ask<A: AllocGlobal + Abort>(
+    fn ask<A: Abort>(
         &mut self,
         rt: &A,
         merger: &mut Merger<MemoryShelf>,
         shelf: &mut MemoryShelf,
+        filled: &mut Filled,
     ) -> Result<(), Fail> {
-        let mut line = Vec::new(rt.alloc());
         for wanted in TAKEN_AT_ONCE {
-            takes_at_once(rt, merger, shelf, &mut line, wanted)?;
+            takes_at_once(rt, merger, shelf, &mut filled.line, wanted)?;
         }
         Ok(())
     }

@@ -1,7 +1,6 @@
 // Lines that pass through together, where what is read at once ends within them.
 use super::*;
 use std::process::Abort;
-use trial::TrialSink;
 
 // So many lines of 64 bytes stand in front, so that the first read ends 64 bytes behind them.
 const LINES_BEFORE: usize = 1023;
@@ -13,8 +12,6 @@ const LINE_BEFORE: &[u8] = b"int counter_of_all_the_lines_in_front[] = { 1, 2, 3
 const TAIL: &[u8] = b"one\ntwo \t\nthree\n@i b.w\nfour\nfive\nold\n\nsix  \nseven\nlast";
 
 const TAIL_MERGED: &[u8] = b"one\ntwo\nthree\nin b\nfour\nfive\nnew\n\nsix\nseven\nlast\n";
-
-const AROUND: &[(&str, &[u8])] = &[("b.w", b"in b "), ("c.ch", b"@x\nold\n@y\nnew\n@z\n")];
 
 // The lines in front, a line of so many bytes, and what stands behind it.
 fn text_with(alloc: Global, length: usize, tail: &[u8]) -> Result<Vec<u8>, AllocError> {
@@ -28,13 +25,6 @@ fn text_with(alloc: Global, length: usize, tail: &[u8]) -> Result<Vec<u8>, Alloc
     text.push(b'\n')?;
     text.extend_from_slice(tail)?;
     Ok(text)
-}
-
-fn shelf_with(alloc: Global, length: usize) -> Result<MemoryShelf, Fail> {
-    let mut shelf = shelf_of(alloc, AROUND)?;
-    let text = text_with(alloc, length, TAIL)?;
-    shelf.put("a.w", &text)?;
-    Ok(shelf)
 }
 
 // How the merged lines are taken.
@@ -70,20 +60,45 @@ fn add_line(
 }
 
 fn add_lines(
-    alloc: Global,
     merger: &mut Merger<MemoryShelf>,
     shelf: &mut MemoryShelf,
+    line: &mut Vec<u8>,
     text: &mut Vec<u8>,
     is_lent: bool,
-) -> Result<(), Fail> {
-    let mut line = Vec::new(alloc);
+) -> Result<(), Stop> {
     for _ in 0..2 * LINES_BEFORE {
-        if !add_line(merger, shelf, &mut line, text, is_lent)? {
+        if !add_line(merger, shelf, line, text, is_lent)? {
             break;
         }
-        text.push(b'\n')?;
+        text.extend_from_slice(b"\n")?;
     }
     Ok(())
+}
+
+fn add_all(
+    rt: &impl Abort,
+    merger: &mut Merger<MemoryShelf>,
+    shelf: &mut MemoryShelf,
+    filled: &mut Filled,
+    way: Way,
+) -> Result<(), Stop> {
+    match way {
+        Way::Gathered(room) => write_gathered(rt, merger, shelf, &mut filled.sink, room),
+        Way::Asked => add_lines(
+            merger,
+            shelf,
+            &mut filled.line,
+            &mut filled.sink.bytes,
+            false,
+        ),
+        Way::Lent => add_lines(
+            merger,
+            shelf,
+            &mut filled.line,
+            &mut filled.sink.bytes,
+            true,
+        ),
+    }
 }
 
 // This text is merged in one of the ways.
@@ -96,22 +111,32 @@ struct Merging<'a> {
 }
 
 impl Case<MemoryShelf, Fail> for Merging<'_> {
-    fn ask<A: AllocGlobal + Abort>(
+    fn ask<A: Abort>(
         &mut self,
         rt: &A,
         merger: &mut Merger<MemoryShelf>,
         shelf: &mut MemoryShelf,
+        filled: &mut Filled,
     ) -> Result<(), Fail> {
-        let alloc = rt.alloc();
-        let mut sink = TrialSink::new(alloc);
-        match self.way {
-            Way::Gathered(room) => write_merged_in_pieces(merger, shelf, &mut sink, room)?,
-            Way::Asked => add_lines(alloc, merger, shelf, &mut sink.bytes, false)?,
-            Way::Lent => add_lines(alloc, merger, shelf, &mut sink.bytes, true)?,
-        }
-        same_at(rt, &sink.bytes, self.text, self.case);
+        add_all(rt, merger, shelf, filled, self.way)?;
+        same_at(rt, &filled.sink.bytes, self.text, self.case);
         Ok(())
     }
+}
+
+// Merges the lines in front, a line of so many bytes, and what stands behind it.
+fn merge_long(
+    rt: &(impl AllocGlobal + Abort),
+    length: usize,
+    merging: &mut Merging<'_>,
+) -> Result<(), Fail> {
+    let text = text_with(rt.alloc(), length, TAIL)?;
+    let files = [
+        ("a.w", text.as_slice()),
+        ("b.w", b"in b "),
+        ("c.ch", b"@x\nold\n@y\nnew\n@z\n"),
+    ];
+    merge_files(rt, &files, &CHANGED_WEB, merging)
 }
 
 // The lines are merged in each of these ways.
@@ -123,13 +148,12 @@ fn merges(
 ) -> Result<(), Fail> {
     let text = text_with(rt.alloc(), length, TAIL_MERGED)?;
     for way in ways {
-        let mut shelf = shelf_with(rt.alloc(), length)?;
         let mut merging = Merging {
             text: &text,
             way: *way,
             case,
         };
-        merge(rt, &mut shelf, &CHANGED_WEB, &mut merging)?;
+        merge_long(rt, length, &mut merging)?;
     }
     Ok(())
 }

@@ -133,16 +133,17 @@ const NAMED: &[(&str, &[u8])] = &[
 struct Naming;
 
 impl Case<MemoryShelf, Fail> for Naming {
-    fn ask<A: AllocGlobal + Abort>(
+    fn ask<A: Abort>(
         &mut self,
         rt: &A,
         merger: &mut Merger<MemoryShelf>,
         shelf: &mut MemoryShelf,
+        filled: &mut Filled,
     ) -> Result<(), Fail> {
-        tells(rt, merger, "0 is m.web\n1 is c.ch\n")?;
-        writes(rt, merger, shelf, b"B\nB\n")?;
+        tells(rt, merger, &mut filled.told, "0 is m.web\n1 is c.ch\n")?;
+        writes(rt, merger, shelf, &mut filled.sink, b"B\nB\n")?;
         let want = "0 is m.web\n1 is c.ch\n2 is lib/b\n3 is lib/b\n";
-        tells(rt, merger, want)
+        tells(rt, merger, &mut filled.told, want)
     }
 }
 

@@ -16,25 +16,24 @@ fn shelf_with(
 }
 
 // A line behind its place.
-fn tell_line(text: &mut String, alloc: Global, place: Place, line: &[u8]) -> Result<(), Fail> {
-    let given = String::from_utf8_lossy(alloc, line)?;
-    writeln!(text, "{}:{} {}", place.file.0, place.line, given.as_str())?;
+fn tell_line(text: &mut String, place: Place, line: &[u8]) -> Result<(), Fail> {
+    let given = str::from_utf8(line)?;
+    writeln!(text, "{}:{} {}", place.file.0, place.line, given)?;
     Ok(())
 }
 
 // The lines that a merger still has to give, each behind its place.
 fn tell_lines(
     text: &mut String,
-    alloc: Global,
+    line: &mut Vec<u8>,
     merger: &mut Merger<MemoryShelf>,
     shelf: &mut MemoryShelf,
 ) -> Result<(), Fail> {
-    let mut line = Vec::new(alloc);
     for _ in 0..1000 {
-        let Some(place) = merger.next_line(shelf, &mut line)? else {
+        let Some(place) = merger.next_line(shelf, line)? else {
             break;
         };
-        tell_line(text, alloc, place, &line)?;
+        tell_line(text, place, line)?;
     }
     Ok(())
 }
@@ -53,17 +52,17 @@ struct Merging<'a> {
 }
 
 impl Case<MemoryShelf, Fail> for Merging<'_> {
-    fn ask<A: AllocGlobal + Abort>(
+    fn ask<A: Abort>(
         &mut self,
         rt: &A,
         merger: &mut Merger<MemoryShelf>,
         shelf: &mut MemoryShelf,
+        filled: &mut Filled,
     ) -> Result<(), Fail> {
-        let mut text = String::new(rt.alloc());
-        tell_lines(&mut text, rt.alloc(), merger, shelf)?;
-        tell_faults(&mut text, merger)?;
-        tell_names(&mut text, merger, 2)?;
-        same_text(rt, text.as_str(), self.text);
+        tell_lines(&mut filled.told, &mut filled.line, merger, shelf)?;
+        tell_faults(&mut filled.told, merger)?;
+        tell_names(&mut filled.told, merger, 2)?;
+        same_text(rt, filled.told.as_str(), self.text);
         Ok(())
     }
 }

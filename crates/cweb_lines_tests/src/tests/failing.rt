@@ -67,14 +67,14 @@ fn failed_in(
 
 // A merger of which a read has failed writes nothing.
 fn writes_nothing(
-    rt: &(impl AllocGlobal + Abort),
+    rt: &impl Abort,
     merger: &mut Merger<TrialShelf>,
     shelf: &mut TrialShelf,
+    sink: &mut TrialSink,
     stop: Stop,
 ) {
-    let mut sink = TrialSink::new(rt.alloc());
     holds(rt, shelf.failed == 1);
-    ends(rt, write_merged(merger, shelf, &mut sink), Err(stop));
+    ends(rt, write_all(rt, merger, shelf, sink), Err(stop));
     same_number(rt, sink.writes, 0);
 }
 
@@ -87,18 +87,18 @@ struct Failing {
 }
 
 impl Case<TrialShelf, Fail> for Failing {
-    fn ask<A: AllocGlobal + Abort>(
+    fn ask<A: Abort>(
         &mut self,
         rt: &A,
         merger: &mut Merger<TrialShelf>,
         shelf: &mut TrialShelf,
+        filled: &mut Filled,
     ) -> Result<(), Fail> {
-        let mut line = Vec::new(rt.alloc());
-        takes_lines(rt, merger, shelf, &mut line, self.lines)?;
+        takes_lines(rt, merger, shelf, &mut filled.line, self.lines)?;
         let stop = Stop::ReadFault(FileId(self.file));
-        stops_twice(rt, merger, shelf, &mut line, stop);
+        stops_twice(rt, merger, shelf, &mut filled.line, stop);
         failed_in(rt, merger, shelf, self.file, self.name);
-        writes_nothing(rt, merger, shelf, stop);
+        writes_nothing(rt, merger, shelf, &mut filled.sink, stop);
         Ok(())
     }
 }
@@ -125,38 +125,32 @@ fn a_read_that_fails(rt: HostRuntime) -> Result<(), Fail> {
 
 // A merger of which a read has failed: it answers that text's stop, and reads no more.
 fn stays_stopped(
-    rt: &(impl AllocGlobal + Abort),
+    rt: &impl Abort,
     merger: &mut Merger<TrialShelf>,
     shelf: &mut TrialShelf,
+    line: &mut Vec<u8>,
     ended: Result<(), Stop>,
 ) -> Result<(), Fail> {
     let stop = Stop::ReadFault(FileId(shelf.failed_in));
     ends(rt, ended, Err(stop));
-    let mut line = vec![in rt.alloc(); b'x'; 1]?;
+    line.push(b'x')?;
     holds(rt, shelf.failed == 1);
-    stops(rt, merger.next_line(shelf, &mut line), stop);
+    stops(rt, merger.next_line(shelf, line), stop);
     holds(rt, line.is_empty());
     same_number(rt, shelf.reads, shelf.fails_at);
     Ok(())
 }
 
-// What a run leaves: all the merged lines and faults, or a front of them.
-fn leaves(
-    rt: &(impl AllocGlobal + Abort),
-    merger: &Merger<TrialShelf>,
-    written: &[u8],
-    is_all: bool,
-) -> Result<(), Fail> {
-    let mut faults = String::new(rt.alloc());
-    tell_faults(&mut faults, merger)?;
-    if is_all {
-        same_bytes(rt, written, MERGED_CHANGED);
-        same_text(rt, faults.as_str(), FAULTS_CHANGED);
-    } else {
-        holds(rt, MERGED_CHANGED.starts_with(written));
-        holds(rt, FAULTS_CHANGED.starts_with(faults.as_str()));
-    }
-    Ok(())
+// All the merged lines and faults.
+fn is_all(rt: &impl Abort, written: &[u8], faults: &str) {
+    same_bytes(rt, written, MERGED_CHANGED);
+    same_text(rt, faults, FAULTS_CHANGED);
+}
+
+// A front of them.
+fn is_front(rt: &impl Abort, written: &[u8], faults: &str) {
+    holds(rt, MERGED_CHANGED.starts_with(written));
+    holds(rt, FAULTS_CHANGED.starts_with(faults));
 }
 
 // Runs of which each fails at a later read, but none at the 88th. So many bytes at least are written.
@@ -166,25 +160,26 @@ struct Runs {
 }
 
 impl Case<TrialShelf, Fail> for Runs {
-    fn ask<A: AllocGlobal + Abort>(
+    fn ask<A: Abort>(
         &mut self,
         rt: &A,
         merger: &mut Merger<TrialShelf>,
         shelf: &mut TrialShelf,
+        filled: &mut Filled,
     ) -> Result<(), Fail> {
-        let mut sink = TrialSink::new(rt.alloc());
         holds(rt, shelf.failed == 0);
-        let ended = write_merged(merger, shelf, &mut sink);
-        let written = sink.bytes();
+        let ended = write_all(rt, merger, shelf, &mut filled.sink);
+        tell_faults(&mut filled.told, merger)?;
+        let written = filled.sink.bytes();
         holds(rt, self.least <= written.len());
         self.least = written.len();
-        let is_all = shelf.fails_at >= 88;
-        leaves(rt, merger, written, is_all)?;
-        if is_all {
+        if shelf.fails_at >= 88 {
+            is_all(rt, written, filled.told.as_str());
             ends(rt, ended, Ok(()));
             return Ok(());
         }
-        stays_stopped(rt, merger, shelf, ended)
+        is_front(rt, written, filled.told.as_str());
+        stays_stopped(rt, merger, shelf, &mut filled.line, ended)
     }
 }
 

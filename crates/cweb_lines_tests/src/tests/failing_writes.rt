@@ -14,8 +14,7 @@ fn fails_behind(
     sink: &mut TrialSink,
     written: &str,
 ) {
-    holds(rt, sink.failed == 0);
-    let ended = write_merged(merger, shelf, sink);
+    let ended = write_all(rt, merger, shelf, sink);
     ends(rt, ended, Err(Stop::WriteFault));
     same_number(rt, sink.failures(), 1);
     same_bytes(rt, &sink.bytes, written.as_bytes());
@@ -32,17 +31,17 @@ struct Failing {
 }
 
 impl Case<MemoryShelf, Fail> for Failing {
-    fn ask<A: AllocGlobal + Abort>(
+    fn ask<A: Abort>(
         &mut self,
         rt: &A,
         merger: &mut Merger<MemoryShelf>,
         shelf: &mut MemoryShelf,
+        filled: &mut Filled,
     ) -> Result<(), Fail> {
-        let mut sink = TrialSink::new(rt.alloc());
-        sink.most = self.most;
-        sink.fails_at = self.fails_at;
-        fails_behind(rt, merger, shelf, &mut sink, self.written);
-        writes(rt, merger, shelf, self.rest.as_bytes())
+        filled.sink.most = self.most;
+        filled.sink.fails_at = self.fails_at;
+        fails_behind(rt, merger, shelf, &mut filled.sink, self.written);
+        writes(rt, merger, shelf, &mut filled.sink, self.rest.as_bytes())
     }
 }
 
@@ -68,19 +67,17 @@ fn a_write_that_fails(rt: HostRuntime) -> Result<(), Fail> {
 
 // A merger that was refused memory: it answers that stop, and writes nothing.
 fn stays_refused(
-    rt: &(impl AllocGlobal + Abort),
+    rt: &impl Abort,
     merger: &mut Merger<MemoryShelf>,
     shelf: &mut MemoryShelf,
+    filled: &mut Filled,
 ) {
-    let mut line = Vec::new(rt.alloc());
-    stops(rt, merger.next_line(shelf, &mut line), Stop::Memory);
-    let mut after = TrialSink::new(rt.alloc());
-    ends(
-        rt,
-        write_merged(merger, shelf, &mut after),
-        Err(Stop::Memory),
-    );
-    same_number(rt, after.writes, 0);
+    let next = merger.next_line(shelf, &mut filled.line);
+    stops(rt, next, Stop::Memory);
+    let writes = filled.sink.writes;
+    let ended = write_all(rt, merger, shelf, &mut filled.sink);
+    ends(rt, ended, Err(Stop::Memory));
+    same_number(rt, filled.sink.writes, writes);
 }
 
 // A run that gives this text and so many faults, or a front of the text where memory is refused.
@@ -91,20 +88,21 @@ struct Refusing {
 }
 
 impl Case<MemoryShelf, Stop> for Refusing {
-    fn ask<A: AllocGlobal + Abort>(
+    fn ask<A: Abort>(
         &mut self,
         rt: &A,
         merger: &mut Merger<MemoryShelf>,
         shelf: &mut MemoryShelf,
+        filled: &mut Filled,
     ) -> Result<(), Stop> {
-        let mut sink = MemorySink::with_room(rt.alloc(), 100)?;
-        let ended = write_merged_in_pieces(merger, shelf, &mut sink, 6);
-        holds(rt, self.merged.starts_with(sink.bytes()));
+        filled.sink.bytes.reserve(100)?;
+        let ended = write_gathered(rt, merger, shelf, &mut filled.sink, 6);
+        holds(rt, self.merged.starts_with(filled.sink.bytes()));
         if ended.is_ok() {
-            same_bytes(rt, sink.bytes(), self.merged);
+            same_bytes(rt, filled.sink.bytes(), self.merged);
             holds(rt, merger.faults().len() == self.faults);
         } else {
-            stays_refused(rt, merger, shelf);
+            stays_refused(rt, merger, shelf, filled);
         }
         ended
     }

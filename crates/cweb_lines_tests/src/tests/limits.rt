@@ -3,29 +3,46 @@ use super::devices::{Endless, EndlessChange};
 use super::*;
 use std::process::Abort;
 
+// Puts a text that is one line of so many bytes `x`.
+fn put_line(
+    alloc: Global,
+    shelf: &mut MemoryShelf,
+    name: &str,
+    length: usize,
+) -> Result<(), AllocError> {
+    let line = vec![in alloc; b'x'; length]?;
+    shelf.put(name, &line)
+}
+
 fn long_shelf(alloc: Global) -> Result<MemoryShelf, AllocError> {
-    let longest = vec![in alloc; b'x'; 1_048_575]?;
-    let longer = vec![in alloc; b'x'; 1_048_576]?;
-    let mut shelf = MemoryShelf::new(alloc);
-    shelf.put("a.w", b"@i longest\n@i\n@i longer\n")?;
-    shelf.put("longest", &longest)?;
-    shelf.put("longer", &longer)?;
+    let mut shelf = shelf_of(alloc, &[("a.w", b"@i longest\n@i\n@i longer\n")])?;
+    put_line(alloc, &mut shelf, "longest", 1_048_575)?;
+    put_line(alloc, &mut shelf, "longer", 1_048_576)?;
     Ok(shelf)
 }
 
+fn is_all_x(line: &[u8]) -> bool {
+    for byte in line {
+        if *byte != b'x' {
+            return false;
+        }
+    }
+    true
+}
+
 fn takes_the_longest(
-    rt: &(impl AllocGlobal + Abort),
+    rt: &impl Abort,
     merger: &mut Merger<MemoryShelf>,
     shelf: &mut MemoryShelf,
     line: &mut Vec<u8>,
 ) -> Result<(), Fail> {
-    let longest = vec![in rt.alloc(); b'x'; 1_048_575]?;
     let place = Place {
         file: FileId(1),
         line: 1,
     };
     comes(rt, merger.next_line(shelf, line)?, place);
-    holds(rt, line.as_slice() == longest.as_slice());
+    holds(rt, line.len() == 1_048_575);
+    holds(rt, is_all_x(line));
     Ok(())
 }
 
@@ -47,18 +64,18 @@ fn stops_at_the_longer(
 struct Longest;
 
 impl Case<MemoryShelf, Fail> for Longest {
-    fn ask<A: AllocGlobal + Abort>(
+    fn ask<A: Abort>(
         &mut self,
         rt: &A,
         merger: &mut Merger<MemoryShelf>,
         shelf: &mut MemoryShelf,
+        filled: &mut Filled,
     ) -> Result<(), Fail> {
-        let mut line = Vec::new(rt.alloc());
-        takes_the_longest(rt, merger, shelf, &mut line)?;
+        takes_the_longest(rt, merger, shelf, &mut filled.line)?;
         for _ in 0..2 {
-            stops_at_the_longer(rt, merger, shelf, &mut line)?;
+            stops_at_the_longer(rt, merger, shelf, &mut filled.line)?;
             let want = "NoName in 0 at 2\n0 is a.w\n1 is longest\n2 is longer\n";
-            tells(rt, merger, want)?;
+            tells(rt, merger, &mut filled.told, want)?;
         }
         Ok(())
     }
@@ -117,16 +134,16 @@ impl Lines {
 }
 
 impl<S: Shelf> Case<S, Fail> for Lines {
-    fn ask<A: AllocGlobal + Abort>(
+    fn ask<A: Abort>(
         &mut self,
         rt: &A,
         merger: &mut Merger<S>,
         shelf: &mut S,
+        filled: &mut Filled,
     ) -> Result<(), Fail> {
-        let mut line = Vec::new(rt.alloc());
-        self.come(rt, merger, shelf, &mut line)?;
-        self.stop(rt, merger, shelf, &mut line);
-        tells(rt, merger, self.told)
+        self.come(rt, merger, shelf, &mut filled.line)?;
+        self.stop(rt, merger, shelf, &mut filled.line);
+        tells(rt, merger, &mut filled.told, self.told)
     }
 }
 

@@ -1,8 +1,8 @@
 // What holds a merger: one function for all cases, which borrow it. A function that holds one takes ten times as long to prove as
-// one that borrows it.
+// one that borrows it. What cases fill is held by one function too.
 use super::*;
 use std::process::Abort;
-use trial::TrialShelf;
+use trial::{TrialShelf, TrialSink};
 
 /// The names that a merger is started with.
 #[derive(Clone, Copy)]
@@ -29,13 +29,22 @@ pub const CHANGED_WEB: Names<'static> = Names {
     inputs: None,
 };
 
+/// What a case may fill: a line, what is told of the merger, and what is written. All is empty, and nothing has failed.
+#[derive(Drop)]
+pub struct Filled {
+    pub line: Vec<u8>,
+    pub told: String,
+    pub sink: TrialSink,
+}
+
 /// What is asked of a merger that has started, and of its shelf.
 pub trait Case<S: Shelf, E> {
-    fn ask<A: AllocGlobal + Abort>(
+    fn ask<A: Abort>(
         &mut self,
         rt: &A,
         merger: &mut Merger<S>,
         shelf: &mut S,
+        filled: &mut Filled,
     ) -> Result<(), E>;
 }
 
@@ -46,14 +55,33 @@ pub fn merge<S: Shelf, E: From<Stop>, C: Case<S, E>>(
     names: &Names<'_>,
     case: &mut C,
 ) -> Result<(), E> {
-    let Names {
-        web,
-        second,
-        change,
-        inputs,
-    } = *names;
-    let mut merger = Merger::start(rt.alloc(), shelf, web, second, change, inputs)?;
-    case.ask(rt, &mut merger, shelf)
+    let mut merger = start(rt.alloc(), shelf, names)?;
+    ask_filling(rt, &mut merger, shelf, case)
+}
+
+fn start<S: Shelf>(alloc: Global, shelf: &mut S, names: &Names<'_>) -> Result<Merger<S>, Stop> {
+    Merger::start(
+        alloc,
+        shelf,
+        names.web,
+        names.second,
+        names.change,
+        names.inputs,
+    )
+}
+
+fn ask_filling<S: Shelf, E, C: Case<S, E>>(
+    rt: &(impl AllocGlobal + Abort),
+    merger: &mut Merger<S>,
+    shelf: &mut S,
+    case: &mut C,
+) -> Result<(), E> {
+    let mut filled = Filled {
+        line: Vec::new(rt.alloc()),
+        told: String::new(rt.alloc()),
+        sink: TrialSink::new(rt.alloc()),
+    };
+    case.ask(rt, merger, shelf, &mut filled)
 }
 
 /// Starts a merger of a shelf with these texts.
@@ -87,11 +115,12 @@ pub fn merge_reads<C: Case<TrialShelf, Fail>>(
 struct Unasked;
 
 impl<S: Shelf> Case<S, Stop> for Unasked {
-    fn ask<A: AllocGlobal + Abort>(
+    fn ask<A: Abort>(
         &mut self,
         _: &A,
         _: &mut Merger<S>,
         _: &mut S,
+        _: &mut Filled,
     ) -> Result<(), Stop> {
         Ok(())
     }

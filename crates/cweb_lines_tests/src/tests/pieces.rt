@@ -2,7 +2,7 @@
 use super::*;
 use failing::CHANGED;
 use std::process::Abort;
-use trial::{TrialShelf, TrialSink};
+use trial::TrialShelf;
 
 // Lines are gathered up to so many bytes, of which at most so many are taken at once, and this is written.
 #[derive(Clone, Copy)]
@@ -17,16 +17,17 @@ struct Gathering<'a> {
 }
 
 impl<S: Shelf> Case<S, Fail> for Gathering<'_> {
-    fn ask<A: AllocGlobal + Abort>(
+    fn ask<A: Abort>(
         &mut self,
         rt: &A,
         merger: &mut Merger<S>,
         shelf: &mut S,
+        filled: &mut Filled,
     ) -> Result<(), Fail> {
-        let mut sink = TrialSink::new(rt.alloc());
+        let sink = &mut filled.sink;
         sink.most = self.most;
         holds(rt, shelf.failures() == 0);
-        write_merged_in_pieces(merger, shelf, &mut sink, self.room)?;
+        write_gathered(rt, merger, shelf, sink, self.room)?;
         same_at(rt, &sink.bytes, self.text, self.case);
         if let Some(writes) = self.writes {
             same_number(rt, sink.writes, writes);
@@ -105,27 +106,33 @@ fn reads_of_all_sizes(rt: HostRuntime) -> Result<(), Fail> {
     Ok(())
 }
 
-// What is written until a read fails, where lines are gathered up to so many bytes.
+// At most so many bytes are read at once. What is written until a read fails is the same where lines are gathered up to so many
+// bytes as where none are.
 #[derive(Drop)]
 struct Written {
+    most: usize,
     room: usize,
-    bytes: Vec<u8>,
+    at_once: Vec<u8>,
 }
 
 impl Case<TrialShelf, Fail> for Written {
-    fn ask<A: AllocGlobal + Abort>(
+    fn ask<A: Abort>(
         &mut self,
         rt: &A,
         merger: &mut Merger<TrialShelf>,
         shelf: &mut TrialShelf,
+        filled: &mut Filled,
     ) -> Result<(), Fail> {
-        let mut sink = TrialSink::new(rt.alloc());
         holds(rt, shelf.failed == 0);
-        let ended = write_merged_in_pieces(merger, shelf, &mut sink, self.room);
+        let ended = write_gathered(rt, merger, shelf, &mut filled.sink, self.room);
         if shelf.failed == 0 {
             ended?;
         }
-        self.bytes.extend_from_slice(sink.bytes())?;
+        if self.room == 0 {
+            self.at_once.clear();
+            self.at_once.extend_from_slice(filled.sink.bytes())?;
+        }
+        same_at(rt, filled.sink.bytes(), &self.at_once, self.most);
         Ok(())
     }
 }
@@ -133,29 +140,28 @@ impl Case<TrialShelf, Fail> for Written {
 fn gathers_as_much(
     rt: &(impl AllocGlobal + Abort),
     fails_at: u64,
-    most: usize,
+    written: &mut Written,
 ) -> Result<(), Fail> {
-    let mut at_once = Written {
-        room: 0,
-        bytes: Vec::new(rt.alloc()),
-    };
-    merge_reads(rt, CHANGED, &CHANGED_WEB, most, fails_at, &mut at_once)?;
-    let mut gathered = Written {
-        room: 65536,
-        bytes: Vec::new(rt.alloc()),
-    };
-    merge_reads(rt, CHANGED, &CHANGED_WEB, most, fails_at, &mut gathered)?;
-    same_at(rt, &gathered.bytes, &at_once.bytes, most);
-    Ok(())
+    let most = written.most;
+    written.room = 0;
+    merge_reads(rt, CHANGED, &CHANGED_WEB, most, fails_at, written)?;
+    written.room = 65536;
+    merge_reads(rt, CHANGED, &CHANGED_WEB, most, fails_at, written)
 }
 
 // A read that fails loses no line that could be given before it.
 #[test]
 fn lines_gathered_before_a_read_that_fails(rt: HostRuntime) -> Result<(), Fail> {
     const MOST: &[usize] = &[7, 12, 24, usize::MAX];
+    let mut written = Written {
+        most: 0,
+        room: 0,
+        at_once: Vec::new(rt.alloc()),
+    };
     for most in MOST {
+        written.most = *most;
         for fails_at in 1..19 {
-            gathers_as_much(&rt, fails_at, *most)?;
+            gathers_as_much(&rt, fails_at, &mut written)?;
         }
     }
     Ok(())

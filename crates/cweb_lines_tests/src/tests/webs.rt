@@ -9,44 +9,65 @@ struct Telling<'a> {
 }
 
 impl Case<MemoryShelf, Fail> for Telling<'_> {
-    fn ask<A: AllocGlobal + Abort>(
+    fn ask<A: Abort>(
         &mut self,
         rt: &A,
         merger: &mut Merger<MemoryShelf>,
         shelf: &mut MemoryShelf,
+        filled: &mut Filled,
     ) -> Result<(), Fail> {
-        let mut text = written(rt.alloc(), merger, shelf)?;
-        tell_faults(&mut text, merger)?;
-        tell_names(&mut text, merger, 0)?;
-        same_text(rt, text.as_str(), self.text);
+        write_all(rt, merger, shelf, &mut filled.sink)?;
+        tell_bytes(&mut filled.told, filled.sink.bytes())?;
+        tell_faults(&mut filled.told, merger)?;
+        tell_names(&mut filled.told, merger, 0)?;
+        same_text(rt, filled.told.as_str(), self.text);
         Ok(())
     }
 }
 
-// What a merger still has to write.
-fn written(
-    alloc: Global,
-    merger: &mut Merger<MemoryShelf>,
-    shelf: &mut MemoryShelf,
-) -> Result<String, Fail> {
-    let mut sink = MemorySink::with_room(alloc, 1000)?;
-    write_merged(merger, shelf, &mut sink)?;
-    Ok(String::from_utf8_lossy(alloc, sink.bytes())?)
+fn tell_bytes(told: &mut String, bytes: &[u8]) -> Result<(), Fail> {
+    told.push_str(str::from_utf8(bytes)?)?;
+    Ok(())
 }
 
-fn compare<'a>(
-    rt: &(impl AllocGlobal + Abort),
-    files: &[(&str, &[u8])],
-    second: Option<&'a str>,
-    inputs: Option<&'a str>,
-    text: &str,
-) -> Result<(), Fail> {
+// The texts of a shelf, the second name of the web, the folder of its files, and what is written and told of it.
+struct Web {
+    files: &'static [(&'static str, &'static [u8])],
+    second: Option<&'static str>,
+    inputs: Option<&'static str>,
+    text: &'static str,
+}
+
+fn compare(rt: &(impl AllocGlobal + Abort), web: &Web) -> Result<(), Fail> {
     let names = Names {
-        second,
-        inputs,
+        second: web.second,
+        inputs: web.inputs,
         ..WEB
     };
-    merge_files(rt, files, &names, &mut Telling { text })
+    merge_files(rt, web.files, &names, &mut Telling { text: web.text })
+}
+
+fn compare_all(rt: &(impl AllocGlobal + Abort), webs: &[Web]) -> Result<(), Fail> {
+    for web in webs {
+        compare(rt, web)?;
+    }
+    Ok(())
+}
+
+// A web that can include two files.
+fn compare_including(rt: &(impl AllocGlobal + Abort), web: &[u8], text: &str) -> Result<(), Fail> {
+    let files = [("a.w", web), ("b", b"bee"), ("b c", b"quoted\n")];
+    merge_files(rt, &files, &WEB, &mut Telling { text })
+}
+
+fn compare_all_including(
+    rt: &(impl AllocGlobal + Abort),
+    rows: &[(&[u8], &str)],
+) -> Result<(), Fail> {
+    for (web, text) in rows {
+        compare_including(rt, *web, *text)?;
+    }
+    Ok(())
 }
 
 #[test]
@@ -65,10 +86,7 @@ fn lines(rt: HostRuntime) -> Result<(), Fail> {
         // a carriage return alone ends no line
         (b"x\ry\n", "x\ry\n0 is a.w\n"),
     ];
-    for (web, want) in ROWS {
-        compare(&rt, &[("a.w", *web)], None, None, *want)?;
-    }
-    Ok(())
+    compare_all_including(&rt, ROWS)
 }
 
 #[test]
@@ -89,32 +107,28 @@ fn include_lines(rt: HostRuntime) -> Result<(), Fail> {
         // no include lines
         (b" @i b\n@@i b\n@j b\n", " @i b\n@@i b\n@j b\n0 is a.w\n"),
     ];
-    for (web, want) in ROWS {
-        let files = [("a.w", *web), ("b", b"bee"), ("b c", b"quoted\n")];
-        compare(&rt, &files, None, None, *want)?;
-    }
-    Ok(())
+    compare_all_including(&rt, ROWS)
 }
 
 #[test]
 fn a_file_that_includes_itself(rt: HostRuntime) -> Result<(), Fail> {
     let want =
         "P\nP\nP\nP\nP\nP\nP\nP\nP\nP\nP\nP\nP\nP\nP\nP\nP\nP\nP\nP\nQ\nQ\nQ\nQ\nQ\nQ\nQ\nQ\nQ\nQ\nQ\nQ\nQ\nQ\nQ\nQ\nQ\nQ\nQ\nQ\nTooDeep in 19 at 2\n0 is a.w\n1 is a.w\n2 is a.w\n3 is a.w\n4 is a.w\n5 is a.w\n6 is a.w\n7 is a.w\n8 is a.w\n9 is a.w\n10 is a.w\n11 is a.w\n12 is a.w\n13 is a.w\n14 is a.w\n15 is a.w\n16 is a.w\n17 is a.w\n18 is a.w\n19 is a.w\n";
-    compare(&rt, &[("a.w", b"P\n@i a.w\nQ\n")], None, None, want)
+    compare_including(&rt, b"P\n@i a.w\nQ\n", want)
 }
 
-// The kinds of the faults in the deepest file.
-fn deepest_faults<S: Shelf>(
-    alloc: Global,
-    merger: &Merger<S>,
-) -> Result<Vec<SourceKind>, AllocError> {
-    let mut deepest = Vec::new(alloc);
+// The faults in the deepest file are of these kinds.
+fn has_deepest(merger: &Merger<MemoryShelf>, kinds: &[SourceKind]) -> bool {
+    let mut rest = kinds;
     for fault in merger.faults() {
         if fault.place.file == FileId(19) {
-            deepest.push(fault.kind)?;
+            match rest {
+                [kind, more @ ..] if *kind == fault.kind => rest = more,
+                _ => return false,
+            }
         }
     }
-    Ok(deepest)
+    rest.is_empty()
 }
 
 // There is no line, but so many faults, and of these kinds in the deepest file.
@@ -125,17 +139,17 @@ struct Deepest<'a> {
 }
 
 impl Case<MemoryShelf, Fail> for Deepest<'_> {
-    fn ask<A: AllocGlobal + Abort>(
+    fn ask<A: Abort>(
         &mut self,
         rt: &A,
         merger: &mut Merger<MemoryShelf>,
         shelf: &mut MemoryShelf,
+        filled: &mut Filled,
     ) -> Result<(), Fail> {
-        let mut line = Vec::new(rt.alloc());
-        holds(rt, merger.next_line(shelf, &mut line)?.is_none());
+        let next = merger.next_line(shelf, &mut filled.line)?;
+        holds(rt, next.is_none());
         holds(rt, merger.faults().len() == self.faults);
-        let deepest = deepest_faults(rt.alloc(), merger)?;
-        holds(rt, deepest.as_slice() == self.deepest);
+        holds(rt, has_deepest(merger, self.deepest));
         Ok(())
     }
 }
@@ -154,16 +168,29 @@ fn faults_at_the_full_depth(rt: HostRuntime) -> Result<(), Fail> {
 
 #[test]
 fn folders(rt: HostRuntime) -> Result<(), Fail> {
-    const WEB: &[u8] = b"one\n@i b.w\nthree\n@i gone";
-    const FILES: &[(&str, &[u8])] = &[("a.w", WEB), ("lib/b.w", b"two\n")];
-    let found = "one\ntwo\nthree\nNotThere in 0 at 4\n0 is a.w\n1 is lib/b.w\n";
-    compare(&rt, FILES, None, Some("lib"), found)?;
-    let gone = "one\nthree\nNotThere in 0 at 2\nNotThere in 0 at 4\n0 is a.w\n";
-    compare(&rt, FILES, None, None, gone)?;
-    // the name as it stands comes first
-    const BOTH: &[(&str, &[u8])] = &[("a.w", WEB), ("lib/b.w", b"two\n"), ("b.w", b"deux")];
-    let first = "one\ndeux\nthree\nNotThere in 0 at 4\n0 is a.w\n1 is b.w\n";
-    compare(&rt, BOTH, None, Some("lib"), first)
+    const WEB: (&str, &[u8]) = ("a.w", b"one\n@i b.w\nthree\n@i gone");
+    const WEBS: &[Web] = &[
+        Web {
+            files: &[WEB, ("lib/b.w", b"two\n")],
+            second: None,
+            inputs: Some("lib"),
+            text: "one\ntwo\nthree\nNotThere in 0 at 4\n0 is a.w\n1 is lib/b.w\n",
+        },
+        Web {
+            files: &[WEB, ("lib/b.w", b"two\n")],
+            second: None,
+            inputs: None,
+            text: "one\nthree\nNotThere in 0 at 2\nNotThere in 0 at 4\n0 is a.w\n",
+        },
+        // the name as it stands comes first
+        Web {
+            files: &[WEB, ("lib/b.w", b"two\n"), ("b.w", b"deux")],
+            second: None,
+            inputs: Some("lib"),
+            text: "one\ndeux\nthree\nNotThere in 0 at 4\n0 is a.w\n1 is b.w\n",
+        },
+    ];
+    compare_all(&rt, WEBS)
 }
 
 // The web is not sought in the folder.
@@ -190,11 +217,21 @@ const NOT_OPENED: &[(Names<'static>, Stop)] = &[
 
 #[test]
 fn names_of_the_web(rt: HostRuntime) -> Result<(), Fail> {
-    const FIRST: (&str, &[u8]) = ("a.w", b"first\n");
-    const SECOND: (&str, &[u8]) = ("a.web", b"second\n");
-    const BOTH: &[(&str, &[u8])] = &[SECOND, FIRST];
-    compare(&rt, &[SECOND], Some("a.web"), None, "second\n0 is a.web\n")?;
-    compare(&rt, BOTH, Some("a.web"), None, "first\n0 is a.w\n")?;
+    const WEBS: &[Web] = &[
+        Web {
+            files: &[("a.web", b"second\n")],
+            second: Some("a.web"),
+            inputs: None,
+            text: "second\n0 is a.web\n",
+        },
+        Web {
+            files: &[("a.web", b"second\n"), ("a.w", b"first\n")],
+            second: Some("a.web"),
+            inputs: None,
+            text: "first\n0 is a.w\n",
+        },
+    ];
+    compare_all(&rt, WEBS)?;
     are_refused(&rt, &[("lib/a.w", b"folder\n")], NOT_OPENED);
     Ok(())
 }
