@@ -55,19 +55,14 @@ pub fn merge<S: Shelf, E: From<Stop>, C: Case<S, E>>(
     names: &Names<'_>,
     case: &mut C,
 ) -> Result<(), E> {
-    let mut merger = start(rt.alloc(), shelf, names)?;
+    let Names {
+        web,
+        second,
+        change,
+        inputs,
+    } = *names;
+    let mut merger = Merger::start(rt.alloc(), shelf, web, second, change, inputs)?;
     ask_filling(rt, &mut merger, shelf, case)
-}
-
-fn start<S: Shelf>(alloc: Global, shelf: &mut S, names: &Names<'_>) -> Result<Merger<S>, Stop> {
-    Merger::start(
-        alloc,
-        shelf,
-        names.web,
-        names.second,
-        names.change,
-        names.inputs,
-    )
 }
 
 fn ask_filling<S: Shelf, E, C: Case<S, E>>(

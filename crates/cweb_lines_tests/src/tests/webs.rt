@@ -38,34 +38,23 @@ struct Web {
     text: &'static str,
 }
 
-fn compare(rt: &(impl AllocGlobal + Abort), web: &Web) -> Result<(), Fail> {
-    let names = Names {
-        second: web.second,
-        inputs: web.inputs,
-        ..WEB
-    };
-    merge_files(rt, web.files, &names, &mut Telling { text: web.text })
-}
-
 fn compare_all(rt: &(impl AllocGlobal + Abort), webs: &[Web]) -> Result<(), Fail> {
     for web in webs {
-        compare(rt, web)?;
+        let names = Names {
+            second: web.second,
+            inputs: web.inputs,
+            ..WEB
+        };
+        merge_files(rt, web.files, &names, &mut Telling { text: web.text })?;
     }
     Ok(())
 }
 
-// A web that can include two files.
-fn compare_including(rt: &(impl AllocGlobal + Abort), web: &[u8], text: &str) -> Result<(), Fail> {
-    let files = [("a.w", web), ("b", b"bee"), ("b c", b"quoted\n")];
-    merge_files(rt, &files, &WEB, &mut Telling { text })
-}
-
-fn compare_all_including(
-    rt: &(impl AllocGlobal + Abort),
-    rows: &[(&[u8], &str)],
-) -> Result<(), Fail> {
+// Webs that can include two files, and what is written and told of each.
+fn compare_including(rt: &(impl AllocGlobal + Abort), rows: &[(&[u8], &str)]) -> Result<(), Fail> {
     for (web, text) in rows {
-        compare_including(rt, *web, *text)?;
+        let files = [("a.w", *web), ("b", b"bee"), ("b c", b"quoted\n")];
+        merge_files(rt, &files, &WEB, &mut Telling { text: *text })?;
     }
     Ok(())
 }
@@ -86,7 +75,7 @@ fn lines(rt: HostRuntime) -> Result<(), Fail> {
         // a carriage return alone ends no line
         (b"x\ry\n", "x\ry\n0 is a.w\n"),
     ];
-    compare_all_including(&rt, ROWS)
+    compare_including(&rt, ROWS)
 }
 
 #[test]
@@ -107,14 +96,16 @@ fn include_lines(rt: HostRuntime) -> Result<(), Fail> {
         // no include lines
         (b" @i b\n@@i b\n@j b\n", " @i b\n@@i b\n@j b\n0 is a.w\n"),
     ];
-    compare_all_including(&rt, ROWS)
+    compare_including(&rt, ROWS)
 }
 
 #[test]
 fn a_file_that_includes_itself(rt: HostRuntime) -> Result<(), Fail> {
-    let want =
-        "P\nP\nP\nP\nP\nP\nP\nP\nP\nP\nP\nP\nP\nP\nP\nP\nP\nP\nP\nP\nQ\nQ\nQ\nQ\nQ\nQ\nQ\nQ\nQ\nQ\nQ\nQ\nQ\nQ\nQ\nQ\nQ\nQ\nQ\nQ\nTooDeep in 19 at 2\n0 is a.w\n1 is a.w\n2 is a.w\n3 is a.w\n4 is a.w\n5 is a.w\n6 is a.w\n7 is a.w\n8 is a.w\n9 is a.w\n10 is a.w\n11 is a.w\n12 is a.w\n13 is a.w\n14 is a.w\n15 is a.w\n16 is a.w\n17 is a.w\n18 is a.w\n19 is a.w\n";
-    compare_including(&rt, b"P\n@i a.w\nQ\n", want)
+    const ROW: (&[u8], &str) = (
+        b"P\n@i a.w\nQ\n",
+        "P\nP\nP\nP\nP\nP\nP\nP\nP\nP\nP\nP\nP\nP\nP\nP\nP\nP\nP\nP\nQ\nQ\nQ\nQ\nQ\nQ\nQ\nQ\nQ\nQ\nQ\nQ\nQ\nQ\nQ\nQ\nQ\nQ\nQ\nQ\nTooDeep in 19 at 2\n0 is a.w\n1 is a.w\n2 is a.w\n3 is a.w\n4 is a.w\n5 is a.w\n6 is a.w\n7 is a.w\n8 is a.w\n9 is a.w\n10 is a.w\n11 is a.w\n12 is a.w\n13 is a.w\n14 is a.w\n15 is a.w\n16 is a.w\n17 is a.w\n18 is a.w\n19 is a.w\n",
+    );
+    compare_including(&rt, &[ROW])
 }
 
 // The faults in the deepest file are of these kinds.
