@@ -9,6 +9,7 @@ mod items;
 mod merges;
 mod merging;
 mod options;
+mod tangling;
 mod told;
 mod wanted;
 mod web_faults;

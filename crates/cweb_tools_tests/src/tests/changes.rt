@@ -1,35 +1,32 @@
 // Runs with a change file.
-use super::merges::long_text;
 use super::merging::{
-    Merge, Run, Texts, check_log_fails, check_refused, check_run, check_runs, merged, merged_behind,
+    Run, Texts, check_log_fails, check_read, check_refused, check_run, check_runs,
 };
-use super::wanted::{holds, same_number};
-use std::alloc::AllocError;
+use super::wanted::holds;
 use std::process::Abort;
 
 /// The texts of `m.w`, `c.ch` and `inc.w`, and what a run over them has to write and to log.
 type Change<'a> = (&'a str, &'a str, &'a str, &'a str, &'a str);
 
 /// One run over `m.w`, `c.ch` and `inc.w`, and what it has to leave.
-fn check_change(rt: &(impl Abort + AllocGlobal), change: &Change) -> Result<(), AllocError> {
+fn check_change(rt: &(impl Abort + AllocGlobal), change: &Change) {
     let texts: Texts = &[
         ("m.w", change.0.as_bytes()),
         ("c.ch", change.1.as_bytes()),
         ("inc.w", change.2.as_bytes()),
     ];
     let status = u8::from(!change.4.is_empty());
-    check_run(rt, &(&["m", "c"], None, texts, change.3, change.4, status))
+    check_run(rt, &(&["m", "c"], None, texts, change.3, change.4, status));
 }
 
-fn check_changes(rt: &(impl Abort + AllocGlobal), changes: &[Change]) -> Result<(), AllocError> {
+fn check_changes(rt: &(impl Abort + AllocGlobal), changes: &[Change]) {
     for change in changes {
-        check_change(rt, change)?;
+        check_change(rt, change);
     }
-    Ok(())
 }
 
 #[test]
-fn changes_that_match(rt: HostRuntime) -> Result<(), AllocError> {
+fn changes_that_match(rt: HostRuntime) {
     const CHANGES: &[Change] = &[
         // an include line is compared before it is obeyed
         (
@@ -51,11 +48,11 @@ fn changes_that_match(rt: HostRuntime) -> Result<(), AllocError> {
         ("A\nB\n", "", "", "A\nB\n", ""),
         ("A\nB\n", "on this file\n", "", "A\nB\n", ""),
     ];
-    check_changes(&rt, CHANGES)
+    check_changes(&rt, CHANGES);
 }
 
 #[test]
-fn faults_of_change_files(rt: HostRuntime) -> Result<(), AllocError> {
+fn faults_of_change_files(rt: HostRuntime) {
     const CHANGES: &[Change] = &[
         // old lines over the end of an included file
         (
@@ -102,11 +99,11 @@ fn faults_of_change_files(rt: HostRuntime) -> Result<(), AllocError> {
             "c.ch:1: ! Change file ended before @z\n",
         ),
     ];
-    check_changes(&rt, CHANGES)
+    check_changes(&rt, CHANGES);
 }
 
 #[test]
-fn files_that_are_not_there(rt: HostRuntime) -> Result<(), AllocError> {
+fn files_that_are_not_there(rt: HostRuntime) {
     const HERE: Texts = &[("m.w", b"x\n"), ("n.web", b"x\n"), ("c.x.ch", b"")];
     const NO_CHANGE: &str = "! Cannot open change file gone.ch\n";
     const RUNS: &[Run] = &[
@@ -131,11 +128,11 @@ fn files_that_are_not_there(rt: HostRuntime) -> Result<(), AllocError> {
             1,
         ),
     ];
-    check_runs(&rt, RUNS)
+    check_runs(&rt, RUNS);
 }
 
 #[test]
-fn a_change_file_is_sought_by_its_name_alone(rt: HostRuntime) -> Result<(), AllocError> {
+fn a_change_file_is_sought_by_its_name_alone(rt: HostRuntime) {
     const RUN: Run = (
         &["m", "c"],
         Some("lib"),
@@ -144,75 +141,59 @@ fn a_change_file_is_sought_by_its_name_alone(rt: HostRuntime) -> Result<(), Allo
         "! Cannot open change file c.ch\n",
         1,
     );
-    check_run(&rt, &RUN)
+    check_run(&rt, &RUN);
 }
 
 #[test]
-fn a_line_of_a_change_file_too_long(rt: HostRuntime) -> Result<(), AllocError> {
-    let change = long_text(rt.alloc(), b"", 1_048_576)?;
-    let texts: Texts = &[("m.w", b"A\n"), ("c.ch", &change)];
+fn a_line_of_a_change_file_too_long(rt: HostRuntime) {
+    let change = "x".repeat(rt.alloc(), 1_048_576).expect(&rt, "memory");
     let stop = "! Line too long in c.ch\n";
-    check_run(&rt, &(&["m", "c"], None, texts, "", stop, 1))
+    check_change(&rt, &("A\n", change.as_str(), "", "", stop));
 }
 
-/// The texts of the runs in which something fails, and what such a run prints where nothing does.
 const TEXTS: Texts = &[
     ("m.w", b"one\ntwo\nthree\n@i gone\n"),
     ("c.ch", b"@x\ntwo\n@y\n2\n@z\n@x\nfour\n@y\n@z\n"),
 ];
 
-const MERGED: &[u8] = b"one\n2\nthree\n";
-
-const FAULTS: &[u8] = b"m.w:4: ! Cannot open include file\nc.ch:6: ! Change entry did not match\n";
+/// The run in which something fails, and what it leaves where nothing does.
+const RUN: Run = (
+    &["m", "c"],
+    None,
+    TEXTS,
+    "one\n2\nthree\n",
+    "m.w:4: ! Cannot open include file\nc.ch:6: ! Change entry did not match\n",
+    1,
+);
 
 // Run with each allocation failing in turn, it holds each time.
 #[test]
 fn memory_refused_in_a_change(rt: HostRuntime) {
-    if let Ok(left) = merged(rt.alloc(), &["m", "c"], None, TEXTS) {
-        check_refused(&rt, &left, MERGED, FAULTS);
-    }
-}
-
-const WEB_FAILED: &[u8] = b"! Read fault on m.w\n";
-
-const CHANGE_FAILED: &[u8] = b"! Read fault on c.ch\n";
-
-/// Whether a front of what is due was written, and why; all of it where no read failed.
-fn is_told(left: &Merge) -> bool {
-    match left.failures {
-        0 => left.out.bytes() == MERGED && left.logs(FAULTS),
-        _ => {
-            left.writes_a_front_of(MERGED) && (left.logs(WEB_FAILED) || left.logs(CHANGE_FAILED))
-        }
-    }
-}
-
-/// A run of which a read fails: whether it was one of the web, and one of the change file.
-fn read_fails(rt: &(impl Abort + AllocGlobal), good: u64) -> Result<(bool, bool), AllocError> {
-    let left = merged_behind(rt.alloc(), &["m", "c"], None, TEXTS, good)?;
-    same_number(rt, u64::from(left.status), 1);
-    holds(rt, is_told(&left));
-    Ok((left.logs(WEB_FAILED), left.logs(CHANGE_FAILED)))
+    check_refused(&rt, &RUN);
 }
 
 #[test]
-fn a_read_fails_in_a_change(rt: HostRuntime) -> Result<(), AllocError> {
+fn a_read_fails_in_a_change(rt: HostRuntime) {
+    const LINES: (&str, &str) = ("! Read fault on m.w\n", "! Read fault on c.ch\n");
     let mut in_web = false;
     let mut in_change = false;
     for good in 0..40 {
-        let (of_web, of_change) = read_fails(&rt, good)?;
-        in_web |= of_web;
-        in_change |= of_change;
+        let failed = check_read(&rt, &RUN, LINES, good);
+        in_web |= failed == Some(true);
+        in_change |= failed == Some(false);
     }
     holds(&rt, in_web && in_change);
-    Ok(())
 }
 
 #[test]
-fn the_log_fails_without_a_change_file(rt: HostRuntime) -> Result<(), AllocError> {
-    const LINE: &[u8] = b"! Cannot open change file gone.ch\n";
-    for good in 0..10 {
-        check_log_fails(&rt, &["m", "gone"], None, TEXTS, (b"", LINE), good)?;
-    }
-    Ok(())
+fn the_log_fails_without_a_change_file(rt: HostRuntime) {
+    const GONE: Run = (
+        &["m", "gone"],
+        None,
+        TEXTS,
+        "",
+        "! Cannot open change file gone.ch\n",
+        1,
+    );
+    check_log_fails(&rt, &GONE);
 }

@@ -3,21 +3,19 @@ use super::merging::{Run, check_run};
 use super::wanted::{same_name, same_text};
 use cweb_tools::MergeWords;
 use std::process::Abort;
-use std::test::Fail;
 
 /// Words, and the names that they stand for: the web's first and second, the change file's.
 type Row<'a> = (&'a [&'a str], &'a str, Option<&'a str>, Option<&'a str>);
 
-fn check_words(rt: &(impl Abort + AllocGlobal), row: &Row) -> Result<(), Fail> {
-    let read = MergeWords::read(rt.alloc(), row.0)?;
+fn check_words(rt: &(impl Abort + AllocGlobal), row: &Row) {
+    let read = MergeWords::read(rt.alloc(), row.0).expect(rt, "words");
     same_text(rt, read.web.as_str(), row.1);
     same_name(rt, read.second(), row.2);
     same_name(rt, read.change(), row.3);
-    Ok(())
 }
 
 #[test]
-fn names_of_words(rt: HostRuntime) -> Result<(), Fail> {
+fn names_of_words(rt: HostRuntime) {
     const ROWS: &[Row] = &[
         (&["m"], "m.w", Some("m.web"), None),
         (&["m.w"], "m.w", None, None),
@@ -33,13 +31,12 @@ fn names_of_words(rt: HostRuntime) -> Result<(), Fail> {
         (&["m.w", "c-+"], "m.w", None, Some("c-+.ch")),
     ];
     for row in ROWS {
-        check_words(&rt, row)?;
+        check_words(&rt, row);
     }
-    Ok(())
 }
 
 #[test]
-fn words_that_are_refused(rt: HostRuntime) -> Result<(), Fail> {
+fn words_that_are_refused(rt: HostRuntime) {
     const REFUSED: &[&[&str]] = &[
         &[],
         &[""],
@@ -61,16 +58,15 @@ fn words_that_are_refused(rt: HostRuntime) -> Result<(), Fail> {
     const TEXTS: &[(&str, &[u8])] = &[("m.w", b"x\n"), ("c.ch", b""), ("-.w", b"x\n")];
     const USAGE: &str = "! Usage: wmerge webfile[.w] [{changefile[.ch]|-}]\n";
     for words in REFUSED {
-        check_run(&rt, &(*words, None, TEXTS, "", USAGE, 1))?;
+        check_run(&rt, &(*words, None, TEXTS, "", USAGE, 1));
     }
-    Ok(())
 }
 
 // A file under the name `-`, or `-.ch`, is no change file.
 #[test]
-fn a_dash_opens_nothing(rt: HostRuntime) -> Result<(), Fail> {
+fn a_dash_opens_nothing(rt: HostRuntime) {
     const CHANGE: &[u8] = b"@x\nA\n@y\n@z\n";
     const TEXTS: &[(&str, &[u8])] = &[("m.w", b"A\n"), ("-", CHANGE), ("-.ch", CHANGE)];
     const RUN: Run = (&["m", "-"], None, TEXTS, "A\n", "", 0);
-    Ok(check_run(&rt, &RUN)?)
+    check_run(&rt, &RUN);
 }

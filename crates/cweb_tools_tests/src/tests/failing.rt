@@ -12,6 +12,17 @@ pub struct FailingBins {
     pub failed: u64,
 }
 
+impl FailingBins {
+    /// Bins that don't fail, unless they are told to.
+    pub fn new(bins: MemoryBins) -> Self {
+        FailingBins {
+            bins,
+            good: u64::MAX,
+            failed: 0,
+        }
+    }
+}
+
 impl Sink for FailingBins {
     ghost tells = { λ _. false };
 

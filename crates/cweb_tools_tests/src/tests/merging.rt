@@ -1,9 +1,6 @@
 // Runs of `wmerge` over texts, and what each has to leave.
-ghost use Rattle.std.specs.Prelude.{◌<◌, ◌+◌, ◌^◌};
-
-use super::told::ROOM;
-use super::wanted::{holds, same_bytes, same_number};
-use cweb_lines::{MemorySink, Shelf, Sink};
+use super::tangling::ROOM;
+use super::wanted::{holds, same_bytes};
 use cweb_tools::run_wmerge;
 use std::alloc::{AllocError, Global};
 use std::process::Abort;
@@ -11,69 +8,6 @@ use trial::{TrialShelf, TrialSink, shelf_of};
 
 /// Texts under their names.
 pub type Texts<'a> = &'a [(&'a str, &'a [u8])];
-
-/// What a run leaves, and how many reads failed in it.
-#[derive(Drop)]
-pub struct Merge {
-    pub status: u8,
-    pub out: MemorySink,
-    pub log: MemorySink,
-    pub failures: u64,
-}
-
-impl Merge {
-    pub fn logs(&self, lines: &[u8]) -> bool {
-        self.log.bytes() == lines
-    }
-
-    pub fn writes_a_front_of(&self, text: &[u8]) -> bool {
-        text.starts_with(self.out.bytes())
-    }
-}
-
-/// A run over a shelf.
-fn merged_over<S: Shelf>(
-    alloc: Global,
-    words: &[&str],
-    inputs: Option<&str>,
-    shelf: &mut S,
-) -> Result<Merge, AllocError>
-    requires { S.failed shelf.old + 1 < 2 ^ 64 }
-{
-    let mut out = MemorySink::with_room(alloc, ROOM)?;
-    let mut log = MemorySink::with_room(alloc, ROOM)?;
-    let status = run_wmerge(alloc, words, inputs, shelf, &mut out, &mut log);
-    let failures = shelf.failures();
-    Ok(Merge {
-        status,
-        out,
-        log,
-        failures,
-    })
-}
-
-/// A run over texts in memory.
-pub fn merged(
-    alloc: Global,
-    words: &[&str],
-    inputs: Option<&str>,
-    texts: Texts,
-) -> Result<Merge, AllocError> {
-    let mut shelf = shelf_of(alloc, texts)?;
-    merged_over(alloc, words, inputs, &mut shelf)
-}
-
-/// A run of which a read fails behind so many good ones.
-pub fn merged_behind(
-    alloc: Global,
-    words: &[&str],
-    inputs: Option<&str>,
-    texts: Texts,
-    good: u64,
-) -> Result<Merge, AllocError> {
-    let mut shelf = TrialShelf::failing_behind(shelf_of(alloc, texts)?, good);
-    merged_over(alloc, words, inputs, &mut shelf)
-}
 
 /// The words of a run, the folder of its includes and its texts, and what it has to write, to log and to answer.
 pub type Run<'a> = (
@@ -85,51 +19,179 @@ pub type Run<'a> = (
     u8,
 );
 
-/// One run over texts in memory, and what it has to leave.
-pub fn check_run(rt: &(impl Abort + AllocGlobal), run: &Run) -> Result<(), AllocError> {
-    let left = merged(rt.alloc(), run.0, run.1, run.2)?;
-    same_bytes(rt, left.log.bytes(), run.4.as_bytes());
-    same_bytes(rt, left.out.bytes(), run.3.as_bytes());
-    same_number(rt, u64::from(left.status), u64::from(run.5));
-    Ok(())
+/// What fails in a run, behind so many good calls.
+#[derive(Drop)]
+pub enum Failing {
+    Nothing,
+    Read(u64),
+    Write(u64),
+    Log(u64),
 }
 
-/// The same for each of many runs.
-pub fn check_runs(rt: &(impl Abort + AllocGlobal), runs: &[Run]) -> Result<(), AllocError> {
-    for run in runs {
-        check_run(rt, run)?;
+/// The devices of a run, and what it answers.
+#[derive(Drop)]
+pub struct Merge {
+    pub shelf: TrialShelf,
+    pub out: TrialSink,
+    pub log: TrialSink,
+    pub status: u8,
+}
+
+impl Merge {
+    fn over(alloc: Global, texts: Texts) -> Result<Merge, AllocError> {
+        let shelf = shelf_of(alloc, texts)?;
+        let out = TrialSink::with_room(alloc, ROOM)?;
+        let log = TrialSink::with_room(alloc, ROOM)?;
+        Ok(Merge {
+            shelf: TrialShelf::new(shelf),
+            out,
+            log,
+            status: 0,
+        })
     }
-    Ok(())
+
+    fn weaken(&mut self, failing: Failing) {
+        match failing {
+            Failing::Nothing => {}
+            Failing::Read(good) => {
+                self.shelf.most = 3;
+                self.shelf.fails_at = good.saturating_add(1);
+            }
+            Failing::Write(good) => {
+                self.out.most = 2;
+                self.out.fails_at = good.saturating_add(1);
+            }
+            Failing::Log(good) => {
+                self.log.most = 2;
+                self.log.fails_at = good.saturating_add(1);
+            }
+        }
+    }
+
+    /// Runs over the devices, whose failures are counted from here on.
+    fn run(&mut self, alloc: Global, words: &[&str], inputs: Option<&str>) {
+        self.shelf.failed = 0;
+        self.out.failed = 0;
+        self.log.failed = 0;
+        self.status = run_wmerge(
+            alloc,
+            words,
+            inputs,
+            &mut self.shelf,
+            &mut self.out,
+            &mut self.log,
+        );
+    }
+
+    fn logs(&self, lines: &str) -> bool {
+        self.log.bytes() == lines.as_bytes()
+    }
+
+    fn writes_a_front_of(&self, text: &str) -> bool {
+        text.as_bytes().starts_with(self.out.bytes())
+    }
+}
+
+/// A run over texts in memory.
+pub fn merged(alloc: Global, run: &Run, failing: Failing) -> Result<Merge, AllocError> {
+    let mut merge = Merge::over(alloc, run.2)?;
+    merge.weaken(failing);
+    merge.run(alloc, run.0, run.1);
+    Ok(merge)
+}
+
+/// A run leaves what it has to.
+fn check_left(rt: &impl Abort, left: &Merge, run: &Run) {
+    same_bytes(rt, left.log.bytes(), run.4.as_bytes());
+    same_bytes(rt, left.out.bytes(), run.3.as_bytes());
+    holds(rt, left.status == run.5);
+}
+
+pub fn check_run(rt: &(impl Abort + AllocGlobal), run: &Run) {
+    let left = merged(rt.alloc(), run, Failing::Nothing).expect(rt, "memory");
+    check_left(rt, &left, run);
+}
+
+pub fn check_runs(rt: &(impl Abort + AllocGlobal), runs: &[Run]) {
+    for run in runs {
+        check_run(rt, run);
+    }
 }
 
 /// A run in which memory may be refused, but then nothing else is wrong.
-pub fn check_refused(rt: &impl Abort, left: &Merge, text: &[u8], faults: &[u8]) {
-    same_number(rt, u64::from(left.status), 1);
-    if left.logs(faults) {
-        same_bytes(rt, left.out.bytes(), text);
-    } else {
-        same_bytes(rt, left.log.bytes(), b"! Out of memory\n");
-        holds(rt, left.writes_a_front_of(text));
+pub fn check_refused(rt: &(impl Abort + AllocGlobal), run: &Run) {
+    if let Ok(left) = merged(rt.alloc(), run, Failing::Nothing) {
+        check_left_refused(rt, &left, run);
     }
 }
 
-/// A run whose log fails behind so many good writes: it writes this text, and a front of these lines.
-pub fn check_log_fails(
+fn check_left_refused(rt: &impl Abort, left: &Merge, run: &Run) {
+    holds(rt, left.status == 1);
+    if left.logs(run.4) {
+        same_bytes(rt, left.out.bytes(), run.3.as_bytes());
+    } else {
+        same_bytes(rt, left.log.bytes(), b"! Out of memory\n");
+        holds(rt, left.writes_a_front_of(run.3));
+    }
+}
+
+/// A run of which a read fails behind so many good ones: it leaves all where none did, and else a front and the line of one of two
+/// files. Where one failed, whether it was one of the first file.
+pub fn check_read(
     rt: &(impl Abort + AllocGlobal),
-    words: &[&str],
-    inputs: Option<&str>,
-    texts: Texts,
-    wanted: (&[u8], &[u8]),
+    run: &Run,
+    lines: (&str, &str),
     good: u64,
-) -> Result<(), AllocError> {
-    let alloc = rt.alloc();
-    let mut shelf = shelf_of(alloc, texts)?;
-    let mut out = MemorySink::with_room(alloc, ROOM)?;
-    let mut log = TrialSink::failing_behind(alloc, ROOM, good)?;
-    let status = run_wmerge(alloc, words, inputs, &mut shelf, &mut out, &mut log);
-    same_number(rt, u64::from(status), 1);
-    same_number(rt, log.failures(), 1);
-    same_bytes(rt, out.bytes(), wanted.0);
-    holds(rt, wanted.1.starts_with(log.bytes()));
-    Ok(())
+) -> Option<bool> {
+    let left = merged(rt.alloc(), run, Failing::Read(good)).expect(rt, "memory");
+    holds(rt, left.status == 1);
+    check_left_of_read(rt, &left, run, lines)
+}
+
+fn check_left_of_read(
+    rt: &impl Abort,
+    left: &Merge,
+    run: &Run,
+    lines: (&str, &str),
+) -> Option<bool> {
+    if left.shelf.failed == 0 {
+        check_left(rt, left, run);
+        return None;
+    }
+    let is_of_first = left.logs(lines.0);
+    holds(rt, is_of_first || left.logs(lines.1));
+    holds(rt, left.writes_a_front_of(run.3));
+    Some(is_of_first)
+}
+
+/// A run of which a write fails behind so many good ones, or one that writes all; whether a write failed.
+pub fn check_write(rt: &(impl Abort + AllocGlobal), run: &Run, good: u64) -> bool {
+    let left = merged(rt.alloc(), run, Failing::Write(good)).expect(rt, "memory");
+    check_left_of_write(rt, &left, run)
+}
+
+fn check_left_of_write(rt: &impl Abort, left: &Merge, run: &Run) -> bool {
+    if left.out.failed == 0 {
+        check_left(rt, left, run);
+        return false;
+    }
+    holds(rt, left.status == 1);
+    same_bytes(rt, left.log.bytes(), b"! Write fault on standard output\n");
+    holds(rt, left.writes_a_front_of(run.3));
+    true
+}
+
+/// Runs whose log fails behind more and more good writes: each writes all, and a front of the lines.
+pub fn check_log_fails(rt: &(impl Abort + AllocGlobal), run: &Run) {
+    for good in 0..10 {
+        let left = merged(rt.alloc(), run, Failing::Log(good)).expect(rt, "memory");
+        check_left_of_log(rt, &left, run);
+    }
+}
+
+fn check_left_of_log(rt: &impl Abort, left: &Merge, run: &Run) {
+    holds(rt, left.status == 1);
+    holds(rt, left.log.failed == 1);
+    same_bytes(rt, left.out.bytes(), run.3.as_bytes());
+    holds(rt, run.4.as_bytes().starts_with(left.log.bytes()));
 }

@@ -4,7 +4,6 @@ use cweb_lines::Stop;
 use cweb_tools::{Options, Shown};
 use std::alloc::Global;
 use std::process::Abort;
-use std::test::Fail;
 
 /// What the option words show: banner, progress, closing line and statistics.
 fn shown(words: &[&str]) -> Option<[bool; 4]> {
@@ -15,10 +14,6 @@ fn shown(words: &[&str]) -> Option<[bool; 4]> {
         shown.closing,
         shown.statistics,
     ])
-}
-
-fn check_shown(rt: &impl Abort, words: &[&str], want: Option<[bool; 4]>) {
-    assert_eq!(rt; shown(words), want);
 }
 
 #[test]
@@ -35,7 +30,7 @@ fn option_words_stand_anywhere_and_later_letters_win(rt: HostRuntime) {
         (&["-", "+", "b-", ""], Some([true, true, true, false])),
     ];
     for (words, want) in ROWS {
-        check_shown(&rt, *words, *want);
+        holds(&rt, shown(*words) == *want);
     }
 }
 
@@ -48,21 +43,16 @@ type Row<'a> = (
     &'a str,
 );
 
-fn check_names(rt: &(impl Abort + AllocGlobal), row: &Row) -> Result<(), Fail> {
-    let read = Options::read(rt.alloc(), row.0)?;
+fn check_names(rt: &(impl Abort + AllocGlobal), row: &Row) {
+    let read = Options::read(rt.alloc(), row.0).expect(rt, "options");
     same_text(rt, read.web.as_str(), row.1);
-    same_name(rt, text_of(&read.second), row.2);
-    same_name(rt, text_of(&read.change), row.3);
+    same_name(rt, read.second(), row.2);
+    same_name(rt, read.change(), row.3);
     same_text(rt, read.main.as_str(), row.4);
-    Ok(())
-}
-
-fn text_of(name: &Option<String>) -> Option<&str> {
-    name.as_ref().map(|name| name.as_str())
 }
 
 #[test]
-fn names_of_webs_and_outputs(rt: HostRuntime) -> Result<(), Fail> {
+fn names_of_webs_and_outputs(rt: HostRuntime) {
     const ROWS: &[Row] = &[
         // the main output is named after the last part of the web's path, before its last dot
         (
@@ -84,9 +74,8 @@ fn names_of_webs_and_outputs(rt: HostRuntime) -> Result<(), Fail> {
         (&["/.w"], "/.w", None, None, ".c"),
     ];
     for row in ROWS {
-        check_names(&rt, row)?;
+        check_names(&rt, row);
     }
-    Ok(())
 }
 
 fn is_refused(alloc: Global, words: &[&str]) -> bool {

@@ -10,10 +10,6 @@ pub fn holds(rt: &impl Abort, is_so: bool)
     assert!(rt; is_so);
 }
 
-pub fn same_number(rt: &impl Abort, got: u64, want: u64) {
-    assert_eq!(rt; got, want);
-}
-
 pub fn same_text(rt: &impl Abort, got: &str, want: &str) {
     assert_eq!(rt; got, want);
 }
@@ -24,9 +20,4 @@ pub fn same_bytes(rt: &impl Abort, got: &[u8], want: &[u8]) {
 
 pub fn same_name(rt: &impl Abort, got: Option<&str>, want: Option<&str>) {
     assert_eq!(rt; got, want);
-}
-
-/// The same for a text that is needed no more.
-pub fn same_told(rt: &impl Abort, got: String, want: &str) {
-    same_text(rt, got.as_str(), want);
 }

@@ -1,23 +1,5 @@
 // Webs, and what a run over each leaves.
-use super::told::tangled;
-use super::wanted::same_told;
-use std::alloc::AllocError;
-use std::process::Abort;
-
-/// The words of a run, its texts, and what it leaves.
-type Run<'a> = (&'a [&'a str], &'a [(&'a str, &'a [u8])], &'a str);
-
-fn check_run(rt: &(impl Abort + AllocGlobal), run: &Run) -> Result<(), AllocError> {
-    same_told(rt, tangled(rt.alloc(), run.0, run.1)?, run.2);
-    Ok(())
-}
-
-fn check_runs(rt: &(impl Abort + AllocGlobal), runs: &[Run]) -> Result<(), AllocError> {
-    for run in runs {
-        check_run(rt, run)?;
-    }
-    Ok(())
-}
+use super::tangling::{Run, check_run, check_runs};
 
 const USAGE: &str =
     "! Usage: ctangle [options] webfile[.w] [{changefile[.ch]|-} [outfile[.c]]]\n== 1\n";
@@ -30,7 +12,7 @@ const HELLO: &[(&str, &[u8])] = &[(
 const ONE_WORD: &[(&str, &[u8])] = &[("a.w", b"@ @c x\n")];
 
 #[test]
-fn what_is_shown(rt: HostRuntime) -> Result<(), AllocError> {
+fn what_is_shown(rt: HostRuntime) {
     const RUNS: &[Run] = &[
         (
             &["hello"],
@@ -63,16 +45,16 @@ fn what_is_shown(rt: HostRuntime) -> Result<(), AllocError> {
             "k.w:1: ! Double @ in limbo\nk.w:2: ! @d, @f, @s, @c and @p are ignored in C text\nk.w:2: ! Use @l in limbo only\nk.w:2: ! Faulty ASCII constant\nk.w:2: ! Double @ in strings\n(Faults: 5.)\n== k.c\n/*1:*/\n#line 2 \"k.w\"\nint a;b \"x@y\"/*:1*/\n== 1\n",
         ),
     ];
-    check_runs(&rt, RUNS)
+    check_runs(&rt, RUNS);
 }
 
 #[test]
-fn no_words(rt: HostRuntime) -> Result<(), AllocError> {
-    check_run(&rt, &(&[], &[], USAGE))
+fn no_words(rt: HostRuntime) {
+    check_run(&rt, &(&[], &[], USAGE));
 }
 
 #[test]
-fn words_that_name_files(rt: HostRuntime) -> Result<(), AllocError> {
+fn words_that_name_files(rt: HostRuntime) {
     const RUNS: &[Run] = &[
         (&["-bph"], ONE_WORD, USAGE),
         (&["a", "-", "-"], ONE_WORD, USAGE),
@@ -106,11 +88,11 @@ fn words_that_name_files(rt: HostRuntime) -> Result<(), AllocError> {
             "== v.c\n/*1:*/\n#line 1 \"v.w\"\n\na;\n#line 4 \"v.ch\"\nB;\n#line 4 \"v.w\"\nc;/*:1*/\n== 0\n",
         ),
     ];
-    check_runs(&rt, RUNS)
+    check_runs(&rt, RUNS);
 }
 
 #[test]
-fn names(rt: HostRuntime) -> Result<(), AllocError> {
+fn names(rt: HostRuntime) {
     const RUNS: &[Run] = &[
         (
             &["-bph", "n"],
@@ -152,11 +134,11 @@ fn names(rt: HostRuntime) -> Result<(), AllocError> {
             "! Not present: <Q>\n== q.c\n/*1:*/\n#line 1 \"q.w\"\n#line 1 \"q.w\"\n/*:1*/\n== 1\n",
         ),
     ];
-    check_runs(&rt, RUNS)
+    check_runs(&rt, RUNS);
 }
 
 #[test]
-fn outputs_that_are_refused(rt: HostRuntime) -> Result<(), AllocError> {
+fn outputs_that_are_refused(rt: HostRuntime) {
     const RUNS: &[Run] = &[
         (
             &["-bph", "c"],
@@ -184,11 +166,11 @@ fn outputs_that_are_refused(rt: HostRuntime) -> Result<(), AllocError> {
             "This is CTANGLE, profile of CWEB 3\n! Bad output name: <..>\n(Faults: 1.)\n== 1\n",
         ),
     ];
-    check_runs(&rt, RUNS)
+    check_runs(&rt, RUNS);
 }
 
 #[test]
-fn printed_text(rt: HostRuntime) -> Result<(), AllocError> {
+fn printed_text(rt: HostRuntime) {
     const RUNS: &[Run] = &[
         (
             &["-bph", "s"],
@@ -256,11 +238,11 @@ fn printed_text(rt: HostRuntime) -> Result<(), AllocError> {
             "== j.c\n/*1:*/\n#line 2 \"j.w\"\n\nfoobar 97 9a  bfuer/*:1*/\n== 0\n",
         ),
     ];
-    check_runs(&rt, RUNS)
+    check_runs(&rt, RUNS);
 }
 
 #[test]
-fn text_that_ends_too_soon(rt: HostRuntime) -> Result<(), AllocError> {
+fn text_that_ends_too_soon(rt: HostRuntime) {
     const RUNS: &[Run] = &[
         (
             &["-bph", "u"],
@@ -293,5 +275,5 @@ fn text_that_ends_too_soon(rt: HostRuntime) -> Result<(), AllocError> {
             "u.w:1: ! Improper hex number after @l\n! No program text\n== u.c\n== 1\n",
         ),
     ];
-    check_runs(&rt, RUNS)
+    check_runs(&rt, RUNS);
 }

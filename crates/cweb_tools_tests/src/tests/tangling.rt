@@ -1,0 +1,102 @@
+// Runs of `ctangle` over texts. What a run leaves is told as text: its log, each file behind its name, its status.
+use super::failing::FailingBins;
+use super::told::Expected;
+use super::wanted::{holds, same_bytes};
+use cweb_out::{BinFile, MemoryBins};
+use cweb_tools::run_ctangle;
+use std::alloc::{AllocError, Global};
+use std::process::Abort;
+use trial::{TrialShelf, TrialSink, shelf_of};
+
+/// The room of a log and of each file: more than any text of these tests.
+pub const ROOM: usize = 4096;
+
+/// So many files have room.
+const FILES: usize = 8;
+
+/// The devices of a run, and what it answers. No device fails, unless it is told to.
+#[derive(Drop)]
+pub struct Tangle {
+    pub shelf: TrialShelf,
+    pub bins: FailingBins,
+    pub log: TrialSink,
+    pub status: u8,
+}
+
+impl Tangle {
+    pub fn over(alloc: Global, texts: &[(&str, &[u8])]) -> Result<Tangle, AllocError> {
+        let shelf = shelf_of(alloc, texts)?;
+        let bins = MemoryBins::with_room(alloc, FILES, ROOM)?;
+        let log = TrialSink::with_room(alloc, ROOM)?;
+        Ok(Tangle {
+            shelf: TrialShelf::new(shelf),
+            bins: FailingBins::new(bins),
+            log,
+            status: 0,
+        })
+    }
+
+    /// Runs over the devices, whose failures are counted from here on.
+    pub fn run(&mut self, alloc: Global, words: &[&str]) {
+        self.shelf.failed = 0;
+        self.bins.failed = 0;
+        self.log.failed = 0;
+        self.status = run_ctangle(
+            alloc,
+            words,
+            None,
+            &mut self.shelf,
+            &mut self.bins,
+            &mut self.log,
+        );
+    }
+
+    /// Tells the files and the status.
+    pub fn tell_files(&self, told: &mut Expected) {
+        for file in self.bins.bins.files() {
+            tell_file(file, told);
+        }
+        told.tell(if self.status == 0 {
+            b"== 0\n"
+        } else {
+            b"== 1\n"
+        });
+    }
+}
+
+fn tell_file(file: &BinFile, told: &mut Expected) {
+    told.tell(b"== ");
+    told.tell(file.name.as_bytes());
+    told.tell(b"\n");
+    told.tell(&file.bytes);
+}
+
+/// What a run over texts in memory leaves.
+fn tangled(alloc: Global, words: &[&str], texts: &[(&str, &[u8])]) -> Result<Tangle, AllocError> {
+    let mut run = Tangle::over(alloc, texts)?;
+    run.run(alloc, words);
+    Ok(run)
+}
+
+/// The words of a run, its texts, and what it leaves.
+pub type Run<'a> = (&'a [&'a str], &'a [(&'a str, &'a [u8])], &'a str);
+
+/// A run leaves just this: where it doesn't, what stands in this text from there on is shown.
+fn check_left(rt: &impl Abort, run: &Tangle, text: &str) {
+    let mut told = Expected::new(text.as_bytes());
+    told.tell(run.log.bytes());
+    run.tell_files(&mut told);
+    same_bytes(rt, told.rest, b"");
+    holds(rt, told.is_met());
+}
+
+pub fn check_run(rt: &(impl Abort + AllocGlobal), run: &Run) {
+    let left = tangled(rt.alloc(), run.0, run.1).expect(rt, "memory");
+    check_left(rt, &left, run.2);
+}
+
+pub fn check_runs(rt: &(impl Abort + AllocGlobal), runs: &[Run]) {
+    for run in runs {
+        check_run(rt, run);
+    }
+}
