@@ -3,7 +3,6 @@ use super::wanted::{holds, same_number};
 use cweb_files::Sink;
 use cweb_out::{BinFault, BinFile, Bins, MemoryBins};
 use std::process::Abort;
-use std::test::Fail;
 
 // A file is begun, written in pieces and committed or given up; false where a call failed.
 fn put<B: Bins>(bins: &mut B, name: &str, pieces: &[&[u8]], commits: bool) -> bool {
@@ -48,10 +47,9 @@ fn replaces(rt: &impl Abort, bins: &mut MemoryBins) {
 }
 
 #[test]
-fn a_committed_draft_takes_the_place_of_the_file_of_its_name(rt: HostRuntime) -> Result<(), Fail> {
-    let mut bins = MemoryBins::with_room(rt.alloc(), 2, 8)?;
+fn a_committed_draft_takes_the_place_of_the_file_of_its_name(rt: HostRuntime) {
+    let mut bins = MemoryBins::with_room(rt.alloc(), 2, 8).expect(&rt, "memory");
     replaces(&rt, &mut bins);
-    Ok(())
 }
 
 fn gives_up(rt: &impl Abort, bins: &mut MemoryBins) {
@@ -70,11 +68,10 @@ fn leaves_open(rt: &impl Abort, bins: &mut MemoryBins) {
 }
 
 #[test]
-fn a_draft_that_is_given_up_leaves_the_files(rt: HostRuntime) -> Result<(), Fail> {
-    let mut bins = MemoryBins::with_room(rt.alloc(), 1, 8)?;
+fn a_draft_that_is_given_up_leaves_the_files(rt: HostRuntime) {
+    let mut bins = MemoryBins::with_room(rt.alloc(), 1, 8).expect(&rt, "memory");
     gives_up(&rt, &mut bins);
     leaves_open(&rt, &mut bins);
-    Ok(())
 }
 
 fn fails_without_a_draft(rt: &impl Abort, bins: &mut MemoryBins) {
@@ -90,10 +87,9 @@ fn fails_without_a_draft(rt: &impl Abort, bins: &mut MemoryBins) {
 }
 
 #[test]
-fn without_a_draft_writes_and_commits_fail(rt: HostRuntime) -> Result<(), Fail> {
-    let mut bins = MemoryBins::with_room(rt.alloc(), 1, 8)?;
+fn without_a_draft_writes_and_commits_fail(rt: HostRuntime) {
+    let mut bins = MemoryBins::with_room(rt.alloc(), 1, 8).expect(&rt, "memory");
     fails_without_a_draft(&rt, &mut bins);
-    Ok(())
 }
 
 // Whether a file is the one of its name, and whole.
@@ -114,10 +110,9 @@ fn are_whole(rt: &impl Abort, bins: &MemoryBins, has_a: bool, has_b: bool) {
 
 // Nothing is lost or cut where memory ends: each call succeeds, or the files are as they were.
 #[test]
-fn a_refused_growth_leaves_the_files(rt: HostRuntime) -> Result<(), Fail> {
-    let mut bins = MemoryBins::with_room(rt.alloc(), 0, 0)?;
+fn a_refused_growth_leaves_the_files(rt: HostRuntime) {
+    let mut bins = MemoryBins::with_room(rt.alloc(), 0, 0).expect(&rt, "memory");
     let has_a = put(&mut bins, "a.c", &[b"old"], true);
     let has_b = put(&mut bins, "b.c", &[b"b"], true);
     are_whole(&rt, &bins, has_a, has_b);
-    Ok(())
 }

@@ -1,30 +1,24 @@
 // What is asked of the stores of webs. No other function of these tests holds a store or a merger: each that does takes as long to
-// prove as ten that borrow them. A growth that is refused is asked for once more, since it is refused only once.
+// prove as ten that borrow them. What memory was refused for is made once more, since it is refused only once.
 use super::webs::store_of;
 use cweb_files::MemoryShelf;
-use cweb_lines::{FileNames, Merger};
+use cweb_lines::{FileNames, Merger, Stop};
 use cweb_store::Store;
 use std::alloc::{AllocError, Global};
 use std::process::Abort;
-use std::test::Fail;
+use trial::shelf_of;
 
 /// What is asked of a store, whose line marks are about files of these names.
 pub trait Case {
-    fn look<A: Abort>(
-        &self,
-        rt: &A,
-        alloc: Global,
-        store: &Store,
-        names: &FileNames,
-    ) -> Result<(), Fail>;
+    fn look<A: Abort>(&self, rt: &A, alloc: Global, store: &Store, names: &FileNames);
 }
 
 /// The names of the files that line marks are about.
 pub const FILES: (&str, Option<&str>) = ("s.w", Some("a\\b\".ch"));
 
 /// Asks this of the store of a web.
-pub fn check<C: Case>(rt: &impl Abort, alloc: Global, web: &[u8], case: &C) -> Result<(), Fail> {
-    check_files(rt, alloc, FILES, web, case)
+pub fn check<C: Case>(rt: &impl Abort, alloc: Global, web: &[u8], case: &C) {
+    check_files(rt, alloc, FILES, web, case);
 }
 
 /// The same, where the files have these names.
@@ -34,54 +28,27 @@ pub fn check_files<C: Case>(
     files: (&str, Option<&str>),
     web: &[u8],
     case: &C,
-) -> Result<(), Fail> {
-    let mut shelf = MemoryShelf::new(alloc);
-    put_again(&mut shelf, files.0)?;
-    if let Some(change) = files.1 {
-        put_again(&mut shelf, change)?;
-    }
-    check_over(rt, alloc, &mut shelf, files, web, case)
+) {
+    let merger = begun_again(alloc, files).expect(rt, "memory");
+    check_named(rt, alloc, merger.names(), web, case);
 }
 
-fn put_again(shelf: &mut MemoryShelf, name: &str) -> Result<(), AllocError> {
-    match shelf.put(name, b"") {
-        Ok(()) => Ok(()),
-        Err(_) => shelf.put(name, b""),
-    }
-}
-
-fn check_over<C: Case>(
-    rt: &impl Abort,
-    alloc: Global,
-    shelf: &mut MemoryShelf,
-    files: (&str, Option<&str>),
-    web: &[u8],
-    case: &C,
-) -> Result<(), Fail> {
-    let merger = start_again(alloc, shelf, files)?;
-    check_named(rt, alloc, merger.names(), web, case)
-}
-
-fn start_again(
-    alloc: Global,
-    shelf: &mut MemoryShelf,
-    files: (&str, Option<&str>),
-) -> Result<Merger<MemoryShelf>, Fail> {
-    match Merger::start(alloc, shelf, files.0, None, files.1, None) {
+fn begun_again(alloc: Global, files: (&str, Option<&str>)) -> Result<Merger<MemoryShelf>, Stop> {
+    match begun(alloc, files) {
         Ok(merger) => Ok(merger),
-        Err(_) => Ok(Merger::start(alloc, shelf, files.0, None, files.1, None)?),
+        Err(_) => begun(alloc, files),
     }
 }
 
-fn check_named<C: Case>(
-    rt: &impl Abort,
-    alloc: Global,
-    names: &FileNames,
-    web: &[u8],
-    case: &C,
-) -> Result<(), Fail> {
-    let store = made_again(rt, alloc, web)?;
-    case.look(rt, alloc, &store, names)
+fn begun(alloc: Global, files: (&str, Option<&str>)) -> Result<Merger<MemoryShelf>, Stop> {
+    let change = files.1.unwrap_or("no.ch");
+    let mut shelf = shelf_of(alloc, &[(files.0, b""), (change, b"")])?;
+    Merger::start(alloc, &mut shelf, files.0, None, files.1, None)
+}
+
+fn check_named<C: Case>(rt: &impl Abort, alloc: Global, names: &FileNames, web: &[u8], case: &C) {
+    let store = made_again(rt, alloc, web).expect(rt, "memory");
+    case.look(rt, alloc, &store, names);
 }
 
 fn made_again(rt: &impl Abort, alloc: Global, web: &[u8]) -> Result<Store, AllocError> {

@@ -7,11 +7,10 @@ use super::told::print_file;
 use super::wanted::{holds, same_bytes, same_number};
 use cweb_files::{Sink, SinkFault};
 use cweb_lines::FileNames;
-use cweb_out::{BinFault, Bins, Expander, MemoryBins, Plan, PlanFault, plan};
+use cweb_out::{BinFault, Bins, Expander, MemoryBins, Plan, plan};
 use cweb_store::Store;
 use std::alloc::{AllocError, Global};
 use std::process::Abort;
-use std::test::Fail;
 use trial::TrialSink;
 
 const NAME: &str = "s\".w";
@@ -31,10 +30,10 @@ fn print(
     names: &FileNames,
     gathers: bool,
     good: u64,
-) -> Result<bool, PlanFault> {
+) -> Result<bool, AllocError> {
     match plan(alloc, store, "s.c") {
-        Ok(plan) => Ok(print_plan(rt, alloc, store, &plan, names, gathers, good)?),
-        Err(fault) => Err(fault),
+        Ok(plan) => print_plan(rt, alloc, store, &plan, names, gathers, good),
+        Err(_) => Err(AllocError),
     }
 }
 
@@ -82,12 +81,11 @@ fn prints_all(
     gathers: bool,
     good: u64,
 ) -> bool {
-    let first = match print(rt, alloc, store, names, gathers, good) {
-        Err(PlanFault::Memory) => print(rt, alloc, store, names, gathers, good),
-        other => other,
+    let printed = match print(rt, alloc, store, names, gathers, good) {
+        Err(_) => print(rt, alloc, store, names, gathers, good),
+        printed => printed,
     };
-    holds(rt, first.is_ok());
-    matches!(first, Ok(true))
+    printed.expect(rt, "memory, or a plan")
 }
 
 // How many writes fail, each in turn, before all is printed.
@@ -109,51 +107,37 @@ fn faults_of(
 }
 
 // Token by token, more writes fail than pieces of two bytes are printed.
-#[derive(Clone, Copy)]
+#[derive(Drop)]
 struct TokenByToken;
 
 impl Case for TokenByToken {
-    fn look<A: Abort>(
-        &self,
-        rt: &A,
-        alloc: Global,
-        store: &Store,
-        names: &FileNames,
-    ) -> Result<(), Fail> {
+    fn look<A: Abort>(&self, rt: &A, alloc: Global, store: &Store, names: &FileNames) {
         let faults = faults_of(rt, alloc, store, names, false);
         holds(rt, faults > PRINTED.len() / 2);
         holds(rt, faults < 1000);
-        Ok(())
     }
 }
 
 // Run by `rt try --test --fail-alloc N` too, which refuses the Nth growth: then no token changes.
 #[test]
-fn a_front_is_written_up_to_a_fault(rt: HostRuntime) -> Result<(), Fail> {
-    check_files(&rt, rt.alloc(), (NAME, None), FILE, &TokenByToken)
+fn a_front_is_written_up_to_a_fault(rt: HostRuntime) {
+    check_files(&rt, rt.alloc(), (NAME, None), FILE, &TokenByToken);
 }
 
 // Gathered, all is one piece, of which the sink takes two bytes a write.
-#[derive(Clone, Copy)]
+#[derive(Drop)]
 struct InOnePiece;
 
 impl Case for InOnePiece {
-    fn look<A: Abort>(
-        &self,
-        rt: &A,
-        alloc: Global,
-        store: &Store,
-        names: &FileNames,
-    ) -> Result<(), Fail> {
+    fn look<A: Abort>(&self, rt: &A, alloc: Global, store: &Store, names: &FileNames) {
         let faults = faults_of(rt, alloc, store, names, true);
         holds(rt, faults == PRINTED.len() / 2 + PRINTED.len() % 2);
-        Ok(())
     }
 }
 
 #[test]
-fn a_front_is_written_of_what_was_gathered(rt: HostRuntime) -> Result<(), Fail> {
-    check_files(&rt, rt.alloc(), (NAME, None), FILE, &InOnePiece)
+fn a_front_is_written_of_what_was_gathered(rt: HostRuntime) {
+    check_files(&rt, rt.alloc(), (NAME, None), FILE, &InOnePiece);
 }
 
 // A file is begun, where memory is refused once more, and the bins are as they were.
@@ -193,10 +177,9 @@ fn small_bins(alloc: Global) -> Result<MemoryBins, AllocError> {
 }
 
 #[test]
-fn memory_that_is_refused_for_a_file(rt: HostRuntime) -> Result<(), Fail> {
-    let mut bins = small_bins(rt.alloc())?;
+fn memory_that_is_refused_for_a_file(rt: HostRuntime) {
+    let mut bins = small_bins(rt.alloc()).expect(&rt, "memory");
     start(&rt, &mut bins, "s.c");
     write_each(&rt, &mut bins, PRINTED);
     is_committed(&rt, &mut bins);
-    Ok(())
 }

@@ -4,7 +4,7 @@ ghost use Rattle.cweb_out.specs.Frames.{Stands};
 ghost use Rattle.cweb_out.specs.Outputs.{IsPlanOf};
 
 use super::cases::{Case, check};
-use super::long_webs::{letters, links, repeated, text, uses};
+use super::long_webs::{chain, repeated};
 use super::told::{MANY, is_named, print_file};
 use super::wanted::{holds, same_bytes, same_number};
 use cweb_files::{Sink, SinkFault};
@@ -13,7 +13,6 @@ use cweb_out::{Expander, Gathered, Plan, Printer, plan};
 use cweb_store::Store;
 use std::alloc::{AllocError, Global};
 use std::process::Abort;
-use std::test::Fail;
 use trial::TrialSink;
 
 // So many bytes are gathered.
@@ -58,23 +57,17 @@ pub fn gather_all<W: Sink>(
 }
 
 // The bytes of the file of a web, and the writes that it takes, gathered: its bytes are those that are written token by token.
-#[derive(Clone, Copy)]
+#[derive(Drop)]
 struct Sizes {
     bytes: usize,
     writes: u64,
 }
 
 impl Case for Sizes {
-    fn look<A: Abort>(
-        &self,
-        rt: &A,
-        alloc: Global,
-        store: &Store,
-        names: &FileNames,
-    ) -> Result<(), Fail> {
+    fn look<A: Abort>(&self, rt: &A, alloc: Global, store: &Store, names: &FileNames) {
         match plan(alloc, store, "f.c") {
-            Ok(plan) => printed(rt, alloc, store, &plan, names, *self),
-            Err(_) => Err(Fail::new("no plan")),
+            Ok(plan) => printed(rt, alloc, store, &plan, names, self),
+            Err(_) => holds(rt, false),
         }
     }
 }
@@ -85,17 +78,16 @@ fn printed(
     store: &Store,
     plan: &Plan,
     names: &FileNames,
-    sizes: Sizes,
-) -> Result<(), Fail>
+    sizes: &Sizes,
+)
     requires { IsPlanOf store.now plan.now }
 {
     holds(rt, plan.outputs() > 0);
-    let pieces = gathered(rt, alloc, store, plan, names)?;
-    let tokens = token_by_token(rt, alloc, store, plan, names)?;
+    let pieces = gathered(rt, alloc, store, plan, names);
+    let tokens = token_by_token(rt, alloc, store, plan, names);
     same_bytes(rt, pieces.bytes(), tokens.bytes());
-    same_number(rt, pieces.bytes().len() as u64, sizes.bytes as u64);
+    holds(rt, pieces.bytes().len() == sizes.bytes);
     same_number(rt, pieces.writes, sizes.writes);
-    Ok(())
 }
 
 // The first output of a plan, gathered.
@@ -105,15 +97,15 @@ fn gathered(
     store: &Store,
     plan: &Plan,
     names: &FileNames,
-) -> Result<TrialSink, AllocError>
+) -> TrialSink
     requires some { 0 < length plan.now.outputs }
     requires made { IsPlanOf store.now plan.now }
 {
-    let mut expander = Expander::new(alloc, store, plan, 0)?;
-    let mut pieces = TrialSink::with_room(alloc, 4 * ROOM)?;
-    let gathered = gather_all(rt, alloc, &mut expander, names, &mut pieces)?;
-    holds(rt, gathered.is_ok());
-    Ok(pieces)
+    let mut expander = Expander::new(alloc, store, plan, 0).expect(rt, "memory");
+    let mut pieces = TrialSink::new(alloc);
+    let gathered = gather_all(rt, alloc, &mut expander, names, &mut pieces);
+    holds(rt, gathered == Ok(Ok(())));
+    pieces
 }
 
 // The same, written token by token.
@@ -123,53 +115,50 @@ fn token_by_token(
     store: &Store,
     plan: &Plan,
     names: &FileNames,
-) -> Result<TrialSink, AllocError>
+) -> TrialSink
     requires some { 0 < length plan.now.outputs }
     requires made { IsPlanOf store.now plan.now }
 {
-    let mut expander = Expander::new(alloc, store, plan, 0)?;
-    let mut tokens = TrialSink::with_room(alloc, 4 * ROOM)?;
+    let mut expander = Expander::new(alloc, store, plan, 0).expect(rt, "memory");
+    let mut tokens = TrialSink::new(alloc);
     holds(
         rt,
         print_file(rt, &mut expander, names, &mut tokens).is_ok(),
     );
-    Ok(tokens)
+    tokens
 }
 
 // The file of a web has so many bytes, and takes so many writes.
-fn takes(
+fn takes(rt: &impl Abort, alloc: Global, web: &[u8], bytes: usize, writes: u64) {
+    check(rt, alloc, web, &Sizes { bytes, writes });
+}
+
+// The file of a web of so many words has so many bytes, and takes so many writes.
+fn takes_repeated(
     rt: &impl Abort,
     alloc: Global,
-    web: &[u8],
+    web: (&str, &str, usize, &str),
     bytes: usize,
     writes: u64,
-) -> Result<(), Fail> {
-    check(rt, alloc, web, &Sizes { bytes, writes })
+) {
+    let web = repeated(alloc, web.0, web.1, web.2, web.3).expect(rt, "memory");
+    takes(rt, alloc, web.as_bytes(), bytes, writes);
 }
 
-fn takes_letters(rt: &impl Abort, alloc: Global, size: usize) -> Result<(), Fail> {
-    let web = letters(alloc, size)?;
-    takes(rt, alloc, &web, size.saturating_add(1), 1)
-}
-
-// A short word is gathered in one move or two, by its length.
+// A short word is gathered in one move or two, by its length. Each of its letters is another one than those beside it.
 #[test]
-fn a_word_of_each_length(rt: HostRuntime) -> Result<(), Fail> {
+fn a_word_of_each_length(rt: HostRuntime) {
+    const LETTERS: &str = "abcdefghijklmnopqrstuvwxyzabcdefghijklm";
     for size in 1..40_usize {
-        takes_letters(&rt, rt.alloc(), size)?;
+        let letters = LETTERS.get(..size).unwrap_or("");
+        takes_repeated(&rt, rt.alloc(), (": w", letters, 1, ""), size + 1, 1);
     }
-    Ok(())
-}
-
-fn takes_text(rt: &impl Abort, alloc: Global, size: usize, writes: u64) -> Result<(), Fail> {
-    let web = text(alloc, size)?;
-    takes(rt, alloc, &web, size.saturating_add(2), writes)
 }
 
 // The newline at the end is gathered behind the text, unless there is no room for a short text. A text that has no room is
 // written behind what is gathered.
 #[test]
-fn a_text_at_the_end_of_the_room(rt: HostRuntime) -> Result<(), Fail> {
+fn a_text_at_the_end_of_the_room(rt: HostRuntime) {
     const ROWS: &[(usize, u64)] = &[
         (ROOM - 257, 1),
         (ROOM - 256, 2),
@@ -178,64 +167,56 @@ fn a_text_at_the_end_of_the_room(rt: HostRuntime) -> Result<(), Fail> {
         (3 * ROOM, 3),
     ];
     for (size, writes) in ROWS {
-        takes_text(&rt, rt.alloc(), *size, *writes)?;
+        let web = (": wa v", "x", *size, "");
+        takes_repeated(&rt, rt.alloc(), web, size.saturating_add(2), *writes);
     }
-    Ok(())
-}
-
-// The file of a web of so many tokens of a kind has so many bytes, and takes so many writes.
-fn takes_repeated(
-    rt: &impl Abort,
-    alloc: Global,
-    word: &str,
-    count: u32,
-    wanted: (usize, u64),
-) -> Result<(), Fail> {
-    let web = repeated(alloc, word, count)?;
-    takes(rt, alloc, &web, wanted.0, wanted.1)
 }
 
 // Words of two bytes, with a blank between them.
 #[test]
-fn words_across_the_end_of_the_room(rt: HostRuntime) -> Result<(), Fail> {
-    takes_repeated(&rt, rt.alloc(), " wab", 50_000, (150_000, 3))
+fn words_across_the_end_of_the_room(rt: HostRuntime) {
+    takes_repeated(&rt, rt.alloc(), (":", " wab", 50_000, ""), 150_000, 3);
 }
 
 // Section comments of six bytes, a word and a newline.
 #[test]
-fn comments_across_the_end_of_the_room(rt: HostRuntime) -> Result<(), Fail> {
-    takes_repeated(&rt, rt.alloc(), " [7 wx ]7 $", 10_000, (140_000, 3))
+fn comments_across_the_end_of_the_room(rt: HostRuntime) {
+    let web = (":", " [7 wx ]7 $", 10_000, "");
+    takes_repeated(&rt, rt.alloc(), web, 140_000, 3);
 }
 
 // Names that give nothing, and a name of two parts.
 #[test]
-fn names_that_give_nothing_and_names_of_two_parts(rt: HostRuntime) -> Result<(), Fail> {
-    takes(&rt, rt.alloc(), b": <A <B p; <A =A wx <B =C =A wy <C", 8, 1)
+fn names_that_give_nothing_and_names_of_two_parts(rt: HostRuntime) {
+    takes(&rt, rt.alloc(), b": <A <B p; <A =A wx <B =C =A wy <C", 8, 1);
 }
 
 // A name of two bytes, which is used so often.
 #[test]
-fn uses_across_the_end_of_the_room(rt: HostRuntime) -> Result<(), Fail> {
-    let web = uses(rt.alloc(), 50_000)?;
-    takes(&rt, rt.alloc(), &web, 100_001, 2)
+fn uses_across_the_end_of_the_room(rt: HostRuntime) {
+    let web = (":", " <A", 50_000, " =A wx p;");
+    takes_repeated(&rt, rt.alloc(), web, 100_001, 2);
 }
 
+// Names of one token, of which each uses the next one behind it.
 #[test]
-fn a_chain_across_the_end_of_the_room(rt: HostRuntime) -> Result<(), Fail> {
-    let web = links(rt.alloc())?;
-    takes(&rt, rt.alloc(), &web, 99_991, 2)
+fn a_chain_across_the_end_of_the_room(rt: HostRuntime) {
+    let web = chain(rt.alloc(), 9_999, 1, " wabcdefghi", " p;").expect(&rt, "memory");
+    takes(&rt, rt.alloc(), web.as_bytes(), 99_991, 2);
 }
 
 // Section comments behind operators, with a blank before each.
 #[test]
-fn comments_behind_operators(rt: HostRuntime) -> Result<(), Fail> {
-    takes_repeated(&rt, rt.alloc(), " p+ [7 p- ]7 $", 10_000, (170_000, 3))
+fn comments_behind_operators(rt: HostRuntime) {
+    let web = (":", " p+ [7 p- ]7 $", 10_000, "");
+    takes_repeated(&rt, rt.alloc(), web, 170_000, 3);
 }
 
 // Line marks of 14 bytes, a word and a newline; and marks behind a join, which are dropped.
 #[test]
-fn marks_across_the_end_of_the_room(rt: HostRuntime) -> Result<(), Fail> {
-    takes_repeated(&rt, rt.alloc(), " m7 wx $", 10_000, (160_000, 3))?;
-    let joined = " m7 wx & m8 [9 m9 wy";
-    takes_repeated(&rt, rt.alloc(), joined, 5_000, (120_000, 2))
+fn marks_across_the_end_of_the_room(rt: HostRuntime) {
+    let web = (":", " m7 wx $", 10_000, "");
+    takes_repeated(&rt, rt.alloc(), web, 160_000, 3);
+    let joined = (":", " m7 wx & m8 [9 m9 wy", 5_000, "");
+    takes_repeated(&rt, rt.alloc(), joined, 120_000, 2);
 }

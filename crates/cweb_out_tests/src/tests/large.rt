@@ -1,50 +1,24 @@
 // Webs with many names.
-ghost use Rattle.std.specs.Prelude.{◌≡◌, ◌≤◌, ◌<◌, length, vec_capacity};
+ghost use Rattle.std.specs.Prelude.{◌<◌, length, vec_capacity};
 ghost use Rattle.cweb_out.specs.Frames.{Stands};
 ghost use Rattle.cweb_out.specs.Outputs.{IsPlanOf};
 
 use super::cases::{Case, check};
+use super::long_webs::chain;
 use super::outputs::tells_web;
-use super::wanted::{holds, same_number};
+use super::wanted::holds;
 use cweb_lines::FileNames;
 use cweb_out::{Expander, Plan, PlanFault, plan};
 use cweb_store::{NameId, Store, Token};
 use std::alloc::Global;
 use std::process::Abort;
-use std::test::Fail;
-
-fn add(web: &mut Vec<u8>, alloc: Global, sign: &str, name: u32) -> Result<(), Fail> {
-    let word = format!(in alloc; " {sign}{name}")?;
-    web.extend_from_slice(word.as_bytes())?;
-    Ok(())
-}
-
-// A web whose program uses name 0 so often, and where each name uses the next one so often, up to a last name, whose text
-// is this.
-fn chain(alloc: Global, last: u32, uses: u32, text: &str) -> Result<Vec<u8>, Fail>
-    requires { last ≤ 10_000 }
-{
-    let mut web = Vec::from_slice(alloc, b":")?;
-    for name in 0..last + 1 {
-        for _ in 0..uses {
-            add(&mut web, alloc, "<", name)?;
-        }
-        add(&mut web, alloc, "=", name)?;
-    }
-    web.extend_from_slice(text.as_bytes())?;
-    Ok(web)
-}
-
-fn gives(rt: &impl Abort, got: Option<Token<'_>>, want: Token<'_>) {
-    assert_eq!(rt; got, Some(want));
-}
 
 // How many times an expander gives the word x in so many calls behind the first, which gives Defs, and its greatest depth.
 // Other tokens are not given.
 fn counted(rt: &impl Abort, expander: &mut Expander<'_>, calls: u32) -> (u32, u32)
     requires { Stands expander.old.store.now expander.old.frames.items (vec_capacity expander.old.frames) }
 {
-    gives(rt, expander.next(), Token::Defs);
+    holds(rt, expander.next() == Some(Token::Defs));
     let mut count = 0;
     let mut depth = 0;
     'calls: for _ in 0..calls {
@@ -53,7 +27,7 @@ fn counted(rt: &impl Abort, expander: &mut Expander<'_>, calls: u32) -> (u32, u3
         if token.is_none() {
             break;
         }
-        gives(rt, token, Token::Word(b"x"));
+        holds(rt, token == Some(Token::Word(b"x")));
         holds(rt, count < 1_000_000);
         count += 1;
     }
@@ -61,7 +35,7 @@ fn counted(rt: &impl Abort, expander: &mut Expander<'_>, calls: u32) -> (u32, u3
 }
 
 // What is counted of the main file of a web in so many calls.
-#[derive(Clone, Copy)]
+#[derive(Drop)]
 struct Counts {
     calls: u32,
     count: u32,
@@ -69,54 +43,33 @@ struct Counts {
 }
 
 impl Case for Counts {
-    fn look<A: Abort>(
-        &self,
-        rt: &A,
-        alloc: Global,
-        store: &Store,
-        _: &FileNames,
-    ) -> Result<(), Fail> {
+    fn look<A: Abort>(&self, rt: &A, alloc: Global, store: &Store, _: &FileNames) {
         match plan(alloc, store, "s.c") {
-            Ok(plan) => count_plan(rt, alloc, store, &plan, *self),
-            Err(_) => Err(Fail::new("no plan")),
+            Ok(plan) => count_plan(rt, alloc, store, &plan, self),
+            Err(_) => holds(rt, false),
         }
     }
 }
 
-fn count_plan(
-    rt: &impl Abort,
-    alloc: Global,
-    store: &Store,
-    plan: &Plan,
-    counts: Counts,
-) -> Result<(), Fail>
+fn count_plan(rt: &impl Abort, alloc: Global, store: &Store, plan: &Plan, counts: &Counts)
     requires some { 0 < length plan.now.outputs }
     requires made { IsPlanOf store.now plan.now }
 {
-    let mut expander = Expander::new(alloc, store, plan, 0)?;
+    let mut expander = Expander::new(alloc, store, plan, 0).expect(rt, "memory");
     let (count, depth) = counted(rt, &mut expander, counts.calls);
-    same_number(rt, u64::from(count), u64::from(counts.count));
-    same_number(rt, u64::from(depth), u64::from(counts.depth));
-    Ok(())
+    holds(rt, count == counts.count);
+    holds(rt, depth == counts.depth);
 }
 
 // A web whose names use the next ones so often is counted so.
-fn counts_chain(
-    rt: &impl Abort,
-    alloc: Global,
-    last: u32,
-    uses: u32,
-    wanted: Counts,
-) -> Result<(), Fail>
-    requires { last ≤ 10_000 }
-{
-    let web = chain(alloc, last, uses, " wx")?;
-    check(rt, alloc, &web, &wanted)
+fn counts_chain(rt: &impl Abort, alloc: Global, last: u32, uses: u32, wanted: &Counts) {
+    let web = chain(alloc, last, uses, "", " wx").expect(rt, "memory");
+    check(rt, alloc, web.as_bytes(), wanted);
 }
 
 // Each name uses the next one twice.
 #[test]
-fn names_that_double(rt: HostRuntime) -> Result<(), Fail> {
+fn names_that_double(rt: HostRuntime) {
     const TEN: Counts = Counts {
         calls: 2000,
         count: 1024,
@@ -127,39 +80,32 @@ fn names_that_double(rt: HostRuntime) -> Result<(), Fail> {
         count: 1000,
         depth: 61,
     };
-    counts_chain(&rt, rt.alloc(), 9, 2, TEN)?;
-    counts_chain(&rt, rt.alloc(), 59, 2, SIXTY)
+    counts_chain(&rt, rt.alloc(), 9, 2, &TEN);
+    counts_chain(&rt, rt.alloc(), 59, 2, &SIXTY);
 }
 
 #[test]
-fn a_chain_of_ten_thousand_names(rt: HostRuntime) -> Result<(), Fail> {
+fn a_chain_of_ten_thousand_names(rt: HostRuntime) {
     const COUNTS: Counts = Counts {
         calls: 10,
         count: 1,
         depth: 10_001,
     };
-    let web = chain(rt.alloc(), 9_999, 1, " wx")?;
-    check(&rt, rt.alloc(), &web, &COUNTS)?;
-    tells_web(&rt, rt.alloc(), &web, b"s.c: x\n")
+    let web = chain(rt.alloc(), 9_999, 1, "", " wx").expect(&rt, "memory");
+    check(&rt, rt.alloc(), web.as_bytes(), &COUNTS);
+    tells_web(&rt, rt.alloc(), web.as_bytes(), b"s.c: x\n");
 }
 
 // A cycle of so many names, in their order, with the first once more at the end.
-#[derive(Clone, Copy)]
+#[derive(Drop)]
 struct Cycle(usize);
 
 impl Case for Cycle {
-    fn look<A: Abort>(
-        &self,
-        rt: &A,
-        alloc: Global,
-        store: &Store,
-        _: &FileNames,
-    ) -> Result<(), Fail> {
+    fn look<A: Abort>(&self, rt: &A, alloc: Global, store: &Store, _: &FileNames) {
         match plan(alloc, store, "s.c") {
             Err(PlanFault::Cycle(names)) => is_cycle(rt, &names, self.0),
-            _ => return Err(Fail::new("no cycle")),
+            _ => holds(rt, false),
         }
-        Ok(())
     }
 }
 
@@ -172,7 +118,7 @@ fn is_cycle(rt: &impl Abort, names: &[NameId], size: usize) {
 }
 
 #[test]
-fn a_cycle_of_ten_thousand_names(rt: HostRuntime) -> Result<(), Fail> {
-    let web = chain(rt.alloc(), 9_999, 1, " wx <0")?;
-    check(&rt, rt.alloc(), &web, &Cycle(10_000))
+fn a_cycle_of_ten_thousand_names(rt: HostRuntime) {
+    let web = chain(rt.alloc(), 9_999, 1, "", " wx <0").expect(&rt, "memory");
+    check(&rt, rt.alloc(), web.as_bytes(), &Cycle(10_000));
 }

@@ -1,53 +1,51 @@
 // Long webs, as text.
 use std::alloc::{AllocError, Global};
 
-/// A web of so many tokens of a kind.
-pub fn repeated(alloc: Global, word: &str, count: u32) -> Result<Vec<u8>, AllocError> {
-    let mut web = Vec::from_slice(alloc, b":")?;
-    for _ in 0..count {
-        web.extend_from_slice(word.as_bytes())?;
+/// A web of so many words between others.
+pub fn repeated(
+    alloc: Global,
+    front: &str,
+    words: &str,
+    count: usize,
+    back: &str,
+) -> Result<String, AllocError> {
+    let words = words.repeat(alloc, count)?;
+    [front, words.as_str(), back].concat(alloc)
+}
+
+fn add(web: &mut String, alloc: Global, sign: &str, name: u32) -> Result<(), AllocError> {
+    let word = format!(in alloc; " {sign}{name}")?;
+    web.push_str(word.as_str())
+}
+
+// So many uses of a name, and the name with this text.
+fn add_link(
+    web: &mut String,
+    alloc: Global,
+    name: u32,
+    uses: u32,
+    text: &str,
+) -> Result<(), AllocError> {
+    for _ in 0..uses {
+        add(web, alloc, "<", name)?;
     }
-    Ok(web)
+    add(web, alloc, "=", name)?;
+    web.push_str(text)
 }
 
-/// A web of a word and a text.
-pub fn text(alloc: Global, size: usize) -> Result<Vec<u8>, AllocError> {
-    let mut web = Vec::from_slice(alloc, b": wa v")?;
-    for _ in 0..size {
-        web.push(b'x')?;
+/// A web whose program uses name 0 so often, and where each name has a text and uses the next one so often, up to a last name,
+/// whose text is another.
+pub fn chain(
+    alloc: Global,
+    last: u32,
+    uses: u32,
+    text: &str,
+    last_text: &str,
+) -> Result<String, AllocError> {
+    let mut web = ":".repeat(alloc, 1)?;
+    for name in 0..last {
+        add_link(&mut web, alloc, name, uses, text)?;
     }
-    Ok(web)
-}
-
-/// A web of a word of so many letters, each another one than those beside it.
-pub fn letters(alloc: Global, size: usize) -> Result<Vec<u8>, AllocError> {
-    let mut web = Vec::from_slice(alloc, b": w")?;
-    for place in 0..size {
-        web.push(b"abcdefghijklmnopqrstuvwxyz"[place % 26])?;
-    }
-    Ok(web)
-}
-
-/// A web that uses a name so often.
-pub fn uses(alloc: Global, count: u32) -> Result<Vec<u8>, AllocError> {
-    let mut web = repeated(alloc, " <A", count)?;
-    web.extend_from_slice(b" =A wx p;")?;
-    Ok(web)
-}
-
-// A part of a name that uses the next one.
-fn add_link(web: &mut Vec<u8>, alloc: Global, name: u32) -> Result<(), AllocError> {
-    let next = name.saturating_add(1);
-    let part = format!(in alloc; " ={name} wabcdefghi <{next}")?;
-    web.extend_from_slice(part.as_bytes())
-}
-
-/// Names of one token, of which each uses the next one behind it.
-pub fn links(alloc: Global) -> Result<Vec<u8>, AllocError> {
-    let mut web = Vec::from_slice(alloc, b": <0")?;
-    for name in 0u32..9_999 {
-        add_link(&mut web, alloc, name)?;
-    }
-    web.extend_from_slice(b" =9999 p;")?;
+    add_link(&mut web, alloc, last, uses, last_text)?;
     Ok(web)
 }

@@ -2,49 +2,40 @@
 use super::cases::{Case, check};
 use super::told::tell_outputs;
 use super::wanted::same_bytes;
-use cweb_files::MemorySink;
 use cweb_lines::FileNames;
 use cweb_store::Store;
 use std::alloc::Global;
 use std::process::Abort;
-use std::test::Fail;
+use trial::TrialSink;
 
 /// The name of a main file, and what is told of a web with it.
-#[derive(Clone, Copy)]
+#[derive(Drop)]
 pub struct Outputs<'a> {
     pub main: &'a str,
     pub text: &'a [u8],
 }
 
 impl Case for Outputs<'_> {
-    fn look<A: Abort>(
-        &self,
-        rt: &A,
-        alloc: Global,
-        store: &Store,
-        names: &FileNames,
-    ) -> Result<(), Fail> {
-        let mut out = MemorySink::with_room(alloc, 1000)?;
-        tell_outputs(rt, alloc, store, names, self.main, &mut out)?;
+    fn look<A: Abort>(&self, rt: &A, alloc: Global, store: &Store, names: &FileNames) {
+        let mut out = TrialSink::new(alloc);
+        tell_outputs(rt, alloc, store, names, self.main, &mut out);
         same_bytes(rt, out.bytes(), self.text);
-        Ok(())
     }
 }
 
-fn tells(rt: &impl Abort, alloc: Global, rows: &[(&str, &str)]) -> Result<(), Fail> {
+fn tells(rt: &impl Abort, alloc: Global, rows: &[(&str, &str)]) {
     for (web, text) in rows {
-        tells_web(rt, alloc, web.as_bytes(), text.as_bytes())?;
+        tells_web(rt, alloc, web.as_bytes(), text.as_bytes());
     }
-    Ok(())
 }
 
 /// This is told of a web whose main file is s.c.
-pub fn tells_web(rt: &impl Abort, alloc: Global, web: &[u8], text: &[u8]) -> Result<(), Fail> {
-    check(rt, alloc, web, &Outputs { main: "s.c", text })
+pub fn tells_web(rt: &impl Abort, alloc: Global, web: &[u8], text: &[u8]) {
+    check(rt, alloc, web, &Outputs { main: "s.c", text });
 }
 
 #[test]
-fn blanks_between_tokens(rt: HostRuntime) -> Result<(), Fail> {
+fn blanks_between_tokens(rt: HostRuntime) {
     const ROWS: &[(&str, &str)] = &[
         (": wa wb n1 l'c' l\"d\" we", "s.c: a b 1 'c'\"d\" e\n"),
         (": n1 p. n2 p.. n3 p+= n4 p* n5", "s.c: 1 . 2 .. 3 +=4*5\n"),
@@ -60,21 +51,21 @@ fn blanks_between_tokens(rt: HostRuntime) -> Result<(), Fail> {
             "s.c: /*1:*/\n#line 1 \"s.w\"\n\nx= -1;a* -b;y=0xe +1;q=a/ /*2:*/\n#line 3 \"s.w\"\nb/*:2*/\n#line 2 \"s.w\"\n;\n/*:1*/\n",
         ),
     ];
-    tells(&rt, rt.alloc(), ROWS)
+    tells(&rt, rt.alloc(), ROWS);
 }
 
 #[test]
-fn layout_behind_a_join(rt: HostRuntime) -> Result<(), Fail> {
+fn layout_behind_a_join(rt: HostRuntime) {
     const ROWS: &[(&str, &str)] = &[
         (": p/ & [2 m1 wb", "s.c: / /*2:*/b\n"),
         (": wa & _ $ m2 [2 ]2 $ wb $ wc", "s.c: a /*2:*//*:2*/b\nc\n"),
         (": wa & & _ vb _ wc &", "s.c: ab c\n"),
     ];
-    tells(&rt, rt.alloc(), ROWS)
+    tells(&rt, rt.alloc(), ROWS);
 }
 
 #[test]
-fn macro_lines(rt: HostRuntime) -> Result<(), Fail> {
+fn macro_lines(rt: HostRuntime) {
     const ROWS: &[(&str, &str)] = &[
         (
             "# wf p( wx p) wx p+ n1 # wg _ p( wx p) # wN # wtwo _ n1 p+ $ n2 : [1 m7 $ wf p( n3 p) ]1",
@@ -92,22 +83,22 @@ fn macro_lines(rt: HostRuntime) -> Result<(), Fail> {
             "s.c: #define M 1\na.h: /*1:*/\n#line 2 \"s.w\"\n\nint m=\"x/*:1*/\n",
         ),
     ];
-    tells(&rt, rt.alloc(), ROWS)
+    tells(&rt, rt.alloc(), ROWS);
 }
 
 // A byte from 128 on is replaced in words, and nowhere else.
 #[test]
-fn replaced_bytes(rt: HostRuntime) -> Result<(), Fail> {
+fn replaced_bytes(rt: HostRuntime) {
     const ROWS: &[(&str, &str)] = &[
         (": wfür n\u{fc}", "s.c: fXC3XBCr \u{fc}\n"),
         ("%Cu %<e : wfür vü", "s.c: fuerü\n"),
         ("%Cq %< %Cu # wü wö : wü", "s.c: #define u uXB6\nu\n"),
     ];
-    tells(&rt, rt.alloc(), ROWS)
+    tells(&rt, rt.alloc(), ROWS);
 }
 
 #[test]
-fn line_marks(rt: HostRuntime) -> Result<(), Fail> {
+fn line_marks(rt: HostRuntime) {
     const ROWS: &[(&str, &str)] = &[
         (
             ": M4 wa m10 M4294",
@@ -115,11 +106,11 @@ fn line_marks(rt: HostRuntime) -> Result<(), Fail> {
         ),
         (": wa $ m1 wb", "s.c: a\n#line 1 \"s.w\"\nb\n"),
     ];
-    tells(&rt, rt.alloc(), ROWS)
+    tells(&rt, rt.alloc(), ROWS);
 }
 
 #[test]
-fn names_are_replaced_by_their_parts(rt: HostRuntime) -> Result<(), Fail> {
+fn names_are_replaced_by_their_parts(rt: HostRuntime) {
     const ROWS: &[(&str, &str)] = &[
         (
             ": [1 m1 <A m1 $ ]1 =A [2 m2 wa p; $ ]2 =A [3 m3 wb p; ]3",
@@ -134,11 +125,11 @@ fn names_are_replaced_by_their_parts(rt: HostRuntime) -> Result<(), Fail> {
         (": wa ?zz wb <Q wc", "s.c: a b c\n"),
         (": wa <A wb =A <Q wx <Q", "s.c: a x b\n"),
     ];
-    tells(&rt, rt.alloc(), ROWS)
+    tells(&rt, rt.alloc(), ROWS);
 }
 
 #[test]
-fn outputs_and_their_order(rt: HostRuntime) -> Result<(), Fail> {
+fn outputs_and_their_order(rt: HostRuntime) {
     const ROWS: &[(&str, &str)] = &[
         ("", "s.c: no text"),
         ("# wM", "s.c: #define M\nno text"),
@@ -150,12 +141,12 @@ fn outputs_and_their_order(rt: HostRuntime) -> Result<(), Fail> {
         ),
         ("@a.h @d/b.h : wx (d/b.h wy", "s.c: x\nd/b.h: y\n"),
     ];
-    tells(&rt, rt.alloc(), ROWS)
+    tells(&rt, rt.alloc(), ROWS);
 }
 
 // A cycle is a fault where an output reaches it. A file's walk begins with its own name.
 #[test]
-fn cycles(rt: HostRuntime) -> Result<(), Fail> {
+fn cycles(rt: HostRuntime) {
     const ROWS: &[(&str, &str)] = &[
         (": <A =A <B =B <A", "cycle <A> <B> <A>"),
         (": wx =A <B =B <A", "s.c: x\n"),
@@ -166,12 +157,12 @@ fn cycles(rt: HostRuntime) -> Result<(), Fail> {
         ("(f <A =A <f : wx", "cycle <f> <A> <f>"),
         ("(g <g (f <A =A <f : <f", "cycle <f> <A> <f>"),
     ];
-    tells(&rt, rt.alloc(), ROWS)
+    tells(&rt, rt.alloc(), ROWS);
 }
 
 // Names that no file can have come first, in the order of the outputs, then the main file's name, then cycles.
 #[test]
-fn the_first_fault_is_told(rt: HostRuntime) -> Result<(), Fail> {
+fn the_first_fault_is_told(rt: HostRuntime) {
     const ROWS: &[(&str, &str)] = &[
         (": <A =A <A (a/ wx", "bad name <a/>"),
         ("@c/ (b/ wx (a/ wx", "bad name <b/>"),
@@ -180,44 +171,44 @@ fn the_first_fault_is_told(rt: HostRuntime) -> Result<(), Fail> {
         ("@s.c : wx", "same name <s.c>"),
         ("(d/s.c wx : wy", "s.c: y\nd/s.c: x\n"),
     ];
-    tells(&rt, rt.alloc(), ROWS)
+    tells(&rt, rt.alloc(), ROWS);
 }
 
-// A file of the web has no such name, nor has the main file.
-fn refuses_name(rt: &impl Abort, alloc: Global, name: &str) -> Result<(), Fail> {
-    let web = format!(in alloc; "({name} wx")?;
-    let text = format!(in alloc; "bad name <{name}>")?;
-    tells_web(rt, alloc, web.as_bytes(), text.as_bytes())
-}
-
-fn refuses_main(rt: &impl Abort, alloc: Global, name: &str) -> Result<(), Fail> {
-    let outputs = Outputs {
-        main: name,
-        text: b"bad main name",
-    };
-    check(rt, alloc, b": wx", &outputs)
-}
-
-// A file of the web may have this name.
-fn takes_name(rt: &impl Abort, alloc: Global, name: &str) -> Result<(), Fail> {
-    let web = format!(in alloc; "({name} wx")?;
-    let text = format!(in alloc; "s.c: {name}: x\n")?;
-    tells_web(rt, alloc, web.as_bytes(), text.as_bytes())
+// The main file has none of these names.
+fn refuses_main(rt: &impl Abort, alloc: Global, names: &[&str]) {
+    for name in names {
+        let outputs = Outputs {
+            main: *name,
+            text: b"bad main name",
+        };
+        check(rt, alloc, b": wx", &outputs);
+    }
 }
 
 #[test]
-fn no_file_has_these_names(rt: HostRuntime) -> Result<(), Fail> {
+fn no_file_has_these_names(rt: HostRuntime) {
     const REFUSED: &[&str] = &[
         "", ".", "..", "a/", "a/.", "/..", "a\n", "\u{1f}", "\u{7f}/b",
     ];
-    const TAKEN: &[&str] = &["...", ".a", "a.", "a/..b", "\u{80}"];
-    for name in REFUSED {
-        refuses_name(&rt, rt.alloc(), *name)?;
-        refuses_main(&rt, rt.alloc(), *name)?;
-    }
-    for name in TAKEN {
-        takes_name(&rt, rt.alloc(), *name)?;
-    }
+    const ROWS: &[(&str, &str)] = &[
+        ("( wx", "bad name <>"),
+        ("(. wx", "bad name <.>"),
+        ("(.. wx", "bad name <..>"),
+        ("(a/ wx", "bad name <a/>"),
+        ("(a/. wx", "bad name <a/.>"),
+        ("(/.. wx", "bad name </..>"),
+        ("(a\n wx", "bad name <a\n>"),
+        ("(\u{1f} wx", "bad name <\u{1f}>"),
+        ("(\u{7f}/b wx", "bad name <\u{7f}/b>"),
+        // these are taken
+        ("(... wx", "s.c: ...: x\n"),
+        ("(.a wx", "s.c: .a: x\n"),
+        ("(a. wx", "s.c: a.: x\n"),
+        ("(a/..b wx", "s.c: a/..b: x\n"),
+        ("(\u{80} wx", "s.c: \u{80}: x\n"),
+    ];
+    refuses_main(&rt, rt.alloc(), REFUSED);
+    tells(&rt, rt.alloc(), ROWS);
     // a name that isn't UTF-8
-    tells_web(&rt, rt.alloc(), b"(a\xff wx", b"bad name <a\xff>")
+    tells_web(&rt, rt.alloc(), b"(a\xff wx", b"bad name <a\xff>");
 }

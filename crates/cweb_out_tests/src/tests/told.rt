@@ -8,20 +8,20 @@ ghost use Rattle.cweb_print.specs.Printers.{IsNamed};
 ghost use Rattle.cweb_print.specs.Printing.{Setting};
 
 use super::wanted::holds;
-use cweb_files::{MemorySink, Sink, SinkFault};
+use cweb_files::{Sink, SinkFault};
 use cweb_lines::FileNames;
 use cweb_out::{Expander, Plan, PlanFault, Printer, plan};
 use cweb_store::{NameId, Store, Token};
 use std::alloc::Global;
 use std::process::Abort;
-use std::test::Fail;
+use trial::TrialSink;
 
 // Tests have fewer tokens than this.
 pub const MANY: u32 = 1_000_000;
 
-fn tell(rt: &impl Abort, out: &mut MemorySink, piece: &[u8]) {
-    holds(rt, out.failures() == 0);
-    holds(rt, out.write(piece) == Ok(piece.len()));
+fn tell(rt: &impl Abort, out: &mut TrialSink, piece: &[u8]) {
+    holds(rt, out.failed == 0);
+    holds(rt, out.write(piece).is_ok());
 }
 
 pub fn is_named(names: &FileNames, token: &Token<'_>) -> bool
@@ -58,28 +58,28 @@ pub fn print_file<W: Sink>(
     printer.end(out)
 }
 
-fn tell_name(rt: &impl Abort, store: &Store, name: NameId, out: &mut MemorySink) {
+fn tell_name(rt: &impl Abort, store: &Store, name: NameId, out: &mut TrialSink) {
     holds(rt, name.0 < store.names());
     tell(rt, out, b" <");
     tell(rt, out, store.name_text(name));
     tell(rt, out, b">");
 }
 
-fn tell_fault(rt: &impl Abort, store: &Store, fault: PlanFault, out: &mut MemorySink) {
+fn tell_fault(rt: &impl Abort, store: &Store, fault: &PlanFault, out: &mut TrialSink) {
     match fault {
         PlanFault::Memory => tell(rt, out, b"memory"),
         PlanFault::BadName(None) => tell(rt, out, b"bad main name"),
         PlanFault::BadName(Some(name)) => {
             tell(rt, out, b"bad name");
-            tell_name(rt, store, name, out);
+            tell_name(rt, store, *name, out);
         }
         PlanFault::SameName(name) => {
             tell(rt, out, b"same name");
-            tell_name(rt, store, name, out);
+            tell_name(rt, store, *name, out);
         }
         PlanFault::Cycle(names) => {
             tell(rt, out, b"cycle");
-            for name in &names {
+            for name in names {
                 tell_name(rt, store, *name, out);
             }
         }
@@ -92,12 +92,12 @@ fn tell_planned(
     store: &Store,
     plan: &Plan,
     names: &FileNames,
-    out: &mut MemorySink,
-) -> Result<(), Fail>
+    out: &mut TrialSink,
+)
     requires { IsPlanOf store.now plan.now }
 {
     holds(rt, plan.outputs() > 0);
-    let mut expander = Expander::new(alloc, store, plan, 0)?;
+    let mut expander = Expander::new(alloc, store, plan, 0).expect(rt, "memory");
     'outputs: for number in 0..plan.outputs() {
         tell(rt, out, plan.output_name(number).as_bytes());
         tell(rt, out, b": ");
@@ -107,7 +107,6 @@ fn tell_planned(
     if plan.no_text() {
         tell(rt, out, b"no text");
     }
-    Ok(())
 }
 
 /// Tells the outputs of a store, whose main file has this name.
@@ -117,13 +116,10 @@ pub fn tell_outputs(
     store: &Store,
     names: &FileNames,
     main: &str,
-    out: &mut MemorySink,
-) -> Result<(), Fail> {
+    out: &mut TrialSink,
+) {
     match plan(alloc, store, main) {
         Ok(plan) => tell_planned(rt, alloc, store, &plan, names, out),
-        Err(fault) => {
-            tell_fault(rt, store, fault, out);
-            Ok(())
-        }
+        Err(fault) => tell_fault(rt, store, &fault, out),
     }
 }
