@@ -1,28 +1,31 @@
 // Files of a real folder, which are replaced whole. One function holds its path and one the bins: each that does takes long to
 // prove.
 use super::puts::*;
-use super::wanted::same_number;
+use super::wanted::holds;
 use cweb_out::Bins;
 use cweb_tools::{FilesRead, FolderBins, Held};
 use std::process::Abort;
 use std::rt::{Env, Files};
-use std::test::Fail;
 use std::{env, fs};
 
 /// A new folder, by its path.
-fn new_folder<R: Files + Env + AllocGlobal>(rt: &R) -> Result<String, Fail> {
-    let top = env::temp_dir(rt)?;
+fn new_folder(rt: &(impl Abort + Files + Env + AllocGlobal)) -> String {
+    let top = env::temp_dir(rt).expect(rt, "a folder of temporary files");
+    new_folder_in(rt, top.as_str()).expect(rt, "a name that is free")
+}
+
+fn new_folder_in(rt: &(impl Abort + Files + AllocGlobal), top: &str) -> Option<String> {
     for number in 0..10_000 {
-        let path = format!(in rt.alloc(); "{}/cweb_tools-{number}", top.as_str())?;
+        let path = format!(in rt.alloc(); "{top}/cweb_tools-{number}").expect(rt, "memory");
         if fs::create_dir(rt, path.as_str()).is_ok() {
-            return Ok(path);
+            return Some(path);
         }
     }
-    Err(Fail::new("no folder"))
+    None
 }
 
 /// What is done with the bins of a folder.
-#[derive(Clone, Copy)]
+#[derive(Drop)]
 enum Step {
     PutTexts,
     PutWhereNoneCanStand,
@@ -38,12 +41,12 @@ enum Step {
 
 impl Step {
     fn take<B: Bins>(
-        self,
+        &self,
         rt: &(impl Abort + Env + Files<File: Held> + AllocGlobal),
         read: &FilesRead,
         bins: &mut B,
         folder: &str,
-    ) -> Result<(), Fail> {
+    ) {
         match self {
             Step::PutTexts => put_texts(rt, bins, folder),
             Step::PutWhereNoneCanStand => put_where_none_can_stand(rt, bins, folder),
@@ -53,10 +56,7 @@ impl Step {
             Step::PutAgain => put_again(rt, bins, folder),
             Step::PutWhatWasRead => put_what_was_read(rt, read, bins, folder),
             Step::OpenWhatIsClosed => open_what_is_closed(rt, folder),
-            Step::HasFailed(count) => {
-                same_number(rt, bins.failures(), count);
-                Ok(())
-            }
+            Step::HasFailed(count) => holds(rt, bins.failures() == *count),
         }
     }
 }
@@ -68,11 +68,11 @@ fn run_behind(
     folder: &str,
     before: &[Step],
     steps: &[Step],
-) -> Result<(), Fail> {
+) {
     let read = FilesRead::new(host.alloc());
     let mut first = FolderBins::new(host.alloc(), host, &read);
-    run(rt, &read, &mut first, folder, before)?;
-    run_once(host, rt, &read, folder, steps)
+    run(rt, &read, &mut first, folder, before);
+    run_once(host, rt, &read, folder, steps);
 }
 
 fn run_once(
@@ -81,9 +81,9 @@ fn run_once(
     read: &FilesRead,
     folder: &str,
     steps: &[Step],
-) -> Result<(), Fail> {
+) {
     let mut bins = FolderBins::new(host.alloc(), host, read);
-    run(rt, read, &mut bins, folder, steps)
+    run(rt, read, &mut bins, folder, steps);
 }
 
 fn run<B: Bins>(
@@ -92,11 +92,10 @@ fn run<B: Bins>(
     bins: &mut B,
     folder: &str,
     steps: &[Step],
-) -> Result<(), Fail> {
+) {
     for step in steps {
-        step.take(rt, read, bins, folder)?;
+        step.take(rt, read, bins, folder);
     }
-    Ok(())
 }
 
 /// Runs in a new folder.
@@ -105,26 +104,25 @@ fn check(
     rt: &(impl Abort + Env + Files<File: Held> + AllocGlobal),
     before: &[Step],
     steps: &[Step],
-) -> Result<(), Fail> {
-    let folder = new_folder(rt)?;
-    run_behind(host, rt, folder.as_str(), before, steps)?;
-    fs::remove_dir_all(rt, folder.as_str())?;
-    Ok(())
+) {
+    let folder = new_folder(rt);
+    run_behind(host, rt, folder.as_str(), before, steps);
+    fs::remove_dir_all(rt, folder.as_str()).expect(rt, "the folder");
 }
 
 #[test]
-fn files_of_a_folder_are_replaced_whole(rt: HostRuntime) -> Result<(), Fail> {
+fn files_of_a_folder_are_replaced_whole(rt: HostRuntime) {
     const STEPS: &[Step] = &[
         Step::PutTexts,
         Step::PutWhereNoneCanStand,
         Step::PutOnAFullDevice,
         Step::HasFailed(4),
     ];
-    check(&rt, &rt, &[], STEPS)
+    check(&rt, &rt, &[], STEPS);
 }
 
 #[test]
-fn drafts_of_others_are_never_written(rt: HostRuntime) -> Result<(), Fail> {
+fn drafts_of_others_are_never_written(rt: HostRuntime) {
     const STEPS: &[Step] = &[
         Step::PutWhereADraftStands,
         Step::PutWhereALinkStands,
@@ -132,15 +130,15 @@ fn drafts_of_others_are_never_written(rt: HostRuntime) -> Result<(), Fail> {
         Step::PutAgain,
         Step::HasFailed(2),
     ];
-    check(&rt, &rt, &[Step::PutTexts], STEPS)
+    check(&rt, &rt, &[Step::PutTexts], STEPS);
 }
 
 #[test]
-fn files_that_were_read_are_kept(rt: HostRuntime) -> Result<(), Fail> {
-    check(&rt, &rt, &[], &[Step::PutWhatWasRead, Step::HasFailed(1)])
+fn files_that_were_read_are_kept(rt: HostRuntime) {
+    check(&rt, &rt, &[], &[Step::PutWhatWasRead, Step::HasFailed(1)]);
 }
 
 #[test]
-fn refused_openings(rt: HostRuntime) -> Result<(), Fail> {
-    check(&rt, &rt, &[], &[Step::OpenWhatIsClosed])
+fn refused_openings(rt: HostRuntime) {
+    check(&rt, &rt, &[], &[Step::OpenWhatIsClosed]);
 }

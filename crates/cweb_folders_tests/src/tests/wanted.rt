@@ -2,8 +2,7 @@
 // that has their failures in it.
 ghost use Rattle.std.specs.Prelude.{◌≡◌, true};
 
-use cweb_lines::{ShelfFault, SinkFault};
-use cweb_out::BinFault;
+use cweb_lines::Shelf;
 use std::process::Abort;
 
 pub fn holds(rt: &impl Abort, is_so: bool)
@@ -12,35 +11,21 @@ pub fn holds(rt: &impl Abort, is_so: bool)
     assert!(rt; is_so);
 }
 
-pub fn same_number(rt: &impl Abort, got: u64, want: u64) {
-    assert_eq!(rt; got, want);
-}
-
 pub fn same_bytes(rt: &impl Abort, got: &[u8], want: &[u8]) {
     assert_eq!(rt; got, want);
-}
-
-/// A file is put, or fails to be.
-pub fn is_put(rt: &impl Abort, got: Result<(), BinFault>, want: Result<(), BinFault>) {
-    assert_eq!(rt; got, want);
-}
-
-/// So many bytes are taken.
-pub fn takes(rt: &impl Abort, got: Result<usize, SinkFault>, want: Result<usize, SinkFault>) {
-    assert_eq!(rt; got, want);
-}
-
-/// So many bytes are given.
-pub fn gives(rt: &impl Abort, got: Result<usize, ShelfFault>, want: Result<usize, ShelfFault>) {
-    assert_eq!(rt; got, want);
-}
-
-/// A file holds this, or isn't there.
-pub fn is_left(rt: &impl Abort, got: Option<&[u8]>, want: Option<&[u8]>, path: &str) {
-    assert_eq!(rt; got, want, "{path}");
 }
 
 /// The same of a file by its path.
 pub fn holds_of(rt: &impl Abort, is_so: bool, path: &str) {
     assert!(rt; is_so, "{path}");
+}
+
+/// A text of several pieces.
+pub fn joined(rt: &(impl Abort + AllocGlobal), pieces: &[&str]) -> String {
+    pieces.concat(rt.alloc()).expect(rt, "memory")
+}
+
+/// Whether a file can be opened.
+pub fn opens<S: Shelf>(rt: &impl Abort, shelf: &mut S, name: &str) -> bool {
+    shelf.fetch(name).expect(rt, "memory").is_some()
 }
