@@ -52,7 +52,10 @@ fn counted(
     merger: &mut Merger<MemoryShelf>,
     shelf: &mut MemoryShelf,
 ) -> Result<Counts, Stop> {
-    Ok(Counts::of(&scan(alloc, merger, shelf)?))
+    match scan(alloc, merger, shelf) {
+        Ok(made) => Ok(Counts::of(&made)),
+        Err(stop) => Err(stop),
+    }
 }
 
 /// Writes the merged lines of the web of a shelf, and says how many bytes they have with their line ends.

@@ -50,8 +50,8 @@ impl given::Shape for Filling {
         let vocabulary = vocabulary(calls.alloc)?;
         match self {
             Filling::Words => give_words(calls, &vocabulary, count),
-            Filling::Distinct => give_distinct(calls, count),
-            Filling::Flood => give_flood(calls, count),
+            Filling::Distinct => give_numbered(calls, "", count),
+            Filling::Flood => give_numbered(calls, "wordword", count),
             Filling::Names => give_names(calls, count),
             Filling::NameFlood => give_name_flood(calls, count),
             Filling::Parts => give_parts(calls, &vocabulary, count),
@@ -140,20 +140,11 @@ fn give_words(calls: &mut Calls, vocabulary: &[u8], count: u32) -> Result<(), Re
     Ok(())
 }
 
-fn give_distinct(calls: &mut Calls, count: u32) -> Result<(), Refusal> {
+// The Words differ in their numbers alone. Behind a front a number stands in the middle, where a store's table doesn't look.
+fn give_numbered(calls: &mut Calls, front: &str, count: u32) -> Result<(), Refusal> {
     calls.open(PartKind::Unnamed)?;
     for number in 0..count {
-        let word = format!(in calls.alloc; "{number:08}wordword")?;
-        calls.push(Token::Word(word.as_bytes()))?;
-    }
-    Ok(())
-}
-
-// The Words differ in the middle alone, where a store's table doesn't look.
-fn give_flood(calls: &mut Calls, count: u32) -> Result<(), Refusal> {
-    calls.open(PartKind::Unnamed)?;
-    for number in 0..count {
-        let word = format!(in calls.alloc; "wordword{number:08}wordword")?;
+        let word = format!(in calls.alloc; "{front}{number:08}wordword")?;
         calls.push(Token::Word(word.as_bytes()))?;
     }
     Ok(())

@@ -9,7 +9,7 @@ ghost use Rattle.cweb_print.specs.Printing.{Setting};
 
 use anyhow::{Result, bail, ensure};
 use cweb_files::{MemoryShelf, MemorySink, Sink};
-use cweb_lines::{FileNames, Merger};
+use cweb_lines::{FileNames, Merger, Stop};
 use cweb_out::{Expander, Gathered, Plan, Printer, plan};
 use cweb_store::{Store, Token};
 use std::alloc::Global;
@@ -59,25 +59,38 @@ fn show_printed(rt: &impl Print, alloc: Global, expander: &mut Expander<'_>) -> 
     requires { Stands expander.old.store.now
         expander.old.frames.items (vec_capacity expander.old.frames) }
 {
-    let mut shelf = MemoryShelf::new(alloc);
-    shelf.put(WEB, b"")?;
-    let Ok(merger) = Merger::start(alloc, &mut shelf, WEB, None, None, None) else {
-        bail!("no web");
-    };
-    let bytes = printed(alloc, expander, merger.names())?;
+    let bytes = printed(alloc, expander)?;
     println!(rt; "{bytes} bytes printed")?;
     Ok(())
 }
 
 // How many bytes are printed of what an expander gives.
-fn printed(alloc: Global, expander: &mut Expander<'_>, names: &FileNames) -> Result<usize>
+fn printed(alloc: Global, expander: &mut Expander<'_>) -> Result<usize>
+    requires { Stands expander.old.store.now
+        expander.old.frames.items (vec_capacity expander.old.frames) }
+{
+    match begun(alloc) {
+        Ok(merger) => printed_under(alloc, expander, merger.names()),
+        Err(_) => bail!("no web"),
+    }
+}
+
+fn begun(alloc: Global) -> Result<Merger<MemoryShelf>, Stop> {
+    let mut shelf = MemoryShelf::new(alloc);
+    shelf.put(WEB, b"")?;
+    Merger::start(alloc, &mut shelf, WEB, None, None, None)
+}
+
+fn printed_under(alloc: Global, expander: &mut Expander<'_>, names: &FileNames) -> Result<usize>
     requires { Stands expander.old.store.now
         expander.old.frames.items (vec_capacity expander.old.frames) }
 {
     let mut out = MemorySink::with_room(alloc, room(expander.store))?;
     let mut gathered = Gathered::new(alloc)?;
-    print(expander, names, &mut gathered, &mut out)?;
-    Ok(out.bytes().len())
+    match print(expander, names, &mut gathered, &mut out) {
+        Ok(()) => Ok(out.bytes().len()),
+        Err(why) => bail!("{why}"),
+    }
 }
 
 fn room(store: &Store) -> usize {
@@ -109,13 +122,13 @@ fn is_named(names: &FileNames, token: &Token<'_>) -> bool
     }
 }
 
-// Prints what an expander gives.
+// Prints what an expander gives, or says why not.
 fn print(
     expander: &mut Expander<'_>,
     names: &FileNames,
     gathered: &mut Gathered,
     out: &mut MemorySink,
-) -> Result<()>
+) -> Result<(), &'static str>
     requires { Stands expander.old.store.now
         expander.old.frames.items (vec_capacity expander.old.frames) }
 {
@@ -125,15 +138,21 @@ fn print(
         let Some(token) = expander.next() else {
             break;
         };
-        ensure!(is_named(names, &token), "a line mark of no file");
-        ensure!(out.failures() == 0, "no room");
+        if !is_named(names, &token) {
+            return Err("a line mark of no file");
+        }
+        if out.failures() > 0 {
+            return Err("no room");
+        }
         let Ok(()) = printer.gather(token, gathered, out) else {
-            bail!("no room");
+            return Err("no room");
         };
     }
-    ensure!(out.failures() == 0, "no room");
+    if out.failures() > 0 {
+        return Err("no room");
+    }
     let Ok(()) = printer.finish(gathered, out) else {
-        bail!("no room");
+        return Err("no room");
     };
     Ok(())
 }
