@@ -15,7 +15,7 @@ pub fn same_bytes(rt: &impl Abort, got: &[u8], want: &[u8]) {
     assert_eq!(rt; got, want);
 }
 
-/// The same of a file by its path.
+/// The same of a file, whose path is told where it is not so.
 pub fn holds_of(rt: &impl Abort, is_so: bool, path: &str) {
     assert!(rt; is_so, "{path}");
 }
