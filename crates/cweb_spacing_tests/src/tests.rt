@@ -6,16 +6,22 @@ ghost use Rattle.cweb_print.specs.Printers.{IsNamed};
 ghost use Rattle.cweb_print.specs.Printing.{Setting};
 
 use cweb_files::{MemoryShelf, MemorySink, Sink};
-use cweb_lines::{FileNames, Merger};
+use cweb_lines::{FileNames, Merger, Stop};
 use cweb_out::Printer;
 use cweb_scan::{Scanned, scan};
 use cweb_store::{Builder, Store, Token};
 use std::alloc::{AllocError, Global};
 use std::process::Abort;
-use std::test::Fail;
 
 // More than the text of any row.
 const ROOM: usize = 1000;
+
+// Each question stands in a function of its own: a test that calls them is sooner proved than one that has their failures in it.
+fn holds(rt: &impl Abort, is_so: bool)
+    ensures { is_so ≡ true }
+{
+    assert!(rt; is_so);
+}
 
 fn is_named(names: &FileNames, token: &Token<'_>) -> bool
     ensures { result ≡ true → (s : Setting) → s.files ≡ names_of names.now → IsNamed s (seen token.now) }
@@ -37,8 +43,8 @@ fn print(
     let mut printer = Printer::new(store, names);
     'tokens: for token in tokens {
         assert!(rt; is_named(names, token));
-        assert!(rt; out.failures() == 0);
-        assert!(rt; printer.write(*token, out).is_ok());
+        holds(rt, out.failures() == 0);
+        holds(rt, printer.write(*token, out).is_ok());
     }
 }
 
@@ -56,84 +62,93 @@ fn web_of(alloc: Global, text: &[u8]) -> Result<Vec<u8>, AllocError> {
 }
 
 // A token by its sign and its bytes; nothing of what may stand between tokens.
-fn tell(told: &mut Vec<u8>, token: Token<'_>) -> Result<(), AllocError> {
-    let (sign, bytes) = match token {
-        Token::Word(bytes) => (b"w:".as_slice(), bytes),
-        Token::Number(bytes) => (b"n:".as_slice(), bytes),
-        Token::Literal(bytes) => (b"l:".as_slice(), bytes),
-        Token::Punct(bytes) => (b"p:".as_slice(), bytes),
-        Token::Blank | Token::Newline | Token::Head(_) | Token::Tail(_) | Token::Mark(_) => {
-            (b"".as_slice(), b"".as_slice())
+fn told(token: Token<'_>) -> Option<(u8, &[u8])> {
+    match token {
+        Token::Word(bytes) => Some((b'w', bytes)),
+        Token::Number(bytes) => Some((b'n', bytes)),
+        Token::Literal(bytes) => Some((b'l', bytes)),
+        Token::Punct(bytes) => Some((b'p', bytes)),
+        Token::Blank | Token::Newline | Token::Head(_) | Token::Tail(_) | Token::Mark(_) => None,
+        _ => Some((b'?', b"")),
+    }
+}
+
+// The first token of a store, from one on, of which something is told, or the end.
+fn next_told(store: &Store, first: u32) -> u32 {
+    for number in first..store.tokens() {
+        if told(store.token(number)).is_some() {
+            return number;
         }
-        _ => (b"?".as_slice(), b"".as_slice()),
-    };
-    told.extend_from_slice(sign)?;
-    told.extend_from_slice(bytes)?;
-    if !sign.is_empty() {
-        told.push(b' ')?;
     }
-    Ok(())
+    store.tokens()
 }
 
-fn told_list(alloc: Global, tokens: &[Token<'_>]) -> Result<Vec<u8>, AllocError> {
-    let mut told = Vec::new(alloc);
+// Whether a store has these tokens, apart from what may stand between them.
+fn has_tokens(store: &Store, tokens: &[Token<'_>]) -> bool {
+    let mut first = 0;
     for token in tokens {
-        tell(&mut told, *token)?;
+        if told(*token).is_some() {
+            let number = next_told(store, first);
+            if number >= store.tokens() || told(store.token(number)) != told(*token) {
+                return false;
+            }
+            first = number + 1;
+        }
     }
-    Ok(told)
+    next_told(store, first) >= store.tokens()
 }
 
-fn told_store(alloc: Global, store: &Store) -> Result<Vec<u8>, AllocError> {
-    let mut told = Vec::new(alloc);
-    for number in 0..store.tokens() {
-        tell(&mut told, store.token(number))?;
-    }
-    Ok(told)
+// A merger of a web, and the shelf in which it stands.
+fn begun(alloc: Global, web: &[u8]) -> Result<(Merger<MemoryShelf>, MemoryShelf), Stop> {
+    let mut shelf = MemoryShelf::new(alloc);
+    shelf.put("a.w", web)?;
+    let merger = Merger::start(alloc, &mut shelf, "a.w", None, None, None)?;
+    Ok((merger, shelf))
 }
 
 // What is printed of tokens.
-fn printed(rt: &impl Abort, alloc: Global, tokens: &[Token<'_>]) -> Result<MemorySink, Fail> {
-    let mut shelf = MemoryShelf::new(alloc);
-    shelf.put("a.w", b"")?;
-    let merger = Merger::start(alloc, &mut shelf, "a.w", None, None, None)?;
-    let store = Builder::new(alloc).finish()?;
-    let mut out = MemorySink::with_room(alloc, ROOM)?;
-    print(rt, &store, merger.names(), tokens, &mut out);
-    Ok(out)
+fn printed(rt: &impl Abort, alloc: Global, tokens: &[Token<'_>]) -> MemorySink {
+    let mut out = MemorySink::with_room(alloc, ROOM).expect(rt, "memory");
+    let (merger, _) = begun(alloc, b"").expect(rt, "a web");
+    print_under(rt, alloc, merger.names(), tokens, &mut out);
+    out
+}
+
+fn print_under(
+    rt: &impl Abort,
+    alloc: Global,
+    names: &FileNames,
+    tokens: &[Token<'_>],
+    out: &mut MemorySink,
+) {
+    let store = Builder::new(alloc).finish().expect(rt, "memory");
+    print(rt, &store, names, tokens, out);
 }
 
 // What a scan makes of C text.
-fn scanned(alloc: Global, text: &[u8]) -> Result<Scanned, Fail> {
+fn scanned(alloc: Global, text: &[u8]) -> Result<Scanned, Stop> {
     let web = web_of(alloc, text)?;
-    let mut shelf = MemoryShelf::new(alloc);
-    shelf.put("a.w", web.as_slice())?;
-    let mut merger = Merger::start(alloc, &mut shelf, "a.w", None, None, None)?;
-    let made = scan(alloc, &mut merger, &mut shelf)?;
-    Ok(made)
+    let (mut merger, mut shelf) = begun(alloc, &web)?;
+    scan(alloc, &mut merger, &mut shelf)
+}
+
+// Text is read as these tokens, without a fault.
+fn is_read(rt: &impl Abort, alloc: Global, text: &[u8], tokens: &[Token<'_>]) {
+    let made = scanned(alloc, text).expect(rt, "a web");
+    holds(rt, made.faults.is_empty());
+    holds(rt, has_tokens(&made.store, tokens));
 }
 
 // Tokens are printed, and read again as the same tokens, without a fault. `text`, where there is one, is what is printed.
-fn comes_back(
-    rt: &impl Abort,
-    alloc: Global,
-    tokens: &[Token<'_>],
-    text: Option<&[u8]>,
-) -> Result<(), Fail> {
-    let out = printed(rt, alloc, tokens)?;
-    if let Some(text) = text {
-        assert!(rt; out.bytes() == text);
-    }
-    let made = scanned(alloc, out.bytes())?;
-    assert!(rt; made.faults.is_empty());
-    let wanted = told_list(alloc, tokens)?;
-    let read = told_store(alloc, &made.store)?;
-    assert!(rt; read.as_slice() == wanted.as_slice());
-    Ok(())
+fn comes_back(rt: &impl Abort, alloc: Global, tokens: &[Token<'_>], text: Option<&[u8]>) {
+    let out = printed(rt, alloc, tokens);
+    holds(rt, out.bytes() == text.unwrap_or(out.bytes()));
+    is_read(rt, alloc, out.bytes(), tokens);
 }
 
 #[test]
-fn rows_come_back(rt: HostRuntime) -> Result<(), Fail> {
-    let rows: [(&[Token<'_>], &[u8]); 6] = [
+fn rows_come_back(rt: HostRuntime) {
+    const ROWS: &[(&[Token<'static>], &[u8])] = &[
         (
             &[
                 Token::Number(b"0xe"),
@@ -157,27 +172,26 @@ fn rows_come_back(rt: HostRuntime) -> Result<(), Fail> {
             b"/ /*1:*/*",
         ),
     ];
-    for (tokens, text) in rows {
-        comes_back(&rt, rt.alloc(), tokens, Some(text))?;
+    for (tokens, text) in ROWS {
+        comes_back(&rt, rt.alloc(), *tokens, Some(*text));
     }
-    Ok(())
 }
 
 // A raw literal that has a line end and an `@`, and a literal of two lines.
 #[test]
-fn literals_of_more_lines_come_back(rt: HostRuntime) -> Result<(), Fail> {
-    let tokens = [
+fn literals_of_more_lines_come_back(rt: HostRuntime) {
+    const TOKENS: &[Token<'static>] = &[
         Token::Literal(b"R\"x(a\n@b)x\""),
         Token::Newline,
         Token::Literal(b"\"@\\\n\""),
         Token::Word(b"u8"),
         Token::Literal(b"u8\"c\""),
     ];
-    let text = b"R\"x(a\n@b)x\"\n\"@\\\n\" u8 u8\"c\"";
-    comes_back(&rt, rt.alloc(), &tokens, Some(text))
+    const TEXT: &[u8] = b"R\"x(a\n@b)x\"\n\"@\\\n\" u8 u8\"c\"";
+    comes_back(&rt, rt.alloc(), TOKENS, Some(TEXT));
 }
 
-const TOKENS: [Token<'static>; 44] = [
+static TOKENS: [Token<'static>; 44] = [
     Token::Word(b"a"),
     Token::Word(b"R"),
     Token::Word(b"L"),
@@ -224,17 +238,20 @@ const TOKENS: [Token<'static>; 44] = [
     Token::Tail(4_294_967_295),
 ];
 
-// Each token comes back before each.
-fn pairs_come_back(rt: &impl Abort, alloc: Global, tokens: &[Token<'_>]) -> Result<(), Fail> {
-    for left in tokens {
-        for right in tokens {
-            comes_back(rt, alloc, &[*left, *right], None)?;
-        }
+// A token comes back before each.
+fn comes_back_before(rt: &impl Abort, alloc: Global, left: Token<'_>, tokens: &[Token<'_>]) {
+    for right in tokens {
+        comes_back(rt, alloc, &[left, *right], None);
     }
-    Ok(())
+}
+
+fn pairs_come_back(rt: &impl Abort, alloc: Global, tokens: &[Token<'_>]) {
+    for left in tokens {
+        comes_back_before(rt, alloc, *left, tokens);
+    }
 }
 
 #[test]
-fn all_pairs_come_back(rt: HostRuntime) -> Result<(), Fail> {
-    pairs_come_back(&rt, rt.alloc(), &TOKENS)
+fn all_pairs_come_back(rt: HostRuntime) {
+    pairs_come_back(&rt, rt.alloc(), &TOKENS);
 }
