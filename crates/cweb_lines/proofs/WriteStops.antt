@@ -1,6 +1,10 @@
 -- What the end of a run blames where a read or a write failed.
 use Rattle.cweb_lines.proofs.Common.{◌≡◌, ◌≤◌, ◌+◌, ℕ, List, [], length, Option, None, Some, refl, sym, ◌∙◌, ap, subst, inl, inr, arith, IfSome, Event, Count, StopsReading, read_blame, files_named, StopsWriting, WritingStops, WritesRest, leaves, writes, fails, Failed, IsOwnStop, Blames, write_blame, Stop, ReadFault, LineTooLong, TooMuchText, Memory, WriteFault}
 
+-- what holds of a stop that came before holds where none came
+pub none_before : {A : Type 0} (P : A → Type 0) {stop : Option A} → stop ≡ None → IfSome stop P
+none_before P none = subst (λ stop. IfSome stop P) (sym none) tt
+
 pub no_write_blame : (stop : Stop) → StopsReading stop → write_blame stop ≡ 0
 no_write_blame WriteFault reading = absurd reading
 no_write_blame stop reading = refl

@@ -1,11 +1,11 @@
-use Rattle.cweb_lines.proofs.Common.{rules, ◌≡◌, Line, ◌+◌, [], refl, ap, sym, subst, ◌∙◌, arith, IfSome, IsTrue, None, Option, Writes, Gives, Held, coming, told_by, to_come, so_far, read_blame, write_blame}
+use Rattle.cweb_lines.proofs.Common.{rules, ◌≡◌, Line, ◌+◌, [], refl, ap, sym, ◌∙◌, arith, IsTrue, Writes, Gives, Held, coming, told_by, to_come, so_far, read_blame, write_blame}
 use Rattle.cweb_lines.proofs.Named.{blames_none, blames_rest, stop_after}
 use Rattle.cweb_lines.proofs.Fronts.{grows_told, told_halted, told_passed, told_same, told_then}
 use Rattle.cweb_lines.proofs.Gathers.{emptied, held, held_on, passed_on, fails_front, fails_among}
 use Rattle.cweb_lines.proofs.Keeps.{keeps_same, keeps_then, place_same, place_then}
 use Rattle.cweb_lines.proofs.Quiets.{Quiet, quiet_by, quiet_same, quiet_then, still_tells}
 use Rattle.cweb_lines.proofs.Writes.{nothing_yet, ends_front, ends_whole, ended_early, halted, fails_last, tells_some, tells_more, tells_same}
-use Rattle.cweb_lines.proofs.WriteStops.{write_failed, blamed, blames_write}
+use Rattle.cweb_lines.proofs.WriteStops.{write_failed, blamed, blames_write, none_before}
 use Rattle.cweb_lines.proofs.writing.write_merged_in_pieces.Given as given
 use Rattle.cweb_lines.proofs.writing.write_merged_in_pieces.Goals as goal
 use Rattle.cweb_lines.proofs.writing.write_merged_in_pieces.Goals.{After-pass_lines, In-Ok, In_default-next}
@@ -46,10 +46,6 @@ more g c tells =
 
 pub returns-in-Some-clause-grows : goal.returns-in-Some-clause-grows
 returns-in-Some-clause-grows g c = grows_told c.args.merger.now.run (told_same _ _ refl refl)
-
--- what holds of a stop that came before holds where there was none
-no-stop : {A : Type 0} (P : A → Type 0) {stop : Option A} → stop ≡ None → IfSome stop P
-no-stop P none = subst (λ stop. IfSome stop P) (sym none) tt
 
 -- the merger stopped
 pub returns-in-Err : goal.returns-in-Err
@@ -93,7 +89,7 @@ returns-in-Err g c =
             blamed = λ before. stop_after c.write_rest.result _ _ _ _ (c.lines.invariant.quiet.blamed tells known)
                 (blames_rest _ _ _ c.in-Err.stop c.write_rest.result _ _ rest (stays.blamed c.lines.invariant.running));
           };
-      again = no-stop _ c.lines.invariant.before;
+      again = none_before _ c.lines.invariant.before;
     }
 
 -- no line was left
@@ -125,16 +121,14 @@ returns-in-Err-write_piece g c =
       fault = λ tells out before is running. fails_last g.W.Sink _ _ c.lines.invariant.place _ _ _ _ _ _
           (c.lines.invariant.gathered tells) c.write_piece.new.out _ _ (last g at.In_default-next tells).0
           (rw c.deref-in_default-next.ensures.value at c.in-Err-write_piece.ensures.some) out err;
-      blames = λ before.
-          let blames = c.in-Ok.ensures.blames c.lines.invariant.running in
-          blames_write _ _ _ _ _ _ c.in-Err-write_piece.ensures.stop c.in-Ok.ensures.leaves.running
-          (blames.failed ∙ c.lines.invariant.failed)
+      blames = λ before. blames_write _ _ _ _ _ _ c.in-Err-write_piece.ensures.stop c.in-Ok.ensures.leaves.running
+          ((c.in-Ok.ensures.blames c.lines.invariant.running).failed ∙ c.lines.invariant.failed)
           (c.in-Err-write_piece.ensures.failed ∙ ap (λ n. n + 1) c.lines.invariant.out_failed);
       known = λ tells known. record {
         readers = q.readers tells known;
         blamed = λ before. blames_none _ _ _ _ (ap read_blame c.in-Err-write_piece.ensures.stop) (q.blamed tells known);
       };
-      again = no-stop _ c.lines.invariant.before;
+      again = none_before _ c.lines.invariant.before;
     }
 
 pub returns-in_default-next-clause-ok : goal.returns-in_default-next-clause-ok
@@ -212,16 +206,15 @@ returns-in-Err-pass_on g c =
       fault = λ tells out before is running. fails_among g.W.Sink _ _ c.lines.invariant.place _ _ _ _ _ _
           (more g at.After-pass_lines tells)
           c.pass_on.new.out out c.in-Err-pass_on.ensures.err;
-      blames = λ before.
-          let blames = c.in-Ok.ensures.blames c.lines.invariant.running in
-          blames_write _ _ _ _ _ _ c.in-Err-pass_on.ensures.stop (c.pass_lines.ensures.passes.stopped
-          ∙ c.in-Ok.ensures.leaves.running) (blames.failed ∙ c.lines.invariant.failed)
+      blames = λ before. blames_write _ _ _ _ _ _ c.in-Err-pass_on.ensures.stop
+          (c.pass_lines.ensures.passes.stopped ∙ c.in-Ok.ensures.leaves.running)
+          ((c.in-Ok.ensures.blames c.lines.invariant.running).failed ∙ c.lines.invariant.failed)
           (c.in-Err-pass_on.ensures.failed ∙ ap (λ n. n + 1) c.lines.invariant.out_failed);
       known = λ tells known. record {
         readers = c.pass_lines.ensures.passes.readers _ (q.readers tells known);
         blamed = λ before. blames_none _ _ _ _ (ap read_blame c.in-Err-pass_on.ensures.stop) (q.blamed tells known);
       };
-      again = no-stop _ c.lines.invariant.before;
+      again = none_before _ c.lines.invariant.before;
     }
 
 pub lines-preserved : goal.lines-preserved

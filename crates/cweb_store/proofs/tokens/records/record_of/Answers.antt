@@ -7,11 +7,9 @@ use Rattle.cweb_store.proofs.tokens.records.record_of.Goals as goal
 
 -- a text that is kept, and the record that has its number
 kept-packs : {old new : TextsAndWords} {text : List ℕ} {number : ℕ} (token : spec.Token) (item : Packed)
-    → Keeps old text number new
-    → (number < length new.texts → IsWithin (length new.texts) item)
-    → (text_at new.texts number ≡ text → token_in new.texts item ≡ token)
-    → with_word_of old.words token ≡ old.words → other_bytes token ≡ length text
-    → length (filter has_text (token ∷ [])) ≡ 1 → Packs old token item new
+    → Keeps old text number new → (number < length new.texts → IsWithin (length new.texts) item)
+    → (text_at new.texts number ≡ text → token_in new.texts item ≡ token) → with_word_of old.words token ≡ old.words
+    → other_bytes token ≡ length text → length (filter has_text (token ∷ [])) ≡ 1 → Packs old token item new
 kept-packs {new} {text} {number} token item keeps within stands no_word bytes one = record {
   more = keeps.more;
   grows = keeps.grows;
@@ -24,11 +22,10 @@ kept-packs {new} {text} {number} token item keeps within stands no_word bytes on
 
 -- the same of a word
 word-packs : {old new : TextsAndWords} {word : List ℕ} {number : ℕ} (token : spec.Token) (item : Packed)
-    → KeepsWord old word number new
-    → (number < length new.texts → IsWithin (length new.texts) item)
+    → KeepsWord old word number new → (number < length new.texts → IsWithin (length new.texts) item)
     → (text_at new.texts number ≡ word → token_in new.texts item ≡ token)
-    → with_word_of old.words token ≡ with_word old.words word → other_bytes token ≡ 0
-    → length (filter has_text (token ∷ [])) ≡ 1 → Packs old token item new
+    → with_word_of old.words token ≡ with_word old.words word
+    → other_bytes token ≡ 0 → length (filter has_text (token ∷ [])) ≡ 1 → Packs old token item new
 word-packs {new} {word} {number} token item keeps within stands is_word none one = record {
   more = keeps.more;
   grows = keeps.grows;
@@ -40,24 +37,27 @@ word-packs {new} {word} {number} token item keeps within stands is_word none one
 }
 
 pub returns-in_ok-keep_word-in-Word-clause-packs : goal.returns-in_ok-keep_word-in-Word-clause-packs
-returns-in_ok-keep_word-in-Word-clause-packs c = rw c.in-Word.is (word-packs (spec.Word c.in-Word.text.now)
-    (packed.Word c.in_ok-keep_word-in-Word.field-0) c.in_ok-keep_word-in-Word.ensures.ok (λ w. w) (ap spec.Word) refl refl refl)
+returns-in_ok-keep_word-in-Word-clause-packs c = rw c.in-Word.is (word-packs (spec.Word c.in-Word.text.now) (packed.Word
+    c.in_ok-keep_word-in-Word.field-0) c.in_ok-keep_word-in-Word.ensures.ok (λ w. w) (ap spec.Word) refl refl refl)
 
 pub returns-in_ok-keep_sign-in-Punct-clause-packs : goal.returns-in_ok-keep_sign-in-Punct-clause-packs
-returns-in_ok-keep_sign-in-Punct-clause-packs c = rw c.in-Punct.is (word-packs (spec.Punct c.in-Punct.text.now)
-    (packed.Punct c.in_ok-keep_sign-in-Punct.field-0) c.in_ok-keep_sign-in-Punct.ensures.ok (λ w. w) (ap spec.Punct) refl refl refl)
+returns-in_ok-keep_sign-in-Punct-clause-packs c =
+    rw c.in-Punct.is (word-packs (spec.Punct c.in-Punct.text.now) (packed.Punct c.in_ok-keep_sign-in-Punct.field-0)
+    c.in_ok-keep_sign-in-Punct.ensures.ok (λ w. w) (ap spec.Punct) refl refl refl)
 
 pub returns-in_ok-keep-in-Number-clause-packs : goal.returns-in_ok-keep-in-Number-clause-packs
-returns-in_ok-keep-in-Number-clause-packs c = rw c.in-Number.is (kept-packs (spec.Number c.in-Number.text.now)
-    (Number c.in_ok-keep-in-Number.field-0) c.in_ok-keep-in-Number.ensures.ok (λ w. w) (ap spec.Number) refl (omega arith) refl)
+returns-in_ok-keep-in-Number-clause-packs c = rw c.in-Number.is (kept-packs (spec.Number c.in-Number.text.now) (Number
+    c.in_ok-keep-in-Number.field-0) c.in_ok-keep-in-Number.ensures.ok (λ w. w) (ap spec.Number) refl (omega arith) refl)
 
 pub returns-in_ok-keep-in-Literal-clause-packs : goal.returns-in_ok-keep-in-Literal-clause-packs
-returns-in_ok-keep-in-Literal-clause-packs c = rw c.in-Literal.is (kept-packs (spec.Literal c.in-Literal.text.now)
-    (Literal c.in_ok-keep-in-Literal.field-0) c.in_ok-keep-in-Literal.ensures.ok (λ w. w) (ap spec.Literal) refl (omega arith) refl)
+returns-in_ok-keep-in-Literal-clause-packs c =
+    rw c.in-Literal.is (kept-packs (spec.Literal c.in-Literal.text.now) (Literal c.in_ok-keep-in-Literal.field-0)
+    c.in_ok-keep-in-Literal.ensures.ok (λ w. w) (ap spec.Literal) refl (omega arith) refl)
 
 pub returns-in_ok-keep-in-Verbatim-clause-packs : goal.returns-in_ok-keep-in-Verbatim-clause-packs
-returns-in_ok-keep-in-Verbatim-clause-packs c = rw c.in-Verbatim.is (kept-packs (spec.Verbatim c.in-Verbatim.text.now)
-    (Verbatim c.in_ok-keep-in-Verbatim.field-0) c.in_ok-keep-in-Verbatim.ensures.ok (λ w. w) (ap spec.Verbatim) refl (omega arith) refl)
+returns-in_ok-keep-in-Verbatim-clause-packs c =
+    rw c.in-Verbatim.is (kept-packs (spec.Verbatim c.in-Verbatim.text.now) (Verbatim c.in_ok-keep-in-Verbatim.field-0)
+    c.in_ok-keep-in-Verbatim.ensures.ok (λ w. w) (ap spec.Verbatim) refl (omega arith) refl)
 
 pub returns-in-Mark-clause-packs : goal.returns-in-Mark-clause-packs
 returns-in-Mark-clause-packs c =
