@@ -1,8 +1,8 @@
-// The lines of what is wrong with a web's text.
+// The lines of what is wrong with a web's lines and with its text.
 use super::wanted::{holds, same_bytes};
-use cweb_lines::{FileId, FileNames, MemoryShelf, Merger, Place, Stop};
+use cweb_lines::{FileId, FileNames, MemoryShelf, Merger, Place, SourceFault, SourceKind, Stop};
 use cweb_rules::{ScanFault, ScanKind};
-use cweb_tools::write_scan_faults;
+use cweb_tools::{write_faults, write_scan_faults};
 use std::alloc::Global;
 use std::process::Abort;
 use trial::{TrialSink, shelf_of};
@@ -17,6 +17,18 @@ const FAULT: ScanFault = ScanFault {
 
 const LINES: &[u8] = b"u.w:12: ! String did not end\nu.w:12: ! String did not end\n";
 
+const SOURCE_FAULT: SourceFault = SourceFault {
+    kind: SourceKind::Unequal,
+    place: Place {
+        file: FileId(0),
+        line: 7,
+    },
+    count: 3,
+};
+
+const SOURCE_LINES: &[u8] =
+    b"u.w:7: ! Lines that failed to match: 3\nu.w:7: ! Lines that failed to match: 3\n";
+
 fn check_lines(rt: &(impl Abort + AllocGlobal), names: &FileNames) {
     let mut log = TrialSink::new(rt.alloc());
     holds(rt, names.count() > 0);
@@ -25,6 +37,16 @@ fn check_lines(rt: &(impl Abort + AllocGlobal), names: &FileNames) {
         write_scan_faults(&mut log, names, &[FAULT, FAULT]).is_ok(),
     );
     same_bytes(rt, log.bytes(), LINES);
+}
+
+fn check_source_lines(rt: &(impl Abort + AllocGlobal), names: &FileNames) {
+    let mut log = TrialSink::new(rt.alloc());
+    holds(rt, names.count() > 0);
+    holds(
+        rt,
+        write_faults(&mut log, names, &[SOURCE_FAULT, SOURCE_FAULT]).is_ok(),
+    );
+    same_bytes(rt, log.bytes(), SOURCE_LINES);
 }
 
 fn begun(alloc: Global) -> Result<Merger<MemoryShelf>, Stop> {
@@ -36,4 +58,10 @@ fn begun(alloc: Global) -> Result<Merger<MemoryShelf>, Stop> {
 fn lines_of_faults_of_a_text(rt: HostRuntime) {
     let merger = begun(rt.alloc()).expect(&rt, "a web");
     check_lines(&rt, merger.names());
+}
+
+#[test]
+fn lines_of_faults_of_lines(rt: HostRuntime) {
+    let merger = begun(rt.alloc()).expect(&rt, "a web");
+    check_source_lines(&rt, merger.names());
 }
