@@ -28,9 +28,15 @@ use std::alloc::Global;
 
 /// A web whose lines are being merged with those of the files that it includes. The shelf is handed to each call, as the
 /// call before left it.
-#[derive(Drop)]
 pub struct Merger<S: Shelf> {
     run: Run<S::R>,
+}
+
+// It is let go by one call wherever it is held, not part by part.
+impl<S: Shelf> Drop for Merger<S> {
+    fn drop(self) {
+        let Merger { run: _ } = self;
+    }
 }
 
 impl<S: Shelf> Merger<S> {

@@ -12,7 +12,7 @@ use std::alloc::{AllocError, Global};
 
 /// What a command line of `ctangle` asks for: what the log shows beside faults, the name of the web, the name under which
 /// the web is sought where it is not there under the first, and those of the change file and the main output.
-#[derive(Debug, Drop)]
+#[derive(Debug)]
 pub struct Options {
     pub banner: bool,
     pub progress: bool,
@@ -22,6 +22,22 @@ pub struct Options {
     pub second: Option<String>,
     pub change: Option<String>,
     pub main: String,
+}
+
+// It is let go by one call wherever it is held, not part by part.
+impl Drop for Options {
+    fn drop(self) {
+        let Options {
+            banner: _,
+            progress: _,
+            closing: _,
+            statistics: _,
+            web: _,
+            second: _,
+            change: _,
+            main: _,
+        } = self;
+    }
 }
 
 impl Options {

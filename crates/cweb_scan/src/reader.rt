@@ -17,7 +17,6 @@ use std::alloc::{AllocError, Global};
 use std::marker::Model;
 
 /// What was read of the lines so far: the state, and the item that goes on in the next line with its text so far.
-#[derive(Drop)]
 pub struct Reader {
     pub(crate) alloc: Global,
     pub(crate) scanner: Scanner,
@@ -26,6 +25,21 @@ pub struct Reader {
     pub(crate) delimiter: Vec<u8>,
     pub(crate) sign: Vec<u8>,
     pub(crate) begun: bool,
+}
+
+// It is let go by one call wherever it is held, not part by part.
+impl Drop for Reader {
+    fn drop(self) {
+        let Reader {
+            alloc: _,
+            scanner: _,
+            item: _,
+            text: _,
+            delimiter: _,
+            sign: _,
+            begun: _,
+        } = self;
+    }
 }
 
 impl Model for Reader {

@@ -29,7 +29,6 @@ use std::marker::Model;
 
 /// What is made of the text so far. The directive that is open in C text is kept besides, as far as it is asked for, and the
 /// one that is open once the layout that is last is dropped.
-#[derive(Drop)]
 pub struct Scanner {
     pub(crate) alloc: Global,
     pub(crate) context: Context,
@@ -41,6 +40,24 @@ pub struct Scanner {
     pub(crate) folded: bool,
     pub(crate) directive: Directive,
     pub(crate) solid: Directive,
+}
+
+// It is let go by one call wherever it is held, not part by part.
+impl Drop for Scanner {
+    fn drop(self) {
+        let Scanner {
+            alloc: _,
+            context: _,
+            builder: _,
+            faults: _,
+            sections: _,
+            starred: _,
+            here: _,
+            folded: _,
+            directive: _,
+            solid: _,
+        } = self;
+    }
 }
 
 impl Model for Scanner {

@@ -17,12 +17,23 @@ use std::marker::Model;
 
 /// What a web has given so far: the occurrences of names, parts with their tokens, and replacements of bytes. A refused
 /// call changes nothing, and may be made again.
-#[derive(Drop)]
 pub struct Builder {
     alloc: Global,
     names: NameTable,
     parts: PartList,
     replacements: Replacements,
+}
+
+// It is let go by one call wherever it is held, not part by part.
+impl Drop for Builder {
+    fn drop(self) {
+        let Builder {
+            alloc: _,
+            names: _,
+            parts: _,
+            replacements: _,
+        } = self;
+    }
 }
 
 impl Model for Builder {

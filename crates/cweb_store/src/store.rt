@@ -32,7 +32,6 @@ use std::alloc::{AllocError, Global};
 use std::marker::Model;
 
 /// What a web has given, for good: what each occurrence of a name stands for, the parts of each name, and the faults.
-#[derive(Drop)]
 pub struct Store {
     tokens: ClosedTokens,
     runs: Vec<Run>,
@@ -45,6 +44,25 @@ pub struct Store {
     files: IndexSet<NameId>,
     faults: Vec<NameFault>,
     has_defs_code: bool,
+}
+
+// It is let go by one call wherever it is held, not part by part.
+impl Drop for Store {
+    fn drop(self) {
+        let Store {
+            tokens: _,
+            runs: _,
+            links: _,
+            given: _,
+            replaced: _,
+            last_places: _,
+            firsts: _,
+            standings: _,
+            files: _,
+            faults: _,
+            has_defs_code: _,
+        } = self;
+    }
 }
 
 impl Model for Store {

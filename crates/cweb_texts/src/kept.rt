@@ -14,12 +14,22 @@ const BYTES: usize = 256;
 
 /// Texts, among which a word, or a punctuator, stands once. One that is a single byte is found by that byte alone, in a
 /// table in front.
-#[derive(Drop)]
 pub struct KeptTexts {
     alloc: Global,
     texts: WordTexts,
     // of each byte one more than the number of the text that is this byte, or 0 where that isn't known
     signs: Vec<u32>,
+}
+
+// It is let go by one call wherever it is held, not part by part.
+impl Drop for KeptTexts {
+    fn drop(self) {
+        let KeptTexts {
+            alloc: _,
+            texts: _,
+            signs: _,
+        } = self;
+    }
 }
 
 impl Model for KeptTexts {

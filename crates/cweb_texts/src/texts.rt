@@ -11,12 +11,22 @@ use std::marker::Model;
 
 /// Texts, numbered from 0. They stand one after another in a list of bytes; of each is known where it begins and ends, and of
 /// a word its border.
-#[derive(Drop)]
 pub struct PackedTexts {
     bytes: Vec<u8>,
     // where the first text begins, and where each ends: the next one begins there. Nothing where there was no text
     limits: Vec<usize>,
     borders: Vec<Border>,
+}
+
+// It is let go by one call wherever it is held, not part by part.
+impl Drop for PackedTexts {
+    fn drop(self) {
+        let PackedTexts {
+            bytes: _,
+            limits: _,
+            borders: _,
+        } = self;
+    }
 }
 
 impl Model for PackedTexts {

@@ -17,7 +17,6 @@ pub struct BinFile {
 
 /// Files in memory, in the order in which they were committed, at most one draft, and whether the last beginning was
 /// refused.
-#[derive(Drop)]
 pub struct MemoryBins {
     alloc: Global,
     files: Vec<BinFile>,
@@ -26,6 +25,20 @@ pub struct MemoryBins {
     room: usize,
     failed: u64,
     ghost placed: { IsTrue (is_some draft) → vec_len files < vec_capacity files },
+}
+
+// It is let go by one call wherever it is held, not part by part.
+impl Drop for MemoryBins {
+    fn drop(self) {
+        let MemoryBins {
+            alloc: _,
+            files: _,
+            draft: _,
+            refused: _,
+            room: _,
+            failed: _,
+        } = self;
+    }
 }
 
 impl MemoryBins {

@@ -142,21 +142,28 @@ impl Reader {
     }
 
     /// No line follows.
-    pub fn finish(self) -> Result<Scanner, AllocError>
+    pub fn finish(mut self) -> Result<Scanner, AllocError>
         requires { cost self + 8 < too_many }
         ensures made { IfOk result (λ s. s ≡ (read_after self []).state) }
         ensures room { IfOk result (λ s. weight s ≤ cost self) }
     {
-        let mut reader = self;
-        if !reader.begun {
+        if !self.begun {
             let place = Place {
                 file: FileId(0),
                 line: 0,
             };
-            return Ok(Scanner::new(reader.alloc, place));
+            return Ok(Scanner::new(self.alloc, place));
         }
-        reader.end_text()?;
-        let Reader { scanner, .. } = reader;
+        self.end_text()?;
+        let Reader {
+            alloc: _,
+            scanner,
+            item: _,
+            text: _,
+            delimiter: _,
+            sign: _,
+            begun: _,
+        } = self;
         Ok(scanner)
     }
 }

@@ -11,7 +11,6 @@ use std::alloc::AllocError;
 
 /// What a scan makes of the merged lines of a web: its parts, names and replacements, the faults in the order of the items
 /// that have them, how many sections there are, and the numbers of the starred ones.
-#[derive(Drop)]
 pub struct Scanned {
     pub store: Store,
     pub faults: Vec<ScanFault>,
@@ -19,21 +18,37 @@ pub struct Scanned {
     pub starred: Vec<u32>,
 }
 
+// It is let go by one call wherever it is held, not part by part.
+impl Drop for Scanned {
+    fn drop(self) {
+        let Scanned {
+            store: _,
+            faults: _,
+            sections: _,
+            starred: _,
+        } = self;
+    }
+}
+
 impl Scanner {
     /// What was made of the whole text.
-    pub fn scanned(self) -> Result<Scanned, AllocError>
+    pub fn scanned(mut self) -> Result<Scanned, AllocError>
         requires { HasRoom 1 self }
         ensures { IfOk result (λ made. seen made ≡ scanned_of self) }
     {
-        let mut scanner = self;
-        scanner.leave()?;
+        self.leave()?;
         let Scanner {
+            alloc: _,
+            context: _,
             builder,
             faults,
             sections,
             starred,
-            ..
-        } = scanner;
+            here: _,
+            folded: _,
+            directive: _,
+            solid: _,
+        } = self;
         let store = builder.finish()?;
         Ok(Scanned {
             store,

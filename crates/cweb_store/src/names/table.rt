@@ -25,7 +25,6 @@ pub struct GivenAs {
 }
 
 /// The occurrences of names, and the names.
-#[derive(Drop)]
 pub struct NameTable {
     alloc: Global,
     known: KnownNames,
@@ -33,6 +32,19 @@ pub struct NameTable {
     texts: PackedTexts,
     given: Vec<GivenAs>,
     found: Vec<Found>,
+}
+
+// It is let go by one call wherever it is held, not part by part.
+impl Drop for NameTable {
+    fn drop(self) {
+        let NameTable {
+            alloc: _,
+            known: _,
+            texts: _,
+            given: _,
+            found: _,
+        } = self;
+    }
 }
 
 impl Model for NameTable {

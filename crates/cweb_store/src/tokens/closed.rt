@@ -24,12 +24,23 @@ use std::marker::Model;
 
 /// Tokens as records, of which uses and Defs are noted. Their texts, and other texts behind these, stand in
 /// one list of bytes.
-#[derive(Drop)]
 pub struct ClosedTokens {
     pub texts: PackedTexts,
     pub records: Records,
     pub own: usize,
     pub noted: Noted,
+}
+
+// It is let go by one call wherever it is held, not part by part.
+impl Drop for ClosedTokens {
+    fn drop(self) {
+        let ClosedTokens {
+            texts: _,
+            records: _,
+            own: _,
+            noted: _,
+        } = self;
+    }
 }
 
 impl Model for ClosedTokens {

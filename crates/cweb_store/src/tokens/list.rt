@@ -15,11 +15,21 @@ use std::alloc::{AllocError, Global};
 use std::marker::Model;
 
 /// Tokens as records, and their texts. Uses and Defs are noted beside them.
-#[derive(Drop)]
 pub struct TokenList {
     texts: KeptTexts,
     records: Records,
     noted: Noted,
+}
+
+// It is let go by one call wherever it is held, not part by part.
+impl Drop for TokenList {
+    fn drop(self) {
+        let TokenList {
+            texts: _,
+            records: _,
+            noted: _,
+        } = self;
+    }
 }
 
 impl Model for TokenList {

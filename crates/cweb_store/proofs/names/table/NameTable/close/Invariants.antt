@@ -3,4 +3,4 @@ use Rattle.cweb_store.proofs.names.table.NameTable.close.Given as goal
 
 abbrev pub invariant-loop-number : goal.invariant-loop-number
 invariant-loop-number l =
-    with_texts (drop l.number l.self-inside.texts) l.tokens ≡ with_texts l.self-inside.texts l.initial.tokens
+    with_texts (drop l.number l.texts) l.tokens ≡ with_texts l.texts l.initial.tokens
