@@ -30,6 +30,7 @@ const ROOT: &str = "/";
 ///
 /// An output is written in large pieces. So a write may fail for what was taken before; the output is given up then, so
 /// that one that lost bytes is never committed.
+#[derive(Drop)]
 pub struct FolderBins<'a, R: Files<File: Held> + Drop> {
     alloc: Global,
     files: R,
@@ -42,21 +43,6 @@ pub struct FolderBins<'a, R: Files<File: Held> + Drop> {
     written: BTreeMap<FileKey, String>,
     output: Option<Target<R::File>>,
     failed: u64,
-}
-
-// It is let go by one call wherever it is held, not part by part.
-impl<R: Files<File: Held> + Drop> Drop for FolderBins<'_, R> {
-    fn drop(self) {
-        let FolderBins {
-            alloc: _,
-            files: _,
-            streams: _,
-            read: _,
-            written: _,
-            output: _,
-            failed: _,
-        } = self;
-    }
 }
 
 impl<'a, R: Files<File: Held> + Drop> FolderBins<'a, R> {

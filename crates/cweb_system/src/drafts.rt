@@ -25,6 +25,7 @@ const TURNS: u32 = 100_000;
 const OWNERS: u32 = 0o600;
 
 /// A draft that is open for writing. It was created by this run, and holds the system's lock.
+#[derive(Drop)]
 pub(crate) struct Draft<F: Write + Drop> {
     /// The name of the file that it is to become.
     name: String,
@@ -33,18 +34,6 @@ pub(crate) struct Draft<F: Write + Drop> {
     /// The file that it is, and will be.
     pub(crate) file: FileKey,
     pub(crate) out: BufWriter<F>,
-}
-
-// It is let go by one call wherever it is held, not part by part.
-impl<F: Write + Drop> Drop for Draft<F> {
-    fn drop(self) {
-        let Draft {
-            name: _,
-            path: _,
-            file: _,
-            out: _,
-        } = self;
-    }
 }
 
 /// A draft that was just created: the file, and by what it is known.
