@@ -1,31 +1,25 @@
 -- The names that the proofs of this crate cite, passed on from one place. Declares nothing.
-pub use Rattle.memchr.specs.Find.{IsFirstByte, is_byte}
 pub use Rattle.std.proofs.Common.{◌≡◌, ◌+◌, ℕ, List, [], ◌∷◌, ◌++◌, refl, sym, ◌∙◌, ap, subst, arith, length}
 pub use Rattle.std.proofs.Common.{length-append, map, ◌≤◌, ◌<◌, ◌-◌, Option, None, Some, zero, suc, Bool, true, false}
-pub use Rattle.std.proofs.Common.{◌||◌, if◌then◌else◌, ◌≢◌, ◌==◌, ◌&&◌, cond, ◌⊎◌, inl, inr, Err, eqb, get_or}
-pub use Rattle.std.proofs.Common.{replicate, ⊎_elim, set, take, drop, take-append-drop, get_or-set_same}
-pub use Rattle.std.proofs.Common.{get_or-set_other, rules, ◌%◌, ◌^◌, w8, w64, string_bytes, Vec, Global}
+pub use Rattle.std.proofs.Common.{◌||◌, if◌then◌else◌, ◌≢◌, ◌==◌, ◌&&◌, cond, ◌⊎◌, inl, inr, Err, get_or}
+pub use Rattle.std.proofs.Common.{replicate, set, take, drop, take-append-drop, get_or-set_same}
+pub use Rattle.std.proofs.Common.{get_or-set_other, rules, string_bytes, Vec, Global}
 pub use Rattle.std.proofs.Math.Bool.{or-true, or-false}
 pub use Rattle.std.proofs.Math.Nat.{le-max_left, le-max_right, max-le}
-pub use Rattle.std.proofs.Math.Seq.{drop-append-add, take-append_seam, take-add}
-pub use Rattle.std.proofs.lemmas.Bool.{cases_lt, or_parts}
+pub use Rattle.std.proofs.Math.Seq.{take-add}
+pub use Rattle.std.proofs.lemmas.Bool.{or_parts}
 pub use Rattle.std.proofs.lemmas.Bool.Decides.{nat_tests}
 pub use Rattle.std.proofs.lemmas.Grind.{common_steps}
 pub use Rattle.std.proofs.lemmas.List.{append-nil, append_assoc, append_cancel_right, length-map, map-append}
-pub use Rattle.std.proofs.lemmas.List.{get_or_past, get_or-replicate, get_or_default, get_or_append_left, drop_more}
-pub use Rattle.std.proofs.lemmas.List.{get_or-take, get_or-drop, length-take, length-drop, drop-take, drop-drop}
+pub use Rattle.std.proofs.lemmas.List.{get_or_default, get_or_append_left}
+pub use Rattle.std.proofs.lemmas.List.{length-take, length-drop, drop-drop}
 pub use Rattle.std.proofs.lemmas.List.{take-take, take_all, take_more, set-set, get_or_push}
-pub use Rattle.std.proofs.lemmas.Nat.Bits.{bit_at-zero, bit_at-trailing_zeros}
-pub use Rattle.std.proofs.lemmas.Result.{err_from_is_err_and}
-pub use Rattle.std.proofs.lemmas.Simd.{bit_mask_l, get_or-zip2, length-zip2, mask_l-mod, tops_compared}
 pub use Rattle.std.proofs.lemmas.Slice.Eq.{bytes_eq-Decides}
 pub use Rattle.std.proofs.lemmas.Str.{IsUtf8-from_is_utf8, is_utf8-from_IsUtf8}
-pub use Rattle.std.specs.Int.{bit_at, trailing_zeros}
 pub use Rattle.std.specs.List.{AllByRecursion, list_any}
 pub use Rattle.std.specs.Option.{is_some, option_copied}
 pub use Rattle.std.specs.Prelude.{slice_range, unwrap_or, IfSome, OnSome, nat_lt, IsTrue, Result, Ok, IfOk, OnOk, OnErr}
 pub use Rattle.std.specs.Prelude.{codes, option_map, IfErr, is_ok}
-pub use Rattle.std.specs.Simd.Lanes.{mask_l, zip2, top}
 pub use Rattle.std.specs.Str.{bytes_eq, IsUtf8}
 pub use denote.Enum.Bare.{sameb}
 pub use Rattle.cweb_files.specs.Frames.{KeepsPlace, Writes, KeepsTexts}
@@ -38,17 +32,16 @@ pub use Rattle.cweb_lines.specs.Change.{behind_x, outside, sought, old_line, pas
 pub use Rattle.cweb_lines.specs.Counts.{count_of}
 pub use Rattle.cweb_lines.specs.Finding.{text_of_name, world_in, lines_found, names_found, text_found, found_as}
 pub use Rattle.cweb_lines.specs.Halting.{halts}
-pub use Rattle.cweb_lines.specs.Include.{World, Found, found_at, include_name, is_include, under, first_found}
-pub use Rattle.cweb_lines.specs.Include.{in_folder, found_if, web_at, name_in, up_to, change_at}
+pub use Rattle.cweb_source.specs.Include.{World, Found, found_at, include_name, is_include, under, first_found}
+pub use Rattle.cweb_source.specs.Include.{in_folder, found_if, web_at, change_at}
 pub use Rattle.cweb_lines.specs.Laws.{file_behind, ChangeFilesWithoutEntriesChangeNothing, is_code}
 pub use Rattle.cweb_lines.specs.Laws.{IncludeLinesAreReplaced, Includes, LinesComeApart, IncludedTextsMergeAsWebs}
 pub use Rattle.cweb_lines.specs.Laws.{is_too_deep, IsPlainSplice, Splice, spliced, web_lines}
 pub use Rattle.cweb_lines.specs.Laws.{EntriesWithoutMatchAreTold, PrintedMergesComeAgain, ChangesSplice}
 pub use Rattle.cweb_lines.specs.Laws.{WebsWithoutIncludesAreTheirOwnLines}
 pub use Rattle.cweb_lines.specs.Lending.{LendsLines, lent_at, LendsLine, bytes_in}
-pub use Rattle.cweb_lines.specs.Lines.{Line, SourceLine, IsOneLine, TextLine, numbered, trimmed, lines_in, HasNoNewline}
-pub use Rattle.cweb_lines.specs.Lines.{before_blanks, is_blank, lines, onto_first, text_lines, SplitsAt, HasNewline}
-pub use Rattle.cweb_lines.specs.Lines.{IsNewlineAt, byte_before}
+pub use Rattle.cweb_source.specs.Lines.{Line, SourceLine, IsOneLine, TextLine, numbered, trimmed, lines_in, HasNoNewline}
+pub use Rattle.cweb_source.specs.Lines.{before_blanks, is_blank, lines, onto_first, text_lines, SplitsAt}
 pub use Rattle.cweb_lines.specs.Merge.{Event, took, fault, Next, RawLine, State, Thing, at_raw, given, included, obeyed}
 pub use Rattle.cweb_lines.specs.Merge.{onto, opened, opening, passed, past, plain, raw, raws, run, seek, taking, told}
 pub use Rattle.cweb_lines.specs.Merge.{NewSide, new_at, new_things, compared, Compared, after_old, at_entry}
@@ -68,7 +61,7 @@ pub use Rattle.cweb_lines.specs.Replacing.{faults_replaced, IsChanged, list_if}
 pub use Rattle.cweb_lines.specs.Seeking.{ToldFront, Searched, SeeksTo, behind, BegunKnown}
 pub use Rattle.cweb_lines.specs.Seen.{fault_renumbered, line_renumbered, renumbered, seen, followed_by, only_lines}
 pub use Rattle.cweb_lines.specs.Seen.{Seen, seen_in, placed, placed_line, only_fault}
-pub use Rattle.cweb_lines.specs.Source.{BlamesReader, IsLongerThan, Takes, TakesOf, pending, left_of}
+pub use Rattle.cweb_source.specs.Source.{BlamesReader, IsLongerThan, Takes, pending, left_of}
 pub use Rattle.cweb_lines.specs.Stages.{IsSettled, floor_of, begun_by, change_in, pending_in, things_below, things_in}
 pub use Rattle.cweb_lines.specs.Stages.{begun_stage, files_begun, stage_for, IsOutside}
 pub use Rattle.cweb_lines.specs.Steps.{OnlyTakes, OnlyTells}
@@ -96,7 +89,8 @@ pub use Rattle.cweb_lines.specs.declared.fault.SourceKind.TheVariants.{NoName, N
 pub use Rattle.cweb_lines.specs.declared.fault.SourceKind.TheVariants.{Unequal, WebEnded, NoMatch, EndedBeforeZ, WantsY}
 pub use Rattle.cweb_lines.specs.declared.fault.SourceKind.TheVariants.{MissingX, NoOldLines}
 pub use Rattle.cweb_lines.specs.declared.limits.Limits.{Limits}
-pub use Rattle.cweb_lines.specs.declared.limits.TheConstants.{LINES, OPEN_FILES, LINE_LENGTH, BYTES}
+pub use Rattle.cweb_lines.specs.declared.limits.TheConstants.{LINES, OPEN_FILES, BYTES}
+pub use Rattle.cweb_source.specs.declared.limits.TheConstants.{LINE_LENGTH}
 pub use Rattle.cweb_lines.specs.declared.merger.ahead.Ahead.{Ahead}
 pub use Rattle.cweb_lines.specs.declared.passing.lent.Lent.{Lent}
 pub use Rattle.cweb_lines.specs.declared.passing.stretch.Stretch.{Stretch}
@@ -107,8 +101,8 @@ pub use Rattle.cweb_lines.specs.declared.stop.Stop.{Stop}
 pub use Rattle.cweb_lines.specs.declared.stop.Stop.TheVariants.{ReadFault, Memory, LineTooLong, TooMuchText, WriteFault}
 pub use Rattle.cweb_lines.specs.declared.text.LineAt.{LineAt}
 pub use Rattle.cweb_lines.specs.declared.text.OpenText.{OpenText}
-pub use Rattle.cweb_lines.specs.declared.text.source.LineFault.{LineFault}
-pub use Rattle.cweb_lines.specs.declared.text.source.LineFault.TheVariants.{Read, TooLong}
-pub use Rattle.cweb_lines.specs.declared.text.source.Taken.{Taken}
-pub use Rattle.cweb_lines.specs.declared.text.source.Taken.TheVariants.{Full, Last}
+pub use Rattle.cweb_source.specs.declared.source.LineFault.{LineFault}
+pub use Rattle.cweb_source.specs.declared.source.LineFault.TheVariants.{Read, TooLong}
+pub use Rattle.cweb_source.specs.declared.source.Taken.{Taken}
+pub use Rattle.cweb_source.specs.declared.source.Taken.TheVariants.{Full, Last}
 pub use Rattle.cweb_lines.specs.declared.text.stack.Stack.{Stack}

@@ -4,7 +4,7 @@ use Rattle.cweb_lines.proofs.Alone.{onto_some}
 use Rattle.cweb_lines.proofs.Merges.{state}
 use Rattle.cweb_lines.proofs.Adds.{given_none}
 use Rattle.cweb_lines.proofs.Sums.{given-append}
-use Rattle.cweb_lines.proofs.Newlines.{text_lines-full}
+use Rattle.cweb_source.proofs.Newlines.{text_lines-full}
 use Rattle.cweb_lines.proofs.WebLaws.{webs_without_includes}
 use Rattle.cweb_lines.proofs.Cuts.{IsCutLine, IsCutState, IsCutThing, IsPrinted, Keeps, all-append, lines_in-cut, raw_keeps, raws-cut, silent_keeps, sought-cut}
 

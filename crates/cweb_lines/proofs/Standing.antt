@@ -1,6 +1,6 @@
 -- Lines that stand one behind another in a piece, and what they are in their text.
 use Rattle.cweb_lines.proofs.Common.{◌≡◌, ◌≤◌, ◌<◌, ◌+◌, ◌-◌, ℕ, Bool, List, [], ◌∷◌, ◌++◌, length, map, take, drop, Option, Some, None, refl, sym, ◌∙◌, ap, arith, take-add, append_assoc, append_cancel_right, drop-drop, length-append, length-map, length-take, map-append, take-take, take_all, slice_range, IfSome, Entry, SplitsAt, TextLine, numbered, text_lines, trimmed, ArePassing, HasRoomFor, IsStretch, Passes, Reaches, StandsIn, ended, printed, sources_next, standing, pending, lines_at, Limits, LINES, BYTES, Stretch, OpenText}
-use Rattle.cweb_lines.proofs.Newlines.{behind, text_lines-full}
+use Rattle.cweb_source.proofs.Newlines.{behind, text_lines-full}
 
 pub standing-append : (a b : List (List ℕ)) → standing (a ++ b) ≡ standing a ++ standing b
 standing-append [] b = refl

@@ -1,8 +1,8 @@
 -- Lines without the blanks at their ends, and what taking a line leaves.
 use Rattle.cweb_lines.proofs.Common.{Bool, ◌≡◌, ◌≢◌, ◌+◌, ◌≤◌, ℕ, true, false, cond, List, [], ◌∷◌, ◌++◌, refl, sym, ◌∙◌, ap, subst, arith, ◌<◌, length, get_or, take, ◌⊎◌, Some, take_more, FileId, SourceLine, HasNoNewline, IsOneLine, trimmed, before_blanks, is_blank, text_lines, numbered, Takes, IsLongerThan, TakesWhole, Count, TakesLine, FirstStops, StopsFor, StopsReading, NamesFile, newline_bytes, stop_for, LINE_LENGTH, LINES, BYTES, LineFault, Read, TooLong, Taken, Last, Full, Stop, LineTooLong, TooMuchText}
-use Rattle.cweb_lines.specs.declared.text.source.LineFault.TheVariants.{Memory as NoMemory}
-use Rattle.cweb_lines.specs.declared.text.source.Taken.TheVariants.{Ended}
-use Rattle.cweb_lines.proofs.Newlines.{text_lines-full, text_lines-last, longer_first}
+use Rattle.cweb_source.specs.declared.source.LineFault.TheVariants.{Memory as NoMemory}
+use Rattle.cweb_source.specs.declared.source.Taken.TheVariants.{Ended}
+use Rattle.cweb_source.proofs.Newlines.{text_lines-full, text_lines-last, longer_first}
 
 pub trimmed-blank : (xs : List ℕ) (b : ℕ) → is_blank b ≡ true → trimmed (xs ++ b ∷ []) ≡ trimmed xs
 trimmed-blank [] b blank = ap (λ t. cond t [] (b ∷ [])) blank

@@ -2,7 +2,7 @@
 use Rattle.std.specs.Prelude.{◌≡◌, ℕ, ◌+◌, ◌-◌, ◌<◌, ◌≤◌, List, [], ◌∷◌, ◌++◌, length, slice_range, Option, None, Some}
 use Rattle.cweb_lines.specs.Change.{Entry}
 use Rattle.cweb_lines.specs.Lending.{LendsLines, LiesIn, bytes_in}
-use Rattle.cweb_lines.specs.Lines.{IsOneLine}
+use Rattle.cweb_source.specs.Lines.{IsOneLine}
 use Rattle.cweb_lines.specs.Names.{names_of}
 use Rattle.cweb_lines.specs.Passing.{ComesNext, GivesLines, StandsAt, lines_next, piece_of, standing, top_of}
 use Rattle.cweb_lines.specs.Texts.{files_up_to, number_of}

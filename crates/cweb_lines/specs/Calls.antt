@@ -1,7 +1,7 @@
 -- What the calls that take and obey lines say whatever the shelf tells: a record for each kind of call.
 use Rattle.std.specs.Prelude.{◌≡◌, ◌≤◌, ◌<◌, ◌+◌, ℕ, List, length, Option, None, Result, Ok, IfOk, IfErr, IfSome, OnSome, OnOk, OnErr}
 use Rattle.cweb_lines.specs.Counts.{count_of}
-use Rattle.cweb_lines.specs.Lines.{IsOneLine}
+use Rattle.cweb_source.specs.Lines.{IsOneLine}
 use Rattle.cweb_lines.specs.Merging.{TurnCounts, TurnEnds, TurnGains, TurnKnown, TurnLine, turns_left}
 use Rattle.cweb_lines.specs.Names.{names_of}
 use Rattle.cweb_lines.specs.Texts.{AreDeep, Count, Counted, DepthAfter, NamesFiles, StaysBelow, StopsReading, files_named, files_up_to, line_number, matches_at, most, number_of, text_depth}

@@ -1,7 +1,7 @@
 -- What a search for a text finds.
 use Rattle.std.specs.Prelude.{◌≡◌, ℕ, List, [], ◌∷◌, Option, None, Some, String, string_bytes}
-use Rattle.cweb_lines.specs.Include.{World, Found}
-use Rattle.cweb_lines.specs.Lines.{SourceLine, lines_in}
+use Rattle.cweb_source.specs.Include.{World, Found}
+use Rattle.cweb_source.specs.Lines.{SourceLine, lines_in}
 use Rattle.cweb_lines.specs.declared.files.find.Opening.{Opening}
 
 -- an opening as a text that was found, by what its reader has left

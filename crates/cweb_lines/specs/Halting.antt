@@ -4,8 +4,8 @@ use Rattle.std.specs.Prelude.{nat_lt}
 use Rattle.std.specs.Str.{bytes_eq}
 use Rattle.std.proofs.lemmas.Bool.Decides.{nat_tests}
 use Rattle.cweb_files.specs.declared.place.Place.{Place}
-use Rattle.cweb_lines.specs.Lines.{SourceLine, lines_in}
-use Rattle.cweb_lines.specs.Include.{World, Found, include_name, is_include, found_at}
+use Rattle.cweb_source.specs.Lines.{SourceLine, lines_in}
+use Rattle.cweb_source.specs.Include.{World, Found, include_name, is_include, found_at}
 use Rattle.cweb_lines.specs.Change.{code_of, Entry, Sought, sought, outside, behind_x, OldSide, old_at, old_lines}
 use Rattle.cweb_lines.specs.declared.limits.TheConstants.{OPEN_FILES}
 use Rattle.cweb_lines.specs.declared.change.code.Code.{Code}

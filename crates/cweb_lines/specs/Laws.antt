@@ -3,8 +3,8 @@ use Rattle.std.specs.Prelude.{◌≡◌, ◌≢◌, ◌<◌, ◌≤◌, ℕ, zer
 use Rattle.std.specs.List.{AllByRecursion, list_any}
 use Rattle.std.specs.Option.{is_some}
 use Rattle.std.specs.Str.{bytes_eq}
-use Rattle.cweb_lines.specs.Lines.{Line, SourceLine, lines, lines_in}
-use Rattle.cweb_lines.specs.Include.{World, found_at, include_name, is_include}
+use Rattle.cweb_source.specs.Lines.{Line, SourceLine, lines, lines_in}
+use Rattle.cweb_source.specs.Include.{World, found_at, include_name, is_include}
 use Rattle.cweb_lines.specs.Change.{at_place, code_of}
 use Rattle.cweb_lines.specs.Seen.{followed_by, only_fault, only_lines, only_name, placed, renumbered, Seen, seen_in, seen_of}
 use Rattle.cweb_lines.specs.Writing.{text_of}

@@ -1,6 +1,6 @@
 -- A line that is lent from where it lies in what was read.
 use Rattle.std.specs.Prelude.{◌≡◌, ℕ, ◌+◌, ◌≤◌, ◌<◌, List, [], ◌∷◌, length, slice_range, Option, None, Some}
-use Rattle.cweb_lines.specs.Lines.{Line}
+use Rattle.cweb_source.specs.Lines.{Line}
 use Rattle.cweb_lines.specs.Merging.{Gives, told_by, coming}
 use Rattle.cweb_lines.specs.Naming.{AreReadersKnown}
 use Rattle.cweb_lines.specs.Passing.{piece_of, top_of}

@@ -4,10 +4,10 @@ pub mod Change
 pub mod Counts
 pub mod Faults
 pub mod Finding
-pub mod Include
+pub use Rattle.cweb_source.specs.Include
 pub mod Laws
 pub mod Lending
-pub mod Lines
+pub use Rattle.cweb_source.specs.Lines
 pub mod Merge
 pub mod Merging
 pub mod Names
@@ -16,7 +16,7 @@ pub mod Passing
 pub mod Replacing
 pub mod Seeking
 pub mod Seen
-pub mod Source
+pub use Rattle.cweb_source.specs.Source
 pub mod Stages
 pub mod Steps
 pub mod Taking

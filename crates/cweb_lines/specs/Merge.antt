@@ -2,8 +2,8 @@
 use Rattle.std.specs.Prelude.{ℕ, zero, suc, ◌+◌, Bool, true, false, ◌&&◌, nat_lt, List, [], ◌∷◌, ◌++◌, map, Option, None, Some, if◌then◌else◌}
 use Rattle.std.specs.Str.{bytes_eq}
 use Rattle.cweb_files.specs.declared.place.Place.{Place}
-use Rattle.cweb_lines.specs.Lines.{Line, SourceLine, lines_in}
-use Rattle.cweb_lines.specs.Include.{World, Found, is_include, include_name, found_at}
+use Rattle.cweb_source.specs.Lines.{Line, SourceLine, lines_in}
+use Rattle.cweb_source.specs.Include.{World, Found, is_include, include_name, found_at}
 use Rattle.cweb_lines.specs.Change.{code_of, at_place, Entry, sought, OldSide, old_lines}
 use Rattle.cweb_lines.specs.declared.limits.TheConstants.{OPEN_FILES}
 use Rattle.cweb_lines.specs.declared.change.code.Code.{Code}

@@ -1,7 +1,7 @@
 -- What a merger has still to give, and what a call gives of it.
 use Rattle.std.specs.Prelude.{◌≡◌, ◌<◌, ◌≤◌, ◌+◌, ◌*◌, ◌-◌, ℕ, length, List, [], ◌∷◌, ◌++◌, Option}
 use Rattle.cweb_lines.specs.Change.{Entry}
-use Rattle.cweb_lines.specs.Lines.{Line, SourceLine, IsOneLine}
+use Rattle.cweb_source.specs.Lines.{Line, SourceLine, IsOneLine}
 use Rattle.cweb_lines.specs.Merge.{State, Event, took, Thing}
 use Rattle.cweb_lines.specs.Told.{given_lines, told_faults, openings, taken_lines, size_of, AreShort}
 use Rattle.cweb_lines.specs.Total.{merge}

@@ -1,8 +1,8 @@
 -- Lines that only pass through: what they are in what was read, and what it does to take and to gather them.
 use Rattle.std.specs.Prelude.{◌≡◌, ℕ, ◌+◌, ◌-◌, ◌<◌, ◌≤◌, Bool, false, List, [], ◌∷◌, ◌++◌, length, map, slice_range, slice_index_or, Option, None, Some}
 use Rattle.cweb_lines.specs.Change.{Entry}
-use Rattle.cweb_lines.specs.Include.{is_include}
-use Rattle.cweb_lines.specs.Lines.{Line, SourceLine, TextLine, HasNoNewline, numbered, trimmed}
+use Rattle.cweb_source.specs.Include.{is_include}
+use Rattle.cweb_source.specs.Lines.{Line, SourceLine, TextLine, HasNoNewline, numbered, trimmed}
 use Rattle.cweb_lines.specs.Merge.{Event, Thing, raws}
 use Rattle.cweb_lines.specs.Merging.{SoFar, Gives, told_by, coming, pending_of}
 use Rattle.cweb_lines.specs.Naming.{AreNamed, AreReadersKnown, IsNamed}
@@ -10,7 +10,8 @@ use Rattle.cweb_lines.specs.Stages.{IsSettled, begun_by, floor_of}
 use Rattle.cweb_lines.specs.Texts.{AreDeep, DeepAt, StaysBelow, files_up_to, lines_at, matches_at, most, number_of, text_depth, things_above}
 use Rattle.cweb_lines.specs.Writing.{text_of}
 use Rattle.cweb_lines.specs.declared.limits.Limits.{Limits}
-use Rattle.cweb_lines.specs.declared.limits.TheConstants.{LINE_LENGTH, LINES, BYTES}
+use Rattle.cweb_lines.specs.declared.limits.TheConstants.{LINES, BYTES}
+use Rattle.cweb_source.specs.declared.limits.TheConstants.{LINE_LENGTH}
 use Rattle.cweb_lines.specs.declared.passing.stretch.Stretch.{Stretch}
 use Rattle.cweb_lines.specs.declared.run.Run.{Run}
 use Rattle.cweb_lines.specs.declared.text.stack.Stack.{Stack}

@@ -2,7 +2,7 @@
 use Rattle.std.specs.Prelude.{◌≡◌, ◌+◌, ◌||◌, ℕ, Bool, nat_lt, List, [], ◌∷◌, ◌++◌, if◌then◌else◌}
 use Rattle.cweb_files.specs.declared.place.Place.{Place}
 use Rattle.cweb_lines.specs.Change.{Entry, at_place, old_lines}
-use Rattle.cweb_lines.specs.Lines.{SourceLine}
+use Rattle.cweb_source.specs.Lines.{SourceLine}
 use Rattle.cweb_lines.specs.Merge.{Compared, Thing, after_old, compared}
 use Rattle.cweb_lines.specs.Merging.{SoFar, Adds}
 use Rattle.cweb_lines.specs.Stages.{IsSettled, change_in, pending_in}

@@ -2,7 +2,7 @@
 use Rattle.std.specs.Prelude.{◌≡◌, ◌<◌, ℕ, List, [], ◌∷◌, ◌++◌, Option, None, Some}
 use Rattle.cweb_files.specs.declared.place.Place.{Place}
 use Rattle.cweb_lines.specs.Change.{Sought, at_place, sought}
-use Rattle.cweb_lines.specs.Lines.{SourceLine}
+use Rattle.cweb_source.specs.Lines.{SourceLine}
 use Rattle.cweb_lines.specs.Merging.{SoFar, Adds}
 use Rattle.cweb_lines.specs.Stages.{IsOutside, pending_in, change_in}
 use Rattle.cweb_lines.specs.declared.change.code.Code.{Code}

@@ -1,8 +1,8 @@
 -- What an author sees of a merge.
 use Rattle.std.specs.Prelude.{ℕ, ◌+◌, true, List, [], ◌∷◌, ◌++◌, map, Option, None}
 use Rattle.cweb_files.specs.declared.place.Place.{Place}
-use Rattle.cweb_lines.specs.Lines.{Line, SourceLine, lines}
-use Rattle.cweb_lines.specs.Include.{World}
+use Rattle.cweb_source.specs.Lines.{Line, SourceLine, lines}
+use Rattle.cweb_source.specs.Include.{World}
 use Rattle.cweb_lines.specs.Change.{at_place}
 use Rattle.cweb_lines.specs.Merge.{Event, raws, started}
 use Rattle.cweb_lines.specs.Told.{given_lines, told_faults, openings}

@@ -3,8 +3,8 @@ use Rattle.std.specs.Prelude.{◌≢◌, ℕ, ◌+◌, ◌&&◌, Bool, List, [],
 use Rattle.std.specs.Str.{bytes_eq}
 use Rattle.cweb_files.specs.declared.place.Place.{Place}
 use Rattle.cweb_lines.specs.Change.{Entry}
-use Rattle.cweb_lines.specs.Include.{Found}
-use Rattle.cweb_lines.specs.Lines.{SourceLine}
+use Rattle.cweb_source.specs.Include.{Found}
+use Rattle.cweb_source.specs.Lines.{SourceLine}
 use Rattle.cweb_lines.specs.Merge.{Thing, seek, new_lines}
 use Rattle.cweb_lines.specs.Texts.{things_over, things_above}
 use Rattle.cweb_lines.specs.declared.text.stack.Stack.{Stack}

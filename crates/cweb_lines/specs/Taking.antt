@@ -1,11 +1,11 @@
 -- What a line that is taken without the blanks at its end takes of its text.
 use Rattle.std.specs.Prelude.{◌≡◌, ◌≢◌, ℕ, ◌+◌, ◌≤◌, List, [], ◌∷◌, ◌++◌, length, Option, None, Some}
-use Rattle.cweb_lines.specs.Lines.{HasNoNewline, trimmed}
-use Rattle.cweb_lines.specs.Source.{Takes}
+use Rattle.cweb_source.specs.Lines.{HasNoNewline, trimmed}
+use Rattle.cweb_source.specs.Source.{Takes}
 use Rattle.cweb_lines.specs.Texts.{newline_bytes}
-use Rattle.cweb_lines.specs.declared.limits.TheConstants.{LINE_LENGTH}
-use Rattle.cweb_lines.specs.declared.text.source.Taken.{Taken}
-use Rattle.cweb_lines.specs.declared.text.source.Taken.TheVariants.{Ended}
+use Rattle.cweb_source.specs.declared.limits.TheConstants.{LINE_LENGTH}
+use Rattle.cweb_source.specs.declared.source.Taken.{Taken}
+use Rattle.cweb_source.specs.declared.source.Taken.TheVariants.{Ended}
 
 -- a line with its newline, of so many bytes together
 pub record TakesWhole (old bytes : List ℕ) (size : ℕ) (new : List ℕ) : Type 0 where

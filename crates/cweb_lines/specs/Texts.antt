@@ -2,14 +2,15 @@
 use Rattle.std.specs.Prelude.{◌≡◌, ℕ, zero, suc, ◌+◌, ◌-◌, ◌≤◌, ◌<◌, ◌⊎◌, max, Bool, false, List, [], ◌∷◌, ◌++◌, Option, None, Some, Result, Ok, Err, slice_index_or}
 use Rattle.cweb_files.specs.declared.place.FileId.{FileId}
 use Rattle.cweb_files.specs.declared.place.Place.{Place}
-use Rattle.cweb_lines.specs.Lines.{SourceLine, numbered, text_lines, lines_in}
+use Rattle.cweb_source.specs.Lines.{SourceLine, numbered, text_lines, lines_in}
 use Rattle.cweb_lines.specs.Merge.{RawLine, Thing, raw, raws}
-use Rattle.cweb_lines.specs.Source.{pending}
-use Rattle.cweb_lines.specs.declared.limits.TheConstants.{LINE_LENGTH, LINES, BYTES}
-use Rattle.cweb_lines.specs.declared.text.source.LineFault.{LineFault}
-use Rattle.cweb_lines.specs.declared.text.source.LineFault.TheVariants.{Read, TooLong, Memory as NoMemory}
-use Rattle.cweb_lines.specs.declared.text.source.Taken.{Taken}
-use Rattle.cweb_lines.specs.declared.text.source.Taken.TheVariants.{Ended, Last, Full}
+use Rattle.cweb_source.specs.Source.{pending}
+use Rattle.cweb_lines.specs.declared.limits.TheConstants.{LINES, BYTES}
+use Rattle.cweb_source.specs.declared.limits.TheConstants.{LINE_LENGTH}
+use Rattle.cweb_source.specs.declared.source.LineFault.{LineFault}
+use Rattle.cweb_source.specs.declared.source.LineFault.TheVariants.{Read, TooLong, Memory as NoMemory}
+use Rattle.cweb_source.specs.declared.source.Taken.{Taken}
+use Rattle.cweb_source.specs.declared.source.Taken.TheVariants.{Ended, Last, Full}
 use Rattle.cweb_lines.specs.declared.text.stack.Stack.{Stack}
 use Rattle.cweb_lines.specs.declared.stop.Stop.{Stop}
 use Rattle.cweb_lines.specs.declared.stop.Stop.TheVariants.{WebNotOpened, ChangeNotOpened, ReadFault, LineTooLong, TooMuchText, Memory}

@@ -1,6 +1,6 @@
 -- Every web has its merged lines, and has them once.
 use Rattle.std.proofs.Common.{◌≡◌, ℕ, zero, suc, List, [], ◌++◌, Option, Some, None, refl, sym, ◌∙◌, ap}
-use Rattle.cweb_lines.specs.Include.{World}
+use Rattle.cweb_source.specs.Include.{World}
 use Rattle.cweb_lines.specs.Merge.{Event, State, Next, step, onto, then_run, run}
 use Rattle.cweb_lines.specs.Halting.{Halts, halts, halts_next}
 

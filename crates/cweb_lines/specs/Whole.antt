@@ -3,8 +3,8 @@ use Rattle.std.specs.Prelude.{◌≡◌, ◌≤◌, ◌<◌, ◌+◌, ℕ, List,
 use Rattle.cweb_files.specs.declared.device.Shelf.{Ghosts as Shelf}
 use Rattle.cweb_files.specs.declared.place.Place.{Place}
 use Rattle.cweb_lines.specs.Finding.{names_found, text_found}
-use Rattle.cweb_lines.specs.Include.{World, Found}
-use Rattle.cweb_lines.specs.Lines.{Line, IsOneLine}
+use Rattle.cweb_source.specs.Include.{World, Found}
+use Rattle.cweb_source.specs.Lines.{Line, IsOneLine}
 use Rattle.cweb_lines.specs.Merge.{Event, started}
 use Rattle.cweb_lines.specs.Merging.{SoFar, Gives, KeepsTold, NothingLeft, Stopped, TellsFront, told_by, coming}
 use Rattle.cweb_lines.specs.Naming.{AreReadersKnown, BlamesFile}

@@ -1,7 +1,7 @@
 -- What merged lines look like in a sink.
 use Rattle.std.specs.Prelude.{◌≡◌, ◌<◌, ◌≤◌, ◌+◌, ◌⊎◌, ℕ, List, [], ◌∷◌, ◌++◌, length, Option, None, Some, IfSome}
 use Rattle.cweb_files.specs.declared.place.FileId.{FileId}
-use Rattle.cweb_lines.specs.Lines.{Line, SourceLine}
+use Rattle.cweb_source.specs.Lines.{Line, SourceLine}
 use Rattle.cweb_lines.specs.Merge.{Event, took}
 use Rattle.cweb_lines.specs.Merging.{SoFar, Gives, StopsBehind, TellsFront}
 use Rattle.cweb_lines.specs.Texts.{Count, IsTooLong, StopsReading, read_blame, files_named}

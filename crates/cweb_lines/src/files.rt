@@ -2,7 +2,6 @@
 ghost use Rattle.std.specs.Prelude.{◌≡◌, ◌<◌, ◌+◌, ◌^◌, ◌++◌, ◌∷◌, [], length, OnOk, OnErr, IfErr, vec_len, string_bytes, slice_index_or};
 
 pub mod find;
-pub mod include;
 pub mod open;
 
 use crate::stop::Stop;

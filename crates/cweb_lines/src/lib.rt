@@ -1,7 +1,7 @@
 //! The merged lines of a web: the lines of its files, with included files put in and a change file's entries made.
 #![tactic(auto)]
 
-// an open text, cut into lines
+// open texts, and what is taken of them
 mod text;
 
 // the files that are opened, and their names
@@ -40,9 +40,10 @@ pub mod laws;
 pub use cweb_files::{
     FileId, MemoryReader, MemoryShelf, MemorySink, Place, Shelf, ShelfFault, Sink, SinkFault,
 };
+pub use cweb_source::LINE_LENGTH;
 pub use fault::{SourceFault, SourceKind};
 pub use files::FileNames;
-pub use limits::{BYTES, LINE_LENGTH, LINES};
+pub use limits::{BYTES, LINES};
 pub use merger::Merger;
 pub use merger::ahead::Ahead;
 pub use passing::lent::Lent;

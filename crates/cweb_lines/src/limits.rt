@@ -3,9 +3,6 @@ ghost use Rattle.std.specs.Prelude.{◌≡◌, ◌≤◌, ◌<◌, ◌+◌, ◌�
 
 use crate::stop::Stop;
 
-/// The bytes that a line may have, without its newline.
-pub const LINE_LENGTH: usize = 1_048_575;
-
 /// The lines that may be taken from all files.
 pub const LINES: u32 = 16_777_216;
 

@@ -2,7 +2,7 @@
 ghost use Rattle.std.specs.Prelude.{◌≡◌, ◌≤◌, ◌<◌, ◌+◌, ◌^◌, ℕ, List, [], length, IsTrue, true, string_bytes, ◌∷◌, ◌++◌, IfOk, Ok, Err, IfErr, IfSome, OnOk, OnErr, OnSome, None, Some, All};
 ghost use Rattle.std.specs.Option.{option_copied};
 ghost use Rattle.cweb_files.specs.Frames.{KeepsTexts};
-ghost use Rattle.cweb_lines.specs.Include.{web_at, change_at};
+ghost use Rattle.cweb_source.specs.Include.{web_at, change_at};
 ghost use Rattle.cweb_lines.specs.Lending.{LendsLine, LiesIn, bytes_in};
 ghost use Rattle.cweb_lines.specs.Names.{names_of};
 ghost use Rattle.cweb_lines.specs.Passing.{PassesLines};

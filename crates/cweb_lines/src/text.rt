@@ -1,12 +1,9 @@
 // Open texts, and the lines that are taken of them.
-pub mod cut;
-pub mod pieces;
-pub mod source;
 pub mod stack;
 pub mod take;
 
-use crate::text::source::Source;
 use cweb_files::{FileId, Place};
+use cweb_source::Source;
 
 /// A text that is being read.
 #[derive(Drop)]

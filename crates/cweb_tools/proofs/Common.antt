@@ -40,7 +40,8 @@ pub use Rattle.cweb_lines.specs.declared.fault.SourceFault.{SourceFault}
 pub use Rattle.cweb_lines.specs.declared.fault.SourceKind.{SourceKind}
 pub use Rattle.cweb_lines.specs.declared.fault.SourceKind.TheVariants.{Unequal, NotThere}
 pub use Rattle.cweb_lines.specs.declared.files.FileNames.{FileNames}
-pub use Rattle.cweb_lines.specs.declared.limits.TheConstants.{LINES, BYTES, LINE_LENGTH}
+pub use Rattle.cweb_lines.specs.declared.limits.TheConstants.{LINES, BYTES}
+pub use Rattle.cweb_source.specs.declared.limits.TheConstants.{LINE_LENGTH}
 pub use Rattle.cweb_lines.specs.declared.stop.Stop.{Stop}
 pub use Rattle.cweb_lines.specs.declared.stop.Stop.TheVariants.{LogFault, Memory, Usage, WebNotOpened, ChangeNotOpened}
 pub use Rattle.cweb_lines.specs.declared.stop.Stop.TheVariants.{ReadFault, LineTooLong, TooMuchText, OutNotOpened}

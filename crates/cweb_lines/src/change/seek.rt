@@ -4,7 +4,7 @@ ghost use Rattle.cweb_files.specs.Frames.{KeepsTexts};
 ghost use Rattle.cweb_lines.specs.Calls.{OnlySeeks};
 ghost use Rattle.cweb_lines.specs.Change.{sought};
 ghost use Rattle.cweb_lines.specs.Counts.{count_of};
-ghost use Rattle.cweb_lines.specs.Lines.{SourceLine};
+ghost use Rattle.cweb_source.specs.Lines.{SourceLine};
 ghost use Rattle.cweb_lines.specs.Merging.{KeepsTold, StopsAmong, TellsSome, change_lines, told_by, turns_left};
 ghost use Rattle.cweb_lines.specs.Names.{names_of};
 ghost use Rattle.cweb_lines.specs.Seeking.{BegunKnown, LooksAt, LooksKnown, Searched, ToldFront, begun_outside, told_outside};

@@ -2,7 +2,7 @@
 ghost use Rattle.std.specs.Prelude.{◌≡◌, ◌∷◌, ◌++◌, ℕ, List, IsTrue, IfOk, string_bytes};
 ghost use Rattle.std.specs.Option.{option_copied};
 ghost use Rattle.cweb_files.specs.Frames.{KeepsTexts};
-ghost use Rattle.cweb_lines.specs.Include.{found_at, under, web_at, change_at};
+ghost use Rattle.cweb_source.specs.Include.{found_at, under, web_at, change_at};
 ghost use Rattle.cweb_lines.specs.Finding.{found_as, changes_found, world_in, IsChangeOpened, IsOpened};
 
 use cweb_files::Shelf;

@@ -2,7 +2,7 @@
 ghost use Rattle.std.specs.Prelude.{◌≡◌, ◌≤◌, ◌++◌, ◌∷◌, ℕ, List, [], length, string_bytes, IfOk, IfErr, OnOk, true};
 ghost use Rattle.std.specs.Option.{option_copied};
 ghost use Rattle.cweb_lines.specs.Finding.{text_of_name, found_as, names_found, lines_found, IsOpened};
-ghost use Rattle.cweb_lines.specs.Lines.{lines_in};
+ghost use Rattle.cweb_source.specs.Lines.{lines_in};
 ghost use Rattle.cweb_lines.specs.Names.{names_of};
 ghost use Rattle.cweb_lines.specs.Stages.{stage_for, begun_stage};
 ghost use Rattle.cweb_lines.specs.Texts.{lines_left, lines_at, number_of, line_number, files_up_to};
@@ -13,8 +13,8 @@ use crate::files::FileNames;
 use crate::files::find::Opening;
 use crate::stop::Stop;
 use crate::text::OpenText;
-use crate::text::source::Source;
 use cweb_files::FileId;
+use cweb_source::Source;
 use std::alloc::{AllocError, Global};
 
 /// A copy of a name, where there is one.

@@ -6,14 +6,12 @@ ghost use Rattle.cweb_lines.specs.Stages.{pending_in};
 ghost use Rattle.cweb_lines.specs.declared.limits.TheConstants.{LINES};
 
 use crate::change::Stage;
-use crate::files::include::is_include;
-use crate::limits::{LINE_LENGTH, Limits};
+use crate::limits::Limits;
 use crate::run::Run;
 use crate::step::turning::begun_at;
 use crate::text::OpenText;
-use crate::text::cut::newline_at;
-use crate::text::source::Source;
 use crate::text::take::trimmed_length;
+use cweb_source::{LINE_LENGTH, Source, is_include, newline_at};
 
 /// Lines that stand one behind another in what was read, and pass through. All but the last have no blanks at their ends, so
 /// that they are printed as they stand.

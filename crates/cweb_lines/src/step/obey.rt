@@ -2,8 +2,8 @@
 ghost use Rattle.std.specs.Prelude.{◌≡◌, ◌≤◌, ◌<◌, ◌+◌, ◌^◌, ◌++◌, ◌∷◌, [], length, IsTrue, IfOk, IfErr, OnOk, OnErr, None, Some, string_bytes, true, ℕ, List};
 ghost use Rattle.cweb_files.specs.Frames.{KeepsTexts};
 ghost use Rattle.cweb_lines.specs.Calls.{OnlyObeys, OnlyOpens};
-ghost use Rattle.cweb_lines.specs.Include as spec;
-ghost use Rattle.cweb_lines.specs.Lines.{SourceLine};
+ghost use Rattle.cweb_source.specs.Include as spec;
+ghost use Rattle.cweb_source.specs.Lines.{SourceLine};
 ghost use Rattle.cweb_lines.specs.Merging.{GivesBehind, KeepsTold, pending_of, told_by, coming, coming_after, lines_given, IsTaken, TurnKnown};
 ghost use Rattle.cweb_lines.specs.Names.{names_of};
 ghost use Rattle.cweb_lines.specs.Stages.{begun_by, IsSettled};
@@ -13,14 +13,13 @@ ghost use Rattle.cweb_lines.specs.Naming.{AreReadersKnown, KeepsReaders};
 
 use crate::fault::SourceKind;
 use crate::files::find::{Opening, find};
-use crate::files::include::{include_name, is_include};
 use crate::limits::OPEN_FILES;
 use crate::run::Run;
 use crate::step::Turn;
 use crate::stop::Stop;
-use crate::text::source::Source;
 use crate::text::{LineAt, OpenText};
 use cweb_files::{FileId, Shelf};
+use cweb_source::{Source, include_name, is_include};
 
 // The lines of a text that was found come next, one deeper than the line that names it, and match where that line does.
 fn open<R: Drop>(run: &mut Run<R>, opening: Opening<R>, at: LineAt) -> Result<(), Stop>

@@ -3,7 +3,7 @@ ghost use Rattle.std.specs.Prelude.{◌≡◌, ◌≤◌, ◌<◌, ◌+◌, ◌^
 ghost use Rattle.cweb_files.specs.Frames.{KeepsTexts};
 ghost use Rattle.cweb_lines.specs.Calls.{AnswersLine, ClosesAbove};
 ghost use Rattle.cweb_lines.specs.Counts.{count_of};
-ghost use Rattle.cweb_lines.specs.Lines.{IsOneLine};
+ghost use Rattle.cweb_source.specs.Lines.{IsOneLine};
 ghost use Rattle.cweb_lines.specs.Merging.{NothingLeft, change_lines};
 ghost use Rattle.cweb_lines.specs.Names.{names_of};
 ghost use Rattle.cweb_lines.specs.Stages.{floor_of};

@@ -3,17 +3,17 @@ ghost use Rattle.std.specs.Prelude.{◌≡◌, ◌≤◌, ◌<◌, ◌+◌, ◌-
 ghost use Rattle.cweb_files.specs.Frames.{KeepsTexts};
 ghost use Rattle.cweb_lines.specs.Calls.{AnswersLine, ClosesAbove, ClosesTop, KeepsStack};
 ghost use Rattle.cweb_lines.specs.Counts.{count_of};
-ghost use Rattle.cweb_lines.specs.Lines.{IsOneLine};
+ghost use Rattle.cweb_source.specs.Lines.{IsOneLine};
 ghost use Rattle.cweb_lines.specs.declared.limits.TheConstants.{OPEN_FILES};
 ghost use Rattle.cweb_lines.specs.Texts.{most, line_number, files_up_to, ReadBlames, Counted, NamesFiles, AreDeep, TakesTop, TakesAbove, StopsFor, StopsReading, StopsTop, StopsAbove, StaysBelow, DepthAfter, Pushes};
 ghost use Rattle.cweb_lines.specs.Naming.{BlamesTexts, KeepsNames};
 
 use crate::limits::{Limits, OPEN_FILES};
 use crate::stop::Stop;
-use crate::text::pieces::Pieces;
 use crate::text::take::take_from;
 use crate::text::{LineAt, OpenText};
 use cweb_files::Shelf;
+use cweb_source::Pieces;
 use std::alloc::Global;
 
 /// The web and the files that are open within it, each in a place of its own: the text at place `depth - 1` is being read.

@@ -2,20 +2,19 @@
 ghost use Rattle.std.specs.Prelude.{◌≡◌, ◌≤◌, ◌<◌, ◌+◌, ◌^◌, ℕ, List, length, take, IsTrue, IfOk, IfErr, IfSome, OnSome, OnOk, OnErr, IsErrOf, Ok, None, Some};
 ghost use Rattle.cweb_files.specs.Frames.{KeepsTexts};
 ghost use Rattle.cweb_lines.specs.Calls.{AnswersLine, KeepsText};
-ghost use Rattle.cweb_lines.specs.Source.{left_of, pending, IsLongerThan, Blames, BlamesReader};
+ghost use Rattle.cweb_source.specs.Source.{left_of, pending, IsLongerThan, Blames, BlamesReader};
 ghost use Rattle.cweb_lines.specs.Taking.{TakesWhole, TakesTrimmed};
-ghost use Rattle.cweb_lines.specs.Lines.{trimmed, IsOneLine};
-ghost use Rattle.cweb_lines.specs.Lines as spec;
+ghost use Rattle.cweb_source.specs.Lines.{trimmed, IsOneLine};
+ghost use Rattle.cweb_source.specs.Lines as spec;
 ghost use Rattle.cweb_lines.specs.Counts.{count_of};
 ghost use Rattle.cweb_lines.specs.Texts.{lines_left, lines_at, number_of, line_number, text_depth, matches_at, DeepAt, files_up_to, TakesLine, StopsFor, StopsReading, FirstStops, ReadBlames, Counted, NamesFile, NamesFiles, stop_for, newline_bytes};
 ghost use Rattle.cweb_lines.specs.Naming.{BlamesText, KeepsName};
 
-use crate::limits::{LINE_LENGTH, Limits};
+use crate::limits::Limits;
 use crate::stop::Stop;
-use crate::text::cut::{newline_at, next_line};
-use crate::text::source::{LineFault, Source, Taken};
 use crate::text::{LineAt, OpenText};
 use cweb_files::{FileId, Place, Shelf};
+use cweb_source::{LINE_LENGTH, LineFault, Source, Taken, newline_at, next_line};
 use std::alloc::AllocError;
 
 fn is_blank(b: u8) -> bool

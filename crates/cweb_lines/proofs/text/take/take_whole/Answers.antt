@@ -1,5 +1,5 @@
 use Rattle.cweb_lines.proofs.Common.{take, ◌∙◌, arith, length-take, slice_range}
-use Rattle.cweb_lines.proofs.Newlines.{behind}
+use Rattle.cweb_source.proofs.Newlines.{behind}
 use Rattle.cweb_lines.proofs.text.take.take_whole.Goals as goal
 
 pub returns-clause-taken : goal.returns-clause-taken

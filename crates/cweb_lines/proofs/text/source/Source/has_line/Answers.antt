@@ -1,6 +1,0 @@
-use Rattle.cweb_lines.proofs.Newlines.{whole_line}
-use Rattle.cweb_lines.proofs.text.source.Source.has_line.Goals as goal
-
-pub returns-then-self : goal.returns-then-self
-returns-then-self g c = λ _. whole_line c.args.self.now.piece.items c.args.self.now.start c.args.self.now.end
-    c.args.self.now.lines_end c.if-self.true c.args.self.now.whole c.args.self.now.within c.args.self.now.newline

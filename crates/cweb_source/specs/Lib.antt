@@ -1,0 +1,3 @@
+pub mod Include
+pub mod Lines
+pub mod Source

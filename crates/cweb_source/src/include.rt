@@ -1,0 +1,59 @@
+// Include lines, and the names in them.
+ghost use Rattle.std.specs.Prelude.{◌≡◌, ◌≤◌, ◌<◌, ◌+◌, ℕ, List, length, take, drop};
+ghost use Rattle.cweb_source.specs.Include as spec;
+
+pub fn is_include(line: &[u8]) -> bool
+    ensures { result ≡ spec.is_include line.now }
+{
+    line.len() >= 2 && line[0] == b'@' && (line[1] == b'i' || line[1] == b'I')
+}
+
+fn is_space(b: u8) -> bool
+    ensures { result ≡ spec.is_space b }
+{
+    b == b' ' || b == b'\t'
+}
+
+// What ends a name: a quote, and outside quotes a space.
+fn ends_name(quoted: bool, b: u8) -> bool
+    ensures { result ≡ spec.ends_name quoted b }
+{
+    if quoted {
+        b == b'"'
+    } else {
+        is_space(b) || b == b'"'
+    }
+}
+
+fn up_to(quoted: bool, bytes: &[u8]) -> &[u8]
+    ensures { result.now ≡ spec.up_to quoted bytes.now }
+{
+    for i in 0..bytes.len() {
+        if ends_name(quoted, bytes[i]) {
+            return &bytes[..i];
+        }
+    }
+    bytes
+}
+
+fn name_in(bytes: &[u8]) -> &[u8]
+    ensures { result.now ≡ spec.name_in bytes.now }
+{
+    for i in 0..bytes.len() {
+        if bytes[i] == b'"' {
+            return up_to(true, &bytes[i + 1..]);
+        }
+        if !is_space(bytes[i]) {
+            return up_to(false, &bytes[i..]);
+        }
+    }
+    &[]
+}
+
+/// The name that an include line gives. It is empty where none is given.
+pub fn include_name(line: &[u8]) -> &[u8]
+    requires { 2 ≤ length line.now }
+    ensures { result.now ≡ spec.include_name line.now }
+{
+    name_in(&line[2..])
+}

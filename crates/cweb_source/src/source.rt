@@ -1,0 +1,104 @@
+// A text that is being read, and how a line of it ended.
+ghost use Rattle.std.specs.Prelude.{◌≡◌, ◌≤◌, ◌<◌, length, IfOk};
+ghost use Rattle.cweb_source.specs.Lines.{byte_before, HasNewline};
+ghost use Rattle.cweb_source.specs.declared.source.LineFault.TheVariants.{Memory};
+
+use crate::include::is_include;
+use crate::pieces::new_piece;
+use std::alloc::{AllocError, Global};
+
+/// Why a line could not be taken.
+#[derive(Clone, Copy)]
+pub enum LineFault {
+    Read,
+    TooLong,
+    Memory,
+}
+
+impl From<AllocError> for LineFault {
+    ghost from_gives = { λ _ e. e ≡ Memory };
+
+    fn from(_: AllocError) -> Self {
+        LineFault::Memory
+    }
+}
+
+/// How a line ended.
+#[derive(Clone, Copy)]
+pub enum Taken {
+    /// There is no line.
+    Ended,
+    /// It is the last one, without a newline.
+    Last,
+    /// Its newline came.
+    Full,
+}
+
+/// A reader, and the bytes that were read and not yet taken: those of the piece from `start` to `end`.
+#[derive(Drop)]
+pub struct Source<R: Drop> {
+    // On the heap: so the size of what holds it, and of many such in an array, doesn't depend on the reader's type.
+    pub reader: Box<R>,
+    pub piece: Vec<u8>,
+    pub start: usize,
+    pub end: usize,
+    /// Where the last whole line that was read ends: right behind the last newline, or 0 where none was read.
+    pub lines_end: usize,
+    ghost ordered: { start ≤ end },
+    ghost within: { end ≤ length piece.items },
+    ghost some: { 0 < length piece.items },
+    ghost whole: { lines_end ≤ end },
+    ghost newline: { byte_before piece.items lines_end ≡ 10 },
+}
+
+impl<R: Drop> Source<R> {
+    ghost use Rattle.cweb_source.specs.Source.{pending};
+    ghost use Rattle.std.specs.Prelude.{[], IsTrue};
+
+    /// A reader of which nothing was read.
+    pub fn new(alloc: Global, reader: R) -> Result<Self, AllocError>
+        ensures reader { IfOk result (λ source. source.reader.value ≡ reader) }
+        ensures pending { IfOk result (λ source. pending source ≡ []) }
+    {
+        let piece = new_piece(alloc)?;
+        Source::with_piece(alloc, reader, piece)
+    }
+
+    /// A reader of which nothing was read, and a piece for its bytes. What stands in the piece is never shown.
+    pub fn with_piece(alloc: Global, reader: R, piece: Vec<u8>) -> Result<Self, AllocError>
+        requires { 0 < length piece.items }
+        ensures reader { IfOk result (λ source. source.reader.value ≡ reader) }
+        ensures pending { IfOk result (λ source. pending source ≡ []) }
+    {
+        Ok(Source {
+            reader: Box::new(alloc, reader)?,
+            piece,
+            start: 0,
+            end: 0,
+            lines_end: 0,
+        })
+    }
+
+    /// The piece, for a text that is opened later.
+    pub fn into_piece(self) -> Vec<u8> {
+        self.piece
+    }
+
+    /// Whether the next line was read already and is no include line, so that it can be taken without a read. Only the
+    /// time of a write depends on it, never what is written.
+    pub fn has_line(&self) -> bool
+        ensures { IsTrue result → HasNewline (pending self.now) }
+    {
+        self.start < self.lines_end && !is_include(&self.piece[self.start..self.end])
+    }
+
+    /// Whether what was read of the next line begins so. Only the time of a write depends on it. Most lines are told by
+    /// their first byte.
+    pub fn may_begin_with(&self, front: &[u8]) -> bool {
+        let pending = &self.piece[self.start..self.end];
+        match (front.first(), pending.first()) {
+            (Some(wanted), Some(byte)) if wanted != byte => false,
+            _ => pending.starts_with(front),
+        }
+    }
+}
