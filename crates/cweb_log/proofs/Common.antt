@@ -49,8 +49,8 @@ pub use Rattle.cweb_rules.specs.declared.fault.ScanKind.TheVariants.{DefinitionD
 pub use Rattle.cweb_store.specs.Calls.{Stored}
 pub use Rattle.cweb_store.specs.Names.{Occurrence, id}
 pub use Rattle.cweb_store.specs.Parts.{Part, Name}
-pub use Rattle.cweb_store.specs.declared.names.How.TheVariants.{Full, Prefix}
-pub use Rattle.cweb_store.specs.declared.names.NameFault.{NameFault}
-pub use Rattle.cweb_store.specs.declared.names.NameRef.{NameRef}
+pub use Rattle.cweb_names.specs.declared.name.How.TheVariants.{Full, Prefix}
+pub use Rattle.cweb_names.specs.declared.name.NameFault.{NameFault}
+pub use Rattle.cweb_names.specs.declared.name.NameRef.{NameRef}
 pub use Rattle.cweb_store.specs.declared.parts.PartKind.{PartKind}
 pub use Rattle.cweb_store.specs.declared.parts.PartKind.TheVariants.{Unnamed, Named}

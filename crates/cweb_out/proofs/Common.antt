@@ -69,9 +69,9 @@ pub use Rattle.cweb_store.specs.Next.{is_name}
 pub use Rattle.cweb_store.specs.Parts.{Token, has_defs_code, Name, all_tokens, Newline, Defs, Word, Number, Literal}
 pub use Rattle.cweb_store.specs.Parts.{Verbatim, Punct, Blank, Join, Head, Tail}
 pub use Rattle.cweb_store.specs.Seen.{seen}
-pub use Rattle.cweb_store.specs.declared.names.How.TheVariants.{Full}
-pub use Rattle.cweb_store.specs.declared.names.NameId.{NameId}
-pub use Rattle.cweb_store.specs.declared.names.NameRef.{NameRef}
+pub use Rattle.cweb_names.specs.declared.name.How.TheVariants.{Full}
+pub use Rattle.cweb_names.specs.declared.name.NameId.{NameId}
+pub use Rattle.cweb_names.specs.declared.name.NameRef.{NameRef}
 pub use Rattle.cweb_store.specs.declared.parts.Part.{Part}
 pub use Rattle.cweb_store.specs.declared.parts.PartKind.{PartKind}
 pub use Rattle.cweb_store.specs.declared.parts.PartKind.TheVariants.{Unnamed, Named}

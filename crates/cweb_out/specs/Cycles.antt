@@ -1,7 +1,7 @@
 -- The cycle that is reported: a walk along names whose expansion does not end.
 use Rattle.std.specs.Prelude.{ℕ, suc, zero, true, false, List, [], ◌∷◌, ◌++◌, Option, None, Some, drop}
 use Rattle.std.specs.List.{list_any, position_or_len}
-use Rattle.cweb_store.specs.declared.names.NameId.{NameId}
+use Rattle.cweb_names.specs.declared.name.NameId.{NameId}
 use Rattle.cweb_store.specs.Names.{is_id}
 use Rattle.cweb_store.specs.Calls.{Stored}
 use Rattle.cweb_out.specs.Uses.{names, joined}

@@ -1,6 +1,6 @@
 -- The expansion of a list of tokens: each use is replaced by the expanded text of its name.
 use Rattle.std.specs.Prelude.{ℕ, suc, zero, List, [], ◌∷◌, Option, None, Some, flat_map}
-use Rattle.cweb_store.specs.declared.names.NameId.{NameId}
+use Rattle.cweb_names.specs.declared.name.NameId.{NameId}
 use Rattle.cweb_store.specs.Parts.{Token, Name}
 use Rattle.cweb_store.specs.Calls.{Stored}
 use Rattle.cweb_out.specs.Uses.{joined, stands}

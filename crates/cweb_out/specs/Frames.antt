@@ -1,8 +1,8 @@
 -- What a stack of frames still has to give.
 use Rattle.std.specs.Prelude.{ℕ, ◌≤◌, ◌<◌, ◌≡◌, ◌+◌, ◌-◌, suc, zero, List, [], ◌∷◌, ◌++◌, true, All, Option, Some, None, length, sum_by}
 use Rattle.std.specs.List.{list_all}
-use Rattle.cweb_store.specs.declared.names.NameId.{NameId}
-use Rattle.cweb_store.specs.declared.names.NameRef.{NameRef}
+use Rattle.cweb_names.specs.declared.name.NameId.{NameId}
+use Rattle.cweb_names.specs.declared.name.NameRef.{NameRef}
 use Rattle.cweb_store.specs.declared.parts.Part.{Part}
 use Rattle.cweb_store.specs.Parts.{Token, Name, all_tokens}
 use Rattle.cweb_store.specs.Calls.{Stored}

@@ -1,7 +1,7 @@
 -- The rank of a name: how deep the names that it uses lie within one another.
 use Rattle.std.specs.Prelude.{ℕ, suc, zero, Bool, true, false, not, List, Option, find}
 use Rattle.std.specs.List.{list_all}
-use Rattle.cweb_store.specs.declared.names.NameId.{NameId}
+use Rattle.cweb_names.specs.declared.name.NameId.{NameId}
 use Rattle.cweb_store.specs.Parts.{Token}
 use Rattle.cweb_store.specs.Calls.{Stored}
 use Rattle.cweb_out.specs.Uses.{names, joined, uses}

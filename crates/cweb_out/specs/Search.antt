@@ -1,7 +1,7 @@
 -- The search for a cycle: names that wait until each name that they use has a rank.
 use Rattle.std.specs.Prelude.{◌≡◌, ◌<◌, ℕ, Bool, true, false, List, [], ◌∷◌, ◌++◌, Option, Some, None, map, length, drop, option_to_list, slice_index_or, sum_by, if◌then◌else◌}
 use Rattle.std.specs.List.{list_all, list_any, position_or_len}
-use Rattle.cweb_store.specs.declared.names.NameId.{NameId}
+use Rattle.cweb_names.specs.declared.name.NameId.{NameId}
 use Rattle.cweb_store.specs.Names.{is_id}
 use Rattle.cweb_store.specs.Parts.{Token}
 use Rattle.cweb_store.specs.Calls.{Stored}

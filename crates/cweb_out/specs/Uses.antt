@@ -1,8 +1,8 @@
 -- What a web uses: the tokens of a store, the text that the parts of a name join to, and the names that a list of tokens uses.
 use Rattle.std.specs.Prelude.{◌≡◌, ℕ, false, List, [], ◌++◌, Option, length, flat_map, option_to_list}
 use Rattle.std.specs.List.{list_any}
-use Rattle.cweb_store.specs.declared.names.NameId.{NameId}
-use Rattle.cweb_store.specs.declared.names.NameRef.{NameRef}
+use Rattle.cweb_names.specs.declared.name.NameId.{NameId}
+use Rattle.cweb_names.specs.declared.name.NameRef.{NameRef}
 use Rattle.cweb_store.specs.Names as spec
 use Rattle.cweb_store.specs.Parts as parts
 use Rattle.cweb_store.specs.Parts.{Token, Name, is_unnamed, is_of, all_tokens}

@@ -46,7 +46,7 @@ pub use Rattle.cweb_store.specs.Parts.{Token, Word, Number, Literal, Verbatim, P
 pub use Rattle.cweb_store.specs.Parts.{Head, Tail, Mark, all_tokens, is_macro, numbers_from, numbers_where}
 pub use Rattle.cweb_store.specs.Seen.{seen}
 pub use Rattle.cweb_texts.specs.contracts.borders.Border.{the_type}
-pub use Rattle.cweb_store.specs.declared.names.NameId.{NameId}
+pub use Rattle.cweb_names.specs.declared.name.NameId.{NameId}
 pub use Rattle.cweb_store.specs.declared.parts.Part.{Part}
 pub use Rattle.cweb_store.specs.declared.parts.PartKind.{PartKind}
 pub use Rattle.cweb_texts.specs.declared.borders.Border.{Border}

@@ -122,8 +122,8 @@ pub use Rattle.cweb_store.specs.Names.{Occurrence}
 pub use Rattle.cweb_store.specs.Parts.{Token, Word, Number, Literal, Verbatim, Punct, Blank, Newline, Join, Defs, Name}
 pub use Rattle.cweb_store.specs.Parts.{Head, Tail, Mark, Part, all_tokens, is_macro}
 pub use Rattle.cweb_store.specs.Replacements.{Replacement}
-pub use Rattle.cweb_store.specs.declared.names.How.{How}
-pub use Rattle.cweb_store.specs.declared.names.How.TheVariants.{Full, Prefix}
-pub use Rattle.cweb_store.specs.declared.names.NameRef.{NameRef}
+pub use Rattle.cweb_names.specs.declared.name.How.{How}
+pub use Rattle.cweb_names.specs.declared.name.How.TheVariants.{Full, Prefix}
+pub use Rattle.cweb_names.specs.declared.name.NameRef.{NameRef}
 pub use Rattle.cweb_store.specs.declared.parts.PartKind.{PartKind}
 pub use Rattle.cweb_store.specs.declared.parts.PartKind.TheVariants.{Unnamed}

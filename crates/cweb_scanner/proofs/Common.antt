@@ -82,5 +82,5 @@ pub use Rattle.cweb_store.specs.Names.{Occurrence}
 pub use Rattle.cweb_store.specs.Parts.{Token, Punct, Part, all_tokens, Blank, Word, Literal, Number, Newline, Verbatim}
 pub use Rattle.cweb_store.specs.Parts.{Join, Defs, Name, Head, Tail, Mark, is_macro}
 pub use Rattle.cweb_store.specs.Seen.{seen}
-pub use Rattle.cweb_store.specs.declared.names.NameRef.{NameRef}
+pub use Rattle.cweb_names.specs.declared.name.NameRef.{NameRef}
 pub use Rattle.cweb_store.specs.declared.parts.PartKind.{PartKind}

@@ -1,7 +1,7 @@
 -- The name that an occurrence gives, and how it gives it.
 use Rattle.std.specs.Prelude.{ℕ, ◌-◌, Bool, true, false, ◌&&◌, ◌||◌, ◌==◌, not, nat_eq, nat_lt, List, [], ◌∷◌, ◌++◌, length, take, codes, if◌then◌else◌}
 use Rattle.std.specs.List.{ends_with}
-use Rattle.cweb_store.specs.declared.names.How.TheVariants.{Full, Prefix}
+use Rattle.cweb_names.specs.declared.name.How.TheVariants.{Full, Prefix}
 use Rattle.cweb_store.specs.Names.{Occurrence}
 use Rattle.cweb_rules.specs.Bytes.{is_white}
 

@@ -1,6 +1,7 @@
 -- Names, files and faults are in range.
-use Rattle.cweb_store.proofs.Common.{◌≡◌, ℕ, zero, suc, ◌+◌, ◌≤◌, ◌<◌, Bool, true, List, [], ◌∷◌, ◌++◌, Some, None, Option, length, refl, ap, arith, length-append, Ok, Err, IfSome, All, bytes_eq, AllByRecursion, list_any, position_or_len, length-map, All-from_recursion, How, Full, Prefix, NameId, NameFault, NameKind, NeverFull, Occurrence, Name, Standing, texts, with_text, with_name, names_from, names, beginning_from, the_one, standing_among, standings_from, standings, stands, with_some, with_file, files_from, files, Part, standing_faults_from, faults_from, faults}
-use Rattle.cweb_store.proofs.OccurrenceLemmas.{Grows, names_from-grows, with_text-has}
+use Rattle.cweb_store.proofs.Common.{◌≡◌, ℕ, zero, suc, ◌+◌, ◌≤◌, ◌<◌, Bool, List, [], ◌∷◌, ◌++◌, Some, None, Option, length, refl, ap, arith, length-append, Ok, Err, IfSome, All, bytes_eq, AllByRecursion, length-map, All-from_recursion, How, Full, Prefix, NameId, NameFault, NameKind, NeverFull, Occurrence, Name, Standing, texts, with_text, with_name, names_from, names, beginning_from, the_one, standing_among, standings_from, standings, stands, with_some, with_file, files_from, files, Part, standing_faults_from, faults_from, faults}
+use Rattle.cweb_names.proofs.NameLemmas.{position-below}
+use Rattle.cweb_names.proofs.OccurrenceLemmas.{Grows, names_from-grows, with_text-has}
 use Rattle.cweb_store.proofs.LawLemmas.{any-grows}
 
 abbrev Below : ℕ → NameId → Type 0
@@ -28,10 +29,6 @@ the_one-below : (n : ℕ) (ns : List NameId) (otherwise : Standing) → AllByRec
 the_one-below n [] otherwise h o = o
 the_one-below n (m ∷ []) otherwise h o = h.0
 the_one-below n (m ∷ k ∷ ns) otherwise h o = tt
-
-pub position-below : (p : List ℕ → Bool) (xs : List (List ℕ)) → list_any p xs ≡ true → position_or_len p xs < length xs
-position-below p [] h = cc
-position-below p (x ∷ xs) h = grind (arith, p x, position-below p xs)
 
 among-below : (i : ℕ) (before : List Name) (text : List ℕ) (how : How) (is_file : Bool) (all : List Name) →
     let o : Occurrence = record { text = text; how = how; is_file = is_file } in

@@ -1,25 +1,12 @@
 -- Faults of names, name by name.
-use Rattle.cweb_store.proofs.Common.{◌≡◌, ℕ, zero, suc, ◌+◌, ◌<◌, Bool, true, false, cond, not, ◌||◌, ◌&&◌, List, [], ◌∷◌, ◌++◌, Some, map, length, drop, refl, sym, ◌∙◌, ap, arith, append_assoc, bytes_eq, if◌then◌else◌, nat_eq, slice_get, option_map, list_any, starts_with, take-length, bytes_eq-Decides, NameId, NameKind, NameFault, Found, Nothing, Name, id, texts, beginning_from, beginning, found_of, is_several, Distinct, fault, fault_if, faults_from, is_prefix_of_another, not-not}
-use Rattle.cweb_store.proofs.InsertLemmas.{grown, found-first}
-use Rattle.cweb_store.proofs.NameLemmas.{bytes_eq-same, bytes_eq-sym}
+use Rattle.cweb_store.proofs.Common.{◌≡◌, ℕ, ◌+◌, ◌<◌, Bool, true, false, cond, List, [], ◌∷◌, ◌++◌, Some, map, length, drop, refl, arith, append_assoc, slice_get, option_map, list_any, NameId, NameKind, NameFault, Name, id, texts, fault, fault_if, faults_from}
+use Rattle.cweb_names.proofs.NameLemmas.{front_at}
 
 -- no fault where no name fails
 pub faults-none : (kind : NameKind) (fails : List ℕ → Bool) (i : ℕ) (ns : List Name)
     → list_any fails (texts ns) ≡ false → faults_from i kind (λ n text. fails text) ns ≡ []
 faults-none kind fails i [] h = refl
 faults-none kind fails i (n ∷ ns) h = grind (arith, faults-none kind fails (i + 1) ns)
-
--- the item at an index, and what follows it
-pub record Front {X : Type 0} (xs : List X) (i : ℕ) : Type 0 where
-  pub item : X
-  pub there : slice_get xs i ≡ Some item
-  pub front : drop i xs ≡ item ∷ drop (suc i) xs
-
-pub front_at : {X : Type 0} (xs : List X) (i : ℕ) → i < length xs → Front xs i
-front_at [] i h = absurd (omega arith)
-front_at (x ∷ xs) zero h = record { item = x; there = refl; front = refl }
-front_at (x ∷ xs) (suc i) h =
-    let rest = front_at xs i (omega arith) in record { item = rest.item; there = rest.there; front = rest.front }
 
 -- the faults from a name on are its own and those from the next on
 pub faults-step : (kind : NameKind) (fails : NameId → List ℕ → Bool) (ns : List Name) (i : ℕ) (b : Bool)
@@ -32,95 +19,3 @@ faults-step kind fails ns i b old new h test step = grind (arith, front_at ns i 
         fault kind p.1.first) others ≡ map (λ (p : ℕ × Name). fault kind p.1.first) (cond v ((i, n) ∷ others) others)
     one true n i others = refl
     one false n i others = refl
-
-is_nothing : Found → Bool
-is_nothing Nothing = true
-is_nothing _ = false
-
-grown-several : (n : NameId) (f : Found) → is_several (grown true n f) ≡ not (is_nothing f)
-unfolding is_nothing
-grown-several n Nothing = refl
-grown-several n _ = refl
-
-grown-nothing : (n : NameId) (f : Found) → is_nothing (grown true n f) ≡ false
-unfolding is_nothing
-grown-nothing n Nothing = refl
-grown-nothing n _ = refl
-
--- the names that are longer than a text and begin with it
-abbrev longer : List Name → List ℕ → Bool
-longer ns text = is_prefix_of_another ns text
-
--- of a text that is no name, what begins with it is longer
-none-begins : (i : ℕ) (q : List ℕ) (ns : List Name) → list_any (bytes_eq q) (texts ns) ≡ false
-    → is_nothing (found_of (beginning_from i q ns)) ≡ not (longer ns q)
-unfolding is_nothing
-none-begins i q [] h = refl
-none-begins i q (n ∷ ns) h = grind (arith, bytes_eq-sym n.text q, none-begins (i + 1) q ns, longer ns q)
-
-pub starts-same : (q : List ℕ) → starts_with nat_eq q q ≡ true
-starts-same q = ap (bytes_eq q) (take-length q) ∙ bytes_eq-same q
-
--- of a name something begins with it
-some-begins : (i : ℕ) (q : List ℕ) (ns : List Name) → list_any (bytes_eq q) (texts ns) ≡ true
-    → is_nothing (found_of (beginning_from i q ns)) ≡ false
-unfolding is_nothing
-some-begins i q [] h = cc
-some-begins i q (n ∷ ns) h =
-    grind (
-      arith,
-      is_nothing (found_of (if starts_with nat_eq n.text q then id i ∷ beginning_from (i + 1) q ns else
-          beginning_from (i + 1) q ns)),
-      bytes_eq-Decides q n.text,
-      starts-same q,
-      found-first (id i) (beginning_from (i + 1)
-          q ns),
-      grown-nothing (id i) (found_of (beginning_from (i + 1) q ns)),
-      some-begins (i + 1) q ns,
-    )
-
--- several names begin with a name where one is longer
-pub several-longer : (i : ℕ) (q : List ℕ) (ns : List Name) → Distinct (texts ns)
-    → list_any (bytes_eq q) (texts ns) ≡ true → is_several (found_of (beginning_from i q ns)) ≡ longer ns q
-several-longer i q [] d h = cc
-several-longer i q (n ∷ ns) d h =
-    let rest = found_of (beginning_from (i + 1) q ns) in
-    (elim (bytes_eq q n.text) as (λ e. bytes_eq q n.text ≡ e → (e || list_any (bytes_eq q) (texts ns)) ≡ true →
-    is_several (found_of
-    (if starts_with nat_eq n.text q then id i ∷ beginning_from (i + 1) q ns else beginning_from (i + 1) q ns))
-    ≡ ((starts_with nat_eq n.text q && not (bytes_eq n.text q)) || longer ns q)) [
-      | true ↦ λ e g.
-          let same : q ≡ n.text = (bytes_eq-Decides q n.text).0 e in
-          let begins : starts_with nat_eq n.text q ≡ true =
-          ap (λ t. starts_with nat_eq t q) (sym same) ∙ starts-same q in
-          let alone : list_any (bytes_eq q) (texts ns) ≡ false =
-          ap (λ t. list_any (bytes_eq t) (texts ns)) same ∙ d.0 in
-          ap (λ b.
-          is_several (found_of (if b then id i ∷ beginning_from (i + 1) q ns else beginning_from (i + 1) q ns)))
-          begins
-          ∙ ap is_several (found-first (id i) (beginning_from (i + 1) q ns))
-          ∙ grown-several (id i) rest ∙ ap not (none-begins (i + 1) q ns alone) ∙ not-not (longer ns q)
-          ∙ (λ j. (sym begins j && not ((sym e ∙ bytes_eq-sym q n.text) j)) || longer ns q)
-      | false ↦ λ e g.
-          let other : false ≡ bytes_eq n.text q = sym e ∙ bytes_eq-sym q n.text in
-          (elim (starts_with nat_eq n.text q) as (λ b.
-          is_several (found_of (if b then id i ∷ beginning_from (i + 1) q ns else beginning_from (i + 1) q ns))
-          ≡ ((b && not (bytes_eq n.text q)) || longer ns q)) [
-            | true ↦
-                ap is_several (found-first (id i) (beginning_from (i + 1) q ns)) ∙ grown-several (id i) rest
-                ∙ ap not (some-begins (i + 1) q ns g) ∙ ap (λ b. not b || longer ns q) other
-            | false ↦ several-longer (i + 1) q ns d.1 g
-          ])
-    ]) refl h
-
-pub any-there : (ns : List Name) (i : ℕ) (n : Name) → slice_get ns i ≡ Some n
-    → list_any (bytes_eq n.text) (texts ns) ≡ true
-any-there [] i n h = cc
-any-there (m ∷ ns) zero n h = cc (bytes_eq-same n.text)
-any-there (m ∷ ns) (suc i) n h = grind (arith, any-there ns i n h)
-
--- a name is a proper prefix of another where several names begin with it
-pub prefix-several : (ns : List Name) (i : ℕ) (text : List ℕ)
-    → Distinct (texts ns) → i < length ns → option_map (λ (n : Name). n.text) (slice_get ns i) ≡ Some text → option_map
-    (λ (n : Name). is_prefix_of_another ns n.text) (slice_get ns i) ≡ Some (is_several (found_of (beginning text ns)))
-prefix-several ns i text d h is = grind (arith, front_at ns i h, several-longer 0, any-there ns i)

@@ -1,6 +1,6 @@
 -- The laws of names and parts.
 use Rattle.cweb_store.proofs.Common.{◌≡◌, ℕ, zero, suc, ◌+◌, Bool, true, false, List, [], ◌∷◌, ◌++◌, Some, None, Option, length, take, refl, sym, ◌∙◌, ap, arith, append_assoc, append-nil, Ok, Err, bytes_eq, if◌then◌else◌, nat_eq, slice_get, option_map, option_and_then, fold, filter_map, list_any, starts_with, position_or_len, map-append, bytes_eq-Decides, list_any-append, How, Full, Prefix, NameId, NeverFull, PartKind, Occurrence, Name, Standing, id, texts, with_text, with_name, names_from, names, beginning_from, beginning, the_one, standing_among, standings_from, standings, stands, Part, joined, Call, Occurs, Opens, Pushes, Drops, Closes, Transliterates, Contents, after, empty, gives_beginning, AbbreviationsStay, EarlierNamesDecide, FullNamesStandForThemselves, JoiningConcatenates, OccurrencesAreThoseOfCalls, occurrence_in, take-append_seam}
-use Rattle.cweb_store.proofs.OccurrenceLemmas.{Grows, names_from-grows, with_text-has}
+use Rattle.cweb_names.proofs.OccurrenceLemmas.{Grows, names_from-grows, with_text-has}
 
 -- what occurrence k stands for, by the names before it and all names
 pub standings-at : (i : ℕ) (before all : List Name) (os : List Occurrence) (k : ℕ) (o : Occurrence)

@@ -1,5 +1,5 @@
 -- What a store stands for, by what it keeps: tokens, occurrences and names.
-use Rattle.cweb_store.proofs.Common.{◌≡◌, ℕ, zero, suc, ◌+◌, ◌≤◌, ◌<◌, Bool, List, [], ◌∷◌, ◌++◌, Option, Some, map, length, drop, refl, sym, ◌∙◌, ap, subst, arith, length-append, append_assoc, append-nil, get_or, slice_get, option_map, length-map, drop-append_seam, NameId, NameFault, GivenAs, Run, Links, Occurrence, Name, Standing, with_text, with_name, names_from, names, Token, Replacement, IsWhole, closed_in, stored, too_many, AreAnswers, AreLinked, occurrence_text, replacement_text, TokensAndTexts, tokens_alone, with_texts, given_as, occurrences_at, replacements_at, stored_in, AreLast, AreStored}
+use Rattle.cweb_store.proofs.Common.{◌≡◌, ℕ, zero, suc, ◌+◌, ◌<◌, Bool, List, [], ◌∷◌, ◌++◌, Option, Some, map, length, drop, refl, sym, ◌∙◌, ap, subst, arith, length-append, append_assoc, append-nil, get_or, slice_get, option_map, length-map, drop-append_seam, NameId, NameFault, GivenAs, Run, Links, Occurrence, Name, Standing, with_text, with_name, names_from, names, Token, Replacement, IsWhole, closed_in, stored, too_many, AreAnswers, AreLinked, occurrence_text, replacement_text, TokensAndTexts, tokens_alone, with_texts, given_as, occurrences_at, replacements_at, stored_in, AreLast, AreStored}
 use Rattle.cweb_store.proofs.RangeLemmas.{drop-here}
 
 with_texts-is : (ts : List (List ℕ)) (c : TokensAndTexts)
@@ -78,12 +78,6 @@ stored-are ts runs links os rs last_places firsts standings files faults has_def
     (sym (all_texts-are ts os rs)) flat
 
 -- the texts of occurrences
-pub occurrences-count : (ts : List (List ℕ)) (gs : List GivenAs)
-    → length gs ≤ length ts → length (occurrences_at ts gs) ≡ length gs
-occurrences-count ts [] h = refl
-occurrences-count [] (g ∷ gs) h = absurd (let none : ⊥ = omega arith in none)
-occurrences-count (t ∷ ts) (g ∷ gs) h = omega (arith, occurrences-count ts gs (omega arith))
-
 pub occurrence-text : (ts : List (List ℕ)) (gs : List GivenAs) (k : ℕ) → k < length (occurrences_at ts gs)
     → option_map (λ (o : Occurrence). o.text) (slice_get (occurrences_at ts gs) k) ≡ slice_get ts k
 occurrence-text ts [] k h = absurd (let none : ⊥ = omega arith in none)

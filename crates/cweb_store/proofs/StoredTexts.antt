@@ -1,5 +1,5 @@
 -- The texts of a store: what bytes are replaced by, and how many bytes all texts have.
-use Rattle.cweb_store.proofs.Common.{◌≡◌, ℕ, zero, suc, ◌+◌, ◌≤◌, ◌<◌, Bool, true, false, List, [], ◌∷◌, ◌++◌, Option, Some, None, map, length, take, drop, refl, sym, ◌∙◌, ap, subst, arith, flat_map, slice_get, option_map, option_and_then, nat_eq, if◌then◌else◌, GivenAs, Run, Name, Token, all_tokens, replaced_by, replacement, IsWhole, closed_in, Stored, total, token_texts, token_bytes_kept, occurrence_text, replacement_text, texts_of, bytes_given, bytes_kept, AllStandIn, AreInOneList, TokensAndTexts, occurrences_at, replacements_at, last_from, stored_in}
+use Rattle.cweb_store.proofs.Common.{◌≡◌, ℕ, suc, ◌+◌, ◌≤◌, ◌<◌, Bool, true, false, List, [], ◌∷◌, ◌++◌, Option, Some, None, map, length, drop, refl, sym, ◌∙◌, ap, subst, arith, flat_map, slice_get, option_and_then, nat_eq, if◌then◌else◌, GivenAs, Run, Token, all_tokens, replaced_by, replacement, IsWhole, closed_in, Stored, total, token_texts, token_bytes_kept, occurrence_text, replacement_text, texts_of, bytes_given, bytes_kept, AllStandIn, AreInOneList, TokensAndTexts, occurrences_at, replacements_at, last_from, stored_in}
 use Rattle.cweb_store.proofs.RangeLemmas.{drop-here}
 use Rattle.cweb_store.proofs.WordLemmas.{kept-few}
 use Rattle.cweb_store.proofs.TextLemmas.{all-drop, all-both}
@@ -106,9 +106,3 @@ bytes-few s = omega (arith, kept-few (all_tokens s.parts))
 pub map-both : {A B C : Type 0} (f : B → C) (g : A → B) (xs : List A) → map (λ x. f (g x)) xs ≡ map f (map g xs)
 map-both f g [] = refl
 map-both f g (x ∷ xs) = ap (λ ys. f (g x) ∷ ys) (map-both f g xs)
-
-pub firsts-next : (ns : List Name) (k f : ℕ) → option_map (λ (n : Name). n.first) (slice_get ns k) ≡ Some f
-    → map (λ (n : Name). n.first) (take (suc k) ns) ≡ map (λ (n : Name). n.first) (take k ns) ++ f ∷ []
-firsts-next [] k f h = cc
-firsts-next (n ∷ ns) zero f h = let same : n.first ≡ f = cc in ap (λ x. x ∷ []) same
-firsts-next (n ∷ ns) (suc k) f h = ap (λ xs. n.first ∷ xs) (firsts-next ns k f h)

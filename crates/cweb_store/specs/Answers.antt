@@ -1,9 +1,9 @@
 -- What a store keeps besides the occurrences and the parts.
 use Rattle.std.specs.Prelude.{◌≡◌, Bool, List}
-use Rattle.cweb_store.specs.declared.names.NameId.{NameId}
-use Rattle.cweb_store.specs.declared.names.NameFault.{NameFault}
-use Rattle.cweb_store.specs.Names as spec
-use Rattle.cweb_store.specs.Names.{Occurrence, Standing}
+use Rattle.cweb_names.specs.declared.name.NameId.{NameId}
+use Rattle.cweb_names.specs.declared.name.NameFault.{NameFault}
+use Rattle.cweb_names.specs.Names as spec
+use Rattle.cweb_names.specs.Names.{Occurrence, Standing}
 use Rattle.cweb_store.specs.Parts.{Part, has_defs_code}
 use Rattle.cweb_store.specs.Faults as wrong
 

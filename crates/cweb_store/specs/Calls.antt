@@ -1,27 +1,20 @@
 -- What a builder holds, and what each call makes of it.
-use Rattle.std.specs.Prelude.{ℕ, Bool, List, [], ◌∷◌, ◌++◌, fold}
-use Rattle.cweb_store.specs.declared.names.How.{How}
+use Rattle.std.specs.Prelude.{List, [], ◌∷◌, ◌++◌, fold}
 use Rattle.cweb_store.specs.declared.parts.PartKind.{PartKind}
-use Rattle.cweb_store.specs.Names.{Occurrence}
+use Rattle.cweb_names.specs.Names.{Occurrence}
+pub use Rattle.cweb_names.specs.Names.{occurrence_of, too_many}
 use Rattle.cweb_store.specs.Parts.{Token, Part}
 use Rattle.cweb_store.specs.Growing.{PartsSoFar, no_parts, all_parts, opened, pushed, dropped, all_closed}
 use Rattle.cweb_store.specs.Replacements.{Replacement}
 
--- the occurrences of names, the parts and the replacements so far
+-- the occurrences of names, the parts and the replacements so far; of occurrences, of parts and of tokens fewer than too_many are taken
 pub record Contents : Type 0 where
   pub occurrences : List Occurrence
   pub parts : PartsSoFar
   pub replacements : List Replacement
 
--- a builder takes fewer occurrences, fewer parts and fewer tokens than this
-abbrev pub too_many : ℕ
-too_many = 4294967295
-
 abbrev pub empty : Contents
 empty = record { occurrences = []; parts = no_parts; replacements = [] }
-
-abbrev pub occurrence_of : List ℕ → How → Bool → Occurrence
-occurrence_of text how is_file = record { text = text; how = how; is_file = is_file }
 
 abbrev pub with_occurrence : Occurrence → Contents → Contents
 with_occurrence o c = record c { occurrences = c.occurrences ++ o ∷ [] }

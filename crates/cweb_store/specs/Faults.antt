@@ -1,12 +1,12 @@
 -- The faults of names, and their order.
-use Rattle.std.specs.Prelude.{◌∷◌, [], ℕ, Bool, false, not, ◌&&◌, ◌||◌, List, ◌++◌, Option, Some, None, Ok, Err, map, filter, filter_map, bytes_eq, nat_eq, if◌then◌else◌}
-use Rattle.std.specs.List.{starts_with, list_any, enumerate_from}
-use Rattle.cweb_store.specs.declared.names.NameId.{NameId}
-use Rattle.cweb_store.specs.declared.names.NameKind.{NameKind}
-use Rattle.cweb_store.specs.declared.names.NameKind.TheVariants.{PrefixOfAnother, NotPresent}
-use Rattle.cweb_store.specs.declared.names.NameFault.{NameFault}
-use Rattle.cweb_store.specs.Names as spec
-use Rattle.cweb_store.specs.Names.{Occurrence, Standing, id, is_id, texts, names, standings, stands, files}
+use Rattle.std.specs.Prelude.{◌∷◌, [], ℕ, Bool, false, not, ◌&&◌, ◌||◌, List, ◌++◌, Option, Some, None, Ok, Err, map, filter, filter_map, if◌then◌else◌}
+use Rattle.std.specs.List.{list_any, enumerate_from}
+use Rattle.cweb_names.specs.declared.name.NameId.{NameId}
+use Rattle.cweb_names.specs.declared.name.NameKind.{NameKind}
+use Rattle.cweb_names.specs.declared.name.NameKind.TheVariants.{PrefixOfAnother, NotPresent}
+use Rattle.cweb_names.specs.declared.name.NameFault.{NameFault}
+use Rattle.cweb_names.specs.Names as spec
+use Rattle.cweb_names.specs.Names.{Occurrence, Standing, id, is_id, names, standings, stands, files, is_prefix_of_another}
 use Rattle.cweb_store.specs.Parts.{Token, Name, Part, joined, is_code, is_some_id, is_of}
 
 abbrev pub fault : NameKind → ℕ → NameFault
@@ -34,10 +34,6 @@ faults_from n kind fails names = map (λ (p : ℕ × spec.Name). fault kind p.1.
 
 abbrev pub faults_where : NameKind → (NameId → List ℕ → Bool) → List spec.Name → List NameFault
 faults_where kind fails names = faults_from 0 kind fails names
-
--- a text is a proper prefix of a name
-abbrev pub is_prefix_of_another : List spec.Name → List ℕ → Bool
-is_prefix_of_another all text = list_any (λ other. starts_with nat_eq other text && not (bytes_eq other text)) (texts all)
 
 -- a token uses a name
 abbrev pub is_use : List Standing → NameId → Token → Bool

@@ -1,10 +1,10 @@
 -- The names that tokens use, and those that have a part.
 use Rattle.std.specs.Prelude.{List, [], ◌∷◌, if◌then◌else◌}
-use Rattle.cweb_store.specs.declared.names.NameId.{NameId}
+use Rattle.cweb_names.specs.declared.name.NameId.{NameId}
 use Rattle.cweb_store.specs.declared.parts.PartKind.{PartKind}
 use Rattle.cweb_store.specs.declared.parts.PartKind.TheVariants.{Unnamed, Named, Macro}
 use Rattle.cweb_store.specs.declared.parts.Run.{Run}
-use Rattle.cweb_store.specs.Names.{Standing, stands, with_some}
+use Rattle.cweb_names.specs.Names.{Standing, stands, with_some}
 use Rattle.cweb_store.specs.Parts.{Token, Name, Part, is_code}
 
 abbrev pub with_use : List Standing → List NameId → Token → List NameId

@@ -1,10 +1,10 @@
 -- What holds of names and parts whatever the calls are.
 use Rattle.std.specs.Prelude.{◌≡◌, ℕ, Bool, false, nat_eq, List, [], ◌∷◌, ◌++◌, Option, Some, None, Ok, length, slice_get, option_map, option_and_then, filter_map, if◌then◌else◌}
 use Rattle.std.specs.List.{starts_with, list_any}
-use Rattle.cweb_store.specs.declared.names.How.TheVariants.{Full, Prefix}
-use Rattle.cweb_store.specs.declared.names.NameId.{NameId}
+use Rattle.cweb_names.specs.declared.name.How.TheVariants.{Full, Prefix}
+use Rattle.cweb_names.specs.declared.name.NameId.{NameId}
 use Rattle.cweb_store.specs.declared.parts.PartKind.{PartKind}
-use Rattle.cweb_store.specs.Names.{Occurrence, names, beginning, standings, stands}
+use Rattle.cweb_names.specs.Names.{Occurrence, names, beginning, standings, stands}
 use Rattle.cweb_store.specs.Parts.{Part, joined}
 use Rattle.cweb_store.specs.Calls.{Call, Occurs, contents}
 

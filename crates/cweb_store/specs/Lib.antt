@@ -1,4 +1,5 @@
-pub mod Names
+pub use Rattle.cweb_names.specs.Names
+pub use Rattle.cweb_names.specs.Found
 pub mod Parts
 pub mod Layout
 pub mod Growing
@@ -15,13 +16,9 @@ pub mod Lenders
 pub mod ClosedTokens
 pub mod Next
 pub mod Noted
-pub mod Fronts
 pub mod Packed
 pub mod Records
 pub mod Trailing
-pub mod Found
-pub mod Known
-pub mod Given
 pub mod Gathered
 pub mod Wanted
 pub mod Links

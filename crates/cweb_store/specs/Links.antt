@@ -7,7 +7,7 @@ use Rattle.cweb_store.specs.declared.parts.Run.{Run}
 use Rattle.cweb_store.specs.declared.parts.iter.Wanted.{Wanted}
 use Rattle.cweb_store.specs.declared.parts.iter.Wanted.TheVariants.{Program, OfName, Macros}
 use Rattle.cweb_store.specs.declared.parts.links.Heads.{Heads}
-use Rattle.cweb_store.specs.Names.{Standing, stands, is_id}
+use Rattle.cweb_names.specs.Names.{Standing, stands, is_id}
 use Rattle.cweb_store.specs.Wanted.{wanted_in}
 
 -- the parts that are met from the one behind n others, where each tells how many stand between it and the next

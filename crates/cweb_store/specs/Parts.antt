@@ -2,12 +2,12 @@
 use Rattle.std.specs.Prelude.{ℕ, ◌+◌, Bool, true, false, not, List, [], ◌∷◌, Option, Some, None, filter, flat_map, length, slice_range, if◌then◌else◌}
 use Rattle.std.specs.List.{list_any}
 use Rattle.cweb_files.specs.declared.place.Place.{Place}
-use Rattle.cweb_store.specs.declared.names.NameRef.{NameRef}
-use Rattle.cweb_store.specs.declared.names.NameId.{NameId}
+use Rattle.cweb_names.specs.declared.name.NameRef.{NameRef}
+use Rattle.cweb_names.specs.declared.name.NameId.{NameId}
 use Rattle.cweb_store.specs.declared.parts.PartKind.{PartKind}
 use Rattle.cweb_store.specs.declared.parts.PartKind.TheVariants.{Unnamed, Named, Macro}
 use Rattle.cweb_store.specs.declared.parts.Part as declared
-use Rattle.cweb_store.specs.Names.{Standing, stands, is_id}
+use Rattle.cweb_names.specs.Names.{Standing, stands, is_id}
 
 -- a token, with its bytes
 pub data Token : Type 0 where

@@ -1,26 +1,18 @@
 -- What a store keeps, and what it stands for.
 use Rattle.std.specs.Prelude.{◌≡◌, ◌<◌, ℕ, ◌+◌, Bool, List, [], ◌∷◌, Option, Some, None, map, length, drop, slice_get, nat_eq, if◌then◌else◌}
-use Rattle.cweb_store.specs.declared.names.NameId.{NameId}
-use Rattle.cweb_store.specs.declared.names.NameFault.{NameFault}
-use Rattle.cweb_store.specs.declared.names.table.GivenAs.{GivenAs}
+use Rattle.cweb_names.specs.declared.name.NameId.{NameId}
+use Rattle.cweb_names.specs.declared.name.NameFault.{NameFault}
+use Rattle.cweb_names.specs.declared.table.GivenAs.{GivenAs}
 use Rattle.cweb_store.specs.declared.parts.Run.{Run}
 use Rattle.cweb_store.specs.declared.parts.links.Links.{Links}
-use Rattle.cweb_store.specs.Names.{Occurrence, Standing, names}
+use Rattle.cweb_names.specs.Names.{Standing, names, too_many}
+use Rattle.cweb_names.specs.Given.{occurrences_at}
 use Rattle.cweb_store.specs.Replacements.{Replacement, replacement_of}
 use Rattle.cweb_store.specs.Runs.{IsWhole, closed_in}
 use Rattle.cweb_store.specs.Links.{AreLinked}
 use Rattle.cweb_store.specs.ClosedTokens.{TokensAndTexts}
-use Rattle.cweb_store.specs.Calls.{Stored, occurrence_of, too_many, stored}
+use Rattle.cweb_store.specs.Calls.{Stored, stored}
 use Rattle.cweb_store.specs.Answers.{AreAnswers}
-
-abbrev pub given_as : Occurrence → GivenAs
-given_as o = record { how = o.how; is_file = o.is_file }
-
--- the occurrences of texts, one after another
-abbrev pub occurrences_at : List (List ℕ) → List GivenAs → List Occurrence
-occurrences_at texts [] = []
-occurrences_at [] (g ∷ gs) = []
-occurrences_at (t ∷ ts) (g ∷ gs) = occurrence_of t g.how g.is_file ∷ occurrences_at ts gs
 
 -- the replacements of bytes by texts, one after another
 abbrev pub replacements_at : List (List ℕ) → List ℕ → List Replacement

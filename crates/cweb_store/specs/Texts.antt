@@ -1,7 +1,7 @@
 -- The texts that a store answers, and how many bytes they have.
 use Rattle.std.specs.Prelude.{◌≡◌, ℕ, ◌+◌, Bool, true, false, List, [], ◌∷◌, ◌++◌, map, flat_map, fold, length}
 use Rattle.cweb_texts.specs.Words.{total, with_word}
-use Rattle.cweb_store.specs.Names.{Occurrence}
+use Rattle.cweb_names.specs.Names.{occurrence_text}
 use Rattle.cweb_store.specs.Parts.{Token, Word, Number, Literal, Verbatim, Punct, all_tokens}
 use Rattle.cweb_store.specs.Replacements.{Replacement}
 use Rattle.cweb_store.specs.Calls.{Stored}
@@ -21,9 +21,6 @@ has_text token = elim (token_texts token) [ [] ↦ false | text ∷ texts ↦ tr
 -- how many bytes the text of a token has
 abbrev pub token_bytes : Token → ℕ
 token_bytes token = total length (token_texts token)
-
-abbrev pub occurrence_text : Occurrence → List ℕ
-occurrence_text o = o.text
 
 abbrev pub replacement_text : Replacement → List ℕ
 replacement_text r = r.text

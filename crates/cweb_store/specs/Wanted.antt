@@ -5,7 +5,7 @@ use Rattle.cweb_store.specs.declared.parts.Part.{Part}
 use Rattle.cweb_store.specs.declared.parts.Run.{Run}
 use Rattle.cweb_store.specs.declared.parts.iter.Wanted.{Wanted}
 use Rattle.cweb_store.specs.declared.parts.iter.Wanted.TheVariants.{Program, OfName, Macros}
-use Rattle.cweb_store.specs.Names.{Standing}
+use Rattle.cweb_names.specs.Names.{Standing}
 use Rattle.cweb_store.specs.Parts.{is_unnamed, is_of, is_macro}
 
 abbrev pub is_wanted : List Standing → Wanted → PartKind → Bool

@@ -5,13 +5,12 @@ ghost use Rattle.cweb_store.specs.Growing.{part_count, token_count};
 ghost use Rattle.cweb_store.specs.Replacements.{replacement_of};
 ghost use Rattle.cweb_store.specs.Calls.{empty, finished, occurrence_of, too_many, with_closed, with_dropped, with_occurrence, with_open, with_replacement, with_token};
 
-use crate::names::table::NameTable;
-use crate::names::{How, NameRef};
 use crate::parts::PartKind;
 use crate::parts::list::PartList;
 use crate::replacements::Replacements;
 use crate::store::Store;
 use crate::tokens::Token;
+use cweb_names::{How, NameRef, NameTable};
 use std::alloc::{AllocError, Global};
 use std::marker::Model;
 

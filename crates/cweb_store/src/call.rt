@@ -5,9 +5,9 @@ ghost use Rattle.cweb_store.specs.Calls.{after};
 ghost use Rattle.cweb_store.specs.Made.{given, Takes};
 
 use crate::builder::Builder;
-use crate::names::How;
 use crate::parts::PartKind;
 use crate::tokens::Token;
+use cweb_names::How;
 use std::alloc::AllocError;
 
 /// A call of a builder. It lends its bytes.

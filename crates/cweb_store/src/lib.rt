@@ -7,8 +7,8 @@ mod tokens;
 // parts as runs of tokens, and those of one name
 mod parts;
 
-// names, their occurrences, what these stand for, and faults
-mod names;
+// the faults of names
+mod faults;
 
 // what bytes are replaced by
 mod replacements;
@@ -27,8 +27,8 @@ pub mod laws;
 
 pub use builder::Builder;
 pub use call::Call;
+pub use cweb_names::{How, NameFault, NameId, NameKind, NameRef};
 pub use cweb_texts::{Border, LentText};
-pub use names::{How, NameFault, NameId, NameKind, NameRef};
 pub use parts::iter::Parts;
 pub use parts::{Part, PartKind};
 pub use store::Store;

@@ -2,12 +2,12 @@
 
 ghost use Rattle.std.specs.Prelude.{◌≡◌};
 
+use cweb_names::NameRef;
+
 pub mod closed;
 pub mod iter;
 pub mod links;
 pub mod list;
-
-use crate::names::NameRef;
 
 /// What a part belongs to.
 #[derive(Clone, Copy, Debug, PartialEq, Eq)]

@@ -5,7 +5,7 @@ pub(crate) mod answers;
 pub mod lending;
 
 ghost use Rattle.std.specs.Prelude.{◌≡◌, ◌<◌, ◌≤◌, ◌↔◌, length, slice_get, option_map, Some, None, IfOk, IfSome, IsTrue, All};
-ghost use Rattle.cweb_store.specs.Names as spec;
+ghost use Rattle.cweb_names.specs.Names as spec;
 ghost use Rattle.cweb_store.specs.Parts.{all_tokens, has_defs_code, is_macro, is_of, is_unnamed, joined, numbers_where, tokens_at};
 ghost use Rattle.cweb_store.specs.Faults.{faults, has_part};
 ghost use Rattle.cweb_store.specs.Replacements.{replacement};
@@ -15,9 +15,6 @@ ghost use Rattle.cweb_store.specs.Runs.{runs_from};
 ghost use Rattle.cweb_store.specs.Wanted.{wanted_in};
 ghost use Rattle.cweb_store.specs.Next.{IsNext, is_name};
 
-use crate::names::standing::name_at;
-use crate::names::table::{GivenAs, NameTable};
-use crate::names::{NameFault, NameId, NameKind, NameRef};
 use crate::parts::closed::ClosedParts;
 use crate::parts::iter::{Parts, Wanted};
 use crate::parts::links::Links;
@@ -27,6 +24,7 @@ use crate::store::all_texts::AllTexts;
 use crate::store::answers::Answers;
 use crate::tokens::Token;
 use crate::tokens::closed::ClosedTokens;
+use cweb_names::{GivenAs, NameFault, NameId, NameKind, NameRef, NameTable, name_at};
 use indexmap::IndexSet;
 use std::alloc::{AllocError, Global};
 use std::marker::Model;

@@ -8,8 +8,8 @@ pub mod noted;
 pub mod packed;
 pub mod records;
 
-use crate::names::NameRef;
 use cweb_files::Place;
+use cweb_names::NameRef;
 
 /// A token of a part. It lends its bytes.
 #[derive(Clone, Copy, Debug, PartialEq, Eq)]

@@ -93,7 +93,7 @@ pub use Rattle.cweb_store.specs.Calls.{Stored, empty, with_open}
 pub use Rattle.cweb_store.specs.Parts.{Part, is_macro, numbers_from, numbers_where, Token, Mark, Name, Defs, all_tokens}
 pub use Rattle.cweb_store.specs.Parts.{is_of, is_unnamed, Word, Number, Literal, Verbatim, Punct, Blank, Newline, Join}
 pub use Rattle.cweb_store.specs.Parts.{Head, Tail}
-pub use Rattle.cweb_store.specs.declared.names.NameId.{NameId}
+pub use Rattle.cweb_names.specs.declared.name.NameId.{NameId}
 pub use Rattle.cweb_store.specs.declared.parts.PartKind.{PartKind}
 pub use Rattle.cweb_tools.specs.Acts.{Held, Act, judges, says, opens, reads, plans, reserves, writes, after_act, Runs}
 pub use Rattle.cweb_tools.specs.Acts.{Breaks, Ending, ending, TangleEnds, completes, stops, LogsLine, LogsStop, ended}

@@ -6,9 +6,9 @@ ghost use Rattle.cweb_store.specs.Parts.{has_defs_code};
 ghost use Rattle.cweb_store.specs.Runs.{runs_from};
 ghost use Rattle.cweb_store.specs.Gathered.{used_in};
 
-use crate::names::{NameId, NameKind};
 use crate::parts::Run;
 use crate::tokens::closed::ClosedTokens;
+use cweb_names::{NameId, NameKind};
 use indexmap::IndexSet;
 use std::alloc::{AllocError, Global};
 use std::marker::Model;

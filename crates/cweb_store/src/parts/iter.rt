@@ -3,8 +3,8 @@
 ghost use Rattle.std.specs.Prelude.{◌≡◌};
 ghost use Rattle.cweb_store.specs.Links.{followed};
 
-use crate::names::NameId;
 use crate::parts::{Part, Run};
+use cweb_names::NameId;
 use std::marker::Model;
 
 /// Which parts are wanted.

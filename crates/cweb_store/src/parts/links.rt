@@ -2,13 +2,12 @@
 
 ghost use Rattle.std.specs.Prelude.{◌≡◌, ◌<◌, ◌≤◌, ℕ, [], length, IfOk, IfSome};
 ghost use Rattle.cweb_store.specs.Calls.{too_many};
-ghost use Rattle.cweb_store.specs.Names.{stands};
+ghost use Rattle.cweb_names.specs.Names.{stands};
 ghost use Rattle.cweb_store.specs.Links.{AreLinked, IsAmong, IsPut, group_of, head_of};
 
-use crate::names::standing::name_at;
-use crate::names::{NameId, NameKind};
 use crate::parts::iter::Wanted;
 use crate::parts::{PartKind, Run};
+use cweb_names::{NameId, NameKind, name_at};
 use std::alloc::{AllocError, Global};
 
 /// For the program, the macros and each name: how many parts there are from its first one on, or 0 where it has none.

@@ -1,13 +1,14 @@
 // All texts of a store.
 
-ghost use Rattle.std.specs.Prelude.{◌≡◌, map, IfOk};
+ghost use Rattle.std.specs.Prelude.{◌≡◌, map, IfOk, OnOk};
 ghost use Rattle.cweb_store.specs.ClosedTokens.{with_texts};
-ghost use Rattle.cweb_store.specs.Stored.{given_as};
-ghost use Rattle.cweb_store.specs.Texts.{occurrence_text, replacement_text};
+ghost use Rattle.cweb_names.specs.Given.{given_as};
+ghost use Rattle.cweb_names.specs.Names.{occurrence_text};
+ghost use Rattle.cweb_store.specs.Texts.{replacement_text};
 
-use crate::names::table::{GivenAs, NameTable};
 use crate::replacements::Replacements;
 use crate::tokens::closed::ClosedTokens;
+use cweb_names::{GivenAs, NameTable};
 use std::alloc::AllocError;
 
 /// Tokens with the texts of occurrences and then of replacements behind theirs, how each occurrence is given, and the
@@ -33,7 +34,7 @@ impl AllTexts {
         ensures bytes { IfOk result (λ all. all.replaced.items
             ≡ map (λ r. r.byte) replacements) }
     {
-        let given = table.close(&mut tokens)?;
+        let given = put_names(table, &mut tokens)?;
         let replaced = replacements.close(&mut tokens)?;
         Ok(AllTexts {
             tokens,
@@ -41,4 +42,17 @@ impl AllTexts {
             replaced,
         })
     }
+}
+
+// Puts the texts of the occurrences behind those of tokens, and answers how each is given.
+fn put_names(table: NameTable, tokens: &mut ClosedTokens) -> Result<Vec<GivenAs>, AllocError>
+    ensures given { IfOk result (λ all. all.items ≡ map given_as table) }
+    ensures texts { OnOk result
+        (tokens.new ≡ with_texts (map occurrence_text table) tokens.old) }
+{
+    let (texts, given) = table.close();
+    for number in 0..texts.len() {
+        tokens.add(texts.text(number))?;
+    }
+    Ok(given)
 }

@@ -4,14 +4,13 @@ ghost use Rattle.std.specs.Prelude.{◌≡◌, ◌<◌, length, map, IfOk, OnOk}
 ghost use Rattle.cweb_store.specs.Answers.{AreAnswers};
 ghost use Rattle.cweb_store.specs.Calls.{too_many};
 ghost use Rattle.cweb_store.specs.Links.{AreLinked};
-ghost use Rattle.cweb_store.specs.Names.{names};
+ghost use Rattle.cweb_names.specs.Names.{names};
 ghost use Rattle.cweb_store.specs.Runs.{runs_from};
 
-use crate::names::faults::name_faults;
-use crate::names::table::NameTable;
-use crate::names::{NameFault, NameId, NameKind};
+use crate::faults::name_faults;
 use crate::parts::closed::ClosedParts;
 use crate::parts::links::Links;
+use cweb_names::{NameFault, NameId, NameKind, NameTable};
 use indexmap::IndexSet;
 use std::alloc::{AllocError, Global};
 

@@ -9,14 +9,13 @@ ghost use Rattle.cweb_store.specs.Texts.{AreInOneList, token_bytes_kept, token_t
 ghost use Rattle.cweb_store.specs.ClosedTokens.{with_text};
 ghost use Rattle.cweb_store.specs.Next.{IsNext, is_name};
 
-use crate::names::standing::add_name_at;
-use crate::names::{NameId, NameKind};
 use crate::parts::Part;
 use crate::tokens::Token;
 use crate::tokens::lender::Lender;
 use crate::tokens::noted::{Noted, next_noted};
 use crate::tokens::packed::lend;
 use crate::tokens::records::Records;
+use cweb_names::{NameId, NameKind, add_name_at};
 use cweb_texts::PackedTexts;
 use indexmap::IndexSet;
 use std::alloc::AllocError;

@@ -4,9 +4,9 @@ ghost use Rattle.std.specs.Prelude.{◌≡◌, length};
 ghost use Rattle.cweb_store.specs.Packed.{IsWithin, token_in};
 ghost use Rattle.cweb_store.specs.Seen.{seen};
 
-use crate::names::NameRef;
 use crate::tokens::Token;
 use cweb_files::Place;
+use cweb_names::NameRef;
 use cweb_texts::PackedTexts;
 
 /// A token that has its text by number.

@@ -8,10 +8,10 @@ ghost use Rattle.cweb_store.specs.Records.{AreNumbered, HasRoom, IsPlaced, IsWit
 ghost use Rattle.cweb_store.specs.Packed.{Packs};
 ghost use Rattle.cweb_store.specs.Seen.{seen};
 
-use crate::names::NameRef;
 use crate::tokens::Token;
 use crate::tokens::packed::Packed;
 use cweb_files::Place;
+use cweb_names::NameRef;
 use cweb_texts::KeptTexts;
 use std::alloc::{AllocError, Global};
 use std::marker::Model;

@@ -1,6 +1,7 @@
 use Rattle.cweb_store.proofs.Common.{◌≡◌, ◌≤◌, length, get_or, sym, ◌∙◌, ap, arith, slice_get, option_map, occurrences_at}
-use Rattle.cweb_store.specs.Names as spec
-use Rattle.cweb_store.proofs.StoredLemmas.{first-place, occurrences-count, occurrence-text}
+use Rattle.cweb_names.specs.Names as spec
+use Rattle.cweb_names.proofs.GivenLemmas.{occurrences-count}
+use Rattle.cweb_store.proofs.StoredLemmas.{first-place, occurrence-text}
 use Rattle.cweb_store.proofs.store.Store.name_text.Goals as goal
 
 pub other-requires : goal.other-requires

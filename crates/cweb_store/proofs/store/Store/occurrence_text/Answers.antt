@@ -1,5 +1,6 @@
 use Rattle.cweb_store.proofs.Common.{◌≡◌, ◌≤◌, length, sym, ◌∙◌, ap, arith, slice_get, option_map, Occurrence, occurrences_at}
-use Rattle.cweb_store.proofs.StoredLemmas.{occurrences-count, occurrence-text}
+use Rattle.cweb_names.proofs.GivenLemmas.{occurrences-count}
+use Rattle.cweb_store.proofs.StoredLemmas.{occurrence-text}
 use Rattle.cweb_store.proofs.store.Store.occurrence_text.Goals as goal
 
 pub other-requires : goal.other-requires

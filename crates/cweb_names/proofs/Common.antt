@@ -1,0 +1,41 @@
+-- The names that the proofs of this crate cite, passed on from one place. Declares nothing.
+pub use Rattle.std.proofs.Common.{◌≡◌, ℕ, zero, suc, ◌+◌, ◌≤◌, ◌<◌, Bool, true, false, cond, not, ◌||◌, List, [], ◌∷◌}
+pub use Rattle.std.proofs.Common.{◌++◌, Some, None, length, refl, ap, arith, length-append, map, take, drop, ◌∙◌}
+pub use Rattle.std.proofs.Common.{append-nil, ◌&&◌, sym, append_assoc, ◌*◌, subst, eq-eqb, rules}
+pub use Rattle.std.proofs.Math.Bool.{not-not}
+pub use Rattle.std.proofs.Math.Nat.{suc-mul, mul-le-mul_right}
+pub use Rattle.std.proofs.Math.Seq.{take-length}
+pub use Rattle.std.proofs.lemmas.Bool.{eqb-true}
+pub use Rattle.std.proofs.lemmas.Bool.Decides.{nat_tests}
+pub use Rattle.std.proofs.lemmas.Grind.{common_steps}
+pub use Rattle.std.proofs.lemmas.List.{length-map, map-append, drop_all}
+pub use Rattle.std.proofs.lemmas.List.Folds.{list_any-append}
+pub use Rattle.std.proofs.lemmas.Map.Text.{is_eq-slice_cmp}
+pub use Rattle.std.proofs.lemmas.Option.{slice_get_within}
+pub use Rattle.std.proofs.lemmas.Slice.Eq.{bytes_eq-Decides}
+pub use Rattle.std.specs.BTreeMap.{insert_entry, is_at, keys}
+pub use Rattle.std.specs.Cmp.Lexicographic.{slice_cmp, bytes_decides, nat_list_cmp_total}
+pub use Rattle.std.specs.List.{AllByRecursion, list_any, starts_with, position_or_len}
+pub use Rattle.std.specs.Map.{lookup, keys_of}
+pub use Rattle.std.specs.Ordering.{nat_cmp, ordering_then, match_ordering, is_eq, is_le, ordering_reverse}
+pub use Rattle.std.specs.Prelude.{Err, bytes_eq, if◌then◌else◌, nat_eq, filter, option_map, slice_get, unwrap_or}
+pub use Rattle.std.specs.declared.cmp.Ordering.{Ordering}
+pub use Rattle.std.specs.declared.cmp.Ordering.TheVariants.{Less, Equal, Greater}
+pub use Rattle.cweb_names.specs.Found.{found_of, is_several, Distinct, Entry, order, begins, AreKnown, number_of}
+pub use Rattle.cweb_names.specs.Found.{next_begins, any_next, numbers}
+pub use Rattle.cweb_names.specs.Fronts.{front_of}
+pub use Rattle.cweb_names.specs.Given.{AreGiven, settled, settled_all, given_as, occurrences_at}
+pub use Rattle.cweb_names.specs.Known.{early, earlies_from, by_found, has_text_at, names_in, name_in}
+pub use Rattle.cweb_names.specs.Names.{occurrence_of, too_many, is_prefix_of_another, Occurrence, Name, Standing, id}
+pub use Rattle.cweb_names.specs.Names.{texts, with_text, with_name, names_from, names, beginning_from, the_one}
+pub use Rattle.cweb_names.specs.Names.{standing_among, standings_from, standings, files_from, beginning}
+pub use Rattle.cweb_names.specs.Names.{occurrence_text}
+pub use Rattle.cweb_names.specs.declared.found.Found.{Found}
+pub use Rattle.cweb_names.specs.declared.found.Found.TheVariants.{Nothing, One, Several}
+pub use Rattle.cweb_names.specs.declared.known.KnownName.{KnownName}
+pub use Rattle.cweb_names.specs.declared.name.How.{How}
+pub use Rattle.cweb_names.specs.declared.name.How.TheVariants.{Full, Prefix}
+pub use Rattle.cweb_names.specs.declared.name.NameId.{NameId}
+pub use Rattle.cweb_names.specs.declared.name.NameKind.TheVariants.{NeverFull}
+pub use Rattle.cweb_names.specs.declared.table.GivenAs.{GivenAs}
+pub use Rattle.cweb_texts.specs.Keys.{AreBytes}

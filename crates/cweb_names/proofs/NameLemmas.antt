@@ -1,0 +1,143 @@
+-- How names stand in lists and maps.
+use Rattle.cweb_names.proofs.Common.{◌≡◌, ℕ, zero, suc, ◌+◌, Bool, true, false, cond, ◌||◌, List, [], ◌∷◌, ◌++◌, Some, None, length, refl, sym, ◌∙◌, ap, subst, arith, bytes_eq, if◌then◌else◌, nat_eq, list_any, starts_with, position_or_len, lookup, is_eq, nat_cmp, slice_cmp, is_eq-slice_cmp, bytes_eq-Decides, map-append, list_any-append, NameId, has_text_at, Name, id, texts, beginning_from, beginning, with_text, Entry, order, found_of, number_of, Distinct, AreKnown, option_map, take, map, slice_get, drop, ◌<◌}
+use Rattle.std.specs.BTreeMap as tree
+use Rattle.cweb_names.proofs.InsertLemmas.{grown, found-insert}
+
+pub bytes_eq-same : (a : List ℕ) → bytes_eq a a ≡ true
+bytes_eq-same a = (bytes_eq-Decides a a).1 refl
+
+pub bytes_eq-sym : (a b : List ℕ) → bytes_eq a b ≡ bytes_eq b a
+bytes_eq-sym a b = grind (arith, bytes_eq-Decides b a, bytes_eq-Decides a b, no_more (bytes_eq b a))
+  where
+    no_more : (v : Bool) → (v ≡ true → false ≡ true) → v ≡ false
+    no_more true f = sym (f refl)
+    no_more false f = refl
+
+-- the item at an index, and what follows it
+pub record Front {X : Type 0} (xs : List X) (i : ℕ) : Type 0 where
+  pub item : X
+  pub there : slice_get xs i ≡ Some item
+  pub front : drop i xs ≡ item ∷ drop (suc i) xs
+
+pub front_at : {X : Type 0} (xs : List X) (i : ℕ) → i < length xs → Front xs i
+front_at [] i h = absurd (omega arith)
+front_at (x ∷ xs) zero h = record { item = x; there = refl; front = refl }
+front_at (x ∷ xs) (suc i) h =
+    let rest = front_at xs i (omega arith) in record { item = rest.item; there = rest.there; front = rest.front }
+
+pub record Neither (a b : Bool) : Type 0 where
+  pub left : a ≡ false
+  pub right : b ≡ false
+
+pub or-false : (a b : Bool) → (a || b) ≡ false → Neither a b
+or-false true b h = cc
+or-false false b h = record { left = refl; right = h }
+
+-- the number of a text among names, by its place
+pub number-some : (i : ℕ) (q : List ℕ) (ns : List Name) (n : NameId) → number_of i q ns ≡ Some n
+    → (list_any (bytes_eq q) (texts ns) ≡ true) × (n.0 ≡ i + position_or_len (bytes_eq q) (texts ns))
+number-some i q [] n h = cc
+number-some i q (m ∷ ns) n h = grind (arith, number-some (i + 1) q ns n)
+
+pub number-none : (i : ℕ) (q : List ℕ) (ns : List Name) → number_of i q ns ≡ None
+    → list_any (bytes_eq q) (texts ns) ≡ false
+number-none i q [] h = refl
+number-none i q (m ∷ ns) h =
+    (elim (bytes_eq q m.text) as (λ b. (if b then Some (id i) else number_of (i + 1) q ns) ≡ None →
+    (b || list_any (bytes_eq q) (texts ns)) ≡ false) [ true ↦ λ g. cc | false ↦ λ g. number-none (i + 1) q ns g ]) h
+
+pub number-new : (i : ℕ) (q : List ℕ) (ns : List Name) → list_any (bytes_eq q) (texts ns) ≡ false
+    → number_of i q ns ≡ None
+number-new i q [] h = refl
+number-new i q (m ∷ ns) h = grind (arith, number-new (i + 1) q ns)
+
+-- one more name, where no other has its text
+number-push : (i : ℕ) (q : List ℕ) (ns : List Name) (n : Name) (j : ℕ) → j ≡ i + length ns
+    → list_any (bytes_eq n.text) (texts ns) ≡ false
+    → number_of i q (ns ++ n ∷ []) ≡ cond (bytes_eq q n.text) (Some (id j)) (number_of i q ns)
+number-push i q [] n j e new = grind arith
+number-push i q (m ∷ ns) n j e new =
+    grind (arith, number-push (i + 1) q ns n j (omega arith), bytes_eq-Decides q m.text, bytes_eq-sym m.text n.text)
+
+pub position-none : {K : Type 0} (p : K → Bool) (ks : List K) → list_any p ks ≡ false → position_or_len p ks ≡ length ks
+position-none p [] h = refl
+position-none p (k ∷ ks) h = grind (arith, or-false (p k) (list_any p ks) h, p k, position-none p ks)
+
+pub position-below : (p : List ℕ → Bool) (xs : List (List ℕ)) → list_any p xs ≡ true → position_or_len p xs < length xs
+position-below p [] h = cc
+position-below p (x ∷ xs) h = grind (arith, p x, position-below p xs)
+
+pub with_text-there : (i : ℕ) (ns : List Name) (text : List ℕ)
+    → list_any (bytes_eq text) (texts ns) ≡ true → with_text i ns text ≡ ns
+with_text-there i ns text h = ap (λ b. if b then ns else ns ++ (record { text = text; first = i }) ∷ []) h
+
+pub with_text-new : (i : ℕ) (ns : List Name) (text : List ℕ) → list_any (bytes_eq text) (texts ns) ≡ false
+    → with_text i ns text ≡ ns ++ (record { text = text; first = i }) ∷ []
+with_text-new i ns text h = ap (λ b. if b then ns else ns ++ (record { text = text; first = i }) ∷ []) h
+
+-- the name that has a text is the only one
+pub known-at : (ns : List Name) (i : ℕ) (q : List ℕ) → Distinct (texts ns) → has_text_at ns i q ≡ true
+    → (list_any (bytes_eq q) (texts ns) ≡ true) × (i ≡ position_or_len (bytes_eq q) (texts ns))
+known-at [] i q d h = cc
+known-at (n ∷ ns) zero q d h = grind (arith, bytes_eq-sym q n.text)
+known-at (n ∷ ns) (suc i) q d h = grind (arith, known-at ns i q d.1 h, suc i, bytes_eq-Decides q n.text)
+
+-- one more name begins with a prefix, or not
+beginning-push : (i : ℕ) (p : List ℕ) (ns : List Name) (n : Name) (j : ℕ) → j ≡ i + length ns →
+    found_of (beginning_from i p (ns ++ n ∷ []))
+    ≡ grown (starts_with nat_eq n.text p) (id j) (found_of (beginning_from i p ns))
+beginning-push i p [] n j e = grind (arith, grown)
+beginning-push i p (m ∷ ns) n j e = grind (arith, beginning-push (i + 1) p ns n j (omega arith))
+
+abbrev at : List ℕ → List ℕ → Bool
+at q k = is_eq (slice_cmp nat_cmp q k)
+
+-- a map gives what was put into it, and else what it gave
+lookup-inserted : (es : List Entry) (key : List ℕ) (v : NameId) (q : List ℕ)
+    → lookup (at q) (tree.insert_entry order es key v) ≡ cond (bytes_eq q key) (Some v) (lookup (at q) es)
+lookup-inserted [] key v q = ap (λ b. cond b (Some v) None) (is_eq-slice_cmp q key)
+lookup-inserted (e ∷ es) key v q =
+    grind (
+      arith,
+      is_eq-slice_cmp q e.0,
+      is_eq-slice_cmp q key,
+      bytes_eq-Decides key e.0,
+      is_eq-slice_cmp key e.0,
+      lookup-inserted es key v q,
+      bytes_eq-Decides q key,
+      bytes_eq-Decides q e.0,
+    )
+
+pub Distinct-push : (xs : List (List ℕ)) (y : List ℕ) → Distinct xs
+    → list_any (bytes_eq y) xs ≡ false → Distinct (xs ++ y ∷ [])
+Distinct-push [] y d h = (refl, tt)
+Distinct-push (x ∷ xs) y d h =
+    grind (arith, list_any-append (bytes_eq x) xs (y ∷ []), bytes_eq-sym x y, Distinct-push xs y d.1)
+
+pub texts-push : (ns : List Name) (n : Name) → texts (ns ++ n ∷ []) ≡ texts ns ++ n.text ∷ []
+texts-push ns n = map-append (λ (m : Name). m.text) ns (n ∷ [])
+
+-- a new name in the list and in the map
+pub known-push : (es : List Entry) (ns : List Name) (key : List ℕ) (first : ℕ) (v : NameId)
+    → AreKnown es ns → list_any (bytes_eq key) (texts ns) ≡ false → v ≡ id (length ns) →
+    AreKnown (tree.insert_entry order es key v) (ns ++ (record { text = key; first = first }) ∷ [])
+known-push es ns key first v known new last =
+    let n : Name = record { text = key; first = first } in
+    record {
+      finds = λ p. found-insert p es key v (known.gives key ∙ number-new 0 key ns new)
+          ∙ ap (grown (starts_with nat_eq key p) v) (known.finds p)
+          ∙ ap (λ w. grown (starts_with nat_eq key p) w (found_of (beginning p ns))) last
+          ∙ sym (beginning-push 0 p ns n (length ns) (omega arith));
+      gives = λ q.
+          lookup-inserted es key v q ∙ ap (λ r. cond (bytes_eq q key) (Some v) r) (known.gives q)
+          ∙ ap (λ w. cond (bytes_eq q key) (Some w) (number_of 0 q ns)) last
+          ∙ sym (number-push 0 q ns n (length ns) (omega arith) new);
+      distinct = subst Distinct (sym (texts-push ns n)) (Distinct-push (texts ns) key known.distinct new);
+    }
+
+-- the first occurrences of names, one more
+pub firsts-next : (ns : List Name) (k f : ℕ) → option_map (λ (n : Name). n.first) (slice_get ns k) ≡ Some f
+    → map (λ (n : Name). n.first) (take (suc k) ns) ≡ map (λ (n : Name). n.first) (take k ns) ++ f ∷ []
+firsts-next [] k f h = cc
+firsts-next (n ∷ ns) zero f h = let same : n.first ≡ f = cc in ap (λ x. x ∷ []) same
+firsts-next (n ∷ ns) (suc k) f h = ap (λ xs. n.first ∷ xs) (firsts-next ns k f h)

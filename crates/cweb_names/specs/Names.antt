@@ -1,0 +1,117 @@
+-- Names: their occurrences, what each occurrence stands for, and which names are files.
+use Rattle.std.specs.Prelude.{ℕ, ◌+◌, Bool, not, ◌&&◌, nat_eq, List, [], ◌∷◌, ◌++◌, Option, Some, None, Result, Ok, Err, map, slice_get, bytes_eq, if◌then◌else◌}
+use Rattle.std.specs.List.{starts_with, list_any, position_or_len}
+use Rattle.cweb_names.specs.declared.name.How.{How}
+use Rattle.cweb_names.specs.declared.name.How.TheVariants.{Full, Prefix}
+use Rattle.cweb_names.specs.declared.name.NameId.{NameId}
+use Rattle.cweb_names.specs.declared.name.NameKind.{NameKind}
+use Rattle.cweb_names.specs.declared.name.NameKind.TheVariants.{Ambiguous, NeverFull}
+
+-- an occurrence of a name: its text, or the prefix of an abbreviation, and whether it is given as a file's
+pub record Occurrence : Type 0 where
+  pub text : List ℕ
+  pub how : How
+  pub is_file : Bool
+
+abbrev pub occurrence_of : List ℕ → How → Bool → Occurrence
+occurrence_of text how is_file = record { text = text; how = how; is_file = is_file }
+
+abbrev pub occurrence_text : Occurrence → List ℕ
+occurrence_text o = o.text
+
+-- fewer occurrences than this are taken
+abbrev pub too_many : ℕ
+too_many = 4294967295
+
+-- a name, and the number of the occurrence that first gave it in full
+pub record Name : Type 0 where
+  pub text : List ℕ
+  pub first : ℕ
+
+abbrev pub texts : List Name → List (List ℕ)
+texts names = map (λ n. n.text) names
+
+-- a text is a proper prefix of a name
+abbrev pub is_prefix_of_another : List Name → List ℕ → Bool
+is_prefix_of_another all text = list_any (λ other. starts_with nat_eq other text && not (bytes_eq other text)) (texts all)
+
+-- the names with one more text, given in full by occurrence i
+abbrev pub with_text : ℕ → List Name → List ℕ → List Name
+with_text i names text = if list_any (bytes_eq text) (texts names) then names else names ++ (record { text = text; first = i }) ∷ []
+
+-- the names after occurrence i: only a text given in full is a name
+abbrev pub with_name : ℕ → List Name → Occurrence → List Name
+with_name i names o = elim o.how [ Full ↦ with_text i names o.text | Prefix ↦ names ]
+
+abbrev pub names_from : ℕ → List Name → List Occurrence → List Name
+names_from i names [] = names
+names_from i names (o ∷ os) = names_from (i + 1) (with_name i names o) os
+
+-- the distinct texts that are given in full, in order of their first occurrence in full
+abbrev pub names : List Occurrence → List Name
+names os = names_from 0 [] os
+
+abbrev pub id : ℕ → NameId
+id n = record { 0 = n }
+
+-- the names that begin with a prefix, by number, where the first name has number n
+abbrev pub beginning_from : ℕ → List ℕ → List Name → List NameId
+beginning_from n prefix [] = []
+beginning_from n prefix (name ∷ names) =
+    let rest = beginning_from (n + 1) prefix names in
+    if starts_with nat_eq name.text prefix then id n ∷ rest else rest
+
+abbrev pub beginning : List ℕ → List Name → List NameId
+beginning prefix names = beginning_from 0 prefix names
+
+-- what an occurrence stands for: a name, or none for a fault
+abbrev pub Standing : Type 0
+Standing = Result NameId NameKind
+
+-- the only name of a list; several are ambiguous, and of none something else decides
+abbrev pub the_one : List NameId → Standing → Standing
+the_one [] otherwise = otherwise
+the_one (n ∷ []) otherwise = Ok n
+the_one (n ∷ m ∷ ns) otherwise = Err Ambiguous
+
+-- what an occurrence stands for, by the names given before it and all names: an abbreviation looks at the earlier ones first
+abbrev pub standing_among : List Name → List Name → Occurrence → Standing
+standing_among before all o = elim o.how [
+  | Full ↦ Ok (id (position_or_len (bytes_eq o.text) (texts all)))
+  | Prefix ↦ the_one (beginning o.text before) (the_one (beginning o.text all) (Err NeverFull))
+]
+
+abbrev pub standings_from : ℕ → List Name → List Name → List Occurrence → List Standing
+standings_from i before all [] = []
+standings_from i before all (o ∷ os) = standing_among before all o ∷ standings_from (i + 1) (with_name i before o) all os
+
+-- what each occurrence stands for
+abbrev pub standings : List Occurrence → List Standing
+standings os = standings_from 0 [] (names os) os
+
+-- the name that occurrence i stands for, if any
+abbrev pub stands : List Standing → ℕ → Option NameId
+stands rs i = elim (slice_get rs i) [ Some r ↦ elim r [ Ok n ↦ Some n | Err kind ↦ None ] | None ↦ None ]
+
+abbrev pub is_id : NameId → NameId → Bool
+is_id n m = nat_eq n.0 m.0
+
+-- distinct names with one more name
+abbrev pub with_id : List NameId → NameId → List NameId
+with_id ns n = if list_any (is_id n) ns then ns else ns ++ n ∷ []
+
+abbrev pub with_some : List NameId → Option NameId → List NameId
+with_some ns None = ns
+with_some ns (Some n) = with_id ns n
+
+-- the file names after occurrence i
+abbrev pub with_file : List Standing → List NameId → ℕ → Occurrence → List NameId
+with_file rs files i o = if o.is_file then with_some files (stands rs i) else files
+
+abbrev pub files_from : List Standing → List NameId → ℕ → List Occurrence → List NameId
+files_from rs files i [] = files
+files_from rs files i (o ∷ os) = files_from rs (with_file rs files i o) (i + 1) os
+
+-- the file names, in order of the first occurrence as a file's
+abbrev pub files : List Occurrence → List NameId
+files os = files_from (standings os) [] 0 os

@@ -1,0 +1,199 @@
+// The names so far.
+
+ghost use Rattle.std.specs.Prelude.{false, ◌≡◌, ◌<◌, ◌^◌, [], map, length, slice_get, bytes_eq, option_map, Some, IfOk, OnOk, OnErr};
+ghost use Rattle.std.specs.List.{list_any, position_or_len};
+ghost use Rattle.cweb_names.specs.Names.{beginning, is_prefix_of_another, occurrence_of, texts, with_name, with_text};
+ghost use Rattle.cweb_names.specs.Found.{found_of};
+ghost use Rattle.cweb_names.specs.Known.{early, has_text_at};
+
+use crate::found::{Found, find_one, has_prefix, number_in};
+use crate::name::{How, NameId};
+use crate::sorted::SortedText;
+use cweb_texts::{Key, home};
+use std::alloc::{AllocError, Global};
+use std::collections::BTreeMap;
+use std::marker::Model;
+
+// How many homes there are for texts.
+const HOMES: usize = 1024;
+
+/// A name, and the number of its first occurrence in full.
+#[derive(Drop)]
+pub struct KnownName {
+    pub text: Vec<u8>,
+    pub first: u32,
+}
+
+/// The names that were given in full, in order. They are kept sorted besides, so that a name is soon found, and so are
+/// those with a prefix.
+#[derive(Drop)]
+pub struct KnownNames {
+    alloc: Global,
+    names: Vec<KnownName>,
+    sorted: BTreeMap<SortedText, NameId>,
+    // the name that was given last, of those whose texts share a home
+    latest: [NameId; HOMES],
+}
+
+impl Model for KnownNames {
+    ghost use Rattle.std.specs.Prelude.{List};
+    ghost use Rattle.cweb_names.specs.Names.{Name};
+
+    ghost Value = { List Name };
+
+    ghost use Rattle.cweb_names.specs.Known.{names_in};
+    ghost use Rattle.cweb_names.specs.Found.{AreKnown};
+
+    ghost view = { λ s. names_in s.names.items };
+
+    ghost invariant = { λ s. AreKnown s.sorted.entries (names_in s.names.items) };
+}
+
+impl KnownNames {
+    /// No names.
+    pub fn new(alloc: Global) -> KnownNames
+        ensures { result ≡ [] }
+    {
+        KnownNames {
+            alloc,
+            names: Vec::new(alloc),
+            sorted: BTreeMap::new(alloc),
+            latest: [NameId(0); HOMES],
+        }
+    }
+
+    /// How many names there are.
+    pub fn len(&self) -> usize
+        ensures { result ≡ length self.now }
+    {
+        self.names.len()
+    }
+
+    /// Adds a name that occurrence `first` gives in full, if it is new, and answers its number. A refused call changes
+    /// nothing.
+    pub fn know(&mut self, text: &[u8], first: u32) -> Result<NameId, AllocError>
+        requires { length self.old < 2 ^ 32 }
+        ensures number { IfOk result
+            (λ id. id.0 ≡ position_or_len (bytes_eq text.now) (texts self.old)) }
+        ensures added { OnOk result (self.new ≡ with_text first self.old text.now) }
+        ensures err { OnErr result (self.new ≡ self.old) }
+    {
+        let home = home_of(text);
+        let latest = self.latest[home];
+        if self.has(latest, text) {
+            return Ok(latest);
+        }
+        let id = self.add(text, first)?;
+        self.latest[home] = id;
+        Ok(id)
+    }
+
+    // Whether the name with a number has a text.
+    fn has(&self, id: NameId, text: &[u8]) -> bool
+        ensures { result ≡ has_text_at self.now id.0 text.now }
+    {
+        match self.names.get(id.0 as usize) {
+            Some(name) => name.text.as_slice() == text,
+            None => false,
+        }
+    }
+
+    // The same as `know`, where the text is sought among all names.
+    fn add(&mut self, text: &[u8], first: u32) -> Result<NameId, AllocError>
+        requires { length self.old < 2 ^ 32 }
+        ensures number { IfOk result
+            (λ id. id.0 ≡ position_or_len (bytes_eq text.now) (texts self.old)) }
+        ensures added { OnOk result (self.new ≡ with_text first self.old text.now) }
+        ensures err { OnErr result (self.new ≡ self.old) }
+    {
+        let next = NameId(self.names.len() as u32);
+        let key = SortedText::new(self.alloc, text)?;
+        let text = Vec::from_slice(self.alloc, text)?;
+        self.names.reserve(1)?;
+        let id = number_in(&mut self.sorted, key, next)?;
+        if id.0 != next.0 {
+            return Ok(id);
+        }
+        self.names.push_reserved(KnownName { text, first });
+        Ok(id)
+    }
+
+    /// The names that begin with a prefix.
+    pub fn find(&self, prefix: &[u8]) -> Result<Found, AllocError>
+        ensures { IfOk result (λ found. found ≡ found_of (beginning prefix.now self.now)) }
+    {
+        let from = SortedText::new(self.alloc, prefix)?;
+        Ok(find_one(&self.sorted, from, prefix))
+    }
+
+    /// Takes occurrence `number` in, and answers which names the text stands for or begins, of those given up to it. A
+    /// refused call changes nothing.
+    pub fn take(&mut self, text: &[u8], how: How, number: u32) -> Result<Found, AllocError>
+        requires { length self.old < 2 ^ 32 }
+        ensures found { IfOk result
+            (λ found. found ≡ early self.old (occurrence_of text.now how false)) }
+        ensures names { OnOk result
+            (self.new ≡ with_name number self.old (occurrence_of text.now how false)) }
+        ensures err { OnErr result (self.new ≡ self.old) }
+    {
+        match how {
+            How::Full => Ok(Found::One(self.know(text, number)?)),
+            How::Prefix => Ok(self.find(text)?),
+        }
+    }
+
+    /// The text of a name.
+    pub fn text(&self, id: NameId) -> &[u8]
+        requires { id.0 < length self.now }
+        ensures { option_map (λ n. n.text) (slice_get self.now id.0) ≡ Some result.now }
+    {
+        self.names[id.0 as usize].text.as_slice()
+    }
+
+    /// The number of the occurrence that first gave a name in full.
+    pub fn first(&self, id: NameId) -> u32
+        requires { id.0 < length self.now }
+        ensures { option_map (λ n. n.first) (slice_get self.now id.0) ≡ Some result }
+    {
+        self.names[id.0 as usize].first
+    }
+
+    /// The numbers of the occurrences that first gave the names in full.
+    pub fn firsts(&self) -> Result<Vec<u32>, AllocError>
+        requires { length self.now < 2 ^ 32 }
+        ensures { IfOk result (λ all. all.items ≡ map (λ n. n.first) self.now) }
+    {
+        let mut all = Vec::with_capacity(self.alloc, self.names.len())?;
+        for number in 0..self.names.len() as u32 {
+            all.push(self.first(NameId(number)))?;
+        }
+        Ok(all)
+    }
+
+    /// Whether a name is a proper prefix of another.
+    pub fn has_prefix(&self) -> bool
+        ensures { result ≡ list_any (is_prefix_of_another self.now) (texts self.now) }
+    {
+        has_prefix(&self.sorted)
+    }
+
+    /// Whether a name is a proper prefix of another. Two names begin with one that is, itself and the other.
+    pub fn is_prefix(&self, id: NameId) -> Result<bool, AllocError>
+        requires { id.0 < length self.now }
+        ensures { IfOk result (λ is.
+            option_map (λ n. is_prefix_of_another self.now n.text) (slice_get self.now id.0)
+            ≡ Some is) }
+    {
+        let text = self.text(id);
+        let from = SortedText::new(self.alloc, text)?;
+        let found = find_one(&self.sorted, from, text);
+        Ok(found.is_several())
+    }
+}
+
+// The home of a text, by its ends and its length. Texts that share one are told apart by their bytes.
+fn home_of(text: &[u8]) -> usize
+    ensures { result < 1024 }
+{
+    (home(Key::of(text), HOMES) + text.len()) % HOMES
+}

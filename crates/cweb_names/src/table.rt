@@ -1,0 +1,146 @@
+// The occurrences of names.
+
+ghost use Rattle.std.specs.Prelude.{◌≡◌, ◌<◌, ◌+◌, ◌^◌, ◌++◌, ◌∷◌, [], map, length, IfOk, OnOk, OnErr};
+ghost use Rattle.cweb_names.specs.Names.{files_from, names, occurrence_of, occurrence_text, standings, too_many};
+ghost use Rattle.cweb_names.specs.Given.{given_as};
+
+use crate::found::Found;
+use crate::known::KnownNames;
+use crate::name::{How, NameId, NameKind, NameRef};
+use crate::standing::{add_name_at, settled};
+use cweb_texts::PackedTexts;
+use indexmap::IndexSet;
+use std::alloc::{AllocError, Global};
+use std::marker::Model;
+
+/// How an occurrence is given, where its text stands elsewhere.
+#[derive(Clone, Copy)]
+pub struct GivenAs {
+    pub how: How,
+    pub is_file: bool,
+}
+
+/// The occurrences of names, and the names.
+pub struct NameTable {
+    alloc: Global,
+    known: KnownNames,
+    // of each occurrence its text, how it is given, and what was found of it among the names given up to it
+    texts: PackedTexts,
+    given: Vec<GivenAs>,
+    found: Vec<Found>,
+}
+
+// It is let go by one call wherever it is held, not part by part.
+impl Drop for NameTable {
+    fn drop(self) {
+        let NameTable {
+            alloc: _,
+            known: _,
+            texts: _,
+            given: _,
+            found: _,
+        } = self;
+    }
+}
+
+impl Model for NameTable {
+    ghost use Rattle.std.specs.Prelude.{List};
+    ghost use Rattle.cweb_names.specs.Names.{Occurrence};
+
+    ghost Value = { List Occurrence };
+
+    ghost use Rattle.cweb_names.specs.Given.{AreGiven, occurrences_at};
+
+    ghost view = { λ s. occurrences_at s.texts s.given.items };
+
+    ghost invariant = { λ s. AreGiven s.known s.texts s.given.items s.found.items };
+}
+
+impl NameTable {
+    /// A table that was given nothing.
+    pub fn new(alloc: Global) -> NameTable
+        ensures { result ≡ [] }
+    {
+        NameTable {
+            alloc,
+            known: KnownNames::new(alloc),
+            texts: PackedTexts::new(alloc),
+            given: Vec::new(alloc),
+            found: Vec::new(alloc),
+        }
+    }
+
+    /// Adds an occurrence, and answers its number. A refused call changes nothing.
+    pub fn add(&mut self, name: &[u8], how: How, is_file: bool) -> Result<NameRef, AllocError>
+        requires { length self.old + 1 < too_many }
+        ensures number { IfOk result (λ name. name.0 ≡ length self.old) }
+        ensures added { OnOk result
+            (self.new ≡ self.old ++ occurrence_of name.now how is_file ∷ []) }
+        ensures err { OnErr result (self.new ≡ self.old) }
+    {
+        self.given.reserve(1)?;
+        self.found.reserve(1)?;
+        let number = self.texts.add(name)?;
+        let found = match self.known.take(name, how, number as u32) {
+            Ok(found) => found,
+            Err(refusal) => {
+                self.texts.truncate(number);
+                return Err(refusal);
+            }
+        };
+        self.given.push_reserved(GivenAs { how, is_file });
+        self.found.push_reserved(found);
+        Ok(NameRef(number as u32))
+    }
+
+    /// The names.
+    pub fn names(&self) -> &KnownNames
+        ensures names { result.now ≡ names self.now }
+        ensures few { length (names self.now) < too_many }
+    {
+        &self.known
+    }
+
+    /// What each occurrence stands for.
+    pub fn standings(&self) -> Result<Vec<Result<NameId, NameKind>>, AllocError>
+        ensures standings { IfOk result (λ all. all.items ≡ standings self.now) }
+        ensures few { IfOk result (λ all. length all.items < 2 ^ 32) }
+    {
+        let mut all = Vec::with_capacity(self.alloc, self.found.len())?;
+        for (i, found) in self.found.iter().enumerate() {
+            all.push(settled(&self.known, self.texts.text(i), *found)?)?;
+        }
+        Ok(all)
+    }
+
+    /// The texts of the occurrences, and how each is given.
+    pub fn close(self) -> (PackedTexts, Vec<GivenAs>)
+        ensures texts { result.0 ≡ map occurrence_text self }
+        ensures given { result.1.items ≡ map given_as self }
+    {
+        let NameTable {
+            alloc: _,
+            known: _,
+            texts,
+            given,
+            found: _,
+        } = self;
+        (texts, given)
+    }
+
+    /// The file names, in order of their first occurrence as a file's.
+    pub fn files(
+        &self,
+        standings: &[Result<NameId, NameKind>],
+    ) -> Result<IndexSet<NameId>, AllocError>
+        ensures { IfOk result (λ files. files.keys ≡ files_from standings.now [] 0 self.now) }
+    {
+        let mut files = IndexSet::new(self.alloc);
+        for (i, given) in self.given.iter().enumerate() {
+            if given.is_file {
+                add_name_at(&mut files, standings, i)?;
+            }
+        }
+        Ok(files)
+    }
+}

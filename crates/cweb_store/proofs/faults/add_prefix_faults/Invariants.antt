@@ -1,0 +1,7 @@
+use Rattle.cweb_store.proofs.Common.{◌≡◌, ◌++◌, drop, PrefixOfAnother, faults_where, faults_from, is_prefix_of_another}
+use Rattle.cweb_store.proofs.faults.add_prefix_faults.Given as goal
+
+abbrev pub invariant-loop-number : goal.invariant-loop-number
+invariant-loop-number l = l.faults.items
+    ++ faults_from l.number PrefixOfAnother (λ n text. is_prefix_of_another l.names text) (drop l.number l.names)
+    ≡ l.initial.faults.items ++ faults_where PrefixOfAnother (λ n text. is_prefix_of_another l.names text) l.names

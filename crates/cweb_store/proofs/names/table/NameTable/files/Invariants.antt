@@ -1,8 +1,0 @@
-use Rattle.cweb_store.proofs.Common.{◌≡◌, ℕ, List, [], drop, length, files_from, occurrences_at}
-use Rattle.cweb_store.proofs.names.table.NameTable.files.Given as goal
-
--- whatever their texts are
-abbrev pub invariant-loop-i : goal.invariant-loop-i
-invariant-loop-i l =
-    (ts : List (List ℕ)) → length ts ≡ length l.given-items → files_from l.standings l.files.keys l.i (occurrences_at
-    (drop l.i ts) (drop l.i l.given-items)) ≡ files_from l.standings [] 0 (occurrences_at ts l.given-items)

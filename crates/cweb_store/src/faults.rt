@@ -1,0 +1,180 @@
+// The faults of names.
+
+ghost use Rattle.std.specs.Prelude.{◌≡◌, ◌<◌, ◌^◌, ◌++◌, ◌&&◌, ◌||◌, not, [], length, slice_get, option_map, Some, IfOk, OnOk};
+ghost use Rattle.std.specs.List.{list_any};
+ghost use Rattle.cweb_names.specs.declared.name.NameKind.TheVariants.{PrefixOfAnother, NotPresent};
+ghost use Rattle.cweb_names.specs.Names.{is_id, is_prefix_of_another};
+ghost use Rattle.cweb_names.specs.Names as spec;
+ghost use Rattle.cweb_store.specs.Faults.{fault_if, faults_where, standing_faults};
+ghost use Rattle.cweb_store.specs.Faults as told;
+ghost use Rattle.cweb_store.specs.Gathered.{present_from};
+
+use crate::parts::closed::ClosedParts;
+use crate::parts::{PartKind, Run};
+use cweb_names::{KnownNames, NameFault, NameId, NameKind, NameRef, NameTable, add_name_at};
+use indexmap::IndexSet;
+use std::alloc::{AllocError, Global};
+
+/// All faults of names, in their order.
+pub fn name_faults(
+    alloc: Global,
+    table: &NameTable,
+    parts: &ClosedParts,
+    standings: &[Result<NameId, NameKind>],
+    files: &IndexSet<NameId>,
+) -> Result<Vec<NameFault>, AllocError>
+    requires settled { standings.now ≡ spec.standings table.now }
+    requires given { files.now.keys ≡ spec.files table.now }
+    requires few { length standings.now < 2 ^ 32 }
+    ensures { IfOk result (λ all. all.items ≡ told.faults table.now parts.now) }
+{
+    let mut faults = Vec::new(alloc);
+    add_standing_faults(&mut faults, standings)?;
+    add_prefix_faults(&mut faults, table.names())?;
+    add_faults_of_parts(alloc, &mut faults, table, parts, standings, files)?;
+    Ok(faults)
+}
+
+// Adds a fault for each name of the table that wants a part and has none.
+fn add_faults_of_parts(
+    alloc: Global,
+    faults: &mut Vec<NameFault>,
+    table: &NameTable,
+    parts: &ClosedParts,
+    standings: &[Result<NameId, NameKind>],
+    files: &IndexSet<NameId>,
+) -> Result<(), AllocError>
+    requires settled { standings.now ≡ spec.standings table.now }
+    requires given { files.now.keys ≡ spec.files table.now }
+    requires few { length standings.now < 2 ^ 32 }
+    ensures { OnOk result
+        (faults.new.items
+        ≡ faults.old.items
+        ++ faults_where NotPresent
+        (λ n text. told.is_missing table.now parts.now n)
+        (spec.names table.now)) }
+{
+    let used = parts.uses(alloc, standings)?;
+    let present = names_with_part(alloc, parts.runs(), standings)?;
+    add_missing_faults(faults, table.names(), &used, files, &present)
+}
+
+// The names that have a part.
+fn names_with_part(
+    alloc: Global,
+    runs: &[Run],
+    standings: &[Result<NameId, NameKind>],
+) -> Result<IndexSet<NameId>, AllocError>
+    ensures { IfOk result (λ present. present.keys ≡ present_from standings.now [] runs.now) }
+{
+    let mut present = IndexSet::new(alloc);
+    for run in runs {
+        if let PartKind::Named(name) = run.kind {
+            add_name_at(&mut present, standings, name.0 as usize)?;
+        }
+    }
+    Ok(present)
+}
+
+// Adds a fault for each occurrence that stands for no name.
+fn add_standing_faults(
+    faults: &mut Vec<NameFault>,
+    standings: &[Result<NameId, NameKind>],
+) -> Result<(), AllocError>
+    requires { length standings.now < 2 ^ 32 }
+    ensures { OnOk result (faults.new.items ≡ faults.old.items ++ standing_faults standings.now) }
+{
+    for (i, standing) in standings.iter().enumerate() {
+        if let Err(kind) = standing {
+            faults.push(NameFault {
+                kind: *kind,
+                occurrence: NameRef(i as u32),
+            })?;
+        }
+    }
+    Ok(())
+}
+
+// Adds a fault for each name that is a proper prefix of another.
+fn add_prefix_faults(faults: &mut Vec<NameFault>, names: &KnownNames) -> Result<(), AllocError>
+    requires { length names.now < 2 ^ 32 }
+    ensures { OnOk result
+        (faults.new.items
+        ≡ faults.old.items
+        ++ faults_where PrefixOfAnother
+        (λ n text. is_prefix_of_another names.now text) names.now) }
+{
+    if !names.has_prefix() {
+        return Ok(());
+    }
+    for number in 0..names.len() as u32 {
+        let fails = names.is_prefix(NameId(number))?;
+        add_fault_if(
+            fails,
+            faults,
+            names,
+            NameId(number),
+            NameKind::PrefixOfAnother,
+        )?;
+    }
+    Ok(())
+}
+
+// Adds a fault for each name that is used, or is a file's, and has no part.
+fn add_missing_faults(
+    faults: &mut Vec<NameFault>,
+    names: &KnownNames,
+    used: &IndexSet<NameId>,
+    files: &IndexSet<NameId>,
+    present: &IndexSet<NameId>,
+) -> Result<(), AllocError>
+    requires { length names.now < 2 ^ 32 }
+    ensures { OnOk result
+        (faults.new.items
+        ≡ faults.old.items
+        ++ faults_where NotPresent
+        (λ n text.
+        (list_any (is_id n) used.now.keys || list_any (is_id n) files.now.keys)
+        && not (list_any (is_id n) present.now.keys))
+        names.now) }
+{
+    for number in 0..names.len() as u32 {
+        let id = NameId(number);
+        let fails = is_missing(id, used, files, present);
+        add_fault_if(fails, faults, names, id, NameKind::NotPresent)?;
+    }
+    Ok(())
+}
+
+fn is_missing(
+    id: NameId,
+    used: &IndexSet<NameId>,
+    files: &IndexSet<NameId>,
+    present: &IndexSet<NameId>,
+) -> bool
+    ensures { result
+        ≡ ((list_any (is_id id) used.now.keys || list_any (is_id id) files.now.keys)
+        && not (list_any (is_id id) present.now.keys)) }
+{
+    (used.contains(&id) || files.contains(&id)) && !present.contains(&id)
+}
+
+// Adds a fault of a name that fails, at its first occurrence in full.
+fn add_fault_if(
+    fails: bool,
+    faults: &mut Vec<NameFault>,
+    names: &KnownNames,
+    id: NameId,
+    kind: NameKind,
+) -> Result<(), AllocError>
+    requires { id.0 < length names.now }
+    ensures { OnOk result
+        (option_map (λ n. faults.old.items ++ fault_if fails kind n.first) (slice_get names.now id.0)
+        ≡ Some faults.new.items) }
+{
+    if fails {
+        let occurrence = NameRef(names.first(id));
+        faults.push(NameFault { kind, occurrence })?;
+    }
+    Ok(())
+}
