@@ -1,5 +1,6 @@
 -- What is kept of a web has no more tokens, and no more bytes, than the web has bytes and lines.
 use Rattle.cweb_scan.proofs.Common.{◌≡◌, ◌≤◌, ℕ, List, [], ◌∷◌, ◌++◌, Option, Some, None, length, map, refl, arith, length-append, option_to_list, Line, Occurrence, Token, Word, Number, Literal, Verbatim, Punct, Part, all_tokens, Replacement, PartsSoFar, all_parts, finished, State, leave, before_text, Reading, run, further, read, scanned, total, one, text_size, occurrence_size, replacement_size, part_size, open_size, parts_size, token_number, text_bytes, Adds, web_size, IsBounded}
+use Rattle.cweb_names.specs.Names.{occurrence_text}
 use Rattle.cweb_store.specs.Texts as kept
 use Rattle.cweb_texts.specs.Words as words
 use Rattle.cweb_scan.proofs.Adding.{adds, due_some}
@@ -48,7 +49,7 @@ tokens-bytes : (ts : List Token) → words.total kept.token_bytes ts ≡ total t
 tokens-bytes [] = refl
 tokens-bytes (t ∷ ts) = omega (arith, token-bytes t, tokens-bytes ts)
 
-occurrences-bytes : (os : List Occurrence) → words.total length (map kept.occurrence_text os) ≡ total occurrence_size os
+occurrences-bytes : (os : List Occurrence) → words.total length (map occurrence_text os) ≡ total occurrence_size os
 occurrences-bytes [] = refl
 occurrences-bytes (o ∷ os) = omega (arith, occurrences-bytes os)
 
