@@ -40,8 +40,8 @@ pub use Rattle.cweb_lines.specs.Laws.{is_too_deep, IsPlainSplice, Splice, splice
 pub use Rattle.cweb_lines.specs.Laws.{EntriesWithoutMatchAreTold, PrintedMergesComeAgain, ChangesSplice}
 pub use Rattle.cweb_lines.specs.Laws.{WebsWithoutIncludesAreTheirOwnLines}
 pub use Rattle.cweb_lines.specs.Lending.{LendsLines, lent_at, LendsLine, bytes_in}
-pub use Rattle.cweb_source.specs.Lines.{Line, SourceLine, IsOneLine, TextLine, numbered, trimmed, lines_in, HasNoNewline}
-pub use Rattle.cweb_source.specs.Lines.{before_blanks, is_blank, lines, onto_first, text_lines, SplitsAt}
+pub use Rattle.cweb_source.specs.Lines.{Line, SourceLine, IsOneLine, TextLine, numbered, trimmed, lines_in}
+pub use Rattle.cweb_source.specs.Lines.{HasNoNewline, before_blanks, is_blank, lines, onto_first, text_lines, SplitsAt}
 pub use Rattle.cweb_lines.specs.Merge.{Event, took, fault, Next, RawLine, State, Thing, at_raw, given, included, obeyed}
 pub use Rattle.cweb_lines.specs.Merge.{onto, opened, opening, passed, past, plain, raw, raws, run, seek, taking, told}
 pub use Rattle.cweb_lines.specs.Merge.{NewSide, new_at, new_things, compared, Compared, after_old, at_entry}
