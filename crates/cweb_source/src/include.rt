@@ -2,6 +2,7 @@
 ghost use Rattle.std.specs.Prelude.{◌≡◌, ◌≤◌, ◌<◌, ◌+◌, ℕ, List, length, take, drop};
 ghost use Rattle.cweb_source.specs.Include as spec;
 
+/// Whether a line is an include line: it begins `@i` or `@I` (the CWEB manual's `@i`).
 pub fn is_include(line: &[u8]) -> bool
     ensures { result ≡ spec.is_include line.now }
 {

@@ -10,8 +10,11 @@ use std::alloc::{AllocError, Global};
 /// Why a line could not be taken.
 #[derive(Clone, Copy)]
 pub enum LineFault {
+    /// The reader failed.
     Read,
+    /// It has more than `LINE_LENGTH` bytes.
     TooLong,
+    /// Memory was refused.
     Memory,
 }
 
@@ -53,7 +56,9 @@ pub struct Source<R: Drop> {
 
 impl<R: Drop> Source<R> {
     ghost use Rattle.cweb_source.specs.Source.{pending};
-    ghost use Rattle.std.specs.Prelude.{[], IsTrue};
+    ghost use Rattle.std.specs.Prelude.{[], IsTrue, false, nat_eq};
+    ghost use Rattle.cweb_source.specs.Include as include;
+    ghost use Rattle.std.specs.List.{starts_with};
 
     /// A reader of which nothing was read.
     pub fn new(alloc: Global, reader: R) -> Result<Self, AllocError>
@@ -80,21 +85,28 @@ impl<R: Drop> Source<R> {
     }
 
     /// The piece, for a text that is opened later.
-    pub fn into_piece(self) -> Vec<u8> {
+    pub fn into_piece(self) -> Vec<u8>
+        ensures { result ≡ self.piece }
+    {
         self.piece
     }
 
     /// Whether the next line was read already and is no include line, so that it can be taken without a read. Only the
     /// time of a write depends on it, never what is written.
     pub fn has_line(&self) -> bool
-        ensures { IsTrue result → HasNewline (pending self.now) }
+        ensures whole { IsTrue result → HasNewline (pending self.now) }
+        ensures plain { IsTrue result → include.is_include (pending self.now) ≡ false }
+        ensures found { self.now.start < self.now.lines_end →
+            include.is_include (pending self.now) ≡ false → IsTrue result }
     {
         self.start < self.lines_end && !is_include(&self.piece[self.start..self.end])
     }
 
     /// Whether what was read of the next line begins so. Only the time of a write depends on it. Most lines are told by
     /// their first byte.
-    pub fn may_begin_with(&self, front: &[u8]) -> bool {
+    pub fn may_begin_with(&self, front: &[u8]) -> bool
+        ensures { result ≡ starts_with nat_eq (pending self.now) front.now }
+    {
         let pending = &self.piece[self.start..self.end];
         match (front.first(), pending.first()) {
             (Some(wanted), Some(byte)) if wanted != byte => false,
