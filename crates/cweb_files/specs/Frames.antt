@@ -19,3 +19,10 @@ pub record KeepsPlace {W : Type 0} (sink : Sink W) (old new : W) : Type 0 where
 -- these bytes were written to a sink, where it tells its bytes
 abbrev pub Writes : {W : Type 0} → Sink W → W → W → List ℕ → Type 0
 Writes sink old new bytes = IsTrue (sink.tells old) → sink.written new ≡ sink.written old ++ bytes
+
+-- a front of a text was written
+pub record WritesFront (old new text : List ℕ) : Type 0 where
+  pub front : List ℕ
+  pub rest : List ℕ
+  pub written : new ≡ old ++ front
+  pub whole : text ≡ front ++ rest

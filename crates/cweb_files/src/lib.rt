@@ -4,7 +4,9 @@
 mod device;
 mod memory;
 mod place;
+mod writing;
 
 pub use device::{Shelf, ShelfFault, Sink, SinkFault};
 pub use memory::{MemoryReader, MemoryShelf, MemorySink};
 pub use place::{FileId, Place};
+pub use writing::write_all;

@@ -1,6 +1,6 @@
 -- Lines that were taken and faults that were told, as events of a merge.
 use Rattle.cweb_lines.proofs.Common.{◌≡◌, ℕ, List, [], ◌∷◌, ◌++◌, refl, ◌∙◌, ap, arith, length-append, map, append-nil, append_assoc, Place, SourceLine, Event, took, fault, SoFar, Gives, TellsFront, Adds, TellsSome, StopsAmong, Stopped, Count, Took, StopsFor, given_lines, told_faults, openings, taken_lines, AreShort, SourceFault, Stop, map-append}
-use Rattle.cweb_lines.proofs.Stacks.{stops_map}
+use Rattle.cweb_open.proofs.Stacks.{stops_map}
 use Rattle.cweb_lines.proofs.Sums.{taken-append, size-append, short-append}
 
 -- what lines that were taken, and faults behind them, say

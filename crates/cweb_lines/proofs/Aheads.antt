@@ -1,10 +1,10 @@
 -- Lines that are looked at where they lie, one behind another.
 use Rattle.cweb_lines.proofs.Common.{◌≡◌, ◌≤◌, ◌<◌, ◌+◌, ◌-◌, ℕ, List, [], ◌∷◌, ◌++◌, length, map, Option, None, Some, refl, sym, ◌∙◌, ap, subst, arith, append_cancel_right, length-append, length-map, map-append, slice_range, unwrap_or, IfSome, OnSome, Place, Fits, FitsAt, IsAhead, LooksAt, LooksIn, Entry, LendsLines, lent_at, Line, IsOneLine, SourceLine, numbered, trimmed, pending_of, told_by, ComesNext, GivesLines, HasRoomFor, IsStretch, Reaches, StandsAt, StandsIn, ended, lines_next, top_of, IsSettled, floor_of, files_up_to, Limits, LINES, Ahead, Lent, Stretch, Run, OpenText}
 use Rattle.cweb_lines.proofs.Fronts.{grows_told, told_given, told_then}
-use Rattle.cweb_lines.proofs.Stacks.{most_at}
+use Rattle.cweb_open.proofs.Stacks.{most_at}
 use Rattle.cweb_lines.proofs.Standing.{few_lines, joined, numbered-append}
 use Rattle.cweb_lines.proofs.Sums.{gives_both}
-use Rattle.cweb_lines.proofs.Trims.{trimmed-length, trimmed-line}
+use Rattle.cweb_open.proofs.Trims.{trimmed-length, trimmed-line}
 
 -- one line behind others
 module _ {R : Type 0} (entry : Option Entry) (text : OpenText R) (lines : List (List ℕ)) (raw : List ℕ) (s : Stretch)

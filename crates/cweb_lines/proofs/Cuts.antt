@@ -3,7 +3,7 @@ use Rattle.cweb_lines.proofs.Common.{◌≡◌, ◌≢◌, ◌+◌, ◌==◌, �
 use Rattle.cweb_lines.specs.declared.change.code.Code.TheVariants.{EndSide as end_side, NewSide as new_side, OldSide as old_side}
 use Rattle.cweb_lines.proofs.Adds.{given-took, given_none}
 use Rattle.cweb_lines.proofs.Sums.{given-append}
-use Rattle.cweb_lines.proofs.Trims.{trimmed-clean}
+use Rattle.cweb_open.proofs.Trims.{trimmed-clean}
 
 pub all-append : {A : Type 0} (P : A → Type 0) (xs ys : List A) → AllByRecursion P xs → AllByRecursion P ys
     → AllByRecursion P (xs ++ ys)

@@ -1,7 +1,7 @@
 -- How lines that were given out are gathered, passed on and lost.
 use Rattle.cweb_lines.proofs.Common.{◌≡◌, ℕ, List, [], ◌∷◌, ◌++◌, length, refl, sym, ◌∙◌, ap, inl, inr, arith, length-append, IsTrue, append-nil, append_assoc, KeepsPlace, Writes, Line, Event, SoFar, Gives, Held, given_lines, text_of, WritesFront, Gathered, FailsAmong, LosesLine, PassesOn}
 use Rattle.cweb_files.specs.declared.device.Sink.{Ghosts as Sink}
-use Rattle.cweb_lines.proofs.Keeps.{place_told, writes_then}
+use Rattle.cweb_files.proofs.Keeps.{place_told, writes_then}
 use Rattle.cweb_lines.proofs.Sums.{gives_both}
 use Rattle.cweb_lines.proofs.Writes.{front_of_all, given_front, text_of-append}
 

@@ -2,7 +2,7 @@
 use Rattle.cweb_lines.proofs.Common.{◌≡◌, ◌≢◌, ◌<◌, ◌+◌, ℕ, Bool, true, false, List, [], ◌∷◌, ◌++◌, None, Some, refl, sym, ◌∙◌, ap, append-nil, subst, arith, length, nat_tests, AllByRecursion, nat_lt, SourceLine, lines_in, World, include_name, is_include, at_place, IncludeLinesAreReplaced, Includes, LinesComeApart, Seen, followed_by, seen, seen_in, Event, Next, RawLine, State, Thing, fault, given, included, obeyed, opened, opening, plain, raw, raws, taking, took, openings, merge, merge-run, merge_end, merge_next, halts, NoName, NotThere, TooDeep, OPEN_FILES}
 use Rattle.cweb_lines.proofs.Alone.{IsNoSearch, front, raws_seek_not}
 use Rattle.cweb_lines.proofs.Merges.{state}
-use Rattle.cweb_lines.proofs.Stacks.{raws-append}
+use Rattle.cweb_open.proofs.Stacks.{raws-append}
 use Rattle.cweb_lines.proofs.Seens.{name_first, seen-append}
 
 pub raws_seek_none : (depth : ℕ) (may_match : Bool) (lines : List SourceLine)

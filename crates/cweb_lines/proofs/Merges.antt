@@ -1,6 +1,6 @@
 -- What comes of a line that was taken, and how what came adds up.
 use Rattle.cweb_lines.proofs.Common.{Option, if◌then◌else◌, ◌&&◌, ◌≡◌, ◌≤◌, ◌<◌, ◌+◌, ◌==◌, ℕ, Bool, true, false, List, [], ◌∷◌, ◌++◌, Some, None, refl, sym, ◌∙◌, ap, arith, length, append-nil, nat_lt, nat_tests, Place, bytes_eq, Entry, at_place, World, is_include, include_name, found_at, Line, SourceLine, lines_in, State, RawLine, Thing, raw, Event, took, given, fault, opening, Next, at_entry, at_raw, included, opened, obeyed, plain, taking, raws, begun_by, OPEN_FILES, LineAt, SoFar, Gives, Stopped, Count, Refuses, TopStops, StopsFor, taken_lines, told_faults, openings, given_lines, merge, merge_next, SourceFault, NoName, TooDeep, NotThere, Stop}
-use Rattle.cweb_lines.proofs.Stacks.{stops_map}
+use Rattle.cweb_open.proofs.Stacks.{stops_map}
 
 abbrev pub state : List Thing → Option Entry → List SourceLine → ℕ → State
 state things pending change files = record { things = things; pending = pending; change = change; files = files }

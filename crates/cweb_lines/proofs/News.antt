@@ -4,7 +4,7 @@ use Rattle.cweb_lines.specs.declared.change.code.Code.TheVariants.{OldSide as ol
 use Rattle.cweb_lines.proofs.Adds.{adds_faults, adds_one, gives_adds}
 use Rattle.cweb_lines.proofs.Fronts.{took_faults, took_names}
 use Rattle.cweb_lines.proofs.Merges.{gives_fault, merge_takes, state, stopped_first}
-use Rattle.cweb_lines.proofs.Stacks.{over-none}
+use Rattle.cweb_open.proofs.Stacks.{over-none}
 use Rattle.cweb_lines.proofs.Codes.{is_faulty_new}
 
 -- what is to come of a change's new lines, in front of what the texts below have left

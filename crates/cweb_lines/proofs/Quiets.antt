@@ -2,7 +2,8 @@
 use Rattle.cweb_lines.proofs.Common.{◌≡◌, ◌++◌, ℕ, List, refl, sym, ◌∙◌, ap, subst, IsTrue, KeepsTexts, KeepsTold, told_by, names_of, AreReadersKnown, KeepsReaders, blame, OnlyTells, SourceFault, Run, Stop}
 use Rattle.cweb_files.specs.declared.device.Shelf.{Ghosts as Shelf}
 use Rattle.cweb_lines.proofs.Fronts.{told_behind, told_same, told_then}
-use Rattle.cweb_lines.proofs.Named.{knows_only, knows_same, stop_after}
+use Rattle.cweb_open.proofs.Named.{stop_after}
+use Rattle.cweb_lines.proofs.Named.{knows_only, knows_same}
 
 module _ {S R : Type 0} (shelf : Shelf S R) where
   pub record Quiet (old new : S) (run run' : Run R) : Type 0 where

@@ -2,7 +2,7 @@
 use Rattle.cweb_lines.proofs.Common.{OnlyOpens, OnlyTells, append-nil, Some, Bool, true, false, if◌then◌else◌, ◌≡◌, ◌≤◌, ◌<◌, ◌+◌, ◌-◌, ℕ, zero, suc, get_or, List, [], ◌∷◌, ◌++◌, Option, None, refl, sym, ◌∙◌, ap, arith, length, length-append, le-max_left, le-max_right, max-le, Place, Entry, at_place, Found, World, lines_found, names_found, text_found, text_of_name, SourceLine, lines_in, Event, Thing, fault, raws, seek, new_lines, started, Gives, NothingLeft, coming, told_by, things_of, names_of, IsSettled, begun_stage, change_in, files_begun, stage_for, floor_of, pending_in, things_below, things_in, Count, Opens, StaysBelow, StopsAbove, TakesAbove, TakesFirst, TopStops, lines_at, lines_left, things_above, things_over, merge, merge_end, merge_next, SourceFault, NoMatch, Run, Stack, Change, Stage, Seeking, Waiting, Changing, Stop, LineAt, OpenText, count_of}
 use Rattle.cweb_lines.specs.Faults.{files_in}
 use Rattle.cweb_lines.proofs.Merges.{state, gives_fault}
-use Rattle.cweb_lines.proofs.Stacks.{over-none}
+use Rattle.cweb_open.proofs.Stacks.{over-none}
 
 pub files_in-push : (faults : List SourceFault) (one : SourceFault) (files : ℕ) → files_in faults ≤ files →
     one.place.file.0 < files → files_in (faults ++ one ∷ []) ≤ files

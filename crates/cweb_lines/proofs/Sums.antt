@@ -1,6 +1,6 @@
 -- How what came adds up.
 use Rattle.cweb_lines.proofs.Common.{◌≡◌, ◌+◌, ℕ, List, [], ◌∷◌, ◌++◌, refl, sym, ◌∙◌, ap, subst, arith, length, length-append, append_assoc, Place, Line, SourceLine, Event, took, given, fault, opening, SoFar, Gives, GivesBehind, Stopped, StopsBehind, Count, Took, given_lines, told_faults, openings, taken_lines, size_of, AreShort, Stop}
-use Rattle.cweb_lines.proofs.Stacks.{stops_map}
+use Rattle.cweb_open.proofs.Stacks.{stops_map}
 
 -- a line was taken before
 pub gives_took : (lines : List Line) (old mid new : SoFar) (bytes : List ℕ)

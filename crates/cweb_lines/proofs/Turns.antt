@@ -2,7 +2,7 @@
 use Rattle.cweb_lines.proofs.Common.{Sought, map-append, ◌≡◌, ◌&&◌, ℕ, Bool, true, false, List, [], ◌∷◌, ◌++◌, Some, None, Option, refl, sym, ◌∙◌, ap, length, map, if◌then◌else◌, subst, append_assoc, Ok, bytes_eq, Place, Entry, old_lines, sought, text_of_name, world_in, World, Line, SourceLine, Event, RawLine, Thing, after_old, at_entry, change_events, fault, fault_if, raw, seek, taking, took, SoFar, change_lines, coming, coming_after, pending_of, things_of, told_by, names_of, IsChanged, faults_replaced, lines_replaced, list_if, taken_away, Searched, IsOutside, begun_by, change_in, pending_in, things_in, IsSettled, floor_of, lines_at, raw_at, things_above, Counted, StaysBelow, TakesAbove, merge, merge_next, SourceFault, Run, Stack, Stage, Seeking, Waiting, Changing, LineAt, count_of, OnlyTakes, Took, TellsSome, TellsFront, StopsFor, StopsAmong, Stopped, Stop, Count, Gives}
 use Rattle.cweb_lines.proofs.Adds.{adds_both, adds_one, among_after, gives_adds, stopped_among, tells_after, tells_some}
 use Rattle.cweb_lines.proofs.Fronts.{took_faults, took_names}
-use Rattle.cweb_lines.proofs.Stacks.{stops_map}
+use Rattle.cweb_open.proofs.Stacks.{stops_map}
 use Rattle.cweb_lines.proofs.Merges.{state}
 use Rattle.cweb_lines.proofs.Runs.{coming_of, takes_in}
 

@@ -1,7 +1,7 @@
 -- How lines that were given out, gathered and written add up.
 use Rattle.cweb_lines.proofs.Common.{◌≡◌, ◌<◌, ℕ, List, [], ◌∷◌, ◌++◌, length, refl, sym, ◌∙◌, ap, subst, arith, IsTrue, append-nil, append_assoc, KeepsPlace, Writes, Line, Event, SoFar, Gives, Stopped, StopsBehind, TellsFront, Count, given_lines, text_of, WritesFront, WritesAll, WritesSome, WritesUpTo, Gathered, FailsAmong, StopsWriting, WritesRest, leaves, writes, fails, Stop, ReadFault, LineTooLong, TooMuchText, Memory}
 use Rattle.cweb_files.specs.declared.device.Sink.{Ghosts as Sink}
-use Rattle.cweb_lines.proofs.Keeps.{place_told, writes_then}
+use Rattle.cweb_files.proofs.Keeps.{place_told, writes_then}
 use Rattle.cweb_lines.proofs.Merges.{gives_nothing}
 use Rattle.cweb_lines.proofs.Sums.{given-append, told-append, openings-append, gives_both, behind_both}
 

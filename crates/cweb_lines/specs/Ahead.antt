@@ -3,14 +3,14 @@ use Rattle.std.specs.Prelude.{◌≡◌, ℕ, ◌+◌, ◌-◌, ◌<◌, ◌≤�
 use Rattle.cweb_lines.specs.Change.{Entry}
 use Rattle.cweb_lines.specs.Lending.{LendsLines, LiesIn, bytes_in}
 use Rattle.cweb_source.specs.Lines.{IsOneLine}
-use Rattle.cweb_lines.specs.Names.{names_of}
+use Rattle.cweb_open.specs.Names.{names_of}
 use Rattle.cweb_lines.specs.Passing.{ComesNext, GivesLines, StandsAt, lines_next, piece_of, standing, top_of}
-use Rattle.cweb_lines.specs.Texts.{files_up_to, number_of}
-use Rattle.cweb_lines.specs.declared.limits.Limits.{Limits}
-use Rattle.cweb_lines.specs.declared.limits.TheConstants.{LINES, BYTES}
+use Rattle.cweb_open.specs.Texts.{files_up_to, number_of}
+use Rattle.cweb_open.specs.declared.limits.Limits.{Limits}
+use Rattle.cweb_open.specs.declared.limits.TheConstants.{LINES, BYTES}
 use Rattle.cweb_lines.specs.declared.merger.ahead.Ahead.{Ahead}
 use Rattle.cweb_lines.specs.declared.run.Run.{Run}
-use Rattle.cweb_lines.specs.declared.text.OpenText.{OpenText}
+use Rattle.cweb_open.specs.declared.text.OpenText.{OpenText}
 
 -- with all that was read of a text no limit is passed
 pub record Fits {R : Type 0} (limits : Limits) (text : OpenText R) : Type 0 where

@@ -1,61 +1,15 @@
 -- What the calls that take and obey lines say whatever the shelf tells: a record for each kind of call.
-use Rattle.std.specs.Prelude.{◌≡◌, ◌≤◌, ◌<◌, ◌+◌, ℕ, List, length, Option, None, Result, Ok, IfOk, IfErr, IfSome, OnSome, OnOk, OnErr}
-use Rattle.cweb_lines.specs.Counts.{count_of}
-use Rattle.cweb_source.specs.Lines.{IsOneLine}
+use Rattle.std.specs.Prelude.{◌≡◌, ◌≤◌, ◌<◌, ℕ, List, length, Result, IfOk, IfErr, OnOk, OnErr}
+use Rattle.cweb_open.specs.Counts.{count_of}
+pub use Rattle.cweb_open.specs.Calls.{AnswersLine, KeepsText, KeepsStack, ClosesTop, ClosesAbove}
 use Rattle.cweb_lines.specs.Merging.{TurnCounts, TurnEnds, TurnGains, TurnKnown, TurnLine, turns_left}
-use Rattle.cweb_lines.specs.Names.{names_of}
-use Rattle.cweb_lines.specs.Texts.{AreDeep, Count, Counted, DepthAfter, NamesFiles, StaysBelow, StopsReading, files_named, files_up_to, line_number, matches_at, most, number_of, text_depth}
+use Rattle.cweb_open.specs.Names.{names_of}
+use Rattle.cweb_open.specs.Texts.{StopsReading, files_named}
 use Rattle.cweb_lines.specs.declared.change.old_side.Replaced.{Replaced}
 use Rattle.cweb_lines.specs.declared.run.Run.{Run}
 use Rattle.cweb_lines.specs.declared.step.Turn.{Turn}
-use Rattle.cweb_lines.specs.declared.stop.Stop.{Stop}
-use Rattle.cweb_lines.specs.declared.stop.Stop.TheVariants.{Memory}
-use Rattle.cweb_lines.specs.declared.text.LineAt.{LineAt}
-use Rattle.cweb_lines.specs.declared.text.OpenText.{OpenText}
-use Rattle.cweb_lines.specs.declared.text.stack.Stack.{Stack}
-
--- What was taken is one line, it is counted, and its file is among those that were opened. A stop is one that reading
--- comes to, and the file that it names is among them too.
-pub record AnswersLine (files : ℕ) (before after : Count) (bytes : List ℕ)
-    (result : Result (Option LineAt) Stop) : Type 0 where
-  pub counted : Counted before after result
-  pub line : IfOk result (λ at. OnSome at (IsOneLine bytes))
-  pub gains : IfOk result (λ at. OnSome at (before.bytes + length bytes ≤ after.bytes))
-  pub known : NamesFiles files result
-  pub reading : IfErr result (λ stop. StopsReading stop)
-
--- The text of which a line is taken stays the same file, as deep as it was, and its lines are numbered on.
-pub record KeepsText {R : Type 0} (old new : Option (OpenText R)) (before after : Count)
-    (result : Result (Option LineAt) Stop) : Type 0 where
-  pub number : number_of line_number new ≤ after.lines
-  pub more : before.lines ≤ after.lines
-  pub file : number_of files_up_to new ≡ number_of files_up_to old
-  pub depth : number_of text_depth new ≡ number_of text_depth old
-  pub may_match : matches_at new ≡ matches_at old
-  -- the line that was taken is as deep, and matches where the text does
-  pub level : IfOk result (λ at. IfSome at (λ a. (a.depth ≡ number_of text_depth old) × (a.may_match ≡ matches_at old)))
-
--- The texts of the stack stay in order: numbered within the lines that were taken, of no further file, each at least as
--- deep as its place.
-pub record KeepsStack {R : Type 0} (old new : Stack R) (after : Count) : Type 0 where
-  pub numbers : most line_number new.texts ≤ after.lines
-  pub files : most files_up_to new.texts ≤ most files_up_to old.texts
-  pub deep : AreDeep new.texts
-
--- The deepest text is closed where it has no line, and else it is the one of which the line was taken.
-pub record ClosesTop {R : Type 0} (old new : Stack R) (result : Result (Option LineAt) Stop) : Type 0 where
-  pub depth : DepthAfter old.depth new.depth result
-  pub below : (low : ℕ) → low < old.depth → StaysBelow low old.texts new.texts
-  pub deeper : IfOk result (λ at. IfSome at (λ a. new.depth ≤ a.depth))
-
--- Texts above a low place alone are closed: all of them where none has a line.
-pub record ClosesAbove {R : Type 0} (place : ℕ) (old new : Stack R)
-    (result : Result (Option LineAt) Stop) : Type 0 where
-  pub low : place ≤ new.depth
-  pub shallow : new.depth ≤ old.depth
-  pub ended : result ≡ Ok None → new.depth ≡ place
-  pub below : StaysBelow place old.texts new.texts
-  pub deeper : IfOk result (λ at. IfSome at (λ a. new.depth ≤ a.depth))
+use Rattle.cweb_open.specs.declared.stop.Stop.{Stop}
+use Rattle.cweb_open.specs.declared.stop.Stop.TheVariants.{Memory}
 
 -- An old line takes the next raw line away, and is the only thing that changes what is counted.
 pub record TakesAway {R : Type 0} (so_far : Replaced) (old new : Run R) (result : Result Replaced Stop) : Type 0 where

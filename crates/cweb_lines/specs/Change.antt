@@ -4,9 +4,9 @@ use Rattle.cweb_files.specs.declared.place.Place.{Place}
 use Rattle.cweb_source.specs.Lines.{SourceLine}
 use Rattle.cweb_lines.specs.declared.change.code.Code.{Code}
 use Rattle.cweb_lines.specs.declared.change.code.Code.TheVariants.{OldSide as old_side, NewSide as new_side, EndSide as end_side}
-use Rattle.cweb_lines.specs.declared.fault.SourceKind.{SourceKind}
-use Rattle.cweb_lines.specs.declared.fault.SourceKind.TheVariants.{MissingX, NoOldLines, WantsY}
-use Rattle.cweb_lines.specs.declared.fault.SourceFault.{SourceFault}
+use Rattle.cweb_open.specs.declared.fault.SourceKind.{SourceKind}
+use Rattle.cweb_open.specs.declared.fault.SourceKind.TheVariants.{MissingX, NoOldLines, WantsY}
+use Rattle.cweb_open.specs.declared.fault.SourceFault.{SourceFault}
 
 -- x, y and z, in either case
 abbrev pub letter_code : ℕ → Option Code

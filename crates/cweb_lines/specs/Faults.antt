@@ -1,8 +1,8 @@
 -- The files that faults and stops name.
 use Rattle.std.specs.Prelude.{ℕ, ◌+◌, max, List, [], ◌∷◌, Option, None, Some}
-use Rattle.cweb_lines.specs.Texts.{files_named}
-use Rattle.cweb_lines.specs.declared.fault.SourceFault.{SourceFault}
-use Rattle.cweb_lines.specs.declared.stop.Stop.{Stop}
+use Rattle.cweb_open.specs.Texts.{files_named}
+use Rattle.cweb_open.specs.declared.fault.SourceFault.{SourceFault}
+use Rattle.cweb_open.specs.declared.stop.Stop.{Stop}
 
 -- how many files there are at least, by the faults told
 unfoldable pub files_in : List SourceFault → ℕ

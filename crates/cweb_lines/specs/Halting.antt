@@ -7,7 +7,7 @@ use Rattle.cweb_files.specs.declared.place.Place.{Place}
 use Rattle.cweb_source.specs.Lines.{SourceLine, lines_in}
 use Rattle.cweb_source.specs.Include.{World, Found, include_name, is_include, found_at}
 use Rattle.cweb_lines.specs.Change.{code_of, Entry, Sought, sought, outside, behind_x, OldSide, old_at, old_lines}
-use Rattle.cweb_lines.specs.declared.limits.TheConstants.{OPEN_FILES}
+use Rattle.cweb_open.specs.declared.limits.TheConstants.{OPEN_FILES}
 use Rattle.cweb_lines.specs.declared.change.code.Code.{Code}
 use Rattle.cweb_lines.specs.declared.change.code.Code.TheVariants.{OldSide as old_side, NewSide as new_side, EndSide as end_side}
 use Rattle.cweb_lines.specs.Merge.{RawLine, Thing, seek, raw, told, passed, Event, State, NewSide, new_at, new_lines, compared, after_old, Next, obeyed, opened, included, plain, at_entry, at_raw, step, onto, then_run, run, raws}

@@ -9,9 +9,9 @@ use Rattle.cweb_lines.specs.Change.{at_place, code_of}
 use Rattle.cweb_lines.specs.Seen.{followed_by, only_fault, only_lines, only_name, placed, renumbered, Seen, seen_in, seen_of}
 use Rattle.cweb_lines.specs.Writing.{text_of}
 use Rattle.cweb_lines.specs.declared.change.code.Code.TheVariants.{EndSide as end_side, NewSide as new_side, OldSide as old_side}
-use Rattle.cweb_lines.specs.declared.fault.SourceKind.{SourceKind}
-use Rattle.cweb_lines.specs.declared.fault.SourceKind.TheVariants.{NoMatch, NoName, NotThere, TooDeep}
-use Rattle.cweb_lines.specs.declared.limits.TheConstants.{OPEN_FILES}
+use Rattle.cweb_open.specs.declared.fault.SourceKind.{SourceKind}
+use Rattle.cweb_open.specs.declared.fault.SourceKind.TheVariants.{NoMatch, NoName, NotThere, TooDeep}
+use Rattle.cweb_open.specs.declared.limits.TheConstants.{OPEN_FILES}
 
 -- A web without include lines, and without a change file, is its own lines, in order, with their numbers, without a
 -- fault.

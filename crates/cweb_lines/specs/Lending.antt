@@ -8,7 +8,7 @@ use Rattle.cweb_lines.specs.Whole.{GivesOut, Grows}
 use Rattle.cweb_lines.specs.declared.passing.lent.Lent.{Lent}
 use Rattle.cweb_lines.specs.declared.passing.stretch.Stretch.{Stretch}
 use Rattle.cweb_lines.specs.declared.run.Run.{Run}
-use Rattle.cweb_lines.specs.declared.text.OpenText.{OpenText}
+use Rattle.cweb_open.specs.declared.text.OpenText.{OpenText}
 
 -- the bytes of a line that is lent
 abbrev pub bytes_in : {R : Type 0} → Run R → Lent → List ℕ

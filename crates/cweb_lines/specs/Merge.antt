@@ -4,28 +4,13 @@ use Rattle.std.specs.Str.{bytes_eq}
 use Rattle.cweb_files.specs.declared.place.Place.{Place}
 use Rattle.cweb_source.specs.Lines.{Line, SourceLine, lines_in}
 use Rattle.cweb_source.specs.Include.{World, Found, is_include, include_name, found_at}
+pub use Rattle.cweb_open.specs.Things.{RawLine, Thing, seek, raw, told, passed, raws}
 use Rattle.cweb_lines.specs.Change.{code_of, at_place, Entry, sought, OldSide, old_lines}
-use Rattle.cweb_lines.specs.declared.limits.TheConstants.{OPEN_FILES}
+use Rattle.cweb_open.specs.declared.limits.TheConstants.{OPEN_FILES}
 use Rattle.cweb_lines.specs.declared.change.code.Code.{Code}
 use Rattle.cweb_lines.specs.declared.change.code.Code.TheVariants.{OldSide as old_side, NewSide as new_side, EndSide as end_side}
-use Rattle.cweb_lines.specs.declared.fault.SourceKind.TheVariants.{NoName, TooDeep, NotThere, EndedBeforeY, WebEnded, Unequal, WantsZ, EndedBeforeZ, NoMatch}
-use Rattle.cweb_lines.specs.declared.fault.SourceFault.{SourceFault}
-
--- a line that may still be replaced, obeyed or given out
-pub record RawLine : Type 0 where
-  pub source : SourceLine
-  -- 1 for the web's own lines, one more in each included file
-  pub depth : ℕ
-  -- whether it may match a change entry
-  pub may_match : Bool
-
--- what is still to come: a search for an entry, a raw line, a fault that the new lines of a change bring, a code line
--- to pass over
-pub data Thing : Type 0 where
-  seek : Thing
-  raw : RawLine → Thing
-  told : SourceFault → Thing
-  passed : SourceLine → Thing
+use Rattle.cweb_open.specs.declared.fault.SourceKind.TheVariants.{NoName, TooDeep, NotThere, EndedBeforeY, WebEnded, Unequal, WantsZ, EndedBeforeZ, NoMatch}
+use Rattle.cweb_open.specs.declared.fault.SourceFault.{SourceFault}
 
 -- what comes out: a line is taken from its file, a merged line is given out, a fault is told, a file is opened under a
 -- name
@@ -43,11 +28,6 @@ pub record State : Type 0 where
   pub change : List SourceLine
   -- how many files have been opened
   pub files : ℕ
-
-abbrev pub raws : ℕ → Bool → List SourceLine → List Thing
-raws depth may_match [] = []
-raws depth may_match (line ∷ lines) =
-    raw (record { source = line; depth = depth; may_match = may_match }) ∷ raws depth may_match lines
 
 -- the new lines of an entry, up to its @z, as things to come
 pub record NewSide : Type 0 where

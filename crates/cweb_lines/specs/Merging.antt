@@ -5,17 +5,17 @@ use Rattle.cweb_source.specs.Lines.{Line, SourceLine, IsOneLine}
 use Rattle.cweb_lines.specs.Merge.{State, Event, took, Thing}
 use Rattle.cweb_lines.specs.Told.{given_lines, told_faults, openings, taken_lines, size_of, AreShort}
 use Rattle.cweb_lines.specs.Total.{merge}
-use Rattle.cweb_lines.specs.Counts.{count_of}
-use Rattle.cweb_lines.specs.Finding.{world_in}
-use Rattle.cweb_lines.specs.Names.{names_of}
+use Rattle.cweb_open.specs.Counts.{count_of}
+use Rattle.cweb_open.specs.Finding.{world_in}
+use Rattle.cweb_open.specs.Names.{names_of}
 use Rattle.cweb_lines.specs.Stages.{pending_in, change_in, things_in, weight_of}
-use Rattle.cweb_lines.specs.Texts.{Count, Refuses, StopsFor, lines_at, raw_at}
-use Rattle.cweb_lines.specs.declared.fault.SourceFault.{SourceFault}
+use Rattle.cweb_open.specs.Texts.{Count, Refuses, StopsFor, lines_at, raw_at}
+use Rattle.cweb_open.specs.declared.fault.SourceFault.{SourceFault}
 use Rattle.cweb_lines.specs.declared.run.Run.{Run}
 use Rattle.cweb_lines.specs.declared.change.Stage.{Stage}
 use Rattle.cweb_lines.specs.declared.change.Stage.TheVariants.{Done}
-use Rattle.cweb_lines.specs.declared.stop.Stop.{Stop}
-use Rattle.cweb_lines.specs.declared.text.LineAt.{LineAt}
+use Rattle.cweb_open.specs.declared.stop.Stop.{Stop}
+use Rattle.cweb_open.specs.declared.text.LineAt.{LineAt}
 use Rattle.cweb_lines.specs.declared.step.Turn.{Turn}
 use Rattle.cweb_lines.specs.declared.step.Turn.TheVariants.{Given, On, Ended}
 

@@ -7,15 +7,15 @@ use Rattle.cweb_lines.specs.Merge.{Event, Thing, raws}
 use Rattle.cweb_lines.specs.Merging.{SoFar, Gives, told_by, coming, pending_of}
 use Rattle.cweb_lines.specs.Naming.{AreNamed, AreReadersKnown, IsNamed}
 use Rattle.cweb_lines.specs.Stages.{IsSettled, begun_by, floor_of}
-use Rattle.cweb_lines.specs.Texts.{AreDeep, DeepAt, StaysBelow, files_up_to, lines_at, matches_at, most, number_of, text_depth, things_above}
+use Rattle.cweb_open.specs.Texts.{AreDeep, DeepAt, StaysBelow, files_up_to, lines_at, matches_at, most, number_of, text_depth, things_above}
 use Rattle.cweb_lines.specs.Writing.{text_of}
-use Rattle.cweb_lines.specs.declared.limits.Limits.{Limits}
-use Rattle.cweb_lines.specs.declared.limits.TheConstants.{LINES, BYTES}
+use Rattle.cweb_open.specs.declared.limits.Limits.{Limits}
+use Rattle.cweb_open.specs.declared.limits.TheConstants.{LINES, BYTES}
 use Rattle.cweb_source.specs.declared.limits.TheConstants.{LINE_LENGTH}
 use Rattle.cweb_lines.specs.declared.passing.stretch.Stretch.{Stretch}
 use Rattle.cweb_lines.specs.declared.run.Run.{Run}
-use Rattle.cweb_lines.specs.declared.text.stack.Stack.{Stack}
-use Rattle.cweb_lines.specs.declared.text.OpenText.{OpenText}
+use Rattle.cweb_open.specs.declared.text.stack.Stack.{Stack}
+use Rattle.cweb_open.specs.declared.text.OpenText.{OpenText}
 
 -- a line as it stands in its text, without its newline, that passes through: it is no include line, and the entry that
 -- waits does not begin with it

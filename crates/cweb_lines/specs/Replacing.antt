@@ -6,8 +6,8 @@ use Rattle.cweb_source.specs.Lines.{SourceLine}
 use Rattle.cweb_lines.specs.Merge.{Compared, Thing, after_old, compared}
 use Rattle.cweb_lines.specs.Merging.{SoFar, Adds}
 use Rattle.cweb_lines.specs.Stages.{IsSettled, change_in, pending_in}
-use Rattle.cweb_lines.specs.declared.fault.SourceFault.{SourceFault}
-use Rattle.cweb_lines.specs.declared.fault.SourceKind.TheVariants.{EndedBeforeY, Unequal, WebEnded}
+use Rattle.cweb_open.specs.declared.fault.SourceFault.{SourceFault}
+use Rattle.cweb_open.specs.declared.fault.SourceKind.TheVariants.{EndedBeforeY, Unequal, WebEnded}
 use Rattle.cweb_lines.specs.declared.change.old_side.Replaced.{Replaced}
 use Rattle.cweb_lines.specs.declared.change.Stage.{Stage}
 

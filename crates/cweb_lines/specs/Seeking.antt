@@ -7,8 +7,8 @@ use Rattle.cweb_lines.specs.Merging.{SoFar, Adds}
 use Rattle.cweb_lines.specs.Stages.{IsOutside, pending_in, change_in}
 use Rattle.cweb_lines.specs.declared.change.code.Code.{Code}
 use Rattle.cweb_lines.specs.declared.change.code.Code.TheVariants.{OldSide as old_side, NewSide as new_side, EndSide as end_side}
-use Rattle.cweb_lines.specs.declared.fault.SourceFault.{SourceFault}
-use Rattle.cweb_lines.specs.declared.fault.SourceKind.TheVariants.{MissingX}
+use Rattle.cweb_open.specs.declared.fault.SourceFault.{SourceFault}
+use Rattle.cweb_open.specs.declared.fault.SourceKind.TheVariants.{MissingX}
 use Rattle.cweb_lines.specs.declared.change.seek.Look.{Look}
 use Rattle.cweb_lines.specs.declared.change.seek.Look.TheVariants.{Entry as first_line, On as goes_on}
 use Rattle.cweb_lines.specs.declared.change.Stage.{Stage}

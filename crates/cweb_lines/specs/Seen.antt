@@ -7,8 +7,8 @@ use Rattle.cweb_lines.specs.Change.{at_place}
 use Rattle.cweb_lines.specs.Merge.{Event, raws, started}
 use Rattle.cweb_lines.specs.Told.{given_lines, told_faults, openings}
 use Rattle.cweb_lines.specs.Total.{merge}
-use Rattle.cweb_lines.specs.declared.fault.SourceFault.{SourceFault}
-use Rattle.cweb_lines.specs.declared.fault.SourceKind.{SourceKind}
+use Rattle.cweb_open.specs.declared.fault.SourceFault.{SourceFault}
+use Rattle.cweb_open.specs.declared.fault.SourceKind.{SourceKind}
 
 -- what an author sees of a merge: the lines with their places, the faults, and the names of included files
 pub record Seen : Type 0 where

@@ -6,12 +6,12 @@ use Rattle.cweb_lines.specs.Change.{Entry}
 use Rattle.cweb_source.specs.Include.{Found}
 use Rattle.cweb_source.specs.Lines.{SourceLine}
 use Rattle.cweb_lines.specs.Merge.{Thing, seek, new_lines}
-use Rattle.cweb_lines.specs.Texts.{things_over, things_above}
-use Rattle.cweb_lines.specs.declared.text.stack.Stack.{Stack}
+use Rattle.cweb_open.specs.Texts.{things_over, things_above}
+use Rattle.cweb_open.specs.declared.text.stack.Stack.{Stack}
 use Rattle.cweb_lines.specs.declared.change.Change.{Change}
 use Rattle.cweb_lines.specs.declared.change.Stage.{Stage}
 use Rattle.cweb_lines.specs.declared.change.Stage.TheVariants.{Done, Seeking, Waiting, Changing}
-use Rattle.cweb_lines.specs.declared.text.OpenText.{OpenText}
+use Rattle.cweb_open.specs.declared.text.OpenText.{OpenText}
 
 -- how many texts stay open
 abbrev pub floor_of : Stage → ℕ

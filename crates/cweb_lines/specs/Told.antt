@@ -3,8 +3,8 @@
 use Rattle.std.specs.Prelude.{ℕ, ◌+◌, ◌≤◌, List, [], ◌∷◌, length}
 use Rattle.cweb_source.specs.Lines.{Line, SourceLine}
 use Rattle.cweb_lines.specs.Merge.{Event, took, given, fault, opening}
-use Rattle.cweb_lines.specs.declared.fault.SourceFault.{SourceFault}
-use Rattle.cweb_lines.specs.declared.limits.TheConstants.{LINES, BYTES}
+use Rattle.cweb_open.specs.declared.fault.SourceFault.{SourceFault}
+use Rattle.cweb_open.specs.declared.limits.TheConstants.{LINES, BYTES}
 use Rattle.cweb_source.specs.declared.limits.TheConstants.{LINE_LENGTH}
 
 abbrev pub given_lines : List Event → List Line

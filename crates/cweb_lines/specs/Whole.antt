@@ -2,19 +2,19 @@
 use Rattle.std.specs.Prelude.{◌≡◌, ◌≤◌, ◌<◌, ◌+◌, ℕ, List, [], ◌∷◌, length, Option, None, Some, Result, Ok, IfErr, OnOk, OnErr}
 use Rattle.cweb_files.specs.declared.device.Shelf.{Ghosts as Shelf}
 use Rattle.cweb_files.specs.declared.place.Place.{Place}
-use Rattle.cweb_lines.specs.Finding.{names_found, text_found}
+use Rattle.cweb_open.specs.Finding.{names_found, text_found}
 use Rattle.cweb_source.specs.Include.{World, Found}
 use Rattle.cweb_source.specs.Lines.{Line, IsOneLine}
 use Rattle.cweb_lines.specs.Merge.{Event, started}
 use Rattle.cweb_lines.specs.Merging.{SoFar, Gives, KeepsTold, NothingLeft, Stopped, TellsFront, told_by, coming}
 use Rattle.cweb_lines.specs.Naming.{AreReadersKnown, BlamesFile}
-use Rattle.cweb_lines.specs.Texts.{ReadBlames, StopsReading, files_named}
+use Rattle.cweb_open.specs.Texts.{ReadBlames, StopsReading, files_named}
 use Rattle.cweb_lines.specs.Told.{given_lines}
 use Rattle.cweb_lines.specs.Total.{merge}
-use Rattle.cweb_lines.specs.declared.limits.TheConstants.{LINES, BYTES}
+use Rattle.cweb_open.specs.declared.limits.TheConstants.{LINES, BYTES}
 use Rattle.cweb_lines.specs.declared.merger.Merger.{Merger}
-use Rattle.cweb_lines.specs.declared.stop.Stop.{Stop}
-use Rattle.cweb_lines.specs.declared.stop.Stop.TheVariants.{WebNotOpened, ChangeNotOpened, Memory}
+use Rattle.cweb_open.specs.declared.stop.Stop.{Stop}
+use Rattle.cweb_open.specs.declared.stop.Stop.TheVariants.{WebNotOpened, ChangeNotOpened, Memory}
 
 -- all that is to come, by what the shelf holds and what its readers have left
 abbrev pub to_come : {S R : Type 0} → Shelf S R → S → Merger S R → List Event

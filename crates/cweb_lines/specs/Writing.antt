@@ -1,25 +1,19 @@
 -- What merged lines look like in a sink.
 use Rattle.std.specs.Prelude.{◌≡◌, ◌<◌, ◌≤◌, ◌+◌, ◌⊎◌, ℕ, List, [], ◌∷◌, ◌++◌, length, Option, None, Some, IfSome}
 use Rattle.cweb_files.specs.declared.place.FileId.{FileId}
+pub use Rattle.cweb_files.specs.Frames.{WritesFront}
 use Rattle.cweb_source.specs.Lines.{Line, SourceLine}
 use Rattle.cweb_lines.specs.Merge.{Event, took}
 use Rattle.cweb_lines.specs.Merging.{SoFar, Gives, StopsBehind, TellsFront}
-use Rattle.cweb_lines.specs.Texts.{Count, IsTooLong, StopsReading, read_blame, files_named}
+use Rattle.cweb_open.specs.Texts.{Count, IsTooLong, StopsReading, read_blame, files_named}
 use Rattle.cweb_lines.specs.Told.{given_lines}
-use Rattle.cweb_lines.specs.declared.stop.Stop.{Stop}
-use Rattle.cweb_lines.specs.declared.stop.Stop.TheVariants.{ReadFault, LineTooLong, TooMuchText, Memory, WriteFault}
+use Rattle.cweb_open.specs.declared.stop.Stop.{Stop}
+use Rattle.cweb_open.specs.declared.stop.Stop.TheVariants.{ReadFault, LineTooLong, TooMuchText, Memory, WriteFault}
 
 -- the lines, each with a newline
 abbrev pub text_of : List Line → List ℕ
 text_of [] = []
 text_of (line ∷ lines) = line.bytes ++ 10 ∷ text_of lines
-
--- a front of a text was written
-pub record WritesFront (old new text : List ℕ) : Type 0 where
-  pub front : List ℕ
-  pub rest : List ℕ
-  pub written : new ≡ old ++ front
-  pub whole : text ≡ front ++ rest
 
 -- all lines were given out and written
 pub record WritesAll (old new : SoFar) (all : List Event) (Wrote : List ℕ → Type 0) : Type 0 where

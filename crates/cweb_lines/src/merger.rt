@@ -4,26 +4,21 @@ ghost use Rattle.std.specs.Option.{option_copied};
 ghost use Rattle.cweb_files.specs.Frames.{KeepsTexts};
 ghost use Rattle.cweb_source.specs.Include.{web_at, change_at};
 ghost use Rattle.cweb_lines.specs.Lending.{LendsLine, LiesIn, bytes_in};
-ghost use Rattle.cweb_lines.specs.Names.{names_of};
+ghost use Rattle.cweb_open.specs.Names.{names_of};
 ghost use Rattle.cweb_lines.specs.Passing.{PassesLines};
-ghost use Rattle.cweb_lines.specs.Texts.{StartStops, files_named};
+ghost use Rattle.cweb_open.specs.Texts.{StartStops, files_named};
 ghost use Rattle.cweb_lines.specs.Naming.{AreReadersKnown};
 
 pub mod ahead;
 
-use crate::fault::SourceFault;
-use crate::files::FileNames;
-use crate::files::find::{find_change, find_web};
-use crate::files::open::{first_stage, open_change, open_web, owned};
-use crate::limits::Limits;
+use crate::open::{first_stage, open_change, open_web, owned};
 use crate::passing::lent::Lent;
 use crate::run::Run;
 use crate::step::Turn;
 use crate::step::turning::take_turn;
-use crate::stop::Stop;
-use crate::text::stack::Stack;
 use crate::writing::pass::pass_lines;
 use cweb_files::{Place, Shelf};
+use cweb_open::{FileNames, Limits, SourceFault, Stack, Stop, find_change, find_web};
 use std::alloc::Global;
 
 /// A web whose lines are being merged with those of the files that it includes. The shelf is handed to each call, as the

@@ -1,18 +1,13 @@
 // What a merger holds.
 ghost use Rattle.std.specs.Prelude.{◌≤◌, ◌+◌, length};
-ghost use Rattle.cweb_lines.specs.Names.{names_of};
-ghost use Rattle.cweb_lines.specs.declared.limits.TheConstants.{OPEN_FILES};
-ghost use Rattle.cweb_lines.specs.Texts.{AreDeep, most, number_of, line_number, files_up_to};
+ghost use Rattle.cweb_open.specs.Names.{names_of};
+ghost use Rattle.cweb_open.specs.declared.limits.TheConstants.{OPEN_FILES};
+ghost use Rattle.cweb_open.specs.Texts.{AreDeep, most, number_of, line_number, files_up_to};
 ghost use Rattle.cweb_lines.specs.Faults.{files_in, files_kept};
 ghost use Rattle.cweb_lines.specs.Stages.{floor_of, new_depth, files_begun};
 
 use crate::change::Stage;
-use crate::fault::SourceFault;
-use crate::files::FileNames;
-use crate::limits::Limits;
-use crate::stop::Stop;
-use crate::text::OpenText;
-use crate::text::stack::Stack;
+use cweb_open::{FileNames, Limits, OpenText, SourceFault, Stack, Stop};
 use std::alloc::Global;
 
 #[derive(Drop)]

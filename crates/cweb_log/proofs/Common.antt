@@ -18,9 +18,9 @@ pub use Rattle.cweb_files.specs.Device.{Counts}
 pub use Rattle.cweb_files.specs.declared.device.SinkFault.{SinkFault}
 pub use Rattle.cweb_lines.specs.Names.{names_of}
 pub use Rattle.cweb_lines.specs.Writing.{WritesFront}
-pub use Rattle.cweb_lines.specs.declared.fault.SourceFault.{SourceFault}
-pub use Rattle.cweb_lines.specs.declared.stop.Stop.{Stop}
-pub use Rattle.cweb_lines.specs.declared.stop.Stop.TheVariants.{Usage}
+pub use Rattle.cweb_open.specs.declared.fault.SourceFault.{SourceFault}
+pub use Rattle.cweb_open.specs.declared.stop.Stop.{Stop}
+pub use Rattle.cweb_open.specs.declared.stop.Stop.TheVariants.{Usage}
 pub use Rattle.cweb_log.specs.Gathered.{pending}
 pub use Rattle.cweb_log.specs.Gathering.{Logs, Writes, Gathers, GathersMore, joined}
 pub use Rattle.cweb_log.specs.Items.{Item, line, star}

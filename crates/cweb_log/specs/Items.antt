@@ -1,10 +1,10 @@
 -- The log of `ctangle`: its items, and the line of each.
 use Rattle.std.specs.Prelude.{ℕ, Bool, true, false, List, ◌++◌, ◌==◌, codes, decimal, count_by, if◌then◌else◌}
 use Rattle.std.specs.List.{flat_map}
-use Rattle.cweb_lines.specs.declared.fault.SourceFault.{SourceFault}
-use Rattle.cweb_lines.specs.declared.fault.SourceKind.{SourceKind}
-use Rattle.cweb_lines.specs.declared.fault.SourceKind.TheVariants.{Unequal}
-use Rattle.cweb_lines.specs.declared.stop.Stop.{Stop}
+use Rattle.cweb_open.specs.declared.fault.SourceFault.{SourceFault}
+use Rattle.cweb_open.specs.declared.fault.SourceKind.{SourceKind}
+use Rattle.cweb_open.specs.declared.fault.SourceKind.TheVariants.{Unequal}
+use Rattle.cweb_open.specs.declared.stop.Stop.{Stop}
 use Rattle.cweb_log.specs.Log.{kind_text, located_line, name_at, stop_line}
 
 pub data Item : Type 0 where

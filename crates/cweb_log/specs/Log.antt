@@ -1,11 +1,11 @@
 -- The lines of the log.
 use Rattle.std.specs.Prelude.{ℕ, List, [], ◌++◌, codes, decimal, slice_index_or}
 use Rattle.std.specs.List.{flat_map}
-use Rattle.cweb_lines.specs.declared.fault.SourceFault.{SourceFault}
-use Rattle.cweb_lines.specs.declared.fault.SourceKind.{SourceKind}
-use Rattle.cweb_lines.specs.declared.fault.SourceKind.TheVariants.{NoName, TooDeep, NotThere, MissingX, NoOldLines, EndedBeforeY, WebEnded, WantsY, Unequal, WantsZ, EndedBeforeZ, NoMatch}
-use Rattle.cweb_lines.specs.declared.stop.Stop.{Stop}
-use Rattle.cweb_lines.specs.declared.stop.Stop.TheVariants.{Usage, WebNotOpened, ChangeNotOpened, ReadFault, LineTooLong, TooMuchText, Memory, OutNotOpened, WriteFault, LogFault}
+use Rattle.cweb_open.specs.declared.fault.SourceFault.{SourceFault}
+use Rattle.cweb_open.specs.declared.fault.SourceKind.{SourceKind}
+use Rattle.cweb_open.specs.declared.fault.SourceKind.TheVariants.{NoName, TooDeep, NotThere, MissingX, NoOldLines, EndedBeforeY, WebEnded, WantsY, Unequal, WantsZ, EndedBeforeZ, NoMatch}
+use Rattle.cweb_open.specs.declared.stop.Stop.{Stop}
+use Rattle.cweb_open.specs.declared.stop.Stop.TheVariants.{Usage, WebNotOpened, ChangeNotOpened, ReadFault, LineTooLong, TooMuchText, Memory, OutNotOpened, WriteFault, LogFault}
 
 -- the name of a file by its number
 abbrev pub name_at : List (List ℕ) → ℕ → List ℕ

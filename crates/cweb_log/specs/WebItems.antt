@@ -1,7 +1,7 @@
 -- The items of the log for what is wrong with a web: with its text, with its names, with its outputs.
 use Rattle.std.specs.Prelude.{ℕ, List, [], ◌++◌, codes, map, slice_index_or}
 use Rattle.std.specs.List.{flat_map}
-use Rattle.cweb_lines.specs.declared.stop.Stop.TheVariants as stop
+use Rattle.cweb_open.specs.declared.stop.Stop.TheVariants as stop
 use Rattle.cweb_store.specs.Names.{Occurrence}
 use Rattle.cweb_store.specs.Calls.{Stored}
 use Rattle.cweb_store.specs.Faults as store

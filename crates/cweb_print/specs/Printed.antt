@@ -1,6 +1,6 @@
 -- What a printer's calls add to a sink.
 use Rattle.std.specs.Prelude.{ℕ, ◌≡◌, List, [], ◌∷◌, ◌++◌, Result, Ok, Err}
-use Rattle.cweb_lines.specs.Names.{names_of}
+use Rattle.cweb_open.specs.Names.{names_of}
 use Rattle.cweb_store.specs.Parts.{Token}
 use Rattle.cweb_print.specs.Printing.{Setting, print, file}
 use Rattle.cweb_print.specs.Classes.{leaves}

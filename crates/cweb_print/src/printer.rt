@@ -1,7 +1,7 @@
 // The printer.
 ghost use Rattle.std.specs.Prelude.{◌≡◌, ◌<◌, ◌+◌, ◌^◌, [], IsTrue, OnOk, OnErr};
 ghost use Rattle.cweb_files.specs.Device.{Counts};
-ghost use Rattle.cweb_lines.specs.Names.{names_of};
+ghost use Rattle.cweb_open.specs.Names.{names_of};
 ghost use Rattle.cweb_store.specs.Seen.{seen};
 ghost use Rattle.cweb_print.specs.Classes.{added, begin_by, file_by, leaves, placed_text};
 ghost use Rattle.cweb_print.specs.Printers.{IsNamed, setting};
@@ -31,7 +31,7 @@ use crate::printer::mark::write_mark;
 use crate::printer::pieces::write_piece;
 use crate::printer::text::write_plain;
 use cweb_files::{Sink, SinkFault};
-use cweb_lines::FileNames;
+use cweb_open::FileNames;
 use cweb_store::{Store, Token};
 
 /// Prints tokens one after another. It keeps no text: only the class of the last token that it printed, and whether a join

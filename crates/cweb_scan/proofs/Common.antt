@@ -30,13 +30,13 @@ pub use Rattle.cweb_lines.specs.Passing.{lines_next, standing, top_of}
 pub use Rattle.cweb_lines.specs.Texts.{read_blame}
 pub use Rattle.cweb_lines.specs.Told.{given_lines}
 pub use Rattle.cweb_lines.specs.Whole.{GivesOut, Grows, StopsThere, so_far, to_come, KnowsReaders, stop_in}
-pub use Rattle.cweb_lines.specs.declared.limits.TheConstants.{LINES, BYTES}
+pub use Rattle.cweb_open.specs.declared.limits.TheConstants.{LINES, BYTES}
 pub use Rattle.cweb_lines.specs.declared.merger.Merger.{Merger}
 pub use Rattle.cweb_lines.specs.declared.merger.ahead.Ahead.{Ahead}
 pub use Rattle.cweb_lines.specs.declared.run.Run.{Run}
-pub use Rattle.cweb_lines.specs.declared.stop.Stop.{Stop}
-pub use Rattle.cweb_lines.specs.declared.stop.Stop.TheVariants.{Memory}
-pub use Rattle.cweb_lines.specs.declared.text.OpenText.{OpenText}
+pub use Rattle.cweb_open.specs.declared.stop.Stop.{Stop}
+pub use Rattle.cweb_open.specs.declared.stop.Stop.TheVariants.{Memory}
+pub use Rattle.cweb_open.specs.declared.text.OpenText.{OpenText}
 pub use Rattle.cweb_rules.specs.Bytes.{begins, starts_section, is_blank, is_line_end, is_digit, is_word_byte, first_is}
 pub use Rattle.cweb_rules.specs.Bytes.{at_line_end, is_white}
 pub use Rattle.cweb_rules.specs.Codes.{in_limbo, in_text, in_macro, in_c}

@@ -4,7 +4,7 @@ use Rattle.cweb_lines.specs.Merging.{Gives}
 use Rattle.cweb_lines.proofs.Fronts.{told_then}
 use Rattle.cweb_lines.proofs.Merges.{gives_nothing}
 use Rattle.cweb_lines.proofs.Sums.{gives_both, behind_both}
-use Rattle.cweb_lines.proofs.Stacks.{stops_map}
+use Rattle.cweb_open.proofs.Stacks.{stops_map}
 use Rattle.cweb_lines.proofs.Writes.{given_front, gives_all, tells_some, tells_more, tells_same}
 use Rattle.cweb_scan.proofs.Bounds.{bounded}
 use Rattle.cweb_scan.proofs.Places.{scanned-pass}

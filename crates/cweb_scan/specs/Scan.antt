@@ -5,8 +5,8 @@ use Rattle.cweb_lines.specs.Merge.{Event}
 use Rattle.cweb_lines.specs.Merging.{SoFar, Gives, StopsBehind, TellsFront}
 use Rattle.cweb_lines.specs.Texts.{Count, StopsFor, StopsReading, read_blame}
 use Rattle.cweb_lines.specs.Told.{given_lines}
-use Rattle.cweb_lines.specs.declared.limits.TheConstants.{LINES, BYTES}
-use Rattle.cweb_lines.specs.declared.stop.Stop.{Stop}
+use Rattle.cweb_open.specs.declared.limits.TheConstants.{LINES, BYTES}
+use Rattle.cweb_open.specs.declared.stop.Stop.{Stop}
 use Rattle.cweb_store.specs.Parts.{Token, Mark, all_tokens}
 use Rattle.cweb_scanner.specs.Held.{Held, read_after}
 use Rattle.cweb_scan.specs.Law.{IsBounded, web_size}

@@ -1,7 +1,7 @@
 -- What is held between two lines: the state, and an item that goes on in the next line.
 use Rattle.std.specs.Prelude.{◌≡◌, ◌≤◌, ℕ, ◌+◌, ◌*◌, Bool, true, false, List, [], ◌∷◌, ◌++◌, length, drop, map}
 use Rattle.cweb_files.specs.declared.place.Place.{Place}
-use Rattle.cweb_lines.specs.Lines.{Line}
+use Rattle.cweb_source.specs.Lines.{Line}
 use Rattle.cweb_rules.specs.Lines.{AtLineEnd}
 use Rattle.cweb_rules.specs.declared.end.End.TheVariants.{Cut}
 use Rattle.cweb_scanner.specs.State.{State, moved, before_text}

@@ -2,7 +2,7 @@
 use Rattle.std.specs.Prelude.{ℕ, ◌-◌, List, [], ◌∷◌, ◌++◌, take, map, zero, suc}
 use Rattle.std.specs.List.{fold}
 use Rattle.cweb_files.specs.declared.place.Place.{Place}
-use Rattle.cweb_lines.specs.Lines.{Line}
+use Rattle.cweb_source.specs.Lines.{Line}
 use Rattle.cweb_store.specs.Calls.{Stored, finished}
 use Rattle.cweb_rules.specs.declared.fault.ScanFault.{ScanFault}
 use Rattle.cweb_scanner.specs.Directives.{names_include}

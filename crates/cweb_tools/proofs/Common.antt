@@ -36,16 +36,16 @@ pub use Rattle.cweb_lines.specs.Told.{given_lines, told_faults, openings, taken_
 pub use Rattle.cweb_lines.specs.Total.{merge, merge-run}
 pub use Rattle.cweb_lines.specs.Whole.{Begins, StopsAtStart, so_far}
 pub use Rattle.cweb_lines.specs.Writing.{StopsWriting, WritingStops, WritesFront, write_blame, LongIn, text_of}
-pub use Rattle.cweb_lines.specs.declared.fault.SourceFault.{SourceFault}
-pub use Rattle.cweb_lines.specs.declared.fault.SourceKind.{SourceKind}
-pub use Rattle.cweb_lines.specs.declared.fault.SourceKind.TheVariants.{Unequal, NotThere}
-pub use Rattle.cweb_lines.specs.declared.files.FileNames.{FileNames}
-pub use Rattle.cweb_lines.specs.declared.limits.TheConstants.{LINES, BYTES}
+pub use Rattle.cweb_open.specs.declared.fault.SourceFault.{SourceFault}
+pub use Rattle.cweb_open.specs.declared.fault.SourceKind.{SourceKind}
+pub use Rattle.cweb_open.specs.declared.fault.SourceKind.TheVariants.{Unequal, NotThere}
+pub use Rattle.cweb_open.specs.declared.files.FileNames.{FileNames}
+pub use Rattle.cweb_open.specs.declared.limits.TheConstants.{LINES, BYTES}
 pub use Rattle.cweb_source.specs.declared.limits.TheConstants.{LINE_LENGTH}
-pub use Rattle.cweb_lines.specs.declared.stop.Stop.{Stop}
-pub use Rattle.cweb_lines.specs.declared.stop.Stop.TheVariants.{LogFault, Memory, Usage, WebNotOpened, ChangeNotOpened}
-pub use Rattle.cweb_lines.specs.declared.stop.Stop.TheVariants.{ReadFault, LineTooLong, TooMuchText, OutNotOpened}
-pub use Rattle.cweb_lines.specs.declared.stop.Stop.TheVariants.{WriteFault}
+pub use Rattle.cweb_open.specs.declared.stop.Stop.{Stop}
+pub use Rattle.cweb_open.specs.declared.stop.Stop.TheVariants.{LogFault, Memory, Usage, WebNotOpened, ChangeNotOpened}
+pub use Rattle.cweb_open.specs.declared.stop.Stop.TheVariants.{ReadFault, LineTooLong, TooMuchText, OutNotOpened}
+pub use Rattle.cweb_open.specs.declared.stop.Stop.TheVariants.{WriteFault}
 pub use Rattle.cweb_log.specs.Gathering.{Logs, Writes}
 pub use Rattle.cweb_log.specs.Items.{line, Item, counted_text, fault_count, is_fault, source_item, fault, starred}
 pub use Rattle.cweb_log.specs.Items.{located, banner, closing, faults, no_errors, no_text, see_warning, stopped}

@@ -4,8 +4,8 @@ use Rattle.cweb_files.specs.Files.{File, Refused, no_device, no_memory, put_file
 use Rattle.cweb_lines.specs.Merge.{Event}
 use Rattle.cweb_lines.specs.Told.{IsWithinLimits, taken_lines}
 use Rattle.cweb_lines.specs.Writing.{LongIn}
-use Rattle.cweb_lines.specs.declared.stop.Stop.{Stop}
-use Rattle.cweb_lines.specs.declared.stop.Stop.TheVariants.{ReadFault, LineTooLong, TooMuchText, Memory, OutNotOpened, WriteFault, LogFault}
+use Rattle.cweb_open.specs.declared.stop.Stop.{Stop}
+use Rattle.cweb_open.specs.declared.stop.Stop.TheVariants.{ReadFault, LineTooLong, TooMuchText, Memory, OutNotOpened, WriteFault, LogFault}
 use Rattle.cweb_log.specs.Items.{Item, line}
 use Rattle.cweb_log.specs.Log.{name_at, stop_line}
 use Rattle.cweb_tools.specs.Run.{PassesSums}

@@ -6,8 +6,8 @@ use Rattle.cweb_lines.specs.Merge.{Event, started}
 use Rattle.cweb_lines.specs.Told.{given_lines, told_faults, openings, taken_lines, IsWithinLimits}
 use Rattle.cweb_lines.specs.Total.{merge}
 use Rattle.cweb_lines.specs.Writing.{text_of}
-use Rattle.cweb_lines.specs.declared.fault.SourceFault.{SourceFault}
-use Rattle.cweb_lines.specs.declared.stop.Stop.TheVariants.{Usage, WebNotOpened, ChangeNotOpened}
+use Rattle.cweb_open.specs.declared.fault.SourceFault.{SourceFault}
+use Rattle.cweb_open.specs.declared.stop.Stop.TheVariants.{Usage, WebNotOpened, ChangeNotOpened}
 use Rattle.cweb_log.specs.Log.{fault_lines, stop_line}
 use Rattle.cweb_log.specs.Words.{WebNames, asked_by}
 

@@ -2,8 +2,8 @@
 -- over all devices.
 use Rattle.std.specs.Prelude.{◌≡◌, ℕ, ◌+◌, List, [], Option, Some, None, Result, Ok, Err, IsTrue}
 use Rattle.cweb_lines.specs.Texts.{read_blame}
-use Rattle.cweb_lines.specs.declared.stop.Stop.{Stop}
-use Rattle.cweb_lines.specs.declared.stop.Stop.TheVariants.{OutNotOpened, WriteFault, LogFault}
+use Rattle.cweb_open.specs.declared.stop.Stop.{Stop}
+use Rattle.cweb_open.specs.declared.stop.Stop.TheVariants.{OutNotOpened, WriteFault, LogFault}
 use Rattle.cweb_log.specs.Log.{stop_line}
 use Rattle.cweb_log.specs.Gathering.{Logs}
 use Rattle.cweb_log.specs.Seen.{SeenBins, SeenRun, SeenShelf, SeenStream}

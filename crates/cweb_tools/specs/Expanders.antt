@@ -3,7 +3,7 @@ use Rattle.std.specs.Prelude.{◌≡◌, ℕ, List, ◌++◌, IsTrue, All, lengt
 use Rattle.cweb_files.specs.Files.{File}
 use Rattle.cweb_files.specs.declared.device.Sink.{Ghosts as Sink}
 use Rattle.cweb_lines.specs.Names.{names_of}
-use Rattle.cweb_lines.specs.declared.files.FileNames.{FileNames}
+use Rattle.cweb_open.specs.declared.files.FileNames.{FileNames}
 use Rattle.cweb_store.specs.Parts.{Token, all_tokens}
 use Rattle.cweb_scan.specs.Scan.{IsMarkBelow}
 use Rattle.cweb_print.specs.Classes.{leaves}

@@ -6,10 +6,10 @@ use Rattle.cweb_lines.specs.Naming.{blame}
 use Rattle.cweb_lines.specs.Texts.{files_named, read_blame}
 use Rattle.cweb_lines.specs.Told.{told_faults, openings, taken_lines, size_of, IsWithinLimits}
 use Rattle.cweb_lines.specs.Writing.{WritesFront, LongIn, write_blame}
-use Rattle.cweb_lines.specs.declared.fault.SourceFault.{SourceFault}
-use Rattle.cweb_lines.specs.declared.limits.TheConstants.{LINES, BYTES}
-use Rattle.cweb_lines.specs.declared.stop.Stop.{Stop}
-use Rattle.cweb_lines.specs.declared.stop.Stop.TheVariants.{Usage, WebNotOpened, ChangeNotOpened, ReadFault, LineTooLong, TooMuchText, Memory, WriteFault}
+use Rattle.cweb_open.specs.declared.fault.SourceFault.{SourceFault}
+use Rattle.cweb_open.specs.declared.limits.TheConstants.{LINES, BYTES}
+use Rattle.cweb_open.specs.declared.stop.Stop.{Stop}
+use Rattle.cweb_open.specs.declared.stop.Stop.TheVariants.{Usage, WebNotOpened, ChangeNotOpened, ReadFault, LineTooLong, TooMuchText, Memory, WriteFault}
 use Rattle.cweb_log.specs.Gathering.{Logs}
 use Rattle.cweb_log.specs.Log.{fault_lines, stop_line, name_at}
 use Rattle.cweb_log.specs.Seen.{Seen, Tell}

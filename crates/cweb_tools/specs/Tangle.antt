@@ -3,8 +3,8 @@ use Rattle.std.specs.Prelude.{◌≡◌, ℕ, ◌==◌, List, [], ◌∷◌, ◌
 use Rattle.cweb_files.specs.Files.{File}
 use Rattle.cweb_lines.specs.Include.{World}
 use Rattle.cweb_lines.specs.Told.{given_lines, told_faults, openings}
-use Rattle.cweb_lines.specs.declared.fault.SourceFault.{SourceFault}
-use Rattle.cweb_lines.specs.declared.stop.Stop.TheVariants.{WebNotOpened, ChangeNotOpened}
+use Rattle.cweb_open.specs.declared.fault.SourceFault.{SourceFault}
+use Rattle.cweb_open.specs.declared.stop.Stop.TheVariants.{WebNotOpened, ChangeNotOpened}
 use Rattle.cweb_store.specs.Calls.{Stored}
 use Rattle.cweb_store.specs.Parts.{Part, is_macro}
 use Rattle.cweb_scanner.specs.Run.{Scanned, scanned}

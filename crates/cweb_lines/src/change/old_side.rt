@@ -3,23 +3,22 @@ ghost use Rattle.std.specs.Prelude.{◌≡◌, ◌≤◌, ◌<◌, ◌+◌, ◌^
 ghost use Rattle.cweb_files.specs.Frames.{KeepsTexts};
 ghost use Rattle.cweb_lines.specs.Calls.{GoesOn, TakesAway};
 ghost use Rattle.cweb_lines.specs.Change.{old_lines};
-ghost use Rattle.cweb_lines.specs.Counts.{count_of};
+ghost use Rattle.cweb_open.specs.Counts.{count_of};
 ghost use Rattle.cweb_lines.specs.Merging.{KeepsTold, StopsAmong, TellsSome, change_lines, things_of, told_by};
-ghost use Rattle.cweb_lines.specs.Names.{names_of};
+ghost use Rattle.cweb_open.specs.Names.{names_of};
 ghost use Rattle.cweb_lines.specs.Replacing.{Compares, IsChanged, IsReplaced, closing_faults, faults_replaced, lines_replaced, list_if};
 ghost use Rattle.cweb_lines.specs.Seeking.{ToldFront};
 ghost use Rattle.cweb_lines.specs.Stages.{floor_of};
-ghost use Rattle.cweb_lines.specs.Texts.{ReadBlames, StopsFor, StopsReading, TopStops, files_named, things_above};
+ghost use Rattle.cweb_open.specs.Texts.{ReadBlames, StopsFor, StopsReading, TopStops, files_named, things_above};
 ghost use Rattle.cweb_lines.specs.Steps.{OnlyTakes, OnlyTells};
 ghost use Rattle.cweb_lines.specs.Naming.{BlamesReaders, KeepsReaders};
 
 use crate::change::code::{Code, code_of};
 use crate::change::{Change, Stage};
-use crate::fault::SourceKind;
 use crate::run::Run;
 use crate::step::progress::{take_change, take_raw};
-use crate::stop::Stop;
 use cweb_files::{Place, Shelf};
+use cweb_open::{SourceKind, Stop};
 use std::mem::swap;
 
 /// What came of the old lines behind the first.

@@ -3,22 +3,21 @@ ghost use Rattle.std.specs.Prelude.{◌≡◌, ◌≤◌, ◌<◌, ◌+◌, ◌^
 ghost use Rattle.cweb_files.specs.Frames.{KeepsTexts};
 ghost use Rattle.cweb_lines.specs.Calls.{OnlySeeks};
 ghost use Rattle.cweb_lines.specs.Change.{sought};
-ghost use Rattle.cweb_lines.specs.Counts.{count_of};
+ghost use Rattle.cweb_open.specs.Counts.{count_of};
 ghost use Rattle.cweb_source.specs.Lines.{SourceLine};
 ghost use Rattle.cweb_lines.specs.Merging.{KeepsTold, StopsAmong, TellsSome, change_lines, told_by, turns_left};
-ghost use Rattle.cweb_lines.specs.Names.{names_of};
+ghost use Rattle.cweb_open.specs.Names.{names_of};
 ghost use Rattle.cweb_lines.specs.Seeking.{BegunKnown, LooksAt, LooksKnown, Searched, ToldFront, begun_outside, told_outside};
-ghost use Rattle.cweb_lines.specs.Texts.{ReadBlames, StopsFor, StopsReading, files_named};
+ghost use Rattle.cweb_open.specs.Texts.{ReadBlames, StopsFor, StopsReading, files_named};
 ghost use Rattle.cweb_lines.specs.Steps.{OnlyTells};
 ghost use Rattle.cweb_lines.specs.Naming.{BlamesReaders, KeepsReaders};
 
 use crate::change::Stage;
 use crate::change::code::{Code, code_of};
-use crate::fault::SourceKind;
 use crate::run::Run;
 use crate::step::progress::take_change;
-use crate::stop::Stop;
 use cweb_files::{Place, Shelf};
+use cweb_open::{SourceKind, Stop};
 use std::mem::swap;
 
 /// What one line of the change file comes to in a search.

@@ -3,14 +3,14 @@ ghost use Rattle.std.specs.Prelude.{◌≡◌, ◌≤◌, ◌+◌, ℕ, List, []
 ghost use Rattle.cweb_lines.specs.Ahead.{Fits, IsAhead, LooksAt, LooksIn, TakesLines};
 ghost use Rattle.cweb_lines.specs.Passing.{ComesNext, StandsIn};
 ghost use Rattle.cweb_lines.specs.Stages.{pending_in};
-ghost use Rattle.cweb_lines.specs.declared.limits.Limits.{Limits};
+ghost use Rattle.cweb_open.specs.declared.limits.Limits.{Limits};
 
 use crate::change::Stage;
 use crate::merger::Merger;
 use crate::passing::lent::Lent;
 use crate::passing::stretch::{Stretch, line_from};
-use crate::text::OpenText;
 use cweb_files::{Place, Shelf};
+use cweb_open::OpenText;
 
 /// Lines that come next and were not yet taken: where the last of them stands and lies, and all of them.
 #[derive(Clone, Copy)]

@@ -2,14 +2,12 @@
 ghost use Rattle.std.specs.Prelude.{◌≡◌, ◌≤◌, ◌<◌, ◌+◌, ℕ, List, Option, length};
 ghost use Rattle.cweb_lines.specs.Change.{Entry};
 ghost use Rattle.cweb_lines.specs.Passing.{ComesNext, GivesLines, HasRoomFor, KeepsLevel, KeepsTop, PassesSlot, PassesTop, StandsAt, StandsIn, lines_next, piece_of, standing, top_of};
-ghost use Rattle.cweb_lines.specs.Texts.{line_number, most, number_of};
-ghost use Rattle.cweb_lines.specs.declared.limits.TheConstants.{OPEN_FILES};
+ghost use Rattle.cweb_open.specs.Texts.{line_number, most, number_of};
+ghost use Rattle.cweb_open.specs.declared.limits.TheConstants.{OPEN_FILES};
 
-use crate::limits::{Limits, OPEN_FILES};
 use crate::passing::stretch::Stretch;
 use crate::run::Run;
-use crate::text::OpenText;
-use crate::text::stack::Stack;
+use cweb_open::{Limits, OPEN_FILES, OpenText, Stack};
 
 #[inline(always)]
 fn advance_text<R: Drop>(text: &mut OpenText<R>, limits: &mut Limits, stretch: Stretch)

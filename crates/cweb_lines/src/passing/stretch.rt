@@ -3,14 +3,12 @@ ghost use Rattle.std.specs.Prelude.{◌≡◌, ◌≤◌, ◌+◌, ◌-◌, ℕ,
 ghost use Rattle.cweb_lines.specs.Ahead.{Fits, FitsAt};
 ghost use Rattle.cweb_lines.specs.Passing.{Reaches, StandsIn, ComesNext, HasRoomFor, text_at, top_of};
 ghost use Rattle.cweb_lines.specs.Stages.{pending_in};
-ghost use Rattle.cweb_lines.specs.declared.limits.TheConstants.{LINES};
+ghost use Rattle.cweb_open.specs.declared.limits.TheConstants.{LINES};
 
 use crate::change::Stage;
-use crate::limits::Limits;
 use crate::run::Run;
 use crate::step::turning::begun_at;
-use crate::text::OpenText;
-use crate::text::take::trimmed_length;
+use cweb_open::{Limits, OpenText, trimmed_length};
 use cweb_source::{LINE_LENGTH, Source, is_include, newline_at};
 
 /// Lines that stand one behind another in what was read, and pass through. All but the last have no blanks at their ends, so

@@ -5,20 +5,16 @@ ghost use Rattle.cweb_lines.specs.Calls.{OnlyObeys, OnlyOpens};
 ghost use Rattle.cweb_source.specs.Include as spec;
 ghost use Rattle.cweb_source.specs.Lines.{SourceLine};
 ghost use Rattle.cweb_lines.specs.Merging.{GivesBehind, KeepsTold, pending_of, told_by, coming, coming_after, lines_given, IsTaken, TurnKnown};
-ghost use Rattle.cweb_lines.specs.Names.{names_of};
+ghost use Rattle.cweb_open.specs.Names.{names_of};
 ghost use Rattle.cweb_lines.specs.Stages.{begun_by, IsSettled};
-ghost use Rattle.cweb_lines.specs.declared.limits.TheConstants.{OPEN_FILES};
-ghost use Rattle.cweb_lines.specs.Texts.{Opens, StaysBelow};
+ghost use Rattle.cweb_open.specs.declared.limits.TheConstants.{OPEN_FILES};
+ghost use Rattle.cweb_open.specs.Texts.{Opens, StaysBelow};
 ghost use Rattle.cweb_lines.specs.Naming.{AreReadersKnown, KeepsReaders};
 
-use crate::fault::SourceKind;
-use crate::files::find::{Opening, find};
-use crate::limits::OPEN_FILES;
 use crate::run::Run;
 use crate::step::Turn;
-use crate::stop::Stop;
-use crate::text::{LineAt, OpenText};
 use cweb_files::{FileId, Shelf};
+use cweb_open::{LineAt, OPEN_FILES, OpenText, Opening, SourceKind, Stop, find};
 use cweb_source::{Source, include_name, is_include};
 
 // The lines of a text that was found come next, one deeper than the line that names it, and match where that line does.

@@ -2,23 +2,19 @@
 ghost use Rattle.std.specs.Prelude.{◌≡◌, ◌≤◌, ◌<◌, ◌+◌, ◌^◌, ◌++◌, ◌∷◌, [], length, IsTrue, IfOk, IfErr, IfSome, OnSome, Ok, OnOk, OnErr, None};
 ghost use Rattle.cweb_files.specs.Frames.{KeepsTexts};
 ghost use Rattle.cweb_lines.specs.Calls.{AnswersLine, ClosesAbove};
-ghost use Rattle.cweb_lines.specs.Counts.{count_of};
+ghost use Rattle.cweb_open.specs.Counts.{count_of};
 ghost use Rattle.cweb_source.specs.Lines.{IsOneLine};
 ghost use Rattle.cweb_lines.specs.Merging.{NothingLeft, change_lines};
-ghost use Rattle.cweb_lines.specs.Names.{names_of};
+ghost use Rattle.cweb_open.specs.Names.{names_of};
 ghost use Rattle.cweb_lines.specs.Stages.{floor_of};
-ghost use Rattle.cweb_lines.specs.Texts.{ReadBlames, Counted, NamesFiles, TakesLine, TakesAbove, StopsFor, StopsReading, FirstStops, StopsAbove, StaysBelow};
+ghost use Rattle.cweb_open.specs.Texts.{ReadBlames, Counted, NamesFiles, TakesLine, TakesAbove, StopsFor, StopsReading, FirstStops, StopsAbove, StaysBelow};
 ghost use Rattle.cweb_lines.specs.Steps.{OnlyTakes, OnlyTells};
 ghost use Rattle.cweb_lines.specs.Naming.{BlamesReaders, KeepsReaders};
 
 use crate::change::Stage;
-use crate::fault::{SourceFault, SourceKind};
 use crate::run::Run;
-use crate::stop::Stop;
-use crate::text::LineAt;
-use crate::text::stack::take_above;
-use crate::text::take::take_from;
 use cweb_files::{Place, Shelf};
+use cweb_open::{LineAt, SourceFault, SourceKind, Stop, take_above, take_from};
 use std::alloc::AllocError;
 
 impl<R: Drop> Run<R> {

@@ -2,25 +2,23 @@
 ghost use Rattle.std.specs.Prelude.{◌≡◌, ◌≤◌, ◌<◌, ◌+◌, ◌^◌, length, IsTrue, IfOk, IfErr, Ok, OnOk, OnErr};
 ghost use Rattle.cweb_files.specs.Frames.{KeepsTexts};
 ghost use Rattle.cweb_lines.specs.Calls.{Turns};
-ghost use Rattle.cweb_lines.specs.Counts.{count_of};
+ghost use Rattle.cweb_open.specs.Counts.{count_of};
 ghost use Rattle.cweb_lines.specs.Merging.{Gives, KeepsTold, Stopped, TellsFront, NothingLeft, TurnLine, TurnGains, TurnCounts, TurnEnds, TurnKnown, coming, lines_given, told_by};
-ghost use Rattle.cweb_lines.specs.Names.{names_of};
+ghost use Rattle.cweb_open.specs.Names.{names_of};
 ghost use Rattle.cweb_lines.specs.Stages.{IsSettled, begun_by, floor_of, pending_in};
-ghost use Rattle.cweb_lines.specs.Texts.{ReadBlames, StopsReading, files_named};
+ghost use Rattle.cweb_open.specs.Texts.{ReadBlames, StopsReading, files_named};
 ghost use Rattle.cweb_lines.specs.Naming.{BlamesReaders, KeepsReaders};
 
 use crate::change::code::{Code, code_of};
 use crate::change::old_side::begin_change;
 use crate::change::seek::seek;
 use crate::change::{Change, Stage};
-use crate::fault::SourceKind;
 use crate::run::Run;
 use crate::step::Turn;
 use crate::step::obey::give;
 use crate::step::progress::{take_change, take_raw};
-use crate::stop::Stop;
-use crate::text::LineAt;
 use cweb_files::{Place, Shelf};
+use cweb_open::{LineAt, SourceKind, Stop};
 
 // One line of a change's new side: an include line is obeyed, a code line ends the side or is a fault.
 fn take_new<S: Shelf>(

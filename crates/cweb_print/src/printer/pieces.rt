@@ -4,8 +4,7 @@ ghost use Rattle.cweb_files.specs.Device.{Counts};
 ghost use Rattle.cweb_print.specs.Writing.{Wrote};
 
 use arrayvec::ArrayVec;
-use cweb_files::{Sink, SinkFault};
-use cweb_lines::write_all;
+use cweb_files::{Sink, SinkFault, write_all};
 
 // So many bytes of short pieces are written at once.
 const ROOM: usize = 64;

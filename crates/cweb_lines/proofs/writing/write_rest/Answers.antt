@@ -1,5 +1,5 @@
 use Rattle.cweb_lines.proofs.Common.{[], refl, sym, arith, append-nil, leaves, writes}
-use Rattle.cweb_lines.proofs.Keeps.{writes_none}
+use Rattle.cweb_files.proofs.Keeps.{writes_none}
 use Rattle.cweb_lines.proofs.WriteStops.{no_write_blame}
 use Rattle.cweb_lines.proofs.writing.write_rest.Goals as goal
 

@@ -1,7 +1,7 @@
 use Rattle.cweb_scan.proofs.Common.{rules, ◌≡◌, ◌≤◌, ◌+◌, ◌*◌, ℕ, Bool, Option, None, List, [], ◌∷◌, ◌++◌, subst, refl, ap, sym, ◌∙◌, arith, LendsLines, Event, blame, read_blame, SoFar, coming, so_far, to_come, Merger, Stop, EndsEarly, HasTaken, Held, cost, read_after}
 use Rattle.cweb_files.specs.declared.device.Shelf.{Ghosts as Shelf}
 use Rattle.cweb_lines.proofs.Fronts.{told_files, told_same, told_then}
-use Rattle.cweb_lines.proofs.Keeps.{keeps_same, keeps_told, keeps_then}
+use Rattle.cweb_files.proofs.Keeps.{keeps_same, keeps_told, keeps_then}
 use Rattle.cweb_lines.proofs.Sums.{gives_both}
 use Rattle.cweb_scan.proofs.Scans.{nothing_taken, given_line_taken, grows_to, grows_then, none_blamed, all_within, all_scanned, ends_early, refused}
 use Rattle.cweb_scan.proofs.scanning.take_lines.Invariants.{HasScanned}

@@ -1,5 +1,6 @@
 use Rattle.cweb_lines.proofs.Common.{ap, names_of, read_blame}
-use Rattle.cweb_lines.proofs.Named.{blames_none, knows_only}
+use Rattle.cweb_open.proofs.Named.{blames_none}
+use Rattle.cweb_lines.proofs.Named.{knows_only}
 use Rattle.cweb_lines.proofs.Fronts.{told_behind, told_then}
 use Rattle.cweb_lines.proofs.ReplacesTold.{tells_front, closes_some}
 use Rattle.cweb_lines.proofs.change.old_side.begin_change.Goals as goal

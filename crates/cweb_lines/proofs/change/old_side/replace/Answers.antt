@@ -1,11 +1,12 @@
 use Rattle.cweb_lines.proofs.Common.{rules, ◌≡◌, [], ℕ, List, Vec, Global, Some, refl, ap, sym, subst, ◌∙◌, IsTrue, code_of, count_of, Thing, change_lines, told_by, names_of, lines_at, things_above, TopStops, read_blame}
 use Rattle.cweb_lines.specs.declared.change.code.Code.TheVariants.{NewSide as new_side}
-use Rattle.cweb_lines.proofs.Named.{blames_none, knows_only}
+use Rattle.cweb_open.proofs.Named.{blames_none}
+use Rattle.cweb_lines.proofs.Named.{knows_only}
 use Rattle.cweb_lines.proofs.Fronts.{told_same, told_then, told_took, took_faults, took_names}
 use Rattle.cweb_lines.proofs.Quiets.{Quiet, blamed_stop, quiet_same, quiet_set, quiet_tells, quiet_then, quiet_by, readers_after, still_tells}
 use Rattle.cweb_lines.proofs.Replaces.{compares_same, is_replaced_same, replaces_same, replaces_from, replaces_stop, replaces_new, replaces_code, replaces_line, replaces_raw_stop}
 use Rattle.cweb_lines.proofs.Codes.{is_new, is_faulty}
-use Rattle.cweb_lines.proofs.Stacks.{stops_map}
+use Rattle.cweb_open.proofs.Stacks.{stops_map}
 use Rattle.cweb_lines.proofs.change.old_side.replace.Given as given
 use Rattle.cweb_lines.proofs.change.old_side.replace.Goals as goal
 use Rattle.cweb_lines.proofs.change.old_side.replace.Goals.{In-Ok, In-Some}

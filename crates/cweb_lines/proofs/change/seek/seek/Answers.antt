@@ -1,10 +1,11 @@
 use Rattle.cweb_lines.proofs.Common.{rules, ℕ, [], ◌∷◌, ◌++◌, List, Vec, Global, None, refl, ap, sym, subst, ◌∙◌, sought, count_of, SourceLine, change_lines, told_by, names_of, Searched, SeeksTo, ToldFront, lines_at, read_blame, SourceFault, Waiting}
-use Rattle.cweb_lines.proofs.Named.{blames_memory, blames_none, knows_only, knows_same}
-use Rattle.cweb_lines.proofs.Found.{OnOk-both}
+use Rattle.cweb_open.proofs.Named.{blames_memory, blames_none}
+use Rattle.cweb_lines.proofs.Named.{knows_only, knows_same}
+use Rattle.cweb_open.proofs.Found.{OnOk-both}
 use Rattle.cweb_lines.proofs.Fronts.{told_behind, told_if, told_then, told_took, took_faults, took_names}
 use Rattle.cweb_lines.proofs.Quiets.{Quiet, blamed_stop, quiet_same, quiet_set, quiet_tells, quiet_then, quiet_by, readers_after, still_tells}
 use Rattle.cweb_lines.proofs.Seeks.{seeks_ended, seeks_from, seeks_stop, seeks_told_more, seeks_on, seeks_found}
-use Rattle.cweb_lines.proofs.Stacks.{stops_map}
+use Rattle.cweb_open.proofs.Stacks.{stops_map}
 use Rattle.cweb_lines.proofs.change.seek.seek.Given as given
 use Rattle.cweb_lines.proofs.change.seek.seek.Goals as goal
 use Rattle.cweb_lines.proofs.change.seek.seek.Goals.{In-Ok, In-Ok-look_at}

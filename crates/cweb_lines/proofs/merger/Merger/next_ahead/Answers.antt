@@ -1,5 +1,5 @@
 use Rattle.cweb_lines.proofs.Common.{◌≡◌, ◌-◌, ◌<◌, ◌∙◌, ℕ, List, None, Some, ap, arith, length, subst, get_or_default, IfSome, FitsAt, LooksIn, StandsAt, pending_in, line_number, number_of, rules, top_of}
-use Rattle.cweb_lines.proofs.Stacks.{most_at}
+use Rattle.cweb_open.proofs.Stacks.{most_at}
 use Rattle.cweb_lines.proofs.Aheads.{are_ahead, looks_next}
 use Rattle.cweb_lines.proofs.merger.Merger.next_ahead.Goals as goal
 

@@ -1,6 +1,6 @@
 use Rattle.cweb_lines.proofs.Common.{◌≡◌, ◌+◌, ◌-◌, ◌∷◌, ◌++◌, ℕ, List, Some, true, subst, length, length-append, string_bytes, ap, sym, ◌∙◌, arith, get_or, [], found_as, names_found, IsTrue, option_copied, change_at, SourceLine, raws, names_of, AreNamed, IsNamed, change_in, pending_in, things_in, lines_at, merge, OPEN_FILES}
 use Rattle.cweb_lines.specs.Faults.{files_in}
-use Rattle.cweb_lines.proofs.Named.{named_first}
+use Rattle.cweb_open.proofs.Named.{named_first}
 use Rattle.cweb_lines.proofs.Merges.{state}
 use Rattle.cweb_lines.proofs.Runs.{begins_low, begun, begun_coming}
 use Rattle.cweb_lines.proofs.merger.Merger.start.Goals as goal

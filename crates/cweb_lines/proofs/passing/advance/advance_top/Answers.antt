@@ -1,7 +1,7 @@
 use Rattle.cweb_lines.proofs.Common.{[], count_of, ◌≡◌, ◌+◌, ◌<◌, ◌-◌, ◌∙◌, None, ap, length, refl, sym, subst, arith, get_or-set_same, get_or_default, KeepsLevel, PassesSlot, StandsAt, piece_of, sources_next, top_of, line_number, files_up_to}
-use Rattle.cweb_lines.specs.Texts.{most}
-use Rattle.cweb_lines.proofs.Named.{named_at, named_set}
-use Rattle.cweb_lines.proofs.Stacks.{top_passed, most_read, most_set, stays_below, deep-at, deep-set}
+use Rattle.cweb_open.specs.Texts.{most}
+use Rattle.cweb_open.proofs.Named.{named_at, named_set}
+use Rattle.cweb_open.proofs.Stacks.{top_passed, most_read, most_set, stays_below, deep-at, deep-set}
 use Rattle.cweb_lines.proofs.passing.advance.advance_top.Goals as goal
 
 pub advance_slot-requires-clause-number : goal.advance_slot-requires-clause-number

@@ -1,5 +1,5 @@
 use Rattle.cweb_lines.proofs.Common.{◌<◌, ◌-◌, ap, length, arith, common_steps, line_number, number_of}
-use Rattle.cweb_lines.proofs.Stacks.{most_read}
+use Rattle.cweb_open.proofs.Stacks.{most_read}
 use Rattle.cweb_lines.proofs.run.Run.line_at.Goals as goal
 
 pub overflow_add-result : goal.overflow_add-result

@@ -1,7 +1,7 @@
 use Rattle.cweb_lines.proofs.Common.{◌<◌, ◌∷◌, ℕ, List, Vec, Global, length, refl, ap, sym, subst, ◌∙◌, arith, string_bytes, common_steps, names_of, at_place, count_of, world_in, found_at, Event, opening, AreReadersKnown, SourceFault, NoName, TooDeep, NotThere}
 use Rattle.cweb_lines.proofs.Named.{knows_only}
 use Rattle.cweb_lines.proofs.Fronts.{told_if, told_same}
-use Rattle.cweb_lines.proofs.Found.{OnOk-map}
+use Rattle.cweb_open.proofs.Found.{OnOk-map}
 use Rattle.cweb_lines.proofs.Merges.{gives_opening, merge_no_name, merge_too_deep, merge_not_there, merge_opens, include_long, empty_is, some_are}
 use Rattle.cweb_lines.proofs.Runs.{coming_opened, gives_told}
 use Rattle.cweb_lines.proofs.step.obey.obey.Goals as goal

@@ -1,7 +1,7 @@
 use Rattle.cweb_lines.proofs.Common.{◌≡◌, ◌+◌, ◌∷◌, [], ℕ, List, length, refl, sym, arith, ap, ◌∙◌, length-append, string_bytes, ◌++◌, subst, get_or, rules, append-nil, get_or_push, names_of, AreNamed, IsNamed, line_number, files_up_to}
-use Rattle.cweb_lines.proofs.Named.{change_more, named_more, named_set}
+use Rattle.cweb_open.proofs.Named.{change_more, named_more, named_set}
 use Rattle.cweb_lines.proofs.Fronts.{told_more, told_same}
-use Rattle.cweb_lines.proofs.Stacks.{most_set}
+use Rattle.cweb_open.proofs.Stacks.{most_set}
 use Rattle.cweb_lines.proofs.step.obey.open.Goals as goal
 
 pub invariant_of-run-2 : goal.invariant_of-run-2

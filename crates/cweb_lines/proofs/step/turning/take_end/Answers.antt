@@ -1,5 +1,6 @@
 use Rattle.cweb_lines.proofs.Common.{◌∷◌, List, length, ap, sym, ◌∙◌, refl, at_place, count_of, world_in, Event, fault, told_by, names_of, floor_of, read_blame, NoMatch}
-use Rattle.cweb_lines.proofs.Named.{blames_none, knows_only}
+use Rattle.cweb_open.proofs.Named.{blames_none}
+use Rattle.cweb_lines.proofs.Named.{knows_only}
 use Rattle.cweb_lines.proofs.Fronts.{told_behind, told_same}
 use Rattle.cweb_lines.proofs.Merges.{gives_fault}
 use Rattle.cweb_lines.proofs.Runs.{no_match, nothing_above}

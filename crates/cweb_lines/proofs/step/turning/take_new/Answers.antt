@@ -1,7 +1,8 @@
 use Rattle.cweb_lines.proofs.Common.{Some, ap, sym, subst, ◌∙◌, IsTrue, code_of, count_of, Stopped, change_lines, told_by, read_blame, names_of}
-use Rattle.cweb_lines.proofs.Named.{blames_memory, blames_none, knows_only}
+use Rattle.cweb_open.proofs.Named.{blames_memory, blames_none}
+use Rattle.cweb_lines.proofs.Named.{knows_only}
 use Rattle.cweb_lines.proofs.Fronts.{told_behind, told_same, told_then, told_took, took_faults, took_names}
-use Rattle.cweb_lines.proofs.Found.{IfOk-map}
+use Rattle.cweb_open.proofs.Found.{IfOk-map}
 use Rattle.cweb_lines.proofs.Sums.{gives_took}
 use Rattle.cweb_lines.proofs.News.{coming_is, new_ended, new_faulty, new_first, new_side_ended, new_stops}
 use Rattle.cweb_lines.proofs.Codes.{is_end}

@@ -1,13 +1,13 @@
 use Rattle.cweb_lines.proofs.Common.{rules, List, Vec, Global, Some, ◌≡◌, ap, sym, ◌∙◌, IsTrue, IfOk, IfErr, OnErr, count_of, Event, change_lines, pending_of, things_of, told_by, Gives, Stopped, SoFar, TellsFront, Took, coming, coming_after, lines_given, names_of, begun_by, pending_in, SourceFault}
-use Rattle.cweb_lines.proofs.Named.{blames_after, blames_memory, stop_after}
+use Rattle.cweb_open.proofs.Named.{blames_after, blames_memory, stop_after}
 use Rattle.cweb_lines.proofs.Fronts.{told_then, told_took}
-use Rattle.cweb_lines.proofs.Found.{IfOk-map}
+use Rattle.cweb_open.proofs.Found.{IfOk-map}
 use Rattle.cweb_lines.proofs.Merges.{stopped_by}
 use Rattle.cweb_lines.proofs.Sums.{gives_took}
 use Rattle.cweb_lines.proofs.Runs.{stops_in}
-use Rattle.cweb_lines.proofs.Stacks.{stops_map}
+use Rattle.cweb_open.proofs.Stacks.{stops_map}
 use Rattle.cweb_lines.proofs.Turns.{began_gives, began_stops, began_tells, raw_taken, untaken}
-use Rattle.cweb_lines.proofs.Keeps.{keeps_told, keeps_then}
+use Rattle.cweb_files.proofs.Keeps.{keeps_told, keeps_then}
 use Rattle.cweb_lines.proofs.step.turning.take_settled.Given as given
 use Rattle.cweb_lines.proofs.step.turning.take_settled.Goals as goal
 use Rattle.cweb_lines.proofs.step.turning.take_settled.Goals.{In-Some, In-Some-begun_at}

@@ -1,0 +1,26 @@
+// Writes that go on until all is written.
+ghost use Rattle.std.specs.Prelude.{◌≡◌, ◌<◌, ◌+◌, ◌^◌, IsTrue, OnOk, OnErr, length};
+ghost use Rattle.cweb_files.specs.Device.{Counts};
+ghost use Rattle.cweb_files.specs.Frames.{KeepsPlace, Writes, WritesFront};
+
+use crate::device::{Sink, SinkFault};
+
+/// Writes a whole piece, in as many writes as it takes. After a fault a front of it is written.
+pub fn write_all<W: Sink>(out: &mut W, bytes: &[u8]) -> Result<(), SinkFault>
+    requires { W.failed out.old + 1 < 2 ^ 64 }
+    ensures keeps { KeepsPlace W.Sink out.old out.new }
+    ensures failed { Counts (W.failed out.old) (W.failed out.new) result }
+    ensures ok { OnOk result (Writes W.Sink out.old out.new bytes.now) }
+    ensures err { IsTrue (W.tells out.old) → OnErr result
+        (WritesFront (W.written out.old) (W.written out.new) bytes.now) }
+    ensures some { OnErr result (0 < length bytes.now) }
+{
+    let mut at = 0;
+    'pieces: while at < bytes.len() {
+        match out.write(&bytes[at..]) {
+            Ok(n) => at += n,
+            Err(fault) => return Err(fault),
+        }
+    }
+    Ok(())
+}

@@ -1,0 +1,101 @@
+// How a merger begins: its web and its change file, opened and not yet read.
+ghost use Rattle.std.specs.Prelude.{◌≡◌, ◌≤◌, ◌++◌, ◌∷◌, ℕ, List, [], length, string_bytes, IfOk, IfErr, OnOk, true};
+ghost use Rattle.std.specs.Option.{option_copied};
+ghost use Rattle.cweb_open.specs.Finding.{text_of_name, found_as, names_found, lines_found, IsOpened};
+ghost use Rattle.cweb_source.specs.Lines.{lines_in};
+ghost use Rattle.cweb_open.specs.Names.{names_of};
+ghost use Rattle.cweb_lines.specs.Stages.{stage_for, begun_stage};
+ghost use Rattle.cweb_open.specs.Texts.{lines_left, lines_at, number_of, line_number, files_up_to};
+ghost use Rattle.cweb_lines.specs.Naming.{IsNamed};
+
+use crate::change::Stage;
+use cweb_files::FileId;
+use cweb_open::{FileNames, OpenText, Opening, Stop};
+use cweb_source::Source;
+use std::alloc::{AllocError, Global};
+
+/// A copy of a name, where there is one.
+pub fn owned(alloc: Global, name: Option<&str>) -> Result<Option<String>, AllocError>
+    ensures { IfOk result (λ owned. text_of_name owned ≡ option_copied name.entry) }
+{
+    match name {
+        Some(name) => Ok(Some(String::from_str(alloc, name)?)),
+        None => Ok(None),
+    }
+}
+
+/// The web is the first file.
+pub fn open_web<R: Drop>(
+    alloc: Global,
+    names: &mut FileNames,
+    opening: Opening<R>,
+) -> Result<OpenText<R>, Stop>
+    requires { names_of names.old ≡ [] }
+    ensures names { OnOk result (names_of names.new ≡ string_bytes opening.name ∷ []) }
+    ensures lines { IfOk result (λ text. (left : R → List ℕ) →
+        lines_left left text ≡ lines_in 0 (left opening.reader)) }
+    ensures reader { IfOk result (λ text. text.source.reader.value ≡ opening.reader) }
+    ensures level { IfOk result (λ text.
+        (text.file.0 ≡ 0) × (text.line ≡ 0) × (text.depth ≡ 1) × (text.may_match ≡ true)) }
+    ensures memory { IfErr result (λ stop. stop ≡ Stop.Memory) }
+{
+    let Opening { name, reader } = opening;
+    let source = Source::new(alloc, reader)?;
+    if let Err(stop) = names.push(name) {
+        return Err(stop);
+    }
+    Ok(OpenText {
+        source,
+        file: FileId(0),
+        line: 0,
+        depth: 1,
+        may_match: true,
+    })
+}
+
+/// The change file, where there is one, is the second file. Its lines match nothing.
+pub fn open_change<R: Drop>(
+    alloc: Global,
+    names: &mut FileNames,
+    change: Option<Opening<R>>,
+) -> Result<Option<OpenText<R>>, Stop>
+    requires { length (names_of names.old) ≡ 1 }
+    ensures names { OnOk result ((left : R → List ℕ) →
+        names_of names.new ≡ names_of names.old ++ names_found (found_as left change)) }
+    ensures lines { IfOk result (λ text. (left : R → List ℕ) →
+        lines_at left text ≡ lines_found (found_as left change)) }
+    ensures named { IfOk result (λ text. (opened_as : R → List ℕ) → IsOpened opened_as change →
+        IsNamed opened_as (names_of names.new) text) }
+    ensures number { IfOk result (λ text. number_of line_number text ≡ 0) }
+    ensures file { IfOk result (λ text. number_of files_up_to text ≤ length (names_of names.new)) }
+    ensures few { length (names_of names.new) ≤ 2 }
+    ensures stage { IfOk result (λ text. (left : R → List ℕ) →
+        stage_for text ≡ begun_stage (found_as left change)) }
+    ensures memory { IfErr result (λ stop. stop ≡ Stop.Memory) }
+{
+    let Some(opening) = change else {
+        return Ok(None);
+    };
+    let Opening { name, reader } = opening;
+    let source = Source::new(alloc, reader)?;
+    if let Err(stop) = names.push(name) {
+        return Err(stop);
+    }
+    Ok(Some(OpenText {
+        source,
+        file: FileId(1),
+        line: 0,
+        depth: 1,
+        may_match: false,
+    }))
+}
+
+/// The first entry is sought before the first line of the web.
+pub fn first_stage<R: Drop>(change: &Option<OpenText<R>>) -> Stage
+    ensures { result ≡ stage_for change.now }
+{
+    match change {
+        Some(_) => Stage::Seeking,
+        None => Stage::Done,
+    }
+}

@@ -1,0 +1,5 @@
+pub mod Common
+pub mod Found
+pub mod Named
+pub mod Stacks
+pub mod Trims

@@ -1,0 +1,12 @@
+pub mod Calls
+pub mod Counts
+pub mod Finding
+pub use Rattle.cweb_source.specs.Include
+pub use Rattle.cweb_source.specs.Lines
+pub mod Names
+pub mod Naming
+pub mod Pending
+pub use Rattle.cweb_source.specs.Source
+pub mod Taking
+pub mod Texts
+pub mod Things
