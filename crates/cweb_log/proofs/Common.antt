@@ -52,5 +52,5 @@ pub use Rattle.cweb_store.specs.Parts.{Part, Name}
 pub use Rattle.cweb_names.specs.declared.name.How.TheVariants.{Full, Prefix}
 pub use Rattle.cweb_names.specs.declared.name.NameFault.{NameFault}
 pub use Rattle.cweb_names.specs.declared.name.NameRef.{NameRef}
-pub use Rattle.cweb_store.specs.declared.parts.PartKind.{PartKind}
-pub use Rattle.cweb_store.specs.declared.parts.PartKind.TheVariants.{Unnamed, Named}
+pub use Rattle.cweb_parts.specs.declared.parts.PartKind.{PartKind}
+pub use Rattle.cweb_parts.specs.declared.parts.PartKind.TheVariants.{Unnamed, Named}

@@ -72,6 +72,6 @@ pub use Rattle.cweb_store.specs.Seen.{seen}
 pub use Rattle.cweb_names.specs.declared.name.How.TheVariants.{Full}
 pub use Rattle.cweb_names.specs.declared.name.NameId.{NameId}
 pub use Rattle.cweb_names.specs.declared.name.NameRef.{NameRef}
-pub use Rattle.cweb_store.specs.declared.parts.Part.{Part}
-pub use Rattle.cweb_store.specs.declared.parts.PartKind.{PartKind}
-pub use Rattle.cweb_store.specs.declared.parts.PartKind.TheVariants.{Unnamed, Named}
+pub use Rattle.cweb_parts.specs.declared.parts.Part.{Part}
+pub use Rattle.cweb_parts.specs.declared.parts.PartKind.{PartKind}
+pub use Rattle.cweb_parts.specs.declared.parts.PartKind.TheVariants.{Unnamed, Named}

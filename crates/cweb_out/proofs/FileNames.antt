@@ -5,7 +5,7 @@ use Rattle.cweb_store.specs.Names.{stands}
 use Rattle.cweb_store.proofs.BoundLemmas.{files-within}
 use Rattle.cweb_out.proofs.Paths.{new-push, is-same}
 use Rattle.cweb_out.proofs.Ranks.{few}
-use Rattle.cweb_store.proofs.TextLemmas.{filter-few}
+use Rattle.cweb_parts.proofs.TextLemmas.{filter-few}
 
 with_id-new : (ns : List NameId) (n : NameId) → AreNew [] ns → AreNew [] (with_id ns n)
 with_id-new ns n a = by (list_any (is_id n) ns) refl

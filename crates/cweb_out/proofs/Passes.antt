@@ -1,6 +1,6 @@
 -- The top frame of a stack passes tokens that lend their texts.
 use Rattle.cweb_out.proofs.Common.{◌≡◌, ◌≤◌, ◌-◌, ◌++◌, ◌∷◌, [], ℕ, List, length, slice_range, false, refl, sym, ◌∙◌, ap, append_assoc, set, Token, all_tokens, Stored, names, uses, expand, name_text, defs_first, root_list, Frame, suffix, left, IsWithin, Stands, run_tokens, runs_tokens, AreLent}
-use Rattle.cweb_store.proofs.RangeLemmas.{range-split}
+use Rattle.cweb_parts.proofs.RangeLemmas.{range-split}
 use Rattle.cweb_out.proofs.Owners.{OnTop}
 use Rattle.cweb_out.proofs.Passing.{put-all-lent, uses-lent}
 use Rattle.cweb_out.proofs.Stack.{Stands-push, Top, left_of-push}

@@ -1,7 +1,7 @@
 -- What is due, by what was found.
 use Rattle.cweb_out.proofs.Common.{◌≡◌, ◌<◌, ◌+◌, ℕ, Bool, true, false, not, ◌&&◌, List, [], ◌∷◌, ◌++◌, refl, sym, ◌∙◌, ap, arith, length, take, get_or, Option, Some, None, map, inl, inr, nat_eq, Ok, Err, find, option_map, list_all, list_any, after_last, IsUtf8, is_utf8, IsUtf8-from_is_utf8, is_utf8-from_IsUtf8, eqb_tells, take_more, map-append, length-map, NameId, Stored, cycle_from, has_no_text, is_control, is_good_name, is_slash, names_no_file, output_name, output_of, outputs, start_of, output_in, NamesAll, NamesOne, first_cycle, has_one, is_bad, is_endless, is_good_path, SettlesList, PlanFault, false_from_ne_true}
 use Rattle.cweb_store.specs.Parts as parts
-use Rattle.cweb_store.proofs.PartLemmas.{numbers-some}
+use Rattle.cweb_parts.proofs.PartLemmas.{numbers-some}
 use Rattle.cweb_out.specs.Outputs as due
 use Rattle.cweb_out.specs.declared.planning.planned.Output.{Output}
 use Rattle.cweb_out.specs.declared.planning.fault.PlanFault.TheVariants as fault
@@ -42,7 +42,7 @@ unnamed-one w =
     by (parts.numbers_where parts.is_unnamed w.parts)
     (list_any (λ (p : parts.Part). parts.is_unnamed p.kind) w.parts) some.0 some.1
   where
-    by : (ps : List Rattle.cweb_store.specs.declared.parts.Part.Part) (b : Bool)
+    by : (ps : List Rattle.cweb_parts.specs.declared.parts.Part.Part) (b : Bool)
         → (b ≡ true → 0 < length ps) → (0 < length ps → b ≡ true) → has_one ps ≡ b
     by [] true f g = absurd (omega (arith, f refl))
     by [] false f g = refl

@@ -1,7 +1,7 @@
 -- How a frame's list goes on.
 use Rattle.cweb_out.proofs.Common.{◌≡◌, ◌≤◌, ◌<◌, ◌+◌, ◌∷◌, ◌++◌, List, Some, length, sym, ◌∙◌, ap, arith, slice_range, false, suc, subst, All, slice_get, Part, Token, all_tokens, Stored, Frame, defs_first, suffix, IsRun, IsWithin, run_tokens, runs_tokens}
 use Rattle.cweb_print.proofs.Ranges.{slice_get-or, slice_range-first}
-use Rattle.cweb_store.proofs.RangeLemmas.{range-none}
+use Rattle.cweb_parts.proofs.RangeLemmas.{range-none}
 
 -- a frame that has a run begins with that run's first token
 pub suffix-first : {w : Stored} {f : Frame} (t : Token) → f.defs ≡ false → f.part.first < f.part.after

@@ -3,7 +3,7 @@ use Rattle.std.specs.Prelude.{ℕ, ◌≤◌, ◌<◌, ◌≡◌, ◌+◌, ◌-�
 use Rattle.std.specs.List.{list_all}
 use Rattle.cweb_names.specs.declared.name.NameId.{NameId}
 use Rattle.cweb_names.specs.declared.name.NameRef.{NameRef}
-use Rattle.cweb_store.specs.declared.parts.Part.{Part}
+use Rattle.cweb_parts.specs.declared.parts.Part.{Part}
 use Rattle.cweb_store.specs.Parts.{Token, Name, all_tokens}
 use Rattle.cweb_store.specs.Calls.{Stored}
 use Rattle.cweb_print.specs.Runs.{run_tokens, runs_tokens}

@@ -2,7 +2,7 @@
 use Rattle.std.specs.Prelude.{◌≡◌, ℕ, Bool, true, false, not, ◌&&◌, List, [], ◌∷◌, map, find, Option, Some, None, Result, Ok, Err, option_map}
 use Rattle.std.specs.List.{list_all, after_last}
 use Rattle.cweb_names.specs.declared.name.NameId.{NameId}
-use Rattle.cweb_store.specs.declared.parts.Part.{Part}
+use Rattle.cweb_parts.specs.declared.parts.Part.{Part}
 use Rattle.cweb_store.specs.Calls.{Stored}
 use Rattle.cweb_out.specs.Cycles.{cycle_from}
 use Rattle.cweb_out.specs.Ranks.{list_ends}

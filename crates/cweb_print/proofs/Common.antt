@@ -47,6 +47,6 @@ pub use Rattle.cweb_store.specs.Parts.{Head, Tail, Mark, all_tokens, is_macro, n
 pub use Rattle.cweb_store.specs.Seen.{seen}
 pub use Rattle.cweb_texts.specs.contracts.borders.Border.{the_type}
 pub use Rattle.cweb_names.specs.declared.name.NameId.{NameId}
-pub use Rattle.cweb_store.specs.declared.parts.Part.{Part}
-pub use Rattle.cweb_store.specs.declared.parts.PartKind.{PartKind}
+pub use Rattle.cweb_parts.specs.declared.parts.Part.{Part}
+pub use Rattle.cweb_parts.specs.declared.parts.PartKind.{PartKind}
 pub use Rattle.cweb_texts.specs.declared.borders.Border.{Border}

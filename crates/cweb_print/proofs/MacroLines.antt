@@ -3,7 +3,7 @@ use Rattle.cweb_print.proofs.Common.{◌≡◌, ◌≤◌, ◌<◌, ◌+◌, ◌
 use Rattle.cweb_print.specs.declared.printer.class.Class.TheVariants as class
 use Rattle.cweb_print.proofs.Steps.{added-append, added-push, leaves-push}
 use Rattle.cweb_print.proofs.Ranges.{slice_get-or, slice_range-first}
-use Rattle.cweb_store.specs.declared.parts.Part as declared
+use Rattle.cweb_parts.specs.declared.parts.Part as declared
 use Rattle.cweb_store.specs.Parts.{Part}
 
 no_blank : (c : Class) → is_apart c Defs ≡ false

@@ -1,6 +1,6 @@
 -- The tokens that stand in runs of numbers.
 use Rattle.std.specs.Prelude.{List, slice_range}
-use Rattle.cweb_store.specs.declared.parts.Part.{Part}
+use Rattle.cweb_parts.specs.declared.parts.Part.{Part}
 use Rattle.cweb_store.specs.Parts.{Token, all_tokens, tokens_at}
 use Rattle.cweb_store.specs.Calls.{Stored}
 

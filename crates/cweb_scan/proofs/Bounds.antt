@@ -1,6 +1,7 @@
 -- What is kept of a web has no more tokens, and no more bytes, than the web has bytes and lines.
 use Rattle.cweb_scan.proofs.Common.{◌≡◌, ◌≤◌, ℕ, List, [], ◌∷◌, ◌++◌, Option, Some, None, length, map, refl, arith, length-append, option_to_list, Line, Occurrence, Token, Word, Number, Literal, Verbatim, Punct, Part, all_tokens, Replacement, PartsSoFar, all_parts, finished, State, leave, before_text, Reading, run, further, read, scanned, total, one, text_size, occurrence_size, replacement_size, part_size, open_size, parts_size, token_number, text_bytes, Adds, web_size, IsBounded}
 use Rattle.cweb_names.specs.Names.{occurrence_text}
+use Rattle.cweb_parts.specs.Texts.{token_bytes}
 use Rattle.cweb_store.specs.Texts as kept
 use Rattle.cweb_texts.specs.Words as words
 use Rattle.cweb_scan.proofs.Adding.{adds, due_some}
@@ -37,7 +38,7 @@ length-total (t ∷ ts) = omega (arith, length-total ts)
 
 -- the bytes of texts, as the store counts them
 
-token-bytes : (t : Token) → kept.token_bytes t ≡ text_size t
+token-bytes : (t : Token) → token_bytes t ≡ text_size t
 token-bytes (Word b) = omega arith
 token-bytes (Number b) = omega arith
 token-bytes (Literal b) = omega arith
@@ -45,7 +46,7 @@ token-bytes (Verbatim b) = omega arith
 token-bytes (Punct b) = omega arith
 token-bytes _ = refl
 
-tokens-bytes : (ts : List Token) → words.total kept.token_bytes ts ≡ total text_size ts
+tokens-bytes : (ts : List Token) → words.total token_bytes ts ≡ total text_size ts
 tokens-bytes [] = refl
 tokens-bytes (t ∷ ts) = omega (arith, token-bytes t, tokens-bytes ts)
 

@@ -125,5 +125,5 @@ pub use Rattle.cweb_store.specs.Replacements.{Replacement}
 pub use Rattle.cweb_names.specs.declared.name.How.{How}
 pub use Rattle.cweb_names.specs.declared.name.How.TheVariants.{Full, Prefix}
 pub use Rattle.cweb_names.specs.declared.name.NameRef.{NameRef}
-pub use Rattle.cweb_store.specs.declared.parts.PartKind.{PartKind}
-pub use Rattle.cweb_store.specs.declared.parts.PartKind.TheVariants.{Unnamed}
+pub use Rattle.cweb_parts.specs.declared.parts.PartKind.{PartKind}
+pub use Rattle.cweb_parts.specs.declared.parts.PartKind.TheVariants.{Unnamed}

@@ -1,7 +1,7 @@
 -- Short words for computed webs.
 use Rattle.cweb_scan.proofs.Common.{ℕ, suc, true, false, List, [], ◌∷◌, ◌++◌, codes, Place, Line, PartKind, Unnamed, Occurrence, Full, Prefix, Part, Token, Word, Number, Literal, Verbatim, Punct, Name, Head, Tail, Mark, Replacement, ScanFault, ScanKind, Scanned}
 use Prim.Native.String.{String}
-use Rattle.cweb_store.specs.declared.parts.PartKind.TheVariants.{Named, Macro}
+use Rattle.cweb_parts.specs.declared.parts.PartKind.TheVariants.{Named, Macro}
 
 abbrev pub at : ℕ → ℕ → Place
 at file line = record { file = record { 0 = file }; line = line }

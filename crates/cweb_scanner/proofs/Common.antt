@@ -83,4 +83,4 @@ pub use Rattle.cweb_store.specs.Parts.{Token, Punct, Part, all_tokens, Blank, Wo
 pub use Rattle.cweb_store.specs.Parts.{Join, Defs, Name, Head, Tail, Mark, is_macro}
 pub use Rattle.cweb_store.specs.Seen.{seen}
 pub use Rattle.cweb_names.specs.declared.name.NameRef.{NameRef}
-pub use Rattle.cweb_store.specs.declared.parts.PartKind.{PartKind}
+pub use Rattle.cweb_parts.specs.declared.parts.PartKind.{PartKind}

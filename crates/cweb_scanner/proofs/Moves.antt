@@ -11,7 +11,7 @@ use Rattle.cweb_scanner.specs.Directives.{is_blank}
 use Rattle.cweb_scanner.specs.State.{fault_at, leave}
 use Rattle.cweb_store.specs.Calls.{with_closed, with_replacement}
 use Rattle.cweb_store.specs.Replacements.{Replacement}
-use Rattle.cweb_store.specs.declared.parts.PartKind.TheVariants as part
+use Rattle.cweb_parts.specs.declared.parts.PartKind.TheVariants as part
 
 -- the bytes of a token's text
 abbrev pub size : Token → ℕ

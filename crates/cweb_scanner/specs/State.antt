@@ -1,7 +1,7 @@
 -- What a scan has made of the text so far.
 use Rattle.std.specs.Prelude.{ℕ, ◌+◌, Bool, true, false, List, [], ◌∷◌, ◌++◌, Option, Some, None, if◌then◌else◌}
 use Rattle.cweb_files.specs.declared.place.Place.{Place}
-use Rattle.cweb_store.specs.declared.parts.PartKind.{PartKind}
+use Rattle.cweb_parts.specs.declared.parts.PartKind.{PartKind}
 use Rattle.cweb_store.specs.Parts.{Token, Head, Tail, Mark, Part}
 use Rattle.cweb_store.specs.Names.{Occurrence}
 use Rattle.cweb_store.specs.Calls.{Contents, empty, with_token, with_open, with_closed, with_occurrence}

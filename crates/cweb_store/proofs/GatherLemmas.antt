@@ -1,6 +1,6 @@
 -- Which names are among those that are gathered from tokens and parts.
 use Rattle.cweb_store.proofs.Common.{arith, ◌≡◌, ℕ, ◌+◌, true, false, ◌||◌, List, [], ◌∷◌, ◌++◌, Some, None, Option, length, refl, sym, ◌∙◌, ap, if◌then◌else◌, nat_eq, list_any, eqb-true, list_any-append, NameId, PartKind, Named, Standing, stands, is_id, with_id, with_some, Token, Part, joined, is_code, is_some_id, is_of, runs_from, is_use, is_used, has_part, with_use, used_from, used_in, with_part, present_from, or-false}
-use Rattle.cweb_store.specs.Parts as spec
+use Rattle.cweb_parts.specs.Parts as spec
 
 any-with_id : (n m : NameId) (ns : List NameId)
     → list_any (is_id n) (with_id ns m) ≡ (list_any (is_id n) ns || is_id n m)

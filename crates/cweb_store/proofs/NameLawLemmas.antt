@@ -1,7 +1,7 @@
 -- Laws of names, abbreviations and their faults.
 use Rattle.cweb_store.proofs.Common.{◌≡◌, ℕ, zero, suc, ◌+◌, ◌<◌, true, false, cond, List, [], ◌∷◌, ◌++◌, Some, None, Option, length, take, drop, refl, sym, ◌∙◌, ap, subst, arith, eq-eqb, Ok, Err, if◌then◌else◌, nat_eq, slice_get, option_map, option_and_then, filter, option_to_list, starts_with, eqb-true, take-append-drop, NameId, NeverFull, Occurrence, Name, Standing, id, texts, with_text, with_name, names_from, names, beginning_from, beginning, the_one, standing_among, standings, fault, standing_fault, standing_faults_from, Distinct, NamesAreDistinct, AbbreviationsBeginTheirNames, OneFaultForNoName}
 use Rattle.cweb_store.specs.MoreLaws.{is_at}
-use Rattle.cweb_store.proofs.RangeLemmas.{drop-here}
+use Rattle.cweb_parts.proofs.RangeLemmas.{drop-here}
 use Rattle.cweb_names.proofs.NameLemmas.{Distinct-push, texts-push}
 use Rattle.cweb_names.proofs.OccurrenceLemmas.{Grows, names_from-grows}
 use Rattle.cweb_store.proofs.LawLemmas.{standings-at, among-prefix, names_from-append}

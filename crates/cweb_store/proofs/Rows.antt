@@ -1,6 +1,6 @@
 -- The definitions, computed on small lists of calls.
 use Rattle.cweb_store.proofs.Common.{◌≡◌, ℕ, List, [], ◌∷◌, ◌++◌, Some, None, map, true, false, codes, Ok, Err, How, Full, Prefix, NameFault, Ambiguous, NeverFull, PrefixOfAnother, NotPresent, NameRef, PartKind, Unnamed, Named, Macro, Occurrence, id, names, texts, standings, files, Token, Word, Punct, Mark, Blank, Newline, joined, is_of, is_unnamed, is_macro, numbers_where, has_defs_code, is_defs, replacement, replacement_of, fault, faults, left_of_macro, is_name, token_numbers, bytes_given, bytes_kept, Call, Occurs, Opens, Pushes, Drops, Closes, Transliterates, Stored, contents, finished, occurrence_of}
-use Rattle.cweb_store.specs.Parts.{Number, Name, Join, Defs}
+use Rattle.cweb_parts.specs.Parts.{Number, Name, Join, Defs}
 
 abbrev stored : List Call → Stored
 stored calls = finished (contents calls)

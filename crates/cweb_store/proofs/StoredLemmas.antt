@@ -1,6 +1,6 @@
 -- What a store stands for, by what it keeps: tokens, occurrences and names.
 use Rattle.cweb_store.proofs.Common.{◌≡◌, ℕ, zero, suc, ◌+◌, ◌<◌, Bool, List, [], ◌∷◌, ◌++◌, Option, Some, map, length, drop, refl, sym, ◌∙◌, ap, subst, arith, length-append, append_assoc, append-nil, get_or, slice_get, option_map, length-map, drop-append_seam, NameId, NameFault, GivenAs, Run, Links, Occurrence, Name, Standing, with_text, with_name, names_from, names, Token, Replacement, IsWhole, closed_in, stored, too_many, AreAnswers, AreLinked, occurrence_text, replacement_text, TokensAndTexts, tokens_alone, with_texts, given_as, occurrences_at, replacements_at, stored_in, AreLast, AreStored}
-use Rattle.cweb_store.proofs.RangeLemmas.{drop-here}
+use Rattle.cweb_parts.proofs.RangeLemmas.{drop-here}
 
 with_texts-is : (ts : List (List ℕ)) (c : TokensAndTexts)
     → with_texts ts c ≡ record { tokens = c.tokens; others = c.others ++ ts }

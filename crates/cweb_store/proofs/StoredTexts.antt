@@ -1,9 +1,9 @@
 -- The texts of a store: what bytes are replaced by, and how many bytes all texts have.
 use Rattle.cweb_store.proofs.Common.{◌≡◌, ℕ, suc, ◌+◌, ◌≤◌, ◌<◌, Bool, true, false, List, [], ◌∷◌, ◌++◌, Option, Some, None, map, length, drop, refl, sym, ◌∙◌, ap, subst, arith, flat_map, slice_get, option_and_then, nat_eq, if◌then◌else◌, GivenAs, Run, Token, all_tokens, replaced_by, replacement, IsWhole, closed_in, Stored, total, token_texts, token_bytes_kept, occurrence_text, replacement_text, texts_of, bytes_given, bytes_kept, AllStandIn, AreInOneList, TokensAndTexts, occurrences_at, replacements_at, last_from, stored_in}
-use Rattle.cweb_store.proofs.RangeLemmas.{drop-here}
-use Rattle.cweb_store.proofs.WordLemmas.{kept-few}
-use Rattle.cweb_store.proofs.TextLemmas.{all-drop, all-both}
-use Rattle.cweb_store.proofs.RunLemmas.{whole-tokens}
+use Rattle.cweb_parts.proofs.RangeLemmas.{drop-here}
+use Rattle.cweb_parts.proofs.WordLemmas.{kept-few}
+use Rattle.cweb_parts.proofs.TextLemmas.{all-drop, all-both}
+use Rattle.cweb_parts.proofs.RunLemmas.{whole-tokens}
 
 -- the text for a byte is the last that was given for it
 abbrev pub at_last : List (List ℕ) → Option ℕ → Option (List ℕ)

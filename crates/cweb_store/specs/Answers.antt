@@ -4,7 +4,7 @@ use Rattle.cweb_names.specs.declared.name.NameId.{NameId}
 use Rattle.cweb_names.specs.declared.name.NameFault.{NameFault}
 use Rattle.cweb_names.specs.Names as spec
 use Rattle.cweb_names.specs.Names.{Occurrence, Standing}
-use Rattle.cweb_store.specs.Parts.{Part, has_defs_code}
+use Rattle.cweb_parts.specs.Parts.{Part, has_defs_code}
 use Rattle.cweb_store.specs.Faults as wrong
 
 pub record AreAnswers (os : List Occurrence) (ps : List Part) (standings : List Standing) (files : List NameId) (faults : List NameFault) (has_defs : Bool) : Type 0 where

@@ -1,10 +1,10 @@
 -- What a builder holds, and what each call makes of it.
 use Rattle.std.specs.Prelude.{List, [], ◌∷◌, ◌++◌, fold}
-use Rattle.cweb_store.specs.declared.parts.PartKind.{PartKind}
+use Rattle.cweb_parts.specs.declared.parts.PartKind.{PartKind}
 use Rattle.cweb_names.specs.Names.{Occurrence}
 pub use Rattle.cweb_names.specs.Names.{occurrence_of, too_many}
-use Rattle.cweb_store.specs.Parts.{Token, Part}
-use Rattle.cweb_store.specs.Growing.{PartsSoFar, no_parts, all_parts, opened, pushed, dropped, all_closed}
+use Rattle.cweb_parts.specs.Parts.{Token, Part}
+use Rattle.cweb_parts.specs.Growing.{PartsSoFar, no_parts, all_parts, opened, pushed, dropped, all_closed}
 use Rattle.cweb_store.specs.Replacements.{Replacement}
 
 -- the occurrences of names, the parts and the replacements so far; of occurrences, of parts and of tokens fewer than too_many are taken

@@ -7,7 +7,7 @@ use Rattle.cweb_names.specs.declared.name.NameKind.TheVariants.{PrefixOfAnother,
 use Rattle.cweb_names.specs.declared.name.NameFault.{NameFault}
 use Rattle.cweb_names.specs.Names as spec
 use Rattle.cweb_names.specs.Names.{Occurrence, Standing, id, is_id, names, standings, stands, files, is_prefix_of_another}
-use Rattle.cweb_store.specs.Parts.{Token, Name, Part, joined, is_code, is_some_id, is_of}
+use Rattle.cweb_parts.specs.Parts.{Token, Name, Part, joined, is_code, is_some_id, is_of}
 
 abbrev pub fault : NameKind → ℕ → NameFault
 fault kind i = record { kind = kind; occurrence = record { 0 = i } }

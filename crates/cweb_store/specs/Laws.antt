@@ -3,9 +3,9 @@ use Rattle.std.specs.Prelude.{◌≡◌, ℕ, Bool, false, nat_eq, List, [], ◌
 use Rattle.std.specs.List.{starts_with, list_any}
 use Rattle.cweb_names.specs.declared.name.How.TheVariants.{Full, Prefix}
 use Rattle.cweb_names.specs.declared.name.NameId.{NameId}
-use Rattle.cweb_store.specs.declared.parts.PartKind.{PartKind}
+use Rattle.cweb_parts.specs.declared.parts.PartKind.{PartKind}
 use Rattle.cweb_names.specs.Names.{Occurrence, names, beginning, standings, stands}
-use Rattle.cweb_store.specs.Parts.{Part, joined}
+use Rattle.cweb_parts.specs.Parts.{Part, joined}
 use Rattle.cweb_store.specs.Calls.{Call, Occurs, contents}
 
 -- an occurrence gives a name in full that begins with a text

@@ -2,11 +2,11 @@
 use Rattle.std.specs.Prelude.{◌+◌, ◌<◌, ◌≤◌, List, [], ◌∷◌, length, IsSome, IsNone}
 use Rattle.cweb_store.specs.declared.call.Call.{Call}
 use Rattle.cweb_store.specs.declared.call.Call.TheVariants as made
-use Rattle.cweb_store.specs.Growing.{part_count, token_count}
+use Rattle.cweb_parts.specs.Growing.{part_count, token_count}
 use Rattle.cweb_store.specs.Replacements.{replacement_of}
 use Rattle.cweb_store.specs.Calls as spec
 use Rattle.cweb_store.specs.Calls.{Contents, after, occurrence_of, too_many}
-use Rattle.cweb_store.specs.Seen.{seen}
+use Rattle.cweb_parts.specs.Seen.{seen}
 
 -- what a call gives that is to be made
 abbrev pub given : Call → spec.Call

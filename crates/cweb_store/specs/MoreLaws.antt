@@ -3,10 +3,10 @@ use Rattle.std.specs.Prelude.{◌≡◌, ℕ, Bool, true, nat_eq, List, [], ◌�
 use Rattle.std.specs.List.{starts_with}
 use Rattle.cweb_names.specs.declared.name.How.TheVariants.{Prefix}
 use Rattle.cweb_names.specs.declared.name.NameFault.{NameFault}
-use Rattle.cweb_store.specs.declared.parts.PartKind.TheVariants.{Macro}
+use Rattle.cweb_parts.specs.declared.parts.PartKind.TheVariants.{Macro}
 use Rattle.cweb_names.specs.Names.{Occurrence, Standing, texts, names}
-use Rattle.cweb_store.specs.Parts.{Token, Part}
-use Rattle.cweb_store.specs.Layout.{is_layout, first_kept, without_layout}
+use Rattle.cweb_parts.specs.Parts.{Token, Part}
+use Rattle.cweb_parts.specs.Layout.{is_layout, first_kept, without_layout}
 use Rattle.cweb_store.specs.Faults.{standing_fault, standing_faults}
 use Rattle.cweb_names.specs.Found.{Distinct}
 use Rattle.cweb_store.specs.Laws.{standing_text}

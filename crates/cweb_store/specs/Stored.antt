@@ -3,14 +3,14 @@ use Rattle.std.specs.Prelude.{◌≡◌, ◌<◌, ℕ, ◌+◌, Bool, List, [], 
 use Rattle.cweb_names.specs.declared.name.NameId.{NameId}
 use Rattle.cweb_names.specs.declared.name.NameFault.{NameFault}
 use Rattle.cweb_names.specs.declared.table.GivenAs.{GivenAs}
-use Rattle.cweb_store.specs.declared.parts.Run.{Run}
-use Rattle.cweb_store.specs.declared.parts.links.Links.{Links}
+use Rattle.cweb_parts.specs.declared.parts.Run.{Run}
+use Rattle.cweb_parts.specs.declared.parts.links.Links.{Links}
 use Rattle.cweb_names.specs.Names.{Standing, names, too_many}
 use Rattle.cweb_names.specs.Given.{occurrences_at}
 use Rattle.cweb_store.specs.Replacements.{Replacement, replacement_of}
-use Rattle.cweb_store.specs.Runs.{IsWhole, closed_in}
-use Rattle.cweb_store.specs.Links.{AreLinked}
-use Rattle.cweb_store.specs.ClosedTokens.{TokensAndTexts}
+use Rattle.cweb_parts.specs.Runs.{IsWhole, closed_in}
+use Rattle.cweb_parts.specs.Links.{AreLinked}
+use Rattle.cweb_parts.specs.ClosedTokens.{TokensAndTexts}
 use Rattle.cweb_store.specs.Calls.{Stored, stored}
 use Rattle.cweb_store.specs.Answers.{AreAnswers}
 

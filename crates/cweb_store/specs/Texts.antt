@@ -1,26 +1,11 @@
 -- The texts that a store answers, and how many bytes they have.
-use Rattle.std.specs.Prelude.{◌≡◌, ℕ, ◌+◌, Bool, true, false, List, [], ◌∷◌, ◌++◌, map, flat_map, fold, length}
-use Rattle.cweb_texts.specs.Words.{total, with_word}
+use Rattle.std.specs.Prelude.{ℕ, ◌+◌, List, ◌++◌, map, flat_map, length}
+use Rattle.cweb_texts.specs.Words.{total}
 use Rattle.cweb_names.specs.Names.{occurrence_text}
-use Rattle.cweb_store.specs.Parts.{Token, Word, Number, Literal, Verbatim, Punct, all_tokens}
+use Rattle.cweb_parts.specs.Parts.{all_tokens}
+use Rattle.cweb_parts.specs.Texts.{token_texts, token_bytes, token_bytes_kept}
 use Rattle.cweb_store.specs.Replacements.{Replacement}
 use Rattle.cweb_store.specs.Calls.{Stored}
-
--- the text of a token, if it has one
-abbrev pub token_texts : Token → List (List ℕ)
-token_texts (Word b) = b ∷ []
-token_texts (Number b) = b ∷ []
-token_texts (Literal b) = b ∷ []
-token_texts (Verbatim b) = b ∷ []
-token_texts (Punct b) = b ∷ []
-token_texts token = []
-
-abbrev pub has_text : Token → Bool
-has_text token = elim (token_texts token) [ [] ↦ false | text ∷ texts ↦ true ]
-
--- how many bytes the text of a token has
-abbrev pub token_bytes : Token → ℕ
-token_bytes token = total length (token_texts token)
 
 abbrev pub replacement_text : Replacement → List ℕ
 replacement_text r = r.text
@@ -33,39 +18,6 @@ texts_of s = flat_map token_texts (all_tokens s.parts) ++ (map occurrence_text s
 abbrev pub bytes_given : Stored → ℕ
 bytes_given s = total token_bytes (all_tokens s.parts) + (total length (map occurrence_text s.occurrences) + total length (map replacement_text s.replacements))
 
-abbrev pub with_word_of : List (List ℕ) → Token → List (List ℕ)
-with_word_of words (Word b) = with_word words b
-with_word_of words (Punct b) = with_word words b
-with_word_of words token = words
-
--- the distinct texts of Words and Puncts among tokens
-abbrev pub words_of : List Token → List (List ℕ)
-words_of ts = fold with_word_of [] ts
-
--- how many bytes the text of a token has that is neither Word nor Punct
-abbrev pub other_bytes : Token → ℕ
-other_bytes (Word b) = 0
-other_bytes (Punct b) = 0
-other_bytes token = token_bytes token
-
--- the bytes of the texts of tokens, where equal ones of Words and Puncts count once
-abbrev pub token_bytes_kept : List Token → ℕ
-token_bytes_kept ts = total length (words_of ts) + total other_bytes ts
-
 -- the bytes of all texts, where equal ones of Words and Puncts count once and any other text as often as it was given
 abbrev pub bytes_kept : Stored → ℕ
 bytes_kept s = token_bytes_kept (all_tokens s.parts) + (total length (map occurrence_text s.occurrences) + total length (map replacement_text s.replacements))
-
--- a text is a run of bytes of a list
-abbrev pub StandsIn : List ℕ → List ℕ → Type 0
-StandsIn bytes text = (before : List ℕ) × (after : List ℕ) × (bytes ≡ before ++ (text ++ after))
-
-abbrev pub AllStandIn : List ℕ → List (List ℕ) → Type 0
-AllStandIn bytes [] = Unit {0}
-AllStandIn bytes (t ∷ ts) = StandsIn bytes t × AllStandIn bytes ts
-
--- the texts are runs of bytes of one list, which has n bytes
-pub record AreInOneList (n : ℕ) (texts : List (List ℕ)) : Type 0 where
-  pub bytes : List ℕ
-  pub count : length bytes ≡ n
-  pub runs : AllStandIn bytes texts

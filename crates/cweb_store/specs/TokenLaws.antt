@@ -1,8 +1,8 @@
 -- The tokens of a builder's parts are those that were pushed.
 use Rattle.std.specs.Prelude.{◌≡◌, ◌⊎◌, true, List, [], ◌∷◌, Option, Some, None, IsSome, IsNone, filter_map}
-use Rattle.cweb_store.specs.Parts.{Token, all_tokens}
-use Rattle.cweb_store.specs.Layout.{is_layout}
-use Rattle.cweb_store.specs.Growing.{all_parts}
+use Rattle.cweb_parts.specs.Parts.{Token, all_tokens}
+use Rattle.cweb_parts.specs.Layout.{is_layout}
+use Rattle.cweb_parts.specs.Growing.{all_parts}
 use Rattle.cweb_store.specs.Calls.{Call, Opens, Pushes, Contents, after, contents, empty}
 
 abbrev pub token_in : Call → Option Token

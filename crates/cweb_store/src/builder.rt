@@ -1,16 +1,14 @@
 // The builder.
 
 ghost use Rattle.std.specs.Prelude.{◌≡◌, ◌<◌, ◌≤◌, ◌+◌, length, IsSome, IsNone, IfOk, OnOk, OnErr};
-ghost use Rattle.cweb_store.specs.Growing.{part_count, token_count};
+ghost use Rattle.cweb_parts.specs.Growing.{part_count, token_count};
 ghost use Rattle.cweb_store.specs.Replacements.{replacement_of};
 ghost use Rattle.cweb_store.specs.Calls.{empty, finished, occurrence_of, too_many, with_closed, with_dropped, with_occurrence, with_open, with_replacement, with_token};
 
-use crate::parts::PartKind;
-use crate::parts::list::PartList;
 use crate::replacements::Replacements;
 use crate::store::Store;
-use crate::tokens::Token;
 use cweb_names::{How, NameRef, NameTable};
+use cweb_parts::{PartKind, PartList, Token};
 use std::alloc::{AllocError, Global};
 use std::marker::Model;
 
@@ -45,7 +43,7 @@ impl Model for Builder {
 }
 
 impl Builder {
-    ghost use Rattle.cweb_store.specs.Seen.{seen};
+    ghost use Rattle.cweb_parts.specs.Seen.{seen};
 
     /// A builder that was given nothing.
     pub fn new(alloc: Global) -> Builder

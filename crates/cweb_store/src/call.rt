@@ -5,9 +5,8 @@ ghost use Rattle.cweb_store.specs.Calls.{after};
 ghost use Rattle.cweb_store.specs.Made.{given, Takes};
 
 use crate::builder::Builder;
-use crate::parts::PartKind;
-use crate::tokens::Token;
 use cweb_names::How;
+use cweb_parts::{PartKind, Token};
 use std::alloc::AllocError;
 
 /// A call of a builder. It lends its bytes.

@@ -9,9 +9,8 @@ ghost use Rattle.cweb_store.specs.Faults.{fault_if, faults_where, standing_fault
 ghost use Rattle.cweb_store.specs.Faults as told;
 ghost use Rattle.cweb_store.specs.Gathered.{present_from};
 
-use crate::parts::closed::ClosedParts;
-use crate::parts::{PartKind, Run};
 use cweb_names::{KnownNames, NameFault, NameId, NameKind, NameRef, NameTable, add_name_at};
+use cweb_parts::{ClosedParts, PartKind, Run};
 use indexmap::IndexSet;
 use std::alloc::{AllocError, Global};
 

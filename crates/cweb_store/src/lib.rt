@@ -1,12 +1,6 @@
 //! The names, parts and tokens of a web: a builder that is given them one after another, and the store that it makes of them.
 #![tactic(auto)]
 
-// the tokens of parts, and their texts
-mod tokens;
-
-// parts as runs of tokens, and those of one name
-mod parts;
-
 // the faults of names
 mod faults;
 
@@ -28,9 +22,6 @@ pub mod laws;
 pub use builder::Builder;
 pub use call::Call;
 pub use cweb_names::{How, NameFault, NameId, NameKind, NameRef};
+pub use cweb_parts::{Lender, Part, PartKind, Parts, Token};
 pub use cweb_texts::{Border, LentText};
-pub use parts::iter::Parts;
-pub use parts::{Part, PartKind};
 pub use store::Store;
-pub use tokens::Token;
-pub use tokens::lender::Lender;

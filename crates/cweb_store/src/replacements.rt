@@ -4,9 +4,9 @@ ghost use Rattle.std.specs.Prelude.{◌≡◌, ◌++◌, ◌∷◌, [], map, IfO
 ghost use Rattle.cweb_store.specs.Replacements.{replacement_of};
 ghost use Rattle.cweb_store.specs.Stored.{AreLast};
 ghost use Rattle.cweb_store.specs.Texts.{replacement_text};
-ghost use Rattle.cweb_store.specs.ClosedTokens.{with_texts};
+ghost use Rattle.cweb_parts.specs.ClosedTokens.{with_texts};
 
-use crate::tokens::closed::ClosedTokens;
+use cweb_parts::ClosedTokens;
 use std::alloc::{AllocError, Global};
 use std::marker::Model;
 

@@ -7,22 +7,19 @@ mod parts_wanted;
 
 ghost use Rattle.std.specs.Prelude.{◌≡◌, ◌<◌, ◌≤◌, length, slice_get, option_map, Some, None, IfOk, IfSome, All};
 ghost use Rattle.cweb_names.specs.Names as spec;
-ghost use Rattle.cweb_store.specs.Parts.{all_tokens, has_defs_code};
+ghost use Rattle.cweb_parts.specs.Parts.{all_tokens, has_defs_code};
 ghost use Rattle.cweb_store.specs.Faults.{faults};
 ghost use Rattle.cweb_store.specs.Replacements.{replacement};
 ghost use Rattle.cweb_store.specs.Calls.{stored, too_many};
-ghost use Rattle.cweb_store.specs.Texts.{AreInOneList, bytes_given, bytes_kept, texts_of};
-ghost use Rattle.cweb_store.specs.Next.{IsNext, is_name};
+ghost use Rattle.cweb_parts.specs.Texts.{AreInOneList};
+ghost use Rattle.cweb_store.specs.Texts.{bytes_given, bytes_kept, texts_of};
+ghost use Rattle.cweb_parts.specs.Next.{IsNext, is_name};
 
-use crate::parts::closed::ClosedParts;
-use crate::parts::links::Links;
-use crate::parts::{Part, Run};
 use crate::replacements::{Replacements, last_places};
 use crate::store::all_texts::AllTexts;
 use crate::store::answers::Answers;
-use crate::tokens::Token;
-use crate::tokens::closed::ClosedTokens;
 use cweb_names::{GivenAs, NameFault, NameId, NameKind, NameRef, NameTable, name_at};
+use cweb_parts::{ClosedParts, ClosedTokens, Links, Part, Run, Token};
 use indexmap::IndexSet;
 use std::alloc::{AllocError, Global};
 use std::marker::Model;
@@ -76,7 +73,7 @@ impl Model for Store {
 }
 
 impl Store {
-    ghost use Rattle.cweb_store.specs.Seen.{seen};
+    ghost use Rattle.cweb_parts.specs.Seen.{seen};
 
     /// The store of occurrences, parts and replacements.
     pub(crate) fn new(
@@ -88,7 +85,7 @@ impl Store {
         ensures { IfOk result (λ store. store ≡ stored table parts replacements) }
     {
         let answers = Answers::of(alloc, &table, &parts)?;
-        let ClosedParts { tokens, runs } = parts;
+        let (tokens, runs) = parts.take_apart();
         let texts = AllTexts::of(tokens, table, replacements)?;
         let AllTexts {
             tokens,

@@ -94,7 +94,7 @@ pub use Rattle.cweb_store.specs.Parts.{Part, is_macro, numbers_from, numbers_whe
 pub use Rattle.cweb_store.specs.Parts.{is_of, is_unnamed, Word, Number, Literal, Verbatim, Punct, Blank, Newline, Join}
 pub use Rattle.cweb_store.specs.Parts.{Head, Tail}
 pub use Rattle.cweb_names.specs.declared.name.NameId.{NameId}
-pub use Rattle.cweb_store.specs.declared.parts.PartKind.{PartKind}
+pub use Rattle.cweb_parts.specs.declared.parts.PartKind.{PartKind}
 pub use Rattle.cweb_tools.specs.Acts.{Held, Act, judges, says, opens, reads, plans, reserves, writes, after_act, Runs}
 pub use Rattle.cweb_tools.specs.Acts.{Breaks, Ending, ending, TangleEnds, completes, stops, LogsLine, LogsStop, ended}
 pub use Rattle.cweb_tools.specs.Acts.{IsOfFile, read_fails, FailsLog, bins_fail, given_up, not_begun}

@@ -1,7 +1,7 @@
 -- Rows of the spacing law, computed, and tokens that meet its premise.
 use Rattle.cweb_tools.proofs.Common.{◌++◌, ◌≡◌, List, [], ◌∷◌, refl, codes, empty, with_open, Token, Word, Number, Literal, Punct, Head, Quoted, Numeral, Punctuator, Code, CText, GiveAt, Closed, Reading, ReadsAlone, InPlainC, doubled, before_text, part_tokens, Setting, print}
 use Rattle.std.specs.Fmt.{digits}
-use Rattle.cweb_store.specs.declared.parts.PartKind.TheVariants as part
+use Rattle.cweb_parts.specs.declared.parts.PartKind.TheVariants as part
 use Rattle.cweb_scanner.specs.Run.{run}
 
 abbrev in_c_part : Reading

@@ -1,14 +1,14 @@
 // All texts of a store.
 
 ghost use Rattle.std.specs.Prelude.{◌≡◌, map, IfOk, OnOk};
-ghost use Rattle.cweb_store.specs.ClosedTokens.{with_texts};
+ghost use Rattle.cweb_parts.specs.ClosedTokens.{with_texts};
 ghost use Rattle.cweb_names.specs.Given.{given_as};
 ghost use Rattle.cweb_names.specs.Names.{occurrence_text};
 ghost use Rattle.cweb_store.specs.Texts.{replacement_text};
 
 use crate::replacements::Replacements;
-use crate::tokens::closed::ClosedTokens;
 use cweb_names::{GivenAs, NameTable};
+use cweb_parts::ClosedTokens;
 use std::alloc::AllocError;
 
 /// Tokens with the texts of occurrences and then of replacements behind theirs, how each occurrence is given, and the

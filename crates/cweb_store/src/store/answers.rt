@@ -3,14 +3,13 @@
 ghost use Rattle.std.specs.Prelude.{◌≡◌, ◌<◌, length, map, IfOk, OnOk};
 ghost use Rattle.cweb_store.specs.Answers.{AreAnswers};
 ghost use Rattle.cweb_store.specs.Calls.{too_many};
-ghost use Rattle.cweb_store.specs.Links.{AreLinked};
+ghost use Rattle.cweb_parts.specs.Links.{AreLinked};
 ghost use Rattle.cweb_names.specs.Names.{names};
-ghost use Rattle.cweb_store.specs.Runs.{runs_from};
+ghost use Rattle.cweb_parts.specs.Runs.{runs_from};
 
 use crate::faults::name_faults;
-use crate::parts::closed::ClosedParts;
-use crate::parts::links::Links;
 use cweb_names::{NameFault, NameId, NameKind, NameTable};
+use cweb_parts::{ClosedParts, Links};
 use indexmap::IndexSet;
 use std::alloc::{AllocError, Global};
 

@@ -1,13 +1,13 @@
 // A store's tokens: how many there are, and what they lend.
 
 ghost use Rattle.std.specs.Prelude.{◌≡◌, ◌<◌, length, map, option_map, slice_get, Some};
-ghost use Rattle.cweb_store.specs.Lends.{lends};
+ghost use Rattle.cweb_parts.specs.Lends.{lends};
 ghost use Rattle.cweb_texts.specs.Borders.{lent_seen};
 ghost use Rattle.cweb_store.specs.Calls.{too_many};
-ghost use Rattle.cweb_store.specs.Parts.{all_tokens};
+ghost use Rattle.cweb_parts.specs.Parts.{all_tokens};
 
 use crate::store::Store;
-use crate::tokens::lender::Lender;
+use cweb_parts::Lender;
 use cweb_texts::LentText;
 
 impl Store {

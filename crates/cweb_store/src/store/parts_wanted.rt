@@ -2,15 +2,15 @@
 
 ghost use Rattle.std.specs.Prelude.{◌≡◌, ◌<◌, ◌≤◌, ◌↔◌, length, IsTrue, All};
 ghost use Rattle.cweb_names.specs.Names as spec;
-ghost use Rattle.cweb_store.specs.Parts.{all_tokens, is_macro, is_of, is_unnamed, joined, numbers_where, tokens_at};
+ghost use Rattle.cweb_parts.specs.Parts.{all_tokens, is_macro, is_of, is_unnamed, joined, numbers_where, tokens_at};
 ghost use Rattle.cweb_store.specs.Faults.{has_part};
 ghost use Rattle.cweb_store.specs.Calls.{too_many};
-ghost use Rattle.cweb_store.specs.Runs.{runs_from};
-ghost use Rattle.cweb_store.specs.Wanted.{wanted_in};
+ghost use Rattle.cweb_parts.specs.Runs.{runs_from};
+ghost use Rattle.cweb_parts.specs.Wanted.{wanted_in};
 
-use crate::parts::iter::{Parts, Wanted};
 use crate::store::Store;
 use cweb_names::NameId;
+use cweb_parts::{Parts, Wanted};
 
 impl Store {
     /// The unnamed parts, which are the program.

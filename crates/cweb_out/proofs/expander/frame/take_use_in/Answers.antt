@@ -1,5 +1,5 @@
 use Rattle.cweb_out.proofs.Common.{◌++◌, ◌∙◌, [], ap, arith, refl, Some, slice_range, Name, all_tokens, seen}
-use Rattle.cweb_store.proofs.RangeLemmas.{range-split, range-head}
+use Rattle.cweb_parts.proofs.RangeLemmas.{range-split, range-head}
 use Rattle.cweb_out.proofs.expander.frame.take_use_in.Goals as goal
 
 pub returns-in-Name-clause-some : goal.returns-in-Name-clause-some

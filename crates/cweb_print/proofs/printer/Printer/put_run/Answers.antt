@@ -3,7 +3,7 @@ use Rattle.cweb_print.proofs.Bordered.{gathers-lent}
 use Rattle.cweb_print.proofs.Lenders.{lent-at}
 use Rattle.cweb_print.proofs.MacroLines.{range_more}
 use Rattle.cweb_print.proofs.Passing.{Passed, passed_more, passed_none, passed_same}
-use Rattle.cweb_store.proofs.RangeLemmas.{range-none}
+use Rattle.cweb_parts.proofs.RangeLemmas.{range-none}
 use Rattle.cweb_print.proofs.printer.Printer.put_run.Goals as goal
 
 pub tokens-init : goal.tokens-init

@@ -3,7 +3,7 @@ use Rattle.cweb_print.proofs.Continued.{added-continued, left-continued}
 use Rattle.cweb_print.proofs.Lenders.{lent-at}
 use Rattle.cweb_print.proofs.MacroLines.{left_more, tokens_more}
 use Rattle.cweb_print.proofs.Overlaps.{front_within}
-use Rattle.cweb_store.proofs.RangeLemmas.{range-none}
+use Rattle.cweb_parts.proofs.RangeLemmas.{range-none}
 use Rattle.cweb_print.proofs.printer.defines.put_macro_tokens.Goals as goal
 
 pub tokens-init : goal.tokens-init

@@ -1,5 +1,5 @@
 use Rattle.cweb_store.proofs.Common.{sym, ◌∙◌, ap, map, lends, all_tokens}
-use Rattle.cweb_store.proofs.RunLemmas.{whole-tokens}
+use Rattle.cweb_parts.proofs.RunLemmas.{whole-tokens}
 use Rattle.cweb_store.proofs.store.Store.lender.Goals as goal
 
 pub returns : goal.returns

@@ -1,34 +1,34 @@
 use Rattle.cweb_store.proofs.Common.{◌≡◌, List, map, sym, ◌∙◌, ap, subst, Run, Part, runs_from, AreLinked, AreLast, stored, AreAnswers, occurrence_text, replacement_text, with_texts}
-use Rattle.cweb_store.proofs.RunLemmas.{stored-runs}
+use Rattle.cweb_parts.proofs.RunLemmas.{stored-runs}
 use Rattle.cweb_store.proofs.StoredLemmas.{all_texts, stored-is, stored-are}
 use Rattle.cweb_store.proofs.store.Store.new.Goals as goal
 
 pub invariant_of-store : goal.invariant_of-store
 invariant_of-store c =
-    let ts = c.parts.inside.tokens.tokens in
-    let runs = c.parts.inside.runs.items in
+    let ts = c.take_apart-tokens.result.0.tokens in
+    let runs = c.take_apart-tokens.result.1.items in
     let os = c.args.table in
     let rs = c.args.replacements in
     let all = c.in_ok-answers.answers in
     let found = c.in_ok-answers.ensures in
     let texts = c.in_ok-texts.ensures in
     let tokens : c.in_ok-texts.texts.tokens ≡ all_texts ts os rs = texts.texts
-    ∙ ap (λ t. with_texts (map replacement_text rs) (with_texts (map occurrence_text os) t)) c.parts.invariant.alone in
+    ∙ ap (λ t. with_texts (map replacement_text rs) (with_texts (map occurrence_text os) t)) c.take_apart-tokens.ensures.alone in
     let answers = subst (λ (ps : List Part). AreAnswers
-    os ps all.standings.items all.files.keys all.faults.items all.has_defs_code) (sym c.parts.view_is) found.answers in
+    os ps all.standings.items all.files.keys all.faults.items all.has_defs_code) (sym c.take_apart-tokens.ensures.parts) found.answers in
     let linked = subst (λ (xs : List Run). AreLinked all.standings.items xs all.links.skips.items all.links.heads)
-    (ap (runs_from 0) (sym c.parts.view_is) ∙ sym (stored-runs ts runs c.parts.invariant.whole)) found.linked in
+    (ap (runs_from 0) (sym c.take_apart-tokens.ensures.parts) ∙ sym (stored-runs ts runs c.take_apart-tokens.ensures.whole)) found.linked in
     let last = subst (AreLast c.last_places.result) (c.as_slice.ensures.value ∙ texts.bytes) c.last_places.ensures in
     rw (tokens, texts.given, texts.bytes)
-    (stored-are ts runs all.links os rs _ _ _ _ _ _ c.parts.invariant.whole linked last found.firsts found.few answers)
+    (stored-are ts runs all.links os rs _ _ _ _ _ _ c.take_apart-tokens.ensures.whole linked last found.firsts found.few answers)
 
 pub returns : goal.returns
 returns c =
-    let ts = c.parts.inside.tokens.tokens in
-    let runs = c.parts.inside.runs.items in
+    let ts = c.take_apart-tokens.result.0.tokens in
+    let runs = c.take_apart-tokens.result.1.items in
     let os = c.args.table in
     let rs = c.args.replacements in
     let texts = c.in_ok-texts.ensures in
     let tokens : c.in_ok-texts.texts.tokens ≡ all_texts ts os rs = texts.texts
-    ∙ ap (λ t. with_texts (map replacement_text rs) (with_texts (map occurrence_text os) t)) c.parts.invariant.alone in
-    rw (tokens, texts.given, texts.bytes) (stored-is ts runs os rs ∙ ap (λ ps. stored os ps rs) c.parts.view_is)
+    ∙ ap (λ t. with_texts (map replacement_text rs) (with_texts (map occurrence_text os) t)) c.take_apart-tokens.ensures.alone in
+    rw (tokens, texts.given, texts.bytes) (stored-is ts runs os rs ∙ ap (λ ps. stored os ps rs) c.take_apart-tokens.ensures.parts)

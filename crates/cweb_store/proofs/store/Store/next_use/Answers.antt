@@ -1,5 +1,5 @@
 use Rattle.cweb_store.proofs.Common.{List, sym, ◌∙◌, ap, subst, Token, all_tokens, IsNext, is_name}
-use Rattle.cweb_store.proofs.RunLemmas.{whole-tokens}
+use Rattle.cweb_parts.proofs.RunLemmas.{whole-tokens}
 use Rattle.cweb_store.proofs.store.Store.next_use.Goals as goal
 
 pub returns : goal.returns

@@ -1,7 +1,7 @@
 use Rattle.cweb_store.proofs.Common.{◌≤◌, ◌<◌, ◌↔◌, List, length, sym, ◌∙◌, ap, subst, All, IsTrue, all_tokens, is_of, tokens_at, has_part}
-use Rattle.cweb_store.specs.declared.parts.Part.{Part}
+use Rattle.cweb_parts.specs.declared.parts.Part.{Part}
 use Rattle.cweb_names.specs.Names as spec
-use Rattle.cweb_store.proofs.PartLemmas.{part-runs, tokens_at-numbers, numbers-within, numbers-ordered, numbers-some}
+use Rattle.cweb_parts.proofs.PartLemmas.{part-runs, tokens_at-numbers, numbers-within, numbers-ordered, numbers-some}
 use Rattle.cweb_store.proofs.store.Store.parts.Goals as goal
 
 pub returns-clause-numbers : goal.returns-clause-numbers

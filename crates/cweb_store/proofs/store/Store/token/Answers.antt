@@ -1,5 +1,5 @@
 use Rattle.cweb_store.proofs.Common.{sym, ◌∙◌, ap, slice_get, all_tokens}
-use Rattle.cweb_store.proofs.RunLemmas.{whole-tokens}
+use Rattle.cweb_parts.proofs.RunLemmas.{whole-tokens}
 use Rattle.cweb_store.proofs.store.Store.token.Goals as goal
 
 pub token-requires : goal.token-requires

@@ -1,5 +1,5 @@
 use Rattle.cweb_store.proofs.Common.{length, sym, ◌∙◌, ap, all_tokens}
-use Rattle.cweb_store.proofs.RunLemmas.{whole-tokens}
+use Rattle.cweb_parts.proofs.RunLemmas.{whole-tokens}
 use Rattle.cweb_store.proofs.store.Store.tokens.Goals as goal
 
 pub returns-clause-count : goal.returns-clause-count

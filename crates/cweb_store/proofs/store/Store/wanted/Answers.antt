@@ -1,6 +1,6 @@
 use Rattle.cweb_store.proofs.Common.{◌≡◌, ◌-◌, filter, length, ◌∙◌, ap, arith, length-map, length-filter, count_by-le-length, runs_from, is_wanted, wanted_in, followed, Run}
 use Rattle.cweb_names.specs.Names as spec
-use Rattle.cweb_store.proofs.RunLemmas.{stored-runs}
+use Rattle.cweb_parts.proofs.RunLemmas.{stored-runs}
 use Rattle.cweb_store.proofs.store.Store.wanted.Goals as goal
 
 -- the parts by the runs and the standings of the store

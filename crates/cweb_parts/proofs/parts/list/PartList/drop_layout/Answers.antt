@@ -1,0 +1,13 @@
+use Rattle.cweb_parts.proofs.Common.{sym, ◌∙◌, ap, subst, take, Option, vec_capacity, Open, dropped, AreRuns, parts_in}
+use Rattle.cweb_parts.proofs.RunLemmas.{cut-parts}
+use Rattle.cweb_parts.proofs.parts.list.PartList.drop_layout.Goals as goal
+
+pub returns-clause-parts : goal.returns-clause-parts
+returns-clause-parts c =
+    let s = c.self.inside in
+    let e = c.end_before_layout-end in
+    let tied = subst (λ (current : Option Open).
+    AreRuns s.tokens.tokens s.runs.items current (vec_capacity s.runs)) c.in-Some.is c.self.invariant in
+    rw c.truncate.ensures.tokens (ap (parts_in (take e.result s.tokens.tokens) s.runs.items) c.in-Some.is
+    ∙ cut-parts s.tokens.tokens s.runs.items c.in-Some.current _ e.result _ tied e.ensures.begins e.ensures.part
+    ∙ ap dropped (ap (parts_in s.tokens.tokens s.runs.items) (sym c.in-Some.is) ∙ ap (λ v. v.parts) c.self.view_is))

@@ -1,0 +1,49 @@
+use Rattle.cweb_parts.proofs.Common.{◌≡◌, suc, ◌-◌, true, false, take, sym, ◌∙◌, ap, arith, filter, if◌then◌else◌, without_last_after, is_dropped, seen, has_text}
+use Rattle.cweb_parts.proofs.LayoutLemmas.{trim-next}
+use Rattle.cweb_parts.proofs.LayoutTexts.{trimmed-texts}
+use Rattle.cweb_parts.proofs.tokens.layout.end_before.Goals as goal
+
+pub loop-end-preserved : goal.loop-end-preserved
+loop-end-preserved c =
+    let ts = c.args.tokens.now.tokens in
+    let from = c.args.from in
+    let test = is_dropped c.args.trailing in
+    let k = c.loop-end.end - 1 in
+    let t = seen c.token.result in
+    let next : suc k ≡ c.loop-end.end = omega (arith, c.loop-end-test.true) in
+    let dropped : test t ≡ true = sym c.is_dropped.ensures ∙ c.if-is_dropped.true in
+    let step = trim-next from test ts k t c.token.ensures (omega (arith, c.loop-end-test.true)) in
+    record {
+      within = omega (arith, c.loop-end.invariant.within);
+      begins = λ n low all. omega (arith, c.loop-end-test.true, low);
+      same = sym (ap (λ b. if b then without_last_after from test (take k ts) else take (suc k) ts) dropped)
+          ∙ sym step ∙ ap (λ n. without_last_after from test (take n ts)) next ∙ c.loop-end.invariant.same;
+    }
+
+pub returns-else-is_dropped-clause-kept : goal.returns-else-is_dropped-clause-kept
+returns-else-is_dropped-clause-kept c =
+    let ts = c.args.tokens.now.tokens in
+    let from = c.args.from in
+    let test = is_dropped c.args.trailing in
+    let k = c.loop-end.end - 1 in
+    let t = seen c.token.result in
+    let next : suc k ≡ c.loop-end.end = omega (arith, c.loop-end-test.true) in
+    let stays : test t ≡ false = sym c.is_dropped.ensures ∙ c.if-is_dropped.false in
+    let step = trim-next from test ts k t c.token.ensures (omega (arith, c.loop-end-test.true)) in
+    ap (λ n. take n ts) (sym next)
+    ∙ sym (ap (λ b. if b then without_last_after from test (take k ts) else take (suc k) ts) stays)
+    ∙ sym step ∙ ap (λ n. without_last_after from test (take n ts)) next ∙ c.loop-end.invariant.same
+
+pub returns-else-is_dropped-clause-texts : goal.returns-else-is_dropped-clause-texts
+returns-else-is_dropped-clause-texts c =
+    let ts = c.args.tokens.now.tokens in
+    let from = c.args.from in
+    sym (trimmed-texts from c.args.trailing (take c.loop-end.end ts))
+    ∙ ap (filter has_text) c.loop-end.invariant.same ∙ trimmed-texts from c.args.trailing ts
+
+pub returns-after-loop-end-clause-texts : goal.returns-after-loop-end-clause-texts
+returns-after-loop-end-clause-texts c =
+    let ts = c.args.tokens.now.tokens in
+    let from = c.args.from in
+    sym (trimmed-texts from c.args.trailing (take c.loop-end.end ts))
+    ∙ ap (filter has_text) c.loop-end.invariant.same ∙ trimmed-texts from c.args.trailing ts

@@ -1,0 +1,139 @@
+// Parts while they are given.
+
+ghost use Rattle.std.specs.Prelude.{◌≡◌, ◌<◌, ◌+◌, IsSome, IsNone, OnOk, OnErr};
+ghost use Rattle.cweb_parts.specs.Growing.{all_closed, all_parts, dropped, no_parts, opened, part_count, pushed, token_count};
+ghost use Rattle.cweb_names.specs.Names.{too_many};
+ghost use Rattle.cweb_parts.specs.Runs.{last_run};
+
+use crate::parts::closed::ClosedParts;
+use crate::parts::{Open, Part, PartKind, Run};
+use crate::tokens::Token;
+use crate::tokens::layout::{end_at_close, end_before_layout};
+use crate::tokens::list::TokenList;
+use std::alloc::{AllocError, Global};
+use std::marker::Model;
+
+/// Parts: the tokens of all of them in one list, and where each part begins and ends in it.
+#[derive(Drop)]
+pub struct PartList {
+    tokens: TokenList,
+    runs: Vec<Run>,
+    current: Option<Open>,
+}
+
+impl Model for PartList {
+    ghost use Rattle.std.specs.Prelude.{vec_capacity};
+    ghost use Rattle.cweb_parts.specs.Rooms.{PartsInRooms, in_rooms};
+
+    ghost Value = { PartsInRooms };
+
+    ghost use Rattle.cweb_parts.specs.Runs.{parts_in, AreRuns};
+
+    ghost view = { λ s.
+        in_rooms (parts_in s.tokens.tokens s.runs.items s.current)
+        s.tokens.room (vec_capacity s.runs) };
+
+    ghost invariant = { λ s. AreRuns s.tokens.tokens s.runs.items s.current (vec_capacity s.runs) };
+}
+
+impl PartList {
+    ghost use Rattle.cweb_parts.specs.Seen.{seen};
+
+    /// Parts of which none is given yet.
+    pub fn new(alloc: Global) -> PartList
+        ensures { result.parts ≡ no_parts }
+    {
+        PartList {
+            tokens: TokenList::new(alloc),
+            runs: Vec::new(alloc),
+            current: None,
+        }
+    }
+
+    /// Begins a part. A refused call leaves the parts as they were.
+    pub fn open(&mut self, kind: PartKind) -> Result<(), AllocError>
+        requires closed { IsNone self.old.parts.current }
+        requires few { part_count self.old.parts + 1 < too_many }
+        ensures ok { OnOk result (self.new.parts ≡ opened kind self.old.parts) }
+        ensures err { OnErr result (self.new.parts ≡ self.old.parts) }
+    {
+        // room for the part, so that `close` cannot fail
+        self.runs.reserve(1)?;
+        let first = self.tokens.len() as u32;
+        self.current = Some(Open { kind, first });
+        Ok(())
+    }
+
+    /// Adds a token to the open part. A refused call leaves the parts as they were.
+    #[inline(always)]
+    pub fn push(&mut self, token: Token<'_>) -> Result<(), AllocError>
+        requires open { IsSome self.old.parts.current }
+        requires few { token_count self.old.parts + 1 < too_many }
+        ensures ok { OnOk result (self.new.parts ≡ pushed (seen token.entry) self.old.parts) }
+        ensures err { OnErr result (self.new.parts ≡ self.old.parts) }
+    {
+        self.tokens.push(token)?;
+        Ok(())
+    }
+
+    /// Drops the last layout of the open part. It takes no memory.
+    pub fn drop_layout(&mut self)
+        requires { IsSome self.old.parts.current }
+        ensures parts { self.new.parts ≡ dropped self.old.parts }
+        ensures rooms { self.new.rooms ≡ self.old.rooms }
+    {
+        let Some(current) = self.current else {
+            return;
+        };
+        let end = end_before_layout(&self.tokens, current);
+        self.tokens.truncate(end);
+    }
+
+    /// Ends the open part. It takes no memory.
+    pub fn close(&mut self)
+        requires { IsSome self.old.parts.current }
+        ensures parts { self.new.parts ≡ all_closed self.old.parts }
+        ensures rooms { self.new.rooms ≡ self.old.rooms }
+    {
+        let Some(current) = self.current else {
+            return;
+        };
+        let end = end_at_close(&self.tokens, current);
+        self.tokens.truncate(end);
+        let run = closed_run(current, end as u32);
+        self.current = None;
+        self.runs.push_reserved(run);
+    }
+
+    /// The parts, where one that is open counts as it stands.
+    pub fn finish(self) -> ClosedParts
+        ensures { result ≡ all_parts self.parts }
+    {
+        let PartList {
+            tokens,
+            mut runs,
+            current,
+        } = self;
+        let tokens = tokens.close();
+        let Some(current) = current else {
+            return ClosedParts { tokens, runs };
+        };
+        let run = closed_run(current, tokens.len() as u32);
+        runs.push_reserved(run);
+        ClosedParts { tokens, runs }
+    }
+}
+
+// The run of a part whose tokens end before a number.
+fn closed_run(current: Open, after: u32) -> Run
+    ensures { result ≡ last_run current after }
+{
+    let part = Part {
+        first: current.first,
+        after,
+    };
+    Run {
+        kind: current.kind,
+        part,
+    }
+}

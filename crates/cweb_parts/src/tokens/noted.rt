@@ -1,0 +1,92 @@
+// The numbers of tokens that are looked for again.
+
+ghost use Rattle.std.specs.Prelude.{◌≡◌, ◌≤◌, ◌++◌, ◌∷◌, [], ℕ, Bool, List, length, nat_lt, take, OnOk};
+ghost use Rattle.std.specs.List.{prefix_len};
+ghost use Rattle.std.specs.List.Sorted.{IsNonDecreasing};
+ghost use Rattle.cweb_parts.specs.Parts as spec;
+ghost use Rattle.cweb_parts.specs.Seen.{seen};
+ghost use Rattle.cweb_parts.specs.Next.{IsNext};
+ghost use Rattle.cweb_parts.specs.Noted.{AreNoted, HasRoom, token_numbers};
+
+use crate::parts::Part;
+use crate::tokens::Token;
+use std::alloc::{AllocError, Global};
+
+/// The numbers of the tokens that use a name, and of those that are Defs, in order.
+#[derive(Drop)]
+pub struct Noted {
+    pub uses: Vec<usize>,
+    pub defs: Vec<usize>,
+}
+
+impl Noted {
+    pub fn new(alloc: Global) -> Noted
+        ensures { AreNoted result [] }
+    {
+        Noted {
+            uses: Vec::new(alloc),
+            defs: Vec::new(alloc),
+        }
+    }
+
+    /// Sets room aside for the note of a token. What is noted stays as it is, also where that is refused.
+    pub fn reserve(&mut self, token: Token<'_>) -> Result<(), AllocError>
+        ensures room { OnOk result (HasRoom (seen token.entry) self.new) }
+        ensures noted { (tokens : List spec.Token) → AreNoted self.old tokens
+            → AreNoted self.new tokens }
+    {
+        match token {
+            Token::Name(_) => self.uses.reserve(1)?,
+            Token::Defs => self.defs.reserve(1)?,
+            _ => {}
+        }
+        Ok(())
+    }
+
+    /// Notes a token that comes behind others.
+    pub fn note(&mut self, number: usize, token: Token<'_>)
+        requires { HasRoom (seen token) self.old }
+        ensures { (tokens : List spec.Token) → length tokens ≡ number → AreNoted self.old tokens
+            → AreNoted self.new (tokens ++ seen token.entry ∷ []) }
+    {
+        match token {
+            Token::Name(_) => self.uses.push_reserved(number),
+            Token::Defs => self.defs.push_reserved(number),
+            _ => {}
+        }
+    }
+
+    /// Keeps what is noted of the first `count` tokens. It takes no memory.
+    pub fn truncate(&mut self, count: usize)
+        ensures { (tokens : List spec.Token) → AreNoted self.old tokens
+            → AreNoted self.new (take count tokens) }
+    {
+        let uses = count_below(self.uses.as_slice(), count);
+        self.uses.truncate(uses);
+        let defs = count_below(self.defs.as_slice(), count);
+        self.defs.truncate(defs);
+    }
+}
+
+/// The first of the noted numbers that is in a part, or the number after the part where none is.
+pub fn next_noted(numbers: &[usize], part: Part) -> u32
+    requires { part.first ≤ part.after }
+    ensures { (test : spec.Token → Bool) → (tokens : List spec.Token)
+        → numbers.now ≡ token_numbers test 0 tokens → IsNext test tokens part result }
+{
+    let Some(number) = numbers.get(count_below(numbers, part.first as usize)) else {
+        return part.after;
+    };
+    if *number < part.after as usize {
+        return *number as u32;
+    }
+    part.after
+}
+
+// How many of the first numbers are below a bound, where none of those behind them is.
+fn count_below(numbers: &[usize], bound: usize) -> usize
+    ensures { IsNonDecreasing numbers.now
+        → result ≡ prefix_len (λ number. nat_lt number bound) numbers.now }
+{
+    numbers.partition_point(|number| *number < bound)
+}
