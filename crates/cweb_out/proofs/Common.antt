@@ -1,6 +1,6 @@
 -- The names that the proofs of this crate cite, passed on from one place. Declares nothing.
 pub use Rattle.std.proofs.Common.{◌≡◌, ℕ, zero, suc, Bool, true, false, not, cond, ◌&&◌, ◌||◌, List, [], ◌∷◌, ◌++◌}
-pub use Rattle.std.proofs.Common.{refl, sym, ◌∙◌, ap, inl, inr, subst, Option, Some, map, string_bytes, ◌<◌, ◌+◌, arith}
+pub use Rattle.std.proofs.Common.{refl, sym, ◌∙◌, ap, inl, inr, subst, Option, Some, map, ◌<◌, ◌+◌, arith}
 pub use Rattle.std.proofs.Common.{length, length-append, drop, None, ◌≤◌, take, get_or, append_assoc, append-nil, ◌-◌}
 pub use Rattle.std.proofs.Common.{◌==◌, codes, decimal, slice_range, nat_eq, slice_index_or, add-one, ◌≢◌, rules}
 pub use Rattle.std.proofs.Common.{length-drop, vec_capacity}
@@ -9,7 +9,6 @@ pub use Rattle.std.proofs.Math.Seq.{take-add, drop-cons, take-length}
 pub use Rattle.std.proofs.lemmas.Bool.{or_cases, not-true, or_from, false_from_ne_true, and_from, or_left, or_right}
 pub use Rattle.std.proofs.lemmas.Bool.{and_parts, true_from_ne_false, cases_lt}
 pub use Rattle.std.proofs.lemmas.Bool.Decides.{eqb_tells}
-pub use Rattle.std.proofs.lemmas.Fn.{filter_same}
 pub use Rattle.std.proofs.lemmas.Grind.{flat_map-append, common_steps}
 pub use Rattle.std.proofs.lemmas.List.{take_all}
 pub use Rattle.std.proofs.lemmas.List.{map-append, length-map, take_more, length-set, get_or-set_same, set-set}
@@ -24,7 +23,6 @@ pub use Rattle.std.specs.Prelude.{◌⊎◌, option_to_list, find, filter, bytes
 pub use Rattle.std.specs.Prelude.{if◌then◌else◌, fold, flat_map, sum_by, is_some, option_map, IfOk, slice_get, vec_len}
 pub use Rattle.std.specs.Prelude.{slice_set}
 pub use Rattle.std.specs.Str.{IsUtf8, is_utf8}
-pub use Rattle.cweb_files.specs.Files.{File, without, put_file, Beside, committed}
 pub use Rattle.cweb_out.specs.Cycles.{cycle_from, walk}
 pub use Rattle.cweb_out.specs.Expansion.{expand, name_text, put, text_for}
 pub use Rattle.cweb_out.specs.Frames.{suffix, left, level, work_of, list_work, name_work}
@@ -33,7 +31,6 @@ pub use Rattle.cweb_out.specs.Frames.{token_work, AreBelow, IsWithin, Stands, Us
 pub use Rattle.cweb_out.specs.Frames.{IsOwned, left_of, AreRanked, Advances, IsRun, Enters, work_for}
 pub use Rattle.cweb_out.specs.Laws.{EachUsesNext, IsCycle, ReplacesUses, is_text, is_joined, print_behind}
 pub use Rattle.cweb_out.specs.Laws.{is_whole_lines}
-pub use Rattle.cweb_out.specs.Memory.{file_of, name_of, bytes_of, refusal_kept}
 pub use Rattle.cweb_out.specs.Outputs.{IsRoot, Planned, Refusal, bad_name, same_name, cycle, defs_first, file_outputs}
 pub use Rattle.cweb_out.specs.Outputs.{has_no_text, is_good_name, name_at, output_name, output_of, outputs, planned}
 pub use Rattle.cweb_out.specs.Outputs.{planned_apart, planned_ending, root_list, start_of, is_control, is_slash}
@@ -45,7 +42,6 @@ pub use Rattle.cweb_out.specs.Search.{Chain, Looked, next_of, path_of, AreNew, F
 pub use Rattle.cweb_out.specs.Search.{is_ranked_mark, mark_of, AreWithin, Begins, SettlesList, Goes, IsEndless, Settles}
 pub use Rattle.cweb_out.specs.Search.{Waited, marks_left, back_to, with_next}
 pub use Rattle.cweb_out.specs.Uses.{joined, uses, names, program, stands, use_of, PassesNoUse}
-pub use Rattle.cweb_out.specs.declared.bins.memory.BinFile.{BinFile}
 pub use Rattle.cweb_out.specs.declared.expander.frame.Frame.{Frame}
 pub use Rattle.cweb_out.specs.declared.planning.fault.PlanFault.{PlanFault}
 pub use Rattle.cweb_out.specs.declared.planning.search.Mark.{Mark}

@@ -5,8 +5,6 @@ pub mod Cycles
 pub mod Outputs
 pub mod Plans
 pub mod Frames
-pub mod Bins
-pub mod Memory
 pub mod Search
 pub mod Planning
 pub mod Laws

@@ -1,4 +1,4 @@
-//! The outputs of a web: which files there are, the text of each with all names replaced, and where files are kept.
+//! The outputs of a web: which files there are, and the text of each with all names replaced.
 #![tactic(auto)]
 
 // which outputs there are
@@ -7,14 +7,10 @@ mod planning;
 // the tokens of an output, its names replaced
 mod expander;
 
-// where files are kept
-mod bins;
-
 // what holds whatever the web is
 pub mod laws;
 
-pub use bins::memory::{BinFile, MemoryBins};
-pub use bins::{BinFault, Bins};
+pub use cweb_bins::{BinFault, BinFile, Bins, MemoryBins};
 pub use cweb_print::{Gathered, Printer};
 pub use expander::Expander;
 pub use expander::frame::Frame;

@@ -2,7 +2,7 @@
 ghost use Rattle.std.specs.Prelude.{◌≡◌, ◌≤◌, ◌<◌, ◌+◌, ◌^◌, [], false, length, option_and_then, take, IfOk, IfErr, IsSome};
 ghost use Rattle.std.specs.Io.KnownBytes.{Appends};
 ghost use Rattle.cweb_files.specs.Device.{Counts};
-ghost use Rattle.cweb_out.specs.Bins.{CountsDevice};
+ghost use Rattle.cweb_bins.specs.Bins.{CountsDevice};
 ghost use Rattle.cweb_system.specs.Devices.{target_bytes};
 
 use crate::drafts::{Draft, start_fault};
@@ -10,8 +10,8 @@ use crate::files_read::FilesRead;
 use crate::standing::{Standing, Way};
 use crate::system::{FileKey, Held, seen_as};
 use crate::target::Target;
+use cweb_bins::{BinFault, Bins};
 use cweb_files::{Sink, SinkFault};
-use cweb_out::{BinFault, Bins};
 use std::alloc::{AllocError, Global};
 use std::collections::BTreeMap;
 use std::fs;

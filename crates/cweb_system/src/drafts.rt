@@ -4,7 +4,7 @@ ghost use Rattle.std.specs.Io.Buffered.{writer_buffer};
 
 use crate::standing::permissions;
 use crate::system::{FileKey, Held, remove, seen, seen_as};
-use cweb_out::BinFault;
+use cweb_bins::BinFault;
 use std::alloc::{AllocError, Global};
 use std::fs::{Metadata, OpenFile, OpenOptions, Permissions};
 use std::io::{BufWriter, Error, ErrorKind, Write};

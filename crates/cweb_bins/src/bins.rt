@@ -2,7 +2,7 @@
 ghost use Rattle.std.specs.Prelude.{◌≡◌, ◌<◌, ◌+◌, ◌^◌, [], IsTrue, IsSome, IfErr, OnOk, OnErr};
 ghost use Rattle.cweb_files.specs.Device.{Counts};
 ghost use Rattle.cweb_files.specs.Files.{committed, with_draft, without_draft};
-ghost use Rattle.cweb_out.specs.Bins.{CountsDevice, refusing};
+ghost use Rattle.cweb_bins.specs.Bins.{CountsDevice, refusing};
 
 pub mod memory;
 

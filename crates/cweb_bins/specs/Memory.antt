@@ -2,8 +2,8 @@
 use Rattle.std.specs.Prelude.{ℕ, Bool, true, false, List, [], map, Option, Some, None, option_map, string_bytes, vec_capacity}
 use Rattle.std.specs.Option.{is_some}
 use Rattle.cweb_files.specs.Files.{File, Beside, Refused, no_memory}
-use Rattle.cweb_out.specs.declared.bins.memory.BinFile.{BinFile}
-use Rattle.cweb_out.specs.declared.bins.memory.MemoryBins.{MemoryBins}
+use Rattle.cweb_bins.specs.declared.bins.memory.BinFile.{BinFile}
+use Rattle.cweb_bins.specs.declared.bins.memory.MemoryBins.{MemoryBins}
 
 abbrev pub file_of : BinFile → File
 file_of file = record { name = string_bytes file.name; bytes = file.bytes.items }

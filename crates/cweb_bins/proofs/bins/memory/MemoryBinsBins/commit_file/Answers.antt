@@ -1,6 +1,6 @@
-use Rattle.cweb_out.proofs.Common.{◌≡◌, sym, ◌∙◌, ap, Some, None, map, List, Option, option_map, ℕ, File, Beside, committed, BinFile, file_of, name_of, bytes_of, refusal_kept}
-use Rattle.cweb_out.proofs.Commits.{commits}
-use Rattle.cweb_out.proofs.bins.memory.MemoryBinsBins.commit_file.Goals as goal
+use Rattle.cweb_bins.proofs.Common.{◌≡◌, sym, ◌∙◌, ap, Some, None, map, List, Option, option_map, ℕ, File, Beside, committed, BinFile, file_of, name_of, bytes_of, refusal_kept}
+use Rattle.cweb_bins.proofs.Commits.{commits}
+use Rattle.cweb_bins.proofs.bins.memory.MemoryBinsBins.commit_file.Goals as goal
 
 pub returns-clause-ok : goal.returns-clause-ok
 returns-clause-ok c =

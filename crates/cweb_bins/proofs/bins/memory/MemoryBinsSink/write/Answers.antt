@@ -1,5 +1,5 @@
-use Rattle.cweb_out.proofs.Common.{rules}
-use Rattle.cweb_out.proofs.bins.memory.MemoryBinsSink.write.Goals as goal
+use Rattle.cweb_bins.proofs.Common.{rules}
+use Rattle.cweb_bins.proofs.bins.memory.MemoryBinsSink.write.Goals as goal
 
 pub returns-then-is_err-clause-err : goal.returns-then-is_err-clause-err
 returns-then-is_err-clause-err c = search rules

@@ -1,5 +1,5 @@
 -- A draft that becomes a file.
-use Rattle.cweb_out.proofs.Common.{◌≡◌, ℕ, Bool, true, false, not, cond, List, [], ◌∷◌, ◌++◌, refl, ◌∙◌, ap, map, string_bytes, map-append, filter, File, without, put_file, BinFile, file_of}
+use Rattle.cweb_bins.proofs.Common.{◌≡◌, ℕ, Bool, true, false, not, cond, List, [], ◌∷◌, ◌++◌, refl, ◌∙◌, ap, map, string_bytes, map-append, filter, File, without, put_file, BinFile, file_of}
 use Rattle.std.specs.Str.{bytes_eq}
 
 others : (name : List ℕ) (files : List BinFile) → map file_of

@@ -42,7 +42,7 @@ impl Drop for MemoryBins {
 }
 
 impl MemoryBins {
-    ghost use Rattle.cweb_out.specs.Memory.{bins_failed, file_room, files_kept, has_draft, list_room, refusal_kept};
+    ghost use Rattle.cweb_bins.specs.Memory.{bins_failed, file_room, files_kept, has_draft, list_room, refusal_kept};
 
     /// No file yet: a list with room for so many files, and the room in bytes that each draft gets when it is begun.
     pub fn with_room(alloc: Global, files: usize, bytes: usize) -> Result<Self, AllocError>
@@ -94,7 +94,7 @@ fn remove_named(files: &mut Vec<BinFile>, name: &str)
 }
 
 impl Sink for MemoryBins {
-    ghost use Rattle.cweb_out.specs.Memory.{beside_kept, bins_failed, bytes_kept, draft_room, file_room, has_draft};
+    ghost use Rattle.cweb_bins.specs.Memory.{beside_kept, bins_failed, bytes_kept, draft_room, file_room, has_draft};
 
     ghost tells = { λ _. true };
 
@@ -138,9 +138,9 @@ impl Sink for MemoryBins {
 }
 
 impl Bins for MemoryBins {
-    ghost use Rattle.cweb_out.specs.Memory.{beside_kept, bins_failed, bytes_kept, draft_room, file_room, has_draft};
+    ghost use Rattle.cweb_bins.specs.Memory.{beside_kept, bins_failed, bytes_kept, draft_room, file_room, has_draft};
     ghost use Rattle.cweb_files.specs.Files.{committed, with_draft, without_draft};
-    ghost use Rattle.cweb_out.specs.Bins.{refusing};
+    ghost use Rattle.cweb_bins.specs.Bins.{refusing};
 
     fn start_file(&mut self, name: &str) -> Result<(), BinFault>
         requires { bins_failed self.old + 1 < 2 ^ 64 }

@@ -1,8 +1,8 @@
 -- What the calls of a place that keeps files do to its count of failures, and what a refused beginning leaves.
 use Rattle.std.specs.Prelude.{◌≡◌, ◌+◌, ℕ, Result, Ok, Err}
 use Rattle.cweb_files.specs.Files.{Beside, Refused, no_memory, no_device, not_begun}
-use Rattle.cweb_out.specs.declared.bins.BinFault.{BinFault}
-use Rattle.cweb_out.specs.declared.bins.BinFault.TheVariants.{Memory, Device}
+use Rattle.cweb_bins.specs.declared.bins.BinFault.{BinFault}
+use Rattle.cweb_bins.specs.declared.bins.BinFault.TheVariants.{Memory, Device}
 
 -- the count rises by one with each fault of the device, and by nothing else
 abbrev pub CountsDevice : {A : Type 0} → ℕ → ℕ → Result A BinFault → Type 0

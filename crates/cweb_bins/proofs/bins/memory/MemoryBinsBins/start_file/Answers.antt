@@ -1,5 +1,5 @@
-use Rattle.cweb_out.proofs.Common.{rules}
-use Rattle.cweb_out.proofs.bins.memory.MemoryBinsBins.start_file.Goals as goal
+use Rattle.cweb_bins.proofs.Common.{rules}
+use Rattle.cweb_bins.proofs.bins.memory.MemoryBinsBins.start_file.Goals as goal
 
 pub returns-in_default-clause-err : goal.returns-in_default-clause-err
 returns-in_default-clause-err c = search rules

@@ -1,0 +1,2 @@
+pub mod Bins
+pub mod Memory
