@@ -33,10 +33,10 @@ pub use Rattle.cweb_log.specs.WebItems.{name_item}
 pub use Rattle.cweb_log.specs.Words.{asked_by, is_dot, is_slash, has_extension}
 pub use Rattle.cweb_log.specs.declared.options.Options.{Options}
 pub use Rattle.cweb_log.specs.declared.shown.Shown.{Shown}
-pub use Rattle.cweb_out.specs.Cycles.{cycle_from}
-pub use Rattle.cweb_out.specs.Outputs.{bad_name, same_name, cycle}
-pub use Rattle.cweb_out.specs.Ranks.{first_endless}
-pub use Rattle.cweb_out.specs.Uses.{program}
+pub use Rattle.cweb_plan.specs.Cycles.{cycle_from}
+pub use Rattle.cweb_plan.specs.Outputs.{bad_name, same_name, cycle}
+pub use Rattle.cweb_plan.specs.Ranks.{first_endless}
+pub use Rattle.cweb_plan.specs.Uses.{program}
 pub use Rattle.cweb_rules.specs.declared.fault.ScanFault.{ScanFault}
 pub use Rattle.cweb_rules.specs.declared.fault.ScanKind.{ScanKind}
 pub use Rattle.cweb_rules.specs.declared.fault.ScanKind.TheVariants.{DoubleAtInLimbo, ImproperHexNumber}

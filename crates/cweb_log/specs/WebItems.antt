@@ -12,10 +12,10 @@ use Rattle.cweb_names.specs.declared.name.NameKind.TheVariants.{Ambiguous, Never
 use Rattle.cweb_rules.specs.declared.fault.ScanFault.{ScanFault}
 use Rattle.cweb_rules.specs.declared.fault.ScanKind.{ScanKind}
 use Rattle.cweb_rules.specs.declared.fault.ScanKind.TheVariants.{DoubleAtInLimbo, ImproperHexNumber, ReplacementTooLong, LetterOutsideLimbo, NameDidNotEnd, NamesDoNotNest, CommentDidNotEnd, StringDidNotEnd, DoubleAtInString, ControlTextDidNotEnd, FaultyConstant, IgnoredInCText, MissingAt, DefsInMacro, DefinitionDropped}
-use Rattle.cweb_out.specs.Outputs as outputs
-use Rattle.cweb_out.specs.Outputs.{Refusal, bad_name, same_name, cycle, output_name}
-use Rattle.cweb_out.specs.declared.planning.fault.PlanFault.{PlanFault}
-use Rattle.cweb_out.specs.declared.planning.fault.PlanFault.TheVariants as plan
+use Rattle.cweb_plan.specs.Outputs as outputs
+use Rattle.cweb_plan.specs.Outputs.{Refusal, bad_name, same_name, cycle, output_name}
+use Rattle.cweb_plan.specs.declared.fault.PlanFault.{PlanFault}
+use Rattle.cweb_plan.specs.declared.fault.PlanFault.TheVariants as plan
 use Rattle.cweb_log.specs.Items.{Item, fault, located, stopped}
 use Rattle.cweb_log.specs.Log.{name_at}
 

@@ -3,7 +3,7 @@
 ghost use Rattle.std.specs.Prelude.{◌≡◌, ◌<◌, ◌+◌, ◌^◌, ◌++◌, codes, length, map, All};
 ghost use Rattle.std.specs.List.{flat_map};
 ghost use Rattle.cweb_lines.specs.Names.{names_of};
-ghost use Rattle.cweb_out.specs.Outputs.{name_at, output_name};
+ghost use Rattle.cweb_plan.specs.Outputs.{name_at, output_name};
 ghost use Rattle.cweb_log.specs.Gathered.{pending};
 ghost use Rattle.cweb_log.specs.Gathering.{Writes, GathersMore};
 ghost use Rattle.cweb_log.specs.Items.{line, fault};
@@ -13,7 +13,7 @@ ghost use Rattle.cweb_log.specs.WebItems.{cycle_step, name_item, name_items, pla
 use crate::faults::add_located;
 use crate::gathered::{Gathered, say};
 use cweb_lines::{FileNames, Sink, SinkFault};
-use cweb_out::PlanFault;
+use cweb_plan::PlanFault;
 use cweb_rules::{ScanFault, ScanKind};
 use cweb_store::{NameFault, NameId, NameKind, Store};
 use itoa::Buffer;

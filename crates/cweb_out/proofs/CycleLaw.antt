@@ -2,8 +2,8 @@
 use Rattle.cweb_out.proofs.Common.{◌≡◌, ◌<◌, ◌+◌, ℕ, zero, suc, Bool, true, false, not, cond, List, [], ◌∷◌, ◌++◌, refl, sym, ◌∙◌, ap, arith, length, length-append, inl, inr, drop, map, subst, Option, Some, None, All, Result, Ok, Err, find, filter, bytes_eq, list_any, position_or_len, NameId, is_id, has_part, has_defs_code, Stored, names, joined, program, uses, first_endless, has_rank, list_ends, cycle_from, walk, IsRoot, Planned, Refusal, bad_name, same_name, cycle, defs_first, file_outputs, has_no_text, is_good_name, name_at, output_name, output_of, outputs, planned, planned_apart, planned_ending, root_list, start_of, AreNew, EachUsesNext, IsCycle, not-true}
 use Rattle.cweb_store.specs.Names as spec
 use Rattle.cweb_store.proofs.BoundLemmas.{files-within}
-use Rattle.cweb_out.proofs.Paths.{is-same, new-push, on-pushed, split-or}
-use Rattle.cweb_out.proofs.Ranks.{few}
+use Rattle.cweb_plan.proofs.Paths.{is-same, new-push, on-pushed, split-or}
+use Rattle.cweb_plan.proofs.Ranks.{few}
 use Rattle.cweb_out.proofs.CycleUses.{uses-on, failing, Endless, text-endless, name-endless, each-drop, each-push, comes}
 
 -- WALKS

@@ -1,8 +1,8 @@
 -- A name without a rank uses one without a rank, and each name of a way uses the next one.
 use Rattle.cweb_out.proofs.Common.{◌≡◌, ◌<◌, ◌+◌, ℕ, zero, suc, Bool, true, false, not, cond, ◌&&◌, ◌||◌, List, [], ◌∷◌, ◌++◌, refl, sym, ◌∙◌, ap, arith, inl, inr, drop, Option, Some, None, find, IfSome, option_to_list, list_all, list_any, position_or_len, list_any-append, NameId, is_id, Token, Name, Stored, names, joined, stands, use_of, uses, has_rank, list_ends, EachUsesNext, false_from_ne_true, or_cases, or_left, or_right}
 use Rattle.cweb_store.proofs.BoundLemmas.{standing-within}
-use Rattle.cweb_out.proofs.Paths.{is-same}
-use Rattle.cweb_out.proofs.Ranks.{id-same, rank-grows, rank_by_uses}
+use Rattle.cweb_plan.proofs.Paths.{is-same}
+use Rattle.cweb_plan.proofs.Ranks.{id-same, rank-grows, rank_by_uses}
 
 -- USES
 

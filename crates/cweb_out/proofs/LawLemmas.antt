@@ -2,7 +2,7 @@
 use Rattle.cweb_out.proofs.Common.{◌≡◌, ◌≤◌, ◌+◌, ◌-◌, ◌==◌, ◌&&◌, ℕ, zero, suc, Bool, true, false, cond, List, [], ◌∷◌, ◌++◌, refl, sym, ◌∙◌, ap, arith, append_assoc, append-nil, Option, None, Some, codes, decimal, fold, flat_map, option_to_list, list_all, flat_map-append, NameId, Token, Newline, Defs, Name, Stored, joined, stands, uses, use_of, ends_below, expand, name_text, put, text_for, last_is, sep, Setting, begin_line, file, file_text, kept, last_of, left_after, macro_line, macro_lines, mark_line, file_name, macro_text, is_layout, print, print_after, printed, quoted, starts_line, stays_joined, Class, class_of, separator, ReplacesUses, is_text, is_joined, print_behind, is_whole_lines, and_parts}
 use Rattle.cweb_store.specs.Parts.{Mark}
 use Rattle.cweb_print.specs.declared.printer.class.Class.TheVariants as class
-use Rattle.cweb_out.proofs.Ranks.{all-append, all-parts, rank-grows, uses-weaker}
+use Rattle.cweb_plan.proofs.Ranks.{all-append, all-parts, rank-grows, uses-weaker}
 use Rattle.cweb_print.proofs.Steps.{sep_by_class}
 
 -- EXPANSION

@@ -1,6 +1,6 @@
 -- The owners of frames: the ranks of their lists, and what of them was given.
 use Rattle.cweb_out.proofs.Common.{◌≡◌, ◌≤◌, ◌<◌, ◌+◌, ◌-◌, ℕ, zero, suc, Bool, true, false, List, [], ◌∷◌, ◌++◌, refl, sym, ◌∙◌, ap, arith, append_assoc, subst, Option, Some, None, option_to_list, list_all, NameId, NameRef, Token, Name, Stored, names, use_of, uses, stands, joined, ends_below, least, list_ends, name_rank, root_list, Frame, suffix, rank, top_rank, AreBelow, AreOwned, IsOwned, UsesLower, and_parts}
-use Rattle.cweb_out.proofs.Ranks.{all-parts, grows-more}
+use Rattle.cweb_plan.proofs.Ranks.{all-parts, grows-more}
 
 least-le : (test : ℕ → Bool) (n k : ℕ) → test k ≡ true → least test n ≤ k
 least-le test zero k h = omega arith

@@ -1,28 +1,9 @@
 -- The top frame of a stack passes tokens that lend their texts.
-use Rattle.cweb_out.proofs.Common.{◌≡◌, ◌≤◌, ◌-◌, ◌++◌, ◌∷◌, [], ℕ, List, length, slice_range, false, refl, sym, ◌∙◌, ap, append_assoc, set, Token, all_tokens, Stored, names, uses, expand, name_text, defs_first, root_list, Frame, suffix, left, IsWithin, Stands, run_tokens, runs_tokens, AreLent}
-use Rattle.cweb_parts.proofs.RangeLemmas.{range-split}
+use Rattle.cweb_out.proofs.Common.{◌≡◌, ◌-◌, ◌++◌, ◌∷◌, [], ℕ, List, length, refl, sym, ◌∙◌, ap, append_assoc, set, Token, Stored, names, uses, expand, name_text, root_list, Frame, suffix, left, IsWithin, Stands, AreLent}
 use Rattle.cweb_out.proofs.Owners.{OnTop}
 use Rattle.cweb_out.proofs.Passing.{put-all-lent, uses-lent}
 use Rattle.cweb_out.proofs.Stack.{Stands-push, Top, left_of-push}
 use Rattle.cweb_out.proofs.Tops.{HasTop, lower, stands_lower, top_read, top_written}
-
--- the part goes on at a later token
-pub suffix-passed : (w : Stored) (f : Frame) (n : ℕ) → f.defs ≡ false → f.part.first ≤ n → n ≤ f.part.after
-    → suffix w f ≡ slice_range (all_tokens w.parts) f.part.first n
-    ++ suffix w (record {
-      owner = f.owner;
-      defs = f.defs;
-      part = record { first = n; after = f.part.after };
-      rest = f.rest;
-    })
-suffix-passed w f n none from upto =
-    let passed = slice_range (all_tokens w.parts) f.part.first n in
-    let still = slice_range (all_tokens w.parts) n f.part.after in
-    ap (λ b. defs_first b ++ (run_tokens w f.part ++ runs_tokens w f.rest)) none
-    ∙ ap (λ (ts : List Token). ts ++ runs_tokens w f.rest)
-    (range-split (all_tokens w.parts) f.part.first n f.part.after from upto)
-    ∙ append_assoc passed still (runs_tokens w f.rest)
-    ∙ ap (λ b. passed ++ (defs_first b ++ (still ++ runs_tokens w f.rest))) (sym none)
 
 Top-passed : {w : Stored} {k : ℕ} {fs : List Frame} {f g : Frame} (ts : List Token) → suffix w f ≡ ts ++ suffix w g
     → AreLent ts → IsWithin w g → Top w k fs f → Top w k fs g

@@ -1,27 +1,8 @@
 -- The definitions, computed on small webs.
-use Rattle.cweb_out.proofs.Common.{ℕ, ◌≡◌, refl, List, [], ◌∷◌, ◌++◌, Some, codes, true, false, Err, Full, PartKind, Unnamed, Named, Occurrence, id, Token, Word, Number, Punct, Blank, Newline, Join, Defs, Name, Head, Tail, Stored, program, ends_below, list_ends, first_endless, name_rank, cycle_from, expand, IsCycle, cycle, planned_ending, Setting, print, file}
+use Rattle.cweb_out.proofs.Common.{ℕ, ◌≡◌, refl, [], ◌∷◌, ◌++◌, codes, true, false, id, Token, Word, Number, Punct, Blank, Newline, Join, Defs, Head, Tail, program, expand, IsCycle, Setting, print, file}
 use Rattle.std.specs.Fmt.{digits}
-use Rattle.cweb_store.specs.Parts.{Part, Mark}
-
-abbrev full : List ℕ → Occurrence
-full text = record { text = text; how = Full; is_file = false }
-
-abbrev part : PartKind → List Token → Part
-part kind tokens = record { kind = kind; tokens = tokens }
-
-abbrev of : ℕ → PartKind
-of r = Named (record { 0 = r })
-
-abbrev use_ : ℕ → Token
-use_ r = Name (record { 0 = r })
-
--- A uses B, B uses A, and the program uses A
-abbrev two : Stored
-two = record {
-  occurrences = full (codes "A") ∷ full (codes "B") ∷ [];
-  parts = part Unnamed (use_ 0 ∷ []) ∷ part (of 0) (use_ 1 ∷ []) ∷ part (of 1) (use_ 0 ∷ []) ∷ [];
-  replacements = [];
-}
+use Rattle.cweb_plan.proofs.Rows.{two, twice}
+use Rattle.cweb_store.specs.Parts.{Mark}
 
 -- the law of refused cycles, where it says which names use which
 each_uses_the_other : IsCycle two (id 0 ∷ id 1 ∷ id 0 ∷ [])
@@ -29,15 +10,6 @@ each_uses_the_other = record { first = id 0; between = id 1 ∷ []; closed = ref
 
 a_name_that_does_not_use_itself_is_no_cycle : IsCycle two (id 0 ∷ id 0 ∷ []) → ⊥
 a_name_that_does_not_use_itself_is_no_cycle c = let used : false ≡ true = c.each.0 in cc
-
--- A and B use the next name twice, and so does the program; the last occurrence stands for a name without parts
-abbrev twice : Stored
-twice = record {
-  occurrences = full (codes "A") ∷ full (codes "B") ∷ full (codes "C") ∷ full (codes "D") ∷ [];
-  parts = part Unnamed (use_ 0 ∷ use_ 0 ∷ []) ∷ part (of 0) (use_ 1 ∷ use_ 1 ∷ [])
-      ∷ part (of 1) (use_ 2 ∷ use_ 2 ∷ []) ∷ part (of 2) (Punct (codes ";") ∷ use_ 3 ∷ []) ∷ [];
-  replacements = [];
-}
 
 abbrev semicolon : Token
 semicolon = Punct (codes ";")
@@ -57,15 +29,8 @@ with_macros = record plain {
 }
 
 record Computed : Type 0 where
-  two_names_that_use_each_other : cycle_from two (first_endless two (program two)) ≡ id 0 ∷ id 1 ∷ id 0 ∷ []
-  from_the_second : cycle_from two (Some (id 1)) ≡ id 1 ∷ id 0 ∷ id 1 ∷ []
-  the_plan_is_refused : planned_ending two (codes "a.c") ≡ Err (cycle (id 0 ∷ id 1 ∷ id 0 ∷ []))
   each_use_is_replaced : expand twice 4 (program twice)
       ≡ semicolon ∷ semicolon ∷ semicolon ∷ semicolon ∷ semicolon ∷ semicolon ∷ semicolon ∷ semicolon ∷ []
-  a_name_used_twice_is_no_cycle : list_ends twice (program twice) ≡ true
-  the_rank_of_the_first_is_three : name_rank twice (id 0) ≡ 3
-  it_is_not_below_three : ends_below twice 3 (id 0) ≡ false
-  the_rank_of_the_first_is_below_four : ends_below twice 4 (id 0) ≡ true
   a_section_comment_stays_after_a_join : print plain (Punct (codes "/") ∷ Join ∷ Head 2 ∷ at 3 ∷ Word (codes "b") ∷ [])
       ≡ codes "/ /*2:*/b"
   operators_and_numbers_stay_apart : file plain (Head 1 ∷ at 1 ∷ Newline ∷ Word (codes "x") ∷ Punct

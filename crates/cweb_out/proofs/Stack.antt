@@ -1,6 +1,6 @@
 -- What a stack gives, and its bounds, as a frame is put on top and taken away.
 use Rattle.cweb_out.proofs.Common.{◌≡◌, ◌≤◌, ◌<◌, ◌+◌, ◌-◌, ℕ, zero, suc, [], ◌∷◌, ◌++◌, List, length, refl, sym, ◌∙◌, ap, arith, append_assoc, append-nil, length-append, true, subst, sum_by, list_all, sum_by-cons, NameId, Token, Stored, names, use_of, uses, joined, ends_below, expand, name_text, put, Frame, suffix, left_of, work_of, list_work, AreOwned, AreRanked, AreBelow, IsWithin, Stands, UsesLower, Advances, left, level, name_work, token_work}
-use Rattle.cweb_out.proofs.Ranks.{all-parts}
+use Rattle.cweb_plan.proofs.Ranks.{all-parts}
 use Rattle.cweb_out.proofs.Owners.{OnTop, AreOwned-pop, AreOwned-push}
 
 pub left_of-push : (w : Stored) (k : ℕ) (fs : List Frame) (f : Frame)

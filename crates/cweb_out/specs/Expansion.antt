@@ -3,7 +3,7 @@ use Rattle.std.specs.Prelude.{ℕ, suc, zero, List, [], ◌∷◌, Option, None,
 use Rattle.cweb_names.specs.declared.name.NameId.{NameId}
 use Rattle.cweb_store.specs.Parts.{Token, Name}
 use Rattle.cweb_store.specs.Calls.{Stored}
-use Rattle.cweb_out.specs.Uses.{joined, stands}
+use Rattle.cweb_plan.specs.Uses.{joined, stands}
 
 abbrev pub text_for : (NameId → List Token) → Option NameId → List Token
 text_for text None = []

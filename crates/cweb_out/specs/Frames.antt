@@ -1,29 +1,16 @@
 -- What a stack of frames still has to give.
-use Rattle.std.specs.Prelude.{ℕ, ◌≤◌, ◌<◌, ◌≡◌, ◌+◌, ◌-◌, suc, zero, List, [], ◌∷◌, ◌++◌, true, All, Option, Some, None, length, sum_by}
+use Rattle.std.specs.Prelude.{ℕ, ◌≤◌, ◌<◌, ◌≡◌, ◌+◌, ◌-◌, suc, zero, List, [], ◌∷◌, ◌++◌, true, Option, Some, None, length, sum_by}
 use Rattle.std.specs.List.{list_all}
 use Rattle.cweb_names.specs.declared.name.NameId.{NameId}
 use Rattle.cweb_names.specs.declared.name.NameRef.{NameRef}
-use Rattle.cweb_parts.specs.declared.parts.Part.{Part}
-use Rattle.cweb_store.specs.Parts.{Token, Name, all_tokens}
+use Rattle.cweb_store.specs.Parts.{Token, Name}
 use Rattle.cweb_store.specs.Calls.{Stored}
-use Rattle.cweb_print.specs.Runs.{run_tokens, runs_tokens}
-use Rattle.cweb_out.specs.Uses.{names, joined, uses, use_of, stands}
-use Rattle.cweb_out.specs.Ranks.{ends_below, list_ends, name_rank}
+use Rattle.cweb_plan.specs.Uses.{names, joined, uses, use_of, stands}
+use Rattle.cweb_plan.specs.Ranks.{ends_below, list_ends, name_rank}
 use Rattle.cweb_out.specs.Expansion.{expand, name_text, put}
-use Rattle.cweb_out.specs.Outputs.{defs_first, root_list}
-use Rattle.cweb_out.specs.declared.expander.frame.Frame.{Frame}
-
--- what is still to come of the owner's list
-abbrev pub suffix : Stored → Frame → List Token
-suffix w f = defs_first f.defs ++ (run_tokens w f.part ++ runs_tokens w f.rest)
-
-abbrev pub IsRun : ℕ → Part → Type 0
-IsRun n part = part.after ≤ n
-
--- the frame's runs lie within the tokens
-pub record IsWithin (w : Stored) (f : Frame) : Type 0 where
-  pub part : IsRun (length (all_tokens w.parts)) f.part
-  pub rest : All (IsRun (length (all_tokens w.parts))) f.rest
+use Rattle.cweb_plan.specs.Outputs.{root_list}
+use Rattle.cweb_plan.specs.Frames.{IsWithin, suffix}
+use Rattle.cweb_plan.specs.declared.frame.Frame.{Frame}
 
 -- the suffixes, the top frame's first, each expanded, joined; the bottom frame comes first in the list, and is expanded k deep
 abbrev pub left_of : Stored → ℕ → List Frame → List Token

@@ -6,10 +6,10 @@ use Rattle.cweb_names.specs.declared.name.NameRef.{NameRef}
 use Rattle.cweb_store.specs.Names.{is_id}
 use Rattle.cweb_store.specs.Parts.{Token, Name}
 use Rattle.cweb_store.specs.Calls.{Stored}
-use Rattle.cweb_out.specs.Uses.{joined, stands, uses}
-use Rattle.cweb_out.specs.Ranks.{ends_below}
+use Rattle.cweb_plan.specs.Uses.{joined, stands, uses}
+use Rattle.cweb_plan.specs.Ranks.{ends_below}
 use Rattle.cweb_out.specs.Expansion.{expand}
-use Rattle.cweb_out.specs.Outputs.{cycle, planned}
+use Rattle.cweb_plan.specs.Outputs.{cycle, planned}
 use Rattle.cweb_print.specs.Spacing.{last_is}
 use Rattle.cweb_print.specs.Printing.{Setting, file, file_text, kept, left_after, print, print_after, stays_joined}
 

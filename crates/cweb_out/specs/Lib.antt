@@ -1,10 +1,8 @@
-pub mod Uses
-pub mod Ranks
+pub use Rattle.cweb_plan.specs.Uses
+pub use Rattle.cweb_plan.specs.Ranks
 pub mod Expansion
-pub mod Cycles
-pub mod Outputs
-pub mod Plans
+pub use Rattle.cweb_plan.specs.Cycles
+pub use Rattle.cweb_plan.specs.Outputs
 pub mod Frames
-pub mod Search
-pub mod Planning
+pub use Rattle.cweb_plan.specs.Planning
 pub mod Laws

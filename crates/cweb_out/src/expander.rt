@@ -2,16 +2,14 @@
 ghost use Rattle.std.specs.Prelude.{◌≡◌, ◌≤◌, ◌<◌, ◌+◌, ◌++◌, ◌∷◌, [], None, Some, length, IfOk, IfSome, option_map, vec_capacity};
 ghost use Rattle.cweb_store.specs.Seen.{seen};
 ghost use Rattle.cweb_store.specs.Parts.{Name};
-ghost use Rattle.cweb_out.specs.Uses.{names, use_of};
+ghost use Rattle.cweb_plan.specs.Uses.{names, use_of};
 ghost use Rattle.cweb_out.specs.Expansion.{expand};
-ghost use Rattle.cweb_out.specs.Outputs.{IsPlanOf, root_at, root_list};
+ghost use Rattle.cweb_plan.specs.Outputs.{IsPlanOf, root_at, root_list};
 ghost use Rattle.cweb_out.specs.Frames.{Advances, AreBelow, Enters, Gives, Stands, UsesLower, left, level};
 
-pub mod frame;
 pub mod gathering;
 
-use crate::expander::frame::Frame;
-use crate::planning::planned::Plan;
+use cweb_plan::{Frame, Plan};
 use cweb_store::{NameRef, Store, Token};
 use std::alloc::{AllocError, Global};
 

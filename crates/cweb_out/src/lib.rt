@@ -1,8 +1,5 @@
-//! The outputs of a web: which files there are, and the text of each with all names replaced.
+//! The outputs of a web: the text of each, all its names replaced.
 #![tactic(auto)]
-
-// which outputs there are
-mod planning;
 
 // the tokens of an output, its names replaced
 mod expander;
@@ -11,9 +8,6 @@ mod expander;
 pub mod laws;
 
 pub use cweb_bins::{BinFault, BinFile, Bins, MemoryBins};
+pub use cweb_plan::{Frame, Plan, PlanFault, plan};
 pub use cweb_print::{Gathered, Printer};
 pub use expander::Expander;
-pub use expander::frame::Frame;
-pub use planning::fault::PlanFault;
-pub use planning::plan;
-pub use planning::planned::Plan;

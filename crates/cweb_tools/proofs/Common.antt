@@ -69,8 +69,8 @@ pub use Rattle.cweb_print.specs.Printing.{Setting, file, print, print_after, fil
 pub use Rattle.cweb_print.specs.Spacing.{sep, are_apart, is_operator, last_is}
 pub use Rattle.cweb_out.specs.Uses.{joined, names, program, stands}
 pub use Rattle.cweb_out.specs.declared.expander.Expander.{Expander}
-pub use Rattle.cweb_out.specs.declared.planning.fault.PlanFault.{PlanFault}
-pub use Rattle.cweb_out.specs.declared.planning.fault.PlanFault.TheVariants.{Cycle, SameName, BadName}
+pub use Rattle.cweb_plan.specs.declared.fault.PlanFault.{PlanFault}
+pub use Rattle.cweb_plan.specs.declared.fault.PlanFault.TheVariants.{Cycle, SameName, BadName}
 pub use Rattle.cweb_print.specs.declared.printer.Printer.{Printer}
 pub use Rattle.cweb_rules.specs.Bytes.{first_is, is_one_of, is_digit, is_letter, is_word_byte, is_white}
 pub use Rattle.cweb_rules.specs.Follows.{is_quiet, after_word, after_number, joins_last, JoinsAll, begins_as}

@@ -1,7 +1,7 @@
 -- Plans that are refused, and those that are made.
 use Rattle.cweb_tools.proofs.Common.{◌≡◌, ℕ, List, refl, ap, subst, IfSome, Option, None, Some, Ok, Err, Stored, Planned, Refusal, bad_name, same_name, cycle, IsDue, PlanFault, Cycle, SameName, BadName, fault, line, plan_item, refusal_text, refused, plan_made, planning, planning_by, refusal_in}
 use Rattle.cweb_out.specs.Outputs as out
-use Rattle.cweb_out.specs.declared.planning.fault.PlanFault.TheVariants.{Memory}
+use Rattle.cweb_plan.specs.declared.fault.PlanFault.TheVariants.{Memory}
 
 pub each_some : {A : Type 0} (o : Option A) (P : A → Type 0) → ((x : A) → o ≡ Some x → P x) → IfSome o P
 each_some None P each = tt

@@ -4,8 +4,8 @@ use Rattle.cweb_lines.specs.Names.{names_of}
 use Rattle.cweb_scanner.specs.Seen.{seen}
 use Rattle.cweb_scan.specs.Scan.{IsBelow}
 use Rattle.cweb_out.specs.Outputs.{Refusal, bad_name, same_name, cycle}
-use Rattle.cweb_out.specs.declared.planning.fault.PlanFault.{PlanFault}
-use Rattle.cweb_out.specs.declared.planning.fault.PlanFault.TheVariants as fault
+use Rattle.cweb_plan.specs.declared.fault.PlanFault.{PlanFault}
+use Rattle.cweb_plan.specs.declared.fault.PlanFault.TheVariants as fault
 use Rattle.cweb_log.specs.Items.{Item}
 use Rattle.cweb_tools.specs.Acts.{Act, says}
 use Rattle.cweb_tools.specs.Script as script

@@ -1,5 +1,5 @@
 use Rattle.cweb_out.proofs.Common.{◌≡◌, ◌∙◌, ◌++◌, ◌-◌, ap, arith, refl, sym, vec_capacity, List, vec_len, slice_set, take-set, Stored, Token, Name}
-use Rattle.cweb_out.proofs.Gathers.{front_more, front_of}
+use Rattle.cweb_plan.proofs.Gathers.{front_more, front_of}
 use Rattle.cweb_out.proofs.Leaving.{TopGone, TopUsed, top_gone, top_used}
 use Rattle.cweb_out.proofs.Passes.{TopPassed, top_passed}
 use Rattle.cweb_out.proofs.Tops.{HasTop, lower, stands_lower}

@@ -1,0 +1,15 @@
+pub mod Common
+pub mod Rows
+pub mod Suffixes
+pub mod FirstUses
+pub mod Gathers
+pub mod Ranks
+pub mod Lookings
+pub mod Paths
+pub mod Waits
+pub mod Circles
+pub mod Walks
+pub mod Searches
+pub mod Finds
+pub mod FileNames
+pub mod PlanLemmas

@@ -1,0 +1,13 @@
+use Rattle.cweb_plan.proofs.Common.{◌≡◌, None, sum_by, Begins, Chain, Fits, marks_left}
+use Rattle.cweb_plan.proofs.search.Search.settle.Given as goal
+
+abbrev pub invariant-names : goal.invariant-names
+invariant-names l = record {
+  store : l.self.store ≡ l.fn.self.store;
+  fits : Fits l.fn.self.store.now l.self.marks.items l.self.waiting.items;
+  chain : Chain l.fn.self.store.now l.self.waiting.items None;
+  begins : Begins l.fn.self.store.now l.self.waiting.items l.fn.name;
+}
+
+abbrev pub decreases-names : goal.decreases-names
+decreases-names l = sum_by marks_left l.self.marks.items
