@@ -112,8 +112,8 @@ pub use Rattle.cweb_scanner.specs.State.{State, leave, before_text, give, drop_d
 pub use Rattle.cweb_scanner.specs.State.{with_name, begin_section, part_tokens, tokens_of, end_macro_in, leave_in}
 pub use Rattle.cweb_scanner.specs.State.{fault_at, begin_part, end_part}
 pub use Rattle.cweb_scanner.specs.Turned.{Passes, TakesTurn, to_do}
-pub use Rattle.cweb_scanner.specs.declared.scanner.quote.Quote.{Quote}
-pub use Rattle.cweb_scanner.specs.declared.scanner.quote.Quote.TheVariants.{Single, Double}
+pub use Rattle.cweb_spelling.specs.declared.quote.Quote.{Quote}
+pub use Rattle.cweb_spelling.specs.declared.quote.Quote.TheVariants.{Single, Double}
 pub use Rattle.cweb_store.specs.Calls.{finished, with_dropped, with_occurrence, too_many, with_open}
 pub use Rattle.cweb_store.specs.Growing.{PartsSoFar, all_parts, opened, pushed, longer, dropped, all_closed}
 pub use Rattle.cweb_store.specs.Layout.{before_last, without_last, without_blank, without_layout, first_kept}

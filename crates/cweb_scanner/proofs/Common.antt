@@ -1,14 +1,12 @@
 -- The names that the proofs of this crate cite, passed on from one place. Declares nothing.
 pub use Rattle.std.proofs.Common.{◌≡◌, ◌≤◌, ℕ, ◌+◌, Bool, true, false, ◌==◌, List, [], ◌∷◌, ◌++◌, length, drop, refl}
 pub use Rattle.std.proofs.Common.{ap, sym, ◌∙◌, subst, arith, ◌&&◌, not, Option, Some, take, None, length-append, zero}
-pub use Rattle.std.proofs.Common.{suc, ◌-◌, ◌<◌, replicate, slice_index_or, ◌||◌, ◌*◌, append_assoc, min, append-nil}
-pub use Rattle.std.proofs.Common.{rules, OnOk}
+pub use Rattle.std.proofs.Common.{suc, ◌-◌, ◌<◌, slice_index_or, ◌||◌, ◌*◌, append_assoc, append-nil, rules, OnOk}
 pub use Rattle.std.proofs.Math.Bool.{and-false}
-pub use Rattle.std.proofs.lemmas.Bool.{eqb-true, ne_eqb, and_parts, or_parts, not-false}
+pub use Rattle.std.proofs.lemmas.Bool.{eqb-true, ne_eqb, or_parts, not-false}
 pub use Rattle.std.proofs.lemmas.Bool.Decides.{nat_tests}
 pub use Rattle.std.proofs.lemmas.Grind.{flat_map-append, common_steps}
 pub use Rattle.std.proofs.lemmas.List.{length-drop, length-take, take-append-le, drop-append-le, length-take-le}
-pub use Rattle.std.proofs.lemmas.List.{drop_min}
 pub use Rattle.std.proofs.lemmas.List.Sums.{fold-append}
 pub use Rattle.std.specs.Fmt.{decimal}
 pub use Rattle.std.specs.List.{prefix_len, flat_map, fold}
@@ -48,19 +46,12 @@ pub use Rattle.cweb_scanner.specs.After.{comment_line_end, comment, control_text
 pub use Rattle.cweb_scanner.specs.After.{stays_in_head, enter, item, after, name_fault, occurrence, verbatim}
 pub use Rattle.cweb_scanner.specs.After.{line_end_token, line_end_in, code, letter, constant, define, use_name}
 pub use Rattle.cweb_scanner.specs.After.{open_name, name_in}
-pub use Rattle.cweb_scanner.specs.Directives.{directive, directive_of, in_directive, is_c, is_punct, is_some}
-pub use Rattle.cweb_scanner.specs.Directives.{names_include, some_include, directive_tokens, ends_line, with_next}
-pub use Rattle.cweb_scanner.specs.Directives.{is_bare, is_include}
-pub use Rattle.cweb_scanner.specs.Fronted.{Gives, is_head, ended_as, is_skipped, unit_state, with_front, IsPast}
+pub use Rattle.cweb_scanner.specs.Directives.{directive, in_directive, is_c, names_include}
+pub use Rattle.cweb_scanner.specs.Fronted.{Gives, is_head, ended_as, unit_state, with_front, IsPast}
 pub use Rattle.cweb_scanner.specs.Held.{Held, Takes, goes_on}
-pub use Rattle.cweb_scanner.specs.Kept.{further, goes_over, has_part, is_blank_token, is_further_stage}
-pub use Rattle.cweb_scanner.specs.Kept.{is_include_stage, is_include_word, is_line_end, is_outside, stage_of, step}
-pub use Rattle.cweb_scanner.specs.Kept.{IsTied, last_of, next_stage, outside, last_seen, seen_directive, is_backslash}
-pub use Rattle.cweb_scanner.specs.Kept.{is_bare_stage, after_tokens}
-pub use Rattle.cweb_scanner.specs.Names.{is_squeezed, is_squeezed_after, squeezed, squeezed_after, occurrence_in, given}
-pub use Rattle.cweb_scanner.specs.Plain.{past_blank, IsPlainC, TakesPlain, in_directive_text, IsPlainToken, plain_by}
-pub use Rattle.cweb_scanner.specs.Plain.{is_kept_back, is_alone, is_figure, is_less, is_quote, taken_size}
-pub use Rattle.cweb_scanner.specs.Quotes.{quote_byte}
+pub use Rattle.cweb_scanner.specs.Kept.{has_part, IsTied}
+pub use Rattle.cweb_scanner.specs.Names.{occurrence_in, given}
+pub use Rattle.cweb_scanner.specs.Plain.{IsPlainC, TakesPlain, in_directive_text, IsPlainToken, taken_size}
 pub use Rattle.cweb_scanner.specs.Resume.{Between}
 pub use Rattle.cweb_scanner.specs.Room.{weight, HasRoom, HasPartRoom}
 pub use Rattle.cweb_scanner.specs.Ruled.{ends_macro_line}
@@ -68,13 +59,19 @@ pub use Rattle.cweb_scanner.specs.Run.{front_of, pieces, pieces_in, run}
 pub use Rattle.cweb_scanner.specs.State.{State, give, tokens_of, moved, fault, drop_definition, end_macro_in, end_macro}
 pub use Rattle.cweb_scanner.specs.State.{with_name, begin_part, end_part, leave_in, begin_section}
 pub use Rattle.cweb_scanner.specs.Turned.{Passes}
-pub use Rattle.cweb_scanner.specs.WholeLiterals.{ClosesAt, IsGoing}
-pub use Rattle.cweb_scanner.specs.declared.scanner.directive.Directive.{Directive}
-pub use Rattle.cweb_scanner.specs.declared.scanner.directive.Last.TheVariants.{Other}
-pub use Rattle.cweb_scanner.specs.declared.scanner.directive.Stage.{Stage}
-pub use Rattle.cweb_scanner.specs.declared.scanner.directive.Stage.TheVariants.{Outside, Bare, Include, Further}
-pub use Rattle.cweb_scanner.specs.declared.scanner.plain.Plain.{Plain}
-pub use Rattle.cweb_scanner.specs.declared.scanner.plain.Plain.TheVariants.{Sign, Operator, Digit, Quote, Stop}
+pub use Rattle.cweb_spelling.specs.Directives.{directive_of, is_punct, is_some, some_include, directive_tokens}
+pub use Rattle.cweb_spelling.specs.Directives.{ends_line, with_next}
+pub use Rattle.cweb_spelling.specs.Firsts.{past_blank, plain_by, is_kept_back, is_alone, is_figure, is_less, is_quote}
+pub use Rattle.cweb_spelling.specs.Names.{squeezed, squeezed_after}
+pub use Rattle.cweb_spelling.specs.Skipped.{is_skipped}
+pub use Rattle.cweb_spelling.specs.Stages.{further, goes_over, is_blank_token, is_further_stage, is_include_stage}
+pub use Rattle.cweb_spelling.specs.Stages.{is_include_word, is_line_end, is_outside, stage_of, step, last_of}
+pub use Rattle.cweb_spelling.specs.Stages.{next_stage, outside, after_tokens}
+pub use Rattle.cweb_spelling.specs.declared.directive.Directive.{Directive}
+pub use Rattle.cweb_spelling.specs.declared.directive.Last.TheVariants.{Other}
+pub use Rattle.cweb_spelling.specs.declared.directive.Stage.{Stage}
+pub use Rattle.cweb_spelling.specs.declared.directive.Stage.TheVariants.{Outside, Bare, Include, Further}
+pub use Rattle.cweb_spelling.specs.declared.firsts.Plain.{Plain}
 pub use Rattle.cweb_store.specs.Calls.{with_open, with_dropped, with_occurrence, Contents}
 pub use Rattle.cweb_store.specs.Growing.{longer, PartsSoFar, dropped, token_count, opened, pushed, part_count}
 pub use Rattle.cweb_store.specs.Layout.{is_layout, before_last, without_last, without_layout, first_kept}

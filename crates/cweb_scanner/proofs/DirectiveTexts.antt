@@ -1,9 +1,10 @@
 -- The text of a directive that has come too far for an included name: what is told of it, and what its pieces make.
 use Rattle.cweb_scanner.proofs.Common.{◌≡◌, ◌≤◌, ℕ, Bool, true, false, ◌&&◌, not, List, Option, Some, length, take, refl, ap, sym, ◌∙◌, subst, if◌then◌else◌, codes, option_map, prefix_len, longer, Token, Punct, Part, is_blank, IsLine, c_rule, listed, longest, Context, CText, Rule, blank, punctuator, directive, directive_of, in_directive, is_c, is_punct, is_some, names_include, further, goes_over, has_part, is_blank_token, is_further_stage, is_include_stage, is_include_word, is_line_end, is_outside, stage_of, step, IsTied, in_directive_text, IsPlainToken, TakesPlain, State, give, tokens_of, Directive, Stage, Outside, Bare, Include, Further, and-false}
 use Rattle.cweb_rules.specs.declared.rule.Rule.TheVariants as rule
-use Rattle.cweb_scanner.specs.declared.scanner.directive.Last.TheVariants as last
+use Rattle.cweb_spelling.specs.declared.directive.Last.TheVariants as last
 use Rattle.cweb_scanner.proofs.Plains.{rule_at, turn}
-use Rattle.cweb_scanner.proofs.TiedSteps.{include-seen, outside-seen, tied_given}
+use Rattle.cweb_spelling.proofs.Steps.{include-seen, outside-seen}
+use Rattle.cweb_scanner.proofs.TiedSteps.{tied_given}
 
 -- WHAT IS TOLD
 

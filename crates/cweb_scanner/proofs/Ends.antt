@@ -3,16 +3,10 @@ use Rattle.cweb_scanner.proofs.Common.{◌≡◌, ℕ, zero, suc, ◌+◌, ◌-�
 use Rattle.cweb_rules.specs.Bytes.{is_line_end}
 use Rattle.cweb_rules.proofs.Reaches.{IsEnd}
 use Rattle.cweb_rules.proofs.Looks.{IsWithin, AllWithin, control-units, comment-units}
+pub use Rattle.cweb_spelling.proofs.Walks.{at_front}
 
 abbrev pub at_end : End → Reach → Reach
 at_end e r = record { units = r.units; close = r.close; how = ended_as e r.how }
-
-abbrev pub at_front : (List ℕ → Look) → Look → List ℕ → End → List ℕ → Reach
-at_front look v u e t =
-    elim v [
-      | Goes n ↦ with_unit (take n u) (reach_in look e (n - 1) t)
-      | Ends n how ↦ record { units = []; close = n; how = how }
-    ]
 
 ended_same : (e how : End) → IsEnd how → how ≡ ended_as e how
 ended_same e Open h = absurd h

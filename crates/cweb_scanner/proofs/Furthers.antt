@@ -3,7 +3,7 @@ use Rattle.cweb_scanner.proofs.Common.{◌≡◌, ◌≤◌, ℕ, zero, suc, ◌
 use Rattle.cweb_rules.specs.declared.rule.Rule.TheVariants as rule
 use Rattle.cweb_rules.proofs.Looks.{comment-units}
 use Rattle.cweb_scanner.specs.Directives.{is_blank}
-use Rattle.cweb_scanner.specs.declared.scanner.directive.Last.TheVariants as last
+use Rattle.cweb_spelling.specs.declared.directive.Last.TheVariants as last
 use Rattle.cweb_scanner.proofs.CodeTurns.{closed_at}
 use Rattle.cweb_scanner.proofs.Ends.{how-at_end, line_comment_gives, none_to_come, size-at_end}
 use Rattle.cweb_scanner.proofs.Plains.{none_open, rule_at, turn}

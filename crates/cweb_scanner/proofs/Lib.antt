@@ -1,8 +1,6 @@
 pub mod Common
-pub mod Steps
 pub mod TiedSteps
 pub mod Rooms
-pub mod Spelling
 pub mod Fairs
 pub mod Pieces
 pub mod OpenItems
@@ -14,16 +12,13 @@ pub mod PieceMoves
 pub mod Weights
 pub mod Turns
 pub mod Ends
-pub mod Walks
 pub mod Rests
 pub mod Texts
 pub mod CodeTurns
 pub mod RuleTurns
 pub mod PlainFirsts
-pub mod FirstTable
 pub mod Plains
 pub mod PlainTurns
-pub mod WholeLiterals
 pub mod Blanks
 pub mod Furthers
 pub mod FurtherLiterals

@@ -3,7 +3,7 @@ use Rattle.cweb_scanner.proofs.Turns.{told_if}
 use Rattle.cweb_scanner.proofs.Common.{◌≡◌, ◌≤◌, ℕ, Bool, true, false, ◌||◌, ◌==◌, List, [], ◌∷◌, length, take, slice_index_or, refl, ap, sym, ◌∙◌, subst, arith, if◌then◌else◌, codes, eqb-true, Punct, first_is, is_blank, is_one_of, is_word_byte, c_rule, is_settled, listed, longest, is_alone, is_figure, is_kept_back, is_less, is_quote, plain_by, IsPlainToken, Plain}
 use Rattle.cweb_rules.specs.declared.rule.Rule.TheVariants as rule
 use Rattle.cweb_rules.proofs.FirstBytes.{if_true, settled-rule}
-use Rattle.cweb_scanner.specs.declared.scanner.plain.Plain.TheVariants as plain
+use Rattle.cweb_spelling.specs.declared.firsts.Plain.TheVariants as plain
 
 -- FIRST BYTES
 

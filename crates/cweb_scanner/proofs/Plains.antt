@@ -2,11 +2,12 @@
 use Rattle.cweb_scanner.proofs.Common.{◌≡◌, ◌≤◌, ℕ, true, false, ◌&&◌, not, List, [], ◌∷◌, Option, Some, None, length, take, refl, ap, sym, ◌∙◌, subst, if◌then◌else◌, codes, option_map, prefix_len, fold-append, longer, Token, Word, Punct, Blank, Newline, Part, is_blank, is_word_byte, in_c, IsLine, c_rule, c_front_by, Context, CText, Rule, punctuator, directive, directive_of, directive_tokens, ends_line, is_c, is_punct, is_some, names_include, with_next, Gives, is_head, further, goes_over, has_part, is_line_end, is_outside, last_of, next_stage, outside, step, IsTied, IsPlainC, IsPlainToken, TakesPlain, ends_macro_line, State, give, tokens_of, Directive, Stage, Outside, Bare, not-false}
 use Rattle.cweb_rules.specs.declared.rule.Rule.TheVariants as rule
 use Rattle.cweb_scanner.specs.Directives as spec
-use Rattle.cweb_scanner.specs.declared.scanner.directive.Last.TheVariants as last
+use Rattle.cweb_spelling.specs.declared.directive.Last.TheVariants as last
 use Rattle.cweb_scanner.proofs.CodeTurns.{closed_at}
 use Rattle.cweb_scanner.proofs.PlainFirsts.{IsSign}
 use Rattle.cweb_scanner.proofs.RuleTurns.{closes, rule_closed}
-use Rattle.cweb_scanner.proofs.TiedSteps.{outside-seen, tied_given}
+use Rattle.cweb_spelling.proofs.Steps.{outside-seen}
+use Rattle.cweb_scanner.proofs.TiedSteps.{tied_given}
 use Rattle.cweb_scanner.proofs.Turns.{between}
 
 -- DIRECTIVES

@@ -1,6 +1,6 @@
--- What is tied to the tokens of the part that is open: the layout that is last, and included names.
-use Rattle.cweb_scanner.proofs.Common.{◌≡◌, Bool, true, false, not, List, [], ◌∷◌, ◌++◌, Option, Some, None, refl, ap, sym, ◌∙◌, take, drop, option_map, if◌then◌else◌, Token, Word, Number, Literal, Verbatim, Punct, Blank, Newline, Join, Defs, Name, Head, Tail, Mark, Part, longer, Bare, Include, Further, Directive, Context, is_bare, is_include, is_some, some_include, stage_of, is_outside, is_include_stage, step, after_tokens, has_part, IsTied, is_macro, is_layout, before_last, without_last, without_layout}
-use Rattle.cweb_scanner.proofs.Steps.{not_outside, directive-pushed}
+-- What is tied to the tokens of the part that is open: the layout that is last.
+use Rattle.cweb_scanner.proofs.Common.{◌≡◌, true, false, List, [], ◌∷◌, ◌++◌, Option, Some, None, refl, ap, sym, ◌∙◌, take, drop, option_map, if◌then◌else◌, Token, Part, longer, Directive, Context, step, after_tokens, has_part, IsTied, is_macro, is_layout, before_last, without_last, without_layout}
+use Rattle.cweb_spelling.proofs.Steps.{directive-pushed}
 
 -- LAYOUT THAT IS LAST
 
@@ -72,35 +72,3 @@ tied_dropped d l c (Some p) tied = record {
   solid_is = λ e. tied.solid_is e ∙ ap after_tokens
       (sym (last_twice p.tokens) ∙ ap (without_last is_layout) (sym (dropped_tokens p (tied.is_no_macro e))));
 }
-
--- INCLUDED NAMES
-
-bare_includes : (ts : List Token) → is_bare ts ≡ true → is_include ts ≡ false
-bare_includes [] h = refl
-bare_includes (Blank ∷ ts) h = bare_includes ts h
-bare_includes (Word b ∷ ts) h = cc
-bare_includes (Number b ∷ ts) h = refl
-bare_includes (Literal b ∷ ts) h = refl
-bare_includes (Verbatim b ∷ ts) h = refl
-bare_includes (Punct b ∷ ts) h = refl
-bare_includes (Newline ∷ ts) h = refl
-bare_includes (Join ∷ ts) h = refl
-bare_includes (Defs ∷ ts) h = refl
-bare_includes (Name n ∷ ts) h = refl
-bare_includes (Head n ∷ ts) h = refl
-bare_includes (Tail n ∷ ts) h = refl
-bare_includes (Mark p ∷ ts) h = refl
-
-include_when : (a b : Bool) → (a ≡ true → b ≡ false)
-    → is_include_stage (if a then Bare else (if b then Include else Further)) ≡ b
-include_when true b h = sym (h refl)
-include_when false true h = refl
-include_when false false h = refl
-
-pub include-seen : (o : Option (List Token)) → is_include_stage (stage_of o) ≡ some_include o
-include-seen None = refl
-include-seen (Some ts) = include_when (is_bare ts) (is_include ts) (bare_includes ts)
-
-pub outside-seen : (o : Option (List Token)) → not (is_outside (stage_of o)) ≡ is_some o
-outside-seen None = refl
-outside-seen (Some ts) = ap not (not_outside (is_bare ts) (is_include ts))

@@ -1,5 +1,5 @@
 -- What each piece makes of the state before it.
-use Rattle.std.specs.Prelude.{ℕ, ◌+◌, Bool, true, false, ◌||◌, ◌&&◌, ◌==◌, not, List, [], ◌∷◌, length, codes, if◌then◌else◌, bytes_eq, Option, Some, None}
+use Rattle.std.specs.Prelude.{ℕ, Bool, true, false, ◌||◌, ◌&&◌, not, List, [], ◌∷◌, length, codes, if◌then◌else◌, bytes_eq, Option, Some, None}
 use Rattle.std.specs.List.{fold}
 use Rattle.std.specs.Fmt.{decimal}
 use Rattle.cweb_files.specs.declared.place.Place.{Place}
@@ -12,6 +12,7 @@ use Rattle.cweb_rules.specs.Bytes.{is_line_end}
 use Rattle.cweb_rules.specs.declared.effect.Effect.{Effect}
 use Rattle.cweb_rules.specs.declared.effect.Effect.TheVariants.{Nothing, Define, Format, Program, Named, InsertDefs, Joins, GiveAt, Faulty}
 use Rattle.cweb_rules.specs.declared.effect.Effect.TheVariants as effect
+pub use Rattle.cweb_spelling.specs.Lines.{follows}
 use Rattle.cweb_scanner.specs.Directives.{in_directive, directive, is_punct, is_blank}
 use Rattle.cweb_rules.specs.declared.end.End.{End}
 use Rattle.cweb_rules.specs.declared.end.End.TheVariants.{Closed, Cut, Nested, Open}
@@ -24,9 +25,6 @@ use Rattle.cweb_rules.specs.declared.context.Context.{Context}
 use Rattle.cweb_rules.specs.declared.context.Context.TheVariants.{Limbo, TeX, Definition, Macro, CText}
 
 -- LINE ENDS
-
-abbrev pub follows : Place → Place → Bool
-follows p q = (p.file.0 == q.file.0) && (p.line + 1 == q.line)
 
 -- what a line end before a line at a place gives in a C part
 abbrev pub line_end_token : Place → State → Token

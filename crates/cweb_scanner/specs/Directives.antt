@@ -1,77 +1,19 @@
--- Directives of C text: which tokens of a part are one.
-use Rattle.std.specs.Prelude.{ℕ, Bool, true, false, ◌&&◌, not, List, [], ◌∷◌, Option, Some, None, codes, if◌then◌else◌, bytes_eq}
-use Rattle.std.specs.List.{fold}
-use Rattle.cweb_store.specs.Parts.{Token, Word, Punct, Blank, Newline, Mark}
+-- Directives of C text: the one that is open in a state.
+use Rattle.std.specs.Prelude.{Bool, true, false, ◌&&◌}
 use Rattle.cweb_rules.specs.declared.context.Context.{Context}
 use Rattle.cweb_rules.specs.declared.context.Context.TheVariants.{Limbo, TeX, Definition, Macro, CText}
+pub use Rattle.cweb_spelling.specs.Directives.{Directive, ends_line, is_punct, is_blank, directive_tokens, with_next, directive_of, is_some, some_include}
 use Rattle.cweb_scanner.specs.State.{State, part_tokens}
-
--- after some tokens of a part: the tokens after the `#` of the directive that is open, and the last token
-pub record Directive : Type 0 where
-  pub tokens : Option (List Token)
-  pub last : Option Token
-
-abbrev pub ends_line : Option Token → Bool
-ends_line None = false
-ends_line (Some Newline) = true
-ends_line (Some (Mark place)) = true
-ends_line (Some t) = false
-
-abbrev pub is_punct : List ℕ → Option Token → Bool
-is_punct bytes None = false
-is_punct bytes (Some (Punct b)) = bytes_eq b bytes
-is_punct bytes (Some t) = false
-
-abbrev pub is_blank : Option Token → Bool
-is_blank None = false
-is_blank (Some Blank) = true
-is_blank (Some t) = false
-
--- a directive goes on over a line end that stands right after a `\`: a Newline, but no Mark
-abbrev pub goes_over : Option Token → Token → Bool
-goes_over last Newline = is_punct (codes "\\") last
-goes_over last t = false
-
--- A `#` right after a Newline or Mark begins one. A Mark ends it, and so does a Newline that isn't right after a `\`.
-abbrev pub directive_tokens : Option (List Token) → Option Token → Token → Option (List Token)
-directive_tokens None last t = if is_punct (codes "#") (Some t) && ends_line last then Some [] else None
-directive_tokens (Some ts) last t = if ends_line (Some t) && not (goes_over last t) then None else Some (t ∷ ts)
-
-abbrev pub with_next : Directive → Token → Directive
-with_next d t = record { tokens = directive_tokens d.tokens d.last t; last = Some t }
-
-abbrev pub directive_of : List Token → Directive
-directive_of ts = fold with_next (record { tokens = None; last = None }) ts
 
 -- the directive of a C part
 abbrev pub directive : State → Directive
 directive s = directive_of (part_tokens s)
-
-abbrev pub is_some : Option (List Token) → Bool
-is_some None = false
-is_some (Some ts) = true
 
 abbrev pub is_c : Context → Bool
 is_c c = elim c [ Limbo ↦ false | TeX ↦ false | Definition begun ↦ false | Macro ↦ false | CText ↦ true ]
 
 abbrev pub in_directive : State → Bool
 in_directive s = is_c s.context && is_some (directive s).tokens
-
-abbrev pub is_bare : List Token → Bool
-is_bare [] = true
-is_bare (Blank ∷ ts) = is_bare ts
-is_bare (t ∷ ts) = false
-
--- `include`, the last token first, with Blanks beside it
-abbrev pub is_include : List Token → Bool
-is_include [] = false
-is_include (Blank ∷ ts) = is_include ts
-is_include (Word b ∷ ts) = bytes_eq b (codes "include") && is_bare ts
-is_include (t ∷ ts) = false
-
-abbrev pub some_include : Option (List Token) → Bool
-some_include None = false
-some_include (Some ts) = is_include ts
 
 -- the directive's next item may be an included name
 abbrev pub names_include : State → Bool

@@ -1,5 +1,5 @@
 -- What the front of the rest of a line makes of a state, where its item ends in the line and no head is open.
-use Rattle.std.specs.Prelude.{◌≡◌, ℕ, Bool, true, false, not, ◌==◌, List, [], take, codes, bytes_eq, if◌then◌else◌}
+use Rattle.std.specs.Prelude.{◌≡◌, ℕ, Bool, true, false, not, List, [], take, codes, bytes_eq, if◌then◌else◌}
 use Rattle.cweb_rules.specs.Bytes.{begins, first_is, is_blank, is_line_end, starts_section}
 use Rattle.cweb_rules.specs.Codes.{in_limbo, in_text, in_macro, in_c}
 use Rattle.cweb_rules.specs.Kinds.{Front}
@@ -12,6 +12,7 @@ use Rattle.cweb_rules.specs.declared.end.End.TheVariants.{Closed, Cut, Nested, O
 use Rattle.cweb_rules.specs.declared.fault.ScanKind.TheVariants.{DoubleAtInString}
 use Rattle.cweb_rules.specs.declared.rule.Rule.{Rule}
 use Rattle.cweb_rules.specs.declared.rule.Rule.TheVariants as rule
+pub use Rattle.cweb_spelling.specs.Skipped.{is_skipped}
 use Rattle.cweb_scanner.specs.After.{item}
 use Rattle.cweb_scanner.specs.Directives.{is_c}
 use Rattle.cweb_scanner.specs.Kept.{has_part}
@@ -63,10 +64,6 @@ ends_in_line r = false
 
 abbrev pub is_head : Context → Bool
 is_head c = elim c [ Limbo ↦ false | TeX ↦ false | Definition begun ↦ true | Macro ↦ false | CText ↦ false ]
-
--- in limbo and text every byte but `@` is skipped
-abbrev pub is_skipped : ℕ → Bool
-is_skipped b = not (b == 64)
 
 -- C text, a macro and a head
 abbrev pub reads_c : Context → Bool

@@ -1,3 +1,4 @@
+pub use Rattle.cweb_spelling.specs.Quotes
 pub mod Names
 pub mod State
 pub mod Directives
@@ -8,10 +9,8 @@ pub mod Held
 pub mod Kept
 pub mod Room
 pub mod Fronted
-pub mod Quotes
 pub mod Ruled
 pub mod OpenRest
 pub mod Turned
 pub mod Plain
-pub mod WholeLiterals
 pub mod Seen

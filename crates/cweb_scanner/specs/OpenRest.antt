@@ -7,8 +7,8 @@ use Rattle.cweb_rules.specs.declared.look.Look.TheVariants.{Goes, Ends}
 use Rattle.cweb_scanner.specs.After.{literal}
 use Rattle.cweb_scanner.specs.Fronted.{unit_state}
 use Rattle.cweb_scanner.specs.Held.{Held, Takes}
-use Rattle.cweb_scanner.specs.Quotes.{quote_byte}
-use Rattle.cweb_scanner.specs.declared.scanner.quote.Quote.{Quote}
+use Rattle.cweb_spelling.specs.Quotes.{quote_byte}
+use Rattle.cweb_spelling.specs.declared.quote.Quote.{Quote}
 use Rattle.cweb_scanner.specs.Resume.{Item, Between, InComment, InName, InLiteral, AfterBackslash, InRaw}
 
 -- an item's text so far; a comment has none

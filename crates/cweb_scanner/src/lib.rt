@@ -5,8 +5,6 @@
 // what was made of the text so far, and the steps
 mod scanner;
 
+pub use cweb_spelling::{Quote, push_unit, skipped_len};
 pub use scanner::Scanner;
-pub use scanner::quote::Quote;
 pub use scanner::scanned::Scanned;
-pub use scanner::skipped::skipped_len;
-pub use scanner::units::push_unit;

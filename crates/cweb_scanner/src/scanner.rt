@@ -4,25 +4,20 @@ ghost use Rattle.cweb_store.specs.Layout as layout;
 ghost use Rattle.cweb_store.specs.Seen.{seen};
 
 pub mod codes;
-pub mod directive;
 pub mod directive_text;
 pub mod further;
 pub mod given;
 pub mod line_ends;
 pub mod names;
 pub mod plain;
-pub mod quote;
 pub mod rule;
 pub mod scanned;
 pub mod sections;
-pub mod skipped;
-pub mod spelling;
 pub mod units;
-pub mod whole_literals;
 
-use crate::scanner::directive::{Directive, Last, Stage};
 use cweb_files::Place;
 use cweb_rules::{Context, ScanFault, ScanKind};
+use cweb_spelling::{Directive, Last, Stage};
 use cweb_store::{Builder, Token};
 use std::alloc::{AllocError, Global};
 use std::marker::Model;

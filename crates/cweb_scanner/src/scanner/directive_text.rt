@@ -5,12 +5,12 @@ ghost use Rattle.cweb_store.specs.Seen.{seen};
 ghost use Rattle.cweb_scanner.specs.Plain.{in_directive_text, taken_size, IsPlainToken, TakesPlain};
 
 use crate::scanner::Scanner;
-use crate::scanner::directive::{Directive, Last, Stage};
-use crate::scanner::plain::{Plain, piece_of, plain_of};
+use crate::scanner::plain::piece_of;
 use cweb_rules::Context;
 use cweb_rules::bytes::{Class, begun_run_len};
 use cweb_rules::numbers::number_len;
 use cweb_rules::punctuators::punctuator_len;
+use cweb_spelling::{Directive, Last, Plain, Stage, plain_of};
 use cweb_store::Token;
 use std::alloc::AllocError;
 

@@ -1,12 +1,10 @@
 // Plain C text: the pieces that their first bytes don't tell, where they stand whole in their line and nothing is to be told.
 ghost use Rattle.std.specs.Prelude.{◌≡◌, ◌≤◌, ◌<◌, ◌+◌, IfOk, OnOk, false, length};
 ghost use Rattle.cweb_store.specs.Calls.{too_many};
-ghost use Rattle.cweb_scanner.specs.Plain.{is_kept_back, IsPlainC, TakesPlain};
+ghost use Rattle.cweb_scanner.specs.Plain.{IsPlainC, TakesPlain};
+ghost use Rattle.cweb_spelling.specs.Firsts.{is_kept_back};
 
 use crate::scanner::Scanner;
-use crate::scanner::quote::Quote;
-use crate::scanner::skipped::skipped_len;
-use crate::scanner::whole_literals::quoted_len;
 use cweb_rules::End;
 use cweb_rules::bytes::{Class, run_len};
 use cweb_rules::items::{Item, reach};
@@ -14,6 +12,7 @@ use cweb_rules::literals::literal_prefix;
 use cweb_rules::numbers::number_len;
 use cweb_rules::punctuators::punctuator_len;
 use cweb_rules::rule::{Rule, c_rule};
+use cweb_spelling::{Quote, quoted_len, skipped_len};
 use cweb_store::Token;
 use std::alloc::AllocError;
 

@@ -1,20 +1,12 @@
 // Line ends.
 ghost use Rattle.std.specs.Prelude.{◌≡◌, ◌<◌, ◌+◌, OnOk, true};
-ghost use Rattle.cweb_scanner.specs.After as after;
 
 use crate::scanner::Scanner;
-use crate::scanner::directive::Last;
 use cweb_files::Place;
 use cweb_rules::Context;
+use cweb_spelling::{Last, follows};
 use cweb_store::Token;
 use std::alloc::AllocError;
-
-// Whether a line is the next one of the same file.
-fn follows(here: Place, next: Place) -> bool
-    ensures { result ≡ after.follows here next }
-{
-    here.file.0 == next.file.0 && here.line < next.line && next.line - here.line == 1
-}
 
 impl Scanner {
     ghost use Rattle.cweb_store.specs.Calls.{too_many};

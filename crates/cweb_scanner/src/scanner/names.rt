@@ -2,9 +2,9 @@
 ghost use Rattle.std.specs.Prelude.{◌≡◌, IfOk, OnOk, if◌then◌else◌, length, false};
 
 use crate::scanner::Scanner;
-use crate::scanner::spelling::{is_prefix, is_squeezed, squeezed};
 use cweb_files::Place;
 use cweb_rules::{Context, End};
+use cweb_spelling::{is_prefix, is_squeezed, squeezed};
 use cweb_store::{How, NameRef};
 use std::alloc::AllocError;
 

@@ -2,70 +2,14 @@
 ghost use Rattle.std.specs.Prelude.{◌≡◌, ◌≤◌, ◌<◌, ◌+◌, ◌*◌, IfOk, IfSome, OnOk, OnErr, length};
 ghost use Rattle.cweb_store.specs.Calls.{too_many};
 ghost use Rattle.cweb_store.specs.Seen.{seen};
-ghost use Rattle.cweb_scanner.specs.Plain.{past_blank, plain_by, taken_size, IsPlainC, IsPlainToken, TakesPlain};
+ghost use Rattle.cweb_scanner.specs.Plain.{taken_size, IsPlainC, IsPlainToken, TakesPlain};
 
 use crate::scanner::Scanner;
-use crate::scanner::directive::Directive;
-use crate::scanner::plain::Plain::{Blank, Digit, Further, Operator, Quote, Sign, Stop, Word};
 use cweb_rules::Context;
 use cweb_rules::bytes::{Class, begun_run_len};
+use cweb_spelling::{Directive, Plain, past_blank, plain_of};
 use cweb_store::Token;
 use std::alloc::AllocError;
-
-// What a first byte tells of its piece.
-#[derive(Clone, Copy)]
-pub(crate) enum Plain {
-    Blank,
-    Word,
-    Sign,
-    Operator,
-    Digit,
-    Quote,
-    Further,
-    Stop,
-}
-
-// The same for each byte: one look a piece.
-static FIRSTS: [Plain; 256] = [
-    Operator, Operator, Operator, Operator, Operator, Operator, Operator, Operator, Operator,
-    Blank, Further, Blank, Blank, Blank, Operator, Operator, Operator, Operator, Operator,
-    Operator, Operator, Operator, Operator, Operator, Operator, Operator, Operator, Operator,
-    Operator, Operator, Operator, Operator, Blank, Operator, Quote, Stop, Word, Operator, Operator,
-    Quote, Sign, Sign, Operator, Operator, Sign, Operator, Further, Further, Digit, Digit, Digit,
-    Digit, Digit, Digit, Digit, Digit, Digit, Digit, Operator, Sign, Operator, Operator, Operator,
-    Sign, Stop, Word, Word, Word, Word, Word, Word, Word, Word, Word, Word, Word, Further, Word,
-    Word, Word, Word, Word, Further, Word, Word, Further, Word, Word, Word, Word, Word, Sign, Stop,
-    Sign, Operator, Word, Operator, Word, Word, Word, Word, Word, Word, Word, Word, Word, Word,
-    Word, Word, Word, Word, Word, Word, Word, Word, Word, Word, Further, Word, Word, Word, Word,
-    Word, Sign, Operator, Sign, Sign, Operator, Word, Word, Word, Word, Word, Word, Word, Word,
-    Word, Word, Word, Word, Word, Word, Word, Word, Word, Word, Word, Word, Word, Word, Word, Word,
-    Word, Word, Word, Word, Word, Word, Word, Word, Word, Word, Word, Word, Word, Word, Word, Word,
-    Word, Word, Word, Word, Word, Word, Word, Word, Word, Word, Word, Word, Word, Word, Word, Word,
-    Word, Word, Word, Word, Word, Word, Word, Word, Word, Word, Word, Word, Word, Word, Word, Word,
-    Word, Word, Word, Word, Word, Word, Word, Word, Word, Word, Word, Word, Word, Word, Word, Word,
-    Word, Word, Word, Word, Word, Word, Word, Word, Word, Word, Word, Word, Word, Word, Word, Word,
-    Word, Word, Word, Word, Word, Word, Word, Word, Word, Word, Word, Word, Word, Word, Word, Word,
-    Word, Word, Word, Word, Word, Word, Word, Word,
-];
-
-#[inline(always)]
-pub(crate) fn plain_of(byte: u8) -> Plain
-    ensures { result ≡ plain_by byte }
-{
-    FIRSTS[byte as usize]
-}
-
-// What stands behind a blank at the front of a text: most pieces have one blank before them, and it gives nothing.
-#[inline(always)]
-fn past_blank(text: &[u8]) -> &[u8]
-    requires { 1 ≤ length text.now }
-    ensures { result.now ≡ past_blank text.now }
-{
-    if text[0] == b' ' {
-        return text.split_at(1).1;
-    }
-    text
-}
 
 // A piece of no bytes is none.
 #[inline(always)]

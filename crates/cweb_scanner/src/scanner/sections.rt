@@ -2,9 +2,9 @@
 ghost use Rattle.std.specs.Prelude.{◌≡◌, ◌<◌, ◌+◌, OnOk, true, false};
 
 use crate::scanner::Scanner;
-use crate::scanner::directive::Directive;
 use cweb_files::Place;
 use cweb_rules::{Context, ScanKind};
+use cweb_spelling::Directive;
 use cweb_store::{PartKind, Token};
 use std::alloc::AllocError;
 

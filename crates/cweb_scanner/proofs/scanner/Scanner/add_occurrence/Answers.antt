@@ -1,5 +1,5 @@
 use Rattle.cweb_scanner.proofs.Common.{◌≡◌, List, ℕ, OnOk, sym, ◌∙◌, subst, given, with_name}
-use Rattle.cweb_scanner.proofs.Spelling.{squeezed_stays}
+use Rattle.cweb_spelling.proofs.Spelling.{squeezed_stays}
 use Rattle.cweb_scanner.proofs.scanner.Scanner.add_occurrence.Goals as goal
 
 pub returns-then-is_squeezed-clause-ok : goal.returns-then-is_squeezed-clause-ok

@@ -1,5 +1,5 @@
 use Rattle.cweb_scanner.proofs.Common.{sym, ap, subst, Contents, is_c, has_part, IsTied, IsPlainC}
-use Rattle.cweb_scanner.specs.declared.scanner.directive.Last.TheVariants.{LineEnd}
+use Rattle.cweb_spelling.specs.declared.directive.Last.TheVariants.{LineEnd}
 use Rattle.cweb_scanner.proofs.Plains.{none_open, tied_newline}
 use Rattle.cweb_scanner.proofs.scanner.Scanner.give_newline.Goals as goal
 

@@ -1,5 +1,5 @@
 use Rattle.cweb_scanner.proofs.Common.{◌≡◌, true, sym, ap, ◌∙◌, subst, directive_of, is_c, names_include, is_include_stage, State, tokens_of, Directive}
-use Rattle.cweb_scanner.proofs.TiedSteps.{include-seen}
+use Rattle.cweb_spelling.proofs.Steps.{include-seen}
 use Rattle.cweb_scanner.proofs.scanner.Scanner.names_include.Goals as goal
 
 pub returns : goal.returns

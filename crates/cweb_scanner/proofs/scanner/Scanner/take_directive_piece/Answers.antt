@@ -1,11 +1,11 @@
 use Rattle.cweb_scanner.proofs.Common.{◌&&◌, List, ℕ, false, arith, sym, ap, ◌∙◌, subst, Number, Punct, Word, is_c, names_include, IsPlainToken, TakesPlain, give}
 use Rattle.cweb_rules.specs.declared.rule.Rule.TheVariants as rule
-use Rattle.cweb_scanner.specs.declared.scanner.plain.Plain.TheVariants as plain
+use Rattle.cweb_spelling.specs.declared.firsts.Plain.TheVariants as plain
 use Rattle.cweb_scanner.proofs.DirectiveTexts.{text_blanks, text_in_c, text_rule, text_sign}
 use Rattle.cweb_scanner.proofs.Furthers.{numeral_turn, operator_token}
 use Rattle.cweb_scanner.proofs.PlainFirsts.{told_at}
 use Rattle.cweb_scanner.proofs.Plains.{word_turn}
-use Rattle.cweb_scanner.proofs.Walks.{punctuator_fits}
+use Rattle.cweb_spelling.proofs.Walks.{punctuator_fits}
 use Rattle.cweb_scanner.proofs.scanner.Scanner.take_directive_piece.Goals as goal
 
 pub split_at-requires-in-Operator : goal.split_at-requires-in-Operator

@@ -1,7 +1,7 @@
 use Rattle.cweb_scanner.proofs.Common.{List, ℕ, false, take, arith, sym, ap, ◌∙◌, subst, Punct, IsPlainC, IsPlainToken, State, give}
 use Rattle.cweb_scanner.proofs.Furthers.{operator_token, operator_turn}
 use Rattle.cweb_scanner.proofs.Plains.{stays_plain}
-use Rattle.cweb_scanner.proofs.Walks.{punctuator_fits}
+use Rattle.cweb_spelling.proofs.Walks.{punctuator_fits}
 use Rattle.cweb_scanner.proofs.scanner.Scanner.take_operator.Goals as goal
 
 pub split_at-requires : goal.split_at-requires

@@ -1,5 +1,5 @@
 use Rattle.cweb_scanner.proofs.Common.{◌&&◌, List, ℕ, false, take, sym, ap, ◌∙◌, subst, arith, common_steps, Word, Punct, is_c, names_include, IsPlainC, State, give}
-use Rattle.cweb_scanner.specs.declared.scanner.plain.Plain.TheVariants as plain
+use Rattle.cweb_spelling.specs.declared.firsts.Plain.TheVariants as plain
 use Rattle.cweb_scanner.proofs.PlainFirsts.{told_at}
 use Rattle.cweb_scanner.proofs.Plains.{stays_plain, blanks_turn, word_turn, sign_turn}
 use Rattle.cweb_scanner.proofs.scanner.Scanner.take_piece.Goals as goal

@@ -1,5 +1,5 @@
 use Rattle.cweb_scanner.proofs.Common.{arith}
-use Rattle.cweb_scanner.proofs.Walks.{punctuator_fits}
+use Rattle.cweb_spelling.proofs.Walks.{punctuator_fits}
 use Rattle.cweb_scanner.proofs.scanner.Scanner.take_rule.Goals as goal
 
 pub split_at-requires-in_default : goal.split_at-requires-in_default
