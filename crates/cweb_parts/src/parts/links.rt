@@ -1,8 +1,7 @@
 // Parts that tell where the next part of the same name stands.
 
 ghost use Rattle.std.specs.Prelude.{◌≡◌, ◌<◌, ◌≤◌, ℕ, [], length, IfOk, IfSome};
-ghost use Rattle.cweb_names.specs.Names.{too_many};
-ghost use Rattle.cweb_names.specs.Names.{stands};
+ghost use Rattle.cweb_names.specs.Names.{stands, too_many};
 ghost use Rattle.cweb_parts.specs.Links.{AreLinked, IsAmong, IsPut, group_of, head_of};
 
 use crate::parts::iter::Wanted;

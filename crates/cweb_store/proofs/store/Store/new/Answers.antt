@@ -5,30 +5,32 @@ use Rattle.cweb_store.proofs.store.Store.new.Goals as goal
 
 pub invariant_of-store : goal.invariant_of-store
 invariant_of-store c =
-    let ts = c.take_apart-tokens.result.0.tokens in
-    let runs = c.take_apart-tokens.result.1.items in
+    let apart = c.take_apart-tokens in
+    let ts = apart.result.0.tokens in
+    let runs = apart.result.1.items in
     let os = c.args.table in
     let rs = c.args.replacements in
     let all = c.in_ok-answers.answers in
     let found = c.in_ok-answers.ensures in
     let texts = c.in_ok-texts.ensures in
     let tokens : c.in_ok-texts.texts.tokens ≡ all_texts ts os rs = texts.texts
-    ∙ ap (λ t. with_texts (map replacement_text rs) (with_texts (map occurrence_text os) t)) c.take_apart-tokens.ensures.alone in
-    let answers = subst (λ (ps : List Part). AreAnswers
-    os ps all.standings.items all.files.keys all.faults.items all.has_defs_code) (sym c.take_apart-tokens.ensures.parts) found.answers in
+    ∙ ap (λ t. with_texts (map replacement_text rs) (with_texts (map occurrence_text os) t)) apart.ensures.alone in
+    let answers = subst (λ (ps : List Part). AreAnswers os
+    ps all.standings.items all.files.keys all.faults.items all.has_defs_code) (sym apart.ensures.parts) found.answers in
     let linked = subst (λ (xs : List Run). AreLinked all.standings.items xs all.links.skips.items all.links.heads)
-    (ap (runs_from 0) (sym c.take_apart-tokens.ensures.parts) ∙ sym (stored-runs ts runs c.take_apart-tokens.ensures.whole)) found.linked in
+    (ap (runs_from 0) (sym apart.ensures.parts) ∙ sym (stored-runs ts runs apart.ensures.whole)) found.linked in
     let last = subst (AreLast c.last_places.result) (c.as_slice.ensures.value ∙ texts.bytes) c.last_places.ensures in
     rw (tokens, texts.given, texts.bytes)
-    (stored-are ts runs all.links os rs _ _ _ _ _ _ c.take_apart-tokens.ensures.whole linked last found.firsts found.few answers)
+    (stored-are ts runs all.links os rs _ _ _ _ _ _ apart.ensures.whole linked last found.firsts found.few answers)
 
 pub returns : goal.returns
 returns c =
-    let ts = c.take_apart-tokens.result.0.tokens in
-    let runs = c.take_apart-tokens.result.1.items in
+    let apart = c.take_apart-tokens in
+    let ts = apart.result.0.tokens in
+    let runs = apart.result.1.items in
     let os = c.args.table in
     let rs = c.args.replacements in
     let texts = c.in_ok-texts.ensures in
     let tokens : c.in_ok-texts.texts.tokens ≡ all_texts ts os rs = texts.texts
-    ∙ ap (λ t. with_texts (map replacement_text rs) (with_texts (map occurrence_text os) t)) c.take_apart-tokens.ensures.alone in
-    rw (tokens, texts.given, texts.bytes) (stored-is ts runs os rs ∙ ap (λ ps. stored os ps rs) c.take_apart-tokens.ensures.parts)
+    ∙ ap (λ t. with_texts (map replacement_text rs) (with_texts (map occurrence_text os) t)) apart.ensures.alone in
+    rw (tokens, texts.given, texts.bytes) (stored-is ts runs os rs ∙ ap (λ ps. stored os ps rs) apart.ensures.parts)
