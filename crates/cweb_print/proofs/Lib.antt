@@ -1,9 +1,7 @@
 pub mod Common
-pub mod Fronts
 pub mod Lasts
 pub mod Steps
 pub mod Bytes
-pub mod Overlaps
 pub mod OperatorTable
 pub mod Ranges
 pub mod MacroLines

@@ -1,18 +1,13 @@
--- What is gathered for a sink, and tokens that are printed there one after another.
+-- Tokens that are printed one after another to where bytes are gathered for a sink.
 use Rattle.std.specs.Prelude.{◌≡◌, ℕ, false, List, ◌++◌, Some}
 use Rattle.cweb_store.specs.Parts.{Token}
+use Rattle.cweb_gathered.specs.Gathering.{blank_where}
 use Rattle.cweb_print.specs.Printing.{print}
 use Rattle.cweb_print.specs.Classes.{class_of, is_apart, leaves}
-use Rattle.cweb_print.specs.Lent.{AreLent, blank_where, lent_text}
+use Rattle.cweb_print.specs.Lent.{AreLent, lent_text}
 use Rattle.cweb_print.specs.Printed.{Adds, kept_of, setting_of}
 use Rattle.cweb_print.specs.declared.printer.left.Left.{Left}
 use Rattle.cweb_print.specs.declared.printer.Printer.{Printer}
-
--- of what was gathered before a front went to a sink, and the rest is still gathered after
-pub record Moved (old before new after : List ℕ) : Type 0 where
-  pub front : List ℕ
-  pub written : new ≡ old ++ front
-  pub whole : before ≡ front ++ after
 
 -- what a token lends was added, and this is kept after it
 pub record Gathers (left : Left) (t : Token) (after : Left) (old new : List ℕ) : Type 0 where

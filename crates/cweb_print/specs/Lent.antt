@@ -1,5 +1,5 @@
 -- The tokens that are printed as the text that they lend, whatever stands to their left.
-use Rattle.std.specs.Prelude.{◌≡◌, ℕ, Bool, true, false, List, [], codes, Option, Some, None, is_some, nat_le, if◌then◌else◌}
+use Rattle.std.specs.Prelude.{◌≡◌, ℕ, Bool, true, false, List, codes, Option, Some, None, is_some, nat_le, if◌then◌else◌}
 use Rattle.std.specs.List.{list_all, list_any}
 use Rattle.cweb_store.specs.Parts.{Token, Word, Number, Literal, Verbatim, Punct, Blank, Newline}
 
@@ -17,10 +17,6 @@ lent_text joined (Punct b) = Some b
 lent_text joined Blank = if joined then None else Some (codes " ")
 lent_text joined Newline = if joined then None else Some (codes "\n")
 lent_text joined t = None
-
--- a blank, or nothing
-abbrev pub blank_where : Bool → List ℕ
-blank_where is_apart = if is_apart then codes " " else []
 
 -- a token lends its text where no join is open
 abbrev pub is_lent : Token → Bool

@@ -1,7 +1,6 @@
 pub mod Runs
 pub mod Spacing
 pub mod Printing
-pub mod Writing
 pub mod Classes
 pub mod Borders
 pub mod Lent

@@ -3,10 +3,10 @@ ghost use Rattle.std.specs.Prelude.{◌≡◌, ◌<◌, ◌+◌, ◌^◌, [], Is
 ghost use Rattle.cweb_files.specs.Device.{Counts};
 ghost use Rattle.cweb_open.specs.Names.{names_of};
 ghost use Rattle.cweb_store.specs.Seen.{seen};
+ghost use Rattle.cweb_gathered.specs.Writing.{Wrote};
 ghost use Rattle.cweb_print.specs.Classes.{added, begin_by, file_by, leaves, placed_text};
 ghost use Rattle.cweb_print.specs.Printers.{IsNamed, setting};
 ghost use Rattle.cweb_print.specs.Printed.{Ends, Moves, Prints, kept_of, setting_of};
-ghost use Rattle.cweb_print.specs.Writing.{Wrote};
 
 pub mod borders;
 pub mod class;
@@ -17,10 +17,8 @@ pub mod left;
 pub mod lent;
 pub mod macros;
 pub mod mark;
-pub mod pieces;
 pub mod rare;
 pub mod run;
-pub mod short;
 pub mod text;
 
 use crate::printer::class::Class;
@@ -28,9 +26,9 @@ use crate::printer::left::Left;
 use crate::printer::lent::Lent;
 use crate::printer::macros::write_macros;
 use crate::printer::mark::write_mark;
-use crate::printer::pieces::write_piece;
 use crate::printer::text::write_plain;
 use cweb_files::{Sink, SinkFault};
+use cweb_gathered::write_piece;
 use cweb_open::FileNames;
 use cweb_store::{Store, Token};
 

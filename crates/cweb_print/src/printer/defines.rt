@@ -3,19 +3,18 @@ ghost use Rattle.std.specs.Prelude.{◌≡◌, ◌≤◌, ◌<◌, ◌+◌, ◌^
 ghost use Rattle.cweb_files.specs.Device.{Counts};
 ghost use Rattle.cweb_texts.specs.Borders.{lent_seen};
 ghost use Rattle.cweb_store.specs.Parts.{all_tokens};
+ghost use Rattle.cweb_gathered.specs.Writing.{Wrote};
+ghost use Rattle.cweb_gathered.specs.declared.gathered.TheConstants.{ROOM};
 ghost use Rattle.cweb_print.specs.Borders.{continued_by};
 ghost use Rattle.cweb_print.specs.Classes.{all_added, at_start, macro_by};
 ghost use Rattle.cweb_print.specs.Runs.{run_tokens};
 ghost use Rattle.cweb_print.specs.Printers.{macros, replaced_in};
 ghost use Rattle.cweb_print.specs.Printing.{macro_line};
-ghost use Rattle.cweb_print.specs.Writing.{Wrote};
-ghost use Rattle.cweb_print.specs.declared.gathered.TheConstants.{ROOM};
 
-use crate::gathered::Gathered;
-use crate::gathered::putting::keep;
 use crate::printer::borders::stands_apart;
 use crate::printer::macros::write_macro;
 use cweb_files::{Sink, SinkFault};
+use cweb_gathered::{Gathered, keep};
 use cweb_store::{Border, LentText, Part, Store};
 
 /// Prints the lines of all macros, in their order, behind what is gathered.

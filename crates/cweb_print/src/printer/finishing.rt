@@ -4,10 +4,10 @@ ghost use Rattle.cweb_files.specs.Device.{Counts};
 ghost use Rattle.cweb_print.specs.Classes.{leaves};
 ghost use Rattle.cweb_print.specs.Printed.{Ends, kept_of, setting_of};
 
-use crate::gathered::Gathered;
 use crate::printer::Printer;
 use crate::printer::left::Left;
 use cweb_files::{Sink, SinkFault};
+use cweb_gathered::Gathered;
 
 impl<'a> Printer<'a> {
     /// Ends the last line of a file, lets the sink have all of it, and is then at the start of the next file.

@@ -3,15 +3,14 @@ ghost use Rattle.std.specs.Prelude.{◌≡◌, ◌≤◌, ◌<◌, ◌+◌, ◌^
 ghost use Rattle.cweb_files.specs.Device.{Counts};
 ghost use Rattle.cweb_store.specs.Parts.{Defs};
 ghost use Rattle.cweb_store.specs.Seen.{seen};
+ghost use Rattle.cweb_gathered.specs.declared.gathered.TheConstants.{ROOM, SHORT};
 ghost use Rattle.cweb_print.specs.Printers.{IsNamed};
 ghost use Rattle.cweb_print.specs.Printed.{Moves, Prints, kept_of, setting_of};
-ghost use Rattle.cweb_print.specs.declared.gathered.TheConstants.{ROOM, SHORT};
 
-use crate::gathered::Gathered;
 use crate::printer::Printer;
 use crate::printer::defines::gather_macros;
-use crate::printer::short::ShortText;
 use cweb_files::{Sink, SinkFault};
+use cweb_gathered::{Gathered, ShortText};
 use cweb_store::Token;
 
 impl<'a> Printer<'a> {

@@ -2,15 +2,16 @@
 ghost use Rattle.std.specs.Prelude.{◌≡◌, ◌<◌, ◌+◌, ◌^◌, ◌++◌, IfSome, IsTrue, Some};
 ghost use Rattle.cweb_files.specs.Device.{Counts};
 ghost use Rattle.cweb_store.specs.Seen.{seen};
+ghost use Rattle.cweb_gathered.specs.Gathering.{blank_where};
+ghost use Rattle.cweb_gathered.specs.Writing.{Wrote};
 ghost use Rattle.cweb_print.specs.Classes.{class_of, is_apart};
-ghost use Rattle.cweb_print.specs.Lent.{blank_where, lent_text};
-ghost use Rattle.cweb_print.specs.Writing.{Wrote};
+ghost use Rattle.cweb_print.specs.Lent.{lent_text};
 
 use crate::printer::class::Class;
 use crate::printer::left::Left;
-use crate::printer::pieces::write_piece;
 use crate::printer::text::has_high_byte;
 use cweb_files::{Sink, SinkFault};
+use cweb_gathered::write_piece;
 use cweb_store::Token;
 
 /// What most tokens print: a text, behind a blank or not. The class is that of the token.

@@ -3,17 +3,17 @@ ghost use Rattle.std.specs.Prelude.{◌≡◌, ◌≤◌, ◌<◌, ◌+◌, ◌^
 ghost use Rattle.cweb_files.specs.Device.{Counts};
 ghost use Rattle.cweb_store.specs.Seen.{seen};
 ghost use Rattle.cweb_store.specs.Parts.{all_tokens};
+ghost use Rattle.cweb_gathered.specs.Writing.{Wrote};
 ghost use Rattle.cweb_print.specs.Printing.{macro_line};
 ghost use Rattle.cweb_print.specs.Classes.{added, all_added, at_start, continued_text, macro_by};
 ghost use Rattle.cweb_print.specs.Printers.{macros, replaced_in};
 ghost use Rattle.cweb_print.specs.Runs.{run_tokens};
-ghost use Rattle.cweb_print.specs.Writing.{Wrote};
 ghost use Rattle.std.specs.Prelude.{flat_map};
 
 use crate::printer::left::Left;
-use crate::printer::pieces::write_piece;
 use crate::printer::text::write_plain;
 use cweb_files::{Sink, SinkFault};
+use cweb_gathered::write_piece;
 use cweb_store::{Part, Store, Token};
 
 /// Writes the lines of all macros, in their order.

@@ -2,11 +2,11 @@
 ghost use Rattle.std.specs.Prelude.{◌≡◌, ◌<◌, ◌+◌, ◌^◌, ◌++◌, IsTrue};
 ghost use Rattle.std.specs.List.{list_any};
 ghost use Rattle.cweb_files.specs.Device.{Counts};
+ghost use Rattle.cweb_gathered.specs.Writing.{Wrote};
 ghost use Rattle.cweb_print.specs.Printing.{mark_line, quoted, quoted_byte, wants_backslash};
-ghost use Rattle.cweb_print.specs.Writing.{Wrote};
 
-use crate::printer::pieces::{write_piece, write_pieces};
 use cweb_files::{Sink, SinkFault};
+use cweb_gathered::{write_piece, write_pieces};
 use itoa::Buffer;
 
 /// Writes what begins the line, and the mark of a line of a file.

@@ -1,15 +1,15 @@
 // Section comments and line marks, printed straight to where bytes are gathered.
 ghost use Rattle.std.specs.Prelude.{◌≡◌, ◌≤◌, ◌+◌, ◌++◌, length, true, false};
 ghost use Rattle.cweb_store.specs.Seen.{seen};
+ghost use Rattle.cweb_gathered.specs.declared.gathered.TheConstants.{ROOM, SHORT};
 ghost use Rattle.cweb_print.specs.Classes.{added, file_by, left_by, separator};
 ghost use Rattle.cweb_print.specs.Printed.{kept_of, setting_of};
 ghost use Rattle.cweb_print.specs.Printers.{IsNamed};
 ghost use Rattle.cweb_print.specs.Printing.{mark_line, numbered, quoted};
-ghost use Rattle.cweb_print.specs.declared.gathered.TheConstants.{ROOM, SHORT};
 
-use crate::gathered::Gathered;
 use crate::printer::Printer;
 use crate::printer::mark::has_quotable;
+use cweb_gathered::Gathered;
 use cweb_store::Token;
 use itoa::Buffer;
 

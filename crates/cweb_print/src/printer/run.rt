@@ -1,17 +1,16 @@
 // Stored tokens that lend their texts, printed in one loop.
 ghost use Rattle.std.specs.Prelude.{◌≤◌, ◌≡◌, false, length, slice_range, take};
 ghost use Rattle.cweb_store.specs.Parts.{all_tokens};
+ghost use Rattle.cweb_gathered.specs.declared.gathered.TheConstants.{ROOM};
 ghost use Rattle.cweb_print.specs.Borders.{left_behind};
 ghost use Rattle.cweb_print.specs.Gathering.{MovesBy, PrintsBy};
 ghost use Rattle.cweb_print.specs.Lent.{AreLent};
 ghost use Rattle.cweb_print.specs.Printed.{kept_of, setting_of};
-ghost use Rattle.cweb_print.specs.declared.gathered.TheConstants.{ROOM};
 
-use crate::gathered::Gathered;
-use crate::gathered::putting::keep;
 use crate::printer::Printer;
 use crate::printer::borders::{border_of, class_behind, stands_apart};
 use crate::printer::left::Left;
+use cweb_gathered::{Gathered, keep};
 use cweb_store::{Border, Part, Store};
 
 // How far a run was printed: the number of the next token, the border of the last one, and how many bytes are used.

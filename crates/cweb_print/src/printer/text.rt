@@ -3,12 +3,12 @@ ghost use Rattle.std.specs.Prelude.{◌≡◌, ◌<◌, ◌+◌, ◌^◌, IsTrue
 ghost use Rattle.std.specs.List.{list_any};
 ghost use Rattle.cweb_files.specs.Device.{Counts};
 ghost use Rattle.cweb_store.specs.Seen.{seen};
+ghost use Rattle.cweb_gathered.specs.Writing.{Wrote};
 ghost use Rattle.cweb_print.specs.Printing.{numbered, plain_text, word_byte, word_text};
 ghost use Rattle.cweb_print.specs.Printers.{default_text, hex_digit, replaced_in};
-ghost use Rattle.cweb_print.specs.Writing.{Wrote};
 
-use crate::printer::pieces::{write_piece, write_pieces};
 use cweb_files::{Sink, SinkFault};
+use cweb_gathered::{write_piece, write_pieces};
 use cweb_store::{Store, Token};
 use itoa::Buffer;
 

@@ -1,5 +1,5 @@
 use Rattle.cweb_print.proofs.Common.{◌≡◌, ◌++◌, ◌∙◌, ap, sym, List, ℕ, rules, print, file, kept_of, setting_of}
-use Rattle.cweb_print.proofs.Fronts.{wrote_err}
+use Rattle.cweb_gathered.proofs.Fronts.{wrote_err}
 use Rattle.cweb_print.proofs.Prints.{adds_by}
 use Rattle.cweb_print.proofs.Steps.{file-end}
 use Rattle.cweb_print.proofs.printer.Printer.end.Goals as goal

@@ -1,6 +1,7 @@
 use Rattle.cweb_print.proofs.Common.{◌≡◌, ◌++◌, ◌∙◌, [], ap, append-nil, sym, subst, List, ℕ, IsTrue, print, file, kept_of, setting_of}
-use Rattle.cweb_print.proofs.Fronts.{wrote_err}
-use Rattle.cweb_print.proofs.Moving.{adds_none, behind, moved_same}
+use Rattle.cweb_gathered.proofs.Fronts.{wrote_err}
+use Rattle.cweb_gathered.proofs.Moving.{behind, moved_same}
+use Rattle.cweb_print.proofs.Moving.{adds_none}
 use Rattle.cweb_print.proofs.Prints.{adds_by}
 use Rattle.cweb_print.proofs.Steps.{file-end}
 use Rattle.cweb_print.proofs.printer.Printer.finish.Goals as goal

@@ -1,5 +1,6 @@
 use Rattle.cweb_print.proofs.Common.{◌++◌, ◌∷◌, [], ◌∙◌, ap, append_assoc, sym, subst, refl, List, ℕ, arith, common_steps, IsTrue, Defs, seen, print, added, file_by, Printer, Prints, kept_of, setting_of}
-use Rattle.cweb_print.proofs.Moving.{adds_at, adds_none, moved_same}
+use Rattle.cweb_gathered.proofs.Moving.{moved_same}
+use Rattle.cweb_print.proofs.Moving.{adds_at, adds_none}
 use Rattle.cweb_print.proofs.Steps.{print-push}
 use Rattle.cweb_print.proofs.printer.Printer.gather.Goals as goal
 

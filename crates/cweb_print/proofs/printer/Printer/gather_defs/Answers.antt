@@ -1,5 +1,5 @@
 use Rattle.cweb_print.proofs.Common.{◌++◌, ◌∷◌, [], ◌∙◌, ap, append_assoc, sym, List, ℕ, Defs, added, file_by, left_by, kept_of, setting_of, macro_lines, print}
-use Rattle.cweb_print.proofs.Fronts.{wrote_err, wrote_more, wrote_same}
+use Rattle.cweb_gathered.proofs.Fronts.{wrote_err, wrote_more, wrote_same}
 use Rattle.cweb_print.proofs.MacroLines.{defs-added}
 use Rattle.cweb_print.proofs.Prints.{adds_by}
 use Rattle.cweb_print.proofs.Steps.{leaves-push, print-push}

@@ -1,5 +1,6 @@
 use Rattle.cweb_print.proofs.Common.{rules, ◌≡◌, ◌++◌, ◌∷◌, [], ◌∙◌, ap, append-nil, sym, subst, refl, List, ℕ, IsTrue, seen, print, added, file_by, Printer, Prints, kept_of, setting_of}
-use Rattle.cweb_print.proofs.Moving.{adds_at, adds_behind, adds_none, adds_ok, moved_same}
+use Rattle.cweb_gathered.proofs.Moving.{moved_same}
+use Rattle.cweb_print.proofs.Moving.{adds_at, adds_behind, adds_none, adds_ok}
 use Rattle.cweb_print.proofs.Steps.{print-push}
 use Rattle.cweb_print.proofs.printer.Printer.gather_other.Goals as goal
 

@@ -1,5 +1,5 @@
 use Rattle.cweb_print.proofs.Common.{◌∙◌, ap, arith, length, slice_range, subst, sym, take, List, ℕ, all_tokens, PrintsBy}
-use Rattle.cweb_print.proofs.Overlaps.{whole_again}
+use Rattle.cweb_gathered.proofs.Overlaps.{whole_again}
 use Rattle.cweb_print.proofs.printer.Printer.gather_run.Goals as goal
 
 pub put_run-reached-requires-clause-room : goal.put_run-reached-requires-clause-room

@@ -1,5 +1,5 @@
 use Rattle.cweb_print.proofs.Common.{◌++◌, ◌∷◌, [], seen, print, added, file_by, kept_of, setting_of}
-use Rattle.cweb_print.proofs.Fronts.{wrote_err}
+use Rattle.cweb_gathered.proofs.Fronts.{wrote_err}
 use Rattle.cweb_print.proofs.Prints.{adds_by}
 use Rattle.cweb_print.proofs.Steps.{print-push}
 use Rattle.cweb_print.proofs.printer.Printer.print_other.Goals as goal

@@ -1,5 +1,5 @@
 use Rattle.cweb_print.proofs.Common.{◌≡◌, ◌++◌, [], ◌∙◌, ap, sym, subst, cond, List, ℕ, false, arith, common_steps, IsTrue, seen, plain_text, added, file_by, is_dropped, placed_text, separator, kept_of, setting_of}
-use Rattle.cweb_print.proofs.Fronts.{second_failed}
+use Rattle.cweb_gathered.proofs.Fronts.{second_failed}
 use Rattle.cweb_print.proofs.printer.Printer.write_token.Goals as goal
 
 pub returns-in_err-write_placed-clause-wrote : goal.returns-in_err-write_placed-clause-wrote

@@ -1,5 +1,5 @@
 use Rattle.cweb_print.proofs.Common.{◌++◌, ◌∙◌, ap, arith, length, take, List, ℕ, common_steps, run_tokens, replaced_in, macro_line}
-use Rattle.cweb_print.proofs.Overlaps.{whole_again}
+use Rattle.cweb_gathered.proofs.Overlaps.{whole_again}
 use Rattle.cweb_print.proofs.printer.defines.add_macro.Goals as goal
 
 pub put_macro-requires-clause-room : goal.put_macro-requires-clause-room

@@ -1,6 +1,6 @@
 use Rattle.cweb_print.proofs.Common.{◌≡◌, ◌++◌, ◌∙◌, [], List, ℕ, ap, append_assoc, append-nil, refl, subst, sym, IsTrue, run_tokens, replaced_in, macro_line}
-use Rattle.cweb_print.proofs.Fronts.{wrote_err}
-use Rattle.cweb_print.proofs.Moving.{moved_same, wrote_at}
+use Rattle.cweb_gathered.proofs.Fronts.{wrote_err}
+use Rattle.cweb_gathered.proofs.Moving.{moved_same, wrote_at}
 use Rattle.cweb_print.proofs.printer.defines.gather_macro.Goals as goal
 
 pub returns-then-add_macro-clause-wrote : goal.returns-then-add_macro-clause-wrote

@@ -1,5 +1,5 @@
 use Rattle.cweb_print.proofs.Common.{rules, ◌≡◌, ◌≤◌, ◌∷◌, ◌++◌, ◌∙◌, ap, sym, subst, refl, length, List, ℕ, IsTrue, Part, all_tokens, macro_line, replaced_in, run_tokens}
-use Rattle.cweb_print.proofs.Fronts.{Written, written_none, written_more, written_front, wrote_err}
+use Rattle.cweb_gathered.proofs.Fronts.{Written, written_none, written_more, written_front, wrote_err}
 use Rattle.cweb_print.proofs.MacroLines.{All-tail, all_lines, lines, lines_are}
 use Rattle.cweb_print.proofs.printer.defines.gather_macros.Goals as goal
 

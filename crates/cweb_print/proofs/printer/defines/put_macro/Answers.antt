@@ -1,6 +1,6 @@
 use Rattle.cweb_print.proofs.Common.{◌≡◌, ◌≤◌, ◌++◌, ◌∙◌, ap, arith, codes, sym, take, List, ℕ, all_added, at_start, macro_by, run_tokens, replaced_in, macro_line}
 use Rattle.cweb_print.proofs.Continued.{if_some, three_put}
-use Rattle.cweb_print.proofs.Overlaps.{front_within}
+use Rattle.cweb_gathered.proofs.Overlaps.{front_within}
 use Rattle.cweb_print.proofs.Steps.{macro-printed}
 use Rattle.cweb_print.proofs.printer.defines.put_macro.Goals as goal
 

@@ -2,7 +2,7 @@ use Rattle.cweb_print.proofs.Common.{◌++◌, ◌∙◌, List, ℕ, Some, ap, a
 use Rattle.cweb_print.proofs.Continued.{added-continued, left-continued}
 use Rattle.cweb_print.proofs.Lenders.{lent-at}
 use Rattle.cweb_print.proofs.MacroLines.{left_more, tokens_more}
-use Rattle.cweb_print.proofs.Overlaps.{front_within}
+use Rattle.cweb_gathered.proofs.Overlaps.{front_within}
 use Rattle.cweb_parts.proofs.RangeLemmas.{range-none}
 use Rattle.cweb_print.proofs.printer.defines.put_macro_tokens.Goals as goal
 

@@ -1,5 +1,5 @@
 use Rattle.cweb_print.proofs.Common.{◌++◌, ap, sym, subst, List, ℕ, codes, refl, IsTrue, macro_line, macro_text, printed, all_added, at_start, macro_by, replaced_in, run_tokens}
-use Rattle.cweb_print.proofs.Fronts.{first_failed, second_failed, third_last}
+use Rattle.cweb_gathered.proofs.Fronts.{first_failed, second_failed, third_last}
 use Rattle.cweb_print.proofs.Steps.{macro-printed}
 use Rattle.cweb_print.proofs.printer.macros.write_macro.Goals as goal
 

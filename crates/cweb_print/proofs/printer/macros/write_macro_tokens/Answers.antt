@@ -1,5 +1,5 @@
 use Rattle.cweb_print.proofs.Common.{rules, ◌<◌, ◌+◌, ◌∙◌, sym, subst, arith, IsTrue, slice_range, all_tokens, seen, added, all_added, at_start, left_by, macro_by, replaced_in, run_tokens}
-use Rattle.cweb_print.proofs.Fronts.{second_failed}
+use Rattle.cweb_gathered.proofs.Fronts.{second_failed}
 use Rattle.cweb_print.proofs.MacroLines.{left_more, tokens_at, tokens_more}
 use Rattle.cweb_print.proofs.printer.macros.write_macro_tokens.Goals as goal
 

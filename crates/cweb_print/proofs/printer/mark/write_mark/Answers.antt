@@ -1,5 +1,5 @@
 use Rattle.cweb_print.proofs.Common.{rules, ◌≡◌, ◌++◌, ◌∙◌, ap, sym, List, ℕ, codes, decimal, mark_line, quoted}
-use Rattle.cweb_print.proofs.Fronts.{wrote_same}
+use Rattle.cweb_gathered.proofs.Fronts.{wrote_same}
 use Rattle.cweb_print.proofs.Bytes.{plain_name}
 use Rattle.cweb_print.proofs.printer.mark.write_mark.Goals as goal
 

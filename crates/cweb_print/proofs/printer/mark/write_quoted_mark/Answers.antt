@@ -1,5 +1,5 @@
 use Rattle.cweb_print.proofs.Common.{◌≡◌, ◌++◌, [], ◌∙◌, ap, sym, subst, List, ℕ, codes, decimal, append_assoc, IsTrue, mark_line, quoted}
-use Rattle.cweb_print.proofs.Fronts.{Written, written_none, written_more, written_front, written_last, wrote_err}
+use Rattle.cweb_gathered.proofs.Fronts.{Written, written_none, written_more, written_front, written_last, wrote_err}
 use Rattle.cweb_print.proofs.printer.mark.write_quoted_mark.Goals as goal
 
 -- the text in its three pieces

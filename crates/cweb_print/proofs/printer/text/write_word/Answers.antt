@@ -1,5 +1,5 @@
 use Rattle.cweb_print.proofs.Common.{rules, sym, word_text, replaced_in}
-use Rattle.cweb_print.proofs.Fronts.{wrote_same}
+use Rattle.cweb_gathered.proofs.Fronts.{wrote_same}
 use Rattle.cweb_print.proofs.Bytes.{ascii_word}
 use Rattle.cweb_print.proofs.printer.text.write_word.Goals as goal
 

@@ -1,5 +1,5 @@
 use Rattle.cweb_print.proofs.Common.{take, drop, sym, subst, suc, List, ℕ, arith, common_steps, IsTrue, word_byte, word_text, replaced_in}
-use Rattle.cweb_print.proofs.Fronts.{flat_at, front_in, wrote_err}
+use Rattle.cweb_gathered.proofs.Fronts.{flat_at, front_in, wrote_err}
 use Rattle.cweb_print.proofs.printer.text.write_word_bytes.Goals as goal
 
 pub returns-in_err-write_word_byte-clause-wrote : goal.returns-in_err-write_word_byte-clause-wrote

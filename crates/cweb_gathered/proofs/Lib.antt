@@ -1,0 +1,4 @@
+pub mod Common
+pub mod Fronts
+pub mod Overlaps
+pub mod Moving
