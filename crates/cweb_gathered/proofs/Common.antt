@@ -8,5 +8,6 @@ pub use Rattle.std.proofs.lemmas.List.{take-append-drop, take_at, length-take-le
 pub use Rattle.std.proofs.lemmas.List.Concat.{flat_map-append}
 pub use Rattle.std.proofs.lemmas.Slice.{between_is}
 pub use Rattle.std.specs.Prelude.{Result, Ok, Err, IsErr, flat_map, IsTrue}
+pub use Rattle.cweb_files.specs.Frames.{WritesFront}
 pub use Rattle.cweb_gathered.specs.Gathering.{Moved, blank_where}
-pub use Rattle.cweb_gathered.specs.Writing.{WritesFront, Wrote}
+pub use Rattle.cweb_gathered.specs.Writing.{Wrote}

@@ -1,12 +1,6 @@
 -- What a call that writes a text leaves in a sink.
 use Rattle.std.specs.Prelude.{◌≡◌, ℕ, List, ◌++◌, Result, Ok, Err}
-
--- a front of a text was written
-pub record WritesFront (old new text : List ℕ) : Type 0 where
-  pub front : List ℕ
-  pub rest : List ℕ
-  pub written : new ≡ old ++ front
-  pub whole : text ≡ front ++ rest
+use Rattle.cweb_files.specs.Frames.{WritesFront}
 
 -- the text was written, or a front of it where a write failed
 abbrev pub Wrote : {A E : Type 0} → List ℕ → List ℕ → List ℕ → Result A E → Type 0
