@@ -6,7 +6,7 @@ ghost use Rattle.cweb_open.specs.Counts.{count_of};
 ghost use Rattle.cweb_source.specs.Lines.{HasNewline, IsOneLine};
 ghost use Rattle.cweb_open.specs.declared.limits.TheConstants.{OPEN_FILES};
 ghost use Rattle.cweb_open.specs.Texts.{most, line_number, files_up_to, ReadBlames, Counted, NamesFiles, AreDeep, TakesTop, TakesAbove, StopsFor, StopsReading, StopsTop, StopsAbove, StaysBelow, DepthAfter, Pushes};
-ghost use Rattle.cweb_open.specs.Pending.{begins_at, pending_at};
+ghost use Rattle.cweb_open.specs.Pending.{IsReady, begins_at, pending_at};
 ghost use Rattle.cweb_open.specs.Naming.{BlamesTexts, KeepsNames};
 
 use crate::limits::{Limits, OPEN_FILES};
@@ -48,7 +48,10 @@ impl<R: Drop> Stack<R> {
     /// Whether the next line of the deepest text can be taken without a read.
     pub fn has_line(&self) -> bool
         requires { self.now.depth ≤ OPEN_FILES }
-        ensures { IsTrue result → HasNewline (pending_at (slice_index_or self.now.texts (self.now.depth - 1) None)) }
+        ensures whole { IsTrue result →
+            HasNewline (pending_at (slice_index_or self.now.texts (self.now.depth - 1) None)) }
+        ensures found { 0 < self.now.depth →
+            IsReady (slice_index_or self.now.texts (self.now.depth - 1) None) → IsTrue result }
     {
         if self.depth == 0 {
             return false;
