@@ -1,5 +1,5 @@
 -- What the end of a run blames where a read or a write failed.
-use Rattle.cweb_lines.proofs.Common.{◌≡◌, ◌≤◌, ◌+◌, ℕ, List, [], length, Option, None, Some, refl, sym, ◌∙◌, ap, subst, inl, inr, arith, IfSome, Event, Count, StopsReading, read_blame, files_named, StopsWriting, WritingStops, WritesRest, leaves, writes, fails, Failed, IsOwnStop, Blames, write_blame, Stop, ReadFault, LineTooLong, TooMuchText, Memory, WriteFault}
+use Rattle.cweb_lines.proofs.Common.{◌≡◌, ◌≤◌, ◌+◌, ℕ, List, [], length, Option, None, Some, refl, sym, ◌∙◌, ap, subst, inl, inr, arith, IfSome, Event, Count, StopsReading, read_blame, files_named, StopsWriting, WritingStops, WritesRest, leaves, writes, fails, Failed, IsOwnStop, Blames, write_blame, Stop, ReadFault, LineTooLong, TooMuchText, Memory, WriteFault, ◌++◌, blame}
 
 -- what holds of a stop that came before holds where none came
 pub none_before : {A : Type 0} (P : A → Type 0) {stop : Option A} → stop ≡ None → IfSome stop P
@@ -84,3 +84,18 @@ blames_write room result kept files before after is running shelf out = record {
 pub write_failed : (result : Stop) (old now : Count) (all : List Event) (Wrote : List ℕ → Type 0) →
     result ≡ WriteFault → StopsWriting result old now all Wrote
 write_failed result old now all Wrote is = subst (λ s. StopsWriting s old now all Wrote) (sym is) tt
+
+-- what was gathered is written behind a stop: the same reader is blamed, or none where a write fails
+pub blames_rest : (names before now : List (List ℕ)) (stop result : Stop) (piece : List ℕ) (Wrote : List ℕ → Type 0)
+    → WritesRest stop result piece Wrote → now ≡ before ++ blame names stop → now ≡ before ++ blame names result
+blames_rest names before now stop result piece Wrote (leaves file was is wrote) blames = blames
+    ∙ ap (λ s. before ++ blame names s) (sym is)
+blames_rest names before now stop result piece Wrote (writes is wrote) blames = blames
+    ∙ ap (λ s. before ++ blame names s) (sym is)
+blames_rest names before now stop result piece Wrote (fails is some none) blames =
+    blames ∙ ap (λ (ns : List (List ℕ)). before ++ ns) (none_blamed stop none) ∙ ap (λ s. before ++ blame names s)
+    (sym is)
+  where
+    none_blamed : (s : Stop) → read_blame s ≡ 0 → blame names s ≡ []
+    none_blamed (ReadFault file) is0 = absurd (omega (arith, is0))
+    none_blamed s is0 = refl

@@ -52,7 +52,8 @@ impl Limits {
     pub fn has_room(&self, size: usize) -> bool
         ensures lines { IsTrue result → self.now.lines + size ≤ LINES }
         ensures bytes { IsTrue result → self.now.bytes + size ≤ BYTES }
-        ensures room { self.now.lines + size ≤ LINES → self.now.bytes + size ≤ BYTES → IsTrue result }
+        ensures room { self.now.lines + size ≤ LINES → self.now.bytes + size ≤ BYTES →
+            IsTrue result }
     {
         size as u64 <= BYTES - self.bytes && size as u64 <= (LINES - self.lines) as u64
     }

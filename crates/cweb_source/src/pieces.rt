@@ -28,7 +28,8 @@ impl Pieces {
         ensures some { IfOk result (λ piece. 0 < length piece.items) }
         ensures taken { IfOk result (λ piece.
             (self.old.free.items ≡ self.new.free.items ++ piece ∷ []) ⊎ (length piece.items ≡ PIECE)) }
-        ensures fewer { 0 < length self.old.free.items → length self.new.free.items + 1 ≡ length self.old.free.items }
+        ensures fewer { 0 < length self.old.free.items →
+            length self.new.free.items + 1 ≡ length self.old.free.items }
     {
         if let Some(piece) = self.free.pop() {
             if !piece.is_empty() {

@@ -1,12 +1,11 @@
 use Rattle.cweb_lines.proofs.Common.{rules, ◌≡◌, Line, ◌+◌, [], refl, ap, sym, ◌∙◌, arith, IsTrue, Writes, Gives, Held, coming, told_by, to_come, so_far, read_blame, write_blame}
 use Rattle.cweb_open.proofs.Named.{blames_none, stop_after}
-use Rattle.cweb_lines.proofs.Named.{blames_rest}
 use Rattle.cweb_lines.proofs.Fronts.{grows_told, told_halted, told_passed, told_same, told_then}
 use Rattle.cweb_lines.proofs.Gathers.{emptied, held, held_on, passed_on, fails_front, fails_among}
 use Rattle.cweb_files.proofs.Keeps.{keeps_same, keeps_then, place_same, place_then}
 use Rattle.cweb_lines.proofs.Quiets.{Quiet, quiet_by, quiet_same, quiet_then, still_tells}
 use Rattle.cweb_lines.proofs.Writes.{nothing_yet, ends_front, ends_whole, ended_early, halted, fails_last, tells_some, tells_more, tells_same}
-use Rattle.cweb_lines.proofs.WriteStops.{write_failed, blamed, blames_write, none_before}
+use Rattle.cweb_lines.proofs.WriteStops.{write_failed, blamed, blames_write, none_before, blames_rest}
 use Rattle.cweb_lines.proofs.writing.write_merged_in_pieces.Given as given
 use Rattle.cweb_lines.proofs.writing.write_merged_in_pieces.Goals as goal
 use Rattle.cweb_lines.proofs.writing.write_merged_in_pieces.Goals.{After-pass_lines, In-Ok, In_default-next}
