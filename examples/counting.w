@@ -1,11 +1,11 @@
-@ A word is a run of bytes none of which is white. So a word begins where a
-byte that isn't white follows one that is, and the variable |in_word| says
-whether the byte before belonged to a word.
+@ A word is a run of bytes other than white space. So a word begins at such a
+byte if the byte before it is white space. The variable |in_word| says whether
+the byte before belongs to a word.
 
 @<Variables...@>=
 int c, in_word = 0;
 
-@ One byte at a time is enough: the C library reads ahead for us.
+@ Reading one byte at a time is fast enough: the C library has a buffer.
 
 @<Read all...@>=
 while ((c = getchar()) != EOF) {

@@ -1,12 +1,12 @@
-% What stands before the first section is limbo text, which goes to TeX alone.
+% Text before the first section is limbo text: only TeX sees it.
 \def\title{ROMAN}
 
-@* Roman. This program prints the numbers that it is given as Roman numerals.
-Three files come of its web. One is |roman.c|: the macros, and behind them the
-parts that have no name. The others are |numeral.h| and |numeral.c|, whose
-names stand between \.{@@(} and \.{@@>}.
+@* Roman. This program prints its arguments as Roman numerals. Its web is this
+file and an included one. The tangler writes three C files:
+|roman.c| has the macros, followed by the sections without a name; |numeral.h|
+and |numeral.c| have names between \.{@@(} and \.{@@>}.
 
-Numbers from 1 to 3999 have numerals, since there is no letter for 5000.
+The numbers from 1 to 3999 have numerals, since no letter means 5000.
 
 @d smallest 1
 @d largest 3999
@@ -19,7 +19,7 @@ int main(int argc, char *argv[])
 {
   int i;
   if (argc < 2)
-    @<Say how to call it, and stop@>@;
+    @<Print the usage, and stop@>@;
   for (i = 1; i < argc; i++) {
     @<Read the number |n|@>@;
     @<Print |n|@>@;
@@ -32,16 +32,16 @@ int main(int argc, char *argv[])
 #include <stdlib.h>
 #include "numeral.h"
 
-@ A word that is no number, and a number without a numeral, are answered as no
-words are: the section that says so is used here and above.
+@ A word that is not a number, or a number without a numeral, is treated like
+a missing argument: this section and the one above use the same name.
 
 @<Read the number...@>=
 char *end;
 long n = strtol(argv[i], &end, 10);
 if (*end != '\0' || !has_numeral(n))
-  @<Say how to call it, and stop@>@;
+  @<Print the usage, and stop@>@;
 
-@ @<Say how to call it, and stop@>=
+@ @<Print the usage, and stop@>=
 {
   fprintf(stderr, "usage: roman NUMBER.., each from %d to %d\n", smallest, largest);
   return 1;
@@ -54,40 +54,9 @@ if (*end != '\0' || !has_numeral(n))
   printf("%ld is %s\n", n, letters);
 }
 
-@* Numerals. The longest one is that of 3888, which has fifteen letters.
+@ The next chapter is a file of its own. The line below, which begins with an
+at sign and the letter `i', is replaced by the lines of that file.
 
-@(numeral.h@>=
-#ifndef NUMERAL_H
-#define NUMERAL_H
-#define longest_numeral 15
-@<Prototype of |numeral|@>;
-#endif
+@i chapters/numerals.w
 
-@ @<Prototype...@>=
-void numeral(char *letters, int number)
-
-@ Two tables say which letters stand for which number. The largest number that
-is left is taken away again and again.
-
-@(numeral.c@>=
-#include "numeral.h"
-
-@<Tables of letters@>@;
-
-@<Prototype...@>
-{
-  int i;
-  for (i = 0; number > 0; i++)
-    while (number >= values[i]) {
-      const char *next;
-      for (next = signs[i]; *next != '\0'; next++) *letters++ = *next;
-      number -= values[i];
-    }
-  *letters = '\0';
-}
-
-@ @<Tables...@>=
-static const char *const signs[] = {
-  "M", "CM", "D", "CD", "C", "XC", "L", "XL", "X", "IX", "V", "IV", "I" };
-static const int values[] = {
-  1000, 900, 500, 400, 100, 90, 50, 40, 10, 9, 5, 4, 1 };
+@* Index.

@@ -1,7 +1,7 @@
-These changes to TALLY let the C library say which bytes are white, and print
-each count on a line of its own. What stands outside the entries, as this does,
-is passed over. The second entry changes a line of counting.w, which tally.w
-takes in: the web's lines are matched in the order in which they are merged.
+With these changes TALLY asks the C library which bytes are white space, and
+prints each count on its own line. Text outside the entries, like this, is
+ignored. The second entry changes a line of the included file counting.w:
+entries are matched in the order of the merged lines.
 
 @x
 #include <stdio.h>
@@ -17,12 +17,12 @@ if (isspace(c))
 @z
 
 @x
-@ The counts come in the order that everybody knows.
+@ The counts have the usual order.
 
 @<Print the counts@>=
 printf("%lu %lu %lu\n", lines, words, bytes);
 @y
-@ Each count has a line of its own, behind its name.
+@ Each count has a line of its own, after its name.
 
 @<Print the counts@>=
 printf("lines %lu\n", lines);

@@ -1,12 +1,12 @@
-% What stands before the first section is limbo text, which goes to TeX alone.
+% Text before the first section is limbo text: only TeX sees it.
 \def\title{TALLY}
 
 @* Tally. This program reads its standard input once, and prints how many
 lines, words and bytes it has, as |wc| does.
 
-It is told here in the order in which it is best explained. The tangler
-writes its pieces in the order that a C compiler wants; the merger puts the
-included file in its place.
+The web explains it in an order for readers. The tangler writes the C text in
+the order that a compiler needs; the merger replaces the include line by the
+lines of the included file.
 
 @c
 @<Header files@>@;
@@ -19,24 +19,23 @@ int main(void)
   return 0;
 }
 
-@ Reading and printing are all that we ask of the C library.
+@ The C library is used for reading and printing only.
 
 @<Header files@>=
 #include <stdio.h>
 
-@ Three counts are kept. They are as wide as the machine allows, since an
-input may be longer than memory.
+@ There are three counts. They are wide integers, since an input may be longer
+than the memory.
 
 @<Variables of the count@>=
 unsigned long lines = 0, words = 0, bytes = 0;
 
-@ The counting itself stands in a file of its own, which the next line takes in
-here. A line that begins with an at sign and the letter `i' is never printed:
-the lines of the file that it names come in its place.
+@ The counting is in a file of its own. The line below, which begins with an at
+sign and the letter `i', is replaced by the lines of that file.
 
 @i counting.w
 
-@ The counts come in the order that everybody knows.
+@ The counts have the usual order.
 
 @<Print the counts@>=
 printf("%lu %lu %lu\n", lines, words, bytes);
