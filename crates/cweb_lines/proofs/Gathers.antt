@@ -1,5 +1,5 @@
 -- How lines that were given out are gathered, passed on and lost.
-use Rattle.cweb_lines.proofs.Common.{◌≡◌, ℕ, List, [], ◌∷◌, ◌++◌, length, refl, sym, ◌∙◌, ap, inl, inr, arith, length-append, IsTrue, append-nil, append_assoc, KeepsPlace, Writes, Line, Event, SoFar, Gives, Held, given_lines, text_of, WritesFront, Gathered, FailsAmong, LosesLine, PassesOn}
+use Rattle.cweb_lines.proofs.Common.{◌≡◌, ◌<◌, ℕ, List, [], ◌∷◌, ◌++◌, length, refl, sym, ◌∙◌, ap, inl, inr, arith, length-append, IsTrue, append-nil, append_assoc, KeepsPlace, Writes, Line, Event, SoFar, Gives, Held, given_lines, text_of, WritesFront, Gathered, FailsAmong, LosesLine, PassesOn}
 use Rattle.cweb_files.specs.declared.device.Sink.{Ghosts as Sink}
 use Rattle.cweb_files.proofs.Keeps.{place_told, writes_then}
 use Rattle.cweb_lines.proofs.Sums.{gives_both}
@@ -49,6 +49,18 @@ held_on room old so all now Wrote piece h lines so' later next more is alone = r
   piece_is = simp (is, h.piece_is, text_of-append);
   some = omega (arith, h.some, length-append h.gathered lines);
   alone = λ none. simp (no_lines lines piece (sym is ∙ alone none), append-nil, h.alone none);
+}
+
+-- lines were gathered; that one of them came last is forgotten
+pub kept_held : (room : ℕ) (old so : SoFar) (all now : List Event) (Wrote : List ℕ → Type 0) (piece : List ℕ) →
+    0 < room → Held room old so all now Wrote piece → Gathered room old so all now Wrote piece
+kept_held room old so all now Wrote piece some h = record {
+  done = h.done;
+  gathered = h.gathered;
+  gives = h.gives;
+  wrote = h.wrote;
+  piece_is = h.piece_is;
+  alone = λ none. absurd (omega (arith, some, none));
 }
 
 module _ {W : Type 0} (sink : Sink W) (first mid : W) (keeps : KeepsPlace sink first mid) (room : ℕ) (old so : SoFar)

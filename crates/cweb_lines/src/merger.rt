@@ -19,7 +19,7 @@ use crate::step::turning::take_turn;
 use crate::writing::pass::pass_lines;
 use cweb_files::{Place, Shelf};
 use cweb_open::{FileNames, Limits, SourceFault, Stack, Stop, find_change, find_web};
-use std::alloc::Global;
+use std::alloc::{AllocError, Global};
 
 /// A web whose lines are being merged with those of the files that it includes. The shelf is handed to each call, as the
 /// call before left it.
@@ -203,12 +203,13 @@ impl<S: Shelf> Merger<S> {
         self.run.has_line()
     }
 
-    // Lines that were read and only pass through move to what a caller gathers, while that has less than so many bytes.
-    pub(crate) fn pass_lines(&mut self, piece: &mut Vec<u8>, room: usize)
+    /// Appends lines that were read and pass through to a caller's buffer, while that has fewer than `room` bytes.
+    pub(crate) fn pass_lines(&mut self, piece: &mut Vec<u8>, room: usize) -> Result<(), AllocError>
         ensures passes { PassesLines self.old.run self.new.run piece.old.items piece.new.items }
         ensures alone { room ≡ 0 → piece.new.items ≡ piece.old.items }
+        ensures err { OnErr result (0 < room) }
     {
-        pass_lines(&mut self.run, piece, room);
+        pass_lines(&mut self.run, piece, room)
     }
 
     /// Memory was refused to a caller that has taken a line: the merger answers that stop from then on, unless it has

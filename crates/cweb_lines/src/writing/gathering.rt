@@ -1,4 +1,4 @@
-// Lines behind those that were gathered before.
+// Appending a line to the output buffer.
 ghost use Rattle.std.specs.Prelude.{◌≡◌, ◌++◌, ◌∷◌, [], OnOk, OnErr, length, take};
 
 use std::alloc::AllocError;
@@ -7,12 +7,13 @@ fn push_line(piece: &mut Vec<u8>, line: &[u8]) -> Result<(), AllocError>
     ensures ok { OnOk result (piece.new.items ≡ piece.old.items ++ line.now ++ 10 ∷ []) }
     ensures front { take (length piece.old.items) piece.new.items ≡ piece.old.items }
 {
+    piece.reserve(line.len() + 1)?;
     piece.extend_from_slice(line)?;
     piece.push(b'\n')?;
     Ok(())
 }
 
-/// A line and its newline behind the lines that were gathered before: both, or neither.
+/// Appends a line and its newline: both, or neither. The room for both is requested at once, so a buffer grows once.
 pub fn gather(piece: &mut Vec<u8>, line: &[u8]) -> Result<(), AllocError>
     ensures ok { OnOk result (piece.new.items ≡ piece.old.items ++ line.now ++ 10 ∷ []) }
     ensures err { OnErr result (piece.new.items ≡ piece.old.items) }

@@ -1,22 +1,28 @@
-// Lines that pass through move straight behind what a caller gathers.
-ghost use Rattle.std.specs.Prelude.{◌≡◌};
+// Appending lines that pass through unchanged to a caller's buffer.
+ghost use Rattle.std.specs.Prelude.{◌≡◌, ◌<◌, OnErr};
 ghost use Rattle.cweb_lines.specs.Passing.{PassesLines};
 
 use crate::run::Run;
 use crate::writing::gathering::gather;
+use std::alloc::AllocError;
 
-/// Lines that pass through move behind what is gathered, while that has less than so many bytes.
-pub fn pass_lines<R: Drop>(run: &mut Run<R>, piece: &mut Vec<u8>, room: usize)
+/// Appends lines that pass through, while the buffer has fewer than `room` bytes. Where memory is refused, the lines
+/// that were not appended are still to come.
+pub fn pass_lines<R: Drop>(
+    run: &mut Run<R>,
+    piece: &mut Vec<u8>,
+    room: usize,
+) -> Result<(), AllocError>
     ensures passes { PassesLines run.old run.new piece.old.items piece.new.items }
     ensures alone { room ≡ 0 → piece.new.items ≡ piece.old.items }
+    ensures err { OnErr result (0 < room) }
 {
     'lines: while piece.len() < room {
         let Some(stretch) = run.stretch(room - piece.len()) else {
             break 'lines;
         };
-        if let Err(_) = gather(piece, run.printed(stretch)) {
-            break 'lines;
-        }
+        gather(piece, run.printed(stretch))?;
         run.advance(stretch);
     }
+    Ok(())
 }

@@ -1,7 +1,7 @@
-use Rattle.cweb_lines.proofs.Common.{rules, ◌≡◌, Line, ◌+◌, [], refl, ap, sym, ◌∙◌, arith, IsTrue, Writes, Gives, Held, coming, told_by, to_come, so_far, read_blame, write_blame}
+use Rattle.cweb_lines.proofs.Common.{rules, ◌≡◌, ◌<◌, Gathered, Line, ◌+◌, [], refl, ap, sym, ◌∙◌, arith, IsTrue, Writes, Gives, Held, coming, told_by, to_come, so_far, read_blame, write_blame}
 use Rattle.cweb_open.proofs.Named.{blames_none, stop_after}
 use Rattle.cweb_lines.proofs.Fronts.{grows_told, told_halted, told_passed, told_same, told_then}
-use Rattle.cweb_lines.proofs.Gathers.{emptied, held, held_on, passed_on, fails_front, fails_among}
+use Rattle.cweb_lines.proofs.Gathers.{emptied, held, held_on, kept_held, passed_on, fails_front, fails_among}
 use Rattle.cweb_files.proofs.Keeps.{keeps_same, keeps_then, place_same, place_then}
 use Rattle.cweb_lines.proofs.Quiets.{Quiet, quiet_by, quiet_same, quiet_then, still_tells}
 use Rattle.cweb_lines.proofs.Writes.{nothing_yet, ends_front, ends_whole, ended_early, halted, fails_last, tells_some, tells_more, tells_same}
@@ -181,6 +181,64 @@ returns-in-Err-gather-clause-known g c = λ tells known.
           blames_rest _ _ _ c.halt.result c.write_rest-in-Err-gather.result _ _ c.write_rest-in-Err-gather.ensures.rest
           (blames_none _ _ _ _ (ap read_blame (c.halt.ensures.stop c.in-Ok.ensures.leaves.running))
           (q.blamed tells known));
+    }
+
+-- memory was refused for lines that pass through
+passed : (g : given.Over) (c : After-pass_lines g) → 0 < c.args.room → IsTrue (g.S.Shelf.tells c.args.shelf.now)
+    → Gathered c.args.room (so_far c.args.merger.now) (told_by c.pass_lines.new.self.run) (to_come g.S.Shelf
+    c.args.shelf.now c.args.merger.now) (coming (g.S.Shelf.texts c.next_line.new.shelf)
+    (g.S.Shelf.left c.next_line.new.shelf) c.pass_lines.new.self.run) (Writes g.W.Sink c.args.out.now c.lines.out)
+    c.pass_lines.new.piece.items
+passed g c some tells = kept_held _ _ _ _ _ _ _ some (more g c tells)
+
+pub returns-in-Err-pass_lines : goal.returns-in-Err-pass_lines
+returns-in-Err-pass_lines g c =
+    let at = goal.at.returns-in-Err-pass_lines g c in
+    let q = quiet g at.In-Ok in
+    let running = c.pass_lines.ensures.passes.stopped ∙ c.in-Ok.ensures.leaves.running in
+    let is_memory = c.halt-in-Err-pass_lines.ensures.stop running in
+    let rest = rw (is_memory, c.deref-in-Err-pass_lines.ensures.value) at c.write_rest-in-Err-pass_lines.ensures.rest in
+    let quiet_on = told_then _ _ _ q.told (told_passed c.pass_lines.ensures.passes) in
+    record {
+      keeps = (
+        keeps_then g.S.Shelf _ _ _ c.lines.invariant.keeps c.in-Ok.ensures.keeps,
+        place_then g.W.Sink _ _ _ c.lines.invariant.place c.write_rest-in-Err-pass_lines.ensures.keeps,
+      );
+      grows = grows_told c.halt-in-Err-pass_lines.new.self.run
+          (told_then _ _ _ quiet_on (told_halted c.halt-in-Err-pass_lines.ensures.so_far));
+      ok = λ _. tt;
+      ended = tt;
+      front = λ tells. ends_front g.W.Sink _ _ c.lines.invariant.place _ _ _ _ _ _
+          (passed g at.After-pass_lines c.in-Err-pass_lines.ensures.err tells) c.write_rest-in-Err-pass_lines.new.out
+          (rw c.deref-in-Err-pass_lines.ensures.value at c.write_rest-in-Err-pass_lines.ensures.front);
+      stops = λ tells before.
+          let gathered = passed g at.After-pass_lines c.in-Err-pass_lines.ensures.err tells in
+          record {
+            why = halted g.W.Sink _ _ c.lines.invariant.place _ _ _ _ _ _ gathered
+                c.write_rest-in-Err-pass_lines.result _ c.write_rest-in-Err-pass_lines.new.out rest;
+            told = tells_same _ _ _ _ c.halt-in-Err-pass_lines.ensures.so_far (tells_some _ _ _ _ _ gathered.gives);
+          };
+      fault = search rules;
+      blames = λ before. blamed c.args.room c.halt-in-Err-pass_lines.result c.write_rest-in-Err-pass_lines.result
+          _ _ _ _ _ _ c.write_rest-in-Err-pass_lines.ensures.rest (rw is_memory tt)
+          c.halt-in-Err-pass_lines.ensures.kept c.halt-in-Err-pass_lines.ensures.named
+          (λ none. absurd (omega (arith, none, c.in-Err-pass_lines.ensures.err)))
+          (omega (
+            arith,
+            (c.in-Ok.ensures.blames c.lines.invariant.running).failed,
+            c.lines.invariant.failed,
+            ap read_blame is_memory,
+          ))
+          (c.write_rest-in-Err-pass_lines.ensures.failed
+          ∙ ap (λ n. n + write_blame c.write_rest-in-Err-pass_lines.result) c.lines.invariant.out_failed);
+      known = λ tells known. record {
+        readers = c.halt-in-Err-pass_lines.ensures.readers _ (c.pass_lines.ensures.passes.readers _
+            (q.readers tells known));
+        blamed = λ before. blames_rest _ _ _ c.halt-in-Err-pass_lines.result c.write_rest-in-Err-pass_lines.result _ _
+            c.write_rest-in-Err-pass_lines.ensures.rest
+            (blames_none _ _ _ _ (ap read_blame is_memory) (q.blamed tells known));
+      };
+      again = none_before _ c.lines.invariant.before;
     }
 
 -- a write failed
