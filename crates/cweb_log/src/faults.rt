@@ -12,6 +12,7 @@ use itoa::Buffer;
 
 /// Writes the lines of faults to the log in their order, each with the name of its file and its line number. They are
 /// gathered and written in large pieces, and take no memory.
+#[inline(never)]
 pub fn write_faults<L: Sink>(
     log: &mut L,
     names: &FileNames,

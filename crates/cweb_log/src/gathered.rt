@@ -88,6 +88,7 @@ impl Gathered {
 }
 
 /// Writes a line that is these parts, in one piece where it is not very long.
+#[inline(never)]
 pub(crate) fn say<L: Sink>(log: &mut L, parts: &[&[u8]]) -> Result<(), SinkFault>
     requires { L.failed log.old + 1 < 2 ^ 64 }
     ensures { Writes (joined parts.now)

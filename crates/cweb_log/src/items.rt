@@ -20,6 +20,7 @@ pub fn write_banner<L: Sink>(log: &mut L) -> Result<(), SinkFault>
 }
 
 /// Writes a star and the number of each section, on one line.
+#[inline(never)]
 pub fn write_starred<L: Sink>(log: &mut L, numbers: &[u32]) -> Result<(), SinkFault>
     requires { L.failed log.old + 1 < 2 ^ 64 }
     ensures { Writes (line (starred numbers.now))

@@ -19,6 +19,7 @@ use cweb_store::{NameFault, NameId, NameKind, Store};
 use itoa::Buffer;
 
 /// Writes the lines of the faults of a web's text in their order, each with the name of its file and its line number.
+#[inline(never)]
 pub fn write_scan_faults<L: Sink>(
     log: &mut L,
     names: &FileNames,
@@ -77,6 +78,7 @@ fn scan_text(kind: ScanKind) -> &'static str
 }
 
 /// Writes the lines of the faults of a web's names in their order.
+#[inline(never)]
 pub fn write_name_faults<L: Sink>(log: &mut L, store: &Store) -> Result<(), SinkFault>
     requires { L.failed log.old + 1 < 2 ^ 64 }
     ensures { Writes (flat_map line (name_items store.now))
@@ -169,6 +171,7 @@ fn write_named<L: Sink>(log: &mut L, text: &str, name: &[u8]) -> Result<(), Sink
     say(log, &[b"! ", text.as_bytes(), name, b">\n"])
 }
 
+#[inline(never)]
 fn write_cycle<L: Sink>(log: &mut L, store: &Store, names: &[NameId]) -> Result<(), SinkFault>
     requires { L.failed log.old + 1 < 2 ^ 64 }
     ensures { Writes (line (fault (codes "Cycle:" ++ flat_map (cycle_step store.now) names.now)))

@@ -1,6 +1,6 @@
 // The names so far.
 
-ghost use Rattle.std.specs.Prelude.{false, ◌≡◌, ◌<◌, ◌^◌, [], map, length, slice_get, bytes_eq, option_map, Some, IfOk, OnOk, OnErr};
+ghost use Rattle.std.specs.Prelude.{false, ◌≡◌, ◌<◌, ◌^◌, [], map, length, slice_get, bytes_eq, option_map, Some, IfOk, IfSome, true, OnOk, OnErr};
 ghost use Rattle.std.specs.List.{list_any, position_or_len};
 ghost use Rattle.cweb_names.specs.Names.{beginning, is_prefix_of_another, occurrence_of, texts, with_name, with_text};
 ghost use Rattle.cweb_names.specs.Found.{found_of};
@@ -31,8 +31,9 @@ pub struct KnownNames {
     alloc: Global,
     names: Vec<KnownName>,
     sorted: BTreeMap<SortedText, NameId>,
-    // the name that was given last, of those whose texts share a home
-    latest: [NameId; HOMES],
+    // for each home the name that was given last, of those whose texts share it; empty before the first name. It is on the heap,
+    // since a builder is moved several times.
+    latest: Vec<NameId>,
 }
 
 impl Model for KnownNames {
@@ -58,7 +59,7 @@ impl KnownNames {
             alloc,
             names: Vec::new(alloc),
             sorted: BTreeMap::new(alloc),
-            latest: [NameId(0); HOMES],
+            latest: Vec::new(alloc),
         }
     }
 
@@ -79,13 +80,25 @@ impl KnownNames {
         ensures err { OnErr result (self.new ≡ self.old) }
     {
         let home = home_of(text);
-        let latest = self.latest[home];
-        if self.has(latest, text) {
-            return Ok(latest);
+        if let Some(known) = self.latest_at(home, text) {
+            return Ok(known);
+        }
+        if self.latest.is_empty() {
+            self.latest = vec![in self.alloc; NameId(0); HOMES]?;
         }
         let id = self.add(text, first)?;
-        self.latest[home] = id;
+        if let Some(latest) = self.latest.get_mut(home) {
+            *latest = id;
+        }
         Ok(id)
+    }
+
+    // The name that was given last at a home, where it has this text.
+    fn latest_at(&self, home: usize, text: &[u8]) -> Option<NameId>
+        ensures { IfSome result (λ id. has_text_at self.now id.0 text.now ≡ true) }
+    {
+        let id = *self.latest.get(home)?;
+        if self.has(id, text) { Some(id) } else { None }
     }
 
     // Whether the name with a number has a text.

@@ -69,13 +69,13 @@ impl Replacements {
     }
 }
 
-/// Where each byte stands last, if anywhere.
-pub(crate) fn last_places(bytes: &[u8]) -> [Option<usize>; 256]
-    ensures { AreLast result bytes.now }
+/// For each byte the index of its last occurrence, if any. The table is on the heap, since a store is moved several times.
+pub(crate) fn last_places(alloc: Global, bytes: &[u8]) -> Result<Vec<Option<usize>>, AllocError>
+    ensures { IfOk result (λ places. AreLast places.items bytes.now) }
 {
-    let mut places = [None; 256];
+    let mut places = Vec::from_array(alloc, [None; 256])?;
     for (i, byte) in bytes.iter().enumerate() {
         places[*byte as usize] = Some(i);
     }
-    places
+    Ok(places)
 }

@@ -31,7 +31,7 @@ pub struct Store {
     links: Links,
     given: Vec<GivenAs>,
     replaced: Vec<u8>,
-    last_places: [Option<usize>; 256],
+    last_places: Vec<Option<usize>>,
     firsts: Vec<u32>,
     standings: Vec<Result<NameId, NameKind>>,
     files: IndexSet<NameId>,
@@ -68,7 +68,7 @@ impl Model for Store {
     ghost view = { λ s. stored_in s.tokens s.runs.items s.given.items s.replaced.items };
 
     ghost invariant = { λ s.
-        AreStored s.tokens s.runs.items s.links s.given.items s.replaced.items s.last_places
+        AreStored s.tokens s.runs.items s.links s.given.items s.replaced.items s.last_places.items
         s.firsts.items s.standings.items s.files.keys s.faults.items s.has_defs_code };
 }
 
@@ -100,13 +100,14 @@ impl Store {
             links,
             has_defs_code,
         } = answers;
+        let last_places = last_places(alloc, replaced.as_slice())?;
         let store = Store {
-            last_places: last_places(replaced.as_slice()),
             tokens,
             runs,
             links,
             given,
             replaced,
+            last_places,
             firsts,
             standings,
             files,

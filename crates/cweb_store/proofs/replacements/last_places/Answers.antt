@@ -1,16 +1,18 @@
-use Rattle.cweb_store.proofs.Common.{None, Some, sym, ◌∙◌, ap, refl, arith, common_steps, drop_all, get_or-replicate, slice_get-get_or, last_from}
+use Rattle.cweb_store.proofs.Common.{ℕ, List, Option, None, Some, length, get_or, sym, ◌∙◌, ap, arith, common_steps, drop_all, get_or-replicate, slice_get-get_or, last_from}
 use Rattle.cweb_store.proofs.replacements.last_places.Goals as goal
 
 pub loop-i-init : goal.loop-i-init
 loop-i-init c =
+    let none = c.in_ok-places.ensures.items in
     record {
-      all = refl;
-      last = λ byte h. ap (λ found. last_from byte found 0 c.args.bytes.now) (get_or-replicate 256 byte None None h);
+      all = ap (λ (ps : List (Option ℕ)). length ps) none;
+      last = λ byte h. ap (λ found. last_from byte found 0 c.args.bytes.now)
+          (ap (λ (ps : List (Option ℕ)). get_or ps byte None) none ∙ get_or-replicate 256 byte None None h);
     }
 
 pub returns : goal.returns
 returns c = λ byte h.
-    let places = c.loop-i.places in
+    let places = c.loop-i.places.items in
     let none = drop_all c.loop-i.i c.args.bytes.now c.loop-i-test.false in
     slice_get-get_or places byte None (omega (arith, h, c.loop-i.invariant.all))
     ∙ ap Some (ap (last_from byte _ c.loop-i.i) (sym none) ∙ c.loop-i.invariant.last byte h)

@@ -19,7 +19,8 @@ invariant_of-store c =
     ps all.standings.items all.files.keys all.faults.items all.has_defs_code) (sym apart.ensures.parts) found.answers in
     let linked = subst (λ (xs : List Run). AreLinked all.standings.items xs all.links.skips.items all.links.heads)
     (ap (runs_from 0) (sym apart.ensures.parts) ∙ sym (stored-runs ts runs apart.ensures.whole)) found.linked in
-    let last = subst (AreLast c.last_places.result) (c.as_slice.ensures.value ∙ texts.bytes) c.last_places.ensures in
+    let last = subst (AreLast c.in_ok-last_places.last_places.items) (c.as_slice.ensures.value ∙ texts.bytes)
+    c.in_ok-last_places.ensures in
     rw (tokens, texts.given, texts.bytes)
     (stored-are ts runs all.links os rs _ _ _ _ _ _ apart.ensures.whole linked last found.firsts found.few answers)
 
