@@ -83,8 +83,11 @@ impl KnownNames {
         if let Some(known) = self.latest_at(home, text) {
             return Ok(known);
         }
+        // a name is found without the table too, so no call fails for it
         if self.latest.is_empty() {
-            self.latest = vec![in self.alloc; NameId(0); HOMES]?;
+            if let Ok(latest) = vec![in self.alloc; NameId(0); HOMES] {
+                self.latest = latest;
+            }
         }
         let id = self.add(text, first)?;
         if let Some(latest) = self.latest.get_mut(home) {
