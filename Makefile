@@ -1,63 +1,76 @@
-# The front door. `make` lists what there is.
+# `make` proves and builds both programs. `make help` lists what else there is.
 
-PREFIX ?= /usr/local
-BINDIR ?= $(PREFIX)/bin
-MANDIR ?= $(PREFIX)/share/man
-CTANGLE := crates/ctangle/out/ctangle
-WMERGE := crates/wmerge/out/wmerge
+prefix ?= $(if $(PREFIX),$(PREFIX),/usr/local)
+bindir ?= $(if $(BINDIR),$(BINDIR),$(prefix)/bin)
+mandir ?= $(if $(MANDIR),$(MANDIR),$(prefix)/share/man)
+# for the names of installed programs and pages, as in cweb-ctangle
+PROGRAM_PREFIX ?=
+PROGRAM_SUFFIX ?=
+INSTALL ?= install
+INSTALL_PROGRAM ?= $(INSTALL) -m 755
+INSTALL_DATA ?= $(INSTALL) -m 644
+
+top := $(dir $(realpath $(lastword $(MAKEFILE_LIST))))
+
+ifneq ($(realpath .)/,$(top))
+# another folder's `make -f`: do it there
+$(or $(MAKECMDGOALS),all): elsewhere ;
+.PHONY: elsewhere $(or $(MAKECMDGOALS),all)
+elsewhere:
+	@$(MAKE) --no-print-directory -C $(top) $(MAKECMDGOALS)
+else
+
+PROVED := build/proved
+UNPROVED := build/unproved
 BENCH := crates/bench/out/bench
-# any letter of it: the programs were proved with 13b and with 13f
+PROGRAMS := ctangle wmerge
+# the programs that installcheck tests
+CTANGLE ?= $(DESTDIR)$(bindir)/$(PROGRAM_PREFIX)ctangle$(PROGRAM_SUFFIX)
+WMERGE ?= $(DESTDIR)$(bindir)/$(PROGRAM_PREFIX)wmerge$(PROGRAM_SUFFIX)
+# with any letter after it: the programs were proved with 13b and with 13f
 KIT := rattle-kit-13
-# a check by several jobs takes 1 to 4 GB
-JOBS ?= $(shell nproc)
-SOURCES := crates.txt $(shell find crates -name out -prune -o -type f \( -name '*.rt' -o -name '*.antt' \) -print)
+SOURCES := HANDLES crates.txt $(shell find crates -name out -prune -o -type f \( -name '*.rt' -o -name '*.antt' \) -print)
+NOT_PROVED := echo 'NOTHING IN THIS BUILD IS PROVED. "make build" proves both programs (20 minutes the first time, on four processors),'; \
+    echo 'and "make check" tests the proofs, the contracts and the programs as well (50 minutes).'
 
-.PHONY: help demo check format build faults install uninstall bench clean
+.PHONY: all help demo build check format faults dist install uninstall installcheck bench clean distclean
+
+all: build
 
 help:
-	@echo 'make demo       builds both programs, merges an example web, and tangles, compiles and runs another one'
-	@echo 'make build      proves and builds ctangle and wmerge: half an hour the first time, on four processors'
-	@echo 'make install    copies the programs that make build made, and their man pages, below "$(PREFIX)" (PREFIX, BINDIR,'
-	@echo '                MANDIR and DESTDIR are obeyed); it proves nothing'
-	@echo 'make uninstall  removes what make install copied'
-	@echo 'make check      the gate: proves every crate from nothing, and runs all tests and programs'
-	@echo 'make format     formats every crate: the gate refuses one that rt fmt would change'
-	@echo 'make faults     runs the programs while their reads, writes, openings and allocations fail, one after the other, and on'
-	@echo '                hostile webs and folders, and twice at a time'
-	@echo 'make bench      measures time, memory and instructions of the programs on generated webs, and what scans, stores and outputs cost'
-	@echo 'make clean      removes what make demo and make bench wrote'
+	@echo 'make demo          builds both programs in two minutes, without proof, and runs them on the webs of examples/'
+	@echo 'make build         proves and builds ctangle and wmerge: 20 minutes the first time, on four processors'
+	@echo 'make install       copies the proved programs and their man pages below "$(prefix)" (prefix, bindir, mandir, DESTDIR,'
+	@echo '                   INSTALL, PROGRAM_PREFIX and PROGRAM_SUFFIX are obeyed); it builds nothing'
+	@echo 'make uninstall     removes what make install copied'
+	@echo 'make installcheck  tests the installed programs, or those that CTANGLE and WMERGE name; it needs no kit'
+	@echo 'make dist          makes a tarball of proved static programs, which run on any x86-64 Linux'
+	@echo 'make check         the gate: proves all crates, refuses each mutant, runs all tests and programs'
+	@echo 'make faults        runs the proved programs while their system calls and allocations fail, and on hostile webs and folders'
+	@echo 'make format        formats every crate: the gate refuses one that rt fmt would change'
+	@echo 'make bench         measures time, memory and instructions'
+	@echo 'make clean         removes what demo, build, dist and bench made; the proofs that rt keeps stay'
+	@echo 'make distclean     also removes the work that rt keeps in crates/*/out (up to 5.4 GB), which speeds up later checks'
 
-build: $(WMERGE) $(CTANGLE)
-
-# kit WHAT: says at once where the kit that proves and builds isn't there, or is another one
+# kit TARGET: ends at once if the kit is not there, or is another one
 define kit
-@command -v rt > /dev/null || { echo 'make: $(1) takes a $(KIT), and its command rt is not on the path' >&2; exit 1; }
-@case $$(rt version) in '$(KIT)'[a-z]' '*) ;; *) echo "make: $(1) takes a $(KIT), and rt is of another kit: $$(rt version)" >&2; exit 1;; esac
-@mkdir -p $(@D)
+@command -v rt > /dev/null || { echo 'make: $(1) needs $(KIT), whose command rt is not on the path' >&2; exit 1; }
+@case $$(rt version) in '$(KIT)'[a-z]' '*) ;; *) echo "make: $(1) needs $(KIT), and rt is of another kit: $$(rt version)" >&2; exit 1;; esac
 endef
 
-# rt runs what it has built, so it is given a web. Crates that haven't changed are not proved again. build,PROGRAM,WORDS
-define build
-$(call kit,to build $(1))
-@echo 'Proving and building $(1). The first time this takes long: half an hour for both programs, on four processors.'
-@echo 'What the prover says goes to $(@D)/build.log.'
-@cd crates/$(1) && CWEBINPUTS=data rt run --jobs $(JOBS) -- $(2) > out/build.log 2>&1 || { tail -n 20 out/build.log >&2; exit 1; }
-@touch $@
-@echo 'Built $@.'
-endef
+build: $(PROVED)/stamp
 
-$(WMERGE): $(SOURCES)
-	$(call build,wmerge,data/a)
+$(PROVED)/stamp: $(SOURCES)
+	$(call kit,build)
+	@tools/build $(PROVED)
+	@touch $@
 
-$(CTANGLE): $(SOURCES)
-	$(call build,ctangle,-bph data/hello - out/hello.c)
-
-demo: build
-	@echo '--- wmerge tally, in the folder examples: tally.w with counting.w in place of its @i line'
-	@cd examples && ../$(WMERGE) tally
-	@echo '--- wmerge tally tally: the same, with the changes of tally.ch'
-	@cd examples && ../$(WMERGE) tally tally
-	@examples/tangle $(CTANGLE)
+demo:
+	$(call kit,demo)
+	@$(NOT_PROVED)
+	@tools/unproved $(UNPROVED)
+	@examples/demo $(UNPROVED)/wmerge $(UNPROVED)/ctangle
+	@$(NOT_PROVED)
 
 check:
 	@.ci/run
@@ -66,36 +79,52 @@ format:
 	@for crate in crates/*/; do (cd $$crate && rt fmt) || exit 1; done
 
 faults: build
-	@tests/faults $(WMERGE)
-	@tests/tangle_faults $(CTANGLE)
-	@tests/folders $(CTANGLE) $(WMERGE)
-	@tests/two_runs $(CTANGLE)
-	@tests/examples $(CTANGLE)
+	@tests/all $(PROVED)/ctangle $(PROVED)/wmerge
+
+installcheck:
+	@tests/all $(CTANGLE) $(WMERGE)
+
+dist: build
+	$(call kit,dist)
+	@tools/dist
 
 install:
-	@for program in $(CTANGLE) $(WMERGE); do \
-	    test -x $$program || { echo "make: $$program is not there: make build first" >&2; exit 1; }; \
+	@for program in $(PROGRAMS); do \
+	    test -x $(PROVED)/$$program || { echo "make: $(PROVED)/$$program is not there: make build first" >&2; exit 1; }; \
 	done
-	install -d "$(DESTDIR)$(BINDIR)" "$(DESTDIR)$(MANDIR)/man1"
-	install -m 755 $(CTANGLE) $(WMERGE) "$(DESTDIR)$(BINDIR)"
-	install -m 644 man/ctangle.1 man/wmerge.1 "$(DESTDIR)$(MANDIR)/man1"
+	$(INSTALL) -d "$(DESTDIR)$(bindir)" "$(DESTDIR)$(mandir)/man1"
+	@set -e; for program in $(PROGRAMS); do \
+	    name="$(PROGRAM_PREFIX)$$program$(PROGRAM_SUFFIX)"; set -x; \
+	    $(INSTALL_PROGRAM) $(PROVED)/$$program "$(DESTDIR)$(bindir)/$$name"; \
+	    $(INSTALL_DATA) man/$$program.1 "$(DESTDIR)$(mandir)/man1/$$name.1"; \
+	    { set +x; } 2> /dev/null; \
+	done
 
 uninstall:
-	rm -f "$(DESTDIR)$(BINDIR)/ctangle" "$(DESTDIR)$(BINDIR)/wmerge"
-	rm -f "$(DESTDIR)$(MANDIR)/man1/ctangle.1" "$(DESTDIR)$(MANDIR)/man1/wmerge.1"
+	@set -e; for program in $(PROGRAMS); do \
+	    name="$(PROGRAM_PREFIX)$$program$(PROGRAM_SUFFIX)"; set -x; \
+	    rm -f "$(DESTDIR)$(bindir)/$$name" "$(DESTDIR)$(mandir)/man1/$$name.1"; \
+	    { set +x; } 2> /dev/null; \
+	done
 
 $(BENCH): $(SOURCES)
-	$(call kit,to build bench)
-	@cd crates/bench && rt run --jobs $(JOBS) > out/build.log 2>&1 || { tail -n 20 out/build.log >&2; exit 1; }
+	$(call kit,bench)
+	@mkdir -p $(@D)
+	@cd crates/bench && rt run --jobs $$(nproc) > out/build.log 2>&1 || { tail -n 20 out/build.log >&2; exit 1; }
 	@touch $@
 
 bench: build $(BENCH)
-	@bench/run $(WMERGE)
-	@bench/run_tangle $(CTANGLE)
+	@bench/run $(PROVED)/wmerge
+	@bench/run_tangle $(PROVED)/ctangle
 	@bench/outputs $(BENCH)
 	@bench/run_scan $(BENCH)
 	@bench/store $(BENCH)
-	@bench/run_shapes $(CTANGLE)
+	@bench/run_shapes $(PROVED)/ctangle
 
 clean:
-	rm -rf bench/work examples/work
+	rm -rf build bench/work examples/work
+
+distclean: clean
+	rm -rf crates/*/out
+
+endif

@@ -62,6 +62,11 @@ def dead_streams():
     return {"closed": None, "full": full, "without a reader": writer, "not for writing": unwritable}
 
 
+def built(name):
+    """The path of a program that `make build` built."""
+    return os.path.join(HERE, "../build/proved", name)
+
+
 def programs_at(paths):
     """The whole paths of built programs. Where one isn't there, that ends the script."""
     for path in paths:
