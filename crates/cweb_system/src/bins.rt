@@ -8,12 +8,12 @@ ghost use Rattle.cweb_system.specs.Devices.{target_bytes};
 use crate::drafts::{Draft, start_fault};
 use crate::files_read::FilesRead;
 use crate::standing::{Standing, Way};
-use crate::system::{FileKey, Held, seen_as};
+use crate::system::{FileKey, Held, is_stream, seen_as};
 use crate::target::Target;
 use cweb_bins::{BinFault, Bins};
 use cweb_files::{Sink, SinkFault};
 use std::alloc::{AllocError, Global};
-use std::collections::BTreeMap;
+use std::collections::{BTreeMap, BTreeSet};
 use std::fs;
 use std::fs::OpenFile;
 use std::io::Write;
@@ -64,31 +64,48 @@ impl<'a, R: Files<File: Held> + Drop> FolderBins<'a, R> {
         }
     }
 
-    /// Begins an output of a name, by what stands under it.
+    /// Begins an output of a name. The run reads no file meanwhile.
     fn begin(&mut self, name: &str) -> Result<Target<R::File>, BinFault>
+        ensures failed { bins_failures self.new ≡ bins_failures self.old }
+    {
+        let read = self.read.take();
+        let begun = self.begin_beside(name, &read);
+        self.read.put_back(read);
+        begun
+    }
+
+    /// Begins an output of a name, by what is under it, in a run that has read some files.
+    fn begin_beside(
+        &mut self,
+        name: &str,
+        read: &BTreeSet<FileKey>,
+    ) -> Result<Target<R::File>, BinFault>
         ensures failed { bins_failures self.new ≡ bins_failures self.old }
     {
         let standing = match Standing::of(&self.files, name) {
             Ok(standing) => standing,
             Err(error) => return Err(start_fault(&error)),
         };
-        let is_written = self.has_written(standing);
-        let read = self.read.take();
-        let way = standing.way(&read, is_written);
-        self.read.put_back(read);
-        match way {
-            Way::Draft(replaced) => self.begin_draft(name, replaced),
+        let is_own = self.is_own(standing);
+        match standing.way(read, is_own) {
+            Way::Draft(replaced) => self.begin_draft(name, replaced, read),
             Way::Device(device) => Target::open_device(self.alloc, &self.files, name, device),
             Way::Refused => Err(BinFault::Device),
         }
     }
 
-    /// Whether this run wrote what stands there. Where it isn't under its own name any more another run has replaced it, and
-    /// its key may be that of another file by now.
-    fn has_written(&self, standing: Standing) -> bool {
-        let Standing::File(file, _) = standing else {
-            return false;
-        };
+    /// Whether the run has written this file, or a standard stream is the target of this link.
+    fn is_own(&self, standing: Standing) -> bool {
+        match standing {
+            Standing::File(file, _) => self.has_written(file),
+            Standing::Link(Some(target)) => is_stream(&self.files, target),
+            _ => false,
+        }
+    }
+
+    /// Whether the run has written this file. If it is no longer under its own name, another run has replaced it, and the
+    /// system may have given its key to another file.
+    fn has_written(&self, file: FileKey) -> bool {
         match self.written.get(&file) {
             Some(name) => !matches!(seen_as(&self.files, name.as_str(), file), Ok(None)),
             None => false,
@@ -100,10 +117,11 @@ impl<'a, R: Files<File: Held> + Drop> FolderBins<'a, R> {
         &mut self,
         name: &str,
         replaced: Option<u32>,
+        read: &BTreeSet<FileKey>,
     ) -> Result<Target<R::File>, BinFault>
         ensures failed { bins_failures self.new ≡ bins_failures self.old }
     {
-        let draft = Draft::begin(self.alloc, &self.files, name, replaced)?;
+        let draft = Draft::begin(self.alloc, &self.files, name, replaced, read)?;
         if self.note(draft.file, name).is_err() {
             draft.delete(&self.files);
             return Err(BinFault::Memory);

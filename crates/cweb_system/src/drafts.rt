@@ -1,11 +1,13 @@
 // Drafts of files of the system.
-ghost use Rattle.std.specs.Prelude.{◌≡◌, ◌++◌, [], ◌∷◌, string_bytes, IfOk, IfErr};
+ghost use Rattle.std.specs.Prelude.{◌≡◌, ◌++◌, [], ◌∷◌, string_bytes, IfOk, IfErr, IsErr};
 ghost use Rattle.std.specs.Io.Buffered.{writer_buffer};
+ghost use Rattle.cweb_system.specs.Ways.{IsRead};
 
-use crate::standing::permissions;
+use crate::standing::{Standing, permissions};
 use crate::system::{FileKey, Held, remove, seen, seen_as};
 use cweb_bins::BinFault;
 use std::alloc::{AllocError, Global};
+use std::collections::BTreeSet;
 use std::fs::{Metadata, OpenFile, OpenOptions, Permissions};
 use std::io::{BufWriter, Error, ErrorKind, Write};
 use std::os::unix::fs::{OpenOptionsExt, PermissionsExt};
@@ -46,6 +48,7 @@ impl<F: Write + OpenFile + Held + Drop> Draft<F> {
         files: &R,
         name: &str,
         replaced: Option<u32>,
+        read: &BTreeSet<FileKey>,
     ) -> Result<Draft<F>, BinFault>
         ensures named { IfOk result (λ draft. string_bytes draft.name ≡ name.now) }
         ensures path { IfOk result (λ draft. string_bytes draft.path ≡ name.now ++ 127 ∷ []) }
@@ -62,7 +65,7 @@ impl<F: Write + OpenFile + Held + Drop> Draft<F> {
         if let Some(permissions) = replaced {
             how.mode(permissions | OWNERS);
         }
-        let (out, file) = match created(files, path.as_str(), &how) {
+        let (out, file) = match created(files, path.as_str(), &how, read) {
             Ok(created) => created,
             Err(error) => return Err(start_fault(&error)),
         };
@@ -130,14 +133,15 @@ impl<F: Write + OpenFile + Held + Drop> Draft<F> {
     }
 }
 
-/// Creates a draft, in the place of what was left there.
+/// Creates a draft, when what was left at its path is cleared.
 fn created<R: Files<File: Held>>(
     files: &R,
     path: &str,
     how: &OpenOptions,
+    read: &BTreeSet<FileKey>,
 ) -> io::Result<Created<R::File>> {
     for _ in 0..TURNS {
-        if let Some(created) = created_now(files, path, how)? {
+        if let Some(created) = created_now(files, path, how, read)? {
             return Ok(created);
         }
     }
@@ -149,12 +153,13 @@ fn created_now<R: Files<File: Held>>(
     files: &R,
     path: &str,
     how: &OpenOptions,
+    read: &BTreeSet<FileKey>,
 ) -> io::Result<Option<Created<R::File>>> {
     match how.open(files, path) {
         Ok(file) => taken(files, path, file),
         Err(error) => match error.kind() {
             ErrorKind::AlreadyExists => {
-                clear(files, path)?;
+                clear(files, path, Standing::of(files, path)?, read)?;
                 Ok(None)
             }
             _ => Err(error),
@@ -186,25 +191,36 @@ fn stands<R: Files>(files: &R, path: &str, file: &R::File) -> io::Result<Option<
     Ok(seen_as(files, path, file)?.map(|_| file))
 }
 
-/// Removes what stands in a draft's place. A folder stays, and is an error.
-fn clear<R: Files<File: Held>>(files: &R, path: &str) -> io::Result<()> {
-    match seen(files, path)? {
-        None => Ok(()),
-        Some(found) if found.is_dir() => Err(Error::from(ErrorKind::IsADirectory)),
-        Some(found) if found.is_file() => clear_file(files, path),
-        Some(_) => remove(files, path),
+/// Removes what was left at a draft's path. A folder stays, and so does what the run has read: either is an error.
+fn clear<R: Files<File: Held>>(
+    files: &R,
+    path: &str,
+    left: Standing,
+    read: &BTreeSet<FileKey>,
+) -> io::Result<()>
+    ensures read { IsRead read.now.keys left → IsErr result }
+    ensures folder { left ≡ Standing.Folder → IsErr result }
+{
+    if left.is_read(read) {
+        return Err(Error::from(ErrorKind::AlreadyExists));
+    }
+    match left {
+        Standing::Nothing => Ok(()),
+        Standing::Folder => Err(Error::from(ErrorKind::IsADirectory)),
+        Standing::File(file, _) => clear_file(files, path, file),
+        Standing::Link(_) | Standing::Device(_) => remove(files, path),
     }
 }
 
-/// Waits until no run holds a draft, and removes it where it still stands there: a run that was killed left it. One that
-/// may not be opened can't be waited for.
-fn clear_file<R: Files<File: Held>>(files: &R, path: &str) -> io::Result<()> {
+/// Waits until no run holds a draft, and removes it if it is still there: a run that was killed left it. One that may not be
+/// opened can't be waited for.
+fn clear_file<R: Files<File: Held>>(files: &R, path: &str, left: FileKey) -> io::Result<()> {
     match fs::open(files, path) {
         Ok(file) => {
             let _ = file.lock();
             match stands(files, path, &file)? {
-                Some(_) => remove(files, path),
-                None => Ok(()),
+                Some(found) if found == left => remove(files, path),
+                _ => Ok(()),
             }
         }
         Err(error) => match error.kind() {

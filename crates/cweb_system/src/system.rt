@@ -9,6 +9,9 @@ use std::{fs, io};
 /// The descriptor of standard error, the last one of the standard streams.
 const LAST_STREAM: i32 = 2;
 
+/// Links of the system to the files that are the standard streams.
+const STREAMS: [&str; 3] = ["/proc/self/fd/0", "/proc/self/fd/1", "/proc/self/fd/2"];
+
 /// A file by its device and its number there: it is the same one under all its names.
 #[derive(Clone, Copy, Debug, PartialEq, Eq, PartialOrd, Ord)]
 pub(crate) struct FileKey {
@@ -52,6 +55,18 @@ impl Held for File {
     fn is_stream(&self) -> bool {
         self.as_raw_fd() <= LAST_STREAM
     }
+}
+
+/// Whether a file is a standard stream of the run. A stream that can't be looked up counts as none.
+pub(crate) fn is_stream<R: Files>(files: &R, file: FileKey) -> bool {
+    for stream in STREAMS {
+        if let Ok(found) = fs::metadata(files, stream) {
+            if FileKey::of(&found) == file {
+                return true;
+            }
+        }
+    }
+    false
 }
 
 /// What stands under a path, where anything does. A link isn't followed.
