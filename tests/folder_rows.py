@@ -1,6 +1,6 @@
 """The runs that `folders` makes on hostile webs, on pipes, and where little may be read or written."""
 import resource
-from dataclasses import dataclass, field
+from dataclasses import dataclass, field, replace
 from typing import Callable
 
 from tangle_cases import BANNER, line_mark, stopped
@@ -59,10 +59,24 @@ class Row:
     drafts: dict = field(default_factory=dict)
     # files that another process locks for a while, by their paths, and the path to which it renames each before it ends, if any
     held: dict = field(default_factory=dict)
-    # the standard streams that are closed
+    # the standard streams that are closed, and the files that are others, by their numbers
     closed: tuple = ()
+    streams: dict = field(default_factory=dict)
+    # what the streams write to files, by their paths
+    added: dict = field(default_factory=dict)
+    # the superuser runs the program
+    as_root: bool = False
+    # paths outside the folder that the row needs
+    needs: tuple = ()
     # what is done while it runs: it is given the process, and answers what is wrong
     meanwhile: Callable = None
+
+
+def as_both(rows):
+    """Each row as it is, and once more for the superuser."""
+    for row in rows:
+        yield row
+        yield replace(row, name=f"{row.name}, as root", as_root=True)
 
 
 def section(number, line, text):
@@ -144,8 +158,6 @@ def closed_files():
     yield Row("an output in a folder that may only be read", log, 1, files, two, modes={"d": 0o555})
     log = BANNER + b"Writing a.c\n" + NO_ERRORS
     yield Row("an output that may not be written is replaced", log, 0, web | old, text, modes={"a.c": 0o444})
-    files = web | {"kept": b"old\n"}
-    yield Row("a link in an output's place is replaced", log, 0, files, text, links={"a.c": "kept"})
 
 
 def disks():

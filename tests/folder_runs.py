@@ -76,9 +76,14 @@ def lay_out(row):
     """Makes the files of a row for the one who is to run the program, and answers what stands there then."""
     if row.foreign and os.getuid() != 0:
         raise CannotMake("only the superuser can leave files of another user")
+    if row.as_root and os.getuid() != 0:
+        raise CannotMake("only the superuser can run a program as root")
+    for path in row.needs:
+        if not os.path.lexists(path):
+            raise CannotMake(f"there is no {path}")
     make_nodes(row)
     for name in all_names():
-        os.chown(name, *owner(), follow_symlinks=False)
+        os.chown(name, *owner(row), follow_symlinks=False)
     for name in row.foreign:
         os.chown(name, 0, 0, follow_symlinks=False)
     nodes = nodes_here()
@@ -141,19 +146,37 @@ def limited(row):
         os.close(stream)
 
 
+def own_pipe(row):
+    """A pipe that the one who runs the program may open by its name below /proc, too."""
+    reader, writer = os.pipe()
+    os.fchown(writer, *owner(row))
+    return open(reader, "rb"), writer
+
+
+def stream_file(number, path):
+    return os.open(path, os.O_RDONLY if number == 0 else os.O_WRONLY | os.O_APPEND)
+
+
 def begun(program, row):
-    user, group = owner()
-    as_nobody = {"user": user, "group": group, "extra_groups": []} if os.getuid() == 0 else {}
-    return subprocess.Popen(
+    user, group = owner(row)
+    as_user = {"user": user, "group": group, "extra_groups": []} if os.getuid() == 0 else {}
+    (output, to_output), (log, to_log) = own_pipe(row), own_pipe(row)
+    files = {number: stream_file(number, path) for number, path in row.streams.items()}
+    streams = {0: subprocess.DEVNULL, 1: to_output, 2: to_log} | files
+    process = subprocess.Popen(
         [program, *row.words],
         env={"CWEBINPUTS": row.inputs} if row.inputs else {},
-        stdin=subprocess.DEVNULL,
-        stdout=subprocess.PIPE,
-        stderr=subprocess.PIPE,
+        stdin=streams[0],
+        stdout=streams[1],
+        stderr=streams[2],
         umask=row.umask,
         preexec_fn=lambda: limited(row),
-        **as_nobody,
+        **as_user,
     )
+    for ours in (to_output, to_log, *files.values()):
+        os.close(ours)
+    process.stdout, process.stderr = output, log
+    return process
 
 
 def let_go(row, locked, process):
