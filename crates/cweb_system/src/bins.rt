@@ -1,4 +1,4 @@
-// The files of the system's folders, as a place that keeps files. It tells no bytes.
+// The files of the system's folders, as bins. No contract sees their bytes.
 ghost use Rattle.std.specs.Prelude.{◌≡◌, ◌≤◌, ◌<◌, ◌+◌, ◌^◌, [], false, length, option_and_then, take, IfOk, IfErr, IsSome};
 ghost use Rattle.std.specs.Io.KnownBytes.{Appends};
 ghost use Rattle.cweb_files.specs.Device.{Counts};
@@ -22,20 +22,19 @@ use std::rt::Files;
 /// A folder that can be opened for reading anywhere.
 const ROOT: &str = "/";
 
-/// The files of the system, under their paths. The draft of a file is the file of its name followed by byte 127, which no
-/// output's name has: it is renamed where it is committed, and deleted where it is given up or can't be renamed. A
-/// deletion that fails leaves it there.
+/// The files of the system, by their paths. A draft has its file's name, followed by byte 127, which no output's name has.
+/// A commit renames the draft. It is deleted when it is given up or can't be renamed; if that fails, it stays.
 ///
 /// A file that was begun or committed here isn't begun again, whatever it is called.
 ///
-/// An output is written in large pieces. So a write may fail for what was taken before; the output is given up then, so
-/// that one that lost bytes is never committed.
+/// Bytes are gathered and written in large pieces, so a write may fail for bytes that were taken earlier. The output is given
+/// up then: one that lost bytes is never committed.
 #[derive(Drop)]
 pub struct FolderBins<'a, R: Files<File: Held> + Drop> {
     alloc: Global,
     files: R,
-    /// What stands in the place of standard streams that are closed: no draft is opened under their descriptors. They are
-    /// open for reading alone, so that writing to such a stream still fails.
+    /// Files that fill the descriptors of closed standard streams, so that no draft gets one. They are open for reading
+    /// only: to write to such a stream still fails.
     streams: [Option<R::File>; 3],
     /// The files that the run has read.
     read: &'a FilesRead,
@@ -48,7 +47,7 @@ pub struct FolderBins<'a, R: Files<File: Held> + Drop> {
 impl<'a, R: Files<File: Held> + Drop> FolderBins<'a, R> {
     ghost use Rattle.cweb_system.specs.Devices.{bins_failures, output_bytes, IsBegun};
 
-    /// It is to be made before any other file is opened. No output takes the place of a file that is noted as read.
+    /// Call it before any other file is opened. No output replaces a file that is noted as read.
     pub fn new(alloc: Global, files: R, read: &'a FilesRead) -> Self
         ensures { bins_failures result ≡ 0 }
     {
