@@ -42,8 +42,7 @@ def device_links():
     for kind, links in {"a link": {"a.c": "pipe"}, "a chain of links": chain}.items():
         yield Row(f"{kind} to a pipe, a small text", WELL, 0, WEB | {"d": None}, links=links, drains={"pipe": MAIN})
         yield Row(f"{kind} to a pipe, a large text", WELL, 0, large | {"d": None}, links=links, drains={"pipe": whole_large()})
-    chain = {"a.c": "link", "link": "/dev/null"}
-    yield Row("a chain of links to a device", WELL, 0, WEB, links=chain)
+    yield Row("a chain of links to a device", WELL, 0, WEB, links={"a.c": "link", "link": "/dev/null"})
     yield Row("a draft beside a link to a device stays", WELL, 0, WEB | {"a.c\x7f": b"draft"}, links={"a.c": "/dev/null"})
     yield Row("a link to a socket as main file", not_opened("a.c"), 1, WEB, links={"a.c": "socket"}, sockets=("socket",))
     log = not_opened("a.c", "f")
