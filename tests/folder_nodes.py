@@ -1,4 +1,4 @@
-"""What stands in a folder, and what is to stand there after a run."""
+"""What is in a folder, and what must be there after a run."""
 import glob
 import os
 import stat
@@ -12,13 +12,13 @@ SYSTEM = ["/dev/stdin", "/dev/stdout", "/dev/stderr", "/dev/fd", "/dev/null", "/
 
 @dataclass(frozen=True)
 class Node:
-    """What stands under a path: its text, where it is a file, the path in it, where it is a link, the number of a device."""
+    """What is under a path. Its text is that of a file, the target of a link, or the number of a device."""
 
     kind: int
     mode: int
     owner: tuple
     text: object
-    # the file's own number on its disk, None of a new one, and how many names it has
+    # the number of the file on its disk, None for a new file, and how many names the file has
     number: tuple = None
     names: int = 1
 
@@ -75,7 +75,7 @@ def put_back(before):
 
 
 def expected_nodes(row, before):
-    """What is to stand there: a file that is written has the permissions of the one before, or those that a new one gets."""
+    """What must be there: a file that is written has the permissions of the old one, or those of a new file."""
     nodes = {row.moved.get(name, name): node for name, node in before.items() if name not in row.gone}
     for name, text in row.written.items():
         old = before.get(name)
@@ -93,7 +93,7 @@ def is_new(row, name, old, found):
 
 
 def wrong_nodes(row, before, left):
-    """The paths under which not that stands what was to, and what stands there."""
+    """The paths with something else than what must be there, and what that is."""
     expected = expected_nodes(row, before)
     for name, (text, mode) in row.drafts.items():
         found = left.pop(name, None)

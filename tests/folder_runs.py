@@ -1,4 +1,4 @@
-"""How `folders` makes a folder, runs a program there, and compares all that stands there afterwards."""
+"""How `folders` makes a folder, runs a program there, and compares all that is there afterwards."""
 import fcntl
 import os
 import resource
@@ -12,16 +12,16 @@ from dataclasses import replace
 from fault_runs import shown
 from folder_nodes import all_names, nodes_here, owner, wrong_nodes
 
-# so long a run may take
+# the longest time that a run may take
 SECONDS = 60
-# so long a pipe may take to end after the run
+# the longest time that a pipe may take to end after the run
 DRAINED = 5
-# so long another process holds a lock
+# how long another process holds a lock
 HELD = 0.3
 
 
 class CannotMake(Exception):
-    """What a run is to meet can't be made here."""
+    """Something that a run needs can't be made here."""
 
 
 class Missed(Exception):
@@ -73,7 +73,7 @@ def make_nodes(row):
 
 
 def lay_out(row):
-    """Makes the files of a row for the one who is to run the program, and answers what stands there then."""
+    """Makes the files of a row for the user who runs the program, and returns what is there then."""
     if row.foreign and os.getuid() != 0:
         raise CannotMake("only the superuser can leave files of another user")
     if row.as_root and os.getuid() != 0:
@@ -97,7 +97,7 @@ def lay_out(row):
 
 
 def nodes_left(row):
-    """What stands in the current folder; what may not be read is opened for that."""
+    """What is in the current folder. What may not be read gets other permissions first."""
     modes = {}
     for name in row.modes:
         if os.path.lexists(name) and not os.path.islink(name):
@@ -147,7 +147,7 @@ def limited(row):
 
 
 def own_pipe(row):
-    """A pipe that the one who runs the program may open by its name below /proc, too."""
+    """A pipe. The user who runs the program may open it by its name below /proc, too."""
     reader, writer = os.pipe()
     os.fchown(writer, *owner(row))
     return open(reader, "rb"), writer
@@ -180,7 +180,7 @@ def begun(program, row):
 
 
 def let_go(row, locked, process):
-    """Holds files locked for a while, and answers whether the run has waited so long."""
+    """Holds files locked for a while. It is wrong if the run has ended by then."""
     time.sleep(HELD)
     if process.poll() is not None:
         yield "it did not wait for the lock"
@@ -217,7 +217,7 @@ def started(program, row):
 
 
 def wrong(row, ended, before, left):
-    """What isn't as it was to be."""
+    """What isn't as it must be."""
     status, output, log = ended
     if status != row.status:
         yield f"status {status}"
