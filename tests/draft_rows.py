@@ -4,7 +4,7 @@ import os
 import signal
 import time
 
-from folder_rows import NO_ERRORS, Row, section
+from folder_rows import NO_ERRORS, Row, as_both, section
 from folder_runs import Missed
 from output_rows import FIRST, FULL, LARGE, MAIN, NULL, OLD, OTHER, WEB, WELL
 from output_rows import log_of, not_opened, not_written, web_with, whole_large
@@ -20,14 +20,14 @@ def left_drafts():
     for mode in (0o644, 0o600, 0o444, 0):
         files = WEB | OLD | {DRAFT: b"draft"}
         yield Row(f"a draft of mode {mode:03o}", WELL, 0, files, {"a.c": MAIN}, modes={DRAFT: mode}, **of)
-    for kind, to in {"a file": "other", "the web": "a.w", "its output": "a.c", "nothing": "gone", "a folder": "d"}.items():
+    for kind, to in {"a file": "other", "its output": "a.c", "nothing": "gone", "a folder": "d"}.items():
         files = WEB | OLD | OTHER | {"d/f": b"old\n"}
         yield Row(f"a draft that is a link to {kind}", WELL, 0, files, {"a.c": MAIN}, links={DRAFT: to}, **of)
     for kind, to in {"a full device": "/dev/full", "itself": DRAFT}.items():
         yield Row(f"a draft that is a link to {kind}", WELL, 0, WEB | OLD, {"a.c": MAIN}, links={DRAFT: to}, **of)
         large = {"a.w": b"@ @c\n" + LARGE} | OLD
         yield Row(f"a large draft's link to {kind}", WELL, 0, large, {"a.c": whole_large()}, links={DRAFT: to}, **of)
-    for kind, name in {"another file": "other", "the web": "a.w", "its output": "a.c"}.items():
+    for kind, name in {"another file": "other", "its output": "a.c"}.items():
         yield Row(f"a draft that is {kind} too", WELL, 0, WEB | OLD | OTHER, {"a.c": MAIN}, names={DRAFT: name}, **of)
     yield Row("a draft that is a pipe", WELL, 0, WEB | OLD, {"a.c": MAIN}, pipes={DRAFT: (b"x", False)}, **of)
     yield Row("a draft that is a socket", WELL, 0, WEB | OLD, {"a.c": MAIN}, sockets=(DRAFT,), **of)
@@ -52,6 +52,29 @@ def kept_drafts():
         yield Row(f"another user's draft of mode {mode:03o}", WELL, 0, WEB | OLD | {DRAFT: b"draft"}, {"a.c": MAIN}, **of)
         of = {"foreign": ("a.c",), "modes": {"a.c": mode}}
         yield Row(f"another user's output of mode {mode:03o}", WELL, 0, WEB | OLD, {"a.c": MAIN}, **of)
+
+
+def drafts_that_were_read():
+    """What the run has read stays, whatever its name, and the output can't be opened."""
+    web = {"a.w": b"@ @c x\n@i " + DRAFT.encode() + b"\n"} | OLD
+    included, log, text = {"in.w": b"z\n"}, not_opened("a.c"), (b"z\n", False)
+    yield Row("an included draft", log, 1, web | {DRAFT: b"z\n"})
+    yield Row("an included draft that is a link", log, 1, web | included, links={DRAFT: "in.w"})
+    yield Row("an included draft that is a chain of links", log, 1, web | included, links={DRAFT: "link", "link": "in.w"})
+    yield Row("an included draft that is a pipe", log, 1, web, pipes={DRAFT: text})
+    yield Row("an included draft that is a link to a pipe", log, 1, web, pipes={"in.w": text}, links={DRAFT: "in.w"})
+    yield Row("an included draft that is a device", log, 1, web, devices={DRAFT: NULL})
+    web = {"a.w": b"@ @c x\n@i in.w\n"} | OLD
+    yield Row("a draft that is a link to an included file", log, 1, web | included, links={DRAFT: "in.w"})
+    yield Row("a draft that is an included file too", log, 1, web | included, names={DRAFT: "in.w"})
+    yield Row("a draft that is a link to the web", log, 1, WEB | OLD, links={DRAFT: "a.w"})
+    yield Row("a draft that is the web too", log, 1, WEB | OLD, names={DRAFT: "a.w"})
+    yield Row("a web that is a link to a draft", log, 1, {DRAFT: WEB["a.w"]} | OLD, links={"a.w": DRAFT})
+    files = WEB | OLD | {DRAFT: b""}
+    yield Row("a change file that is a link to a draft", log, 1, files, links={"m.ch": DRAFT}, words=("a", "m", "a"))
+    files = web_with("f", b"x\n@i f\x7f\n") | OLD | {"f": b"old\n", "f\x7f": b"z\n"}
+    main = section(1, 1, b'x\n#line 1 "f\x7f"\nz\n#line 3 "a.w"\n') + b"\n"
+    yield Row("an included draft of another file", not_opened("a.c", "f"), 1, files, {"a.c": main})
 
 
 def held_drafts():
@@ -165,3 +188,4 @@ def closed_streams():
 def rows():
     for some in (left_drafts, kept_drafts, held_drafts, lost_drafts, closed_streams):
         yield from some()
+    yield from as_both(drafts_that_were_read())

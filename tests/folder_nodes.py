@@ -1,4 +1,5 @@
-"""What stands in a folder, and what is to stand there after a run."""
+"""What is in a folder, and what must be there after a run."""
+import glob
 import os
 import stat
 from dataclasses import dataclass, replace
@@ -6,24 +7,27 @@ from dataclasses import dataclass, replace
 from fault_runs import shown
 
 NOBODY = 65534
+SYSTEM = ["/dev/stdin", "/dev/stdout", "/dev/stderr", "/dev/fd", "/dev/null", "/dev/full"]
 
 
 @dataclass(frozen=True)
 class Node:
-    """What stands under a path: its text, where it is a file, the path in it, where it is a link, the number of a device."""
+    """What is under a path. Its text is that of a file, the target of a link, or the number of a device."""
 
     kind: int
     mode: int
     owner: tuple
     text: object
-    # the file's own number on its disk, None of a new one, and how many names it has
+    # the number of the file on its disk, None for a new file, and how many names the file has
     number: tuple = None
     names: int = 1
 
 
-def owner():
-    """Who runs the program: nobody, where this is run by the superuser."""
-    return (NOBODY, NOBODY) if os.getuid() == 0 else (os.getuid(), os.getgid())
+def owner(row):
+    """Who runs the program: if this is the superuser, nobody does, except where a row is for the superuser."""
+    if os.getuid() == 0 and not row.as_root:
+        return (NOBODY, NOBODY)
+    return (os.getuid(), os.getgid())
 
 
 def all_names():
@@ -51,13 +55,34 @@ def nodes_here():
     return {name: node(name) for name in all_names()}
 
 
+def system_nodes():
+    """What the system has under the names to which rows lead, and the drafts beside it."""
+    return {path: node(path) for path in [*SYSTEM, *glob.glob("/dev/*\x7f")] if os.path.lexists(path)}
+
+
+def put_back(before):
+    """What has changed of the system's nodes since. A link is made again."""
+    now = system_nodes()
+    for path in sorted(before.keys() | now.keys()):
+        old, new = before.get(path), now.get(path)
+        if new == old:
+            continue
+        yield f"{path}: {new}"
+        if old and old.kind == stat.S_IFLNK:
+            if new:
+                os.unlink(path)
+            os.symlink(old.text, path)
+
+
 def expected_nodes(row, before):
-    """What is to stand there: a file that is written has the permissions of the one before, or those that a new one gets."""
+    """What must be there: a file that is written has the permissions of the old one, or those of a new file."""
     nodes = {row.moved.get(name, name): node for name, node in before.items() if name not in row.gone}
     for name, text in row.written.items():
         old = before.get(name)
         mode = old.mode & 0o777 if old and old.kind == stat.S_IFREG else 0o666 & ~row.umask
-        nodes[name] = Node(stat.S_IFREG, mode, owner(), text)
+        nodes[name] = Node(stat.S_IFREG, mode, owner(row), text)
+    for name, text in row.added.items():
+        nodes[name] = replace(nodes[name], text=nodes[name].text + text)
     numbers = [node.number for node in nodes.values()]
     return {name: replace(node, names=numbers.count(node.number) if node.number else 1) for name, node in nodes.items()}
 
@@ -68,7 +93,7 @@ def is_new(row, name, old, found):
 
 
 def wrong_nodes(row, before, left):
-    """The paths under which not that stands what was to, and what stands there."""
+    """The paths with something else than what must be there, and what that is."""
     expected = expected_nodes(row, before)
     for name, (text, mode) in row.drafts.items():
         found = left.pop(name, None)

@@ -1,16 +1,16 @@
 """The runs that `folders` makes on hostile webs, on pipes, and where little may be read or written."""
 import resource
-from dataclasses import dataclass, field
+from dataclasses import dataclass, field, replace
 from typing import Callable
 
 from tangle_cases import BANNER, line_mark, stopped
 
 NO_ERRORS = b"(No errors were found.)\n"
-# so many lines may be taken from files
+# how many lines may be taken from files
 LINES = 1 << 24
-# so many names use one another
+# how many names use one another
 NAMES = 10_000
-# so many names are open at once
+# how many names are open at once
 OPEN_NAMES = 1_000
 # the bytes of a small disk
 DISK = 64 << 10
@@ -38,14 +38,14 @@ class Row:
     # links by their paths, and further names of files
     links: dict = field(default_factory=dict)
     names: dict = field(default_factory=dict)
-    # pipes by their paths: what is put into each, again and again where it is to have no end; None: nothing
+    # pipes by their paths: what is written to each, and whether again and again; None: nothing is
     pipes: dict = field(default_factory=dict)
-    # pipes by their paths: what comes out of each
+    # pipes by their paths: what the run writes to each
     drains: dict = field(default_factory=dict)
     sockets: tuple = ()
     # the numbers of devices by their paths
     devices: dict = field(default_factory=dict)
-    # what belongs to the superuser, where it is not the one who runs the program
+    # what belongs to the superuser although another user runs the program
     foreign: tuple = ()
     # what is no longer there afterwards, and what has another path then
     gone: tuple = ()
@@ -59,10 +59,24 @@ class Row:
     drafts: dict = field(default_factory=dict)
     # files that another process locks for a while, by their paths, and the path to which it renames each before it ends, if any
     held: dict = field(default_factory=dict)
-    # the standard streams that are closed
+    # the standard streams that are closed, and those that are files, by their numbers
     closed: tuple = ()
+    streams: dict = field(default_factory=dict)
+    # what the streams write to files, by their paths
+    added: dict = field(default_factory=dict)
+    # the superuser runs the program
+    as_root: bool = False
+    # paths outside the folder that the row needs
+    needs: tuple = ()
     # what is done while it runs: it is given the process, and answers what is wrong
     meanwhile: Callable = None
+
+
+def as_both(rows):
+    """Each row as it is, and once more for the superuser."""
+    for row in rows:
+        yield row
+        yield replace(row, name=f"{row.name}, as root", as_root=True)
 
 
 def section(number, line, text):
@@ -144,8 +158,6 @@ def closed_files():
     yield Row("an output in a folder that may only be read", log, 1, files, two, modes={"d": 0o555})
     log = BANNER + b"Writing a.c\n" + NO_ERRORS
     yield Row("an output that may not be written is replaced", log, 0, web | old, text, modes={"a.c": 0o444})
-    files = web | {"kept": b"old\n"}
-    yield Row("a link in an output's place is replaced", log, 0, files, text, links={"a.c": "kept"})
 
 
 def disks():

@@ -1,4 +1,4 @@
-"""How `folders` makes a folder, runs a program there, and compares all that stands there afterwards."""
+"""How `folders` makes a folder, runs a program there, and compares all that is there afterwards."""
 import fcntl
 import os
 import resource
@@ -12,16 +12,16 @@ from dataclasses import replace
 from fault_runs import shown
 from folder_nodes import all_names, nodes_here, owner, wrong_nodes
 
-# so long a run may take
+# the longest time that a run may take
 SECONDS = 60
-# so long a pipe may take to end after the run
+# the longest time that a pipe may take to end after the run
 DRAINED = 5
-# so long another process holds a lock
+# how long another process holds a lock
 HELD = 0.3
 
 
 class CannotMake(Exception):
-    """What a run is to meet can't be made here."""
+    """Something that a run needs can't be made here."""
 
 
 class Missed(Exception):
@@ -73,12 +73,17 @@ def make_nodes(row):
 
 
 def lay_out(row):
-    """Makes the files of a row for the one who is to run the program, and answers what stands there then."""
+    """Makes the files of a row for the user who runs the program, and returns what is there then."""
     if row.foreign and os.getuid() != 0:
         raise CannotMake("only the superuser can leave files of another user")
+    if row.as_root and os.getuid() != 0:
+        raise CannotMake("only the superuser can run a program as root")
+    for path in row.needs:
+        if not os.path.lexists(path):
+            raise CannotMake(f"there is no {path}")
     make_nodes(row)
     for name in all_names():
-        os.chown(name, *owner(), follow_symlinks=False)
+        os.chown(name, *owner(row), follow_symlinks=False)
     for name in row.foreign:
         os.chown(name, 0, 0, follow_symlinks=False)
     nodes = nodes_here()
@@ -92,7 +97,7 @@ def lay_out(row):
 
 
 def nodes_left(row):
-    """What stands in the current folder; what may not be read is opened for that."""
+    """What is in the current folder. What may not be read gets other permissions first."""
     modes = {}
     for name in row.modes:
         if os.path.lexists(name) and not os.path.islink(name):
@@ -141,23 +146,41 @@ def limited(row):
         os.close(stream)
 
 
+def own_pipe(row):
+    """A pipe. The user who runs the program may open it by its name below /proc, too."""
+    reader, writer = os.pipe()
+    os.fchown(writer, *owner(row))
+    return open(reader, "rb"), writer
+
+
+def stream_file(number, path):
+    return os.open(path, os.O_RDONLY if number == 0 else os.O_WRONLY | os.O_APPEND)
+
+
 def begun(program, row):
-    user, group = owner()
-    as_nobody = {"user": user, "group": group, "extra_groups": []} if os.getuid() == 0 else {}
-    return subprocess.Popen(
+    user, group = owner(row)
+    as_user = {"user": user, "group": group, "extra_groups": []} if os.getuid() == 0 else {}
+    (output, to_output), (log, to_log) = own_pipe(row), own_pipe(row)
+    files = {number: stream_file(number, path) for number, path in row.streams.items()}
+    streams = {0: subprocess.DEVNULL, 1: to_output, 2: to_log} | files
+    process = subprocess.Popen(
         [program, *row.words],
         env={"CWEBINPUTS": row.inputs} if row.inputs else {},
-        stdin=subprocess.DEVNULL,
-        stdout=subprocess.PIPE,
-        stderr=subprocess.PIPE,
+        stdin=streams[0],
+        stdout=streams[1],
+        stderr=streams[2],
         umask=row.umask,
         preexec_fn=lambda: limited(row),
-        **as_nobody,
+        **as_user,
     )
+    for ours in (to_output, to_log, *files.values()):
+        os.close(ours)
+    process.stdout, process.stderr = output, log
+    return process
 
 
 def let_go(row, locked, process):
-    """Holds files locked for a while, and answers whether the run has waited so long."""
+    """Holds files locked for a while. It is wrong if the run has ended by then."""
     time.sleep(HELD)
     if process.poll() is not None:
         yield "it did not wait for the lock"
@@ -194,7 +217,7 @@ def started(program, row):
 
 
 def wrong(row, ended, before, left):
-    """What isn't as it was to be."""
+    """What isn't as it must be."""
     status, output, log = ended
     if status != row.status:
         yield f"status {status}"

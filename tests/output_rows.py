@@ -1,4 +1,4 @@
-"""The runs of `folders` that find something under an output's name: files that they have read or written, links, devices, pipes."""
+"""The runs of `folders` that find something under an output's name: files that they have read or written, folders, devices, pipes."""
 from folder_rows import NO_ERRORS, Row, section
 from tangle_cases import BANNER, stopped
 
@@ -113,24 +113,6 @@ def files_that_were_written():
     web = {"a.w": b"@ @c x\n@ @(f@>= y\n@ @(./f@>= z\n"}
     written = {"a.c": FIRST, "f": section(2, 2, b"y\n") + b"\n"}
     yield Row("another file again", not_opened("a.c", "f", "./f"), 1, web | {"f": b"old\n"}, written)
-    log = log_of("a.c", "link") + NO_ERRORS
-    written = {"a.c": FIRST, "link": section(2, 2, b"y") + b"\n"}
-    yield Row("a link to the main file", log, 0, web_with("link"), written, links={"link": "a.c"})
-
-
-def links():
-    """A link is replaced, and what it leads to stays as it was."""
-    for kind, to in {"a file": "other", "nothing": "gone", "a folder": "d", "itself": "a.c", "a device": "/dev/full"}.items():
-        files = WEB | OTHER | {"d/f": b"old\n"}
-        yield Row(f"a link to {kind} as main file", WELL, 0, files, {"a.c": MAIN}, links={"a.c": to})
-        log = log_of("a.c", "f") + NO_ERRORS
-        written = {"a.c": FIRST, "f": section(2, 2, b"y") + b"\n"}
-        of = {"links": {"f": "f" if kind == "itself" else to}}
-        yield Row(f"a link to {kind} as another file", log, 0, web_with("f") | files | web_with("f"), written, **of)
-    yield Row("a link in a chain", WELL, 0, WEB | OTHER, {"a.c": MAIN}, links={"a.c": "link", "link": "other"})
-    modes = {"other": 0o600}
-    yield Row("a link to a file of mode 600", WELL, 0, WEB | OTHER, {"a.c": MAIN}, links={"a.c": "other"}, modes=modes)
-    yield Row("a further name of a file", WELL, 0, WEB | OTHER, {"a.c": MAIN}, names={"a.c": "other"})
 
 
 def folders():
@@ -164,5 +146,5 @@ def devices():
 
 
 def rows():
-    for some in (modes, files_that_were_read, files_that_were_written, links, folders, devices):
+    for some in (modes, files_that_were_read, files_that_were_written, folders, devices):
         yield from some()

@@ -1,22 +1,38 @@
--- How an output is written, by what stands under its name.
+-- How an output is written, and its draft's path cleared, by what is under a path.
 use Rattle.std.specs.Prelude.{Bool, IsTrue, List, Some, None, Contains, ◌⊎◌}
+use Rattle.std.specs.declared.fs.attrs.FileType.{FileType}
+use Rattle.std.specs.Fs.{IsDir, IsFile}
 use Rattle.cweb_system.specs.declared.standing.Standing.{Standing}
 use Rattle.cweb_system.specs.declared.standing.Way.{Way}
 use Rattle.cweb_system.specs.declared.system.FileKey.{FileKey}
 
--- a file that a run has read or written stands there, or a link that leads to one that it has read
-abbrev pub IsOfRun : List FileKey → Bool → Standing → Type 0
-IsOfRun read written (Standing.File file permissions) = Contains read file ⊎ IsTrue written
-IsOfRun read written (Standing.Link (Some file)) = Contains read file
-IsOfRun read written (Standing.Link None) = ⊥
-IsOfRun read written Standing.Nothing = ⊥
-IsOfRun read written Standing.Folder = ⊥
-IsOfRun read written (Standing.Device device) = ⊥
+-- a device, a FIFO or a socket: all that is neither a file nor a folder
+abbrev pub IsDevice : FileType → Type 0
+IsDevice kind = (IsFile kind → ⊥) × (IsDir kind → ⊥)
 
--- what stands there is replaced, a file by one of its permissions; a device is written as it is, and a folder is refused
+-- the run has read this file, or the target of this link; or the file or link is the run's own: it has written the file, or a
+-- standard stream is the target
+abbrev pub IsOfRun : List FileKey → Bool → Standing → Type 0
+IsOfRun read own (Standing.File file permissions) = Contains read file ⊎ IsTrue own
+IsOfRun read own (Standing.Link (Some target)) = Contains read target ⊎ IsTrue own
+IsOfRun read own (Standing.Link None) = ⊥
+IsOfRun read own Standing.Nothing = ⊥
+IsOfRun read own Standing.Folder = ⊥
+IsOfRun read own (Standing.Device device) = ⊥
+
+-- a file or link is replaced, and a file's permissions are kept; a device is written to, and a folder is refused
 abbrev pub way_over : Standing → Way
 way_over Standing.Nothing = Way.Draft None
-way_over (Standing.Link to) = Way.Draft None
+way_over (Standing.Link target) = Way.Draft None
 way_over (Standing.File file permissions) = Way.Draft (Some permissions)
 way_over (Standing.Device device) = Way.Device device
 way_over Standing.Folder = Way.Refused
+
+-- the run has read this file or device, or the target of this link
+abbrev pub IsRead : List FileKey → Standing → Type 0
+IsRead read (Standing.File file permissions) = Contains read file
+IsRead read (Standing.Link (Some target)) = Contains read target
+IsRead read (Standing.Device device) = Contains read device
+IsRead read (Standing.Link None) = ⊥
+IsRead read Standing.Nothing = ⊥
+IsRead read Standing.Folder = ⊥

@@ -1,4 +1,4 @@
-// The files of the system's folders, as a place that keeps files. It tells no bytes.
+// The files of the system's folders, as bins. No contract sees their bytes.
 ghost use Rattle.std.specs.Prelude.{◌≡◌, ◌≤◌, ◌<◌, ◌+◌, ◌^◌, [], false, length, option_and_then, take, IfOk, IfErr, IsSome};
 ghost use Rattle.std.specs.Io.KnownBytes.{Appends};
 ghost use Rattle.cweb_files.specs.Device.{Counts};
@@ -8,12 +8,12 @@ ghost use Rattle.cweb_system.specs.Devices.{target_bytes};
 use crate::drafts::{Draft, start_fault};
 use crate::files_read::FilesRead;
 use crate::standing::{Standing, Way};
-use crate::system::{FileKey, Held, seen_as};
+use crate::system::{FileKey, Held, is_stream, seen_as};
 use crate::target::Target;
 use cweb_bins::{BinFault, Bins};
 use cweb_files::{Sink, SinkFault};
 use std::alloc::{AllocError, Global};
-use std::collections::BTreeMap;
+use std::collections::{BTreeMap, BTreeSet};
 use std::fs;
 use std::fs::OpenFile;
 use std::io::Write;
@@ -22,20 +22,19 @@ use std::rt::Files;
 /// A folder that can be opened for reading anywhere.
 const ROOT: &str = "/";
 
-/// The files of the system, under their paths. The draft of a file is the file of its name followed by byte 127, which no
-/// output's name has: it is renamed where it is committed, and deleted where it is given up or can't be renamed. A
-/// deletion that fails leaves it there.
+/// The files of the system, by their paths. A draft has its file's name, followed by byte 127, which no output's name has.
+/// A commit renames the draft. It is deleted when it is given up or can't be renamed; if that fails, it stays.
 ///
 /// A file that was begun or committed here isn't begun again, whatever it is called.
 ///
-/// An output is written in large pieces. So a write may fail for what was taken before; the output is given up then, so
-/// that one that lost bytes is never committed.
+/// Bytes are gathered and written in large pieces, so a write may fail for bytes that were taken earlier. The output is given
+/// up then: one that lost bytes is never committed.
 #[derive(Drop)]
 pub struct FolderBins<'a, R: Files<File: Held> + Drop> {
     alloc: Global,
     files: R,
-    /// What stands in the place of standard streams that are closed: no draft is opened under their descriptors. They are
-    /// open for reading alone, so that writing to such a stream still fails.
+    /// Files that fill the descriptors of closed standard streams, so that no draft gets one. They are open for reading
+    /// only: to write to such a stream still fails.
     streams: [Option<R::File>; 3],
     /// The files that the run has read.
     read: &'a FilesRead,
@@ -48,7 +47,7 @@ pub struct FolderBins<'a, R: Files<File: Held> + Drop> {
 impl<'a, R: Files<File: Held> + Drop> FolderBins<'a, R> {
     ghost use Rattle.cweb_system.specs.Devices.{bins_failures, output_bytes, IsBegun};
 
-    /// It is to be made before any other file is opened. No output takes the place of a file that is noted as read.
+    /// Call it before any other file is opened. No output replaces a file that is noted as read.
     pub fn new(alloc: Global, files: R, read: &'a FilesRead) -> Self
         ensures { bins_failures result ≡ 0 }
     {
@@ -64,31 +63,48 @@ impl<'a, R: Files<File: Held> + Drop> FolderBins<'a, R> {
         }
     }
 
-    /// Begins an output of a name, by what stands under it.
+    /// Begins an output of a name. The run reads no file meanwhile.
     fn begin(&mut self, name: &str) -> Result<Target<R::File>, BinFault>
+        ensures failed { bins_failures self.new ≡ bins_failures self.old }
+    {
+        let read = self.read.take();
+        let begun = self.begin_beside(name, &read);
+        self.read.put_back(read);
+        begun
+    }
+
+    /// Begins an output of a name, by what is under it, in a run that has read some files.
+    fn begin_beside(
+        &mut self,
+        name: &str,
+        read: &BTreeSet<FileKey>,
+    ) -> Result<Target<R::File>, BinFault>
         ensures failed { bins_failures self.new ≡ bins_failures self.old }
     {
         let standing = match Standing::of(&self.files, name) {
             Ok(standing) => standing,
             Err(error) => return Err(start_fault(&error)),
         };
-        let is_written = self.has_written(standing);
-        let read = self.read.take();
-        let way = standing.way(&read, is_written);
-        self.read.put_back(read);
-        match way {
-            Way::Draft(replaced) => self.begin_draft(name, replaced),
+        let is_own = self.is_own(standing);
+        match standing.way(read, is_own) {
+            Way::Draft(replaced) => self.begin_draft(name, replaced, read),
             Way::Device(device) => Target::open_device(self.alloc, &self.files, name, device),
             Way::Refused => Err(BinFault::Device),
         }
     }
 
-    /// Whether this run wrote what stands there. Where it isn't under its own name any more another run has replaced it, and
-    /// its key may be that of another file by now.
-    fn has_written(&self, standing: Standing) -> bool {
-        let Standing::File(file, _) = standing else {
-            return false;
-        };
+    /// Whether the run has written this file, or a standard stream is the target of this link.
+    fn is_own(&self, standing: Standing) -> bool {
+        match standing {
+            Standing::File(file, _) => self.has_written(file),
+            Standing::Link(Some(target)) => is_stream(&self.files, target),
+            _ => false,
+        }
+    }
+
+    /// Whether the run has written this file. If it is no longer under its own name, another run has replaced it, and the
+    /// system may have given its key to another file.
+    fn has_written(&self, file: FileKey) -> bool {
         match self.written.get(&file) {
             Some(name) => !matches!(seen_as(&self.files, name.as_str(), file), Ok(None)),
             None => false,
@@ -100,10 +116,11 @@ impl<'a, R: Files<File: Held> + Drop> FolderBins<'a, R> {
         &mut self,
         name: &str,
         replaced: Option<u32>,
+        read: &BTreeSet<FileKey>,
     ) -> Result<Target<R::File>, BinFault>
         ensures failed { bins_failures self.new ≡ bins_failures self.old }
     {
-        let draft = Draft::begin(self.alloc, &self.files, name, replaced)?;
+        let draft = Draft::begin(self.alloc, &self.files, name, replaced, read)?;
         if self.note(draft.file, name).is_err() {
             draft.delete(&self.files);
             return Err(BinFault::Memory);

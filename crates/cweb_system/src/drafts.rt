@@ -1,27 +1,29 @@
 // Drafts of files of the system.
-ghost use Rattle.std.specs.Prelude.{◌≡◌, ◌++◌, [], ◌∷◌, string_bytes, IfOk, IfErr};
+ghost use Rattle.std.specs.Prelude.{◌≡◌, ◌++◌, [], ◌∷◌, string_bytes, IfOk, IfErr, IsErr};
 ghost use Rattle.std.specs.Io.Buffered.{writer_buffer};
+ghost use Rattle.cweb_system.specs.Ways.{IsRead};
 
-use crate::standing::permissions;
+use crate::standing::{Standing, permissions};
 use crate::system::{FileKey, Held, remove, seen, seen_as};
 use cweb_bins::BinFault;
 use std::alloc::{AllocError, Global};
+use std::collections::BTreeSet;
 use std::fs::{Metadata, OpenFile, OpenOptions, Permissions};
 use std::io::{BufWriter, Error, ErrorKind, Write};
 use std::os::unix::fs::{OpenOptionsExt, PermissionsExt};
 use std::rt::Files;
 use std::{fs, io};
 
-/// What stands behind a file's name in that of its draft: byte 127.
+/// What a draft's name has after its file's: byte 127.
 const DRAFT_SIGN: &str = "\u{7f}";
 
 /// The bytes that are gathered before they are written.
 pub(crate) const PIECE: usize = 65536;
 
-/// So often a draft is tried to be created, where others come in between each time.
+/// How often a run tries to create a draft while others interfere.
 const TURNS: u32 = 100_000;
 
-/// Its owner may read and write a draft, whatever the file's permissions, so that other runs can wait for its lock.
+/// A draft's owner may read and write it, whatever the file's permissions, so that other runs can wait for its lock.
 const OWNERS: u32 = 0o600;
 
 /// A draft that is open for writing. It was created by this run, and holds the system's lock.
@@ -40,12 +42,13 @@ pub(crate) struct Draft<F: Write + Drop> {
 type Created<F> = (F, FileKey);
 
 impl<F: Write + OpenFile + Held + Drop> Draft<F> {
-    /// Begins an empty draft of a name. It is as open to others as the file was whose place it takes, if it takes one's.
+    /// Begins an empty draft of a name. It is no more open to others than the file that it replaces, if there is one.
     pub(crate) fn begin<R: Files<File = F>>(
         alloc: Global,
         files: &R,
         name: &str,
         replaced: Option<u32>,
+        read: &BTreeSet<FileKey>,
     ) -> Result<Draft<F>, BinFault>
         ensures named { IfOk result (λ draft. string_bytes draft.name ≡ name.now) }
         ensures path { IfOk result (λ draft. string_bytes draft.path ≡ name.now ++ 127 ∷ []) }
@@ -62,7 +65,7 @@ impl<F: Write + OpenFile + Held + Drop> Draft<F> {
         if let Some(permissions) = replaced {
             how.mode(permissions | OWNERS);
         }
-        let (out, file) = match created(files, path.as_str(), &how) {
+        let (out, file) = match created(files, path.as_str(), &how, read) {
             Ok(created) => created,
             Err(error) => return Err(start_fault(&error)),
         };
@@ -78,7 +81,7 @@ impl<F: Write + OpenFile + Held + Drop> Draft<F> {
         })
     }
 
-    /// Writes what was gathered, and puts the draft in the place of the file of its name; where either fails it is deleted.
+    /// Writes what was gathered, and renames the draft to its file's name. If either fails, the draft is deleted.
     pub(crate) fn commit<R: Files<File = F>>(mut self, files: &R) -> Result<(), BinFault>
         ensures { IfErr result (λ fault. fault ≡ BinFault.Device) }
     {
@@ -89,7 +92,7 @@ impl<F: Write + OpenFile + Held + Drop> Draft<F> {
         Ok(())
     }
 
-    /// Where another file stands under its path by now, that one's text would be put in place: it is an error.
+    /// It is an error if another file has the draft's path by now: that file would be renamed.
     fn put_in_place<R: Files<File = F>>(&mut self, files: &R) -> io::Result<()> {
         self.out.flush()?;
         let Some(draft) = seen_as(files, self.path.as_str(), self.file)? else {
@@ -101,7 +104,7 @@ impl<F: Write + OpenFile + Held + Drop> Draft<F> {
         fs::rename(files, self.path.as_str(), self.name.as_str())
     }
 
-    /// Gives the draft the permissions of the file whose place it takes.
+    /// Gives the draft the permissions of the file that it replaces.
     fn keep_permissions(&self, draft: &Metadata, replaced: &Metadata) -> io::Result<()> {
         let kept = permissions(replaced);
         if replaced.is_file() && permissions(draft) != kept {
@@ -111,7 +114,7 @@ impl<F: Write + OpenFile + Held + Drop> Draft<F> {
         Ok(())
     }
 
-    /// Deletes it; what was gathered isn't written. Another file that stands under its path by now is left there.
+    /// Deletes it; what was gathered isn't written. Another file that has its path by now stays.
     pub(crate) fn delete<R: Files<File = F>>(self, files: &R) {
         let Draft {
             name: _,
@@ -130,31 +133,33 @@ impl<F: Write + OpenFile + Held + Drop> Draft<F> {
     }
 }
 
-/// Creates a draft, in the place of what was left there.
+/// Clears a draft's path, and creates the draft.
 fn created<R: Files<File: Held>>(
     files: &R,
     path: &str,
     how: &OpenOptions,
+    read: &BTreeSet<FileKey>,
 ) -> io::Result<Created<R::File>> {
     for _ in 0..TURNS {
-        if let Some(created) = created_now(files, path, how)? {
+        if let Some(created) = created_now(files, path, how, read)? {
             return Ok(created);
         }
     }
     Err(Error::from(ErrorKind::AlreadyExists))
 }
 
-/// Creates a draft; none where something stood there, which is gone now, or where another run took the new one away.
+/// Tries once to create a draft. None: its path was taken and is cleared now, or another run removed the new draft.
 fn created_now<R: Files<File: Held>>(
     files: &R,
     path: &str,
     how: &OpenOptions,
+    read: &BTreeSet<FileKey>,
 ) -> io::Result<Option<Created<R::File>>> {
     match how.open(files, path) {
         Ok(file) => taken(files, path, file),
         Err(error) => match error.kind() {
             ErrorKind::AlreadyExists => {
-                clear(files, path)?;
+                clear(files, path, Standing::of(files, path)?, read)?;
                 Ok(None)
             }
             _ => Err(error),
@@ -170,7 +175,7 @@ fn taken<R: Files<File: Held>>(
 ) -> io::Result<Option<Created<R::File>>> {
     // where the system has no locks, without one
     let _ = file.lock();
-    match stands(files, path, &file) {
+    match key_at(files, path, &file) {
         Ok(Some(key)) => Ok(Some((file, key))),
         Ok(None) => Ok(None),
         Err(error) => {
@@ -180,31 +185,42 @@ fn taken<R: Files<File: Held>>(
     }
 }
 
-/// The key of an open file, where it stands under a path.
-fn stands<R: Files>(files: &R, path: &str, file: &R::File) -> io::Result<Option<FileKey>> {
+/// The key of an open file, if a path names that file.
+fn key_at<R: Files>(files: &R, path: &str, file: &R::File) -> io::Result<Option<FileKey>> {
     let file = FileKey::of_open(file)?;
     Ok(seen_as(files, path, file)?.map(|_| file))
 }
 
-/// Removes what stands in a draft's place. A folder stays, and is an error.
-fn clear<R: Files<File: Held>>(files: &R, path: &str) -> io::Result<()> {
-    match seen(files, path)? {
-        None => Ok(()),
-        Some(found) if found.is_dir() => Err(Error::from(ErrorKind::IsADirectory)),
-        Some(found) if found.is_file() => clear_file(files, path),
-        Some(_) => remove(files, path),
+/// Removes what was left at a draft's path. A folder stays, and so does what the run has read: either is an error.
+fn clear<R: Files<File: Held>>(
+    files: &R,
+    path: &str,
+    left: Standing,
+    read: &BTreeSet<FileKey>,
+) -> io::Result<()>
+    ensures read { IsRead read.now.keys left → IsErr result }
+    ensures folder { left ≡ Standing.Folder → IsErr result }
+{
+    if left.is_read(read) {
+        return Err(Error::from(ErrorKind::AlreadyExists));
+    }
+    match left {
+        Standing::Nothing => Ok(()),
+        Standing::Folder => Err(Error::from(ErrorKind::IsADirectory)),
+        Standing::File(file, _) => clear_file(files, path, file),
+        Standing::Link(_) | Standing::Device(_) => remove(files, path),
     }
 }
 
-/// Waits until no run holds a draft, and removes it where it still stands there: a run that was killed left it. One that
-/// may not be opened can't be waited for.
-fn clear_file<R: Files<File: Held>>(files: &R, path: &str) -> io::Result<()> {
+/// Waits until no run holds a draft, and removes it if it is still there: a run that was killed left it. One that may not be
+/// opened can't be waited for.
+fn clear_file<R: Files<File: Held>>(files: &R, path: &str, left: FileKey) -> io::Result<()> {
     match fs::open(files, path) {
         Ok(file) => {
             let _ = file.lock();
-            match stands(files, path, &file)? {
-                Some(_) => remove(files, path),
-                None => Ok(()),
+            match key_at(files, path, &file)? {
+                Some(found) if found == left => remove(files, path),
+                _ => Ok(()),
             }
         }
         Err(error) => match error.kind() {
@@ -224,7 +240,7 @@ fn draft_path(alloc: Global, name: &str) -> Result<String, AllocError>
     Ok(path)
 }
 
-/// Want of memory is told apart from every other refusal of the system.
+/// Out of memory is the only refusal of the system that has a fault of its own.
 pub(crate) fn start_fault(error: &Error) -> BinFault {
     match error.kind() {
         ErrorKind::OutOfMemory => BinFault::Memory,

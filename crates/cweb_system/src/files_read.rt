@@ -1,10 +1,10 @@
-// The files that a run has read, of which its outputs are none.
+// The files that a run has read. No output replaces one.
 use crate::system::FileKey;
 use std::alloc::{AllocError, Global};
 use std::cell::Cell;
 use std::collections::BTreeSet;
 
-/// The files that a run has read: a shelf notes each file that it opens, and bins ask for them before an output begins.
+/// The files that a run has read. A shelf notes each file that it opens, and bins look at them when an output begins.
 #[derive(Drop)]
 pub struct FilesRead {
     alloc: Global,
@@ -19,7 +19,7 @@ impl FilesRead {
         }
     }
 
-    /// Takes the keys out, so that they can be looked at. They are to be put back.
+    /// Takes the keys out, to look at them. The caller puts them back.
     pub(crate) fn take(&self) -> BTreeSet<FileKey> {
         self.keys.replace(BTreeSet::new(self.alloc))
     }

@@ -8,7 +8,7 @@ mod files_read;
 // the place that keeps files
 mod bins;
 
-// what stands under an output's name, and what the output is then written to
+// what is under an output's name, and what the output is then written to
 mod drafts;
 mod standing;
 mod target;

@@ -1,10 +1,10 @@
-// How an output is to be written, by what stands under its name.
-ghost use Rattle.std.specs.Prelude.{◌≡◌, ◌↔◌, Contains, IsTrue};
-ghost use Rattle.cweb_system.specs.Ways.{IsOfRun, way_over};
+// How an output is to be written, by what is under its name.
+ghost use Rattle.std.specs.Prelude.{◌≡◌, ◌↔◌, Some, Contains, IsTrue};
+ghost use Rattle.cweb_system.specs.Ways.{IsDevice, IsOfRun, IsRead, way_over};
 
 use crate::system::{FileKey, seen};
 use std::collections::BTreeSet;
-use std::fs::Metadata;
+use std::fs::{FileType, Metadata};
 use std::os::unix::fs::MetadataExt;
 use std::rt::Files;
 use std::{fs, io};
@@ -12,40 +12,42 @@ use std::{fs, io};
 /// Who may read, write and run a file; the bits above (setuid, setgid, sticky) aren't kept.
 const PERMISSIONS: u32 = 0o777;
 
-/// What stands under an output's name.
+/// What is under a path.
 #[derive(Clone, Copy)]
 pub(crate) enum Standing {
     Nothing,
     /// A regular file and its permissions.
     File(FileKey, u32),
-    /// A link, and what it leads to, where anything stands there.
+    /// A link to a file or a folder, with that one's key; or a link that can't be followed.
     Link(Option<FileKey>),
     Folder,
-    /// A device, a FIFO or a socket.
+    /// A device, a FIFO or a socket, or a link to one.
     Device(FileKey),
 }
 
 /// How an output is written.
 #[derive(Clone, Copy)]
 pub(crate) enum Way {
-    /// By a draft, which takes the place of what stands there: of a file with these permissions, where it is one.
+    /// By a draft that replaces what is there: a file with these permissions, if it is one.
     Draft(Option<u32>),
-    /// To the device that stands there.
+    /// To this device.
     Device(FileKey),
     Refused,
 }
 
 impl Standing {
-    /// What stands under a name, now.
-    pub(crate) fn of<R: Files>(files: &R, name: &str) -> io::Result<Standing> {
-        let Some(found) = seen(files, name)? else {
+    /// What is under a path, now.
+    pub(crate) fn of<R: Files>(files: &R, path: &str) -> io::Result<Standing> {
+        let Some(found) = seen(files, path)? else {
             return Ok(Standing::Nothing);
         };
-        if found.is_symlink() {
-            let led_to = fs::metadata(files, name).ok();
-            return Ok(Standing::Link(led_to.map(|found| FileKey::of(&found))));
+        if !found.is_symlink() {
+            return Ok(Standing::of_found(&found));
         }
-        Ok(Standing::of_found(&found))
+        Ok(match fs::metadata(files, path) {
+            Ok(target) => Standing::of_link(target.file_type(), FileKey::of(&target)),
+            Err(_) => Standing::Link(None),
+        })
     }
 
     /// What was found, which is no link.
@@ -60,12 +62,25 @@ impl Standing {
         }
     }
 
-    /// How an output of this name is written, in a run that has read some files and perhaps written this one.
-    pub(crate) fn way(self, read: &BTreeSet<FileKey>, is_written: bool) -> Way
-        ensures of_run { IsOfRun read.now.keys is_written self → result ≡ Way.Refused }
-        ensures other { (IsOfRun read.now.keys is_written self → ⊥) → result ≡ way_over self }
+    /// A link to something of this type and key. A link to a device counts as the device.
+    fn of_link(kind: FileType, target: FileKey) -> Standing
+        ensures device { IsDevice kind → result ≡ Standing.Device target }
+        ensures other { (IsDevice kind → ⊥) → result ≡ Standing.Link (Some target) }
     {
-        if self.is_of_run(read, is_written) {
+        if kind.is_file() || kind.is_dir() {
+            Standing::Link(Some(target))
+        } else {
+            Standing::Device(target)
+        }
+    }
+
+    /// How an output of this name is written, in a run that has read some files. The flag says that the file or the link's
+    /// target is the run's own.
+    pub(crate) fn way(self, read: &BTreeSet<FileKey>, is_own: bool) -> Way
+        ensures of_run { IsOfRun read.now.keys is_own self → result ≡ Way.Refused }
+        ensures other { (IsOfRun read.now.keys is_own self → ⊥) → result ≡ way_over self }
+    {
+        if self.is_of_run(read, is_own) {
             return Way::Refused;
         }
         match self {
@@ -76,13 +91,25 @@ impl Standing {
         }
     }
 
-    /// Whether it is a file that the run has read or written, or a link to one that it has read.
-    fn is_of_run(self, read: &BTreeSet<FileKey>, is_written: bool) -> bool
-        ensures { IsTrue result ↔ IsOfRun read.now.keys is_written self }
+    /// Whether an output would replace what the run has read, or what is its own.
+    fn is_of_run(self, read: &BTreeSet<FileKey>, is_own: bool) -> bool
+        ensures { IsTrue result ↔ IsOfRun read.now.keys is_own self }
     {
         match self {
-            Standing::File(file, _) => is_among(read, file) || is_written,
-            Standing::Link(Some(file)) => is_among(read, file),
+            Standing::File(file, _) => is_among(read, file) || is_own,
+            Standing::Link(Some(target)) => is_among(read, target) || is_own,
+            _ => false,
+        }
+    }
+
+    /// Whether the run has read it, under whatever name.
+    pub(crate) fn is_read(self, read: &BTreeSet<FileKey>) -> bool
+        ensures { IsTrue result ↔ IsRead read.now.keys self }
+    {
+        match self {
+            Standing::File(file, _) | Standing::Link(Some(file)) | Standing::Device(file) => {
+                is_among(read, file)
+            }
             _ => false,
         }
     }

@@ -1,4 +1,4 @@
-// What the system tells of files, beside what `Files` asks.
+// What the system knows of files, beyond what `Files` asks.
 use std::fs::{File, Metadata, OpenFile};
 use std::io::ErrorKind;
 use std::os::fd::AsRawFd;
@@ -8,6 +8,9 @@ use std::{fs, io};
 
 /// The descriptor of standard error, the last one of the standard streams.
 const LAST_STREAM: i32 = 2;
+
+/// Links of the system to the files that are the standard streams.
+const STREAMS: [&str; 3] = ["/proc/self/fd/0", "/proc/self/fd/1", "/proc/self/fd/2"];
 
 /// A file by its device and its number there: it is the same one under all its names.
 #[derive(Clone, Copy, Debug, PartialEq, Eq, PartialOrd, Ord)]
@@ -30,13 +33,13 @@ impl FileKey {
     }
 }
 
-/// An open file that the system locks, and whose descriptor it tells.
+/// An open file that can be locked, and whose descriptor is known.
 pub trait Held {
     /// Waits until no other opening of the file holds its lock, and takes it until this one is closed. An error where the
     /// system has no locks for the file.
     fn lock(&self) -> io::Result<()>;
 
-    /// Whether it stands in the place of a standard stream, which was closed when it was opened.
+    /// Whether it has the descriptor of a standard stream, which was closed before.
     fn is_stream(&self) -> bool;
 }
 
@@ -54,7 +57,19 @@ impl Held for File {
     }
 }
 
-/// What stands under a path, where anything does. A link isn't followed.
+/// Whether a file is a standard stream of the run. A stream that can't be looked up counts as none.
+pub(crate) fn is_stream<R: Files>(files: &R, file: FileKey) -> bool {
+    for stream in STREAMS {
+        if let Ok(found) = fs::metadata(files, stream) {
+            if FileKey::of(&found) == file {
+                return true;
+            }
+        }
+    }
+    false
+}
+
+/// What is under a path, if anything. A link isn't followed.
 pub(crate) fn seen<R: Files>(files: &R, path: &str) -> io::Result<Option<Metadata>> {
     match fs::symlink_metadata(files, path) {
         Ok(found) => Ok(Some(found)),
@@ -65,7 +80,7 @@ pub(crate) fn seen<R: Files>(files: &R, path: &str) -> io::Result<Option<Metadat
     }
 }
 
-/// What stands under a path, where it is this very file.
+/// What is under a path, if it is this very file.
 pub(crate) fn seen_as<R: Files>(
     files: &R,
     path: &str,
@@ -77,7 +92,7 @@ pub(crate) fn seen_as<R: Files>(
     }
 }
 
-/// Removes what stands under a path, where anything does.
+/// Removes what is under a path, if anything.
 pub(crate) fn remove<R: Files>(files: &R, path: &str) -> io::Result<()> {
     match fs::remove_file(files, path) {
         Ok(()) => Ok(()),

@@ -18,14 +18,14 @@ use std::rt::Files;
 pub(crate) enum Target<F: Write + Drop> {
     /// A draft of a file.
     Draft(Draft<F>),
-    /// A device or a FIFO, which is written as it is.
+    /// A device or a FIFO, which is written without a draft.
     Device(BufWriter<F>),
 }
 
 impl<F: Write + OpenFile + Held + Drop> Target<F> {
     ghost use Rattle.cweb_system.specs.Devices.{target_bytes};
 
-    /// Opens a device for writing, where it still is the one that was seen.
+    /// Opens a device for writing, if it still is the one that was seen.
     pub(crate) fn open_device<R: Files<File = F>>(
         alloc: Global,
         files: &R,
@@ -55,7 +55,7 @@ impl<F: Write + OpenFile + Held + Drop> Target<F> {
         }
     }
 
-    /// Puts a draft in its file's place, where all that was gathered could be written; else it is given up.
+    /// Writes what was gathered, and renames a draft to its file's name. If either fails, the output is given up.
     pub(crate) fn commit<R: Files<File = F>>(self, files: &R) -> Result<(), BinFault>
         ensures { IfErr result (λ fault. fault ≡ BinFault.Device) }
     {
@@ -82,7 +82,8 @@ impl<F: Write + OpenFile + Held + Drop> Target<F> {
     }
 }
 
-/// Opens a device for writing. Where something else stands under its name by now it is an error, and nothing is changed.
+/// Opens a device for writing, through links too. If the name leads to something else by now, that is an error, and nothing
+/// is changed.
 fn opened<R: Files>(files: &R, name: &str, device: FileKey) -> io::Result<R::File> {
     let file = OpenOptions::new().write(true).open(files, name)?;
     if FileKey::of_open(&file)? == device {
