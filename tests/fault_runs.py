@@ -62,7 +62,7 @@ def dead_streams():
     return {"closed": None, "full": full, "without a reader": writer, "not for writing": unwritable}
 
 
-def built(name):
+def proved(name):
     """The path of a program that `make build` built."""
     return os.path.join(HERE, "../build/proved", name)
 
