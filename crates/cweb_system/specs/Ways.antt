@@ -10,8 +10,8 @@ use Rattle.cweb_system.specs.declared.system.FileKey.{FileKey}
 abbrev pub IsDevice : FileType → Type 0
 IsDevice kind = (IsFile kind → ⊥) × (IsDir kind → ⊥)
 
--- the run has read this file, or the target of this link; or the file or link is the run's own: it has written the file, or a
--- standard stream is the target
+-- the run has read this file, or the target of this link; or the file or link is the run's own: it has written the file under
+-- another name, or a standard stream is the target
 abbrev pub IsOfRun : List FileKey → Bool → Standing → Type 0
 IsOfRun read own (Standing.File file permissions) = Contains read file ⊎ IsTrue own
 IsOfRun read own (Standing.Link (Some target)) = Contains read target ⊎ IsTrue own

@@ -25,7 +25,8 @@ const ROOT: &str = "/";
 /// The files of the system, by their paths. A draft has its file's name, followed by byte 127, which no output's name has.
 /// A commit renames the draft. It is deleted when it is given up or can't be renamed; if that fails, it stays.
 ///
-/// A file that was begun or committed here isn't begun again, whatever it is called.
+/// A name that was committed here may be begun again, as in the next run: its file is replaced. A file that was committed
+/// under another name is refused.
 ///
 /// Bytes are gathered and written in large pieces, so a write may fail for bytes that were taken earlier. The output is given
 /// up then: one that lost bytes is never committed.
@@ -85,7 +86,7 @@ impl<'a, R: Files<File: Held> + Drop> FolderBins<'a, R> {
             Ok(standing) => standing,
             Err(error) => return Err(start_fault(&error)),
         };
-        let is_own = self.is_own(standing);
+        let is_own = self.is_own(name, standing);
         match standing.way(read, is_own) {
             Way::Draft(replaced) => self.begin_draft(name, replaced, read),
             Way::Device(device) => Target::open_device(self.alloc, &self.files, name, device),
@@ -93,21 +94,23 @@ impl<'a, R: Files<File: Held> + Drop> FolderBins<'a, R> {
         }
     }
 
-    /// Whether the run has written this file, or a standard stream is the target of this link.
-    fn is_own(&self, standing: Standing) -> bool {
+    /// Whether this file was written under another name, or a standard stream is the target of this link.
+    fn is_own(&self, name: &str, standing: Standing) -> bool {
         match standing {
-            Standing::File(file, _) => self.has_written(file),
+            Standing::File(file, _) => self.has_written_as_other(name, file),
             Standing::Link(Some(target)) => is_stream(&self.files, target),
             _ => false,
         }
     }
 
-    /// Whether the run has written this file. If it is no longer under its own name, another run has replaced it, and the
-    /// system may have given its key to another file.
-    fn has_written(&self, file: FileKey) -> bool {
+    /// Whether this file was written under another name. If that name no longer leads to it, another run has replaced it, and
+    /// the system may have given its key to another file.
+    fn has_written_as_other(&self, name: &str, file: FileKey) -> bool {
         match self.written.get(&file) {
-            Some(name) => !matches!(seen_as(&self.files, name.as_str(), file), Ok(None)),
-            None => false,
+            Some(own) if own.as_str() != name => {
+                !matches!(seen_as(&self.files, own.as_str(), file), Ok(None))
+            }
+            _ => false,
         }
     }
 
