@@ -1,5 +1,5 @@
 // The files of the system's folders, as bins. No contract sees their bytes.
-ghost use Rattle.std.specs.Prelude.{◌≡◌, ◌≤◌, ◌<◌, ◌+◌, ◌^◌, [], false, length, option_and_then, take, IfOk, IfErr, IsSome};
+ghost use Rattle.std.specs.Prelude.{◌≡◌, ◌≤◌, ◌<◌, ◌+◌, ◌^◌, [], false, length, option_and_then, take, IfOk, IfErr, OnOk, OnErr, IsSome};
 ghost use Rattle.std.specs.Io.KnownBytes.{Appends};
 ghost use Rattle.cweb_files.specs.Device.{Counts};
 ghost use Rattle.cweb_bins.specs.Bins.{CountsDevice};
@@ -64,9 +64,31 @@ impl<'a, R: Files<File: Held> + Drop> FolderBins<'a, R> {
         }
     }
 
+    /// Gives up the output that is open, and begins one.
+    fn start(&mut self, name: &str) -> Result<(), BinFault>
+        requires { bins_failures self.old + 1 < 2 ^ 64 }
+        ensures failed { CountsDevice (bins_failures self.old) (bins_failures self.new) result }
+        ensures begun { OnOk result (IsBegun self.new) }
+        ensures gone { OnErr result (IsBegun self.new → ⊥) }
+    {
+        self.give_up();
+        match self.begin(name) {
+            Ok(output) => {
+                self.output = Some(output);
+                Ok(())
+            }
+            Err(BinFault::Memory) => Err(BinFault::Memory),
+            Err(BinFault::Device) => {
+                self.failed += 1;
+                Err(BinFault::Device)
+            }
+        }
+    }
+
     /// Begins an output of a name. The run reads no file meanwhile.
     fn begin(&mut self, name: &str) -> Result<Target<R::File>, BinFault>
         ensures failed { bins_failures self.new ≡ bins_failures self.old }
+        ensures output { self.new.output ≡ self.old.output }
     {
         let read = self.read.take();
         let begun = self.begin_beside(name, &read);
@@ -81,6 +103,7 @@ impl<'a, R: Files<File: Held> + Drop> FolderBins<'a, R> {
         read: &BTreeSet<FileKey>,
     ) -> Result<Target<R::File>, BinFault>
         ensures failed { bins_failures self.new ≡ bins_failures self.old }
+        ensures output { self.new.output ≡ self.old.output }
     {
         let standing = match Standing::of(&self.files, name) {
             Ok(standing) => standing,
@@ -122,6 +145,7 @@ impl<'a, R: Files<File: Held> + Drop> FolderBins<'a, R> {
         read: &BTreeSet<FileKey>,
     ) -> Result<Target<R::File>, BinFault>
         ensures failed { bins_failures self.new ≡ bins_failures self.old }
+        ensures output { self.new.output ≡ self.old.output }
     {
         let draft = Draft::begin(self.alloc, &self.files, name, replaced, read)?;
         if self.note(draft.file, name).is_err() {
@@ -134,6 +158,7 @@ impl<'a, R: Files<File: Held> + Drop> FolderBins<'a, R> {
     /// Notes a file as one that this run writes.
     fn note(&mut self, file: FileKey, name: &str) -> Result<(), AllocError>
         ensures failed { bins_failures self.new ≡ bins_failures self.old }
+        ensures output { self.new.output ≡ self.old.output }
     {
         let name = String::from_str(self.alloc, name)?;
         self.written.insert(file, name)?;
@@ -147,6 +172,7 @@ impl<'a, R: Files<File: Held> + Drop> FolderBins<'a, R> {
         ensures within { IfOk result (λ n. n ≤ length piece.now) }
         ensures some { 0 < length piece.now → IfOk result (λ n. 0 < n) }
         ensures begun { IfOk result (λ _. IsBegun self.old) }
+        ensures gone { OnErr result (IsBegun self.new → ⊥) }
         ensures passes { IfOk result (λ n. Appends (output_bytes R.File.contents self.old)
             (output_bytes R.File.contents self.new) (take n piece.now)) }
     {
@@ -161,6 +187,7 @@ impl<'a, R: Files<File: Held> + Drop> FolderBins<'a, R> {
     /// Gives up the output that is open.
     fn give_up(&mut self)
         ensures failed { bins_failures self.new ≡ bins_failures self.old }
+        ensures gone { IsBegun self.new → ⊥ }
     {
         if let Some(output) = self.output.take() {
             if let Target::Draft(draft) = &output {
@@ -175,6 +202,7 @@ impl<'a, R: Files<File: Held> + Drop> FolderBins<'a, R> {
         ensures failed { bins_failures self.new ≡ bins_failures self.old }
         ensures device { IfErr result (λ fault. fault ≡ BinFault.Device) }
         ensures begun { IfOk result (λ _. IsBegun self.old) }
+        ensures gone { IsBegun self.new → ⊥ }
     {
         match self.output.take() {
             Some(output) => output.commit(&self.files)?,
@@ -232,18 +260,7 @@ impl<R: Files<File: Held> + Drop> Bins for FolderBins<'_, R> {
     ghost use Rattle.cweb_system.specs.Devices.{bins_failures};
 
     fn start_file(&mut self, name: &str) -> Result<(), BinFault> {
-        self.give_up();
-        match self.begin(name) {
-            Ok(output) => {
-                self.output = Some(output);
-                Ok(())
-            }
-            Err(BinFault::Memory) => Err(BinFault::Memory),
-            Err(BinFault::Device) => {
-                self.failed += 1;
-                Err(BinFault::Device)
-            }
-        }
+        self.start(name)
     }
 
     fn commit_file(&mut self) -> Result<(), BinFault> {

@@ -1,5 +1,5 @@
 // Drafts of files of the system.
-ghost use Rattle.std.specs.Prelude.{◌≡◌, ◌++◌, [], ◌∷◌, string_bytes, IfOk, IfErr, IsErr};
+ghost use Rattle.std.specs.Prelude.{◌≡◌, ◌++◌, [], ◌∷◌, string_bytes, IfOk, IfErr, IsErr, OnOk};
 ghost use Rattle.std.specs.Io.Buffered.{writer_buffer};
 ghost use Rattle.cweb_system.specs.Ways.{IsRead};
 
@@ -93,7 +93,9 @@ impl<F: Write + OpenFile + Held + Drop> Draft<F> {
     }
 
     /// It is an error if another file has the draft's path by now: that file would be renamed.
-    fn put_in_place<R: Files<File = F>>(&mut self, files: &R) -> io::Result<()> {
+    fn put_in_place<R: Files<File = F>>(&mut self, files: &R) -> io::Result<()>
+        ensures flushed { OnOk result (writer_buffer self.new.out ≡ []) }
+    {
         self.out.flush()?;
         let Some(draft) = seen_as(files, self.path.as_str(), self.file)? else {
             return Err(Error::from(ErrorKind::NotFound));
