@@ -1,5 +1,5 @@
 // The files of the system's folders, as bins. No contract sees their bytes.
-ghost use Rattle.std.specs.Prelude.{◌≡◌, ◌≤◌, ◌<◌, ◌+◌, ◌^◌, [], false, length, option_and_then, take, IfOk, IfErr, OnOk, OnErr, IsSome};
+ghost use Rattle.std.specs.Prelude.{◌≡◌, ◌≤◌, ◌<◌, ◌+◌, ◌^◌, [], false, length, option_and_then, option_map, take, IfOk, IfErr, OnOk, OnErr, IfSome, IsSome, Some, None};
 ghost use Rattle.std.specs.Io.KnownBytes.{Appends};
 ghost use Rattle.cweb_files.specs.Device.{Counts};
 ghost use Rattle.cweb_bins.specs.Bins.{CountsDevice};
@@ -8,7 +8,7 @@ ghost use Rattle.cweb_system.specs.Devices.{target_bytes};
 use crate::drafts::{Draft, start_fault};
 use crate::files_read::FilesRead;
 use crate::standing::{Standing, Way};
-use crate::system::{FileKey, Held, is_stream, seen_as};
+use crate::system::{FileKey, Held, is_stream, may_be_at};
 use crate::target::Target;
 use cweb_bins::{BinFault, Bins};
 use cweb_files::{Sink, SinkFault};
@@ -46,7 +46,7 @@ pub struct FolderBins<'a, R: Files<File: Held> + Drop> {
 }
 
 impl<'a, R: Files<File: Held> + Drop> FolderBins<'a, R> {
-    ghost use Rattle.cweb_system.specs.Devices.{bins_failures, output_bytes, IsBegun};
+    ghost use Rattle.cweb_system.specs.Devices.{bins_failures, output_bytes, written_name, Begins, IsBegun};
 
     /// Call it before any other file is opened. No output replaces a file that is noted as read.
     pub fn new(alloc: Global, files: R, read: &'a FilesRead) -> Self
@@ -69,6 +69,7 @@ impl<'a, R: Files<File: Held> + Drop> FolderBins<'a, R> {
         requires { bins_failures self.old + 1 < 2 ^ 64 }
         ensures failed { CountsDevice (bins_failures self.old) (bins_failures self.new) result }
         ensures begun { OnOk result (IsBegun self.new) }
+        ensures begins { OnOk result (IfSome self.new.output (Begins name.now self.new)) }
         ensures gone { OnErr result (IsBegun self.new → ⊥) }
     {
         self.give_up();
@@ -89,6 +90,7 @@ impl<'a, R: Files<File: Held> + Drop> FolderBins<'a, R> {
     fn begin(&mut self, name: &str) -> Result<Target<R::File>, BinFault>
         ensures failed { bins_failures self.new ≡ bins_failures self.old }
         ensures output { self.new.output ≡ self.old.output }
+        ensures begins { IfOk result (Begins name.now self.new) }
     {
         let read = self.read.take();
         let begun = self.begin_beside(name, &read);
@@ -104,6 +106,7 @@ impl<'a, R: Files<File: Held> + Drop> FolderBins<'a, R> {
     ) -> Result<Target<R::File>, BinFault>
         ensures failed { bins_failures self.new ≡ bins_failures self.old }
         ensures output { self.new.output ≡ self.old.output }
+        ensures begins { IfOk result (Begins name.now self.new) }
     {
         let standing = match Standing::of(&self.files, name) {
             Ok(standing) => standing,
@@ -128,12 +131,23 @@ impl<'a, R: Files<File: Held> + Drop> FolderBins<'a, R> {
 
     /// Whether this file was written under another name. If that name no longer leads to it, another run has replaced it, and
     /// the system may have given its key to another file.
-    fn has_written_as_other(&self, name: &str, file: FileKey) -> bool {
-        match self.written.get(&file) {
-            Some(own) if own.as_str() != name => {
-                !matches!(seen_as(&self.files, own.as_str(), file), Ok(None))
-            }
+    fn has_written_as_other(&self, name: &str, file: FileKey) -> bool
+        ensures same { written_name self.now file ≡ Some name.now → result ≡ false }
+        ensures none { written_name self.now file ≡ None → result ≡ false }
+    {
+        match self.name_of(file) {
+            Some(own) if own != name => may_be_at(&self.files, own, file),
             _ => false,
+        }
+    }
+
+    /// The name under which the run has written a file.
+    fn name_of(&self, file: FileKey) -> Option<&str>
+        ensures { option_map (λ own. own.now) result ≡ written_name self.now file }
+    {
+        match self.written.get(&file) {
+            Some(name) => Some(name.as_str()),
+            None => None,
         }
     }
 
@@ -146,6 +160,7 @@ impl<'a, R: Files<File: Held> + Drop> FolderBins<'a, R> {
     ) -> Result<Target<R::File>, BinFault>
         ensures failed { bins_failures self.new ≡ bins_failures self.old }
         ensures output { self.new.output ≡ self.old.output }
+        ensures begins { IfOk result (Begins name.now self.new) }
     {
         let draft = Draft::begin(self.alloc, &self.files, name, replaced, read)?;
         if self.note(draft.file, name).is_err() {
@@ -159,6 +174,7 @@ impl<'a, R: Files<File: Held> + Drop> FolderBins<'a, R> {
     fn note(&mut self, file: FileKey, name: &str) -> Result<(), AllocError>
         ensures failed { bins_failures self.new ≡ bins_failures self.old }
         ensures output { self.new.output ≡ self.old.output }
+        ensures noted { OnOk result (written_name self.new file ≡ Some name.now) }
     {
         let name = String::from_str(self.alloc, name)?;
         self.written.insert(file, name)?;
@@ -190,9 +206,6 @@ impl<'a, R: Files<File: Held> + Drop> FolderBins<'a, R> {
         ensures gone { IsBegun self.new → ⊥ }
     {
         if let Some(output) = self.output.take() {
-            if let Target::Draft(draft) = &output {
-                let _ = self.written.remove(&draft.file);
-            }
             output.give_up(&self.files);
         }
     }
