@@ -1,10 +1,7 @@
 -- How often a device of the system has failed, and the stream under it.
-use Rattle.std.specs.Prelude.{◌≡◌, ⊤, ℕ, List, [], Option, Some, option_and_then, option_map, string_bytes, IsSome}
+use Rattle.std.specs.Prelude.{◌≡◌, ⊤, ℕ, List, [], Option, Some, option_and_then, string_bytes, IsSome}
 use Rattle.std.specs.Io.Buffered.{writer_buffer, writer_contents}
-use Rattle.std.specs.BTreeMap.{get_by}
-use Rattle.std.specs.Ordering.{nat_cmp, ordering_then}
-use Rattle.std.specs.declared.cmp.Ordering.{Ordering}
-use Rattle.cweb_system.specs.declared.system.FileKey.{FileKey}
+use Rattle.cweb_system.specs.Written.{written_name}
 use Rattle.cweb_system.specs.declared.bins.FolderBins.{FolderBins}
 use Rattle.cweb_system.specs.declared.target.Target.{Target}
 use Rattle.cweb_system.specs.declared.devices.FolderShelf.{FolderShelf}
@@ -36,18 +33,10 @@ abbrev pub IsDeviceOpen : {F : Type 0} → Target F → Type 0
 IsDeviceOpen (Target.Device out) = ⊤
 IsDeviceOpen (Target.Draft draft) = ⊥
 
--- how the keys of files compare: by device, then by number
-abbrev pub compare_keys : FileKey → FileKey → Ordering
-compare_keys a b = ordering_then (nat_cmp a.device b.device) (nat_cmp a.number b.number)
-
--- the name under which a file was written
-abbrev pub written_name : {R File Dir : Type 0} → FolderBins R File Dir → FileKey → Option (List ℕ)
-written_name bins file = option_map string_bytes (get_by (compare_keys file) bins.written)
-
 -- an empty output of a name was begun, and the file of a draft is noted under it
 abbrev pub Begins : {R File Dir : Type 0} → List ℕ → FolderBins R File Dir → Target File → Type 0
 Begins name bins (Target.Draft draft) =
-    (string_bytes draft.name ≡ name) × (writer_buffer draft.out ≡ []) × (written_name bins draft.file ≡ Some name)
+    (string_bytes draft.name ≡ name) × (writer_buffer draft.out ≡ []) × (written_name bins.written draft.file ≡ Some name)
 Begins name bins (Target.Device out) = writer_buffer out ≡ []
 
 abbrev pub output_bytes : {R File Dir : Type 0} → (File → Option (List ℕ)) → FolderBins R File Dir → Option (List ℕ)

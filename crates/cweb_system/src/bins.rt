@@ -1,5 +1,5 @@
 // The files of the system's folders, as bins. No contract sees their bytes.
-ghost use Rattle.std.specs.Prelude.{◌≡◌, ◌≤◌, ◌<◌, ◌+◌, ◌^◌, [], false, length, option_and_then, option_map, take, IfOk, IfErr, OnOk, OnErr, IfSome, IsSome, Some, None};
+ghost use Rattle.std.specs.Prelude.{◌≡◌, ◌≤◌, ◌<◌, ◌+◌, ◌^◌, [], false, length, option_and_then, take, IfOk, IfErr, OnOk, OnErr, IfSome, IsSome};
 ghost use Rattle.std.specs.Io.KnownBytes.{Appends};
 ghost use Rattle.cweb_files.specs.Device.{Counts};
 ghost use Rattle.cweb_bins.specs.Bins.{CountsDevice};
@@ -7,13 +7,14 @@ ghost use Rattle.cweb_system.specs.Devices.{target_bytes};
 
 use crate::drafts::{Draft, start_fault};
 use crate::files_read::FilesRead;
+use crate::files_written::FilesWritten;
 use crate::standing::{Standing, Way};
-use crate::system::{FileKey, Held, is_stream, may_be_at};
+use crate::system::{FileKey, Held, is_stream};
 use crate::target::Target;
 use cweb_bins::{BinFault, Bins};
 use cweb_files::{Sink, SinkFault};
-use std::alloc::{AllocError, Global};
-use std::collections::{BTreeMap, BTreeSet};
+use std::alloc::Global;
+use std::collections::BTreeSet;
 use std::fs;
 use std::fs::OpenFile;
 use std::io::Write;
@@ -39,14 +40,14 @@ pub struct FolderBins<'a, R: Files<File: Held> + Drop> {
     streams: [Option<R::File>; 3],
     /// The files that the run has read.
     read: &'a FilesRead,
-    /// Those that it has begun or committed, with their names.
-    written: BTreeMap<FileKey, String>,
+    /// The files that it has begun or committed.
+    written: FilesWritten,
     output: Option<Target<R::File>>,
     failed: u64,
 }
 
 impl<'a, R: Files<File: Held> + Drop> FolderBins<'a, R> {
-    ghost use Rattle.cweb_system.specs.Devices.{bins_failures, output_bytes, written_name, Begins, IsBegun};
+    ghost use Rattle.cweb_system.specs.Devices.{bins_failures, output_bytes, Begins, IsBegun};
 
     /// Call it before any other file is opened. No output replaces a file that is noted as read.
     pub fn new(alloc: Global, files: R, read: &'a FilesRead) -> Self
@@ -58,7 +59,7 @@ impl<'a, R: Files<File: Held> + Drop> FolderBins<'a, R> {
             files,
             streams,
             read,
-            written: BTreeMap::new(alloc),
+            written: FilesWritten::new(alloc),
             output: None,
             failed: 0,
         }
@@ -123,31 +124,9 @@ impl<'a, R: Files<File: Held> + Drop> FolderBins<'a, R> {
     /// Whether this file was written under another name, or a standard stream is the target of this link.
     fn is_own(&self, name: &str, standing: Standing) -> bool {
         match standing {
-            Standing::File(file, _) => self.has_written_as_other(name, file),
+            Standing::File(file, _) => self.written.has_other_name(&self.files, name, file),
             Standing::Link(Some(target)) => is_stream(&self.files, target),
             _ => false,
-        }
-    }
-
-    /// Whether this file was written under another name. If that name no longer leads to it, another run has replaced it, and
-    /// the system may have given its key to another file.
-    fn has_written_as_other(&self, name: &str, file: FileKey) -> bool
-        ensures same { written_name self.now file ≡ Some name.now → result ≡ false }
-        ensures none { written_name self.now file ≡ None → result ≡ false }
-    {
-        match self.name_of(file) {
-            Some(own) if own != name => may_be_at(&self.files, own, file),
-            _ => false,
-        }
-    }
-
-    /// The name under which the run has written a file.
-    fn name_of(&self, file: FileKey) -> Option<&str>
-        ensures { option_map (λ own. own.now) result ≡ written_name self.now file }
-    {
-        match self.written.get(&file) {
-            Some(name) => Some(name.as_str()),
-            None => None,
         }
     }
 
@@ -163,22 +142,11 @@ impl<'a, R: Files<File: Held> + Drop> FolderBins<'a, R> {
         ensures begins { IfOk result (Begins name.now self.new) }
     {
         let draft = Draft::begin(self.alloc, &self.files, name, replaced, read)?;
-        if self.note(draft.file, name).is_err() {
+        if self.written.note(draft.file, name).is_err() {
             draft.delete(&self.files);
             return Err(BinFault::Memory);
         }
         Ok(Target::Draft(draft))
-    }
-
-    /// Notes a file as one that this run writes.
-    fn note(&mut self, file: FileKey, name: &str) -> Result<(), AllocError>
-        ensures failed { bins_failures self.new ≡ bins_failures self.old }
-        ensures output { self.new.output ≡ self.old.output }
-        ensures noted { OnOk result (written_name self.new file ≡ Some name.now) }
-    {
-        let name = String::from_str(self.alloc, name)?;
-        self.written.insert(file, name)?;
-        Ok(())
     }
 
     /// Adds bytes to the output, in their order: none is lost and none is added. After a fault the output is given up.

@@ -1,7 +1,7 @@
 use Rattle.std.proofs.Common.{◌≡◌, ◌∙◌, Bool, true, false, not, [], option_map, ap, sym, refl}
 use Rattle.std.specs.Cmp.Lexicographic.{other_text}
 use Rattle.std.specs.Option.{unwrap_or}
-use Rattle.cweb_system.proofs.bins.FolderBins.has_written_as_other.Goals as goal
+use Rattle.cweb_system.proofs.files_written.FilesWritten.has_other_name.Goals as goal
 
 negated : (b : Bool) → not b ≡ true → false ≡ b
 negated false e = refl
