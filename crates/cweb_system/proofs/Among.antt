@@ -8,11 +8,8 @@ use Rattle.std.specs.Cmp.{nat_cmp_is}
 use Rattle.std.specs.Ordering.{is_eq, ordering_then}
 use Rattle.std.proofs.lemmas.List.Folds.{list_any_at, Any-from_list_any}
 use Rattle.std.proofs.lemmas.Map.Lookups.{exact_unsigned}
+use Rattle.cweb_system.specs.Written.{compare_keys}
 use Rattle.cweb_system.specs.declared.system.FileKey.{FileKey}
-
--- how the keys of files compare: by device, then by number
-abbrev compare : FileKey → FileKey → Ordering
-compare a b = ordering_then (nat_cmp a.device b.device) (nat_cmp a.number b.number)
 
 both_equal : (a b : Ordering) → is_eq (ordering_then a b) ≡ true → (a ≡ Equal) × (b ≡ Equal)
 both_equal Equal Equal e = (refl, refl)
@@ -26,21 +23,21 @@ same a b equal = sym (λ i. record {
   number = exact_unsigned a.number b.number equal.1 i;
 })
 
-itself : (a : FileKey) → is_at (compare a) a ≡ true
+itself : (a : FileKey) → is_at (compare_keys a) a ≡ true
 itself a =
     ap is_eq
     (ap (λ o. ordering_then o (nat_cmp a.number a.number)) (sym (nat_cmp_is a.device a.device Equal refl))
     ∙ sym (nat_cmp_is a.number a.number Equal refl))
 
-found : (file : FileKey) (keys : List FileKey) → Any (λ k. is_at (compare file) k ≡ true) keys → Contains keys file
+found : (file : FileKey) (keys : List FileKey) → Any (λ k. is_at (compare_keys file) k ≡ true) keys → Contains keys file
 found file keys (n, k, within, at, equal) =
     (n, within, subst (λ (key : FileKey). slice_index_or keys n key ≡ key) (same file k (both_equal _ _ equal)) at)
 
 -- a set has a file where it is said to have one of its key
-pub among : (file : FileKey) (keys : List FileKey) (has : Bool) → has ≡ list_any (is_at (compare file)) keys
+pub among : (file : FileKey) (keys : List FileKey) (has : Bool) → has ≡ list_any (is_at (compare_keys file)) keys
     → IsTrue has ↔ Contains keys file
 among file keys has is = (
-  (λ t. found file keys (Any-from_list_any (is_at (compare file)) keys (sym is ∙ t))),
+  (λ t. found file keys (Any-from_list_any (is_at (compare_keys file)) keys (sym is ∙ t))),
   (λ (n, within, at).
-      is ∙ list_any_at (is_at (compare file)) keys n file within (ap (is_at (compare file)) at ∙ itself file)),
+      is ∙ list_any_at (is_at (compare_keys file)) keys n file within (ap (is_at (compare_keys file)) at ∙ itself file)),
 )

@@ -1,6 +1,7 @@
 -- How often a device of the system has failed, and the stream under it.
-use Rattle.std.specs.Prelude.{ℕ, List, Option, option_and_then, IsSome}
-use Rattle.std.specs.Io.Buffered.{writer_contents}
+use Rattle.std.specs.Prelude.{◌≡◌, ⊤, ℕ, List, [], Option, Some, option_and_then, string_bytes, IsSome}
+use Rattle.std.specs.Io.Buffered.{writer_buffer, writer_contents}
+use Rattle.cweb_system.specs.Written.{written_name}
 use Rattle.cweb_system.specs.declared.bins.FolderBins.{FolderBins}
 use Rattle.cweb_system.specs.declared.target.Target.{Target}
 use Rattle.cweb_system.specs.declared.devices.FolderShelf.{FolderShelf}
@@ -22,6 +23,21 @@ bins_failures bins = bins.failed
 abbrev pub target_bytes : {F : Type 0} → (F → Option (List ℕ)) → Target F → Option (List ℕ)
 target_bytes contents (Target.Draft draft) = writer_contents contents draft.out
 target_bytes contents (Target.Device out) = writer_contents contents out
+
+-- the bytes of an output that are not yet written
+abbrev pub gathered : {F : Type 0} → Target F → List ℕ
+gathered (Target.Draft draft) = writer_buffer draft.out
+gathered (Target.Device out) = writer_buffer out
+
+abbrev pub IsDeviceOpen : {F : Type 0} → Target F → Type 0
+IsDeviceOpen (Target.Device out) = ⊤
+IsDeviceOpen (Target.Draft draft) = ⊥
+
+-- an empty output of a name was begun, and the file of a draft is noted under it
+abbrev pub Begins : {R File Dir : Type 0} → List ℕ → FolderBins R File Dir → Target File → Type 0
+Begins name bins (Target.Draft draft) =
+    (string_bytes draft.name ≡ name) × (writer_buffer draft.out ≡ []) × (written_name bins.written draft.file ≡ Some name)
+Begins name bins (Target.Device out) = writer_buffer out ≡ []
 
 abbrev pub output_bytes : {R File Dir : Type 0} → (File → Option (List ℕ)) → FolderBins R File Dir → Option (List ℕ)
 output_bytes contents bins = option_and_then (target_bytes contents) bins.output

@@ -1,5 +1,5 @@
 // The files of the system's folders, as bins. No contract sees their bytes.
-ghost use Rattle.std.specs.Prelude.{◌≡◌, ◌≤◌, ◌<◌, ◌+◌, ◌^◌, [], false, length, option_and_then, take, IfOk, IfErr, IsSome};
+ghost use Rattle.std.specs.Prelude.{◌≡◌, ◌≤◌, ◌<◌, ◌+◌, ◌^◌, [], false, length, option_and_then, take, IfOk, IfErr, OnOk, OnErr, IfSome, IsSome};
 ghost use Rattle.std.specs.Io.KnownBytes.{Appends};
 ghost use Rattle.cweb_files.specs.Device.{Counts};
 ghost use Rattle.cweb_bins.specs.Bins.{CountsDevice};
@@ -7,13 +7,14 @@ ghost use Rattle.cweb_system.specs.Devices.{target_bytes};
 
 use crate::drafts::{Draft, start_fault};
 use crate::files_read::FilesRead;
+use crate::files_written::FilesWritten;
 use crate::standing::{Standing, Way};
-use crate::system::{FileKey, Held, is_stream, seen_as};
+use crate::system::{FileKey, Held, is_stream};
 use crate::target::Target;
 use cweb_bins::{BinFault, Bins};
 use cweb_files::{Sink, SinkFault};
-use std::alloc::{AllocError, Global};
-use std::collections::{BTreeMap, BTreeSet};
+use std::alloc::Global;
+use std::collections::BTreeSet;
 use std::fs;
 use std::fs::OpenFile;
 use std::io::Write;
@@ -25,7 +26,8 @@ const ROOT: &str = "/";
 /// The files of the system, by their paths. A draft has its file's name, followed by byte 127, which no output's name has.
 /// A commit renames the draft. It is deleted when it is given up or can't be renamed; if that fails, it stays.
 ///
-/// A file that was begun or committed here isn't begun again, whatever it is called.
+/// A name that was committed here may be begun again, as in the next run: its file is replaced. A file that was committed
+/// under another name is refused.
 ///
 /// Bytes are gathered and written in large pieces, so a write may fail for bytes that were taken earlier. The output is given
 /// up then: one that lost bytes is never committed.
@@ -38,14 +40,14 @@ pub struct FolderBins<'a, R: Files<File: Held> + Drop> {
     streams: [Option<R::File>; 3],
     /// The files that the run has read.
     read: &'a FilesRead,
-    /// Those that it has begun or committed, with their names.
-    written: BTreeMap<FileKey, String>,
+    /// The files that it has begun or committed.
+    written: FilesWritten,
     output: Option<Target<R::File>>,
     failed: u64,
 }
 
 impl<'a, R: Files<File: Held> + Drop> FolderBins<'a, R> {
-    ghost use Rattle.cweb_system.specs.Devices.{bins_failures, output_bytes, IsBegun};
+    ghost use Rattle.cweb_system.specs.Devices.{bins_failures, output_bytes, Begins, IsBegun};
 
     /// Call it before any other file is opened. No output replaces a file that is noted as read.
     pub fn new(alloc: Global, files: R, read: &'a FilesRead) -> Self
@@ -57,15 +59,39 @@ impl<'a, R: Files<File: Held> + Drop> FolderBins<'a, R> {
             files,
             streams,
             read,
-            written: BTreeMap::new(alloc),
+            written: FilesWritten::new(alloc),
             output: None,
             failed: 0,
+        }
+    }
+
+    /// Gives up the output that is open, and begins one.
+    fn start(&mut self, name: &str) -> Result<(), BinFault>
+        requires { bins_failures self.old + 1 < 2 ^ 64 }
+        ensures failed { CountsDevice (bins_failures self.old) (bins_failures self.new) result }
+        ensures begun { OnOk result (IsBegun self.new) }
+        ensures begins { OnOk result (IfSome self.new.output (Begins name.now self.new)) }
+        ensures gone { OnErr result (IsBegun self.new → ⊥) }
+    {
+        self.give_up();
+        match self.begin(name) {
+            Ok(output) => {
+                self.output = Some(output);
+                Ok(())
+            }
+            Err(BinFault::Memory) => Err(BinFault::Memory),
+            Err(BinFault::Device) => {
+                self.failed += 1;
+                Err(BinFault::Device)
+            }
         }
     }
 
     /// Begins an output of a name. The run reads no file meanwhile.
     fn begin(&mut self, name: &str) -> Result<Target<R::File>, BinFault>
         ensures failed { bins_failures self.new ≡ bins_failures self.old }
+        ensures output { self.new.output ≡ self.old.output }
+        ensures begins { IfOk result (Begins name.now self.new) }
     {
         let read = self.read.take();
         let begun = self.begin_beside(name, &read);
@@ -80,12 +106,14 @@ impl<'a, R: Files<File: Held> + Drop> FolderBins<'a, R> {
         read: &BTreeSet<FileKey>,
     ) -> Result<Target<R::File>, BinFault>
         ensures failed { bins_failures self.new ≡ bins_failures self.old }
+        ensures output { self.new.output ≡ self.old.output }
+        ensures begins { IfOk result (Begins name.now self.new) }
     {
         let standing = match Standing::of(&self.files, name) {
             Ok(standing) => standing,
             Err(error) => return Err(start_fault(&error)),
         };
-        let is_own = self.is_own(standing);
+        let is_own = self.is_own(name, standing);
         match standing.way(read, is_own) {
             Way::Draft(replaced) => self.begin_draft(name, replaced, read),
             Way::Device(device) => Target::open_device(self.alloc, &self.files, name, device),
@@ -93,21 +121,12 @@ impl<'a, R: Files<File: Held> + Drop> FolderBins<'a, R> {
         }
     }
 
-    /// Whether the run has written this file, or a standard stream is the target of this link.
-    fn is_own(&self, standing: Standing) -> bool {
+    /// Whether this file was written under another name, or a standard stream is the target of this link.
+    fn is_own(&self, name: &str, standing: Standing) -> bool {
         match standing {
-            Standing::File(file, _) => self.has_written(file),
+            Standing::File(file, _) => self.written.has_other_name(&self.files, name, file),
             Standing::Link(Some(target)) => is_stream(&self.files, target),
             _ => false,
-        }
-    }
-
-    /// Whether the run has written this file. If it is no longer under its own name, another run has replaced it, and the
-    /// system may have given its key to another file.
-    fn has_written(&self, file: FileKey) -> bool {
-        match self.written.get(&file) {
-            Some(name) => !matches!(seen_as(&self.files, name.as_str(), file), Ok(None)),
-            None => false,
         }
     }
 
@@ -119,22 +138,15 @@ impl<'a, R: Files<File: Held> + Drop> FolderBins<'a, R> {
         read: &BTreeSet<FileKey>,
     ) -> Result<Target<R::File>, BinFault>
         ensures failed { bins_failures self.new ≡ bins_failures self.old }
+        ensures output { self.new.output ≡ self.old.output }
+        ensures begins { IfOk result (Begins name.now self.new) }
     {
         let draft = Draft::begin(self.alloc, &self.files, name, replaced, read)?;
-        if self.note(draft.file, name).is_err() {
+        if self.written.note(draft.file, name).is_err() {
             draft.delete(&self.files);
             return Err(BinFault::Memory);
         }
         Ok(Target::Draft(draft))
-    }
-
-    /// Notes a file as one that this run writes.
-    fn note(&mut self, file: FileKey, name: &str) -> Result<(), AllocError>
-        ensures failed { bins_failures self.new ≡ bins_failures self.old }
-    {
-        let name = String::from_str(self.alloc, name)?;
-        self.written.insert(file, name)?;
-        Ok(())
     }
 
     /// Adds bytes to the output, in their order: none is lost and none is added. After a fault the output is given up.
@@ -144,6 +156,7 @@ impl<'a, R: Files<File: Held> + Drop> FolderBins<'a, R> {
         ensures within { IfOk result (λ n. n ≤ length piece.now) }
         ensures some { 0 < length piece.now → IfOk result (λ n. 0 < n) }
         ensures begun { IfOk result (λ _. IsBegun self.old) }
+        ensures gone { OnErr result (IsBegun self.new → ⊥) }
         ensures passes { IfOk result (λ n. Appends (output_bytes R.File.contents self.old)
             (output_bytes R.File.contents self.new) (take n piece.now)) }
     {
@@ -158,11 +171,9 @@ impl<'a, R: Files<File: Held> + Drop> FolderBins<'a, R> {
     /// Gives up the output that is open.
     fn give_up(&mut self)
         ensures failed { bins_failures self.new ≡ bins_failures self.old }
+        ensures gone { IsBegun self.new → ⊥ }
     {
         if let Some(output) = self.output.take() {
-            if let Target::Draft(draft) = &output {
-                let _ = self.written.remove(&draft.file);
-            }
             output.give_up(&self.files);
         }
     }
@@ -172,6 +183,7 @@ impl<'a, R: Files<File: Held> + Drop> FolderBins<'a, R> {
         ensures failed { bins_failures self.new ≡ bins_failures self.old }
         ensures device { IfErr result (λ fault. fault ≡ BinFault.Device) }
         ensures begun { IfOk result (λ _. IsBegun self.old) }
+        ensures gone { IsBegun self.new → ⊥ }
     {
         match self.output.take() {
             Some(output) => output.commit(&self.files)?,
@@ -229,18 +241,7 @@ impl<R: Files<File: Held> + Drop> Bins for FolderBins<'_, R> {
     ghost use Rattle.cweb_system.specs.Devices.{bins_failures};
 
     fn start_file(&mut self, name: &str) -> Result<(), BinFault> {
-        self.give_up();
-        match self.begin(name) {
-            Ok(output) => {
-                self.output = Some(output);
-                Ok(())
-            }
-            Err(BinFault::Memory) => Err(BinFault::Memory),
-            Err(BinFault::Device) => {
-                self.failed += 1;
-                Err(BinFault::Device)
-            }
-        }
+        self.start(name)
     }
 
     fn commit_file(&mut self) -> Result<(), BinFault> {

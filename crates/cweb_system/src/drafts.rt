@@ -1,10 +1,11 @@
 // Drafts of files of the system.
-ghost use Rattle.std.specs.Prelude.{◌≡◌, ◌++◌, [], ◌∷◌, string_bytes, IfOk, IfErr, IsErr};
+ghost use Rattle.std.specs.Prelude.{◌≡◌, ◌++◌, [], ◌∷◌, string_bytes, IfOk, IfErr, IsErr, OnOk};
 ghost use Rattle.std.specs.Io.Buffered.{writer_buffer};
+ghost use Rattle.std.specs.IoError.{error_kind};
 ghost use Rattle.cweb_system.specs.Ways.{IsRead};
 
 use crate::standing::{Standing, permissions};
-use crate::system::{FileKey, Held, remove, seen, seen_as};
+use crate::system::{FileKey, Held, may_be_at, remove, seen, seen_as};
 use cweb_bins::BinFault;
 use std::alloc::{AllocError, Global};
 use std::collections::BTreeSet;
@@ -30,7 +31,7 @@ const OWNERS: u32 = 0o600;
 #[derive(Drop)]
 pub(crate) struct Draft<F: Write + Drop> {
     /// The name of the file that it is to become.
-    name: String,
+    pub(crate) name: String,
     /// The draft's own name.
     path: String,
     /// The file that it is, and will be.
@@ -81,19 +82,11 @@ impl<F: Write + OpenFile + Held + Drop> Draft<F> {
         })
     }
 
-    /// Writes what was gathered, and renames the draft to its file's name. If either fails, the draft is deleted.
-    pub(crate) fn commit<R: Files<File = F>>(mut self, files: &R) -> Result<(), BinFault>
-        ensures { IfErr result (λ fault. fault ≡ BinFault.Device) }
+    /// Writes what was gathered, and renames the draft to its file's name. It is an error if another file has the draft's path
+    /// by now: that file would be renamed.
+    pub(crate) fn put_in_place<R: Files<File = F>>(&mut self, files: &R) -> io::Result<()>
+        ensures flushed { OnOk result (writer_buffer self.new.out ≡ []) }
     {
-        if self.put_in_place(files).is_err() {
-            self.delete(files);
-            return Err(BinFault::Device);
-        }
-        Ok(())
-    }
-
-    /// It is an error if another file has the draft's path by now: that file would be renamed.
-    fn put_in_place<R: Files<File = F>>(&mut self, files: &R) -> io::Result<()> {
         self.out.flush()?;
         let Some(draft) = seen_as(files, self.path.as_str(), self.file)? else {
             return Err(Error::from(ErrorKind::NotFound));
@@ -124,11 +117,8 @@ impl<F: Write + OpenFile + Held + Drop> Draft<F> {
         } = self;
         // the lock is held until it is deleted
         let _held = out.into_parts();
-        match seen_as(files, path.as_str(), file) {
-            Ok(None) => {}
-            _ => {
-                let _ = fs::remove_file(files, path.as_str());
-            }
+        if may_be_at(files, path.as_str(), file) {
+            let _ = fs::remove_file(files, path.as_str());
         }
     }
 }
@@ -241,7 +231,10 @@ fn draft_path(alloc: Global, name: &str) -> Result<String, AllocError>
 }
 
 /// Out of memory is the only refusal of the system that has a fault of its own.
-pub(crate) fn start_fault(error: &Error) -> BinFault {
+pub(crate) fn start_fault(error: &Error) -> BinFault
+    ensures memory { error_kind error.now ≡ ErrorKind.OutOfMemory → result ≡ BinFault.Memory }
+    ensures device { (error_kind error.now ≡ ErrorKind.OutOfMemory → ⊥) → result ≡ BinFault.Device }
+{
     match error.kind() {
         ErrorKind::OutOfMemory => BinFault::Memory,
         _ => BinFault::Device,

@@ -7,6 +7,7 @@ mod files_read;
 
 // the place that keeps files
 mod bins;
+mod files_written;
 
 // what is under an output's name, and what the output is then written to
 mod drafts;

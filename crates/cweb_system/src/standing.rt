@@ -1,6 +1,7 @@
 // How an output is to be written, by what is under its name.
 ghost use Rattle.std.specs.Prelude.{◌≡◌, ◌↔◌, Some, Contains, IsTrue};
-ghost use Rattle.cweb_system.specs.Ways.{IsDevice, IsOfRun, IsRead, way_over};
+ghost use Rattle.cweb_system.specs.Ways.{IsDevice, IsDeviceFound, IsFileOf, IsOfRun, IsRead, permission_bits, way_over};
+ghost use Rattle.std.specs.Fs.{file_type, IsDir, IsFile};
 
 use crate::system::{FileKey, seen};
 use std::collections::BTreeSet;
@@ -51,7 +52,11 @@ impl Standing {
     }
 
     /// What was found, which is no link.
-    fn of_found(found: &Metadata) -> Standing {
+    fn of_found(found: &Metadata) -> Standing
+        ensures file { IsFile (file_type found.now) → IsFileOf (permission_bits found.now) result }
+        ensures folder { IsDir (file_type found.now) → result ≡ Standing.Folder }
+        ensures device { IsDevice (file_type found.now) → IsDeviceFound result }
+    {
         let file = FileKey::of(found);
         if found.is_file() {
             Standing::File(file, permissions(found))
@@ -122,6 +127,8 @@ fn is_among(files: &BTreeSet<FileKey>, file: FileKey) -> bool
 }
 
 /// Who may read, write and run what was found.
-pub(crate) fn permissions(found: &Metadata) -> u32 {
+pub(crate) fn permissions(found: &Metadata) -> u32
+    ensures { result ≡ permission_bits found.now }
+{
     found.mode() & PERMISSIONS
 }

@@ -92,6 +92,11 @@ pub(crate) fn seen_as<R: Files>(
     }
 }
 
+/// Whether a path names this very file, or can't be looked up.
+pub(crate) fn may_be_at<R: Files>(files: &R, path: &str, file: FileKey) -> bool {
+    !matches!(seen_as(files, path, file), Ok(None))
+}
+
 /// Removes what is under a path, if anything.
 pub(crate) fn remove<R: Files>(files: &R, path: &str) -> io::Result<()> {
     match fs::remove_file(files, path) {

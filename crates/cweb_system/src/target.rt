@@ -1,5 +1,5 @@
 // What an output of the system's folders is written to.
-ghost use Rattle.std.specs.Prelude.{◌≡◌, ◌≤◌, ◌<◌, length, take, IfOk, IfErr};
+ghost use Rattle.std.specs.Prelude.{◌≡◌, ◌≤◌, ◌<◌, [], length, take, IfOk, IfErr, OnOk};
 ghost use Rattle.std.specs.Io.KnownBytes.{Appends};
 
 use crate::devices::write_once;
@@ -23,7 +23,7 @@ pub(crate) enum Target<F: Write + Drop> {
 }
 
 impl<F: Write + OpenFile + Held + Drop> Target<F> {
-    ghost use Rattle.cweb_system.specs.Devices.{target_bytes};
+    ghost use Rattle.cweb_system.specs.Devices.{target_bytes, gathered, IsDeviceOpen};
 
     /// Opens a device for writing, if it still is the one that was seen.
     pub(crate) fn open_device<R: Files<File = F>>(
@@ -31,7 +31,10 @@ impl<F: Write + OpenFile + Held + Drop> Target<F> {
         files: &R,
         name: &str,
         device: FileKey,
-    ) -> Result<Target<F>, BinFault> {
+    ) -> Result<Target<F>, BinFault>
+        ensures empty { IfOk result (λ target. gathered target ≡ []) }
+        ensures device { IfOk result IsDeviceOpen }
+    {
         let file = match opened(files, name, device) {
             Ok(file) => file,
             Err(error) => return Err(start_fault(&error)),
@@ -56,18 +59,22 @@ impl<F: Write + OpenFile + Held + Drop> Target<F> {
     }
 
     /// Writes what was gathered, and renames a draft to its file's name. If either fails, the output is given up.
-    pub(crate) fn commit<R: Files<File = F>>(self, files: &R) -> Result<(), BinFault>
+    pub(crate) fn commit<R: Files<File = F>>(mut self, files: &R) -> Result<(), BinFault>
         ensures { IfErr result (λ fault. fault ≡ BinFault.Device) }
     {
+        if self.finish(files).is_err() {
+            self.give_up(files);
+            return Err(BinFault::Device);
+        }
+        Ok(())
+    }
+
+    fn finish<R: Files<File = F>>(&mut self, files: &R) -> io::Result<()>
+        ensures flushed { OnOk result (gathered self.new ≡ []) }
+    {
         match self {
-            Target::Draft(draft) => draft.commit(files),
-            Target::Device(mut out) => match out.flush() {
-                Ok(()) => Ok(()),
-                Err(_) => {
-                    Target::Device(out).give_up(files);
-                    Err(BinFault::Device)
-                }
-            },
+            Target::Draft(draft) => draft.put_in_place(files),
+            Target::Device(out) => out.flush(),
         }
     }
 

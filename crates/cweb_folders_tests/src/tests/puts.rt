@@ -140,10 +140,20 @@ pub fn put_where_a_link_stands<B: Bins>(
     check_left(rt, kept.as_str(), Some(large.as_bytes()));
 }
 
-/// What this run has written isn't begun again.
+/// A file that was committed is replaced under its own name, and refused under other names.
 pub fn put_again<B: Bins>(rt: &(impl Abort + Files + AllocGlobal), bins: &mut B, folder: &str) {
-    check_put(rt, bins, folder, "a.c", b"lost", Some(b"newer"));
+    check_put(rt, bins, folder, "a.c", b"again", Some(b"again"));
     check_put(rt, bins, folder, "./c.c", b"lost", Some(b"c"));
+    link_file(rt, folder);
+    check_put(rt, bins, folder, "further.c", b"lost", Some(b"again"));
+    check_put(rt, bins, folder, "a.c", b"last", Some(b"last"));
+}
+
+/// `further.c` becomes a further name of `a.c`.
+fn link_file(rt: &(impl Abort + Files + AllocGlobal), folder: &str) {
+    let file = joined(rt, &[folder, "/a.c"]);
+    let further = joined(rt, &[folder, "/further.c"]);
+    fs::hard_link(rt, file.as_str(), further.as_str()).expect(rt, "a further name");
 }
 
 /// Writes a text into a file of a folder, whose path this is.
