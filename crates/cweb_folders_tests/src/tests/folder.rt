@@ -28,6 +28,7 @@ fn new_folder_in(rt: &(impl Abort + Files + AllocGlobal), top: &str) -> Option<S
 #[derive(Drop)]
 enum Step {
     PutTexts,
+    GiveUp,
     PutWhereNoneCanStand,
     PutOnAFullDevice,
     PutWhereADraftStands,
@@ -49,6 +50,7 @@ impl Step {
     ) {
         match self {
             Step::PutTexts => put_texts(rt, bins, folder),
+            Step::GiveUp => give_up(rt, bins, folder),
             Step::PutWhereNoneCanStand => put_where_none_can_stand(rt, bins, folder),
             Step::PutOnAFullDevice => put_on_a_full_device(rt, bins),
             Step::PutWhereADraftStands => put_where_a_draft_stands(rt, bins, folder),
@@ -114,6 +116,7 @@ fn check(
 fn files_of_a_folder_are_replaced_whole(rt: HostRuntime) {
     const STEPS: &[Step] = &[
         Step::PutTexts,
+        Step::GiveUp,
         Step::PutWhereNoneCanStand,
         Step::PutOnAFullDevice,
         Step::HasFailed(4),

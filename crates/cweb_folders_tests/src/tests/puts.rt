@@ -8,8 +8,8 @@ use std::os::unix::fs::PermissionsExt;
 use std::process::Abort;
 use std::rt::Files;
 
-/// Writes a whole file, or gives it up.
-fn put<B: Bins>(bins: &mut B, name: &str, text: &[u8]) -> Result<(), BinFault> {
+/// Writes a draft. If a write fails, it is given up.
+fn write_draft<B: Bins>(bins: &mut B, name: &str, text: &[u8]) -> Result<(), BinFault> {
     if bins.failures() > 1000 {
         return Err(BinFault::Memory);
     }
@@ -21,6 +21,12 @@ fn put<B: Bins>(bins: &mut B, name: &str, text: &[u8]) -> Result<(), BinFault> {
         bins.abandon_file();
         return Err(BinFault::Device);
     }
+    Ok(())
+}
+
+/// Writes a whole file, or gives it up.
+fn put<B: Bins>(bins: &mut B, name: &str, text: &[u8]) -> Result<(), BinFault> {
+    write_draft(bins, name, text)?;
     if bins.failures() > 1000 {
         return Err(BinFault::Memory);
     }
@@ -94,6 +100,15 @@ pub fn put_where_none_can_stand<B: Bins>(
     fs::create_dir(rt, taken.as_str()).expect(rt, "a folder");
     check_put(rt, bins, folder, "gone/c.c", b"c", None);
     check_put(rt, bins, folder, "d", b"d", None);
+}
+
+/// A draft that is given up is deleted, and its file stays as it was.
+pub fn give_up<B: Bins>(rt: &(impl Abort + Files + AllocGlobal), bins: &mut B, folder: &str) {
+    let path = joined(rt, &[folder, "/a.c"]);
+    holds(rt, write_draft(bins, path.as_str(), b"lost").is_ok());
+    bins.abandon_file();
+    check_left(rt, path.as_str(), Some(b"old"));
+    check_draft(rt, path.as_str());
 }
 
 /// A device is written as it is. A full one says so at the end of a small text and within a large one.
