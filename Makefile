@@ -31,7 +31,7 @@ WMERGE ?= $(DESTDIR)$(bindir)/$(PROGRAM_PREFIX)wmerge$(PROGRAM_SUFFIX)
 KIT := rattle-kit-13
 SOURCES := HANDLES crates.txt $(shell find crates -name out -prune -o -type f \( -name '*.rt' -o -name '*.antt' \) -print)
 NOT_PROVED := echo 'NOTHING IN THIS BUILD IS PROVED. "make build" proves both programs (20 minutes the first time, on four processors),'; \
-    echo 'and "make check" tests the proofs, the contracts and the programs as well (50 minutes).'
+    echo 'and "make check" tests the proofs, the contracts and the programs as well (about an hour).'
 
 .PHONY: all help demo build check format faults dist install uninstall installcheck bench clean distclean
 
