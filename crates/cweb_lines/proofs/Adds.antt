@@ -1,7 +1,6 @@
 -- Lines that were taken and faults that were told, as events of a merge.
-use Rattle.cweb_lines.proofs.Common.{◌≡◌, ℕ, List, [], ◌∷◌, ◌++◌, refl, ◌∙◌, ap, arith, length-append, map, append-nil, append_assoc, Place, SourceLine, Event, took, fault, SoFar, Gives, TellsFront, Adds, TellsSome, StopsAmong, Stopped, Count, Took, StopsFor, given_lines, told_faults, openings, taken_lines, AreShort, SourceFault, Stop, map-append}
-use Rattle.cweb_open.proofs.Stacks.{stops_map}
-use Rattle.cweb_lines.proofs.Sums.{taken-append, size-append, short-append}
+use Rattle.cweb_lines.proofs.Common.{◌≡◌, ℕ, List, [], ◌∷◌, ◌++◌, refl, ◌∙◌, ap, arith, length-append, map, append-nil, append_assoc, Place, SourceLine, Event, took, fault, SoFar, Gives, TellsFront, Adds, TellsSome, HasBegun, StopsIn, EndsStep, Count, Took, given_lines, told_faults, openings, taken_lines, AreShort, SourceFault, Stop, ReadFault, LineTooLong, TooMuchText, Memory, map-append}
+use Rattle.cweb_lines.proofs.Sums.{size-append, short-append}
 
 -- what lines that were taken, and faults behind them, say
 abbrev pub events : List SourceLine → List SourceFault → List Event
@@ -31,7 +30,7 @@ pub given-took : (lines : List SourceLine) → given_lines (map took lines) ≡ 
 given-took [] = refl
 given-took (line ∷ lines) = given-took lines
 
-taken-took : (lines : List SourceLine) → taken_lines (map took lines) ≡ lines
+pub taken-took : (lines : List SourceLine) → taken_lines (map took lines) ≡ lines
 taken-took [] = refl
 taken-took (line ∷ lines) = simp (taken-took lines)
 
@@ -59,22 +58,6 @@ tells_some lines faults old new all later whole some = record {
   names = simp (some.names, opened_none, append-nil);
 }
 
--- one of the lines of a step stops
-pub stopped_among : (stop : Stop) (lines : List SourceLine) (old now : Count) (all later : List Event) →
-    all ≡ map took lines ++ later → StopsFor (StopsAmong stop old now lines) stop → Stopped stop old now all
-stopped_among stop lines old now all later whole = stops_map stop (λ stops.
-    let taken : taken_lines all ≡ lines ++ taken_lines later = simp (whole, taken-append, taken-took) in
-    record {
-      events = map took stops.front;
-      line = stops.line;
-      later = map took stops.rest ++ later;
-      whole = simp (whole, stops.among, map-append, append_assoc);
-      given = given-took stops.front;
-      why = stops.why;
-      few = simp (taken, length-append) (omega (arith, stops.few));
-      small = simp (taken, size-append) (omega (arith, stops.small));
-    })
-
 -- nothing was told or taken
 pub adds_none : (old new : SoFar) → new ≡ old → Adds [] [] old new
 adds_none old new same = record {
@@ -83,6 +66,22 @@ adds_none old new same = record {
   lines_are = simp same (omega arith);
   bytes_are = simp same (omega arith);
   short = tt;
+}
+
+-- nothing of a step was done
+abbrev pub begun_none : (old new : SoFar) (lines raws : List SourceLine) (faults : List SourceFault) → new ≡ old →
+    HasBegun old new lines raws faults
+begun_none old new lines raws faults same = record {
+  front = [];
+  rest = lines;
+  raw_front = [];
+  raw_rest = raws;
+  told = [];
+  more = faults;
+  lines_are = refl;
+  raws_are = refl;
+  faults_are = refl;
+  adds = adds_none old new same;
 }
 
 -- a line was taken behind others
@@ -141,17 +140,38 @@ module _ (old mid : SoFar) (bytes : List ℕ) (place : Place) (t : Took bytes pl
     names = some.names ∙ names;
   }
 
-  pub among_after : (stop : Stop) (now : Count) (lines : List SourceLine) → StopsAmong stop mid.count now lines →
-      StopsAmong stop old.count now (t.line ∷ lines)
-  among_after stop now lines stops = record {
-    front = t.line ∷ stops.front;
-    line = stops.line;
-    rest = stops.rest;
-    among = simp stops.among;
-    why = stops.why;
-    few = omega (arith, stops.few, t.lines);
-    small = omega (arith, stops.small, t.bytes_are);
+  -- the line is the first of a step
+  abbrev begun_after : (lines raws : List SourceLine) (faults : List SourceFault) (new : SoFar) → HasBegun mid new lines raws
+      faults → HasBegun old new (t.line ∷ lines) raws faults
+  begun_after lines raws faults new begun = record {
+    front = t.line ∷ begun.front;
+    rest = begun.rest;
+    raw_front = begun.raw_front;
+    raw_rest = begun.raw_rest;
+    told = begun.told;
+    more = begun.more;
+    lines_are = simp begun.lines_are;
+    raws_are = begun.raws_are;
+    faults_are = begun.faults_are;
+    adds = adds_both [] begun.told (t.line ∷ []) (begun.front ++ begun.raw_front) old mid new adds_one begun.adds;
   }
+
+  stops_after : (stop : Stop) (lines raws : List SourceLine) (faults : List SourceFault) (new : SoFar) → StopsIn stop
+      mid new lines raws faults → StopsIn stop old new (t.line ∷ lines) raws faults
+  stops_after stop lines raws faults new stops = record {
+    begun = begun_after lines raws faults new stops.begun;
+    line = stops.line;
+    next = stops.next;
+    why = stops.why;
+  }
+
+  pub ends_after : (stop : Stop) (lines raws : List SourceLine) (faults : List SourceFault) (new : SoFar) → EndsStep stop
+      mid new lines raws faults → EndsStep stop old new (t.line ∷ lines) raws faults
+  ends_after (ReadFault file) lines raws faults new ends = begun_after lines raws faults new ends
+  ends_after (LineTooLong file) lines raws faults new ends = stops_after _ lines raws faults new ends
+  ends_after TooMuchText lines raws faults new ends = stops_after _ lines raws faults new ends
+  ends_after Memory lines raws faults new ends = tt
+  ends_after stop lines raws faults new ends = absurd ends
 
 short-split : (a b : List SourceLine) → AreShort (a ++ b) → AreShort a × AreShort b
 short-split [] b short = (tt, short)

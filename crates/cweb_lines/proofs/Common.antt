@@ -61,9 +61,10 @@ pub use Rattle.cweb_lines.specs.Lending.{LendsLines, lent_at, LendsLine, bytes_i
 pub use Rattle.cweb_lines.specs.Merge.{Event, took, fault, Next, State, at_raw, given, included, obeyed, onto, opened}
 pub use Rattle.cweb_lines.specs.Merge.{opening, past, plain, run, taking, NewSide, new_at, new_things, compared}
 pub use Rattle.cweb_lines.specs.Merge.{Compared, after_old, at_entry, change_events, fault_if, new_lines, started}
-pub use Rattle.cweb_lines.specs.Merging.{SoFar, Gives, TellsFront, Adds, TellsSome, StopsAmong, Stopped, pending_of}
+pub use Rattle.cweb_lines.specs.Merging.{SoFar, Gives, TellsFront, Adds, TellsSome, HasBegun, Stopped, pending_of}
 pub use Rattle.cweb_lines.specs.Merging.{told_by, IsFront, KeepsTold, change_lines, coming, coming_after, things_of}
 pub use Rattle.cweb_lines.specs.Merging.{NothingLeft, GivesBehind, StopsBehind, turns_left, lines_given}
+pub use Rattle.cweb_lines.specs.Merging.{StopsIn, EndsStep, ReadsBehind, TakesNext, step_events, ComesFirst}
 pub use Rattle.cweb_lines.specs.Naming.{AreReadersKnown, KeepsReaders}
 pub use Rattle.cweb_lines.specs.Passing.{ComesNext, GivesLines, HasRoomFor, IsStretch, Reaches, StandsAt, StandsIn}
 pub use Rattle.cweb_lines.specs.Passing.{ended, lines_next, top_of, PassesLines, Held, ArePassing, printed}
@@ -80,9 +81,9 @@ pub use Rattle.cweb_lines.specs.Steps.{OnlyTakes, OnlyTells}
 pub use Rattle.cweb_lines.specs.Told.{given_lines, told_faults, openings, taken_lines, size_of, AreShort}
 pub use Rattle.cweb_lines.specs.Total.{merge, merge_next, merge-run, merge_end}
 pub use Rattle.cweb_lines.specs.Whole.{Grows, to_come, so_far, stop_in}
-pub use Rattle.cweb_lines.specs.Writing.{text_of, WritesFront, Gathered, FailsAmong, LosesLine, PassesOn, WritesRest}
-pub use Rattle.cweb_lines.specs.Writing.{leaves, writes, fails, StopsWriting, WritingStops, Failed, IsOwnStop, Blames}
-pub use Rattle.cweb_lines.specs.Writing.{write_blame, WritesAll, WritesSome, WritesUpTo}
+pub use Rattle.cweb_lines.specs.Writing.{text_of, WritesFront, HasWritten, FailsAmong, LosesLine, StopsWriting}
+pub use Rattle.cweb_lines.specs.Writing.{WritingStops, Failed, Blames, KeepsStop, write_blame, WritesAll, WritesSome}
+pub use Rattle.cweb_lines.specs.Writing.{WritesRead, WritesUpTo, EndsEarly}
 pub use Rattle.cweb_lines.specs.contracts.change.code.Code.{the_type}
 pub use Rattle.cweb_lines.specs.declared.change.Change.{Change}
 pub use Rattle.cweb_lines.specs.declared.change.Stage.{Stage}

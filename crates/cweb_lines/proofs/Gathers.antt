@@ -1,28 +1,23 @@
--- How lines that were given out are gathered, passed on and lost.
-use Rattle.cweb_lines.proofs.Common.{◌≡◌, ◌<◌, ℕ, List, [], ◌∷◌, ◌++◌, length, refl, sym, ◌∙◌, ap, inl, inr, arith, length-append, IsTrue, append-nil, append_assoc, KeepsPlace, Writes, Line, Event, SoFar, Gives, Held, given_lines, text_of, WritesFront, Gathered, FailsAmong, LosesLine, PassesOn}
+-- How lines that were given out are gathered, written and lost.
+use Rattle.cweb_lines.proofs.Common.{◌≡◌, ℕ, List, [], ◌∷◌, ◌++◌, length, refl, sym, ◌∙◌, ap, arith, length-append, IsTrue, append-nil, append_assoc, KeepsPlace, Writes, Line, Event, SoFar, Gives, Held, given_lines, text_of, WritesFront, HasWritten, FailsAmong, LosesLine}
 use Rattle.cweb_files.specs.declared.device.Sink.{Ghosts as Sink}
 use Rattle.cweb_files.proofs.Keeps.{place_told, writes_then}
 use Rattle.cweb_lines.proofs.Sums.{gives_both}
 use Rattle.cweb_lines.proofs.Writes.{front_of_all, given_front, text_of-append}
 
-pub emptied : (room : ℕ) (piece rest : List ℕ) (Wrote : List ℕ → Type 0) → PassesOn room piece rest Wrote → room ≡ 0 →
-    rest ≡ []
-emptied room piece rest Wrote (inl kept) none = absurd (omega (arith, kept.0, none))
-emptied room piece rest Wrote (inr wrote) none = wrote.0
-
--- one more line was gathered
-pub held : (room : ℕ) (old so : SoFar) (all now : List Event) (Wrote : List ℕ → Type 0) (piece : List ℕ) →
-    Gathered room old so all now Wrote piece
-    → (line : Line) (so' : SoFar) (later : List Event) → Gives (line ∷ []) so so' now later → (more : List ℕ) →
-    more ≡ piece ++ line.bytes ++ 10 ∷ [] → Held room old so' all later Wrote more
-held room old so all now Wrote piece g line so' later next more is = record {
-  done = g.done;
-  gathered = g.gathered ++ line ∷ [];
-  gives = rw append_assoc at (gives_both (g.done ++ g.gathered) (line ∷ []) old so so' all now later g.gives next);
+-- a line was gathered, behind none
+pub held : (room : ℕ) (old so : SoFar) (all now : List Event) (Wrote : List ℕ → Type 0) →
+    HasWritten old so all now Wrote
+    → (line : Line) (so' : SoFar) (later : List Event) → Gives (line ∷ []) so so' now later → (piece more : List ℕ) →
+    piece ≡ [] → more ≡ piece ++ line.bytes ++ 10 ∷ [] → Held room old so' all later Wrote more
+held room old so all now Wrote g line so' later next piece more none is = record {
+  done = g.lines;
+  gathered = line ∷ [];
+  gives = gives_both g.lines (line ∷ []) old so so' all now later g.gives next;
   wrote = g.wrote;
-  piece_is = simp (is, g.piece_is, text_of-append, append_assoc);
-  some = omega (arith, length-append g.gathered (line ∷ []));
-  alone = λ none. simp (g.alone none);
+  piece_is = simp (is, none);
+  some = omega arith;
+  alone = λ none. refl;
 }
 
 -- lines that add no bytes are none
@@ -51,38 +46,15 @@ held_on room old so all now Wrote piece h lines so' later next more is alone = r
   alone = λ none. simp (no_lines lines piece (sym is ∙ alone none), append-nil, h.alone none);
 }
 
--- lines were gathered; that one of them came last is forgotten
-pub kept_held : (room : ℕ) (old so : SoFar) (all now : List Event) (Wrote : List ℕ → Type 0) (piece : List ℕ) →
-    0 < room → Held room old so all now Wrote piece → Gathered room old so all now Wrote piece
-kept_held room old so all now Wrote piece some h = record {
-  done = h.done;
-  gathered = h.gathered;
-  gives = h.gives;
-  wrote = h.wrote;
-  piece_is = h.piece_is;
-  alone = λ none. absurd (omega (arith, some, none));
-}
-
 module _ {W : Type 0} (sink : Sink W) (first mid : W) (keeps : KeepsPlace sink first mid) (room : ℕ) (old so : SoFar)
     (all now : List Event) (piece : List ℕ) (h : Held room old so all now (Writes sink first mid) piece) where
-  pub passed_on : (new : W) (rest : List ℕ) → PassesOn room piece rest (Writes sink mid new) →
-      Gathered room old so all now (Writes sink first new) rest
-  passed_on new rest (inl kept) = record {
-    done = h.done;
-    gathered = h.gathered;
+  -- all of them were written
+  pub written_on : (new : W) → Writes sink mid new piece → HasWritten old so all now (Writes sink first new)
+  written_on new wrote = record {
+    lines = h.done ++ h.gathered;
     gives = h.gives;
-    wrote = rw append-nil at (writes_then sink first mid new (text_of h.done) [] keeps h.wrote kept.2);
-    piece_is = kept.1 ∙ h.piece_is;
-    alone = λ none. absurd (omega (arith, none, kept.0));
-  }
-  passed_on new rest (inr wrote) = record {
-    done = h.done ++ h.gathered;
-    gathered = [];
-    gives = rw append-nil h.gives;
     wrote = rw (text_of-append, ← h.piece_is)
-        (writes_then sink first mid new (text_of h.done) piece keeps h.wrote wrote.1);
-    piece_is = wrote.0;
-    alone = λ none. refl;
+        (writes_then sink first mid new (text_of h.done) piece keeps h.wrote wrote);
   }
 
   pub fails_front : (new : W) → (IsTrue (sink.tells mid) → WritesFront (sink.written mid) (sink.written new) piece)

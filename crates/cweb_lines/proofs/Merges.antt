@@ -1,6 +1,5 @@
 -- What comes of a line that was taken, and how what came adds up.
-use Rattle.cweb_lines.proofs.Common.{Option, if◌then◌else◌, ◌&&◌, ◌≡◌, ◌≤◌, ◌<◌, ◌+◌, ◌==◌, ℕ, Bool, true, false, List, [], ◌∷◌, ◌++◌, Some, None, refl, sym, ◌∙◌, ap, arith, length, append-nil, nat_lt, nat_tests, Place, bytes_eq, Entry, at_place, World, is_include, include_name, found_at, Line, SourceLine, lines_in, State, RawLine, Thing, raw, Event, took, given, fault, opening, Next, at_entry, at_raw, included, opened, obeyed, plain, taking, raws, begun_by, OPEN_FILES, LineAt, SoFar, Gives, Stopped, Count, Refuses, TopStops, StopsFor, taken_lines, told_faults, openings, given_lines, merge, merge_next, SourceFault, NoName, TooDeep, NotThere, Stop}
-use Rattle.cweb_open.proofs.Stacks.{stops_map}
+use Rattle.cweb_lines.proofs.Common.{Option, if◌then◌else◌, ◌&&◌, ◌≡◌, ◌≤◌, ◌<◌, ◌+◌, ◌==◌, ℕ, Bool, true, false, List, [], ◌∷◌, ◌++◌, Some, None, refl, sym, ◌∙◌, ap, arith, length, append-nil, nat_lt, nat_tests, Place, bytes_eq, Entry, at_place, World, is_include, include_name, found_at, Line, SourceLine, lines_in, State, RawLine, Thing, raw, Event, took, given, fault, opening, Next, at_entry, at_raw, included, opened, obeyed, plain, taking, raws, begun_by, OPEN_FILES, LineAt, SoFar, Gives, taken_lines, told_faults, openings, given_lines, merge, merge_next, SourceFault, NoName, TooDeep, NotThere}
 
 abbrev pub state : List Thing → Option Entry → List SourceLine → ℕ → State
 state things pending change files = record { things = things; pending = pending; change = change; files = files }
@@ -123,35 +122,6 @@ module _ (old new : SoFar) (all later : List Event) (count : new.count ≡ old.c
 
   pub gives_nothing : all ≡ later → new.faults ≡ old.faults → new.names ≡ old.names → Gives [] old new all later
   gives_nothing whole faults names = gives_untaken [] refl whole (simp (faults, append-nil)) (simp (names, append-nil))
-
--- the line that comes first is the one that stops
-pub stopped_first : (stop : Stop) (Why : Type 0) (count now : Count) (all : List Event) → now ≡ count
-    → (Why → (line : SourceLine) × ((later : List Event) × (all ≡ took line ∷ later)) × Refuses stop count line) →
-    StopsFor Why stop → Stopped stop count now all
-stopped_first stop Why count now all same first = stops_map stop (λ why.
-    let line = first why in
-    record {
-      events = [];
-      line = line.0;
-      later = line.1.0;
-      whole = line.1.1;
-      given = refl;
-      why = rw same line.2;
-      few = simp (same, line.1.1) (omega arith);
-      small = simp (same, line.1.1) (omega arith);
-    })
-
--- the first thing is a raw line that stops
-pub stopped_by : (stop : Stop) (count now : Count) (world : World) (things : List Thing) (pending : Option Entry)
-    (change : List SourceLine) (files : ℕ) → now ≡ count → StopsFor (TopStops stop count things) stop
-    → Stopped stop count now (merge world (state things pending change files))
-stopped_by stop count now world things pending change files same stops = stopped_first _ _ _ now _ same (λ top.
-    let taken = merge_takes _ _ _ _ _ _ in (
-      top.raw_line.source,
-      (taken.0, ap (λ (ts : List Thing). merge world (state ts pending change files)) top.first ∙ taken.1),
-      top.why,
-    ))
-    stops
 
 pub include_long : (line : List ℕ) → is_include line ≡ true → 2 ≤ length line
 include_long [] is = absurd (cc)

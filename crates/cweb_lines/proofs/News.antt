@@ -1,9 +1,10 @@
 -- The new side of a change, line by line.
-use Rattle.cweb_lines.proofs.Common.{Adds, OnlyTakes, OnlyTells, lines_at, ◌≡◌, ◌-◌, ℕ, false, List, [], ◌∷◌, ◌++◌, Some, None, Option, refl, sym, ◌∙◌, ap, arith, length, sameb, Place, at_place, code_of, world_in, World, Line, SourceLine, Event, NewSide, Thing, fault, new_at, new_lines, passed, raw, seek, told, took, Gives, Stopped, change_lines, coming, coming_after, things_of, told_by, count_of, names_of, change_in, pending_in, things_below, things_in, Count, FirstStops, StopsFor, Took, raw_at, things_above, things_over, merge, merge_next, the_type, Code, EndedBeforeZ, WantsZ, Run, Change, Changing, Stack, Stop, LineAt}
+use Rattle.cweb_lines.proofs.Common.{Adds, OnlyTakes, OnlyTells, lines_at, ◌≡◌, ◌-◌, ℕ, false, List, [], ◌∷◌, ◌++◌, Some, None, Option, refl, sym, ◌∙◌, ap, arith, length, sameb, Place, at_place, code_of, world_in, World, Line, SourceLine, Event, NewSide, Thing, fault, new_at, new_lines, passed, raw, seek, told, took, Gives, SoFar, Stopped, change_lines, coming, coming_after, things_of, told_by, count_of, names_of, change_in, pending_in, things_below, things_in, FirstStops, StopsFor, Took, raw_at, things_above, things_over, merge, merge_next, the_type, Code, EndedBeforeZ, WantsZ, Run, Change, Changing, Stack, Stop, LineAt}
 use Rattle.cweb_lines.specs.declared.change.code.Code.TheVariants.{OldSide as old_side, NewSide as new_side, EndSide as end_side}
 use Rattle.cweb_lines.proofs.Adds.{adds_faults, adds_one, gives_adds}
 use Rattle.cweb_lines.proofs.Fronts.{took_faults, took_names}
-use Rattle.cweb_lines.proofs.Merges.{gives_fault, merge_takes, state, stopped_first}
+use Rattle.cweb_lines.proofs.Merges.{gives_fault, merge_takes, state}
+use Rattle.cweb_lines.proofs.Stops.{stopped_first, takes_next}
 use Rattle.cweb_open.proofs.Stacks.{over-none}
 use Rattle.cweb_lines.proofs.Codes.{is_faulty_new}
 
@@ -79,10 +80,10 @@ module _ (world : World) (change : Change) (below : List Thing) (files : ℕ) wh
           is
 
   -- the next new line can't be taken
-  pub new_stops : (stop : Stop) (lines : List SourceLine) (count now : Count) → now ≡ count →
-      StopsFor (FirstStops stop count lines) stop → Stopped stop count now (coming_new world change lines below files)
-  new_stops stop lines count now same stops = stopped_first stop (FirstStops stop count lines) count now _ same
-      (λ first.
+  pub new_stops : (stop : Stop) (lines : List SourceLine) (old new : SoFar) → new ≡ old → StopsFor
+      (FirstStops stop old.count lines) stop → Stopped stop old new (coming_new world change lines below files)
+  new_stops stop lines old new same stops = stopped_first stop (FirstStops stop old.count lines) old new _ same
+      (takes_next _ _) (λ first.
       let taken = new_takes first.line first.rest in (
         first.line,
         (taken.0, ap (λ (ls : List SourceLine). coming_new world change ls below files) first.first ∙ taken.1),

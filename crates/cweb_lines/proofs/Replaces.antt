@@ -1,8 +1,7 @@
 -- The old side of a change, line by line.
-use Rattle.cweb_lines.proofs.Common.{◌≡◌, ◌+◌, ◌||◌, ℕ, Bool, false, List, [], ◌∷◌, ◌++◌, Some, None, Option, refl, ◌∙◌, ap, arith, length-append, append-nil, append_assoc, Place, OldSide, at_place, code_of, old_at, old_code, old_line, old_lines, Line, SourceLine, Compared, Thing, compared, SoFar, Adds, StopsAmong, Compares, IsReplaced, Replaces, lines_replaced, taken_away, Count, FirstStops, Took, TopStops, Code, WantsY, Replaced, Stop, or-false}
+use Rattle.cweb_lines.proofs.Common.{◌≡◌, ◌+◌, ◌||◌, ℕ, Bool, false, List, [], ◌∷◌, ◌++◌, Some, None, Option, refl, ◌∙◌, ap, arith, append-nil, append_assoc, Place, OldSide, at_place, code_of, old_at, old_code, old_line, old_lines, Line, SourceLine, Compared, RawLine, Thing, raw, compared, SoFar, Adds, HasBegun, StopsIn, EndsStep, Compares, IsReplaced, Replaces, taken_away, FirstStops, Took, TopStops, Code, WantsY, Replaced, StopsFor, inl, inr, Stop, ReadFault, LineTooLong, TooMuchText, Memory, or-false}
 use Rattle.cweb_lines.specs.declared.change.code.Code.TheVariants.{NewSide as new_side}
 use Rattle.cweb_lines.proofs.Adds.{adds_none, adds_within, adds_lines, adds_faults}
-use Rattle.cweb_lines.proofs.Sums.{size-append}
 use Rattle.cweb_lines.proofs.Codes.{old_code_at, taken_at}
 
 pub replaces_from : (change : List SourceLine) (things : List Thing) (old : SoFar) →
@@ -40,26 +39,40 @@ compares_same bytes bytes' so_far after ts ts' us old new b t r = rw (b, t) at r
 
 module _ (change : List SourceLine) (things : List Thing) (so_far : Replaced) (lines : List SourceLine)
     (raws : List Thing) (old mid : SoFar) (r : Replaces change things so_far lines raws old mid) where
-  -- a line of the change file can't be taken
-  pub replaces_stop : (stop : Stop) (now : Count) → now ≡ mid.count → FirstStops stop mid.count lines →
-      StopsAmong stop old.count now (lines_replaced change things)
-  replaces_stop stop now same stops =
+  abbrev replaces_begun : (new : SoFar) → new ≡ mid → HasBegun old new (old_lines change).taken
+      (taken_away change things).taken (old_lines change).faults
+  replaces_begun new same = record {
+    front = r.taken;
+    rest = (old_lines lines).taken;
+    raw_front = r.raw_taken;
+    raw_rest = (taken_away lines raws).taken;
+    told = r.told;
+    more = (old_lines lines).faults;
+    lines_are = r.taken_are;
+    raws_are = r.raw_taken_are;
+    faults_are = r.faults_are;
+    adds = rw same r.adds;
+  }
+
+  replaces_stop : (stop : Stop) (new : SoFar) → new ≡ mid → FirstStops stop mid.count lines → StopsIn stop old new
+      (old_lines change).taken (taken_away change things).taken (old_lines change).faults
+  replaces_stop stop new same stops =
       let takes = taken_at (code_of stops.line.line.bytes) stops.line stops.rest (old_lines stops.rest) in
-      let taken : (old_lines change).taken ≡ r.taken ++ stops.line ∷ takes.0 =
-      simp (r.taken_are, stops.first, takes.1) in
-      let among : lines_replaced change things ≡ r.taken ++ stops.line ∷ (takes.0 ++ (taken_away change things).taken) =
-      simp (taken, append_assoc) in
       record {
-        front = r.taken;
+        begun = replaces_begun new same;
         line = stops.line;
-        rest = takes.0 ++ (taken_away change things).taken;
-        among = among;
+        next = inl (takes.0, ap (λ ls. (old_lines ls).taken) stops.first ∙ takes.1);
         why = rw same stops.why;
-        few = simp (same, taken, r.raw_taken_are, length-append)
-            (omega (arith, r.adds.lines_are, length-append r.taken r.raw_taken));
-        small = simp (same, taken, r.raw_taken_are, size-append)
-            (omega (arith, r.adds.bytes_are, size-append r.taken r.raw_taken));
       }
+
+  -- a line of the change file can't be taken
+  pub replaces_ends : (stop : Stop) (new : SoFar) → new ≡ mid → StopsFor (FirstStops stop mid.count lines) stop →
+      EndsStep stop old new (old_lines change).taken (taken_away change things).taken (old_lines change).faults
+  replaces_ends (ReadFault file) new same stops = replaces_begun new same
+  replaces_ends (LineTooLong file) new same stops = replaces_stop _ new same stops
+  replaces_ends TooMuchText new same stops = replaces_stop _ new same stops
+  replaces_ends Memory new same stops = tt
+  replaces_ends stop new same stops = absurd stops
 
   -- the old side ends here, behind these lines
   pub replaces_done : (new : SoFar) (last rest : List SourceLine) (ended : Bool)
@@ -133,29 +146,45 @@ module _ (change : List SourceLine) (things : List Thing) (so_far : Replaced) (l
           adds = adds_lines _ _ _ _ old now new counted by.adds;
         }
 
-    -- it is an old line, and the raw line that it would take away can't be taken
-    pub replaces_raw_stop : (stop : Stop) (count : Count) → count ≡ now.count → code_of bytes ≡ None →
-        TopStops stop now.count raws → StopsAmong stop old.count count (lines_replaced change things)
-    replaces_raw_stop stop count same test stops =
+    abbrev raw_begun : (new : SoFar) → new ≡ now → code_of bytes ≡ None → HasBegun old new (old_lines change).taken
+        (taken_away change things).taken (old_lines change).faults
+    raw_begun new same test = record {
+      front = r.taken ++ t.line ∷ [];
+      rest = (old_lines rest).taken;
+      raw_front = r.raw_taken;
+      raw_rest = (taken_away lines raws).taken;
+      told = r.told;
+      more = (old_lines lines).faults;
+      lines_are = simp (r.taken_are, side None test, append_assoc);
+      raws_are = r.raw_taken_are;
+      faults_are = r.faults_are;
+      adds = rw same counted;
+    }
+
+    away : old_lines lines ≡ old_line t.line (old_lines rest) → {top : RawLine} {below : List Thing} → raws ≡ raw top
+        ∷ below → (taken_away lines raws).taken ≡ top.source ∷ (compared (old_lines rest).lines below).taken
+    away s first = (λ i. (compared (s i).lines (first i)).taken)
+
+    raw_stop : (stop : Stop) (new : SoFar) → new ≡ now → code_of bytes ≡ None → TopStops stop now.count raws → StopsIn
+        stop old new (old_lines change).taken (taken_away change things).taken (old_lines change).faults
+    raw_stop stop new same test stops =
         let s : old_lines lines ≡ old_line t.line (old_lines rest) = side None test in
-        let olds = (old_lines rest).lines in
-        let more = (compared olds stops.rest).taken in
-        let raw_taken : (taken_away change things).taken ≡ r.raw_taken ++ stops.raw_line.source ∷ more =
-        simp (r.raw_taken_are, s, stops.first) in
-        let taken : (old_lines change).taken ≡ r.taken ++ t.line ∷ (old_lines rest).taken = simp (r.taken_are, s) in
-        let among : lines_replaced change things ≡ ((old_lines change).taken ++ r.raw_taken)
-        ++ stops.raw_line.source ∷ more = simp (raw_taken, append_assoc) in
         record {
-          front = (old_lines change).taken ++ r.raw_taken;
+          begun = raw_begun new same test;
           line = stops.raw_line.source;
-          rest = more;
-          among = among;
+          next = inr ((compared (old_lines rest).lines stops.rest).taken, away s stops.first);
           why = rw same stops.why;
-          few = simp (same, raw_taken, taken, length-append)
-              (omega (arith, r.adds.lines_are, t.lines, length-append r.taken r.raw_taken));
-          small = simp (same, raw_taken, taken, size-append)
-              (omega (arith, r.adds.bytes_are, t.bytes_are, size-append r.taken r.raw_taken));
         }
+
+    -- it is an old line, and the raw line that it would take away can't be taken
+    pub raw_ends : (stop : Stop) (new : SoFar) → new ≡ now → code_of bytes ≡ None → StopsFor (TopStops stop now.count
+        raws) stop → EndsStep stop old new (old_lines change).taken (taken_away change things).taken
+        (old_lines change).faults
+    raw_ends (ReadFault file) new same test stops = raw_begun new same test
+    raw_ends (LineTooLong file) new same test stops = raw_stop _ new same test stops
+    raw_ends TooMuchText new same test stops = raw_stop _ new same test stops
+    raw_ends Memory new same test stops = tt
+    raw_ends stop new same test stops = absurd stops
 
     -- it is the @y line
     pub replaces_new : code_of bytes ≡ Some new_side → IsReplaced change things

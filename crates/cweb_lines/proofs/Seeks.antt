@@ -1,9 +1,8 @@
 -- A search for an entry, line by line.
-use Rattle.cweb_lines.proofs.Common.{◌≡◌, ℕ, List, [], ◌∷◌, ◌++◌, Option, Some, None, refl, sym, ◌∙◌, subst, arith, length-append, append-nil, append_assoc, Place, Sought, behind_x, code_of, sought, SourceLine, SoFar, StopsAmong, TellsSome, Searched, SeeksTo, ToldFront, behind, IsOutside, Count, FirstStops, Took, Code, Stage, Done, Waiting, Stop}
+use Rattle.cweb_lines.proofs.Common.{◌≡◌, ℕ, List, [], ◌∷◌, ◌++◌, Option, Some, None, refl, sym, ◌∙◌, ap, subst, append-nil, append_assoc, Place, Sought, behind_x, code_of, sought, SourceLine, SoFar, HasBegun, StopsIn, EndsStep, TellsSome, Searched, SeeksTo, ToldFront, behind, IsOutside, FirstStops, Took, Code, Stage, Done, Waiting, StopsFor, inl, Stop, ReadFault, LineTooLong, TooMuchText, Memory}
 use Rattle.cweb_lines.specs.Seeking.{LooksAt}
 use Rattle.cweb_lines.specs.declared.change.seek.Look.TheVariants.{Entry as first_line, On as goes_on}
 use Rattle.cweb_lines.proofs.Adds.{adds_none, adds_line, adds_faults}
-use Rattle.cweb_lines.proofs.Sums.{size-append}
 
 pub seeks_from : (found : Sought) (old : SoFar) → SeeksTo found found old old
 seeks_from found old = record { told = []; taken = []; whole = refl; adds = adds_none old old refl }
@@ -22,21 +21,39 @@ sought_takes line lines (Some begin) = taken_behind line.line.bytes (code_of lin
 
 module _ (all : Sought) (lines : List SourceLine) (begin : Option Place) (old mid : SoFar)
     (seeks : SeeksTo all (sought lines begin) old mid) where
-  -- a line can't be taken
-  pub seeks_stop : (stop : Stop) (now : Count) → now ≡ mid.count → FirstStops stop mid.count lines →
-      StopsAmong stop old.count now all.taken
-  seeks_stop stop now same stops =
+  abbrev seeks_begun : (new : SoFar) → new ≡ mid → HasBegun old new all.taken [] all.faults
+  seeks_begun new same = record {
+    front = seeks.taken;
+    rest = (sought lines begin).taken;
+    raw_front = [];
+    raw_rest = [];
+    told = seeks.told;
+    more = (sought lines begin).faults;
+    lines_are = simp seeks.whole;
+    raws_are = refl;
+    faults_are = simp seeks.whole;
+    adds = rw (append-nil, same) seeks.adds;
+  }
+
+  seeks_stop : (stop : Stop) (new : SoFar) → new ≡ mid → FirstStops stop mid.count lines →
+      StopsIn stop old new all.taken [] all.faults
+  seeks_stop stop new same stops =
       let takes = sought_takes stops.line stops.rest begin in
-      let among : all.taken ≡ seeks.taken ++ stops.line ∷ takes.0 = simp (seeks.whole, stops.first, takes.1) in
       record {
-        front = seeks.taken;
+        begun = seeks_begun new same;
         line = stops.line;
-        rest = takes.0;
-        among = among;
+        next = inl (takes.0, ap (λ ls. (sought ls begin).taken) stops.first ∙ takes.1);
         why = rw same stops.why;
-        few = simp (same, among, length-append) (omega (arith, seeks.adds.lines_are));
-        small = simp (same, among, size-append) (omega (arith, seeks.adds.bytes_are));
       }
+
+  -- a line can't be taken
+  pub seeks_ends : (stop : Stop) (new : SoFar) → new ≡ mid → StopsFor (FirstStops stop mid.count lines) stop →
+      EndsStep stop old new all.taken [] all.faults
+  seeks_ends (ReadFault file) new same stops = seeks_begun new same
+  seeks_ends (LineTooLong file) new same stops = seeks_stop _ new same stops
+  seeks_ends TooMuchText new same stops = seeks_stop _ new same stops
+  seeks_ends Memory new same stops = tt
+  seeks_ends stop new same stops = absurd stops
 
   -- some faults of a line are told behind those so far
   pub seeks_told_more : (new : SoFar) → ToldFront (sought lines begin).faults mid.faults new.faults →

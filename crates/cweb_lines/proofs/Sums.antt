@@ -1,6 +1,5 @@
 -- How what came adds up.
-use Rattle.cweb_lines.proofs.Common.{◌≡◌, ◌+◌, ℕ, List, [], ◌∷◌, ◌++◌, refl, sym, ◌∙◌, ap, subst, arith, length, length-append, append_assoc, Place, Line, SourceLine, Event, took, given, fault, opening, SoFar, Gives, GivesBehind, Stopped, StopsBehind, Count, Took, given_lines, told_faults, openings, taken_lines, size_of, AreShort, Stop}
-use Rattle.cweb_open.proofs.Stacks.{stops_map}
+use Rattle.cweb_lines.proofs.Common.{◌≡◌, ◌+◌, ℕ, List, [], ◌∷◌, ◌++◌, refl, sym, ◌∙◌, ap, subst, arith, length, length-append, append_assoc, Place, Line, SourceLine, Event, took, given, fault, opening, SoFar, Gives, GivesBehind, Stopped, StopsBehind, ReadsBehind, Took, given_lines, told_faults, openings, taken_lines, size_of, AreShort, Stop, ReadFault, LineTooLong, TooMuchText, Memory}
 
 -- a line was taken before
 pub gives_took : (lines : List Line) (old mid new : SoFar) (bytes : List ℕ)
@@ -68,23 +67,36 @@ gives_both lines more old mid new all now later a b = record {
 }
 
 -- a stop behind what came
-pub behind_both : (lines more : List Line) (stop : Stop) (old mid : SoFar) (now : Count) (all rest : List Event) →
-    Gives lines old mid all rest → StopsBehind more stop mid.count now rest
-    → StopsBehind (lines ++ more) stop old.count now all
-behind_both lines more stop old mid now all rest gives stops =
-    let lines_are = ap (λ (es : List Event). length (taken_lines es)) gives.whole in
-    let bytes_are = ap (λ (es : List Event). size_of (taken_lines es)) gives.whole in
-    record {
-      events = gives.events ++ stops.events;
-      line = stops.line;
-      later = stops.later;
-      whole = simp (gives.whole, stops.whole, append_assoc);
-      given = simp (given-append, gives.given, stops.given);
-      why = stops.why;
-      few = omega (arith, lines_are, gives.lines_are, lines_taken-append gives.events rest, stops.few);
-      small = omega (arith, bytes_are, gives.bytes_are, bytes_taken-append gives.events rest, stops.small);
-    }
+pub behind_both : (lines more : List Line) (stop : Stop) (old mid new : SoFar) (all rest : List Event) →
+    Gives lines old mid all rest → StopsBehind more stop mid new rest → StopsBehind (lines ++ more) stop old new all
+behind_both lines more stop old mid new all rest gives stops = record {
+  mid = stops.mid;
+  lines = stops.lines;
+  raws = stops.raws;
+  faults = stops.faults;
+  later = stops.later;
+  gives = gives_both lines more old mid stops.mid all rest _ gives stops.gives;
+  stops = stops.stops;
+}
 
-pub stopped_after : (stop : Stop) (old mid : SoFar) (now : Count) (all rest : List Event) → Gives [] old mid all rest →
-    Stopped stop mid.count now rest → Stopped stop old.count now all
-stopped_after stop old mid now all rest gives = stops_map stop (behind_both [] [] stop old mid now all rest gives)
+-- a read fault behind what came
+pub reads_both : (lines more : List Line) (old mid new : SoFar) (all rest : List Event) →
+    Gives lines old mid all rest → ReadsBehind more mid new rest → ReadsBehind (lines ++ more) old new all
+reads_both lines more old mid new all rest gives reads = record {
+  mid = reads.mid;
+  lines = reads.lines;
+  raws = reads.raws;
+  faults = reads.faults;
+  later = reads.later;
+  gives = gives_both lines more old mid reads.mid all rest _ gives reads.gives;
+  begun = reads.begun;
+  next = reads.next;
+}
+
+pub stopped_after : (stop : Stop) (old mid new : SoFar) (all rest : List Event) → Gives [] old mid all rest →
+    Stopped stop mid new rest → Stopped stop old new all
+stopped_after (ReadFault file) old mid new all rest gives = reads_both [] [] old mid new all rest gives
+stopped_after (LineTooLong file) old mid new all rest gives = behind_both [] [] _ old mid new all rest gives
+stopped_after TooMuchText old mid new all rest gives = behind_both [] [] _ old mid new all rest gives
+stopped_after Memory old mid new all rest gives = λ stopped. tt
+stopped_after stop old mid new all rest gives = λ stopped. absurd stopped

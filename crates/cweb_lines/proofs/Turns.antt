@@ -1,10 +1,10 @@
 -- What a turn gives: a search, a line that was taken, a change that begins.
-use Rattle.cweb_lines.proofs.Common.{Sought, map-append, ◌≡◌, ◌&&◌, ℕ, Bool, true, false, List, [], ◌∷◌, ◌++◌, Some, None, Option, refl, sym, ◌∙◌, ap, length, map, if◌then◌else◌, subst, append_assoc, Ok, bytes_eq, Place, Entry, old_lines, sought, text_of_name, world_in, World, Line, SourceLine, Event, RawLine, Thing, after_old, at_entry, change_events, fault, fault_if, raw, seek, taking, took, SoFar, change_lines, coming, coming_after, pending_of, things_of, told_by, names_of, IsChanged, faults_replaced, lines_replaced, list_if, taken_away, Searched, IsOutside, begun_by, change_in, pending_in, things_in, IsSettled, floor_of, lines_at, raw_at, things_above, Counted, StaysBelow, TakesAbove, merge, merge_next, SourceFault, Run, Stack, Stage, Seeking, Waiting, Changing, LineAt, count_of, OnlyTakes, Took, TellsSome, TellsFront, StopsFor, StopsAmong, Stopped, Stop, Count, Gives}
-use Rattle.cweb_lines.proofs.Adds.{adds_both, adds_one, among_after, gives_adds, stopped_among, tells_after, tells_some}
+use Rattle.cweb_lines.proofs.Common.{Sought, map-append, ◌≡◌, ◌&&◌, ℕ, Bool, true, false, List, [], ◌∷◌, ◌++◌, Some, None, Option, refl, sym, ◌∙◌, ap, length, map, if◌then◌else◌, subst, append_assoc, Ok, bytes_eq, Place, Entry, old_lines, sought, text_of_name, world_in, World, Line, SourceLine, Event, RawLine, Thing, after_old, at_entry, change_events, fault, fault_if, raw, seek, taking, took, SoFar, change_lines, coming, coming_after, pending_of, things_of, told_by, names_of, IsChanged, faults_replaced, lines_replaced, list_if, taken_away, Searched, IsOutside, begun_by, change_in, pending_in, things_in, IsSettled, floor_of, lines_at, raw_at, things_above, Counted, StaysBelow, TakesAbove, merge, merge_next, SourceFault, Run, Stack, Stage, Seeking, Waiting, Changing, LineAt, count_of, OnlyTakes, Took, TellsSome, TellsFront, EndsStep, step_events, Stopped, Stop, Gives}
+use Rattle.cweb_lines.proofs.Adds.{adds_both, adds_one, ends_after, gives_adds, tells_after, tells_some}
 use Rattle.cweb_lines.proofs.Fronts.{took_faults, took_names}
-use Rattle.cweb_open.proofs.Stacks.{stops_map}
 use Rattle.cweb_lines.proofs.Merges.{state}
 use Rattle.cweb_lines.proofs.Runs.{coming_of, takes_in}
+use Rattle.cweb_lines.proofs.Stops.{stopped_in, takes_next}
 
 -- outside a change the texts alone are to come
 outside_things : {R : Type 0} (l : R → List ℕ) (stage : Stage) (lines : List SourceLine) (stack : Stack R) →
@@ -37,9 +37,10 @@ module _ {R : Type 0} (t : List ℕ → Option (List ℕ)) (l : R → List ℕ) 
       → TellsFront (told_by run) new (coming t l run)
   sought_tells new = tells_some found.taken _ _ _ _ _ sought_first
 
-  pub sought_stops : (stop : Stop) (now : Count) → StopsFor (StopsAmong stop (count_of run.limits) now found.taken) stop
-      → Stopped stop (count_of run.limits) now (coming t l run)
-  sought_stops stop now = stopped_among stop found.taken _ _ _ _ sought_first
+  pub sought_stops : (stop : Stop) (new : SoFar) → EndsStep stop (told_by run) new found.taken [] found.faults
+      → Stopped stop (told_by run) new (coming t l run)
+  sought_stops stop new = stopped_in stop found.taken [] found.faults (told_by run) new _ behind_search sought_first
+      (takes_next _ _)
 
   -- the search has ended
   pub sought_gives : (t' : List ℕ → Option (List ℕ)) (l' : R → List ℕ) (run' : Run R) → t' ≡ t → l' ≡ l
@@ -80,6 +81,11 @@ events_are : (entry : Entry) (change : List SourceLine) (things : List Thing)
     → change_events entry (old_lines change) (taken_away change things) ≡ map took (lines_replaced change things)
     ++ map fault (faults_replaced entry.begin change things)
 events_are entry change things = simp (fault_list, map-append, append_assoc)
+
+-- the lines that an old side takes, those of the change file first
+in_turn : (line : SourceLine) (lines raws : List SourceLine) (faults : List SourceFault) (later : List Event)
+    → map took (line ∷ (lines ++ raws)) ++ (map fault faults ++ later) ≡ step_events (line ∷ lines) raws faults later
+in_turn line lines raws faults later = simp (map-append, append_assoc)
 
 -- a change begins
 begun_entry : (p : Option Entry) (may_match : Bool) (bytes : List ℕ) (place : Place) →
@@ -161,11 +167,15 @@ module _ {R : Type 0} (t : List ℕ → Option (List ℕ)) (l : R → List ℕ) 
         (first ∙ (begins_here at taken.line bytes begin taken.is begun).2) (tells_after (told_by old)
         (told_by run) bytes at.place taken (took_faults only) (took_names only) (faults begin) new some)
 
-    pub began_stops : (stop : Stop) (now : Count) → StopsFor (StopsAmong stop (count_of run.limits) now lines) stop
-        → Stopped stop (count_of old.limits) now all
-    began_stops stop now stops = stopped_among stop (taken.line ∷ lines) _ _ _ _
-        (first ∙ (begins_here at taken.line bytes begin taken.is begun).2) (stops_map stop (among_after (told_by old)
-        (told_by run) bytes at.place taken (took_faults only) (took_names only) stop now lines) stops)
+    pub began_stops : (stop : Stop) (new : SoFar) → EndsStep stop (told_by run) new (old_lines (change_lines l run)).taken
+        (taken_away (change_lines l run) things).taken (faults begin) → Stopped stop (told_by old) new all
+    began_stops stop new ends =
+        let here = begins_here at taken.line bytes begin taken.is begun in
+        stopped_in stop (taken.line ∷ (old_lines (change_lines l run)).taken)
+        (taken_away (change_lines l run) things).taken (faults begin) (told_by old) new all _
+        (first ∙ here.2 ∙ in_turn taken.line _ _ (faults begin) _) (takes_next _ _)
+        (ends_after (told_by old) (told_by run) bytes at.place taken (took_faults only) (took_names only) stop
+        (old_lines (change_lines l run)).taken (taken_away (change_lines l run) things).taken (faults begin) new ends)
 
     pub began_gives : (t' : List ℕ → Option (List ℕ)) (l' : R → List ℕ) (new : Run R) → t' ≡ t → new.inputs ≡ run.inputs
         → new.names ≡ run.names → IsChanged begin at.depth (change_lines l run) things new.stage (change_lines l' new)

@@ -1,9 +1,8 @@
--- How lines that were given out, gathered and written add up.
-use Rattle.cweb_lines.proofs.Common.{◌≡◌, ◌<◌, ℕ, List, [], ◌∷◌, ◌++◌, length, refl, sym, ◌∙◌, ap, subst, arith, IsTrue, append-nil, append_assoc, KeepsPlace, Writes, Line, Event, SoFar, Gives, Stopped, StopsBehind, TellsFront, Count, given_lines, text_of, WritesFront, WritesAll, WritesSome, WritesUpTo, Gathered, FailsAmong, StopsWriting, WritesRest, leaves, writes, fails, Stop, ReadFault, LineTooLong, TooMuchText, Memory}
+-- How lines that were given out and written add up.
+use Rattle.cweb_lines.proofs.Common.{◌≡◌, ℕ, List, [], ◌∷◌, ◌++◌, refl, sym, ◌∙◌, IsTrue, append-nil, append_assoc, Writes, Line, Event, SoFar, Gives, Stopped, StopsBehind, TellsFront, given_lines, text_of, WritesFront, WritesAll, WritesSome, WritesUpTo, HasWritten, StopsWriting, Stop, ReadFault, LineTooLong, TooMuchText, Memory}
 use Rattle.cweb_files.specs.declared.device.Sink.{Ghosts as Sink}
-use Rattle.cweb_files.proofs.Keeps.{place_told, writes_then}
 use Rattle.cweb_lines.proofs.Merges.{gives_nothing}
-use Rattle.cweb_lines.proofs.Sums.{given-append, told-append, openings-append, gives_both, behind_both}
+use Rattle.cweb_lines.proofs.Sums.{given-append, told-append, openings-append, gives_both, behind_both, reads_both}
 
 pub given_front : (lines : List Line) (old new : SoFar) (all later : List Event) → Gives lines old new all later →
     given_lines all ≡ lines ++ given_lines later
@@ -27,10 +26,6 @@ pub text_of-append : (a b : List Line) → text_of (a ++ b) ≡ text_of a ++ tex
 text_of-append [] b = refl
 text_of-append (line ∷ a) b = simp (text_of-append a b, append_assoc)
 
-some_lines : (lines : List Line) → 0 < length (text_of lines) → 0 < length lines
-some_lines [] some = some
-some_lines (line ∷ lines) some = omega arith
-
 -- a front of the text of all lines, where they are lines that were written, lines of which a front was written, and
 -- lines that follow
 pub front_of_all : (all done gathered now : List Line) (old mid new piece : List ℕ) → all ≡ done ++ (gathered ++ now) →
@@ -43,104 +38,64 @@ front_of_all all done gathered now old mid new piece whole written is front = re
   whole = simp (whole, text_of-append, sym is ∙ front.whole, append_assoc);
 }
 
-pub nothing_yet : {W : Type 0} (sink : Sink W) (w : W) (room : ℕ) (so : SoFar) (all : List Event) →
-    Gathered room so so all all (Writes sink w w) []
-nothing_yet sink w room so all = record {
-  done = [];
-  gathered = [];
+pub nothing_yet : {W : Type 0} (sink : Sink W) (w : W) (so : SoFar) (all : List Event) →
+    HasWritten so so all all (Writes sink w w)
+nothing_yet sink w so all = record {
+  lines = [];
   gives = gives_nothing so so all all refl refl refl refl;
   wrote = λ tells. sym (append-nil (sink.written w));
-  piece_is = refl;
-  alone = λ none. refl;
 }
 
-module _ {W : Type 0} (sink : Sink W) (first mid : W) (keeps : KeepsPlace sink first mid) (room : ℕ) (old so : SoFar)
-    (all now : List Event) (piece : List ℕ) (g : Gathered room old so all now (Writes sink first mid) piece) where
-  lines_are : given_lines all ≡ g.done ++ (g.gathered ++ given_lines now)
-  lines_are = given_front _ old so all now g.gives ∙ append_assoc _ _ (given_lines now)
+module _ {W : Type 0} (sink : Sink W) (first mid : W) (old so : SoFar) (all now : List Event)
+    (g : HasWritten old so all now (Writes sink first mid)) where
+  -- a prefix of all lines
+  pub written_front : IsTrue (sink.tells first) → WritesFront (sink.written first) (sink.written mid)
+      (text_of (given_lines all))
+  written_front tells = record {
+    front = text_of g.lines;
+    rest = text_of (given_lines now);
+    written = g.wrote tells;
+    whole = simp (given_front g.lines old so all now g.gives, text_of-append);
+  }
 
-  -- all that was gathered was written
-  wrote_all : (new : W) → Writes sink mid new piece → Writes sink first new (text_of (g.done ++ g.gathered))
-  wrote_all new wrote = rw (text_of-append, ← g.piece_is)
-      (writes_then sink first mid new (text_of g.done) piece keeps g.wrote wrote)
-
-  -- a front of it was
-  pub ends_front : (new : W) → (IsTrue (sink.tells mid) → WritesFront (sink.written mid) (sink.written new) piece)
-      → IsTrue (sink.tells first) → WritesFront (sink.written first) (sink.written new) (text_of (given_lines all))
-  ends_front new front tells =
-      front_of_all _ _ _ _ _ _ _ _ lines_are (g.wrote tells) g.piece_is (front (place_told _ _ mid keeps tells))
-
-  pub ends_whole : (new : W) (so' : SoFar) (later : List Event) → Gives [] so so' now later → later ≡ [] →
-      Writes sink mid new piece → WritesAll old so' all (Writes sink first new)
-  ends_whole new so' later next none wrote =
-      let gives = rw append-nil at (gives_both (g.done ++ g.gathered) [] old so so' all now later g.gives next) in
+  -- all of them
+  pub written_whole : (so' : SoFar) (later : List Event) → Gives [] so so' now later → later ≡ [] →
+      WritesAll old so' all (Writes sink first mid)
+  written_whole so' later next none =
+      let gives = rw append-nil at (gives_both g.lines [] old so so' all now later g.gives next) in
       record {
-        gives = gives_all (g.done ++ g.gathered) old so' all later gives none;
-        wrote = simp (given_front (g.done ++ g.gathered) old so' all later gives, none, append-nil)
-            (wrote_all new wrote);
+        gives = gives_all g.lines old so' all later gives none;
+        wrote = simp (given_front g.lines old so' all later gives, none, append-nil) g.wrote;
       }
 
-  pub some_written : (new : W) → Writes sink mid new piece → WritesSome all (Writes sink first new)
-  some_written new wrote = record {
-    lines = g.done ++ g.gathered;
+  pub written_some : WritesSome all (Writes sink first mid)
+  written_some = record {
+    lines = g.lines;
     rest = given_lines now;
-    whole = given_front (g.done ++ g.gathered) old so all now g.gives;
-    wrote = wrote_all new wrote;
+    whole = given_front g.lines old so all now g.gives;
+    wrote = g.wrote;
   }
 
-  done_written : (new : W) → Writes sink mid new [] → WritesSome all (Writes sink first new)
-  done_written new wrote = record {
-    lines = g.done;
-    rest = g.gathered ++ given_lines now;
-    whole = lines_are;
-    wrote = rw append-nil at (writes_then sink first mid new (text_of g.done) [] keeps g.wrote wrote);
+  up_to : (stop : Stop) (new : SoFar) → StopsBehind [] stop so new now → WritesUpTo stop old new all (Writes sink first
+      mid)
+  up_to stop new stops = record {
+    lines = g.lines;
+    stops = rw append-nil at (behind_both g.lines [] stop old so new all now g.gives stops);
+    wrote = g.wrote;
   }
-
-  up_to : (stop : Stop) (count : Count) (new : W) → StopsBehind [] stop so.count count now → Writes sink mid new piece →
-      WritesUpTo stop old.count count all (Writes sink first new)
-  up_to stop count new stops wrote = record {
-    lines = g.done ++ g.gathered;
-    stops = rw append-nil at
-        (behind_both (g.done ++ g.gathered) [] stop old so count all now g.gives stops);
-    wrote = wrote_all new wrote;
-  }
-
-  written_by : (stop : Stop) (count : Count) (new : W) → Stopped stop so.count count now → Writes sink mid new piece →
-      StopsWriting stop old.count count all (Writes sink first new)
-  written_by (ReadFault file) count new stopped wrote = some_written new wrote
-  written_by (LineTooLong file) count new stopped wrote = up_to (LineTooLong file) count new stopped wrote
-  written_by TooMuchText count new stopped wrote = up_to TooMuchText count new stopped wrote
-  written_by Memory count new stopped wrote = some_written new wrote
-  written_by stop count new stopped wrote = absurd stopped
 
   -- the merger stopped
-  pub ended_early : (stop result : Stop) (count : Count) (new : W) → Stopped stop so.count count now → WritesRest
-      stop result piece (Writes sink mid new) → StopsWriting result old.count count all (Writes sink first new)
-  ended_early stop result count new stopped (leaves file was is wrote) = rw (is, was) (done_written new wrote)
-  ended_early stop result count new stopped (writes is wrote) = rw is (written_by stop count new stopped wrote)
-  ended_early stop result count new stopped (fails is some blame) = rw is tt
-
-  -- memory was refused for a line that was given out
-  pub halted : (result : Stop) (count : Count) (new : W) → WritesRest Memory result piece (Writes sink mid new) →
-      StopsWriting result old.count count all (Writes sink first new)
-  halted result count new (leaves file was is wrote) = absurd (cc was)
-  halted result count new (writes is wrote) = rw is (some_written new wrote)
-  halted result count new (fails is some blame) = rw is tt
-
-  -- nothing more comes, and a write of what was gathered failed
-  pub fails_last : (new : W) (so' : SoFar) (later : List Event) → Gives [] so so' now later → 0 < length piece
-      → IsTrue (sink.tells first) → (IsTrue (sink.tells mid) → WritesFront (sink.written mid) (sink.written new) piece)
-      → FailsAmong room old so' all later (sink.written first) (sink.written new)
-  fails_last new so' later next some tells front =
-      let more = some_lines g.gathered (subst (λ (t : List ℕ). 0 < length t) g.piece_is some) in
-      record {
-        done = g.done;
-        gathered = g.gathered;
-        gives = rw append-nil at (gives_both (g.done ++ g.gathered) [] old so so' all now later g.gives next);
-        front = rw (g.wrote tells, g.piece_is) at (front (place_told sink first mid keeps tells));
-        some = more;
-        alone = λ none. absurd (omega (arith, more, ap (λ (ls : List Line). length ls) (g.alone none)));
-      }
+  pub written_by : (stop : Stop) (new : SoFar) → Stopped stop so new now → StopsWriting stop old new all (Writes sink
+      first mid)
+  written_by (ReadFault file) new reads = record {
+    lines = g.lines;
+    reads = rw append-nil at (reads_both g.lines [] old so new all now g.gives reads);
+    wrote = g.wrote;
+  }
+  written_by (LineTooLong file) new stops = up_to (LineTooLong file) new stops
+  written_by TooMuchText new stops = up_to TooMuchText new stops
+  written_by Memory new stopped = written_some
+  written_by stop new stopped = absurd stopped
 
 -- what was told is a front of all that is to be told
 pub tells_some : (lines : List Line) (old new : SoFar) (all later : List Event) → Gives lines old new all later →

@@ -13,7 +13,6 @@ pub mod Merging
 pub use Rattle.cweb_open.specs.Names
 pub mod Naming
 pub mod Passing
-pub use Rattle.cweb_open.specs.Pending
 pub mod Replacing
 pub mod Seeking
 pub mod Seen

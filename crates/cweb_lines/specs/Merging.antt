@@ -1,20 +1,21 @@
 -- What a merger has still to give, and what a call gives of it.
-use Rattle.std.specs.Prelude.{◌≡◌, ◌<◌, ◌≤◌, ◌+◌, ◌*◌, ◌-◌, ℕ, length, List, [], ◌∷◌, ◌++◌, Option}
+use Rattle.std.specs.Prelude.{◌≡◌, ◌<◌, ◌≤◌, ◌+◌, ◌*◌, ◌-◌, ◌⊎◌, ℕ, length, map, List, [], ◌∷◌, ◌++◌, Option}
 use Rattle.cweb_lines.specs.Change.{Entry}
 use Rattle.cweb_source.specs.Lines.{Line, SourceLine, IsOneLine}
-use Rattle.cweb_lines.specs.Merge.{State, Event, took, Thing}
+use Rattle.cweb_lines.specs.Merge.{State, Event, took, given, fault, Thing}
 use Rattle.cweb_lines.specs.Told.{given_lines, told_faults, openings, taken_lines, size_of, AreShort}
 use Rattle.cweb_lines.specs.Total.{merge}
 use Rattle.cweb_open.specs.Counts.{count_of}
 use Rattle.cweb_open.specs.Finding.{world_in}
 use Rattle.cweb_open.specs.Names.{names_of}
 use Rattle.cweb_lines.specs.Stages.{pending_in, change_in, things_in, weight_of}
-use Rattle.cweb_open.specs.Texts.{Count, Refuses, StopsFor, lines_at, raw_at}
+use Rattle.cweb_open.specs.Texts.{Count, Refuses, lines_at, raw_at}
 use Rattle.cweb_open.specs.declared.fault.SourceFault.{SourceFault}
 use Rattle.cweb_lines.specs.declared.run.Run.{Run}
 use Rattle.cweb_lines.specs.declared.change.Stage.{Stage}
 use Rattle.cweb_lines.specs.declared.change.Stage.TheVariants.{Done}
 use Rattle.cweb_open.specs.declared.stop.Stop.{Stop}
+use Rattle.cweb_open.specs.declared.stop.Stop.TheVariants.{ReadFault, LineTooLong, TooMuchText, Memory}
 use Rattle.cweb_open.specs.declared.text.LineAt.{LineAt}
 use Rattle.cweb_lines.specs.declared.step.Turn.{Turn}
 use Rattle.cweb_lines.specs.declared.step.Turn.TheVariants.{Given, On, Ended}
@@ -62,21 +63,92 @@ pub record GivesBehind (source : SourceLine) (lines : List Line) (old new : SoFa
   pub first : all ≡ took source ∷ rest
   pub gives : Gives lines old new rest later
 
--- Behind these lines, and before any further line is given out, comes a line that can't be taken. With it no more lines
--- and bytes are taken than are to come.
-pub record StopsBehind (lines : List Line) (stop : Stop) (old now : Count) (all : List Event) : Type 0 where
-  pub events : List Event
-  pub line : SourceLine
-  pub later : List Event
-  pub whole : all ≡ events ++ took line ∷ later
-  pub given : given_lines events ≡ lines
-  pub why : Refuses stop now line
-  pub few : now.lines + 1 ≤ old.lines + length (taken_lines all)
-  pub small : now.bytes + line.size ≤ old.bytes + size_of (taken_lines all)
+-- these faults are reported, and these lines are taken and counted
+pub record Adds (faults : List SourceFault) (lines : List SourceLine) (old new : SoFar) : Type 0 where
+  pub told : new.faults ≡ old.faults ++ faults
+  pub names : new.names ≡ old.names
+  pub lines_are : new.count.lines ≡ old.count.lines + length lines
+  pub bytes_are : new.count.bytes ≡ old.count.bytes + size_of lines
+  pub short : AreShort lines
 
--- why no line came: a read failed, memory was refused, or a line that comes next can't be taken
-abbrev pub Stopped : Stop → Count → Count → List Event → Type 0
-Stopped stop old now all = StopsFor (StopsBehind [] stop old now all) stop
+-- some of these faults were told
+pub record TellsSome (faults : List SourceFault) (old new : SoFar) : Type 0 where
+  pub front : List SourceFault
+  pub rest : List SourceFault
+  pub whole : faults ≡ front ++ rest
+  pub told : new.faults ≡ old.faults ++ front
+  pub names : new.names ≡ old.names
+
+-- A step of the merge has begun. It takes lines, and raw lines by turns with them: a prefix of either was taken, and a prefix of its
+-- faults reported.
+pub record HasBegun (old new : SoFar) (lines raws : List SourceLine) (faults : List SourceFault) : Type 0 where
+  pub front : List SourceLine
+  pub rest : List SourceLine
+  pub raw_front : List SourceLine
+  pub raw_rest : List SourceLine
+  pub told : List SourceFault
+  pub more : List SourceFault
+  pub lines_are : lines ≡ front ++ rest
+  pub raws_are : raws ≡ raw_front ++ raw_rest
+  pub faults_are : faults ≡ told ++ more
+  pub adds : Adds told (front ++ raw_front) old new
+
+abbrev pub ComesFirst : SourceLine → List SourceLine → Type 0
+ComesFirst line lines = (rest : List SourceLine) × (lines ≡ line ∷ rest)
+
+-- the line that such a step takes next can't be taken
+pub record StopsIn (stop : Stop) (old new : SoFar) (lines raws : List SourceLine)
+    (faults : List SourceFault) : Type 0 where
+  pub begun : HasBegun old new lines raws faults
+  pub line : SourceLine
+  pub next : ComesFirst line begun.rest ⊎ ComesFirst line begun.raw_rest
+  pub why : Refuses stop new.count line
+
+-- how far a step came that a stop ends
+abbrev pub EndsStep : Stop → SoFar → SoFar → List SourceLine → List SourceLine → List SourceFault → Type 0
+EndsStep (ReadFault file) old new lines raws faults = HasBegun old new lines raws faults
+EndsStep (LineTooLong file) old new lines raws faults = StopsIn (LineTooLong file) old new lines raws faults
+EndsStep TooMuchText old new lines raws faults = StopsIn TooMuchText old new lines raws faults
+EndsStep Memory old new lines raws faults = Unit {0}
+EndsStep _ old new lines raws faults = ⊥
+
+-- what a step takes and reports, and what comes after it
+abbrev pub step_events : List SourceLine → List SourceLine → List SourceFault → List Event → List Event
+step_events lines raws faults later = map took lines ++ (map took raws ++ (map fault faults ++ later))
+
+-- all came that comes before a step, with these lines, and in this step a line can't be taken
+pub record StopsBehind (given : List Line) (stop : Stop) (old new : SoFar) (all : List Event) : Type 0 where
+  pub mid : SoFar
+  pub lines : List SourceLine
+  pub raws : List SourceLine
+  pub faults : List SourceFault
+  pub later : List Event
+  pub gives : Gives given old mid all (step_events lines raws faults later)
+  pub stops : StopsIn stop mid new lines raws faults
+
+-- no line is given out before more is taken
+abbrev pub TakesNext : List Event → Type 0
+TakesNext (given line ∷ events) = ⊥
+TakesNext _ = Unit {0}
+
+-- a read failed in a step: all lines were given out before it that were taken to be given out
+pub record ReadsBehind (given : List Line) (old new : SoFar) (all : List Event) : Type 0 where
+  pub mid : SoFar
+  pub lines : List SourceLine
+  pub raws : List SourceLine
+  pub faults : List SourceFault
+  pub later : List Event
+  pub gives : Gives given old mid all (step_events lines raws faults later)
+  pub begun : HasBegun mid new lines raws faults
+  pub next : TakesNext later
+
+-- why no line came: a read failed, a line can't be taken, or memory was refused
+abbrev pub Stopped : Stop → SoFar → SoFar → List Event → Type 0
+Stopped (ReadFault file) old new all = ReadsBehind [] old new all
+Stopped (LineTooLong file) old new all = StopsBehind [] (LineTooLong file) old new all
+Stopped TooMuchText old new all = StopsBehind [] TooMuchText old new all
+Stopped Memory old new all = Unit {0}
+Stopped _ old new all = ⊥
 
 abbrev pub told_by : {R : Type 0} → Run R → SoFar
 told_by run = record { faults = run.faults.items; names = names_of run.names; count = count_of run.limits }
@@ -108,32 +180,6 @@ abbrev pub coming_after : {R : Type 0} → (List ℕ → Option (List ℕ)) → 
     List Event
 coming_after texts left run at source = merge (world_in texts run.inputs)
     (state_of left run (raw_at at source ∷ things_of left run))
-
--- faults that were told and lines that were taken are counted
-pub record Adds (faults : List SourceFault) (lines : List SourceLine) (old new : SoFar) : Type 0 where
-  pub told : new.faults ≡ old.faults ++ faults
-  pub names : new.names ≡ old.names
-  pub lines_are : new.count.lines ≡ old.count.lines + length lines
-  pub bytes_are : new.count.bytes ≡ old.count.bytes + size_of lines
-  pub short : AreShort lines
-
--- some of these faults were told
-pub record TellsSome (faults : List SourceFault) (old new : SoFar) : Type 0 where
-  pub front : List SourceFault
-  pub rest : List SourceFault
-  pub whole : faults ≡ front ++ rest
-  pub told : new.faults ≡ old.faults ++ front
-  pub names : new.names ≡ old.names
-
--- one of these lines can't be taken, and those that were taken before it are among them
-pub record StopsAmong (stop : Stop) (old now : Count) (lines : List SourceLine) : Type 0 where
-  pub front : List SourceLine
-  pub line : SourceLine
-  pub rest : List SourceLine
-  pub among : lines ≡ front ++ line ∷ rest
-  pub why : Refuses stop now line
-  pub few : now.lines + 1 ≤ old.lines + length lines
-  pub small : now.bytes + line.size ≤ old.bytes + size_of lines
 
 -- a bound on the turns that are left
 abbrev pub turns_left : ℕ → Stage → ℕ

@@ -82,9 +82,9 @@ pub record BlamesReads (before now : ℕ) (result : Result (Option Place) Stop) 
   pub failed : ReadBlames before now result
   pub reading : IfErr result (λ stop. StopsReading stop)
 
--- why no line came, and that what was told by then is a front of all that is to be told
+-- Why no line came. What was reported by then is a prefix of all that is to be reported.
 pub record StopsThere (stop : Stop) (old new : SoFar) (all : List Event) : Type 0 where
-  pub why : Stopped stop old.count new.count all
+  pub why : Stopped stop old new all
   pub told : TellsFront old new all
 
 -- the merge begins with the web that was found, and with the change file where one is named

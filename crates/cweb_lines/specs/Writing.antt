@@ -1,11 +1,11 @@
 -- What merged lines look like in a sink.
-use Rattle.std.specs.Prelude.{◌≡◌, ◌<◌, ◌≤◌, ◌+◌, ◌⊎◌, ℕ, List, [], ◌∷◌, ◌++◌, length, Option, None, Some, IfSome}
-use Rattle.cweb_files.specs.declared.place.FileId.{FileId}
+use Rattle.std.specs.Prelude.{◌≡◌, ◌<◌, ◌≤◌, ◌+◌, ℕ, List, [], ◌∷◌, ◌++◌, length, Option, None, Some}
 pub use Rattle.cweb_files.specs.Frames.{WritesFront}
-use Rattle.cweb_source.specs.Lines.{Line, SourceLine}
-use Rattle.cweb_lines.specs.Merge.{Event, took}
-use Rattle.cweb_lines.specs.Merging.{SoFar, Gives, StopsBehind, TellsFront}
-use Rattle.cweb_open.specs.Texts.{Count, IsTooLong, StopsReading, read_blame, files_named}
+use Rattle.cweb_source.specs.Lines.{Line}
+use Rattle.cweb_lines.specs.Merge.{Event}
+use Rattle.cweb_lines.specs.Merging.{SoFar, Gives, ReadsBehind, StopsBehind, TellsFront}
+use Rattle.cweb_open.specs.Texts.{read_blame, files_named}
+use Rattle.cweb_open.specs.declared.limits.TheConstants.{LINES, BYTES}
 use Rattle.cweb_lines.specs.Told.{given_lines}
 use Rattle.cweb_open.specs.declared.stop.Stop.{Stop}
 use Rattle.cweb_open.specs.declared.stop.Stop.TheVariants.{ReadFault, LineTooLong, TooMuchText, Memory, WriteFault}
@@ -28,31 +28,42 @@ pub record WritesSome (all : List Event) (Wrote : List ℕ → Type 0) : Type 0 
   pub wrote : Wrote (text_of lines)
 
 -- all lines were written that come before one that can't be taken
-pub record WritesUpTo (stop : Stop) (old now : Count) (all : List Event) (Wrote : List ℕ → Type 0) : Type 0 where
+pub record WritesUpTo (stop : Stop) (old new : SoFar) (all : List Event) (Wrote : List ℕ → Type 0) : Type 0 where
   pub lines : List Line
-  pub stops : StopsBehind lines stop old now all
+  pub stops : StopsBehind lines stop old new all
   pub wrote : Wrote (text_of lines)
 
--- a line of this file is to be taken that is too long
-pub record LongIn (file : FileId) (all : List Event) : Type 0 where
-  pub events : List Event
-  pub line : SourceLine
-  pub later : List Event
-  pub whole : all ≡ events ++ took line ∷ later
-  pub why : IsTooLong file line
+-- all lines were written that come before a read that failed
+pub record WritesRead (old new : SoFar) (all : List Event) (Wrote : List ℕ → Type 0) : Type 0 where
+  pub lines : List Line
+  pub reads : ReadsBehind lines old new all
+  pub wrote : Wrote (text_of lines)
+
+-- a merge begins with these files open
+abbrev pub begun_with : List (List ℕ) → SoFar
+begun_with names = record { faults = []; names = names; count = record { lines = 0; bytes = 0 } }
+
+-- A merge comes to a line that can't be taken. It breaks a limit, and nothing before it does.
+pub record BreaksLimit (stop : Stop) (events : List Event) : Type 0 where
+  pub first : List (List ℕ)
+  pub lines : List Line
+  pub new : SoFar
+  pub stops : StopsBehind lines stop (begun_with first) new events
+  pub few : new.count.lines ≤ LINES
+  pub small : new.count.bytes ≤ BYTES
 
 -- what a stop leaves of the lines that are to be written: whole lines, unless a write failed
-abbrev pub StopsWriting : Stop → Count → Count → List Event → (List ℕ → Type 0) → Type 0
-StopsWriting (ReadFault file) old now all Wrote = WritesSome all Wrote
-StopsWriting (LineTooLong file) old now all Wrote = WritesUpTo (LineTooLong file) old now all Wrote
-StopsWriting TooMuchText old now all Wrote = WritesUpTo TooMuchText old now all Wrote
-StopsWriting Memory old now all Wrote = WritesSome all Wrote
-StopsWriting WriteFault old now all Wrote = Unit {0}
-StopsWriting _ old now all Wrote = ⊥
+abbrev pub StopsWriting : Stop → SoFar → SoFar → List Event → (List ℕ → Type 0) → Type 0
+StopsWriting (ReadFault file) old new all Wrote = WritesRead old new all Wrote
+StopsWriting (LineTooLong file) old new all Wrote = WritesUpTo (LineTooLong file) old new all Wrote
+StopsWriting TooMuchText old new all Wrote = WritesUpTo TooMuchText old new all Wrote
+StopsWriting Memory old new all Wrote = WritesSome all Wrote
+StopsWriting WriteFault old new all Wrote = Unit {0}
+StopsWriting _ old new all Wrote = ⊥
 
 -- why not all lines were written, and what was told by then
 pub record EndsEarly (stop : Stop) (old new : SoFar) (all : List Event) (Wrote : List ℕ → Type 0) : Type 0 where
-  pub why : StopsWriting stop old.count new.count all Wrote
+  pub why : StopsWriting stop old new all Wrote
   pub told : TellsFront old new all
 
 -- A write failed in the midst of lines that were gathered. What comes after that comes behind them.
@@ -85,47 +96,27 @@ WritingStops Memory = Unit {0}
 WritingStops WriteFault = Unit {0}
 WritingStops _ = ⊥
 
+-- the merger goes on after a write fault, and keeps any other stop
+abbrev pub KeepsStop : Stop → Option Stop → Type 0
+KeepsStop WriteFault in_merger = in_merger ≡ None
+KeepsStop stop in_merger = in_merger ≡ Some stop
+
 -- how often the devices of a merge have failed
 pub record Failed : Type 0 where
   pub shelf : ℕ
   pub out : ℕ
 
--- a merger came to this stop by itself: a line can't be taken, or memory was refused, and no read failed with it
-pub record IsOwnStop (stop : Stop) (files : ℕ) : Type 0 where
-  pub reading : StopsReading stop
-  pub unread : read_blame stop ≡ 0
-  pub named : files_named stop ≤ files
-
--- what a stop leaves over all devices: the one that it tells of failed once more; the file that it names has been
--- opened;
--- the merger keeps it, unless a write failed; then it goes on, where lines are not gathered, and else it may keep a
--- stop
--- of its own
-pub record Blames (room : ℕ) (stop : Stop) (old new : Failed) (in_merger : Option Stop) (files : ℕ) : Type 0 where
+-- What a stop leaves over all devices. The device that it names failed once more, and the file that it names has been opened. The
+-- merger keeps a stop of its own, and goes on after a write fault.
+pub record Blames (stop : Stop) (old new : Failed) (in_merger : Option Stop) (files : ℕ) : Type 0 where
   pub kind : WritingStops stop
   pub shelf : new.shelf ≡ old.shelf + read_blame stop
   pub out : new.out ≡ old.out + write_blame stop
   pub named : files_named stop ≤ files
-  pub kept : (stop ≡ WriteFault) ⊎ (in_merger ≡ Some stop)
-  pub goes_on : room ≡ 0 → stop ≡ WriteFault → in_merger ≡ None
-  pub after_write : stop ≡ WriteFault → IfSome in_merger (λ own. IsOwnStop own files)
+  pub kept : KeepsStop stop in_merger
 
--- What was given out so far: lines that were written, and lines that are gathered in a piece.
-pub record Gathered (room : ℕ) (old new : SoFar) (all now : List Event) (Wrote : List ℕ → Type 0)
-    (piece : List ℕ) : Type 0 where
-  pub done : List Line
-  pub gathered : List Line
-  pub gives : Gives (done ++ gathered) old new all now
-  pub wrote : Wrote (text_of done)
-  pub piece_is : piece ≡ text_of gathered
-  pub alone : room ≡ 0 → gathered ≡ []
-
--- a piece is kept while it has fewer bytes than there is room for, and else it is written
-abbrev pub PassesOn : ℕ → List ℕ → List ℕ → (List ℕ → Type 0) → Type 0
-PassesOn room piece rest Wrote = ((length piece < room) × (rest ≡ piece) × Wrote []) ⊎ ((rest ≡ []) × Wrote piece)
-
--- the merger has stopped: where no read failed, what was gathered before is written, or a write fails in its midst
-pub data WritesRest (stop result : Stop) (piece : List ℕ) (Wrote : List ℕ → Type 0) : Type 0 where
-  leaves : (file : FileId) → stop ≡ ReadFault file → result ≡ stop → Wrote [] → WritesRest stop result piece Wrote
-  writes : result ≡ stop → Wrote piece → WritesRest stop result piece Wrote
-  fails : result ≡ WriteFault → 0 < length piece → read_blame stop ≡ 0 → WritesRest stop result piece Wrote
+-- All lines that were given out were written.
+pub record HasWritten (old new : SoFar) (all now : List Event) (Wrote : List ℕ → Type 0) : Type 0 where
+  pub lines : List Line
+  pub gives : Gives lines old new all now
+  pub wrote : Wrote (text_of lines)

@@ -198,16 +198,10 @@ impl<S: Shelf> Merger<S> {
         self.run.alloc
     }
 
-    /// Whether the next line can be given without a read.
-    pub(crate) fn has_line(&self) -> bool {
-        self.run.has_line()
-    }
-
     /// Appends lines that were read and pass through to a caller's buffer, while that has fewer than `room` bytes.
     pub(crate) fn pass_lines(&mut self, piece: &mut Vec<u8>, room: usize) -> Result<(), AllocError>
         ensures passes { PassesLines self.old.run self.new.run piece.old.items piece.new.items }
         ensures alone { room ≡ 0 → piece.new.items ≡ piece.old.items }
-        ensures err { OnErr result (0 < room) }
     {
         pass_lines(&mut self.run, piece, room)
     }

@@ -3,11 +3,12 @@ pub use Rattle.std.proofs.Common.{◌≡◌, ◌+◌, ℕ, List, [], ◌∷◌, 
 pub use Rattle.std.proofs.Common.{◌-◌, Option, None, Some, zero, suc, Bool, true, false, ◌≢◌, cond, ◌⊎◌, Err, get_or}
 pub use Rattle.std.proofs.Common.{replicate, set, take, get_or-set_same, get_or-set_other, rules, string_bytes}
 pub use Rattle.std.proofs.Math.Nat.{le-max_left, le-max_right, max-le}
+pub use Rattle.std.proofs.lemmas.Bool.Decides.{nat_tests}
 pub use Rattle.std.proofs.lemmas.Grind.{common_steps}
 pub use Rattle.std.proofs.lemmas.List.{append-nil, append_assoc, get_or_default, get_or_append_left, length-take}
 pub use Rattle.std.proofs.lemmas.List.{take_more, set-set}
 pub use Rattle.std.proofs.lemmas.Str.{IsUtf8-from_is_utf8, is_utf8-from_IsUtf8}
-pub use Rattle.std.specs.Prelude.{slice_range, IsTrue, Result, Ok, IfOk, OnOk, IfErr}
+pub use Rattle.std.specs.Prelude.{slice_range, nat_eq, IsTrue, Result, Ok, IfOk, OnOk, IfErr}
 pub use Rattle.std.specs.Str.{IsUtf8}
 pub use Rattle.cweb_files.specs.Frames.{KeepsTexts}
 pub use Rattle.cweb_files.specs.declared.place.FileId.{FileId}
@@ -24,7 +25,7 @@ pub use Rattle.cweb_open.specs.Taking.{TakesWhole}
 pub use Rattle.cweb_open.specs.Texts.{Count, StopsFor, files_up_to, matches_at, number_of, text_depth, TopStops}
 pub use Rattle.cweb_open.specs.Texts.{read_blame, stop_for, FirstStops, things_above, things_over, StaysBelow, lines_at}
 pub use Rattle.cweb_open.specs.Texts.{things_at, TakesFirst, DeepAt, gap_at, Pushes, TakesLine, StopsReading, NamesFile}
-pub use Rattle.cweb_open.specs.Texts.{newline_bytes, line_number, AreDeep}
+pub use Rattle.cweb_open.specs.Texts.{newline_bytes, line_number, number_at, AreDeep}
 pub use Rattle.cweb_open.specs.declared.limits.TheConstants.{LINES, BYTES}
 pub use Rattle.cweb_source.specs.declared.limits.TheConstants.{LINE_LENGTH}
 pub use Rattle.cweb_open.specs.declared.stop.Stop.{Stop}

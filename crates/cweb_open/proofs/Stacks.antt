@@ -1,5 +1,5 @@
 -- Open texts in an array.
-use Rattle.cweb_open.proofs.Common.{Bool, append_assoc, ◌≡◌, ◌≢◌, ◌≤◌, ◌<◌, ◌+◌, ◌-◌, ℕ, zero, suc, List, [], ◌∷◌, ◌++◌, Option, Some, None, refl, sym, ◌∙◌, ap, subst, arith, length, get_or, set, get_or-set_same, get_or-set_other, le-max_left, le-max_right, max-le, get_or_default, SourceLine, Thing, raw, raws, Count, things_at, things_over, matches_at, text_depth, lines_at, number_of, DeepAt, gap_at, StaysBelow, Pushes, TakesLine, TakesFirst, StopsFor, FirstStops, TopStops, AreDeep, KeepsStack, files_up_to, line_number, Stack, Stop, ReadFault, LineTooLong, TooMuchText, Memory, LineAt, OpenText}
+use Rattle.cweb_open.proofs.Common.{Bool, true, false, nat_eq, nat_tests, append_assoc, ◌≡◌, ◌≢◌, ◌≤◌, ◌<◌, ◌+◌, ◌-◌, ℕ, zero, suc, List, [], ◌∷◌, ◌++◌, Option, Some, None, refl, sym, ◌∙◌, ap, subst, arith, length, get_or, set, get_or-set_same, get_or-set_other, le-max_left, le-max_right, max-le, get_or_default, SourceLine, Thing, raw, raws, Count, things_at, things_over, matches_at, text_depth, lines_at, number_of, DeepAt, gap_at, StaysBelow, Pushes, TakesLine, TakesFirst, StopsFor, FirstStops, TopStops, AreDeep, KeepsStack, files_up_to, line_number, number_at, Stack, Stop, ReadFault, LineTooLong, TooMuchText, Memory, LineAt, OpenText}
 use Rattle.cweb_open.specs.Texts.{most, gaps_from}
 
 pub most_at : {R : Type 0} (number : OpenText R → ℕ) (texts : List (Option (OpenText R))) (at : ℕ) →
@@ -142,6 +142,32 @@ pub stays_below : {R : Type 0} (old new : List (Option (OpenText R))) (at low : 
     low ≤ at → new ≡ set old at slot → StaysBelow low old new
 stays_below old new at low slot le texts = λ left n le' rest. ap (λ ts. things_over left 0 n ts rest) texts
     ∙ over-set left 0 n old at slot rest (omega (arith, le, le'))
+
+-- a text that gives its place to one of which as many lines were taken
+pub numbers_set : {R : Type 0} (old new : List (Option (OpenText R))) (at place : ℕ) (d slot : Option (OpenText R)) →
+    at < length old → new ≡ set old at slot → number_of line_number slot ≡ number_of line_number (get_or old at d)
+    → number_at place new ≡ number_at place old
+numbers_set old new at place d slot within texts same = by (nat_eq place at) refl
+  where
+    by : (b : Bool) → nat_eq place at ≡ b → number_at place new ≡ number_at place old
+    by true here =
+        let is : place ≡ at = grind (arith, nat_tests) in
+        (λ i. number_of line_number (get_or (texts i) (is i) None))
+        ∙ ap (number_of line_number) (get_or-set_same old at slot None within) ∙ same
+        ∙ (λ i. number_of line_number (sym (get_or_default old at None d within) i))
+        ∙ (λ i. number_at (sym is i) old)
+    by false other =
+        let away : place ≢ at = grind (arith, nat_tests) in
+        (λ i. number_of line_number (get_or (texts i) place None))
+        ∙ ap (number_of line_number) (get_or-set_other old at place slot None away)
+
+-- texts below one that is closed
+pub numbers_below : {R : Type 0} (old new : List (Option (OpenText R))) (at place : ℕ) (slot : Option (OpenText R)) →
+    place < at → new ≡ set old at slot → number_at place new ≡ number_at place old
+numbers_below old new at place slot below texts =
+    let away : place ≢ at = omega arith in
+    (λ i. number_of line_number (get_or (texts i) place None))
+    ∙ ap (number_of line_number) (get_or-set_other old at place slot None away)
 
 -- the texts lie deeper than their places
 pub deep-at : {R : Type 0} (place at p : ℕ) (texts : List (Option (OpenText R))) (d : Option (OpenText R)) →

@@ -1,6 +1,6 @@
 -- What the calls that take lines say whatever the shelf tells: a record for each kind of call.
-use Rattle.std.specs.Prelude.{◌≡◌, ◌≤◌, ◌<◌, ◌+◌, ℕ, List, length, Option, None, Result, Ok, IfOk, IfErr, IfSome, OnSome}
-use Rattle.cweb_open.specs.Texts.{AreDeep, Count, Counted, DepthAfter, NamesFiles, StaysBelow, StopsReading, files_up_to, line_number, matches_at, most, number_of, text_depth}
+use Rattle.std.specs.Prelude.{◌≡◌, ◌≤◌, ◌<◌, ◌+◌, ℕ, List, length, Option, None, Some, Result, Ok, Err, IfOk, IfErr, IfSome, OnSome, OnErr}
+use Rattle.cweb_open.specs.Texts.{AreDeep, Count, Counted, DepthAfter, NamesFiles, StaysBelow, StopsReading, files_up_to, line_number, matches_at, most, number_at, number_of, text_depth}
 use Rattle.cweb_source.specs.Lines.{IsOneLine}
 use Rattle.cweb_open.specs.declared.stop.Stop.{Stop}
 use Rattle.cweb_open.specs.declared.text.LineAt.{LineAt}
@@ -21,6 +21,8 @@ pub record AnswersLine (files : ℕ) (before after : Count) (bytes : List ℕ)
 pub record KeepsText {R : Type 0} (old new : Option (OpenText R)) (before after : Count)
     (result : Result (Option LineAt) Stop) : Type 0 where
   pub number : number_of line_number new ≤ after.lines
+  -- a line that could not be taken has no number yet
+  pub uncounted : OnErr result (number_of line_number new ≡ number_of line_number old)
   pub more : before.lines ≤ after.lines
   pub file : number_of files_up_to new ≡ number_of files_up_to old
   pub depth : number_of text_depth new ≡ number_of text_depth old
@@ -35,10 +37,20 @@ pub record KeepsStack {R : Type 0} (old new : Stack R) (after : Count) : Type 0 
   pub files : most files_up_to new.texts ≤ most files_up_to old.texts
   pub deep : AreDeep new.texts
 
+-- No line was taken of the texts that are open: the next line of each has the number that it had.
+abbrev pub KeepsNumbers : {R : Type 0} → Stack R → Stack R → Type 0
+KeepsNumbers old new = (place : ℕ) → place < new.depth → number_at place new.texts ≡ number_at place old.texts
+
+abbrev pub UnlessTaken : Result (Option LineAt) Stop → Type 0 → Type 0
+UnlessTaken (Ok None) Says = Says
+UnlessTaken (Ok (Some at)) Says = Unit {0}
+UnlessTaken (Err stop) Says = Says
+
 -- The deepest text is closed where it has no line, and else it is the one of which the line was taken.
 pub record ClosesTop {R : Type 0} (old new : Stack R) (result : Result (Option LineAt) Stop) : Type 0 where
   pub depth : DepthAfter old.depth new.depth result
   pub below : (low : ℕ) → low < old.depth → StaysBelow low old.texts new.texts
+  pub numbers : UnlessTaken result (KeepsNumbers old new)
   pub deeper : IfOk result (λ at. IfSome at (λ a. new.depth ≤ a.depth))
 
 -- Texts above a low place alone are closed: all of them where none has a line.
@@ -48,4 +60,5 @@ pub record ClosesAbove {R : Type 0} (place : ℕ) (old new : Stack R)
   pub shallow : new.depth ≤ old.depth
   pub ended : result ≡ Ok None → new.depth ≡ place
   pub below : StaysBelow place old.texts new.texts
+  pub numbers : UnlessTaken result (KeepsNumbers old new)
   pub deeper : IfOk result (λ at. IfSome at (λ a. new.depth ≤ a.depth))

@@ -5,7 +5,6 @@ pub use Rattle.cweb_source.specs.Include
 pub use Rattle.cweb_source.specs.Lines
 pub mod Names
 pub mod Naming
-pub mod Pending
 pub use Rattle.cweb_source.specs.Source
 pub mod Taking
 pub mod Texts

@@ -40,6 +40,10 @@ most number (text ∷ texts) = max (number_of number text) (most number texts)
 abbrev pub line_number : {R : Type 0} → OpenText R → ℕ
 line_number text = text.line
 
+-- how many lines were taken of the text at a place
+abbrev pub number_at : {R : Type 0} → ℕ → List (Option (OpenText R)) → ℕ
+number_at place texts = number_of line_number (slice_index_or texts place None)
+
 -- how many files there are at least, where this one was opened
 abbrev pub files_up_to : {R : Type 0} → OpenText R → ℕ
 files_up_to text = text.file.0 + 1

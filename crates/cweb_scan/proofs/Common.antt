@@ -23,11 +23,11 @@ pub use Rattle.cweb_lines.specs.Ahead.{LooksAt, TakesLines}
 pub use Rattle.cweb_lines.specs.Lending.{bytes_in, LendsLines}
 pub use Rattle.cweb_lines.specs.Lines.{Line, HasNoNewline}
 pub use Rattle.cweb_lines.specs.Merge.{Event}
-pub use Rattle.cweb_lines.specs.Merging.{SoFar, told_by, KeepsTold, StopsBehind, coming}
+pub use Rattle.cweb_lines.specs.Merging.{SoFar, told_by, KeepsTold, Stopped, coming}
 pub use Rattle.cweb_lines.specs.Names.{names_of}
 pub use Rattle.cweb_lines.specs.Naming.{blame}
 pub use Rattle.cweb_lines.specs.Passing.{lines_next, standing, top_of}
-pub use Rattle.cweb_lines.specs.Texts.{read_blame}
+pub use Rattle.cweb_lines.specs.Texts.{StopsFor, read_blame}
 pub use Rattle.cweb_lines.specs.Told.{given_lines}
 pub use Rattle.cweb_lines.specs.Whole.{GivesOut, Grows, StopsThere, so_far, to_come, KnowsReaders, stop_in}
 pub use Rattle.cweb_open.specs.declared.limits.TheConstants.{LINES, BYTES}
@@ -35,7 +35,7 @@ pub use Rattle.cweb_lines.specs.declared.merger.Merger.{Merger}
 pub use Rattle.cweb_lines.specs.declared.merger.ahead.Ahead.{Ahead}
 pub use Rattle.cweb_lines.specs.declared.run.Run.{Run}
 pub use Rattle.cweb_open.specs.declared.stop.Stop.{Stop}
-pub use Rattle.cweb_open.specs.declared.stop.Stop.TheVariants.{Memory}
+pub use Rattle.cweb_open.specs.declared.stop.Stop.TheVariants.{ReadFault, LineTooLong, TooMuchText, Memory}
 pub use Rattle.cweb_open.specs.declared.text.OpenText.{OpenText}
 pub use Rattle.cweb_rules.specs.Bytes.{begins, starts_section, is_blank, is_line_end, is_digit, is_word_byte, first_is}
 pub use Rattle.cweb_rules.specs.Bytes.{at_line_end, is_white}
@@ -83,7 +83,7 @@ pub use Rattle.cweb_scan.specs.Bound.{total, one, text_size, occurrence_size, re
 pub use Rattle.cweb_scan.specs.Bound.{parts_size, token_number, text_bytes, Adds}
 pub use Rattle.cweb_scan.specs.Law.{web_size, IsBounded, ArePieces, MarkPasses, PlacesPass}
 pub use Rattle.cweb_scan.specs.Opened.{item_of, is_raw, IsSigned}
-pub use Rattle.cweb_scan.specs.Scan.{AreBelow, HasTaken, IsBelow, IsMarkBelow, IsWithin, Scans, EndsEarly}
+pub use Rattle.cweb_scan.specs.Scan.{AreBelow, HasTaken, IsBelow, IsMarkBelow, IsWithin, Scans, StopsAfter, EndsEarly}
 pub use Rattle.cweb_scan.specs.Standing.{unread_text, newlines, StandOnTheirLines}
 pub use Rattle.cweb_scan.specs.declared.reader.open.Open.TheVariants.{AfterBackslash, Raw}
 pub use Rattle.cweb_scanner.specs.After.{Reading, after, blank, enter_in, stays_in_head, letter, item, punctuator, code}

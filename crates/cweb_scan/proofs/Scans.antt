@@ -1,10 +1,9 @@
 -- How the lines that a merger gives out are scanned.
-use Rattle.cweb_scan.proofs.Common.{◌≡◌, ◌≤◌, ◌<◌, ℕ, ◌+◌, Bool, true, List, [], ◌∷◌, ◌++◌, length, refl, ap, sym, ◌∙◌, subst, arith, IsTrue, nat_lt, ltb-true, lt-ltb, append-nil, append_assoc, All-nil, All-push, All-weaker, Place, Line, HasNoNewline, Event, KeepsTold, SoFar, StopsBehind, blame, given_lines, GivesOut, Grows, StopsThere, LINES, BYTES, Stop, Memory, Token, Mark, all_tokens, IsLine, ScanFault, Reading, Held, read_after, unread, IsBounded, MarkPasses, web_size, Scanned, read, scanned, scanned_of, AreBelow, IsBelow, IsMarkBelow, HasTaken, IsWithin, Scans, EndsEarly}
+use Rattle.cweb_scan.proofs.Common.{◌≡◌, ◌≤◌, ◌<◌, ℕ, ◌+◌, Bool, true, List, [], ◌∷◌, ◌++◌, length, refl, ap, sym, ◌∙◌, subst, arith, IsTrue, nat_lt, ltb-true, lt-ltb, append-nil, append_assoc, All-nil, All-push, All-weaker, Place, Line, HasNoNewline, Event, KeepsTold, SoFar, Stopped, StopsFor, blame, given_lines, GivesOut, Grows, StopsThere, LINES, BYTES, Stop, ReadFault, LineTooLong, TooMuchText, Memory, Token, Mark, all_tokens, IsLine, ScanFault, Reading, Held, read_after, unread, IsBounded, MarkPasses, web_size, Scanned, read, scanned, scanned_of, AreBelow, IsBelow, IsMarkBelow, HasTaken, IsWithin, Scans, StopsAfter, EndsEarly}
 use Rattle.cweb_lines.specs.Merging.{Gives}
 use Rattle.cweb_lines.proofs.Fronts.{told_then}
 use Rattle.cweb_lines.proofs.Merges.{gives_nothing}
 use Rattle.cweb_lines.proofs.Sums.{gives_both, behind_both}
-use Rattle.cweb_open.proofs.Stacks.{stops_map}
 use Rattle.cweb_lines.proofs.Writes.{given_front, gives_all, tells_some, tells_more, tells_same}
 use Rattle.cweb_scan.proofs.Bounds.{bounded}
 use Rattle.cweb_scan.proofs.Places.{scanned-pass}
@@ -110,12 +109,20 @@ all_scanned old so new all now later lines held s reads few gives is last none =
 pub ends_early : (stop : Stop) (old so new : SoFar) (all now : List Event) (lines : List Line)
     → Gives lines old so all now → StopsThere stop so new now → EndsEarly stop old new all
 ends_early stop old so new all now lines gives there = record {
-  why = stops_map stop (λ (why : StopsBehind [] stop so.count new.count now). record {
-    lines = lines ++ [];
-    stops = behind_both lines [] stop old so new.count all now gives why;
-  }) there.why;
+  why = by stop there.why;
   told = tells_more lines old so new all now gives there.told;
 }
+  where
+    by : (stop : Stop) → Stopped stop so new now → StopsFor (StopsAfter stop old new all) stop
+    by (ReadFault file) why = tt
+    by (LineTooLong file) why = record {
+      lines = lines ++ [];
+      stops = behind_both lines [] (LineTooLong file) old so new all now gives why;
+    }
+    by TooMuchText why =
+        record { lines = lines ++ []; stops = behind_both lines [] TooMuchText old so new all now gives why }
+    by Memory why = tt
+    by stop why = absurd why
 
 -- memory was refused
 pub refused : (old so halted : SoFar) (all now : List Event) (lines : List Line)

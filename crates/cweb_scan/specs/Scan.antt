@@ -3,7 +3,7 @@ use Rattle.std.specs.Prelude.{◌≡◌, ◌<◌, ◌≤◌, ◌+◌, ℕ, List,
 use Rattle.cweb_lines.specs.Lines.{Line}
 use Rattle.cweb_lines.specs.Merge.{Event}
 use Rattle.cweb_lines.specs.Merging.{SoFar, Gives, StopsBehind, TellsFront}
-use Rattle.cweb_lines.specs.Texts.{Count, StopsFor, StopsReading, read_blame}
+use Rattle.cweb_lines.specs.Texts.{StopsFor, StopsReading, read_blame}
 use Rattle.cweb_lines.specs.Told.{given_lines}
 use Rattle.cweb_open.specs.declared.limits.TheConstants.{LINES, BYTES}
 use Rattle.cweb_open.specs.declared.stop.Stop.{Stop}
@@ -46,13 +46,13 @@ pub record Scans (s : Scanned) (old new : SoFar) (all : List Event) : Type 0 whe
   pub small : IsBounded s.store (new.count.bytes + new.count.lines)
 
 -- behind some lines comes one that can't be taken
-pub record StopsAfter (stop : Stop) (old now : Count) (all : List Event) : Type 0 where
+pub record StopsAfter (stop : Stop) (old new : SoFar) (all : List Event) : Type 0 where
   pub lines : List Line
-  pub stops : StopsBehind lines stop old now all
+  pub stops : StopsBehind lines stop old new all
 
 -- why a scan ended before its end, and that what was told by then is a front of all that is to be told
 pub record EndsEarly (stop : Stop) (old new : SoFar) (all : List Event) : Type 0 where
-  pub why : StopsFor (StopsAfter stop old.count new.count all) stop
+  pub why : StopsFor (StopsAfter stop old new all) stop
   pub told : TellsFront old new all
 
 -- what a stop leaves over every shelf: the count of failures rose where a read failed, and the merger keeps the stop

@@ -17,8 +17,8 @@ pub use Rattle.std.specs.Int.{bit_at, trailing_zeros}
 pub use Rattle.std.specs.Prelude.{slice_range, IsTrue}
 pub use Rattle.std.specs.Simd.Lanes.{mask_l, zip2, top}
 pub use Rattle.cweb_source.specs.Include.{name_in, up_to}
-pub use Rattle.cweb_source.specs.Lines.{TextLine, HasNoNewline, onto_first, text_lines, SplitsAt, HasNewline}
-pub use Rattle.cweb_source.specs.Lines.{IsNewlineAt, byte_before}
+pub use Rattle.cweb_source.specs.Lines.{TextLine, HasNoNewline, onto_first, text_lines, SplitsAt}
+pub use Rattle.cweb_source.specs.Lines.{IsNewlineAt}
 pub use Rattle.cweb_source.specs.Source.{IsLongerThan, Takes, TakesOf, pending, left_of}
 pub use Rattle.cweb_source.specs.declared.limits.TheConstants.{LINE_LENGTH}
 pub use Rattle.cweb_source.specs.declared.source.LineFault.TheVariants.{TooLong}

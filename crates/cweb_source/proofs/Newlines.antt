@@ -1,5 +1,5 @@
 -- The first newline of a text.
-use Rattle.cweb_source.proofs.Common.{◌≡◌, ◌≢◌, ◌≤◌, ◌<◌, ◌+◌, ◌-◌, ℕ, suc, true, false, List, [], ◌∷◌, ◌++◌, Option, Some, None, sym, ◌∙◌, ap, take, drop, get_or, length, zero, subst, arith, take-append-drop, append_assoc, length-append, drop-append-add, take-append_seam, drop_more, get_or-take, get_or-drop, length-take, length-drop, drop-take, drop-drop, nat_tests, IsFirstByte, is_byte, HasNewline, HasNoNewline, SplitsAt, IsNewlineAt, TextLine, byte_before, text_lines, onto_first, IsLongerThan, Takes, TakesOf, Full}
+use Rattle.cweb_source.proofs.Common.{◌≡◌, ◌≢◌, ◌≤◌, ◌<◌, ◌+◌, ◌-◌, ℕ, suc, true, false, List, [], ◌∷◌, ◌++◌, Option, Some, None, sym, ◌∙◌, ap, take, drop, get_or, length, subst, arith, take-append-drop, append_assoc, length-append, drop-append-add, take-append_seam, drop_more, get_or-take, length-take, drop-take, drop-drop, nat_tests, IsFirstByte, is_byte, HasNoNewline, SplitsAt, IsNewlineAt, TextLine, text_lines, onto_first, IsLongerThan, Takes, TakesOf, Full}
 
 pub no_newline : (xs : List ℕ) → ((k : ℕ) → k < length xs → get_or xs k 0 ≢ 10) → HasNoNewline xs
 no_newline [] none = tt
@@ -108,30 +108,6 @@ longer_first (b ∷ c ∷ front) rest none some =
       no_more b none.0 (c ∷ front ++ rest) [] ∙ ap (onto_first b) later.2,
       omega (arith, later.3),
     )
-
--- what stands in a piece behind its start, where a newline comes later in it
-pub whole_line : (piece : List ℕ) (start end at : ℕ) → start < at → at ≤ end → end ≤ length piece →
-    byte_before piece at ≡ 10 → HasNewline (take (end - start) (drop start piece))
-whole_line piece start end zero above whole within is = absurd (omega arith)
-whole_line piece start end (suc at) above whole within is = (
-  take (at - start) bytes,
-  drop (at - start + 1) bytes,
-  sym (take-append-drop (at - start) bytes) ∙ ap (λ (l : List ℕ). take (at - start) bytes ++ l)
-      (drop_more bytes (at - start) 0 near ∙ ap (λ n. n ∷ drop (at - start + 1) bytes) ten),
-)
-  where
-    bytes : List ℕ
-    bytes = take (end - start) (drop start piece)
-
-    near : at - start < length bytes
-    near = omega (arith, length-take (end - start) (drop start piece), length-drop start piece)
-
-    place : start + (at - start) ≡ at
-    place = omega arith
-
-    ten : get_or bytes (at - start) 0 ≡ 10
-    ten = get_or-take (end - start) (drop start piece) (at - start) 0 (omega arith)
-        ∙ get_or-drop start piece (at - start) 0 ∙ ap (λ n. get_or piece n 0) place ∙ is
 
 -- a newline behind bytes that have none
 splits_at : (a b : List ℕ) → HasNoNewline a → SplitsAt (a ++ 10 ∷ b) (length a)

@@ -80,10 +80,6 @@ abbrev pub IsNewlineAt : List ℕ → Option ℕ → Type 0
 IsNewlineAt text None = HasNoNewline text
 IsNewlineAt text (Some at) = SplitsAt text at
 
--- a whole line stands in a text
-abbrev pub HasNewline : List ℕ → Type 0
-HasNewline text = (line : List ℕ) × (rest : List ℕ) × (text ≡ line ++ 10 ∷ rest)
-
 -- the byte in front of a place, where the first stands as behind a newline
 abbrev pub byte_before : List ℕ → ℕ → ℕ
 byte_before text zero = 10

@@ -1,9 +1,8 @@
 // A text that is being read, and how a line of it ended.
 ghost use Rattle.std.specs.Prelude.{◌≡◌, ◌≤◌, ◌<◌, length, IfOk};
-ghost use Rattle.cweb_source.specs.Lines.{byte_before, HasNewline};
+ghost use Rattle.cweb_source.specs.Lines.{byte_before};
 ghost use Rattle.cweb_source.specs.declared.source.LineFault.TheVariants.{Memory};
 
-use crate::include::is_include;
 use crate::pieces::new_piece;
 use std::alloc::{AllocError, Global};
 
@@ -56,9 +55,7 @@ pub struct Source<R: Drop> {
 
 impl<R: Drop> Source<R> {
     ghost use Rattle.cweb_source.specs.Source.{pending};
-    ghost use Rattle.std.specs.Prelude.{[], IsTrue, false, nat_eq};
-    ghost use Rattle.cweb_source.specs.Include as include;
-    ghost use Rattle.std.specs.List.{starts_with};
+    ghost use Rattle.std.specs.Prelude.{[]};
 
     /// A reader of which nothing was read.
     pub fn new(alloc: Global, reader: R) -> Result<Self, AllocError>
@@ -89,28 +86,5 @@ impl<R: Drop> Source<R> {
         ensures { result ≡ self.piece }
     {
         self.piece
-    }
-
-    /// Whether the next line was read already and is no include line, so that it can be taken without a read. Only the
-    /// time of a write depends on it, never what is written.
-    pub fn has_line(&self) -> bool
-        ensures whole { IsTrue result → HasNewline (pending self.now) }
-        ensures plain { IsTrue result → include.is_include (pending self.now) ≡ false }
-        ensures found { self.now.start < self.now.lines_end →
-            include.is_include (pending self.now) ≡ false → IsTrue result }
-    {
-        self.start < self.lines_end && !is_include(&self.piece[self.start..self.end])
-    }
-
-    /// Whether what was read of the next line begins so. Only the time of a write depends on it. Most lines are told by
-    /// their first byte.
-    pub fn may_begin_with(&self, front: &[u8]) -> bool
-        ensures { result ≡ starts_with nat_eq (pending self.now) front.now }
-    {
-        let pending = &self.piece[self.start..self.end];
-        match (front.first(), pending.first()) {
-            (Some(wanted), Some(byte)) if wanted != byte => false,
-            _ => pending.starts_with(front),
-        }
     }
 }

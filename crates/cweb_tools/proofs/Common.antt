@@ -35,7 +35,8 @@ pub use Rattle.cweb_lines.specs.Texts.{read_blame, Count, StartStops, files_name
 pub use Rattle.cweb_lines.specs.Told.{given_lines, told_faults, openings, taken_lines, IsWithinLimits, AreShort}
 pub use Rattle.cweb_lines.specs.Total.{merge, merge-run}
 pub use Rattle.cweb_lines.specs.Whole.{Begins, StopsAtStart, so_far}
-pub use Rattle.cweb_lines.specs.Writing.{StopsWriting, WritingStops, WritesFront, write_blame, LongIn, text_of}
+pub use Rattle.cweb_lines.specs.Writing.{StopsWriting, WritingStops, WritesFront, write_blame, BreaksLimit}
+pub use Rattle.cweb_lines.specs.Writing.{begun_with, text_of}
 pub use Rattle.cweb_open.specs.declared.fault.SourceFault.{SourceFault}
 pub use Rattle.cweb_open.specs.declared.fault.SourceKind.{SourceKind}
 pub use Rattle.cweb_open.specs.declared.fault.SourceKind.TheVariants.{Unequal, NotThere}
@@ -106,7 +107,7 @@ pub use Rattle.cweb_tools.specs.Does.{Follows, held}
 pub use Rattle.cweb_tools.specs.Expanders.{PrintsSoFar, StaysReady, left_in, AreMarksBelow, IsReady, ended_at, file_at}
 pub use Rattle.cweb_tools.specs.Expanders.{files_due}
 pub use Rattle.cweb_tools.specs.Leaves.{put_files, LeavesFiles}
-pub use Rattle.cweb_tools.specs.Run.{about, AreOpened, CanStop, Comes, Ends, Merges, PassesSums, Refuses, HasMerged}
+pub use Rattle.cweb_tools.specs.Run.{about, AreOpened, CanStop, Comes, Ends, Merges, Refuses, HasMerged}
 pub use Rattle.cweb_tools.specs.Run.{Blames, Completes, FailsOnce, IsMerge, Promises, RanFreely, TellsFaults}
 pub use Rattle.cweb_tools.specs.Script.{files_in, items_in, Numbers, closing_acts, unread, not_there, change_not_there}
 pub use Rattle.cweb_tools.specs.Script.{Planning, refused, Web, planned_acts, script, starred_acts, tangle_files}

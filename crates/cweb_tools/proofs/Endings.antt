@@ -1,7 +1,7 @@
 -- What the promises of a run say of its endings.
 use Rattle.cweb_tools.proofs.Common.{◌≡◌, inl, inr, ℕ, List, [], ◌∷◌, refl, ap, arith, Some, None, Stop, Usage, WebNotOpened, ChangeNotOpened, ReadFault, LineTooLong, TooMuchText, Memory, OutNotOpened, WriteFault, LogFault, Held, Act, judges, reads, after_act, ending, Breaks, Runs, TangleEnds, completes, stops, RunsFreely, DoesAll, IsStopped, IsEnded, KeepLimits}
 use Rattle.cweb_tools.proofs.AllDone.{files_all, log_all}
-use Rattle.cweb_tools.proofs.Limits.{long_beyond, much_beyond}
+use Rattle.cweb_tools.proofs.Limits.{beyond}
 use Rattle.cweb_tools.proofs.Stopping.{is_stopped}
 
 pub counts_all : (acts : List Act) (old new : Held) → Runs acts None old new
@@ -48,8 +48,8 @@ cause_more stop within more part cause = tt
 
 cause_at : (act : Act) (acts : List Act) (stop : Stop) (about : List ℕ) (old new : Held)
     → Breaks act (ending stop about) old new → Cause stop (KeepLimits (act ∷ acts))
-cause_at (reads names events) acts (LineTooLong file) about old new broke = λ within. long_beyond broke.1 within.0
-cause_at (reads names events) acts TooMuchText about old new broke = λ within. much_beyond events broke.0 within.0
+cause_at (reads names events) acts (LineTooLong file) about old new broke = λ within. beyond (LineTooLong file) events broke.1 within.0
+cause_at (reads names events) acts TooMuchText about old new broke = λ within. beyond TooMuchText events broke.0 within.0
 cause_at act acts (ReadFault file) about old new broke = tt
 cause_at act acts Memory about old new broke = tt
 cause_at act acts OutNotOpened about old new broke = tt

@@ -1,5 +1,5 @@
 -- How the exits of a run that come before it writes are its ends.
-use Rattle.cweb_tools.proofs.Common.{◌≤◌, ◌≡◌, ◌⊎◌, inl, inr, ℕ, List, [], ◌∷◌, ◌++◌, refl, sym, ◌∙◌, ap, subst, append-nil, append_assoc, arith, Option, Some, None, IsTrue, names_found, World, Found, Line, Event, SoFar, Gives, StopsBehind, TellsFront, blame, Count, StartStops, files_named, read_blame, given_lines, told_faults, openings, taken_lines, IsWithinLimits, Begins, StopsAtStart, StopsWriting, WritingStops, WritesFront, write_blame, LINES, BYTES, Stop, Usage, WebNotOpened, ChangeNotOpened, ReadFault, LineTooLong, TooMuchText, Memory, WriteFault, Logs, stop_line, start_subject, subject, Seen, SeenStream, WebNames, Course, merging, asked_course, change_name, found_course, usage, about, AreOpened, CanStop, Comes, Ends, Merges, PassesSums, Refuses}
+use Rattle.cweb_tools.proofs.Common.{◌≤◌, ◌≡◌, ◌⊎◌, inl, inr, ℕ, List, [], ◌∷◌, ◌++◌, refl, sym, ◌∙◌, ap, subst, append-nil, append_assoc, arith, Option, Some, None, IsTrue, names_found, World, Found, Line, Event, SoFar, Gives, StopsBehind, BreaksLimit, begun_with, TellsFront, blame, StartStops, files_named, read_blame, given_lines, told_faults, openings, taken_lines, IsWithinLimits, Begins, StopsAtStart, StopsWriting, WritingStops, WritesFront, write_blame, LINES, BYTES, Stop, Usage, WebNotOpened, ChangeNotOpened, ReadFault, LineTooLong, TooMuchText, Memory, WriteFault, Logs, stop_line, start_subject, subject, Seen, SeenStream, WebNames, Course, merging, asked_course, change_name, found_course, usage, about, AreOpened, CanStop, Comes, Ends, Merges, Refuses}
 use Rattle.cweb_lines.proofs.Sums.{openings-append}
 use Rattle.cweb_tools.specs.Course.{unread, not_there, change_not_there}
 use Rattle.cweb_tools.specs.Run.{stops}
@@ -93,10 +93,6 @@ module _ (before after : Seen) (status : ℕ) (read : after.shelf.failed ≡ bef
       not_begun names _ Memory tt (omega arith) refl refl refl (λ tells. tt) logs
   start_stopped world names found changes stop comes why logs = absurd comes
 
--- what a merge has told and taken that begins with these files open
-abbrev pub begun_with : List (List ℕ) → SoFar
-begun_with first = record { faults = []; names = first; count = record { lines = 0; bytes = 0 } }
-
 -- the names that a merge has told when it stops are among those that it opens in all
 pub opened_by : (first : List (List ℕ)) {old new : SoFar} {events : List Event}
     → old ≡ begun_with first → TellsFront old new events
@@ -130,33 +126,30 @@ module _ (first : List (List ℕ)) (all : List Event) (old new : SoFar)
         small = omega (arith, gives.bytes_are, small);
       })
 
--- with one more line than was taken a sum would pass its limit, and that line is among all
-pub passes_sums : (first : List (List ℕ)) (old : SoFar) {now : Count} {lines : List Line} {events : List Event}
-    → old ≡ begun_with first → StopsBehind lines TooMuchText old.count now events → PassesSums events
-passes_sums first old {lines} began ahead =
-    let no_lines : old.count.lines ≡ 0 = ap (λ (s : SoFar). s.count.lines) began in
-    let no_bytes : old.count.bytes ≡ 0 = ap (λ (s : SoFar). s.count.bytes) began in
-    elim ahead.why.passes [
-      | inl taken ↦ inl (omega (arith, taken, ahead.few, no_lines))
-      | inr bytes ↦ inr (omega (arith, bytes, ahead.small, no_bytes))
-    ]
+-- a merge that began with these files breaks a limit
+pub breaks_limit : (stop : Stop) (first : List (List ℕ)) (lines : List Line) (old new : SoFar) (events : List Event)
+    → old ≡ begun_with first → new.count.lines ≤ LINES → new.count.bytes ≤ BYTES
+    → StopsBehind lines stop old new events → BreaksLimit stop events
+breaks_limit stop first lines old new events began few small behind = record {
+  first = first;
+  lines = lines;
+  new = new;
+  stops = subst (λ (so : SoFar). StopsBehind lines stop so new events) began behind;
+  few = few;
+  small = small;
+}
 
-pub writing_cause : (stop : Stop) (first : List (List ℕ))
-    (old : SoFar) (now : Count) (events : List Event) (Wrote : List ℕ → Type 0) → old ≡ begun_with first
-    → WritingStops stop → StopsWriting stop old.count now events Wrote → CanStop stop (merging first events)
-writing_cause (ReadFault file) first old now events Wrote began kind why = tt
-writing_cause (LineTooLong file) first old now events Wrote began kind why =
-    record {
-      events = why.stops.events;
-      line = why.stops.line;
-      later = why.stops.later;
-      whole = why.stops.whole;
-      why = why.stops.why;
-    }
-writing_cause TooMuchText first old now events Wrote began kind why = passes_sums first old began why.stops
-writing_cause Memory first old now events Wrote began kind why = tt
-writing_cause WriteFault first old now events Wrote began kind why = tt
-writing_cause stop first old now events Wrote began kind why = absurd kind
+pub writing_cause : (stop : Stop) (first : List (List ℕ)) (old new : SoFar) (events : List Event)
+    (Wrote : List ℕ → Type 0) → old ≡ begun_with first → new.count.lines ≤ LINES → new.count.bytes ≤ BYTES
+    → WritingStops stop → StopsWriting stop old new events Wrote → CanStop stop (merging first events)
+writing_cause (ReadFault file) first old new events Wrote began few small kind why = tt
+writing_cause (LineTooLong file) first old new events Wrote began few small kind why =
+    breaks_limit _ first why.lines old new events began few small why.stops
+writing_cause TooMuchText first old new events Wrote began few small kind why =
+    breaks_limit _ first why.lines old new events began few small why.stops
+writing_cause Memory first old new events Wrote began few small kind why = tt
+writing_cause WriteFault first old new events Wrote began few small kind why = tt
+writing_cause stop first old new events Wrote began few small kind why = absurd kind
 
 pub writing_comes : (stop : Stop) → WritingStops stop → Comes stop
 writing_comes (ReadFault file) kind = tt

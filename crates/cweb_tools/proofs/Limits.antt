@@ -1,22 +1,99 @@
--- What passes the limits, and is not within them.
-use Rattle.cweb_tools.proofs.Common.{◌≤◌, inl, inr, List, [], ◌∷◌, ◌++◌, arith, FileId, SourceLine, Event, took, given, opening, AreShort, IsWithinLimits, taken_lines, LongIn, LINE_LENGTH, PassesSums}
+-- A merge that breaks a limit is not within the limits.
+use Rattle.cweb_tools.proofs.Common.{◌≡◌, ◌≤◌, ◌<◌, ◌+◌, ◌⊎◌, inl, inr, List, [], ◌∷◌, ◌++◌, refl, ◌∙◌, ap, subst, arith, length, length-append, append_assoc, map, SourceLine, Event, BreaksLimit, StopsBehind, begun_with, AreShort, IsWithinLimits, taken_lines, LINE_LENGTH, LINES, BYTES, SourceFault, Stop, LineTooLong, TooMuchText}
 use Rattle.cweb_lines.specs.Merge.{fault}
+use Rattle.cweb_lines.specs.Merging.{ComesFirst, HasBegun, step_events}
+use Rattle.cweb_lines.specs.Told.{size_of}
+use Rattle.cweb_lines.proofs.Adds.{taken-took}
+use Rattle.cweb_lines.proofs.Sums.{size-append, taken-append}
 
 -- a line that is taken among others has no more bytes than it may
-short_at : (events : List Event) (line : SourceLine) (later : List Event)
-    → AreShort (taken_lines (events ++ took line ∷ later)) → line.length ≤ LINE_LENGTH
-short_at [] line later short = short.0
-short_at (took l ∷ events) line later short = short_at events line later short.1
-short_at (given l ∷ events) line later short = short_at events line later short
-short_at (fault f ∷ events) line later short = short_at events line later short
-short_at (opening n ∷ events) line later short = short_at events line later short
+short_at : (before after : List SourceLine) (line : SourceLine) → AreShort (before ++ line ∷ after) →
+    line.length ≤ LINE_LENGTH
+short_at [] after line short = short.0
+short_at (l ∷ before) after line short = short_at before after line short.1
 
--- a line that is too long is none of these
-pub long_beyond : {file : FileId} {events : List Event} → LongIn file events → IsWithinLimits (taken_lines events) → ⊥
-long_beyond {events} why within =
-    omega (arith, short_at why.events why.line why.later (rw (← why.whole) within.short), why.why.1)
+taken-faults : (faults : List SourceFault) → taken_lines (map fault faults) ≡ []
+taken-faults [] = refl
+taken-faults (f ∷ faults) = taken-faults faults
 
--- nor do more lines or bytes come than may be
-pub much_beyond : (events : List Event) → PassesSums events → IsWithinLimits (taken_lines events) → ⊥
-much_beyond events why within =
-    elim why [ inl lines ↦ omega (arith, lines, within.few) | inr bytes ↦ omega (arith, bytes, within.small) ]
+taken-step : (lines raws : List SourceLine) (faults : List SourceFault) (later : List Event) →
+    taken_lines (step_events lines raws faults later) ≡ lines ++ (raws ++ taken_lines later)
+taken-step lines raws faults later = simp (taken-append, taken-took, taken-faults)
+
+module _ {stop : Stop} {events : List Event} (why : BreaksLimit stop events) where
+  abbrev b : StopsBehind why.lines stop (begun_with why.first) why.new events
+  b = why.stops
+
+  abbrev begun : HasBegun b.mid why.new b.lines b.raws b.faults
+  begun = b.stops.begun
+
+  abbrev line : SourceLine
+  line = b.stops.line
+
+  all : taken_lines events ≡ taken_lines b.gives.events ++ ((begun.front ++ begun.rest)
+      ++ ((begun.raw_front ++ begun.raw_rest) ++ taken_lines b.later))
+  all = ap taken_lines b.gives.whole ∙ taken-append b.gives.events _
+      ∙ ap (λ (ls : List SourceLine). taken_lines b.gives.events ++ ls) (taken-step b.lines b.raws b.faults b.later
+      ∙ (λ i. begun.lines_are i ++ (begun.raws_are i ++ taken_lines b.later)))
+
+  long : ComesFirst line begun.rest ⊎ ComesFirst line begun.raw_rest → LINE_LENGTH < line.length
+      → AreShort (taken_lines events) → ⊥
+  long (inl next) longer short = omega (
+    arith,
+    longer,
+    short_at (taken_lines b.gives.events ++ begun.front)
+        (next.0 ++ ((begun.raw_front ++ begun.raw_rest) ++ taken_lines b.later)) line
+        (subst AreShort (all ∙ simp (next.1, append_assoc)) short),
+  )
+  long (inr next) longer short = omega (
+    arith,
+    longer,
+    short_at (taken_lines b.gives.events ++ ((begun.front ++ begun.rest) ++ begun.raw_front))
+        (next.0 ++ taken_lines b.later) line (subst AreShort (all ∙ simp (next.1, append_assoc)) short),
+  )
+
+  lines_all : length (taken_lines events) ≡ length (taken_lines b.gives.events) + ((length begun.front
+      + length begun.rest) + ((length begun.raw_front + length begun.raw_rest) + length (taken_lines b.later)))
+  lines_all = ap (λ (ls : List SourceLine). length ls) all ∙ simp length-append
+
+  bytes_all : size_of (taken_lines events) ≡ size_of (taken_lines b.gives.events) + ((size_of begun.front
+      + size_of begun.rest) + ((size_of begun.raw_front + size_of begun.raw_rest) + size_of (taken_lines b.later)))
+  bytes_all = ap size_of all ∙ simp size-append
+
+  next_lines : ComesFirst line begun.rest ⊎ ComesFirst line begun.raw_rest → 1 ≤ length begun.rest
+      + length begun.raw_rest
+  next_lines (inl next) = omega (arith, ap (λ (ls : List SourceLine). length ls) next.1)
+  next_lines (inr next) = omega (arith, ap (λ (ls : List SourceLine). length ls) next.1)
+
+  next_bytes : ComesFirst line begun.rest ⊎ ComesFirst line begun.raw_rest → line.size ≤ size_of begun.rest
+      + size_of begun.raw_rest
+  next_bytes (inl next) = omega (arith, ap size_of next.1)
+  next_bytes (inr next) = omega (arith, ap size_of next.1)
+
+  much : (why.new.count.lines ≡ LINES) ⊎ (BYTES < why.new.count.bytes + line.size)
+      → IsWithinLimits (taken_lines events) → ⊥
+  much (inl full) within = omega (
+    arith,
+    full,
+    within.few,
+    lines_all,
+    next_lines b.stops.next,
+    begun.adds.lines_are,
+    length-append begun.front begun.raw_front,
+    b.gives.lines_are,
+  )
+  much (inr larger) within = omega (
+    arith,
+    larger,
+    within.small,
+    bytes_all,
+    next_bytes b.stops.next,
+    begun.adds.bytes_are,
+    size-append begun.front begun.raw_front,
+    b.gives.bytes_are,
+  )
+
+pub beyond : (stop : Stop) (events : List Event) → BreaksLimit stop events → IsWithinLimits (taken_lines events) → ⊥
+beyond (LineTooLong file) events why within = long why why.stops.stops.next why.stops.stops.why.1 within.short
+beyond TooMuchText events why within = much why why.stops.stops.why.passes within
+beyond stop events why within = absurd why.stops.stops.why

@@ -43,17 +43,18 @@ module _ (world : World) (names : WebNames) (found : Option Found) (changes : Op
       })
 
   pub stopped : (stop : Stop) (new : SoFar) (files : List (List ℕ)) (Wrote : List ℕ → Type 0) → files ≡ new.names
-      → WritingStops stop → (IsTrue before.shelf.tells → StopsWriting stop old.count new.count all Wrote)
+      → new.count.lines ≤ LINES → new.count.bytes ≤ BYTES → WritingStops stop
+      → (IsTrue before.shelf.tells → StopsWriting stop old new all Wrote)
       → files_named stop ≤ length new.names → (IsTrue before.shelf.tells → TellsFront old new all) → after.shelf.failed
       ≡ before.shelf.failed + read_blame stop → (IsTrue before.shelf.tells → after.shelf.blamed ≡ before.shelf.blamed
       ++ blame new.names stop) → after.out.failed ≡ before.out.failed + write_blame stop → (IsTrue before.shelf.tells
       → IsTrue before.out.tells → WritesFront before.out.bytes after.out.bytes (text_of (given_lines all)))
       → Logs (stop_line stop (subject files stop)) before.log after.log
       → status ≡ 1 → Merges names (found_course world names found changes) before after status
-  stopped stop new files Wrote files_are kind why named front read whose out written logs answered = stops (record {
+  stopped stop new files Wrote files_are few small kind why named front read whose out written logs answered = stops (record {
     stop = stop;
     comes = writing_comes stop kind;
-    cause = λ tells. rw (begun tells) (writing_cause stop _ old new.count all Wrote (begins tells).so_far_is kind
+    cause = λ tells. rw (begun tells) (writing_cause stop _ old new all Wrote (begins tells).so_far_is few small kind
         (why tells));
     files = files;
     named = rw files_are named;

@@ -1,15 +1,15 @@
 -- What the ends of a run come to, in the words of its promises.
 use Rattle.cweb_tools.proofs.Common.{◌≤◌, ◌≡◌, inl, inr, ℕ, ◌+◌, List, [], ◌∷◌, ◌++◌, refl, sym, ◌∙◌, ap, append-nil, arith, Option, Some, None, IsTrue, FileId, World, Found, web_at, change_at, read_blame, WritesFront, write_blame, SourceFault, Stop, Usage, WebNotOpened, ChangeNotOpened, ReadFault, LineTooLong, TooMuchText, Memory, WriteFault, Logs, fault_lines, stop_line, Seen, SeenStream, Tell, WebNames, Course, merging, asked_course, fault_status, found_course, merged, StaysWithin, about, Blames, CanStop, Completes, Ends, FailsOnce, HasMerged, IsMerge, Merges, Promises, RanFreely, TellsFaults}
 use Rattle.cweb_tools.specs.Run.{completes, Prints, stops}
-use Rattle.cweb_tools.proofs.Limits.{long_beyond, much_beyond}
+use Rattle.cweb_tools.proofs.Limits.{beyond}
 
 -- a course that a limit stops does not stay within them
 course_long : (course : Course) (file : FileId) → CanStop (LineTooLong file) course → StaysWithin course → ⊥
-course_long (merging first events) file why within = long_beyond why within
+course_long (merging first events) file why within = beyond (LineTooLong file) events why within
 course_long course file why within = absurd why
 
 course_much : (course : Course) → CanStop TooMuchText course → StaysWithin course → ⊥
-course_much (merging first events) why within = much_beyond events why within
+course_much (merging first events) why within = beyond TooMuchText events why within
 course_much course why within = absurd why
 
 no_front : (front rest : List ℕ) → [] ≡ front ++ rest → front ≡ []

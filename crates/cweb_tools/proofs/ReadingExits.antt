@@ -48,9 +48,9 @@ module _ (asked : Asked) (world : World) (found : Option Found) (changes : Optio
   pub read_stops : (stop : Stop) (opened : List (List ℕ)) (l' : SeenStream) → opened ≡ new.names → StopsReading stop
       → (IsTrue shelf.tells → EndsEarly stop old new all) → shelf'.failed ≡ shelf.failed + read_blame stop
       → (IsTrue shelf.tells → shelf'.blamed ≡ shelf.blamed ++ blame new.names stop)
-      → files_named stop ≤ length new.names → Logs (stop_line stop (subject opened stop)) l l'
-      → status ≡ 1 → EndsAs asked (tangled asked.names.main merged) (at shelf bins l) (at shelf' bins l') status
-  read_stops stop opened l' opened_are kind why failed blamed named logs answered =
+      → files_named stop ≤ length new.names → new.count.lines ≤ LINES → new.count.bytes ≤ BYTES
+      → Logs (stop_line stop (subject opened stop)) l l' → status ≡ 1 → EndsAs asked (tangled asked.names.main merged) (at shelf bins l) (at shelf' bins l') status
+  read_stops stop opened l' opened_are kind why failed blamed named few small logs answered =
       let whose : IsTrue shelf.tells → shelf'.blamed ≡ shelf.blamed ++ blame opened stop = λ tell. blamed tell
       ∙ ap (λ (ns : List (List ℕ)). shelf.blamed ++ blame ns stop) (sym opened_are) in
       let known : files_named stop ≤ length opened = rw opened_are named in
@@ -62,8 +62,8 @@ module _ (asked : Asked) (world : World) (found : Option Found) (changes : Optio
               is = λ tell. refl;
               closes = halts stop (subject opened stop) l' (tangled asked.names.main merged) kind logs answered
                   (rw (begun told) (breaks_so stop
-                  opened _ all _ kind failed whose (λ now. reads_broke stop _ opened front.0 old new.count all now
-                  (begins told).so_far_is kind (why told).why front.1 known)));
+                  opened _ all _ kind failed whose (λ now. reads_broke stop _ opened front.0 old new all now
+                  (begins told).so_far_is few small kind (why told).why front.1 known)));
             }
         | inr silent ↦
             let web = web_of opened [] (scanned []) asked.names.main in record {

@@ -1,6 +1,9 @@
 -- What a stop of reading leaves, and why reading ended before its end.
-use Rattle.cweb_tools.proofs.Common.{◌≤◌, ◌≡◌, ◌+◌, inr, ℕ, List, [], ◌∷◌, ◌++◌, length, length-append, refl, sym, ◌∙◌, ap, add-zero, append-nil, arith, get_or-append, IsTrue, FileId, SourceLine, Event, took, SoFar, blame, Count, StopsFor, StopsReading, files_named, read_blame, openings, IsWithinLimits, LINE_LENGTH, BYTES, Stop, ReadFault, LineTooLong, TooMuchText, Memory, OutNotOpened, WriteFault, LogFault, StopsAfter, name_at, stop_line, subject, Logs, SeenBins, SeenShelf, SeenStream, Breaks, ending, Held, IsOfFile, reads, read_fails, AsTold, LogsEnding, bins_blame, log_blame}
-use Rattle.cweb_tools.proofs.Exits.{begun_with, passes_sums}
+use Rattle.cweb_tools.proofs.Common.{◌≤◌, ◌≡◌, ◌+◌, inl, inr, ℕ, List, [], ◌∷◌, ◌++◌, length, length-append, refl, sym, ◌∙◌, ap, add-zero, append-nil, arith, get_or-append, IsTrue, FileId, SourceLine, Event, took, SoFar, BreaksLimit, begun_with, blame, StopsFor, StopsReading, files_named, read_blame, openings, IsWithinLimits, LINE_LENGTH, LINES, BYTES, Stop, ReadFault, LineTooLong, TooMuchText, Memory, OutNotOpened, WriteFault, LogFault, StopsAfter, name_at, stop_line, subject, Logs, SeenBins, SeenShelf, SeenStream, Breaks, ending, Held, IsOfFile, reads, read_fails, AsTold, LogsEnding, bins_blame, log_blame}
+use Rattle.cweb_lines.proofs.Adds.{begun_none}
+use Rattle.cweb_lines.proofs.Stops.{stops_first}
+use Rattle.cweb_lines.specs.Texts.{Refuses}
+use Rattle.cweb_tools.proofs.Exits.{breaks_limit}
 use Rattle.cweb_tools.proofs.Logging.{at}
 use Rattle.cweb_tools.proofs.TangleExits.{looked, shelf_told}
 
@@ -30,27 +33,21 @@ left_told stop files {now} shelf shelf' bins l kind told tells blames blamed = l
     (blames ∙ add-zero shelf.failed) (λ tell. blamed tell ∙ append-nil shelf.blamed) bins l l now told
 
 -- why reading ended before its end
-pub reads_broke : (stop : Stop) (first opened rest : List (List ℕ)) (old : SoFar) (count : Count) (all : List Event)
-    (now : Held) → old ≡ begun_with first → StopsReading stop → StopsFor (StopsAfter stop old.count count all) stop
-    → first ++ openings all ≡ opened ++ rest → files_named stop ≤ length opened → Breaks
+pub reads_broke : (stop : Stop) (first opened rest : List (List ℕ)) (old new : SoFar) (all : List Event)
+    (now : Held) → old ≡ begun_with first → new.count.lines ≤ LINES → new.count.bytes ≤ BYTES → StopsReading stop
+    → StopsFor (StopsAfter stop old new all) stop → first ++ openings all ≡ opened ++ rest → files_named stop ≤ length opened → Breaks
     (reads (first ++ openings all) all) (ending stop (subject opened stop)) now (left_by stop (subject opened stop) now)
-reads_broke (ReadFault file) first opened rest old count all now began kind why names known =
+reads_broke (ReadFault file) first opened rest old new all now began few small kind why names known =
     (of_file _ opened rest file.0 names known, refl)
-reads_broke (LineTooLong file) first opened rest old count all now began kind why names known = (
+reads_broke (LineTooLong file) first opened rest old new all now began few small kind why names known = (
   of_file _ opened rest file.0 names known,
-  record {
-    events = why.stops.events;
-    line = why.stops.line;
-    later = why.stops.later;
-    whole = why.stops.whole;
-    why = why.stops.why;
-  },
+  breaks_limit _ first why.lines old new all began few small why.stops,
   refl,
 )
-reads_broke TooMuchText first opened rest old count all now began kind why names known =
-    (passes_sums first old began why.stops, refl)
-reads_broke Memory first opened rest old count all now began kind why names known = refl
-reads_broke stop first opened rest old count all now began kind why names known = absurd kind
+reads_broke TooMuchText first opened rest old new all now began few small kind why names known =
+    (breaks_limit _ first why.lines old new all began few small why.stops, refl)
+reads_broke Memory first opened rest old new all now began few small kind why names known = refl
+reads_broke stop first opened rest old new all now began few small kind why names known = absurd kind
 
 -- a line that is too long, and one that is too much text
 abbrev line_of : FileId → ℕ → ℕ → SourceLine
@@ -63,16 +60,37 @@ read_by (LineTooLong file) = took (line_of file (LINE_LENGTH + 1) 0) ∷ []
 read_by TooMuchText = took (line_of (record { 0 = 0 }) 0 (BYTES + 1)) ∷ []
 read_by stop = []
 
+-- a merge whose first line breaks a limit
+breaks_first : (stop : Stop) (line : SourceLine) → Refuses stop (record { lines = 0; bytes = 0 }) line →
+    BreaksLimit stop (took line ∷ [])
+breaks_first stop line why = record {
+  first = [];
+  lines = [];
+  new = begun_with [];
+  stops = stops_first stop (line ∷ []) [] [] (begun_with []) (begun_with []) _ [] refl (record {
+    begun = begun_none (begun_with []) (begun_with []) (line ∷ []) [] [] refl;
+    line = line;
+    next = inl ([], refl);
+    why = why;
+  });
+  few = omega arith;
+  small = omega arith;
+}
+
 pub silent_broke : (stop : Stop) (files : List (List ℕ)) (now : Held) → StopsReading stop
     → files_named stop ≤ length files
     → Breaks (reads files (read_by stop)) (ending stop (subject files stop)) now (left_by stop (subject files stop) now)
 silent_broke (ReadFault file) files now kind known = (record { known = omega (arith, known); named = refl }, refl)
 silent_broke (LineTooLong file) files now kind known = (
   record { known = omega (arith, known); named = refl },
-  record { events = []; line = line_of file (LINE_LENGTH + 1) 0; later = []; whole = refl; why = (refl, omega arith) },
+  breaks_first (LineTooLong file) (line_of file (LINE_LENGTH + 1) 0) (refl, omega arith),
   refl,
 )
-silent_broke TooMuchText files now kind known = (inr (omega arith), refl)
+silent_broke TooMuchText files now kind known = (
+  breaks_first TooMuchText (line_of (record { 0 = 0 }) 0 (BYTES + 1))
+      (record { passes = inr (omega arith); short = omega arith }),
+  refl,
+)
 silent_broke Memory files now kind known = refl
 silent_broke stop files now kind known = absurd kind
 

@@ -3,12 +3,11 @@ use Rattle.std.specs.Prelude.{◌≡◌, ◌<◌, ◌⊎◌, ℕ, ◌+◌, lengt
 use Rattle.cweb_files.specs.Files.{File, Refused, no_device, no_memory, put_file}
 use Rattle.cweb_lines.specs.Merge.{Event}
 use Rattle.cweb_lines.specs.Told.{IsWithinLimits, taken_lines}
-use Rattle.cweb_lines.specs.Writing.{LongIn}
+use Rattle.cweb_lines.specs.Writing.{BreaksLimit}
 use Rattle.cweb_open.specs.declared.stop.Stop.{Stop}
 use Rattle.cweb_open.specs.declared.stop.Stop.TheVariants.{ReadFault, LineTooLong, TooMuchText, Memory, OutNotOpened, WriteFault, LogFault}
 use Rattle.cweb_log.specs.Items.{Item, line}
 use Rattle.cweb_log.specs.Log.{name_at, stop_line}
-use Rattle.cweb_tools.specs.Run.{PassesSums}
 
 -- what the devices of a run hold, and how often each has failed
 pub record Held : Type 0 where
@@ -92,8 +91,9 @@ Breaks judges (ending Memory about) old new = new ≡ old
 Breaks (says item) (ending LogFault about) old new = FailsLog (line item) old new
 Breaks opens (ending Memory about) old new = new ≡ old
 Breaks (reads names events) (ending (ReadFault file) about) old new = IsOfFile names file.0 about × (new ≡ read_fails about old)
-Breaks (reads names events) (ending (LineTooLong file) about) old new = IsOfFile names file.0 about × LongIn file events × (new ≡ old)
-Breaks (reads names events) (ending TooMuchText about) old new = PassesSums events × (new ≡ old)
+Breaks (reads names events) (ending (LineTooLong file) about) old new =
+    IsOfFile names file.0 about × BreaksLimit (LineTooLong file) events × (new ≡ old)
+Breaks (reads names events) (ending TooMuchText about) old new = BreaksLimit TooMuchText events × (new ≡ old)
 Breaks (reads names events) (ending Memory about) old new = new ≡ old
 Breaks plans (ending Memory about) old new = new ≡ old
 Breaks reserves (ending Memory about) old new = new ≡ old

@@ -1,13 +1,11 @@
 -- What a run of `wmerge` leaves in its devices. Each sentence asks only of the devices it speaks of that they tell what they hold.
-use Rattle.std.specs.Prelude.{◌≡◌, ◌≢◌, ◌⊎◌, ◌≤◌, ◌<◌, ℕ, ◌+◌, length, List, [], ◌++◌, codes, Option, None, Some, IsTrue}
+use Rattle.std.specs.Prelude.{◌≡◌, ◌≢◌, ◌≤◌, ℕ, ◌+◌, length, List, [], ◌++◌, codes, Option, None, Some, IsTrue}
 use Rattle.cweb_lines.specs.Include.{World}
-use Rattle.cweb_lines.specs.Merge.{Event}
 use Rattle.cweb_lines.specs.Naming.{blame}
 use Rattle.cweb_lines.specs.Texts.{files_named, read_blame}
-use Rattle.cweb_lines.specs.Told.{told_faults, openings, taken_lines, size_of, IsWithinLimits}
-use Rattle.cweb_lines.specs.Writing.{WritesFront, LongIn, write_blame}
+use Rattle.cweb_lines.specs.Told.{told_faults, openings, taken_lines, IsWithinLimits}
+use Rattle.cweb_lines.specs.Writing.{BreaksLimit, WritesFront, write_blame}
 use Rattle.cweb_open.specs.declared.fault.SourceFault.{SourceFault}
-use Rattle.cweb_open.specs.declared.limits.TheConstants.{LINES, BYTES}
 use Rattle.cweb_open.specs.declared.stop.Stop.{Stop}
 use Rattle.cweb_open.specs.declared.stop.Stop.TheVariants.{Usage, WebNotOpened, ChangeNotOpened, ReadFault, LineTooLong, TooMuchText, Memory, WriteFault}
 use Rattle.cweb_log.specs.Gathering.{Logs}
@@ -42,17 +40,13 @@ pub record Completes (course : Course) (before after : Seen) (status : ℕ) : Ty
   pub answered : after.log.failed ≡ before.log.failed → status ≡ fault_status faults
   pub failed : after.log.failed ≢ before.log.failed → status ≡ 1
 
--- more lines or more bytes are to be taken than may be
-abbrev pub PassesSums : List Event → Type 0
-PassesSums events = (LINES < length (taken_lines events)) ⊎ (BYTES < size_of (taken_lines events))
-
--- a stop to which a course can come; a limit that it names is one that the course breaks, in a line of that very file
+-- A stop to which a course can come. A limit that it names is the first that the course breaks.
 abbrev pub CanStop : Stop → Course → Type 0
 CanStop WebNotOpened (not_there web) = Unit {0}
 CanStop ChangeNotOpened (change_not_there change) = Unit {0}
 CanStop (ReadFault file) (merging first events) = Unit {0}
-CanStop (LineTooLong file) (merging first events) = LongIn file events
-CanStop TooMuchText (merging first events) = PassesSums events
+CanStop (LineTooLong file) (merging first events) = BreaksLimit (LineTooLong file) events
+CanStop TooMuchText (merging first events) = BreaksLimit TooMuchText events
 CanStop WriteFault (merging first events) = Unit {0}
 CanStop Memory course = Unit {0}
 CanStop stop course = ⊥

@@ -4,9 +4,9 @@ ghost use Rattle.cweb_files.specs.Frames.{KeepsTexts};
 ghost use Rattle.cweb_lines.specs.Calls.{GoesOn, TakesAway};
 ghost use Rattle.cweb_lines.specs.Change.{old_lines};
 ghost use Rattle.cweb_open.specs.Counts.{count_of};
-ghost use Rattle.cweb_lines.specs.Merging.{KeepsTold, StopsAmong, TellsSome, change_lines, things_of, told_by};
+ghost use Rattle.cweb_lines.specs.Merging.{EndsStep, KeepsTold, TellsSome, change_lines, things_of, told_by};
 ghost use Rattle.cweb_open.specs.Names.{names_of};
-ghost use Rattle.cweb_lines.specs.Replacing.{Compares, IsChanged, IsReplaced, closing_faults, faults_replaced, lines_replaced, list_if};
+ghost use Rattle.cweb_lines.specs.Replacing.{Compares, IsChanged, IsReplaced, closing_faults, faults_replaced, list_if, taken_away};
 ghost use Rattle.cweb_lines.specs.Seeking.{ToldFront};
 ghost use Rattle.cweb_lines.specs.Stages.{floor_of};
 ghost use Rattle.cweb_open.specs.Texts.{ReadBlames, StopsFor, StopsReading, TopStops, files_named, things_above};
@@ -94,9 +94,11 @@ fn replace<S: Shelf>(
         (change_lines (S.left shelf.new) run.new)
         (things_above (S.left shelf.new) 0 run.new.stack []) (told_by run.old) (told_by run.new)) }
     ensures stops { IsTrue (S.tells shelf.old) →
-        IfErr result (λ stop. StopsFor (StopsAmong stop (count_of run.old.limits)
-        (count_of run.new.limits) (lines_replaced (change_lines (S.left shelf.old) run.old)
-        (things_above (S.left shelf.old) 0 run.old.stack []))) stop) }
+        IfErr result (λ stop. EndsStep stop (told_by run.old) (told_by run.new)
+        (old_lines (change_lines (S.left shelf.old) run.old)).taken
+        (taken_away (change_lines (S.left shelf.old) run.old)
+        (things_above (S.left shelf.old) 0 run.old.stack [])).taken
+        (old_lines (change_lines (S.left shelf.old) run.old)).faults) }
     ensures told { IsTrue (S.tells shelf.old) →
         OnErr result (TellsSome (old_lines (change_lines (S.left shelf.old) run.old)).faults
         (told_by run.old) (told_by run.new)) }
@@ -203,9 +205,12 @@ pub fn begin_change<S: Shelf>(
         (change_lines (S.left shelf.new) run.new) (things_of (S.left shelf.new) run.new)
         (told_by run.old) (told_by run.new)) }
     ensures stops { IsTrue (S.tells shelf.old) →
-        IfErr result (λ stop. StopsFor (StopsAmong stop (count_of run.old.limits)
-        (count_of run.new.limits) (lines_replaced (change_lines (S.left shelf.old) run.old)
-        (things_above (S.left shelf.old) 0 run.old.stack []))) stop) }
+        IfErr result (λ stop. EndsStep stop (told_by run.old) (told_by run.new)
+        (old_lines (change_lines (S.left shelf.old) run.old)).taken
+        (taken_away (change_lines (S.left shelf.old) run.old)
+        (things_above (S.left shelf.old) 0 run.old.stack [])).taken
+        (faults_replaced begin (change_lines (S.left shelf.old) run.old)
+        (things_above (S.left shelf.old) 0 run.old.stack []))) }
     ensures told { IsTrue (S.tells shelf.old) →
         OnErr result (TellsSome (faults_replaced begin (change_lines (S.left shelf.old) run.old)
         (things_above (S.left shelf.old) 0 run.old.stack [])) (told_by run.old) (told_by run.new)) }

@@ -3,12 +3,11 @@ ghost use Rattle.std.specs.Prelude.{◌≡◌, ◌≤◌, ◌<◌, ◌+◌, ◌^
 ghost use Rattle.cweb_files.specs.Frames.{KeepsTexts};
 ghost use Rattle.cweb_lines.specs.Calls.{OnlySeeks};
 ghost use Rattle.cweb_lines.specs.Change.{sought};
-ghost use Rattle.cweb_open.specs.Counts.{count_of};
 ghost use Rattle.cweb_source.specs.Lines.{SourceLine};
-ghost use Rattle.cweb_lines.specs.Merging.{KeepsTold, StopsAmong, TellsSome, change_lines, told_by, turns_left};
+ghost use Rattle.cweb_lines.specs.Merging.{EndsStep, KeepsTold, TellsSome, change_lines, told_by, turns_left};
 ghost use Rattle.cweb_open.specs.Names.{names_of};
 ghost use Rattle.cweb_lines.specs.Seeking.{BegunKnown, LooksAt, LooksKnown, Searched, ToldFront, begun_outside, told_outside};
-ghost use Rattle.cweb_open.specs.Texts.{ReadBlames, StopsFor, StopsReading, files_named};
+ghost use Rattle.cweb_open.specs.Texts.{ReadBlames, StopsReading, files_named};
 ghost use Rattle.cweb_lines.specs.Steps.{OnlyTells};
 ghost use Rattle.cweb_lines.specs.Naming.{BlamesReaders, KeepsReaders};
 
@@ -151,9 +150,9 @@ pub fn seek<S: Shelf>(shelf: &mut S, run: &mut Run<S::R>, line: &mut Vec<u8>) ->
         (told_by run.old) (told_by run.new) run.new.stage run.new.first.items
         (change_lines (S.left shelf.new) run.new)) }
     ensures stops { IsTrue (S.tells shelf.old) →
-        IfErr result (λ stop. StopsFor (StopsAmong stop (count_of run.old.limits)
-        (count_of run.new.limits) (sought (change_lines (S.left shelf.old) run.old) None).taken)
-        stop) }
+        IfErr result (λ stop. EndsStep stop (told_by run.old) (told_by run.new)
+        (sought (change_lines (S.left shelf.old) run.old) None).taken []
+        (sought (change_lines (S.left shelf.old) run.old) None).faults) }
     ensures told { IsTrue (S.tells shelf.old) →
         OnErr result (TellsSome (sought (change_lines (S.left shelf.old) run.old) None).faults
         (told_by run.old) (told_by run.new)) }

@@ -36,26 +36,6 @@ impl<R: Drop> Run<R> {
         self.stack.depth == 0 && matches!(self.stage, Stage::Done)
     }
 
-    /// Whether the next line can be given without a read. It is not said where more may have to be read, as where a line
-    /// may begin a change.
-    pub fn has_line(&self) -> bool {
-        match self.stage {
-            Stage::Done => self.stack.has_line(),
-            Stage::Seeking => false,
-            Stage::Waiting(_) => self.stack.has_line() && !self.stack.may_begin_with(&self.first),
-            Stage::Changing(change) if self.stack.depth > change.below => self.stack.has_line(),
-            Stage::Changing(_) => self.has_new_line(),
-        }
-    }
-
-    // Whether the change file's next line was read already and is no code line.
-    fn has_new_line(&self) -> bool {
-        match &self.change {
-            Some(text) => text.source.has_line() && !text.source.may_begin_with(b"@"),
-            None => false,
-        }
-    }
-
     /// Tells a fault.
     pub fn tell(&mut self, kind: SourceKind, place: Place, count: u32) -> Result<(), Stop>
         requires known { place.file.0 < length (names_of self.old.names) }

@@ -2,7 +2,6 @@
 ghost use Rattle.std.specs.Prelude.{◌≡◌, ◌≤◌, ◌<◌, ◌+◌, ◌^◌, length, IsTrue, IfOk, IfErr, Ok, OnOk, OnErr};
 ghost use Rattle.cweb_files.specs.Frames.{KeepsTexts};
 ghost use Rattle.cweb_lines.specs.Calls.{Turns};
-ghost use Rattle.cweb_open.specs.Counts.{count_of};
 ghost use Rattle.cweb_lines.specs.Merging.{Gives, KeepsTold, Stopped, TellsFront, NothingLeft, TurnLine, TurnGains, TurnCounts, TurnEnds, TurnKnown, coming, lines_given, told_by};
 ghost use Rattle.cweb_open.specs.Names.{names_of};
 ghost use Rattle.cweb_lines.specs.Stages.{IsSettled, begun_by, floor_of, pending_in};
@@ -44,7 +43,7 @@ fn take_new<S: Shelf>(
         OnErr result (TellsFront (told_by run.old) (told_by run.new)
         (coming (S.texts shelf.old) (S.left shelf.old) run.old)) }
     ensures stops { IsTrue (S.tells shelf.old) →
-        IfErr result (λ stop. Stopped stop (count_of run.old.limits) (count_of run.new.limits)
+        IfErr result (λ stop. Stopped stop (told_by run.old) (told_by run.new)
         (coming (S.texts shelf.old) (S.left shelf.old) run.old)) }
 {
     let taken = match take_change(shelf, run, line) {
@@ -99,7 +98,7 @@ fn take_end<S: Shelf>(shelf: &mut S, run: &mut Run<S::R>, line: &mut Vec<u8>) ->
         OnErr result (TellsFront (told_by run.old) (told_by run.new)
         (coming (S.texts shelf.old) (S.left shelf.old) run.old)) }
     ensures stops { IsTrue (S.tells shelf.old) →
-        IfErr result (λ stop. Stopped stop (count_of run.old.limits) (count_of run.new.limits)
+        IfErr result (λ stop. Stopped stop (told_by run.old) (told_by run.new)
         (coming (S.texts shelf.old) (S.left shelf.old) run.old)) }
 {
     match run.stage {
@@ -148,7 +147,7 @@ pub fn take_turn<S: Shelf>(
         OnErr result (TellsFront (told_by run.old) (told_by run.new)
         (coming (S.texts shelf.old) (S.left shelf.old) run.old)) }
     ensures stops { IsTrue (S.tells shelf.old) →
-        IfErr result (λ stop. Stopped stop (count_of run.old.limits) (count_of run.new.limits)
+        IfErr result (λ stop. Stopped stop (told_by run.old) (told_by run.new)
         (coming (S.texts shelf.old) (S.left shelf.old) run.old)) }
 {
     if run.has_ended() {
@@ -186,7 +185,7 @@ fn take_settled<S: Shelf>(
         OnErr result (TellsFront (told_by run.old) (told_by run.new)
         (coming (S.texts shelf.old) (S.left shelf.old) run.old)) }
     ensures stops { IsTrue (S.tells shelf.old) →
-        IfErr result (λ stop. Stopped stop (count_of run.old.limits) (count_of run.new.limits)
+        IfErr result (λ stop. Stopped stop (told_by run.old) (told_by run.new)
         (coming (S.texts shelf.old) (S.left shelf.old) run.old)) }
 {
     let taken = match take_raw(shelf, run, line) {

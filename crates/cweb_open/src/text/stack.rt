@@ -3,10 +3,9 @@ ghost use Rattle.std.specs.Prelude.{◌≡◌, ◌≤◌, ◌<◌, ◌+◌, ◌-
 ghost use Rattle.cweb_files.specs.Frames.{KeepsTexts};
 ghost use Rattle.cweb_open.specs.Calls.{AnswersLine, ClosesAbove, ClosesTop, KeepsStack};
 ghost use Rattle.cweb_open.specs.Counts.{count_of};
-ghost use Rattle.cweb_source.specs.Lines.{HasNewline, IsOneLine};
+ghost use Rattle.cweb_source.specs.Lines.{IsOneLine};
 ghost use Rattle.cweb_open.specs.declared.limits.TheConstants.{OPEN_FILES};
 ghost use Rattle.cweb_open.specs.Texts.{most, line_number, files_up_to, ReadBlames, Counted, NamesFiles, AreDeep, TakesTop, TakesAbove, StopsFor, StopsReading, StopsTop, StopsAbove, StaysBelow, DepthAfter, Pushes};
-ghost use Rattle.cweb_open.specs.Pending.{IsReady, begins_at, pending_at};
 ghost use Rattle.cweb_open.specs.Naming.{BlamesTexts, KeepsNames};
 
 use crate::limits::{Limits, OPEN_FILES};
@@ -42,39 +41,6 @@ impl<R: Drop> Stack<R> {
             ],
             depth: 1,
             pieces: Pieces::new(alloc),
-        }
-    }
-
-    /// Whether the next line of the deepest text can be taken without a read.
-    pub fn has_line(&self) -> bool
-        requires { self.now.depth ≤ OPEN_FILES }
-        ensures whole { IsTrue result →
-            HasNewline (pending_at (slice_index_or self.now.texts (self.now.depth - 1) None)) }
-        ensures found { 0 < self.now.depth →
-            IsReady (slice_index_or self.now.texts (self.now.depth - 1) None) → IsTrue result }
-    {
-        if self.depth == 0 {
-            return false;
-        }
-        match &self.texts[self.depth - 1] {
-            Some(text) => text.source.has_line(),
-            None => false,
-        }
-    }
-
-    /// Whether the next line of the deepest text begins so.
-    pub fn may_begin_with(&self, front: &[u8]) -> bool
-        requires { self.now.depth ≤ OPEN_FILES }
-        ensures open { 0 < self.now.depth →
-            result ≡ begins_at front.now (slice_index_or self.now.texts (self.now.depth - 1) None) }
-        ensures none { self.now.depth ≡ 0 → result ≡ false }
-    {
-        if self.depth == 0 {
-            return false;
-        }
-        match &self.texts[self.depth - 1] {
-            Some(text) => text.source.may_begin_with(front),
-            None => false,
         }
     }
 

@@ -1,4 +1,4 @@
-use Rattle.cweb_lines.proofs.Common.{◌≡◌, ◌-◌, None, [], IsTrue, KeepsTexts, KeepsPlace, Writes, to_come, so_far, stop_in, Gathered}
+use Rattle.cweb_lines.proofs.Common.{◌≡◌, ◌-◌, None, [], IsTrue, KeepsTexts, KeepsPlace, Writes, to_come, so_far, stop_in, HasWritten}
 use Rattle.cweb_lines.proofs.Quiets.{Quiet}
 use Rattle.cweb_lines.proofs.writing.write_merged_in_pieces.Given as goal
 
@@ -11,10 +11,9 @@ invariant-lines g l = record {
   out_failed : g.W.Sink.failed l.out ≡ g.W.Sink.failed l.fn.out;
   running : stop_in l.merger ≡ None;
   before : stop_in l.fn.merger ≡ None;
-  empty : l.room ≡ 0 → l.piece.items ≡ [];
-  gathered : IsTrue (g.S.Shelf.tells l.fn.shelf) → Gathered l.room (so_far l.fn.merger) (so_far l.merger)
-      (to_come g.S.Shelf l.fn.shelf l.fn.merger) (to_come g.S.Shelf l.shelf l.merger)
-      (Writes g.W.Sink l.fn.out l.out) l.piece.items;
+  empty : l.piece.items ≡ [];
+  written : IsTrue (g.S.Shelf.tells l.fn.shelf) → HasWritten (so_far l.fn.merger) (so_far l.merger)
+      (to_come g.S.Shelf l.fn.shelf l.fn.merger) (to_come g.S.Shelf l.shelf l.merger) (Writes g.W.Sink l.fn.out l.out);
 }
 
 abbrev pub decreases-lines : goal.decreases-lines

@@ -23,7 +23,8 @@ returns-in-Err g c = λ names first world found changes begun.
     let running = c.requires.running in
     let blames = wrote.blames running in
     stopped world names found changes _ _ _ _ _ begun.begins stop _ _
-    (Writes g.W.Sink c.args.out.now c.write_merged_in_pieces.new.out) c.names-in-Err.ensures blames.kind
+    (Writes g.W.Sink c.args.out.now c.write_merged_in_pieces.new.out) c.names-in-Err.ensures wrote.grows.lines
+    wrote.grows.bytes blames.kind
     (λ tells. (wrote.stops (tells-2 tells) running).why) blames.named (λ tells.
     (wrote.stops (tells-2 tells) running).told) (blames.shelf ∙ ap (λ (n : ℕ). n + read_blame stop) begun.failed)
     (λ tells. (wrote.known (tells-2 tells) (begun.known tells)).blamed running ∙ ap (λ (files : List (List ℕ)). files

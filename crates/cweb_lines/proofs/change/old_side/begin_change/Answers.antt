@@ -2,7 +2,7 @@ use Rattle.cweb_lines.proofs.Common.{ap, names_of, read_blame}
 use Rattle.cweb_open.proofs.Named.{blames_none}
 use Rattle.cweb_lines.proofs.Named.{knows_only}
 use Rattle.cweb_lines.proofs.Fronts.{told_behind, told_then}
-use Rattle.cweb_lines.proofs.ReplacesTold.{tells_front, closes_some}
+use Rattle.cweb_lines.proofs.ReplacesTold.{tells_front, ends_more, closes_some}
 use Rattle.cweb_lines.proofs.change.old_side.begin_change.Goals as goal
 
 pub returns-in-Err-clause-told : goal.returns-in-Err-clause-told
@@ -11,6 +11,9 @@ returns-in-Err-clause-told g c = λ tells. tells_front _ _ _ _ (c.in-Err.ensures
 pub returns-in-Err-close-clause-told : goal.returns-in-Err-close-clause-told
 returns-in-Err-close-clause-told g c = λ tells. closes_some c.args.begin _ _ _ _ _ _ _ _
     (c.in-Ok.ensures.replaced tells) c.in-Err-close.ensures.err (ap names_of c.in-Err-close.ensures.only.names)
+
+pub returns-in-Err-clause-stops : goal.returns-in-Err-clause-stops
+returns-in-Err-clause-stops g c = λ tells. ends_more c.in-Err.stop _ _ _ _ _ _ (c.in-Err.ensures.stops tells)
 
 -- what was told stays
 pub returns-in-Err-close-clause-still : goal.returns-in-Err-close-clause-still

@@ -1,12 +1,12 @@
-use Rattle.cweb_lines.proofs.Common.{rules, ◌≡◌, [], ℕ, List, Vec, Global, Some, refl, ap, sym, subst, ◌∙◌, IsTrue, code_of, count_of, Thing, change_lines, told_by, names_of, lines_at, things_above, TopStops, read_blame}
+use Rattle.cweb_lines.proofs.Common.{rules, ◌≡◌, [], ℕ, List, Vec, Global, Some, refl, ap, sym, subst, ◌∙◌, IsTrue, code_of, count_of, Thing, change_lines, told_by, names_of, lines_at, things_above, StopsFor, TopStops, read_blame}
 use Rattle.cweb_lines.specs.declared.change.code.Code.TheVariants.{NewSide as new_side}
 use Rattle.cweb_open.proofs.Named.{blames_none}
 use Rattle.cweb_lines.proofs.Named.{knows_only}
 use Rattle.cweb_lines.proofs.Fronts.{told_same, told_then, told_took, took_faults, took_names}
 use Rattle.cweb_lines.proofs.Quiets.{Quiet, blamed_stop, quiet_same, quiet_set, quiet_tells, quiet_then, quiet_by, readers_after, still_tells}
-use Rattle.cweb_lines.proofs.Replaces.{compares_same, is_replaced_same, replaces_same, replaces_from, replaces_stop, replaces_new, replaces_code, replaces_line, replaces_raw_stop}
+use Rattle.cweb_lines.proofs.Replaces.{compares_same, is_replaced_same, replaces_same, replaces_from, replaces_ends, replaces_new, replaces_code, replaces_line, raw_ends}
 use Rattle.cweb_lines.proofs.Codes.{is_new, is_faulty}
-use Rattle.cweb_open.proofs.Stacks.{stops_map}
+use Rattle.cweb_lines.proofs.Stops.{told_stays, told_uncounted}
 use Rattle.cweb_lines.proofs.change.old_side.replace.Given as given
 use Rattle.cweb_lines.proofs.change.old_side.replace.Goals as goal
 use Rattle.cweb_lines.proofs.change.old_side.replace.Goals.{In-Ok, In-Some}
@@ -34,9 +34,9 @@ raws g c tells =
     λ i. things_above (c.in-Ok.ensures.keeps.left still i) 0 (c.in-Ok.ensures.stack i) []
 
 pub returns-in-Err-clause-stops : goal.returns-in-Err-clause-stops
-returns-in-Err-clause-stops g c = λ tells. stops_map c.in-Err.stop (replaces_stop _ _ c.lines.so_far _ _ _ _
-    (c.lines.invariant.replaces tells) c.in-Err.stop (count_of c.take_change.new.run.limits)
-    (λ i. record { lines = c.in-Err.ensures.answers.counted.0 i; bytes = c.in-Err.ensures.answers.counted.1 i }))
+returns-in-Err-clause-stops g c = λ tells. replaces_ends _ _ c.lines.so_far _ _ _ _
+    (c.lines.invariant.replaces tells) c.in-Err.stop (told_by c.take_change.new.run)
+    (told_stays c.lines.run _ c.in-Err.ensures.only c.in-Err.ensures.answers.counted)
     (c.in-Err.ensures.stops (still_tells g.S.Shelf c.lines.invariant.quiet tells))
 
 pub returns-in-Err-compare-clause-stops : goal.returns-in-Err-compare-clause-stops
@@ -44,13 +44,13 @@ returns-in-Err-compare-clause-stops g c = λ tells.
     let still = still_tells g.S.Shelf c.lines.invariant.quiet tells in
     let taken = rw c.in-Some.is at (c.in-Ok.ensures.taken still) in
     let test = ap code_of (sym c.deref.ensures.value) ∙ sym c.code_of.ensures ∙ c.in-None.is in
-    stops_map c.in-Err-compare.stop (λ top. replaces_raw_stop _ _ c.lines.so_far _ _ _ _ (c.lines.invariant.replaces
-    tells) (told_by c.take_change.new.run) c.take_change.new.line.items c.in-Some.at.place taken.0 _ taken.1
-    (took_faults c.in-Ok.ensures.only) (took_names c.in-Ok.ensures.only) c.in-Err-compare.stop
-    (count_of c.compare.new.run.limits) c.in-Err-compare.ensures.away.same test
-    (subst (λ (ts : List Thing). TopStops c.in-Err-compare.stop (count_of c.take_change.new.run.limits) ts)
-    (raws g (goal.at.returns-in-Err-compare-clause-stops g c).In-Ok tells) top))
-    (c.in-Err-compare.ensures.stops (subst IsTrue (sym c.in-Ok.ensures.keeps.tells) still))
+    let same = told_uncounted _ c.compare.new.run c.in-Err-compare.ensures.only c.in-Err-compare.ensures.away.same in
+    raw_ends _ _ c.lines.so_far _ _ _ _ (c.lines.invariant.replaces tells) (told_by c.take_change.new.run)
+    c.take_change.new.line.items c.in-Some.at.place taken.0 _ taken.1 (took_faults c.in-Ok.ensures.only)
+    (took_names c.in-Ok.ensures.only) c.in-Err-compare.stop (told_by c.compare.new.run) same test
+    (subst (λ (ts : List Thing). StopsFor (TopStops c.in-Err-compare.stop (count_of c.take_change.new.run.limits) ts)
+    c.in-Err-compare.stop) (raws g (goal.at.returns-in-Err-compare-clause-stops g c).In-Ok tells)
+    (c.in-Err-compare.ensures.stops (subst IsTrue (sym c.in-Ok.ensures.keeps.tells) still)))
 
 pub returns-then-eq-clause-replaced : goal.returns-then-eq-clause-replaced
 returns-then-eq-clause-replaced g c = λ tells.

@@ -4,8 +4,8 @@ use Rattle.cweb_lines.proofs.Named.{knows_only, knows_same}
 use Rattle.cweb_open.proofs.Found.{OnOk-both}
 use Rattle.cweb_lines.proofs.Fronts.{told_behind, told_if, told_then, told_took, took_faults, took_names}
 use Rattle.cweb_lines.proofs.Quiets.{Quiet, blamed_stop, quiet_same, quiet_set, quiet_tells, quiet_then, quiet_by, readers_after, still_tells}
-use Rattle.cweb_lines.proofs.Seeks.{seeks_ended, seeks_from, seeks_stop, seeks_told_more, seeks_on, seeks_found}
-use Rattle.cweb_open.proofs.Stacks.{stops_map}
+use Rattle.cweb_lines.proofs.Seeks.{seeks_ended, seeks_from, seeks_ends, seeks_told_more, seeks_on, seeks_found}
+use Rattle.cweb_lines.proofs.Stops.{told_stays}
 use Rattle.cweb_lines.proofs.change.seek.seek.Given as given
 use Rattle.cweb_lines.proofs.change.seek.seek.Goals as goal
 use Rattle.cweb_lines.proofs.change.seek.seek.Goals.{In-Ok, In-Ok-look_at}
@@ -32,9 +32,9 @@ looked g c = quiet_tells g.S.Shelf (quiet_then g.S.Shelf c.lines.invariant.quiet
     c.in-Ok-look_at.ensures.only c.in-Ok-look_at.ensures.looks.faults
 
 pub returns-in-Err-clause-stops : goal.returns-in-Err-clause-stops
-returns-in-Err-clause-stops g c = λ tells. stops_map c.in-Err.stop
-    (seeks_stop _ _ _ _ _ (c.lines.invariant.seeks tells) c.in-Err.stop (count_of c.take_change.new.run.limits)
-    (λ i. record { lines = c.in-Err.ensures.answers.counted.0 i; bytes = c.in-Err.ensures.answers.counted.1 i }))
+returns-in-Err-clause-stops g c = λ tells.
+    seeks_ends _ _ _ _ _ (c.lines.invariant.seeks tells) c.in-Err.stop (told_by c.take_change.new.run)
+    (told_stays c.lines.run _ c.in-Err.ensures.only c.in-Err.ensures.answers.counted)
     (c.in-Err.ensures.stops (still_tells g.S.Shelf c.lines.invariant.quiet tells))
 
 pub returns-in-Err-look_at-clause-told : goal.returns-in-Err-look_at-clause-told

@@ -6,15 +6,15 @@ use Rattle.cweb_open.proofs.Found.{IfOk-map}
 use Rattle.cweb_lines.proofs.Sums.{gives_took}
 use Rattle.cweb_lines.proofs.News.{coming_is, new_ended, new_faulty, new_first, new_side_ended, new_stops}
 use Rattle.cweb_lines.proofs.Codes.{is_end}
+use Rattle.cweb_lines.proofs.Stops.{told_stays}
 use Rattle.cweb_lines.proofs.step.turning.take_new.Goals as goal
 
 pub returns-in-Err-clause-stops : goal.returns-in-Err-clause-stops
-returns-in-Err-clause-stops g c = λ tells. subst (λ es. Stopped c.in-Err.stop (count_of c.args.run.now.limits)
-    (count_of c.take_change.new.run.limits) es) (sym (coming_is (g.S.Shelf.texts c.args.shelf.now)
+returns-in-Err-clause-stops g c = λ tells. subst (λ es. Stopped c.in-Err.stop (told_by c.args.run.now)
+    (told_by c.take_change.new.run) es) (sym (coming_is (g.S.Shelf.texts c.args.shelf.now)
     (g.S.Shelf.left c.args.shelf.now) c.args.run.now c.args.change c.requires.changing c.requires.below))
     (new_stops _ c.args.change _ _ c.in-Err.stop (change_lines (g.S.Shelf.left c.args.shelf.now) c.args.run.now) _ _
-    (λ i. record { lines = c.in-Err.ensures.answers.counted.0 i; bytes = c.in-Err.ensures.answers.counted.1 i })
-    (c.in-Err.ensures.stops tells))
+    (told_stays c.args.run.now _ c.in-Err.ensures.only c.in-Err.ensures.answers.counted) (c.in-Err.ensures.stops tells))
 
 pub returns-in_default-clause-gives : goal.returns-in_default-clause-gives
 returns-in_default-clause-gives g c = λ tells.

@@ -2,7 +2,7 @@ use Rattle.cweb_lines.proofs.Common.{rules, List, Vec, Global, Some, ◌≡◌, 
 use Rattle.cweb_open.proofs.Named.{blames_after, blames_memory, stop_after}
 use Rattle.cweb_lines.proofs.Fronts.{told_then, told_took}
 use Rattle.cweb_open.proofs.Found.{IfOk-map}
-use Rattle.cweb_lines.proofs.Merges.{stopped_by}
+use Rattle.cweb_lines.proofs.Stops.{stopped_by, told_stays}
 use Rattle.cweb_lines.proofs.Sums.{gives_took}
 use Rattle.cweb_lines.proofs.Runs.{stops_in}
 use Rattle.cweb_open.proofs.Stacks.{stops_map}
@@ -14,9 +14,9 @@ use Rattle.cweb_lines.proofs.step.turning.take_settled.Goals.{In-Some, In-Some-b
 
 pub returns-in-Err-clause-stops : goal.returns-in-Err-clause-stops
 returns-in-Err-clause-stops g c =
-    λ tells. stopped_by c.in-Err.stop (count_of c.args.run.now.limits) (count_of c.take_raw.new.run.limits) _
+    λ tells. stopped_by c.in-Err.stop (told_by c.args.run.now) (told_by c.take_raw.new.run) _
     (things_of (g.S.Shelf.left c.args.shelf.now) c.args.run.now) (pending_of c.args.run.now) _ _
-    (λ i. record { lines = c.in-Err.ensures.answers.counted.0 i; bytes = c.in-Err.ensures.answers.counted.1 i })
+    (told_stays c.args.run.now _ c.in-Err.ensures.only c.in-Err.ensures.answers.counted)
     (stops_map c.in-Err.stop (stops_in (g.S.Shelf.left c.args.shelf.now) c.args.run.now.stage
     (change_lines (g.S.Shelf.left c.args.shelf.now) c.args.run.now) c.args.run.now.stack c.in-Err.stop
     (count_of c.args.run.now.limits) c.requires.settled) (c.in-Err.ensures.stops tells))
@@ -49,7 +49,7 @@ returns-in_default g c =
       told = λ tells. same tells (λ told all. OnErr c.take_end.result
           (TellsFront told (told_by c.take_end.new.run) all)) (c.take_end.ensures.told (still tells));
       stops = λ tells. same tells (λ told all. IfErr c.take_end.result (λ stop.
-          Stopped stop told.count (count_of c.take_end.new.run.limits) all)) (c.take_end.ensures.stops (still tells));
+          Stopped stop told (told_by c.take_end.new.run) all)) (c.take_end.ensures.stops (still tells));
     }
 
 -- a raw line was taken

@@ -51,6 +51,8 @@ texts-preserved g c =
       files = omega (arith, c.in-Ok.ensures.stack.files, c.texts.invariant.files);
       below = λ left n le rest. c.in-Ok.ensures.closes.below c.args.low c.texts-test.true left n le rest
           ∙ c.texts.invariant.below left n le rest;
+      kept = λ place below. (rw c.in_default.is at c.in-Ok.ensures.closes.numbers) place below
+          ∙ c.texts.invariant.kept place (omega (arith, depth, below));
       counted = (λ i. record { lines = counted.0 i; bytes = counted.1 i }) ∙ c.texts.invariant.counted;
       things = λ tells rest.
           let top = rw c.in_default.is at (c.in-Ok.ensures.taken (subst IsTrue (sym c.texts.invariant.tells) tells)) in

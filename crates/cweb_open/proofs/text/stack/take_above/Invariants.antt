@@ -1,4 +1,5 @@
 use Rattle.cweb_open.proofs.Common.{◌≡◌, ◌≤◌, List, ℕ, IsTrue, count_of, Thing, AreNamed, KeepsNames, AreDeep, StaysBelow, files_up_to, line_number, things_above}
+use Rattle.cweb_open.specs.Calls.{KeepsNumbers}
 use Rattle.cweb_open.specs.Texts.{most}
 use Rattle.cweb_open.proofs.text.stack.take_above.Given as goal
 
@@ -18,6 +19,7 @@ invariant-texts g l = record {
   deep : AreDeep l.stack.texts;
   files : most files_up_to l.stack.texts ≤ most files_up_to l.fn.stack.texts;
   below : StaysBelow l.low l.fn.stack.texts l.stack.texts;
+  kept : KeepsNumbers l.fn.stack l.stack;
   counted : count_of l.limits ≡ count_of l.fn.limits;
   things : IsTrue (g.S.Shelf.tells l.fn.shelf) → (rest : List Thing)
       → things_above (g.S.Shelf.left l.fn.shelf) l.low l.fn.stack rest ≡ things_above

@@ -1,6 +1,6 @@
 use Rattle.cweb_open.proofs.Common.{rules, ◌<◌, ◌-◌, length, refl, ◌∙◌, arith, None, set-set, count_of, line_number, files_up_to}
 use Rattle.cweb_open.proofs.Named.{named_at, names_set}
-use Rattle.cweb_open.proofs.Stacks.{keeps_stack, most_read, top_taken, top_closed, top_stops, stops_map, stays_below, deep-at}
+use Rattle.cweb_open.proofs.Stacks.{keeps_stack, most_read, top_taken, top_closed, top_stops, stops_map, stays_below, numbers_below, numbers_set, deep-at}
 use Rattle.cweb_open.proofs.text.stack.take_top.Goals as goal
 
 pub take_from-requires-clause-number : goal.take_from-requires-clause-number
@@ -30,6 +30,8 @@ returns-in-Err g c =
       closes = record {
         depth = search rules;
         below = λ low above. stays_below stack.texts _ (stack.depth - 1) low c.take_from.new.slot (omega arith) refl;
+        numbers = λ place below. numbers_set stack.texts _ (stack.depth - 1) place slot c.take_from.new.slot within refl
+            c.in-Err.ensures.text.uncounted;
         deeper = tt;
       };
       named = names_set g.S.Shelf _ _ stack.texts _ slot within _ c.in-Err.ensures.keeps c.in-Err.ensures.named;
@@ -66,6 +68,7 @@ returns-in_default g c =
       closes = record {
         depth = search rules;
         below = λ low above. stays_below stack.texts _ (stack.depth - 1) low None (omega arith) closed;
+        numbers = λ place below. numbers_below stack.texts _ (stack.depth - 1) place None below closed;
         deeper = search rules;
       };
       named = rw closed (names_set g.S.Shelf _ _ stack.texts _ slot within None c.in-Ok.ensures.keeps
@@ -98,6 +101,7 @@ returns g c =
       closes = record {
         depth = search rules;
         below = λ low above. stays_below stack.texts _ (stack.depth - 1) low c.take_from.new.slot (omega arith) refl;
+        numbers = tt;
         deeper = let below = rw c.in-Some.is at deep.1 in omega (arith, below);
       };
       named = names_set g.S.Shelf _ _ stack.texts _ slot within _ c.in-Ok.ensures.keeps c.in-Ok.ensures.named;

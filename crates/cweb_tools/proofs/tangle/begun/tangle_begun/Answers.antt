@@ -15,7 +15,7 @@ returns-in-Err g c = λ first world found changes begun.
     (tells-2 tells) running) ((read.blames running).failed ∙ ap (λ (n : ℕ). n + read_blame c.in-Err.stop) begun.failed)
     (λ tells. read.blamed (tells-2 tells) (begun.known tells) running ∙ ap (λ (names : List (List ℕ)).
     names ++ blame (so_far c.scan.new.merger).names c.in-Err.stop) (begun.blamed tells)) read.named
-    (rw c.subject.ensures at c.log_stop.ensures.logs) c.log_stop.ensures.status
+    read.grows.lines read.grows.bytes (rw c.subject.ensures at c.log_stop.ensures.logs) c.log_stop.ensures.status
 
 pub returns-in-Ok : goal.returns-in-Ok
 returns-in-Ok g c = λ first world found changes begun.
