@@ -1,6 +1,7 @@
 // Files of a real folder, which are replaced whole. One function holds its path and one the bins: each that does takes long to
 // prove.
 use super::puts::*;
+use super::runs::tangle_twice;
 use super::wanted::holds;
 use cweb_out::Bins;
 use cweb_tools::{FilesRead, FolderBins, Held};
@@ -36,6 +37,7 @@ enum Step {
     PutAgain,
     PutWhatWasRead,
     OpenWhatIsClosed,
+    TangleTwice,
     // they have failed so often
     HasFailed(u64),
 }
@@ -58,6 +60,7 @@ impl Step {
             Step::PutAgain => put_again(rt, bins, folder),
             Step::PutWhatWasRead => put_what_was_read(rt, read, bins, folder),
             Step::OpenWhatIsClosed => open_what_is_closed(rt, folder),
+            Step::TangleTwice => tangle_twice(rt, bins, folder),
             Step::HasFailed(count) => holds(rt, bins.failures() == *count),
         }
     }
@@ -139,6 +142,11 @@ fn drafts_of_others_are_never_written(rt: HostRuntime) {
 #[test]
 fn files_that_were_read_are_kept(rt: HostRuntime) {
     check(&rt, &rt, &[], &[Step::PutWhatWasRead, Step::HasFailed(1)]);
+}
+
+#[test]
+fn two_runs_over_the_same_bins(rt: HostRuntime) {
+    check(&rt, &rt, &[], &[Step::TangleTwice, Step::HasFailed(0)]);
 }
 
 #[test]
