@@ -31,7 +31,7 @@ impl Model for PartList {
 
     ghost view = { λ s.
         in_rooms (parts_in s.tokens.tokens s.runs.items s.current)
-        s.tokens.room (vec_capacity s.runs) };
+        s.tokens.rooms (vec_capacity s.runs) };
 
     ghost invariant = { λ s. AreRuns s.tokens.tokens s.runs.items s.current (vec_capacity s.runs) };
 }
