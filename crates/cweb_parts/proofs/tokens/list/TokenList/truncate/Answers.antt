@@ -21,5 +21,9 @@ invariant_of-self c =
 
 pub returns-clause-rooms : goal.returns-clause-rooms
 returns-clause-rooms c =
-    rw (c.truncate.ensures.room, c.truncate.ensures.place_room, c.truncate-2.ensures.uses_room,
-    c.truncate-2.ensures.defs_room) (ap (λ v. v.rooms) c.self.view_is)
+    rw (
+      c.truncate.ensures.room,
+      c.truncate.ensures.place_room,
+      c.truncate-2.ensures.uses_room,
+      c.truncate-2.ensures.defs_room,
+    ) (ap (λ v. v.rooms) c.self.view_is)
