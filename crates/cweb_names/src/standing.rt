@@ -1,6 +1,6 @@
 // What occurrences stand for.
 
-ghost use Rattle.std.specs.Prelude.{◌≡◌, IfOk, OnOk};
+ghost use Rattle.std.specs.Prelude.{◌≡◌, IfOk, OnOk, OnErr};
 ghost use Rattle.cweb_names.specs.Names.{stands, with_some};
 ghost use Rattle.cweb_names.specs.Given.{settled};
 
@@ -39,14 +39,15 @@ pub fn settled(
     })
 }
 
-/// Adds the name that an occurrence stands for, if any, to distinct names.
+/// Adds the name that an occurrence stands for, if any, to distinct names. A refused call changes nothing.
 pub fn add_name_at(
     names: &mut IndexSet<NameId>,
     standings: &[Result<NameId, NameKind>],
     occurrence: usize,
 ) -> Result<(), AllocError>
-    ensures { OnOk result
+    ensures ok { OnOk result
         (names.new.keys ≡ with_some names.old.keys (stands standings.now occurrence)) }
+    ensures err { OnErr result (names.new.keys ≡ names.old.keys) }
 {
     if let Some(id) = name_at(standings, occurrence) {
         names.insert(id)?;

@@ -34,7 +34,7 @@ pub use Rattle.cweb_parts.specs.Packed.{ArePacked, IsWithin, token_in, Packs}
 pub use Rattle.cweb_parts.specs.Parts.{Part, Token, all_tokens, joined, Word, Punct, Blank, Newline, Mark, numbers_from}
 pub use Rattle.cweb_parts.specs.Parts.{numbers_where, tokens_at, has_defs_code, is_defs}
 pub use Rattle.cweb_parts.specs.Records.{packed_in, has_place, place_at, IsAt, places_of, AreNumbered, IsPlaced}
-pub use Rattle.cweb_parts.specs.Rooms.{PartsInRooms, TokensInRoom}
+pub use Rattle.cweb_parts.specs.Rooms.{PartsInRooms, TokensInRooms}
 pub use Rattle.cweb_parts.specs.Runs.{runs_from, Follow, IsWhole, last_run, closed_in, open_in, parts_in, AreRuns}
 pub use Rattle.cweb_parts.specs.Runs.{AreClosedRuns}
 pub use Rattle.cweb_parts.specs.Seen.{seen}

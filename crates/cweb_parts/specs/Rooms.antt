@@ -3,14 +3,21 @@ use Rattle.std.specs.Prelude.{ℕ, List}
 use Rattle.cweb_parts.specs.Parts.{Token}
 use Rattle.cweb_parts.specs.Growing.{PartsSoFar}
 
--- tokens, and for how many there is room
-pub record TokensInRoom : Type 0 where
-  pub tokens : List Token
-  pub room : ℕ
+-- for how many tokens there is room, and among them for how many places of Marks, uses and Defs
+pub record TokenRooms : Type 0 where
+  pub for_records : ℕ
+  pub for_places : ℕ
+  pub for_uses : ℕ
+  pub for_defs : ℕ
 
--- for how many tokens there is room, and for how many closed parts
+-- tokens, and what there is room for
+pub record TokensInRooms : Type 0 where
+  pub tokens : List Token
+  pub rooms : TokenRooms
+
+-- the room for tokens, and for how many closed parts there is room
 pub record Rooms : Type 0 where
-  pub for_tokens : ℕ
+  pub for_tokens : TokenRooms
   pub for_parts : ℕ
 
 -- the parts so far, and what there is room for
@@ -18,5 +25,5 @@ pub record PartsInRooms : Type 0 where
   pub parts : PartsSoFar
   pub rooms : Rooms
 
-abbrev pub in_rooms : PartsSoFar → ℕ → ℕ → PartsInRooms
+abbrev pub in_rooms : PartsSoFar → TokenRooms → ℕ → PartsInRooms
 in_rooms v tokens parts = record { parts = v; rooms = record { for_tokens = tokens; for_parts = parts } }

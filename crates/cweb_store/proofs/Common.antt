@@ -60,7 +60,8 @@ pub use Rattle.cweb_store.specs.Gathered.{with_part, present_from}
 pub use Rattle.cweb_store.specs.Laws.{gives_beginning, AbbreviationsStay, EarlierNamesDecide}
 pub use Rattle.cweb_store.specs.Laws.{FullNamesStandForThemselves, JoiningConcatenates, OccurrencesAreThoseOfCalls}
 pub use Rattle.cweb_store.specs.Laws.{occurrence_in}
-pub use Rattle.cweb_store.specs.Made.{given, TakesAll}
+pub use Rattle.cweb_store.specs.Made.{given, given_ok, HoldsAtMost, Takes, TakesAll}
+pub use Rattle.cweb_store.specs.declared.call.Answered.{Answered}
 pub use Rattle.cweb_store.specs.MoreLaws.{AllPass, IsFront, DroppingKeepsTheFront, MacrosKeepTwoTokens}
 pub use Rattle.cweb_store.specs.MoreLaws.{NamesAreDistinct, AbbreviationsBeginTheirNames, OneFaultForNoName}
 pub use Rattle.cweb_store.specs.MoreLaws.{left_of_macro}

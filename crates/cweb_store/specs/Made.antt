@@ -1,5 +1,6 @@
--- Calls that are to be made, and which of them a builder takes.
-use Rattle.std.specs.Prelude.{◌+◌, ◌<◌, ◌≤◌, List, [], ◌∷◌, length, IsSome, IsNone}
+-- Calls that are to be made, which of them a builder takes, and which answered Ok.
+use Rattle.std.specs.Prelude.{◌+◌, ◌<◌, ◌≤◌, ℕ, List, [], ◌∷◌, filter, length, map, IsSome, IsNone}
+use Rattle.cweb_store.specs.declared.call.Answered.{Answered}
 use Rattle.cweb_store.specs.declared.call.Call.{Call}
 use Rattle.cweb_store.specs.declared.call.Call.TheVariants as made
 use Rattle.cweb_parts.specs.Growing.{part_count, token_count}
@@ -30,3 +31,13 @@ Takes c (spec.Transliterates r) = 128 ≤ r.byte
 abbrev pub TakesAll : Contents → List spec.Call → Type 0
 TakesAll c [] = Unit {0}
 TakesAll c (call ∷ calls) = Takes c call × TakesAll (after c call) calls
+
+-- of occurrences, parts and tokens there are at most n each
+pub record HoldsAtMost (n : ℕ) (c : Contents) : Type 0 where
+  pub occurrences : length c.occurrences ≤ n
+  pub parts : part_count c.parts ≤ n
+  pub tokens : token_count c.parts ≤ n
+
+-- what the calls give that answered Ok
+abbrev pub given_ok : List Answered → List spec.Call
+given_ok answers = map (λ a. given a.call) (filter (λ a. a.is_ok) answers)

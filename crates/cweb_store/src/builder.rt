@@ -1,6 +1,6 @@
 // The builder.
 
-ghost use Rattle.std.specs.Prelude.{◌≡◌, ◌<◌, ◌≤◌, ◌+◌, length, IsSome, IsNone, IfOk, OnOk, OnErr};
+ghost use Rattle.std.specs.Prelude.{◌≡◌, ◌<◌, ◌≤◌, ◌+◌, length, IsSome, IsNone, is_some, IfOk, OnOk, OnErr};
 ghost use Rattle.cweb_parts.specs.Growing.{part_count, token_count};
 ghost use Rattle.cweb_store.specs.Replacements.{replacement_of};
 ghost use Rattle.cweb_store.specs.Calls.{empty, finished, occurrence_of, too_many, with_closed, with_dropped, with_occurrence, with_open, with_replacement, with_token};
@@ -72,6 +72,13 @@ impl Builder {
     {
         let number = self.names.add(name, how, is_file)?;
         Ok(number)
+    }
+
+    // Whether a part is open.
+    pub(crate) fn is_open(&self) -> bool
+        ensures { result ≡ is_some self.now.parts.current }
+    {
+        self.parts.is_open()
     }
 
     /// Begins a part.

@@ -1,8 +1,8 @@
 // Calls of a builder, as values.
 
-ghost use Rattle.std.specs.Prelude.{◌≡◌, OnOk, OnErr};
-ghost use Rattle.cweb_store.specs.Calls.{after};
-ghost use Rattle.cweb_store.specs.Made.{given, Takes};
+ghost use Rattle.std.specs.Prelude.{◌≡◌, ◌-◌, ◌↔◌, if◌then◌else◌, IsTrue, OnOk, OnErr};
+ghost use Rattle.cweb_store.specs.Calls.{after, too_many};
+ghost use Rattle.cweb_store.specs.Made.{given, HoldsAtMost, Takes};
 
 use crate::builder::Builder;
 use cweb_names::How;
@@ -26,7 +26,37 @@ pub enum Call<'a> {
     Transliterates(u8, &'a [u8]),
 }
 
+/// A call, and whether it answered Ok.
+#[derive(Clone, Copy)]
+pub struct Answered<'a> {
+    pub call: Call<'a>,
+    pub is_ok: bool,
+}
+
 impl Call<'_> {
+    /// Makes the call if it is in its place, and answers whether it answered Ok. If not, nothing is changed.
+    pub(crate) fn make_in_place(self, builder: &mut Builder) -> bool
+        requires { HoldsAtMost (too_many - 2) builder.old }
+        ensures taken { IsTrue result → Takes builder.old (given self.entry) }
+        ensures made { builder.new
+            ≡ (if result then after builder.old (given self.entry) else builder.old) }
+    {
+        self.is_in_place(builder) && self.make(builder).is_ok()
+    }
+
+    // Whether a builder takes the call.
+    fn is_in_place(self, builder: &Builder) -> bool
+        requires { HoldsAtMost (too_many - 2) builder.now }
+        ensures { IsTrue result ↔ Takes builder.now (given self.entry) }
+    {
+        match self {
+            Call::Occurs(..) => true,
+            Call::Opens(_) => !builder.is_open(),
+            Call::Pushes(_) | Call::Drops | Call::Closes => builder.is_open(),
+            Call::Transliterates(byte, _) => byte >= 128,
+        }
+    }
+
     /// Makes the call. A refused one changes nothing.
     pub fn make(self, builder: &mut Builder) -> Result<(), AllocError>
         requires { Takes builder.old (given self) }

@@ -1,27 +1,37 @@
 //! What holds of names and parts whatever calls a builder is given. Each function is there for its contract, and all but the
 //! first do nothing.
 
-ghost use Rattle.std.specs.Prelude.{◌≡◌, map, IfOk};
-ghost use Rattle.cweb_store.specs.Calls.{contents, empty};
+ghost use Rattle.std.specs.Prelude.{◌≡◌, ◌<◌, length, map, IfOk};
+ghost use Rattle.cweb_store.specs.Calls.{contents, empty, finished, too_many};
 ghost use Rattle.cweb_store.specs.Laws.{AbbreviationsStay, EarlierNamesDecide, FullNamesStandForThemselves, JoiningConcatenates, OccurrencesAreThoseOfCalls};
 ghost use Rattle.cweb_store.specs.MoreLaws.{AbbreviationsBeginTheirNames, DroppingKeepsTheFront, MacrosKeepTwoTokens, NamesAreDistinct, OneFaultForNoName};
 ghost use Rattle.cweb_store.specs.TokenLaws.{TokensAreThosePushed};
-ghost use Rattle.cweb_store.specs.Made.{given, TakesAll};
+ghost use Rattle.cweb_store.specs.Made.{given_ok, TakesAll};
 
 use crate::builder::Builder;
-use crate::call::Call;
+use crate::call::{Answered, Call};
+use crate::store::Store;
 use std::alloc::{AllocError, Global};
 
-/// A builder after any list of calls holds what these make of nothing, each taken in its turn.
-pub fn builder_holds_contents(alloc: Global, calls: &[Call<'_>]) -> Result<Builder, AllocError>
-    requires { TakesAll empty (map given calls.now) }
-    ensures { IfOk result (λ builder. builder ≡ contents (map given calls.now)) }
+/// Gives a builder any list of calls. Whichever of them are refused, the store is the one that the calls which answered Ok
+/// make, each in its place. A call out of its place is not made, and counts as refused.
+pub fn store_holds_calls_answered_ok<'a>(
+    alloc: Global,
+    calls: &[Call<'a>],
+) -> Result<(Vec<Answered<'a>>, Store), AllocError>
+    requires few { length calls.now < too_many }
+    ensures answers { IfOk result (λ made. map (λ a. a.call) made.0.items ≡ calls.now) }
+    ensures taken { IfOk result (λ made. TakesAll empty (given_ok made.0.items)) }
+    ensures store { IfOk result (λ made. made.1 ≡ finished (contents (given_ok made.0.items))) }
 {
     let mut builder = Builder::new(alloc);
+    let mut answers = Vec::new(alloc);
     for call in calls {
-        call.make(&mut builder)?;
+        let is_ok = call.make_in_place(&mut builder);
+        answers.push(Answered { call: *call, is_ok })?;
     }
-    Ok(builder)
+    let store = builder.finish()?;
+    Ok((answers, store))
 }
 
 /// What an abbreviation stands for stays when names are added that don't begin with its prefix.

@@ -20,7 +20,7 @@ mod store;
 pub mod laws;
 
 pub use builder::Builder;
-pub use call::Call;
+pub use call::{Answered, Call};
 pub use cweb_names::{How, NameFault, NameId, NameKind, NameRef};
 pub use cweb_parts::{Lender, Part, PartKind, Parts, Token};
 pub use cweb_texts::{Border, LentText};

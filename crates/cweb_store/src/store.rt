@@ -177,8 +177,8 @@ impl Store {
         self.files.as_slice()
     }
 
-    /// Whether a part of C text has a Defs.
-    pub fn has_defs_code(&self) -> bool
+    /// Whether a part of C text has a Defs. A `const fn` takes no memory.
+    pub const fn has_defs_code(&self) -> bool
         ensures { result ≡ has_defs_code self.now.parts }
     {
         self.has_defs_code

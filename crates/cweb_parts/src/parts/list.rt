@@ -1,6 +1,6 @@
 // Parts while they are given.
 
-ghost use Rattle.std.specs.Prelude.{◌≡◌, ◌<◌, ◌+◌, IsSome, IsNone, OnOk, OnErr};
+ghost use Rattle.std.specs.Prelude.{◌≡◌, ◌<◌, ◌+◌, IsSome, IsNone, is_some, OnOk, OnErr};
 ghost use Rattle.cweb_parts.specs.Growing.{all_closed, all_parts, dropped, no_parts, opened, part_count, pushed, token_count};
 ghost use Rattle.cweb_names.specs.Names.{too_many};
 ghost use Rattle.cweb_parts.specs.Runs.{last_run};
@@ -31,7 +31,7 @@ impl Model for PartList {
 
     ghost view = { λ s.
         in_rooms (parts_in s.tokens.tokens s.runs.items s.current)
-        s.tokens.room (vec_capacity s.runs) };
+        s.tokens.rooms (vec_capacity s.runs) };
 
     ghost invariant = { λ s. AreRuns s.tokens.tokens s.runs.items s.current (vec_capacity s.runs) };
 }
@@ -48,6 +48,13 @@ impl PartList {
             runs: Vec::new(alloc),
             current: None,
         }
+    }
+
+    /// Whether a part is open.
+    pub fn is_open(&self) -> bool
+        ensures { result ≡ is_some self.now.parts.current }
+    {
+        self.current.is_some()
     }
 
     /// Begins a part. A refused call leaves the parts as they were.

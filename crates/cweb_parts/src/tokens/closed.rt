@@ -1,6 +1,6 @@
 // Tokens to which none comes, and the other texts of a store.
 
-ghost use Rattle.std.specs.Prelude.{◌≡◌, ◌<◌, ◌≤◌, ◌+◌, length, slice_get, slice_range, flat_map, Some, OnOk};
+ghost use Rattle.std.specs.Prelude.{◌≡◌, ◌<◌, ◌≤◌, ◌+◌, length, slice_get, slice_range, flat_map, Some, OnOk, OnErr};
 ghost use Rattle.std.specs.List.{list_any};
 ghost use Rattle.cweb_parts.specs.Parts.{is_defs};
 ghost use Rattle.cweb_parts.specs.Gathered.{used_from};
@@ -58,9 +58,10 @@ impl ClosedTokens {
     ghost use Rattle.cweb_parts.specs.Lends.{lends};
     ghost use Rattle.cweb_parts.specs.Seen.{seen};
 
-    /// Adds another text. It takes the next number, from 0.
+    /// Adds another text. It takes the next number, from 0. A refused call changes nothing.
     pub fn add(&mut self, text: &[u8]) -> Result<(), AllocError>
-        ensures { OnOk result (self.new ≡ with_text text.now self.old) }
+        ensures ok { OnOk result (self.new ≡ with_text text.now self.old) }
+        ensures err { OnErr result (self.new ≡ self.old) }
     {
         self.texts.add(text)?;
         Ok(())

@@ -33,10 +33,10 @@ impl Drop for TokenList {
 }
 
 impl Model for TokenList {
-    ghost use Rattle.std.specs.Prelude.{map};
-    ghost use Rattle.cweb_parts.specs.Rooms.{TokensInRoom};
+    ghost use Rattle.std.specs.Prelude.{map, vec_capacity};
+    ghost use Rattle.cweb_parts.specs.Rooms.{TokensInRooms};
 
-    ghost Value = { TokensInRoom };
+    ghost Value = { TokensInRooms };
 
     ghost use Rattle.cweb_parts.specs.Packed.{token_in};
     ghost use Rattle.cweb_parts.specs.Noted.{AreTokensNoted};
@@ -44,7 +44,12 @@ impl Model for TokenList {
     ghost view = { λ s.
         record {
           tokens = map (token_in s.texts.texts) s.records.packed;
-          room = s.records.room;
+          rooms = record {
+            for_records = s.records.room;
+            for_places = s.records.place_room;
+            for_uses = vec_capacity s.noted.uses;
+            for_defs = vec_capacity s.noted.defs;
+          };
         } };
 
     ghost invariant = { λ s. AreTokensNoted s.texts s.records.packed s.noted };
@@ -96,7 +101,7 @@ impl TokenList {
     pub fn truncate(&mut self, count: usize)
         requires { filter has_text (take count self.old.tokens) ≡ filter has_text self.old.tokens }
         ensures tokens { self.new.tokens ≡ take count self.old.tokens }
-        ensures room { self.new.room ≡ self.old.room }
+        ensures rooms { self.new.rooms ≡ self.old.rooms }
     {
         self.records.truncate(count);
         self.noted.truncate(count);

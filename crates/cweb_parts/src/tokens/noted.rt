@@ -1,6 +1,6 @@
 // The numbers of tokens that are looked for again.
 
-ghost use Rattle.std.specs.Prelude.{◌≡◌, ◌≤◌, ◌++◌, ◌∷◌, [], ℕ, Bool, List, length, nat_lt, take, OnOk};
+ghost use Rattle.std.specs.Prelude.{◌≡◌, ◌≤◌, ◌++◌, ◌∷◌, [], ℕ, Bool, List, length, nat_lt, take, vec_capacity, OnOk};
 ghost use Rattle.std.specs.List.{prefix_len};
 ghost use Rattle.std.specs.List.Sorted.{IsNonDecreasing};
 ghost use Rattle.cweb_parts.specs.Parts as spec;
@@ -58,8 +58,10 @@ impl Noted {
 
     /// Keeps what is noted of the first `count` tokens. It takes no memory.
     pub fn truncate(&mut self, count: usize)
-        ensures { (tokens : List spec.Token) → AreNoted self.old tokens
+        ensures noted { (tokens : List spec.Token) → AreNoted self.old tokens
             → AreNoted self.new (take count tokens) }
+        ensures uses_room { vec_capacity self.new.uses ≡ vec_capacity self.old.uses }
+        ensures defs_room { vec_capacity self.new.defs ≡ vec_capacity self.old.defs }
     {
         let uses = count_below(self.uses.as_slice(), count);
         self.uses.truncate(uses);

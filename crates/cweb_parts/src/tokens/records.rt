@@ -126,6 +126,7 @@ impl Records {
     pub fn truncate(&mut self, count: usize)
         ensures packed { self.new.packed ≡ take count self.old.packed }
         ensures room { self.new.room ≡ self.old.room }
+        ensures place_room { self.new.place_room ≡ self.old.place_room }
     {
         if count >= self.items.len() {
             return;

@@ -11,7 +11,7 @@ loop-number-preserved c =
     let i = c.loop-number.number in
     let text = c.text.result.now in
     let front : drop i ts ≡ text ∷ drop (i + 1) ts = drop-at ts i text c.text.ensures in
-    ap (with_texts (drop (i + 1) ts)) c.in_ok-add.ensures
+    ap (with_texts (drop (i + 1) ts)) c.in_ok-add.ensures.ok
     ∙ ap (λ us. with_texts us c.loop-number.tokens) (sym front) ∙ c.loop-number.invariant
 
 pub returns-clause-texts : goal.returns-clause-texts

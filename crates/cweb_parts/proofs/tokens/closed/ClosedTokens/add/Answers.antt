@@ -15,8 +15,8 @@ invariant_of-self-2 c =
           c.self.invariant.notes;
     })
 
-pub returns : goal.returns
-returns c =
+pub returns-clause-ok : goal.returns-clause-ok
+returns-clause-ok c =
     let s = c.self.inside in
     rw (c.in_ok-add.ensures.added, ← c.self.view_is)
     (closed-added s.texts c.args.text.now s.records.packed s.own c.self.invariant.tokens)

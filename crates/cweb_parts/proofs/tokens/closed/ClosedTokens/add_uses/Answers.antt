@@ -18,7 +18,7 @@ uses-preserved c =
     let more : c.match-token.used.keys ≡ with_use rs c.uses.used.keys t =
     elim c.match-token.branch [
       | in-Name+in_ok-add_name_at w ↦
-          ap (λ used. used.keys) w.used-is ∙ w.in_ok-add_name_at.ensures
+          ap (λ used. used.keys) w.used-is ∙ w.in_ok-add_name_at.ensures.ok
           ∙ sym (ap (λ token. with_use rs c.uses.used.keys (seen token)) w.in-Name.is)
       | in_default w ↦
           let other : is_name t ≡ false = search rules in

@@ -2,8 +2,8 @@ use Rattle.cweb_parts.proofs.Common.{◌∙◌, is_defs, is_name}
 use Rattle.cweb_parts.proofs.NotedLemmas.{noted-take}
 use Rattle.cweb_parts.proofs.tokens.noted.Noted.truncate.Goals as goal
 
-pub returns : goal.returns
-returns c = λ tokens are.
+pub returns-clause-noted : goal.returns-clause-noted
+returns-clause-noted c = λ tokens are.
     let n = c.args.count in
     record {
       uses = c.truncate.ensures.items
