@@ -112,11 +112,9 @@ fn take_use_in(store: &Store, part: &mut Part) -> Option<NameRef>
     if next >= part.after {
         return None;
     }
+    part.first = next + 1;
     match store.token(next) {
-        Token::Name(name) => {
-            part.first = next + 1;
-            Some(name)
-        }
+        Token::Name(name) => Some(name),
         _ => None,
     }
 }
