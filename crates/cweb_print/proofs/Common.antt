@@ -37,7 +37,8 @@ pub use Rattle.cweb_print.specs.declared.printer.Printer.{Printer}
 pub use Rattle.cweb_print.specs.declared.printer.class.Class.{Class}
 pub use Rattle.cweb_print.specs.declared.printer.left.Left.{Left}
 pub use Rattle.cweb_store.specs.Lends.{lends}
-pub use Rattle.cweb_texts.specs.Borders.{Bordered, first_is, is_high, is_numeric, last_is, sign_border, sign_by, lent_seen}
+pub use Rattle.cweb_texts.specs.Borders.{Bordered, first_is, is_high, is_numeric, last_is, sign_border, sign_by}
+pub use Rattle.cweb_texts.specs.Borders.{lent_seen}
 pub use Rattle.cweb_store.specs.Calls.{Stored}
 pub use Rattle.cweb_store.specs.Parts.{Token, Word, Number, Literal, Verbatim, Punct, Blank, Newline, Join, Defs, Name}
 pub use Rattle.cweb_store.specs.Parts.{Head, Tail, Mark, all_tokens, is_macro, numbers_from, numbers_where}

@@ -20,7 +20,12 @@ invariant_of-self c =
     let s = c.self.inside in
     let within : s.used ≤ length s.bytes.items.items = omega (arith, c.self.invariant.0, c.self.invariant.1) in (
       ap length (whole_again s.bytes.items.items c.put_text-self-inside.new.bytes s.bytes.items.len
-          (omega (arith, c.put_text-self-inside.ensures.size, ap length c.as_mut_slice.ensures.value, s.bytes.items.ok.0)))
+          (omega (
+            arith,
+            c.put_text-self-inside.ensures.size,
+            ap length c.as_mut_slice.ensures.value,
+            s.bytes.items.ok.0,
+          )))
           ∙ c.put_text-self-inside.ensures.size ∙ ap length c.as_mut_slice.ensures.value ∙ c.self.invariant.0,
       omega (
         arith,
